@@ -1,13 +1,13 @@
 -- What a status that tells of a fault says of the files that were read.
 use Rattle.std.proofs.Common.{◌≡◌, Option, Result, Ok, Err, subst}
 use Rattle.std.specs.Prelude.{IfErr, MatchResult}
-use Rattle.sdd_catalog.specs.Catalogue.{Catalogue}
-use Rattle.sdd_catalog.specs.declared.fault.CatFault.{CatFault}
+use Rattle.sdd_lang.specs.catalog.Catalogue.{Catalogue}
+use Rattle.sdd_lang.specs.catalog.declared.fault.CatFault.{CatFault}
 use Rattle.sdd_control.specs.declared.script.ControlScript.{ControlScript}
-use Rattle.sdd_script.specs.declared.fault.WorkFault.{WorkFault}
-use Rattle.sdd_script.specs.declared.workload.Workload.{Workload}
-use Rattle.sdd_world.specs.declared.ends.WorldEnd.{WorldEnd}
-use Rattle.sdd_world.specs.declared.ends.WorldEnd.TheVariants as ends
+use Rattle.sdd_verified.specs.script.declared.fault.WorkFault.{WorkFault}
+use Rattle.sdd_verified.specs.script.declared.workload.Workload.{Workload}
+use Rattle.sdd_verified.specs.world.declared.ends.WorldEnd.{WorldEnd}
+use Rattle.sdd_verified.specs.world.declared.ends.WorldEnd.TheVariants as ends
 use Rattle.sdd_app.specs.Answer.{BlamesCatalogue, BlamesScript, BlamesWorkload}
 use Rattle.sdd_app.specs.Verdict.{AtFault, Explains, status_of_end}
 use Rattle.sdd_app.specs.declared.status.Status.{Status}

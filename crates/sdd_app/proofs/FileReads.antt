@@ -3,9 +3,9 @@ use Rattle.std.proofs.Common.{◌≡◌, ℕ, ◌<◌, ◌≤◌, List, [], fals
 use Rattle.std.proofs.lemmas.Bool.{cases_lt, lt-leb, lt-ltb}
 use Rattle.std.specs.Prelude.{IsSome, IfSome, IfErr, IsErrOf, OnOk, MatchResult, take, drop, ◌+◌, nat_le, nat_lt, true}
 use Rattle.std.specs.Option.{option_map}
-use Rattle.sdd_base.specs.declared.limits.TheConstants.{MAX_CATALOGUE_BYTES, MAX_WORKLOAD_BYTES}
-use Rattle.sdd_base.specs.Outside.{HasRead, Opened, ReadsTo, find_file}
-use Rattle.sdd_base.specs.declared.files.ShelfFile.{ShelfFile}
+use Rattle.sdd_lang.specs.base.declared.limits.TheConstants.{MAX_CATALOGUE_BYTES, MAX_WORKLOAD_BYTES}
+use Rattle.sdd_lang.specs.base.Outside.{HasRead, Opened, ReadsTo, find_file}
+use Rattle.sdd_lang.specs.base.declared.files.ShelfFile.{ShelfFile}
 use Rattle.sdd_control.specs.Walk.{control_script, most_bytes}
 use Rattle.sdd_control.specs.declared.script.ControlScript.{ControlScript}
 use Rattle.sdd_app.specs.Answer.{BlamesScript, script_named, BlamesCatalogue, BlamesWorkload, catalogue_named, workload_named}
@@ -13,18 +13,18 @@ use Rattle.sdd_app.specs.Answer.{judged_as}
 use Rattle.sdd_app.specs.Endings.{IsRead, IsReadTo, ToItsEnd, ToItsLimit}
 use Rattle.sdd_app.specs.Judging.{verdict_line}
 use Rattle.sdd_app.specs.Verdict.{Prints, ComesOfFiles, Explains}
-use Rattle.sdd_verify.specs.declared.limits.TheConstants.{MAX_REPORT_BYTES}
-use Rattle.sdd_verify.specs.declared.verdict.Verdict.TheVariants.{No}
+use Rattle.sdd_verified.specs.verify.declared.limits.TheConstants.{MAX_REPORT_BYTES}
+use Rattle.sdd_verified.specs.verify.declared.verdict.Verdict.TheVariants.{No}
 use Rattle.sdd_app.specs.declared.status.Status.{Status}
 use Rattle.sdd_app.specs.declared.status.Status.TheVariants.{Usage}
-use Rattle.sdd_catalog.specs.Catalogue.{Catalogue}
-use Rattle.sdd_catalog.specs.declared.fault.CatRule.TheVariants.{TooLong}
+use Rattle.sdd_lang.specs.catalog.Catalogue.{Catalogue}
+use Rattle.sdd_lang.specs.catalog.declared.fault.CatRule.TheVariants.{TooLong}
 use Rattle.sdd_catread.specs.Faults.{broken}
 use Rattle.sdd_catread.specs.Form.{top}
 use Rattle.sdd_catread.specs.Reading.{catalogue_in, parts_in}
-use Rattle.sdd_script.specs.Walk.{workload}
-use Rattle.sdd_script.specs.declared.fault.WorkRule.TheVariants as work_rules
-use Rattle.sdd_script.specs.declared.workload.Workload.{Workload}
+use Rattle.sdd_verified.specs.script.Walk.{workload}
+use Rattle.sdd_verified.specs.script.declared.fault.WorkRule.TheVariants as work_rules
+use Rattle.sdd_verified.specs.script.declared.workload.Workload.{Workload}
 
 -- more than 1 MiB are too long
 pub too_long : (bytes : List ℕ) → MAX_CATALOGUE_BYTES < length bytes → catalogue_in bytes ≡ Err (broken top TooLong)

@@ -1,8 +1,8 @@
 -- The summary of a made input tells that all of its transactions are committed.
 use Rattle.std.proofs.Common.{ℕ, ◌≤◌, List, Result, Ok, Err}
-use Rattle.sdd_base.specs.declared.limits.TheConstants.{MAX_TXNS}
-use Rattle.sdd_make.specs.Bank.{bank}
-use Rattle.sdd_make.specs.Turns.{workload_of}
+use Rattle.sdd_lang.specs.base.declared.limits.TheConstants.{MAX_TXNS}
+use Rattle.sdd_verified.specs.make.Bank.{bank}
+use Rattle.sdd_verified.specs.make.Turns.{workload_of}
 use Rattle.sdd_verified.proofs.MadeSettles.{made_summed}
 use Rattle.sdd_app.specs.Answer.{ComesToMade, ComesToSummary}
 use Rattle.sdd_app.specs.Verdict.{Answers}

@@ -5,7 +5,7 @@ use Rattle.std.specs.Prelude.{IfSome}
 use Rattle.std.proofs.lemmas.Grind.{flat_map-append}
 use Rattle.std.proofs.lemmas.List.{take_all, take_more, take-append-drop}
 use Rattle.std.proofs.Math.Seq.{take-append_seam}
-use Rattle.sdd_base.specs.Outside.{ReadsTo, Rose, with_end}
+use Rattle.sdd_lang.specs.base.Outside.{ReadsTo, Rose, with_end}
 use Rattle.sdd_app.specs.Taking.{TakesOrFaults}
 
 -- what a sink took grows by nothing, and by one text after another

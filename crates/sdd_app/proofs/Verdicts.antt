@@ -2,20 +2,20 @@
 use Rattle.std.proofs.Common.{◌≡◌, ℕ, List, [], ◌∷◌, Option, Some, None, Result, Ok, Err, refl, ap, sym, ◌∙◌, subst, ◌⊎◌, inl, inr}
 use Rattle.std.specs.Prelude.{IsSome, MatchOption, MatchResult, OnOk}
 use Rattle.std.specs.Option.{option_map}
-use Rattle.sdd_base.specs.declared.files.ShelfFile.{ShelfFile}
-use Rattle.sdd_base.specs.Outside.{KeepsOpen, Opened, find_file}
-use Rattle.sdd_catalog.specs.Catalogue.{Catalogue}
-use Rattle.sdd_catalog.specs.declared.fault.CatFault.{CatFault}
+use Rattle.sdd_lang.specs.base.declared.files.ShelfFile.{ShelfFile}
+use Rattle.sdd_lang.specs.base.Outside.{KeepsOpen, Opened, find_file}
+use Rattle.sdd_lang.specs.catalog.Catalogue.{Catalogue}
+use Rattle.sdd_lang.specs.catalog.declared.fault.CatFault.{CatFault}
 use Rattle.sdd_catread.specs.Reading.{catalogue_in}
-use Rattle.sdd_script.specs.Walk.{workload}
-use Rattle.sdd_script.specs.declared.fault.WorkFault.{WorkFault}
-use Rattle.sdd_script.specs.declared.workload.Workload.{Workload}
-use Rattle.sdd_world.specs.declared.ends.WorldEnd.{WorldEnd}
-use Rattle.sdd_world.specs.declared.ends.WorldEnd.TheVariants as ends
-use Rattle.sdd_make.specs.Bank.{bank}
-use Rattle.sdd_make.specs.Turns.{workload_of}
-use Rattle.sdd_run.specs.Runs.{EndsAtLimit, IsReportOn}
-use Rattle.sdd_run.proofs.Apart.{report_or_limit, summary_or_limit}
+use Rattle.sdd_verified.specs.script.Walk.{workload}
+use Rattle.sdd_verified.specs.script.declared.fault.WorkFault.{WorkFault}
+use Rattle.sdd_verified.specs.script.declared.workload.Workload.{Workload}
+use Rattle.sdd_verified.specs.world.declared.ends.WorldEnd.{WorldEnd}
+use Rattle.sdd_verified.specs.world.declared.ends.WorldEnd.TheVariants as ends
+use Rattle.sdd_verified.specs.make.Bank.{bank}
+use Rattle.sdd_verified.specs.make.Turns.{workload_of}
+use Rattle.sdd_verified.specs.run.Runs.{EndsAtLimit, IsReportOn}
+use Rattle.sdd_verified.proofs.run.Apart.{report_or_limit, summary_or_limit}
 use Rattle.sdd_control.specs.Report.{report}
 use Rattle.sdd_control.specs.Walk.{control_script}
 use Rattle.sdd_control.specs.declared.script.ControlScript.{ControlScript}

@@ -1,21 +1,21 @@
 -- What a call comes to, by its words and the files that they name.
 use Rattle.std.specs.Prelude.{◌≡◌, ℕ, List, Option, Some, Result, Ok, Err, IsSome, MatchOption, MatchResult}
 use Rattle.std.specs.Option.{option_map}
-use Rattle.sdd_base.specs.declared.files.ShelfFile.{ShelfFile}
-use Rattle.sdd_base.specs.Outside.{find_file}
-use Rattle.sdd_catalog.specs.Catalogue.{Catalogue}
-use Rattle.sdd_catalog.specs.declared.fault.CatFault.{CatFault}
+use Rattle.sdd_lang.specs.base.declared.files.ShelfFile.{ShelfFile}
+use Rattle.sdd_lang.specs.base.Outside.{find_file}
+use Rattle.sdd_lang.specs.catalog.Catalogue.{Catalogue}
+use Rattle.sdd_lang.specs.catalog.declared.fault.CatFault.{CatFault}
 use Rattle.sdd_catread.specs.Reading.{catalogue_in}
 use Rattle.sdd_control.specs.Report.{report}
 use Rattle.sdd_control.specs.Walk.{control_script}
 use Rattle.sdd_control.specs.declared.script.ControlScript.{ControlScript}
-use Rattle.sdd_script.specs.Walk.{workload}
-use Rattle.sdd_script.specs.declared.fault.WorkFault.{WorkFault}
-use Rattle.sdd_script.specs.declared.workload.Workload.{Workload}
-use Rattle.sdd_verify.specs.Verdict as judging
-use Rattle.sdd_make.specs.Bank.{bank}
-use Rattle.sdd_make.specs.Turns.{workload_of}
-use Rattle.sdd_run.specs.Runs.{EndsAtLimit, IsReportOn, IsSummaryOn}
+use Rattle.sdd_verified.specs.script.Walk.{workload}
+use Rattle.sdd_verified.specs.script.declared.fault.WorkFault.{WorkFault}
+use Rattle.sdd_verified.specs.script.declared.workload.Workload.{Workload}
+use Rattle.sdd_verified.specs.verify.Verdict as judging
+use Rattle.sdd_verified.specs.make.Bank.{bank}
+use Rattle.sdd_verified.specs.make.Turns.{workload_of}
+use Rattle.sdd_verified.specs.run.Runs.{EndsAtLimit, IsReportOn, IsSummaryOn}
 use Rattle.sdd_verified.specs.Summaries.{TellsAllDone}
 use Rattle.sdd_app.specs.declared.listing.Listing.{Listing}
 use Rattle.sdd_app.specs.declared.listing.Listing.TheVariants as listings

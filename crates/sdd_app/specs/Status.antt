@@ -1,18 +1,18 @@
 -- What each status says.
 use Rattle.std.specs.Prelude.{ℕ, List, [], ◌++◌, codes, ◌≡◌, refl}
 use Rattle.std.specs.Fmt.{decimal}
-use Rattle.sdd_catalog.specs.declared.fault.CatFault.{CatFault}
-use Rattle.sdd_catalog.specs.declared.fault.CatRule.{CatRule}
-use Rattle.sdd_catalog.specs.declared.fault.CatRule.TheVariants as rules_of
-use Rattle.sdd_catalog.specs.declared.fault.Counted.{Counted}
-use Rattle.sdd_catalog.specs.declared.fault.Counted.TheVariants as counted
-use Rattle.sdd_catalog.specs.declared.fault.Part.{Part}
-use Rattle.sdd_catalog.specs.declared.fault.Part.TheVariants as parts
-use Rattle.sdd_script.specs.declared.fault.Counts.{Counts}
-use Rattle.sdd_script.specs.declared.fault.Counts.TheVariants as counts
-use Rattle.sdd_script.specs.declared.fault.WorkFault.{WorkFault}
-use Rattle.sdd_script.specs.declared.fault.WorkRule.{WorkRule}
-use Rattle.sdd_script.specs.declared.fault.WorkRule.TheVariants as work_rules
+use Rattle.sdd_lang.specs.catalog.declared.fault.CatFault.{CatFault}
+use Rattle.sdd_lang.specs.catalog.declared.fault.CatRule.{CatRule}
+use Rattle.sdd_lang.specs.catalog.declared.fault.CatRule.TheVariants as rules_of
+use Rattle.sdd_lang.specs.catalog.declared.fault.Counted.{Counted}
+use Rattle.sdd_lang.specs.catalog.declared.fault.Counted.TheVariants as counted
+use Rattle.sdd_lang.specs.catalog.declared.fault.Part.{Part}
+use Rattle.sdd_lang.specs.catalog.declared.fault.Part.TheVariants as parts
+use Rattle.sdd_verified.specs.script.declared.fault.Counts.{Counts}
+use Rattle.sdd_verified.specs.script.declared.fault.Counts.TheVariants as counts
+use Rattle.sdd_verified.specs.script.declared.fault.WorkFault.{WorkFault}
+use Rattle.sdd_verified.specs.script.declared.fault.WorkRule.{WorkRule}
+use Rattle.sdd_verified.specs.script.declared.fault.WorkRule.TheVariants as work_rules
 use Rattle.sdd_app.specs.declared.status.Status.{Status}
 use Rattle.sdd_app.specs.declared.status.Status.TheVariants.{Done, Usage, BadCatalogue, BadWorkload, ReadFault, WriteFault, NoMemory, Limit}
 

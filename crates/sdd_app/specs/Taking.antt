@@ -1,6 +1,6 @@
 -- What a sink took of a text.
 use Rattle.std.specs.Prelude.{◌≡◌, ℕ, ◌≤◌, ◌<◌, List, length, take, Option}
-use Rattle.sdd_base.specs.Outside.{Rose, with_end}
+use Rattle.sdd_lang.specs.base.Outside.{Rose, with_end}
 
 -- All of it, or a front of it where the count rose. The count stands where the sink was sure to take so much.
 pub record TakesOrFaults (sure : ℕ → Type 0) (before now : Option (List ℕ)) (faults_before faults_now : ℕ) (text : List ℕ) : Type 0 where

@@ -1,15 +1,15 @@
 -- What a call comes to, and the status that says so.
 use Rattle.std.specs.Prelude.{ℕ, List, Result, MatchResult}
-use Rattle.sdd_base.specs.declared.reading.ReadError.{ReadError}
-use Rattle.sdd_base.specs.declared.reading.ReadError.TheVariants as reads
-use Rattle.sdd_catalog.specs.declared.fault.CatError.{CatError}
-use Rattle.sdd_catalog.specs.declared.fault.CatError.TheVariants as catalogues
-use Rattle.sdd_catalog.specs.declared.fault.CatFault.{CatFault}
-use Rattle.sdd_script.specs.declared.fault.WorkError.{WorkError}
-use Rattle.sdd_script.specs.declared.fault.WorkError.TheVariants as workloads
-use Rattle.sdd_script.specs.declared.fault.WorkFault.{WorkFault}
-use Rattle.sdd_world.specs.declared.ends.WorldEnd.{WorldEnd}
-use Rattle.sdd_world.specs.declared.ends.WorldEnd.TheVariants as ends
+use Rattle.sdd_lang.specs.base.declared.reading.ReadError.{ReadError}
+use Rattle.sdd_lang.specs.base.declared.reading.ReadError.TheVariants as reads
+use Rattle.sdd_lang.specs.catalog.declared.fault.CatError.{CatError}
+use Rattle.sdd_lang.specs.catalog.declared.fault.CatError.TheVariants as catalogues
+use Rattle.sdd_lang.specs.catalog.declared.fault.CatFault.{CatFault}
+use Rattle.sdd_verified.specs.script.declared.fault.WorkError.{WorkError}
+use Rattle.sdd_verified.specs.script.declared.fault.WorkError.TheVariants as workloads
+use Rattle.sdd_verified.specs.script.declared.fault.WorkFault.{WorkFault}
+use Rattle.sdd_verified.specs.world.declared.ends.WorldEnd.{WorldEnd}
+use Rattle.sdd_verified.specs.world.declared.ends.WorldEnd.TheVariants as ends
 use Rattle.sdd_app.specs.declared.status.Status.{Status}
 use Rattle.sdd_app.specs.declared.status.Status.TheVariants as statuses
 

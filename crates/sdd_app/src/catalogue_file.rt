@@ -1,16 +1,16 @@
 //! Reading files, and the catalogue's among them.
 ghost use Rattle.std.specs.Prelude.{◌≡◌, ◌≤◌, ◌+◌, ◌^◌, ◌<◌, ℕ, List, IfOk, OnOk, IfErr, IsSome, MatchResult, Some, Ok};
-ghost use Rattle.sdd_base.specs.declared.files.ShelfFile.{ShelfFile};
-ghost use Rattle.sdd_base.specs.declared.limits.TheConstants.{MAX_CATALOGUE_BYTES};
-ghost use Rattle.sdd_base.specs.Outside.{HasRead, Rose, KeepsOpen, ReadsTo, find_file};
+ghost use Rattle.sdd_lang.specs.base.declared.files.ShelfFile.{ShelfFile};
+ghost use Rattle.sdd_lang.specs.base.declared.limits.TheConstants.{MAX_CATALOGUE_BYTES};
+ghost use Rattle.sdd_lang.specs.base.Outside.{HasRead, Rose, KeepsOpen, ReadsTo, find_file};
 ghost use Rattle.sdd_catread.specs.Reading.{catalogue_in};
 ghost use Rattle.sdd_app.specs.Answer.{BlamesCatalogue, catalogue_named};
 ghost use Rattle.sdd_app.specs.Endings.{IsRead, ToItsEnd, ToItsLimit};
 ghost use Rattle.sdd_app.specs.Verdict.{AtFault, ComesOfFiles, Explains};
 
 use crate::status::Status;
-use sdd_base::{MAX_CATALOGUE_BYTES, Shelf, read_file};
-use sdd_catalog::Catalogue;
+use sdd_lang::sdd_base::{MAX_CATALOGUE_BYTES, Shelf, read_file};
+use sdd_lang::sdd_catalog::Catalogue;
 use sdd_catread::read_catalogue;
 use std::alloc::Global;
 

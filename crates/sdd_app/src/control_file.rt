@@ -1,8 +1,8 @@
 //! The command that carries out transaction control.
 ghost use Rattle.std.specs.Prelude.{◌≡◌, ◌≤◌, ◌+◌, ◌∷◌, [], ℕ, List, IfOk, OnOk, IfErr, IsSome, MatchResult, Some, Ok};
-ghost use Rattle.sdd_base.specs.declared.files.ShelfFile.{ShelfFile};
-ghost use Rattle.sdd_base.specs.declared.limits.TheConstants.{MAX_WORKLOAD_BYTES};
-ghost use Rattle.sdd_base.specs.Outside.{Rose, find_file};
+ghost use Rattle.sdd_lang.specs.base.declared.files.ShelfFile.{ShelfFile};
+ghost use Rattle.sdd_lang.specs.base.declared.limits.TheConstants.{MAX_WORKLOAD_BYTES};
+ghost use Rattle.sdd_lang.specs.base.Outside.{Rose, find_file};
 ghost use Rattle.sdd_control.specs.Script.{IsSound};
 ghost use Rattle.sdd_control.specs.Walk.{control_script};
 ghost use Rattle.sdd_app.specs.Answer.{BlamesScript, ComesToControl, script_named};
@@ -11,7 +11,7 @@ ghost use Rattle.sdd_app.specs.Verdict.{Answers, AtFault, ComesOfFiles, Explains
 
 use crate::catalogue_file::read_named;
 use crate::status::Status;
-use sdd_base::{MAX_WORKLOAD_BYTES, Shelf};
+use sdd_lang::sdd_base::{MAX_WORKLOAD_BYTES, Shelf};
 use sdd_control::{ControlScript, read_control, write_report};
 use std::alloc::Global;
 

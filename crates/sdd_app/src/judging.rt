@@ -1,10 +1,10 @@
 //! The command that judges a report.
 ghost use Rattle.std.specs.Prelude.{◌≡◌, ◌≤◌, ◌++◌, ◌+◌, ◌∷◌, [], ℕ, List, IfOk, OnOk, IfErr, IsSome, Some};
-ghost use Rattle.sdd_base.specs.declared.files.ShelfFile.{ShelfFile};
-ghost use Rattle.sdd_base.specs.declared.limits.TheConstants.{MAX_CATALOGUE_BYTES, MAX_WORKLOAD_BYTES};
-ghost use Rattle.sdd_base.specs.Outside.{KeepsOpen, Rose, find_file};
-ghost use Rattle.sdd_script.specs.Valid.{IsValid};
-ghost use Rattle.sdd_verify.specs.Verdict.{verdict};
+ghost use Rattle.sdd_lang.specs.base.declared.files.ShelfFile.{ShelfFile};
+ghost use Rattle.sdd_lang.specs.base.declared.limits.TheConstants.{MAX_CATALOGUE_BYTES, MAX_WORKLOAD_BYTES};
+ghost use Rattle.sdd_lang.specs.base.Outside.{KeepsOpen, Rose, find_file};
+ghost use Rattle.sdd_verified.specs.script.Valid.{IsValid};
+ghost use Rattle.sdd_verified.specs.verify.Verdict.{verdict};
 ghost use Rattle.sdd_app.specs.Answer.{ComesToVerdict, ComesToVerify, HasFiles, HasReport, OverCatalogue};
 ghost use Rattle.sdd_app.specs.Endings.{FilesRead, IsRead, ToItsEnd, ToItsLimit};
 ghost use Rattle.sdd_app.specs.Judging.{verdict_line};
@@ -13,10 +13,10 @@ ghost use Rattle.sdd_app.specs.Verdict.{Answers, AtFault, ComesOfFiles};
 use crate::catalogue_file::{accepted_catalogue, read_named};
 use crate::status::Status;
 use crate::workload_file::accepted_workload;
-use sdd_base::{NoMemory, Shelf};
-use sdd_catalog::Catalogue;
-use sdd_script::Workload;
-use sdd_verify::{MAX_REPORT_BYTES, Verdict, verify};
+use sdd_lang::sdd_base::{NoMemory, Shelf};
+use sdd_lang::sdd_catalog::Catalogue;
+use sdd_verified::sdd_script::Workload;
+use sdd_verified::sdd_verify::{MAX_REPORT_BYTES, Verdict, verify};
 use sdd_words::{put, put_count};
 use std::alloc::Global;
 

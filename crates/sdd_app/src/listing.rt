@@ -1,8 +1,8 @@
 //! The commands that tell what is in a catalogue.
 ghost use Rattle.std.specs.Prelude.{◌≡◌, ◌+◌, ◌∷◌, [], ℕ, List, IfOk, OnOk, IfErr, IsSome, Some};
-ghost use Rattle.sdd_base.specs.declared.files.ShelfFile.{ShelfFile};
-ghost use Rattle.sdd_base.specs.declared.limits.TheConstants.{MAX_CATALOGUE_BYTES};
-ghost use Rattle.sdd_base.specs.Outside.{Rose, find_file};
+ghost use Rattle.sdd_lang.specs.base.declared.files.ShelfFile.{ShelfFile};
+ghost use Rattle.sdd_lang.specs.base.declared.limits.TheConstants.{MAX_CATALOGUE_BYTES};
+ghost use Rattle.sdd_lang.specs.base.Outside.{Rose, find_file};
 ghost use Rattle.sdd_app.specs.Answer.{ComesToListing, OverCatalogue};
 ghost use Rattle.sdd_app.specs.Endings.{FilesRead, ToItsEnd, ToItsLimit};
 ghost use Rattle.sdd_app.specs.Listing.{Tells};
@@ -13,8 +13,8 @@ use crate::check::counts;
 use crate::edges::{graph_text, table_text};
 use crate::status::Status;
 use sdd_advise::advice_text;
-use sdd_base::{NoMemory, Shelf};
-use sdd_catalog::Catalogue;
+use sdd_lang::sdd_base::{NoMemory, Shelf};
+use sdd_lang::sdd_catalog::Catalogue;
 use sdd_protocol::table;
 use std::alloc::Global;
 

@@ -1,15 +1,15 @@
 //! The command that runs made input.
 ghost use Rattle.std.specs.Prelude.{◌≡◌, ◌≤◌, IfErr};
-ghost use Rattle.sdd_base.specs.declared.limits.TheConstants.{MAX_TXNS};
-ghost use Rattle.sdd_script.specs.Valid.{IsValid};
+ghost use Rattle.sdd_lang.specs.base.declared.limits.TheConstants.{MAX_TXNS};
+ghost use Rattle.sdd_verified.specs.script.Valid.{IsValid};
 ghost use Rattle.sdd_app.specs.Answer.{ComesToMade, ComesToSummary};
 ghost use Rattle.sdd_app.specs.Verdict.{Answers, AtFault, ComesOfFiles};
 
 use crate::status::Status;
-use sdd_catalog::Catalogue;
-use sdd_make::{bank, law_workload_allowed, workload};
-use sdd_run::run_summary;
-use sdd_script::Workload;
+use sdd_lang::sdd_catalog::Catalogue;
+use sdd_verified::sdd_make::{bank, law_workload_allowed, workload};
+use sdd_verified::sdd_run::run_summary;
+use sdd_verified::sdd_script::Workload;
 use std::alloc::Global;
 
 /// The summary of the run of the workload.

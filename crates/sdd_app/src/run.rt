@@ -1,8 +1,8 @@
 ghost use Rattle.std.specs.Prelude.{◌≡◌, ◌≢◌, ◌≤◌, ◌⊎◌, ◌↔◌, ℕ, List, length, take, map, string_bytes, OnOk, IfErr, IsErrOf};
-ghost use Rattle.sdd_base.specs.declared.files.ShelfFile.{ShelfFile};
-ghost use Rattle.sdd_base.specs.Outside.{Rose, with_end};
-ghost use Rattle.sdd_catalog.specs.declared.fault.CatFault.{CatFault};
-ghost use Rattle.sdd_script.specs.declared.fault.WorkFault.{WorkFault};
+ghost use Rattle.sdd_lang.specs.base.declared.files.ShelfFile.{ShelfFile};
+ghost use Rattle.sdd_lang.specs.base.Outside.{Rose, with_end};
+ghost use Rattle.sdd_lang.specs.catalog.declared.fault.CatFault.{CatFault};
+ghost use Rattle.sdd_verified.specs.script.declared.fault.WorkFault.{WorkFault};
 ghost use Rattle.sdd_app.specs.Answer.{ComesTo, FilesAreThere, FilesOf, FormComesTo};
 ghost use Rattle.sdd_app.specs.Command.{IsForm, IsNoForm, form_of};
 ghost use Rattle.sdd_app.specs.Endings.{AreEnded, FilesRead, FormHasRoom, FormIsOver, HasRoomFor, IsOver, IsWithoutFiles, OpensNoFile, endings_at_catalogue, endings_at_workload, endings_of};
@@ -18,7 +18,7 @@ use crate::made_input::make_answer;
 use crate::status::Status;
 use crate::telling::tell;
 use crate::workload_answer::{plain_answer, run_answer};
-use sdd_base::{Shelf, Sink, write_text};
+use sdd_lang::sdd_base::{Shelf, Sink, write_text};
 use std::alloc::Global;
 
 /// The text that the command prints, or the status of a call that prints none.

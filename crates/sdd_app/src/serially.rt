@@ -2,17 +2,17 @@
 ghost use Rattle.std.specs.Prelude.{◌≡◌, ◌++◌, ◌∷◌, [], List, map, flat_map, filter_map, All, IfOk, OnOk};
 ghost use Rattle.sdd_lang.specs.Database.{database_of};
 ghost use Rattle.sdd_lang.specs.Fits.{Fits, FitsStart};
-ghost use Rattle.sdd_script.specs.Valid.{IsValid};
+ghost use Rattle.sdd_verified.specs.script.Valid.{IsValid};
 ghost use Rattle.std.specs.Option.{option_copied};
-ghost use Rattle.sdd_report.specs.Names.{spaced};
+ghost use Rattle.sdd_verified.specs.report.Names.{spaced};
 ghost use Rattle.sdd_app.specs.Serially.{submitted, submitted_by, names_of, replies_of, serial_text};
 
-use sdd_base::{Event, Name, NoMemory};
-use sdd_catalog::Catalogue;
+use sdd_lang::sdd_base::{Event, Name, NoMemory};
+use sdd_lang::sdd_catalog::Catalogue;
 use sdd_lang::Txn;
 use sdd_plain::Plain;
-use sdd_report::put_reply;
-use sdd_script::{StartRows, Workload};
+use sdd_verified::sdd_report::put_reply;
+use sdd_verified::sdd_script::{StartRows, Workload};
 use sdd_words::put;
 use std::alloc::Global;
 

@@ -1,10 +1,10 @@
 ghost use Rattle.std.specs.Prelude.{◌≡◌};
 ghost use Rattle.sdd_app.specs.Status.{number_of_status};
 
-use sdd_base::{NoMemory, ReadError};
-use sdd_catalog::{CatError, CatFault};
-use sdd_script::{WorkError, WorkFault};
-use sdd_world::WorldEnd;
+use sdd_lang::sdd_base::{NoMemory, ReadError};
+use sdd_lang::sdd_catalog::{CatError, CatFault};
+use sdd_verified::sdd_script::{WorkError, WorkFault};
+use sdd_verified::sdd_world::WorldEnd;
 
 /// How a call ended.
 #[derive(Clone, Copy, Debug, PartialEq, Eq)]

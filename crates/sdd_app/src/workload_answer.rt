@@ -1,9 +1,9 @@
 //! The commands that run a workload.
 ghost use Rattle.std.specs.Prelude.{◌≡◌, ◌+◌, ◌∷◌, [], ℕ, List, OnOk, IfErr, Some};
-ghost use Rattle.sdd_base.specs.declared.files.ShelfFile.{ShelfFile};
-ghost use Rattle.sdd_base.specs.declared.limits.TheConstants.{MAX_CATALOGUE_BYTES, MAX_WORKLOAD_BYTES};
-ghost use Rattle.sdd_base.specs.Outside.{Rose};
-ghost use Rattle.sdd_script.specs.Valid.{IsValid};
+ghost use Rattle.sdd_lang.specs.base.declared.files.ShelfFile.{ShelfFile};
+ghost use Rattle.sdd_lang.specs.base.declared.limits.TheConstants.{MAX_CATALOGUE_BYTES, MAX_WORKLOAD_BYTES};
+ghost use Rattle.sdd_lang.specs.base.Outside.{Rose};
+ghost use Rattle.sdd_verified.specs.script.Valid.{IsValid};
 ghost use Rattle.sdd_app.specs.Answer.{ComesToPlain, ComesToReport, ComesToRun, HasFiles, OverCatalogue};
 ghost use Rattle.sdd_app.specs.Endings.{FilesRead, ToItsEnd, ToItsLimit};
 ghost use Rattle.sdd_app.specs.Verdict.{Answers, AtFault, ComesOfFiles};
@@ -12,10 +12,10 @@ use crate::catalogue_file::accepted_catalogue;
 use crate::serially::serial_text;
 use crate::status::Status;
 use crate::workload_file::accepted_workload;
-use sdd_base::Shelf;
-use sdd_catalog::Catalogue;
-use sdd_run::run_report;
-use sdd_script::Workload;
+use sdd_lang::sdd_base::Shelf;
+use sdd_lang::sdd_catalog::Catalogue;
+use sdd_verified::sdd_run::run_report;
+use sdd_verified::sdd_script::Workload;
 use std::alloc::Global;
 
 /// The report on the run of the workload.

@@ -1,19 +1,19 @@
 //! Reading the workload's file.
 ghost use Rattle.std.specs.Prelude.{◌≡◌, ◌≤◌, ◌+◌, ℕ, List, IfOk, OnOk, IfErr, IsSome, MatchResult, Some, Ok};
-ghost use Rattle.sdd_base.specs.declared.files.ShelfFile.{ShelfFile};
-ghost use Rattle.sdd_base.specs.declared.limits.TheConstants.{MAX_WORKLOAD_BYTES};
-ghost use Rattle.sdd_base.specs.Outside.{Rose, KeepsOpen, find_file};
-ghost use Rattle.sdd_script.specs.Valid.{IsValid};
-ghost use Rattle.sdd_script.specs.Walk.{workload};
+ghost use Rattle.sdd_lang.specs.base.declared.files.ShelfFile.{ShelfFile};
+ghost use Rattle.sdd_lang.specs.base.declared.limits.TheConstants.{MAX_WORKLOAD_BYTES};
+ghost use Rattle.sdd_lang.specs.base.Outside.{Rose, KeepsOpen, find_file};
+ghost use Rattle.sdd_verified.specs.script.Valid.{IsValid};
+ghost use Rattle.sdd_verified.specs.script.Walk.{workload};
 ghost use Rattle.sdd_app.specs.Answer.{BlamesWorkload, workload_named};
 ghost use Rattle.sdd_app.specs.Endings.{IsRead, ToItsEnd, ToItsLimit};
 ghost use Rattle.sdd_app.specs.Verdict.{AtFault, ComesOfFiles, Explains};
 
 use crate::catalogue_file::read_named;
 use crate::status::Status;
-use sdd_base::{MAX_WORKLOAD_BYTES, Shelf};
-use sdd_catalog::Catalogue;
-use sdd_script::{Workload, read_workload};
+use sdd_lang::sdd_base::{MAX_WORKLOAD_BYTES, Shelf};
+use sdd_lang::sdd_catalog::Catalogue;
+use sdd_verified::sdd_script::{Workload, read_workload};
 use std::alloc::Global;
 
 /// The workload that the bytes give for the catalogue.

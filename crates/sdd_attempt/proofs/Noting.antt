@@ -2,18 +2,18 @@
 use Rattle.std.proofs.Common.{ℕ, suc, ◌+◌, ◌-◌, ◌≤◌, ◌≡◌, refl, ap, sym, ◌∙◌, List, [], ◌∷◌, ◌++◌, append_assoc, Option}
 use Rattle.std.specs.Prelude.{filter_map, OnOk}
 use Rattle.std.proofs.Common.{Result, Ok, Err}
-use Rattle.sdd_base.specs.Clock.{Ticking, bound_of, ticked, timestamp}
-use Rattle.sdd_base.specs.Numbers.{class_no, time_at, txn_no}
-use Rattle.sdd_base.specs.declared.number.TxnNo.{TxnNo}
-use Rattle.sdd_base.specs.declared.site.Site.{Site}
-use Rattle.sdd_catalog.specs.Catalogue.{Catalogue, numbers_to}
-use Rattle.sdd_protocol.specs.declared.entry.Entry as line
-use Rattle.sdd_lang.specs.declared.effect.Effect.{Effect}
-use Rattle.sdd_lang.specs.Effect.{effect}
-use Rattle.sdd_lang.specs.Uses.{uses_of}
-use Rattle.sdd_history.specs.declared.record.Rec.{Rec}
-use Rattle.sdd_history.specs.declared.record.Rec.TheVariants.{Start, Commit}
-use Rattle.sdd_wire.specs.declared.msg.Msg.{Msg}
+use Rattle.sdd_module.specs.base.Clock.{Ticking, bound_of, ticked, timestamp}
+use Rattle.sdd_module.specs.base.Numbers.{class_no, time_at, txn_no}
+use Rattle.sdd_module.specs.base.declared.number.TxnNo.{TxnNo}
+use Rattle.sdd_module.specs.base.declared.site.Site.{Site}
+use Rattle.sdd_module.specs.catalog.Catalogue.{Catalogue, numbers_to}
+use Rattle.sdd_module.specs.protocol.declared.entry.Entry as line
+use Rattle.sdd_module.specs.lang.declared.effect.Effect.{Effect}
+use Rattle.sdd_module.specs.lang.Effect.{effect}
+use Rattle.sdd_module.specs.lang.Uses.{uses_of}
+use Rattle.sdd_module.specs.history.declared.record.Rec.{Rec}
+use Rattle.sdd_module.specs.history.declared.record.Rec.TheVariants.{Start, Commit}
+use Rattle.sdd_module.specs.wire.declared.msg.Msg.{Msg}
 use Rattle.sdd_module.specs.Notes.{Notes, with_act}
 use Rattle.sdd_module.specs.SiteLog.{Bases, Records, sends_of_act}
 use Rattle.sdd_module.proofs.Making.{with_sends-append}

@@ -10,26 +10,26 @@ use Rattle.std.proofs.lemmas.Bool.Decides.{nat_tests}
 use Rattle.std.proofs.lemmas.Grind.{flat_map-append}
 use Rattle.std.proofs.lemmas.List.Elements.{All-append, All-cons, All-from_recursion, All-head, All-nil, All-tail, All-weaker}
 use Rattle.std.proofs.lemmas.List.FromFn.{length-range_with_len}
-use Rattle.sdd_base.specs.Numbers.{frag_no}
-use Rattle.sdd_base.specs.declared.number.FragNo.{FragNo}
-use Rattle.sdd_base.specs.declared.number.RelNo.{RelNo}
-use Rattle.sdd_base.specs.declared.restriction.Restriction.{Restriction}
-use Rattle.sdd_base.specs.declared.usage.Use.{Use}
-use Rattle.sdd_catalog.specs.Catalogue.{Catalogue, key_column, numbers_to, reads_at}
-use Rattle.sdd_catalog.specs.Numbers.{IsWhole}
-use Rattle.sdd_base.specs.Words.{ascending}
+use Rattle.sdd_module.specs.base.Numbers.{frag_no}
+use Rattle.sdd_module.specs.base.declared.number.FragNo.{FragNo}
+use Rattle.sdd_module.specs.base.declared.number.RelNo.{RelNo}
+use Rattle.sdd_module.specs.base.declared.restriction.Restriction.{Restriction}
+use Rattle.sdd_module.specs.base.declared.usage.Use.{Use}
+use Rattle.sdd_module.specs.catalog.Catalogue.{Catalogue, key_column, numbers_to, reads_at}
+use Rattle.sdd_module.specs.catalog.Numbers.{IsWhole}
+use Rattle.sdd_module.specs.base.Words.{ascending}
 use Rattle.sdd_graph.specs.Edges.{IsClassOf}
-use Rattle.sdd_protocol.specs.declared.entry.Entry as line
-use Rattle.sdd_protocol.specs.Conditions.{conditions, undeclared_conditions}
-use Rattle.sdd_lang.specs.declared.condition.Condition.{Condition}
-use Rattle.sdd_lang.specs.declared.condition.Condition.TheVariants.{Const, Same}
-use Rattle.sdd_lang.specs.Fits.{Fits, FitsCondition, FitsStatement}
-use Rattle.sdd_lang.specs.declared.statement.Stmt.{Stmt}
-use Rattle.sdd_lang.specs.declared.statement.Stmt.TheVariants.{Put, Query, Update, Delete}
-use Rattle.sdd_lang.specs.declared.transaction.Txn.{Txn}
-use Rattle.sdd_lang.specs.Classes.{fragments_in}
-use Rattle.sdd_lang.specs.Uses.{allowed_keys, fragments_for, meets_keys, part_uses, restrictions_of, statement_uses, uses_from, uses_of}
-use Rattle.sdd_lang.proofs.Sets.{IsThere, fragments_there}
+use Rattle.sdd_module.specs.protocol.declared.entry.Entry as line
+use Rattle.sdd_module.specs.protocol.Conditions.{conditions, undeclared_conditions}
+use Rattle.sdd_module.specs.lang.declared.condition.Condition.{Condition}
+use Rattle.sdd_module.specs.lang.declared.condition.Condition.TheVariants.{Const, Same}
+use Rattle.sdd_module.specs.lang.Fits.{Fits, FitsCondition, FitsStatement}
+use Rattle.sdd_module.specs.lang.declared.statement.Stmt.{Stmt}
+use Rattle.sdd_module.specs.lang.declared.statement.Stmt.TheVariants.{Put, Query, Update, Delete}
+use Rattle.sdd_module.specs.lang.declared.transaction.Txn.{Txn}
+use Rattle.sdd_module.specs.lang.Classes.{fragments_in}
+use Rattle.sdd_module.specs.lang.Uses.{allowed_keys, fragments_for, meets_keys, part_uses, restrictions_of, statement_uses, uses_from, uses_of}
+use Rattle.sdd_module.proofs.lang.Sets.{IsThere, fragments_there}
 use Rattle.sdd_attempt.specs.Acts.{conditions_at, modules_of}
 use Rattle.sdd_attempt.specs.Room.{IsSmallStatement, IsSmallText, JoinsWithin}
 use Rattle.sdd_attempt.proofs.Lists.{few_filtered, few_picked}

@@ -4,16 +4,16 @@ use Rattle.std.proofs.Common.{ℕ, zero, suc, ◌<◌, ◌≤◌, ◌^◌, ◌�
 use Rattle.std.specs.Bool.{if◌then◌else◌}
 use Rattle.std.specs.List.{AllByRecursion, filter, list_all}
 use Rattle.std.proofs.lemmas.Bool.{or_right, eq-eqb, eqb-true, false≢true}
-use Rattle.sdd_base.specs.Words.{contains, head_of}
-use Rattle.sdd_base.specs.declared.site.Site.{Site}
-use Rattle.sdd_base.specs.declared.site.Site.TheVariants.{U, T, D}
-use Rattle.sdd_catalog.specs.Catalogue.{Catalogue, reads_at}
-use Rattle.sdd_lang.specs.declared.transaction.Txn.{Txn}
-use Rattle.sdd_lang.specs.Classes.{read_set}
-use Rattle.sdd_lang.specs.Fits.{Fits}
-use Rattle.sdd_history.specs.declared.record.Rec.{Rec}
-use Rattle.sdd_history.specs.declared.record.Rec.TheVariants.{Start, Commit}
-use Rattle.sdd_wire.specs.declared.msg.Msg.{Msg}
+use Rattle.sdd_module.specs.base.Words.{contains, head_of}
+use Rattle.sdd_module.specs.base.declared.site.Site.{Site}
+use Rattle.sdd_module.specs.base.declared.site.Site.TheVariants.{U, T, D}
+use Rattle.sdd_module.specs.catalog.Catalogue.{Catalogue, reads_at}
+use Rattle.sdd_module.specs.lang.declared.transaction.Txn.{Txn}
+use Rattle.sdd_module.specs.lang.Classes.{read_set}
+use Rattle.sdd_module.specs.lang.Fits.{Fits}
+use Rattle.sdd_module.specs.history.declared.record.Rec.{Rec}
+use Rattle.sdd_module.specs.history.declared.record.Rec.TheVariants.{Start, Commit}
+use Rattle.sdd_module.specs.wire.declared.msg.Msg.{Msg}
 use Rattle.sdd_module.specs.SiteLog.{Act, Records, Sends}
 use Rattle.sdd_attempt.specs.Queues.{Queued, is_for, submitted, tried, queue_after}
 use Rattle.sdd_attempt.specs.Exchange.{after_hand, after_send}

@@ -1,25 +1,25 @@
 -- How an attempt begins, asks and commits: the records that it makes and the messages that go out with them.
 use Rattle.std.specs.Prelude.{ℕ, suc, ◌==◌, not, ◌||◌, cond, if◌then◌else◌, List, [], ◌∷◌, map, filter, filter_map, Option, Some, None}
-use Rattle.sdd_base.specs.Words.{or_else, ascending, is_empty}
-use Rattle.sdd_base.specs.Numbers.{dm_no, class_no, frag_no, txn_no, time_at}
-use Rattle.sdd_base.specs.Clock.{Ticking, ticked, timestamp, bound_of}
-use Rattle.sdd_base.specs.declared.site.Site.{Site}
-use Rattle.sdd_base.specs.declared.site.Site.TheVariants.{D}
-use Rattle.sdd_base.specs.declared.number.Ts.{Ts}
-use Rattle.sdd_base.specs.declared.number.FragNo.{FragNo}
-use Rattle.sdd_base.specs.declared.condition.Cond.{Cond}
-use Rattle.sdd_base.specs.declared.usage.Use.{Use}
-use Rattle.sdd_base.specs.declared.change.Change.{Change}
-use Rattle.sdd_catalog.specs.Catalogue.{Catalogue, has_copy, reads_at, numbers_to}
-use Rattle.sdd_protocol.specs.Conditions.{conditions, undeclared_conditions, is_read_at}
-use Rattle.sdd_protocol.specs.declared.entry.Entry as line
-use Rattle.sdd_lang.specs.declared.effect.Effect.{Effect}
-use Rattle.sdd_lang.specs.Effect.{effect}
-use Rattle.sdd_lang.specs.Uses.{uses_of}
-use Rattle.sdd_lang.specs.Classes.{fragments_in}
-use Rattle.sdd_history.specs.declared.record.Rec.TheVariants.{Start, Commit}
-use Rattle.sdd_wire.specs.declared.msg.Msg.{Msg}
-use Rattle.sdd_wire.specs.declared.msg.Msg.TheVariants.{Read, Write}
+use Rattle.sdd_module.specs.base.Words.{or_else, ascending, is_empty}
+use Rattle.sdd_module.specs.base.Numbers.{dm_no, class_no, frag_no, txn_no, time_at}
+use Rattle.sdd_module.specs.base.Clock.{Ticking, ticked, timestamp, bound_of}
+use Rattle.sdd_module.specs.base.declared.site.Site.{Site}
+use Rattle.sdd_module.specs.base.declared.site.Site.TheVariants.{D}
+use Rattle.sdd_module.specs.base.declared.number.Ts.{Ts}
+use Rattle.sdd_module.specs.base.declared.number.FragNo.{FragNo}
+use Rattle.sdd_module.specs.base.declared.condition.Cond.{Cond}
+use Rattle.sdd_module.specs.base.declared.usage.Use.{Use}
+use Rattle.sdd_module.specs.base.declared.change.Change.{Change}
+use Rattle.sdd_module.specs.catalog.Catalogue.{Catalogue, has_copy, reads_at, numbers_to}
+use Rattle.sdd_module.specs.protocol.Conditions.{conditions, undeclared_conditions, is_read_at}
+use Rattle.sdd_module.specs.protocol.declared.entry.Entry as line
+use Rattle.sdd_module.specs.lang.declared.effect.Effect.{Effect}
+use Rattle.sdd_module.specs.lang.Effect.{effect}
+use Rattle.sdd_module.specs.lang.Uses.{uses_of}
+use Rattle.sdd_module.specs.lang.Classes.{fragments_in}
+use Rattle.sdd_module.specs.history.declared.record.Rec.TheVariants.{Start, Commit}
+use Rattle.sdd_module.specs.wire.declared.msg.Msg.{Msg}
+use Rattle.sdd_module.specs.wire.declared.msg.Msg.TheVariants.{Read, Write}
 use Rattle.sdd_module.specs.SiteLog.{Bases, Act, Records}
 use Rattle.sdd_attempt.specs.Queues.{Queued}
 use Rattle.sdd_attempt.specs.Exchange.{send_due, is_over}

@@ -1,12 +1,12 @@
 -- The attempt of a class that is under way, as the log of its site gives it.
 use Rattle.std.specs.Prelude.{ℕ, suc, ◌==◌, Bool, false, ◌&&◌, if◌then◌else◌, List, [], ◌∷◌, Option, Some, None}
-use Rattle.sdd_base.specs.Words.{head_of}
-use Rattle.sdd_base.specs.declared.site.Site.{Site}
-use Rattle.sdd_base.specs.declared.site.Site.TheVariants.{D}
-use Rattle.sdd_lang.specs.declared.transaction.Txn.{Txn}
-use Rattle.sdd_history.specs.declared.record.Rec.TheVariants.{Start, Commit}
-use Rattle.sdd_wire.specs.declared.msg.Msg.{Msg}
-use Rattle.sdd_wire.specs.declared.msg.Msg.TheVariants.{Reject, Fetch, Reduce, Ship}
+use Rattle.sdd_module.specs.base.Words.{head_of}
+use Rattle.sdd_module.specs.base.declared.site.Site.{Site}
+use Rattle.sdd_module.specs.base.declared.site.Site.TheVariants.{D}
+use Rattle.sdd_module.specs.lang.declared.transaction.Txn.{Txn}
+use Rattle.sdd_module.specs.history.declared.record.Rec.TheVariants.{Start, Commit}
+use Rattle.sdd_module.specs.wire.declared.msg.Msg.{Msg}
+use Rattle.sdd_module.specs.wire.declared.msg.Msg.TheVariants.{Reject, Fetch, Reduce, Ship}
 use Rattle.sdd_module.specs.SiteLog.{Setting, Log, Handed, Did, Act, Records, Sends}
 use Rattle.sdd_attempt.specs.Queues.{Queued, queue}
 use Rattle.sdd_attempt.specs.Exchange.{Exchange, begins, after_hand, after_send}

@@ -1,11 +1,11 @@
 -- The clock of a site, as its log gives it.
 use Rattle.std.specs.Prelude.{[], ◌∷◌}
-use Rattle.sdd_base.specs.Clock.{Ticking, at_zero, pushed, ticked}
-use Rattle.sdd_base.specs.Sites.{number_of}
-use Rattle.sdd_base.specs.declared.site.Site.{Site}
-use Rattle.sdd_history.specs.declared.record.Rec.TheVariants.{Start}
-use Rattle.sdd_wire.specs.declared.msg.Msg.{Msg}
-use Rattle.sdd_wire.specs.declared.msg.Msg.TheVariants.{Reject, Ask, Release, Held}
+use Rattle.sdd_module.specs.base.Clock.{Ticking, at_zero, pushed, ticked}
+use Rattle.sdd_module.specs.base.Sites.{number_of}
+use Rattle.sdd_module.specs.base.declared.site.Site.{Site}
+use Rattle.sdd_module.specs.history.declared.record.Rec.TheVariants.{Start}
+use Rattle.sdd_module.specs.wire.declared.msg.Msg.{Msg}
+use Rattle.sdd_module.specs.wire.declared.msg.Msg.TheVariants.{Reject, Ask, Release, Held}
 use Rattle.sdd_module.specs.SiteLog.{Log, Handed, Ticked, Submits, Redeclared, Did, Act, Records}
 
 -- a handed ASK, REJECT, RELEASE or HELD pushes a clock by its time, a REJECT by that of the write

@@ -1,11 +1,11 @@
 -- The modules of an attempt, as a module that makes attempts keeps them.
 use Rattle.std.specs.Prelude.{ℕ, cond, List, map, filter_map, Option, Some, None}
-use Rattle.sdd_base.specs.Words.{contains}
-use Rattle.sdd_base.specs.declared.number.DmNo.{DmNo}
-use Rattle.sdd_base.specs.declared.site.Site.{Site}
-use Rattle.sdd_base.specs.declared.site.Site.TheVariants.{D}
-use Rattle.sdd_wire.specs.declared.msg.Msg.{Msg}
-use Rattle.sdd_wire.specs.declared.msg.Msg.TheVariants.{Read}
+use Rattle.sdd_module.specs.base.Words.{contains}
+use Rattle.sdd_module.specs.base.declared.number.DmNo.{DmNo}
+use Rattle.sdd_module.specs.base.declared.site.Site.{Site}
+use Rattle.sdd_module.specs.base.declared.site.Site.TheVariants.{D}
+use Rattle.sdd_module.specs.wire.declared.msg.Msg.{Msg}
+use Rattle.sdd_module.specs.wire.declared.msg.Msg.TheVariants.{Read}
 
 -- a module by its number
 abbrev pub numbered : DmNo × List ℕ → ℕ × List ℕ

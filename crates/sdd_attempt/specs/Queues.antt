@@ -1,9 +1,9 @@
 -- The queues of a site: the transactions of a class that are submitted and not committed, in order.
 use Rattle.std.specs.Prelude.{ℕ, suc, ◌==◌, ◌||◌, Bool, not, cond, if◌then◌else◌, List, [], ◌∷◌, ◌++◌, map, filter}
-use Rattle.sdd_history.specs.declared.record.Rec.TheVariants.{Start, Commit}
-use Rattle.sdd_catalog.specs.Catalogue.{Catalogue}
-use Rattle.sdd_lang.specs.declared.transaction.Txn.{Txn}
-use Rattle.sdd_lang.specs.Classes.{class_for}
+use Rattle.sdd_module.specs.history.declared.record.Rec.TheVariants.{Start, Commit}
+use Rattle.sdd_module.specs.catalog.Catalogue.{Catalogue}
+use Rattle.sdd_module.specs.lang.declared.transaction.Txn.{Txn}
+use Rattle.sdd_module.specs.lang.Classes.{class_for}
 use Rattle.sdd_module.specs.SiteLog.{Setting, in_force, Log, Submits, Did, Act, Records}
 
 -- a transaction in a queue, and how often it started

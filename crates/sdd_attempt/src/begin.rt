@@ -1,6 +1,6 @@
 ghost use Rattle.std.specs.Prelude.{◌≡◌, ◌<◌, ◌+◌, ◌^◌, [], suc, option_map, unwrap_or, IfOk, OnOk};
-ghost use Rattle.sdd_base.specs.Clock.{ticked, timestamp};
-ghost use Rattle.sdd_lang.specs.Fits.{Fits};
+ghost use Rattle.sdd_module.specs.base.Clock.{ticked, timestamp};
+ghost use Rattle.sdd_module.specs.lang.Fits.{Fits};
 ghost use Rattle.sdd_module.specs.Notes.{with_act};
 ghost use Rattle.sdd_module.specs.SiteLog.{sends_of_act};
 ghost use Rattle.sdd_attempt.specs.Acts.{start_act};
@@ -11,10 +11,10 @@ use crate::exchange::Exchange;
 use crate::queued::Queued;
 use crate::reads::Beginning;
 use crate::running::Running;
-use sdd_base::{ClassNo, Clock, NoMemory};
-use sdd_catalog::Catalogue;
+use sdd_module::sdd_base::{ClassNo, Clock, NoMemory};
+use sdd_module::sdd_catalog::Catalogue;
 use sdd_module::Draft;
-use sdd_protocol::Table;
+use sdd_module::sdd_protocol::Table;
 use std::alloc::Global;
 
 /// Starts the next attempt of a transaction in the queue of the class: it takes a tick, and its

@@ -24,3 +24,15 @@ mod writes;
 pub use line::Line;
 pub use standing::Standing;
 pub use step::LineStep;
+
+// What lies below, for the crates above.
+pub use sdd_exec;
+pub use sdd_graph;
+pub use sdd_module::sdd_base;
+pub use sdd_module::sdd_catalog;
+pub use sdd_module::sdd_history;
+pub use sdd_module::sdd_lang;
+pub use sdd_module::sdd_protocol;
+pub use sdd_module::sdd_wire;
+pub use sdd_module;
+pub use sdd_semijoin;

@@ -1,11 +1,11 @@
 ghost use Rattle.std.specs.Prelude.{◌≡◌, ◌++◌, ◌∷◌, [], filter_map, length, map, option_map, IfOk, OnOk};
-ghost use Rattle.sdd_base.specs.Words.{is_empty};
+ghost use Rattle.sdd_module.specs.base.Words.{is_empty};
 ghost use Rattle.sdd_attempt.specs.Exchange.{module_read, without};
 ghost use Rattle.sdd_attempt.specs.Standings.{lower, lowest};
 ghost use Rattle.sdd_attempt.specs.Modules.{module_of, reading, with_use};
 
-use sdd_base::{DmNo, Listed, NoMemory, Site, Use};
-use sdd_wire::Msg;
+use sdd_module::sdd_base::{DmNo, Listed, NoMemory, Site, Use};
+use sdd_module::sdd_wire::Msg;
 use std::alloc::Global;
 use std::marker::Model;
 

@@ -1,13 +1,13 @@
 ghost use Rattle.std.specs.Prelude.{◌≡◌, [], option_map, IfOk};
-ghost use Rattle.sdd_base.specs.Words.{head_of, is_empty, tail_of};
+ghost use Rattle.sdd_module.specs.base.Words.{head_of, is_empty, tail_of};
 ghost use Rattle.sdd_attempt.specs.Exchange.{to_all};
 ghost use Rattle.sdd_attempt.specs.Outbox.{addressed, numbered};
-ghost use Rattle.sdd_wire.specs.declared.msg.Msg.TheVariants as msgs;
+ghost use Rattle.sdd_module.specs.wire.declared.msg.Msg.TheVariants as msgs;
 
 use crate::modules::DmNos;
-use sdd_base::{ClassNo, DmNo, NoMemory, Parcel, Ts};
-use sdd_lang::Ref;
-use sdd_wire::{Msg, ValueList};
+use sdd_module::sdd_base::{ClassNo, DmNo, NoMemory, Parcel, Ts};
+use sdd_module::sdd_lang::Ref;
+use sdd_module::sdd_wire::{Msg, ValueList};
 use std::alloc::Global;
 use std::collections::VecDeque;
 use std::marker::Model;
@@ -21,7 +21,7 @@ pub(crate) struct Outbox {
 impl Model for Outbox {
     ghost use Rattle.std.specs.Prelude.{ℕ, List, map};
     ghost use Rattle.sdd_attempt.specs.Outbox.{numbered};
-    ghost use Rattle.sdd_wire.specs.declared.msg.Msg.{Msg};
+    ghost use Rattle.sdd_module.specs.wire.declared.msg.Msg.{Msg};
 
     ghost Value = { List (ℕ × Msg) };
 

@@ -1,10 +1,10 @@
 ghost use Rattle.std.specs.Prelude.{◌≡◌, ◌++◌, IfOk, OnOk};
 ghost use Rattle.sdd_attempt.specs.Exchange.{asking_of, askings};
 ghost use Rattle.sdd_attempt.specs.Room.{IsSmallStatement, IsSmallText};
-ghost use Rattle.sdd_lang.specs.Source.{uses_in};
+ghost use Rattle.sdd_module.specs.lang.Source.{uses_in};
 
-use sdd_base::{NoMemory, Parcel};
-use sdd_lang::{Conditions, Stmt, Txn};
+use sdd_module::sdd_base::{NoMemory, Parcel};
+use sdd_module::sdd_lang::{Conditions, Stmt, Txn};
 use std::alloc::Global;
 use std::collections::VecDeque;
 use std::marker::Model;

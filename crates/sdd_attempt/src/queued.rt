@@ -1,7 +1,7 @@
 ghost use Rattle.std.specs.Prelude.{◌≡◌, ◌<◌, ◌^◌, suc};
 
-use sdd_base::TxnNo;
-use sdd_lang::Txn;
+use sdd_module::sdd_base::TxnNo;
+use sdd_module::sdd_lang::Txn;
 use std::marker::Model;
 
 /// A transaction in a queue.

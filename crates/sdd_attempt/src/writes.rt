@@ -1,11 +1,11 @@
 ghost use Rattle.std.specs.Prelude.{◌≡◌, ◌++◌, ◌∷◌, [], filter, filter_map, IfOk, OnOk};
-ghost use Rattle.sdd_catalog.specs.Catalogue.{has_copy, numbers_to};
+ghost use Rattle.sdd_module.specs.catalog.Catalogue.{has_copy, numbers_to};
 ghost use Rattle.sdd_attempt.specs.Writes.{changes_at, write_of};
 
-use sdd_base::{Change, Changes, ClassNo, DmNo, FragNo, NoMemory, Parcel, Site, Ts, TxnNo};
-use sdd_catalog::Catalogue;
+use sdd_module::sdd_base::{Change, Changes, ClassNo, DmNo, FragNo, NoMemory, Parcel, Site, Ts, TxnNo};
+use sdd_module::sdd_catalog::Catalogue;
 use sdd_module::Draft;
-use sdd_wire::Msg;
+use sdd_module::sdd_wire::Msg;
 use std::alloc::Global;
 
 /// An attempt that commits.

@@ -2,7 +2,7 @@
 use crate::read::{catalogue, wanting};
 use anyhow::Result;
 use sdd_advise::{Advice, Edges, advise, check_advice};
-use sdd_catalog::Catalogue;
+use sdd_script::sdd_catalog::Catalogue;
 use std::alloc::Global;
 use std::rt::Files;
 

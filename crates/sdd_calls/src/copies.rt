@@ -1,7 +1,7 @@
 //! A copy of a fragment to which an earlier put comes after a deletion.
 use crate::read::wanting;
 use anyhow::{Result, ensure};
-use sdd_base::{Change, FragNo, Row, Ts, Value};
+use sdd_script::sdd_base::{Change, FragNo, Row, Ts, Value};
 use sdd_copy::FragCopy;
 use std::alloc::Global;
 

@@ -1,7 +1,7 @@
 //! A message and its bytes, and bytes that are no message.
 use crate::read::wanting;
 use anyhow::Result;
-use sdd_base::{ClassNo, Ts};
+use sdd_script::sdd_base::{ClassNo, Ts};
 use sdd_wire::{Msg, WireFault, decode, encode};
 use std::alloc::Global;
 

@@ -1,7 +1,7 @@
 //! Words that are names, and texts.
 use crate::read::wanting;
 use anyhow::Result;
-use sdd_base::{Name, Text};
+use sdd_script::sdd_base::{Name, Text};
 use std::alloc::Global;
 
 /// A word that is a name, one that the formats use, and the longest name and one letter more.

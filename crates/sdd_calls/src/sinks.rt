@@ -1,7 +1,7 @@
 //! A sink that takes all of a text as long as it has room.
 use crate::read::wanting;
 use anyhow::Result;
-use sdd_base::{SureSink, write_text};
+use sdd_script::sdd_base::{SureSink, write_text};
 use std::alloc::Global;
 
 pub fn takes_five(alloc: Global) -> Result<bool> {

@@ -4,10 +4,10 @@ ghost use Rattle.sdd_script.specs.Valid.{IsValid};
 
 use crate::read::{catalogue, judged, wanting, workload};
 use anyhow::{Result, ensure};
-use sdd_base::FragNo;
-use sdd_catalog::Catalogue;
+use sdd_script::sdd_base::FragNo;
+use sdd_script::sdd_catalog::Catalogue;
 use sdd_catread::read_catalogue;
-use sdd_lang::{Txn, fits, write_set};
+use sdd_script::sdd_lang::{Txn, fits, write_set};
 use sdd_make::{Made, make};
 use sdd_plain::Plain;
 use sdd_script::Workload;

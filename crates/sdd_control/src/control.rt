@@ -7,7 +7,7 @@ use crate::act::Act;
 use crate::note::Note;
 use crate::state::State;
 use crate::value::Val;
-use sdd_base::NoMemory;
+use sdd_script::sdd_base::NoMemory;
 use std::alloc::Global;
 use std::marker::Model;
 
@@ -24,7 +24,7 @@ pub struct Control {
 
 impl Model for Control {
     ghost use Rattle.std.specs.Prelude.{◌≡◌, true};
-    ghost use Rattle.sdd_base.specs.Kept.{Kept};
+    ghost use Rattle.sdd_script.specs.base.Kept.{Kept};
     ghost use Rattle.sdd_control.specs.Control.{Follows, Run, run_of};
 
     ghost Value = { Kept Run };

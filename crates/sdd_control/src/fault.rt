@@ -1,9 +1,9 @@
 ghost use Rattle.std.specs.Prelude.{◌≡◌, Err, MatchResult, Ok};
-ghost use Rattle.sdd_base.specs.Readings.{known, must};
+ghost use Rattle.sdd_script.specs.base.Readings.{known, must};
 ghost use Rattle.sdd_control.specs.Faults.{Gives, told_at};
 ghost use Rattle.sdd_control.specs.declared.fault.LineError.TheVariants.{Broken};
 
-use sdd_base::NoMemory;
+use sdd_script::sdd_base::NoMemory;
 use sdd_script::{WorkError, WorkFault, WorkRule};
 
 /// Why a line is not read.

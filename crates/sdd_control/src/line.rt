@@ -1,6 +1,6 @@
 //! One line of a control file.
 ghost use Rattle.std.specs.Prelude.{◌≡◌, ◌==◌, ◌&&◌, nat_le, not, Some};
-ghost use Rattle.sdd_words.specs.Number.{number_of};
+ghost use Rattle.sdd_script.specs.words.Number.{number_of};
 ghost use Rattle.sdd_control.specs.Faults.{Gives};
 ghost use Rattle.sdd_control.specs.LineRules.{delivery_of, end_of, event_rules, head_of, head_rules, key_rules, line_rules, number_within, site_number, site_of, sound_rules, with_act, within, words_rules};
 
@@ -10,9 +10,9 @@ use crate::fault::{LineError, broken, known, must};
 use crate::key::{Key, key_of};
 use crate::limits::{MAX_BACKUPS, MAX_WRITES};
 use crate::stage::{Head, Stage};
-use sdd_base::MAX_EVENTS;
+use sdd_script::sdd_base::MAX_EVENTS;
 use sdd_script::{Counts, WorkRule};
-use sdd_words::{Word, are_sound, number_in, split_line, stands_free, text_of};
+use sdd_script::sdd_words::{Word, are_sound, number_in, split_line, stands_free, text_of};
 use std::alloc::Global;
 
 fn within(least: u32, most: u32, number: i64) -> Option<u32>

@@ -10,9 +10,9 @@ use crate::fault::{LineError, at_line, broken, must};
 use crate::line::read_line;
 use crate::script::ControlScript;
 use crate::stage::Stage;
-use sdd_base::MAX_WORKLOAD_BYTES;
+use sdd_script::sdd_base::MAX_WORKLOAD_BYTES;
 use sdd_script::{WorkError, WorkFault, WorkRule};
-use sdd_words::{next_line, text_of};
+use sdd_script::sdd_words::{next_line, text_of};
 use std::alloc::Global;
 
 fn is_ended(stage: Stage) -> bool

@@ -6,7 +6,7 @@ ghost use Rattle.sdd_copy.specs.Copies.{is_here, items_at, with_change, held_in,
 ghost use Rattle.sdd_copy.specs.Items.{written, dated};
 
 use crate::frag_copy::FragCopy;
-use sdd_base::{Change, Changes, FragNo, NoMemory, Ts};
+use sdd_lang::sdd_base::{Change, Changes, FragNo, NoMemory, Ts};
 use std::alloc::Global;
 use std::marker::Model;
 
@@ -20,7 +20,7 @@ pub struct Copies {
 impl Model for Copies {
     ghost use Rattle.std.specs.Prelude.{◌≡◌, true};
     ghost use Rattle.std.specs.List.{All};
-    ghost use Rattle.sdd_base.specs.Kept.{Kept};
+    ghost use Rattle.sdd_lang.specs.base.Kept.{Kept};
     ghost use Rattle.sdd_copy.specs.Copies.{Held, held_in, IsLive};
 
     ghost Value = { Kept Held };

@@ -1,5 +1,5 @@
 ghost use Rattle.std.specs.Prelude.{◌≡◌, [], ◌∷◌, ◌++◌, OnOk, OnErr, IfOk, IfSome, IsTrue, map, filter, fold, true, false};
-ghost use Rattle.sdd_base.specs.declared.number.FragNo.{FragNo};
+ghost use Rattle.sdd_lang.specs.base.declared.number.FragNo.{FragNo};
 ghost use Rattle.sdd_lang.specs.Uses.{common, all_keys};
 ghost use Rattle.sdd_copy.specs.Contents.{Dated, rows_left};
 ghost use Rattle.sdd_copy.specs.Items.{written, items_of, dated, initial, rows_in};
@@ -7,7 +7,7 @@ ghost use Rattle.sdd_copy.specs.Keyed.{is_within, rows_meeting};
 
 use crate::kept_items::KeptItems;
 use crate::near::meets_all;
-use sdd_base::{Change, NoMemory, Parcel, Restriction, Row, Ts};
+use sdd_lang::sdd_base::{Change, NoMemory, Parcel, Restriction, Row, Ts};
 use sdd_lang::Keys;
 use std::alloc::Global;
 use std::marker::Model;
@@ -22,7 +22,7 @@ pub struct FragCopy {
 }
 
 impl Model for FragCopy {
-    ghost use Rattle.sdd_base.specs.Kept.{Kept};
+    ghost use Rattle.sdd_lang.specs.base.Kept.{Kept};
     ghost use Rattle.sdd_copy.specs.Items.{Items};
 
     ghost Value = { Kept Items };

@@ -3,15 +3,15 @@ ghost use Rattle.std.specs.Prelude.{◌≡◌, [], ◌∷◌, All, IsTrue, IfSom
 ghost use Rattle.std.specs.Option.{option_copied};
 ghost use Rattle.std.specs.Ordering.{int_cmp};
 ghost use Rattle.std.specs.BTreeMap.{insert_entry};
-ghost use Rattle.sdd_base.specs.Order.{column, number_in};
-ghost use Rattle.sdd_base.specs.declared.number.FragNo.{FragNo};
-ghost use Rattle.sdd_base.specs.declared.value.Value.TheVariants.{Int};
+ghost use Rattle.sdd_lang.specs.base.Order.{column, number_in};
+ghost use Rattle.sdd_lang.specs.base.declared.number.FragNo.{FragNo};
+ghost use Rattle.sdd_lang.specs.base.declared.value.Value.TheVariants.{Int};
 ghost use Rattle.sdd_lang.specs.Uses.{common, all_keys};
 ghost use Rattle.sdd_copy.specs.Items.{written, initial, is_newer};
 ghost use Rattle.sdd_copy.specs.Keyed.{HasKey, IsNear, is_within, one_at};
 
 use crate::near::are_of_keys;
-use sdd_base::{Change, NoMemory, Parcel, Restriction, Row, Ts, Value};
+use sdd_lang::sdd_base::{Change, NoMemory, Parcel, Restriction, Row, Ts, Value};
 use sdd_lang::{Keys, allowed_keys, value_in};
 use std::alloc::Global;
 use std::collections::BTreeMap;

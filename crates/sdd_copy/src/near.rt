@@ -1,12 +1,12 @@
 //! What restrictions admit: rows, and keys near these rows.
 ghost use Rattle.std.specs.Prelude.{◌≡◌, ◌↔◌, All, IsTrue};
 ghost use Rattle.std.specs.List.{list_all};
-ghost use Rattle.sdd_base.specs.Order.{meets};
-ghost use Rattle.sdd_catalog.specs.declared.parts.Kind.TheVariants.{Int};
+ghost use Rattle.sdd_lang.specs.base.Order.{meets};
+ghost use Rattle.sdd_lang.specs.catalog.declared.parts.Kind.TheVariants.{Int};
 ghost use Rattle.sdd_lang.specs.Fits.{kind_of};
 ghost use Rattle.sdd_lang.specs.Uses.{IsOfKeys};
 
-use sdd_base::{Restriction, Row, Value};
+use sdd_lang::sdd_base::{Restriction, Row, Value};
 use sdd_lang::{compare, value_in};
 
 fn is_met(row: &Row, restriction: &Restriction) -> bool

@@ -1,13 +1,13 @@
 -- A FETCH, REDUCE or SHIP is answered from the held rows; and all messages together.
 use Rattle.std.proofs.Common.{ℕ, suc, ◌<◌, ◌≤◌, ◌==◌, false, List, [], ◌∷◌, length, ◌≡◌, refl, ap, ◌∙◌, arith, sym, subst, Option, Some, None}
 use Rattle.std.specs.Bool.{if◌then◌else◌}
-use Rattle.sdd_base.specs.declared.site.Site.{Site}
-use Rattle.sdd_base.specs.declared.value.Value.{Value}
-use Rattle.sdd_base.specs.declared.number.Ts.{Ts}
-use Rattle.sdd_base.specs.declared.number.ClassNo.{ClassNo}
-use Rattle.sdd_wire.specs.declared.msg.Msg.{Msg}
-use Rattle.sdd_wire.specs.declared.msg.Msg.TheVariants.{Read, Fetch, Values, Reduce, Reduced, Ship, Rows, Write, Null}
-use Rattle.sdd_wire.specs.Piped.{goes_through}
+use Rattle.sdd_module.specs.base.declared.site.Site.{Site}
+use Rattle.sdd_module.specs.base.declared.value.Value.{Value}
+use Rattle.sdd_module.specs.base.declared.number.Ts.{Ts}
+use Rattle.sdd_module.specs.base.declared.number.ClassNo.{ClassNo}
+use Rattle.sdd_module.specs.wire.declared.msg.Msg.{Msg}
+use Rattle.sdd_module.specs.wire.declared.msg.Msg.TheVariants.{Read, Fetch, Values, Reduce, Reduced, Ship, Rows, Write, Null}
+use Rattle.sdd_module.specs.wire.Piped.{goes_through}
 use Rattle.sdd_module.specs.SiteLog.{Setting, Bases, Log, Handed, Did, Act, Sends, hands}
 use Rattle.sdd_module.specs.Notes.{Notes, nothing_noted}
 use Rattle.sdd_module.specs.Making.{Reached}

@@ -1,9 +1,9 @@
 -- The messages that a data module still has to answer: a READ by its Arrive, a FETCH, REDUCE or SHIP by a message.
 use Rattle.std.specs.Prelude.{ℕ, suc, ◌==◌, Bool, false, not, ◌&&◌, if◌then◌else◌, List, [], ◌∷◌, ◌++◌, filter, is_some, Option, Some, None}
-use Rattle.sdd_base.specs.declared.site.Site.{Site}
-use Rattle.sdd_history.specs.declared.record.Rec.TheVariants.{Arrive}
-use Rattle.sdd_wire.specs.declared.msg.Msg.{Msg}
-use Rattle.sdd_wire.specs.declared.msg.Msg.TheVariants.{Read, Fetch, Reduce, Ship}
+use Rattle.sdd_module.specs.base.declared.site.Site.{Site}
+use Rattle.sdd_module.specs.history.declared.record.Rec.TheVariants.{Arrive}
+use Rattle.sdd_module.specs.wire.declared.msg.Msg.{Msg}
+use Rattle.sdd_module.specs.wire.declared.msg.Msg.TheVariants.{Read, Fetch, Reduce, Ship}
 use Rattle.sdd_module.specs.SiteLog.{Log, Handed, Did, Act, Records, Sends, hands, answers_hand}
 
 -- such a message, with the number of its hand and the site that it came from

@@ -1,9 +1,9 @@
 -- The pipes of a data module, as the log of its site gives them.
 use Rattle.std.specs.Prelude.{ℕ, ◌==◌, Bool, true, false, ◌&&◌, ◌||◌, if◌then◌else◌, [], ◌∷◌}
-use Rattle.sdd_history.specs.declared.record.Rec.{Rec}
-use Rattle.sdd_history.specs.declared.record.Rec.TheVariants.{Wait, Answer, Reject, Apply, Pass}
-use Rattle.sdd_wire.specs.declared.msg.Msg.{Msg}
-use Rattle.sdd_wire.specs.Piped.{goes_through}
+use Rattle.sdd_module.specs.history.declared.record.Rec.{Rec}
+use Rattle.sdd_module.specs.history.declared.record.Rec.TheVariants.{Wait, Answer, Reject, Apply, Pass}
+use Rattle.sdd_module.specs.wire.declared.msg.Msg.{Msg}
+use Rattle.sdd_module.specs.wire.Piped.{goes_through}
 use Rattle.sdd_module.specs.SiteLog.{Log, Handed, Did, Act, Records, Sends}
 use Rattle.sdd_pipe.specs.Pipe.{Pipe, empty_pipe, put, head_processed}
 

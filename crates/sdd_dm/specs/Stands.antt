@@ -1,12 +1,12 @@
 -- For which logs a data module stands.
 use Rattle.std.specs.Prelude.{ℕ, suc, ◌≤◌, ◌≡◌, true, IsTrue, [], ◌∷◌, ◌++◌, length, Some, None}
 use Rattle.std.specs.List.{All}
-use Rattle.sdd_base.specs.Kept.{Kept}
-use Rattle.sdd_base.specs.Sites.{number_of}
-use Rattle.sdd_base.specs.declared.site.Site.{Site}
-use Rattle.sdd_catalog.specs.Catalogue.{has_copy}
-use Rattle.sdd_wire.specs.declared.msg.Msg.{Msg}
-use Rattle.sdd_wire.specs.declared.msg.Msg.TheVariants.{Read}
+use Rattle.sdd_module.specs.base.Kept.{Kept}
+use Rattle.sdd_module.specs.base.Sites.{number_of}
+use Rattle.sdd_module.specs.base.declared.site.Site.{Site}
+use Rattle.sdd_module.specs.catalog.Catalogue.{has_copy}
+use Rattle.sdd_module.specs.wire.declared.msg.Msg.{Msg}
+use Rattle.sdd_module.specs.wire.declared.msg.Msg.TheVariants.{Read}
 use Rattle.sdd_module.specs.SiteLog.{Setting, Bases, Log, Handed}
 use Rattle.sdd_module.specs.Notes.{Notes, nothing_noted}
 use Rattle.sdd_module.specs.Making.{Reached}

@@ -1,8 +1,8 @@
 -- For what the READ at the head of a pipe waits.
 use Rattle.std.specs.Prelude.{ℕ, ◌≡◌, ◌==◌, Bool, not, if◌then◌else◌, List, find, Option, Some, None, MatchOption}
-use Rattle.sdd_base.specs.declared.condition.Cond.{Cond}
-use Rattle.sdd_wire.specs.declared.msg.Msg.{Msg}
-use Rattle.sdd_wire.specs.declared.msg.Msg.TheVariants.{Read}
+use Rattle.sdd_module.specs.base.declared.condition.Cond.{Cond}
+use Rattle.sdd_module.specs.wire.declared.msg.Msg.{Msg}
+use Rattle.sdd_module.specs.wire.declared.msg.Msg.TheVariants.{Read}
 use Rattle.sdd_module.specs.SiteLog.{Setting, Log}
 use Rattle.sdd_pipe.specs.Pipe.{head}
 use Rattle.sdd_pipe.specs.Digest.{Digest}

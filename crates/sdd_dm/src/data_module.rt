@@ -1,10 +1,10 @@
 ghost use Rattle.std.specs.Prelude.{◌≡◌, ◌≤◌, ℕ, [], IfOk, OnErr, IsTrue, length, true};
 ghost use Rattle.std.specs.Option.{option_copied};
 ghost use Rattle.std.specs.List.{All};
-ghost use Rattle.sdd_base.specs.Sites.{number_of};
-ghost use Rattle.sdd_base.specs.declared.site.Site.TheVariants.{D};
-ghost use Rattle.sdd_catalog.specs.Catalogue.{has_copy};
-ghost use Rattle.sdd_lang.specs.Fits.{FitsStart};
+ghost use Rattle.sdd_module.specs.base.Sites.{number_of};
+ghost use Rattle.sdd_module.specs.base.declared.site.Site.TheVariants.{D};
+ghost use Rattle.sdd_module.specs.catalog.Catalogue.{has_copy};
+ghost use Rattle.sdd_module.specs.lang.Fits.{FitsStart};
 ghost use Rattle.sdd_module.specs.SiteLog.{Setting, Log, Handed, Does};
 ghost use Rattle.sdd_copy.specs.Copies.{is_here, StandFor};
 ghost use Rattle.sdd_dm.specs.Copies.{dated};
@@ -14,11 +14,11 @@ ghost use Rattle.sdd_dm.specs.Stands.{Stands};
 ghost use Rattle.sdd_dm.specs.Waiting.{IsAwaited};
 
 use crate::parts::Parts;
-use sdd_base::{ClassNo, Cond, DmNo, NoMemory, RelNo, Row, Site, Ts};
-use sdd_catalog::Catalogue;
+use sdd_module::sdd_base::{ClassNo, Cond, DmNo, NoMemory, RelNo, Row, Site, Ts};
+use sdd_module::sdd_catalog::Catalogue;
 use sdd_copy::Copies;
 use sdd_module::Module;
-use sdd_wire::{Msg, Outcome};
+use sdd_module::sdd_wire::{Msg, Outcome};
 use std::alloc::Global;
 use std::marker::Model;
 
@@ -38,7 +38,7 @@ pub struct DataModule {
 }
 
 impl Model for DataModule {
-    ghost use Rattle.sdd_base.specs.Kept.{Kept};
+    ghost use Rattle.sdd_module.specs.base.Kept.{Kept};
     ghost use Rattle.sdd_dm.specs.State.{State};
 
     ghost Value = { Kept State };

@@ -10,9 +10,9 @@ use crate::hints::Hints;
 use crate::holding::is_held;
 use crate::slots::waits_at;
 use crate::step::Step;
-use sdd_base::{ClassNo, Cond, NoMemory, Ts};
+use sdd_module::sdd_base::{ClassNo, Cond, NoMemory, Ts};
 use sdd_pipe::Pipes;
-use sdd_wire::Msg;
+use sdd_module::sdd_wire::Msg;
 use std::alloc::Global;
 
 /// The first head that may do something, from class 0 on.

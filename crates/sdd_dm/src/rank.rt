@@ -1,7 +1,7 @@
 ghost use Rattle.std.specs.Prelude.{◌≡◌};
 ghost use Rattle.sdd_dm.specs.Ranks.{rank_of_record};
 
-use sdd_history::Rec;
+use sdd_module::sdd_history::Rec;
 
 /// The rank of a record among the acts of a data module: of those that are due one of the lowest
 /// rank comes next. What answers a message has rank 1, what a pipe's head does has rank 2; other

@@ -5,7 +5,7 @@ ghost use Rattle.sdd_dm.specs.Copies.{reduced_at};
 ghost use Rattle.sdd_dm.specs.Heads.{waits_at};
 ghost use Rattle.sdd_dm.specs.State.{frozen_of};
 
-use sdd_base::{ClassNo, NoMemory, Ts, Value};
+use sdd_module::sdd_base::{ClassNo, NoMemory, Ts, Value};
 use sdd_copy::Space;
 
 /// Whether the head of a class waits.

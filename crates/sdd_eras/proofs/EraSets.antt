@@ -3,14 +3,14 @@ use Rattle.std.proofs.Common.{ℕ, ◌+◌, ◌<◌, ◌≤◌, ◌==◌, ◌≡
 use Rattle.std.specs.Prelude.{is_some, unwrap_or, option_map, filter, find}
 use Rattle.std.specs.List.{flat_map, list_all, list_any}
 use Rattle.std.proofs.lemmas.Bool.{and_parts, ne_eqb}
-use Rattle.sdd_base.specs.Words.{ascending, contains, head_of}
-use Rattle.sdd_base.specs.declared.number.FragNo.{FragNo}
-use Rattle.sdd_base.specs.declared.number.RelNo.{RelNo}
-use Rattle.sdd_base.specs.declared.usage.Use.{Use}
-use Rattle.sdd_catalog.specs.Catalogue.{Catalogue, class_at, lowest_copy, numbers_to, reads_at, writes}
-use Rattle.sdd_catalog.specs.declared.resolved.Class.{Class}
-use Rattle.sdd_catalog.specs.declared.resolved.Read.{Read}
-use Rattle.sdd_catalog.proofs.Sound.{each_in_range}
+use Rattle.sdd_lang.specs.base.Words.{ascending, contains, head_of}
+use Rattle.sdd_lang.specs.base.declared.number.FragNo.{FragNo}
+use Rattle.sdd_lang.specs.base.declared.number.RelNo.{RelNo}
+use Rattle.sdd_lang.specs.base.declared.usage.Use.{Use}
+use Rattle.sdd_lang.specs.catalog.Catalogue.{Catalogue, class_at, lowest_copy, numbers_to, reads_at, writes}
+use Rattle.sdd_lang.specs.catalog.declared.resolved.Class.{Class}
+use Rattle.sdd_lang.specs.catalog.declared.resolved.Read.{Read}
+use Rattle.sdd_lang.proofs.catalog.Sound.{each_in_range}
 use Rattle.sdd_graph.specs.Edges.{IsClassOf}
 use Rattle.sdd_lang.specs.declared.condition.Condition.{Condition}
 use Rattle.sdd_lang.specs.declared.statement.Stmt.{Stmt}

@@ -1,14 +1,14 @@
 -- Classes behind those that are there.
 use Rattle.std.proofs.Common.{◌≡◌, List, [], ◌∷◌, ◌++◌, map, refl, ap, sym, ◌∙◌, append_assoc}
 use Rattle.std.proofs.lemmas.List.{append-nil, map-append}
-use Rattle.sdd_catalog.specs.Catalogue.{Catalogue, catalogue_of, parts_of, class_of, fragment_names, fragment_part}
-use Rattle.sdd_catalog.specs.Eras.{extended}
-use Rattle.sdd_catalog.specs.Rules.{count_faults, relation_faults, fragment_faults, range_faults, faults_of, faults_of_class, found_from, found_in, IsValid, IsSound}
-use Rattle.sdd_catalog.specs.declared.fault.CatFault.{CatFault}
-use Rattle.sdd_catalog.specs.declared.parts.ClassPart.{ClassPart}
-use Rattle.sdd_catalog.specs.declared.parts.Parts.{Parts}
-use Rattle.sdd_catalog.proofs.Found.{map-map}
-use Rattle.sdd_catalog.proofs.Validity.{no_faults}
+use Rattle.sdd_lang.specs.catalog.Catalogue.{Catalogue, catalogue_of, parts_of, class_of, fragment_names, fragment_part}
+use Rattle.sdd_lang.specs.catalog.Eras.{extended}
+use Rattle.sdd_lang.specs.catalog.Rules.{count_faults, relation_faults, fragment_faults, range_faults, faults_of, faults_of_class, found_from, found_in, IsValid, IsSound}
+use Rattle.sdd_lang.specs.catalog.declared.fault.CatFault.{CatFault}
+use Rattle.sdd_lang.specs.catalog.declared.parts.ClassPart.{ClassPart}
+use Rattle.sdd_lang.specs.catalog.declared.parts.Parts.{Parts}
+use Rattle.sdd_lang.proofs.catalog.Found.{map-map}
+use Rattle.sdd_lang.proofs.catalog.Validity.{no_faults}
 use Rattle.sdd_eras.specs.Further.{with_classes, with_further, further_faults}
 
 -- what is found in two lists joined

@@ -1,11 +1,11 @@
 -- Further classes of a catalogue, behind those that are there.
 use Rattle.std.specs.Prelude.{List, map}
-use Rattle.sdd_catalog.specs.Catalogue.{Catalogue, class_of, parts_of}
-use Rattle.sdd_catalog.specs.Eras.{extended}
-use Rattle.sdd_catalog.specs.Rules.{found_from, faults_of_class}
-use Rattle.sdd_catalog.specs.declared.fault.CatFault.{CatFault}
-use Rattle.sdd_catalog.specs.declared.parts.ClassPart.{ClassPart}
-use Rattle.sdd_catalog.specs.declared.parts.Parts.{Parts}
+use Rattle.sdd_lang.specs.catalog.Catalogue.{Catalogue, class_of, parts_of}
+use Rattle.sdd_lang.specs.catalog.Eras.{extended}
+use Rattle.sdd_lang.specs.catalog.Rules.{found_from, faults_of_class}
+use Rattle.sdd_lang.specs.catalog.declared.fault.CatFault.{CatFault}
+use Rattle.sdd_lang.specs.catalog.declared.parts.ClassPart.{ClassPart}
+use Rattle.sdd_lang.specs.catalog.declared.parts.Parts.{Parts}
 
 -- the parts with other classes
 abbrev pub with_classes : List ClassPart → Parts → Parts

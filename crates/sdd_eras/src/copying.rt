@@ -1,7 +1,7 @@
 ghost use Rattle.std.specs.Prelude.{◌≡◌, ◌++◌, IfOk};
 
-use sdd_base::{NoMemory, Parcel};
-use sdd_catalog::ClassPart;
+use sdd_lang::sdd_base::{NoMemory, Parcel};
+use sdd_lang::sdd_catalog::ClassPart;
 
 /// The classes with copies of the others behind them.
 pub(crate) fn with_copies(

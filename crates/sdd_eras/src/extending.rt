@@ -1,10 +1,10 @@
 ghost use Rattle.std.specs.Prelude.{◌≡◌, ◌++◌, [], IfOk, IfErr};
-ghost use Rattle.sdd_catalog.specs.Rules.{TellsFirst};
+ghost use Rattle.sdd_lang.specs.catalog.Rules.{TellsFirst};
 ghost use Rattle.sdd_eras.specs.Further.{further_faults, with_further, with_classes};
 
 use crate::copying::with_copies;
-use sdd_base::{Listed, NoMemory};
-use sdd_catalog::{CatError, Catalogue, ClassPart, Parts};
+use sdd_lang::sdd_base::{Listed, NoMemory};
+use sdd_lang::sdd_catalog::{CatError, Catalogue, ClassPart, Parts};
 use std::alloc::Global;
 
 /// The catalogue with the classes behind those that are there, or the first fault of these classes:

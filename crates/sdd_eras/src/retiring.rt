@@ -1,13 +1,13 @@
 ghost use Rattle.std.specs.Prelude.{◌≡◌, ◌≤◌, length, map, IfOk};
-ghost use Rattle.sdd_catalog.specs.Catalogue.{catalogue_of};
-ghost use Rattle.sdd_catalog.specs.Eras.{retired};
-ghost use Rattle.sdd_catalog.specs.Rules.{IsValid};
+ghost use Rattle.sdd_lang.specs.catalog.Catalogue.{catalogue_of};
+ghost use Rattle.sdd_lang.specs.catalog.Eras.{retired};
+ghost use Rattle.sdd_lang.specs.catalog.Rules.{IsValid};
 ghost use Rattle.sdd_eras.specs.Further.{with_classes};
 ghost use Rattle.sdd_eras.specs.Retired.{emptied_part, retired_parts};
 
 use crate::copying::with_copies;
-use sdd_base::{Listed, NoMemory, Parcel};
-use sdd_catalog::{CatError, Catalogue, ClassPart, Parts};
+use sdd_lang::sdd_base::{Listed, NoMemory, Parcel};
+use sdd_lang::sdd_catalog::{CatError, Catalogue, ClassPart, Parts};
 use std::alloc::Global;
 
 /// The catalogue whose first so many classes read and write nothing; their numbers, names and

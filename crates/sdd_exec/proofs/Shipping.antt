@@ -9,7 +9,7 @@ use Rattle.std.proofs.lemmas.List.{take_more}
 use Rattle.std.proofs.lemmas.List.FromFn.{map-range_with_len_more}
 use Rattle.std.proofs.lemmas.List.Sums.{fold-append}
 use Rattle.std.proofs.lemmas.List.Elements.{filter_map-append}
-use Rattle.sdd_catalog.specs.Catalogue.{Catalogue}
+use Rattle.sdd_lang.specs.catalog.Catalogue.{Catalogue}
 use Rattle.sdd_lang.specs.declared.condition.Condition.{Condition}
 use Rattle.sdd_lang.specs.Database.{Row, Database, with_row, key_in}
 use Rattle.sdd_lang.specs.Condition.{meets_all}

@@ -6,9 +6,9 @@ use Rattle.std.proofs.Common.{sym, ◌∙◌, ap, inl, inr, ⊎_elim, get_or, su
 use Rattle.std.proofs.lemmas.Bool.{cases_Bool}
 use Rattle.std.proofs.lemmas.List.{take_more, map-append}
 use Rattle.std.proofs.lemmas.List.Concat.{flat_map-append}
-use Rattle.sdd_base.specs.Order.{row_cmp}
-use Rattle.sdd_base.specs.Exactly.{lists_decide}
-use Rattle.sdd_base.specs.ValueOrder.{value_decides}
+use Rattle.sdd_lang.specs.base.Order.{row_cmp}
+use Rattle.sdd_lang.specs.base.Exactly.{lists_decide}
+use Rattle.sdd_lang.specs.base.ValueOrder.{value_decides}
 use Rattle.sdd_lang.specs.declared.condition.Ref.{Ref}
 use Rattle.sdd_lang.specs.declared.condition.Condition.{Condition}
 use Rattle.sdd_lang.specs.Database.{Row}

@@ -3,7 +3,7 @@ use Rattle.std.specs.Prelude.{ℕ, ◌-◌, ◌<◌, ◌≡◌, ◌⊎◌, true,
 use Rattle.std.specs.List.{cons_option}
 use Rattle.std.proofs.Common.{sym, ◌∙◌, inl, inr, ⊎_elim, arith, subst}
 use Rattle.std.proofs.lemmas.Bool.{cases_Bool}
-use Rattle.sdd_base.specs.declared.value.Value.{Value}
+use Rattle.sdd_lang.specs.base.declared.value.Value.{Value}
 use Rattle.sdd_lang.specs.declared.condition.Ref.{Ref}
 use Rattle.sdd_lang.specs.declared.condition.Condition.{Condition}
 use Rattle.sdd_lang.specs.declared.condition.Condition.TheVariants.{Const, Same}

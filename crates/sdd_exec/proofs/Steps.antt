@@ -9,12 +9,12 @@ use Rattle.std.specs.Option.{option_map_or}
 use Rattle.std.proofs.Common.{ap, arith, append_assoc, append-nil, get_or, sym, ◌∙◌, ⊎_elim}
 use Rattle.std.proofs.lemmas.Bool.{cases_Bool}
 use Rattle.std.proofs.lemmas.List.FromFn.{map-range_with_len_more}
-use Rattle.sdd_base.specs.Exactly.{lists_decide}
-use Rattle.sdd_base.specs.ValueOrder.{value_decides}
+use Rattle.sdd_lang.specs.base.Exactly.{lists_decide}
+use Rattle.sdd_lang.specs.base.ValueOrder.{value_decides}
 use Rattle.std.proofs.lemmas.List.{at_drop_more, take_more, map-append, take-append-drop}
 use Rattle.std.proofs.lemmas.List.Sums.{fold-append}
 use Rattle.std.proofs.lemmas.List.Elements.{filter_map-append, filter-append}
-use Rattle.sdd_base.specs.Order.{row_cmp}
+use Rattle.sdd_lang.specs.base.Order.{row_cmp}
 use Rattle.sdd_lang.specs.declared.condition.Condition.{Condition}
 use Rattle.sdd_lang.specs.Database.{Row}
 use Rattle.sdd_lang.specs.Query.{distinct}

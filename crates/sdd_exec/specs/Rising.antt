@@ -5,7 +5,7 @@ use Rattle.std.specs.declared.cmp.Ordering.TheVariants.{Greater}
 use Rattle.std.specs.Ordering.{int_cmp}
 use Rattle.std.specs.BTreeMap.{insert_entry}
 use Rattle.std.specs.Option.{option_map_or}
-use Rattle.sdd_base.specs.Order.{row_cmp}
+use Rattle.sdd_lang.specs.base.Order.{row_cmp}
 use Rattle.sdd_lang.specs.declared.source.Entry.{Entry}
 use Rattle.sdd_lang.specs.Database.{Row}
 

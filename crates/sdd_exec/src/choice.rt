@@ -5,7 +5,7 @@ ghost use Rattle.sdd_lang.specs.Tuples.{held, rows_lent};
 ghost use Rattle.sdd_exec.specs.Choices as joins;
 
 use crate::parts::Parts;
-use sdd_base::{Listed, NoMemory, Row, Value};
+use sdd_lang::sdd_base::{Listed, NoMemory, Row, Value};
 use sdd_lang::{Ref, value_in};
 use std::alloc::Global;
 

@@ -1,11 +1,11 @@
 ghost use Rattle.std.specs.Prelude.{◌≡◌, [], nat_lt, length, IfOk, OnOk};
 ghost use Rattle.std.specs.BTreeSet.{insert_key};
-ghost use Rattle.sdd_base.specs.Order.{row_cmp};
+ghost use Rattle.sdd_lang.specs.base.Order.{row_cmp};
 ghost use Rattle.sdd_lang.specs.Query.{distinct};
 ghost use Rattle.sdd_exec.specs.Rising.{to_last};
 ghost use Rattle.sdd_exec.specs.Choices.{NoRepeats};
 
-use sdd_base::{NoMemory, Row, RowList};
+use sdd_lang::sdd_base::{NoMemory, Row, RowList};
 use std::alloc::Global;
 use std::cmp::Ordering;
 use std::collections::BTreeSet;

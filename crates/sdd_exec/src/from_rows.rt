@@ -1,5 +1,5 @@
 ghost use Rattle.std.specs.Prelude.{◌≡◌, IfOk, IsTrue};
-ghost use Rattle.sdd_catalog.specs.Catalogue as catalogues;
+ghost use Rattle.sdd_lang.specs.catalog.Catalogue as catalogues;
 ghost use Rattle.sdd_lang.specs.declared.transaction.Txn as transactions;
 ghost use Rattle.sdd_lang.specs.Database.{Database};
 ghost use Rattle.sdd_lang.specs.Effect as of_databases;
@@ -10,8 +10,8 @@ ghost use Rattle.sdd_exec.specs.Snapshots as snapshots;
 
 use crate::snapshot::Snapshot;
 use crate::source::Shipped;
-use sdd_base::NoMemory;
-use sdd_catalog::Catalogue;
+use sdd_lang::sdd_base::NoMemory;
+use sdd_lang::sdd_catalog::Catalogue;
 use sdd_lang::{Effect, Txn, effect_over};
 use std::alloc::Global;
 

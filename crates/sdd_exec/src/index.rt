@@ -2,12 +2,12 @@
 ghost use Rattle.std.specs.Prelude.{◌≡◌, cond, ◌++◌, ◌∷◌, List, [], IfOk};
 ghost use Rattle.std.specs.HashMap as hash;
 ghost use Rattle.std.specs.Option.{option_map_or};
-ghost use Rattle.sdd_base.specs.declared.value.Value.{Value};
+ghost use Rattle.sdd_lang.specs.base.declared.value.Value.{Value};
 ghost use Rattle.sdd_lang.specs.Tuples.{rows_lent};
 ghost use Rattle.sdd_exec.specs.Choices as joins;
 
 use crate::tie::{Tie, key_of};
-use sdd_base::{NoMemory, Parcel, Row};
+use sdd_lang::sdd_base::{NoMemory, Parcel, Row};
 use sdd_lang::{Condition, compare, value_in};
 use std::alloc::Global;
 use std::collections::HashMap;

@@ -16,7 +16,7 @@ use crate::index::{Index, index, places_of, untied};
 use crate::parts::Parts;
 use crate::sifting::sifted;
 use crate::tie::{Tie, key_for, ties};
-use sdd_base::{NoMemory, Row, RowList};
+use sdd_lang::sdd_base::{NoMemory, Row, RowList};
 use sdd_lang::{Condition, Ref, meets_all, project};
 use std::alloc::Global;
 

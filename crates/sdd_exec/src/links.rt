@@ -5,7 +5,7 @@ ghost use Rattle.sdd_exec.specs.Sifting as sift;
 use crate::choice::value_at;
 use crate::parts::Parts;
 use crate::tie::part_of;
-use sdd_base::{NoMemory, Row};
+use sdd_lang::sdd_base::{NoMemory, Row};
 use sdd_lang::{Condition, Ref, copied};
 use std::alloc::Global;
 

@@ -3,7 +3,7 @@ ghost use Rattle.std.specs.Prelude.{◌≡◌, ◌<◌, ◌++◌, ◌∷◌, [],
 
 use crate::links::{links, outs};
 use crate::tie::ties;
-use sdd_base::NoMemory;
+use sdd_lang::sdd_base::NoMemory;
 use sdd_lang::{Condition, Ref};
 use std::alloc::Global;
 

@@ -2,7 +2,7 @@
 ghost use Rattle.std.specs.Prelude.{◌≡◌, ◌≤◌, ◌<◌, ◌++◌, ◌∷◌, [], length, slice_index_or, MatchOption, OnOk};
 ghost use Rattle.sdd_lang.specs.Tuples.{rows_lent};
 
-use sdd_base::{NoMemory, Row};
+use sdd_lang::sdd_base::{NoMemory, Row};
 use std::alloc::Global;
 use std::marker::Model;
 

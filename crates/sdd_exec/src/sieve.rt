@@ -3,8 +3,8 @@ ghost use Rattle.std.specs.Prelude.{◌≡◌, ◌<◌, ◌++◌, ◌∷◌, [],
 ghost use Rattle.std.specs.HashMap as hash;
 ghost use Rattle.std.specs.Option.{option_map_or};
 ghost use Rattle.std.specs.BTreeSet.{insert_key};
-ghost use Rattle.sdd_base.specs.Order.{row_cmp};
-ghost use Rattle.sdd_base.specs.declared.value.Value.{Value};
+ghost use Rattle.sdd_lang.specs.base.Order.{row_cmp};
+ghost use Rattle.sdd_lang.specs.base.declared.value.Value.{Value};
 ghost use Rattle.sdd_exec.specs.Choices as joins;
 ghost use Rattle.sdd_exec.specs.Sifting as sift;
 
@@ -12,7 +12,7 @@ use crate::choice::{Choice, placed};
 use crate::found::Found;
 use crate::links::values_of;
 use crate::parts::Parts;
-use sdd_base::{NoMemory, Row};
+use sdd_lang::sdd_base::{NoMemory, Row};
 use sdd_lang::Ref;
 use std::alloc::Global;
 use std::collections::HashMap;

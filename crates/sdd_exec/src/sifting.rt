@@ -2,7 +2,7 @@
 ghost use Rattle.std.specs.Prelude.{◌≡◌, ◌<◌, ◌++◌, ◌∷◌, ℕ, false, true, length, map, List, [], Option, IfOk, slice_index, slice_index_or};
 ghost use Rattle.std.specs.HashMap as hash;
 ghost use Rattle.std.specs.Option.{option_map_or};
-ghost use Rattle.sdd_base.specs.declared.value.Value.{Value};
+ghost use Rattle.sdd_lang.specs.base.declared.value.Value.{Value};
 ghost use Rattle.sdd_exec.specs.Choices as joins;
 ghost use Rattle.sdd_exec.specs.Sifting as sift;
 ghost use Rattle.sdd_exec.specs.Splicing.{AreSound};
@@ -14,7 +14,7 @@ use crate::order::{best_part, with_part};
 use crate::parts::Parts;
 use crate::sieve::{Mesh, Sieve, is_full_for, no_choices, offer_each};
 use crate::tie::{Tie, key_for, key_of, part_of, ties};
-use sdd_base::{NoMemory, Row};
+use sdd_lang::sdd_base::{NoMemory, Row};
 use sdd_lang::{Condition, Ref};
 use std::alloc::Global;
 

@@ -2,7 +2,7 @@ ghost use Rattle.std.specs.Prelude.{◌≡◌, true, false, [], ◌∷◌, ◌++
 ghost use Rattle.sdd_lang.specs.Tuples.{rows_lent};
 ghost use Rattle.sdd_exec.specs.Snapshots.{rows_for};
 
-use sdd_base::{NoMemory, Row};
+use sdd_lang::sdd_base::{NoMemory, Row};
 use std::alloc::Global;
 use std::marker::Model;
 
@@ -14,7 +14,7 @@ pub struct Snapshot {
 }
 
 impl Model for Snapshot {
-    ghost use Rattle.sdd_base.specs.Kept.{Kept};
+    ghost use Rattle.sdd_lang.specs.base.Kept.{Kept};
     ghost use Rattle.sdd_exec.specs.Snapshots.{Shipped};
 
     ghost Value = { Kept Shipped };

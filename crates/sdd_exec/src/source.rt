@@ -1,6 +1,6 @@
 //! What statements find in the rows of a snapshot.
 ghost use Rattle.std.specs.Prelude.{◌≡◌, ◌+◌, [], length, fold, IfOk};
-ghost use Rattle.sdd_catalog.specs.Catalogue.{key_column};
+ghost use Rattle.sdd_lang.specs.catalog.Catalogue.{key_column};
 ghost use Rattle.sdd_lang.specs.Database.{key_in};
 ghost use Rattle.sdd_lang.specs.Tuples.{rows_lent};
 ghost use Rattle.sdd_exec.specs.Snapshots.{parts_for, found_for, chosen_for, with_chosen, of_relation};
@@ -9,8 +9,8 @@ use crate::joins::join;
 use crate::matched::Matched;
 use crate::parts::Parts;
 use crate::snapshot::Snapshot;
-use sdd_base::{NoMemory, Parcel, RelNo, Row, RowList, Value};
-use sdd_catalog::Catalogue;
+use sdd_lang::sdd_base::{NoMemory, Parcel, RelNo, Row, RowList, Value};
+use sdd_lang::sdd_catalog::Catalogue;
 use sdd_lang::{Condition, Entries, Entry, Ref, Source, meets_all, value_in};
 use std::alloc::Global;
 

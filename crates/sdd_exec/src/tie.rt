@@ -4,7 +4,7 @@ ghost use Rattle.sdd_exec.specs.Choices as joins;
 
 use crate::choice::value_at;
 use crate::parts::Parts;
-use sdd_base::{NoMemory, Row};
+use sdd_lang::sdd_base::{NoMemory, Row};
 use sdd_lang::{Condition, Ref, copied, value_in};
 use std::alloc::Global;
 

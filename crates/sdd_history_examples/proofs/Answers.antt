@@ -3,19 +3,19 @@ use Rattle.std.proofs.Common.{ℕ, ◌==◌, ◌≡◌, Bool, true, List, Option
 use Rattle.std.specs.Prelude.{Contains}
 use Rattle.std.specs.List.{AllByRecursion, list_all, list_any}
 use Rattle.std.proofs.lemmas.Bool.{eqb-true}
-use Rattle.sdd_base.specs.Numbers.{dm_no, txn_no}
-use Rattle.sdd_base.specs.declared.number.RelNo.{RelNo}
-use Rattle.sdd_catalog.specs.Catalogue.{Catalogue, numbers_to, reads_at}
-use Rattle.sdd_history.specs.declared.record.Rec.TheVariants.{Answer}
-use Rattle.sdd_history.specs.Records.{History}
-use Rattle.sdd_lang.specs.declared.transaction.Txn.{Txn}
-use Rattle.sdd_lang.specs.Classes.{fragments_in}
-use Rattle.sdd_lang.specs.Database.{Row}
-use Rattle.sdd_lang.specs.Effect.{effect}
-use Rattle.sdd_order.specs.Attempts.{Attempt, Committed, IsCommitted, committed}
-use Rattle.sdd_order.specs.Places.{Stands}
-use Rattle.sdd_order.specs.Precedence.{is_answer}
-use Rattle.sdd_order.proofs.Before.{is_answered}
+use Rattle.sdd_laws.specs.base.Numbers.{dm_no, txn_no}
+use Rattle.sdd_laws.specs.base.declared.number.RelNo.{RelNo}
+use Rattle.sdd_laws.specs.catalog.Catalogue.{Catalogue, numbers_to, reads_at}
+use Rattle.sdd_laws.specs.history.declared.record.Rec.TheVariants.{Answer}
+use Rattle.sdd_laws.specs.history.Records.{History}
+use Rattle.sdd_laws.specs.lang.declared.transaction.Txn.{Txn}
+use Rattle.sdd_laws.specs.lang.Classes.{fragments_in}
+use Rattle.sdd_laws.specs.lang.Database.{Row}
+use Rattle.sdd_laws.specs.lang.Effect.{effect}
+use Rattle.sdd_laws.specs.serial_orders.Attempts.{Attempt, Committed, IsCommitted, committed}
+use Rattle.sdd_laws.specs.serial_orders.Places.{Stands}
+use Rattle.sdd_laws.specs.serial_orders.Precedence.{is_answer}
+use Rattle.sdd_laws.proofs.serial_orders.Before.{is_answered}
 use Rattle.sdd_laws.specs.Answers.{KeepsAnswers}
 use Rattle.sdd_laws.specs.Deeds.{txn_at, Asks, AnsweredBefore}
 use Rattle.sdd_laws.specs.Deeds.Asks.{by_use, by_no_class}

@@ -3,17 +3,17 @@ use Rattle.std.proofs.Common.{ℕ, ◌<◌, ◌==◌, ◌≡◌, nat_lt, Bool, t
 use Rattle.std.specs.Prelude.{Contains}
 use Rattle.std.specs.List.{list_all, list_any}
 use Rattle.std.proofs.lemmas.Bool.{le-leb, and_parts, and_from, eqb-true, lt-ltb, ltb-true}
-use Rattle.sdd_base.specs.Numbers.{class_no, dm_no, txn_no, time_at}
-use Rattle.sdd_base.specs.declared.change.Change.{Change}
-use Rattle.sdd_catalog.specs.Catalogue.{Catalogue, has_copy}
-use Rattle.sdd_catalog.specs.Rules.{is_from_1_to}
-use Rattle.sdd_history.specs.declared.record.Rec.TheVariants.{Apply}
-use Rattle.sdd_history.specs.Records.{History}
-use Rattle.sdd_order.specs.Attempts.{Attempt, Committed, IsCommitted, committed}
-use Rattle.sdd_order.specs.Places.{Stands}
-use Rattle.sdd_order.proofs.Before.{or_cases, or_left, or_right}
-use Rattle.sdd_order.proofs.Found.{from_committed}
-use Rattle.sdd_order.proofs.Members.{member_passes, passes_member}
+use Rattle.sdd_laws.specs.base.Numbers.{class_no, dm_no, txn_no, time_at}
+use Rattle.sdd_laws.specs.base.declared.change.Change.{Change}
+use Rattle.sdd_laws.specs.catalog.Catalogue.{Catalogue, has_copy}
+use Rattle.sdd_laws.specs.catalog.Rules.{is_from_1_to}
+use Rattle.sdd_laws.specs.history.declared.record.Rec.TheVariants.{Apply}
+use Rattle.sdd_laws.specs.history.Records.{History}
+use Rattle.sdd_laws.specs.serial_orders.Attempts.{Attempt, Committed, IsCommitted, committed}
+use Rattle.sdd_laws.specs.serial_orders.Places.{Stands}
+use Rattle.sdd_laws.proofs.serial_orders.Before.{or_cases, or_left, or_right}
+use Rattle.sdd_laws.proofs.serial_orders.Found.{from_committed}
+use Rattle.sdd_laws.proofs.serial_orders.Members.{member_passes, passes_member}
 use Rattle.sdd_laws.specs.Applies.{IsOfCommit, IsEarlier, KeepsApplies}
 use Rattle.sdd_laws.specs.Deeds.{IsAnswered, IsApplied, AppliedBefore, Touches, GoesTo}
 use Rattle.sdd_laws.specs.Deeds.GoesTo.{by_change, by_no_class}

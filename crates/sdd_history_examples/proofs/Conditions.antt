@@ -3,19 +3,19 @@ use Rattle.std.proofs.Common.{ℕ, ◌==◌, ◌≡◌, nat_lt, Bool, true, ◌&
 use Rattle.std.specs.Prelude.{Contains}
 use Rattle.std.specs.List.{AllByRecursion, list_any}
 use Rattle.std.proofs.lemmas.Bool.{and_from, eqb-true, lt-ltb, ltb-true}
-use Rattle.sdd_base.specs.Words.{contains}
-use Rattle.sdd_base.specs.declared.change.Change.{Change}
-use Rattle.sdd_base.specs.declared.condition.Cond.{Cond}
-use Rattle.sdd_base.specs.declared.number.FragNo.{FragNo}
-use Rattle.sdd_catalog.specs.Catalogue.{Catalogue, has_copy}
-use Rattle.sdd_history.specs.Records.{History}
-use Rattle.sdd_protocol.specs.Protocols.{IsTable}
-use Rattle.sdd_protocol.specs.declared.entry.Entry.{Entry}
-use Rattle.sdd_protocol.proofs.Laws.{one_table}
-use Rattle.sdd_order.specs.Attempts.{Attempt, Committed, IsCommitted, attempts, committed}
-use Rattle.sdd_order.specs.Places.{event_at}
-use Rattle.sdd_order.proofs.Found.{in_attempts}
-use Rattle.sdd_order.proofs.Members.{member_passes, passes_member}
+use Rattle.sdd_laws.specs.base.Words.{contains}
+use Rattle.sdd_laws.specs.base.declared.change.Change.{Change}
+use Rattle.sdd_laws.specs.base.declared.condition.Cond.{Cond}
+use Rattle.sdd_laws.specs.base.declared.number.FragNo.{FragNo}
+use Rattle.sdd_laws.specs.catalog.Catalogue.{Catalogue, has_copy}
+use Rattle.sdd_laws.specs.history.Records.{History}
+use Rattle.sdd_laws.specs.protocol.Protocols.{IsTable}
+use Rattle.sdd_laws.specs.protocol.declared.entry.Entry.{Entry}
+use Rattle.sdd_laws.proofs.protocol.Laws.{one_table}
+use Rattle.sdd_laws.specs.serial_orders.Attempts.{Attempt, Committed, IsCommitted, attempts, committed}
+use Rattle.sdd_laws.specs.serial_orders.Places.{event_at}
+use Rattle.sdd_laws.proofs.serial_orders.Found.{in_attempts}
+use Rattle.sdd_laws.proofs.serial_orders.Members.{member_passes, passes_member}
 use Rattle.sdd_laws.specs.Conditions.{conditions_of, IsConditionOf, KeepsConditions}
 use Rattle.sdd_laws.specs.Deeds.{TouchesOne}
 use Rattle.sdd_laws.specs.Eras.{Eras, in_force}

@@ -3,11 +3,11 @@ use Rattle.std.proofs.Common.{ℕ, ◌≤◌, ◌≡◌, Bool, true, false, not,
 use Rattle.std.specs.Prelude.{Contains}
 use Rattle.std.specs.List.{AllByRecursion, list_all}
 use Rattle.std.proofs.lemmas.Bool.{and_parts}
-use Rattle.sdd_base.specs.Words.{contains}
-use Rattle.sdd_base.proofs.Membership.{Contains-nil, Contains-cases}
-use Rattle.sdd_catalog.specs.Catalogue.{numbers_to}
-use Rattle.sdd_order.proofs.Members.{Contains-range}
-use Rattle.sdd_eras.proofs.Lists.{each_passes, at_member}
+use Rattle.sdd_laws.specs.base.Words.{contains}
+use Rattle.sdd_laws.proofs.base.Membership.{Contains-nil, Contains-cases}
+use Rattle.sdd_laws.specs.catalog.Catalogue.{numbers_to}
+use Rattle.sdd_laws.proofs.serial_orders.Members.{Contains-range}
+use Rattle.sdd_laws.proofs.class_eras.Lists.{each_passes, at_member}
 
 -- a test that counts only where another passes
 abbrev pub if_so : Bool → Bool → Bool

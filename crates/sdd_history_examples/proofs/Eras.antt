@@ -3,14 +3,14 @@ use Rattle.std.proofs.Common.{ℕ, ◌<◌, ◌==◌, ◌≡◌, nat_lt, Bool, t
 use Rattle.std.specs.Prelude.{Contains}
 use Rattle.std.specs.List.{list_all}
 use Rattle.std.proofs.lemmas.Bool.{and_from, and_parts, eqb-true, lt-ltb, ltb-true}
-use Rattle.sdd_base.specs.declared.change.Change.{Change}
-use Rattle.sdd_base.specs.declared.number.DmNo.{DmNo}
-use Rattle.sdd_catalog.specs.Catalogue.{Catalogue, fragment_at, has_copy, numbers_to}
-use Rattle.sdd_history.specs.Records.{History}
-use Rattle.sdd_order.specs.Attempts.{Attempt, Committed, IsAttempt, IsCommitted, attempts, committed}
-use Rattle.sdd_order.specs.Places.{event_at}
-use Rattle.sdd_order.proofs.Found.{in_attempts}
-use Rattle.sdd_order.proofs.Members.{member_passes}
+use Rattle.sdd_laws.specs.base.declared.change.Change.{Change}
+use Rattle.sdd_laws.specs.base.declared.number.DmNo.{DmNo}
+use Rattle.sdd_laws.specs.catalog.Catalogue.{Catalogue, fragment_at, has_copy, numbers_to}
+use Rattle.sdd_laws.specs.history.Records.{History}
+use Rattle.sdd_laws.specs.serial_orders.Attempts.{Attempt, Committed, IsAttempt, IsCommitted, attempts, committed}
+use Rattle.sdd_laws.specs.serial_orders.Places.{event_at}
+use Rattle.sdd_laws.proofs.serial_orders.Found.{in_attempts}
+use Rattle.sdd_laws.proofs.serial_orders.Members.{member_passes}
 use Rattle.sdd_laws.specs.Deeds.{GoesTo}
 use Rattle.sdd_laws.specs.Deeds.GoesTo.{by_change, by_no_class}
 use Rattle.sdd_laws.specs.Eras.{Eras, begun}

@@ -2,9 +2,9 @@
 use Rattle.std.proofs.Common.{ℕ, zero, suc, ◌<◌, ◌≤◌, ◌≡◌, nat_lt, cond, [], ◌∷◌, Some, refl, subst, inl, inr, arith, lit<, lit≤}
 use Rattle.std.specs.Prelude.{slice_get}
 use Rattle.std.proofs.lemmas.Option.{same_Some}
-use Rattle.sdd_base.specs.declared.restriction.Op.TheVariants.{Le}
-use Rattle.sdd_catalog.specs.Catalogue.{Catalogue, class_at}
-use Rattle.sdd_eras.specs.EraOf.{HasSets, IsEraOf}
+use Rattle.sdd_laws.specs.base.declared.restriction.Op.TheVariants.{Le}
+use Rattle.sdd_laws.specs.catalog.Catalogue.{Catalogue, class_at}
+use Rattle.sdd_laws.specs.class_eras.EraOf.{HasSets, IsEraOf}
 use Rattle.sdd_laws.specs.Eras.{AreEras}
 use Rattle.sdd_history_examples.specs.Catalogues.{both_classes, further_classes, one_class, two_eras}
 use Rattle.sdd_history_examples.specs.Histories.{redeclares}

@@ -2,14 +2,14 @@
 use Rattle.std.proofs.Common.{ℕ, ◌≡◌, nat_lt, true, not, List, sym, ◌∙◌}
 use Rattle.std.specs.List.{AllByRecursion, list_all}
 use Rattle.std.proofs.lemmas.Bool.{lt-ltb, not-true, false≢true}
-use Rattle.sdd_base.specs.declared.number.RelNo.{RelNo}
-use Rattle.sdd_catalog.specs.Catalogue.{Catalogue}
-use Rattle.sdd_history.specs.Records.{History}
-use Rattle.sdd_lang.specs.declared.transaction.Txn.{Txn}
-use Rattle.sdd_lang.specs.Database.{Row}
-use Rattle.sdd_protocol.specs.declared.entry.Entry.{Entry}
-use Rattle.sdd_order.specs.Attempts.{Attempt, attempts}
-use Rattle.sdd_order.proofs.Found.{in_attempts}
+use Rattle.sdd_laws.specs.base.declared.number.RelNo.{RelNo}
+use Rattle.sdd_laws.specs.catalog.Catalogue.{Catalogue}
+use Rattle.sdd_laws.specs.history.Records.{History}
+use Rattle.sdd_laws.specs.lang.declared.transaction.Txn.{Txn}
+use Rattle.sdd_laws.specs.lang.Database.{Row}
+use Rattle.sdd_laws.specs.protocol.declared.entry.Entry.{Entry}
+use Rattle.sdd_laws.specs.serial_orders.Attempts.{Attempt, attempts}
+use Rattle.sdd_laws.proofs.serial_orders.Found.{in_attempts}
 use Rattle.sdd_laws.specs.Eras.{Eras}
 use Rattle.sdd_laws.specs.Rejections.{KeepsRejections}
 use Rattle.sdd_history_examples.specs.Keeping.{AreSound, KeepsAll, KeepsOthers}

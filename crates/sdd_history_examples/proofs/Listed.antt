@@ -3,15 +3,15 @@ use Rattle.std.proofs.Common.{ℕ, ◌==◌, ◌≡◌, nat_lt, Bool, true, ◌&
 use Rattle.std.specs.Prelude.{filter_map, Contains}
 use Rattle.std.specs.List.{list_any}
 use Rattle.std.proofs.lemmas.Bool.{and_parts, eqb-true, ltb-true}
-use Rattle.sdd_base.specs.Numbers.{class_no, dm_no, txn_no, time_at}
-use Rattle.sdd_history.specs.declared.record.Rec.{Rec}
-use Rattle.sdd_history.specs.declared.record.Rec.TheVariants.{Submit, Commit, Answer, Apply}
-use Rattle.sdd_history.specs.Records.{History}
-use Rattle.sdd_order.specs.Attempts.{Attempt, Committed, HasCommit, attempts, committed}
-use Rattle.sdd_order.specs.Places.{Stands, placed}
-use Rattle.sdd_order.proofs.Found.{at_place, from_attempts, from_committed}
-use Rattle.sdd_order.proofs.Places.{commit_of}
-use Rattle.sdd_order.proofs.Members.{Contains-filter_map, member_passes}
+use Rattle.sdd_laws.specs.base.Numbers.{class_no, dm_no, txn_no, time_at}
+use Rattle.sdd_laws.specs.history.declared.record.Rec.{Rec}
+use Rattle.sdd_laws.specs.history.declared.record.Rec.TheVariants.{Submit, Commit, Answer, Apply}
+use Rattle.sdd_laws.specs.history.Records.{History}
+use Rattle.sdd_laws.specs.serial_orders.Attempts.{Attempt, Committed, HasCommit, attempts, committed}
+use Rattle.sdd_laws.specs.serial_orders.Places.{Stands, placed}
+use Rattle.sdd_laws.proofs.serial_orders.Found.{at_place, from_attempts, from_committed}
+use Rattle.sdd_laws.proofs.serial_orders.Places.{commit_of}
+use Rattle.sdd_laws.proofs.serial_orders.Members.{Contains-filter_map, member_passes}
 use Rattle.sdd_laws.specs.Deeds.{IsSubmitted, StartedBefore, CommittedBefore}
 
 -- a transaction and the place of its Submit

@@ -3,14 +3,14 @@ use Rattle.std.proofs.Common.{ℕ, suc, ◌%◌, ◌<◌, ◌≤◌, ◌==◌, �
 use Rattle.std.specs.Prelude.{is_some, unwrap_or, option_map, Contains}
 use Rattle.std.specs.List.{AllByRecursion, list_all}
 use Rattle.std.proofs.lemmas.Bool.{and_parts, cases_lt, eqb-true, lt-ltb, ltb-true, not-true, false≢true}
-use Rattle.sdd_base.specs.declared.number.Ts.{Ts}
-use Rattle.sdd_catalog.specs.Catalogue.{Catalogue}
-use Rattle.sdd_history.specs.Records.{History}
-use Rattle.sdd_lang.specs.declared.transaction.Txn.{Txn}
-use Rattle.sdd_lang.specs.Classes.{class_for}
-use Rattle.sdd_order.specs.Attempts.{Attempt, Committed, IsAttempt, IsCommitted, HasCommit, attempts, committed, p2_time}
-use Rattle.sdd_order.specs.Places.{event_at}
-use Rattle.sdd_order.proofs.Found.{in_attempts, in_committed}
+use Rattle.sdd_laws.specs.base.declared.number.Ts.{Ts}
+use Rattle.sdd_laws.specs.catalog.Catalogue.{Catalogue}
+use Rattle.sdd_laws.specs.history.Records.{History}
+use Rattle.sdd_laws.specs.lang.declared.transaction.Txn.{Txn}
+use Rattle.sdd_laws.specs.lang.Classes.{class_for}
+use Rattle.sdd_laws.specs.serial_orders.Attempts.{Attempt, Committed, IsAttempt, IsCommitted, HasCommit, attempts, committed, p2_time}
+use Rattle.sdd_laws.specs.serial_orders.Places.{event_at}
+use Rattle.sdd_laws.proofs.serial_orders.Found.{in_attempts, in_committed}
 use Rattle.sdd_laws.specs.Deeds.{txn_at, IsSubmitted, CommittedBefore}
 use Rattle.sdd_laws.specs.Eras.{Eras, in_force}
 use Rattle.sdd_laws.specs.Starts.{IsOfSubmit, starts_before, IsBound, KeepsStarts}

@@ -3,10 +3,10 @@ use Rattle.std.proofs.Common.{ℕ, ◌==◌, ◌≡◌, nat_lt, Bool, true, not,
 use Rattle.std.specs.Prelude.{Contains}
 use Rattle.std.specs.List.{list_all}
 use Rattle.std.proofs.lemmas.Bool.{and_parts, ltb-true, ne_eqb}
-use Rattle.sdd_catalog.specs.Catalogue.{Catalogue, numbers_to}
-use Rattle.sdd_history.specs.Records.{History}
-use Rattle.sdd_order.specs.Attempts.{Committed, IsCommitted, committed}
-use Rattle.sdd_order.proofs.Before.{or_cases}
+use Rattle.sdd_laws.specs.catalog.Catalogue.{Catalogue, numbers_to}
+use Rattle.sdd_laws.specs.history.Records.{History}
+use Rattle.sdd_laws.specs.serial_orders.Attempts.{Committed, IsCommitted, committed}
+use Rattle.sdd_laws.proofs.serial_orders.Before.{or_cases}
 use Rattle.sdd_laws.specs.Snapshots.{is_applied}
 use Rattle.sdd_laws.specs.Undeclared.{IsWhollyBefore, IsWhollyAfter, KeepsUndeclared}
 use Rattle.sdd_laws.proofs.Applied.{applied_before}

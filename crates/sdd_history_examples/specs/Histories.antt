@@ -1,11 +1,11 @@
 -- Further histories.
 use Rattle.std.specs.Prelude.{pos, [], ◌∷◌, None, Some}
-use Rattle.sdd_base.specs.Numbers.{dm_no, class_no, frag_no, txn_no, time_at}
-use Rattle.sdd_base.specs.declared.reply.Reply.TheVariants.{Rows}
-use Rattle.sdd_base.specs.declared.value.Value.TheVariants.{Int}
-use Rattle.sdd_history.specs.declared.record.Rec.TheVariants.{Submit, Start, Arrive, Wait, Answer, Commit, Apply, Pass}
-use Rattle.sdd_history.specs.Records.{History}
-use Rattle.sdd_order.specs.Examples.{put, low_keys}
+use Rattle.sdd_laws.specs.base.Numbers.{dm_no, class_no, frag_no, txn_no, time_at}
+use Rattle.sdd_laws.specs.base.declared.reply.Reply.TheVariants.{Rows}
+use Rattle.sdd_laws.specs.base.declared.value.Value.TheVariants.{Int}
+use Rattle.sdd_laws.specs.history.declared.record.Rec.TheVariants.{Submit, Start, Arrive, Wait, Answer, Commit, Apply, Pass}
+use Rattle.sdd_laws.specs.history.Records.{History}
+use Rattle.sdd_laws.specs.serial_orders.Examples.{put, low_keys}
 
 -- Two transactions of one class, each of which asks for the low keys and puts one: the second starts when the first is
 -- committed, and sees what it put.

@@ -1,13 +1,13 @@
 -- Histories that keep all laws, and that break one.
 use Rattle.std.specs.Prelude.{List}
 use Rattle.std.specs.List.{All}
-use Rattle.sdd_base.specs.declared.number.RelNo.{RelNo}
-use Rattle.sdd_catalog.specs.Catalogue.{Catalogue}
-use Rattle.sdd_catalog.specs.Rules.{IsSound}
-use Rattle.sdd_history.specs.Records.{History}
-use Rattle.sdd_lang.specs.declared.transaction.Txn.{Txn}
-use Rattle.sdd_lang.specs.Database.{Row}
-use Rattle.sdd_order.specs.Precedence.{HasNoCycle}
+use Rattle.sdd_laws.specs.base.declared.number.RelNo.{RelNo}
+use Rattle.sdd_laws.specs.catalog.Catalogue.{Catalogue}
+use Rattle.sdd_laws.specs.catalog.Rules.{IsSound}
+use Rattle.sdd_laws.specs.history.Records.{History}
+use Rattle.sdd_laws.specs.lang.declared.transaction.Txn.{Txn}
+use Rattle.sdd_laws.specs.lang.Database.{Row}
+use Rattle.sdd_laws.specs.serial_orders.Precedence.{HasNoCycle}
 use Rattle.sdd_laws.specs.Answers.{KeepsAnswers}
 use Rattle.sdd_laws.specs.Applies.{KeepsApplies}
 use Rattle.sdd_laws.specs.Conditions.{KeepsConditions}

@@ -1,10 +1,10 @@
 -- Packets as JSON. A message is told in full with its first packet, and then by its number.
 use Rattle.std.specs.Prelude.{ℕ, List, [], ◌++◌, codes, length, map, sum}
 use Rattle.std.specs.Fmt.{decimal}
-use Rattle.sdd_base.specs.declared.number.ClassNo.{ClassNo}
-use Rattle.sdd_base.specs.declared.number.Ts.{Ts}
-use Rattle.sdd_catalog.specs.Catalogue.{Catalogue}
-use Rattle.sdd_lang.specs.declared.transaction.Txn.{Txn}
+use Rattle.sdd_script.specs.base.declared.number.ClassNo.{ClassNo}
+use Rattle.sdd_script.specs.base.declared.number.Ts.{Ts}
+use Rattle.sdd_script.specs.catalog.Catalogue.{Catalogue}
+use Rattle.sdd_script.specs.lang.declared.transaction.Txn.{Txn}
 use Rattle.sdd_wire.specs.declared.msg.Msg.{Msg}
 use Rattle.sdd_wire.specs.declared.msg.Msg.TheVariants as messages
 use Rattle.sdd_inside.specs.Json.{quoted, array, member, also, object}

@@ -1,22 +1,22 @@
 -- Names, sites, times and rows as JSON.
 use Rattle.std.specs.Prelude.{ℕ, ℤ, List, codes, map, Option, Some, None}
 use Rattle.std.specs.Fmt.{decimal, signed_decimal}
-use Rattle.sdd_base.specs.declared.change.Change.{Change}
-use Rattle.sdd_base.specs.declared.condition.Cond.{Cond}
-use Rattle.sdd_base.specs.declared.event.Event.{Event}
-use Rattle.sdd_base.specs.declared.number.ClassNo.{ClassNo}
-use Rattle.sdd_base.specs.declared.number.DmNo.{DmNo}
-use Rattle.sdd_base.specs.declared.number.FragNo.{FragNo}
-use Rattle.sdd_base.specs.declared.number.Ts.{Ts}
-use Rattle.sdd_base.specs.declared.number.TxnNo.{TxnNo}
-use Rattle.sdd_base.specs.declared.site.Site.{Site}
-use Rattle.sdd_base.specs.declared.value.Value.{Value}
-use Rattle.sdd_catalog.specs.Catalogue.{Catalogue}
-use Rattle.sdd_lang.specs.declared.transaction.Txn.{Txn}
+use Rattle.sdd_script.specs.base.declared.change.Change.{Change}
+use Rattle.sdd_script.specs.base.declared.condition.Cond.{Cond}
+use Rattle.sdd_script.specs.base.declared.event.Event.{Event}
+use Rattle.sdd_script.specs.base.declared.number.ClassNo.{ClassNo}
+use Rattle.sdd_script.specs.base.declared.number.DmNo.{DmNo}
+use Rattle.sdd_script.specs.base.declared.number.FragNo.{FragNo}
+use Rattle.sdd_script.specs.base.declared.number.Ts.{Ts}
+use Rattle.sdd_script.specs.base.declared.number.TxnNo.{TxnNo}
+use Rattle.sdd_script.specs.base.declared.site.Site.{Site}
+use Rattle.sdd_script.specs.base.declared.value.Value.{Value}
+use Rattle.sdd_script.specs.catalog.Catalogue.{Catalogue}
+use Rattle.sdd_script.specs.lang.declared.transaction.Txn.{Txn}
 use Rattle.sdd_report.specs.Names.{class_word, fragment_name, site_word, module_word, txn_name, attempt_word}
 use Rattle.sdd_script.specs.Spelling.{event_words}
-use Rattle.sdd_words.specs.Values.{value_word}
-use Rattle.sdd_words.specs.Words.{line_bytes}
+use Rattle.sdd_script.specs.words.Values.{value_word}
+use Rattle.sdd_script.specs.words.Words.{line_bytes}
 use Rattle.sdd_inside.specs.Json.{quoted, pair, triple}
 
 -- A number as it is. Here and below the catalogue and the transactions are those that have the names.

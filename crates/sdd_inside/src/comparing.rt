@@ -1,14 +1,14 @@
 //! What an event changed between two moments.
 ghost use Rattle.std.specs.Prelude.{◌≡◌, ◌++◌, ◌∷◌, [], ◌⊎◌, List, map, drop, length, IfOk, OnOk, MatchOption};
 ghost use Rattle.std.specs.List.{position};
-ghost use Rattle.sdd_base.specs.Sites.{same_site};
+ghost use Rattle.sdd_script.specs.base.Sites.{same_site};
 ghost use Rattle.sdd_inside.specs.Differences.{changes, in_flight, takes_one, is_of_link, takes_from, left, on_link, put_between, handed_between, is_first, gone, queue_between, pipe_between, difference};
 ghost use Rattle.sdd_inside.specs.declared.moment.Happened.{Happened as Turn};
 
 use crate::delta::{Delta, Found, Handed, InFlight, PipeDelta, Put, QueueDelta};
 use crate::moment::{Happened, LinkMoment, Moment, PipeMoment, QueueMoment};
 use crate::told::parted;
-use sdd_base::{Event, Listed, NoMemory, Parcel, Site, TxnNo};
+use sdd_script::sdd_base::{Event, Listed, NoMemory, Parcel, Site, TxnNo};
 use sdd_net::Packet;
 use sdd_wire::Msg;
 use std::alloc::Global;

@@ -4,8 +4,8 @@ ghost use Rattle.std.specs.Fmt.{decimal};
 ghost use Rattle.sdd_inside.specs.Json.{hex_digit, numbered, escaped_byte, escaped, quoted};
 
 use itoa::Buffer;
-use sdd_base::NoMemory;
-use sdd_words::put;
+use sdd_script::sdd_base::NoMemory;
+use sdd_script::sdd_words::put;
 
 fn hex_digit(n: u8) -> u8
     requires { n < 16 }

@@ -1,15 +1,15 @@
 //! Events as a workload spells them.
 ghost use Rattle.std.specs.Prelude.{◌≡◌, ◌++◌, ◌∷◌, [], codes, OnOk};
-ghost use Rattle.sdd_words.specs.Words.{line_bytes, spaced};
-ghost use Rattle.sdd_words.specs.declared.word.Word.TheVariants.{Plain};
+ghost use Rattle.sdd_script.specs.words.Words.{line_bytes, spaced};
+ghost use Rattle.sdd_script.specs.words.declared.word.Word.TheVariants.{Plain};
 ghost use Rattle.sdd_script.specs.Spelling.{site_word, count_word, event_words};
 ghost use Rattle.sdd_inside.specs.Words.{event_json};
 
 use crate::escape::put_quoted;
 use crate::names::txn_name;
-use sdd_base::{Event, NoMemory, Site, TmNo};
-use sdd_lang::Txn;
-use sdd_words::{put, put_count};
+use sdd_script::sdd_base::{Event, NoMemory, Site, TmNo};
+use sdd_script::sdd_lang::Txn;
+use sdd_script::sdd_words::{put, put_count};
 
 /// Puts a word behind a space.
 fn put_word(words: &mut Vec<u8>, word: &[u8]) -> Result<(), NoMemory>

@@ -9,11 +9,11 @@ use crate::escape::put_quoted;
 use crate::told::{Told, put_also, put_name, put_opening, tell_also, tell_list};
 use crate::words::put_attempt;
 use itoa::Buffer;
-use sdd_base::{Changes, ClassNo, Conds, NoMemory, Ts, TxnNo};
-use sdd_catalog::Catalogue;
-use sdd_lang::Txn;
+use sdd_script::sdd_base::{Changes, ClassNo, Conds, NoMemory, Ts, TxnNo};
+use sdd_script::sdd_catalog::Catalogue;
+use sdd_script::sdd_lang::Txn;
 use sdd_wire::{Msg, UseCounts, UseRows, ValueList};
-use sdd_words::{put, put_count};
+use sdd_script::sdd_words::{put, put_count};
 
 #[tactic(auto, using(crate::proofs::Members::member_put))]
 fn put_kind(text: &mut Vec<u8>, kind: &[u8]) -> Result<(), NoMemory>

@@ -1,7 +1,7 @@
 //! What stands between two events, and what an event found.
 use crate::delta::{Found, RowDelta};
 use crate::standing::SiteState;
-use sdd_base::{ClassNo, DmNo, Event, Listed, Site, Ts, TxnNo};
+use sdd_script::sdd_base::{ClassNo, DmNo, Event, Listed, Site, Ts, TxnNo};
 use sdd_net::Packets;
 use sdd_wire::Msg;
 

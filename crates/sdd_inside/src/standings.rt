@@ -1,6 +1,6 @@
 //! How sites stand, in a line.
 ghost use Rattle.std.specs.Prelude.{◌≡◌, ◌++◌, codes, OnOk};
-ghost use Rattle.sdd_base.specs.declared.site.Site.TheVariants as sites;
+ghost use Rattle.sdd_script.specs.base.declared.site.Site.TheVariants as sites;
 ghost use Rattle.sdd_inside.specs.Json.{quoted, also};
 ghost use Rattle.sdd_inside.specs.Standings.{phase_word, stage_word, attempt_members, phase_members, active_json, question_json, head_json, standing, tm_flags, tm_lists, u_stage, u_lists, dm_members, site_state_json};
 
@@ -10,10 +10,10 @@ use crate::standing::{Active, DmState, Head, Phase, Question, SiteState, Stage, 
 use crate::told::{
     Told, put_also, put_if, put_name, tell_also, tell_first, tell_list, tell_some, tell_triple,
 };
-use sdd_base::{NoMemory, Site};
-use sdd_catalog::Catalogue;
-use sdd_lang::Txn;
-use sdd_words::put;
+use sdd_script::sdd_base::{NoMemory, Site};
+use sdd_script::sdd_catalog::Catalogue;
+use sdd_script::sdd_lang::Txn;
+use sdd_script::sdd_words::put;
 
 fn phase_word(phase: Phase) -> &'static [u8]
     ensures { result.now ≡ phase_word phase }

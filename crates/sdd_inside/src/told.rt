@@ -1,14 +1,14 @@
 //! What a line tells, as JSON: values, lists of them, and members of objects.
 ghost use Rattle.std.specs.Prelude.{ℕ, List, ◌≡◌, ◌++◌, ◌∷◌, [], flat_map, MatchOption, OnOk};
 ghost use Rattle.std.specs.Fmt.{decimal};
-ghost use Rattle.sdd_catalog.specs.Catalogue.{Catalogue as Names};
-ghost use Rattle.sdd_lang.specs.declared.transaction.Txn.{Txn as Named};
+ghost use Rattle.sdd_script.specs.catalog.Catalogue.{Catalogue as Names};
+ghost use Rattle.sdd_script.specs.lang.declared.transaction.Txn.{Txn as Named};
 ghost use Rattle.sdd_inside.specs.Json.{separated, further, array, pair, triple, member, also, unless_empty, if_true, unless_zero};
 
-use sdd_base::{Listed, NoMemory};
-use sdd_catalog::Catalogue;
-use sdd_lang::Txn;
-use sdd_words::{put, put_count};
+use sdd_script::sdd_base::{Listed, NoMemory};
+use sdd_script::sdd_catalog::Catalogue;
+use sdd_script::sdd_lang::Txn;
+use sdd_script::sdd_words::{put, put_count};
 
 /// What can stand in a line.
 pub(crate) trait Told: Sized {

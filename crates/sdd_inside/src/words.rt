@@ -1,8 +1,8 @@
 //! Numbers, names, times and rows in a line.
 ghost use Rattle.std.specs.Prelude.{◌≡◌, ◌++◌, ◌∷◌, [], map, IfOk, OnOk};
 ghost use Rattle.std.specs.Fmt.{decimal};
-ghost use Rattle.sdd_words.specs.Values.{value_word};
-ghost use Rattle.sdd_words.specs.Words.{line_bytes};
+ghost use Rattle.sdd_script.specs.words.Values.{value_word};
+ghost use Rattle.sdd_script.specs.words.Words.{line_bytes};
 ghost use Rattle.sdd_inside.specs.Json.{escaped};
 ghost use Rattle.sdd_inside.specs.Words.{number_json, time_json, class_json, fragment_json, txn_json, attempt_json, site_json, dm_json, key_json, row_json, row_or_null_json, cond_json, change_json};
 
@@ -10,10 +10,10 @@ use crate::escape::{put_escaped, put_escaped_count, put_quoted};
 use crate::names::{class_word, fragment_name, txn_name};
 use crate::told::{Told, parted, tell_pair, tell_triple};
 use itoa::Buffer;
-use sdd_base::{Change, ClassNo, Cond, DmNo, FragNo, NoMemory, Row, Site, Ts, TxnNo, Value};
-use sdd_catalog::Catalogue;
-use sdd_lang::Txn;
-use sdd_words::{put, put_count, put_value, put_values};
+use sdd_script::sdd_base::{Change, ClassNo, Cond, DmNo, FragNo, NoMemory, Row, Site, Ts, TxnNo, Value};
+use sdd_script::sdd_catalog::Catalogue;
+use sdd_script::sdd_lang::Txn;
+use sdd_script::sdd_words::{put, put_count, put_value, put_values};
 use std::alloc::Global;
 
 impl Told for u32 {

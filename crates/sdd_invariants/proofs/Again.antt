@@ -4,29 +4,29 @@ use Rattle.std.specs.List.{cons_option}
 use Rattle.std.specs.Prelude.{filter_map, fold, max}
 use Rattle.std.proofs.Common.{ℕ, ◌*◌, ◌++◌, ◌+◌, ◌/◌, ◌<◌, ◌∙◌, ◌∷◌, ◌≡◌, ◌≤◌, ◌⊎◌, Bool, List, None, Option, Some, [], ap, append_assoc, arith, cond, false, filter, inl, inr, length, refl, slice_get, subst, suc, sym, true, zero}
 use Rattle.std.proofs.Math.Decide.{dec_le}
-use Rattle.sdd_base.specs.Numbers.{time_at}
-use Rattle.sdd_base.specs.Sites.{number_of}
-use Rattle.sdd_base.specs.Words.{head_of}
-use Rattle.sdd_base.specs.declared.change.Change.{Change}
-use Rattle.sdd_base.specs.declared.condition.Cond.{Cond}
-use Rattle.sdd_base.specs.declared.number.ClassNo.{ClassNo}
-use Rattle.sdd_base.specs.declared.number.DmNo.{DmNo}
-use Rattle.sdd_base.specs.declared.number.FragNo.{FragNo}
-use Rattle.sdd_base.specs.declared.number.Ts.{Ts}
-use Rattle.sdd_base.specs.declared.number.TxnNo.{TxnNo}
-use Rattle.sdd_base.specs.declared.site.Site.{Site}
-use Rattle.sdd_base.specs.declared.site.Site.TheVariants.{D}
-use Rattle.sdd_history.specs.declared.record.Rec.TheVariants.{Reject as Rejected}
-use Rattle.sdd_wire.specs.declared.msg.Msg.{Msg}
-use Rattle.sdd_wire.specs.declared.msg.Msg.TheVariants.{Read, Reject, Write}
-use Rattle.sdd_module.specs.SiteLog.{Handed, Records, Setting}
-use Rattle.sdd_attempt.specs.Attempts.{active}
-use Rattle.sdd_attempt.specs.Clocks.{clock}
-use Rattle.sdd_attempt.specs.Queues.{Queued, queue}
-use Rattle.sdd_pipe.specs.Pipe.{Pipe, empty_pipe, greatest, head, last_write, raised, touches, write_time}
-use Rattle.sdd_dm.specs.Due.{is_at_least, last_write_for, or_zero, spoils}
-use Rattle.sdd_dm.specs.Pipes.{pipe}
-use Rattle.sdd_dm.specs.Views.{ClassView, at_class, home_of, source_of, view_of}
+use Rattle.sdd_log.specs.base.Numbers.{time_at}
+use Rattle.sdd_log.specs.base.Sites.{number_of}
+use Rattle.sdd_log.specs.base.Words.{head_of}
+use Rattle.sdd_log.specs.base.declared.change.Change.{Change}
+use Rattle.sdd_log.specs.base.declared.condition.Cond.{Cond}
+use Rattle.sdd_log.specs.base.declared.number.ClassNo.{ClassNo}
+use Rattle.sdd_log.specs.base.declared.number.DmNo.{DmNo}
+use Rattle.sdd_log.specs.base.declared.number.FragNo.{FragNo}
+use Rattle.sdd_log.specs.base.declared.number.Ts.{Ts}
+use Rattle.sdd_log.specs.base.declared.number.TxnNo.{TxnNo}
+use Rattle.sdd_log.specs.base.declared.site.Site.{Site}
+use Rattle.sdd_log.specs.base.declared.site.Site.TheVariants.{D}
+use Rattle.sdd_log.specs.history.declared.record.Rec.TheVariants.{Reject as Rejected}
+use Rattle.sdd_log.specs.wire.declared.msg.Msg.{Msg}
+use Rattle.sdd_log.specs.wire.declared.msg.Msg.TheVariants.{Read, Reject, Write}
+use Rattle.sdd_log.specs.site_module.SiteLog.{Handed, Records, Setting}
+use Rattle.sdd_log.specs.attempt.Attempts.{active}
+use Rattle.sdd_log.specs.attempt.Clocks.{clock}
+use Rattle.sdd_log.specs.attempt.Queues.{Queued, queue}
+use Rattle.sdd_log.specs.pipe.Pipe.{Pipe, empty_pipe, greatest, head, last_write, raised, touches, write_time}
+use Rattle.sdd_log.specs.dm.Due.{is_at_least, last_write_for, or_zero, spoils}
+use Rattle.sdd_log.specs.dm.Pipes.{pipe}
+use Rattle.sdd_log.specs.dm.Views.{ClassView, at_class, home_of, source_of, view_of}
 use Rattle.sdd_log.specs.Entries.{Does, Given, Hand, Log}
 use Rattle.sdd_log.specs.Locals.{local_of, setting_of}
 use Rattle.sdd_log.specs.Permitted.{IsPermitted}
@@ -50,7 +50,7 @@ use Rattle.sdd_invariants.specs.Steps.{home, next_stamp}
 use Rattle.sdd_invariants.proofs.Fair.{all_new, d_fair, home_fair}
 use Rattle.sdd_invariants.proofs.InOrder.{hand_was_put}
 use Rattle.sdd_invariants.proofs.Made.{permitted_before, place_of_hand}
-use Rattle.sdd_module.specs.SiteLog as site
+use Rattle.sdd_log.specs.site_module.SiteLog as site
 
 -- the greatest of numbers is one of them
 

@@ -3,27 +3,27 @@
 use Rattle.std.specs.List.{list_any}
 use Rattle.std.proofs.Common.{ℕ, ◌&&◌, ◌++◌, ◌==◌, ◌||◌, ◌∙◌, ◌∷◌, ◌≡◌, Bool, List, Some, [], ap, append_assoc, arith, false, if◌then◌else◌, inl, inr, refl, slice_get, subst, suc, sym, true, zero}
 use Rattle.std.proofs.lemmas.Bool.{eqb-true}
-use Rattle.sdd_base.specs.Sites.{same_site}
-use Rattle.sdd_base.specs.Words.{contains, head_of}
-use Rattle.sdd_base.specs.declared.condition.Cond.{Cond}
-use Rattle.sdd_base.specs.declared.number.ClassNo.{ClassNo}
-use Rattle.sdd_base.specs.declared.number.DmNo.{DmNo}
-use Rattle.sdd_base.specs.declared.number.Ts.{Ts}
-use Rattle.sdd_base.specs.declared.number.TxnNo.{TxnNo}
-use Rattle.sdd_base.specs.declared.site.Site.{Site}
-use Rattle.sdd_base.specs.declared.site.Site.TheVariants.{D, T, U}
-use Rattle.sdd_base.specs.declared.usage.Use.{Use}
-use Rattle.sdd_history.specs.declared.record.Rec.TheVariants.{Answer}
-use Rattle.sdd_wire.specs.declared.msg.Msg.{Msg}
-use Rattle.sdd_wire.specs.declared.msg.Msg.TheVariants.{Ask, Done, Fetch, Read, Ready, Reduce, Reduced, Reject, Rows, Ship, Values}
-use Rattle.sdd_module.specs.SiteLog.{Act, Did, Each, Handed, Records, Redeclared, Setting, Submits, Ticked, sends_of_act}
-use Rattle.sdd_attempt.specs.Attempts.{Attempt, active, asks_rows}
-use Rattle.sdd_attempt.specs.Clocks.{clock}
-use Rattle.sdd_attempt.specs.Exchange.{is_over}
-use Rattle.sdd_attempt.specs.Queues.{Queued, queue}
-use Rattle.sdd_pipe.specs.Pipe.{head}
-use Rattle.sdd_dm.specs.Views.{home_of, source_of}
-use Rattle.sdd_umod.specs.Views.{counts}
+use Rattle.sdd_log.specs.base.Sites.{same_site}
+use Rattle.sdd_log.specs.base.Words.{contains, head_of}
+use Rattle.sdd_log.specs.base.declared.condition.Cond.{Cond}
+use Rattle.sdd_log.specs.base.declared.number.ClassNo.{ClassNo}
+use Rattle.sdd_log.specs.base.declared.number.DmNo.{DmNo}
+use Rattle.sdd_log.specs.base.declared.number.Ts.{Ts}
+use Rattle.sdd_log.specs.base.declared.number.TxnNo.{TxnNo}
+use Rattle.sdd_log.specs.base.declared.site.Site.{Site}
+use Rattle.sdd_log.specs.base.declared.site.Site.TheVariants.{D, T, U}
+use Rattle.sdd_log.specs.base.declared.usage.Use.{Use}
+use Rattle.sdd_log.specs.history.declared.record.Rec.TheVariants.{Answer}
+use Rattle.sdd_log.specs.wire.declared.msg.Msg.{Msg}
+use Rattle.sdd_log.specs.wire.declared.msg.Msg.TheVariants.{Ask, Done, Fetch, Read, Ready, Reduce, Reduced, Reject, Rows, Ship, Values}
+use Rattle.sdd_log.specs.site_module.SiteLog.{Act, Did, Each, Handed, Records, Redeclared, Setting, Submits, Ticked, sends_of_act}
+use Rattle.sdd_log.specs.attempt.Attempts.{Attempt, active, asks_rows}
+use Rattle.sdd_log.specs.attempt.Clocks.{clock}
+use Rattle.sdd_log.specs.attempt.Exchange.{is_over}
+use Rattle.sdd_log.specs.attempt.Queues.{Queued, queue}
+use Rattle.sdd_log.specs.pipe.Pipe.{head}
+use Rattle.sdd_log.specs.dm.Views.{home_of, source_of}
+use Rattle.sdd_log.specs.umod.Views.{counts}
 use Rattle.sdd_log.specs.Entries.{Does, Given, Hand, Log}
 use Rattle.sdd_log.specs.Locals.{local_of, setting_of}
 use Rattle.sdd_log.specs.Permitted.{IsPermitted}
@@ -52,7 +52,7 @@ use Rattle.sdd_invariants.specs.Traffic.{puts_to, to_site}
 use Rattle.sdd_invariants.proofs.Fair.{d_fair, home_fair, t_fair, u_fair}
 use Rattle.sdd_invariants.proofs.InOrder.{hand_was_put}
 use Rattle.sdd_invariants.proofs.Made.{local_grows, own_act, permitted_before, place_of_act, place_of_hand}
-use Rattle.sdd_module.specs.SiteLog as site
+use Rattle.sdd_log.specs.site_module.SiteLog as site
 
 -- the kinds of messages that a data module puts
 abbrev pub is_from_d : Msg → Bool

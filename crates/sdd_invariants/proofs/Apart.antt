@@ -3,21 +3,21 @@ use Rattle.std.specs.List.{cons_option}
 use Rattle.std.proofs.Common.{ℕ, ◌*◌, ◌++◌, ◌+◌, ◌/◌, ◌<◌, ◌∙◌, ◌∷◌, ◌≡◌, ◌≤◌, ◌⊎◌, Bool, List, None, Option, Some, [], ap, append-nil, append_assoc, arith, drop, false, if◌then◌else◌, inl, inr, length, refl, slice_get, subst, suc, sym, take, true, zero}
 use Rattle.std.proofs.lemmas.List.{take-append-drop}
 use Rattle.std.proofs.lemmas.List.Elements.{filter_map-append}
-use Rattle.sdd_base.specs.Clock.{Ticking}
-use Rattle.sdd_base.specs.Numbers.{tm_no}
-use Rattle.sdd_base.specs.Sites.{number_of, same_site}
-use Rattle.sdd_base.specs.declared.site.Site.{Site}
-use Rattle.sdd_base.specs.declared.site.Site.TheVariants.{T, U}
-use Rattle.sdd_catalog.specs.Catalogue.{numbers_to}
-use Rattle.sdd_wire.specs.declared.msg.Msg.{Msg}
-use Rattle.sdd_wire.specs.declared.msg.Msg.TheVariants.{Ask, Held, Reject, Release}
-use Rattle.sdd_module.specs.SiteLog.{Act, Did, Each, Handed, Redeclared, Sends, Setting, Submits, Ticked, sends_of_act}
-use Rattle.sdd_attempt.specs.Acts.{commit_act}
-use Rattle.sdd_attempt.specs.Attempts.{Attempt, active}
-use Rattle.sdd_attempt.specs.Clocks.{clock, pushed_by}
-use Rattle.sdd_attempt.specs.Queues.{Queued}
-use Rattle.sdd_tm.specs.Views.{holds, runs}
-use Rattle.sdd_umod.specs.Views.{counts}
+use Rattle.sdd_log.specs.base.Clock.{Ticking}
+use Rattle.sdd_log.specs.base.Numbers.{tm_no}
+use Rattle.sdd_log.specs.base.Sites.{number_of, same_site}
+use Rattle.sdd_log.specs.base.declared.site.Site.{Site}
+use Rattle.sdd_log.specs.base.declared.site.Site.TheVariants.{T, U}
+use Rattle.sdd_log.specs.catalog.Catalogue.{numbers_to}
+use Rattle.sdd_log.specs.wire.declared.msg.Msg.{Msg}
+use Rattle.sdd_log.specs.wire.declared.msg.Msg.TheVariants.{Ask, Held, Reject, Release}
+use Rattle.sdd_log.specs.site_module.SiteLog.{Act, Did, Each, Handed, Redeclared, Sends, Setting, Submits, Ticked, sends_of_act}
+use Rattle.sdd_log.specs.attempt.Acts.{commit_act}
+use Rattle.sdd_log.specs.attempt.Attempts.{Attempt, active}
+use Rattle.sdd_log.specs.attempt.Clocks.{clock, pushed_by}
+use Rattle.sdd_log.specs.attempt.Queues.{Queued}
+use Rattle.sdd_log.specs.tm.Views.{holds, runs}
+use Rattle.sdd_log.specs.umod.Views.{counts}
 use Rattle.sdd_log.specs.Entries.{Does, Given, Log}
 use Rattle.sdd_log.specs.Locals.{local_of, setting_of}
 use Rattle.sdd_log.specs.Permitted.{IsPermitted}
@@ -44,7 +44,7 @@ use Rattle.sdd_invariants.specs.Traffic.{hands_from, puts_to, to_site}
 use Rattle.sdd_invariants.proofs.Fair.{t_fair}
 use Rattle.sdd_invariants.proofs.InOrder.{in_order}
 use Rattle.sdd_invariants.proofs.Made.{local_grows, own_act, permitted_before, place_of_act}
-use Rattle.sdd_module.specs.SiteLog as site
+use Rattle.sdd_log.specs.site_module.SiteLog as site
 
 -- lists
 in_first : (f : Msg → Bool) (n : ℕ) (ms : List Msg) (i : ℕ) (m : Msg) → tally f (take n ms) ≡ tally f ms → slice_get ms i ≡ Some m

@@ -3,25 +3,25 @@
 use Rattle.std.specs.List.{cons_option}
 use Rattle.std.specs.Prelude.{filter_map}
 use Rattle.std.proofs.Common.{ℕ, ◌++◌, ◌<◌, ◌==◌, ◌∙◌, ◌∷◌, ◌≡◌, ◌≢◌, ◌≤◌, List, None, Option, Some, [], ap, append_assoc, arith, cond, false, if◌then◌else◌, length, refl, slice_get, subst, suc, sym, true, zero}
-use Rattle.sdd_base.specs.Numbers.{class_no, time_at, txn_no}
-use Rattle.sdd_base.specs.Sites.{number_of, same_site}
-use Rattle.sdd_base.specs.declared.change.Change.{Change}
-use Rattle.sdd_base.specs.declared.condition.Cond.{Cond}
-use Rattle.sdd_base.specs.declared.number.DmNo.{DmNo}
-use Rattle.sdd_base.specs.declared.number.FragNo.{FragNo}
-use Rattle.sdd_base.specs.declared.number.Ts.{Ts}
-use Rattle.sdd_base.specs.declared.site.Site.{Site}
-use Rattle.sdd_base.specs.declared.site.Site.TheVariants.{D}
-use Rattle.sdd_history.specs.declared.record.Rec.{Rec}
-use Rattle.sdd_history.specs.declared.record.Rec.TheVariants.{Answer, Apply}
-use Rattle.sdd_wire.specs.Piped.{goes_through}
-use Rattle.sdd_wire.specs.declared.msg.Msg.{Msg}
-use Rattle.sdd_wire.specs.declared.msg.Msg.TheVariants.{Null, Read, Write}
-use Rattle.sdd_module.specs.SiteLog.{Act, Bases, Did, Records}
-use Rattle.sdd_attempt.specs.Acts.{commit_act}
-use Rattle.sdd_attempt.specs.Attempts.{Attempt}
-use Rattle.sdd_pipe.specs.Pipe.{touches}
-use Rattle.sdd_dm.specs.Pipes.{pipe}
+use Rattle.sdd_log.specs.base.Numbers.{class_no, time_at, txn_no}
+use Rattle.sdd_log.specs.base.Sites.{number_of, same_site}
+use Rattle.sdd_log.specs.base.declared.change.Change.{Change}
+use Rattle.sdd_log.specs.base.declared.condition.Cond.{Cond}
+use Rattle.sdd_log.specs.base.declared.number.DmNo.{DmNo}
+use Rattle.sdd_log.specs.base.declared.number.FragNo.{FragNo}
+use Rattle.sdd_log.specs.base.declared.number.Ts.{Ts}
+use Rattle.sdd_log.specs.base.declared.site.Site.{Site}
+use Rattle.sdd_log.specs.base.declared.site.Site.TheVariants.{D}
+use Rattle.sdd_log.specs.history.declared.record.Rec.{Rec}
+use Rattle.sdd_log.specs.history.declared.record.Rec.TheVariants.{Answer, Apply}
+use Rattle.sdd_log.specs.wire.Piped.{goes_through}
+use Rattle.sdd_log.specs.wire.declared.msg.Msg.{Msg}
+use Rattle.sdd_log.specs.wire.declared.msg.Msg.TheVariants.{Null, Read, Write}
+use Rattle.sdd_log.specs.site_module.SiteLog.{Act, Bases, Did, Records}
+use Rattle.sdd_log.specs.attempt.Acts.{commit_act}
+use Rattle.sdd_log.specs.attempt.Attempts.{Attempt}
+use Rattle.sdd_log.specs.pipe.Pipe.{touches}
+use Rattle.sdd_log.specs.dm.Pipes.{pipe}
 use Rattle.sdd_log.specs.Entries.{Does, Given, Log}
 use Rattle.sdd_log.specs.Locals.{local_of, setting_of}
 use Rattle.sdd_log.specs.Permitted.{IsPermitted}
@@ -42,7 +42,7 @@ use Rattle.sdd_invariants.specs.Steps.{home}
 use Rattle.sdd_invariants.specs.Traffic.{class_in, puts_to}
 use Rattle.sdd_invariants.proofs.Fair.{d_fair, home_fair}
 use Rattle.sdd_invariants.proofs.Made.{local_at, permitted_before}
-use Rattle.sdd_module.specs.SiteLog as site
+use Rattle.sdd_log.specs.site_module.SiteLog as site
 
 pub in_class : (c : ℕ) (ms : List Msg) (k : ℕ) (m : Msg) → slice_get ms k ≡ Some m → goes_through c m ≡ true
     → (j : ℕ) × (slice_get (class_in c ms) j ≡ Some m)

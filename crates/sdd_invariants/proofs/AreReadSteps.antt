@@ -3,24 +3,24 @@ use Rattle.std.specs.List.{list_all}
 use Rattle.std.proofs.Common.{ℕ, ◌∷◌, ◌≡◌, ◌≤◌, Bool, List, None, Option, Some, [], arith, false, filter, if◌then◌else◌, inl, inr, length, map, refl, slice_get, subst, suc, sym, true}
 use Rattle.std.proofs.lemmas.List.{get_or_past}
 use Rattle.std.proofs.lemmas.List.FromFn.{get_or-map-range_with_len, length-map-range_with_len}
-use Rattle.sdd_base.specs.Words.{head_of}
-use Rattle.sdd_base.specs.declared.change.Change.{Change}
-use Rattle.sdd_base.specs.declared.condition.Cond.{Cond}
-use Rattle.sdd_base.specs.declared.number.ClassNo.{ClassNo}
-use Rattle.sdd_base.specs.declared.number.Ts.{Ts}
-use Rattle.sdd_base.specs.declared.number.TxnNo.{TxnNo}
-use Rattle.sdd_base.specs.declared.usage.Use.{Use}
-use Rattle.sdd_wire.specs.declared.msg.Msg.{Msg}
-use Rattle.sdd_wire.specs.declared.msg.Msg.TheVariants.{Fetch, Null, Read, Reduce, Ship, Write}
-use Rattle.sdd_module.specs.SiteLog.{Act, Log, Setting}
-use Rattle.sdd_attempt.specs.Exchange.{lacking}
-use Rattle.sdd_pipe.specs.Pipe.{empty_pipe, head}
-use Rattle.sdd_dm.specs.Copies.{classes_of}
-use Rattle.sdd_dm.specs.Due.{IsDue, act_by, act_where, answer_of, answer_to, by_head, by_open, head_due, is_held, is_met, judged, step_on}
-use Rattle.sdd_dm.specs.Opens.{Open, is_asked_of}
-use Rattle.sdd_dm.specs.Pipes.{pipe, waits}
-use Rattle.sdd_dm.specs.Views.{ClassView, Home, at_class, class_view, home_of, view_of}
-use Rattle.sdd_dm.specs.declared.step.Step.TheVariants.{Processes}
+use Rattle.sdd_log.specs.base.Words.{head_of}
+use Rattle.sdd_log.specs.base.declared.change.Change.{Change}
+use Rattle.sdd_log.specs.base.declared.condition.Cond.{Cond}
+use Rattle.sdd_log.specs.base.declared.number.ClassNo.{ClassNo}
+use Rattle.sdd_log.specs.base.declared.number.Ts.{Ts}
+use Rattle.sdd_log.specs.base.declared.number.TxnNo.{TxnNo}
+use Rattle.sdd_log.specs.base.declared.usage.Use.{Use}
+use Rattle.sdd_log.specs.wire.declared.msg.Msg.{Msg}
+use Rattle.sdd_log.specs.wire.declared.msg.Msg.TheVariants.{Fetch, Null, Read, Reduce, Ship, Write}
+use Rattle.sdd_log.specs.site_module.SiteLog.{Act, Log, Setting}
+use Rattle.sdd_log.specs.attempt.Exchange.{lacking}
+use Rattle.sdd_log.specs.pipe.Pipe.{empty_pipe, head}
+use Rattle.sdd_log.specs.dm.Copies.{classes_of}
+use Rattle.sdd_log.specs.dm.Due.{IsDue, act_by, act_where, answer_of, answer_to, by_head, by_open, head_due, is_held, is_met, judged, step_on}
+use Rattle.sdd_log.specs.dm.Opens.{Open, is_asked_of}
+use Rattle.sdd_log.specs.dm.Pipes.{pipe, waits}
+use Rattle.sdd_log.specs.dm.Views.{ClassView, Home, at_class, class_view, home_of, view_of}
+use Rattle.sdd_log.specs.dm.declared.step.Step.TheVariants.{Processes}
 use Rattle.sdd_invariants.proofs.Lists.{in_mapped, in_range, nothing_left}
 use Rattle.sdd_invariants.specs.ReadSteps.{IsClassHere, IsReadStep, IsReadWith, by_record, by_wait, in_passing, spoiler}
 

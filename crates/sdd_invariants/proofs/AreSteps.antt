@@ -2,29 +2,29 @@
 use Rattle.std.specs.Prelude.{is_none}
 use Rattle.std.proofs.Common.{ℕ, ◌&&◌, ◌<◌, ◌==◌, ◌∙◌, ◌∷◌, ◌≡◌, Bool, List, None, Option, Some, [], ap, arith, false, if◌then◌else◌, length, map, nat_le, not, refl, slice_get, subst, sym, true}
 use Rattle.std.proofs.lemmas.Bool.{eqb-true}
-use Rattle.sdd_base.specs.Numbers.{class_no, dm_no, time_at}
-use Rattle.sdd_base.specs.Sites.{number_of}
-use Rattle.sdd_base.specs.Words.{head_of, or_else}
-use Rattle.sdd_base.specs.declared.number.TmNo.{TmNo}
-use Rattle.sdd_base.specs.declared.number.Ts.{Ts}
-use Rattle.sdd_base.specs.declared.site.Site.{Site}
-use Rattle.sdd_base.specs.declared.site.Site.TheVariants.{D, T, U}
-use Rattle.sdd_catalog.specs.Catalogue.{class_at, numbers_to}
-use Rattle.sdd_wire.specs.declared.msg.Msg.{Msg}
-use Rattle.sdd_wire.specs.declared.msg.Msg.TheVariants.{Held, Hold, Null, Release}
-use Rattle.sdd_module.specs.SiteLog.{Act, Bases, Log, Sends, Setting}
-use Rattle.sdd_attempt.specs.Acts.{attempt_due, commit_act}
-use Rattle.sdd_attempt.specs.Attempts.{Attempt, active}
-use Rattle.sdd_attempt.specs.Exchange.{first_send, is_over}
-use Rattle.sdd_attempt.specs.Queues.{Queued, queue}
+use Rattle.sdd_log.specs.base.Numbers.{class_no, dm_no, time_at}
+use Rattle.sdd_log.specs.base.Sites.{number_of}
+use Rattle.sdd_log.specs.base.Words.{head_of, or_else}
+use Rattle.sdd_log.specs.base.declared.number.TmNo.{TmNo}
+use Rattle.sdd_log.specs.base.declared.number.Ts.{Ts}
+use Rattle.sdd_log.specs.base.declared.site.Site.{Site}
+use Rattle.sdd_log.specs.base.declared.site.Site.TheVariants.{D, T, U}
+use Rattle.sdd_log.specs.catalog.Catalogue.{class_at, numbers_to}
+use Rattle.sdd_log.specs.wire.declared.msg.Msg.{Msg}
+use Rattle.sdd_log.specs.wire.declared.msg.Msg.TheVariants.{Held, Hold, Null, Release}
+use Rattle.sdd_log.specs.site_module.SiteLog.{Act, Bases, Log, Sends, Setting}
+use Rattle.sdd_log.specs.attempt.Acts.{attempt_due, commit_act}
+use Rattle.sdd_log.specs.attempt.Attempts.{Attempt, active}
+use Rattle.sdd_log.specs.attempt.Exchange.{first_send, is_over}
+use Rattle.sdd_log.specs.attempt.Queues.{Queued, queue}
 use Rattle.sdd_invariants.proofs.Bools.{not_zero}
 use Rattle.sdd_invariants.proofs.Exchanges.{asks_next, not_reading}
 use Rattle.sdd_invariants.proofs.Lists.{in_filtered, in_mapped, in_range}
 use Rattle.sdd_invariants.specs.Steps.{IsServed, IsStep, a_held, a_hold, a_null, a_release, bound, by_commit, by_send, by_start, home, limit, limit_of, of_exchange, start_at}
-use Rattle.sdd_tm.specs.Due as tm
-use Rattle.sdd_tm.specs.Views as tm_views
-use Rattle.sdd_umod.specs.Due as um
-use Rattle.sdd_umod.specs.Views as um_views
+use Rattle.sdd_log.specs.tm.Due as tm
+use Rattle.sdd_log.specs.tm.Views as tm_views
+use Rattle.sdd_log.specs.umod.Due as um
+use Rattle.sdd_log.specs.umod.Views as um_views
 
 -- the classes that a transaction module runs are those whose home it is
 home_of_run : (s : Setting) (t : TmNo) (k c : ℕ) → s.site ≡ T t → slice_get (tm_views.runs s) k ≡ Some c

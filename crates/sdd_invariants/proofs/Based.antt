@@ -1,25 +1,25 @@
 -- A Commit that is due has the reply and the changes of the effect on the database that is given for its attempt.
 use Rattle.std.proofs.Common.{ℕ, ◌&&◌, ◌==◌, ◌∷◌, ◌≡◌, Bool, List, None, Option, Some, [], false, if◌then◌else◌, not, refl, subst, sym, true}
-use Rattle.sdd_base.specs.Clock.{Ticking}
-use Rattle.sdd_base.specs.Numbers.{class_no, dm_no, time_at}
-use Rattle.sdd_base.specs.Words.{head_of, or_else}
-use Rattle.sdd_base.specs.declared.number.Ts.{Ts}
-use Rattle.sdd_base.specs.declared.site.Site.{Site}
-use Rattle.sdd_base.specs.declared.site.Site.TheVariants.{D, U}
-use Rattle.sdd_wire.specs.declared.msg.Msg.{Msg}
-use Rattle.sdd_wire.specs.declared.msg.Msg.TheVariants.{Held, Hold, Null, Release}
-use Rattle.sdd_module.specs.SiteLog.{Act, Bases, Sends, Setting}
-use Rattle.sdd_attempt.specs.Acts.{attempt_due, commit_act, start_act}
-use Rattle.sdd_attempt.specs.Attempts.{Attempt, active}
-use Rattle.sdd_attempt.specs.Exchange.{first_send, is_over}
-use Rattle.sdd_attempt.specs.Queues.{Queued, queue}
+use Rattle.sdd_log.specs.base.Clock.{Ticking}
+use Rattle.sdd_log.specs.base.Numbers.{class_no, dm_no, time_at}
+use Rattle.sdd_log.specs.base.Words.{head_of, or_else}
+use Rattle.sdd_log.specs.base.declared.number.Ts.{Ts}
+use Rattle.sdd_log.specs.base.declared.site.Site.{Site}
+use Rattle.sdd_log.specs.base.declared.site.Site.TheVariants.{D, U}
+use Rattle.sdd_log.specs.wire.declared.msg.Msg.{Msg}
+use Rattle.sdd_log.specs.wire.declared.msg.Msg.TheVariants.{Held, Hold, Null, Release}
+use Rattle.sdd_log.specs.site_module.SiteLog.{Act, Bases, Sends, Setting}
+use Rattle.sdd_log.specs.attempt.Acts.{attempt_due, commit_act, start_act}
+use Rattle.sdd_log.specs.attempt.Attempts.{Attempt, active}
+use Rattle.sdd_log.specs.attempt.Exchange.{first_send, is_over}
+use Rattle.sdd_log.specs.attempt.Queues.{Queued, queue}
 use Rattle.sdd_invariants.specs.Causes.{IsBased}
 use Rattle.sdd_invariants.proofs.Lists.{in_mapped}
-use Rattle.sdd_module.specs.SiteLog as site
-use Rattle.sdd_tm.specs.Due as tm
-use Rattle.sdd_tm.specs.Views as tm_views
-use Rattle.sdd_umod.specs.Due as um
-use Rattle.sdd_umod.specs.Views as um_views
+use Rattle.sdd_log.specs.site_module.SiteLog as site
+use Rattle.sdd_log.specs.tm.Due as tm
+use Rattle.sdd_log.specs.tm.Views as tm_views
+use Rattle.sdd_log.specs.umod.Due as um
+use Rattle.sdd_log.specs.umod.Views as um_views
 
 based_is : (s : Setting) (bases : Bases) (log : site.Log) (x a : Act) → IsBased s bases log x → Some x ≡ Some a
     → IsBased s bases log a

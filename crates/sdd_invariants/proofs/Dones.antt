@@ -5,28 +5,28 @@ use Rattle.std.proofs.Common.{ℕ, ◌++◌, ◌+◌, ◌<◌, ◌==◌, ◌∙�
 use Rattle.std.proofs.Math.Decide.{dec_le}
 use Rattle.std.proofs.lemmas.Bool.{eqb-true}
 use Rattle.std.proofs.lemmas.List.Elements.{filter_map-append}
-use Rattle.sdd_base.specs.Numbers.{dm_no}
-use Rattle.sdd_base.specs.Sites.{number_of, same_site}
-use Rattle.sdd_base.specs.Words.{head_of}
-use Rattle.sdd_base.specs.declared.change.Change.{Change}
-use Rattle.sdd_base.specs.declared.number.ClassNo.{ClassNo}
-use Rattle.sdd_base.specs.declared.number.DmNo.{DmNo}
-use Rattle.sdd_base.specs.declared.number.Ts.{Ts}
-use Rattle.sdd_base.specs.declared.number.TxnNo.{TxnNo}
-use Rattle.sdd_base.specs.declared.site.Site.{Site}
-use Rattle.sdd_base.specs.declared.site.Site.TheVariants.{D, U}
-use Rattle.sdd_catalog.specs.Catalogue.{numbers_to}
-use Rattle.sdd_lang.specs.Effect.{effect}
-use Rattle.sdd_history.specs.declared.record.Rec.TheVariants.{Apply}
-use Rattle.sdd_wire.specs.Piped.{class_is, goes_through}
-use Rattle.sdd_wire.specs.declared.msg.Msg.{Msg}
-use Rattle.sdd_wire.specs.declared.msg.Msg.TheVariants.{Done, Write}
-use Rattle.sdd_module.specs.SiteLog.{Act, Bases, Did, Each, Handed, Records, Redeclared, Sends, Setting, Submits, Ticked, sends_of_act}
-use Rattle.sdd_attempt.specs.Acts.{commit_act, write_to}
-use Rattle.sdd_attempt.specs.Attempts.{Attempt}
-use Rattle.sdd_pipe.specs.Pipe.{Pipe, head, head_processed, one_or_none}
-use Rattle.sdd_dm.specs.Pipes.{pipe, pipe_acted}
-use Rattle.sdd_dm.specs.Views.{home_of}
+use Rattle.sdd_log.specs.base.Numbers.{dm_no}
+use Rattle.sdd_log.specs.base.Sites.{number_of, same_site}
+use Rattle.sdd_log.specs.base.Words.{head_of}
+use Rattle.sdd_log.specs.base.declared.change.Change.{Change}
+use Rattle.sdd_log.specs.base.declared.number.ClassNo.{ClassNo}
+use Rattle.sdd_log.specs.base.declared.number.DmNo.{DmNo}
+use Rattle.sdd_log.specs.base.declared.number.Ts.{Ts}
+use Rattle.sdd_log.specs.base.declared.number.TxnNo.{TxnNo}
+use Rattle.sdd_log.specs.base.declared.site.Site.{Site}
+use Rattle.sdd_log.specs.base.declared.site.Site.TheVariants.{D, U}
+use Rattle.sdd_log.specs.catalog.Catalogue.{numbers_to}
+use Rattle.sdd_log.specs.lang.Effect.{effect}
+use Rattle.sdd_log.specs.history.declared.record.Rec.TheVariants.{Apply}
+use Rattle.sdd_log.specs.wire.Piped.{class_is, goes_through}
+use Rattle.sdd_log.specs.wire.declared.msg.Msg.{Msg}
+use Rattle.sdd_log.specs.wire.declared.msg.Msg.TheVariants.{Done, Write}
+use Rattle.sdd_log.specs.site_module.SiteLog.{Act, Bases, Did, Each, Handed, Records, Redeclared, Sends, Setting, Submits, Ticked, sends_of_act}
+use Rattle.sdd_log.specs.attempt.Acts.{commit_act, write_to}
+use Rattle.sdd_log.specs.attempt.Attempts.{Attempt}
+use Rattle.sdd_log.specs.pipe.Pipe.{Pipe, head, head_processed, one_or_none}
+use Rattle.sdd_log.specs.dm.Pipes.{pipe, pipe_acted}
+use Rattle.sdd_log.specs.dm.Views.{home_of}
 use Rattle.sdd_log.specs.Entries.{Does, Given, Log}
 use Rattle.sdd_log.specs.Locals.{local_of, setting_of}
 use Rattle.sdd_log.specs.Permitted.{IsPermitted}
@@ -57,7 +57,7 @@ use Rattle.sdd_invariants.specs.Traffic.{hands_from, puts_to, to_site}
 use Rattle.sdd_invariants.proofs.Fair.{d_fair}
 use Rattle.sdd_invariants.proofs.InOrder.{hand_was_put, in_order}
 use Rattle.sdd_invariants.proofs.Made.{permitted_before}
-use Rattle.sdd_module.specs.SiteLog as site
+use Rattle.sdd_log.specs.site_module.SiteLog as site
 
 -- lists
 pub tally_at : (f : Msg → Bool) (ms : List Msg) → 0 < tally f ms → (k : ℕ) × (m : Msg) × (slice_get ms k ≡ Some m) × (f m ≡ true)

@@ -1,14 +1,14 @@
 -- On a permitted log each site's own log is made of steps, and submits no number twice.
 use Rattle.std.proofs.Common.{ℕ, ◌==◌, ◌||◌, ◌∙◌, ◌∷◌, ◌≡◌, Bool, None, Option, Some, [], ap, false, inl, inr, not, refl, subst, true}
-use Rattle.sdd_base.specs.Numbers.{tm_no}
-use Rattle.sdd_base.specs.Words.{contains}
-use Rattle.sdd_base.specs.declared.event.Event.TheVariants.{Deliver, Down, Lose, Redeclare, Repeat, Resend, Settle, Submit, Tick, Up}
-use Rattle.sdd_base.specs.declared.number.DmNo.{DmNo}
-use Rattle.sdd_base.specs.declared.number.TmNo.{TmNo}
-use Rattle.sdd_base.specs.declared.site.Site.{Site}
-use Rattle.sdd_base.specs.declared.site.Site.TheVariants.{D, T, U}
-use Rattle.sdd_catalog.specs.Catalogue.{class_at}
-use Rattle.sdd_module.specs.SiteLog.{Did, Each, Handed, Redeclared, Submits, Ticked, submits}
+use Rattle.sdd_log.specs.base.Numbers.{tm_no}
+use Rattle.sdd_log.specs.base.Words.{contains}
+use Rattle.sdd_log.specs.base.declared.event.Event.TheVariants.{Deliver, Down, Lose, Redeclare, Repeat, Resend, Settle, Submit, Tick, Up}
+use Rattle.sdd_log.specs.base.declared.number.DmNo.{DmNo}
+use Rattle.sdd_log.specs.base.declared.number.TmNo.{TmNo}
+use Rattle.sdd_log.specs.base.declared.site.Site.{Site}
+use Rattle.sdd_log.specs.base.declared.site.Site.TheVariants.{D, T, U}
+use Rattle.sdd_log.specs.catalog.Catalogue.{class_at}
+use Rattle.sdd_log.specs.site_module.SiteLog.{Did, Each, Handed, Redeclared, Submits, Ticked, submits}
 use Rattle.sdd_log.specs.Due.{mark_due, note_if}
 use Rattle.sdd_log.specs.Entries.{Does, Entry, Given, Hand, Log, Mark, Notes, Redeclares, Round, Submitted}
 use Rattle.sdd_log.specs.Locals.{local_of, setting_of}
@@ -22,7 +22,7 @@ use Rattle.sdd_invariants.specs.ReadSteps.{IsDueEach}
 use Rattle.sdd_invariants.specs.Steps.{IsFair, IsNew, home}
 use Rattle.sdd_invariants.proofs.Made.{local_step, maker}
 use Rattle.sdd_invariants.specs.Made.{made, with_made}
-use Rattle.sdd_module.specs.SiteLog as site
+use Rattle.sdd_log.specs.site_module.SiteLog as site
 
 -- a Submitted comes right after its mark
 abbrev IsAfterMark : ℕ → Log → Type 0

@@ -1,16 +1,16 @@
 -- Between U and one T: the counts of HOLDs, RELEASEs, HELDs, Starts and Commits of class 0 stand in one chain.
 use Rattle.std.proofs.Common.{ℕ, ◌++◌, ◌+◌, ◌<◌, ◌==◌, ◌||◌, ◌∙◌, ◌∷◌, ◌≡◌, ◌≤◌, Bool, List, Some, [], ap, arith, false, if◌then◌else◌, inl, inr, refl, slice_get, subst, suc, sym, take, true, zero}
-use Rattle.sdd_base.specs.Numbers.{tm_no}
-use Rattle.sdd_base.specs.Sites.{same_site}
-use Rattle.sdd_base.specs.declared.number.TmNo.{TmNo}
-use Rattle.sdd_base.specs.declared.site.Site.{Site}
-use Rattle.sdd_base.specs.declared.site.Site.TheVariants.{D, T, U}
-use Rattle.sdd_catalog.specs.Catalogue.{numbers_to}
-use Rattle.sdd_wire.specs.declared.msg.Msg.{Msg}
-use Rattle.sdd_wire.specs.declared.msg.Msg.TheVariants.{Ask, Done, Fetch, Held, Hold, Null, Read, Ready, Reduce, Reduced, Reject, Release, Rows, Ship, Values, Write}
-use Rattle.sdd_module.specs.SiteLog.{Act, Did, Each, Handed, Redeclared, Sends, Setting, Submits, Ticked, hands}
-use Rattle.sdd_tm.specs.Views.{HoldCounts, holds, holds_acted, holds_handed}
-use Rattle.sdd_umod.specs.Views.{TmCounts, counts, counts_acted, counts_handed}
+use Rattle.sdd_log.specs.base.Numbers.{tm_no}
+use Rattle.sdd_log.specs.base.Sites.{same_site}
+use Rattle.sdd_log.specs.base.declared.number.TmNo.{TmNo}
+use Rattle.sdd_log.specs.base.declared.site.Site.{Site}
+use Rattle.sdd_log.specs.base.declared.site.Site.TheVariants.{D, T, U}
+use Rattle.sdd_log.specs.catalog.Catalogue.{numbers_to}
+use Rattle.sdd_log.specs.wire.declared.msg.Msg.{Msg}
+use Rattle.sdd_log.specs.wire.declared.msg.Msg.TheVariants.{Ask, Done, Fetch, Held, Hold, Null, Read, Ready, Reduce, Reduced, Reject, Release, Rows, Ship, Values, Write}
+use Rattle.sdd_log.specs.site_module.SiteLog.{Act, Did, Each, Handed, Redeclared, Sends, Setting, Submits, Ticked, hands}
+use Rattle.sdd_log.specs.tm.Views.{HoldCounts, holds, holds_acted, holds_handed}
+use Rattle.sdd_log.specs.umod.Views.{TmCounts, counts, counts_acted, counts_handed}
 use Rattle.sdd_log.specs.Entries.{Given, Log}
 use Rattle.sdd_log.specs.Locals.{local_of, setting_of}
 use Rattle.sdd_log.specs.Permitted.{IsPermitted}
@@ -31,7 +31,7 @@ use Rattle.sdd_invariants.proofs.Bools.{if_way, not_both, or_left, or_right, sam
 use Rattle.sdd_invariants.specs.Traffic.{hands_from, puts_to}
 use Rattle.sdd_invariants.proofs.Fair.{all_new, u_fair}
 use Rattle.sdd_invariants.proofs.InOrder.{hand_was_put, in_order}
-use Rattle.sdd_module.specs.SiteLog as site
+use Rattle.sdd_log.specs.site_module.SiteLog as site
 
 pub t_table : (g : Given) (t : TmNo) (log : Log) → IsPermitted g log → Each (IsFairT (setting_of g (T t))) (local_of g (T t) log)
 t_table g t = each_local g (T t) (IsFairT (setting_of g (T t))) (record {

@@ -1,17 +1,17 @@
 -- The messages that were handed over on a link are, in order, the first of those that were put on it.
 use Rattle.std.proofs.Common.{ℕ, ◌&&◌, ◌++◌, ◌-◌, ◌∙◌, ◌∷◌, ◌≡◌, ◌≤◌, Bool, List, None, Option, Some, [], ap, append-nil, arith, false, if◌then◌else◌, length, refl, slice_get, subst, suc, sym, take, true}
 use Rattle.std.proofs.lemmas.List.{take-append-le}
-use Rattle.sdd_base.specs.Sites.{same_site}
-use Rattle.sdd_base.specs.declared.event.Event.{Event}
-use Rattle.sdd_base.specs.declared.event.Event.TheVariants.{Deliver, Down, Lose, Redeclare, Repeat, Resend, Settle, Submit, Tick, Up}
-use Rattle.sdd_base.specs.declared.site.Site.{Site}
-use Rattle.sdd_base.specs.declared.site.Site.TheVariants.{D, T, U}
-use Rattle.sdd_lang.specs.declared.transaction.Txn.{Txn}
-use Rattle.sdd_wire.specs.declared.msg.Msg.{Msg}
-use Rattle.sdd_module.specs.SiteLog.{Did, Force, Handed, Redeclared, Submits, Ticked, sends_of_act}
-use Rattle.sdd_net.specs.Links.{Call, Delivers, Loses, Puts, Repeats, Resends, delivered, link}
-use Rattle.sdd_net.proofs.Rises.{rises}
-use Rattle.sdd_net.proofs.Sound.{delivered_le, sound}
+use Rattle.sdd_log.specs.base.Sites.{same_site}
+use Rattle.sdd_log.specs.base.declared.event.Event.{Event}
+use Rattle.sdd_log.specs.base.declared.event.Event.TheVariants.{Deliver, Down, Lose, Redeclare, Repeat, Resend, Settle, Submit, Tick, Up}
+use Rattle.sdd_log.specs.base.declared.site.Site.{Site}
+use Rattle.sdd_log.specs.base.declared.site.Site.TheVariants.{D, T, U}
+use Rattle.sdd_log.specs.lang.declared.transaction.Txn.{Txn}
+use Rattle.sdd_log.specs.wire.declared.msg.Msg.{Msg}
+use Rattle.sdd_log.specs.site_module.SiteLog.{Did, Force, Handed, Redeclared, Submits, Ticked, sends_of_act}
+use Rattle.sdd_log.specs.net.Links.{Call, Delivers, Loses, Puts, Repeats, Resends, delivered, link}
+use Rattle.sdd_log.proofs.net.Rises.{rises}
+use Rattle.sdd_log.proofs.net.Sound.{delivered_le, sound}
 use Rattle.sdd_log.specs.Due.{due_by, mark_due, note_if}
 use Rattle.sdd_log.specs.Entries.{Does, Entry, Given, Hand, Log, Mark, Notes, Redeclares, Round, Submitted}
 use Rattle.sdd_log.specs.Locals.{force_at, local_of, redeclares, txn_at}
@@ -24,7 +24,7 @@ use Rattle.sdd_invariants.specs.Traffic.{hands_from, puts_to}
 use Rattle.sdd_invariants.proofs.Made.{local_step}
 use Rattle.sdd_invariants.proofs.Sent.{sent_grows, sent_is}
 use Rattle.sdd_invariants.specs.Made.{forced, given_to, handed_by, made, put_by, with_made}
-use Rattle.sdd_module.specs.SiteLog as site
+use Rattle.sdd_log.specs.site_module.SiteLog as site
 
 -- a hand that is allowed is of the next message, which is delivered
 

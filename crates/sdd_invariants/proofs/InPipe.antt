@@ -3,15 +3,15 @@ use Rattle.std.proofs.Common.{ℕ, ◌++◌, ◌∙◌, ◌∷◌, ◌≡◌, Bo
 use Rattle.std.proofs.lemmas.Bool.{eqb-true}
 use Rattle.std.proofs.lemmas.List.{take-append-drop}
 use Rattle.std.proofs.lemmas.List.Elements.{filter-append}
-use Rattle.sdd_base.specs.Sites.{same_site}
-use Rattle.sdd_base.specs.declared.number.DmNo.{DmNo}
-use Rattle.sdd_base.specs.declared.site.Site.{Site}
-use Rattle.sdd_base.specs.declared.site.Site.TheVariants.{D, T, U}
-use Rattle.sdd_catalog.specs.Catalogue.{Catalogue}
-use Rattle.sdd_wire.specs.Piped.{class_is, goes_through, piped, time_of}
-use Rattle.sdd_wire.specs.declared.msg.Msg.{Msg}
-use Rattle.sdd_module.specs.SiteLog.{Did, Each, Handed, Redeclared, Submits, Ticked}
-use Rattle.sdd_dm.proofs.Prefix.{all_handed, all_there}
+use Rattle.sdd_log.specs.base.Sites.{same_site}
+use Rattle.sdd_log.specs.base.declared.number.DmNo.{DmNo}
+use Rattle.sdd_log.specs.base.declared.site.Site.{Site}
+use Rattle.sdd_log.specs.base.declared.site.Site.TheVariants.{D, T, U}
+use Rattle.sdd_log.specs.catalog.Catalogue.{Catalogue}
+use Rattle.sdd_log.specs.wire.Piped.{class_is, goes_through, piped, time_of}
+use Rattle.sdd_log.specs.wire.declared.msg.Msg.{Msg}
+use Rattle.sdd_log.specs.site_module.SiteLog.{Did, Each, Handed, Redeclared, Submits, Ticked}
+use Rattle.sdd_log.proofs.dm.Prefix.{all_handed, all_there}
 use Rattle.sdd_log.specs.Entries.{Given, Log}
 use Rattle.sdd_log.specs.Locals.{local_of, setting_of}
 use Rattle.sdd_log.specs.Permitted.{IsPermitted}
@@ -28,7 +28,7 @@ use Rattle.sdd_invariants.specs.Traffic.{class_in, hands_from, puts_to, times_in
 use Rattle.sdd_invariants.proofs.Fair.{d_fair, t_fair, u_fair}
 use Rattle.sdd_invariants.proofs.InOrder.{hand_was_put, in_order}
 use Rattle.sdd_invariants.proofs.Sent.{puts_more}
-use Rattle.sdd_module.specs.SiteLog as site
+use Rattle.sdd_log.specs.site_module.SiteLog as site
 
 pub times_are : (c : ℕ) (ms : List Msg) → times_in c ms ≡ map time_of (class_in c ms)
 times_are c [] = refl

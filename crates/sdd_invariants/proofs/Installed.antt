@@ -4,28 +4,28 @@ use Rattle.std.specs.List.{range_with_len}
 use Rattle.std.specs.Prelude.{filter_map}
 use Rattle.std.proofs.Common.{ℕ, ◌++◌, ◌+◌, ◌<◌, ◌==◌, ◌||◌, ◌∙◌, ◌∷◌, ◌≡◌, ◌≤◌, ◌⊎◌, Bool, List, None, Option, Some, [], ap, arith, cond, false, inl, inr, length, not, refl, slice_get, subst, suc, sym, true, zero}
 use Rattle.std.proofs.lemmas.Bool.{eqb-true}
-use Rattle.sdd_base.specs.Numbers.{class_no, dm_no, time_at, txn_no}
-use Rattle.sdd_base.specs.Sites.{number_of}
-use Rattle.sdd_base.specs.Words.{is_empty}
-use Rattle.sdd_base.specs.declared.change.Change.{Change}
-use Rattle.sdd_base.specs.declared.number.ClassNo.{ClassNo}
-use Rattle.sdd_base.specs.declared.number.DmNo.{DmNo}
-use Rattle.sdd_base.specs.declared.number.Ts.{Ts}
-use Rattle.sdd_base.specs.declared.number.TxnNo.{TxnNo}
-use Rattle.sdd_base.specs.declared.site.Site.{Site}
-use Rattle.sdd_base.specs.declared.site.Site.TheVariants.{D}
-use Rattle.sdd_lang.specs.Effect.{effect}
-use Rattle.sdd_history.specs.declared.record.Rec.{Rec}
-use Rattle.sdd_history.specs.declared.record.Rec.TheVariants.{Apply}
-use Rattle.sdd_wire.specs.Piped.{class_is, goes_through, time_of}
-use Rattle.sdd_wire.specs.declared.msg.Msg.{Msg}
-use Rattle.sdd_wire.specs.declared.msg.Msg.TheVariants.{Null, Read, Write}
-use Rattle.sdd_module.specs.SiteLog.{Act, Bases, Did, Each, Records, Setting, sends_of_act}
-use Rattle.sdd_attempt.specs.Acts.{commit_act, write_to}
-use Rattle.sdd_attempt.specs.Attempts.{Attempt}
-use Rattle.sdd_pipe.specs.Pipe.{head}
-use Rattle.sdd_dm.specs.Pipes.{is_processing, pipe, waits}
-use Rattle.sdd_dm.specs.Views.{view_of}
+use Rattle.sdd_log.specs.base.Numbers.{class_no, dm_no, time_at, txn_no}
+use Rattle.sdd_log.specs.base.Sites.{number_of}
+use Rattle.sdd_log.specs.base.Words.{is_empty}
+use Rattle.sdd_log.specs.base.declared.change.Change.{Change}
+use Rattle.sdd_log.specs.base.declared.number.ClassNo.{ClassNo}
+use Rattle.sdd_log.specs.base.declared.number.DmNo.{DmNo}
+use Rattle.sdd_log.specs.base.declared.number.Ts.{Ts}
+use Rattle.sdd_log.specs.base.declared.number.TxnNo.{TxnNo}
+use Rattle.sdd_log.specs.base.declared.site.Site.{Site}
+use Rattle.sdd_log.specs.base.declared.site.Site.TheVariants.{D}
+use Rattle.sdd_log.specs.lang.Effect.{effect}
+use Rattle.sdd_log.specs.history.declared.record.Rec.{Rec}
+use Rattle.sdd_log.specs.history.declared.record.Rec.TheVariants.{Apply}
+use Rattle.sdd_log.specs.wire.Piped.{class_is, goes_through, time_of}
+use Rattle.sdd_log.specs.wire.declared.msg.Msg.{Msg}
+use Rattle.sdd_log.specs.wire.declared.msg.Msg.TheVariants.{Null, Read, Write}
+use Rattle.sdd_log.specs.site_module.SiteLog.{Act, Bases, Did, Each, Records, Setting, sends_of_act}
+use Rattle.sdd_log.specs.attempt.Acts.{commit_act, write_to}
+use Rattle.sdd_log.specs.attempt.Attempts.{Attempt}
+use Rattle.sdd_log.specs.pipe.Pipe.{head}
+use Rattle.sdd_log.specs.dm.Pipes.{is_processing, pipe, waits}
+use Rattle.sdd_log.specs.dm.Views.{view_of}
 use Rattle.sdd_log.specs.Entries.{Does, Given, Log}
 use Rattle.sdd_log.specs.Locals.{local_of, setting_of}
 use Rattle.sdd_log.specs.Permitted.{IsPermitted}
@@ -52,7 +52,7 @@ use Rattle.sdd_invariants.specs.Steps.{IsFair, changes_at, home}
 use Rattle.sdd_invariants.specs.Traffic.{class_in, puts_to, to_site}
 use Rattle.sdd_invariants.proofs.Fair.{d_fair, home_fair}
 use Rattle.sdd_invariants.proofs.Made.{local_at, place_of_act}
-use Rattle.sdd_module.specs.SiteLog as site
+use Rattle.sdd_log.specs.site_module.SiteLog as site
 
 -- what goes through a pipe stands on its link
 

@@ -42,3 +42,19 @@ pub mod Turns
 pub mod Undeclared
 pub mod Waiting
 pub mod WritesPut
+pub use Rattle.sdd_log.proofs.base as base
+pub use Rattle.sdd_log.proofs.net as net
+pub use Rattle.sdd_log.proofs.catalog as catalog
+pub use Rattle.sdd_log.proofs.history as history
+pub use Rattle.sdd_log.proofs.wire as wire
+pub use Rattle.sdd_graph.proofs as graph
+pub use Rattle.sdd_log.proofs.protocol as protocol
+pub use Rattle.sdd_log.proofs.lang as lang
+pub use Rattle.sdd_log.proofs.pipe as pipe
+pub use Rattle.sdd_semijoin.proofs as semijoin
+pub use Rattle.sdd_log.proofs.site_module as site_module
+pub use Rattle.sdd_log.proofs.attempt as attempt
+pub use Rattle.sdd_log.proofs.dm as dm
+pub use Rattle.sdd_log.proofs.tm as tm
+pub use Rattle.sdd_log.proofs.umod as umod
+pub use Rattle.sdd_log.proofs as logs

@@ -1,17 +1,17 @@
 -- The records of a pipe belong to its messages, in order.
 use Rattle.std.specs.List.{AllZip}
 use Rattle.std.proofs.Common.{ℕ, ◌&&◌, ◌++◌, ◌==◌, ◌∙◌, ◌∷◌, ◌≡◌, ◌⊎◌, Bool, List, None, Some, [], ap, false, if◌then◌else◌, inl, inr, refl, slice_get, subst, suc, sym, true, zero}
-use Rattle.sdd_base.specs.declared.condition.Cond.{Cond}
-use Rattle.sdd_base.specs.declared.site.Site.{Site}
-use Rattle.sdd_history.specs.declared.record.Rec.{Rec}
-use Rattle.sdd_history.specs.declared.record.Rec.TheVariants.{Answer, Apply, Pass, Reject as Rejected}
-use Rattle.sdd_wire.specs.Piped.{goes_through}
-use Rattle.sdd_wire.specs.declared.msg.Msg.{Msg}
-use Rattle.sdd_wire.specs.declared.msg.Msg.TheVariants.{Null, Read, Write}
-use Rattle.sdd_module.specs.SiteLog.{Act, Did, Each, Handed, Log, Records, Redeclared, Sends, Setting, Submits, Ticked}
-use Rattle.sdd_pipe.specs.Pipe.{Pipe, head, head_processed, one_or_none, put}
-use Rattle.sdd_dm.specs.Pipes.{is_processing, is_wait, pipe, waits}
-use Rattle.sdd_dm.specs.Views.{View, view_of}
+use Rattle.sdd_log.specs.base.declared.condition.Cond.{Cond}
+use Rattle.sdd_log.specs.base.declared.site.Site.{Site}
+use Rattle.sdd_log.specs.history.declared.record.Rec.{Rec}
+use Rattle.sdd_log.specs.history.declared.record.Rec.TheVariants.{Answer, Apply, Pass, Reject as Rejected}
+use Rattle.sdd_log.specs.wire.Piped.{goes_through}
+use Rattle.sdd_log.specs.wire.declared.msg.Msg.{Msg}
+use Rattle.sdd_log.specs.wire.declared.msg.Msg.TheVariants.{Null, Read, Write}
+use Rattle.sdd_log.specs.site_module.SiteLog.{Act, Did, Each, Handed, Log, Records, Redeclared, Sends, Setting, Submits, Ticked}
+use Rattle.sdd_log.specs.pipe.Pipe.{Pipe, head, head_processed, one_or_none, put}
+use Rattle.sdd_log.specs.dm.Pipes.{is_processing, is_wait, pipe, waits}
+use Rattle.sdd_log.specs.dm.Views.{View, view_of}
 use Rattle.sdd_invariants.specs.Matched.{IsMatched}
 use Rattle.sdd_invariants.proofs.AreReadSteps.{d_step}
 use Rattle.sdd_invariants.proofs.Bools.{if_way, neither_left, neither_right, same_number, same_or_not}

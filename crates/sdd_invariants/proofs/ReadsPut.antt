@@ -2,18 +2,18 @@
 use Rattle.std.specs.Prelude.{filter_map}
 use Rattle.std.proofs.Common.{ℕ, ◌++◌, ◌<◌, ◌==◌, ◌∙◌, ◌∷◌, ◌≡◌, ◌≤◌, ◌⊎◌, Bool, List, None, Some, [], ap, append-nil, arith, cond, false, if◌then◌else◌, inl, inr, refl, slice_get, subst, suc, sym, true}
 use Rattle.std.proofs.lemmas.List.Elements.{filter_map-append}
-use Rattle.sdd_base.specs.Sites.{number_of, same_site}
-use Rattle.sdd_base.specs.Words.{ascending}
-use Rattle.sdd_base.specs.declared.site.Site.{Site}
-use Rattle.sdd_catalog.specs.Catalogue.{Catalogue, numbers_to, reads_at}
-use Rattle.sdd_lang.specs.Classes.{fragments_in}
-use Rattle.sdd_lang.specs.Uses.{uses_of}
-use Rattle.sdd_wire.specs.declared.msg.Msg.{Msg}
-use Rattle.sdd_wire.specs.declared.msg.Msg.TheVariants.{Null, Read, Write}
-use Rattle.sdd_module.specs.SiteLog.{Act, Did, Each, Entry, Handed, Log, Redeclared, Sends, Setting, Submits, Ticked, sends_of_act}
-use Rattle.sdd_attempt.specs.Acts.{commit_act, modules_of}
-use Rattle.sdd_attempt.specs.Attempts.{asks_rows}
-use Rattle.sdd_attempt.specs.Queues.{Queued}
+use Rattle.sdd_log.specs.base.Sites.{number_of, same_site}
+use Rattle.sdd_log.specs.base.Words.{ascending}
+use Rattle.sdd_log.specs.base.declared.site.Site.{Site}
+use Rattle.sdd_log.specs.catalog.Catalogue.{Catalogue, numbers_to, reads_at}
+use Rattle.sdd_log.specs.lang.Classes.{fragments_in}
+use Rattle.sdd_log.specs.lang.Uses.{uses_of}
+use Rattle.sdd_log.specs.wire.declared.msg.Msg.{Msg}
+use Rattle.sdd_log.specs.wire.declared.msg.Msg.TheVariants.{Null, Read, Write}
+use Rattle.sdd_log.specs.site_module.SiteLog.{Act, Did, Each, Entry, Handed, Log, Redeclared, Sends, Setting, Submits, Ticked, sends_of_act}
+use Rattle.sdd_log.specs.attempt.Acts.{commit_act, modules_of}
+use Rattle.sdd_log.specs.attempt.Attempts.{asks_rows}
+use Rattle.sdd_log.specs.attempt.Queues.{Queued}
 use Rattle.sdd_invariants.proofs.Clocks.{bound_rises, clock_number}
 use Rattle.sdd_invariants.proofs.WritesPut.{commit_puts}
 use Rattle.sdd_invariants.specs.OnLinks.{read_at, reads_in}

@@ -3,13 +3,13 @@ use Rattle.std.specs.Prelude.{filter_map}
 use Rattle.std.proofs.Common.{ℕ, ◌++◌, ◌<◌, ◌∙◌, ◌∷◌, ◌≡◌, ◌≤◌, Bool, List, None, Option, Some, [], ap, arith, false, if◌then◌else◌, inl, inr, length, refl, slice_get, subst, suc, sym, take, true, zero}
 use Rattle.std.proofs.Math.Decide.{dec_le}
 use Rattle.std.proofs.lemmas.List.{take-append-le, take_all}
-use Rattle.sdd_base.specs.Sites.{number_of}
-use Rattle.sdd_base.specs.Words.{head_of}
-use Rattle.sdd_lang.specs.declared.transaction.Txn.{Txn}
-use Rattle.sdd_module.specs.SiteLog.{Act, Bases, Did, Each, Entry, Handed, Log, Redeclared, Sends, Setting, Submits, Ticked, in_force, sends_of_act}
-use Rattle.sdd_attempt.specs.Acts.{commit_act}
-use Rattle.sdd_attempt.specs.Attempts.{Attempt, active, started}
-use Rattle.sdd_attempt.specs.Queues.{Queued, is_for, queue}
+use Rattle.sdd_log.specs.base.Sites.{number_of}
+use Rattle.sdd_log.specs.base.Words.{head_of}
+use Rattle.sdd_log.specs.lang.declared.transaction.Txn.{Txn}
+use Rattle.sdd_log.specs.site_module.SiteLog.{Act, Bases, Did, Each, Entry, Handed, Log, Redeclared, Sends, Setting, Submits, Ticked, in_force, sends_of_act}
+use Rattle.sdd_log.specs.attempt.Acts.{commit_act}
+use Rattle.sdd_log.specs.attempt.Attempts.{Attempt, active, started}
+use Rattle.sdd_log.specs.attempt.Queues.{Queued, is_for, queue}
 use Rattle.sdd_invariants.proofs.Clocks.{clocked, stamp_below_bound}
 use Rattle.sdd_invariants.proofs.Queues.{queue_is, served_head}
 use Rattle.sdd_invariants.specs.OfRecords.{AllCommitted, HasStart, IsFirstLeft, IsRecord, Says, WasSubmitted, is_recorded}

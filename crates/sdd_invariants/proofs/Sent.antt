@@ -1,15 +1,15 @@
 -- Only what is put changes the list of messages that were put on a link.
 use Rattle.std.proofs.Common.{ℕ, ◌&&◌, ◌++◌, ◌∙◌, ◌∷◌, ◌≡◌, Bool, List, None, Option, Some, [], ap, append-nil, append_assoc, false, if◌then◌else◌, refl, suc, sym, true}
-use Rattle.sdd_base.specs.Sites.{same_site}
-use Rattle.sdd_base.specs.declared.event.Event.TheVariants.{Deliver, Down, Lose, Redeclare, Repeat, Resend, Settle, Submit, Tick, Up}
-use Rattle.sdd_base.specs.declared.site.Site.{Site}
-use Rattle.sdd_base.specs.declared.site.Site.TheVariants.{D, T, U}
-use Rattle.sdd_lang.specs.declared.transaction.Txn.{Txn}
-use Rattle.sdd_wire.specs.declared.msg.Msg.{Msg}
-use Rattle.sdd_module.specs.SiteLog.{Act, Did, Force, Handed, Redeclared, Submits, Ticked, sends_of_act}
-use Rattle.sdd_net.specs.Links.{Call, Delivers, Link, Loses, Puts, Repeats, Resends, arrives, deliver, link, lose, on_link, packet_at, put, repeat, resend, turned, with_packet, without_packet}
-use Rattle.sdd_net.specs.declared.packet.Packet.{Packet}
-use Rattle.sdd_net.specs.declared.packet.Packet.TheVariants.{Ack, Message}
+use Rattle.sdd_log.specs.base.Sites.{same_site}
+use Rattle.sdd_log.specs.base.declared.event.Event.TheVariants.{Deliver, Down, Lose, Redeclare, Repeat, Resend, Settle, Submit, Tick, Up}
+use Rattle.sdd_log.specs.base.declared.site.Site.{Site}
+use Rattle.sdd_log.specs.base.declared.site.Site.TheVariants.{D, T, U}
+use Rattle.sdd_log.specs.lang.declared.transaction.Txn.{Txn}
+use Rattle.sdd_log.specs.wire.declared.msg.Msg.{Msg}
+use Rattle.sdd_log.specs.site_module.SiteLog.{Act, Did, Force, Handed, Redeclared, Submits, Ticked, sends_of_act}
+use Rattle.sdd_log.specs.net.Links.{Call, Delivers, Link, Loses, Puts, Repeats, Resends, arrives, deliver, link, lose, on_link, packet_at, put, repeat, resend, turned, with_packet, without_packet}
+use Rattle.sdd_log.specs.net.declared.packet.Packet.{Packet}
+use Rattle.sdd_log.specs.net.declared.packet.Packet.TheVariants.{Ack, Message}
 use Rattle.sdd_log.specs.Entries.{Does, Entry, Given, Hand, Log, Mark, Notes, Redeclares, Round, Submitted}
 use Rattle.sdd_log.specs.Locals.{force_at, local_of, redeclares, txn_at}
 use Rattle.sdd_log.specs.Traffic.{calls_of, puts, sent}
@@ -17,7 +17,7 @@ use Rattle.sdd_invariants.proofs.Bools.{if_way}
 use Rattle.sdd_invariants.specs.Traffic.{puts_to, to_site}
 use Rattle.sdd_invariants.proofs.Made.{local_step}
 use Rattle.sdd_invariants.specs.Made.{forced, given_to, made, put_by, with_made}
-use Rattle.sdd_module.specs.SiteLog as site
+use Rattle.sdd_log.specs.site_module.SiteLog as site
 
 abbrev Same : {M : Type 0} → Link M → Link M → Type 0
 Same l k = (k.there.sent ≡ l.there.sent) × (k.back.sent ≡ l.back.sent)

@@ -2,24 +2,24 @@
 use Rattle.std.specs.List.{list_all}
 use Rattle.std.proofs.Common.{ℕ, ◌&&◌, ◌++◌, ◌<◌, ◌==◌, ◌∙◌, ◌∷◌, ◌≡◌, ◌≤◌, ◌⊎◌, Bool, List, None, Option, Some, [], ap, append-nil, arith, cond, false, filter, if◌then◌else◌, inl, inr, map, not, refl, slice_get, subst, suc, sym, true}
 use Rattle.std.proofs.lemmas.Bool.{eqb-true}
-use Rattle.sdd_base.specs.Numbers.{dm_no, tm_no}
-use Rattle.sdd_base.specs.Words.{head_of, or_else}
-use Rattle.sdd_base.specs.declared.number.TmNo.{TmNo}
-use Rattle.sdd_base.specs.declared.number.Ts.{Ts}
-use Rattle.sdd_base.specs.declared.site.Site.{Site}
-use Rattle.sdd_base.specs.declared.site.Site.TheVariants.{D, T}
-use Rattle.sdd_catalog.specs.Catalogue.{numbers_to}
-use Rattle.sdd_lang.specs.Effect.{effect}
-use Rattle.sdd_lang.specs.declared.transaction.Txn.{Txn}
-use Rattle.sdd_wire.specs.declared.msg.Msg.{Msg}
-use Rattle.sdd_wire.specs.declared.msg.Msg.TheVariants.{Done, Held, Hold, Release}
-use Rattle.sdd_module.specs.SiteLog.{Act, Bases, Did, Each, Entry, Handed, Log, Redeclared, Sends, Setting, Submits, Ticked, in_force, sends_of_act}
-use Rattle.sdd_attempt.specs.Acts.{attempt_due, commit_act, write_to}
-use Rattle.sdd_attempt.specs.Attempts.{Attempt, active, asks_rows}
-use Rattle.sdd_attempt.specs.Exchange.{first_send, is_over}
-use Rattle.sdd_attempt.specs.Queues.{Queued, is_for, queue, tried}
-use Rattle.sdd_umod.specs.Due.{IsDue, by_exchange, by_hold, by_release, by_start, hold_due, hold_to, is_holding, release_due, start_of}
-use Rattle.sdd_umod.specs.Views.{Served, TmCounts, counts, counts_acted, counts_handed, last_served, served_handed, view_of}
+use Rattle.sdd_log.specs.base.Numbers.{dm_no, tm_no}
+use Rattle.sdd_log.specs.base.Words.{head_of, or_else}
+use Rattle.sdd_log.specs.base.declared.number.TmNo.{TmNo}
+use Rattle.sdd_log.specs.base.declared.number.Ts.{Ts}
+use Rattle.sdd_log.specs.base.declared.site.Site.{Site}
+use Rattle.sdd_log.specs.base.declared.site.Site.TheVariants.{D, T}
+use Rattle.sdd_log.specs.catalog.Catalogue.{numbers_to}
+use Rattle.sdd_log.specs.lang.Effect.{effect}
+use Rattle.sdd_log.specs.lang.declared.transaction.Txn.{Txn}
+use Rattle.sdd_log.specs.wire.declared.msg.Msg.{Msg}
+use Rattle.sdd_log.specs.wire.declared.msg.Msg.TheVariants.{Done, Held, Hold, Release}
+use Rattle.sdd_log.specs.site_module.SiteLog.{Act, Bases, Did, Each, Entry, Handed, Log, Redeclared, Sends, Setting, Submits, Ticked, in_force, sends_of_act}
+use Rattle.sdd_log.specs.attempt.Acts.{attempt_due, commit_act, write_to}
+use Rattle.sdd_log.specs.attempt.Attempts.{Attempt, active, asks_rows}
+use Rattle.sdd_log.specs.attempt.Exchange.{first_send, is_over}
+use Rattle.sdd_log.specs.attempt.Queues.{Queued, is_for, queue, tried}
+use Rattle.sdd_log.specs.umod.Due.{IsDue, by_exchange, by_hold, by_release, by_start, hold_due, hold_to, is_holding, release_due, start_of}
+use Rattle.sdd_log.specs.umod.Views.{Served, TmCounts, counts, counts_acted, counts_handed, last_served, served_handed, view_of}
 use Rattle.sdd_invariants.proofs.Holding.{at_map, lt_is}
 use Rattle.sdd_invariants.proofs.Turns.{balance, tally_append, turns_append}
 use Rattle.sdd_invariants.specs.AtU.{AllZero, IsChain, IsFairU, IsStepU, IsTried, StartedHead, ZeroBut, starts, u_commit, u_exchange, u_hold, u_release, u_start}

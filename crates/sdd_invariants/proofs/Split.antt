@@ -4,26 +4,26 @@ use Rattle.std.specs.List.{list_all, list_any}
 use Rattle.std.proofs.Common.{ℕ, ◌++◌, ◌+◌, ◌<◌, ◌∙◌, ◌∷◌, ◌≡◌, ◌≢◌, ◌≤◌, ◌⊎◌, List, None, Some, [], ap, append_assoc, arith, cond, false, inl, inr, length, length-append, map, nat_le, slice_get, subst, suc, sym, true, zero}
 use Rattle.std.proofs.Math.Decide.{dec_le}
 use Rattle.std.proofs.lemmas.Bool.Decides.{nat_tests}
-use Rattle.sdd_base.specs.Sites.{number_of}
-use Rattle.sdd_base.specs.Words.{head_of}
-use Rattle.sdd_base.specs.declared.change.Change.{Change}
-use Rattle.sdd_base.specs.declared.condition.Cond.{Cond}
-use Rattle.sdd_base.specs.declared.number.ClassNo.{ClassNo}
-use Rattle.sdd_base.specs.declared.number.DmNo.{DmNo}
-use Rattle.sdd_base.specs.declared.number.Ts.{Ts}
-use Rattle.sdd_base.specs.declared.number.TxnNo.{TxnNo}
-use Rattle.sdd_base.specs.declared.site.Site.{Site}
-use Rattle.sdd_base.specs.declared.site.Site.TheVariants.{D}
-use Rattle.sdd_base.specs.declared.usage.Use.{Use}
-use Rattle.sdd_history.specs.declared.record.Rec.TheVariants.{Answer}
-use Rattle.sdd_wire.specs.Piped.{time_of}
-use Rattle.sdd_wire.specs.declared.msg.Msg.{Msg}
-use Rattle.sdd_wire.specs.declared.msg.Msg.TheVariants.{Read, Write}
-use Rattle.sdd_module.specs.SiteLog.{Act, Each, Records, Setting}
-use Rattle.sdd_pipe.specs.Pipe.{Pipe, empty_pipe, head, passed, passed_by, touches}
-use Rattle.sdd_dm.specs.Due.{is_at_least, is_met, spoils}
-use Rattle.sdd_dm.specs.Pipes.{is_processing, pipe, waits}
-use Rattle.sdd_dm.specs.Views.{ClassView, view_of}
+use Rattle.sdd_log.specs.base.Sites.{number_of}
+use Rattle.sdd_log.specs.base.Words.{head_of}
+use Rattle.sdd_log.specs.base.declared.change.Change.{Change}
+use Rattle.sdd_log.specs.base.declared.condition.Cond.{Cond}
+use Rattle.sdd_log.specs.base.declared.number.ClassNo.{ClassNo}
+use Rattle.sdd_log.specs.base.declared.number.DmNo.{DmNo}
+use Rattle.sdd_log.specs.base.declared.number.Ts.{Ts}
+use Rattle.sdd_log.specs.base.declared.number.TxnNo.{TxnNo}
+use Rattle.sdd_log.specs.base.declared.site.Site.{Site}
+use Rattle.sdd_log.specs.base.declared.site.Site.TheVariants.{D}
+use Rattle.sdd_log.specs.base.declared.usage.Use.{Use}
+use Rattle.sdd_log.specs.history.declared.record.Rec.TheVariants.{Answer}
+use Rattle.sdd_log.specs.wire.Piped.{time_of}
+use Rattle.sdd_log.specs.wire.declared.msg.Msg.{Msg}
+use Rattle.sdd_log.specs.wire.declared.msg.Msg.TheVariants.{Read, Write}
+use Rattle.sdd_log.specs.site_module.SiteLog.{Act, Each, Records, Setting}
+use Rattle.sdd_log.specs.pipe.Pipe.{Pipe, empty_pipe, head, passed, passed_by, touches}
+use Rattle.sdd_log.specs.dm.Due.{is_at_least, is_met, spoils}
+use Rattle.sdd_log.specs.dm.Pipes.{is_processing, pipe, waits}
+use Rattle.sdd_log.specs.dm.Views.{ClassView, view_of}
 use Rattle.sdd_log.specs.Entries.{Does, Given, Log}
 use Rattle.sdd_log.specs.Locals.{local_of, setting_of}
 use Rattle.sdd_log.specs.Permitted.{IsPermitted}
@@ -41,7 +41,7 @@ use Rattle.sdd_invariants.specs.ReadSteps.{IsDueEach, IsReadStep, May, by_record
 use Rattle.sdd_invariants.specs.Steps.{home}
 use Rattle.sdd_invariants.proofs.Fair.{d_fair}
 use Rattle.sdd_invariants.proofs.Made.{permitted_before}
-use Rattle.sdd_module.specs.SiteLog as site
+use Rattle.sdd_log.specs.site_module.SiteLog as site
 
 pub le_is : (a b : ℕ) → nat_le a b ≡ true → a ≤ b
 le_is a b e = grind (arith, nat_tests)

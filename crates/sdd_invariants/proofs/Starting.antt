@@ -1,15 +1,15 @@
 -- What is said of a record that a site makes.
 use Rattle.std.proofs.Common.{ℕ, ◌∙◌, ◌∷◌, ◌≡◌, ◌≤◌, Some, subst, sym, true}
-use Rattle.sdd_base.specs.Sites.{number_of}
-use Rattle.sdd_base.specs.Words.{contains}
-use Rattle.sdd_base.specs.declared.number.DmNo.{DmNo}
-use Rattle.sdd_base.specs.declared.number.TmNo.{TmNo}
-use Rattle.sdd_base.specs.declared.site.Site.TheVariants.{T, U}
-use Rattle.sdd_history.specs.declared.record.Rec.TheVariants.{Commit}
-use Rattle.sdd_module.specs.SiteLog.{Act, Bases, Each, Records, Setting}
-use Rattle.sdd_attempt.specs.Acts.{commit_act}
-use Rattle.sdd_attempt.specs.Attempts.{Attempt, active}
-use Rattle.sdd_attempt.specs.Exchange.{is_over}
+use Rattle.sdd_log.specs.base.Sites.{number_of}
+use Rattle.sdd_log.specs.base.Words.{contains}
+use Rattle.sdd_log.specs.base.declared.number.DmNo.{DmNo}
+use Rattle.sdd_log.specs.base.declared.number.TmNo.{TmNo}
+use Rattle.sdd_log.specs.base.declared.site.Site.TheVariants.{T, U}
+use Rattle.sdd_log.specs.history.declared.record.Rec.TheVariants.{Commit}
+use Rattle.sdd_log.specs.site_module.SiteLog.{Act, Bases, Each, Records, Setting}
+use Rattle.sdd_log.specs.attempt.Acts.{commit_act}
+use Rattle.sdd_log.specs.attempt.Attempts.{Attempt, active}
+use Rattle.sdd_log.specs.attempt.Exchange.{is_over}
 use Rattle.sdd_log.specs.Entries.{Does, Given, Log}
 use Rattle.sdd_log.specs.Locals.{local_of, setting_of}
 use Rattle.sdd_log.specs.Permitted.{IsPermitted}
@@ -24,7 +24,7 @@ use Rattle.sdd_invariants.proofs.Active.{step_way_over}
 use Rattle.sdd_invariants.specs.Steps.{IsFair, IsStep, home, modules_asked}
 use Rattle.sdd_invariants.proofs.Fair.{all_new, home_fair}
 use Rattle.sdd_invariants.proofs.Made.{own_act}
-use Rattle.sdd_module.specs.SiteLog as site
+use Rattle.sdd_log.specs.site_module.SiteLog as site
 
 home_step : (g : Given) (c : ℕ) (log : Log) (act : Act) → IsPermitted g (Does (home g.catalogue c) act ∷ log)
     → IsStep (setting_of g (home g.catalogue c)) (local_of g (home g.catalogue c) log) act

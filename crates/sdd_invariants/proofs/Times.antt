@@ -1,21 +1,21 @@
 -- On a link the times of a class never fall: each is at most the class's limit, which never falls either.
 use Rattle.std.specs.Prelude.{filter_map}
 use Rattle.std.proofs.Common.{ℕ, ◌++◌, ◌==◌, ◌||◌, ◌∙◌, ◌∷◌, ◌≡◌, ◌≤◌, Bool, List, None, Option, Some, [], ap, arith, cond, false, if◌then◌else◌, inl, inr, map, not, refl, subst, sym, true}
-use Rattle.sdd_base.specs.Numbers.{class_no, dm_no, time_at, txn_no}
-use Rattle.sdd_base.specs.Sites.{number_of, same_site}
-use Rattle.sdd_base.specs.Words.{head_of, is_empty}
-use Rattle.sdd_base.specs.declared.change.Change.{Change}
-use Rattle.sdd_base.specs.declared.site.Site.{Site}
-use Rattle.sdd_base.specs.declared.site.Site.TheVariants.{D}
-use Rattle.sdd_catalog.specs.Catalogue.{Catalogue, numbers_to}
-use Rattle.sdd_lang.specs.Effect.{effect}
-use Rattle.sdd_wire.specs.Piped.{class_is, goes_through, piped, time_in, time_of}
-use Rattle.sdd_wire.specs.declared.msg.Msg.{Msg}
-use Rattle.sdd_wire.specs.declared.msg.Msg.TheVariants.{Fetch, Null, Reduce, Ship, Write}
-use Rattle.sdd_module.specs.SiteLog.{Act, Bases, Did, Each, Entry, Handed, Log, Redeclared, Sends, Setting, Submits, Ticked, sends_of_act}
-use Rattle.sdd_attempt.specs.Acts.{commit_act, write_to}
-use Rattle.sdd_attempt.specs.Attempts.{Attempt, active, asks_rows}
-use Rattle.sdd_attempt.specs.Queues.{Queued, queue}
+use Rattle.sdd_log.specs.base.Numbers.{class_no, dm_no, time_at, txn_no}
+use Rattle.sdd_log.specs.base.Sites.{number_of, same_site}
+use Rattle.sdd_log.specs.base.Words.{head_of, is_empty}
+use Rattle.sdd_log.specs.base.declared.change.Change.{Change}
+use Rattle.sdd_log.specs.base.declared.site.Site.{Site}
+use Rattle.sdd_log.specs.base.declared.site.Site.TheVariants.{D}
+use Rattle.sdd_log.specs.catalog.Catalogue.{Catalogue, numbers_to}
+use Rattle.sdd_log.specs.lang.Effect.{effect}
+use Rattle.sdd_log.specs.wire.Piped.{class_is, goes_through, piped, time_in, time_of}
+use Rattle.sdd_log.specs.wire.declared.msg.Msg.{Msg}
+use Rattle.sdd_log.specs.wire.declared.msg.Msg.TheVariants.{Fetch, Null, Reduce, Ship, Write}
+use Rattle.sdd_log.specs.site_module.SiteLog.{Act, Bases, Did, Each, Entry, Handed, Log, Redeclared, Sends, Setting, Submits, Ticked, sends_of_act}
+use Rattle.sdd_log.specs.attempt.Acts.{commit_act, write_to}
+use Rattle.sdd_log.specs.attempt.Attempts.{Attempt, active, asks_rows}
+use Rattle.sdd_log.specs.attempt.Queues.{Queued, queue}
 use Rattle.sdd_invariants.proofs.Clocks.{bound_rises, limit_le}
 use Rattle.sdd_invariants.specs.OnLinks.{AllPiped, IsTimed}
 use Rattle.sdd_invariants.proofs.Active.{handed_way, sent_way, step_way}

@@ -1,31 +1,31 @@
 -- H5's Applies, and that a READ of an undeclared transaction is never spoilt.
 use Rattle.std.proofs.Common.{ℕ, ◌++◌, ◌<◌, ◌==◌, ◌∙◌, ◌∷◌, ◌≡◌, ◌≢◌, ◌≤◌, List, Some, [], ap, append_assoc, arith, false, inl, inr, length, refl, slice_get, subst, suc, sym, true, zero}
-use Rattle.sdd_base.specs.Numbers.{dm_no, tm_no}
-use Rattle.sdd_base.specs.Sites.{number_of}
-use Rattle.sdd_base.specs.Words.{contains}
-use Rattle.sdd_base.specs.declared.condition.Cond.{Cond}
-use Rattle.sdd_base.specs.declared.number.ClassNo.{ClassNo}
-use Rattle.sdd_base.specs.declared.number.DmNo.{DmNo}
-use Rattle.sdd_base.specs.declared.number.Ts.{Ts}
-use Rattle.sdd_base.specs.declared.number.TxnNo.{TxnNo}
-use Rattle.sdd_base.specs.declared.site.Site.{Site}
-use Rattle.sdd_base.specs.declared.site.Site.TheVariants.{D, T, U}
-use Rattle.sdd_base.specs.declared.usage.Use.{Use}
-use Rattle.sdd_catalog.specs.Catalogue.{numbers_to}
+use Rattle.sdd_log.specs.base.Numbers.{dm_no, tm_no}
+use Rattle.sdd_log.specs.base.Sites.{number_of}
+use Rattle.sdd_log.specs.base.Words.{contains}
+use Rattle.sdd_log.specs.base.declared.condition.Cond.{Cond}
+use Rattle.sdd_log.specs.base.declared.number.ClassNo.{ClassNo}
+use Rattle.sdd_log.specs.base.declared.number.DmNo.{DmNo}
+use Rattle.sdd_log.specs.base.declared.number.Ts.{Ts}
+use Rattle.sdd_log.specs.base.declared.number.TxnNo.{TxnNo}
+use Rattle.sdd_log.specs.base.declared.site.Site.{Site}
+use Rattle.sdd_log.specs.base.declared.site.Site.TheVariants.{D, T, U}
+use Rattle.sdd_log.specs.base.declared.usage.Use.{Use}
+use Rattle.sdd_log.specs.catalog.Catalogue.{numbers_to}
 use Rattle.sdd_graph.specs.Graph.{classes_of}
-use Rattle.sdd_protocol.specs.Conditions.{undeclared_conditions}
-use Rattle.sdd_history.specs.declared.record.Rec.TheVariants.{Answer}
-use Rattle.sdd_wire.specs.declared.msg.Msg.{Msg}
-use Rattle.sdd_wire.specs.declared.msg.Msg.TheVariants.{Read, Write}
-use Rattle.sdd_module.specs.SiteLog.{Act, Bases, Did, Records, Setting, sends_of_act}
-use Rattle.sdd_attempt.specs.Acts.{commit_act}
-use Rattle.sdd_attempt.specs.Attempts.{Attempt, active}
-use Rattle.sdd_attempt.specs.Clocks.{clock}
-use Rattle.sdd_attempt.specs.Queues.{Queued}
-use Rattle.sdd_pipe.specs.Pipe.{head, touches}
-use Rattle.sdd_dm.specs.Due.{spoils}
-use Rattle.sdd_dm.specs.Views.{home_of, view_of}
-use Rattle.sdd_tm.specs.Views.{runs}
+use Rattle.sdd_log.specs.protocol.Conditions.{undeclared_conditions}
+use Rattle.sdd_log.specs.history.declared.record.Rec.TheVariants.{Answer}
+use Rattle.sdd_log.specs.wire.declared.msg.Msg.{Msg}
+use Rattle.sdd_log.specs.wire.declared.msg.Msg.TheVariants.{Read, Write}
+use Rattle.sdd_log.specs.site_module.SiteLog.{Act, Bases, Did, Records, Setting, sends_of_act}
+use Rattle.sdd_log.specs.attempt.Acts.{commit_act}
+use Rattle.sdd_log.specs.attempt.Attempts.{Attempt, active}
+use Rattle.sdd_log.specs.attempt.Clocks.{clock}
+use Rattle.sdd_log.specs.attempt.Queues.{Queued}
+use Rattle.sdd_log.specs.pipe.Pipe.{head, touches}
+use Rattle.sdd_log.specs.dm.Due.{spoils}
+use Rattle.sdd_log.specs.dm.Views.{home_of, view_of}
+use Rattle.sdd_log.specs.tm.Views.{runs}
 use Rattle.sdd_log.specs.Entries.{Does, Entry, Given, Log}
 use Rattle.sdd_log.specs.Locals.{local_of, setting_of}
 use Rattle.sdd_log.specs.Permitted.{IsPermitted}
@@ -56,7 +56,7 @@ use Rattle.sdd_invariants.specs.Steps.{home, next_stamp, start_at, start_read}
 use Rattle.sdd_invariants.specs.Traffic.{to_site}
 use Rattle.sdd_invariants.proofs.Fair.{home_fair}
 use Rattle.sdd_invariants.proofs.Made.{local_grows, own_act, permitted_before}
-use Rattle.sdd_module.specs.SiteLog as site
+use Rattle.sdd_log.specs.site_module.SiteLog as site
 
 -- first parts of a log
 abbrev pub Part : Log → Log → Type 0

@@ -1,26 +1,26 @@
 -- The barrier of an undeclared transaction: the HOLDs, HELDs and RELEASEs between U and a T, and on which side of it a
 -- declared transaction is.
 use Rattle.std.specs.Prelude.{ℕ, ◌++◌, ◌<◌, ◌∷◌, ◌≡◌, ◌≤◌, List, Some, [], map, suc}
-use Rattle.sdd_base.specs.Numbers.{frag_no, tm_no}
-use Rattle.sdd_base.specs.declared.change.Change.{Change}
-use Rattle.sdd_base.specs.declared.condition.Cond.{Cond}
-use Rattle.sdd_base.specs.declared.number.ClassNo.{ClassNo}
-use Rattle.sdd_base.specs.declared.number.DmNo.{DmNo}
-use Rattle.sdd_base.specs.declared.number.Ts.{Ts}
-use Rattle.sdd_base.specs.declared.number.TxnNo.{TxnNo}
-use Rattle.sdd_base.specs.declared.site.Site.TheVariants.{D, T, U}
+use Rattle.sdd_log.specs.base.Numbers.{frag_no, tm_no}
+use Rattle.sdd_log.specs.base.declared.change.Change.{Change}
+use Rattle.sdd_log.specs.base.declared.condition.Cond.{Cond}
+use Rattle.sdd_log.specs.base.declared.number.ClassNo.{ClassNo}
+use Rattle.sdd_log.specs.base.declared.number.DmNo.{DmNo}
+use Rattle.sdd_log.specs.base.declared.number.Ts.{Ts}
+use Rattle.sdd_log.specs.base.declared.number.TxnNo.{TxnNo}
+use Rattle.sdd_log.specs.base.declared.site.Site.TheVariants.{D, T, U}
 use Rattle.sdd_graph.specs.Graph.{fragments_of}
-use Rattle.sdd_protocol.specs.Conditions.{cond_of}
-use Rattle.sdd_history.specs.declared.record.Rec.TheVariants.{Apply}
-use Rattle.sdd_wire.specs.declared.msg.Msg.TheVariants.{Done, Write}
-use Rattle.sdd_module.specs.SiteLog.{Act, Bases, Did, Records}
-use Rattle.sdd_attempt.specs.Acts.{commit_act}
-use Rattle.sdd_attempt.specs.Attempts.{Attempt, active}
-use Rattle.sdd_attempt.specs.Queues.{Queued}
-use Rattle.sdd_pipe.specs.Pipe.{head}
-use Rattle.sdd_dm.specs.Views.{home_of}
-use Rattle.sdd_tm.specs.Views.{holds}
-use Rattle.sdd_umod.specs.Views.{counts, last_served}
+use Rattle.sdd_log.specs.protocol.Conditions.{cond_of}
+use Rattle.sdd_log.specs.history.declared.record.Rec.TheVariants.{Apply}
+use Rattle.sdd_log.specs.wire.declared.msg.Msg.TheVariants.{Done, Write}
+use Rattle.sdd_log.specs.site_module.SiteLog.{Act, Bases, Did, Records}
+use Rattle.sdd_log.specs.attempt.Acts.{commit_act}
+use Rattle.sdd_log.specs.attempt.Attempts.{Attempt, active}
+use Rattle.sdd_log.specs.attempt.Queues.{Queued}
+use Rattle.sdd_log.specs.pipe.Pipe.{head}
+use Rattle.sdd_log.specs.dm.Views.{home_of}
+use Rattle.sdd_log.specs.tm.Views.{holds}
+use Rattle.sdd_log.specs.umod.Views.{counts, last_served}
 use Rattle.sdd_log.specs.Entries.{Does, Given, Log}
 use Rattle.sdd_log.specs.Locals.{local_of, setting_of}
 use Rattle.sdd_invariants.specs.AtU.{starts}
@@ -29,7 +29,7 @@ use Rattle.sdd_invariants.specs.OfRecords.{HasStart}
 use Rattle.sdd_invariants.specs.Seen.{pipe_at}
 use Rattle.sdd_invariants.specs.Steps.{next_stamp, start_at}
 use Rattle.sdd_invariants.specs.Made.{IsActAt}
-use Rattle.sdd_module.specs.SiteLog as site
+use Rattle.sdd_log.specs.site_module.SiteLog as site
 
 abbrev pub start_u : Given → Log → Queued → Act
 start_u g log q = start_at (setting_of g U) 0 (local_of g U log) q

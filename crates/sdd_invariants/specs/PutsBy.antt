@@ -1,25 +1,25 @@
 -- Who puts what at a data module: a READY is put by an Answer, a REJECT by a Reject, an ASK by a Wait, a DONE by an Apply
 -- of class 0; a VALUES, REDUCED or ROWS answers a message that was handed from the site to which it goes.
 use Rattle.std.specs.Prelude.{ℕ, ◌++◌, ◌∷◌, ◌≡◌, List, Some, [], false, slice_get}
-use Rattle.sdd_base.specs.declared.change.Change.{Change}
-use Rattle.sdd_base.specs.declared.condition.Cond.{Cond}
-use Rattle.sdd_base.specs.declared.number.ClassNo.{ClassNo}
-use Rattle.sdd_base.specs.declared.number.Ts.{Ts}
-use Rattle.sdd_base.specs.declared.number.TxnNo.{TxnNo}
-use Rattle.sdd_base.specs.declared.site.Site.{Site}
-use Rattle.sdd_base.specs.declared.site.Site.TheVariants.{U}
-use Rattle.sdd_base.specs.declared.usage.Use.{Use}
-use Rattle.sdd_base.specs.declared.value.Value.{Value}
-use Rattle.sdd_history.specs.declared.record.Rec.TheVariants.{Answer, Apply, Reject as Rejected}
-use Rattle.sdd_wire.specs.declared.msg.Msg.{Msg}
-use Rattle.sdd_wire.specs.declared.msg.Msg.TheVariants.{Ask, Done, Fetch, Read, Ready, Reduce, Reduced, Reject, Rows, Ship, Values, Write}
-use Rattle.sdd_module.specs.SiteLog.{Act, Handed, Log, Records, Setting}
-use Rattle.sdd_pipe.specs.Pipe.{head}
-use Rattle.sdd_dm.specs.Copies.{counts_held, frozen_at}
-use Rattle.sdd_dm.specs.Due.{last_write_for, or_zero}
-use Rattle.sdd_dm.specs.Pipes.{pipe, waits}
-use Rattle.sdd_dm.specs.Views.{dated_in, home_of, source_of, view_of}
-use Rattle.sdd_umod.specs.Views.{counts}
+use Rattle.sdd_log.specs.base.declared.change.Change.{Change}
+use Rattle.sdd_log.specs.base.declared.condition.Cond.{Cond}
+use Rattle.sdd_log.specs.base.declared.number.ClassNo.{ClassNo}
+use Rattle.sdd_log.specs.base.declared.number.Ts.{Ts}
+use Rattle.sdd_log.specs.base.declared.number.TxnNo.{TxnNo}
+use Rattle.sdd_log.specs.base.declared.site.Site.{Site}
+use Rattle.sdd_log.specs.base.declared.site.Site.TheVariants.{U}
+use Rattle.sdd_log.specs.base.declared.usage.Use.{Use}
+use Rattle.sdd_log.specs.base.declared.value.Value.{Value}
+use Rattle.sdd_log.specs.history.declared.record.Rec.TheVariants.{Answer, Apply, Reject as Rejected}
+use Rattle.sdd_log.specs.wire.declared.msg.Msg.{Msg}
+use Rattle.sdd_log.specs.wire.declared.msg.Msg.TheVariants.{Ask, Done, Fetch, Read, Ready, Reduce, Reduced, Reject, Rows, Ship, Values, Write}
+use Rattle.sdd_log.specs.site_module.SiteLog.{Act, Handed, Log, Records, Setting}
+use Rattle.sdd_log.specs.pipe.Pipe.{head}
+use Rattle.sdd_log.specs.dm.Copies.{counts_held, frozen_at}
+use Rattle.sdd_log.specs.dm.Due.{last_write_for, or_zero}
+use Rattle.sdd_log.specs.dm.Pipes.{pipe, waits}
+use Rattle.sdd_log.specs.dm.Views.{dated_in, home_of, source_of, view_of}
+use Rattle.sdd_log.specs.umod.Views.{counts}
 use Rattle.sdd_invariants.specs.ReadSteps.{IsClassHere, spoiler}
 
 pub record IsReadyBy (s : Setting) (log : Log) (b : Site) (act : Act) (ts : Ts) (k : ClassNo) (counts : List (ℕ × ℕ)) : Type 0 where

@@ -2,20 +2,20 @@
 -- message.
 use Rattle.std.specs.List.{list_all}
 use Rattle.std.specs.Prelude.{ℕ, ◌&&◌, ◌++◌, ◌<◌, ◌==◌, ◌||◌, ◌∷◌, ◌≡◌, ◌⊎◌, Bool, List, None, Option, Some, [], false, filter, if◌then◌else◌, length, suc, true}
-use Rattle.sdd_base.specs.Words.{head_of}
-use Rattle.sdd_base.specs.declared.change.Change.{Change}
-use Rattle.sdd_base.specs.declared.condition.Cond.{Cond}
-use Rattle.sdd_base.specs.declared.number.Ts.{Ts}
-use Rattle.sdd_base.specs.declared.site.Site.{Site}
-use Rattle.sdd_history.specs.declared.record.Rec.{Rec}
-use Rattle.sdd_history.specs.declared.record.Rec.TheVariants.{Answer, Apply, Pass, Reject as Rejected}
-use Rattle.sdd_wire.specs.declared.msg.Msg.{Msg}
-use Rattle.sdd_wire.specs.declared.msg.Msg.TheVariants.{Null, Read, Write}
-use Rattle.sdd_module.specs.SiteLog.{Act, Did, Entry, Handed, Log, Records, Redeclared, Sends, Setting, Submits, Ticked}
-use Rattle.sdd_pipe.specs.Pipe.{head}
-use Rattle.sdd_dm.specs.Due.{IsDue, is_held, is_met, last_write_for, or_zero, spoils}
-use Rattle.sdd_dm.specs.Pipes.{is_processing, is_wait, pipe, waits}
-use Rattle.sdd_dm.specs.Views.{View, home_of, view_of}
+use Rattle.sdd_log.specs.base.Words.{head_of}
+use Rattle.sdd_log.specs.base.declared.change.Change.{Change}
+use Rattle.sdd_log.specs.base.declared.condition.Cond.{Cond}
+use Rattle.sdd_log.specs.base.declared.number.Ts.{Ts}
+use Rattle.sdd_log.specs.base.declared.site.Site.{Site}
+use Rattle.sdd_log.specs.history.declared.record.Rec.{Rec}
+use Rattle.sdd_log.specs.history.declared.record.Rec.TheVariants.{Answer, Apply, Pass, Reject as Rejected}
+use Rattle.sdd_log.specs.wire.declared.msg.Msg.{Msg}
+use Rattle.sdd_log.specs.wire.declared.msg.Msg.TheVariants.{Null, Read, Write}
+use Rattle.sdd_log.specs.site_module.SiteLog.{Act, Did, Entry, Handed, Log, Records, Redeclared, Sends, Setting, Submits, Ticked}
+use Rattle.sdd_log.specs.pipe.Pipe.{head}
+use Rattle.sdd_log.specs.dm.Due.{IsDue, is_held, is_met, last_write_for, or_zero, spoils}
+use Rattle.sdd_log.specs.dm.Pipes.{is_processing, is_wait, pipe, waits}
+use Rattle.sdd_log.specs.dm.Views.{View, home_of, view_of}
 
 -- the condition that spoils a READ, if one does: the first of those that do
 abbrev pub spoiler : View → List Cond → Option Cond

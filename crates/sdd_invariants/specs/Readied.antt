@@ -1,17 +1,17 @@
 -- The answers that an exchange has had.
 use Rattle.std.specs.List.{list_any}
 use Rattle.std.specs.Prelude.{ℕ, ◌&&◌, ◌==◌, ◌||◌, ◌∷◌, ◌≡◌, ◌⊎◌, Bool, List, None, Option, Some, [], false, map, true}
-use Rattle.sdd_base.specs.Numbers.{dm_no}
-use Rattle.sdd_base.specs.Sites.{same_site}
-use Rattle.sdd_base.specs.Words.{contains}
-use Rattle.sdd_base.specs.declared.site.Site.{Site}
-use Rattle.sdd_base.specs.declared.site.Site.TheVariants.{D}
-use Rattle.sdd_wire.specs.declared.msg.Msg.{Msg}
-use Rattle.sdd_wire.specs.declared.msg.Msg.TheVariants.{Ready, Reduced, Rows, Values}
-use Rattle.sdd_module.specs.SiteLog.{Did, Entry, Handed, Log, Redeclared, Setting, Submits, Ticked, sends_of_act}
-use Rattle.sdd_attempt.specs.Attempts.{Attempt, asks_rows}
-use Rattle.sdd_attempt.specs.Exchange.{Exchange}
-use Rattle.sdd_umod.specs.Views.{counts}
+use Rattle.sdd_log.specs.base.Numbers.{dm_no}
+use Rattle.sdd_log.specs.base.Sites.{same_site}
+use Rattle.sdd_log.specs.base.Words.{contains}
+use Rattle.sdd_log.specs.base.declared.site.Site.{Site}
+use Rattle.sdd_log.specs.base.declared.site.Site.TheVariants.{D}
+use Rattle.sdd_log.specs.wire.declared.msg.Msg.{Msg}
+use Rattle.sdd_log.specs.wire.declared.msg.Msg.TheVariants.{Ready, Reduced, Rows, Values}
+use Rattle.sdd_log.specs.site_module.SiteLog.{Did, Entry, Handed, Log, Redeclared, Setting, Submits, Ticked, sends_of_act}
+use Rattle.sdd_log.specs.attempt.Attempts.{Attempt, asks_rows}
+use Rattle.sdd_log.specs.attempt.Exchange.{Exchange}
+use Rattle.sdd_log.specs.umod.Views.{counts}
 use Rattle.sdd_invariants.specs.Steps.{is_reading, modules_asked}
 
 -- whether a READY for the attempt was handed from a site

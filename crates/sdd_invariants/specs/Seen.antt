@@ -1,24 +1,24 @@
 -- Which WRITEs a data module has applied at one of its acts.
 use Rattle.std.specs.Prelude.{ℕ, ◌++◌, ◌≡◌, List, Some, slice_get}
-use Rattle.sdd_base.specs.Numbers.{time_at}
-use Rattle.sdd_base.specs.declared.change.Change.{Change}
-use Rattle.sdd_base.specs.declared.condition.Cond.{Cond}
-use Rattle.sdd_base.specs.declared.number.ClassNo.{ClassNo}
-use Rattle.sdd_base.specs.declared.number.DmNo.{DmNo}
-use Rattle.sdd_base.specs.declared.number.Ts.{Ts}
-use Rattle.sdd_base.specs.declared.number.TxnNo.{TxnNo}
-use Rattle.sdd_base.specs.declared.site.Site.{Site}
-use Rattle.sdd_base.specs.declared.site.Site.TheVariants.{D}
-use Rattle.sdd_base.specs.declared.usage.Use.{Use}
-use Rattle.sdd_lang.specs.Effect.{effect}
-use Rattle.sdd_history.specs.declared.record.Rec.{Rec}
-use Rattle.sdd_history.specs.declared.record.Rec.TheVariants.{Answer}
-use Rattle.sdd_wire.specs.declared.msg.Msg.{Msg}
-use Rattle.sdd_wire.specs.declared.msg.Msg.TheVariants.{Read}
-use Rattle.sdd_module.specs.SiteLog.{Act, Bases, Records}
-use Rattle.sdd_attempt.specs.Attempts.{Attempt}
-use Rattle.sdd_pipe.specs.Pipe.{Pipe, head}
-use Rattle.sdd_dm.specs.Pipes.{pipe}
+use Rattle.sdd_log.specs.base.Numbers.{time_at}
+use Rattle.sdd_log.specs.base.declared.change.Change.{Change}
+use Rattle.sdd_log.specs.base.declared.condition.Cond.{Cond}
+use Rattle.sdd_log.specs.base.declared.number.ClassNo.{ClassNo}
+use Rattle.sdd_log.specs.base.declared.number.DmNo.{DmNo}
+use Rattle.sdd_log.specs.base.declared.number.Ts.{Ts}
+use Rattle.sdd_log.specs.base.declared.number.TxnNo.{TxnNo}
+use Rattle.sdd_log.specs.base.declared.site.Site.{Site}
+use Rattle.sdd_log.specs.base.declared.site.Site.TheVariants.{D}
+use Rattle.sdd_log.specs.base.declared.usage.Use.{Use}
+use Rattle.sdd_log.specs.lang.Effect.{effect}
+use Rattle.sdd_log.specs.history.declared.record.Rec.{Rec}
+use Rattle.sdd_log.specs.history.declared.record.Rec.TheVariants.{Answer}
+use Rattle.sdd_log.specs.wire.declared.msg.Msg.{Msg}
+use Rattle.sdd_log.specs.wire.declared.msg.Msg.TheVariants.{Read}
+use Rattle.sdd_log.specs.site_module.SiteLog.{Act, Bases, Records}
+use Rattle.sdd_log.specs.attempt.Attempts.{Attempt}
+use Rattle.sdd_log.specs.pipe.Pipe.{Pipe, head}
+use Rattle.sdd_log.specs.dm.Pipes.{pipe}
 use Rattle.sdd_log.specs.Entries.{Given, Log}
 use Rattle.sdd_log.specs.Locals.{local_of}
 use Rattle.sdd_invariants.specs.ReadSteps.{IsOfWrite, results}

@@ -1,11 +1,11 @@
 ghost use Rattle.std.specs.Prelude.{◌≡◌, ◌≤◌, ◌≢◌, ◌<◌, ℕ, slice_get, Some, None};
-ghost use Rattle.sdd_base.specs.Sites.{number_of};
-ghost use Rattle.sdd_base.specs.Words.{head_of};
-ghost use Rattle.sdd_base.specs.declared.site.Site.{Site};
-ghost use Rattle.sdd_wire.specs.declared.msg.Msg.{Msg};
-ghost use Rattle.sdd_module.specs.SiteLog.{Setting, Log, Act, Each, sends_of_act};
-ghost use Rattle.sdd_attempt.specs.Queues.{Queued, queue};
-ghost use Rattle.sdd_attempt.specs.Attempts.{active};
+ghost use Rattle.sdd_log.specs.base.Sites.{number_of};
+ghost use Rattle.sdd_log.specs.base.Words.{head_of};
+ghost use Rattle.sdd_log.specs.base.declared.site.Site.{Site};
+ghost use Rattle.sdd_log.specs.wire.declared.msg.Msg.{Msg};
+ghost use Rattle.sdd_log.specs.site_module.SiteLog.{Setting, Log, Act, Each, sends_of_act};
+ghost use Rattle.sdd_log.specs.attempt.Queues.{Queued, queue};
+ghost use Rattle.sdd_log.specs.attempt.Attempts.{active};
 ghost use Rattle.sdd_invariants.specs.Steps.{IsFair, IsNew, IsStep, stamps};
 ghost use Rattle.sdd_invariants.specs.Orders.{IsStrict};
 ghost use Rattle.sdd_invariants.specs.Traffic.{to_site, puts_to};

@@ -17,3 +17,21 @@ pub mod records_laws;
 pub mod seen_laws;
 pub mod steps_laws;
 pub mod traffic_laws;
+
+// What lies below, for the crates above.
+pub use sdd_graph;
+pub use sdd_log::sdd_attempt;
+pub use sdd_log::sdd_base;
+pub use sdd_log::sdd_catalog;
+pub use sdd_log::sdd_dm;
+pub use sdd_log::sdd_history;
+pub use sdd_log::sdd_lang;
+pub use sdd_log::sdd_module;
+pub use sdd_log::sdd_net;
+pub use sdd_log::sdd_pipe;
+pub use sdd_log::sdd_protocol;
+pub use sdd_log::sdd_tm;
+pub use sdd_log::sdd_umod;
+pub use sdd_log::sdd_wire;
+pub use sdd_log;
+pub use sdd_semijoin;

@@ -1,10 +1,10 @@
 ghost use Rattle.std.specs.Prelude.{◌≡◌, ℕ, slice_get, Some, None};
-ghost use Rattle.sdd_base.specs.declared.site.Site.{Site};
-ghost use Rattle.sdd_wire.specs.declared.msg.Msg.{Msg};
-ghost use Rattle.sdd_wire.specs.Piped.{piped};
-ghost use Rattle.sdd_module.specs.SiteLog.{Setting, Log, Act, Each, sends_of_act};
-ghost use Rattle.sdd_dm.specs.Views.{home_of, view_of};
-ghost use Rattle.sdd_dm.specs.Due.{IsDue};
+ghost use Rattle.sdd_log.specs.base.declared.site.Site.{Site};
+ghost use Rattle.sdd_log.specs.wire.declared.msg.Msg.{Msg};
+ghost use Rattle.sdd_log.specs.wire.Piped.{piped};
+ghost use Rattle.sdd_log.specs.site_module.SiteLog.{Setting, Log, Act, Each, sends_of_act};
+ghost use Rattle.sdd_log.specs.dm.Views.{home_of, view_of};
+ghost use Rattle.sdd_log.specs.dm.Due.{IsDue};
 ghost use Rattle.sdd_invariants.specs.ReadSteps.{IsDueEach};
 ghost use Rattle.sdd_invariants.specs.Traffic.{to_site, puts_to};
 ghost use Rattle.sdd_invariants.specs.Matched.{IsMatched};

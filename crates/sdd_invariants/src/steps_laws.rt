@@ -1,15 +1,15 @@
 ghost use Rattle.std.specs.Prelude.{◌≡◌};
-ghost use Rattle.sdd_base.specs.declared.number.TmNo.{TmNo};
-ghost use Rattle.sdd_base.specs.declared.site.Site.TheVariants.{T, U};
-ghost use Rattle.sdd_module.specs.SiteLog.{Setting, Bases, Log, Act};
-ghost use Rattle.sdd_attempt.specs.Queues.{queue};
-ghost use Rattle.sdd_attempt.specs.Attempts.{active};
-ghost use Rattle.sdd_tm.specs.Due as tm;
-ghost use Rattle.sdd_tm.specs.Views as tm_views;
-ghost use Rattle.sdd_umod.specs.Due as um;
-ghost use Rattle.sdd_umod.specs.Views as um_views;
-ghost use Rattle.sdd_dm.specs.Due as dm;
-ghost use Rattle.sdd_dm.specs.Views as dm_views;
+ghost use Rattle.sdd_log.specs.base.declared.number.TmNo.{TmNo};
+ghost use Rattle.sdd_log.specs.base.declared.site.Site.TheVariants.{T, U};
+ghost use Rattle.sdd_log.specs.site_module.SiteLog.{Setting, Bases, Log, Act};
+ghost use Rattle.sdd_log.specs.attempt.Queues.{queue};
+ghost use Rattle.sdd_log.specs.attempt.Attempts.{active};
+ghost use Rattle.sdd_log.specs.tm.Due as tm;
+ghost use Rattle.sdd_log.specs.tm.Views as tm_views;
+ghost use Rattle.sdd_log.specs.umod.Due as um;
+ghost use Rattle.sdd_log.specs.umod.Views as um_views;
+ghost use Rattle.sdd_log.specs.dm.Due as dm;
+ghost use Rattle.sdd_log.specs.dm.Views as dm_views;
 ghost use Rattle.sdd_invariants.specs.Steps.{IsStep, IsServed};
 ghost use Rattle.sdd_invariants.specs.ReadSteps.{IsReadStep};
 

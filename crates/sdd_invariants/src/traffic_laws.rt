@@ -1,11 +1,11 @@
 ghost use Rattle.std.specs.Prelude.{◌≡◌, ◌≤◌, ◌++◌, ◌∷◌, ℕ, length, take};
-ghost use Rattle.sdd_base.specs.declared.site.Site.{Site};
-ghost use Rattle.sdd_base.specs.declared.site.Site.TheVariants.{D};
-ghost use Rattle.sdd_base.specs.declared.number.DmNo.{DmNo};
-ghost use Rattle.sdd_lang.specs.declared.transaction.Txn.{Txn};
-ghost use Rattle.sdd_wire.specs.declared.msg.Msg.{Msg};
-ghost use Rattle.sdd_module.specs.SiteLog.{Act, Each, Did, Handed, Submits};
-ghost use Rattle.sdd_module.specs.SiteLog as site;
+ghost use Rattle.sdd_log.specs.base.declared.site.Site.{Site};
+ghost use Rattle.sdd_log.specs.base.declared.site.Site.TheVariants.{D};
+ghost use Rattle.sdd_log.specs.base.declared.number.DmNo.{DmNo};
+ghost use Rattle.sdd_log.specs.lang.declared.transaction.Txn.{Txn};
+ghost use Rattle.sdd_log.specs.wire.declared.msg.Msg.{Msg};
+ghost use Rattle.sdd_log.specs.site_module.SiteLog.{Act, Each, Did, Handed, Submits};
+ghost use Rattle.sdd_log.specs.site_module.SiteLog as site;
 ghost use Rattle.sdd_log.specs.Entries.{Given, Log};
 ghost use Rattle.sdd_log.specs.Traffic.{handed};
 ghost use Rattle.sdd_log.specs.Locals.{local_of, setting_of};

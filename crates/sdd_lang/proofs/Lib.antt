@@ -15,3 +15,5 @@ pub mod Standing
 pub mod StatementSets
 pub mod StaysDatabase
 pub mod UseLists
+pub use Rattle.sdd_base.proofs as base
+pub use Rattle.sdd_catalog.proofs as catalog

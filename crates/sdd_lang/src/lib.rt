@@ -42,3 +42,7 @@ pub use statement::{Rels, Statements, Stmt};
 pub use transaction::Txn;
 pub use tuple::{compare, copied, key_of, may_stand, meets_all, project, value_at, value_in};
 pub use usage::{restrictions_of, uses};
+
+// What lies below, for the crates above.
+pub use sdd_base;
+pub use sdd_catalog;

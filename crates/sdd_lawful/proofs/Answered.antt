@@ -1,40 +1,40 @@
 -- The Answers of a history, as acts of data modules, each with the READ that it answers and the Start that sent it.
 use Rattle.std.specs.Prelude.{filter_map, option_map, unwrap_or}
 use Rattle.std.proofs.Common.{ℕ, suc, ◌++◌, ◌<◌, ◌==◌, ◌∙◌, ◌∷◌, ◌≡◌, Bool, List, None, Some, [], ap, arith, false, if◌then◌else◌, inl, inr, length, map, refl, slice_get, subst, sym, true, zero}
-use Rattle.sdd_base.specs.Numbers.{class_no, dm_no, frag_no, time_at, txn_no}
-use Rattle.sdd_base.specs.Words.{ascending, contains}
-use Rattle.sdd_base.specs.declared.condition.Cond.{Cond}
-use Rattle.sdd_base.specs.declared.number.ClassNo.{ClassNo}
-use Rattle.sdd_base.specs.declared.number.DmNo.{DmNo}
-use Rattle.sdd_base.specs.declared.number.Ts.{Ts}
-use Rattle.sdd_base.specs.declared.number.TxnNo.{TxnNo}
-use Rattle.sdd_base.specs.declared.site.Site.{Site}
-use Rattle.sdd_base.specs.declared.site.Site.TheVariants.{D}
-use Rattle.sdd_base.specs.declared.usage.Use.{Use}
-use Rattle.sdd_catalog.specs.Catalogue.{Catalogue}
-use Rattle.sdd_catalog.specs.Rules.{IsSound}
-use Rattle.sdd_history.specs.declared.record.Rec.{Rec}
-use Rattle.sdd_history.specs.declared.record.Rec.TheVariants.{Answer}
-use Rattle.sdd_lang.specs.Classes.{fragments_in}
-use Rattle.sdd_lang.specs.Uses.{uses_of}
-use Rattle.sdd_protocol.specs.Conditions.{conditions, undeclared_conditions}
-use Rattle.sdd_protocol.specs.declared.entry.Entry as line
-use Rattle.sdd_wire.specs.declared.msg.Msg.{Msg}
-use Rattle.sdd_wire.specs.declared.msg.Msg.TheVariants.{Read}
-use Rattle.sdd_module.specs.SiteLog.{Act, Records, Setting, in_force, sends_of_act}
-use Rattle.sdd_module.specs.SiteLog as site
-use Rattle.sdd_attempt.specs.Acts.{conditions_at, modules_of, p2_of, use_there}
-use Rattle.sdd_dm.specs.Pipes.{is_processing, pipe, waits}
-use Rattle.sdd_dm.specs.Views.{View, view_of}
-use Rattle.sdd_pipe.specs.Pipe.{head}
-use Rattle.sdd_log.specs.Entries.{Does, Entry, Given, Log, history}
-use Rattle.sdd_log.specs.Locals.{local_of, setting_of}
-use Rattle.sdd_log.specs.Permitted.{IsPermitted}
-use Rattle.sdd_log.proofs.EachLocal.{allowed_act}
+use Rattle.sdd_invariants.specs.base.Numbers.{class_no, dm_no, frag_no, time_at, txn_no}
+use Rattle.sdd_invariants.specs.base.Words.{ascending, contains}
+use Rattle.sdd_invariants.specs.base.declared.condition.Cond.{Cond}
+use Rattle.sdd_invariants.specs.base.declared.number.ClassNo.{ClassNo}
+use Rattle.sdd_invariants.specs.base.declared.number.DmNo.{DmNo}
+use Rattle.sdd_invariants.specs.base.declared.number.Ts.{Ts}
+use Rattle.sdd_invariants.specs.base.declared.number.TxnNo.{TxnNo}
+use Rattle.sdd_invariants.specs.base.declared.site.Site.{Site}
+use Rattle.sdd_invariants.specs.base.declared.site.Site.TheVariants.{D}
+use Rattle.sdd_invariants.specs.base.declared.usage.Use.{Use}
+use Rattle.sdd_invariants.specs.catalog.Catalogue.{Catalogue}
+use Rattle.sdd_invariants.specs.catalog.Rules.{IsSound}
+use Rattle.sdd_invariants.specs.history.declared.record.Rec.{Rec}
+use Rattle.sdd_invariants.specs.history.declared.record.Rec.TheVariants.{Answer}
+use Rattle.sdd_invariants.specs.lang.Classes.{fragments_in}
+use Rattle.sdd_invariants.specs.lang.Uses.{uses_of}
+use Rattle.sdd_invariants.specs.protocol.Conditions.{conditions, undeclared_conditions}
+use Rattle.sdd_invariants.specs.protocol.declared.entry.Entry as line
+use Rattle.sdd_invariants.specs.wire.declared.msg.Msg.{Msg}
+use Rattle.sdd_invariants.specs.wire.declared.msg.Msg.TheVariants.{Read}
+use Rattle.sdd_invariants.specs.site_module.SiteLog.{Act, Records, Setting, in_force, sends_of_act}
+use Rattle.sdd_invariants.specs.site_module.SiteLog as site
+use Rattle.sdd_invariants.specs.attempt.Acts.{conditions_at, modules_of, p2_of, use_there}
+use Rattle.sdd_invariants.specs.dm.Pipes.{is_processing, pipe, waits}
+use Rattle.sdd_invariants.specs.dm.Views.{View, view_of}
+use Rattle.sdd_invariants.specs.pipe.Pipe.{head}
+use Rattle.sdd_invariants.specs.logs.Entries.{Does, Entry, Given, Log, history}
+use Rattle.sdd_invariants.specs.logs.Locals.{local_of, setting_of}
+use Rattle.sdd_invariants.specs.logs.Permitted.{IsPermitted}
+use Rattle.sdd_invariants.proofs.logs.EachLocal.{allowed_act}
 use Rattle.sdd_invariants.specs.Puts.{IsRead}
 use Rattle.sdd_laws.specs.Deeds.{IsAnswered}
-use Rattle.sdd_order.specs.Attempts.{Attempt, IsAttempt, p2_time}
-use Rattle.sdd_order.specs.Places.{Stands}
+use Rattle.sdd_laws.specs.serial_orders.Attempts.{Attempt, IsAttempt, p2_time}
+use Rattle.sdd_laws.specs.serial_orders.Places.{Stands}
 use Rattle.sdd_invariants.proofs.Installed.{class_number, head_put}
 use Rattle.sdd_invariants.specs.Seen.{pipe_at}
 use Rattle.sdd_invariants.proofs.AreReadSteps.{d_step}

@@ -3,34 +3,34 @@ use Rattle.std.specs.Prelude.{filter_map}
 use Rattle.std.proofs.Common.{ℕ, suc, ◌&&◌, ◌++◌, ◌+◌, ◌<◌, ◌==◌, ◌∙◌, ◌∷◌, ◌≡◌, ◌≤◌, Bool, List, Option, Some, [], ap, append_assoc, arith, false, if◌then◌else◌, inl, inr, length, refl, slice_get, subst, sym, true, zero}
 use Rattle.std.specs.List.{range_with_len}
 use Rattle.std.proofs.lemmas.Bool.{eqb-true}
-use Rattle.sdd_base.specs.Numbers.{class_no, dm_no, time_at, txn_no}
-use Rattle.sdd_base.specs.declared.change.Change.{Change}
-use Rattle.sdd_base.specs.declared.number.ClassNo.{ClassNo}
-use Rattle.sdd_base.specs.declared.number.DmNo.{DmNo}
-use Rattle.sdd_base.specs.declared.number.Ts.{Ts}
-use Rattle.sdd_base.specs.declared.number.TxnNo.{TxnNo}
-use Rattle.sdd_base.specs.declared.site.Site.{Site}
-use Rattle.sdd_base.specs.declared.site.Site.TheVariants.{D}
-use Rattle.sdd_catalog.specs.Catalogue.{Catalogue}
-use Rattle.sdd_history.specs.declared.record.Rec.{Rec}
-use Rattle.sdd_history.specs.declared.record.Rec.TheVariants.{Apply}
-use Rattle.sdd_lang.specs.Effect.{effect}
-use Rattle.sdd_wire.specs.declared.msg.Msg.{Msg}
-use Rattle.sdd_wire.specs.declared.msg.Msg.TheVariants.{Write}
-use Rattle.sdd_module.specs.SiteLog.{Act, Bases, Did, Handed, Log as SiteLog, Records, Redeclared, Sends, Setting, Submits, Ticked, sends_of_act}
-use Rattle.sdd_module.specs.SiteLog as site
-use Rattle.sdd_attempt.specs.Acts.{commit_act, write_to}
-use Rattle.sdd_attempt.specs.Attempts.{Attempt as Running}
-use Rattle.sdd_dm.specs.Pipes.{is_processing}
-use Rattle.sdd_pipe.specs.Pipe.{head}
-use Rattle.sdd_log.specs.Entries.{Does, Given, Log, history}
-use Rattle.sdd_log.specs.Locals.{local_of}
-use Rattle.sdd_log.specs.Permitted.{IsPermitted}
+use Rattle.sdd_invariants.specs.base.Numbers.{class_no, dm_no, time_at, txn_no}
+use Rattle.sdd_invariants.specs.base.declared.change.Change.{Change}
+use Rattle.sdd_invariants.specs.base.declared.number.ClassNo.{ClassNo}
+use Rattle.sdd_invariants.specs.base.declared.number.DmNo.{DmNo}
+use Rattle.sdd_invariants.specs.base.declared.number.Ts.{Ts}
+use Rattle.sdd_invariants.specs.base.declared.number.TxnNo.{TxnNo}
+use Rattle.sdd_invariants.specs.base.declared.site.Site.{Site}
+use Rattle.sdd_invariants.specs.base.declared.site.Site.TheVariants.{D}
+use Rattle.sdd_invariants.specs.catalog.Catalogue.{Catalogue}
+use Rattle.sdd_invariants.specs.history.declared.record.Rec.{Rec}
+use Rattle.sdd_invariants.specs.history.declared.record.Rec.TheVariants.{Apply}
+use Rattle.sdd_invariants.specs.lang.Effect.{effect}
+use Rattle.sdd_invariants.specs.wire.declared.msg.Msg.{Msg}
+use Rattle.sdd_invariants.specs.wire.declared.msg.Msg.TheVariants.{Write}
+use Rattle.sdd_invariants.specs.site_module.SiteLog.{Act, Bases, Did, Handed, Log as SiteLog, Records, Redeclared, Sends, Setting, Submits, Ticked, sends_of_act}
+use Rattle.sdd_invariants.specs.site_module.SiteLog as site
+use Rattle.sdd_invariants.specs.attempt.Acts.{commit_act, write_to}
+use Rattle.sdd_invariants.specs.attempt.Attempts.{Attempt as Running}
+use Rattle.sdd_invariants.specs.dm.Pipes.{is_processing}
+use Rattle.sdd_invariants.specs.pipe.Pipe.{head}
+use Rattle.sdd_invariants.specs.logs.Entries.{Does, Given, Log, history}
+use Rattle.sdd_invariants.specs.logs.Locals.{local_of}
+use Rattle.sdd_invariants.specs.logs.Permitted.{IsPermitted}
 use Rattle.sdd_invariants.proofs.WritesPut.{goes_write}
 use Rattle.sdd_invariants.specs.Puts.{IsWrite}
 use Rattle.sdd_laws.specs.Deeds.{AppliedBefore}
-use Rattle.sdd_order.specs.Numbers.{IsModule}
-use Rattle.sdd_order.specs.Places.{Stands}
+use Rattle.sdd_laws.specs.serial_orders.Numbers.{IsModule}
+use Rattle.sdd_laws.specs.serial_orders.Places.{Stands}
 use Rattle.sdd_invariants.specs.Causes.{IsApplyOf, IsPutAt}
 use Rattle.sdd_invariants.proofs.Installed.{apply_follows, apply_of_head, head_put}
 use Rattle.sdd_invariants.specs.Seen.{IsApplied, pipe_at}

@@ -3,28 +3,28 @@
 use Rattle.std.specs.Prelude.{filter_map}
 use Rattle.std.specs.List.{cons_option, range_with_len}
 use Rattle.std.proofs.Common.{ℕ, ◌++◌, ◌+◌, ◌<◌, ◌==◌, ◌∙◌, ◌∷◌, ◌≡◌, ◌≤◌, List, None, Option, Some, [], ap, arith, inl, inr, length, refl, slice_get, subst, suc, sym, true, zero}
-use Rattle.sdd_base.specs.Numbers.{class_no, dm_no, time_at, txn_no}
-use Rattle.sdd_base.specs.Words.{ascending, contains}
-use Rattle.sdd_base.specs.declared.site.Site.TheVariants.{D}
-use Rattle.sdd_catalog.specs.Catalogue.{Catalogue, has_copy, lowest_copy, numbers_to, reads_at}
-use Rattle.sdd_catalog.specs.Rules.{IsSound}
-use Rattle.sdd_catalog.proofs.Sound.{each_in_range, found_has}
-use Rattle.sdd_history.specs.declared.record.Rec.TheVariants.{Answer}
-use Rattle.sdd_lang.specs.Classes.{fragments_in}
-use Rattle.sdd_lang.proofs.ReadSetDecides.{ascending_back}
-use Rattle.sdd_module.specs.SiteLog.{Act, Records}
-use Rattle.sdd_attempt.specs.Acts.{commit_act, modules_of}
-use Rattle.sdd_dm.specs.Views.{home_of}
-use Rattle.sdd_pipe.specs.Pipe.{head}
+use Rattle.sdd_invariants.specs.base.Numbers.{class_no, dm_no, time_at, txn_no}
+use Rattle.sdd_invariants.specs.base.Words.{ascending, contains}
+use Rattle.sdd_invariants.specs.base.declared.site.Site.TheVariants.{D}
+use Rattle.sdd_invariants.specs.catalog.Catalogue.{Catalogue, has_copy, lowest_copy, numbers_to, reads_at}
+use Rattle.sdd_invariants.specs.catalog.Rules.{IsSound}
+use Rattle.sdd_invariants.proofs.catalog.Sound.{each_in_range, found_has}
+use Rattle.sdd_invariants.specs.history.declared.record.Rec.TheVariants.{Answer}
+use Rattle.sdd_invariants.specs.lang.Classes.{fragments_in}
+use Rattle.sdd_invariants.proofs.lang.ReadSetDecides.{ascending_back}
+use Rattle.sdd_invariants.specs.site_module.SiteLog.{Act, Records}
+use Rattle.sdd_invariants.specs.attempt.Acts.{commit_act, modules_of}
+use Rattle.sdd_invariants.specs.dm.Views.{home_of}
+use Rattle.sdd_invariants.specs.pipe.Pipe.{head}
 use Rattle.sdd_invariants.specs.Seen.{pipe_at}
-use Rattle.sdd_log.specs.Entries.{Does, Given, Log, history}
-use Rattle.sdd_log.specs.Locals.{setting_of}
-use Rattle.sdd_log.specs.Permitted.{IsPermitted}
+use Rattle.sdd_invariants.specs.logs.Entries.{Does, Given, Log, history}
+use Rattle.sdd_invariants.specs.logs.Locals.{setting_of}
+use Rattle.sdd_invariants.specs.logs.Permitted.{IsPermitted}
 use Rattle.sdd_laws.specs.Deeds.{AnsweredBefore, Asks, StartedBefore, by_no_class, by_use}
 use Rattle.sdd_laws.proofs.Fitting.{each_here}
-use Rattle.sdd_eras.proofs.Lists.{at_member}
-use Rattle.sdd_order.specs.Attempts.{Attempt, Committed, HasCommit, IsAttempt, IsCommitted}
-use Rattle.sdd_order.specs.Places.{Stands}
+use Rattle.sdd_laws.proofs.class_eras.Lists.{at_member}
+use Rattle.sdd_laws.specs.serial_orders.Attempts.{Attempt, Committed, HasCommit, IsAttempt, IsCommitted}
+use Rattle.sdd_laws.specs.serial_orders.Places.{Stands}
 use Rattle.sdd_invariants.proofs.Once.{answered_once}
 use Rattle.sdd_invariants.proofs.Starting.{commit_answered}
 use Rattle.sdd_invariants.proofs.Bools.{lower_same_higher, only_right, or_left, or_right, same_number, same_or_not}

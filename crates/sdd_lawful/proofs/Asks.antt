@@ -4,14 +4,14 @@ use Rattle.std.specs.List.{Contains, cons_option}
 use Rattle.std.proofs.Common.{ℕ, ◌++◌, ◌==◌, ◌∙◌, ◌∷◌, ◌≡◌, ◌⊎◌, Bool, List, Some, [], ap, cond, false, inl, inr, map, refl, subst, sym, true}
 use Rattle.std.proofs.lemmas.Bool.{eqb-true}
 use Rattle.std.proofs.lemmas.List.Elements.{All-contains, All-nil}
-use Rattle.sdd_base.specs.Words.{ascending, contains}
-use Rattle.sdd_base.specs.declared.number.FragNo.{FragNo}
-use Rattle.sdd_base.specs.declared.usage.Use.{Use}
-use Rattle.sdd_catalog.specs.Catalogue.{Catalogue}
-use Rattle.sdd_lang.specs.Classes.{fragments_in}
-use Rattle.sdd_lang.proofs.Sets.{All-ascending}
-use Rattle.sdd_protocol.specs.Conditions.{is_read_at}
-use Rattle.sdd_attempt.specs.Acts.{use_there, with_frags}
+use Rattle.sdd_invariants.specs.base.Words.{ascending, contains}
+use Rattle.sdd_invariants.specs.base.declared.number.FragNo.{FragNo}
+use Rattle.sdd_invariants.specs.base.declared.usage.Use.{Use}
+use Rattle.sdd_invariants.specs.catalog.Catalogue.{Catalogue}
+use Rattle.sdd_invariants.specs.lang.Classes.{fragments_in}
+use Rattle.sdd_invariants.proofs.lang.Sets.{All-ascending}
+use Rattle.sdd_invariants.specs.protocol.Conditions.{is_read_at}
+use Rattle.sdd_invariants.specs.attempt.Acts.{use_there, with_frags}
 use Rattle.sdd_laws.proofs.Fitting.{each_here}
 use Rattle.sdd_invariants.proofs.Bools.{only_right, or_left, or_right, same_number, same_or_not, true_or_false}
 use Rattle.sdd_invariants.proofs.Lists.{any_at}

@@ -5,34 +5,34 @@ use Rattle.std.specs.Option.{option_or}
 use Rattle.std.proofs.Common.{ℕ, suc, ◌++◌, ◌<◌, ◌==◌, ◌||◌, ◌∙◌, ◌∷◌, ◌≡◌, ◌≤◌, List, None, Option, Some, [], ap, append_assoc, arith, false, if◌then◌else◌, inl, inr, length, map, refl, slice_get, subst, sym, true, zero}
 use Rattle.std.proofs.lemmas.Bool.{eqb-true}
 use Rattle.std.proofs.lemmas.Option.{get_or_from_slice_get, slice_get-get_or}
-use Rattle.sdd_base.specs.Numbers.{class_no, dm_no, frag_no, time_at, tm_no, txn_no}
-use Rattle.sdd_base.specs.Words.{ascending, contains}
-use Rattle.sdd_base.specs.declared.change.Change.{Change}
-use Rattle.sdd_base.specs.declared.condition.Cond.{Cond}
-use Rattle.sdd_base.specs.declared.number.FragNo.{FragNo}
-use Rattle.sdd_base.specs.declared.number.TmNo.{TmNo}
-use Rattle.sdd_base.specs.declared.site.Site.TheVariants.{D, T}
-use Rattle.sdd_catalog.specs.Catalogue.{Catalogue, class_at, has_copy}
-use Rattle.sdd_catalog.specs.Rules.{IsSound}
-use Rattle.sdd_graph.specs.Graph.{classes_of, fragments_of}
-use Rattle.sdd_lang.specs.Classes.{fragments_in}
-use Rattle.sdd_protocol.specs.Conditions.{asked_by, cond_for, cond_of, condition_on, conditions, is_asked, undeclared_conditions}
-use Rattle.sdd_protocol.specs.Protocols.{IsTable}
-use Rattle.sdd_protocol.specs.declared.entry.Entry as line
-use Rattle.sdd_protocol.specs.declared.protocol.Protocol.TheVariants.{P2, P3}
-use Rattle.sdd_protocol.proofs.Laws.{one_table}
-use Rattle.sdd_module.specs.SiteLog.{Force, Records, in_force}
-use Rattle.sdd_attempt.specs.Acts.{commit_act, conditions_at}
-use Rattle.sdd_pipe.specs.Pipe.{touches}
-use Rattle.sdd_log.specs.Entries.{Does, Entry, Given, Log, history, marks}
-use Rattle.sdd_log.specs.Locals.{force_at, local_of, redeclares, setting_of}
-use Rattle.sdd_log.specs.Permitted.{IsPermitted}
+use Rattle.sdd_invariants.specs.base.Numbers.{class_no, dm_no, frag_no, time_at, tm_no, txn_no}
+use Rattle.sdd_invariants.specs.base.Words.{ascending, contains}
+use Rattle.sdd_invariants.specs.base.declared.change.Change.{Change}
+use Rattle.sdd_invariants.specs.base.declared.condition.Cond.{Cond}
+use Rattle.sdd_invariants.specs.base.declared.number.FragNo.{FragNo}
+use Rattle.sdd_invariants.specs.base.declared.number.TmNo.{TmNo}
+use Rattle.sdd_invariants.specs.base.declared.site.Site.TheVariants.{D, T}
+use Rattle.sdd_invariants.specs.catalog.Catalogue.{Catalogue, class_at, has_copy}
+use Rattle.sdd_invariants.specs.catalog.Rules.{IsSound}
+use Rattle.sdd_invariants.specs.graph.Graph.{classes_of, fragments_of}
+use Rattle.sdd_invariants.specs.lang.Classes.{fragments_in}
+use Rattle.sdd_invariants.specs.protocol.Conditions.{asked_by, cond_for, cond_of, condition_on, conditions, is_asked, undeclared_conditions}
+use Rattle.sdd_invariants.specs.protocol.Protocols.{IsTable}
+use Rattle.sdd_invariants.specs.protocol.declared.entry.Entry as line
+use Rattle.sdd_invariants.specs.protocol.declared.protocol.Protocol.TheVariants.{P2, P3}
+use Rattle.sdd_invariants.proofs.protocol.Laws.{one_table}
+use Rattle.sdd_invariants.specs.site_module.SiteLog.{Force, Records, in_force}
+use Rattle.sdd_invariants.specs.attempt.Acts.{commit_act, conditions_at}
+use Rattle.sdd_invariants.specs.pipe.Pipe.{touches}
+use Rattle.sdd_invariants.specs.logs.Entries.{Does, Entry, Given, Log, history, marks}
+use Rattle.sdd_invariants.specs.logs.Locals.{force_at, local_of, redeclares, setting_of}
+use Rattle.sdd_invariants.specs.logs.Permitted.{IsPermitted}
 use Rattle.sdd_laws.specs.Conditions.{IsConditionOf, KeepsConditions, conditions_of}
 use Rattle.sdd_laws.specs.Deeds.{AppliedBefore, IsAnswered, TouchesOne}
 use Rattle.sdd_laws.specs.Eras.{Eras}
 use Rattle.sdd_laws.specs.Eras as law_eras
-use Rattle.sdd_order.specs.Attempts.{Attempt, Committed, IsAttempt, IsCommitted, p2_time}
-use Rattle.sdd_order.specs.Places.{event_at}
+use Rattle.sdd_laws.specs.serial_orders.Attempts.{Attempt, Committed, IsAttempt, IsCommitted, p2_time}
+use Rattle.sdd_laws.specs.serial_orders.Places.{event_at}
 use Rattle.sdd_invariants.specs.Seen.{IsAnswerWith, IsApplied}
 use Rattle.sdd_invariants.proofs.Applied.{split_applied}
 use Rattle.sdd_invariants.proofs.Bools.{same_or_not}

@@ -6,48 +6,48 @@ use Rattle.std.specs.List.Sorted.{IsStrictlySortedBy}
 use Rattle.std.specs.Map.{keys_of}
 use Rattle.std.proofs.Common.{ℕ, suc, zero, ◌++◌, ◌<◌, ◌==◌, ◌∙◌, ◌∷◌, ◌≡◌, Bool, List, None, Option, Some, [], ap, append_assoc, arith, inl, inr, refl, subst, sym, true}
 use Rattle.std.proofs.lemmas.Bool.{eqb-true}
-use Rattle.sdd_base.specs.Numbers.{dm_no, txn_no}
-use Rattle.sdd_base.specs.Words.{ascending}
-use Rattle.sdd_base.specs.declared.change.Change.{Change}
-use Rattle.sdd_base.specs.declared.number.RelNo.{RelNo}
-use Rattle.sdd_base.specs.declared.site.Site.TheVariants.{D}
-use Rattle.sdd_base.proofs.Membership.{Contains-nil}
-use Rattle.sdd_catalog.specs.Catalogue.{Catalogue, fragment_at, fragment_of, has_copy, numbers_to, reads_at}
-use Rattle.sdd_catalog.specs.Rules.{IsSound}
+use Rattle.sdd_invariants.specs.base.Numbers.{dm_no, txn_no}
+use Rattle.sdd_invariants.specs.base.Words.{ascending}
+use Rattle.sdd_invariants.specs.base.declared.change.Change.{Change}
+use Rattle.sdd_invariants.specs.base.declared.number.RelNo.{RelNo}
+use Rattle.sdd_invariants.specs.base.declared.site.Site.TheVariants.{D}
+use Rattle.sdd_invariants.proofs.base.Membership.{Contains-nil}
+use Rattle.sdd_invariants.specs.catalog.Catalogue.{Catalogue, fragment_at, fragment_of, has_copy, numbers_to, reads_at}
+use Rattle.sdd_invariants.specs.catalog.Rules.{IsSound}
 use Rattle.sdd_laws.proofs.CopyEntries.{entries_ascend, lies_there}
 use Rattle.sdd_laws.proofs.Gathered.{gathered_from, gathered_sorted, gathered_there}
 use Rattle.sdd_laws.proofs.LookUps.{one_entry, same_members}
 use Rattle.sdd_laws.proofs.Members.{Contains-flat_map, Contains-from_flat_map, each_has}
 use Rattle.sdd_laws.specs.Values.{ArePlaced}
-use Rattle.sdd_history.specs.declared.record.Rec.{Rec}
-use Rattle.sdd_history.specs.Records.{History}
-use Rattle.sdd_lang.specs.Classes.{fragments_in}
-use Rattle.sdd_lang.specs.Database.{Database, Item, Row, item_cmp}
-use Rattle.sdd_lang.specs.Effect.{effect}
-use Rattle.sdd_lang.specs.declared.effect.Effect.{Effect}
-use Rattle.sdd_lang.specs.declared.transaction.Txn.{Txn}
-use Rattle.sdd_lang.proofs.EffectChanges.{entry_placed}
-use Rattle.sdd_lang.proofs.SortedEntries.{item_cmp_exact, item_cmp_total, sorted_nil}
-use Rattle.sdd_module.specs.SiteLog.{Did, Log as SiteLog, Records}
-use Rattle.sdd_attempt.specs.Attempts.{Attempt as Running}
-use Rattle.sdd_attempt.specs.Acts.{commit_act, use_there}
-use Rattle.sdd_dm.specs.Copies.{dated}
-use Rattle.sdd_dm.specs.Pipes.{pipe}
-use Rattle.sdd_pipe.specs.Pipe.{head}
-use Rattle.sdd_log.specs.Entries.{Does, Given, Log, history}
-use Rattle.sdd_log.specs.Locals.{local_of, setting_of, txn_at}
-use Rattle.sdd_log.specs.Permitted.{IsPermitted}
-use Rattle.sdd_log.specs.Snapshots as log_base
+use Rattle.sdd_invariants.specs.history.declared.record.Rec.{Rec}
+use Rattle.sdd_invariants.specs.history.Records.{History}
+use Rattle.sdd_invariants.specs.lang.Classes.{fragments_in}
+use Rattle.sdd_invariants.specs.lang.Database.{Database, Item, Row, item_cmp}
+use Rattle.sdd_invariants.specs.lang.Effect.{effect}
+use Rattle.sdd_invariants.specs.lang.declared.effect.Effect.{Effect}
+use Rattle.sdd_invariants.specs.lang.declared.transaction.Txn.{Txn}
+use Rattle.sdd_invariants.proofs.lang.EffectChanges.{entry_placed}
+use Rattle.sdd_invariants.proofs.lang.SortedEntries.{item_cmp_exact, item_cmp_total, sorted_nil}
+use Rattle.sdd_invariants.specs.site_module.SiteLog.{Did, Log as SiteLog, Records}
+use Rattle.sdd_invariants.specs.attempt.Attempts.{Attempt as Running}
+use Rattle.sdd_invariants.specs.attempt.Acts.{commit_act, use_there}
+use Rattle.sdd_invariants.specs.dm.Copies.{dated}
+use Rattle.sdd_invariants.specs.dm.Pipes.{pipe}
+use Rattle.sdd_invariants.specs.pipe.Pipe.{head}
+use Rattle.sdd_invariants.specs.logs.Entries.{Does, Given, Log, history}
+use Rattle.sdd_invariants.specs.logs.Locals.{local_of, setting_of, txn_at}
+use Rattle.sdd_invariants.specs.logs.Permitted.{IsPermitted}
+use Rattle.sdd_invariants.specs.logs.Snapshots as log_base
 use Rattle.sdd_laws.specs.Answers.{KeepsAnswers}
 use Rattle.sdd_laws.specs.Deeds.{IsAnswered, by_use}
 use Rattle.sdd_laws.specs.Eras.{Eras}
 use Rattle.sdd_laws.specs.Snapshots as laws
 use Rattle.sdd_laws.proofs.Reading.{reads_there}
-use Rattle.sdd_order.specs.Attempts.{Attempt, Committed, IsCommitted, reads}
-use Rattle.sdd_order.specs.Numbers.{IsModule}
-use Rattle.sdd_order.specs.Places.{Stands}
-use Rattle.sdd_order.specs.Precedence.{is_answer, module_of}
-use Rattle.sdd_order.proofs.Before.{answer_passes, is_answered}
+use Rattle.sdd_laws.specs.serial_orders.Attempts.{Attempt, Committed, IsCommitted, reads}
+use Rattle.sdd_laws.specs.serial_orders.Numbers.{IsModule}
+use Rattle.sdd_laws.specs.serial_orders.Places.{Stands}
+use Rattle.sdd_laws.specs.serial_orders.Precedence.{is_answer, module_of}
+use Rattle.sdd_laws.proofs.serial_orders.Before.{answer_passes, is_answered}
 use Rattle.sdd_invariants.proofs.Bools.{same_number, true_or_false}
 use Rattle.sdd_invariants.specs.Steps.{home}
 use Rattle.sdd_lawful.specs.Given.{AreErasOf, HasSoundData}

@@ -2,15 +2,15 @@
 use Rattle.std.proofs.Common.{ℕ, ◌-◌, ◌==◌, ◌∙◌, ◌≡◌, ◌≢◌, ◌≤◌, ◌⊎◌, ap, arith, false, inl, inr, length, refl, subst, sym}
 use Rattle.std.proofs.Math.Decide.{dec_le}
 use Rattle.std.proofs.lemmas.List.{get_or_past}
-use Rattle.sdd_base.specs.Numbers.{tm_no}
-use Rattle.sdd_base.specs.Sites.{number_of}
-use Rattle.sdd_base.specs.declared.site.Site.{Site}
-use Rattle.sdd_base.specs.declared.site.Site.TheVariants.{T}
-use Rattle.sdd_catalog.specs.Catalogue.{Catalogue, class_at}
-use Rattle.sdd_catalog.specs.Numbers.{IsServedClass}
-use Rattle.sdd_catalog.specs.Rules.{IsSound}
-use Rattle.sdd_catalog.specs.declared.resolved.Class.{Class}
-use Rattle.sdd_catalog.proofs.Sound.{at_number, sound_classes, sound_whole}
+use Rattle.sdd_invariants.specs.base.Numbers.{tm_no}
+use Rattle.sdd_invariants.specs.base.Sites.{number_of}
+use Rattle.sdd_invariants.specs.base.declared.site.Site.{Site}
+use Rattle.sdd_invariants.specs.base.declared.site.Site.TheVariants.{T}
+use Rattle.sdd_invariants.specs.catalog.Catalogue.{Catalogue, class_at}
+use Rattle.sdd_invariants.specs.catalog.Numbers.{IsServedClass}
+use Rattle.sdd_invariants.specs.catalog.Rules.{IsSound}
+use Rattle.sdd_invariants.specs.catalog.declared.resolved.Class.{Class}
+use Rattle.sdd_invariants.proofs.catalog.Sound.{at_number, sound_classes, sound_whole}
 use Rattle.sdd_invariants.proofs.Bools.{differ, same_or_not}
 use Rattle.sdd_invariants.specs.Steps.{home}
 

@@ -2,19 +2,19 @@
 -- submissions.
 use Rattle.std.proofs.Common.{ℕ, suc, ◌&&◌, ◌++◌, ◌<◌, ◌==◌, ◌∷◌, ◌≡◌, ◌≤◌, Bool, List, Option, Some, [], ap, arith, false, if◌then◌else◌, inl, inr, length, refl, slice_get, subst, sym, true, zero}
 use Rattle.std.proofs.lemmas.Bool.{eqb-true}
-use Rattle.sdd_base.specs.declared.change.Change.{Change}
-use Rattle.sdd_base.specs.declared.number.ClassNo.{ClassNo}
-use Rattle.sdd_base.specs.declared.number.Ts.{Ts}
-use Rattle.sdd_base.specs.declared.number.TxnNo.{TxnNo}
-use Rattle.sdd_base.specs.declared.reply.Reply.{Reply}
-use Rattle.sdd_base.specs.declared.site.Site.{Site}
-use Rattle.sdd_base.specs.declared.usage.Use.{Use}
-use Rattle.sdd_history.specs.declared.record.Rec.TheVariants.{Commit, Start}
-use Rattle.sdd_lang.specs.declared.transaction.Txn.{Txn}
-use Rattle.sdd_wire.specs.declared.msg.Msg.{Msg}
-use Rattle.sdd_module.specs.SiteLog as site
-use Rattle.sdd_module.specs.SiteLog.{Act, Did, Handed, Log, Records, Redeclared, Sends, Setting, Submits, Ticked, in_force}
-use Rattle.sdd_attempt.specs.Queues.{is_for}
+use Rattle.sdd_invariants.specs.base.declared.change.Change.{Change}
+use Rattle.sdd_invariants.specs.base.declared.number.ClassNo.{ClassNo}
+use Rattle.sdd_invariants.specs.base.declared.number.Ts.{Ts}
+use Rattle.sdd_invariants.specs.base.declared.number.TxnNo.{TxnNo}
+use Rattle.sdd_invariants.specs.base.declared.reply.Reply.{Reply}
+use Rattle.sdd_invariants.specs.base.declared.site.Site.{Site}
+use Rattle.sdd_invariants.specs.base.declared.usage.Use.{Use}
+use Rattle.sdd_invariants.specs.history.declared.record.Rec.TheVariants.{Commit, Start}
+use Rattle.sdd_invariants.specs.lang.declared.transaction.Txn.{Txn}
+use Rattle.sdd_invariants.specs.wire.declared.msg.Msg.{Msg}
+use Rattle.sdd_invariants.specs.site_module.SiteLog as site
+use Rattle.sdd_invariants.specs.site_module.SiteLog.{Act, Did, Handed, Log, Records, Redeclared, Sends, Setting, Submits, Ticked, in_force}
+use Rattle.sdd_invariants.specs.attempt.Queues.{is_for}
 use Rattle.sdd_invariants.specs.OfRecords.{AllCommitted}
 use Rattle.sdd_invariants.proofs.Bools.{and_left, and_right, both, if_way, only_right, or_left, or_right, same_number, true_or_false}
 use Rattle.sdd_invariants.proofs.Lists.{at_seam, in_left, in_right}

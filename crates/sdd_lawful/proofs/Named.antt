@@ -2,46 +2,46 @@
 use Rattle.std.specs.List.{AllByRecursion}
 use Rattle.std.proofs.Common.{ℕ, suc, ◌++◌, ◌-◌, ◌<◌, ◌∙◌, ◌∷◌, ◌≡◌, ◌≤◌, List, None, Option, Some, [], ap, append_assoc, arith, false, length, refl, slice_get, subst, sym, true}
 use Rattle.std.proofs.lemmas.List.Elements.{All-from_recursion, recursion_from_All}
-use Rattle.sdd_base.specs.Numbers.{dm_no, txn_no}
-use Rattle.sdd_base.specs.Words.{ascending, contains}
-use Rattle.sdd_base.specs.declared.change.Change.{Change}
-use Rattle.sdd_base.specs.declared.condition.Cond.{Cond}
-use Rattle.sdd_base.specs.declared.event.Event.TheVariants.{Submit as SubmitEvent}
-use Rattle.sdd_base.specs.declared.number.ClassNo.{ClassNo}
-use Rattle.sdd_base.specs.declared.number.DmNo.{DmNo}
-use Rattle.sdd_base.specs.declared.number.RelNo.{RelNo}
-use Rattle.sdd_base.specs.declared.number.Ts.{Ts}
-use Rattle.sdd_base.specs.declared.number.TxnNo.{TxnNo}
-use Rattle.sdd_base.specs.declared.site.Site.{Site}
-use Rattle.sdd_base.specs.declared.site.Site.TheVariants.{D}
-use Rattle.sdd_base.specs.declared.usage.Use.{Use}
-use Rattle.sdd_catalog.specs.Catalogue.{Catalogue}
-use Rattle.sdd_catalog.specs.Rules.{IsSound}
-use Rattle.sdd_history.specs.declared.record.Rec.{Rec}
-use Rattle.sdd_history.specs.declared.record.Rec.TheVariants.{Answer, Apply, Arrive, Commit, Nothing, Pass, Reject as Rejected, Start, Submit, Wait}
-use Rattle.sdd_history.specs.Records.{History}
-use Rattle.sdd_lang.specs.Classes.{fragments_in}
-use Rattle.sdd_lang.specs.Database.{Row}
-use Rattle.sdd_lang.specs.Fits.{Fits, FitsStatement}
-use Rattle.sdd_module.specs.SiteLog.{Act, Bases, Records, Sends, Setting, sends_of_act}
-use Rattle.sdd_module.specs.SiteLog as site
-use Rattle.sdd_wire.specs.declared.msg.Msg.{Msg}
-use Rattle.sdd_wire.specs.declared.msg.Msg.TheVariants.{Ask, Null, Read}
-use Rattle.sdd_attempt.specs.Acts.{modules_of}
-use Rattle.sdd_dm.specs.Due.{spoils}
-use Rattle.sdd_dm.specs.Views.{view_of}
-use Rattle.sdd_pipe.specs.Pipe.{head}
-use Rattle.sdd_log.specs.Entries.{Does, Entry, Given, Hand, Log, Mark, Notes, Submitted, history, marks}
-use Rattle.sdd_log.specs.Locals.{local_of, setting_of}
-use Rattle.sdd_log.specs.Permitted.{IsDueAt, IsPermitted}
-use Rattle.sdd_log.specs.Traffic.{handed}
-use Rattle.sdd_log.proofs.EachLocal.{allowed_act}
+use Rattle.sdd_invariants.specs.base.Numbers.{dm_no, txn_no}
+use Rattle.sdd_invariants.specs.base.Words.{ascending, contains}
+use Rattle.sdd_invariants.specs.base.declared.change.Change.{Change}
+use Rattle.sdd_invariants.specs.base.declared.condition.Cond.{Cond}
+use Rattle.sdd_invariants.specs.base.declared.event.Event.TheVariants.{Submit as SubmitEvent}
+use Rattle.sdd_invariants.specs.base.declared.number.ClassNo.{ClassNo}
+use Rattle.sdd_invariants.specs.base.declared.number.DmNo.{DmNo}
+use Rattle.sdd_invariants.specs.base.declared.number.RelNo.{RelNo}
+use Rattle.sdd_invariants.specs.base.declared.number.Ts.{Ts}
+use Rattle.sdd_invariants.specs.base.declared.number.TxnNo.{TxnNo}
+use Rattle.sdd_invariants.specs.base.declared.site.Site.{Site}
+use Rattle.sdd_invariants.specs.base.declared.site.Site.TheVariants.{D}
+use Rattle.sdd_invariants.specs.base.declared.usage.Use.{Use}
+use Rattle.sdd_invariants.specs.catalog.Catalogue.{Catalogue}
+use Rattle.sdd_invariants.specs.catalog.Rules.{IsSound}
+use Rattle.sdd_invariants.specs.history.declared.record.Rec.{Rec}
+use Rattle.sdd_invariants.specs.history.declared.record.Rec.TheVariants.{Answer, Apply, Arrive, Commit, Nothing, Pass, Reject as Rejected, Start, Submit, Wait}
+use Rattle.sdd_invariants.specs.history.Records.{History}
+use Rattle.sdd_invariants.specs.lang.Classes.{fragments_in}
+use Rattle.sdd_invariants.specs.lang.Database.{Row}
+use Rattle.sdd_invariants.specs.lang.Fits.{Fits, FitsStatement}
+use Rattle.sdd_invariants.specs.site_module.SiteLog.{Act, Bases, Records, Sends, Setting, sends_of_act}
+use Rattle.sdd_invariants.specs.site_module.SiteLog as site
+use Rattle.sdd_invariants.specs.wire.declared.msg.Msg.{Msg}
+use Rattle.sdd_invariants.specs.wire.declared.msg.Msg.TheVariants.{Ask, Null, Read}
+use Rattle.sdd_invariants.specs.attempt.Acts.{modules_of}
+use Rattle.sdd_invariants.specs.dm.Due.{spoils}
+use Rattle.sdd_invariants.specs.dm.Views.{view_of}
+use Rattle.sdd_invariants.specs.pipe.Pipe.{head}
+use Rattle.sdd_invariants.specs.logs.Entries.{Does, Entry, Given, Hand, Log, Mark, Notes, Submitted, history, marks}
+use Rattle.sdd_invariants.specs.logs.Locals.{local_of, setting_of}
+use Rattle.sdd_invariants.specs.logs.Permitted.{IsDueAt, IsPermitted}
+use Rattle.sdd_invariants.specs.logs.Traffic.{handed}
+use Rattle.sdd_invariants.proofs.logs.EachLocal.{allowed_act}
 use Rattle.sdd_invariants.specs.Puts.{IsRead}
 use Rattle.sdd_laws.specs.Eras.{Eras}
 use Rattle.sdd_laws.specs.Numbers.{NamesOneOf, TxnsExist}
-use Rattle.sdd_order.specs.Attempts.{Attempt, Committed, IsAttempt, IsCommitted, p2_time}
-use Rattle.sdd_order.specs.Numbers.{ChangeExists, CondExists, ExistsIn, IsClass, IsFrom1To, IsModule, NumbersExist, UseExists}
-use Rattle.sdd_order.specs.Places.{Stands}
+use Rattle.sdd_laws.specs.serial_orders.Attempts.{Attempt, Committed, IsAttempt, IsCommitted, p2_time}
+use Rattle.sdd_laws.specs.serial_orders.Numbers.{ChangeExists, CondExists, ExistsIn, IsClass, IsFrom1To, IsModule, NumbersExist, UseExists}
+use Rattle.sdd_laws.specs.serial_orders.Places.{Stands}
 use Rattle.sdd_invariants.specs.PutsBy.{IsAskBy}
 use Rattle.sdd_invariants.proofs.Answered.{put_in_by_d}
 use Rattle.sdd_invariants.proofs.Installed.{class_number, head_put, origin}

@@ -1,12 +1,12 @@
 -- A lawful log submits only what its events submit.
 use Rattle.std.proofs.Common.{◌+◌, ◌++◌, ◌∷◌, ◌≡◌, ◌≤◌, [], ap, arith, refl, subst}
 use Rattle.std.proofs.lemmas.Bool.{eq-eqb}
-use Rattle.sdd_base.specs.declared.event.Event.TheVariants.{Submit}
-use Rattle.sdd_log.specs.Entries.{Given, Log, Mark}
-use Rattle.sdd_log.specs.Lawful.{IsLawful}
-use Rattle.sdd_log.specs.Marks.{left}
-use Rattle.sdd_log.specs.Permitted.{one_if, submits_by, submits_in}
-use Rattle.sdd_log.proofs.NewMarks.{left_is, marked}
+use Rattle.sdd_invariants.specs.base.declared.event.Event.TheVariants.{Submit}
+use Rattle.sdd_invariants.specs.logs.Entries.{Given, Log, Mark}
+use Rattle.sdd_invariants.specs.logs.Lawful.{IsLawful}
+use Rattle.sdd_invariants.specs.logs.Marks.{left}
+use Rattle.sdd_invariants.specs.logs.Permitted.{one_if, submits_by, submits_in}
+use Rattle.sdd_invariants.proofs.logs.NewMarks.{left_is, marked}
 use Rattle.sdd_lawful.specs.Given.{AreNumbered, SubmitGiven}
 
 lawful_rest : (g : Given) (later log : Log) → IsLawful g (later ++ log) → IsLawful g log

@@ -1,36 +1,36 @@
 -- The history of a permitted log keeps the law of rejections.
 use Rattle.std.proofs.Common.{ℕ, suc, ◌++◌, ◌<◌, ◌∙◌, ◌∷◌, ◌≡◌, List, None, Some, [], ap, append_assoc, arith, length, refl, slice_get, subst, sym}
-use Rattle.sdd_base.specs.Numbers.{txn_no}
-use Rattle.sdd_base.specs.Words.{head_of}
-use Rattle.sdd_base.specs.declared.condition.Cond.{Cond}
-use Rattle.sdd_base.specs.declared.number.ClassNo.{ClassNo}
-use Rattle.sdd_base.specs.declared.number.DmNo.{DmNo}
-use Rattle.sdd_base.specs.declared.number.Ts.{Ts}
-use Rattle.sdd_base.specs.declared.number.TxnNo.{TxnNo}
-use Rattle.sdd_base.specs.declared.site.Site.{Site}
-use Rattle.sdd_wire.specs.declared.msg.Msg.{Msg}
-use Rattle.sdd_base.specs.declared.site.Site.TheVariants.{D}
-use Rattle.sdd_catalog.specs.Rules.{IsSound}
-use Rattle.sdd_history.specs.declared.record.Rec.{Rec}
-use Rattle.sdd_history.specs.declared.record.Rec.TheVariants.{Reject as Rejected, Start}
-use Rattle.sdd_protocol.specs.Protocols.{IsTable}
-use Rattle.sdd_module.specs.SiteLog.{Act, Records, Setting}
-use Rattle.sdd_module.specs.SiteLog as site
-use Rattle.sdd_attempt.specs.Acts.{commit_act}
-use Rattle.sdd_attempt.specs.Attempts.{active}
-use Rattle.sdd_attempt.specs.Queues.{Queued, queue}
-use Rattle.sdd_dm.specs.Due.{spoils}
-use Rattle.sdd_dm.specs.Views.{home_of, view_of}
-use Rattle.sdd_log.specs.Entries.{Does, Entry, Given, Log, history}
-use Rattle.sdd_log.specs.Locals.{force_at, local_of, redeclares, setting_of}
-use Rattle.sdd_log.specs.Permitted.{IsPermitted}
-use Rattle.sdd_log.proofs.EachLocal.{allowed_act}
+use Rattle.sdd_invariants.specs.base.Numbers.{txn_no}
+use Rattle.sdd_invariants.specs.base.Words.{head_of}
+use Rattle.sdd_invariants.specs.base.declared.condition.Cond.{Cond}
+use Rattle.sdd_invariants.specs.base.declared.number.ClassNo.{ClassNo}
+use Rattle.sdd_invariants.specs.base.declared.number.DmNo.{DmNo}
+use Rattle.sdd_invariants.specs.base.declared.number.Ts.{Ts}
+use Rattle.sdd_invariants.specs.base.declared.number.TxnNo.{TxnNo}
+use Rattle.sdd_invariants.specs.base.declared.site.Site.{Site}
+use Rattle.sdd_invariants.specs.wire.declared.msg.Msg.{Msg}
+use Rattle.sdd_invariants.specs.base.declared.site.Site.TheVariants.{D}
+use Rattle.sdd_invariants.specs.catalog.Rules.{IsSound}
+use Rattle.sdd_invariants.specs.history.declared.record.Rec.{Rec}
+use Rattle.sdd_invariants.specs.history.declared.record.Rec.TheVariants.{Reject as Rejected, Start}
+use Rattle.sdd_invariants.specs.protocol.Protocols.{IsTable}
+use Rattle.sdd_invariants.specs.site_module.SiteLog.{Act, Records, Setting}
+use Rattle.sdd_invariants.specs.site_module.SiteLog as site
+use Rattle.sdd_invariants.specs.attempt.Acts.{commit_act}
+use Rattle.sdd_invariants.specs.attempt.Attempts.{active}
+use Rattle.sdd_invariants.specs.attempt.Queues.{Queued, queue}
+use Rattle.sdd_invariants.specs.dm.Due.{spoils}
+use Rattle.sdd_invariants.specs.dm.Views.{home_of, view_of}
+use Rattle.sdd_invariants.specs.logs.Entries.{Does, Entry, Given, Log, history}
+use Rattle.sdd_invariants.specs.logs.Locals.{force_at, local_of, redeclares, setting_of}
+use Rattle.sdd_invariants.specs.logs.Permitted.{IsPermitted}
+use Rattle.sdd_invariants.proofs.logs.EachLocal.{allowed_act}
 use Rattle.sdd_laws.specs.Conditions.{IsConditionOf, conditions_of}
 use Rattle.sdd_laws.specs.Deeds.{AppliedBefore}
 use Rattle.sdd_laws.specs.Eras.{Eras, in_force}
 use Rattle.sdd_laws.specs.Rejections.{IsAgain, KeepsRejections}
-use Rattle.sdd_order.specs.Attempts.{Attempt, IsAttempt}
-use Rattle.sdd_order.specs.Places.{Stands, event_at}
+use Rattle.sdd_laws.specs.serial_orders.Attempts.{Attempt, IsAttempt}
+use Rattle.sdd_laws.specs.serial_orders.Places.{Stands, event_at}
 use Rattle.sdd_invariants.proofs.Again.{again}
 use Rattle.sdd_invariants.proofs.Active.{step_way}
 use Rattle.sdd_invariants.proofs.AreReadSteps.{d_step}

@@ -4,38 +4,38 @@ use Rattle.std.proofs.Common.{ℕ, ◌++◌, ◌<◌, ◌==◌, ◌∙◌, ◌�
 use Rattle.std.proofs.Math.Decide.{dec_le}
 use Rattle.std.proofs.Math.Nat.{mul-add-mod_self_right}
 use Rattle.std.proofs.lemmas.Bool.{eqb-true}
-use Rattle.sdd_base.specs.Numbers.{class_no, time_at, tm_no, txn_no}
-use Rattle.sdd_base.specs.Sites.{number_of}
-use Rattle.sdd_base.specs.Words.{head_of}
-use Rattle.sdd_base.specs.declared.number.TmNo.{TmNo}
-use Rattle.sdd_base.specs.declared.number.Ts.{Ts}
-use Rattle.sdd_base.specs.declared.site.Site.{Site}
-use Rattle.sdd_base.specs.declared.site.Site.TheVariants.{T}
-use Rattle.sdd_catalog.specs.Catalogue.{Catalogue, class_at, numbers_to}
-use Rattle.sdd_catalog.specs.Rules.{IsSound}
-use Rattle.sdd_history.specs.declared.record.Rec.TheVariants.{Start, Submit}
-use Rattle.sdd_wire.specs.declared.msg.Msg.{Msg}
-use Rattle.sdd_lang.specs.Classes.{class_for, covers}
-use Rattle.sdd_lang.specs.declared.transaction.Txn.{Txn}
-use Rattle.sdd_module.specs.SiteLog.{Act, Did, Force, Records, Setting, Submits}
-use Rattle.sdd_module.specs.SiteLog as site
-use Rattle.sdd_attempt.specs.Acts.{p2_of}
-use Rattle.sdd_attempt.specs.Clocks.{clock}
-use Rattle.sdd_attempt.specs.Queues.{is_for}
-use Rattle.sdd_log.specs.Due.{home_of}
-use Rattle.sdd_log.specs.Entries.{Does, Given, Log, Submitted, history, marks}
-use Rattle.sdd_log.specs.Locals.{force_at, local_of, redeclares, setting_of, txn_at}
-use Rattle.sdd_log.specs.Permitted.{IsPermitted}
+use Rattle.sdd_invariants.specs.base.Numbers.{class_no, time_at, tm_no, txn_no}
+use Rattle.sdd_invariants.specs.base.Sites.{number_of}
+use Rattle.sdd_invariants.specs.base.Words.{head_of}
+use Rattle.sdd_invariants.specs.base.declared.number.TmNo.{TmNo}
+use Rattle.sdd_invariants.specs.base.declared.number.Ts.{Ts}
+use Rattle.sdd_invariants.specs.base.declared.site.Site.{Site}
+use Rattle.sdd_invariants.specs.base.declared.site.Site.TheVariants.{T}
+use Rattle.sdd_invariants.specs.catalog.Catalogue.{Catalogue, class_at, numbers_to}
+use Rattle.sdd_invariants.specs.catalog.Rules.{IsSound}
+use Rattle.sdd_invariants.specs.history.declared.record.Rec.TheVariants.{Start, Submit}
+use Rattle.sdd_invariants.specs.wire.declared.msg.Msg.{Msg}
+use Rattle.sdd_invariants.specs.lang.Classes.{class_for, covers}
+use Rattle.sdd_invariants.specs.lang.declared.transaction.Txn.{Txn}
+use Rattle.sdd_invariants.specs.site_module.SiteLog.{Act, Did, Force, Records, Setting, Submits}
+use Rattle.sdd_invariants.specs.site_module.SiteLog as site
+use Rattle.sdd_invariants.specs.attempt.Acts.{p2_of}
+use Rattle.sdd_invariants.specs.attempt.Clocks.{clock}
+use Rattle.sdd_invariants.specs.attempt.Queues.{is_for}
+use Rattle.sdd_invariants.specs.logs.Due.{home_of}
+use Rattle.sdd_invariants.specs.logs.Entries.{Does, Given, Log, Submitted, history, marks}
+use Rattle.sdd_invariants.specs.logs.Locals.{force_at, local_of, redeclares, setting_of, txn_at}
+use Rattle.sdd_invariants.specs.logs.Permitted.{IsPermitted}
 use Rattle.sdd_invariants.proofs.Clocks.{stamps_differ}
 use Rattle.sdd_laws.specs.Deeds.{CommittedBefore, IsSubmitted}
-use Rattle.sdd_eras.specs.EraOf.{IsEraOf}
+use Rattle.sdd_laws.specs.class_eras.EraOf.{IsEraOf}
 use Rattle.sdd_laws.specs.Eras.{Eras, in_force}
 use Rattle.sdd_laws.specs.Starts.{IsBound, IsOfSubmit, KeepsStarts}
-use Rattle.sdd_eras.proofs.EraSets.{covered}
+use Rattle.sdd_laws.proofs.class_eras.EraSets.{covered}
 use Rattle.sdd_laws.proofs.InForce.{force_is}
-use Rattle.sdd_eras.proofs.Lists.{first_passes}
-use Rattle.sdd_order.specs.Attempts.{Attempt, Committed, IsAttempt, IsCommitted}
-use Rattle.sdd_order.specs.Places.{Stands, event_at, record_at}
+use Rattle.sdd_laws.proofs.class_eras.Lists.{first_passes}
+use Rattle.sdd_laws.specs.serial_orders.Attempts.{Attempt, Committed, IsAttempt, IsCommitted}
+use Rattle.sdd_laws.specs.serial_orders.Places.{Stands, event_at, record_at}
 use Rattle.sdd_invariants.proofs.Bools.{and_left, lower_same_higher, or_right, same_number, same_or_not}
 use Rattle.sdd_invariants.specs.Steps.{bound, home, is_committed, promises, stamps, starts_of, submits_of}
 use Rattle.sdd_invariants.proofs.Fair.{home_fair}

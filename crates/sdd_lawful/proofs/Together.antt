@@ -2,17 +2,17 @@
 use Rattle.std.specs.List.{AllZip}
 use Rattle.std.proofs.Common.{ℕ, ◌==◌, ◌≡◌, List, length, subst, sym}
 use Rattle.std.proofs.lemmas.Bool.{eqb-true}
-use Rattle.sdd_base.specs.declared.change.Change.{Change}
-use Rattle.sdd_base.specs.declared.number.RelNo.{RelNo}
-use Rattle.sdd_base.specs.declared.number.TxnNo.{TxnNo}
-use Rattle.sdd_catalog.specs.Catalogue.{Catalogue}
-use Rattle.sdd_catalog.specs.Rules.{IsSound}
-use Rattle.sdd_lang.specs.Agree.{rows_in_fragment}
-use Rattle.sdd_lang.specs.Database.{Row}
-use Rattle.sdd_lang.proofs.KeyRanges.{fragment_holds, key_in_range}
-use Rattle.sdd_lang.proofs.StaysDatabase.{rows_make_database}
-use Rattle.sdd_log.specs.Entries.{Given, Log, history}
-use Rattle.sdd_log.specs.Permitted.{IsPermitted}
+use Rattle.sdd_invariants.specs.base.declared.change.Change.{Change}
+use Rattle.sdd_invariants.specs.base.declared.number.RelNo.{RelNo}
+use Rattle.sdd_invariants.specs.base.declared.number.TxnNo.{TxnNo}
+use Rattle.sdd_invariants.specs.catalog.Catalogue.{Catalogue}
+use Rattle.sdd_invariants.specs.catalog.Rules.{IsSound}
+use Rattle.sdd_invariants.specs.lang.Agree.{rows_in_fragment}
+use Rattle.sdd_invariants.specs.lang.Database.{Row}
+use Rattle.sdd_invariants.proofs.lang.KeyRanges.{fragment_holds, key_in_range}
+use Rattle.sdd_invariants.proofs.lang.StaysDatabase.{rows_make_database}
+use Rattle.sdd_invariants.specs.logs.Entries.{Given, Log, history}
+use Rattle.sdd_invariants.specs.logs.Permitted.{IsPermitted}
 use Rattle.sdd_laws.specs.Eras.{Eras}
 use Rattle.sdd_laws.specs.Few.{AreFew}
 use Rattle.sdd_laws.specs.Kept.{FitTogether, KeepsLaws}
@@ -24,10 +24,10 @@ use Rattle.sdd_laws.specs.Undeclared.{KeepsUndeclared}
 use Rattle.sdd_laws.proofs.Acyclic.{acyclic, orderable}
 use Rattle.sdd_laws.proofs.Few.{are_few}
 use Rattle.sdd_laws.proofs.Replayed.{gives_replies, leaves_copies}
-use Rattle.sdd_order.specs.Attempts.{Committed, IsCommitted}
-use Rattle.sdd_order.specs.Numbers.{IsFragment, NumbersExist}
-use Rattle.sdd_order.specs.Orders.{IsOrderable, IsSerial}
-use Rattle.sdd_order.specs.Precedence.{HasNoCycle}
+use Rattle.sdd_laws.specs.serial_orders.Attempts.{Committed, IsCommitted}
+use Rattle.sdd_laws.specs.serial_orders.Numbers.{IsFragment, NumbersExist}
+use Rattle.sdd_laws.specs.serial_orders.Orders.{IsOrderable, IsSerial}
+use Rattle.sdd_laws.specs.serial_orders.Precedence.{HasNoCycle}
 use Rattle.sdd_invariants.proofs.Lists.{any_at}
 use Rattle.sdd_lawful.specs.Given.{AreErasOf, HasSoundData}
 use Rattle.sdd_lawful.proofs.Applies.{keeps_applies}

@@ -6,18 +6,18 @@ use Rattle.std.proofs.Common.{ℕ, suc, ◌-◌, ◌<◌, ◌==◌, ◌∙◌, �
 use Rattle.std.proofs.Math.Decide.{dec_le}
 use Rattle.std.proofs.lemmas.Bool.{eqb-true}
 use Rattle.std.proofs.lemmas.List.{get_or_past}
-use Rattle.sdd_base.specs.Numbers.{dm_no}
-use Rattle.sdd_base.specs.declared.change.Change.{Change}
-use Rattle.sdd_base.specs.declared.number.DmNo.{DmNo}
-use Rattle.sdd_catalog.specs.Catalogue.{Catalogue, fragment_at, has_copy}
-use Rattle.sdd_catalog.specs.Numbers.{IsPlaced}
-use Rattle.sdd_catalog.specs.Rules.{IsSound}
-use Rattle.sdd_catalog.specs.declared.resolved.Fragment.{Fragment}
-use Rattle.sdd_catalog.proofs.Sound.{at_number, sound_fragments}
-use Rattle.sdd_log.specs.Entries.{Given, Log}
+use Rattle.sdd_invariants.specs.base.Numbers.{dm_no}
+use Rattle.sdd_invariants.specs.base.declared.change.Change.{Change}
+use Rattle.sdd_invariants.specs.base.declared.number.DmNo.{DmNo}
+use Rattle.sdd_invariants.specs.catalog.Catalogue.{Catalogue, fragment_at, has_copy}
+use Rattle.sdd_invariants.specs.catalog.Numbers.{IsPlaced}
+use Rattle.sdd_invariants.specs.catalog.Rules.{IsSound}
+use Rattle.sdd_invariants.specs.catalog.declared.resolved.Fragment.{Fragment}
+use Rattle.sdd_invariants.proofs.catalog.Sound.{at_number, sound_fragments}
+use Rattle.sdd_invariants.specs.logs.Entries.{Given, Log}
 use Rattle.sdd_laws.specs.Deeds.{GoesTo, Touches, by_change, by_no_class}
-use Rattle.sdd_order.specs.Attempts.{Committed}
-use Rattle.sdd_order.specs.Numbers.{IsModule}
+use Rattle.sdd_laws.specs.serial_orders.Attempts.{Committed}
+use Rattle.sdd_laws.specs.serial_orders.Numbers.{IsModule}
 use Rattle.sdd_invariants.specs.Seen.{changes_to}
 use Rattle.sdd_invariants.proofs.Bools.{or_left, or_right, same_number, true_or_false}
 use Rattle.sdd_invariants.proofs.Lists.{any_at}

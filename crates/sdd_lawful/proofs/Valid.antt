@@ -4,46 +4,46 @@ use Rattle.std.specs.List.{All, AllByRecursion, flat_map, fold, range_with_len}
 use Rattle.std.proofs.Common.{ℕ, ℤ, ◌&&◌, ◌++◌, ◌+◌, ◌-◌, ◌==◌, ◌∙◌, ◌∷◌, ◌≡◌, ◌≤◌, Bool, List, Some, [], ap, append_assoc, arith, cond, false, inl, inr, map, refl, slice_get, subst, suc, sym, true, zero}
 use Rattle.std.proofs.lemmas.Bool.{eqb-true}
 use Rattle.std.proofs.lemmas.List.Elements.{recursion_from_All}
-use Rattle.sdd_base.specs.Numbers.{dm_no, tm_no}
-use Rattle.sdd_base.specs.Words.{head_of}
-use Rattle.sdd_base.specs.declared.change.Change.{Change}
-use Rattle.sdd_base.specs.declared.number.DmNo.{DmNo}
-use Rattle.sdd_base.specs.declared.number.RelNo.{RelNo}
-use Rattle.sdd_base.specs.declared.site.Site.{Site}
-use Rattle.sdd_base.specs.declared.site.Site.TheVariants.{D, T, U}
-use Rattle.sdd_catalog.specs.Catalogue.{Catalogue, class_at, fragment_at, has_copy, numbers_to}
-use Rattle.sdd_catalog.specs.Rules.{IsSound}
+use Rattle.sdd_invariants.specs.base.Numbers.{dm_no, tm_no}
+use Rattle.sdd_invariants.specs.base.Words.{head_of}
+use Rattle.sdd_invariants.specs.base.declared.change.Change.{Change}
+use Rattle.sdd_invariants.specs.base.declared.number.DmNo.{DmNo}
+use Rattle.sdd_invariants.specs.base.declared.number.RelNo.{RelNo}
+use Rattle.sdd_invariants.specs.base.declared.site.Site.{Site}
+use Rattle.sdd_invariants.specs.base.declared.site.Site.TheVariants.{D, T, U}
+use Rattle.sdd_invariants.specs.catalog.Catalogue.{Catalogue, class_at, fragment_at, has_copy, numbers_to}
+use Rattle.sdd_invariants.specs.catalog.Rules.{IsSound}
 use Rattle.sdd_laws.proofs.CopyEntries.{held_by}
 use Rattle.sdd_laws.proofs.Members.{all_have, each_has}
-use Rattle.sdd_copy.specs.Contents.{Dated}
-use Rattle.sdd_history.specs.declared.record.Rec.{Rec}
-use Rattle.sdd_history.specs.declared.record.Rec.TheVariants.{Answer, Apply}
-use Rattle.sdd_lang.specs.Changes.{HasRow, IsChange}
-use Rattle.sdd_lang.specs.Database.{Database, Item, Row, database_of, item_cmp}
-use Rattle.sdd_lang.specs.Effect.{effect}
-use Rattle.sdd_lang.specs.Fits.{Fits, FitsStatement}
-use Rattle.sdd_lang.specs.Sound.{IsEntry, PutsHeld}
-use Rattle.sdd_lang.specs.declared.transaction.Txn.{Txn}
-use Rattle.sdd_lang.proofs.EffectChanges.{entry_placed}
-use Rattle.sdd_lang.proofs.SortedEntries.{each_inserted, item_cmp_exact}
-use Rattle.sdd_lang.proofs.StaysDatabase.{effect_changes, rows_make_database}
-use Rattle.sdd_wire.specs.declared.msg.Msg.{Msg}
-use Rattle.sdd_wire.specs.declared.msg.Msg.TheVariants.{Write}
-use Rattle.sdd_module.specs.SiteLog as site
-use Rattle.sdd_module.specs.SiteLog.{Act, Bases, Did, Handed, Log as SiteLog, Records, Redeclared, Sends, Setting, Submits, Ticked, sends_of_act}
-use Rattle.sdd_attempt.specs.Acts.{commit_act}
-use Rattle.sdd_attempt.specs.Attempts.{Attempt as Running, active}
-use Rattle.sdd_attempt.specs.Queues.{queue}
-use Rattle.sdd_dm.specs.Copies.{applied, changes_in, classes_of, dated, first_row, first_rows, is_apply}
-use Rattle.sdd_dm.specs.Pipes.{pipe}
-use Rattle.sdd_pipe.specs.Pipe.{head}
-use Rattle.sdd_log.specs.Entries.{Does, Given, Log}
-use Rattle.sdd_log.specs.Locals.{local_of, rows_of, setting_of, txn_at}
-use Rattle.sdd_log.specs.Permitted.{IsPermitted}
-use Rattle.sdd_log.specs.Snapshots.{base_of, frags_asked, is_at, items_of, snapshots, snapshots_at, with_item}
+use Rattle.sdd_laws.specs.copy.Contents.{Dated}
+use Rattle.sdd_invariants.specs.history.declared.record.Rec.{Rec}
+use Rattle.sdd_invariants.specs.history.declared.record.Rec.TheVariants.{Answer, Apply}
+use Rattle.sdd_invariants.specs.lang.Changes.{HasRow, IsChange}
+use Rattle.sdd_invariants.specs.lang.Database.{Database, Item, Row, database_of, item_cmp}
+use Rattle.sdd_invariants.specs.lang.Effect.{effect}
+use Rattle.sdd_invariants.specs.lang.Fits.{Fits, FitsStatement}
+use Rattle.sdd_invariants.specs.lang.Sound.{IsEntry, PutsHeld}
+use Rattle.sdd_invariants.specs.lang.declared.transaction.Txn.{Txn}
+use Rattle.sdd_invariants.proofs.lang.EffectChanges.{entry_placed}
+use Rattle.sdd_invariants.proofs.lang.SortedEntries.{each_inserted, item_cmp_exact}
+use Rattle.sdd_invariants.proofs.lang.StaysDatabase.{effect_changes, rows_make_database}
+use Rattle.sdd_invariants.specs.wire.declared.msg.Msg.{Msg}
+use Rattle.sdd_invariants.specs.wire.declared.msg.Msg.TheVariants.{Write}
+use Rattle.sdd_invariants.specs.site_module.SiteLog as site
+use Rattle.sdd_invariants.specs.site_module.SiteLog.{Act, Bases, Did, Handed, Log as SiteLog, Records, Redeclared, Sends, Setting, Submits, Ticked, sends_of_act}
+use Rattle.sdd_invariants.specs.attempt.Acts.{commit_act}
+use Rattle.sdd_invariants.specs.attempt.Attempts.{Attempt as Running, active}
+use Rattle.sdd_invariants.specs.attempt.Queues.{queue}
+use Rattle.sdd_invariants.specs.dm.Copies.{applied, changes_in, classes_of, dated, first_row, first_rows, is_apply}
+use Rattle.sdd_invariants.specs.dm.Pipes.{pipe}
+use Rattle.sdd_invariants.specs.pipe.Pipe.{head}
+use Rattle.sdd_invariants.specs.logs.Entries.{Does, Given, Log}
+use Rattle.sdd_invariants.specs.logs.Locals.{local_of, rows_of, setting_of, txn_at}
+use Rattle.sdd_invariants.specs.logs.Permitted.{IsPermitted}
+use Rattle.sdd_invariants.specs.logs.Snapshots.{base_of, frags_asked, is_at, items_of, snapshots, snapshots_at, with_item}
 use Rattle.sdd_invariants.proofs.Recorded.{start_of_active}
 use Rattle.sdd_invariants.specs.Puts.{IsWrite}
-use Rattle.sdd_order.specs.Numbers.{IsModule}
+use Rattle.sdd_laws.specs.serial_orders.Numbers.{IsModule}
 use Rattle.sdd_invariants.proofs.Installed.{apply_of_head, class_number, commit_put_is, head_put}
 use Rattle.sdd_invariants.proofs.Starting.{t_commit, u_commit}
 use Rattle.sdd_invariants.specs.Causes.{IsBased}

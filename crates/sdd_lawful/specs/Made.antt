@@ -1,10 +1,10 @@
 -- Which entry of the one log made a record of its history.
 use Rattle.std.specs.Prelude.{ℕ, ◌≡◌, ◌∷◌, ◌++◌, length, Option, Some, None}
-use Rattle.sdd_base.specs.Numbers.{txn_no}
-use Rattle.sdd_history.specs.declared.record.Rec.{Rec}
-use Rattle.sdd_history.specs.declared.record.Rec.TheVariants.{Submit, Nothing}
-use Rattle.sdd_module.specs.SiteLog.{Records}
-use Rattle.sdd_log.specs.Entries.{Entry, Log, Submitted, Notes, Does, history}
+use Rattle.sdd_invariants.specs.base.Numbers.{txn_no}
+use Rattle.sdd_invariants.specs.history.declared.record.Rec.{Rec}
+use Rattle.sdd_invariants.specs.history.declared.record.Rec.TheVariants.{Submit, Nothing}
+use Rattle.sdd_invariants.specs.site_module.SiteLog.{Records}
+use Rattle.sdd_invariants.specs.logs.Entries.{Entry, Log, Submitted, Notes, Does, history}
 
 -- an entry makes one record, or none
 abbrev pub record_of : Entry → Option Rec

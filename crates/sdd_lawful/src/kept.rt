@@ -1,13 +1,13 @@
 ghost use Rattle.std.specs.Prelude.{◌≡◌, ℕ, List, length};
 ghost use Rattle.std.specs.List.{AllZip};
-ghost use Rattle.sdd_base.specs.declared.number.RelNo.{RelNo};
-ghost use Rattle.sdd_base.specs.declared.number.TxnNo.{TxnNo};
-ghost use Rattle.sdd_lang.specs.Agree.{rows_in_fragment};
-ghost use Rattle.sdd_lang.specs.Database.{Row};
-ghost use Rattle.sdd_log.specs.Entries.{Given, Log, history};
-ghost use Rattle.sdd_log.specs.Lawful.{IsLawful};
-ghost use Rattle.sdd_log.specs.Locals.{IsForce, force_at, redeclares};
-ghost use Rattle.sdd_log.specs.Permitted.{IsPermitted};
+ghost use Rattle.sdd_invariants.specs.base.declared.number.RelNo.{RelNo};
+ghost use Rattle.sdd_invariants.specs.base.declared.number.TxnNo.{TxnNo};
+ghost use Rattle.sdd_invariants.specs.lang.Agree.{rows_in_fragment};
+ghost use Rattle.sdd_invariants.specs.lang.Database.{Row};
+ghost use Rattle.sdd_invariants.specs.logs.Entries.{Given, Log, history};
+ghost use Rattle.sdd_invariants.specs.logs.Lawful.{IsLawful};
+ghost use Rattle.sdd_invariants.specs.logs.Locals.{IsForce, force_at, redeclares};
+ghost use Rattle.sdd_invariants.specs.logs.Permitted.{IsPermitted};
 ghost use Rattle.sdd_laws.specs.Eras.{Eras};
 ghost use Rattle.sdd_laws.specs.Few.{AreFew};
 ghost use Rattle.sdd_laws.specs.Kept.{KeepsLaws};
@@ -15,9 +15,9 @@ ghost use Rattle.sdd_laws.specs.Numbers.{TxnsExist};
 ghost use Rattle.sdd_laws.specs.Redeclares.{KeepsEras};
 ghost use Rattle.sdd_laws.specs.Replay.{AreAllApplied, IsReplyOf, run};
 ghost use Rattle.sdd_laws.specs.Snapshots.{copy_at, items_of};
-ghost use Rattle.sdd_order.specs.Numbers.{NumbersExist};
-ghost use Rattle.sdd_order.specs.Orders.{IsOrderable, IsSerial};
-ghost use Rattle.sdd_order.specs.Precedence.{HasNoCycle};
+ghost use Rattle.sdd_laws.specs.serial_orders.Numbers.{NumbersExist};
+ghost use Rattle.sdd_laws.specs.serial_orders.Orders.{IsOrderable, IsSerial};
+ghost use Rattle.sdd_laws.specs.serial_orders.Precedence.{HasNoCycle};
 ghost use Rattle.sdd_lawful.specs.Given.{AreErasOf, AreNumbered, HasSoundData, IsSoundGiven, SubmitGiven, one_era};
 
 /// All laws by which there is a serial order. That of eras is taken: it holds of lawful logs alone.

@@ -1,11 +1,11 @@
 ghost use Rattle.std.specs.Prelude.{◌≡◌, ◌<◌, ◌++◌, ◌∷◌, ℕ, List, length, Some};
-ghost use Rattle.sdd_base.specs.declared.number.RelNo.{RelNo};
-ghost use Rattle.sdd_lang.specs.Database.{Row};
-ghost use Rattle.sdd_history.specs.declared.record.Rec.{Rec};
-ghost use Rattle.sdd_log.specs.Entries.{Entry, Given, Log, history, marks};
-ghost use Rattle.sdd_log.specs.Locals.{IsForce, force_at, redeclares};
-ghost use Rattle.sdd_log.specs.Permitted.{IsPermitted};
-ghost use Rattle.sdd_order.specs.Places.{Stands, event_at};
+ghost use Rattle.sdd_invariants.specs.base.declared.number.RelNo.{RelNo};
+ghost use Rattle.sdd_invariants.specs.lang.Database.{Row};
+ghost use Rattle.sdd_invariants.specs.history.declared.record.Rec.{Rec};
+ghost use Rattle.sdd_invariants.specs.logs.Entries.{Entry, Given, Log, history, marks};
+ghost use Rattle.sdd_invariants.specs.logs.Locals.{IsForce, force_at, redeclares};
+ghost use Rattle.sdd_invariants.specs.logs.Permitted.{IsPermitted};
+ghost use Rattle.sdd_laws.specs.serial_orders.Places.{Stands, event_at};
 ghost use Rattle.sdd_laws.specs.Answers.{KeepsAnswers};
 ghost use Rattle.sdd_laws.specs.Applies.{KeepsApplies};
 ghost use Rattle.sdd_laws.specs.Conditions.{KeepsConditions};

@@ -2,9 +2,9 @@
 use Rattle.std.proofs.Common.{List, ap}
 use Rattle.std.specs.Prelude.{is_some}
 use Rattle.std.specs.List.{All}
-use Rattle.sdd_base.specs.declared.number.RelNo.{RelNo}
-use Rattle.sdd_catalog.specs.Catalogue.{Catalogue}
-use Rattle.sdd_catalog.specs.Rules.{IsSound}
+use Rattle.sdd_lang.specs.base.declared.number.RelNo.{RelNo}
+use Rattle.sdd_lang.specs.catalog.Catalogue.{Catalogue}
+use Rattle.sdd_lang.specs.catalog.Rules.{IsSound}
 use Rattle.sdd_history.specs.Records.{History}
 use Rattle.sdd_lang.specs.declared.transaction.Txn.{Txn as Text}
 use Rattle.sdd_lang.specs.Database.{Row, database_of}

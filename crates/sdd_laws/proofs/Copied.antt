@@ -4,18 +4,18 @@ use Rattle.std.specs.Prelude.{Contains}
 use Rattle.std.specs.List.{AllByRecursion}
 use Rattle.std.proofs.lemmas.Bool.{eqb-false}
 use Rattle.std.proofs.lemmas.List.{length-map}
-use Rattle.sdd_base.specs.Numbers.{dm_no}
-use Rattle.sdd_base.specs.declared.number.DmNo.{DmNo}
-use Rattle.sdd_base.proofs.Membership.{Contains-here}
-use Rattle.sdd_catalog.specs.Catalogue.{Catalogue, parts_of, fragment_from, fragment_at, relation_names, has_copy, lowest_copy, numbers_to}
-use Rattle.sdd_catalog.specs.Numbers.{IsPlaced}
-use Rattle.sdd_catalog.specs.Rules.{IsSound, fragment_rules}
-use Rattle.sdd_catalog.specs.declared.parts.FragmentPart.{FragmentPart}
-use Rattle.sdd_catalog.specs.declared.parts.Parts.{Parts}
-use Rattle.sdd_catalog.specs.declared.resolved.Fragment.{Fragment}
-use Rattle.sdd_catalog.proofs.Found.{both_empty, each_unfound, empty_of_map}
-use Rattle.sdd_catalog.proofs.Sound.{at_number, each_image, sound_fragments}
-use Rattle.sdd_catalog.proofs.Validity.{no_faults, unbroken}
+use Rattle.sdd_lang.specs.base.Numbers.{dm_no}
+use Rattle.sdd_lang.specs.base.declared.number.DmNo.{DmNo}
+use Rattle.sdd_lang.proofs.base.Membership.{Contains-here}
+use Rattle.sdd_lang.specs.catalog.Catalogue.{Catalogue, parts_of, fragment_from, fragment_at, relation_names, has_copy, lowest_copy, numbers_to}
+use Rattle.sdd_lang.specs.catalog.Numbers.{IsPlaced}
+use Rattle.sdd_lang.specs.catalog.Rules.{IsSound, fragment_rules}
+use Rattle.sdd_lang.specs.catalog.declared.parts.FragmentPart.{FragmentPart}
+use Rattle.sdd_lang.specs.catalog.declared.parts.Parts.{Parts}
+use Rattle.sdd_lang.specs.catalog.declared.resolved.Fragment.{Fragment}
+use Rattle.sdd_lang.proofs.catalog.Found.{both_empty, each_unfound, empty_of_map}
+use Rattle.sdd_lang.proofs.catalog.Sound.{at_number, each_image, sound_fragments}
+use Rattle.sdd_lang.proofs.catalog.Validity.{no_faults, unbroken}
 use Rattle.sdd_order.proofs.Members.{Contains-range, passes_member}
 use Rattle.sdd_laws.proofs.Lists.{found_where_any}
 

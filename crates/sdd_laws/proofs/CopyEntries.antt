@@ -8,8 +8,8 @@ use Rattle.std.specs.Map.{keys_of}
 use Rattle.std.proofs.lemmas.Bool.Decides.{Decides-eqb}
 use Rattle.std.proofs.lemmas.Cmp.{nat_cmp_total, tied_itself}
 use Rattle.std.proofs.lemmas.Map.Keys.{sorted_head, sorted_tail}
-use Rattle.sdd_base.specs.declared.change.Change.{Change}
-use Rattle.sdd_catalog.specs.Catalogue.{Catalogue, fragment_at, fragment_of}
+use Rattle.sdd_lang.specs.base.declared.change.Change.{Change}
+use Rattle.sdd_lang.specs.catalog.Catalogue.{Catalogue, fragment_at, fragment_of}
 use Rattle.sdd_lang.specs.Database.{Item, Row, item_cmp}
 use Rattle.sdd_lang.specs.Serial.{item_of}
 use Rattle.sdd_copy.specs.Contents.{Dated, contents}

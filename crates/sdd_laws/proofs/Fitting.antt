@@ -5,15 +5,15 @@ use Rattle.std.specs.List.{All, AllByRecursion}
 use Rattle.std.proofs.lemmas.Bool.{ne_eqb, eqb-true}
 use Rattle.std.proofs.lemmas.List.Elements.{All-contains}
 use Rattle.std.proofs.lemmas.Option.{same_Some}
-use Rattle.sdd_base.specs.Numbers.{frag_no, txn_no}
-use Rattle.sdd_base.specs.Words.{ascending, contains}
-use Rattle.sdd_base.specs.declared.change.Change.{Change}
-use Rattle.sdd_base.specs.declared.condition.Cond.{Cond}
-use Rattle.sdd_base.specs.declared.number.FragNo.{FragNo}
-use Rattle.sdd_base.specs.declared.number.RelNo.{RelNo}
-use Rattle.sdd_catalog.specs.Catalogue.{Catalogue, has_copy, reads_at}
-use Rattle.sdd_catalog.specs.Rules.{IsSound}
-use Rattle.sdd_catalog.specs.declared.resolved.Fragment.{Fragment}
+use Rattle.sdd_lang.specs.base.Numbers.{frag_no, txn_no}
+use Rattle.sdd_lang.specs.base.Words.{ascending, contains}
+use Rattle.sdd_lang.specs.base.declared.change.Change.{Change}
+use Rattle.sdd_lang.specs.base.declared.condition.Cond.{Cond}
+use Rattle.sdd_lang.specs.base.declared.number.FragNo.{FragNo}
+use Rattle.sdd_lang.specs.base.declared.number.RelNo.{RelNo}
+use Rattle.sdd_lang.specs.catalog.Catalogue.{Catalogue, has_copy, reads_at}
+use Rattle.sdd_lang.specs.catalog.Rules.{IsSound}
+use Rattle.sdd_lang.specs.catalog.declared.resolved.Fragment.{Fragment}
 use Rattle.sdd_history.specs.declared.record.Rec.{Rec}
 use Rattle.sdd_history.specs.declared.record.Rec.TheVariants.{Commit}
 use Rattle.sdd_history.specs.Records.{History}

@@ -2,9 +2,9 @@
 use Rattle.std.proofs.Common.{ℕ, ◌≡◌, ◌==◌, ℤ, List, Option, Some, ap, sym, ◌∙◌, subst}
 use Rattle.std.specs.List.{Contains}
 use Rattle.std.proofs.lemmas.Bool.Decides.{Decides-eqb}
-use Rattle.sdd_base.specs.declared.change.Change.{Change}
-use Rattle.sdd_catalog.specs.Catalogue.{Catalogue, fragment_at, fragment_of}
-use Rattle.sdd_catalog.specs.Rules.{IsSound}
+use Rattle.sdd_lang.specs.base.declared.change.Change.{Change}
+use Rattle.sdd_lang.specs.catalog.Catalogue.{Catalogue, fragment_at, fragment_of}
+use Rattle.sdd_lang.specs.catalog.Rules.{IsSound}
 use Rattle.sdd_lang.specs.Agree.{rows_in_fragment}
 use Rattle.sdd_lang.specs.Database.{Item, Row, Database, item_cmp}
 use Rattle.sdd_lang.specs.Sound.{IsDatabase}

@@ -6,7 +6,7 @@ use Rattle.std.specs.List.Sorted.{IsStrictlySortedBy}
 use Rattle.std.specs.Map.{keys_of}
 use Rattle.std.specs.BTreeMap.{insert_entry}
 use Rattle.std.proofs.lemmas.Map.Lookups.{CmpEqualImpliesEq}
-use Rattle.sdd_base.proofs.Membership.{Contains-nil, Contains-here, Contains-later, Contains-cases}
+use Rattle.sdd_lang.proofs.base.Membership.{Contains-nil, Contains-here, Contains-later, Contains-cases}
 use Rattle.sdd_lang.proofs.SortedEntries.{inserted_sorted}
 use Rattle.sdd_laws.proofs.LookUps.{put_there, put_or_there, still_there}
 

@@ -32,3 +32,12 @@ pub mod Together
 pub mod Values
 pub mod Worked
 pub mod WorkedReplay
+pub use Rattle.sdd_lang.proofs.base as base
+pub use Rattle.sdd_lang.proofs.catalog as catalog
+pub use Rattle.sdd_history.proofs as history
+pub use Rattle.sdd_graph.proofs as graph
+pub use Rattle.sdd_protocol.proofs as protocol
+pub use Rattle.sdd_lang.proofs as lang
+pub use Rattle.sdd_eras.proofs as class_eras
+pub use Rattle.sdd_copy.proofs as copy
+pub use Rattle.sdd_order.proofs as serial_orders

@@ -2,8 +2,8 @@
 use Rattle.std.proofs.Common.{◌≡◌, inl, inr, Bool, true, false, cond, List, [], ◌∷◌, ◌++◌, map, Option, Some, None, refl, ap, sym, ◌∙◌, subst}
 use Rattle.std.specs.List.{Contains, AllByRecursion, filter, filter_map, flat_map, cons_option}
 use Rattle.std.proofs.lemmas.List.Elements.{Contains-append_left, Contains-append_right, Contains-append_cases}
-use Rattle.sdd_base.proofs.Membership.{Contains-nil, Contains-here, Contains-later, Contains-cases}
-use Rattle.sdd_catalog.proofs.Members.{IsIn, at_in}
+use Rattle.sdd_lang.proofs.base.Membership.{Contains-nil, Contains-here, Contains-later, Contains-cases}
+use Rattle.sdd_lang.proofs.catalog.Members.{IsIn, at_in}
 
 -- between the two forms of membership
 

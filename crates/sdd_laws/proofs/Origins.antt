@@ -3,9 +3,9 @@
 use Rattle.std.proofs.Common.{ℕ, ◌≡◌, inl, inr, List, map, Some, ap, sym, ◌∙◌, subst, arith}
 use Rattle.std.specs.List.{Contains}
 use Rattle.std.proofs.lemmas.List.Elements.{Contains-append_left, Contains-append_right, Contains-append_cases, All-contains}
-use Rattle.sdd_base.specs.declared.change.Change.{Change}
-use Rattle.sdd_catalog.specs.Catalogue.{Catalogue, fragment_at, fragment_of}
-use Rattle.sdd_catalog.specs.Rules.{IsSound}
+use Rattle.sdd_lang.specs.base.declared.change.Change.{Change}
+use Rattle.sdd_lang.specs.catalog.Catalogue.{Catalogue, fragment_at, fragment_of}
+use Rattle.sdd_lang.specs.catalog.Rules.{IsSound}
 use Rattle.sdd_lang.specs.Database.{Item, Row, Database, item_cmp}
 use Rattle.sdd_lang.specs.Serial.{item_of}
 use Rattle.sdd_lang.specs.Sound.{IsDatabase, IsEntry}

@@ -3,9 +3,9 @@ use Rattle.std.proofs.Common.{ℕ, subst, ◌==◌, ◌≡◌, ◌≢◌, nat_lt
 use Rattle.std.specs.Prelude.{Contains}
 use Rattle.std.specs.List.{list_any}
 use Rattle.std.proofs.lemmas.Bool.{and_parts, eqb-true, eqb-false, not-true, ltb-true, false≢true}
-use Rattle.sdd_base.specs.declared.change.Change.{Change}
-use Rattle.sdd_catalog.specs.Catalogue.{Catalogue}
-use Rattle.sdd_base.specs.Numbers.{dm_no, txn_no}
+use Rattle.sdd_lang.specs.base.declared.change.Change.{Change}
+use Rattle.sdd_lang.specs.catalog.Catalogue.{Catalogue}
+use Rattle.sdd_lang.specs.base.Numbers.{dm_no, txn_no}
 use Rattle.sdd_history.specs.declared.record.Rec.{Rec}
 use Rattle.sdd_history.specs.declared.record.Rec.TheVariants.{Submit, Start, Arrive, Wait, Answer, Reject, Commit, Apply, Pass, Nothing}
 use Rattle.sdd_history.specs.Records.{History}

@@ -4,12 +4,12 @@ use Rattle.std.specs.Prelude.{filter, unwrap_or, Contains}
 use Rattle.std.specs.List.{All, list_any, flat_map, position_or_len}
 use Rattle.std.proofs.lemmas.Bool.{cases_Bool}
 use Rattle.std.proofs.lemmas.List.Elements.{All-contains, All-nil}
-use Rattle.sdd_base.specs.Numbers.{dm_no, tm_no, txn_no}
-use Rattle.sdd_base.specs.Words.{ascending, contains}
-use Rattle.sdd_base.specs.declared.number.RelNo.{RelNo}
-use Rattle.sdd_base.proofs.Membership.{Contains-here, Contains-later}
-use Rattle.sdd_catalog.specs.Catalogue.{Catalogue}
-use Rattle.sdd_catalog.specs.Rules.{IsSound}
+use Rattle.sdd_lang.specs.base.Numbers.{dm_no, tm_no, txn_no}
+use Rattle.sdd_lang.specs.base.Words.{ascending, contains}
+use Rattle.sdd_lang.specs.base.declared.number.RelNo.{RelNo}
+use Rattle.sdd_lang.proofs.base.Membership.{Contains-here, Contains-later}
+use Rattle.sdd_lang.specs.catalog.Catalogue.{Catalogue}
+use Rattle.sdd_lang.specs.catalog.Rules.{IsSound}
 use Rattle.sdd_laws.proofs.Members.{Contains-flat_map, Contains-from_flat_map}
 use Rattle.sdd_copy.specs.Contents.{contents}
 use Rattle.sdd_history.specs.declared.record.Rec.{Rec}

@@ -1,11 +1,11 @@
 -- The serial run along a serial order gives the replies of the Commits, and leaves what the copies hold.
 use Rattle.std.proofs.Common.{ℕ, ◌≡◌, true, List, [], ◌∷◌, map, Some, refl, sym, ap, ◌∙◌, subst}
 use Rattle.std.specs.List.{All, AllZip, cons_option}
-use Rattle.sdd_base.proofs.Membership.{Contains-here}
-use Rattle.sdd_base.specs.declared.number.RelNo.{RelNo}
-use Rattle.sdd_base.specs.declared.number.TxnNo.{TxnNo}
-use Rattle.sdd_catalog.specs.Catalogue.{Catalogue}
-use Rattle.sdd_catalog.specs.Rules.{IsSound}
+use Rattle.sdd_lang.proofs.base.Membership.{Contains-here}
+use Rattle.sdd_lang.specs.base.declared.number.RelNo.{RelNo}
+use Rattle.sdd_lang.specs.base.declared.number.TxnNo.{TxnNo}
+use Rattle.sdd_lang.specs.catalog.Catalogue.{Catalogue}
+use Rattle.sdd_lang.specs.catalog.Rules.{IsSound}
 use Rattle.sdd_history.specs.Records.{History}
 use Rattle.sdd_lang.specs.declared.transaction.Txn.{Txn}
 use Rattle.sdd_lang.specs.Agree.{rows_in_fragment}

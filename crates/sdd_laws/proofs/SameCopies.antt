@@ -1,7 +1,7 @@
 -- Copies at which the same transactions that change the fragment are applied are equal.
 use Rattle.std.proofs.Common.{ℕ, ◌≡◌, subst, true, List}
-use Rattle.sdd_base.specs.declared.number.RelNo.{RelNo}
-use Rattle.sdd_catalog.specs.Catalogue.{Catalogue}
+use Rattle.sdd_lang.specs.base.declared.number.RelNo.{RelNo}
+use Rattle.sdd_lang.specs.catalog.Catalogue.{Catalogue}
 use Rattle.sdd_laws.specs.Committed.{Writers}
 use Rattle.sdd_laws.proofs.SameContents.{same_copies}
 use Rattle.sdd_history.specs.Records.{History}

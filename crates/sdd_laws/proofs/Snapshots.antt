@@ -2,10 +2,10 @@
 use Rattle.std.proofs.Common.{ℕ, zero, suc, ◌≡◌, ◌<◌, ℤ, true, List, [], ◌∷◌, Some, refl, ap, sym, ◌∙◌, subst, arith}
 use Rattle.std.specs.List.{Contains, fold, filter}
 use Rattle.std.proofs.lemmas.List.Elements.{All-contains}
-use Rattle.sdd_base.proofs.Membership.{Contains-here, Contains-later}
-use Rattle.sdd_base.specs.declared.change.Change.{Change}
-use Rattle.sdd_catalog.specs.Catalogue.{Catalogue, fragment_at, fragment_of}
-use Rattle.sdd_catalog.specs.Rules.{IsSound}
+use Rattle.sdd_lang.proofs.base.Membership.{Contains-here, Contains-later}
+use Rattle.sdd_lang.specs.base.declared.change.Change.{Change}
+use Rattle.sdd_lang.specs.catalog.Catalogue.{Catalogue, fragment_at, fragment_of}
+use Rattle.sdd_lang.specs.catalog.Rules.{IsSound}
 use Rattle.sdd_lang.specs.declared.effect.Effect.{Effect}
 use Rattle.sdd_lang.specs.Agree.{rows_in_fragment}
 use Rattle.sdd_lang.specs.Changes.{HasRow, IsChange}

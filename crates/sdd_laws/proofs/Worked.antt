@@ -1,7 +1,7 @@
 -- Two transactions that meet what the laws say of writers: the second puts another row with the key of the first's.
 use Rattle.std.proofs.Common.{ℕ, ◌≤◌, ◌≡◌, ◌*◌, inl, inr, List, [], ◌∷◌, refl, sym, ◌∙◌, subst, arith}
 use Rattle.std.specs.List.{Contains}
-use Rattle.sdd_base.proofs.Membership.{Contains-nil, Contains-cases}
+use Rattle.sdd_lang.proofs.base.Membership.{Contains-nil, Contains-cases}
 use Rattle.sdd_lang.specs.Examples.{accounts}
 use Rattle.sdd_laws.specs.Committed.{puts}
 use Rattle.sdd_laws.specs.Values.{IsPlaced, AreWriters}

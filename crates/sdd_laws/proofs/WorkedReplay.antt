@@ -3,8 +3,8 @@ use Rattle.std.proofs.Common.{ℕ, ◌<◌, ◌≤◌, ◌≡◌, inl, inr, pos,
 use Rattle.std.specs.List.{Contains}
 use Rattle.std.proofs.lemmas.Bool.{false≢true}
 use Rattle.std.proofs.lemmas.List.Elements.{All-from_recursion}
-use Rattle.sdd_base.proofs.Membership.{Contains-nil, Contains-here, Contains-cases}
-use Rattle.sdd_base.specs.Numbers.{frag_no}
+use Rattle.sdd_lang.proofs.base.Membership.{Contains-nil, Contains-here, Contains-cases}
+use Rattle.sdd_lang.specs.base.Numbers.{frag_no}
 use Rattle.sdd_lang.specs.declared.statement.Stmt.{Stmt}
 use Rattle.sdd_lang.specs.declared.statement.Stmt.TheVariants.{Put}
 use Rattle.sdd_lang.specs.declared.transaction.Txn.{Txn}

@@ -1,8 +1,8 @@
 -- Rows with which two modules begin, and which agree on a fragment.
 use Rattle.std.specs.Prelude.{ℕ, ◌≡◌, List, [], ◌∷◌, refl}
-use Rattle.sdd_base.specs.Numbers.{rel_no}
-use Rattle.sdd_base.specs.declared.number.RelNo.{RelNo}
-use Rattle.sdd_catalog.specs.Catalogue.{Catalogue}
+use Rattle.sdd_lang.specs.base.Numbers.{rel_no}
+use Rattle.sdd_lang.specs.base.declared.number.RelNo.{RelNo}
+use Rattle.sdd_lang.specs.catalog.Catalogue.{Catalogue}
 use Rattle.sdd_lang.specs.Agree.{rows_in_fragment}
 use Rattle.sdd_lang.specs.Database.{Row, database_of}
 use Rattle.sdd_order.specs.Examples.{crossing, row_of}

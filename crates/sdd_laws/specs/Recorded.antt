@@ -1,7 +1,7 @@
 -- What the laws of a history say of its committed transactions, as far as replay needs it.
 use Rattle.std.specs.Prelude.{ℕ, ◌<◌, ◌≤◌, ◌≡◌, true, false, List, Contains}
 use Rattle.std.specs.List.{All}
-use Rattle.sdd_catalog.specs.Catalogue.{Catalogue}
+use Rattle.sdd_lang.specs.catalog.Catalogue.{Catalogue}
 use Rattle.sdd_lang.specs.Database.{Item, Row, Database}
 use Rattle.sdd_lang.specs.Effect.{effect}
 use Rattle.sdd_lang.specs.Fits.{Fits}

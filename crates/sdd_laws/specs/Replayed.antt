@@ -1,8 +1,8 @@
 -- What one plain database gives that runs the transactions one by one.
 use Rattle.std.specs.Prelude.{ℕ, ◌≡◌, Bool, true, List, [], ◌∷◌, map, Contains}
-use Rattle.sdd_base.specs.declared.change.Change.{Change}
-use Rattle.sdd_base.specs.declared.reply.Reply.{Reply}
-use Rattle.sdd_catalog.specs.Catalogue.{Catalogue}
+use Rattle.sdd_lang.specs.base.declared.change.Change.{Change}
+use Rattle.sdd_lang.specs.base.declared.reply.Reply.{Reply}
+use Rattle.sdd_lang.specs.catalog.Catalogue.{Catalogue}
 use Rattle.sdd_lang.specs.Agree.{rows_in_fragment}
 use Rattle.sdd_lang.specs.Database.{Item, Database}
 use Rattle.sdd_lang.specs.Effect.{effect}

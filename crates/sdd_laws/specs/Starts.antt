@@ -1,7 +1,7 @@
 -- The law of Starts (H1): which attempts there are, in which order they start, and with which times.
 use Rattle.std.specs.Prelude.{ℕ, suc, ◌%◌, ◌≤◌, ◌<◌, ◌≡◌, ◌==◌, Bool, false, not, List, length, filter, take, Some, is_some}
-use Rattle.sdd_base.specs.declared.number.Ts.{Ts}
-use Rattle.sdd_catalog.specs.Catalogue.{Catalogue}
+use Rattle.sdd_lang.specs.base.declared.number.Ts.{Ts}
+use Rattle.sdd_lang.specs.catalog.Catalogue.{Catalogue}
 use Rattle.sdd_history.specs.declared.record.Rec.{Rec}
 use Rattle.sdd_history.specs.declared.record.Rec.TheVariants.{Start}
 use Rattle.sdd_history.specs.Records.{History}

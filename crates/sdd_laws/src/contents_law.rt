@@ -1,8 +1,8 @@
 //! Laws of copies: facts about the definitions, each carried by the contract of a function. A
 //! program has no need to call them. They hold of transactions of any type `T`.
 ghost use Rattle.std.specs.Prelude.{ℕ, ℤ, ◌≡◌, ◌↔◌, Bool, List, Contains, Option, Some, ◌++◌, filter, map};
-ghost use Rattle.sdd_base.specs.declared.change.Change as change;
-ghost use Rattle.sdd_catalog.specs.Catalogue.{fragment_at, fragment_of};
+ghost use Rattle.sdd_lang.specs.base.declared.change.Change as change;
+ghost use Rattle.sdd_lang.specs.catalog.Catalogue.{fragment_at, fragment_of};
 ghost use Rattle.sdd_lang.specs.Database.{Item, Row, Database};
 ghost use Rattle.sdd_lang.specs.Sound.{IsDatabase};
 ghost use Rattle.sdd_copy.specs.Contents.{Dated, of_fragment, rows_left, contents};
@@ -10,7 +10,7 @@ ghost use Rattle.sdd_copy.specs.Sets.{AreSame};
 ghost use Rattle.sdd_laws.specs.Committed.{Writers, first_row, all_dated, copy_of, taken};
 ghost use Rattle.sdd_laws.specs.Values.{IsValue, ArePlaced, LeaveOneRow, AreWriters};
 
-use sdd_catalog::Catalogue;
+use sdd_lang::sdd_catalog::Catalogue;
 
 /// Each item of a fragment has a value, and one alone.
 pub fn law_one_value(cat: &Catalogue)

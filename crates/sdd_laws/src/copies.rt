@@ -1,12 +1,12 @@
 ghost use Rattle.std.specs.Prelude.{ℕ, ◌≡◌, option_map};
-ghost use Rattle.sdd_base.specs.Numbers.{time_at};
+ghost use Rattle.sdd_lang.specs.base.Numbers.{time_at};
 ghost use Rattle.sdd_order.specs.Attempts.{attempt_of};
 ghost use Rattle.sdd_order.specs.Precedence as precedence;
 ghost use Rattle.sdd_laws.specs.Copied.{AreAppliedAlike};
 ghost use Rattle.sdd_laws.specs.Snapshots as snapshots;
 
-use sdd_base::{DmNo, RelNo, Row, Ts, TxnNo};
-use sdd_catalog::Catalogue;
+use sdd_lang::sdd_base::{DmNo, RelNo, Row, Ts, TxnNo};
+use sdd_lang::sdd_catalog::Catalogue;
 use sdd_history::Rec;
 
 /// Equal copies: two copies of a fragment are equal, each before some place of the history, where of

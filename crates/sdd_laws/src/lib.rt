@@ -29,3 +29,14 @@ pub use meeting::{Meeting, may_stand_first};
 pub use replay::law_replay;
 pub use replay_along_law::law_replay_along;
 pub use taking::{counts, outdoes};
+
+// What lies below, for the crates above.
+pub use sdd_copy;
+pub use sdd_eras;
+pub use sdd_graph;
+pub use sdd_history;
+pub use sdd_lang::sdd_base;
+pub use sdd_lang::sdd_catalog;
+pub use sdd_lang;
+pub use sdd_order;
+pub use sdd_protocol;

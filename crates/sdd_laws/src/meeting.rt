@@ -1,7 +1,7 @@
 ghost use Rattle.std.specs.Prelude.{◌≡◌};
 ghost use Rattle.sdd_laws.specs.Order.{may_stand_first};
 
-use sdd_base::Ts;
+use sdd_lang::sdd_base::Ts;
 
 /// How two committed transactions meet at a fragment.
 #[derive(Clone, Copy, Debug, PartialEq, Eq)]

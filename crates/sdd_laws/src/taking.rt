@@ -1,9 +1,9 @@
 ghost use Rattle.std.specs.Prelude.{◌≡◌, ℕ, ◌≤◌, IsTrue, Some};
-ghost use Rattle.sdd_base.specs.declared.change.Change as change;
+ghost use Rattle.sdd_lang.specs.base.declared.change.Change as change;
 ghost use Rattle.sdd_copy.specs.Contents.{newer};
 ghost use Rattle.sdd_laws.specs.Committed.{counts};
 
-use sdd_base::{Change, FragNo, Ts};
+use sdd_lang::sdd_base::{Change, FragNo, Ts};
 
 /// Whether a copy of the fragment takes a change of a committed transaction: it does where the
 /// transaction is applied at the copy's module and the change is of the fragment.

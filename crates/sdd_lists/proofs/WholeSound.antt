@@ -2,18 +2,18 @@
 use Rattle.std.proofs.Common.{◌≡◌, List, [], ◌∷◌, ◌++◌, map, refl, sym, ap, subst, ◌∙◌}
 use Rattle.std.specs.List.{All, AllByRecursion}
 use Rattle.std.proofs.lemmas.List.Elements.{All-from_recursion, recursion_from_All}
-use Rattle.sdd_base.specs.Name.{IsName}
-use Rattle.sdd_catalog.specs.Catalogue.{Catalogue, catalogue_of, class_of, parts_of}
-use Rattle.sdd_catalog.specs.Eras.{extended, whole}
-use Rattle.sdd_catalog.specs.Names.{Text}
-use Rattle.sdd_catalog.specs.Naming.{AreNamed, IsNamed}
-use Rattle.sdd_catalog.specs.Rules as rules_of
-use Rattle.sdd_catalog.specs.Rules.{IsSound}
-use Rattle.sdd_catalog.specs.declared.parts.ClassPart.{ClassPart}
-use Rattle.sdd_catalog.specs.declared.parts.Parts.{Parts}
-use Rattle.sdd_catalog.specs.declared.resolved.Class.{Class}
-use Rattle.sdd_catalog.specs.declared.resolved.Fragment.{Fragment}
-use Rattle.sdd_catalog.proofs.RoundTrip.{parts_back}
+use Rattle.sdd_script.specs.base.Name.{IsName}
+use Rattle.sdd_script.specs.catalog.Catalogue.{Catalogue, catalogue_of, class_of, parts_of}
+use Rattle.sdd_script.specs.catalog.Eras.{extended, whole}
+use Rattle.sdd_script.specs.catalog.Names.{Text}
+use Rattle.sdd_script.specs.catalog.Naming.{AreNamed, IsNamed}
+use Rattle.sdd_script.specs.catalog.Rules as rules_of
+use Rattle.sdd_script.specs.catalog.Rules.{IsSound}
+use Rattle.sdd_script.specs.catalog.declared.parts.ClassPart.{ClassPart}
+use Rattle.sdd_script.specs.catalog.declared.parts.Parts.{Parts}
+use Rattle.sdd_script.specs.catalog.declared.resolved.Class.{Class}
+use Rattle.sdd_script.specs.catalog.declared.resolved.Fragment.{Fragment}
+use Rattle.sdd_script.proofs.catalog.RoundTrip.{parts_back}
 use Rattle.sdd_eras.specs.Further.{further_faults, with_classes, with_further}
 use Rattle.sdd_eras.proofs.Extended.{extended_is, further_are_all}
 use Rattle.sdd_script.specs.ClassLists.{joined}

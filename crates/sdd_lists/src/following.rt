@@ -1,12 +1,12 @@
 //! The catalogues that follow each other with each list of classes.
 ghost use Rattle.std.specs.Prelude.{◌≡◌, [], length, IfOk};
-ghost use Rattle.sdd_catalog.specs.Eras.{eras, retired, whole};
+ghost use Rattle.sdd_script.specs.catalog.Eras.{eras, retired, whole};
 ghost use Rattle.sdd_eras.specs.Further.{further_faults, with_further};
 ghost use Rattle.sdd_lists.specs.InForce.{numbered};
 ghost use Rattle.sdd_script.specs.Valid.{AreValidLists};
 
-use sdd_base::{NoMemory, Parcel};
-use sdd_catalog::{CatError, Catalogue, ClassPart, ClassParts};
+use sdd_script::sdd_base::{NoMemory, Parcel};
+use sdd_script::sdd_catalog::{CatError, Catalogue, ClassPart, ClassParts};
 use sdd_eras::{extend, retire};
 use std::alloc::Global;
 use std::mem;

@@ -1,15 +1,15 @@
 -- What holds of each entry of a site's log, wherever it may come, holds of the log that a permitted log gives the site.
 use Rattle.std.proofs.Common.{ℕ, suc, Bool, true, false, [], ◌∷◌, ◌≡◌, refl, sym, subst, Option, Some, None}
 use Rattle.std.specs.Bool.{if◌then◌else◌}
-use Rattle.sdd_base.specs.Sites.{same_site}
-use Rattle.sdd_base.specs.declared.site.Site.{Site}
-use Rattle.sdd_base.specs.declared.site.Site.TheVariants.{U, T, D}
-use Rattle.sdd_base.specs.declared.event.Event.{Event}
-use Rattle.sdd_base.specs.declared.event.Event.TheVariants.{Submit, Deliver, Lose, Repeat, Resend, Tick, Settle, Redeclare, Down, Up}
-use Rattle.sdd_lang.specs.declared.transaction.Txn.{Txn}
-use Rattle.sdd_wire.specs.declared.msg.Msg.{Msg}
-use Rattle.sdd_module.specs.SiteLog.{Force, Handed, Ticked, Submits, Redeclared, Did, Act, Each}
-use Rattle.sdd_module.specs.SiteLog as site
+use Rattle.sdd_attempt.specs.base.Sites.{same_site}
+use Rattle.sdd_attempt.specs.base.declared.site.Site.{Site}
+use Rattle.sdd_attempt.specs.base.declared.site.Site.TheVariants.{U, T, D}
+use Rattle.sdd_attempt.specs.base.declared.event.Event.{Event}
+use Rattle.sdd_attempt.specs.base.declared.event.Event.TheVariants.{Submit, Deliver, Lose, Repeat, Resend, Tick, Settle, Redeclare, Down, Up}
+use Rattle.sdd_attempt.specs.lang.declared.transaction.Txn.{Txn}
+use Rattle.sdd_attempt.specs.wire.declared.msg.Msg.{Msg}
+use Rattle.sdd_attempt.specs.site_module.SiteLog.{Force, Handed, Ticked, Submits, Redeclared, Did, Act, Each}
+use Rattle.sdd_attempt.specs.site_module.SiteLog as site
 use Rattle.sdd_log.specs.Entries.{Given, Log, Entry, Mark, Round, Redeclares, Hand, Submitted, Notes, Does}
 use Rattle.sdd_log.specs.Locals.{redeclares, force_at, txn_at, beginning, with_force, with_submit, local_of}
 use Rattle.sdd_log.specs.Due.{mark_due, due_by, note_if}

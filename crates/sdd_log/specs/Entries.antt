@@ -1,16 +1,16 @@
 -- The one log of everything, newest first, and its history.
 use Rattle.std.specs.Prelude.{ℕ, suc, List, [], ◌∷◌, ◌++◌, map}
-use Rattle.sdd_base.specs.Numbers.{txn_no}
-use Rattle.sdd_base.specs.declared.site.Site.{Site}
-use Rattle.sdd_base.specs.declared.number.RelNo.{RelNo}
-use Rattle.sdd_base.specs.declared.event.Event.{Event}
-use Rattle.sdd_catalog.specs.Catalogue.{Catalogue}
-use Rattle.sdd_lang.specs.declared.transaction.Txn.{Txn}
-use Rattle.sdd_lang.specs.Database.{Row}
-use Rattle.sdd_history.specs.declared.record.Rec.TheVariants.{Submit as Submission, Nothing}
-use Rattle.sdd_history.specs.Records.{History}
-use Rattle.sdd_wire.specs.declared.msg.Msg.{Msg}
-use Rattle.sdd_module.specs.SiteLog.{Force, Act, records_of_act}
+use Rattle.sdd_attempt.specs.base.Numbers.{txn_no}
+use Rattle.sdd_attempt.specs.base.declared.site.Site.{Site}
+use Rattle.sdd_attempt.specs.base.declared.number.RelNo.{RelNo}
+use Rattle.sdd_attempt.specs.base.declared.event.Event.{Event}
+use Rattle.sdd_attempt.specs.catalog.Catalogue.{Catalogue}
+use Rattle.sdd_attempt.specs.lang.declared.transaction.Txn.{Txn}
+use Rattle.sdd_attempt.specs.lang.Database.{Row}
+use Rattle.sdd_attempt.specs.history.declared.record.Rec.TheVariants.{Submit as Submission, Nothing}
+use Rattle.sdd_attempt.specs.history.Records.{History}
+use Rattle.sdd_attempt.specs.wire.declared.msg.Msg.{Msg}
+use Rattle.sdd_attempt.specs.site_module.SiteLog.{Force, Act, records_of_act}
 
 -- An entry. `Mark` is an event of the schedule or of a round; `Round` begins a round of these events; `Redeclares` puts
 -- the next list of classes in force at a time. `Hand a b n m` hands message n of the link from a to b over;

@@ -2,17 +2,17 @@
 -- just before its Answer there.
 use Rattle.std.specs.Prelude.{ℕ, ◌==◌, Bool, false, if◌then◌else◌, List, [], ◌∷◌, map, fold, Option, Some}
 use Rattle.std.specs.List.{flat_map}
-use Rattle.sdd_base.specs.Words.{ascending}
-use Rattle.sdd_base.specs.Numbers.{dm_no}
-use Rattle.sdd_base.specs.declared.site.Site.TheVariants.{D}
-use Rattle.sdd_catalog.specs.Catalogue.{Catalogue, fragment_at, numbers_to}
-use Rattle.sdd_lang.specs.Database.{Row, Item, Database, with_row}
-use Rattle.sdd_lang.specs.Classes.{fragments_in}
-use Rattle.sdd_history.specs.declared.record.Rec.TheVariants.{Answer}
-use Rattle.sdd_wire.specs.declared.msg.Msg.{Msg}
-use Rattle.sdd_wire.specs.declared.msg.Msg.TheVariants.{Read}
-use Rattle.sdd_module.specs.SiteLog.{Setting, Bases, Did, Records}
-use Rattle.sdd_module.specs.SiteLog as site
+use Rattle.sdd_attempt.specs.base.Words.{ascending}
+use Rattle.sdd_attempt.specs.base.Numbers.{dm_no}
+use Rattle.sdd_attempt.specs.base.declared.site.Site.TheVariants.{D}
+use Rattle.sdd_attempt.specs.catalog.Catalogue.{Catalogue, fragment_at, numbers_to}
+use Rattle.sdd_attempt.specs.lang.Database.{Row, Item, Database, with_row}
+use Rattle.sdd_attempt.specs.lang.Classes.{fragments_in}
+use Rattle.sdd_attempt.specs.history.declared.record.Rec.TheVariants.{Answer}
+use Rattle.sdd_attempt.specs.wire.declared.msg.Msg.{Msg}
+use Rattle.sdd_attempt.specs.wire.declared.msg.Msg.TheVariants.{Read}
+use Rattle.sdd_attempt.specs.site_module.SiteLog.{Setting, Bases, Did, Records}
+use Rattle.sdd_attempt.specs.site_module.SiteLog as site
 use Rattle.sdd_copy.specs.Contents.{Dated, contents}
 use Rattle.sdd_pipe.specs.Pipe.{head}
 use Rattle.sdd_dm.specs.Pipes.{pipe}

@@ -1,11 +1,11 @@
 -- The parts of the bank have no fault.
 use Rattle.std.proofs.Common.{◌≡◌, Some, ap, ◌∙◌}
 use Rattle.std.specs.Prelude.{None}
-use Rattle.sdd_base.specs.Words.{head_of}
-use Rattle.sdd_catalog.specs.Rules.{faults_of, TellsFirst}
-use Rattle.sdd_catalog.specs.declared.fault.CatError.TheVariants.{Fault}
-use Rattle.sdd_catalog.specs.declared.fault.CatFault.{CatFault}
-use Rattle.sdd_catalog.specs.declared.parts.Parts.{Parts}
+use Rattle.sdd_script.specs.base.Words.{head_of}
+use Rattle.sdd_script.specs.catalog.Rules.{faults_of, TellsFirst}
+use Rattle.sdd_script.specs.catalog.declared.fault.CatError.TheVariants.{Fault}
+use Rattle.sdd_script.specs.catalog.declared.fault.CatFault.{CatFault}
+use Rattle.sdd_script.specs.catalog.declared.parts.Parts.{Parts}
 use Rattle.sdd_make.specs.Bank.{bank_parts, bank_is_valid}
 
 pub no_fault : (parts : Parts) (fault : CatFault) → parts ≡ bank_parts → TellsFirst (Fault fault) (faults_of parts) → ⊥

@@ -5,8 +5,8 @@ use Rattle.std.specs.Fmt.{decimal}
 use Rattle.std.specs.List.{list_all}
 use Rattle.std.proofs.lemmas.Bool.Decides.{nat_tests}
 use Rattle.std.proofs.lemmas.Fmt.{decimal_by_steps, length-decimal-le}
-use Rattle.sdd_base.specs.Name.{IsName, is_name, is_name_byte, begins_with_letter, is_keyword}
-use Rattle.sdd_words.proofs.NameTexts.{both_are}
+use Rattle.sdd_script.specs.base.Name.{IsName, is_name, is_name_byte, begins_with_letter, is_keyword}
+use Rattle.sdd_script.proofs.words.NameTexts.{both_are}
 
 digit_fits : (n : ℕ) → n < 10 → is_name_byte (48 + n) ≡ true
 digit_fits n small = grind (arith, nat_tests)

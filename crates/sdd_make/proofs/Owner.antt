@@ -3,8 +3,8 @@ use Rattle.std.proofs.Common.{[], inl, inr, arith}
 use Rattle.std.specs.Prelude.{codes}
 use Rattle.std.proofs.lemmas.Str.{IsUtf8-from_ascii}
 use Rattle.std.proofs.lemmas.Str.Ascii.{IsAscii-cons, IsAscii-nil}
-use Rattle.sdd_base.specs.Text.{IsText}
-use Rattle.sdd_base.proofs.Membership.{Contains-nil, Contains-cases}
+use Rattle.sdd_script.specs.base.Text.{IsText}
+use Rattle.sdd_script.proofs.base.Membership.{Contains-nil, Contains-cases}
 
 pub owner_is_text : IsText (codes "o")
 owner_is_text =

@@ -1,11 +1,11 @@
 //! The catalogue of the bank.
 ghost use Rattle.std.specs.Prelude.{◌≡◌, ◌∷◌, [], IfOk};
-ghost use Rattle.sdd_base.specs.Name.{IsName};
+ghost use Rattle.sdd_script.specs.base.Name.{IsName};
 ghost use Rattle.sdd_make.specs.Bank.{column, account, fragment, read, class, eastpay, westpay, book, moving, bank_parts, bank, east, west};
 
 use crate::naming::name;
-use sdd_base::{Name, NoMemory};
-use sdd_catalog::{
+use sdd_script::sdd_base::{Name, NoMemory};
+use sdd_script::sdd_catalog::{
     CatError, Catalogue, ClassPart, ClassParts, ColumnPart, ColumnParts, CopyNos, FragmentPart,
     FragmentParts, Kind, Names, Parts, ReadPart, ReadParts, RelationPart, RelationParts,
 };

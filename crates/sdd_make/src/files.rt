@@ -1,13 +1,13 @@
 //! The files of the made input.
 ghost use Rattle.std.specs.Prelude.{◌≡◌, ◌≤◌, ◌++◌, IfOk, OnOk};
-ghost use Rattle.sdd_base.specs.declared.limits.TheConstants.{MAX_TXNS};
+ghost use Rattle.sdd_script.specs.base.declared.limits.TheConstants.{MAX_TXNS};
 ghost use Rattle.sdd_make.specs.Files.{parts_text, payments_text, classes_text, catalogue_text, workload_text};
 
 use crate::catalogue::bank;
 use crate::turns::workload;
-use sdd_base::{Bytes, NoMemory};
+use sdd_script::sdd_base::{Bytes, NoMemory};
 use sdd_script::write_workload;
-use sdd_words::put;
+use sdd_script::sdd_words::put;
 use std::alloc::Global;
 
 /// The files of a made input.

@@ -1,10 +1,10 @@
 //! Names and texts of constants.
 ghost use Rattle.std.specs.Prelude.{◌≡◌, ◌++◌, codes, IfOk};
 ghost use Rattle.std.specs.Fmt.{decimal};
-ghost use Rattle.sdd_base.specs.Name.{IsName};
-ghost use Rattle.sdd_base.specs.Text.{IsText};
+ghost use Rattle.sdd_script.specs.base.Name.{IsName};
+ghost use Rattle.sdd_script.specs.base.Text.{IsText};
 
-use sdd_base::{Name, NoMemory, Text};
+use sdd_script::sdd_base::{Name, NoMemory, Text};
 use std::alloc::Global;
 
 /// The name that a text spells.

@@ -1,14 +1,14 @@
 //! The made workload, turn by turn.
 ghost use Rattle.std.specs.Prelude.{◌≡◌, ◌≤◌, ◌++◌, ◌∷◌, [], map, OnOk, IfOk};
 ghost use Rattle.std.specs.List.{range_with_len};
-ghost use Rattle.sdd_base.specs.declared.limits.TheConstants.{MAX_TXNS};
+ghost use Rattle.sdd_script.specs.base.declared.limits.TheConstants.{MAX_TXNS};
 ghost use Rattle.sdd_make.specs.Turns.{account_row, accounts, arrival, delivery, deliveries, drawn_txn, drawn_events, turn, turns_of, txns_of, events_of, workload_of};
 
 use crate::naming::text;
 use crate::random::Random;
 use crate::statements::txn_of;
-use sdd_base::{DmNo, Event, Events, Listed, NoMemory, RelNo, Row, Site, TmNo, TxnNo, Value};
-use sdd_lang::Txn;
+use sdd_script::sdd_base::{DmNo, Event, Events, Listed, NoMemory, RelNo, Row, Site, TmNo, TxnNo, Value};
+use sdd_script::sdd_lang::Txn;
 use sdd_script::{ClassLists, StartRows, Txns, Workload};
 use std::alloc::Global;
 

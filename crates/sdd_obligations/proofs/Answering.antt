@@ -1,18 +1,18 @@
 -- A READY or REJECT that is next to be handed over answers a READ of the site, and is the first that does.
 use Rattle.std.specs.List.{list_any}
 use Rattle.std.proofs.Common.{ℕ, ◌&&◌, ◌++◌, ◌+◌, ◌<◌, ◌==◌, ◌∙◌, ◌∷◌, ◌≡◌, ◌≤◌, Bool, List, Some, [], ap, append_assoc, arith, false, if◌then◌else◌, inl, inr, refl, slice_get, subst, suc, sym, take, true, zero}
-use Rattle.sdd_base.specs.Sites.{number_of, same_site}
-use Rattle.sdd_base.specs.declared.number.DmNo.{DmNo}
-use Rattle.sdd_base.specs.declared.site.Site.{Site}
-use Rattle.sdd_base.specs.declared.site.Site.TheVariants.{D}
-use Rattle.sdd_wire.specs.declared.msg.Msg.{Msg}
-use Rattle.sdd_wire.specs.declared.msg.Msg.TheVariants.{Read}
-use Rattle.sdd_module.specs.SiteLog.{Act, Did, Handed, Redeclared, Setting, Submits, Ticked, sends_of_act}
-use Rattle.sdd_attempt.specs.Fits.{AnswersRead, at_site, handed as all_handed, is_read, is_verdict, sent}
-use Rattle.sdd_log.specs.Entries.{Does, Given, Log}
-use Rattle.sdd_log.specs.Locals.{local_of, setting_of}
-use Rattle.sdd_log.specs.Permitted.{IsPermitted}
-use Rattle.sdd_log.specs.Traffic.{handed}
+use Rattle.sdd_invariants.specs.base.Sites.{number_of, same_site}
+use Rattle.sdd_invariants.specs.base.declared.number.DmNo.{DmNo}
+use Rattle.sdd_invariants.specs.base.declared.site.Site.{Site}
+use Rattle.sdd_invariants.specs.base.declared.site.Site.TheVariants.{D}
+use Rattle.sdd_invariants.specs.wire.declared.msg.Msg.{Msg}
+use Rattle.sdd_invariants.specs.wire.declared.msg.Msg.TheVariants.{Read}
+use Rattle.sdd_invariants.specs.site_module.SiteLog.{Act, Did, Handed, Redeclared, Setting, Submits, Ticked, sends_of_act}
+use Rattle.sdd_invariants.specs.attempt.Fits.{AnswersRead, at_site, handed as all_handed, is_read, is_verdict, sent}
+use Rattle.sdd_invariants.specs.logs.Entries.{Does, Given, Log}
+use Rattle.sdd_invariants.specs.logs.Locals.{local_of, setting_of}
+use Rattle.sdd_invariants.specs.logs.Permitted.{IsPermitted}
+use Rattle.sdd_invariants.specs.logs.Traffic.{handed}
 use Rattle.sdd_invariants.proofs.Turns.{tally_append, tally_take}
 use Rattle.sdd_invariants.specs.Turns.{one_if, tally}
 use Rattle.sdd_invariants.proofs.Answered.{put_in_by_d}
@@ -25,7 +25,7 @@ use Rattle.sdd_invariants.specs.Traffic.{hands_from, puts_to, to_site}
 use Rattle.sdd_invariants.proofs.InOrder.{in_order}
 use Rattle.sdd_invariants.proofs.Made.{local_grows, own_act, permitted_before}
 use Rattle.sdd_obligations.proofs.Verdicts.{in_class, one_verdict, verdict_by}
-use Rattle.sdd_module.specs.SiteLog as site
+use Rattle.sdd_invariants.specs.site_module.SiteLog as site
 
 -- the READ was sent
 

@@ -1,19 +1,19 @@
 -- Along the log of the site of a class the questions of the active attempt are those of its phase.
 use Rattle.std.proofs.Common.{ℕ, ◌&&◌, ◌==◌, ◌∙◌, ◌∷◌, ◌≡◌, ◌⊎◌, Bool, List, None, Option, Some, [], ap, cond, false, if◌then◌else◌, inl, inr, refl, subst, sym, true}
 use Rattle.std.specs.List.{AllByRecursion}
-use Rattle.sdd_base.specs.Numbers.{dm_no}
-use Rattle.sdd_base.specs.Sites.{same_site}
-use Rattle.sdd_base.specs.Words.{head_of, tail_of}
-use Rattle.sdd_base.specs.declared.number.DmNo.{DmNo}
-use Rattle.sdd_base.specs.declared.site.Site.{Site}
-use Rattle.sdd_base.specs.declared.site.Site.TheVariants.{D, T, U}
-use Rattle.sdd_wire.specs.declared.msg.Msg.{Msg}
-use Rattle.sdd_wire.specs.declared.msg.Msg.TheVariants.{Reject}
-use Rattle.sdd_module.specs.SiteLog.{Act, Bases, Did, Each, Handed, Log, Redeclared, Sends, Setting, Submits, Ticked, sends_of_act}
-use Rattle.sdd_attempt.specs.Acts.{commit_act}
-use Rattle.sdd_attempt.specs.Attempts.{Attempt, active, active_handed, active_sent, asks_rows, rejects, started}
-use Rattle.sdd_attempt.specs.Exchange.{after_hand, after_send}
-use Rattle.sdd_attempt.specs.Queues.{Queued, queue}
+use Rattle.sdd_invariants.specs.base.Numbers.{dm_no}
+use Rattle.sdd_invariants.specs.base.Sites.{same_site}
+use Rattle.sdd_invariants.specs.base.Words.{head_of, tail_of}
+use Rattle.sdd_invariants.specs.base.declared.number.DmNo.{DmNo}
+use Rattle.sdd_invariants.specs.base.declared.site.Site.{Site}
+use Rattle.sdd_invariants.specs.base.declared.site.Site.TheVariants.{D, T, U}
+use Rattle.sdd_invariants.specs.wire.declared.msg.Msg.{Msg}
+use Rattle.sdd_invariants.specs.wire.declared.msg.Msg.TheVariants.{Reject}
+use Rattle.sdd_invariants.specs.site_module.SiteLog.{Act, Bases, Did, Each, Handed, Log, Redeclared, Sends, Setting, Submits, Ticked, sends_of_act}
+use Rattle.sdd_invariants.specs.attempt.Acts.{commit_act}
+use Rattle.sdd_invariants.specs.attempt.Attempts.{Attempt, active, active_handed, active_sent, asks_rows, rejects, started}
+use Rattle.sdd_invariants.specs.attempt.Exchange.{after_hand, after_send}
+use Rattle.sdd_invariants.specs.attempt.Queues.{Queued, queue}
 use Rattle.sdd_invariants.proofs.Clocks.{stamp_below_next}
 use Rattle.sdd_invariants.proofs.ReadsPut.{start_puts}
 use Rattle.sdd_invariants.proofs.WritesPut.{commit_puts}

@@ -1,18 +1,18 @@
 -- A site that makes attempts asks in turn, where each answer that is handed to it comes in turn.
 use Rattle.std.proofs.Common.{ℕ, ◌&&◌, ◌<◌, ◌==◌, ◌∙◌, ◌∷◌, ◌≡◌, ◌⊎◌, Bool, List, None, Option, Some, [], ap, arith, cond, false, if◌then◌else◌, inl, inr, refl, subst, sym, true}
-use Rattle.sdd_base.specs.Numbers.{dm_no}
+use Rattle.sdd_invariants.specs.base.Numbers.{dm_no}
 use Rattle.std.proofs.lemmas.Bool.{eqb-true}
-use Rattle.sdd_base.specs.Sites.{number_of, same_site}
-use Rattle.sdd_base.specs.Words.{ascending, contains, head_of, tail_of}
-use Rattle.sdd_base.specs.declared.site.Site.{Site}
-use Rattle.sdd_base.specs.declared.site.Site.TheVariants.{D}
-use Rattle.sdd_wire.specs.declared.msg.Msg.{Msg}
-use Rattle.sdd_wire.specs.declared.msg.Msg.TheVariants.{Fetch, Read, Reduce, Ship}
-use Rattle.sdd_module.specs.SiteLog.{Act, Bases, Did, Each, Handed, Log, Redeclared, Sends, Setting, Submits, Ticked, sends_of_act}
-use Rattle.sdd_attempt.specs.Acts.{commit_act}
-use Rattle.sdd_attempt.specs.Attempts.{Attempt, active, active_sent, asks_rows, started}
-use Rattle.sdd_attempt.specs.Exchange.{Phase, Reading, after_send, begins, first_phase, is_over}
-use Rattle.sdd_attempt.specs.Queues.{Queued, queue}
+use Rattle.sdd_invariants.specs.base.Sites.{number_of, same_site}
+use Rattle.sdd_invariants.specs.base.Words.{ascending, contains, head_of, tail_of}
+use Rattle.sdd_invariants.specs.base.declared.site.Site.{Site}
+use Rattle.sdd_invariants.specs.base.declared.site.Site.TheVariants.{D}
+use Rattle.sdd_invariants.specs.wire.declared.msg.Msg.{Msg}
+use Rattle.sdd_invariants.specs.wire.declared.msg.Msg.TheVariants.{Fetch, Read, Reduce, Ship}
+use Rattle.sdd_invariants.specs.site_module.SiteLog.{Act, Bases, Did, Each, Handed, Log, Redeclared, Sends, Setting, Submits, Ticked, sends_of_act}
+use Rattle.sdd_invariants.specs.attempt.Acts.{commit_act}
+use Rattle.sdd_invariants.specs.attempt.Attempts.{Attempt, active, active_sent, asks_rows, started}
+use Rattle.sdd_invariants.specs.attempt.Exchange.{Phase, Reading, after_send, begins, first_phase, is_over}
+use Rattle.sdd_invariants.specs.attempt.Queues.{Queued, queue}
 use Rattle.sdd_obligations.proofs.AtTurn.{IsAt, StandsAt, answered_last, apart, awaited, awaits, unsent}
 use Rattle.sdd_obligations.proofs.FirstSends.{IsFirstEach, IsFirstSend, asks_whose}
 use Rattle.sdd_obligations.proofs.Modules.{firsts, read_firsts, read_modules, read_uses, sent_to_each, to_module}
@@ -20,8 +20,8 @@ use Rattle.sdd_obligations.specs.Turns.{Asks, IsOfUses, MayAsk, Silent, Turn, as
 use Rattle.sdd_invariants.proofs.Clocks.{drawn_at, stamp_below_next, stamp_rises}
 use Rattle.sdd_invariants.proofs.ReadsPut.{strict_modules}
 use Rattle.sdd_invariants.proofs.WritesPut.{commit_puts}
-use Rattle.sdd_lang.specs.Classes.{fragments_in}
-use Rattle.sdd_lang.specs.Uses.{uses_of}
+use Rattle.sdd_invariants.specs.lang.Classes.{fragments_in}
+use Rattle.sdd_invariants.specs.lang.Uses.{uses_of}
 use Rattle.sdd_invariants.proofs.Active.{step_way_over}
 use Rattle.sdd_invariants.proofs.Sites.{site_is}
 use Rattle.sdd_invariants.proofs.Bools.{and_left, differ, if_way, not_both, same_number, same_or_not}

@@ -5,21 +5,21 @@ use Rattle.std.proofs.Common.{ℕ, ◌*◌, ◌+◌, ◌<◌, ◌^◌, ◌∷◌
 use Rattle.std.proofs.Math.Nat.{mul-le-mul, mul-le-mul_right, suc-mul}
 use Rattle.std.proofs.lemmas.List.{length-append, length-map}
 use Rattle.std.proofs.lemmas.List.FromFn.{length-range_with_len}
-use Rattle.sdd_base.specs.Numbers.{dm_no, tm_no}
-use Rattle.sdd_base.specs.Sites.{sites}
-use Rattle.sdd_base.specs.declared.limits.TheConstants.{MAX_LINK_MESSAGES, MAX_RUN_EVENTS, MAX_TICKS}
-use Rattle.sdd_base.specs.declared.site.Site.{Site}
-use Rattle.sdd_base.specs.declared.site.Site.TheVariants.{D, T, U}
-use Rattle.sdd_history.specs.declared.record.Rec.TheVariants.{Start}
-use Rattle.sdd_module.specs.SiteLog.{Act, Did, Each, Handed, Records, Redeclared, Submits, Ticked, hands, submits}
-use Rattle.sdd_dm.specs.Views.{home_of, view_of}
-use Rattle.sdd_log.specs.Entries.{Does, Entry, Given, Hand, Log, Mark, Notes, Redeclares, Round, Submitted, marks}
-use Rattle.sdd_log.specs.Lawful.{IsLawful, IsWithin}
-use Rattle.sdd_log.specs.Locals.{local_of, setting_of}
-use Rattle.sdd_log.specs.Permitted.{IsPermitted}
-use Rattle.sdd_log.specs.Traffic.{handed}
-use Rattle.sdd_log.proofs.EachLocal.{each_local}
-use Rattle.sdd_log.proofs.NewMarks.{lawful_permitted}
+use Rattle.sdd_invariants.specs.base.Numbers.{dm_no, tm_no}
+use Rattle.sdd_invariants.specs.base.Sites.{sites}
+use Rattle.sdd_invariants.specs.base.declared.limits.TheConstants.{MAX_LINK_MESSAGES, MAX_RUN_EVENTS, MAX_TICKS}
+use Rattle.sdd_invariants.specs.base.declared.site.Site.{Site}
+use Rattle.sdd_invariants.specs.base.declared.site.Site.TheVariants.{D, T, U}
+use Rattle.sdd_invariants.specs.history.declared.record.Rec.TheVariants.{Start}
+use Rattle.sdd_invariants.specs.site_module.SiteLog.{Act, Did, Each, Handed, Records, Redeclared, Submits, Ticked, hands, submits}
+use Rattle.sdd_invariants.specs.dm.Views.{home_of, view_of}
+use Rattle.sdd_invariants.specs.logs.Entries.{Does, Entry, Given, Hand, Log, Mark, Notes, Redeclares, Round, Submitted, marks}
+use Rattle.sdd_invariants.specs.logs.Lawful.{IsLawful, IsWithin}
+use Rattle.sdd_invariants.specs.logs.Locals.{local_of, setting_of}
+use Rattle.sdd_invariants.specs.logs.Permitted.{IsPermitted}
+use Rattle.sdd_invariants.specs.logs.Traffic.{handed}
+use Rattle.sdd_invariants.proofs.logs.EachLocal.{each_local}
+use Rattle.sdd_invariants.proofs.logs.NewMarks.{lawful_permitted}
 use Rattle.sdd_invariants.specs.AtU.{starts, starts_more}
 use Rattle.sdd_invariants.specs.Steps.{IsFair}
 use Rattle.sdd_invariants.proofs.Fair.{all_new, t_fair, u_fair}
@@ -32,7 +32,7 @@ use Rattle.sdd_obligations.proofs.Limits.{handed_few, hands_few, marks_few, subm
 use Rattle.sdd_obligations.proofs.NoStarts.{d_starts_not}
 use Rattle.sdd_obligations.proofs.OfNext.{IsThere, of_next, t_of_sites}
 use Rattle.sdd_obligations.proofs.Sums.{total, total_le, total_le_at, total_raise, total_up}
-use Rattle.sdd_module.specs.SiteLog as site
+use Rattle.sdd_invariants.specs.site_module.SiteLog as site
 
 -- the height is the sum of ticks and of all sites' Starts
 

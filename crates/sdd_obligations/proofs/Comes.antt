@@ -1,21 +1,21 @@
 -- A question that is next to be handed over is for rows that its data module holds.
 use Rattle.std.proofs.Common.{ℕ, ◌∙◌, ◌∷◌, ◌≡◌, ◌≤◌, Bool, List, None, Option, Some, [], ap, arith, false, if◌then◌else◌, not, refl, subst, sym, true}
-use Rattle.sdd_base.specs.Sites.{number_of}
-use Rattle.sdd_base.specs.Words.{contains}
-use Rattle.sdd_base.specs.declared.number.DmNo.{DmNo}
-use Rattle.sdd_base.specs.declared.site.Site.{Site}
-use Rattle.sdd_base.specs.declared.site.Site.TheVariants.{D}
-use Rattle.sdd_wire.specs.declared.msg.Msg.{Msg}
-use Rattle.sdd_wire.specs.declared.msg.Msg.TheVariants.{Fetch, Reduce, Ship}
-use Rattle.sdd_attempt.specs.Attempts.{active, asks_rows}
-use Rattle.sdd_dm.specs.Copies.{frozen}
-use Rattle.sdd_dm.specs.Fits.{AreFor, FitsShip, HaveUse}
-use Rattle.sdd_copy.specs.Frozen.{Frozen}
-use Rattle.sdd_log.specs.Entries.{Given, Hand}
-use Rattle.sdd_log.specs.Entries as all
-use Rattle.sdd_log.specs.Locals.{local_of, setting_of}
-use Rattle.sdd_log.specs.Permitted.{IsAllowed, IsPermitted}
-use Rattle.sdd_log.specs.Traffic.{handed}
+use Rattle.sdd_invariants.specs.base.Sites.{number_of}
+use Rattle.sdd_invariants.specs.base.Words.{contains}
+use Rattle.sdd_invariants.specs.base.declared.number.DmNo.{DmNo}
+use Rattle.sdd_invariants.specs.base.declared.site.Site.{Site}
+use Rattle.sdd_invariants.specs.base.declared.site.Site.TheVariants.{D}
+use Rattle.sdd_invariants.specs.wire.declared.msg.Msg.{Msg}
+use Rattle.sdd_invariants.specs.wire.declared.msg.Msg.TheVariants.{Fetch, Reduce, Ship}
+use Rattle.sdd_invariants.specs.attempt.Attempts.{active, asks_rows}
+use Rattle.sdd_invariants.specs.dm.Copies.{frozen}
+use Rattle.sdd_invariants.specs.dm.Fits.{AreFor, FitsShip, HaveUse}
+use Rattle.sdd_laws.specs.copy.Frozen.{Frozen}
+use Rattle.sdd_invariants.specs.logs.Entries.{Given, Hand}
+use Rattle.sdd_invariants.specs.logs.Entries as all
+use Rattle.sdd_invariants.specs.logs.Locals.{local_of, setting_of}
+use Rattle.sdd_invariants.specs.logs.Permitted.{IsAllowed, IsPermitted}
+use Rattle.sdd_invariants.specs.logs.Traffic.{handed}
 use Rattle.sdd_obligations.proofs.Asking.{asks_no_read}
 use Rattle.sdd_obligations.proofs.Hearing.{answers_asked}
 use Rattle.sdd_obligations.proofs.Flights.{first_in_flight}

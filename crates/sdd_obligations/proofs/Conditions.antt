@@ -4,28 +4,28 @@ use Rattle.std.specs.Option.{option_or}
 use Rattle.std.specs.Prelude.{filter_map}
 use Rattle.std.proofs.Common.{ℕ, ◌+◌, ◌<◌, ◌==◌, ◌^◌, ◌∷◌, ◌≡◌, ◌≤◌, List, None, Option, Some, [], arith, inl, inr, length, map, slice_get, subst, suc, zero}
 use Rattle.std.proofs.lemmas.List.Elements.{All-cons, All-nil}
-use Rattle.sdd_base.specs.Numbers.{frag_no}
-use Rattle.sdd_base.specs.Words.{ascending}
-use Rattle.sdd_base.specs.declared.condition.Cond.{Cond}
-use Rattle.sdd_base.specs.declared.number.ClassNo.{ClassNo}
-use Rattle.sdd_base.specs.declared.number.FragNo.{FragNo}
-use Rattle.sdd_base.specs.declared.number.Ts.{Ts}
-use Rattle.sdd_base.specs.declared.number.TxnNo.{TxnNo}
-use Rattle.sdd_base.specs.declared.site.Site.{Site}
-use Rattle.sdd_base.specs.declared.usage.Use.{Use}
-use Rattle.sdd_catalog.specs.Catalogue.{Catalogue}
-use Rattle.sdd_graph.specs.Graph.{classes_of, fragments_of}
-use Rattle.sdd_protocol.specs.Conditions.{asked_by, cond_for, cond_of, condition_on, is_asked}
-use Rattle.sdd_protocol.specs.declared.entry.Entry as line
-use Rattle.sdd_protocol.specs.declared.protocol.Protocol.TheVariants.{P2, P3}
-use Rattle.sdd_lang.specs.Classes.{fragments_in}
-use Rattle.sdd_lang.specs.Uses.{uses_of}
-use Rattle.sdd_wire.specs.declared.msg.Msg.{Msg}
-use Rattle.sdd_wire.specs.declared.msg.Msg.TheVariants.{Read}
-use Rattle.sdd_module.specs.SiteLog.{Act, Each, Log, Setting, in_force, sends_of_act}
-use Rattle.sdd_attempt.specs.Acts.{conditions_at}
-use Rattle.sdd_attempt.specs.Queues.{Queued}
-use Rattle.sdd_dm.specs.Fits.{FitsCond}
+use Rattle.sdd_invariants.specs.base.Numbers.{frag_no}
+use Rattle.sdd_invariants.specs.base.Words.{ascending}
+use Rattle.sdd_invariants.specs.base.declared.condition.Cond.{Cond}
+use Rattle.sdd_invariants.specs.base.declared.number.ClassNo.{ClassNo}
+use Rattle.sdd_invariants.specs.base.declared.number.FragNo.{FragNo}
+use Rattle.sdd_invariants.specs.base.declared.number.Ts.{Ts}
+use Rattle.sdd_invariants.specs.base.declared.number.TxnNo.{TxnNo}
+use Rattle.sdd_invariants.specs.base.declared.site.Site.{Site}
+use Rattle.sdd_invariants.specs.base.declared.usage.Use.{Use}
+use Rattle.sdd_invariants.specs.catalog.Catalogue.{Catalogue}
+use Rattle.sdd_invariants.specs.graph.Graph.{classes_of, fragments_of}
+use Rattle.sdd_invariants.specs.protocol.Conditions.{asked_by, cond_for, cond_of, condition_on, is_asked}
+use Rattle.sdd_invariants.specs.protocol.declared.entry.Entry as line
+use Rattle.sdd_invariants.specs.protocol.declared.protocol.Protocol.TheVariants.{P2, P3}
+use Rattle.sdd_invariants.specs.lang.Classes.{fragments_in}
+use Rattle.sdd_invariants.specs.lang.Uses.{uses_of}
+use Rattle.sdd_invariants.specs.wire.declared.msg.Msg.{Msg}
+use Rattle.sdd_invariants.specs.wire.declared.msg.Msg.TheVariants.{Read}
+use Rattle.sdd_invariants.specs.site_module.SiteLog.{Act, Each, Log, Setting, in_force, sends_of_act}
+use Rattle.sdd_invariants.specs.attempt.Acts.{conditions_at}
+use Rattle.sdd_invariants.specs.attempt.Queues.{Queued}
+use Rattle.sdd_invariants.specs.dm.Fits.{FitsCond}
 use Rattle.sdd_invariants.proofs.Origins.{was_put}
 use Rattle.sdd_invariants.proofs.ReadsPut.{put_by, start_puts}
 use Rattle.sdd_invariants.specs.Puts.{IsRead}

@@ -3,18 +3,18 @@ use Rattle.std.proofs.Common.{ℕ, ◌*◌, ◌++◌, ◌+◌, ◌-◌, ◌==◌
 use Rattle.std.proofs.Math.Decide.{dec_le}
 use Rattle.std.proofs.lemmas.List.{get_or_past, length-append, length-map}
 use Rattle.std.proofs.lemmas.List.FromFn.{length-range_with_len}
-use Rattle.sdd_base.specs.Numbers.{tm_no}
-use Rattle.sdd_base.specs.Words.{head_of}
-use Rattle.sdd_base.specs.declared.site.Site.{Site}
-use Rattle.sdd_base.specs.declared.site.Site.TheVariants.{D, T, U}
-use Rattle.sdd_catalog.specs.Catalogue.{Catalogue, class_at}
-use Rattle.sdd_catalog.specs.declared.resolved.Class.{Class}
-use Rattle.sdd_wire.specs.declared.msg.Msg.{Msg}
-use Rattle.sdd_module.specs.SiteLog.{Act, Bases, Did, Each, Handed, Log, Redeclared, Sends, Setting, Submits, Ticked, hands, in_force, sends_of_act, submits}
-use Rattle.sdd_attempt.specs.Acts.{commit_act}
-use Rattle.sdd_attempt.specs.Attempts.{Attempt, active, active_handed, active_sent, started}
-use Rattle.sdd_attempt.specs.Queues.{Queued, is_for, queue, submitted, tried}
-use Rattle.sdd_dm.specs.Copies.{classes_of}
+use Rattle.sdd_invariants.specs.base.Numbers.{tm_no}
+use Rattle.sdd_invariants.specs.base.Words.{head_of}
+use Rattle.sdd_invariants.specs.base.declared.site.Site.{Site}
+use Rattle.sdd_invariants.specs.base.declared.site.Site.TheVariants.{D, T, U}
+use Rattle.sdd_invariants.specs.catalog.Catalogue.{Catalogue, class_at}
+use Rattle.sdd_invariants.specs.catalog.declared.resolved.Class.{Class}
+use Rattle.sdd_invariants.specs.wire.declared.msg.Msg.{Msg}
+use Rattle.sdd_invariants.specs.site_module.SiteLog.{Act, Bases, Did, Each, Handed, Log, Redeclared, Sends, Setting, Submits, Ticked, hands, in_force, sends_of_act, submits}
+use Rattle.sdd_invariants.specs.attempt.Acts.{commit_act}
+use Rattle.sdd_invariants.specs.attempt.Attempts.{Attempt, active, active_handed, active_sent, started}
+use Rattle.sdd_invariants.specs.attempt.Queues.{Queued, is_for, queue, submitted, tried}
+use Rattle.sdd_invariants.specs.dm.Copies.{classes_of}
 use Rattle.sdd_invariants.specs.AtU.{starts}
 use Rattle.sdd_invariants.proofs.Queues.{queue_is}
 use Rattle.sdd_invariants.proofs.Active.{sent_way, step_way}

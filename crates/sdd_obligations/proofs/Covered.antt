@@ -2,20 +2,20 @@
 use Rattle.std.proofs.Common.{ℕ, ◌≤◌, ◌==◌, ◌≡◌, ◌⊎◌, inl, inr, true, false, [], ◌∷◌, length, arith, sym, zero, suc}
 use Rattle.std.specs.Prelude.{Some}
 use Rattle.std.proofs.lemmas.Bool.{eqb-true}
-use Rattle.sdd_base.specs.declared.site.Site.{Site}
-use Rattle.sdd_catalog.specs.Catalogue.{Catalogue}
-use Rattle.sdd_lang.specs.Classes.{class_for}
-use Rattle.sdd_lang.specs.declared.transaction.Txn.{Txn}
-use Rattle.sdd_module.specs.SiteLog.{Did, Each, Entry, Handed, Log, Redeclared, Setting, Submits, Ticked, in_force}
-use Rattle.sdd_attempt.specs.Attempts.{Attempt, active}
-use Rattle.sdd_attempt.specs.Queues.{is_for}
-use Rattle.sdd_log.specs.Entries.{Given}
-use Rattle.sdd_log.specs.Entries as whole
-use Rattle.sdd_log.specs.Locals.{local_of, setting_of}
-use Rattle.sdd_log.specs.Permitted.{IsPermitted}
-use Rattle.sdd_log.proofs.EachLocal.{each_local}
-use Rattle.sdd_eras.specs.EraOf.{IsEraOf}
-use Rattle.sdd_eras.proofs.EraSets.{IsCovered, covered, covered_in_era, era_of_itself}
+use Rattle.sdd_invariants.specs.base.declared.site.Site.{Site}
+use Rattle.sdd_invariants.specs.catalog.Catalogue.{Catalogue}
+use Rattle.sdd_invariants.specs.lang.Classes.{class_for}
+use Rattle.sdd_invariants.specs.lang.declared.transaction.Txn.{Txn}
+use Rattle.sdd_invariants.specs.site_module.SiteLog.{Did, Each, Entry, Handed, Log, Redeclared, Setting, Submits, Ticked, in_force}
+use Rattle.sdd_invariants.specs.attempt.Attempts.{Attempt, active}
+use Rattle.sdd_invariants.specs.attempt.Queues.{is_for}
+use Rattle.sdd_invariants.specs.logs.Entries.{Given}
+use Rattle.sdd_invariants.specs.logs.Entries as whole
+use Rattle.sdd_invariants.specs.logs.Locals.{local_of, setting_of}
+use Rattle.sdd_invariants.specs.logs.Permitted.{IsPermitted}
+use Rattle.sdd_invariants.proofs.logs.EachLocal.{each_local}
+use Rattle.sdd_laws.specs.class_eras.EraOf.{IsEraOf}
+use Rattle.sdd_laws.proofs.class_eras.EraSets.{IsCovered, covered, covered_in_era, era_of_itself}
 use Rattle.sdd_invariants.proofs.Bools.{only_right, same_or_not}
 use Rattle.sdd_invariants.specs.Steps.{home}
 use Rattle.sdd_invariants.proofs.Fair.{all_new, home_fair}

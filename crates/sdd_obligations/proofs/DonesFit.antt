@@ -1,22 +1,22 @@
 -- A DONE that is next to be handed over answers the last Commit of U, and is the first of its module.
 use Rattle.std.proofs.Common.{ℕ, ◌++◌, ◌+◌, ◌<◌, ◌∙◌, ◌∷◌, ◌≡◌, ◌≤◌, ◌⊎◌, Bool, List, Option, Some, [], ap, append_assoc, arith, false, inl, inr, refl, slice_get, subst, sym, true}
-use Rattle.sdd_base.specs.declared.number.DmNo.{DmNo}
-use Rattle.sdd_base.specs.declared.number.Ts.{Ts}
-use Rattle.sdd_base.specs.declared.site.Site.TheVariants.{D, U}
-use Rattle.sdd_catalog.specs.Catalogue.{numbers_to}
-use Rattle.sdd_history.specs.declared.record.Rec.TheVariants.{Commit}
-use Rattle.sdd_wire.specs.declared.msg.Msg.{Msg}
-use Rattle.sdd_wire.specs.declared.msg.Msg.TheVariants.{Done, Write}
-use Rattle.sdd_module.specs.SiteLog.{Act, Bases, Did, Each, Entry, Handed, Records, Redeclared, Sends, Setting, Submits, Ticked}
-use Rattle.sdd_attempt.specs.Acts.{commit_act}
-use Rattle.sdd_attempt.specs.Attempts.{Attempt, active}
-use Rattle.sdd_attempt.specs.Queues.{Queued}
-use Rattle.sdd_umod.specs.Fits.{FitsDone, is_done}
-use Rattle.sdd_umod.specs.Views.{Served, last_served, served_acted, ts_of}
-use Rattle.sdd_log.specs.Entries.{Does, Given, Hand, Log}
-use Rattle.sdd_log.specs.Locals.{local_of, setting_of}
-use Rattle.sdd_log.specs.Permitted.{IsPermitted}
-use Rattle.sdd_log.specs.Traffic.{handed}
+use Rattle.sdd_invariants.specs.base.declared.number.DmNo.{DmNo}
+use Rattle.sdd_invariants.specs.base.declared.number.Ts.{Ts}
+use Rattle.sdd_invariants.specs.base.declared.site.Site.TheVariants.{D, U}
+use Rattle.sdd_invariants.specs.catalog.Catalogue.{numbers_to}
+use Rattle.sdd_invariants.specs.history.declared.record.Rec.TheVariants.{Commit}
+use Rattle.sdd_invariants.specs.wire.declared.msg.Msg.{Msg}
+use Rattle.sdd_invariants.specs.wire.declared.msg.Msg.TheVariants.{Done, Write}
+use Rattle.sdd_invariants.specs.site_module.SiteLog.{Act, Bases, Did, Each, Entry, Handed, Records, Redeclared, Sends, Setting, Submits, Ticked}
+use Rattle.sdd_invariants.specs.attempt.Acts.{commit_act}
+use Rattle.sdd_invariants.specs.attempt.Attempts.{Attempt, active}
+use Rattle.sdd_invariants.specs.attempt.Queues.{Queued}
+use Rattle.sdd_invariants.specs.umod.Fits.{FitsDone, is_done}
+use Rattle.sdd_invariants.specs.umod.Views.{Served, last_served, served_acted, ts_of}
+use Rattle.sdd_invariants.specs.logs.Entries.{Does, Given, Hand, Log}
+use Rattle.sdd_invariants.specs.logs.Locals.{local_of, setting_of}
+use Rattle.sdd_invariants.specs.logs.Permitted.{IsPermitted}
+use Rattle.sdd_invariants.specs.logs.Traffic.{handed}
 use Rattle.sdd_invariants.proofs.Dones.{dones_few, put_once}
 use Rattle.sdd_invariants.proofs.HoldChain.{u_table}
 use Rattle.sdd_invariants.proofs.Undeclared.{zero_pair}
@@ -39,7 +39,7 @@ use Rattle.sdd_invariants.proofs.Fair.{u_fair}
 use Rattle.sdd_invariants.proofs.Made.{local_grows, own_act, permitted_before, place_of_act}
 use Rattle.sdd_obligations.proofs.SendsLow.{hand_ts}
 use Rattle.sdd_obligations.proofs.Answering.{none_before}
-use Rattle.sdd_module.specs.SiteLog as site
+use Rattle.sdd_invariants.specs.site_module.SiteLog as site
 
 -- the first of its module
 

@@ -2,28 +2,28 @@
 -- and records are of classes of the catalogue.
 use Rattle.std.proofs.Common.{ℕ, ◌&&◌, ◌==◌, ◌∙◌, ◌∷◌, ◌≡◌, ◌≤◌, Bool, List, None, Option, Some, [], ap, arith, false, if◌then◌else◌, length, not, refl, slice_get, subst, sym, true}
 use Rattle.std.proofs.lemmas.Bool.{eqb-true}
-use Rattle.sdd_base.specs.Clock.{Ticking}
-use Rattle.sdd_base.specs.Numbers.{class_no, dm_no, time_at}
-use Rattle.sdd_base.specs.Sites.{number_of}
-use Rattle.sdd_base.specs.Words.{head_of, or_else}
-use Rattle.sdd_catalog.specs.Catalogue.{class_at, numbers_to}
-use Rattle.sdd_base.specs.declared.number.Ts.{Ts}
-use Rattle.sdd_base.specs.declared.site.Site.{Site}
-use Rattle.sdd_base.specs.declared.site.Site.TheVariants.{D, U}
-use Rattle.sdd_wire.specs.declared.msg.Msg.{Msg}
-use Rattle.sdd_wire.specs.declared.msg.Msg.TheVariants.{Fetch, Held, Hold, Null, Reduce, Release, Ship}
-use Rattle.sdd_module.specs.SiteLog.{Act, Bases, Did, Entry, Handed, Log, Records, Redeclared, Sends, Setting, Submits, Ticked}
-use Rattle.sdd_attempt.specs.Acts.{attempt_due, commit_act, start_act}
-use Rattle.sdd_attempt.specs.Attempts.{Attempt, active, asks_rows}
-use Rattle.sdd_attempt.specs.Exchange.{first_send, is_over}
-use Rattle.sdd_attempt.specs.Queues.{Queued, queue}
+use Rattle.sdd_invariants.specs.base.Clock.{Ticking}
+use Rattle.sdd_invariants.specs.base.Numbers.{class_no, dm_no, time_at}
+use Rattle.sdd_invariants.specs.base.Sites.{number_of}
+use Rattle.sdd_invariants.specs.base.Words.{head_of, or_else}
+use Rattle.sdd_invariants.specs.catalog.Catalogue.{class_at, numbers_to}
+use Rattle.sdd_invariants.specs.base.declared.number.Ts.{Ts}
+use Rattle.sdd_invariants.specs.base.declared.site.Site.{Site}
+use Rattle.sdd_invariants.specs.base.declared.site.Site.TheVariants.{D, U}
+use Rattle.sdd_invariants.specs.wire.declared.msg.Msg.{Msg}
+use Rattle.sdd_invariants.specs.wire.declared.msg.Msg.TheVariants.{Fetch, Held, Hold, Null, Reduce, Release, Ship}
+use Rattle.sdd_invariants.specs.site_module.SiteLog.{Act, Bases, Did, Entry, Handed, Log, Records, Redeclared, Sends, Setting, Submits, Ticked}
+use Rattle.sdd_invariants.specs.attempt.Acts.{attempt_due, commit_act, start_act}
+use Rattle.sdd_invariants.specs.attempt.Attempts.{Attempt, active, asks_rows}
+use Rattle.sdd_invariants.specs.attempt.Exchange.{first_send, is_over}
+use Rattle.sdd_invariants.specs.attempt.Queues.{Queued, queue}
 use Rattle.sdd_invariants.proofs.Bools.{and_left, and_right}
 use Rattle.sdd_invariants.proofs.Exchanges.{asks_next}
 use Rattle.sdd_invariants.proofs.Lists.{in_filtered, in_mapped, in_range}
-use Rattle.sdd_tm.specs.Due as tm
-use Rattle.sdd_tm.specs.Views as tm_views
-use Rattle.sdd_umod.specs.Due as um
-use Rattle.sdd_umod.specs.Views as um_views
+use Rattle.sdd_invariants.specs.tm.Due as tm
+use Rattle.sdd_invariants.specs.tm.Views as tm_views
+use Rattle.sdd_invariants.specs.umod.Due as um
+use Rattle.sdd_invariants.specs.umod.Views as um_views
 
 pub record IsFirstOf (s : Setting) (log : Log) (ts c : ℕ) (to : Site) (m : Msg) : Type 0 where
   pub attempt : Attempt

@@ -1,18 +1,18 @@
 -- What is next to be handed to a data module fits there.
 use Rattle.std.proofs.Common.{ℕ, ◌≡◌, Some, refl}
-use Rattle.sdd_base.specs.declared.number.DmNo.{DmNo}
-use Rattle.sdd_base.specs.declared.site.Site.{Site}
-use Rattle.sdd_base.specs.declared.site.Site.TheVariants.{D, T, U}
-use Rattle.sdd_wire.specs.declared.msg.Msg.{Msg}
-use Rattle.sdd_wire.specs.declared.msg.Msg.TheVariants.{Ask, Done, Fetch, Held, Hold, Null, Read, Ready, Reduce, Reduced, Reject, Release, Rows, Ship, Values, Write}
-use Rattle.sdd_module.specs.SiteLog.{Bases, Each}
-use Rattle.sdd_dm.specs.Fits.{fits}
-use Rattle.sdd_log.specs.Due.{next}
-use Rattle.sdd_log.specs.Entries.{Given, Hand, Log}
-use Rattle.sdd_log.specs.Lawful.{IsLawful}
-use Rattle.sdd_log.specs.Locals.{local_of, setting_of}
-use Rattle.sdd_log.specs.Permitted.{IsPermitted}
-use Rattle.sdd_log.specs.Traffic.{handed}
+use Rattle.sdd_invariants.specs.base.declared.number.DmNo.{DmNo}
+use Rattle.sdd_invariants.specs.base.declared.site.Site.{Site}
+use Rattle.sdd_invariants.specs.base.declared.site.Site.TheVariants.{D, T, U}
+use Rattle.sdd_invariants.specs.wire.declared.msg.Msg.{Msg}
+use Rattle.sdd_invariants.specs.wire.declared.msg.Msg.TheVariants.{Ask, Done, Fetch, Held, Hold, Null, Read, Ready, Reduce, Reduced, Reject, Release, Rows, Ship, Values, Write}
+use Rattle.sdd_invariants.specs.site_module.SiteLog.{Bases, Each}
+use Rattle.sdd_invariants.specs.dm.Fits.{fits}
+use Rattle.sdd_invariants.specs.logs.Due.{next}
+use Rattle.sdd_invariants.specs.logs.Entries.{Given, Hand, Log}
+use Rattle.sdd_invariants.specs.logs.Lawful.{IsLawful}
+use Rattle.sdd_invariants.specs.logs.Locals.{local_of, setting_of}
+use Rattle.sdd_invariants.specs.logs.Permitted.{IsPermitted}
+use Rattle.sdd_invariants.specs.logs.Traffic.{handed}
 use Rattle.sdd_invariants.specs.Steps.{IsFair}
 use Rattle.sdd_invariants.proofs.Fair.{t_fair, u_fair}
 use Rattle.sdd_obligations.specs.Bounds.{IsSmall}

@@ -1,31 +1,31 @@
 -- No WRITE that was handed to a data module has the timestamp of the one that is next.
 use Rattle.std.proofs.Common.{ℕ, ◌++◌, ◌*◌, ◌+◌, ◌<◌, ◌==◌, ◌∙◌, ◌∷◌, ◌≡◌, ◌≤◌, Bool, List, Some, [], ap, append_assoc, arith, false, if◌then◌else◌, inl, inr, length, refl, slice_get, subst, sym, true}
 use Rattle.std.proofs.lemmas.Bool.{eqb-true}
-use Rattle.sdd_base.specs.Numbers.{tm_no}
-use Rattle.sdd_base.specs.Sites.{number_of, sites}
-use Rattle.sdd_base.specs.Words.{contains}
-use Rattle.sdd_base.specs.declared.change.Change.{Change}
-use Rattle.sdd_base.specs.declared.number.ClassNo.{ClassNo}
-use Rattle.sdd_base.specs.declared.number.DmNo.{DmNo}
-use Rattle.sdd_base.specs.declared.number.TmNo.{TmNo}
-use Rattle.sdd_base.specs.declared.number.Ts.{Ts}
-use Rattle.sdd_base.specs.declared.number.TxnNo.{TxnNo}
-use Rattle.sdd_base.specs.declared.site.Site.{Site}
-use Rattle.sdd_base.specs.declared.site.Site.TheVariants.{D, T, U}
-use Rattle.sdd_wire.specs.Piped.{goes_through}
-use Rattle.sdd_wire.specs.declared.msg.Msg.{Msg}
-use Rattle.sdd_wire.specs.declared.msg.Msg.TheVariants.{Write}
-use Rattle.sdd_module.specs.SiteLog.{Act, Did, Handed, Records, Redeclared, Sends, Setting, Submits, Ticked}
-use Rattle.sdd_attempt.specs.Acts.{commit_act}
-use Rattle.sdd_attempt.specs.Clocks.{clock}
-use Rattle.sdd_attempt.specs.Queues.{Queued}
-use Rattle.sdd_dm.proofs.Prefix.{all_handed, all_there}
-use Rattle.sdd_dm.specs.Fits.{with_time, write_time_of, write_times}
-use Rattle.sdd_dm.specs.Pipes.{pipe}
-use Rattle.sdd_log.specs.Entries.{Does, Given, Hand, Log}
-use Rattle.sdd_log.specs.Lawful.{IsLawful}
-use Rattle.sdd_log.specs.Locals.{local_of, setting_of}
-use Rattle.sdd_log.specs.Permitted.{IsPermitted}
+use Rattle.sdd_invariants.specs.base.Numbers.{tm_no}
+use Rattle.sdd_invariants.specs.base.Sites.{number_of, sites}
+use Rattle.sdd_invariants.specs.base.Words.{contains}
+use Rattle.sdd_invariants.specs.base.declared.change.Change.{Change}
+use Rattle.sdd_invariants.specs.base.declared.number.ClassNo.{ClassNo}
+use Rattle.sdd_invariants.specs.base.declared.number.DmNo.{DmNo}
+use Rattle.sdd_invariants.specs.base.declared.number.TmNo.{TmNo}
+use Rattle.sdd_invariants.specs.base.declared.number.Ts.{Ts}
+use Rattle.sdd_invariants.specs.base.declared.number.TxnNo.{TxnNo}
+use Rattle.sdd_invariants.specs.base.declared.site.Site.{Site}
+use Rattle.sdd_invariants.specs.base.declared.site.Site.TheVariants.{D, T, U}
+use Rattle.sdd_invariants.specs.wire.Piped.{goes_through}
+use Rattle.sdd_invariants.specs.wire.declared.msg.Msg.{Msg}
+use Rattle.sdd_invariants.specs.wire.declared.msg.Msg.TheVariants.{Write}
+use Rattle.sdd_invariants.specs.site_module.SiteLog.{Act, Did, Handed, Records, Redeclared, Sends, Setting, Submits, Ticked}
+use Rattle.sdd_invariants.specs.attempt.Acts.{commit_act}
+use Rattle.sdd_invariants.specs.attempt.Clocks.{clock}
+use Rattle.sdd_invariants.specs.attempt.Queues.{Queued}
+use Rattle.sdd_invariants.proofs.dm.Prefix.{all_handed, all_there}
+use Rattle.sdd_invariants.specs.dm.Fits.{with_time, write_time_of, write_times}
+use Rattle.sdd_invariants.specs.dm.Pipes.{pipe}
+use Rattle.sdd_invariants.specs.logs.Entries.{Does, Given, Hand, Log}
+use Rattle.sdd_invariants.specs.logs.Lawful.{IsLawful}
+use Rattle.sdd_invariants.specs.logs.Locals.{local_of, setting_of}
+use Rattle.sdd_invariants.specs.logs.Permitted.{IsPermitted}
 use Rattle.sdd_invariants.proofs.Recorded.{start_of_active}
 use Rattle.sdd_invariants.specs.OnLinks.{write_at}
 use Rattle.sdd_invariants.proofs.Installed.{origin, write_origin}
@@ -43,7 +43,7 @@ use Rattle.sdd_obligations.proofs.OfNext.{IsThere, of_next, t_of_sites}
 use Rattle.sdd_obligations.specs.Routes.{IsRunner}
 use Rattle.sdd_obligations.proofs.Piping.{pipe_with}
 use Rattle.sdd_obligations.proofs.Stamped.{same_start, stamp_ticks}
-use Rattle.sdd_module.specs.SiteLog as site
+use Rattle.sdd_invariants.specs.site_module.SiteLog as site
 
 -- an attempt of class c was started with the timestamp t
 

@@ -2,23 +2,23 @@
 use Rattle.std.specs.List.{cons_option}
 use Rattle.std.specs.Prelude.{filter_map}
 use Rattle.std.proofs.Common.{ℕ, ◌==◌, ◌∷◌, ◌≡◌, ◌⊎◌, Bool, List, None, Option, Some, [], ap, cond, false, if◌then◌else◌, inl, inr, refl, slice_get, subst, suc, sym, true, zero}
-use Rattle.sdd_base.specs.Numbers.{class_no, dm_no, time_at, tm_no}
-use Rattle.sdd_base.specs.Sites.{same_site}
-use Rattle.sdd_base.specs.Words.{head_of, or_else}
-use Rattle.sdd_base.specs.declared.change.Change.{Change}
-use Rattle.sdd_base.specs.declared.site.Site.{Site}
-use Rattle.sdd_base.specs.declared.site.Site.TheVariants.{D, T, U}
-use Rattle.sdd_catalog.specs.Catalogue.{numbers_to}
-use Rattle.sdd_lang.specs.Effect.{effect}
-use Rattle.sdd_wire.specs.declared.msg.Msg.{Msg}
-use Rattle.sdd_wire.specs.declared.msg.Msg.TheVariants.{Ask, Fetch, Held, Hold, Null, Reduce, Release, Ship}
-use Rattle.sdd_module.specs.SiteLog.{Act, Bases, Did, Entry, Handed, Log, Records, Redeclared, Sends, Setting, Submits, Ticked, hands, sends_of_act}
-use Rattle.sdd_attempt.specs.Acts.{attempt_due, commit_act, write_to}
-use Rattle.sdd_attempt.specs.Attempts.{Attempt, active, asks_rows}
-use Rattle.sdd_attempt.specs.Exchange.{first_send, is_over}
-use Rattle.sdd_attempt.specs.Queues.{Queued}
-use Rattle.sdd_tm.specs.Due.{IsDue, by_ask, by_exchange, by_hold, by_start, exchange_due, null_at, start_of}
-use Rattle.sdd_tm.specs.Views.{Question, asks, asks_acted, asks_handed, class_view, runs, view_of}
+use Rattle.sdd_invariants.specs.base.Numbers.{class_no, dm_no, time_at, tm_no}
+use Rattle.sdd_invariants.specs.base.Sites.{same_site}
+use Rattle.sdd_invariants.specs.base.Words.{head_of, or_else}
+use Rattle.sdd_invariants.specs.base.declared.change.Change.{Change}
+use Rattle.sdd_invariants.specs.base.declared.site.Site.{Site}
+use Rattle.sdd_invariants.specs.base.declared.site.Site.TheVariants.{D, T, U}
+use Rattle.sdd_invariants.specs.catalog.Catalogue.{numbers_to}
+use Rattle.sdd_invariants.specs.lang.Effect.{effect}
+use Rattle.sdd_invariants.specs.wire.declared.msg.Msg.{Msg}
+use Rattle.sdd_invariants.specs.wire.declared.msg.Msg.TheVariants.{Ask, Fetch, Held, Hold, Null, Reduce, Release, Ship}
+use Rattle.sdd_invariants.specs.site_module.SiteLog.{Act, Bases, Did, Entry, Handed, Log, Records, Redeclared, Sends, Setting, Submits, Ticked, hands, sends_of_act}
+use Rattle.sdd_invariants.specs.attempt.Acts.{attempt_due, commit_act, write_to}
+use Rattle.sdd_invariants.specs.attempt.Attempts.{Attempt, active, asks_rows}
+use Rattle.sdd_invariants.specs.attempt.Exchange.{first_send, is_over}
+use Rattle.sdd_invariants.specs.attempt.Queues.{Queued}
+use Rattle.sdd_invariants.specs.tm.Due.{IsDue, by_ask, by_exchange, by_hold, by_start, exchange_due, null_at, start_of}
+use Rattle.sdd_invariants.specs.tm.Views.{Question, asks, asks_acted, asks_handed, class_view, runs, view_of}
 use Rattle.sdd_invariants.proofs.Serving.{u_way}
 use Rattle.sdd_invariants.specs.AtU.{IsStepU}
 use Rattle.sdd_invariants.specs.PutsBy.{WasAsked}

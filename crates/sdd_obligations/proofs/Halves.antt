@@ -2,21 +2,21 @@
 use Rattle.std.proofs.Common.{ℕ, ◌++◌, ◌<◌, ◌==◌, ◌∙◌, ◌∷◌, ◌≡◌, ◌≤◌, Bool, List, None, Option, Some, [], ap, arith, false, if◌then◌else◌, inl, inr, length, map, not, refl, slice_get, subst, suc, sym, true, zero}
 use Rattle.std.proofs.Math.Decide.{dec_le}
 use Rattle.std.proofs.lemmas.Bool.{eqb-true}
-use Rattle.sdd_base.specs.Numbers.{dm_no}
-use Rattle.sdd_base.specs.Sites.{number_of}
-use Rattle.sdd_base.specs.Words.{head_of}
-use Rattle.sdd_base.specs.declared.site.Site.TheVariants.{D}
-use Rattle.sdd_wire.specs.Piped.{goes_through, time_of}
-use Rattle.sdd_wire.specs.declared.msg.Msg.{Msg}
-use Rattle.sdd_wire.specs.declared.msg.Msg.TheVariants.{Read}
-use Rattle.sdd_module.specs.SiteLog.{Act, Did, Each, Handed, Redeclared, Setting, Submits, Ticked, sends_of_act}
-use Rattle.sdd_attempt.specs.Attempts.{Attempt, active}
-use Rattle.sdd_attempt.specs.Fits.{is_read}
-use Rattle.sdd_dm.specs.Pipes.{pipe}
-use Rattle.sdd_pipe.specs.Pipe.{Pipe, head}
-use Rattle.sdd_log.specs.Entries.{Given, Log}
-use Rattle.sdd_log.specs.Locals.{local_of, setting_of}
-use Rattle.sdd_log.specs.Permitted.{IsPermitted}
+use Rattle.sdd_invariants.specs.base.Numbers.{dm_no}
+use Rattle.sdd_invariants.specs.base.Sites.{number_of}
+use Rattle.sdd_invariants.specs.base.Words.{head_of}
+use Rattle.sdd_invariants.specs.base.declared.site.Site.TheVariants.{D}
+use Rattle.sdd_invariants.specs.wire.Piped.{goes_through, time_of}
+use Rattle.sdd_invariants.specs.wire.declared.msg.Msg.{Msg}
+use Rattle.sdd_invariants.specs.wire.declared.msg.Msg.TheVariants.{Read}
+use Rattle.sdd_invariants.specs.site_module.SiteLog.{Act, Did, Each, Handed, Redeclared, Setting, Submits, Ticked, sends_of_act}
+use Rattle.sdd_invariants.specs.attempt.Attempts.{Attempt, active}
+use Rattle.sdd_invariants.specs.attempt.Fits.{is_read}
+use Rattle.sdd_invariants.specs.dm.Pipes.{pipe}
+use Rattle.sdd_invariants.specs.pipe.Pipe.{Pipe, head}
+use Rattle.sdd_invariants.specs.logs.Entries.{Given, Log}
+use Rattle.sdd_invariants.specs.logs.Locals.{local_of, setting_of}
+use Rattle.sdd_invariants.specs.logs.Permitted.{IsPermitted}
 use Rattle.sdd_obligations.proofs.Asking.{in_turn}
 use Rattle.sdd_obligations.proofs.Hearing.{AtTurn, InTurn, IsTimely}
 use Rattle.sdd_obligations.proofs.Held.{IsAlone, IsHeldAt}
@@ -36,7 +36,7 @@ use Rattle.sdd_invariants.specs.Orders.{AllLe}
 use Rattle.sdd_invariants.specs.Steps.{home, limit_of}
 use Rattle.sdd_invariants.specs.Traffic.{puts_to, times_in}
 use Rattle.sdd_invariants.proofs.Fair.{d_fair, home_fair}
-use Rattle.sdd_module.specs.SiteLog as site
+use Rattle.sdd_invariants.specs.site_module.SiteLog as site
 
 never : {A : Type 0} (b : Bool) → b ≡ true → b ≡ false → A
 never b e f = absurd (not_both b e f)

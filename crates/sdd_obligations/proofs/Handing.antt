@@ -1,18 +1,18 @@
 -- What is next to be handed over: it was put, it goes along a link of the network, and no time in it is late.
 use Rattle.std.proofs.Common.{ℕ, ◌^◌, ◌∷◌, ◌≡◌, ◌≤◌, Some, arith, slice_get, true}
-use Rattle.sdd_base.specs.Sites.{number_of, sites}
-use Rattle.sdd_base.specs.declared.site.Site.{Site}
-use Rattle.sdd_base.specs.declared.site.Site.TheVariants.{D, T, U}
-use Rattle.sdd_wire.specs.declared.msg.Msg.{Msg}
-use Rattle.sdd_net.specs.Nets.{is_link}
-use Rattle.sdd_net.proofs.Directions.{link_parts}
-use Rattle.sdd_log.specs.Due.{next}
-use Rattle.sdd_log.specs.Entries.{Given, Hand, Log}
-use Rattle.sdd_log.specs.Lawful.{IsLawful, IsWithin}
-use Rattle.sdd_log.specs.Locals.{local_of}
-use Rattle.sdd_log.specs.Permitted.{IsPermitted}
-use Rattle.sdd_log.specs.Traffic.{handed}
-use Rattle.sdd_log.proofs.NewMarks.{lawful_permitted}
+use Rattle.sdd_invariants.specs.base.Sites.{number_of, sites}
+use Rattle.sdd_invariants.specs.base.declared.site.Site.{Site}
+use Rattle.sdd_invariants.specs.base.declared.site.Site.TheVariants.{D, T, U}
+use Rattle.sdd_invariants.specs.wire.declared.msg.Msg.{Msg}
+use Rattle.sdd_invariants.specs.net.Nets.{is_link}
+use Rattle.sdd_invariants.proofs.net.Directions.{link_parts}
+use Rattle.sdd_invariants.specs.logs.Due.{next}
+use Rattle.sdd_invariants.specs.logs.Entries.{Given, Hand, Log}
+use Rattle.sdd_invariants.specs.logs.Lawful.{IsLawful, IsWithin}
+use Rattle.sdd_invariants.specs.logs.Locals.{local_of}
+use Rattle.sdd_invariants.specs.logs.Permitted.{IsPermitted}
+use Rattle.sdd_invariants.specs.logs.Traffic.{handed}
+use Rattle.sdd_invariants.proofs.logs.NewMarks.{lawful_permitted}
 use Rattle.sdd_invariants.specs.Orders.{AllLt}
 use Rattle.sdd_invariants.specs.Traffic.{puts_to}
 use Rattle.sdd_invariants.proofs.InOrder.{hand_was_put}

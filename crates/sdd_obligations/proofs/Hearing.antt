@@ -1,15 +1,15 @@
 -- An answer that is handed in turn to a site that makes attempts keeps its turns.
 use Rattle.std.proofs.Common.{ℕ, ◌&&◌, ◌<◌, ◌==◌, ◌∙◌, ◌∷◌, ◌≡◌, Bool, List, None, Option, Some, [], ap, arith, cond, false, if◌then◌else◌, inl, inr, not, refl, subst, sym, true}
-use Rattle.sdd_base.specs.Numbers.{dm_no}
-use Rattle.sdd_base.specs.Words.{contains}
-use Rattle.sdd_base.specs.declared.site.Site.{Site}
-use Rattle.sdd_base.specs.declared.site.Site.TheVariants.{D, T, U}
-use Rattle.sdd_wire.specs.declared.msg.Msg.{Msg}
-use Rattle.sdd_wire.specs.declared.msg.Msg.TheVariants.{Fetch, Read, Reduce, Reject, Ship}
-use Rattle.sdd_module.specs.SiteLog.{Did, Entry, Handed, Log, Redeclared, Setting, Submits, Ticked}
-use Rattle.sdd_attempt.specs.Attempts.{Attempt, active, active_handed, rejects}
-use Rattle.sdd_attempt.specs.Exchange.{Exchange, Fetching, Over, Phase, Reading, Reducing, Shipping, after_hand, is_over}
-use Rattle.sdd_attempt.specs.Fits.{uses_at}
+use Rattle.sdd_invariants.specs.base.Numbers.{dm_no}
+use Rattle.sdd_invariants.specs.base.Words.{contains}
+use Rattle.sdd_invariants.specs.base.declared.site.Site.{Site}
+use Rattle.sdd_invariants.specs.base.declared.site.Site.TheVariants.{D, T, U}
+use Rattle.sdd_invariants.specs.wire.declared.msg.Msg.{Msg}
+use Rattle.sdd_invariants.specs.wire.declared.msg.Msg.TheVariants.{Fetch, Read, Reduce, Reject, Ship}
+use Rattle.sdd_invariants.specs.site_module.SiteLog.{Did, Entry, Handed, Log, Redeclared, Setting, Submits, Ticked}
+use Rattle.sdd_invariants.specs.attempt.Attempts.{Attempt, active, active_handed, rejects}
+use Rattle.sdd_invariants.specs.attempt.Exchange.{Exchange, Fetching, Over, Phase, Reading, Reducing, Shipping, after_hand, is_over}
+use Rattle.sdd_invariants.specs.attempt.Fits.{uses_at}
 use Rattle.sdd_obligations.proofs.AtTurn.{IsNext, StandsAt, answered_last, apart, awaited, awaits, hand_at, hand_not, is_fetch_of, is_reduce_of, silent_not_asks, told_not_asks, unsent}
 use Rattle.sdd_obligations.proofs.Modules.{firsts}
 use Rattle.sdd_obligations.specs.Turns.{Asks, MayAnswer, Refused, Replies, RepliesToFetch, RepliesToReduce, RepliesToShip, Silent, Told, Turn, answers, asked, asked_by, is_a_read, is_a_refusal, is_a_ship, is_answer, is_exchanging, is_question, questions, told, told_by, turn_at}

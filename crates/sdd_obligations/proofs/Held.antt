@@ -2,30 +2,30 @@
 use Rattle.std.specs.List.{flat_map, list_any}
 use Rattle.std.proofs.Common.{ℕ, ◌&&◌, ◌++◌, ◌==◌, ◌||◌, ◌∙◌, ◌∷◌, ◌≡◌, ◌⊎◌, Bool, List, None, Option, Some, [], ap, cond, false, filter, if◌then◌else◌, inl, inr, length, map, not, refl, slice_get, subst, sym, true}
 use Rattle.std.proofs.lemmas.Bool.{eqb-true}
-use Rattle.sdd_base.specs.Order.{column}
-use Rattle.sdd_base.specs.Sites.{same_site}
-use Rattle.sdd_base.specs.Words.{contains, head_of}
-use Rattle.sdd_base.specs.declared.condition.Cond.{Cond}
-use Rattle.sdd_base.specs.declared.number.ClassNo.{ClassNo}
-use Rattle.sdd_base.specs.declared.number.Ts.{Ts}
-use Rattle.sdd_base.specs.declared.number.TxnNo.{TxnNo}
-use Rattle.sdd_base.specs.declared.site.Site.{Site}
-use Rattle.sdd_base.specs.declared.usage.Use.{Use}
-use Rattle.sdd_base.specs.declared.value.Value.{Value}
-use Rattle.sdd_history.specs.declared.record.Rec.{Rec}
-use Rattle.sdd_history.specs.declared.record.Rec.TheVariants.{Answer, Apply, Arrive, Pass, Reject as Rejected, Wait}
-use Rattle.sdd_wire.specs.declared.msg.Msg.{Msg}
-use Rattle.sdd_wire.specs.declared.msg.Msg.TheVariants.{Done, Fetch, Read, Ready, Reduce, Reduced, Reject, Rows, Ship, Values}
-use Rattle.sdd_module.specs.SiteLog.{Act, Did, Handed, Log, Records, Sends, Setting, sends_of_act}
-use Rattle.sdd_attempt.specs.Attempts.{asks_rows}
-use Rattle.sdd_attempt.specs.Fits.{is_read}
-use Rattle.sdd_pipe.specs.Pipe.{head}
-use Rattle.sdd_copy.specs.Frozen.{CopyRows, Frozen, is_among, reduced, rows_for, values_in}
-use Rattle.sdd_dm.specs.Copies.{all_held, copies, dated, frozen, frozen_at, frozen_handed, given_up, is_answer as is_answer_record, reduced_at, rows_held}
-use Rattle.sdd_dm.specs.Due.{ask_for, done_for}
-use Rattle.sdd_dm.specs.Opens.{Open, class_asked, is_asked_of, is_number, opens}
-use Rattle.sdd_dm.specs.Pipes.{pipe}
-use Rattle.sdd_dm.specs.Views.{dated_in, home_of, source_of, view_of}
+use Rattle.sdd_invariants.specs.base.Order.{column}
+use Rattle.sdd_invariants.specs.base.Sites.{same_site}
+use Rattle.sdd_invariants.specs.base.Words.{contains, head_of}
+use Rattle.sdd_invariants.specs.base.declared.condition.Cond.{Cond}
+use Rattle.sdd_invariants.specs.base.declared.number.ClassNo.{ClassNo}
+use Rattle.sdd_invariants.specs.base.declared.number.Ts.{Ts}
+use Rattle.sdd_invariants.specs.base.declared.number.TxnNo.{TxnNo}
+use Rattle.sdd_invariants.specs.base.declared.site.Site.{Site}
+use Rattle.sdd_invariants.specs.base.declared.usage.Use.{Use}
+use Rattle.sdd_invariants.specs.base.declared.value.Value.{Value}
+use Rattle.sdd_invariants.specs.history.declared.record.Rec.{Rec}
+use Rattle.sdd_invariants.specs.history.declared.record.Rec.TheVariants.{Answer, Apply, Arrive, Pass, Reject as Rejected, Wait}
+use Rattle.sdd_invariants.specs.wire.declared.msg.Msg.{Msg}
+use Rattle.sdd_invariants.specs.wire.declared.msg.Msg.TheVariants.{Done, Fetch, Read, Ready, Reduce, Reduced, Reject, Rows, Ship, Values}
+use Rattle.sdd_invariants.specs.site_module.SiteLog.{Act, Did, Handed, Log, Records, Sends, Setting, sends_of_act}
+use Rattle.sdd_invariants.specs.attempt.Attempts.{asks_rows}
+use Rattle.sdd_invariants.specs.attempt.Fits.{is_read}
+use Rattle.sdd_invariants.specs.pipe.Pipe.{head}
+use Rattle.sdd_laws.specs.copy.Frozen.{CopyRows, Frozen, is_among, reduced, rows_for, values_in}
+use Rattle.sdd_invariants.specs.dm.Copies.{all_held, copies, dated, frozen, frozen_at, frozen_handed, given_up, is_answer as is_answer_record, reduced_at, rows_held}
+use Rattle.sdd_invariants.specs.dm.Due.{ask_for, done_for}
+use Rattle.sdd_invariants.specs.dm.Opens.{Open, class_asked, is_asked_of, is_number, opens}
+use Rattle.sdd_invariants.specs.dm.Pipes.{pipe}
+use Rattle.sdd_invariants.specs.dm.Views.{dated_in, home_of, source_of, view_of}
 use Rattle.sdd_obligations.proofs.Hearing.{told_is, told_one}
 use Rattle.sdd_obligations.proofs.DataSteps.{IsDataStep, counts_told, data_step_way, reply}
 use Rattle.sdd_obligations.proofs.Telling.{IsHomeOf, asks_no_answer, done_no_answer, head_through, read_next}

@@ -76,3 +76,24 @@ pub mod Under
 pub mod Upholding
 pub mod Verdicts
 pub mod Written
+pub use Rattle.sdd_invariants.proofs.base as base
+pub use Rattle.sdd_invariants.proofs.net as net
+pub use Rattle.sdd_invariants.proofs.catalog as catalog
+pub use Rattle.sdd_invariants.proofs.history as history
+pub use Rattle.sdd_invariants.proofs.wire as wire
+pub use Rattle.sdd_invariants.proofs.graph as graph
+pub use Rattle.sdd_invariants.proofs.protocol as protocol
+pub use Rattle.sdd_invariants.proofs.lang as lang
+pub use Rattle.sdd_laws.proofs.class_eras as class_eras
+pub use Rattle.sdd_laws.proofs.copy as copy
+pub use Rattle.sdd_invariants.proofs.pipe as pipe
+pub use Rattle.sdd_invariants.proofs.semijoin as semijoin
+pub use Rattle.sdd_invariants.proofs.site_module as site_module
+pub use Rattle.sdd_invariants.proofs.attempt as attempt
+pub use Rattle.sdd_invariants.proofs.dm as dm
+pub use Rattle.sdd_invariants.proofs.tm as tm
+pub use Rattle.sdd_invariants.proofs.umod as umod
+pub use Rattle.sdd_laws.proofs.serial_orders as serial_orders
+pub use Rattle.sdd_laws.proofs as laws
+pub use Rattle.sdd_invariants.proofs.logs as logs
+pub use Rattle.sdd_invariants.proofs as invariants

@@ -4,45 +4,45 @@ use Rattle.std.specs.Prelude.{nat_le, slice_index_or}
 use Rattle.std.proofs.Common.{ℕ, ◌++◌, ◌==◌, ◌∙◌, ◌∷◌, ◌≡◌, ◌≤◌, Bool, List, None, Option, Some, [], ap, arith, cond, false, filter, if◌then◌else◌, map, refl, slice_get, subst, suc, sym, true, zero}
 use Rattle.std.proofs.lemmas.Bool.Decides.{nat_tests}
 use Rattle.std.proofs.lemmas.List.Elements.{All-head, All-tail}
-use Rattle.sdd_base.specs.Numbers.{class_no, dm_no, time_at, tm_no}
-use Rattle.sdd_base.specs.Sites.{are_linked, sites}
-use Rattle.sdd_base.specs.Words.{head_of, or_else}
-use Rattle.sdd_base.specs.declared.change.Change.{Change}
-use Rattle.sdd_base.specs.declared.condition.Cond.{Cond}
-use Rattle.sdd_base.specs.declared.number.DmNo.{DmNo}
-use Rattle.sdd_base.specs.declared.number.TmNo.{TmNo}
-use Rattle.sdd_base.specs.declared.site.Site.{Site}
-use Rattle.sdd_base.specs.declared.site.Site.TheVariants.{D, T, U}
-use Rattle.sdd_catalog.specs.Catalogue.{numbers_to}
-use Rattle.sdd_catalog.specs.Numbers.{IsServedClass, IsWhole}
-use Rattle.sdd_catalog.specs.declared.resolved.Class.{Class}
-use Rattle.sdd_lang.specs.Effect.{effect}
-use Rattle.sdd_wire.specs.declared.msg.Msg.{Msg}
-use Rattle.sdd_wire.specs.declared.msg.Msg.TheVariants.{Done, Fetch, Hold, Null, Read, Reduce, Ship, Write}
-use Rattle.sdd_module.specs.SiteLog.{Act, Bases, Did, Each, Handed, Records, Sends, Setting, sends_of_act}
-use Rattle.sdd_attempt.specs.Acts.{attempt_due, commit_act, write_to}
-use Rattle.sdd_attempt.specs.Attempts.{Attempt, active}
-use Rattle.sdd_attempt.specs.Exchange.{first_send, is_over}
-use Rattle.sdd_attempt.specs.Queues.{Queued, queue}
-use Rattle.sdd_pipe.specs.Pipe.{head}
-use Rattle.sdd_dm.specs.Due as dm
-use Rattle.sdd_dm.specs.Opens.{Open, is_asked_of, opens}
-use Rattle.sdd_dm.specs.Views.{ClassView, Home, View, home_of, source_of, view_of}
-use Rattle.sdd_dm.specs.declared.step.Step.{Step}
-use Rattle.sdd_dm.specs.declared.step.Step.TheVariants.{Processes, Refuses, Waits}
-use Rattle.sdd_tm.specs.Due as tm
-use Rattle.sdd_tm.specs.Views as tm_views
-use Rattle.sdd_umod.specs.Due as um
-use Rattle.sdd_umod.specs.Views as um_views
+use Rattle.sdd_invariants.specs.base.Numbers.{class_no, dm_no, time_at, tm_no}
+use Rattle.sdd_invariants.specs.base.Sites.{are_linked, sites}
+use Rattle.sdd_invariants.specs.base.Words.{head_of, or_else}
+use Rattle.sdd_invariants.specs.base.declared.change.Change.{Change}
+use Rattle.sdd_invariants.specs.base.declared.condition.Cond.{Cond}
+use Rattle.sdd_invariants.specs.base.declared.number.DmNo.{DmNo}
+use Rattle.sdd_invariants.specs.base.declared.number.TmNo.{TmNo}
+use Rattle.sdd_invariants.specs.base.declared.site.Site.{Site}
+use Rattle.sdd_invariants.specs.base.declared.site.Site.TheVariants.{D, T, U}
+use Rattle.sdd_invariants.specs.catalog.Catalogue.{numbers_to}
+use Rattle.sdd_invariants.specs.catalog.Numbers.{IsServedClass, IsWhole}
+use Rattle.sdd_invariants.specs.catalog.declared.resolved.Class.{Class}
+use Rattle.sdd_invariants.specs.lang.Effect.{effect}
+use Rattle.sdd_invariants.specs.wire.declared.msg.Msg.{Msg}
+use Rattle.sdd_invariants.specs.wire.declared.msg.Msg.TheVariants.{Done, Fetch, Hold, Null, Read, Reduce, Ship, Write}
+use Rattle.sdd_invariants.specs.site_module.SiteLog.{Act, Bases, Did, Each, Handed, Records, Sends, Setting, sends_of_act}
+use Rattle.sdd_invariants.specs.attempt.Acts.{attempt_due, commit_act, write_to}
+use Rattle.sdd_invariants.specs.attempt.Attempts.{Attempt, active}
+use Rattle.sdd_invariants.specs.attempt.Exchange.{first_send, is_over}
+use Rattle.sdd_invariants.specs.attempt.Queues.{Queued, queue}
+use Rattle.sdd_invariants.specs.pipe.Pipe.{head}
+use Rattle.sdd_invariants.specs.dm.Due as dm
+use Rattle.sdd_invariants.specs.dm.Opens.{Open, is_asked_of, opens}
+use Rattle.sdd_invariants.specs.dm.Views.{ClassView, Home, View, home_of, source_of, view_of}
+use Rattle.sdd_invariants.specs.dm.declared.step.Step.{Step}
+use Rattle.sdd_invariants.specs.dm.declared.step.Step.TheVariants.{Processes, Refuses, Waits}
+use Rattle.sdd_invariants.specs.tm.Due as tm
+use Rattle.sdd_invariants.specs.tm.Views as tm_views
+use Rattle.sdd_invariants.specs.umod.Due as um
+use Rattle.sdd_invariants.specs.umod.Views as um_views
 use Rattle.sdd_invariants.proofs.Serving.{counts_tm}
-use Rattle.sdd_net.proofs.Directions.{link_back}
-use Rattle.sdd_net.specs.Nets.{is_link, is_site}
-use Rattle.sdd_log.specs.Entries.{Does, Given, Hand, Log}
-use Rattle.sdd_log.specs.Lawful.{IsLawful}
-use Rattle.sdd_log.specs.Locals.{local_of, setting_of}
-use Rattle.sdd_log.specs.Permitted.{IsDueAt, IsPermitted}
-use Rattle.sdd_log.specs.Snapshots.{base_of}
-use Rattle.sdd_log.specs.Resting.{AllLinked}
+use Rattle.sdd_invariants.proofs.net.Directions.{link_back}
+use Rattle.sdd_invariants.specs.net.Nets.{is_link, is_site}
+use Rattle.sdd_invariants.specs.logs.Entries.{Does, Given, Hand, Log}
+use Rattle.sdd_invariants.specs.logs.Lawful.{IsLawful}
+use Rattle.sdd_invariants.specs.logs.Locals.{local_of, setting_of}
+use Rattle.sdd_invariants.specs.logs.Permitted.{IsDueAt, IsPermitted}
+use Rattle.sdd_invariants.specs.logs.Snapshots.{base_of}
+use Rattle.sdd_invariants.specs.logs.Resting.{AllLinked}
 use Rattle.sdd_invariants.proofs.PutBy.{was_handed}
 use Rattle.sdd_invariants.specs.PutsBy.{WasAsked}
 use Rattle.sdd_invariants.proofs.Bools.{both}
@@ -55,7 +55,7 @@ use Rattle.sdd_obligations.proofs.OfNext.{IsThere, OfNext, d_of_sites, link_of_l
 use Rattle.sdd_obligations.specs.Routes.{IsAnAsk}
 use Rattle.sdd_obligations.proofs.Going.{in_made, was_asked_of}
 use Rattle.sdd_obligations.proofs.Near.{AllNear, HasNear, IsNear, SendsNear, active_near, modules_near}
-use Rattle.sdd_module.specs.SiteLog as site
+use Rattle.sdd_invariants.specs.site_module.SiteLog as site
 
 le_true : (a b : ℕ) → a ≤ b → nat_le a b ≡ true
 le_true a b l = grind (arith, nat_tests)

@@ -2,10 +2,10 @@
 use Rattle.std.proofs.Common.{ℕ, ◌==◌, ◌≡◌, inl, inr, true, List, [], ◌∷◌, ap, refl, ◌∙◌, subst}
 use Rattle.std.specs.List.{AllByRecursion}
 use Rattle.std.proofs.lemmas.List.Elements.{All-nil, recursion_from_All}
-use Rattle.sdd_base.specs.Words.{ascending, contains}
+use Rattle.sdd_invariants.specs.base.Words.{ascending, contains}
 use Rattle.sdd_exec.specs.Choices.{Has}
-use Rattle.sdd_lang.proofs.ReadSetDecides.{ascending_back}
-use Rattle.sdd_lang.proofs.Sets.{All-ascending}
+use Rattle.sdd_invariants.proofs.lang.ReadSetDecides.{ascending_back}
+use Rattle.sdd_invariants.proofs.lang.Sets.{All-ascending}
 use Rattle.sdd_invariants.proofs.Bools.{or_left, or_right, same_number}
 
 pub each_of : {A : Type 0} (P : A → Type 0) (xs : List A) (x : A) → AllByRecursion P xs → Has xs x → P x

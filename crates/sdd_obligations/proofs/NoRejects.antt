@@ -1,29 +1,29 @@
 -- A READY or REJECT goes to the site that runs its class; no REJECT and no ASK goes to U.
 use Rattle.std.proofs.Common.{ℕ, ◌-◌, ◌==◌, ◌∙◌, ◌∷◌, ◌≡◌, ◌≤◌, Bool, List, Some, [], ap, arith, cond, false, filter, inl, inr, length, refl, slice_get, subst, suc, sym, true, zero}
 use Rattle.std.proofs.lemmas.List.Elements.{All-get_or}
-use Rattle.sdd_base.specs.Numbers.{tm_no}
-use Rattle.sdd_base.specs.Words.{head_of}
-use Rattle.sdd_base.specs.declared.condition.Cond.{Cond}
-use Rattle.sdd_base.specs.declared.number.ClassNo.{ClassNo}
-use Rattle.sdd_base.specs.declared.number.DmNo.{DmNo}
-use Rattle.sdd_base.specs.declared.number.Ts.{Ts}
-use Rattle.sdd_base.specs.declared.number.TxnNo.{TxnNo}
-use Rattle.sdd_base.specs.declared.usage.Use.{Use}
-use Rattle.sdd_base.specs.declared.site.Site.{Site}
-use Rattle.sdd_base.specs.declared.site.Site.TheVariants.{D, T, U}
-use Rattle.sdd_catalog.specs.Catalogue.{Catalogue, class_at, numbers_to}
-use Rattle.sdd_catalog.specs.Numbers.{IsServedClass, IsWhole}
-use Rattle.sdd_wire.specs.declared.msg.Msg.{Msg}
-use Rattle.sdd_wire.specs.declared.msg.Msg.TheVariants.{Read, Ready, Reject}
-use Rattle.sdd_module.specs.SiteLog.{Setting}
-use Rattle.sdd_attempt.specs.Fits.{is_verdict}
-use Rattle.sdd_pipe.specs.Pipe.{head}
-use Rattle.sdd_dm.specs.Due.{spoils}
-use Rattle.sdd_dm.specs.Views.{View, home_of, source_of, view_of}
-use Rattle.sdd_tm.specs.Views.{runs}
-use Rattle.sdd_log.specs.Entries.{Does, Given, Log}
-use Rattle.sdd_log.specs.Locals.{local_of, setting_of}
-use Rattle.sdd_log.specs.Permitted.{IsPermitted}
+use Rattle.sdd_invariants.specs.base.Numbers.{tm_no}
+use Rattle.sdd_invariants.specs.base.Words.{head_of}
+use Rattle.sdd_invariants.specs.base.declared.condition.Cond.{Cond}
+use Rattle.sdd_invariants.specs.base.declared.number.ClassNo.{ClassNo}
+use Rattle.sdd_invariants.specs.base.declared.number.DmNo.{DmNo}
+use Rattle.sdd_invariants.specs.base.declared.number.Ts.{Ts}
+use Rattle.sdd_invariants.specs.base.declared.number.TxnNo.{TxnNo}
+use Rattle.sdd_invariants.specs.base.declared.usage.Use.{Use}
+use Rattle.sdd_invariants.specs.base.declared.site.Site.{Site}
+use Rattle.sdd_invariants.specs.base.declared.site.Site.TheVariants.{D, T, U}
+use Rattle.sdd_invariants.specs.catalog.Catalogue.{Catalogue, class_at, numbers_to}
+use Rattle.sdd_invariants.specs.catalog.Numbers.{IsServedClass, IsWhole}
+use Rattle.sdd_invariants.specs.wire.declared.msg.Msg.{Msg}
+use Rattle.sdd_invariants.specs.wire.declared.msg.Msg.TheVariants.{Read, Ready, Reject}
+use Rattle.sdd_invariants.specs.site_module.SiteLog.{Setting}
+use Rattle.sdd_invariants.specs.attempt.Fits.{is_verdict}
+use Rattle.sdd_invariants.specs.pipe.Pipe.{head}
+use Rattle.sdd_invariants.specs.dm.Due.{spoils}
+use Rattle.sdd_invariants.specs.dm.Views.{View, home_of, source_of, view_of}
+use Rattle.sdd_invariants.specs.tm.Views.{runs}
+use Rattle.sdd_invariants.specs.logs.Entries.{Does, Given, Log}
+use Rattle.sdd_invariants.specs.logs.Locals.{local_of, setting_of}
+use Rattle.sdd_invariants.specs.logs.Permitted.{IsPermitted}
 use Rattle.sdd_invariants.proofs.Undeclared.{never_spoilt, read_classes}
 use Rattle.sdd_invariants.specs.PutsBy.{IsReadyBy, IsRejectBy}
 use Rattle.sdd_invariants.proofs.Answered.{put_in_by_d}

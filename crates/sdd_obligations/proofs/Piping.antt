@@ -1,22 +1,22 @@
 -- A READ, WRITE or NULL that is next to be handed over comes from the site that runs its class, in turn.
 use Rattle.std.specs.Prelude.{fold, max, slice_index_or}
 use Rattle.std.proofs.Common.{ℕ, ◌++◌, ◌-◌, ◌<◌, ◌==◌, ◌^◌, ◌∙◌, ◌∷◌, ◌≡◌, ◌≤◌, List, Some, [], ap, append_assoc, arith, false, length, map, refl, subst, suc, sym, true, zero}
-use Rattle.sdd_base.specs.Numbers.{tm_no}
-use Rattle.sdd_base.specs.Sites.{number_of}
-use Rattle.sdd_base.specs.declared.number.DmNo.{DmNo}
-use Rattle.sdd_base.specs.declared.site.Site.{Site}
-use Rattle.sdd_base.specs.declared.site.Site.TheVariants.{D, T, U}
-use Rattle.sdd_catalog.specs.declared.resolved.Class.{Class}
-use Rattle.sdd_wire.specs.Piped.{class_is, goes_through, piped, time_in, time_of}
-use Rattle.sdd_wire.specs.declared.msg.Msg.{Msg}
-use Rattle.sdd_module.specs.SiteLog.{Handed, Setting}
-use Rattle.sdd_dm.specs.Fits.{FitsClass, FitsPipe, last_time}
-use Rattle.sdd_dm.specs.Pipes.{pipe}
-use Rattle.sdd_dm.specs.Views.{home_of, source_of}
-use Rattle.sdd_log.specs.Entries.{Given, Hand, Log}
-use Rattle.sdd_log.specs.Locals.{local_of, setting_of}
-use Rattle.sdd_log.specs.Permitted.{IsPermitted}
-use Rattle.sdd_log.specs.Traffic.{handed}
+use Rattle.sdd_invariants.specs.base.Numbers.{tm_no}
+use Rattle.sdd_invariants.specs.base.Sites.{number_of}
+use Rattle.sdd_invariants.specs.base.declared.number.DmNo.{DmNo}
+use Rattle.sdd_invariants.specs.base.declared.site.Site.{Site}
+use Rattle.sdd_invariants.specs.base.declared.site.Site.TheVariants.{D, T, U}
+use Rattle.sdd_invariants.specs.catalog.declared.resolved.Class.{Class}
+use Rattle.sdd_invariants.specs.wire.Piped.{class_is, goes_through, piped, time_in, time_of}
+use Rattle.sdd_invariants.specs.wire.declared.msg.Msg.{Msg}
+use Rattle.sdd_invariants.specs.site_module.SiteLog.{Handed, Setting}
+use Rattle.sdd_invariants.specs.dm.Fits.{FitsClass, FitsPipe, last_time}
+use Rattle.sdd_invariants.specs.dm.Pipes.{pipe}
+use Rattle.sdd_invariants.specs.dm.Views.{home_of, source_of}
+use Rattle.sdd_invariants.specs.logs.Entries.{Given, Hand, Log}
+use Rattle.sdd_invariants.specs.logs.Locals.{local_of, setting_of}
+use Rattle.sdd_invariants.specs.logs.Permitted.{IsPermitted}
+use Rattle.sdd_invariants.specs.logs.Traffic.{handed}
 use Rattle.sdd_invariants.proofs.ClassOrder.{class_rises}
 use Rattle.sdd_invariants.proofs.InPipe.{in_pipe, put_at_home}
 use Rattle.sdd_invariants.specs.Seen.{all_of, class_puts, pipe_at}

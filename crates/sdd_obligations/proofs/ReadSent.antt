@@ -3,16 +3,16 @@
 use Rattle.std.proofs.Common.{ℕ, ◌&&◌, ◌++◌, ◌==◌, ◌||◌, ◌∙◌, ◌∷◌, ◌≡◌, Bool, List, Some, [], ap, cond, false, filter, if◌then◌else◌, inl, inr, map, refl, slice_get, subst, sym, true}
 use Rattle.std.specs.List.{list_any}
 use Rattle.std.proofs.lemmas.List.Elements.{filter-append}
-use Rattle.sdd_base.specs.Numbers.{dm_no}
-use Rattle.sdd_base.specs.Sites.{same_site}
-use Rattle.sdd_base.specs.Words.{head_of}
-use Rattle.sdd_base.specs.declared.site.Site.{Site}
-use Rattle.sdd_base.specs.declared.site.Site.TheVariants.{D, T, U}
-use Rattle.sdd_wire.specs.declared.msg.Msg.{Msg}
-use Rattle.sdd_wire.specs.declared.msg.Msg.TheVariants.{Read, Ready, Reject}
-use Rattle.sdd_module.specs.SiteLog.{Act, Did, Each, Handed, Log, Redeclared, Setting, Submits, Ticked, sends_of_act}
-use Rattle.sdd_attempt.specs.Fits.{at_site, is_read, is_verdict, numbers_of}
-use Rattle.sdd_attempt.specs.Fits as fits
+use Rattle.sdd_invariants.specs.base.Numbers.{dm_no}
+use Rattle.sdd_invariants.specs.base.Sites.{same_site}
+use Rattle.sdd_invariants.specs.base.Words.{head_of}
+use Rattle.sdd_invariants.specs.base.declared.site.Site.{Site}
+use Rattle.sdd_invariants.specs.base.declared.site.Site.TheVariants.{D, T, U}
+use Rattle.sdd_invariants.specs.wire.declared.msg.Msg.{Msg}
+use Rattle.sdd_invariants.specs.wire.declared.msg.Msg.TheVariants.{Read, Ready, Reject}
+use Rattle.sdd_invariants.specs.site_module.SiteLog.{Act, Did, Each, Handed, Log, Redeclared, Setting, Submits, Ticked, sends_of_act}
+use Rattle.sdd_invariants.specs.attempt.Fits.{at_site, is_read, is_verdict, numbers_of}
+use Rattle.sdd_invariants.specs.attempt.Fits as fits
 use Rattle.sdd_obligations.proofs.Asking.{IsInTurn, asks_in_turn, in_turn}
 use Rattle.sdd_obligations.proofs.Hearing.{IsTimely, told_one}
 use Rattle.sdd_obligations.proofs.FirstSends.{IsFirstEach}

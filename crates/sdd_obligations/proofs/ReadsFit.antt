@@ -6,37 +6,37 @@ use Rattle.std.specs.Prelude.{filter_map}
 use Rattle.std.proofs.Common.{ℕ, ◌&&◌, ◌+◌, ◌++◌, ◌<◌, ◌==◌, ◌∙◌, ◌∷◌, ◌≡◌, ◌≤◌, Bool, List, None, Option, Some, [], ap, arith, cond, false, filter, inl, inr, length, map, refl, slice_get, subst, suc, sym, true, zero}
 use Rattle.std.proofs.lemmas.Bool.{eqb-true}
 use Rattle.std.proofs.lemmas.List.Elements.{All-from_recursion}
-use Rattle.sdd_base.specs.Numbers.{dm_no, frag_no}
-use Rattle.sdd_base.specs.Words.{ascending}
-use Rattle.sdd_base.specs.declared.condition.Cond.{Cond}
-use Rattle.sdd_base.specs.declared.number.DmNo.{DmNo}
-use Rattle.sdd_base.specs.declared.number.FragNo.{FragNo}
-use Rattle.sdd_base.specs.declared.number.RelNo.{RelNo}
-use Rattle.sdd_base.specs.declared.site.Site.{Site}
-use Rattle.sdd_base.specs.declared.site.Site.TheVariants.{D}
-use Rattle.sdd_base.specs.declared.usage.Use.{Use}
-use Rattle.sdd_catalog.specs.Catalogue.{Catalogue, has_copy, reads_at}
-use Rattle.sdd_catalog.specs.Rules as catalogues
-use Rattle.sdd_catalog.proofs.Sound.{served_read}
-use Rattle.sdd_graph.specs.Graph.{fragments_of}
-use Rattle.sdd_lang.specs.Classes.{fragments_in}
-use Rattle.sdd_lang.specs.Uses.{part_uses, statement_uses, uses_from, uses_of}
-use Rattle.sdd_lang.specs.declared.condition.Condition.{Condition}
-use Rattle.sdd_lang.specs.declared.statement.Stmt.{Stmt}
-use Rattle.sdd_lang.specs.declared.statement.Stmt.TheVariants.{Delete, Put, Query, Update}
-use Rattle.sdd_protocol.specs.Conditions.{cond_of, condition_on, conditions, is_asked, is_read_at, undeclared_conditions}
-use Rattle.sdd_protocol.specs.declared.entry.Entry as line
-use Rattle.sdd_wire.specs.declared.msg.Msg.{Msg}
-use Rattle.sdd_wire.specs.declared.msg.Msg.TheVariants.{Read}
-use Rattle.sdd_module.specs.SiteLog.{Act, Did, Each, Log, Setting, in_force, sends_of_act}
-use Rattle.sdd_attempt.specs.Acts.{conditions_at, use_there, with_frags}
-use Rattle.sdd_attempt.specs.Queues.{Queued}
-use Rattle.sdd_dm.specs.Fits.{IsHere}
-use Rattle.sdd_log.specs.Entries.{Given, Hand}
-use Rattle.sdd_log.specs.Entries as all
-use Rattle.sdd_log.specs.Locals.{local_of, setting_of}
-use Rattle.sdd_log.specs.Permitted.{IsPermitted}
-use Rattle.sdd_log.specs.Traffic.{handed}
+use Rattle.sdd_invariants.specs.base.Numbers.{dm_no, frag_no}
+use Rattle.sdd_invariants.specs.base.Words.{ascending}
+use Rattle.sdd_invariants.specs.base.declared.condition.Cond.{Cond}
+use Rattle.sdd_invariants.specs.base.declared.number.DmNo.{DmNo}
+use Rattle.sdd_invariants.specs.base.declared.number.FragNo.{FragNo}
+use Rattle.sdd_invariants.specs.base.declared.number.RelNo.{RelNo}
+use Rattle.sdd_invariants.specs.base.declared.site.Site.{Site}
+use Rattle.sdd_invariants.specs.base.declared.site.Site.TheVariants.{D}
+use Rattle.sdd_invariants.specs.base.declared.usage.Use.{Use}
+use Rattle.sdd_invariants.specs.catalog.Catalogue.{Catalogue, has_copy, reads_at}
+use Rattle.sdd_invariants.specs.catalog.Rules as catalogues
+use Rattle.sdd_invariants.proofs.catalog.Sound.{served_read}
+use Rattle.sdd_invariants.specs.graph.Graph.{fragments_of}
+use Rattle.sdd_invariants.specs.lang.Classes.{fragments_in}
+use Rattle.sdd_invariants.specs.lang.Uses.{part_uses, statement_uses, uses_from, uses_of}
+use Rattle.sdd_invariants.specs.lang.declared.condition.Condition.{Condition}
+use Rattle.sdd_invariants.specs.lang.declared.statement.Stmt.{Stmt}
+use Rattle.sdd_invariants.specs.lang.declared.statement.Stmt.TheVariants.{Delete, Put, Query, Update}
+use Rattle.sdd_invariants.specs.protocol.Conditions.{cond_of, condition_on, conditions, is_asked, is_read_at, undeclared_conditions}
+use Rattle.sdd_invariants.specs.protocol.declared.entry.Entry as line
+use Rattle.sdd_invariants.specs.wire.declared.msg.Msg.{Msg}
+use Rattle.sdd_invariants.specs.wire.declared.msg.Msg.TheVariants.{Read}
+use Rattle.sdd_invariants.specs.site_module.SiteLog.{Act, Did, Each, Log, Setting, in_force, sends_of_act}
+use Rattle.sdd_invariants.specs.attempt.Acts.{conditions_at, use_there, with_frags}
+use Rattle.sdd_invariants.specs.attempt.Queues.{Queued}
+use Rattle.sdd_invariants.specs.dm.Fits.{IsHere}
+use Rattle.sdd_invariants.specs.logs.Entries.{Given, Hand}
+use Rattle.sdd_invariants.specs.logs.Entries as all
+use Rattle.sdd_invariants.specs.logs.Locals.{local_of, setting_of}
+use Rattle.sdd_invariants.specs.logs.Permitted.{IsPermitted}
+use Rattle.sdd_invariants.specs.logs.Traffic.{handed}
 use Rattle.sdd_obligations.proofs.Ascending.{condition_class, conditions_strict, strict_ascends}
 use Rattle.sdd_obligations.proofs.Asking.{asks_no_read, strict_asked}
 use Rattle.sdd_obligations.proofs.FirstSends.{IsFirstEach, IsFirstSend}

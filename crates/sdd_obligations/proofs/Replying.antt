@@ -1,23 +1,23 @@
 -- What a data module has still to answer is what the turns say: a hand, and the answer to a FETCH, REDUCE or SHIP.
 use Rattle.std.proofs.Common.{ℕ, ◌&&◌, ◌++◌, ◌==◌, ◌∙◌, ◌∷◌, ◌≡◌, Bool, List, None, Option, Some, [], ap, append-nil, cond, false, filter, if◌then◌else◌, inl, inr, is_some, length, map, not, refl, slice_get, subst, suc, sym, true, zero}
 use Rattle.std.proofs.lemmas.List.Elements.{filter-append}
-use Rattle.sdd_base.specs.Sites.{same_site}
-use Rattle.sdd_base.specs.Words.{head_of}
-use Rattle.sdd_base.specs.declared.number.DmNo.{DmNo}
-use Rattle.sdd_base.specs.declared.number.TxnNo.{TxnNo}
-use Rattle.sdd_base.specs.declared.site.Site.{Site}
-use Rattle.sdd_history.specs.declared.record.Rec.TheVariants.{Arrive}
-use Rattle.sdd_wire.specs.Piped.{goes_through}
-use Rattle.sdd_wire.specs.declared.msg.Msg.{Msg}
-use Rattle.sdd_wire.specs.declared.msg.Msg.TheVariants.{Fetch, Read, Reduce, Reduced, Rows, Ship, Values}
-use Rattle.sdd_module.specs.SiteLog.{Act, Did, Entry, Handed, Log, Records, Redeclared, Sends, Submits, Ticked, hands}
-use Rattle.sdd_attempt.specs.Attempts.{asks_rows}
-use Rattle.sdd_attempt.specs.Fits.{is_read}
-use Rattle.sdd_pipe.specs.Pipe.{Pipe, head, head_processed, one_or_none, put}
-use Rattle.sdd_copy.specs.Frozen.{Frozen, values_in}
-use Rattle.sdd_dm.specs.Copies.{all_held, rows_held}
-use Rattle.sdd_dm.specs.Opens.{Open, class_asked, is_asked_of, is_read_of, opens, opens_handed}
-use Rattle.sdd_dm.specs.Pipes.{is_processing, pipe, pipe_acted}
+use Rattle.sdd_invariants.specs.base.Sites.{same_site}
+use Rattle.sdd_invariants.specs.base.Words.{head_of}
+use Rattle.sdd_invariants.specs.base.declared.number.DmNo.{DmNo}
+use Rattle.sdd_invariants.specs.base.declared.number.TxnNo.{TxnNo}
+use Rattle.sdd_invariants.specs.base.declared.site.Site.{Site}
+use Rattle.sdd_invariants.specs.history.declared.record.Rec.TheVariants.{Arrive}
+use Rattle.sdd_invariants.specs.wire.Piped.{goes_through}
+use Rattle.sdd_invariants.specs.wire.declared.msg.Msg.{Msg}
+use Rattle.sdd_invariants.specs.wire.declared.msg.Msg.TheVariants.{Fetch, Read, Reduce, Reduced, Rows, Ship, Values}
+use Rattle.sdd_invariants.specs.site_module.SiteLog.{Act, Did, Entry, Handed, Log, Records, Redeclared, Sends, Submits, Ticked, hands}
+use Rattle.sdd_invariants.specs.attempt.Attempts.{asks_rows}
+use Rattle.sdd_invariants.specs.attempt.Fits.{is_read}
+use Rattle.sdd_invariants.specs.pipe.Pipe.{Pipe, head, head_processed, one_or_none, put}
+use Rattle.sdd_laws.specs.copy.Frozen.{Frozen, values_in}
+use Rattle.sdd_invariants.specs.dm.Copies.{all_held, rows_held}
+use Rattle.sdd_invariants.specs.dm.Opens.{Open, class_asked, is_asked_of, is_read_of, opens, opens_handed}
+use Rattle.sdd_invariants.specs.dm.Pipes.{is_processing, pipe, pipe_acted}
 use Rattle.sdd_obligations.proofs.Hearing.{asked_one, told_is, told_one}
 use Rattle.sdd_obligations.proofs.DataSteps.{reply}
 use Rattle.sdd_obligations.proofs.Opened.{are_apart, one_hand, sift_has, sift_swap, sift_within}

@@ -1,21 +1,21 @@
 -- Each message on a link goes from and to the kinds of sites of its kind.
 use Rattle.std.proofs.Common.{ℕ, ◌++◌, ◌∙◌, ◌∷◌, ◌≡◌, List, None, Option, Some, [], ap, append_assoc, false, inl, inr, map, refl, slice_get, subst, suc, sym, true, zero}
 use Rattle.std.specs.Prelude.{slice_index_or}
-use Rattle.sdd_base.specs.Numbers.{dm_no}
-use Rattle.sdd_base.specs.declared.number.DmNo.{DmNo}
-use Rattle.sdd_base.specs.declared.number.TmNo.{TmNo}
-use Rattle.sdd_base.specs.declared.site.Site.{Site}
-use Rattle.sdd_base.specs.declared.site.Site.TheVariants.{D, T, U}
-use Rattle.sdd_catalog.specs.declared.resolved.Class.{Class}
-use Rattle.sdd_wire.specs.declared.msg.Msg.{Msg}
-use Rattle.sdd_wire.specs.declared.msg.Msg.TheVariants.{Ask, Done, Fetch, Held, Hold, Null, Read, Ready, Reduce, Reduced, Reject, Release, Rows, Ship, Values, Write}
-use Rattle.sdd_module.specs.SiteLog.{Act, Did, Each, Handed, Sends, Setting, sends_of_act}
-use Rattle.sdd_attempt.specs.Attempts.{asks_rows}
-use Rattle.sdd_dm.specs.Views.{home_of, source_of}
-use Rattle.sdd_log.specs.Entries.{Does, Given, Hand, Log}
-use Rattle.sdd_log.specs.Locals.{local_of, setting_of}
-use Rattle.sdd_log.specs.Permitted.{IsPermitted}
-use Rattle.sdd_log.specs.Traffic.{handed}
+use Rattle.sdd_invariants.specs.base.Numbers.{dm_no}
+use Rattle.sdd_invariants.specs.base.declared.number.DmNo.{DmNo}
+use Rattle.sdd_invariants.specs.base.declared.number.TmNo.{TmNo}
+use Rattle.sdd_invariants.specs.base.declared.site.Site.{Site}
+use Rattle.sdd_invariants.specs.base.declared.site.Site.TheVariants.{D, T, U}
+use Rattle.sdd_invariants.specs.catalog.declared.resolved.Class.{Class}
+use Rattle.sdd_invariants.specs.wire.declared.msg.Msg.{Msg}
+use Rattle.sdd_invariants.specs.wire.declared.msg.Msg.TheVariants.{Ask, Done, Fetch, Held, Hold, Null, Read, Ready, Reduce, Reduced, Reject, Release, Rows, Ship, Values, Write}
+use Rattle.sdd_invariants.specs.site_module.SiteLog.{Act, Did, Each, Handed, Sends, Setting, sends_of_act}
+use Rattle.sdd_invariants.specs.attempt.Attempts.{asks_rows}
+use Rattle.sdd_invariants.specs.dm.Views.{home_of, source_of}
+use Rattle.sdd_invariants.specs.logs.Entries.{Does, Given, Hand, Log}
+use Rattle.sdd_invariants.specs.logs.Locals.{local_of, setting_of}
+use Rattle.sdd_invariants.specs.logs.Permitted.{IsPermitted}
+use Rattle.sdd_invariants.specs.logs.Traffic.{handed}
 use Rattle.sdd_invariants.proofs.HoldChain.{t_table, u_table}
 use Rattle.sdd_invariants.proofs.Holding.{t_none}
 use Rattle.sdd_invariants.proofs.Serving.{u_due, u_way}
@@ -36,7 +36,7 @@ use Rattle.sdd_invariants.proofs.InOrder.{hand_was_put}
 use Rattle.sdd_invariants.proofs.Made.{permitted_before, place_of_hand}
 use Rattle.sdd_obligations.specs.Routes.{GoesTo, IsAnAsk, IsD, IsRouted, IsRunner}
 use Rattle.sdd_obligations.proofs.Going.{t_goes, u_goes}
-use Rattle.sdd_module.specs.SiteLog as site
+use Rattle.sdd_invariants.specs.site_module.SiteLog as site
 
 -- what was handed was put
 

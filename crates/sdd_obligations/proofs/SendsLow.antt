@@ -1,33 +1,33 @@
 -- What a site that runs transactions sends lies below its clock's height.
 use Rattle.std.proofs.Common.{ℕ, ◌+◌, ◌==◌, ◌∷◌, ◌≡◌, ◌≤◌, Bool, List, None, Option, Some, [], arith, inl, inr, map, refl, subst, suc, sym, true}
 use Rattle.std.specs.Option.{option_or}
-use Rattle.sdd_base.specs.Numbers.{dm_no, frag_no, tm_no}
-use Rattle.sdd_base.specs.Sites.{number_of, same_site}
-use Rattle.sdd_base.specs.Words.{ascending}
-use Rattle.sdd_base.specs.declared.condition.Cond.{Cond}
-use Rattle.sdd_base.specs.declared.number.FragNo.{FragNo}
-use Rattle.sdd_base.specs.declared.number.TmNo.{TmNo}
-use Rattle.sdd_base.specs.declared.number.Ts.{Ts}
-use Rattle.sdd_base.specs.declared.site.Site.{Site}
-use Rattle.sdd_base.specs.declared.site.Site.TheVariants.{D, T}
-use Rattle.sdd_catalog.specs.Catalogue.{Catalogue}
-use Rattle.sdd_graph.specs.Graph.{classes_of, fragments_of}
-use Rattle.sdd_protocol.specs.Conditions.{asked_by, cond_for, cond_of, condition_on, is_asked}
-use Rattle.sdd_protocol.specs.declared.entry.Entry as line
-use Rattle.sdd_protocol.specs.declared.protocol.Protocol.TheVariants.{P2, P3}
-use Rattle.sdd_lang.specs.Classes.{fragments_in}
-use Rattle.sdd_lang.specs.Uses.{uses_of}
-use Rattle.sdd_history.specs.declared.record.Rec.TheVariants.{Commit}
-use Rattle.sdd_wire.specs.declared.msg.Msg.{Msg}
-use Rattle.sdd_wire.specs.declared.msg.Msg.TheVariants.{Done, Fetch, Hold, Reduce, Release, Ship}
-use Rattle.sdd_module.specs.SiteLog.{Act, Bases, Did, Each, Handed, Log, Records, Redeclared, Sends, Setting, Submits, Ticked, in_force, sends_of_act}
-use Rattle.sdd_attempt.specs.Acts.{commit_act, conditions_at}
-use Rattle.sdd_attempt.specs.Attempts.{Attempt, active, asks_rows}
-use Rattle.sdd_attempt.specs.Clocks.{clock}
-use Rattle.sdd_attempt.specs.Queues.{Queued}
-use Rattle.sdd_tm.specs.Due as tm
-use Rattle.sdd_tm.specs.Views as tm_views
-use Rattle.sdd_umod.specs.Views.{Served, last_served, served_acted, served_handed, ts_of}
+use Rattle.sdd_invariants.specs.base.Numbers.{dm_no, frag_no, tm_no}
+use Rattle.sdd_invariants.specs.base.Sites.{number_of, same_site}
+use Rattle.sdd_invariants.specs.base.Words.{ascending}
+use Rattle.sdd_invariants.specs.base.declared.condition.Cond.{Cond}
+use Rattle.sdd_invariants.specs.base.declared.number.FragNo.{FragNo}
+use Rattle.sdd_invariants.specs.base.declared.number.TmNo.{TmNo}
+use Rattle.sdd_invariants.specs.base.declared.number.Ts.{Ts}
+use Rattle.sdd_invariants.specs.base.declared.site.Site.{Site}
+use Rattle.sdd_invariants.specs.base.declared.site.Site.TheVariants.{D, T}
+use Rattle.sdd_invariants.specs.catalog.Catalogue.{Catalogue}
+use Rattle.sdd_invariants.specs.graph.Graph.{classes_of, fragments_of}
+use Rattle.sdd_invariants.specs.protocol.Conditions.{asked_by, cond_for, cond_of, condition_on, is_asked}
+use Rattle.sdd_invariants.specs.protocol.declared.entry.Entry as line
+use Rattle.sdd_invariants.specs.protocol.declared.protocol.Protocol.TheVariants.{P2, P3}
+use Rattle.sdd_invariants.specs.lang.Classes.{fragments_in}
+use Rattle.sdd_invariants.specs.lang.Uses.{uses_of}
+use Rattle.sdd_invariants.specs.history.declared.record.Rec.TheVariants.{Commit}
+use Rattle.sdd_invariants.specs.wire.declared.msg.Msg.{Msg}
+use Rattle.sdd_invariants.specs.wire.declared.msg.Msg.TheVariants.{Done, Fetch, Hold, Reduce, Release, Ship}
+use Rattle.sdd_invariants.specs.site_module.SiteLog.{Act, Bases, Did, Each, Handed, Log, Records, Redeclared, Sends, Setting, Submits, Ticked, in_force, sends_of_act}
+use Rattle.sdd_invariants.specs.attempt.Acts.{commit_act, conditions_at}
+use Rattle.sdd_invariants.specs.attempt.Attempts.{Attempt, active, asks_rows}
+use Rattle.sdd_invariants.specs.attempt.Clocks.{clock}
+use Rattle.sdd_invariants.specs.attempt.Queues.{Queued}
+use Rattle.sdd_invariants.specs.tm.Due as tm
+use Rattle.sdd_invariants.specs.tm.Views as tm_views
+use Rattle.sdd_invariants.specs.umod.Views.{Served, last_served, served_acted, served_handed, ts_of}
 use Rattle.sdd_invariants.proofs.Holding.{hold_rule}
 use Rattle.sdd_invariants.proofs.Serving.{u_way}
 use Rattle.sdd_invariants.specs.AtT.{HoldRule}

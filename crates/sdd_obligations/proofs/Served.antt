@@ -1,30 +1,30 @@
 -- With the last ROWS the rows that came serve the database of the attempt's snapshots.
 use Rattle.std.proofs.Common.{ℕ, ◌++◌, ◌+◌, ◌≤◌, ◌==◌, ◌∙◌, ◌∷◌, ◌≡◌, List, None, Some, [], ap, if◌then◌else◌, length, refl, subst}
-use Rattle.sdd_base.specs.Numbers.{dm_no}
-use Rattle.sdd_base.specs.Words.{contains}
-use Rattle.sdd_base.specs.declared.number.ClassNo.{ClassNo}
-use Rattle.sdd_base.specs.declared.number.DmNo.{DmNo}
-use Rattle.sdd_base.specs.declared.number.Ts.{Ts}
-use Rattle.sdd_base.specs.declared.site.Site.{Site}
-use Rattle.sdd_base.specs.declared.site.Site.TheVariants.{D}
-use Rattle.sdd_catalog.specs.Catalogue.{Catalogue}
-use Rattle.sdd_lang.specs.Database.{Row}
+use Rattle.sdd_invariants.specs.base.Numbers.{dm_no}
+use Rattle.sdd_invariants.specs.base.Words.{contains}
+use Rattle.sdd_invariants.specs.base.declared.number.ClassNo.{ClassNo}
+use Rattle.sdd_invariants.specs.base.declared.number.DmNo.{DmNo}
+use Rattle.sdd_invariants.specs.base.declared.number.Ts.{Ts}
+use Rattle.sdd_invariants.specs.base.declared.site.Site.{Site}
+use Rattle.sdd_invariants.specs.base.declared.site.Site.TheVariants.{D}
+use Rattle.sdd_invariants.specs.catalog.Catalogue.{Catalogue}
+use Rattle.sdd_invariants.specs.lang.Database.{Row}
 use Rattle.sdd_exec.specs.Serves.{Serves}
 use Rattle.sdd_exec.proofs.Members.{Has-flat_map, Has-flat_map_from}
-use Rattle.sdd_wire.specs.declared.msg.Msg.{Msg}
-use Rattle.sdd_wire.specs.declared.msg.Msg.TheVariants.{Rows}
-use Rattle.sdd_module.specs.SiteLog.{Handed, Setting}
-use Rattle.sdd_module.specs.SiteLog as site
-use Rattle.sdd_attempt.specs.Attempts.{Attempt, active, active_handed}
-use Rattle.sdd_attempt.specs.Exchange.{Exchange, Over, Shipping, after_hand, answered, is_over, lacking, phase_ends, without}
-use Rattle.sdd_attempt.specs.Fits.{ServesIfLast}
-use Rattle.sdd_copy.specs.Contents.{contents}
-use Rattle.sdd_dm.specs.Copies.{dated}
-use Rattle.sdd_copy.specs.Frozen.{CopyRows, all_rows}
-use Rattle.sdd_log.specs.Entries.{Given, Hand, Log}
-use Rattle.sdd_log.specs.Locals.{local_of, setting_of}
-use Rattle.sdd_log.specs.Permitted.{IsPermitted}
-use Rattle.sdd_log.specs.Snapshots.{base_of}
+use Rattle.sdd_invariants.specs.wire.declared.msg.Msg.{Msg}
+use Rattle.sdd_invariants.specs.wire.declared.msg.Msg.TheVariants.{Rows}
+use Rattle.sdd_invariants.specs.site_module.SiteLog.{Handed, Setting}
+use Rattle.sdd_invariants.specs.site_module.SiteLog as site
+use Rattle.sdd_invariants.specs.attempt.Attempts.{Attempt, active, active_handed}
+use Rattle.sdd_invariants.specs.attempt.Exchange.{Exchange, Over, Shipping, after_hand, answered, is_over, lacking, phase_ends, without}
+use Rattle.sdd_invariants.specs.attempt.Fits.{ServesIfLast}
+use Rattle.sdd_laws.specs.copy.Contents.{contents}
+use Rattle.sdd_invariants.specs.dm.Copies.{dated}
+use Rattle.sdd_laws.specs.copy.Frozen.{CopyRows, all_rows}
+use Rattle.sdd_invariants.specs.logs.Entries.{Given, Hand, Log}
+use Rattle.sdd_invariants.specs.logs.Locals.{local_of, setting_of}
+use Rattle.sdd_invariants.specs.logs.Permitted.{IsPermitted}
+use Rattle.sdd_invariants.specs.logs.Snapshots.{base_of}
 use Rattle.sdd_obligations.proofs.Hearing.{is_awaited}
 use Rattle.sdd_serving.specs.Following.{stage_of}
 use Rattle.sdd_serving.specs.Freezing.{HasCopies, frozen_space}

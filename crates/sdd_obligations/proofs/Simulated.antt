@@ -2,33 +2,33 @@
 use Rattle.std.proofs.Common.{ℕ, ◌≤◌, ◌==◌, ◌≡◌, ◌≢◌, inl, inr, Bool, true, false, List, [], ◌∷◌, length, refl, ap, sym, ◌∙◌, subst, suc}
 use Rattle.std.specs.Prelude.{Option, Some, None, filter_map}
 use Rattle.std.specs.Bool.{if◌then◌else◌}
-use Rattle.sdd_base.specs.Numbers.{class_no, dm_no, tm_no, time_at}
-use Rattle.sdd_base.specs.Sites.{same_site}
-use Rattle.sdd_base.specs.Words.{contains, head_of}
-use Rattle.sdd_base.specs.declared.number.DmNo.{DmNo}
-use Rattle.sdd_base.specs.declared.site.Site.{Site}
-use Rattle.sdd_base.specs.declared.site.Site.TheVariants.{D, T, U}
-use Rattle.sdd_base.specs.declared.value.Value.{Value}
-use Rattle.sdd_catalog.specs.Catalogue.{Catalogue, class_at}
+use Rattle.sdd_invariants.specs.base.Numbers.{class_no, dm_no, tm_no, time_at}
+use Rattle.sdd_invariants.specs.base.Sites.{same_site}
+use Rattle.sdd_invariants.specs.base.Words.{contains, head_of}
+use Rattle.sdd_invariants.specs.base.declared.number.DmNo.{DmNo}
+use Rattle.sdd_invariants.specs.base.declared.site.Site.{Site}
+use Rattle.sdd_invariants.specs.base.declared.site.Site.TheVariants.{D, T, U}
+use Rattle.sdd_invariants.specs.base.declared.value.Value.{Value}
+use Rattle.sdd_invariants.specs.catalog.Catalogue.{Catalogue, class_at}
 use Rattle.sdd_exec.specs.Choices.{Has}
-use Rattle.sdd_wire.specs.declared.msg.Msg.{Msg}
-use Rattle.sdd_wire.specs.declared.msg.Msg.TheVariants.{Reduce, Reject}
-use Rattle.sdd_module.specs.SiteLog.{Act, Bases, Did, Each, Handed, Sends, Setting, in_force, sends_of_act}
-use Rattle.sdd_module.specs.SiteLog as site
-use Rattle.sdd_attempt.specs.Acts.{commit_act}
-use Rattle.sdd_attempt.specs.Attempts.{Attempt, active, active_handed, active_sent, asks_rows, rejects, started}
-use Rattle.sdd_attempt.specs.Exchange.{Exchange, after_hand, after_send, begins, module_read}
-use Rattle.sdd_attempt.specs.Queues.{Queued, queue}
-use Rattle.sdd_attempt.proofs.SoundLines.{start_modules}
-use Rattle.sdd_attempt.specs.Clocks.{clock}
-use Rattle.sdd_copy.specs.Contents.{contents}
-use Rattle.sdd_pipe.specs.Pipe.{head}
-use Rattle.sdd_dm.specs.Pipes.{pipe}
-use Rattle.sdd_dm.specs.Copies.{dated}
-use Rattle.sdd_copy.specs.Frozen.{CopyRows, Frozen, frozen_for, reduced}
-use Rattle.sdd_log.specs.Entries.{Does, Entry, Given, Hand, Log, Mark, Notes, Redeclares, Round, Submitted}
-use Rattle.sdd_log.specs.Locals.{beginning, local_of, setting_of}
-use Rattle.sdd_log.specs.Permitted.{IsPermitted}
+use Rattle.sdd_invariants.specs.wire.declared.msg.Msg.{Msg}
+use Rattle.sdd_invariants.specs.wire.declared.msg.Msg.TheVariants.{Reduce, Reject}
+use Rattle.sdd_invariants.specs.site_module.SiteLog.{Act, Bases, Did, Each, Handed, Sends, Setting, in_force, sends_of_act}
+use Rattle.sdd_invariants.specs.site_module.SiteLog as site
+use Rattle.sdd_invariants.specs.attempt.Acts.{commit_act}
+use Rattle.sdd_invariants.specs.attempt.Attempts.{Attempt, active, active_handed, active_sent, asks_rows, rejects, started}
+use Rattle.sdd_invariants.specs.attempt.Exchange.{Exchange, after_hand, after_send, begins, module_read}
+use Rattle.sdd_invariants.specs.attempt.Queues.{Queued, queue}
+use Rattle.sdd_invariants.proofs.attempt.SoundLines.{start_modules}
+use Rattle.sdd_invariants.specs.attempt.Clocks.{clock}
+use Rattle.sdd_laws.specs.copy.Contents.{contents}
+use Rattle.sdd_invariants.specs.pipe.Pipe.{head}
+use Rattle.sdd_invariants.specs.dm.Pipes.{pipe}
+use Rattle.sdd_invariants.specs.dm.Copies.{dated}
+use Rattle.sdd_laws.specs.copy.Frozen.{CopyRows, Frozen, frozen_for, reduced}
+use Rattle.sdd_invariants.specs.logs.Entries.{Does, Entry, Given, Hand, Log, Mark, Notes, Redeclares, Round, Submitted}
+use Rattle.sdd_invariants.specs.logs.Locals.{beginning, local_of, setting_of}
+use Rattle.sdd_invariants.specs.logs.Permitted.{IsPermitted}
 use Rattle.sdd_obligations.proofs.AtTurn.{hand_not}
 use Rattle.sdd_obligations.proofs.Hearing.{is_awaited}
 use Rattle.sdd_obligations.proofs.Modules.{firsts}

@@ -1,22 +1,22 @@
 -- What the modules keep for an attempt, as the log of everything goes on.
 use Rattle.std.proofs.Common.{ℕ, ◌==◌, ◌≡◌, false, ◌∷◌, refl, ap, sym, ◌∙◌, subst, suc}
 use Rattle.std.specs.Prelude.{Option, Some, None}
-use Rattle.sdd_base.specs.Numbers.{dm_no, tm_no}
-use Rattle.sdd_base.specs.Sites.{same_site}
-use Rattle.sdd_base.specs.declared.event.Event.TheVariants.{Deliver, Down, Lose, Redeclare, Repeat, Resend, Settle, Submit, Tick, Up}
-use Rattle.sdd_base.specs.declared.number.DmNo.{DmNo}
-use Rattle.sdd_base.specs.declared.site.Site.{Site}
-use Rattle.sdd_base.specs.declared.site.Site.TheVariants.{D, T, U}
-use Rattle.sdd_catalog.specs.Catalogue.{Catalogue, class_at}
-use Rattle.sdd_lang.specs.declared.transaction.Txn.{Txn}
-use Rattle.sdd_module.specs.SiteLog.{Did, Force, Handed, Redeclared, Setting, Submits, Ticked}
-use Rattle.sdd_module.specs.SiteLog as site
-use Rattle.sdd_attempt.specs.Attempts.{active}
-use Rattle.sdd_copy.specs.Contents.{contents}
-use Rattle.sdd_dm.specs.Copies.{dated}
-use Rattle.sdd_copy.specs.Frozen.{CopyRows, Frozen}
-use Rattle.sdd_log.specs.Entries.{Does, Entry, Given, Hand, Log, Mark, Notes, Redeclares, Round, Submitted}
-use Rattle.sdd_log.specs.Locals.{force_at, local_of, redeclares, setting_of, txn_at}
+use Rattle.sdd_invariants.specs.base.Numbers.{dm_no, tm_no}
+use Rattle.sdd_invariants.specs.base.Sites.{same_site}
+use Rattle.sdd_invariants.specs.base.declared.event.Event.TheVariants.{Deliver, Down, Lose, Redeclare, Repeat, Resend, Settle, Submit, Tick, Up}
+use Rattle.sdd_invariants.specs.base.declared.number.DmNo.{DmNo}
+use Rattle.sdd_invariants.specs.base.declared.site.Site.{Site}
+use Rattle.sdd_invariants.specs.base.declared.site.Site.TheVariants.{D, T, U}
+use Rattle.sdd_invariants.specs.catalog.Catalogue.{Catalogue, class_at}
+use Rattle.sdd_invariants.specs.lang.declared.transaction.Txn.{Txn}
+use Rattle.sdd_invariants.specs.site_module.SiteLog.{Did, Force, Handed, Redeclared, Setting, Submits, Ticked}
+use Rattle.sdd_invariants.specs.site_module.SiteLog as site
+use Rattle.sdd_invariants.specs.attempt.Attempts.{active}
+use Rattle.sdd_laws.specs.copy.Contents.{contents}
+use Rattle.sdd_invariants.specs.dm.Copies.{dated}
+use Rattle.sdd_laws.specs.copy.Frozen.{CopyRows, Frozen}
+use Rattle.sdd_invariants.specs.logs.Entries.{Does, Entry, Given, Hand, Log, Mark, Notes, Redeclares, Round, Submitted}
+use Rattle.sdd_invariants.specs.logs.Locals.{force_at, local_of, redeclares, setting_of, txn_at}
 use Rattle.sdd_serving.specs.Reducing.{Space}
 use Rattle.sdd_invariants.proofs.Bools.{if_way}
 use Rattle.sdd_invariants.specs.Steps.{home}

@@ -1,17 +1,17 @@
 -- On a permitted log the exchanges of a class with the data modules go by turns.
 use Rattle.std.proofs.Common.{ℕ, ◌&&◌, ◌++◌, ◌∙◌, ◌∷◌, ◌≡◌, ◌≤◌, ◌⊎◌, Bool, List, None, Option, Some, [], ap, cond, drop, false, filter, if◌then◌else◌, inl, inr, refl, subst, sym, true}
-use Rattle.sdd_base.specs.Numbers.{dm_no}
-use Rattle.sdd_base.specs.Sites.{number_of, same_site}
-use Rattle.sdd_base.specs.declared.site.Site.{Site}
-use Rattle.sdd_base.specs.declared.site.Site.TheVariants.{D, T, U}
-use Rattle.sdd_wire.specs.Piped.{goes_through, time_of}
-use Rattle.sdd_wire.specs.declared.msg.Msg.{Msg}
-use Rattle.sdd_module.specs.SiteLog.{Act, Did, Each, Handed, Redeclared, Setting, Submits, Ticked, sends_of_act}
-use Rattle.sdd_dm.specs.Copies.{frozen}
-use Rattle.sdd_log.specs.Entries.{Does, Entry, Given, Hand, Log}
-use Rattle.sdd_log.specs.Locals.{local_of, setting_of}
-use Rattle.sdd_log.specs.Permitted.{IsAllowed, IsPermitted}
-use Rattle.sdd_log.specs.Traffic.{handed}
+use Rattle.sdd_invariants.specs.base.Numbers.{dm_no}
+use Rattle.sdd_invariants.specs.base.Sites.{number_of, same_site}
+use Rattle.sdd_invariants.specs.base.declared.site.Site.{Site}
+use Rattle.sdd_invariants.specs.base.declared.site.Site.TheVariants.{D, T, U}
+use Rattle.sdd_invariants.specs.wire.Piped.{goes_through, time_of}
+use Rattle.sdd_invariants.specs.wire.declared.msg.Msg.{Msg}
+use Rattle.sdd_invariants.specs.site_module.SiteLog.{Act, Did, Each, Handed, Redeclared, Setting, Submits, Ticked, sends_of_act}
+use Rattle.sdd_invariants.specs.dm.Copies.{frozen}
+use Rattle.sdd_invariants.specs.logs.Entries.{Does, Entry, Given, Hand, Log}
+use Rattle.sdd_invariants.specs.logs.Locals.{local_of, setting_of}
+use Rattle.sdd_invariants.specs.logs.Permitted.{IsAllowed, IsPermitted}
+use Rattle.sdd_invariants.specs.logs.Traffic.{handed}
 use Rattle.sdd_obligations.proofs.Asking.{asks_in_turn}
 use Rattle.sdd_obligations.proofs.Hearing.{IsTimely}
 use Rattle.sdd_obligations.proofs.DataSteps.{data_step}
@@ -33,7 +33,7 @@ use Rattle.sdd_invariants.proofs.InOrder.{hand_was_put}
 use Rattle.sdd_invariants.proofs.Made.{local_step, maker, own_act}
 use Rattle.sdd_invariants.proofs.Sent.{puts_grow}
 use Rattle.sdd_invariants.specs.Made.{handed_by, made, put_by, with_made}
-use Rattle.sdd_module.specs.SiteLog as site
+use Rattle.sdd_invariants.specs.site_module.SiteLog as site
 use Rattle.sdd_obligations.proofs.Halves.{IsLast, IsSpoken, StageAt, active_last, alone, data_log, data_turns, exchanging_active, home_log, home_source, home_turns}
 
 -- what an entry adds

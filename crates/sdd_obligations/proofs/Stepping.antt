@@ -2,25 +2,25 @@
 use Rattle.std.proofs.Common.{ℕ, ◌++◌, ◌≤◌, ◌==◌, ◌∙◌, ◌∷◌, ◌≡◌, Bool, List, None, Option, Some, [], ap, drop, false, if◌then◌else◌, inl, inr, refl, subst, sym, take, true}
 use Rattle.std.proofs.lemmas.List.{take-append-drop}
 use Rattle.std.proofs.lemmas.List.Elements.{filter-append}
-use Rattle.sdd_base.specs.Numbers.{dm_no, tm_no}
-use Rattle.sdd_base.specs.Sites.{number_of, same_site}
-use Rattle.sdd_base.specs.Words.{head_of}
-use Rattle.sdd_base.specs.declared.number.DmNo.{DmNo}
-use Rattle.sdd_base.specs.declared.site.Site.{Site}
-use Rattle.sdd_base.specs.declared.site.Site.TheVariants.{D, T, U}
-use Rattle.sdd_catalog.specs.Catalogue.{class_at}
-use Rattle.sdd_wire.specs.declared.msg.Msg.{Msg}
-use Rattle.sdd_wire.specs.declared.msg.Msg.TheVariants.{Fetch, Read, Reduce, Reject, Ship}
-use Rattle.sdd_module.specs.SiteLog.{Act, Bases, Did, Each, Handed, Redeclared, Sends, Setting, Submits, Ticked, sends_of_act}
-use Rattle.sdd_module.specs.SiteLog as site
-use Rattle.sdd_attempt.specs.Acts.{commit_act}
-use Rattle.sdd_attempt.specs.Attempts.{Attempt, active, active_handed, active_sent, started}
-use Rattle.sdd_attempt.specs.Queues.{Queued, queue}
-use Rattle.sdd_log.specs.Entries.{Does, Entry, Given, Hand, Log, Mark, Notes, Redeclares, Round, Submitted}
-use Rattle.sdd_log.specs.Locals.{beginning, local_of, setting_of}
-use Rattle.sdd_log.specs.Permitted.{IsAllowed, IsPermitted}
-use Rattle.sdd_log.specs.Traffic.{handed}
-use Rattle.sdd_log.proofs.EachLocal.{allowed_act}
+use Rattle.sdd_invariants.specs.base.Numbers.{dm_no, tm_no}
+use Rattle.sdd_invariants.specs.base.Sites.{number_of, same_site}
+use Rattle.sdd_invariants.specs.base.Words.{head_of}
+use Rattle.sdd_invariants.specs.base.declared.number.DmNo.{DmNo}
+use Rattle.sdd_invariants.specs.base.declared.site.Site.{Site}
+use Rattle.sdd_invariants.specs.base.declared.site.Site.TheVariants.{D, T, U}
+use Rattle.sdd_invariants.specs.catalog.Catalogue.{class_at}
+use Rattle.sdd_invariants.specs.wire.declared.msg.Msg.{Msg}
+use Rattle.sdd_invariants.specs.wire.declared.msg.Msg.TheVariants.{Fetch, Read, Reduce, Reject, Ship}
+use Rattle.sdd_invariants.specs.site_module.SiteLog.{Act, Bases, Did, Each, Handed, Redeclared, Sends, Setting, Submits, Ticked, sends_of_act}
+use Rattle.sdd_invariants.specs.site_module.SiteLog as site
+use Rattle.sdd_invariants.specs.attempt.Acts.{commit_act}
+use Rattle.sdd_invariants.specs.attempt.Attempts.{Attempt, active, active_handed, active_sent, started}
+use Rattle.sdd_invariants.specs.attempt.Queues.{Queued, queue}
+use Rattle.sdd_invariants.specs.logs.Entries.{Does, Entry, Given, Hand, Log, Mark, Notes, Redeclares, Round, Submitted}
+use Rattle.sdd_invariants.specs.logs.Locals.{beginning, local_of, setting_of}
+use Rattle.sdd_invariants.specs.logs.Permitted.{IsAllowed, IsPermitted}
+use Rattle.sdd_invariants.specs.logs.Traffic.{handed}
+use Rattle.sdd_invariants.proofs.logs.EachLocal.{allowed_act}
 use Rattle.sdd_invariants.proofs.Clocks.{stamp_below_next}
 use Rattle.sdd_obligations.proofs.Comes.{answer_stands, question_stands}
 use Rattle.sdd_obligations.proofs.DataSteps.{data_step}

@@ -1,28 +1,28 @@
 -- A data module answers in turn, where each question that is handed to it comes in turn.
 use Rattle.std.proofs.Common.{ℕ, ◌&&◌, ◌++◌, ◌==◌, ◌∙◌, ◌∷◌, ◌≡◌, Bool, List, Some, [], ap, cond, false, filter, if◌then◌else◌, inl, inr, length, map, refl, slice_get, subst, sym, true}
 use Rattle.std.proofs.lemmas.Bool.{eqb-true}
-use Rattle.sdd_base.specs.Sites.{same_site}
-use Rattle.sdd_base.specs.Words.{head_of, tail_of}
-use Rattle.sdd_base.specs.declared.change.Change.{Change}
-use Rattle.sdd_base.specs.declared.condition.Cond.{Cond}
-use Rattle.sdd_base.specs.declared.number.ClassNo.{ClassNo}
-use Rattle.sdd_base.specs.declared.number.Ts.{Ts}
-use Rattle.sdd_base.specs.declared.number.TxnNo.{TxnNo}
-use Rattle.sdd_base.specs.declared.site.Site.{Site}
-use Rattle.sdd_base.specs.declared.site.Site.TheVariants.{U}
-use Rattle.sdd_history.specs.declared.record.Rec.{Rec}
-use Rattle.sdd_history.specs.declared.record.Rec.TheVariants.{Answer, Apply, Pass, Reject as Rejected, Wait}
-use Rattle.sdd_wire.specs.Piped.{goes_through}
-use Rattle.sdd_wire.specs.declared.msg.Msg.{Msg}
-use Rattle.sdd_wire.specs.declared.msg.Msg.TheVariants.{Done, Null, Read, Ready, Reject, Write}
-use Rattle.sdd_module.specs.SiteLog.{Act, Did, Each, Handed, Log, Records, Redeclared, Sends, Setting, Submits, Ticked}
-use Rattle.sdd_attempt.specs.Fits.{is_read}
-use Rattle.sdd_pipe.specs.Pipe.{Pipe, head, head_processed, put}
-use Rattle.sdd_dm.specs.Copies.{frozen}
-use Rattle.sdd_dm.specs.Due.{ask_for, done_for}
-use Rattle.sdd_dm.specs.Opens.{Open, opens}
-use Rattle.sdd_dm.specs.Pipes.{is_processing, pipe, pipe_acted}
-use Rattle.sdd_dm.specs.Views.{home_of, source_of}
+use Rattle.sdd_invariants.specs.base.Sites.{same_site}
+use Rattle.sdd_invariants.specs.base.Words.{head_of, tail_of}
+use Rattle.sdd_invariants.specs.base.declared.change.Change.{Change}
+use Rattle.sdd_invariants.specs.base.declared.condition.Cond.{Cond}
+use Rattle.sdd_invariants.specs.base.declared.number.ClassNo.{ClassNo}
+use Rattle.sdd_invariants.specs.base.declared.number.Ts.{Ts}
+use Rattle.sdd_invariants.specs.base.declared.number.TxnNo.{TxnNo}
+use Rattle.sdd_invariants.specs.base.declared.site.Site.{Site}
+use Rattle.sdd_invariants.specs.base.declared.site.Site.TheVariants.{U}
+use Rattle.sdd_invariants.specs.history.declared.record.Rec.{Rec}
+use Rattle.sdd_invariants.specs.history.declared.record.Rec.TheVariants.{Answer, Apply, Pass, Reject as Rejected, Wait}
+use Rattle.sdd_invariants.specs.wire.Piped.{goes_through}
+use Rattle.sdd_invariants.specs.wire.declared.msg.Msg.{Msg}
+use Rattle.sdd_invariants.specs.wire.declared.msg.Msg.TheVariants.{Done, Null, Read, Ready, Reject, Write}
+use Rattle.sdd_invariants.specs.site_module.SiteLog.{Act, Did, Each, Handed, Log, Records, Redeclared, Sends, Setting, Submits, Ticked}
+use Rattle.sdd_invariants.specs.attempt.Fits.{is_read}
+use Rattle.sdd_invariants.specs.pipe.Pipe.{Pipe, head, head_processed, put}
+use Rattle.sdd_invariants.specs.dm.Copies.{frozen}
+use Rattle.sdd_invariants.specs.dm.Due.{ask_for, done_for}
+use Rattle.sdd_invariants.specs.dm.Opens.{Open, opens}
+use Rattle.sdd_invariants.specs.dm.Pipes.{is_processing, pipe, pipe_acted}
+use Rattle.sdd_invariants.specs.dm.Views.{home_of, source_of}
 use Rattle.sdd_obligations.proofs.Hearing.{told_one}
 use Rattle.sdd_obligations.proofs.DataSteps.{IsDataStep, counts_told, data_step, data_step_way}
 use Rattle.sdd_obligations.specs.Turns.{Asks, Refused, Silent, Told, Turn, answers, is_a_refusal, is_answer, reads_asked, rows_asked, told, told_by, turn_with}

@@ -2,16 +2,16 @@
 use Rattle.std.proofs.Common.{ℕ, ◌≡◌, Bool, true, false, List, [], ◌∷◌, ◌++◌, Option, Some, None, refl, sym, subst}
 use Rattle.std.specs.Bool.{if◌then◌else◌}
 use Rattle.std.specs.List.{AllByRecursion, cons_option, filter_map}
-use Rattle.sdd_base.specs.declared.site.Site.{Site}
-use Rattle.sdd_lang.specs.declared.transaction.Txn.{Txn}
-use Rattle.sdd_module.specs.SiteLog.{Did, Each, Entry, Handed, Log, Redeclared, Setting, Submits, Ticked, in_force}
-use Rattle.sdd_attempt.specs.Attempts.{Attempt, active}
-use Rattle.sdd_attempt.specs.Queues.{Queued, is_for, queue}
-use Rattle.sdd_log.specs.Entries.{Given}
-use Rattle.sdd_log.specs.Entries as whole
-use Rattle.sdd_log.specs.Locals.{local_of, setting_of}
-use Rattle.sdd_log.specs.Permitted.{IsPermitted}
-use Rattle.sdd_log.proofs.EachLocal.{each_local}
+use Rattle.sdd_invariants.specs.base.declared.site.Site.{Site}
+use Rattle.sdd_invariants.specs.lang.declared.transaction.Txn.{Txn}
+use Rattle.sdd_invariants.specs.site_module.SiteLog.{Did, Each, Entry, Handed, Log, Redeclared, Setting, Submits, Ticked, in_force}
+use Rattle.sdd_invariants.specs.attempt.Attempts.{Attempt, active}
+use Rattle.sdd_invariants.specs.attempt.Queues.{Queued, is_for, queue}
+use Rattle.sdd_invariants.specs.logs.Entries.{Given}
+use Rattle.sdd_invariants.specs.logs.Entries as whole
+use Rattle.sdd_invariants.specs.logs.Locals.{local_of, setting_of}
+use Rattle.sdd_invariants.specs.logs.Permitted.{IsPermitted}
+use Rattle.sdd_invariants.proofs.logs.EachLocal.{each_local}
 use Rattle.sdd_invariants.proofs.Queues.{queue_is}
 use Rattle.sdd_invariants.specs.Steps.{IsFair, IsNew, IsServed, is_committed, queued, starts_of, submits_of}
 use Rattle.sdd_obligations.specs.Fitting.{FitsGiven, FitsText}

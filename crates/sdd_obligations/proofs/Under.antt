@@ -1,28 +1,28 @@
 -- The height of a lawful log is one: no clock and no message's time is above it.
 use Rattle.std.specs.Prelude.{fold, max}
 use Rattle.std.proofs.Common.{ℕ, ◌*◌, ◌+◌, ◌-◌, ◌/◌, ◌∷◌, ◌≡◌, ◌≤◌, List, None, Option, Some, [], arith, if◌then◌else◌, map, refl, slice_get, subst, suc, sym}
-use Rattle.sdd_base.specs.Clock.{Ticking}
-use Rattle.sdd_base.specs.Numbers.{tm_no}
-use Rattle.sdd_base.specs.Sites.{same_site}
-use Rattle.sdd_base.specs.declared.event.Event.{Event}
-use Rattle.sdd_base.specs.declared.event.Event.TheVariants.{Tick}
-use Rattle.sdd_base.specs.declared.site.Site.{Site}
-use Rattle.sdd_base.specs.declared.site.Site.TheVariants.{D, T, U}
-use Rattle.sdd_catalog.specs.Catalogue.{numbers_to}
-use Rattle.sdd_lang.specs.declared.transaction.Txn.{Txn}
-use Rattle.sdd_history.specs.declared.record.Rec.TheVariants.{Start}
-use Rattle.sdd_wire.specs.declared.msg.Msg.{Msg}
-use Rattle.sdd_wire.specs.declared.msg.Msg.TheVariants.{Ask, Held, Reject, Release}
-use Rattle.sdd_module.specs.SiteLog.{Act, Did, Force, Handed, Records, Redeclared, Submits, Ticked, sends_of_act}
-use Rattle.sdd_attempt.specs.Clocks.{clock, pushed_by, ticked_by}
-use Rattle.sdd_log.specs.Entries.{Does, Entry, Given, Hand, Log, Mark, Notes, Redeclares, Round, Submitted}
-use Rattle.sdd_log.specs.Lawful.{IsLawful}
-use Rattle.sdd_log.specs.Locals.{beginning, force_at, local_of, redeclares, setting_of, txn_at}
-use Rattle.sdd_log.specs.Marks.{bound_at, greatest_bound}
-use Rattle.sdd_log.specs.Permitted.{IsDueAt, IsPermitted}
-use Rattle.sdd_log.specs.Snapshots.{base_of}
-use Rattle.sdd_log.specs.Traffic.{sent}
-use Rattle.sdd_log.proofs.EachLocal.{allowed_act}
+use Rattle.sdd_invariants.specs.base.Clock.{Ticking}
+use Rattle.sdd_invariants.specs.base.Numbers.{tm_no}
+use Rattle.sdd_invariants.specs.base.Sites.{same_site}
+use Rattle.sdd_invariants.specs.base.declared.event.Event.{Event}
+use Rattle.sdd_invariants.specs.base.declared.event.Event.TheVariants.{Tick}
+use Rattle.sdd_invariants.specs.base.declared.site.Site.{Site}
+use Rattle.sdd_invariants.specs.base.declared.site.Site.TheVariants.{D, T, U}
+use Rattle.sdd_invariants.specs.catalog.Catalogue.{numbers_to}
+use Rattle.sdd_invariants.specs.lang.declared.transaction.Txn.{Txn}
+use Rattle.sdd_invariants.specs.history.declared.record.Rec.TheVariants.{Start}
+use Rattle.sdd_invariants.specs.wire.declared.msg.Msg.{Msg}
+use Rattle.sdd_invariants.specs.wire.declared.msg.Msg.TheVariants.{Ask, Held, Reject, Release}
+use Rattle.sdd_invariants.specs.site_module.SiteLog.{Act, Did, Force, Handed, Records, Redeclared, Submits, Ticked, sends_of_act}
+use Rattle.sdd_invariants.specs.attempt.Clocks.{clock, pushed_by, ticked_by}
+use Rattle.sdd_invariants.specs.logs.Entries.{Does, Entry, Given, Hand, Log, Mark, Notes, Redeclares, Round, Submitted}
+use Rattle.sdd_invariants.specs.logs.Lawful.{IsLawful}
+use Rattle.sdd_invariants.specs.logs.Locals.{beginning, force_at, local_of, redeclares, setting_of, txn_at}
+use Rattle.sdd_invariants.specs.logs.Marks.{bound_at, greatest_bound}
+use Rattle.sdd_invariants.specs.logs.Permitted.{IsDueAt, IsPermitted}
+use Rattle.sdd_invariants.specs.logs.Snapshots.{base_of}
+use Rattle.sdd_invariants.specs.logs.Traffic.{sent}
+use Rattle.sdd_invariants.proofs.logs.EachLocal.{allowed_act}
 use Rattle.sdd_invariants.proofs.Serving.{u_due}
 use Rattle.sdd_invariants.proofs.Bools.{if_way}
 use Rattle.sdd_invariants.specs.Traffic.{puts_to, to_site}
@@ -37,7 +37,7 @@ use Rattle.sdd_obligations.proofs.AnswersLow.{d_low}
 use Rattle.sdd_obligations.proofs.LowLists.{all_low_join, all_low_up, low_at, low_up}
 use Rattle.sdd_obligations.proofs.OfNext.{OfNext, of_next, t_of_sites}
 use Rattle.sdd_obligations.proofs.SendsLow.{PutsLow, t_low, u_low}
-use Rattle.sdd_module.specs.SiteLog as site
+use Rattle.sdd_invariants.specs.site_module.SiteLog as site
 
 -- what an entry of a site's log, if there is one, may be, where the height grows so
 abbrev MayGrow : ℕ → ℕ → Option site.Entry → Type 0

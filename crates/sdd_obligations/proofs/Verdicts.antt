@@ -3,30 +3,30 @@ use Rattle.std.proofs.Common.{ℕ, ◌&&◌, ◌++◌, ◌<◌, ◌==◌, ◌∙
 use Rattle.std.proofs.Math.Decide.{dec_le}
 use Rattle.std.proofs.lemmas.Bool.{eqb-true}
 use Rattle.std.proofs.lemmas.List.Elements.{filter_map-append}
-use Rattle.sdd_base.specs.Sites.{number_of, same_site}
-use Rattle.sdd_base.specs.Words.{head_of}
-use Rattle.sdd_base.specs.declared.condition.Cond.{Cond}
-use Rattle.sdd_base.specs.declared.number.ClassNo.{ClassNo}
-use Rattle.sdd_base.specs.declared.number.DmNo.{DmNo}
-use Rattle.sdd_base.specs.declared.number.Ts.{Ts}
-use Rattle.sdd_base.specs.declared.number.TxnNo.{TxnNo}
-use Rattle.sdd_base.specs.declared.site.Site.{Site}
-use Rattle.sdd_base.specs.declared.site.Site.TheVariants.{D}
-use Rattle.sdd_base.specs.declared.usage.Use.{Use}
-use Rattle.sdd_history.specs.declared.record.Rec.{Rec}
-use Rattle.sdd_history.specs.declared.record.Rec.TheVariants.{Answer, Reject as Rejected}
-use Rattle.sdd_wire.specs.Piped.{goes_through}
-use Rattle.sdd_wire.specs.declared.msg.Msg.{Msg}
-use Rattle.sdd_wire.specs.declared.msg.Msg.TheVariants.{Read, Ready, Reject}
-use Rattle.sdd_module.specs.SiteLog.{Act, Did, Each, Handed, Records, Redeclared, Sends, Setting, Submits, Ticked, sends_of_act}
-use Rattle.sdd_attempt.specs.Fits.{is_verdict}
-use Rattle.sdd_pipe.specs.Pipe.{Pipe, head, head_processed, one_or_none}
-use Rattle.sdd_dm.specs.Pipes.{is_processing, pipe, pipe_acted}
-use Rattle.sdd_dm.specs.Views.{home_of, source_of}
-use Rattle.sdd_log.specs.Entries.{Given, Log}
-use Rattle.sdd_log.specs.Locals.{local_of, setting_of}
-use Rattle.sdd_log.specs.Permitted.{IsPermitted}
-use Rattle.sdd_log.proofs.EachLocal.{each_local}
+use Rattle.sdd_invariants.specs.base.Sites.{number_of, same_site}
+use Rattle.sdd_invariants.specs.base.Words.{head_of}
+use Rattle.sdd_invariants.specs.base.declared.condition.Cond.{Cond}
+use Rattle.sdd_invariants.specs.base.declared.number.ClassNo.{ClassNo}
+use Rattle.sdd_invariants.specs.base.declared.number.DmNo.{DmNo}
+use Rattle.sdd_invariants.specs.base.declared.number.Ts.{Ts}
+use Rattle.sdd_invariants.specs.base.declared.number.TxnNo.{TxnNo}
+use Rattle.sdd_invariants.specs.base.declared.site.Site.{Site}
+use Rattle.sdd_invariants.specs.base.declared.site.Site.TheVariants.{D}
+use Rattle.sdd_invariants.specs.base.declared.usage.Use.{Use}
+use Rattle.sdd_invariants.specs.history.declared.record.Rec.{Rec}
+use Rattle.sdd_invariants.specs.history.declared.record.Rec.TheVariants.{Answer, Reject as Rejected}
+use Rattle.sdd_invariants.specs.wire.Piped.{goes_through}
+use Rattle.sdd_invariants.specs.wire.declared.msg.Msg.{Msg}
+use Rattle.sdd_invariants.specs.wire.declared.msg.Msg.TheVariants.{Read, Ready, Reject}
+use Rattle.sdd_invariants.specs.site_module.SiteLog.{Act, Did, Each, Handed, Records, Redeclared, Sends, Setting, Submits, Ticked, sends_of_act}
+use Rattle.sdd_invariants.specs.attempt.Fits.{is_verdict}
+use Rattle.sdd_invariants.specs.pipe.Pipe.{Pipe, head, head_processed, one_or_none}
+use Rattle.sdd_invariants.specs.dm.Pipes.{is_processing, pipe, pipe_acted}
+use Rattle.sdd_invariants.specs.dm.Views.{home_of, source_of}
+use Rattle.sdd_invariants.specs.logs.Entries.{Given, Log}
+use Rattle.sdd_invariants.specs.logs.Locals.{local_of, setting_of}
+use Rattle.sdd_invariants.specs.logs.Permitted.{IsPermitted}
+use Rattle.sdd_invariants.proofs.logs.EachLocal.{each_local}
 use Rattle.sdd_invariants.proofs.Dones.{tally_at}
 use Rattle.sdd_invariants.proofs.Turns.{tally_append}
 use Rattle.sdd_invariants.specs.Turns.{one_if, tally}
@@ -45,7 +45,7 @@ use Rattle.sdd_invariants.specs.ReadSteps.{IsDueEach}
 use Rattle.sdd_invariants.specs.Steps.{home}
 use Rattle.sdd_invariants.specs.Traffic.{puts_to, to_site}
 use Rattle.sdd_invariants.proofs.Fair.{d_fair}
-use Rattle.sdd_module.specs.SiteLog as site
+use Rattle.sdd_invariants.specs.site_module.SiteLog as site
 
 -- the READs of a pipe rise, and its head is of the class
 

@@ -1,18 +1,18 @@
 -- What the messages of an exchange meet when they are handed over.
 use Rattle.std.specs.List.{All, list_any}
 use Rattle.std.specs.Prelude.{ℕ, ◌≡◌, List, None, Option, Some, false, map, not}
-use Rattle.sdd_base.specs.Sites.{number_of}
-use Rattle.sdd_base.specs.Words.{contains}
-use Rattle.sdd_base.specs.declared.condition.Cond.{Cond}
-use Rattle.sdd_base.specs.declared.site.Site.{Site}
-use Rattle.sdd_base.specs.declared.usage.Use.{Use}
-use Rattle.sdd_lang.specs.Database.{Row}
-use Rattle.sdd_wire.specs.declared.msg.Msg.{Msg}
-use Rattle.sdd_wire.specs.declared.msg.Msg.TheVariants.{Fetch, Read, Ready, Reduce, Reduced, Reject, Rows, Ship, Values}
-use Rattle.sdd_module.specs.SiteLog.{Log, Setting}
-use Rattle.sdd_attempt.specs.Attempts.{Attempt, active}
-use Rattle.sdd_attempt.specs.Fits.{AnswersRead, Awaits, AwaitsAt, FitsReady, fetches_use, is_shipping, reduces_use, uses_at}
-use Rattle.sdd_dm.specs.Fits.{Ascend, FitsShip, FitsStep, IsClass, IsHere}
+use Rattle.sdd_invariants.specs.base.Sites.{number_of}
+use Rattle.sdd_invariants.specs.base.Words.{contains}
+use Rattle.sdd_invariants.specs.base.declared.condition.Cond.{Cond}
+use Rattle.sdd_invariants.specs.base.declared.site.Site.{Site}
+use Rattle.sdd_invariants.specs.base.declared.usage.Use.{Use}
+use Rattle.sdd_invariants.specs.lang.Database.{Row}
+use Rattle.sdd_invariants.specs.wire.declared.msg.Msg.{Msg}
+use Rattle.sdd_invariants.specs.wire.declared.msg.Msg.TheVariants.{Fetch, Read, Ready, Reduce, Reduced, Reject, Rows, Ship, Values}
+use Rattle.sdd_invariants.specs.site_module.SiteLog.{Log, Setting}
+use Rattle.sdd_invariants.specs.attempt.Attempts.{Attempt, active}
+use Rattle.sdd_invariants.specs.attempt.Fits.{AnswersRead, Awaits, AwaitsAt, FitsReady, fetches_use, is_shipping, reduces_use, uses_at}
+use Rattle.sdd_invariants.specs.dm.Fits.{Ascend, FitsShip, FitsStep, IsClass, IsHere}
 
 -- ROWS are awaited, and are of uses that are read at their module alone
 pub record AwaitsRowsOf (a : Attempt) (from : Site) (ts : ℕ) (rows : List (ℕ × Row)) : Type 0 where

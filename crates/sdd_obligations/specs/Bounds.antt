@@ -1,13 +1,13 @@
 -- How high a log can be.
 use Rattle.std.specs.Prelude.{ℕ, ◌*◌, ◌+◌, ◌∷◌, ◌==◌, ◌≤◌, if◌then◌else◌, length, List, [], suc}
-use Rattle.sdd_base.specs.declared.event.Event.{Event}
-use Rattle.sdd_base.specs.declared.limits.TheConstants.{MAX_CLASSES, MAX_DMS, MAX_LINK_MESSAGES, MAX_RUN_EVENTS, MAX_TICKS, MAX_TMS}
-use Rattle.sdd_base.specs.declared.site.Site.{Site}
-use Rattle.sdd_base.specs.declared.site.Site.TheVariants.{D, T, U}
-use Rattle.sdd_history.specs.declared.record.Rec.TheVariants.{Start}
-use Rattle.sdd_module.specs.SiteLog.{Act, Did, Log, Records}
-use Rattle.sdd_log.specs.Entries.{Given}
-use Rattle.sdd_log.specs.Permitted.{AreSubmittedOnce}
+use Rattle.sdd_invariants.specs.base.declared.event.Event.{Event}
+use Rattle.sdd_invariants.specs.base.declared.limits.TheConstants.{MAX_CLASSES, MAX_DMS, MAX_LINK_MESSAGES, MAX_RUN_EVENTS, MAX_TICKS, MAX_TMS}
+use Rattle.sdd_invariants.specs.base.declared.site.Site.{Site}
+use Rattle.sdd_invariants.specs.base.declared.site.Site.TheVariants.{D, T, U}
+use Rattle.sdd_invariants.specs.history.declared.record.Rec.TheVariants.{Start}
+use Rattle.sdd_invariants.specs.site_module.SiteLog.{Act, Did, Log, Records}
+use Rattle.sdd_invariants.specs.logs.Entries.{Given}
+use Rattle.sdd_invariants.specs.logs.Permitted.{AreSubmittedOnce}
 use Rattle.sdd_obligations.specs.Heights.{ticks_of}
 
 -- the Starts of a class at a site

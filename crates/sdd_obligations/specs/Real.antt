@@ -1,27 +1,27 @@
 -- What the modules of the system ask, by the kind of their site, and all that is needed of what is given.
 use Rattle.std.specs.Prelude.{ℕ, ◌/◌, ◌<◌, ◌^◌, List, None, Option, Some}
-use Rattle.sdd_base.specs.Sites.{number_of}
-use Rattle.sdd_base.specs.declared.site.Site.{Site}
-use Rattle.sdd_base.specs.declared.site.Site.TheVariants.{U, T, D}
-use Rattle.sdd_catalog.specs.Catalogue.{Catalogue}
-use Rattle.sdd_lang.specs.Database.{Row}
-use Rattle.sdd_lang.specs.declared.transaction.Txn.{Txn}
-use Rattle.sdd_wire.specs.declared.msg.Msg.{Msg}
-use Rattle.sdd_wire.specs.declared.msg.Msg.TheVariants.{Rows}
-use Rattle.sdd_eras.specs.EraOf.{IsEraOf}
-use Rattle.sdd_module.specs.SiteLog.{Bases, Force, Setting}
-use Rattle.sdd_attempt.specs.Attempts.{Attempt, active}
-use Rattle.sdd_attempt.specs.Exchange.{without}
-use Rattle.sdd_attempt.specs.Fits.{FitsSite, ServesIfLast}
-use Rattle.sdd_dm.specs.Fits as dm
-use Rattle.sdd_tm.specs.Fits as tm
-use Rattle.sdd_umod.specs.Fits as um
-use Rattle.sdd_log.specs.Entries.{Given}
-use Rattle.sdd_log.specs.Permitted.{AreSubmittedOnce}
+use Rattle.sdd_invariants.specs.base.Sites.{number_of}
+use Rattle.sdd_invariants.specs.base.declared.site.Site.{Site}
+use Rattle.sdd_invariants.specs.base.declared.site.Site.TheVariants.{U, T, D}
+use Rattle.sdd_invariants.specs.catalog.Catalogue.{Catalogue}
+use Rattle.sdd_invariants.specs.lang.Database.{Row}
+use Rattle.sdd_invariants.specs.lang.declared.transaction.Txn.{Txn}
+use Rattle.sdd_invariants.specs.wire.declared.msg.Msg.{Msg}
+use Rattle.sdd_invariants.specs.wire.declared.msg.Msg.TheVariants.{Rows}
+use Rattle.sdd_laws.specs.class_eras.EraOf.{IsEraOf}
+use Rattle.sdd_invariants.specs.site_module.SiteLog.{Bases, Force, Setting}
+use Rattle.sdd_invariants.specs.attempt.Attempts.{Attempt, active}
+use Rattle.sdd_invariants.specs.attempt.Exchange.{without}
+use Rattle.sdd_invariants.specs.attempt.Fits.{FitsSite, ServesIfLast}
+use Rattle.sdd_invariants.specs.dm.Fits as dm
+use Rattle.sdd_invariants.specs.tm.Fits as tm
+use Rattle.sdd_invariants.specs.umod.Fits as um
+use Rattle.sdd_invariants.specs.logs.Entries.{Given}
+use Rattle.sdd_invariants.specs.logs.Permitted.{AreSubmittedOnce}
 use Rattle.sdd_obligations.specs.Bounds.{AllFewTicks}
 use Rattle.sdd_obligations.specs.Fitting.{FitsGiven}
 use Rattle.sdd_obligations.specs.Reading.{HasEras}
-use Rattle.sdd_module.specs.SiteLog as site
+use Rattle.sdd_invariants.specs.site_module.SiteLog as site
 
 -- what a message has to meet, and what a transaction with its number
 abbrev pub Fitting : Type 1

@@ -1,10 +1,10 @@
 -- An exchange in lockstep: both sides have the same turn, but for one question or one answer that is under way.
 use Rattle.std.specs.Prelude.{◌∷◌, ◌≡◌, List, [], drop}
-use Rattle.sdd_base.specs.declared.site.Site.{Site}
-use Rattle.sdd_wire.specs.declared.msg.Msg.{Msg}
-use Rattle.sdd_log.specs.Entries.{Given, Log}
-use Rattle.sdd_log.specs.Locals.{local_of}
-use Rattle.sdd_log.specs.Traffic.{handed}
+use Rattle.sdd_invariants.specs.base.declared.site.Site.{Site}
+use Rattle.sdd_invariants.specs.wire.declared.msg.Msg.{Msg}
+use Rattle.sdd_invariants.specs.logs.Entries.{Given, Log}
+use Rattle.sdd_invariants.specs.logs.Locals.{local_of}
+use Rattle.sdd_invariants.specs.logs.Traffic.{handed}
 use Rattle.sdd_obligations.specs.Turns.{MayAnswer, MayAsk, Turn, asked, told}
 use Rattle.sdd_invariants.specs.Traffic.{puts_to}
 

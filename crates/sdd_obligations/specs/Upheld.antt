@@ -4,15 +4,15 @@
 use Rattle.std.specs.List.{All, IsDistinct}
 use Rattle.std.specs.Ordering.{is_eq}
 use Rattle.std.specs.Prelude.{◌≡◌, map}
-use Rattle.sdd_base.specs.declared.site.Site.{Site}
-use Rattle.sdd_lang.specs.Database.{item_cmp}
-use Rattle.sdd_wire.specs.declared.msg.Msg.{Msg}
-use Rattle.sdd_wire.specs.declared.msg.Msg.TheVariants.{Fetch, Read, Ready, Reduce, Reduced, Rows, Ship, Values, Write}
-use Rattle.sdd_module.specs.SiteLog.{Bases, Setting}
-use Rattle.sdd_attempt.specs.Attempts.{active}
-use Rattle.sdd_attempt.specs.Fits.{AwaitsAt, FitsRows, fetches_use, reduces_use, uses_asked}
-use Rattle.sdd_dm.specs.Fits.{Ascend, FitsChange, FitsShip, FitsStep, IsHere}
-use Rattle.sdd_module.specs.SiteLog as site
+use Rattle.sdd_invariants.specs.base.declared.site.Site.{Site}
+use Rattle.sdd_invariants.specs.lang.Database.{item_cmp}
+use Rattle.sdd_invariants.specs.wire.declared.msg.Msg.{Msg}
+use Rattle.sdd_invariants.specs.wire.declared.msg.Msg.TheVariants.{Fetch, Read, Ready, Reduce, Reduced, Rows, Ship, Values, Write}
+use Rattle.sdd_invariants.specs.site_module.SiteLog.{Bases, Setting}
+use Rattle.sdd_invariants.specs.attempt.Attempts.{active}
+use Rattle.sdd_invariants.specs.attempt.Fits.{AwaitsAt, FitsRows, fetches_use, reduces_use, uses_asked}
+use Rattle.sdd_invariants.specs.dm.Fits.{Ascend, FitsChange, FitsShip, FitsStep, IsHere}
+use Rattle.sdd_invariants.specs.site_module.SiteLog as site
 
 -- at a data module
 

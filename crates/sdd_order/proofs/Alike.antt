@@ -3,7 +3,7 @@ use Rattle.std.proofs.Common.{ℕ, zero, suc, ◌<◌, ◌≤◌, ◌==◌, ◌�
 use Rattle.std.specs.Prelude.{filter, option_map, Contains}
 use Rattle.std.specs.List.{list_any}
 use Rattle.std.proofs.lemmas.Bool.{cases_Bool, cases_eq, ne_eqb}
-use Rattle.sdd_base.proofs.Membership.{Contains-nil, Contains-here, Contains-later}
+use Rattle.sdd_lang.proofs.base.Membership.{Contains-nil, Contains-here, Contains-later}
 use Rattle.sdd_order.specs.Paths.{IsPath}
 use Rattle.sdd_order.specs.Taken.{is_ready, earlier, earliest, without, taken}
 use Rattle.sdd_order.proofs.Taken.{IsNext, next_is, is_next, Differ, differ_without, without_is, in_without}

@@ -3,7 +3,7 @@ use Rattle.std.proofs.Common.{ℕ, zero, suc, ◌+◌, ◌<◌, ◌≤◌, ◌==
 use Rattle.std.specs.Prelude.{Contains, filter}
 use Rattle.std.specs.List.{flat_map, range_with_len}
 use Rattle.std.proofs.lemmas.Bool.{cases_eq, eqb-true, ne_eqb}
-use Rattle.sdd_base.proofs.Membership.{Contains-nil, Contains-here, Contains-later, Contains-cases}
+use Rattle.sdd_lang.proofs.base.Membership.{Contains-nil, Contains-here, Contains-later, Contains-cases}
 use Rattle.sdd_order.specs.Groups.{Groups, group, groups, chain_after, chains}
 use Rattle.sdd_order.specs.Paths.{IsPath}
 use Rattle.sdd_order.specs.Taking.{Links}

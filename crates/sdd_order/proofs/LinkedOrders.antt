@@ -5,7 +5,7 @@ use Rattle.std.specs.List.{list_any}
 use Rattle.std.proofs.lemmas.Bool.{cases_eq, cases_Bool, eqb-true, ne_eqb}
 use Rattle.std.proofs.lemmas.List.{length-set, get_or-set_same, get_or-set_other}
 use Rattle.std.proofs.lemmas.List.Elements.{All-head, All-tail}
-use Rattle.sdd_base.proofs.Membership.{Contains-here, Contains-later}
+use Rattle.sdd_lang.proofs.base.Membership.{Contains-here, Contains-later}
 use Rattle.sdd_order.specs.Groups.{group}
 use Rattle.sdd_order.specs.Taken.{without}
 use Rattle.sdd_order.specs.Taking.{Links, has_link, at_node, counted}

@@ -4,11 +4,11 @@ use Rattle.std.specs.Prelude.{option_map, unwrap_or, slice_index_or}
 use Rattle.std.specs.List.{flat_map}
 use Rattle.std.proofs.lemmas.List.{append-nil, drop_all}
 use Rattle.std.proofs.lemmas.Grind.{flat_map-append}
-use Rattle.sdd_base.specs.Numbers.{dm_no}
-use Rattle.sdd_base.specs.declared.number.DmNo.{DmNo}
-use Rattle.sdd_base.specs.declared.number.FragNo.{FragNo}
-use Rattle.sdd_base.specs.declared.usage.Use.{Use}
-use Rattle.sdd_catalog.specs.Catalogue.{Catalogue}
+use Rattle.sdd_lang.specs.base.Numbers.{dm_no}
+use Rattle.sdd_lang.specs.base.declared.number.DmNo.{DmNo}
+use Rattle.sdd_lang.specs.base.declared.number.FragNo.{FragNo}
+use Rattle.sdd_lang.specs.base.declared.usage.Use.{Use}
+use Rattle.sdd_lang.specs.catalog.Catalogue.{Catalogue}
 use Rattle.sdd_lang.specs.Classes.{fragments_in}
 use Rattle.sdd_order.specs.Attempts.{Committed, changes}
 use Rattle.sdd_order.specs.declared.seen.Marks.{Marks}

@@ -7,7 +7,7 @@ use Rattle.std.specs.BTreeSet.{insert_key}
 use Rattle.std.proofs.lemmas.Bool.{cases_eq, ne_eqb, eqb-true}
 use Rattle.std.proofs.lemmas.List.{length-set, length-replicate, get_or-replicate, get_or-set_same, get_or-set_other}
 use Rattle.std.proofs.lemmas.List.Elements.{All-contains, All-weaker, All-map, Contains-get_or}
-use Rattle.sdd_base.proofs.Membership.{Contains-nil, Contains-here, Contains-later, Contains-cases}
+use Rattle.sdd_lang.proofs.base.Membership.{Contains-nil, Contains-here, Contains-later, Contains-cases}
 use Rattle.sdd_order.specs.Groups.{Groups, group, groups}
 use Rattle.sdd_order.specs.Taken.{is_ready, earliest, taken}
 use Rattle.sdd_order.specs.Taking.{Links, has_link, nodes, order_of, at_node, counted, link_counts, Front, released, first_ready, taking}

@@ -1,7 +1,7 @@
 -- Of the members of a list one is ready: none of them precedes it.
 use Rattle.std.proofs.Common.{List, [], ◌∷◌, ◌++◌, ◌≡◌, refl, sym, ap, subst, ◌⊎◌, inl, inr}
 use Rattle.std.specs.Prelude.{Contains}
-use Rattle.sdd_base.proofs.Membership.{Contains-nil, Contains-here, Contains-later, Contains-cases}
+use Rattle.sdd_lang.proofs.base.Membership.{Contains-nil, Contains-here, Contains-later, Contains-cases}
 use Rattle.sdd_order.specs.Paths.{IsPath, IsOrderly}
 use Rattle.sdd_order.proofs.Paths.{path_join}
 

@@ -4,7 +4,7 @@ use Rattle.std.specs.Prelude.{filter, Contains}
 use Rattle.std.specs.List.{list_any}
 use Rattle.std.proofs.lemmas.Bool.{cases_Bool, cases_eq, ltb-true, ltb-false, eqb-true, eqb-false, ne_eqb, not-true}
 use Rattle.std.proofs.lemmas.Option.{same_Some}
-use Rattle.sdd_base.proofs.Membership.{Contains-nil, Contains-here, Contains-later, Contains-cases}
+use Rattle.sdd_lang.proofs.base.Membership.{Contains-nil, Contains-here, Contains-later, Contains-cases}
 use Rattle.sdd_order.specs.Taken.{is_ready, earlier, earliest, without, taken}
 use Rattle.sdd_order.proofs.Members.{Contains-filter, Contains-from_filter, passes_member}
 

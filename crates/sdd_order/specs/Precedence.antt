@@ -1,7 +1,7 @@
 -- Which of two committed transactions has to stand before the other in a serial order.
 use Rattle.std.specs.Prelude.{ℕ, nat_lt, ◌≡◌, ◌==◌, Bool, true, false, not, ◌&&◌, ◌||◌, unwrap_or}
 use Rattle.std.specs.List.{list_any}
-use Rattle.sdd_catalog.specs.Catalogue.{Catalogue, reads_at}
+use Rattle.sdd_lang.specs.catalog.Catalogue.{Catalogue, reads_at}
 use Rattle.sdd_history.specs.declared.record.Rec.{Rec}
 use Rattle.sdd_history.specs.declared.record.Rec.TheVariants.{Answer, Apply}
 use Rattle.sdd_history.specs.Records.{History}

@@ -7,8 +7,8 @@ ghost use Rattle.sdd_order.specs.Numbers.{IsClass, IsFragment, UseExists};
 use crate::attempts::Committed;
 use crate::reads::link_uses;
 use crate::seen::Marks;
-use sdd_base::{Change, NoMemory};
-use sdd_catalog::Catalogue;
+use sdd_lang::sdd_base::{Change, NoMemory};
+use sdd_lang::sdd_catalog::Catalogue;
 use crate::groups::Groups;
 use std::alloc::Global;
 

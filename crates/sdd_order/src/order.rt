@@ -1,6 +1,6 @@
 ghost use Rattle.std.specs.Prelude.{◌≡◌, option_map, slice_get, IfOk};
 ghost use Rattle.std.specs.List.Sorted.{IsPermutation, IsNonDecreasingBy};
-ghost use Rattle.sdd_base.specs.Numbers.{txn_no};
+ghost use Rattle.sdd_lang.specs.base.Numbers.{txn_no};
 ghost use Rattle.sdd_order.specs.Attempts.{committed};
 ghost use Rattle.sdd_order.specs.Linked.{numbers_at};
 ghost use Rattle.sdd_order.specs.Orders.{IsOrderable, IsSerial};
@@ -9,8 +9,8 @@ ghost use Rattle.sdd_order.specs.SerialOrder.{serial_order};
 use crate::attempts::{Committed, find_committed};
 use crate::links::find_links;
 use crate::seen::Marks;
-use sdd_base::{NoMemory, TxnNo};
-use sdd_catalog::Catalogue;
+use sdd_lang::sdd_base::{NoMemory, TxnNo};
+use sdd_lang::sdd_catalog::Catalogue;
 use sdd_history::Rec;
 use crate::taking::order_of;
 use std::alloc::Global;

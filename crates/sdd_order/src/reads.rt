@@ -7,8 +7,8 @@ ghost use Rattle.sdd_order.specs.Precedence.{module_of};
 
 use crate::attempts::Committed;
 use crate::seen::Marks;
-use sdd_base::{Change, DmNo, FragNo, NoMemory, Use};
-use sdd_catalog::Catalogue;
+use sdd_lang::sdd_base::{Change, DmNo, FragNo, NoMemory, Use};
+use sdd_lang::sdd_catalog::Catalogue;
 use crate::groups::Groups;
 
 /// Adds the links of one reader for the fragments of its uses.

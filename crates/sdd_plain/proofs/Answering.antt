@@ -1,7 +1,7 @@
 -- Queries are answered over the rows that may stand in their parts.
 use Rattle.std.proofs.Common.{ℕ, ◌≡◌, ◌+◌, List, [], ◌∷◌, map, refl, ap, ◌∙◌}
 use Rattle.std.specs.Prelude.{filter}
-use Rattle.sdd_base.specs.declared.number.RelNo.{RelNo}
+use Rattle.sdd_lang.specs.base.declared.number.RelNo.{RelNo}
 use Rattle.sdd_lang.specs.declared.condition.Ref.{Ref}
 use Rattle.sdd_lang.specs.declared.condition.Condition.{Condition}
 use Rattle.sdd_lang.specs.Database.{Row, Database, rows_of}

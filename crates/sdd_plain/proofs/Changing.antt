@@ -1,7 +1,7 @@
 -- One change of a database.
 use Rattle.std.proofs.Common.{ℕ, ◌≡◌, None, sym, ap, ◌∙◌}
-use Rattle.sdd_base.specs.declared.change.Change.{Change}
-use Rattle.sdd_catalog.specs.Catalogue.{Catalogue, fragment_at}
+use Rattle.sdd_lang.specs.base.declared.change.Change.{Change}
+use Rattle.sdd_lang.specs.catalog.Catalogue.{Catalogue, fragment_at}
 use Rattle.sdd_lang.specs.Database.{Database, without_row}
 use Rattle.sdd_lang.specs.Serial.{set_to, changed_by}
 

@@ -8,8 +8,8 @@ use Rattle.std.specs.Map.{keys_of}
 use Rattle.std.proofs.lemmas.Int.{ints}
 use Rattle.std.proofs.lemmas.Bool.{eqb-true}
 use Rattle.std.proofs.lemmas.List.Elements.{All-from_recursion, recursion_from_All}
-use Rattle.sdd_base.specs.Order.{column}
-use Rattle.sdd_base.specs.declared.value.Value.TheVariants.{Int}
+use Rattle.sdd_lang.specs.base.Order.{column}
+use Rattle.sdd_lang.specs.base.declared.value.Value.TheVariants.{Int}
 use Rattle.sdd_lang.specs.declared.condition.Condition.{Condition}
 use Rattle.sdd_lang.specs.Condition.{meets_all}
 use Rattle.sdd_lang.specs.Database.{Item, Row, Database, item_cmp, rows_of, with_row, without_row}

@@ -1,6 +1,6 @@
 -- The rows of a query's parts.
 use Rattle.std.specs.Prelude.{ℕ, ◌+◌, List, [], ◌∷◌, filter}
-use Rattle.sdd_base.specs.declared.number.RelNo.{RelNo}
+use Rattle.sdd_lang.specs.base.declared.number.RelNo.{RelNo}
 use Rattle.sdd_lang.specs.declared.condition.Condition.{Condition}
 use Rattle.sdd_lang.specs.Database.{Row, Database, rows_of}
 use Rattle.sdd_lang.specs.Tuples.{may_stand}

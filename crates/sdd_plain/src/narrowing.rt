@@ -1,11 +1,11 @@
 //! The keys of the rows that may stand in a part.
 ghost use Rattle.std.specs.Prelude.{◌≡◌, ◌↔◌, All, IfOk, IsTrue};
-ghost use Rattle.sdd_catalog.specs.declared.parts.Kind.TheVariants.{Int};
+ghost use Rattle.sdd_lang.specs.catalog.declared.parts.Kind.TheVariants.{Int};
 ghost use Rattle.sdd_lang.specs.Fits.{kind_of};
 ghost use Rattle.sdd_lang.specs.Uses.{IsOfKeys};
 ghost use Rattle.sdd_plain.specs.Held.{AreKeysOf};
 
-use sdd_base::{NoMemory, Restriction, Value};
+use sdd_lang::sdd_base::{NoMemory, Restriction, Value};
 use sdd_lang::{Condition, Keys, allowed_keys, restrictions_of};
 use std::alloc::Global;
 

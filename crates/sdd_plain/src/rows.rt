@@ -1,6 +1,6 @@
 //! The rows of all relations in memory.
 ghost use Rattle.std.specs.Prelude.{◌≡◌, ◌==◌, ◌&&◌, ◌-◌, [], All, IsTrue, IfOk, OnOk, filter, slice_index};
-ghost use Rattle.sdd_catalog.specs.Catalogue.{fragment_at};
+ghost use Rattle.sdd_lang.specs.catalog.Catalogue.{fragment_at};
 ghost use Rattle.sdd_lang.specs.Database.{Item, Row as OfRow, with_row, without_row, rows_of, database_of};
 ghost use Rattle.sdd_lang.specs.Serial.{changed_by, after_changes};
 ghost use Rattle.sdd_lang.specs.Source.{entries_of};
@@ -12,8 +12,8 @@ ghost use Rattle.sdd_plain.specs.Held.{HasKey, AreNear, is_within};
 ghost use Rattle.sdd_plain.specs.Parts.{standing};
 
 use crate::narrowing::keys_of_part;
-use sdd_base::{Change, FragNo, NoMemory, Parcel, RelNo, Row, Value};
-use sdd_catalog::Catalogue;
+use sdd_lang::sdd_base::{Change, FragNo, NoMemory, Parcel, RelNo, Row, Value};
+use sdd_lang::sdd_catalog::Catalogue;
 use sdd_exec::Parts;
 use sdd_lang::{Condition, Entries, Entry, Keys, key_of, may_stand, meets_all, value_in};
 use std::alloc::Global;

@@ -1,21 +1,21 @@
 -- Where nothing goes on and all is idle, each copy has what a serial run leaves.
 use Rattle.std.proofs.Common.{ℕ, ◌∙◌, ◌≡◌, List, [], ap, inr, length, refl, subst, sym, true}
-use Rattle.sdd_base.specs.Numbers.{dm_no}
-use Rattle.sdd_base.specs.declared.number.RelNo.{RelNo}
-use Rattle.sdd_base.specs.declared.number.TxnNo.{TxnNo}
-use Rattle.sdd_base.specs.declared.site.Site.TheVariants.{D}
-use Rattle.sdd_catalog.specs.Catalogue.{has_copy}
-use Rattle.sdd_catalog.specs.Rules.{IsSound}
-use Rattle.sdd_copy.specs.Contents.{contents}
-use Rattle.sdd_dm.specs.Copies.{dated}
-use Rattle.sdd_lang.specs.Agree.{rows_in_fragment}
-use Rattle.sdd_lang.specs.Database.{Row}
-use Rattle.sdd_order.specs.Orders.{IsSerial}
-use Rattle.sdd_laws.specs.Deeds.{AppliedBefore}
-use Rattle.sdd_laws.specs.Replay.{AreAllApplied, run}
-use Rattle.sdd_laws.specs.Snapshots.{items_of}
-use Rattle.sdd_log.specs.Entries.{Given, Log, history}
-use Rattle.sdd_log.specs.Locals.{local_of, setting_of}
+use Rattle.sdd_obligations.specs.base.Numbers.{dm_no}
+use Rattle.sdd_obligations.specs.base.declared.number.RelNo.{RelNo}
+use Rattle.sdd_obligations.specs.base.declared.number.TxnNo.{TxnNo}
+use Rattle.sdd_obligations.specs.base.declared.site.Site.TheVariants.{D}
+use Rattle.sdd_obligations.specs.catalog.Catalogue.{has_copy}
+use Rattle.sdd_obligations.specs.catalog.Rules.{IsSound}
+use Rattle.sdd_obligations.specs.copy.Contents.{contents}
+use Rattle.sdd_obligations.specs.dm.Copies.{dated}
+use Rattle.sdd_obligations.specs.lang.Agree.{rows_in_fragment}
+use Rattle.sdd_obligations.specs.lang.Database.{Row}
+use Rattle.sdd_obligations.specs.serial_orders.Orders.{IsSerial}
+use Rattle.sdd_obligations.specs.laws.Deeds.{AppliedBefore}
+use Rattle.sdd_obligations.specs.laws.Replay.{AreAllApplied, run}
+use Rattle.sdd_obligations.specs.laws.Snapshots.{items_of}
+use Rattle.sdd_obligations.specs.logs.Entries.{Given, Log, history}
+use Rattle.sdd_obligations.specs.logs.Locals.{local_of, setting_of}
 use Rattle.sdd_lawful.specs.Given.{HasSoundData}
 use Rattle.sdd_lawful.proofs.Applied.{applied_before}
 use Rattle.sdd_lawful.proofs.Committed.{committed_in}

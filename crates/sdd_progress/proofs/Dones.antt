@@ -1,40 +1,40 @@
 -- Where nothing goes on and all WRITEs are applied, the module for undeclared transactions has counted the DONE of each data
 -- module for its last Commit.
 use Rattle.std.proofs.Common.{ℕ, ◌+◌, ◌++◌, ◌<◌, ◌==◌, ◌∙◌, ◌∷◌, ◌≡◌, ◌≤◌, Bool, List, Some, [], ap, arith, false, if◌then◌else◌, inl, inr, refl, slice_get, suc, subst, sym, true, zero}
-use Rattle.sdd_base.specs.Numbers.{dm_no, time_at}
-use Rattle.sdd_base.specs.Sites.{number_of, same_site}
-use Rattle.sdd_base.specs.declared.number.ClassNo.{ClassNo}
-use Rattle.sdd_base.specs.declared.number.DmNo.{DmNo}
-use Rattle.sdd_base.specs.declared.number.Ts.{Ts}
-use Rattle.sdd_base.specs.declared.number.TxnNo.{TxnNo}
-use Rattle.sdd_base.specs.declared.site.Site.{Site}
-use Rattle.sdd_base.specs.declared.site.Site.TheVariants.{D, T, U}
-use Rattle.sdd_catalog.specs.Catalogue.{numbers_to}
-use Rattle.sdd_catalog.specs.Rules.{IsSound}
-use Rattle.sdd_history.specs.declared.record.Rec.{Rec}
-use Rattle.sdd_history.specs.declared.record.Rec.TheVariants.{Apply}
-use Rattle.sdd_wire.specs.declared.msg.Msg.{Msg}
-use Rattle.sdd_wire.specs.declared.msg.Msg.TheVariants.{Done}
-use Rattle.sdd_module.specs.SiteLog.{Act, Bases, Did, Each, Handed, Records, Redeclared, Setting, Submits, Ticked, sends_of_act}
-use Rattle.sdd_module.specs.SiteLog as site
-use Rattle.sdd_order.specs.Numbers.{IsModule}
-use Rattle.sdd_attempt.specs.Acts.{commit_act}
-use Rattle.sdd_attempt.specs.Attempts.{Attempt}
-use Rattle.sdd_dm.specs.Due.{done_for}
-use Rattle.sdd_umod.specs.Views.{last_served}
-use Rattle.sdd_log.specs.Entries.{Does, Given, Log}
-use Rattle.sdd_log.specs.Locals.{local_of, setting_of}
-use Rattle.sdd_invariants.proofs.Active.{each_at}
-use Rattle.sdd_invariants.proofs.Bools.{same_number, same_or_not}
-use Rattle.sdd_invariants.proofs.Dones.{dones_few}
-use Rattle.sdd_invariants.proofs.Fair.{d_fair, u_fair}
-use Rattle.sdd_invariants.proofs.HoldChain.{u_table}
-use Rattle.sdd_invariants.proofs.Origins.{is_put}
-use Rattle.sdd_invariants.proofs.Turns.{tally_append}
-use Rattle.sdd_invariants.specs.ReadSteps.{IsDueEach, IsOfWrite}
-use Rattle.sdd_invariants.specs.Releases.{dones_of, is_done_of}
-use Rattle.sdd_invariants.specs.Traffic.{hands_from, puts_to, to_site}
-use Rattle.sdd_invariants.specs.Turns.{one_if, tally}
+use Rattle.sdd_obligations.specs.base.Numbers.{dm_no, time_at}
+use Rattle.sdd_obligations.specs.base.Sites.{number_of, same_site}
+use Rattle.sdd_obligations.specs.base.declared.number.ClassNo.{ClassNo}
+use Rattle.sdd_obligations.specs.base.declared.number.DmNo.{DmNo}
+use Rattle.sdd_obligations.specs.base.declared.number.Ts.{Ts}
+use Rattle.sdd_obligations.specs.base.declared.number.TxnNo.{TxnNo}
+use Rattle.sdd_obligations.specs.base.declared.site.Site.{Site}
+use Rattle.sdd_obligations.specs.base.declared.site.Site.TheVariants.{D, T, U}
+use Rattle.sdd_obligations.specs.catalog.Catalogue.{numbers_to}
+use Rattle.sdd_obligations.specs.catalog.Rules.{IsSound}
+use Rattle.sdd_obligations.specs.history.declared.record.Rec.{Rec}
+use Rattle.sdd_obligations.specs.history.declared.record.Rec.TheVariants.{Apply}
+use Rattle.sdd_obligations.specs.wire.declared.msg.Msg.{Msg}
+use Rattle.sdd_obligations.specs.wire.declared.msg.Msg.TheVariants.{Done}
+use Rattle.sdd_obligations.specs.site_module.SiteLog.{Act, Bases, Did, Each, Handed, Records, Redeclared, Setting, Submits, Ticked, sends_of_act}
+use Rattle.sdd_obligations.specs.site_module.SiteLog as site
+use Rattle.sdd_obligations.specs.serial_orders.Numbers.{IsModule}
+use Rattle.sdd_obligations.specs.attempt.Acts.{commit_act}
+use Rattle.sdd_obligations.specs.attempt.Attempts.{Attempt}
+use Rattle.sdd_obligations.specs.dm.Due.{done_for}
+use Rattle.sdd_obligations.specs.umod.Views.{last_served}
+use Rattle.sdd_obligations.specs.logs.Entries.{Does, Given, Log}
+use Rattle.sdd_obligations.specs.logs.Locals.{local_of, setting_of}
+use Rattle.sdd_obligations.proofs.invariants.Active.{each_at}
+use Rattle.sdd_obligations.proofs.invariants.Bools.{same_number, same_or_not}
+use Rattle.sdd_obligations.proofs.invariants.Dones.{dones_few}
+use Rattle.sdd_obligations.proofs.invariants.Fair.{d_fair, u_fair}
+use Rattle.sdd_obligations.proofs.invariants.HoldChain.{u_table}
+use Rattle.sdd_obligations.proofs.invariants.Origins.{is_put}
+use Rattle.sdd_obligations.proofs.invariants.Turns.{tally_append}
+use Rattle.sdd_obligations.specs.invariants.ReadSteps.{IsDueEach, IsOfWrite}
+use Rattle.sdd_obligations.specs.invariants.Releases.{dones_of, is_done_of}
+use Rattle.sdd_obligations.specs.invariants.Traffic.{hands_from, puts_to, to_site}
+use Rattle.sdd_obligations.specs.invariants.Turns.{one_if, tally}
 use Rattle.sdd_obligations.proofs.DataSteps.{IsDataStep, answers_read, applies, arrives, data_step, passes, refuses_read, replies, waits_for}
 use Rattle.sdd_lawful.proofs.Applied.{HasResult, result_in}
 use Rattle.sdd_progress.proofs.Applied.{all_applied}

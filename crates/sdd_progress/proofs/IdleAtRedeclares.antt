@@ -1,23 +1,23 @@
 -- On a lawful log all was idle wherever a further list of classes was put in force, if no module was down there.
 use Rattle.std.proofs.Common.{ℕ, ◌++◌, ◌∷◌, ◌≡◌, ◌≤◌, Bool, List, None, Option, Some, [], ap, arith, false, if◌then◌else◌, refl, subst, sym, true}
-use Rattle.sdd_base.specs.Words.{or_else}
-use Rattle.sdd_base.specs.Sites.{sites}
-use Rattle.sdd_base.specs.declared.event.Event.{Event}
-use Rattle.sdd_base.specs.declared.event.Event.TheVariants.{Deliver, Down, Lose, Redeclare, Repeat, Resend, Settle, Submit, Tick, Up}
-use Rattle.sdd_base.specs.declared.site.Site.{Site}
-use Rattle.sdd_wire.specs.declared.msg.Msg.{Msg}
-use Rattle.sdd_module.specs.SiteLog.{Act}
-use Rattle.sdd_module.proofs.Finding.{found_at}
-use Rattle.sdd_net.specs.Links.{delivered, quiet, round}
-use Rattle.sdd_order.specs.Numbers.{IsModule}
-use Rattle.sdd_log.specs.Due.{does_at, due_by, hand_due, hand_number, hand_on, hand_with, mark_due, next, next_at, next_number, note_if, site_due}
-use Rattle.sdd_log.specs.Entries.{Does, Entry, Given, Hand, Log, Mark, Notes, Redeclares, Round, Submitted}
-use Rattle.sdd_log.specs.Lawful.{IsLawful}
-use Rattle.sdd_log.specs.Locals.{redeclares}
-use Rattle.sdd_log.specs.Marks.{greatest_bound, left, mark_from, mark_of, next_mark}
-use Rattle.sdd_log.specs.Permitted.{AreSubmittedOnce}
-use Rattle.sdd_log.specs.Traffic.{all_links, calls_of, handed, is_down, link_of, message_at, takes_part}
-use Rattle.sdd_log.proofs.NewMarks.{lawful_permitted}
+use Rattle.sdd_obligations.specs.base.Words.{or_else}
+use Rattle.sdd_obligations.specs.base.Sites.{sites}
+use Rattle.sdd_obligations.specs.base.declared.event.Event.{Event}
+use Rattle.sdd_obligations.specs.base.declared.event.Event.TheVariants.{Deliver, Down, Lose, Redeclare, Repeat, Resend, Settle, Submit, Tick, Up}
+use Rattle.sdd_obligations.specs.base.declared.site.Site.{Site}
+use Rattle.sdd_obligations.specs.wire.declared.msg.Msg.{Msg}
+use Rattle.sdd_obligations.specs.site_module.SiteLog.{Act}
+use Rattle.sdd_obligations.proofs.site_module.Finding.{found_at}
+use Rattle.sdd_obligations.specs.net.Links.{delivered, quiet, round}
+use Rattle.sdd_obligations.specs.serial_orders.Numbers.{IsModule}
+use Rattle.sdd_obligations.specs.logs.Due.{does_at, due_by, hand_due, hand_number, hand_on, hand_with, mark_due, next, next_at, next_number, note_if, site_due}
+use Rattle.sdd_obligations.specs.logs.Entries.{Does, Entry, Given, Hand, Log, Mark, Notes, Redeclares, Round, Submitted}
+use Rattle.sdd_obligations.specs.logs.Lawful.{IsLawful}
+use Rattle.sdd_obligations.specs.logs.Locals.{redeclares}
+use Rattle.sdd_obligations.specs.logs.Marks.{greatest_bound, left, mark_from, mark_of, next_mark}
+use Rattle.sdd_obligations.specs.logs.Permitted.{AreSubmittedOnce}
+use Rattle.sdd_obligations.specs.logs.Traffic.{all_links, calls_of, handed, is_down, link_of, message_at, takes_part}
+use Rattle.sdd_obligations.proofs.logs.NewMarks.{lawful_permitted}
 use Rattle.sdd_progress.proofs.NoneWaits.{is_idle}
 use Rattle.sdd_progress.proofs.SinceRedeclare.{redeclares_up}
 use Rattle.sdd_progress.specs.Finished.{IsIdle}

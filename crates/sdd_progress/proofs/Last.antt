@@ -3,9 +3,9 @@ use Rattle.std.proofs.Common.{ℕ, zero, suc, ◌<◌, ◌≤◌, ◌≡◌, Boo
 use Rattle.std.specs.Prelude.{filter}
 use Rattle.std.proofs.lemmas.Bool.{false≢true}
 use Rattle.std.proofs.lemmas.Option.{same_Some}
-use Rattle.sdd_history.specs.declared.record.Rec.{Rec}
-use Rattle.sdd_history.specs.Records.{History}
-use Rattle.sdd_order.specs.Places.{Stands}
+use Rattle.sdd_obligations.specs.history.declared.record.Rec.{Rec}
+use Rattle.sdd_obligations.specs.history.Records.{History}
+use Rattle.sdd_obligations.specs.serial_orders.Places.{Stands}
 
 abbrev pub passing : (Rec → Bool) → History → ℕ
 passing test h = length (filter (λ e. test e.1) h)

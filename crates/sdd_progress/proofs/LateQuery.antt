@@ -2,10 +2,10 @@
 use Rattle.std.proofs.Common.{◌≤◌, ◌*◌, [], arith, length, refl}
 use Rattle.sdd_history_examples.specs.Catalogues.{crossing}
 use Rattle.sdd_history_examples.proofs.Sound.{sound_crossing}
-use Rattle.sdd_order.specs.Attempts.{attempts}
-use Rattle.sdd_log.specs.Entries.{history}
-use Rattle.sdd_log.specs.Permitted.{IsPermitted}
-use Rattle.sdd_log.proofs.NewMarks.{lawful_permitted}
+use Rattle.sdd_obligations.specs.serial_orders.Attempts.{attempts}
+use Rattle.sdd_obligations.specs.logs.Entries.{history}
+use Rattle.sdd_obligations.specs.logs.Permitted.{IsPermitted}
+use Rattle.sdd_obligations.proofs.logs.NewMarks.{lawful_permitted}
 use Rattle.sdd_lawful.specs.Given.{AreErasOf, SubmitGiven, one_era}
 use Rattle.sdd_lawful.proofs.Numbered.{lawful_numbered}
 use Rattle.sdd_lawful.proofs.OneEra.{of_one_era}

@@ -42,3 +42,6 @@ pub mod Timely
 pub mod Times
 pub mod WaitedFor
 pub mod Writers
+pub use Rattle.sdd_lawful.proofs as lawful
+pub use Rattle.sdd_waiting.proofs as read_waits
+pub use Rattle.sdd_termination.proofs as termination

@@ -3,27 +3,27 @@
 use Rattle.std.specs.List.{cons_option, flat_map, list_any}
 use Rattle.std.specs.Prelude.{filter, filter_map, not}
 use Rattle.std.proofs.Common.{ℕ, suc, ◌++◌, ◌∙◌, ◌∷◌, ◌≡◌, List, None, Option, Some, [], ap, false, length, refl, take, true}
-use Rattle.sdd_base.specs.Numbers.{dm_no}
-use Rattle.sdd_base.specs.declared.event.Event.TheVariants.{Up}
-use Rattle.sdd_base.specs.declared.number.RelNo.{RelNo}
-use Rattle.sdd_base.specs.declared.site.Site.TheVariants.{D}
-use Rattle.sdd_catalog.specs.Catalogue.{Catalogue, has_copy}
-use Rattle.sdd_catalog.specs.Rules.{IsSound}
-use Rattle.sdd_copy.specs.Contents.{contents}
-use Rattle.sdd_dm.specs.Copies.{dated}
-use Rattle.sdd_history.specs.Records.{History}
-use Rattle.sdd_history.specs.declared.record.Rec.{Rec}
-use Rattle.sdd_history.specs.declared.record.Rec.TheVariants.{Nothing}
-use Rattle.sdd_lang.specs.Database.{Row}
-use Rattle.sdd_order.specs.Attempts.{attempt_of, attempts, committed, committed_of}
-use Rattle.sdd_order.specs.Places.{placed}
-use Rattle.sdd_order.specs.Precedence.{is_apply}
-use Rattle.sdd_laws.specs.Snapshots as laws
-use Rattle.sdd_log.specs.Due.{mark_due, note_if}
-use Rattle.sdd_log.specs.Entries.{Given, Log, Mark, Notes, history, marks}
-use Rattle.sdd_log.specs.Locals.{local_of, setting_of}
-use Rattle.sdd_log.specs.Permitted.{IsPermitted, by_event, by_mark}
-use Rattle.sdd_log.specs.Traffic.{is_down}
+use Rattle.sdd_obligations.specs.base.Numbers.{dm_no}
+use Rattle.sdd_obligations.specs.base.declared.event.Event.TheVariants.{Up}
+use Rattle.sdd_obligations.specs.base.declared.number.RelNo.{RelNo}
+use Rattle.sdd_obligations.specs.base.declared.site.Site.TheVariants.{D}
+use Rattle.sdd_obligations.specs.catalog.Catalogue.{Catalogue, has_copy}
+use Rattle.sdd_obligations.specs.catalog.Rules.{IsSound}
+use Rattle.sdd_obligations.specs.copy.Contents.{contents}
+use Rattle.sdd_obligations.specs.dm.Copies.{dated}
+use Rattle.sdd_obligations.specs.history.Records.{History}
+use Rattle.sdd_obligations.specs.history.declared.record.Rec.{Rec}
+use Rattle.sdd_obligations.specs.history.declared.record.Rec.TheVariants.{Nothing}
+use Rattle.sdd_obligations.specs.lang.Database.{Row}
+use Rattle.sdd_obligations.specs.serial_orders.Attempts.{attempt_of, attempts, committed, committed_of}
+use Rattle.sdd_obligations.specs.serial_orders.Places.{placed}
+use Rattle.sdd_obligations.specs.serial_orders.Precedence.{is_apply}
+use Rattle.sdd_obligations.specs.laws.Snapshots as laws
+use Rattle.sdd_obligations.specs.logs.Due.{mark_due, note_if}
+use Rattle.sdd_obligations.specs.logs.Entries.{Given, Log, Mark, Notes, history, marks}
+use Rattle.sdd_obligations.specs.logs.Locals.{local_of, setting_of}
+use Rattle.sdd_obligations.specs.logs.Permitted.{IsPermitted, by_event, by_mark}
+use Rattle.sdd_obligations.specs.logs.Traffic.{is_down}
 use Rattle.sdd_lawful.specs.Given.{HasSoundData}
 use Rattle.sdd_lawful.specs.Made.{IsMadeAt}
 use Rattle.sdd_lawful.proofs.SameCopies.{same_copy}

@@ -1,10 +1,10 @@
 -- Every transaction that is submitted is committed.
 use Rattle.std.specs.Prelude.{ℕ}
-use Rattle.sdd_history.specs.Records.{History}
-use Rattle.sdd_history.specs.declared.record.Rec.{Rec}
-use Rattle.sdd_history.specs.declared.record.Rec.TheVariants.{Submit}
-use Rattle.sdd_laws.specs.Deeds.{IsSubmitted}
-use Rattle.sdd_order.specs.Attempts.{HasCommit}
+use Rattle.sdd_obligations.specs.history.Records.{History}
+use Rattle.sdd_obligations.specs.history.declared.record.Rec.{Rec}
+use Rattle.sdd_obligations.specs.history.declared.record.Rec.TheVariants.{Submit}
+use Rattle.sdd_obligations.specs.laws.Deeds.{IsSubmitted}
+use Rattle.sdd_obligations.specs.serial_orders.Attempts.{HasCommit}
 
 -- the history has a Commit of transaction n
 pub record WasCommitted (h : History) (n : ℕ) : Type 0 where

@@ -1,11 +1,11 @@
 -- How many attempts of a transaction are rejected.
 use Rattle.std.specs.Prelude.{ℕ, ◌≤◌, ◌==◌, ◌&&◌, ◌≡◌, Bool, false, [], ◌∷◌, length, filter, None, refl}
 use Rattle.std.specs.List.{list_any}
-use Rattle.sdd_base.specs.Numbers.{class_no, dm_no, txn_no, time_at}
-use Rattle.sdd_history.specs.declared.record.Rec.{Rec}
-use Rattle.sdd_history.specs.declared.record.Rec.TheVariants.{Start, Reject}
-use Rattle.sdd_history.specs.Records.{History}
-use Rattle.sdd_laws.specs.Few.{commits_of_others}
+use Rattle.sdd_obligations.specs.base.Numbers.{class_no, dm_no, txn_no, time_at}
+use Rattle.sdd_obligations.specs.history.declared.record.Rec.{Rec}
+use Rattle.sdd_obligations.specs.history.declared.record.Rec.TheVariants.{Start, Reject}
+use Rattle.sdd_obligations.specs.history.Records.{History}
+use Rattle.sdd_obligations.specs.laws.Few.{commits_of_others}
 
 -- whether some module rejects the attempt of transaction n
 

@@ -11,3 +11,6 @@ pub mod Rejects
 pub mod Settled
 pub mod Timely
 pub mod Waiting
+pub use Rattle.sdd_lawful.specs as lawful
+pub use Rattle.sdd_waiting.specs as read_waits
+pub use Rattle.sdd_termination.specs as termination

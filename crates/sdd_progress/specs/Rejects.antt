@@ -1,15 +1,15 @@
 -- The law of Rejects: why each attempt that is rejected is so.
 use Rattle.std.specs.Prelude.{ℕ, ◌<◌, ◌≤◌, ◌≡◌, ◌≢◌}
-use Rattle.sdd_base.specs.Numbers.{class_no, dm_no, txn_no, time_at}
-use Rattle.sdd_base.specs.declared.condition.Cond.{Cond}
-use Rattle.sdd_catalog.specs.Catalogue.{Catalogue}
-use Rattle.sdd_history.specs.declared.record.Rec.TheVariants.{Reject}
-use Rattle.sdd_history.specs.Records.{History}
-use Rattle.sdd_order.specs.Attempts.{Attempt, Committed, IsAttempt, IsCommitted}
-use Rattle.sdd_order.specs.Places.{Stands}
-use Rattle.sdd_laws.specs.Conditions.{IsConditionOf}
-use Rattle.sdd_laws.specs.Deeds.{AppliedBefore, ChangesOne}
-use Rattle.sdd_laws.specs.Eras.{Eras}
+use Rattle.sdd_obligations.specs.base.Numbers.{class_no, dm_no, txn_no, time_at}
+use Rattle.sdd_obligations.specs.base.declared.condition.Cond.{Cond}
+use Rattle.sdd_obligations.specs.catalog.Catalogue.{Catalogue}
+use Rattle.sdd_obligations.specs.history.declared.record.Rec.TheVariants.{Reject}
+use Rattle.sdd_obligations.specs.history.Records.{History}
+use Rattle.sdd_obligations.specs.serial_orders.Attempts.{Attempt, Committed, IsAttempt, IsCommitted}
+use Rattle.sdd_obligations.specs.serial_orders.Places.{Stands}
+use Rattle.sdd_obligations.specs.laws.Conditions.{IsConditionOf}
+use Rattle.sdd_obligations.specs.laws.Deeds.{AppliedBefore, ChangesOne}
+use Rattle.sdd_obligations.specs.laws.Eras.{Eras}
 
 -- why a Reject at the place is of attempt `number` of transaction n, at module dm, and names the class and the timestamp
 pub record IsRejected (cat : Catalogue) (eras : Eras) (h : History) (n number dm class write place : ℕ) : Type 0 where

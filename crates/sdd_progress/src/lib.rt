@@ -33,3 +33,8 @@ pub use law::{
 pub use parts::{law_class_zero, law_exchanges, law_handed, law_none_waits, law_unanswered};
 pub use succession_law::{law_few_attempts_across_lists, law_lawful, law_timely};
 pub use worked::{law_all_lost, law_late_query, law_read_and_put};
+
+// What lies below, for the crates above.
+pub use sdd_lawful;
+pub use sdd_termination;
+pub use sdd_waiting;

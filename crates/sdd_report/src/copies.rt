@@ -7,8 +7,8 @@ ghost use Rattle.sdd_report.specs.Replies.{row_line};
 
 use crate::replies::put_rows;
 use crate::words::{put_fragment, put_module, put_number};
-use sdd_base::{DmNo, FragNo, Listed, NoMemory, Row, RowList};
-use sdd_catalog::Catalogue;
+use sdd_lang::sdd_base::{DmNo, FragNo, Listed, NoMemory, Row, RowList};
+use sdd_lang::sdd_catalog::Catalogue;
 use sdd_words::put;
 
 /// The rows of the copy of a fragment at a data module, ascending by key.

@@ -2,7 +2,7 @@
 ghost use Rattle.std.specs.Prelude.{◌≡◌, ◌++◌, OnOk, flat_map};
 ghost use Rattle.sdd_report.specs.Replies.{row_line, query_lines, queries_from, outcome_lines, reply_lines};
 
-use sdd_base::{NoMemory, Reply, Row, RowList};
+use sdd_lang::sdd_base::{NoMemory, Reply, Row, RowList};
 use sdd_words::{put, put_count, put_values};
 
 fn put_row(text: &mut Vec<u8>, row: &Row) -> Result<(), NoMemory>

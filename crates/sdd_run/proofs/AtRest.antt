@@ -1,27 +1,27 @@
 -- Where a settle or a redeclare is the last of the events, the links are quiet at the end.
 use Rattle.std.proofs.Common.{ℕ, suc, ◌++◌, ◌≡◌, ◌∙◌, ◌∷◌, Bool, List, None, Option, Some, [], ap, false, if◌then◌else◌, inl, inr, refl, subst, sym, true}
 use Rattle.std.specs.Prelude.{◌⊎◌}
-use Rattle.sdd_base.specs.Sites.{sites}
-use Rattle.sdd_base.specs.Words.{tail_of}
-use Rattle.sdd_base.specs.declared.event.Event.{Event}
-use Rattle.sdd_base.specs.declared.event.Event.TheVariants.{Submit, Deliver, Lose, Repeat, Resend, Tick, Settle, Redeclare, Down, Up}
-use Rattle.sdd_base.specs.declared.site.Site.{Site}
-use Rattle.sdd_base.specs.declared.site.Site.TheVariants.{D, T, U}
-use Rattle.sdd_module.specs.SiteLog.{Act, Bases, Force}
-use Rattle.sdd_module.specs.SiteLog as site
-use Rattle.sdd_net.specs.Links.{delivered, quiet, round}
-use Rattle.sdd_log.specs.Due.{does_at, hand_due, hand_number, hand_on, next, next_at, next_in, next_number, site_due}
-use Rattle.sdd_log.specs.Entries.{Does, Entry, Given, Hand, Log, Mark, Notes, Redeclares, Round, Submitted, with_event}
-use Rattle.sdd_log.specs.Lawful.{IsLawful}
-use Rattle.sdd_log.specs.Locals.{force_at, local_of, redeclares, setting_of, with_force}
-use Rattle.sdd_log.specs.Marks.{after_mark, from_event, left, mark_from, mark_of}
-use Rattle.sdd_log.specs.Snapshots.{base_of}
-use Rattle.sdd_log.specs.Traffic.{all_links, calls_of, handed, link_of, takes_part}
-use Rattle.sdd_log.proofs.Steps.{none_any_base}
-use Rattle.sdd_log.proofs.Completing.{complete_parts, none_left}
-use Rattle.sdd_log.proofs.Ticking.{first_none, none_by_redeclare}
-use Rattle.sdd_termination.proofs.Marked.{next_is_of_events}
-use Rattle.sdd_termination.proofs.Settled.{quiet_at_last}
+use Rattle.sdd_obligations.specs.base.Sites.{sites}
+use Rattle.sdd_obligations.specs.base.Words.{tail_of}
+use Rattle.sdd_obligations.specs.base.declared.event.Event.{Event}
+use Rattle.sdd_obligations.specs.base.declared.event.Event.TheVariants.{Submit, Deliver, Lose, Repeat, Resend, Tick, Settle, Redeclare, Down, Up}
+use Rattle.sdd_obligations.specs.base.declared.site.Site.{Site}
+use Rattle.sdd_obligations.specs.base.declared.site.Site.TheVariants.{D, T, U}
+use Rattle.sdd_obligations.specs.site_module.SiteLog.{Act, Bases, Force}
+use Rattle.sdd_obligations.specs.site_module.SiteLog as site
+use Rattle.sdd_obligations.specs.net.Links.{delivered, quiet, round}
+use Rattle.sdd_obligations.specs.logs.Due.{does_at, hand_due, hand_number, hand_on, next, next_at, next_in, next_number, site_due}
+use Rattle.sdd_obligations.specs.logs.Entries.{Does, Entry, Given, Hand, Log, Mark, Notes, Redeclares, Round, Submitted, with_event}
+use Rattle.sdd_obligations.specs.logs.Lawful.{IsLawful}
+use Rattle.sdd_obligations.specs.logs.Locals.{force_at, local_of, redeclares, setting_of, with_force}
+use Rattle.sdd_obligations.specs.logs.Marks.{after_mark, from_event, left, mark_from, mark_of}
+use Rattle.sdd_obligations.specs.logs.Snapshots.{base_of}
+use Rattle.sdd_obligations.specs.logs.Traffic.{all_links, calls_of, handed, link_of, takes_part}
+use Rattle.sdd_obligations.proofs.logs.Steps.{none_any_base}
+use Rattle.sdd_obligations.proofs.logs.Completing.{complete_parts, none_left}
+use Rattle.sdd_obligations.proofs.logs.Ticking.{first_none, none_by_redeclare}
+use Rattle.sdd_progress.proofs.termination.Marked.{next_is_of_events}
+use Rattle.sdd_progress.proofs.termination.Settled.{quiet_at_last}
 use Rattle.sdd_progress.proofs.IdleAtRedeclares.{at_redeclare}
 use Rattle.sdd_run.specs.Settled.{IsAtRest}
 

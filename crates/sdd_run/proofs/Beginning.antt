@@ -2,17 +2,17 @@
 use Rattle.std.proofs.Common.{ℕ, ◌-◌, ◌≤◌, ◌≡◌, ◌∙◌, sym, ap, arith, List, [], ◌∷◌, ◌++◌, append_assoc}
 use Rattle.std.proofs.lemmas.List.{append-nil}
 use Rattle.std.proofs.lemmas.List.FromFn.{get_or-map-range_with_len}
-use Rattle.sdd_base.specs.declared.event.Event.{Event}
-use Rattle.sdd_base.specs.declared.limits.TheConstants.{MAX_TMS, MAX_DMS}
-use Rattle.sdd_base.specs.Numbers.{dm_no}
-use Rattle.sdd_base.specs.declared.site.Site.TheVariants.{D}
-use Rattle.sdd_catalog.specs.Catalogue.{Catalogue}
-use Rattle.sdd_net.proofs.Lists.{All-at}
-use Rattle.sdd_protocol.specs.declared.entry.Entry.{Entry}
+use Rattle.sdd_obligations.specs.base.declared.event.Event.{Event}
+use Rattle.sdd_obligations.specs.base.declared.limits.TheConstants.{MAX_TMS, MAX_DMS}
+use Rattle.sdd_obligations.specs.base.Numbers.{dm_no}
+use Rattle.sdd_obligations.specs.base.declared.site.Site.TheVariants.{D}
+use Rattle.sdd_obligations.specs.catalog.Catalogue.{Catalogue}
+use Rattle.sdd_obligations.proofs.net.Lists.{All-at}
+use Rattle.sdd_obligations.specs.protocol.declared.entry.Entry.{Entry}
 use Rattle.sdd_script.specs.Valid.{IsValid, IsValidTxn}
 use Rattle.sdd_script.specs.declared.workload.Workload.{Workload}
-use Rattle.sdd_log.specs.Entries.{Given, with_event}
-use Rattle.sdd_log.specs.Locals.{rows_of}
+use Rattle.sdd_obligations.specs.logs.Entries.{Given, with_event}
+use Rattle.sdd_obligations.specs.logs.Locals.{rows_of}
 use Rattle.sdd_world.specs.Schedules.{with_events}
 use Rattle.sdd_world.specs.Standing.{IsSound}
 use Rattle.sdd_lists.specs.InForce.{whole_in}

@@ -1,39 +1,39 @@
 -- An attempt of a free class neither waits nor is rejected.
 use Rattle.std.proofs.Common.{ℕ, ◌++◌, ◌≡◌, ◌∙◌, ◌∷◌, List, Some, ap, refl, subst, sym}
-use Rattle.sdd_base.specs.Numbers.{class_no, dm_no, time_at, txn_no}
-use Rattle.sdd_base.specs.declared.condition.Cond.{Cond}
-use Rattle.sdd_base.specs.declared.number.ClassNo.{ClassNo}
-use Rattle.sdd_base.specs.declared.number.DmNo.{DmNo}
-use Rattle.sdd_base.specs.declared.number.Ts.{Ts}
-use Rattle.sdd_base.specs.declared.number.TxnNo.{TxnNo}
-use Rattle.sdd_base.specs.declared.site.Site.{Site}
-use Rattle.sdd_base.specs.declared.site.Site.TheVariants.{D}
-use Rattle.sdd_base.specs.declared.usage.Use.{Use}
-use Rattle.sdd_history.specs.declared.record.Rec.{Rec}
-use Rattle.sdd_history.specs.declared.record.Rec.TheVariants.{Reject, Wait}
-use Rattle.sdd_wire.specs.declared.msg.Msg.{Msg}
-use Rattle.sdd_wire.specs.declared.msg.Msg.TheVariants.{Read}
-use Rattle.sdd_module.specs.SiteLog.{Act, Records, Setting}
-use Rattle.sdd_module.specs.SiteLog as site
-use Rattle.sdd_pipe.specs.Pipe.{head}
-use Rattle.sdd_log.specs.Entries.{Does, Entry, Given, Log, history}
-use Rattle.sdd_log.specs.Locals.{local_of, setting_of}
-use Rattle.sdd_log.specs.Permitted.{IsPermitted}
-use Rattle.sdd_log.proofs.EachLocal.{allowed_act}
-use Rattle.sdd_invariants.specs.Seen.{pipe_at}
-use Rattle.sdd_laws.specs.Eras.{Eras}
-use Rattle.sdd_laws.specs.Starts.{KeepsStarts}
-use Rattle.sdd_order.specs.Attempts.{Attempt, IsAttempt}
-use Rattle.sdd_order.specs.Places.{Stands}
+use Rattle.sdd_obligations.specs.base.Numbers.{class_no, dm_no, time_at, txn_no}
+use Rattle.sdd_obligations.specs.base.declared.condition.Cond.{Cond}
+use Rattle.sdd_obligations.specs.base.declared.number.ClassNo.{ClassNo}
+use Rattle.sdd_obligations.specs.base.declared.number.DmNo.{DmNo}
+use Rattle.sdd_obligations.specs.base.declared.number.Ts.{Ts}
+use Rattle.sdd_obligations.specs.base.declared.number.TxnNo.{TxnNo}
+use Rattle.sdd_obligations.specs.base.declared.site.Site.{Site}
+use Rattle.sdd_obligations.specs.base.declared.site.Site.TheVariants.{D}
+use Rattle.sdd_obligations.specs.base.declared.usage.Use.{Use}
+use Rattle.sdd_obligations.specs.history.declared.record.Rec.{Rec}
+use Rattle.sdd_obligations.specs.history.declared.record.Rec.TheVariants.{Reject, Wait}
+use Rattle.sdd_obligations.specs.wire.declared.msg.Msg.{Msg}
+use Rattle.sdd_obligations.specs.wire.declared.msg.Msg.TheVariants.{Read}
+use Rattle.sdd_obligations.specs.site_module.SiteLog.{Act, Records, Setting}
+use Rattle.sdd_obligations.specs.site_module.SiteLog as site
+use Rattle.sdd_obligations.specs.pipe.Pipe.{head}
+use Rattle.sdd_obligations.specs.logs.Entries.{Does, Entry, Given, Log, history}
+use Rattle.sdd_obligations.specs.logs.Locals.{local_of, setting_of}
+use Rattle.sdd_obligations.specs.logs.Permitted.{IsPermitted}
+use Rattle.sdd_obligations.proofs.logs.EachLocal.{allowed_act}
+use Rattle.sdd_obligations.specs.invariants.Seen.{pipe_at}
+use Rattle.sdd_obligations.specs.laws.Eras.{Eras}
+use Rattle.sdd_obligations.specs.laws.Starts.{KeepsStarts}
+use Rattle.sdd_obligations.specs.serial_orders.Attempts.{Attempt, IsAttempt}
+use Rattle.sdd_obligations.specs.serial_orders.Places.{Stands}
 use Rattle.sdd_progress.proofs.Writers.{one_class}
-use Rattle.sdd_lawful.proofs.Answered.{read_of_some}
-use Rattle.sdd_lawful.proofs.Applied.{IsDataIn, data_in}
-use Rattle.sdd_waiting.proofs.FreeClasses.{never_rejected, never_waits}
-use Rattle.sdd_waiting.proofs.Rejected.{rejected}
-use Rattle.sdd_waiting.proofs.Waited.{wait_due}
-use Rattle.sdd_waiting.specs.Free.{IsFreeClass}
-use Rattle.sdd_waiting.specs.Rejections.{IsRejectOf}
-use Rattle.sdd_waiting.specs.Waited.{IsWaitOf}
+use Rattle.sdd_progress.proofs.lawful.Answered.{read_of_some}
+use Rattle.sdd_progress.proofs.lawful.Applied.{IsDataIn, data_in}
+use Rattle.sdd_progress.proofs.read_waits.FreeClasses.{never_rejected, never_waits}
+use Rattle.sdd_progress.proofs.read_waits.Rejected.{rejected}
+use Rattle.sdd_progress.proofs.read_waits.Waited.{wait_due}
+use Rattle.sdd_progress.specs.read_waits.Free.{IsFreeClass}
+use Rattle.sdd_progress.specs.read_waits.Rejections.{IsRejectOf}
+use Rattle.sdd_progress.specs.read_waits.Waited.{IsWaitOf}
 use Rattle.sdd_run.specs.Free.{IsUndisturbed}
 
 wait_names : (c k : ℕ) (n m : TxnNo) (i j : ℕ) (d e : DmNo) (qs rs : List Cond) (s t : List (Site × Msg))

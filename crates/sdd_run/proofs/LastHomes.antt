@@ -5,20 +5,20 @@ use Rattle.std.specs.Prelude.{filter_map, option_map}
 use Rattle.std.specs.List.{cons_option, list_any}
 use Rattle.std.proofs.lemmas.Bool.{eqb-true}
 use Rattle.std.proofs.lemmas.List.{length-append}
-use Rattle.sdd_base.specs.Numbers.{txn_no}
-use Rattle.sdd_base.specs.declared.number.TxnNo.{TxnNo}
-use Rattle.sdd_base.specs.declared.site.Site.{Site}
-use Rattle.sdd_history.specs.declared.record.Rec.{Rec}
-use Rattle.sdd_history.specs.declared.record.Rec.TheVariants.{Answer, Apply, Arrive, Commit, Nothing, Pass, Reject, Start, Submit, Wait}
-use Rattle.sdd_invariants.proofs.Bools.{not_both, same_number}
-use Rattle.sdd_invariants.proofs.Made.{permitted_before}
-use Rattle.sdd_laws.specs.Deeds.{IsSubmitted}
-use Rattle.sdd_log.specs.Due.{home_of}
-use Rattle.sdd_log.specs.Entries.{Does, Given, Hand, Log, Mark, Notes, Redeclares, Round, Submitted, history}
-use Rattle.sdd_log.specs.Locals.{force_at, redeclares, txn_at}
-use Rattle.sdd_log.specs.Permitted.{IsPermitted}
-use Rattle.sdd_lawful.proofs.Places.{stands_there}
-use Rattle.sdd_lawful.proofs.Submissions.{given_at, one_submit, submit_in}
+use Rattle.sdd_obligations.specs.base.Numbers.{txn_no}
+use Rattle.sdd_obligations.specs.base.declared.number.TxnNo.{TxnNo}
+use Rattle.sdd_obligations.specs.base.declared.site.Site.{Site}
+use Rattle.sdd_obligations.specs.history.declared.record.Rec.{Rec}
+use Rattle.sdd_obligations.specs.history.declared.record.Rec.TheVariants.{Answer, Apply, Arrive, Commit, Nothing, Pass, Reject, Start, Submit, Wait}
+use Rattle.sdd_obligations.proofs.invariants.Bools.{not_both, same_number}
+use Rattle.sdd_obligations.proofs.invariants.Made.{permitted_before}
+use Rattle.sdd_obligations.specs.laws.Deeds.{IsSubmitted}
+use Rattle.sdd_obligations.specs.logs.Due.{home_of}
+use Rattle.sdd_obligations.specs.logs.Entries.{Does, Given, Hand, Log, Mark, Notes, Redeclares, Round, Submitted, history}
+use Rattle.sdd_obligations.specs.logs.Locals.{force_at, redeclares, txn_at}
+use Rattle.sdd_obligations.specs.logs.Permitted.{IsPermitted}
+use Rattle.sdd_progress.proofs.lawful.Places.{stands_there}
+use Rattle.sdd_progress.proofs.lawful.Submissions.{given_at, one_submit, submit_in}
 use Rattle.sdd_progress.proofs.AtRest.{commit_there, rest}
 use Rattle.sdd_progress.proofs.Fronts.{history_le, redeclare_between, stands_front}
 use Rattle.sdd_progress.proofs.Known.{Known}

@@ -5,41 +5,41 @@ use Rattle.std.specs.List.{cons_option, flat_map, list_any}
 use Rattle.std.proofs.Math.Seq.{take-append_seam}
 use Rattle.std.proofs.lemmas.List.{take_all}
 use Rattle.std.proofs.lemmas.Option.{slice_get_past}
-use Rattle.sdd_base.specs.Numbers.{dm_no}
-use Rattle.sdd_base.specs.declared.event.Event.{Event}
-use Rattle.sdd_base.specs.declared.event.Event.TheVariants.{Lose}
-use Rattle.sdd_base.specs.declared.number.FragNo.{FragNo}
-use Rattle.sdd_base.specs.declared.number.RelNo.{RelNo}
-use Rattle.sdd_base.specs.declared.number.TxnNo.{TxnNo}
-use Rattle.sdd_base.specs.declared.site.Site.TheVariants.{U, D}
-use Rattle.sdd_catalog.specs.Catalogue.{Catalogue, has_copy, numbers_to}
-use Rattle.sdd_catalog.specs.Rules.{IsSound}
-use Rattle.sdd_catalog.proofs.Found.{map-map}
-use Rattle.sdd_laws.proofs.Members.{Contains-from_filter, Contains-from_flat_map, Contains-from_map}
-use Rattle.sdd_copy.specs.Contents.{Dated, contents}
-use Rattle.sdd_dm.specs.Copies.{dated}
-use Rattle.sdd_history.specs.Records.{History}
-use Rattle.sdd_history.specs.declared.record.Rec.{Rec}
-use Rattle.sdd_history.specs.declared.record.Rec.TheVariants.{Nothing}
-use Rattle.sdd_lang.specs.Database.{Item, Row}
-use Rattle.sdd_laws.specs.Copied.{AreAppliedAlike}
-use Rattle.sdd_laws.specs.Replay.{AreAllApplied, run}
-use Rattle.sdd_laws.proofs.SameCopies.{equal_copies}
-use Rattle.sdd_laws.specs.Snapshots as laws
-use Rattle.sdd_log.specs.Due.{due_by, note_if}
-use Rattle.sdd_log.specs.Entries.{Given, Log, Mark, Notes, history}
-use Rattle.sdd_log.specs.Locals.{local_of, setting_of}
-use Rattle.sdd_log.specs.Permitted.{IsPermitted, by_event, by_mark}
-use Rattle.sdd_log.specs.Traffic.{link_of}
-use Rattle.sdd_order.specs.Attempts.{Committed, attempt_of, attempts, committed, committed_of}
-use Rattle.sdd_order.specs.Orders.{IsSerial}
-use Rattle.sdd_order.specs.Places.{placed}
-use Rattle.sdd_order.specs.Precedence.{is_apply}
+use Rattle.sdd_obligations.specs.base.Numbers.{dm_no}
+use Rattle.sdd_obligations.specs.base.declared.event.Event.{Event}
+use Rattle.sdd_obligations.specs.base.declared.event.Event.TheVariants.{Lose}
+use Rattle.sdd_obligations.specs.base.declared.number.FragNo.{FragNo}
+use Rattle.sdd_obligations.specs.base.declared.number.RelNo.{RelNo}
+use Rattle.sdd_obligations.specs.base.declared.number.TxnNo.{TxnNo}
+use Rattle.sdd_obligations.specs.base.declared.site.Site.TheVariants.{U, D}
+use Rattle.sdd_obligations.specs.catalog.Catalogue.{Catalogue, has_copy, numbers_to}
+use Rattle.sdd_obligations.specs.catalog.Rules.{IsSound}
+use Rattle.sdd_obligations.proofs.catalog.Found.{map-map}
+use Rattle.sdd_obligations.proofs.laws.Members.{Contains-from_filter, Contains-from_flat_map, Contains-from_map}
+use Rattle.sdd_obligations.specs.copy.Contents.{Dated, contents}
+use Rattle.sdd_obligations.specs.dm.Copies.{dated}
+use Rattle.sdd_obligations.specs.history.Records.{History}
+use Rattle.sdd_obligations.specs.history.declared.record.Rec.{Rec}
+use Rattle.sdd_obligations.specs.history.declared.record.Rec.TheVariants.{Nothing}
+use Rattle.sdd_obligations.specs.lang.Database.{Item, Row}
+use Rattle.sdd_obligations.specs.laws.Copied.{AreAppliedAlike}
+use Rattle.sdd_obligations.specs.laws.Replay.{AreAllApplied, run}
+use Rattle.sdd_obligations.proofs.laws.SameCopies.{equal_copies}
+use Rattle.sdd_obligations.specs.laws.Snapshots as laws
+use Rattle.sdd_obligations.specs.logs.Due.{due_by, note_if}
+use Rattle.sdd_obligations.specs.logs.Entries.{Given, Log, Mark, Notes, history}
+use Rattle.sdd_obligations.specs.logs.Locals.{local_of, setting_of}
+use Rattle.sdd_obligations.specs.logs.Permitted.{IsPermitted, by_event, by_mark}
+use Rattle.sdd_obligations.specs.logs.Traffic.{link_of}
+use Rattle.sdd_obligations.specs.serial_orders.Attempts.{Committed, attempt_of, attempts, committed, committed_of}
+use Rattle.sdd_obligations.specs.serial_orders.Orders.{IsSerial}
+use Rattle.sdd_obligations.specs.serial_orders.Places.{placed}
+use Rattle.sdd_obligations.specs.serial_orders.Precedence.{is_apply}
 use Rattle.sdd_report.specs.declared.copies.CopyTable.{CopyTable}
-use Rattle.sdd_lawful.specs.Given.{HasSoundData}
-use Rattle.sdd_lawful.specs.Made.{IsMadeAt}
-use Rattle.sdd_lawful.proofs.SameCopies.{same_copy}
-use Rattle.sdd_lawful.proofs.Together.{copies as left_in_copies}
+use Rattle.sdd_progress.specs.lawful.Given.{HasSoundData}
+use Rattle.sdd_progress.specs.lawful.Made.{IsMadeAt}
+use Rattle.sdd_progress.proofs.lawful.SameCopies.{same_copy}
+use Rattle.sdd_progress.proofs.lawful.Together.{copies as left_in_copies}
 use Rattle.sdd_progress.proofs.ErasOf.{are_eras_of}
 use Rattle.sdd_progress.specs.Eras.{eras_of}
 use Rattle.sdd_progress.specs.Premises.{HasSoundLists}

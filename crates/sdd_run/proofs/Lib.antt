@@ -34,3 +34,9 @@ pub mod FreeAttempts
 pub mod FreeAnswered
 pub mod Standings
 pub mod Reasons
+pub use Rattle.sdd_script.proofs as script
+pub use Rattle.sdd_lists.proofs as class_lists
+pub use Rattle.sdd_report.proofs as report
+pub use Rattle.sdd_make.proofs as make
+pub use Rattle.sdd_progress.proofs as progress
+pub use Rattle.sdd_world.proofs as world

@@ -3,41 +3,41 @@ use Rattle.std.proofs.Common.{ℕ, suc, zero, ◌-◌, ◌==◌, ◌∙◌, ◌�
 use Rattle.std.specs.Prelude.{◌⊎◌, filter_map, is_some, position}
 use Rattle.std.specs.List.{cons_option, list_any}
 use Rattle.std.proofs.lemmas.Bool.{eqb-true}
-use Rattle.sdd_base.specs.Numbers.{tm_no, txn_no}
-use Rattle.sdd_base.specs.declared.site.Site.{Site}
-use Rattle.sdd_base.specs.declared.site.Site.TheVariants.{T, U}
-use Rattle.sdd_catalog.specs.Catalogue.{class_at}
-use Rattle.sdd_graph.specs.Edges.{IsClassOf}
-use Rattle.sdd_history.specs.Records.{History}
-use Rattle.sdd_history.specs.declared.record.Rec.{Rec}
-use Rattle.sdd_history.specs.declared.record.Rec.TheVariants.{Answer, Apply, Arrive, Commit, Nothing, Pass, Reject, Start, Submit, Wait}
+use Rattle.sdd_obligations.specs.base.Numbers.{tm_no, txn_no}
+use Rattle.sdd_obligations.specs.base.declared.site.Site.{Site}
+use Rattle.sdd_obligations.specs.base.declared.site.Site.TheVariants.{T, U}
+use Rattle.sdd_obligations.specs.catalog.Catalogue.{class_at}
+use Rattle.sdd_obligations.specs.graph.Edges.{IsClassOf}
+use Rattle.sdd_obligations.specs.history.Records.{History}
+use Rattle.sdd_obligations.specs.history.declared.record.Rec.{Rec}
+use Rattle.sdd_obligations.specs.history.declared.record.Rec.TheVariants.{Answer, Apply, Arrive, Commit, Nothing, Pass, Reject, Start, Submit, Wait}
 use Rattle.sdd_script.proofs.WordCuts.{NonePasses}
 use Rattle.sdd_script.proofs.NamePlaces.{none_found}
-use Rattle.sdd_attempt.specs.Attempts.{Attempt, active}
-use Rattle.sdd_attempt.specs.Lines.{Line}
-use Rattle.sdd_attempt.specs.Queues.{Queued, queue}
-use Rattle.sdd_attempt.specs.Standings.{or_standing, queued_at, standing_among, standing_by, standing_of, underway, waiting}
-use Rattle.sdd_attempt.specs.declared.standing.Standing.{Standing}
-use Rattle.sdd_attempt.specs.declared.standing.Standing.TheVariants as standings
-use Rattle.sdd_tm.specs.State.{ClassState, class_of}
-use Rattle.sdd_tm.specs.Views.{runs}
-use Rattle.sdd_umod.specs.Standing.{first_underway, is_awaiting_helds, lacking_site, standing_in}
-use Rattle.sdd_umod.specs.State as um
-use Rattle.sdd_laws.specs.Deeds.{IsSubmitted}
-use Rattle.sdd_log.specs.Entries.{Given, Log, history}
-use Rattle.sdd_log.specs.Locals.{local_of, setting_of}
-use Rattle.sdd_log.specs.Permitted.{IsPermitted}
-use Rattle.sdd_order.specs.Numbers.{IsClass}
-use Rattle.sdd_order.specs.Places.{Stands}
-use Rattle.sdd_invariants.proofs.Bools.{same_number, same_or_not}
-use Rattle.sdd_invariants.specs.Steps.{home}
+use Rattle.sdd_obligations.specs.attempt.Attempts.{Attempt, active}
+use Rattle.sdd_obligations.specs.attempt.Lines.{Line}
+use Rattle.sdd_obligations.specs.attempt.Queues.{Queued, queue}
+use Rattle.sdd_obligations.specs.attempt.Standings.{or_standing, queued_at, standing_among, standing_by, standing_of, underway, waiting}
+use Rattle.sdd_obligations.specs.attempt.declared.standing.Standing.{Standing}
+use Rattle.sdd_obligations.specs.attempt.declared.standing.Standing.TheVariants as standings
+use Rattle.sdd_obligations.specs.tm.State.{ClassState, class_of}
+use Rattle.sdd_obligations.specs.tm.Views.{runs}
+use Rattle.sdd_obligations.specs.umod.Standing.{first_underway, is_awaiting_helds, lacking_site, standing_in}
+use Rattle.sdd_obligations.specs.umod.State as um
+use Rattle.sdd_obligations.specs.laws.Deeds.{IsSubmitted}
+use Rattle.sdd_obligations.specs.logs.Entries.{Given, Log, history}
+use Rattle.sdd_obligations.specs.logs.Locals.{local_of, setting_of}
+use Rattle.sdd_obligations.specs.logs.Permitted.{IsPermitted}
+use Rattle.sdd_obligations.specs.serial_orders.Numbers.{IsClass}
+use Rattle.sdd_obligations.specs.serial_orders.Places.{Stands}
+use Rattle.sdd_obligations.proofs.invariants.Bools.{same_number, same_or_not}
+use Rattle.sdd_obligations.specs.invariants.Steps.{home}
 use Rattle.sdd_world.specs.AtSites.{standing_at}
 use Rattle.sdd_world.specs.Standings.{standing_at_t, standing_at_u}
-use Rattle.sdd_lawful.specs.Given.{AreNumbered}
-use Rattle.sdd_lawful.proofs.Beginnings.{at_map}
-use Rattle.sdd_lawful.proofs.Classes.{at_home, home_setting}
-use Rattle.sdd_lawful.proofs.Homes.{positive}
-use Rattle.sdd_waiting.proofs.ClassSites.{in_runs}
+use Rattle.sdd_progress.specs.lawful.Given.{AreNumbered}
+use Rattle.sdd_progress.proofs.lawful.Beginnings.{at_map}
+use Rattle.sdd_progress.proofs.lawful.Classes.{at_home, home_setting}
+use Rattle.sdd_progress.proofs.lawful.Homes.{positive}
+use Rattle.sdd_progress.proofs.read_waits.ClassSites.{in_runs}
 use Rattle.sdd_progress.proofs.Committed.{IsQueued, committed_or_queued}
 use Rattle.sdd_progress.proofs.Lists.{either, kept_there}
 use Rattle.sdd_progress.specs.Committed.{WasCommitted}

@@ -3,21 +3,21 @@ use Rattle.std.proofs.Common.{ℕ, suc, ◌≡◌, ◌∷◌, Bool, List, None, 
 use Rattle.std.specs.List.{best_of, cons_option, list_any}
 use Rattle.std.specs.Option.{option_map}
 use Rattle.std.specs.Prelude.{Contains, filter_map}
-use Rattle.sdd_base.specs.declared.condition.Cond.{Cond}
-use Rattle.sdd_base.specs.declared.number.TxnNo.{TxnNo}
-use Rattle.sdd_base.specs.declared.site.Site.{Site}
-use Rattle.sdd_catalog.specs.Catalogue.{Catalogue, numbers_to}
-use Rattle.sdd_history.specs.Records.{History}
-use Rattle.sdd_history.specs.declared.record.Rec.{Rec}
-use Rattle.sdd_history.specs.declared.record.Rec.TheVariants.{Submit}
-use Rattle.sdd_laws.proofs.Members.{Contains-from_filter_map}
-use Rattle.sdd_order.specs.Numbers.{IsModule}
-use Rattle.sdd_attempt.specs.declared.standing.Standing.{Standing}
-use Rattle.sdd_attempt.specs.declared.standing.Standing.TheVariants as standings
-use Rattle.sdd_invariants.proofs.Lists.{in_range}
-use Rattle.sdd_log.specs.Due.{site_due}
-use Rattle.sdd_log.specs.Entries.{Given, Log, history}
-use Rattle.sdd_log.specs.Permitted.{IsPermitted}
+use Rattle.sdd_obligations.specs.base.declared.condition.Cond.{Cond}
+use Rattle.sdd_obligations.specs.base.declared.number.TxnNo.{TxnNo}
+use Rattle.sdd_obligations.specs.base.declared.site.Site.{Site}
+use Rattle.sdd_obligations.specs.catalog.Catalogue.{Catalogue, numbers_to}
+use Rattle.sdd_obligations.specs.history.Records.{History}
+use Rattle.sdd_obligations.specs.history.declared.record.Rec.{Rec}
+use Rattle.sdd_obligations.specs.history.declared.record.Rec.TheVariants.{Submit}
+use Rattle.sdd_obligations.proofs.laws.Members.{Contains-from_filter_map}
+use Rattle.sdd_obligations.specs.serial_orders.Numbers.{IsModule}
+use Rattle.sdd_obligations.specs.attempt.declared.standing.Standing.{Standing}
+use Rattle.sdd_obligations.specs.attempt.declared.standing.Standing.TheVariants as standings
+use Rattle.sdd_obligations.proofs.invariants.Lists.{in_range}
+use Rattle.sdd_obligations.specs.logs.Due.{site_due}
+use Rattle.sdd_obligations.specs.logs.Entries.{Given, Log, history}
+use Rattle.sdd_obligations.specs.logs.Permitted.{IsPermitted}
 use Rattle.sdd_obligations.specs.Fitting.{FitsGiven}
 use Rattle.sdd_report.specs.Pending.{is_lower, under_way}
 use Rattle.sdd_report.specs.declared.pending.Pending.{Pending}

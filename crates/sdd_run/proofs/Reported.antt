@@ -1,19 +1,19 @@
 -- What is told of a world that has carried out all events of a workload is told of its run.
 use Rattle.std.proofs.Common.{ℕ, ◌≡◌, ◌∙◌, List, length, Result, Ok, Err, ap, refl, subst}
 use Rattle.std.specs.Prelude.{IfOk}
-use Rattle.sdd_base.specs.declared.event.Event.{Event}
-use Rattle.sdd_catalog.specs.Catalogue.{Catalogue}
-use Rattle.sdd_catalog.specs.Rules.{IsSound}
-use Rattle.sdd_protocol.specs.declared.entry.Entry.{Entry}
+use Rattle.sdd_obligations.specs.base.declared.event.Event.{Event}
+use Rattle.sdd_obligations.specs.catalog.Catalogue.{Catalogue}
+use Rattle.sdd_obligations.specs.catalog.Rules.{IsSound}
+use Rattle.sdd_obligations.specs.protocol.declared.entry.Entry.{Entry}
 use Rattle.sdd_report.specs.Report.{report_text}
 use Rattle.sdd_script.specs.Valid.{IsValid}
 use Rattle.sdd_script.specs.declared.workload.Workload.{Workload}
-use Rattle.sdd_lang.specs.declared.transaction.Txn.{Txn}
-use Rattle.sdd_history.specs.Records.{History}
+use Rattle.sdd_obligations.specs.lang.declared.transaction.Txn.{Txn}
+use Rattle.sdd_obligations.specs.history.Records.{History}
 use Rattle.sdd_make.specs.Summary.{summary_of, summary_text}
 use Rattle.sdd_make.specs.declared.summary.Summary.{Summary}
-use Rattle.sdd_log.specs.Entries.{Log, history, marks}
-use Rattle.sdd_log.specs.Lawful.{EndsByLimit, IsTheLog}
+use Rattle.sdd_obligations.specs.logs.Entries.{Log, history, marks}
+use Rattle.sdd_obligations.specs.logs.Lawful.{EndsByLimit, IsTheLog}
 use Rattle.sdd_world.specs.Schedules.{with_events}
 use Rattle.sdd_world.specs.Standing.{EndsBy, StandsFor}
 use Rattle.sdd_world.specs.declared.world.World.{World}
@@ -33,7 +33,7 @@ use Rattle.sdd_run.proofs.Ordered.{alike, few, free_undisturbed, left, orderable
 use Rattle.sdd_run.proofs.Reasons.{reasons_are}
 use Rattle.sdd_run.proofs.Retold.{retold}
 use Rattle.sdd_run.proofs.RunOf.{known_of, permitted}
-use Rattle.sdd_waiting.proofs.EventOver.{none_due, over_at_end}
+use Rattle.sdd_progress.proofs.read_waits.EventOver.{none_due, over_at_end}
 use Rattle.sdd_run.proofs.Settled.{applied, nothing_lost, quiet_behind, settled}
 
 pub if_ok : {A E : Type 0} (res : Result A E) (P Q : A → Type 0) → ((x : A) → P x → Q x) → IfOk res P → IfOk res Q

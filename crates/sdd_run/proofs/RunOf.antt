@@ -2,23 +2,23 @@
 use Rattle.std.proofs.Common.{◌≤◌, List, arith, length}
 use Rattle.std.specs.List.{All}
 use Rattle.std.proofs.lemmas.List.Elements.{All-weaker}
-use Rattle.sdd_base.specs.declared.number.RelNo.{RelNo}
-use Rattle.sdd_catalog.specs.Catalogue.{Catalogue}
-use Rattle.sdd_catalog.specs.Rules.{IsSound}
-use Rattle.sdd_lang.specs.Database.{Row}
-use Rattle.sdd_lang.specs.Fits.{Fits, FitsStart}
-use Rattle.sdd_lang.specs.Sound.{IsHeld, PutsHeld}
-use Rattle.sdd_lang.specs.declared.transaction.Txn.{Txn}
+use Rattle.sdd_obligations.specs.base.declared.number.RelNo.{RelNo}
+use Rattle.sdd_obligations.specs.catalog.Catalogue.{Catalogue}
+use Rattle.sdd_obligations.specs.catalog.Rules.{IsSound}
+use Rattle.sdd_obligations.specs.lang.Database.{Row}
+use Rattle.sdd_obligations.specs.lang.Fits.{Fits, FitsStart}
+use Rattle.sdd_obligations.specs.lang.Sound.{IsHeld, PutsHeld}
+use Rattle.sdd_obligations.specs.lang.declared.transaction.Txn.{Txn}
 use Rattle.sdd_lists.specs.InForce.{classes_in, whole_in}
-use Rattle.sdd_protocol.specs.declared.entry.Entry.{Entry}
+use Rattle.sdd_obligations.specs.protocol.declared.entry.Entry.{Entry}
 use Rattle.sdd_script.specs.Valid.{HoldsValues, IsValid, IsValidRow, IsValidTxn, IsValue}
 use Rattle.sdd_script.specs.declared.workload.Workload.{Workload}
-use Rattle.sdd_log.proofs.NewMarks.{lawful_permitted}
-use Rattle.sdd_log.specs.Entries.{Log}
-use Rattle.sdd_log.specs.Lawful.{IsLawful, IsTheLog}
-use Rattle.sdd_log.specs.Locals.{redeclares}
-use Rattle.sdd_log.specs.Permitted.{IsPermitted}
-use Rattle.sdd_lawful.specs.Given.{AreErasOf, HasSoundData, SubmitGiven}
+use Rattle.sdd_obligations.proofs.logs.NewMarks.{lawful_permitted}
+use Rattle.sdd_obligations.specs.logs.Entries.{Log}
+use Rattle.sdd_obligations.specs.logs.Lawful.{IsLawful, IsTheLog}
+use Rattle.sdd_obligations.specs.logs.Locals.{redeclares}
+use Rattle.sdd_obligations.specs.logs.Permitted.{IsPermitted}
+use Rattle.sdd_progress.specs.lawful.Given.{AreErasOf, HasSoundData, SubmitGiven}
 use Rattle.sdd_progress.proofs.ErasOf.{are_eras_of}
 use Rattle.sdd_progress.specs.Eras.{eras_of}
 use Rattle.sdd_progress.specs.Premises.{HasSoundLists, IsUpAtRedeclares}

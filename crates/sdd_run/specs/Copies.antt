@@ -1,14 +1,14 @@
 -- The copies that the log of a run leaves.
 use Rattle.std.specs.Prelude.{ℕ, List, map, filter, flat_map, length}
-use Rattle.sdd_base.specs.Numbers.{dm_no, frag_no}
-use Rattle.sdd_base.specs.declared.site.Site.TheVariants.{D}
-use Rattle.sdd_catalog.specs.Catalogue.{Catalogue, has_copy, numbers_to}
-use Rattle.sdd_copy.specs.Contents.{Dated, contents}
-use Rattle.sdd_dm.specs.Copies.{dated}
-use Rattle.sdd_log.specs.Entries.{Given, Log}
-use Rattle.sdd_log.specs.Locals.{local_of, setting_of}
-use Rattle.sdd_lang.specs.Agree.{rows_in_fragment}
-use Rattle.sdd_lang.specs.Database.{Database, Item, Row}
+use Rattle.sdd_obligations.specs.base.Numbers.{dm_no, frag_no}
+use Rattle.sdd_obligations.specs.base.declared.site.Site.TheVariants.{D}
+use Rattle.sdd_obligations.specs.catalog.Catalogue.{Catalogue, has_copy, numbers_to}
+use Rattle.sdd_obligations.specs.copy.Contents.{Dated, contents}
+use Rattle.sdd_obligations.specs.dm.Copies.{dated}
+use Rattle.sdd_obligations.specs.logs.Entries.{Given, Log}
+use Rattle.sdd_obligations.specs.logs.Locals.{local_of, setting_of}
+use Rattle.sdd_obligations.specs.lang.Agree.{rows_in_fragment}
+use Rattle.sdd_obligations.specs.lang.Database.{Database, Item, Row}
 use Rattle.sdd_report.specs.declared.copies.CopyTable.{CopyTable}
 
 -- the rows of fragment f that changes leave at module d

@@ -1,13 +1,13 @@
 -- What an attempt of a class that lies on no simple cycle of the conflict graph never meets.
 use Rattle.std.specs.Prelude.{ℕ, ◌≡◌, List}
-use Rattle.sdd_base.specs.Numbers.{class_no, dm_no, time_at, txn_no}
-use Rattle.sdd_base.specs.declared.condition.Cond.{Cond}
-use Rattle.sdd_base.specs.declared.number.DmNo.{DmNo}
-use Rattle.sdd_base.specs.declared.number.TxnNo.{TxnNo}
-use Rattle.sdd_history.specs.Records.{History}
-use Rattle.sdd_history.specs.declared.record.Rec.TheVariants.{Answer, Reject, Wait}
-use Rattle.sdd_order.specs.Attempts.{Attempt}
-use Rattle.sdd_order.specs.Places.{Stands, event_at}
+use Rattle.sdd_obligations.specs.base.Numbers.{class_no, dm_no, time_at, txn_no}
+use Rattle.sdd_obligations.specs.base.declared.condition.Cond.{Cond}
+use Rattle.sdd_obligations.specs.base.declared.number.DmNo.{DmNo}
+use Rattle.sdd_obligations.specs.base.declared.number.TxnNo.{TxnNo}
+use Rattle.sdd_obligations.specs.history.Records.{History}
+use Rattle.sdd_obligations.specs.history.declared.record.Rec.TheVariants.{Answer, Reject, Wait}
+use Rattle.sdd_obligations.specs.serial_orders.Attempts.{Attempt}
+use Rattle.sdd_obligations.specs.serial_orders.Places.{Stands, event_at}
 
 -- no module lets the attempt wait, and none rejects it
 pub record IsUndisturbed (h : History) (a : Attempt) : Type 0 where

@@ -9,3 +9,9 @@ pub mod Runs
 pub mod Standing
 pub mod Worlds
 pub mod Settled
+pub use Rattle.sdd_script.specs as script
+pub use Rattle.sdd_lists.specs as class_lists
+pub use Rattle.sdd_report.specs as report
+pub use Rattle.sdd_make.specs as make
+pub use Rattle.sdd_progress.specs as progress
+pub use Rattle.sdd_world.specs as world

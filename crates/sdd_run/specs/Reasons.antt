@@ -1,16 +1,16 @@
 -- What a pending transaction may be told to wait for.
 use Rattle.std.specs.Prelude.{◌≡◌, ◌≤◌, ◌∷◌, [], Some, refl}
-use Rattle.sdd_base.specs.Numbers.{class_no, dm_no, time_at, tm_no, txn_no}
-use Rattle.sdd_base.specs.declared.event.Event.TheVariants.{Submit}
-use Rattle.sdd_base.specs.declared.site.Site.{Site}
-use Rattle.sdd_base.specs.declared.site.Site.TheVariants.{D, T, U}
-use Rattle.sdd_catalog.specs.Catalogue.{Catalogue}
-use Rattle.sdd_order.specs.Numbers.{IsClass, IsFrom1To, IsModule}
-use Rattle.sdd_attempt.specs.declared.standing.Standing.{Standing}
-use Rattle.sdd_attempt.specs.declared.standing.Standing.TheVariants as standings
-use Rattle.sdd_log.specs.Due.{extended}
-use Rattle.sdd_log.specs.Entries.{Log}
-use Rattle.sdd_log.specs.Locals.{local_of, setting_of}
+use Rattle.sdd_obligations.specs.base.Numbers.{class_no, dm_no, time_at, tm_no, txn_no}
+use Rattle.sdd_obligations.specs.base.declared.event.Event.TheVariants.{Submit}
+use Rattle.sdd_obligations.specs.base.declared.site.Site.{Site}
+use Rattle.sdd_obligations.specs.base.declared.site.Site.TheVariants.{D, T, U}
+use Rattle.sdd_obligations.specs.catalog.Catalogue.{Catalogue}
+use Rattle.sdd_obligations.specs.serial_orders.Numbers.{IsClass, IsFrom1To, IsModule}
+use Rattle.sdd_obligations.specs.attempt.declared.standing.Standing.{Standing}
+use Rattle.sdd_obligations.specs.attempt.declared.standing.Standing.TheVariants as standings
+use Rattle.sdd_obligations.specs.logs.Due.{extended}
+use Rattle.sdd_obligations.specs.logs.Entries.{Log}
+use Rattle.sdd_obligations.specs.logs.Locals.{local_of, setting_of}
 use Rattle.sdd_report.specs.declared.pending.Why.{Why}
 use Rattle.sdd_report.specs.declared.pending.Why.TheVariants.{Queued, Underway, Waits}
 use Rattle.sdd_progress.specs.Examples.{crossing_with}

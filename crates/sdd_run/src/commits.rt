@@ -2,12 +2,12 @@
 ghost use Rattle.std.specs.Prelude.{◌≡◌, ◌||◌, ℕ, IfOk, OnOk};
 ghost use Rattle.std.specs.BTreeSet.{contains};
 ghost use Rattle.std.specs.Ordering.{nat_cmp};
-ghost use Rattle.sdd_history.specs.Records.{History};
+ghost use Rattle.sdd_obligations.specs.history.Records.{History};
 ghost use Rattle.sdd_run.specs.Pending.{commits};
 ghost use Rattle.sdd_run.specs.Worlds.{AreCommitted};
 
-use sdd_base::NoMemory;
-use sdd_history::Rec;
+use sdd_obligations::sdd_base::NoMemory;
+use sdd_obligations::sdd_history::Rec;
 use std::alloc::Global;
 use std::collections::BTreeSet;
 

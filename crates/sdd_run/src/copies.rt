@@ -1,17 +1,17 @@
 //! The copies of data modules.
 ghost use Rattle.std.specs.Prelude.{◌≡◌, ◌≤◌, ◌++◌, ◌∷◌, [], ℕ, map, filter, length, true, IfOk, IsTrue, OnOk};
-ghost use Rattle.sdd_base.specs.declared.site.Site.TheVariants.{D};
-ghost use Rattle.sdd_catalog.specs.Catalogue.{has_copy};
-ghost use Rattle.sdd_copy.specs.Contents.{Dated, contents};
-ghost use Rattle.sdd_copy.specs.Copies.{is_here, StandFor};
-ghost use Rattle.sdd_log.specs.Entries.{Given, Log};
-ghost use Rattle.sdd_log.specs.Resting.{IsSiteOf};
+ghost use Rattle.sdd_obligations.specs.base.declared.site.Site.TheVariants.{D};
+ghost use Rattle.sdd_obligations.specs.catalog.Catalogue.{has_copy};
+ghost use Rattle.sdd_obligations.specs.copy.Contents.{Dated, contents};
+ghost use Rattle.sdd_obligations.specs.copy.Copies.{is_here, StandFor};
+ghost use Rattle.sdd_obligations.specs.logs.Entries.{Given, Log};
+ghost use Rattle.sdd_obligations.specs.logs.Resting.{IsSiteOf};
 ghost use Rattle.sdd_run.specs.Copies.{table_of, tables_in, tables_at, tables_of};
 ghost use Rattle.sdd_run.specs.Worlds.{StandsOn};
 
-use sdd_base::{DmNo, FragNo, Listed, NoMemory, RowList};
-use sdd_catalog::Catalogue;
-use sdd_copy::Copies;
+use sdd_obligations::sdd_base::{DmNo, FragNo, Listed, NoMemory, RowList};
+use sdd_obligations::sdd_catalog::Catalogue;
+use sdd_obligations::sdd_copy::Copies;
 use sdd_report::CopyTable;
 use sdd_world::World;
 use std::alloc::Global;

@@ -1,14 +1,14 @@
 //! The lists of classes of a workload, as a world puts them in force.
 ghost use Rattle.std.specs.Prelude.{◌≡◌, ◌<◌, Some, length, map, slice_get, IfOk};
 ghost use Rattle.std.specs.List.{AllZip};
-ghost use Rattle.sdd_base.specs.Words.{tail_of};
-ghost use Rattle.sdd_protocol.specs.Protocols.{IsTable};
+ghost use Rattle.sdd_obligations.specs.base.Words.{tail_of};
+ghost use Rattle.sdd_obligations.specs.protocol.Protocols.{IsTable};
 ghost use Rattle.sdd_run.specs.Lent.{force_in};
 ghost use Rattle.sdd_run.specs.Runs.{forces_of};
 
-use sdd_base::NoMemory;
-use sdd_catalog::Catalogue;
-use sdd_protocol::{Table, table};
+use sdd_obligations::sdd_base::NoMemory;
+use sdd_obligations::sdd_catalog::Catalogue;
+use sdd_obligations::sdd_protocol::{Table, table};
 use sdd_world::ClassList;
 use std::alloc::Global;
 

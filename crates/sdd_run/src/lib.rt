@@ -18,3 +18,11 @@ mod waits;
 
 pub use law::{law_free_answered, law_low_clocks, law_one_report, law_standings};
 pub use run::{run_report, run_summary};
+
+// What lies below, for the crates above.
+pub use sdd_lists;
+pub use sdd_make;
+pub use sdd_progress;
+pub use sdd_report;
+pub use sdd_script;
+pub use sdd_world;

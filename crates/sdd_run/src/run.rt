@@ -6,7 +6,7 @@ ghost use Rattle.sdd_run.specs.Runs.{EndsAtLimit, IsReportOn, IsSummaryOn};
 use crate::in_force::tables_of;
 use crate::running::finished;
 use crate::telling::report_on;
-use sdd_catalog::Catalogue;
+use sdd_obligations::sdd_catalog::Catalogue;
 use sdd_lists::lists_of;
 use sdd_make::{summary_of, summary_text};
 use sdd_script::Workload;

@@ -1,7 +1,7 @@
 //! The report on a world.
 ghost use Rattle.std.specs.Prelude.{◌≡◌, IfOk};
-ghost use Rattle.sdd_log.specs.Entries.{Given, Log, history};
-ghost use Rattle.sdd_order.specs.Orders.{IsOrderable};
+ghost use Rattle.sdd_obligations.specs.logs.Entries.{Given, Log, history};
+ghost use Rattle.sdd_obligations.specs.serial_orders.Orders.{IsOrderable};
 ghost use Rattle.sdd_report.specs.Report.{report_text as text_of};
 ghost use Rattle.sdd_run.specs.Pending.{AreAtLastHomes};
 ghost use Rattle.sdd_run.specs.Reports.{report_by};
@@ -10,9 +10,9 @@ ghost use Rattle.sdd_world.specs.Standings.{standing_of};
 
 use crate::copies::tables;
 use crate::unfinished::pending;
-use sdd_base::NoMemory;
-use sdd_catalog::Catalogue;
-use sdd_order::serial_order;
+use sdd_obligations::sdd_base::NoMemory;
+use sdd_obligations::sdd_catalog::Catalogue;
+use sdd_obligations::sdd_order::serial_order;
 use sdd_report::{Report, report_text};
 use sdd_world::World;
 use std::alloc::Global;

@@ -1,16 +1,16 @@
 //! What is pending when a run ends.
 ghost use Rattle.std.specs.Prelude.{◌≡◌, ◌++◌, ◌∷◌, [], filter_map, IfOk, OnOk};
-ghost use Rattle.sdd_history.specs.Records.{History};
-ghost use Rattle.sdd_log.specs.Entries.{Given, Log};
+ghost use Rattle.sdd_obligations.specs.history.Records.{History};
+ghost use Rattle.sdd_obligations.specs.logs.Entries.{Given, Log};
 ghost use Rattle.sdd_run.specs.Pending.{last_home, pending_as, pending_at, pending_by, reason_of};
 ghost use Rattle.sdd_run.specs.Worlds.{AreCommitted, StandsOn};
 ghost use Rattle.sdd_world.specs.Standings.{standing_of};
 
 use crate::commits::committed;
 use crate::waits::why;
-use sdd_base::{NoMemory, TxnNo};
-use sdd_catalog::Catalogue;
-use sdd_history::Rec;
+use sdd_obligations::sdd_base::{NoMemory, TxnNo};
+use sdd_obligations::sdd_catalog::Catalogue;
+use sdd_obligations::sdd_history::Rec;
 use sdd_report::Pending;
 use sdd_world::World;
 use std::alloc::Global;

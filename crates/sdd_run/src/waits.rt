@@ -1,16 +1,16 @@
 //! Why a transaction is pending.
 ghost use Rattle.std.specs.Prelude.{◌≡◌, ◌≤◌, ◌++◌, ◌∷◌, [], ℕ, filter_map, length, IfOk, OnOk};
-ghost use Rattle.sdd_base.specs.declared.site.Site.TheVariants.{D};
-ghost use Rattle.sdd_log.specs.Entries.{Given, Log};
-ghost use Rattle.sdd_log.specs.Resting.{IsSiteOf};
+ghost use Rattle.sdd_obligations.specs.base.declared.site.Site.TheVariants.{D};
+ghost use Rattle.sdd_obligations.specs.logs.Entries.{Given, Log};
+ghost use Rattle.sdd_obligations.specs.logs.Resting.{IsSiteOf};
 ghost use Rattle.sdd_world.specs.Standing.{StandsFor};
 ghost use Rattle.sdd_run.specs.Pending.{last_home, reason_of, wait_at, waits_of, why_of};
 ghost use Rattle.sdd_run.specs.Worlds.{StandsOn};
 ghost use Rattle.sdd_world.specs.Standings.{standing_of};
 
-use sdd_attempt::Standing;
-use sdd_base::{ClassNo, DmNo, NoMemory, Site, Ts, TxnNo};
-use sdd_catalog::Catalogue;
+use sdd_obligations::sdd_attempt::Standing;
+use sdd_obligations::sdd_base::{ClassNo, DmNo, NoMemory, Site, Ts, TxnNo};
+use sdd_obligations::sdd_catalog::Catalogue;
 use sdd_report::{Waiting, Why, under_way};
 use sdd_world::{World, home};
 use std::alloc::Global;

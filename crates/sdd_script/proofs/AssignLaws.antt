@@ -8,10 +8,10 @@ use Rattle.std.specs.Int.Signed.{mag}
 use Rattle.std.specs.List.{AllByRecursion}
 use Rattle.std.proofs.lemmas.Slice.Eq.{bytes_eq-Decides}
 use Rattle.std.proofs.lemmas.Bool.{ne_eqb, eq-eqb}
-use Rattle.sdd_base.specs.declared.number.RelNo.{RelNo}
-use Rattle.sdd_catalog.specs.Catalogue.{Catalogue, kind_at, key_column}
-use Rattle.sdd_catalog.specs.declared.parts.Kind.{Kind}
-use Rattle.sdd_catalog.specs.declared.parts.Kind.TheVariants as kinds
+use Rattle.sdd_lang.specs.base.declared.number.RelNo.{RelNo}
+use Rattle.sdd_lang.specs.catalog.Catalogue.{Catalogue, kind_at, key_column}
+use Rattle.sdd_lang.specs.catalog.declared.parts.Kind.{Kind}
+use Rattle.sdd_lang.specs.catalog.declared.parts.Kind.TheVariants as kinds
 use Rattle.sdd_lang.specs.Fits.{IsColumn, FitsRef, FitsAssign, kind_of_ref, rel_of}
 use Rattle.sdd_lang.specs.declared.assign.Assign.{Assign}
 use Rattle.sdd_lang.specs.declared.assign.Assign.TheVariants.{To, Add}
@@ -20,7 +20,7 @@ use Rattle.sdd_words.specs.Values.{value_word}
 use Rattle.sdd_words.specs.Keywords.{is_free, adds_of, looks_like_column}
 use Rattle.sdd_words.specs.Forms.{setting_of, joined, settings}
 use Rattle.sdd_words.specs.Number.{number_of}
-use Rattle.sdd_base.specs.Readings.{◌>>=◌, must, along}
+use Rattle.sdd_lang.specs.base.Readings.{◌>>=◌, must, along}
 use Rattle.sdd_words.specs.declared.form.Setting.{Setting}
 use Rattle.sdd_words.specs.declared.word.Word.{Word}
 use Rattle.sdd_words.specs.declared.word.Word.TheVariants.{Plain, Quoted}
@@ -34,7 +34,7 @@ use Rattle.sdd_script.specs.Values.{is_of_kind, value_of}
 use Rattle.sdd_script.specs.declared.fault.WorkRule.{WorkRule}
 use Rattle.sdd_script.specs.declared.fault.WorkRule.TheVariants.{BadNumber, WrongKind, KeyChanged}
 use Rattle.sdd_script.specs.declared.found.Found.{Found}
-use Rattle.sdd_base.proofs.ReadingLaws.{bind_ok, ok_is, known_ok, Answers, along_ok, ok_along}
+use Rattle.sdd_lang.proofs.base.ReadingLaws.{bind_ok, ok_is, known_ok, Answers, along_ok, ok_along}
 use Rattle.sdd_script.proofs.StepLaws.{must_then, both_hold, not_true, three_same, some_of}
 use Rattle.sdd_script.proofs.ValueLaws.{value_takes, value_again, kind_int, kind_same, key_is}
 use Rattle.sdd_script.proofs.WordLooks.{value_free, number_free}

@@ -5,16 +5,16 @@ use Rattle.std.specs.Str.{bytes_eq}
 use Rattle.std.specs.List.{list_any, range_with_len}
 use Rattle.std.proofs.lemmas.List.{map-append}
 use Rattle.std.proofs.lemmas.List.Folds.{list_any-append}
-use Rattle.sdd_base.specs.Numbers.{tm_no}
-use Rattle.sdd_catalog.specs.Catalogue.{Catalogue, parts_of, class_part, numbers_to}
-use Rattle.sdd_catalog.specs.Rules.{IsSound, repeats, has_name, found_from, class_rules, faults_of_class}
-use Rattle.sdd_catalog.specs.declared.parts.ClassPart.{ClassPart}
-use Rattle.sdd_catalog.specs.declared.parts.Parts.{Parts}
-use Rattle.sdd_catalog.specs.declared.resolved.Class.{Class}
-use Rattle.sdd_catalog.specs.declared.resolved.Fragment.{Fragment}
-use Rattle.sdd_catalog.proofs.Found.{both_empty, empty_of_map, map-map}
-use Rattle.sdd_catalog.proofs.NameLemmas.{list_any-map}
-use Rattle.sdd_catalog.proofs.Validity.{no_faults, unbroken}
+use Rattle.sdd_lang.specs.base.Numbers.{tm_no}
+use Rattle.sdd_lang.specs.catalog.Catalogue.{Catalogue, parts_of, class_part, numbers_to}
+use Rattle.sdd_lang.specs.catalog.Rules.{IsSound, repeats, has_name, found_from, class_rules, faults_of_class}
+use Rattle.sdd_lang.specs.catalog.declared.parts.ClassPart.{ClassPart}
+use Rattle.sdd_lang.specs.catalog.declared.parts.Parts.{Parts}
+use Rattle.sdd_lang.specs.catalog.declared.resolved.Class.{Class}
+use Rattle.sdd_lang.specs.catalog.declared.resolved.Fragment.{Fragment}
+use Rattle.sdd_lang.proofs.catalog.Found.{both_empty, empty_of_map, map-map}
+use Rattle.sdd_lang.proofs.catalog.NameLemmas.{list_any-map}
+use Rattle.sdd_lang.proofs.catalog.Validity.{no_faults, unbroken}
 use Rattle.sdd_script.specs.ClassLists.{joined, part_names}
 use Rattle.sdd_script.specs.Naming.{name_of_class, class_names}
 use Rattle.sdd_script.proofs.NamePlaces.{none_any, repeats_not}

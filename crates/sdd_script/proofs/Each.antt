@@ -1,8 +1,8 @@
 -- A loop that reads each item of a list of a line's parts.
 use Rattle.std.proofs.Common.{◌≡◌, ℕ, ◌+◌, ◌<◌, ◌≤◌, List, [], ◌∷◌, ◌++◌, length, get_or, drop, map, Result, Ok, refl, sym, ap, ◌∙◌}
 use Rattle.std.proofs.lemmas.List.{get_or_default}
-use Rattle.sdd_base.specs.Readings.{◌>>=◌, along, Fails}
-use Rattle.sdd_base.proofs.ReadingLaws as readings
+use Rattle.sdd_lang.specs.base.Readings.{◌>>=◌, along, Fails}
+use Rattle.sdd_lang.proofs.base.ReadingLaws as readings
 use Rattle.sdd_script.specs.Rules.{rule_in}
 use Rattle.sdd_script.specs.declared.fault.WorkRule.{WorkRule}
 use Rattle.sdd_script.specs.declared.fault.LineError.{LineError}

@@ -7,21 +7,21 @@ use Rattle.std.specs.Fmt.{decimal}
 use Rattle.std.proofs.lemmas.Bool.{eqb-true, ltb-true, lt-ltb}
 use Rattle.std.proofs.lemmas.Str.{IsUtf8-append, IsUtf8-from_ascii}
 use Rattle.std.proofs.lemmas.Str.Ascii.{IsAscii-cons, IsAscii-nil}
-use Rattle.sdd_base.specs.Numbers.{tm_no}
-use Rattle.sdd_base.specs.declared.limits.TheConstants.{MAX_PLACE, MAX_TICKS}
-use Rattle.sdd_base.specs.Sites.{are_linked}
-use Rattle.sdd_base.specs.declared.event.Event.{Event}
-use Rattle.sdd_base.specs.declared.event.Event.TheVariants.{Resend, Tick, Settle, Redeclare, Down, Up}
-use Rattle.sdd_base.specs.declared.number.DmNo.{DmNo}
-use Rattle.sdd_base.specs.declared.number.TmNo.{TmNo}
-use Rattle.sdd_base.specs.declared.site.Site.{Site}
-use Rattle.sdd_base.specs.declared.site.Site.TheVariants.{U, T, D}
-use Rattle.sdd_catalog.specs.Catalogue.{Catalogue}
+use Rattle.sdd_lang.specs.base.Numbers.{tm_no}
+use Rattle.sdd_lang.specs.base.declared.limits.TheConstants.{MAX_PLACE, MAX_TICKS}
+use Rattle.sdd_lang.specs.base.Sites.{are_linked}
+use Rattle.sdd_lang.specs.base.declared.event.Event.{Event}
+use Rattle.sdd_lang.specs.base.declared.event.Event.TheVariants.{Resend, Tick, Settle, Redeclare, Down, Up}
+use Rattle.sdd_lang.specs.base.declared.number.DmNo.{DmNo}
+use Rattle.sdd_lang.specs.base.declared.number.TmNo.{TmNo}
+use Rattle.sdd_lang.specs.base.declared.site.Site.{Site}
+use Rattle.sdd_lang.specs.base.declared.site.Site.TheVariants.{U, T, D}
+use Rattle.sdd_lang.specs.catalog.Catalogue.{Catalogue}
 use Rattle.sdd_lang.specs.Fits.{IsFrom1To}
 use Rattle.sdd_words.specs.Keywords.{is_free}
 use Rattle.sdd_words.specs.Lines.{HasNoNewline}
 use Rattle.sdd_words.specs.Number.{number_of}
-use Rattle.sdd_base.specs.Readings.{◌>>=◌, must}
+use Rattle.sdd_lang.specs.base.Readings.{◌>>=◌, must}
 use Rattle.sdd_words.specs.Words.{HasNoSpace, IsPlain}
 use Rattle.sdd_words.specs.declared.word.Word.{Word}
 use Rattle.sdd_words.specs.declared.word.Word.TheVariants.{Plain, Quoted}
@@ -31,7 +31,7 @@ use Rattle.sdd_script.specs.Spelling.{site_word, count_word}
 use Rattle.sdd_script.specs.Valid.{IsSite, IsLink}
 use Rattle.sdd_script.specs.declared.fault.WorkRule.{WorkRule}
 use Rattle.sdd_script.specs.declared.fault.WorkRule.TheVariants.{BadEvent, BadLine, BadNumber}
-use Rattle.sdd_base.proofs.ReadingLaws.{bind_ok, ok_is, known_ok}
+use Rattle.sdd_lang.proofs.base.ReadingLaws.{bind_ok, ok_is, known_ok}
 use Rattle.sdd_script.proofs.StepLaws.{must_then, both_hold, both_are, le_of, of_le, some_is}
 use Rattle.sdd_script.proofs.WordLooks.{IsFine, count_fine, count_free}
 use Rattle.sdd_script.proofs.UseLaws.{IsKnown}

@@ -2,8 +2,8 @@
 use Rattle.std.proofs.Common.{◌≡◌, ℕ, List, Bool, true, false, cond, Option, Some, None, Result, Ok, refl, ap, subst, ◌∙◌}
 use Rattle.std.specs.Prelude.{is_some}
 use Rattle.std.specs.Option.{option_map_or}
-use Rattle.sdd_base.specs.Readings.{◌>>=◌, known}
-use Rattle.sdd_catalog.specs.Catalogue.{Catalogue, has_copy}
+use Rattle.sdd_lang.specs.base.Readings.{◌>>=◌, known}
+use Rattle.sdd_lang.specs.catalog.Catalogue.{Catalogue, has_copy}
 use Rattle.sdd_words.specs.Names.{name_in}
 use Rattle.sdd_words.specs.declared.word.Word.{Word}
 use Rattle.sdd_words.specs.declared.word.Word.TheVariants.{Plain, Quoted}
@@ -12,7 +12,7 @@ use Rattle.sdd_script.specs.Naming.{fragment_named}
 use Rattle.sdd_script.specs.Valid.{IsFragment, is_kept_at}
 use Rattle.sdd_script.specs.declared.fault.WorkRule.{WorkRule}
 use Rattle.sdd_script.specs.declared.fault.WorkRule.TheVariants.{UnknownName}
-use Rattle.sdd_base.proofs.ReadingLaws.{ok_is}
+use Rattle.sdd_lang.proofs.base.ReadingLaws.{ok_is}
 use Rattle.sdd_script.proofs.StepLaws.{known_then}
 use Rattle.sdd_script.proofs.SoundStates.{named_takes}
 

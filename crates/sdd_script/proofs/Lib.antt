@@ -34,3 +34,7 @@ pub mod ValueLaws
 pub mod WholeLaws
 pub mod WordCuts
 pub mod WordLooks
+pub use Rattle.sdd_lang.proofs.base as base
+pub use Rattle.sdd_words.proofs as words
+pub use Rattle.sdd_lang.proofs.catalog as catalog
+pub use Rattle.sdd_lang.proofs as lang

@@ -4,11 +4,11 @@ use Rattle.std.specs.Prelude.{codes, nat_le, nat_lt}
 use Rattle.std.specs.List.{AllByRecursion, list_all}
 use Rattle.std.proofs.lemmas.Bool.{ltb-true, lt-ltb}
 use Rattle.std.proofs.lemmas.List.Elements.{All-from_recursion, recursion_from_All}
-use Rattle.sdd_base.specs.Numbers.{rel_no}
-use Rattle.sdd_base.specs.declared.limits.TheConstants.{MAX_STATEMENTS, MAX_USES, MAX_CONDITIONS, MAX_OUTPUT_COLUMNS, MAX_ASSIGNMENTS}
-use Rattle.sdd_base.specs.declared.number.RelNo.{RelNo}
-use Rattle.sdd_base.specs.declared.value.Value.{Value}
-use Rattle.sdd_catalog.specs.Catalogue.{Catalogue}
+use Rattle.sdd_lang.specs.base.Numbers.{rel_no}
+use Rattle.sdd_lang.specs.base.declared.limits.TheConstants.{MAX_STATEMENTS, MAX_USES, MAX_CONDITIONS, MAX_OUTPUT_COLUMNS, MAX_ASSIGNMENTS}
+use Rattle.sdd_lang.specs.base.declared.number.RelNo.{RelNo}
+use Rattle.sdd_lang.specs.base.declared.value.Value.{Value}
+use Rattle.sdd_lang.specs.catalog.Catalogue.{Catalogue}
 use Rattle.sdd_lang.specs.Fits.{IsRelation, FitsRef, FitsCondition, FitsStatement, kind_of_ref}
 use Rattle.sdd_lang.specs.declared.assign.Assign.{Assign}
 use Rattle.sdd_lang.specs.declared.condition.Ref.{Ref}
@@ -17,7 +17,7 @@ use Rattle.sdd_lang.specs.declared.statement.Stmt.{Stmt}
 use Rattle.sdd_lang.specs.declared.statement.Stmt.TheVariants.{Put, Query, Update, Delete}
 use Rattle.sdd_words.specs.Keywords.{is_key, is_free, looks_like_column}
 use Rattle.sdd_words.specs.Forms.{cut_at, up_to, from_key, comparisons, conditions_form, not_empty, look_like_columns, are_free}
-use Rattle.sdd_base.specs.Readings.{◌>>=◌, known, must, along}
+use Rattle.sdd_lang.specs.base.Readings.{◌>>=◌, known, must, along}
 use Rattle.sdd_words.specs.declared.form.Comparison.{Comparison}
 use Rattle.sdd_words.specs.declared.word.Word.{Word}
 use Rattle.sdd_words.specs.declared.word.Word.TheVariants.{Plain}
@@ -32,7 +32,7 @@ use Rattle.sdd_script.specs.declared.fault.Counts.TheVariants as counts
 use Rattle.sdd_script.specs.declared.fault.WorkRule.{WorkRule}
 use Rattle.sdd_script.specs.declared.fault.WorkRule.TheVariants.{BadLine, UnknownName, TooMany}
 use Rattle.sdd_script.specs.declared.found.Found.{Found}
-use Rattle.sdd_base.proofs.ReadingLaws.{bind_ok, ok_is, must_ok, Answers, along_ok, ok_along}
+use Rattle.sdd_lang.proofs.base.ReadingLaws.{bind_ok, ok_is, must_ok, Answers, along_ok, ok_along}
 use Rattle.sdd_script.proofs.StepLaws.{must_then, known_then, both_hold, both_are, le_of, of_le, two_same}
 use Rattle.sdd_script.proofs.WordLooks.{name_free}
 use Rattle.sdd_script.proofs.WordCuts.{NonePasses, cut_takes, cut_again, joined_again, key_is_that, before_again, from_again, all_before, none_from}

@@ -10,26 +10,26 @@ use Rattle.std.proofs.lemmas.List.Elements.{All-from_recursion}
 use Rattle.std.proofs.lemmas.List.Quantifiers.{position-Some}
 use Rattle.std.proofs.lemmas.Option.{unwrap_or-slice_get, slice_get-map}
 use Rattle.std.proofs.lemmas.Slice.Eq.{bytes_eq-Decides}
-use Rattle.sdd_base.specs.Numbers.{txn_no}
-use Rattle.sdd_base.specs.declared.limits.TheConstants.{MAX_WORKLOAD_BYTES}
-use Rattle.sdd_base.specs.declared.event.Event.{Event}
-use Rattle.sdd_base.specs.declared.event.Event.TheVariants.{Submit, Deliver, Lose, Repeat}
-use Rattle.sdd_base.specs.declared.number.TxnNo.{TxnNo}
-use Rattle.sdd_catalog.specs.Catalogue.{Catalogue}
-use Rattle.sdd_catalog.specs.Numbers.{IsWhole}
-use Rattle.sdd_catalog.specs.Rules.{IsSound, repeats}
-use Rattle.sdd_catalog.specs.declared.parts.ClassPart.{ClassPart}
+use Rattle.sdd_lang.specs.base.Numbers.{txn_no}
+use Rattle.sdd_lang.specs.base.declared.limits.TheConstants.{MAX_WORKLOAD_BYTES}
+use Rattle.sdd_lang.specs.base.declared.event.Event.{Event}
+use Rattle.sdd_lang.specs.base.declared.event.Event.TheVariants.{Submit, Deliver, Lose, Repeat}
+use Rattle.sdd_lang.specs.base.declared.number.TxnNo.{TxnNo}
+use Rattle.sdd_lang.specs.catalog.Catalogue.{Catalogue}
+use Rattle.sdd_lang.specs.catalog.Numbers.{IsWhole}
+use Rattle.sdd_lang.specs.catalog.Rules.{IsSound, repeats}
+use Rattle.sdd_lang.specs.catalog.declared.parts.ClassPart.{ClassPart}
 use Rattle.sdd_lang.specs.Fits.{FitsStatement}
 use Rattle.sdd_lang.specs.declared.transaction.Txn.{Txn}
 use Rattle.sdd_words.specs.Keywords.{is_free}
 use Rattle.sdd_words.specs.Lines.{cut_lines, spelled_lines}
 use Rattle.sdd_words.specs.Names.{name_in}
-use Rattle.sdd_base.specs.Readings.{◌>>=◌, known}
+use Rattle.sdd_lang.specs.base.Readings.{◌>>=◌, known}
 use Rattle.sdd_words.specs.Words.{line_bytes}
 use Rattle.sdd_words.specs.declared.word.Word.{Word}
 use Rattle.sdd_words.specs.declared.word.Word.TheVariants.{Plain, Quoted}
 use Rattle.sdd_words.proofs.Spelled.{cut_takes}
-use Rattle.sdd_base.specs.declared.site.Site.{Site}
+use Rattle.sdd_lang.specs.base.declared.site.Site.{Site}
 use Rattle.sdd_script.specs.LineRules.{keyword_rules, line_rules}
 use Rattle.sdd_script.specs.Occurrences.{number_named, txn_named, submit_of, flight_place, deliver_of, lose_of, repeat_of, resend_of, tick_of, settle_of, redeclare_of, down_of, up_of}
 use Rattle.sdd_script.specs.ClassLists.{joined, all_classes, part_names}
@@ -52,7 +52,7 @@ use Rattle.sdd_script.specs.declared.place.Place.{Place}
 use Rattle.sdd_script.specs.declared.place.Place.TheVariants as places
 use Rattle.sdd_script.specs.declared.state.State.{State}
 use Rattle.sdd_script.specs.declared.workload.Workload.{Workload}
-use Rattle.sdd_base.proofs.ReadingLaws.{bind_ok, ok_is}
+use Rattle.sdd_lang.proofs.base.ReadingLaws.{bind_ok, ok_is}
 use Rattle.sdd_script.proofs.StepLaws.{must_then, known_then, some_is}
 use Rattle.sdd_script.proofs.QueryLaws.{put_takes, query_takes}
 use Rattle.sdd_script.proofs.UpdateLaws.{update_takes, delete_takes}

@@ -4,22 +4,22 @@ use Rattle.std.specs.Prelude.{◌==◌}
 use Rattle.std.specs.List.{AllByRecursion, list_all}
 use Rattle.std.proofs.lemmas.Bool.{eqb-true, eq-eqb}
 use Rattle.std.proofs.lemmas.List.{length-map}
-use Rattle.sdd_base.specs.Numbers.{rel_no}
-use Rattle.sdd_base.specs.declared.number.RelNo.{RelNo}
-use Rattle.sdd_base.specs.declared.value.Value.{Value}
-use Rattle.sdd_catalog.specs.Catalogue.{Catalogue}
+use Rattle.sdd_lang.specs.base.Numbers.{rel_no}
+use Rattle.sdd_lang.specs.base.declared.number.RelNo.{RelNo}
+use Rattle.sdd_lang.specs.base.declared.value.Value.{Value}
+use Rattle.sdd_lang.specs.catalog.Catalogue.{Catalogue}
 use Rattle.sdd_lang.specs.Fits.{IsRelation, FitsRow, kind_of}
 use Rattle.sdd_words.specs.Values.{value_word}
 use Rattle.sdd_words.specs.Keywords.{is_free}
 use Rattle.sdd_words.specs.Forms.{are_free, not_empty}
-use Rattle.sdd_base.specs.Readings.{◌>>=◌, must}
+use Rattle.sdd_lang.specs.base.Readings.{◌>>=◌, must}
 use Rattle.sdd_words.specs.declared.word.Word.{Word}
 use Rattle.sdd_script.specs.Naming.{columns_of, name_of_relation, relation_of}
 use Rattle.sdd_script.specs.Spelling.{relation_word, row_words}
 use Rattle.sdd_script.specs.Valid.{IsValue}
 use Rattle.sdd_script.specs.Values.{row_of, values_of}
 use Rattle.sdd_script.specs.declared.fault.WorkRule.TheVariants.{UnknownName, WrongKind}
-use Rattle.sdd_base.proofs.ReadingLaws.{bind_ok, ok_is}
+use Rattle.sdd_lang.proofs.base.ReadingLaws.{bind_ok, ok_is}
 use Rattle.sdd_script.proofs.StepLaws.{must_then, known_then, both_are, two_same}
 use Rattle.sdd_script.proofs.ValueLaws.{columns_are, kinds_of, values_take, values_again, values_length}
 use Rattle.sdd_script.proofs.WordLooks.{IsFine, name_fine, name_free, value_fine, value_free}

@@ -5,16 +5,16 @@ use Rattle.std.specs.List.{filter_map}
 use Rattle.std.proofs.lemmas.Bool.{ltb-true}
 use Rattle.std.proofs.lemmas.List.{map-append}
 use Rattle.std.proofs.lemmas.List.Elements.{filter_map-append}
-use Rattle.sdd_base.specs.declared.limits.TheConstants.{MAX_EVENTS}
-use Rattle.sdd_base.specs.declared.event.Event.{Event}
-use Rattle.sdd_base.specs.declared.event.Event.TheVariants.{Submit, Deliver, Lose, Repeat, Resend, Tick, Settle, Redeclare, Down, Up}
-use Rattle.sdd_base.specs.declared.number.TxnNo.{TxnNo}
-use Rattle.sdd_catalog.specs.Catalogue.{Catalogue}
-use Rattle.sdd_catalog.proofs.NameLemmas.{list_any-map}
-use Rattle.sdd_catalog.specs.declared.parts.ClassPart.{ClassPart}
+use Rattle.sdd_lang.specs.base.declared.limits.TheConstants.{MAX_EVENTS}
+use Rattle.sdd_lang.specs.base.declared.event.Event.{Event}
+use Rattle.sdd_lang.specs.base.declared.event.Event.TheVariants.{Submit, Deliver, Lose, Repeat, Resend, Tick, Settle, Redeclare, Down, Up}
+use Rattle.sdd_lang.specs.base.declared.number.TxnNo.{TxnNo}
+use Rattle.sdd_lang.specs.catalog.Catalogue.{Catalogue}
+use Rattle.sdd_lang.proofs.catalog.NameLemmas.{list_any-map}
+use Rattle.sdd_lang.specs.catalog.declared.parts.ClassPart.{ClassPart}
 use Rattle.sdd_lang.specs.declared.statement.Stmt.{Stmt}
 use Rattle.sdd_lang.specs.declared.transaction.Txn.{Txn}
-use Rattle.sdd_base.specs.Readings.{◌>>=◌, must}
+use Rattle.sdd_lang.specs.base.Readings.{◌>>=◌, must}
 use Rattle.sdd_words.specs.declared.word.Word.{Word}
 use Rattle.sdd_words.specs.declared.word.Word.TheVariants.{Plain}
 use Rattle.sdd_script.specs.ClassLists.{joined}
@@ -31,7 +31,7 @@ use Rattle.sdd_script.specs.declared.open_list.OpenList.{OpenList}
 use Rattle.sdd_script.specs.declared.place.Place.{Place}
 use Rattle.sdd_script.specs.declared.place.Place.TheVariants as places
 use Rattle.sdd_script.specs.declared.state.State.{State}
-use Rattle.sdd_base.proofs.ReadingLaws.{bind_ok, ok_is}
+use Rattle.sdd_lang.proofs.base.ReadingLaws.{bind_ok, ok_is}
 use Rattle.sdd_script.proofs.StepLaws.{must_then, not_true}
 use Rattle.sdd_script.proofs.WordCuts.{NonePasses}
 use Rattle.sdd_script.proofs.NamePlaces.{none_any, distinct_more}

@@ -2,16 +2,16 @@
 use Rattle.std.proofs.Common.{◌≡◌, ℕ, ◌+◌, ◌<◌, ◌≤◌, List, [], ◌∷◌, ◌++◌, length, Bool, true, false, cond, ◌&&◌, Some, None, Ok, refl, sym, ap, subst, ◌∙◌, arith, append-nil}
 use Rattle.std.specs.Prelude.{codes, not, nat_lt}
 use Rattle.std.proofs.lemmas.Bool.{ltb-true}
-use Rattle.sdd_base.specs.declared.event.Event.{Event}
-use Rattle.sdd_base.specs.declared.limits.TheConstants.{MAX_CLASSES, MAX_READS}
-use Rattle.sdd_base.specs.declared.number.DmNo.{DmNo}
-use Rattle.sdd_base.specs.declared.number.TmNo.{TmNo}
-use Rattle.sdd_base.specs.declared.site.Site.TheVariants.{T, D}
-use Rattle.sdd_base.specs.Readings.{◌>>=◌, known, must}
-use Rattle.sdd_catalog.specs.Catalogue.{Catalogue, has_copy}
-use Rattle.sdd_catalog.specs.Rules.{has_name}
-use Rattle.sdd_catalog.specs.declared.parts.ClassPart.{ClassPart}
-use Rattle.sdd_catalog.specs.declared.parts.ReadPart.{ReadPart}
+use Rattle.sdd_lang.specs.base.declared.event.Event.{Event}
+use Rattle.sdd_lang.specs.base.declared.limits.TheConstants.{MAX_CLASSES, MAX_READS}
+use Rattle.sdd_lang.specs.base.declared.number.DmNo.{DmNo}
+use Rattle.sdd_lang.specs.base.declared.number.TmNo.{TmNo}
+use Rattle.sdd_lang.specs.base.declared.site.Site.TheVariants.{T, D}
+use Rattle.sdd_lang.specs.base.Readings.{◌>>=◌, known, must}
+use Rattle.sdd_lang.specs.catalog.Catalogue.{Catalogue, has_copy}
+use Rattle.sdd_lang.specs.catalog.Rules.{has_name}
+use Rattle.sdd_lang.specs.catalog.declared.parts.ClassPart.{ClassPart}
+use Rattle.sdd_lang.specs.catalog.declared.parts.ReadPart.{ReadPart}
 use Rattle.sdd_lang.specs.declared.statement.Stmt.{Stmt}
 use Rattle.sdd_lang.specs.declared.transaction.Txn.{Txn}
 use Rattle.sdd_words.specs.Keywords.{is_free}
@@ -32,7 +32,7 @@ use Rattle.sdd_script.specs.declared.open_list.OpenList.{OpenList}
 use Rattle.sdd_script.specs.declared.place.Place.{Place}
 use Rattle.sdd_script.specs.declared.place.Place.TheVariants as places
 use Rattle.sdd_script.specs.declared.state.State.{State}
-use Rattle.sdd_base.proofs.ReadingLaws.{bind_ok, ok_is}
+use Rattle.sdd_lang.proofs.base.ReadingLaws.{bind_ok, ok_is}
 use Rattle.sdd_script.proofs.StepLaws.{must_then, known_then, both_hold, not_true, some_is}
 use Rattle.sdd_script.proofs.EventLaws.{dm_takes, tm_takes}
 use Rattle.sdd_script.proofs.Fragments.{fragment_takes, kept_at}

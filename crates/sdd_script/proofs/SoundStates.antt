@@ -7,17 +7,17 @@ use Rattle.std.proofs.lemmas.Bool.{ltb-true}
 use Rattle.std.proofs.lemmas.List.{map-append, length-append}
 use Rattle.std.proofs.lemmas.List.Elements.{All-append, All-from_recursion}
 use Rattle.std.proofs.lemmas.List.Sums.{sum_by-append}
-use Rattle.sdd_base.specs.declared.limits.TheConstants.{MAX_CLASSES, MAX_ROWS, MAX_TXNS, MAX_EVENTS}
-use Rattle.sdd_base.specs.Name.{IsName, is_name}
-use Rattle.sdd_base.specs.declared.event.Event.{Event}
-use Rattle.sdd_base.specs.declared.number.RelNo.{RelNo}
-use Rattle.sdd_base.specs.declared.number.TmNo.{TmNo}
-use Rattle.sdd_base.specs.declared.number.TxnNo.{TxnNo}
-use Rattle.sdd_base.specs.declared.site.Site.TheVariants.{T}
-use Rattle.sdd_base.specs.declared.value.Value.{Value}
-use Rattle.sdd_catalog.specs.Catalogue.{Catalogue}
-use Rattle.sdd_catalog.specs.Rules.{repeats}
-use Rattle.sdd_catalog.specs.declared.parts.ClassPart.{ClassPart}
+use Rattle.sdd_lang.specs.base.declared.limits.TheConstants.{MAX_CLASSES, MAX_ROWS, MAX_TXNS, MAX_EVENTS}
+use Rattle.sdd_lang.specs.base.Name.{IsName, is_name}
+use Rattle.sdd_lang.specs.base.declared.event.Event.{Event}
+use Rattle.sdd_lang.specs.base.declared.number.RelNo.{RelNo}
+use Rattle.sdd_lang.specs.base.declared.number.TmNo.{TmNo}
+use Rattle.sdd_lang.specs.base.declared.number.TxnNo.{TxnNo}
+use Rattle.sdd_lang.specs.base.declared.site.Site.TheVariants.{T}
+use Rattle.sdd_lang.specs.base.declared.value.Value.{Value}
+use Rattle.sdd_lang.specs.catalog.Catalogue.{Catalogue}
+use Rattle.sdd_lang.specs.catalog.Rules.{repeats}
+use Rattle.sdd_lang.specs.catalog.declared.parts.ClassPart.{ClassPart}
 use Rattle.sdd_lang.specs.Fits.{IsFrom1To, FitsStatement}
 use Rattle.sdd_lang.specs.declared.statement.Stmt.{Stmt}
 use Rattle.sdd_lang.specs.declared.statement.Stmt.TheVariants as statements
@@ -25,7 +25,7 @@ use Rattle.sdd_lang.specs.declared.transaction.Txn.{Txn}
 use Rattle.sdd_words.specs.Forms.{are_free}
 use Rattle.sdd_words.specs.Keywords.{is_free}
 use Rattle.sdd_words.specs.Names.{name_in}
-use Rattle.sdd_base.specs.Readings.{◌>>=◌, must, known}
+use Rattle.sdd_lang.specs.base.Readings.{◌>>=◌, must, known}
 use Rattle.sdd_words.specs.declared.word.Word.{Word}
 use Rattle.sdd_words.specs.declared.word.Word.TheVariants.{Plain, Quoted}
 use Rattle.sdd_script.specs.ClassLists.{joined, all_classes, part_names}
@@ -46,7 +46,7 @@ use Rattle.sdd_script.specs.declared.place.Header.{Header}
 use Rattle.sdd_script.specs.declared.place.Place.{Place}
 use Rattle.sdd_script.specs.declared.place.Place.TheVariants as places
 use Rattle.sdd_script.specs.declared.state.State.{State}
-use Rattle.sdd_base.proofs.ReadingLaws.{bind_ok, ok_is, known_ok}
+use Rattle.sdd_lang.proofs.base.ReadingLaws.{bind_ok, ok_is, known_ok}
 use Rattle.sdd_script.proofs.StepLaws.{must_then, both_hold, not_true, some_is, known_then}
 use Rattle.sdd_script.proofs.WordCuts.{NonePasses}
 use Rattle.sdd_script.proofs.RowLaws.{row_takes}

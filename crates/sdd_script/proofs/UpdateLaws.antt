@@ -4,9 +4,9 @@ use Rattle.std.specs.Prelude.{codes}
 use Rattle.std.specs.Fmt.{signed_decimal}
 use Rattle.std.specs.List.{AllByRecursion}
 use Rattle.std.proofs.lemmas.List.Elements.{All-from_recursion, recursion_from_All}
-use Rattle.sdd_base.specs.Numbers.{rel_no}
-use Rattle.sdd_base.specs.declared.number.RelNo.{RelNo}
-use Rattle.sdd_catalog.specs.Catalogue.{Catalogue}
+use Rattle.sdd_lang.specs.base.Numbers.{rel_no}
+use Rattle.sdd_lang.specs.base.declared.number.RelNo.{RelNo}
+use Rattle.sdd_lang.specs.catalog.Catalogue.{Catalogue}
 use Rattle.sdd_lang.specs.Fits.{IsRelation, FitsCondition, FitsAssign, FitsStatement}
 use Rattle.sdd_lang.specs.declared.assign.Assign.{Assign}
 use Rattle.sdd_lang.specs.declared.assign.Assign.TheVariants.{To, Add}
@@ -16,7 +16,7 @@ use Rattle.sdd_lang.specs.declared.statement.Stmt.TheVariants.{Update, Delete}
 use Rattle.sdd_words.specs.Values.{value_word}
 use Rattle.sdd_words.specs.Keywords.{is_key, is_free}
 use Rattle.sdd_words.specs.Forms.{up_to, from_key, comparisons, conditions_form, settings, not_empty}
-use Rattle.sdd_base.specs.Readings.{◌>>=◌, known, must, along}
+use Rattle.sdd_lang.specs.base.Readings.{◌>>=◌, known, must, along}
 use Rattle.sdd_words.specs.declared.form.Comparison.{Comparison}
 use Rattle.sdd_words.specs.declared.form.Setting.{Setting}
 use Rattle.sdd_words.specs.declared.word.Word.{Word}
@@ -27,7 +27,7 @@ use Rattle.sdd_script.specs.Spelling.{relation_word, column_word, own_column, wh
 use Rattle.sdd_script.specs.Statements.{assign_of, update_of_parts, update_behind_set, update_of, delete_of}
 use Rattle.sdd_script.specs.Valid.{HoldsValue, AssignsValue, HoldsValues}
 use Rattle.sdd_script.specs.declared.fault.WorkRule.TheVariants.{BadLine, UnknownName}
-use Rattle.sdd_base.proofs.ReadingLaws.{bind_ok, ok_is}
+use Rattle.sdd_lang.proofs.base.ReadingLaws.{bind_ok, ok_is}
 use Rattle.sdd_script.proofs.StepLaws.{must_then, known_then, both_hold, both_are, two_same}
 use Rattle.sdd_script.proofs.WordLooks.{name_free, value_free, number_free}
 use Rattle.sdd_script.proofs.WordCuts.{NonePasses, joined_again, key_is_that}

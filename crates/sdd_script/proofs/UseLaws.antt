@@ -9,17 +9,17 @@ use Rattle.std.proofs.lemmas.Bool.{ltb-true, lt-ltb, ne_eqb}
 use Rattle.std.proofs.lemmas.Slice.Eq.{bytes_eq-Decides}
 use Rattle.std.proofs.lemmas.Option.{slice_get-get_or}
 use Rattle.std.proofs.lemmas.List.Quantifiers.{position-Some}
-use Rattle.sdd_base.specs.Numbers.{rel_no}
-use Rattle.sdd_base.specs.Name.{is_name}
-use Rattle.sdd_catalog.specs.Catalogue.{Catalogue, kind_at}
-use Rattle.sdd_catalog.specs.declared.parts.Kind.TheVariants.{Int}
-use Rattle.sdd_catalog.specs.declared.resolved.Column.{Column}
+use Rattle.sdd_lang.specs.base.Numbers.{rel_no}
+use Rattle.sdd_lang.specs.base.Name.{is_name}
+use Rattle.sdd_lang.specs.catalog.Catalogue.{Catalogue, kind_at}
+use Rattle.sdd_lang.specs.catalog.declared.parts.Kind.TheVariants.{Int}
+use Rattle.sdd_lang.specs.catalog.declared.resolved.Column.{Column}
 use Rattle.sdd_lang.specs.Fits.{IsRelation, IsColumn}
 use Rattle.sdd_lang.specs.declared.condition.Ref.{Ref}
 use Rattle.sdd_words.specs.Keywords.{has_point, before_point, behind_point, looks_like_column}
 use Rattle.sdd_words.specs.Number.{number_of}
 use Rattle.sdd_words.specs.Whole.{is_whole}
-use Rattle.sdd_base.specs.Readings.{◌>>=◌, known}
+use Rattle.sdd_lang.specs.base.Readings.{◌>>=◌, known}
 use Rattle.sdd_words.specs.declared.word.Word.{Word}
 use Rattle.sdd_words.specs.declared.word.Word.TheVariants.{Plain, Quoted}
 use Rattle.sdd_words.proofs.Numbers.{number_takes, number_again}
@@ -28,7 +28,7 @@ use Rattle.sdd_script.specs.Naming.{columns_of, name_of_relation, relation_named
 use Rattle.sdd_script.specs.Spelling.{relation_word, name_of_column}
 use Rattle.sdd_script.specs.declared.fault.WorkRule.TheVariants.{BadNumber, UnknownName}
 use Rattle.sdd_script.specs.declared.found.Found.{Found}
-use Rattle.sdd_base.proofs.ReadingLaws.{ok_is}
+use Rattle.sdd_lang.proofs.base.ReadingLaws.{ok_is}
 use Rattle.sdd_script.proofs.StepLaws.{must_then, known_then, both_hold, some_is}
 use Rattle.sdd_script.proofs.ValueLaws.{columns_are}
 use Rattle.sdd_script.proofs.WordCuts.{point_cut}

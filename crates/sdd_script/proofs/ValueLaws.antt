@@ -4,18 +4,18 @@ use Rattle.std.specs.Prelude.{slice_get, unwrap_or}
 use Rattle.std.specs.Option.{option_map_or}
 use Rattle.std.specs.List.{AllByRecursion}
 use Rattle.std.proofs.lemmas.Option.{unwrap_or-slice_get}
-use Rattle.sdd_base.specs.declared.value.Value.{Value}
-use Rattle.sdd_base.specs.declared.value.Value.TheVariants as values
-use Rattle.sdd_catalog.specs.Catalogue.{Catalogue, relation_at, key_column}
-use Rattle.sdd_catalog.specs.declared.parts.Kind.{Kind}
-use Rattle.sdd_catalog.specs.declared.parts.Kind.TheVariants as kinds
-use Rattle.sdd_catalog.specs.declared.resolved.Column.{Column}
-use Rattle.sdd_catalog.specs.declared.resolved.Relation.{Relation}
+use Rattle.sdd_lang.specs.base.declared.value.Value.{Value}
+use Rattle.sdd_lang.specs.base.declared.value.Value.TheVariants as values
+use Rattle.sdd_lang.specs.catalog.Catalogue.{Catalogue, relation_at, key_column}
+use Rattle.sdd_lang.specs.catalog.declared.parts.Kind.{Kind}
+use Rattle.sdd_lang.specs.catalog.declared.parts.Kind.TheVariants as kinds
+use Rattle.sdd_lang.specs.catalog.declared.resolved.Column.{Column}
+use Rattle.sdd_lang.specs.catalog.declared.resolved.Relation.{Relation}
 use Rattle.sdd_lang.specs.Fits.{kind_of}
 use Rattle.sdd_words.specs.Values.{value_word}
 use Rattle.sdd_words.specs.Number.{number_of}
 use Rattle.sdd_words.specs.Texts.{is_text, text_in}
-use Rattle.sdd_base.specs.Readings.{◌>>=◌, must}
+use Rattle.sdd_lang.specs.base.Readings.{◌>>=◌, must}
 use Rattle.sdd_words.specs.declared.word.Word.{Word}
 use Rattle.sdd_words.specs.declared.word.Word.TheVariants.{Plain, Quoted}
 use Rattle.sdd_words.proofs.Numbers.{number_takes, number_again}
@@ -24,7 +24,7 @@ use Rattle.sdd_script.specs.Valid.{IsValue}
 use Rattle.sdd_script.specs.Values.{is_of_kind, value_of, values_of}
 use Rattle.sdd_script.specs.declared.fault.WorkRule.{WorkRule}
 use Rattle.sdd_script.specs.declared.fault.WorkRule.TheVariants.{BadLine, BadNumber, WrongKind}
-use Rattle.sdd_base.proofs.ReadingLaws.{ok_is, Answers, along_ok, ok_along}
+use Rattle.sdd_lang.proofs.base.ReadingLaws.{ok_is, Answers, along_ok, ok_along}
 use Rattle.sdd_script.proofs.StepLaws.{must_then, known_then}
 
 -- ---- the two spellings of a relation's parts

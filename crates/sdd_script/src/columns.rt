@@ -1,8 +1,8 @@
 //! Columns of uses, and conditions, by their words.
 ghost use Rattle.std.specs.Prelude.{◌≡◌, ◌<◌, ◌-◌, ◌^◌, length, Some, None};
-ghost use Rattle.sdd_base.specs.Readings.{along};
+ghost use Rattle.sdd_lang.specs.base.Readings.{along};
 ghost use Rattle.sdd_words.specs.declared.word.Word.TheVariants.{Plain};
-ghost use Rattle.sdd_base.specs.Readings.{Gives};
+ghost use Rattle.sdd_lang.specs.base.Readings.{Gives};
 ghost use Rattle.sdd_script.specs.Rules.{rule_in};
 ghost use Rattle.sdd_script.specs.Columns.{use_in, use_at, use_numbered, column_in, column_of_use, same_of, const_of, condition_of, conditions_of};
 
@@ -10,8 +10,8 @@ use crate::fault::{LineError, WorkRule, broken, known, must};
 use crate::found::Found;
 use crate::naming::{column_named, columns_of, kind_of_place};
 use crate::values::{is_of_kind, read_value};
-use sdd_base::Op;
-use sdd_catalog::{Catalogue, Column};
+use sdd_lang::sdd_base::Op;
+use sdd_lang::sdd_catalog::{Catalogue, Column};
 use sdd_lang::{Condition, Ref};
 use sdd_words::{Comparison, Word, is_whole_number, names_column, number_in, parts_at_point};
 use std::alloc::Global;

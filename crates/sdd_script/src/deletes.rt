@@ -1,14 +1,14 @@
 //! Deletes, by the words behind the first word of their lines.
 ghost use Rattle.std.specs.Prelude.{◌≡◌, ◌∷◌, [], Some};
-ghost use Rattle.sdd_base.specs.Readings.{Gives};
+ghost use Rattle.sdd_lang.specs.base.Readings.{Gives};
 ghost use Rattle.sdd_script.specs.Rules.{rule_in};
 ghost use Rattle.sdd_script.specs.Statements.{delete_of_parts, delete_of};
 
 use crate::columns::read_conditions;
 use crate::fault::{LineError, WorkRule, broken, known, must};
 use crate::naming::relation_of;
-use sdd_base::{Listed, RelNo};
-use sdd_catalog::Catalogue;
+use sdd_lang::sdd_base::{Listed, RelNo};
+use sdd_lang::sdd_catalog::Catalogue;
 use sdd_lang::Stmt;
 use sdd_words::{Comparison, Word, read_comparisons, stands_free};
 use std::alloc::Global;

@@ -1,4 +1,4 @@
-use sdd_catalog::Kind;
+use sdd_lang::sdd_catalog::Kind;
 use sdd_lang::Ref;
 
 /// A column of a use, and its kind.

@@ -41,3 +41,9 @@ pub use limits::MAX_LISTS;
 pub use walk::read_workload;
 pub use workload::{ClassLists, StartRows, Txns, Workload};
 pub use write_lines::write_workload;
+
+// What lies below, for the crates above.
+pub use sdd_lang::sdd_base;
+pub use sdd_lang::sdd_catalog;
+pub use sdd_lang;
+pub use sdd_words;

@@ -1,14 +1,14 @@
 //! How many there may be.
 ghost use Rattle.std.specs.Prelude.{◌≡◌, nat_le, length};
-ghost use Rattle.sdd_base.specs.Readings.{must};
+ghost use Rattle.sdd_lang.specs.base.Readings.{must};
 ghost use Rattle.sdd_script.specs.declared.fault.WorkRule.TheVariants.{TooMany};
-ghost use Rattle.sdd_base.specs.Readings.{Gives};
+ghost use Rattle.sdd_lang.specs.base.Readings.{Gives};
 ghost use Rattle.sdd_script.specs.Rules.{rule_in};
 ghost use Rattle.sdd_script.specs.ClassLists.{one_more_class};
 ghost use Rattle.sdd_script.specs.LineRules.{one_more_row, written_with, statement_limits};
 
 use crate::fault::{Counts, LineError, WorkRule, must};
-use sdd_base::{
+use sdd_lang::sdd_base::{
     MAX_ASSIGNMENTS, MAX_CLASSES, MAX_CONDITIONS, MAX_OUTPUT_COLUMNS, MAX_ROWS, MAX_STATEMENTS,
     MAX_USES,
 };

@@ -1,15 +1,15 @@
 //! Queries, by the words behind the first word of their lines.
 ghost use Rattle.std.specs.Prelude.{◌≡◌, map, IfOk, codes};
-ghost use Rattle.sdd_base.specs.Readings.{along};
-ghost use Rattle.sdd_base.specs.Readings.{Gives};
+ghost use Rattle.sdd_lang.specs.base.Readings.{along};
+ghost use Rattle.sdd_lang.specs.base.Readings.{Gives};
 ghost use Rattle.sdd_script.specs.Rules.{rule_in};
 ghost use Rattle.sdd_script.specs.Statements.{listed_column, part_in, parts_of, query_over, query_of_parts, query_behind_from, query_with, query_of};
 
 use crate::columns::{read_column, read_conditions};
 use crate::fault::{LineError, WorkRule, broken, known, must};
 use crate::naming::relation_of;
-use sdd_base::{Listed, NoMemory, RelNo};
-use sdd_catalog::Catalogue;
+use sdd_lang::sdd_base::{Listed, NoMemory, RelNo};
+use sdd_lang::sdd_catalog::Catalogue;
 use sdd_lang::{Ref, Stmt};
 use sdd_words::{
     Comparison, Word, are_free, cut_at, look_like_columns, read_comparisons, split_from,

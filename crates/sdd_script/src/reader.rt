@@ -1,8 +1,8 @@
 //! One line of a workload, by its words.
 ghost use Rattle.std.specs.Prelude.{◌≡◌, ◌==◌, OnOk};
 ghost use Rattle.std.specs.List.{list_any};
-ghost use Rattle.sdd_base.specs.declared.number.TxnNo.{TxnNo};
-ghost use Rattle.sdd_base.specs.Readings.{Gives};
+ghost use Rattle.sdd_lang.specs.base.declared.number.TxnNo.{TxnNo};
+ghost use Rattle.sdd_lang.specs.base.Readings.{Gives};
 ghost use Rattle.sdd_script.specs.Rules.{rule_in};
 ghost use Rattle.sdd_script.specs.LineRules.{row_rules, opened, txn_rules, with_statement, statement_rules, closed, done_rules, is_submitted, with_submitted, with_event, event_rules, end_rules, keyword_rules, words_rules, sound_rules, line_rules};
 ghost use Rattle.sdd_script.specs.Occurrences.{event_of};
@@ -21,8 +21,8 @@ use crate::redeclaring::may_follow;
 use crate::state::State;
 use crate::statements::read_statement;
 use crate::values::read_row;
-use sdd_base::{Event, MAX_EVENTS, MAX_TXNS, Name, NoMemory, TmNo, TxnNo};
-use sdd_catalog::Catalogue;
+use sdd_lang::sdd_base::{Event, MAX_EVENTS, MAX_TXNS, Name, NoMemory, TmNo, TxnNo};
+use sdd_lang::sdd_catalog::Catalogue;
 use sdd_lang::{Stmt, Txn};
 use sdd_words::{Word, are_free, are_sound, split_line, stands_free, text_of};
 use std::alloc::Global;

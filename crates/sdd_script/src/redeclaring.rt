@@ -2,8 +2,8 @@
 ghost use Rattle.std.specs.Prelude.{◌≡◌, ◌==◌, count_by};
 ghost use Rattle.sdd_script.specs.Redeclaring.{is_redeclare, turned_by, is_down, some_down, may_redeclare, may_follow};
 
-use sdd_base::Event;
-use sdd_catalog::Catalogue;
+use sdd_lang::sdd_base::Event;
+use sdd_lang::sdd_catalog::Catalogue;
 
 fn is_redeclare(event: Event) -> bool
     ensures { result ≡ is_redeclare event }

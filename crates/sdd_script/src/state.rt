@@ -1,8 +1,8 @@
 use crate::grown::Grown;
 use crate::names::Names;
 use crate::place::Place;
-use sdd_base::{Event, RelNo, Row, TxnNo};
-use sdd_catalog::ClassParts;
+use sdd_lang::sdd_base::{Event, RelNo, Row, TxnNo};
+use sdd_lang::sdd_catalog::ClassParts;
 use sdd_lang::{Stmt, Txn};
 
 /// What the lines so far have said.

@@ -1,6 +1,6 @@
 //! Statements, by the first words of their lines and the words behind them.
 ghost use Rattle.std.specs.Prelude.{◌≡◌};
-ghost use Rattle.sdd_base.specs.Readings.{Gives};
+ghost use Rattle.sdd_lang.specs.base.Readings.{Gives};
 ghost use Rattle.sdd_script.specs.Rules.{rule_in};
 ghost use Rattle.sdd_script.specs.Statements.{put_of, statement_of};
 
@@ -10,7 +10,7 @@ use crate::keyword::StatementKey;
 use crate::queries::read_query;
 use crate::updates::read_update;
 use crate::values::read_row;
-use sdd_catalog::Catalogue;
+use sdd_lang::sdd_catalog::Catalogue;
 use sdd_lang::Stmt;
 use sdd_words::{Word, are_free, stands_free};
 use std::alloc::Global;

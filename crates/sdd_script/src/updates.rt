@@ -1,7 +1,7 @@
 //! Updates, by the words behind the first word of their lines.
 ghost use Rattle.std.specs.Prelude.{◌≡◌, ◌∷◌, [], Some, codes};
-ghost use Rattle.sdd_base.specs.Readings.{along};
-ghost use Rattle.sdd_base.specs.Readings.{Gives};
+ghost use Rattle.sdd_lang.specs.base.Readings.{along};
+ghost use Rattle.sdd_lang.specs.base.Readings.{Gives};
 ghost use Rattle.sdd_script.specs.Rules.{rule_in};
 ghost use Rattle.sdd_script.specs.Statements.{addend_of, add_of, to_of, assign_of, update_of_parts, update_with, update_behind_set, update_to, update_of};
 
@@ -10,8 +10,8 @@ use crate::fault::{LineError, WorkRule, broken, known, must};
 use crate::found::Found;
 use crate::naming::{key_of, relation_of};
 use crate::values::{is_of_kind, read_value};
-use sdd_base::{Listed, RelNo};
-use sdd_catalog::{Catalogue, Kind};
+use sdd_lang::sdd_base::{Listed, RelNo};
+use sdd_lang::sdd_catalog::{Catalogue, Kind};
 use sdd_lang::{Assign, Stmt};
 use sdd_words::{
     Comparison, Setting, Word, has_key, has_words, number_in, read_comparisons, read_settings,

@@ -3,14 +3,14 @@ ghost use Rattle.std.specs.Prelude.{◌≡◌, length, IfOk, Some, None};
 ghost use Rattle.sdd_words.specs.Texts.{text_in};
 ghost use Rattle.sdd_words.specs.declared.word.Word.TheVariants.{Quoted};
 ghost use Rattle.sdd_script.specs.Naming.{kind_of_place};
-ghost use Rattle.sdd_base.specs.Readings.{Gives};
+ghost use Rattle.sdd_lang.specs.base.Readings.{Gives};
 ghost use Rattle.sdd_script.specs.Rules.{rule_in};
 ghost use Rattle.sdd_script.specs.Values.{is_of_kind, value_of, values_of, row_of};
 
 use crate::fault::{LineError, WorkRule, known, must};
 use crate::naming::{columns_of, kind_of_place, relation_of};
-use sdd_base::{Listed, NoMemory, RelNo, Row, Text, Value};
-use sdd_catalog::{Catalogue, Column, Kind};
+use sdd_lang::sdd_base::{Listed, NoMemory, RelNo, Row, Text, Value};
+use sdd_lang::sdd_catalog::{Catalogue, Column, Kind};
 use sdd_words::{Word, is_text, number_in, text_of};
 use std::alloc::Global;
 

@@ -1,6 +1,6 @@
 //! The lines of a workload, one after the other.
 ghost use Rattle.std.specs.Prelude.{◌≡◌, ◌≤◌, ◌^◌, length, IfOk};
-ghost use Rattle.sdd_base.specs.Readings.{Gives};
+ghost use Rattle.sdd_lang.specs.base.Readings.{Gives};
 ghost use Rattle.sdd_script.specs.Rules.{rule_in};
 ghost use Rattle.sdd_script.specs.Telling.{Tells};
 ghost use Rattle.sdd_script.specs.Valid.{Accepts};
@@ -13,8 +13,8 @@ use crate::place::Place;
 use crate::reader::read_line;
 use crate::state::State;
 use crate::workload::Workload;
-use sdd_base::MAX_WORKLOAD_BYTES;
-use sdd_catalog::Catalogue;
+use sdd_lang::sdd_base::MAX_WORKLOAD_BYTES;
+use sdd_lang::sdd_catalog::Catalogue;
 use sdd_words::{next_line, text_of};
 use std::alloc::Global;
 

@@ -1,8 +1,8 @@
 //! Writing the lines of a workload.
 ghost use Rattle.std.specs.Prelude.{◌≡◌, ◌++◌, ◌∷◌, [], List, codes, flat_map, OnOk, IfOk};
-ghost use Rattle.sdd_base.specs.declared.event.Event.{Event};
-ghost use Rattle.sdd_base.specs.declared.number.RelNo.{RelNo};
-ghost use Rattle.sdd_base.specs.declared.value.Value.{Value};
+ghost use Rattle.sdd_lang.specs.base.declared.event.Event.{Event};
+ghost use Rattle.sdd_lang.specs.base.declared.number.RelNo.{RelNo};
+ghost use Rattle.sdd_lang.specs.base.declared.value.Value.{Value};
 ghost use Rattle.sdd_lang.specs.declared.statement.Stmt.{Stmt};
 ghost use Rattle.sdd_lang.specs.declared.transaction.Txn.{Txn};
 ghost use Rattle.sdd_words.specs.Words.{line_bytes, more_bytes};
@@ -15,8 +15,8 @@ use crate::write_words::{
     put_assigns, put_columns, put_conditions, put_count_word, put_plain, put_relation,
     put_relations, put_row, put_site,
 };
-use sdd_base::{DmNo, Event, NoMemory, RelNo, Row, Site, TmNo, Value};
-use sdd_catalog::Catalogue;
+use sdd_lang::sdd_base::{DmNo, Event, NoMemory, RelNo, Row, Site, TmNo, Value};
+use sdd_lang::sdd_catalog::Catalogue;
 use sdd_lang::{Assign, Condition, Ref, Stmt, Txn};
 use sdd_words::put;
 use std::alloc::Global;

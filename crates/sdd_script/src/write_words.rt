@@ -2,8 +2,8 @@
 //! is wanting, what was written is not to be used.
 ghost use Rattle.std.specs.Prelude.{◌≡◌, ◌++◌, ◌∷◌, List, flat_map, OnOk};
 ghost use Rattle.std.specs.Fmt.{signed_decimal};
-ghost use Rattle.sdd_base.specs.declared.number.RelNo.{RelNo};
-ghost use Rattle.sdd_base.specs.declared.value.Value.{Value};
+ghost use Rattle.sdd_lang.specs.base.declared.number.RelNo.{RelNo};
+ghost use Rattle.sdd_lang.specs.base.declared.value.Value.{Value};
 ghost use Rattle.sdd_lang.specs.Fits.{rel_of};
 ghost use Rattle.sdd_lang.specs.declared.condition.Ref.{Ref};
 ghost use Rattle.sdd_words.specs.Values.{value_word};
@@ -13,8 +13,8 @@ ghost use Rattle.sdd_words.specs.declared.word.Word.TheVariants.{Plain};
 ghost use Rattle.sdd_script.specs.Spelling.{relation_word, row_words, name_of_column, column_word, condition_words, conditions_words, where_words, own_column, assign_words, sets_words, site_word, count_word};
 
 use crate::naming::{columns_of, name_of_relation};
-use sdd_base::{NoMemory, Op, RelNo, Site, Value};
-use sdd_catalog::{Catalogue, Column};
+use sdd_lang::sdd_base::{NoMemory, Op, RelNo, Site, Value};
+use sdd_lang::sdd_catalog::{Catalogue, Column};
 use sdd_lang::{Assign, Condition, Ref};
 use sdd_words::{put, put_count, put_number, put_value, put_values};
 

@@ -6,32 +6,32 @@ use Rattle.std.proofs.lemmas.Bool.Decides.{Decides-eqb}
 use Rattle.std.proofs.lemmas.Cmp.{int_cmp_total}
 use Rattle.std.proofs.lemmas.List.Elements.{All-contains}
 use Rattle.std.proofs.lemmas.Map.Lookups.{exact_signed}
-use Rattle.sdd_base.proofs.Membership.{Contains-nil}
-use Rattle.sdd_base.specs.Numbers.{frag_no}
-use Rattle.sdd_base.specs.Order.{meets}
-use Rattle.sdd_base.specs.Words.{contains}
-use Rattle.sdd_base.specs.declared.number.FragNo.{FragNo}
-use Rattle.sdd_base.specs.declared.number.RelNo.{RelNo}
-use Rattle.sdd_base.specs.declared.usage.Use.{Use}
-use Rattle.sdd_catalog.specs.Catalogue.{Catalogue, fragment_at, fragment_of, key_column, numbers_to}
-use Rattle.sdd_catalog.specs.Rules.{IsSound}
-use Rattle.sdd_protocol.specs.Conditions.{is_read_at}
-use Rattle.sdd_lang.specs.declared.condition.Condition.{Condition}
-use Rattle.sdd_lang.specs.declared.statement.Stmt.{Stmt}
-use Rattle.sdd_lang.specs.declared.statement.Stmt.TheVariants.{Put, Query, Update, Delete}
-use Rattle.sdd_lang.specs.declared.transaction.Txn.{Txn}
-use Rattle.sdd_lang.specs.Agree.{rows_in_fragment}
-use Rattle.sdd_lang.specs.Database.{Item, Row, Database, item_cmp}
-use Rattle.sdd_lang.specs.Database as databases
-use Rattle.sdd_lang.specs.Fits.{Fits}
-use Rattle.sdd_lang.specs.Sound.{IsEntry}
-use Rattle.sdd_lang.specs.Uses.{restrictions_of, use_of, fragments_for, allowed_keys, meets_keys, part_uses, statement_uses, uses_from, uses_of}
-use Rattle.sdd_lang.proofs.Pushdown.{and_parts}
-use Rattle.sdd_lang.proofs.SortedEntries.{item_cmp_total, item_cmp_exact, sorted_nil}
-use Rattle.sdd_exec.specs.Choices.{Has}
-use Rattle.sdd_exec.specs.Serves.{IsRowOf}
-use Rattle.sdd_exec.proofs.Members.{Has-append, Has-map, Has-map_from, Has-filter, Has-filter_from, Has-flat_map, Has-flat_map_from, Has-filter_map, Has-filter_map_from}
-use Rattle.sdd_copy.specs.Frozen.{CopyRows, chosen, with_keyed, rows_for, all_rows}
+use Rattle.sdd_laws.proofs.base.Membership.{Contains-nil}
+use Rattle.sdd_laws.specs.base.Numbers.{frag_no}
+use Rattle.sdd_laws.specs.base.Order.{meets}
+use Rattle.sdd_laws.specs.base.Words.{contains}
+use Rattle.sdd_laws.specs.base.declared.number.FragNo.{FragNo}
+use Rattle.sdd_laws.specs.base.declared.number.RelNo.{RelNo}
+use Rattle.sdd_laws.specs.base.declared.usage.Use.{Use}
+use Rattle.sdd_laws.specs.catalog.Catalogue.{Catalogue, fragment_at, fragment_of, key_column, numbers_to}
+use Rattle.sdd_laws.specs.catalog.Rules.{IsSound}
+use Rattle.sdd_laws.specs.protocol.Conditions.{is_read_at}
+use Rattle.sdd_laws.specs.lang.declared.condition.Condition.{Condition}
+use Rattle.sdd_laws.specs.lang.declared.statement.Stmt.{Stmt}
+use Rattle.sdd_laws.specs.lang.declared.statement.Stmt.TheVariants.{Put, Query, Update, Delete}
+use Rattle.sdd_laws.specs.lang.declared.transaction.Txn.{Txn}
+use Rattle.sdd_laws.specs.lang.Agree.{rows_in_fragment}
+use Rattle.sdd_laws.specs.lang.Database.{Item, Row, Database, item_cmp}
+use Rattle.sdd_laws.specs.lang.Database as databases
+use Rattle.sdd_laws.specs.lang.Fits.{Fits}
+use Rattle.sdd_laws.specs.lang.Sound.{IsEntry}
+use Rattle.sdd_laws.specs.lang.Uses.{restrictions_of, use_of, fragments_for, allowed_keys, meets_keys, part_uses, statement_uses, uses_from, uses_of}
+use Rattle.sdd_laws.proofs.lang.Pushdown.{and_parts}
+use Rattle.sdd_laws.proofs.lang.SortedEntries.{item_cmp_total, item_cmp_exact, sorted_nil}
+use Rattle.sdd_attempt.specs.exec.Choices.{Has}
+use Rattle.sdd_attempt.specs.exec.Serves.{IsRowOf}
+use Rattle.sdd_attempt.proofs.exec.Members.{Has-append, Has-map, Has-map_from, Has-filter, Has-filter_from, Has-flat_map, Has-flat_map_from, Has-filter_map, Has-filter_map_from}
+use Rattle.sdd_laws.specs.copy.Frozen.{CopyRows, chosen, with_keyed, rows_for, all_rows}
 use Rattle.sdd_attempt.specs.Acts.{with_frags, use_there}
 use Rattle.sdd_laws.specs.Committed.{entries_of}
 use Rattle.sdd_laws.proofs.Gathered.{gathered_from, gathered_there}

@@ -3,24 +3,24 @@ use Rattle.std.proofs.Common.{ℕ, ◌≡◌, ◌≢◌, ◌≤◌, ◌<◌, ◌
 use Rattle.std.specs.List.{AllByRecursion}
 use Rattle.std.proofs.lemmas.Bool.{cases_Bool}
 use Rattle.std.proofs.lemmas.Bool.Decides.{Decides-eqb}
-use Rattle.sdd_base.specs.Order.{column}
-use Rattle.sdd_base.specs.declared.value.Value.{Value}
-use Rattle.sdd_lang.specs.declared.condition.Ref.{Ref}
-use Rattle.sdd_lang.specs.declared.condition.Condition.{Condition}
-use Rattle.sdd_lang.specs.declared.condition.Condition.TheVariants.{Same}
-use Rattle.sdd_lang.specs.declared.statement.Stmt.{Stmt}
-use Rattle.sdd_lang.specs.declared.statement.Stmt.TheVariants.{Put, Query, Update, Delete}
-use Rattle.sdd_lang.specs.Condition.{Tuple, part_of, value_at, meets_all}
-use Rattle.sdd_lang.specs.Database.{Row, Database}
-use Rattle.sdd_lang.specs.Database as databases
-use Rattle.sdd_lang.specs.Fits.{IsFrom1To}
-use Rattle.sdd_lang.specs.Query.{product}
-use Rattle.sdd_lang.specs.Source.{uses_in}
-use Rattle.sdd_lang.specs.Uses.{restrictions_of}
-use Rattle.sdd_exec.specs.Serves.{IsRowOf}
-use Rattle.sdd_exec.specs.Choices.{Has}
-use Rattle.sdd_semijoin.specs.Steps.{Move}
-use Rattle.sdd_copy.specs.Frozen.{all_rows, reduced, is_among}
+use Rattle.sdd_laws.specs.base.Order.{column}
+use Rattle.sdd_laws.specs.base.declared.value.Value.{Value}
+use Rattle.sdd_laws.specs.lang.declared.condition.Ref.{Ref}
+use Rattle.sdd_laws.specs.lang.declared.condition.Condition.{Condition}
+use Rattle.sdd_laws.specs.lang.declared.condition.Condition.TheVariants.{Same}
+use Rattle.sdd_laws.specs.lang.declared.statement.Stmt.{Stmt}
+use Rattle.sdd_laws.specs.lang.declared.statement.Stmt.TheVariants.{Put, Query, Update, Delete}
+use Rattle.sdd_laws.specs.lang.Condition.{Tuple, part_of, value_at, meets_all}
+use Rattle.sdd_laws.specs.lang.Database.{Row, Database}
+use Rattle.sdd_laws.specs.lang.Database as databases
+use Rattle.sdd_laws.specs.lang.Fits.{IsFrom1To}
+use Rattle.sdd_laws.specs.lang.Query.{product}
+use Rattle.sdd_laws.specs.lang.Source.{uses_in}
+use Rattle.sdd_laws.specs.lang.Uses.{restrictions_of}
+use Rattle.sdd_attempt.specs.exec.Serves.{IsRowOf}
+use Rattle.sdd_attempt.specs.exec.Choices.{Has}
+use Rattle.sdd_attempt.specs.semijoin.Steps.{Move}
+use Rattle.sdd_laws.specs.copy.Frozen.{all_rows, reduced, is_among}
 use Rattle.sdd_attempt.specs.Exchange.{use_at}
 use Rattle.sdd_serving.specs.Reducing.{Space, IsHeldAt, IsMoveOf, IsMoveAlong}
 use Rattle.sdd_serving.proofs.Held.{reduced_from, stays_held}

@@ -1,8 +1,8 @@
 -- Between the two forms of membership.
 use Rattle.std.proofs.Common.{inl, inr, List, [], ◌∷◌, sym, subst}
 use Rattle.std.specs.List.{Contains}
-use Rattle.sdd_base.proofs.Membership.{Contains-nil, Contains-here, Contains-later, Contains-cases}
-use Rattle.sdd_exec.specs.Choices.{Has}
+use Rattle.sdd_laws.proofs.base.Membership.{Contains-nil, Contains-here, Contains-later, Contains-cases}
+use Rattle.sdd_attempt.specs.exec.Choices.{Has}
 
 pub to_has : {A : Type 0} (xs : List A) (x : A) → Contains xs x → Has xs x
 to_has [] x h = Contains-nil x h

@@ -1,20 +1,20 @@
 -- The whole exchange: from the copies at the modules' Answers to rows that serve the database which has them.
 use Rattle.std.proofs.Common.{ℕ, ◌≡◌, ◌==◌, ◌||◌, inl, inr, true, false, List, [], ◌∷◌, refl, ap, ◌∙◌}
 use Rattle.std.proofs.lemmas.Bool.Decides.{Decides-eqb}
-use Rattle.sdd_base.specs.declared.usage.Use.{Use}
-use Rattle.sdd_catalog.specs.Catalogue.{Catalogue}
-use Rattle.sdd_catalog.specs.Rules.{IsSound}
-use Rattle.sdd_lang.specs.declared.transaction.Txn.{Txn}
-use Rattle.sdd_lang.specs.Database.{Row, Database}
-use Rattle.sdd_lang.specs.Effect.{effect}
-use Rattle.sdd_lang.specs.Fits.{Fits}
-use Rattle.sdd_lang.specs.Source.{effect_over}
-use Rattle.sdd_exec.specs.Choices.{Has}
-use Rattle.sdd_exec.specs.Serves.{Serves}
-use Rattle.sdd_exec.specs.Snapshots.{found_for, chosen_for}
-use Rattle.sdd_exec.proofs.Members.{Has-map_from}
-use Rattle.sdd_exec.proofs.Serving.{served_effect}
-use Rattle.sdd_copy.specs.Frozen.{CopyRows, rows_for, all_rows}
+use Rattle.sdd_laws.specs.base.declared.usage.Use.{Use}
+use Rattle.sdd_laws.specs.catalog.Catalogue.{Catalogue}
+use Rattle.sdd_laws.specs.catalog.Rules.{IsSound}
+use Rattle.sdd_laws.specs.lang.declared.transaction.Txn.{Txn}
+use Rattle.sdd_laws.specs.lang.Database.{Row, Database}
+use Rattle.sdd_laws.specs.lang.Effect.{effect}
+use Rattle.sdd_laws.specs.lang.Fits.{Fits}
+use Rattle.sdd_laws.specs.lang.Source.{effect_over}
+use Rattle.sdd_attempt.specs.exec.Choices.{Has}
+use Rattle.sdd_attempt.specs.exec.Serves.{Serves}
+use Rattle.sdd_attempt.specs.exec.Snapshots.{found_for, chosen_for}
+use Rattle.sdd_attempt.proofs.exec.Members.{Has-map_from}
+use Rattle.sdd_attempt.proofs.exec.Serving.{served_effect}
+use Rattle.sdd_laws.specs.copy.Frozen.{CopyRows, rows_for, all_rows}
 use Rattle.sdd_serving.specs.Freezing.{uses_at, names_use, asked_at, frozen_space, HasCopies}
 use Rattle.sdd_serving.specs.Reducing.{Space, all_held}
 use Rattle.sdd_serving.specs.Runs.{Stage, Runs}

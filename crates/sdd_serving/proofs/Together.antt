@@ -5,22 +5,22 @@ use Rattle.std.specs.List.{Contains}
 use Rattle.std.specs.List.Sorted.{IsStrictlySortedBy}
 use Rattle.std.specs.Map.{keys_of}
 use Rattle.std.proofs.lemmas.Bool.Decides.{Decides-eqb}
-use Rattle.sdd_base.specs.declared.number.FragNo.{FragNo}
-use Rattle.sdd_base.specs.declared.usage.Use.{Use}
-use Rattle.sdd_catalog.specs.Catalogue.{Catalogue, fragment_of, reads_at}
-use Rattle.sdd_protocol.specs.Conditions.{is_read_at}
-use Rattle.sdd_lang.specs.declared.transaction.Txn.{Txn}
-use Rattle.sdd_lang.specs.Database.{Item, Row, Database, item_cmp}
-use Rattle.sdd_lang.specs.Sound.{IsDatabase}
-use Rattle.sdd_lang.specs.Uses.{uses_of}
-use Rattle.sdd_lang.proofs.SortedEntries.{sorted_nil}
-use Rattle.sdd_copy.specs.Contents.{Dated, contents}
-use Rattle.sdd_exec.specs.Choices.{Has}
+use Rattle.sdd_laws.specs.base.declared.number.FragNo.{FragNo}
+use Rattle.sdd_laws.specs.base.declared.usage.Use.{Use}
+use Rattle.sdd_laws.specs.catalog.Catalogue.{Catalogue, fragment_of, reads_at}
+use Rattle.sdd_laws.specs.protocol.Conditions.{is_read_at}
+use Rattle.sdd_laws.specs.lang.declared.transaction.Txn.{Txn}
+use Rattle.sdd_laws.specs.lang.Database.{Item, Row, Database, item_cmp}
+use Rattle.sdd_laws.specs.lang.Sound.{IsDatabase}
+use Rattle.sdd_laws.specs.lang.Uses.{uses_of}
+use Rattle.sdd_laws.proofs.lang.SortedEntries.{sorted_nil}
+use Rattle.sdd_laws.specs.copy.Contents.{Dated, contents}
+use Rattle.sdd_attempt.specs.exec.Choices.{Has}
 use Rattle.sdd_laws.specs.Committed.{entries_of}
 use Rattle.sdd_laws.specs.Values.{ArePlaced}
 use Rattle.sdd_laws.proofs.CopyEntries.{entries_ascend, lies_there}
 use Rattle.sdd_laws.proofs.Together.{together, has_copy}
-use Rattle.sdd_base.proofs.Membership.{Contains-nil}
+use Rattle.sdd_laws.proofs.base.Membership.{Contains-nil}
 use Rattle.sdd_serving.specs.Freezing.{HasCopies}
 
 -- a use of the transaction is of the fragment

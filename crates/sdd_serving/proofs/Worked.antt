@@ -3,24 +3,24 @@
 use Rattle.std.proofs.Common.{ℕ, ◌≡◌, ◌≢◌, ◌==◌, inl, inr, pos, true, false, cond, List, [], ◌∷◌, refl, ap, sym, subst, lit≤}
 use Rattle.std.proofs.lemmas.Bool.Decides.{Decides-eqb}
 use Rattle.std.proofs.lemmas.List.Elements.{All-from_recursion}
-use Rattle.sdd_base.specs.Numbers.{frag_no}
-use Rattle.sdd_base.specs.declared.number.FragNo.{FragNo}
-use Rattle.sdd_base.specs.declared.usage.Use.{Use}
-use Rattle.sdd_base.specs.declared.value.Value.{Value}
-use Rattle.sdd_base.specs.declared.value.Value.TheVariants.{Int}
-use Rattle.sdd_protocol.specs.Conditions.{is_read_at}
-use Rattle.sdd_lang.specs.declared.condition.Condition.{Condition}
-use Rattle.sdd_lang.specs.declared.condition.Condition.TheVariants.{Same}
-use Rattle.sdd_lang.specs.declared.statement.Stmt.TheVariants.{Query}
-use Rattle.sdd_lang.specs.declared.transaction.Txn.{Txn}
-use Rattle.sdd_lang.specs.Agree.{rows_in_fragment}
-use Rattle.sdd_lang.specs.Database.{Row, Database, item_cmp}
-use Rattle.sdd_lang.specs.Examples.{rel, ref, two, accounts, txn}
-use Rattle.sdd_lang.specs.Sound.{IsDatabase, IsEntry}
-use Rattle.sdd_lang.specs.Uses.{uses_of}
-use Rattle.sdd_exec.specs.Choices.{Has}
-use Rattle.sdd_semijoin.specs.Steps.{Move}
-use Rattle.sdd_copy.specs.Frozen.{CopyRows, reduced, rows_of, values_in}
+use Rattle.sdd_laws.specs.base.Numbers.{frag_no}
+use Rattle.sdd_laws.specs.base.declared.number.FragNo.{FragNo}
+use Rattle.sdd_laws.specs.base.declared.usage.Use.{Use}
+use Rattle.sdd_laws.specs.base.declared.value.Value.{Value}
+use Rattle.sdd_laws.specs.base.declared.value.Value.TheVariants.{Int}
+use Rattle.sdd_laws.specs.protocol.Conditions.{is_read_at}
+use Rattle.sdd_laws.specs.lang.declared.condition.Condition.{Condition}
+use Rattle.sdd_laws.specs.lang.declared.condition.Condition.TheVariants.{Same}
+use Rattle.sdd_laws.specs.lang.declared.statement.Stmt.TheVariants.{Query}
+use Rattle.sdd_laws.specs.lang.declared.transaction.Txn.{Txn}
+use Rattle.sdd_laws.specs.lang.Agree.{rows_in_fragment}
+use Rattle.sdd_laws.specs.lang.Database.{Row, Database, item_cmp}
+use Rattle.sdd_laws.specs.lang.Examples.{rel, ref, two, accounts, txn}
+use Rattle.sdd_laws.specs.lang.Sound.{IsDatabase, IsEntry}
+use Rattle.sdd_laws.specs.lang.Uses.{uses_of}
+use Rattle.sdd_attempt.specs.exec.Choices.{Has}
+use Rattle.sdd_attempt.specs.semijoin.Steps.{Move}
+use Rattle.sdd_laws.specs.copy.Frozen.{CopyRows, reduced, rows_of, values_in}
 use Rattle.sdd_laws.specs.Committed.{entries_of}
 use Rattle.sdd_laws.proofs.LookUps.{sorted_nil, sorted_cons}
 use Rattle.sdd_serving.specs.Freezing.{asked_at, frozen_space, HasCopies}

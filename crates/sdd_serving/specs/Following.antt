@@ -1,11 +1,11 @@
 -- The exchange of an attempt follows a run.
 use Rattle.std.specs.Prelude.{ℕ, ◌==◌, ◌≡◌, Bool, true, ◌&&◌, List}
-use Rattle.sdd_base.specs.declared.value.Value.{Value}
-use Rattle.sdd_lang.specs.declared.statement.Stmt.{Stmt}
-use Rattle.sdd_exec.specs.Choices.{Has}
-use Rattle.sdd_semijoin.specs.Steps.{Move}
-use Rattle.sdd_wire.specs.declared.msg.Msg.{Msg}
-use Rattle.sdd_wire.specs.declared.msg.Msg.TheVariants.{Ready, Values, Reduced, Rows}
+use Rattle.sdd_laws.specs.base.declared.value.Value.{Value}
+use Rattle.sdd_laws.specs.lang.declared.statement.Stmt.{Stmt}
+use Rattle.sdd_attempt.specs.exec.Choices.{Has}
+use Rattle.sdd_attempt.specs.semijoin.Steps.{Move}
+use Rattle.sdd_attempt.specs.wire.declared.msg.Msg.{Msg}
+use Rattle.sdd_attempt.specs.wire.declared.msg.Msg.TheVariants.{Ready, Values, Reduced, Rows}
 use Rattle.sdd_attempt.specs.Exchange.{Phase, Exchange, Asking, askings, with_use}
 use Rattle.sdd_attempt.specs.Exchange.Phase.{Reading, Fetching, Reducing as Cutting, Shipping, Over}
 use Rattle.sdd_serving.specs.Reducing.{Space, TellsAll}

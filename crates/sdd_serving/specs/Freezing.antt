@@ -1,17 +1,17 @@
 -- What the modules of an attempt freeze, of the copies that they have at its Answers.
 use Rattle.std.specs.Prelude.{ℕ, ◌==◌, ◌≡◌, Bool, true, List, filter_map}
 use Rattle.std.specs.List.{list_any}
-use Rattle.sdd_base.specs.declared.number.FragNo.{FragNo}
-use Rattle.sdd_base.specs.declared.usage.Use.{Use}
-use Rattle.sdd_catalog.specs.Catalogue.{Catalogue}
-use Rattle.sdd_protocol.specs.Conditions.{is_read_at}
-use Rattle.sdd_lang.specs.declared.transaction.Txn.{Txn}
-use Rattle.sdd_lang.specs.Agree.{rows_in_fragment}
-use Rattle.sdd_lang.specs.Database.{Database}
-use Rattle.sdd_lang.specs.Sound.{IsDatabase}
-use Rattle.sdd_lang.specs.Uses.{uses_of}
-use Rattle.sdd_exec.specs.Choices.{Has}
-use Rattle.sdd_copy.specs.Frozen.{CopyRows, frozen_for}
+use Rattle.sdd_laws.specs.base.declared.number.FragNo.{FragNo}
+use Rattle.sdd_laws.specs.base.declared.usage.Use.{Use}
+use Rattle.sdd_laws.specs.catalog.Catalogue.{Catalogue}
+use Rattle.sdd_laws.specs.protocol.Conditions.{is_read_at}
+use Rattle.sdd_laws.specs.lang.declared.transaction.Txn.{Txn}
+use Rattle.sdd_laws.specs.lang.Agree.{rows_in_fragment}
+use Rattle.sdd_laws.specs.lang.Database.{Database}
+use Rattle.sdd_laws.specs.lang.Sound.{IsDatabase}
+use Rattle.sdd_laws.specs.lang.Uses.{uses_of}
+use Rattle.sdd_attempt.specs.exec.Choices.{Has}
+use Rattle.sdd_laws.specs.copy.Frozen.{CopyRows, frozen_for}
 use Rattle.sdd_attempt.specs.Acts.{use_there}
 use Rattle.sdd_laws.specs.Committed.{entries_of}
 use Rattle.sdd_serving.specs.Reducing.{Space}

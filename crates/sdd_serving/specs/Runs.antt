@@ -1,13 +1,13 @@
 -- Runs of an exchange: for a move the modules that hold rows of its source tell their values, one after the other; once
 -- none lacks, modules of the target are reduced by all these values, in any order; then the next move may begin.
 use Rattle.std.specs.Prelude.{ℕ, ◌≡◌, ◌≢◌, Bool, true, List, []}
-use Rattle.sdd_base.specs.Order.{with_values}
-use Rattle.sdd_base.specs.Words.{is_empty}
-use Rattle.sdd_base.specs.declared.value.Value.{Value}
-use Rattle.sdd_lang.specs.declared.statement.Stmt.{Stmt}
-use Rattle.sdd_exec.specs.Choices.{Has}
-use Rattle.sdd_copy.specs.Frozen.{reduced}
-use Rattle.sdd_semijoin.specs.Steps.{Move}
+use Rattle.sdd_laws.specs.base.Order.{with_values}
+use Rattle.sdd_laws.specs.base.Words.{is_empty}
+use Rattle.sdd_laws.specs.base.declared.value.Value.{Value}
+use Rattle.sdd_laws.specs.lang.declared.statement.Stmt.{Stmt}
+use Rattle.sdd_attempt.specs.exec.Choices.{Has}
+use Rattle.sdd_laws.specs.copy.Frozen.{reduced}
+use Rattle.sdd_attempt.specs.semijoin.Steps.{Move}
 use Rattle.sdd_attempt.specs.Exchange.{without}
 use Rattle.sdd_serving.specs.Reducing.{Space, IsMoveAlong, TellsAll}
 

@@ -1,19 +1,19 @@
 //! Laws of the exchange: facts about the definitions, each carried by the contract of a function.
 //! A program has no need to call them.
 ghost use Rattle.std.specs.Prelude.{ℕ, ◌≡◌, ◌≢◌, Bool, List, map};
-ghost use Rattle.sdd_protocol.specs.declared.entry.Entry as table_line;
-ghost use Rattle.sdd_lang.specs.declared.statement.Stmt as statement;
-ghost use Rattle.sdd_lang.specs.Database.{Row, Database};
-ghost use Rattle.sdd_lang.specs.Effect.{effect};
-ghost use Rattle.sdd_lang.specs.Fits.{Fits};
-ghost use Rattle.sdd_lang.specs.Source.{effect_over};
-ghost use Rattle.sdd_lang.specs.Uses.{uses_of};
-ghost use Rattle.sdd_exec.specs.Choices.{Has};
-ghost use Rattle.sdd_exec.specs.Serves.{Serves};
-ghost use Rattle.sdd_exec.specs.Snapshots.{Shipped, found_for, chosen_for};
-ghost use Rattle.sdd_copy.specs.Frozen.{CopyRows, reduced};
-ghost use Rattle.sdd_semijoin.specs.Steps.{Move};
-ghost use Rattle.sdd_wire.specs.declared.msg.Msg as message;
+ghost use Rattle.sdd_laws.specs.protocol.declared.entry.Entry as table_line;
+ghost use Rattle.sdd_laws.specs.lang.declared.statement.Stmt as statement;
+ghost use Rattle.sdd_laws.specs.lang.Database.{Row, Database};
+ghost use Rattle.sdd_laws.specs.lang.Effect.{effect};
+ghost use Rattle.sdd_laws.specs.lang.Fits.{Fits};
+ghost use Rattle.sdd_laws.specs.lang.Source.{effect_over};
+ghost use Rattle.sdd_laws.specs.lang.Uses.{uses_of};
+ghost use Rattle.sdd_attempt.specs.exec.Choices.{Has};
+ghost use Rattle.sdd_attempt.specs.exec.Serves.{Serves};
+ghost use Rattle.sdd_attempt.specs.exec.Snapshots.{Shipped, found_for, chosen_for};
+ghost use Rattle.sdd_laws.specs.copy.Frozen.{CopyRows, reduced};
+ghost use Rattle.sdd_attempt.specs.semijoin.Steps.{Move};
+ghost use Rattle.sdd_attempt.specs.wire.declared.msg.Msg as message;
 ghost use Rattle.sdd_attempt.specs.Acts.{read_to};
 ghost use Rattle.sdd_attempt.specs.Exchange.{Exchange, begins, after_hand, after_send};
 ghost use Rattle.sdd_attempt.specs.Exchange.Phase.{Reducing};
@@ -23,8 +23,8 @@ ghost use Rattle.sdd_serving.specs.Freezing.{asked_at, frozen_space, HasCopies};
 ghost use Rattle.sdd_serving.specs.Reducing.{Space, all_held};
 ghost use Rattle.sdd_serving.specs.Runs.{Stage, Runs};
 
-use sdd_catalog::Catalogue;
-use sdd_lang::Txn;
+use sdd_laws::sdd_catalog::Catalogue;
+use sdd_laws::sdd_lang::Txn;
 
 /// What the modules of an attempt hold serves the database that has the copies which they froze,
 /// however far a run of the exchange has come.

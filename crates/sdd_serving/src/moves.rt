@@ -3,8 +3,8 @@ ghost use Rattle.sdd_serving.specs.Freezing.{names_use};
 ghost use Rattle.sdd_serving.specs.Reducing.{move_by};
 ghost use Rattle.sdd_serving.specs.Runs.{may_reduce};
 
-use sdd_base::{DmNo, Use};
-use sdd_lang::Ref;
+use sdd_laws::sdd_base::{DmNo, Use};
+use sdd_laws::sdd_lang::Ref;
 
 /// The column whose values reduce a use, by an equality of two columns: that of the other use.
 pub fn source_of(left: Ref, right: Ref, reduces_left: bool) -> Ref

@@ -2,28 +2,28 @@
 use Rattle.std.proofs.Common.{ℕ, suc, ◌+◌, ◌<◌, ◌≤◌, ◌==◌, ◌≡◌, Bool, true, false, not, ◌&&◌, ◌||◌, if◌then◌else◌, List, [], ◌∷◌, length, filter, Option, Some, None, refl, sym, ap, ◌∙◌, subst, arith, slice_get}
 use Rattle.std.specs.List.{list_all}
 use Rattle.std.proofs.lemmas.Option.{same_Some}
-use Rattle.sdd_base.specs.Words.{head_of, tail_of}
-use Rattle.sdd_base.specs.declared.condition.Cond.{Cond}
-use Rattle.sdd_base.specs.declared.change.Change.{Change}
-use Rattle.sdd_base.specs.declared.number.ClassNo.{ClassNo}
-use Rattle.sdd_base.specs.declared.number.DmNo.{DmNo}
-use Rattle.sdd_base.specs.declared.number.Ts.{Ts}
-use Rattle.sdd_base.specs.declared.number.TxnNo.{TxnNo}
-use Rattle.sdd_base.specs.declared.site.Site.{Site}
-use Rattle.sdd_base.specs.declared.usage.Use.{Use}
-use Rattle.sdd_history.specs.declared.record.Rec.{Rec}
-use Rattle.sdd_history.specs.declared.record.Rec.TheVariants.{Answer, Apply, Arrive, Pass, Reject as Rejected, Wait}
-use Rattle.sdd_wire.specs.declared.msg.Msg.{Msg}
-use Rattle.sdd_wire.specs.declared.msg.Msg.TheVariants.{Ask, Done, Fetch, Held, Hold, Null, Read, Ready, Reduce, Reduced, Reject, Release, Rows, Ship, Values, Write}
-use Rattle.sdd_module.specs.SiteLog.{Act, Did, Log, Records, Sends, Setting, answers_hand, sends_of_act}
-use Rattle.sdd_pipe.specs.Pipe.{head, head_processed}
-use Rattle.sdd_dm.specs.Copies.{classes_of}
-use Rattle.sdd_dm.specs.Due.{IsDue, act_by, act_where, answer_of, answer_to, by_head, by_open, head_due, is_held, is_met, judge, step_on}
-use Rattle.sdd_dm.specs.Opens.{Open, is_asked_of, is_read_of, opens}
-use Rattle.sdd_dm.specs.Pipes.{is_processing, is_wait, pipe, waits}
-use Rattle.sdd_dm.specs.Views.{ClassView, Home, View, class_view, home_of, view_of}
-use Rattle.sdd_dm.specs.declared.step.Step.{Step}
-use Rattle.sdd_dm.specs.declared.step.Step.TheVariants.{Processes, Refuses, Waits}
+use Rattle.sdd_invariants.specs.base.Words.{head_of, tail_of}
+use Rattle.sdd_invariants.specs.base.declared.condition.Cond.{Cond}
+use Rattle.sdd_invariants.specs.base.declared.change.Change.{Change}
+use Rattle.sdd_invariants.specs.base.declared.number.ClassNo.{ClassNo}
+use Rattle.sdd_invariants.specs.base.declared.number.DmNo.{DmNo}
+use Rattle.sdd_invariants.specs.base.declared.number.Ts.{Ts}
+use Rattle.sdd_invariants.specs.base.declared.number.TxnNo.{TxnNo}
+use Rattle.sdd_invariants.specs.base.declared.site.Site.{Site}
+use Rattle.sdd_invariants.specs.base.declared.usage.Use.{Use}
+use Rattle.sdd_invariants.specs.history.declared.record.Rec.{Rec}
+use Rattle.sdd_invariants.specs.history.declared.record.Rec.TheVariants.{Answer, Apply, Arrive, Pass, Reject as Rejected, Wait}
+use Rattle.sdd_invariants.specs.wire.declared.msg.Msg.{Msg}
+use Rattle.sdd_invariants.specs.wire.declared.msg.Msg.TheVariants.{Ask, Done, Fetch, Held, Hold, Null, Read, Ready, Reduce, Reduced, Reject, Release, Rows, Ship, Values, Write}
+use Rattle.sdd_invariants.specs.site_module.SiteLog.{Act, Did, Log, Records, Sends, Setting, answers_hand, sends_of_act}
+use Rattle.sdd_invariants.specs.pipe.Pipe.{head, head_processed}
+use Rattle.sdd_invariants.specs.dm.Copies.{classes_of}
+use Rattle.sdd_invariants.specs.dm.Due.{IsDue, act_by, act_where, answer_of, answer_to, by_head, by_open, head_due, is_held, is_met, judge, step_on}
+use Rattle.sdd_invariants.specs.dm.Opens.{Open, is_asked_of, is_read_of, opens}
+use Rattle.sdd_invariants.specs.dm.Pipes.{is_processing, is_wait, pipe, waits}
+use Rattle.sdd_invariants.specs.dm.Views.{ClassView, Home, View, class_view, home_of, view_of}
+use Rattle.sdd_invariants.specs.dm.declared.step.Step.{Step}
+use Rattle.sdd_invariants.specs.dm.declared.step.Step.TheVariants.{Processes, Refuses, Waits}
 use Rattle.sdd_invariants.proofs.Bools.{both, same_number}
 use Rattle.sdd_invariants.proofs.Lists.{in_filtered, in_mapped}
 use Rattle.sdd_termination.proofs.Sums.{by_class, filter_shorter, total, total_less, total_up}

@@ -2,20 +2,20 @@
 use Rattle.std.proofs.Common.{ℕ, suc, ◌+◌, ◌-◌, ◌<◌, ◌≤◌, ◌==◌, ◌≡◌, nat_lt, Bool, true, false, not, ◌&&◌, if◌then◌else◌, List, [], ◌∷◌, length, Option, Some, None, is_none, refl, sym, ap, subst, arith, slice_get}
 use Rattle.std.proofs.lemmas.Bool.{ltb-true}
 use Rattle.std.proofs.lemmas.Option.{same_Some}
-use Rattle.sdd_base.specs.Words.{head_of, or_else}
-use Rattle.sdd_base.specs.Numbers.{class_no, dm_no, time_at}
-use Rattle.sdd_base.specs.declared.site.Site.{Site}
-use Rattle.sdd_base.specs.declared.site.Site.TheVariants.{D, U}
-use Rattle.sdd_wire.specs.declared.msg.Msg.{Msg}
-use Rattle.sdd_wire.specs.declared.msg.Msg.TheVariants.{Held, Null}
-use Rattle.sdd_module.specs.SiteLog.{Act, Bases, Did, Each, Log, Sends, Setting, answers_hand, in_force}
-use Rattle.sdd_attempt.specs.Acts.{attempt_due, commit_act, start_act}
-use Rattle.sdd_attempt.specs.Attempts.{Attempt, active}
-use Rattle.sdd_attempt.specs.Clocks.{clock}
-use Rattle.sdd_attempt.specs.Exchange.{first_send, is_over}
-use Rattle.sdd_attempt.specs.Queues.{Queued, queue}
-use Rattle.sdd_tm.specs.Due.{IsDue, by_ask, by_exchange, by_hold, by_start, null_at, null_time, null_to, start_due, start_of}
-use Rattle.sdd_tm.specs.Views.{HoldCounts, Question, asks, class_view, holds, holds_acted, on_hold, runs, view_of}
+use Rattle.sdd_invariants.specs.base.Words.{head_of, or_else}
+use Rattle.sdd_invariants.specs.base.Numbers.{class_no, dm_no, time_at}
+use Rattle.sdd_invariants.specs.base.declared.site.Site.{Site}
+use Rattle.sdd_invariants.specs.base.declared.site.Site.TheVariants.{D, U}
+use Rattle.sdd_invariants.specs.wire.declared.msg.Msg.{Msg}
+use Rattle.sdd_invariants.specs.wire.declared.msg.Msg.TheVariants.{Held, Null}
+use Rattle.sdd_invariants.specs.site_module.SiteLog.{Act, Bases, Did, Each, Log, Sends, Setting, answers_hand, in_force}
+use Rattle.sdd_invariants.specs.attempt.Acts.{attempt_due, commit_act, start_act}
+use Rattle.sdd_invariants.specs.attempt.Attempts.{Attempt, active}
+use Rattle.sdd_invariants.specs.attempt.Clocks.{clock}
+use Rattle.sdd_invariants.specs.attempt.Exchange.{first_send, is_over}
+use Rattle.sdd_invariants.specs.attempt.Queues.{Queued, queue}
+use Rattle.sdd_invariants.specs.tm.Due.{IsDue, by_ask, by_exchange, by_hold, by_start, null_at, null_time, null_to, start_due, start_of}
+use Rattle.sdd_invariants.specs.tm.Views.{HoldCounts, Question, asks, class_view, holds, holds_acted, on_hold, runs, view_of}
 use Rattle.sdd_invariants.specs.Steps.{IsFair, IsNew, IsServed}
 use Rattle.sdd_invariants.proofs.Bools.{and_right, same_number}
 use Rattle.sdd_invariants.proofs.Exchanges.{asks_next}

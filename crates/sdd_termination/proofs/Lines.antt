@@ -1,17 +1,17 @@
 -- What the line of a class has left to do, once a site acts.
 use Rattle.std.proofs.Common.{ℕ, suc, ◌<◌, ◌≤◌, ◌==◌, ◌≡◌, true, false, not, if◌then◌else◌, List, [], ◌∷◌, length, filter, map, Option, Some, None, refl, sym, ap, subst, arith}
-use Rattle.sdd_base.specs.Words.{head_of, tail_of}
-use Rattle.sdd_base.specs.Clock.{Ticking, ticked, timestamp}
-use Rattle.sdd_base.specs.declared.site.Site.{Site}
-use Rattle.sdd_protocol.specs.declared.entry.Entry as line
-use Rattle.sdd_wire.specs.declared.msg.Msg.{Msg}
-use Rattle.sdd_module.specs.SiteLog.{Act, Bases, Did, Log, Sends, Setting, sends_of_act}
-use Rattle.sdd_attempt.specs.Acts.{commit_act, start_act}
-use Rattle.sdd_attempt.specs.Attempts.{Attempt, active, active_sent, asks_rows, started}
-use Rattle.sdd_attempt.specs.Exchange.{after_send, send_due}
-use Rattle.sdd_attempt.specs.Queues.{Queued, queue, tried}
-use Rattle.sdd_attempt.specs.Starts.{work_of}
-use Rattle.sdd_attempt.proofs.LineActs.{work_sent}
+use Rattle.sdd_invariants.specs.base.Words.{head_of, tail_of}
+use Rattle.sdd_invariants.specs.base.Clock.{Ticking, ticked, timestamp}
+use Rattle.sdd_invariants.specs.base.declared.site.Site.{Site}
+use Rattle.sdd_invariants.specs.protocol.declared.entry.Entry as line
+use Rattle.sdd_invariants.specs.wire.declared.msg.Msg.{Msg}
+use Rattle.sdd_invariants.specs.site_module.SiteLog.{Act, Bases, Did, Log, Sends, Setting, sends_of_act}
+use Rattle.sdd_invariants.specs.attempt.Acts.{commit_act, start_act}
+use Rattle.sdd_invariants.specs.attempt.Attempts.{Attempt, active, active_sent, asks_rows, started}
+use Rattle.sdd_invariants.specs.attempt.Exchange.{after_send, send_due}
+use Rattle.sdd_invariants.specs.attempt.Queues.{Queued, queue, tried}
+use Rattle.sdd_invariants.specs.attempt.Starts.{work_of}
+use Rattle.sdd_invariants.proofs.attempt.LineActs.{work_sent}
 use Rattle.sdd_invariants.specs.Steps.{IsServed}
 use Rattle.sdd_invariants.proofs.Bools.{same_number}
 use Rattle.sdd_termination.proofs.Sums.{filter_short}

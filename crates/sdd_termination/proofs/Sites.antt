@@ -1,28 +1,28 @@
 -- What all sites have left to do, and how many messages are left to be handed over.
 use Rattle.std.proofs.Common.{ℕ, suc, ◌-◌, ◌<◌, ◌≤◌, ◌≡◌, Bool, true, false, ◌&&◌, if◌then◌else◌, ◌∷◌, Option, Some, None, refl, sym, ap, ◌∙◌, subst, inl, inr, arith, slice_get}
 use Rattle.std.proofs.lemmas.Option.{same_Some}
-use Rattle.sdd_base.specs.Sites.{same_site, sites}
-use Rattle.sdd_base.specs.declared.site.Site.{Site}
-use Rattle.sdd_base.specs.declared.site.Site.TheVariants.{D, T, U}
-use Rattle.sdd_wire.specs.declared.msg.Msg.{Msg}
-use Rattle.sdd_module.specs.SiteLog.{Act, Did, Setting, sends_of_act}
-use Rattle.sdd_module.specs.SiteLog as site
-use Rattle.sdd_net.specs.Links.{delivered}
-use Rattle.sdd_net.proofs.Directions.{same_here, same_is}
-use Rattle.sdd_dm.specs.Views as dm_views
-use Rattle.sdd_tm.specs.Views as tm_views
-use Rattle.sdd_umod.specs.Views as um_views
-use Rattle.sdd_dm.proofs.ViewSteps as dm
-use Rattle.sdd_tm.proofs.ViewSteps as tm
-use Rattle.sdd_umod.proofs.ViewSteps as um
-use Rattle.sdd_log.specs.Due.{hand_number, hand_on, hand_with, next_at, next_number}
-use Rattle.sdd_log.specs.Entries.{Does, Entry, Given, Hand, Log}
-use Rattle.sdd_log.specs.Locals.{local_of, setting_of}
-use Rattle.sdd_log.specs.Permitted.{IsPermitted}
-use Rattle.sdd_log.specs.Snapshots.{base_of}
-use Rattle.sdd_log.specs.Traffic.{all_links, calls_of, handed, link_of, message_at, takes_part}
-use Rattle.sdd_log.proofs.Permitted.{number_is}
-use Rattle.sdd_log.proofs.Handing.{delivered_puts}
+use Rattle.sdd_invariants.specs.base.Sites.{same_site, sites}
+use Rattle.sdd_invariants.specs.base.declared.site.Site.{Site}
+use Rattle.sdd_invariants.specs.base.declared.site.Site.TheVariants.{D, T, U}
+use Rattle.sdd_invariants.specs.wire.declared.msg.Msg.{Msg}
+use Rattle.sdd_invariants.specs.site_module.SiteLog.{Act, Did, Setting, sends_of_act}
+use Rattle.sdd_invariants.specs.site_module.SiteLog as site
+use Rattle.sdd_invariants.specs.net.Links.{delivered}
+use Rattle.sdd_invariants.proofs.net.Directions.{same_here, same_is}
+use Rattle.sdd_invariants.specs.dm.Views as dm_views
+use Rattle.sdd_invariants.specs.tm.Views as tm_views
+use Rattle.sdd_invariants.specs.umod.Views as um_views
+use Rattle.sdd_invariants.proofs.dm.ViewSteps as dm
+use Rattle.sdd_invariants.proofs.tm.ViewSteps as tm
+use Rattle.sdd_invariants.proofs.umod.ViewSteps as um
+use Rattle.sdd_invariants.specs.logs.Due.{hand_number, hand_on, hand_with, next_at, next_number}
+use Rattle.sdd_invariants.specs.logs.Entries.{Does, Entry, Given, Hand, Log}
+use Rattle.sdd_invariants.specs.logs.Locals.{local_of, setting_of}
+use Rattle.sdd_invariants.specs.logs.Permitted.{IsPermitted}
+use Rattle.sdd_invariants.specs.logs.Snapshots.{base_of}
+use Rattle.sdd_invariants.specs.logs.Traffic.{all_links, calls_of, handed, link_of, message_at, takes_part}
+use Rattle.sdd_invariants.proofs.logs.Permitted.{number_is}
+use Rattle.sdd_invariants.proofs.logs.Handing.{delivered_puts}
 use Rattle.sdd_invariants.proofs.Bools.{and_left, and_right, true_or_false}
 use Rattle.sdd_invariants.proofs.Fair.{all_new, t_fair, u_fair}
 use Rattle.sdd_termination.proofs.AtD.{d_falls, d_work}

@@ -1,10 +1,10 @@
 -- That a run ends, and a settle.
 use Rattle.std.specs.Prelude.{◌≡◌, ◌⊎◌, true}
-use Rattle.sdd_base.specs.declared.event.Event.TheVariants.{Settle}
-use Rattle.sdd_net.specs.Links.{quiet}
-use Rattle.sdd_log.specs.Entries.{Given, Log, with_event}
-use Rattle.sdd_log.specs.Lawful.{EndsByLimit, IsTheLog}
-use Rattle.sdd_log.specs.Traffic.{all_links, calls_of}
+use Rattle.sdd_invariants.specs.base.declared.event.Event.TheVariants.{Settle}
+use Rattle.sdd_invariants.specs.net.Links.{quiet}
+use Rattle.sdd_invariants.specs.logs.Entries.{Given, Log, with_event}
+use Rattle.sdd_invariants.specs.logs.Lawful.{EndsByLimit, IsTheLog}
+use Rattle.sdd_invariants.specs.logs.Traffic.{all_links, calls_of}
 
 -- there is the log of what is given, or the limit ends it
 abbrev pub Ends : Given → Type 0

@@ -3,15 +3,15 @@ use Rattle.std.proofs.Common.{ℕ, suc, ◌+◌, ◌<◌, ◌≤◌, ◌^◌, �
 use Rattle.std.specs.Prelude.{slice_get, slice_set, option_map}
 use Rattle.std.specs.List.{AllByRecursion, filter, list_any, find}
 use Rattle.std.proofs.lemmas.Bool.{false≢true}
-use Rattle.sdd_base.specs.Words.{head_of, is_empty}
-use Rattle.sdd_base.specs.Numbers.{dm_no, class_no, time_at}
-use Rattle.sdd_base.specs.Clock.{Ticking, ticked, timestamp}
-use Rattle.sdd_base.specs.declared.site.Site.TheVariants.{D}
-use Rattle.sdd_protocol.specs.declared.entry.Entry as line
-use Rattle.sdd_wire.specs.declared.msg.Msg.{Msg}
-use Rattle.sdd_wire.specs.declared.msg.Msg.TheVariants.{Null}
-use Rattle.sdd_module.specs.SiteLog.{Setting, Bases, Log, Did, Act, Sends, in_force, hands, submits, sends_of_act}
-use Rattle.sdd_module.specs.Notes.{Notes, with_act, noted}
+use Rattle.sdd_attempt.specs.base.Words.{head_of, is_empty}
+use Rattle.sdd_attempt.specs.base.Numbers.{dm_no, class_no, time_at}
+use Rattle.sdd_attempt.specs.base.Clock.{Ticking, ticked, timestamp}
+use Rattle.sdd_attempt.specs.base.declared.site.Site.TheVariants.{D}
+use Rattle.sdd_attempt.specs.protocol.declared.entry.Entry as line
+use Rattle.sdd_attempt.specs.wire.declared.msg.Msg.{Msg}
+use Rattle.sdd_attempt.specs.wire.declared.msg.Msg.TheVariants.{Null}
+use Rattle.sdd_attempt.specs.site_module.SiteLog.{Setting, Bases, Log, Did, Act, Sends, in_force, hands, submits, sends_of_act}
+use Rattle.sdd_attempt.specs.site_module.Notes.{Notes, with_act, noted}
 use Rattle.sdd_attempt.specs.Clocks.{clock, ticked_by}
 use Rattle.sdd_attempt.specs.Queues.{Queued, queue, queue_after, tried}
 use Rattle.sdd_attempt.specs.Exchange.{begins, send_due}

@@ -2,14 +2,14 @@
 use Rattle.std.proofs.Common.{ℕ, ◌≡◌, ◌≢◌, true, false, not, List, [], ◌∷◌, map, refl, ap, sym, ◌∙◌, Option, Some, None}
 use Rattle.std.specs.Prelude.{slice_get, slice_set}
 use Rattle.std.specs.List.{filter}
-use Rattle.sdd_base.specs.Numbers.{dm_no, class_no, time_at}
-use Rattle.sdd_base.specs.Clock.{Ticking}
-use Rattle.sdd_base.specs.declared.site.Site.{Site}
-use Rattle.sdd_base.specs.declared.site.Site.TheVariants.{D}
-use Rattle.sdd_history.specs.declared.record.Rec.{Rec}
-use Rattle.sdd_wire.specs.declared.msg.Msg.{Msg}
-use Rattle.sdd_wire.specs.declared.msg.Msg.TheVariants.{Null, Held}
-use Rattle.sdd_module.specs.SiteLog.{Setting, Log, Did, Act, Records, Sends}
+use Rattle.sdd_attempt.specs.base.Numbers.{dm_no, class_no, time_at}
+use Rattle.sdd_attempt.specs.base.Clock.{Ticking}
+use Rattle.sdd_attempt.specs.base.declared.site.Site.{Site}
+use Rattle.sdd_attempt.specs.base.declared.site.Site.TheVariants.{D}
+use Rattle.sdd_attempt.specs.history.declared.record.Rec.{Rec}
+use Rattle.sdd_attempt.specs.wire.declared.msg.Msg.{Msg}
+use Rattle.sdd_attempt.specs.wire.declared.msg.Msg.TheVariants.{Null, Held}
+use Rattle.sdd_attempt.specs.site_module.SiteLog.{Setting, Log, Did, Act, Records, Sends}
 use Rattle.sdd_attempt.specs.Clocks.{clock, ticked_by}
 use Rattle.sdd_attempt.specs.Queues.{Queued, queue, queue_after}
 use Rattle.sdd_attempt.specs.Attempts.{Attempt, active, active_after, active_sent, asks_rows}

@@ -2,9 +2,9 @@
 use Rattle.std.proofs.Common.{ℕ, ◌≡◌, ◌≢◌, Bool, true, false, not, ◌&&◌, List, [], ◌∷◌, refl, ◌∙◌, subst, Option, Some, None, is_none}
 use Rattle.std.specs.Prelude.{slice_get, if◌then◌else◌}
 use Rattle.std.specs.List.{list_any}
-use Rattle.sdd_base.specs.Words.{or_else, first_some, head_of, is_empty}
-use Rattle.sdd_catalog.specs.Catalogue.{Catalogue}
-use Rattle.sdd_module.specs.SiteLog.{Setting, Bases, Log, Act}
+use Rattle.sdd_attempt.specs.base.Words.{or_else, first_some, head_of, is_empty}
+use Rattle.sdd_attempt.specs.catalog.Catalogue.{Catalogue}
+use Rattle.sdd_attempt.specs.site_module.SiteLog.{Setting, Bases, Log, Act}
 use Rattle.sdd_attempt.specs.Queues.{Queued, queue}
 use Rattle.sdd_attempt.specs.Attempts.{Attempt, active}
 use Rattle.sdd_attempt.specs.Acts.{attempt_due}

@@ -3,15 +3,15 @@ use Rattle.std.proofs.Common.{ℕ, zero, suc, ◌+◌, ◌<◌, ◌≤◌, ◌^�
 use Rattle.std.specs.Prelude.{slice_get, nat_lt, if◌then◌else◌}
 use Rattle.std.specs.List.{filter, range_with_len}
 use Rattle.std.proofs.lemmas.Bool.{and_right, ne_eqb, lt-ltb, le-ltb, ltb-true, ltb-false}
-use Rattle.sdd_base.specs.Sites.{number_of}
-use Rattle.sdd_base.specs.declared.limits.TheConstants.{MAX_CLASSES}
-use Rattle.sdd_base.specs.declared.number.ClassNo.{ClassNo}
-use Rattle.sdd_base.specs.declared.site.Site.{Site}
-use Rattle.sdd_base.specs.declared.site.Site.TheVariants.{U, T, D}
-use Rattle.sdd_catalog.specs.Catalogue.{class_at, numbers_to}
-use Rattle.sdd_wire.specs.declared.msg.Msg.{Msg}
-use Rattle.sdd_wire.specs.declared.msg.Msg.TheVariants.{Ready, Reject, Values, Reduced, Rows, Ask, Hold, Held, Release}
-use Rattle.sdd_module.specs.SiteLog.{Setting, Bases, Log, Handed, hands}
+use Rattle.sdd_attempt.specs.base.Sites.{number_of}
+use Rattle.sdd_attempt.specs.base.declared.limits.TheConstants.{MAX_CLASSES}
+use Rattle.sdd_attempt.specs.base.declared.number.ClassNo.{ClassNo}
+use Rattle.sdd_attempt.specs.base.declared.site.Site.{Site}
+use Rattle.sdd_attempt.specs.base.declared.site.Site.TheVariants.{U, T, D}
+use Rattle.sdd_attempt.specs.catalog.Catalogue.{class_at, numbers_to}
+use Rattle.sdd_attempt.specs.wire.declared.msg.Msg.{Msg}
+use Rattle.sdd_attempt.specs.wire.declared.msg.Msg.TheVariants.{Ready, Reject, Values, Reduced, Rows, Ask, Hold, Held, Release}
+use Rattle.sdd_attempt.specs.site_module.SiteLog.{Setting, Bases, Log, Handed, hands}
 use Rattle.sdd_attempt.specs.Clocks.{clock, pushed_by}
 use Rattle.sdd_attempt.specs.Exchange.{Phase, Exchange, after_hand}
 use Rattle.sdd_attempt.specs.Attempts.{Attempt, active, active_handed, rejects}

@@ -1,12 +1,12 @@
 -- A class that was lent by its place.
 use Rattle.std.proofs.Common.{ℕ, zero, suc, ◌≡◌, Bool, List, [], ◌∷◌, ◌∙◌, subst, Some}
 use Rattle.std.specs.Prelude.{slice_get, slice_index_or, OnOk, Result, Ok, Err}
-use Rattle.sdd_base.specs.Clock.{Ticking}
-use Rattle.sdd_catalog.specs.Catalogue.{Catalogue}
-use Rattle.sdd_protocol.specs.declared.entry.Entry as line
-use Rattle.sdd_lang.specs.Sound.{IsDatabase}
-use Rattle.sdd_module.specs.SiteLog.{Bases}
-use Rattle.sdd_module.specs.Notes.{Notes, noted}
+use Rattle.sdd_attempt.specs.base.Clock.{Ticking}
+use Rattle.sdd_attempt.specs.catalog.Catalogue.{Catalogue}
+use Rattle.sdd_attempt.specs.protocol.declared.entry.Entry as line
+use Rattle.sdd_attempt.specs.lang.Sound.{IsDatabase}
+use Rattle.sdd_attempt.specs.site_module.SiteLog.{Bases}
+use Rattle.sdd_attempt.specs.site_module.Notes.{Notes, noted}
 use Rattle.sdd_attempt.specs.Lines.{ServesAt}
 use Rattle.sdd_tm.specs.declared.step.Step.{Step}
 use Rattle.sdd_tm.specs.declared.step.Step.TheVariants.{Commit}

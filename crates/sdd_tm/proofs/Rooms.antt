@@ -1,7 +1,7 @@
 -- How many transactions of a module may start before the next message.
 use Rattle.std.proofs.Common.{ℕ, zero, suc, ◌+◌, ◌*◌, ◌≤◌, ◌^◌, ◌≡◌, List, [], ◌∷◌, map, length, refl, ap, arith, Some}
 use Rattle.std.specs.Prelude.{slice_get, slice_set}
-use Rattle.sdd_module.specs.SiteLog.{Setting, Log, submits}
+use Rattle.sdd_attempt.specs.site_module.SiteLog.{Setting, Log, submits}
 use Rattle.sdd_attempt.specs.Queues.{queue}
 use Rattle.sdd_attempt.specs.Attempts.{active}
 use Rattle.sdd_attempt.specs.Sound.{IsLineOf}

@@ -1,9 +1,9 @@
 -- The loop over the classes of a module: what each step asks for, and what it leaves.
 use Rattle.std.proofs.Common.{ℕ, zero, suc, ◌+◌, ◌<◌, ◌≤◌, ◌≡◌, Bool, List, [], ◌∷◌, length, refl, ap, sym, ◌∙◌, subst, arith, Option, Some, None}
 use Rattle.std.specs.Prelude.{slice_get, slice_set}
-use Rattle.sdd_lang.specs.Sound.{IsDatabase}
-use Rattle.sdd_module.specs.SiteLog.{Setting, Bases, Log}
-use Rattle.sdd_module.specs.Notes.{Notes, noted}
+use Rattle.sdd_attempt.specs.lang.Sound.{IsDatabase}
+use Rattle.sdd_attempt.specs.site_module.SiteLog.{Setting, Bases, Log}
+use Rattle.sdd_attempt.specs.site_module.Notes.{Notes, noted}
 use Rattle.sdd_attempt.specs.Clocks.{clock}
 use Rattle.sdd_attempt.specs.Lines.{AreTried, ServesAt, line_step}
 use Rattle.sdd_attempt.specs.declared.step.LineStep.TheVariants.{Commits as ToCommit}

@@ -3,12 +3,12 @@ use Rattle.std.proofs.Common.{ℕ, zero, suc, ◌<◌, ◌≡◌, ◌==◌, Bool
 use Rattle.std.specs.Prelude.{slice_get, slice_set, option_map}
 use Rattle.std.specs.List.{filter, list_any}
 use Rattle.std.proofs.lemmas.Bool.{false≢true}
-use Rattle.sdd_base.specs.Words.{head_of}
-use Rattle.sdd_base.specs.Numbers.{class_no, time_at}
-use Rattle.sdd_base.specs.Clock.{Ticking, ticked, timestamp}
-use Rattle.sdd_base.specs.declared.site.Site.{Site}
-use Rattle.sdd_wire.specs.declared.msg.Msg.TheVariants.{Null}
-use Rattle.sdd_module.specs.SiteLog.{Setting, Bases, Log, Act, Sends, in_force, sends_of_act}
+use Rattle.sdd_attempt.specs.base.Words.{head_of}
+use Rattle.sdd_attempt.specs.base.Numbers.{class_no, time_at}
+use Rattle.sdd_attempt.specs.base.Clock.{Ticking, ticked, timestamp}
+use Rattle.sdd_attempt.specs.base.declared.site.Site.{Site}
+use Rattle.sdd_attempt.specs.wire.declared.msg.Msg.TheVariants.{Null}
+use Rattle.sdd_attempt.specs.site_module.SiteLog.{Setting, Bases, Log, Act, Sends, in_force, sends_of_act}
 use Rattle.sdd_attempt.specs.Clocks.{clock}
 use Rattle.sdd_attempt.specs.Queues.{Queued, queue, queue_after, tried}
 use Rattle.sdd_attempt.specs.Exchange.{begins}

@@ -1,12 +1,12 @@
 -- For which logs a transaction module stands, and what holds between the acts of a call.
 use Rattle.std.specs.Prelude.{ℕ, suc, ◌+◌, ◌<◌, ◌≤◌, ◌^◌, ◌≡◌, ◌≢◌, IsTrue, List, [], ◌∷◌, slice_get, Some, None}
 use Rattle.std.specs.List.{AllByRecursion}
-use Rattle.sdd_base.specs.Kept.{Kept}
-use Rattle.sdd_catalog.specs.Rules as catalogues
-use Rattle.sdd_catalog.specs.Numbers.{IsWhole}
+use Rattle.sdd_attempt.specs.base.Kept.{Kept}
+use Rattle.sdd_attempt.specs.catalog.Rules as catalogues
+use Rattle.sdd_attempt.specs.catalog.Numbers.{IsWhole}
 use Rattle.sdd_eras.specs.EraOf.{IsEraOf}
-use Rattle.sdd_lang.specs.Sound.{IsDatabase}
-use Rattle.sdd_module.specs.SiteLog.{Setting, Bases, Log, in_force, hands}
+use Rattle.sdd_attempt.specs.lang.Sound.{IsDatabase}
+use Rattle.sdd_attempt.specs.site_module.SiteLog.{Setting, Bases, Log, in_force, hands}
 use Rattle.sdd_attempt.specs.Attempts.{active}
 use Rattle.sdd_attempt.specs.Sound.{IsLineOf, AreStamped, IsServed}
 use Rattle.sdd_attempt.specs.Starts.{starts_left}

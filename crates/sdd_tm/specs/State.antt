@@ -1,8 +1,8 @@
 -- What a transaction module keeps of its log: all that its acts rest on, but the numbers of hands.
 use Rattle.std.specs.Prelude.{ℕ, ◌==◌, nat_lt, Bool, List, map, filter}
-use Rattle.sdd_base.specs.Numbers.{time_at}
-use Rattle.sdd_base.specs.Clock.{Ticking}
-use Rattle.sdd_module.specs.SiteLog.{Setting, Force, Log, in_force}
+use Rattle.sdd_attempt.specs.base.Numbers.{time_at}
+use Rattle.sdd_attempt.specs.base.Clock.{Ticking}
+use Rattle.sdd_attempt.specs.site_module.SiteLog.{Setting, Force, Log, in_force}
 use Rattle.sdd_attempt.specs.Clocks.{clock}
 use Rattle.sdd_attempt.specs.Queues.{queue}
 use Rattle.sdd_attempt.specs.Attempts.{active}

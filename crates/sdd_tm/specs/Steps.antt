@@ -1,13 +1,13 @@
 -- What the classes of a transaction module do next by themselves, and what becomes of them.
 use Rattle.std.specs.Prelude.{ℕ, nat_le, Bool, true, false, not, ◌&&◌, cond, if◌then◌else◌, List, [], ◌∷◌, is_none, slice_set, Option, Some, None, option_map}
 use Rattle.std.specs.List.{list_any, list_all, find}
-use Rattle.sdd_base.specs.Words.{or_else, is_empty}
-use Rattle.sdd_base.specs.Numbers.{class_no, time_at}
-use Rattle.sdd_base.specs.Clock.{Ticking, bound_of}
-use Rattle.sdd_base.specs.declared.site.Site.TheVariants.{U}
-use Rattle.sdd_protocol.specs.declared.entry.Entry as line
-use Rattle.sdd_wire.specs.declared.msg.Msg.TheVariants.{Null, Held}
-use Rattle.sdd_module.specs.SiteLog.{Bases, Act, Sends}
+use Rattle.sdd_attempt.specs.base.Words.{or_else, is_empty}
+use Rattle.sdd_attempt.specs.base.Numbers.{class_no, time_at}
+use Rattle.sdd_attempt.specs.base.Clock.{Ticking, bound_of}
+use Rattle.sdd_attempt.specs.base.declared.site.Site.TheVariants.{U}
+use Rattle.sdd_attempt.specs.protocol.declared.entry.Entry as line
+use Rattle.sdd_attempt.specs.wire.declared.msg.Msg.TheVariants.{Null, Held}
+use Rattle.sdd_attempt.specs.site_module.SiteLog.{Bases, Act, Sends}
 use Rattle.sdd_attempt.specs.Attempts.{Attempt}
 use Rattle.sdd_attempt.specs.Lines.{Line, line_done, clock_done, send_next, commit_next, start_next, line_step}
 use Rattle.sdd_attempt.specs.declared.step.LineStep.{LineStep}

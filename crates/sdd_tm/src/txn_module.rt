@@ -1,9 +1,9 @@
 ghost use Rattle.std.specs.Prelude.{◌≡◌, ◌∷◌, [], ◌+◌, ◌/◌, ◌<◌, ◌^◌, List, map, IfOk, OnErr, IsTrue};
-ghost use Rattle.sdd_base.specs.Clock.{bound_of};
-ghost use Rattle.sdd_base.specs.declared.site.Site.TheVariants.{T};
-ghost use Rattle.sdd_history.specs.declared.record.Rec.{Rec as Record};
-ghost use Rattle.sdd_history.specs.declared.record.Rec.TheVariants.{Submit};
-ghost use Rattle.sdd_module.specs.SiteLog.{Setting, Bases, Log, Redeclared, Submits, Ticked, Does};
+ghost use Rattle.sdd_attempt.specs.base.Clock.{bound_of};
+ghost use Rattle.sdd_attempt.specs.base.declared.site.Site.TheVariants.{T};
+ghost use Rattle.sdd_attempt.specs.history.declared.record.Rec.{Rec as Record};
+ghost use Rattle.sdd_attempt.specs.history.declared.record.Rec.TheVariants.{Submit};
+ghost use Rattle.sdd_attempt.specs.site_module.SiteLog.{Setting, Bases, Log, Redeclared, Submits, Ticked, Does};
 ghost use Rattle.sdd_eras.specs.EraOf.{IsEraOf};
 ghost use Rattle.sdd_attempt.specs.Clocks.{clock};
 ghost use Rattle.sdd_attempt.specs.Fits.{FitsSite};
@@ -15,13 +15,13 @@ ghost use Rattle.sdd_tm.specs.Stands.{Stands};
 
 use crate::parts::Parts;
 use sdd_attempt::Standing;
-use sdd_base::{NoMemory, Site, TmNo, Ts, TxnNo};
-use sdd_catalog::Catalogue;
-use sdd_history::Rec;
-use sdd_lang::Txn;
-use sdd_module::Module;
-use sdd_protocol::Table;
-use sdd_wire::{Msg, Outcome};
+use sdd_attempt::sdd_base::{NoMemory, Site, TmNo, Ts, TxnNo};
+use sdd_attempt::sdd_catalog::Catalogue;
+use sdd_attempt::sdd_history::Rec;
+use sdd_attempt::sdd_lang::Txn;
+use sdd_attempt::sdd_module::Module;
+use sdd_attempt::sdd_protocol::Table;
+use sdd_attempt::sdd_wire::{Msg, Outcome};
 use std::alloc::Global;
 use std::marker::Model;
 
@@ -33,7 +33,7 @@ pub struct TxnModule<'a> {
 }
 
 impl<'a> Model for TxnModule<'a> {
-    ghost use Rattle.sdd_base.specs.Kept.{Kept};
+    ghost use Rattle.sdd_attempt.specs.base.Kept.{Kept};
     ghost use Rattle.sdd_tm.specs.State.{State};
 
     ghost Value = { Kept State };

@@ -3,19 +3,19 @@ use Rattle.std.proofs.Common.{ℕ, zero, suc, ◌+◌, ◌<◌, ◌≤◌, ◌^�
 use Rattle.std.specs.Prelude.{find, if◌then◌else◌, option_map}
 use Rattle.std.specs.List.{filter, filter_map, range_with_len}
 use Rattle.std.proofs.lemmas.Bool.{ltb-true, eqb-true, false≢true}
-use Rattle.sdd_base.specs.Words.{head_of, ascending}
-use Rattle.sdd_base.specs.Numbers.{time_at}
-use Rattle.sdd_base.specs.Clock.{Ticking, ticked, timestamp}
-use Rattle.sdd_base.specs.declared.site.Site.{Site}
-use Rattle.sdd_base.specs.declared.site.Site.TheVariants.{T}
-use Rattle.sdd_catalog.specs.Catalogue.{numbers_to}
-use Rattle.sdd_catalog.specs.Numbers.{IsWhole}
-use Rattle.sdd_lang.specs.Classes.{fragments_in}
-use Rattle.sdd_lang.specs.Uses.{uses_of}
-use Rattle.sdd_wire.specs.declared.msg.Msg.{Msg}
-use Rattle.sdd_wire.specs.declared.msg.Msg.TheVariants as messages
-use Rattle.sdd_module.specs.SiteLog.{Setting, Bases, Log, Did, Act, Sends, sends_of_act}
-use Rattle.sdd_module.specs.Notes.{Notes, with_act, noted}
+use Rattle.sdd_attempt.specs.base.Words.{head_of, ascending}
+use Rattle.sdd_attempt.specs.base.Numbers.{time_at}
+use Rattle.sdd_attempt.specs.base.Clock.{Ticking, ticked, timestamp}
+use Rattle.sdd_attempt.specs.base.declared.site.Site.{Site}
+use Rattle.sdd_attempt.specs.base.declared.site.Site.TheVariants.{T}
+use Rattle.sdd_attempt.specs.catalog.Catalogue.{numbers_to}
+use Rattle.sdd_attempt.specs.catalog.Numbers.{IsWhole}
+use Rattle.sdd_attempt.specs.lang.Classes.{fragments_in}
+use Rattle.sdd_attempt.specs.lang.Uses.{uses_of}
+use Rattle.sdd_attempt.specs.wire.declared.msg.Msg.{Msg}
+use Rattle.sdd_attempt.specs.wire.declared.msg.Msg.TheVariants as messages
+use Rattle.sdd_attempt.specs.site_module.SiteLog.{Setting, Bases, Log, Did, Act, Sends, sends_of_act}
+use Rattle.sdd_attempt.specs.site_module.Notes.{Notes, with_act, noted}
 use Rattle.sdd_attempt.specs.Clocks.{clock}
 use Rattle.sdd_attempt.specs.Queues.{Queued, queue, queue_after, tried}
 use Rattle.sdd_attempt.specs.Exchange.{after_send, begins, first_phase, module_read, is_over}

@@ -1,12 +1,12 @@
 -- What the module keeps of the log after each act is what its step leaves.
 use Rattle.std.proofs.Common.{ℕ, ◌≡◌, List, [], ◌∷◌, map, refl, ap, sym, ◌∙◌, Option, Some, None}
-use Rattle.sdd_base.specs.Numbers.{dm_no, time_at}
-use Rattle.sdd_base.specs.declared.site.Site.TheVariants.{T, D}
-use Rattle.sdd_base.specs.declared.number.TmNo.{TmNo}
-use Rattle.sdd_catalog.specs.Catalogue.{numbers_to}
-use Rattle.sdd_wire.specs.declared.msg.Msg.TheVariants as messages
-use Rattle.sdd_module.specs.SiteLog.{Setting, Bases, Log, Did, Act, Sends}
-use Rattle.sdd_module.proofs.Finding.{map_twice}
+use Rattle.sdd_attempt.specs.base.Numbers.{dm_no, time_at}
+use Rattle.sdd_attempt.specs.base.declared.site.Site.TheVariants.{T, D}
+use Rattle.sdd_attempt.specs.base.declared.number.TmNo.{TmNo}
+use Rattle.sdd_attempt.specs.catalog.Catalogue.{numbers_to}
+use Rattle.sdd_attempt.specs.wire.declared.msg.Msg.TheVariants as messages
+use Rattle.sdd_attempt.specs.site_module.SiteLog.{Setting, Bases, Log, Did, Act, Sends}
+use Rattle.sdd_attempt.proofs.site_module.Finding.{map_twice}
 use Rattle.sdd_attempt.specs.Clocks.{clock}
 use Rattle.sdd_attempt.specs.Queues.{Queued}
 use Rattle.sdd_attempt.specs.Attempts.{Attempt, active}

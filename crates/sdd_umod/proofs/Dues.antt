@@ -3,13 +3,13 @@ use Rattle.std.proofs.Common.{ℕ, ◌≡◌, ◌==◌, ◌≤◌, Bool, true, f
 use Rattle.std.specs.Prelude.{find, if◌then◌else◌, option_map}
 use Rattle.std.specs.List.{list_all}
 use Rattle.std.proofs.lemmas.Bool.Decides.{nat_tests}
-use Rattle.sdd_base.specs.Words.{first_some, head_of, is_empty}
-use Rattle.sdd_base.specs.Numbers.{tm_no, time_at}
-use Rattle.sdd_base.specs.declared.site.Site.TheVariants.{T}
-use Rattle.sdd_catalog.specs.Catalogue.{Catalogue}
-use Rattle.sdd_catalog.specs.Numbers.{IsWhole}
-use Rattle.sdd_wire.specs.declared.msg.Msg.TheVariants as messages
-use Rattle.sdd_module.specs.SiteLog.{Setting, Bases, Log, Act, Sends}
+use Rattle.sdd_attempt.specs.base.Words.{first_some, head_of, is_empty}
+use Rattle.sdd_attempt.specs.base.Numbers.{tm_no, time_at}
+use Rattle.sdd_attempt.specs.base.declared.site.Site.TheVariants.{T}
+use Rattle.sdd_attempt.specs.catalog.Catalogue.{Catalogue}
+use Rattle.sdd_attempt.specs.catalog.Numbers.{IsWhole}
+use Rattle.sdd_attempt.specs.wire.declared.msg.Msg.TheVariants as messages
+use Rattle.sdd_attempt.specs.site_module.SiteLog.{Setting, Bases, Log, Act, Sends}
 use Rattle.sdd_attempt.specs.Queues.{Queued, queue}
 use Rattle.sdd_attempt.specs.Attempts.{active}
 use Rattle.sdd_attempt.specs.Acts.{attempt_due, start_act}

@@ -1,9 +1,9 @@
 -- A transaction that is given to the module goes to the end of its queue.
 use Rattle.std.proofs.Common.{ℕ, ◌<◌, ◌^◌, ◌≡◌, false, ◌∷◌, map, refl, subst, None}
-use Rattle.sdd_base.specs.Words.{contains}
-use Rattle.sdd_lang.specs.declared.transaction.Txn.{Txn}
-use Rattle.sdd_lang.specs.Fits.{Fits}
-use Rattle.sdd_module.specs.SiteLog.{Setting, Bases, Log, Submits}
+use Rattle.sdd_attempt.specs.base.Words.{contains}
+use Rattle.sdd_attempt.specs.lang.declared.transaction.Txn.{Txn}
+use Rattle.sdd_attempt.specs.lang.Fits.{Fits}
+use Rattle.sdd_attempt.specs.site_module.SiteLog.{Setting, Bases, Log, Submits}
 use Rattle.sdd_attempt.specs.Queues.{Queued}
 use Rattle.sdd_attempt.specs.Attempts.{active}
 use Rattle.sdd_attempt.proofs.Stamps.{stamped_still}

@@ -1,14 +1,14 @@
 -- A message that is handed: the module keeps what follows from the log, and nothing else of it changes.
 use Rattle.std.proofs.Common.{ℕ, suc, ◌+◌, ◌<◌, ◌≤◌, ◌^◌, ◌≡◌, ◌==◌, Bool, true, false, List, ◌∷◌, map, refl, ap, sym, ◌∙◌, subst, arith, Option, Some, None}
 use Rattle.std.specs.Prelude.{if◌then◌else◌}
-use Rattle.sdd_base.specs.Clock.{Ticking}
-use Rattle.sdd_base.specs.declared.site.Site.{Site}
-use Rattle.sdd_base.specs.declared.site.Site.TheVariants.{U, T, D}
-use Rattle.sdd_catalog.specs.Catalogue.{numbers_to}
-use Rattle.sdd_wire.specs.declared.msg.Msg.{Msg}
-use Rattle.sdd_wire.specs.declared.msg.Msg.TheVariants.{Ready, Reject, Values, Reduced, Rows, Ask, Held, Release, Done}
-use Rattle.sdd_module.specs.SiteLog.{Setting, Bases, Log, Handed, submits}
-use Rattle.sdd_module.proofs.Finding.{map_twice}
+use Rattle.sdd_attempt.specs.base.Clock.{Ticking}
+use Rattle.sdd_attempt.specs.base.declared.site.Site.{Site}
+use Rattle.sdd_attempt.specs.base.declared.site.Site.TheVariants.{U, T, D}
+use Rattle.sdd_attempt.specs.catalog.Catalogue.{numbers_to}
+use Rattle.sdd_attempt.specs.wire.declared.msg.Msg.{Msg}
+use Rattle.sdd_attempt.specs.wire.declared.msg.Msg.TheVariants.{Ready, Reject, Values, Reduced, Rows, Ask, Held, Release, Done}
+use Rattle.sdd_attempt.specs.site_module.SiteLog.{Setting, Bases, Log, Handed, submits}
+use Rattle.sdd_attempt.proofs.site_module.Finding.{map_twice}
 use Rattle.sdd_attempt.specs.Clocks.{clock, pushed_by}
 use Rattle.sdd_attempt.specs.Queues.{queue}
 use Rattle.sdd_attempt.specs.Exchange.{Phase, after_hand}

@@ -3,9 +3,9 @@ use Rattle.std.proofs.Common.{ℕ, zero, suc, ◌+◌, ◌-◌, ◌<◌, ◌≤�
 use Rattle.std.specs.Prelude.{find, if◌then◌else◌, option_map, slice_get, slice_index_or, slice_set}
 use Rattle.std.proofs.lemmas.List.{map-append}
 use Rattle.std.proofs.lemmas.List.Edits.{map_over_more}
-use Rattle.sdd_base.specs.Words.{or_else, first_some}
-use Rattle.sdd_catalog.specs.Catalogue.{numbers_to}
-use Rattle.sdd_graph.proofs.Lists.{up_to}
+use Rattle.sdd_attempt.specs.base.Words.{or_else, first_some}
+use Rattle.sdd_attempt.specs.catalog.Catalogue.{numbers_to}
+use Rattle.sdd_attempt.proofs.graph.Lists.{up_to}
 
 pub some_is : {A : Type 0} {x y : A} → Some x ≡ Some y → x ≡ y
 some_is e = cc

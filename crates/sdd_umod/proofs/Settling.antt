@@ -1,9 +1,9 @@
 -- The loop of a call: what each step asks for, and what it leaves.
 use Rattle.std.proofs.Common.{ℕ, ◌+◌, ◌<◌, ◌^◌, ◌≡◌, ◌∷◌, refl, ap, sym, ◌∙◌, subst, arith, Some, None}
-use Rattle.sdd_lang.specs.Sound.{IsDatabase}
-use Rattle.sdd_module.specs.SiteLog.{Setting, Bases, Log, Did}
-use Rattle.sdd_module.specs.Notes.{Notes, with_act, noted}
-use Rattle.sdd_module.proofs.Making.{made_nothing, made_more}
+use Rattle.sdd_attempt.specs.lang.Sound.{IsDatabase}
+use Rattle.sdd_attempt.specs.site_module.SiteLog.{Setting, Bases, Log, Did}
+use Rattle.sdd_attempt.specs.site_module.Notes.{Notes, with_act, noted}
+use Rattle.sdd_attempt.proofs.site_module.Making.{made_nothing, made_more}
 use Rattle.sdd_attempt.specs.Clocks.{clock}
 use Rattle.sdd_attempt.specs.Lines.{AreTried, ServesAt, line_step}
 use Rattle.sdd_attempt.specs.declared.step.LineStep.TheVariants.{Commits as ToCommit}

@@ -3,10 +3,10 @@ use Rattle.std.proofs.Common.{ℕ, suc, ◌+◌, ◌<◌, ◌≤◌, ◌≡◌, 
 use Rattle.std.specs.Prelude.{find, if◌then◌else◌, option_map}
 use Rattle.std.specs.List.{filter}
 use Rattle.std.proofs.lemmas.Bool.{eq-eqb, eqb-true, ltb-true}
-use Rattle.sdd_base.specs.Words.{head_of}
-use Rattle.sdd_base.specs.Clock.{Ticking, ticked, timestamp}
-use Rattle.sdd_catalog.specs.Catalogue.{numbers_to}
-use Rattle.sdd_module.specs.SiteLog.{Setting, Bases, Log, Act, sends_of_act}
+use Rattle.sdd_attempt.specs.base.Words.{head_of}
+use Rattle.sdd_attempt.specs.base.Clock.{Ticking, ticked, timestamp}
+use Rattle.sdd_attempt.specs.catalog.Catalogue.{numbers_to}
+use Rattle.sdd_attempt.specs.site_module.SiteLog.{Setting, Bases, Log, Act, sends_of_act}
 use Rattle.sdd_attempt.specs.Clocks.{clock}
 use Rattle.sdd_attempt.specs.Queues.{Queued, queue, queue_after, tried}
 use Rattle.sdd_attempt.specs.Exchange.{begins}

@@ -1,10 +1,10 @@
 -- For which logs the module for undeclared transactions stands, and what holds between the acts of a call.
 use Rattle.std.specs.Prelude.{ℕ, suc, ◌+◌, ◌<◌, ◌≤◌, ◌^◌, ◌≡◌, IsTrue, Option, Some, None}
-use Rattle.sdd_base.specs.Kept.{Kept}
-use Rattle.sdd_catalog.specs.Rules as catalogues
-use Rattle.sdd_catalog.specs.Numbers.{IsWhole}
-use Rattle.sdd_lang.specs.Sound.{IsDatabase}
-use Rattle.sdd_module.specs.SiteLog.{Setting, Bases, Log}
+use Rattle.sdd_attempt.specs.base.Kept.{Kept}
+use Rattle.sdd_attempt.specs.catalog.Rules as catalogues
+use Rattle.sdd_attempt.specs.catalog.Numbers.{IsWhole}
+use Rattle.sdd_attempt.specs.lang.Sound.{IsDatabase}
+use Rattle.sdd_attempt.specs.site_module.SiteLog.{Setting, Bases, Log}
 use Rattle.sdd_attempt.specs.Clocks.{clock}
 use Rattle.sdd_attempt.specs.Attempts.{Attempt, active}
 use Rattle.sdd_attempt.specs.Sound.{IsLineOf, AreStamped, IsServed}

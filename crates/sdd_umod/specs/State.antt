@@ -1,8 +1,8 @@
 -- What the module for undeclared transactions keeps of its log: all that its acts rest on.
 use Rattle.std.specs.Prelude.{ℕ, min, ◌^◌, ◌-◌, List, map}
-use Rattle.sdd_base.specs.Clock.{Ticking}
-use Rattle.sdd_catalog.specs.Catalogue.{numbers_to}
-use Rattle.sdd_module.specs.SiteLog.{Setting, Log}
+use Rattle.sdd_attempt.specs.base.Clock.{Ticking}
+use Rattle.sdd_attempt.specs.catalog.Catalogue.{numbers_to}
+use Rattle.sdd_attempt.specs.site_module.SiteLog.{Setting, Log}
 use Rattle.sdd_attempt.specs.Clocks.{clock}
 use Rattle.sdd_attempt.specs.Queues.{queue}
 use Rattle.sdd_attempt.specs.Attempts.{active}

@@ -1,12 +1,12 @@
 -- What the module does next by itself, the act that it is, and what becomes of what it keeps.
 use Rattle.std.specs.Prelude.{ℕ, suc, nat_lt, ◌==◌, Bool, ◌&&◌, if◌then◌else◌, [], map, find, Option, Some, None, option_map}
 use Rattle.std.specs.List.{list_all}
-use Rattle.sdd_base.specs.Words.{or_else, is_empty}
-use Rattle.sdd_base.specs.Numbers.{tm_no, time_at}
-use Rattle.sdd_base.specs.declared.number.TmNo.{TmNo}
-use Rattle.sdd_base.specs.declared.site.Site.TheVariants.{T}
-use Rattle.sdd_wire.specs.declared.msg.Msg.TheVariants as messages
-use Rattle.sdd_module.specs.SiteLog.{Bases, Act, Sends}
+use Rattle.sdd_attempt.specs.base.Words.{or_else, is_empty}
+use Rattle.sdd_attempt.specs.base.Numbers.{tm_no, time_at}
+use Rattle.sdd_attempt.specs.base.declared.number.TmNo.{TmNo}
+use Rattle.sdd_attempt.specs.base.declared.site.Site.TheVariants.{T}
+use Rattle.sdd_attempt.specs.wire.declared.msg.Msg.TheVariants as messages
+use Rattle.sdd_attempt.specs.site_module.SiteLog.{Bases, Act, Sends}
 use Rattle.sdd_attempt.specs.Lines.{line_done, line_step, clock_done, send_next, commit_next, start_next, head_is_untried}
 use Rattle.sdd_attempt.specs.declared.step.LineStep.{LineStep}
 use Rattle.sdd_attempt.specs.declared.step.LineStep.TheVariants.{Sends as ToSend, Commits as ToCommit}

@@ -1,13 +1,13 @@
 -- All that the acts of the module for undeclared transactions rest on, and how it changes with an entry of the log.
 use Rattle.std.specs.Prelude.{ℕ, suc, ◌==◌, if◌then◌else◌, List, [], ◌∷◌, ◌++◌, map, Option, Some, None}
-use Rattle.sdd_base.specs.Clock.{Ticking, ticked, pushed}
-use Rattle.sdd_base.specs.declared.site.Site.{Site}
-use Rattle.sdd_base.specs.declared.site.Site.TheVariants.{T}
-use Rattle.sdd_catalog.specs.Catalogue.{numbers_to}
-use Rattle.sdd_history.specs.declared.record.Rec.TheVariants.{Commit}
-use Rattle.sdd_wire.specs.declared.msg.Msg.{Msg}
-use Rattle.sdd_wire.specs.declared.msg.Msg.TheVariants.{Hold, Held, Done, Release}
-use Rattle.sdd_module.specs.SiteLog.{Setting, Log, Entry, Handed, Ticked, Submits, Redeclared, Did, Act, Records, Sends}
+use Rattle.sdd_attempt.specs.base.Clock.{Ticking, ticked, pushed}
+use Rattle.sdd_attempt.specs.base.declared.site.Site.{Site}
+use Rattle.sdd_attempt.specs.base.declared.site.Site.TheVariants.{T}
+use Rattle.sdd_attempt.specs.catalog.Catalogue.{numbers_to}
+use Rattle.sdd_attempt.specs.history.declared.record.Rec.TheVariants.{Commit}
+use Rattle.sdd_attempt.specs.wire.declared.msg.Msg.{Msg}
+use Rattle.sdd_attempt.specs.wire.declared.msg.Msg.TheVariants.{Hold, Held, Done, Release}
+use Rattle.sdd_attempt.specs.site_module.SiteLog.{Setting, Log, Entry, Handed, Ticked, Submits, Redeclared, Did, Act, Records, Sends}
 use Rattle.sdd_attempt.specs.Clocks.{clock, pushed_by, ticked_by}
 use Rattle.sdd_attempt.specs.Queues.{Queued, queue, queue_after}
 use Rattle.sdd_attempt.specs.Attempts.{Attempt, active, active_after, active_handed}

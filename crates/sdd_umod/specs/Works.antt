@@ -1,10 +1,10 @@
 -- What the calls of the module promise of its parts.
 use Rattle.std.specs.Prelude.{ℕ, ◌<◌, ◌^◌, ◌≡◌, List, ◌∷◌, map, slice_get, Some}
-use Rattle.sdd_base.specs.Clock.{at_zero}
-use Rattle.sdd_catalog.specs.Catalogue.{Catalogue, numbers_to}
-use Rattle.sdd_module.specs.SiteLog.{Setting, Bases, Log}
-use Rattle.sdd_module.specs.Notes.{Notes}
-use Rattle.sdd_module.specs.Making.{Reached}
+use Rattle.sdd_attempt.specs.base.Clock.{at_zero}
+use Rattle.sdd_attempt.specs.catalog.Catalogue.{Catalogue, numbers_to}
+use Rattle.sdd_attempt.specs.site_module.SiteLog.{Setting, Bases, Log}
+use Rattle.sdd_attempt.specs.site_module.Notes.{Notes}
+use Rattle.sdd_attempt.specs.site_module.Making.{Reached}
 use Rattle.sdd_attempt.specs.Lines.{no_line}
 use Rattle.sdd_umod.specs.Due.{next}
 use Rattle.sdd_umod.specs.Views.{Served, TmCounts}

@@ -1,11 +1,11 @@
 ghost use Rattle.std.specs.Prelude.{◌≡◌, ◌<◌, ◌+◌, ◌^◌, ◌++◌, ◌∷◌, [], ℕ, map, option_map, IfOk, OnOk, IsTrue, Some, None};
-ghost use Rattle.sdd_base.specs.Numbers.{time_at};
-ghost use Rattle.sdd_base.specs.declared.site.Site.TheVariants.{T};
-ghost use Rattle.sdd_catalog.specs.Catalogue.{numbers_to};
-ghost use Rattle.sdd_lang.specs.Sound.{IsDatabase};
-ghost use Rattle.sdd_wire.specs.declared.msg.Msg.TheVariants as messages;
-ghost use Rattle.sdd_module.specs.SiteLog.{Setting, Bases, Log};
-ghost use Rattle.sdd_module.specs.Notes.{noted, nothing_noted};
+ghost use Rattle.sdd_attempt.specs.base.Numbers.{time_at};
+ghost use Rattle.sdd_attempt.specs.base.declared.site.Site.TheVariants.{T};
+ghost use Rattle.sdd_attempt.specs.catalog.Catalogue.{numbers_to};
+ghost use Rattle.sdd_attempt.specs.lang.Sound.{IsDatabase};
+ghost use Rattle.sdd_attempt.specs.wire.declared.msg.Msg.TheVariants as messages;
+ghost use Rattle.sdd_attempt.specs.site_module.SiteLog.{Setting, Bases, Log};
+ghost use Rattle.sdd_attempt.specs.site_module.Notes.{noted, nothing_noted};
 ghost use Rattle.sdd_attempt.specs.Lines.{commit_next, AreTried, ServesAt};
 ghost use Rattle.sdd_attempt.specs.declared.standing.Standing.TheVariants.{Queued};
 ghost use Rattle.sdd_umod.specs.Fits.{fits, FitsSubmit};
@@ -23,11 +23,11 @@ use crate::tm_count::{
     Sign, TmCount, all_hold, any_told, count, first_free, first_lacking, first_on_hold,
 };
 use sdd_attempt::{Line, LineStep, Standing};
-use sdd_base::{ClassNo, Clock, NoMemory, Site, TmNo, Ts, TxnNo};
-use sdd_catalog::Catalogue;
-use sdd_lang::Txn;
-use sdd_module::Draft;
-use sdd_wire::Msg;
+use sdd_attempt::sdd_base::{ClassNo, Clock, NoMemory, Site, TmNo, Ts, TxnNo};
+use sdd_attempt::sdd_catalog::Catalogue;
+use sdd_attempt::sdd_lang::Txn;
+use sdd_attempt::sdd_module::Draft;
+use sdd_attempt::sdd_wire::Msg;
 use std::alloc::Global;
 use std::marker::Model;
 

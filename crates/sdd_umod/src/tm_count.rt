@@ -4,7 +4,7 @@ ghost use Rattle.sdd_umod.specs.Steps.{counted, is_free, is_holding, is_kept_on_
 ghost use Rattle.sdd_umod.specs.Standing.{is_told, lacks_held};
 ghost use Rattle.sdd_umod.specs.Works.{no_counts, HasRoom, HaveRoom};
 
-use sdd_base::TmNo;
+use sdd_attempt::sdd_base::TmNo;
 use std::marker::Model;
 
 /// A message between the module and a transaction module.

@@ -1,8 +1,8 @@
 ghost use Rattle.std.specs.Prelude.{◌≡◌, ◌∷◌, [], List, IfOk, OnErr, IsTrue};
-ghost use Rattle.sdd_base.specs.declared.site.Site.TheVariants.{U};
-ghost use Rattle.sdd_history.specs.declared.record.Rec.{Rec as Record};
-ghost use Rattle.sdd_history.specs.declared.record.Rec.TheVariants.{Submit};
-ghost use Rattle.sdd_module.specs.SiteLog.{Setting, Bases, Log, Submits, Does};
+ghost use Rattle.sdd_attempt.specs.base.declared.site.Site.TheVariants.{U};
+ghost use Rattle.sdd_attempt.specs.history.declared.record.Rec.{Rec as Record};
+ghost use Rattle.sdd_attempt.specs.history.declared.record.Rec.TheVariants.{Submit};
+ghost use Rattle.sdd_attempt.specs.site_module.SiteLog.{Setting, Bases, Log, Submits, Does};
 ghost use Rattle.sdd_umod.specs.Due.{next};
 ghost use Rattle.sdd_umod.specs.Fits.{fits, FitsSubmit};
 ghost use Rattle.sdd_umod.specs.Standing.{standing_in};
@@ -10,12 +10,12 @@ ghost use Rattle.sdd_umod.specs.Stands.{Stands};
 
 use crate::parts::Parts;
 use sdd_attempt::Standing;
-use sdd_base::{NoMemory, Site, TxnNo};
-use sdd_catalog::Catalogue;
-use sdd_history::Rec;
-use sdd_lang::Txn;
-use sdd_module::Module;
-use sdd_wire::{Msg, Outcome};
+use sdd_attempt::sdd_base::{NoMemory, Site, TxnNo};
+use sdd_attempt::sdd_catalog::Catalogue;
+use sdd_attempt::sdd_history::Rec;
+use sdd_attempt::sdd_lang::Txn;
+use sdd_attempt::sdd_module::Module;
+use sdd_attempt::sdd_wire::{Msg, Outcome};
 use std::alloc::Global;
 use std::marker::Model;
 
@@ -28,7 +28,7 @@ pub struct UModule<'a> {
 }
 
 impl<'a> Model for UModule<'a> {
-    ghost use Rattle.sdd_base.specs.Kept.{Kept};
+    ghost use Rattle.sdd_attempt.specs.base.Kept.{Kept};
     ghost use Rattle.sdd_umod.specs.State.{State};
 
     ghost Value = { Kept State };

@@ -1,30 +1,30 @@
 -- Where a run leaves nothing undone, its summary tells as many committed as there are transactions.
 use Rattle.std.proofs.Common.{ℕ, ◌≡◌, ◌≤◌, List, false, length, refl, subst}
-use Rattle.sdd_catalog.specs.Catalogue.{Catalogue}
-use Rattle.sdd_catalog.specs.Rules.{IsSound}
-use Rattle.sdd_laws.specs.Starts.{KeepsStarts}
-use Rattle.sdd_log.specs.Entries.{Given, history, marks}
-use Rattle.sdd_log.specs.Permitted.{submits_in}
-use Rattle.sdd_make.specs.Summary.{summary_of}
-use Rattle.sdd_order.specs.Attempts.{HasCommit}
-use Rattle.sdd_order.specs.Numbers.{IsFrom1To}
-use Rattle.sdd_order.specs.Orders.{IsOrderable, IsSerial}
-use Rattle.sdd_progress.specs.Committed.{AllCommitted}
-use Rattle.sdd_progress.specs.Eras.{eras_of}
+use Rattle.sdd_obligations.specs.catalog.Catalogue.{Catalogue}
+use Rattle.sdd_obligations.specs.catalog.Rules.{IsSound}
+use Rattle.sdd_obligations.specs.laws.Starts.{KeepsStarts}
+use Rattle.sdd_obligations.specs.logs.Entries.{Given, history, marks}
+use Rattle.sdd_obligations.specs.logs.Permitted.{submits_in}
+use Rattle.sdd_run.specs.make.Summary.{summary_of}
+use Rattle.sdd_obligations.specs.serial_orders.Attempts.{HasCommit}
+use Rattle.sdd_obligations.specs.serial_orders.Numbers.{IsFrom1To}
+use Rattle.sdd_obligations.specs.serial_orders.Orders.{IsOrderable, IsSerial}
+use Rattle.sdd_run.specs.progress.Committed.{AllCommitted}
+use Rattle.sdd_run.specs.progress.Eras.{eras_of}
 use Rattle.sdd_run.specs.Runs.{IsSummaryOn, given_of, order_of}
 use Rattle.sdd_run.specs.Settled.{EndsQuiet, NoneIsDown}
 use Rattle.sdd_run.proofs.Marked.{named}
 use Rattle.sdd_run.proofs.Ordered.{orderable, serial, starts}
 use Rattle.sdd_run.proofs.Settled.{quiet_behind, settled}
 use Rattle.sdd_run.proofs.Submissions.{once}
-use Rattle.sdd_script.specs.Valid.{IsValid}
-use Rattle.sdd_script.specs.declared.workload.Workload.{Workload}
+use Rattle.sdd_run.specs.script.Valid.{IsValid}
+use Rattle.sdd_run.specs.script.declared.workload.Workload.{Workload}
 use Rattle.sdd_verified.specs.Summaries.{SettleAll, TellsAllDone}
 use Rattle.sdd_verified.proofs.AllCounted.{all_counted}
 use Rattle.sdd_verified.proofs.EachMarked.{each_submitted}
 use Rattle.sdd_verified.proofs.NoneDown.{are_up, none_down}
 use Rattle.sdd_verified.proofs.Submitting.{is_in_schedule}
-use Rattle.sdd_lists.specs.InForce.{whole_in}
+use Rattle.sdd_run.specs.class_lists.InForce.{whole_in}
 
 module _ (cat : Catalogue) (work : Workload) (text : List ℕ) (sound : IsSound (whole_in cat work)) (valid : IsValid cat work)
     (all : SettleAll (length work.txns) work.events) (r : IsSummaryOn cat work text) where

@@ -5,32 +5,32 @@ use Rattle.std.specs.Prelude.{Contains, filter, filter_map, flat_map, unwrap_or}
 use Rattle.std.specs.List.{AllByRecursion, cons_option}
 use Rattle.std.specs.Ordering.{int_cmp, is_eq}
 use Rattle.std.proofs.lemmas.List.Elements.{All-contains, All-from_recursion}
-use Rattle.sdd_base.proofs.Membership.{Contains-here, Contains-later}
-use Rattle.sdd_base.specs.Numbers.{tm_no}
-use Rattle.sdd_base.specs.declared.change.Change.{Change}
-use Rattle.sdd_base.specs.declared.number.RelNo.{RelNo}
-use Rattle.sdd_base.specs.declared.number.TxnNo.{TxnNo}
-use Rattle.sdd_base.specs.declared.value.Value.{Value}
-use Rattle.sdd_base.specs.declared.value.Value.TheVariants.{Int}
-use Rattle.sdd_catalog.specs.Catalogue.{Catalogue}
-use Rattle.sdd_catalog.specs.Rules.{IsSound}
-use Rattle.sdd_laws.proofs.Members.{Contains-from_filter}
-use Rattle.sdd_copy.specs.Contents.{Dated, contents, keys_in, latest, newer, of_fragment, row_left, row_with}
-use Rattle.sdd_lang.proofs.StaysDatabase.{rows_make_database}
-use Rattle.sdd_lang.specs.Database.{Database, Row, database_of}
-use Rattle.sdd_lang.specs.Update.{in_range}
-use Rattle.sdd_lang.specs.declared.transaction.Txn.{Txn}
-use Rattle.sdd_laws.proofs.Orders.{agrees, listed}
-use Rattle.sdd_laws.proofs.Recorded.{are_recorded, ledger}
-use Rattle.sdd_laws.specs.Deeds.{txn_at}
-use Rattle.sdd_laws.specs.Eras.{Eras}
-use Rattle.sdd_laws.specs.Snapshots.{copy_at, dated, dated_at, first_row, first_rows, is_applied}
-use Rattle.sdd_log.specs.Entries.{Given, Log, history}
-use Rattle.sdd_log.specs.Permitted.{IsPermitted}
-use Rattle.sdd_order.specs.Attempts.{Committed, committed}
-use Rattle.sdd_order.specs.Orders.{IsSerial}
-use Rattle.sdd_laws.proofs.Run.{replayed}
-use Rattle.sdd_laws.specs.Replayed.{IsReplayed}
+use Rattle.sdd_obligations.proofs.base.Membership.{Contains-here, Contains-later}
+use Rattle.sdd_obligations.specs.base.Numbers.{tm_no}
+use Rattle.sdd_obligations.specs.base.declared.change.Change.{Change}
+use Rattle.sdd_obligations.specs.base.declared.number.RelNo.{RelNo}
+use Rattle.sdd_obligations.specs.base.declared.number.TxnNo.{TxnNo}
+use Rattle.sdd_obligations.specs.base.declared.value.Value.{Value}
+use Rattle.sdd_obligations.specs.base.declared.value.Value.TheVariants.{Int}
+use Rattle.sdd_obligations.specs.catalog.Catalogue.{Catalogue}
+use Rattle.sdd_obligations.specs.catalog.Rules.{IsSound}
+use Rattle.sdd_obligations.proofs.laws.Members.{Contains-from_filter}
+use Rattle.sdd_obligations.specs.copy.Contents.{Dated, contents, keys_in, latest, newer, of_fragment, row_left, row_with}
+use Rattle.sdd_obligations.proofs.lang.StaysDatabase.{rows_make_database}
+use Rattle.sdd_obligations.specs.lang.Database.{Database, Row, database_of}
+use Rattle.sdd_obligations.specs.lang.Update.{in_range}
+use Rattle.sdd_obligations.specs.lang.declared.transaction.Txn.{Txn}
+use Rattle.sdd_obligations.proofs.laws.Orders.{agrees, listed}
+use Rattle.sdd_obligations.proofs.laws.Recorded.{are_recorded, ledger}
+use Rattle.sdd_obligations.specs.laws.Deeds.{txn_at}
+use Rattle.sdd_obligations.specs.laws.Eras.{Eras}
+use Rattle.sdd_obligations.specs.laws.Snapshots.{copy_at, dated, dated_at, first_row, first_rows, is_applied}
+use Rattle.sdd_obligations.specs.logs.Entries.{Given, Log, history}
+use Rattle.sdd_obligations.specs.logs.Permitted.{IsPermitted}
+use Rattle.sdd_obligations.specs.serial_orders.Attempts.{Committed, committed}
+use Rattle.sdd_obligations.specs.serial_orders.Orders.{IsSerial}
+use Rattle.sdd_obligations.proofs.laws.Run.{replayed}
+use Rattle.sdd_obligations.specs.laws.Replayed.{IsReplayed}
 use Rattle.sdd_lawful.proofs.Applies.{keeps_applies}
 use Rattle.sdd_lawful.proofs.Effects.{keeps_answers}
 use Rattle.sdd_lawful.proofs.Starts.{keeps_starts}

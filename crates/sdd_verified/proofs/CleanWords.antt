@@ -2,25 +2,25 @@
 use Rattle.std.proofs.Common.{ℕ, suc, ◌-◌, ◌++◌, ◌≡◌, ◌∷◌, ℤ, pos, negsuc, List, [], arith, refl, rules, slice_get, true}
 use Rattle.std.specs.Prelude.{codes, flat_map}
 use Rattle.std.specs.List.{All, AllByRecursion}
-use Rattle.sdd_base.specs.Name.{IsName}
-use Rattle.sdd_base.specs.declared.number.TxnNo.{TxnNo}
-use Rattle.sdd_base.specs.declared.site.Site.{Site}
-use Rattle.sdd_base.specs.declared.site.Site.TheVariants.{U, T, D}
-use Rattle.sdd_base.specs.declared.value.Value.{Value}
-use Rattle.sdd_base.specs.declared.value.Value.TheVariants.{Int}
-use Rattle.sdd_catalog.specs.Catalogue.{Catalogue}
-use Rattle.sdd_catalog.specs.declared.resolved.Class.{Class}
-use Rattle.sdd_catalog.specs.declared.resolved.Fragment.{Fragment}
-use Rattle.sdd_lang.specs.Database.{Row}
-use Rattle.sdd_lang.specs.Update.{in_range}
-use Rattle.sdd_lang.specs.declared.transaction.Txn.{Txn}
-use Rattle.sdd_report.specs.Committed.{names_of}
-use Rattle.sdd_report.specs.Names.{class_time, fragment_name, module_word, site_word, spaced}
-use Rattle.sdd_report.specs.Pending.{why_words}
-use Rattle.sdd_report.specs.Replies.{value_bytes}
-use Rattle.sdd_report.specs.declared.pending.Why.{Why}
-use Rattle.sdd_report.specs.declared.pending.Why.TheVariants.{Queued, Waits, Underway}
-use Rattle.sdd_script.proofs.WordLooks.{no_newline-append}
+use Rattle.sdd_obligations.specs.base.Name.{IsName}
+use Rattle.sdd_obligations.specs.base.declared.number.TxnNo.{TxnNo}
+use Rattle.sdd_obligations.specs.base.declared.site.Site.{Site}
+use Rattle.sdd_obligations.specs.base.declared.site.Site.TheVariants.{U, T, D}
+use Rattle.sdd_obligations.specs.base.declared.value.Value.{Value}
+use Rattle.sdd_obligations.specs.base.declared.value.Value.TheVariants.{Int}
+use Rattle.sdd_obligations.specs.catalog.Catalogue.{Catalogue}
+use Rattle.sdd_obligations.specs.catalog.declared.resolved.Class.{Class}
+use Rattle.sdd_obligations.specs.catalog.declared.resolved.Fragment.{Fragment}
+use Rattle.sdd_obligations.specs.lang.Database.{Row}
+use Rattle.sdd_obligations.specs.lang.Update.{in_range}
+use Rattle.sdd_obligations.specs.lang.declared.transaction.Txn.{Txn}
+use Rattle.sdd_run.specs.report.Committed.{names_of}
+use Rattle.sdd_run.specs.report.Names.{class_time, fragment_name, module_word, site_word, spaced}
+use Rattle.sdd_run.specs.report.Pending.{why_words}
+use Rattle.sdd_run.specs.report.Replies.{value_bytes}
+use Rattle.sdd_run.specs.report.declared.pending.Why.{Why}
+use Rattle.sdd_run.specs.report.declared.pending.Why.TheVariants.{Queued, Waits, Underway}
+use Rattle.sdd_run.proofs.script.WordLooks.{no_newline-append}
 use Rattle.sdd_words.specs.Lines.{HasNoNewline}
 use Rattle.sdd_verified.proofs.ReportLines.{class_time_line, module_line, named_by, number_line, spaced_line, txn_line}
 use Rattle.sdd_verified.proofs.ValuesKept.{Holds}

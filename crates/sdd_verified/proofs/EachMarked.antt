@@ -2,23 +2,23 @@
 use Rattle.std.proofs.Common.{ℕ, ◌+◌, ◌++◌, ◌==◌, ◌≡◌, ◌≤◌, ◌∙◌, ◌∷◌, Bool, List, None, Option, Some, [], ap, arith, false, inl, inr, length, refl, subst, sym, true}
 use Rattle.std.specs.Prelude.{◌⊎◌}
 use Rattle.std.proofs.lemmas.Bool.{eqb-true}
-use Rattle.sdd_base.specs.Numbers.{txn_no}
-use Rattle.sdd_base.specs.Words.{or_else}
-use Rattle.sdd_base.specs.declared.event.Event.{Event}
-use Rattle.sdd_base.specs.declared.event.Event.TheVariants.{Submit, Deliver, Lose, Repeat, Resend, Tick, Settle, Redeclare, Down, Up}
-use Rattle.sdd_base.specs.declared.number.TxnNo.{TxnNo}
-use Rattle.sdd_base.specs.declared.site.Site.{Site}
-use Rattle.sdd_history.specs.declared.record.Rec.TheVariants.{Submit as Submission}
-use Rattle.sdd_laws.specs.Deeds.{IsSubmitted}
-use Rattle.sdd_log.specs.Due.{due_by, hand_due, home_of, mark_due, next, note_if, site_due}
-use Rattle.sdd_log.specs.Entries.{Does, Entry, Given, Hand, Log, Mark, Notes, Redeclares, Round, Submitted, history}
-use Rattle.sdd_log.specs.Lawful.{IsLawful}
-use Rattle.sdd_log.specs.Locals.{force_at, redeclares, txn_at}
-use Rattle.sdd_log.specs.Marks.{from_event, left, mark_from, mark_of, next_mark}
-use Rattle.sdd_log.specs.Permitted.{one_if, submits_by, submits_in}
-use Rattle.sdd_log.specs.Traffic.{all_links, calls_of}
-use Rattle.sdd_log.proofs.NewMarks.{left_is, marked}
-use Rattle.sdd_net.specs.Links.{quiet, round}
+use Rattle.sdd_obligations.specs.base.Numbers.{txn_no}
+use Rattle.sdd_obligations.specs.base.Words.{or_else}
+use Rattle.sdd_obligations.specs.base.declared.event.Event.{Event}
+use Rattle.sdd_obligations.specs.base.declared.event.Event.TheVariants.{Submit, Deliver, Lose, Repeat, Resend, Tick, Settle, Redeclare, Down, Up}
+use Rattle.sdd_obligations.specs.base.declared.number.TxnNo.{TxnNo}
+use Rattle.sdd_obligations.specs.base.declared.site.Site.{Site}
+use Rattle.sdd_obligations.specs.history.declared.record.Rec.TheVariants.{Submit as Submission}
+use Rattle.sdd_obligations.specs.laws.Deeds.{IsSubmitted}
+use Rattle.sdd_obligations.specs.logs.Due.{due_by, hand_due, home_of, mark_due, next, note_if, site_due}
+use Rattle.sdd_obligations.specs.logs.Entries.{Does, Entry, Given, Hand, Log, Mark, Notes, Redeclares, Round, Submitted, history}
+use Rattle.sdd_obligations.specs.logs.Lawful.{IsLawful}
+use Rattle.sdd_obligations.specs.logs.Locals.{force_at, redeclares, txn_at}
+use Rattle.sdd_obligations.specs.logs.Marks.{from_event, left, mark_from, mark_of, next_mark}
+use Rattle.sdd_obligations.specs.logs.Permitted.{one_if, submits_by, submits_in}
+use Rattle.sdd_obligations.specs.logs.Traffic.{all_links, calls_of}
+use Rattle.sdd_obligations.proofs.logs.NewMarks.{left_is, marked}
+use Rattle.sdd_obligations.specs.net.Links.{quiet, round}
 use Rattle.sdd_lawful.proofs.Places.{stands_there}
 
 -- of what a complete log leaves no event has a mark

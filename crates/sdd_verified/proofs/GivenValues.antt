@@ -4,35 +4,35 @@ use Rattle.std.proofs.Common.{ℕ, ◌-◌, ◌≡◌, ◌∷◌, ℤ, List, Non
 use Rattle.std.specs.Prelude.{Contains}
 use Rattle.std.specs.List.{All, AllByRecursion, cons_option}
 use Rattle.std.proofs.lemmas.List.Elements.{All-head, All-tail, recursion_from_All}
-use Rattle.sdd_base.specs.declared.number.RelNo.{RelNo}
-use Rattle.sdd_base.specs.declared.number.TxnNo.{TxnNo}
-use Rattle.sdd_base.specs.declared.value.Value.{Value}
-use Rattle.sdd_base.specs.declared.value.Value.TheVariants.{Int}
-use Rattle.sdd_catalog.specs.Catalogue.{Catalogue}
-use Rattle.sdd_catalog.specs.Rules.{IsSound}
-use Rattle.sdd_lang.specs.Database.{Row, database_of}
-use Rattle.sdd_lang.specs.Update.{in_range}
-use Rattle.sdd_lang.specs.declared.assign.Assign.{Assign}
-use Rattle.sdd_lang.specs.declared.assign.Assign.TheVariants.{To, Add}
-use Rattle.sdd_lang.specs.declared.statement.Stmt.{Stmt}
-use Rattle.sdd_lang.specs.declared.statement.Stmt.TheVariants.{Put, Query, Update, Delete}
-use Rattle.sdd_lang.specs.declared.transaction.Txn.{Txn}
-use Rattle.sdd_laws.specs.Deeds.{txn_at}
-use Rattle.sdd_laws.specs.Replay.{run, texts_of}
-use Rattle.sdd_log.specs.Entries.{Given, history}
-use Rattle.sdd_net.proofs.Lists.{All-at}
-use Rattle.sdd_order.specs.SerialOrder.{serial_order}
-use Rattle.sdd_report.specs.declared.copies.CopyTable.{CopyTable}
+use Rattle.sdd_obligations.specs.base.declared.number.RelNo.{RelNo}
+use Rattle.sdd_obligations.specs.base.declared.number.TxnNo.{TxnNo}
+use Rattle.sdd_obligations.specs.base.declared.value.Value.{Value}
+use Rattle.sdd_obligations.specs.base.declared.value.Value.TheVariants.{Int}
+use Rattle.sdd_obligations.specs.catalog.Catalogue.{Catalogue}
+use Rattle.sdd_obligations.specs.catalog.Rules.{IsSound}
+use Rattle.sdd_obligations.specs.lang.Database.{Row, database_of}
+use Rattle.sdd_obligations.specs.lang.Update.{in_range}
+use Rattle.sdd_obligations.specs.lang.declared.assign.Assign.{Assign}
+use Rattle.sdd_obligations.specs.lang.declared.assign.Assign.TheVariants.{To, Add}
+use Rattle.sdd_obligations.specs.lang.declared.statement.Stmt.{Stmt}
+use Rattle.sdd_obligations.specs.lang.declared.statement.Stmt.TheVariants.{Put, Query, Update, Delete}
+use Rattle.sdd_obligations.specs.lang.declared.transaction.Txn.{Txn}
+use Rattle.sdd_obligations.specs.laws.Deeds.{txn_at}
+use Rattle.sdd_obligations.specs.laws.Replay.{run, texts_of}
+use Rattle.sdd_obligations.specs.logs.Entries.{Given, history}
+use Rattle.sdd_obligations.proofs.net.Lists.{All-at}
+use Rattle.sdd_obligations.specs.serial_orders.SerialOrder.{serial_order}
+use Rattle.sdd_run.specs.report.declared.copies.CopyTable.{CopyTable}
 use Rattle.sdd_run.specs.Copies.{tables_of}
 use Rattle.sdd_run.specs.Runs.{IsReportOn, given_of}
 use Rattle.sdd_run.proofs.Left.{told_rows}
 use Rattle.sdd_run.proofs.RunOf.{eras_are, fine, lists, permitted}
-use Rattle.sdd_progress.specs.Eras.{eras_of}
-use Rattle.sdd_script.specs.Valid.{AssignsValue, HoldsValues, IsValid, IsValidRow, IsValidTxn, IsValue}
-use Rattle.sdd_script.specs.declared.workload.Workload.{Workload}
+use Rattle.sdd_run.specs.progress.Eras.{eras_of}
+use Rattle.sdd_run.specs.script.Valid.{AssignsValue, HoldsValues, IsValid, IsValidRow, IsValidTxn, IsValue}
+use Rattle.sdd_run.specs.script.declared.workload.Workload.{Workload}
 use Rattle.sdd_verified.proofs.CleanCopies.{copy_holds}
 use Rattle.sdd_verified.proofs.ValuesKept.{Assigns, Answers, Hold, Holds, Writes, WritesAll, first_holds, serial_answers}
-use Rattle.sdd_lists.specs.InForce.{whole_in}
+use Rattle.sdd_run.specs.class_lists.InForce.{whole_in}
 
 module _ (P : Value → Type 0) (ints : (n : ℤ) → in_range n ≡ true → P (Int n)) (given : (v : Value) → IsValue v → P v) where
   row_given : (row : Row) → AllByRecursion IsValue row → Holds P ints row

@@ -3,20 +3,20 @@ use Rattle.std.proofs.Common.{ℕ, List, [], ◌∷◌, inl, inr, refl}
 use Rattle.std.specs.List.{AllZip}
 use Rattle.std.specs.Prelude.{◌⊎◌}
 use Rattle.sdd_acyclic.proofs.EachTable.{each_table}
-use Rattle.sdd_catalog.specs.Catalogue.{Catalogue}
-use Rattle.sdd_catalog.specs.Rules.{IsSound}
+use Rattle.sdd_obligations.specs.catalog.Catalogue.{Catalogue}
+use Rattle.sdd_obligations.specs.catalog.Rules.{IsSound}
 use Rattle.sdd_termination.proofs.Ends.{run_ends}
-use Rattle.sdd_protocol.specs.declared.entry.Entry.{Entry}
-use Rattle.sdd_report.specs.Report.{report_text}
+use Rattle.sdd_obligations.specs.protocol.declared.entry.Entry.{Entry}
+use Rattle.sdd_run.specs.report.Report.{report_text}
 use Rattle.sdd_run.specs.Reports.{report_of}
 use Rattle.sdd_run.specs.Runs.{EndsAtLimit, IsReportOn, given_of}
 use Rattle.sdd_run.proofs.Reported.{reported}
 use Rattle.sdd_run.proofs.Submissions.{once}
-use Rattle.sdd_script.specs.Valid.{IsValid}
-use Rattle.sdd_script.specs.declared.workload.Workload.{Workload}
-use Rattle.sdd_lists.specs.InForce.{eras_in}
-use Rattle.sdd_lists.proofs.WholeSound.{whole_sound}
-use Rattle.sdd_protocol.specs.Protocols.{IsTable}
+use Rattle.sdd_run.specs.script.Valid.{IsValid}
+use Rattle.sdd_run.specs.script.declared.workload.Workload.{Workload}
+use Rattle.sdd_run.specs.class_lists.InForce.{eras_in}
+use Rattle.sdd_run.proofs.class_lists.WholeSound.{whole_sound}
+use Rattle.sdd_obligations.specs.protocol.Protocols.{IsTable}
 
 -- each catalogue has its protocol table
 tabled : (cats : List Catalogue) → (tables : List (List Entry)) × AllZip IsTable cats tables

@@ -3,23 +3,23 @@ use Rattle.std.proofs.Common.{ℕ, zero, suc, ◌+◌, ◌++◌, ◌/◌, ◌%�
 use Rattle.std.specs.Prelude.{nat_lt}
 use Rattle.std.specs.List.{list_any}
 use Rattle.std.proofs.lemmas.Bool.{cases_eq, eq-eqb}
-use Rattle.sdd_base.specs.Numbers.{dm_no, tm_no}
-use Rattle.sdd_base.specs.declared.event.Event.{Event}
-use Rattle.sdd_base.specs.declared.event.Event.TheVariants.{Settle}
-use Rattle.sdd_base.specs.declared.limits.TheConstants.{MAX_TXNS}
-use Rattle.sdd_base.specs.declared.site.Site.TheVariants.{D, T}
-use Rattle.sdd_catalog.specs.Rules.{IsSound, faults_of}
-use Rattle.sdd_log.specs.Permitted.{one_if, submits_in}
-use Rattle.sdd_make.specs.Bank.{bank}
-use Rattle.sdd_make.specs.Draws.{draw, next, shown}
-use Rattle.sdd_make.specs.Turns.{arrival, deliveries, delivery, drawn_events, drawn_txn, events_of, turn, turns, turns_of, txns_of, workload_of}
-use Rattle.sdd_make.proofs.ValidEvents.{txns_count}
-use Rattle.sdd_make.proofs.ValidTxns.{choose}
-use Rattle.sdd_make.proofs.ValidWorkloads.{workload_valid}
+use Rattle.sdd_obligations.specs.base.Numbers.{dm_no, tm_no}
+use Rattle.sdd_obligations.specs.base.declared.event.Event.{Event}
+use Rattle.sdd_obligations.specs.base.declared.event.Event.TheVariants.{Settle}
+use Rattle.sdd_obligations.specs.base.declared.limits.TheConstants.{MAX_TXNS}
+use Rattle.sdd_obligations.specs.base.declared.site.Site.TheVariants.{D, T}
+use Rattle.sdd_obligations.specs.catalog.Rules.{IsSound, faults_of}
+use Rattle.sdd_obligations.specs.logs.Permitted.{one_if, submits_in}
+use Rattle.sdd_run.specs.make.Bank.{bank}
+use Rattle.sdd_run.specs.make.Draws.{draw, next, shown}
+use Rattle.sdd_run.specs.make.Turns.{arrival, deliveries, delivery, drawn_events, drawn_txn, events_of, turn, turns, turns_of, txns_of, workload_of}
+use Rattle.sdd_run.proofs.make.ValidEvents.{txns_count}
+use Rattle.sdd_run.proofs.make.ValidTxns.{choose}
+use Rattle.sdd_run.proofs.make.ValidWorkloads.{workload_valid}
 use Rattle.sdd_run.specs.Runs.{IsSummaryOn}
 use Rattle.sdd_verified.specs.Summaries.{SettleAll, TellsAllDone, takes_down}
 use Rattle.sdd_verified.proofs.AllSummed.{all_summed}
-use Rattle.sdd_lists.proofs.WholeSound.{whole_sound}
+use Rattle.sdd_run.proofs.class_lists.WholeSound.{whole_sound}
 
 submits_both : (n : ℕ) (xs ys : List Event) → submits_in n (xs ++ ys) ≡ submits_in n xs + submits_in n ys
 submits_both n [] ys = omega arith

@@ -7,35 +7,35 @@ use Rattle.std.specs.Option.{option_map_or}
 use Rattle.std.specs.Str.{bytes_eq}
 use Rattle.std.proofs.lemmas.List.{length-map}
 use Rattle.std.proofs.lemmas.Option.{same_Some}
-use Rattle.sdd_base.specs.Numbers.{txn_no}
-use Rattle.sdd_base.specs.declared.number.TxnNo.{TxnNo}
-use Rattle.sdd_catalog.specs.Catalogue.{Catalogue}
-use Rattle.sdd_catalog.specs.Naming.{AreNamed}
-use Rattle.sdd_catalog.specs.Rules.{IsSound, repeats}
-use Rattle.sdd_lang.specs.declared.transaction.Txn.{Txn}
-use Rattle.sdd_log.specs.Entries.{Given}
-use Rattle.sdd_order.specs.Numbers.{IsFrom1To}
-use Rattle.sdd_report.specs.Committed.{names_of}
-use Rattle.sdd_report.specs.Names.{txn_name}
-use Rattle.sdd_report.specs.declared.pending.Pending.{Pending}
+use Rattle.sdd_obligations.specs.base.Numbers.{txn_no}
+use Rattle.sdd_obligations.specs.base.declared.number.TxnNo.{TxnNo}
+use Rattle.sdd_obligations.specs.catalog.Catalogue.{Catalogue}
+use Rattle.sdd_obligations.specs.catalog.Naming.{AreNamed}
+use Rattle.sdd_obligations.specs.catalog.Rules.{IsSound, repeats}
+use Rattle.sdd_obligations.specs.lang.declared.transaction.Txn.{Txn}
+use Rattle.sdd_obligations.specs.logs.Entries.{Given}
+use Rattle.sdd_obligations.specs.serial_orders.Numbers.{IsFrom1To}
+use Rattle.sdd_run.specs.report.Committed.{names_of}
+use Rattle.sdd_run.specs.report.Names.{txn_name}
+use Rattle.sdd_run.specs.report.declared.pending.Pending.{Pending}
 use Rattle.sdd_run.proofs.Lossless.{listed_submits}
 use Rattle.sdd_run.proofs.Marked.{named as named_by_events}
 use Rattle.sdd_run.proofs.Submissions.{once}
 use Rattle.sdd_run.specs.Reports.{report_of}
 use Rattle.sdd_run.specs.Runs.{IsReportOn, given_of, order_of}
-use Rattle.sdd_script.proofs.NamePlaces.{place_of_name}
-use Rattle.sdd_script.specs.Valid.{IsValid}
-use Rattle.sdd_script.specs.declared.workload.Workload.{Workload}
-use Rattle.sdd_world.specs.AtSites.{standing_at}
-use Rattle.sdd_world.specs.Standings.{standing_at_t, standing_at_u}
+use Rattle.sdd_run.proofs.script.NamePlaces.{place_of_name}
+use Rattle.sdd_run.specs.script.Valid.{IsValid}
+use Rattle.sdd_run.specs.script.declared.workload.Workload.{Workload}
+use Rattle.sdd_run.specs.world.AtSites.{standing_at}
+use Rattle.sdd_run.specs.world.Standings.{standing_at_t, standing_at_u}
 use Rattle.sdd_verified.proofs.OneText.{one_text}
 use Rattle.sdd_verified.proofs.PartsBack.{same_first}
 use Rattle.sdd_verified.proofs.ReportParts.{all_by_member}
 use Rattle.sdd_verified.proofs.Reported.{one_given}
 use Rattle.sdd_verified.proofs.Submitting.{is_in_schedule}
 use Rattle.sdd_verified.specs.Tellings.{TellOfTheSame, pending_names, pending_numbers}
-use Rattle.sdd_lists.specs.InForce.{whole_in}
-use Rattle.sdd_lists.proofs.WholeSound.{whole_named, whole_sound}
+use Rattle.sdd_run.specs.class_lists.InForce.{whole_in}
+use Rattle.sdd_run.proofs.class_lists.WholeSound.{whole_named, whole_sound}
 
 abbrev named : List Txn → List (List ℕ)
 named txns = map (λ (t : Txn). t.name) txns

@@ -4,25 +4,25 @@ use Rattle.std.specs.Prelude.{codes, slice_get}
 use Rattle.std.specs.List.{All, AllByRecursion}
 use Rattle.std.specs.Option.{option_map_or}
 use Rattle.std.proofs.lemmas.List.{append_cancel_right}
-use Rattle.sdd_base.specs.Name.{IsName}
-use Rattle.sdd_base.specs.declared.number.TxnNo.{TxnNo}
-use Rattle.sdd_base.specs.declared.reply.Reply.{Reply}
-use Rattle.sdd_catalog.specs.Catalogue.{Catalogue}
-use Rattle.sdd_catalog.specs.Naming.{AreNamed}
-use Rattle.sdd_catalog.specs.Rules.{IsSound}
-use Rattle.sdd_lang.specs.declared.transaction.Txn.{Txn}
-use Rattle.sdd_lists.specs.InForce.{classes_in, whole_in}
-use Rattle.sdd_lists.proofs.OtherClasses.{whole_over}
-use Rattle.sdd_lists.proofs.WholeSound.{whole_named, whole_sound}
-use Rattle.sdd_log.specs.Entries.{history}
-use Rattle.sdd_report.specs.Committed.{names_of}
-use Rattle.sdd_report.specs.Names.{txn_name}
-use Rattle.sdd_report.specs.Report.{Report}
-use Rattle.sdd_report.specs.declared.copies.CopyTable.{CopyTable}
+use Rattle.sdd_obligations.specs.base.Name.{IsName}
+use Rattle.sdd_obligations.specs.base.declared.number.TxnNo.{TxnNo}
+use Rattle.sdd_obligations.specs.base.declared.reply.Reply.{Reply}
+use Rattle.sdd_obligations.specs.catalog.Catalogue.{Catalogue}
+use Rattle.sdd_obligations.specs.catalog.Naming.{AreNamed}
+use Rattle.sdd_obligations.specs.catalog.Rules.{IsSound}
+use Rattle.sdd_obligations.specs.lang.declared.transaction.Txn.{Txn}
+use Rattle.sdd_run.specs.class_lists.InForce.{classes_in, whole_in}
+use Rattle.sdd_run.proofs.class_lists.OtherClasses.{whole_over}
+use Rattle.sdd_run.proofs.class_lists.WholeSound.{whole_named, whole_sound}
+use Rattle.sdd_obligations.specs.logs.Entries.{history}
+use Rattle.sdd_run.specs.report.Committed.{names_of}
+use Rattle.sdd_run.specs.report.Names.{txn_name}
+use Rattle.sdd_run.specs.report.Report.{Report}
+use Rattle.sdd_run.specs.report.declared.copies.CopyTable.{CopyTable}
 use Rattle.sdd_run.specs.Runs.{IsReportOn, order_of}
-use Rattle.sdd_script.proofs.WordLooks.{name_fine}
-use Rattle.sdd_script.specs.Valid.{IsValid}
-use Rattle.sdd_script.specs.declared.workload.Workload.{Workload}
+use Rattle.sdd_run.proofs.script.WordLooks.{name_fine}
+use Rattle.sdd_run.specs.script.Valid.{IsValid}
+use Rattle.sdd_run.specs.script.declared.workload.Workload.{Workload}
 use Rattle.sdd_verify.proofs.Submissions.{found_member}
 use Rattle.sdd_words.specs.Words.{HasNoSpace, IsPlain}
 use Rattle.sdd_verified.proofs.PartsBack.{copies_back, is_pending, is_reply, is_shipped, order_back, parted, pending_back, replies_back, same_first}

@@ -7,21 +7,21 @@ use Rattle.std.specs.List.{AllByRecursion}
 use Rattle.std.proofs.lemmas.Fmt.{decimal_injective}
 use Rattle.std.proofs.lemmas.Bool.{leb-true}
 use Rattle.std.proofs.lemmas.List.{append_cancel_left, append_cancel_right}
-use Rattle.sdd_base.specs.declared.reply.Reply.{Reply}
-use Rattle.sdd_base.specs.declared.reply.Reply.TheVariants.{Rows, Overflow, TooMany}
-use Rattle.sdd_base.specs.declared.value.Value.{Value}
-use Rattle.sdd_base.specs.declared.value.Value.TheVariants.{Int, Text}
-use Rattle.sdd_catalog.specs.Catalogue.{Catalogue}
-use Rattle.sdd_invariants.proofs.Bools.{and_left}
-use Rattle.sdd_lang.specs.Database.{Row}
-use Rattle.sdd_lang.specs.Update.{in_range}
-use Rattle.sdd_lang.specs.declared.transaction.Txn.{Txn}
-use Rattle.sdd_report.specs.Copies.{place_words}
-use Rattle.sdd_report.specs.Names.{spaced, txn_name}
-use Rattle.sdd_report.specs.Pending.{why_words}
-use Rattle.sdd_report.specs.Replies.{value_bytes}
-use Rattle.sdd_report.specs.declared.copies.CopyTable.{CopyTable}
-use Rattle.sdd_report.specs.declared.pending.Pending.{Pending}
+use Rattle.sdd_obligations.specs.base.declared.reply.Reply.{Reply}
+use Rattle.sdd_obligations.specs.base.declared.reply.Reply.TheVariants.{Rows, Overflow, TooMany}
+use Rattle.sdd_obligations.specs.base.declared.value.Value.{Value}
+use Rattle.sdd_obligations.specs.base.declared.value.Value.TheVariants.{Int, Text}
+use Rattle.sdd_obligations.specs.catalog.Catalogue.{Catalogue}
+use Rattle.sdd_obligations.proofs.invariants.Bools.{and_left}
+use Rattle.sdd_obligations.specs.lang.Database.{Row}
+use Rattle.sdd_obligations.specs.lang.Update.{in_range}
+use Rattle.sdd_obligations.specs.lang.declared.transaction.Txn.{Txn}
+use Rattle.sdd_run.specs.report.Copies.{place_words}
+use Rattle.sdd_run.specs.report.Names.{spaced, txn_name}
+use Rattle.sdd_run.specs.report.Pending.{why_words}
+use Rattle.sdd_run.specs.report.Replies.{value_bytes}
+use Rattle.sdd_run.specs.report.declared.copies.CopyTable.{CopyTable}
+use Rattle.sdd_run.specs.report.declared.pending.Pending.{Pending}
 use Rattle.sdd_words.proofs.Splits.{scan_again}
 use Rattle.sdd_words.specs.Scan.{scan}
 use Rattle.sdd_words.specs.declared.split.Mode.TheVariants.{Start}

@@ -4,25 +4,25 @@ use Rattle.std.specs.Prelude.{not, Contains, codes, count_by}
 use Rattle.std.proofs.lemmas.Bool.{ltb-true, ne_eqb}
 use Rattle.std.proofs.lemmas.List.{length-map}
 use Rattle.std.proofs.lemmas.List.Sums.{sum_by-cons}
-use Rattle.sdd_base.proofs.Membership.{Contains-cases, Contains-nil}
-use Rattle.sdd_base.specs.declared.number.TxnNo.{TxnNo}
-use Rattle.sdd_catalog.specs.Catalogue.{Catalogue}
-use Rattle.sdd_catalog.specs.Naming.{AreNamed}
-use Rattle.sdd_catalog.specs.Rules.{IsSound}
-use Rattle.sdd_log.specs.Entries.{history}
-use Rattle.sdd_order.specs.SerialOrder.{serial_order}
-use Rattle.sdd_report.specs.declared.pending.Pending.{Pending}
+use Rattle.sdd_obligations.proofs.base.Membership.{Contains-cases, Contains-nil}
+use Rattle.sdd_obligations.specs.base.declared.number.TxnNo.{TxnNo}
+use Rattle.sdd_obligations.specs.catalog.Catalogue.{Catalogue}
+use Rattle.sdd_obligations.specs.catalog.Naming.{AreNamed}
+use Rattle.sdd_obligations.specs.catalog.Rules.{IsSound}
+use Rattle.sdd_obligations.specs.logs.Entries.{history}
+use Rattle.sdd_obligations.specs.serial_orders.SerialOrder.{serial_order}
+use Rattle.sdd_run.specs.report.declared.pending.Pending.{Pending}
 use Rattle.sdd_run.specs.Reports.{report_of}
 use Rattle.sdd_run.specs.Runs.{IsReportOn, given_of}
-use Rattle.sdd_script.specs.Valid.{IsValid}
-use Rattle.sdd_script.specs.declared.workload.Workload.{Workload}
+use Rattle.sdd_run.specs.script.Valid.{IsValid}
+use Rattle.sdd_run.specs.script.declared.workload.Workload.{Workload}
 use Rattle.sdd_verify.specs.Lines.{lines_of}
 use Rattle.sdd_verified.proofs.PartsBack.{AllPass}
 use Rattle.sdd_verified.proofs.PassingLines.{copies_pass, pending_pass, replies_pass, shipped_pass}
 use Rattle.sdd_verified.proofs.ReportParts.{happened, is_numbered, kept, lines_are, names, replies, shipped, trace_passes, waiting}
 use Rattle.sdd_verified.specs.Parts.{order_words, pending_words, replies_words}
 use Rattle.sdd_verified.specs.Lines.{tells_pending}
-use Rattle.sdd_lists.specs.InForce.{whole_in}
+use Rattle.sdd_run.specs.class_lists.InForce.{whole_in}
 
 -- one for a line that tells of one
 abbrev counts : Bool → ℕ

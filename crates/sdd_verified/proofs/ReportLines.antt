@@ -7,23 +7,23 @@ use Rattle.std.specs.Option.{option_map_or}
 use Rattle.std.proofs.lemmas.Bool.{ne_eqb}
 use Rattle.std.proofs.lemmas.Bool.Decides.{nat_tests}
 use Rattle.std.proofs.lemmas.List.Elements.{All-cons, All-nil}
-use Rattle.sdd_base.specs.Name.{IsName}
-use Rattle.sdd_base.specs.declared.condition.Cond.{Cond}
-use Rattle.sdd_base.specs.declared.number.Ts.{Ts}
-use Rattle.sdd_base.specs.declared.number.TxnNo.{TxnNo}
-use Rattle.sdd_catalog.specs.Catalogue.{Catalogue}
-use Rattle.sdd_catalog.specs.declared.resolved.Class.{Class}
-use Rattle.sdd_history.specs.declared.record.Rec.{Rec}
-use Rattle.sdd_history.specs.declared.record.Rec.TheVariants as records
-use Rattle.sdd_lang.specs.declared.transaction.Txn.{Txn}
-use Rattle.sdd_report.specs.Committed.{Told, shipped_line, shipped_of, told_of}
-use Rattle.sdd_report.specs.Copies.{copies_lines, copy_lines}
-use Rattle.sdd_report.specs.Names.{attempt_word, class_name, class_time, class_word, module_word, spaced, txn_name}
-use Rattle.sdd_report.specs.Pending.{pending_line, pending_lines}
-use Rattle.sdd_report.specs.Trace.{cond_words, of_attempt, of_visit, record_words, time_word, trace, trace_line}
-use Rattle.sdd_report.specs.declared.copies.CopyTable.{CopyTable}
-use Rattle.sdd_report.specs.declared.pending.Pending.{Pending}
-use Rattle.sdd_script.proofs.WordLooks.{no_newline-append}
+use Rattle.sdd_obligations.specs.base.Name.{IsName}
+use Rattle.sdd_obligations.specs.base.declared.condition.Cond.{Cond}
+use Rattle.sdd_obligations.specs.base.declared.number.Ts.{Ts}
+use Rattle.sdd_obligations.specs.base.declared.number.TxnNo.{TxnNo}
+use Rattle.sdd_obligations.specs.catalog.Catalogue.{Catalogue}
+use Rattle.sdd_obligations.specs.catalog.declared.resolved.Class.{Class}
+use Rattle.sdd_obligations.specs.history.declared.record.Rec.{Rec}
+use Rattle.sdd_obligations.specs.history.declared.record.Rec.TheVariants as records
+use Rattle.sdd_obligations.specs.lang.declared.transaction.Txn.{Txn}
+use Rattle.sdd_run.specs.report.Committed.{Told, shipped_line, shipped_of, told_of}
+use Rattle.sdd_run.specs.report.Copies.{copies_lines, copy_lines}
+use Rattle.sdd_run.specs.report.Names.{attempt_word, class_name, class_time, class_word, module_word, spaced, txn_name}
+use Rattle.sdd_run.specs.report.Pending.{pending_line, pending_lines}
+use Rattle.sdd_run.specs.report.Trace.{cond_words, of_attempt, of_visit, record_words, time_word, trace, trace_line}
+use Rattle.sdd_run.specs.report.declared.copies.CopyTable.{CopyTable}
+use Rattle.sdd_run.specs.report.declared.pending.Pending.{Pending}
+use Rattle.sdd_run.proofs.script.WordLooks.{no_newline-append}
 use Rattle.sdd_words.specs.Lines.{AreLines, HasNoNewline, spelled_lines}
 use Rattle.sdd_verify.specs.Lines.{is_order_line, tells_reply}
 use Rattle.sdd_verify.proofs.LinesFound.{IsOther}

@@ -4,33 +4,33 @@ use Rattle.std.specs.Prelude.{Contains, codes}
 use Rattle.std.specs.List.{All, AllByRecursion, AllZip}
 use Rattle.std.proofs.lemmas.Bool.{lt-ltb}
 use Rattle.std.proofs.lemmas.List.{length-map}
-use Rattle.sdd_base.proofs.Membership.{Contains-here, Contains-later}
-use Rattle.sdd_base.specs.Name.{IsName}
-use Rattle.sdd_base.specs.declared.number.TxnNo.{TxnNo}
-use Rattle.sdd_base.specs.declared.reply.Reply.{Reply}
-use Rattle.sdd_base.specs.declared.value.Value.{Value}
-use Rattle.sdd_base.specs.declared.value.Value.TheVariants.{Int, Text}
-use Rattle.sdd_catalog.specs.Catalogue.{Catalogue}
-use Rattle.sdd_catalog.specs.Naming.{AreNamed}
-use Rattle.sdd_catalog.specs.Rules.{IsSound}
-use Rattle.sdd_history.specs.declared.record.Rec.{Rec}
-use Rattle.sdd_lang.specs.declared.transaction.Txn.{Txn}
-use Rattle.sdd_laws.specs.Replay.{IsReplyOf, run}
-use Rattle.sdd_log.specs.Entries.{history}
-use Rattle.sdd_order.specs.SerialOrder.{serial_order}
-use Rattle.sdd_report.specs.Committed.{names_of, order_line}
-use Rattle.sdd_report.specs.Copies.{copies_lines}
-use Rattle.sdd_report.specs.Names.{spaced, txn_name}
-use Rattle.sdd_report.specs.Pending.{pending_lines}
-use Rattle.sdd_report.specs.Replies.{replies_along}
-use Rattle.sdd_report.specs.Report.{Report}
-use Rattle.sdd_report.specs.Trace.{record_words, trace}
-use Rattle.sdd_report.specs.declared.copies.CopyTable.{CopyTable}
+use Rattle.sdd_obligations.proofs.base.Membership.{Contains-here, Contains-later}
+use Rattle.sdd_obligations.specs.base.Name.{IsName}
+use Rattle.sdd_obligations.specs.base.declared.number.TxnNo.{TxnNo}
+use Rattle.sdd_obligations.specs.base.declared.reply.Reply.{Reply}
+use Rattle.sdd_obligations.specs.base.declared.value.Value.{Value}
+use Rattle.sdd_obligations.specs.base.declared.value.Value.TheVariants.{Int, Text}
+use Rattle.sdd_obligations.specs.catalog.Catalogue.{Catalogue}
+use Rattle.sdd_obligations.specs.catalog.Naming.{AreNamed}
+use Rattle.sdd_obligations.specs.catalog.Rules.{IsSound}
+use Rattle.sdd_obligations.specs.history.declared.record.Rec.{Rec}
+use Rattle.sdd_obligations.specs.lang.declared.transaction.Txn.{Txn}
+use Rattle.sdd_obligations.specs.laws.Replay.{IsReplyOf, run}
+use Rattle.sdd_obligations.specs.logs.Entries.{history}
+use Rattle.sdd_obligations.specs.serial_orders.SerialOrder.{serial_order}
+use Rattle.sdd_run.specs.report.Committed.{names_of, order_line}
+use Rattle.sdd_run.specs.report.Copies.{copies_lines}
+use Rattle.sdd_run.specs.report.Names.{spaced, txn_name}
+use Rattle.sdd_run.specs.report.Pending.{pending_lines}
+use Rattle.sdd_run.specs.report.Replies.{replies_along}
+use Rattle.sdd_run.specs.report.Report.{Report}
+use Rattle.sdd_run.specs.report.Trace.{record_words, trace}
+use Rattle.sdd_run.specs.report.declared.copies.CopyTable.{CopyTable}
 use Rattle.sdd_run.specs.Reports.{report_of}
 use Rattle.sdd_run.specs.Runs.{IsReportOn, given_of}
-use Rattle.sdd_script.proofs.WordLooks.{value_fine}
-use Rattle.sdd_script.specs.Valid.{IsValid, IsValue}
-use Rattle.sdd_script.specs.declared.workload.Workload.{Workload}
+use Rattle.sdd_run.proofs.script.WordLooks.{value_fine}
+use Rattle.sdd_run.specs.script.Valid.{IsValid, IsValue}
+use Rattle.sdd_run.specs.script.declared.workload.Workload.{Workload}
 use Rattle.sdd_words.proofs.Spelled.{cut_again}
 use Rattle.sdd_words.specs.Lines.{cut_lines}
 use Rattle.sdd_verified.proofs.GivenValues.{answers_given, copied_given}
@@ -42,7 +42,7 @@ use Rattle.sdd_verified.proofs.SpelledParts.{Spells, all_pending_spell, all_ship
 use Rattle.sdd_verified.proofs.CleanWords.{IsClean, ints_clean, names_are}
 use Rattle.sdd_verified.proofs.ValuesKept.{Hold}
 use Rattle.sdd_verified.specs.Parts.{all_pending_words, all_shipped_words, copies_words, copy_words, order_words, replies_words}
-use Rattle.sdd_lists.specs.InForce.{whole_in}
+use Rattle.sdd_run.specs.class_lists.InForce.{whole_in}
 
 -- a value of a workload holds no newline
 clean : (v : Value) → IsValue v → IsClean v

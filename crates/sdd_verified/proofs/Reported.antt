@@ -5,35 +5,35 @@ use Rattle.std.specs.List.{All, flat_map}
 use Rattle.std.specs.Option.{option_map_or}
 use Rattle.std.proofs.lemmas.Bool.{cases_lt}
 use Rattle.std.proofs.lemmas.List.Elements.{All-cons, All-head, All-nil, All-tail}
-use Rattle.sdd_base.specs.Name.{IsName}
-use Rattle.sdd_base.specs.declared.number.TxnNo.{TxnNo}
-use Rattle.sdd_base.specs.declared.reply.Reply.{Reply}
-use Rattle.sdd_catalog.specs.Catalogue.{Catalogue}
-use Rattle.sdd_catalog.specs.Naming.{AreNamed}
-use Rattle.sdd_catalog.specs.Rules.{IsSound}
-use Rattle.sdd_history.specs.Records.{History}
-use Rattle.sdd_lang.specs.Classes.{class_for}
-use Rattle.sdd_lang.specs.Database.{database_of}
-use Rattle.sdd_lang.specs.Serial.{serial}
-use Rattle.sdd_lang.specs.declared.transaction.Txn.{Txn}
-use Rattle.sdd_laws.specs.Deeds.{IsSubmitted}
-use Rattle.sdd_laws.specs.Eras.{in_force}
-use Rattle.sdd_laws.specs.Replay.{run}
-use Rattle.sdd_laws.specs.Starts.{IsOfSubmit, KeepsStarts}
-use Rattle.sdd_log.specs.Entries.{Given, history}
-use Rattle.sdd_log.specs.Locals.{force_at, redeclares}
+use Rattle.sdd_obligations.specs.base.Name.{IsName}
+use Rattle.sdd_obligations.specs.base.declared.number.TxnNo.{TxnNo}
+use Rattle.sdd_obligations.specs.base.declared.reply.Reply.{Reply}
+use Rattle.sdd_obligations.specs.catalog.Catalogue.{Catalogue}
+use Rattle.sdd_obligations.specs.catalog.Naming.{AreNamed}
+use Rattle.sdd_obligations.specs.catalog.Rules.{IsSound}
+use Rattle.sdd_obligations.specs.history.Records.{History}
+use Rattle.sdd_obligations.specs.lang.Classes.{class_for}
+use Rattle.sdd_obligations.specs.lang.Database.{database_of}
+use Rattle.sdd_obligations.specs.lang.Serial.{serial}
+use Rattle.sdd_obligations.specs.lang.declared.transaction.Txn.{Txn}
+use Rattle.sdd_obligations.specs.laws.Deeds.{IsSubmitted}
+use Rattle.sdd_obligations.specs.laws.Eras.{in_force}
+use Rattle.sdd_obligations.specs.laws.Replay.{run}
+use Rattle.sdd_obligations.specs.laws.Starts.{IsOfSubmit, KeepsStarts}
+use Rattle.sdd_obligations.specs.logs.Entries.{Given, history}
+use Rattle.sdd_obligations.specs.logs.Locals.{force_at, redeclares}
 use Rattle.sdd_obligations.specs.Bounds.{AllFewTicks}
-use Rattle.sdd_progress.specs.Eras.{eras_of}
-use Rattle.sdd_log.specs.Permitted.{AreSubmittedOnce, submits_in}
-use Rattle.sdd_order.specs.Attempts.{Committed, IsCommitted}
-use Rattle.sdd_order.specs.Numbers.{IsFrom1To}
-use Rattle.sdd_order.specs.Places.{event_at}
-use Rattle.sdd_order.specs.SerialOrder.{serial_order}
-use Rattle.sdd_report.specs.Committed.{names_of, order_line, shipped_of}
-use Rattle.sdd_report.specs.Copies.{copies_lines}
-use Rattle.sdd_report.specs.Pending.{pending_lines}
-use Rattle.sdd_report.specs.Replies.{replies_along, reply_lines}
-use Rattle.sdd_report.specs.Report.{Report, after_replies}
+use Rattle.sdd_run.specs.progress.Eras.{eras_of}
+use Rattle.sdd_obligations.specs.logs.Permitted.{AreSubmittedOnce, submits_in}
+use Rattle.sdd_obligations.specs.serial_orders.Attempts.{Committed, IsCommitted}
+use Rattle.sdd_obligations.specs.serial_orders.Numbers.{IsFrom1To}
+use Rattle.sdd_obligations.specs.serial_orders.Places.{event_at}
+use Rattle.sdd_obligations.specs.serial_orders.SerialOrder.{serial_order}
+use Rattle.sdd_run.specs.report.Committed.{names_of, order_line, shipped_of}
+use Rattle.sdd_run.specs.report.Copies.{copies_lines}
+use Rattle.sdd_run.specs.report.Pending.{pending_lines}
+use Rattle.sdd_run.specs.report.Replies.{replies_along, reply_lines}
+use Rattle.sdd_run.specs.report.Report.{Report, after_replies}
 use Rattle.sdd_run.specs.Reports.{report_of}
 use Rattle.sdd_run.specs.Runs.{IsReportOn, given_of}
 use Rattle.sdd_run.specs.Standing.{IsSubmittedBefore, StandsBefore}
@@ -43,16 +43,16 @@ use Rattle.sdd_run.proofs.Goods.{few_ticks}
 use Rattle.sdd_run.proofs.Ordered.{starts}
 use Rattle.sdd_run.proofs.RunOf.{eras_are, few_lists}
 use Rattle.sdd_run.proofs.Submissions.{once}
-use Rattle.sdd_script.specs.Valid.{IsValid, IsValidTxn}
-use Rattle.sdd_script.specs.declared.workload.Workload.{Workload}
+use Rattle.sdd_run.specs.script.Valid.{IsValid, IsValidTxn}
+use Rattle.sdd_run.specs.script.declared.workload.Workload.{Workload}
 use Rattle.sdd_words.specs.Lines.{spelled_lines}
 use Rattle.sdd_verify.specs.Replies.{replies, serial_replies}
 use Rattle.sdd_verify.specs.Classes.{class_of, classes_submitted, era_at}
 use Rattle.sdd_verify.specs.Submitted.{submitted, texts_of, txn_of}
 use Rattle.sdd_verify.specs.Verified.{IsVerified, at}
 use Rattle.sdd_verify.specs.declared.limits.TheConstants.{MAX_REPORT_BYTES}
-use Rattle.sdd_lists.specs.InForce.{classes_in, eras_in, whole_in}
-use Rattle.sdd_lists.proofs.OtherClasses.{whole_over}
+use Rattle.sdd_run.specs.class_lists.InForce.{classes_in, eras_in, whole_in}
+use Rattle.sdd_run.proofs.class_lists.OtherClasses.{whole_over}
 use Rattle.sdd_verified.proofs.ClassPlaces.{class_at, redeclared_at}
 use Rattle.sdd_verified.proofs.ListAt.{event_of_submit, index_or, list_at}
 use Rattle.sdd_verified.proofs.FirstLines.{FirstLine, first_line, whole_end}

@@ -4,25 +4,25 @@ use Rattle.std.specs.Prelude.{codes, flat_map}
 use Rattle.std.specs.Fmt.{decimal}
 use Rattle.std.specs.List.{All, AllByRecursion}
 use Rattle.std.specs.Option.{option_map_or}
-use Rattle.sdd_base.specs.Name.{IsName}
-use Rattle.sdd_base.specs.declared.number.TxnNo.{TxnNo}
-use Rattle.sdd_base.specs.declared.reply.Reply.{Reply}
-use Rattle.sdd_base.specs.declared.reply.Reply.TheVariants.{Rows, Overflow, TooMany}
-use Rattle.sdd_catalog.specs.Catalogue.{Catalogue}
-use Rattle.sdd_catalog.specs.declared.resolved.Class.{Class}
-use Rattle.sdd_catalog.specs.declared.resolved.Fragment.{Fragment}
-use Rattle.sdd_history.specs.declared.record.Rec.{Rec}
-use Rattle.sdd_lang.specs.Database.{Row}
-use Rattle.sdd_lang.specs.declared.transaction.Txn.{Txn}
-use Rattle.sdd_report.specs.Committed.{Told, order_line, names_of, shipped_line, shipped_of, told_of}
-use Rattle.sdd_report.specs.Copies.{copies_lines, copy_lines, place_words}
-use Rattle.sdd_report.specs.Names.{fragment_name, module_word, spaced, txn_name}
-use Rattle.sdd_report.specs.Pending.{pending_line, pending_lines, why_words}
-use Rattle.sdd_report.specs.Replies.{queries_from, query_lines, replies_along, reply_lines, row_line, value_bytes}
-use Rattle.sdd_report.specs.Trace.{trace}
-use Rattle.sdd_report.specs.declared.copies.CopyTable.{CopyTable}
-use Rattle.sdd_report.specs.declared.pending.Pending.{Pending}
-use Rattle.sdd_script.proofs.WordLooks.{no_newline-append}
+use Rattle.sdd_obligations.specs.base.Name.{IsName}
+use Rattle.sdd_obligations.specs.base.declared.number.TxnNo.{TxnNo}
+use Rattle.sdd_obligations.specs.base.declared.reply.Reply.{Reply}
+use Rattle.sdd_obligations.specs.base.declared.reply.Reply.TheVariants.{Rows, Overflow, TooMany}
+use Rattle.sdd_obligations.specs.catalog.Catalogue.{Catalogue}
+use Rattle.sdd_obligations.specs.catalog.declared.resolved.Class.{Class}
+use Rattle.sdd_obligations.specs.catalog.declared.resolved.Fragment.{Fragment}
+use Rattle.sdd_obligations.specs.history.declared.record.Rec.{Rec}
+use Rattle.sdd_obligations.specs.lang.Database.{Row}
+use Rattle.sdd_obligations.specs.lang.declared.transaction.Txn.{Txn}
+use Rattle.sdd_run.specs.report.Committed.{Told, order_line, names_of, shipped_line, shipped_of, told_of}
+use Rattle.sdd_run.specs.report.Copies.{copies_lines, copy_lines, place_words}
+use Rattle.sdd_run.specs.report.Names.{fragment_name, module_word, spaced, txn_name}
+use Rattle.sdd_run.specs.report.Pending.{pending_line, pending_lines, why_words}
+use Rattle.sdd_run.specs.report.Replies.{queries_from, query_lines, replies_along, reply_lines, row_line, value_bytes}
+use Rattle.sdd_run.specs.report.Trace.{trace}
+use Rattle.sdd_run.specs.report.declared.copies.CopyTable.{CopyTable}
+use Rattle.sdd_run.specs.report.declared.pending.Pending.{Pending}
+use Rattle.sdd_run.proofs.script.WordLooks.{no_newline-append}
 use Rattle.sdd_words.specs.Lines.{AreLines, HasNoNewline, spelled_lines}
 use Rattle.sdd_verified.proofs.ReportLines.{lines_in, module_line, number_line, spaced_line, trace_is, trace_lines, txn_line}
 use Rattle.sdd_verified.proofs.CleanWords.{IsClean, fragment_line, ints_clean, names_are, spaced_names, values_line, why_line}

@@ -1,21 +1,21 @@
 -- In the history of a run transactions are submitted in the order of its schedule.
 use Rattle.std.proofs.Common.{◌≡◌, ◌≢◌, ℕ, ◌+◌, ◌<◌, ◌≤◌, ◌==◌, List, [], ◌∷◌, ◌++◌, length, refl, sym, ap, ◌∙◌, subst, arith, eq-eqb, ◌⊎◌, inl, inr, append_assoc}
 use Rattle.std.proofs.lemmas.Bool.{ne_eqb}
-use Rattle.sdd_base.specs.Numbers.{txn_no}
-use Rattle.sdd_base.specs.Words.{tail_of}
-use Rattle.sdd_base.specs.declared.number.TxnNo.{TxnNo}
-use Rattle.sdd_history.specs.declared.record.Rec.TheVariants.{Submit as Submission}
-use Rattle.sdd_base.specs.declared.event.Event.{Event}
-use Rattle.sdd_base.specs.declared.event.Event.TheVariants.{Submit, Deliver, Lose, Repeat, Resend, Tick, Settle, Redeclare, Down, Up}
-use Rattle.sdd_base.specs.declared.site.Site.{Site}
-use Rattle.sdd_laws.specs.Deeds.{IsSubmitted}
-use Rattle.sdd_log.specs.Entries.{Given, Log, Mark, Round, Redeclares, Hand, Submitted, Notes, Does, history}
-use Rattle.sdd_log.specs.Lawful.{IsLawful}
-use Rattle.sdd_log.specs.Marks.{after_mark, from_event, left}
-use Rattle.sdd_log.specs.Permitted.{AreSubmittedOnce, IsPermitted, one_if, submits_by, submits_in}
-use Rattle.sdd_log.proofs.NewMarks.{lawful_permitted, left_is, marked}
-use Rattle.sdd_invariants.proofs.Made.{permitted_before}
-use Rattle.sdd_invariants.proofs.Places.{compare}
+use Rattle.sdd_obligations.specs.base.Numbers.{txn_no}
+use Rattle.sdd_obligations.specs.base.Words.{tail_of}
+use Rattle.sdd_obligations.specs.base.declared.number.TxnNo.{TxnNo}
+use Rattle.sdd_obligations.specs.history.declared.record.Rec.TheVariants.{Submit as Submission}
+use Rattle.sdd_obligations.specs.base.declared.event.Event.{Event}
+use Rattle.sdd_obligations.specs.base.declared.event.Event.TheVariants.{Submit, Deliver, Lose, Repeat, Resend, Tick, Settle, Redeclare, Down, Up}
+use Rattle.sdd_obligations.specs.base.declared.site.Site.{Site}
+use Rattle.sdd_obligations.specs.laws.Deeds.{IsSubmitted}
+use Rattle.sdd_obligations.specs.logs.Entries.{Given, Log, Mark, Round, Redeclares, Hand, Submitted, Notes, Does, history}
+use Rattle.sdd_obligations.specs.logs.Lawful.{IsLawful}
+use Rattle.sdd_obligations.specs.logs.Marks.{after_mark, from_event, left}
+use Rattle.sdd_obligations.specs.logs.Permitted.{AreSubmittedOnce, IsPermitted, one_if, submits_by, submits_in}
+use Rattle.sdd_obligations.proofs.logs.NewMarks.{lawful_permitted, left_is, marked}
+use Rattle.sdd_obligations.proofs.invariants.Made.{permitted_before}
+use Rattle.sdd_obligations.proofs.invariants.Places.{compare}
 use Rattle.sdd_lawful.proofs.Places.{place_rises}
 use Rattle.sdd_lawful.proofs.Submissions.{given_at, submit_in}
 use Rattle.sdd_verified.proofs.Numbered.{Separates}

@@ -7,31 +7,31 @@ use Rattle.std.specs.BTreeSet.{insert_key}
 use Rattle.std.specs.List.{AllByRecursion, cons_option}
 use Rattle.std.specs.Ordering.{match_ordering}
 use Rattle.std.specs.declared.cmp.Ordering.TheVariants.{Less, Equal, Greater}
-use Rattle.sdd_base.specs.Order.{column, row_cmp}
-use Rattle.sdd_base.specs.declared.change.Change.{Change}
-use Rattle.sdd_base.specs.declared.number.RelNo.{RelNo}
-use Rattle.sdd_base.specs.declared.reply.Reply.{Reply}
-use Rattle.sdd_base.specs.declared.reply.Reply.TheVariants.{Rows, Overflow, TooMany}
-use Rattle.sdd_base.specs.declared.value.Value.{Value}
-use Rattle.sdd_base.specs.declared.value.Value.TheVariants.{Int, Text}
-use Rattle.sdd_catalog.specs.Catalogue.{Catalogue, fragment_of}
-use Rattle.sdd_lang.specs.declared.assign.Assign.{Assign}
-use Rattle.sdd_lang.specs.declared.assign.Assign.TheVariants.{To, Add}
-use Rattle.sdd_lang.specs.declared.condition.Condition.{Condition}
-use Rattle.sdd_lang.specs.declared.condition.Ref.{Ref}
-use Rattle.sdd_lang.specs.declared.effect.Effect.{Effect}
-use Rattle.sdd_lang.specs.declared.statement.Stmt.{Stmt}
-use Rattle.sdd_lang.specs.declared.statement.Stmt.TheVariants.{Put, Query, Update, Delete}
-use Rattle.sdd_lang.specs.declared.transaction.Txn.{Txn}
-use Rattle.sdd_lang.specs.Condition.{Tuple, meets_all, part_of, value_at}
-use Rattle.sdd_lang.specs.Database.{Database, Item, Row, database_of, item_cmp, key_in, rows_of, with_row}
-use Rattle.sdd_lang.specs.Effect.{Changed, change_of, effect, effect_from, failed, rows_in, with_change, with_deletes, with_updates}
-use Rattle.sdd_lang.specs.Query.{answer, product, projection, selection}
-use Rattle.sdd_lang.specs.Serial.{after_changes, changed_by, item_of, serial, set_to}
-use Rattle.sdd_lang.specs.Update.{added, assigned, assigned_all, chosen, in_range, replaced}
-use Rattle.sdd_lang.proofs.SortedEntries.{each_inserted, each_left, item_cmp_exact}
-use Rattle.sdd_laws.specs.Ledger.{Ledger, changes}
-use Rattle.sdd_laws.specs.Replayed.{Gives}
+use Rattle.sdd_obligations.specs.base.Order.{column, row_cmp}
+use Rattle.sdd_obligations.specs.base.declared.change.Change.{Change}
+use Rattle.sdd_obligations.specs.base.declared.number.RelNo.{RelNo}
+use Rattle.sdd_obligations.specs.base.declared.reply.Reply.{Reply}
+use Rattle.sdd_obligations.specs.base.declared.reply.Reply.TheVariants.{Rows, Overflow, TooMany}
+use Rattle.sdd_obligations.specs.base.declared.value.Value.{Value}
+use Rattle.sdd_obligations.specs.base.declared.value.Value.TheVariants.{Int, Text}
+use Rattle.sdd_obligations.specs.catalog.Catalogue.{Catalogue, fragment_of}
+use Rattle.sdd_obligations.specs.lang.declared.assign.Assign.{Assign}
+use Rattle.sdd_obligations.specs.lang.declared.assign.Assign.TheVariants.{To, Add}
+use Rattle.sdd_obligations.specs.lang.declared.condition.Condition.{Condition}
+use Rattle.sdd_obligations.specs.lang.declared.condition.Ref.{Ref}
+use Rattle.sdd_obligations.specs.lang.declared.effect.Effect.{Effect}
+use Rattle.sdd_obligations.specs.lang.declared.statement.Stmt.{Stmt}
+use Rattle.sdd_obligations.specs.lang.declared.statement.Stmt.TheVariants.{Put, Query, Update, Delete}
+use Rattle.sdd_obligations.specs.lang.declared.transaction.Txn.{Txn}
+use Rattle.sdd_obligations.specs.lang.Condition.{Tuple, meets_all, part_of, value_at}
+use Rattle.sdd_obligations.specs.lang.Database.{Database, Item, Row, database_of, item_cmp, key_in, rows_of, with_row}
+use Rattle.sdd_obligations.specs.lang.Effect.{Changed, change_of, effect, effect_from, failed, rows_in, with_change, with_deletes, with_updates}
+use Rattle.sdd_obligations.specs.lang.Query.{answer, product, projection, selection}
+use Rattle.sdd_obligations.specs.lang.Serial.{after_changes, changed_by, item_of, serial, set_to}
+use Rattle.sdd_obligations.specs.lang.Update.{added, assigned, assigned_all, chosen, in_range, replaced}
+use Rattle.sdd_obligations.proofs.lang.SortedEntries.{each_inserted, each_left, item_cmp_exact}
+use Rattle.sdd_obligations.specs.laws.Ledger.{Ledger, changes}
+use Rattle.sdd_obligations.specs.laws.Replayed.{Gives}
 
 pub both_hold : {A : Type 0} (P : A → Type 0) (xs ys : List A) → AllByRecursion P xs → AllByRecursion P ys → AllByRecursion P (xs ++ ys)
 both_hold P [] ys h k = k

@@ -1,20 +1,20 @@
 -- The lines of a report, part by part, each without its newline.
 use Rattle.std.specs.Prelude.{ℕ, ◌+◌, List, [], ◌∷◌, ◌++◌, codes, flat_map, length, map, Option, Some, None}
 use Rattle.std.specs.Fmt.{decimal}
-use Rattle.sdd_base.specs.declared.number.TxnNo.{TxnNo}
-use Rattle.sdd_base.specs.declared.reply.Reply.{Reply}
-use Rattle.sdd_base.specs.declared.reply.Reply.TheVariants.{Rows, Overflow, TooMany}
-use Rattle.sdd_catalog.specs.Catalogue.{Catalogue}
-use Rattle.sdd_history.specs.declared.record.Rec.{Rec}
-use Rattle.sdd_lang.specs.Database.{Row}
-use Rattle.sdd_lang.specs.declared.transaction.Txn.{Txn}
-use Rattle.sdd_report.specs.Committed.{Told, told_of}
-use Rattle.sdd_report.specs.Copies.{place_words}
-use Rattle.sdd_report.specs.Names.{spaced, txn_name}
-use Rattle.sdd_report.specs.Pending.{why_words}
-use Rattle.sdd_report.specs.Replies.{value_bytes}
-use Rattle.sdd_report.specs.declared.copies.CopyTable.{CopyTable}
-use Rattle.sdd_report.specs.declared.pending.Pending.{Pending}
+use Rattle.sdd_obligations.specs.base.declared.number.TxnNo.{TxnNo}
+use Rattle.sdd_obligations.specs.base.declared.reply.Reply.{Reply}
+use Rattle.sdd_obligations.specs.base.declared.reply.Reply.TheVariants.{Rows, Overflow, TooMany}
+use Rattle.sdd_obligations.specs.catalog.Catalogue.{Catalogue}
+use Rattle.sdd_obligations.specs.history.declared.record.Rec.{Rec}
+use Rattle.sdd_obligations.specs.lang.Database.{Row}
+use Rattle.sdd_obligations.specs.lang.declared.transaction.Txn.{Txn}
+use Rattle.sdd_run.specs.report.Committed.{Told, told_of}
+use Rattle.sdd_run.specs.report.Copies.{place_words}
+use Rattle.sdd_run.specs.report.Names.{spaced, txn_name}
+use Rattle.sdd_run.specs.report.Pending.{why_words}
+use Rattle.sdd_run.specs.report.Replies.{value_bytes}
+use Rattle.sdd_run.specs.report.declared.copies.CopyTable.{CopyTable}
+use Rattle.sdd_run.specs.report.declared.pending.Pending.{Pending}
 
 -- rows
 

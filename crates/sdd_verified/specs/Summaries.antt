@@ -1,12 +1,12 @@
 -- Schedules that leave nothing undone, and summaries that tell of as many Commits as transactions.
 use Rattle.std.specs.Prelude.{ℕ, ◌≡◌, ◌≤◌, Bool, true, false, List, [], ◌∷◌, refl}
 use Rattle.std.specs.List.{list_any}
-use Rattle.sdd_base.specs.Numbers.{dm_no, txn_no}
-use Rattle.sdd_base.specs.declared.event.Event.{Event}
-use Rattle.sdd_base.specs.declared.event.Event.TheVariants.{Down, Settle, Submit}
-use Rattle.sdd_log.specs.Permitted.{submits_in}
-use Rattle.sdd_make.specs.Summary.{summary_text}
-use Rattle.sdd_make.specs.declared.summary.Summary.{Summary}
+use Rattle.sdd_obligations.specs.base.Numbers.{dm_no, txn_no}
+use Rattle.sdd_obligations.specs.base.declared.event.Event.{Event}
+use Rattle.sdd_obligations.specs.base.declared.event.Event.TheVariants.{Down, Settle, Submit}
+use Rattle.sdd_obligations.specs.logs.Permitted.{submits_in}
+use Rattle.sdd_run.specs.make.Summary.{summary_text}
+use Rattle.sdd_run.specs.make.declared.summary.Summary.{Summary}
 use Rattle.sdd_run.specs.Settled.{EndsAtRest}
 
 -- whether an event takes a data module down

@@ -1,17 +1,17 @@
 -- What the text of a report gives back.
 use Rattle.std.specs.Prelude.{ℕ, ◌≡◌, List, map}
-use Rattle.sdd_base.specs.declared.number.TxnNo.{TxnNo}
-use Rattle.sdd_catalog.specs.Catalogue.{Catalogue}
-use Rattle.sdd_lang.specs.Database.{Row}
-use Rattle.sdd_lang.specs.declared.transaction.Txn.{Txn}
-use Rattle.sdd_report.specs.Committed.{names_of}
-use Rattle.sdd_report.specs.Copies.{place_words}
-use Rattle.sdd_report.specs.Names.{txn_name}
-use Rattle.sdd_report.specs.declared.copies.CopyTable.{CopyTable}
-use Rattle.sdd_report.specs.declared.pending.Pending.{Pending}
+use Rattle.sdd_obligations.specs.base.declared.number.TxnNo.{TxnNo}
+use Rattle.sdd_obligations.specs.catalog.Catalogue.{Catalogue}
+use Rattle.sdd_obligations.specs.lang.Database.{Row}
+use Rattle.sdd_obligations.specs.lang.declared.transaction.Txn.{Txn}
+use Rattle.sdd_run.specs.report.Committed.{names_of}
+use Rattle.sdd_run.specs.report.Copies.{place_words}
+use Rattle.sdd_run.specs.report.Names.{txn_name}
+use Rattle.sdd_run.specs.report.declared.copies.CopyTable.{CopyTable}
+use Rattle.sdd_run.specs.report.declared.pending.Pending.{Pending}
 use Rattle.sdd_run.specs.Reports.{report_of}
 use Rattle.sdd_run.specs.Runs.{IsReportOn, given_of, order_of, plain_run}
-use Rattle.sdd_script.specs.declared.workload.Workload.{Workload}
+use Rattle.sdd_run.specs.script.declared.workload.Workload.{Workload}
 
 -- the names of the pending transactions, and their numbers
 abbrev pub pending_names : List Txn → List Pending → List (List ℕ)

@@ -1,12 +1,12 @@
 //! The lines of pending transactions in a report.
 ghost use Rattle.std.specs.Prelude.{ℕ, ◌≡◌, [], false, Contains, List, count_by, length};
-ghost use Rattle.sdd_catalog.specs.Catalogue.{Catalogue};
-ghost use Rattle.sdd_catalog.specs.Naming.{AreNamed};
-ghost use Rattle.sdd_catalog.specs.Rules.{IsSound};
+ghost use Rattle.sdd_obligations.specs.catalog.Catalogue.{Catalogue};
+ghost use Rattle.sdd_obligations.specs.catalog.Naming.{AreNamed};
+ghost use Rattle.sdd_obligations.specs.catalog.Rules.{IsSound};
 ghost use Rattle.sdd_run.specs.Reports.{report_of};
 ghost use Rattle.sdd_run.specs.Runs.{IsReportOn, given_of};
-ghost use Rattle.sdd_script.specs.Valid.{IsValid};
-ghost use Rattle.sdd_script.specs.declared.workload.Workload.{Workload};
+ghost use Rattle.sdd_run.specs.script.Valid.{IsValid};
+ghost use Rattle.sdd_run.specs.script.declared.workload.Workload.{Workload};
 ghost use Rattle.sdd_verify.specs.Lines.{lines_of};
 ghost use Rattle.sdd_verified.specs.Lines.{tells_pending};
 

@@ -1,10 +1,10 @@
 //! Every run has a report, or comes to the limit.
 ghost use Rattle.std.specs.Prelude.{ℕ, ◌≡◌, ◌⊎◌, List};
-ghost use Rattle.sdd_catalog.specs.Catalogue.{Catalogue};
-ghost use Rattle.sdd_catalog.specs.Rules.{IsSound};
+ghost use Rattle.sdd_obligations.specs.catalog.Catalogue.{Catalogue};
+ghost use Rattle.sdd_obligations.specs.catalog.Rules.{IsSound};
 ghost use Rattle.sdd_run.specs.Runs.{EndsAtLimit, IsReportOn};
-ghost use Rattle.sdd_script.specs.Valid.{IsValid};
-ghost use Rattle.sdd_script.specs.declared.workload.Workload.{Workload};
+ghost use Rattle.sdd_run.specs.script.Valid.{IsValid};
+ghost use Rattle.sdd_run.specs.script.declared.workload.Workload.{Workload};
 
 /// A law: the run of a workload has a report, or the limit ends the run, whatever the modules do and
 /// with no regard to memory.

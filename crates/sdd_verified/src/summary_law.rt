@@ -1,13 +1,13 @@
 //! The summary of a run that leaves nothing undone.
 ghost use Rattle.std.specs.Prelude.{ℕ, ◌≡◌, ◌≤◌, List, length};
-ghost use Rattle.sdd_base.specs.declared.limits.TheConstants.{MAX_TXNS};
-ghost use Rattle.sdd_catalog.specs.Catalogue.{Catalogue};
-ghost use Rattle.sdd_catalog.specs.Rules.{IsSound};
-ghost use Rattle.sdd_make.specs.Bank.{bank};
-ghost use Rattle.sdd_make.specs.Turns.{workload_of};
+ghost use Rattle.sdd_obligations.specs.base.declared.limits.TheConstants.{MAX_TXNS};
+ghost use Rattle.sdd_obligations.specs.catalog.Catalogue.{Catalogue};
+ghost use Rattle.sdd_obligations.specs.catalog.Rules.{IsSound};
+ghost use Rattle.sdd_run.specs.make.Bank.{bank};
+ghost use Rattle.sdd_run.specs.make.Turns.{workload_of};
 ghost use Rattle.sdd_run.specs.Runs.{IsSummaryOn};
-ghost use Rattle.sdd_script.specs.Valid.{IsValid};
-ghost use Rattle.sdd_script.specs.declared.workload.Workload.{Workload};
+ghost use Rattle.sdd_run.specs.script.Valid.{IsValid};
+ghost use Rattle.sdd_run.specs.script.declared.workload.Workload.{Workload};
 ghost use Rattle.sdd_verified.specs.Summaries.{SettleAll, TellsAllDone};
 
 /// A law: where the events submit each transaction, take no data module down and end with a settle

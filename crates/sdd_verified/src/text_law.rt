@@ -1,11 +1,11 @@
 //! What the text of a report gives back.
 ghost use Rattle.std.specs.Prelude.{ℕ, ◌≡◌, List};
-ghost use Rattle.sdd_catalog.specs.Catalogue.{Catalogue};
-ghost use Rattle.sdd_catalog.specs.Naming.{AreNamed};
-ghost use Rattle.sdd_catalog.specs.Rules.{IsSound};
+ghost use Rattle.sdd_obligations.specs.catalog.Catalogue.{Catalogue};
+ghost use Rattle.sdd_obligations.specs.catalog.Naming.{AreNamed};
+ghost use Rattle.sdd_obligations.specs.catalog.Rules.{IsSound};
 ghost use Rattle.sdd_run.specs.Runs.{IsReportOn};
-ghost use Rattle.sdd_script.specs.Valid.{IsValid};
-ghost use Rattle.sdd_script.specs.declared.workload.Workload.{Workload};
+ghost use Rattle.sdd_run.specs.script.Valid.{IsValid};
+ghost use Rattle.sdd_run.specs.script.declared.workload.Workload.{Workload};
 ghost use Rattle.sdd_verified.specs.Tellings.{TellAlike, TellOfTheSame};
 
 /// A law: two reports that have one text tell the same order, replies, pending transactions and

@@ -3,18 +3,18 @@ use Rattle.std.proofs.Common.{◌≡◌, ℕ, ◌+◌, List, [], ◌∷◌, ◌+
 use Rattle.std.specs.Fmt.{decimal}
 use Rattle.std.proofs.lemmas.List.{drop_all, drop_more}
 use Rattle.std.specs.Prelude.{codes, flat_map}
-use Rattle.sdd_base.proofs.ReadingLaws.{fails_bind}
-use Rattle.sdd_base.specs.Readings.{◌>>=◌, Fails}
-use Rattle.sdd_base.specs.declared.reply.Reply.{Reply}
-use Rattle.sdd_base.specs.declared.reply.Reply.TheVariants.{Rows, Overflow, TooMany}
-use Rattle.sdd_base.specs.declared.value.Value.{Value}
-use Rattle.sdd_catalog.specs.Catalogue.{Catalogue}
-use Rattle.sdd_lang.specs.Database.{Database}
-use Rattle.sdd_lang.specs.Effect.{effect}
-use Rattle.sdd_lang.specs.Serial.{after_changes}
-use Rattle.sdd_lang.specs.declared.transaction.Txn.{Txn}
+use Rattle.sdd_script.proofs.base.ReadingLaws.{fails_bind}
+use Rattle.sdd_script.specs.base.Readings.{◌>>=◌, Fails}
+use Rattle.sdd_script.specs.base.declared.reply.Reply.{Reply}
+use Rattle.sdd_script.specs.base.declared.reply.Reply.TheVariants.{Rows, Overflow, TooMany}
+use Rattle.sdd_script.specs.base.declared.value.Value.{Value}
+use Rattle.sdd_script.specs.catalog.Catalogue.{Catalogue}
+use Rattle.sdd_script.specs.lang.Database.{Database}
+use Rattle.sdd_script.specs.lang.Effect.{effect}
+use Rattle.sdd_script.specs.lang.Serial.{after_changes}
+use Rattle.sdd_script.specs.lang.declared.transaction.Txn.{Txn}
 use Rattle.sdd_report.specs.Replies.{outcome_lines, queries_from, query_lines, reply_lines, row_line, value_bytes}
-use Rattle.sdd_words.specs.Lines.{cut_lines}
+use Rattle.sdd_script.specs.words.Lines.{cut_lines}
 use Rattle.sdd_verify.specs.Flaws.{line_in}
 use Rattle.sdd_verify.specs.declared.flaw.Flaw.{Flaw}
 use Rattle.sdd_verify.specs.Lines.{Numbered, lines_of, passed}

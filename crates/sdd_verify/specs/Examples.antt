@@ -1,16 +1,16 @@
 -- Worked rows: p puts a row, and q, of the same class, asks for all rows.
 use Rattle.std.specs.Prelude.{ℕ, ◌≡◌, [], ◌∷◌, ◌++◌, List, codes, pos, refl}
 use Rattle.std.specs.Fmt.{digits}
-use Rattle.sdd_base.specs.Numbers.{rel_no, tm_no, txn_no}
-use Rattle.sdd_base.specs.declared.event.Event.TheVariants.{Submit, Settle, Redeclare}
-use Rattle.sdd_base.specs.declared.value.Value.TheVariants.{Int}
-use Rattle.sdd_catalog.specs.declared.parts.ClassPart.{ClassPart}
-use Rattle.sdd_lang.specs.declared.condition.Ref.{Ref}
-use Rattle.sdd_lang.specs.declared.statement.Stmt.TheVariants.{Put, Query}
-use Rattle.sdd_lang.specs.declared.transaction.Txn.{Txn}
+use Rattle.sdd_script.specs.base.Numbers.{rel_no, tm_no, txn_no}
+use Rattle.sdd_script.specs.base.declared.event.Event.TheVariants.{Submit, Settle, Redeclare}
+use Rattle.sdd_script.specs.base.declared.value.Value.TheVariants.{Int}
+use Rattle.sdd_script.specs.catalog.declared.parts.ClassPart.{ClassPart}
+use Rattle.sdd_script.specs.lang.declared.condition.Ref.{Ref}
+use Rattle.sdd_script.specs.lang.declared.statement.Stmt.TheVariants.{Put, Query}
+use Rattle.sdd_script.specs.lang.declared.transaction.Txn.{Txn}
 use Rattle.sdd_script.specs.Examples.{accounts}
 use Rattle.sdd_script.specs.declared.workload.Workload.{Workload}
-use Rattle.sdd_words.specs.Lines.{cut_lines}
+use Rattle.sdd_script.specs.words.Lines.{cut_lines}
 use Rattle.sdd_verify.specs.Classes.{classes_submitted}
 use Rattle.sdd_verify.specs.Verdict.{verdict}
 use Rattle.sdd_verify.specs.declared.verdict.Verdict.{Verdict}

@@ -1,13 +1,13 @@
 //! The classes of the submitted transactions.
 ghost use Rattle.std.specs.Prelude.{ℕ, ◌≡◌, ◌<◌, ◌^◌, ◌++◌, All, IfOk};
-ghost use Rattle.sdd_lang.specs.Fits.{Fits};
+ghost use Rattle.sdd_script.specs.lang.Fits.{Fits};
 ghost use Rattle.sdd_verify.specs.Classes.{class_if, classes_from, era_at, redeclared};
 ghost use Rattle.sdd_verify.specs.Submitted.{submitted_by};
 
 use crate::submitted::submitted_by;
-use sdd_base::{Event, NoMemory};
-use sdd_catalog::Catalogue;
-use sdd_lang::{Txn, class_for};
+use sdd_script::sdd_base::{Event, NoMemory};
+use sdd_script::sdd_catalog::Catalogue;
+use sdd_script::sdd_lang::{Txn, class_for};
 use sdd_script::Workload;
 use std::alloc::Global;
 

@@ -1,9 +1,9 @@
 //! What ends the judging of a report.
 ghost use Rattle.std.specs.Prelude.{◌≡◌, Err};
-ghost use Rattle.sdd_base.specs.Readings.{Gives, known, must};
+ghost use Rattle.sdd_script.specs.base.Readings.{Gives, known, must};
 ghost use Rattle.sdd_verify.specs.Flaws.{line_in};
 
-use sdd_base::NoMemory;
+use sdd_script::sdd_base::NoMemory;
 use std::alloc::{AllocError, AllocFailed};
 
 /// What ends the judging of a report.

@@ -1,6 +1,6 @@
 //! The judging of a report.
 ghost use Rattle.std.specs.Prelude.{◌≡◌, IfOk};
-ghost use Rattle.sdd_base.specs.Readings.{Gives};
+ghost use Rattle.sdd_script.specs.base.Readings.{Gives};
 ghost use Rattle.sdd_script.specs.Valid.{IsValid};
 ghost use Rattle.sdd_verify.specs.Flaws.{line_in};
 ghost use Rattle.sdd_verify.specs.Verdict.{judged, verdict};
@@ -13,8 +13,8 @@ use crate::order_line::order_line;
 use crate::replies::pass_replies;
 use crate::submitted::Submitted;
 use crate::verdict::Verdict;
-use sdd_base::NoMemory;
-use sdd_catalog::Catalogue;
+use sdd_script::sdd_base::NoMemory;
+use sdd_script::sdd_catalog::Catalogue;
 use sdd_lists::lists_of;
 use sdd_script::Workload;
 use std::alloc::Global;

@@ -1,13 +1,13 @@
 //! The lines of a report.
 ghost use Rattle.std.specs.Prelude.{◌≡◌, ◌+◌, ◌≤◌, ◌<◌, ◌∷◌, [], length, MatchOption};
-ghost use Rattle.sdd_base.specs.Readings.{Gives};
+ghost use Rattle.sdd_script.specs.base.Readings.{Gives};
 ghost use Rattle.sdd_verify.specs.Flaws.{line_in};
 ghost use Rattle.sdd_verify.specs.Lines.{lines_of, tells_reply};
 ghost use Rattle.sdd_verify.specs.declared.limits.TheConstants.{MAX_REPORT_BYTES};
 
 use crate::flaw::{Flaw, must};
 use crate::limits::MAX_REPORT_BYTES;
-use sdd_words::next_line;
+use sdd_script::sdd_words::next_line;
 
 /// Lines of a report that are left, with the number of the first of them.
 #[derive(Clone, Copy)]

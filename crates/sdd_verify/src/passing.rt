@@ -1,13 +1,13 @@
 //! Lines of a report that have to come.
 ghost use Rattle.std.specs.Prelude.{◌≡◌, ◌∷◌, []};
-ghost use Rattle.sdd_base.specs.Readings.{Gives};
+ghost use Rattle.sdd_script.specs.base.Readings.{Gives};
 ghost use Rattle.sdd_verify.specs.Flaws.{line_in};
 ghost use Rattle.sdd_verify.specs.Lines.{lines_of, passed};
 ghost use Rattle.sdd_verify.specs.Numbered.{numbered};
 
 use crate::flaw::Flaw;
 use crate::lines::Lines;
-use sdd_words::next_line;
+use sdd_script::sdd_words::next_line;
 
 /// What stands behind this line, which has to come first.
 fn pass_line<'a>(line: &[u8], report: Lines<'a>) -> Result<Lines<'a>, Flaw>

@@ -1,8 +1,8 @@
 //! The replies that have to come.
 ghost use Rattle.std.specs.Prelude.{◌≡◌, map, All};
-ghost use Rattle.sdd_base.specs.Readings.{Gives};
-ghost use Rattle.sdd_lang.specs.Database.{database_of};
-ghost use Rattle.sdd_lang.specs.Fits.{Fits, FitsStart};
+ghost use Rattle.sdd_script.specs.base.Readings.{Gives};
+ghost use Rattle.sdd_script.specs.lang.Database.{database_of};
+ghost use Rattle.sdd_script.specs.lang.Fits.{Fits, FitsStart};
 ghost use Rattle.sdd_report.specs.Replies.{reply_lines};
 ghost use Rattle.sdd_verify.specs.Flaws.{line_in};
 ghost use Rattle.sdd_verify.specs.Lines.{lines_of, passed};
@@ -12,9 +12,9 @@ ghost use Rattle.sdd_verify.specs.Replies.{replies_on};
 use crate::flaw::Flaw;
 use crate::lines::Lines;
 use crate::passing::pass;
-use sdd_base::Reply;
-use sdd_catalog::Catalogue;
-use sdd_lang::Txn;
+use sdd_script::sdd_base::Reply;
+use sdd_script::sdd_catalog::Catalogue;
+use sdd_script::sdd_lang::Txn;
 use sdd_plain::Plain;
 use sdd_report::put_reply;
 use sdd_script::StartRows;

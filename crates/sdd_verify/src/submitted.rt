@@ -4,11 +4,11 @@ ghost use Rattle.std.specs.BTreeMap.{get};
 ghost use Rattle.std.specs.Cmp.Lexicographic.{slice_cmp};
 ghost use Rattle.std.specs.Option.{option_copied};
 ghost use Rattle.std.specs.Ordering.{nat_cmp};
-ghost use Rattle.sdd_base.specs.declared.limits.TheConstants.{MAX_EVENTS};
+ghost use Rattle.sdd_script.specs.base.declared.limits.TheConstants.{MAX_EVENTS};
 ghost use Rattle.sdd_verify.specs.Submitted.{named, submitted, submitted_by, texts_of, txn_of};
 
-use sdd_base::{Bytes, Event, NoMemory, TxnNo};
-use sdd_lang::Txn;
+use sdd_script::sdd_base::{Bytes, Event, NoMemory, TxnNo};
+use sdd_script::sdd_lang::Txn;
 use sdd_script::Workload;
 use std::alloc::Global;
 use std::collections::BTreeMap;
@@ -27,7 +27,7 @@ impl<'a> Model for Submitted<'a> {
     ghost use Rattle.std.specs.BTreeMap.{get};
     ghost use Rattle.std.specs.Cmp.Lexicographic.{slice_cmp};
     ghost use Rattle.std.specs.Ordering.{nat_cmp};
-    ghost use Rattle.sdd_lang.specs.declared.transaction.Txn.{Txn as Transaction};
+    ghost use Rattle.sdd_script.specs.lang.declared.transaction.Txn.{Txn as Transaction};
     ghost use Rattle.sdd_verify.specs.Submitted.{named};
 
     ghost Value = { List Transaction };

@@ -1,21 +1,21 @@
 -- What the laws say of the worked logs of specs/Examples: an undeclared query beside a put, and a query that is rejected in
 -- the event in which it comes.
 use Rattle.std.proofs.Common.{ℕ, ◌+◌, ◌++◌, ◌<◌, ◌==◌, ◌∷◌, ◌≡◌, ◌≢◌, ◌≤◌, ◌⊎◌, List, Some, [], arith, inl, inr, lit<, lit≤, refl, subst, take, true}
-use Rattle.sdd_base.specs.Numbers.{class_no, dm_no, time_at, tm_no, txn_no}
-use Rattle.sdd_base.specs.declared.site.Site.{Site}
-use Rattle.sdd_base.specs.declared.site.Site.TheVariants.{D, T, U}
-use Rattle.sdd_catalog.specs.Rules.{IsSound, faults_of}
-use Rattle.sdd_history.specs.declared.record.Rec.TheVariants.{Reject as Rejected}
-use Rattle.sdd_wire.specs.declared.msg.Msg.{Msg}
-use Rattle.sdd_wire.specs.declared.msg.Msg.TheVariants.{Read, Ready, Reject, Write}
-use Rattle.sdd_module.specs.SiteLog.{Records}
-use Rattle.sdd_pipe.specs.Pipe.{head}
-use Rattle.sdd_dm.specs.Due.{holds_back}
-use Rattle.sdd_log.specs.Due.{extended}
-use Rattle.sdd_log.specs.Entries.{Does}
-use Rattle.sdd_log.specs.Permitted.{AreSubmittedOnce, IsPermitted, one_if}
-use Rattle.sdd_log.proofs.NewMarks.{lawful_permitted}
-use Rattle.sdd_log.specs.Snapshots.{base_of}
+use Rattle.sdd_invariants.specs.base.Numbers.{class_no, dm_no, time_at, tm_no, txn_no}
+use Rattle.sdd_invariants.specs.base.declared.site.Site.{Site}
+use Rattle.sdd_invariants.specs.base.declared.site.Site.TheVariants.{D, T, U}
+use Rattle.sdd_invariants.specs.catalog.Rules.{IsSound, faults_of}
+use Rattle.sdd_invariants.specs.history.declared.record.Rec.TheVariants.{Reject as Rejected}
+use Rattle.sdd_invariants.specs.wire.declared.msg.Msg.{Msg}
+use Rattle.sdd_invariants.specs.wire.declared.msg.Msg.TheVariants.{Read, Ready, Reject, Write}
+use Rattle.sdd_invariants.specs.site_module.SiteLog.{Records}
+use Rattle.sdd_invariants.specs.pipe.Pipe.{head}
+use Rattle.sdd_invariants.specs.dm.Due.{holds_back}
+use Rattle.sdd_invariants.specs.logs.Due.{extended}
+use Rattle.sdd_invariants.specs.logs.Entries.{Does}
+use Rattle.sdd_invariants.specs.logs.Permitted.{AreSubmittedOnce, IsPermitted, one_if}
+use Rattle.sdd_invariants.proofs.logs.NewMarks.{lawful_permitted}
+use Rattle.sdd_invariants.specs.logs.Snapshots.{base_of}
 use Rattle.sdd_invariants.proofs.Apart.{low_or_high}
 use Rattle.sdd_invariants.proofs.Bools.{same_or_not}
 use Rattle.sdd_invariants.proofs.Undeclared.{low_applied}

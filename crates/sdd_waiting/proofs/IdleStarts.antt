@@ -1,22 +1,22 @@
 -- Where nothing is due at a transaction module that isn't on hold, an idle class has no queue.
 use Rattle.std.proofs.Common.{ℕ, ◌∷◌, ◌≡◌, List, None, Option, Some, [], false, refl, slice_get, subst, sym}
-use Rattle.sdd_base.specs.Numbers.{tm_no}
-use Rattle.sdd_base.specs.Words.{first_some, head_of}
-use Rattle.sdd_base.specs.declared.number.TmNo.{TmNo}
-use Rattle.sdd_base.specs.declared.site.Site.TheVariants.{T}
-use Rattle.sdd_catalog.specs.Catalogue.{Catalogue, class_at}
-use Rattle.sdd_catalog.specs.Rules.{IsSound}
-use Rattle.sdd_graph.specs.Edges.{IsClassOf}
-use Rattle.sdd_module.specs.SiteLog.{Bases, Log, Setting}
-use Rattle.sdd_attempt.specs.Attempts.{active}
-use Rattle.sdd_attempt.specs.Queues.{Queued, queue}
-use Rattle.sdd_tm.specs.Due.{due, exchange_due, held_due, null_due, start_due, start_of}
-use Rattle.sdd_tm.specs.Views.{View, class_view, on_hold, runs, view_of}
-use Rattle.sdd_log.specs.Due.{site_due}
-use Rattle.sdd_log.specs.Entries as all
-use Rattle.sdd_log.specs.Entries.{Given}
-use Rattle.sdd_log.specs.Locals.{local_of, setting_of}
-use Rattle.sdd_log.specs.Snapshots.{base_of}
+use Rattle.sdd_invariants.specs.base.Numbers.{tm_no}
+use Rattle.sdd_invariants.specs.base.Words.{first_some, head_of}
+use Rattle.sdd_invariants.specs.base.declared.number.TmNo.{TmNo}
+use Rattle.sdd_invariants.specs.base.declared.site.Site.TheVariants.{T}
+use Rattle.sdd_invariants.specs.catalog.Catalogue.{Catalogue, class_at}
+use Rattle.sdd_invariants.specs.catalog.Rules.{IsSound}
+use Rattle.sdd_invariants.specs.graph.Edges.{IsClassOf}
+use Rattle.sdd_invariants.specs.site_module.SiteLog.{Bases, Log, Setting}
+use Rattle.sdd_invariants.specs.attempt.Attempts.{active}
+use Rattle.sdd_invariants.specs.attempt.Queues.{Queued, queue}
+use Rattle.sdd_invariants.specs.tm.Due.{due, exchange_due, held_due, null_due, start_due, start_of}
+use Rattle.sdd_invariants.specs.tm.Views.{View, class_view, on_hold, runs, view_of}
+use Rattle.sdd_invariants.specs.logs.Due.{site_due}
+use Rattle.sdd_invariants.specs.logs.Entries as all
+use Rattle.sdd_invariants.specs.logs.Entries.{Given}
+use Rattle.sdd_invariants.specs.logs.Locals.{local_of, setting_of}
+use Rattle.sdd_invariants.specs.logs.Snapshots.{base_of}
 use Rattle.sdd_invariants.proofs.Holding.{at_map}
 use Rattle.sdd_invariants.specs.Steps.{home}
 use Rattle.sdd_waiting.proofs.EventOver.{none_at_txn}

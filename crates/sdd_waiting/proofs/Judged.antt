@@ -2,30 +2,30 @@
 -- after an Apply that spoils it.
 use Rattle.std.specs.List.{list_all}
 use Rattle.std.proofs.Common.{ℕ, ◌++◌, ◌∙◌, ◌∷◌, ◌≡◌, ◌≤◌, ◌⊎◌, Bool, List, None, Some, [], ap, cond, false, filter, inl, inr, not, refl, slice_get, subst, suc, sym, true, zero}
-use Rattle.sdd_base.specs.Numbers.{txn_no}
-use Rattle.sdd_base.specs.Words.{head_of}
-use Rattle.sdd_base.specs.declared.condition.Cond.{Cond}
-use Rattle.sdd_base.specs.declared.number.ClassNo.{ClassNo}
-use Rattle.sdd_base.specs.declared.number.DmNo.{DmNo}
-use Rattle.sdd_base.specs.declared.number.Ts.{Ts}
-use Rattle.sdd_base.specs.declared.number.TxnNo.{TxnNo}
-use Rattle.sdd_base.specs.declared.site.Site.{Site}
-use Rattle.sdd_base.specs.declared.site.Site.TheVariants.{D}
-use Rattle.sdd_base.specs.declared.usage.Use.{Use}
-use Rattle.sdd_history.specs.declared.record.Rec.{Rec}
-use Rattle.sdd_history.specs.declared.record.Rec.TheVariants.{Answer, Reject as Rejected}
-use Rattle.sdd_wire.specs.declared.msg.Msg.{Msg}
-use Rattle.sdd_wire.specs.declared.msg.Msg.TheVariants.{Read}
-use Rattle.sdd_module.specs.SiteLog.{Act, Did, Records, Setting}
-use Rattle.sdd_module.specs.SiteLog as site
-use Rattle.sdd_pipe.specs.Pipe.{Pipe, head}
-use Rattle.sdd_dm.specs.Due.{IsDue, is_met, spoils}
-use Rattle.sdd_dm.specs.Pipes.{is_processing, is_wait, pipe, waits}
-use Rattle.sdd_dm.specs.Views.{View, home_of, view_of}
-use Rattle.sdd_log.specs.Due.{site_due}
-use Rattle.sdd_log.specs.Entries.{Does, Entry, Given, Log}
-use Rattle.sdd_log.specs.Locals.{setting_of}
-use Rattle.sdd_log.specs.Permitted.{IsPermitted}
+use Rattle.sdd_invariants.specs.base.Numbers.{txn_no}
+use Rattle.sdd_invariants.specs.base.Words.{head_of}
+use Rattle.sdd_invariants.specs.base.declared.condition.Cond.{Cond}
+use Rattle.sdd_invariants.specs.base.declared.number.ClassNo.{ClassNo}
+use Rattle.sdd_invariants.specs.base.declared.number.DmNo.{DmNo}
+use Rattle.sdd_invariants.specs.base.declared.number.Ts.{Ts}
+use Rattle.sdd_invariants.specs.base.declared.number.TxnNo.{TxnNo}
+use Rattle.sdd_invariants.specs.base.declared.site.Site.{Site}
+use Rattle.sdd_invariants.specs.base.declared.site.Site.TheVariants.{D}
+use Rattle.sdd_invariants.specs.base.declared.usage.Use.{Use}
+use Rattle.sdd_invariants.specs.history.declared.record.Rec.{Rec}
+use Rattle.sdd_invariants.specs.history.declared.record.Rec.TheVariants.{Answer, Reject as Rejected}
+use Rattle.sdd_invariants.specs.wire.declared.msg.Msg.{Msg}
+use Rattle.sdd_invariants.specs.wire.declared.msg.Msg.TheVariants.{Read}
+use Rattle.sdd_invariants.specs.site_module.SiteLog.{Act, Did, Records, Setting}
+use Rattle.sdd_invariants.specs.site_module.SiteLog as site
+use Rattle.sdd_invariants.specs.pipe.Pipe.{Pipe, head}
+use Rattle.sdd_invariants.specs.dm.Due.{IsDue, is_met, spoils}
+use Rattle.sdd_invariants.specs.dm.Pipes.{is_processing, is_wait, pipe, waits}
+use Rattle.sdd_invariants.specs.dm.Views.{View, home_of, view_of}
+use Rattle.sdd_invariants.specs.logs.Due.{site_due}
+use Rattle.sdd_invariants.specs.logs.Entries.{Does, Entry, Given, Log}
+use Rattle.sdd_invariants.specs.logs.Locals.{setting_of}
+use Rattle.sdd_invariants.specs.logs.Permitted.{IsPermitted}
 use Rattle.sdd_invariants.proofs.AreReadSteps.{d_step}
 use Rattle.sdd_invariants.proofs.Bools.{and_left, and_right, same_or_not}
 use Rattle.sdd_invariants.proofs.Processed.{not_own, passing, read_step_way}

@@ -1,28 +1,28 @@
 -- The laws of answers and of free classes, of lawful logs at whose end an event is over.
 use Rattle.std.specs.List.{list_all}
 use Rattle.std.proofs.Common.{ℕ, ◌++◌, ◌∷◌, ◌≡◌, ◌≤◌, ◌⊎◌, List, None, Some, [], arith, false, length, true}
-use Rattle.sdd_base.specs.declared.change.Change.{Change}
-use Rattle.sdd_base.specs.declared.condition.Cond.{Cond}
-use Rattle.sdd_base.specs.declared.number.ClassNo.{ClassNo}
-use Rattle.sdd_base.specs.declared.number.DmNo.{DmNo}
-use Rattle.sdd_base.specs.declared.number.Ts.{Ts}
-use Rattle.sdd_base.specs.declared.number.TxnNo.{TxnNo}
-use Rattle.sdd_base.specs.declared.site.Site.{Site}
-use Rattle.sdd_base.specs.declared.site.Site.TheVariants.{D}
-use Rattle.sdd_base.specs.declared.usage.Use.{Use}
-use Rattle.sdd_graph.specs.Edges.{IsClassOf}
-use Rattle.sdd_wire.specs.declared.msg.Msg.TheVariants.{Read, Write}
-use Rattle.sdd_attempt.specs.Attempts.{active}
-use Rattle.sdd_attempt.specs.Queues.{queue}
-use Rattle.sdd_pipe.specs.Pipe.{head}
-use Rattle.sdd_dm.specs.Due.{is_met}
-use Rattle.sdd_dm.specs.Pipes.{waits}
-use Rattle.sdd_dm.specs.Views.{view_of}
-use Rattle.sdd_tm.specs.Views as tm
-use Rattle.sdd_log.specs.Entries.{Given, Hand, Log}
-use Rattle.sdd_log.specs.Locals.{local_of, setting_of}
-use Rattle.sdd_log.proofs.NewMarks.{lawful_permitted}
-use Rattle.sdd_log.specs.Permitted.{IsPermitted}
+use Rattle.sdd_invariants.specs.base.declared.change.Change.{Change}
+use Rattle.sdd_invariants.specs.base.declared.condition.Cond.{Cond}
+use Rattle.sdd_invariants.specs.base.declared.number.ClassNo.{ClassNo}
+use Rattle.sdd_invariants.specs.base.declared.number.DmNo.{DmNo}
+use Rattle.sdd_invariants.specs.base.declared.number.Ts.{Ts}
+use Rattle.sdd_invariants.specs.base.declared.number.TxnNo.{TxnNo}
+use Rattle.sdd_invariants.specs.base.declared.site.Site.{Site}
+use Rattle.sdd_invariants.specs.base.declared.site.Site.TheVariants.{D}
+use Rattle.sdd_invariants.specs.base.declared.usage.Use.{Use}
+use Rattle.sdd_invariants.specs.graph.Edges.{IsClassOf}
+use Rattle.sdd_invariants.specs.wire.declared.msg.Msg.TheVariants.{Read, Write}
+use Rattle.sdd_invariants.specs.attempt.Attempts.{active}
+use Rattle.sdd_invariants.specs.attempt.Queues.{queue}
+use Rattle.sdd_invariants.specs.pipe.Pipe.{head}
+use Rattle.sdd_invariants.specs.dm.Due.{is_met}
+use Rattle.sdd_invariants.specs.dm.Pipes.{waits}
+use Rattle.sdd_invariants.specs.dm.Views.{view_of}
+use Rattle.sdd_invariants.specs.tm.Views as tm
+use Rattle.sdd_invariants.specs.logs.Entries.{Given, Hand, Log}
+use Rattle.sdd_invariants.specs.logs.Locals.{local_of, setting_of}
+use Rattle.sdd_invariants.proofs.logs.NewMarks.{lawful_permitted}
+use Rattle.sdd_invariants.specs.logs.Permitted.{IsPermitted}
 use Rattle.sdd_invariants.specs.ReadSteps.{IsClassHere, spoiler}
 use Rattle.sdd_invariants.specs.Seen.{pipe_at}
 use Rattle.sdd_invariants.specs.Steps.{home}

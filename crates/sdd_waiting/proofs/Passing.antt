@@ -3,20 +3,20 @@ use Rattle.std.specs.List.{list_any}
 use Rattle.std.proofs.Common.{ℕ, ◌++◌, ◌<◌, ◌∙◌, ◌∷◌, ◌≡◌, ◌≤◌, Bool, List, Some, [], append-nil, append_assoc, ap, arith, false, if◌then◌else◌, length, map, nat_le, refl, slice_get, subst, suc, sym, true, zero}
 use Rattle.std.proofs.Math.Decide.{dec_le}
 use Rattle.std.proofs.lemmas.Bool.Decides.{nat_tests}
-use Rattle.sdd_base.specs.Sites.{number_of}
-use Rattle.sdd_base.specs.Words.{head_of}
-use Rattle.sdd_base.specs.declared.number.DmNo.{DmNo}
-use Rattle.sdd_base.specs.declared.site.Site.TheVariants.{D}
-use Rattle.sdd_wire.specs.Piped.{goes_through, time_of}
-use Rattle.sdd_wire.specs.declared.msg.Msg.{Msg}
-use Rattle.sdd_module.specs.SiteLog.{Did, Handed, Log, Redeclared, Submits, Ticked}
-use Rattle.sdd_pipe.specs.Pipe.{Pipe, head, passed, passed_by}
-use Rattle.sdd_dm.proofs.Prefix.{all_handed, all_there}
-use Rattle.sdd_dm.specs.Pipes.{pipe}
-use Rattle.sdd_log.specs.Entries as all
-use Rattle.sdd_log.specs.Entries.{Given}
-use Rattle.sdd_log.specs.Locals.{local_of}
-use Rattle.sdd_log.specs.Permitted.{IsPermitted}
+use Rattle.sdd_invariants.specs.base.Sites.{number_of}
+use Rattle.sdd_invariants.specs.base.Words.{head_of}
+use Rattle.sdd_invariants.specs.base.declared.number.DmNo.{DmNo}
+use Rattle.sdd_invariants.specs.base.declared.site.Site.TheVariants.{D}
+use Rattle.sdd_invariants.specs.wire.Piped.{goes_through, time_of}
+use Rattle.sdd_invariants.specs.wire.declared.msg.Msg.{Msg}
+use Rattle.sdd_invariants.specs.site_module.SiteLog.{Did, Handed, Log, Redeclared, Submits, Ticked}
+use Rattle.sdd_invariants.specs.pipe.Pipe.{Pipe, head, passed, passed_by}
+use Rattle.sdd_invariants.proofs.dm.Prefix.{all_handed, all_there}
+use Rattle.sdd_invariants.specs.dm.Pipes.{pipe}
+use Rattle.sdd_invariants.specs.logs.Entries as all
+use Rattle.sdd_invariants.specs.logs.Entries.{Given}
+use Rattle.sdd_invariants.specs.logs.Locals.{local_of}
+use Rattle.sdd_invariants.specs.logs.Permitted.{IsPermitted}
 use Rattle.sdd_invariants.proofs.Bools.{or_left, or_right}
 use Rattle.sdd_invariants.proofs.ClassOrder.{class_rises, earlier}
 use Rattle.sdd_invariants.proofs.InPipe.{in_pipe}

@@ -1,21 +1,21 @@
 -- A message that came to a pipe and is processed later: the record that processes it.
 use Rattle.std.proofs.Common.{ℕ, ◌++◌, ◌<◌, ◌∙◌, ◌∷◌, ◌≡◌, ◌≤◌, Bool, List, None, Some, [], ap, append_assoc, arith, false, if◌then◌else◌, inl, inr, length, length-append, refl, slice_get, subst, suc, sym, true}
 use Rattle.std.proofs.Math.Decide.{dec_le}
-use Rattle.sdd_base.specs.Words.{head_of}
-use Rattle.sdd_base.specs.declared.number.DmNo.{DmNo}
-use Rattle.sdd_base.specs.declared.site.Site.{Site}
-use Rattle.sdd_base.specs.declared.site.Site.TheVariants.{D}
-use Rattle.sdd_history.specs.declared.record.Rec.{Rec}
-use Rattle.sdd_wire.specs.Piped.{goes_through}
-use Rattle.sdd_wire.specs.declared.msg.Msg.{Msg}
-use Rattle.sdd_module.specs.SiteLog.{Act, Did, Handed, Records, Setting}
-use Rattle.sdd_module.specs.SiteLog as site
-use Rattle.sdd_pipe.specs.Pipe.{Pipe, head, put}
-use Rattle.sdd_dm.specs.Pipes.{is_processing, pipe, waits}
-use Rattle.sdd_dm.specs.Views.{view_of}
-use Rattle.sdd_log.specs.Entries.{Does, Entry, Given, Hand, Log}
-use Rattle.sdd_log.specs.Locals.{setting_of}
-use Rattle.sdd_log.specs.Permitted.{IsPermitted}
+use Rattle.sdd_invariants.specs.base.Words.{head_of}
+use Rattle.sdd_invariants.specs.base.declared.number.DmNo.{DmNo}
+use Rattle.sdd_invariants.specs.base.declared.site.Site.{Site}
+use Rattle.sdd_invariants.specs.base.declared.site.Site.TheVariants.{D}
+use Rattle.sdd_invariants.specs.history.declared.record.Rec.{Rec}
+use Rattle.sdd_invariants.specs.wire.Piped.{goes_through}
+use Rattle.sdd_invariants.specs.wire.declared.msg.Msg.{Msg}
+use Rattle.sdd_invariants.specs.site_module.SiteLog.{Act, Did, Handed, Records, Setting}
+use Rattle.sdd_invariants.specs.site_module.SiteLog as site
+use Rattle.sdd_invariants.specs.pipe.Pipe.{Pipe, head, put}
+use Rattle.sdd_invariants.specs.dm.Pipes.{is_processing, pipe, waits}
+use Rattle.sdd_invariants.specs.dm.Views.{view_of}
+use Rattle.sdd_invariants.specs.logs.Entries.{Does, Entry, Given, Hand, Log}
+use Rattle.sdd_invariants.specs.logs.Locals.{setting_of}
+use Rattle.sdd_invariants.specs.logs.Permitted.{IsPermitted}
 use Rattle.sdd_invariants.proofs.AreReadSteps.{d_step}
 use Rattle.sdd_invariants.proofs.Bools.{same_or_not}
 use Rattle.sdd_invariants.proofs.Lists.{at_seam, in_left, place_within}

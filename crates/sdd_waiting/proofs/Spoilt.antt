@@ -2,28 +2,28 @@
 use Rattle.std.specs.List.{list_any}
 use Rattle.std.proofs.Common.{ℕ, ◌++◌, ◌||◌, ◌∙◌, ◌∷◌, ◌≡◌, ◌≤◌, Bool, List, None, Some, [], ap, arith, cond, false, inl, inr, length, refl, subst, suc, sym, true}
 use Rattle.std.proofs.Math.Decide.{dec_le}
-use Rattle.sdd_base.specs.Numbers.{class_no, txn_no}
-use Rattle.sdd_base.specs.declared.change.Change.{Change}
-use Rattle.sdd_base.specs.declared.condition.Cond.{Cond}
-use Rattle.sdd_base.specs.declared.number.ClassNo.{ClassNo}
-use Rattle.sdd_base.specs.declared.number.DmNo.{DmNo}
-use Rattle.sdd_base.specs.declared.number.Ts.{Ts}
-use Rattle.sdd_base.specs.declared.number.TxnNo.{TxnNo}
-use Rattle.sdd_base.specs.declared.site.Site.{Site}
-use Rattle.sdd_base.specs.declared.site.Site.TheVariants.{D}
-use Rattle.sdd_history.specs.declared.record.Rec.{Rec}
-use Rattle.sdd_history.specs.declared.record.Rec.TheVariants.{Apply}
-use Rattle.sdd_wire.specs.declared.msg.Msg.{Msg}
-use Rattle.sdd_wire.specs.declared.msg.Msg.TheVariants.{Write}
-use Rattle.sdd_module.specs.SiteLog.{Act, Did, Handed, Records, Setting}
-use Rattle.sdd_module.specs.SiteLog as site
-use Rattle.sdd_pipe.specs.Pipe.{Pipe, head, touches}
-use Rattle.sdd_dm.specs.Due.{is_at_least, spoils}
-use Rattle.sdd_dm.specs.Pipes.{is_processing, pipe, waits}
-use Rattle.sdd_dm.specs.Views.{ClassView, view_of}
-use Rattle.sdd_log.specs.Entries.{Does, Entry, Given, Log}
-use Rattle.sdd_log.specs.Locals.{setting_of}
-use Rattle.sdd_log.specs.Permitted.{IsPermitted}
+use Rattle.sdd_invariants.specs.base.Numbers.{class_no, txn_no}
+use Rattle.sdd_invariants.specs.base.declared.change.Change.{Change}
+use Rattle.sdd_invariants.specs.base.declared.condition.Cond.{Cond}
+use Rattle.sdd_invariants.specs.base.declared.number.ClassNo.{ClassNo}
+use Rattle.sdd_invariants.specs.base.declared.number.DmNo.{DmNo}
+use Rattle.sdd_invariants.specs.base.declared.number.Ts.{Ts}
+use Rattle.sdd_invariants.specs.base.declared.number.TxnNo.{TxnNo}
+use Rattle.sdd_invariants.specs.base.declared.site.Site.{Site}
+use Rattle.sdd_invariants.specs.base.declared.site.Site.TheVariants.{D}
+use Rattle.sdd_invariants.specs.history.declared.record.Rec.{Rec}
+use Rattle.sdd_invariants.specs.history.declared.record.Rec.TheVariants.{Apply}
+use Rattle.sdd_invariants.specs.wire.declared.msg.Msg.{Msg}
+use Rattle.sdd_invariants.specs.wire.declared.msg.Msg.TheVariants.{Write}
+use Rattle.sdd_invariants.specs.site_module.SiteLog.{Act, Did, Handed, Records, Setting}
+use Rattle.sdd_invariants.specs.site_module.SiteLog as site
+use Rattle.sdd_invariants.specs.pipe.Pipe.{Pipe, head, touches}
+use Rattle.sdd_invariants.specs.dm.Due.{is_at_least, spoils}
+use Rattle.sdd_invariants.specs.dm.Pipes.{is_processing, pipe, waits}
+use Rattle.sdd_invariants.specs.dm.Views.{ClassView, view_of}
+use Rattle.sdd_invariants.specs.logs.Entries.{Does, Entry, Given, Log}
+use Rattle.sdd_invariants.specs.logs.Locals.{setting_of}
+use Rattle.sdd_invariants.specs.logs.Permitted.{IsPermitted}
 use Rattle.sdd_invariants.proofs.AreReadSteps.{class_not_in_view, d_step}
 use Rattle.sdd_invariants.proofs.Bools.{neither_left, neither_right, not_both, only_right, same_or_not, true_or_false}
 use Rattle.sdd_invariants.proofs.Processed.{not_own, own_record, passing, processed_handed, processed_more, read_step_way}

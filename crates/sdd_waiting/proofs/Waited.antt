@@ -1,25 +1,25 @@
 -- A READ that waits began to by a Wait, since when nothing of its pipe was processed.
 use Rattle.std.specs.List.{list_all}
 use Rattle.std.proofs.Common.{ℕ, ◌++◌, ◌==◌, ◌||◌, ◌∙◌, ◌∷◌, ◌≡◌, ◌⊎◌, Bool, List, None, Option, Some, [], ap, filter, false, if◌then◌else◌, inl, inr, refl, subst, sym, true}
-use Rattle.sdd_base.specs.Words.{head_of}
-use Rattle.sdd_base.specs.declared.change.Change.{Change}
-use Rattle.sdd_base.specs.declared.condition.Cond.{Cond}
-use Rattle.sdd_base.specs.declared.number.ClassNo.{ClassNo}
-use Rattle.sdd_base.specs.declared.number.Ts.{Ts}
-use Rattle.sdd_base.specs.declared.number.TxnNo.{TxnNo}
-use Rattle.sdd_base.specs.declared.site.Site.{Site}
-use Rattle.sdd_base.specs.declared.usage.Use.{Use}
-use Rattle.sdd_history.specs.declared.record.Rec.{Rec}
-use Rattle.sdd_wire.specs.Piped.{goes_through}
-use Rattle.sdd_wire.specs.declared.msg.Msg.{Msg}
-use Rattle.sdd_wire.specs.declared.msg.Msg.TheVariants.{Fetch, Null, Read, Reduce, Ship, Write}
-use Rattle.sdd_module.specs.SiteLog.{Act, Did, Each, Entry, Handed, Log, Records, Redeclared, Sends, Setting, Submits, Ticked}
-use Rattle.sdd_pipe.specs.Pipe.{Pipe, head, put}
-use Rattle.sdd_dm.specs.Due.{IsDue, act_by, act_where, answer_of, answer_to, by_head, by_open, head_due, is_held, is_met, judged, step_on}
-use Rattle.sdd_dm.specs.Opens.{Open, is_asked_of}
-use Rattle.sdd_dm.specs.Pipes.{is_processing, is_wait, pipe, waits}
-use Rattle.sdd_dm.specs.Views.{ClassView, Home, View, home_of, view_of}
-use Rattle.sdd_dm.specs.declared.step.Step.TheVariants.{Processes}
+use Rattle.sdd_invariants.specs.base.Words.{head_of}
+use Rattle.sdd_invariants.specs.base.declared.change.Change.{Change}
+use Rattle.sdd_invariants.specs.base.declared.condition.Cond.{Cond}
+use Rattle.sdd_invariants.specs.base.declared.number.ClassNo.{ClassNo}
+use Rattle.sdd_invariants.specs.base.declared.number.Ts.{Ts}
+use Rattle.sdd_invariants.specs.base.declared.number.TxnNo.{TxnNo}
+use Rattle.sdd_invariants.specs.base.declared.site.Site.{Site}
+use Rattle.sdd_invariants.specs.base.declared.usage.Use.{Use}
+use Rattle.sdd_invariants.specs.history.declared.record.Rec.{Rec}
+use Rattle.sdd_invariants.specs.wire.Piped.{goes_through}
+use Rattle.sdd_invariants.specs.wire.declared.msg.Msg.{Msg}
+use Rattle.sdd_invariants.specs.wire.declared.msg.Msg.TheVariants.{Fetch, Null, Read, Reduce, Ship, Write}
+use Rattle.sdd_invariants.specs.site_module.SiteLog.{Act, Did, Each, Entry, Handed, Log, Records, Redeclared, Sends, Setting, Submits, Ticked}
+use Rattle.sdd_invariants.specs.pipe.Pipe.{Pipe, head, put}
+use Rattle.sdd_invariants.specs.dm.Due.{IsDue, act_by, act_where, answer_of, answer_to, by_head, by_open, head_due, is_held, is_met, judged, step_on}
+use Rattle.sdd_invariants.specs.dm.Opens.{Open, is_asked_of}
+use Rattle.sdd_invariants.specs.dm.Pipes.{is_processing, is_wait, pipe, waits}
+use Rattle.sdd_invariants.specs.dm.Views.{ClassView, Home, View, home_of, view_of}
+use Rattle.sdd_invariants.specs.dm.declared.step.Step.TheVariants.{Processes}
 use Rattle.sdd_invariants.proofs.AreReadSteps.{class_at_place}
 use Rattle.sdd_invariants.proofs.Bools.{not_both, same_number, same_or_not}
 use Rattle.sdd_invariants.proofs.Processed.{not_own, processed_handed}

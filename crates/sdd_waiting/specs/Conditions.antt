@@ -1,15 +1,15 @@
 -- Where the conditions of a READ come from: the protocol table that was in force at the Start of its attempt.
 use Rattle.std.specs.Prelude.{ℕ, ◌++◌, ◌∷◌, ◌≡◌, ◌⊎◌, List, Some, slice_get}
-use Rattle.sdd_base.specs.declared.condition.Cond.{Cond}
-use Rattle.sdd_base.specs.declared.number.ClassNo.{ClassNo}
-use Rattle.sdd_base.specs.declared.number.FragNo.{FragNo}
-use Rattle.sdd_graph.specs.declared.edge.Edge.TheVariants.{Diagonal}
-use Rattle.sdd_protocol.specs.declared.entry.Entry as line
-use Rattle.sdd_protocol.specs.declared.protocol.Protocol.{Protocol}
-use Rattle.sdd_protocol.specs.declared.protocol.Protocol.TheVariants.{P2, P3}
-use Rattle.sdd_attempt.specs.Queues.{Queued}
-use Rattle.sdd_log.specs.Entries.{Does, Given, Log}
-use Rattle.sdd_log.specs.Locals.{force_at, local_of, redeclares, setting_of}
+use Rattle.sdd_invariants.specs.base.declared.condition.Cond.{Cond}
+use Rattle.sdd_invariants.specs.base.declared.number.ClassNo.{ClassNo}
+use Rattle.sdd_invariants.specs.base.declared.number.FragNo.{FragNo}
+use Rattle.sdd_invariants.specs.graph.declared.edge.Edge.TheVariants.{Diagonal}
+use Rattle.sdd_invariants.specs.protocol.declared.entry.Entry as line
+use Rattle.sdd_invariants.specs.protocol.declared.protocol.Protocol.{Protocol}
+use Rattle.sdd_invariants.specs.protocol.declared.protocol.Protocol.TheVariants.{P2, P3}
+use Rattle.sdd_invariants.specs.attempt.Queues.{Queued}
+use Rattle.sdd_invariants.specs.logs.Entries.{Does, Given, Log}
+use Rattle.sdd_invariants.specs.logs.Locals.{force_at, local_of, redeclares, setting_of}
 use Rattle.sdd_invariants.specs.Steps.{bound, home, next_stamp, start_at}
 
 -- an entry of the table is a diagonal from class i to class j for the fragment, and has the protocol

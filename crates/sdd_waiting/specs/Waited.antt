@@ -1,17 +1,17 @@
 -- How a READ began to wait: the Wait that its data module made, and what is as it was then.
 use Rattle.std.specs.Prelude.{ℕ, ◌++◌, ◌∷◌, ◌≡◌, List, None, Some, filter, false, map, not}
-use Rattle.sdd_base.specs.declared.condition.Cond.{Cond}
-use Rattle.sdd_base.specs.declared.number.ClassNo.{ClassNo}
-use Rattle.sdd_base.specs.declared.number.Ts.{Ts}
-use Rattle.sdd_base.specs.declared.number.TxnNo.{TxnNo}
-use Rattle.sdd_base.specs.declared.usage.Use.{Use}
-use Rattle.sdd_history.specs.declared.record.Rec.TheVariants.{Wait}
-use Rattle.sdd_wire.specs.declared.msg.Msg.TheVariants.{Read}
-use Rattle.sdd_module.specs.SiteLog.{Act, Did, Log, Records, Setting}
-use Rattle.sdd_pipe.specs.Pipe.{head}
-use Rattle.sdd_dm.specs.Due.{ask_for, is_met}
-use Rattle.sdd_dm.specs.Pipes.{pipe, waits}
-use Rattle.sdd_dm.specs.Views.{View, home_of, view_of}
+use Rattle.sdd_invariants.specs.base.declared.condition.Cond.{Cond}
+use Rattle.sdd_invariants.specs.base.declared.number.ClassNo.{ClassNo}
+use Rattle.sdd_invariants.specs.base.declared.number.Ts.{Ts}
+use Rattle.sdd_invariants.specs.base.declared.number.TxnNo.{TxnNo}
+use Rattle.sdd_invariants.specs.base.declared.usage.Use.{Use}
+use Rattle.sdd_invariants.specs.history.declared.record.Rec.TheVariants.{Wait}
+use Rattle.sdd_invariants.specs.wire.declared.msg.Msg.TheVariants.{Read}
+use Rattle.sdd_invariants.specs.site_module.SiteLog.{Act, Did, Log, Records, Setting}
+use Rattle.sdd_invariants.specs.pipe.Pipe.{head}
+use Rattle.sdd_invariants.specs.dm.Due.{ask_for, is_met}
+use Rattle.sdd_invariants.specs.dm.Pipes.{pipe, waits}
+use Rattle.sdd_invariants.specs.dm.Views.{View, home_of, view_of}
 use Rattle.sdd_invariants.specs.ReadSteps.{IsClassHere, spoiler}
 
 -- the conditions that aren't met

@@ -2,25 +2,25 @@
 use Rattle.std.proofs.Common.{◌-◌, ◌≡◌, ◌≤◌, List, [], ◌∷◌, Option, Some, None, subst, sym, refl}
 use Rattle.std.proofs.lemmas.Bool.{leb-true}
 use Rattle.std.specs.Prelude.{nat_le, slice_get}
-use Rattle.sdd_base.specs.Kept.{Kept}
-use Rattle.sdd_base.specs.declared.site.Site.{Site}
-use Rattle.sdd_base.specs.declared.site.Site.TheVariants.{U, T, D}
-use Rattle.sdd_catalog.specs.Catalogue.{Catalogue}
-use Rattle.sdd_protocol.specs.declared.entry.Entry.{Entry}
-use Rattle.sdd_lang.proofs.Pushdown.{and_parts}
-use Rattle.sdd_lang.specs.declared.transaction.Txn.{Txn}
-use Rattle.sdd_module.specs.SiteLog.{Redeclared, Setting}
-use Rattle.sdd_dm.specs.Stands as dm
-use Rattle.sdd_dm.specs.State as dm_state
-use Rattle.sdd_tm.specs.Stands as tm
-use Rattle.sdd_tm.specs.State as tm_state
-use Rattle.sdd_umod.specs.Stands as um
-use Rattle.sdd_umod.specs.State as um_state
-use Rattle.sdd_module.specs.SiteLog as site
+use Rattle.sdd_obligations.specs.base.Kept.{Kept}
+use Rattle.sdd_obligations.specs.base.declared.site.Site.{Site}
+use Rattle.sdd_obligations.specs.base.declared.site.Site.TheVariants.{U, T, D}
+use Rattle.sdd_obligations.specs.catalog.Catalogue.{Catalogue}
+use Rattle.sdd_obligations.specs.protocol.declared.entry.Entry.{Entry}
+use Rattle.sdd_obligations.proofs.lang.Pushdown.{and_parts}
+use Rattle.sdd_obligations.specs.lang.declared.transaction.Txn.{Txn}
+use Rattle.sdd_obligations.specs.site_module.SiteLog.{Redeclared, Setting}
+use Rattle.sdd_obligations.specs.dm.Stands as dm
+use Rattle.sdd_obligations.specs.dm.State as dm_state
+use Rattle.sdd_obligations.specs.tm.Stands as tm
+use Rattle.sdd_obligations.specs.tm.State as tm_state
+use Rattle.sdd_obligations.specs.umod.Stands as um
+use Rattle.sdd_obligations.specs.umod.State as um_state
+use Rattle.sdd_obligations.specs.site_module.SiteLog as site
 use Rattle.sdd_world.specs.AtSites.{At, Standing, StandsAt}
-use Rattle.sdd_log.specs.Entries.{Given}
-use Rattle.sdd_log.specs.Locals.{beginning, rows_of, setting_of}
-use Rattle.sdd_log.specs.Resting.{IsSiteOf}
+use Rattle.sdd_obligations.specs.logs.Entries.{Given}
+use Rattle.sdd_obligations.specs.logs.Locals.{beginning, rows_of, setting_of}
+use Rattle.sdd_obligations.specs.logs.Resting.{IsSiteOf}
 use Rattle.sdd_world.specs.Beginnings.{AllBegin, BeginsD, BeginsT, IsBegun, There}
 use Rattle.sdd_world.specs.Modules.{LivesD, LivesT, LivesU}
 

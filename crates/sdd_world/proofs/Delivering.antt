@@ -1,29 +1,29 @@
 -- A packet arrives: what it brings is handed over, or kept for a module that is down.
 use Rattle.std.proofs.Common.{ℕ, ◌+◌, ◌≡◌, ◌∙◌, ap, sym, subst, refl, Bool, true, false, not, List, [], ◌∷◌, ◌++◌}
-use Rattle.sdd_base.specs.Sites.{same_site}
-use Rattle.sdd_base.specs.Numbers.{dm_no}
-use Rattle.sdd_base.specs.declared.site.Site.{Site}
-use Rattle.sdd_base.specs.declared.site.Site.TheVariants.{U, D}
-use Rattle.sdd_base.specs.declared.event.Event.TheVariants.{Deliver}
-use Rattle.sdd_history.specs.declared.record.Rec.TheVariants.{Nothing as Noted}
-use Rattle.sdd_wire.specs.declared.msg.Msg.{Msg}
-use Rattle.sdd_net.specs.Links.{Call, Delivers, delivered, delivery, link}
-use Rattle.sdd_net.specs.declared.delivered.Delivered.{Delivered}
-use Rattle.sdd_net.specs.declared.delivered.Delivered.TheVariants.{Nothing, Acked, Messages}
-use Rattle.sdd_net.specs.Mailboxes.{Mailbox, mailbox_at}
-use Rattle.sdd_log.specs.Entries.{Given, Log, Mark}
-use Rattle.sdd_log.specs.Traffic.{calls_of, handed, is_down, link_of, takes_part}
-use Rattle.sdd_log.specs.Locals.{local_of, setting_of}
-use Rattle.sdd_log.specs.Resting.{from_one, IsSiteOf, IsFirst, IsLinkOf, Takes}
-use Rattle.sdd_log.proofs.Delivering.{ack_same, delivers_ack, delivers_nothing, nothing_same, remain_beside}
-use Rattle.sdd_log.proofs.Links.{sent_stays}
+use Rattle.sdd_obligations.specs.base.Sites.{same_site}
+use Rattle.sdd_obligations.specs.base.Numbers.{dm_no}
+use Rattle.sdd_obligations.specs.base.declared.site.Site.{Site}
+use Rattle.sdd_obligations.specs.base.declared.site.Site.TheVariants.{U, D}
+use Rattle.sdd_obligations.specs.base.declared.event.Event.TheVariants.{Deliver}
+use Rattle.sdd_obligations.specs.history.declared.record.Rec.TheVariants.{Nothing as Noted}
+use Rattle.sdd_obligations.specs.wire.declared.msg.Msg.{Msg}
+use Rattle.sdd_obligations.specs.net.Links.{Call, Delivers, delivered, delivery, link}
+use Rattle.sdd_obligations.specs.net.declared.delivered.Delivered.{Delivered}
+use Rattle.sdd_obligations.specs.net.declared.delivered.Delivered.TheVariants.{Nothing, Acked, Messages}
+use Rattle.sdd_obligations.specs.net.Mailboxes.{Mailbox, mailbox_at}
+use Rattle.sdd_obligations.specs.logs.Entries.{Given, Log, Mark}
+use Rattle.sdd_obligations.specs.logs.Traffic.{calls_of, handed, is_down, link_of, takes_part}
+use Rattle.sdd_obligations.specs.logs.Locals.{local_of, setting_of}
+use Rattle.sdd_obligations.specs.logs.Resting.{from_one, IsSiteOf, IsFirst, IsLinkOf, Takes}
+use Rattle.sdd_obligations.proofs.logs.Delivering.{ack_same, delivers_ack, delivers_nothing, nothing_same, remain_beside}
+use Rattle.sdd_obligations.proofs.logs.Links.{sent_stays}
 use Rattle.sdd_world.specs.declared.world.World.{World}
 use Rattle.sdd_world.proofs.Marking.{marked_noted, marked_plain}
 use Rattle.sdd_world.specs.Standing.{Ahead, Arrives, ahead_of, HandedOn, Handing, Happened, KeepsFor, Marked, Spooled}
 use Rattle.sdd_world.proofs.Parting.{spooled_on}
-use Rattle.sdd_net.proofs.Directions.{same_is}
-use Rattle.sdd_log.proofs.Handing.{all_handed, and_right}
-use Rattle.sdd_log.proofs.Lowest.{first_of_one, none_of_one, takes_of_one}
+use Rattle.sdd_obligations.proofs.net.Directions.{same_is}
+use Rattle.sdd_obligations.proofs.logs.Handing.{all_handed, and_right}
+use Rattle.sdd_obligations.proofs.logs.Lowest.{first_of_one, none_of_one, takes_of_one}
 use Rattle.sdd_world.specs.Modules.{StandFor}
 use Rattle.sdd_world.specs.Carries.{Carries, NetValue}
 

@@ -3,11 +3,11 @@ use Rattle.std.proofs.Common.{ℕ, zero, suc, Bool, true, false, List, [], ◌�
 use Rattle.std.specs.Bool.{if◌then◌else◌}
 use Rattle.std.specs.Prelude.{◌&&◌}
 use Rattle.std.specs.List.{AllByRecursion}
-use Rattle.sdd_base.specs.Sites.{same_site}
-use Rattle.sdd_base.specs.declared.site.Site.{Site}
-use Rattle.sdd_net.specs.declared.packet.Packet.{Packet}
-use Rattle.sdd_net.specs.declared.packet.Packet.TheVariants.{Message, Ack}
-use Rattle.sdd_net.specs.Links.{Call, Puts, Delivers, Loses, Repeats, Resends, Link, link, on_link, turned, put, deliver, lose, repeat, resend, arrives, packet_at, with_packet, without_packet, with_flight, delivered, delivery, given_by, newly_delivered}
+use Rattle.sdd_obligations.specs.base.Sites.{same_site}
+use Rattle.sdd_obligations.specs.base.declared.site.Site.{Site}
+use Rattle.sdd_obligations.specs.net.declared.packet.Packet.{Packet}
+use Rattle.sdd_obligations.specs.net.declared.packet.Packet.TheVariants.{Message, Ack}
+use Rattle.sdd_obligations.specs.net.Links.{Call, Puts, Delivers, Loses, Repeats, Resends, Link, link, on_link, turned, put, deliver, lose, repeat, resend, arrives, packet_at, with_packet, without_packet, with_flight, delivered, delivery, given_by, newly_delivered}
 use Rattle.sdd_world.specs.Carries.{AllPut, AllDelivered}
 
 module _ {M : Type 0} (P : M → Type 0) where

@@ -1,21 +1,21 @@
 -- What is known of a mail is known of its network, and the other way round.
 use Rattle.std.proofs.Common.{◌≡◌, ℕ, ◌<◌, List, length, ap, ◌∙◌, sym, subst, Bool, true, Result, Ok, Err, Vec, Global}
 use Rattle.std.specs.Prelude.{slice_get, IfOk}
-use Rattle.sdd_base.specs.declared.limits.TheConstants.{MAX_LINK_MESSAGES}
-use Rattle.sdd_base.specs.declared.event.Event.{Event}
-use Rattle.sdd_base.specs.declared.no_memory.NoMemory.{NoMemory}
-use Rattle.sdd_base.specs.Sites.{links}
-use Rattle.sdd_base.specs.Kept.{Kept}
-use Rattle.sdd_base.specs.declared.site.Site.{Site}
-use Rattle.sdd_wire.specs.declared.msg.Msg.{Msg}
-use Rattle.sdd_wire.specs.Spelling.{spelled}
-use Rattle.sdd_wire.specs.Fits.{Fits}
-use Rattle.sdd_net.specs.Links.{Call, link, quiet, round, delivery}
-use Rattle.sdd_net.specs.declared.delivered.Delivered.{Delivered}
-use Rattle.sdd_net.specs.Nets.{Directions, StandsFor, HasLink, is_link, sent_on, index_of}
-use Rattle.sdd_net.proofs.Deliveries.{acked_le, sent_of}
-use Rattle.sdd_net.proofs.Sound.{sound}
-use Rattle.sdd_log.proofs.SpelledLinks.{link_map, delivery_map}
+use Rattle.sdd_obligations.specs.base.declared.limits.TheConstants.{MAX_LINK_MESSAGES}
+use Rattle.sdd_obligations.specs.base.declared.event.Event.{Event}
+use Rattle.sdd_obligations.specs.base.declared.no_memory.NoMemory.{NoMemory}
+use Rattle.sdd_obligations.specs.base.Sites.{links}
+use Rattle.sdd_obligations.specs.base.Kept.{Kept}
+use Rattle.sdd_obligations.specs.base.declared.site.Site.{Site}
+use Rattle.sdd_obligations.specs.wire.declared.msg.Msg.{Msg}
+use Rattle.sdd_obligations.specs.wire.Spelling.{spelled}
+use Rattle.sdd_obligations.specs.wire.Fits.{Fits}
+use Rattle.sdd_obligations.specs.net.Links.{Call, link, quiet, round, delivery}
+use Rattle.sdd_obligations.specs.net.declared.delivered.Delivered.{Delivered}
+use Rattle.sdd_obligations.specs.net.Nets.{Directions, StandsFor, HasLink, is_link, sent_on, index_of}
+use Rattle.sdd_obligations.proofs.net.Deliveries.{acked_le, sent_of}
+use Rattle.sdd_obligations.proofs.net.Sound.{sound}
+use Rattle.sdd_obligations.proofs.logs.SpelledLinks.{link_map, delivery_map}
 use Rattle.sdd_world.specs.Carries.{Carries, Spells, in_bytes}
 use Rattle.sdd_world.proofs.Fitting.{sent_fit, delivery_fits}
 use Rattle.sdd_world.proofs.Quietness.{count_same, quiet_same, round_same}

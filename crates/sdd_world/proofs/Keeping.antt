@@ -2,29 +2,29 @@
 use Rattle.std.proofs.Common.{ℕ, zero, suc, ◌<◌, ◌≤◌, ◌≡◌, ◌∙◌, ap, sym, subst, refl, true, false, not, List, [], ◌∷◌, ◌++◌, length, arith}
 use Rattle.std.specs.Bool.{if◌then◌else◌}
 use Rattle.std.specs.Prelude.{◌&&◌, nat_le}
-use Rattle.sdd_base.specs.Sites.{same_site}
-use Rattle.sdd_base.specs.Numbers.{dm_no}
-use Rattle.sdd_base.specs.declared.site.Site.{Site}
-use Rattle.sdd_base.specs.declared.site.Site.TheVariants.{U, T, D}
-use Rattle.sdd_base.specs.declared.number.DmNo.{DmNo}
-use Rattle.sdd_base.specs.declared.event.Event.TheVariants.{Deliver}
-use Rattle.sdd_wire.specs.declared.msg.Msg.{Msg}
-use Rattle.sdd_net.specs.Links.{delivery}
-use Rattle.sdd_net.specs.declared.delivered.Delivered.TheVariants.{Messages}
-use Rattle.sdd_net.specs.Mailboxes.{Mailbox, kept_from, mailbox_at, IsSender, OnlyAt, Puts, number_of_t, IsWithin as IsBelow}
-use Rattle.sdd_log.specs.Entries.{Given, Log, Mark}
-use Rattle.sdd_log.specs.Traffic.{calls_of, is_down, link_of, takes_part}
-use Rattle.sdd_log.specs.Resting.{from_one, IsSiteOf, Remain, IsLinkOf}
-use Rattle.sdd_log.proofs.Delivering.{delivers_kept, remain_beside, remain_more}
+use Rattle.sdd_obligations.specs.base.Sites.{same_site}
+use Rattle.sdd_obligations.specs.base.Numbers.{dm_no}
+use Rattle.sdd_obligations.specs.base.declared.site.Site.{Site}
+use Rattle.sdd_obligations.specs.base.declared.site.Site.TheVariants.{U, T, D}
+use Rattle.sdd_obligations.specs.base.declared.number.DmNo.{DmNo}
+use Rattle.sdd_obligations.specs.base.declared.event.Event.TheVariants.{Deliver}
+use Rattle.sdd_obligations.specs.wire.declared.msg.Msg.{Msg}
+use Rattle.sdd_obligations.specs.net.Links.{delivery}
+use Rattle.sdd_obligations.specs.net.declared.delivered.Delivered.TheVariants.{Messages}
+use Rattle.sdd_obligations.specs.net.Mailboxes.{Mailbox, kept_from, mailbox_at, IsSender, OnlyAt, Puts, number_of_t, IsWithin as IsBelow}
+use Rattle.sdd_obligations.specs.logs.Entries.{Given, Log, Mark}
+use Rattle.sdd_obligations.specs.logs.Traffic.{calls_of, is_down, link_of, takes_part}
+use Rattle.sdd_obligations.specs.logs.Resting.{from_one, IsSiteOf, Remain, IsLinkOf}
+use Rattle.sdd_obligations.proofs.logs.Delivering.{delivers_kept, remain_beside, remain_more}
 use Rattle.sdd_world.specs.declared.world.World.{World}
 use Rattle.sdd_world.proofs.Marking.{marked_plain}
 use Rattle.sdd_world.specs.Standing.{Keeping, Happened, KeepsFor, Marked, Spooled}
 use Rattle.sdd_world.proofs.Parting.{spooled_on}
 use Rattle.std.proofs.Common.{append_assoc, append-nil, ◌≢◌}
 use Rattle.std.proofs.lemmas.Bool.{and_parts, eq-eqb, eqb-true, leb-true}
-use Rattle.sdd_net.proofs.Directions.{link_parts, same_is}
-use Rattle.sdd_log.proofs.Handing.{and_left, and_right}
-use Rattle.sdd_log.proofs.Lowest.{none_of_one}
+use Rattle.sdd_obligations.proofs.net.Directions.{link_parts, same_is}
+use Rattle.sdd_obligations.proofs.logs.Handing.{and_left, and_right}
+use Rattle.sdd_obligations.proofs.logs.Lowest.{none_of_one}
 use Rattle.sdd_world.specs.Carries.{Carries, NetValue}
 
 -- the numbers of data modules

@@ -2,7 +2,7 @@
 use Rattle.std.proofs.Common.{◌+◌, ◌-◌, ◌≡◌, ◌<◌, ◌≤◌, ℕ, List, [], ◌∷◌, ◌++◌, length, Some, refl, sym, ap, subst, arith, inl, inr, length-append}
 use Rattle.std.proofs.lemmas.Bool.{cases_lt}
 use Rattle.std.specs.Prelude.{slice_get}
-use Rattle.sdd_base.proofs.Opened.{slice_get-append}
+use Rattle.sdd_obligations.proofs.base.Opened.{slice_get-append}
 use Rattle.sdd_world.specs.Beginnings.{AllBegin, There}
 
 -- the new member is the last

@@ -2,14 +2,14 @@
 use Rattle.std.proofs.Common.{◌≡◌, ℕ, zero, suc, ◌+◌, ◌<◌, List, [], ◌∷◌, ◌++◌, length, map, take, get_or, Result, Ok, refl, sym, ap, ◌∙◌, subst, arith}
 use Rattle.std.specs.List.{AllByRecursion}
 use Rattle.std.proofs.lemmas.List.{map-append, take_more}
-use Rattle.sdd_wire.specs.declared.msg.Msg.{Msg}
-use Rattle.sdd_wire.specs.Fits.{Fits}
-use Rattle.sdd_wire.specs.Spelling.{spelled}
-use Rattle.sdd_wire.specs.Reading.{message_in}
-use Rattle.sdd_wire.proofs.MessageLaws.{message_read_back}
-use Rattle.sdd_net.specs.declared.delivered.Delivered.{Delivered}
-use Rattle.sdd_net.specs.declared.delivered.Delivered.TheVariants.{Nothing, Acked, Messages}
-use Rattle.sdd_log.specs.Spelled.{delivered_as}
+use Rattle.sdd_obligations.specs.wire.declared.msg.Msg.{Msg}
+use Rattle.sdd_obligations.specs.wire.Fits.{Fits}
+use Rattle.sdd_obligations.specs.wire.Spelling.{spelled}
+use Rattle.sdd_obligations.specs.wire.Reading.{message_in}
+use Rattle.sdd_obligations.proofs.wire.MessageLaws.{message_read_back}
+use Rattle.sdd_obligations.specs.net.declared.delivered.Delivered.{Delivered}
+use Rattle.sdd_obligations.specs.net.declared.delivered.Delivered.TheVariants.{Nothing, Acked, Messages}
+use Rattle.sdd_obligations.specs.logs.Spelled.{delivered_as}
 use Rattle.sdd_world.specs.Carries.{AllDelivered, IsSpelling, Spells}
 
 -- the only message that has a spelling is read from it

@@ -3,12 +3,12 @@ use Rattle.std.proofs.Common.{ℕ, zero, suc, ◌+◌, ◌-◌, Bool, List, [], 
 use Rattle.std.specs.Prelude.{◌&&◌, nat_le, nat_lt, cond, replicate, is_some, slice_get}
 use Rattle.std.specs.List.{list_all, filter_map, flat_map}
 use Rattle.std.proofs.lemmas.List.{length-map}
-use Rattle.sdd_base.specs.Words.{is_empty}
-use Rattle.sdd_base.specs.declared.site.Site.{Site}
-use Rattle.sdd_base.specs.declared.event.Event.TheVariants.{Deliver, Resend}
-use Rattle.sdd_net.specs.Links.{Call, Link, link, is_quiet_link, packet_at, quiet, resends_now, in_flight, round}
-use Rattle.sdd_log.specs.Spelled.{call_as, packet_as, link_as}
-use Rattle.sdd_log.proofs.SpelledLinks.{link_map}
+use Rattle.sdd_obligations.specs.base.Words.{is_empty}
+use Rattle.sdd_obligations.specs.base.declared.site.Site.{Site}
+use Rattle.sdd_obligations.specs.base.declared.event.Event.TheVariants.{Deliver, Resend}
+use Rattle.sdd_obligations.specs.net.Links.{Call, Link, link, is_quiet_link, packet_at, quiet, resends_now, in_flight, round}
+use Rattle.sdd_obligations.specs.logs.Spelled.{call_as, packet_as, link_as}
+use Rattle.sdd_obligations.proofs.logs.SpelledLinks.{link_map}
 
 all_same : {A : Type 0} (p q : A → Bool) (xs : List A) → ((x : A) → p x ≡ q x) → list_all p xs ≡ list_all q xs
 all_same p q [] e = refl

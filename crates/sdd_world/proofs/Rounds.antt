@@ -2,27 +2,27 @@
 use Rattle.std.proofs.Common.{ℕ, suc, ◌+◌, ◌<◌, ◌≤◌, ◌≡◌, ◌∙◌, ap, sym, subst, refl, true, false, List, [], ◌∷◌, ◌++◌, length, Some, arith}
 use Rattle.std.proofs.Common.{◌≢◌}
 use Rattle.std.proofs.lemmas.Bool.{lt-ltb, ltb-false}
-use Rattle.sdd_base.specs.Sites.{links}
-use Rattle.sdd_base.specs.declared.limits.TheConstants.{MAX_RUN_EVENTS}
-use Rattle.sdd_base.specs.declared.site.Site.{Site}
-use Rattle.sdd_base.specs.declared.site.Site.TheVariants.{U, T, D}
-use Rattle.sdd_base.specs.declared.event.Event.{Event}
-use Rattle.sdd_base.specs.declared.event.Event.TheVariants.{Submit, Deliver, Lose, Repeat, Resend, Tick, Settle, Redeclare, Down, Up}
-use Rattle.sdd_wire.specs.declared.msg.Msg.{Msg}
-use Rattle.sdd_net.specs.Links.{Call, quiet, round}
-use Rattle.sdd_net.specs.Mailboxes.{Mailbox}
-use Rattle.sdd_log.specs.Entries.{Does, Given, Hand, Log, Mark, Notes, Redeclares, Round, Submitted, marks, with_event}
-use Rattle.sdd_log.specs.Traffic.{all_links, calls_of, takes_part}
-use Rattle.sdd_log.specs.Locals.{local_of, setting_of}
-use Rattle.sdd_log.specs.Marks.{after_mark, left}
-use Rattle.sdd_log.specs.Due.{next}
-use Rattle.sdd_log.specs.Lawful.{IsWithin}
-use Rattle.sdd_log.proofs.Grows.{lawful_grows}
-use Rattle.sdd_log.specs.Resting.{AtEach, IsPossible, Rests, TakesRounds}
-use Rattle.sdd_log.proofs.Completing.{event_left, in_round, IsFree, IsSingle, none_left, one_more, round_next, settled}
-use Rattle.sdd_log.proofs.FirstHand.{none_to_hand}
-use Rattle.sdd_log.proofs.Marking.{still_none}
-use Rattle.sdd_log.proofs.Rounding.{each_of_round, no_events_quiet}
+use Rattle.sdd_obligations.specs.base.Sites.{links}
+use Rattle.sdd_obligations.specs.base.declared.limits.TheConstants.{MAX_RUN_EVENTS}
+use Rattle.sdd_obligations.specs.base.declared.site.Site.{Site}
+use Rattle.sdd_obligations.specs.base.declared.site.Site.TheVariants.{U, T, D}
+use Rattle.sdd_obligations.specs.base.declared.event.Event.{Event}
+use Rattle.sdd_obligations.specs.base.declared.event.Event.TheVariants.{Submit, Deliver, Lose, Repeat, Resend, Tick, Settle, Redeclare, Down, Up}
+use Rattle.sdd_obligations.specs.wire.declared.msg.Msg.{Msg}
+use Rattle.sdd_obligations.specs.net.Links.{Call, quiet, round}
+use Rattle.sdd_obligations.specs.net.Mailboxes.{Mailbox}
+use Rattle.sdd_obligations.specs.logs.Entries.{Does, Given, Hand, Log, Mark, Notes, Redeclares, Round, Submitted, marks, with_event}
+use Rattle.sdd_obligations.specs.logs.Traffic.{all_links, calls_of, takes_part}
+use Rattle.sdd_obligations.specs.logs.Locals.{local_of, setting_of}
+use Rattle.sdd_obligations.specs.logs.Marks.{after_mark, left}
+use Rattle.sdd_obligations.specs.logs.Due.{next}
+use Rattle.sdd_obligations.specs.logs.Lawful.{IsWithin}
+use Rattle.sdd_obligations.proofs.logs.Grows.{lawful_grows}
+use Rattle.sdd_obligations.specs.logs.Resting.{AtEach, IsPossible, Rests, TakesRounds}
+use Rattle.sdd_obligations.proofs.logs.Completing.{event_left, in_round, IsFree, IsSingle, none_left, one_more, round_next, settled}
+use Rattle.sdd_obligations.proofs.logs.FirstHand.{none_to_hand}
+use Rattle.sdd_obligations.proofs.logs.Marking.{still_none}
+use Rattle.sdd_obligations.proofs.logs.Rounding.{each_of_round, no_events_quiet}
 use Rattle.sdd_world.specs.declared.world.World.{World}
 use Rattle.sdd_world.specs.Standing.{Before, Calm, EndsBy, Happened, IsSettled, IsSound, Marked, Parts, Rounding, Settling, Spooled, StandsFor}
 use Rattle.sdd_world.proofs.Parting.{spooled_on}

@@ -1,34 +1,34 @@
 -- A transaction is given to its module, which does what is due, over plain worlds.
 use Rattle.std.proofs.Common.{ℕ, zero, suc, ◌-◌, ◌≤◌, ◌≡◌, ◌∙◌, ap, sym, subst, refl, true, false, List, [], ◌∷◌, ◌++◌, map, Some, append_assoc, arith}
 use Rattle.std.specs.Prelude.{slice_get, All, get_or}
-use Rattle.sdd_base.specs.Sites.{same_site}
-use Rattle.sdd_base.specs.declared.number.TxnNo.{TxnNo}
-use Rattle.sdd_base.specs.declared.site.Site.{Site}
-use Rattle.sdd_base.specs.declared.site.Site.TheVariants.{U}
-use Rattle.sdd_base.specs.declared.event.Event.TheVariants.{Submit}
-use Rattle.sdd_lang.specs.declared.transaction.Txn.{Txn}
-use Rattle.sdd_lang.specs.Fits.{Fits}
-use Rattle.sdd_eras.proofs.EraFits.{fits_in_era}
-use Rattle.sdd_history.specs.declared.record.Rec.{Rec}
-use Rattle.sdd_history.specs.declared.record.Rec.TheVariants.{Submit as Submission}
-use Rattle.sdd_wire.specs.declared.msg.Msg.{Msg}
-use Rattle.sdd_wire.specs.declared.outcome.Outcome.{Outcome}
-use Rattle.sdd_module.specs.SiteLog.{Act, AreDue, Bases, Setting, Submits, log_after, records_of, sends_of}
-use Rattle.sdd_module.specs.SiteLog as site
-use Rattle.sdd_net.proofs.Directions.{same_is}
-use Rattle.sdd_net.specs.Mailboxes.{Mailbox}
-use Rattle.sdd_log.specs.Entries.{Given, Log, Mark, history, marks}
-use Rattle.sdd_log.specs.Traffic.{calls_of, puts}
-use Rattle.sdd_log.specs.Locals.{force_at, local_of, redeclares, setting_of, txn_at}
-use Rattle.sdd_log.specs.Snapshots.{base_of}
-use Rattle.sdd_log.specs.Due.{home_of, next_in}
-use Rattle.sdd_log.specs.Lawful.{IsLawful, puts_past}
-use Rattle.sdd_log.proofs.Steps.{after_acts}
-use Rattle.sdd_log.specs.Resting.{IsSiteOf}
-use Rattle.sdd_log.proofs.Acts.{calls_acts, ends_in_acts, history_acts, left_acts, linked_acts, marks_acts, other_acts, own_acts}
-use Rattle.sdd_log.proofs.FirstHand.{listed}
-use Rattle.sdd_log.proofs.Marking.{mark_within}
-use Rattle.sdd_log.proofs.Submitting.{home_in, other_local, submits_and_acts, submitted, submitted_local, submitted_within, acts_lawful}
+use Rattle.sdd_obligations.specs.base.Sites.{same_site}
+use Rattle.sdd_obligations.specs.base.declared.number.TxnNo.{TxnNo}
+use Rattle.sdd_obligations.specs.base.declared.site.Site.{Site}
+use Rattle.sdd_obligations.specs.base.declared.site.Site.TheVariants.{U}
+use Rattle.sdd_obligations.specs.base.declared.event.Event.TheVariants.{Submit}
+use Rattle.sdd_obligations.specs.lang.declared.transaction.Txn.{Txn}
+use Rattle.sdd_obligations.specs.lang.Fits.{Fits}
+use Rattle.sdd_obligations.proofs.class_eras.EraFits.{fits_in_era}
+use Rattle.sdd_obligations.specs.history.declared.record.Rec.{Rec}
+use Rattle.sdd_obligations.specs.history.declared.record.Rec.TheVariants.{Submit as Submission}
+use Rattle.sdd_obligations.specs.wire.declared.msg.Msg.{Msg}
+use Rattle.sdd_obligations.specs.wire.declared.outcome.Outcome.{Outcome}
+use Rattle.sdd_obligations.specs.site_module.SiteLog.{Act, AreDue, Bases, Setting, Submits, log_after, records_of, sends_of}
+use Rattle.sdd_obligations.specs.site_module.SiteLog as site
+use Rattle.sdd_obligations.proofs.net.Directions.{same_is}
+use Rattle.sdd_obligations.specs.net.Mailboxes.{Mailbox}
+use Rattle.sdd_obligations.specs.logs.Entries.{Given, Log, Mark, history, marks}
+use Rattle.sdd_obligations.specs.logs.Traffic.{calls_of, puts}
+use Rattle.sdd_obligations.specs.logs.Locals.{force_at, local_of, redeclares, setting_of, txn_at}
+use Rattle.sdd_obligations.specs.logs.Snapshots.{base_of}
+use Rattle.sdd_obligations.specs.logs.Due.{home_of, next_in}
+use Rattle.sdd_obligations.specs.logs.Lawful.{IsLawful, puts_past}
+use Rattle.sdd_obligations.proofs.logs.Steps.{after_acts}
+use Rattle.sdd_obligations.specs.logs.Resting.{IsSiteOf}
+use Rattle.sdd_obligations.proofs.logs.Acts.{calls_acts, ends_in_acts, history_acts, left_acts, linked_acts, marks_acts, other_acts, own_acts}
+use Rattle.sdd_obligations.proofs.logs.FirstHand.{listed}
+use Rattle.sdd_obligations.proofs.logs.Marking.{mark_within}
+use Rattle.sdd_obligations.proofs.logs.Submitting.{home_in, other_local, submits_and_acts, submitted, submitted_local, submitted_within, acts_lawful}
 use Rattle.sdd_world.specs.declared.world.World.{World}
 use Rattle.sdd_world.specs.DueAt.{next_of}
 use Rattle.sdd_world.specs.Kinds.{AreLinked}

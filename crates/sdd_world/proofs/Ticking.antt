@@ -1,19 +1,19 @@
 -- The clock of a transaction module goes on, over plain worlds.
 use Rattle.std.proofs.Common.{ℕ, ◌≡◌, refl, true, false, List, ◌∷◌}
-use Rattle.sdd_base.specs.Sites.{same_site}
-use Rattle.sdd_base.specs.declared.number.TmNo.{TmNo}
-use Rattle.sdd_base.specs.declared.site.Site.{Site}
-use Rattle.sdd_base.specs.declared.site.Site.TheVariants.{U, T}
-use Rattle.sdd_base.specs.declared.event.Event.TheVariants.{Tick}
-use Rattle.sdd_wire.specs.declared.msg.Msg.{Msg}
-use Rattle.sdd_module.specs.SiteLog.{Setting, Ticked}
-use Rattle.sdd_module.specs.SiteLog as site
-use Rattle.sdd_net.proofs.Directions.{same_here, same_is}
-use Rattle.sdd_net.specs.Mailboxes.{Mailbox}
-use Rattle.sdd_log.specs.Entries.{Given, Log, Mark}
-use Rattle.sdd_log.specs.Locals.{local_of, setting_of}
-use Rattle.sdd_log.specs.Resting.{IsSiteOf}
-use Rattle.sdd_log.proofs.Marking.{rests_marked, ticked_none, handed_still}
+use Rattle.sdd_obligations.specs.base.Sites.{same_site}
+use Rattle.sdd_obligations.specs.base.declared.number.TmNo.{TmNo}
+use Rattle.sdd_obligations.specs.base.declared.site.Site.{Site}
+use Rattle.sdd_obligations.specs.base.declared.site.Site.TheVariants.{U, T}
+use Rattle.sdd_obligations.specs.base.declared.event.Event.TheVariants.{Tick}
+use Rattle.sdd_obligations.specs.wire.declared.msg.Msg.{Msg}
+use Rattle.sdd_obligations.specs.site_module.SiteLog.{Setting, Ticked}
+use Rattle.sdd_obligations.specs.site_module.SiteLog as site
+use Rattle.sdd_obligations.proofs.net.Directions.{same_here, same_is}
+use Rattle.sdd_obligations.specs.net.Mailboxes.{Mailbox}
+use Rattle.sdd_obligations.specs.logs.Entries.{Given, Log, Mark}
+use Rattle.sdd_obligations.specs.logs.Locals.{local_of, setting_of}
+use Rattle.sdd_obligations.specs.logs.Resting.{IsSiteOf}
+use Rattle.sdd_obligations.proofs.logs.Marking.{rests_marked, ticked_none, handed_still}
 use Rattle.sdd_world.specs.declared.world.World.{World}
 use Rattle.sdd_world.specs.Standing.{Happened, Marked, Spooled}
 use Rattle.sdd_world.proofs.Handing.{at_log, here_at}

@@ -1,20 +1,20 @@
 -- For which logs the modules of a system stand before its first event.
 use Rattle.std.specs.Prelude.{ℕ, ◌-◌, ◌≤◌, ◌≡◌, List, [], ◌∷◌, length, slice_get, Option, Some, None}
-use Rattle.sdd_base.specs.Kept.{Kept}
-use Rattle.sdd_base.specs.Numbers.{dm_no, tm_no}
-use Rattle.sdd_base.specs.declared.number.RelNo.{RelNo}
-use Rattle.sdd_base.specs.declared.site.Site.TheVariants.{T, D}
-use Rattle.sdd_lang.specs.declared.transaction.Txn.{Txn}
-use Rattle.sdd_log.specs.Entries.{Given}
-use Rattle.sdd_log.specs.Locals.{force_at, rows_of}
-use Rattle.sdd_catalog.specs.Catalogue.{Catalogue}
-use Rattle.sdd_protocol.specs.declared.entry.Entry.{Entry}
-use Rattle.sdd_lang.specs.Database.{Row}
-use Rattle.sdd_module.specs.SiteLog.{Redeclared, Setting}
-use Rattle.sdd_dm.specs.Stands as dm
-use Rattle.sdd_dm.specs.State as dm_state
-use Rattle.sdd_tm.specs.Stands as tm
-use Rattle.sdd_tm.specs.State as tm_state
+use Rattle.sdd_obligations.specs.base.Kept.{Kept}
+use Rattle.sdd_obligations.specs.base.Numbers.{dm_no, tm_no}
+use Rattle.sdd_obligations.specs.base.declared.number.RelNo.{RelNo}
+use Rattle.sdd_obligations.specs.base.declared.site.Site.TheVariants.{T, D}
+use Rattle.sdd_obligations.specs.lang.declared.transaction.Txn.{Txn}
+use Rattle.sdd_obligations.specs.logs.Entries.{Given}
+use Rattle.sdd_obligations.specs.logs.Locals.{force_at, rows_of}
+use Rattle.sdd_obligations.specs.catalog.Catalogue.{Catalogue}
+use Rattle.sdd_obligations.specs.protocol.declared.entry.Entry.{Entry}
+use Rattle.sdd_obligations.specs.lang.Database.{Row}
+use Rattle.sdd_obligations.specs.site_module.SiteLog.{Redeclared, Setting}
+use Rattle.sdd_obligations.specs.dm.Stands as dm
+use Rattle.sdd_obligations.specs.dm.State as dm_state
+use Rattle.sdd_obligations.specs.tm.Stands as tm
+use Rattle.sdd_obligations.specs.tm.State as tm_state
 
 -- the module that is looked for is there, and has this
 abbrev pub There : {V : Type 0} → (V → Type 0) → Option V → Type 0

@@ -1,8 +1,8 @@
 -- Where a site may send.
 use Rattle.std.specs.Prelude.{ℕ, ◌≡◌, true, List, [], ◌∷◌}
-use Rattle.sdd_base.specs.declared.site.Site.{Site}
-use Rattle.sdd_wire.specs.declared.msg.Msg.{Msg}
-use Rattle.sdd_net.specs.Nets.{is_link}
+use Rattle.sdd_obligations.specs.base.declared.site.Site.{Site}
+use Rattle.sdd_obligations.specs.wire.declared.msg.Msg.{Msg}
+use Rattle.sdd_obligations.specs.net.Nets.{is_link}
 
 -- messages go along links between so many modules
 abbrev pub AreLinked : ℕ → ℕ → Site → List (Site × Msg) → Type 0

@@ -1,14 +1,14 @@
 ghost use Rattle.std.specs.Prelude.{◌≡◌, map, IfOk};
 ghost use Rattle.std.specs.List.{AllByRecursion};
-ghost use Rattle.sdd_net.specs.declared.delivered.Delivered.{Delivered as Handed};
-ghost use Rattle.sdd_wire.specs.declared.msg.Msg.{Msg as Message};
-ghost use Rattle.sdd_wire.specs.Fits.{Fits};
-ghost use Rattle.sdd_wire.specs.Spelling.{spelled};
+ghost use Rattle.sdd_obligations.specs.net.declared.delivered.Delivered.{Delivered as Handed};
+ghost use Rattle.sdd_obligations.specs.wire.declared.msg.Msg.{Msg as Message};
+ghost use Rattle.sdd_obligations.specs.wire.Fits.{Fits};
+ghost use Rattle.sdd_obligations.specs.wire.Spelling.{spelled};
 ghost use Rattle.sdd_world.specs.Carries.{IsSpelling, Spells};
 
-use sdd_base::NoMemory;
-use sdd_net::{Delivered, Parcels};
-use sdd_wire::{Msg, Spelling, WireFault, decode};
+use sdd_obligations::sdd_base::NoMemory;
+use sdd_obligations::sdd_net::{Delivered, Parcels};
+use sdd_obligations::sdd_wire::{Msg, Spelling, WireFault, decode};
 use std::alloc::Global;
 
 /// What is handed on, read from its spellings.

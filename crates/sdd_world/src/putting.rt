@@ -1,16 +1,16 @@
 ghost use Rattle.std.specs.Prelude.{◌≡◌, ◌≤◌, ◌++◌, [], ◌∷◌, ℕ, List, map, true, false, All, IfOk, IsErrOf, OnOk};
-ghost use Rattle.sdd_net.specs.Links.{Call};
-ghost use Rattle.sdd_wire.specs.declared.msg.Msg.{Msg};
-ghost use Rattle.sdd_log.specs.Traffic.{puts};
-ghost use Rattle.sdd_log.specs.Lawful.{puts_past};
+ghost use Rattle.sdd_obligations.specs.net.Links.{Call};
+ghost use Rattle.sdd_obligations.specs.wire.declared.msg.Msg.{Msg};
+ghost use Rattle.sdd_obligations.specs.logs.Traffic.{puts};
+ghost use Rattle.sdd_obligations.specs.logs.Lawful.{puts_past};
 ghost use Rattle.sdd_world.specs.Carries.{Carries};
 ghost use Rattle.sdd_world.specs.Kinds.{AreLinked};
 
 use crate::ends::WorldEnd;
 use crate::mail::Mail;
-use sdd_base::{NoMemory, Site};
-use sdd_history::{History, Recs};
-use sdd_wire::{Msg, Outs};
+use sdd_obligations::sdd_base::{NoMemory, Site};
+use sdd_obligations::sdd_history::{History, Recs};
+use sdd_obligations::sdd_wire::{Msg, Outs};
 use std::collections::VecDeque;
 
 /// Adds records of an event behind the others.

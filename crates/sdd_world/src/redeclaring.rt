@@ -1,15 +1,15 @@
 //! Another list of classes is put in force in a world, once its links are quiet.
 ghost use Rattle.std.specs.Prelude.{◌≡◌, IfOk, IsErrOf};
-ghost use Rattle.sdd_base.specs.declared.event.Event.TheVariants.{Redeclare};
-ghost use Rattle.sdd_log.specs.Entries.{Given, Log, with_event};
+ghost use Rattle.sdd_obligations.specs.base.declared.event.Event.TheVariants.{Redeclare};
+ghost use Rattle.sdd_obligations.specs.logs.Entries.{Given, Log, with_event};
 ghost use Rattle.sdd_obligations.specs.Real.{IsGood};
 ghost use Rattle.sdd_world.specs.Standing.{EndsBy, Forcing, IsNextList, StandsFor};
 
 use crate::ends::WorldEnd;
 use crate::world::World;
-use sdd_base::Event;
-use sdd_catalog::Catalogue;
-use sdd_protocol::Table;
+use sdd_obligations::sdd_base::Event;
+use sdd_obligations::sdd_catalog::Catalogue;
+use sdd_obligations::sdd_protocol::Table;
 
 impl<'a> World<'a> {
     /// Puts a list of classes in force at all transaction modules, at the greatest bound of their

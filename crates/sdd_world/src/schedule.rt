@@ -1,14 +1,14 @@
 ghost use Rattle.std.specs.Prelude.{◌≡◌, IfOk, IsErrOf};
-ghost use Rattle.sdd_base.specs.declared.event.Event.TheVariants.{Redeclare};
-ghost use Rattle.sdd_log.specs.Entries.{Given, Log, with_event};
+ghost use Rattle.sdd_obligations.specs.base.declared.event.Event.TheVariants.{Redeclare};
+ghost use Rattle.sdd_obligations.specs.logs.Entries.{Given, Log, with_event};
 ghost use Rattle.sdd_world.specs.Standing.{EndsBy, StandsFor};
 ghost use Rattle.sdd_world.specs.Schedules.{AreAllowed, IsAllowed, lists_after, with_events};
 
 use crate::ends::WorldEnd;
 use crate::world::World;
-use sdd_base::Event;
-use sdd_catalog::Catalogue;
-use sdd_protocol::Table;
+use sdd_obligations::sdd_base::Event;
+use sdd_obligations::sdd_catalog::Catalogue;
+use sdd_obligations::sdd_protocol::Table;
 use std::collections::VecDeque;
 
 /// A list of classes as it is put in force: the catalogue that has them, with its protocol table.

@@ -1,6 +1,6 @@
 use Rattle.std.proofs.Common.{◌+◌, ◌∙◌}
 use Rattle.std.proofs.lemmas.Result.{err_from_is_err_and}
-use Rattle.sdd_verify.specs.declared.limits.TheConstants.{MAX_REPORT_BYTES}
+use Rattle.sdd_verified.specs.verify.declared.limits.TheConstants.{MAX_REPORT_BYTES}
 use Rattle.sdd_app.specs.Answer.{BlamesCatalogue, BlamesWorkload, ComesToVerdict, ComesToVerify, OverCatalogue, catalogue_named, workload_named}
 use Rattle.sdd_app.specs.Verdict.{Prints}
 use Rattle.sdd_app.proofs.Verdicts.{explains_more, blamed, goes_on, blamed_verify, judges_report, three_ended, one_ended, two_ended}

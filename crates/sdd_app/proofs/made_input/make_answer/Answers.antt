@@ -1,7 +1,7 @@
 use Rattle.std.proofs.Common.{◌≡◌, sym, subst}
-use Rattle.sdd_make.specs.Bank.{bank}
-use Rattle.sdd_make.specs.Turns.{workload_of}
-use Rattle.sdd_script.specs.Valid.{IsValid}
+use Rattle.sdd_verified.specs.make.Bank.{bank}
+use Rattle.sdd_verified.specs.make.Turns.{workload_of}
+use Rattle.sdd_verified.specs.script.Valid.{IsValid}
 use Rattle.sdd_app.specs.Answer.{ComesToSummary}
 use Rattle.sdd_app.specs.Verdict.{Answers}
 use Rattle.sdd_app.proofs.MadeSummary.{all_made}

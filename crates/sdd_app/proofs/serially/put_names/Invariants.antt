@@ -1,5 +1,5 @@
 use Rattle.std.proofs.Common.{◌≡◌, ◌++◌, take, map, flat_map}
-use Rattle.sdd_report.specs.Names.{spaced}
+use Rattle.sdd_verified.specs.report.Names.{spaced}
 use Rattle.sdd_app.specs.Serially.{names_of}
 use Rattle.sdd_app.proofs.serially.put_names.Given as goal
 

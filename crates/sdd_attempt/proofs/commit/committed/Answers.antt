@@ -1,9 +1,9 @@
 use Rattle.std.proofs.Common.{ap, refl, sym, subst, ◌∙◌, ◌++◌}
 use Rattle.std.specs.Prelude.{filter_map}
-use Rattle.sdd_catalog.specs.Catalogue.{numbers_to}
+use Rattle.sdd_module.specs.catalog.Catalogue.{numbers_to}
 use Rattle.sdd_exec.specs.Serves.{Serves}
-use Rattle.sdd_lang.specs.Effect.{effect}
-use Rattle.sdd_base.specs.Numbers.{txn_no}
+use Rattle.sdd_module.specs.lang.Effect.{effect}
+use Rattle.sdd_module.specs.base.Numbers.{txn_no}
 use Rattle.sdd_attempt.specs.Writes.{write_of}
 use Rattle.sdd_attempt.proofs.Noting.{committed_noted}
 use Rattle.sdd_attempt.proofs.commit.committed.Goals as goal

@@ -1,6 +1,6 @@
 use Rattle.std.proofs.Common.{◌≡◌, fold}
 use Rattle.std.specs.BTreeSet.{insert_key}
-use Rattle.sdd_base.specs.Order.{row_cmp}
+use Rattle.sdd_lang.specs.base.Order.{row_cmp}
 use Rattle.sdd_lang.specs.Query.{distinct}
 use Rattle.sdd_exec.proofs.found.as_set.Given as goal
 

@@ -1,6 +1,6 @@
-use Rattle.sdd_catalog.specs.Catalogue.{Catalogue}
-use Rattle.sdd_log.specs.Entries.{history}
-use Rattle.sdd_log.proofs.NewMarks.{lawful_permitted}
+use Rattle.sdd_invariants.specs.catalog.Catalogue.{Catalogue}
+use Rattle.sdd_invariants.specs.logs.Entries.{history}
+use Rattle.sdd_invariants.proofs.logs.NewMarks.{lawful_permitted}
 use Rattle.sdd_lawful.proofs.Named.{numbers_exist, txns_exist}
 use Rattle.sdd_lawful.proofs.Numbered.{lawful_numbered}
 use Rattle.sdd_lawful.proofs.OneEra.{keeps_eras, of_one_era}

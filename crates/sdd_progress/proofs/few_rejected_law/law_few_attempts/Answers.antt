@@ -1,4 +1,4 @@
-use Rattle.sdd_log.proofs.NewMarks.{lawful_permitted}
+use Rattle.sdd_obligations.proofs.logs.NewMarks.{lawful_permitted}
 use Rattle.sdd_lawful.proofs.Numbered.{lawful_numbered}
 use Rattle.sdd_lawful.proofs.OneEra.{of_one_era}
 use Rattle.sdd_lawful.specs.Given.{one_era}

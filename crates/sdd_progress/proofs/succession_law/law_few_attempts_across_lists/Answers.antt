@@ -1,4 +1,4 @@
-use Rattle.sdd_log.proofs.NewMarks.{lawful_permitted}
+use Rattle.sdd_obligations.proofs.logs.NewMarks.{lawful_permitted}
 use Rattle.sdd_lawful.proofs.Numbered.{lawful_numbered}
 use Rattle.sdd_progress.proofs.OfLogs.{few_in_limit, few_rejected}
 use Rattle.sdd_progress.proofs.ErasOf.{are_eras_of}

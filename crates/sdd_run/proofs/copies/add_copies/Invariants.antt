@@ -1,7 +1,7 @@
 use Rattle.std.proofs.Common.{◌≡◌, ◌++◌, ◌-◌, map, filter}
-use Rattle.sdd_catalog.specs.Catalogue.{has_copy, numbers_to}
-use Rattle.sdd_copy.specs.Contents.{Dated}
-use Rattle.sdd_copy.specs.Copies.{StandFor}
+use Rattle.sdd_obligations.specs.catalog.Catalogue.{has_copy, numbers_to}
+use Rattle.sdd_obligations.specs.copy.Contents.{Dated}
+use Rattle.sdd_obligations.specs.copy.Copies.{StandFor}
 use Rattle.sdd_run.specs.Copies.{table_of}
 use Rattle.sdd_run.proofs.copies.add_copies.Given as goal
 

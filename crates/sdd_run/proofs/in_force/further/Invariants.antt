@@ -1,5 +1,5 @@
 use Rattle.std.proofs.Common.{◌-◌, ◌≡◌, map, take}
-use Rattle.sdd_base.specs.Words.{tail_of}
+use Rattle.sdd_obligations.specs.base.Words.{tail_of}
 use Rattle.sdd_run.specs.Lent.{force_in}
 use Rattle.sdd_run.specs.Runs.{forces_of}
 use Rattle.sdd_run.proofs.in_force.further.Given as goal

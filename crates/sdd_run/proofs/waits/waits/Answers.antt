@@ -1,9 +1,9 @@
 use Rattle.std.proofs.Common.{rules, [], ◌≡◌, ◌<◌, ◌≤◌, ◌∙◌, ◌-◌, arith, ap, sym, subst, length}
 use Rattle.std.specs.Prelude.{filter_map}
-use Rattle.sdd_base.specs.Numbers.{dm_no}
-use Rattle.sdd_catalog.specs.Catalogue.{Catalogue, numbers_to}
+use Rattle.sdd_obligations.specs.base.Numbers.{dm_no}
+use Rattle.sdd_obligations.specs.catalog.Catalogue.{Catalogue, numbers_to}
 use Rattle.sdd_run.specs.Pending.{wait_at}
-use Rattle.sdd_attempt.proofs.Lists.{picked_to}
+use Rattle.sdd_obligations.proofs.attempt.Lists.{picked_to}
 use Rattle.sdd_run.proofs.Homes.{dm_of}
 use Rattle.sdd_run.proofs.Outsiders.{no_waits}
 use Rattle.sdd_run.proofs.waits.waits.Goals as goal

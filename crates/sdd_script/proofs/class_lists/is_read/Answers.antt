@@ -1,6 +1,6 @@
 use Rattle.std.proofs.Common.{◌∙◌}
-use Rattle.sdd_catalog.specs.declared.parts.ReadPart.{ReadPart}
-use Rattle.sdd_catalog.proofs.NameLemmas.{has_name_of_items}
+use Rattle.sdd_lang.specs.catalog.declared.parts.ReadPart.{ReadPart}
+use Rattle.sdd_lang.proofs.catalog.NameLemmas.{has_name_of_items}
 use Rattle.sdd_script.proofs.class_lists.is_read.Goals as goal
 
 pub returns : goal.returns

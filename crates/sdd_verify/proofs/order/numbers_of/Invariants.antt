@@ -1,6 +1,6 @@
 use Rattle.std.proofs.Common.{◌≡◌, map, drop}
-use Rattle.sdd_base.specs.Readings.{along, known}
-use Rattle.sdd_base.proofs.ReadingLaws.{with_front}
+use Rattle.sdd_script.specs.base.Readings.{along, known}
+use Rattle.sdd_script.proofs.base.ReadingLaws.{with_front}
 use Rattle.sdd_verify.specs.Submitted.{named}
 use Rattle.sdd_verify.proofs.order.numbers_of.Given as goal
 

@@ -1,7 +1,7 @@
-use Rattle.sdd_net.proofs.Lists.{get-set_other}
-use Rattle.sdd_tm.specs.Due as tm
-use Rattle.sdd_tm.specs.Fits as tm_fits
-use Rattle.sdd_tm.specs.Stands as tm_stands
+use Rattle.sdd_obligations.proofs.net.Lists.{get-set_other}
+use Rattle.sdd_obligations.specs.tm.Due as tm
+use Rattle.sdd_obligations.specs.tm.Fits as tm_fits
+use Rattle.sdd_obligations.specs.tm.Stands as tm_stands
 use Rattle.sdd_world.proofs.ByTable.{submitted_in}
 use Rattle.sdd_world.proofs.sites.submit_in.Goals as goal
 

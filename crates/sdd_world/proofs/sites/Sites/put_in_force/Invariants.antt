@@ -1,4 +1,4 @@
-use Rattle.sdd_log.specs.Entries.{Given, Log}
+use Rattle.sdd_obligations.specs.logs.Entries.{Given, Log}
 use Rattle.sdd_obligations.specs.Real.{FitsForce}
 use Rattle.sdd_world.specs.Modules.{AllStandFor}
 use Rattle.sdd_world.proofs.Forcing.{ForcedTo}

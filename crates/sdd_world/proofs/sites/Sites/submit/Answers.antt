@@ -1,11 +1,11 @@
 use Rattle.std.proofs.Common.{refl}
-use Rattle.sdd_dm.specs.Stands as dm_stands
-use Rattle.sdd_tm.specs.Due as tm
-use Rattle.sdd_tm.specs.Fits as tm_fits
-use Rattle.sdd_tm.specs.Stands as tm_stands
-use Rattle.sdd_umod.specs.Due as um
-use Rattle.sdd_umod.specs.Fits as um_fits
-use Rattle.sdd_umod.specs.Stands as um_stands
+use Rattle.sdd_obligations.specs.dm.Stands as dm_stands
+use Rattle.sdd_obligations.specs.tm.Due as tm
+use Rattle.sdd_obligations.specs.tm.Fits as tm_fits
+use Rattle.sdd_obligations.specs.tm.Stands as tm_stands
+use Rattle.sdd_obligations.specs.umod.Due as um
+use Rattle.sdd_obligations.specs.umod.Fits as um_fits
+use Rattle.sdd_obligations.specs.umod.Stands as um_stands
 use Rattle.sdd_world.specs.AtSites.{Lives}
 use Rattle.sdd_world.proofs.ByTable.{lives_submit, submit_u, submit_t}
 use Rattle.sdd_world.proofs.sites.Sites.submit.Goals as goal

@@ -1,7 +1,7 @@
 use Rattle.std.proofs.Common.{◌≡◌}
-use Rattle.sdd_base.specs.declared.site.Site.TheVariants.{D}
-use Rattle.sdd_net.specs.Mailboxes.{kept_count, kept_from, mailbox_at}
-use Rattle.sdd_log.specs.Entries.{Given, Log}
+use Rattle.sdd_obligations.specs.base.declared.site.Site.TheVariants.{D}
+use Rattle.sdd_obligations.specs.net.Mailboxes.{kept_count, kept_from, mailbox_at}
+use Rattle.sdd_obligations.specs.logs.Entries.{Given, Log}
 use Rattle.sdd_world.specs.Standing.{ahead_of, Handing, Rising}
 use Rattle.sdd_world.proofs.world.World.hand_kept.Given as goal
 

@@ -1,8 +1,8 @@
 use Rattle.std.proofs.Common.{◌≡◌, ◌<◌, ◌+◌, false, length}
-use Rattle.sdd_base.specs.declared.event.Event.{Event}
-use Rattle.sdd_log.specs.Entries.{Given, Log}
-use Rattle.sdd_log.specs.Traffic.{all_links, calls_of}
-use Rattle.sdd_net.specs.Links.{quiet}
+use Rattle.sdd_obligations.specs.base.declared.event.Event.{Event}
+use Rattle.sdd_obligations.specs.logs.Entries.{Given, Log}
+use Rattle.sdd_obligations.specs.logs.Traffic.{all_links, calls_of}
+use Rattle.sdd_obligations.specs.net.Links.{quiet}
 use Rattle.sdd_world.specs.Standing.{Rounding, Settling}
 use Rattle.sdd_world.proofs.world.World.round.Given as goal
 

@@ -1,6 +1,6 @@
 use Rattle.std.proofs.Common.{◌-◌, ◌^◌}
-use Rattle.sdd_base.specs.declared.event.Event.{Event}
-use Rattle.sdd_log.specs.Entries.{Given, Log}
+use Rattle.sdd_obligations.specs.base.declared.event.Event.{Event}
+use Rattle.sdd_obligations.specs.logs.Entries.{Given, Log}
 use Rattle.sdd_world.specs.Standing.{Settles, Settling}
 use Rattle.sdd_world.proofs.world.World.settle_down.Given as goal
 
