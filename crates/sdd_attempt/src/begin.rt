@@ -11,9 +11,9 @@ use crate::exchange::Exchange;
 use crate::queued::Queued;
 use crate::reads::Beginning;
 use crate::running::Running;
+use sdd_module::Draft;
 use sdd_module::sdd_base::{ClassNo, Clock, NoMemory};
 use sdd_module::sdd_catalog::Catalogue;
-use sdd_module::Draft;
 use sdd_module::sdd_protocol::Table;
 use std::alloc::Global;
 

@@ -12,12 +12,12 @@ ghost use Rattle.sdd_attempt.specs.Lines.{attempt_of};
 use crate::queued::Queued;
 use crate::running::Running;
 use crate::writes::{Committing, send_writes};
+use sdd_exec::{Snapshot, effect};
+use sdd_module::Draft;
 use sdd_module::sdd_base::{ClassNo, NoMemory, Row};
 use sdd_module::sdd_catalog::Catalogue;
-use sdd_exec::{Snapshot, effect};
 use sdd_module::sdd_history::Rec;
 use sdd_module::sdd_lang::{Effect, Txn};
-use sdd_module::Draft;
 use std::alloc::Global;
 
 /// Commits an attempt of the class: its Commit is recorded, with its WRITEs.

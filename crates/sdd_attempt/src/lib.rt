@@ -28,11 +28,6 @@ pub use step::LineStep;
 // What lies below, for the crates above.
 pub use sdd_exec;
 pub use sdd_graph;
-pub use sdd_module::sdd_base;
-pub use sdd_module::sdd_catalog;
-pub use sdd_module::sdd_history;
-pub use sdd_module::sdd_lang;
-pub use sdd_module::sdd_protocol;
-pub use sdd_module::sdd_wire;
 pub use sdd_module;
+pub use sdd_module::{sdd_base, sdd_catalog, sdd_history, sdd_lang, sdd_protocol, sdd_wire};
 pub use sdd_semijoin;

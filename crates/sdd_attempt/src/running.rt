@@ -9,8 +9,8 @@ ghost use Rattle.sdd_attempt.specs.Standings.{underway};
 use crate::exchange::Exchange;
 use crate::standing::Standing;
 use crate::step::LineStep;
-use sdd_module::sdd_base::{ClassNo, NoMemory, Site, Ts};
 use sdd_module::Draft;
+use sdd_module::sdd_base::{ClassNo, NoMemory, Site, Ts};
 use sdd_module::sdd_wire::Msg;
 use std::marker::Model;
 

@@ -1,9 +1,9 @@
 //! Catalogues that are built of their parts, that a further class extends, and whose classes retire.
 use crate::read::{catalogue, wanting};
 use anyhow::{Result, anyhow};
+use sdd_eras::{extend, retire};
 use sdd_script::sdd_base::{Listed, Name, Parcel};
 use sdd_script::sdd_catalog::{Catalogue, ClassPart, Parts, ReadPart};
-use sdd_eras::{extend, retire};
 use std::alloc::Global;
 use std::rt::Files;
 

@@ -1,8 +1,8 @@
 //! A copy of a fragment to which an earlier put comes after a deletion.
 use crate::read::wanting;
 use anyhow::{Result, ensure};
-use sdd_script::sdd_base::{Change, FragNo, Row, Ts, Value};
 use sdd_copy::FragCopy;
+use sdd_script::sdd_base::{Change, FragNo, Row, Ts, Value};
 use std::alloc::Global;
 
 pub fn stays_deleted(alloc: Global) -> Result<bool> {

@@ -3,9 +3,9 @@ ghost use Rattle.std.specs.Prelude.{IfOk};
 ghost use Rattle.sdd_script.specs.Valid.{IsValid};
 
 use anyhow::{Error, Result, anyhow};
+use sdd_catread::read_catalogue;
 use sdd_script::sdd_base::NoMemory;
 use sdd_script::sdd_catalog::Catalogue;
-use sdd_catread::read_catalogue;
 use sdd_script::{Workload, read_workload};
 use std::alloc::Global;
 use std::fs;

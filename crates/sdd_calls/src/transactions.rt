@@ -4,13 +4,13 @@ ghost use Rattle.sdd_script.specs.Valid.{IsValid};
 
 use crate::read::{catalogue, judged, wanting, workload};
 use anyhow::{Result, ensure};
-use sdd_script::sdd_base::FragNo;
-use sdd_script::sdd_catalog::Catalogue;
 use sdd_catread::read_catalogue;
-use sdd_script::sdd_lang::{Txn, fits, write_set};
 use sdd_make::{Made, make};
 use sdd_plain::Plain;
 use sdd_script::Workload;
+use sdd_script::sdd_base::FragNo;
+use sdd_script::sdd_catalog::Catalogue;
+use sdd_script::sdd_lang::{Txn, fits, write_set};
 use std::alloc::Global;
 use std::rt::Files;
 

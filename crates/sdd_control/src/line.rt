@@ -11,8 +11,8 @@ use crate::key::{Key, key_of};
 use crate::limits::{MAX_BACKUPS, MAX_WRITES};
 use crate::stage::{Head, Stage};
 use sdd_script::sdd_base::MAX_EVENTS;
-use sdd_script::{Counts, WorkRule};
 use sdd_script::sdd_words::{Word, are_sound, number_in, split_line, stands_free, text_of};
+use sdd_script::{Counts, WorkRule};
 use std::alloc::Global;
 
 fn within(least: u32, most: u32, number: i64) -> Option<u32>

@@ -11,8 +11,8 @@ use crate::line::read_line;
 use crate::script::ControlScript;
 use crate::stage::Stage;
 use sdd_script::sdd_base::MAX_WORKLOAD_BYTES;
-use sdd_script::{WorkError, WorkFault, WorkRule};
 use sdd_script::sdd_words::{next_line, text_of};
+use sdd_script::{WorkError, WorkFault, WorkRule};
 use std::alloc::Global;
 
 fn is_ended(stage: Stage) -> bool

@@ -6,8 +6,8 @@ ghost use Rattle.sdd_copy.specs.Copies.{rows_at};
 ghost use Rattle.sdd_copy.specs.Ascending.{ascend, is_after};
 ghost use Rattle.sdd_copy.specs.Frozen.{chosen, rows_for, with_keyed};
 
-use sdd_lang::sdd_base::{NoMemory, Row, RowList, Use};
 use crate::copies::Copies;
+use sdd_lang::sdd_base::{NoMemory, Row, RowList, Use};
 use std::alloc::Global;
 use std::collections::BTreeMap;
 

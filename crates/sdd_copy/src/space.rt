@@ -4,10 +4,10 @@ ghost use Rattle.sdd_copy.specs.Contents.{Dated, contents};
 ghost use Rattle.sdd_copy.specs.Copies.{rows_at, StandFor, AreHere};
 ghost use Rattle.sdd_copy.specs.Frozen.{frozen_for, rows_of, values_in, reduced, counts_of, all_rows};
 
+use crate::copies::Copies;
 use crate::freezing::rows_for;
 use crate::reducing::{reduce_use, set_of, values_of};
 use sdd_lang::sdd_base::{Listed, NoMemory, Row, RowList, Ts, Use, Value};
-use crate::copies::Copies;
 use std::alloc::Global;
 use std::collections::BTreeSet;
 use std::marker::Model;

@@ -14,10 +14,10 @@ ghost use Rattle.sdd_dm.specs.Stands.{Stands};
 ghost use Rattle.sdd_dm.specs.Waiting.{IsAwaited};
 
 use crate::parts::Parts;
-use sdd_module::sdd_base::{ClassNo, Cond, DmNo, NoMemory, RelNo, Row, Site, Ts};
-use sdd_module::sdd_catalog::Catalogue;
 use sdd_copy::Copies;
 use sdd_module::Module;
+use sdd_module::sdd_base::{ClassNo, Cond, DmNo, NoMemory, RelNo, Row, Site, Ts};
+use sdd_module::sdd_catalog::Catalogue;
 use sdd_module::sdd_wire::{Msg, Outcome};
 use std::alloc::Global;
 use std::marker::Model;

@@ -8,9 +8,9 @@ ghost use Rattle.sdd_dm.specs.State.{State, frozen_of, class_piped, arrived, sta
 
 use crate::parts::Parts;
 use crate::slots::{put_space, reduce_space};
+use sdd_module::Draft;
 use sdd_module::sdd_base::{ClassNo, NoMemory, Site, Ts, Value};
 use sdd_module::sdd_history::Rec;
-use sdd_module::Draft;
 use sdd_module::sdd_wire::{Msg, UseRows, ValueList};
 
 impl Parts {

@@ -7,8 +7,8 @@ ghost use Rattle.sdd_dm.specs.Heads.{holds_in, is_held_in, waits_at};
 use crate::hints::Hints;
 use crate::slots::waits_at;
 use sdd_module::sdd_base::{Change, ClassNo, Cond, Ts};
-use sdd_pipe::{Pipes, touches};
 use sdd_module::sdd_wire::Msg;
+use sdd_pipe::{Pipes, touches};
 
 /// Whether a condition of a waiting READ holds back a WRITE of the class with this timestamp and
 /// these changes: it is on that class, up to the WRITE's timestamp or to a time before, for a

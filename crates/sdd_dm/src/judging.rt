@@ -11,8 +11,8 @@ use crate::holding::is_held;
 use crate::slots::waits_at;
 use crate::step::Step;
 use sdd_module::sdd_base::{ClassNo, Cond, NoMemory, Ts};
-use sdd_pipe::Pipes;
 use sdd_module::sdd_wire::Msg;
+use sdd_pipe::Pipes;
 use std::alloc::Global;
 
 /// The first head that may do something, from class 0 on.

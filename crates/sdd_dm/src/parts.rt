@@ -14,14 +14,13 @@ use crate::hints::Hints;
 use crate::judging::{awaited, first_step};
 use crate::starting::{first_copies, no_spaces, no_waits, sources};
 use crate::step::Step;
+use sdd_copy::{Copies, Space};
+use sdd_module::Draft;
 use sdd_module::sdd_base::{ClassNo, Cond, DmNo, NoMemory, RelNo, Row, Site, Ts};
 use sdd_module::sdd_catalog::Catalogue;
-use sdd_copy::Copies;
 use sdd_module::sdd_lang::law_rows_make_database;
-use sdd_module::Draft;
-use sdd_pipe::Pipes;
-use sdd_copy::Space;
 use sdd_module::sdd_wire::Msg;
+use sdd_pipe::Pipes;
 use std::alloc::Global;
 use std::marker::Model;
 

@@ -5,8 +5,8 @@ ghost use Rattle.sdd_dm.specs.Copies.{reduced_at};
 ghost use Rattle.sdd_dm.specs.Heads.{waits_at};
 ghost use Rattle.sdd_dm.specs.State.{frozen_of};
 
-use sdd_module::sdd_base::{ClassNo, NoMemory, Ts, Value};
 use sdd_copy::Space;
+use sdd_module::sdd_base::{ClassNo, NoMemory, Ts, Value};
 
 /// Whether the head of a class waits.
 pub fn waits_at(waits: &[bool], class: ClassNo) -> bool

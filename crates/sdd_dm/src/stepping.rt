@@ -11,10 +11,10 @@ ghost use Rattle.sdd_dm.specs.State.{State, frozen_now, head_taken, state_after,
 use crate::parts::Parts;
 use crate::slots::{put_space, set_waiting};
 use crate::step::Step;
+use sdd_copy::Space;
+use sdd_module::Draft;
 use sdd_module::sdd_base::{ClassNo, Cond, Conds, NoMemory, Site, Ts, Use};
 use sdd_module::sdd_history::Rec;
-use sdd_module::Draft;
-use sdd_copy::Space;
 use sdd_module::sdd_wire::{Msg, UseCounts};
 
 impl Parts {

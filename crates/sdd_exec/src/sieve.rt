@@ -12,8 +12,8 @@ use crate::choice::{Choice, placed};
 use crate::found::Found;
 use crate::links::values_of;
 use crate::parts::Parts;
-use sdd_lang::sdd_base::{NoMemory, Row};
 use sdd_lang::Ref;
+use sdd_lang::sdd_base::{NoMemory, Row};
 use std::alloc::Global;
 use std::collections::HashMap;
 

@@ -13,10 +13,10 @@ use crate::told::{
     Told, put_also, put_if, put_name, put_opening, put_positive, tell_also, tell_array, tell_first,
     tell_further, tell_list, tell_some, tell_triple, tell_two,
 };
+use sdd_report::CopyTable;
 use sdd_script::sdd_base::{Event, NoMemory};
 use sdd_script::sdd_catalog::Catalogue;
 use sdd_script::sdd_lang::Txn;
-use sdd_report::CopyTable;
 use sdd_script::sdd_words::{put, put_count};
 
 fn put_taken(text: &mut Vec<u8>, packet: &Taken) -> Result<(), NoMemory>

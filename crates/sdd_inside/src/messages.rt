@@ -12,8 +12,8 @@ use itoa::Buffer;
 use sdd_script::sdd_base::{Changes, ClassNo, Conds, NoMemory, Ts, TxnNo};
 use sdd_script::sdd_catalog::Catalogue;
 use sdd_script::sdd_lang::Txn;
-use sdd_wire::{Msg, UseCounts, UseRows, ValueList};
 use sdd_script::sdd_words::{put, put_count};
+use sdd_wire::{Msg, UseCounts, UseRows, ValueList};
 
 #[tactic(auto, using(crate::proofs::Members::member_put))]
 fn put_kind(text: &mut Vec<u8>, kind: &[u8]) -> Result<(), NoMemory>

@@ -1,8 +1,8 @@
 //! What stands between two events, and what an event found.
 use crate::delta::{Found, RowDelta};
 use crate::standing::SiteState;
-use sdd_script::sdd_base::{ClassNo, DmNo, Event, Listed, Site, Ts, TxnNo};
 use sdd_net::Packets;
+use sdd_script::sdd_base::{ClassNo, DmNo, Event, Listed, Site, Ts, TxnNo};
 use sdd_wire::Msg;
 
 /// A link between two events.

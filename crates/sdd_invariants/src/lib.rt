@@ -20,18 +20,9 @@ pub mod traffic_laws;
 
 // What lies below, for the crates above.
 pub use sdd_graph;
-pub use sdd_log::sdd_attempt;
-pub use sdd_log::sdd_base;
-pub use sdd_log::sdd_catalog;
-pub use sdd_log::sdd_dm;
-pub use sdd_log::sdd_history;
-pub use sdd_log::sdd_lang;
-pub use sdd_log::sdd_module;
-pub use sdd_log::sdd_net;
-pub use sdd_log::sdd_pipe;
-pub use sdd_log::sdd_protocol;
-pub use sdd_log::sdd_tm;
-pub use sdd_log::sdd_umod;
-pub use sdd_log::sdd_wire;
 pub use sdd_log;
+pub use sdd_log::{
+    sdd_attempt, sdd_base, sdd_catalog, sdd_dm, sdd_history, sdd_lang, sdd_module, sdd_net,
+    sdd_pipe, sdd_protocol, sdd_tm, sdd_umod, sdd_wire,
+};
 pub use sdd_semijoin;

@@ -22,7 +22,9 @@ mod replay_along_law;
 mod taking;
 
 pub use agreeing::law_agreeing_copies;
-pub use contents_law::{law_any_order, law_copy_holds_values, law_copy_takes, law_one_value, law_same_copies};
+pub use contents_law::{
+    law_any_order, law_copy_holds_values, law_copy_takes, law_one_value, law_same_copies,
+};
 pub use copies::{date_of, is_applied, law_copies};
 pub use law::{law_acyclic, law_attempts};
 pub use meeting::{Meeting, may_stand_first};
@@ -35,8 +37,7 @@ pub use sdd_copy;
 pub use sdd_eras;
 pub use sdd_graph;
 pub use sdd_history;
-pub use sdd_lang::sdd_base;
-pub use sdd_lang::sdd_catalog;
 pub use sdd_lang;
+pub use sdd_lang::{sdd_base, sdd_catalog};
 pub use sdd_order;
 pub use sdd_protocol;

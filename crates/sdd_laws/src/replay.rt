@@ -10,9 +10,9 @@ ghost use Rattle.sdd_laws.specs.Snapshots.{copy_at, items_of};
 ghost use Rattle.sdd_laws.specs.Starts.{KeepsStarts};
 
 use crate::law::texts_held;
+use sdd_history::Rec;
 use sdd_lang::sdd_base::{RelNo, Row, TxnNo};
 use sdd_lang::sdd_catalog::Catalogue;
-use sdd_history::Rec;
 use sdd_lang::{Txn, law_rows_make_database};
 
 /// Replay: one plain database that runs the transactions one by one along a serial order of the

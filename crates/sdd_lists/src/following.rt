@@ -5,9 +5,9 @@ ghost use Rattle.sdd_eras.specs.Further.{further_faults, with_further};
 ghost use Rattle.sdd_lists.specs.InForce.{numbered};
 ghost use Rattle.sdd_script.specs.Valid.{AreValidLists};
 
+use sdd_eras::{extend, retire};
 use sdd_script::sdd_base::{NoMemory, Parcel};
 use sdd_script::sdd_catalog::{CatError, Catalogue, ClassPart, ClassParts};
-use sdd_eras::{extend, retire};
 use std::alloc::Global;
 use std::mem;
 

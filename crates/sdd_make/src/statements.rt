@@ -4,7 +4,9 @@ ghost use Rattle.sdd_make.specs.Statements.{of_account, compared, asking, additi
 
 use crate::naming::txn_name;
 use sdd_script::sdd_base::{NoMemory, Op, RelNo, TmNo, Value};
-use sdd_script::sdd_lang::{Assign, Condition, Conditions, Ref, Refs, Rels, Sets, Statements, Stmt, Txn};
+use sdd_script::sdd_lang::{
+    Assign, Condition, Conditions, Ref, Refs, Rels, Sets, Statements, Stmt, Txn,
+};
 use std::alloc::Global;
 
 /// A column of the accounts.

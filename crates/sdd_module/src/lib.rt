@@ -14,8 +14,7 @@ pub use module::Module;
 
 // What lies below, for the crates above.
 pub use sdd_history;
-pub use sdd_lang::sdd_base;
-pub use sdd_lang::sdd_catalog;
 pub use sdd_lang;
+pub use sdd_lang::{sdd_base, sdd_catalog};
 pub use sdd_protocol;
 pub use sdd_wire;

@@ -16,24 +16,10 @@ pub mod served_laws;
 pub mod shipped_laws;
 
 // What lies below, for the crates above.
-pub use sdd_invariants::sdd_attempt;
-pub use sdd_invariants::sdd_base;
-pub use sdd_invariants::sdd_catalog;
-pub use sdd_invariants::sdd_dm;
-pub use sdd_invariants::sdd_graph;
-pub use sdd_invariants::sdd_history;
-pub use sdd_invariants::sdd_lang;
-pub use sdd_invariants::sdd_log;
-pub use sdd_invariants::sdd_module;
-pub use sdd_invariants::sdd_net;
-pub use sdd_invariants::sdd_pipe;
-pub use sdd_invariants::sdd_protocol;
-pub use sdd_invariants::sdd_semijoin;
-pub use sdd_invariants::sdd_tm;
-pub use sdd_invariants::sdd_umod;
-pub use sdd_invariants::sdd_wire;
 pub use sdd_invariants;
-pub use sdd_laws::sdd_copy;
-pub use sdd_laws::sdd_eras;
-pub use sdd_laws::sdd_order;
+pub use sdd_invariants::{
+    sdd_attempt, sdd_base, sdd_catalog, sdd_dm, sdd_graph, sdd_history, sdd_lang, sdd_log,
+    sdd_module, sdd_net, sdd_pipe, sdd_protocol, sdd_semijoin, sdd_tm, sdd_umod, sdd_wire,
+};
 pub use sdd_laws;
+pub use sdd_laws::{sdd_copy, sdd_eras, sdd_order};

@@ -5,11 +5,11 @@ ghost use Rattle.sdd_order.specs.Linked.{by_class, by_fragment, end_of, has_seen
 ghost use Rattle.sdd_order.specs.Numbers.{IsClass, IsFragment, UseExists};
 
 use crate::attempts::Committed;
+use crate::groups::Groups;
 use crate::reads::link_uses;
 use crate::seen::Marks;
 use sdd_lang::sdd_base::{Change, NoMemory};
 use sdd_lang::sdd_catalog::Catalogue;
-use crate::groups::Groups;
 use std::alloc::Global;
 
 /// The links between transactions, which are numbered by their places: from each to the next of

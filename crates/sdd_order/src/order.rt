@@ -9,10 +9,10 @@ ghost use Rattle.sdd_order.specs.SerialOrder.{serial_order};
 use crate::attempts::{Committed, find_committed};
 use crate::links::find_links;
 use crate::seen::Marks;
+use crate::taking::order_of;
+use sdd_history::Rec;
 use sdd_lang::sdd_base::{NoMemory, TxnNo};
 use sdd_lang::sdd_catalog::Catalogue;
-use sdd_history::Rec;
-use crate::taking::order_of;
 use std::alloc::Global;
 
 /// The serial order of what was committed: again and again the transaction with the least

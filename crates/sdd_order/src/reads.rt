@@ -6,10 +6,10 @@ ghost use Rattle.sdd_order.specs.Numbers.{IsClass, IsFragment, UseExists};
 ghost use Rattle.sdd_order.specs.Precedence.{module_of};
 
 use crate::attempts::Committed;
+use crate::groups::Groups;
 use crate::seen::Marks;
 use sdd_lang::sdd_base::{Change, DmNo, FragNo, NoMemory, Use};
 use sdd_lang::sdd_catalog::Catalogue;
-use crate::groups::Groups;
 
 /// Adds the links of one reader for the fragments of its uses.
 pub fn link_uses(

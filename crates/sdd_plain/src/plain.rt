@@ -6,9 +6,9 @@ ghost use Rattle.sdd_lang.specs.Serial.{after_changes, serial};
 ghost use Rattle.sdd_lang.specs.Source.{found_in, chosen_in};
 
 use crate::rows::Rows;
+use sdd_exec::join;
 use sdd_lang::sdd_base::{Listed, NoMemory, RelNo, Reply, Row, RowList};
 use sdd_lang::sdd_catalog::Catalogue;
-use sdd_exec::join;
 use sdd_lang::{Condition, Effect, Entries, Ref, Source, Txn, effect_over};
 use std::alloc::Global;
 use std::marker::Model;

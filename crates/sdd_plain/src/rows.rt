@@ -12,9 +12,9 @@ ghost use Rattle.sdd_plain.specs.Held.{HasKey, AreNear, is_within};
 ghost use Rattle.sdd_plain.specs.Parts.{standing};
 
 use crate::narrowing::keys_of_part;
+use sdd_exec::Parts;
 use sdd_lang::sdd_base::{Change, FragNo, NoMemory, Parcel, RelNo, Row, Value};
 use sdd_lang::sdd_catalog::Catalogue;
-use sdd_exec::Parts;
 use sdd_lang::{Condition, Entries, Entry, Keys, key_of, may_stand, meets_all, value_in};
 use std::alloc::Global;
 use std::collections::BTreeMap;

@@ -9,9 +9,9 @@ ghost use Rattle.sdd_report.specs.Committed.{told_in, told_of, names_of, order_l
 use crate::names::txn_name;
 use crate::replies::put_reply;
 use crate::words::{put_large_number, put_txn, put_word};
-use sdd_lang::sdd_base::{NoMemory, Reply, TxnNo};
 use sdd_history::Rec;
 use sdd_lang::Txn;
+use sdd_lang::sdd_base::{NoMemory, Reply, TxnNo};
 use sdd_words::put;
 use std::alloc::Global;
 use std::collections::BTreeMap;

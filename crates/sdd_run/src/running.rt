@@ -6,8 +6,8 @@ ghost use Rattle.sdd_run.specs.Runs.{AreTables, EndsAtLimit};
 ghost use Rattle.sdd_run.specs.Worlds.{IsRunOf};
 
 use crate::in_force::{first_table, further};
-use sdd_obligations::sdd_catalog::Catalogue;
 use sdd_lists::Lists;
+use sdd_obligations::sdd_catalog::Catalogue;
 use sdd_obligations::sdd_protocol::Table;
 use sdd_script::Workload;
 use sdd_world::{World, WorldEnd, carry_out, data_modules};

@@ -7,9 +7,9 @@ ghost use Rattle.sdd_script.specs.Statements.{delete_of_parts, delete_of};
 use crate::columns::read_conditions;
 use crate::fault::{LineError, WorkRule, broken, known, must};
 use crate::naming::relation_of;
+use sdd_lang::Stmt;
 use sdd_lang::sdd_base::{Listed, RelNo};
 use sdd_lang::sdd_catalog::Catalogue;
-use sdd_lang::Stmt;
 use sdd_words::{Comparison, Word, read_comparisons, stands_free};
 use std::alloc::Global;
 

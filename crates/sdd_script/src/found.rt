@@ -1,5 +1,5 @@
-use sdd_lang::sdd_catalog::Kind;
 use sdd_lang::Ref;
+use sdd_lang::sdd_catalog::Kind;
 
 /// A column of a use, and its kind.
 #[derive(Clone, Copy, Debug, PartialEq, Eq)]

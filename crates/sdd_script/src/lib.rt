@@ -43,7 +43,6 @@ pub use workload::{ClassLists, StartRows, Txns, Workload};
 pub use write_lines::write_workload;
 
 // What lies below, for the crates above.
-pub use sdd_lang::sdd_base;
-pub use sdd_lang::sdd_catalog;
 pub use sdd_lang;
+pub use sdd_lang::{sdd_base, sdd_catalog};
 pub use sdd_words;

@@ -10,8 +10,8 @@ use crate::keyword::StatementKey;
 use crate::queries::read_query;
 use crate::updates::read_update;
 use crate::values::read_row;
-use sdd_lang::sdd_catalog::Catalogue;
 use sdd_lang::Stmt;
+use sdd_lang::sdd_catalog::Catalogue;
 use sdd_words::{Word, are_free, stands_free};
 use std::alloc::Global;
 

@@ -22,12 +22,12 @@ use crate::step::Step;
 use crate::tm_count::{
     Sign, TmCount, all_hold, any_told, count, first_free, first_lacking, first_on_hold,
 };
-use sdd_attempt::{Line, LineStep, Standing};
 use sdd_attempt::sdd_base::{ClassNo, Clock, NoMemory, Site, TmNo, Ts, TxnNo};
 use sdd_attempt::sdd_catalog::Catalogue;
 use sdd_attempt::sdd_lang::Txn;
 use sdd_attempt::sdd_module::Draft;
 use sdd_attempt::sdd_wire::Msg;
+use sdd_attempt::{Line, LineStep, Standing};
 use std::alloc::Global;
 use std::marker::Model;
 

@@ -19,9 +19,6 @@ pub use summary_law::{law_all_committed, law_made_all_committed};
 pub use text_law::law_one_text;
 
 // What lies below, for the crates above.
-pub use sdd_run::sdd_make;
-pub use sdd_run::sdd_report;
-pub use sdd_run::sdd_script;
-pub use sdd_run::sdd_world;
 pub use sdd_run;
+pub use sdd_run::{sdd_make, sdd_report, sdd_script, sdd_world};
 pub use sdd_verify;

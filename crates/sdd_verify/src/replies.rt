@@ -12,12 +12,12 @@ ghost use Rattle.sdd_verify.specs.Replies.{replies_on};
 use crate::flaw::Flaw;
 use crate::lines::Lines;
 use crate::passing::pass;
-use sdd_script::sdd_base::Reply;
-use sdd_script::sdd_catalog::Catalogue;
-use sdd_script::sdd_lang::Txn;
 use sdd_plain::Plain;
 use sdd_report::put_reply;
 use sdd_script::StartRows;
+use sdd_script::sdd_base::Reply;
+use sdd_script::sdd_catalog::Catalogue;
+use sdd_script::sdd_lang::Txn;
 use std::alloc::Global;
 
 /// What stands behind the lines of this reply, which have to come first.

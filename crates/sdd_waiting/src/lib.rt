@@ -17,4 +17,6 @@ pub mod pipes_laws;
 mod quiet_law;
 pub mod rejections_laws;
 
-pub use quiet_law::{law_diagonals_listed, law_no_path_to_writer, law_no_ring_waits, law_table_fits};
+pub use quiet_law::{
+    law_diagonals_listed, law_no_path_to_writer, law_no_ring_waits, law_table_fits,
+};

@@ -26,15 +26,16 @@ use crate::making::txn_modules;
 use crate::sites::Sites;
 use crate::world::World;
 use sdd_obligations::sdd_attempt::Standing;
-use sdd_obligations::sdd_base::{ClassNo, Cond, DmNo, Event, Listed, NoMemory, Site, TmNo, Ts, TxnNo};
+use sdd_obligations::sdd_base::{
+    ClassNo, Cond, DmNo, Event, Listed, NoMemory, Site, TmNo, Ts, TxnNo,
+};
 use sdd_obligations::sdd_catalog::Catalogue;
 use sdd_obligations::sdd_copy::Copies;
 use sdd_obligations::sdd_dm::DataModule;
 use sdd_obligations::sdd_history::History;
 use sdd_obligations::sdd_lang::Txn;
-use sdd_obligations::sdd_net::Net;
+use sdd_obligations::sdd_net::{Net, Spool};
 use sdd_obligations::sdd_protocol::Table;
-use sdd_obligations::sdd_net::Spool;
 use sdd_obligations::sdd_tm::TxnModule;
 use sdd_obligations::sdd_umod::UModule;
 use sdd_obligations::sdd_wire::Spelling;

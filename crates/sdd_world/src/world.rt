@@ -23,8 +23,7 @@ use sdd_obligations::sdd_base::{DmNo, Event, Listed, NoMemory, Site, TmNo, TxnNo
 use sdd_obligations::sdd_catalog::Catalogue;
 use sdd_obligations::sdd_history::{History, Rec};
 use sdd_obligations::sdd_lang::Txn;
-use sdd_obligations::sdd_net::{Delivered, Parcels};
-use sdd_obligations::sdd_net::Spool;
+use sdd_obligations::sdd_net::{Delivered, Parcels, Spool};
 use sdd_obligations::sdd_wire::{Msg, Outcome};
 use std::collections::VecDeque;
 
