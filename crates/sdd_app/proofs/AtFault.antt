@@ -1,8 +1,7 @@
 -- What a status that tells of a fault says of the files that were read.
 use Rattle.std.proofs.Common.{◌≡◌, Option, Result, Ok, Err, subst}
 use Rattle.std.specs.Prelude.{IfErr, MatchResult}
-use Rattle.sdd_lang.specs.catalog.Catalogue.{Catalogue}
-use Rattle.sdd_lang.specs.catalog.declared.fault.CatFault.{CatFault}
+use Rattle.sdd_lang.specs.All.{CatFault, Catalogue}
 use Rattle.sdd_control.specs.declared.script.ControlScript.{ControlScript}
 use Rattle.sdd_verified.specs.script.declared.fault.WorkFault.{WorkFault}
 use Rattle.sdd_verified.specs.script.declared.workload.Workload.{Workload}

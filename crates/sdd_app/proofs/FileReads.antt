@@ -3,7 +3,8 @@ use Rattle.std.proofs.Common.{◌≡◌, ℕ, ◌<◌, ◌≤◌, List, [], fals
 use Rattle.std.proofs.lemmas.Bool.{cases_lt, lt-leb, lt-ltb}
 use Rattle.std.specs.Prelude.{IsSome, IfSome, IfErr, IsErrOf, OnOk, MatchResult, take, drop, ◌+◌, nat_le, nat_lt, true}
 use Rattle.std.specs.Option.{option_map}
-use Rattle.sdd_lang.specs.base.declared.limits.TheConstants.{MAX_CATALOGUE_BYTES, MAX_WORKLOAD_BYTES}
+use Rattle.sdd_lang.specs.All.{Catalogue, MAX_WORKLOAD_BYTES}
+use Rattle.sdd_lang.specs.base.declared.limits.TheConstants.{MAX_CATALOGUE_BYTES}
 use Rattle.sdd_lang.specs.base.Outside.{HasRead, Opened, ReadsTo, find_file}
 use Rattle.sdd_lang.specs.base.declared.files.ShelfFile.{ShelfFile}
 use Rattle.sdd_control.specs.Walk.{control_script, most_bytes}
@@ -17,7 +18,6 @@ use Rattle.sdd_verified.specs.verify.declared.limits.TheConstants.{MAX_REPORT_BY
 use Rattle.sdd_verified.specs.verify.declared.verdict.Verdict.TheVariants.{No}
 use Rattle.sdd_app.specs.declared.status.Status.{Status}
 use Rattle.sdd_app.specs.declared.status.Status.TheVariants.{Usage}
-use Rattle.sdd_lang.specs.catalog.Catalogue.{Catalogue}
 use Rattle.sdd_lang.specs.catalog.declared.fault.CatRule.TheVariants.{TooLong}
 use Rattle.sdd_catread.specs.Faults.{broken}
 use Rattle.sdd_catread.specs.Form.{top}

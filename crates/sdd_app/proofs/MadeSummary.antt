@@ -1,6 +1,6 @@
 -- The summary of a made input tells that all of its transactions are committed.
 use Rattle.std.proofs.Common.{ℕ, ◌≤◌, List, Result, Ok, Err}
-use Rattle.sdd_lang.specs.base.declared.limits.TheConstants.{MAX_TXNS}
+use Rattle.sdd_lang.specs.All.{MAX_TXNS}
 use Rattle.sdd_verified.specs.make.Bank.{bank}
 use Rattle.sdd_verified.specs.make.Turns.{workload_of}
 use Rattle.sdd_verified.proofs.MadeSettles.{made_summed}

@@ -1,12 +1,7 @@
 -- The transactions that are submitted, event by event.
 use Rattle.std.proofs.Common.{◌≡◌, ℕ, zero, suc, ◌+◌, ◌-◌, ◌<◌, subst, slice_get, List, [], ◌∷◌, ◌++◌, length, map, take, get_or, Option, Some, None, refl, Bor}
 use Rattle.std.specs.List.{All, filter_map}
-use Rattle.sdd_lang.specs.base.declared.event.Event.{Event}
-use Rattle.sdd_lang.specs.base.declared.event.Event.TheVariants.{Submit, Deliver, Lose, Repeat, Resend, Tick, Settle, Redeclare, Down, Up}
-use Rattle.sdd_lang.specs.base.declared.number.RelNo.{RelNo}
-use Rattle.sdd_lang.specs.base.declared.value.Value.{Value}
-use Rattle.sdd_lang.specs.catalog.Catalogue.{Catalogue}
-use Rattle.sdd_lang.specs.Fits.{Fits, FitsStart}
+use Rattle.sdd_lang.specs.All.{Catalogue, Deliver, Down, Event, Fits, FitsStart, Lose, Redeclare, RelNo, Repeat, Resend, Settle, Submit, Tick, Up, Value}
 use Rattle.sdd_lang.specs.declared.transaction.Txn.{Txn}
 use Rattle.sdd_verified.specs.script.Valid.{IsValid, IsValidTxn, IsValidRow}
 use Rattle.sdd_verified.specs.script.declared.workload.Workload.{Workload}

@@ -4,8 +4,7 @@ use Rattle.std.specs.Prelude.{IsSome, MatchOption, MatchResult, OnOk}
 use Rattle.std.specs.Option.{option_map}
 use Rattle.sdd_lang.specs.base.declared.files.ShelfFile.{ShelfFile}
 use Rattle.sdd_lang.specs.base.Outside.{KeepsOpen, Opened, find_file}
-use Rattle.sdd_lang.specs.catalog.Catalogue.{Catalogue}
-use Rattle.sdd_lang.specs.catalog.declared.fault.CatFault.{CatFault}
+use Rattle.sdd_lang.specs.All.{CatFault, Catalogue}
 use Rattle.sdd_catread.specs.Reading.{catalogue_in}
 use Rattle.sdd_verified.specs.script.Walk.{workload}
 use Rattle.sdd_verified.specs.script.declared.fault.WorkFault.{WorkFault}

@@ -1,7 +1,7 @@
 -- What a check of a catalogue prints.
 use Rattle.std.specs.Prelude.{ℕ, List, ◌++◌, codes, length}
 use Rattle.std.specs.Fmt.{decimal}
-use Rattle.sdd_lang.specs.catalog.Catalogue.{Catalogue}
+use Rattle.sdd_lang.specs.All.{Catalogue}
 
 -- how many modules there are of each sort
 abbrev pub module_counts : ℕ → ℕ → List ℕ

@@ -1,9 +1,7 @@
 -- What is printed of a conflict graph and of a protocol table.
 use Rattle.std.specs.Prelude.{ℕ, ◌==◌, if◌then◌else◌, List, [], ◌++◌, codes, flat_map, unwrap_or}
 use Rattle.std.specs.Fmt.{decimal}
-use Rattle.sdd_lang.specs.base.declared.number.ClassNo.{ClassNo}
-use Rattle.sdd_lang.specs.base.declared.number.FragNo.{FragNo}
-use Rattle.sdd_lang.specs.catalog.Catalogue.{Catalogue, class_at, fragment_at, reads_at}
+use Rattle.sdd_lang.specs.All.{Catalogue, ClassNo, FragNo, class_at, fragment_at, reads_at}
 use Rattle.sdd_graph.specs.declared.edge.Edge.{Edge}
 use Rattle.sdd_graph.specs.declared.edge.Edge.TheVariants.{Vertical, Horizontal, Diagonal}
 use Rattle.sdd_protocol.specs.declared.entry.Entry.{Entry}

@@ -1,7 +1,8 @@
 -- Which files a call opens, and how far it has read them.
 use Rattle.std.specs.Prelude.{◌≡◌, ℕ, zero, suc, ◌+◌, List, [], ◌∷◌, drop, length, Option, Some, IfSome, MatchOption}
 use Rattle.sdd_lang.specs.base.declared.files.ShelfFile.{ShelfFile}
-use Rattle.sdd_lang.specs.base.declared.limits.TheConstants.{MAX_CATALOGUE_BYTES, MAX_WORKLOAD_BYTES}
+use Rattle.sdd_lang.specs.All.{MAX_WORKLOAD_BYTES}
+use Rattle.sdd_lang.specs.base.declared.limits.TheConstants.{MAX_CATALOGUE_BYTES}
 use Rattle.sdd_lang.specs.base.Outside.{Opened, find_file}
 use Rattle.sdd_verified.specs.verify.declared.limits.TheConstants.{MAX_REPORT_BYTES}
 use Rattle.sdd_app.specs.Command.{Form, Check, Graph, Table, Run, Plain, Control, Make, Verify, Advise, files_of, form_in}

@@ -1,6 +1,6 @@
 -- What is told of a catalogue.
 use Rattle.std.specs.Prelude.{ℕ, ◌≡◌, List}
-use Rattle.sdd_lang.specs.catalog.Catalogue.{Catalogue}
+use Rattle.sdd_lang.specs.All.{Catalogue}
 use Rattle.sdd_protocol.specs.declared.entry.Entry.{Entry}
 use Rattle.sdd_protocol.specs.Protocols.{IsTable}
 use Rattle.sdd_advise.specs.Texts.{IsAdviceText}

@@ -1,12 +1,6 @@
 -- What is printed of the submitted transactions, run one after the other on one database.
 use Rattle.std.specs.Prelude.{ℕ, ◌-◌, ◌≡◌, refl, List, [], ◌∷◌, ◌++◌, codes, map, filter_map, Option, None, slice_get}
-use Rattle.sdd_lang.specs.base.declared.event.Event.{Event}
-use Rattle.sdd_lang.specs.base.declared.event.Event.TheVariants.{Submit, Settle}
-use Rattle.sdd_lang.specs.base.declared.reply.Reply.{Reply}
-use Rattle.sdd_lang.specs.base.declared.reply.Reply.TheVariants.{Rows, Overflow}
-use Rattle.sdd_lang.specs.catalog.Catalogue.{Catalogue}
-use Rattle.sdd_lang.specs.Database.{Database, database_of}
-use Rattle.sdd_lang.specs.Serial.{serial}
+use Rattle.sdd_lang.specs.All.{Catalogue, Database, Event, Overflow, Reply, Rows, Settle, Submit, database_of, serial}
 use Rattle.sdd_lang.specs.declared.transaction.Txn.{Txn}
 use Rattle.sdd_verified.specs.report.Replies.{names_line, replies_along}
 use Rattle.sdd_verified.specs.script.declared.workload.Workload.{Workload}

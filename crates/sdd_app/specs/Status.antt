@@ -1,8 +1,7 @@
 -- What each status says.
 use Rattle.std.specs.Prelude.{ℕ, List, [], ◌++◌, codes, ◌≡◌, refl}
 use Rattle.std.specs.Fmt.{decimal}
-use Rattle.sdd_lang.specs.catalog.declared.fault.CatFault.{CatFault}
-use Rattle.sdd_lang.specs.catalog.declared.fault.CatRule.{CatRule}
+use Rattle.sdd_lang.specs.All.{CatFault, CatRule}
 use Rattle.sdd_lang.specs.catalog.declared.fault.CatRule.TheVariants as rules_of
 use Rattle.sdd_lang.specs.catalog.declared.fault.Counted.{Counted}
 use Rattle.sdd_lang.specs.catalog.declared.fault.Counted.TheVariants as counted

@@ -4,7 +4,7 @@ use Rattle.sdd_lang.specs.base.declared.reading.ReadError.{ReadError}
 use Rattle.sdd_lang.specs.base.declared.reading.ReadError.TheVariants as reads
 use Rattle.sdd_lang.specs.catalog.declared.fault.CatError.{CatError}
 use Rattle.sdd_lang.specs.catalog.declared.fault.CatError.TheVariants as catalogues
-use Rattle.sdd_lang.specs.catalog.declared.fault.CatFault.{CatFault}
+use Rattle.sdd_lang.specs.All.{CatFault}
 use Rattle.sdd_verified.specs.script.declared.fault.WorkError.{WorkError}
 use Rattle.sdd_verified.specs.script.declared.fault.WorkError.TheVariants as workloads
 use Rattle.sdd_verified.specs.script.declared.fault.WorkFault.{WorkFault}

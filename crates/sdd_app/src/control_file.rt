@@ -1,7 +1,7 @@
 //! The command that carries out transaction control.
 ghost use Rattle.std.specs.Prelude.{◌≡◌, ◌≤◌, ◌+◌, ◌∷◌, [], ℕ, List, IfOk, OnOk, IfErr, IsSome, MatchResult, Some, Ok};
 ghost use Rattle.sdd_lang.specs.base.declared.files.ShelfFile.{ShelfFile};
-ghost use Rattle.sdd_lang.specs.base.declared.limits.TheConstants.{MAX_WORKLOAD_BYTES};
+ghost use Rattle.sdd_lang.specs.All.{MAX_WORKLOAD_BYTES};
 ghost use Rattle.sdd_lang.specs.base.Outside.{Rose, find_file};
 ghost use Rattle.sdd_control.specs.Script.{IsSound};
 ghost use Rattle.sdd_control.specs.Walk.{control_script};

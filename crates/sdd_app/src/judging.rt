@@ -1,7 +1,8 @@
 //! The command that judges a report.
 ghost use Rattle.std.specs.Prelude.{◌≡◌, ◌≤◌, ◌++◌, ◌+◌, ◌∷◌, [], ℕ, List, IfOk, OnOk, IfErr, IsSome, Some};
 ghost use Rattle.sdd_lang.specs.base.declared.files.ShelfFile.{ShelfFile};
-ghost use Rattle.sdd_lang.specs.base.declared.limits.TheConstants.{MAX_CATALOGUE_BYTES, MAX_WORKLOAD_BYTES};
+ghost use Rattle.sdd_lang.specs.All.{MAX_WORKLOAD_BYTES};
+ghost use Rattle.sdd_lang.specs.base.declared.limits.TheConstants.{MAX_CATALOGUE_BYTES};
 ghost use Rattle.sdd_lang.specs.base.Outside.{KeepsOpen, Rose, find_file};
 ghost use Rattle.sdd_verified.specs.script.Valid.{IsValid};
 ghost use Rattle.sdd_verified.specs.verify.Verdict.{verdict};

@@ -1,6 +1,6 @@
 //! The command that runs made input.
 ghost use Rattle.std.specs.Prelude.{◌≡◌, ◌≤◌, IfErr};
-ghost use Rattle.sdd_lang.specs.base.declared.limits.TheConstants.{MAX_TXNS};
+ghost use Rattle.sdd_lang.specs.All.{MAX_TXNS};
 ghost use Rattle.sdd_verified.specs.script.Valid.{IsValid};
 ghost use Rattle.sdd_app.specs.Answer.{ComesToMade, ComesToSummary};
 ghost use Rattle.sdd_app.specs.Verdict.{Answers, AtFault, ComesOfFiles};

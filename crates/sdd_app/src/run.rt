@@ -1,7 +1,7 @@
 ghost use Rattle.std.specs.Prelude.{◌≡◌, ◌≢◌, ◌≤◌, ◌⊎◌, ◌↔◌, ℕ, List, length, take, map, string_bytes, OnOk, IfErr, IsErrOf};
 ghost use Rattle.sdd_lang.specs.base.declared.files.ShelfFile.{ShelfFile};
 ghost use Rattle.sdd_lang.specs.base.Outside.{Rose, with_end};
-ghost use Rattle.sdd_lang.specs.catalog.declared.fault.CatFault.{CatFault};
+ghost use Rattle.sdd_lang.specs.All.{CatFault};
 ghost use Rattle.sdd_verified.specs.script.declared.fault.WorkFault.{WorkFault};
 ghost use Rattle.sdd_app.specs.Answer.{ComesTo, FilesAreThere, FilesOf, FormComesTo};
 ghost use Rattle.sdd_app.specs.Command.{IsForm, IsNoForm, form_of};

@@ -1,7 +1,6 @@
 //! The submitted transactions of a workload, run one after the other on one database.
 ghost use Rattle.std.specs.Prelude.{◌≡◌, ◌++◌, ◌∷◌, [], List, map, flat_map, filter_map, All, IfOk, OnOk};
-ghost use Rattle.sdd_lang.specs.Database.{database_of};
-ghost use Rattle.sdd_lang.specs.Fits.{Fits, FitsStart};
+ghost use Rattle.sdd_lang.specs.All.{Fits, FitsStart, database_of};
 ghost use Rattle.sdd_verified.specs.script.Valid.{IsValid};
 ghost use Rattle.std.specs.Option.{option_copied};
 ghost use Rattle.sdd_verified.specs.report.Names.{spaced};

@@ -1,7 +1,8 @@
 //! The commands that run a workload.
 ghost use Rattle.std.specs.Prelude.{◌≡◌, ◌+◌, ◌∷◌, [], ℕ, List, OnOk, IfErr, Some};
 ghost use Rattle.sdd_lang.specs.base.declared.files.ShelfFile.{ShelfFile};
-ghost use Rattle.sdd_lang.specs.base.declared.limits.TheConstants.{MAX_CATALOGUE_BYTES, MAX_WORKLOAD_BYTES};
+ghost use Rattle.sdd_lang.specs.All.{MAX_WORKLOAD_BYTES};
+ghost use Rattle.sdd_lang.specs.base.declared.limits.TheConstants.{MAX_CATALOGUE_BYTES};
 ghost use Rattle.sdd_lang.specs.base.Outside.{Rose};
 ghost use Rattle.sdd_verified.specs.script.Valid.{IsValid};
 ghost use Rattle.sdd_app.specs.Answer.{ComesToPlain, ComesToReport, ComesToRun, HasFiles, OverCatalogue};

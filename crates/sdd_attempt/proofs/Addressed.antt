@@ -1,7 +1,6 @@
 -- Messages to modules, in both forms.
 use Rattle.std.proofs.Common.{◌≡◌, refl, List, map}
-use Rattle.sdd_module.specs.base.declared.number.DmNo.{DmNo}
-use Rattle.sdd_module.specs.wire.declared.msg.Msg.{Msg}
+use Rattle.sdd_module.specs.All.{DmNo, Msg}
 use Rattle.sdd_attempt.specs.Exchange.{to_all}
 use Rattle.sdd_attempt.specs.Outbox.{addressed, numbered}
 use Rattle.sdd_attempt.proofs.Lists.{map_both}

@@ -3,16 +3,7 @@ use Rattle.std.proofs.Common.{ℕ, ◌+◌, length, ◌<◌, ◌≡◌, ◌==◌
 use Rattle.std.specs.Bool.{if◌then◌else◌}
 use Rattle.std.specs.List.{AllByRecursion, list_any, filter_map}
 use Rattle.std.proofs.lemmas.Bool.{and_parts, and_from, or_cases, or_left, or_right, eqb-true, eq-eqb, cases_eq, false≢true, cond-true}
-use Rattle.sdd_module.specs.base.Words.{contains}
-use Rattle.sdd_module.specs.base.Numbers.{dm_no}
-use Rattle.sdd_module.specs.base.Order.{with_values}
-use Rattle.sdd_module.specs.base.Sites.{same_site}
-use Rattle.sdd_module.specs.base.declared.number.DmNo.{DmNo}
-use Rattle.sdd_module.specs.base.declared.site.Site.{Site}
-use Rattle.sdd_module.specs.base.declared.site.Site.TheVariants.{U, T, D}
-use Rattle.sdd_module.specs.wire.declared.msg.Msg.{Msg}
-use Rattle.sdd_module.specs.wire.declared.msg.Msg.TheVariants.{Read, Ready, Values, Reduced, Rows}
-use Rattle.sdd_module.specs.SiteLog.{Setting, Bases, Log}
+use Rattle.sdd_module.specs.All.{Bases, D, DmNo, Log, Msg, Read, Ready, Reduced, Rows, Setting, Site, T, U, Values, contains, dm_no, same_site, with_values}
 use Rattle.sdd_attempt.specs.Queues.{Queued}
 use Rattle.sdd_attempt.specs.Exchange.{Phase, Exchange, counted, without, lacking, answered, after_hand, after_send, begins, first_phase, module_read}
 use Rattle.sdd_attempt.specs.Attempts.{Attempt, started, rejects, active_handed, asks_rows, active_sent, active}

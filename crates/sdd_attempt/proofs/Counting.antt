@@ -3,7 +3,7 @@ use Rattle.std.proofs.Common.{ℕ, ◌+◌, ◌<◌, ◌≡◌, ap, sym, ◌∙�
 use Rattle.std.specs.Prelude.{filter_map, fold, sum}
 use Rattle.std.specs.List.{cons_option}
 use Rattle.std.proofs.lemmas.List.{at_drop_more}
-use Rattle.sdd_module.specs.base.declared.number.DmNo.{DmNo}
+use Rattle.sdd_module.specs.All.{DmNo}
 use Rattle.sdd_attempt.specs.Exchange.{count_of, counted}
 use Rattle.sdd_attempt.proofs.Lists.{map-filter}
 use Rattle.std.proofs.lemmas.List.{map-append}

@@ -5,14 +5,10 @@ use Rattle.std.proofs.lemmas.List.Elements.{All-tail}
 use Rattle.sdd_attempt.specs.Room.{AreSmall, IsSmallQuery}
 use Rattle.sdd_attempt.specs.declared.phase.Reduction.{Reduction}
 use Rattle.sdd_attempt.specs.Phases.{move_of}
-use Rattle.sdd_module.specs.base.declared.value.Value.{Value}
+use Rattle.sdd_module.specs.All.{ClassNo, Ts, Value, Values, with_values}
 use Rattle.sdd_semijoin.specs.declared.step.Step.{Step}
 use Rattle.sdd_semijoin.specs.Steps.{Move, next_move}
 use Rattle.sdd_attempt.specs.Exchange.{Asking, Exchange, Phase, Reading, Fetching, Reducing, Shipping, Over, without, counts_for, with_use, move_at, reduces, fetches, fetches_from, goes_on, phase_ends, lacking, answered, after_hand}
-use Rattle.sdd_module.specs.base.Order.{with_values}
-use Rattle.sdd_module.specs.base.declared.number.Ts.{Ts}
-use Rattle.sdd_module.specs.base.declared.number.ClassNo.{ClassNo}
-use Rattle.sdd_module.specs.wire.declared.msg.Msg.TheVariants.{Values}
 
 some_is : {A : Type 0} {a b : A} → Some a ≡ Some b → a ≡ b
 some_is e = cc

@@ -3,14 +3,7 @@ use Rattle.std.proofs.Common.{ℕ, suc, ◌<◌, ◌≤◌, ◌≡◌, ◌==◌,
 use Rattle.std.specs.Prelude.{if◌then◌else◌}
 use Rattle.std.specs.List.{AllByRecursion, filter}
 use Rattle.std.proofs.lemmas.Bool.{and_from, cond-true, eq-eqb, ne_eqb, false≢true}
-use Rattle.sdd_module.specs.base.Words.{contains, tail_of}
-use Rattle.sdd_module.specs.base.declared.site.Site.{Site}
-use Rattle.sdd_module.specs.catalog.Catalogue.{Catalogue}
-use Rattle.sdd_module.specs.history.declared.record.Rec.{Rec}
-use Rattle.sdd_module.specs.history.declared.record.Rec.TheVariants.{Nothing}
-use Rattle.sdd_module.specs.wire.declared.msg.Msg.{Msg}
-use Rattle.sdd_module.specs.wire.declared.msg.Msg.TheVariants.{Read}
-use Rattle.sdd_module.specs.SiteLog.{Setting, Bases, Log, Act, Records, Sends, submits}
+use Rattle.sdd_module.specs.All.{Act, Bases, Catalogue, Log, Msg, Nothing, Read, Rec, Records, Sends, Setting, Site, contains, submits, tail_of}
 use Rattle.sdd_attempt.specs.Queues.{Queued, queue, tried}
 use Rattle.sdd_attempt.specs.Exchange.{after_send, first_send, is_over, send_due}
 use Rattle.sdd_attempt.specs.Attempts.{Attempt, active, active_sent, asks_rows}

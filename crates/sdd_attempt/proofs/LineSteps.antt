@@ -1,12 +1,7 @@
 -- What an attempt makes due, by what its line does next.
 use Rattle.std.proofs.Common.{ℕ, ◌≡◌, true, false, List, [], ◌∷◌, refl, ap, Option, Some, None}
 use Rattle.std.specs.Prelude.{if◌then◌else◌}
-use Rattle.sdd_module.specs.base.Words.{or_else}
-use Rattle.sdd_module.specs.base.Numbers.{dm_no}
-use Rattle.sdd_module.specs.base.declared.site.Site.TheVariants.{D}
-use Rattle.sdd_module.specs.catalog.Catalogue.{Catalogue}
-use Rattle.sdd_module.specs.wire.declared.msg.Msg.{Msg}
-use Rattle.sdd_module.specs.SiteLog.{Bases, Act, Sends}
+use Rattle.sdd_module.specs.All.{Act, Bases, Catalogue, D, Msg, Sends, dm_no, or_else}
 use Rattle.sdd_attempt.specs.Exchange.{Phase, Over, first_send, send_due, is_over}
 use Rattle.sdd_attempt.specs.Attempts.{Attempt}
 use Rattle.sdd_attempt.specs.Acts.{commit_act, attempt_due}

@@ -2,20 +2,8 @@
 use Rattle.std.proofs.Common.{ℕ, suc, ◌+◌, ◌-◌, ◌≤◌, ◌≡◌, refl, ap, sym, ◌∙◌, List, [], ◌∷◌, ◌++◌, append_assoc, Option}
 use Rattle.std.specs.Prelude.{filter_map, OnOk}
 use Rattle.std.proofs.Common.{Result, Ok, Err}
-use Rattle.sdd_module.specs.base.Clock.{Ticking, bound_of, ticked, timestamp}
-use Rattle.sdd_module.specs.base.Numbers.{class_no, time_at, txn_no}
-use Rattle.sdd_module.specs.base.declared.number.TxnNo.{TxnNo}
-use Rattle.sdd_module.specs.base.declared.site.Site.{Site}
-use Rattle.sdd_module.specs.catalog.Catalogue.{Catalogue, numbers_to}
+use Rattle.sdd_module.specs.All.{Bases, Catalogue, Commit, Effect, Msg, Notes, Rec, Records, Site, Start, Ticking, TxnNo, bound_of, class_no, effect, numbers_to, sends_of_act, ticked, time_at, timestamp, txn_no, uses_of, with_act}
 use Rattle.sdd_module.specs.protocol.declared.entry.Entry as line
-use Rattle.sdd_module.specs.lang.declared.effect.Effect.{Effect}
-use Rattle.sdd_module.specs.lang.Effect.{effect}
-use Rattle.sdd_module.specs.lang.Uses.{uses_of}
-use Rattle.sdd_module.specs.history.declared.record.Rec.{Rec}
-use Rattle.sdd_module.specs.history.declared.record.Rec.TheVariants.{Start, Commit}
-use Rattle.sdd_module.specs.wire.declared.msg.Msg.{Msg}
-use Rattle.sdd_module.specs.Notes.{Notes, with_act}
-use Rattle.sdd_module.specs.SiteLog.{Bases, Records, sends_of_act}
 use Rattle.sdd_module.proofs.Making.{with_sends-append}
 use Rattle.sdd_attempt.specs.Acts.{commit_act, p2_of, start_act}
 use Rattle.sdd_attempt.specs.Exchange.{Exchange, begins}

@@ -3,13 +3,7 @@
 use Rattle.std.proofs.Common.{ℕ, ◌+◌, ◌≡◌, ◌≢◌, ◌==◌, Bool, true, false, ◌&&◌, ◌||◌, not, cond, List, [], ◌∷◌, ◌++◌, length, map, refl, ap, sym, ◌∙◌, subst, Some, None}
 use Rattle.std.specs.List.{AllByRecursion}
 use Rattle.std.proofs.lemmas.Bool.{and_parts, eqb-true, eq-eqb, ne_eqb, false≢true}
-use Rattle.sdd_module.specs.base.Words.{contains}
-use Rattle.sdd_module.specs.base.Numbers.{class_no, time_at}
-use Rattle.sdd_module.specs.base.Order.{with_values}
-use Rattle.sdd_module.specs.base.declared.value.Value.{Value}
-use Rattle.sdd_module.specs.lang.Database.{Row}
-use Rattle.sdd_module.specs.wire.declared.msg.Msg.{Msg}
-use Rattle.sdd_module.specs.wire.declared.msg.Msg.TheVariants.{Ready, Fetch, Values, Reduce, Reduced, Ship, Rows}
+use Rattle.sdd_module.specs.All.{Fetch, Msg, Ready, Reduce, Reduced, Row, Rows, Ship, Value, Values, class_no, contains, time_at, with_values}
 use Rattle.sdd_semijoin.specs.declared.step.Step.{Step}
 use Rattle.sdd_semijoin.specs.Steps.{Move, next_move}
 use Rattle.sdd_attempt.specs.Exchange.{Asking, Phase, Reading, Fetching, Reducing, Shipping, Over, Exchange, without, counts_for, move_at, with_use, to_all, reduces, fetches_from, fetches, ships, goes_on, phase_ends, lacking, answered, counted, after_hand, is_over}

@@ -10,9 +10,8 @@ use Rattle.sdd_attempt.specs.declared.standing.Standing.{Standing}
 use Rattle.sdd_attempt.specs.declared.standing.Standing.TheVariants.{Absent, Queued}
 use Rattle.std.proofs.lemmas.Bool.Decides.{nat_tests}
 use Rattle.std.proofs.lemmas.Iterator.Adapters.{position_from-zero}
-use Rattle.sdd_module.specs.base.Numbers.{class_no}
+use Rattle.sdd_module.specs.All.{Catalogue, class_no}
 use Rattle.sdd_attempt.proofs.Queueing.{all_kept, itself}
-use Rattle.sdd_module.specs.catalog.Catalogue.{Catalogue}
 
 -- by a place, where there is one
 abbrev pub at_place : ℕ → Option Attempt → Option ℕ → Standing

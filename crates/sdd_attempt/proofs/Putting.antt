@@ -6,7 +6,7 @@ use Rattle.std.specs.Ordering.{nat_cmp}
 use Rattle.std.specs.declared.cmp.Ordering.TheVariants.{Less, Equal, Greater}
 use Rattle.std.proofs.lemmas.Bool.Decides.{nat_tests}
 use Rattle.std.proofs.lemmas.Iterator.Adapters.{position_from-zero}
-use Rattle.sdd_module.specs.base.declared.number.DmNo.{DmNo}
+use Rattle.sdd_module.specs.All.{DmNo}
 use Rattle.sdd_attempt.proofs.Places.{later}
 
 abbrev number : DmNo → ℕ

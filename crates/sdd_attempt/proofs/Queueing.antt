@@ -9,20 +9,10 @@ use Rattle.sdd_module.specs.wire.declared.msg.Msg.TheVariants as msgs
 use Rattle.sdd_attempt.proofs.Phases.{asks_stay}
 use Rattle.std.proofs.lemmas.List.{map-append}
 use Rattle.std.proofs.lemmas.List.Elements.{All-append, All-cons, All-head, All-nil, All-tail}
-use Rattle.sdd_module.specs.base.Clock.{Ticking, bound_of, ticked, timestamp}
-use Rattle.sdd_module.specs.base.Words.{ascending, contains, tail_of}
-use Rattle.sdd_module.specs.base.declared.site.Site.{Site}
-use Rattle.sdd_module.specs.base.declared.site.Site.TheVariants.{U, T, D}
-use Rattle.sdd_module.specs.catalog.Catalogue.{Catalogue}
+use Rattle.sdd_module.specs.All.{Bases, Catalogue, D, Fits, IsWhole, Msg, Site, T, Ticking, U, ascending, bound_of, contains, fragments_in, sends_of_act, tail_of, ticked, timestamp, uses_of}
 use Rattle.sdd_module.specs.protocol.declared.entry.Entry as line
-use Rattle.sdd_module.specs.lang.Fits.{Fits}
-use Rattle.sdd_module.specs.wire.declared.msg.Msg.{Msg}
-use Rattle.sdd_module.specs.SiteLog.{Bases, sends_of_act}
 use Rattle.sdd_attempt.specs.Acts.{start_act, modules_of, read_to}
 use Rattle.sdd_attempt.proofs.Uses.{few_modules, same_length, small_text}
-use Rattle.sdd_module.specs.lang.Classes.{fragments_in}
-use Rattle.sdd_module.specs.lang.Uses.{uses_of}
-use Rattle.sdd_module.specs.catalog.Numbers.{IsWhole}
 use Rattle.sdd_attempt.specs.Attempts.{Attempt, active_handed, asks_rows, rejects}
 use Rattle.sdd_attempt.specs.Exchange.{Exchange, Phase, Reading, Fetching, Reducing, Shipping, Over, after_hand, after_send, begins}
 use Rattle.sdd_attempt.specs.Lines.{AreAwaitedFrom, AreDistinct, IsAwaited, IsLine, IsRunning, Running, RunsFirst, active_of, attempt_of, commit_next, handed_by, line_done, line_of, send_next, start_next}

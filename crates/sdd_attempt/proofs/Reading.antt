@@ -3,18 +3,13 @@ use Rattle.std.proofs.Common.{ℕ, ◌+◌, ◌<◌, ◌≡◌, refl, ap, sym, �
 use Rattle.std.specs.Prelude.{filter_map, option_map}
 use Rattle.std.proofs.lemmas.List.{map-append, take_more}
 use Rattle.std.proofs.lemmas.List.Elements.{filter_map-append}
-use Rattle.sdd_module.specs.base.declared.site.Site.{Site}
-use Rattle.sdd_module.specs.base.declared.site.Site.TheVariants.{U, T, D}
-use Rattle.sdd_module.specs.wire.declared.msg.Msg.{Msg}
+use Rattle.sdd_module.specs.All.{D, DmNo, Msg, Notes, Site, T, U, contains}
 use Rattle.sdd_module.specs.wire.declared.msg.Msg.TheVariants as msgs
-use Rattle.sdd_module.specs.Notes.{Notes}
 use Rattle.sdd_attempt.specs.Acts.{read_to}
 use Rattle.sdd_attempt.specs.Exchange.{module_read}
 use Rattle.sdd_attempt.specs.Reads.{Beginning, reads_to}
 use Rattle.sdd_attempt.specs.Modules.{numbered, module_of, reading, with_use}
 use Rattle.sdd_attempt.proofs.Lists.{map_both, map-filter_map, map-filter_map_all}
-use Rattle.sdd_module.specs.base.declared.number.DmNo.{DmNo}
-use Rattle.sdd_module.specs.base.Words.{contains}
 
 by_msg : (d : DmNo) (m : Msg) → option_map numbered (module_of (D d, m)) ≡ module_read (D d, m)
 by_msg d (msgs.Read ts c txn attempt conds uses) = refl

@@ -9,18 +9,7 @@ use Rattle.std.specs.Ordering.{match_ordering}
 use Rattle.std.proofs.lemmas.List.Elements.{All-append, All-cons, All-head, All-nil, All-tail, All-weaker}
 use Rattle.std.proofs.lemmas.Nat.{mul-le}
 use Rattle.std.proofs.Math.Nat.{mul-le-mul_right}
-use Rattle.sdd_module.specs.base.Words.{contains}
-use Rattle.sdd_module.specs.base.Order.{value_cmp, with_values}
-use Rattle.sdd_module.specs.base.declared.value.Value.{Value}
-use Rattle.sdd_module.specs.lang.declared.condition.Condition.{Condition}
-use Rattle.sdd_module.specs.lang.declared.condition.Condition.TheVariants.{Const, Same}
-use Rattle.sdd_module.specs.lang.declared.statement.Stmt.{Stmt}
-use Rattle.sdd_module.specs.lang.declared.statement.Stmt.TheVariants.{Put, Query, Update, Delete}
-use Rattle.sdd_module.specs.lang.declared.transaction.Txn.{Txn}
-use Rattle.sdd_module.specs.lang.Database.{Row}
-use Rattle.sdd_module.specs.lang.Source.{uses_in}
-use Rattle.sdd_module.specs.base.declared.site.Site.{Site}
-use Rattle.sdd_module.specs.wire.declared.msg.Msg.{Msg}
+use Rattle.sdd_module.specs.All.{Condition, Const, Delete, Msg, Put, Query, Row, Same, Site, Stmt, Txn, Update, Value, contains, uses_in, value_cmp, with_values}
 use Rattle.sdd_module.specs.wire.declared.msg.Msg.TheVariants as msgs
 use Rattle.sdd_semijoin.specs.declared.step.Step.{Step}
 use Rattle.sdd_semijoin.specs.Steps.{Move, next_move}

@@ -2,17 +2,8 @@
 use Rattle.std.proofs.Common.{ℕ, ◌+◌, ◌≡◌, ◌==◌, Bool, true, false, ◌&&◌, cond, List, [], ◌∷◌, ◌++◌, length, refl, sym, ◌∙◌, subst, Option, Some, None}
 use Rattle.std.specs.Bool.{if◌then◌else◌}
 use Rattle.std.proofs.lemmas.Bool.{and_parts, eqb-true, false≢true}
-use Rattle.sdd_module.specs.base.Order.{with_values}
-use Rattle.sdd_module.specs.base.declared.number.DmNo.{DmNo}
-use Rattle.sdd_module.specs.base.declared.site.Site.{Site}
-use Rattle.sdd_module.specs.base.declared.site.Site.TheVariants.{U, T, D}
-use Rattle.sdd_module.specs.catalog.Catalogue.{Catalogue}
-use Rattle.sdd_module.specs.lang.declared.transaction.Txn.{Txn}
-use Rattle.sdd_module.specs.lang.Database.{Row, Database}
+use Rattle.sdd_module.specs.All.{Bases, Catalogue, D, Database, DmNo, Log, Msg, Ready, Reduced, Row, Rows, Setting, Site, T, Txn, U, Values, with_values}
 use Rattle.sdd_exec.specs.Serves.{Serves}
-use Rattle.sdd_module.specs.wire.declared.msg.Msg.{Msg}
-use Rattle.sdd_module.specs.wire.declared.msg.Msg.TheVariants.{Ready, Values, Reduced, Rows}
-use Rattle.sdd_module.specs.SiteLog.{Setting, Bases, Log}
 use Rattle.sdd_attempt.specs.Exchange.{Phase, Reading, Fetching, Reducing, Shipping, Over, Exchange, without, phase_ends, lacking, answered, counted, after_hand, is_over}
 use Rattle.sdd_attempt.specs.Attempts.{Attempt, rejects, active_handed, active}
 use Rattle.sdd_attempt.specs.Fits.{sent, handed, AnswersRead, FitsRowsOf, FitsRows, ServesIfLast, fetches_use, reduces_use, is_shipping}

@@ -2,8 +2,7 @@
 use Rattle.std.proofs.Common.{ℕ, ◌+◌, ◌≤◌, ◌≡◌, refl, subst, nat_lt, ◌==◌, Bool, true, false, cond, if◌then◌else◌, List, [], ◌∷◌, filter, Option, Some, None}
 use Rattle.std.specs.List.{All, flat_map}
 use Rattle.std.proofs.lemmas.List.Elements.{All-cons, All-filter, All-head, All-nil, All-tail}
-use Rattle.sdd_module.specs.lang.declared.condition.Condition.{Condition}
-use Rattle.sdd_module.specs.lang.declared.condition.Condition.TheVariants.{Const, Same}
+use Rattle.sdd_module.specs.All.{Condition, Const, Same}
 use Rattle.sdd_semijoin.specs.declared.step.Step.{Step}
 use Rattle.sdd_semijoin.specs.Steps.{Join, Move, joins_from, moves_by, moves, rows_at, is_candidate, better, fewest, next_move}
 use Rattle.sdd_attempt.specs.Exchange.{Asking}

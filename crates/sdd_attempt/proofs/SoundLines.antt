@@ -2,25 +2,8 @@
 use Rattle.std.proofs.Common.{ℕ, ◌<◌, ◌^◌, ◌≡◌, ◌≢◌, ◌==◌, true, false, ◌&&◌, ◌||◌, not, cond, List, [], ◌∷◌, ◌++◌, map, refl, ap, sym, ◌∙◌, subst, arith, Option, Some, None, is_some}
 use Rattle.std.specs.List.{AllByRecursion, cons_option, filter, filter_map, list_all}
 use Rattle.std.proofs.lemmas.Bool.{and_right, eq-eqb, ne_eqb, or_left, or_right, cond-true, cond-false, and_parts, eqb-true, false≢true}
-use Rattle.sdd_module.specs.base.Words.{contains, head_of, is_empty, ascending}
-use Rattle.sdd_module.specs.base.Numbers.{dm_no, class_no, txn_no, time_at}
-use Rattle.sdd_module.specs.base.Clock.{Ticking, ticked, timestamp, bound_of}
-use Rattle.sdd_module.specs.base.declared.change.Change.{Change}
-use Rattle.sdd_module.specs.base.declared.usage.Use.{Use}
-use Rattle.sdd_module.specs.base.declared.site.Site.{Site}
-use Rattle.sdd_module.specs.base.declared.site.Site.TheVariants.{D}
-use Rattle.sdd_module.specs.catalog.Catalogue.{Catalogue, reads_at, numbers_to, has_copy}
+use Rattle.sdd_module.specs.All.{Act, Bases, Catalogue, Change, Commit, D, Did, Fetch, Fits, Force, Handed, Log, Msg, Rec, Records, Redeclared, Reduce, Sends, Setting, Ship, Site, Start, Submits, Ticked, Ticking, Txn, Use, Write, ascending, bound_of, class_no, contains, dm_no, effect, fragments_in, has_copy, head_of, in_force, is_empty, numbers_to, read_set, reads_at, sends_of_act, submits, ticked, time_at, timestamp, txn_no, uses_of}
 use Rattle.sdd_module.specs.protocol.declared.entry.Entry as line
-use Rattle.sdd_module.specs.lang.declared.transaction.Txn.{Txn}
-use Rattle.sdd_module.specs.lang.Classes.{fragments_in, read_set}
-use Rattle.sdd_module.specs.lang.Effect.{effect}
-use Rattle.sdd_module.specs.lang.Uses.{uses_of}
-use Rattle.sdd_module.specs.lang.Fits.{Fits}
-use Rattle.sdd_module.specs.history.declared.record.Rec.{Rec}
-use Rattle.sdd_module.specs.history.declared.record.Rec.TheVariants.{Start, Commit}
-use Rattle.sdd_module.specs.wire.declared.msg.Msg.{Msg}
-use Rattle.sdd_module.specs.wire.declared.msg.Msg.TheVariants.{Fetch, Reduce, Ship, Write}
-use Rattle.sdd_module.specs.SiteLog.{Setting, Bases, Force, Log, Handed, Ticked, Submits, Redeclared, Did, Act, Records, Sends, in_force, submits, sends_of_act}
 use Rattle.sdd_attempt.specs.Clocks.{clock}
 use Rattle.sdd_attempt.specs.Queues.{Queued, is_for, tried, queue, queue_after}
 use Rattle.sdd_attempt.specs.Exchange.{module_read, first_send, send_due}

@@ -1,13 +1,7 @@
 -- The clock of a site only goes on, so no READ that it sent has a time that is still to come.
 use Rattle.std.proofs.Common.{ℕ, ◌<◌, ◌≤◌, ◌≡◌, ◌==◌, false, List, [], ◌∷◌, ◌++◌, refl, sym, subst, arith}
 use Rattle.std.proofs.lemmas.Bool.{ne_eqb, and_left}
-use Rattle.sdd_module.specs.base.Clock.{Ticking, pushed, timestamp}
-use Rattle.sdd_module.specs.base.declared.site.Site.{Site}
-use Rattle.sdd_module.specs.history.declared.record.Rec.{Rec}
-use Rattle.sdd_module.specs.history.declared.record.Rec.TheVariants.{Start}
-use Rattle.sdd_module.specs.wire.declared.msg.Msg.{Msg}
-use Rattle.sdd_module.specs.wire.declared.msg.Msg.TheVariants.{Read, Reject, Ask, Release, Held}
-use Rattle.sdd_module.specs.SiteLog.{Setting, Log, Entry, Handed, Ticked, Submits, Redeclared, Did, Act, Records, Sends, sends_of_act}
+use Rattle.sdd_module.specs.All.{Act, Ask, Did, Entry, Handed, Held, Log, Msg, Read, Rec, Records, Redeclared, Reject, Release, Sends, Setting, Site, Start, Submits, Ticked, Ticking, pushed, sends_of_act, timestamp}
 use Rattle.sdd_attempt.specs.Clocks.{clock, pushed_by, ticked_by}
 use Rattle.sdd_attempt.specs.Fits.{sent, is_read}
 use Rattle.sdd_attempt.specs.Sound.{IsUpTo, AllUpTo, AreStamped}

@@ -2,11 +2,7 @@
 use Rattle.std.proofs.Common.{ℕ, suc, ◌+◌, ◌≤◌, ◌==◌, Bool, true, false, not, cond, List, [], ◌∷◌, ◌++◌, map, arith}
 use Rattle.std.specs.List.{filter}
 use Rattle.std.proofs.lemmas.List.Elements.{All-nil, All-push, All-map, All-filter, All-weaker}
-use Rattle.sdd_module.specs.base.declared.site.Site.{Site}
-use Rattle.sdd_module.specs.history.declared.record.Rec.{Rec}
-use Rattle.sdd_module.specs.history.declared.record.Rec.TheVariants.{Start, Commit}
-use Rattle.sdd_module.specs.wire.declared.msg.Msg.{Msg}
-use Rattle.sdd_module.specs.SiteLog.{Setting, Log, Handed, Ticked, Submits, Redeclared, Did, Records, Sends, in_force}
+use Rattle.sdd_module.specs.All.{Commit, Did, Handed, Log, Msg, Rec, Records, Redeclared, Sends, Setting, Site, Start, Submits, Ticked, in_force}
 use Rattle.sdd_attempt.specs.Clocks.{clock, ticked_by}
 use Rattle.sdd_attempt.specs.Queues.{Queued, queue, is_for, tried, queue_after}
 use Rattle.sdd_attempt.specs.Lines.{AreTried}

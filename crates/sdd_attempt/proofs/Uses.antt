@@ -10,25 +10,9 @@ use Rattle.std.proofs.lemmas.Bool.Decides.{nat_tests}
 use Rattle.std.proofs.lemmas.Grind.{flat_map-append}
 use Rattle.std.proofs.lemmas.List.Elements.{All-append, All-cons, All-from_recursion, All-head, All-nil, All-tail, All-weaker}
 use Rattle.std.proofs.lemmas.List.FromFn.{length-range_with_len}
-use Rattle.sdd_module.specs.base.Numbers.{frag_no}
-use Rattle.sdd_module.specs.base.declared.number.FragNo.{FragNo}
-use Rattle.sdd_module.specs.base.declared.number.RelNo.{RelNo}
-use Rattle.sdd_module.specs.base.declared.restriction.Restriction.{Restriction}
-use Rattle.sdd_module.specs.base.declared.usage.Use.{Use}
-use Rattle.sdd_module.specs.catalog.Catalogue.{Catalogue, key_column, numbers_to, reads_at}
-use Rattle.sdd_module.specs.catalog.Numbers.{IsWhole}
-use Rattle.sdd_module.specs.base.Words.{ascending}
+use Rattle.sdd_module.specs.All.{Catalogue, Condition, Const, Delete, Fits, FitsCondition, FitsStatement, FragNo, IsWhole, Put, Query, RelNo, Restriction, Same, Stmt, Txn, Update, Use, allowed_keys, ascending, conditions, frag_no, fragments_for, fragments_in, key_column, meets_keys, numbers_to, part_uses, reads_at, restrictions_of, statement_uses, undeclared_conditions, uses_from, uses_of}
 use Rattle.sdd_graph.specs.Edges.{IsClassOf}
 use Rattle.sdd_module.specs.protocol.declared.entry.Entry as line
-use Rattle.sdd_module.specs.protocol.Conditions.{conditions, undeclared_conditions}
-use Rattle.sdd_module.specs.lang.declared.condition.Condition.{Condition}
-use Rattle.sdd_module.specs.lang.declared.condition.Condition.TheVariants.{Const, Same}
-use Rattle.sdd_module.specs.lang.Fits.{Fits, FitsCondition, FitsStatement}
-use Rattle.sdd_module.specs.lang.declared.statement.Stmt.{Stmt}
-use Rattle.sdd_module.specs.lang.declared.statement.Stmt.TheVariants.{Put, Query, Update, Delete}
-use Rattle.sdd_module.specs.lang.declared.transaction.Txn.{Txn}
-use Rattle.sdd_module.specs.lang.Classes.{fragments_in}
-use Rattle.sdd_module.specs.lang.Uses.{allowed_keys, fragments_for, meets_keys, part_uses, restrictions_of, statement_uses, uses_from, uses_of}
 use Rattle.sdd_module.proofs.lang.Sets.{IsThere, fragments_there}
 use Rattle.sdd_attempt.specs.Acts.{conditions_at, modules_of}
 use Rattle.sdd_attempt.specs.Room.{IsSmallStatement, IsSmallText, JoinsWithin}

@@ -4,17 +4,7 @@ use Rattle.std.proofs.Common.{ℕ, zero, suc, ◌<◌, ◌≤◌, ◌^◌, ◌�
 use Rattle.std.specs.Bool.{if◌then◌else◌}
 use Rattle.std.specs.List.{AllByRecursion, filter, list_all}
 use Rattle.std.proofs.lemmas.Bool.{or_right, eq-eqb, eqb-true, false≢true}
-use Rattle.sdd_module.specs.base.Words.{contains, head_of}
-use Rattle.sdd_module.specs.base.declared.site.Site.{Site}
-use Rattle.sdd_module.specs.base.declared.site.Site.TheVariants.{U, T, D}
-use Rattle.sdd_module.specs.catalog.Catalogue.{Catalogue, reads_at}
-use Rattle.sdd_module.specs.lang.declared.transaction.Txn.{Txn}
-use Rattle.sdd_module.specs.lang.Classes.{read_set}
-use Rattle.sdd_module.specs.lang.Fits.{Fits}
-use Rattle.sdd_module.specs.history.declared.record.Rec.{Rec}
-use Rattle.sdd_module.specs.history.declared.record.Rec.TheVariants.{Start, Commit}
-use Rattle.sdd_module.specs.wire.declared.msg.Msg.{Msg}
-use Rattle.sdd_module.specs.SiteLog.{Act, Records, Sends}
+use Rattle.sdd_module.specs.All.{Act, Catalogue, Commit, D, Fits, Msg, Rec, Records, Sends, Site, Start, T, Txn, U, contains, head_of, read_set, reads_at}
 use Rattle.sdd_attempt.specs.Queues.{Queued, is_for, submitted, tried, queue_after}
 use Rattle.sdd_attempt.specs.Exchange.{after_hand, after_send}
 use Rattle.sdd_attempt.specs.Attempts.{Attempt, started, rejects, active_handed, asks_rows, active_sent}

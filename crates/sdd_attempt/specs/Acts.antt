@@ -1,26 +1,7 @@
 -- How an attempt begins, asks and commits: the records that it makes and the messages that go out with them.
 use Rattle.std.specs.Prelude.{ℕ, suc, ◌==◌, not, ◌||◌, cond, if◌then◌else◌, List, [], ◌∷◌, map, filter, filter_map, Option, Some, None}
-use Rattle.sdd_module.specs.base.Words.{or_else, ascending, is_empty}
-use Rattle.sdd_module.specs.base.Numbers.{dm_no, class_no, frag_no, txn_no, time_at}
-use Rattle.sdd_module.specs.base.Clock.{Ticking, ticked, timestamp, bound_of}
-use Rattle.sdd_module.specs.base.declared.site.Site.{Site}
-use Rattle.sdd_module.specs.base.declared.site.Site.TheVariants.{D}
-use Rattle.sdd_module.specs.base.declared.number.Ts.{Ts}
-use Rattle.sdd_module.specs.base.declared.number.FragNo.{FragNo}
-use Rattle.sdd_module.specs.base.declared.condition.Cond.{Cond}
-use Rattle.sdd_module.specs.base.declared.usage.Use.{Use}
-use Rattle.sdd_module.specs.base.declared.change.Change.{Change}
-use Rattle.sdd_module.specs.catalog.Catalogue.{Catalogue, has_copy, reads_at, numbers_to}
-use Rattle.sdd_module.specs.protocol.Conditions.{conditions, undeclared_conditions, is_read_at}
+use Rattle.sdd_module.specs.All.{Act, Bases, Catalogue, Change, Commit, Cond, D, Effect, FragNo, Msg, Read, Records, Site, Start, Ticking, Ts, Use, Write, ascending, bound_of, class_no, conditions, dm_no, effect, frag_no, fragments_in, has_copy, is_empty, is_read_at, numbers_to, or_else, reads_at, ticked, time_at, timestamp, txn_no, undeclared_conditions, uses_of}
 use Rattle.sdd_module.specs.protocol.declared.entry.Entry as line
-use Rattle.sdd_module.specs.lang.declared.effect.Effect.{Effect}
-use Rattle.sdd_module.specs.lang.Effect.{effect}
-use Rattle.sdd_module.specs.lang.Uses.{uses_of}
-use Rattle.sdd_module.specs.lang.Classes.{fragments_in}
-use Rattle.sdd_module.specs.history.declared.record.Rec.TheVariants.{Start, Commit}
-use Rattle.sdd_module.specs.wire.declared.msg.Msg.{Msg}
-use Rattle.sdd_module.specs.wire.declared.msg.Msg.TheVariants.{Read, Write}
-use Rattle.sdd_module.specs.SiteLog.{Bases, Act, Records}
 use Rattle.sdd_attempt.specs.Queues.{Queued}
 use Rattle.sdd_attempt.specs.Exchange.{send_due, is_over}
 use Rattle.sdd_attempt.specs.Attempts.{Attempt}

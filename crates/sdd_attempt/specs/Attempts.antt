@@ -1,13 +1,6 @@
 -- The attempt of a class that is under way, as the log of its site gives it.
 use Rattle.std.specs.Prelude.{ℕ, suc, ◌==◌, Bool, false, ◌&&◌, if◌then◌else◌, List, [], ◌∷◌, Option, Some, None}
-use Rattle.sdd_module.specs.base.Words.{head_of}
-use Rattle.sdd_module.specs.base.declared.site.Site.{Site}
-use Rattle.sdd_module.specs.base.declared.site.Site.TheVariants.{D}
-use Rattle.sdd_module.specs.lang.declared.transaction.Txn.{Txn}
-use Rattle.sdd_module.specs.history.declared.record.Rec.TheVariants.{Start, Commit}
-use Rattle.sdd_module.specs.wire.declared.msg.Msg.{Msg}
-use Rattle.sdd_module.specs.wire.declared.msg.Msg.TheVariants.{Reject, Fetch, Reduce, Ship}
-use Rattle.sdd_module.specs.SiteLog.{Setting, Log, Handed, Did, Act, Records, Sends}
+use Rattle.sdd_module.specs.All.{Act, Commit, D, Did, Fetch, Handed, Log, Msg, Records, Reduce, Reject, Sends, Setting, Ship, Site, Start, Txn, head_of}
 use Rattle.sdd_attempt.specs.Queues.{Queued, queue}
 use Rattle.sdd_attempt.specs.Exchange.{Exchange, begins, after_hand, after_send}
 

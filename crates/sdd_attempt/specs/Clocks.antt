@@ -1,12 +1,6 @@
 -- The clock of a site, as its log gives it.
 use Rattle.std.specs.Prelude.{[], ◌∷◌}
-use Rattle.sdd_module.specs.base.Clock.{Ticking, at_zero, pushed, ticked}
-use Rattle.sdd_module.specs.base.Sites.{number_of}
-use Rattle.sdd_module.specs.base.declared.site.Site.{Site}
-use Rattle.sdd_module.specs.history.declared.record.Rec.TheVariants.{Start}
-use Rattle.sdd_module.specs.wire.declared.msg.Msg.{Msg}
-use Rattle.sdd_module.specs.wire.declared.msg.Msg.TheVariants.{Reject, Ask, Release, Held}
-use Rattle.sdd_module.specs.SiteLog.{Log, Handed, Ticked, Submits, Redeclared, Did, Act, Records}
+use Rattle.sdd_module.specs.All.{Act, Ask, Did, Handed, Held, Log, Msg, Records, Redeclared, Reject, Release, Site, Start, Submits, Ticked, Ticking, at_zero, number_of, pushed, ticked}
 
 -- a handed ASK, REJECT, RELEASE or HELD pushes a clock by its time, a REJECT by that of the write
 abbrev pub pushed_by : Msg → Ticking → Ticking

@@ -1,6 +1,6 @@
 -- The counts of an exchange, as a module keeps them.
 use Rattle.std.specs.Prelude.{ℕ, ◌==◌, Bool, not, ◌&&◌, cond}
-use Rattle.sdd_module.specs.base.declared.number.DmNo.{DmNo}
+use Rattle.sdd_module.specs.All.{DmNo}
 
 -- a count by the number of its module
 abbrev pub numbered : (ℕ × DmNo) × ℕ → (ℕ × ℕ) × ℕ

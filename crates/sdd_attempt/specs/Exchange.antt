@@ -2,24 +2,9 @@
 -- reduced, step by step, by FETCH, VALUES, REDUCE and REDUCED; at last all rows are shipped.
 use Rattle.std.specs.Prelude.{ℕ, ◌+◌, ◌*◌, ◌==◌, Bool, true, false, not, ◌&&◌, cond, if◌then◌else◌, List, [], ◌∷◌, ◌++◌, map, filter, filter_map, length, sum, Option, Some, None}
 use Rattle.std.specs.List.{range_with_len}
-use Rattle.sdd_module.specs.base.Words.{tail_of, contains}
-use Rattle.sdd_module.specs.base.Numbers.{dm_no, class_no, time_at}
-use Rattle.sdd_module.specs.base.Order.{with_values}
-use Rattle.sdd_module.specs.base.declared.value.Value.{Value}
-use Rattle.sdd_module.specs.base.declared.site.Site.{Site}
-use Rattle.sdd_module.specs.base.declared.site.Site.TheVariants.{D}
-use Rattle.sdd_module.specs.lang.declared.condition.Ref.{Ref}
-use Rattle.sdd_module.specs.lang.declared.condition.Condition.{Condition}
-use Rattle.sdd_module.specs.lang.declared.statement.Stmt.{Stmt}
-use Rattle.sdd_module.specs.lang.declared.statement.Stmt.TheVariants.{Put, Query, Update, Delete}
-use Rattle.sdd_module.specs.lang.declared.transaction.Txn.{Txn}
-use Rattle.sdd_module.specs.lang.Database.{Row}
-use Rattle.sdd_module.specs.lang.Source.{uses_in}
+use Rattle.sdd_module.specs.All.{Act, Condition, D, Delete, Fetch, Msg, Put, Query, Read, Ready, Reduce, Reduced, Ref, Row, Rows, Sends, Ship, Site, Stmt, Txn, Update, Value, Values, class_no, contains, dm_no, tail_of, time_at, uses_in, with_values}
 use Rattle.sdd_semijoin.specs.declared.step.Step.{Step}
 use Rattle.sdd_semijoin.specs.Steps.{Move, next_move}
-use Rattle.sdd_module.specs.wire.declared.msg.Msg.{Msg}
-use Rattle.sdd_module.specs.wire.declared.msg.Msg.TheVariants.{Read, Ready, Fetch, Values, Reduce, Reduced, Ship, Rows}
-use Rattle.sdd_module.specs.SiteLog.{Act, Sends}
 
 -- a query of the transaction: how many uses stand before it, how many it has, and its conditions
 pub record Asking : Type 0 where

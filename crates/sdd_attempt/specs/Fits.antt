@@ -2,15 +2,8 @@
 -- that the site sent to the one from which it comes, and is the first answer to it.
 use Rattle.std.specs.Prelude.{ℕ, ◌<◌, ◌^◌, ◌≡◌, ◌==◌, ◌&&◌, Bool, true, false, not, List, [], ◌∷◌, ◌++◌, map, filter, Option, Some, None}
 use Rattle.std.specs.List.{list_any, flat_map}
-use Rattle.sdd_module.specs.base.Words.{head_of, contains}
-use Rattle.sdd_module.specs.base.Sites.{same_site, number_of}
-use Rattle.sdd_module.specs.base.declared.site.Site.{Site}
-use Rattle.sdd_module.specs.lang.Database.{Row}
-use Rattle.sdd_module.specs.lang.Sound.{IsDatabase}
+use Rattle.sdd_module.specs.All.{Bases, Did, Handed, IsDatabase, Log, Msg, Read, Ready, Reject, Row, Setting, Site, contains, head_of, number_of, same_site, sends_of_act}
 use Rattle.sdd_exec.specs.Serves.{Serves}
-use Rattle.sdd_module.specs.wire.declared.msg.Msg.{Msg}
-use Rattle.sdd_module.specs.wire.declared.msg.Msg.TheVariants.{Read, Ready, Reject}
-use Rattle.sdd_module.specs.SiteLog.{Setting, Bases, Log, Handed, Did, sends_of_act}
 use Rattle.sdd_attempt.specs.Clocks.{clock}
 use Rattle.sdd_attempt.specs.Exchange.{Phase, Fetching, Reducing, Shipping, without}
 use Rattle.sdd_attempt.specs.Attempts.{Attempt}

@@ -1,17 +1,9 @@
 -- The line of a class: its queue and its active attempt, at a site that makes its attempts.
 use Rattle.std.specs.Prelude.{ℕ, ◌≡◌, ◌≤◌, ◌==◌, Bool, true, false, if◌then◌else◌, List, [], ◌∷◌, length, map, option_map, Option, Some, None}
 use Rattle.std.specs.List.{All, AllByRecursion}
-use Rattle.sdd_module.specs.base.Words.{contains, head_of}
-use Rattle.sdd_module.specs.base.Clock.{Ticking}
-use Rattle.sdd_module.specs.base.declared.site.Site.{Site}
-use Rattle.sdd_module.specs.base.declared.site.Site.TheVariants.{D}
-use Rattle.sdd_module.specs.catalog.Catalogue.{Catalogue}
+use Rattle.sdd_module.specs.All.{Act, Bases, Catalogue, D, Fits, Msg, Site, Ticking, Values, contains, head_of}
 use Rattle.sdd_module.specs.protocol.declared.entry.Entry as line
-use Rattle.sdd_module.specs.lang.Fits.{Fits}
 use Rattle.sdd_exec.specs.Serves.{Serves}
-use Rattle.sdd_module.specs.wire.declared.msg.Msg.{Msg}
-use Rattle.sdd_module.specs.wire.declared.msg.Msg.TheVariants.{Values}
-use Rattle.sdd_module.specs.SiteLog.{Bases, Act}
 use Rattle.sdd_attempt.specs.Acts.{start_act, commit_act}
 use Rattle.sdd_attempt.specs.Attempts.{Attempt, active_after, asks_rows, rejects}
 use Rattle.sdd_attempt.specs.Clocks.{ticked_by}

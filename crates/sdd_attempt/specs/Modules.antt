@@ -1,11 +1,6 @@
 -- The modules of an attempt, as a module that makes attempts keeps them.
 use Rattle.std.specs.Prelude.{ℕ, cond, List, map, filter_map, Option, Some, None}
-use Rattle.sdd_module.specs.base.Words.{contains}
-use Rattle.sdd_module.specs.base.declared.number.DmNo.{DmNo}
-use Rattle.sdd_module.specs.base.declared.site.Site.{Site}
-use Rattle.sdd_module.specs.base.declared.site.Site.TheVariants.{D}
-use Rattle.sdd_module.specs.wire.declared.msg.Msg.{Msg}
-use Rattle.sdd_module.specs.wire.declared.msg.Msg.TheVariants.{Read}
+use Rattle.sdd_module.specs.All.{D, DmNo, Msg, Read, Site, contains}
 
 -- a module by its number
 abbrev pub numbered : DmNo × List ℕ → ℕ × List ℕ

@@ -1,7 +1,6 @@
 -- The messages of an exchange, as a module keeps them.
 use Rattle.std.specs.Prelude.{ℕ, List, map}
-use Rattle.sdd_module.specs.base.declared.number.DmNo.{DmNo}
-use Rattle.sdd_module.specs.wire.declared.msg.Msg.{Msg}
+use Rattle.sdd_module.specs.All.{DmNo, Msg}
 
 -- a message with the number of its module
 abbrev pub numbered : DmNo × Msg → ℕ × Msg

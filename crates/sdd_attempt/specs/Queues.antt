@@ -1,10 +1,6 @@
 -- The queues of a site: the transactions of a class that are submitted and not committed, in order.
 use Rattle.std.specs.Prelude.{ℕ, suc, ◌==◌, ◌||◌, Bool, not, cond, if◌then◌else◌, List, [], ◌∷◌, ◌++◌, map, filter}
-use Rattle.sdd_module.specs.history.declared.record.Rec.TheVariants.{Start, Commit}
-use Rattle.sdd_module.specs.catalog.Catalogue.{Catalogue}
-use Rattle.sdd_module.specs.lang.declared.transaction.Txn.{Txn}
-use Rattle.sdd_module.specs.lang.Classes.{class_for}
-use Rattle.sdd_module.specs.SiteLog.{Setting, in_force, Log, Submits, Did, Act, Records}
+use Rattle.sdd_module.specs.All.{Act, Catalogue, Commit, Did, Log, Records, Setting, Start, Submits, Txn, class_for, in_force}
 
 -- a transaction in a queue, and how often it started
 pub record Queued : Type 0 where

@@ -1,15 +1,9 @@
 -- The READs of an attempt, as a site makes them.
 use Rattle.std.specs.Prelude.{ℕ, suc, ◌<◌, ◌≤◌, ◌^◌, ◌≡◌, List, map, length, Option, Some, None}
 use Rattle.std.specs.List.{All}
-use Rattle.sdd_module.specs.base.Words.{ascending}
-use Rattle.sdd_module.specs.base.declared.number.FragNo.{FragNo}
-use Rattle.sdd_module.specs.base.declared.site.Site.{Site}
-use Rattle.sdd_module.specs.base.declared.usage.Use.{Use}
-use Rattle.sdd_module.specs.catalog.Catalogue.{Catalogue}
+use Rattle.sdd_module.specs.All.{Catalogue, FragNo, Msg, Site, Use, ascending, fragments_in}
 use Rattle.sdd_graph.specs.Edges.{IsClassOf}
 use Rattle.sdd_module.specs.protocol.declared.entry.Entry as line
-use Rattle.sdd_module.specs.lang.Classes.{fragments_in}
-use Rattle.sdd_module.specs.wire.declared.msg.Msg.{Msg}
 use Rattle.sdd_attempt.specs.Acts.{modules_of, read_to}
 use Rattle.sdd_attempt.specs.Queues.{Queued}
 

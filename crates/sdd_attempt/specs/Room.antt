@@ -1,17 +1,10 @@
 -- Why the numbers of an exchange stay within what a program has room for.
 use Rattle.std.specs.Prelude.{ℕ, ◌+◌, ◌*◌, ◌^◌, ◌<◌, ◌≤◌, ◌≡◌, ◌==◌, ◌&&◌, Bool, true, false, List, [], ◌∷◌, length}
 use Rattle.std.specs.List.{All}
-use Rattle.sdd_module.specs.base.Words.{contains}
-use Rattle.sdd_module.specs.lang.declared.condition.Condition.{Condition}
-use Rattle.sdd_module.specs.lang.declared.condition.Condition.TheVariants.{Const, Same}
-use Rattle.sdd_module.specs.lang.declared.statement.Stmt.{Stmt}
-use Rattle.sdd_module.specs.lang.declared.statement.Stmt.TheVariants.{Put, Query, Update, Delete}
-use Rattle.sdd_module.specs.lang.declared.transaction.Txn.{Txn}
+use Rattle.sdd_module.specs.All.{Condition, Const, Delete, Msg, Put, Query, Same, Stmt, Txn, Update, Values, contains}
 use Rattle.sdd_semijoin.specs.declared.step.Step.{Step}
 use Rattle.sdd_semijoin.specs.Steps.{Move}
 use Rattle.sdd_semijoin.specs.Undone.{undone}
-use Rattle.sdd_module.specs.wire.declared.msg.Msg.{Msg}
-use Rattle.sdd_module.specs.wire.declared.msg.Msg.TheVariants.{Values}
 use Rattle.sdd_attempt.specs.Exchange.{Asking, Exchange, Phase, Fetching}
 
 -- the columns of a join are of uses whose numbers, counted from this one, have room

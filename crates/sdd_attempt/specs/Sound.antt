@@ -1,18 +1,8 @@
 -- What holds of the queue of a class and of its attempt in every log of a site whose messages and transactions fit.
 use Rattle.std.specs.Prelude.{ℕ, ◌<◌, ◌≤◌, ◌^◌, ◌≡◌, ◌≢◌, Bool, true, false, ◌&&◌, List, [], ◌∷◌, map, Option, Some, None, is_some}
 use Rattle.std.specs.List.{AllByRecursion, list_any, list_all}
-use Rattle.sdd_module.specs.base.Words.{head_of, contains}
-use Rattle.sdd_module.specs.base.Numbers.{dm_no}
-use Rattle.sdd_module.specs.base.Clock.{timestamp}
-use Rattle.sdd_module.specs.base.declared.site.Site.{Site}
-use Rattle.sdd_module.specs.base.declared.site.Site.TheVariants.{D}
-use Rattle.sdd_module.specs.catalog.Catalogue.{Catalogue, reads_at}
-use Rattle.sdd_module.specs.lang.Classes.{read_set}
-use Rattle.sdd_module.specs.lang.Fits.{Fits}
+use Rattle.sdd_module.specs.All.{Bases, Catalogue, D, Fits, Log, Msg, Read, Ready, Reduced, Reject, Rows, Setting, Site, Values, contains, dm_no, head_of, read_set, reads_at, submits, timestamp}
 use Rattle.sdd_exec.specs.Serves.{Serves}
-use Rattle.sdd_module.specs.wire.declared.msg.Msg.{Msg}
-use Rattle.sdd_module.specs.wire.declared.msg.Msg.TheVariants.{Read, Ready, Reject, Values, Reduced, Rows}
-use Rattle.sdd_module.specs.SiteLog.{Setting, Bases, Log, submits}
 use Rattle.sdd_attempt.specs.Clocks.{clock}
 use Rattle.sdd_attempt.specs.Queues.{Queued, queue}
 use Rattle.sdd_attempt.specs.Exchange.{Phase, Reading, Exchange, is_over}

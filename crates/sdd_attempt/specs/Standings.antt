@@ -1,8 +1,6 @@
 -- How a site that makes attempts has a transaction.
 use Rattle.std.specs.Prelude.{ℕ, suc, min, fold, ◌==◌, not, if◌then◌else◌, List, [], ◌∷◌, filter, position, Option, Some, None}
-use Rattle.sdd_module.specs.base.Numbers.{dm_no, class_no, time_at}
-use Rattle.sdd_module.specs.base.declared.site.Site.{Site}
-use Rattle.sdd_module.specs.base.declared.site.Site.TheVariants.{U, D}
+use Rattle.sdd_module.specs.All.{D, Site, U, class_no, dm_no, time_at}
 use Rattle.sdd_attempt.specs.Attempts.{Attempt}
 use Rattle.sdd_attempt.specs.Exchange.{Exchange}
 use Rattle.sdd_attempt.specs.Lines.{Line}

@@ -1,6 +1,6 @@
 -- What the line of a class may still do before the next message comes.
 use Rattle.std.specs.Prelude.{ℕ, ◌+◌, List, length, Option, Some, None}
-use Rattle.sdd_module.specs.base.Words.{tail_of}
+use Rattle.sdd_module.specs.All.{tail_of}
 use Rattle.sdd_attempt.specs.Queues.{Queued}
 use Rattle.sdd_attempt.specs.Attempts.{Attempt}
 

@@ -1,13 +1,6 @@
 -- The WRITEs of an attempt that commits, as a site makes them.
 use Rattle.std.specs.Prelude.{ℕ, ◌==◌, not, ◌||◌, cond, List, filter, Option, Some, None}
-use Rattle.sdd_module.specs.base.Numbers.{dm_no, class_no, txn_no, time_at}
-use Rattle.sdd_module.specs.base.Words.{is_empty}
-use Rattle.sdd_module.specs.base.declared.change.Change.{Change}
-use Rattle.sdd_module.specs.base.declared.site.Site.{Site}
-use Rattle.sdd_module.specs.base.declared.site.Site.TheVariants.{D}
-use Rattle.sdd_module.specs.catalog.Catalogue.{Catalogue, has_copy}
-use Rattle.sdd_module.specs.wire.declared.msg.Msg.{Msg}
-use Rattle.sdd_module.specs.wire.declared.msg.Msg.TheVariants.{Write}
+use Rattle.sdd_module.specs.All.{Catalogue, Change, D, Msg, Site, Write, class_no, dm_no, has_copy, is_empty, time_at, txn_no}
 
 -- of the changes those of fragments that have a copy at module d
 abbrev pub changes_at : Catalogue → ℕ → List Change → List Change

@@ -1,8 +1,5 @@
 ghost use Rattle.std.specs.Prelude.{◌≡◌, ◌<◌, ◌+◌, ◌^◌, [], suc, option_map, unwrap_or, IfOk, OnOk};
-ghost use Rattle.sdd_module.specs.base.Clock.{ticked, timestamp};
-ghost use Rattle.sdd_module.specs.lang.Fits.{Fits};
-ghost use Rattle.sdd_module.specs.Notes.{with_act};
-ghost use Rattle.sdd_module.specs.SiteLog.{sends_of_act};
+ghost use Rattle.sdd_module.specs.All.{Fits, sends_of_act, ticked, timestamp, with_act};
 ghost use Rattle.sdd_attempt.specs.Acts.{start_act};
 ghost use Rattle.sdd_attempt.specs.Exchange.{begins};
 ghost use Rattle.sdd_attempt.specs.Reads.{IsDeclared};

@@ -1,11 +1,6 @@
 ghost use Rattle.std.specs.Prelude.{◌≡◌, ℕ, true, [], IfOk, OnOk};
 ghost use Rattle.sdd_exec.specs.Serves.{Serves};
-ghost use Rattle.sdd_module.specs.lang.Database.{Database};
-ghost use Rattle.sdd_module.specs.lang.Effect.{effect};
-ghost use Rattle.sdd_module.specs.lang.Fits.{Fits};
-ghost use Rattle.sdd_module.specs.lang.Sound.{IsDatabase};
-ghost use Rattle.sdd_module.specs.Notes.{with_act};
-ghost use Rattle.sdd_module.specs.SiteLog.{Bases};
+ghost use Rattle.sdd_module.specs.All.{Bases, Database, Fits, IsDatabase, effect, with_act};
 ghost use Rattle.sdd_attempt.specs.Acts.{commit_act};
 ghost use Rattle.sdd_attempt.specs.Lines.{attempt_of};
 

@@ -1,13 +1,10 @@
 ghost use Rattle.std.specs.Prelude.{◌≡◌, ◌<◌, ◌^◌, ◌==◌, ◌&&◌, ◌++◌, List, filter_map, length, IfOk, OnOk, option_map, not};
-ghost use Rattle.sdd_module.specs.base.Order.{with_values};
-ghost use Rattle.sdd_module.specs.base.Words.{head_of, is_empty};
+ghost use Rattle.sdd_module.specs.All.{Msg, Site, head_of, is_empty, with_values};
 ghost use Rattle.sdd_attempt.specs.Exchange.{after_hand, after_send, answered, begins, fetches, goes_on, is_over, module_read, phase_ends, reduces, ships};
 ghost use Rattle.sdd_attempt.specs.Outbox.{numbered};
 ghost use Rattle.sdd_attempt.specs.Phases.{move_of};
 ghost use Rattle.sdd_attempt.specs.Room.{AreSmall, IsSmallText};
 ghost use Rattle.sdd_attempt.specs.Standings.{lowest};
-ghost use Rattle.sdd_module.specs.base.declared.site.Site.{Site};
-ghost use Rattle.sdd_module.specs.wire.declared.msg.Msg.{Msg};
 
 use crate::counts::Counts;
 use crate::modules::{DmNos, Modules};

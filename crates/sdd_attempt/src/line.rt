@@ -1,9 +1,5 @@
 ghost use Rattle.std.specs.Prelude.{◌≡◌, ◌<◌, ◌≤◌, ◌+◌, ◌++◌, ◌∷◌, ◌^◌, ◌==◌, ◌&&◌, ℕ, [], is_none, length, map, not, option_map, position, unwrap_or, IsTrue, OnOk, None, false};
-ghost use Rattle.sdd_module.specs.base.Words.{contains, is_empty};
-ghost use Rattle.sdd_module.specs.lang.Fits.{Fits};
-ghost use Rattle.sdd_module.specs.lang.Sound.{IsDatabase};
-ghost use Rattle.sdd_module.specs.Notes.{noted};
-ghost use Rattle.sdd_module.specs.SiteLog.{Bases};
+ghost use Rattle.sdd_module.specs.All.{Bases, Fits, IsDatabase, contains, is_empty, noted};
 ghost use Rattle.sdd_attempt.specs.Attempts.{active_handed};
 ghost use Rattle.sdd_attempt.specs.Lines.{AreTried, IsAwaited, ServesAt, clock_done, commit_next, head_is_untried, line_done, line_step, no_line, send_next, start_next};
 ghost use Rattle.sdd_attempt.specs.Reads.{IsDeclared};

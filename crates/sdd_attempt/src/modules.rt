@@ -1,5 +1,5 @@
 ghost use Rattle.std.specs.Prelude.{◌≡◌, ◌++◌, ◌∷◌, [], filter_map, length, map, option_map, IfOk, OnOk};
-ghost use Rattle.sdd_module.specs.base.Words.{is_empty};
+ghost use Rattle.sdd_module.specs.All.{is_empty};
 ghost use Rattle.sdd_attempt.specs.Exchange.{module_read, without};
 ghost use Rattle.sdd_attempt.specs.Standings.{lower, lowest};
 ghost use Rattle.sdd_attempt.specs.Modules.{module_of, reading, with_use};

@@ -1,5 +1,5 @@
 ghost use Rattle.std.specs.Prelude.{◌≡◌, [], option_map, IfOk};
-ghost use Rattle.sdd_module.specs.base.Words.{head_of, is_empty, tail_of};
+ghost use Rattle.sdd_module.specs.All.{head_of, is_empty, tail_of};
 ghost use Rattle.sdd_attempt.specs.Exchange.{to_all};
 ghost use Rattle.sdd_attempt.specs.Outbox.{addressed, numbered};
 ghost use Rattle.sdd_module.specs.wire.declared.msg.Msg.TheVariants as msgs;
@@ -21,7 +21,7 @@ pub(crate) struct Outbox {
 impl Model for Outbox {
     ghost use Rattle.std.specs.Prelude.{ℕ, List, map};
     ghost use Rattle.sdd_attempt.specs.Outbox.{numbered};
-    ghost use Rattle.sdd_module.specs.wire.declared.msg.Msg.{Msg};
+    ghost use Rattle.sdd_module.specs.All.{Msg};
 
     ghost Value = { List (ℕ × Msg) };
 

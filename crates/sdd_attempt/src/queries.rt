@@ -1,7 +1,7 @@
 ghost use Rattle.std.specs.Prelude.{◌≡◌, ◌++◌, IfOk, OnOk};
 ghost use Rattle.sdd_attempt.specs.Exchange.{asking_of, askings};
 ghost use Rattle.sdd_attempt.specs.Room.{IsSmallStatement, IsSmallText};
-ghost use Rattle.sdd_module.specs.lang.Source.{uses_in};
+ghost use Rattle.sdd_module.specs.All.{uses_in};
 
 use sdd_module::sdd_base::{NoMemory, Parcel};
 use sdd_module::sdd_lang::{Conditions, Stmt, Txn};

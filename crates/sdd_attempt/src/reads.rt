@@ -1,13 +1,7 @@
 ghost use Rattle.std.specs.Prelude.{◌≡◌, ◌<◌, ◌≤◌, ◌^◌, ◌++◌, ◌∷◌, [], nat_lt, not, suc, All, option_to_list, filter, filter_map, fold, length, map, option_map, position, unwrap_or, IfOk, OnOk};
 ghost use Rattle.std.specs.Ordering.{nat_cmp};
 ghost use Rattle.std.specs.BTreeSet.{insert_key};
-ghost use Rattle.sdd_module.specs.base.Numbers.{class_no, time_at, txn_no};
-ghost use Rattle.sdd_module.specs.base.Words.{ascending};
-ghost use Rattle.sdd_module.specs.catalog.Catalogue.{numbers_to, reads_at};
-ghost use Rattle.sdd_module.specs.lang.Classes.{fragments_in};
-ghost use Rattle.sdd_module.specs.lang.Fits.{Fits};
-ghost use Rattle.sdd_module.specs.lang.Uses.{uses_of};
-ghost use Rattle.sdd_module.specs.protocol.Conditions.{is_read_at};
+ghost use Rattle.sdd_module.specs.All.{Fits, ascending, class_no, fragments_in, is_read_at, numbers_to, reads_at, time_at, txn_no, uses_of};
 ghost use Rattle.sdd_attempt.specs.Acts.{conditions_at, modules_of, p2_of, read_to, use_there};
 ghost use Rattle.sdd_attempt.specs.Exchange.{module_read};
 ghost use Rattle.sdd_attempt.specs.Reads.{AreThere, IsDeclared, reads_of, reads_to};

@@ -1,5 +1,5 @@
 ghost use Rattle.std.specs.Prelude.{◌≡◌, cond, IfOk, OnOk, None, Some};
-ghost use Rattle.sdd_module.specs.Notes.{noted};
+ghost use Rattle.sdd_module.specs.All.{noted};
 ghost use Rattle.sdd_attempt.specs.Attempts.{rejects};
 ghost use Rattle.sdd_attempt.specs.Exchange.{after_send, send_due};
 ghost use Rattle.sdd_attempt.specs.Lines.{AreAwaitedFrom, handed_by, step_by};

@@ -1,5 +1,5 @@
 ghost use Rattle.std.specs.Prelude.{◌≡◌, ◌++◌, ◌∷◌, [], filter, filter_map, IfOk, OnOk};
-ghost use Rattle.sdd_module.specs.catalog.Catalogue.{has_copy, numbers_to};
+ghost use Rattle.sdd_module.specs.All.{has_copy, numbers_to};
 ghost use Rattle.sdd_attempt.specs.Writes.{changes_at, write_of};
 
 use sdd_module::Draft;

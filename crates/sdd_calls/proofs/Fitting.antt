@@ -1,12 +1,7 @@
 -- Rows and transactions of a workload that a catalogue allows.
 use Rattle.std.specs.Prelude.{ℕ, List}
 use Rattle.std.specs.List.{All}
-use Rattle.sdd_script.specs.base.declared.value.Value.{Value}
-use Rattle.sdd_script.specs.base.declared.number.RelNo.{RelNo}
-use Rattle.sdd_script.specs.catalog.Catalogue.{Catalogue}
-use Rattle.sdd_script.specs.lang.Fits.{Fits, FitsStart}
-use Rattle.sdd_script.specs.lang.declared.transaction.Txn.{Txn}
-use Rattle.sdd_script.specs.Valid.{IsValid, IsValidRow, IsValidTxn}
+use Rattle.sdd_script.specs.All.{Catalogue, Fits, FitsStart, IsValid, IsValidRow, IsValidTxn, RelNo, Txn, Value}
 use Rattle.sdd_script.specs.declared.workload.Workload.{Workload}
 use Rattle.std.proofs.lemmas.List.Elements.{All-weaker}
 

@@ -1,6 +1,6 @@
 //! Catalogues and workloads from files.
 ghost use Rattle.std.specs.Prelude.{IfOk};
-ghost use Rattle.sdd_script.specs.Valid.{IsValid};
+ghost use Rattle.sdd_script.specs.All.{IsValid};
 
 use anyhow::{Error, Result, anyhow};
 use sdd_catread::read_catalogue;

@@ -1,6 +1,6 @@
 //! What a transaction writes, transactions that run on one database, and made files.
 ghost use Rattle.std.specs.Prelude.{IfOk, IsTrue};
-ghost use Rattle.sdd_script.specs.Valid.{IsValid};
+ghost use Rattle.sdd_script.specs.All.{IsValid};
 
 use crate::read::{catalogue, judged, wanting, workload};
 use anyhow::{Result, ensure};

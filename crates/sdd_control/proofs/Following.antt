@@ -1,6 +1,6 @@
 -- The tables follow the log of all events.
 use Rattle.std.proofs.Common.{ℕ, ◌≤◌, ◌≡◌, Bool, true, List, [], ◌∷◌, ◌++◌, refl, sym, ap, ◌∙◌, subst}
-use Rattle.sdd_script.specs.base.Kept.{Kept as Live}
+use Rattle.sdd_script.specs.All.{Kept as Live}
 use Rattle.sdd_control.specs.Control.{Follows, Run, run_of, with_event}
 use Rattle.sdd_control.specs.Log.{Log, noted}
 use Rattle.sdd_control.specs.NoteTests.{is_number}

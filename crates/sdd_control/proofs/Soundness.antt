@@ -9,15 +9,8 @@ use Rattle.sdd_script.specs.declared.fault.WorkRule.{WorkRule}
 use Rattle.sdd_script.specs.declared.fault.WorkRule.TheVariants.{BadEvent, BadLine, BadNumber, NoEnd, NotUtf8, TooLong, TooMany}
 use Rattle.std.specs.List.{list_all}
 use Rattle.std.specs.Str.{is_utf8}
-use Rattle.sdd_script.specs.words.Keywords.{is_free}
-use Rattle.sdd_script.specs.words.Scan.{words_of}
-use Rattle.sdd_script.specs.words.Texts.{is_sound}
+use Rattle.sdd_script.specs.All.{Plain, Quoted, Word, cut_lines, is_free, is_sound, known, must, number_of, words_of, ◌>>=◌}
 use Rattle.sdd_control.specs.Keys.{key_of}
-use Rattle.sdd_script.specs.words.Lines.{cut_lines}
-use Rattle.sdd_script.specs.words.Number.{number_of}
-use Rattle.sdd_script.specs.base.Readings.{◌>>=◌, known, must}
-use Rattle.sdd_script.specs.words.declared.word.Word.{Word}
-use Rattle.sdd_script.specs.words.declared.word.Word.TheVariants.{Plain, Quoted}
 use Rattle.sdd_control.specs.LineRules.{delivery_of, end_of, event_rules, head_of, head_rules, key_rules, line_rules, most_events, number_within, site_number, site_of, sound_rules, with_act, within, words_rules}
 use Rattle.sdd_control.specs.Script.{IsSound}
 use Rattle.sdd_control.specs.Steps.{FitAll, Fits}

@@ -1,6 +1,6 @@
 -- A run of transaction control: its limits, and what has happened in it.
 use Rattle.std.specs.Prelude.{ℕ, true, List}
-use Rattle.sdd_script.specs.base.Kept.{Kept}
+use Rattle.sdd_script.specs.All.{Kept}
 use Rattle.sdd_control.specs.Log.{Log, noted}
 use Rattle.sdd_control.specs.NoteTests.{is_number}
 use Rattle.sdd_control.specs.State.{IsSized, Tracks}

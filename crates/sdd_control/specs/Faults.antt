@@ -1,6 +1,6 @@
 -- What a function that reads a line or a file answers, by the reading that its definition is.
 use Rattle.std.specs.Prelude.{ℕ, Option, Some, None, Result}
-use Rattle.sdd_script.specs.base.Readings.{Gives as GivesBy}
+use Rattle.sdd_script.specs.All.{Gives as GivesBy}
 use Rattle.sdd_script.specs.declared.fault.WorkError.{WorkError}
 use Rattle.sdd_script.specs.declared.fault.WorkError.TheVariants as told
 use Rattle.sdd_script.specs.declared.fault.WorkFault.{WorkFault}

@@ -1,8 +1,7 @@
 -- The words with which the lines of a control file begin.
 use Rattle.std.specs.Prelude.{ℕ, List, codes, Option, Some, None, if◌then◌else◌}
 use Rattle.std.specs.Str.{bytes_eq}
-use Rattle.sdd_script.specs.words.declared.word.Word.{Word}
-use Rattle.sdd_script.specs.words.declared.word.Word.TheVariants.{Plain, Quoted}
+use Rattle.sdd_script.specs.All.{Plain, Quoted, Word}
 use Rattle.sdd_control.specs.declared.key.Key.{Key}
 use Rattle.sdd_control.specs.declared.key.Key.TheVariants as keys
 

@@ -6,13 +6,7 @@ use Rattle.std.specs.Str.{is_utf8}
 use Rattle.sdd_script.specs.declared.fault.Counts.TheVariants.{Event}
 use Rattle.sdd_script.specs.declared.fault.WorkRule.{WorkRule}
 use Rattle.sdd_script.specs.declared.fault.WorkRule.TheVariants.{BadEvent, BadLine, BadNumber, NotUtf8, TooMany}
-use Rattle.sdd_script.specs.words.Keywords.{is_free}
-use Rattle.sdd_script.specs.words.Number.{number_of}
-use Rattle.sdd_script.specs.words.Scan.{words_of}
-use Rattle.sdd_script.specs.base.Readings.{◌>>=◌, known, must}
-use Rattle.sdd_script.specs.words.Texts.{is_sound}
-use Rattle.sdd_script.specs.words.declared.word.Word.{Word}
-use Rattle.sdd_script.specs.words.declared.word.Word.TheVariants.{Plain, Quoted}
+use Rattle.sdd_script.specs.All.{Plain, Quoted, Word, is_free, is_sound, known, must, number_of, words_of, ◌>>=◌}
 use Rattle.sdd_control.specs.Keys.{key_of}
 use Rattle.sdd_control.specs.declared.act.Act.{Act}
 use Rattle.sdd_control.specs.declared.act.Act.TheVariants.{Step, Deliver, Stop}

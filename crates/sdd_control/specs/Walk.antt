@@ -4,7 +4,7 @@ use Rattle.std.specs.Str.{is_utf8}
 use Rattle.sdd_script.specs.declared.fault.WorkFault.{WorkFault}
 use Rattle.sdd_script.specs.declared.fault.WorkRule.{WorkRule}
 use Rattle.sdd_script.specs.declared.fault.WorkRule.TheVariants.{BadLine, NoEnd, NotUtf8, TooLong}
-use Rattle.sdd_script.specs.words.Lines.{cut_lines}
+use Rattle.sdd_script.specs.All.{cut_lines}
 use Rattle.sdd_control.specs.LineRules.{line_rules}
 use Rattle.sdd_control.specs.declared.act.Act.{Act}
 use Rattle.sdd_control.specs.Draft.{Draft}

@@ -24,7 +24,7 @@ pub struct Control {
 
 impl Model for Control {
     ghost use Rattle.std.specs.Prelude.{◌≡◌, true};
-    ghost use Rattle.sdd_script.specs.base.Kept.{Kept};
+    ghost use Rattle.sdd_script.specs.All.{Kept};
     ghost use Rattle.sdd_control.specs.Control.{Follows, Run, run_of};
 
     ghost Value = { Kept Run };

@@ -1,5 +1,5 @@
 ghost use Rattle.std.specs.Prelude.{◌≡◌, Err, MatchResult, Ok};
-ghost use Rattle.sdd_script.specs.base.Readings.{known, must};
+ghost use Rattle.sdd_script.specs.All.{known, must};
 ghost use Rattle.sdd_control.specs.Faults.{Gives, told_at};
 ghost use Rattle.sdd_control.specs.declared.fault.LineError.TheVariants.{Broken};
 

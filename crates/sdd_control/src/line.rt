@@ -1,6 +1,6 @@
 //! One line of a control file.
 ghost use Rattle.std.specs.Prelude.{◌≡◌, ◌==◌, ◌&&◌, nat_le, not, Some};
-ghost use Rattle.sdd_script.specs.words.Number.{number_of};
+ghost use Rattle.sdd_script.specs.All.{number_of};
 ghost use Rattle.sdd_control.specs.Faults.{Gives};
 ghost use Rattle.sdd_control.specs.LineRules.{delivery_of, end_of, event_rules, head_of, head_rules, key_rules, line_rules, number_within, site_number, site_of, sound_rules, with_act, within, words_rules};
 

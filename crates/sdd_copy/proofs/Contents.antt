@@ -13,8 +13,7 @@ use Rattle.std.proofs.lemmas.Cmp.{int_cmp_total}
 use Rattle.std.specs.Map.{lookup}
 use Rattle.std.specs.BTreeMap.{insert_entry, is_at}
 use Rattle.std.specs.BTreeSet.{insert_key}
-use Rattle.sdd_lang.specs.base.declared.value.Value.{Value}
-use Rattle.sdd_lang.specs.base.declared.change.Change.{Change}
+use Rattle.sdd_lang.specs.All.{Change, Value}
 use Rattle.sdd_copy.specs.Contents.{Dated, newer, latest, row_left, keys_in, of_fragment, rows_left, contents}
 use Rattle.sdd_copy.specs.Items.{Items, is_newer, written, items_of, row_at, entries_in, rows_in}
 

@@ -2,8 +2,7 @@
 use Rattle.std.proofs.Common.{ℕ, List, [], ◌∷◌, ◌++◌, map, ◌≡◌, ap, ◌∙◌, sym}
 use Rattle.std.specs.List.{fold}
 use Rattle.std.proofs.lemmas.List.{reverse-append}
-use Rattle.sdd_lang.specs.base.declared.number.FragNo.{FragNo}
-use Rattle.sdd_lang.specs.base.declared.value.Value.{Value}
+use Rattle.sdd_lang.specs.All.{FragNo, Value}
 use Rattle.sdd_copy.specs.Items.{Items, written, initial, initial_row}
 
 -- one row more is added

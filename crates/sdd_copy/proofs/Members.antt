@@ -5,9 +5,7 @@ use Rattle.std.specs.declared.cmp.Ordering.{Ordering}
 use Rattle.std.specs.declared.cmp.Ordering.TheVariants.{Less, Equal, Greater}
 use Rattle.std.specs.Ordering.{is_eq, match_ordering, ordering_reverse}
 use Rattle.std.specs.BTreeSet.{insert_key}
-use Rattle.sdd_lang.specs.base.declared.value.Value.{Value}
-use Rattle.sdd_lang.specs.base.Order.{value_cmp, with_values}
-use Rattle.sdd_lang.specs.base.ValueOrder.{value_cmp_total}
+use Rattle.sdd_lang.specs.All.{Value, value_cmp, value_cmp_total, with_values}
 use Rattle.sdd_copy.specs.Frozen.{is_among}
 use Rattle.sdd_copy.specs.Known.{is_known}
 

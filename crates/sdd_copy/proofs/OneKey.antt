@@ -9,7 +9,7 @@ use Rattle.std.specs.Map.{keys_of, lookup}
 use Rattle.std.specs.BTreeMap.{is_at}
 use Rattle.std.proofs.lemmas.Int.{ints}
 use Rattle.std.proofs.lemmas.Map.Keys.{sorted_head, sorted_tail}
-use Rattle.sdd_lang.specs.base.declared.value.Value.{Value}
+use Rattle.sdd_lang.specs.All.{Value}
 use Rattle.sdd_copy.specs.Items.{Items}
 use Rattle.sdd_copy.specs.Keyed.{is_within, one_at}
 

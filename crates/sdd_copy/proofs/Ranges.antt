@@ -11,11 +11,7 @@ use Rattle.std.proofs.lemmas.Map.Lookups.{exact_signed}
 use Rattle.std.proofs.lemmas.Int.{ints}
 use Rattle.std.proofs.lemmas.List.{map-append}
 use Rattle.std.proofs.lemmas.List.Elements.{All-from_recursion, recursion_from_All, filter-append, filter_map-append}
-use Rattle.sdd_lang.specs.base.Order.{column, meets}
-use Rattle.sdd_lang.specs.base.declared.value.Value.{Value}
-use Rattle.sdd_lang.specs.base.declared.value.Value.TheVariants.{Int}
-use Rattle.sdd_lang.specs.base.declared.restriction.Restriction.{Restriction}
-use Rattle.sdd_lang.specs.Uses.{Interval, IsWithin, IsOfKeys, all_keys, allowed_keys, common, holds_some}
+use Rattle.sdd_lang.specs.All.{Int, Interval, IsOfKeys, IsWithin, Restriction, Value, all_keys, allowed_keys, column, common, holds_some, meets}
 use Rattle.sdd_lang.proofs.KeyRanges.{allowed_key, le_true, within_common}
 use Rattle.sdd_lang.proofs.Pushdown.{and_both, filter_none, filter_same}
 use Rattle.sdd_lang.proofs.SortedEntries.{each_inserted}

@@ -6,7 +6,7 @@ use Rattle.std.specs.List.{AllByRecursion}
 use Rattle.std.specs.Ordering.{int_cmp, MatchOrdering}
 use Rattle.std.specs.Cmp.{first_so, second_so, int_ranks}
 use Rattle.std.proofs.lemmas.Int.{ints}
-use Rattle.sdd_lang.specs.base.declared.value.Value.{Value}
+use Rattle.sdd_lang.specs.All.{Value}
 use Rattle.sdd_copy.specs.Ascending.{ascend}
 use Rattle.sdd_copy.specs.Frozen.{with_keyed}
 

@@ -7,8 +7,7 @@ use Rattle.std.proofs.lemmas.Bool.{eqb-true, eq-eqb}
 use Rattle.std.proofs.lemmas.List.{length-map}
 use Rattle.std.proofs.lemmas.List.Sums.{fold-append}
 use Rattle.std.proofs.lemmas.List.Elements.{All-from_recursion, filter-append}
-use Rattle.sdd_lang.specs.base.Kept.{Kept}
-use Rattle.sdd_lang.specs.base.declared.change.Change.{Change}
+use Rattle.sdd_lang.specs.All.{Change, Kept}
 use Rattle.sdd_copy.specs.Contents.{Dated, of_fragment}
 use Rattle.sdd_copy.specs.Copies.{Held, is_here, or_none, items_at, changed_at, with_change, held_in, IsLive, StandFor}
 use Rattle.sdd_copy.specs.Items.{Items, written, items_of}

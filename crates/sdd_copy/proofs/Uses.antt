@@ -6,12 +6,7 @@ use Rattle.std.proofs.lemmas.Bool.{eq-eqb}
 use Rattle.std.proofs.lemmas.List.{take_all}
 use Rattle.std.proofs.lemmas.List.Edits.{map_over_more}
 use Rattle.std.proofs.lemmas.List.Elements.{recursion_from_All}
-use Rattle.sdd_lang.specs.base.Order.{column, with_values}
-use Rattle.sdd_lang.specs.base.Words.{first_some}
-use Rattle.sdd_lang.specs.base.declared.number.FragNo.{FragNo}
-use Rattle.sdd_lang.specs.base.declared.restriction.Restriction.{Restriction}
-use Rattle.sdd_lang.specs.base.declared.usage.Use.{Use}
-use Rattle.sdd_lang.specs.base.declared.value.Value.{Value}
+use Rattle.sdd_lang.specs.All.{FragNo, Restriction, Use, Value, column, first_some, with_values}
 use Rattle.sdd_lang.proofs.Pushdown.{filter_same}
 use Rattle.sdd_copy.specs.Contents.{Dated, contents}
 use Rattle.sdd_copy.specs.Copies.{Held, is_here, rows_at, StandFor, AreHere}

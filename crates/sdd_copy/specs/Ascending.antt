@@ -1,6 +1,6 @@
 -- Rows whose keys ascend, which are the entries of a map as they stand.
 use Rattle.std.specs.Prelude.{ℤ, int_lt, Bool, ◌&&◌, true, List, [], ◌∷◌, Option, Some, None}
-use Rattle.sdd_lang.specs.base.declared.value.Value.{Value}
+use Rattle.sdd_lang.specs.All.{Value}
 
 -- whether a row's key is greater than that of the last row, where there is one
 abbrev pub is_after : Option (ℤ × List Value) → ℤ × List Value → Bool

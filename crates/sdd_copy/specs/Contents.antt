@@ -3,10 +3,7 @@
 use Rattle.std.specs.Prelude.{ℕ, nat_lt, ◌==◌, ◌≡◌, ℤ, pos, cond, if◌then◌else◌, List, [], ◌∷◌, filter, filter_map, fold, Option, Some, None, refl}
 use Rattle.std.specs.Ordering.{int_cmp, is_eq}
 use Rattle.std.specs.BTreeSet.{insert_key}
-use Rattle.sdd_lang.specs.base.Numbers.{frag_no}
-use Rattle.sdd_lang.specs.base.declared.value.Value.{Value}
-use Rattle.sdd_lang.specs.base.declared.value.Value.TheVariants.{Int}
-use Rattle.sdd_lang.specs.base.declared.change.Change.{Change}
+use Rattle.sdd_lang.specs.All.{Change, Int, Value, frag_no}
 
 -- changes, each with its date: the timestamp of its transaction, or 0 for a row that was there from the beginning
 abbrev pub Dated : Type 0

@@ -2,12 +2,7 @@
 use Rattle.std.specs.Prelude.{ℕ, zero, suc, ◌≡◌, ℤ, pos, Bool, true, List, [], ◌∷◌, map, slice_index_or, Option, Some, None, is_some, IfSome, refl}
 use Rattle.std.specs.List.{All}
 use Rattle.std.specs.Option.{option_map}
-use Rattle.sdd_lang.specs.base.Kept.{Kept}
-use Rattle.sdd_lang.specs.base.Numbers.{frag_no}
-use Rattle.sdd_lang.specs.base.declared.value.Value.{Value}
-use Rattle.sdd_lang.specs.base.declared.value.Value.TheVariants.{Int}
-use Rattle.sdd_lang.specs.base.declared.usage.Use.{Use}
-use Rattle.sdd_lang.specs.base.declared.change.Change.{Change}
+use Rattle.sdd_lang.specs.All.{Change, Int, Kept, Use, Value, frag_no}
 use Rattle.sdd_copy.specs.Contents.{Dated, of_fragment}
 use Rattle.sdd_copy.specs.Items.{Items, written, items_of, entries_in}
 

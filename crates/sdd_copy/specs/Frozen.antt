@@ -3,13 +3,7 @@ use Rattle.std.specs.Prelude.{ℕ, ◌==◌, ◌≡◌, ℤ, pos, Bool, cond, if
 use Rattle.std.specs.List.{list_all, list_any, flat_map}
 use Rattle.std.specs.Ordering.{int_cmp, is_eq}
 use Rattle.std.specs.BTreeMap.{insert_entry}
-use Rattle.sdd_lang.specs.base.Order.{column, value_cmp, meets, with_values}
-use Rattle.sdd_lang.specs.base.Words.{first_some}
-use Rattle.sdd_lang.specs.base.declared.value.Value.{Value}
-use Rattle.sdd_lang.specs.base.declared.value.Value.TheVariants.{Int}
-use Rattle.sdd_lang.specs.base.declared.usage.Use.{Use}
-use Rattle.sdd_lang.specs.base.declared.restriction.Restriction.{Restriction}
-use Rattle.sdd_lang.specs.base.declared.restriction.Op.TheVariants.{Le}
+use Rattle.sdd_lang.specs.All.{Int, Le, Restriction, Use, Value, column, first_some, meets, value_cmp, with_values}
 
 -- what the copy of each fragment holds: rows with their keys, ascending
 abbrev pub CopyRows : Type 0

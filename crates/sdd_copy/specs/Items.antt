@@ -3,12 +3,7 @@ use Rattle.std.specs.Prelude.{ℕ, nat_lt, ◌≡◌, ℤ, pos, cond, Bool, true
 use Rattle.std.specs.Ordering.{int_cmp}
 use Rattle.std.specs.Map.{lookup}
 use Rattle.std.specs.BTreeMap.{insert_entry, is_at}
-use Rattle.sdd_lang.specs.base.Numbers.{frag_no}
-use Rattle.sdd_lang.specs.base.Order.{column, number_in}
-use Rattle.sdd_lang.specs.base.declared.number.FragNo.{FragNo}
-use Rattle.sdd_lang.specs.base.declared.value.Value.{Value}
-use Rattle.sdd_lang.specs.base.declared.value.Value.TheVariants.{Int}
-use Rattle.sdd_lang.specs.base.declared.change.Change.{Change}
+use Rattle.sdd_lang.specs.All.{Change, FragNo, Int, Value, column, frag_no, number_in}
 use Rattle.sdd_copy.specs.Contents.{Dated, rows_left}
 
 -- by key the date of the last change that was applied, and its row, or None where it was a deletion

@@ -2,11 +2,7 @@
 use Rattle.std.specs.Prelude.{ℕ, ◌≡◌, ℤ, int_le, Bool, ◌&&◌, true, List, [], ◌∷◌, filter, Option, Some, None, IfSome, FitsSigned}
 use Rattle.std.specs.Int.{w64}
 use Rattle.std.specs.List.{All, list_all}
-use Rattle.sdd_lang.specs.base.Order.{column, meets}
-use Rattle.sdd_lang.specs.base.declared.value.Value.{Value}
-use Rattle.sdd_lang.specs.base.declared.value.Value.TheVariants.{Int}
-use Rattle.sdd_lang.specs.base.declared.restriction.Restriction.{Restriction}
-use Rattle.sdd_lang.specs.Uses.{Interval, IsWithin, all_keys, common}
+use Rattle.sdd_lang.specs.All.{Int, Interval, IsWithin, Restriction, Value, all_keys, column, common, meets}
 use Rattle.sdd_copy.specs.Items.{Items, entries_in}
 
 -- an item's key is a whole number of 64 bits

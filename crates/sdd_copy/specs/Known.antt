@@ -2,8 +2,7 @@
 use Rattle.std.specs.Prelude.{ℕ, ◌==◌, Bool, if◌then◌else◌, List, filter}
 use Rattle.std.specs.List.{list_any}
 use Rattle.std.specs.Ordering.{is_eq}
-use Rattle.sdd_lang.specs.base.Order.{column, value_cmp}
-use Rattle.sdd_lang.specs.base.declared.value.Value.{Value}
+use Rattle.sdd_lang.specs.All.{Value, column, value_cmp}
 
 abbrev pub is_known : List Value → Value → Bool
 is_known known v = list_any (λ x. is_eq (value_cmp v x)) known

@@ -1,6 +1,6 @@
 -- When dated changes are one set, whose order tells nothing.
 use Rattle.std.specs.Prelude.{ℕ, ◌≡◌, Contains}
-use Rattle.sdd_lang.specs.base.declared.change.Change.{Change}
+use Rattle.sdd_lang.specs.All.{Change}
 use Rattle.sdd_copy.specs.Contents.{Dated}
 
 -- two different changes of one item have different dates

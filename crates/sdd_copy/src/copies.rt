@@ -20,7 +20,7 @@ pub struct Copies {
 impl Model for Copies {
     ghost use Rattle.std.specs.Prelude.{◌≡◌, true};
     ghost use Rattle.std.specs.List.{All};
-    ghost use Rattle.sdd_lang.specs.base.Kept.{Kept};
+    ghost use Rattle.sdd_lang.specs.All.{Kept};
     ghost use Rattle.sdd_copy.specs.Copies.{Held, held_in, IsLive};
 
     ghost Value = { Kept Held };

@@ -1,6 +1,5 @@
 ghost use Rattle.std.specs.Prelude.{◌≡◌, [], ◌∷◌, ◌++◌, OnOk, OnErr, IfOk, IfSome, IsTrue, map, filter, fold, true, false};
-ghost use Rattle.sdd_lang.specs.base.declared.number.FragNo.{FragNo};
-ghost use Rattle.sdd_lang.specs.Uses.{common, all_keys};
+ghost use Rattle.sdd_lang.specs.All.{FragNo, all_keys, common};
 ghost use Rattle.sdd_copy.specs.Contents.{Dated, rows_left};
 ghost use Rattle.sdd_copy.specs.Items.{written, items_of, dated, initial, rows_in};
 ghost use Rattle.sdd_copy.specs.Keyed.{is_within, rows_meeting};
@@ -22,7 +21,7 @@ pub struct FragCopy {
 }
 
 impl Model for FragCopy {
-    ghost use Rattle.sdd_lang.specs.base.Kept.{Kept};
+    ghost use Rattle.sdd_lang.specs.All.{Kept};
     ghost use Rattle.sdd_copy.specs.Items.{Items};
 
     ghost Value = { Kept Items };

@@ -3,10 +3,7 @@ ghost use Rattle.std.specs.Prelude.{◌≡◌, [], ◌∷◌, All, IsTrue, IfSom
 ghost use Rattle.std.specs.Option.{option_copied};
 ghost use Rattle.std.specs.Ordering.{int_cmp};
 ghost use Rattle.std.specs.BTreeMap.{insert_entry};
-ghost use Rattle.sdd_lang.specs.base.Order.{column, number_in};
-ghost use Rattle.sdd_lang.specs.base.declared.number.FragNo.{FragNo};
-ghost use Rattle.sdd_lang.specs.base.declared.value.Value.TheVariants.{Int};
-ghost use Rattle.sdd_lang.specs.Uses.{common, all_keys};
+ghost use Rattle.sdd_lang.specs.All.{FragNo, Int, all_keys, column, common, number_in};
 ghost use Rattle.sdd_copy.specs.Items.{written, initial, is_newer};
 ghost use Rattle.sdd_copy.specs.Keyed.{HasKey, IsNear, is_within, one_at};
 

@@ -1,10 +1,8 @@
 //! What restrictions admit: rows, and keys near these rows.
 ghost use Rattle.std.specs.Prelude.{◌≡◌, ◌↔◌, All, IsTrue};
 ghost use Rattle.std.specs.List.{list_all};
-ghost use Rattle.sdd_lang.specs.base.Order.{meets};
+ghost use Rattle.sdd_lang.specs.All.{IsOfKeys, kind_of, meets};
 ghost use Rattle.sdd_lang.specs.catalog.declared.parts.Kind.TheVariants.{Int};
-ghost use Rattle.sdd_lang.specs.Fits.{kind_of};
-ghost use Rattle.sdd_lang.specs.Uses.{IsOfKeys};
 
 use sdd_lang::sdd_base::{Restriction, Row, Value};
 use sdd_lang::{compare, value_in};

@@ -1,6 +1,6 @@
 //! Sets of values of a column, and the rows whose column is among them.
 ghost use Rattle.std.specs.Prelude.{◌≡◌, [], OnOk, IfOk, filter, map};
-ghost use Rattle.sdd_lang.specs.base.Order.{column, with_values};
+ghost use Rattle.sdd_lang.specs.All.{column, with_values};
 ghost use Rattle.sdd_copy.specs.Known.{is_known, known_use};
 
 use sdd_lang::sdd_base::{NoMemory, Parcel, Row, RowList, Value};

@@ -4,12 +4,8 @@ use Rattle.std.specs.Prelude.{◌&&◌}
 use Rattle.std.specs.Bool.{if◌then◌else◌}
 use Rattle.std.specs.List.{Contains, range_with_len, flat_map}
 use Rattle.std.proofs.lemmas.List.Elements.{Contains-append_left, Contains-append_right, Contains-append_cases}
-use Rattle.sdd_module.specs.base.declared.change.Change.{Change}
-use Rattle.sdd_module.specs.base.declared.site.Site.{Site}
+use Rattle.sdd_module.specs.All.{Change, Did, Handed, Log, Msg, Rec, Records, Redeclared, Sends, Setting, Site, Submits, Ticked}
 use Rattle.sdd_module.proofs.base.Membership.{Contains-nil, Contains-here, Contains-later, Contains-cases}
-use Rattle.sdd_module.specs.history.declared.record.Rec.{Rec}
-use Rattle.sdd_module.specs.wire.declared.msg.Msg.{Msg}
-use Rattle.sdd_module.specs.SiteLog.{Setting, Log, Handed, Ticked, Submits, Redeclared, Did, Records, Sends}
 use Rattle.sdd_copy.specs.Contents.{Dated}
 use Rattle.sdd_copy.specs.Sets.{DatesDiffer, AreSame}
 use Rattle.sdd_pipe.specs.Pipe.{head}

@@ -1,16 +1,7 @@
 -- A FETCH, REDUCE or SHIP is answered from the held rows; and all messages together.
 use Rattle.std.proofs.Common.{ℕ, suc, ◌<◌, ◌≤◌, ◌==◌, false, List, [], ◌∷◌, length, ◌≡◌, refl, ap, ◌∙◌, arith, sym, subst, Option, Some, None}
 use Rattle.std.specs.Bool.{if◌then◌else◌}
-use Rattle.sdd_module.specs.base.declared.site.Site.{Site}
-use Rattle.sdd_module.specs.base.declared.value.Value.{Value}
-use Rattle.sdd_module.specs.base.declared.number.Ts.{Ts}
-use Rattle.sdd_module.specs.base.declared.number.ClassNo.{ClassNo}
-use Rattle.sdd_module.specs.wire.declared.msg.Msg.{Msg}
-use Rattle.sdd_module.specs.wire.declared.msg.Msg.TheVariants.{Read, Fetch, Values, Reduce, Reduced, Ship, Rows, Write, Null}
-use Rattle.sdd_module.specs.wire.Piped.{goes_through}
-use Rattle.sdd_module.specs.SiteLog.{Setting, Bases, Log, Handed, Did, Act, Sends, hands}
-use Rattle.sdd_module.specs.Notes.{Notes, nothing_noted}
-use Rattle.sdd_module.specs.Making.{Reached}
+use Rattle.sdd_module.specs.All.{Act, Bases, ClassNo, Did, Fetch, Handed, Log, Msg, Notes, Null, Reached, Read, Reduce, Reduced, Rows, Sends, Setting, Ship, Site, Ts, Value, Values, Write, goes_through, hands, nothing_noted}
 use Rattle.sdd_module.proofs.Making.{made_nothing, made_one}
 use Rattle.sdd_copy.specs.Sets.{DatesDiffer}
 use Rattle.sdd_copy.specs.Frozen.{Frozen, values_in}

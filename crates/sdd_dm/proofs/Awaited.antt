@@ -3,12 +3,7 @@ use Rattle.std.proofs.Common.{ℕ, zero, suc, ◌+◌, ◌<◌, ◌≤◌, Bool,
 use Rattle.std.specs.Prelude.{◌==◌, ◌&&◌, find}
 use Rattle.std.specs.Bool.{if◌then◌else◌}
 use Rattle.std.specs.List.{list_all, range_with_len}
-use Rattle.sdd_module.specs.base.Kept.{Kept}
-use Rattle.sdd_module.specs.base.Words.{or_else, first_some}
-use Rattle.sdd_module.specs.base.declared.condition.Cond.{Cond}
-use Rattle.sdd_module.specs.wire.declared.msg.Msg.{Msg}
-use Rattle.sdd_module.specs.wire.declared.msg.Msg.TheVariants.{Read}
-use Rattle.sdd_module.specs.SiteLog.{Setting, Log}
+use Rattle.sdd_module.specs.All.{Cond, Kept, Log, Msg, Read, Setting, first_some, or_else}
 use Rattle.sdd_dm.specs.declared.step.Step.{Step}
 use Rattle.sdd_dm.specs.declared.step.Step.TheVariants.{Processes}
 use Rattle.sdd_dm.specs.Pipes.{waits}

@@ -8,15 +8,8 @@ use Rattle.std.specs.Option.{option_map}
 use Rattle.std.specs.Ordering.{match_ordering}
 use Rattle.std.specs.declared.cmp.Ordering.TheVariants.{Less, Equal, Greater}
 use Rattle.std.specs.BTreeMap.{insert_entry}
-use Rattle.sdd_module.specs.base.declared.value.Value.{Value}
-use Rattle.sdd_module.specs.base.declared.change.Change.{Change}
-use Rattle.sdd_module.specs.base.declared.number.RelNo.{RelNo}
-use Rattle.sdd_module.specs.base.Numbers.{frag_no}
-use Rattle.sdd_module.specs.base.declared.number.FragNo.{FragNo}
-use Rattle.sdd_module.specs.catalog.Catalogue.{Catalogue, fragment_of}
-use Rattle.sdd_module.specs.lang.Sound.{IsEntry}
+use Rattle.sdd_module.specs.All.{Catalogue, Change, Database, FragNo, IsEntry, Item, RelNo, Row, Value, frag_no, fragment_of, item_cmp, key_in, with_row}
 use Rattle.sdd_copy.specs.Contents.{Dated}
-use Rattle.sdd_module.specs.lang.Database.{Item, Row, Database, item_cmp, with_row, key_in}
 use Rattle.sdd_copy.specs.Items.{Items, written}
 use Rattle.sdd_copy.specs.Copies.{Held, is_here, changed_at, with_change}
 use Rattle.sdd_dm.specs.Copies.{first_row}

@@ -3,7 +3,7 @@ use Rattle.std.proofs.Common.{ℕ, zero, suc, ◌+◌, ◌<◌, ◌≤◌, ◌�
 use Rattle.std.specs.Prelude.{slice_index_or, filter, ◌||◌}
 use Rattle.std.specs.List.{list_any, list_all, range_with_len}
 use Rattle.std.proofs.lemmas.Bool.Decides.{nat_tests}
-use Rattle.sdd_module.specs.base.Words.{or_else, first_some}
+use Rattle.sdd_module.specs.All.{first_some, or_else}
 use Rattle.sdd_pipe.specs.Pipes.{update}
 
 -- an element of a changed list

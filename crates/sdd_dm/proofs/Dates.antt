@@ -7,13 +7,8 @@ use Rattle.std.specs.Ordering.{nat_cmp, int_cmp, ordering_then, is_eq}
 use Rattle.std.proofs.lemmas.Bool.Decides.{nat_tests}
 use Rattle.std.proofs.lemmas.List.Elements.{Contains-append_left, Contains-append_right, Contains-append_cases}
 use Rattle.std.proofs.lemmas.Map.Keys.{IsDistinct-head, IsDistinct-tail}
-use Rattle.sdd_module.specs.base.Words.{contains}
-use Rattle.sdd_module.specs.base.declared.change.Change.{Change}
+use Rattle.sdd_module.specs.All.{Change, Did, Handed, Item, Log, Msg, Redeclared, Setting, Submits, Ticked, Write, contains, database_of, item_cmp}
 use Rattle.sdd_module.proofs.base.Membership.{Contains-nil, Contains-here, Contains-later, Contains-cases}
-use Rattle.sdd_module.specs.lang.Database.{Item, item_cmp, database_of}
-use Rattle.sdd_module.specs.wire.declared.msg.Msg.{Msg}
-use Rattle.sdd_module.specs.wire.declared.msg.Msg.TheVariants.{Write}
-use Rattle.sdd_module.specs.SiteLog.{Setting, Log, Handed, Ticked, Submits, Redeclared, Did}
 use Rattle.sdd_copy.specs.Contents.{Dated}
 use Rattle.sdd_copy.specs.Sets.{DatesDiffer}
 use Rattle.sdd_copy.proofs.Contents.{is_own}

@@ -7,16 +7,9 @@ use Rattle.std.specs.Ordering.{eq_by_cmp}
 use Rattle.std.proofs.lemmas.List.{length-replicate}
 use Rattle.std.proofs.lemmas.List.Elements.{All-contains}
 use Rattle.std.proofs.lemmas.Map.Keys.{IsDistinct-from_sorted, IsDistinct-head, IsDistinct-tail}
-use Rattle.sdd_module.specs.base.declared.number.DmNo.{DmNo}
-use Rattle.sdd_module.specs.base.declared.number.RelNo.{RelNo}
-use Rattle.sdd_module.specs.base.declared.site.Site.TheVariants.{D}
+use Rattle.sdd_module.specs.All.{Catalogue, D, Database, DmNo, IsDatabase, IsEntry, IsSound, Item, RelNo, Row, Setting, database_of, fragment_at, fragment_of, has_copy, item_cmp}
 use Rattle.sdd_module.proofs.base.Membership.{Contains-nil, Contains-cases}
-use Rattle.sdd_module.specs.catalog.Catalogue.{Catalogue, fragment_at, fragment_of, has_copy}
-use Rattle.sdd_module.specs.catalog.Rules.{IsSound}
-use Rattle.sdd_module.specs.lang.Database.{Item, Row, Database, item_cmp, database_of}
-use Rattle.sdd_module.specs.lang.Sound.{IsEntry, IsDatabase}
 use Rattle.sdd_module.proofs.lang.KeyRanges.{key_in_range, fragment_holds}
-use Rattle.sdd_module.specs.SiteLog.{Setting}
 use Rattle.sdd_copy.specs.Sets.{DatesDiffer}
 use Rattle.sdd_copy.specs.Copies.{Held, is_here, StandFor}
 use Rattle.sdd_pipe.specs.Digest.{empty_digest, IsDigest}

@@ -2,10 +2,7 @@
 use Rattle.std.proofs.Common.{ℕ, zero, suc, ◌+◌, ◌<◌, ◌≤◌, Bool, List, [], length, ◌≡◌, refl, ap, ◌∙◌, arith, sym, subst, Option, Some, None}
 use Rattle.std.specs.Prelude.{filter}
 use Rattle.std.specs.List.{range_with_len}
-use Rattle.sdd_module.specs.base.Words.{head_of, or_else, first_some}
-use Rattle.sdd_module.specs.base.declared.number.ClassNo.{ClassNo}
-use Rattle.sdd_module.specs.wire.declared.msg.Msg.{Msg}
-use Rattle.sdd_module.specs.SiteLog.{Setting, Log, Act}
+use Rattle.sdd_module.specs.All.{Act, ClassNo, Log, Msg, Setting, first_some, head_of, or_else}
 use Rattle.sdd_pipe.specs.Pipe.{head}
 use Rattle.sdd_pipe.specs.Digest.{Digest}
 use Rattle.sdd_dm.specs.declared.step.Step.{Step}

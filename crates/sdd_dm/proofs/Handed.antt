@@ -1,10 +1,7 @@
 -- What stands in a pipe was handed.
 use Rattle.std.proofs.Common.{ℕ, Bool, true, false, List, [], ◌∷◌, ◌++◌, ◌≡◌, sym, subst, Some}
 use Rattle.std.specs.Bool.{if◌then◌else◌}
-use Rattle.sdd_module.specs.base.Words.{head_of}
-use Rattle.sdd_module.specs.wire.declared.msg.Msg.{Msg}
-use Rattle.sdd_module.specs.wire.Piped.{goes_through}
-use Rattle.sdd_module.specs.SiteLog.{Log, Handed, Ticked, Submits, Redeclared, Did}
+use Rattle.sdd_module.specs.All.{Did, Handed, Log, Msg, Redeclared, Submits, Ticked, goes_through, head_of}
 use Rattle.sdd_pipe.specs.Pipe.{head}
 use Rattle.sdd_dm.specs.Pipes.{pipe}
 use Rattle.sdd_dm.specs.Stands.{EachHanded}

@@ -3,11 +3,7 @@ use Rattle.std.proofs.Common.{ℕ, zero, suc, ◌<◌, Bool, true, false, List, 
 use Rattle.std.specs.Prelude.{IsTrue}
 use Rattle.std.specs.Bool.{if◌then◌else◌}
 use Rattle.std.specs.List.{list_all}
-use Rattle.sdd_module.specs.base.Words.{head_of}
-use Rattle.sdd_module.specs.base.declared.number.ClassNo.{ClassNo}
-use Rattle.sdd_module.specs.base.declared.condition.Cond.{Cond}
-use Rattle.sdd_module.specs.wire.declared.msg.Msg.{Msg}
-use Rattle.sdd_module.specs.wire.declared.msg.Msg.TheVariants.{Read, Reduce, Ship, Write, Null}
+use Rattle.sdd_module.specs.All.{ClassNo, Cond, Msg, Null, Read, Reduce, Ship, Write, head_of}
 use Rattle.sdd_pipe.specs.Digest.{Digest, Writes, put_digest, take_digest}
 use Rattle.sdd_pipe.specs.Pipes.{update, pipe_at}
 use Rattle.sdd_pipe.proofs.Updates.{length-update}

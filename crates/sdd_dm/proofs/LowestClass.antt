@@ -1,11 +1,7 @@
 -- Of conditions that ascend by class the first that spoils a READ is that of the lowest class.
 use Rattle.std.proofs.Common.{ℕ, zero, suc, ◌≤◌, ◌<◌, Bool, true, false, List, [], ◌∷◌, ◌≡◌, refl, ap, ◌∙◌, sym, subst, arith, map, Some}
 use Rattle.std.specs.Prelude.{filter, slice_get, not}
-use Rattle.sdd_module.specs.base.Numbers.{time_at}
-use Rattle.sdd_module.specs.base.Words.{head_of}
-use Rattle.sdd_module.specs.base.declared.condition.Cond.{Cond}
-use Rattle.sdd_module.specs.base.declared.number.ClassNo.{ClassNo}
-use Rattle.sdd_module.specs.base.declared.number.Ts.{Ts}
+use Rattle.sdd_module.specs.All.{ClassNo, Cond, Ts, head_of, time_at}
 use Rattle.sdd_dm.specs.declared.step.Step.TheVariants.{Refuses}
 use Rattle.sdd_dm.specs.Due.{is_met, judge, judged, last_write_for, or_zero, spoils}
 use Rattle.sdd_dm.specs.Fits.{Ascend}

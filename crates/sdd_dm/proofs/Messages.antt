@@ -2,20 +2,7 @@
 use Rattle.std.proofs.Common.{ℕ, suc, ◌≤◌, ◌==◌, Bool, true, false, List, [], ◌∷◌, ◌++◌, length, ◌≡◌, refl, ap, ◌∙◌, arith, sym, subst, Some, None}
 use Rattle.std.specs.Prelude.{◌&&◌, ◌||◌, filter}
 use Rattle.std.specs.Bool.{if◌then◌else◌}
-use Rattle.sdd_module.specs.base.Words.{head_of, or_else, first_some}
-use Rattle.sdd_module.specs.base.declared.site.Site.{Site}
-use Rattle.sdd_module.specs.base.declared.condition.Cond.{Cond}
-use Rattle.sdd_module.specs.base.declared.usage.Use.{Use}
-use Rattle.sdd_module.specs.base.declared.number.Ts.{Ts}
-use Rattle.sdd_module.specs.base.declared.number.ClassNo.{ClassNo}
-use Rattle.sdd_module.specs.base.declared.number.TxnNo.{TxnNo}
-use Rattle.sdd_module.specs.history.declared.record.Rec.{Rec}
-use Rattle.sdd_module.specs.history.declared.record.Rec.TheVariants.{Arrive}
-use Rattle.sdd_module.specs.wire.declared.msg.Msg.{Msg}
-use Rattle.sdd_module.specs.wire.declared.msg.Msg.TheVariants.{Read}
-use Rattle.sdd_module.specs.wire.Piped.{goes_through}
-use Rattle.sdd_module.specs.SiteLog.{Setting, Log, Handed, Did, Act, Records, hands}
-use Rattle.sdd_module.specs.Notes.{nothing_noted}
+use Rattle.sdd_module.specs.All.{Act, Arrive, ClassNo, Cond, Did, Handed, Log, Msg, Read, Rec, Records, Setting, Site, Ts, TxnNo, Use, first_some, goes_through, hands, head_of, nothing_noted, or_else}
 use Rattle.sdd_module.proofs.Making.{made_one}
 use Rattle.sdd_copy.specs.Sets.{DatesDiffer}
 use Rattle.sdd_copy.specs.Copies.{StandFor}

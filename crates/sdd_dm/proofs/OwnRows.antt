@@ -11,11 +11,7 @@ use Rattle.std.specs.BTreeMap.{insert_entry}
 use Rattle.std.proofs.lemmas.List.Elements.{All-filter}
 use Rattle.std.proofs.lemmas.Map.Keys.{sorted_head, sorted_tail}
 use Rattle.std.proofs.lemmas.Map.Lookups.{CmpEqualImpliesEq}
-use Rattle.sdd_module.specs.base.declared.number.RelNo.{RelNo}
-use Rattle.sdd_module.specs.base.declared.value.Value.{Value}
-use Rattle.sdd_module.specs.catalog.Catalogue.{Catalogue, fragment_of}
-use Rattle.sdd_module.specs.lang.Database.{Item, Row, Database, item_cmp, with_row, key_in, database_of}
-use Rattle.sdd_module.specs.lang.Sound.{IsEntry}
+use Rattle.sdd_module.specs.All.{Catalogue, Database, IsEntry, Item, RelNo, Row, Value, database_of, fragment_of, item_cmp, key_in, with_row}
 use Rattle.sdd_module.proofs.lang.SortedEntries.{item_cmp_total, item_cmp_exact, inserted_sorted, sorted_nil}
 use Rattle.sdd_copy.specs.Copies.{Held, is_here, with_change}
 use Rattle.sdd_copy.proofs.Standing.{here_more}

@@ -1,11 +1,8 @@
 -- What is processed of a pipe is a prefix of what was handed for it.
 use Rattle.std.proofs.Common.{ℕ, Bool, true, false, List, [], ◌∷◌, ◌++◌, ◌≡◌, refl, ap, ◌∙◌, sym, append_assoc, append-nil}
 use Rattle.std.specs.Bool.{if◌then◌else◌}
-use Rattle.sdd_module.specs.base.Words.{head_of, tail_of}
-use Rattle.sdd_module.specs.wire.declared.msg.Msg.{Msg}
-use Rattle.sdd_module.specs.SiteLog.{Log, Handed, Ticked, Submits, Redeclared, Did, Act, Records, Sends}
+use Rattle.sdd_module.specs.All.{Act, Did, Handed, Log, Msg, Records, Redeclared, Sends, Submits, Ticked, goes_through, head_of, tail_of}
 use Rattle.sdd_pipe.specs.Pipe.{Pipe, put, head_processed, one_or_none}
-use Rattle.sdd_module.specs.wire.Piped.{goes_through}
 use Rattle.sdd_dm.specs.Pipes.{pipe_acted, pipe}
 
 -- the messages for the pipe of class c, in the order of their hands

@@ -2,7 +2,7 @@
 use Rattle.std.proofs.Common.{ℕ, suc, ◌+◌, ◌-◌, ◌<◌, ◌≤◌, Bool, true, false, List, [], ◌∷◌, ◌≡◌, refl, ap, ◌∙◌, arith, sym, Option, Some, None}
 use Rattle.std.specs.Prelude.{◌||◌}
 use Rattle.std.specs.List.{list_any, range_with_len}
-use Rattle.sdd_module.specs.base.Words.{or_else, first_some}
+use Rattle.sdd_module.specs.All.{first_some, or_else}
 
 -- what is left of the range up to n
 abbrev pub from : ℕ → ℕ → List ℕ

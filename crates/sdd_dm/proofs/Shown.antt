@@ -3,13 +3,7 @@ use Rattle.std.proofs.Common.{ℕ, suc, ◌<◌, ◌≤◌, Bool, true, false, n
 use Rattle.std.specs.Prelude.{◌==◌, ◌&&◌, filter, find}
 use Rattle.std.specs.Bool.{if◌then◌else◌}
 use Rattle.std.specs.List.{list_any, range_with_len}
-use Rattle.sdd_module.specs.base.Words.{head_of}
-use Rattle.sdd_module.specs.base.Numbers.{time_at}
-use Rattle.sdd_module.specs.base.declared.condition.Cond.{Cond}
-use Rattle.sdd_module.specs.base.declared.change.Change.{Change}
-use Rattle.sdd_module.specs.wire.declared.msg.Msg.{Msg}
-use Rattle.sdd_module.specs.wire.declared.msg.Msg.TheVariants.{Read, Write, Null}
-use Rattle.sdd_module.specs.SiteLog.{Setting, Log}
+use Rattle.sdd_module.specs.All.{Change, Cond, Log, Msg, Null, Read, Setting, Write, head_of, time_at}
 use Rattle.sdd_pipe.specs.Pipe.{empty_pipe, head}
 use Rattle.sdd_pipe.specs.Digest.{empty_digest, IsDigest}
 use Rattle.sdd_pipe.specs.Pipes.{pipe_at}

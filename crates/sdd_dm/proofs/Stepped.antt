@@ -5,19 +5,7 @@ use Rattle.std.specs.Bool.{if◌then◌else◌}
 use Rattle.std.specs.List.{All}
 use Rattle.std.proofs.lemmas.List.{take_all}
 use Rattle.std.proofs.lemmas.List.Elements.{All-weaker}
-use Rattle.sdd_module.specs.base.Kept.{Kept}
-use Rattle.sdd_module.specs.base.Sites.{number_of}
-use Rattle.sdd_module.specs.base.declared.site.Site.{Site}
-use Rattle.sdd_module.specs.base.declared.usage.Use.{Use}
-use Rattle.sdd_module.specs.base.declared.number.Ts.{Ts}
-use Rattle.sdd_module.specs.base.declared.number.ClassNo.{ClassNo}
-use Rattle.sdd_module.specs.base.declared.number.TxnNo.{TxnNo}
-use Rattle.sdd_module.specs.base.declared.condition.Cond.{Cond}
-use Rattle.sdd_module.specs.catalog.Catalogue.{has_copy}
-use Rattle.sdd_module.specs.history.declared.record.Rec.{Rec}
-use Rattle.sdd_module.specs.wire.declared.msg.Msg.{Msg}
-use Rattle.sdd_module.specs.wire.declared.msg.Msg.TheVariants.{Read}
-use Rattle.sdd_module.specs.SiteLog.{Setting, Log, Did, Records}
+use Rattle.sdd_module.specs.All.{ClassNo, Cond, Did, Kept, Log, Msg, Read, Rec, Records, Setting, Site, Ts, TxnNo, Use, has_copy, number_of}
 use Rattle.sdd_copy.specs.Contents.{Dated, contents}
 use Rattle.sdd_copy.specs.Sets.{DatesDiffer, AreSame}
 use Rattle.sdd_copy.specs.Copies.{Held, is_here, rows_at, with_change, StandFor, AreHere}

@@ -1,11 +1,6 @@
 -- A call that took a message did what the log has next, and stands for the log after it.
 use Rattle.std.proofs.Common.{Bool, true, List, ◌∷◌, ◌≡◌, refl, ap, ◌∙◌, subst, None}
-use Rattle.sdd_module.specs.base.Kept.{Kept}
-use Rattle.sdd_module.specs.base.declared.site.Site.{Site}
-use Rattle.sdd_module.specs.history.declared.record.Rec.{Rec}
-use Rattle.sdd_module.specs.wire.declared.msg.Msg.{Msg}
-use Rattle.sdd_module.specs.SiteLog.{Setting, Bases, Log, Handed, Does}
-use Rattle.sdd_module.specs.Notes.{Notes, nothing_noted}
+use Rattle.sdd_module.specs.All.{Bases, Does, Handed, Kept, Log, Msg, Notes, Rec, Setting, Site, nothing_noted}
 use Rattle.sdd_module.proofs.Does.{all_noted, does_reached}
 use Rattle.sdd_dm.specs.Views.{home_of}
 use Rattle.sdd_dm.specs.Due.{next}

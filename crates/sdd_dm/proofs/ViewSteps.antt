@@ -1,7 +1,6 @@
 -- The view after an entry is a function of the view before it, and what is next is due.
 use Rattle.std.proofs.Common.{ℕ, ◌∷◌, ◌++◌, map, ◌≡◌, refl, ap, sym, Some}
-use Rattle.sdd_module.specs.base.Words.{first_some}
-use Rattle.sdd_module.specs.SiteLog.{Setting, Log, Entry, Handed, Ticked, Submits, Redeclared, Did, Act}
+use Rattle.sdd_module.specs.All.{Act, Did, Entry, Handed, Log, Redeclared, Setting, Submits, Ticked, first_some}
 use Rattle.sdd_module.proofs.Finding.{map_twice, flat_map-map, found_at, one_of}
 use Rattle.sdd_dm.specs.Pipes.{pipe}
 use Rattle.sdd_dm.specs.Copies.{classes_of, first_rows, dated, frozen, frozen_acted}

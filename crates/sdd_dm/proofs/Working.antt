@@ -1,13 +1,7 @@
 -- Each step of a head is the act that is due next, and the state after it shows the log with that act.
 use Rattle.std.proofs.Common.{ℕ, ◌≤◌, Bool, true, false, [], ◌∷◌, length, map, ◌≡◌, refl, ap, ◌∙◌, arith, sym, subst, Option, Some, None}
-use Rattle.sdd_module.specs.base.declared.site.Site.{Site}
-use Rattle.sdd_module.specs.base.declared.number.ClassNo.{ClassNo}
-use Rattle.sdd_module.specs.history.declared.record.Rec.TheVariants.{Wait, Answer, Reject as Rejected, Apply, Pass}
-use Rattle.sdd_module.specs.wire.declared.msg.Msg.{Msg}
-use Rattle.sdd_module.specs.wire.declared.msg.Msg.TheVariants.{Read, Ready, Reject, Write, Null, Done}
-use Rattle.sdd_module.specs.SiteLog.{Setting, Bases, Log, Handed, Did, Act, Records, Sends}
-use Rattle.sdd_module.specs.Notes.{Notes, nothing_noted, with_act}
-use Rattle.sdd_module.specs.Making.{Reached}
+use Rattle.sdd_module.specs.All.{Act, Answer, Apply, Bases, ClassNo, Did, Done, Handed, Log, Msg, Notes, Null, Pass, Reached, Read, Ready, Records, Reject, Sends, Setting, Site, Wait, Write, nothing_noted, with_act}
+use Rattle.sdd_module.specs.history.declared.record.Rec.TheVariants.{Reject as Rejected}
 use Rattle.sdd_module.proofs.Does.{reached_more}
 use Rattle.sdd_copy.specs.Items as items
 use Rattle.sdd_copy.specs.Frozen.{Frozen, counts_of}

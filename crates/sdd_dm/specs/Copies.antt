@@ -1,16 +1,7 @@
 -- The copies of a data module and the rows that it holds frozen, as the log of its site gives them.
 use Rattle.std.specs.Prelude.{ℕ, suc, ◌==◌, Bool, true, false, ◌&&◌, if◌then◌else◌, List, [], ◌∷◌, ◌++◌, map, length, Option, Some, None}
 use Rattle.std.specs.List.{range_with_len, flat_map}
-use Rattle.sdd_module.specs.base.Numbers.{frag_no}
-use Rattle.sdd_module.specs.base.declared.value.Value.{Value}
-use Rattle.sdd_module.specs.base.declared.change.Change.{Change}
-use Rattle.sdd_module.specs.catalog.Catalogue.{Catalogue, fragment_of}
-use Rattle.sdd_module.specs.lang.Database.{Row, Item, database_of}
-use Rattle.sdd_module.specs.history.declared.record.Rec.{Rec}
-use Rattle.sdd_module.specs.history.declared.record.Rec.TheVariants.{Answer, Apply}
-use Rattle.sdd_module.specs.wire.declared.msg.Msg.{Msg}
-use Rattle.sdd_module.specs.wire.declared.msg.Msg.TheVariants.{Read, Write, Reduce, Rows}
-use Rattle.sdd_module.specs.SiteLog.{Setting, Log, Handed, Did, Act, Records, Sends}
+use Rattle.sdd_module.specs.All.{Act, Answer, Apply, Catalogue, Change, Did, Handed, Item, Log, Msg, Read, Rec, Records, Reduce, Row, Rows, Sends, Setting, Value, Write, database_of, frag_no, fragment_of}
 use Rattle.sdd_copy.specs.Contents.{Dated, contents}
 use Rattle.sdd_pipe.specs.Pipe.{Pipe, head}
 use Rattle.sdd_copy.specs.Frozen.{Frozen, CopyRows, frozen_for, rows_of, reduced, counts_of, all_rows}

@@ -2,16 +2,8 @@
 -- pipe may do.
 use Rattle.std.specs.Prelude.{ℕ, nat_le, ◌≡◌, ◌==◌, Bool, true, false, not, ◌&&◌, if◌then◌else◌, List, [], ◌∷◌, map, filter, length, slice_get, Option, Some, None}
 use Rattle.std.specs.List.{list_any, list_all}
-use Rattle.sdd_module.specs.base.Words.{head_of, or_else, first_some}
-use Rattle.sdd_module.specs.base.Numbers.{time_at}
-use Rattle.sdd_module.specs.base.declared.site.Site.{Site}
-use Rattle.sdd_module.specs.base.declared.site.Site.TheVariants.{U}
-use Rattle.sdd_module.specs.base.declared.condition.Cond.{Cond}
-use Rattle.sdd_module.specs.base.declared.change.Change.{Change}
-use Rattle.sdd_module.specs.history.declared.record.Rec.TheVariants.{Arrive, Wait, Answer, Reject as Rejected, Apply, Pass}
-use Rattle.sdd_module.specs.wire.declared.msg.Msg.{Msg}
-use Rattle.sdd_module.specs.wire.declared.msg.Msg.TheVariants.{Read, Ready, Reject, Fetch, Values, Reduce, Reduced, Ship, Rows, Write, Null, Ask, Done}
-use Rattle.sdd_module.specs.SiteLog.{Setting, Bases, Log, Act, Records, Sends}
+use Rattle.sdd_module.specs.All.{Act, Answer, Apply, Arrive, Ask, Bases, Change, Cond, Done, Fetch, Log, Msg, Null, Pass, Read, Ready, Records, Reduce, Reduced, Reject, Rows, Sends, Setting, Ship, Site, U, Values, Wait, Write, first_some, head_of, or_else, time_at}
+use Rattle.sdd_module.specs.history.declared.record.Rec.TheVariants.{Reject as Rejected}
 use Rattle.sdd_copy.specs.Frozen.{values_in}
 use Rattle.sdd_pipe.specs.Pipe.{head, passed, last_write, touches}
 use Rattle.sdd_dm.specs.declared.step.Step.{Step}

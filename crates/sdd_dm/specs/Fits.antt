@@ -2,18 +2,7 @@
 use Rattle.std.specs.Prelude.{ℕ, ◌≤◌, ◌<◌, ◌^◌, ◌≡◌, max, true, false, List, [], ◌∷◌, ◌++◌, map, fold, length, Option, Some, None, IfSome}
 use Rattle.std.specs.List.{All, IsDistinct}
 use Rattle.std.specs.Ordering.{is_eq}
-use Rattle.sdd_module.specs.base.Sites.{number_of}
-use Rattle.sdd_module.specs.base.declared.site.Site.{Site}
-use Rattle.sdd_module.specs.base.declared.condition.Cond.{Cond}
-use Rattle.sdd_module.specs.base.declared.usage.Use.{Use}
-use Rattle.sdd_module.specs.base.declared.change.Change.{Change}
-use Rattle.sdd_module.specs.catalog.Catalogue.{has_copy, fragment_at}
-use Rattle.sdd_module.specs.base.Words.{contains}
-use Rattle.sdd_module.specs.lang.Database.{item_cmp, key_in}
-use Rattle.sdd_module.specs.wire.declared.msg.Msg.{Msg}
-use Rattle.sdd_module.specs.wire.declared.msg.Msg.TheVariants.{Read, Fetch, Reduce, Ship, Write, Null}
-use Rattle.sdd_module.specs.wire.Piped.{time_of}
-use Rattle.sdd_module.specs.SiteLog.{Setting, Bases, Log, Handed}
+use Rattle.sdd_module.specs.All.{Bases, Change, Cond, Fetch, Handed, Log, Msg, Null, Read, Reduce, Setting, Ship, Site, Use, Write, contains, fragment_at, has_copy, item_cmp, key_in, number_of, time_of}
 use Rattle.sdd_pipe.specs.Pipe.{Pipe}
 use Rattle.sdd_copy.specs.Frozen.{Frozen}
 use Rattle.sdd_dm.specs.Pipes.{pipe}

@@ -2,13 +2,7 @@
 -- what is due, said of digests in place of pipes.
 use Rattle.std.specs.Prelude.{ℕ, ◌==◌, Bool, true, false, not, ◌&&◌, if◌then◌else◌, List, [], ◌∷◌, filter, find, length, slice_index_or, Option, Some, None}
 use Rattle.std.specs.List.{list_any, list_all, range_with_len}
-use Rattle.sdd_module.specs.base.Words.{head_of, first_some}
-use Rattle.sdd_module.specs.base.Numbers.{class_no, time_at}
-use Rattle.sdd_module.specs.base.declared.number.ClassNo.{ClassNo}
-use Rattle.sdd_module.specs.base.declared.condition.Cond.{Cond}
-use Rattle.sdd_module.specs.base.declared.change.Change.{Change}
-use Rattle.sdd_module.specs.wire.declared.msg.Msg.{Msg}
-use Rattle.sdd_module.specs.wire.declared.msg.Msg.TheVariants.{Read, Write, Null}
+use Rattle.sdd_module.specs.All.{Change, ClassNo, Cond, Msg, Null, Read, Write, class_no, first_some, head_of, time_at}
 use Rattle.sdd_pipe.specs.Digest.{Digest, has_passed, last_in}
 use Rattle.sdd_pipe.specs.Pipes.{pipe_at}
 use Rattle.sdd_dm.specs.declared.step.Step.{Step}

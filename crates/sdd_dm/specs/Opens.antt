@@ -1,10 +1,6 @@
 -- The messages that a data module still has to answer: a READ by its Arrive, a FETCH, REDUCE or SHIP by a message.
 use Rattle.std.specs.Prelude.{ℕ, suc, ◌==◌, Bool, false, not, ◌&&◌, if◌then◌else◌, List, [], ◌∷◌, ◌++◌, filter, is_some, Option, Some, None}
-use Rattle.sdd_module.specs.base.declared.site.Site.{Site}
-use Rattle.sdd_module.specs.history.declared.record.Rec.TheVariants.{Arrive}
-use Rattle.sdd_module.specs.wire.declared.msg.Msg.{Msg}
-use Rattle.sdd_module.specs.wire.declared.msg.Msg.TheVariants.{Read, Fetch, Reduce, Ship}
-use Rattle.sdd_module.specs.SiteLog.{Log, Handed, Did, Act, Records, Sends, hands, answers_hand}
+use Rattle.sdd_module.specs.All.{Act, Arrive, Did, Fetch, Handed, Log, Msg, Read, Records, Reduce, Sends, Ship, Site, answers_hand, hands}
 
 -- such a message, with the number of its hand and the site that it came from
 pub record Open : Type 0 where

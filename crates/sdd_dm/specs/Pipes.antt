@@ -1,10 +1,7 @@
 -- The pipes of a data module, as the log of its site gives them.
 use Rattle.std.specs.Prelude.{ℕ, ◌==◌, Bool, true, false, ◌&&◌, ◌||◌, if◌then◌else◌, [], ◌∷◌}
-use Rattle.sdd_module.specs.history.declared.record.Rec.{Rec}
-use Rattle.sdd_module.specs.history.declared.record.Rec.TheVariants.{Wait, Answer, Reject, Apply, Pass}
-use Rattle.sdd_module.specs.wire.declared.msg.Msg.{Msg}
-use Rattle.sdd_module.specs.wire.Piped.{goes_through}
-use Rattle.sdd_module.specs.SiteLog.{Log, Handed, Did, Act, Records, Sends}
+use Rattle.sdd_module.specs.All.{Act, Answer, Apply, Did, Handed, Log, Msg, Pass, Rec, Records, Sends, Wait, goes_through}
+use Rattle.sdd_module.specs.history.declared.record.Rec.TheVariants.{Reject}
 use Rattle.sdd_pipe.specs.Pipe.{Pipe, empty_pipe, put, head_processed}
 
 -- whether a record processes the head of its class's pipe: a READ is processed by its Answer or Reject, a WRITE by its

@@ -1,8 +1,7 @@
 -- The ranks of what is due at a data module.
 use Rattle.std.specs.Prelude.{ℕ, ◌≤◌, ◌≡◌, Some}
-use Rattle.sdd_module.specs.history.declared.record.Rec.{Rec}
-use Rattle.sdd_module.specs.history.declared.record.Rec.TheVariants.{Arrive, Wait, Answer, Reject, Apply, Pass}
-use Rattle.sdd_module.specs.SiteLog.{Act, Records, Sends}
+use Rattle.sdd_module.specs.All.{Act, Answer, Apply, Arrive, Pass, Rec, Records, Sends, Wait}
+use Rattle.sdd_module.specs.history.declared.record.Rec.TheVariants.{Reject}
 use Rattle.sdd_dm.specs.Views.{Home, View}
 use Rattle.sdd_dm.specs.Due.{due, IsDue}
 

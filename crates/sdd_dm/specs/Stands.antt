@@ -1,15 +1,7 @@
 -- For which logs a data module stands.
 use Rattle.std.specs.Prelude.{ℕ, suc, ◌≤◌, ◌≡◌, true, IsTrue, [], ◌∷◌, ◌++◌, length, Some, None}
 use Rattle.std.specs.List.{All}
-use Rattle.sdd_module.specs.base.Kept.{Kept}
-use Rattle.sdd_module.specs.base.Sites.{number_of}
-use Rattle.sdd_module.specs.base.declared.site.Site.{Site}
-use Rattle.sdd_module.specs.catalog.Catalogue.{has_copy}
-use Rattle.sdd_module.specs.wire.declared.msg.Msg.{Msg}
-use Rattle.sdd_module.specs.wire.declared.msg.Msg.TheVariants.{Read}
-use Rattle.sdd_module.specs.SiteLog.{Setting, Bases, Log, Handed}
-use Rattle.sdd_module.specs.Notes.{Notes, nothing_noted}
-use Rattle.sdd_module.specs.Making.{Reached}
+use Rattle.sdd_module.specs.All.{Bases, Handed, Kept, Log, Msg, Notes, Reached, Read, Setting, Site, has_copy, nothing_noted, number_of}
 use Rattle.sdd_copy.specs.Contents.{Dated}
 use Rattle.sdd_copy.specs.Sets.{DatesDiffer}
 use Rattle.sdd_copy.specs.Copies.{is_here, StandFor}

@@ -1,11 +1,8 @@
 -- With which rows a data module begins.
 use Rattle.std.specs.Prelude.{Bool, cond, List, [], fold}
 use Rattle.std.specs.Borrow.{Bor}
-use Rattle.sdd_module.specs.base.declared.number.RelNo.{RelNo}
-use Rattle.sdd_module.specs.base.declared.value.Value.{Value}
-use Rattle.sdd_module.specs.catalog.Catalogue.{Catalogue, fragment_of}
+use Rattle.sdd_module.specs.All.{Catalogue, Database, Item, RelNo, Row, Value, fragment_of, key_in, with_row}
 use Rattle.sdd_copy.specs.Copies.{Held, is_here}
-use Rattle.sdd_module.specs.lang.Database.{Database, Item, Row, key_in, with_row}
 
 -- an item with its row, which is lent
 abbrev pub lent : Item × Bor (List Value) → Item × Row

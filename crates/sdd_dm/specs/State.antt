@@ -1,14 +1,7 @@
 -- What a data module keeps, and what a message and a step make of it.
 use Rattle.std.specs.Prelude.{ℕ, ◌+◌, Bool, true, false, List, [], ◌∷◌, ◌++◌, map, fold, length, slice_index_or, Option, Some, None}
-use Rattle.sdd_module.specs.base.Kept.{Kept}
-use Rattle.sdd_module.specs.base.declared.site.Site.{Site}
-use Rattle.sdd_module.specs.base.declared.site.Site.TheVariants.{U}
-use Rattle.sdd_module.specs.base.declared.usage.Use.{Use}
-use Rattle.sdd_module.specs.history.declared.record.Rec.TheVariants.{Arrive, Wait, Answer, Reject as Rejected, Apply, Pass}
-use Rattle.sdd_module.specs.wire.declared.msg.Msg.{Msg}
-use Rattle.sdd_module.specs.wire.declared.msg.Msg.TheVariants.{Read, Ready, Reject, Fetch, Values, Reduce, Reduced, Ship, Rows, Write, Null, Done}
-use Rattle.sdd_module.specs.SiteLog.{Act, Records, Sends}
-use Rattle.sdd_module.specs.Notes.{Notes, with_act}
+use Rattle.sdd_module.specs.All.{Act, Answer, Apply, Arrive, Done, Fetch, Kept, Msg, Notes, Null, Pass, Read, Ready, Records, Reduce, Reduced, Reject, Rows, Sends, Ship, Site, U, Use, Values, Wait, Write, with_act}
+use Rattle.sdd_module.specs.history.declared.record.Rec.TheVariants.{Reject as Rejected}
 use Rattle.sdd_copy.specs.Items.{dated}
 use Rattle.sdd_copy.specs.Copies.{Held, rows_at, with_change}
 use Rattle.sdd_copy.specs.Frozen.{Frozen, frozen_for, values_in, counts_of}

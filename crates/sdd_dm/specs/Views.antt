@@ -1,12 +1,7 @@
 -- All that the acts of a data module rest on, and how it changes with an entry of the log.
 use Rattle.std.specs.Prelude.{ℕ, suc, Bool, false, List, [], ◌∷◌, ◌++◌, map, slice_index_or, Option, None}
 use Rattle.std.specs.List.{flat_map}
-use Rattle.sdd_module.specs.base.Sites.{number_of}
-use Rattle.sdd_module.specs.base.Numbers.{dm_no}
-use Rattle.sdd_module.specs.base.declared.site.Site.{Site}
-use Rattle.sdd_module.specs.base.declared.site.Site.TheVariants.{U, T}
-use Rattle.sdd_module.specs.base.declared.number.DmNo.{DmNo}
-use Rattle.sdd_module.specs.SiteLog.{Setting, Log, Entry, Handed, Did, hands}
+use Rattle.sdd_module.specs.All.{Did, DmNo, Entry, Handed, Log, Setting, Site, T, U, dm_no, hands, number_of}
 use Rattle.sdd_copy.specs.Contents.{Dated}
 use Rattle.sdd_copy.specs.Frozen.{Frozen}
 use Rattle.sdd_pipe.specs.Pipe.{Pipe, empty_pipe}

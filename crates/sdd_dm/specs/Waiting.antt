@@ -1,9 +1,6 @@
 -- For what the READ at the head of a pipe waits.
 use Rattle.std.specs.Prelude.{ℕ, ◌≡◌, ◌==◌, Bool, not, if◌then◌else◌, List, find, Option, Some, None, MatchOption}
-use Rattle.sdd_module.specs.base.declared.condition.Cond.{Cond}
-use Rattle.sdd_module.specs.wire.declared.msg.Msg.{Msg}
-use Rattle.sdd_module.specs.wire.declared.msg.Msg.TheVariants.{Read}
-use Rattle.sdd_module.specs.SiteLog.{Setting, Log}
+use Rattle.sdd_module.specs.All.{Cond, Log, Msg, Read, Setting}
 use Rattle.sdd_pipe.specs.Pipe.{head}
 use Rattle.sdd_pipe.specs.Digest.{Digest}
 use Rattle.sdd_dm.specs.Pipes.{pipe, waits}

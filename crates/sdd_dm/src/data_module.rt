@@ -1,11 +1,7 @@
 ghost use Rattle.std.specs.Prelude.{◌≡◌, ◌≤◌, ℕ, [], IfOk, OnErr, IsTrue, length, true};
 ghost use Rattle.std.specs.Option.{option_copied};
 ghost use Rattle.std.specs.List.{All};
-ghost use Rattle.sdd_module.specs.base.Sites.{number_of};
-ghost use Rattle.sdd_module.specs.base.declared.site.Site.TheVariants.{D};
-ghost use Rattle.sdd_module.specs.catalog.Catalogue.{has_copy};
-ghost use Rattle.sdd_module.specs.lang.Fits.{FitsStart};
-ghost use Rattle.sdd_module.specs.SiteLog.{Setting, Log, Handed, Does};
+ghost use Rattle.sdd_module.specs.All.{D, Does, FitsStart, Handed, Log, Setting, has_copy, number_of};
 ghost use Rattle.sdd_copy.specs.Copies.{is_here, StandFor};
 ghost use Rattle.sdd_dm.specs.Copies.{dated};
 ghost use Rattle.sdd_dm.specs.Due.{next};
@@ -38,7 +34,7 @@ pub struct DataModule {
 }
 
 impl Model for DataModule {
-    ghost use Rattle.sdd_module.specs.base.Kept.{Kept};
+    ghost use Rattle.sdd_module.specs.All.{Kept};
     ghost use Rattle.sdd_dm.specs.State.{State};
 
     ghost Value = { Kept State };

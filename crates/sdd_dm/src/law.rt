@@ -1,7 +1,5 @@
 ghost use Rattle.std.specs.Prelude.{ℕ, ◌≡◌, ◌≤◌, List, Some, map, slice_get, true};
-ghost use Rattle.sdd_module.specs.base.declared.condition.Cond.{Cond};
-ghost use Rattle.sdd_module.specs.base.declared.number.ClassNo.{ClassNo};
-ghost use Rattle.sdd_module.specs.base.declared.number.Ts.{Ts};
+ghost use Rattle.sdd_module.specs.All.{ClassNo, Cond, Ts};
 ghost use Rattle.sdd_dm.specs.Due.{judge, spoils};
 ghost use Rattle.sdd_dm.specs.Fits.{Ascend};
 ghost use Rattle.sdd_dm.specs.Ranks.{IsLowest};

@@ -2,8 +2,7 @@
 ghost use Rattle.std.specs.Prelude.{◌≡◌, ◌<◌, ℕ, [], IfOk, OnOk, IsTrue, length, Some, None};
 ghost use Rattle.std.specs.List.{All};
 ghost use Rattle.std.specs.Option.{option_copied};
-ghost use Rattle.sdd_module.specs.base.declared.site.Site.TheVariants.{D};
-ghost use Rattle.sdd_module.specs.lang.Fits.{FitsStart};
+ghost use Rattle.sdd_module.specs.All.{D, FitsStart};
 ghost use Rattle.sdd_dm.specs.Heads.{first_step};
 ghost use Rattle.sdd_dm.specs.Stands.{Shows, Worked};
 ghost use Rattle.sdd_dm.specs.State.{class_piped};

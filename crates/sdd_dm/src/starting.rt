@@ -1,11 +1,7 @@
 //! What a data module begins with.
 ghost use Rattle.std.specs.Prelude.{◌≡◌, ◌≤◌, ◌∷◌, ℕ, IfOk, OnOk, IsTrue, length, map, fold, replicate, is_some, slice_index_or, true, false, Some, None};
 ghost use Rattle.std.specs.List.{All};
-ghost use Rattle.sdd_module.specs.base.declared.site.Site.TheVariants.{U, T};
-ghost use Rattle.sdd_module.specs.catalog.Catalogue.{has_copy};
-ghost use Rattle.sdd_module.specs.lang.Database.{database_of};
-ghost use Rattle.sdd_module.specs.lang.Fits.{FitsStart};
-ghost use Rattle.sdd_module.specs.lang.Sound.{IsEntry};
+ghost use Rattle.sdd_module.specs.All.{FitsStart, IsEntry, T, U, database_of, has_copy};
 ghost use Rattle.sdd_copy.specs.Copies.{is_here, with_change, StandFor};
 ghost use Rattle.sdd_dm.specs.Copies.{first_row};
 ghost use Rattle.sdd_dm.specs.Starts.{lent, own_rows, with_own};

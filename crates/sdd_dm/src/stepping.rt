@@ -1,7 +1,7 @@
 //! What the head of a pipe does.
 ghost use Rattle.std.specs.Prelude.{◌≡◌, ◌<◌, ◌++◌, ◌∷◌, [], OnOk, IfOk, IsTrue, length, map, Some};
 ghost use Rattle.sdd_copy.specs.Frozen.{counts_of};
-ghost use Rattle.sdd_module.specs.Notes.{with_sends};
+ghost use Rattle.sdd_module.specs.All.{with_sends};
 ghost use Rattle.sdd_pipe.specs.Pipes.{update};
 ghost use Rattle.sdd_dm.specs.declared.step.Step.TheVariants.{Processes, Refuses, Waits};
 ghost use Rattle.sdd_dm.specs.Due.{ask_for};

@@ -1,10 +1,7 @@
 -- A transaction that fits the whole catalogue fits each catalogue in force.
 use Rattle.std.proofs.Common.{ℕ, List, [], ◌∷◌, sym, subst}
 use Rattle.std.proofs.lemmas.List.Elements.{All-weaker}
-use Rattle.sdd_lang.specs.base.declared.number.RelNo.{RelNo}
-use Rattle.sdd_lang.specs.catalog.Catalogue.{Catalogue}
-use Rattle.sdd_lang.specs.catalog.declared.resolved.Class.{Class}
-use Rattle.sdd_lang.specs.Fits.{Fits, FitsAssign, FitsCondition, FitsConditions, FitsStatement}
+use Rattle.sdd_lang.specs.All.{Catalogue, Class, Fits, FitsAssign, FitsCondition, FitsConditions, FitsStatement, RelNo}
 use Rattle.sdd_lang.specs.declared.assign.Assign.{Assign}
 use Rattle.sdd_lang.specs.declared.assign.Assign.TheVariants.{To, Add}
 use Rattle.sdd_lang.specs.declared.condition.Condition.{Condition}

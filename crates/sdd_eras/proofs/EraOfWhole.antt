@@ -2,9 +2,7 @@
 use Rattle.std.proofs.Common.{ℕ, zero, suc, ◌+◌, ◌-◌, ◌<◌, ◌≤◌, ◌≡◌, List, [], ◌∷◌, ◌++◌, map, take, drop, length, Some, refl, sym, ap, ◌∙◌, subst, inl, inr, arith}
 use Rattle.std.specs.Prelude.{slice_get, slice_index_or}
 use Rattle.std.proofs.lemmas.List.{length-append, length-map}
-use Rattle.sdd_lang.specs.catalog.Catalogue.{Catalogue}
-use Rattle.sdd_lang.specs.catalog.Eras.{emptied, retired, extended, eras, whole}
-use Rattle.sdd_lang.specs.catalog.declared.resolved.Class.{Class}
+use Rattle.sdd_lang.specs.All.{Catalogue, Class, emptied, eras, extended, retired, whole}
 use Rattle.sdd_eras.specs.EraOf.{HasSets, IsEraOf}
 
 -- a class of an era and that of the same number in the whole catalogue

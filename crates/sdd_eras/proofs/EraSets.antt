@@ -3,21 +3,13 @@ use Rattle.std.proofs.Common.{ℕ, ◌+◌, ◌<◌, ◌≤◌, ◌==◌, ◌≡
 use Rattle.std.specs.Prelude.{is_some, unwrap_or, option_map, filter, find}
 use Rattle.std.specs.List.{flat_map, list_all, list_any}
 use Rattle.std.proofs.lemmas.Bool.{and_parts, ne_eqb}
-use Rattle.sdd_lang.specs.base.Words.{ascending, contains, head_of}
-use Rattle.sdd_lang.specs.base.declared.number.FragNo.{FragNo}
-use Rattle.sdd_lang.specs.base.declared.number.RelNo.{RelNo}
-use Rattle.sdd_lang.specs.base.declared.usage.Use.{Use}
-use Rattle.sdd_lang.specs.catalog.Catalogue.{Catalogue, class_at, lowest_copy, numbers_to, reads_at, writes}
-use Rattle.sdd_lang.specs.catalog.declared.resolved.Class.{Class}
-use Rattle.sdd_lang.specs.catalog.declared.resolved.Read.{Read}
+use Rattle.sdd_lang.specs.All.{Catalogue, Class, FragNo, Read, RelNo, Use, ascending, class_at, class_for, contains, covers, fragments_in, head_of, lowest_copy, numbers_to, part_uses, read_set, reads_at, restrictions_of, statement_uses, use_of, uses_from, uses_of, write_set, writes, written_by}
 use Rattle.sdd_lang.proofs.catalog.Sound.{each_in_range}
 use Rattle.sdd_graph.specs.Edges.{IsClassOf}
 use Rattle.sdd_lang.specs.declared.condition.Condition.{Condition}
 use Rattle.sdd_lang.specs.declared.statement.Stmt.{Stmt}
 use Rattle.sdd_lang.specs.declared.statement.Stmt.TheVariants.{Put, Query, Update, Delete}
 use Rattle.sdd_lang.specs.declared.transaction.Txn.{Txn}
-use Rattle.sdd_lang.specs.Classes.{covers, class_for, fragments_in, read_set, write_set, written_by}
-use Rattle.sdd_lang.specs.Uses.{restrictions_of, use_of, part_uses, statement_uses, uses_from, uses_of}
 use Rattle.sdd_lang.proofs.ReadSetDecides.{ascending_back}
 use Rattle.sdd_eras.specs.EraOf.{IsEraOf}
 use Rattle.sdd_eras.proofs.Lists.{each_passes, at_member, first_passes, first_has}

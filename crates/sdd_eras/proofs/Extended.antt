@@ -1,12 +1,8 @@
 -- Classes behind those that are there.
 use Rattle.std.proofs.Common.{◌≡◌, List, [], ◌∷◌, ◌++◌, map, refl, ap, sym, ◌∙◌, append_assoc}
 use Rattle.std.proofs.lemmas.List.{append-nil, map-append}
-use Rattle.sdd_lang.specs.catalog.Catalogue.{Catalogue, catalogue_of, parts_of, class_of, fragment_names, fragment_part}
-use Rattle.sdd_lang.specs.catalog.Eras.{extended}
-use Rattle.sdd_lang.specs.catalog.Rules.{count_faults, relation_faults, fragment_faults, range_faults, faults_of, faults_of_class, found_from, found_in, IsValid, IsSound}
-use Rattle.sdd_lang.specs.catalog.declared.fault.CatFault.{CatFault}
-use Rattle.sdd_lang.specs.catalog.declared.parts.ClassPart.{ClassPart}
-use Rattle.sdd_lang.specs.catalog.declared.parts.Parts.{Parts}
+use Rattle.sdd_lang.specs.All.{CatFault, Catalogue, ClassPart, IsSound, IsValid, Parts, catalogue_of, class_of, count_faults, extended, faults_of_class, found_from, found_in, fragment_faults, fragment_names, fragment_part, parts_of, range_faults, relation_faults}
+use Rattle.sdd_lang.specs.catalog.Rules.{faults_of}
 use Rattle.sdd_lang.proofs.catalog.Found.{map-map}
 use Rattle.sdd_lang.proofs.catalog.Validity.{no_faults}
 use Rattle.sdd_eras.specs.Further.{with_classes, with_further, further_faults}

@@ -3,7 +3,7 @@ use Rattle.std.proofs.Common.{ℕ, ◌≡◌, ◌==◌, ◌||◌, Bool, true, fa
 use Rattle.std.specs.Prelude.{filter}
 use Rattle.std.specs.List.{list_all, AllByRecursion}
 use Rattle.std.proofs.lemmas.Bool.{cases_Bool, eqb-true, and_parts}
-use Rattle.sdd_lang.specs.base.Words.{contains, head_of}
+use Rattle.sdd_lang.specs.All.{contains, head_of}
 
 -- where all pass, each passes
 pub each_passes : {A : Type 0} (p : A → Bool) (xs : List A) → list_all p xs ≡ true

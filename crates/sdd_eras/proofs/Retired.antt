@@ -1,17 +1,9 @@
 -- Classes that retire keep the rules.
 use Rattle.std.proofs.Common.{ℕ, zero, suc, ◌≡◌, ◌+◌, nat_le, nat_lt, not, List, [], ◌∷◌, ◌++◌, map, take, drop, length, refl, ap, sym, ◌∙◌}
 use Rattle.std.proofs.lemmas.List.{length-map, map-append}
-use Rattle.sdd_lang.specs.base.declared.limits.TheConstants.{MAX_CLASSES, MAX_READS}
-use Rattle.sdd_lang.specs.catalog.Names.{Text}
-use Rattle.sdd_lang.specs.catalog.Catalogue.{Catalogue, catalogue_of, parts_of, class_of, fragment_names}
-use Rattle.sdd_lang.specs.catalog.Eras.{emptied, retired}
-use Rattle.sdd_lang.specs.catalog.Rules.{when, has_name, is_from_1_to, read_rules, write_rules, class_rules, faults_of_class, found_from, found_in, faults_at, IsValid, IsSound}
-use Rattle.sdd_lang.specs.catalog.declared.fault.CatRule.{CatRule}
-use Rattle.sdd_lang.specs.catalog.declared.fault.CatRule.TheVariants.{TooMany, DuplicateName, UnknownName}
+use Rattle.sdd_lang.specs.All.{CatRule, Catalogue, ClassPart, DuplicateName, IsSound, IsValid, MAX_CLASSES, MAX_READS, Parts, Text, TooMany, UnknownName, catalogue_of, class_of, class_rules, emptied, faults_at, faults_of_class, found_from, found_in, fragment_names, has_name, is_from_1_to, parts_of, read_rules, retired, when, write_rules}
 use Rattle.sdd_lang.specs.catalog.declared.fault.Counted.TheVariants as counted
 use Rattle.sdd_lang.specs.catalog.declared.fault.Part.TheVariants.{Class}
-use Rattle.sdd_lang.specs.catalog.declared.parts.ClassPart.{ClassPart}
-use Rattle.sdd_lang.specs.catalog.declared.parts.Parts.{Parts}
 use Rattle.sdd_lang.proofs.catalog.Found.{both_empty, empty_of_map}
 use Rattle.sdd_lang.proofs.catalog.Validity.{no_faults}
 use Rattle.sdd_eras.specs.Further.{with_classes}

@@ -1,8 +1,7 @@
 -- The catalogue of an era: which classes are in force while it lasts. The whole catalogue has the classes of all eras with
 -- their sets.
 use Rattle.std.specs.Prelude.{ℕ, ◌≤◌, ◌≡◌, ◌⊎◌, [], length}
-use Rattle.sdd_lang.specs.catalog.declared.resolved.Class.{Class}
-use Rattle.sdd_lang.specs.catalog.Catalogue.{Catalogue, class_at}
+use Rattle.sdd_lang.specs.All.{Catalogue, Class, class_at}
 
 -- a class has the sets that it has in the whole catalogue, or, once it is retired, empty ones
 abbrev pub HasSets : Class → Class → Type 0

@@ -1,11 +1,6 @@
 -- Further classes of a catalogue, behind those that are there.
 use Rattle.std.specs.Prelude.{List, map}
-use Rattle.sdd_lang.specs.catalog.Catalogue.{Catalogue, class_of, parts_of}
-use Rattle.sdd_lang.specs.catalog.Eras.{extended}
-use Rattle.sdd_lang.specs.catalog.Rules.{found_from, faults_of_class}
-use Rattle.sdd_lang.specs.catalog.declared.fault.CatFault.{CatFault}
-use Rattle.sdd_lang.specs.catalog.declared.parts.ClassPart.{ClassPart}
-use Rattle.sdd_lang.specs.catalog.declared.parts.Parts.{Parts}
+use Rattle.sdd_lang.specs.All.{CatFault, Catalogue, ClassPart, Parts, class_of, extended, faults_of_class, found_from, parts_of}
 
 -- the parts with other classes
 abbrev pub with_classes : List ClassPart → Parts → Parts

@@ -1,6 +1,6 @@
 -- Classes that retire, as parts.
 use Rattle.std.specs.Prelude.{ℕ, List, [], ◌++◌, map, take, drop}
-use Rattle.sdd_lang.specs.catalog.declared.parts.ClassPart.{ClassPart}
+use Rattle.sdd_lang.specs.All.{ClassPart}
 
 -- the class with its name and module, which reads and writes nothing
 abbrev pub emptied_part : ClassPart → ClassPart

@@ -1,5 +1,5 @@
 ghost use Rattle.std.specs.Prelude.{◌≡◌, ◌++◌, [], IfOk, IfErr};
-ghost use Rattle.sdd_lang.specs.catalog.Rules.{TellsFirst};
+ghost use Rattle.sdd_lang.specs.All.{TellsFirst};
 ghost use Rattle.sdd_eras.specs.Further.{further_faults, with_further, with_classes};
 
 use crate::copying::with_copies;

@@ -1,7 +1,5 @@
 ghost use Rattle.std.specs.Prelude.{◌≡◌, ◌≤◌, length, map, IfOk};
-ghost use Rattle.sdd_lang.specs.catalog.Catalogue.{catalogue_of};
-ghost use Rattle.sdd_lang.specs.catalog.Eras.{retired};
-ghost use Rattle.sdd_lang.specs.catalog.Rules.{IsValid};
+ghost use Rattle.sdd_lang.specs.All.{IsValid, catalogue_of, retired};
 ghost use Rattle.sdd_eras.specs.Further.{with_classes};
 ghost use Rattle.sdd_eras.specs.Retired.{emptied_part, retired_parts};
 

@@ -4,10 +4,7 @@ use Rattle.std.proofs.Common.{sym, ◌∙◌, ap, inl, inr, ⊎_elim, arith, sub
 use Rattle.std.proofs.lemmas.Bool.{cases_Bool, eq-eqb, lt-ltb}
 use Rattle.sdd_lang.specs.declared.condition.Ref.{Ref}
 use Rattle.sdd_lang.specs.declared.condition.Condition.{Condition}
-use Rattle.sdd_lang.specs.Database.{Row}
-use Rattle.sdd_lang.specs.Condition.{Tuple, value_at, meets_all}
-use Rattle.sdd_lang.specs.Query.{product, selection, distinct}
-use Rattle.sdd_lang.specs.Source.{within}
+use Rattle.sdd_lang.specs.All.{Row, Tuple, distinct, meets_all, product, selection, value_at, within}
 use Rattle.sdd_exec.specs.declared.tie.Tie.{Tie}
 use Rattle.sdd_exec.specs.Choices.{Choice, picked, is_there, placed, passes, is_taken, ties_of, key_of, key_for, keyed, extended, row_from, Has, NoRepeats}
 use Rattle.sdd_exec.specs.Splicing.{Agrees, AreSound, Answers, IsOutside}

@@ -3,14 +3,11 @@ use Rattle.std.specs.Prelude.{ℕ, ◌+◌, ◌-◌, ◌==◌, ◌<◌, ◌≡�
 use Rattle.std.specs.List.{cons_option}
 use Rattle.std.proofs.Common.{sym, ◌∙◌, ap, ⊎_elim, arith, suc, subst}
 use Rattle.std.proofs.lemmas.Bool.{cases_Bool, eqb-true, eq-eqb, true≢false}
-use Rattle.sdd_lang.specs.base.Order.{column}
-use Rattle.sdd_lang.specs.base.Exactly.{lists_decide}
-use Rattle.sdd_lang.specs.base.ValueOrder.{value_decides}
+use Rattle.sdd_lang.specs.All.{Row, Tuple, column, lists_decide, value_at, value_decides}
 use Rattle.sdd_lang.specs.declared.condition.Ref.{Ref}
 use Rattle.sdd_lang.specs.declared.condition.Condition.{Condition}
 use Rattle.sdd_lang.specs.declared.condition.Condition.TheVariants.{Const, Same}
-use Rattle.sdd_lang.specs.Database.{Row}
-use Rattle.sdd_lang.specs.Condition.{Tuple, value_at, meets}
+use Rattle.sdd_lang.specs.Condition.{meets}
 use Rattle.sdd_exec.specs.declared.tie.Tie.{Tie}
 use Rattle.sdd_exec.specs.Choices.{Choice, picked, placed, passes_one, passes, is_taken, tie_between, tie_of, ties_of, key_of, key_for, keyed, same_row, places, extended, Has}
 use Rattle.sdd_exec.specs.Splicing.{IsThereIn, MeetsInside, AllInside, AreSound}

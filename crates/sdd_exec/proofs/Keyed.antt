@@ -13,8 +13,7 @@ use Rattle.std.proofs.lemmas.List.Sums.{fold-append}
 use Rattle.std.proofs.lemmas.Map.Keys.{sorted_head, sorted_tail}
 use Rattle.std.proofs.lemmas.Option.{slice_get-get_or}
 use Rattle.sdd_lang.specs.declared.source.Entry.{Entry}
-use Rattle.sdd_lang.specs.Database.{Row}
-use Rattle.sdd_lang.specs.Source.{entries_of}
+use Rattle.sdd_lang.specs.All.{Row, entries_of}
 use Rattle.sdd_lang.proofs.SortedEntries.{sorted_nil, inserted_sorted}
 use Rattle.sdd_exec.specs.Rising.{keyed_rows, by_keys, to_last_key}
 use Rattle.sdd_exec.specs.Snapshots.{of_relation}

@@ -6,11 +6,7 @@ use Rattle.std.proofs.lemmas.Bool.{cases_Bool, ltb-true, lt-ltb, le-ltb}
 use Rattle.std.proofs.lemmas.List.{take_all}
 use Rattle.sdd_lang.specs.declared.condition.Ref.{Ref}
 use Rattle.sdd_lang.specs.declared.condition.Condition.{Condition}
-use Rattle.sdd_lang.specs.Database.{Row}
-use Rattle.sdd_lang.specs.Condition.{Tuple, value_at, meets_all}
-use Rattle.sdd_lang.specs.Query.{product, selection, projection, distinct}
-use Rattle.sdd_lang.specs.Source.{within}
-use Rattle.sdd_lang.specs.Tuples.{rows_lent}
+use Rattle.sdd_lang.specs.All.{Row, Tuple, distinct, meets_all, product, projection, rows_lent, selection, value_at, within}
 use Rattle.sdd_exec.specs.Choices.{Choice, picked, is_there, row_of_tuple, row_from, Has, HasAll}
 use Rattle.sdd_exec.proofs.Members.{Has-map, Has-map_from, Has-filter, Has-filter_from, Has-flat_map, Has-flat_map_from, Has-filter_map, Has-filter_map_from, Has-get_or, place_of}
 use Rattle.sdd_exec.proofs.Complete.{both}

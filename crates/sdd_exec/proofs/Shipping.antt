@@ -9,10 +9,8 @@ use Rattle.std.proofs.lemmas.List.{take_more}
 use Rattle.std.proofs.lemmas.List.FromFn.{map-range_with_len_more}
 use Rattle.std.proofs.lemmas.List.Sums.{fold-append}
 use Rattle.std.proofs.lemmas.List.Elements.{filter_map-append}
-use Rattle.sdd_lang.specs.catalog.Catalogue.{Catalogue}
+use Rattle.sdd_lang.specs.All.{Catalogue, Database, Row, key_in, meets_all, with_row}
 use Rattle.sdd_lang.specs.declared.condition.Condition.{Condition}
-use Rattle.sdd_lang.specs.Database.{Row, Database, with_row, key_in}
-use Rattle.sdd_lang.specs.Condition.{meets_all}
 use Rattle.sdd_exec.specs.Snapshots.{Shipped, rows_for, with_chosen, of_relation, parts_for}
 
 pub rows_for_more : (snap : Shipped) (number : ℕ) (i : ℕ) (d : ℕ × Row) → i < length snap → rows_for (take (i + 1) snap) number ≡ rows_for (take i snap) number ++ rows_for (get_or snap i d ∷ []) number

@@ -6,13 +6,9 @@ use Rattle.std.proofs.Common.{sym, ◌∙◌, ap, inl, inr, ⊎_elim, get_or, su
 use Rattle.std.proofs.lemmas.Bool.{cases_Bool}
 use Rattle.std.proofs.lemmas.List.{take_more, map-append}
 use Rattle.std.proofs.lemmas.List.Concat.{flat_map-append}
-use Rattle.sdd_lang.specs.base.Order.{row_cmp}
-use Rattle.sdd_lang.specs.base.Exactly.{lists_decide}
-use Rattle.sdd_lang.specs.base.ValueOrder.{value_decides}
+use Rattle.sdd_lang.specs.All.{Row, lists_decide, row_cmp, value_at, value_decides}
 use Rattle.sdd_lang.specs.declared.condition.Ref.{Ref}
 use Rattle.sdd_lang.specs.declared.condition.Condition.{Condition}
-use Rattle.sdd_lang.specs.Database.{Row}
-use Rattle.sdd_lang.specs.Condition.{value_at}
 use Rattle.sdd_exec.specs.declared.sieve.Mesh.{Mesh}
 use Rattle.sdd_exec.specs.declared.sieve.Sieve.{Sieve}
 use Rattle.sdd_exec.specs.Choices.{Choice, picked, placed, same_row, Has, NoRepeats}

@@ -3,12 +3,10 @@ use Rattle.std.specs.Prelude.{ℕ, ◌-◌, ◌<◌, ◌≡◌, ◌⊎◌, true,
 use Rattle.std.specs.List.{cons_option}
 use Rattle.std.proofs.Common.{sym, ◌∙◌, inl, inr, ⊎_elim, arith, subst}
 use Rattle.std.proofs.lemmas.Bool.{cases_Bool}
-use Rattle.sdd_lang.specs.base.declared.value.Value.{Value}
+use Rattle.sdd_lang.specs.All.{Row, Value, meets_all, value_at}
 use Rattle.sdd_lang.specs.declared.condition.Ref.{Ref}
 use Rattle.sdd_lang.specs.declared.condition.Condition.{Condition}
 use Rattle.sdd_lang.specs.declared.condition.Condition.TheVariants.{Const, Same}
-use Rattle.sdd_lang.specs.Database.{Row}
-use Rattle.sdd_lang.specs.Condition.{value_at, meets_all}
 use Rattle.sdd_exec.specs.Choices.{Choice, picked, is_there, is_taken, Has, NoRepeats}
 use Rattle.sdd_exec.specs.Splicing.{spliced, Agrees, AllAlike, OutsAlike, AreSound, Answers, IsOutside}
 use Rattle.sdd_exec.specs.Sifting.{link_between, links_of, outs_of, values_of, TooMany, IsSifted}

@@ -4,12 +4,11 @@ use Rattle.std.proofs.Common.{sym, ◌∙◌, ⊎_elim, arith, suc}
 use Rattle.std.proofs.lemmas.Bool.{cases_Bool, lt-ltb}
 use Rattle.std.proofs.lemmas.List.{get_or-drop}
 use Rattle.std.proofs.lemmas.List.FromFn.{get_or-map-range_with_len}
-use Rattle.sdd_lang.specs.base.ValueOrder.{value_decides}
+use Rattle.sdd_lang.specs.All.{Row, meets_all, value_at, value_decides}
 use Rattle.sdd_lang.specs.declared.condition.Ref.{Ref}
 use Rattle.sdd_lang.specs.declared.condition.Condition.{Condition}
 use Rattle.sdd_lang.specs.declared.condition.Condition.TheVariants.{Const, Same}
-use Rattle.sdd_lang.specs.Database.{Row}
-use Rattle.sdd_lang.specs.Condition.{value_at, meets, meets_all}
+use Rattle.sdd_lang.specs.Condition.{meets}
 use Rattle.sdd_exec.specs.Choices.{Choice, picked, is_there, is_taken}
 use Rattle.sdd_exec.specs.Splicing.{spliced, Agrees, IsThereIn, MeetsInside, LinksAlike, AllInside, AllAlike, OutsAlike}
 use Rattle.sdd_exec.proofs.Complete.{both, place_is_there, value_agrees}

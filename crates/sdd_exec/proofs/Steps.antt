@@ -9,15 +9,11 @@ use Rattle.std.specs.Option.{option_map_or}
 use Rattle.std.proofs.Common.{ap, arith, append_assoc, append-nil, get_or, sym, ◌∙◌, ⊎_elim}
 use Rattle.std.proofs.lemmas.Bool.{cases_Bool}
 use Rattle.std.proofs.lemmas.List.FromFn.{map-range_with_len_more}
-use Rattle.sdd_lang.specs.base.Exactly.{lists_decide}
-use Rattle.sdd_lang.specs.base.ValueOrder.{value_decides}
+use Rattle.sdd_lang.specs.All.{Row, distinct, lists_decide, row_cmp, value_decides}
 use Rattle.std.proofs.lemmas.List.{at_drop_more, take_more, map-append, take-append-drop}
 use Rattle.std.proofs.lemmas.List.Sums.{fold-append}
 use Rattle.std.proofs.lemmas.List.Elements.{filter_map-append, filter-append}
-use Rattle.sdd_lang.specs.base.Order.{row_cmp}
 use Rattle.sdd_lang.specs.declared.condition.Condition.{Condition}
-use Rattle.sdd_lang.specs.Database.{Row}
-use Rattle.sdd_lang.specs.Query.{distinct}
 use Rattle.sdd_exec.specs.declared.tie.Tie.{Tie}
 use Rattle.sdd_exec.specs.Choices.{keyed, key_of, passes, placed, places, same_row, with_found}
 

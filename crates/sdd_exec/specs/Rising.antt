@@ -5,9 +5,8 @@ use Rattle.std.specs.declared.cmp.Ordering.TheVariants.{Greater}
 use Rattle.std.specs.Ordering.{int_cmp}
 use Rattle.std.specs.BTreeMap.{insert_entry}
 use Rattle.std.specs.Option.{option_map_or}
-use Rattle.sdd_lang.specs.base.Order.{row_cmp}
+use Rattle.sdd_lang.specs.All.{Row, row_cmp}
 use Rattle.sdd_lang.specs.declared.source.Entry.{Entry}
-use Rattle.sdd_lang.specs.Database.{Row}
 
 -- how a row stands to the last of some rows; above it where there is none
 abbrev pub to_last : List Row → Row → Ordering

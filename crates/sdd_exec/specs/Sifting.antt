@@ -6,10 +6,7 @@ use Rattle.std.specs.Option.{option_map_or}
 use Rattle.sdd_lang.specs.declared.condition.Ref.{Ref}
 use Rattle.sdd_lang.specs.declared.condition.Condition.{Condition}
 use Rattle.sdd_lang.specs.declared.condition.Condition.TheVariants.{Const, Same}
-use Rattle.sdd_lang.specs.Database.{Row}
-use Rattle.sdd_lang.specs.Condition.{value_at}
-use Rattle.sdd_lang.specs.Query.{product, selection, projection, distinct}
-use Rattle.sdd_lang.specs.Source.{within}
+use Rattle.sdd_lang.specs.All.{Row, distinct, product, projection, selection, value_at, within}
 use Rattle.sdd_exec.specs.declared.tie.Tie.{Tie}
 use Rattle.sdd_exec.specs.declared.sieve.Mesh.{Mesh}
 use Rattle.sdd_exec.specs.declared.sieve.Sieve.{Sieve}

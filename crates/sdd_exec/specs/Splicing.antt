@@ -4,8 +4,8 @@ use Rattle.std.specs.List.{range_with_len}
 use Rattle.sdd_lang.specs.declared.condition.Ref.{Ref}
 use Rattle.sdd_lang.specs.declared.condition.Condition.{Condition}
 use Rattle.sdd_lang.specs.declared.condition.Condition.TheVariants.{Const, Same}
-use Rattle.sdd_lang.specs.Database.{Row}
-use Rattle.sdd_lang.specs.Condition.{value_at, meets, meets_all}
+use Rattle.sdd_lang.specs.All.{Row, meets_all, value_at}
+use Rattle.sdd_lang.specs.Condition.{meets}
 use Rattle.sdd_exec.specs.Choices.{Choice, picked, is_there, is_taken, Has}
 
 -- the choice with the places of c in these parts and those of t in all others

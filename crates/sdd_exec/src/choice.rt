@@ -1,7 +1,7 @@
 //! Choices: of each part one row, by its place.
 ghost use Rattle.std.specs.Prelude.{◌≡◌, ◌==◌, cond, IfOk, IsTrue, slice_index};
 ghost use Rattle.sdd_lang.specs.Condition as of_tuples;
-ghost use Rattle.sdd_lang.specs.Tuples.{held, rows_lent};
+ghost use Rattle.sdd_lang.specs.All.{held, rows_lent};
 ghost use Rattle.sdd_exec.specs.Choices as joins;
 
 use crate::parts::Parts;

@@ -1,7 +1,6 @@
 ghost use Rattle.std.specs.Prelude.{◌≡◌, [], nat_lt, length, IfOk, OnOk};
 ghost use Rattle.std.specs.BTreeSet.{insert_key};
-ghost use Rattle.sdd_lang.specs.base.Order.{row_cmp};
-ghost use Rattle.sdd_lang.specs.Query.{distinct};
+ghost use Rattle.sdd_lang.specs.All.{distinct, row_cmp};
 ghost use Rattle.sdd_exec.specs.Rising.{to_last};
 ghost use Rattle.sdd_exec.specs.Choices.{NoRepeats};
 
@@ -26,8 +25,7 @@ pub struct Found {
 
 impl Model for Found {
     ghost use Rattle.std.specs.Prelude.{◌≡◌, List, cond};
-    ghost use Rattle.sdd_lang.specs.Database.{Row};
-    ghost use Rattle.sdd_lang.specs.Query.{distinct};
+    ghost use Rattle.sdd_lang.specs.All.{Row, distinct};
 
     ghost Value = { List Row };
 

@@ -1,10 +1,8 @@
 ghost use Rattle.std.specs.Prelude.{◌≡◌, IfOk, IsTrue};
 ghost use Rattle.sdd_lang.specs.catalog.Catalogue as catalogues;
 ghost use Rattle.sdd_lang.specs.declared.transaction.Txn as transactions;
-ghost use Rattle.sdd_lang.specs.Database.{Database};
+ghost use Rattle.sdd_lang.specs.All.{Database, Fits, IsDatabase};
 ghost use Rattle.sdd_lang.specs.Effect as of_databases;
-ghost use Rattle.sdd_lang.specs.Fits.{Fits};
-ghost use Rattle.sdd_lang.specs.Sound.{IsDatabase};
 ghost use Rattle.sdd_exec.specs.Serves.{Serves};
 ghost use Rattle.sdd_exec.specs.Snapshots as snapshots;
 

@@ -2,8 +2,7 @@
 ghost use Rattle.std.specs.Prelude.{◌≡◌, cond, ◌++◌, ◌∷◌, List, [], IfOk};
 ghost use Rattle.std.specs.HashMap as hash;
 ghost use Rattle.std.specs.Option.{option_map_or};
-ghost use Rattle.sdd_lang.specs.base.declared.value.Value.{Value};
-ghost use Rattle.sdd_lang.specs.Tuples.{rows_lent};
+ghost use Rattle.sdd_lang.specs.All.{Value, rows_lent};
 ghost use Rattle.sdd_exec.specs.Choices as joins;
 
 use crate::tie::{Tie, key_of};

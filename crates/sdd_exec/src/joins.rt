@@ -4,9 +4,7 @@ ghost use Rattle.std.specs.Prelude.{IfOk, IfSome, slice_index_or, filter_map};
 ghost use Rattle.std.specs.List.{flat_map};
 ghost use Rattle.std.specs.HashMap as hash;
 ghost use Rattle.std.specs.Option.{option_map_or};
-ghost use Rattle.sdd_lang.specs.Query.{product, selection, projection, distinct};
-ghost use Rattle.sdd_lang.specs.Source.{within};
-ghost use Rattle.sdd_lang.specs.Tuples.{rows_lent};
+ghost use Rattle.sdd_lang.specs.All.{distinct, product, projection, rows_lent, selection, within};
 ghost use Rattle.sdd_exec.specs.Choices as joins;
 ghost use Rattle.sdd_exec.specs.Sifting as sift;
 

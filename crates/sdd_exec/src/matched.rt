@@ -1,7 +1,7 @@
 ghost use Rattle.std.specs.Prelude.{◌≡◌, ℕ, [], IfOk, OnOk};
 ghost use Rattle.std.specs.BTreeMap.{insert_entry};
 ghost use Rattle.std.specs.Ordering.{int_cmp};
-ghost use Rattle.sdd_lang.specs.Source.{entries_of};
+ghost use Rattle.sdd_lang.specs.All.{entries_of};
 ghost use Rattle.sdd_exec.specs.Rising.{keyed_rows, by_keys, to_last_key};
 ghost use Rattle.sdd_exec.specs.Snapshots.{of_relation};
 
@@ -27,7 +27,7 @@ pub struct Matched {
 
 impl Model for Matched {
     ghost use Rattle.std.specs.Prelude.{◌≡◌, ℤ, List, cond};
-    ghost use Rattle.sdd_lang.specs.Database.{Row as OfRow};
+    ghost use Rattle.sdd_lang.specs.All.{Row as OfRow};
     ghost use Rattle.sdd_exec.specs.Rising.{keyed_rows, by_keys};
 
     ghost Value = { List (ℤ × OfRow) };

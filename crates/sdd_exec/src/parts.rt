@@ -1,6 +1,6 @@
 //! The rows of a query's parts.
 ghost use Rattle.std.specs.Prelude.{◌≡◌, ◌≤◌, ◌<◌, ◌++◌, ◌∷◌, [], length, slice_index_or, MatchOption, OnOk};
-ghost use Rattle.sdd_lang.specs.Tuples.{rows_lent};
+ghost use Rattle.sdd_lang.specs.All.{rows_lent};
 
 use sdd_lang::sdd_base::{NoMemory, Row};
 use std::alloc::Global;
@@ -14,8 +14,7 @@ pub struct Parts<'a> {
 
 impl<'a> Model for Parts<'a> {
     ghost use Rattle.std.specs.Prelude.{List, map};
-    ghost use Rattle.sdd_lang.specs.Database.{Row};
-    ghost use Rattle.sdd_lang.specs.Tuples.{rows_lent};
+    ghost use Rattle.sdd_lang.specs.All.{Row, rows_lent};
 
     ghost Value = { List (List Row) };
 

@@ -3,8 +3,7 @@ ghost use Rattle.std.specs.Prelude.{◌≡◌, ◌<◌, ◌++◌, ◌∷◌, [],
 ghost use Rattle.std.specs.HashMap as hash;
 ghost use Rattle.std.specs.Option.{option_map_or};
 ghost use Rattle.std.specs.BTreeSet.{insert_key};
-ghost use Rattle.sdd_lang.specs.base.Order.{row_cmp};
-ghost use Rattle.sdd_lang.specs.base.declared.value.Value.{Value};
+ghost use Rattle.sdd_lang.specs.All.{Value, row_cmp};
 ghost use Rattle.sdd_exec.specs.Choices as joins;
 ghost use Rattle.sdd_exec.specs.Sifting as sift;
 

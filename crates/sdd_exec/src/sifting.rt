@@ -2,7 +2,7 @@
 ghost use Rattle.std.specs.Prelude.{◌≡◌, ◌<◌, ◌++◌, ◌∷◌, ℕ, false, true, length, map, List, [], Option, IfOk, slice_index, slice_index_or};
 ghost use Rattle.std.specs.HashMap as hash;
 ghost use Rattle.std.specs.Option.{option_map_or};
-ghost use Rattle.sdd_lang.specs.base.declared.value.Value.{Value};
+ghost use Rattle.sdd_lang.specs.All.{Value};
 ghost use Rattle.sdd_exec.specs.Choices as joins;
 ghost use Rattle.sdd_exec.specs.Sifting as sift;
 ghost use Rattle.sdd_exec.specs.Splicing.{AreSound};

@@ -1,5 +1,5 @@
 ghost use Rattle.std.specs.Prelude.{◌≡◌, true, false, [], ◌∷◌, ◌++◌, OnOk, OnErr, IfOk, IsTrue};
-ghost use Rattle.sdd_lang.specs.Tuples.{rows_lent};
+ghost use Rattle.sdd_lang.specs.All.{rows_lent};
 ghost use Rattle.sdd_exec.specs.Snapshots.{rows_for};
 
 use sdd_lang::sdd_base::{NoMemory, Row};
@@ -14,7 +14,7 @@ pub struct Snapshot {
 }
 
 impl Model for Snapshot {
-    ghost use Rattle.sdd_lang.specs.base.Kept.{Kept};
+    ghost use Rattle.sdd_lang.specs.All.{Kept};
     ghost use Rattle.sdd_exec.specs.Snapshots.{Shipped};
 
     ghost Value = { Kept Shipped };

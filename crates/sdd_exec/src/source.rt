@@ -1,8 +1,6 @@
 //! What statements find in the rows of a snapshot.
 ghost use Rattle.std.specs.Prelude.{◌≡◌, ◌+◌, [], length, fold, IfOk};
-ghost use Rattle.sdd_lang.specs.catalog.Catalogue.{key_column};
-ghost use Rattle.sdd_lang.specs.Database.{key_in};
-ghost use Rattle.sdd_lang.specs.Tuples.{rows_lent};
+ghost use Rattle.sdd_lang.specs.All.{key_column, key_in, rows_lent};
 ghost use Rattle.sdd_exec.specs.Snapshots.{parts_for, found_for, chosen_for, with_chosen, of_relation};
 
 use crate::joins::join;

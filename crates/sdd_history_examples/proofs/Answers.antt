@@ -3,23 +3,9 @@ use Rattle.std.proofs.Common.{ℕ, ◌==◌, ◌≡◌, Bool, true, List, Option
 use Rattle.std.specs.Prelude.{Contains}
 use Rattle.std.specs.List.{AllByRecursion, list_all, list_any}
 use Rattle.std.proofs.lemmas.Bool.{eqb-true}
-use Rattle.sdd_laws.specs.base.Numbers.{dm_no, txn_no}
-use Rattle.sdd_laws.specs.base.declared.number.RelNo.{RelNo}
-use Rattle.sdd_laws.specs.catalog.Catalogue.{Catalogue, numbers_to, reads_at}
-use Rattle.sdd_laws.specs.history.declared.record.Rec.TheVariants.{Answer}
-use Rattle.sdd_laws.specs.history.Records.{History}
-use Rattle.sdd_laws.specs.lang.declared.transaction.Txn.{Txn}
-use Rattle.sdd_laws.specs.lang.Classes.{fragments_in}
-use Rattle.sdd_laws.specs.lang.Database.{Row}
-use Rattle.sdd_laws.specs.lang.Effect.{effect}
-use Rattle.sdd_laws.specs.serial_orders.Attempts.{Attempt, Committed, IsCommitted, committed}
-use Rattle.sdd_laws.specs.serial_orders.Places.{Stands}
-use Rattle.sdd_laws.specs.serial_orders.Precedence.{is_answer}
+use Rattle.sdd_laws.specs.All.{Answer, AnsweredBefore, Asks, Attempt, Catalogue, Committed, History, IsCommitted, KeepsAnswers, RelNo, Row, Stands, Txn, base_of, committed, dm_no, effect, fragments_in, is_answer, numbers_to, reads_at, txn_at, txn_no}
 use Rattle.sdd_laws.proofs.serial_orders.Before.{is_answered}
-use Rattle.sdd_laws.specs.Answers.{KeepsAnswers}
-use Rattle.sdd_laws.specs.Deeds.{txn_at, Asks, AnsweredBefore}
 use Rattle.sdd_laws.specs.Deeds.Asks.{by_use, by_no_class}
-use Rattle.sdd_laws.specs.Snapshots.{base_of}
 use Rattle.sdd_laws.proofs.Applied.{passes_before}
 use Rattle.sdd_history_examples.proofs.Each.{if_so, so, each, all_pairs, each_pair, each_has, each_number, each_to}
 use Rattle.sdd_history_examples.proofs.Listed.{CommitAt, AnswerAt, commits, in_commits, answers, in_answers, is_started, started_before}

@@ -3,21 +3,11 @@ use Rattle.std.proofs.Common.{ℕ, ◌<◌, ◌==◌, ◌≡◌, nat_lt, Bool, t
 use Rattle.std.specs.Prelude.{Contains}
 use Rattle.std.specs.List.{list_all, list_any}
 use Rattle.std.proofs.lemmas.Bool.{le-leb, and_parts, and_from, eqb-true, lt-ltb, ltb-true}
-use Rattle.sdd_laws.specs.base.Numbers.{class_no, dm_no, txn_no, time_at}
-use Rattle.sdd_laws.specs.base.declared.change.Change.{Change}
-use Rattle.sdd_laws.specs.catalog.Catalogue.{Catalogue, has_copy}
-use Rattle.sdd_laws.specs.catalog.Rules.{is_from_1_to}
-use Rattle.sdd_laws.specs.history.declared.record.Rec.TheVariants.{Apply}
-use Rattle.sdd_laws.specs.history.Records.{History}
-use Rattle.sdd_laws.specs.serial_orders.Attempts.{Attempt, Committed, IsCommitted, committed}
-use Rattle.sdd_laws.specs.serial_orders.Places.{Stands}
+use Rattle.sdd_laws.specs.All.{AppliedBefore, Apply, Attempt, Catalogue, Change, Committed, GoesTo, History, IsAnswered, IsApplied, IsCommitted, IsEarlier, IsOfCommit, KeepsApplies, Stands, Touches, class_no, committed, dm_no, has_copy, is_applied, is_from_1_to, time_at, txn_no}
 use Rattle.sdd_laws.proofs.serial_orders.Before.{or_cases, or_left, or_right}
 use Rattle.sdd_laws.proofs.serial_orders.Found.{from_committed}
 use Rattle.sdd_laws.proofs.serial_orders.Members.{member_passes, passes_member}
-use Rattle.sdd_laws.specs.Applies.{IsOfCommit, IsEarlier, KeepsApplies}
-use Rattle.sdd_laws.specs.Deeds.{IsAnswered, IsApplied, AppliedBefore, Touches, GoesTo}
 use Rattle.sdd_laws.specs.Deeds.GoesTo.{by_change, by_no_class}
-use Rattle.sdd_laws.specs.Snapshots.{is_applied}
 use Rattle.sdd_laws.proofs.Applied.{applied_before}
 use Rattle.sdd_laws.proofs.Precedes.{changes_member}
 use Rattle.sdd_history_examples.proofs.Each.{if_so, so, each, all_pairs, each_pair}

@@ -3,23 +3,10 @@ use Rattle.std.proofs.Common.{ℕ, ◌==◌, ◌≡◌, nat_lt, Bool, true, ◌&
 use Rattle.std.specs.Prelude.{Contains}
 use Rattle.std.specs.List.{AllByRecursion, list_any}
 use Rattle.std.proofs.lemmas.Bool.{and_from, eqb-true, lt-ltb, ltb-true}
-use Rattle.sdd_laws.specs.base.Words.{contains}
-use Rattle.sdd_laws.specs.base.declared.change.Change.{Change}
-use Rattle.sdd_laws.specs.base.declared.condition.Cond.{Cond}
-use Rattle.sdd_laws.specs.base.declared.number.FragNo.{FragNo}
-use Rattle.sdd_laws.specs.catalog.Catalogue.{Catalogue, has_copy}
-use Rattle.sdd_laws.specs.history.Records.{History}
-use Rattle.sdd_laws.specs.protocol.Protocols.{IsTable}
-use Rattle.sdd_laws.specs.protocol.declared.entry.Entry.{Entry}
+use Rattle.sdd_laws.specs.All.{Attempt, Catalogue, Change, Committed, Cond, Entry, Eras, FragNo, History, IsCommitted, IsConditionOf, IsTable, KeepsConditions, TouchesOne, attempts, committed, conditions_of, contains, event_at, has_copy, in_force, is_applied}
 use Rattle.sdd_laws.proofs.protocol.Laws.{one_table}
-use Rattle.sdd_laws.specs.serial_orders.Attempts.{Attempt, Committed, IsCommitted, attempts, committed}
-use Rattle.sdd_laws.specs.serial_orders.Places.{event_at}
 use Rattle.sdd_laws.proofs.serial_orders.Found.{in_attempts}
 use Rattle.sdd_laws.proofs.serial_orders.Members.{member_passes, passes_member}
-use Rattle.sdd_laws.specs.Conditions.{conditions_of, IsConditionOf, KeepsConditions}
-use Rattle.sdd_laws.specs.Deeds.{TouchesOne}
-use Rattle.sdd_laws.specs.Eras.{Eras, in_force}
-use Rattle.sdd_laws.specs.Snapshots.{is_applied}
 use Rattle.sdd_laws.proofs.Applied.{applied_before, before_applied}
 use Rattle.sdd_history_examples.proofs.Each.{each_has, same, same_is, if_so, so, all_pairs, each_pair}
 use Rattle.sdd_history_examples.proofs.Listed.{AnswerAt, answers, in_answers}

@@ -3,9 +3,8 @@ use Rattle.std.proofs.Common.{ℕ, ◌≤◌, ◌≡◌, Bool, true, false, not,
 use Rattle.std.specs.Prelude.{Contains}
 use Rattle.std.specs.List.{AllByRecursion, list_all}
 use Rattle.std.proofs.lemmas.Bool.{and_parts}
-use Rattle.sdd_laws.specs.base.Words.{contains}
+use Rattle.sdd_laws.specs.All.{contains, numbers_to}
 use Rattle.sdd_laws.proofs.base.Membership.{Contains-nil, Contains-cases}
-use Rattle.sdd_laws.specs.catalog.Catalogue.{numbers_to}
 use Rattle.sdd_laws.proofs.serial_orders.Members.{Contains-range}
 use Rattle.sdd_laws.proofs.class_eras.Lists.{each_passes, at_member}
 

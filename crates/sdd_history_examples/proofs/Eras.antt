@@ -3,19 +3,10 @@ use Rattle.std.proofs.Common.{ℕ, ◌<◌, ◌==◌, ◌≡◌, nat_lt, Bool, t
 use Rattle.std.specs.Prelude.{Contains}
 use Rattle.std.specs.List.{list_all}
 use Rattle.std.proofs.lemmas.Bool.{and_from, and_parts, eqb-true, lt-ltb, ltb-true}
-use Rattle.sdd_laws.specs.base.declared.change.Change.{Change}
-use Rattle.sdd_laws.specs.base.declared.number.DmNo.{DmNo}
-use Rattle.sdd_laws.specs.catalog.Catalogue.{Catalogue, fragment_at, has_copy, numbers_to}
-use Rattle.sdd_laws.specs.history.Records.{History}
-use Rattle.sdd_laws.specs.serial_orders.Attempts.{Attempt, Committed, IsAttempt, IsCommitted, attempts, committed}
-use Rattle.sdd_laws.specs.serial_orders.Places.{event_at}
+use Rattle.sdd_laws.specs.All.{Attempt, Catalogue, Change, Committed, DmNo, Eras, GoesTo, History, IsAttempt, IsCommitted, IsOfEarlierEra, KeepsEras, attempts, begun, committed, event_at, fragment_at, has_copy, is_applied, numbers_to}
 use Rattle.sdd_laws.proofs.serial_orders.Found.{in_attempts}
 use Rattle.sdd_laws.proofs.serial_orders.Members.{member_passes}
-use Rattle.sdd_laws.specs.Deeds.{GoesTo}
 use Rattle.sdd_laws.specs.Deeds.GoesTo.{by_change, by_no_class}
-use Rattle.sdd_laws.specs.Eras.{Eras, begun}
-use Rattle.sdd_laws.specs.Redeclares.{IsOfEarlierEra, KeepsEras}
-use Rattle.sdd_laws.specs.Snapshots.{is_applied}
 use Rattle.sdd_laws.proofs.Applied.{applied_before}
 use Rattle.sdd_history_examples.proofs.Each.{if_so, so, each, all_pairs, each_pair, each_to}
 use Rattle.sdd_history_examples.proofs.Listed.{submits, in_submits}

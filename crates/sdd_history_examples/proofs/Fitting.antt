@@ -5,25 +5,8 @@ use Rattle.std.specs.List.{All, AllByRecursion, list_all}
 use Rattle.std.proofs.lemmas.Bool.{and_parts, leb-true}
 use Rattle.std.proofs.lemmas.List.Elements.{All-from_recursion}
 use Rattle.std.proofs.lemmas.Option.{same_Some}
-use Rattle.sdd_laws.specs.base.declared.change.Change.{Change}
-use Rattle.sdd_laws.specs.base.declared.condition.Cond.{Cond}
-use Rattle.sdd_laws.specs.base.declared.number.FragNo.{FragNo}
-use Rattle.sdd_laws.specs.base.declared.number.RelNo.{RelNo}
-use Rattle.sdd_laws.specs.base.declared.usage.Use.{Use}
-use Rattle.sdd_laws.specs.catalog.Catalogue.{Catalogue}
-use Rattle.sdd_laws.specs.catalog.Rules.{is_from_1_to}
-use Rattle.sdd_laws.specs.history.declared.record.Rec.{Rec}
-use Rattle.sdd_laws.specs.history.declared.record.Rec.TheVariants.{Submit, Start, Arrive, Wait, Answer, Reject, Commit, Apply, Pass, Nothing}
-use Rattle.sdd_laws.specs.history.Records.{History}
-use Rattle.sdd_laws.specs.lang.declared.transaction.Txn.{Txn}
-use Rattle.sdd_laws.specs.lang.Database.{Row}
-use Rattle.sdd_laws.specs.lang.Fits.{Fits, FitsStart}
-use Rattle.sdd_laws.specs.serial_orders.Numbers.{IsFrom1To, AreFragments, UseExists, CondExists, ChangeExists, ExistsIn}
-use Rattle.sdd_laws.specs.class_eras.EraOf.{IsEraOf}
+use Rattle.sdd_laws.specs.All.{Answer, Apply, AreEras, AreFragments, Arrive, Catalogue, Change, ChangeExists, Commit, Cond, CondExists, Eras, ExistsIn, FitTogether, Fits, FitsStart, FragNo, History, IsEraOf, IsFrom1To, NamesOneOf, Nothing, Pass, Rec, Reject, RelNo, Row, Start, Submit, Txn, Use, UseExists, Wait, is_from_1_to}
 use Rattle.sdd_laws.proofs.class_eras.EraSets.{era_of_itself}
-use Rattle.sdd_laws.specs.Eras.{Eras, AreEras}
-use Rattle.sdd_laws.specs.Kept.{FitTogether}
-use Rattle.sdd_laws.specs.Numbers.{NamesOneOf}
 use Rattle.sdd_history_examples.specs.Catalogues.{one_era}
 
 -- what a test tells of each member

@@ -2,10 +2,7 @@
 use Rattle.std.proofs.Common.{ℕ, zero, suc, ◌<◌, ◌≤◌, ◌≡◌, nat_lt, cond, [], ◌∷◌, Some, refl, subst, inl, inr, arith, lit<, lit≤}
 use Rattle.std.specs.Prelude.{slice_get}
 use Rattle.std.proofs.lemmas.Option.{same_Some}
-use Rattle.sdd_laws.specs.base.declared.restriction.Op.TheVariants.{Le}
-use Rattle.sdd_laws.specs.catalog.Catalogue.{Catalogue, class_at}
-use Rattle.sdd_laws.specs.class_eras.EraOf.{HasSets, IsEraOf}
-use Rattle.sdd_laws.specs.Eras.{AreEras}
+use Rattle.sdd_laws.specs.All.{AreEras, Catalogue, HasSets, IsEraOf, Le, class_at}
 use Rattle.sdd_history_examples.specs.Catalogues.{both_classes, further_classes, one_class, two_eras}
 use Rattle.sdd_history_examples.specs.Histories.{redeclares}
 use Rattle.sdd_history_examples.specs.Keeping.{KeepsAll}

@@ -2,16 +2,8 @@
 use Rattle.std.proofs.Common.{ℕ, ◌≡◌, nat_lt, true, not, List, sym, ◌∙◌}
 use Rattle.std.specs.List.{AllByRecursion, list_all}
 use Rattle.std.proofs.lemmas.Bool.{lt-ltb, not-true, false≢true}
-use Rattle.sdd_laws.specs.base.declared.number.RelNo.{RelNo}
-use Rattle.sdd_laws.specs.catalog.Catalogue.{Catalogue}
-use Rattle.sdd_laws.specs.history.Records.{History}
-use Rattle.sdd_laws.specs.lang.declared.transaction.Txn.{Txn}
-use Rattle.sdd_laws.specs.lang.Database.{Row}
-use Rattle.sdd_laws.specs.protocol.declared.entry.Entry.{Entry}
-use Rattle.sdd_laws.specs.serial_orders.Attempts.{Attempt, attempts}
+use Rattle.sdd_laws.specs.All.{Attempt, Catalogue, Entry, Eras, History, KeepsRejections, RelNo, Row, Txn, attempts}
 use Rattle.sdd_laws.proofs.serial_orders.Found.{in_attempts}
-use Rattle.sdd_laws.specs.Eras.{Eras}
-use Rattle.sdd_laws.specs.Rejections.{KeepsRejections}
 use Rattle.sdd_history_examples.specs.Keeping.{AreSound, KeepsAll, KeepsOthers}
 use Rattle.sdd_history_examples.proofs.Answers.{PassAnswers, keeps_answers}
 use Rattle.sdd_history_examples.proofs.Applies.{PassApplies, keeps_applies}

@@ -3,16 +3,10 @@ use Rattle.std.proofs.Common.{ℕ, ◌==◌, ◌≡◌, nat_lt, Bool, true, ◌&
 use Rattle.std.specs.Prelude.{filter_map, Contains}
 use Rattle.std.specs.List.{list_any}
 use Rattle.std.proofs.lemmas.Bool.{and_parts, eqb-true, ltb-true}
-use Rattle.sdd_laws.specs.base.Numbers.{class_no, dm_no, txn_no, time_at}
-use Rattle.sdd_laws.specs.history.declared.record.Rec.{Rec}
-use Rattle.sdd_laws.specs.history.declared.record.Rec.TheVariants.{Submit, Commit, Answer, Apply}
-use Rattle.sdd_laws.specs.history.Records.{History}
-use Rattle.sdd_laws.specs.serial_orders.Attempts.{Attempt, Committed, HasCommit, attempts, committed}
-use Rattle.sdd_laws.specs.serial_orders.Places.{Stands, placed}
+use Rattle.sdd_laws.specs.All.{Answer, Apply, Attempt, Commit, Committed, CommittedBefore, HasCommit, History, IsSubmitted, Rec, Stands, StartedBefore, Submit, attempts, class_no, committed, dm_no, placed, time_at, txn_no}
 use Rattle.sdd_laws.proofs.serial_orders.Found.{at_place, from_attempts, from_committed}
 use Rattle.sdd_laws.proofs.serial_orders.Places.{commit_of}
 use Rattle.sdd_laws.proofs.serial_orders.Members.{Contains-filter_map, member_passes}
-use Rattle.sdd_laws.specs.Deeds.{IsSubmitted, StartedBefore, CommittedBefore}
 
 -- a transaction and the place of its Submit
 abbrev submit_of : ℕ × Rec → Option (ℕ × ℕ)

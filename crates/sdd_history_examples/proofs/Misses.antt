@@ -2,14 +2,8 @@
 -- of read conditions are kept, and each precedes the other.
 use Rattle.std.proofs.Common.{[], ◌∷◌, Some, refl, lit<, lit≤}
 use Rattle.std.proofs.lemmas.Bool.{false≢true}
-use Rattle.sdd_laws.specs.base.Numbers.{class_no, frag_no, time_at}
-use Rattle.sdd_laws.specs.base.declared.condition.Cond.{Cond}
-use Rattle.sdd_laws.specs.base.declared.reply.Reply.TheVariants.{Rows}
+use Rattle.sdd_laws.specs.All.{Committed, Cond, Ge, IsCommitted, KeepsConditions, Le, Rows, class_no, frag_no, high_keys, low_keys, misses_both, put, time_at}
 use Rattle.sdd_laws.proofs.base.Membership.{Contains-here}
-use Rattle.sdd_laws.specs.base.declared.restriction.Op.TheVariants.{Le, Ge}
-use Rattle.sdd_laws.specs.serial_orders.Attempts.{Committed, IsCommitted}
-use Rattle.sdd_laws.specs.serial_orders.Examples.{put, low_keys, high_keys, misses_both}
-use Rattle.sdd_laws.specs.Conditions.{KeepsConditions}
 use Rattle.sdd_laws.proofs.Applied.{before_applied}
 use Rattle.sdd_history_examples.specs.Catalogues.{crossing, one_era}
 use Rattle.sdd_history_examples.specs.Keeping.{BreaksConditions}

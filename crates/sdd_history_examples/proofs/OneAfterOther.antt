@@ -1,6 +1,6 @@
 -- Two transactions of one class: the second starts when the first is committed.
 use Rattle.std.proofs.Common.{[], ◌∷◌, refl, lit<, lit≤}
-use Rattle.sdd_laws.specs.base.declared.restriction.Op.TheVariants.{Le}
+use Rattle.sdd_laws.specs.All.{Le}
 use Rattle.sdd_history_examples.specs.Catalogues.{one_class, one_era}
 use Rattle.sdd_history_examples.specs.Histories.{one_after_other}
 use Rattle.sdd_history_examples.specs.Keeping.{KeepsAll}

@@ -1,7 +1,6 @@
 -- A put and a query that is answered before the put comes to its module.
 use Rattle.std.proofs.Common.{[], ◌∷◌, refl, lit<, lit≤}
-use Rattle.sdd_laws.specs.base.declared.restriction.Op.TheVariants.{Le}
-use Rattle.sdd_laws.specs.serial_orders.Examples.{reads_before}
+use Rattle.sdd_laws.specs.All.{Le, reads_before}
 use Rattle.sdd_history_examples.specs.Catalogues.{bridge, one_era}
 use Rattle.sdd_history_examples.specs.Keeping.{KeepsAll}
 use Rattle.sdd_history_examples.specs.Tables.{table_of_bridge}

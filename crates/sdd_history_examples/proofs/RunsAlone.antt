@@ -1,6 +1,6 @@
 -- A transaction that no class covers runs between two of one class.
 use Rattle.std.proofs.Common.{[], ◌∷◌, refl, lit<, lit≤}
-use Rattle.sdd_laws.specs.base.declared.restriction.Op.TheVariants.{Le}
+use Rattle.sdd_laws.specs.All.{Le}
 use Rattle.sdd_history_examples.specs.Catalogues.{one_era, one_writer}
 use Rattle.sdd_history_examples.specs.Histories.{runs_alone}
 use Rattle.sdd_history_examples.specs.Keeping.{KeepsAll}

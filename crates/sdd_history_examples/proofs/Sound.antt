@@ -1,8 +1,8 @@
 -- The worked catalogues are valid.
 use Rattle.std.proofs.Common.{ℕ, refl}
 use Rattle.std.proofs.lemmas.List.Elements.{All-from_recursion}
-use Rattle.sdd_laws.specs.catalog.Catalogue.{Catalogue}
-use Rattle.sdd_laws.specs.catalog.Rules.{IsSound, faults_of}
+use Rattle.sdd_laws.specs.All.{Catalogue, IsSound}
+use Rattle.sdd_laws.specs.catalog.Rules.{faults_of}
 use Rattle.sdd_history_examples.specs.Catalogues.{bridge, one_reader, crossing, one_class, one_writer, both_classes, further_classes, one_era, two_eras}
 use Rattle.sdd_history_examples.specs.Keeping.{AreSound}
 

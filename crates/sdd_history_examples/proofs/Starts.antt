@@ -3,17 +3,8 @@ use Rattle.std.proofs.Common.{ℕ, suc, ◌%◌, ◌<◌, ◌≤◌, ◌==◌, �
 use Rattle.std.specs.Prelude.{is_some, unwrap_or, option_map, Contains}
 use Rattle.std.specs.List.{AllByRecursion, list_all}
 use Rattle.std.proofs.lemmas.Bool.{and_parts, cases_lt, eqb-true, lt-ltb, ltb-true, not-true, false≢true}
-use Rattle.sdd_laws.specs.base.declared.number.Ts.{Ts}
-use Rattle.sdd_laws.specs.catalog.Catalogue.{Catalogue}
-use Rattle.sdd_laws.specs.history.Records.{History}
-use Rattle.sdd_laws.specs.lang.declared.transaction.Txn.{Txn}
-use Rattle.sdd_laws.specs.lang.Classes.{class_for}
-use Rattle.sdd_laws.specs.serial_orders.Attempts.{Attempt, Committed, IsAttempt, IsCommitted, HasCommit, attempts, committed, p2_time}
-use Rattle.sdd_laws.specs.serial_orders.Places.{event_at}
+use Rattle.sdd_laws.specs.All.{Attempt, Catalogue, Committed, CommittedBefore, Eras, HasCommit, History, IsAttempt, IsBound, IsCommitted, IsOfSubmit, IsSubmitted, KeepsStarts, Ts, Txn, attempts, class_for, committed, event_at, in_force, p2_time, starts_before, txn_at}
 use Rattle.sdd_laws.proofs.serial_orders.Found.{in_attempts, in_committed}
-use Rattle.sdd_laws.specs.Deeds.{txn_at, IsSubmitted, CommittedBefore}
-use Rattle.sdd_laws.specs.Eras.{Eras, in_force}
-use Rattle.sdd_laws.specs.Starts.{IsOfSubmit, starts_before, IsBound, KeepsStarts}
 use Rattle.sdd_laws.proofs.NumberedStarts.{one_start}
 use Rattle.sdd_history_examples.proofs.Each.{same, same_is, if_so, so, each, all_pairs, each_pair, each_has}
 use Rattle.sdd_history_examples.proofs.Listed.{CommitAt, submits, in_submits, commits, in_commits, is_committed, committed_before}

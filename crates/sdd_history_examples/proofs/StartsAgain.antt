@@ -1,16 +1,9 @@
 -- A query that comes after a later put is rejected, and starts again with a greater timestamp.
 use Rattle.std.proofs.Common.{◌<◌, ◌≡◌, [], ◌∷◌, Some, refl, lit<, lit≤, subst, arith}
 use Rattle.std.proofs.lemmas.Option.{same_Some}
-use Rattle.sdd_laws.specs.base.Numbers.{class_no, frag_no, time_at}
-use Rattle.sdd_laws.specs.base.declared.condition.Cond.{Cond}
-use Rattle.sdd_laws.specs.base.declared.number.Ts.{Ts}
-use Rattle.sdd_laws.specs.base.declared.reply.Reply.TheVariants.{Rows}
+use Rattle.sdd_laws.specs.All.{Attempt, Committed, Cond, IsAgain, KeepsRejections, Le, Rows, Ts, attempts, class_no, frag_no, low_keys, put, starts_again, time_at}
 use Rattle.sdd_laws.proofs.base.Membership.{Contains-here}
-use Rattle.sdd_laws.specs.base.declared.restriction.Op.TheVariants.{Le}
-use Rattle.sdd_laws.specs.serial_orders.Attempts.{Attempt, Committed, attempts}
-use Rattle.sdd_laws.specs.serial_orders.Examples.{put, low_keys, starts_again}
 use Rattle.sdd_laws.proofs.serial_orders.Found.{in_attempts}
-use Rattle.sdd_laws.specs.Rejections.{IsAgain, KeepsRejections}
 use Rattle.sdd_history_examples.specs.Catalogues.{crossing, one_era}
 use Rattle.sdd_history_examples.specs.Keeping.{KeepsAll}
 use Rattle.sdd_history_examples.specs.Tables.{table_of_crossing}

@@ -1,15 +1,8 @@
 -- The transactions of the worked histories fit the catalogues, whatever the classes.
 use Rattle.std.proofs.Common.{ℕ, List, [], ◌∷◌, pos, refl, lit≤}
 use Rattle.std.proofs.lemmas.List.Elements.{All-from_recursion}
-use Rattle.sdd_laws.specs.base.Numbers.{rel_no}
-use Rattle.sdd_laws.specs.base.declared.number.RelNo.{RelNo}
-use Rattle.sdd_laws.specs.base.declared.restriction.Op.{Op}
-use Rattle.sdd_laws.specs.base.declared.value.Value.TheVariants.{Int}
-use Rattle.sdd_laws.specs.catalog.declared.resolved.Class.{Class}
-use Rattle.sdd_laws.specs.lang.declared.condition.Condition.TheVariants.{Const}
-use Rattle.sdd_laws.specs.lang.declared.statement.Stmt.{Stmt}
-use Rattle.sdd_laws.specs.lang.Fits.{IsFrom1To, IsRelation, FitsRef, FitsCondition, FitsStart, FitsStatement, Fits}
-use Rattle.sdd_laws.specs.serial_orders.Examples.{with_classes, row_of}
+use Rattle.sdd_laws.specs.All.{Class, Const, Fits, FitsCondition, FitsRef, FitsStart, FitsStatement, Int, IsRelation, Op, RelNo, Stmt, rel_no, row_of, with_classes}
+use Rattle.sdd_laws.specs.lang.Fits.{IsFrom1To}
 use Rattle.sdd_history_examples.specs.Catalogues.{named}
 use Rattle.sdd_history_examples.specs.Texts.{given_to, put_row, column, values_by, all_rows}
 

@@ -3,12 +3,8 @@ use Rattle.std.proofs.Common.{ℕ, ◌==◌, ◌≡◌, nat_lt, Bool, true, not,
 use Rattle.std.specs.Prelude.{Contains}
 use Rattle.std.specs.List.{list_all}
 use Rattle.std.proofs.lemmas.Bool.{and_parts, ltb-true, ne_eqb}
-use Rattle.sdd_laws.specs.catalog.Catalogue.{Catalogue, numbers_to}
-use Rattle.sdd_laws.specs.history.Records.{History}
-use Rattle.sdd_laws.specs.serial_orders.Attempts.{Committed, IsCommitted, committed}
+use Rattle.sdd_laws.specs.All.{Catalogue, Committed, History, IsCommitted, IsWhollyAfter, IsWhollyBefore, KeepsUndeclared, committed, is_applied, numbers_to}
 use Rattle.sdd_laws.proofs.serial_orders.Before.{or_cases}
-use Rattle.sdd_laws.specs.Snapshots.{is_applied}
-use Rattle.sdd_laws.specs.Undeclared.{IsWhollyBefore, IsWhollyAfter, KeepsUndeclared}
 use Rattle.sdd_laws.proofs.Applied.{applied_before}
 use Rattle.sdd_history_examples.proofs.Applies.{goes, goes_is, is_answer_of, own_answer}
 use Rattle.sdd_history_examples.proofs.Each.{if_so, so, each, all_pairs, each_pair, each_to}

@@ -1,6 +1,6 @@
 -- A query of two modules, which waits at both for the puts that are up to its time.
 use Rattle.std.proofs.Common.{[], ◌∷◌, refl, lit<, lit≤}
-use Rattle.sdd_laws.specs.serial_orders.Examples.{waits_at_two}
+use Rattle.sdd_laws.specs.All.{waits_at_two}
 use Rattle.sdd_history_examples.specs.Catalogues.{one_era, one_reader}
 use Rattle.sdd_history_examples.specs.Keeping.{KeepsAll}
 use Rattle.sdd_history_examples.specs.Tables.{table_of_one_reader}

@@ -1,7 +1,6 @@
 -- Each of two transactions reads what the other writes, and the second waits for the first.
 use Rattle.std.proofs.Common.{[], ◌∷◌, refl, lit<, lit≤}
-use Rattle.sdd_laws.specs.base.declared.restriction.Op.TheVariants.{Le, Ge}
-use Rattle.sdd_laws.specs.serial_orders.Examples.{waits_for_other}
+use Rattle.sdd_laws.specs.All.{Ge, Le, waits_for_other}
 use Rattle.sdd_history_examples.specs.Catalogues.{crossing, one_era}
 use Rattle.sdd_history_examples.specs.Keeping.{KeepsAll}
 use Rattle.sdd_history_examples.specs.Tables.{table_of_crossing}

@@ -6,8 +6,7 @@ use Rattle.std.proofs.lemmas.List.Elements.{All-from_recursion}
 use Rattle.std.proofs.lemmas.Option.{same_Some}
 use Rattle.sdd_blocks.specs.Blocks.{OnACycle}
 use Rattle.sdd_blocks.specs.Graph.{Step, IsSimpleCycle}
-use Rattle.sdd_laws.specs.protocol.Protocols.{IsTable, protocol_in}
-use Rattle.sdd_laws.specs.protocol.declared.entry.Entry.{Entry}
+use Rattle.sdd_laws.specs.All.{Entry, IsTable, protocol_in}
 use Rattle.sdd_history_examples.specs.Catalogues.{bridge, crossing, further_classes, one_class, one_reader, one_writer}
 use Rattle.sdd_history_examples.specs.Tables.{table_of_two, table_of_bridge, table_of_one_reader, table_of_crossing, table_of_one}
 use Rattle.sdd_history_examples.proofs.Blocks.{crosses_alone, no_blocks, IsNumbered, one_block}

@@ -1,17 +1,8 @@
 -- The catalogues of the worked histories, with names.
 use Rattle.std.specs.Prelude.{ℕ, ◌+◌, List, [], ◌∷◌, map}
 use Rattle.std.specs.List.{enumerate_from}
-use Rattle.sdd_laws.specs.base.Numbers.{tm_no, dm_no, frag_no}
-use Rattle.sdd_laws.specs.catalog.Catalogue.{Catalogue}
-use Rattle.sdd_laws.specs.catalog.Names.{Text}
-use Rattle.sdd_laws.specs.catalog.declared.resolved.Class.{Class}
-use Rattle.sdd_laws.specs.catalog.declared.resolved.Column.{Column}
-use Rattle.sdd_laws.specs.catalog.declared.resolved.Fragment.{Fragment}
-use Rattle.sdd_laws.specs.catalog.declared.resolved.Read.{Read}
-use Rattle.sdd_laws.specs.catalog.declared.resolved.Relation.{Relation}
-use Rattle.sdd_laws.specs.Eras.{Eras}
+use Rattle.sdd_laws.specs.All.{Catalogue, Class, Column, Eras, Fragment, Read, Relation, Text, dm_no, frag_no, tm_no, with_classes}
 use Rattle.sdd_laws.specs.serial_orders.Examples as examples
-use Rattle.sdd_laws.specs.serial_orders.Examples.{with_classes}
 
 -- relations, columns, fragments and classes are named a, b, c and so on
 

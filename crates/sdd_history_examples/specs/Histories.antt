@@ -1,11 +1,6 @@
 -- Further histories.
 use Rattle.std.specs.Prelude.{pos, [], ◌∷◌, None, Some}
-use Rattle.sdd_laws.specs.base.Numbers.{dm_no, class_no, frag_no, txn_no, time_at}
-use Rattle.sdd_laws.specs.base.declared.reply.Reply.TheVariants.{Rows}
-use Rattle.sdd_laws.specs.base.declared.value.Value.TheVariants.{Int}
-use Rattle.sdd_laws.specs.history.declared.record.Rec.TheVariants.{Submit, Start, Arrive, Wait, Answer, Commit, Apply, Pass}
-use Rattle.sdd_laws.specs.history.Records.{History}
-use Rattle.sdd_laws.specs.serial_orders.Examples.{put, low_keys}
+use Rattle.sdd_laws.specs.All.{Answer, Apply, Arrive, Commit, History, Int, Pass, Rows, Start, Submit, Wait, class_no, dm_no, frag_no, low_keys, put, time_at, txn_no}
 
 -- Two transactions of one class, each of which asks for the low keys and puts one: the second starts when the first is
 -- committed, and sees what it put.

@@ -1,22 +1,7 @@
 -- Histories that keep all laws, and that break one.
 use Rattle.std.specs.Prelude.{List}
 use Rattle.std.specs.List.{All}
-use Rattle.sdd_laws.specs.base.declared.number.RelNo.{RelNo}
-use Rattle.sdd_laws.specs.catalog.Catalogue.{Catalogue}
-use Rattle.sdd_laws.specs.catalog.Rules.{IsSound}
-use Rattle.sdd_laws.specs.history.Records.{History}
-use Rattle.sdd_laws.specs.lang.declared.transaction.Txn.{Txn}
-use Rattle.sdd_laws.specs.lang.Database.{Row}
-use Rattle.sdd_laws.specs.serial_orders.Precedence.{HasNoCycle}
-use Rattle.sdd_laws.specs.Answers.{KeepsAnswers}
-use Rattle.sdd_laws.specs.Applies.{KeepsApplies}
-use Rattle.sdd_laws.specs.Conditions.{KeepsConditions}
-use Rattle.sdd_laws.specs.Eras.{Eras}
-use Rattle.sdd_laws.specs.Kept.{FitTogether, KeepsLaws}
-use Rattle.sdd_laws.specs.Redeclares.{KeepsEras}
-use Rattle.sdd_laws.specs.Rejections.{KeepsRejections}
-use Rattle.sdd_laws.specs.Starts.{KeepsStarts}
-use Rattle.sdd_laws.specs.Undeclared.{KeepsUndeclared}
+use Rattle.sdd_laws.specs.All.{Catalogue, Eras, FitTogether, HasNoCycle, History, IsSound, KeepsAnswers, KeepsApplies, KeepsConditions, KeepsEras, KeepsLaws, KeepsRejections, KeepsStarts, KeepsUndeclared, RelNo, Row, Txn}
 
 -- the catalogue, and that of each list of classes, is valid
 pub record AreSound (cat : Catalogue) (eras : Eras) : Type 0 where

@@ -1,11 +1,6 @@
 -- The protocol tables of the worked catalogues.
 use Rattle.std.specs.Prelude.{ℕ, List, [], ◌∷◌}
-use Rattle.sdd_laws.specs.base.Numbers.{class_no, frag_no}
-use Rattle.sdd_laws.specs.graph.declared.edge.Edge.{Edge}
-use Rattle.sdd_laws.specs.graph.declared.edge.Edge.TheVariants.{Vertical, Diagonal}
-use Rattle.sdd_laws.specs.protocol.Protocols.{entry_of}
-use Rattle.sdd_laws.specs.protocol.declared.entry.Entry.{Entry}
-use Rattle.sdd_laws.specs.protocol.declared.protocol.Protocol.TheVariants.{P1, P2, P3}
+use Rattle.sdd_laws.specs.All.{Diagonal, Edge, Entry, P1, P2, P3, Vertical, class_no, entry_of, frag_no}
 
 abbrev vertical : ℕ → Edge
 vertical i = Vertical (class_no i)

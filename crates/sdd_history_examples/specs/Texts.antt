@@ -1,17 +1,6 @@
 -- The transactions of the worked histories, and the rows that were there before.
 use Rattle.std.specs.Prelude.{ℕ, pos, List, [], ◌∷◌}
-use Rattle.sdd_laws.specs.base.Numbers.{rel_no, tm_no}
-use Rattle.sdd_laws.specs.base.declared.number.RelNo.{RelNo}
-use Rattle.sdd_laws.specs.base.declared.restriction.Op.{Op}
-use Rattle.sdd_laws.specs.base.declared.restriction.Op.TheVariants.{Le, Ge}
-use Rattle.sdd_laws.specs.base.declared.value.Value.TheVariants.{Int}
-use Rattle.sdd_laws.specs.lang.declared.condition.Condition.TheVariants.{Const}
-use Rattle.sdd_laws.specs.lang.declared.condition.Ref.{Ref}
-use Rattle.sdd_laws.specs.lang.declared.statement.Stmt.{Stmt}
-use Rattle.sdd_laws.specs.lang.declared.statement.Stmt.TheVariants.{Put, Query}
-use Rattle.sdd_laws.specs.lang.declared.transaction.Txn.{Txn}
-use Rattle.sdd_laws.specs.lang.Database.{Row}
-use Rattle.sdd_laws.specs.serial_orders.Examples.{row_of}
+use Rattle.sdd_laws.specs.All.{Const, Ge, Int, Le, Op, Put, Query, Ref, RelNo, Row, Stmt, Txn, rel_no, row_of, tm_no}
 
 -- statements that are given to module t
 abbrev pub given_to : ℕ → List Stmt → Txn

@@ -1,7 +1,5 @@
 ghost use Rattle.std.specs.Prelude.{◌≡◌, [], ◌∷◌};
-ghost use Rattle.sdd_laws.specs.base.Numbers.{txn_no};
-ghost use Rattle.sdd_laws.specs.serial_orders.Examples.{reads_before, waits_at_two, waits_for_other, starts_again, misses_both};
-ghost use Rattle.sdd_laws.specs.serial_orders.SerialOrder.{serial_order};
+ghost use Rattle.sdd_laws.specs.All.{misses_both, reads_before, serial_order, starts_again, txn_no, waits_at_two, waits_for_other};
 ghost use Rattle.sdd_history_examples.specs.Catalogues.{bridge, one_reader, crossing, one_class, one_writer, both_classes, one_era, two_eras};
 ghost use Rattle.sdd_history_examples.specs.Histories.{one_after_other, runs_alone, redeclares};
 ghost use Rattle.sdd_history_examples.specs.Keeping.{KeepsAll, BreaksConditions};

@@ -1,4 +1,4 @@
-ghost use Rattle.sdd_laws.specs.protocol.Protocols.{IsTable};
+ghost use Rattle.sdd_laws.specs.All.{IsTable};
 ghost use Rattle.sdd_history_examples.specs.Catalogues.{bridge, one_reader, crossing, further_classes, one_class, one_writer};
 ghost use Rattle.sdd_history_examples.specs.Tables.{table_of_bridge, table_of_one, table_of_one_reader, table_of_crossing, table_of_two};
 

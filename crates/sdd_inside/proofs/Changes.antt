@@ -1,7 +1,7 @@
 -- Loops over two moments, one part more and at their end.
 use Rattle.std.proofs.Common.{◌≡◌, ℕ, ◌+◌, ◌<◌, ◌≤◌, ◌⊎◌, List, [], ◌∷◌, ◌++◌, length, map, get_or, drop, inl, inr, refl, sym, ap, ◌∙◌, append_assoc, append-nil, drop-cons, add-one, arith}
 use Rattle.std.proofs.lemmas.List.{drop_all}
-use Rattle.sdd_script.specs.base.declared.site.Site.{Site}
+use Rattle.sdd_script.specs.All.{Site}
 use Rattle.sdd_inside.specs.Differences.{changes, on_link}
 use Rattle.sdd_inside.specs.declared.delta.InFlight.{InFlight}
 use Rattle.sdd_inside.specs.declared.delta.Put.{Put}

@@ -1,10 +1,8 @@
 -- Strings that are put piece by piece.
 use Rattle.std.proofs.Common.{◌≡◌, ℕ, List, [], ◌∷◌, ◌++◌, map, flat_map, sym, ap, ◌∙◌, append_assoc}
-use Rattle.sdd_script.specs.base.declared.value.Value.{Value}
+use Rattle.sdd_script.specs.All.{Plain, Value, Word}
 use Rattle.sdd_script.specs.words.Values.{value_word}
 use Rattle.sdd_script.specs.words.Words.{word_bytes, line_bytes, spaced}
-use Rattle.sdd_script.specs.words.declared.word.Word.{Word}
-use Rattle.sdd_script.specs.words.declared.word.Word.TheVariants.{Plain}
 use Rattle.sdd_script.proofs.words.Written.{flat_map-append, words_spaced}
 use Rattle.sdd_script.proofs.Pieces.{three_words, keyed}
 use Rattle.sdd_inside.specs.Json.{escaped, escaped_byte, quoted}

@@ -3,10 +3,8 @@ use Rattle.std.specs.Prelude.{ℕ, ◌==◌, ◌&&◌, ◌-◌, nat_le, Bool, tr
 use Rattle.std.specs.List.{position}
 use Rattle.sdd_script.specs.base.Sites.{same_site}
 use Rattle.sdd_script.specs.base.Words.{is_empty}
-use Rattle.sdd_script.specs.base.declared.event.Event.{Event}
+use Rattle.sdd_script.specs.All.{Event, Site, TxnNo}
 use Rattle.sdd_script.specs.base.declared.event.Event.TheVariants as events
-use Rattle.sdd_script.specs.base.declared.number.TxnNo.{TxnNo}
-use Rattle.sdd_script.specs.base.declared.site.Site.{Site}
 use Rattle.sdd_net.specs.declared.packet.Packet.{Packet}
 use Rattle.sdd_net.specs.declared.packet.Packet.TheVariants as packets
 use Rattle.sdd_wire.specs.declared.msg.Msg.{Msg}

@@ -1,20 +1,14 @@
 -- Worked lines: what the reference prints of runs of examples/, event by event.
 use Rattle.std.specs.Prelude.{ℕ, ◌≡◌, [], ◌∷◌, ◌++◌, List, map, codes, pos, true, false, Option, Some, None, refl}
 use Rattle.std.specs.Fmt.{digits}
-use Rattle.sdd_script.specs.base.Numbers.{class_no, dm_no, frag_no, rel_no, time_at, tm_no, txn_no}
+use Rattle.sdd_script.specs.All.{Catalogue, Class, D, Event, Fragment, Int, Site, T, Txn, Value, dm_no, rel_no, tm_no, txn_no}
+use Rattle.sdd_script.specs.base.Numbers.{class_no, frag_no, time_at}
 use Rattle.sdd_script.specs.base.declared.change.Change.{Change}
 use Rattle.sdd_script.specs.base.declared.condition.Cond.{Cond}
-use Rattle.sdd_script.specs.base.declared.event.Event.{Event}
 use Rattle.sdd_script.specs.base.declared.event.Event.TheVariants as events
 use Rattle.sdd_script.specs.base.declared.number.DmNo.{DmNo}
-use Rattle.sdd_script.specs.base.declared.site.Site.{Site}
-use Rattle.sdd_script.specs.base.declared.site.Site.TheVariants.{U, T, D}
-use Rattle.sdd_script.specs.base.declared.value.Value.{Value}
-use Rattle.sdd_script.specs.base.declared.value.Value.TheVariants.{Int, Text}
-use Rattle.sdd_script.specs.catalog.Catalogue.{Catalogue}
-use Rattle.sdd_script.specs.catalog.declared.resolved.Class.{Class}
-use Rattle.sdd_script.specs.catalog.declared.resolved.Fragment.{Fragment}
-use Rattle.sdd_script.specs.lang.declared.transaction.Txn.{Txn}
+use Rattle.sdd_script.specs.base.declared.site.Site.TheVariants.{U}
+use Rattle.sdd_script.specs.base.declared.value.Value.TheVariants.{Text}
 use Rattle.sdd_report.specs.declared.copies.CopyTable.{CopyTable}
 use Rattle.sdd_wire.specs.declared.msg.Msg.TheVariants as messages
 use Rattle.sdd_inside.specs.Json.{also}

@@ -1,8 +1,7 @@
 -- The lines of the text: the first one, and one for each event.
 use Rattle.std.specs.Prelude.{ℕ, List, [], ◌∷◌, ◌++◌, codes, Option, Some, None}
 use Rattle.std.specs.Fmt.{decimal}
-use Rattle.sdd_script.specs.catalog.Catalogue.{Catalogue}
-use Rattle.sdd_script.specs.lang.declared.transaction.Txn.{Txn}
+use Rattle.sdd_script.specs.All.{Catalogue, Txn}
 use Rattle.sdd_report.specs.declared.copies.CopyTable.{CopyTable}
 use Rattle.sdd_inside.specs.Json.{array, triple, member, also, object, unless_empty, unless_zero}
 use Rattle.sdd_inside.specs.Messages.{ack_json, packet_json}

@@ -3,8 +3,7 @@ use Rattle.std.specs.Prelude.{ℕ, List, [], ◌++◌, codes, length, map, sum}
 use Rattle.std.specs.Fmt.{decimal}
 use Rattle.sdd_script.specs.base.declared.number.ClassNo.{ClassNo}
 use Rattle.sdd_script.specs.base.declared.number.Ts.{Ts}
-use Rattle.sdd_script.specs.catalog.Catalogue.{Catalogue}
-use Rattle.sdd_script.specs.lang.declared.transaction.Txn.{Txn}
+use Rattle.sdd_script.specs.All.{Catalogue, Txn}
 use Rattle.sdd_wire.specs.declared.msg.Msg.{Msg}
 use Rattle.sdd_wire.specs.declared.msg.Msg.TheVariants as messages
 use Rattle.sdd_inside.specs.Json.{quoted, array, member, also, object}

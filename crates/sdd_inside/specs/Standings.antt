@@ -1,10 +1,8 @@
 -- How sites stand, as JSON.
 use Rattle.std.specs.Prelude.{ℕ, List, ◌++◌, codes}
 use Rattle.std.specs.Fmt.{decimal}
-use Rattle.sdd_script.specs.base.declared.site.Site.{Site}
+use Rattle.sdd_script.specs.All.{Catalogue, Site, Txn}
 use Rattle.sdd_script.specs.base.declared.site.Site.TheVariants as sites
-use Rattle.sdd_script.specs.catalog.Catalogue.{Catalogue}
-use Rattle.sdd_script.specs.lang.declared.transaction.Txn.{Txn}
 use Rattle.sdd_inside.specs.Json.{quoted, array, triple, member, also, object, unless_empty, if_true}
 use Rattle.sdd_inside.specs.Words.{time_json, class_json, attempt_json, site_json, dm_json, cond_json}
 use Rattle.sdd_inside.specs.declared.standing.Active.{Active}

@@ -1,10 +1,9 @@
 -- Worked differences: two events of examples/lost_packet, from the moments before and after them to what their lines tell.
 use Rattle.std.specs.Prelude.{ℕ, ◌+◌, ◌*◌, ◌≡◌, [], ◌∷◌, ◌++◌, List, map, codes, false, Some, None, refl}
 use Rattle.std.specs.Fmt.{digits}
-use Rattle.sdd_script.specs.base.Numbers.{class_no, dm_no, time_at, tm_no, txn_no}
+use Rattle.sdd_script.specs.All.{Site, TxnNo, dm_no, tm_no, txn_no}
+use Rattle.sdd_script.specs.base.Numbers.{class_no, time_at}
 use Rattle.sdd_script.specs.base.declared.event.Event.TheVariants as events
-use Rattle.sdd_script.specs.base.declared.number.TxnNo.{TxnNo}
-use Rattle.sdd_script.specs.base.declared.site.Site.{Site}
 use Rattle.sdd_net.specs.declared.packet.Packet.{Packet}
 use Rattle.sdd_net.specs.declared.packet.Packet.TheVariants.{Message, Ack}
 use Rattle.sdd_wire.specs.declared.msg.Msg.{Msg}

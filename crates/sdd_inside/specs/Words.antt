@@ -3,16 +3,11 @@ use Rattle.std.specs.Prelude.{ℕ, ℤ, List, codes, map, Option, Some, None}
 use Rattle.std.specs.Fmt.{decimal, signed_decimal}
 use Rattle.sdd_script.specs.base.declared.change.Change.{Change}
 use Rattle.sdd_script.specs.base.declared.condition.Cond.{Cond}
-use Rattle.sdd_script.specs.base.declared.event.Event.{Event}
+use Rattle.sdd_script.specs.All.{Catalogue, Event, Site, Txn, TxnNo, Value}
 use Rattle.sdd_script.specs.base.declared.number.ClassNo.{ClassNo}
 use Rattle.sdd_script.specs.base.declared.number.DmNo.{DmNo}
 use Rattle.sdd_script.specs.base.declared.number.FragNo.{FragNo}
 use Rattle.sdd_script.specs.base.declared.number.Ts.{Ts}
-use Rattle.sdd_script.specs.base.declared.number.TxnNo.{TxnNo}
-use Rattle.sdd_script.specs.base.declared.site.Site.{Site}
-use Rattle.sdd_script.specs.base.declared.value.Value.{Value}
-use Rattle.sdd_script.specs.catalog.Catalogue.{Catalogue}
-use Rattle.sdd_script.specs.lang.declared.transaction.Txn.{Txn}
 use Rattle.sdd_report.specs.Names.{class_word, fragment_name, site_word, module_word, txn_name, attempt_word}
 use Rattle.sdd_script.specs.Spelling.{event_words}
 use Rattle.sdd_script.specs.words.Values.{value_word}

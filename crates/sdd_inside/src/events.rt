@@ -1,7 +1,7 @@
 //! Events as a workload spells them.
 ghost use Rattle.std.specs.Prelude.{◌≡◌, ◌++◌, ◌∷◌, [], codes, OnOk};
 ghost use Rattle.sdd_script.specs.words.Words.{line_bytes, spaced};
-ghost use Rattle.sdd_script.specs.words.declared.word.Word.TheVariants.{Plain};
+ghost use Rattle.sdd_script.specs.All.{Plain};
 ghost use Rattle.sdd_script.specs.Spelling.{site_word, count_word, event_words};
 ghost use Rattle.sdd_inside.specs.Words.{event_json};
 

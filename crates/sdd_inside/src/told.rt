@@ -1,8 +1,7 @@
 //! What a line tells, as JSON: values, lists of them, and members of objects.
 ghost use Rattle.std.specs.Prelude.{ℕ, List, ◌≡◌, ◌++◌, ◌∷◌, [], flat_map, MatchOption, OnOk};
 ghost use Rattle.std.specs.Fmt.{decimal};
-ghost use Rattle.sdd_script.specs.catalog.Catalogue.{Catalogue as Names};
-ghost use Rattle.sdd_script.specs.lang.declared.transaction.Txn.{Txn as Named};
+ghost use Rattle.sdd_script.specs.All.{Catalogue as Names, Txn as Named};
 ghost use Rattle.sdd_inside.specs.Json.{separated, further, array, pair, triple, member, also, unless_empty, if_true, unless_zero};
 
 use sdd_script::sdd_base::{Listed, NoMemory};

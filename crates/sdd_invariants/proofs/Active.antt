@@ -1,14 +1,7 @@
 -- How the active attempt changes: it ends, or keeps all but its exchange. And what holds of each kind of step.
 use Rattle.std.proofs.Common.{ℕ, ◌++◌, ◌∷◌, ◌≡◌, None, Option, Some, [], refl, subst, sym, true}
-use Rattle.sdd_log.specs.base.Words.{head_of}
-use Rattle.sdd_log.specs.base.declared.site.Site.{Site}
-use Rattle.sdd_log.specs.base.declared.site.Site.TheVariants.{D, T, U}
-use Rattle.sdd_log.specs.wire.declared.msg.Msg.{Msg}
-use Rattle.sdd_log.specs.site_module.SiteLog.{Act, Bases, Each, Entry, Log, Sends, Setting}
-use Rattle.sdd_log.specs.attempt.Acts.{commit_act}
-use Rattle.sdd_log.specs.attempt.Attempts.{Attempt, active, active_handed, active_sent, asks_rows, rejects}
-use Rattle.sdd_log.specs.attempt.Exchange.{Exchange, after_hand, after_send, is_over}
-use Rattle.sdd_log.specs.attempt.Queues.{Queued, queue}
+use Rattle.sdd_log.specs.All.{Act, Attempt, Bases, D, Each, Entry, Exchange, Msg, Queued, Sends, Setting, Site, T, U, active, active_handed, active_sent, after_hand, after_send, asks_rows, commit_act, head_of, is_over, queue, rejects}
+use Rattle.sdd_log.specs.site_module.SiteLog.{Log}
 use Rattle.sdd_invariants.proofs.Bools.{if_way}
 use Rattle.sdd_invariants.specs.Steps.{IsSend, IsStep, by_commit, by_send, by_start, home, start_at}
 

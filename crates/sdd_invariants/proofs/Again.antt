@@ -4,33 +4,8 @@ use Rattle.std.specs.List.{cons_option}
 use Rattle.std.specs.Prelude.{filter_map, fold, max}
 use Rattle.std.proofs.Common.{ℕ, ◌*◌, ◌++◌, ◌+◌, ◌/◌, ◌<◌, ◌∙◌, ◌∷◌, ◌≡◌, ◌≤◌, ◌⊎◌, Bool, List, None, Option, Some, [], ap, append_assoc, arith, cond, false, filter, inl, inr, length, refl, slice_get, subst, suc, sym, true, zero}
 use Rattle.std.proofs.Math.Decide.{dec_le}
-use Rattle.sdd_log.specs.base.Numbers.{time_at}
-use Rattle.sdd_log.specs.base.Sites.{number_of}
-use Rattle.sdd_log.specs.base.Words.{head_of}
-use Rattle.sdd_log.specs.base.declared.change.Change.{Change}
-use Rattle.sdd_log.specs.base.declared.condition.Cond.{Cond}
-use Rattle.sdd_log.specs.base.declared.number.ClassNo.{ClassNo}
-use Rattle.sdd_log.specs.base.declared.number.DmNo.{DmNo}
-use Rattle.sdd_log.specs.base.declared.number.FragNo.{FragNo}
-use Rattle.sdd_log.specs.base.declared.number.Ts.{Ts}
-use Rattle.sdd_log.specs.base.declared.number.TxnNo.{TxnNo}
-use Rattle.sdd_log.specs.base.declared.site.Site.{Site}
-use Rattle.sdd_log.specs.base.declared.site.Site.TheVariants.{D}
+use Rattle.sdd_log.specs.All.{Change, ClassNo, ClassView, Cond, D, DmNo, Does, FragNo, Given, Hand, Handed, IsPermitted, Log, Msg, Pipe, Queued, Read, Records, Reject, Setting, Site, Ts, TxnNo, Write, active, at_class, clock, empty_pipe, greatest, handed, head, head_of, home_of, is_at_least, last_write, last_write_for, local_of, number_of, or_zero, pipe, queue, raised, setting_of, source_of, spoils, time_at, touches, view_of, write_time}
 use Rattle.sdd_log.specs.history.declared.record.Rec.TheVariants.{Reject as Rejected}
-use Rattle.sdd_log.specs.wire.declared.msg.Msg.{Msg}
-use Rattle.sdd_log.specs.wire.declared.msg.Msg.TheVariants.{Read, Reject, Write}
-use Rattle.sdd_log.specs.site_module.SiteLog.{Handed, Records, Setting}
-use Rattle.sdd_log.specs.attempt.Attempts.{active}
-use Rattle.sdd_log.specs.attempt.Clocks.{clock}
-use Rattle.sdd_log.specs.attempt.Queues.{Queued, queue}
-use Rattle.sdd_log.specs.pipe.Pipe.{Pipe, empty_pipe, greatest, head, last_write, raised, touches, write_time}
-use Rattle.sdd_log.specs.dm.Due.{is_at_least, last_write_for, or_zero, spoils}
-use Rattle.sdd_log.specs.dm.Pipes.{pipe}
-use Rattle.sdd_log.specs.dm.Views.{ClassView, at_class, home_of, source_of, view_of}
-use Rattle.sdd_log.specs.Entries.{Does, Given, Hand, Log}
-use Rattle.sdd_log.specs.Locals.{local_of, setting_of}
-use Rattle.sdd_log.specs.Permitted.{IsPermitted}
-use Rattle.sdd_log.specs.Traffic.{handed}
 use Rattle.sdd_invariants.proofs.Clocks.{clock_grows, clock_number}
 use Rattle.sdd_invariants.proofs.Recorded.{start_of_active}
 use Rattle.sdd_invariants.proofs.Retried.{was_rejected}

@@ -3,31 +3,8 @@
 use Rattle.std.specs.List.{list_any}
 use Rattle.std.proofs.Common.{ℕ, ◌&&◌, ◌++◌, ◌==◌, ◌||◌, ◌∙◌, ◌∷◌, ◌≡◌, Bool, List, Some, [], ap, append_assoc, arith, false, if◌then◌else◌, inl, inr, refl, slice_get, subst, suc, sym, true, zero}
 use Rattle.std.proofs.lemmas.Bool.{eqb-true}
-use Rattle.sdd_log.specs.base.Sites.{same_site}
-use Rattle.sdd_log.specs.base.Words.{contains, head_of}
-use Rattle.sdd_log.specs.base.declared.condition.Cond.{Cond}
-use Rattle.sdd_log.specs.base.declared.number.ClassNo.{ClassNo}
-use Rattle.sdd_log.specs.base.declared.number.DmNo.{DmNo}
-use Rattle.sdd_log.specs.base.declared.number.Ts.{Ts}
-use Rattle.sdd_log.specs.base.declared.number.TxnNo.{TxnNo}
-use Rattle.sdd_log.specs.base.declared.site.Site.{Site}
-use Rattle.sdd_log.specs.base.declared.site.Site.TheVariants.{D, T, U}
-use Rattle.sdd_log.specs.base.declared.usage.Use.{Use}
-use Rattle.sdd_log.specs.history.declared.record.Rec.TheVariants.{Answer}
-use Rattle.sdd_log.specs.wire.declared.msg.Msg.{Msg}
-use Rattle.sdd_log.specs.wire.declared.msg.Msg.TheVariants.{Ask, Done, Fetch, Read, Ready, Reduce, Reduced, Reject, Rows, Ship, Values}
-use Rattle.sdd_log.specs.site_module.SiteLog.{Act, Did, Each, Handed, Records, Redeclared, Setting, Submits, Ticked, sends_of_act}
-use Rattle.sdd_log.specs.attempt.Attempts.{Attempt, active, asks_rows}
-use Rattle.sdd_log.specs.attempt.Clocks.{clock}
-use Rattle.sdd_log.specs.attempt.Exchange.{is_over}
-use Rattle.sdd_log.specs.attempt.Queues.{Queued, queue}
-use Rattle.sdd_log.specs.pipe.Pipe.{head}
-use Rattle.sdd_log.specs.dm.Views.{home_of, source_of}
-use Rattle.sdd_log.specs.umod.Views.{counts}
-use Rattle.sdd_log.specs.Entries.{Does, Given, Hand, Log}
-use Rattle.sdd_log.specs.Locals.{local_of, setting_of}
-use Rattle.sdd_log.specs.Permitted.{IsPermitted}
-use Rattle.sdd_log.specs.Traffic.{handed}
+use Rattle.sdd_log.specs.All.{Act, Answer, Ask, Attempt, ClassNo, Cond, D, Did, DmNo, Does, Done, Each, Fetch, Given, Hand, Handed, IsPermitted, Log, Msg, Queued, Read, Ready, Records, Redeclared, Reduce, Reduced, Reject, Setting, Ship, Site, Submits, T, Ticked, Ts, TxnNo, U, Use, Values, active, asks_rows, clock, contains, counts, handed, head, head_of, home_of, is_over, local_of, queue, same_site, sends_of_act, setting_of, source_of}
+use Rattle.sdd_log.specs.wire.declared.msg.Msg.TheVariants.{Rows}
 use Rattle.sdd_log.proofs.EachLocal.{each_local}
 use Rattle.sdd_invariants.proofs.Clocks.{clock_grows, clock_number}
 use Rattle.sdd_invariants.proofs.Origins.{was_put}

@@ -3,25 +3,7 @@ use Rattle.std.specs.List.{cons_option}
 use Rattle.std.proofs.Common.{ℕ, ◌*◌, ◌++◌, ◌+◌, ◌/◌, ◌<◌, ◌∙◌, ◌∷◌, ◌≡◌, ◌≤◌, ◌⊎◌, Bool, List, None, Option, Some, [], ap, append-nil, append_assoc, arith, drop, false, if◌then◌else◌, inl, inr, length, refl, slice_get, subst, suc, sym, take, true, zero}
 use Rattle.std.proofs.lemmas.List.{take-append-drop}
 use Rattle.std.proofs.lemmas.List.Elements.{filter_map-append}
-use Rattle.sdd_log.specs.base.Clock.{Ticking}
-use Rattle.sdd_log.specs.base.Numbers.{tm_no}
-use Rattle.sdd_log.specs.base.Sites.{number_of, same_site}
-use Rattle.sdd_log.specs.base.declared.site.Site.{Site}
-use Rattle.sdd_log.specs.base.declared.site.Site.TheVariants.{T, U}
-use Rattle.sdd_log.specs.catalog.Catalogue.{numbers_to}
-use Rattle.sdd_log.specs.wire.declared.msg.Msg.{Msg}
-use Rattle.sdd_log.specs.wire.declared.msg.Msg.TheVariants.{Ask, Held, Reject, Release}
-use Rattle.sdd_log.specs.site_module.SiteLog.{Act, Did, Each, Handed, Redeclared, Sends, Setting, Submits, Ticked, sends_of_act}
-use Rattle.sdd_log.specs.attempt.Acts.{commit_act}
-use Rattle.sdd_log.specs.attempt.Attempts.{Attempt, active}
-use Rattle.sdd_log.specs.attempt.Clocks.{clock, pushed_by}
-use Rattle.sdd_log.specs.attempt.Queues.{Queued}
-use Rattle.sdd_log.specs.tm.Views.{holds, runs}
-use Rattle.sdd_log.specs.umod.Views.{counts}
-use Rattle.sdd_log.specs.Entries.{Does, Given, Log}
-use Rattle.sdd_log.specs.Locals.{local_of, setting_of}
-use Rattle.sdd_log.specs.Permitted.{IsPermitted}
-use Rattle.sdd_log.specs.Traffic.{handed}
+use Rattle.sdd_log.specs.All.{Act, Ask, Attempt, Did, Does, Each, Given, Handed, Held, IsPermitted, Log, Msg, Queued, Redeclared, Reject, Release, Sends, Setting, Site, Submits, T, Ticked, Ticking, U, active, clock, commit_act, counts, handed, holds, local_of, number_of, numbers_to, pushed_by, runs, same_site, sends_of_act, setting_of, tm_no}
 use Rattle.sdd_log.proofs.EachLocal.{allowed_act}
 use Rattle.sdd_invariants.proofs.HoldChain.{from_u, handed_helds, handed_holds, hold_chain, t_table, u_table}
 use Rattle.sdd_invariants.specs.Barrier.{IsCommitT, IsHigh, IsLow, IsStartU, start_u, u_stamp}

@@ -3,28 +3,7 @@
 use Rattle.std.specs.List.{cons_option}
 use Rattle.std.specs.Prelude.{filter_map}
 use Rattle.std.proofs.Common.{ℕ, ◌++◌, ◌<◌, ◌==◌, ◌∙◌, ◌∷◌, ◌≡◌, ◌≢◌, ◌≤◌, List, None, Option, Some, [], ap, append_assoc, arith, cond, false, if◌then◌else◌, length, refl, slice_get, subst, suc, sym, true, zero}
-use Rattle.sdd_log.specs.base.Numbers.{class_no, time_at, txn_no}
-use Rattle.sdd_log.specs.base.Sites.{number_of, same_site}
-use Rattle.sdd_log.specs.base.declared.change.Change.{Change}
-use Rattle.sdd_log.specs.base.declared.condition.Cond.{Cond}
-use Rattle.sdd_log.specs.base.declared.number.DmNo.{DmNo}
-use Rattle.sdd_log.specs.base.declared.number.FragNo.{FragNo}
-use Rattle.sdd_log.specs.base.declared.number.Ts.{Ts}
-use Rattle.sdd_log.specs.base.declared.site.Site.{Site}
-use Rattle.sdd_log.specs.base.declared.site.Site.TheVariants.{D}
-use Rattle.sdd_log.specs.history.declared.record.Rec.{Rec}
-use Rattle.sdd_log.specs.history.declared.record.Rec.TheVariants.{Answer, Apply}
-use Rattle.sdd_log.specs.wire.Piped.{goes_through}
-use Rattle.sdd_log.specs.wire.declared.msg.Msg.{Msg}
-use Rattle.sdd_log.specs.wire.declared.msg.Msg.TheVariants.{Null, Read, Write}
-use Rattle.sdd_log.specs.site_module.SiteLog.{Act, Bases, Did, Records}
-use Rattle.sdd_log.specs.attempt.Acts.{commit_act}
-use Rattle.sdd_log.specs.attempt.Attempts.{Attempt}
-use Rattle.sdd_log.specs.pipe.Pipe.{touches}
-use Rattle.sdd_log.specs.dm.Pipes.{pipe}
-use Rattle.sdd_log.specs.Entries.{Does, Given, Log}
-use Rattle.sdd_log.specs.Locals.{local_of, setting_of}
-use Rattle.sdd_log.specs.Permitted.{IsPermitted}
+use Rattle.sdd_log.specs.All.{Act, Answer, Apply, Attempt, Bases, Change, Cond, D, Did, DmNo, Does, FragNo, Given, IsPermitted, Log, Msg, Null, Read, Rec, Records, Site, Ts, Write, class_no, commit_act, goes_through, local_of, number_of, pipe, same_site, setting_of, time_at, touches, txn_no}
 use Rattle.sdd_invariants.proofs.Origins.{commit_writes, is_put}
 use Rattle.sdd_invariants.proofs.ReadsPut.{read_once}
 use Rattle.sdd_invariants.proofs.WritesPut.{written}

@@ -3,24 +3,8 @@ use Rattle.std.specs.List.{list_all}
 use Rattle.std.proofs.Common.{ℕ, ◌∷◌, ◌≡◌, ◌≤◌, Bool, List, None, Option, Some, [], arith, false, filter, if◌then◌else◌, inl, inr, length, map, refl, slice_get, subst, suc, sym, true}
 use Rattle.std.proofs.lemmas.List.{get_or_past}
 use Rattle.std.proofs.lemmas.List.FromFn.{get_or-map-range_with_len, length-map-range_with_len}
-use Rattle.sdd_log.specs.base.Words.{head_of}
-use Rattle.sdd_log.specs.base.declared.change.Change.{Change}
-use Rattle.sdd_log.specs.base.declared.condition.Cond.{Cond}
-use Rattle.sdd_log.specs.base.declared.number.ClassNo.{ClassNo}
-use Rattle.sdd_log.specs.base.declared.number.Ts.{Ts}
-use Rattle.sdd_log.specs.base.declared.number.TxnNo.{TxnNo}
-use Rattle.sdd_log.specs.base.declared.usage.Use.{Use}
-use Rattle.sdd_log.specs.wire.declared.msg.Msg.{Msg}
-use Rattle.sdd_log.specs.wire.declared.msg.Msg.TheVariants.{Fetch, Null, Read, Reduce, Ship, Write}
-use Rattle.sdd_log.specs.site_module.SiteLog.{Act, Log, Setting}
-use Rattle.sdd_log.specs.attempt.Exchange.{lacking}
-use Rattle.sdd_log.specs.pipe.Pipe.{empty_pipe, head}
-use Rattle.sdd_log.specs.dm.Copies.{classes_of}
-use Rattle.sdd_log.specs.dm.Due.{IsDue, act_by, act_where, answer_of, answer_to, by_head, by_open, head_due, is_held, is_met, judged, step_on}
-use Rattle.sdd_log.specs.dm.Opens.{Open, is_asked_of}
-use Rattle.sdd_log.specs.dm.Pipes.{pipe, waits}
-use Rattle.sdd_log.specs.dm.Views.{ClassView, Home, at_class, class_view, home_of, view_of}
-use Rattle.sdd_log.specs.dm.declared.step.Step.TheVariants.{Processes}
+use Rattle.sdd_log.specs.All.{Act, Change, ClassNo, ClassView, Cond, Fetch, Home, IsDue, Msg, Null, Open, Processes, Read, Reduce, Setting, Ship, Ts, TxnNo, Use, Write, act_by, act_where, answer_of, answer_to, at_class, by_head, by_open, class_view, classes_of, empty_pipe, head, head_due, head_of, home_of, is_asked_of, is_held, is_met, judged, lacking, pipe, step_on, view_of, waits}
+use Rattle.sdd_log.specs.site_module.SiteLog.{Log}
 use Rattle.sdd_invariants.proofs.Lists.{in_mapped, in_range, nothing_left}
 use Rattle.sdd_invariants.specs.ReadSteps.{IsClassHere, IsReadStep, IsReadWith, by_record, by_wait, in_passing, spoiler}
 

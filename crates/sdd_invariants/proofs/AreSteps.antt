@@ -2,21 +2,8 @@
 use Rattle.std.specs.Prelude.{is_none}
 use Rattle.std.proofs.Common.{ℕ, ◌&&◌, ◌<◌, ◌==◌, ◌∙◌, ◌∷◌, ◌≡◌, Bool, List, None, Option, Some, [], ap, arith, false, if◌then◌else◌, length, map, nat_le, not, refl, slice_get, subst, sym, true}
 use Rattle.std.proofs.lemmas.Bool.{eqb-true}
-use Rattle.sdd_log.specs.base.Numbers.{class_no, dm_no, time_at}
-use Rattle.sdd_log.specs.base.Sites.{number_of}
-use Rattle.sdd_log.specs.base.Words.{head_of, or_else}
-use Rattle.sdd_log.specs.base.declared.number.TmNo.{TmNo}
-use Rattle.sdd_log.specs.base.declared.number.Ts.{Ts}
-use Rattle.sdd_log.specs.base.declared.site.Site.{Site}
-use Rattle.sdd_log.specs.base.declared.site.Site.TheVariants.{D, T, U}
-use Rattle.sdd_log.specs.catalog.Catalogue.{class_at, numbers_to}
-use Rattle.sdd_log.specs.wire.declared.msg.Msg.{Msg}
-use Rattle.sdd_log.specs.wire.declared.msg.Msg.TheVariants.{Held, Hold, Null, Release}
-use Rattle.sdd_log.specs.site_module.SiteLog.{Act, Bases, Log, Sends, Setting}
-use Rattle.sdd_log.specs.attempt.Acts.{attempt_due, commit_act}
-use Rattle.sdd_log.specs.attempt.Attempts.{Attempt, active}
-use Rattle.sdd_log.specs.attempt.Exchange.{first_send, is_over}
-use Rattle.sdd_log.specs.attempt.Queues.{Queued, queue}
+use Rattle.sdd_log.specs.All.{Act, Attempt, Bases, D, Held, Hold, Msg, Null, Queued, Release, Sends, Setting, Site, T, TmNo, Ts, U, active, attempt_due, class_at, class_no, commit_act, dm_no, first_send, head_of, is_over, number_of, numbers_to, or_else, queue, time_at}
+use Rattle.sdd_log.specs.site_module.SiteLog.{Log}
 use Rattle.sdd_invariants.proofs.Bools.{not_zero}
 use Rattle.sdd_invariants.proofs.Exchanges.{asks_next, not_reading}
 use Rattle.sdd_invariants.proofs.Lists.{in_filtered, in_mapped, in_range}

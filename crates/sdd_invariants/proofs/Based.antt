@@ -1,18 +1,6 @@
 -- A Commit that is due has the reply and the changes of the effect on the database that is given for its attempt.
 use Rattle.std.proofs.Common.{ℕ, ◌&&◌, ◌==◌, ◌∷◌, ◌≡◌, Bool, List, None, Option, Some, [], false, if◌then◌else◌, not, refl, subst, sym, true}
-use Rattle.sdd_log.specs.base.Clock.{Ticking}
-use Rattle.sdd_log.specs.base.Numbers.{class_no, dm_no, time_at}
-use Rattle.sdd_log.specs.base.Words.{head_of, or_else}
-use Rattle.sdd_log.specs.base.declared.number.Ts.{Ts}
-use Rattle.sdd_log.specs.base.declared.site.Site.{Site}
-use Rattle.sdd_log.specs.base.declared.site.Site.TheVariants.{D, U}
-use Rattle.sdd_log.specs.wire.declared.msg.Msg.{Msg}
-use Rattle.sdd_log.specs.wire.declared.msg.Msg.TheVariants.{Held, Hold, Null, Release}
-use Rattle.sdd_log.specs.site_module.SiteLog.{Act, Bases, Sends, Setting}
-use Rattle.sdd_log.specs.attempt.Acts.{attempt_due, commit_act, start_act}
-use Rattle.sdd_log.specs.attempt.Attempts.{Attempt, active}
-use Rattle.sdd_log.specs.attempt.Exchange.{first_send, is_over}
-use Rattle.sdd_log.specs.attempt.Queues.{Queued, queue}
+use Rattle.sdd_log.specs.All.{Act, Attempt, Bases, D, Held, Hold, Msg, Null, Queued, Release, Sends, Setting, Site, Ticking, Ts, U, active, attempt_due, class_no, commit_act, dm_no, first_send, head_of, is_over, or_else, queue, start_act, time_at}
 use Rattle.sdd_invariants.specs.Causes.{IsBased}
 use Rattle.sdd_invariants.proofs.Lists.{in_mapped}
 use Rattle.sdd_log.specs.site_module.SiteLog as site

@@ -1,16 +1,7 @@
 -- Within a class a module processes in the order of times.
 use Rattle.std.proofs.Common.{ℕ, ◌++◌, ◌<◌, ◌∷◌, ◌≡◌, ◌≤◌, List, Some, [], arith, length, map, slice_get, subst, suc, sym, zero}
 use Rattle.std.proofs.Math.Decide.{dec_le}
-use Rattle.sdd_log.specs.base.Sites.{number_of}
-use Rattle.sdd_log.specs.base.Words.{head_of}
-use Rattle.sdd_log.specs.base.declared.number.DmNo.{DmNo}
-use Rattle.sdd_log.specs.base.declared.site.Site.TheVariants.{D}
-use Rattle.sdd_log.specs.wire.Piped.{time_of}
-use Rattle.sdd_log.specs.wire.declared.msg.Msg.{Msg}
-use Rattle.sdd_log.specs.pipe.Pipe.{head}
-use Rattle.sdd_log.specs.Entries.{Given, Log}
-use Rattle.sdd_log.specs.Locals.{local_of, setting_of}
-use Rattle.sdd_log.specs.Permitted.{IsPermitted}
+use Rattle.sdd_log.specs.All.{D, DmNo, Given, IsPermitted, Log, Msg, head, head_of, local_of, number_of, setting_of, time_of}
 use Rattle.sdd_invariants.proofs.Times.{timed}
 use Rattle.sdd_invariants.proofs.InPipe.{in_pipe_later, times_are}
 use Rattle.sdd_invariants.specs.Seen.{class_puts, pipe_at}

@@ -1,17 +1,7 @@
 -- Starts draw timestamps that rise and lie above all that was promised before.
 use Rattle.std.proofs.Common.{ℕ, ◌*◌, ◌++◌, ◌+◌, ◌<◌, ◌==◌, ◌∙◌, ◌∷◌, ◌≡◌, ◌≢◌, ◌≤◌, Bool, List, None, Option, Some, [], arith, false, if◌then◌else◌, refl, slice_get, subst, suc, sym, true, zero}
-use Rattle.sdd_log.specs.base.Clock.{Ticking}
-use Rattle.sdd_log.specs.base.Numbers.{time_at}
-use Rattle.sdd_log.specs.base.Sites.{number_of}
-use Rattle.sdd_log.specs.base.Words.{head_of}
-use Rattle.sdd_log.specs.base.declared.site.Site.{Site}
-use Rattle.sdd_log.specs.history.declared.record.Rec.TheVariants.{Start}
-use Rattle.sdd_log.specs.wire.declared.msg.Msg.{Msg}
-use Rattle.sdd_log.specs.wire.declared.msg.Msg.TheVariants.{Ask, Fetch, Held, Null, Reduce, Reject, Release, Ship}
-use Rattle.sdd_log.specs.site_module.SiteLog.{Act, Did, Each, Entry, Handed, Log, Records, Redeclared, Sends, Setting, Submits, Ticked, sends_of_act}
-use Rattle.sdd_log.specs.attempt.Attempts.{Attempt, active, asks_rows, started}
-use Rattle.sdd_log.specs.attempt.Clocks.{clock, pushed_by, ticked_by}
-use Rattle.sdd_log.specs.attempt.Queues.{Queued, queue}
+use Rattle.sdd_log.specs.All.{Act, Ask, Attempt, Did, Each, Entry, Fetch, Handed, Held, Msg, Null, Queued, Records, Redeclared, Reduce, Reject, Release, Sends, Setting, Ship, Site, Start, Submits, Ticked, Ticking, active, asks_rows, clock, head_of, number_of, pushed_by, queue, sends_of_act, started, ticked_by, time_at}
+use Rattle.sdd_log.specs.site_module.SiteLog.{Log}
 use Rattle.sdd_invariants.specs.Stamps.{AllOf, IsClocked, stamp_or}
 use Rattle.sdd_invariants.proofs.Active.{handed_way, sent_way, step_way}
 use Rattle.sdd_invariants.proofs.Bools.{if_way}

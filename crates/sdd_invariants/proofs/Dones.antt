@@ -5,32 +5,7 @@ use Rattle.std.proofs.Common.{ℕ, ◌++◌, ◌+◌, ◌<◌, ◌==◌, ◌∙�
 use Rattle.std.proofs.Math.Decide.{dec_le}
 use Rattle.std.proofs.lemmas.Bool.{eqb-true}
 use Rattle.std.proofs.lemmas.List.Elements.{filter_map-append}
-use Rattle.sdd_log.specs.base.Numbers.{dm_no}
-use Rattle.sdd_log.specs.base.Sites.{number_of, same_site}
-use Rattle.sdd_log.specs.base.Words.{head_of}
-use Rattle.sdd_log.specs.base.declared.change.Change.{Change}
-use Rattle.sdd_log.specs.base.declared.number.ClassNo.{ClassNo}
-use Rattle.sdd_log.specs.base.declared.number.DmNo.{DmNo}
-use Rattle.sdd_log.specs.base.declared.number.Ts.{Ts}
-use Rattle.sdd_log.specs.base.declared.number.TxnNo.{TxnNo}
-use Rattle.sdd_log.specs.base.declared.site.Site.{Site}
-use Rattle.sdd_log.specs.base.declared.site.Site.TheVariants.{D, U}
-use Rattle.sdd_log.specs.catalog.Catalogue.{numbers_to}
-use Rattle.sdd_log.specs.lang.Effect.{effect}
-use Rattle.sdd_log.specs.history.declared.record.Rec.TheVariants.{Apply}
-use Rattle.sdd_log.specs.wire.Piped.{class_is, goes_through}
-use Rattle.sdd_log.specs.wire.declared.msg.Msg.{Msg}
-use Rattle.sdd_log.specs.wire.declared.msg.Msg.TheVariants.{Done, Write}
-use Rattle.sdd_log.specs.site_module.SiteLog.{Act, Bases, Did, Each, Handed, Records, Redeclared, Sends, Setting, Submits, Ticked, sends_of_act}
-use Rattle.sdd_log.specs.attempt.Acts.{commit_act, write_to}
-use Rattle.sdd_log.specs.attempt.Attempts.{Attempt}
-use Rattle.sdd_log.specs.pipe.Pipe.{Pipe, head, head_processed, one_or_none}
-use Rattle.sdd_log.specs.dm.Pipes.{pipe, pipe_acted}
-use Rattle.sdd_log.specs.dm.Views.{home_of}
-use Rattle.sdd_log.specs.Entries.{Does, Given, Log}
-use Rattle.sdd_log.specs.Locals.{local_of, setting_of}
-use Rattle.sdd_log.specs.Permitted.{IsPermitted}
-use Rattle.sdd_log.specs.Traffic.{handed}
+use Rattle.sdd_log.specs.All.{Act, Apply, Attempt, Bases, Change, ClassNo, D, Did, DmNo, Does, Done, Each, Given, Handed, IsPermitted, Log, Msg, Pipe, Records, Redeclared, Sends, Setting, Site, Submits, Ticked, Ts, TxnNo, U, Write, class_is, commit_act, dm_no, effect, goes_through, handed, head, head_of, head_processed, home_of, local_of, number_of, numbers_to, one_or_none, pipe, pipe_acted, same_site, sends_of_act, setting_of, write_to}
 use Rattle.sdd_log.proofs.EachLocal.{each_local}
 use Rattle.sdd_invariants.specs.Barrier.{HasApply}
 use Rattle.sdd_invariants.proofs.Turns.{tally_append, tally_take}

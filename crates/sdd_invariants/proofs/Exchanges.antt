@@ -1,21 +1,11 @@
 -- What every step of an exchange keeps: its modules stay; once the READs are answered they are no more awaited; while
 -- they are awaited nothing is sent; and what it still has to send are its own FETCHes, REDUCEs and SHIPs.
 use Rattle.std.proofs.Common.{ℕ, ◌&&◌, ◌++◌, ◌+◌, ◌==◌, ◌∙◌, ◌∷◌, ◌≡◌, Bool, List, None, Option, Some, [], ap, false, if◌then◌else◌, length, map, refl, subst, sym, true}
-use Rattle.sdd_log.specs.base.Order.{with_values}
-use Rattle.sdd_log.specs.base.Words.{head_of, tail_of}
-use Rattle.sdd_log.specs.base.declared.site.Site.{Site}
-use Rattle.sdd_log.specs.base.declared.site.Site.TheVariants.{D, T, U}
-use Rattle.sdd_log.specs.history.declared.record.Rec.{Rec}
-use Rattle.sdd_log.specs.history.declared.record.Rec.TheVariants.{Commit, Start}
-use Rattle.sdd_log.specs.wire.declared.msg.Msg.{Msg}
-use Rattle.sdd_log.specs.wire.declared.msg.Msg.TheVariants.{Ready, Reduced, Rows, Values}
-use Rattle.sdd_log.specs.site_module.SiteLog.{Did, Handed, Log, Records, Redeclared, Sends, Setting, Submits, Ticked}
+use Rattle.sdd_log.specs.All.{Asking, Attempt, Commit, D, Did, Exchange, Fetching, Handed, Msg, Over, Phase, Queued, Reading, Ready, Rec, Records, Redeclared, Reduced, Reducing, Sends, Setting, Shipping, Site, Start, Submits, T, Ticked, U, Values, active, active_after, active_handed, active_sent, after_hand, after_send, answered, asks_rows, counted, counts, counts_for, fetches, fetches_from, goes_on, head_of, lacking, move_at, phase_ends, queue, reduces, rejects, ships, started, tail_of, to_all, with_use, with_values, without}
+use Rattle.sdd_log.specs.wire.declared.msg.Msg.TheVariants.{Rows}
+use Rattle.sdd_log.specs.site_module.SiteLog.{Log}
 use Rattle.sdd_semijoin.specs.Steps.{Move, next_move}
 use Rattle.sdd_semijoin.specs.declared.step.Step.{Step}
-use Rattle.sdd_log.specs.attempt.Attempts.{Attempt, active, active_after, active_handed, active_sent, asks_rows, rejects, started}
-use Rattle.sdd_log.specs.attempt.Exchange.{Asking, Exchange, Fetching, Over, Phase, Reading, Reducing, Shipping, after_hand, after_send, answered, counted, counts_for, fetches, fetches_from, goes_on, lacking, move_at, phase_ends, reduces, ships, to_all, with_use, without}
-use Rattle.sdd_log.specs.attempt.Queues.{Queued, queue}
-use Rattle.sdd_log.specs.umod.Views.{counts}
 use Rattle.sdd_invariants.proofs.Bools.{if_way, not_both, same_number}
 use Rattle.sdd_invariants.specs.Steps.{is_reading}
 

@@ -1,19 +1,7 @@
 -- On a permitted log each site's own log is made of steps, and submits no number twice.
 use Rattle.std.proofs.Common.{ℕ, ◌==◌, ◌||◌, ◌∙◌, ◌∷◌, ◌≡◌, Bool, None, Option, Some, [], ap, false, inl, inr, not, refl, subst, true}
-use Rattle.sdd_log.specs.base.Numbers.{tm_no}
-use Rattle.sdd_log.specs.base.Words.{contains}
-use Rattle.sdd_log.specs.base.declared.event.Event.TheVariants.{Deliver, Down, Lose, Redeclare, Repeat, Resend, Settle, Submit, Tick, Up}
-use Rattle.sdd_log.specs.base.declared.number.DmNo.{DmNo}
-use Rattle.sdd_log.specs.base.declared.number.TmNo.{TmNo}
-use Rattle.sdd_log.specs.base.declared.site.Site.{Site}
-use Rattle.sdd_log.specs.base.declared.site.Site.TheVariants.{D, T, U}
-use Rattle.sdd_log.specs.catalog.Catalogue.{class_at}
-use Rattle.sdd_log.specs.site_module.SiteLog.{Did, Each, Handed, Redeclared, Submits, Ticked, submits}
-use Rattle.sdd_log.specs.Due.{mark_due, note_if}
-use Rattle.sdd_log.specs.Entries.{Does, Entry, Given, Hand, Log, Mark, Notes, Redeclares, Round, Submitted}
-use Rattle.sdd_log.specs.Locals.{local_of, setting_of}
-use Rattle.sdd_log.specs.Permitted.{IsAllowed, IsPermitted, by_event, by_link, by_mark, by_redeclare, by_round, by_site, is_new_mark, was_marked}
-use Rattle.sdd_log.specs.Snapshots.{base_of}
+use Rattle.sdd_log.specs.All.{D, Deliver, Did, DmNo, Does, Down, Each, Given, Hand, Handed, IsAllowed, IsPermitted, Log, Lose, Mark, Notes, Redeclare, Redeclared, Redeclares, Repeat, Resend, Round, Settle, Site, Submit, Submits, Submitted, T, Tick, Ticked, TmNo, U, Up, base_of, by_event, by_link, by_mark, by_redeclare, by_round, by_site, class_at, contains, is_new_mark, local_of, mark_due, note_if, setting_of, submits, tm_no, was_marked}
+use Rattle.sdd_log.specs.Entries.{Entry}
 use Rattle.sdd_log.proofs.EachLocal.{each_local}
 use Rattle.sdd_invariants.proofs.Queues.{queue_is}
 use Rattle.sdd_invariants.proofs.AreSteps.{t_step, u_step}

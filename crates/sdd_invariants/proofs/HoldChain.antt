@@ -1,21 +1,7 @@
 -- Between U and one T: the counts of HOLDs, RELEASEs, HELDs, Starts and Commits of class 0 stand in one chain.
 use Rattle.std.proofs.Common.{ℕ, ◌++◌, ◌+◌, ◌<◌, ◌==◌, ◌||◌, ◌∙◌, ◌∷◌, ◌≡◌, ◌≤◌, Bool, List, Some, [], ap, arith, false, if◌then◌else◌, inl, inr, refl, slice_get, subst, suc, sym, take, true, zero}
-use Rattle.sdd_log.specs.base.Numbers.{tm_no}
-use Rattle.sdd_log.specs.base.Sites.{same_site}
-use Rattle.sdd_log.specs.base.declared.number.TmNo.{TmNo}
-use Rattle.sdd_log.specs.base.declared.site.Site.{Site}
-use Rattle.sdd_log.specs.base.declared.site.Site.TheVariants.{D, T, U}
-use Rattle.sdd_log.specs.catalog.Catalogue.{numbers_to}
-use Rattle.sdd_log.specs.wire.declared.msg.Msg.{Msg}
-use Rattle.sdd_log.specs.wire.declared.msg.Msg.TheVariants.{Ask, Done, Fetch, Held, Hold, Null, Read, Ready, Reduce, Reduced, Reject, Release, Rows, Ship, Values, Write}
-use Rattle.sdd_log.specs.site_module.SiteLog.{Act, Did, Each, Handed, Redeclared, Sends, Setting, Submits, Ticked, hands}
-use Rattle.sdd_log.specs.tm.Views.{HoldCounts, holds, holds_acted, holds_handed}
-use Rattle.sdd_log.specs.umod.Views.{TmCounts, counts, counts_acted, counts_handed}
-use Rattle.sdd_log.specs.Entries.{Given, Log}
-use Rattle.sdd_log.specs.Locals.{local_of, setting_of}
-use Rattle.sdd_log.specs.Permitted.{IsPermitted}
-use Rattle.sdd_log.specs.Snapshots.{base_of}
-use Rattle.sdd_log.specs.Traffic.{handed}
+use Rattle.sdd_log.specs.All.{Act, Ask, D, Did, Done, Each, Fetch, Given, Handed, Held, Hold, HoldCounts, IsPermitted, Log, Msg, Null, Read, Ready, Redeclared, Reduce, Reduced, Reject, Release, Sends, Setting, Ship, Site, Submits, T, Ticked, TmCounts, TmNo, U, Values, Write, base_of, counts, counts_acted, counts_handed, handed, hands, holds, holds_acted, holds_handed, local_of, numbers_to, same_site, setting_of, tm_no}
+use Rattle.sdd_log.specs.wire.declared.msg.Msg.TheVariants.{Rows}
 use Rattle.sdd_log.proofs.EachLocal.{each_local}
 use Rattle.sdd_invariants.specs.Barrier.{IsHoldChain}
 use Rattle.sdd_invariants.proofs.Holding.{still, t_helds, t_none}

@@ -3,23 +3,10 @@ use Rattle.std.specs.List.{list_all}
 use Rattle.std.specs.Prelude.{is_none}
 use Rattle.std.proofs.Common.{ℕ, ◌&&◌, ◌++◌, ◌+◌, ◌<◌, ◌==◌, ◌∙◌, ◌∷◌, ◌≡◌, ◌≤◌, Bool, List, None, Option, Some, [], ap, append-nil, arith, false, if◌then◌else◌, inl, inr, map, nat_lt, not, refl, slice_get, subst, suc, sym, true, zero}
 use Rattle.std.proofs.lemmas.Bool.Decides.{nat_tests}
-use Rattle.sdd_log.specs.base.Numbers.{class_no, dm_no, time_at}
-use Rattle.sdd_log.specs.base.Sites.{same_site}
-use Rattle.sdd_log.specs.base.Words.{head_of, or_else}
-use Rattle.sdd_log.specs.base.declared.site.Site.{Site}
-use Rattle.sdd_log.specs.base.declared.site.Site.TheVariants.{D, T, U}
-use Rattle.sdd_log.specs.lang.Effect.{effect}
-use Rattle.sdd_log.specs.history.declared.record.Rec.{Rec}
-use Rattle.sdd_log.specs.history.declared.record.Rec.TheVariants.{Commit, Start}
-use Rattle.sdd_log.specs.wire.declared.msg.Msg.{Msg}
-use Rattle.sdd_log.specs.wire.declared.msg.Msg.TheVariants.{Fetch, Held, Hold, Null, Reduce, Release, Ship}
-use Rattle.sdd_log.specs.site_module.SiteLog.{Act, Bases, Did, Each, Handed, Log, Records, Redeclared, Sends, Setting, Submits, Ticked, hands, sends_of_act}
-use Rattle.sdd_log.specs.attempt.Acts.{attempt_due, commit_act, write_to}
-use Rattle.sdd_log.specs.attempt.Attempts.{Attempt, active, active_handed, active_sent, asks_rows}
-use Rattle.sdd_log.specs.attempt.Exchange.{first_send, is_over}
-use Rattle.sdd_log.specs.attempt.Queues.{Queued}
-use Rattle.sdd_log.specs.tm.Due.{IsDue, by_ask, by_exchange, by_hold, by_start, exchange_due, null_at, start_of}
-use Rattle.sdd_log.specs.tm.Views.{HoldCounts, Question, class_view, holds, holds_handed, is_idle, on_hold, runs, view_of}
+use Rattle.sdd_log.specs.All.{Act, Attempt, Bases, Commit, D, Did, Each, Fetch, Handed, Held, Hold, HoldCounts, Msg, Null, Question, Queued, Rec, Records, Redeclared, Reduce, Release, Sends, Setting, Ship, Site, Start, Submits, T, Ticked, U, active, active_handed, active_sent, asks_rows, attempt_due, by_ask, class_no, commit_act, dm_no, effect, exchange_due, first_send, hands, head_of, holds, holds_handed, is_idle, is_over, null_at, on_hold, or_else, runs, same_site, sends_of_act, time_at, write_to}
+use Rattle.sdd_log.specs.site_module.SiteLog.{Log}
+use Rattle.sdd_log.specs.tm.Due.{IsDue, by_exchange, by_hold, by_start, start_of}
+use Rattle.sdd_log.specs.tm.Views.{class_view, view_of}
 use Rattle.sdd_invariants.proofs.Turns.{none_hold_join, tally_append}
 use Rattle.sdd_invariants.specs.AtT.{AllIdle, HoldRule, IsFairT, IsStill, QuietSends, SendRule}
 use Rattle.sdd_invariants.specs.Turns.{NoneHold, is_a_held, is_a_hold, is_a_release, one_if, tally}

@@ -1,14 +1,7 @@
 -- What goes through a class's pipes is put by the site that runs the class.
 use Rattle.std.proofs.Common.{ℕ, ◌++◌, ◌∙◌, ◌∷◌, ◌≡◌, Bool, List, None, Option, Some, [], ap, false, if◌then◌else◌, subst, sym, true}
-use Rattle.sdd_log.specs.base.Sites.{same_site}
-use Rattle.sdd_log.specs.base.declared.site.Site.{Site}
-use Rattle.sdd_log.specs.catalog.Catalogue.{Catalogue}
-use Rattle.sdd_log.specs.wire.Piped.{piped}
-use Rattle.sdd_log.specs.wire.declared.msg.Msg.{Msg}
-use Rattle.sdd_log.specs.wire.declared.msg.Msg.TheVariants.{Fetch, Reduce, Ship}
-use Rattle.sdd_log.specs.site_module.SiteLog.{Act, Did, Each, Handed, Log, Redeclared, Setting, Submits, Ticked, sends_of_act}
-use Rattle.sdd_log.specs.attempt.Acts.{commit_act}
-use Rattle.sdd_log.specs.attempt.Attempts.{asks_rows}
+use Rattle.sdd_log.specs.All.{Act, Catalogue, Did, Each, Fetch, Handed, Msg, Redeclared, Reduce, Setting, Ship, Site, Submits, Ticked, asks_rows, commit_act, piped, same_site, sends_of_act}
+use Rattle.sdd_log.specs.site_module.SiteLog.{Log}
 use Rattle.sdd_invariants.proofs.Times.{piped_commit, piped_start}
 use Rattle.sdd_invariants.specs.OnLinks.{AllHomed, AllPiped, IsHomed}
 use Rattle.sdd_invariants.proofs.Active.{step_way}

@@ -1,22 +1,10 @@
 -- The messages that were handed over on a link are, in order, the first of those that were put on it.
 use Rattle.std.proofs.Common.{ℕ, ◌&&◌, ◌++◌, ◌-◌, ◌∙◌, ◌∷◌, ◌≡◌, ◌≤◌, Bool, List, None, Option, Some, [], ap, append-nil, arith, false, if◌then◌else◌, length, refl, slice_get, subst, suc, sym, take, true}
 use Rattle.std.proofs.lemmas.List.{take-append-le}
-use Rattle.sdd_log.specs.base.Sites.{same_site}
-use Rattle.sdd_log.specs.base.declared.event.Event.{Event}
-use Rattle.sdd_log.specs.base.declared.event.Event.TheVariants.{Deliver, Down, Lose, Redeclare, Repeat, Resend, Settle, Submit, Tick, Up}
-use Rattle.sdd_log.specs.base.declared.site.Site.{Site}
-use Rattle.sdd_log.specs.base.declared.site.Site.TheVariants.{D, T, U}
-use Rattle.sdd_log.specs.lang.declared.transaction.Txn.{Txn}
-use Rattle.sdd_log.specs.wire.declared.msg.Msg.{Msg}
-use Rattle.sdd_log.specs.site_module.SiteLog.{Did, Force, Handed, Redeclared, Submits, Ticked, sends_of_act}
-use Rattle.sdd_log.specs.net.Links.{Call, Delivers, Loses, Puts, Repeats, Resends, delivered, link}
+use Rattle.sdd_log.specs.All.{Call, D, Deliver, Delivers, Did, Does, Down, Event, Force, Given, Hand, Handed, IsAllowed, IsPermitted, Log, Lose, Loses, Mark, Msg, Notes, Puts, Redeclare, Redeclared, Redeclares, Repeat, Repeats, Resend, Resends, Round, Settle, Site, Submit, Submits, Submitted, T, Tick, Ticked, Txn, U, Up, by_event, by_link, by_mark, by_redeclare, by_round, by_site, calls_of, delivered, due_by, force_at, handed, link, link_of, local_of, mark_due, message_at, note_if, puts, redeclares, same_site, sends_of_act, sent, takes_part, txn_at}
 use Rattle.sdd_log.proofs.net.Rises.{rises}
 use Rattle.sdd_log.proofs.net.Sound.{delivered_le, sound}
-use Rattle.sdd_log.specs.Due.{due_by, mark_due, note_if}
-use Rattle.sdd_log.specs.Entries.{Does, Entry, Given, Hand, Log, Mark, Notes, Redeclares, Round, Submitted}
-use Rattle.sdd_log.specs.Locals.{force_at, local_of, redeclares, txn_at}
-use Rattle.sdd_log.specs.Permitted.{IsAllowed, IsPermitted, by_event, by_link, by_mark, by_redeclare, by_round, by_site}
-use Rattle.sdd_log.specs.Traffic.{calls_of, handed, link_of, message_at, puts, sent, takes_part}
+use Rattle.sdd_log.specs.Entries.{Entry}
 use Rattle.sdd_invariants.proofs.Bools.{and_left, and_right}
 use Rattle.sdd_invariants.proofs.Lists.{take_one_more}
 use Rattle.sdd_invariants.proofs.Sites.{site_is}

@@ -3,19 +3,8 @@ use Rattle.std.proofs.Common.{ℕ, ◌++◌, ◌∙◌, ◌∷◌, ◌≡◌, Bo
 use Rattle.std.proofs.lemmas.Bool.{eqb-true}
 use Rattle.std.proofs.lemmas.List.{take-append-drop}
 use Rattle.std.proofs.lemmas.List.Elements.{filter-append}
-use Rattle.sdd_log.specs.base.Sites.{same_site}
-use Rattle.sdd_log.specs.base.declared.number.DmNo.{DmNo}
-use Rattle.sdd_log.specs.base.declared.site.Site.{Site}
-use Rattle.sdd_log.specs.base.declared.site.Site.TheVariants.{D, T, U}
-use Rattle.sdd_log.specs.catalog.Catalogue.{Catalogue}
-use Rattle.sdd_log.specs.wire.Piped.{class_is, goes_through, piped, time_of}
-use Rattle.sdd_log.specs.wire.declared.msg.Msg.{Msg}
-use Rattle.sdd_log.specs.site_module.SiteLog.{Did, Each, Handed, Redeclared, Submits, Ticked}
+use Rattle.sdd_log.specs.All.{Catalogue, D, Did, DmNo, Each, Given, Handed, IsPermitted, Log, Msg, Redeclared, Site, Submits, T, Ticked, U, class_is, goes_through, handed, local_of, piped, same_site, setting_of, time_of}
 use Rattle.sdd_log.proofs.dm.Prefix.{all_handed, all_there}
-use Rattle.sdd_log.specs.Entries.{Given, Log}
-use Rattle.sdd_log.specs.Locals.{local_of, setting_of}
-use Rattle.sdd_log.specs.Permitted.{IsPermitted}
-use Rattle.sdd_log.specs.Traffic.{handed}
 use Rattle.sdd_log.proofs.EachLocal.{each_local}
 use Rattle.sdd_invariants.proofs.Homes.{homed}
 use Rattle.sdd_invariants.specs.OnLinks.{AllHomed, IsHomed}

@@ -4,31 +4,7 @@ use Rattle.std.specs.List.{range_with_len}
 use Rattle.std.specs.Prelude.{filter_map}
 use Rattle.std.proofs.Common.{ℕ, ◌++◌, ◌+◌, ◌<◌, ◌==◌, ◌||◌, ◌∙◌, ◌∷◌, ◌≡◌, ◌≤◌, ◌⊎◌, Bool, List, None, Option, Some, [], ap, arith, cond, false, inl, inr, length, not, refl, slice_get, subst, suc, sym, true, zero}
 use Rattle.std.proofs.lemmas.Bool.{eqb-true}
-use Rattle.sdd_log.specs.base.Numbers.{class_no, dm_no, time_at, txn_no}
-use Rattle.sdd_log.specs.base.Sites.{number_of}
-use Rattle.sdd_log.specs.base.Words.{is_empty}
-use Rattle.sdd_log.specs.base.declared.change.Change.{Change}
-use Rattle.sdd_log.specs.base.declared.number.ClassNo.{ClassNo}
-use Rattle.sdd_log.specs.base.declared.number.DmNo.{DmNo}
-use Rattle.sdd_log.specs.base.declared.number.Ts.{Ts}
-use Rattle.sdd_log.specs.base.declared.number.TxnNo.{TxnNo}
-use Rattle.sdd_log.specs.base.declared.site.Site.{Site}
-use Rattle.sdd_log.specs.base.declared.site.Site.TheVariants.{D}
-use Rattle.sdd_log.specs.lang.Effect.{effect}
-use Rattle.sdd_log.specs.history.declared.record.Rec.{Rec}
-use Rattle.sdd_log.specs.history.declared.record.Rec.TheVariants.{Apply}
-use Rattle.sdd_log.specs.wire.Piped.{class_is, goes_through, time_of}
-use Rattle.sdd_log.specs.wire.declared.msg.Msg.{Msg}
-use Rattle.sdd_log.specs.wire.declared.msg.Msg.TheVariants.{Null, Read, Write}
-use Rattle.sdd_log.specs.site_module.SiteLog.{Act, Bases, Did, Each, Records, Setting, sends_of_act}
-use Rattle.sdd_log.specs.attempt.Acts.{commit_act, write_to}
-use Rattle.sdd_log.specs.attempt.Attempts.{Attempt}
-use Rattle.sdd_log.specs.pipe.Pipe.{head}
-use Rattle.sdd_log.specs.dm.Pipes.{is_processing, pipe, waits}
-use Rattle.sdd_log.specs.dm.Views.{view_of}
-use Rattle.sdd_log.specs.Entries.{Does, Given, Log}
-use Rattle.sdd_log.specs.Locals.{local_of, setting_of}
-use Rattle.sdd_log.specs.Permitted.{IsPermitted}
+use Rattle.sdd_log.specs.All.{Act, Apply, Attempt, Bases, Change, ClassNo, D, Did, DmNo, Does, Each, Given, IsPermitted, Log, Msg, Null, Read, Rec, Records, Setting, Site, Ts, TxnNo, Write, class_is, class_no, commit_act, dm_no, effect, goes_through, head, is_empty, is_processing, local_of, number_of, pipe, sends_of_act, setting_of, time_at, time_of, txn_no, view_of, waits, write_to}
 use Rattle.sdd_log.proofs.EachLocal.{allowed_act}
 use Rattle.sdd_invariants.proofs.Origins.{is_put, not_empty, was_put}
 use Rattle.sdd_invariants.proofs.ReadsPut.{put_by}

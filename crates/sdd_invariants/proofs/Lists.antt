@@ -5,7 +5,7 @@ use Rattle.std.specs.List.{list_all, list_any, range_with_len}
 use Rattle.std.specs.Ordering.{nat_cmp}
 use Rattle.std.specs.Prelude.{fold}
 use Rattle.std.proofs.Common.{ℕ, ◌&&◌, ◌++◌, ◌+◌, ◌<◌, ◌∷◌, ◌≡◌, ◌≤◌, ◌⊎◌, Bool, Equal, Greater, Less, List, Some, [], ap, arith, cond, false, filter, if◌then◌else◌, inl, inr, length, map, not, refl, slice_get, subst, suc, sym, take, true, zero}
-use Rattle.sdd_log.specs.base.Words.{ascending}
+use Rattle.sdd_log.specs.All.{ascending}
 use Rattle.sdd_invariants.proofs.Bools.{and_left, and_right, lower_same_higher, only_right, true_or_false}
 use Rattle.sdd_invariants.specs.Orders.{AllGt, AllLe, AllLt, IsStrict}
 

@@ -1,15 +1,7 @@
 -- The log of a site after an entry, and the place of each of its entries in the log of everything.
 use Rattle.std.proofs.Common.{ℕ, ◌++◌, ◌∙◌, ◌∷◌, ◌≡◌, Bool, None, Option, Some, [], ap, false, if◌then◌else◌, refl, subst, suc, sym, true}
-use Rattle.sdd_log.specs.base.Sites.{same_site}
-use Rattle.sdd_log.specs.base.declared.event.Event.TheVariants.{Deliver, Down, Lose, Redeclare, Repeat, Resend, Settle, Submit, Tick, Up}
-use Rattle.sdd_log.specs.base.declared.site.Site.{Site}
-use Rattle.sdd_log.specs.base.declared.site.Site.TheVariants.{D, T, U}
-use Rattle.sdd_log.specs.lang.declared.transaction.Txn.{Txn}
-use Rattle.sdd_log.specs.wire.declared.msg.Msg.{Msg}
-use Rattle.sdd_log.specs.site_module.SiteLog.{Act, Did, Force, Handed, Redeclared, Submits, Ticked}
-use Rattle.sdd_log.specs.Entries.{Does, Entry, Given, Hand, Log, Mark, Notes, Redeclares, Round, Submitted}
-use Rattle.sdd_log.specs.Locals.{force_at, local_of, redeclares, txn_at, with_force, with_submit}
-use Rattle.sdd_log.specs.Permitted.{IsPermitted}
+use Rattle.sdd_log.specs.All.{Act, D, Deliver, Did, Does, Down, Force, Given, Hand, Handed, IsPermitted, Log, Lose, Mark, Msg, Notes, Redeclare, Redeclared, Redeclares, Repeat, Resend, Round, Settle, Site, Submit, Submits, Submitted, T, Tick, Ticked, Txn, U, Up, force_at, local_of, redeclares, same_site, txn_at, with_force, with_submit}
+use Rattle.sdd_log.specs.Entries.{Entry}
 use Rattle.sdd_invariants.proofs.Bools.{not_both}
 use Rattle.sdd_invariants.proofs.Sites.{site_is, site_self}
 use Rattle.sdd_invariants.specs.Made.{IsActAt, IsAt, IsHandAt, IsSubmitAt, forced, given_to, made, with_made}

@@ -1,25 +1,6 @@
 -- An attempt has at most one Answer at a module.
 use Rattle.std.proofs.Common.{ℕ, ◌&&◌, ◌++◌, ◌==◌, ◌∙◌, ◌∷◌, ◌≡◌, ◌≤◌, Bool, List, Some, [], ap, append_assoc, arith, false, if◌then◌else◌, inl, inr, length, length-append, refl, slice_get, subst, suc, sym, true}
-use Rattle.sdd_log.specs.base.Sites.{number_of}
-use Rattle.sdd_log.specs.base.Words.{head_of}
-use Rattle.sdd_log.specs.base.declared.condition.Cond.{Cond}
-use Rattle.sdd_log.specs.base.declared.number.ClassNo.{ClassNo}
-use Rattle.sdd_log.specs.base.declared.number.DmNo.{DmNo}
-use Rattle.sdd_log.specs.base.declared.number.Ts.{Ts}
-use Rattle.sdd_log.specs.base.declared.number.TxnNo.{TxnNo}
-use Rattle.sdd_log.specs.base.declared.site.Site.{Site}
-use Rattle.sdd_log.specs.base.declared.site.Site.TheVariants.{D}
-use Rattle.sdd_log.specs.base.declared.usage.Use.{Use}
-use Rattle.sdd_log.specs.history.declared.record.Rec.TheVariants.{Answer, Start}
-use Rattle.sdd_log.specs.wire.declared.msg.Msg.{Msg}
-use Rattle.sdd_log.specs.wire.declared.msg.Msg.TheVariants.{Read}
-use Rattle.sdd_log.specs.site_module.SiteLog.{Act, Did, Each, Handed, Records, Redeclared, Sends, Setting, Submits, Ticked}
-use Rattle.sdd_log.specs.attempt.Queues.{Queued, queue}
-use Rattle.sdd_log.specs.pipe.Pipe.{Pipe, head, head_processed, one_or_none}
-use Rattle.sdd_log.specs.dm.Pipes.{pipe, pipe_acted}
-use Rattle.sdd_log.specs.Entries.{Does, Given, Log}
-use Rattle.sdd_log.specs.Locals.{local_of, setting_of}
-use Rattle.sdd_log.specs.Permitted.{IsPermitted}
+use Rattle.sdd_log.specs.All.{Act, Answer, ClassNo, Cond, D, Did, DmNo, Does, Each, Given, Handed, IsPermitted, Log, Msg, Pipe, Queued, Read, Records, Redeclared, Sends, Setting, Site, Start, Submits, Ticked, Ts, TxnNo, Use, head, head_of, head_processed, local_of, number_of, one_or_none, pipe, pipe_acted, queue, setting_of}
 use Rattle.sdd_invariants.proofs.Places.{compare}
 use Rattle.sdd_invariants.proofs.Recorded.{head_left}
 use Rattle.sdd_invariants.specs.OnLinks.{read_at}

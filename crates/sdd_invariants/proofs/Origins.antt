@@ -1,16 +1,7 @@
 -- A message on a link was put by one act of the site's log, and what an act puts is on the link.
 use Rattle.std.proofs.Common.{ℕ, ◌++◌, ◌<◌, ◌∷◌, ◌≡◌, ◌≤◌, List, Some, [], ap, arith, false, inl, inr, length, refl, slice_get}
-use Rattle.sdd_log.specs.base.Numbers.{class_no, dm_no, time_at, txn_no}
-use Rattle.sdd_log.specs.base.Words.{is_empty}
-use Rattle.sdd_log.specs.base.declared.change.Change.{Change}
-use Rattle.sdd_log.specs.base.declared.site.Site.{Site}
-use Rattle.sdd_log.specs.base.declared.site.Site.TheVariants.{D}
-use Rattle.sdd_log.specs.lang.Effect.{effect}
-use Rattle.sdd_log.specs.wire.declared.msg.Msg.{Msg}
-use Rattle.sdd_log.specs.wire.declared.msg.Msg.TheVariants.{Write}
-use Rattle.sdd_log.specs.site_module.SiteLog.{Act, Bases, Did, Entry, Handed, Log, Redeclared, Setting, Submits, Ticked, sends_of_act}
-use Rattle.sdd_log.specs.attempt.Acts.{commit_act, write_to}
-use Rattle.sdd_log.specs.attempt.Attempts.{Attempt}
+use Rattle.sdd_log.specs.All.{Act, Attempt, Bases, Change, D, Did, Entry, Handed, Msg, Redeclared, Setting, Site, Submits, Ticked, Write, class_no, commit_act, dm_no, effect, is_empty, sends_of_act, time_at, txn_no, write_to}
+use Rattle.sdd_log.specs.site_module.SiteLog.{Log}
 use Rattle.sdd_invariants.specs.Puts.{IsPut}
 use Rattle.sdd_invariants.proofs.Lists.{in_either, in_left, in_right}
 use Rattle.sdd_invariants.proofs.Sites.{some_to}

@@ -1,13 +1,7 @@
 -- Two places of one log; and a class that is idle stays so until it records something.
 use Rattle.std.proofs.Common.{ℕ, ◌++◌, ◌<◌, ◌==◌, ◌∙◌, ◌∷◌, ◌≡◌, ◌⊎◌, List, None, Option, Some, [], ap, arith, false, inl, inr, length, length-append, refl, subst, sym}
-use Rattle.sdd_log.specs.base.declared.site.Site.{Site}
-use Rattle.sdd_log.specs.base.declared.site.Site.TheVariants.{D, T, U}
-use Rattle.sdd_log.specs.history.declared.record.Rec.{Rec}
-use Rattle.sdd_log.specs.history.declared.record.Rec.TheVariants.{Commit, Start}
-use Rattle.sdd_log.specs.wire.declared.msg.Msg.{Msg}
-use Rattle.sdd_log.specs.site_module.SiteLog.{Did, Entry, Handed, Log, Records, Redeclared, Sends, Setting, Submits, Ticked}
-use Rattle.sdd_log.specs.attempt.Attempts.{Attempt, active, active_after, active_handed, active_sent}
-use Rattle.sdd_log.specs.attempt.Queues.{Queued, queue}
+use Rattle.sdd_log.specs.All.{Attempt, Commit, D, Did, Entry, Handed, Msg, Queued, Rec, Records, Redeclared, Sends, Setting, Site, Start, Submits, T, Ticked, U, active, active_after, active_handed, active_sent, queue}
+use Rattle.sdd_log.specs.site_module.SiteLog.{Log}
 use Rattle.sdd_invariants.specs.OfRecords.{NoRecord, is_recorded}
 
 abbrev pub AreSame : {A : Type 0} → A → A → List A → List A → Type 0

@@ -1,17 +1,9 @@
 -- The records of a pipe belong to its messages, in order.
 use Rattle.std.specs.List.{AllZip}
 use Rattle.std.proofs.Common.{ℕ, ◌&&◌, ◌++◌, ◌==◌, ◌∙◌, ◌∷◌, ◌≡◌, ◌⊎◌, Bool, List, None, Some, [], ap, false, if◌then◌else◌, inl, inr, refl, slice_get, subst, suc, sym, true, zero}
-use Rattle.sdd_log.specs.base.declared.condition.Cond.{Cond}
-use Rattle.sdd_log.specs.base.declared.site.Site.{Site}
-use Rattle.sdd_log.specs.history.declared.record.Rec.{Rec}
-use Rattle.sdd_log.specs.history.declared.record.Rec.TheVariants.{Answer, Apply, Pass, Reject as Rejected}
-use Rattle.sdd_log.specs.wire.Piped.{goes_through}
-use Rattle.sdd_log.specs.wire.declared.msg.Msg.{Msg}
-use Rattle.sdd_log.specs.wire.declared.msg.Msg.TheVariants.{Null, Read, Write}
-use Rattle.sdd_log.specs.site_module.SiteLog.{Act, Did, Each, Handed, Log, Records, Redeclared, Sends, Setting, Submits, Ticked}
-use Rattle.sdd_log.specs.pipe.Pipe.{Pipe, head, head_processed, one_or_none, put}
-use Rattle.sdd_log.specs.dm.Pipes.{is_processing, is_wait, pipe, waits}
-use Rattle.sdd_log.specs.dm.Views.{View, view_of}
+use Rattle.sdd_log.specs.All.{Act, Answer, Apply, Cond, Did, Each, Handed, Msg, Null, Pass, Pipe, Read, Rec, Records, Redeclared, Sends, Setting, Site, Submits, Ticked, View, Write, goes_through, head, head_processed, is_processing, is_wait, one_or_none, pipe, put, view_of, waits}
+use Rattle.sdd_log.specs.history.declared.record.Rec.TheVariants.{Reject as Rejected}
+use Rattle.sdd_log.specs.site_module.SiteLog.{Log}
 use Rattle.sdd_invariants.specs.Matched.{IsMatched}
 use Rattle.sdd_invariants.proofs.AreReadSteps.{d_step}
 use Rattle.sdd_invariants.proofs.Bools.{if_way, neither_left, neither_right, same_number, same_or_not}

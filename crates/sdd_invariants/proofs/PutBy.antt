@@ -2,28 +2,8 @@
 use Rattle.std.specs.List.{list_all}
 use Rattle.std.proofs.Common.{ℕ, ◌++◌, ◌==◌, ◌∷◌, ◌≡◌, ◌⊎◌, Bool, List, None, Option, Some, [], ap, arith, false, filter, if◌then◌else◌, inl, inr, is_some, map, not, refl, slice_get, subst, suc, sym, true, zero}
 use Rattle.std.proofs.lemmas.Bool.{eqb-true}
-use Rattle.sdd_log.specs.base.Sites.{same_site}
-use Rattle.sdd_log.specs.base.Words.{head_of}
-use Rattle.sdd_log.specs.base.declared.change.Change.{Change}
-use Rattle.sdd_log.specs.base.declared.condition.Cond.{Cond}
-use Rattle.sdd_log.specs.base.declared.number.ClassNo.{ClassNo}
-use Rattle.sdd_log.specs.base.declared.number.Ts.{Ts}
-use Rattle.sdd_log.specs.base.declared.number.TxnNo.{TxnNo}
-use Rattle.sdd_log.specs.base.declared.site.Site.{Site}
-use Rattle.sdd_log.specs.base.declared.site.Site.TheVariants.{U}
-use Rattle.sdd_log.specs.base.declared.usage.Use.{Use}
-use Rattle.sdd_log.specs.history.declared.record.Rec.TheVariants.{Apply, Arrive}
-use Rattle.sdd_log.specs.wire.Piped.{piped}
-use Rattle.sdd_log.specs.wire.declared.msg.Msg.{Msg}
-use Rattle.sdd_log.specs.wire.declared.msg.Msg.TheVariants.{Done, Fetch, Null, Read, Reduce, Ship, Write}
-use Rattle.sdd_log.specs.site_module.SiteLog.{Act, Did, Each, Entry, Handed, Log, Records, Redeclared, Sends, Setting, Submits, Ticked, hands, sends_of_act}
-use Rattle.sdd_log.specs.attempt.Exchange.{lacking}
-use Rattle.sdd_log.specs.pipe.Pipe.{head}
-use Rattle.sdd_log.specs.dm.Due.{IsDue, act_by, act_where, answer_of, answer_to, ask_for, by_head, by_open, head_due, is_held, is_met, judged, step_on}
-use Rattle.sdd_log.specs.dm.Opens.{Open, class_asked, is_asked_of, opens, opens_acted}
-use Rattle.sdd_log.specs.dm.Pipes.{pipe, waits}
-use Rattle.sdd_log.specs.dm.Views.{ClassView, Home, home_of, view_of}
-use Rattle.sdd_log.specs.dm.declared.step.Step.TheVariants.{Processes}
+use Rattle.sdd_log.specs.All.{Act, Apply, Arrive, Change, ClassNo, ClassView, Cond, Did, Done, Each, Entry, Fetch, Handed, Home, IsDue, Msg, Null, Open, Processes, Read, Records, Redeclared, Reduce, Sends, Setting, Ship, Site, Submits, Ticked, Ts, TxnNo, U, Use, Write, act_by, act_where, answer_of, answer_to, ask_for, by_head, by_open, class_asked, hands, head, head_due, head_of, home_of, is_asked_of, is_held, is_met, judged, lacking, opens, opens_acted, pipe, piped, same_site, sends_of_act, step_on, view_of, waits}
+use Rattle.sdd_log.specs.site_module.SiteLog.{Log}
 use Rattle.sdd_invariants.specs.PutsBy.{IsFetch, IsPutByD, IsReduce, IsShip, WasAsked}
 use Rattle.sdd_invariants.proofs.AreReadSteps.{class_at_place}
 use Rattle.sdd_invariants.proofs.Lists.{in_either, in_filtered, in_one}

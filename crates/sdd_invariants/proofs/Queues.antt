@@ -3,15 +3,8 @@
 use Rattle.std.specs.Prelude.{filter_map}
 use Rattle.std.proofs.Common.{ℕ, ◌++◌, ◌<◌, ◌==◌, ◌||◌, ◌∙◌, ◌∷◌, ◌≡◌, ◌⊎◌, Bool, List, None, Option, Some, [], ap, arith, cond, false, filter, if◌then◌else◌, inl, inr, map, not, refl, subst, suc, sym, true}
 use Rattle.std.proofs.lemmas.List.Elements.{filter_map-append}
-use Rattle.sdd_log.specs.base.Words.{contains, head_of}
-use Rattle.sdd_log.specs.base.declared.site.Site.{Site}
-use Rattle.sdd_log.specs.lang.declared.transaction.Txn.{Txn}
-use Rattle.sdd_log.specs.wire.declared.msg.Msg.{Msg}
-use Rattle.sdd_log.specs.site_module.SiteLog.{Act, Bases, Did, Each, Entry, Handed, Log, Redeclared, Sends, Setting, Submits, Ticked, in_force, sends_of_act, submits}
-use Rattle.sdd_log.specs.attempt.Acts.{commit_act}
-use Rattle.sdd_log.specs.attempt.Attempts.{Attempt, active, started}
-use Rattle.sdd_log.specs.attempt.Exchange.{Exchange}
-use Rattle.sdd_log.specs.attempt.Queues.{Queued, is_for, queue, tried}
+use Rattle.sdd_log.specs.All.{Act, Attempt, Bases, Did, Each, Entry, Exchange, Handed, Msg, Queued, Redeclared, Sends, Setting, Site, Submits, Ticked, Txn, active, commit_act, contains, head_of, in_force, is_for, queue, sends_of_act, started, submits, tried}
+use Rattle.sdd_log.specs.site_module.SiteLog.{Log}
 use Rattle.sdd_invariants.specs.InQueues.{AllKnown, IsQueue}
 use Rattle.sdd_invariants.proofs.Active.{handed_way, sent_way, step_way}
 use Rattle.sdd_invariants.proofs.Bools.{if_way, neither_right, or_right, same_number, same_or_not}

@@ -4,26 +4,9 @@ use Rattle.std.specs.List.{cons_option}
 use Rattle.std.specs.Prelude.{filter_map}
 use Rattle.std.proofs.Common.{ℕ, ◌&&◌, ◌++◌, ◌+◌, ◌==◌, ◌||◌, ◌∙◌, ◌∷◌, ◌≡◌, ◌≤◌, ◌⊎◌, Bool, List, None, Option, Some, [], ap, arith, cond, false, if◌then◌else◌, inl, inr, length, map, not, refl, subst, sym, true}
 use Rattle.std.proofs.lemmas.Bool.{eqb-true}
-use Rattle.sdd_log.specs.base.Numbers.{class_no, dm_no, time_at, txn_no}
-use Rattle.sdd_log.specs.base.Order.{with_values}
-use Rattle.sdd_log.specs.base.Sites.{same_site}
-use Rattle.sdd_log.specs.base.Words.{contains, is_empty}
-use Rattle.sdd_log.specs.base.declared.change.Change.{Change}
-use Rattle.sdd_log.specs.base.declared.number.ClassNo.{ClassNo}
-use Rattle.sdd_log.specs.base.declared.number.DmNo.{DmNo}
-use Rattle.sdd_log.specs.base.declared.number.Ts.{Ts}
-use Rattle.sdd_log.specs.base.declared.site.Site.{Site}
-use Rattle.sdd_log.specs.base.declared.site.Site.TheVariants.{D, T, U}
-use Rattle.sdd_log.specs.catalog.Catalogue.{Catalogue, numbers_to}
-use Rattle.sdd_log.specs.lang.Effect.{effect}
-use Rattle.sdd_log.specs.wire.declared.msg.Msg.{Msg}
-use Rattle.sdd_log.specs.wire.declared.msg.Msg.TheVariants.{Fetch, Ready, Reduce, Reduced, Rows, Ship, Values, Write}
-use Rattle.sdd_log.specs.site_module.SiteLog.{Act, Bases, Did, Each, Entry, Handed, Log, Redeclared, Sends, Setting, Submits, Ticked, sends_of_act}
-use Rattle.sdd_log.specs.attempt.Acts.{commit_act, write_to}
-use Rattle.sdd_log.specs.attempt.Attempts.{Attempt, active, active_handed, active_sent, asks_rows, rejects, started}
-use Rattle.sdd_log.specs.attempt.Exchange.{Exchange, Phase, Reading, after_hand, after_send, answered, begins, counted, first_phase, is_over, lacking, module_read, phase_ends, without}
-use Rattle.sdd_log.specs.attempt.Queues.{Queued}
-use Rattle.sdd_log.specs.umod.Views.{counts}
+use Rattle.sdd_log.specs.All.{Act, Attempt, Bases, Catalogue, Change, ClassNo, D, Did, DmNo, Each, Entry, Exchange, Fetch, Handed, Msg, Phase, Queued, Reading, Ready, Redeclared, Reduce, Reduced, Sends, Setting, Ship, Site, Submits, T, Ticked, Ts, U, Values, Write, active, active_handed, active_sent, after_hand, after_send, answered, asks_rows, begins, class_no, commit_act, contains, counted, counts, dm_no, effect, first_phase, is_empty, is_over, lacking, module_read, numbers_to, phase_ends, rejects, same_site, sends_of_act, started, time_at, txn_no, with_values, without, write_to}
+use Rattle.sdd_log.specs.wire.declared.msg.Msg.TheVariants.{Rows}
+use Rattle.sdd_log.specs.site_module.SiteLog.{Log}
 use Rattle.sdd_invariants.proofs.Clocks.{drawn, stamp_rises}
 use Rattle.sdd_invariants.specs.Stamps.{stamp_or}
 use Rattle.sdd_invariants.specs.Readied.{AllReadied, AreReady, IsHonest, asks_in, firsts, is_ready, site_d, was_asked, was_ready}

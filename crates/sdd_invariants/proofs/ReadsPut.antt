@@ -2,18 +2,8 @@
 use Rattle.std.specs.Prelude.{filter_map}
 use Rattle.std.proofs.Common.{ℕ, ◌++◌, ◌<◌, ◌==◌, ◌∙◌, ◌∷◌, ◌≡◌, ◌≤◌, ◌⊎◌, Bool, List, None, Some, [], ap, append-nil, arith, cond, false, if◌then◌else◌, inl, inr, refl, slice_get, subst, suc, sym, true}
 use Rattle.std.proofs.lemmas.List.Elements.{filter_map-append}
-use Rattle.sdd_log.specs.base.Sites.{number_of, same_site}
-use Rattle.sdd_log.specs.base.Words.{ascending}
-use Rattle.sdd_log.specs.base.declared.site.Site.{Site}
-use Rattle.sdd_log.specs.catalog.Catalogue.{Catalogue, numbers_to, reads_at}
-use Rattle.sdd_log.specs.lang.Classes.{fragments_in}
-use Rattle.sdd_log.specs.lang.Uses.{uses_of}
-use Rattle.sdd_log.specs.wire.declared.msg.Msg.{Msg}
-use Rattle.sdd_log.specs.wire.declared.msg.Msg.TheVariants.{Null, Read, Write}
-use Rattle.sdd_log.specs.site_module.SiteLog.{Act, Did, Each, Entry, Handed, Log, Redeclared, Sends, Setting, Submits, Ticked, sends_of_act}
-use Rattle.sdd_log.specs.attempt.Acts.{commit_act, modules_of}
-use Rattle.sdd_log.specs.attempt.Attempts.{asks_rows}
-use Rattle.sdd_log.specs.attempt.Queues.{Queued}
+use Rattle.sdd_log.specs.All.{Act, Catalogue, Did, Each, Entry, Handed, Msg, Null, Queued, Read, Redeclared, Sends, Setting, Site, Submits, Ticked, Write, ascending, asks_rows, commit_act, fragments_in, modules_of, number_of, numbers_to, reads_at, same_site, sends_of_act, uses_of}
+use Rattle.sdd_log.specs.site_module.SiteLog.{Log}
 use Rattle.sdd_invariants.proofs.Clocks.{bound_rises, clock_number}
 use Rattle.sdd_invariants.proofs.WritesPut.{commit_puts}
 use Rattle.sdd_invariants.specs.OnLinks.{read_at, reads_in}

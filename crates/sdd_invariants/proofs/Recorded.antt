@@ -3,13 +3,8 @@ use Rattle.std.specs.Prelude.{filter_map}
 use Rattle.std.proofs.Common.{ℕ, ◌++◌, ◌<◌, ◌∙◌, ◌∷◌, ◌≡◌, ◌≤◌, Bool, List, None, Option, Some, [], ap, arith, false, if◌then◌else◌, inl, inr, length, refl, slice_get, subst, suc, sym, take, true, zero}
 use Rattle.std.proofs.Math.Decide.{dec_le}
 use Rattle.std.proofs.lemmas.List.{take-append-le, take_all}
-use Rattle.sdd_log.specs.base.Sites.{number_of}
-use Rattle.sdd_log.specs.base.Words.{head_of}
-use Rattle.sdd_log.specs.lang.declared.transaction.Txn.{Txn}
-use Rattle.sdd_log.specs.site_module.SiteLog.{Act, Bases, Did, Each, Entry, Handed, Log, Redeclared, Sends, Setting, Submits, Ticked, in_force, sends_of_act}
-use Rattle.sdd_log.specs.attempt.Acts.{commit_act}
-use Rattle.sdd_log.specs.attempt.Attempts.{Attempt, active, started}
-use Rattle.sdd_log.specs.attempt.Queues.{Queued, is_for, queue}
+use Rattle.sdd_log.specs.All.{Act, Attempt, Bases, Did, Each, Entry, Handed, Queued, Redeclared, Sends, Setting, Submits, Ticked, Txn, active, commit_act, head_of, in_force, is_for, number_of, queue, sends_of_act, started}
+use Rattle.sdd_log.specs.site_module.SiteLog.{Log}
 use Rattle.sdd_invariants.proofs.Clocks.{clocked, stamp_below_bound}
 use Rattle.sdd_invariants.proofs.Queues.{queue_is, served_head}
 use Rattle.sdd_invariants.specs.OfRecords.{AllCommitted, HasStart, IsFirstLeft, IsRecord, Says, WasSubmitted, is_recorded}

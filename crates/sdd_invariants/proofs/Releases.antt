@@ -3,20 +3,8 @@ use Rattle.std.proofs.Common.{ℕ, ◌++◌, ◌+◌, ◌<◌, ◌==◌, ◌∙�
 use Rattle.std.proofs.Math.Decide.{dec_le}
 use Rattle.std.proofs.lemmas.List.{take-append-le}
 use Rattle.std.proofs.lemmas.List.Elements.{filter_map-append}
-use Rattle.sdd_log.specs.base.Numbers.{dm_no, tm_no}
-use Rattle.sdd_log.specs.base.Words.{head_of}
-use Rattle.sdd_log.specs.base.declared.number.Ts.{Ts}
-use Rattle.sdd_log.specs.base.declared.site.Site.{Site}
-use Rattle.sdd_log.specs.base.declared.site.Site.TheVariants.{D, T}
-use Rattle.sdd_log.specs.catalog.Catalogue.{numbers_to}
-use Rattle.sdd_log.specs.history.declared.record.Rec.TheVariants.{Start}
-use Rattle.sdd_log.specs.wire.declared.msg.Msg.{Msg}
-use Rattle.sdd_log.specs.wire.declared.msg.Msg.TheVariants.{Done, Hold, Release}
-use Rattle.sdd_log.specs.site_module.SiteLog.{Act, Bases, Did, Each, Entry, Handed, Log, Records, Redeclared, Sends, Setting, Submits, Ticked, sends_of_act}
-use Rattle.sdd_log.specs.attempt.Acts.{commit_act}
-use Rattle.sdd_log.specs.attempt.Attempts.{Attempt, active, active_handed, started}
-use Rattle.sdd_log.specs.attempt.Queues.{Queued, queue}
-use Rattle.sdd_log.specs.umod.Views.{Served, TmCounts, counts, last_served, served_handed, ts_of}
+use Rattle.sdd_log.specs.All.{Act, Attempt, Bases, D, Did, Done, Each, Entry, Handed, Hold, Msg, Queued, Records, Redeclared, Release, Sends, Served, Setting, Site, Start, Submits, T, Ticked, TmCounts, Ts, active, active_handed, commit_act, counts, dm_no, head_of, last_served, numbers_to, queue, sends_of_act, served_handed, started, tm_no, ts_of}
+use Rattle.sdd_log.specs.site_module.SiteLog.{Log}
 use Rattle.sdd_invariants.proofs.Serving.{chain, flip, hand_commits, hand_counts, is_tried, no_puts, none_mapped, not_started, puts_else, sent_count, u_due, u_way}
 use Rattle.sdd_invariants.proofs.Turns.{balance}
 use Rattle.sdd_invariants.specs.AtU.{IsChain, IsFairU, IsStepU, IsTried, starts}

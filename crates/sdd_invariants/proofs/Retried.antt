@@ -1,20 +1,8 @@
 -- A transaction that is tried again is still its queue's head, and the REJECT of its last attempt was handed after that attempt's Start.
 use Rattle.std.proofs.Common.{ℕ, ◌&&◌, ◌++◌, ◌<◌, ◌==◌, ◌∙◌, ◌∷◌, ◌≡◌, ◌⊎◌, Bool, List, None, Option, Some, [], ap, arith, cond, false, filter, if◌then◌else◌, inl, inr, map, not, refl, subst, suc, sym, true}
 use Rattle.std.proofs.lemmas.Bool.{eqb-true}
-use Rattle.sdd_log.specs.base.Words.{head_of}
-use Rattle.sdd_log.specs.base.declared.number.ClassNo.{ClassNo}
-use Rattle.sdd_log.specs.base.declared.number.DmNo.{DmNo}
-use Rattle.sdd_log.specs.base.declared.number.Ts.{Ts}
-use Rattle.sdd_log.specs.base.declared.site.Site.{Site}
-use Rattle.sdd_log.specs.base.declared.site.Site.TheVariants.{D, T, U}
-use Rattle.sdd_log.specs.lang.declared.transaction.Txn.{Txn}
-use Rattle.sdd_log.specs.wire.declared.msg.Msg.{Msg}
-use Rattle.sdd_log.specs.wire.declared.msg.Msg.TheVariants.{Reject}
-use Rattle.sdd_log.specs.site_module.SiteLog.{Act, Did, Each, Entry, Handed, Log, Redeclared, Sends, Setting, Submits, Ticked, in_force, sends_of_act}
-use Rattle.sdd_log.specs.attempt.Acts.{commit_act}
-use Rattle.sdd_log.specs.attempt.Attempts.{Attempt, active, active_handed, active_sent, rejects, started}
-use Rattle.sdd_log.specs.attempt.Exchange.{after_hand}
-use Rattle.sdd_log.specs.attempt.Queues.{Queued, is_for, queue, tried}
+use Rattle.sdd_log.specs.All.{Act, Attempt, ClassNo, D, Did, DmNo, Each, Entry, Handed, Msg, Queued, Redeclared, Reject, Sends, Setting, Site, Submits, T, Ticked, Ts, Txn, U, active, active_handed, active_sent, after_hand, commit_act, head_of, in_force, is_for, queue, rejects, sends_of_act, started, tried}
+use Rattle.sdd_log.specs.site_module.SiteLog.{Log}
 use Rattle.sdd_invariants.proofs.Queues.{queue_is}
 use Rattle.sdd_invariants.specs.OfRecords.{is_recorded}
 use Rattle.sdd_invariants.specs.Rejections.{IsRejected}

@@ -1,14 +1,9 @@
 -- At a T: the HELD that was sent as number n + 1 and the log before it, its time, and that a Start comes where it isn't on hold.
 use Rattle.std.proofs.Common.{ℕ, ◌++◌, ◌∙◌, ◌∷◌, ◌≡◌, ◌≤◌, Option, [], ap, arith, refl, subst, suc, sym, true}
-use Rattle.sdd_log.specs.base.declared.number.Ts.{Ts}
-use Rattle.sdd_log.specs.base.declared.site.Site.{Site}
-use Rattle.sdd_log.specs.wire.declared.msg.Msg.{Msg}
-use Rattle.sdd_log.specs.wire.declared.msg.Msg.TheVariants.{Held}
-use Rattle.sdd_log.specs.site_module.SiteLog.{Act, Bases, Did, Entry, Handed, Log, Redeclared, Sends, Setting, Submits, Ticked, hands}
-use Rattle.sdd_log.specs.attempt.Attempts.{asks_rows}
-use Rattle.sdd_log.specs.attempt.Queues.{Queued}
+use Rattle.sdd_log.specs.All.{Act, Bases, Did, Entry, Handed, Held, HoldCounts, Msg, Queued, Redeclared, Sends, Setting, Site, Submits, Ticked, Ts, asks_rows, hands, holds, holds_acted}
+use Rattle.sdd_log.specs.site_module.SiteLog.{Log}
 use Rattle.sdd_log.specs.tm.Due.{IsDue}
-use Rattle.sdd_log.specs.tm.Views.{HoldCounts, holds, holds_acted, view_of}
+use Rattle.sdd_log.specs.tm.Views.{view_of}
 use Rattle.sdd_invariants.proofs.Holding.{hand_helds, hold_rule}
 use Rattle.sdd_invariants.specs.AtT.{AllIdle, IsHeldAt}
 use Rattle.sdd_invariants.proofs.Active.{step_way}

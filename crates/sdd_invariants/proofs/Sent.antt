@@ -1,18 +1,8 @@
 -- Only what is put changes the list of messages that were put on a link.
 use Rattle.std.proofs.Common.{ℕ, ◌&&◌, ◌++◌, ◌∙◌, ◌∷◌, ◌≡◌, Bool, List, None, Option, Some, [], ap, append-nil, append_assoc, false, if◌then◌else◌, refl, suc, sym, true}
-use Rattle.sdd_log.specs.base.Sites.{same_site}
-use Rattle.sdd_log.specs.base.declared.event.Event.TheVariants.{Deliver, Down, Lose, Redeclare, Repeat, Resend, Settle, Submit, Tick, Up}
-use Rattle.sdd_log.specs.base.declared.site.Site.{Site}
-use Rattle.sdd_log.specs.base.declared.site.Site.TheVariants.{D, T, U}
-use Rattle.sdd_log.specs.lang.declared.transaction.Txn.{Txn}
-use Rattle.sdd_log.specs.wire.declared.msg.Msg.{Msg}
-use Rattle.sdd_log.specs.site_module.SiteLog.{Act, Did, Force, Handed, Redeclared, Submits, Ticked, sends_of_act}
-use Rattle.sdd_log.specs.net.Links.{Call, Delivers, Link, Loses, Puts, Repeats, Resends, arrives, deliver, link, lose, on_link, packet_at, put, repeat, resend, turned, with_packet, without_packet}
-use Rattle.sdd_log.specs.net.declared.packet.Packet.{Packet}
-use Rattle.sdd_log.specs.net.declared.packet.Packet.TheVariants.{Ack, Message}
-use Rattle.sdd_log.specs.Entries.{Does, Entry, Given, Hand, Log, Mark, Notes, Redeclares, Round, Submitted}
-use Rattle.sdd_log.specs.Locals.{force_at, local_of, redeclares, txn_at}
-use Rattle.sdd_log.specs.Traffic.{calls_of, puts, sent}
+use Rattle.sdd_log.specs.All.{Ack, Act, Call, D, Deliver, Delivers, Did, Does, Down, Force, Given, Hand, Handed, Link, Log, Lose, Loses, Mark, Message, Msg, Notes, Packet, Puts, Redeclare, Redeclared, Redeclares, Repeat, Repeats, Resend, Resends, Round, Settle, Site, Submit, Submits, Submitted, T, Tick, Ticked, Txn, U, Up, arrives, calls_of, deliver, force_at, link, local_of, lose, on_link, packet_at, puts, redeclares, repeat, resend, same_site, sends_of_act, sent, turned, txn_at, with_packet, without_packet}
+use Rattle.sdd_log.specs.net.Links.{put}
+use Rattle.sdd_log.specs.Entries.{Entry}
 use Rattle.sdd_invariants.proofs.Bools.{if_way}
 use Rattle.sdd_invariants.specs.Traffic.{puts_to, to_site}
 use Rattle.sdd_invariants.proofs.Made.{local_step}

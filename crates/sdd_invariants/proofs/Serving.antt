@@ -2,24 +2,10 @@
 use Rattle.std.specs.List.{list_all}
 use Rattle.std.proofs.Common.{ℕ, ◌&&◌, ◌++◌, ◌<◌, ◌==◌, ◌∙◌, ◌∷◌, ◌≡◌, ◌≤◌, ◌⊎◌, Bool, List, None, Option, Some, [], ap, append-nil, arith, cond, false, filter, if◌then◌else◌, inl, inr, map, not, refl, slice_get, subst, suc, sym, true}
 use Rattle.std.proofs.lemmas.Bool.{eqb-true}
-use Rattle.sdd_log.specs.base.Numbers.{dm_no, tm_no}
-use Rattle.sdd_log.specs.base.Words.{head_of, or_else}
-use Rattle.sdd_log.specs.base.declared.number.TmNo.{TmNo}
-use Rattle.sdd_log.specs.base.declared.number.Ts.{Ts}
-use Rattle.sdd_log.specs.base.declared.site.Site.{Site}
-use Rattle.sdd_log.specs.base.declared.site.Site.TheVariants.{D, T}
-use Rattle.sdd_log.specs.catalog.Catalogue.{numbers_to}
-use Rattle.sdd_log.specs.lang.Effect.{effect}
-use Rattle.sdd_log.specs.lang.declared.transaction.Txn.{Txn}
-use Rattle.sdd_log.specs.wire.declared.msg.Msg.{Msg}
-use Rattle.sdd_log.specs.wire.declared.msg.Msg.TheVariants.{Done, Held, Hold, Release}
-use Rattle.sdd_log.specs.site_module.SiteLog.{Act, Bases, Did, Each, Entry, Handed, Log, Redeclared, Sends, Setting, Submits, Ticked, in_force, sends_of_act}
-use Rattle.sdd_log.specs.attempt.Acts.{attempt_due, commit_act, write_to}
-use Rattle.sdd_log.specs.attempt.Attempts.{Attempt, active, asks_rows}
-use Rattle.sdd_log.specs.attempt.Exchange.{first_send, is_over}
-use Rattle.sdd_log.specs.attempt.Queues.{Queued, is_for, queue, tried}
-use Rattle.sdd_log.specs.umod.Due.{IsDue, by_exchange, by_hold, by_release, by_start, hold_due, hold_to, is_holding, release_due, start_of}
-use Rattle.sdd_log.specs.umod.Views.{Served, TmCounts, counts, counts_acted, counts_handed, last_served, served_handed, view_of}
+use Rattle.sdd_log.specs.All.{Act, Attempt, Bases, D, Did, Done, Each, Entry, Handed, Held, Hold, Msg, Queued, Redeclared, Release, Sends, Served, Setting, Site, Submits, T, Ticked, TmCounts, TmNo, Ts, Txn, active, asks_rows, attempt_due, by_exchange, by_hold, by_release, by_start, commit_act, counts, counts_acted, counts_handed, dm_no, effect, first_send, head_of, hold_due, hold_to, in_force, is_for, is_holding, is_over, last_served, numbers_to, or_else, queue, release_due, sends_of_act, served_handed, start_of, tm_no, tried, write_to}
+use Rattle.sdd_log.specs.site_module.SiteLog.{Log}
+use Rattle.sdd_log.specs.umod.Due.{IsDue}
+use Rattle.sdd_log.specs.umod.Views.{view_of}
 use Rattle.sdd_invariants.proofs.Holding.{at_map, lt_is}
 use Rattle.sdd_invariants.proofs.Turns.{balance, tally_append, turns_append}
 use Rattle.sdd_invariants.specs.AtU.{AllZero, IsChain, IsFairU, IsStepU, IsTried, StartedHead, ZeroBut, starts, u_commit, u_exchange, u_hold, u_release, u_start}

@@ -3,11 +3,7 @@ use Rattle.std.specs.List.{cons_option, range_with_len}
 use Rattle.std.specs.Prelude.{filter_map}
 use Rattle.std.proofs.Common.{ℕ, ◌+◌, ◌<◌, ◌∷◌, ◌≡◌, ◌≤◌, ◌⊎◌, List, None, Option, Some, [], ap, arith, eq-eqb, false, if◌then◌else◌, inl, inr, map, refl, slice_get, subst, suc, sym, true, zero}
 use Rattle.std.proofs.lemmas.Bool.{eqb-true}
-use Rattle.sdd_log.specs.base.Numbers.{dm_no, tm_no}
-use Rattle.sdd_log.specs.base.Sites.{same_site}
-use Rattle.sdd_log.specs.base.declared.site.Site.{Site}
-use Rattle.sdd_log.specs.base.declared.site.Site.TheVariants.{D, T, U}
-use Rattle.sdd_log.specs.wire.declared.msg.Msg.{Msg}
+use Rattle.sdd_log.specs.All.{D, Msg, Site, T, U, dm_no, same_site, tm_no}
 use Rattle.sdd_invariants.proofs.Bools.{differ, same_number, same_or_not}
 use Rattle.sdd_invariants.proofs.Lists.{in_if}
 use Rattle.sdd_invariants.specs.Orders.{AllGt, IsStrict}

@@ -4,29 +4,7 @@ use Rattle.std.specs.List.{list_all, list_any}
 use Rattle.std.proofs.Common.{ℕ, ◌++◌, ◌+◌, ◌<◌, ◌∙◌, ◌∷◌, ◌≡◌, ◌≢◌, ◌≤◌, ◌⊎◌, List, None, Some, [], ap, append_assoc, arith, cond, false, inl, inr, length, length-append, map, nat_le, slice_get, subst, suc, sym, true, zero}
 use Rattle.std.proofs.Math.Decide.{dec_le}
 use Rattle.std.proofs.lemmas.Bool.Decides.{nat_tests}
-use Rattle.sdd_log.specs.base.Sites.{number_of}
-use Rattle.sdd_log.specs.base.Words.{head_of}
-use Rattle.sdd_log.specs.base.declared.change.Change.{Change}
-use Rattle.sdd_log.specs.base.declared.condition.Cond.{Cond}
-use Rattle.sdd_log.specs.base.declared.number.ClassNo.{ClassNo}
-use Rattle.sdd_log.specs.base.declared.number.DmNo.{DmNo}
-use Rattle.sdd_log.specs.base.declared.number.Ts.{Ts}
-use Rattle.sdd_log.specs.base.declared.number.TxnNo.{TxnNo}
-use Rattle.sdd_log.specs.base.declared.site.Site.{Site}
-use Rattle.sdd_log.specs.base.declared.site.Site.TheVariants.{D}
-use Rattle.sdd_log.specs.base.declared.usage.Use.{Use}
-use Rattle.sdd_log.specs.history.declared.record.Rec.TheVariants.{Answer}
-use Rattle.sdd_log.specs.wire.Piped.{time_of}
-use Rattle.sdd_log.specs.wire.declared.msg.Msg.{Msg}
-use Rattle.sdd_log.specs.wire.declared.msg.Msg.TheVariants.{Read, Write}
-use Rattle.sdd_log.specs.site_module.SiteLog.{Act, Each, Records, Setting}
-use Rattle.sdd_log.specs.pipe.Pipe.{Pipe, empty_pipe, head, passed, passed_by, touches}
-use Rattle.sdd_log.specs.dm.Due.{is_at_least, is_met, spoils}
-use Rattle.sdd_log.specs.dm.Pipes.{is_processing, pipe, waits}
-use Rattle.sdd_log.specs.dm.Views.{ClassView, view_of}
-use Rattle.sdd_log.specs.Entries.{Does, Given, Log}
-use Rattle.sdd_log.specs.Locals.{local_of, setting_of}
-use Rattle.sdd_log.specs.Permitted.{IsPermitted}
+use Rattle.sdd_log.specs.All.{Act, Answer, Change, ClassNo, ClassView, Cond, D, DmNo, Does, Each, Given, IsPermitted, Log, Msg, Pipe, Read, Records, Setting, Site, Ts, TxnNo, Use, Write, empty_pipe, head, head_of, is_at_least, is_met, is_processing, local_of, number_of, passed, passed_by, pipe, setting_of, spoils, time_of, touches, view_of, waits}
 use Rattle.sdd_log.proofs.EachLocal.{allowed_act}
 use Rattle.sdd_invariants.proofs.Waiting.{any_false_at, no_spoiler, processed_in_is, spoils_is, waiting}
 use Rattle.sdd_invariants.specs.Unspoilt.{AllUnspoilt, IsUnspoilt, spoiling}

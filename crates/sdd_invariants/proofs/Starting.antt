@@ -1,19 +1,6 @@
 -- What is said of a record that a site makes.
 use Rattle.std.proofs.Common.{ℕ, ◌∙◌, ◌∷◌, ◌≡◌, ◌≤◌, Some, subst, sym, true}
-use Rattle.sdd_log.specs.base.Sites.{number_of}
-use Rattle.sdd_log.specs.base.Words.{contains}
-use Rattle.sdd_log.specs.base.declared.number.DmNo.{DmNo}
-use Rattle.sdd_log.specs.base.declared.number.TmNo.{TmNo}
-use Rattle.sdd_log.specs.base.declared.site.Site.TheVariants.{T, U}
-use Rattle.sdd_log.specs.history.declared.record.Rec.TheVariants.{Commit}
-use Rattle.sdd_log.specs.site_module.SiteLog.{Act, Bases, Each, Records, Setting}
-use Rattle.sdd_log.specs.attempt.Acts.{commit_act}
-use Rattle.sdd_log.specs.attempt.Attempts.{Attempt, active}
-use Rattle.sdd_log.specs.attempt.Exchange.{is_over}
-use Rattle.sdd_log.specs.Entries.{Does, Given, Log}
-use Rattle.sdd_log.specs.Locals.{local_of, setting_of}
-use Rattle.sdd_log.specs.Permitted.{IsPermitted}
-use Rattle.sdd_log.specs.Snapshots.{base_of}
+use Rattle.sdd_log.specs.All.{Act, Attempt, Bases, Commit, DmNo, Does, Each, Given, IsPermitted, Log, Records, Setting, T, TmNo, U, active, base_of, commit_act, contains, is_over, local_of, number_of, setting_of}
 use Rattle.sdd_log.proofs.EachLocal.{allowed_act}
 use Rattle.sdd_invariants.proofs.Recorded.{says}
 use Rattle.sdd_invariants.specs.OfRecords.{Says}

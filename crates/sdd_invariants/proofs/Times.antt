@@ -1,21 +1,8 @@
 -- On a link the times of a class never fall: each is at most the class's limit, which never falls either.
 use Rattle.std.specs.Prelude.{filter_map}
 use Rattle.std.proofs.Common.{ℕ, ◌++◌, ◌==◌, ◌||◌, ◌∙◌, ◌∷◌, ◌≡◌, ◌≤◌, Bool, List, None, Option, Some, [], ap, arith, cond, false, if◌then◌else◌, inl, inr, map, not, refl, subst, sym, true}
-use Rattle.sdd_log.specs.base.Numbers.{class_no, dm_no, time_at, txn_no}
-use Rattle.sdd_log.specs.base.Sites.{number_of, same_site}
-use Rattle.sdd_log.specs.base.Words.{head_of, is_empty}
-use Rattle.sdd_log.specs.base.declared.change.Change.{Change}
-use Rattle.sdd_log.specs.base.declared.site.Site.{Site}
-use Rattle.sdd_log.specs.base.declared.site.Site.TheVariants.{D}
-use Rattle.sdd_log.specs.catalog.Catalogue.{Catalogue, numbers_to}
-use Rattle.sdd_log.specs.lang.Effect.{effect}
-use Rattle.sdd_log.specs.wire.Piped.{class_is, goes_through, piped, time_in, time_of}
-use Rattle.sdd_log.specs.wire.declared.msg.Msg.{Msg}
-use Rattle.sdd_log.specs.wire.declared.msg.Msg.TheVariants.{Fetch, Null, Reduce, Ship, Write}
-use Rattle.sdd_log.specs.site_module.SiteLog.{Act, Bases, Did, Each, Entry, Handed, Log, Redeclared, Sends, Setting, Submits, Ticked, sends_of_act}
-use Rattle.sdd_log.specs.attempt.Acts.{commit_act, write_to}
-use Rattle.sdd_log.specs.attempt.Attempts.{Attempt, active, asks_rows}
-use Rattle.sdd_log.specs.attempt.Queues.{Queued, queue}
+use Rattle.sdd_log.specs.All.{Act, Attempt, Bases, Catalogue, Change, D, Did, Each, Entry, Fetch, Handed, Msg, Null, Queued, Redeclared, Reduce, Sends, Setting, Ship, Site, Submits, Ticked, Write, active, asks_rows, class_is, class_no, commit_act, dm_no, effect, goes_through, head_of, is_empty, number_of, numbers_to, piped, queue, same_site, sends_of_act, time_at, time_in, time_of, txn_no, write_to}
+use Rattle.sdd_log.specs.site_module.SiteLog.{Log}
 use Rattle.sdd_invariants.proofs.Clocks.{bound_rises, limit_le}
 use Rattle.sdd_invariants.specs.OnLinks.{AllPiped, IsTimed}
 use Rattle.sdd_invariants.proofs.Active.{handed_way, sent_way, step_way}

@@ -1,34 +1,8 @@
 -- H5's Applies, and that a READ of an undeclared transaction is never spoilt.
 use Rattle.std.proofs.Common.{ℕ, ◌++◌, ◌<◌, ◌==◌, ◌∙◌, ◌∷◌, ◌≡◌, ◌≢◌, ◌≤◌, List, Some, [], ap, append_assoc, arith, false, inl, inr, length, refl, slice_get, subst, suc, sym, true, zero}
-use Rattle.sdd_log.specs.base.Numbers.{dm_no, tm_no}
-use Rattle.sdd_log.specs.base.Sites.{number_of}
-use Rattle.sdd_log.specs.base.Words.{contains}
-use Rattle.sdd_log.specs.base.declared.condition.Cond.{Cond}
-use Rattle.sdd_log.specs.base.declared.number.ClassNo.{ClassNo}
-use Rattle.sdd_log.specs.base.declared.number.DmNo.{DmNo}
-use Rattle.sdd_log.specs.base.declared.number.Ts.{Ts}
-use Rattle.sdd_log.specs.base.declared.number.TxnNo.{TxnNo}
-use Rattle.sdd_log.specs.base.declared.site.Site.{Site}
-use Rattle.sdd_log.specs.base.declared.site.Site.TheVariants.{D, T, U}
-use Rattle.sdd_log.specs.base.declared.usage.Use.{Use}
-use Rattle.sdd_log.specs.catalog.Catalogue.{numbers_to}
+use Rattle.sdd_log.specs.All.{Act, Answer, Attempt, Bases, ClassNo, Cond, D, Did, DmNo, Does, Given, IsPermitted, Log, Msg, Queued, Read, Records, Setting, Site, T, Ts, TxnNo, U, Use, Write, active, clock, commit_act, contains, dm_no, head, home_of, local_of, number_of, numbers_to, runs, sends_of_act, setting_of, spoils, tm_no, touches, undeclared_conditions, view_of}
 use Rattle.sdd_graph.specs.Graph.{classes_of}
-use Rattle.sdd_log.specs.protocol.Conditions.{undeclared_conditions}
-use Rattle.sdd_log.specs.history.declared.record.Rec.TheVariants.{Answer}
-use Rattle.sdd_log.specs.wire.declared.msg.Msg.{Msg}
-use Rattle.sdd_log.specs.wire.declared.msg.Msg.TheVariants.{Read, Write}
-use Rattle.sdd_log.specs.site_module.SiteLog.{Act, Bases, Did, Records, Setting, sends_of_act}
-use Rattle.sdd_log.specs.attempt.Acts.{commit_act}
-use Rattle.sdd_log.specs.attempt.Attempts.{Attempt, active}
-use Rattle.sdd_log.specs.attempt.Clocks.{clock}
-use Rattle.sdd_log.specs.attempt.Queues.{Queued}
-use Rattle.sdd_log.specs.pipe.Pipe.{head, touches}
-use Rattle.sdd_log.specs.dm.Due.{spoils}
-use Rattle.sdd_log.specs.dm.Views.{home_of, view_of}
-use Rattle.sdd_log.specs.tm.Views.{runs}
-use Rattle.sdd_log.specs.Entries.{Does, Entry, Given, Log}
-use Rattle.sdd_log.specs.Locals.{local_of, setting_of}
-use Rattle.sdd_log.specs.Permitted.{IsPermitted}
+use Rattle.sdd_log.specs.Entries.{Entry}
 use Rattle.sdd_invariants.proofs.Apart.{at_start, drawn_grow, end_at, low_or_high}
 use Rattle.sdd_invariants.proofs.Dones.{all_applied}
 use Rattle.sdd_invariants.proofs.HoldChain.{hold_chain, u_table}

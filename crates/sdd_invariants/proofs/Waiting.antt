@@ -6,23 +6,9 @@ use Rattle.std.proofs.Math.Decide.{dec_le}
 use Rattle.std.proofs.lemmas.Bool.Decides.{nat_tests}
 use Rattle.std.proofs.lemmas.List.FromFn.{length-map-range_with_len}
 use Rattle.std.proofs.lemmas.Option.{slice_get-get_or}
-use Rattle.sdd_log.specs.base.Words.{head_of}
-use Rattle.sdd_log.specs.base.declared.change.Change.{Change}
-use Rattle.sdd_log.specs.base.declared.condition.Cond.{Cond}
-use Rattle.sdd_log.specs.base.declared.number.ClassNo.{ClassNo}
-use Rattle.sdd_log.specs.base.declared.number.Ts.{Ts}
-use Rattle.sdd_log.specs.base.declared.number.TxnNo.{TxnNo}
-use Rattle.sdd_log.specs.base.declared.site.Site.{Site}
-use Rattle.sdd_log.specs.history.declared.record.Rec.{Rec}
-use Rattle.sdd_log.specs.history.declared.record.Rec.TheVariants.{Apply}
-use Rattle.sdd_log.specs.wire.Piped.{goes_through}
-use Rattle.sdd_log.specs.wire.declared.msg.Msg.{Msg}
-use Rattle.sdd_log.specs.wire.declared.msg.Msg.TheVariants.{Null, Read, Write}
-use Rattle.sdd_log.specs.site_module.SiteLog.{Did, Each, Entry, Handed, Log, Records, Redeclared, Setting, Submits, Ticked}
-use Rattle.sdd_log.specs.pipe.Pipe.{Pipe, greatest, head, put, raised, touches, write_time}
-use Rattle.sdd_log.specs.dm.Due.{holds, holds_back, is_at_least, spoils}
-use Rattle.sdd_log.specs.dm.Pipes.{is_processing, pipe, waits}
-use Rattle.sdd_log.specs.dm.Views.{ClassView, at_class, class_view, view_of}
+use Rattle.sdd_log.specs.All.{Apply, Change, ClassNo, ClassView, Cond, Did, Each, Entry, Handed, Msg, Null, Pipe, Read, Rec, Records, Redeclared, Setting, Site, Submits, Ticked, Ts, TxnNo, Write, at_class, class_view, goes_through, greatest, head, head_of, holds_back, is_at_least, is_processing, pipe, put, raised, spoils, touches, view_of, waits, write_time}
+use Rattle.sdd_log.specs.site_module.SiteLog.{Log}
+use Rattle.sdd_log.specs.dm.Due.{holds}
 use Rattle.sdd_invariants.proofs.Processed.{not_own, own_record, passing, processed_handed, processed_more, read_step_way}
 use Rattle.sdd_invariants.specs.Unspoilt.{AllUnspoilt, IsUnspoilt, IsWaiting, spoiling}
 use Rattle.sdd_invariants.proofs.AreReadSteps.{class_in_view, class_not_in_view, d_step, no_class}

@@ -1,20 +1,8 @@
 -- The WRITEs of a class on a link have different, rising times; each was put by the Commit of the attempt with its time.
 use Rattle.std.proofs.Common.{ℕ, ◌++◌, ◌<◌, ◌==◌, ◌||◌, ◌∙◌, ◌∷◌, ◌≡◌, ◌≤◌, ◌⊎◌, Bool, List, None, Option, Some, [], ap, append-nil, arith, cond, false, if◌then◌else◌, inl, inr, map, not, refl, subst, suc, sym, true}
 use Rattle.std.proofs.lemmas.List.Elements.{filter_map-append}
-use Rattle.sdd_log.specs.base.Numbers.{class_no, dm_no, time_at, txn_no}
-use Rattle.sdd_log.specs.base.Sites.{number_of, same_site}
-use Rattle.sdd_log.specs.base.Words.{head_of, is_empty}
-use Rattle.sdd_log.specs.base.declared.change.Change.{Change}
-use Rattle.sdd_log.specs.base.declared.site.Site.{Site}
-use Rattle.sdd_log.specs.base.declared.site.Site.TheVariants.{D}
-use Rattle.sdd_log.specs.catalog.Catalogue.{Catalogue}
-use Rattle.sdd_log.specs.lang.Effect.{effect}
-use Rattle.sdd_log.specs.wire.declared.msg.Msg.{Msg}
-use Rattle.sdd_log.specs.wire.declared.msg.Msg.TheVariants.{Write}
-use Rattle.sdd_log.specs.site_module.SiteLog.{Act, Bases, Did, Each, Entry, Handed, Log, Redeclared, Sends, Setting, Submits, Ticked, sends_of_act}
-use Rattle.sdd_log.specs.attempt.Acts.{commit_act, write_to}
-use Rattle.sdd_log.specs.attempt.Attempts.{Attempt, active, asks_rows}
-use Rattle.sdd_log.specs.attempt.Queues.{Queued, queue}
+use Rattle.sdd_log.specs.All.{Act, Attempt, Bases, Catalogue, Change, D, Did, Each, Entry, Handed, Msg, Queued, Redeclared, Sends, Setting, Site, Submits, Ticked, Write, active, asks_rows, class_no, commit_act, dm_no, effect, head_of, is_empty, number_of, queue, same_site, sends_of_act, time_at, txn_no, write_to}
+use Rattle.sdd_log.specs.site_module.SiteLog.{Log}
 use Rattle.sdd_invariants.proofs.Clocks.{bound_rises, drawn, stamp_below_bound}
 use Rattle.sdd_invariants.specs.OnLinks.{write_at, writes_in}
 use Rattle.sdd_invariants.specs.Stamps.{stamp_or}

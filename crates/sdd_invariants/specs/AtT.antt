@@ -1,15 +1,9 @@
 -- What a transaction module's hold means: how its table treats HOLDs, and what then holds of every log of it.
 use Rattle.std.specs.Prelude.{ℕ, ◌++◌, ◌<◌, ◌∷◌, ◌≡◌, ◌≤◌, List, None, Option, Some, [], slice_get}
-use Rattle.sdd_log.specs.base.declared.number.Ts.{Ts}
-use Rattle.sdd_log.specs.base.declared.site.Site.{Site}
-use Rattle.sdd_log.specs.base.declared.site.Site.TheVariants.{U}
-use Rattle.sdd_log.specs.history.declared.record.Rec.TheVariants.{Start}
-use Rattle.sdd_log.specs.wire.declared.msg.Msg.{Msg}
-use Rattle.sdd_log.specs.wire.declared.msg.Msg.TheVariants.{Held, Hold, Release}
-use Rattle.sdd_log.specs.site_module.SiteLog.{Act, Bases, Did, Entry, Handed, Log, Records, Redeclared, Sends, Setting, Submits, Ticked}
-use Rattle.sdd_log.specs.attempt.Attempts.{active}
+use Rattle.sdd_log.specs.All.{Act, Bases, Did, Entry, Handed, Held, Hold, Msg, Records, Redeclared, Release, Sends, Setting, Site, Start, Submits, Ticked, Ts, U, active, holds, runs}
+use Rattle.sdd_log.specs.site_module.SiteLog.{Log}
 use Rattle.sdd_log.specs.tm.Due.{IsDue}
-use Rattle.sdd_log.specs.tm.Views.{holds, runs, view_of}
+use Rattle.sdd_log.specs.tm.Views.{view_of}
 use Rattle.sdd_invariants.specs.Turns.{NoneHold}
 use Rattle.sdd_invariants.specs.Traffic.{to_site}
 

@@ -1,20 +1,10 @@
 -- What U does, and what then holds of its counts for each T: the RELEASEs sent, the Commits, the Starts, the HELDs handed
 -- and the HOLDs sent stand in one chain, and HOLDs and RELEASEs alternate on its link.
 use Rattle.std.specs.Prelude.{ℕ, ◌<◌, ◌==◌, ◌∷◌, ◌≡◌, ◌≤◌, ◌⊎◌, Bool, List, None, Some, [], false, slice_get, suc, true}
-use Rattle.sdd_log.specs.base.Numbers.{dm_no, tm_no}
-use Rattle.sdd_log.specs.base.Words.{head_of}
-use Rattle.sdd_log.specs.base.declared.number.Ts.{Ts}
-use Rattle.sdd_log.specs.base.declared.site.Site.TheVariants.{D, T}
-use Rattle.sdd_log.specs.catalog.Catalogue.{numbers_to}
-use Rattle.sdd_log.specs.history.declared.record.Rec.TheVariants.{Start}
-use Rattle.sdd_log.specs.wire.declared.msg.Msg.{Msg}
-use Rattle.sdd_log.specs.wire.declared.msg.Msg.TheVariants.{Hold, Release}
-use Rattle.sdd_log.specs.site_module.SiteLog.{Act, Bases, Did, Entry, Handed, Log, Records, Redeclared, Sends, Setting, Submits, Ticked}
-use Rattle.sdd_log.specs.attempt.Acts.{commit_act}
-use Rattle.sdd_log.specs.attempt.Attempts.{Attempt, active, asks_rows}
-use Rattle.sdd_log.specs.attempt.Queues.{Queued, queue}
+use Rattle.sdd_log.specs.All.{Act, Attempt, Bases, D, Did, Entry, Handed, Hold, Msg, Queued, Records, Redeclared, Release, Sends, Setting, Start, Submits, T, Ticked, Ts, active, asks_rows, commit_act, counts, dm_no, head_of, last_served, numbers_to, queue, tm_no}
+use Rattle.sdd_log.specs.site_module.SiteLog.{Log}
 use Rattle.sdd_log.specs.umod.Due.{IsDue}
-use Rattle.sdd_log.specs.umod.Views.{counts, last_served, view_of}
+use Rattle.sdd_log.specs.umod.Views.{view_of}
 use Rattle.sdd_invariants.specs.Turns.{is_a_hold, is_a_release, tally, turns}
 use Rattle.sdd_invariants.specs.Steps.{IsServed, start_at}
 use Rattle.sdd_invariants.specs.Traffic.{puts_to}

@@ -1,28 +1,8 @@
 -- The barrier of an undeclared transaction: the HOLDs, HELDs and RELEASEs between U and a T, and on which side of it a
 -- declared transaction is.
 use Rattle.std.specs.Prelude.{ℕ, ◌++◌, ◌<◌, ◌∷◌, ◌≡◌, ◌≤◌, List, Some, [], map, suc}
-use Rattle.sdd_log.specs.base.Numbers.{frag_no, tm_no}
-use Rattle.sdd_log.specs.base.declared.change.Change.{Change}
-use Rattle.sdd_log.specs.base.declared.condition.Cond.{Cond}
-use Rattle.sdd_log.specs.base.declared.number.ClassNo.{ClassNo}
-use Rattle.sdd_log.specs.base.declared.number.DmNo.{DmNo}
-use Rattle.sdd_log.specs.base.declared.number.Ts.{Ts}
-use Rattle.sdd_log.specs.base.declared.number.TxnNo.{TxnNo}
-use Rattle.sdd_log.specs.base.declared.site.Site.TheVariants.{D, T, U}
+use Rattle.sdd_log.specs.All.{Act, Apply, Attempt, Bases, Change, ClassNo, Cond, D, Did, DmNo, Does, Done, Given, Log, Queued, Records, T, Ts, TxnNo, U, Write, active, commit_act, cond_of, counts, frag_no, head, holds, home_of, last_served, local_of, setting_of, tm_no}
 use Rattle.sdd_graph.specs.Graph.{fragments_of}
-use Rattle.sdd_log.specs.protocol.Conditions.{cond_of}
-use Rattle.sdd_log.specs.history.declared.record.Rec.TheVariants.{Apply}
-use Rattle.sdd_log.specs.wire.declared.msg.Msg.TheVariants.{Done, Write}
-use Rattle.sdd_log.specs.site_module.SiteLog.{Act, Bases, Did, Records}
-use Rattle.sdd_log.specs.attempt.Acts.{commit_act}
-use Rattle.sdd_log.specs.attempt.Attempts.{Attempt, active}
-use Rattle.sdd_log.specs.attempt.Queues.{Queued}
-use Rattle.sdd_log.specs.pipe.Pipe.{head}
-use Rattle.sdd_log.specs.dm.Views.{home_of}
-use Rattle.sdd_log.specs.tm.Views.{holds}
-use Rattle.sdd_log.specs.umod.Views.{counts, last_served}
-use Rattle.sdd_log.specs.Entries.{Does, Given, Log}
-use Rattle.sdd_log.specs.Locals.{local_of, setting_of}
 use Rattle.sdd_invariants.specs.AtU.{starts}
 use Rattle.sdd_invariants.specs.Releases.{dones_of}
 use Rattle.sdd_invariants.specs.OfRecords.{HasStart}

@@ -1,27 +1,7 @@
 -- The causes of records, as entries of the log of everything.
 use Rattle.std.specs.Prelude.{ℕ, ◌++◌, ◌<◌, ◌==◌, ◌∷◌, ◌≡◌, ◌≤◌, ◌⊎◌, List, None, Some, length, slice_get, suc, true}
-use Rattle.sdd_log.specs.base.Words.{head_of}
-use Rattle.sdd_log.specs.base.declared.condition.Cond.{Cond}
-use Rattle.sdd_log.specs.base.declared.number.ClassNo.{ClassNo}
-use Rattle.sdd_log.specs.base.declared.number.DmNo.{DmNo}
-use Rattle.sdd_log.specs.base.declared.number.Ts.{Ts}
-use Rattle.sdd_log.specs.base.declared.number.TxnNo.{TxnNo}
-use Rattle.sdd_log.specs.base.declared.site.Site.{Site}
-use Rattle.sdd_log.specs.base.declared.site.Site.TheVariants.{D}
-use Rattle.sdd_log.specs.base.declared.usage.Use.{Use}
-use Rattle.sdd_log.specs.lang.Effect.{effect}
-use Rattle.sdd_log.specs.history.declared.record.Rec.TheVariants.{Answer, Commit, Reject as Rejected}
-use Rattle.sdd_log.specs.wire.Piped.{goes_through}
-use Rattle.sdd_log.specs.wire.declared.msg.Msg.{Msg}
-use Rattle.sdd_log.specs.wire.declared.msg.Msg.TheVariants.{Read}
-use Rattle.sdd_log.specs.site_module.SiteLog.{Act, Bases, Records, Setting, sends_of_act}
-use Rattle.sdd_log.specs.attempt.Acts.{commit_act}
-use Rattle.sdd_log.specs.attempt.Attempts.{Attempt, active}
-use Rattle.sdd_log.specs.attempt.Queues.{Queued, queue}
-use Rattle.sdd_log.specs.pipe.Pipe.{head}
-use Rattle.sdd_log.specs.dm.Views.{home_of}
-use Rattle.sdd_log.specs.Entries.{Does, Given, Log}
-use Rattle.sdd_log.specs.Locals.{local_of, setting_of}
+use Rattle.sdd_log.specs.All.{Act, Answer, Attempt, Bases, ClassNo, Commit, Cond, D, DmNo, Does, Given, Log, Msg, Queued, Read, Records, Setting, Site, Ts, TxnNo, Use, active, commit_act, effect, goes_through, head, head_of, home_of, local_of, queue, sends_of_act, setting_of}
+use Rattle.sdd_log.specs.history.declared.record.Rec.TheVariants.{Reject as Rejected}
 use Rattle.sdd_invariants.specs.Puts.{IsPutBy}
 use Rattle.sdd_invariants.specs.Seen.{IsApplied, changes_to, pipe_at}
 use Rattle.sdd_invariants.specs.Steps.{bound, home, next_stamp, start_at}

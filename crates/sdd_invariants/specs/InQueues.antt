@@ -1,11 +1,8 @@
 -- The queue of a class is what was submitted to it and isn't committed, each with the number of its Starts; the active
 -- attempt is that of its head.
 use Rattle.std.specs.Prelude.{ℕ, ◌∷◌, ◌≡◌, List, [], false, filter_map, true}
-use Rattle.sdd_log.specs.base.Words.{contains}
-use Rattle.sdd_log.specs.lang.declared.transaction.Txn.{Txn}
-use Rattle.sdd_log.specs.site_module.SiteLog.{Log, Setting, submits}
-use Rattle.sdd_log.specs.attempt.Attempts.{active}
-use Rattle.sdd_log.specs.attempt.Queues.{queue}
+use Rattle.sdd_log.specs.All.{Setting, Txn, active, contains, queue, submits}
+use Rattle.sdd_log.specs.site_module.SiteLog.{Log}
 use Rattle.sdd_invariants.specs.Steps.{IsServed, is_committed, queued, starts_of, submits_of}
 
 abbrev pub AllKnown : Log → List (ℕ × Txn) → Type 0

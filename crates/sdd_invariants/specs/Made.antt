@@ -1,15 +1,7 @@
 -- What an entry of the log of everything makes of the log of a site: one entry more, or nothing.
 use Rattle.std.specs.Prelude.{ℕ, ◌++◌, ◌∷◌, ◌≡◌, List, None, Option, Some, [], if◌then◌else◌, suc}
-use Rattle.sdd_log.specs.base.Sites.{same_site}
-use Rattle.sdd_log.specs.base.declared.event.Event.{Event}
-use Rattle.sdd_log.specs.base.declared.event.Event.TheVariants.{Tick}
-use Rattle.sdd_log.specs.base.declared.site.Site.{Site}
-use Rattle.sdd_log.specs.base.declared.site.Site.TheVariants.{D, T, U}
-use Rattle.sdd_log.specs.lang.declared.transaction.Txn.{Txn}
-use Rattle.sdd_log.specs.wire.declared.msg.Msg.{Msg}
-use Rattle.sdd_log.specs.site_module.SiteLog.{Act, Did, Force, Handed, Redeclared, Submits, Ticked, sends_of_act}
-use Rattle.sdd_log.specs.Entries.{Does, Entry, Given, Hand, Log, Mark, Redeclares, Submitted}
-use Rattle.sdd_log.specs.Locals.{force_at, local_of, redeclares, txn_at}
+use Rattle.sdd_log.specs.All.{Act, D, Did, Does, Event, Force, Given, Hand, Handed, Log, Mark, Msg, Redeclared, Redeclares, Site, Submits, Submitted, T, Tick, Ticked, Txn, U, force_at, local_of, redeclares, same_site, sends_of_act, txn_at}
+use Rattle.sdd_log.specs.Entries.{Entry}
 use Rattle.sdd_invariants.specs.Traffic.{to_site}
 use Rattle.sdd_log.specs.site_module.SiteLog as site
 

@@ -1,19 +1,7 @@
 -- The records of a site that runs transactions.
 use Rattle.std.specs.Prelude.{ℕ, ◌++◌, ◌<◌, ◌==◌, ◌∷◌, ◌≡◌, Bool, List, None, Option, Some, [], false, slice_get, suc, take, true}
-use Rattle.sdd_log.specs.base.Words.{head_of}
-use Rattle.sdd_log.specs.base.declared.change.Change.{Change}
-use Rattle.sdd_log.specs.base.declared.number.ClassNo.{ClassNo}
-use Rattle.sdd_log.specs.base.declared.number.Ts.{Ts}
-use Rattle.sdd_log.specs.base.declared.number.TxnNo.{TxnNo}
-use Rattle.sdd_log.specs.base.declared.usage.Use.{Use}
-use Rattle.sdd_log.specs.lang.Effect.{effect}
-use Rattle.sdd_log.specs.lang.Uses.{uses_of}
-use Rattle.sdd_log.specs.lang.declared.transaction.Txn.{Txn}
-use Rattle.sdd_log.specs.history.declared.record.Rec.TheVariants.{Commit, Start}
-use Rattle.sdd_log.specs.site_module.SiteLog.{Act, Bases, Did, Entry, Log, Records, Sends, Setting, Submits, in_force}
-use Rattle.sdd_log.specs.attempt.Acts.{commit_act, p2_of}
-use Rattle.sdd_log.specs.attempt.Attempts.{Attempt, active}
-use Rattle.sdd_log.specs.attempt.Queues.{Queued, is_for, queue}
+use Rattle.sdd_log.specs.All.{Act, Attempt, Bases, Change, ClassNo, Commit, Did, Entry, Queued, Records, Sends, Setting, Start, Submits, Ts, Txn, TxnNo, Use, active, commit_act, effect, head_of, in_force, is_for, p2_of, queue, uses_of}
+use Rattle.sdd_log.specs.site_module.SiteLog.{Log}
 use Rattle.sdd_invariants.specs.Orders.{AllLe, AllLt}
 use Rattle.sdd_invariants.specs.Steps.{bound, home, is_committed, next_stamp, promises, stamps, start_at, starts_of, submits_of}
 

@@ -1,11 +1,7 @@
 -- On a link the times of a class never fall: each is at most the class's limit, which never falls either.
 use Rattle.std.specs.Prelude.{ℕ, ◌==◌, ◌∷◌, ◌≡◌, List, None, Option, Some, [], cond, filter_map}
-use Rattle.sdd_log.specs.base.declared.site.Site.{Site}
-use Rattle.sdd_log.specs.catalog.Catalogue.{Catalogue}
-use Rattle.sdd_log.specs.wire.Piped.{piped}
-use Rattle.sdd_log.specs.wire.declared.msg.Msg.{Msg}
-use Rattle.sdd_log.specs.wire.declared.msg.Msg.TheVariants.{Read, Write}
-use Rattle.sdd_log.specs.site_module.SiteLog.{Log, Setting}
+use Rattle.sdd_log.specs.All.{Catalogue, Msg, Read, Setting, Site, Write, piped}
+use Rattle.sdd_log.specs.site_module.SiteLog.{Log}
 use Rattle.sdd_invariants.specs.Orders.{AllLe, IsRising}
 use Rattle.sdd_invariants.specs.Steps.{home, limit}
 use Rattle.sdd_invariants.specs.Traffic.{puts_to, times_in}

@@ -1,25 +1,10 @@
 -- Who puts what at a data module: a READY is put by an Answer, a REJECT by a Reject, an ASK by a Wait, a DONE by an Apply
 -- of class 0; a VALUES, REDUCED or ROWS answers a message that was handed from the site to which it goes.
 use Rattle.std.specs.Prelude.{ℕ, ◌++◌, ◌∷◌, ◌≡◌, List, Some, [], false, slice_get}
-use Rattle.sdd_log.specs.base.declared.change.Change.{Change}
-use Rattle.sdd_log.specs.base.declared.condition.Cond.{Cond}
-use Rattle.sdd_log.specs.base.declared.number.ClassNo.{ClassNo}
-use Rattle.sdd_log.specs.base.declared.number.Ts.{Ts}
-use Rattle.sdd_log.specs.base.declared.number.TxnNo.{TxnNo}
-use Rattle.sdd_log.specs.base.declared.site.Site.{Site}
-use Rattle.sdd_log.specs.base.declared.site.Site.TheVariants.{U}
-use Rattle.sdd_log.specs.base.declared.usage.Use.{Use}
-use Rattle.sdd_log.specs.base.declared.value.Value.{Value}
-use Rattle.sdd_log.specs.history.declared.record.Rec.TheVariants.{Answer, Apply, Reject as Rejected}
-use Rattle.sdd_log.specs.wire.declared.msg.Msg.{Msg}
-use Rattle.sdd_log.specs.wire.declared.msg.Msg.TheVariants.{Ask, Done, Fetch, Read, Ready, Reduce, Reduced, Reject, Rows, Ship, Values, Write}
-use Rattle.sdd_log.specs.site_module.SiteLog.{Act, Handed, Log, Records, Setting}
-use Rattle.sdd_log.specs.pipe.Pipe.{head}
-use Rattle.sdd_log.specs.dm.Copies.{counts_held, frozen_at}
-use Rattle.sdd_log.specs.dm.Due.{last_write_for, or_zero}
-use Rattle.sdd_log.specs.dm.Pipes.{pipe, waits}
-use Rattle.sdd_log.specs.dm.Views.{dated_in, home_of, source_of, view_of}
-use Rattle.sdd_log.specs.umod.Views.{counts}
+use Rattle.sdd_log.specs.All.{Act, Answer, Apply, Ask, Change, ClassNo, Cond, Done, Fetch, Handed, Msg, Read, Ready, Records, Reduce, Reduced, Reject, Setting, Ship, Site, Ts, TxnNo, U, Use, Value, Values, Write, counts, counts_held, dated_in, frozen_at, head, home_of, last_write_for, or_zero, pipe, source_of, view_of, waits}
+use Rattle.sdd_log.specs.history.declared.record.Rec.TheVariants.{Reject as Rejected}
+use Rattle.sdd_log.specs.wire.declared.msg.Msg.TheVariants.{Rows}
+use Rattle.sdd_log.specs.site_module.SiteLog.{Log}
 use Rattle.sdd_invariants.specs.ReadSteps.{IsClassHere, spoiler}
 
 pub record IsReadyBy (s : Setting) (log : Log) (b : Site) (act : Act) (ts : Ts) (k : ClassNo) (counts : List (ℕ × ℕ)) : Type 0 where

@@ -2,20 +2,9 @@
 -- message.
 use Rattle.std.specs.List.{list_all}
 use Rattle.std.specs.Prelude.{ℕ, ◌&&◌, ◌++◌, ◌<◌, ◌==◌, ◌||◌, ◌∷◌, ◌≡◌, ◌⊎◌, Bool, List, None, Option, Some, [], false, filter, if◌then◌else◌, length, suc, true}
-use Rattle.sdd_log.specs.base.Words.{head_of}
-use Rattle.sdd_log.specs.base.declared.change.Change.{Change}
-use Rattle.sdd_log.specs.base.declared.condition.Cond.{Cond}
-use Rattle.sdd_log.specs.base.declared.number.Ts.{Ts}
-use Rattle.sdd_log.specs.base.declared.site.Site.{Site}
-use Rattle.sdd_log.specs.history.declared.record.Rec.{Rec}
-use Rattle.sdd_log.specs.history.declared.record.Rec.TheVariants.{Answer, Apply, Pass, Reject as Rejected}
-use Rattle.sdd_log.specs.wire.declared.msg.Msg.{Msg}
-use Rattle.sdd_log.specs.wire.declared.msg.Msg.TheVariants.{Null, Read, Write}
-use Rattle.sdd_log.specs.site_module.SiteLog.{Act, Did, Entry, Handed, Log, Records, Redeclared, Sends, Setting, Submits, Ticked}
-use Rattle.sdd_log.specs.pipe.Pipe.{head}
-use Rattle.sdd_log.specs.dm.Due.{IsDue, is_held, is_met, last_write_for, or_zero, spoils}
-use Rattle.sdd_log.specs.dm.Pipes.{is_processing, is_wait, pipe, waits}
-use Rattle.sdd_log.specs.dm.Views.{View, home_of, view_of}
+use Rattle.sdd_log.specs.All.{Act, Answer, Apply, Change, Cond, Did, Entry, Handed, IsDue, Msg, Null, Pass, Read, Rec, Records, Redeclared, Sends, Setting, Site, Submits, Ticked, Ts, View, Write, head, head_of, home_of, is_held, is_met, is_processing, is_wait, last_write_for, or_zero, pipe, spoils, view_of, waits}
+use Rattle.sdd_log.specs.history.declared.record.Rec.TheVariants.{Reject as Rejected}
+use Rattle.sdd_log.specs.site_module.SiteLog.{Log}
 
 -- the condition that spoils a READ, if one does: the first of those that do
 abbrev pub spoiler : View → List Cond → Option Cond

@@ -1,17 +1,9 @@
 -- The answers that an exchange has had.
 use Rattle.std.specs.List.{list_any}
 use Rattle.std.specs.Prelude.{ℕ, ◌&&◌, ◌==◌, ◌||◌, ◌∷◌, ◌≡◌, ◌⊎◌, Bool, List, None, Option, Some, [], false, map, true}
-use Rattle.sdd_log.specs.base.Numbers.{dm_no}
-use Rattle.sdd_log.specs.base.Sites.{same_site}
-use Rattle.sdd_log.specs.base.Words.{contains}
-use Rattle.sdd_log.specs.base.declared.site.Site.{Site}
-use Rattle.sdd_log.specs.base.declared.site.Site.TheVariants.{D}
-use Rattle.sdd_log.specs.wire.declared.msg.Msg.{Msg}
-use Rattle.sdd_log.specs.wire.declared.msg.Msg.TheVariants.{Ready, Reduced, Rows, Values}
-use Rattle.sdd_log.specs.site_module.SiteLog.{Did, Entry, Handed, Log, Redeclared, Setting, Submits, Ticked, sends_of_act}
-use Rattle.sdd_log.specs.attempt.Attempts.{Attempt, asks_rows}
-use Rattle.sdd_log.specs.attempt.Exchange.{Exchange}
-use Rattle.sdd_log.specs.umod.Views.{counts}
+use Rattle.sdd_log.specs.All.{Attempt, D, Did, Entry, Exchange, Handed, Msg, Ready, Redeclared, Reduced, Setting, Site, Submits, Ticked, Values, asks_rows, contains, counts, dm_no, same_site, sends_of_act}
+use Rattle.sdd_log.specs.wire.declared.msg.Msg.TheVariants.{Rows}
+use Rattle.sdd_log.specs.site_module.SiteLog.{Log}
 use Rattle.sdd_invariants.specs.Steps.{is_reading, modules_asked}
 
 -- whether a READY for the attempt was handed from a site

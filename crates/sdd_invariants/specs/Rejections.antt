@@ -1,12 +1,7 @@
 -- A transaction that is tried again: the REJECT of its last attempt was handed.
 use Rattle.std.specs.Prelude.{ℕ, ◌++◌, ◌∷◌, ◌≡◌, Some}
-use Rattle.sdd_log.specs.base.declared.number.ClassNo.{ClassNo}
-use Rattle.sdd_log.specs.base.declared.number.DmNo.{DmNo}
-use Rattle.sdd_log.specs.base.declared.number.Ts.{Ts}
-use Rattle.sdd_log.specs.base.declared.site.Site.TheVariants.{D}
-use Rattle.sdd_log.specs.wire.declared.msg.Msg.TheVariants.{Reject}
-use Rattle.sdd_log.specs.site_module.SiteLog.{Handed, Log, Setting}
-use Rattle.sdd_log.specs.attempt.Attempts.{Attempt, active}
+use Rattle.sdd_log.specs.All.{Attempt, ClassNo, D, DmNo, Handed, Reject, Setting, Ts, active}
+use Rattle.sdd_log.specs.site_module.SiteLog.{Log}
 use Rattle.sdd_invariants.specs.OfRecords.{NoRecord}
 
 -- the REJECT of the attempt k of transaction n, which was the active one; nothing of the class was recorded since

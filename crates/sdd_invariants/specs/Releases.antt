@@ -1,13 +1,8 @@
 -- The RELEASEs of U against its Starts: the k-th RELEASE to a T carries the timestamp of the k-th Start, and was sent once
 -- each data module's DONE for it was handed.
 use Rattle.std.specs.Prelude.{ℕ, ◌++◌, ◌+◌, ◌<◌, ◌==◌, ◌∷◌, ◌≡◌, ◌≤◌, Bool, List, None, Option, Some, [], false, filter_map, length, slice_get, take}
-use Rattle.sdd_log.specs.base.Numbers.{tm_no}
-use Rattle.sdd_log.specs.base.declared.site.Site.TheVariants.{T}
-use Rattle.sdd_log.specs.wire.declared.msg.Msg.{Msg}
-use Rattle.sdd_log.specs.wire.declared.msg.Msg.TheVariants.{Done, Release}
-use Rattle.sdd_log.specs.site_module.SiteLog.{Did, Handed, Log, Setting}
-use Rattle.sdd_log.specs.attempt.Attempts.{Attempt, active}
-use Rattle.sdd_log.specs.umod.Views.{counts, last_served}
+use Rattle.sdd_log.specs.All.{Attempt, Did, Done, Handed, Msg, Release, Setting, T, active, counts, last_served, tm_no}
+use Rattle.sdd_log.specs.site_module.SiteLog.{Log}
 use Rattle.sdd_invariants.specs.AtU.{starts}
 use Rattle.sdd_invariants.specs.Turns.{one_if}
 use Rattle.sdd_invariants.specs.Steps.{stamp_of}

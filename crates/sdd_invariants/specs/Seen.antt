@@ -1,26 +1,6 @@
 -- Which WRITEs a data module has applied at one of its acts.
 use Rattle.std.specs.Prelude.{ℕ, ◌++◌, ◌≡◌, List, Some, slice_get}
-use Rattle.sdd_log.specs.base.Numbers.{time_at}
-use Rattle.sdd_log.specs.base.declared.change.Change.{Change}
-use Rattle.sdd_log.specs.base.declared.condition.Cond.{Cond}
-use Rattle.sdd_log.specs.base.declared.number.ClassNo.{ClassNo}
-use Rattle.sdd_log.specs.base.declared.number.DmNo.{DmNo}
-use Rattle.sdd_log.specs.base.declared.number.Ts.{Ts}
-use Rattle.sdd_log.specs.base.declared.number.TxnNo.{TxnNo}
-use Rattle.sdd_log.specs.base.declared.site.Site.{Site}
-use Rattle.sdd_log.specs.base.declared.site.Site.TheVariants.{D}
-use Rattle.sdd_log.specs.base.declared.usage.Use.{Use}
-use Rattle.sdd_log.specs.lang.Effect.{effect}
-use Rattle.sdd_log.specs.history.declared.record.Rec.{Rec}
-use Rattle.sdd_log.specs.history.declared.record.Rec.TheVariants.{Answer}
-use Rattle.sdd_log.specs.wire.declared.msg.Msg.{Msg}
-use Rattle.sdd_log.specs.wire.declared.msg.Msg.TheVariants.{Read}
-use Rattle.sdd_log.specs.site_module.SiteLog.{Act, Bases, Records}
-use Rattle.sdd_log.specs.attempt.Attempts.{Attempt}
-use Rattle.sdd_log.specs.pipe.Pipe.{Pipe, head}
-use Rattle.sdd_log.specs.dm.Pipes.{pipe}
-use Rattle.sdd_log.specs.Entries.{Given, Log}
-use Rattle.sdd_log.specs.Locals.{local_of}
+use Rattle.sdd_log.specs.All.{Act, Answer, Attempt, Bases, Change, ClassNo, Cond, D, DmNo, Given, Log, Msg, Pipe, Read, Rec, Records, Site, Ts, TxnNo, Use, effect, head, local_of, pipe, time_at}
 use Rattle.sdd_invariants.specs.ReadSteps.{IsOfWrite, results}
 use Rattle.sdd_invariants.specs.Steps.{changes_at, home}
 use Rattle.sdd_invariants.specs.Traffic.{class_in, puts_to}

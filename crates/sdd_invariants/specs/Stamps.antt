@@ -1,7 +1,7 @@
 -- Timestamps of a site's Starts rise, and lie above all that it promised before.
 use Rattle.std.specs.Prelude.{ℕ, ◌*◌, ◌+◌, ◌∷◌, ◌≡◌, List, None, Option, Some, [], suc}
-use Rattle.sdd_log.specs.site_module.SiteLog.{Log, Setting}
-use Rattle.sdd_log.specs.attempt.Attempts.{Attempt}
+use Rattle.sdd_log.specs.All.{Attempt, Setting}
+use Rattle.sdd_log.specs.site_module.SiteLog.{Log}
 use Rattle.sdd_invariants.specs.Orders.{AllLe, IsFalling}
 use Rattle.sdd_invariants.specs.Steps.{bound, last_stamp, promises, stamps}
 

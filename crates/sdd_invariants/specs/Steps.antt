@@ -1,26 +1,8 @@
 -- What a site that runs transactions does, of whatever rank, as its queues, clock and active attempts allow it; and
 -- what its clock drew and promised.
 use Rattle.std.specs.Prelude.{ℕ, ◌&&◌, ◌++◌, ◌<◌, ◌==◌, ◌||◌, ◌∷◌, ◌≡◌, Bool, List, None, Option, Some, [], false, filter, if◌then◌else◌, suc, true}
-use Rattle.sdd_log.specs.base.Clock.{bound_of, ticked, timestamp}
-use Rattle.sdd_log.specs.base.Numbers.{class_no, time_at, tm_no}
-use Rattle.sdd_log.specs.base.Words.{ascending, contains, head_of}
-use Rattle.sdd_log.specs.base.declared.change.Change.{Change}
-use Rattle.sdd_log.specs.base.declared.number.Ts.{Ts}
-use Rattle.sdd_log.specs.base.declared.site.Site.{Site}
-use Rattle.sdd_log.specs.base.declared.site.Site.TheVariants.{T, U}
-use Rattle.sdd_log.specs.catalog.Catalogue.{Catalogue, class_at, has_copy}
-use Rattle.sdd_log.specs.lang.Classes.{fragments_in}
-use Rattle.sdd_log.specs.lang.Uses.{uses_of}
-use Rattle.sdd_log.specs.lang.declared.transaction.Txn.{Txn}
-use Rattle.sdd_log.specs.history.declared.record.Rec.TheVariants.{Commit, Start}
-use Rattle.sdd_log.specs.wire.declared.msg.Msg.{Msg}
-use Rattle.sdd_log.specs.wire.declared.msg.Msg.TheVariants.{Held, Hold, Null, Release}
-use Rattle.sdd_log.specs.site_module.SiteLog.{Act, Bases, Did, Entry, Handed, Log, Records, Redeclared, Sends, Setting, Submits, Ticked, in_force, submits}
-use Rattle.sdd_log.specs.attempt.Acts.{commit_act, modules_of, read_to, start_act}
-use Rattle.sdd_log.specs.attempt.Attempts.{Attempt, active, asks_rows}
-use Rattle.sdd_log.specs.attempt.Clocks.{clock}
-use Rattle.sdd_log.specs.attempt.Exchange.{Phase, Reading, is_over}
-use Rattle.sdd_log.specs.attempt.Queues.{Queued, is_for, queue}
+use Rattle.sdd_log.specs.All.{Act, Attempt, Bases, Catalogue, Change, Commit, Did, Entry, Handed, Held, Hold, Msg, Null, Phase, Queued, Reading, Records, Redeclared, Release, Sends, Setting, Site, Start, Submits, T, Ticked, Ts, Txn, U, active, ascending, asks_rows, bound_of, class_at, class_no, clock, commit_act, contains, fragments_in, has_copy, head_of, in_force, is_for, is_over, modules_of, queue, read_to, start_act, submits, ticked, time_at, timestamp, tm_no, uses_of}
+use Rattle.sdd_log.specs.site_module.SiteLog.{Log}
 
 -- the site that runs a class
 abbrev pub home : Catalogue → ℕ → Site

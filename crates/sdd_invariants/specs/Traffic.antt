@@ -1,10 +1,7 @@
 -- What a site puts on its links and what is handed to it from them, oldest first.
 use Rattle.std.specs.Prelude.{ℕ, ◌++◌, ◌∷◌, List, [], filter, if◌then◌else◌}
-use Rattle.sdd_log.specs.base.Sites.{same_site}
-use Rattle.sdd_log.specs.base.declared.site.Site.{Site}
-use Rattle.sdd_log.specs.wire.Piped.{goes_through, time_of}
-use Rattle.sdd_log.specs.wire.declared.msg.Msg.{Msg}
-use Rattle.sdd_log.specs.site_module.SiteLog.{Did, Handed, Log, sends_of_act}
+use Rattle.sdd_log.specs.All.{Did, Handed, Msg, Site, goes_through, same_site, sends_of_act, time_of}
+use Rattle.sdd_log.specs.site_module.SiteLog.{Log}
 
 -- of these sends the messages to a site
 abbrev pub to_site : Site → List (Site × Msg) → List Msg

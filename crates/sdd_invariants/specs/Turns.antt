@@ -1,7 +1,6 @@
 -- HOLDs and RELEASEs on a link: whether they alternate, and how many there are.
 use Rattle.std.specs.Prelude.{ℕ, ◌+◌, ◌∷◌, ◌≡◌, Bool, List, None, Option, Some, [], false, true}
-use Rattle.sdd_log.specs.wire.declared.msg.Msg.{Msg}
-use Rattle.sdd_log.specs.wire.declared.msg.Msg.TheVariants.{Held, Hold, Release}
+use Rattle.sdd_log.specs.All.{Held, Hold, Msg, Release}
 
 -- HOLDs and RELEASEs in turn, a HOLD first: whether the last of them is a HOLD
 abbrev pub after_hold : Bool → Option Bool

@@ -1,14 +1,8 @@
 -- While a READ waits, no WRITE that spoils one of its conditions is processed. Conditions on class 0, which no READ has,
 -- are left out.
 use Rattle.std.specs.Prelude.{ℕ, ◌∷◌, ◌≡◌, ◌⊎◌, Bool, List, None, Option, Some, [], false, true}
-use Rattle.sdd_log.specs.base.declared.condition.Cond.{Cond}
-use Rattle.sdd_log.specs.wire.declared.msg.Msg.{Msg}
-use Rattle.sdd_log.specs.wire.declared.msg.Msg.TheVariants.{Read}
-use Rattle.sdd_log.specs.site_module.SiteLog.{Log, Setting}
-use Rattle.sdd_log.specs.pipe.Pipe.{head, write_time}
-use Rattle.sdd_log.specs.dm.Due.{is_at_least, spoils}
-use Rattle.sdd_log.specs.dm.Pipes.{pipe, waits}
-use Rattle.sdd_log.specs.dm.Views.{view_of}
+use Rattle.sdd_log.specs.All.{Cond, Msg, Read, Setting, head, is_at_least, pipe, spoils, view_of, waits, write_time}
+use Rattle.sdd_log.specs.site_module.SiteLog.{Log}
 use Rattle.sdd_invariants.specs.ReadSteps.{IsClassHere}
 
 -- whether a processed message spoils a condition

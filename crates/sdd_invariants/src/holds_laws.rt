@@ -1,11 +1,8 @@
 ghost use Rattle.std.specs.Prelude.{◌≡◌, ℕ, suc, slice_get, Some};
-ghost use Rattle.sdd_log.specs.base.declared.site.Site.{Site};
-ghost use Rattle.sdd_log.specs.catalog.Catalogue.{numbers_to};
-ghost use Rattle.sdd_log.specs.site_module.SiteLog.{Act, Bases, Each, Log, Setting};
-ghost use Rattle.sdd_log.specs.attempt.Queues.{Queued};
+ghost use Rattle.sdd_log.specs.All.{Act, Bases, Each, Queued, Setting, Site, counts, last_served, numbers_to};
+ghost use Rattle.sdd_log.specs.site_module.SiteLog.{Log};
 ghost use Rattle.sdd_log.specs.tm.Due as tm;
 ghost use Rattle.sdd_log.specs.tm.Views as tm_views;
-ghost use Rattle.sdd_log.specs.umod.Views.{counts, last_served};
 ghost use Rattle.sdd_invariants.specs.Steps.{start_at};
 ghost use Rattle.sdd_invariants.specs.Traffic.{puts_to};
 ghost use Rattle.sdd_invariants.specs.AtT.{HoldRule, IsFairT, IsStill};

@@ -1,11 +1,6 @@
 ghost use Rattle.std.specs.Prelude.{◌≡◌, ◌≤◌, ◌≢◌, ◌<◌, ℕ, slice_get, Some, None};
-ghost use Rattle.sdd_log.specs.base.Sites.{number_of};
-ghost use Rattle.sdd_log.specs.base.Words.{head_of};
-ghost use Rattle.sdd_log.specs.base.declared.site.Site.{Site};
-ghost use Rattle.sdd_log.specs.wire.declared.msg.Msg.{Msg};
-ghost use Rattle.sdd_log.specs.site_module.SiteLog.{Setting, Log, Act, Each, sends_of_act};
-ghost use Rattle.sdd_log.specs.attempt.Queues.{Queued, queue};
-ghost use Rattle.sdd_log.specs.attempt.Attempts.{active};
+ghost use Rattle.sdd_log.specs.All.{Act, Each, Msg, Queued, Setting, Site, active, head_of, number_of, queue, sends_of_act};
+ghost use Rattle.sdd_log.specs.site_module.SiteLog.{Log};
 ghost use Rattle.sdd_invariants.specs.Steps.{IsFair, IsNew, IsStep, stamps};
 ghost use Rattle.sdd_invariants.specs.Orders.{IsStrict};
 ghost use Rattle.sdd_invariants.specs.Traffic.{to_site, puts_to};

@@ -1,10 +1,6 @@
 ghost use Rattle.std.specs.Prelude.{◌≡◌, ℕ, slice_get, Some, None};
-ghost use Rattle.sdd_log.specs.base.declared.site.Site.{Site};
-ghost use Rattle.sdd_log.specs.wire.declared.msg.Msg.{Msg};
-ghost use Rattle.sdd_log.specs.wire.Piped.{piped};
-ghost use Rattle.sdd_log.specs.site_module.SiteLog.{Setting, Log, Act, Each, sends_of_act};
-ghost use Rattle.sdd_log.specs.dm.Views.{home_of, view_of};
-ghost use Rattle.sdd_log.specs.dm.Due.{IsDue};
+ghost use Rattle.sdd_log.specs.All.{Act, Each, IsDue, Msg, Setting, Site, home_of, piped, sends_of_act, view_of};
+ghost use Rattle.sdd_log.specs.site_module.SiteLog.{Log};
 ghost use Rattle.sdd_invariants.specs.ReadSteps.{IsDueEach};
 ghost use Rattle.sdd_invariants.specs.Traffic.{to_site, puts_to};
 ghost use Rattle.sdd_invariants.specs.Matched.{IsMatched};

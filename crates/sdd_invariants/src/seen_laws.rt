@@ -1,16 +1,5 @@
 ghost use Rattle.std.specs.Prelude.{◌≡◌, ◌≢◌, ◌≤◌, ◌<◌, ◌++◌, ◌∷◌, ℕ, List, length, slice_get, Some, true};
-ghost use Rattle.sdd_log.specs.base.Sites.{number_of};
-ghost use Rattle.sdd_log.specs.base.declared.number.DmNo.{DmNo};
-ghost use Rattle.sdd_log.specs.base.declared.condition.Cond.{Cond};
-ghost use Rattle.sdd_log.specs.base.declared.site.Site.TheVariants.{D};
-ghost use Rattle.sdd_log.specs.wire.declared.msg.Msg.{Msg};
-ghost use Rattle.sdd_log.specs.wire.Piped.{time_of};
-ghost use Rattle.sdd_log.specs.site_module.SiteLog.{Act, Bases};
-ghost use Rattle.sdd_log.specs.attempt.Attempts.{Attempt};
-ghost use Rattle.sdd_log.specs.attempt.Acts.{commit_act};
-ghost use Rattle.sdd_log.specs.pipe.Pipe.{head, touches};
-ghost use Rattle.sdd_log.specs.Entries.{Given, Log, Does};
-ghost use Rattle.sdd_log.specs.Permitted.{IsPermitted};
+ghost use Rattle.sdd_log.specs.All.{Act, Attempt, Bases, Cond, D, DmNo, Does, Given, IsPermitted, Log, Msg, commit_act, head, number_of, time_of, touches};
 ghost use Rattle.sdd_invariants.specs.Steps.{home};
 ghost use Rattle.sdd_invariants.specs.Seen.{all_of, class_puts, pipe_at, IsAnswerWith, IsApplied, changes_to};
 

@@ -1,9 +1,6 @@
 ghost use Rattle.std.specs.Prelude.{◌≡◌};
-ghost use Rattle.sdd_log.specs.base.declared.number.TmNo.{TmNo};
-ghost use Rattle.sdd_log.specs.base.declared.site.Site.TheVariants.{T, U};
-ghost use Rattle.sdd_log.specs.site_module.SiteLog.{Setting, Bases, Log, Act};
-ghost use Rattle.sdd_log.specs.attempt.Queues.{queue};
-ghost use Rattle.sdd_log.specs.attempt.Attempts.{active};
+ghost use Rattle.sdd_log.specs.All.{Act, Bases, Setting, T, TmNo, U, active, queue};
+ghost use Rattle.sdd_log.specs.site_module.SiteLog.{Log};
 ghost use Rattle.sdd_log.specs.tm.Due as tm;
 ghost use Rattle.sdd_log.specs.tm.Views as tm_views;
 ghost use Rattle.sdd_log.specs.umod.Due as um;

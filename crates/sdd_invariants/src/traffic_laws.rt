@@ -1,15 +1,6 @@
 ghost use Rattle.std.specs.Prelude.{◌≡◌, ◌≤◌, ◌++◌, ◌∷◌, ℕ, length, take};
-ghost use Rattle.sdd_log.specs.base.declared.site.Site.{Site};
-ghost use Rattle.sdd_log.specs.base.declared.site.Site.TheVariants.{D};
-ghost use Rattle.sdd_log.specs.base.declared.number.DmNo.{DmNo};
-ghost use Rattle.sdd_log.specs.lang.declared.transaction.Txn.{Txn};
-ghost use Rattle.sdd_log.specs.wire.declared.msg.Msg.{Msg};
-ghost use Rattle.sdd_log.specs.site_module.SiteLog.{Act, Each, Did, Handed, Submits};
+ghost use Rattle.sdd_log.specs.All.{Act, D, Did, DmNo, Each, Given, Handed, IsPermitted, Log, Msg, Site, Submits, Txn, handed, local_of, setting_of};
 ghost use Rattle.sdd_log.specs.site_module.SiteLog as site;
-ghost use Rattle.sdd_log.specs.Entries.{Given, Log};
-ghost use Rattle.sdd_log.specs.Traffic.{handed};
-ghost use Rattle.sdd_log.specs.Locals.{local_of, setting_of};
-ghost use Rattle.sdd_log.specs.Permitted.{IsPermitted};
 ghost use Rattle.sdd_invariants.specs.Steps.{IsFair, IsNew, home};
 ghost use Rattle.sdd_invariants.specs.ReadSteps.{IsDueEach};
 ghost use Rattle.sdd_invariants.specs.Traffic.{puts_to, hands_from};

@@ -1,47 +1,14 @@
 -- The Answers of a history, as acts of data modules, each with the READ that it answers and the Start that sent it.
 use Rattle.std.specs.Prelude.{filter_map, option_map, unwrap_or}
 use Rattle.std.proofs.Common.{ℕ, suc, ◌++◌, ◌<◌, ◌==◌, ◌∙◌, ◌∷◌, ◌≡◌, Bool, List, None, Some, [], ap, arith, false, if◌then◌else◌, inl, inr, length, map, refl, slice_get, subst, sym, true, zero}
-use Rattle.sdd_invariants.specs.base.Numbers.{class_no, dm_no, frag_no, time_at, txn_no}
-use Rattle.sdd_invariants.specs.base.Words.{ascending, contains}
-use Rattle.sdd_invariants.specs.base.declared.condition.Cond.{Cond}
-use Rattle.sdd_invariants.specs.base.declared.number.ClassNo.{ClassNo}
-use Rattle.sdd_invariants.specs.base.declared.number.DmNo.{DmNo}
-use Rattle.sdd_invariants.specs.base.declared.number.Ts.{Ts}
-use Rattle.sdd_invariants.specs.base.declared.number.TxnNo.{TxnNo}
-use Rattle.sdd_invariants.specs.base.declared.site.Site.{Site}
-use Rattle.sdd_invariants.specs.base.declared.site.Site.TheVariants.{D}
-use Rattle.sdd_invariants.specs.base.declared.usage.Use.{Use}
-use Rattle.sdd_invariants.specs.catalog.Catalogue.{Catalogue}
-use Rattle.sdd_invariants.specs.catalog.Rules.{IsSound}
-use Rattle.sdd_invariants.specs.history.declared.record.Rec.{Rec}
-use Rattle.sdd_invariants.specs.history.declared.record.Rec.TheVariants.{Answer}
-use Rattle.sdd_invariants.specs.lang.Classes.{fragments_in}
-use Rattle.sdd_invariants.specs.lang.Uses.{uses_of}
-use Rattle.sdd_invariants.specs.protocol.Conditions.{conditions, undeclared_conditions}
+use Rattle.sdd_invariants.specs.All.{Act, Answer, Catalogue, ClassNo, Cond, D, DmNo, Does, Entry, Given, IsPermitted, IsRead, IsReadStep, IsSound, Log, May, Msg, Read, Rec, Records, Setting, Site, Ts, TxnNo, Use, View, ascending, bound, by_record, by_wait, class_no, conditions, conditions_at, contains, dm_no, frag_no, fragments_in, head, history, home, in_force, in_passing, is_processing, local_of, modules_asked, modules_of, next_stamp, p2_of, pipe, pipe_at, sends_of_act, setting_of, start_at, start_read, time_at, to_site, txn_no, undeclared_conditions, use_there, uses_of, view_of, waits}
 use Rattle.sdd_invariants.specs.protocol.declared.entry.Entry as line
-use Rattle.sdd_invariants.specs.wire.declared.msg.Msg.{Msg}
-use Rattle.sdd_invariants.specs.wire.declared.msg.Msg.TheVariants.{Read}
-use Rattle.sdd_invariants.specs.site_module.SiteLog.{Act, Records, Setting, in_force, sends_of_act}
 use Rattle.sdd_invariants.specs.site_module.SiteLog as site
-use Rattle.sdd_invariants.specs.attempt.Acts.{conditions_at, modules_of, p2_of, use_there}
-use Rattle.sdd_invariants.specs.dm.Pipes.{is_processing, pipe, waits}
-use Rattle.sdd_invariants.specs.dm.Views.{View, view_of}
-use Rattle.sdd_invariants.specs.pipe.Pipe.{head}
-use Rattle.sdd_invariants.specs.logs.Entries.{Does, Entry, Given, Log, history}
-use Rattle.sdd_invariants.specs.logs.Locals.{local_of, setting_of}
-use Rattle.sdd_invariants.specs.logs.Permitted.{IsPermitted}
 use Rattle.sdd_invariants.proofs.logs.EachLocal.{allowed_act}
-use Rattle.sdd_invariants.specs.Puts.{IsRead}
-use Rattle.sdd_laws.specs.Deeds.{IsAnswered}
-use Rattle.sdd_laws.specs.serial_orders.Attempts.{Attempt, IsAttempt, p2_time}
-use Rattle.sdd_laws.specs.serial_orders.Places.{Stands}
+use Rattle.sdd_laws.specs.All.{Attempt, IsAnswered, IsAttempt, Stands, p2_time}
 use Rattle.sdd_invariants.proofs.Installed.{class_number, head_put}
-use Rattle.sdd_invariants.specs.Seen.{pipe_at}
 use Rattle.sdd_invariants.proofs.AreReadSteps.{d_step}
 use Rattle.sdd_invariants.proofs.Bools.{not_both, or_left, or_right, same_number, same_or_not}
-use Rattle.sdd_invariants.specs.ReadSteps.{IsReadStep, May, by_record, by_wait, in_passing}
-use Rattle.sdd_invariants.specs.Steps.{bound, home, modules_asked, next_stamp, start_at, start_read}
-use Rattle.sdd_invariants.specs.Traffic.{to_site}
 use Rattle.sdd_lawful.specs.Made.{IsMadeAt, record_of}
 use Rattle.sdd_lawful.proofs.Applied.{IsDataIn, data_in}
 use Rattle.sdd_lawful.proofs.Classes.{at_home, further_back, home_setting}

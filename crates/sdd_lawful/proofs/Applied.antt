@@ -3,42 +3,15 @@ use Rattle.std.specs.Prelude.{filter_map}
 use Rattle.std.proofs.Common.{ℕ, suc, ◌&&◌, ◌++◌, ◌+◌, ◌<◌, ◌==◌, ◌∙◌, ◌∷◌, ◌≡◌, ◌≤◌, Bool, List, Option, Some, [], ap, append_assoc, arith, false, if◌then◌else◌, inl, inr, length, refl, slice_get, subst, sym, true, zero}
 use Rattle.std.specs.List.{range_with_len}
 use Rattle.std.proofs.lemmas.Bool.{eqb-true}
-use Rattle.sdd_invariants.specs.base.Numbers.{class_no, dm_no, time_at, txn_no}
-use Rattle.sdd_invariants.specs.base.declared.change.Change.{Change}
-use Rattle.sdd_invariants.specs.base.declared.number.ClassNo.{ClassNo}
-use Rattle.sdd_invariants.specs.base.declared.number.DmNo.{DmNo}
-use Rattle.sdd_invariants.specs.base.declared.number.Ts.{Ts}
-use Rattle.sdd_invariants.specs.base.declared.number.TxnNo.{TxnNo}
-use Rattle.sdd_invariants.specs.base.declared.site.Site.{Site}
-use Rattle.sdd_invariants.specs.base.declared.site.Site.TheVariants.{D}
-use Rattle.sdd_invariants.specs.catalog.Catalogue.{Catalogue}
-use Rattle.sdd_invariants.specs.history.declared.record.Rec.{Rec}
-use Rattle.sdd_invariants.specs.history.declared.record.Rec.TheVariants.{Apply}
-use Rattle.sdd_invariants.specs.lang.Effect.{effect}
-use Rattle.sdd_invariants.specs.wire.declared.msg.Msg.{Msg}
-use Rattle.sdd_invariants.specs.wire.declared.msg.Msg.TheVariants.{Write}
-use Rattle.sdd_invariants.specs.site_module.SiteLog.{Act, Bases, Did, Handed, Log as SiteLog, Records, Redeclared, Sends, Setting, Submits, Ticked, sends_of_act}
+use Rattle.sdd_invariants.specs.All.{Act, Apply, Attempt as Running, Bases, Catalogue, Change, ClassNo, D, Did, DmNo, Does, Given, Handed, IsApplied, IsApplyOf, IsOfWrite, IsPermitted, IsPutAt, IsWrite, Log, Msg, Rec, Records, Redeclared, Sends, Setting, Site, Submits, Ticked, Ts, TxnNo, Write, class_no, commit_act, dm_no, effect, head, history, is_processing, local_of, pipe_at, results, sends_of_act, time_at, to_site, txn_no, write_to}
+use Rattle.sdd_invariants.specs.site_module.SiteLog.{Log as SiteLog}
 use Rattle.sdd_invariants.specs.site_module.SiteLog as site
-use Rattle.sdd_invariants.specs.attempt.Acts.{commit_act, write_to}
-use Rattle.sdd_invariants.specs.attempt.Attempts.{Attempt as Running}
-use Rattle.sdd_invariants.specs.dm.Pipes.{is_processing}
-use Rattle.sdd_invariants.specs.pipe.Pipe.{head}
-use Rattle.sdd_invariants.specs.logs.Entries.{Does, Given, Log, history}
-use Rattle.sdd_invariants.specs.logs.Locals.{local_of}
-use Rattle.sdd_invariants.specs.logs.Permitted.{IsPermitted}
 use Rattle.sdd_invariants.proofs.WritesPut.{goes_write}
-use Rattle.sdd_invariants.specs.Puts.{IsWrite}
-use Rattle.sdd_laws.specs.Deeds.{AppliedBefore}
-use Rattle.sdd_laws.specs.serial_orders.Numbers.{IsModule}
-use Rattle.sdd_laws.specs.serial_orders.Places.{Stands}
-use Rattle.sdd_invariants.specs.Causes.{IsApplyOf, IsPutAt}
+use Rattle.sdd_laws.specs.All.{AppliedBefore, IsModule, Stands}
 use Rattle.sdd_invariants.proofs.Installed.{apply_follows, apply_of_head, head_put}
-use Rattle.sdd_invariants.specs.Seen.{IsApplied, pipe_at}
 use Rattle.sdd_invariants.proofs.Bools.{and_left, same_number, same_or_not, true_or_false}
 use Rattle.sdd_invariants.proofs.Lists.{at_seam, in_either, in_left, in_one}
 use Rattle.sdd_invariants.proofs.Sites.{GoesTo}
-use Rattle.sdd_invariants.specs.ReadSteps.{IsOfWrite, results}
-use Rattle.sdd_invariants.specs.Traffic.{to_site}
 use Rattle.sdd_invariants.proofs.Made.{permitted_before, place_of_act}
 use Rattle.sdd_lawful.specs.Made.{IsMadeAt}
 use Rattle.sdd_lawful.proofs.Classes.{at_home, home_setting}

@@ -1,27 +1,10 @@
 -- The history of a permitted log keeps the law of Applies.
 use Rattle.std.proofs.Common.{ℕ, ◌++◌, ◌<◌, ◌==◌, ◌∙◌, ◌∷◌, ◌≡◌, ◌⊎◌, Some, [], ap, append_assoc, arith, inl, inr, length, refl, subst, sym, true}
-use Rattle.sdd_invariants.specs.base.Numbers.{class_no, dm_no, time_at, txn_no}
-use Rattle.sdd_invariants.specs.base.declared.number.TxnNo.{TxnNo}
-use Rattle.sdd_invariants.specs.base.declared.site.Site.TheVariants.{D}
-use Rattle.sdd_invariants.specs.catalog.Rules.{IsSound}
-use Rattle.sdd_invariants.specs.history.declared.record.Rec.{Rec}
-use Rattle.sdd_invariants.specs.wire.Piped.{time_of}
-use Rattle.sdd_invariants.specs.wire.declared.msg.Msg.{Msg}
-use Rattle.sdd_invariants.specs.wire.declared.msg.Msg.TheVariants.{Write}
-use Rattle.sdd_invariants.specs.site_module.SiteLog.{Records}
-use Rattle.sdd_invariants.specs.attempt.Acts.{commit_act}
-use Rattle.sdd_invariants.specs.pipe.Pipe.{head}
-use Rattle.sdd_invariants.specs.logs.Entries.{Does, Given, Log, history}
-use Rattle.sdd_invariants.specs.logs.Permitted.{IsPermitted}
-use Rattle.sdd_laws.specs.Applies.{IsEarlier, IsOfCommit, KeepsApplies}
-use Rattle.sdd_laws.specs.Deeds.{AppliedBefore, GoesTo, IsAnswered, Touches, by_change}
+use Rattle.sdd_invariants.specs.All.{D, Does, Given, IsApplied, IsPermitted, IsSound, Log, Msg, Rec, Records, TxnNo, Write, changes_to, class_no, commit_act, dm_no, head, history, home, pipe_at, time_at, time_of, txn_no}
+use Rattle.sdd_laws.specs.All.{AppliedBefore, Attempt, Committed, GoesTo, IsAnswered, IsCommitted, IsEarlier, IsOfCommit, KeepsApplies, Stands, Touches, by_change, record_at}
 use Rattle.sdd_laws.specs.Deeds as deeds
-use Rattle.sdd_laws.specs.serial_orders.Attempts.{Attempt, Committed, IsCommitted}
-use Rattle.sdd_laws.specs.serial_orders.Places.{Stands, record_at}
 use Rattle.sdd_invariants.proofs.Installed.{applied_below, around_applied}
-use Rattle.sdd_invariants.specs.Seen.{IsApplied, changes_to, pipe_at}
 use Rattle.sdd_invariants.proofs.Bools.{lower_same_higher}
-use Rattle.sdd_invariants.specs.Steps.{home}
 use Rattle.sdd_lawful.specs.Made.{IsMadeAt}
 use Rattle.sdd_lawful.proofs.Answered.{IsAnswerIn, answer_in, answer_made, answer_rec, read_msg}
 use Rattle.sdd_lawful.proofs.Applied.{IsApplyIn, applied_before, applied_there, apply_in, apply_made, apply_rec}

@@ -3,32 +3,15 @@
 use Rattle.std.specs.Prelude.{filter_map}
 use Rattle.std.specs.List.{cons_option, range_with_len}
 use Rattle.std.proofs.Common.{ℕ, ◌++◌, ◌+◌, ◌<◌, ◌==◌, ◌∙◌, ◌∷◌, ◌≡◌, ◌≤◌, List, None, Option, Some, [], ap, arith, inl, inr, length, refl, slice_get, subst, suc, sym, true, zero}
-use Rattle.sdd_invariants.specs.base.Numbers.{class_no, dm_no, time_at, txn_no}
-use Rattle.sdd_invariants.specs.base.Words.{ascending, contains}
-use Rattle.sdd_invariants.specs.base.declared.site.Site.TheVariants.{D}
-use Rattle.sdd_invariants.specs.catalog.Catalogue.{Catalogue, has_copy, lowest_copy, numbers_to, reads_at}
-use Rattle.sdd_invariants.specs.catalog.Rules.{IsSound}
+use Rattle.sdd_invariants.specs.All.{Act, Answer, Catalogue, D, Does, Given, IsPermitted, IsSound, Log, Records, ascending, class_no, commit_act, contains, dm_no, fragments_in, has_copy, head, history, home, home_of, lowest_copy, modules_of, numbers_to, pipe_at, reads_at, setting_of, time_at, txn_no}
 use Rattle.sdd_invariants.proofs.catalog.Sound.{each_in_range, found_has}
-use Rattle.sdd_invariants.specs.history.declared.record.Rec.TheVariants.{Answer}
-use Rattle.sdd_invariants.specs.lang.Classes.{fragments_in}
 use Rattle.sdd_invariants.proofs.lang.ReadSetDecides.{ascending_back}
-use Rattle.sdd_invariants.specs.site_module.SiteLog.{Act, Records}
-use Rattle.sdd_invariants.specs.attempt.Acts.{commit_act, modules_of}
-use Rattle.sdd_invariants.specs.dm.Views.{home_of}
-use Rattle.sdd_invariants.specs.pipe.Pipe.{head}
-use Rattle.sdd_invariants.specs.Seen.{pipe_at}
-use Rattle.sdd_invariants.specs.logs.Entries.{Does, Given, Log, history}
-use Rattle.sdd_invariants.specs.logs.Locals.{setting_of}
-use Rattle.sdd_invariants.specs.logs.Permitted.{IsPermitted}
-use Rattle.sdd_laws.specs.Deeds.{AnsweredBefore, Asks, StartedBefore, by_no_class, by_use}
+use Rattle.sdd_laws.specs.All.{AnsweredBefore, Asks, Attempt, Committed, HasCommit, IsAttempt, IsCommitted, Stands, StartedBefore, by_no_class, by_use}
 use Rattle.sdd_laws.proofs.Fitting.{each_here}
 use Rattle.sdd_laws.proofs.class_eras.Lists.{at_member}
-use Rattle.sdd_laws.specs.serial_orders.Attempts.{Attempt, Committed, HasCommit, IsAttempt, IsCommitted}
-use Rattle.sdd_laws.specs.serial_orders.Places.{Stands}
 use Rattle.sdd_invariants.proofs.Once.{answered_once}
 use Rattle.sdd_invariants.proofs.Starting.{commit_answered}
 use Rattle.sdd_invariants.proofs.Bools.{lower_same_higher, only_right, or_left, or_right, same_number, same_or_not}
-use Rattle.sdd_invariants.specs.Steps.{home}
 use Rattle.sdd_lawful.proofs.Answered.{IsAnswerIn, answer_in, answer_made, answer_of_some, answer_rec, read_msg}
 use Rattle.sdd_lawful.proofs.Beginnings.{in_numbers}
 use Rattle.sdd_lawful.proofs.Classes.{further_back}

@@ -4,14 +4,8 @@ use Rattle.std.specs.List.{Contains, cons_option}
 use Rattle.std.proofs.Common.{ℕ, ◌++◌, ◌==◌, ◌∙◌, ◌∷◌, ◌≡◌, ◌⊎◌, Bool, List, Some, [], ap, cond, false, inl, inr, map, refl, subst, sym, true}
 use Rattle.std.proofs.lemmas.Bool.{eqb-true}
 use Rattle.std.proofs.lemmas.List.Elements.{All-contains, All-nil}
-use Rattle.sdd_invariants.specs.base.Words.{ascending, contains}
-use Rattle.sdd_invariants.specs.base.declared.number.FragNo.{FragNo}
-use Rattle.sdd_invariants.specs.base.declared.usage.Use.{Use}
-use Rattle.sdd_invariants.specs.catalog.Catalogue.{Catalogue}
-use Rattle.sdd_invariants.specs.lang.Classes.{fragments_in}
+use Rattle.sdd_invariants.specs.All.{Catalogue, FragNo, Use, ascending, contains, fragments_in, is_read_at, use_there, with_frags}
 use Rattle.sdd_invariants.proofs.lang.Sets.{All-ascending}
-use Rattle.sdd_invariants.specs.protocol.Conditions.{is_read_at}
-use Rattle.sdd_invariants.specs.attempt.Acts.{use_there, with_frags}
 use Rattle.sdd_laws.proofs.Fitting.{each_here}
 use Rattle.sdd_invariants.proofs.Bools.{only_right, or_left, or_right, same_number, same_or_not, true_or_false}
 use Rattle.sdd_invariants.proofs.Lists.{any_at}

@@ -1,23 +1,10 @@
 -- The Starts of undeclared transactions, as acts of U; and what is there in every catalogue.
 use Rattle.std.specs.List.{range_with_len}
 use Rattle.std.proofs.Common.{ℕ, suc, ◌++◌, ◌+◌, ◌<◌, ◌==◌, ◌∙◌, ◌∷◌, ◌≡◌, ◌≤◌, List, Some, [], ap, arith, inl, inr, length, map, slice_get, subst, true, zero}
-use Rattle.sdd_invariants.specs.base.Numbers.{frag_no}
-use Rattle.sdd_invariants.specs.base.Words.{contains}
-use Rattle.sdd_invariants.specs.base.declared.number.FragNo.{FragNo}
-use Rattle.sdd_invariants.specs.base.declared.site.Site.TheVariants.{U}
-use Rattle.sdd_invariants.specs.catalog.Rules.{IsSound}
-use Rattle.sdd_invariants.specs.site_module.SiteLog.{Act}
-use Rattle.sdd_invariants.specs.attempt.Queues.{Queued}
-use Rattle.sdd_invariants.specs.logs.Entries.{Does, Given, Log, history}
-use Rattle.sdd_invariants.specs.logs.Permitted.{IsPermitted}
-use Rattle.sdd_invariants.specs.Barrier.{start_u, u_stamp}
+use Rattle.sdd_invariants.specs.All.{Act, Does, FragNo, Given, History, IsPermitted, IsSound, IsStartOf, Log, Queued, U, contains, frag_no, history, home, next_stamp, start_at, start_u, u_stamp}
 use Rattle.sdd_invariants.proofs.Recorded.{recorded}
-use Rattle.sdd_invariants.specs.OfRecords.{IsStartOf}
-use Rattle.sdd_laws.specs.serial_orders.Attempts.{Attempt, Committed, IsAttempt, IsCommitted, changes}
-use Rattle.sdd_laws.specs.serial_orders.Numbers.{IsFragment}
-use Rattle.sdd_invariants.specs.history.Records.{History}
+use Rattle.sdd_laws.specs.All.{Attempt, Committed, IsAttempt, IsCommitted, IsFragment, changes}
 use Rattle.sdd_invariants.proofs.Bools.{differ, lower_same_higher, or_left, or_right, same_number, same_or_not}
-use Rattle.sdd_invariants.specs.Steps.{home, next_stamp, start_at}
 use Rattle.sdd_lawful.proofs.Classes.{at_home, home_setting}
 use Rattle.sdd_lawful.proofs.Committed.{home_step}
 use Rattle.sdd_lawful.proofs.Started.{start_act_of, start_in}

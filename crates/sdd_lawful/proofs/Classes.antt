@@ -1,27 +1,12 @@
 -- The class of a transaction: that of the list of classes in force when it was given, at the site that runs the class.
 use Rattle.std.proofs.Common.{ℕ, ◌++◌, ◌==◌, ◌∙◌, ◌∷◌, ◌≡◌, None, Option, Some, [], ap, append_assoc, if◌then◌else◌, inl, inr, refl, subst, sym, true}
 use Rattle.std.proofs.lemmas.Bool.{eqb-true}
-use Rattle.sdd_invariants.specs.base.Numbers.{tm_no}
-use Rattle.sdd_invariants.specs.base.Sites.{same_site}
-use Rattle.sdd_invariants.specs.base.declared.event.Event.TheVariants.{Deliver, Down, Lose, Redeclare, Repeat, Resend, Settle, Submit, Tick, Up}
-use Rattle.sdd_invariants.specs.base.declared.number.TmNo.{TmNo}
-use Rattle.sdd_invariants.specs.base.declared.site.Site.{Site}
-use Rattle.sdd_invariants.specs.base.declared.site.Site.TheVariants.{T, U}
-use Rattle.sdd_invariants.specs.catalog.Catalogue.{class_at}
-use Rattle.sdd_invariants.specs.lang.Classes.{class_for}
-use Rattle.sdd_invariants.specs.lang.declared.transaction.Txn.{Txn}
-use Rattle.sdd_invariants.specs.site_module.SiteLog.{Force, Handed, Redeclared, Setting, Submits, Ticked, Did, in_force}
+use Rattle.sdd_invariants.specs.All.{Deliver, Did, Does, Down, Entry, Force, Given, Hand, Handed, IsPermitted, Log, Lose, Mark, Notes, Redeclare, Redeclared, Redeclares, Repeat, Resend, Round, Setting, Settle, Site, Submit, Submits, Submitted, T, Tick, Ticked, TmNo, Txn, U, Up, class_at, class_for, force_at, given_to, home, in_force, is_for, local_of, redeclares, same_site, setting_of, tm_no, txn_at, with_submit}
 use Rattle.sdd_invariants.specs.site_module.SiteLog as site
-use Rattle.sdd_invariants.specs.attempt.Queues.{is_for}
 use Rattle.sdd_invariants.specs.logs.Due.{home_of}
-use Rattle.sdd_invariants.specs.logs.Entries.{Does, Entry, Given, Hand, Log, Mark, Notes, Redeclares, Round, Submitted}
-use Rattle.sdd_invariants.specs.logs.Locals.{force_at, local_of, redeclares, setting_of, txn_at, with_submit}
-use Rattle.sdd_invariants.specs.logs.Permitted.{IsPermitted}
 use Rattle.sdd_invariants.proofs.Bools.{if_way, only_right, same_or_not}
-use Rattle.sdd_invariants.specs.Steps.{home}
 use Rattle.sdd_invariants.proofs.Sites.{site_self}
 use Rattle.sdd_invariants.proofs.Made.{local_at}
-use Rattle.sdd_invariants.specs.Made.{given_to}
 use Rattle.sdd_lawful.proofs.Submissions.{given_at, same_submission}
 
 -- the classes in force at a transaction module are those that were put in force last

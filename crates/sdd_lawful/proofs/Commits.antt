@@ -1,30 +1,11 @@
 -- The Commits of a history, as acts of the sites that run their classes, each with the Start of its attempt.
 use Rattle.std.proofs.Common.{ℕ, suc, ◌++◌, ◌<◌, ◌∙◌, ◌∷◌, ◌≡◌, List, Some, ap, arith, false, inl, inr, length, refl, subst, sym, true}
-use Rattle.sdd_invariants.specs.base.Numbers.{txn_no}
-use Rattle.sdd_invariants.specs.base.declared.change.Change.{Change}
-use Rattle.sdd_invariants.specs.base.declared.reply.Reply.{Reply}
-use Rattle.sdd_invariants.specs.base.declared.site.Site.{Site}
-use Rattle.sdd_invariants.specs.catalog.Rules.{IsSound}
-use Rattle.sdd_invariants.specs.history.declared.record.Rec.{Rec}
-use Rattle.sdd_invariants.specs.history.declared.record.Rec.TheVariants.{Commit}
-use Rattle.sdd_invariants.specs.lang.Uses.{uses_of}
-use Rattle.sdd_invariants.specs.lang.declared.transaction.Txn.{Txn}
-use Rattle.sdd_invariants.specs.base.Words.{head_of}
-use Rattle.sdd_invariants.specs.wire.declared.msg.Msg.{Msg}
-use Rattle.sdd_invariants.specs.site_module.SiteLog.{Act, Did, Records}
+use Rattle.sdd_invariants.specs.All.{Act, Change, Commit, Did, Does, Given, IsCommitRecord, IsPermitted, IsSound, Log, Msg, Queued, Rec, Records, Reply, Site, Txn, bound, head_of, history, home, is_committed, next_stamp, p2_of, queue, start_at, txn_at, txn_no, uses_of}
 use Rattle.sdd_invariants.specs.site_module.SiteLog as site
-use Rattle.sdd_invariants.specs.attempt.Acts.{p2_of}
-use Rattle.sdd_invariants.specs.attempt.Queues.{Queued, queue}
-use Rattle.sdd_invariants.specs.logs.Entries.{Does, Given, Log, history}
-use Rattle.sdd_invariants.specs.logs.Locals.{txn_at}
-use Rattle.sdd_invariants.specs.logs.Permitted.{IsPermitted}
 use Rattle.sdd_invariants.proofs.Places.{compare}
 use Rattle.sdd_invariants.proofs.Recorded.{head_left, was_submitted}
-use Rattle.sdd_invariants.specs.OfRecords.{IsCommitRecord}
-use Rattle.sdd_laws.specs.serial_orders.Attempts.{Attempt, HasCommit, IsAttempt}
-use Rattle.sdd_laws.specs.serial_orders.Places.{Stands}
+use Rattle.sdd_laws.specs.All.{Attempt, HasCommit, IsAttempt, Stands}
 use Rattle.sdd_invariants.proofs.Starting.{says_at}
-use Rattle.sdd_invariants.specs.Steps.{bound, home, is_committed, next_stamp, start_at}
 use Rattle.sdd_invariants.proofs.Fair.{all_new, home_fair}
 use Rattle.sdd_invariants.proofs.Made.{permitted_before, place_of_act, place_of_submit}
 use Rattle.sdd_lawful.specs.Made.{IsMadeAt}

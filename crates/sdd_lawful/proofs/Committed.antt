@@ -1,28 +1,12 @@
 -- A committed transaction of a history, as the Commit of an active attempt; and what makes one of each.
 use Rattle.std.proofs.Common.{ℕ, ◌++◌, ◌∙◌, ◌∷◌, ◌≡◌, List, Some, ap, arith, length, refl, subst, sym}
-use Rattle.sdd_invariants.specs.base.Numbers.{txn_no}
-use Rattle.sdd_invariants.specs.base.declared.change.Change.{Change}
-use Rattle.sdd_invariants.specs.base.declared.number.TxnNo.{TxnNo}
-use Rattle.sdd_invariants.specs.base.declared.reply.Reply.{Reply}
-use Rattle.sdd_invariants.specs.catalog.Rules.{IsSound}
-use Rattle.sdd_invariants.specs.history.declared.record.Rec.TheVariants.{Commit}
-use Rattle.sdd_invariants.specs.lang.Effect.{effect}
-use Rattle.sdd_invariants.specs.lang.Uses.{uses_of}
-use Rattle.sdd_invariants.specs.lang.declared.effect.Effect.{Effect}
-use Rattle.sdd_invariants.specs.site_module.SiteLog.{Act, Bases, Each, Records, Setting, sends_of_act}
+use Rattle.sdd_invariants.specs.All.{Act, Attempt as Running, Bases, Change, Commit, Does, Each, Effect, Given, IsFair, IsPermitted, IsSound, IsStep, Log, Records, Reply, Setting, TxnNo, active, commit_act, effect, history, home, sends_of_act, txn_at, txn_no, uses_of}
 use Rattle.sdd_invariants.specs.site_module.SiteLog as site
-use Rattle.sdd_invariants.specs.attempt.Acts.{commit_act}
-use Rattle.sdd_invariants.specs.attempt.Attempts.{Attempt as Running, active}
-use Rattle.sdd_invariants.specs.logs.Entries.{Does, Given, Log, history}
-use Rattle.sdd_invariants.specs.logs.Locals.{txn_at}
-use Rattle.sdd_invariants.specs.logs.Permitted.{IsPermitted}
 use Rattle.sdd_laws.proofs.NumberedStarts.{one_start}
-use Rattle.sdd_laws.specs.serial_orders.Attempts.{Attempt, Committed, IsAttempt, IsCommitted}
-use Rattle.sdd_laws.specs.serial_orders.Places.{Stands}
+use Rattle.sdd_laws.specs.All.{Attempt, Committed, IsAttempt, IsCommitted, Stands}
 use Rattle.sdd_laws.proofs.serial_orders.Places.{one_attempt, one_of_txn, same_start}
 use Rattle.sdd_invariants.proofs.Starting.{says_at}
 use Rattle.sdd_invariants.proofs.Active.{step_way}
-use Rattle.sdd_invariants.specs.Steps.{IsFair, IsStep, home}
 use Rattle.sdd_invariants.proofs.Fair.{home_fair}
 use Rattle.sdd_invariants.proofs.Made.{own_act, permitted_before}
 use Rattle.sdd_lawful.specs.Made.{IsMadeAt}

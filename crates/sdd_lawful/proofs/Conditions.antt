@@ -5,39 +5,14 @@ use Rattle.std.specs.Option.{option_or}
 use Rattle.std.proofs.Common.{ℕ, suc, ◌++◌, ◌<◌, ◌==◌, ◌||◌, ◌∙◌, ◌∷◌, ◌≡◌, ◌≤◌, List, None, Option, Some, [], ap, append_assoc, arith, false, if◌then◌else◌, inl, inr, length, map, refl, slice_get, subst, sym, true, zero}
 use Rattle.std.proofs.lemmas.Bool.{eqb-true}
 use Rattle.std.proofs.lemmas.Option.{get_or_from_slice_get, slice_get-get_or}
-use Rattle.sdd_invariants.specs.base.Numbers.{class_no, dm_no, frag_no, time_at, tm_no, txn_no}
-use Rattle.sdd_invariants.specs.base.Words.{ascending, contains}
-use Rattle.sdd_invariants.specs.base.declared.change.Change.{Change}
-use Rattle.sdd_invariants.specs.base.declared.condition.Cond.{Cond}
-use Rattle.sdd_invariants.specs.base.declared.number.FragNo.{FragNo}
-use Rattle.sdd_invariants.specs.base.declared.number.TmNo.{TmNo}
-use Rattle.sdd_invariants.specs.base.declared.site.Site.TheVariants.{D, T}
-use Rattle.sdd_invariants.specs.catalog.Catalogue.{Catalogue, class_at, has_copy}
-use Rattle.sdd_invariants.specs.catalog.Rules.{IsSound}
-use Rattle.sdd_invariants.specs.graph.Graph.{classes_of, fragments_of}
-use Rattle.sdd_invariants.specs.lang.Classes.{fragments_in}
-use Rattle.sdd_invariants.specs.protocol.Conditions.{asked_by, cond_for, cond_of, condition_on, conditions, is_asked, undeclared_conditions}
-use Rattle.sdd_invariants.specs.protocol.Protocols.{IsTable}
+use Rattle.sdd_invariants.specs.All.{Catalogue, Change, Cond, D, Does, Entry, Force, FragNo, Given, IsAnswerWith, IsApplied, IsPermitted, IsSound, IsTable, Log, P2, P3, Records, T, TmNo, ascending, asked_by, class_at, class_no, classes_of, commit_act, cond_for, cond_of, condition_on, conditions, conditions_at, contains, dm_no, force_at, frag_no, fragments_in, fragments_of, has_copy, history, home, in_force, is_asked, local_of, marks, redeclares, setting_of, time_at, tm_no, touches, txn_no, undeclared_conditions}
 use Rattle.sdd_invariants.specs.protocol.declared.entry.Entry as line
-use Rattle.sdd_invariants.specs.protocol.declared.protocol.Protocol.TheVariants.{P2, P3}
 use Rattle.sdd_invariants.proofs.protocol.Laws.{one_table}
-use Rattle.sdd_invariants.specs.site_module.SiteLog.{Force, Records, in_force}
-use Rattle.sdd_invariants.specs.attempt.Acts.{commit_act, conditions_at}
-use Rattle.sdd_invariants.specs.pipe.Pipe.{touches}
-use Rattle.sdd_invariants.specs.logs.Entries.{Does, Entry, Given, Log, history, marks}
-use Rattle.sdd_invariants.specs.logs.Locals.{force_at, local_of, redeclares, setting_of}
-use Rattle.sdd_invariants.specs.logs.Permitted.{IsPermitted}
-use Rattle.sdd_laws.specs.Conditions.{IsConditionOf, KeepsConditions, conditions_of}
-use Rattle.sdd_laws.specs.Deeds.{AppliedBefore, IsAnswered, TouchesOne}
-use Rattle.sdd_laws.specs.Eras.{Eras}
+use Rattle.sdd_laws.specs.All.{AppliedBefore, Attempt, Committed, Eras, IsAnswered, IsAttempt, IsCommitted, IsConditionOf, KeepsConditions, TouchesOne, conditions_of, event_at, p2_time}
 use Rattle.sdd_laws.specs.Eras as law_eras
-use Rattle.sdd_laws.specs.serial_orders.Attempts.{Attempt, Committed, IsAttempt, IsCommitted, p2_time}
-use Rattle.sdd_laws.specs.serial_orders.Places.{event_at}
-use Rattle.sdd_invariants.specs.Seen.{IsAnswerWith, IsApplied}
 use Rattle.sdd_invariants.proofs.Applied.{split_applied}
 use Rattle.sdd_invariants.proofs.Bools.{same_or_not}
 use Rattle.sdd_invariants.proofs.Lists.{any_at, in_mapped, in_range, place_within}
-use Rattle.sdd_invariants.specs.Steps.{home}
 use Rattle.sdd_lawful.specs.Given.{AreErasOf}
 use Rattle.sdd_lawful.proofs.Answered.{IsReadIn, answer_in, answer_made, answer_rec}
 use Rattle.sdd_lawful.proofs.Applies.{apply_of_committed, applied_seen, seen_applied}

@@ -3,41 +3,14 @@ use Rattle.std.specs.List.{Contains}
 use Rattle.std.proofs.Common.{ℕ, ◌&&◌, ◌++◌, ◌==◌, ◌∙◌, ◌∷◌, ◌≡◌, Bool, List, Some, [], ap, append_assoc, arith, false, if◌then◌else◌, inl, inr, length, map, refl, slice_get, subst, sym, true}
 use Rattle.std.proofs.lemmas.Bool.{eqb-true}
 use Rattle.std.proofs.lemmas.List.Elements.{Contains-append_left, Contains-append_right, Contains-append_cases}
-use Rattle.sdd_invariants.specs.base.Numbers.{class_no, dm_no, time_at, txn_no}
-use Rattle.sdd_invariants.specs.base.declared.change.Change.{Change}
-use Rattle.sdd_invariants.specs.base.declared.number.ClassNo.{ClassNo}
-use Rattle.sdd_invariants.specs.base.declared.number.DmNo.{DmNo}
-use Rattle.sdd_invariants.specs.base.declared.number.Ts.{Ts}
-use Rattle.sdd_invariants.specs.base.declared.number.TxnNo.{TxnNo}
-use Rattle.sdd_invariants.specs.base.declared.site.Site.{Site}
-use Rattle.sdd_invariants.specs.base.declared.site.Site.TheVariants.{D}
+use Rattle.sdd_invariants.specs.All.{Act, Apply, Bases, Change, ClassNo, D, Did, DmNo, Does, Given, Handed, IsPermitted, IsSound, IsWrite, Log, Msg, Rec, Records, Redeclared, Sends, Setting, Site, Submits, Ticked, Ts, TxnNo, Write, applied, changes_at, changes_in, class_no, commit_act, dm_no, has_copy, head, history, home, is_apply, local_of, pipe, pipe_at, sends_of_act, time_at, to_site, txn_no}
 use Rattle.sdd_invariants.proofs.base.Membership.{Contains-nil}
-use Rattle.sdd_invariants.specs.catalog.Catalogue.{has_copy}
-use Rattle.sdd_invariants.specs.catalog.Rules.{IsSound}
 use Rattle.sdd_laws.proofs.Members.{Contains-filter, Contains-from_filter, Contains-from_map, Contains-map}
-use Rattle.sdd_laws.specs.copy.Contents.{Dated}
-use Rattle.sdd_invariants.specs.history.declared.record.Rec.{Rec}
-use Rattle.sdd_invariants.specs.history.declared.record.Rec.TheVariants.{Apply}
-use Rattle.sdd_invariants.specs.wire.declared.msg.Msg.{Msg}
-use Rattle.sdd_invariants.specs.wire.declared.msg.Msg.TheVariants.{Write}
+use Rattle.sdd_laws.specs.All.{AppliedBefore, Committed, Dated, IsCommitted, Stands}
 use Rattle.sdd_invariants.specs.site_module.SiteLog as site
-use Rattle.sdd_invariants.specs.site_module.SiteLog.{Act, Bases, Did, Handed, Log as SiteLog, Records, Redeclared, Sends, Setting, Submits, Ticked, sends_of_act}
-use Rattle.sdd_invariants.specs.attempt.Acts.{commit_act}
-use Rattle.sdd_invariants.specs.dm.Copies.{applied, changes_in, is_apply}
-use Rattle.sdd_invariants.specs.dm.Pipes.{pipe}
-use Rattle.sdd_invariants.specs.pipe.Pipe.{head}
-use Rattle.sdd_invariants.specs.logs.Entries.{Does, Given, Log, history}
-use Rattle.sdd_invariants.specs.logs.Locals.{local_of}
-use Rattle.sdd_invariants.specs.logs.Permitted.{IsPermitted}
-use Rattle.sdd_invariants.specs.Puts.{IsWrite}
-use Rattle.sdd_laws.specs.Deeds.{AppliedBefore}
-use Rattle.sdd_laws.specs.serial_orders.Attempts.{Committed, IsCommitted}
-use Rattle.sdd_laws.specs.serial_orders.Places.{Stands}
+use Rattle.sdd_invariants.specs.site_module.SiteLog.{Log as SiteLog}
 use Rattle.sdd_invariants.proofs.Installed.{apply_of_head, class_number, commit_put_is, head_put}
-use Rattle.sdd_invariants.specs.Seen.{pipe_at}
 use Rattle.sdd_invariants.proofs.Bools.{and_left, and_right, same_number, true_or_false}
-use Rattle.sdd_invariants.specs.Steps.{changes_at, home}
-use Rattle.sdd_invariants.specs.Traffic.{to_site}
 use Rattle.sdd_invariants.proofs.Made.{permitted_before, place_of_act}
 use Rattle.sdd_lawful.specs.Made.{IsMadeAt}
 use Rattle.sdd_lawful.proofs.Applied.{IsApplyIn, apply_made, apply_rec}

@@ -3,27 +3,12 @@ use Rattle.std.specs.Prelude.{filter}
 use Rattle.std.proofs.Common.{ℕ, suc, ◌&&◌, ◌++◌, ◌+◌, ◌==◌, ◌∙◌, ◌∷◌, ◌≡◌, Bool, List, None, Option, Some, [], ap, append_assoc, arith, cond, false, if◌then◌else◌, inl, inr, length, length-append, refl, subst, sym, take, true}
 use Rattle.std.proofs.lemmas.Bool.{eqb-true}
 use Rattle.std.proofs.lemmas.List.Elements.{filter-append}
-use Rattle.sdd_invariants.specs.base.Sites.{same_site}
-use Rattle.sdd_invariants.specs.base.declared.event.Event.TheVariants.{Deliver, Down, Lose, Redeclare, Repeat, Resend, Settle, Submit, Tick, Up}
-use Rattle.sdd_invariants.specs.base.declared.number.TxnNo.{TxnNo}
-use Rattle.sdd_invariants.specs.base.declared.site.Site.{Site}
-use Rattle.sdd_invariants.specs.base.declared.site.Site.TheVariants.{D, T, U}
-use Rattle.sdd_invariants.specs.catalog.Rules.{IsSound}
-use Rattle.sdd_invariants.specs.history.declared.record.Rec.{Rec}
-use Rattle.sdd_invariants.specs.history.declared.record.Rec.TheVariants.{Commit, Start}
-use Rattle.sdd_invariants.specs.history.Records.{History}
-use Rattle.sdd_invariants.specs.lang.declared.transaction.Txn.{Txn}
-use Rattle.sdd_invariants.specs.wire.declared.msg.Msg.{Msg}
-use Rattle.sdd_invariants.specs.site_module.SiteLog.{Did, Force, Handed, Log as SiteLog, Records, Redeclared, Sends, Submits, Ticked}
+use Rattle.sdd_invariants.specs.All.{Commit, D, Deliver, Did, Does, Down, Entry, Force, Given, Hand, Handed, History, IsPermitted, IsSound, Log, Lose, Mark, Msg, Notes, Rec, Records, Redeclare, Redeclared, Redeclares, Repeat, Resend, Round, Sends, Settle, Site, Start, Submit, Submits, Submitted, T, Tick, Ticked, Txn, TxnNo, U, Up, force_at, history, home, local_of, marks, redeclares, same_site, starts_of, txn_at, with_force, with_submit}
+use Rattle.sdd_invariants.specs.site_module.SiteLog.{Log as SiteLog}
 use Rattle.sdd_invariants.specs.site_module.SiteLog as site
-use Rattle.sdd_invariants.specs.logs.Entries.{Does, Entry, Given, Hand, Log, Mark, Notes, Redeclares, Round, Submitted, history, marks}
-use Rattle.sdd_invariants.specs.logs.Locals.{force_at, local_of, redeclares, txn_at, with_force, with_submit}
-use Rattle.sdd_invariants.specs.logs.Permitted.{IsPermitted}
-use Rattle.sdd_laws.specs.Starts.{is_start_of, starts_before}
-use Rattle.sdd_laws.specs.serial_orders.Attempts.{Attempt, IsAttempt}
+use Rattle.sdd_laws.specs.All.{Attempt, IsAttempt, is_start_of, starts_before}
 use Rattle.sdd_invariants.proofs.Bools.{if_way, same_number, same_or_not}
 use Rattle.sdd_invariants.proofs.Sites.{site_self}
-use Rattle.sdd_invariants.specs.Steps.{home, starts_of}
 use Rattle.sdd_lawful.specs.Made.{record_of}
 use Rattle.sdd_lawful.proofs.Classes.{IsGivenTo, at_home, one_class}
 use Rattle.sdd_lawful.proofs.Places.{history_before, history_step, recorded}

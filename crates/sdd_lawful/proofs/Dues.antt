@@ -2,34 +2,8 @@
 use Rattle.std.specs.Prelude.{filter, nat_lt}
 use Rattle.std.specs.List.{list_all}
 use Rattle.std.proofs.Common.{ℕ, suc, ◌++◌, ◌&&◌, ◌==◌, ◌∙◌, ◌∷◌, ◌≡◌, Bool, List, None, Option, Some, [], ap, false, if◌then◌else◌, inl, inr, not, refl, slice_get, subst, sym, true}
-use Rattle.sdd_invariants.specs.base.Numbers.{dm_no, time_at, tm_no}
-use Rattle.sdd_invariants.specs.base.Clock.{bound_of}
-use Rattle.sdd_invariants.specs.base.Words.{head_of, or_else}
-use Rattle.sdd_invariants.specs.base.declared.condition.Cond.{Cond}
-use Rattle.sdd_invariants.specs.base.declared.number.ClassNo.{ClassNo}
-use Rattle.sdd_invariants.specs.base.declared.number.DmNo.{DmNo}
-use Rattle.sdd_invariants.specs.base.declared.number.TmNo.{TmNo}
-use Rattle.sdd_invariants.specs.base.declared.number.Ts.{Ts}
-use Rattle.sdd_invariants.specs.base.declared.number.TxnNo.{TxnNo}
-use Rattle.sdd_invariants.specs.base.declared.site.Site.{Site}
-use Rattle.sdd_invariants.specs.base.declared.site.Site.TheVariants.{D, T, U}
-use Rattle.sdd_invariants.specs.base.declared.usage.Use.{Use}
-use Rattle.sdd_invariants.specs.catalog.Catalogue.{Catalogue, class_at}
-use Rattle.sdd_invariants.specs.history.declared.record.Rec.{Rec}
-use Rattle.sdd_invariants.specs.history.declared.record.Rec.TheVariants.{Arrive, Pass, Wait}
-use Rattle.sdd_invariants.specs.wire.declared.msg.Msg.{Msg}
-use Rattle.sdd_invariants.specs.wire.declared.msg.Msg.TheVariants.{Ask, Fetch, Held, Null, Read, Reduce, Ship, Write}
-use Rattle.sdd_invariants.specs.site_module.SiteLog.{Act, Bases, Did, Entry, Handed, Log, Records, Redeclared, Sends, Setting, Submits, Ticked, hands, sends_of_act}
-use Rattle.sdd_invariants.specs.attempt.Acts.{attempt_due, commit_act}
-use Rattle.sdd_invariants.specs.attempt.Attempts.{Attempt, active, asks_rows}
-use Rattle.sdd_invariants.specs.attempt.Queues.{Queued}
-use Rattle.sdd_invariants.specs.attempt.Exchange.{first_send, is_over}
-use Rattle.sdd_invariants.specs.dm.Due.{IsDue, act_by, act_where, answer_of, answer_to, by_head, by_open, head_due, is_held, is_met, judged, step_on}
-use Rattle.sdd_invariants.specs.dm.Opens.{Open, is_asked_of, opens}
-use Rattle.sdd_invariants.specs.dm.Pipes.{is_processing, pipe, waits}
-use Rattle.sdd_invariants.specs.dm.Views.{ClassView, Home, View, home_of, view_of}
-use Rattle.sdd_invariants.specs.dm.declared.step.Step.TheVariants.{Processes}
-use Rattle.sdd_invariants.specs.pipe.Pipe.{head}
+use Rattle.sdd_invariants.specs.All.{Act, Arrive, Ask, Attempt, Bases, Catalogue, ClassNo, ClassView, Cond, D, Did, DmNo, Fetch, Given, Handed, Held, Home, IsClassHere, IsDue, IsDueAt, IsReadStep, IsStep, May, Msg, Null, Open, Pass, Processes, Queued, Read, Rec, Records, Redeclared, Reduce, Sends, Setting, Ship, Site, Submits, T, Ticked, TmNo, Ts, TxnNo, U, Use, View, Wait, Write, act_by, act_where, active, answer_of, answer_to, asks_rows, attempt_due, base_of, bound_of, by_head, by_open, by_record, by_wait, class_at, commit_act, dm_no, first_send, hands, head, head_due, head_of, home, home_of, in_passing, is_asked_of, is_held, is_met, is_over, is_processing, judged, local_of, opens, or_else, pipe, sends_of_act, setting_of, spoiler, start_at, start_read, step_on, time_at, tm_no, to_site, view_of, waits}
+use Rattle.sdd_invariants.specs.site_module.SiteLog.{Entry, Log}
 use Rattle.sdd_invariants.proofs.PutBy.{was_handed}
 use Rattle.sdd_invariants.proofs.Active.{step_way}
 use Rattle.sdd_invariants.proofs.AreReadSteps.{class_at_place}
@@ -37,16 +11,9 @@ use Rattle.sdd_invariants.proofs.Bools.{not_both}
 use Rattle.sdd_invariants.proofs.Exchanges.{asks_next}
 use Rattle.sdd_invariants.proofs.Lists.{in_either, in_filtered, in_mapped, in_none, in_one}
 use Rattle.sdd_invariants.proofs.Sites.{the_one}
-use Rattle.sdd_invariants.specs.ReadSteps.{IsClassHere, IsReadStep, May, by_record, by_wait, in_passing, spoiler}
-use Rattle.sdd_invariants.specs.Steps.{IsStep, home, start_at, start_read}
-use Rattle.sdd_invariants.specs.Traffic.{to_site}
 use Rattle.sdd_invariants.proofs.ReadsPut.{start_puts}
 use Rattle.sdd_invariants.proofs.Installed.{commit_put_is}
-use Rattle.sdd_invariants.specs.logs.Entries.{Given}
 use Rattle.sdd_invariants.specs.logs.Entries as log
-use Rattle.sdd_invariants.specs.logs.Locals.{local_of, setting_of}
-use Rattle.sdd_invariants.specs.logs.Permitted.{IsDueAt}
-use Rattle.sdd_invariants.specs.logs.Snapshots.{base_of}
 use Rattle.sdd_invariants.specs.tm.Due as tm
 use Rattle.sdd_invariants.specs.umod.Due as um
 use Rattle.sdd_invariants.specs.umod.Views as um_views

@@ -6,50 +6,21 @@ use Rattle.std.specs.List.Sorted.{IsStrictlySortedBy}
 use Rattle.std.specs.Map.{keys_of}
 use Rattle.std.proofs.Common.{ℕ, suc, zero, ◌++◌, ◌<◌, ◌==◌, ◌∙◌, ◌∷◌, ◌≡◌, Bool, List, None, Option, Some, [], ap, append_assoc, arith, inl, inr, refl, subst, sym, true}
 use Rattle.std.proofs.lemmas.Bool.{eqb-true}
-use Rattle.sdd_invariants.specs.base.Numbers.{dm_no, txn_no}
-use Rattle.sdd_invariants.specs.base.Words.{ascending}
-use Rattle.sdd_invariants.specs.base.declared.change.Change.{Change}
-use Rattle.sdd_invariants.specs.base.declared.number.RelNo.{RelNo}
-use Rattle.sdd_invariants.specs.base.declared.site.Site.TheVariants.{D}
+use Rattle.sdd_invariants.specs.All.{Attempt as Running, Catalogue, Change, D, Database, Did, Does, Effect, Given, History, IsPermitted, IsSound, Item, Log, Rec, Records, RelNo, Row, Txn, ascending, commit_act, dated, dm_no, effect, fragment_at, fragment_of, fragments_in, has_copy, head, history, home, item_cmp, local_of, numbers_to, pipe, reads_at, setting_of, txn_at, txn_no, use_there}
 use Rattle.sdd_invariants.proofs.base.Membership.{Contains-nil}
-use Rattle.sdd_invariants.specs.catalog.Catalogue.{Catalogue, fragment_at, fragment_of, has_copy, numbers_to, reads_at}
-use Rattle.sdd_invariants.specs.catalog.Rules.{IsSound}
 use Rattle.sdd_laws.proofs.CopyEntries.{entries_ascend, lies_there}
 use Rattle.sdd_laws.proofs.Gathered.{gathered_from, gathered_sorted, gathered_there}
 use Rattle.sdd_laws.proofs.LookUps.{one_entry, same_members}
 use Rattle.sdd_laws.proofs.Members.{Contains-flat_map, Contains-from_flat_map, each_has}
-use Rattle.sdd_laws.specs.Values.{ArePlaced}
-use Rattle.sdd_invariants.specs.history.declared.record.Rec.{Rec}
-use Rattle.sdd_invariants.specs.history.Records.{History}
-use Rattle.sdd_invariants.specs.lang.Classes.{fragments_in}
-use Rattle.sdd_invariants.specs.lang.Database.{Database, Item, Row, item_cmp}
-use Rattle.sdd_invariants.specs.lang.Effect.{effect}
-use Rattle.sdd_invariants.specs.lang.declared.effect.Effect.{Effect}
-use Rattle.sdd_invariants.specs.lang.declared.transaction.Txn.{Txn}
+use Rattle.sdd_laws.specs.All.{ArePlaced, Attempt, Committed, Eras, IsAnswered, IsCommitted, IsModule, KeepsAnswers, Stands, by_use, is_answer, module_of, reads}
 use Rattle.sdd_invariants.proofs.lang.EffectChanges.{entry_placed}
 use Rattle.sdd_invariants.proofs.lang.SortedEntries.{item_cmp_exact, item_cmp_total, sorted_nil}
-use Rattle.sdd_invariants.specs.site_module.SiteLog.{Did, Log as SiteLog, Records}
-use Rattle.sdd_invariants.specs.attempt.Attempts.{Attempt as Running}
-use Rattle.sdd_invariants.specs.attempt.Acts.{commit_act, use_there}
-use Rattle.sdd_invariants.specs.dm.Copies.{dated}
-use Rattle.sdd_invariants.specs.dm.Pipes.{pipe}
-use Rattle.sdd_invariants.specs.pipe.Pipe.{head}
-use Rattle.sdd_invariants.specs.logs.Entries.{Does, Given, Log, history}
-use Rattle.sdd_invariants.specs.logs.Locals.{local_of, setting_of, txn_at}
-use Rattle.sdd_invariants.specs.logs.Permitted.{IsPermitted}
+use Rattle.sdd_invariants.specs.site_module.SiteLog.{Log as SiteLog}
 use Rattle.sdd_invariants.specs.logs.Snapshots as log_base
-use Rattle.sdd_laws.specs.Answers.{KeepsAnswers}
-use Rattle.sdd_laws.specs.Deeds.{IsAnswered, by_use}
-use Rattle.sdd_laws.specs.Eras.{Eras}
 use Rattle.sdd_laws.specs.Snapshots as laws
 use Rattle.sdd_laws.proofs.Reading.{reads_there}
-use Rattle.sdd_laws.specs.serial_orders.Attempts.{Attempt, Committed, IsCommitted, reads}
-use Rattle.sdd_laws.specs.serial_orders.Numbers.{IsModule}
-use Rattle.sdd_laws.specs.serial_orders.Places.{Stands}
-use Rattle.sdd_laws.specs.serial_orders.Precedence.{is_answer, module_of}
 use Rattle.sdd_laws.proofs.serial_orders.Before.{answer_passes, is_answered}
 use Rattle.sdd_invariants.proofs.Bools.{same_number, true_or_false}
-use Rattle.sdd_invariants.specs.Steps.{home}
 use Rattle.sdd_lawful.specs.Given.{AreErasOf, HasSoundData}
 use Rattle.sdd_lawful.proofs.Answered.{IsAnswerIn, answer_in, answer_made, answer_rec}
 use Rattle.sdd_lawful.proofs.Asked.{answer_after, answered, commit_after, in_ascending, one_answer}

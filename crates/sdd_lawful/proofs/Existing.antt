@@ -4,33 +4,11 @@ use Rattle.std.specs.List.{AllByRecursion, list_any}
 use Rattle.std.specs.Option.{option_or}
 use Rattle.std.proofs.Common.{ℕ, suc, ◌&&◌, ◌+◌, ◌==◌, ◌||◌, ◌∷◌, ◌≡◌, ◌≤◌, Bool, List, None, Option, Some, [], ap, arith, false, inl, inr, length, map, refl, slice_get, subst, true}
 use Rattle.std.proofs.lemmas.List.Elements.{All-from_recursion, recursion_from_All}
-use Rattle.sdd_invariants.specs.base.Numbers.{frag_no}
-use Rattle.sdd_invariants.specs.base.Words.{ascending, contains}
-use Rattle.sdd_invariants.specs.base.declared.condition.Cond.{Cond}
-use Rattle.sdd_invariants.specs.base.declared.number.FragNo.{FragNo}
-use Rattle.sdd_invariants.specs.base.declared.number.RelNo.{RelNo}
-use Rattle.sdd_invariants.specs.base.declared.restriction.Restriction.{Restriction}
-use Rattle.sdd_invariants.specs.base.declared.usage.Use.{Use}
-use Rattle.sdd_invariants.specs.catalog.Catalogue.{Catalogue, numbers_to, reads_at}
-use Rattle.sdd_invariants.specs.catalog.Rules.{IsSound}
+use Rattle.sdd_invariants.specs.All.{Catalogue, Cond, Condition, Delete, Diagonal, Edge, FitsStatement, FragNo, Horizontal, IsRelation, IsSound, P2, P3, Protocol, Put, Query, RelNo, Restriction, Stmt, Update, Use, Vertical, ascending, asked_by, asked_in, asked_on, classes_of, cond_for, cond_of, condition_on, conditions_at, contains, frag_no, fragments_for, fragments_in, fragments_of, is_asked, is_read_at, modules_of, numbers_to, part_uses, reads_at, restrictions_of, same_protocol, statement_uses, use_of, uses_from}
 use Rattle.sdd_invariants.proofs.catalog.Sound.{served_read}
-use Rattle.sdd_invariants.specs.graph.Graph.{classes_of, fragments_of}
-use Rattle.sdd_invariants.specs.graph.declared.edge.Edge.{Edge}
-use Rattle.sdd_invariants.specs.graph.declared.edge.Edge.TheVariants.{Diagonal, Horizontal, Vertical}
-use Rattle.sdd_invariants.specs.lang.declared.condition.Condition.{Condition}
-use Rattle.sdd_invariants.specs.lang.declared.statement.Stmt.{Stmt}
-use Rattle.sdd_invariants.specs.lang.declared.statement.Stmt.TheVariants.{Delete, Put, Query, Update}
-use Rattle.sdd_invariants.specs.lang.Classes.{fragments_in}
-use Rattle.sdd_invariants.specs.lang.Fits.{FitsStatement, IsRelation}
-use Rattle.sdd_invariants.specs.lang.Uses.{fragments_for, part_uses, restrictions_of, statement_uses, use_of, uses_from}
 use Rattle.sdd_invariants.proofs.lang.Sets.{IsThere, fragments_there}
-use Rattle.sdd_invariants.specs.protocol.Conditions.{asked_by, asked_in, asked_on, cond_for, cond_of, condition_on, is_asked, is_read_at}
-use Rattle.sdd_invariants.specs.protocol.Protocols.{same_protocol}
 use Rattle.sdd_invariants.specs.protocol.declared.entry.Entry as line
-use Rattle.sdd_invariants.specs.protocol.declared.protocol.Protocol.{Protocol}
-use Rattle.sdd_invariants.specs.protocol.declared.protocol.Protocol.TheVariants.{P2, P3}
-use Rattle.sdd_invariants.specs.attempt.Acts.{conditions_at, modules_of}
-use Rattle.sdd_laws.specs.serial_orders.Numbers.{CondExists, IsFragment, IsModule, UseExists}
+use Rattle.sdd_laws.specs.All.{CondExists, IsFragment, IsModule, UseExists}
 use Rattle.sdd_invariants.proofs.Bools.{and_left, and_right, only_right, same_or_not, true_or_false}
 use Rattle.sdd_invariants.proofs.Lists.{in_mapped, in_range}
 use Rattle.sdd_lawful.proofs.Asked.{contains_at}

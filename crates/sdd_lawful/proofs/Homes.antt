@@ -2,17 +2,9 @@
 use Rattle.std.proofs.Common.{ℕ, ◌-◌, ◌==◌, ◌∙◌, ◌≡◌, ◌≢◌, ◌≤◌, ◌⊎◌, ap, arith, false, inl, inr, length, refl, subst, sym}
 use Rattle.std.proofs.Math.Decide.{dec_le}
 use Rattle.std.proofs.lemmas.List.{get_or_past}
-use Rattle.sdd_invariants.specs.base.Numbers.{tm_no}
-use Rattle.sdd_invariants.specs.base.Sites.{number_of}
-use Rattle.sdd_invariants.specs.base.declared.site.Site.{Site}
-use Rattle.sdd_invariants.specs.base.declared.site.Site.TheVariants.{T}
-use Rattle.sdd_invariants.specs.catalog.Catalogue.{Catalogue, class_at}
-use Rattle.sdd_invariants.specs.catalog.Numbers.{IsServedClass}
-use Rattle.sdd_invariants.specs.catalog.Rules.{IsSound}
-use Rattle.sdd_invariants.specs.catalog.declared.resolved.Class.{Class}
+use Rattle.sdd_invariants.specs.All.{Catalogue, Class, IsServedClass, IsSound, Site, T, class_at, home, number_of, tm_no}
 use Rattle.sdd_invariants.proofs.catalog.Sound.{at_number, sound_classes, sound_whole}
 use Rattle.sdd_invariants.proofs.Bools.{differ, same_or_not}
-use Rattle.sdd_invariants.specs.Steps.{home}
 
 -- the module of a class is there
 pub served : (cat : Catalogue) → IsSound cat → (c : ℕ) → 1 ≤ c → c ≤ length cat.classes → IsServedClass cat (class_at cat c)

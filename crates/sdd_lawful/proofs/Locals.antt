@@ -2,24 +2,11 @@
 -- submissions.
 use Rattle.std.proofs.Common.{ℕ, suc, ◌&&◌, ◌++◌, ◌<◌, ◌==◌, ◌∷◌, ◌≡◌, ◌≤◌, Bool, List, Option, Some, [], ap, arith, false, if◌then◌else◌, inl, inr, length, refl, slice_get, subst, sym, true, zero}
 use Rattle.std.proofs.lemmas.Bool.{eqb-true}
-use Rattle.sdd_invariants.specs.base.declared.change.Change.{Change}
-use Rattle.sdd_invariants.specs.base.declared.number.ClassNo.{ClassNo}
-use Rattle.sdd_invariants.specs.base.declared.number.Ts.{Ts}
-use Rattle.sdd_invariants.specs.base.declared.number.TxnNo.{TxnNo}
-use Rattle.sdd_invariants.specs.base.declared.reply.Reply.{Reply}
-use Rattle.sdd_invariants.specs.base.declared.site.Site.{Site}
-use Rattle.sdd_invariants.specs.base.declared.usage.Use.{Use}
-use Rattle.sdd_invariants.specs.history.declared.record.Rec.TheVariants.{Commit, Start}
-use Rattle.sdd_invariants.specs.lang.declared.transaction.Txn.{Txn}
-use Rattle.sdd_invariants.specs.wire.declared.msg.Msg.{Msg}
+use Rattle.sdd_invariants.specs.All.{Act, AllCommitted, AllLe, AllLt, Change, ClassNo, Commit, Did, Handed, Msg, Records, Redeclared, Reply, Sends, Setting, Site, Start, Submits, Ticked, Ts, Txn, TxnNo, Use, commit_more, in_force, is_committed, is_for, promises, stamps, start_more, starts_of, submits_of}
 use Rattle.sdd_invariants.specs.site_module.SiteLog as site
-use Rattle.sdd_invariants.specs.site_module.SiteLog.{Act, Did, Handed, Log, Records, Redeclared, Sends, Setting, Submits, Ticked, in_force}
-use Rattle.sdd_invariants.specs.attempt.Queues.{is_for}
-use Rattle.sdd_invariants.specs.OfRecords.{AllCommitted}
+use Rattle.sdd_invariants.specs.site_module.SiteLog.{Log}
 use Rattle.sdd_invariants.proofs.Bools.{and_left, and_right, both, if_way, only_right, or_left, or_right, same_number, true_or_false}
 use Rattle.sdd_invariants.proofs.Lists.{at_seam, in_left, in_right}
-use Rattle.sdd_invariants.specs.Orders.{AllLe, AllLt}
-use Rattle.sdd_invariants.specs.Steps.{commit_more, is_committed, promises, stamps, start_more, starts_of, submits_of}
 
 pub below_at : (k : ℕ) (xs : List ℕ) (i x : ℕ) → AllLt k xs → slice_get xs i ≡ Some x → x < k
 below_at k [] i x h e = cc

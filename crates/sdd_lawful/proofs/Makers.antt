@@ -2,27 +2,12 @@
 -- data module makes the others, each with its own number.
 use Rattle.std.specs.Prelude.{filter}
 use Rattle.std.proofs.Common.{ℕ, ◌∷◌, ◌≡◌, Bool, None, Option, Some, ◌∙◌, List, false, refl, subst, sym, true}
-use Rattle.sdd_invariants.specs.base.Words.{head_of}
-use Rattle.sdd_invariants.specs.base.declared.number.DmNo.{DmNo}
-use Rattle.sdd_invariants.specs.base.declared.site.Site.{Site}
-use Rattle.sdd_invariants.specs.base.declared.site.Site.TheVariants.{D, T, U}
-use Rattle.sdd_invariants.specs.history.declared.record.Rec.{Rec}
-use Rattle.sdd_invariants.specs.history.declared.record.Rec.TheVariants.{Answer, Apply, Arrive, Commit, Nothing, Pass, Reject as Rejected, Start, Submit, Wait}
-use Rattle.sdd_invariants.specs.wire.declared.msg.Msg.{Msg}
-use Rattle.sdd_invariants.specs.wire.declared.msg.Msg.TheVariants.{Fetch, Null, Read, Reduce, Ship, Write}
-use Rattle.sdd_invariants.specs.site_module.SiteLog.{Act, Each, Log as SiteLog, Records, Sends, Setting}
-use Rattle.sdd_invariants.specs.dm.Due.{IsDue, act_by, act_where, answer_of, answer_to, by_head, by_open, head_step}
-use Rattle.sdd_invariants.specs.dm.Opens.{Open, is_asked_of}
-use Rattle.sdd_invariants.specs.dm.Views.{ClassView, Home, View, home_of, view_of}
+use Rattle.sdd_invariants.specs.All.{Act, Answer, Apply, Arrive, ClassView, Commit, D, DmNo, Does, Each, Fetch, Given, Home, IsDue, IsFair, IsPermitted, IsStep, Log, Msg, Nothing, Null, Open, Pass, Processes, Read, Rec, Records, Reduce, Refuses, Sends, Setting, Ship, Site, Start, T, U, View, Wait, Waits, Write, act_by, act_where, answer_of, answer_to, by_head, by_open, head, head_of, head_step, home, home_of, is_asked_of, local_of, setting_of, view_of}
+use Rattle.sdd_invariants.specs.history.declared.record.Rec.TheVariants.{Reject as Rejected, Submit}
+use Rattle.sdd_invariants.specs.site_module.SiteLog.{Log as SiteLog}
 use Rattle.sdd_invariants.specs.dm.declared.step.Step.{Step}
-use Rattle.sdd_invariants.specs.dm.declared.step.Step.TheVariants.{Processes, Refuses, Waits}
-use Rattle.sdd_invariants.specs.pipe.Pipe.{head}
-use Rattle.sdd_invariants.specs.logs.Entries.{Does, Given, Log}
-use Rattle.sdd_invariants.specs.logs.Locals.{local_of, setting_of}
-use Rattle.sdd_invariants.specs.logs.Permitted.{IsPermitted}
 use Rattle.sdd_invariants.proofs.logs.EachLocal.{allowed_act}
 use Rattle.sdd_invariants.proofs.Active.{step_way}
-use Rattle.sdd_invariants.specs.Steps.{IsFair, IsStep, home}
 use Rattle.sdd_invariants.proofs.Fair.{t_fair, u_fair}
 use Rattle.sdd_invariants.proofs.Made.{own_act}
 

@@ -2,58 +2,17 @@
 use Rattle.std.specs.List.{AllByRecursion}
 use Rattle.std.proofs.Common.{ℕ, suc, ◌++◌, ◌-◌, ◌<◌, ◌∙◌, ◌∷◌, ◌≡◌, ◌≤◌, List, None, Option, Some, [], ap, append_assoc, arith, false, length, refl, slice_get, subst, sym, true}
 use Rattle.std.proofs.lemmas.List.Elements.{All-from_recursion, recursion_from_All}
-use Rattle.sdd_invariants.specs.base.Numbers.{dm_no, txn_no}
-use Rattle.sdd_invariants.specs.base.Words.{ascending, contains}
-use Rattle.sdd_invariants.specs.base.declared.change.Change.{Change}
-use Rattle.sdd_invariants.specs.base.declared.condition.Cond.{Cond}
-use Rattle.sdd_invariants.specs.base.declared.event.Event.TheVariants.{Submit as SubmitEvent}
-use Rattle.sdd_invariants.specs.base.declared.number.ClassNo.{ClassNo}
-use Rattle.sdd_invariants.specs.base.declared.number.DmNo.{DmNo}
-use Rattle.sdd_invariants.specs.base.declared.number.RelNo.{RelNo}
-use Rattle.sdd_invariants.specs.base.declared.number.Ts.{Ts}
-use Rattle.sdd_invariants.specs.base.declared.number.TxnNo.{TxnNo}
-use Rattle.sdd_invariants.specs.base.declared.site.Site.{Site}
-use Rattle.sdd_invariants.specs.base.declared.site.Site.TheVariants.{D}
-use Rattle.sdd_invariants.specs.base.declared.usage.Use.{Use}
-use Rattle.sdd_invariants.specs.catalog.Catalogue.{Catalogue}
-use Rattle.sdd_invariants.specs.catalog.Rules.{IsSound}
-use Rattle.sdd_invariants.specs.history.declared.record.Rec.{Rec}
-use Rattle.sdd_invariants.specs.history.declared.record.Rec.TheVariants.{Answer, Apply, Arrive, Commit, Nothing, Pass, Reject as Rejected, Start, Submit, Wait}
-use Rattle.sdd_invariants.specs.history.Records.{History}
-use Rattle.sdd_invariants.specs.lang.Classes.{fragments_in}
-use Rattle.sdd_invariants.specs.lang.Database.{Row}
-use Rattle.sdd_invariants.specs.lang.Fits.{Fits, FitsStatement}
-use Rattle.sdd_invariants.specs.site_module.SiteLog.{Act, Bases, Records, Sends, Setting, sends_of_act}
+use Rattle.sdd_invariants.specs.All.{Act, Answer, Apply, Arrive, Ask, Bases, Catalogue, Change, ClassNo, Commit, Cond, D, DmNo, Does, Entry, Fits, FitsStatement, Given, Hand, History, IsAskBy, IsDueAt, IsPermitted, IsPutAt, IsRead, IsReadStep, IsSound, Log, Mark, Msg, Notes, Nothing, Null, Pass, Read, Rec, Records, RelNo, Row, Sends, Setting, Site, Start, Submit as SubmitEvent, Submitted, Ts, TxnNo, Use, Wait, ascending, contains, dm_no, fragments_in, handed, head, history, home, local_of, marks, modules_asked, modules_of, pipe_at, puts_to, sends_of_act, setting_of, spoils, start_at, start_read, to_site, txn_no, view_of}
+use Rattle.sdd_invariants.specs.history.declared.record.Rec.TheVariants.{Reject as Rejected, Submit}
 use Rattle.sdd_invariants.specs.site_module.SiteLog as site
-use Rattle.sdd_invariants.specs.wire.declared.msg.Msg.{Msg}
-use Rattle.sdd_invariants.specs.wire.declared.msg.Msg.TheVariants.{Ask, Null, Read}
-use Rattle.sdd_invariants.specs.attempt.Acts.{modules_of}
-use Rattle.sdd_invariants.specs.dm.Due.{spoils}
-use Rattle.sdd_invariants.specs.dm.Views.{view_of}
-use Rattle.sdd_invariants.specs.pipe.Pipe.{head}
-use Rattle.sdd_invariants.specs.logs.Entries.{Does, Entry, Given, Hand, Log, Mark, Notes, Submitted, history, marks}
-use Rattle.sdd_invariants.specs.logs.Locals.{local_of, setting_of}
-use Rattle.sdd_invariants.specs.logs.Permitted.{IsDueAt, IsPermitted}
-use Rattle.sdd_invariants.specs.logs.Traffic.{handed}
 use Rattle.sdd_invariants.proofs.logs.EachLocal.{allowed_act}
-use Rattle.sdd_invariants.specs.Puts.{IsRead}
-use Rattle.sdd_laws.specs.Eras.{Eras}
-use Rattle.sdd_laws.specs.Numbers.{NamesOneOf, TxnsExist}
-use Rattle.sdd_laws.specs.serial_orders.Attempts.{Attempt, Committed, IsAttempt, IsCommitted, p2_time}
-use Rattle.sdd_laws.specs.serial_orders.Numbers.{ChangeExists, CondExists, ExistsIn, IsClass, IsFrom1To, IsModule, NumbersExist, UseExists}
-use Rattle.sdd_laws.specs.serial_orders.Places.{Stands}
-use Rattle.sdd_invariants.specs.PutsBy.{IsAskBy}
+use Rattle.sdd_laws.specs.All.{Attempt, ChangeExists, Committed, CondExists, Eras, ExistsIn, IsAttempt, IsClass, IsCommitted, IsFrom1To, IsModule, NamesOneOf, NumbersExist, Stands, TxnsExist, UseExists, p2_time}
 use Rattle.sdd_invariants.proofs.Answered.{put_in_by_d}
 use Rattle.sdd_invariants.proofs.Installed.{class_number, head_put, origin}
-use Rattle.sdd_invariants.specs.Causes.{IsPutAt}
 use Rattle.sdd_invariants.proofs.Applied.{in_class}
 use Rattle.sdd_invariants.proofs.InPipe.{put_at_home}
-use Rattle.sdd_invariants.specs.Seen.{pipe_at}
 use Rattle.sdd_invariants.proofs.AreReadSteps.{d_step}
 use Rattle.sdd_invariants.proofs.Bools.{same_number}
-use Rattle.sdd_invariants.specs.ReadSteps.{IsReadStep}
-use Rattle.sdd_invariants.specs.Steps.{home, modules_asked, start_at, start_read}
-use Rattle.sdd_invariants.specs.Traffic.{puts_to, to_site}
 use Rattle.sdd_invariants.proofs.InOrder.{hand_was_put}
 use Rattle.sdd_invariants.proofs.Made.{permitted_before, place_of_hand}
 use Rattle.sdd_lawful.specs.Given.{AreErasOf, AreNumbered, HasSoundData}

@@ -1,11 +1,8 @@
 -- A lawful log submits only what its events submit.
 use Rattle.std.proofs.Common.{◌+◌, ◌++◌, ◌∷◌, ◌≡◌, ◌≤◌, [], ap, arith, refl, subst}
 use Rattle.std.proofs.lemmas.Bool.{eq-eqb}
-use Rattle.sdd_invariants.specs.base.declared.event.Event.TheVariants.{Submit}
-use Rattle.sdd_invariants.specs.logs.Entries.{Given, Log, Mark}
-use Rattle.sdd_invariants.specs.logs.Lawful.{IsLawful}
-use Rattle.sdd_invariants.specs.logs.Marks.{left}
-use Rattle.sdd_invariants.specs.logs.Permitted.{one_if, submits_by, submits_in}
+use Rattle.sdd_invariants.specs.All.{Given, IsLawful, Log, Mark, Submit, left, submits_by, submits_in}
+use Rattle.sdd_invariants.specs.logs.Permitted.{one_if}
 use Rattle.sdd_invariants.proofs.logs.NewMarks.{left_is, marked}
 use Rattle.sdd_lawful.specs.Given.{AreNumbered, SubmitGiven}
 

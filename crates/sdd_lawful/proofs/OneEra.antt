@@ -2,16 +2,9 @@
 use Rattle.std.specs.Prelude.{slice_index_or}
 use Rattle.std.proofs.Common.{ℕ, suc, ◌++◌, ◌∙◌, ◌∷◌, ◌≡◌, nat_le, ◌-◌, Some, [], ap, arith, cond, false, inl, inr, length, refl, slice_get, subst, sym, true, zero}
 use Rattle.std.proofs.lemmas.Bool.Decides.{nat_tests}
-use Rattle.sdd_invariants.specs.catalog.Catalogue.{Catalogue}
-use Rattle.sdd_invariants.specs.history.Records.{History}
-use Rattle.sdd_invariants.specs.logs.Entries.{Does, Given, Hand, Log, Mark, Notes, Redeclares, Round, Submitted, marks}
-use Rattle.sdd_invariants.specs.logs.Locals.{IsForce, force_at, redeclares}
-use Rattle.sdd_laws.specs.class_eras.EraOf.{IsEraOf}
+use Rattle.sdd_invariants.specs.All.{Catalogue, Does, Given, Hand, History, IsForce, Log, Mark, Notes, Redeclares, Round, Submitted, force_at, marks, redeclares}
+use Rattle.sdd_laws.specs.All.{AreEras, Committed, IsEraOf, IsOfEarlierEra, KeepsEras, begun, event_at, in_force}
 use Rattle.sdd_laws.proofs.class_eras.EraSets.{era_of_itself}
-use Rattle.sdd_laws.specs.Eras.{AreEras, begun, in_force}
-use Rattle.sdd_laws.specs.Redeclares.{IsOfEarlierEra, KeepsEras}
-use Rattle.sdd_laws.specs.serial_orders.Attempts.{Committed}
-use Rattle.sdd_laws.specs.serial_orders.Places.{event_at}
 use Rattle.sdd_invariants.proofs.Bools.{true_or_false}
 use Rattle.sdd_lawful.specs.Given.{AreErasOf, one_era}
 

@@ -2,12 +2,9 @@
 use Rattle.std.proofs.Common.{ℕ, suc, ◌++◌, ◌<◌, ◌∙◌, ◌∷◌, ◌≡◌, List, None, Option, Some, [], ap, append-nil, append_assoc, arith, inl, inr, length, refl, slice_get, subst, sym, take, zero, ◌≤◌}
 use Rattle.std.proofs.Math.Seq.{take-append_seam}
 use Rattle.std.proofs.Math.Decide.{dec_le}
-use Rattle.sdd_invariants.specs.history.declared.record.Rec.{Rec}
-use Rattle.sdd_invariants.specs.history.Records.{History}
-use Rattle.sdd_invariants.specs.site_module.SiteLog.{Records, Sends}
-use Rattle.sdd_invariants.specs.logs.Entries.{Does, Entry, Hand, Log, Mark, Notes, Redeclares, Round, Submitted, history, marks}
+use Rattle.sdd_invariants.specs.All.{Does, Entry, Hand, History, Log, Mark, Notes, Rec, Records, Redeclares, Round, Sends, Submitted, history, marks}
 use Rattle.sdd_invariants.proofs.Places.{compare}
-use Rattle.sdd_laws.specs.serial_orders.Places.{Stands, event_at}
+use Rattle.sdd_laws.specs.All.{Stands, event_at}
 use Rattle.sdd_invariants.proofs.Lists.{at_seam, in_left, place_within}
 use Rattle.sdd_lawful.specs.Made.{IsBefore, IsMadeAt, record_of}
 

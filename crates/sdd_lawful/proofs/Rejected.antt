@@ -2,47 +2,17 @@
 use Rattle.std.specs.Prelude.{filter}
 use Rattle.std.specs.List.{list_any}
 use Rattle.std.proofs.Common.{ℕ, ◌++◌, ◌==◌, ◌||◌, ◌∙◌, ◌∷◌, ◌≡◌, ◌≤◌, Bool, List, Some, [], ap, false, map, refl, slice_get, subst, sym, true}
-use Rattle.sdd_invariants.specs.base.Numbers.{time_at, txn_no}
-use Rattle.sdd_invariants.specs.base.Words.{contains, head_of}
-use Rattle.sdd_invariants.specs.base.declared.change.Change.{Change}
-use Rattle.sdd_invariants.specs.base.declared.condition.Cond.{Cond}
-use Rattle.sdd_invariants.specs.base.declared.number.ClassNo.{ClassNo}
-use Rattle.sdd_invariants.specs.base.declared.number.DmNo.{DmNo}
-use Rattle.sdd_invariants.specs.base.declared.number.FragNo.{FragNo}
-use Rattle.sdd_invariants.specs.base.declared.number.Ts.{Ts}
-use Rattle.sdd_invariants.specs.base.declared.number.TxnNo.{TxnNo}
-use Rattle.sdd_invariants.specs.base.declared.site.Site.{Site}
-use Rattle.sdd_invariants.specs.base.declared.site.Site.TheVariants.{D}
-use Rattle.sdd_invariants.specs.base.declared.usage.Use.{Use}
-use Rattle.sdd_invariants.specs.history.declared.record.Rec.{Rec}
+use Rattle.sdd_invariants.specs.All.{Attempt as Running, Bases, Change, ClassNo, Cond, D, DmNo, Does, FragNo, Given, IsApplied, IsOf, IsOfWrite, IsPermitted, IsReadStep, IsWrite, Log, May, Msg, Read, Rec, Records, Setting, Site, Ts, TxnNo, Use, View, Write, active, by_record, by_wait, changes_at, changes_to, class_puts, commit_act, contains, head, head_of, home, in_passing, is_processing, last_write_for, local_of, or_zero, pipe, results, sends_of_act, setting_of, spoiler, spoils, time_at, to_site, touches, txn_no, view_of, waits}
 use Rattle.sdd_invariants.specs.history.declared.record.Rec.TheVariants.{Reject as Rejected}
-use Rattle.sdd_invariants.specs.wire.declared.msg.Msg.{Msg}
-use Rattle.sdd_invariants.specs.wire.declared.msg.Msg.TheVariants.{Read, Write}
-use Rattle.sdd_invariants.specs.site_module.SiteLog.{Bases, Records, Setting, sends_of_act}
 use Rattle.sdd_invariants.specs.site_module.SiteLog as site
-use Rattle.sdd_invariants.specs.attempt.Acts.{commit_act}
-use Rattle.sdd_invariants.specs.attempt.Attempts.{Attempt as Running, active}
-use Rattle.sdd_invariants.specs.dm.Due.{last_write_for, or_zero, spoils}
-use Rattle.sdd_invariants.specs.dm.Pipes.{is_processing, pipe, waits}
-use Rattle.sdd_invariants.specs.dm.Views.{View, view_of}
-use Rattle.sdd_invariants.specs.pipe.Pipe.{head, touches}
-use Rattle.sdd_invariants.specs.logs.Entries.{Does, Given, Log}
-use Rattle.sdd_invariants.specs.logs.Locals.{local_of, setting_of}
-use Rattle.sdd_invariants.specs.logs.Permitted.{IsPermitted}
-use Rattle.sdd_invariants.specs.Puts.{IsWrite}
-use Rattle.sdd_laws.specs.Deeds.{ChangesOne}
-use Rattle.sdd_laws.specs.serial_orders.Attempts.{Committed}
+use Rattle.sdd_laws.specs.All.{ChangesOne, Committed}
 use Rattle.sdd_invariants.proofs.Processed.{matched, zip_at}
 use Rattle.sdd_invariants.proofs.Again.{is_spoilt}
 use Rattle.sdd_invariants.proofs.Installed.{class_number, commit_put_is, origin}
 use Rattle.sdd_invariants.proofs.InPipe.{in_pipe}
 use Rattle.sdd_invariants.proofs.Split.{processed_stays}
-use Rattle.sdd_invariants.specs.Seen.{IsApplied, changes_to, class_puts}
 use Rattle.sdd_invariants.proofs.Bools.{not_both, same_number}
 use Rattle.sdd_invariants.proofs.Lists.{any_at, in_filtered}
-use Rattle.sdd_invariants.specs.ReadSteps.{IsOf, IsOfWrite, IsReadStep, May, by_record, by_wait, in_passing, results, spoiler}
-use Rattle.sdd_invariants.specs.Steps.{changes_at, home}
-use Rattle.sdd_invariants.specs.Traffic.{to_site}
 use Rattle.sdd_invariants.proofs.Fair.{d_fair}
 use Rattle.sdd_lawful.proofs.Classes.{at_home, home_setting}
 use Rattle.sdd_lawful.proofs.Touched.{any_there}

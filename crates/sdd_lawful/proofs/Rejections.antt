@@ -1,40 +1,13 @@
 -- The history of a permitted log keeps the law of rejections.
 use Rattle.std.proofs.Common.{ℕ, suc, ◌++◌, ◌<◌, ◌∙◌, ◌∷◌, ◌≡◌, List, None, Some, [], ap, append_assoc, arith, length, refl, slice_get, subst, sym}
-use Rattle.sdd_invariants.specs.base.Numbers.{txn_no}
-use Rattle.sdd_invariants.specs.base.Words.{head_of}
-use Rattle.sdd_invariants.specs.base.declared.condition.Cond.{Cond}
-use Rattle.sdd_invariants.specs.base.declared.number.ClassNo.{ClassNo}
-use Rattle.sdd_invariants.specs.base.declared.number.DmNo.{DmNo}
-use Rattle.sdd_invariants.specs.base.declared.number.Ts.{Ts}
-use Rattle.sdd_invariants.specs.base.declared.number.TxnNo.{TxnNo}
-use Rattle.sdd_invariants.specs.base.declared.site.Site.{Site}
-use Rattle.sdd_invariants.specs.wire.declared.msg.Msg.{Msg}
-use Rattle.sdd_invariants.specs.base.declared.site.Site.TheVariants.{D}
-use Rattle.sdd_invariants.specs.catalog.Rules.{IsSound}
-use Rattle.sdd_invariants.specs.history.declared.record.Rec.{Rec}
-use Rattle.sdd_invariants.specs.history.declared.record.Rec.TheVariants.{Reject as Rejected, Start}
-use Rattle.sdd_invariants.specs.protocol.Protocols.{IsTable}
-use Rattle.sdd_invariants.specs.site_module.SiteLog.{Act, Records, Setting}
+use Rattle.sdd_invariants.specs.All.{Act, ClassNo, Cond, D, DmNo, Does, Entry, Given, IsPermitted, IsSound, IsStep, IsTable, Log, Msg, Queued, Rec, Records, Setting, Site, Start, Ts, TxnNo, active, bound, commit_act, force_at, head_of, history, home, home_of, local_of, queue, redeclares, setting_of, spoils, txn_no, view_of}
+use Rattle.sdd_invariants.specs.history.declared.record.Rec.TheVariants.{Reject as Rejected}
 use Rattle.sdd_invariants.specs.site_module.SiteLog as site
-use Rattle.sdd_invariants.specs.attempt.Acts.{commit_act}
-use Rattle.sdd_invariants.specs.attempt.Attempts.{active}
-use Rattle.sdd_invariants.specs.attempt.Queues.{Queued, queue}
-use Rattle.sdd_invariants.specs.dm.Due.{spoils}
-use Rattle.sdd_invariants.specs.dm.Views.{home_of, view_of}
-use Rattle.sdd_invariants.specs.logs.Entries.{Does, Entry, Given, Log, history}
-use Rattle.sdd_invariants.specs.logs.Locals.{force_at, local_of, redeclares, setting_of}
-use Rattle.sdd_invariants.specs.logs.Permitted.{IsPermitted}
 use Rattle.sdd_invariants.proofs.logs.EachLocal.{allowed_act}
-use Rattle.sdd_laws.specs.Conditions.{IsConditionOf, conditions_of}
-use Rattle.sdd_laws.specs.Deeds.{AppliedBefore}
-use Rattle.sdd_laws.specs.Eras.{Eras, in_force}
-use Rattle.sdd_laws.specs.Rejections.{IsAgain, KeepsRejections}
-use Rattle.sdd_laws.specs.serial_orders.Attempts.{Attempt, IsAttempt}
-use Rattle.sdd_laws.specs.serial_orders.Places.{Stands, event_at}
+use Rattle.sdd_laws.specs.All.{AppliedBefore, Attempt, Eras, IsAgain, IsAttempt, IsConditionOf, KeepsRejections, Stands, conditions_of, event_at, in_force}
 use Rattle.sdd_invariants.proofs.Again.{again}
 use Rattle.sdd_invariants.proofs.Active.{step_way}
 use Rattle.sdd_invariants.proofs.AreReadSteps.{d_step}
-use Rattle.sdd_invariants.specs.Steps.{IsStep, bound, home}
 use Rattle.sdd_invariants.proofs.Made.{permitted_before}
 use Rattle.sdd_lawful.specs.Given.{AreErasOf}
 use Rattle.sdd_lawful.proofs.Answered.{IsReadIn, read_of_some}

@@ -4,33 +4,18 @@ use Rattle.std.specs.List.{Contains, flat_map}
 use Rattle.std.proofs.Common.{ℕ, suc, ◌==◌, ◌∙◌, ◌∷◌, ◌≡◌, ◌≤◌, ◌⊎◌, Bool, List, Option, [], ap, arith, inl, inr, length, map, refl, subst, sym, true}
 use Rattle.std.proofs.lemmas.Bool.{eqb-true}
 use Rattle.std.proofs.lemmas.List.Elements.{Contains-append_left, Contains-append_right, Contains-append_cases, recursion_from_All}
-use Rattle.sdd_invariants.specs.base.Numbers.{dm_no}
-use Rattle.sdd_invariants.specs.base.declared.change.Change.{Change}
-use Rattle.sdd_invariants.specs.base.declared.number.RelNo.{RelNo}
-use Rattle.sdd_invariants.specs.base.declared.site.Site.TheVariants.{D}
-use Rattle.sdd_invariants.specs.catalog.Catalogue.{Catalogue, fragment_at, fragment_of, has_copy}
-use Rattle.sdd_invariants.specs.catalog.Rules.{IsSound}
+use Rattle.sdd_invariants.specs.All.{Catalogue, Change, D, Database, Given, IsDatabase, IsEntry, IsPermitted, IsSound, Item, Log, Rec, RelNo, Row, applied, change_of, database_of, dated, dm_no, first_row, fragment_at, fragment_of, has_copy, history, item_cmp, local_of, setting_of}
 use Rattle.sdd_laws.proofs.LookUps.{one_entry}
 use Rattle.sdd_laws.proofs.Members.{Contains-filter, Contains-flat_map, Contains-from_filter, Contains-from_flat_map, Contains-from_map, Contains-map, each_has}
 use Rattle.sdd_laws.proofs.copy.Order.{order_tells_nothing}
-use Rattle.sdd_laws.specs.copy.Contents.{Dated, contents, of_fragment, rows_left}
-use Rattle.sdd_laws.specs.copy.Sets.{DatesDiffer}
-use Rattle.sdd_invariants.specs.history.declared.record.Rec.{Rec}
-use Rattle.sdd_invariants.specs.lang.Database.{Database, Item, Row, database_of, item_cmp}
-use Rattle.sdd_invariants.specs.lang.Effect.{change_of}
-use Rattle.sdd_invariants.specs.lang.Sound.{IsDatabase, IsEntry}
+use Rattle.sdd_laws.specs.All.{Committed, Dated, DatesDiffer, Eras, committed, contents, of_fragment, rows_left}
 use Rattle.sdd_invariants.proofs.lang.EffectChanges.{AreMade, effect_made, entry_placed}
 use Rattle.sdd_invariants.proofs.lang.SortedEntries.{item_cmp_exact, item_cmp_total, sorted_nil}
 use Rattle.sdd_invariants.proofs.lang.StaysDatabase.{rows_make_database}
 use Rattle.sdd_invariants.specs.site_module.SiteLog.{Log as SiteLog}
-use Rattle.sdd_invariants.specs.dm.Copies.{applied, classes_of, dated, first_row}
-use Rattle.sdd_invariants.specs.logs.Entries.{Given, Log, history}
-use Rattle.sdd_invariants.specs.logs.Locals.{local_of, setting_of}
-use Rattle.sdd_invariants.specs.logs.Permitted.{IsPermitted}
-use Rattle.sdd_laws.specs.Eras.{Eras}
+use Rattle.sdd_invariants.specs.dm.Copies.{classes_of}
 use Rattle.sdd_laws.specs.Snapshots as laws
 use Rattle.sdd_laws.proofs.Applied.{applied_before as applied_till, before_applied}
-use Rattle.sdd_laws.specs.serial_orders.Attempts.{Committed, committed}
 use Rattle.sdd_laws.proofs.serial_orders.Found.{from_committed, in_committed}
 use Rattle.sdd_laws.proofs.serial_orders.Places.{same_start}
 use Rattle.sdd_invariants.proofs.Bools.{true_or_false}

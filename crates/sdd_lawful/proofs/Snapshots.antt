@@ -2,34 +2,11 @@
 use Rattle.std.specs.List.{flat_map}
 use Rattle.std.proofs.Common.{ℕ, ◌++◌, ◌∙◌, ◌∷◌, ◌≡◌, ◌⊎◌, Bool, List, Option, Some, [], ap, append_assoc, false, inl, inr, length, refl, subst, sym, true}
 use Rattle.std.proofs.lemmas.Bool.{eqb-true}
-use Rattle.sdd_invariants.specs.base.Numbers.{class_no, dm_no, time_at, txn_no}
-use Rattle.sdd_invariants.specs.base.declared.condition.Cond.{Cond}
-use Rattle.sdd_invariants.specs.base.declared.number.ClassNo.{ClassNo}
-use Rattle.sdd_invariants.specs.base.declared.usage.Use.{Use}
-use Rattle.sdd_invariants.specs.base.declared.number.DmNo.{DmNo}
-use Rattle.sdd_invariants.specs.base.declared.number.Ts.{Ts}
-use Rattle.sdd_invariants.specs.base.declared.number.TxnNo.{TxnNo}
-use Rattle.sdd_invariants.specs.base.declared.site.Site.{Site}
-use Rattle.sdd_invariants.specs.base.declared.site.Site.TheVariants.{D}
-use Rattle.sdd_invariants.specs.catalog.Rules.{IsSound}
-use Rattle.sdd_invariants.specs.history.declared.record.Rec.{Rec}
-use Rattle.sdd_invariants.specs.history.declared.record.Rec.TheVariants.{Answer}
-use Rattle.sdd_invariants.specs.wire.declared.msg.Msg.{Msg}
-use Rattle.sdd_invariants.specs.wire.declared.msg.Msg.TheVariants.{Read}
+use Rattle.sdd_invariants.specs.All.{Act, Answer, ClassNo, Cond, D, Did, DmNo, Does, Given, Handed, IsPermitted, IsSound, Log, Msg, Read, Rec, Records, Redeclared, Sends, Setting, Site, Submits, Ticked, Ts, TxnNo, Use, class_no, dated, dm_no, frags_asked, head, history, is_at, items_of, local_of, pipe, setting_of, snapshots, time_at, txn_no}
 use Rattle.sdd_invariants.specs.site_module.SiteLog as site
-use Rattle.sdd_invariants.specs.site_module.SiteLog.{Act, Did, Handed, Log as SiteLog, Records, Redeclared, Sends, Setting, Submits, Ticked}
-use Rattle.sdd_invariants.specs.dm.Copies.{dated}
-use Rattle.sdd_invariants.specs.dm.Pipes.{pipe}
-use Rattle.sdd_invariants.specs.pipe.Pipe.{head}
-use Rattle.sdd_invariants.specs.logs.Entries.{Does, Given, Log, history}
-use Rattle.sdd_invariants.specs.logs.Locals.{local_of, setting_of}
-use Rattle.sdd_invariants.specs.logs.Permitted.{IsPermitted}
-use Rattle.sdd_invariants.specs.logs.Snapshots.{frags_asked, is_at, items_of, snapshots}
+use Rattle.sdd_invariants.specs.site_module.SiteLog.{Log as SiteLog}
 use Rattle.sdd_invariants.proofs.logs.EachLocal.{allowed_act}
-use Rattle.sdd_laws.specs.Deeds.{IsAnswered}
-use Rattle.sdd_laws.specs.Eras.{Eras}
-use Rattle.sdd_laws.specs.serial_orders.Attempts.{Attempt, IsAttempt}
-use Rattle.sdd_laws.specs.serial_orders.Places.{Stands}
+use Rattle.sdd_laws.specs.All.{Attempt, Eras, IsAnswered, IsAttempt, Stands}
 use Rattle.sdd_laws.proofs.serial_orders.Places.{same_start}
 use Rattle.sdd_invariants.proofs.AreReadSteps.{d_step}
 use Rattle.sdd_invariants.proofs.Bools.{not_both, true_or_false}

@@ -1,27 +1,10 @@
 -- The Starts of a history, as acts of the sites that run their classes.
 use Rattle.std.proofs.Common.{ℕ, ◌++◌, ◌∙◌, ◌∷◌, ◌≡◌, List, Option, Some, ap, arith, false, length, refl, subst, sym, true}
-use Rattle.sdd_invariants.specs.base.Numbers.{class_no, time_at, txn_no}
-use Rattle.sdd_invariants.specs.base.declared.number.ClassNo.{ClassNo}
-use Rattle.sdd_invariants.specs.base.declared.number.Ts.{Ts}
-use Rattle.sdd_invariants.specs.base.declared.number.TxnNo.{TxnNo}
-use Rattle.sdd_invariants.specs.base.declared.usage.Use.{Use}
-use Rattle.sdd_invariants.specs.base.declared.site.Site.{Site}
-use Rattle.sdd_invariants.specs.catalog.Rules.{IsSound}
-use Rattle.sdd_invariants.specs.history.declared.record.Rec.{Rec}
-use Rattle.sdd_invariants.specs.history.declared.record.Rec.TheVariants.{Start}
-use Rattle.sdd_invariants.specs.wire.declared.msg.Msg.{Msg}
-use Rattle.sdd_invariants.specs.site_module.SiteLog.{Act, Did, Records, Sends, in_force}
-use Rattle.sdd_invariants.specs.attempt.Queues.{is_for}
+use Rattle.sdd_invariants.specs.All.{Act, AllCommitted, ClassNo, Did, Does, Entry, Given, Hand, IsPermitted, IsSound, IsStartRecord, Log, Mark, Msg, Notes, Rec, Records, Redeclares, Round, Sends, Site, Start, Submitted, Ts, TxnNo, Use, class_no, history, home, in_force, is_for, local_of, setting_of, submits_of, time_at, txn_no}
 use Rattle.sdd_invariants.specs.site_module.SiteLog as site
-use Rattle.sdd_invariants.specs.logs.Entries.{Does, Entry, Given, Hand, Log, Mark, Notes, Redeclares, Round, Submitted, history}
-use Rattle.sdd_invariants.specs.logs.Locals.{local_of, setting_of}
-use Rattle.sdd_invariants.specs.logs.Permitted.{IsPermitted}
-use Rattle.sdd_invariants.specs.OfRecords.{AllCommitted, IsStartRecord}
-use Rattle.sdd_laws.specs.serial_orders.Attempts.{Attempt, IsAttempt}
-use Rattle.sdd_laws.specs.serial_orders.Places.{Stands}
+use Rattle.sdd_laws.specs.All.{Attempt, IsAttempt, Stands}
 use Rattle.sdd_invariants.proofs.Starting.{says_at}
 use Rattle.sdd_invariants.proofs.Applied.{own_made}
-use Rattle.sdd_invariants.specs.Steps.{home, submits_of}
 use Rattle.sdd_invariants.proofs.Made.{local_at, permitted_before, place_of_submit}
 use Rattle.sdd_lawful.specs.Made.{IsMadeAt, record_of}
 use Rattle.sdd_lawful.proofs.Classes.{IsForClass, IsGivenTo, at_home, class_given, given_in, home_setting, one_class}

@@ -4,40 +4,16 @@ use Rattle.std.proofs.Common.{ℕ, ◌++◌, ◌<◌, ◌==◌, ◌∙◌, ◌�
 use Rattle.std.proofs.Math.Decide.{dec_le}
 use Rattle.std.proofs.Math.Nat.{mul-add-mod_self_right}
 use Rattle.std.proofs.lemmas.Bool.{eqb-true}
-use Rattle.sdd_invariants.specs.base.Numbers.{class_no, time_at, tm_no, txn_no}
-use Rattle.sdd_invariants.specs.base.Sites.{number_of}
-use Rattle.sdd_invariants.specs.base.Words.{head_of}
-use Rattle.sdd_invariants.specs.base.declared.number.TmNo.{TmNo}
-use Rattle.sdd_invariants.specs.base.declared.number.Ts.{Ts}
-use Rattle.sdd_invariants.specs.base.declared.site.Site.{Site}
-use Rattle.sdd_invariants.specs.base.declared.site.Site.TheVariants.{T}
-use Rattle.sdd_invariants.specs.catalog.Catalogue.{Catalogue, class_at, numbers_to}
-use Rattle.sdd_invariants.specs.catalog.Rules.{IsSound}
-use Rattle.sdd_invariants.specs.history.declared.record.Rec.TheVariants.{Start, Submit}
-use Rattle.sdd_invariants.specs.wire.declared.msg.Msg.{Msg}
-use Rattle.sdd_invariants.specs.lang.Classes.{class_for, covers}
-use Rattle.sdd_invariants.specs.lang.declared.transaction.Txn.{Txn}
-use Rattle.sdd_invariants.specs.site_module.SiteLog.{Act, Did, Force, Records, Setting, Submits}
+use Rattle.sdd_invariants.specs.All.{Act, Catalogue, Did, Does, Force, Given, IsPermitted, IsSound, Log, Msg, Records, Setting, Site, Start, Submits, Submitted, T, TmNo, Ts, Txn, bound, class_at, class_for, class_no, clock, covers, force_at, head_of, history, home, is_committed, is_for, local_of, marks, number_of, numbers_to, p2_of, promises, redeclares, setting_of, stamps, starts_of, submits_of, time_at, tm_no, txn_at, txn_no}
+use Rattle.sdd_invariants.specs.history.declared.record.Rec.TheVariants.{Submit}
 use Rattle.sdd_invariants.specs.site_module.SiteLog as site
-use Rattle.sdd_invariants.specs.attempt.Acts.{p2_of}
-use Rattle.sdd_invariants.specs.attempt.Clocks.{clock}
-use Rattle.sdd_invariants.specs.attempt.Queues.{is_for}
 use Rattle.sdd_invariants.specs.logs.Due.{home_of}
-use Rattle.sdd_invariants.specs.logs.Entries.{Does, Given, Log, Submitted, history, marks}
-use Rattle.sdd_invariants.specs.logs.Locals.{force_at, local_of, redeclares, setting_of, txn_at}
-use Rattle.sdd_invariants.specs.logs.Permitted.{IsPermitted}
 use Rattle.sdd_invariants.proofs.Clocks.{stamps_differ}
-use Rattle.sdd_laws.specs.Deeds.{CommittedBefore, IsSubmitted}
-use Rattle.sdd_laws.specs.class_eras.EraOf.{IsEraOf}
-use Rattle.sdd_laws.specs.Eras.{Eras, in_force}
-use Rattle.sdd_laws.specs.Starts.{IsBound, IsOfSubmit, KeepsStarts}
+use Rattle.sdd_laws.specs.All.{Attempt, Committed, CommittedBefore, Eras, IsAttempt, IsBound, IsCommitted, IsEraOf, IsOfSubmit, IsSubmitted, KeepsStarts, Stands, event_at, in_force, record_at}
 use Rattle.sdd_laws.proofs.class_eras.EraSets.{covered}
 use Rattle.sdd_laws.proofs.InForce.{force_is}
 use Rattle.sdd_laws.proofs.class_eras.Lists.{first_passes}
-use Rattle.sdd_laws.specs.serial_orders.Attempts.{Attempt, Committed, IsAttempt, IsCommitted}
-use Rattle.sdd_laws.specs.serial_orders.Places.{Stands, event_at, record_at}
 use Rattle.sdd_invariants.proofs.Bools.{and_left, lower_same_higher, or_right, same_number, same_or_not}
-use Rattle.sdd_invariants.specs.Steps.{bound, home, is_committed, promises, stamps, starts_of, submits_of}
 use Rattle.sdd_invariants.proofs.Fair.{home_fair}
 use Rattle.sdd_invariants.proofs.Made.{permitted_before, place_of_act}
 use Rattle.sdd_lawful.specs.Given.{AreErasOf}

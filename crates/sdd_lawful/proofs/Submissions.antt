@@ -1,18 +1,10 @@
 -- Submissions: a transaction is given to a site right after the mark that submits it, and once.
 use Rattle.std.proofs.Common.{ℕ, ◌++◌, ◌==◌, ◌∙◌, ◌∷◌, ◌≡◌, Bool, Some, [], ap, false, inl, inr, length, not, refl, subst, sym, true}
-use Rattle.sdd_invariants.specs.base.Numbers.{txn_no}
-use Rattle.sdd_invariants.specs.base.declared.event.Event.{Event}
-use Rattle.sdd_invariants.specs.base.declared.event.Event.TheVariants.{Deliver, Down, Lose, Redeclare, Repeat, Resend, Settle, Submit, Tick, Up}
-use Rattle.sdd_invariants.specs.base.declared.number.TxnNo.{TxnNo}
-use Rattle.sdd_invariants.specs.base.declared.site.Site.{Site}
-use Rattle.sdd_invariants.specs.history.declared.record.Rec.TheVariants.{Nothing, Submit as Submission}
-use Rattle.sdd_invariants.specs.site_module.SiteLog.{Records, Sends}
-use Rattle.sdd_invariants.specs.logs.Due.{due_by, home_of, mark_due, note_if}
-use Rattle.sdd_invariants.specs.logs.Entries.{Does, Entry, Given, Hand, Log, Mark, Notes, Redeclares, Round, Submitted, history}
-use Rattle.sdd_invariants.specs.logs.Locals.{force_at, redeclares, txn_at}
-use Rattle.sdd_invariants.specs.logs.Permitted.{IsAllowed, IsPermitted, by_event, by_link, by_mark, by_redeclare, by_round, by_site, was_marked}
+use Rattle.sdd_invariants.specs.All.{Deliver, Does, Down, Entry, Event, Given, Hand, IsAllowed, IsPermitted, Log, Lose, Mark, Notes, Nothing, Records, Redeclare, Redeclares, Repeat, Resend, Round, Sends, Settle, Site, Submit, Submitted, Tick, TxnNo, Up, by_event, by_link, by_mark, by_redeclare, by_round, by_site, due_by, force_at, history, mark_due, note_if, redeclares, txn_at, txn_no, was_marked}
+use Rattle.sdd_invariants.specs.history.declared.record.Rec.TheVariants.{Submit as Submission}
+use Rattle.sdd_invariants.specs.logs.Due.{home_of}
 use Rattle.sdd_invariants.proofs.Places.{compare}
-use Rattle.sdd_laws.specs.Deeds.{IsSubmitted}
+use Rattle.sdd_laws.specs.All.{IsSubmitted}
 use Rattle.sdd_invariants.proofs.Bools.{or_left, or_right, same_number}
 use Rattle.sdd_invariants.proofs.Fair.{allowed_mark}
 use Rattle.sdd_invariants.proofs.Made.{permitted_before}

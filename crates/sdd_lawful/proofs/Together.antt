@@ -2,32 +2,13 @@
 use Rattle.std.specs.List.{AllZip}
 use Rattle.std.proofs.Common.{ℕ, ◌==◌, ◌≡◌, List, length, subst, sym}
 use Rattle.std.proofs.lemmas.Bool.{eqb-true}
-use Rattle.sdd_invariants.specs.base.declared.change.Change.{Change}
-use Rattle.sdd_invariants.specs.base.declared.number.RelNo.{RelNo}
-use Rattle.sdd_invariants.specs.base.declared.number.TxnNo.{TxnNo}
-use Rattle.sdd_invariants.specs.catalog.Catalogue.{Catalogue}
-use Rattle.sdd_invariants.specs.catalog.Rules.{IsSound}
-use Rattle.sdd_invariants.specs.lang.Agree.{rows_in_fragment}
-use Rattle.sdd_invariants.specs.lang.Database.{Row}
+use Rattle.sdd_invariants.specs.All.{Catalogue, Change, Given, IsPermitted, IsSound, Log, RelNo, Row, TxnNo, history, rows_in_fragment}
 use Rattle.sdd_invariants.proofs.lang.KeyRanges.{fragment_holds, key_in_range}
 use Rattle.sdd_invariants.proofs.lang.StaysDatabase.{rows_make_database}
-use Rattle.sdd_invariants.specs.logs.Entries.{Given, Log, history}
-use Rattle.sdd_invariants.specs.logs.Permitted.{IsPermitted}
-use Rattle.sdd_laws.specs.Eras.{Eras}
-use Rattle.sdd_laws.specs.Few.{AreFew}
-use Rattle.sdd_laws.specs.Kept.{FitTogether, KeepsLaws}
-use Rattle.sdd_laws.specs.Numbers.{TxnsExist}
-use Rattle.sdd_laws.specs.Redeclares.{KeepsEras}
-use Rattle.sdd_laws.specs.Replay.{AreAllApplied, IsReplyOf, run}
-use Rattle.sdd_laws.specs.Snapshots.{copy_at, items_of}
-use Rattle.sdd_laws.specs.Undeclared.{KeepsUndeclared}
+use Rattle.sdd_laws.specs.All.{AreAllApplied, AreFew, Committed, Eras, FitTogether, HasNoCycle, IsCommitted, IsFragment, IsOrderable, IsReplyOf, IsSerial, KeepsEras, KeepsLaws, KeepsUndeclared, NumbersExist, TxnsExist, copy_at, items_of, run}
 use Rattle.sdd_laws.proofs.Acyclic.{acyclic, orderable}
 use Rattle.sdd_laws.proofs.Few.{are_few}
 use Rattle.sdd_laws.proofs.Replayed.{gives_replies, leaves_copies}
-use Rattle.sdd_laws.specs.serial_orders.Attempts.{Committed, IsCommitted}
-use Rattle.sdd_laws.specs.serial_orders.Numbers.{IsFragment, NumbersExist}
-use Rattle.sdd_laws.specs.serial_orders.Orders.{IsOrderable, IsSerial}
-use Rattle.sdd_laws.specs.serial_orders.Precedence.{HasNoCycle}
 use Rattle.sdd_invariants.proofs.Lists.{any_at}
 use Rattle.sdd_lawful.specs.Given.{AreErasOf, HasSoundData}
 use Rattle.sdd_lawful.proofs.Applies.{keeps_applies}

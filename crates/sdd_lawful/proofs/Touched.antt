@@ -6,22 +6,11 @@ use Rattle.std.proofs.Common.{ℕ, suc, ◌-◌, ◌<◌, ◌==◌, ◌∙◌, �
 use Rattle.std.proofs.Math.Decide.{dec_le}
 use Rattle.std.proofs.lemmas.Bool.{eqb-true}
 use Rattle.std.proofs.lemmas.List.{get_or_past}
-use Rattle.sdd_invariants.specs.base.Numbers.{dm_no}
-use Rattle.sdd_invariants.specs.base.declared.change.Change.{Change}
-use Rattle.sdd_invariants.specs.base.declared.number.DmNo.{DmNo}
-use Rattle.sdd_invariants.specs.catalog.Catalogue.{Catalogue, fragment_at, has_copy}
-use Rattle.sdd_invariants.specs.catalog.Numbers.{IsPlaced}
-use Rattle.sdd_invariants.specs.catalog.Rules.{IsSound}
-use Rattle.sdd_invariants.specs.catalog.declared.resolved.Fragment.{Fragment}
+use Rattle.sdd_invariants.specs.All.{Catalogue, Change, DmNo, Fragment, Given, IsPlaced, IsSound, Log, changes_at, changes_to, dm_no, fragment_at, has_copy}
 use Rattle.sdd_invariants.proofs.catalog.Sound.{at_number, sound_fragments}
-use Rattle.sdd_invariants.specs.logs.Entries.{Given, Log}
-use Rattle.sdd_laws.specs.Deeds.{GoesTo, Touches, by_change, by_no_class}
-use Rattle.sdd_laws.specs.serial_orders.Attempts.{Committed}
-use Rattle.sdd_laws.specs.serial_orders.Numbers.{IsModule}
-use Rattle.sdd_invariants.specs.Seen.{changes_to}
+use Rattle.sdd_laws.specs.All.{Committed, GoesTo, IsModule, Touches, by_change, by_no_class}
 use Rattle.sdd_invariants.proofs.Bools.{or_left, or_right, same_number, true_or_false}
 use Rattle.sdd_invariants.proofs.Lists.{any_at}
-use Rattle.sdd_invariants.specs.Steps.{changes_at}
 use Rattle.sdd_lawful.proofs.Committed.{IsCommittedIn}
 
 -- a module with a copy is there

@@ -1,43 +1,17 @@
 -- The history of a permitted log keeps the law of undeclared transactions.
 use Rattle.std.proofs.Common.{ℕ, suc, ◌++◌, ◌<◌, ◌==◌, ◌∙◌, ◌∷◌, ◌≡◌, ◌≢◌, ◌≤◌, ◌⊎◌, Some, [], ap, append_assoc, arith, false, inl, inr, length, map, refl, slice_get, subst, sym, true}
-use Rattle.sdd_invariants.specs.base.Numbers.{dm_no, frag_no, tm_no}
-use Rattle.sdd_invariants.specs.base.Sites.{number_of}
-use Rattle.sdd_invariants.specs.base.declared.condition.Cond.{Cond}
-use Rattle.sdd_invariants.specs.base.declared.site.Site.{Site}
-use Rattle.sdd_invariants.specs.base.declared.site.Site.TheVariants.{D, T, U}
-use Rattle.sdd_invariants.specs.catalog.Catalogue.{Catalogue, class_at, numbers_to}
-use Rattle.sdd_invariants.specs.catalog.Rules.{IsSound}
+use Rattle.sdd_invariants.specs.All.{Act, Apply, Bases, Catalogue, Cond, D, Does, Done, Entry, Given, HasApply, IsPermitted, IsSound, Log, Queued, Rec, Records, Setting, Site, T, U, bound, class_at, classes_of, commit_act, cond_of, dm_no, frag_no, fragments_of, history, home, home_of, next_stamp, number_of, numbers_to, p2_of, setting_of, start_at, start_u, tm_no, u_stamp, undeclared_conditions, uses_of}
 use Rattle.sdd_invariants.proofs.catalog.Sound.{sound_whole}
-use Rattle.sdd_invariants.specs.graph.Graph.{classes_of, fragments_of}
-use Rattle.sdd_invariants.specs.history.declared.record.Rec.{Rec}
-use Rattle.sdd_invariants.specs.history.declared.record.Rec.TheVariants.{Apply}
-use Rattle.sdd_invariants.specs.lang.Uses.{uses_of}
-use Rattle.sdd_invariants.specs.protocol.Conditions.{cond_of, undeclared_conditions}
-use Rattle.sdd_invariants.specs.site_module.SiteLog.{Act, Bases, Records, Setting}
 use Rattle.sdd_invariants.specs.site_module.SiteLog as site
-use Rattle.sdd_invariants.specs.attempt.Acts.{commit_act, p2_of}
-use Rattle.sdd_invariants.specs.attempt.Queues.{Queued}
-use Rattle.sdd_invariants.specs.dm.Views.{home_of}
-use Rattle.sdd_invariants.specs.logs.Entries.{Does, Entry, Given, Log, history}
-use Rattle.sdd_invariants.specs.logs.Locals.{setting_of}
-use Rattle.sdd_invariants.specs.logs.Permitted.{IsPermitted}
 use Rattle.sdd_invariants.proofs.Apart.{low_or_high}
 use Rattle.sdd_invariants.proofs.Dones.{all_applied}
 use Rattle.sdd_invariants.proofs.Undeclared.{commit_t, zero_applied, zero_pair}
-use Rattle.sdd_invariants.specs.Barrier.{HasApply, start_u, u_stamp}
-use Rattle.sdd_laws.specs.Deeds.{AppliedBefore, GoesTo, IsAnswered, Touches, by_change, by_no_class}
-use Rattle.sdd_laws.specs.Eras.{Eras}
-use Rattle.sdd_laws.specs.Undeclared.{IsWhollyAfter, IsWhollyBefore, KeepsUndeclared}
-use Rattle.sdd_laws.specs.serial_orders.Attempts.{Attempt, Committed, IsAttempt, IsCommitted}
-use Rattle.sdd_laws.specs.serial_orders.Numbers.{IsModule}
-use Rattle.sdd_laws.specs.serial_orders.Places.{Stands}
+use Rattle.sdd_laws.specs.All.{AppliedBefore, Attempt, Committed, Eras, GoesTo, IsAnswered, IsAttempt, IsCommitted, IsModule, IsWhollyAfter, IsWhollyBefore, KeepsUndeclared, Stands, Touches, by_change, by_no_class}
 use Rattle.sdd_laws.proofs.serial_orders.Places.{commit_of, same_start}
 use Rattle.sdd_invariants.proofs.Bools.{lower_same_higher, same_number, same_or_not}
-use Rattle.sdd_invariants.specs.Steps.{bound, home, next_stamp, start_at}
 use Rattle.sdd_invariants.proofs.Made.{permitted_before}
 use Rattle.sdd_lawful.specs.Given.{AreErasOf}
 use Rattle.sdd_lawful.specs.Made.{IsMadeAt}
-use Rattle.sdd_invariants.specs.wire.declared.msg.Msg.TheVariants.{Done}
 use Rattle.sdd_lawful.proofs.Answered.{answer_in, answer_rec, conds_sent}
 use Rattle.sdd_lawful.proofs.Applied.{apply_rec}
 use Rattle.sdd_lawful.proofs.Applies.{of_commit}

@@ -4,53 +4,20 @@ use Rattle.std.specs.List.{All, AllByRecursion, flat_map, fold, range_with_len}
 use Rattle.std.proofs.Common.{ℕ, ℤ, ◌&&◌, ◌++◌, ◌+◌, ◌-◌, ◌==◌, ◌∙◌, ◌∷◌, ◌≡◌, ◌≤◌, Bool, List, Some, [], ap, append_assoc, arith, cond, false, inl, inr, map, refl, slice_get, subst, suc, sym, true, zero}
 use Rattle.std.proofs.lemmas.Bool.{eqb-true}
 use Rattle.std.proofs.lemmas.List.Elements.{recursion_from_All}
-use Rattle.sdd_invariants.specs.base.Numbers.{dm_no, tm_no}
-use Rattle.sdd_invariants.specs.base.Words.{head_of}
-use Rattle.sdd_invariants.specs.base.declared.change.Change.{Change}
-use Rattle.sdd_invariants.specs.base.declared.number.DmNo.{DmNo}
-use Rattle.sdd_invariants.specs.base.declared.number.RelNo.{RelNo}
-use Rattle.sdd_invariants.specs.base.declared.site.Site.{Site}
-use Rattle.sdd_invariants.specs.base.declared.site.Site.TheVariants.{D, T, U}
-use Rattle.sdd_invariants.specs.catalog.Catalogue.{Catalogue, class_at, fragment_at, has_copy, numbers_to}
-use Rattle.sdd_invariants.specs.catalog.Rules.{IsSound}
+use Rattle.sdd_invariants.specs.All.{Act, Answer, Apply, Attempt as Running, Bases, Catalogue, Change, D, Database, Did, DmNo, Does, Fits, FitsStatement, Given, Handed, HasRow, IsBased, IsChange, IsEntry, IsPermitted, IsSound, IsWrite, Item, Log, Msg, PutsHeld, Rec, Records, Redeclared, RelNo, Row, Sends, Setting, Site, Submits, T, Ticked, Txn, U, Write, active, applied, base_of, changes_in, changes_to, class_at, commit_act, database_of, dated, dm_no, effect, first_row, first_rows, fragment_at, frags_asked, has_copy, head, head_of, home, is_apply, is_at, item_cmp, items_of, local_of, numbers_to, pipe, queue, rows_of, sends_of_act, setting_of, snapshots, snapshots_at, start_at, tm_no, to_site, txn_at, with_item}
 use Rattle.sdd_laws.proofs.CopyEntries.{held_by}
 use Rattle.sdd_laws.proofs.Members.{all_have, each_has}
-use Rattle.sdd_laws.specs.copy.Contents.{Dated}
-use Rattle.sdd_invariants.specs.history.declared.record.Rec.{Rec}
-use Rattle.sdd_invariants.specs.history.declared.record.Rec.TheVariants.{Answer, Apply}
-use Rattle.sdd_invariants.specs.lang.Changes.{HasRow, IsChange}
-use Rattle.sdd_invariants.specs.lang.Database.{Database, Item, Row, database_of, item_cmp}
-use Rattle.sdd_invariants.specs.lang.Effect.{effect}
-use Rattle.sdd_invariants.specs.lang.Fits.{Fits, FitsStatement}
-use Rattle.sdd_invariants.specs.lang.Sound.{IsEntry, PutsHeld}
-use Rattle.sdd_invariants.specs.lang.declared.transaction.Txn.{Txn}
+use Rattle.sdd_laws.specs.All.{Dated, IsModule}
 use Rattle.sdd_invariants.proofs.lang.EffectChanges.{entry_placed}
 use Rattle.sdd_invariants.proofs.lang.SortedEntries.{each_inserted, item_cmp_exact}
 use Rattle.sdd_invariants.proofs.lang.StaysDatabase.{effect_changes, rows_make_database}
-use Rattle.sdd_invariants.specs.wire.declared.msg.Msg.{Msg}
-use Rattle.sdd_invariants.specs.wire.declared.msg.Msg.TheVariants.{Write}
 use Rattle.sdd_invariants.specs.site_module.SiteLog as site
-use Rattle.sdd_invariants.specs.site_module.SiteLog.{Act, Bases, Did, Handed, Log as SiteLog, Records, Redeclared, Sends, Setting, Submits, Ticked, sends_of_act}
-use Rattle.sdd_invariants.specs.attempt.Acts.{commit_act}
-use Rattle.sdd_invariants.specs.attempt.Attempts.{Attempt as Running, active}
-use Rattle.sdd_invariants.specs.attempt.Queues.{queue}
-use Rattle.sdd_invariants.specs.dm.Copies.{applied, changes_in, classes_of, dated, first_row, first_rows, is_apply}
-use Rattle.sdd_invariants.specs.dm.Pipes.{pipe}
-use Rattle.sdd_invariants.specs.pipe.Pipe.{head}
-use Rattle.sdd_invariants.specs.logs.Entries.{Does, Given, Log}
-use Rattle.sdd_invariants.specs.logs.Locals.{local_of, rows_of, setting_of, txn_at}
-use Rattle.sdd_invariants.specs.logs.Permitted.{IsPermitted}
-use Rattle.sdd_invariants.specs.logs.Snapshots.{base_of, frags_asked, is_at, items_of, snapshots, snapshots_at, with_item}
+use Rattle.sdd_invariants.specs.site_module.SiteLog.{Log as SiteLog}
+use Rattle.sdd_invariants.specs.dm.Copies.{classes_of}
 use Rattle.sdd_invariants.proofs.Recorded.{start_of_active}
-use Rattle.sdd_invariants.specs.Puts.{IsWrite}
-use Rattle.sdd_laws.specs.serial_orders.Numbers.{IsModule}
 use Rattle.sdd_invariants.proofs.Installed.{apply_of_head, class_number, commit_put_is, head_put}
 use Rattle.sdd_invariants.proofs.Starting.{t_commit, u_commit}
-use Rattle.sdd_invariants.specs.Causes.{IsBased}
-use Rattle.sdd_invariants.specs.Seen.{changes_to}
 use Rattle.sdd_invariants.proofs.Bools.{and_left, and_right, if_way, true_or_false}
-use Rattle.sdd_invariants.specs.Steps.{home, start_at}
-use Rattle.sdd_invariants.specs.Traffic.{to_site}
 use Rattle.sdd_invariants.proofs.Fair.{home_fair}
 use Rattle.sdd_invariants.proofs.Made.{permitted_before, place_of_act}
 use Rattle.sdd_lawful.specs.Given.{HasSoundData}

@@ -1,21 +1,8 @@
 -- What is given is sound; and the eras of a log.
 use Rattle.std.specs.Prelude.{ℕ, ◌≡◌, ◌≤◌, ◌∷◌, ◌++◌, List, [], length}
 use Rattle.std.specs.List.{All}
-use Rattle.sdd_invariants.specs.base.Numbers.{dm_no}
-use Rattle.sdd_invariants.specs.base.declared.event.Event.TheVariants.{Submit}
-use Rattle.sdd_invariants.specs.base.declared.number.RelNo.{RelNo}
-use Rattle.sdd_invariants.specs.base.declared.number.TxnNo.{TxnNo}
-use Rattle.sdd_invariants.specs.base.declared.site.Site.TheVariants.{D}
-use Rattle.sdd_invariants.specs.catalog.Catalogue.{Catalogue}
-use Rattle.sdd_invariants.specs.catalog.Rules.{IsSound}
-use Rattle.sdd_invariants.specs.lang.Database.{Row}
-use Rattle.sdd_invariants.specs.lang.Fits.{Fits, FitsStart}
-use Rattle.sdd_invariants.specs.lang.Sound.{IsHeld, PutsHeld}
-use Rattle.sdd_invariants.specs.logs.Entries.{Given, Log, Mark, marks}
-use Rattle.sdd_invariants.specs.logs.Locals.{IsForce, force_at, redeclares, rows_of}
-use Rattle.sdd_invariants.specs.logs.Permitted.{AreSubmittedOnce, submits_in}
-use Rattle.sdd_laws.specs.serial_orders.Numbers.{IsFrom1To, IsModule}
-use Rattle.sdd_laws.specs.Eras.{Eras, AreEras, in_force}
+use Rattle.sdd_invariants.specs.All.{AreSubmittedOnce, Catalogue, D, Fits, FitsStart, Given, IsForce, IsHeld, IsSound, Log, Mark, PutsHeld, RelNo, Row, Submit, TxnNo, dm_no, force_at, marks, redeclares, rows_of, submits_in}
+use Rattle.sdd_laws.specs.All.{AreEras, Eras, IsFrom1To, IsModule, in_force}
 
 -- the catalogue is valid
 pub record IsSoundGiven (g : Given) : Type 0 where

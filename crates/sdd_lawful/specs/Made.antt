@@ -1,10 +1,7 @@
 -- Which entry of the one log made a record of its history.
 use Rattle.std.specs.Prelude.{ℕ, ◌≡◌, ◌∷◌, ◌++◌, length, Option, Some, None}
-use Rattle.sdd_invariants.specs.base.Numbers.{txn_no}
-use Rattle.sdd_invariants.specs.history.declared.record.Rec.{Rec}
-use Rattle.sdd_invariants.specs.history.declared.record.Rec.TheVariants.{Submit, Nothing}
-use Rattle.sdd_invariants.specs.site_module.SiteLog.{Records}
-use Rattle.sdd_invariants.specs.logs.Entries.{Entry, Log, Submitted, Notes, Does, history}
+use Rattle.sdd_invariants.specs.All.{Does, Entry, Log, Notes, Nothing, Rec, Records, Submitted, history, txn_no}
+use Rattle.sdd_invariants.specs.history.declared.record.Rec.TheVariants.{Submit}
 
 -- an entry makes one record, or none
 abbrev pub record_of : Entry → Option Rec

@@ -1,23 +1,7 @@
 ghost use Rattle.std.specs.Prelude.{◌≡◌, ℕ, List, length};
 ghost use Rattle.std.specs.List.{AllZip};
-ghost use Rattle.sdd_invariants.specs.base.declared.number.RelNo.{RelNo};
-ghost use Rattle.sdd_invariants.specs.base.declared.number.TxnNo.{TxnNo};
-ghost use Rattle.sdd_invariants.specs.lang.Agree.{rows_in_fragment};
-ghost use Rattle.sdd_invariants.specs.lang.Database.{Row};
-ghost use Rattle.sdd_invariants.specs.logs.Entries.{Given, Log, history};
-ghost use Rattle.sdd_invariants.specs.logs.Lawful.{IsLawful};
-ghost use Rattle.sdd_invariants.specs.logs.Locals.{IsForce, force_at, redeclares};
-ghost use Rattle.sdd_invariants.specs.logs.Permitted.{IsPermitted};
-ghost use Rattle.sdd_laws.specs.Eras.{Eras};
-ghost use Rattle.sdd_laws.specs.Few.{AreFew};
-ghost use Rattle.sdd_laws.specs.Kept.{KeepsLaws};
-ghost use Rattle.sdd_laws.specs.Numbers.{TxnsExist};
-ghost use Rattle.sdd_laws.specs.Redeclares.{KeepsEras};
-ghost use Rattle.sdd_laws.specs.Replay.{AreAllApplied, IsReplyOf, run};
-ghost use Rattle.sdd_laws.specs.Snapshots.{copy_at, items_of};
-ghost use Rattle.sdd_laws.specs.serial_orders.Numbers.{NumbersExist};
-ghost use Rattle.sdd_laws.specs.serial_orders.Orders.{IsOrderable, IsSerial};
-ghost use Rattle.sdd_laws.specs.serial_orders.Precedence.{HasNoCycle};
+ghost use Rattle.sdd_invariants.specs.All.{Given, IsForce, IsLawful, IsPermitted, Log, RelNo, Row, TxnNo, force_at, history, redeclares, rows_in_fragment};
+ghost use Rattle.sdd_laws.specs.All.{AreAllApplied, AreFew, Eras, HasNoCycle, IsOrderable, IsReplyOf, IsSerial, KeepsEras, KeepsLaws, NumbersExist, TxnsExist, copy_at, items_of, run};
 ghost use Rattle.sdd_lawful.specs.Given.{AreErasOf, AreNumbered, HasSoundData, IsSoundGiven, SubmitGiven, one_era};
 
 /// All laws by which there is a serial order. That of eras is taken: it holds of lawful logs alone.

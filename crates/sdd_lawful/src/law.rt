@@ -1,19 +1,6 @@
 ghost use Rattle.std.specs.Prelude.{◌≡◌, ◌<◌, ◌++◌, ◌∷◌, ℕ, List, length, Some};
-ghost use Rattle.sdd_invariants.specs.base.declared.number.RelNo.{RelNo};
-ghost use Rattle.sdd_invariants.specs.lang.Database.{Row};
-ghost use Rattle.sdd_invariants.specs.history.declared.record.Rec.{Rec};
-ghost use Rattle.sdd_invariants.specs.logs.Entries.{Entry, Given, Log, history, marks};
-ghost use Rattle.sdd_invariants.specs.logs.Locals.{IsForce, force_at, redeclares};
-ghost use Rattle.sdd_invariants.specs.logs.Permitted.{IsPermitted};
-ghost use Rattle.sdd_laws.specs.serial_orders.Places.{Stands, event_at};
-ghost use Rattle.sdd_laws.specs.Answers.{KeepsAnswers};
-ghost use Rattle.sdd_laws.specs.Applies.{KeepsApplies};
-ghost use Rattle.sdd_laws.specs.Conditions.{KeepsConditions};
-ghost use Rattle.sdd_laws.specs.Eras.{Eras};
-ghost use Rattle.sdd_laws.specs.Redeclares.{KeepsEras};
-ghost use Rattle.sdd_laws.specs.Rejections.{KeepsRejections};
-ghost use Rattle.sdd_laws.specs.Starts.{KeepsStarts};
-ghost use Rattle.sdd_laws.specs.Undeclared.{KeepsUndeclared};
+ghost use Rattle.sdd_invariants.specs.All.{Entry, Given, IsForce, IsPermitted, Log, Rec, RelNo, Row, force_at, history, marks, redeclares};
+ghost use Rattle.sdd_laws.specs.All.{Eras, KeepsAnswers, KeepsApplies, KeepsConditions, KeepsEras, KeepsRejections, KeepsStarts, KeepsUndeclared, Stands, event_at};
 ghost use Rattle.sdd_lawful.specs.Given.{AreErasOf, HasSoundData, IsSoundGiven, one_era};
 ghost use Rattle.sdd_lawful.specs.Made.{IsBefore, IsMadeAt, record_of};
 

@@ -2,13 +2,9 @@
 use Rattle.std.proofs.Common.{List, ap}
 use Rattle.std.specs.Prelude.{is_some}
 use Rattle.std.specs.List.{All}
-use Rattle.sdd_lang.specs.base.declared.number.RelNo.{RelNo}
-use Rattle.sdd_lang.specs.catalog.Catalogue.{Catalogue}
-use Rattle.sdd_lang.specs.catalog.Rules.{IsSound}
+use Rattle.sdd_lang.specs.All.{Catalogue, IsDatabase, IsSound, PutsHeld, RelNo, Row, database_of}
 use Rattle.sdd_history.specs.Records.{History}
 use Rattle.sdd_lang.specs.declared.transaction.Txn.{Txn as Text}
-use Rattle.sdd_lang.specs.Database.{Row, database_of}
-use Rattle.sdd_lang.specs.Sound.{IsDatabase, PutsHeld}
 use Rattle.sdd_order.specs.Attempts.{Committed, IsCommitted}
 use Rattle.sdd_order.specs.Orders.{IsOrderable}
 use Rattle.sdd_order.specs.Places.{event_at}

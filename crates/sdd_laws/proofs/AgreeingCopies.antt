@@ -1,12 +1,9 @@
 -- Copies of modules that began with different rows are equal too, where these rows agree on the fragment.
 use Rattle.std.proofs.Common.{ℕ, ◌++◌, ◌==◌, ◌≡◌, ◌∙◌, ◌∷◌, List, [], ap, cond, false, map, refl, sym, true}
 use Rattle.std.specs.Prelude.{filter, flat_map}
-use Rattle.sdd_lang.specs.base.declared.number.RelNo.{RelNo}
-use Rattle.sdd_lang.specs.catalog.Catalogue.{Catalogue, fragment_of}
+use Rattle.sdd_lang.specs.All.{Catalogue, Database, RelNo, Row, database_of, fragment_of, rows_in_fragment}
 use Rattle.sdd_copy.specs.Contents.{Dated, of_fragment, rows_left}
 use Rattle.sdd_history.specs.Records.{History}
-use Rattle.sdd_lang.specs.Agree.{rows_in_fragment}
-use Rattle.sdd_lang.specs.Database.{Database, Row, database_of}
 use Rattle.sdd_order.specs.Attempts.{Committed, committed}
 use Rattle.sdd_laws.specs.Agreeing.{AgreeOnFragment}
 use Rattle.sdd_laws.specs.Copied.{AreAppliedAlike}

@@ -5,10 +5,7 @@ use Rattle.std.specs.List.Sorted.{IsStrictlySortedBy}
 use Rattle.std.specs.Map.{keys_of}
 use Rattle.std.specs.BTreeMap.{is_at}
 use Rattle.sdd_lang.proofs.base.Membership.{Contains-nil, Contains-here, Contains-later, Contains-cases}
-use Rattle.sdd_lang.specs.base.declared.change.Change.{Change}
-use Rattle.sdd_lang.specs.catalog.Catalogue.{Catalogue}
-use Rattle.sdd_lang.specs.Database.{Item, Row, Database, item_cmp}
-use Rattle.sdd_lang.specs.Serial.{item_of, set_to, changed_by, after_changes}
+use Rattle.sdd_lang.specs.All.{Catalogue, Change, Database, Item, Row, after_changes, changed_by, item_cmp, item_of, set_to}
 use Rattle.sdd_lang.proofs.SortedEntries.{item_cmp_total, item_cmp_exact, inserted_sorted, removed_sorted}
 use Rattle.sdd_laws.specs.Values.{row_at}
 use Rattle.sdd_laws.proofs.LookUps.{key_or_not, test_own, test_other, put_in, taken_out}

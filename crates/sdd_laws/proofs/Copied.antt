@@ -4,15 +4,8 @@ use Rattle.std.specs.Prelude.{Contains}
 use Rattle.std.specs.List.{AllByRecursion}
 use Rattle.std.proofs.lemmas.Bool.{eqb-false}
 use Rattle.std.proofs.lemmas.List.{length-map}
-use Rattle.sdd_lang.specs.base.Numbers.{dm_no}
-use Rattle.sdd_lang.specs.base.declared.number.DmNo.{DmNo}
+use Rattle.sdd_lang.specs.All.{Catalogue, DmNo, Fragment, FragmentPart, IsPlaced, IsSound, Parts, dm_no, fragment_at, fragment_from, fragment_rules, has_copy, lowest_copy, numbers_to, parts_of, relation_names}
 use Rattle.sdd_lang.proofs.base.Membership.{Contains-here}
-use Rattle.sdd_lang.specs.catalog.Catalogue.{Catalogue, parts_of, fragment_from, fragment_at, relation_names, has_copy, lowest_copy, numbers_to}
-use Rattle.sdd_lang.specs.catalog.Numbers.{IsPlaced}
-use Rattle.sdd_lang.specs.catalog.Rules.{IsSound, fragment_rules}
-use Rattle.sdd_lang.specs.catalog.declared.parts.FragmentPart.{FragmentPart}
-use Rattle.sdd_lang.specs.catalog.declared.parts.Parts.{Parts}
-use Rattle.sdd_lang.specs.catalog.declared.resolved.Fragment.{Fragment}
 use Rattle.sdd_lang.proofs.catalog.Found.{both_empty, each_unfound, empty_of_map}
 use Rattle.sdd_lang.proofs.catalog.Sound.{at_number, each_image, sound_fragments}
 use Rattle.sdd_lang.proofs.catalog.Validity.{no_faults, unbroken}

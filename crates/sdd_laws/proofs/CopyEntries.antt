@@ -8,10 +8,7 @@ use Rattle.std.specs.Map.{keys_of}
 use Rattle.std.proofs.lemmas.Bool.Decides.{Decides-eqb}
 use Rattle.std.proofs.lemmas.Cmp.{nat_cmp_total, tied_itself}
 use Rattle.std.proofs.lemmas.Map.Keys.{sorted_head, sorted_tail}
-use Rattle.sdd_lang.specs.base.declared.change.Change.{Change}
-use Rattle.sdd_lang.specs.catalog.Catalogue.{Catalogue, fragment_at, fragment_of}
-use Rattle.sdd_lang.specs.Database.{Item, Row, item_cmp}
-use Rattle.sdd_lang.specs.Serial.{item_of}
+use Rattle.sdd_lang.specs.All.{Catalogue, Change, Item, Row, fragment_at, fragment_of, item_cmp, item_of}
 use Rattle.sdd_copy.specs.Contents.{Dated, contents}
 use Rattle.sdd_laws.specs.Committed.{entries_of}
 use Rattle.sdd_laws.specs.Values.{ArePlaced}

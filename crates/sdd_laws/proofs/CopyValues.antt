@@ -1,10 +1,7 @@
 -- A copy holds the values of the items of its fragment.
 use Rattle.std.proofs.Common.{ℕ, ℤ, ◌≡◌, ◌↔◌, Bool, List, Some, sym, subst}
 use Rattle.std.specs.List.{Contains, filter}
-use Rattle.sdd_lang.specs.catalog.Catalogue.{Catalogue, fragment_at, fragment_of}
-use Rattle.sdd_lang.specs.catalog.Rules.{IsSound}
-use Rattle.sdd_lang.specs.Database.{Row, Database}
-use Rattle.sdd_lang.specs.Sound.{IsDatabase}
+use Rattle.sdd_lang.specs.All.{Catalogue, Database, IsDatabase, IsSound, Row, fragment_at, fragment_of}
 use Rattle.sdd_copy.specs.Sets.{AreSame}
 use Rattle.sdd_copy.proofs.Order.{order_tells_nothing}
 use Rattle.sdd_copy.specs.Contents.{Dated, contents}

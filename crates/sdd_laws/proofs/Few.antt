@@ -6,14 +6,11 @@ use Rattle.std.specs.Cmp.{nat_eq_equiv}
 use Rattle.std.proofs.lemmas.Bool.{cases_Bool, cases_lt, ne_eqb, eqb-true}
 use Rattle.std.proofs.lemmas.Map.Made.{length-le_from_is_member}
 use Rattle.std.proofs.lemmas.Option.{same_Some}
-use Rattle.sdd_lang.specs.base.Numbers.{txn_no}
-use Rattle.sdd_lang.specs.base.declared.number.Ts.{Ts}
-use Rattle.sdd_lang.specs.catalog.Catalogue.{Catalogue}
+use Rattle.sdd_lang.specs.All.{Catalogue, Ts, class_for, txn_no}
 use Rattle.sdd_history.specs.declared.record.Rec.{Rec}
 use Rattle.sdd_history.specs.declared.record.Rec.TheVariants.{Submit, Start, Arrive, Wait, Answer, Reject, Commit, Apply, Pass, Nothing}
 use Rattle.sdd_history.specs.Records.{History}
 use Rattle.sdd_lang.specs.declared.transaction.Txn.{Txn}
-use Rattle.sdd_lang.specs.Classes.{class_for}
 use Rattle.sdd_order.specs.Attempts.{Attempt, Committed, IsAttempt, IsCommitted}
 use Rattle.sdd_order.specs.Places.{Stands, event_at}
 use Rattle.sdd_laws.specs.Deeds.{txn_at}

@@ -5,24 +5,12 @@ use Rattle.std.specs.List.{All, AllByRecursion}
 use Rattle.std.proofs.lemmas.Bool.{ne_eqb, eqb-true}
 use Rattle.std.proofs.lemmas.List.Elements.{All-contains}
 use Rattle.std.proofs.lemmas.Option.{same_Some}
-use Rattle.sdd_lang.specs.base.Numbers.{frag_no, txn_no}
-use Rattle.sdd_lang.specs.base.Words.{ascending, contains}
-use Rattle.sdd_lang.specs.base.declared.change.Change.{Change}
-use Rattle.sdd_lang.specs.base.declared.condition.Cond.{Cond}
-use Rattle.sdd_lang.specs.base.declared.number.FragNo.{FragNo}
-use Rattle.sdd_lang.specs.base.declared.number.RelNo.{RelNo}
-use Rattle.sdd_lang.specs.catalog.Catalogue.{Catalogue, has_copy, reads_at}
-use Rattle.sdd_lang.specs.catalog.Rules.{IsSound}
-use Rattle.sdd_lang.specs.catalog.declared.resolved.Fragment.{Fragment}
+use Rattle.sdd_lang.specs.All.{Catalogue, Change, Cond, Fits as TextFits, FragNo, Fragment, IsDatabase, IsSound, RelNo, Row, ascending, contains, frag_no, fragments_in, has_copy, reads_at, txn_no, write_set}
 use Rattle.sdd_history.specs.declared.record.Rec.{Rec}
 use Rattle.sdd_history.specs.declared.record.Rec.TheVariants.{Commit}
 use Rattle.sdd_history.specs.Records.{History}
 use Rattle.sdd_lang.specs.declared.effect.Effect.{Effect}
 use Rattle.sdd_lang.specs.declared.transaction.Txn.{Txn as Text}
-use Rattle.sdd_lang.specs.Classes.{fragments_in, write_set}
-use Rattle.sdd_lang.specs.Database.{Row}
-use Rattle.sdd_lang.specs.Fits.{Fits as TextFits}
-use Rattle.sdd_lang.specs.Sound.{IsDatabase}
 use Rattle.sdd_lang.proofs.EffectChanges.{lie_in_write_set}
 use Rattle.sdd_lang.proofs.ReadSetDecides.{ascending_back}
 use Rattle.sdd_protocol.specs.Conditions.{conditions, undeclared_conditions}

@@ -2,12 +2,7 @@
 use Rattle.std.proofs.Common.{ℕ, ◌≡◌, ◌==◌, ℤ, List, Option, Some, ap, sym, ◌∙◌, subst}
 use Rattle.std.specs.List.{Contains}
 use Rattle.std.proofs.lemmas.Bool.Decides.{Decides-eqb}
-use Rattle.sdd_lang.specs.base.declared.change.Change.{Change}
-use Rattle.sdd_lang.specs.catalog.Catalogue.{Catalogue, fragment_at, fragment_of}
-use Rattle.sdd_lang.specs.catalog.Rules.{IsSound}
-use Rattle.sdd_lang.specs.Agree.{rows_in_fragment}
-use Rattle.sdd_lang.specs.Database.{Item, Row, Database, item_cmp}
-use Rattle.sdd_lang.specs.Sound.{IsDatabase}
+use Rattle.sdd_lang.specs.All.{Catalogue, Change, Database, IsDatabase, IsSound, Item, Row, fragment_at, fragment_of, item_cmp, rows_in_fragment}
 use Rattle.sdd_lang.proofs.SortedEntries.{item_cmp_total, item_cmp_exact, filtered_sorted}
 use Rattle.sdd_copy.specs.Contents.{Dated, contents}
 use Rattle.sdd_laws.specs.Committed.{all_dated, entries_of}

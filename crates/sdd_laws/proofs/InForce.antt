@@ -2,7 +2,7 @@
 use Rattle.std.proofs.Common.{ℕ, ◌-◌, ◌<◌, ◌≤◌, nat_le, true, false, cond, [], ◌∷◌, length, get_or, arith}
 use Rattle.std.specs.Prelude.{filter}
 use Rattle.std.proofs.lemmas.Option.{slice_get-get_or, slice_get_within}
-use Rattle.sdd_lang.specs.catalog.Catalogue.{Catalogue}
+use Rattle.sdd_lang.specs.All.{Catalogue}
 use Rattle.sdd_eras.specs.EraOf.{IsEraOf}
 use Rattle.sdd_laws.specs.Eras.{Eras, AreEras, begun, in_force}
 

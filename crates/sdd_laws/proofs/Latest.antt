@@ -9,8 +9,7 @@ use Rattle.std.specs.BTreeMap.{is_at}
 use Rattle.std.proofs.lemmas.Bool.Decides.{nat_tests}
 use Rattle.std.proofs.lemmas.Cmp.{int_cmp_total}
 use Rattle.std.proofs.lemmas.Map.Lookups.{exact_signed}
-use Rattle.sdd_lang.specs.base.declared.change.Change.{Change}
-use Rattle.sdd_lang.specs.Database.{Row}
+use Rattle.sdd_lang.specs.All.{Change, Row}
 use Rattle.sdd_copy.specs.Contents.{Dated, latest, of_fragment, contents}
 use Rattle.sdd_copy.specs.Items.{Items, row_at, entries_in, items_of}
 use Rattle.sdd_copy.proofs.Contents.{Above, Ascends, Keeps, shown, items_keep, items_tell}

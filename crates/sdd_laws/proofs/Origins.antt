@@ -3,12 +3,7 @@
 use Rattle.std.proofs.Common.{ℕ, ◌≡◌, inl, inr, List, map, Some, ap, sym, ◌∙◌, subst, arith}
 use Rattle.std.specs.List.{Contains}
 use Rattle.std.proofs.lemmas.List.Elements.{Contains-append_left, Contains-append_right, Contains-append_cases, All-contains}
-use Rattle.sdd_lang.specs.base.declared.change.Change.{Change}
-use Rattle.sdd_lang.specs.catalog.Catalogue.{Catalogue, fragment_at, fragment_of}
-use Rattle.sdd_lang.specs.catalog.Rules.{IsSound}
-use Rattle.sdd_lang.specs.Database.{Item, Row, Database, item_cmp}
-use Rattle.sdd_lang.specs.Serial.{item_of}
-use Rattle.sdd_lang.specs.Sound.{IsDatabase, IsEntry}
+use Rattle.sdd_lang.specs.All.{Catalogue, Change, Database, IsDatabase, IsEntry, IsSound, Item, Row, fragment_at, fragment_of, item_cmp, item_of}
 use Rattle.sdd_lang.proofs.EffectChanges.{entry_placed}
 use Rattle.sdd_lang.proofs.SortedEntries.{item_cmp_total, item_cmp_exact}
 use Rattle.sdd_copy.specs.Items.{dated}

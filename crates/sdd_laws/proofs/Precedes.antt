@@ -3,13 +3,10 @@ use Rattle.std.proofs.Common.{ℕ, subst, ◌==◌, ◌≡◌, ◌≢◌, nat_lt
 use Rattle.std.specs.Prelude.{Contains}
 use Rattle.std.specs.List.{list_any}
 use Rattle.std.proofs.lemmas.Bool.{and_parts, eqb-true, eqb-false, not-true, ltb-true, false≢true}
-use Rattle.sdd_lang.specs.base.declared.change.Change.{Change}
-use Rattle.sdd_lang.specs.catalog.Catalogue.{Catalogue}
-use Rattle.sdd_lang.specs.base.Numbers.{dm_no, txn_no}
+use Rattle.sdd_lang.specs.All.{Catalogue, Change, dm_no, fragments_in, txn_no}
 use Rattle.sdd_history.specs.declared.record.Rec.{Rec}
 use Rattle.sdd_history.specs.declared.record.Rec.TheVariants.{Submit, Start, Arrive, Wait, Answer, Reject, Commit, Apply, Pass, Nothing}
 use Rattle.sdd_history.specs.Records.{History}
-use Rattle.sdd_lang.specs.Classes.{fragments_in}
 use Rattle.sdd_order.specs.Attempts.{Attempt, Committed, IsCommitted, reads, changes}
 use Rattle.sdd_order.specs.Paths.{IsPath, IsOrderly}
 use Rattle.sdd_order.specs.Places.{Stands}

@@ -3,14 +3,10 @@ use Rattle.std.proofs.Common.{ℕ, ◌≤◌, ◌≡◌, true, List, Option, Som
 use Rattle.std.specs.Prelude.{is_some, unwrap_or}
 use Rattle.std.proofs.lemmas.Bool.{cases_lt}
 use Rattle.std.proofs.lemmas.List.Elements.{recursion_from_All}
-use Rattle.sdd_lang.specs.base.Words.{contains}
-use Rattle.sdd_lang.specs.catalog.Catalogue.{Catalogue, has_copy, reads_at}
-use Rattle.sdd_lang.specs.catalog.Rules.{IsSound}
+use Rattle.sdd_lang.specs.All.{Catalogue, IsSound, contains, fragments_in, has_copy, read_set, reads_at, uses_of}
 use Rattle.sdd_lang.proofs.catalog.Sound.{served_read}
 use Rattle.sdd_history.specs.Records.{History}
 use Rattle.sdd_lang.specs.declared.transaction.Txn.{Txn}
-use Rattle.sdd_lang.specs.Classes.{fragments_in, read_set}
-use Rattle.sdd_lang.specs.Uses.{uses_of}
 use Rattle.sdd_lang.proofs.Sets.{IsThere, read_set_there}
 use Rattle.sdd_lang.proofs.ReadSetDecides.{ascending_back}
 use Rattle.sdd_order.specs.Attempts.{Attempt, IsAttempt, reads}

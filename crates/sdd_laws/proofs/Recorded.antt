@@ -4,23 +4,14 @@ use Rattle.std.specs.Prelude.{filter, unwrap_or, Contains}
 use Rattle.std.specs.List.{All, list_any, flat_map, position_or_len}
 use Rattle.std.proofs.lemmas.Bool.{cases_Bool}
 use Rattle.std.proofs.lemmas.List.Elements.{All-contains, All-nil}
-use Rattle.sdd_lang.specs.base.Numbers.{dm_no, tm_no, txn_no}
-use Rattle.sdd_lang.specs.base.Words.{ascending, contains}
-use Rattle.sdd_lang.specs.base.declared.number.RelNo.{RelNo}
+use Rattle.sdd_lang.specs.All.{Catalogue, Fits, IsDatabase, IsSound, Item, PutsHeld, RelNo, Row, ascending, contains, database_of, dm_no, effect, fragments_in, read_set, tm_no, txn_no}
 use Rattle.sdd_lang.proofs.base.Membership.{Contains-here, Contains-later}
-use Rattle.sdd_lang.specs.catalog.Catalogue.{Catalogue}
-use Rattle.sdd_lang.specs.catalog.Rules.{IsSound}
 use Rattle.sdd_laws.proofs.Members.{Contains-flat_map, Contains-from_flat_map}
 use Rattle.sdd_copy.specs.Contents.{contents}
 use Rattle.sdd_history.specs.declared.record.Rec.{Rec}
 use Rattle.sdd_history.specs.declared.record.Rec.TheVariants.{Answer}
 use Rattle.sdd_history.specs.Records.{History}
 use Rattle.sdd_lang.specs.declared.transaction.Txn.{Txn as Text}
-use Rattle.sdd_lang.specs.Classes.{fragments_in, read_set}
-use Rattle.sdd_lang.specs.Database.{Item, Row, database_of}
-use Rattle.sdd_lang.specs.Effect.{effect}
-use Rattle.sdd_lang.specs.Fits.{Fits}
-use Rattle.sdd_lang.specs.Sound.{IsDatabase, PutsHeld}
 use Rattle.sdd_lang.proofs.Sets.{All-ascending}
 use Rattle.sdd_protocol.proofs.Tables.{all_at}
 use Rattle.sdd_laws.specs.Ledger.{Ledger, Reads, snapshot as snapshot_by}

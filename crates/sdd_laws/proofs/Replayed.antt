@@ -2,17 +2,9 @@
 use Rattle.std.proofs.Common.{ℕ, ◌≡◌, true, List, [], ◌∷◌, map, Some, refl, sym, ap, ◌∙◌, subst}
 use Rattle.std.specs.List.{All, AllZip, cons_option}
 use Rattle.sdd_lang.proofs.base.Membership.{Contains-here}
-use Rattle.sdd_lang.specs.base.declared.number.RelNo.{RelNo}
-use Rattle.sdd_lang.specs.base.declared.number.TxnNo.{TxnNo}
-use Rattle.sdd_lang.specs.catalog.Catalogue.{Catalogue}
-use Rattle.sdd_lang.specs.catalog.Rules.{IsSound}
+use Rattle.sdd_lang.specs.All.{Catalogue, Fits, IsDatabase, IsSound, PutsHeld, RelNo, Row, TxnNo, database_of, rows_in_fragment, serial}
 use Rattle.sdd_history.specs.Records.{History}
 use Rattle.sdd_lang.specs.declared.transaction.Txn.{Txn}
-use Rattle.sdd_lang.specs.Agree.{rows_in_fragment}
-use Rattle.sdd_lang.specs.Database.{Row, database_of}
-use Rattle.sdd_lang.specs.Fits.{Fits}
-use Rattle.sdd_lang.specs.Serial.{serial}
-use Rattle.sdd_lang.specs.Sound.{IsDatabase, PutsHeld}
 use Rattle.sdd_laws.specs.Ledger.{Ledger}
 use Rattle.sdd_laws.specs.Replayed.{IsReplayed}
 use Rattle.sdd_laws.proofs.Run.{replayed}

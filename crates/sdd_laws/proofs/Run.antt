@@ -4,15 +4,8 @@ use Rattle.std.specs.List.{Contains, filter}
 use Rattle.std.proofs.lemmas.Bool.{false≢true}
 use Rattle.std.proofs.lemmas.List.Elements.{All-from_recursion}
 use Rattle.sdd_lang.proofs.base.Membership.{Contains-nil, Contains-here, Contains-later, Contains-cases}
-use Rattle.sdd_lang.specs.catalog.Catalogue.{Catalogue}
-use Rattle.sdd_lang.specs.catalog.Rules.{IsSound}
+use Rattle.sdd_lang.specs.All.{Catalogue, Database, IsDatabase, IsSound, after_changes, after_reply, effect, read_set, rows_in_fragment, serial}
 use Rattle.sdd_lang.specs.declared.effect.Effect.{Effect}
-use Rattle.sdd_lang.specs.Agree.{rows_in_fragment}
-use Rattle.sdd_lang.specs.Classes.{read_set}
-use Rattle.sdd_lang.specs.Database.{Database}
-use Rattle.sdd_lang.specs.Effect.{effect}
-use Rattle.sdd_lang.specs.Serial.{after_changes, after_reply, serial}
-use Rattle.sdd_lang.specs.Sound.{IsDatabase}
 use Rattle.sdd_lang.proofs.ReadSetDecides.{read_set_decides}
 use Rattle.sdd_lang.proofs.StaysDatabase.{stays_database}
 use Rattle.sdd_laws.proofs.Members.{all_have, Contains-filter, Contains-from_filter}

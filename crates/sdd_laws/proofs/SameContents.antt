@@ -4,9 +4,7 @@ use Rattle.std.specs.List.{Contains, filter}
 use Rattle.std.proofs.lemmas.Bool.{cases_Bool}
 use Rattle.std.proofs.lemmas.Bool.Decides.{Decides-eqb}
 use Rattle.sdd_lang.proofs.base.Membership.{Contains-here, Contains-later}
-use Rattle.sdd_lang.specs.base.declared.change.Change.{Change}
-use Rattle.sdd_lang.specs.catalog.Catalogue.{Catalogue}
-use Rattle.sdd_lang.specs.Database.{Database}
+use Rattle.sdd_lang.specs.All.{Catalogue, Change, Database}
 use Rattle.sdd_copy.specs.Contents.{Dated, of_fragment, rows_left}
 use Rattle.sdd_copy.specs.Items.{dated}
 use Rattle.sdd_laws.specs.Committed.{Writers, first_row, changes_of, counts, taken, copy_of}

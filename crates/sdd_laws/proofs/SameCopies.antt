@@ -1,11 +1,9 @@
 -- Copies at which the same transactions that change the fragment are applied are equal.
 use Rattle.std.proofs.Common.{ℕ, ◌≡◌, subst, true, List}
-use Rattle.sdd_lang.specs.base.declared.number.RelNo.{RelNo}
-use Rattle.sdd_lang.specs.catalog.Catalogue.{Catalogue}
+use Rattle.sdd_lang.specs.All.{Catalogue, RelNo, Row, database_of}
 use Rattle.sdd_laws.specs.Committed.{Writers}
 use Rattle.sdd_laws.proofs.SameContents.{same_copies}
 use Rattle.sdd_history.specs.Records.{History}
-use Rattle.sdd_lang.specs.Database.{Row, database_of}
 use Rattle.sdd_order.specs.Attempts.{Committed, changes, committed}
 use Rattle.sdd_order.proofs.Found.{from_committed}
 use Rattle.sdd_laws.specs.Copied.{AreAppliedAlike}

@@ -3,15 +3,8 @@ use Rattle.std.proofs.Common.{ℕ, zero, suc, ◌≡◌, ◌<◌, ℤ, true, Lis
 use Rattle.std.specs.List.{Contains, fold, filter}
 use Rattle.std.proofs.lemmas.List.Elements.{All-contains}
 use Rattle.sdd_lang.proofs.base.Membership.{Contains-here, Contains-later}
-use Rattle.sdd_lang.specs.base.declared.change.Change.{Change}
-use Rattle.sdd_lang.specs.catalog.Catalogue.{Catalogue, fragment_at, fragment_of}
-use Rattle.sdd_lang.specs.catalog.Rules.{IsSound}
+use Rattle.sdd_lang.specs.All.{Catalogue, Change, Database, HasRow, IsChange, IsDatabase, IsEntry, IsSound, Item, Row, fragment_at, fragment_of, item_of, rows_in_fragment}
 use Rattle.sdd_lang.specs.declared.effect.Effect.{Effect}
-use Rattle.sdd_lang.specs.Agree.{rows_in_fragment}
-use Rattle.sdd_lang.specs.Changes.{HasRow, IsChange}
-use Rattle.sdd_lang.specs.Database.{Item, Row, Database}
-use Rattle.sdd_lang.specs.Serial.{item_of}
-use Rattle.sdd_lang.specs.Sound.{IsDatabase, IsEntry}
 use Rattle.sdd_lang.proofs.EffectChanges.{change_is, effect_placed, effect_once, entry_placed}
 use Rattle.sdd_lang.proofs.StaysDatabase.{no_database, with_row_stays}
 use Rattle.sdd_copy.specs.Contents.{Dated, contents}

@@ -3,13 +3,7 @@ use Rattle.std.proofs.Common.{ℕ, ◌≡◌, ◌≤◌, ◌<◌, ◌⊎◌, inl
 use Rattle.std.specs.List.{Contains}
 use Rattle.std.proofs.lemmas.Bool.Decides.{nat_tests}
 use Rattle.sdd_lang.proofs.base.Membership.{Contains-nil, Contains-here, Contains-later, Contains-cases}
-use Rattle.sdd_lang.specs.base.Numbers.{time_at}
-use Rattle.sdd_lang.specs.base.declared.change.Change.{Change}
-use Rattle.sdd_lang.specs.catalog.Catalogue.{Catalogue, fragment_of}
-use Rattle.sdd_lang.specs.catalog.Rules.{IsSound}
-use Rattle.sdd_lang.specs.Database.{Item, Row, Database, item_cmp}
-use Rattle.sdd_lang.specs.Serial.{item_of, after_changes}
-use Rattle.sdd_lang.specs.Sound.{IsDatabase}
+use Rattle.sdd_lang.specs.All.{Catalogue, Change, Database, IsDatabase, IsSound, Item, Row, after_changes, fragment_of, item_cmp, item_of, time_at}
 use Rattle.sdd_lang.proofs.SortedEntries.{item_cmp_total, item_cmp_exact}
 use Rattle.sdd_laws.specs.Committed.{first_row, all_dated}
 use Rattle.sdd_laws.specs.Values.{IsValue, AreWriters, row_at}

@@ -2,14 +2,8 @@
 use Rattle.std.proofs.Common.{ℕ, ◌≡◌, ◌==◌, true, false, not, cond, List, [], ◌∷◌, Option, Some, None, refl, sym, ap, ◌∙◌, ◌⊎◌, inl, inr}
 use Rattle.std.specs.Prelude.{is_some, unwrap_or, option_map, map, Contains}
 use Rattle.std.specs.Option.{option_or}
-use Rattle.sdd_lang.specs.base.Numbers.{frag_no}
-use Rattle.sdd_lang.specs.base.Words.{ascending}
-use Rattle.sdd_lang.specs.base.declared.condition.Cond.{Cond}
-use Rattle.sdd_lang.specs.base.declared.number.FragNo.{FragNo}
-use Rattle.sdd_lang.specs.base.declared.number.Ts.{Ts}
-use Rattle.sdd_lang.specs.catalog.Catalogue.{Catalogue}
+use Rattle.sdd_lang.specs.All.{Catalogue, Cond, FragNo, Ts, ascending, frag_no, fragments_in}
 use Rattle.sdd_graph.specs.Graph.{classes_of, fragments_of}
-use Rattle.sdd_lang.specs.Classes.{fragments_in}
 use Rattle.sdd_protocol.specs.Conditions.{is_asked, asked_by, cond_of, cond_for, condition_on, conditions, undeclared_conditions}
 use Rattle.sdd_protocol.specs.declared.entry.Entry.{Entry}
 use Rattle.sdd_protocol.specs.declared.protocol.Protocol.TheVariants.{P2, P3}

@@ -5,9 +5,7 @@ use Rattle.std.specs.List.Sorted.{IsStrictlySortedBy}
 use Rattle.std.specs.Map.{keys_of}
 use Rattle.std.proofs.lemmas.Bool.Decides.{Decides-eqb}
 use Rattle.sdd_lang.proofs.base.Membership.{Contains-nil}
-use Rattle.sdd_lang.specs.catalog.Catalogue.{Catalogue, fragment_of}
-use Rattle.sdd_lang.specs.Agree.{rows_in_fragment}
-use Rattle.sdd_lang.specs.Database.{Item, Row, Database, item_cmp}
+use Rattle.sdd_lang.specs.All.{Catalogue, Database, Item, Row, fragment_of, item_cmp, rows_in_fragment}
 use Rattle.sdd_lang.proofs.SortedEntries.{item_cmp_total, item_cmp_exact, sorted_nil, filtered_sorted}
 use Rattle.sdd_laws.proofs.Gathered.{with_entry, gathered_from, gathered_there, gathered_sorted}
 use Rattle.sdd_laws.proofs.LookUps.{one_entry, same_members}

@@ -2,10 +2,7 @@
 use Rattle.std.proofs.Common.{ℕ, ◌≡◌, ◌≤◌, ◌==◌, ℤ, false, nat_lt, Option, Some, None, refl, ap, sym, ◌∙◌, arith}
 use Rattle.std.specs.List.{Contains}
 use Rattle.std.proofs.lemmas.Bool.Decides.{Decides-eqb, nat_tests}
-use Rattle.sdd_lang.specs.base.declared.change.Change.{Change}
-use Rattle.sdd_lang.specs.catalog.Catalogue.{Catalogue, fragment_at, fragment_of}
-use Rattle.sdd_lang.specs.Database.{Item, Row}
-use Rattle.sdd_lang.specs.Serial.{item_of}
+use Rattle.sdd_lang.specs.All.{Catalogue, Change, Item, Row, fragment_at, fragment_of, item_of}
 use Rattle.sdd_copy.specs.Contents.{Dated, latest, of_fragment, contents}
 use Rattle.sdd_copy.proofs.Order as latest_of
 use Rattle.sdd_laws.specs.Values.{IsLatest, IsValue, ArePlaced, LeaveOneRow}

@@ -2,7 +2,7 @@
 use Rattle.std.proofs.Common.{ℕ, ◌≤◌, ◌≡◌, ◌*◌, inl, inr, List, [], ◌∷◌, refl, sym, ◌∙◌, subst, arith}
 use Rattle.std.specs.List.{Contains}
 use Rattle.sdd_lang.proofs.base.Membership.{Contains-nil, Contains-cases}
-use Rattle.sdd_lang.specs.Examples.{accounts}
+use Rattle.sdd_lang.specs.All.{accounts}
 use Rattle.sdd_laws.specs.Committed.{puts}
 use Rattle.sdd_laws.specs.Values.{IsPlaced, AreWriters}
 

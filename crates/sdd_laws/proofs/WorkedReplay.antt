@@ -4,15 +4,10 @@ use Rattle.std.specs.List.{Contains}
 use Rattle.std.proofs.lemmas.Bool.{false≢true}
 use Rattle.std.proofs.lemmas.List.Elements.{All-from_recursion}
 use Rattle.sdd_lang.proofs.base.Membership.{Contains-nil, Contains-here, Contains-cases}
-use Rattle.sdd_lang.specs.base.Numbers.{frag_no}
+use Rattle.sdd_lang.specs.All.{FitsCondition, FitsRef, FitsStatement, IsHeld, IsRelation, Item, PutsHeld, Row, accounts, effect, frag_no, get_all, ref, rel, two, txn}
 use Rattle.sdd_lang.specs.declared.statement.Stmt.{Stmt}
 use Rattle.sdd_lang.specs.declared.statement.Stmt.TheVariants.{Put}
 use Rattle.sdd_lang.specs.declared.transaction.Txn.{Txn}
-use Rattle.sdd_lang.specs.Database.{Item, Row}
-use Rattle.sdd_lang.specs.Effect.{effect}
-use Rattle.sdd_lang.specs.Examples.{rel, ref, two, accounts, txn, get_all}
-use Rattle.sdd_lang.specs.Fits.{FitsStatement, FitsRef, FitsCondition, IsRelation}
-use Rattle.sdd_lang.specs.Sound.{PutsHeld, IsHeld}
 use Rattle.sdd_laws.specs.declared.meeting.Meeting.{Meeting}
 use Rattle.sdd_laws.specs.declared.meeting.Meeting.TheVariants.{ReadWrite}
 use Rattle.sdd_laws.specs.Ledger.{Ledger, Reads, snapshot, gathered}

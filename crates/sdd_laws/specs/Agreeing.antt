@@ -1,10 +1,6 @@
 -- Rows with which two modules begin, and which agree on a fragment.
 use Rattle.std.specs.Prelude.{ℕ, ◌≡◌, List, [], ◌∷◌, refl}
-use Rattle.sdd_lang.specs.base.Numbers.{rel_no}
-use Rattle.sdd_lang.specs.base.declared.number.RelNo.{RelNo}
-use Rattle.sdd_lang.specs.catalog.Catalogue.{Catalogue}
-use Rattle.sdd_lang.specs.Agree.{rows_in_fragment}
-use Rattle.sdd_lang.specs.Database.{Row, database_of}
+use Rattle.sdd_lang.specs.All.{Catalogue, RelNo, Row, database_of, rel_no, rows_in_fragment}
 use Rattle.sdd_order.specs.Examples.{crossing, row_of}
 
 -- the databases that they make have the same entries in the fragment

@@ -1,13 +1,9 @@
 -- The law of Answers and Commits (H2).
 use Rattle.std.specs.Prelude.{ℕ, ◌≡◌, List, Some}
-use Rattle.sdd_lang.specs.base.Numbers.{dm_no, txn_no}
-use Rattle.sdd_lang.specs.base.declared.number.RelNo.{RelNo}
-use Rattle.sdd_lang.specs.catalog.Catalogue.{Catalogue}
+use Rattle.sdd_lang.specs.All.{Catalogue, RelNo, Row, dm_no, effect, txn_no}
 use Rattle.sdd_history.specs.declared.record.Rec.TheVariants.{Answer}
 use Rattle.sdd_history.specs.Records.{History}
 use Rattle.sdd_lang.specs.declared.transaction.Txn.{Txn}
-use Rattle.sdd_lang.specs.Database.{Row}
-use Rattle.sdd_lang.specs.Effect.{effect}
 use Rattle.sdd_order.specs.Attempts.{Committed, IsCommitted, HasCommit}
 use Rattle.sdd_order.specs.Places.{Stands}
 use Rattle.sdd_laws.specs.Deeds.{txn_at, Asks, AnsweredBefore, StartedBefore}

@@ -1,7 +1,6 @@
 -- The law of Applies (H3). The class of a transaction is that in its Start.
 use Rattle.std.specs.Prelude.{ℕ, ◌<◌, ◌≡◌}
-use Rattle.sdd_lang.specs.base.Numbers.{class_no, dm_no, txn_no, time_at}
-use Rattle.sdd_lang.specs.catalog.Catalogue.{Catalogue}
+use Rattle.sdd_lang.specs.All.{Catalogue, class_no, dm_no, time_at, txn_no}
 use Rattle.sdd_history.specs.declared.record.Rec.TheVariants.{Apply}
 use Rattle.sdd_history.specs.Records.{History}
 use Rattle.sdd_order.specs.Attempts.{Committed, IsCommitted}

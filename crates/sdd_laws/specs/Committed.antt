@@ -1,11 +1,7 @@
 -- What the copies of a module hold of the changes of committed transactions.
 use Rattle.std.specs.Prelude.{ℕ, ◌*◌, ◌==◌, ◌≡◌, ℤ, pos, Bool, true, false, ◌&&◌, List, [], ◌∷◌, ◌++◌, filter, map, Some, refl}
 use Rattle.std.specs.List.{flat_map}
-use Rattle.sdd_lang.specs.base.Numbers.{frag_no}
-use Rattle.sdd_lang.specs.base.declared.change.Change.{Change}
-use Rattle.sdd_lang.specs.catalog.Catalogue.{Catalogue, fragment_at, fragment_of}
-use Rattle.sdd_lang.specs.Database.{Item, Row, Database}
-use Rattle.sdd_lang.specs.Examples.{accounts, two}
+use Rattle.sdd_lang.specs.All.{Catalogue, Change, Database, Item, Row, accounts, frag_no, fragment_at, fragment_of, two}
 use Rattle.sdd_copy.specs.Contents.{Dated, contents}
 use Rattle.sdd_copy.specs.Items.{dated}
 

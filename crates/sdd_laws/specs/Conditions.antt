@@ -1,11 +1,7 @@
 -- The law of read conditions (H4): of the writers that a condition names a reader sees exactly those before its time.
 use Rattle.std.specs.Prelude.{ℕ, ◌<◌, ◌≡◌, ◌==◌, ◌↔◌, if◌then◌else◌, List, Contains, map}
-use Rattle.sdd_lang.specs.base.Numbers.{frag_no}
-use Rattle.sdd_lang.specs.base.Words.{ascending}
-use Rattle.sdd_lang.specs.base.declared.condition.Cond.{Cond}
-use Rattle.sdd_lang.specs.catalog.Catalogue.{Catalogue}
+use Rattle.sdd_lang.specs.All.{Catalogue, Cond, ascending, frag_no, fragments_in}
 use Rattle.sdd_history.specs.Records.{History}
-use Rattle.sdd_lang.specs.Classes.{fragments_in}
 use Rattle.sdd_protocol.specs.Conditions.{conditions, undeclared_conditions}
 use Rattle.sdd_protocol.specs.Protocols.{IsTable}
 use Rattle.sdd_protocol.specs.declared.entry.Entry.{Entry}

@@ -1,9 +1,6 @@
 -- What attempts and committed transactions did at places of a history.
 use Rattle.std.specs.Prelude.{ℕ, ◌-◌, ◌<◌, ◌≡◌, true, List, Option, Some, map, slice_get}
-use Rattle.sdd_lang.specs.base.Numbers.{class_no, dm_no, txn_no, time_at}
-use Rattle.sdd_lang.specs.base.declared.number.FragNo.{FragNo}
-use Rattle.sdd_lang.specs.base.Words.{contains}
-use Rattle.sdd_lang.specs.catalog.Catalogue.{Catalogue, has_copy, reads_at}
+use Rattle.sdd_lang.specs.All.{Catalogue, FragNo, class_no, contains, dm_no, has_copy, reads_at, time_at, txn_no}
 use Rattle.sdd_history.specs.declared.record.Rec.TheVariants.{Submit, Answer, Apply}
 use Rattle.sdd_history.specs.Records.{History}
 use Rattle.sdd_lang.specs.declared.transaction.Txn.{Txn}

@@ -1,12 +1,9 @@
 -- Histories that keep the laws.
 use Rattle.std.specs.Prelude.{List, length}
 use Rattle.std.specs.List.{All}
-use Rattle.sdd_lang.specs.base.declared.number.RelNo.{RelNo}
-use Rattle.sdd_lang.specs.catalog.Catalogue.{Catalogue}
+use Rattle.sdd_lang.specs.All.{Catalogue, Fits, FitsStart, RelNo, Row}
 use Rattle.sdd_history.specs.Records.{History}
 use Rattle.sdd_lang.specs.declared.transaction.Txn.{Txn}
-use Rattle.sdd_lang.specs.Database.{Row}
-use Rattle.sdd_lang.specs.Fits.{Fits, FitsStart}
 use Rattle.sdd_laws.specs.Answers.{KeepsAnswers}
 use Rattle.sdd_laws.specs.Applies.{KeepsApplies}
 use Rattle.sdd_laws.specs.Conditions.{KeepsConditions}

@@ -1,11 +1,8 @@
 -- What a history tells of committed transactions, and the copies that they read.
 use Rattle.std.specs.Prelude.{ℕ, Bool, List, [], Contains, fold}
-use Rattle.sdd_lang.specs.base.declared.change.Change.{Change}
-use Rattle.sdd_lang.specs.catalog.Catalogue.{Catalogue}
+use Rattle.sdd_lang.specs.All.{Catalogue, Change, Database, Item, Row, read_set, with_row}
 use Rattle.sdd_lang.specs.declared.effect.Effect.{Effect}
 use Rattle.sdd_lang.specs.declared.transaction.Txn.{Txn}
-use Rattle.sdd_lang.specs.Classes.{read_set}
-use Rattle.sdd_lang.specs.Database.{Item, Row, Database, with_row}
 use Rattle.sdd_laws.specs.Committed.{Writers, copy_of, entries_of}
 
 -- Of transactions of any type:

@@ -1,4 +1,5 @@
 pub mod Agreeing
+pub mod All
 pub mod Answers
 pub mod Applies
 pub mod Committed
@@ -20,12 +21,12 @@ pub mod Snapshots
 pub mod Starts
 pub mod Undeclared
 pub mod Values
+pub use Rattle.sdd_copy.specs as copy
+pub use Rattle.sdd_eras.specs as class_eras
+pub use Rattle.sdd_graph.specs as graph
+pub use Rattle.sdd_history.specs as history
+pub use Rattle.sdd_lang.specs as lang
 pub use Rattle.sdd_lang.specs.base as base
 pub use Rattle.sdd_lang.specs.catalog as catalog
-pub use Rattle.sdd_history.specs as history
-pub use Rattle.sdd_graph.specs as graph
-pub use Rattle.sdd_protocol.specs as protocol
-pub use Rattle.sdd_lang.specs as lang
-pub use Rattle.sdd_eras.specs as class_eras
-pub use Rattle.sdd_copy.specs as copy
 pub use Rattle.sdd_order.specs as serial_orders
+pub use Rattle.sdd_protocol.specs as protocol

@@ -1,9 +1,7 @@
 -- Which orders of committed transactions agree with what they did: where two meet at a fragment, the writer with the
 -- smaller timestamp stands first, and a reader stands after the writers that it saw and before those that it didn't see.
 use Rattle.std.specs.Prelude.{◌≡◌, Bool, true, not, nat_lt, List, [], ◌∷◌, Contains, ◌↔◌}
-use Rattle.sdd_lang.specs.base.Numbers.{time_at}
-use Rattle.sdd_lang.specs.base.declared.change.Change.{Change}
-use Rattle.sdd_lang.specs.catalog.Catalogue.{Catalogue}
+use Rattle.sdd_lang.specs.All.{Catalogue, Change, time_at}
 use Rattle.sdd_laws.specs.declared.meeting.Meeting.{Meeting}
 use Rattle.sdd_laws.specs.declared.meeting.Meeting.TheVariants.{Writes, WriteRead, ReadWrite}
 use Rattle.sdd_laws.specs.Ledger.{Ledger, Reads, changes}

@@ -1,11 +1,7 @@
 -- What the laws of a history say of its committed transactions, as far as replay needs it.
 use Rattle.std.specs.Prelude.{ℕ, ◌<◌, ◌≤◌, ◌≡◌, true, false, List, Contains}
 use Rattle.std.specs.List.{All}
-use Rattle.sdd_lang.specs.catalog.Catalogue.{Catalogue}
-use Rattle.sdd_lang.specs.Database.{Item, Row, Database}
-use Rattle.sdd_lang.specs.Effect.{effect}
-use Rattle.sdd_lang.specs.Fits.{Fits}
-use Rattle.sdd_lang.specs.Sound.{PutsHeld}
+use Rattle.sdd_lang.specs.All.{Catalogue, Database, Fits, Item, PutsHeld, Row, effect}
 use Rattle.sdd_laws.specs.Ledger.{Ledger, Reads, snapshot, gathered}
 
 -- the entries of which the database of each transaction's snapshots is put together: they are those of the copies of the

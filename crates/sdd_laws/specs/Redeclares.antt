@@ -1,6 +1,6 @@
 -- The law of eras (H7): what one era submits is done before the next begins.
 use Rattle.std.specs.Prelude.{ℕ, ◌<◌, ◌≡◌}
-use Rattle.sdd_lang.specs.catalog.Catalogue.{Catalogue}
+use Rattle.sdd_lang.specs.All.{Catalogue}
 use Rattle.sdd_history.specs.Records.{History}
 use Rattle.sdd_order.specs.Attempts.{Attempt, Committed, IsAttempt, IsCommitted}
 use Rattle.sdd_order.specs.Places.{event_at}

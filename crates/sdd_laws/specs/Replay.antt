@@ -1,20 +1,10 @@
 -- What one plain database gives that runs the transactions of an order one by one.
 use Rattle.std.specs.Prelude.{ℕ, ◌≡◌, pos, true, List, [], ◌∷◌, filter_map, refl}
-use Rattle.sdd_lang.specs.base.Numbers.{rel_no, tm_no, txn_no}
-use Rattle.sdd_lang.specs.base.declared.number.RelNo.{RelNo}
-use Rattle.sdd_lang.specs.base.declared.number.TxnNo.{TxnNo}
-use Rattle.sdd_lang.specs.base.declared.reply.Reply.{Reply}
-use Rattle.sdd_lang.specs.base.declared.reply.Reply.TheVariants.{Rows}
-use Rattle.sdd_lang.specs.base.declared.restriction.Op.{Op}
-use Rattle.sdd_lang.specs.base.declared.restriction.Op.TheVariants.{Le, Ge}
-use Rattle.sdd_lang.specs.base.declared.value.Value.TheVariants.{Int}
-use Rattle.sdd_lang.specs.catalog.Catalogue.{Catalogue}
+use Rattle.sdd_lang.specs.All.{Catalogue, Database, Ge, Int, Le, Op, RelNo, Reply, Row, Rows, TxnNo, database_of, rel_no, serial, tm_no, txn_no}
 use Rattle.sdd_history.specs.Records.{History}
 use Rattle.sdd_lang.specs.declared.condition.Condition.TheVariants.{Const}
 use Rattle.sdd_lang.specs.declared.statement.Stmt.TheVariants.{Put, Query}
 use Rattle.sdd_lang.specs.declared.transaction.Txn.{Txn}
-use Rattle.sdd_lang.specs.Database.{Row, Database, database_of}
-use Rattle.sdd_lang.specs.Serial.{serial}
 use Rattle.sdd_order.specs.Attempts.{Committed, IsCommitted, changes}
 use Rattle.sdd_order.specs.Examples.{crossing, row_of, waits_for_other}
 use Rattle.sdd_order.specs.SerialOrder.{serial_order}

@@ -1,13 +1,6 @@
 -- What one plain database gives that runs the transactions one by one.
 use Rattle.std.specs.Prelude.{ℕ, ◌≡◌, Bool, true, List, [], ◌∷◌, map, Contains}
-use Rattle.sdd_lang.specs.base.declared.change.Change.{Change}
-use Rattle.sdd_lang.specs.base.declared.reply.Reply.{Reply}
-use Rattle.sdd_lang.specs.catalog.Catalogue.{Catalogue}
-use Rattle.sdd_lang.specs.Agree.{rows_in_fragment}
-use Rattle.sdd_lang.specs.Database.{Item, Database}
-use Rattle.sdd_lang.specs.Effect.{effect}
-use Rattle.sdd_lang.specs.Serial.{after_changes, serial}
-use Rattle.sdd_lang.specs.Sound.{IsDatabase}
+use Rattle.sdd_lang.specs.All.{Catalogue, Change, Database, IsDatabase, Item, Reply, after_changes, effect, rows_in_fragment, serial}
 use Rattle.sdd_laws.specs.Committed.{all_dated, copy_of, entries_of}
 use Rattle.sdd_laws.specs.Values.{IsValue, row_at}
 use Rattle.sdd_laws.specs.Ledger.{Ledger, changes, writers}

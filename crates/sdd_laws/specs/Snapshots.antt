@@ -1,15 +1,9 @@
 -- The copies of fragments, as a history gives them, and the database of an attempt's snapshots.
 use Rattle.std.specs.Prelude.{ℕ, ℤ, Bool, List, [], ◌++◌, map, take, fold, Some, filter}
 use Rattle.std.specs.List.{list_any, flat_map, position_or_len}
-use Rattle.sdd_lang.specs.base.Numbers.{frag_no}
-use Rattle.sdd_lang.specs.base.Words.{ascending}
-use Rattle.sdd_lang.specs.base.declared.change.Change.{Change}
-use Rattle.sdd_lang.specs.base.declared.number.RelNo.{RelNo}
-use Rattle.sdd_lang.specs.catalog.Catalogue.{Catalogue, fragment_at, fragment_of}
+use Rattle.sdd_lang.specs.All.{Catalogue, Change, Database, Item, RelNo, Row, ascending, database_of, frag_no, fragment_at, fragment_of, fragments_in, with_row}
 use Rattle.sdd_copy.specs.Contents.{Dated, contents}
 use Rattle.sdd_history.specs.Records.{History}
-use Rattle.sdd_lang.specs.Classes.{fragments_in}
-use Rattle.sdd_lang.specs.Database.{Row, Item, Database, with_row, database_of}
 use Rattle.sdd_order.specs.Attempts.{Attempt, Committed, committed}
 use Rattle.sdd_order.specs.Precedence.{module_of, is_answer, is_apply}
 

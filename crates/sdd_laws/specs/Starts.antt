@@ -1,13 +1,10 @@
 -- The law of Starts (H1): which attempts there are, in which order they start, and with which times.
 use Rattle.std.specs.Prelude.{ℕ, suc, ◌%◌, ◌≤◌, ◌<◌, ◌≡◌, ◌==◌, Bool, false, not, List, length, filter, take, Some, is_some}
-use Rattle.sdd_lang.specs.base.declared.number.Ts.{Ts}
-use Rattle.sdd_lang.specs.catalog.Catalogue.{Catalogue}
+use Rattle.sdd_lang.specs.All.{Catalogue, Ts, class_for, uses_of}
 use Rattle.sdd_history.specs.declared.record.Rec.{Rec}
 use Rattle.sdd_history.specs.declared.record.Rec.TheVariants.{Start}
 use Rattle.sdd_history.specs.Records.{History}
 use Rattle.sdd_lang.specs.declared.transaction.Txn.{Txn}
-use Rattle.sdd_lang.specs.Classes.{class_for}
-use Rattle.sdd_lang.specs.Uses.{uses_of}
 use Rattle.sdd_order.specs.Attempts.{Attempt, Committed, IsAttempt, IsCommitted, HasCommit, p2_time}
 use Rattle.sdd_order.specs.Places.{event_at}
 use Rattle.sdd_laws.specs.Deeds.{txn_at, IsSubmitted, CommittedBefore}

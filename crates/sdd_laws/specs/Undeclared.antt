@@ -1,6 +1,6 @@
 -- The law of undeclared transactions (H5): each runs while no other does.
 use Rattle.std.specs.Prelude.{ℕ, ◌<◌, ◌≡◌, ◌≢◌, ◌⊎◌}
-use Rattle.sdd_lang.specs.catalog.Catalogue.{Catalogue}
+use Rattle.sdd_lang.specs.All.{Catalogue}
 use Rattle.sdd_history.specs.Records.{History}
 use Rattle.sdd_order.specs.Attempts.{Committed, IsCommitted}
 use Rattle.sdd_order.specs.Numbers.{IsModule}

@@ -2,10 +2,7 @@
 use Rattle.std.specs.Prelude.{ℕ, ◌≤◌, ◌≡◌, List, Contains, Option, None}
 use Rattle.std.specs.Map.{lookup}
 use Rattle.std.specs.BTreeMap.{is_at}
-use Rattle.sdd_lang.specs.base.declared.change.Change.{Change}
-use Rattle.sdd_lang.specs.catalog.Catalogue.{Catalogue, fragment_of}
-use Rattle.sdd_lang.specs.Database.{Item, Row, Database, item_cmp}
-use Rattle.sdd_lang.specs.Serial.{item_of}
+use Rattle.sdd_lang.specs.All.{Catalogue, Change, Database, Item, Row, fragment_of, item_cmp, item_of}
 use Rattle.sdd_copy.specs.Contents.{Dated}
 use Rattle.sdd_laws.specs.Committed.{Writers}
 

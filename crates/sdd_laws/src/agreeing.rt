@@ -1,9 +1,7 @@
 //! Copies of modules that began with different rows.
 ghost use Rattle.std.specs.Prelude.{ℕ, ◌≡◌, List};
-ghost use Rattle.sdd_lang.specs.base.declared.number.RelNo.{RelNo};
-ghost use Rattle.sdd_lang.specs.catalog.Catalogue.{Catalogue};
+ghost use Rattle.sdd_lang.specs.All.{Catalogue, RelNo, Row};
 ghost use Rattle.sdd_history.specs.Records.{History};
-ghost use Rattle.sdd_lang.specs.Database.{Row};
 ghost use Rattle.sdd_laws.specs.Agreeing.{AgreeOnFragment};
 ghost use Rattle.sdd_laws.specs.Copied.{AreAppliedAlike};
 ghost use Rattle.sdd_laws.specs.Snapshots.{copy_at};

@@ -2,9 +2,7 @@
 //! program has no need to call them. They hold of transactions of any type `T`.
 ghost use Rattle.std.specs.Prelude.{ℕ, ℤ, ◌≡◌, ◌↔◌, Bool, List, Contains, Option, Some, ◌++◌, filter, map};
 ghost use Rattle.sdd_lang.specs.base.declared.change.Change as change;
-ghost use Rattle.sdd_lang.specs.catalog.Catalogue.{fragment_at, fragment_of};
-ghost use Rattle.sdd_lang.specs.Database.{Item, Row, Database};
-ghost use Rattle.sdd_lang.specs.Sound.{IsDatabase};
+ghost use Rattle.sdd_lang.specs.All.{Database, IsDatabase, Item, Row, fragment_at, fragment_of};
 ghost use Rattle.sdd_copy.specs.Contents.{Dated, of_fragment, rows_left, contents};
 ghost use Rattle.sdd_copy.specs.Sets.{AreSame};
 ghost use Rattle.sdd_laws.specs.Committed.{Writers, first_row, all_dated, copy_of, taken};

@@ -1,5 +1,5 @@
 ghost use Rattle.std.specs.Prelude.{ℕ, ◌≡◌, option_map};
-ghost use Rattle.sdd_lang.specs.base.Numbers.{time_at};
+ghost use Rattle.sdd_lang.specs.All.{time_at};
 ghost use Rattle.sdd_order.specs.Attempts.{attempt_of};
 ghost use Rattle.sdd_order.specs.Precedence as precedence;
 ghost use Rattle.sdd_laws.specs.Copied.{AreAppliedAlike};

@@ -4,7 +4,7 @@
 //! it is in force, `rows` are those with which every data module begins, and `txns` are the
 //! transactions by their numbers, from 1.
 ghost use Rattle.std.specs.Prelude.{All};
-ghost use Rattle.sdd_lang.specs.Sound.{PutsHeld};
+ghost use Rattle.sdd_lang.specs.All.{PutsHeld};
 ghost use Rattle.sdd_order.specs.Orders.{IsOrderable};
 ghost use Rattle.sdd_order.specs.Precedence.{HasNoCycle};
 ghost use Rattle.sdd_laws.specs.Few.{AreFew};

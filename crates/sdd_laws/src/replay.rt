@@ -1,6 +1,6 @@
 ghost use Rattle.std.specs.Prelude.{ℕ, ◌≡◌};
 ghost use Rattle.std.specs.List.{AllZip};
-ghost use Rattle.sdd_lang.specs.Agree.{rows_in_fragment};
+ghost use Rattle.sdd_lang.specs.All.{rows_in_fragment};
 ghost use Rattle.sdd_order.specs.Orders.{IsSerial};
 ghost use Rattle.sdd_laws.specs.Answers.{KeepsAnswers};
 ghost use Rattle.sdd_laws.specs.Applies.{KeepsApplies};

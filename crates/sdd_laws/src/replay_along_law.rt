@@ -1,7 +1,6 @@
 //! The theorem of replay, carried by the contract of a function. A program has no need to call it.
 ghost use Rattle.std.specs.Prelude.{List};
-ghost use Rattle.sdd_lang.specs.Database.{Database};
-ghost use Rattle.sdd_lang.specs.Sound.{IsDatabase};
+ghost use Rattle.sdd_lang.specs.All.{Database, IsDatabase};
 ghost use Rattle.sdd_laws.specs.Ledger.{Ledger};
 ghost use Rattle.sdd_laws.specs.Order.{IsOrder};
 ghost use Rattle.sdd_laws.specs.Recorded.{AreRecorded};

@@ -5,16 +5,8 @@ use Rattle.std.specs.List.{range_with_len}
 use Rattle.std.specs.Str.{bytes_eq}
 use Rattle.std.proofs.lemmas.List.{get_or_default}
 use Rattle.std.proofs.lemmas.Slice.Eq.{bytes_eq-Decides}
-use Rattle.sdd_script.specs.base.Numbers.{rel_no}
-use Rattle.sdd_script.specs.base.Words.{contains}
-use Rattle.sdd_script.specs.catalog.Catalogue.{Catalogue, fragment_at, fragment_names, fragment_part, has_copy, parts_of}
-use Rattle.sdd_script.specs.catalog.Names.{Text}
-use Rattle.sdd_script.specs.catalog.Rules.{copies_in, copies_of, has_name}
-use Rattle.sdd_script.specs.catalog.declared.parts.FragmentPart.{FragmentPart}
-use Rattle.sdd_script.specs.catalog.declared.resolved.Fragment.{Fragment}
+use Rattle.sdd_script.specs.All.{Catalogue, Fragment, FragmentPart, IsFragment, Text, contains, copies_in, copies_of, fragment_at, fragment_named, fragment_names, fragment_part, has_copy, has_name, is_kept_at, parts_of, rel_no}
 use Rattle.sdd_script.proofs.catalog.NameLemmas.{any_of_find, has_name_of_items, list_any-map}
-use Rattle.sdd_script.specs.Naming.{fragment_named}
-use Rattle.sdd_script.specs.Valid.{IsFragment, is_kept_at}
 use Rattle.sdd_script.proofs.Fragments.{kept_at, some_there}
 use Rattle.sdd_script.proofs.NamePlaces.{differ_again}
 

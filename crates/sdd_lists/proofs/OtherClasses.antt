@@ -5,20 +5,9 @@ use Rattle.std.specs.List.{AllByRecursion, list_any}
 use Rattle.std.specs.Str.{bytes_eq}
 use Rattle.std.proofs.lemmas.List.{length-append, length-map, map-append, take-append-drop}
 use Rattle.std.proofs.lemmas.List.Elements.{recursion_from_All}
-use Rattle.sdd_script.specs.base.declared.limits.TheConstants.{MAX_CLASSES}
-use Rattle.sdd_script.specs.catalog.Catalogue.{Catalogue, class_of, class_part, parts_of}
-use Rattle.sdd_script.specs.catalog.Eras.{emptied, eras, whole}
-use Rattle.sdd_script.specs.catalog.Names.{Text}
-use Rattle.sdd_script.specs.catalog.Rules.{has_name, repeats}
-use Rattle.sdd_script.specs.catalog.declared.parts.ClassPart.{ClassPart}
-use Rattle.sdd_script.specs.catalog.declared.resolved.Class.{Class}
-use Rattle.sdd_script.specs.catalog.declared.resolved.Fragment.{Fragment}
+use Rattle.sdd_script.specs.All.{AreValidLists, Catalogue, Class, ClassPart, Fits, Fragment, IsValidClass, MAX_CLASSES, Text, Txn, class_of, class_part, emptied, eras, has_name, joined, part_names, parts_of, repeats, whole}
 use Rattle.sdd_script.proofs.catalog.Found.{map-map}
 use Rattle.sdd_eras.specs.Further.{further_faults}
-use Rattle.sdd_script.specs.lang.Fits.{Fits}
-use Rattle.sdd_script.specs.lang.declared.transaction.Txn.{Txn}
-use Rattle.sdd_script.specs.ClassLists.{joined, part_names}
-use Rattle.sdd_script.specs.Valid.{AreValidLists, IsValidClass}
 use Rattle.sdd_script.proofs.NamePlaces.{or_false}
 use Rattle.sdd_lists.proofs.Rules.{classes_fine}
 

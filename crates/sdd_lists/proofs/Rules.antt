@@ -4,21 +4,9 @@ use Rattle.std.specs.List.{All, AllByRecursion}
 use Rattle.std.proofs.lemmas.Bool.Decides.{nat_tests}
 use Rattle.std.proofs.lemmas.List.{length-append, map-append, map-id}
 use Rattle.std.proofs.lemmas.List.Elements.{recursion_from_All}
-use Rattle.sdd_script.specs.base.declared.limits.TheConstants.{MAX_CLASSES, MAX_READS}
-use Rattle.sdd_script.specs.base.Words.{contains}
-use Rattle.sdd_script.specs.catalog.Catalogue.{Catalogue, fragment_names, parts_of}
-use Rattle.sdd_script.specs.catalog.Names.{Text}
-use Rattle.sdd_script.specs.catalog.Rules.{class_rules, copies_of, faults_at, faults_of_class, found_from, found_in, has_name, is_from_1_to, read_rules, repeats, when, write_rules}
-use Rattle.sdd_script.specs.catalog.declared.fault.CatRule.{CatRule}
-use Rattle.sdd_script.specs.catalog.declared.fault.CatRule.TheVariants.{TooMany, DuplicateName, UnknownName, ReadsWhereNoCopy}
+use Rattle.sdd_script.specs.All.{CatRule, Catalogue, ClassPart, DuplicateName, IsFragment, IsFrom1To, IsValidClass, IsValidRead, MAX_CLASSES, MAX_READS, Parts, ReadPart, ReadsWhereNoCopy, Text, TooMany, UnknownName, class_rules, contains, copies_of, faults_at, faults_of_class, found_from, found_in, fragment_names, has_name, is_from_1_to, part_names, parts_of, read_names, read_rules, repeats, when, write_rules}
 use Rattle.sdd_script.specs.catalog.declared.fault.Counted.TheVariants as counted
 use Rattle.sdd_script.specs.catalog.declared.fault.Part.TheVariants.{Class}
-use Rattle.sdd_script.specs.catalog.declared.parts.ClassPart.{ClassPart}
-use Rattle.sdd_script.specs.catalog.declared.parts.Parts.{Parts}
-use Rattle.sdd_script.specs.catalog.declared.parts.ReadPart.{ReadPart}
-use Rattle.sdd_script.specs.lang.Fits.{IsFrom1To}
-use Rattle.sdd_script.specs.ClassLists.{part_names}
-use Rattle.sdd_script.specs.Valid.{IsFragment, IsValidClass, IsValidRead, read_names}
 use Rattle.sdd_script.proofs.NamePlaces.{any_none, apart_before}
 use Rattle.sdd_lists.proofs.Fragments.{is_copied, is_named}
 

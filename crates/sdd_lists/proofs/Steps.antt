@@ -1,15 +1,9 @@
 -- The catalogues that follow each other, one list more.
 use Rattle.std.proofs.Common.{◌≡◌, ℕ, ◌+◌, ◌<◌, List, [], ◌∷◌, ◌++◌, length, map, drop, get_or, refl, sym, ap, subst, ◌∙◌, append_assoc}
 use Rattle.std.proofs.lemmas.List.{drop_more}
-use Rattle.sdd_script.specs.catalog.Catalogue.{Catalogue, class_of}
-use Rattle.sdd_script.specs.catalog.Eras.{eras, extended, retired, whole}
-use Rattle.sdd_script.specs.catalog.Names.{Text}
-use Rattle.sdd_script.specs.catalog.declared.parts.ClassPart.{ClassPart}
-use Rattle.sdd_script.specs.catalog.declared.resolved.Class.{Class}
-use Rattle.sdd_script.specs.catalog.declared.resolved.Fragment.{Fragment}
+use Rattle.sdd_script.specs.All.{AreValidLists, Catalogue, Class, ClassPart, Fragment, Text, class_of, eras, extended, retired, whole}
 use Rattle.sdd_eras.specs.Further.{further_faults, with_further}
 use Rattle.sdd_lists.specs.InForce.{numbered}
-use Rattle.sdd_script.specs.Valid.{AreValidLists}
 use Rattle.sdd_lists.proofs.OtherClasses.{MayFollow, all_may_follow, none_further, others_may, over, retired_may}
 
 abbrev fragments_of : Catalogue → List Text

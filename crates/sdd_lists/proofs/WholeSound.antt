@@ -2,22 +2,11 @@
 use Rattle.std.proofs.Common.{◌≡◌, List, [], ◌∷◌, ◌++◌, map, refl, sym, ap, subst, ◌∙◌}
 use Rattle.std.specs.List.{All, AllByRecursion}
 use Rattle.std.proofs.lemmas.List.Elements.{All-from_recursion, recursion_from_All}
-use Rattle.sdd_script.specs.base.Name.{IsName}
-use Rattle.sdd_script.specs.catalog.Catalogue.{Catalogue, catalogue_of, class_of, parts_of}
-use Rattle.sdd_script.specs.catalog.Eras.{extended, whole}
-use Rattle.sdd_script.specs.catalog.Names.{Text}
-use Rattle.sdd_script.specs.catalog.Naming.{AreNamed, IsNamed}
+use Rattle.sdd_script.specs.All.{AreNamed, Catalogue, Class, ClassPart, Fragment, IsName, IsNamed, IsSound, IsValid, IsValidClass, Parts, Text, catalogue_of, class_of, extended, joined, parts_of, whole}
 use Rattle.sdd_script.specs.catalog.Rules as rules_of
-use Rattle.sdd_script.specs.catalog.Rules.{IsSound}
-use Rattle.sdd_script.specs.catalog.declared.parts.ClassPart.{ClassPart}
-use Rattle.sdd_script.specs.catalog.declared.parts.Parts.{Parts}
-use Rattle.sdd_script.specs.catalog.declared.resolved.Class.{Class}
-use Rattle.sdd_script.specs.catalog.declared.resolved.Fragment.{Fragment}
 use Rattle.sdd_script.proofs.catalog.RoundTrip.{parts_back}
 use Rattle.sdd_eras.specs.Further.{further_faults, with_classes, with_further}
 use Rattle.sdd_eras.proofs.Extended.{extended_is, further_are_all}
-use Rattle.sdd_script.specs.ClassLists.{joined}
-use Rattle.sdd_script.specs.Valid.{IsValid, IsValidClass}
 use Rattle.sdd_script.specs.declared.workload.Workload.{Workload}
 use Rattle.sdd_lists.specs.InForce.{classes_in, numbered, whole_in}
 use Rattle.sdd_lists.proofs.OtherClasses.{whole_over}

@@ -1,10 +1,6 @@
 -- The catalogues of a workload, of which each list of its classes puts the next one in force.
 use Rattle.std.specs.Prelude.{List, map}
-use Rattle.sdd_script.specs.catalog.Catalogue.{Catalogue, class_of}
-use Rattle.sdd_script.specs.catalog.Eras.{eras, whole}
-use Rattle.sdd_script.specs.catalog.declared.parts.ClassPart.{ClassPart}
-use Rattle.sdd_script.specs.catalog.declared.resolved.Class.{Class}
-use Rattle.sdd_script.specs.catalog.declared.resolved.Fragment.{Fragment}
+use Rattle.sdd_script.specs.All.{Catalogue, Class, ClassPart, Fragment, class_of, eras, whole}
 use Rattle.sdd_script.specs.declared.workload.Workload.{Workload}
 
 -- lists of classes, with the numbers of a catalogue's fragments in place of their names

@@ -1,9 +1,8 @@
 //! The catalogues that follow each other with each list of classes.
 ghost use Rattle.std.specs.Prelude.{◌≡◌, [], length, IfOk};
-ghost use Rattle.sdd_script.specs.catalog.Eras.{eras, retired, whole};
+ghost use Rattle.sdd_script.specs.All.{AreValidLists, eras, retired, whole};
 ghost use Rattle.sdd_eras.specs.Further.{further_faults, with_further};
 ghost use Rattle.sdd_lists.specs.InForce.{numbered};
-ghost use Rattle.sdd_script.specs.Valid.{AreValidLists};
 
 use sdd_eras::{extend, retire};
 use sdd_script::sdd_base::{NoMemory, Parcel};

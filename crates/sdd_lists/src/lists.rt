@@ -1,7 +1,7 @@
 //! The catalogues of a workload, as a run uses them.
 ghost use Rattle.std.specs.Prelude.{◌≡◌, IfOk};
 ghost use Rattle.sdd_lists.specs.InForce.{eras_in, whole_in};
-ghost use Rattle.sdd_script.specs.Valid.{IsValid};
+ghost use Rattle.sdd_script.specs.All.{IsValid};
 
 use crate::following::{eras_of, whole_of};
 use sdd_script::Workload;

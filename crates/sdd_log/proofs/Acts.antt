@@ -3,13 +3,7 @@ use Rattle.std.proofs.Common.{ℕ, suc, Bool, true, false, List, [], ◌∷◌, 
 use Rattle.std.specs.Prelude.{◌||◌, nat_lt}
 use Rattle.std.specs.Bool.{if◌then◌else◌}
 use Rattle.std.proofs.lemmas.List.{map-append}
-use Rattle.sdd_attempt.specs.base.Sites.{same_site}
-use Rattle.sdd_attempt.specs.base.declared.site.Site.{Site}
-use Rattle.sdd_attempt.specs.base.declared.site.Site.TheVariants.{U, T, D}
-use Rattle.sdd_attempt.specs.base.declared.event.Event.{Event}
-use Rattle.sdd_attempt.specs.base.declared.limits.TheConstants.{MAX_LINK_MESSAGES}
-use Rattle.sdd_attempt.specs.wire.declared.msg.Msg.{Msg}
-use Rattle.sdd_attempt.specs.site_module.SiteLog.{Act, Did, sends_of_act, records_of_act, sends_of, records_of, log_after}
+use Rattle.sdd_attempt.specs.All.{Act, D, Did, Event, MAX_LINK_MESSAGES, Msg, Site, T, U, log_after, records_of, records_of_act, same_site, sends_of, sends_of_act}
 use Rattle.sdd_net.specs.Links.{Call, Puts, link}
 use Rattle.sdd_net.proofs.Directions.{same_here}
 use Rattle.sdd_log.specs.Entries.{Given, Log, Does, history, marks}

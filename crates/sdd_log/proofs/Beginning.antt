@@ -1,11 +1,6 @@
 -- At first nothing is due at any site.
 use Rattle.std.proofs.Common.{ℕ, zero, suc, Bool, true, false, List, [], ◌∷◌, map, ◌≡◌, refl, ap, ◌∙◌, Option, Some, None}
-use Rattle.sdd_attempt.specs.base.Words.{or_else, first_some}
-use Rattle.sdd_attempt.specs.base.Sites.{sites}
-use Rattle.sdd_attempt.specs.base.declared.site.Site.{Site}
-use Rattle.sdd_attempt.specs.base.declared.site.Site.TheVariants.{U, T, D}
-use Rattle.sdd_attempt.specs.catalog.Catalogue.{numbers_to}
-use Rattle.sdd_attempt.specs.site_module.SiteLog.{Act, Bases, Force, Redeclared, Setting}
+use Rattle.sdd_attempt.specs.All.{Act, Bases, D, Force, Redeclared, Setting, Site, T, U, first_some, numbers_to, or_else, sites}
 use Rattle.sdd_dm.specs.Copies.{classes_of}
 use Rattle.sdd_dm.specs.Views as dm_views
 use Rattle.sdd_dm.specs.Due as dm

@@ -1,8 +1,6 @@
 -- The complete log of what was given, with one event more; rounds, and when they end.
 use Rattle.std.proofs.Common.{ℕ, zero, suc, Bool, true, false, List, [], ◌∷◌, ◌++◌, ◌≡◌, refl, ap, ◌∙◌, Option, Some, None}
-use Rattle.sdd_attempt.specs.base.Words.{or_else, tail_of}
-use Rattle.sdd_attempt.specs.base.declared.event.Event.{Event}
-use Rattle.sdd_attempt.specs.base.declared.event.Event.TheVariants.{Submit, Deliver, Lose, Repeat, Resend, Tick, Settle, Redeclare, Down, Up}
+use Rattle.sdd_attempt.specs.All.{Deliver, Down, Event, Lose, Redeclare, Repeat, Resend, Settle, Submit, Tick, Up, or_else, tail_of}
 use Rattle.sdd_net.specs.Links.{quiet, round}
 use Rattle.sdd_log.specs.Entries.{Given, Log, Entry, Mark, Redeclares, Round, with_event}
 use Rattle.sdd_log.specs.Traffic.{all_links, calls_of}

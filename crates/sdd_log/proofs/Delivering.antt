@@ -4,11 +4,7 @@ use Rattle.std.specs.Bool.{if◌then◌else◌}
 use Rattle.std.specs.Prelude.{◌&&◌, slice_get}
 use Rattle.std.proofs.lemmas.Bool.{and_parts}
 use Rattle.std.proofs.lemmas.List.{length-append}
-use Rattle.sdd_attempt.specs.base.Sites.{same_site}
-use Rattle.sdd_attempt.specs.base.declared.site.Site.{Site}
-use Rattle.sdd_attempt.specs.base.declared.site.Site.TheVariants.{D}
-use Rattle.sdd_attempt.specs.base.declared.event.Event.TheVariants.{Deliver}
-use Rattle.sdd_attempt.specs.wire.declared.msg.Msg.{Msg}
+use Rattle.sdd_attempt.specs.All.{D, Deliver, Msg, Site, same_site}
 use Rattle.sdd_net.specs.declared.delivered.Delivered.TheVariants.{Nothing, Acked, Messages}
 use Rattle.sdd_net.specs.Links.{Call, Delivers, Link, link, on_link, deliver, delivered, delivery, packet_at, newly_delivered}
 use Rattle.sdd_net.proofs.Directions.{same_is, same_here}

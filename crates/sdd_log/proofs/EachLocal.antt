@@ -1,14 +1,7 @@
 -- What holds of each entry of a site's log, wherever it may come, holds of the log that a permitted log gives the site.
 use Rattle.std.proofs.Common.{ℕ, suc, Bool, true, false, [], ◌∷◌, ◌≡◌, refl, sym, subst, Option, Some, None}
 use Rattle.std.specs.Bool.{if◌then◌else◌}
-use Rattle.sdd_attempt.specs.base.Sites.{same_site}
-use Rattle.sdd_attempt.specs.base.declared.site.Site.{Site}
-use Rattle.sdd_attempt.specs.base.declared.site.Site.TheVariants.{U, T, D}
-use Rattle.sdd_attempt.specs.base.declared.event.Event.{Event}
-use Rattle.sdd_attempt.specs.base.declared.event.Event.TheVariants.{Submit, Deliver, Lose, Repeat, Resend, Tick, Settle, Redeclare, Down, Up}
-use Rattle.sdd_attempt.specs.lang.declared.transaction.Txn.{Txn}
-use Rattle.sdd_attempt.specs.wire.declared.msg.Msg.{Msg}
-use Rattle.sdd_attempt.specs.site_module.SiteLog.{Force, Handed, Ticked, Submits, Redeclared, Did, Act, Each}
+use Rattle.sdd_attempt.specs.All.{Act, D, Deliver, Did, Down, Each, Event, Force, Handed, Lose, Msg, Redeclare, Redeclared, Repeat, Resend, Settle, Site, Submit, Submits, T, Tick, Ticked, Txn, U, Up, same_site}
 use Rattle.sdd_attempt.specs.site_module.SiteLog as site
 use Rattle.sdd_log.specs.Entries.{Given, Log, Entry, Mark, Round, Redeclares, Hand, Submitted, Notes, Does}
 use Rattle.sdd_log.specs.Locals.{redeclares, force_at, txn_at, beginning, with_force, with_submit, local_of}

@@ -4,11 +4,7 @@ use Rattle.std.specs.Bool.{if◌then◌else◌}
 use Rattle.std.specs.Prelude.{◌&&◌, ◌⊎◌, nat_lt, nat_le}
 use Rattle.std.specs.List.{filter_map, flat_map, cons_option, range_with_len}
 use Rattle.std.proofs.lemmas.Bool.{lt-ltb, le-ltb, leb-true, and_parts, eq-eqb}
-use Rattle.sdd_attempt.specs.base.Words.{or_else, first_some}
-use Rattle.sdd_attempt.specs.base.Sites.{same_site, are_linked, sites, links}
-use Rattle.sdd_attempt.specs.base.declared.site.Site.{Site}
-use Rattle.sdd_attempt.specs.base.declared.site.Site.TheVariants.{U, T, D}
-use Rattle.sdd_attempt.specs.wire.declared.msg.Msg.{Msg}
+use Rattle.sdd_attempt.specs.All.{D, Msg, Site, T, U, are_linked, first_some, links, or_else, same_site, sites}
 use Rattle.sdd_net.specs.Links.{delivered}
 use Rattle.sdd_net.specs.Nets.{is_site, is_link}
 use Rattle.sdd_net.proofs.Directions.{same_is, same_here, link_parts}

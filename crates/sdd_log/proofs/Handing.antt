@@ -3,11 +3,7 @@ use Rattle.std.proofs.Common.{ℕ, zero, suc, ◌+◌, ◌-◌, ◌<◌, ◌≤�
 use Rattle.std.specs.Bool.{if◌then◌else◌}
 use Rattle.std.specs.Prelude.{◌&&◌, slice_get}
 use Rattle.std.proofs.lemmas.Bool.{and_parts}
-use Rattle.sdd_attempt.specs.base.Sites.{same_site, are_linked, sites}
-use Rattle.sdd_attempt.specs.base.declared.site.Site.{Site}
-use Rattle.sdd_attempt.specs.base.declared.site.Site.TheVariants.{U, T, D}
-use Rattle.sdd_attempt.specs.wire.declared.msg.Msg.{Msg}
-use Rattle.sdd_attempt.specs.site_module.SiteLog.{Act, Handed, AreDue, sends_of}
+use Rattle.sdd_attempt.specs.All.{Act, AreDue, D, Handed, Msg, Site, T, U, are_linked, same_site, sends_of, sites}
 use Rattle.sdd_net.specs.Links.{Call, Puts, link, delivered}
 use Rattle.sdd_net.proofs.Directions.{same_is, same_here, link_parts}
 use Rattle.sdd_log.specs.Entries.{Given, Log, Hand}

@@ -4,9 +4,7 @@ use Rattle.std.specs.Bool.{if◌then◌else◌}
 use Rattle.std.specs.Prelude.{◌&&◌, nat_lt, is_none, slice_get, take, drop}
 use Rattle.std.proofs.lemmas.List.{length-take-le}
 use Rattle.std.proofs.lemmas.Bool.{ltb-true, ltb-false}
-use Rattle.sdd_attempt.specs.base.Words.{is_empty}
-use Rattle.sdd_attempt.specs.base.Sites.{same_site}
-use Rattle.sdd_attempt.specs.base.declared.site.Site.{Site}
+use Rattle.sdd_attempt.specs.All.{Site, is_empty, same_site}
 use Rattle.sdd_net.specs.declared.delivered.Delivered.TheVariants.{Nothing, Acked, Messages}
 use Rattle.sdd_net.specs.declared.packet.Packet.{Packet}
 use Rattle.sdd_net.specs.declared.packet.Packet.TheVariants.{Message, Ack}

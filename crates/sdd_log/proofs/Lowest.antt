@@ -4,11 +4,7 @@ use Rattle.std.specs.Bool.{if◌then◌else◌}
 use Rattle.std.specs.Prelude.{◌⊎◌}
 use Rattle.std.specs.List.{range_with_len}
 use Rattle.std.proofs.Common.{inl, inr}
-use Rattle.sdd_attempt.specs.base.Numbers.{tm_no}
-use Rattle.sdd_attempt.specs.base.Sites.{same_site, sites}
-use Rattle.sdd_attempt.specs.base.declared.site.Site.{Site}
-use Rattle.sdd_attempt.specs.base.declared.site.Site.TheVariants.{U, T, D}
-use Rattle.sdd_attempt.specs.wire.declared.msg.Msg.{Msg}
+use Rattle.sdd_attempt.specs.All.{D, Msg, Site, T, U, same_site, sites, tm_no}
 use Rattle.sdd_net.proofs.Directions.{same_here, link_parts}
 use Rattle.sdd_log.specs.Entries.{Given}
 use Rattle.sdd_log.specs.Resting.{AtEach, from_one, IsFirst, IsLinkOf, Takes}

@@ -2,15 +2,7 @@
 use Rattle.std.proofs.Common.{ℕ, suc, ◌≤◌, Bool, true, false, List, [], ◌∷◌, ◌≡◌, refl, ◌∙◌, sym, subst, Option, Some, None}
 use Rattle.std.specs.Bool.{if◌then◌else◌}
 use Rattle.std.proofs.lemmas.Bool.{le-ltb}
-use Rattle.sdd_attempt.specs.base.Words.{first_some}
-use Rattle.sdd_attempt.specs.base.Sites.{same_site, sites}
-use Rattle.sdd_attempt.specs.base.declared.limits.TheConstants.{MAX_RUN_EVENTS}
-use Rattle.sdd_attempt.specs.base.declared.site.Site.{Site}
-use Rattle.sdd_attempt.specs.base.declared.site.Site.TheVariants.{U, T, D}
-use Rattle.sdd_attempt.specs.base.declared.number.TmNo.{TmNo}
-use Rattle.sdd_attempt.specs.base.declared.event.Event.{Event}
-use Rattle.sdd_attempt.specs.base.declared.event.Event.TheVariants.{Submit, Deliver, Lose, Repeat, Resend, Tick, Settle, Redeclare, Down, Up}
-use Rattle.sdd_attempt.specs.site_module.SiteLog.{Act, Force, Ticked, Bases}
+use Rattle.sdd_attempt.specs.All.{Act, Bases, D, Deliver, Down, Event, Force, Lose, MAX_RUN_EVENTS, Redeclare, Repeat, Resend, Settle, Site, Submit, T, Tick, Ticked, TmNo, U, Up, first_some, same_site, sites}
 use Rattle.sdd_attempt.specs.site_module.SiteLog as site
 use Rattle.sdd_net.specs.Links.{delivered}
 use Rattle.sdd_net.proofs.Directions.{same_is}

@@ -5,13 +5,7 @@ use Rattle.std.specs.Prelude.{replicate, flat_map, filter_map, ◌||◌}
 use Rattle.std.specs.List.{cons_option}
 use Rattle.std.specs.Bool.{if◌then◌else◌}
 use Rattle.std.proofs.lemmas.Bool.{eq-eqb}
-use Rattle.sdd_attempt.specs.base.Words.{tail_of}
-use Rattle.sdd_attempt.specs.base.Sites.{sites}
-use Rattle.sdd_attempt.specs.base.declared.site.Site.{Site}
-use Rattle.sdd_attempt.specs.base.declared.event.Event.{Event}
-use Rattle.sdd_attempt.specs.base.declared.event.Event.TheVariants.{Submit, Deliver, Lose, Repeat, Resend, Tick, Settle, Redeclare, Down, Up}
-use Rattle.sdd_attempt.specs.wire.declared.msg.Msg.{Msg}
-use Rattle.sdd_attempt.specs.site_module.SiteLog.{Act}
+use Rattle.sdd_attempt.specs.All.{Act, Deliver, Down, Event, Lose, Msg, Redeclare, Repeat, Resend, Settle, Site, Submit, Tick, Up, sites, tail_of}
 use Rattle.sdd_attempt.proofs.site_module.Finding.{found_at, one_of}
 use Rattle.sdd_net.specs.Links.{Call, link, delivered, round, resends_now, in_flight, quiet}
 use Rattle.sdd_log.specs.Entries.{Given, Log, Entry, Mark, Round, Redeclares, Hand, Submitted, Notes, Does}

@@ -5,11 +5,7 @@ use Rattle.std.specs.Prelude.{◌&&◌, nat_lt, nat_le, replicate, All}
 use Rattle.std.specs.List.{filter_map, flat_map, cons_option, list_all}
 use Rattle.std.proofs.lemmas.Bool.{and_parts, and_from, ltb-false, le-leb}
 use Rattle.std.proofs.lemmas.List.Elements.{All-head, All-tail}
-use Rattle.sdd_attempt.specs.base.Words.{is_empty}
-use Rattle.sdd_attempt.specs.base.Sites.{same_site, are_linked, sites, links}
-use Rattle.sdd_attempt.specs.base.declared.site.Site.{Site}
-use Rattle.sdd_attempt.specs.base.declared.event.Event.{Event}
-use Rattle.sdd_attempt.specs.base.declared.event.Event.TheVariants.{Deliver, Resend}
+use Rattle.sdd_attempt.specs.All.{Deliver, Event, Resend, Site, are_linked, is_empty, links, same_site, sites}
 use Rattle.sdd_net.specs.Links.{Call, Link, link, turned, is_quiet_link, quiet, round, resends_now, in_flight}
 use Rattle.sdd_net.specs.Nets.{is_site, is_link}
 use Rattle.sdd_net.proofs.Directions.{same_is, link_parts, link_back, back_is}

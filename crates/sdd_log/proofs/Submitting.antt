@@ -1,14 +1,7 @@
 -- A transaction is given to its module, and the module does what is due.
 use Rattle.std.proofs.Common.{ℕ, suc, ◌≤◌, Bool, true, false, List, [], ◌∷◌, ◌≡◌, refl, ap, ◌∙◌, sym, Some, None}
 use Rattle.std.specs.Bool.{if◌then◌else◌}
-use Rattle.sdd_attempt.specs.base.Sites.{same_site, sites}
-use Rattle.sdd_attempt.specs.base.declared.limits.TheConstants.{MAX_RUN_EVENTS}
-use Rattle.sdd_attempt.specs.base.declared.site.Site.{Site}
-use Rattle.sdd_attempt.specs.base.declared.site.Site.TheVariants.{U, T, D}
-use Rattle.sdd_attempt.specs.base.declared.number.TxnNo.{TxnNo}
-use Rattle.sdd_attempt.specs.base.declared.event.Event.TheVariants.{Submit}
-use Rattle.sdd_attempt.specs.lang.declared.transaction.Txn.{Txn}
-use Rattle.sdd_attempt.specs.site_module.SiteLog.{Act, Submits, AreDue, sends_of}
+use Rattle.sdd_attempt.specs.All.{Act, AreDue, D, MAX_RUN_EVENTS, Site, Submit, Submits, T, Txn, TxnNo, U, same_site, sends_of, sites}
 use Rattle.sdd_net.specs.Links.{delivered}
 use Rattle.sdd_net.proofs.Directions.{same_here}
 use Rattle.sdd_log.specs.Entries.{Given, Log, Mark, Submitted, marks}

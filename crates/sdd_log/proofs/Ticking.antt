@@ -3,16 +3,8 @@ use Rattle.std.proofs.Common.{ℕ, Bool, true, false, not, ◌≡◌, refl, ap, 
 use Rattle.std.specs.Bool.{if◌then◌else◌}
 use Rattle.std.specs.Prelude.{◌==◌, ◌&&◌, nat_lt, List, [], ◌∷◌}
 use Rattle.std.specs.List.{list_all}
-use Rattle.sdd_attempt.specs.base.Words.{or_else, first_some, head_of}
-use Rattle.sdd_attempt.specs.base.Numbers.{time_at}
-use Rattle.sdd_attempt.specs.base.Clock.{Ticking, pushed, ticked, bound_of}
-use Rattle.sdd_attempt.specs.base.declared.site.Site.TheVariants.{U}
-use Rattle.sdd_attempt.specs.catalog.Catalogue.{Catalogue}
-use Rattle.sdd_attempt.specs.wire.declared.msg.Msg.TheVariants.{Held}
-use Rattle.sdd_attempt.specs.site_module.SiteLog.{Force, Redeclared, Sends, Ticked, Setting, Bases}
+use Rattle.sdd_attempt.specs.All.{Attempt, Bases, Catalogue, Force, Held, Queued, Redeclared, Sends, Setting, Ticked, Ticking, U, bound_of, first_some, head_of, or_else, pushed, ticked, time_at}
 use Rattle.sdd_attempt.specs.site_module.SiteLog as site
-use Rattle.sdd_attempt.specs.Queues.{Queued}
-use Rattle.sdd_attempt.specs.Attempts.{Attempt}
 use Rattle.sdd_tm.specs.Due as tm
 use Rattle.sdd_tm.specs.Views as views
 use Rattle.sdd_tm.proofs.ViewSteps.{view_step}

@@ -3,12 +3,7 @@ use Rattle.std.proofs.Common.{ℕ, ◌+◌, Bool, true, false, not, List, [], �
 use Rattle.std.specs.Bool.{if◌then◌else◌}
 use Rattle.std.specs.Prelude.{◌==◌}
 use Rattle.std.proofs.lemmas.Bool.{eqb-true, eq-eqb}
-use Rattle.sdd_attempt.specs.base.Sites.{same_site}
-use Rattle.sdd_attempt.specs.base.declared.site.Site.{Site}
-use Rattle.sdd_attempt.specs.base.declared.site.Site.TheVariants.{U, T, D}
-use Rattle.sdd_attempt.specs.base.declared.number.DmNo.{DmNo}
-use Rattle.sdd_attempt.specs.base.declared.event.Event.TheVariants.{Down, Up}
-use Rattle.sdd_attempt.specs.wire.declared.msg.Msg.{Msg}
+use Rattle.sdd_attempt.specs.All.{D, DmNo, Down, Msg, Site, T, U, Up, same_site}
 use Rattle.sdd_net.specs.Links.{delivered}
 use Rattle.sdd_log.specs.Entries.{Given, Log, Mark, Notes}
 use Rattle.sdd_log.specs.Traffic.{handed, link_of, is_down, takes_part}

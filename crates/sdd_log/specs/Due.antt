@@ -1,16 +1,6 @@
 -- The next entry of the log of everything.
 use Rattle.std.specs.Prelude.{ℕ, zero, suc, nat_lt, ◌==◌, Bool, not, if◌then◌else◌, ◌∷◌, is_none, Option, Some, None}
-use Rattle.sdd_attempt.specs.base.Words.{is_empty, or_else, first_some}
-use Rattle.sdd_attempt.specs.base.Sites.{sites}
-use Rattle.sdd_attempt.specs.base.declared.site.Site.{Site}
-use Rattle.sdd_attempt.specs.base.declared.site.Site.TheVariants.{U, T, D}
-use Rattle.sdd_attempt.specs.base.declared.event.Event.{Event}
-use Rattle.sdd_attempt.specs.base.declared.event.Event.TheVariants.{Submit, Deliver, Lose, Repeat, Resend, Down, Up}
-use Rattle.sdd_attempt.specs.catalog.Catalogue.{Catalogue}
-use Rattle.sdd_attempt.specs.lang.declared.transaction.Txn.{Txn}
-use Rattle.sdd_attempt.specs.lang.Classes.{class_for}
-use Rattle.sdd_attempt.specs.wire.declared.msg.Msg.{Msg}
-use Rattle.sdd_attempt.specs.site_module.SiteLog.{Bases, Act}
+use Rattle.sdd_attempt.specs.All.{Act, Bases, Catalogue, D, Deliver, Down, Event, Lose, Msg, Repeat, Resend, Site, Submit, T, Txn, U, Up, class_for, first_some, is_empty, or_else, sites}
 use Rattle.sdd_attempt.specs.site_module.SiteLog as site
 use Rattle.sdd_net.specs.Links.{packet_at, unacked, delivered}
 use Rattle.sdd_dm.specs.Due as dm

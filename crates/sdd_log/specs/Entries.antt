@@ -1,16 +1,7 @@
 -- The one log of everything, newest first, and its history.
 use Rattle.std.specs.Prelude.{ℕ, suc, List, [], ◌∷◌, ◌++◌, map}
-use Rattle.sdd_attempt.specs.base.Numbers.{txn_no}
-use Rattle.sdd_attempt.specs.base.declared.site.Site.{Site}
-use Rattle.sdd_attempt.specs.base.declared.number.RelNo.{RelNo}
-use Rattle.sdd_attempt.specs.base.declared.event.Event.{Event}
-use Rattle.sdd_attempt.specs.catalog.Catalogue.{Catalogue}
-use Rattle.sdd_attempt.specs.lang.declared.transaction.Txn.{Txn}
-use Rattle.sdd_attempt.specs.lang.Database.{Row}
-use Rattle.sdd_attempt.specs.history.declared.record.Rec.TheVariants.{Submit as Submission, Nothing}
-use Rattle.sdd_attempt.specs.history.Records.{History}
-use Rattle.sdd_attempt.specs.wire.declared.msg.Msg.{Msg}
-use Rattle.sdd_attempt.specs.site_module.SiteLog.{Force, Act, records_of_act}
+use Rattle.sdd_attempt.specs.All.{Act, Catalogue, Event, Force, History, Msg, Nothing, RelNo, Row, Site, Txn, records_of_act, txn_no}
+use Rattle.sdd_attempt.specs.history.declared.record.Rec.TheVariants.{Submit as Submission}
 
 -- An entry. `Mark` is an event of the schedule or of a round; `Round` begins a round of these events; `Redeclares` puts
 -- the next list of classes in force at a time. `Hand a b n m` hands message n of the link from a to b over;

@@ -1,9 +1,6 @@
 -- Which log is the log of what is given.
 use Rattle.std.specs.Prelude.{suc, nat_lt, ◌≡◌, Bool, true, false, ◌||◌, List, [], ◌∷◌, length, Some, None}
-use Rattle.sdd_attempt.specs.base.declared.site.Site.{Site}
-use Rattle.sdd_attempt.specs.base.declared.limits.TheConstants.{MAX_RUN_EVENTS, MAX_LINK_MESSAGES}
-use Rattle.sdd_attempt.specs.wire.declared.msg.Msg.{Msg}
-use Rattle.sdd_attempt.specs.site_module.SiteLog.{sends_of_act}
+use Rattle.sdd_attempt.specs.All.{MAX_LINK_MESSAGES, MAX_RUN_EVENTS, Msg, Site, sends_of_act}
 use Rattle.sdd_net.specs.Links.{Call, Puts, link}
 use Rattle.sdd_log.specs.Entries.{Given, Log, Entry, Mark, Redeclares, Does, marks}
 use Rattle.sdd_log.specs.Traffic.{calls_of}

@@ -1,15 +1,6 @@
 -- The log of each site, as the log of everything gives it.
 use Rattle.std.specs.Prelude.{ℕ, suc, ◌-◌, if◌then◌else◌, List, [], ◌∷◌, slice_get, slice_index_or, Option, Some, None}
-use Rattle.sdd_attempt.specs.base.Sites.{same_site}
-use Rattle.sdd_attempt.specs.base.declared.site.Site.{Site}
-use Rattle.sdd_attempt.specs.base.declared.site.Site.TheVariants.{U, T, D}
-use Rattle.sdd_attempt.specs.base.declared.number.RelNo.{RelNo}
-use Rattle.sdd_attempt.specs.base.declared.event.Event.{Event}
-use Rattle.sdd_attempt.specs.base.declared.event.Event.TheVariants.{Tick}
-use Rattle.sdd_attempt.specs.protocol.Protocols.{IsTable}
-use Rattle.sdd_attempt.specs.lang.declared.transaction.Txn.{Txn}
-use Rattle.sdd_attempt.specs.lang.Database.{Row}
-use Rattle.sdd_attempt.specs.site_module.SiteLog.{Setting, Force, Handed, Ticked, Submits, Redeclared, Did}
+use Rattle.sdd_attempt.specs.All.{D, Did, Event, Force, Handed, IsTable, Redeclared, RelNo, Row, Setting, Site, Submits, T, Tick, Ticked, Txn, U, same_site}
 use Rattle.sdd_attempt.specs.site_module.SiteLog as site
 use Rattle.sdd_log.specs.Entries.{Given, Log, Mark, Redeclares, Hand, Submitted, Does}
 

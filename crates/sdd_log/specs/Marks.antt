@@ -1,15 +1,8 @@
 -- The next event: of the round in progress, or of the schedule. A `settle` or a `redeclare` is reached by rounds, until
 -- nothing is in flight and all messages are acknowledged; a `settle` that is reached has no mark of its own.
 use Rattle.std.specs.Prelude.{ℕ, max, Bool, true, false, List, [], ◌∷◌, map, fold, Option, Some, None}
-use Rattle.sdd_attempt.specs.base.Words.{tail_of}
-use Rattle.sdd_attempt.specs.base.Numbers.{tm_no}
-use Rattle.sdd_attempt.specs.base.Clock.{bound_of}
-use Rattle.sdd_attempt.specs.base.declared.site.Site.TheVariants.{T}
-use Rattle.sdd_attempt.specs.base.declared.event.Event.{Event}
-use Rattle.sdd_attempt.specs.base.declared.event.Event.TheVariants.{Settle, Redeclare}
-use Rattle.sdd_attempt.specs.catalog.Catalogue.{numbers_to}
+use Rattle.sdd_attempt.specs.All.{Event, Redeclare, Settle, T, bound_of, clock, numbers_to, tail_of, tm_no}
 use Rattle.sdd_net.specs.Links.{quiet, round}
-use Rattle.sdd_attempt.specs.Clocks.{clock}
 use Rattle.sdd_log.specs.Entries.{Entry, Mark, Round, Redeclares, Log, Given}
 use Rattle.sdd_log.specs.Traffic.{calls_of, all_links}
 use Rattle.sdd_log.specs.Locals.{local_of}

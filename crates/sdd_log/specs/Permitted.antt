@@ -1,12 +1,7 @@
 -- Permitted logs: each entry is due, in whatever order. What holds of all of them is easier to prove than what holds of
 -- lawful logs, which are among them.
 use Rattle.std.specs.Prelude.{ℕ, suc, ◌+◌, ◌≤◌, ◌≡◌, ◌==◌, Bool, true, false, not, ◌||◌, List, [], ◌∷◌, Some}
-use Rattle.sdd_attempt.specs.base.declared.site.Site.{Site}
-use Rattle.sdd_attempt.specs.base.declared.site.Site.TheVariants.{U, T, D}
-use Rattle.sdd_attempt.specs.base.declared.event.Event.{Event}
-use Rattle.sdd_attempt.specs.base.declared.event.Event.TheVariants.{Submit}
-use Rattle.sdd_attempt.specs.wire.declared.msg.Msg.{Msg}
-use Rattle.sdd_attempt.specs.site_module.SiteLog.{Act}
+use Rattle.sdd_attempt.specs.All.{Act, D, Event, Msg, Site, Submit, T, U}
 use Rattle.sdd_net.specs.Links.{delivered}
 use Rattle.sdd_dm.specs.Views as dm_views
 use Rattle.sdd_dm.specs.Due as dm

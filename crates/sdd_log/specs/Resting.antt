@@ -1,13 +1,6 @@
 -- Logs at rest, and what an event needs.
 use Rattle.std.specs.Prelude.{ℕ, zero, suc, ◌+◌, ◌≤◌, ◌≡◌, true, false, List, [], ◌∷◌, ◌++◌, if◌then◌else◌, length, slice_get, None, Some}
-use Rattle.sdd_attempt.specs.base.Sites.{same_site, sites}
-use Rattle.sdd_attempt.specs.base.declared.site.Site.{Site}
-use Rattle.sdd_attempt.specs.base.declared.site.Site.TheVariants.{T, D}
-use Rattle.sdd_attempt.specs.base.declared.event.Event.{Event}
-use Rattle.sdd_attempt.specs.base.declared.event.Event.TheVariants.{Submit, Deliver, Lose, Repeat, Resend, Tick, Settle, Redeclare, Down, Up}
-use Rattle.sdd_attempt.specs.base.declared.limits.TheConstants.{MAX_RUN_EVENTS, MAX_TICKS}
-use Rattle.sdd_attempt.specs.wire.declared.msg.Msg.{Msg}
-use Rattle.sdd_attempt.specs.lang.declared.transaction.Txn.{Txn}
+use Rattle.sdd_attempt.specs.All.{D, Deliver, Down, Event, Lose, MAX_RUN_EVENTS, MAX_TICKS, Msg, Redeclare, Repeat, Resend, Settle, Site, Submit, T, Tick, Txn, Up, same_site, sites}
 use Rattle.sdd_net.specs.Links.{delivered}
 use Rattle.sdd_net.specs.Nets.{is_site, is_link}
 use Rattle.sdd_log.specs.Entries.{Given, Log, Mark, marks}

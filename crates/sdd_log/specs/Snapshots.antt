@@ -2,16 +2,7 @@
 -- just before its Answer there.
 use Rattle.std.specs.Prelude.{ℕ, ◌==◌, Bool, false, if◌then◌else◌, List, [], ◌∷◌, map, fold, Option, Some}
 use Rattle.std.specs.List.{flat_map}
-use Rattle.sdd_attempt.specs.base.Words.{ascending}
-use Rattle.sdd_attempt.specs.base.Numbers.{dm_no}
-use Rattle.sdd_attempt.specs.base.declared.site.Site.TheVariants.{D}
-use Rattle.sdd_attempt.specs.catalog.Catalogue.{Catalogue, fragment_at, numbers_to}
-use Rattle.sdd_attempt.specs.lang.Database.{Row, Item, Database, with_row}
-use Rattle.sdd_attempt.specs.lang.Classes.{fragments_in}
-use Rattle.sdd_attempt.specs.history.declared.record.Rec.TheVariants.{Answer}
-use Rattle.sdd_attempt.specs.wire.declared.msg.Msg.{Msg}
-use Rattle.sdd_attempt.specs.wire.declared.msg.Msg.TheVariants.{Read}
-use Rattle.sdd_attempt.specs.site_module.SiteLog.{Setting, Bases, Did, Records}
+use Rattle.sdd_attempt.specs.All.{Answer, Bases, Catalogue, D, Database, Did, Item, Msg, Read, Records, Row, Setting, ascending, dm_no, fragment_at, fragments_in, numbers_to, with_row}
 use Rattle.sdd_attempt.specs.site_module.SiteLog as site
 use Rattle.sdd_copy.specs.Contents.{Dated, contents}
 use Rattle.sdd_pipe.specs.Pipe.{head}

@@ -1,12 +1,6 @@
 -- What is put on the links and handed over, as the log of everything gives it.
 use Rattle.std.specs.Prelude.{ℕ, ◌-◌, Bool, true, false, not, ◌&&◌, ◌==◌, if◌then◌else◌, List, [], ◌∷◌, slice_get, Option}
-use Rattle.sdd_attempt.specs.base.Sites.{same_site, links}
-use Rattle.sdd_attempt.specs.base.declared.site.Site.{Site}
-use Rattle.sdd_attempt.specs.base.declared.site.Site.TheVariants.{U, T, D}
-use Rattle.sdd_attempt.specs.base.declared.event.Event.{Event}
-use Rattle.sdd_attempt.specs.base.declared.event.Event.TheVariants.{Deliver, Lose, Repeat, Resend, Down, Up}
-use Rattle.sdd_attempt.specs.wire.declared.msg.Msg.{Msg}
-use Rattle.sdd_attempt.specs.site_module.SiteLog.{sends_of_act}
+use Rattle.sdd_attempt.specs.All.{D, Deliver, Down, Event, Lose, Msg, Repeat, Resend, Site, T, U, Up, links, same_site, sends_of_act}
 use Rattle.sdd_net.specs.Links.{Call, Puts, Delivers, Loses, Repeats, Resends, Link, link}
 use Rattle.sdd_log.specs.Entries.{Log, Mark, Hand, Does, Given}
 

@@ -1,16 +1,8 @@
 -- Worked logs, written by tools/write_log_rows.py.
 use Rattle.std.specs.Prelude.{◌≡◌, pos, negsuc, [], ◌∷◌, length, Some, None, refl}
-use Rattle.sdd_log.specs.base.Numbers.{rel_no, tm_no, dm_no, class_no, frag_no, txn_no, time_at}
-use Rattle.sdd_log.specs.base.declared.value.Value.TheVariants.{Int}
-use Rattle.sdd_log.specs.base.declared.event.Event.TheVariants.{Submit, Settle, Redeclare}
-use Rattle.sdd_log.specs.base.declared.reply.Reply.TheVariants.{Rows}
-use Rattle.sdd_log.specs.catalog.Catalogue.{Catalogue}
+use Rattle.sdd_log.specs.All.{Answer, Apply, Arrive, Catalogue, Commit, Given, Int, Log, P1, Put, Query, Redeclare, Rows, Settle, Start, Submit, class_no, dm_no, extended, frag_no, history, marks, next, rel_no, time_at, tm_no, txn_no}
 use Rattle.sdd_graph.specs.declared.edge.Edge.TheVariants.{Vertical}
-use Rattle.sdd_log.specs.protocol.declared.protocol.Protocol.TheVariants.{P1}
-use Rattle.sdd_log.specs.lang.declared.statement.Stmt.TheVariants.{Put, Query}
-use Rattle.sdd_log.specs.history.declared.record.Rec.TheVariants.{Submit as Submission, Start, Arrive, Answer, Apply, Commit}
-use Rattle.sdd_log.specs.Entries.{Given, Log, history, marks}
-use Rattle.sdd_log.specs.Due.{next, extended}
+use Rattle.sdd_log.specs.history.declared.record.Rec.TheVariants.{Submit as Submission}
 use Rattle.sdd_log.specs.catalog.declared.parts.Kind.TheVariants as kinds
 
 -- a further list of classes is put in force

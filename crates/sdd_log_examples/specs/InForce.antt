@@ -1,9 +1,7 @@
 -- The catalogues in force of the workload with a further list of classes: each list retires those before it, and the
 -- catalogue of the whole workload has the classes of all lists.
 use Rattle.std.specs.Prelude.{◌≡◌, [], ◌∷◌, map, refl}
-use Rattle.sdd_log.specs.base.Numbers.{tm_no, dm_no, frag_no}
-use Rattle.sdd_log.specs.catalog.declared.resolved.Class.{Class}
-use Rattle.sdd_log.specs.catalog.Eras.{eras, whole}
+use Rattle.sdd_log.specs.All.{Class, dm_no, eras, frag_no, tm_no, whole}
 use Rattle.sdd_log_examples.specs.Classes.{catalogue_of_further_classes, classes_of_further_classes_0, given_further_classes}
 
 abbrev audit : Class

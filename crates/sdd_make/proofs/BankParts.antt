@@ -1,11 +1,7 @@
 -- The parts of the bank have no fault.
 use Rattle.std.proofs.Common.{◌≡◌, Some, ap, ◌∙◌}
 use Rattle.std.specs.Prelude.{None}
-use Rattle.sdd_script.specs.base.Words.{head_of}
-use Rattle.sdd_script.specs.catalog.Rules.{faults_of, TellsFirst}
-use Rattle.sdd_script.specs.catalog.declared.fault.CatError.TheVariants.{Fault}
-use Rattle.sdd_script.specs.catalog.declared.fault.CatFault.{CatFault}
-use Rattle.sdd_script.specs.catalog.declared.parts.Parts.{Parts}
+use Rattle.sdd_script.specs.All.{CatFault, Fault, Parts, TellsFirst, faults_of, head_of}
 use Rattle.sdd_make.specs.Bank.{bank_parts, bank_is_valid}
 
 pub no_fault : (parts : Parts) (fault : CatFault) → parts ≡ bank_parts → TellsFirst (Fault fault) (faults_of parts) → ⊥

@@ -1,10 +1,7 @@
 -- Loops that draw: one item more, and their ends.
 use Rattle.std.proofs.Common.{◌≡◌, ℕ, suc, ◌+◌, ◌-◌, ◌<◌, ◌≤◌, List, [], ◌∷◌, ◌++◌, map, arith, ap, sym, ◌∙◌, append_assoc, append-nil}
 use Rattle.std.specs.List.{range_with_len}
-use Rattle.sdd_script.specs.base.declared.event.Event.{Event}
-use Rattle.sdd_script.specs.base.declared.number.RelNo.{RelNo}
-use Rattle.sdd_script.specs.base.declared.value.Value.{Value}
-use Rattle.sdd_script.specs.lang.declared.transaction.Txn.{Txn}
+use Rattle.sdd_script.specs.All.{Event, RelNo, Txn, Value}
 use Rattle.sdd_make.specs.Draws.{draw}
 use Rattle.sdd_make.specs.Turns.{account_row, delivery, deliveries, turn, turns, txns_of, events_of}
 

@@ -5,7 +5,7 @@ use Rattle.std.specs.Fmt.{decimal}
 use Rattle.std.specs.List.{list_all}
 use Rattle.std.proofs.lemmas.Bool.Decides.{nat_tests}
 use Rattle.std.proofs.lemmas.Fmt.{decimal_by_steps, length-decimal-le}
-use Rattle.sdd_script.specs.base.Name.{IsName, is_name, is_name_byte, begins_with_letter, is_keyword}
+use Rattle.sdd_script.specs.All.{IsName, begins_with_letter, is_keyword, is_name, is_name_byte}
 use Rattle.sdd_script.proofs.words.NameTexts.{both_are}
 
 digit_fits : (n : ℕ) → n < 10 → is_name_byte (48 + n) ≡ true

@@ -3,7 +3,7 @@ use Rattle.std.proofs.Common.{[], inl, inr, arith}
 use Rattle.std.specs.Prelude.{codes}
 use Rattle.std.proofs.lemmas.Str.{IsUtf8-from_ascii}
 use Rattle.std.proofs.lemmas.Str.Ascii.{IsAscii-cons, IsAscii-nil}
-use Rattle.sdd_script.specs.base.Text.{IsText}
+use Rattle.sdd_script.specs.All.{IsText}
 use Rattle.sdd_script.proofs.base.Membership.{Contains-nil, Contains-cases}
 
 pub owner_is_text : IsText (codes "o")

@@ -5,11 +5,7 @@ use Rattle.std.specs.List.{All, range_with_len}
 use Rattle.std.proofs.lemmas.List.Elements.{All-nil, All-cons, All-append, filter_map-append}
 use Rattle.std.proofs.lemmas.List.FromFn.{length-range_with_len, get_or-range_with_len}
 use Rattle.std.proofs.lemmas.List.Sums.{sum_by-cons}
-use Rattle.sdd_script.specs.base.Numbers.{dm_no, tm_no, txn_no}
-use Rattle.sdd_script.specs.base.declared.event.Event.{Event}
-use Rattle.sdd_script.specs.base.declared.event.Event.TheVariants.{Submit}
-use Rattle.sdd_script.specs.base.declared.site.Site.TheVariants.{T, D}
-use Rattle.sdd_script.specs.Valid.{IsValidTxn, IsValidEvent, rows_put_by, submitted_by, AreDistinct}
+use Rattle.sdd_script.specs.All.{AreDistinct, D, Event, IsValidEvent, IsValidTxn, Submit, T, dm_no, rows_put_by, submitted_by, tm_no, txn_no}
 use Rattle.sdd_script.proofs.NoLists.{IsNoRedeclare}
 use Rattle.sdd_make.specs.Bank.{bank}
 use Rattle.sdd_make.specs.Draws.{next, shown, draw}

@@ -8,8 +8,7 @@ use Rattle.std.proofs.lemmas.Bool.{false_from_ne_true}
 use Rattle.std.proofs.lemmas.Fmt.{decimal_injective}
 use Rattle.std.proofs.lemmas.List.{append_cancel_left}
 use Rattle.std.proofs.lemmas.Slice.Eq.{bytes_eq-Decides}
-use Rattle.sdd_script.specs.catalog.Rules.{has_name, repeats}
-use Rattle.sdd_script.specs.lang.declared.transaction.Txn.{Txn}
+use Rattle.sdd_script.specs.All.{Txn, has_name, repeats}
 use Rattle.sdd_make.specs.Draws.{next, shown}
 use Rattle.sdd_make.specs.Turns.{turn, turns, txns_of}
 use Rattle.sdd_make.proofs.ValidTxns.{named_by_number}

@@ -3,17 +3,8 @@ use Rattle.std.proofs.Common.{◌≡◌, ◌≢◌, ℕ, zero, suc, ℤ, pos, ne
 use Rattle.std.specs.Int.Signed.{mag}
 use Rattle.std.specs.List.{All, range_with_len}
 use Rattle.std.proofs.lemmas.List.Elements.{All-nil, All-cons, All-append}
-use Rattle.sdd_script.specs.base.Numbers.{rel_no}
-use Rattle.sdd_script.specs.base.declared.value.Value.TheVariants.{Int, Text}
-use Rattle.sdd_script.specs.base.declared.number.RelNo.{RelNo}
-use Rattle.sdd_script.specs.base.declared.restriction.Op.TheVariants.{Eq, Ge}
-use Rattle.sdd_script.specs.lang.Fits.{FitsStatement, FitsRef, FitsAssign, FitsCondition, IsRelation}
-use Rattle.sdd_script.specs.lang.declared.assign.Assign.TheVariants.{Add}
-use Rattle.sdd_script.specs.lang.declared.condition.Condition.{Condition}
-use Rattle.sdd_script.specs.lang.declared.condition.Condition.TheVariants.{Const}
-use Rattle.sdd_script.specs.lang.declared.statement.Stmt.{Stmt}
-use Rattle.sdd_script.specs.lang.declared.transaction.Txn.{Txn}
-use Rattle.sdd_script.specs.Valid.{IsValidRow, IsValidTxn, IsValue, HoldsValue, HoldsValues, AssignsValue, rows_put_by}
+use Rattle.sdd_script.specs.All.{Add, AssignsValue, Condition, Const, Eq, FitsAssign, FitsCondition, FitsRef, FitsStatement, Ge, HoldsValue, HoldsValues, Int, IsRelation, IsValidRow, IsValidTxn, IsValue, RelNo, Stmt, Txn, rel_no, rows_put_by}
+use Rattle.sdd_script.specs.base.declared.value.Value.TheVariants.{Text}
 use Rattle.sdd_make.specs.Bank.{bank}
 use Rattle.sdd_make.specs.Statements.{of_account, compared, addition, payment, asking, balances, owners, txn_at, txn_of_kind, txn_of}
 use Rattle.sdd_make.specs.Turns.{account_row, accounts}

@@ -3,9 +3,7 @@ use Rattle.std.proofs.Common.{◌≡◌, ℕ, ◌≤◌, [], ◌∷◌, ◌++◌
 use Rattle.std.specs.Prelude.{filter_map}
 use Rattle.std.specs.List.{All, range_with_len}
 use Rattle.std.proofs.lemmas.List.Elements.{All-nil, All-cons, All-append, filter_map-append}
-use Rattle.sdd_script.specs.base.declared.limits.TheConstants.{MAX_TXNS}
-use Rattle.sdd_script.specs.base.declared.event.Event.TheVariants.{Settle}
-use Rattle.sdd_script.specs.Valid.{IsValid, IsValidClass, IsValidEvent, AreDistinct, AreTimely, AreValidLists, submitted_by}
+use Rattle.sdd_script.specs.All.{AreDistinct, AreTimely, AreValidLists, IsValid, IsValidClass, IsValidEvent, MAX_TXNS, Settle, submitted_by}
 use Rattle.sdd_script.proofs.NoLists.{IsNoRedeclare, timely_without}
 use Rattle.sdd_make.specs.Bank.{bank}
 use Rattle.sdd_make.specs.Turns.{turns_of, events_of, workload_of}

@@ -1,15 +1,8 @@
 -- The catalogue of a bank: accounts in the east and in the west, each kept at two modules.
 use Rattle.std.specs.Prelude.{ℕ, ℤ, pos, List, [], ◌∷◌, codes, refl}
-use Rattle.sdd_script.specs.catalog.Catalogue.{Catalogue, catalogue_of}
-use Rattle.sdd_script.specs.catalog.Rules.{IsValid, faults_of, least_key, greatest_key}
-use Rattle.sdd_script.specs.catalog.declared.parts.ClassPart.{ClassPart}
-use Rattle.sdd_script.specs.catalog.declared.parts.ColumnPart.{ColumnPart}
-use Rattle.sdd_script.specs.catalog.declared.parts.FragmentPart.{FragmentPart}
-use Rattle.sdd_script.specs.catalog.declared.parts.Kind.{Kind}
+use Rattle.sdd_script.specs.All.{Catalogue, ClassPart, ColumnPart, FragmentPart, Kind, Parts, ReadPart, RelationPart, catalogue_of, greatest_key, least_key}
+use Rattle.sdd_script.specs.catalog.Rules.{IsValid, faults_of}
 use Rattle.sdd_script.specs.catalog.declared.parts.Kind.TheVariants.{Int, Text}
-use Rattle.sdd_script.specs.catalog.declared.parts.Parts.{Parts}
-use Rattle.sdd_script.specs.catalog.declared.parts.ReadPart.{ReadPart}
-use Rattle.sdd_script.specs.catalog.declared.parts.RelationPart.{RelationPart}
 
 -- a column of the accounts
 abbrev pub column : List ℕ → Kind → ColumnPart

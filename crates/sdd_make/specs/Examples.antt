@@ -1,9 +1,7 @@
 -- Worked rows.
 use Rattle.std.specs.Prelude.{ℕ, ◌≡◌, List, [], ◌∷◌, codes, refl}
 use Rattle.std.specs.Fmt.{digits}
-use Rattle.sdd_script.specs.base.Numbers.{dm_no, tm_no, txn_no}
-use Rattle.sdd_script.specs.base.declared.event.Event.TheVariants.{Submit, Settle}
-use Rattle.sdd_script.specs.base.declared.site.Site.TheVariants.{T, D}
+use Rattle.sdd_script.specs.All.{D, Settle, Submit, T, dm_no, tm_no, txn_no}
 use Rattle.sdd_make.specs.Draws.{Drawing, ◌>>=◌, give, draw}
 use Rattle.sdd_make.specs.Statements.{payment, txn_at}
 use Rattle.sdd_make.specs.Summary.{summary_text}

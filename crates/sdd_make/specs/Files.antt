@@ -1,6 +1,6 @@
 -- The files of the made input.
 use Rattle.std.specs.Prelude.{ℕ, List, ◌++◌, codes}
-use Rattle.sdd_script.specs.Spelling.{spelling}
+use Rattle.sdd_script.specs.All.{spelling}
 use Rattle.sdd_make.specs.Bank.{bank}
 use Rattle.sdd_make.specs.Turns.{workload_of}
 

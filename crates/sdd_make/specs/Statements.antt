@@ -1,17 +1,7 @@
 -- What the made transactions do.
 use Rattle.std.specs.Prelude.{ℕ, ℤ, pos, negsuc, ◌+◌, ◌%◌, ◌==◌, if◌then◌else◌, List, [], ◌∷◌, ◌++◌, codes}
 use Rattle.std.specs.Fmt.{decimal}
-use Rattle.sdd_script.specs.base.Numbers.{rel_no, tm_no}
-use Rattle.sdd_script.specs.base.declared.restriction.Op.{Op}
-use Rattle.sdd_script.specs.base.declared.restriction.Op.TheVariants.{Eq, Ge}
-use Rattle.sdd_script.specs.base.declared.value.Value.TheVariants.{Int}
-use Rattle.sdd_script.specs.lang.declared.assign.Assign.TheVariants.{Add}
-use Rattle.sdd_script.specs.lang.declared.condition.Condition.{Condition}
-use Rattle.sdd_script.specs.lang.declared.condition.Condition.TheVariants.{Const}
-use Rattle.sdd_script.specs.lang.declared.condition.Ref.{Ref}
-use Rattle.sdd_script.specs.lang.declared.statement.Stmt.{Stmt}
-use Rattle.sdd_script.specs.lang.declared.statement.Stmt.TheVariants.{Query, Update}
-use Rattle.sdd_script.specs.lang.declared.transaction.Txn.{Txn}
+use Rattle.sdd_script.specs.All.{Add, Condition, Const, Eq, Ge, Int, Op, Query, Ref, Stmt, Txn, Update, rel_no, tm_no}
 
 -- a column of the accounts: 1 is the number, 2 the owner, 3 the balance
 abbrev pub of_account : ℕ → Ref

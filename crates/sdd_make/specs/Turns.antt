@@ -1,15 +1,8 @@
 -- The made workload: accounts, and one turn for each transaction, which makes it and draws its events.
 use Rattle.std.specs.Prelude.{ℕ, zero, suc, pos, nat_lt, ◌+◌, ◌/◌, ◌%◌, if◌then◌else◌, List, [], ◌∷◌, ◌++◌, map, flat_map, codes}
 use Rattle.std.specs.List.{range_with_len}
-use Rattle.sdd_script.specs.base.Numbers.{dm_no, rel_no, tm_no, txn_no}
-use Rattle.sdd_script.specs.base.declared.event.Event.{Event}
-use Rattle.sdd_script.specs.base.declared.event.Event.TheVariants.{Submit, Deliver, Settle}
-use Rattle.sdd_script.specs.base.declared.number.RelNo.{RelNo}
-use Rattle.sdd_script.specs.base.declared.site.Site.{Site}
-use Rattle.sdd_script.specs.base.declared.site.Site.TheVariants.{T, D}
-use Rattle.sdd_script.specs.base.declared.value.Value.{Value}
-use Rattle.sdd_script.specs.base.declared.value.Value.TheVariants.{Int, Text}
-use Rattle.sdd_script.specs.lang.declared.transaction.Txn.{Txn}
+use Rattle.sdd_script.specs.All.{D, Deliver, Event, Int, RelNo, Settle, Site, Submit, T, Txn, Value, dm_no, rel_no, tm_no, txn_no}
+use Rattle.sdd_script.specs.base.declared.value.Value.TheVariants.{Text}
 use Rattle.sdd_script.specs.declared.workload.Workload.{Workload}
 use Rattle.sdd_make.specs.Draws.{Drawing, ◌>>=◌, give, draw}
 use Rattle.sdd_make.specs.Statements.{txn_of}

@@ -1,6 +1,6 @@
 //! The catalogue of the bank.
 ghost use Rattle.std.specs.Prelude.{◌≡◌, ◌∷◌, [], IfOk};
-ghost use Rattle.sdd_script.specs.base.Name.{IsName};
+ghost use Rattle.sdd_script.specs.All.{IsName};
 ghost use Rattle.sdd_make.specs.Bank.{column, account, fragment, read, class, eastpay, westpay, book, moving, bank_parts, bank, east, west};
 
 use crate::naming::name;

@@ -1,6 +1,6 @@
 //! The files of the made input.
 ghost use Rattle.std.specs.Prelude.{◌≡◌, ◌≤◌, ◌++◌, IfOk, OnOk};
-ghost use Rattle.sdd_script.specs.base.declared.limits.TheConstants.{MAX_TXNS};
+ghost use Rattle.sdd_script.specs.All.{MAX_TXNS};
 ghost use Rattle.sdd_make.specs.Files.{parts_text, payments_text, classes_text, catalogue_text, workload_text};
 
 use crate::catalogue::bank;

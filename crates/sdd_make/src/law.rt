@@ -1,7 +1,6 @@
 //! What holds of all made input.
 ghost use Rattle.std.specs.Prelude.{◌≤◌};
-ghost use Rattle.sdd_script.specs.base.declared.limits.TheConstants.{MAX_TXNS};
-ghost use Rattle.sdd_script.specs.Valid.{IsValid};
+ghost use Rattle.sdd_script.specs.All.{IsValid, MAX_TXNS};
 ghost use Rattle.sdd_make.specs.Bank.{bank};
 ghost use Rattle.sdd_make.specs.Turns.{workload_of};
 

@@ -1,8 +1,7 @@
 //! Names and texts of constants.
 ghost use Rattle.std.specs.Prelude.{◌≡◌, ◌++◌, codes, IfOk};
 ghost use Rattle.std.specs.Fmt.{decimal};
-ghost use Rattle.sdd_script.specs.base.Name.{IsName};
-ghost use Rattle.sdd_script.specs.base.Text.{IsText};
+ghost use Rattle.sdd_script.specs.All.{IsName, IsText};
 
 use sdd_script::sdd_base::{Name, NoMemory, Text};
 use std::alloc::Global;

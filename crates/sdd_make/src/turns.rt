@@ -1,7 +1,7 @@
 //! The made workload, turn by turn.
 ghost use Rattle.std.specs.Prelude.{◌≡◌, ◌≤◌, ◌++◌, ◌∷◌, [], map, OnOk, IfOk};
 ghost use Rattle.std.specs.List.{range_with_len};
-ghost use Rattle.sdd_script.specs.base.declared.limits.TheConstants.{MAX_TXNS};
+ghost use Rattle.sdd_script.specs.All.{MAX_TXNS};
 ghost use Rattle.sdd_make.specs.Turns.{account_row, accounts, arrival, delivery, deliveries, drawn_txn, drawn_events, turn, turns_of, txns_of, events_of, workload_of};
 
 use crate::naming::text;

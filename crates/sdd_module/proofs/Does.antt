@@ -1,7 +1,7 @@
 -- A call makes the acts that are due by its log, for every kind of module: where its view follows the log, the acts that
 -- go from view to view are those that are due next, one after the other.
 use Rattle.std.proofs.Common.{List, [], ◌∷◌, ◌++◌, ◌≡◌, refl, ap, ◌∙◌, sym, subst, Option, Some, None}
-use Rattle.sdd_lang.specs.base.declared.site.Site.{Site}
+use Rattle.sdd_lang.specs.All.{Site}
 use Rattle.sdd_history.specs.declared.record.Rec.{Rec}
 use Rattle.sdd_wire.specs.declared.msg.Msg.{Msg}
 use Rattle.sdd_module.specs.SiteLog.{Log, Entry, Did, Act, AreDue, Does, log_after, records_of, sends_of}

@@ -1,6 +1,6 @@
 -- Acts one after the other: what is made of a view, and of what that becomes.
 use Rattle.std.proofs.Common.{List, [], ◌∷◌, ◌++◌, ◌≡◌, refl, ap, ◌∙◌, sym, append_assoc, append-nil, Option, Some}
-use Rattle.sdd_lang.specs.base.declared.site.Site.{Site}
+use Rattle.sdd_lang.specs.All.{Site}
 use Rattle.sdd_wire.specs.declared.msg.Msg.{Msg}
 use Rattle.sdd_module.specs.SiteLog.{Entry, Did, Act, Records, Sends, records_of, sends_of, records_of_act, sends_of_act}
 use Rattle.sdd_module.specs.Notes.{Notes, with_sends, with_act, with_acts}

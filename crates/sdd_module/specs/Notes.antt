@@ -1,6 +1,6 @@
 -- What a call records and sends, each in its order.
 use Rattle.std.specs.Prelude.{List, [], ◌∷◌, ◌++◌, Option, Some, None}
-use Rattle.sdd_lang.specs.base.declared.site.Site.{Site}
+use Rattle.sdd_lang.specs.All.{Site}
 use Rattle.sdd_history.specs.declared.record.Rec.{Rec}
 use Rattle.sdd_wire.specs.declared.msg.Msg.{Msg}
 use Rattle.sdd_module.specs.SiteLog.{Act, Records, Sends}

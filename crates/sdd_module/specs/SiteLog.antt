@@ -1,12 +1,9 @@
 -- The log of one site, newest first: what was handed to it, what was given to it, and what it did.
 use Rattle.std.specs.Prelude.{ℕ, suc, ◌≡◌, ◌==◌, Bool, false, List, [], ◌∷◌, Option, Some, None}
 use Rattle.std.specs.List.{flat_map}
-use Rattle.sdd_lang.specs.base.declared.site.Site.{Site}
-use Rattle.sdd_lang.specs.base.declared.number.RelNo.{RelNo}
-use Rattle.sdd_lang.specs.catalog.Catalogue.{Catalogue}
+use Rattle.sdd_lang.specs.All.{Catalogue, Database, RelNo, Row, Site}
 use Rattle.sdd_protocol.specs.declared.entry.Entry as line
 use Rattle.sdd_lang.specs.declared.transaction.Txn.{Txn}
-use Rattle.sdd_lang.specs.Database.{Row, Database}
 use Rattle.sdd_history.specs.declared.record.Rec.{Rec}
 use Rattle.sdd_wire.specs.declared.msg.Msg.{Msg}
 

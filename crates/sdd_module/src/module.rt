@@ -1,7 +1,7 @@
 ghost use Rattle.std.specs.Prelude.{◌≡◌, ◌∷◌, Option, Bool, IsTrue, IfOk, OnErr};
 ghost use Rattle.sdd_module.specs.SiteLog.{Setting, Bases, Log, Act, Handed, Does};
 ghost use Rattle.sdd_wire.specs.declared.msg.Msg.{Msg};
-ghost use Rattle.sdd_lang.specs.base.declared.site.Site.{Site};
+ghost use Rattle.sdd_lang.specs.All.{Site};
 
 use sdd_lang::sdd_base::{NoMemory, Site};
 use sdd_wire::{Msg, Outcome};

@@ -1,23 +1,8 @@
 -- All that the modules ask: what is next on a lawful log fits the module to which it goes.
 use Rattle.std.proofs.Common.{ℕ, ◌/◌, ◌<◌, ◌==◌, ◌^◌, ◌∷◌, ◌≡◌, ◌≤◌, Bool, Some, arith, false, if◌then◌else◌, subst, suc, sym, true}
-use Rattle.sdd_invariants.specs.base.Numbers.{tm_no}
-use Rattle.sdd_invariants.specs.base.declared.event.Event.TheVariants.{Tick}
-use Rattle.sdd_invariants.specs.base.declared.number.DmNo.{DmNo}
-use Rattle.sdd_invariants.specs.base.declared.number.TmNo.{TmNo}
-use Rattle.sdd_invariants.specs.base.declared.site.Site.{Site}
-use Rattle.sdd_invariants.specs.base.declared.site.Site.TheVariants.{D, T, U}
+use Rattle.sdd_invariants.specs.All.{D, DmNo, Entry, FitsSite, Given, Hand, IsLawful, IsWithin, Log, Mark, Msg, Redeclares, Site, Submitted, T, Tick, TmNo, Txn, U, base_of, class_for, clock, force_at, greatest_bound, local_of, next, redeclares, setting_of, tm_no, txn_at}
 use Rattle.sdd_invariants.proofs.catalog.Sound.{sound_whole}
-use Rattle.sdd_invariants.specs.lang.Classes.{class_for}
-use Rattle.sdd_invariants.specs.lang.declared.transaction.Txn.{Txn}
-use Rattle.sdd_invariants.specs.wire.declared.msg.Msg.{Msg}
-use Rattle.sdd_invariants.specs.attempt.Clocks.{clock}
-use Rattle.sdd_invariants.specs.attempt.Fits.{FitsSite}
-use Rattle.sdd_invariants.specs.logs.Due.{home_of, next}
-use Rattle.sdd_invariants.specs.logs.Entries.{Entry, Given, Hand, Log, Mark, Redeclares, Submitted}
-use Rattle.sdd_invariants.specs.logs.Marks.{greatest_bound}
-use Rattle.sdd_invariants.specs.logs.Lawful.{IsLawful, IsWithin}
-use Rattle.sdd_invariants.specs.logs.Locals.{force_at, local_of, redeclares, setting_of, txn_at}
-use Rattle.sdd_invariants.specs.logs.Snapshots.{base_of}
+use Rattle.sdd_invariants.specs.logs.Due.{home_of}
 use Rattle.sdd_invariants.proofs.logs.NewMarks.{lawful_permitted}
 use Rattle.sdd_obligations.proofs.Put.{databases}
 use Rattle.sdd_obligations.specs.Facts.{Facts}

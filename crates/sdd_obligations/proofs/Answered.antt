@@ -1,27 +1,9 @@
 -- An answer that is next to be handed over is awaited by its site.
 use Rattle.std.specs.List.{list_any}
 use Rattle.std.proofs.Common.{ℕ, ◌&&◌, ◌==◌, ◌∙◌, ◌∷◌, ◌≡◌, ◌≤◌, Bool, List, None, Option, Some, ap, false, not, refl, subst, sym, true}
-use Rattle.sdd_invariants.specs.base.Numbers.{dm_no}
-use Rattle.sdd_invariants.specs.base.Sites.{number_of}
-use Rattle.sdd_invariants.specs.base.Words.{contains, head_of}
-use Rattle.sdd_invariants.specs.base.declared.number.ClassNo.{ClassNo}
-use Rattle.sdd_invariants.specs.base.declared.number.DmNo.{DmNo}
-use Rattle.sdd_invariants.specs.base.declared.number.Ts.{Ts}
-use Rattle.sdd_invariants.specs.base.declared.site.Site.{Site}
-use Rattle.sdd_invariants.specs.base.declared.value.Value.{Value}
-use Rattle.sdd_invariants.specs.base.declared.site.Site.TheVariants.{D}
-use Rattle.sdd_invariants.specs.lang.Database.{Row}
-use Rattle.sdd_invariants.specs.wire.declared.msg.Msg.{Msg}
-use Rattle.sdd_invariants.specs.wire.declared.msg.Msg.TheVariants.{Fetch, Read, Ready, Reduce, Reduced, Reject, Rows, Ship, Values}
-use Rattle.sdd_invariants.specs.site_module.SiteLog.{Log, Setting}
-use Rattle.sdd_invariants.specs.attempt.Attempts.{Attempt, active}
-use Rattle.sdd_invariants.specs.attempt.Exchange.{Fetching, Over, Phase, Reading, Reducing, Shipping}
-use Rattle.sdd_invariants.specs.attempt.Fits.{AnswersRead, AwaitsAt, fetches_use, is_shipping, numbers_of, reduces_use, uses_at, uses_read}
-use Rattle.sdd_invariants.specs.logs.Entries.{Given, Hand}
+use Rattle.sdd_invariants.specs.All.{AnswersRead, Attempt, AwaitsAt, ClassNo, D, DmNo, Fetch, Fetching, Given, Hand, IsAllowed, IsPermitted, Msg, Over, Phase, Read, Reading, Ready, Reduce, Reduced, Reducing, Reject, Row, Rows, Setting, Ship, Shipping, Site, Ts, Value, Values, active, contains, dm_no, fetches_use, handed, head_of, home, is_shipping, local_of, number_of, numbers_of, reduces_use, setting_of, uses_at, uses_read}
+use Rattle.sdd_invariants.specs.site_module.SiteLog.{Log}
 use Rattle.sdd_invariants.specs.logs.Entries as all
-use Rattle.sdd_invariants.specs.logs.Locals.{local_of, setting_of}
-use Rattle.sdd_invariants.specs.logs.Permitted.{IsAllowed, IsPermitted}
-use Rattle.sdd_invariants.specs.logs.Traffic.{handed}
 use Rattle.sdd_obligations.proofs.Hearing.{AtTurn, answers_asked, is_awaited}
 use Rattle.sdd_obligations.proofs.AtTurn.{awaits}
 use Rattle.sdd_obligations.proofs.ReadSent.{IsLastRead, last_read, numbers_are, reads_sent, was_answered, was_sent}
@@ -31,7 +13,6 @@ use Rattle.sdd_obligations.proofs.Halves.{IsSpoken, active_of, home_log, home_tu
 use Rattle.sdd_obligations.specs.Awaited.{AwaitsRows, IsAwaited}
 use Rattle.sdd_obligations.specs.Turns.{Asks, Replies, RepliesToFetch, RepliesToRead, RepliesToReduce, RepliesToShip, Turn, is_a_read, is_answer, is_exchanging, turn_at}
 use Rattle.sdd_invariants.proofs.Bools.{both, not_both, same_number}
-use Rattle.sdd_invariants.specs.Steps.{home}
 use Rattle.sdd_invariants.proofs.Fair.{home_fair}
 use Rattle.sdd_invariants.proofs.InOrder.{hand_was_put}
 

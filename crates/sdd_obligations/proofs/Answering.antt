@@ -1,27 +1,14 @@
 -- A READY or REJECT that is next to be handed over answers a READ of the site, and is the first that does.
 use Rattle.std.specs.List.{list_any}
 use Rattle.std.proofs.Common.{ℕ, ◌&&◌, ◌++◌, ◌+◌, ◌<◌, ◌==◌, ◌∙◌, ◌∷◌, ◌≡◌, ◌≤◌, Bool, List, Some, [], ap, append_assoc, arith, false, if◌then◌else◌, inl, inr, refl, slice_get, subst, suc, sym, take, true, zero}
-use Rattle.sdd_invariants.specs.base.Sites.{number_of, same_site}
-use Rattle.sdd_invariants.specs.base.declared.number.DmNo.{DmNo}
-use Rattle.sdd_invariants.specs.base.declared.site.Site.{Site}
-use Rattle.sdd_invariants.specs.base.declared.site.Site.TheVariants.{D}
-use Rattle.sdd_invariants.specs.wire.declared.msg.Msg.{Msg}
-use Rattle.sdd_invariants.specs.wire.declared.msg.Msg.TheVariants.{Read}
-use Rattle.sdd_invariants.specs.site_module.SiteLog.{Act, Did, Handed, Redeclared, Setting, Submits, Ticked, sends_of_act}
-use Rattle.sdd_invariants.specs.attempt.Fits.{AnswersRead, at_site, handed as all_handed, is_read, is_verdict, sent}
-use Rattle.sdd_invariants.specs.logs.Entries.{Does, Given, Log}
-use Rattle.sdd_invariants.specs.logs.Locals.{local_of, setting_of}
-use Rattle.sdd_invariants.specs.logs.Permitted.{IsPermitted}
-use Rattle.sdd_invariants.specs.logs.Traffic.{handed}
+use Rattle.sdd_invariants.specs.All.{Act, AnswersRead, D, Did, DmNo, Does, Given, Handed, IsPermitted, Log, Msg, Read, Redeclared, Setting, Site, Submits, Ticked, at_site, handed, hands_from, home, is_read, is_verdict, local_of, number_of, one_if, puts_to, same_site, sends_of_act, setting_of, tally, to_site}
+use Rattle.sdd_invariants.specs.attempt.Fits.{handed as all_handed, sent}
 use Rattle.sdd_invariants.proofs.Turns.{tally_append, tally_take}
-use Rattle.sdd_invariants.specs.Turns.{one_if, tally}
 use Rattle.sdd_invariants.proofs.Answered.{put_in_by_d}
 use Rattle.sdd_invariants.proofs.Installed.{head_put}
 use Rattle.sdd_invariants.proofs.Bools.{and_left, and_right, both, only_right, or_left, or_right, same_number, true_or_false}
 use Rattle.sdd_invariants.proofs.Lists.{take_one_more}
 use Rattle.sdd_invariants.proofs.Sites.{site_is, site_self}
-use Rattle.sdd_invariants.specs.Steps.{home}
-use Rattle.sdd_invariants.specs.Traffic.{hands_from, puts_to, to_site}
 use Rattle.sdd_invariants.proofs.InOrder.{in_order}
 use Rattle.sdd_invariants.proofs.Made.{local_grows, own_act, permitted_before}
 use Rattle.sdd_obligations.proofs.Verdicts.{in_class, one_verdict, verdict_by}

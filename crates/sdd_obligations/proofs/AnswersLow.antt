@@ -2,26 +2,14 @@
 use Rattle.std.proofs.Common.{ℕ, ◌&&◌, ◌+◌, ◌==◌, ◌∷◌, ◌≡◌, ◌≤◌, List, None, Option, Some, [], arith, length, subst, suc, sym}
 use Rattle.std.proofs.Math.Decide.{dec_le}
 use Rattle.std.specs.Prelude.{filter_map}
-use Rattle.sdd_invariants.specs.base.declared.number.ClassNo.{ClassNo}
-use Rattle.sdd_invariants.specs.base.declared.number.Ts.{Ts}
-use Rattle.sdd_invariants.specs.base.declared.site.Site.{Site}
-use Rattle.sdd_invariants.specs.wire.Piped.{goes_through}
-use Rattle.sdd_invariants.specs.wire.declared.msg.Msg.{Msg}
-use Rattle.sdd_invariants.specs.wire.declared.msg.Msg.TheVariants.{Ask, Done, Read, Ready, Reduced, Reject, Rows, Values}
-use Rattle.sdd_invariants.specs.site_module.SiteLog.{Act, Did, Handed, Log, Records, Redeclared, Sends, Setting, Submits, Ticked, sends_of_act}
-use Rattle.sdd_invariants.specs.pipe.Pipe.{Pipe, head, head_processed, one_or_none, put, write_time}
-use Rattle.sdd_invariants.specs.dm.Due.{IsDue}
-use Rattle.sdd_invariants.specs.dm.Pipes.{is_processing, pipe, pipe_acted}
-use Rattle.sdd_invariants.specs.dm.Views.{ClassView, at_class, home_of, view_of}
+use Rattle.sdd_invariants.specs.All.{Act, Ask, ClassNo, ClassView, Did, Done, Handed, IsAskBy, IsDue, IsPutByD, IsRejectBy, Msg, Pipe, Read, Ready, Records, Redeclared, Reduced, Reject, Rows, Sends, Setting, Site, Submits, Ticked, Ts, Values, at_class, goes_through, head, head_processed, home_of, is_processing, one_or_none, pipe, pipe_acted, put, sends_of_act, tail_of, to_site, view_of, write_time}
+use Rattle.sdd_invariants.specs.site_module.SiteLog.{Log}
 use Rattle.sdd_invariants.proofs.PutBy.{put_by_d}
-use Rattle.sdd_invariants.specs.PutsBy.{IsAskBy, IsPutByD, IsRejectBy}
 use Rattle.sdd_invariants.proofs.AreReadSteps.{class_in_view, class_not_in_view}
 use Rattle.sdd_invariants.proofs.Bools.{if_way}
-use Rattle.sdd_invariants.specs.Traffic.{to_site}
 use Rattle.sdd_obligations.specs.Heights.{AllLow, HandsLow, IsLow, starts_by, top}
 use Rattle.sdd_obligations.proofs.LowLists.{all_low_join, all_low_of, all_low_up, cond_le_at, greatest_le, write_times_le}
 use Rattle.sdd_obligations.proofs.SendsLow.{PutsLow}
-use Rattle.sdd_invariants.specs.base.Words.{tail_of}
 
 -- pipes
 

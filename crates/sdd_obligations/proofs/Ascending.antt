@@ -3,18 +3,9 @@ use Rattle.std.specs.List.{cons_option, range_with_len}
 use Rattle.std.specs.Option.{option_or}
 use Rattle.std.specs.Prelude.{filter_map}
 use Rattle.std.proofs.Common.{ℕ, ◌+◌, ◌<◌, ◌==◌, ◌∷◌, ◌≡◌, Bool, List, None, Option, Some, [], ap, arith, length, map, refl, subst, suc, sym, zero}
-use Rattle.sdd_invariants.specs.base.Numbers.{frag_no}
-use Rattle.sdd_invariants.specs.base.declared.condition.Cond.{Cond}
-use Rattle.sdd_invariants.specs.base.declared.number.FragNo.{FragNo}
-use Rattle.sdd_invariants.specs.catalog.Catalogue.{Catalogue}
-use Rattle.sdd_invariants.specs.graph.Graph.{fragments_of}
-use Rattle.sdd_invariants.specs.protocol.Conditions.{asked_by, cond_for, cond_of, condition_on, conditions, is_asked, undeclared_conditions}
+use Rattle.sdd_invariants.specs.All.{AllGt, Ascend, Catalogue, Cond, FragNo, IsStrict, P2, P3, StartsAbove, asked_by, cond_for, cond_of, condition_on, conditions, conditions_at, frag_no, fragments_of, is_asked, undeclared_conditions}
 use Rattle.sdd_invariants.specs.protocol.declared.entry.Entry as line
-use Rattle.sdd_invariants.specs.protocol.declared.protocol.Protocol.TheVariants.{P2, P3}
-use Rattle.sdd_invariants.specs.attempt.Acts.{conditions_at}
-use Rattle.sdd_invariants.specs.dm.Fits.{Ascend, StartsAbove}
 use Rattle.sdd_invariants.proofs.Bools.{if_way}
-use Rattle.sdd_invariants.specs.Orders.{AllGt, IsStrict}
 
 cond_class : (j t : ℕ) (fs : List FragNo) (q : Cond) → cond_for j t fs ≡ Some q → q.class.0 ≡ j
 cond_class j t [] q e = cc

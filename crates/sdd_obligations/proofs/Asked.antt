@@ -1,19 +1,8 @@
 -- Along the log of the site of a class the questions of the active attempt are those of its phase.
 use Rattle.std.proofs.Common.{ℕ, ◌&&◌, ◌==◌, ◌∙◌, ◌∷◌, ◌≡◌, ◌⊎◌, Bool, List, None, Option, Some, [], ap, cond, false, if◌then◌else◌, inl, inr, refl, subst, sym, true}
 use Rattle.std.specs.List.{AllByRecursion}
-use Rattle.sdd_invariants.specs.base.Numbers.{dm_no}
-use Rattle.sdd_invariants.specs.base.Sites.{same_site}
-use Rattle.sdd_invariants.specs.base.Words.{head_of, tail_of}
-use Rattle.sdd_invariants.specs.base.declared.number.DmNo.{DmNo}
-use Rattle.sdd_invariants.specs.base.declared.site.Site.{Site}
-use Rattle.sdd_invariants.specs.base.declared.site.Site.TheVariants.{D, T, U}
-use Rattle.sdd_invariants.specs.wire.declared.msg.Msg.{Msg}
-use Rattle.sdd_invariants.specs.wire.declared.msg.Msg.TheVariants.{Reject}
-use Rattle.sdd_invariants.specs.site_module.SiteLog.{Act, Bases, Did, Each, Handed, Log, Redeclared, Sends, Setting, Submits, Ticked, sends_of_act}
-use Rattle.sdd_invariants.specs.attempt.Acts.{commit_act}
-use Rattle.sdd_invariants.specs.attempt.Attempts.{Attempt, active, active_handed, active_sent, asks_rows, rejects, started}
-use Rattle.sdd_invariants.specs.attempt.Exchange.{after_hand, after_send}
-use Rattle.sdd_invariants.specs.attempt.Queues.{Queued, queue}
+use Rattle.sdd_invariants.specs.All.{Act, Attempt, Bases, D, Did, DmNo, Each, Handed, IsFair, IsStep, Msg, Queued, Redeclared, Reject, Sends, Setting, Site, Submits, T, Ticked, U, active, active_handed, active_sent, after_hand, after_send, asks_rows, commit_act, dm_no, head_of, next_stamp, queue, rejects, same_site, sends_of_act, start_at, start_read, started, tail_of, to_site}
+use Rattle.sdd_invariants.specs.site_module.SiteLog.{Log}
 use Rattle.sdd_invariants.proofs.Clocks.{stamp_below_next}
 use Rattle.sdd_invariants.proofs.ReadsPut.{start_puts}
 use Rattle.sdd_invariants.proofs.WritesPut.{commit_puts}
@@ -24,8 +13,6 @@ use Rattle.sdd_obligations.proofs.Hearing.{AtTurn, InTurn, IsTimely, and_no, ask
 use Rattle.sdd_obligations.specs.Turns.{Asks, Silent, Turn, asked, asked_by, is_a_read, is_a_refusal, is_answer, is_question, questions, told, turn_at, uses_by, uses_in}
 use Rattle.sdd_invariants.proofs.Active.{step_way}
 use Rattle.sdd_invariants.proofs.Bools.{same_number, same_or_not}
-use Rattle.sdd_invariants.specs.Steps.{IsFair, IsStep, next_stamp, start_at, start_read}
-use Rattle.sdd_invariants.specs.Traffic.{to_site}
 use Rattle.sdd_obligations.specs.Contents.{AsksPhase, question_of}
 use Rattle.sdd_obligations.proofs.Questions.{after_answer, hand_asks}
 use Rattle.sdd_obligations.proofs.InStep.{never}

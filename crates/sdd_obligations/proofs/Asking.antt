@@ -1,18 +1,8 @@
 -- A site that makes attempts asks in turn, where each answer that is handed to it comes in turn.
 use Rattle.std.proofs.Common.{ℕ, ◌&&◌, ◌<◌, ◌==◌, ◌∙◌, ◌∷◌, ◌≡◌, ◌⊎◌, Bool, List, None, Option, Some, [], ap, arith, cond, false, if◌then◌else◌, inl, inr, refl, subst, sym, true}
-use Rattle.sdd_invariants.specs.base.Numbers.{dm_no}
+use Rattle.sdd_invariants.specs.All.{Act, Attempt, Bases, D, Did, Each, Fetch, Handed, IsFair, IsSend, IsStep, IsStrict, Msg, Phase, Queued, Read, Reading, Redeclared, Reduce, Sends, Setting, Ship, Site, Submits, Ticked, a_held, a_hold, a_null, a_release, active, active_sent, after_send, ascending, asks_rows, begins, commit_act, contains, dm_no, first_phase, fragments_in, head_of, is_over, last_stamp, modules_asked, next_stamp, number_of, of_exchange, queue, same_site, sends_of_act, start_at, start_read, started, tail_of, to_site, uses_of}
 use Rattle.std.proofs.lemmas.Bool.{eqb-true}
-use Rattle.sdd_invariants.specs.base.Sites.{number_of, same_site}
-use Rattle.sdd_invariants.specs.base.Words.{ascending, contains, head_of, tail_of}
-use Rattle.sdd_invariants.specs.base.declared.site.Site.{Site}
-use Rattle.sdd_invariants.specs.base.declared.site.Site.TheVariants.{D}
-use Rattle.sdd_invariants.specs.wire.declared.msg.Msg.{Msg}
-use Rattle.sdd_invariants.specs.wire.declared.msg.Msg.TheVariants.{Fetch, Read, Reduce, Ship}
-use Rattle.sdd_invariants.specs.site_module.SiteLog.{Act, Bases, Did, Each, Handed, Log, Redeclared, Sends, Setting, Submits, Ticked, sends_of_act}
-use Rattle.sdd_invariants.specs.attempt.Acts.{commit_act}
-use Rattle.sdd_invariants.specs.attempt.Attempts.{Attempt, active, active_sent, asks_rows, started}
-use Rattle.sdd_invariants.specs.attempt.Exchange.{Phase, Reading, after_send, begins, first_phase, is_over}
-use Rattle.sdd_invariants.specs.attempt.Queues.{Queued, queue}
+use Rattle.sdd_invariants.specs.site_module.SiteLog.{Log}
 use Rattle.sdd_obligations.proofs.AtTurn.{IsAt, StandsAt, answered_last, apart, awaited, awaits, unsent}
 use Rattle.sdd_obligations.proofs.FirstSends.{IsFirstEach, IsFirstSend, asks_whose}
 use Rattle.sdd_obligations.proofs.Modules.{firsts, read_firsts, read_modules, read_uses, sent_to_each, to_module}
@@ -20,14 +10,9 @@ use Rattle.sdd_obligations.specs.Turns.{Asks, IsOfUses, MayAsk, Silent, Turn, as
 use Rattle.sdd_invariants.proofs.Clocks.{drawn_at, stamp_below_next, stamp_rises}
 use Rattle.sdd_invariants.proofs.ReadsPut.{strict_modules}
 use Rattle.sdd_invariants.proofs.WritesPut.{commit_puts}
-use Rattle.sdd_invariants.specs.lang.Classes.{fragments_in}
-use Rattle.sdd_invariants.specs.lang.Uses.{uses_of}
 use Rattle.sdd_invariants.proofs.Active.{step_way_over}
 use Rattle.sdd_invariants.proofs.Sites.{site_is}
 use Rattle.sdd_invariants.proofs.Bools.{and_left, differ, if_way, not_both, same_number, same_or_not}
-use Rattle.sdd_invariants.specs.Orders.{IsStrict}
-use Rattle.sdd_invariants.specs.Steps.{IsFair, IsSend, IsStep, a_held, a_hold, a_null, a_release, last_stamp, modules_asked, next_stamp, of_exchange, start_at, start_read}
-use Rattle.sdd_invariants.specs.Traffic.{to_site}
 use Rattle.sdd_obligations.proofs.Hearing.{AllAtTurn, AtTurn, InTurn, IsStrictOf, IsTimely, Turns, and_no, asked_one, in_turn_hand, quiet_but, quiet_over, turns_now}
 
 -- a send

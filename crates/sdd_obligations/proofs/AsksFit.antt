@@ -2,32 +2,12 @@
 use Rattle.std.specs.List.{range_with_len}
 use Rattle.std.specs.Prelude.{slice_index_or}
 use Rattle.std.proofs.Common.{ℕ, ◌+◌, ◌-◌, ◌<◌, ◌==◌, ◌∷◌, ◌≡◌, ◌≤◌, Bool, List, Some, [], ap, arith, cond, false, filter, length, map, slice_get, subst, suc, sym, true, zero}
-use Rattle.sdd_invariants.specs.base.Numbers.{tm_no}
-use Rattle.sdd_invariants.specs.base.Words.{contains}
-use Rattle.sdd_invariants.specs.base.declared.number.ClassNo.{ClassNo}
-use Rattle.sdd_invariants.specs.base.declared.number.DmNo.{DmNo}
-use Rattle.sdd_invariants.specs.base.declared.number.TmNo.{TmNo}
-use Rattle.sdd_invariants.specs.base.declared.number.Ts.{Ts}
-use Rattle.sdd_invariants.specs.base.declared.site.Site.TheVariants.{D, T, U}
-use Rattle.sdd_invariants.specs.catalog.Catalogue.{Catalogue, class_at, numbers_to}
-use Rattle.sdd_invariants.specs.catalog.declared.resolved.Class.{Class}
-use Rattle.sdd_invariants.specs.wire.declared.msg.Msg.{Msg}
-use Rattle.sdd_invariants.specs.wire.declared.msg.Msg.TheVariants.{Ask, Read}
-use Rattle.sdd_invariants.specs.site_module.SiteLog.{Setting}
-use Rattle.sdd_invariants.specs.dm.Views.{home_of, source_of}
-use Rattle.sdd_invariants.specs.tm.Views.{runs}
-use Rattle.sdd_invariants.specs.logs.Entries.{Does, Given, Log}
-use Rattle.sdd_invariants.specs.logs.Locals.{local_of, setting_of}
-use Rattle.sdd_invariants.specs.logs.Permitted.{IsPermitted}
-use Rattle.sdd_invariants.specs.PutsBy.{IsAskBy}
-use Rattle.sdd_invariants.specs.Puts.{IsRead}
+use Rattle.sdd_invariants.specs.All.{Ask, Catalogue, Class, ClassNo, D, DmNo, Does, Given, IsAskBy, IsPermitted, IsRead, Log, Msg, Read, Setting, T, TmNo, Ts, U, class_at, contains, home, home_of, local_of, numbers_to, puts_to, runs, setting_of, source_of, tm_no}
 use Rattle.sdd_invariants.proofs.Answered.{put_in_by_d}
 use Rattle.sdd_invariants.proofs.Installed.{head_put}
-use Rattle.sdd_invariants.specs.Steps.{home}
 use Rattle.sdd_invariants.proofs.Made.{permitted_before}
 use Rattle.sdd_obligations.proofs.Conditions.{act_within, one_within}
 use Rattle.sdd_invariants.proofs.Bools.{or_left, or_right, same_number}
-use Rattle.sdd_invariants.specs.Traffic.{puts_to}
 use Rattle.sdd_obligations.proofs.Sums.{range_at}
 
 -- the class of a data module's question to a T

@@ -1,18 +1,9 @@
 -- How an exchange stands with one of the data modules, by the turn, and that each of its steps keeps that.
 use Rattle.std.proofs.Common.{ℕ, ◌&&◌, ◌+◌, ◌++◌, ◌==◌, ◌∙◌, ◌∷◌, ◌≡◌, ◌⊎◌, Bool, List, None, Some, [], ap, false, if◌then◌else◌, inl, inr, length, refl, subst, sym, true}
-use Rattle.sdd_invariants.specs.base.Numbers.{class_no, time_at}
-use Rattle.sdd_invariants.specs.base.Order.{with_values}
-use Rattle.sdd_invariants.specs.base.Words.{contains}
-use Rattle.sdd_invariants.specs.wire.declared.msg.Msg.{Msg}
-use Rattle.sdd_invariants.specs.wire.declared.msg.Msg.TheVariants.{Fetch, Ready, Reduce, Reduced, Reject, Rows, Ship, Values}
-use Rattle.sdd_invariants.specs.semijoin.Steps.{Move, next_move}
-use Rattle.sdd_invariants.specs.semijoin.declared.step.Step.{Step}
-use Rattle.sdd_invariants.specs.attempt.Exchange.{Asking, Exchange, Fetching, Over, Phase, Reading, Reducing, Shipping, after_hand, answered, counted, counts_for, fetches, fetches_from, goes_on, lacking, move_at, phase_ends, reduces, ships, to_all, with_use, without}
-use Rattle.sdd_invariants.specs.attempt.Fits.{uses_at}
+use Rattle.sdd_invariants.specs.All.{Asking, Exchange, Fetch, Fetching, IsStrict, Move, Msg, Over, Phase, Reading, Ready, Reduce, Reduced, Reducing, Reject, Rows, Ship, Shipping, Step, Values, after_hand, answered, class_no, contains, counted, counts_for, fetches, fetches_from, goes_on, lacking, move_at, next_move, phase_ends, reduces, ships, time_at, to_all, uses_at, with_use, with_values, without}
 use Rattle.sdd_obligations.proofs.Modules.{firsts, one_to_each, reading_ascends, reading_reads, to_module, without_other, without_own}
 use Rattle.sdd_obligations.specs.Turns.{Asks, IsOfUses, Silent, Told, Turn, is_a_read, is_a_refusal, is_a_ship, is_answer}
 use Rattle.sdd_invariants.proofs.Bools.{not_both, same_number}
-use Rattle.sdd_invariants.specs.Orders.{IsStrict}
 
 -- the phase awaits the answer to a question
 

@@ -5,26 +5,11 @@ use Rattle.std.proofs.Common.{ℕ, ◌*◌, ◌+◌, ◌<◌, ◌^◌, ◌∷◌
 use Rattle.std.proofs.Math.Nat.{mul-le-mul, mul-le-mul_right, suc-mul}
 use Rattle.std.proofs.lemmas.List.{length-append, length-map}
 use Rattle.std.proofs.lemmas.List.FromFn.{length-range_with_len}
-use Rattle.sdd_invariants.specs.base.Numbers.{dm_no, tm_no}
-use Rattle.sdd_invariants.specs.base.Sites.{sites}
-use Rattle.sdd_invariants.specs.base.declared.limits.TheConstants.{MAX_LINK_MESSAGES, MAX_RUN_EVENTS, MAX_TICKS}
-use Rattle.sdd_invariants.specs.base.declared.site.Site.{Site}
-use Rattle.sdd_invariants.specs.base.declared.site.Site.TheVariants.{D, T, U}
-use Rattle.sdd_invariants.specs.history.declared.record.Rec.TheVariants.{Start}
-use Rattle.sdd_invariants.specs.site_module.SiteLog.{Act, Did, Each, Handed, Records, Redeclared, Submits, Ticked, hands, submits}
-use Rattle.sdd_invariants.specs.dm.Views.{home_of, view_of}
-use Rattle.sdd_invariants.specs.logs.Entries.{Does, Entry, Given, Hand, Log, Mark, Notes, Redeclares, Round, Submitted, marks}
-use Rattle.sdd_invariants.specs.logs.Lawful.{IsLawful, IsWithin}
-use Rattle.sdd_invariants.specs.logs.Locals.{local_of, setting_of}
-use Rattle.sdd_invariants.specs.logs.Permitted.{IsPermitted}
-use Rattle.sdd_invariants.specs.logs.Traffic.{handed}
+use Rattle.sdd_invariants.specs.All.{Act, D, Did, Does, Each, Entry, Given, Hand, Handed, IsFair, IsLawful, IsPermitted, IsWithin, Log, MAX_LINK_MESSAGES, MAX_RUN_EVENTS, MAX_TICKS, Mark, Notes, Records, Redeclared, Redeclares, Round, Site, Start, Submits, Submitted, T, Ticked, U, dm_no, handed, hands, home_of, local_of, made, marks, setting_of, sites, starts, starts_more, submits, tm_no, view_of, with_made}
 use Rattle.sdd_invariants.proofs.logs.EachLocal.{each_local}
 use Rattle.sdd_invariants.proofs.logs.NewMarks.{lawful_permitted}
-use Rattle.sdd_invariants.specs.AtU.{starts, starts_more}
-use Rattle.sdd_invariants.specs.Steps.{IsFair}
 use Rattle.sdd_invariants.proofs.Fair.{all_new, t_fair, u_fair}
 use Rattle.sdd_invariants.proofs.Made.{local_step, own_act}
-use Rattle.sdd_invariants.specs.Made.{made, with_made}
 use Rattle.sdd_obligations.specs.Bounds.{AllFewTicks, IsNumbered, IsSmall, greatest_height, most_classes, most_sites}
 use Rattle.sdd_obligations.specs.Heights.{height, starts_by, ticks_of}
 use Rattle.sdd_obligations.proofs.Counting.{site_few}

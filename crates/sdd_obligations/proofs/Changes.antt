@@ -6,16 +6,9 @@ use Rattle.std.specs.Ordering.{eq_by_cmp, is_eq}
 use Rattle.std.proofs.lemmas.List.Elements.{All-from_recursion}
 use Rattle.std.proofs.lemmas.Map.Keys.{IsDistinct-from_sorted}
 use Rattle.std.proofs.lemmas.Map.Made.{IsDistinct-keys_filter}
-use Rattle.sdd_invariants.specs.base.declared.change.Change.{Change}
-use Rattle.sdd_invariants.specs.catalog.Catalogue.{Catalogue, has_copy}
-use Rattle.sdd_invariants.specs.catalog.Rules.{IsSound}
-use Rattle.sdd_invariants.specs.lang.Database.{Database, item_cmp}
-use Rattle.sdd_invariants.specs.lang.Effect.{Changed, change_of, effect}
-use Rattle.sdd_invariants.specs.lang.Sound.{IsDatabase}
-use Rattle.sdd_invariants.specs.lang.declared.transaction.Txn.{Txn}
+use Rattle.sdd_invariants.specs.All.{Catalogue, Change, Changed, Database, IsDatabase, IsSound, Txn, change_of, changes_at, effect, has_copy, item_cmp}
 use Rattle.sdd_invariants.proofs.lang.EffectChanges.{AreMade, changes_items, effect_made}
 use Rattle.sdd_invariants.proofs.lang.SortedEntries.{sorted_nil}
-use Rattle.sdd_invariants.specs.Steps.{changes_at}
 use Rattle.sdd_obligations.specs.Fitting.{AreWritten, FitsText, IsItemChange}
 
 -- what all have, those have that are kept; and these pass the test

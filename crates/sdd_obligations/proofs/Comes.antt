@@ -1,21 +1,8 @@
 -- A question that is next to be handed over is for rows that its data module holds.
 use Rattle.std.proofs.Common.{ℕ, ◌∙◌, ◌∷◌, ◌≡◌, ◌≤◌, Bool, List, None, Option, Some, [], ap, arith, false, if◌then◌else◌, not, refl, subst, sym, true}
-use Rattle.sdd_invariants.specs.base.Sites.{number_of}
-use Rattle.sdd_invariants.specs.base.Words.{contains}
-use Rattle.sdd_invariants.specs.base.declared.number.DmNo.{DmNo}
-use Rattle.sdd_invariants.specs.base.declared.site.Site.{Site}
-use Rattle.sdd_invariants.specs.base.declared.site.Site.TheVariants.{D}
-use Rattle.sdd_invariants.specs.wire.declared.msg.Msg.{Msg}
-use Rattle.sdd_invariants.specs.wire.declared.msg.Msg.TheVariants.{Fetch, Reduce, Ship}
-use Rattle.sdd_invariants.specs.attempt.Attempts.{active, asks_rows}
-use Rattle.sdd_invariants.specs.dm.Copies.{frozen}
-use Rattle.sdd_invariants.specs.dm.Fits.{AreFor, FitsShip, HaveUse}
-use Rattle.sdd_laws.specs.copy.Frozen.{Frozen}
-use Rattle.sdd_invariants.specs.logs.Entries.{Given, Hand}
+use Rattle.sdd_invariants.specs.All.{AreFor, D, DmNo, Fetch, FitsShip, Given, Hand, HaveUse, IsAllowed, IsPermitted, Msg, Reduce, Ship, Site, active, asks_rows, contains, frozen, handed, home, local_of, number_of, setting_of}
+use Rattle.sdd_laws.specs.All.{Frozen}
 use Rattle.sdd_invariants.specs.logs.Entries as all
-use Rattle.sdd_invariants.specs.logs.Locals.{local_of, setting_of}
-use Rattle.sdd_invariants.specs.logs.Permitted.{IsAllowed, IsPermitted}
-use Rattle.sdd_invariants.specs.logs.Traffic.{handed}
 use Rattle.sdd_obligations.proofs.Asking.{asks_no_read}
 use Rattle.sdd_obligations.proofs.Hearing.{answers_asked}
 use Rattle.sdd_obligations.proofs.Flights.{first_in_flight}
@@ -28,7 +15,6 @@ use Rattle.sdd_obligations.specs.Awaited.{IsServable}
 use Rattle.sdd_obligations.specs.Turns.{Asks, IsOfUses, MayAsk, Refused, Replies, Silent, Told, Turn, answers, is_a_read, is_a_ship, is_answer, is_exchanging, is_question, questions, told, turn_at, turn_with, uses_held}
 use Rattle.sdd_obligations.proofs.Stages.{answer_flies, question_flies}
 use Rattle.sdd_obligations.specs.Stages.{flight}
-use Rattle.sdd_invariants.specs.Steps.{home}
 use Rattle.sdd_invariants.proofs.InOrder.{hand_was_put}
 use Rattle.sdd_obligations.proofs.Answered.{never, own}
 

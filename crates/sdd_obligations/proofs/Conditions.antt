@@ -4,37 +4,14 @@ use Rattle.std.specs.Option.{option_or}
 use Rattle.std.specs.Prelude.{filter_map}
 use Rattle.std.proofs.Common.{ℕ, ◌+◌, ◌<◌, ◌==◌, ◌^◌, ◌∷◌, ◌≡◌, ◌≤◌, List, None, Option, Some, [], arith, inl, inr, length, map, slice_get, subst, suc, zero}
 use Rattle.std.proofs.lemmas.List.Elements.{All-cons, All-nil}
-use Rattle.sdd_invariants.specs.base.Numbers.{frag_no}
-use Rattle.sdd_invariants.specs.base.Words.{ascending}
-use Rattle.sdd_invariants.specs.base.declared.condition.Cond.{Cond}
-use Rattle.sdd_invariants.specs.base.declared.number.ClassNo.{ClassNo}
-use Rattle.sdd_invariants.specs.base.declared.number.FragNo.{FragNo}
-use Rattle.sdd_invariants.specs.base.declared.number.Ts.{Ts}
-use Rattle.sdd_invariants.specs.base.declared.number.TxnNo.{TxnNo}
-use Rattle.sdd_invariants.specs.base.declared.site.Site.{Site}
-use Rattle.sdd_invariants.specs.base.declared.usage.Use.{Use}
-use Rattle.sdd_invariants.specs.catalog.Catalogue.{Catalogue}
-use Rattle.sdd_invariants.specs.graph.Graph.{classes_of, fragments_of}
-use Rattle.sdd_invariants.specs.protocol.Conditions.{asked_by, cond_for, cond_of, condition_on, is_asked}
+use Rattle.sdd_invariants.specs.All.{Act, AllLt, Catalogue, ClassNo, Cond, Each, FitsCond, FragNo, IsFair, IsRead, Msg, P2, P3, Queued, Read, Setting, Site, Ts, TxnNo, Use, ascending, asked_by, bound, classes_of, cond_for, cond_of, condition_on, conditions_at, frag_no, fragments_in, fragments_of, in_force, is_asked, next_stamp, puts_to, sends_of_act, start_at, start_read, to_site, uses_of}
 use Rattle.sdd_invariants.specs.protocol.declared.entry.Entry as line
-use Rattle.sdd_invariants.specs.protocol.declared.protocol.Protocol.TheVariants.{P2, P3}
-use Rattle.sdd_invariants.specs.lang.Classes.{fragments_in}
-use Rattle.sdd_invariants.specs.lang.Uses.{uses_of}
-use Rattle.sdd_invariants.specs.wire.declared.msg.Msg.{Msg}
-use Rattle.sdd_invariants.specs.wire.declared.msg.Msg.TheVariants.{Read}
-use Rattle.sdd_invariants.specs.site_module.SiteLog.{Act, Each, Log, Setting, in_force, sends_of_act}
-use Rattle.sdd_invariants.specs.attempt.Acts.{conditions_at}
-use Rattle.sdd_invariants.specs.attempt.Queues.{Queued}
-use Rattle.sdd_invariants.specs.dm.Fits.{FitsCond}
+use Rattle.sdd_invariants.specs.site_module.SiteLog.{Log}
 use Rattle.sdd_invariants.proofs.Origins.{was_put}
 use Rattle.sdd_invariants.proofs.ReadsPut.{put_by, start_puts}
-use Rattle.sdd_invariants.specs.Puts.{IsRead}
 use Rattle.sdd_invariants.proofs.Active.{each_at}
 use Rattle.sdd_invariants.proofs.Bools.{if_way}
 use Rattle.sdd_invariants.proofs.Lists.{in_none, in_one}
-use Rattle.sdd_invariants.specs.Orders.{AllLt}
-use Rattle.sdd_invariants.specs.Steps.{IsFair, bound, next_stamp, start_at, start_read}
-use Rattle.sdd_invariants.specs.Traffic.{puts_to, to_site}
 
 -- conditions on classes from 1 to n
 

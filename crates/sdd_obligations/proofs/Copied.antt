@@ -6,55 +6,22 @@ use Rattle.std.specs.Option.{option_eq}
 use Rattle.std.specs.List.{Contains, flat_map}
 use Rattle.std.proofs.lemmas.Bool.Decides.{Decides-eqb}
 use Rattle.std.proofs.lemmas.List.Elements.{recursion_from_All}
-use Rattle.sdd_invariants.specs.base.Numbers.{dm_no}
-use Rattle.sdd_invariants.specs.base.Words.{ascending, contains}
-use Rattle.sdd_invariants.specs.base.declared.change.Change.{Change}
-use Rattle.sdd_invariants.specs.base.declared.number.DmNo.{DmNo}
-use Rattle.sdd_invariants.specs.base.declared.number.FragNo.{FragNo}
-use Rattle.sdd_invariants.specs.base.declared.site.Site.TheVariants.{D}
-use Rattle.sdd_invariants.specs.base.declared.usage.Use.{Use}
-use Rattle.sdd_invariants.specs.catalog.Catalogue.{Catalogue, fragment_at, fragment_of, numbers_to, reads_at}
-use Rattle.sdd_invariants.specs.catalog.Rules.{IsSound}
+use Rattle.sdd_invariants.specs.All.{Act, Answer, AreThere, Attempt, Catalogue, Change, D, Database, DmNo, Does, FragNo, Given, HasAnswer, IsChange, IsPermitted, IsSound, Item, Log, Msg, Read, Records, Row, Setting, Txn, Use, active, ascending, base_of, contains, dated, dm_no, fragment_at, fragment_of, fragments_in, frags_asked, head, home, home_of, is_at, is_over, is_read_at, items_of, local_of, modules_asked, modules_of, numbers_to, pipe, reads_at, setting_of, snapshots_at, use_there, uses_of, with_frags}
 use Rattle.sdd_invariants.proofs.catalog.Sound.{served_read}
-use Rattle.sdd_invariants.specs.protocol.Conditions.{is_read_at}
-use Rattle.sdd_invariants.specs.lang.Changes.{IsChange}
-use Rattle.sdd_invariants.specs.lang.Classes.{fragments_in}
-use Rattle.sdd_invariants.specs.lang.Database.{Database, Item, Row}
-use Rattle.sdd_invariants.specs.lang.Uses.{uses_of}
-use Rattle.sdd_invariants.specs.lang.declared.transaction.Txn.{Txn}
 use Rattle.sdd_invariants.proofs.lang.EffectChanges.{entry_placed}
-use Rattle.sdd_invariants.specs.history.declared.record.Rec.TheVariants.{Answer}
-use Rattle.sdd_invariants.specs.wire.declared.msg.Msg.{Msg}
-use Rattle.sdd_invariants.specs.wire.declared.msg.Msg.TheVariants.{Read}
-use Rattle.sdd_invariants.specs.site_module.SiteLog.{Act, Records, Setting}
 use Rattle.sdd_invariants.specs.site_module.SiteLog as site
-use Rattle.sdd_laws.specs.copy.Contents.{Dated}
+use Rattle.sdd_laws.specs.All.{ArePlaced, Dated, IsPlaced}
 use Rattle.sdd_exec.specs.Choices.{Has}
 use Rattle.sdd_exec.proofs.Members.{Has-filter, Has-filter_map, Has-filter_map_from, Has-flat_map, Has-flat_map_from, Has-map, Has-map_from}
-use Rattle.sdd_laws.specs.Values.{ArePlaced, IsPlaced}
 use Rattle.sdd_laws.proofs.Members.{each_has}
-use Rattle.sdd_invariants.specs.attempt.Acts.{modules_of, use_there, with_frags}
-use Rattle.sdd_invariants.specs.attempt.Attempts.{Attempt, active}
-use Rattle.sdd_invariants.specs.attempt.Exchange.{is_over}
-use Rattle.sdd_invariants.specs.attempt.Reads.{AreThere}
 use Rattle.sdd_invariants.proofs.attempt.Uses.{uses_there}
-use Rattle.sdd_invariants.specs.pipe.Pipe.{head}
-use Rattle.sdd_invariants.specs.dm.Copies.{dated}
-use Rattle.sdd_invariants.specs.dm.Pipes.{pipe}
-use Rattle.sdd_invariants.specs.dm.Views.{home_of}
-use Rattle.sdd_invariants.specs.logs.Entries.{Does, Given, Log}
-use Rattle.sdd_invariants.specs.logs.Locals.{local_of, setting_of}
-use Rattle.sdd_invariants.specs.logs.Permitted.{IsPermitted}
-use Rattle.sdd_invariants.specs.logs.Snapshots.{base_of, frags_asked, is_at, items_of, snapshots_at}
 use Rattle.sdd_laws.proofs.Copied.{some_copy}
 use Rattle.sdd_invariants.proofs.Answered.{answered_all}
-use Rattle.sdd_invariants.specs.Causes.{HasAnswer}
 use Rattle.sdd_serving.specs.Freezing.{HasCopies, uses_at}
 use Rattle.sdd_serving.proofs.Freezing.{there_is}
 use Rattle.sdd_serving.proofs.Members.{of_has, to_has}
 use Rattle.sdd_serving.proofs.Together.{IsPiece, IsUsed, has_copies}
 use Rattle.sdd_invariants.proofs.Bools.{same_number}
-use Rattle.sdd_invariants.specs.Steps.{home, modules_asked}
 use Rattle.sdd_laws.proofs.serial_orders.Members.{Contains-range}
 use Rattle.sdd_invariants.proofs.Made.{local_grows, own_act}
 use Rattle.sdd_obligations.specs.Fitting.{FitsGiven, IsItemChange}

@@ -3,23 +3,12 @@ use Rattle.std.proofs.Common.{ℕ, ◌*◌, ◌++◌, ◌+◌, ◌-◌, ◌==◌
 use Rattle.std.proofs.Math.Decide.{dec_le}
 use Rattle.std.proofs.lemmas.List.{get_or_past, length-append, length-map}
 use Rattle.std.proofs.lemmas.List.FromFn.{length-range_with_len}
-use Rattle.sdd_invariants.specs.base.Numbers.{tm_no}
-use Rattle.sdd_invariants.specs.base.Words.{head_of}
-use Rattle.sdd_invariants.specs.base.declared.site.Site.{Site}
-use Rattle.sdd_invariants.specs.base.declared.site.Site.TheVariants.{D, T, U}
-use Rattle.sdd_invariants.specs.catalog.Catalogue.{Catalogue, class_at}
-use Rattle.sdd_invariants.specs.catalog.declared.resolved.Class.{Class}
-use Rattle.sdd_invariants.specs.wire.declared.msg.Msg.{Msg}
-use Rattle.sdd_invariants.specs.site_module.SiteLog.{Act, Bases, Did, Each, Handed, Log, Redeclared, Sends, Setting, Submits, Ticked, hands, in_force, sends_of_act, submits}
-use Rattle.sdd_invariants.specs.attempt.Acts.{commit_act}
-use Rattle.sdd_invariants.specs.attempt.Attempts.{Attempt, active, active_handed, active_sent, started}
-use Rattle.sdd_invariants.specs.attempt.Queues.{Queued, is_for, queue, submitted, tried}
+use Rattle.sdd_invariants.specs.All.{Act, Attempt, Bases, Catalogue, Class, D, Did, Each, Handed, IsFair, IsNew, IsServed, IsStep, Msg, Queued, Redeclared, Sends, Setting, Site, Submits, T, Ticked, U, active, active_handed, active_sent, class_at, commit_act, hands, head_of, home, in_force, is_for, next_stamp, queue, sends_of_act, start_at, started, starts, submits, submitted, tm_no, tried}
+use Rattle.sdd_invariants.specs.site_module.SiteLog.{Log}
 use Rattle.sdd_invariants.specs.dm.Copies.{classes_of}
-use Rattle.sdd_invariants.specs.AtU.{starts}
 use Rattle.sdd_invariants.proofs.Queues.{queue_is}
 use Rattle.sdd_invariants.proofs.Active.{sent_way, step_way}
 use Rattle.sdd_invariants.proofs.Bools.{same_number, same_or_not}
-use Rattle.sdd_invariants.specs.Steps.{IsFair, IsNew, IsServed, IsStep, home, next_stamp, start_at}
 use Rattle.sdd_obligations.specs.Bounds.{IsNumbered, class_starts, start_of_class}
 use Rattle.sdd_obligations.proofs.Sums.{range_at, total, total_le, total_raise, total_up}
 

@@ -2,22 +2,13 @@
 use Rattle.std.proofs.Common.{ℕ, ◌≤◌, ◌==◌, ◌≡◌, ◌⊎◌, inl, inr, true, false, [], ◌∷◌, length, arith, sym, zero, suc}
 use Rattle.std.specs.Prelude.{Some}
 use Rattle.std.proofs.lemmas.Bool.{eqb-true}
-use Rattle.sdd_invariants.specs.base.declared.site.Site.{Site}
-use Rattle.sdd_invariants.specs.catalog.Catalogue.{Catalogue}
-use Rattle.sdd_invariants.specs.lang.Classes.{class_for}
-use Rattle.sdd_invariants.specs.lang.declared.transaction.Txn.{Txn}
-use Rattle.sdd_invariants.specs.site_module.SiteLog.{Did, Each, Entry, Handed, Log, Redeclared, Setting, Submits, Ticked, in_force}
-use Rattle.sdd_invariants.specs.attempt.Attempts.{Attempt, active}
-use Rattle.sdd_invariants.specs.attempt.Queues.{is_for}
-use Rattle.sdd_invariants.specs.logs.Entries.{Given}
+use Rattle.sdd_invariants.specs.All.{Attempt, Catalogue, Did, Each, Given, Handed, IsPermitted, Redeclared, Setting, Site, Submits, Ticked, Txn, active, class_for, home, in_force, is_for, local_of, setting_of}
+use Rattle.sdd_invariants.specs.site_module.SiteLog.{Entry, Log}
 use Rattle.sdd_invariants.specs.logs.Entries as whole
-use Rattle.sdd_invariants.specs.logs.Locals.{local_of, setting_of}
-use Rattle.sdd_invariants.specs.logs.Permitted.{IsPermitted}
 use Rattle.sdd_invariants.proofs.logs.EachLocal.{each_local}
-use Rattle.sdd_laws.specs.class_eras.EraOf.{IsEraOf}
+use Rattle.sdd_laws.specs.All.{IsEraOf}
 use Rattle.sdd_laws.proofs.class_eras.EraSets.{IsCovered, covered, covered_in_era, era_of_itself}
 use Rattle.sdd_invariants.proofs.Bools.{only_right, same_or_not}
-use Rattle.sdd_invariants.specs.Steps.{home}
 use Rattle.sdd_invariants.proofs.Fair.{all_new, home_fair}
 use Rattle.sdd_obligations.proofs.Texts.{SubmitHas, active_so}
 use Rattle.sdd_obligations.specs.Reading.{HasEras}

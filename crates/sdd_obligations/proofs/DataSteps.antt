@@ -1,27 +1,12 @@
 -- What a data module does, act by act, with all that it sends.
 use Rattle.std.specs.List.{list_all}
 use Rattle.std.proofs.Common.{ℕ, ◌∷◌, ◌≡◌, Bool, List, None, Option, Some, [], ap, false, filter, if◌then◌else◌, length, map, refl, subst, sym, true}
-use Rattle.sdd_invariants.specs.base.Words.{head_of}
-use Rattle.sdd_invariants.specs.base.declared.change.Change.{Change}
-use Rattle.sdd_invariants.specs.base.declared.condition.Cond.{Cond}
-use Rattle.sdd_invariants.specs.base.declared.number.ClassNo.{ClassNo}
-use Rattle.sdd_invariants.specs.base.declared.number.Ts.{Ts}
-use Rattle.sdd_invariants.specs.base.declared.number.TxnNo.{TxnNo}
-use Rattle.sdd_invariants.specs.base.declared.usage.Use.{Use}
-use Rattle.sdd_invariants.specs.history.declared.record.Rec.TheVariants.{Answer, Apply, Arrive, Pass, Reject as Rejected, Wait}
-use Rattle.sdd_invariants.specs.wire.declared.msg.Msg.{Msg}
-use Rattle.sdd_invariants.specs.wire.declared.msg.Msg.TheVariants.{Done, Fetch, Null, Read, Ready, Reduce, Reduced, Reject, Rows, Ship, Values, Write}
-use Rattle.sdd_invariants.specs.site_module.SiteLog.{Act, Log, Records, Sends, Setting}
-use Rattle.sdd_laws.specs.copy.Frozen.{Frozen, counts_of, frozen_for, values_in}
-use Rattle.sdd_invariants.specs.pipe.Pipe.{head}
-use Rattle.sdd_invariants.specs.dm.Copies.{all_held, copies, frozen, rows_held}
-use Rattle.sdd_invariants.specs.dm.Due.{IsDue, act_by, act_where, answer_of, answer_to, ask_for, by_head, by_open, done_for, head_due, is_held, is_met, judged, open_due, step_on}
-use Rattle.sdd_invariants.specs.dm.Opens.{Open, is_asked_of, opens}
-use Rattle.sdd_invariants.specs.dm.Pipes.{pipe, waits}
-use Rattle.sdd_invariants.specs.dm.Views.{class_view, dated_in, home_of, source_of, view_of}
-use Rattle.sdd_invariants.specs.dm.declared.step.Step.TheVariants.{Processes}
+use Rattle.sdd_invariants.specs.All.{Act, Answer, Apply, Arrive, Change, ClassNo, Cond, Done, Fetch, IsClassHere, IsDue, Msg, Null, Open, Pass, Processes, Read, Ready, Records, Reduce, Reduced, Reject, Rows, Sends, Setting, Ship, Ts, TxnNo, Use, Values, Wait, Write, act_by, act_where, all_held, answer_of, answer_to, ask_for, by_head, by_open, copies, dated_in, done_for, frozen, head, head_due, head_of, home_of, is_asked_of, is_held, is_met, judged, open_due, opens, pipe, rows_held, source_of, step_on, view_of, waits}
+use Rattle.sdd_invariants.specs.history.declared.record.Rec.TheVariants.{Reject as Rejected}
+use Rattle.sdd_invariants.specs.site_module.SiteLog.{Log}
+use Rattle.sdd_laws.specs.All.{Frozen, counts_of, frozen_for, values_in}
+use Rattle.sdd_invariants.specs.dm.Views.{class_view}
 use Rattle.sdd_invariants.proofs.AreReadSteps.{class_at_place}
-use Rattle.sdd_invariants.specs.ReadSteps.{IsClassHere}
 
 -- what answers a FETCH, REDUCE or SHIP, where these rows are held
 abbrev pub reply : Option Frozen → Msg → Option Msg

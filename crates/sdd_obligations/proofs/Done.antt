@@ -1,16 +1,7 @@
 -- What is done of the events, as a lawful log tells it: which modules are down then, and how many lists were put in force.
 use Rattle.std.proofs.Common.{ℕ, suc, ◌++◌, ◌+◌, ◌∙◌, ◌∷◌, ◌≡◌, Bool, List, Some, [], ap, append_assoc, arith, false, refl, subst, sym, true}
-use Rattle.sdd_invariants.specs.base.Words.{tail_of}
-use Rattle.sdd_invariants.specs.base.declared.event.Event.{Event}
-use Rattle.sdd_invariants.specs.base.declared.event.Event.TheVariants.{Deliver, Down, Lose, Redeclare, Repeat, Resend, Settle, Submit, Tick, Up}
-use Rattle.sdd_invariants.specs.net.Links.{quiet, round}
-use Rattle.sdd_invariants.specs.logs.Entries.{Does, Given, Hand, Log, Mark, Notes, Redeclares, Round, Submitted}
-use Rattle.sdd_invariants.specs.logs.Lawful.{IsLawful}
-use Rattle.sdd_invariants.specs.logs.Locals.{redeclares}
-use Rattle.sdd_invariants.specs.logs.Marks.{after_mark, from_event, left, mark_from, mark_of}
-use Rattle.sdd_invariants.specs.logs.Traffic.{all_links, calls_of, is_down, turned_by}
+use Rattle.sdd_invariants.specs.All.{AtEach, Deliver, Does, Down, Event, Given, Hand, IsLawful, Log, Lose, Mark, Notes, Redeclare, Redeclares, Repeat, Resend, Round, Settle, Submit, Submitted, Tick, Up, after_mark, all_links, calls_of, from_event, is_down, left, mark_from, mark_of, quiet, redeclares, round, tail_of, turned_by}
 use Rattle.sdd_invariants.proofs.logs.Grows.{mark_is_next}
-use Rattle.sdd_invariants.specs.logs.Resting.{AtEach}
 use Rattle.sdd_invariants.proofs.logs.Marking.{TurnsNone}
 use Rattle.sdd_invariants.proofs.logs.Rounding.{each_of_round}
 use Rattle.sdd_obligations.proofs.OfNext.{of_next}

@@ -1,40 +1,17 @@
 -- A DONE that is next to be handed over answers the last Commit of U, and is the first of its module.
 use Rattle.std.proofs.Common.{ℕ, ◌++◌, ◌+◌, ◌<◌, ◌∙◌, ◌∷◌, ◌≡◌, ◌≤◌, ◌⊎◌, Bool, List, Option, Some, [], ap, append_assoc, arith, false, inl, inr, refl, slice_get, subst, sym, true}
-use Rattle.sdd_invariants.specs.base.declared.number.DmNo.{DmNo}
-use Rattle.sdd_invariants.specs.base.declared.number.Ts.{Ts}
-use Rattle.sdd_invariants.specs.base.declared.site.Site.TheVariants.{D, U}
-use Rattle.sdd_invariants.specs.catalog.Catalogue.{numbers_to}
-use Rattle.sdd_invariants.specs.history.declared.record.Rec.TheVariants.{Commit}
-use Rattle.sdd_invariants.specs.wire.declared.msg.Msg.{Msg}
-use Rattle.sdd_invariants.specs.wire.declared.msg.Msg.TheVariants.{Done, Write}
-use Rattle.sdd_invariants.specs.site_module.SiteLog.{Act, Bases, Did, Each, Entry, Handed, Records, Redeclared, Sends, Setting, Submits, Ticked}
-use Rattle.sdd_invariants.specs.attempt.Acts.{commit_act}
-use Rattle.sdd_invariants.specs.attempt.Attempts.{Attempt, active}
-use Rattle.sdd_invariants.specs.attempt.Queues.{Queued}
-use Rattle.sdd_invariants.specs.umod.Fits.{FitsDone, is_done}
-use Rattle.sdd_invariants.specs.umod.Views.{Served, last_served, served_acted, ts_of}
-use Rattle.sdd_invariants.specs.logs.Entries.{Does, Given, Hand, Log}
-use Rattle.sdd_invariants.specs.logs.Locals.{local_of, setting_of}
-use Rattle.sdd_invariants.specs.logs.Permitted.{IsPermitted}
-use Rattle.sdd_invariants.specs.logs.Traffic.{handed}
+use Rattle.sdd_invariants.specs.All.{Act, Attempt, Bases, Commit, D, Did, DmNo, Does, Done, Each, FitsDone, Given, Hand, Handed, IsDoneBy, IsFair, IsFairU, IsPermitted, IsStepU, Log, Msg, NoRecord, Queued, Records, Redeclared, Sends, Served, Setting, Submits, Ticked, Ts, U, Write, active, commit_act, dones_of, handed, is_done, is_done_of, is_recorded, last_served, local_of, next_stamp, numbers_to, one_if, puts_to, served_acted, setting_of, start_at, start_u, tally, ts_of}
+use Rattle.sdd_invariants.specs.site_module.SiteLog.{Entry}
 use Rattle.sdd_invariants.proofs.Dones.{dones_few, put_once}
 use Rattle.sdd_invariants.proofs.HoldChain.{u_table}
 use Rattle.sdd_invariants.proofs.Undeclared.{zero_pair}
-use Rattle.sdd_invariants.specs.Barrier.{start_u}
 use Rattle.sdd_invariants.proofs.Serving.{u_due, u_way}
-use Rattle.sdd_invariants.specs.AtU.{IsFairU, IsStepU}
-use Rattle.sdd_invariants.specs.Releases.{dones_of, is_done_of}
-use Rattle.sdd_invariants.specs.Turns.{one_if, tally}
 use Rattle.sdd_invariants.proofs.Places.{compare}
 use Rattle.sdd_invariants.proofs.Recorded.{start_of_active}
-use Rattle.sdd_invariants.specs.OfRecords.{NoRecord, is_recorded}
-use Rattle.sdd_invariants.specs.PutsBy.{IsDoneBy}
 use Rattle.sdd_invariants.proofs.Answered.{put_in_by_d}
 use Rattle.sdd_invariants.proofs.Installed.{class_number, head_put, write_origin}
 use Rattle.sdd_invariants.proofs.Active.{each_at}
 use Rattle.sdd_invariants.proofs.Bools.{same_number, true_or_false}
-use Rattle.sdd_invariants.specs.Steps.{IsFair, next_stamp, start_at}
-use Rattle.sdd_invariants.specs.Traffic.{puts_to}
 use Rattle.sdd_invariants.proofs.Fair.{u_fair}
 use Rattle.sdd_invariants.proofs.Made.{local_grows, own_act, permitted_before, place_of_act}
 use Rattle.sdd_obligations.proofs.SendsLow.{hand_ts}

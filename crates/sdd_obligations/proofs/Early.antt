@@ -1,14 +1,7 @@
 -- Clocks and times of messages stay as low as modules ask.
 use Rattle.std.proofs.Common.{ℕ, ◌<◌, ◌^◌, ◌∷◌, ◌≡◌, ◌≤◌, List, Some, [], arith, slice_get}
-use Rattle.sdd_invariants.specs.base.declared.site.Site.{Site}
-use Rattle.sdd_invariants.specs.wire.declared.msg.Msg.{Msg}
-use Rattle.sdd_invariants.specs.attempt.Clocks.{clock}
-use Rattle.sdd_invariants.specs.logs.Entries.{Given, Log}
-use Rattle.sdd_invariants.specs.logs.Lawful.{IsLawful, IsWithin}
-use Rattle.sdd_invariants.specs.logs.Locals.{local_of}
+use Rattle.sdd_invariants.specs.All.{AllLe, AllLt, Given, IsLawful, IsWithin, Log, Msg, Site, clock, local_of, puts_to}
 use Rattle.sdd_invariants.proofs.logs.NewMarks.{lawful_permitted}
-use Rattle.sdd_invariants.specs.Orders.{AllLe, AllLt}
-use Rattle.sdd_invariants.specs.Traffic.{puts_to}
 use Rattle.sdd_obligations.specs.Bounds.{IsSmall, greatest_height}
 use Rattle.sdd_obligations.specs.Heights.{IsUnder, height, times_of, top}
 use Rattle.sdd_obligations.proofs.Bounded.{greatest_below, height_few}

@@ -3,22 +3,10 @@ use Rattle.std.proofs.Common.{ℕ, ◌==◌, ◌&&◌, Bool, true, false, List, 
 use Rattle.std.specs.Bool.{if◌then◌else◌}
 use Rattle.std.specs.List.{AllByRecursion, flat_map}
 use Rattle.std.proofs.lemmas.List.Elements.{recursion_from_All}
-use Rattle.sdd_invariants.specs.base.Words.{head_of, tail_of}
-use Rattle.sdd_invariants.specs.base.declared.change.Change.{Change}
-use Rattle.sdd_invariants.specs.catalog.Catalogue.{Catalogue}
-use Rattle.sdd_invariants.specs.catalog.Rules.{IsSound}
-use Rattle.sdd_invariants.specs.lang.Database.{database_of}
-use Rattle.sdd_invariants.specs.lang.Sound.{IsDatabase, IsEntry}
-use Rattle.sdd_invariants.specs.history.declared.record.Rec.TheVariants.{Answer}
-use Rattle.sdd_invariants.specs.wire.Piped.{goes_through}
-use Rattle.sdd_invariants.specs.wire.declared.msg.Msg.{Msg}
-use Rattle.sdd_invariants.specs.wire.declared.msg.Msg.TheVariants.{Write}
-use Rattle.sdd_invariants.specs.site_module.SiteLog.{Act, Did, Each, Entry, Handed, Log, Records, Redeclared, Sends, Setting, Submits, Ticked}
-use Rattle.sdd_laws.specs.copy.Contents.{Dated}
-use Rattle.sdd_invariants.specs.pipe.Pipe.{Pipe, head, head_processed, put}
-use Rattle.sdd_invariants.specs.dm.Copies.{applied, applied_acted, changes_in, classes_of, dated, is_apply}
-use Rattle.sdd_invariants.specs.dm.Pipes.{is_processing, pipe, pipe_acted}
-use Rattle.sdd_invariants.specs.logs.Snapshots.{frags_asked, is_at, items_of, snapshots}
+use Rattle.sdd_invariants.specs.All.{Act, Answer, Catalogue, Change, Did, Each, Handed, IsDatabase, IsEntry, IsSound, Msg, Pipe, Records, Redeclared, Sends, Setting, Submits, Ticked, Write, applied, applied_acted, changes_in, database_of, dated, frags_asked, goes_through, head, head_of, head_processed, is_apply, is_at, is_processing, items_of, pipe, pipe_acted, put, snapshots, tail_of}
+use Rattle.sdd_invariants.specs.site_module.SiteLog.{Entry, Log}
+use Rattle.sdd_laws.specs.All.{Dated}
+use Rattle.sdd_invariants.specs.dm.Copies.{classes_of}
 use Rattle.sdd_obligations.specs.Fitting.{AreWritten, IsItemChange}
 use Rattle.sdd_obligations.proofs.Entries.{AreItems, all_gathered, all_joined, first_are_items, items_are_entries}
 

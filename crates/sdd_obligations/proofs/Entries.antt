@@ -6,20 +6,11 @@ use Rattle.std.specs.List.{AllByRecursion, cons_option, filter_map, flat_map, fo
 use Rattle.std.specs.Ordering.{int_cmp, is_eq}
 use Rattle.std.proofs.lemmas.Bool.Decides.{Decides-eqb}
 use Rattle.std.proofs.lemmas.List.Elements.{recursion_from_All}
-use Rattle.sdd_invariants.specs.base.declared.change.Change.{Change}
-use Rattle.sdd_invariants.specs.catalog.Catalogue.{Catalogue, fragment_at}
-use Rattle.sdd_invariants.specs.catalog.Rules.{IsSound}
-use Rattle.sdd_laws.specs.copy.Contents.{Dated, keys_in, latest, newer, of_fragment, row_left, row_with}
+use Rattle.sdd_invariants.specs.All.{Catalogue, Change, Database, FitsRow, HasRow, IsChange, IsDatabase, IsEntry, IsRelation, IsSound, Item, Row, first_row, fragment_at, in_range, items_of, key_in, with_item}
+use Rattle.sdd_laws.specs.All.{Dated, keys_in, latest, newer, of_fragment, row_left, row_with}
 use Rattle.sdd_laws.proofs.copy.Contents.{eq_is, same_key}
-use Rattle.sdd_invariants.specs.dm.Copies.{first_row}
-use Rattle.sdd_invariants.specs.lang.Changes.{HasRow, IsChange}
-use Rattle.sdd_invariants.specs.lang.Database.{Database, Item, Row, key_in}
-use Rattle.sdd_invariants.specs.lang.Fits.{FitsRow, IsRelation}
-use Rattle.sdd_invariants.specs.lang.Sound.{IsDatabase, IsEntry}
-use Rattle.sdd_invariants.specs.lang.Update.{in_range}
 use Rattle.sdd_invariants.proofs.lang.EffectChanges.{entry_placed}
 use Rattle.sdd_invariants.proofs.lang.StaysDatabase.{no_database, with_row_stays}
-use Rattle.sdd_invariants.specs.logs.Snapshots.{items_of, with_item}
 use Rattle.sdd_obligations.specs.Fitting.{IsItemChange}
 
 -- each dated change is of an item

@@ -3,28 +3,7 @@ use Rattle.std.proofs.Common.{ℕ, ◌-◌, ◌==◌, ◌∷◌, ◌≡◌, ◌�
 use Rattle.std.proofs.Math.Decide.{dec_le}
 use Rattle.std.proofs.lemmas.List.{get_or_past}
 use Rattle.std.proofs.lemmas.List.Elements.{All-get_or}
-use Rattle.sdd_invariants.specs.base.Numbers.{tm_no}
-use Rattle.sdd_invariants.specs.base.Sites.{number_of}
-use Rattle.sdd_invariants.specs.base.declared.number.ClassNo.{ClassNo}
-use Rattle.sdd_invariants.specs.base.declared.number.DmNo.{DmNo}
-use Rattle.sdd_invariants.specs.base.declared.number.TmNo.{TmNo}
-use Rattle.sdd_invariants.specs.base.declared.number.Ts.{Ts}
-use Rattle.sdd_invariants.specs.base.declared.site.Site.{Site}
-use Rattle.sdd_invariants.specs.base.declared.site.Site.TheVariants.{D, T, U}
-use Rattle.sdd_invariants.specs.catalog.Catalogue.{Catalogue, class_at}
-use Rattle.sdd_invariants.specs.catalog.Numbers.{IsServedClass, IsWhole}
-use Rattle.sdd_invariants.specs.catalog.declared.resolved.Class.{Class}
-use Rattle.sdd_invariants.specs.lang.Database.{Row}
-use Rattle.sdd_invariants.specs.wire.declared.msg.Msg.{Msg}
-use Rattle.sdd_invariants.specs.wire.declared.msg.Msg.TheVariants.{Fetch, Read, Ready, Reduce, Reduced, Rows, Ship, Values, Write}
-use Rattle.sdd_invariants.specs.site_module.SiteLog.{Bases, Setting}
-use Rattle.sdd_invariants.specs.attempt.Attempts.{Attempt, active}
-use Rattle.sdd_invariants.specs.attempt.Exchange.{without}
-use Rattle.sdd_invariants.specs.attempt.Fits.{FitsRows, ServesIfLast}
-use Rattle.sdd_invariants.specs.logs.Entries.{Given, Hand, Log}
-use Rattle.sdd_invariants.specs.logs.Locals.{local_of, setting_of}
-use Rattle.sdd_invariants.specs.logs.Permitted.{IsPermitted}
-use Rattle.sdd_invariants.specs.logs.Snapshots.{base_of}
+use Rattle.sdd_invariants.specs.All.{Attempt, Bases, Catalogue, Class, ClassNo, D, DmNo, Fetch, FitsRows, Given, Hand, IsPermitted, IsServedClass, IsWhole, Log, Msg, Read, Ready, Reduce, Reduced, Row, Rows, ServesIfLast, Setting, Ship, Site, T, TmNo, Ts, U, Values, Write, active, base_of, class_at, home, local_of, number_of, setting_of, tm_no, without}
 use Rattle.sdd_obligations.proofs.Answered.{answers_are_awaited}
 use Rattle.sdd_obligations.proofs.Comes.{questions_are_servable}
 use Rattle.sdd_obligations.proofs.ReadsFit.{reads_are_readable}
@@ -34,7 +13,6 @@ use Rattle.sdd_obligations.specs.Fitting.{FitsGiven}
 use Rattle.sdd_invariants.proofs.Recorded.{start_of_active}
 use Rattle.sdd_obligations.proofs.Served.{rows_serve}
 use Rattle.sdd_obligations.specs.Reading.{HasEras}
-use Rattle.sdd_invariants.specs.Steps.{home}
 use Rattle.sdd_invariants.proofs.InOrder.{allowed_hand}
 use Rattle.sdd_obligations.proofs.FitsAtD.{fair_of}
 use Rattle.sdd_obligations.specs.Real.{IsServedAt, ServedBy}

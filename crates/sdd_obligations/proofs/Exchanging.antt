@@ -1,21 +1,10 @@
 -- The rows that came to an exchange are those that the modules hold.
 use Rattle.std.proofs.Common.{ℕ, ◌&&◌, ◌+◌, ◌++◌, ◌==◌, ◌∙◌, ◌∷◌, ◌≡◌, Bool, List, None, Some, [], ap, false, if◌then◌else◌, inl, inr, length, refl, subst, sym, true}
 use Rattle.std.proofs.lemmas.Bool.{eqb-true}
-use Rattle.sdd_invariants.specs.base.Order.{with_values}
-use Rattle.sdd_invariants.specs.base.Words.{contains}
-use Rattle.sdd_invariants.specs.base.declared.number.ClassNo.{ClassNo}
-use Rattle.sdd_invariants.specs.base.declared.number.Ts.{Ts}
-use Rattle.sdd_invariants.specs.base.declared.value.Value.{Value}
-use Rattle.sdd_invariants.specs.lang.Database.{Row}
-use Rattle.sdd_invariants.specs.lang.declared.statement.Stmt.{Stmt}
+use Rattle.sdd_invariants.specs.All.{Asking, ClassNo, Exchange, Fetch, Fetching, Move, Msg, Over, Phase, Read, Reading, Ready, Reduce, Reduced, Reducing, Reject, Row, Rows, Ship, Shipping, Step, Stmt, Ts, Value, Values, after_hand, after_send, answered, contains, counted, counts_for, fetches, fetches_from, goes_on, lacking, move_at, next_move, phase_ends, with_use, with_values, without}
 use Rattle.sdd_exec.specs.Choices.{Has}
 use Rattle.sdd_exec.proofs.Members.{Has-append, Has-left, Has-right}
-use Rattle.sdd_invariants.specs.wire.declared.msg.Msg.{Msg}
-use Rattle.sdd_invariants.specs.wire.declared.msg.Msg.TheVariants.{Fetch, Read, Ready, Reduce, Reduced, Reject, Rows, Ship, Values}
-use Rattle.sdd_invariants.specs.semijoin.Steps.{Move, next_move}
-use Rattle.sdd_invariants.specs.semijoin.declared.step.Step.{Step}
-use Rattle.sdd_laws.specs.copy.Frozen.{Frozen, all_rows, rows_of, values_in}
-use Rattle.sdd_invariants.specs.attempt.Exchange.{Asking, Exchange, Fetching, Over, Phase, Reading, Reducing, Shipping, after_hand, after_send, answered, counted, counts_for, fetches, fetches_from, goes_on, lacking, move_at, phase_ends, with_use, without}
+use Rattle.sdd_laws.specs.All.{Frozen, all_rows, rows_of, values_in}
 use Rattle.sdd_obligations.proofs.AtTurn.{awaits}
 use Rattle.sdd_obligations.proofs.Modules.{firsts, without_other}
 use Rattle.sdd_obligations.specs.Turns.{Replies, is_a_read, is_a_refusal, is_a_ship, is_answer}

@@ -2,21 +2,8 @@
 -- and records are of classes of the catalogue.
 use Rattle.std.proofs.Common.{ℕ, ◌&&◌, ◌==◌, ◌∙◌, ◌∷◌, ◌≡◌, ◌≤◌, Bool, List, None, Option, Some, [], ap, arith, false, if◌then◌else◌, length, not, refl, slice_get, subst, sym, true}
 use Rattle.std.proofs.lemmas.Bool.{eqb-true}
-use Rattle.sdd_invariants.specs.base.Clock.{Ticking}
-use Rattle.sdd_invariants.specs.base.Numbers.{class_no, dm_no, time_at}
-use Rattle.sdd_invariants.specs.base.Sites.{number_of}
-use Rattle.sdd_invariants.specs.base.Words.{head_of, or_else}
-use Rattle.sdd_invariants.specs.catalog.Catalogue.{class_at, numbers_to}
-use Rattle.sdd_invariants.specs.base.declared.number.Ts.{Ts}
-use Rattle.sdd_invariants.specs.base.declared.site.Site.{Site}
-use Rattle.sdd_invariants.specs.base.declared.site.Site.TheVariants.{D, U}
-use Rattle.sdd_invariants.specs.wire.declared.msg.Msg.{Msg}
-use Rattle.sdd_invariants.specs.wire.declared.msg.Msg.TheVariants.{Fetch, Held, Hold, Null, Reduce, Release, Ship}
-use Rattle.sdd_invariants.specs.site_module.SiteLog.{Act, Bases, Did, Entry, Handed, Log, Records, Redeclared, Sends, Setting, Submits, Ticked}
-use Rattle.sdd_invariants.specs.attempt.Acts.{attempt_due, commit_act, start_act}
-use Rattle.sdd_invariants.specs.attempt.Attempts.{Attempt, active, asks_rows}
-use Rattle.sdd_invariants.specs.attempt.Exchange.{first_send, is_over}
-use Rattle.sdd_invariants.specs.attempt.Queues.{Queued, queue}
+use Rattle.sdd_invariants.specs.All.{Act, Attempt, Bases, D, Did, Fetch, Handed, Held, Hold, Msg, Null, Queued, Records, Redeclared, Reduce, Release, Sends, Setting, Ship, Site, Submits, Ticked, Ticking, Ts, U, active, asks_rows, attempt_due, class_at, class_no, commit_act, dm_no, first_send, head_of, is_over, number_of, numbers_to, or_else, queue, start_act, time_at}
+use Rattle.sdd_invariants.specs.site_module.SiteLog.{Entry, Log}
 use Rattle.sdd_invariants.proofs.Bools.{and_left, and_right}
 use Rattle.sdd_invariants.proofs.Exchanges.{asks_next}
 use Rattle.sdd_invariants.proofs.Lists.{in_filtered, in_mapped, in_range}

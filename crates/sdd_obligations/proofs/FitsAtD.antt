@@ -1,19 +1,6 @@
 -- What is next to be handed to a data module fits there.
 use Rattle.std.proofs.Common.{ℕ, ◌≡◌, Some, refl}
-use Rattle.sdd_invariants.specs.base.declared.number.DmNo.{DmNo}
-use Rattle.sdd_invariants.specs.base.declared.site.Site.{Site}
-use Rattle.sdd_invariants.specs.base.declared.site.Site.TheVariants.{D, T, U}
-use Rattle.sdd_invariants.specs.wire.declared.msg.Msg.{Msg}
-use Rattle.sdd_invariants.specs.wire.declared.msg.Msg.TheVariants.{Ask, Done, Fetch, Held, Hold, Null, Read, Ready, Reduce, Reduced, Reject, Release, Rows, Ship, Values, Write}
-use Rattle.sdd_invariants.specs.site_module.SiteLog.{Bases, Each}
-use Rattle.sdd_invariants.specs.dm.Fits.{fits}
-use Rattle.sdd_invariants.specs.logs.Due.{next}
-use Rattle.sdd_invariants.specs.logs.Entries.{Given, Hand, Log}
-use Rattle.sdd_invariants.specs.logs.Lawful.{IsLawful}
-use Rattle.sdd_invariants.specs.logs.Locals.{local_of, setting_of}
-use Rattle.sdd_invariants.specs.logs.Permitted.{IsPermitted}
-use Rattle.sdd_invariants.specs.logs.Traffic.{handed}
-use Rattle.sdd_invariants.specs.Steps.{IsFair}
+use Rattle.sdd_invariants.specs.All.{Ask, Bases, D, DmNo, Done, Each, Fetch, Given, Hand, Held, Hold, IsFair, IsLawful, IsPermitted, Log, Msg, Null, Read, Ready, Reduce, Reduced, Reject, Release, Rows, Ship, Site, T, U, Values, Write, fits, handed, local_of, next, setting_of}
 use Rattle.sdd_invariants.proofs.Fair.{t_fair, u_fair}
 use Rattle.sdd_obligations.specs.Bounds.{IsSmall}
 use Rattle.sdd_obligations.specs.Routes.{IsRunner}

@@ -1,23 +1,8 @@
 -- What is next to be handed to a transaction module, or to U, fits there.
 use Rattle.std.proofs.Common.{ℕ, ◌&&◌, ◌-◌, ◌==◌, ◌∷◌, ◌≡◌, ◌≤◌, arith, subst, sym, true}
-use Rattle.sdd_invariants.specs.base.Sites.{number_of}
-use Rattle.sdd_invariants.specs.base.declared.number.DmNo.{DmNo}
-use Rattle.sdd_invariants.specs.base.declared.number.ClassNo.{ClassNo}
-use Rattle.sdd_invariants.specs.base.declared.number.TmNo.{TmNo}
-use Rattle.sdd_invariants.specs.base.declared.number.Ts.{Ts}
-use Rattle.sdd_invariants.specs.base.declared.site.Site.{Site}
-use Rattle.sdd_invariants.specs.base.declared.site.Site.TheVariants.{D, T, U}
-use Rattle.sdd_invariants.specs.catalog.Numbers.{IsWhole}
-use Rattle.sdd_invariants.specs.wire.declared.msg.Msg.{Msg}
-use Rattle.sdd_invariants.specs.wire.declared.msg.Msg.TheVariants.{Ask, Done, Fetch, Held, Hold, Null, Read, Ready, Reduce, Reduced, Reject, Release, Rows, Ship, Values, Write}
-use Rattle.sdd_invariants.specs.site_module.SiteLog.{Bases}
-use Rattle.sdd_invariants.specs.attempt.Fits.{AnswersRead, is_verdict}
+use Rattle.sdd_invariants.specs.All.{AnswersRead, Ask, Bases, ClassNo, D, DmNo, Done, Fetch, Given, Hand, Held, Hold, IsPermitted, IsWhole, Log, Msg, Null, Read, Ready, Reduce, Reduced, Reject, Release, Rows, Ship, Site, T, TmNo, Ts, U, Values, Write, handed, is_verdict, local_of, number_of, setting_of}
 use Rattle.sdd_invariants.specs.tm.Fits as tm
 use Rattle.sdd_invariants.specs.umod.Fits as um
-use Rattle.sdd_invariants.specs.logs.Entries.{Given, Hand, Log}
-use Rattle.sdd_invariants.specs.logs.Locals.{local_of, setting_of}
-use Rattle.sdd_invariants.specs.logs.Permitted.{IsPermitted}
-use Rattle.sdd_invariants.specs.logs.Traffic.{handed}
 use Rattle.sdd_invariants.proofs.Bools.{both, same_number}
 use Rattle.sdd_obligations.specs.Bounds.{IsSmall}
 use Rattle.sdd_obligations.proofs.OfNext.{d_of_sites, t_of_sites}

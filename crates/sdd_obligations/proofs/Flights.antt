@@ -2,25 +2,12 @@
 use Rattle.std.proofs.Common.{ℕ, ◌&&◌, ◌++◌, ◌∙◌, ◌∷◌, ◌≡◌, Bool, List, None, Option, Some, [], ap, append-nil, append_assoc, drop, false, if◌then◌else◌, refl, slice_get, suc, sym, true, zero}
 use Rattle.std.proofs.lemmas.List.{take-append-drop}
 use Rattle.std.proofs.lemmas.List.Elements.{filter-append}
-use Rattle.sdd_invariants.specs.base.Numbers.{dm_no}
-use Rattle.sdd_invariants.specs.base.Sites.{same_site}
-use Rattle.sdd_invariants.specs.base.declared.event.Event.TheVariants.{Deliver, Down, Lose, Redeclare, Repeat, Resend, Settle, Submit, Tick, Up}
-use Rattle.sdd_invariants.specs.base.declared.site.Site.{Site}
-use Rattle.sdd_invariants.specs.base.declared.site.Site.TheVariants.{D, T, U}
-use Rattle.sdd_invariants.specs.lang.declared.transaction.Txn.{Txn}
-use Rattle.sdd_invariants.specs.wire.declared.msg.Msg.{Msg}
-use Rattle.sdd_invariants.specs.site_module.SiteLog.{Act, Did, Force, Handed, Redeclared, Submits, Ticked, sends_of_act}
-use Rattle.sdd_invariants.specs.logs.Entries.{Does, Entry, Given, Hand, Log, Mark, Notes, Redeclares, Round, Submitted}
-use Rattle.sdd_invariants.specs.logs.Locals.{force_at, local_of, redeclares, txn_at}
-use Rattle.sdd_invariants.specs.logs.Permitted.{IsAllowed, IsPermitted}
-use Rattle.sdd_invariants.specs.logs.Traffic.{handed}
+use Rattle.sdd_invariants.specs.All.{Act, D, Deliver, Did, Does, Down, Entry, Force, Given, Hand, Handed, IsAllowed, IsPermitted, Log, Lose, Mark, Msg, Notes, Redeclare, Redeclared, Redeclares, Repeat, Resend, Round, Settle, Site, Submit, Submits, Submitted, T, Tick, Ticked, Txn, U, Up, dm_no, force_at, forced, given_to, handed, handed_by, hands_from, local_of, made, put_by, puts_to, redeclares, same_site, sends_of_act, to_site, txn_at, with_made}
 use Rattle.sdd_obligations.specs.Stages.{flight}
 use Rattle.sdd_obligations.specs.Turns.{Silent, answers, asked_by, is_answer, is_question, questions, told_by, turn_at, turn_with}
-use Rattle.sdd_invariants.specs.Traffic.{hands_from, puts_to, to_site}
 use Rattle.sdd_invariants.proofs.InOrder.{hand_was_put, in_order}
 use Rattle.sdd_invariants.proofs.Made.{local_step}
 use Rattle.sdd_invariants.proofs.Sent.{puts_grow}
-use Rattle.sdd_invariants.specs.Made.{forced, given_to, handed_by, made, put_by, with_made}
 use Rattle.sdd_invariants.specs.site_module.SiteLog as site
 
 if_more : (c : Bool) (xs : List Msg) (m : Msg) → (if c then xs ++ m ∷ [] else xs) ≡ xs ++ (if c then m ∷ [] else [])

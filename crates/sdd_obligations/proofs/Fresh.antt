@@ -1,41 +1,14 @@
 -- No WRITE that was handed to a data module has the timestamp of the one that is next.
 use Rattle.std.proofs.Common.{ℕ, ◌++◌, ◌*◌, ◌+◌, ◌<◌, ◌==◌, ◌∙◌, ◌∷◌, ◌≡◌, ◌≤◌, Bool, List, Some, [], ap, append_assoc, arith, false, if◌then◌else◌, inl, inr, length, refl, slice_get, subst, sym, true}
 use Rattle.std.proofs.lemmas.Bool.{eqb-true}
-use Rattle.sdd_invariants.specs.base.Numbers.{tm_no}
-use Rattle.sdd_invariants.specs.base.Sites.{number_of, sites}
-use Rattle.sdd_invariants.specs.base.Words.{contains}
-use Rattle.sdd_invariants.specs.base.declared.change.Change.{Change}
-use Rattle.sdd_invariants.specs.base.declared.number.ClassNo.{ClassNo}
-use Rattle.sdd_invariants.specs.base.declared.number.DmNo.{DmNo}
-use Rattle.sdd_invariants.specs.base.declared.number.TmNo.{TmNo}
-use Rattle.sdd_invariants.specs.base.declared.number.Ts.{Ts}
-use Rattle.sdd_invariants.specs.base.declared.number.TxnNo.{TxnNo}
-use Rattle.sdd_invariants.specs.base.declared.site.Site.{Site}
-use Rattle.sdd_invariants.specs.base.declared.site.Site.TheVariants.{D, T, U}
-use Rattle.sdd_invariants.specs.wire.Piped.{goes_through}
-use Rattle.sdd_invariants.specs.wire.declared.msg.Msg.{Msg}
-use Rattle.sdd_invariants.specs.wire.declared.msg.Msg.TheVariants.{Write}
-use Rattle.sdd_invariants.specs.site_module.SiteLog.{Act, Did, Handed, Records, Redeclared, Sends, Setting, Submits, Ticked}
-use Rattle.sdd_invariants.specs.attempt.Acts.{commit_act}
-use Rattle.sdd_invariants.specs.attempt.Clocks.{clock}
-use Rattle.sdd_invariants.specs.attempt.Queues.{Queued}
+use Rattle.sdd_invariants.specs.All.{Act, Change, ClassNo, D, Did, DmNo, Does, Given, Hand, Handed, IsApplyOf, IsLawful, IsPermitted, Log, Msg, Queued, Records, Redeclared, Sends, Setting, Site, Submits, T, Ticked, TmNo, Ts, TxnNo, U, Write, all_of, class_puts, clock, commit_act, contains, goes_through, home, local_of, next_stamp, number_of, pipe, pipe_at, setting_of, sites, start_at, tm_no, with_time, write_at, write_time_of, write_times}
 use Rattle.sdd_invariants.proofs.dm.Prefix.{all_handed, all_there}
-use Rattle.sdd_invariants.specs.dm.Fits.{with_time, write_time_of, write_times}
-use Rattle.sdd_invariants.specs.dm.Pipes.{pipe}
-use Rattle.sdd_invariants.specs.logs.Entries.{Does, Given, Hand, Log}
-use Rattle.sdd_invariants.specs.logs.Lawful.{IsLawful}
-use Rattle.sdd_invariants.specs.logs.Locals.{local_of, setting_of}
-use Rattle.sdd_invariants.specs.logs.Permitted.{IsPermitted}
 use Rattle.sdd_invariants.proofs.Recorded.{start_of_active}
-use Rattle.sdd_invariants.specs.OnLinks.{write_at}
 use Rattle.sdd_invariants.proofs.Installed.{origin, write_origin}
-use Rattle.sdd_invariants.specs.Causes.{IsApplyOf}
 use Rattle.sdd_invariants.proofs.Applied.{one_of_key, writes_strict}
 use Rattle.sdd_invariants.proofs.InPipe.{in_pipe}
-use Rattle.sdd_invariants.specs.Seen.{all_of, class_puts, pipe_at}
 use Rattle.sdd_invariants.proofs.Bools.{only_right, same_number, true_or_false}
 use Rattle.sdd_invariants.proofs.Lists.{at_seam, in_left, place_within}
-use Rattle.sdd_invariants.specs.Steps.{home, next_stamp, start_at}
 use Rattle.sdd_invariants.proofs.Fair.{home_fair}
 use Rattle.sdd_invariants.proofs.Made.{local_grows, permitted_before}
 use Rattle.sdd_obligations.specs.Bounds.{IsNumbered, IsSmall}

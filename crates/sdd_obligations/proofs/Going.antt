@@ -2,31 +2,14 @@
 use Rattle.std.specs.List.{cons_option}
 use Rattle.std.specs.Prelude.{filter_map}
 use Rattle.std.proofs.Common.{ℕ, ◌==◌, ◌∷◌, ◌≡◌, ◌⊎◌, Bool, List, None, Option, Some, [], ap, cond, false, if◌then◌else◌, inl, inr, refl, slice_get, subst, suc, sym, true, zero}
-use Rattle.sdd_invariants.specs.base.Numbers.{class_no, dm_no, time_at, tm_no}
-use Rattle.sdd_invariants.specs.base.Sites.{same_site}
-use Rattle.sdd_invariants.specs.base.Words.{head_of, or_else}
-use Rattle.sdd_invariants.specs.base.declared.change.Change.{Change}
-use Rattle.sdd_invariants.specs.base.declared.site.Site.{Site}
-use Rattle.sdd_invariants.specs.base.declared.site.Site.TheVariants.{D, T, U}
-use Rattle.sdd_invariants.specs.catalog.Catalogue.{numbers_to}
-use Rattle.sdd_invariants.specs.lang.Effect.{effect}
-use Rattle.sdd_invariants.specs.wire.declared.msg.Msg.{Msg}
-use Rattle.sdd_invariants.specs.wire.declared.msg.Msg.TheVariants.{Ask, Fetch, Held, Hold, Null, Reduce, Release, Ship}
-use Rattle.sdd_invariants.specs.site_module.SiteLog.{Act, Bases, Did, Entry, Handed, Log, Records, Redeclared, Sends, Setting, Submits, Ticked, hands, sends_of_act}
-use Rattle.sdd_invariants.specs.attempt.Acts.{attempt_due, commit_act, write_to}
-use Rattle.sdd_invariants.specs.attempt.Attempts.{Attempt, active, asks_rows}
-use Rattle.sdd_invariants.specs.attempt.Exchange.{first_send, is_over}
-use Rattle.sdd_invariants.specs.attempt.Queues.{Queued}
-use Rattle.sdd_invariants.specs.tm.Due.{IsDue, by_ask, by_exchange, by_hold, by_start, exchange_due, null_at, start_of}
-use Rattle.sdd_invariants.specs.tm.Views.{Question, asks, asks_acted, asks_handed, class_view, runs, view_of}
+use Rattle.sdd_invariants.specs.All.{Act, Ask, Attempt, Bases, Change, D, Did, Fetch, Handed, Held, Hold, IsStepU, Msg, Null, Question, Queued, Records, Redeclared, Reduce, Release, Sends, Setting, Ship, Site, Submits, T, Ticked, U, WasAsked, active, asks, asks_acted, asks_handed, asks_rows, attempt_due, bound, by_ask, by_exchange, by_hold, by_start, class_no, class_view, commit_act, dm_no, effect, exchange_due, first_send, hands, head_of, is_over, modules_asked, null_at, numbers_to, or_else, runs, same_site, sends_of_act, start_at, start_of, start_read, time_at, tm_no, to_site, write_to}
+use Rattle.sdd_invariants.specs.site_module.SiteLog.{Entry, Log}
+use Rattle.sdd_invariants.specs.tm.Due.{IsDue}
+use Rattle.sdd_invariants.specs.tm.Views.{view_of}
 use Rattle.sdd_invariants.proofs.Serving.{u_way}
-use Rattle.sdd_invariants.specs.AtU.{IsStepU}
-use Rattle.sdd_invariants.specs.PutsBy.{WasAsked}
 use Rattle.sdd_invariants.proofs.Exchanges.{asks_next}
 use Rattle.sdd_invariants.proofs.Lists.{in_either, in_filtered, in_mapped, in_one}
 use Rattle.sdd_invariants.proofs.Sites.{site_is, the_one}
-use Rattle.sdd_invariants.specs.Steps.{bound, modules_asked, start_at, start_read}
-use Rattle.sdd_invariants.specs.Traffic.{to_site}
 use Rattle.sdd_obligations.specs.Routes.{GoesTo, IsAnAsk}
 
 -- a message to a site is one of those that are sent

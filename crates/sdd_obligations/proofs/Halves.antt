@@ -2,21 +2,7 @@
 use Rattle.std.proofs.Common.{ℕ, ◌++◌, ◌<◌, ◌==◌, ◌∙◌, ◌∷◌, ◌≡◌, ◌≤◌, Bool, List, None, Option, Some, [], ap, arith, false, if◌then◌else◌, inl, inr, length, map, not, refl, slice_get, subst, suc, sym, true, zero}
 use Rattle.std.proofs.Math.Decide.{dec_le}
 use Rattle.std.proofs.lemmas.Bool.{eqb-true}
-use Rattle.sdd_invariants.specs.base.Numbers.{dm_no}
-use Rattle.sdd_invariants.specs.base.Sites.{number_of}
-use Rattle.sdd_invariants.specs.base.Words.{head_of}
-use Rattle.sdd_invariants.specs.base.declared.site.Site.TheVariants.{D}
-use Rattle.sdd_invariants.specs.wire.Piped.{goes_through, time_of}
-use Rattle.sdd_invariants.specs.wire.declared.msg.Msg.{Msg}
-use Rattle.sdd_invariants.specs.wire.declared.msg.Msg.TheVariants.{Read}
-use Rattle.sdd_invariants.specs.site_module.SiteLog.{Act, Did, Each, Handed, Redeclared, Setting, Submits, Ticked, sends_of_act}
-use Rattle.sdd_invariants.specs.attempt.Attempts.{Attempt, active}
-use Rattle.sdd_invariants.specs.attempt.Fits.{is_read}
-use Rattle.sdd_invariants.specs.dm.Pipes.{pipe}
-use Rattle.sdd_invariants.specs.pipe.Pipe.{Pipe, head}
-use Rattle.sdd_invariants.specs.logs.Entries.{Given, Log}
-use Rattle.sdd_invariants.specs.logs.Locals.{local_of, setting_of}
-use Rattle.sdd_invariants.specs.logs.Permitted.{IsPermitted}
+use Rattle.sdd_invariants.specs.All.{Act, AllLe, Attempt, D, Did, Each, Given, Handed, IsPermitted, Log, Msg, Pipe, Read, Redeclared, Setting, Submits, Ticked, active, all_of, class_puts, dm_no, goes_through, head, head_of, home, is_read, limit_of, local_of, number_of, pipe, pipe_at, puts_to, sends_of_act, setting_of, time_of, times_in}
 use Rattle.sdd_obligations.proofs.Asking.{in_turn}
 use Rattle.sdd_obligations.proofs.Hearing.{AtTurn, InTurn, IsTimely}
 use Rattle.sdd_obligations.proofs.Held.{IsAlone, IsHeldAt}
@@ -29,12 +15,8 @@ use Rattle.sdd_invariants.proofs.Times.{timed}
 use Rattle.sdd_invariants.proofs.ClassOrder.{in_class_order}
 use Rattle.sdd_invariants.proofs.InPipe.{in_pipe, times_are}
 use Rattle.sdd_invariants.proofs.Split.{processed_stays}
-use Rattle.sdd_invariants.specs.Seen.{all_of, class_puts, pipe_at}
 use Rattle.sdd_invariants.proofs.Bools.{and_left, both, if_way, not_both, same_number, same_or_not}
 use Rattle.sdd_invariants.proofs.Lists.{at_seam, in_left, place_within}
-use Rattle.sdd_invariants.specs.Orders.{AllLe}
-use Rattle.sdd_invariants.specs.Steps.{home, limit_of}
-use Rattle.sdd_invariants.specs.Traffic.{puts_to, times_in}
 use Rattle.sdd_invariants.proofs.Fair.{d_fair, home_fair}
 use Rattle.sdd_invariants.specs.site_module.SiteLog as site
 

@@ -1,20 +1,8 @@
 -- What is next to be handed over: it was put, it goes along a link of the network, and no time in it is late.
 use Rattle.std.proofs.Common.{ℕ, ◌^◌, ◌∷◌, ◌≡◌, ◌≤◌, Some, arith, slice_get, true}
-use Rattle.sdd_invariants.specs.base.Sites.{number_of, sites}
-use Rattle.sdd_invariants.specs.base.declared.site.Site.{Site}
-use Rattle.sdd_invariants.specs.base.declared.site.Site.TheVariants.{D, T, U}
-use Rattle.sdd_invariants.specs.wire.declared.msg.Msg.{Msg}
-use Rattle.sdd_invariants.specs.net.Nets.{is_link}
+use Rattle.sdd_invariants.specs.All.{AllLt, D, Given, Hand, IsLawful, IsPermitted, IsWithin, Log, Msg, Site, T, U, handed, is_link, local_of, next, number_of, puts_to, sites}
 use Rattle.sdd_invariants.proofs.net.Directions.{link_parts}
-use Rattle.sdd_invariants.specs.logs.Due.{next}
-use Rattle.sdd_invariants.specs.logs.Entries.{Given, Hand, Log}
-use Rattle.sdd_invariants.specs.logs.Lawful.{IsLawful, IsWithin}
-use Rattle.sdd_invariants.specs.logs.Locals.{local_of}
-use Rattle.sdd_invariants.specs.logs.Permitted.{IsPermitted}
-use Rattle.sdd_invariants.specs.logs.Traffic.{handed}
 use Rattle.sdd_invariants.proofs.logs.NewMarks.{lawful_permitted}
-use Rattle.sdd_invariants.specs.Orders.{AllLt}
-use Rattle.sdd_invariants.specs.Traffic.{puts_to}
 use Rattle.sdd_invariants.proofs.InOrder.{hand_was_put}
 use Rattle.sdd_obligations.specs.Bounds.{IsNumbered, IsSmall}
 use Rattle.sdd_obligations.specs.Heights.{times_of}

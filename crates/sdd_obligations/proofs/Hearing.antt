@@ -1,23 +1,13 @@
 -- An answer that is handed in turn to a site that makes attempts keeps its turns.
 use Rattle.std.proofs.Common.{ℕ, ◌&&◌, ◌<◌, ◌==◌, ◌∙◌, ◌∷◌, ◌≡◌, Bool, List, None, Option, Some, [], ap, arith, cond, false, if◌then◌else◌, inl, inr, not, refl, subst, sym, true}
-use Rattle.sdd_invariants.specs.base.Numbers.{dm_no}
-use Rattle.sdd_invariants.specs.base.Words.{contains}
-use Rattle.sdd_invariants.specs.base.declared.site.Site.{Site}
-use Rattle.sdd_invariants.specs.base.declared.site.Site.TheVariants.{D, T, U}
-use Rattle.sdd_invariants.specs.wire.declared.msg.Msg.{Msg}
-use Rattle.sdd_invariants.specs.wire.declared.msg.Msg.TheVariants.{Fetch, Read, Reduce, Reject, Ship}
-use Rattle.sdd_invariants.specs.site_module.SiteLog.{Did, Entry, Handed, Log, Redeclared, Setting, Submits, Ticked}
-use Rattle.sdd_invariants.specs.attempt.Attempts.{Attempt, active, active_handed, rejects}
-use Rattle.sdd_invariants.specs.attempt.Exchange.{Exchange, Fetching, Over, Phase, Reading, Reducing, Shipping, after_hand, is_over}
-use Rattle.sdd_invariants.specs.attempt.Fits.{uses_at}
+use Rattle.sdd_invariants.specs.All.{Attempt, D, Did, Exchange, Fetch, Fetching, Handed, IsStrict, Msg, Over, Phase, Read, Reading, Redeclared, Reduce, Reducing, Reject, Setting, Ship, Shipping, Site, Submits, T, Ticked, U, active, active_handed, after_hand, contains, dm_no, is_over, is_reading, last_stamp, rejects, uses_at}
+use Rattle.sdd_invariants.specs.site_module.SiteLog.{Entry, Log}
 use Rattle.sdd_obligations.proofs.AtTurn.{IsNext, StandsAt, answered_last, apart, awaited, awaits, hand_at, hand_not, is_fetch_of, is_reduce_of, silent_not_asks, told_not_asks, unsent}
 use Rattle.sdd_obligations.proofs.Modules.{firsts}
 use Rattle.sdd_obligations.specs.Turns.{Asks, MayAnswer, Refused, Replies, RepliesToFetch, RepliesToReduce, RepliesToShip, Silent, Told, Turn, answers, asked, asked_by, is_a_read, is_a_refusal, is_a_ship, is_answer, is_exchanging, is_question, questions, told, told_by, turn_at}
 use Rattle.sdd_invariants.proofs.Clocks.{stamp_rises}
 use Rattle.sdd_invariants.proofs.Bools.{if_way, not_both, same_number, same_or_not}
 use Rattle.sdd_invariants.proofs.Exchanges.{hand_goes}
-use Rattle.sdd_invariants.specs.Orders.{IsStrict}
-use Rattle.sdd_invariants.specs.Steps.{is_reading, last_stamp}
 
 -- the turn of an attempt with timestamp ts at module d, where this is the active attempt of its class
 abbrev pub AtTurn : ℕ → ℕ → Option Attempt → Turn → Type 0

@@ -2,30 +2,10 @@
 use Rattle.std.specs.List.{flat_map, list_any}
 use Rattle.std.proofs.Common.{ℕ, ◌&&◌, ◌++◌, ◌==◌, ◌||◌, ◌∙◌, ◌∷◌, ◌≡◌, ◌⊎◌, Bool, List, None, Option, Some, [], ap, cond, false, filter, if◌then◌else◌, inl, inr, length, map, not, refl, slice_get, subst, sym, true}
 use Rattle.std.proofs.lemmas.Bool.{eqb-true}
-use Rattle.sdd_invariants.specs.base.Order.{column}
-use Rattle.sdd_invariants.specs.base.Sites.{same_site}
-use Rattle.sdd_invariants.specs.base.Words.{contains, head_of}
-use Rattle.sdd_invariants.specs.base.declared.condition.Cond.{Cond}
-use Rattle.sdd_invariants.specs.base.declared.number.ClassNo.{ClassNo}
-use Rattle.sdd_invariants.specs.base.declared.number.Ts.{Ts}
-use Rattle.sdd_invariants.specs.base.declared.number.TxnNo.{TxnNo}
-use Rattle.sdd_invariants.specs.base.declared.site.Site.{Site}
-use Rattle.sdd_invariants.specs.base.declared.usage.Use.{Use}
-use Rattle.sdd_invariants.specs.base.declared.value.Value.{Value}
-use Rattle.sdd_invariants.specs.history.declared.record.Rec.{Rec}
-use Rattle.sdd_invariants.specs.history.declared.record.Rec.TheVariants.{Answer, Apply, Arrive, Pass, Reject as Rejected, Wait}
-use Rattle.sdd_invariants.specs.wire.declared.msg.Msg.{Msg}
-use Rattle.sdd_invariants.specs.wire.declared.msg.Msg.TheVariants.{Done, Fetch, Read, Ready, Reduce, Reduced, Reject, Rows, Ship, Values}
-use Rattle.sdd_invariants.specs.site_module.SiteLog.{Act, Did, Handed, Log, Records, Sends, Setting, sends_of_act}
-use Rattle.sdd_invariants.specs.attempt.Attempts.{asks_rows}
-use Rattle.sdd_invariants.specs.attempt.Fits.{is_read}
-use Rattle.sdd_invariants.specs.pipe.Pipe.{head}
-use Rattle.sdd_laws.specs.copy.Frozen.{CopyRows, Frozen, is_among, reduced, rows_for, values_in}
-use Rattle.sdd_invariants.specs.dm.Copies.{all_held, copies, dated, frozen, frozen_at, frozen_handed, given_up, is_answer as is_answer_record, reduced_at, rows_held}
-use Rattle.sdd_invariants.specs.dm.Due.{ask_for, done_for}
-use Rattle.sdd_invariants.specs.dm.Opens.{Open, class_asked, is_asked_of, is_number, opens}
-use Rattle.sdd_invariants.specs.dm.Pipes.{pipe}
-use Rattle.sdd_invariants.specs.dm.Views.{dated_in, home_of, source_of, view_of}
+use Rattle.sdd_invariants.specs.All.{Act, Answer, Apply, Arrive, ClassNo, Cond, Did, Done, Fetch, Handed, IsClassHere, Msg, Open, Pass, Read, Ready, Rec, Records, Reduce, Reduced, Reject, Rows, Sends, Setting, Ship, Site, Ts, TxnNo, Use, Value, Values, Wait, all_held, ask_for, asks_rows, class_asked, column, contains, copies, dated, dated_in, done_for, frozen, frozen_at, frozen_handed, given_up, head, head_of, home_of, is_answer as is_answer_record, is_asked_of, is_number, is_read, opens, pipe, reduced_at, rows_held, same_site, sends_of_act, source_of, to_site, view_of}
+use Rattle.sdd_invariants.specs.history.declared.record.Rec.TheVariants.{Reject as Rejected}
+use Rattle.sdd_invariants.specs.site_module.SiteLog.{Log}
+use Rattle.sdd_laws.specs.All.{CopyRows, Frozen, is_among, reduced, rows_for, values_in}
 use Rattle.sdd_obligations.proofs.Hearing.{told_is, told_one}
 use Rattle.sdd_obligations.proofs.DataSteps.{IsDataStep, counts_told, data_step_way, reply}
 use Rattle.sdd_obligations.proofs.Telling.{IsHomeOf, asks_no_answer, done_no_answer, head_through, read_next}
@@ -34,8 +14,6 @@ use Rattle.sdd_obligations.specs.Turns.{Asks, MayAnswer, MayAsk, Refused, Replie
 use Rattle.sdd_invariants.proofs.Lists.{in_filtered}
 use Rattle.sdd_invariants.proofs.Bools.{and_left, and_right, both, if_way, or_left, or_right, not_both, same_number, same_or_not}
 use Rattle.sdd_invariants.proofs.Sites.{site_self}
-use Rattle.sdd_invariants.specs.ReadSteps.{IsClassHere}
-use Rattle.sdd_invariants.specs.Traffic.{to_site}
 
 never : {A : Type 0} (b : Bool) → b ≡ true → b ≡ false → A
 never b e f = absurd (not_both b e f)

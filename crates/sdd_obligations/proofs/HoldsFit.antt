@@ -2,23 +2,8 @@
 use Rattle.std.specs.List.{range_with_len}
 use Rattle.std.proofs.Common.{ℕ, ◌+◌, ◌-◌, ◌<◌, ◌==◌, ◌^◌, ◌∷◌, ◌≡◌, ◌≤◌, Bool, Some, ap, arith, false, if◌then◌else◌, nat_lt, refl, slice_get, subst, suc, sym, true}
 use Rattle.std.proofs.lemmas.Bool.Decides.{nat_tests}
-use Rattle.sdd_invariants.specs.base.declared.number.TmNo.{TmNo}
-use Rattle.sdd_invariants.specs.base.declared.number.Ts.{Ts}
-use Rattle.sdd_invariants.specs.base.declared.site.Site.{Site}
-use Rattle.sdd_invariants.specs.base.declared.site.Site.TheVariants.{T, U}
-use Rattle.sdd_invariants.specs.catalog.Catalogue.{numbers_to}
-use Rattle.sdd_invariants.specs.wire.declared.msg.Msg.{Msg}
-use Rattle.sdd_invariants.specs.wire.declared.msg.Msg.TheVariants.{Held, Hold, Release}
-use Rattle.sdd_invariants.specs.site_module.SiteLog.{Handed}
-use Rattle.sdd_invariants.specs.tm.Fits.{FitsHold, FitsRelease}
-use Rattle.sdd_invariants.specs.tm.Views.{holds}
-use Rattle.sdd_invariants.specs.umod.Fits.{FitsHeldFrom}
-use Rattle.sdd_invariants.specs.umod.Views.{TmCounts, counts}
-use Rattle.sdd_invariants.specs.logs.Entries.{Given, Hand, Log}
-use Rattle.sdd_invariants.specs.logs.Locals.{local_of, setting_of}
-use Rattle.sdd_invariants.specs.logs.Permitted.{IsPermitted}
+use Rattle.sdd_invariants.specs.All.{FitsHeldFrom, FitsHold, FitsRelease, Given, Hand, Handed, Held, Hold, IsHoldChain, IsPermitted, Log, Msg, Release, Site, T, TmCounts, TmNo, Ts, U, counts, holds, local_of, numbers_to, setting_of}
 use Rattle.sdd_invariants.proofs.HoldChain.{hold_chain}
-use Rattle.sdd_invariants.specs.Barrier.{IsHoldChain}
 use Rattle.sdd_invariants.proofs.Serving.{counts_tm}
 use Rattle.sdd_invariants.proofs.Bools.{same_number}
 use Rattle.sdd_invariants.proofs.Sites.{site_self}

@@ -2,29 +2,14 @@
 use Rattle.std.proofs.Common.{ℕ, ◌==◌, ◌||◌, ◌≡◌, inl, inr, Bool, true, false, List, [], ◌∷◌, ◌++◌, length, arith, refl, ap, sym, ◌∙◌, subst}
 use Rattle.std.specs.Prelude.{Option, Some}
 use Rattle.std.proofs.lemmas.Bool.{eqb-true}
-use Rattle.sdd_invariants.specs.base.Words.{contains}
-use Rattle.sdd_invariants.specs.base.declared.number.DmNo.{DmNo}
-use Rattle.sdd_invariants.specs.base.declared.site.Site.{Site}
-use Rattle.sdd_invariants.specs.base.declared.site.Site.TheVariants.{D}
-use Rattle.sdd_invariants.specs.base.declared.value.Value.{Value}
+use Rattle.sdd_invariants.specs.All.{Act, Answer, Attempt, D, Did, DmNo, Does, Exchange, Fetching, Given, Hand, IsPermitted, Log, Move, Msg, Over, Phase, Reading, Records, Reduce, Reducing, Shipping, Site, Value, contains, first_phase, home, local_of}
 use Rattle.sdd_exec.specs.Choices.{Has}
-use Rattle.sdd_invariants.specs.wire.declared.msg.Msg.{Msg}
-use Rattle.sdd_invariants.specs.wire.declared.msg.Msg.TheVariants.{Reduce}
-use Rattle.sdd_invariants.specs.site_module.SiteLog.{Act, Did, Records}
-use Rattle.sdd_invariants.specs.semijoin.Steps.{Move}
-use Rattle.sdd_invariants.specs.attempt.Attempts.{Attempt}
-use Rattle.sdd_invariants.specs.attempt.Exchange.{Exchange, Fetching, Over, Phase, Reading, Reducing, Shipping, first_phase}
-use Rattle.sdd_invariants.specs.history.declared.record.Rec.TheVariants.{Answer}
 use Rattle.sdd_invariants.proofs.Places.{longer}
-use Rattle.sdd_laws.specs.copy.Frozen.{Frozen}
-use Rattle.sdd_invariants.specs.logs.Entries.{Does, Given, Hand, Log}
-use Rattle.sdd_invariants.specs.logs.Locals.{local_of}
-use Rattle.sdd_invariants.specs.logs.Permitted.{IsPermitted}
+use Rattle.sdd_laws.specs.All.{Frozen}
 use Rattle.sdd_obligations.proofs.AtTurn.{StandsAt, answered_last, apart, awaited, awaits, unsent}
 use Rattle.sdd_obligations.proofs.Modules.{firsts}
 use Rattle.sdd_obligations.specs.Turns.{Asks, Replies, Silent, Turn, is_a_read, is_answer, is_question, turn_at}
 use Rattle.sdd_invariants.proofs.Bools.{not_both}
-use Rattle.sdd_invariants.specs.Steps.{home}
 use Rattle.sdd_obligations.specs.Fitting.{FitsGiven}
 use Rattle.sdd_obligations.proofs.Places.{IsAnswerAt, one_answer}
 use Rattle.sdd_obligations.proofs.Snapped.{answer_more}

@@ -3,24 +3,9 @@ use Rattle.std.proofs.Common.{ℕ, ◌==◌, ◌&&◌, ◌≡◌, ◌⊎◌, inl
 use Rattle.std.specs.Prelude.{Option, Some, None}
 use Rattle.std.specs.Bool.{if◌then◌else◌}
 use Rattle.std.proofs.lemmas.Bool.{eqb-true}
-use Rattle.sdd_invariants.specs.base.declared.number.ClassNo.{ClassNo}
-use Rattle.sdd_invariants.specs.base.declared.number.Ts.{Ts}
-use Rattle.sdd_invariants.specs.base.declared.value.Value.{Value}
-use Rattle.sdd_invariants.specs.base.declared.number.DmNo.{DmNo}
-use Rattle.sdd_invariants.specs.base.declared.condition.Cond.{Cond}
-use Rattle.sdd_invariants.specs.base.declared.number.TxnNo.{TxnNo}
-use Rattle.sdd_invariants.specs.base.declared.usage.Use.{Use}
-use Rattle.sdd_invariants.specs.base.declared.site.Site.{Site}
-use Rattle.sdd_invariants.specs.history.declared.record.Rec.{Rec}
-use Rattle.sdd_invariants.specs.history.declared.record.Rec.TheVariants.{Answer}
-use Rattle.sdd_invariants.specs.wire.declared.msg.Msg.{Msg}
-use Rattle.sdd_invariants.specs.wire.declared.msg.Msg.TheVariants.{Read, Reduce, Rows}
-use Rattle.sdd_invariants.specs.site_module.SiteLog.{Act, Did, Entry, Handed, Log, Records, Redeclared, Sends, Setting, Submits, Ticked}
-use Rattle.sdd_laws.specs.copy.Frozen.{Frozen, frozen_for, reduced}
-use Rattle.sdd_invariants.specs.pipe.Pipe.{head}
-use Rattle.sdd_invariants.specs.dm.Copies.{copies, dated, frozen, frozen_at, is_answer, reduced_at}
-use Rattle.sdd_invariants.specs.dm.Pipes.{pipe}
-use Rattle.sdd_invariants.specs.logs.Snapshots.{is_at}
+use Rattle.sdd_invariants.specs.All.{Act, Answer, ClassNo, Cond, Did, DmNo, Handed, Msg, Read, Rec, Records, Redeclared, Reduce, Rows, Sends, Setting, Site, Submits, Ticked, Ts, TxnNo, Use, Value, copies, dated, frozen, frozen_at, head, is_answer, is_at, pipe, reduced_at}
+use Rattle.sdd_invariants.specs.site_module.SiteLog.{Entry, Log}
+use Rattle.sdd_laws.specs.All.{Frozen, frozen_for, reduced}
 use Rattle.sdd_invariants.proofs.Bools.{same_number, same_or_not}
 use Rattle.sdd_obligations.proofs.ShippedAnswered.{uses_at_head}
 use Rattle.sdd_obligations.proofs.Places.{IsAnswerAt}

@@ -4,28 +4,14 @@ use Rattle.std.specs.Prelude.{nat_lt}
 use Rattle.std.proofs.Common.{ℕ, ◌&&◌, ◌+◌, ◌++◌, ◌∷◌, ◌≡◌, ◌≤◌, Bool, List, None, Option, Some, [], ap, arith, false, if◌then◌else◌, length, refl, subst, suc, sym, true}
 use Rattle.std.proofs.lemmas.Bool.Decides.{nat_tests}
 use Rattle.std.proofs.lemmas.List.{length-append}
-use Rattle.sdd_invariants.specs.base.Sites.{same_site, sites}
-use Rattle.sdd_invariants.specs.base.declared.event.Event.{Event}
-use Rattle.sdd_invariants.specs.base.declared.event.Event.TheVariants.{Submit, Tick}
-use Rattle.sdd_invariants.specs.base.declared.limits.TheConstants.{MAX_LINK_MESSAGES, MAX_RUN_EVENTS}
-use Rattle.sdd_invariants.specs.base.declared.site.Site.{Site}
-use Rattle.sdd_invariants.specs.base.declared.site.Site.TheVariants.{D, T, U}
-use Rattle.sdd_invariants.specs.lang.declared.transaction.Txn.{Txn}
-use Rattle.sdd_invariants.specs.wire.declared.msg.Msg.{Msg}
-use Rattle.sdd_invariants.specs.site_module.SiteLog.{Did, Force, Handed, Redeclared, Submits, Ticked, hands, sends_of_act, submits}
-use Rattle.sdd_invariants.specs.net.Links.{Call, Link, Puts, link, put, turned}
-use Rattle.sdd_invariants.specs.logs.Entries.{Does, Entry, Given, Hand, Log, Mark, Notes, Redeclares, Round, Submitted, marks}
-use Rattle.sdd_invariants.specs.logs.Lawful.{IsLawful, IsWithin, puts_past}
-use Rattle.sdd_invariants.specs.logs.Locals.{force_at, local_of, redeclares, txn_at}
-use Rattle.sdd_invariants.specs.logs.Permitted.{IsAllowed, IsPermitted}
-use Rattle.sdd_invariants.specs.logs.Traffic.{calls_of, handed, puts, sent}
+use Rattle.sdd_invariants.specs.All.{Call, D, Did, Does, Entry, Event, Force, Given, Hand, Handed, IsAllowed, IsLawful, IsPermitted, IsWithin, Link, Log, MAX_LINK_MESSAGES, MAX_RUN_EVENTS, Mark, Msg, Notes, Puts, Redeclared, Redeclares, Round, Site, Submit, Submits, Submitted, T, Tick, Ticked, Txn, U, calls_of, force_at, forced, given_to, handed, hands, link, local_of, made, made_by_mark, marks, put_by, puts, puts_past, redeclares, same_site, sends_of_act, sent, sites, submits, turned, txn_at, with_made}
+use Rattle.sdd_invariants.specs.net.Links.{put}
 use Rattle.sdd_invariants.proofs.Bools.{and_left, and_right, both, if_way, neither_left, neither_right}
 use Rattle.sdd_invariants.proofs.Sites.{site_is, site_self}
 use Rattle.sdd_invariants.proofs.Fair.{IsMarkEntry, allowed_mark}
 use Rattle.sdd_invariants.proofs.InOrder.{allowed_hand, delivered_within, handed_le}
 use Rattle.sdd_invariants.proofs.Made.{local_step}
 use Rattle.sdd_invariants.proofs.Sent.{sent_grows}
-use Rattle.sdd_invariants.specs.Made.{forced, given_to, made, made_by_mark, put_by, with_made}
 use Rattle.sdd_obligations.specs.Bounds.{AllFewTicks}
 use Rattle.sdd_obligations.proofs.OfNext.{IsThere, from_there, of_next}
 use Rattle.sdd_obligations.proofs.Sums.{total, total_raise, total_up}

@@ -4,50 +4,18 @@ use Rattle.std.specs.Prelude.{nat_le, slice_index_or}
 use Rattle.std.proofs.Common.{ℕ, ◌++◌, ◌==◌, ◌∙◌, ◌∷◌, ◌≡◌, ◌≤◌, Bool, List, None, Option, Some, [], ap, arith, cond, false, filter, if◌then◌else◌, map, refl, slice_get, subst, suc, sym, true, zero}
 use Rattle.std.proofs.lemmas.Bool.Decides.{nat_tests}
 use Rattle.std.proofs.lemmas.List.Elements.{All-head, All-tail}
-use Rattle.sdd_invariants.specs.base.Numbers.{class_no, dm_no, time_at, tm_no}
-use Rattle.sdd_invariants.specs.base.Sites.{are_linked, sites}
-use Rattle.sdd_invariants.specs.base.Words.{head_of, or_else}
-use Rattle.sdd_invariants.specs.base.declared.change.Change.{Change}
-use Rattle.sdd_invariants.specs.base.declared.condition.Cond.{Cond}
-use Rattle.sdd_invariants.specs.base.declared.number.DmNo.{DmNo}
-use Rattle.sdd_invariants.specs.base.declared.number.TmNo.{TmNo}
-use Rattle.sdd_invariants.specs.base.declared.site.Site.{Site}
-use Rattle.sdd_invariants.specs.base.declared.site.Site.TheVariants.{D, T, U}
-use Rattle.sdd_invariants.specs.catalog.Catalogue.{numbers_to}
-use Rattle.sdd_invariants.specs.catalog.Numbers.{IsServedClass, IsWhole}
-use Rattle.sdd_invariants.specs.catalog.declared.resolved.Class.{Class}
-use Rattle.sdd_invariants.specs.lang.Effect.{effect}
-use Rattle.sdd_invariants.specs.wire.declared.msg.Msg.{Msg}
-use Rattle.sdd_invariants.specs.wire.declared.msg.Msg.TheVariants.{Done, Fetch, Hold, Null, Read, Reduce, Ship, Write}
-use Rattle.sdd_invariants.specs.site_module.SiteLog.{Act, Bases, Did, Each, Handed, Records, Sends, Setting, sends_of_act}
-use Rattle.sdd_invariants.specs.attempt.Acts.{attempt_due, commit_act, write_to}
-use Rattle.sdd_invariants.specs.attempt.Attempts.{Attempt, active}
-use Rattle.sdd_invariants.specs.attempt.Exchange.{first_send, is_over}
-use Rattle.sdd_invariants.specs.attempt.Queues.{Queued, queue}
-use Rattle.sdd_invariants.specs.pipe.Pipe.{head}
+use Rattle.sdd_invariants.specs.All.{Act, AllLinked, Attempt, Bases, Change, Class, ClassView, Cond, D, Did, DmNo, Does, Done, Each, Fetch, Given, Hand, Handed, Hold, Home, IsDueAt, IsLawful, IsPermitted, IsServedClass, IsWhole, Log, Msg, Null, Open, Processes, Queued, Read, Records, Reduce, Refuses, Sends, Setting, Ship, Site, T, TmNo, U, View, Waits, WasAsked, Write, active, are_linked, attempt_due, base_of, class_no, commit_act, dm_no, effect, first_send, head, head_of, home_of, is_asked_of, is_link, is_over, is_site, local_of, modules_asked, numbers_to, opens, or_else, queue, sends_of_act, setting_of, sites, source_of, start_at, start_read, time_at, tm_no, view_of, write_to}
 use Rattle.sdd_invariants.specs.dm.Due as dm
-use Rattle.sdd_invariants.specs.dm.Opens.{Open, is_asked_of, opens}
-use Rattle.sdd_invariants.specs.dm.Views.{ClassView, Home, View, home_of, source_of, view_of}
 use Rattle.sdd_invariants.specs.dm.declared.step.Step.{Step}
-use Rattle.sdd_invariants.specs.dm.declared.step.Step.TheVariants.{Processes, Refuses, Waits}
 use Rattle.sdd_invariants.specs.tm.Due as tm
 use Rattle.sdd_invariants.specs.tm.Views as tm_views
 use Rattle.sdd_invariants.specs.umod.Due as um
 use Rattle.sdd_invariants.specs.umod.Views as um_views
 use Rattle.sdd_invariants.proofs.Serving.{counts_tm}
 use Rattle.sdd_invariants.proofs.net.Directions.{link_back}
-use Rattle.sdd_invariants.specs.net.Nets.{is_link, is_site}
-use Rattle.sdd_invariants.specs.logs.Entries.{Does, Given, Hand, Log}
-use Rattle.sdd_invariants.specs.logs.Lawful.{IsLawful}
-use Rattle.sdd_invariants.specs.logs.Locals.{local_of, setting_of}
-use Rattle.sdd_invariants.specs.logs.Permitted.{IsDueAt, IsPermitted}
-use Rattle.sdd_invariants.specs.logs.Snapshots.{base_of}
-use Rattle.sdd_invariants.specs.logs.Resting.{AllLinked}
 use Rattle.sdd_invariants.proofs.PutBy.{was_handed}
-use Rattle.sdd_invariants.specs.PutsBy.{WasAsked}
 use Rattle.sdd_invariants.proofs.Bools.{both}
 use Rattle.sdd_invariants.proofs.Lists.{in_filtered, in_mapped, in_range}
-use Rattle.sdd_invariants.specs.Steps.{modules_asked, start_at, start_read}
 use Rattle.sdd_invariants.proofs.Fair.{t_fair, u_fair}
 use Rattle.sdd_invariants.proofs.Made.{place_of_hand}
 use Rattle.sdd_obligations.specs.Bounds.{AllFewTicks}

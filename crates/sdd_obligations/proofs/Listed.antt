@@ -2,7 +2,7 @@
 use Rattle.std.proofs.Common.{ℕ, ◌==◌, ◌≡◌, inl, inr, true, List, [], ◌∷◌, ap, refl, ◌∙◌, subst}
 use Rattle.std.specs.List.{AllByRecursion}
 use Rattle.std.proofs.lemmas.List.Elements.{All-nil, recursion_from_All}
-use Rattle.sdd_invariants.specs.base.Words.{ascending, contains}
+use Rattle.sdd_invariants.specs.All.{ascending, contains}
 use Rattle.sdd_exec.specs.Choices.{Has}
 use Rattle.sdd_invariants.proofs.lang.ReadSetDecides.{ascending_back}
 use Rattle.sdd_invariants.proofs.lang.Sets.{All-ascending}

@@ -4,26 +4,9 @@ use Rattle.std.specs.List.{cons_option, flat_map}
 use Rattle.std.specs.Prelude.{filter_map, replicate}
 use Rattle.std.proofs.Common.{ℕ, ◌*◌, ◌+◌, ◌++◌, ◌<◌, ◌^◌, ◌∙◌, ◌∷◌, ◌≡◌, ◌≤◌, Bool, List, None, Some, [], ap, arith, cond, false, length, map, refl, subst, suc, true, zero}
 use Rattle.std.proofs.Math.Nat.{mul-le-mul_right, suc-mul}
-use Rattle.sdd_invariants.specs.base.Numbers.{txn_no}
-use Rattle.sdd_invariants.specs.base.Words.{tail_of}
-use Rattle.sdd_invariants.specs.base.declared.event.Event.{Event}
-use Rattle.sdd_invariants.specs.base.declared.event.Event.TheVariants.{Deliver, Down, Lose, Redeclare, Repeat, Resend, Settle, Submit, Tick, Up}
-use Rattle.sdd_invariants.specs.base.declared.limits.TheConstants.{MAX_EVENTS, MAX_TICKS}
-use Rattle.sdd_invariants.specs.base.declared.site.Site.{Site}
-use Rattle.sdd_invariants.specs.history.declared.record.Rec.{Rec}
-use Rattle.sdd_invariants.specs.history.declared.record.Rec.TheVariants.{Start, Nothing, Submit as Submission}
-use Rattle.sdd_invariants.specs.history.Records.{History}
-use Rattle.sdd_invariants.specs.wire.declared.msg.Msg.{Msg}
-use Rattle.sdd_invariants.specs.net.Links.{Call, in_flight, link, quiet, resends_now, round}
-use Rattle.sdd_laws.specs.serial_orders.Attempts.{Attempt, attempt_of, attempts}
-use Rattle.sdd_laws.specs.serial_orders.Places.{placed}
-use Rattle.sdd_invariants.specs.site_module.SiteLog.{Act, Records, records_of_act}
-use Rattle.sdd_invariants.specs.attempt.Clocks.{clock}
-use Rattle.sdd_invariants.specs.logs.Entries.{Does, Given, Hand, Log, Mark, Notes, Redeclares, Round, Submitted, history, marks}
-use Rattle.sdd_invariants.specs.logs.Lawful.{IsLawful}
-use Rattle.sdd_invariants.specs.logs.Locals.{local_of}
-use Rattle.sdd_invariants.specs.logs.Marks.{after_mark, from_event, left, mark_from, mark_of}
-use Rattle.sdd_invariants.specs.logs.Traffic.{all_links, calls_of}
+use Rattle.sdd_invariants.specs.All.{Act, Call, Deliver, Does, Down, Event, Given, Hand, History, IsLawful, Log, Lose, MAX_EVENTS, MAX_TICKS, Mark, Msg, Notes, Nothing, Rec, Records, Redeclare, Redeclares, Repeat, Resend, Round, Settle, Site, Start, Submit, Submitted, Tick, Up, after_mark, all_links, calls_of, clock, from_event, history, in_flight, left, link, local_of, mark_from, mark_of, marks, quiet, records_of_act, resends_now, round, tail_of, txn_no}
+use Rattle.sdd_invariants.specs.history.declared.record.Rec.TheVariants.{Submit as Submission}
+use Rattle.sdd_laws.specs.All.{Attempt, attempt_of, attempts, placed}
 use Rattle.sdd_invariants.proofs.logs.Grows.{mark_is_next}
 use Rattle.sdd_obligations.specs.Bounds.{AllFewTicks, IsSmall}
 use Rattle.sdd_obligations.specs.Heights.{height, starts_by, ticks_of}

@@ -2,14 +2,8 @@
 use Rattle.std.specs.List.{cons_option}
 use Rattle.std.specs.Prelude.{filter_map, fold}
 use Rattle.std.proofs.Common.{ℕ, ◌++◌, ◌∷◌, ◌≡◌, ◌≤◌, Bool, List, None, Option, Some, [], arith, cond, false, if◌then◌else◌, map, refl, slice_get, subst, suc, true, zero}
-use Rattle.sdd_invariants.specs.base.declared.condition.Cond.{Cond}
-use Rattle.sdd_invariants.specs.base.declared.number.FragNo.{FragNo}
-use Rattle.sdd_invariants.specs.wire.declared.msg.Msg.{Msg}
-use Rattle.sdd_invariants.specs.wire.declared.msg.Msg.TheVariants.{Write}
-use Rattle.sdd_invariants.specs.pipe.Pipe.{greatest, raised, touches, write_time}
-use Rattle.sdd_invariants.specs.dm.Due.{or_zero}
+use Rattle.sdd_invariants.specs.All.{AllLe, Cond, FragNo, Msg, Write, greatest, or_zero, raised, touches, write_time}
 use Rattle.sdd_invariants.proofs.Lists.{le_up}
-use Rattle.sdd_invariants.specs.Orders.{AllLe}
 use Rattle.sdd_obligations.specs.Heights.{AllLow, IsLow, times_of, top}
 
 pub low_up : (h k : ℕ) (m : Msg) → h ≤ k → IsLow h m → IsLow k m

@@ -3,15 +3,8 @@ use Rattle.std.specs.List.{cons_option}
 use Rattle.std.specs.Prelude.{filter_map}
 use Rattle.std.proofs.Common.{ℕ, ◌++◌, ◌<◌, ◌==◌, ◌||◌, ◌∙◌, ◌∷◌, ◌≡◌, ◌⊎◌, Bool, List, None, Some, [], ap, arith, cond, false, filter, if◌then◌else◌, inl, inr, map, not, refl, subst, sym, true}
 use Rattle.std.proofs.lemmas.Bool.{eqb-true}
-use Rattle.sdd_invariants.specs.base.Numbers.{dm_no}
-use Rattle.sdd_invariants.specs.base.Words.{contains}
-use Rattle.sdd_invariants.specs.base.declared.site.Site.TheVariants.{D}
-use Rattle.sdd_invariants.specs.wire.declared.msg.Msg.{Msg}
-use Rattle.sdd_invariants.specs.attempt.Exchange.{module_read, to_all, without}
-use Rattle.sdd_invariants.specs.attempt.Fits.{uses_at}
+use Rattle.sdd_invariants.specs.All.{AllGt, D, IsStrict, Msg, contains, dm_no, module_read, to_all, to_site, uses_at, without}
 use Rattle.sdd_invariants.proofs.Bools.{differ, or_left, or_right, same_number, same_or_not}
-use Rattle.sdd_invariants.specs.Orders.{AllGt, IsStrict}
-use Rattle.sdd_invariants.specs.Traffic.{to_site}
 
 pub not_same : (a b : ℕ) → (a == b) ≡ false → (b == a) ≡ false
 not_same a b e = elim (same_or_not b a) [ inl p ↦ absurd (differ a b e (sym p)) | inr p ↦ p ]

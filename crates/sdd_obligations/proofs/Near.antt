@@ -9,27 +9,12 @@ use Rattle.std.proofs.Math.Decide.{dec_le}
 use Rattle.std.proofs.lemmas.List.{get_or_past}
 use Rattle.std.proofs.lemmas.List.Elements.{All-get_or, All-nil}
 use Rattle.sdd_invariants.proofs.catalog.Sound.{found_in_all}
-use Rattle.sdd_invariants.specs.base.Numbers.{dm_no, tm_no}
-use Rattle.sdd_invariants.specs.base.Order.{with_values}
-use Rattle.sdd_invariants.specs.base.Words.{ascending, contains, head_of, tail_of}
-use Rattle.sdd_invariants.specs.base.declared.site.Site.{Site}
-use Rattle.sdd_invariants.specs.base.declared.site.Site.TheVariants.{D, T, U}
-use Rattle.sdd_invariants.specs.catalog.Catalogue.{Catalogue, class_at, numbers_to, reads_at}
-use Rattle.sdd_invariants.specs.catalog.Numbers.{IsServed, IsServedClass, IsWhole}
-use Rattle.sdd_invariants.specs.catalog.declared.resolved.Class.{Class}
+use Rattle.sdd_invariants.specs.All.{Act, Asking, Attempt, Catalogue, Class, D, Did, Each, Exchange, Fetching, Handed, IsFair, IsServedClass, IsStep, IsWhole, Move, Msg, Over, Phase, Queued, Reading, Ready, Redeclared, Reduced, Reducing, Rows, Setting, Shipping, Site, Step, Submits, T, Ticked, U, Values, active, active_handed, active_sent, after_hand, after_send, answered, ascending, asks_rows, class_at, contains, counted, counts_for, dm_no, fetches, fetches_from, goes_on, head_of, lacking, module_read, modules_asked, modules_of, move_at, next_move, next_stamp, numbers_to, phase_ends, queue, reads_at, reduces, rejects, sends_of_act, ships, start_at, start_read, started, tail_of, tm_no, to_all, with_use, with_values, without}
+use Rattle.sdd_invariants.specs.catalog.Numbers.{IsServed}
 use Rattle.sdd_invariants.specs.catalog.declared.resolved.Read.{Read as ReadPlace}
-use Rattle.sdd_invariants.specs.semijoin.Steps.{Move, next_move}
-use Rattle.sdd_invariants.specs.semijoin.declared.step.Step.{Step}
-use Rattle.sdd_invariants.specs.wire.declared.msg.Msg.{Msg}
-use Rattle.sdd_invariants.specs.wire.declared.msg.Msg.TheVariants.{Ready, Reduced, Rows, Values}
-use Rattle.sdd_invariants.specs.site_module.SiteLog.{Act, Did, Each, Handed, Log, Redeclared, Setting, Submits, Ticked, sends_of_act}
-use Rattle.sdd_invariants.specs.attempt.Acts.{modules_of}
-use Rattle.sdd_invariants.specs.attempt.Attempts.{Attempt, active, active_handed, active_sent, asks_rows, rejects, started}
-use Rattle.sdd_invariants.specs.attempt.Exchange.{Asking, Exchange, Fetching, Over, Phase, Reading, Reducing, Shipping, after_hand, after_send, answered, counted, counts_for, fetches, fetches_from, goes_on, lacking, module_read, move_at, phase_ends, reduces, ships, to_all, with_use, without}
-use Rattle.sdd_invariants.specs.attempt.Queues.{Queued, queue}
+use Rattle.sdd_invariants.specs.site_module.SiteLog.{Log}
 use Rattle.sdd_invariants.proofs.Active.{step_way}
 use Rattle.sdd_invariants.proofs.Bools.{if_way, lower_same_higher}
-use Rattle.sdd_invariants.specs.Steps.{IsFair, IsStep, modules_asked, next_stamp, start_at, start_read}
 
 -- numbers from 1 to n
 

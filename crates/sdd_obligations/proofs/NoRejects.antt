@@ -1,39 +1,12 @@
 -- A READY or REJECT goes to the site that runs its class; no REJECT and no ASK goes to U.
 use Rattle.std.proofs.Common.{ℕ, ◌-◌, ◌==◌, ◌∙◌, ◌∷◌, ◌≡◌, ◌≤◌, Bool, List, Some, [], ap, arith, cond, false, filter, inl, inr, length, refl, slice_get, subst, suc, sym, true, zero}
 use Rattle.std.proofs.lemmas.List.Elements.{All-get_or}
-use Rattle.sdd_invariants.specs.base.Numbers.{tm_no}
-use Rattle.sdd_invariants.specs.base.Words.{head_of}
-use Rattle.sdd_invariants.specs.base.declared.condition.Cond.{Cond}
-use Rattle.sdd_invariants.specs.base.declared.number.ClassNo.{ClassNo}
-use Rattle.sdd_invariants.specs.base.declared.number.DmNo.{DmNo}
-use Rattle.sdd_invariants.specs.base.declared.number.Ts.{Ts}
-use Rattle.sdd_invariants.specs.base.declared.number.TxnNo.{TxnNo}
-use Rattle.sdd_invariants.specs.base.declared.usage.Use.{Use}
-use Rattle.sdd_invariants.specs.base.declared.site.Site.{Site}
-use Rattle.sdd_invariants.specs.base.declared.site.Site.TheVariants.{D, T, U}
-use Rattle.sdd_invariants.specs.catalog.Catalogue.{Catalogue, class_at, numbers_to}
-use Rattle.sdd_invariants.specs.catalog.Numbers.{IsServedClass, IsWhole}
-use Rattle.sdd_invariants.specs.wire.declared.msg.Msg.{Msg}
-use Rattle.sdd_invariants.specs.wire.declared.msg.Msg.TheVariants.{Read, Ready, Reject}
-use Rattle.sdd_invariants.specs.site_module.SiteLog.{Setting}
-use Rattle.sdd_invariants.specs.attempt.Fits.{is_verdict}
-use Rattle.sdd_invariants.specs.pipe.Pipe.{head}
-use Rattle.sdd_invariants.specs.dm.Due.{spoils}
-use Rattle.sdd_invariants.specs.dm.Views.{View, home_of, source_of, view_of}
-use Rattle.sdd_invariants.specs.tm.Views.{runs}
-use Rattle.sdd_invariants.specs.logs.Entries.{Does, Given, Log}
-use Rattle.sdd_invariants.specs.logs.Locals.{local_of, setting_of}
-use Rattle.sdd_invariants.specs.logs.Permitted.{IsPermitted}
+use Rattle.sdd_invariants.specs.All.{Catalogue, ClassNo, Cond, D, DmNo, Does, Given, IsClassHere, IsPermitted, IsReadyBy, IsRejectBy, IsServedClass, IsWhole, Log, Msg, Read, Ready, Reject, Setting, Site, T, Ts, TxnNo, U, Use, View, class_at, head, head_of, home, home_of, is_verdict, local_of, numbers_to, pipe_at, puts_to, runs, setting_of, source_of, spoiler, spoils, tm_no, view_of}
 use Rattle.sdd_invariants.proofs.Undeclared.{never_spoilt, read_classes}
-use Rattle.sdd_invariants.specs.PutsBy.{IsReadyBy, IsRejectBy}
 use Rattle.sdd_invariants.proofs.Answered.{put_in_by_d}
 use Rattle.sdd_invariants.proofs.Installed.{class_number}
-use Rattle.sdd_invariants.specs.Seen.{pipe_at}
 use Rattle.sdd_invariants.proofs.Bools.{not_both, not_zero, same_number, same_or_not}
 use Rattle.sdd_invariants.proofs.Lists.{in_filtered, in_range}
-use Rattle.sdd_invariants.specs.ReadSteps.{IsClassHere, spoiler}
-use Rattle.sdd_invariants.specs.Steps.{home}
-use Rattle.sdd_invariants.specs.Traffic.{puts_to}
 use Rattle.sdd_invariants.proofs.Made.{permitted_before}
 use Rattle.sdd_obligations.proofs.HoldsFit.{at_place}
 use Rattle.sdd_obligations.proofs.Piping.{source_is_home}

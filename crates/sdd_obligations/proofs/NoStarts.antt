@@ -1,16 +1,8 @@
 -- A data module starts nothing.
 use Rattle.std.proofs.Common.{ℕ, ◌≡◌, None, Option, Some, refl, subst}
-use Rattle.sdd_invariants.specs.base.Words.{head_of}
+use Rattle.sdd_invariants.specs.All.{Act, ClassView, Fetch, Home, IsDue, Msg, Null, Open, Processes, Read, Reduce, Refuses, Ship, View, Waits, Write, act_by, act_where, answer_of, answer_to, by_head, by_open, head, head_of, head_step, is_asked_of}
 use Rattle.std.specs.Prelude.{filter}
-use Rattle.sdd_invariants.specs.wire.declared.msg.Msg.{Msg}
-use Rattle.sdd_invariants.specs.wire.declared.msg.Msg.TheVariants.{Fetch, Null, Read, Reduce, Ship, Write}
-use Rattle.sdd_invariants.specs.site_module.SiteLog.{Act}
-use Rattle.sdd_invariants.specs.pipe.Pipe.{head}
-use Rattle.sdd_invariants.specs.dm.Due.{IsDue, act_by, act_where, answer_of, answer_to, by_head, by_open, head_step}
-use Rattle.sdd_invariants.specs.dm.Opens.{Open, is_asked_of}
-use Rattle.sdd_invariants.specs.dm.Views.{ClassView, Home, View}
 use Rattle.sdd_invariants.specs.dm.declared.step.Step.{Step}
-use Rattle.sdd_invariants.specs.dm.declared.step.Step.TheVariants.{Processes, Refuses, Waits}
 use Rattle.sdd_obligations.specs.Heights.{starts_by}
 
 no_start : (x a : Act) → starts_by x ≡ 0 → Some x ≡ Some a → starts_by a ≡ 0

@@ -4,29 +4,11 @@ use Rattle.std.specs.List.{cons_option, flat_map, range_with_len}
 use Rattle.std.specs.Prelude.{IsTrue, filter_map, nat_le, replicate}
 use Rattle.std.proofs.Common.{ℕ, ◌&&◌, ◌++◌, ◌+◌, ◌-◌, ◌∷◌, ◌≡◌, ◌≤◌, Bool, List, None, Option, Some, [], arith, cond, false, if◌then◌else◌, inl, inr, map, refl, slice_get, subst, suc, sym, true, zero}
 use Rattle.std.proofs.lemmas.Bool.Decides.{nat_tests}
-use Rattle.sdd_invariants.specs.base.Numbers.{dm_no, tm_no}
-use Rattle.sdd_invariants.specs.base.Sites.{links, sites}
-use Rattle.sdd_invariants.specs.base.Words.{tail_of}
-use Rattle.sdd_invariants.specs.base.declared.event.Event.{Event}
-use Rattle.sdd_invariants.specs.base.declared.event.Event.TheVariants.{Deliver, Down, Lose, Redeclare, Repeat, Resend, Settle, Submit, Tick, Up}
-use Rattle.sdd_invariants.specs.base.declared.limits.TheConstants.{MAX_TICKS}
-use Rattle.sdd_invariants.specs.base.declared.number.DmNo.{DmNo}
-use Rattle.sdd_invariants.specs.base.declared.number.TmNo.{TmNo}
-use Rattle.sdd_invariants.specs.base.declared.site.Site.{Site}
-use Rattle.sdd_invariants.specs.base.declared.site.Site.TheVariants.{D, T, U}
-use Rattle.sdd_invariants.specs.wire.declared.msg.Msg.{Msg}
-use Rattle.sdd_invariants.specs.site_module.SiteLog.{Act}
+use Rattle.sdd_invariants.specs.All.{Act, Call, D, Deliver, DmNo, Does, Down, Entry, Event, Given, Hand, IsLawful, Log, Lose, MAX_TICKS, Mark, Msg, Notes, Redeclare, Redeclares, Repeat, Resend, Round, Settle, Site, Submit, Submitted, T, Tick, TmNo, U, Up, after_mark, all_links, calls_of, delivered, dm_no, does_at, due_by, from_event, greatest_bound, hand_due, hand_number, hand_on, hand_with, handed, in_flight, is_link, is_site, left, link, link_of, links, mark_due, mark_from, mark_of, message_at, next, next_at, next_number, note_if, quiet, resends_now, round, site_due, sites, tail_of, takes_part, tm_no}
 use Rattle.sdd_invariants.proofs.site_module.Finding.{found_at, one_of}
-use Rattle.sdd_invariants.specs.net.Links.{Call, delivered, in_flight, link, quiet, resends_now, round}
-use Rattle.sdd_invariants.specs.net.Nets.{is_link, is_site}
 use Rattle.sdd_invariants.proofs.net.Directions.{link_parts}
 use Rattle.sdd_invariants.proofs.net.Lists.{All-at}
 use Rattle.sdd_invariants.proofs.net.Rounds.{links_exist}
-use Rattle.sdd_invariants.specs.logs.Due.{does_at, due_by, hand_due, hand_number, hand_on, hand_with, mark_due, next, next_at, next_number, note_if, site_due}
-use Rattle.sdd_invariants.specs.logs.Entries.{Does, Entry, Given, Hand, Log, Mark, Notes, Redeclares, Round, Submitted}
-use Rattle.sdd_invariants.specs.logs.Lawful.{IsLawful}
-use Rattle.sdd_invariants.specs.logs.Marks.{after_mark, from_event, greatest_bound, left, mark_from, mark_of}
-use Rattle.sdd_invariants.specs.logs.Traffic.{all_links, calls_of, handed, link_of, message_at, takes_part}
 use Rattle.sdd_invariants.proofs.Holding.{at_map}
 use Rattle.sdd_invariants.proofs.Bools.{and_left, and_right}
 use Rattle.sdd_invariants.proofs.Lists.{in_either, in_left, in_mapped, in_range, in_right}

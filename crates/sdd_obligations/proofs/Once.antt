@@ -1,6 +1,6 @@
 -- Along a run each module keeps the rows of a use once.
 use Rattle.std.proofs.Common.{ℕ, Bool, inl, inr, List, subst, sym}
-use Rattle.sdd_invariants.specs.lang.declared.statement.Stmt.{Stmt}
+use Rattle.sdd_invariants.specs.All.{Stmt}
 use Rattle.sdd_serving.specs.Reducing.{Space}
 use Rattle.sdd_serving.specs.Runs.{Stage, Runs}
 use Rattle.sdd_serving.specs.Runs.Runs.{begins, asks, tells, sends, reduces, rests}

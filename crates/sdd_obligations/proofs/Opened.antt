@@ -1,13 +1,9 @@
 -- The messages that a data module has still to answer came by different hands; and lists of them.
 use Rattle.std.proofs.Common.{ℕ, ◌++◌, ◌<◌, ◌∙◌, ◌∷◌, ◌≡◌, Bool, List, Option, Some, [], ap, arith, cond, false, filter, if◌then◌else◌, is_some, map, refl, slice_get, subst, suc, sym, true, zero}
-use Rattle.sdd_invariants.specs.base.declared.site.Site.{Site}
-use Rattle.sdd_invariants.specs.history.declared.record.Rec.TheVariants.{Arrive}
-use Rattle.sdd_invariants.specs.wire.declared.msg.Msg.{Msg}
-use Rattle.sdd_invariants.specs.site_module.SiteLog.{Act, Did, Handed, Log, Records, Redeclared, Sends, Submits, Ticked, hands}
-use Rattle.sdd_invariants.specs.dm.Opens.{Open, class_asked, opens, opens_acted}
+use Rattle.sdd_invariants.specs.All.{Act, AllGt, AllLe, Arrive, Did, Handed, IsStrict, Msg, Open, Records, Redeclared, Sends, Site, Submits, Ticked, class_asked, hands, opens, opens_acted}
+use Rattle.sdd_invariants.specs.site_module.SiteLog.{Log}
 use Rattle.sdd_invariants.proofs.Bools.{not_both}
 use Rattle.sdd_invariants.proofs.Lists.{le_join, le_up, lt_above, strict_push}
-use Rattle.sdd_invariants.specs.Orders.{AllGt, AllLe, IsStrict}
 
 abbrev pub hands_in : List Open → List ℕ
 hands_in os = map (λ (o : Open). o.hand) os

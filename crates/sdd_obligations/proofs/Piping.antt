@@ -1,29 +1,11 @@
 -- A READ, WRITE or NULL that is next to be handed over comes from the site that runs its class, in turn.
 use Rattle.std.specs.Prelude.{fold, max, slice_index_or}
 use Rattle.std.proofs.Common.{ℕ, ◌++◌, ◌-◌, ◌<◌, ◌==◌, ◌^◌, ◌∙◌, ◌∷◌, ◌≡◌, ◌≤◌, List, Some, [], ap, append_assoc, arith, false, length, map, refl, subst, suc, sym, true, zero}
-use Rattle.sdd_invariants.specs.base.Numbers.{tm_no}
-use Rattle.sdd_invariants.specs.base.Sites.{number_of}
-use Rattle.sdd_invariants.specs.base.declared.number.DmNo.{DmNo}
-use Rattle.sdd_invariants.specs.base.declared.site.Site.{Site}
-use Rattle.sdd_invariants.specs.base.declared.site.Site.TheVariants.{D, T, U}
-use Rattle.sdd_invariants.specs.catalog.declared.resolved.Class.{Class}
-use Rattle.sdd_invariants.specs.wire.Piped.{class_is, goes_through, piped, time_in, time_of}
-use Rattle.sdd_invariants.specs.wire.declared.msg.Msg.{Msg}
-use Rattle.sdd_invariants.specs.site_module.SiteLog.{Handed, Setting}
-use Rattle.sdd_invariants.specs.dm.Fits.{FitsClass, FitsPipe, last_time}
-use Rattle.sdd_invariants.specs.dm.Pipes.{pipe}
-use Rattle.sdd_invariants.specs.dm.Views.{home_of, source_of}
-use Rattle.sdd_invariants.specs.logs.Entries.{Given, Hand, Log}
-use Rattle.sdd_invariants.specs.logs.Locals.{local_of, setting_of}
-use Rattle.sdd_invariants.specs.logs.Permitted.{IsPermitted}
-use Rattle.sdd_invariants.specs.logs.Traffic.{handed}
+use Rattle.sdd_invariants.specs.All.{AllGe, AllLe, Class, D, DmNo, FitsClass, FitsPipe, Given, Hand, Handed, IsPermitted, IsRising, Log, Msg, Setting, Site, T, U, all_of, class_is, class_puts, goes_through, handed, home, home_of, last_time, local_of, number_of, pipe, pipe_at, piped, setting_of, source_of, time_in, time_of, tm_no}
 use Rattle.sdd_invariants.proofs.ClassOrder.{class_rises}
 use Rattle.sdd_invariants.proofs.InPipe.{in_pipe, put_at_home}
-use Rattle.sdd_invariants.specs.Seen.{all_of, class_puts, pipe_at}
 use Rattle.sdd_invariants.proofs.Bools.{not_zero, same_number}
 use Rattle.sdd_invariants.proofs.Sites.{site_self}
-use Rattle.sdd_invariants.specs.Orders.{AllGe, AllLe, IsRising}
-use Rattle.sdd_invariants.specs.Steps.{home}
 use Rattle.sdd_obligations.proofs.Counting.{class_here}
 use Rattle.sdd_obligations.proofs.Handing.{IsHanded}
 

@@ -2,34 +2,13 @@
 use Rattle.std.proofs.Common.{ℕ, ◌<◌, ◌≤◌, ◌≡◌, inl, inr, Bool, true, false, List, [], ◌∷◌, ◌++◌, length, append_assoc, arith, refl, ap, sym, ◌∙◌, subst, suc}
 use Rattle.std.specs.Prelude.{Option, Some}
 use Rattle.std.proofs.lemmas.Bool.{eqb-true}
-use Rattle.sdd_invariants.specs.base.declared.condition.Cond.{Cond}
-use Rattle.sdd_invariants.specs.base.declared.number.ClassNo.{ClassNo}
-use Rattle.sdd_invariants.specs.base.declared.number.DmNo.{DmNo}
-use Rattle.sdd_invariants.specs.base.declared.number.Ts.{Ts}
-use Rattle.sdd_invariants.specs.base.declared.number.TxnNo.{TxnNo}
-use Rattle.sdd_invariants.specs.base.declared.site.Site.{Site}
-use Rattle.sdd_invariants.specs.base.declared.site.Site.TheVariants.{D}
-use Rattle.sdd_invariants.specs.base.declared.usage.Use.{Use}
-use Rattle.sdd_invariants.specs.catalog.Rules.{IsSound}
-use Rattle.sdd_invariants.specs.history.declared.record.Rec.TheVariants.{Answer}
-use Rattle.sdd_invariants.specs.wire.declared.msg.Msg.{Msg}
-use Rattle.sdd_invariants.specs.wire.declared.msg.Msg.TheVariants.{Read}
-use Rattle.sdd_invariants.specs.site_module.SiteLog.{Act, Did, Each, Records, Sends, Setting}
+use Rattle.sdd_invariants.specs.All.{Act, Answer, ClassNo, Cond, D, Did, DmNo, Does, Each, Given, IsClassHere, IsDueEach, IsPermitted, IsReadOf, IsReadStep, IsSound, Log, Msg, Read, Records, Sends, Setting, Site, Ts, TxnNo, Use, by_record, by_wait, head, in_passing, is_at, is_moving, is_processing, local_of, pipe, pipe_at, setting_of}
 use Rattle.sdd_invariants.specs.site_module.SiteLog as site
-use Rattle.sdd_invariants.specs.pipe.Pipe.{head}
-use Rattle.sdd_invariants.specs.dm.Pipes.{is_processing, pipe}
-use Rattle.sdd_invariants.specs.logs.Entries.{Does, Given, Log}
-use Rattle.sdd_invariants.specs.logs.Locals.{local_of, setting_of}
-use Rattle.sdd_invariants.specs.logs.Permitted.{IsPermitted}
-use Rattle.sdd_invariants.specs.logs.Snapshots.{is_at}
 use Rattle.sdd_invariants.proofs.Places.{compare}
 use Rattle.sdd_invariants.proofs.Answered.{read_of}
 use Rattle.sdd_invariants.proofs.Once.{answered_there}
-use Rattle.sdd_invariants.specs.Causes.{IsReadOf}
-use Rattle.sdd_invariants.specs.Seen.{pipe_at}
 use Rattle.sdd_invariants.proofs.Active.{each_at}
 use Rattle.sdd_invariants.proofs.AreReadSteps.{d_step}
-use Rattle.sdd_invariants.specs.ReadSteps.{IsClassHere, IsDueEach, IsReadStep, by_record, by_wait, in_passing, is_moving}
 use Rattle.sdd_invariants.proofs.Fair.{d_fair}
 use Rattle.sdd_invariants.proofs.Made.{permitted_before, place_of_act}
 use Rattle.sdd_obligations.proofs.Starts.{one_start, read_later, small_home, start_here}

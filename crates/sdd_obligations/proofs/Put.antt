@@ -2,40 +2,16 @@
 -- follows from the other one, a step of the log earlier.
 use Rattle.std.proofs.Common.{ℕ, ◌-◌, ◌≡◌, List, [], ◌∷◌, ◌++◌, Option, Some, None, refl, ap, sym, ◌∙◌, slice_get, subst}
 use Rattle.std.specs.List.{flat_map}
-use Rattle.sdd_invariants.specs.base.declared.change.Change.{Change}
-use Rattle.sdd_invariants.specs.base.declared.number.DmNo.{DmNo}
-use Rattle.sdd_invariants.specs.base.declared.site.Site.{Site}
-use Rattle.sdd_invariants.specs.base.declared.site.Site.TheVariants.{D, T, U}
-use Rattle.sdd_invariants.specs.base.Numbers.{dm_no}
-use Rattle.sdd_invariants.specs.catalog.Catalogue.{numbers_to}
-use Rattle.sdd_invariants.specs.catalog.Rules.{IsSound}
-use Rattle.sdd_invariants.specs.lang.Effect.{effect}
-use Rattle.sdd_invariants.specs.lang.Sound.{IsDatabase, IsEntry}
-use Rattle.sdd_invariants.specs.wire.declared.msg.Msg.{Msg}
-use Rattle.sdd_invariants.specs.wire.declared.msg.Msg.TheVariants.{Write}
-use Rattle.sdd_invariants.specs.site_module.SiteLog.{Act, Bases, Did, Each, Handed, Redeclared, Setting, Submits, Ticked, sends_of_act}
+use Rattle.sdd_invariants.specs.All.{Act, Attempt, Bases, Change, D, Did, DmNo, Does, Each, Entry, Given, Hand, Handed, IsAllowed, IsBased, IsDatabase, IsEntry, IsFair, IsNew, IsPermitted, IsPutBy, IsPutByD, IsSound, IsStep, IsWrite, Log, Msg, Redeclared, Setting, Site, Submits, T, Ticked, U, Write, base_of, changes_at, commit_act, dm_no, effect, local_of, made, message_at, numbers_to, sends_of_act, setting_of, snapshots_at, to_site, with_made}
 use Rattle.sdd_invariants.specs.site_module.SiteLog as site
-use Rattle.sdd_invariants.specs.attempt.Acts.{commit_act}
-use Rattle.sdd_invariants.specs.attempt.Attempts.{Attempt}
-use Rattle.sdd_invariants.specs.logs.Entries.{Does, Entry, Given, Hand, Log}
-use Rattle.sdd_invariants.specs.logs.Locals.{local_of, setting_of}
-use Rattle.sdd_invariants.specs.logs.Permitted.{IsAllowed, IsPermitted}
-use Rattle.sdd_invariants.specs.logs.Snapshots.{base_of, snapshots_at}
-use Rattle.sdd_invariants.specs.logs.Traffic.{message_at}
 use Rattle.sdd_invariants.proofs.logs.EachLocal.{allowed_act}
-use Rattle.sdd_invariants.specs.Steps.{IsFair, IsNew, IsStep, changes_at}
-use Rattle.sdd_invariants.specs.Traffic.{to_site}
-use Rattle.sdd_invariants.specs.Puts.{IsPutBy, IsWrite}
 use Rattle.sdd_invariants.proofs.Origins.{was_put}
 use Rattle.sdd_invariants.proofs.ReadsPut.{put_by}
-use Rattle.sdd_invariants.specs.PutsBy.{IsPutByD}
 use Rattle.sdd_invariants.proofs.PutBy.{put_by_d}
-use Rattle.sdd_invariants.specs.Made.{made, with_made}
 use Rattle.sdd_invariants.proofs.Fair.{all_new, t_fair, u_fair}
 use Rattle.sdd_invariants.proofs.InOrder.{allowed_hand}
 use Rattle.sdd_invariants.proofs.Made.{local_step, maker, own_act, place_of_act}
 use Rattle.sdd_invariants.proofs.Sent.{sent_is}
-use Rattle.sdd_invariants.specs.Causes.{IsBased}
 use Rattle.sdd_invariants.proofs.Installed.{commit_put_is}
 use Rattle.sdd_invariants.proofs.Starting.{t_commit, u_commit}
 use Rattle.sdd_obligations.specs.Fitting.{AreWritten, FitsGiven, FitsText}

@@ -1,14 +1,7 @@
 -- The questions that an exchange puts are those of its phase.
 use Rattle.std.proofs.Common.{ℕ, ◌&&◌, ◌+◌, ◌++◌, ◌==◌, ◌∙◌, ◌∷◌, ◌≡◌, Bool, List, None, Some, [], ap, false, if◌then◌else◌, length, map, refl, subst, sym, true}
 use Rattle.std.specs.List.{AllByRecursion}
-use Rattle.sdd_invariants.specs.base.Order.{with_values}
-use Rattle.sdd_invariants.specs.base.Words.{contains}
-use Rattle.sdd_invariants.specs.base.declared.value.Value.{Value}
-use Rattle.sdd_invariants.specs.wire.declared.msg.Msg.{Msg}
-use Rattle.sdd_invariants.specs.wire.declared.msg.Msg.TheVariants.{Fetch, Read, Ready, Reduce, Reduced, Reject, Rows, Ship, Values}
-use Rattle.sdd_invariants.specs.semijoin.Steps.{Move, next_move}
-use Rattle.sdd_invariants.specs.semijoin.declared.step.Step.{Step}
-use Rattle.sdd_invariants.specs.attempt.Exchange.{Asking, Exchange, Fetching, Over, Phase, Reading, Reducing, Shipping, after_hand, answered, counted, counts_for, fetches, fetches_from, goes_on, lacking, move_at, phase_ends, reduces, to_all, with_use, without}
+use Rattle.sdd_invariants.specs.All.{Asking, Exchange, Fetch, Fetching, Move, Msg, Over, Phase, Read, Reading, Ready, Reduce, Reduced, Reducing, Reject, Rows, Ship, Shipping, Step, Value, Values, after_hand, answered, contains, counted, counts_for, fetches, fetches_from, goes_on, lacking, move_at, next_move, phase_ends, reduces, to_all, with_use, with_values, without}
 use Rattle.sdd_obligations.proofs.AtTurn.{StandsAt, awaits}
 use Rattle.sdd_obligations.proofs.Hearing.{answers_asked, is_awaited}
 use Rattle.sdd_obligations.proofs.Modules.{without_other}

@@ -3,15 +3,8 @@
 use Rattle.std.proofs.Common.{ℕ, ◌&&◌, ◌++◌, ◌==◌, ◌||◌, ◌∙◌, ◌∷◌, ◌≡◌, Bool, List, Some, [], ap, cond, false, filter, if◌then◌else◌, inl, inr, map, refl, slice_get, subst, sym, true}
 use Rattle.std.specs.List.{list_any}
 use Rattle.std.proofs.lemmas.List.Elements.{filter-append}
-use Rattle.sdd_invariants.specs.base.Numbers.{dm_no}
-use Rattle.sdd_invariants.specs.base.Sites.{same_site}
-use Rattle.sdd_invariants.specs.base.Words.{head_of}
-use Rattle.sdd_invariants.specs.base.declared.site.Site.{Site}
-use Rattle.sdd_invariants.specs.base.declared.site.Site.TheVariants.{D, T, U}
-use Rattle.sdd_invariants.specs.wire.declared.msg.Msg.{Msg}
-use Rattle.sdd_invariants.specs.wire.declared.msg.Msg.TheVariants.{Read, Ready, Reject}
-use Rattle.sdd_invariants.specs.site_module.SiteLog.{Act, Did, Each, Handed, Log, Redeclared, Setting, Submits, Ticked, sends_of_act}
-use Rattle.sdd_invariants.specs.attempt.Fits.{at_site, is_read, is_verdict, numbers_of}
+use Rattle.sdd_invariants.specs.All.{Act, D, Did, Each, Handed, IsFair, Msg, Read, Ready, Redeclared, Reject, Setting, Site, Submits, T, Ticked, U, at_site, dm_no, head_of, is_read, is_verdict, numbers_of, same_site, sends_of_act, to_site}
+use Rattle.sdd_invariants.specs.site_module.SiteLog.{Log}
 use Rattle.sdd_invariants.specs.attempt.Fits as fits
 use Rattle.sdd_obligations.proofs.Asking.{IsInTurn, asks_in_turn, in_turn}
 use Rattle.sdd_obligations.proofs.Hearing.{IsTimely, told_one}
@@ -23,8 +16,6 @@ use Rattle.sdd_obligations.specs.Turns.{Asks, IsOfUses, MayAnswer, MayAsk, Refus
 use Rattle.sdd_invariants.proofs.Bools.{and_left, and_right, both, if_way, not_both, same_or_not}
 use Rattle.sdd_invariants.proofs.Lists.{in_filtered}
 use Rattle.sdd_invariants.proofs.Sites.{site_is}
-use Rattle.sdd_invariants.specs.Steps.{IsFair}
-use Rattle.sdd_invariants.specs.Traffic.{to_site}
 
 -- of the READs of the attempt that were sent to module d, newest first, and whether one was answered
 abbrev pub IsLastRead : ℕ → Turn → List (Site × Msg) → Bool → Type 0

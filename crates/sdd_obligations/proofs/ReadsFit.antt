@@ -6,37 +6,12 @@ use Rattle.std.specs.Prelude.{filter_map}
 use Rattle.std.proofs.Common.{ℕ, ◌&&◌, ◌+◌, ◌++◌, ◌<◌, ◌==◌, ◌∙◌, ◌∷◌, ◌≡◌, ◌≤◌, Bool, List, None, Option, Some, [], ap, arith, cond, false, filter, inl, inr, length, map, refl, slice_get, subst, suc, sym, true, zero}
 use Rattle.std.proofs.lemmas.Bool.{eqb-true}
 use Rattle.std.proofs.lemmas.List.Elements.{All-from_recursion}
-use Rattle.sdd_invariants.specs.base.Numbers.{dm_no, frag_no}
-use Rattle.sdd_invariants.specs.base.Words.{ascending}
-use Rattle.sdd_invariants.specs.base.declared.condition.Cond.{Cond}
-use Rattle.sdd_invariants.specs.base.declared.number.DmNo.{DmNo}
-use Rattle.sdd_invariants.specs.base.declared.number.FragNo.{FragNo}
-use Rattle.sdd_invariants.specs.base.declared.number.RelNo.{RelNo}
-use Rattle.sdd_invariants.specs.base.declared.site.Site.{Site}
-use Rattle.sdd_invariants.specs.base.declared.site.Site.TheVariants.{D}
-use Rattle.sdd_invariants.specs.base.declared.usage.Use.{Use}
-use Rattle.sdd_invariants.specs.catalog.Catalogue.{Catalogue, has_copy, reads_at}
+use Rattle.sdd_invariants.specs.All.{Act, AllGt, AllLe, Catalogue, Cond, Condition, D, Delete, Did, DmNo, Each, FragNo, Given, Hand, IsFair, IsHere, IsPermitted, IsSend, IsStep, IsStrict, Msg, Put, Query, Queued, Read, RelNo, Setting, Site, Stmt, Update, Use, a_held, a_hold, a_null, a_release, ascending, bound, cond_of, condition_on, conditions, conditions_at, dm_no, frag_no, fragments_in, fragments_of, handed, has_copy, home, in_force, is_asked, is_read_at, local_of, modules_asked, next_stamp, of_exchange, part_uses, puts_to, reads_at, sends_of_act, setting_of, start_read, statement_uses, to_site, undeclared_conditions, use_there, uses_from, uses_of, with_frags}
 use Rattle.sdd_invariants.specs.catalog.Rules as catalogues
 use Rattle.sdd_invariants.proofs.catalog.Sound.{served_read}
-use Rattle.sdd_invariants.specs.graph.Graph.{fragments_of}
-use Rattle.sdd_invariants.specs.lang.Classes.{fragments_in}
-use Rattle.sdd_invariants.specs.lang.Uses.{part_uses, statement_uses, uses_from, uses_of}
-use Rattle.sdd_invariants.specs.lang.declared.condition.Condition.{Condition}
-use Rattle.sdd_invariants.specs.lang.declared.statement.Stmt.{Stmt}
-use Rattle.sdd_invariants.specs.lang.declared.statement.Stmt.TheVariants.{Delete, Put, Query, Update}
-use Rattle.sdd_invariants.specs.protocol.Conditions.{cond_of, condition_on, conditions, is_asked, is_read_at, undeclared_conditions}
 use Rattle.sdd_invariants.specs.protocol.declared.entry.Entry as line
-use Rattle.sdd_invariants.specs.wire.declared.msg.Msg.{Msg}
-use Rattle.sdd_invariants.specs.wire.declared.msg.Msg.TheVariants.{Read}
-use Rattle.sdd_invariants.specs.site_module.SiteLog.{Act, Did, Each, Log, Setting, in_force, sends_of_act}
-use Rattle.sdd_invariants.specs.attempt.Acts.{conditions_at, use_there, with_frags}
-use Rattle.sdd_invariants.specs.attempt.Queues.{Queued}
-use Rattle.sdd_invariants.specs.dm.Fits.{IsHere}
-use Rattle.sdd_invariants.specs.logs.Entries.{Given, Hand}
+use Rattle.sdd_invariants.specs.site_module.SiteLog.{Log}
 use Rattle.sdd_invariants.specs.logs.Entries as all
-use Rattle.sdd_invariants.specs.logs.Locals.{local_of, setting_of}
-use Rattle.sdd_invariants.specs.logs.Permitted.{IsPermitted}
-use Rattle.sdd_invariants.specs.logs.Traffic.{handed}
 use Rattle.sdd_obligations.proofs.Ascending.{condition_class, conditions_strict, strict_ascends}
 use Rattle.sdd_obligations.proofs.Asking.{asks_no_read, strict_asked}
 use Rattle.sdd_obligations.proofs.FirstSends.{IsFirstEach, IsFirstSend}
@@ -50,9 +25,6 @@ use Rattle.sdd_invariants.proofs.Active.{each_at, step_way}
 use Rattle.sdd_invariants.proofs.Bools.{both, if_way, not_both, same_number}
 use Rattle.sdd_invariants.proofs.Lists.{gt_down, in_if, in_none, in_one}
 use Rattle.sdd_invariants.proofs.Sites.{the_one}
-use Rattle.sdd_invariants.specs.Orders.{AllGt, AllLe, IsStrict}
-use Rattle.sdd_invariants.specs.Steps.{IsFair, IsSend, IsStep, a_held, a_hold, a_null, a_release, bound, home, modules_asked, next_stamp, of_exchange, start_read}
-use Rattle.sdd_invariants.specs.Traffic.{puts_to, to_site}
 use Rattle.sdd_invariants.proofs.Fair.{home_fair}
 use Rattle.sdd_invariants.proofs.InOrder.{hand_was_put}
 

@@ -1,23 +1,9 @@
 -- What a data module has still to answer is what the turns say: a hand, and the answer to a FETCH, REDUCE or SHIP.
 use Rattle.std.proofs.Common.{ℕ, ◌&&◌, ◌++◌, ◌==◌, ◌∙◌, ◌∷◌, ◌≡◌, Bool, List, None, Option, Some, [], ap, append-nil, cond, false, filter, if◌then◌else◌, inl, inr, is_some, length, map, not, refl, slice_get, subst, suc, sym, true, zero}
 use Rattle.std.proofs.lemmas.List.Elements.{filter-append}
-use Rattle.sdd_invariants.specs.base.Sites.{same_site}
-use Rattle.sdd_invariants.specs.base.Words.{head_of}
-use Rattle.sdd_invariants.specs.base.declared.number.DmNo.{DmNo}
-use Rattle.sdd_invariants.specs.base.declared.number.TxnNo.{TxnNo}
-use Rattle.sdd_invariants.specs.base.declared.site.Site.{Site}
-use Rattle.sdd_invariants.specs.history.declared.record.Rec.TheVariants.{Arrive}
-use Rattle.sdd_invariants.specs.wire.Piped.{goes_through}
-use Rattle.sdd_invariants.specs.wire.declared.msg.Msg.{Msg}
-use Rattle.sdd_invariants.specs.wire.declared.msg.Msg.TheVariants.{Fetch, Read, Reduce, Reduced, Rows, Ship, Values}
-use Rattle.sdd_invariants.specs.site_module.SiteLog.{Act, Did, Entry, Handed, Log, Records, Redeclared, Sends, Submits, Ticked, hands}
-use Rattle.sdd_invariants.specs.attempt.Attempts.{asks_rows}
-use Rattle.sdd_invariants.specs.attempt.Fits.{is_read}
-use Rattle.sdd_invariants.specs.pipe.Pipe.{Pipe, head, head_processed, one_or_none, put}
-use Rattle.sdd_laws.specs.copy.Frozen.{Frozen, values_in}
-use Rattle.sdd_invariants.specs.dm.Copies.{all_held, rows_held}
-use Rattle.sdd_invariants.specs.dm.Opens.{Open, class_asked, is_asked_of, is_read_of, opens, opens_handed}
-use Rattle.sdd_invariants.specs.dm.Pipes.{is_processing, pipe, pipe_acted}
+use Rattle.sdd_invariants.specs.All.{Act, Arrive, Did, DmNo, Fetch, Handed, Msg, Open, Pipe, Read, Records, Redeclared, Reduce, Reduced, Rows, Sends, Ship, Site, Submits, Ticked, TxnNo, Values, all_held, asks_rows, class_asked, goes_through, hands, head, head_of, head_processed, is_asked_of, is_processing, is_read, is_read_of, one_or_none, opens, opens_handed, pipe, pipe_acted, put, rows_held, same_site}
+use Rattle.sdd_invariants.specs.site_module.SiteLog.{Entry, Log}
+use Rattle.sdd_laws.specs.All.{Frozen, values_in}
 use Rattle.sdd_obligations.proofs.Hearing.{asked_one, told_is, told_one}
 use Rattle.sdd_obligations.proofs.DataSteps.{reply}
 use Rattle.sdd_obligations.proofs.Opened.{are_apart, one_hand, sift_has, sift_swap, sift_within}

@@ -1,37 +1,17 @@
 -- Each message on a link goes from and to the kinds of sites of its kind.
 use Rattle.std.proofs.Common.{ℕ, ◌++◌, ◌∙◌, ◌∷◌, ◌≡◌, List, None, Option, Some, [], ap, append_assoc, false, inl, inr, map, refl, slice_get, subst, suc, sym, true, zero}
 use Rattle.std.specs.Prelude.{slice_index_or}
-use Rattle.sdd_invariants.specs.base.Numbers.{dm_no}
-use Rattle.sdd_invariants.specs.base.declared.number.DmNo.{DmNo}
-use Rattle.sdd_invariants.specs.base.declared.number.TmNo.{TmNo}
-use Rattle.sdd_invariants.specs.base.declared.site.Site.{Site}
-use Rattle.sdd_invariants.specs.base.declared.site.Site.TheVariants.{D, T, U}
-use Rattle.sdd_invariants.specs.catalog.declared.resolved.Class.{Class}
-use Rattle.sdd_invariants.specs.wire.declared.msg.Msg.{Msg}
-use Rattle.sdd_invariants.specs.wire.declared.msg.Msg.TheVariants.{Ask, Done, Fetch, Held, Hold, Null, Read, Ready, Reduce, Reduced, Reject, Release, Rows, Ship, Values, Write}
-use Rattle.sdd_invariants.specs.site_module.SiteLog.{Act, Did, Each, Handed, Sends, Setting, sends_of_act}
-use Rattle.sdd_invariants.specs.attempt.Attempts.{asks_rows}
-use Rattle.sdd_invariants.specs.dm.Views.{home_of, source_of}
-use Rattle.sdd_invariants.specs.logs.Entries.{Does, Given, Hand, Log}
-use Rattle.sdd_invariants.specs.logs.Locals.{local_of, setting_of}
-use Rattle.sdd_invariants.specs.logs.Permitted.{IsPermitted}
-use Rattle.sdd_invariants.specs.logs.Traffic.{handed}
+use Rattle.sdd_invariants.specs.All.{Act, Ask, Class, D, Did, DmNo, Does, Done, Each, Fetch, Given, Hand, Handed, Held, Hold, IsFairT, IsFairU, IsFetch, IsPermitted, IsPutByD, IsReduce, IsShip, IsStepU, Log, Msg, NoneHold, Null, Read, Ready, Reduce, Reduced, Reject, Release, Rows, Sends, Setting, Ship, Site, T, TmNo, U, Values, WasAsked, Write, asks_rows, dm_no, handed, home_of, is_a_held, is_a_hold, is_a_release, local_of, puts_to, sends_of_act, setting_of, source_of, start_read, to_site}
 use Rattle.sdd_invariants.proofs.HoldChain.{t_table, u_table}
 use Rattle.sdd_invariants.proofs.Holding.{t_none}
 use Rattle.sdd_invariants.proofs.Serving.{u_due, u_way}
-use Rattle.sdd_invariants.specs.AtT.{IsFairT}
-use Rattle.sdd_invariants.specs.AtU.{IsFairU, IsStepU}
-use Rattle.sdd_invariants.specs.Turns.{NoneHold, is_a_held, is_a_hold, is_a_release}
 use Rattle.sdd_invariants.proofs.Origins.{was_put}
 use Rattle.sdd_invariants.proofs.ReadsPut.{start_puts}
 use Rattle.sdd_invariants.proofs.WritesPut.{commit_puts}
-use Rattle.sdd_invariants.specs.PutsBy.{IsFetch, IsPutByD, IsReduce, IsShip, WasAsked}
 use Rattle.sdd_invariants.proofs.Answered.{from_a_d, put_in_by_d}
 use Rattle.sdd_invariants.proofs.Active.{each_at}
 use Rattle.sdd_invariants.proofs.Lists.{in_none, in_one}
 use Rattle.sdd_invariants.proofs.Sites.{the_one}
-use Rattle.sdd_invariants.specs.Steps.{start_read}
-use Rattle.sdd_invariants.specs.Traffic.{puts_to, to_site}
 use Rattle.sdd_invariants.proofs.InOrder.{hand_was_put}
 use Rattle.sdd_invariants.proofs.Made.{permitted_before, place_of_hand}
 use Rattle.sdd_obligations.specs.Routes.{GoesTo, IsAnAsk, IsD, IsRouted, IsRunner}

@@ -1,47 +1,19 @@
 -- What a site that runs transactions sends lies below its clock's height.
 use Rattle.std.proofs.Common.{ℕ, ◌+◌, ◌==◌, ◌∷◌, ◌≡◌, ◌≤◌, Bool, List, None, Option, Some, [], arith, inl, inr, map, refl, subst, suc, sym, true}
 use Rattle.std.specs.Option.{option_or}
-use Rattle.sdd_invariants.specs.base.Numbers.{dm_no, frag_no, tm_no}
-use Rattle.sdd_invariants.specs.base.Sites.{number_of, same_site}
-use Rattle.sdd_invariants.specs.base.Words.{ascending}
-use Rattle.sdd_invariants.specs.base.declared.condition.Cond.{Cond}
-use Rattle.sdd_invariants.specs.base.declared.number.FragNo.{FragNo}
-use Rattle.sdd_invariants.specs.base.declared.number.TmNo.{TmNo}
-use Rattle.sdd_invariants.specs.base.declared.number.Ts.{Ts}
-use Rattle.sdd_invariants.specs.base.declared.site.Site.{Site}
-use Rattle.sdd_invariants.specs.base.declared.site.Site.TheVariants.{D, T}
-use Rattle.sdd_invariants.specs.catalog.Catalogue.{Catalogue}
-use Rattle.sdd_invariants.specs.graph.Graph.{classes_of, fragments_of}
-use Rattle.sdd_invariants.specs.protocol.Conditions.{asked_by, cond_for, cond_of, condition_on, is_asked}
+use Rattle.sdd_invariants.specs.All.{Act, AllLe, Attempt, Bases, Catalogue, Commit, Cond, D, Did, Done, Each, Fetch, FragNo, Handed, Hold, HoldRule, IsFair, IsSend, IsStepU, Msg, P2, P3, Queued, Records, Redeclared, Reduce, Release, Sends, Served, Setting, Ship, Site, Submits, T, Ticked, TmNo, Ts, a_held, a_hold, a_null, a_release, active, ascending, asked_by, asks_rows, bound, classes_of, clock, commit_act, cond_for, cond_of, condition_on, conditions_at, dm_no, frag_no, fragments_in, fragments_of, in_force, is_asked, last_served, last_stamp, next_stamp, number_of, of_exchange, same_site, sends_of_act, served_acted, served_handed, stamp_or, start_at, start_read, tm_no, to_site, ts_of, uses_of}
 use Rattle.sdd_invariants.specs.protocol.declared.entry.Entry as line
-use Rattle.sdd_invariants.specs.protocol.declared.protocol.Protocol.TheVariants.{P2, P3}
-use Rattle.sdd_invariants.specs.lang.Classes.{fragments_in}
-use Rattle.sdd_invariants.specs.lang.Uses.{uses_of}
-use Rattle.sdd_invariants.specs.history.declared.record.Rec.TheVariants.{Commit}
-use Rattle.sdd_invariants.specs.wire.declared.msg.Msg.{Msg}
-use Rattle.sdd_invariants.specs.wire.declared.msg.Msg.TheVariants.{Done, Fetch, Hold, Reduce, Release, Ship}
-use Rattle.sdd_invariants.specs.site_module.SiteLog.{Act, Bases, Did, Each, Handed, Log, Records, Redeclared, Sends, Setting, Submits, Ticked, in_force, sends_of_act}
-use Rattle.sdd_invariants.specs.attempt.Acts.{commit_act, conditions_at}
-use Rattle.sdd_invariants.specs.attempt.Attempts.{Attempt, active, asks_rows}
-use Rattle.sdd_invariants.specs.attempt.Clocks.{clock}
-use Rattle.sdd_invariants.specs.attempt.Queues.{Queued}
+use Rattle.sdd_invariants.specs.site_module.SiteLog.{Log}
 use Rattle.sdd_invariants.specs.tm.Due as tm
 use Rattle.sdd_invariants.specs.tm.Views as tm_views
-use Rattle.sdd_invariants.specs.umod.Views.{Served, last_served, served_acted, served_handed, ts_of}
 use Rattle.sdd_invariants.proofs.Holding.{hold_rule}
 use Rattle.sdd_invariants.proofs.Serving.{u_way}
-use Rattle.sdd_invariants.specs.AtT.{HoldRule}
-use Rattle.sdd_invariants.specs.AtU.{IsStepU}
 use Rattle.sdd_invariants.proofs.Clocks.{clock_number, drawn, drawn_at, limit_le, stamp_rises}
 use Rattle.sdd_invariants.proofs.ReadsPut.{start_puts}
 use Rattle.sdd_invariants.proofs.WritesPut.{commit_puts}
-use Rattle.sdd_invariants.specs.Stamps.{stamp_or}
 use Rattle.sdd_invariants.proofs.Active.{step_way}
 use Rattle.sdd_invariants.proofs.AreSteps.{t_step}
 use Rattle.sdd_invariants.proofs.Bools.{if_way}
-use Rattle.sdd_invariants.specs.Orders.{AllLe}
-use Rattle.sdd_invariants.specs.Steps.{IsFair, IsSend, a_held, a_hold, a_null, a_release, bound, last_stamp, next_stamp, of_exchange, start_at, start_read}
-use Rattle.sdd_invariants.specs.Traffic.{to_site}
 use Rattle.sdd_obligations.specs.Heights.{AllLow, IsLow, starts_by, top}
 use Rattle.sdd_obligations.proofs.LowLists.{IsEarlyCond, all_low_up, conds_all_le, conds_le, low_one}
 

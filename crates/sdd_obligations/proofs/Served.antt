@@ -1,30 +1,10 @@
 -- With the last ROWS the rows that came serve the database of the attempt's snapshots.
 use Rattle.std.proofs.Common.{ℕ, ◌++◌, ◌+◌, ◌≤◌, ◌==◌, ◌∙◌, ◌∷◌, ◌≡◌, List, None, Some, [], ap, if◌then◌else◌, length, refl, subst}
-use Rattle.sdd_invariants.specs.base.Numbers.{dm_no}
-use Rattle.sdd_invariants.specs.base.Words.{contains}
-use Rattle.sdd_invariants.specs.base.declared.number.ClassNo.{ClassNo}
-use Rattle.sdd_invariants.specs.base.declared.number.DmNo.{DmNo}
-use Rattle.sdd_invariants.specs.base.declared.number.Ts.{Ts}
-use Rattle.sdd_invariants.specs.base.declared.site.Site.{Site}
-use Rattle.sdd_invariants.specs.base.declared.site.Site.TheVariants.{D}
-use Rattle.sdd_invariants.specs.catalog.Catalogue.{Catalogue}
-use Rattle.sdd_invariants.specs.lang.Database.{Row}
+use Rattle.sdd_invariants.specs.All.{Attempt, Catalogue, ClassNo, D, DmNo, Exchange, Given, Hand, Handed, IsPermitted, Log, Msg, Over, Row, Rows, ServesIfLast, Setting, Shipping, Site, Ts, active, active_handed, after_hand, answered, base_of, contains, dated, dm_no, home, is_over, lacking, local_of, modules_asked, phase_ends, setting_of, with_made, without}
 use Rattle.sdd_exec.specs.Serves.{Serves}
 use Rattle.sdd_exec.proofs.Members.{Has-flat_map, Has-flat_map_from}
-use Rattle.sdd_invariants.specs.wire.declared.msg.Msg.{Msg}
-use Rattle.sdd_invariants.specs.wire.declared.msg.Msg.TheVariants.{Rows}
-use Rattle.sdd_invariants.specs.site_module.SiteLog.{Handed, Setting}
 use Rattle.sdd_invariants.specs.site_module.SiteLog as site
-use Rattle.sdd_invariants.specs.attempt.Attempts.{Attempt, active, active_handed}
-use Rattle.sdd_invariants.specs.attempt.Exchange.{Exchange, Over, Shipping, after_hand, answered, is_over, lacking, phase_ends, without}
-use Rattle.sdd_invariants.specs.attempt.Fits.{ServesIfLast}
-use Rattle.sdd_laws.specs.copy.Contents.{contents}
-use Rattle.sdd_invariants.specs.dm.Copies.{dated}
-use Rattle.sdd_laws.specs.copy.Frozen.{CopyRows, all_rows}
-use Rattle.sdd_invariants.specs.logs.Entries.{Given, Hand, Log}
-use Rattle.sdd_invariants.specs.logs.Locals.{local_of, setting_of}
-use Rattle.sdd_invariants.specs.logs.Permitted.{IsPermitted}
-use Rattle.sdd_invariants.specs.logs.Snapshots.{base_of}
+use Rattle.sdd_laws.specs.All.{CopyRows, all_rows, contents}
 use Rattle.sdd_obligations.proofs.Hearing.{is_awaited}
 use Rattle.sdd_serving.specs.Following.{stage_of}
 use Rattle.sdd_serving.specs.Freezing.{HasCopies, frozen_space}
@@ -33,10 +13,8 @@ use Rattle.sdd_serving.proofs.Arrived.{serves_by_members}
 use Rattle.sdd_serving.proofs.Serves.{exchange_serves}
 use Rattle.sdd_invariants.proofs.Bools.{both, same_number}
 use Rattle.sdd_invariants.proofs.Sites.{site_self}
-use Rattle.sdd_invariants.specs.Steps.{home, modules_asked}
 use Rattle.sdd_invariants.proofs.Fair.{all_new, home_fair}
 use Rattle.sdd_invariants.proofs.Made.{local_step}
-use Rattle.sdd_invariants.specs.Made.{with_made}
 use Rattle.sdd_obligations.specs.Fitting.{FitsGiven, FitsText}
 use Rattle.sdd_obligations.proofs.Texts.{active_so, submitted_fit}
 use Rattle.sdd_obligations.specs.Reading.{HasEras, before_answer, copies_read}

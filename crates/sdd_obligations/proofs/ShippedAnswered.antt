@@ -3,34 +3,12 @@ use Rattle.std.proofs.Common.{ℕ, ◌≤◌, ◌==◌, ◌≡◌, true, false, 
 use Rattle.std.specs.Prelude.{Option, Some, None}
 use Rattle.std.specs.Bool.{if◌then◌else◌}
 use Rattle.std.proofs.lemmas.Bool.{eqb-true}
-use Rattle.sdd_invariants.specs.base.Numbers.{dm_no}
-use Rattle.sdd_invariants.specs.base.Words.{contains}
-use Rattle.sdd_invariants.specs.base.declared.number.DmNo.{DmNo}
-use Rattle.sdd_invariants.specs.base.declared.site.Site.{Site}
-use Rattle.sdd_invariants.specs.base.declared.site.Site.TheVariants.{D}
-use Rattle.sdd_invariants.specs.base.declared.usage.Use.{Use}
-use Rattle.sdd_invariants.specs.catalog.Rules.{IsSound}
-use Rattle.sdd_invariants.specs.history.declared.record.Rec.TheVariants.{Answer}
-use Rattle.sdd_invariants.specs.wire.declared.msg.Msg.{Msg}
-use Rattle.sdd_invariants.specs.wire.declared.msg.Msg.TheVariants.{Read}
-use Rattle.sdd_invariants.specs.site_module.SiteLog.{Act, Records, Setting, sends_of_act}
-use Rattle.sdd_invariants.specs.attempt.Attempts.{Attempt, active}
-use Rattle.sdd_invariants.specs.attempt.Queues.{Queued}
-use Rattle.sdd_invariants.specs.pipe.Pipe.{head}
-use Rattle.sdd_invariants.specs.dm.Pipes.{pipe}
-use Rattle.sdd_invariants.specs.logs.Entries.{Does, Given, Log}
-use Rattle.sdd_invariants.specs.logs.Locals.{local_of, setting_of}
-use Rattle.sdd_invariants.specs.logs.Permitted.{IsPermitted}
+use Rattle.sdd_invariants.specs.All.{Act, Answer, Attempt, D, DmNo, Does, Given, IsPermitted, IsRead, IsReadOf, IsSound, Log, Msg, Queued, Read, Records, Setting, Site, Use, active, contains, dm_no, head, home, local_of, modules_asked, next_stamp, pipe, pipe_at, sends_of_act, setting_of, start_read, to_site}
 use Rattle.sdd_invariants.proofs.Recorded.{start_of_active}
-use Rattle.sdd_invariants.specs.Puts.{IsRead}
 use Rattle.sdd_invariants.proofs.Installed.{head_put}
 use Rattle.sdd_invariants.proofs.Answered.{read_of}
-use Rattle.sdd_invariants.specs.Causes.{IsReadOf}
-use Rattle.sdd_invariants.specs.Seen.{pipe_at}
 use Rattle.sdd_serving.specs.Freezing.{uses_at}
 use Rattle.sdd_invariants.proofs.Bools.{or_left, or_right, same_number}
-use Rattle.sdd_invariants.specs.Steps.{home, modules_asked, next_stamp, start_read}
-use Rattle.sdd_invariants.specs.Traffic.{to_site}
 use Rattle.sdd_invariants.proofs.Fair.{home_fair}
 use Rattle.sdd_invariants.proofs.Made.{permitted_before, place_of_act}
 use Rattle.sdd_obligations.proofs.Places.{IsAnswerAt, class_here, read_at_head}

@@ -2,40 +2,17 @@
 use Rattle.std.proofs.Common.{ℕ, ◌≤◌, ◌==◌, ◌≡◌, ◌≢◌, inl, inr, Bool, true, false, List, [], ◌∷◌, length, refl, ap, sym, ◌∙◌, subst, suc}
 use Rattle.std.specs.Prelude.{Option, Some, None, filter_map}
 use Rattle.std.specs.Bool.{if◌then◌else◌}
-use Rattle.sdd_invariants.specs.base.Numbers.{class_no, dm_no, tm_no, time_at}
-use Rattle.sdd_invariants.specs.base.Sites.{same_site}
-use Rattle.sdd_invariants.specs.base.Words.{contains, head_of}
-use Rattle.sdd_invariants.specs.base.declared.number.DmNo.{DmNo}
-use Rattle.sdd_invariants.specs.base.declared.site.Site.{Site}
-use Rattle.sdd_invariants.specs.base.declared.site.Site.TheVariants.{D, T, U}
-use Rattle.sdd_invariants.specs.base.declared.value.Value.{Value}
-use Rattle.sdd_invariants.specs.catalog.Catalogue.{Catalogue, class_at}
+use Rattle.sdd_invariants.specs.All.{Act, AllReadied, Attempt, Bases, Catalogue, D, Did, DmNo, Does, Each, Entry, Exchange, Given, Hand, Handed, IsFair, IsPermitted, Log, Mark, Msg, Notes, Queued, Redeclares, Reduce, Reject, Round, Sends, Setting, Site, Submitted, T, U, Value, active, active_handed, active_sent, after_hand, after_send, asks_rows, beginning, begins, bound, class_at, class_no, clock, commit_act, contains, dated, dm_no, head, head_of, home, in_force, local_of, made, module_read, modules_asked, next_stamp, pipe, queue, rejects, same_site, sends_of_act, setting_of, start_at, started, time_at, tm_no, with_made}
 use Rattle.sdd_exec.specs.Choices.{Has}
-use Rattle.sdd_invariants.specs.wire.declared.msg.Msg.{Msg}
-use Rattle.sdd_invariants.specs.wire.declared.msg.Msg.TheVariants.{Reduce, Reject}
-use Rattle.sdd_invariants.specs.site_module.SiteLog.{Act, Bases, Did, Each, Handed, Sends, Setting, in_force, sends_of_act}
 use Rattle.sdd_invariants.specs.site_module.SiteLog as site
-use Rattle.sdd_invariants.specs.attempt.Acts.{commit_act}
-use Rattle.sdd_invariants.specs.attempt.Attempts.{Attempt, active, active_handed, active_sent, asks_rows, rejects, started}
-use Rattle.sdd_invariants.specs.attempt.Exchange.{Exchange, after_hand, after_send, begins, module_read}
-use Rattle.sdd_invariants.specs.attempt.Queues.{Queued, queue}
 use Rattle.sdd_invariants.proofs.attempt.SoundLines.{start_modules}
-use Rattle.sdd_invariants.specs.attempt.Clocks.{clock}
-use Rattle.sdd_laws.specs.copy.Contents.{contents}
-use Rattle.sdd_invariants.specs.pipe.Pipe.{head}
-use Rattle.sdd_invariants.specs.dm.Pipes.{pipe}
-use Rattle.sdd_invariants.specs.dm.Copies.{dated}
-use Rattle.sdd_laws.specs.copy.Frozen.{CopyRows, Frozen, frozen_for, reduced}
-use Rattle.sdd_invariants.specs.logs.Entries.{Does, Entry, Given, Hand, Log, Mark, Notes, Redeclares, Round, Submitted}
-use Rattle.sdd_invariants.specs.logs.Locals.{beginning, local_of, setting_of}
-use Rattle.sdd_invariants.specs.logs.Permitted.{IsPermitted}
+use Rattle.sdd_laws.specs.All.{CopyRows, Frozen, contents, frozen_for, reduced}
 use Rattle.sdd_obligations.proofs.AtTurn.{hand_not}
 use Rattle.sdd_obligations.proofs.Hearing.{is_awaited}
 use Rattle.sdd_obligations.proofs.Modules.{firsts}
 use Rattle.sdd_obligations.specs.Turns.{Asks, is_a_refusal, is_answer, is_question, turn_at}
 use Rattle.sdd_invariants.proofs.Answered.{honest}
 use Rattle.sdd_invariants.proofs.Readied.{readied}
-use Rattle.sdd_invariants.specs.Readied.{AllReadied}
 use Rattle.sdd_serving.specs.Freezing.{asked_at, frozen_space, uses_at}
 use Rattle.sdd_serving.specs.Reducing.{Space}
 use Rattle.sdd_serving.proofs.Follows.{follows_reduce, follows_start}
@@ -43,10 +20,8 @@ use Rattle.sdd_serving.proofs.Told.{KeepsOnce, frozen_once}
 use Rattle.sdd_invariants.proofs.Active.{step_way}
 use Rattle.sdd_invariants.proofs.Bools.{if_way, same_number, same_or_not}
 use Rattle.sdd_invariants.proofs.Sites.{site_is, site_self}
-use Rattle.sdd_invariants.specs.Steps.{IsFair, bound, home, modules_asked, next_stamp, start_at}
 use Rattle.sdd_invariants.proofs.Fair.{home_fair}
 use Rattle.sdd_invariants.proofs.Made.{local_step, own_act}
-use Rattle.sdd_invariants.specs.Made.{made, with_made}
 use Rattle.sdd_obligations.specs.Fitting.{FitsGiven}
 use Rattle.sdd_obligations.specs.Reading.{HasEras}
 use Rattle.sdd_obligations.proofs.ShippedAnswered.{answer_to, not_before, uses_at_head}

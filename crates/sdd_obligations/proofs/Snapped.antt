@@ -2,16 +2,8 @@
 use Rattle.std.proofs.Common.{ℕ, ◌≡◌, ◌⊎◌, inl, inr, Bool, true, false, List, [], ◌∷◌, ◌++◌, refl, ap, sym, ◌∙◌, subst}
 use Rattle.std.specs.Bool.{if◌then◌else◌}
 use Rattle.std.specs.List.{flat_map}
-use Rattle.sdd_invariants.specs.base.declared.number.DmNo.{DmNo}
-use Rattle.sdd_invariants.specs.base.declared.number.TxnNo.{TxnNo}
-use Rattle.sdd_invariants.specs.base.declared.site.Site.{Site}
-use Rattle.sdd_invariants.specs.history.declared.record.Rec.TheVariants.{Answer}
-use Rattle.sdd_invariants.specs.wire.declared.msg.Msg.{Msg}
-use Rattle.sdd_invariants.specs.site_module.SiteLog.{Did, Each, Entry, Handed, Log, Records, Redeclared, Sends, Setting, Submits, Ticked}
-use Rattle.sdd_invariants.specs.pipe.Pipe.{head}
-use Rattle.sdd_invariants.specs.dm.Copies.{dated}
-use Rattle.sdd_invariants.specs.dm.Pipes.{pipe}
-use Rattle.sdd_invariants.specs.logs.Snapshots.{frags_asked, is_at, items_of, snapshots}
+use Rattle.sdd_invariants.specs.All.{Answer, Did, DmNo, Each, Handed, Msg, Records, Redeclared, Sends, Setting, Site, Submits, Ticked, TxnNo, dated, frags_asked, head, is_at, items_of, pipe, snapshots}
+use Rattle.sdd_invariants.specs.site_module.SiteLog.{Entry, Log}
 use Rattle.sdd_obligations.specs.Reading.{before_answer}
 use Rattle.sdd_obligations.proofs.Places.{IsAnswerAt}
 

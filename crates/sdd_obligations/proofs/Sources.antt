@@ -2,31 +2,7 @@
 -- first on permitted logs.
 use Rattle.std.proofs.Common.{ℕ, ◌&&◌, ◌++◌, ◌-◌, ◌<◌, ◌==◌, ◌∙◌, ◌∷◌, ◌≡◌, ◌≤◌, Bool, List, Some, [], ap, append_assoc, arith, false, if◌then◌else◌, inl, inr, length, map, refl, slice_get, slice_index_or, subst, suc, sym, true, zero}
 use Rattle.std.proofs.lemmas.Bool.{eqb-true}
-use Rattle.sdd_invariants.specs.base.Numbers.{dm_no, tm_no}
-use Rattle.sdd_invariants.specs.base.Sites.{same_site}
-use Rattle.sdd_invariants.specs.base.declared.condition.Cond.{Cond}
-use Rattle.sdd_invariants.specs.base.declared.number.ClassNo.{ClassNo}
-use Rattle.sdd_invariants.specs.base.declared.number.DmNo.{DmNo}
-use Rattle.sdd_invariants.specs.base.declared.number.Ts.{Ts}
-use Rattle.sdd_invariants.specs.base.declared.number.TxnNo.{TxnNo}
-use Rattle.sdd_invariants.specs.base.declared.usage.Use.{Use}
-use Rattle.sdd_invariants.specs.base.declared.number.TmNo.{TmNo}
-use Rattle.sdd_invariants.specs.base.declared.site.Site.{Site}
-use Rattle.sdd_invariants.specs.base.declared.site.Site.TheVariants.{D, T, U}
-use Rattle.sdd_invariants.specs.catalog.Catalogue.{Catalogue, class_at}
-use Rattle.sdd_invariants.specs.catalog.declared.resolved.Class.{Class}
-use Rattle.sdd_invariants.specs.wire.declared.msg.Msg.{Msg}
-use Rattle.sdd_invariants.specs.wire.declared.msg.Msg.TheVariants.{Fetch, Read, Ready, Reduce, Reduced, Reject, Rows, Ship, Values}
-use Rattle.sdd_invariants.specs.site_module.SiteLog.{Act, Did, Each, Handed, Setting, sends_of_act}
-use Rattle.sdd_invariants.specs.attempt.Attempts.{asks_rows}
-use Rattle.sdd_invariants.specs.dm.Views.{home_of, source_of}
-use Rattle.sdd_invariants.specs.pipe.Pipe.{head}
-use Rattle.sdd_invariants.specs.dm.Pipes.{pipe}
-use Rattle.sdd_invariants.specs.logs.Entries.{Given, Hand, Log}
-use Rattle.sdd_invariants.specs.logs.Traffic.{handed}
-use Rattle.sdd_invariants.specs.logs.Locals.{local_of, setting_of}
-use Rattle.sdd_invariants.specs.logs.Permitted.{IsPermitted}
-use Rattle.sdd_invariants.specs.logs.Snapshots.{base_of}
+use Rattle.sdd_invariants.specs.All.{Act, Catalogue, Class, ClassNo, Cond, D, Did, DmNo, Each, Fetch, Given, Hand, Handed, IsClassHere, IsDueEach, IsFair, IsFetch, IsPermitted, IsPutByD, IsReduce, IsSend, IsShip, IsStep, Log, Msg, Read, Ready, Reduce, Reduced, Reject, Rows, Setting, Ship, Site, T, TmNo, Ts, TxnNo, U, Use, Values, WasAsked, a_held, a_hold, a_null, a_release, asks_rows, base_of, class_at, dm_no, handed, head, home, home_of, local_of, next_stamp, of_exchange, pipe, puts_to, same_site, sends_of_act, setting_of, source_of, start_read, tm_no, to_site}
 use Rattle.sdd_invariants.proofs.logs.EachLocal.{each_local}
 use Rattle.sdd_obligations.proofs.FirstSends.{IsFirstEach, IsFirstSend, asks_whose, t_first, u_first}
 use Rattle.sdd_obligations.proofs.Asking.{send_is_question}
@@ -36,14 +12,10 @@ use Rattle.sdd_invariants.proofs.Origins.{was_put}
 use Rattle.sdd_invariants.proofs.ReadsPut.{start_puts}
 use Rattle.sdd_invariants.proofs.WritesPut.{commit_puts}
 use Rattle.sdd_invariants.proofs.PutBy.{put_by_d}
-use Rattle.sdd_invariants.specs.PutsBy.{IsFetch, IsPutByD, IsReduce, IsShip, WasAsked}
 use Rattle.sdd_invariants.proofs.Active.{each_at, step_way}
 use Rattle.sdd_invariants.proofs.Bools.{and_right, if_way, not_both, not_zero}
 use Rattle.sdd_invariants.proofs.Lists.{in_none, in_one}
 use Rattle.sdd_invariants.proofs.Sites.{the_one}
-use Rattle.sdd_invariants.specs.ReadSteps.{IsClassHere, IsDueEach}
-use Rattle.sdd_invariants.specs.Steps.{IsFair, IsSend, IsStep, a_held, a_hold, a_null, a_release, home, next_stamp, of_exchange, start_read}
-use Rattle.sdd_invariants.specs.Traffic.{puts_to, to_site}
 use Rattle.sdd_invariants.proofs.Fair.{d_fair, home_fair, t_fair, u_fair}
 use Rattle.sdd_invariants.proofs.InOrder.{hand_was_put}
 use Rattle.sdd_invariants.proofs.Made.{permitted_before, place_of_hand}

@@ -1,27 +1,12 @@
 -- What the modules keep for an attempt, as the log of everything goes on.
 use Rattle.std.proofs.Common.{ℕ, ◌==◌, ◌≡◌, false, ◌∷◌, refl, ap, sym, ◌∙◌, subst, suc}
 use Rattle.std.specs.Prelude.{Option, Some, None}
-use Rattle.sdd_invariants.specs.base.Numbers.{dm_no, tm_no}
-use Rattle.sdd_invariants.specs.base.Sites.{same_site}
-use Rattle.sdd_invariants.specs.base.declared.event.Event.TheVariants.{Deliver, Down, Lose, Redeclare, Repeat, Resend, Settle, Submit, Tick, Up}
-use Rattle.sdd_invariants.specs.base.declared.number.DmNo.{DmNo}
-use Rattle.sdd_invariants.specs.base.declared.site.Site.{Site}
-use Rattle.sdd_invariants.specs.base.declared.site.Site.TheVariants.{D, T, U}
-use Rattle.sdd_invariants.specs.catalog.Catalogue.{Catalogue, class_at}
-use Rattle.sdd_invariants.specs.lang.declared.transaction.Txn.{Txn}
-use Rattle.sdd_invariants.specs.site_module.SiteLog.{Did, Force, Handed, Redeclared, Setting, Submits, Ticked}
+use Rattle.sdd_invariants.specs.All.{Catalogue, D, Deliver, Did, DmNo, Does, Down, Entry, Force, Given, Hand, Handed, Log, Lose, Mark, Notes, Redeclare, Redeclared, Redeclares, Repeat, Resend, Round, Setting, Settle, Site, Submit, Submits, Submitted, T, Tick, Ticked, Txn, U, Up, active, class_at, dated, dm_no, force_at, forced, given_to, home, local_of, made, redeclares, same_site, setting_of, tm_no, txn_at, with_made}
 use Rattle.sdd_invariants.specs.site_module.SiteLog as site
-use Rattle.sdd_invariants.specs.attempt.Attempts.{active}
-use Rattle.sdd_laws.specs.copy.Contents.{contents}
-use Rattle.sdd_invariants.specs.dm.Copies.{dated}
-use Rattle.sdd_laws.specs.copy.Frozen.{CopyRows, Frozen}
-use Rattle.sdd_invariants.specs.logs.Entries.{Does, Entry, Given, Hand, Log, Mark, Notes, Redeclares, Round, Submitted}
-use Rattle.sdd_invariants.specs.logs.Locals.{force_at, local_of, redeclares, setting_of, txn_at}
+use Rattle.sdd_laws.specs.All.{CopyRows, Frozen, contents}
 use Rattle.sdd_serving.specs.Reducing.{Space}
 use Rattle.sdd_invariants.proofs.Bools.{if_way}
-use Rattle.sdd_invariants.specs.Steps.{home}
 use Rattle.sdd_invariants.proofs.Made.{local_step}
-use Rattle.sdd_invariants.specs.Made.{forced, given_to, made, with_made}
 use Rattle.sdd_obligations.proofs.Places.{IsAnswerAt}
 use Rattle.sdd_obligations.proofs.Snapped.{answer_more}
 use Rattle.sdd_obligations.specs.Contents.{kept}

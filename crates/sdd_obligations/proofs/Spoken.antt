@@ -1,17 +1,6 @@
 -- On a permitted log the exchanges of a class with the data modules go by turns.
 use Rattle.std.proofs.Common.{ℕ, ◌&&◌, ◌++◌, ◌∙◌, ◌∷◌, ◌≡◌, ◌≤◌, ◌⊎◌, Bool, List, None, Option, Some, [], ap, cond, drop, false, filter, if◌then◌else◌, inl, inr, refl, subst, sym, true}
-use Rattle.sdd_invariants.specs.base.Numbers.{dm_no}
-use Rattle.sdd_invariants.specs.base.Sites.{number_of, same_site}
-use Rattle.sdd_invariants.specs.base.declared.site.Site.{Site}
-use Rattle.sdd_invariants.specs.base.declared.site.Site.TheVariants.{D, T, U}
-use Rattle.sdd_invariants.specs.wire.Piped.{goes_through, time_of}
-use Rattle.sdd_invariants.specs.wire.declared.msg.Msg.{Msg}
-use Rattle.sdd_invariants.specs.site_module.SiteLog.{Act, Did, Each, Handed, Redeclared, Setting, Submits, Ticked, sends_of_act}
-use Rattle.sdd_invariants.specs.dm.Copies.{frozen}
-use Rattle.sdd_invariants.specs.logs.Entries.{Does, Entry, Given, Hand, Log}
-use Rattle.sdd_invariants.specs.logs.Locals.{local_of, setting_of}
-use Rattle.sdd_invariants.specs.logs.Permitted.{IsAllowed, IsPermitted}
-use Rattle.sdd_invariants.specs.logs.Traffic.{handed}
+use Rattle.sdd_invariants.specs.All.{Act, AllLe, D, Did, Does, Each, Entry, Given, Hand, Handed, IsAllowed, IsDueEach, IsFair, IsPermitted, IsStep, Log, Msg, Redeclared, Setting, Site, Submits, T, Ticked, U, dm_no, frozen, goes_through, handed, handed_by, home, local_of, made, number_of, put_by, puts_to, same_site, sends_of_act, setting_of, time_of, times_in, to_site, with_made}
 use Rattle.sdd_obligations.proofs.Asking.{asks_in_turn}
 use Rattle.sdd_obligations.proofs.Hearing.{IsTimely}
 use Rattle.sdd_obligations.proofs.DataSteps.{data_step}
@@ -24,15 +13,10 @@ use Rattle.sdd_obligations.proofs.Replying.{IsAskedInTurn}
 use Rattle.sdd_obligations.specs.Stages.{IsStage, agreed, flight}
 use Rattle.sdd_obligations.specs.Turns.{MayAnswer, MayAsk, Turn, answers, asked_by, is_answer, is_exchanging, is_question, questions, told_by, turn_at, turn_with, uses_held}
 use Rattle.sdd_invariants.proofs.Sites.{site_is, site_self}
-use Rattle.sdd_invariants.specs.Orders.{AllLe}
-use Rattle.sdd_invariants.specs.ReadSteps.{IsDueEach}
-use Rattle.sdd_invariants.specs.Steps.{IsFair, IsStep, home}
-use Rattle.sdd_invariants.specs.Traffic.{puts_to, times_in, to_site}
 use Rattle.sdd_invariants.proofs.Fair.{d_fair, home_fair}
 use Rattle.sdd_invariants.proofs.InOrder.{hand_was_put}
 use Rattle.sdd_invariants.proofs.Made.{local_step, maker, own_act}
 use Rattle.sdd_invariants.proofs.Sent.{puts_grow}
-use Rattle.sdd_invariants.specs.Made.{handed_by, made, put_by, with_made}
 use Rattle.sdd_invariants.specs.site_module.SiteLog as site
 use Rattle.sdd_obligations.proofs.Halves.{IsLast, IsSpoken, StageAt, active_last, alone, data_log, data_turns, exchanging_active, home_log, home_source, home_turns}
 

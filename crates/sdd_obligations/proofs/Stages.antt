@@ -1,6 +1,6 @@
 -- Each entry keeps an exchange in lockstep.
 use Rattle.std.proofs.Common.{ℕ, ◌++◌, ◌∙◌, ◌∷◌, ◌≡◌, Bool, List, [], ap, append-nil, false, if◌then◌else◌, subst, sym, true}
-use Rattle.sdd_invariants.specs.wire.declared.msg.Msg.{Msg}
+use Rattle.sdd_invariants.specs.All.{Msg}
 use Rattle.sdd_obligations.specs.Stages.{IsStage, agreed, answer_goes, question_goes}
 use Rattle.sdd_obligations.specs.Turns.{Asks, MayAnswer, MayAsk, Refused, Silent, Told, Turn, asked, asked_by, is_a_refusal, told, told_by}
 

@@ -1,25 +1,11 @@
 -- One timestamp, one Start: of whatever classes.
 use Rattle.std.proofs.Common.{ℕ, ◌+◌, ◌*◌, ◌≤◌, ◌==◌, ◌≡◌, ◌⊎◌, inl, inr, Bool, true, false, ◌∷◌, ◌++◌, length, append_assoc, arith, refl, ap, sym, ◌∙◌, subst, suc, zero}
 use Rattle.std.specs.Prelude.{Some}
-use Rattle.sdd_invariants.specs.base.Numbers.{tm_no}
-use Rattle.sdd_invariants.specs.base.Sites.{number_of}
-use Rattle.sdd_invariants.specs.base.Words.{head_of}
-use Rattle.sdd_invariants.specs.base.declared.site.Site.{Site}
-use Rattle.sdd_invariants.specs.base.declared.site.Site.TheVariants.{T, U}
-use Rattle.sdd_invariants.specs.catalog.Catalogue.{Catalogue, class_at}
-use Rattle.sdd_invariants.specs.catalog.Numbers.{IsServedClass}
-use Rattle.sdd_invariants.specs.catalog.Rules.{IsSound}
+use Rattle.sdd_invariants.specs.All.{Catalogue, Did, Does, Given, IsReadOf, IsServedClass, IsSound, Log, Queued, Records, Setting, Site, T, U, class_at, clock, head_of, home, local_of, next_stamp, number_of, queue, setting_of, start_at, tm_no}
 use Rattle.sdd_invariants.proofs.catalog.Sound.{at_number, sound_classes, sound_whole}
-use Rattle.sdd_invariants.specs.site_module.SiteLog.{Did, Records, Setting}
 use Rattle.sdd_invariants.specs.site_module.SiteLog as site
-use Rattle.sdd_invariants.specs.attempt.Clocks.{clock}
-use Rattle.sdd_invariants.specs.attempt.Queues.{Queued, queue}
-use Rattle.sdd_invariants.specs.logs.Entries.{Does, Given, Log}
-use Rattle.sdd_invariants.specs.logs.Locals.{local_of, setting_of}
 use Rattle.sdd_invariants.proofs.Clocks.{clock_grows, clock_number}
 use Rattle.sdd_invariants.proofs.Places.{compare}
-use Rattle.sdd_invariants.specs.Causes.{IsReadOf}
-use Rattle.sdd_invariants.specs.Steps.{home, next_stamp, start_at}
 use Rattle.sdd_invariants.proofs.Made.{local_grows, own_act}
 
 -- in one site's log

@@ -2,24 +2,8 @@
 use Rattle.std.proofs.Common.{ℕ, ◌++◌, ◌≤◌, ◌==◌, ◌∙◌, ◌∷◌, ◌≡◌, Bool, List, None, Option, Some, [], ap, drop, false, if◌then◌else◌, inl, inr, refl, subst, sym, take, true}
 use Rattle.std.proofs.lemmas.List.{take-append-drop}
 use Rattle.std.proofs.lemmas.List.Elements.{filter-append}
-use Rattle.sdd_invariants.specs.base.Numbers.{dm_no, tm_no}
-use Rattle.sdd_invariants.specs.base.Sites.{number_of, same_site}
-use Rattle.sdd_invariants.specs.base.Words.{head_of}
-use Rattle.sdd_invariants.specs.base.declared.number.DmNo.{DmNo}
-use Rattle.sdd_invariants.specs.base.declared.site.Site.{Site}
-use Rattle.sdd_invariants.specs.base.declared.site.Site.TheVariants.{D, T, U}
-use Rattle.sdd_invariants.specs.catalog.Catalogue.{class_at}
-use Rattle.sdd_invariants.specs.wire.declared.msg.Msg.{Msg}
-use Rattle.sdd_invariants.specs.wire.declared.msg.Msg.TheVariants.{Fetch, Read, Reduce, Reject, Ship}
-use Rattle.sdd_invariants.specs.site_module.SiteLog.{Act, Bases, Did, Each, Handed, Redeclared, Sends, Setting, Submits, Ticked, sends_of_act}
+use Rattle.sdd_invariants.specs.All.{Act, Attempt, Bases, D, Did, DmNo, Does, Each, Entry, Fetch, Given, Hand, Handed, IsAllowed, IsFair, IsPermitted, Log, Mark, Msg, Notes, Queued, Read, Redeclared, Redeclares, Reduce, Reject, Round, Sends, Setting, Ship, Site, Submits, Submitted, T, Ticked, U, active, active_handed, active_sent, beginning, class_at, commit_act, dm_no, handed, head_of, home, local_of, made, next_stamp, number_of, puts_to, queue, same_site, sends_of_act, setting_of, start_at, started, tm_no, with_made}
 use Rattle.sdd_invariants.specs.site_module.SiteLog as site
-use Rattle.sdd_invariants.specs.attempt.Acts.{commit_act}
-use Rattle.sdd_invariants.specs.attempt.Attempts.{Attempt, active, active_handed, active_sent, started}
-use Rattle.sdd_invariants.specs.attempt.Queues.{Queued, queue}
-use Rattle.sdd_invariants.specs.logs.Entries.{Does, Entry, Given, Hand, Log, Mark, Notes, Redeclares, Round, Submitted}
-use Rattle.sdd_invariants.specs.logs.Locals.{beginning, local_of, setting_of}
-use Rattle.sdd_invariants.specs.logs.Permitted.{IsAllowed, IsPermitted}
-use Rattle.sdd_invariants.specs.logs.Traffic.{handed}
 use Rattle.sdd_invariants.proofs.logs.EachLocal.{allowed_act}
 use Rattle.sdd_invariants.proofs.Clocks.{stamp_below_next}
 use Rattle.sdd_obligations.proofs.Comes.{answer_stands, question_stands}
@@ -34,11 +18,8 @@ use Rattle.sdd_obligations.specs.Turns.{Asks, MayAnswer, Replies, Silent, Told, 
 use Rattle.sdd_invariants.proofs.Active.{handed_way, sent_way, step_way}
 use Rattle.sdd_invariants.proofs.Bools.{if_way, same_number, same_or_not}
 use Rattle.sdd_invariants.proofs.Sites.{site_is, site_self}
-use Rattle.sdd_invariants.specs.Steps.{IsFair, home, next_stamp, start_at}
-use Rattle.sdd_invariants.specs.Traffic.{puts_to}
 use Rattle.sdd_invariants.proofs.Fair.{home_fair}
 use Rattle.sdd_invariants.proofs.Made.{local_step, own_act}
-use Rattle.sdd_invariants.specs.Made.{made, with_made}
 use Rattle.sdd_obligations.specs.Contents.{Tells, kept}
 use Rattle.sdd_obligations.proofs.Asked.{AllAskPhase, asks_phase}
 use Rattle.sdd_obligations.proofs.Kept.{kept_same}

@@ -2,26 +2,11 @@
 use Rattle.std.specs.Prelude.{nat_le}
 use Rattle.std.proofs.lemmas.Bool.Decides.{nat_tests}
 use Rattle.std.proofs.Common.{ℕ, ◌≤◌, arith, ◌==◌, ◌∙◌, ◌∷◌, ◌≡◌, ◌≢◌, Bool, None, Option, Some, [], ap, false, if◌then◌else◌, refl, subst, sym, true}
-use Rattle.sdd_invariants.specs.base.Sites.{same_site}
-use Rattle.sdd_invariants.specs.base.Words.{contains}
-use Rattle.sdd_invariants.specs.base.declared.event.Event.{Event}
-use Rattle.sdd_invariants.specs.base.declared.event.Event.TheVariants.{Deliver, Down, Lose, Redeclare, Repeat, Resend, Settle, Submit, Tick, Up}
-use Rattle.sdd_invariants.specs.base.declared.number.TmNo.{TmNo}
-use Rattle.sdd_invariants.specs.base.declared.site.Site.{Site}
-use Rattle.sdd_invariants.specs.base.declared.site.Site.TheVariants.{T, U}
-use Rattle.sdd_invariants.specs.lang.Classes.{class_for}
-use Rattle.sdd_invariants.specs.lang.declared.transaction.Txn.{Txn}
-use Rattle.sdd_invariants.specs.site_module.SiteLog.{Did, Each, Force, Handed, Redeclared, Submits, Ticked, in_force, submits}
-use Rattle.sdd_invariants.specs.logs.Due.{home_of, mark_due, next, note_if}
-use Rattle.sdd_invariants.specs.logs.Entries.{Does, Entry, Given, Hand, Log, Mark, Notes, Redeclares, Round, Submitted}
-use Rattle.sdd_invariants.specs.logs.Lawful.{IsLawful}
-use Rattle.sdd_invariants.specs.logs.Locals.{force_at, local_of, redeclares, setting_of, txn_at, with_submit, with_tick}
+use Rattle.sdd_invariants.specs.All.{Deliver, Did, Does, Down, Each, Entry, Event, Fits, Force, Given, Hand, Handed, IsLawful, IsNew, Log, Lose, Mark, Notes, Redeclare, Redeclared, Redeclares, Repeat, Resend, Round, Settle, Site, Submit, Submits, Submitted, T, Tick, Ticked, TmNo, Txn, U, Up, class_for, contains, force_at, in_force, is_site, local_of, mark_due, next, note_if, redeclares, same_site, setting_of, submits, txn_at, with_submit, with_tick}
+use Rattle.sdd_invariants.specs.logs.Due.{home_of}
 use Rattle.sdd_invariants.proofs.logs.NewMarks.{lawful_permitted}
-use Rattle.sdd_invariants.specs.net.Nets.{is_site}
-use Rattle.sdd_invariants.specs.lang.Fits.{Fits}
 use Rattle.sdd_invariants.proofs.Bools.{both, differ, if_way}
 use Rattle.sdd_invariants.proofs.Sites.{site_self}
-use Rattle.sdd_invariants.specs.Steps.{IsNew}
 use Rattle.sdd_invariants.proofs.Fair.{all_new}
 use Rattle.sdd_obligations.specs.Bounds.{IsSmall}
 use Rattle.sdd_obligations.proofs.OfNext.{of_next}

@@ -1,28 +1,9 @@
 -- A data module answers in turn, where each question that is handed to it comes in turn.
 use Rattle.std.proofs.Common.{ℕ, ◌&&◌, ◌++◌, ◌==◌, ◌∙◌, ◌∷◌, ◌≡◌, Bool, List, Some, [], ap, cond, false, filter, if◌then◌else◌, inl, inr, length, map, refl, slice_get, subst, sym, true}
 use Rattle.std.proofs.lemmas.Bool.{eqb-true}
-use Rattle.sdd_invariants.specs.base.Sites.{same_site}
-use Rattle.sdd_invariants.specs.base.Words.{head_of, tail_of}
-use Rattle.sdd_invariants.specs.base.declared.change.Change.{Change}
-use Rattle.sdd_invariants.specs.base.declared.condition.Cond.{Cond}
-use Rattle.sdd_invariants.specs.base.declared.number.ClassNo.{ClassNo}
-use Rattle.sdd_invariants.specs.base.declared.number.Ts.{Ts}
-use Rattle.sdd_invariants.specs.base.declared.number.TxnNo.{TxnNo}
-use Rattle.sdd_invariants.specs.base.declared.site.Site.{Site}
-use Rattle.sdd_invariants.specs.base.declared.site.Site.TheVariants.{U}
-use Rattle.sdd_invariants.specs.history.declared.record.Rec.{Rec}
-use Rattle.sdd_invariants.specs.history.declared.record.Rec.TheVariants.{Answer, Apply, Pass, Reject as Rejected, Wait}
-use Rattle.sdd_invariants.specs.wire.Piped.{goes_through}
-use Rattle.sdd_invariants.specs.wire.declared.msg.Msg.{Msg}
-use Rattle.sdd_invariants.specs.wire.declared.msg.Msg.TheVariants.{Done, Null, Read, Ready, Reject, Write}
-use Rattle.sdd_invariants.specs.site_module.SiteLog.{Act, Did, Each, Handed, Log, Records, Redeclared, Sends, Setting, Submits, Ticked}
-use Rattle.sdd_invariants.specs.attempt.Fits.{is_read}
-use Rattle.sdd_invariants.specs.pipe.Pipe.{Pipe, head, head_processed, put}
-use Rattle.sdd_invariants.specs.dm.Copies.{frozen}
-use Rattle.sdd_invariants.specs.dm.Due.{ask_for, done_for}
-use Rattle.sdd_invariants.specs.dm.Opens.{Open, opens}
-use Rattle.sdd_invariants.specs.dm.Pipes.{is_processing, pipe, pipe_acted}
-use Rattle.sdd_invariants.specs.dm.Views.{home_of, source_of}
+use Rattle.sdd_invariants.specs.All.{Act, Answer, Apply, Change, ClassNo, Cond, Did, Done, Each, Handed, IsClassHere, IsDueEach, Msg, Null, Open, Pass, Pipe, Read, Ready, Rec, Records, Redeclared, Reject, Sends, Setting, Site, Submits, Ticked, Ts, TxnNo, U, Wait, Write, ask_for, done_for, frozen, goes_through, head, head_of, head_processed, home_of, is_processing, is_read, opens, pipe, pipe_acted, put, same_site, source_of, tail_of, to_site}
+use Rattle.sdd_invariants.specs.history.declared.record.Rec.TheVariants.{Reject as Rejected}
+use Rattle.sdd_invariants.specs.site_module.SiteLog.{Log}
 use Rattle.sdd_obligations.proofs.Hearing.{told_one}
 use Rattle.sdd_obligations.proofs.DataSteps.{IsDataStep, counts_told, data_step, data_step_way}
 use Rattle.sdd_obligations.specs.Turns.{Asks, Refused, Silent, Told, Turn, answers, is_a_refusal, is_answer, reads_asked, rows_asked, told, told_by, turn_with}
@@ -30,8 +11,6 @@ use Rattle.sdd_invariants.proofs.Processed.{not_own, own_record, processed_more}
 use Rattle.sdd_invariants.proofs.Bools.{if_way, same_or_not}
 use Rattle.sdd_invariants.proofs.Lists.{at_seam}
 use Rattle.sdd_invariants.proofs.Sites.{site_self}
-use Rattle.sdd_invariants.specs.ReadSteps.{IsClassHere, IsDueEach}
-use Rattle.sdd_invariants.specs.Traffic.{to_site}
 use Rattle.sdd_obligations.proofs.Replying.{HasTurn, HasTurnAt, IsAskedInTurn, IsProcessed, and_no, and_right_of, asker, asks_open, from_site, read_asks_none, read_is_a_read, turn_arrives, turn_hand, turn_replies, turn_still}
 
 -- a head that is processed

@@ -2,18 +2,11 @@
 use Rattle.std.proofs.Common.{ℕ, ◌≡◌, Bool, true, false, List, [], ◌∷◌, ◌++◌, Option, Some, None, refl, sym, subst}
 use Rattle.std.specs.Bool.{if◌then◌else◌}
 use Rattle.std.specs.List.{AllByRecursion, cons_option, filter_map}
-use Rattle.sdd_invariants.specs.base.declared.site.Site.{Site}
-use Rattle.sdd_invariants.specs.lang.declared.transaction.Txn.{Txn}
-use Rattle.sdd_invariants.specs.site_module.SiteLog.{Did, Each, Entry, Handed, Log, Redeclared, Setting, Submits, Ticked, in_force}
-use Rattle.sdd_invariants.specs.attempt.Attempts.{Attempt, active}
-use Rattle.sdd_invariants.specs.attempt.Queues.{Queued, is_for, queue}
-use Rattle.sdd_invariants.specs.logs.Entries.{Given}
+use Rattle.sdd_invariants.specs.All.{Attempt, Did, Each, Given, Handed, IsFair, IsNew, IsPermitted, IsServed, Queued, Redeclared, Setting, Site, Submits, Ticked, Txn, active, in_force, is_committed, is_for, local_of, queue, queued, setting_of, starts_of, submits_of}
+use Rattle.sdd_invariants.specs.site_module.SiteLog.{Entry, Log}
 use Rattle.sdd_invariants.specs.logs.Entries as whole
-use Rattle.sdd_invariants.specs.logs.Locals.{local_of, setting_of}
-use Rattle.sdd_invariants.specs.logs.Permitted.{IsPermitted}
 use Rattle.sdd_invariants.proofs.logs.EachLocal.{each_local}
 use Rattle.sdd_invariants.proofs.Queues.{queue_is}
-use Rattle.sdd_invariants.specs.Steps.{IsFair, IsNew, IsServed, is_committed, queued, starts_of, submits_of}
 use Rattle.sdd_obligations.specs.Fitting.{FitsGiven, FitsText}
 
 -- so has each transaction that is given to class c at a site

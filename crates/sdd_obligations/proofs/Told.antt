@@ -2,27 +2,10 @@
 use Rattle.std.proofs.Common.{ℕ, ◌&&◌, ◌++◌, ◌==◌, ◌∙◌, ◌∷◌, ◌≡◌, List, None, Option, Some, [], ap, append-nil, cond, false, filter, if◌then◌else◌, inl, inr, map, refl, subst, sym, true}
 use Rattle.std.proofs.lemmas.Bool.{eqb-true}
 use Rattle.std.proofs.lemmas.List.Elements.{filter-append}
-use Rattle.sdd_invariants.specs.base.Sites.{same_site}
-use Rattle.sdd_invariants.specs.base.Words.{head_of}
-use Rattle.sdd_invariants.specs.base.declared.condition.Cond.{Cond}
-use Rattle.sdd_invariants.specs.base.declared.number.ClassNo.{ClassNo}
-use Rattle.sdd_invariants.specs.base.declared.number.Ts.{Ts}
-use Rattle.sdd_invariants.specs.base.declared.number.TxnNo.{TxnNo}
-use Rattle.sdd_invariants.specs.base.declared.site.Site.{Site}
-use Rattle.sdd_invariants.specs.base.declared.usage.Use.{Use}
-use Rattle.sdd_invariants.specs.history.declared.record.Rec.TheVariants.{Answer, Apply, Arrive, Pass, Reject as Rejected, Wait}
-use Rattle.sdd_invariants.specs.wire.declared.msg.Msg.{Msg}
-use Rattle.sdd_invariants.specs.wire.declared.msg.Msg.TheVariants.{Done, Fetch, Read, Ready, Reduce, Reject, Rows, Ship, Values}
-use Rattle.sdd_invariants.specs.site_module.SiteLog.{Act, Did, Handed, Log, Records, Sends, Setting, sends_of_act}
-use Rattle.sdd_invariants.specs.attempt.Attempts.{asks_rows}
-use Rattle.sdd_invariants.specs.attempt.Fits.{is_read}
-use Rattle.sdd_laws.specs.copy.Frozen.{Frozen, all_rows, rows_of, values_in}
-use Rattle.sdd_invariants.specs.pipe.Pipe.{head}
-use Rattle.sdd_invariants.specs.dm.Copies.{frozen}
-use Rattle.sdd_invariants.specs.dm.Due.{ask_for, done_for}
-use Rattle.sdd_invariants.specs.dm.Opens.{Open, class_asked, is_asked_of, is_number, opens}
-use Rattle.sdd_invariants.specs.dm.Pipes.{pipe}
-use Rattle.sdd_invariants.specs.dm.Views.{home_of, source_of}
+use Rattle.sdd_invariants.specs.All.{Act, Answer, Apply, Arrive, ClassNo, Cond, Did, Done, Fetch, Handed, IsClassHere, Msg, Open, Pass, Read, Ready, Records, Reduce, Reject, Rows, Sends, Setting, Ship, Site, Ts, TxnNo, Use, Values, Wait, ask_for, asks_rows, class_asked, done_for, frozen, head, head_of, home_of, is_asked_of, is_number, is_read, opens, pipe, puts_to, same_site, sends_of_act, source_of, to_site}
+use Rattle.sdd_invariants.specs.history.declared.record.Rec.TheVariants.{Reject as Rejected}
+use Rattle.sdd_invariants.specs.site_module.SiteLog.{Log}
+use Rattle.sdd_laws.specs.All.{Frozen, all_rows, rows_of, values_in}
 use Rattle.sdd_obligations.proofs.DataSteps.{IsDataStep, counts_told, data_step_way, reply}
 use Rattle.sdd_obligations.proofs.Hearing.{and_no, told_is, told_one}
 use Rattle.sdd_obligations.proofs.Held.{AreHeldFor, IsHeldAt}
@@ -31,8 +14,6 @@ use Rattle.sdd_obligations.proofs.Telling.{IsHomeOf, asks_no_answer, done_no_ans
 use Rattle.sdd_obligations.specs.Turns.{Asks, Refused, Told, Turn, answers, asked, is_a_read, is_answer, is_question, told, told_by, turn_with, uses_by, uses_held, uses_in}
 use Rattle.sdd_invariants.proofs.Bools.{and_right, both, same_number}
 use Rattle.sdd_invariants.proofs.Sites.{site_self}
-use Rattle.sdd_invariants.specs.ReadSteps.{IsClassHere}
-use Rattle.sdd_invariants.specs.Traffic.{puts_to, to_site}
 use Rattle.sdd_obligations.specs.Contents.{Tells, kept}
 use Rattle.sdd_obligations.proofs.InStep.{never}
 use Rattle.sdd_obligations.proofs.Kept.{hand_keeps, kept_now, other_answer_keeps, record_keeps, send_keeps}

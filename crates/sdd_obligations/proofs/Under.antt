@@ -1,36 +1,14 @@
 -- The height of a lawful log is one: no clock and no message's time is above it.
 use Rattle.std.specs.Prelude.{fold, max}
 use Rattle.std.proofs.Common.{ℕ, ◌*◌, ◌+◌, ◌-◌, ◌/◌, ◌∷◌, ◌≡◌, ◌≤◌, List, None, Option, Some, [], arith, if◌then◌else◌, map, refl, slice_get, subst, suc, sym}
-use Rattle.sdd_invariants.specs.base.Clock.{Ticking}
-use Rattle.sdd_invariants.specs.base.Numbers.{tm_no}
-use Rattle.sdd_invariants.specs.base.Sites.{same_site}
-use Rattle.sdd_invariants.specs.base.declared.event.Event.{Event}
-use Rattle.sdd_invariants.specs.base.declared.event.Event.TheVariants.{Tick}
-use Rattle.sdd_invariants.specs.base.declared.site.Site.{Site}
-use Rattle.sdd_invariants.specs.base.declared.site.Site.TheVariants.{D, T, U}
-use Rattle.sdd_invariants.specs.catalog.Catalogue.{numbers_to}
-use Rattle.sdd_invariants.specs.lang.declared.transaction.Txn.{Txn}
-use Rattle.sdd_invariants.specs.history.declared.record.Rec.TheVariants.{Start}
-use Rattle.sdd_invariants.specs.wire.declared.msg.Msg.{Msg}
-use Rattle.sdd_invariants.specs.wire.declared.msg.Msg.TheVariants.{Ask, Held, Reject, Release}
-use Rattle.sdd_invariants.specs.site_module.SiteLog.{Act, Did, Force, Handed, Records, Redeclared, Submits, Ticked, sends_of_act}
-use Rattle.sdd_invariants.specs.attempt.Clocks.{clock, pushed_by, ticked_by}
-use Rattle.sdd_invariants.specs.logs.Entries.{Does, Entry, Given, Hand, Log, Mark, Notes, Redeclares, Round, Submitted}
-use Rattle.sdd_invariants.specs.logs.Lawful.{IsLawful}
-use Rattle.sdd_invariants.specs.logs.Locals.{beginning, force_at, local_of, redeclares, setting_of, txn_at}
-use Rattle.sdd_invariants.specs.logs.Marks.{bound_at, greatest_bound}
-use Rattle.sdd_invariants.specs.logs.Permitted.{IsDueAt, IsPermitted}
-use Rattle.sdd_invariants.specs.logs.Snapshots.{base_of}
-use Rattle.sdd_invariants.specs.logs.Traffic.{sent}
+use Rattle.sdd_invariants.specs.All.{Act, Ask, D, Did, Does, Entry, Event, Force, Given, Hand, Handed, Held, IsDueAt, IsLawful, IsPermitted, Log, Mark, Msg, Notes, Records, Redeclared, Redeclares, Reject, Release, Round, Site, Start, Submits, Submitted, T, Tick, Ticked, Ticking, Txn, U, base_of, beginning, bound_at, clock, force_at, forced, given_to, greatest_bound, local_of, made, made_by_mark, numbers_to, pushed_by, put_by, puts_to, redeclares, same_site, sends_of_act, sent, setting_of, ticked_by, tm_no, to_site, txn_at, with_made}
 use Rattle.sdd_invariants.proofs.logs.EachLocal.{allowed_act}
 use Rattle.sdd_invariants.proofs.Serving.{u_due}
 use Rattle.sdd_invariants.proofs.Bools.{if_way}
-use Rattle.sdd_invariants.specs.Traffic.{puts_to, to_site}
 use Rattle.sdd_invariants.proofs.Fair.{t_fair, u_fair}
 use Rattle.sdd_invariants.proofs.InOrder.{allowed_hand}
 use Rattle.sdd_invariants.proofs.Made.{local_step}
 use Rattle.sdd_invariants.proofs.Sent.{puts_grow, sent_is}
-use Rattle.sdd_invariants.specs.Made.{forced, given_to, made, made_by_mark, put_by, with_made}
 use Rattle.sdd_obligations.specs.Bounds.{AllFewTicks}
 use Rattle.sdd_obligations.specs.Heights.{AllLow, HandsLow, IsLow, IsUnder, height, starts_by, ticks_of, top}
 use Rattle.sdd_obligations.proofs.AnswersLow.{d_low}

@@ -1,24 +1,11 @@
 -- What is next on a lawful log is what modules ask.
 use Rattle.std.proofs.Common.{ℕ, ◌∷◌, ◌≡◌, ◌≢◌, Some, false}
-use Rattle.sdd_invariants.specs.base.Words.{contains}
-use Rattle.sdd_invariants.specs.base.declared.number.DmNo.{DmNo}
-use Rattle.sdd_invariants.specs.base.declared.number.TmNo.{TmNo}
-use Rattle.sdd_invariants.specs.base.declared.site.Site.{Site}
-use Rattle.sdd_invariants.specs.base.declared.site.Site.TheVariants.{D, T, U}
-use Rattle.sdd_invariants.specs.lang.Classes.{class_for}
-use Rattle.sdd_invariants.specs.lang.declared.transaction.Txn.{Txn}
-use Rattle.sdd_invariants.specs.wire.declared.msg.Msg.{Msg}
-use Rattle.sdd_invariants.specs.site_module.SiteLog.{Act, Bases, in_force, sends_of_act, submits}
+use Rattle.sdd_invariants.specs.All.{Act, AllLinked, Bases, D, DmNo, Does, Given, Hand, IsLawful, IsSiteOf, IsWithin, Log, Msg, Site, Submitted, T, TmNo, Txn, U, class_for, contains, in_force, local_of, next, sends_of_act, setting_of, submits, txn_at}
 use Rattle.sdd_invariants.specs.dm.Fits as dm
 use Rattle.sdd_invariants.specs.tm.Fits as tm
 use Rattle.sdd_invariants.specs.umod.Fits as um
-use Rattle.sdd_invariants.specs.logs.Due.{next}
-use Rattle.sdd_invariants.specs.logs.Entries.{Does, Given, Hand, Log, Submitted}
-use Rattle.sdd_invariants.specs.logs.Lawful.{IsLawful, IsWithin}
-use Rattle.sdd_invariants.specs.logs.Locals.{local_of, setting_of, txn_at}
 use Rattle.sdd_invariants.proofs.logs.EachLocal.{allowed_act}
 use Rattle.sdd_invariants.proofs.logs.NewMarks.{lawful_permitted}
-use Rattle.sdd_invariants.specs.logs.Resting.{AllLinked, IsSiteOf}
 use Rattle.sdd_obligations.proofs.OfNext.{of_next}
 use Rattle.sdd_obligations.specs.Given.{IsFit}
 use Rattle.sdd_obligations.specs.Upheld.{IsUpheldD, IsUpheldR}

@@ -3,47 +3,18 @@ use Rattle.std.proofs.Common.{ℕ, ◌&&◌, ◌++◌, ◌<◌, ◌==◌, ◌∙
 use Rattle.std.proofs.Math.Decide.{dec_le}
 use Rattle.std.proofs.lemmas.Bool.{eqb-true}
 use Rattle.std.proofs.lemmas.List.Elements.{filter_map-append}
-use Rattle.sdd_invariants.specs.base.Sites.{number_of, same_site}
-use Rattle.sdd_invariants.specs.base.Words.{head_of}
-use Rattle.sdd_invariants.specs.base.declared.condition.Cond.{Cond}
-use Rattle.sdd_invariants.specs.base.declared.number.ClassNo.{ClassNo}
-use Rattle.sdd_invariants.specs.base.declared.number.DmNo.{DmNo}
-use Rattle.sdd_invariants.specs.base.declared.number.Ts.{Ts}
-use Rattle.sdd_invariants.specs.base.declared.number.TxnNo.{TxnNo}
-use Rattle.sdd_invariants.specs.base.declared.site.Site.{Site}
-use Rattle.sdd_invariants.specs.base.declared.site.Site.TheVariants.{D}
-use Rattle.sdd_invariants.specs.base.declared.usage.Use.{Use}
-use Rattle.sdd_invariants.specs.history.declared.record.Rec.{Rec}
-use Rattle.sdd_invariants.specs.history.declared.record.Rec.TheVariants.{Answer, Reject as Rejected}
-use Rattle.sdd_invariants.specs.wire.Piped.{goes_through}
-use Rattle.sdd_invariants.specs.wire.declared.msg.Msg.{Msg}
-use Rattle.sdd_invariants.specs.wire.declared.msg.Msg.TheVariants.{Read, Ready, Reject}
-use Rattle.sdd_invariants.specs.site_module.SiteLog.{Act, Did, Each, Handed, Records, Redeclared, Sends, Setting, Submits, Ticked, sends_of_act}
-use Rattle.sdd_invariants.specs.attempt.Fits.{is_verdict}
-use Rattle.sdd_invariants.specs.pipe.Pipe.{Pipe, head, head_processed, one_or_none}
-use Rattle.sdd_invariants.specs.dm.Pipes.{is_processing, pipe, pipe_acted}
-use Rattle.sdd_invariants.specs.dm.Views.{home_of, source_of}
-use Rattle.sdd_invariants.specs.logs.Entries.{Given, Log}
-use Rattle.sdd_invariants.specs.logs.Locals.{local_of, setting_of}
-use Rattle.sdd_invariants.specs.logs.Permitted.{IsPermitted}
+use Rattle.sdd_invariants.specs.All.{Act, AllGt, Answer, ClassNo, Cond, D, Did, DmNo, Each, Given, Handed, IsDueEach, IsPermitted, IsPutByD, IsStrict, Log, Msg, Pipe, Read, Ready, Rec, Records, Redeclared, Reject, Sends, Setting, Site, Submits, Ticked, Ts, TxnNo, Use, all_of, goes_through, head, head_of, head_processed, home, home_of, is_processing, is_verdict, local_of, number_of, one_if, one_or_none, pipe, pipe_acted, pipe_at, puts_to, read_at, reads_in, same_site, sends_of_act, setting_of, source_of, tally, to_site}
+use Rattle.sdd_invariants.specs.history.declared.record.Rec.TheVariants.{Reject as Rejected}
 use Rattle.sdd_invariants.proofs.logs.EachLocal.{each_local}
 use Rattle.sdd_invariants.proofs.Dones.{tally_at}
 use Rattle.sdd_invariants.proofs.Turns.{tally_append}
-use Rattle.sdd_invariants.specs.Turns.{one_if, tally}
-use Rattle.sdd_invariants.specs.OnLinks.{read_at, reads_in}
 use Rattle.sdd_invariants.proofs.Processed.{own_record, processed_handed, processed_more}
 use Rattle.sdd_invariants.proofs.PutBy.{put_by_d}
-use Rattle.sdd_invariants.specs.PutsBy.{IsPutByD}
 use Rattle.sdd_invariants.proofs.Installed.{class_number, head_put}
 use Rattle.sdd_invariants.proofs.Applied.{key_rises, reads_strict}
 use Rattle.sdd_invariants.proofs.InPipe.{in_pipe}
-use Rattle.sdd_invariants.specs.Seen.{all_of, pipe_at}
 use Rattle.sdd_invariants.proofs.Bools.{and_left, and_right, if_way, same_number}
 use Rattle.sdd_invariants.proofs.Lists.{at_seam, in_left, place_within}
-use Rattle.sdd_invariants.specs.Orders.{AllGt, IsStrict}
-use Rattle.sdd_invariants.specs.ReadSteps.{IsDueEach}
-use Rattle.sdd_invariants.specs.Steps.{home}
-use Rattle.sdd_invariants.specs.Traffic.{puts_to, to_site}
 use Rattle.sdd_invariants.proofs.Fair.{d_fair}
 use Rattle.sdd_invariants.specs.site_module.SiteLog as site
 

@@ -2,24 +2,8 @@
 use Rattle.std.proofs.Common.{ℕ, ◌≡◌, List, Option, Some, None, ap, sym, ◌∙◌}
 use Rattle.std.specs.Prelude.{IfSome, get_or}
 use Rattle.std.specs.List.{All}
-use Rattle.sdd_invariants.specs.base.declared.change.Change.{Change}
-use Rattle.sdd_invariants.specs.base.declared.number.ClassNo.{ClassNo}
-use Rattle.sdd_invariants.specs.base.declared.number.DmNo.{DmNo}
-use Rattle.sdd_invariants.specs.base.declared.number.Ts.{Ts}
-use Rattle.sdd_invariants.specs.base.declared.number.TxnNo.{TxnNo}
-use Rattle.sdd_invariants.specs.base.declared.site.Site.{Site}
-use Rattle.sdd_invariants.specs.base.declared.site.Site.TheVariants.{D}
-use Rattle.sdd_invariants.specs.catalog.Catalogue.{Catalogue, fragment_at}
-use Rattle.sdd_invariants.specs.catalog.Rules.{IsSound}
-use Rattle.sdd_invariants.specs.lang.Changes.{HasRow, IsChange}
-use Rattle.sdd_invariants.specs.lang.Database.{Row, key_in}
+use Rattle.sdd_invariants.specs.All.{Catalogue, Change, ClassNo, D, DmNo, FitsChange, Given, HasRow, IsChange, IsPermitted, IsSound, Log, Row, Site, Ts, TxnNo, Write, fragment_at, key_in, message_at, setting_of}
 use Rattle.sdd_invariants.proofs.lang.EffectChanges.{entry_placed}
-use Rattle.sdd_invariants.specs.wire.declared.msg.Msg.TheVariants.{Write}
-use Rattle.sdd_invariants.specs.dm.Fits.{FitsChange}
-use Rattle.sdd_invariants.specs.logs.Entries.{Given, Log}
-use Rattle.sdd_invariants.specs.logs.Locals.{setting_of}
-use Rattle.sdd_invariants.specs.logs.Permitted.{IsPermitted}
-use Rattle.sdd_invariants.specs.logs.Traffic.{message_at}
 use Rattle.sdd_obligations.specs.Fitting.{AreWritten, FitsGiven, IsItemChange}
 use Rattle.sdd_obligations.proofs.Put.{acts_fit, message_fits}
 

@@ -1,8 +1,6 @@
 -- What is so after events of a schedule: how many lists of classes they put in force, and which modules are down.
 use Rattle.std.specs.Prelude.{ℕ, suc, Bool, List, [], ◌∷◌, false}
-use Rattle.sdd_invariants.specs.base.declared.event.Event.{Event}
-use Rattle.sdd_invariants.specs.base.declared.event.Event.TheVariants.{Redeclare}
-use Rattle.sdd_invariants.specs.logs.Traffic.{turned_by}
+use Rattle.sdd_invariants.specs.All.{Event, Redeclare, turned_by}
 
 -- how many further lists of classes the events put in force
 abbrev pub redeclares_in : List Event → ℕ

@@ -1,18 +1,8 @@
 -- What the messages of an exchange meet when they are handed over.
 use Rattle.std.specs.List.{All, list_any}
 use Rattle.std.specs.Prelude.{ℕ, ◌≡◌, List, None, Option, Some, false, map, not}
-use Rattle.sdd_invariants.specs.base.Sites.{number_of}
-use Rattle.sdd_invariants.specs.base.Words.{contains}
-use Rattle.sdd_invariants.specs.base.declared.condition.Cond.{Cond}
-use Rattle.sdd_invariants.specs.base.declared.site.Site.{Site}
-use Rattle.sdd_invariants.specs.base.declared.usage.Use.{Use}
-use Rattle.sdd_invariants.specs.lang.Database.{Row}
-use Rattle.sdd_invariants.specs.wire.declared.msg.Msg.{Msg}
-use Rattle.sdd_invariants.specs.wire.declared.msg.Msg.TheVariants.{Fetch, Read, Ready, Reduce, Reduced, Reject, Rows, Ship, Values}
-use Rattle.sdd_invariants.specs.site_module.SiteLog.{Log, Setting}
-use Rattle.sdd_invariants.specs.attempt.Attempts.{Attempt, active}
-use Rattle.sdd_invariants.specs.attempt.Fits.{AnswersRead, Awaits, AwaitsAt, FitsReady, fetches_use, is_shipping, reduces_use, uses_at}
-use Rattle.sdd_invariants.specs.dm.Fits.{Ascend, FitsShip, FitsStep, IsClass, IsHere}
+use Rattle.sdd_invariants.specs.All.{AnswersRead, Ascend, Attempt, Awaits, AwaitsAt, Cond, Fetch, FitsReady, FitsShip, FitsStep, IsClass, IsHere, Msg, Read, Ready, Reduce, Reduced, Reject, Row, Rows, Setting, Ship, Site, Use, Values, active, contains, fetches_use, is_shipping, number_of, reduces_use, uses_at}
+use Rattle.sdd_invariants.specs.site_module.SiteLog.{Log}
 
 -- ROWS are awaited, and are of uses that are read at their module alone
 pub record AwaitsRowsOf (a : Attempt) (from : Site) (ts : ℕ) (rows : List (ℕ × Row)) : Type 0 where

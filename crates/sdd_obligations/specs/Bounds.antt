@@ -1,13 +1,7 @@
 -- How high a log can be.
 use Rattle.std.specs.Prelude.{ℕ, ◌*◌, ◌+◌, ◌∷◌, ◌==◌, ◌≤◌, if◌then◌else◌, length, List, [], suc}
-use Rattle.sdd_invariants.specs.base.declared.event.Event.{Event}
-use Rattle.sdd_invariants.specs.base.declared.limits.TheConstants.{MAX_CLASSES, MAX_DMS, MAX_LINK_MESSAGES, MAX_RUN_EVENTS, MAX_TICKS, MAX_TMS}
-use Rattle.sdd_invariants.specs.base.declared.site.Site.{Site}
-use Rattle.sdd_invariants.specs.base.declared.site.Site.TheVariants.{D, T, U}
-use Rattle.sdd_invariants.specs.history.declared.record.Rec.TheVariants.{Start}
-use Rattle.sdd_invariants.specs.site_module.SiteLog.{Act, Did, Log, Records}
-use Rattle.sdd_invariants.specs.logs.Entries.{Given}
-use Rattle.sdd_invariants.specs.logs.Permitted.{AreSubmittedOnce}
+use Rattle.sdd_invariants.specs.All.{Act, AreSubmittedOnce, D, Did, Event, Given, MAX_CLASSES, MAX_DMS, MAX_LINK_MESSAGES, MAX_RUN_EVENTS, MAX_TICKS, MAX_TMS, Records, Site, Start, T, U}
+use Rattle.sdd_invariants.specs.site_module.SiteLog.{Log}
 use Rattle.sdd_obligations.specs.Heights.{ticks_of}
 
 -- the Starts of a class at a site

@@ -1,14 +1,9 @@
 -- What the questions of an exchange and the answers to them contain.
 use Rattle.std.specs.Prelude.{ℕ, ◌==◌, ◌≡◌, Bool, true, false, if◌then◌else◌, List, [], ◌∷◌, Option, Some, None}
 use Rattle.std.specs.List.{AllByRecursion}
-use Rattle.sdd_invariants.specs.base.Numbers.{class_no, time_at}
-use Rattle.sdd_invariants.specs.base.declared.value.Value.{Value}
-use Rattle.sdd_invariants.specs.wire.declared.msg.Msg.{Msg}
-use Rattle.sdd_invariants.specs.wire.declared.msg.Msg.TheVariants.{Fetch, Reduce, Rows, Ship, Values}
-use Rattle.sdd_invariants.specs.site_module.SiteLog.{Log, Setting}
-use Rattle.sdd_invariants.specs.attempt.Exchange.{Exchange, Fetching, Over, Phase, Reading, Reducing, Shipping}
-use Rattle.sdd_laws.specs.copy.Frozen.{Frozen, all_rows, rows_of, values_in}
-use Rattle.sdd_invariants.specs.dm.Copies.{frozen}
+use Rattle.sdd_invariants.specs.All.{Exchange, Fetch, Fetching, Msg, Over, Phase, Reading, Reduce, Reducing, Rows, Setting, Ship, Shipping, Value, Values, class_no, frozen, time_at}
+use Rattle.sdd_invariants.specs.site_module.SiteLog.{Log}
+use Rattle.sdd_laws.specs.All.{Frozen, all_rows, rows_of, values_in}
 use Rattle.sdd_obligations.specs.Turns.{Asks, Turn, is_a_read}
 
 -- the question of a phase, where these values came

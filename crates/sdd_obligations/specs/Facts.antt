@@ -1,18 +1,6 @@
 -- What the modules of a system ask, and that links exist: of what is next on each lawful log.
 use Rattle.std.specs.Prelude.{ℕ, suc, ◌∷◌, ◌≡◌, Some}
-use Rattle.sdd_invariants.specs.base.Numbers.{tm_no}
-use Rattle.sdd_invariants.specs.base.declared.event.Event.TheVariants.{Tick}
-use Rattle.sdd_invariants.specs.base.declared.site.Site.{Site}
-use Rattle.sdd_invariants.specs.base.declared.site.Site.TheVariants.{T}
-use Rattle.sdd_invariants.specs.lang.declared.transaction.Txn.{Txn}
-use Rattle.sdd_invariants.specs.wire.declared.msg.Msg.{Msg}
-use Rattle.sdd_invariants.specs.site_module.SiteLog.{Act, sends_of_act}
-use Rattle.sdd_invariants.specs.logs.Due.{next}
-use Rattle.sdd_invariants.specs.logs.Entries.{Does, Given, Hand, Log, Mark, Redeclares, Submitted}
-use Rattle.sdd_invariants.specs.logs.Lawful.{IsLawful, IsWithin}
-use Rattle.sdd_invariants.specs.logs.Locals.{force_at, local_of, redeclares, setting_of, txn_at}
-use Rattle.sdd_invariants.specs.logs.Snapshots.{base_of}
-use Rattle.sdd_invariants.specs.logs.Resting.{AllLinked, IsSiteOf}
+use Rattle.sdd_invariants.specs.All.{Act, AllLinked, Does, Given, Hand, IsLawful, IsSiteOf, IsWithin, Log, Mark, Msg, Redeclares, Site, Submitted, T, Tick, Txn, base_of, force_at, local_of, next, redeclares, sends_of_act, setting_of, tm_no, txn_at}
 use Rattle.sdd_obligations.specs.Real.{FitsForce, IsGood, fits, fits_submit, fits_tick}
 
 -- Of all that is given so: what the modules ask of messages, transactions, ticks and further lists of classes holds of what is next on its lawful

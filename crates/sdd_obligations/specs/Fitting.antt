@@ -2,18 +2,7 @@
 use Rattle.std.specs.Prelude.{ℕ, ◌≡◌, true, List, map, Some}
 use Rattle.std.specs.List.{All, IsDistinct}
 use Rattle.std.specs.Ordering.{is_eq}
-use Rattle.sdd_invariants.specs.base.declared.change.Change.{Change}
-use Rattle.sdd_invariants.specs.base.declared.number.DmNo.{DmNo}
-use Rattle.sdd_invariants.specs.base.declared.site.Site.TheVariants.{D}
-use Rattle.sdd_invariants.specs.catalog.Catalogue.{Catalogue, has_copy}
-use Rattle.sdd_invariants.specs.catalog.Rules.{IsSound}
-use Rattle.sdd_invariants.specs.lang.Changes.{IsChange}
-use Rattle.sdd_invariants.specs.lang.Database.{database_of, item_cmp}
-use Rattle.sdd_invariants.specs.lang.Fits.{Fits}
-use Rattle.sdd_invariants.specs.lang.Sound.{IsDatabase, PutsHeld}
-use Rattle.sdd_invariants.specs.lang.declared.transaction.Txn.{Txn}
-use Rattle.sdd_invariants.specs.logs.Entries.{Given}
-use Rattle.sdd_invariants.specs.logs.Locals.{rows_of, txn_at}
+use Rattle.sdd_invariants.specs.All.{Catalogue, Change, D, DmNo, Fits, Given, IsChange, IsDatabase, IsSound, PutsHeld, Txn, database_of, has_copy, item_cmp, rows_of, txn_at}
 
 -- a transaction that fits the catalogue and puts numbers of 64 bits
 pub record FitsText (cat : Catalogue) (txn : Txn) : Type 0 where

@@ -1,10 +1,6 @@
 -- What is needed of what is given: a workload that was read has it.
 use Rattle.std.specs.Prelude.{ℕ, ◌≡◌, Some}
-use Rattle.sdd_invariants.specs.catalog.Numbers.{IsWhole}
-use Rattle.sdd_invariants.specs.lang.Fits.{Fits}
-use Rattle.sdd_invariants.specs.lang.declared.transaction.Txn.{Txn}
-use Rattle.sdd_invariants.specs.logs.Entries.{Given}
-use Rattle.sdd_invariants.specs.logs.Locals.{txn_at}
+use Rattle.sdd_invariants.specs.All.{Fits, Given, IsWhole, Txn, txn_at}
 use Rattle.sdd_obligations.specs.Bounds.{IsSmall}
 
 -- sites, classes and ticks are within their limits and each transaction is submitted once; all that the catalogue names

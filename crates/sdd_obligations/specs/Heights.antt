@@ -1,18 +1,7 @@
 -- A height of the log: no clock stands above it, and no time that a message tells is above it. Ticks and Starts alone
 -- raise it, for what pushes a clock is a time that lies below it already.
 use Rattle.std.specs.Prelude.{ℕ, ◌*◌, ◌+◌, ◌∷◌, ◌≤◌, List, [], map}
-use Rattle.sdd_invariants.specs.base.declared.event.Event.{Event}
-use Rattle.sdd_invariants.specs.base.declared.event.Event.TheVariants.{Tick}
-use Rattle.sdd_invariants.specs.base.declared.site.Site.{Site}
-use Rattle.sdd_invariants.specs.history.declared.record.Rec.TheVariants.{Start}
-use Rattle.sdd_invariants.specs.wire.declared.msg.Msg.{Msg}
-use Rattle.sdd_invariants.specs.wire.declared.msg.Msg.TheVariants.{Ask, Held, Null, Read, Reject, Release, Write}
-use Rattle.sdd_invariants.specs.site_module.SiteLog.{Act, Handed, Records}
-use Rattle.sdd_invariants.specs.attempt.Clocks.{clock}
-use Rattle.sdd_invariants.specs.logs.Entries.{Does, Given, Log, Mark}
-use Rattle.sdd_invariants.specs.logs.Locals.{local_of}
-use Rattle.sdd_invariants.specs.Orders.{AllLe}
-use Rattle.sdd_invariants.specs.Traffic.{puts_to}
+use Rattle.sdd_invariants.specs.All.{Act, AllLe, Ask, Does, Event, Given, Handed, Held, Log, Mark, Msg, Null, Read, Records, Reject, Release, Site, Start, Tick, Write, clock, local_of, puts_to}
 use Rattle.sdd_invariants.specs.site_module.SiteLog as site
 
 -- the times that a message tells: its own, those of a READ's conditions, and that of the write which rejects one

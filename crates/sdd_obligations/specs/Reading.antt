@@ -1,19 +1,9 @@
 -- What the copies of data modules hold when they answer an attempt's READs.
 use Rattle.std.specs.Prelude.{ℕ, [], ◌∷◌, if◌then◌else◌}
-use Rattle.sdd_invariants.specs.base.Numbers.{dm_no}
-use Rattle.sdd_invariants.specs.base.declared.site.Site.TheVariants.{D}
-use Rattle.sdd_invariants.specs.history.declared.record.Rec.TheVariants.{Answer}
-use Rattle.sdd_laws.specs.class_eras.EraOf.{IsEraOf}
-use Rattle.sdd_invariants.specs.site_module.SiteLog.{Did, Log, Records}
-use Rattle.sdd_laws.specs.copy.Contents.{contents}
-use Rattle.sdd_invariants.specs.pipe.Pipe.{head}
-use Rattle.sdd_laws.specs.copy.Frozen.{CopyRows}
-use Rattle.sdd_invariants.specs.dm.Copies.{dated}
-use Rattle.sdd_invariants.specs.dm.Pipes.{pipe}
-use Rattle.sdd_invariants.specs.logs.Entries.{Given}
+use Rattle.sdd_invariants.specs.All.{Answer, D, Did, Given, Records, dated, dm_no, force_at, head, is_at, local_of, pipe, setting_of}
+use Rattle.sdd_laws.specs.All.{CopyRows, IsEraOf, contents}
+use Rattle.sdd_invariants.specs.site_module.SiteLog.{Log}
 use Rattle.sdd_invariants.specs.logs.Entries as whole
-use Rattle.sdd_invariants.specs.logs.Locals.{force_at, local_of, setting_of}
-use Rattle.sdd_invariants.specs.logs.Snapshots.{is_at}
 
 -- each list of classes is one of the catalogue: its classes have the sets that they have there, or none
 abbrev pub HasEras : Given → Type 0

@@ -1,23 +1,10 @@
 -- What the modules of the system ask, by the kind of their site, and all that is needed of what is given.
 use Rattle.std.specs.Prelude.{ℕ, ◌/◌, ◌<◌, ◌^◌, List, None, Option, Some}
-use Rattle.sdd_invariants.specs.base.Sites.{number_of}
-use Rattle.sdd_invariants.specs.base.declared.site.Site.{Site}
-use Rattle.sdd_invariants.specs.base.declared.site.Site.TheVariants.{U, T, D}
-use Rattle.sdd_invariants.specs.catalog.Catalogue.{Catalogue}
-use Rattle.sdd_invariants.specs.lang.Database.{Row}
-use Rattle.sdd_invariants.specs.lang.declared.transaction.Txn.{Txn}
-use Rattle.sdd_invariants.specs.wire.declared.msg.Msg.{Msg}
-use Rattle.sdd_invariants.specs.wire.declared.msg.Msg.TheVariants.{Rows}
-use Rattle.sdd_laws.specs.class_eras.EraOf.{IsEraOf}
-use Rattle.sdd_invariants.specs.site_module.SiteLog.{Bases, Force, Setting}
-use Rattle.sdd_invariants.specs.attempt.Attempts.{Attempt, active}
-use Rattle.sdd_invariants.specs.attempt.Exchange.{without}
-use Rattle.sdd_invariants.specs.attempt.Fits.{FitsSite, ServesIfLast}
+use Rattle.sdd_invariants.specs.All.{AreSubmittedOnce, Attempt, Bases, Catalogue, D, FitsSite, Force, Given, Msg, Row, Rows, ServesIfLast, Setting, Site, T, Txn, U, active, number_of, without}
+use Rattle.sdd_laws.specs.All.{IsEraOf}
 use Rattle.sdd_invariants.specs.dm.Fits as dm
 use Rattle.sdd_invariants.specs.tm.Fits as tm
 use Rattle.sdd_invariants.specs.umod.Fits as um
-use Rattle.sdd_invariants.specs.logs.Entries.{Given}
-use Rattle.sdd_invariants.specs.logs.Permitted.{AreSubmittedOnce}
 use Rattle.sdd_obligations.specs.Bounds.{AllFewTicks}
 use Rattle.sdd_obligations.specs.Fitting.{FitsGiven}
 use Rattle.sdd_obligations.specs.Reading.{HasEras}

@@ -1,11 +1,7 @@
 -- From which kind of site to which a message goes.
 use Rattle.std.specs.Prelude.{◌≡◌}
-use Rattle.sdd_invariants.specs.base.declared.site.Site.{Site}
-use Rattle.sdd_invariants.specs.base.declared.site.Site.TheVariants.{D, T, U}
-use Rattle.sdd_invariants.specs.wire.declared.msg.Msg.{Msg}
-use Rattle.sdd_invariants.specs.wire.declared.msg.Msg.TheVariants.{Ask, Done, Fetch, Held, Hold, Null, Read, Ready, Reduce, Reduced, Reject, Release, Rows, Ship, Values, Write}
+use Rattle.sdd_invariants.specs.All.{Ask, D, Done, Fetch, Held, Hold, Msg, Null, Read, Ready, Reduce, Reduced, Reject, Release, Rows, Ship, Site, T, U, Values, WasAsked, Write}
 use Rattle.sdd_invariants.specs.site_module.SiteLog.{Log}
-use Rattle.sdd_invariants.specs.PutsBy.{WasAsked}
 
 -- a data module, a transaction module, and a site that runs transactions
 

@@ -1,12 +1,7 @@
 -- An exchange in lockstep: both sides have the same turn, but for one question or one answer that is under way.
 use Rattle.std.specs.Prelude.{◌∷◌, ◌≡◌, List, [], drop}
-use Rattle.sdd_invariants.specs.base.declared.site.Site.{Site}
-use Rattle.sdd_invariants.specs.wire.declared.msg.Msg.{Msg}
-use Rattle.sdd_invariants.specs.logs.Entries.{Given, Log}
-use Rattle.sdd_invariants.specs.logs.Locals.{local_of}
-use Rattle.sdd_invariants.specs.logs.Traffic.{handed}
+use Rattle.sdd_invariants.specs.All.{Given, Log, Msg, Site, handed, local_of, puts_to}
 use Rattle.sdd_obligations.specs.Turns.{MayAnswer, MayAsk, Turn, asked, told}
-use Rattle.sdd_invariants.specs.Traffic.{puts_to}
 
 -- the messages of the link from a to b that are put and not handed over
 abbrev pub flight : Given → Site → Site → Log → List Msg

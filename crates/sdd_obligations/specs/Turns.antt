@@ -3,16 +3,8 @@
 -- by its timestamp and its class.
 use Rattle.std.specs.List.{list_any}
 use Rattle.std.specs.Prelude.{ℕ, ◌&&◌, ◌==◌, ◌∷◌, ◌≡◌, Bool, List, None, Option, Some, [], false, filter, if◌then◌else◌, map, not, true}
-use Rattle.sdd_invariants.specs.base.Numbers.{dm_no}
-use Rattle.sdd_invariants.specs.base.Words.{contains}
-use Rattle.sdd_invariants.specs.base.declared.site.Site.{Site}
-use Rattle.sdd_invariants.specs.base.declared.site.Site.TheVariants.{D}
-use Rattle.sdd_invariants.specs.wire.declared.msg.Msg.{Msg}
-use Rattle.sdd_invariants.specs.wire.declared.msg.Msg.TheVariants.{Fetch, Read, Ready, Reduce, Reduced, Reject, Rows, Ship, Values}
+use Rattle.sdd_invariants.specs.All.{D, Fetch, Msg, Read, Ready, Reduce, Reduced, Reject, Rows, Ship, Site, Values, asks_rows, contains, dm_no, handed_by, is_read, put_by}
 use Rattle.sdd_invariants.specs.site_module.SiteLog.{Log}
-use Rattle.sdd_invariants.specs.attempt.Attempts.{asks_rows}
-use Rattle.sdd_invariants.specs.attempt.Fits.{is_read}
-use Rattle.sdd_invariants.specs.Made.{handed_by, put_by}
 
 -- a question and an answer of the attempt of class c with timestamp ts
 

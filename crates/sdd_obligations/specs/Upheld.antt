@@ -4,14 +4,7 @@
 use Rattle.std.specs.List.{All, IsDistinct}
 use Rattle.std.specs.Ordering.{is_eq}
 use Rattle.std.specs.Prelude.{◌≡◌, map}
-use Rattle.sdd_invariants.specs.base.declared.site.Site.{Site}
-use Rattle.sdd_invariants.specs.lang.Database.{item_cmp}
-use Rattle.sdd_invariants.specs.wire.declared.msg.Msg.{Msg}
-use Rattle.sdd_invariants.specs.wire.declared.msg.Msg.TheVariants.{Fetch, Read, Ready, Reduce, Reduced, Rows, Ship, Values, Write}
-use Rattle.sdd_invariants.specs.site_module.SiteLog.{Bases, Setting}
-use Rattle.sdd_invariants.specs.attempt.Attempts.{active}
-use Rattle.sdd_invariants.specs.attempt.Fits.{AwaitsAt, FitsRows, fetches_use, reduces_use, uses_asked}
-use Rattle.sdd_invariants.specs.dm.Fits.{Ascend, FitsChange, FitsShip, FitsStep, IsHere}
+use Rattle.sdd_invariants.specs.All.{Ascend, AwaitsAt, Bases, Fetch, FitsChange, FitsRows, FitsShip, FitsStep, IsHere, Msg, Read, Ready, Reduce, Reduced, Rows, Setting, Ship, Site, Values, Write, active, fetches_use, item_cmp, reduces_use, uses_asked}
 use Rattle.sdd_invariants.specs.site_module.SiteLog as site
 
 -- at a data module

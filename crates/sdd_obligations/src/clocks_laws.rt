@@ -1,18 +1,7 @@
 ghost use Rattle.std.specs.Prelude.{◌≡◌, ◌≤◌, ◌<◌, ◌*◌, ◌+◌, ◌^◌, ℕ, length, slice_get, suc, Some};
-ghost use Rattle.sdd_invariants.specs.base.declared.limits.TheConstants.{MAX_EVENTS};
-ghost use Rattle.sdd_invariants.specs.base.declared.site.Site.{Site};
-ghost use Rattle.sdd_invariants.specs.wire.declared.msg.Msg.{Msg};
-ghost use Rattle.sdd_laws.specs.serial_orders.Attempts.{attempts};
-ghost use Rattle.sdd_invariants.specs.site_module.SiteLog.{Each, Setting, hands, submits};
+ghost use Rattle.sdd_invariants.specs.All.{AllLt, Each, Given, IsFair, IsLawful, IsNew, IsWithin, Log, MAX_EVENTS, Msg, Setting, Site, clock, hands, history, local_of, puts_to, starts, submits};
+ghost use Rattle.sdd_laws.specs.All.{attempts};
 ghost use Rattle.sdd_invariants.specs.site_module.SiteLog as site;
-ghost use Rattle.sdd_invariants.specs.attempt.Clocks.{clock};
-ghost use Rattle.sdd_invariants.specs.logs.Entries.{Given, Log, history};
-ghost use Rattle.sdd_invariants.specs.logs.Lawful.{IsLawful, IsWithin};
-ghost use Rattle.sdd_invariants.specs.logs.Locals.{local_of};
-ghost use Rattle.sdd_invariants.specs.AtU.{starts};
-ghost use Rattle.sdd_invariants.specs.Orders.{AllLt};
-ghost use Rattle.sdd_invariants.specs.Steps.{IsFair, IsNew};
-ghost use Rattle.sdd_invariants.specs.Traffic.{puts_to};
 ghost use Rattle.sdd_obligations.specs.Bounds.{IsNumbered, IsSmall, class_starts, greatest_height};
 ghost use Rattle.sdd_obligations.specs.Heights.{IsUnder, height, times_of};
 

@@ -1,14 +1,6 @@
 ghost use Rattle.std.specs.Prelude.{◌≤◌, ◌∷◌, ℕ};
-ghost use Rattle.sdd_invariants.specs.base.Sites.{number_of};
-ghost use Rattle.sdd_invariants.specs.base.declared.number.DmNo.{DmNo};
-ghost use Rattle.sdd_invariants.specs.base.declared.site.Site.{Site};
-ghost use Rattle.sdd_invariants.specs.base.declared.site.Site.TheVariants.{D};
+ghost use Rattle.sdd_invariants.specs.All.{D, DmNo, Given, Hand, IsPermitted, Log, Msg, Site, home, local_of, number_of, setting_of};
 ghost use Rattle.sdd_invariants.specs.catalog.Rules as catalogues;
-ghost use Rattle.sdd_invariants.specs.wire.declared.msg.Msg.{Msg};
-ghost use Rattle.sdd_invariants.specs.logs.Entries.{Given, Log, Hand};
-ghost use Rattle.sdd_invariants.specs.logs.Locals.{local_of, setting_of};
-ghost use Rattle.sdd_invariants.specs.logs.Permitted.{IsPermitted};
-ghost use Rattle.sdd_invariants.specs.Steps.{home};
 ghost use Rattle.sdd_obligations.specs.Awaited.{IsAwaited, IsReadable, IsServable};
 ghost use Rattle.sdd_obligations.specs.Stages.{IsStage, flight};
 ghost use Rattle.sdd_obligations.specs.Turns.{answers, questions, turn_at, turn_with};

@@ -1,22 +1,7 @@
 ghost use Rattle.std.specs.Prelude.{◌≡◌, ℕ, List, map, Some};
 ghost use Rattle.std.specs.List.{All, IsDistinct};
 ghost use Rattle.std.specs.Ordering.{is_eq};
-ghost use Rattle.sdd_invariants.specs.base.declared.change.Change.{Change};
-ghost use Rattle.sdd_invariants.specs.base.declared.number.ClassNo.{ClassNo};
-ghost use Rattle.sdd_invariants.specs.base.declared.number.DmNo.{DmNo};
-ghost use Rattle.sdd_invariants.specs.base.declared.number.Ts.{Ts};
-ghost use Rattle.sdd_invariants.specs.base.declared.number.TxnNo.{TxnNo};
-ghost use Rattle.sdd_invariants.specs.base.declared.site.Site.{Site};
-ghost use Rattle.sdd_invariants.specs.base.declared.site.Site.TheVariants.{D};
-ghost use Rattle.sdd_invariants.specs.lang.Database.{item_cmp};
-ghost use Rattle.sdd_invariants.specs.lang.Sound.{IsDatabase};
-ghost use Rattle.sdd_invariants.specs.wire.declared.msg.Msg.TheVariants.{Write};
-ghost use Rattle.sdd_invariants.specs.dm.Fits.{FitsChange};
-ghost use Rattle.sdd_invariants.specs.logs.Entries.{Given, Log};
-ghost use Rattle.sdd_invariants.specs.logs.Locals.{setting_of};
-ghost use Rattle.sdd_invariants.specs.logs.Permitted.{IsPermitted};
-ghost use Rattle.sdd_invariants.specs.logs.Snapshots.{base_of};
-ghost use Rattle.sdd_invariants.specs.logs.Traffic.{message_at};
+ghost use Rattle.sdd_invariants.specs.All.{Change, ClassNo, D, DmNo, FitsChange, Given, IsDatabase, IsPermitted, Log, Site, Ts, TxnNo, Write, base_of, item_cmp, message_at, setting_of};
 ghost use Rattle.sdd_obligations.specs.Fitting.{FitsGiven};
 
 /// Each database of snapshots is a database of the catalogue.

@@ -1,18 +1,5 @@
 ghost use Rattle.std.specs.Prelude.{◌≡◌, ◌∷◌, ℕ, List, Some};
-ghost use Rattle.sdd_invariants.specs.base.declared.number.ClassNo.{ClassNo};
-ghost use Rattle.sdd_invariants.specs.base.declared.number.DmNo.{DmNo};
-ghost use Rattle.sdd_invariants.specs.base.declared.number.Ts.{Ts};
-ghost use Rattle.sdd_invariants.specs.base.declared.site.Site.TheVariants.{D};
-ghost use Rattle.sdd_invariants.specs.lang.Database.{Row};
-ghost use Rattle.sdd_invariants.specs.wire.declared.msg.Msg.TheVariants.{Rows};
-ghost use Rattle.sdd_invariants.specs.attempt.Attempts.{Attempt, active};
-ghost use Rattle.sdd_invariants.specs.attempt.Exchange.{without};
-ghost use Rattle.sdd_invariants.specs.attempt.Fits.{ServesIfLast};
-ghost use Rattle.sdd_invariants.specs.logs.Entries.{Given, Log, Hand};
-ghost use Rattle.sdd_invariants.specs.logs.Locals.{local_of, setting_of};
-ghost use Rattle.sdd_invariants.specs.logs.Permitted.{IsPermitted};
-ghost use Rattle.sdd_invariants.specs.logs.Snapshots.{base_of};
-ghost use Rattle.sdd_invariants.specs.Steps.{home};
+ghost use Rattle.sdd_invariants.specs.All.{Attempt, ClassNo, D, DmNo, Given, Hand, IsPermitted, Log, Row, Rows, ServesIfLast, Ts, active, base_of, home, local_of, setting_of, without};
 ghost use Rattle.sdd_obligations.specs.Fitting.{FitsGiven};
 ghost use Rattle.sdd_obligations.specs.Reading.{HasEras};
 

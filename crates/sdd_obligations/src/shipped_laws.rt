@@ -1,12 +1,6 @@
 ghost use Rattle.std.specs.Prelude.{◌≡◌, ℕ, true, Some};
-ghost use Rattle.sdd_invariants.specs.attempt.Attempts.{Attempt, active};
-ghost use Rattle.sdd_invariants.specs.attempt.Exchange.{is_over};
-ghost use Rattle.sdd_invariants.specs.logs.Entries.{Given, Log};
-ghost use Rattle.sdd_invariants.specs.logs.Locals.{local_of, setting_of};
-ghost use Rattle.sdd_invariants.specs.logs.Permitted.{IsPermitted};
-ghost use Rattle.sdd_invariants.specs.logs.Snapshots.{base_of};
+ghost use Rattle.sdd_invariants.specs.All.{Attempt, Given, IsPermitted, Log, active, base_of, home, is_over, local_of, modules_asked, setting_of};
 ghost use Rattle.sdd_serving.specs.Freezing.{HasCopies};
-ghost use Rattle.sdd_invariants.specs.Steps.{home, modules_asked};
 ghost use Rattle.sdd_obligations.specs.Fitting.{FitsGiven};
 ghost use Rattle.sdd_obligations.specs.Reading.{HasEras, copies_read};
 

@@ -6,13 +6,9 @@ use Rattle.std.proofs.lemmas.Bool.{cases_Bool, eqb-true, ltb-true}
 use Rattle.std.proofs.lemmas.List.Elements.{All-head, All-tail, All-contains, Contains-append_cases, Contains-get_or}
 use Rattle.std.proofs.lemmas.Option.{same_Some}
 use Rattle.sdd_lang.proofs.base.Membership.{Contains-nil, Contains-cases}
-use Rattle.sdd_lang.specs.base.declared.change.Change.{Change}
-use Rattle.sdd_lang.specs.base.declared.number.FragNo.{FragNo}
-use Rattle.sdd_lang.specs.base.declared.usage.Use.{Use}
-use Rattle.sdd_lang.specs.catalog.Catalogue.{Catalogue}
+use Rattle.sdd_lang.specs.All.{Catalogue, Change, FragNo, Use, fragments_in}
 use Rattle.sdd_history.specs.declared.record.Rec.{Rec}
 use Rattle.sdd_history.specs.Records.{History}
-use Rattle.sdd_lang.specs.Classes.{fragments_in}
 use Rattle.sdd_order.specs.Attempts.{Committed, IsCommitted, changes}
 use Rattle.sdd_order.specs.declared.seen.Marks.{Marks}
 use Rattle.sdd_order.specs.Finding.{AreMarks}

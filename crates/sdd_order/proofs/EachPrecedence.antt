@@ -6,9 +6,8 @@ use Rattle.std.proofs.lemmas.Bool.{cases_Bool, cases_eq, and_parts, eqb-true, lt
 use Rattle.std.proofs.lemmas.List.Elements.{Contains-append_left, Contains-append_right, Contains-get_or}
 use Rattle.std.proofs.lemmas.Option.{same_Some}
 use Rattle.sdd_lang.proofs.base.Membership.{Contains-here}
-use Rattle.sdd_lang.specs.catalog.Catalogue.{Catalogue}
+use Rattle.sdd_lang.specs.All.{Catalogue, fragments_in}
 use Rattle.sdd_history.specs.Records.{History}
-use Rattle.sdd_lang.specs.Classes.{fragments_in}
 use Rattle.sdd_order.specs.Attempts.{Committed, IsCommitted, changes}
 use Rattle.sdd_order.specs.declared.seen.Marks.{Marks}
 use Rattle.sdd_order.specs.Finding.{AreMarks}

@@ -7,9 +7,8 @@ use Rattle.std.proofs.lemmas.Bool.{cases_Bool, and_parts, and_from, eqb-true, ne
 use Rattle.std.proofs.lemmas.List.Elements.{Contains-append_cases, Contains-get_or}
 use Rattle.std.proofs.lemmas.Option.{same_Some}
 use Rattle.sdd_lang.proofs.base.Membership.{Contains-nil, Contains-cases}
-use Rattle.sdd_lang.specs.catalog.Catalogue.{Catalogue}
+use Rattle.sdd_lang.specs.All.{Catalogue, fragments_in}
 use Rattle.sdd_history.specs.Records.{History}
-use Rattle.sdd_lang.specs.Classes.{fragments_in}
 use Rattle.sdd_order.specs.Attempts.{Committed, IsCommitted, changes}
 use Rattle.sdd_order.specs.declared.seen.Marks.{Marks}
 use Rattle.sdd_order.specs.Finding.{AreMarks, pair_cmp, triple_cmp, is_below, last_place, sees}

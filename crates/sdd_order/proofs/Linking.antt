@@ -4,12 +4,7 @@ use Rattle.std.specs.Prelude.{option_map, unwrap_or, slice_index_or}
 use Rattle.std.specs.List.{flat_map}
 use Rattle.std.proofs.lemmas.List.{append-nil, drop_all}
 use Rattle.std.proofs.lemmas.Grind.{flat_map-append}
-use Rattle.sdd_lang.specs.base.Numbers.{dm_no}
-use Rattle.sdd_lang.specs.base.declared.number.DmNo.{DmNo}
-use Rattle.sdd_lang.specs.base.declared.number.FragNo.{FragNo}
-use Rattle.sdd_lang.specs.base.declared.usage.Use.{Use}
-use Rattle.sdd_lang.specs.catalog.Catalogue.{Catalogue}
-use Rattle.sdd_lang.specs.Classes.{fragments_in}
+use Rattle.sdd_lang.specs.All.{Catalogue, DmNo, FragNo, Use, dm_no, fragments_in}
 use Rattle.sdd_order.specs.Attempts.{Committed, changes}
 use Rattle.sdd_order.specs.declared.seen.Marks.{Marks}
 use Rattle.sdd_order.specs.Linked.{end_of, has_seen, links_at, fragment_links}

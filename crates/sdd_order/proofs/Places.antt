@@ -1,12 +1,6 @@
 -- A record at a place is one record.
 use Rattle.std.proofs.Common.{ℕ, ◌≡◌, List, Option, Some, refl, sym, ap, ◌∙◌, subst}
-use Rattle.sdd_lang.specs.base.Numbers.{class_no, txn_no, time_at}
-use Rattle.sdd_lang.specs.base.declared.change.Change.{Change}
-use Rattle.sdd_lang.specs.base.declared.number.ClassNo.{ClassNo}
-use Rattle.sdd_lang.specs.base.declared.number.Ts.{Ts}
-use Rattle.sdd_lang.specs.base.declared.number.TxnNo.{TxnNo}
-use Rattle.sdd_lang.specs.base.declared.reply.Reply.{Reply}
-use Rattle.sdd_lang.specs.base.declared.usage.Use.{Use}
+use Rattle.sdd_lang.specs.All.{Change, ClassNo, Reply, Ts, TxnNo, Use, class_no, time_at, txn_no}
 use Rattle.sdd_history.specs.declared.record.Rec.TheVariants.{Submit, Start, Commit}
 use Rattle.sdd_history.specs.Records.{History}
 use Rattle.sdd_order.specs.Attempts.{Attempt, Committed, IsAttempt, IsCommitted, HasCommit}

@@ -2,10 +2,8 @@
 use Rattle.std.proofs.Common.{ℕ, ◌≤◌, ◌≡◌, ◌≢◌, true, false, List, [], ◌∷◌, map, length, refl, sym, ap, ◌∙◌, subst, ◌⊎◌, inl, inr, arith}
 use Rattle.std.specs.Prelude.{Contains}
 use Rattle.std.proofs.lemmas.Bool.{cases_Bool, false≢true}
-use Rattle.sdd_lang.specs.base.Numbers.{txn_no}
-use Rattle.sdd_lang.specs.base.declared.number.TxnNo.{TxnNo}
+use Rattle.sdd_lang.specs.All.{Catalogue, TxnNo, txn_no}
 use Rattle.sdd_lang.proofs.base.Membership.{Contains-here, Contains-later}
-use Rattle.sdd_lang.specs.catalog.Catalogue.{Catalogue}
 use Rattle.sdd_history.specs.Records.{History}
 use Rattle.sdd_order.specs.Attempts.{Committed, IsCommitted, committed}
 use Rattle.sdd_order.specs.Orders.{IsFirst, IsAlong, IsSerial, IsOrderable}

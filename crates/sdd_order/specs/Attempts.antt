@@ -1,16 +1,10 @@
 -- The attempts of transactions, and the transactions that are committed, as a history tells them.
 use Rattle.std.specs.Prelude.{ℕ, ◌≡◌, ◌==◌, Bool, false, ◌&&◌, List, filter_map, find, Option, Some, None, option_map, unwrap_or}
 use Rattle.std.specs.List.{list_any}
-use Rattle.sdd_lang.specs.base.Numbers.{class_no, txn_no, time_at}
-use Rattle.sdd_lang.specs.base.Words.{contains}
-use Rattle.sdd_lang.specs.base.declared.change.Change.{Change}
-use Rattle.sdd_lang.specs.base.declared.number.Ts.{Ts}
-use Rattle.sdd_lang.specs.base.declared.reply.Reply.{Reply}
-use Rattle.sdd_lang.specs.base.declared.usage.Use.{Use}
+use Rattle.sdd_lang.specs.All.{Change, Reply, Ts, Use, class_no, contains, fragments_in, time_at, txn_no}
 use Rattle.sdd_history.specs.declared.record.Rec.{Rec}
 use Rattle.sdd_history.specs.declared.record.Rec.TheVariants.{Start, Commit}
 use Rattle.sdd_history.specs.Records.{History}
-use Rattle.sdd_lang.specs.Classes.{fragments_in}
 use Rattle.sdd_order.specs.Places.{Stands, placed}
 
 -- an attempt, as its Start tells it, and the place of that record; the attempts of a transaction are numbered from 1

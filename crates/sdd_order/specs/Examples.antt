@@ -1,21 +1,8 @@
 -- Worked histories of small workloads, and their orders. Of the relation item (id, val) one fragment has the keys to 9,
 -- and another those from 10.
 use Rattle.std.specs.Prelude.{ℕ, ◌≡◌, pos, negsuc, List, [], ◌∷◌, ◌++◌, map, Some, refl}
-use Rattle.sdd_lang.specs.base.Numbers.{rel_no, tm_no, dm_no, class_no, frag_no, txn_no, time_at}
-use Rattle.sdd_lang.specs.base.declared.change.Change.{Change}
-use Rattle.sdd_lang.specs.base.declared.restriction.Restriction.{Restriction}
-use Rattle.sdd_lang.specs.base.declared.restriction.Op.{Op}
-use Rattle.sdd_lang.specs.base.declared.restriction.Op.TheVariants.{Le, Ge}
-use Rattle.sdd_lang.specs.base.declared.reply.Reply.{Reply}
-use Rattle.sdd_lang.specs.base.declared.reply.Reply.TheVariants.{Rows}
-use Rattle.sdd_lang.specs.base.declared.usage.Use.{Use}
-use Rattle.sdd_lang.specs.base.declared.value.Value.{Value}
-use Rattle.sdd_lang.specs.base.declared.value.Value.TheVariants.{Int}
+use Rattle.sdd_lang.specs.All.{Catalogue, Change, Class, Fragment, Ge, Int, Le, Op, Read, Reply, Restriction, Rows, Use, Value, class_no, dm_no, frag_no, rel_no, time_at, tm_no, txn_no}
 use Rattle.sdd_lang.specs.catalog.declared.parts.Kind.TheVariants as kinds
-use Rattle.sdd_lang.specs.catalog.declared.resolved.Class.{Class}
-use Rattle.sdd_lang.specs.catalog.declared.resolved.Fragment.{Fragment}
-use Rattle.sdd_lang.specs.catalog.declared.resolved.Read.{Read}
-use Rattle.sdd_lang.specs.catalog.Catalogue.{Catalogue}
 use Rattle.sdd_history.specs.declared.record.Rec.{Rec}
 use Rattle.sdd_history.specs.declared.record.Rec.TheVariants.{Submit, Start, Arrive, Wait, Answer, Reject, Commit, Apply, Pass}
 use Rattle.sdd_history.specs.Records.{History}

@@ -1,10 +1,7 @@
 -- The links that the order is found along: of all precedences those that the others follow from.
 use Rattle.std.specs.Prelude.{ℕ, zero, suc, nat_lt, ◌+◌, ◌-◌, ◌/◌, Bool, false, List, [], ◌∷◌, ◌++◌, filter_map, length, map, Option, Some, None, option_map, slice_get, slice_index_or, if◌then◌else◌}
 use Rattle.std.specs.List.{enumerate_from, flat_map}
-use Rattle.sdd_lang.specs.base.Numbers.{txn_no}
-use Rattle.sdd_lang.specs.base.declared.number.TxnNo.{TxnNo}
-use Rattle.sdd_lang.specs.catalog.Catalogue.{Catalogue}
-use Rattle.sdd_lang.specs.Classes.{fragments_in}
+use Rattle.sdd_lang.specs.All.{Catalogue, TxnNo, fragments_in, txn_no}
 use Rattle.sdd_order.specs.Attempts.{Committed, changes}
 use Rattle.sdd_order.specs.declared.seen.Marks.{Marks}
 use Rattle.sdd_order.specs.Finding.{sees}

@@ -1,11 +1,7 @@
 -- The numbers in a history exist: the modules, classes, relations and fragments that its records name are there.
 use Rattle.std.specs.Prelude.{ℕ, ◌≤◌, List, length}
 use Rattle.std.specs.List.{All}
-use Rattle.sdd_lang.specs.base.declared.change.Change.{Change}
-use Rattle.sdd_lang.specs.base.declared.condition.Cond.{Cond}
-use Rattle.sdd_lang.specs.base.declared.number.FragNo.{FragNo}
-use Rattle.sdd_lang.specs.base.declared.usage.Use.{Use}
-use Rattle.sdd_lang.specs.catalog.Catalogue.{Catalogue}
+use Rattle.sdd_lang.specs.All.{Catalogue, Change, Cond, FragNo, Use}
 use Rattle.sdd_history.specs.declared.record.Rec.{Rec}
 use Rattle.sdd_history.specs.declared.record.Rec.TheVariants.{Submit, Start, Arrive, Wait, Answer, Reject, Commit, Apply, Pass, Nothing}
 use Rattle.sdd_history.specs.Records.{History}

@@ -1,8 +1,6 @@
 -- Orders of the committed transactions, and when there is a serial one.
 use Rattle.std.specs.Prelude.{ℕ, ◌≡◌, ◌≢◌, true, false, List, [], ◌∷◌, Contains, Some, is_some}
-use Rattle.sdd_lang.specs.base.Numbers.{dm_no, txn_no}
-use Rattle.sdd_lang.specs.base.declared.number.TxnNo.{TxnNo}
-use Rattle.sdd_lang.specs.catalog.Catalogue.{Catalogue, reads_at}
+use Rattle.sdd_lang.specs.All.{Catalogue, TxnNo, dm_no, reads_at, txn_no}
 use Rattle.sdd_history.specs.declared.record.Rec.TheVariants.{Answer}
 use Rattle.sdd_history.specs.Records.{History}
 use Rattle.sdd_order.specs.Attempts.{Attempt, Committed, IsAttempt, IsCommitted, HasCommit, reads}

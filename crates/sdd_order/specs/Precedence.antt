@@ -1,11 +1,10 @@
 -- Which of two committed transactions has to stand before the other in a serial order.
 use Rattle.std.specs.Prelude.{ℕ, nat_lt, ◌≡◌, ◌==◌, Bool, true, false, not, ◌&&◌, ◌||◌, unwrap_or}
 use Rattle.std.specs.List.{list_any}
-use Rattle.sdd_lang.specs.catalog.Catalogue.{Catalogue, reads_at}
+use Rattle.sdd_lang.specs.All.{Catalogue, fragments_in, reads_at}
 use Rattle.sdd_history.specs.declared.record.Rec.{Rec}
 use Rattle.sdd_history.specs.declared.record.Rec.TheVariants.{Answer, Apply}
 use Rattle.sdd_history.specs.Records.{History}
-use Rattle.sdd_lang.specs.Classes.{fragments_in}
 use Rattle.sdd_order.specs.Attempts.{Attempt, Committed, IsCommitted, reads, changes}
 use Rattle.sdd_order.specs.Paths.{IsOrderly}
 use Rattle.sdd_order.specs.Places.{comes_before}

@@ -1,9 +1,7 @@
 -- The serial order of a history: again and again the committed transaction with the least timestamp among those whose
 -- predecessors are all taken.
 use Rattle.std.specs.Prelude.{List, length, map}
-use Rattle.sdd_lang.specs.base.Numbers.{txn_no}
-use Rattle.sdd_lang.specs.base.declared.number.TxnNo.{TxnNo}
-use Rattle.sdd_lang.specs.catalog.Catalogue.{Catalogue}
+use Rattle.sdd_lang.specs.All.{Catalogue, TxnNo, txn_no}
 use Rattle.sdd_history.specs.Records.{History}
 use Rattle.sdd_order.specs.Attempts.{Committed, committed}
 use Rattle.sdd_order.specs.Taken.{taken}

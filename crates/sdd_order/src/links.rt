@@ -1,6 +1,6 @@
 ghost use Rattle.std.specs.Prelude.{ℕ, ◌≡◌, ◌≤◌, ◌++◌, All, length, map, IfOk, OnOk};
 ghost use Rattle.std.specs.List.{list_any, flat_map};
-ghost use Rattle.sdd_lang.specs.Classes.{fragments_in};
+ghost use Rattle.sdd_lang.specs.All.{fragments_in};
 ghost use Rattle.sdd_order.specs.Linked.{by_class, by_fragment, end_of, has_seen, fragment_links, read_links, links};
 ghost use Rattle.sdd_order.specs.Numbers.{IsClass, IsFragment, UseExists};
 

@@ -1,6 +1,6 @@
 ghost use Rattle.std.specs.Prelude.{◌≡◌, option_map, slice_get, IfOk};
 ghost use Rattle.std.specs.List.Sorted.{IsPermutation, IsNonDecreasingBy};
-ghost use Rattle.sdd_lang.specs.base.Numbers.{txn_no};
+ghost use Rattle.sdd_lang.specs.All.{txn_no};
 ghost use Rattle.sdd_order.specs.Attempts.{committed};
 ghost use Rattle.sdd_order.specs.Linked.{numbers_at};
 ghost use Rattle.sdd_order.specs.Orders.{IsOrderable, IsSerial};

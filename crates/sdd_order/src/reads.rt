@@ -1,6 +1,6 @@
 ghost use Rattle.std.specs.Prelude.{ℕ, ◌≡◌, ◌≤◌, ◌++◌, ◌==◌, List, All, length, slice_index_or, OnOk};
 ghost use Rattle.std.specs.List.{list_any, flat_map};
-ghost use Rattle.sdd_lang.specs.Classes.{fragments_in};
+ghost use Rattle.sdd_lang.specs.All.{fragments_in};
 ghost use Rattle.sdd_order.specs.Linked.{end_of, has_seen, links_at, fragment_links};
 ghost use Rattle.sdd_order.specs.Numbers.{IsClass, IsFragment, UseExists};
 ghost use Rattle.sdd_order.specs.Precedence.{module_of};

@@ -1,13 +1,9 @@
 -- Queries are answered over the rows that may stand in their parts.
 use Rattle.std.proofs.Common.{ℕ, ◌≡◌, ◌+◌, List, [], ◌∷◌, map, refl, ap, ◌∙◌}
 use Rattle.std.specs.Prelude.{filter}
-use Rattle.sdd_lang.specs.base.declared.number.RelNo.{RelNo}
+use Rattle.sdd_lang.specs.All.{Database, RelNo, Row, Tuple, answer, distinct, may_stand, product, projection, rows_of, selection}
 use Rattle.sdd_lang.specs.declared.condition.Ref.{Ref}
 use Rattle.sdd_lang.specs.declared.condition.Condition.{Condition}
-use Rattle.sdd_lang.specs.Database.{Row, Database, rows_of}
-use Rattle.sdd_lang.specs.Condition.{Tuple}
-use Rattle.sdd_lang.specs.Query.{answer, distinct, product, selection, projection}
-use Rattle.sdd_lang.specs.Tuples.{may_stand}
 use Rattle.sdd_lang.proofs.Pushdown.{kept, meets_restrictions, restrictions_pushdown}
 use Rattle.sdd_plain.specs.Parts.{standing}
 

@@ -3,9 +3,7 @@ use Rattle.std.proofs.Common.{ℕ, ◌≡◌, ◌&&◌, ◌==◌, true, false, c
 use Rattle.std.specs.Prelude.{filter}
 use Rattle.std.proofs.lemmas.Bool.{eqb-true}
 use Rattle.sdd_lang.specs.declared.condition.Condition.{Condition}
-use Rattle.sdd_lang.specs.Database.{Database}
-use Rattle.sdd_lang.specs.Condition.{meets_all}
-use Rattle.sdd_lang.specs.Update.{chosen}
+use Rattle.sdd_lang.specs.All.{Database, chosen, meets_all}
 use Rattle.sdd_plain.specs.Lent.{as_of}
 
 -- of the relation's entries those that meet the conditions are chosen

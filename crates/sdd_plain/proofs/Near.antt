@@ -8,14 +8,8 @@ use Rattle.std.specs.Map.{keys_of}
 use Rattle.std.proofs.lemmas.Int.{ints}
 use Rattle.std.proofs.lemmas.Bool.{eqb-true}
 use Rattle.std.proofs.lemmas.List.Elements.{All-from_recursion, recursion_from_All}
-use Rattle.sdd_lang.specs.base.Order.{column}
-use Rattle.sdd_lang.specs.base.declared.value.Value.TheVariants.{Int}
+use Rattle.sdd_lang.specs.All.{Database, Int, Interval, IsOfKeys, IsWithin, Item, Row, all_keys, allowed_keys, chosen, column, common, holds_some, item_cmp, may_stand, meets_all, restrictions_of, rows_of, with_row, without_row}
 use Rattle.sdd_lang.specs.declared.condition.Condition.{Condition}
-use Rattle.sdd_lang.specs.Condition.{meets_all}
-use Rattle.sdd_lang.specs.Database.{Item, Row, Database, item_cmp, rows_of, with_row, without_row}
-use Rattle.sdd_lang.specs.Tuples.{may_stand}
-use Rattle.sdd_lang.specs.Update.{chosen}
-use Rattle.sdd_lang.specs.Uses.{Interval, IsWithin, IsOfKeys, all_keys, allowed_keys, common, holds_some, restrictions_of}
 use Rattle.sdd_lang.proofs.KeyRanges.{allowed_key, le_true, some_within, within_common}
 use Rattle.sdd_lang.proofs.Pushdown.{and_both, filter_same, filter-map, parts_meet}
 use Rattle.sdd_lang.proofs.ReadSetDecides.{rows_picked}

@@ -7,8 +7,7 @@ use Rattle.std.specs.Ordering.{int_cmp, ordering_then, is_le, is_lt, MatchOrderi
 use Rattle.std.specs.Cmp.{int_ranks, nat_cmp_is}
 use Rattle.std.proofs.lemmas.Bool.{cases_order, eq-eqb, eqb-true}
 use Rattle.std.proofs.lemmas.Int.{ints}
-use Rattle.sdd_lang.specs.Database.{Item, Row, Database, item_cmp}
-use Rattle.sdd_lang.specs.Uses.{Interval, holds_some}
+use Rattle.sdd_lang.specs.All.{Database, Interval, Item, Row, holds_some, item_cmp}
 use Rattle.sdd_lang.proofs.Pushdown.{filter_same, filter_none}
 use Rattle.sdd_plain.specs.Held.{is_within}
 

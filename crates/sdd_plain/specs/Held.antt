@@ -3,12 +3,8 @@ use Rattle.std.specs.Prelude.{ℕ, ℤ, ◌-◌, ◌≡◌, int_le, Bool, ◌&&�
 use Rattle.std.specs.Int.{w64}
 use Rattle.std.specs.List.{All}
 use Rattle.std.specs.Map.{keys_of}
-use Rattle.sdd_lang.specs.base.Order.{column}
-use Rattle.sdd_lang.specs.base.declared.value.Value.TheVariants.{Int}
+use Rattle.sdd_lang.specs.All.{Database, Int, Interval, IsWithin, Item, Row, all_keys, column, common, may_stand}
 use Rattle.sdd_lang.specs.declared.condition.Condition.{Condition}
-use Rattle.sdd_lang.specs.Database.{Item, Row, Database}
-use Rattle.sdd_lang.specs.Tuples.{may_stand}
-use Rattle.sdd_lang.specs.Uses.{Interval, IsWithin, all_keys, common}
 
 abbrev pub HasHeldKey : Item → Type 0
 HasHeldKey item = FitsSigned w64 item.1

@@ -1,9 +1,7 @@
 -- The rows of a query's parts.
 use Rattle.std.specs.Prelude.{ℕ, ◌+◌, List, [], ◌∷◌, filter}
-use Rattle.sdd_lang.specs.base.declared.number.RelNo.{RelNo}
+use Rattle.sdd_lang.specs.All.{Database, RelNo, Row, may_stand, rows_of}
 use Rattle.sdd_lang.specs.declared.condition.Condition.{Condition}
-use Rattle.sdd_lang.specs.Database.{Row, Database, rows_of}
-use Rattle.sdd_lang.specs.Tuples.{may_stand}
 
 -- of each relation the rows that may stand in its part, where the first part has this number
 abbrev pub standing : Database → List Condition → ℕ → List RelNo → List (List Row)

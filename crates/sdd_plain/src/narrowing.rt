@@ -1,8 +1,7 @@
 //! The keys of the rows that may stand in a part.
 ghost use Rattle.std.specs.Prelude.{◌≡◌, ◌↔◌, All, IfOk, IsTrue};
 ghost use Rattle.sdd_lang.specs.catalog.declared.parts.Kind.TheVariants.{Int};
-ghost use Rattle.sdd_lang.specs.Fits.{kind_of};
-ghost use Rattle.sdd_lang.specs.Uses.{IsOfKeys};
+ghost use Rattle.sdd_lang.specs.All.{IsOfKeys, kind_of};
 ghost use Rattle.sdd_plain.specs.Held.{AreKeysOf};
 
 use sdd_lang::sdd_base::{NoMemory, Restriction, Value};

@@ -1,9 +1,6 @@
 ghost use Rattle.std.specs.Prelude.{◌≡◌, All, IfOk, OnOk, OnErr, IsTrue, false, true};
-ghost use Rattle.sdd_lang.specs.Database.{database_of};
-ghost use Rattle.sdd_lang.specs.Effect.{effect};
-ghost use Rattle.sdd_lang.specs.Fits.{Fits, FitsStart};
-ghost use Rattle.sdd_lang.specs.Serial.{after_changes, serial};
-ghost use Rattle.sdd_lang.specs.Source.{found_in, chosen_in};
+ghost use Rattle.sdd_lang.specs.All.{Fits, FitsStart, after_changes, chosen_in, database_of, effect, serial};
+ghost use Rattle.sdd_lang.specs.Source.{found_in};
 
 use crate::rows::Rows;
 use sdd_exec::join;
@@ -28,8 +25,7 @@ pub struct Plain {
 }
 
 impl Model for Plain {
-    ghost use Rattle.sdd_lang.specs.base.Kept.{Kept};
-    ghost use Rattle.sdd_lang.specs.Database.{Database};
+    ghost use Rattle.sdd_lang.specs.All.{Database, Kept};
 
     ghost Value = { Kept Database };
 

@@ -1,13 +1,6 @@
 //! The rows of all relations in memory.
 ghost use Rattle.std.specs.Prelude.{◌≡◌, ◌==◌, ◌&&◌, ◌-◌, [], All, IsTrue, IfOk, OnOk, filter, slice_index};
-ghost use Rattle.sdd_lang.specs.catalog.Catalogue.{fragment_at};
-ghost use Rattle.sdd_lang.specs.Database.{Item, Row as OfRow, with_row, without_row, rows_of, database_of};
-ghost use Rattle.sdd_lang.specs.Serial.{changed_by, after_changes};
-ghost use Rattle.sdd_lang.specs.Source.{entries_of};
-ghost use Rattle.sdd_lang.specs.Fits.{FitsStart};
-ghost use Rattle.sdd_lang.specs.Tuples.{rows_lent, may_stand};
-ghost use Rattle.sdd_lang.specs.Update.{chosen};
-ghost use Rattle.sdd_lang.specs.Uses.{common, all_keys};
+ghost use Rattle.sdd_lang.specs.All.{FitsStart, Item, Row as OfRow, after_changes, all_keys, changed_by, chosen, common, database_of, entries_of, fragment_at, may_stand, rows_lent, rows_of, with_row, without_row};
 ghost use Rattle.sdd_plain.specs.Held.{HasKey, AreNear, is_within};
 ghost use Rattle.sdd_plain.specs.Parts.{standing};
 
@@ -33,7 +26,7 @@ pub(crate) struct Rows {
 }
 
 impl Model for Rows {
-    ghost use Rattle.sdd_lang.specs.Database.{Database};
+    ghost use Rattle.sdd_lang.specs.All.{Database};
     ghost use Rattle.sdd_plain.specs.Held.{AreHeld, AreKeyed};
 
     ghost Value = { Database };

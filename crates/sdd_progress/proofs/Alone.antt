@@ -1,40 +1,14 @@
 -- While the READ of an undeclared transaction is next at a module, each declared transaction whose WRITE is next there has a
 -- smaller timestamp, so that the READ holds no WRITE back.
 use Rattle.std.proofs.Common.{ℕ, ◌++◌, ◌-◌, ◌<◌, ◌==◌, ◌∙◌, ◌∷◌, ◌≡◌, ◌≤◌, List, Some, ap, append_assoc, arith, false, inl, inr, slice_get, subst, sym}
-use Rattle.sdd_obligations.specs.base.Numbers.{tm_no}
-use Rattle.sdd_obligations.specs.base.Sites.{number_of}
-use Rattle.sdd_obligations.specs.base.declared.change.Change.{Change}
-use Rattle.sdd_obligations.specs.base.declared.condition.Cond.{Cond}
-use Rattle.sdd_obligations.specs.base.declared.number.ClassNo.{ClassNo}
-use Rattle.sdd_obligations.specs.base.declared.number.DmNo.{DmNo}
-use Rattle.sdd_obligations.specs.base.declared.number.Ts.{Ts}
-use Rattle.sdd_obligations.specs.base.declared.number.TxnNo.{TxnNo}
-use Rattle.sdd_obligations.specs.base.declared.site.Site.TheVariants.{D, T, U}
-use Rattle.sdd_obligations.specs.base.declared.usage.Use.{Use}
-use Rattle.sdd_obligations.specs.catalog.Catalogue.{numbers_to}
-use Rattle.sdd_obligations.specs.catalog.Rules.{IsSound}
+use Rattle.sdd_obligations.specs.All.{Act, Answer, Attempt, Change, ClassNo, Cond, D, DmNo, Does, Given, HasAnswer, IsClass, IsCommitT, IsHigh, IsModule, IsPermitted, IsSound, Log, Read, Records, T, Ts, TxnNo, U, Use, Write, head, home, home_of, local_of, number_of, numbers_to, pipe_at, setting_of, start_at, starts, tm_no, u_stamp, zero_cond}
 use Rattle.sdd_obligations.proofs.catalog.Sound.{sound_whole}
-use Rattle.sdd_obligations.specs.history.declared.record.Rec.TheVariants.{Answer}
-use Rattle.sdd_obligations.specs.wire.declared.msg.Msg.TheVariants.{Read, Write}
-use Rattle.sdd_obligations.specs.site_module.SiteLog.{Act, Records}
-use Rattle.sdd_obligations.specs.serial_orders.Numbers.{IsClass, IsModule}
-use Rattle.sdd_obligations.specs.attempt.Attempts.{Attempt}
-use Rattle.sdd_obligations.specs.pipe.Pipe.{head}
-use Rattle.sdd_obligations.specs.dm.Views.{home_of}
-use Rattle.sdd_obligations.specs.logs.Entries.{Does, Given, Log}
-use Rattle.sdd_obligations.specs.logs.Locals.{local_of, setting_of}
-use Rattle.sdd_obligations.specs.logs.Permitted.{IsPermitted}
 use Rattle.sdd_obligations.proofs.invariants.Answered.{read_of}
 use Rattle.sdd_obligations.proofs.invariants.Apart.{low_or_high}
 use Rattle.sdd_obligations.proofs.invariants.Dones.{all_applied}
 use Rattle.sdd_obligations.proofs.invariants.Installed.{class_number, head_put, write_origin}
 use Rattle.sdd_obligations.proofs.invariants.Once.{answered_there}
 use Rattle.sdd_obligations.proofs.invariants.Undeclared.{Part, answered_before, commit_t, has_cond, part_join, part_of, permitted_part, read_classes}
-use Rattle.sdd_obligations.specs.invariants.AtU.{starts}
-use Rattle.sdd_obligations.specs.invariants.Barrier.{IsCommitT, IsHigh, u_stamp, zero_cond}
-use Rattle.sdd_obligations.specs.invariants.Causes.{HasAnswer}
-use Rattle.sdd_obligations.specs.invariants.Seen.{pipe_at}
-use Rattle.sdd_obligations.specs.invariants.Steps.{home, start_at}
 use Rattle.sdd_obligations.proofs.HoldsFit.{at_place}
 use Rattle.sdd_progress.proofs.Still.{run_at, runs_place}
 use Rattle.sdd_lawful.proofs.Homes.{home_small, positive}

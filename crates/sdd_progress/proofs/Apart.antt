@@ -2,15 +2,9 @@
 -- so that the first is committed and applied before the second starts.
 use Rattle.std.proofs.Common.{ℕ, ◌+◌, ◌++◌, ◌<◌, ◌∙◌, ◌∷◌, ◌≡◌, ◌≢◌, ◌≤◌, [], ap, append_assoc, arith, inl, inr, length, refl, subst, sym}
 use Rattle.std.proofs.lemmas.List.{length-append}
-use Rattle.sdd_obligations.specs.base.Numbers.{txn_no}
+use Rattle.sdd_obligations.specs.All.{AppliedBefore, Committed, Entry, Given, GoesTo, IsAttempt, IsOfEarlierEra, IsSubmitted, Log, Redeclares, Submitted, begun, event_at, history, redeclares, txn_no}
 use Rattle.sdd_obligations.specs.history.declared.record.Rec.TheVariants.{Submit}
-use Rattle.sdd_obligations.specs.serial_orders.Attempts.{Attempt, Committed, IsAttempt}
-use Rattle.sdd_obligations.specs.serial_orders.Places.{event_at}
-use Rattle.sdd_obligations.specs.laws.Deeds.{AppliedBefore, GoesTo, IsSubmitted}
-use Rattle.sdd_obligations.specs.laws.Eras.{begun}
-use Rattle.sdd_obligations.specs.laws.Redeclares.{IsOfEarlierEra}
-use Rattle.sdd_obligations.specs.logs.Entries.{Entry, Given, Log, Redeclares, Submitted, history}
-use Rattle.sdd_obligations.specs.logs.Locals.{redeclares}
+use Rattle.sdd_obligations.specs.serial_orders.Attempts.{Attempt}
 use Rattle.sdd_lawful.proofs.Submissions.{submit_in}
 use Rattle.sdd_progress.proofs.SinceRedeclare.{redeclares_back}
 use Rattle.sdd_progress.specs.Eras.{eras_of}

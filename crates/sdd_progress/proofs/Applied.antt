@@ -1,27 +1,11 @@
 -- Where nothing goes on and a pipe has nothing unprocessed, every WRITE of its class that touches the module is applied.
 use Rattle.std.proofs.Common.{ℕ, ◌++◌, ◌<◌, ◌==◌, ◌∙◌, ◌∷◌, ◌≡◌, ◌⊎◌, Some, [], ap, append-nil, length, slice_get, subst, sym, true}
 use Rattle.std.proofs.lemmas.List.{take_all}
-use Rattle.sdd_obligations.specs.base.Numbers.{class_no, dm_no, time_at, txn_no}
-use Rattle.sdd_obligations.specs.base.declared.site.Site.TheVariants.{D}
-use Rattle.sdd_obligations.specs.catalog.Rules.{IsSound}
-use Rattle.sdd_obligations.specs.wire.declared.msg.Msg.{Msg}
-use Rattle.sdd_obligations.specs.wire.declared.msg.Msg.TheVariants.{Write}
-use Rattle.sdd_obligations.specs.site_module.SiteLog.{Bases}
-use Rattle.sdd_obligations.specs.serial_orders.Numbers.{IsClass, IsModule}
-use Rattle.sdd_obligations.specs.attempt.Acts.{commit_act}
-use Rattle.sdd_obligations.specs.attempt.Attempts.{Attempt}
-use Rattle.sdd_obligations.specs.dm.Pipes.{pipe}
-use Rattle.sdd_obligations.specs.logs.Entries.{Does, Given, Log}
-use Rattle.sdd_obligations.specs.logs.Locals.{setting_of}
-use Rattle.sdd_obligations.specs.logs.Traffic.{handed}
+use Rattle.sdd_obligations.specs.All.{Attempt, Bases, D, Does, Given, IsApplied, IsClass, IsModule, IsOf, IsSound, Log, Msg, Write, all_of, changes_to, class_in, class_no, class_puts, commit_act, dm_no, handed, home, pipe, puts_to, results, setting_of, time_at, txn_no}
 use Rattle.sdd_obligations.proofs.invariants.Fair.{d_fair}
 use Rattle.sdd_obligations.proofs.invariants.InPipe.{pipe_is}
 use Rattle.sdd_obligations.proofs.invariants.Installed.{commit_put}
 use Rattle.sdd_obligations.proofs.invariants.Processed.{matched, zip_at}
-use Rattle.sdd_obligations.specs.invariants.ReadSteps.{IsOf, results}
-use Rattle.sdd_obligations.specs.invariants.Seen.{IsApplied, all_of, changes_to, class_puts}
-use Rattle.sdd_obligations.specs.invariants.Steps.{home}
-use Rattle.sdd_obligations.specs.invariants.Traffic.{class_in, puts_to}
 use Rattle.sdd_progress.proofs.Handed.{none_left}
 use Rattle.sdd_progress.proofs.Still.{home_linked}
 use Rattle.sdd_progress.specs.Quiet.{IsQuiet, at_home, at_module}

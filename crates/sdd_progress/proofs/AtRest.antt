@@ -1,15 +1,6 @@
 -- Where a list of classes was put in force: all that was submitted before is committed and applied there.
 use Rattle.std.proofs.Common.{ℕ, ◌++◌, ◌<◌, ◌∙◌, ◌∷◌, ◌≡◌, Some, [], ap, append_assoc, arith, length, refl, subst, sym}
-use Rattle.sdd_obligations.specs.base.Numbers.{class_no, dm_no, time_at, txn_no}
-use Rattle.sdd_obligations.specs.history.Records.{History}
-use Rattle.sdd_obligations.specs.history.declared.record.Rec.TheVariants.{Apply, Commit}
-use Rattle.sdd_obligations.specs.serial_orders.Attempts.{Committed, HasCommit, IsAttempt, IsCommitted}
-use Rattle.sdd_obligations.specs.serial_orders.Places.{Stands}
-use Rattle.sdd_obligations.specs.laws.Deeds.{AppliedBefore, GoesTo, IsSubmitted}
-use Rattle.sdd_obligations.specs.logs.Due.{next}
-use Rattle.sdd_obligations.specs.logs.Entries.{Given, Log, Redeclares, history}
-use Rattle.sdd_obligations.specs.logs.Lawful.{IsLawful}
-use Rattle.sdd_obligations.specs.logs.Locals.{redeclares}
+use Rattle.sdd_obligations.specs.All.{AppliedBefore, Apply, Commit, Committed, Given, GoesTo, HasCommit, History, IsAttempt, IsCommitted, IsLawful, IsSubmitted, Log, Redeclares, Stands, class_no, dm_no, history, next, redeclares, time_at, txn_no}
 use Rattle.sdd_lawful.specs.Given.{AreNumbered}
 use Rattle.sdd_lawful.proofs.Applied.{applied_before}
 use Rattle.sdd_lawful.proofs.Committed.{committed_in}

@@ -10,14 +10,8 @@ use Rattle.std.proofs.lemmas.List.Elements.{All-head, All-tail}
 use Rattle.std.proofs.lemmas.Map.Keys.{IsDistinct-cons}
 use Rattle.std.proofs.lemmas.Option.{same_Some}
 use Rattle.std.proofs.lemmas.Map.Steps.{length-le_from_distinct_below}
-use Rattle.sdd_obligations.specs.history.declared.record.Rec.{Rec}
-use Rattle.sdd_obligations.specs.history.declared.record.Rec.TheVariants.{Submit, Start, Arrive, Wait, Answer, Reject, Commit, Apply, Pass, Nothing}
-use Rattle.sdd_obligations.specs.history.Records.{History}
-use Rattle.sdd_obligations.specs.serial_orders.Attempts.{HasCommit, attempt_of, attempts}
-use Rattle.sdd_obligations.specs.serial_orders.Places.{placed}
-use Rattle.sdd_obligations.specs.laws.Few.{AreFew, commits_of_others, is_commit_of_other, starts_of}
-use Rattle.sdd_obligations.specs.laws.Numbers.{NamesOneOf, TxnsExist}
-use Rattle.sdd_obligations.specs.laws.Starts.{is_start_of}
+use Rattle.sdd_obligations.specs.All.{Answer, Apply, AreFew, Arrive, Commit, HasCommit, History, NamesOneOf, Nothing, Pass, Rec, Reject, Start, TxnsExist, Wait, attempt_of, attempts, commits_of_others, is_commit_of_other, is_start_of, placed, starts_of}
+use Rattle.sdd_obligations.specs.history.declared.record.Rec.TheVariants.{Submit}
 
 -- each transaction has one Commit
 abbrev pub OneCommit : History → Type 0

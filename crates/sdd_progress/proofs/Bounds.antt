@@ -1,13 +1,7 @@
 -- The time at which a list of classes is put in force is after every clock of a transaction module.
 use Rattle.std.specs.Prelude.{fold, max}
 use Rattle.std.proofs.Common.{ℕ, suc, zero, ◌*◌, ◌+◌, ◌-◌, ◌/◌, ◌<◌, ◌==◌, ◌∷◌, ◌≡◌, ◌≤◌, List, Some, [], ap, arith, false, length, map, refl, slice_get, subst}
-use Rattle.sdd_obligations.specs.base.Numbers.{tm_no}
-use Rattle.sdd_obligations.specs.base.declared.site.Site.TheVariants.{T}
-use Rattle.sdd_obligations.specs.catalog.Catalogue.{class_at, numbers_to}
-use Rattle.sdd_obligations.specs.catalog.Rules.{IsSound}
-use Rattle.sdd_obligations.specs.logs.Entries.{Given, Log}
-use Rattle.sdd_obligations.specs.logs.Marks.{bound_at, greatest_bound}
-use Rattle.sdd_obligations.specs.invariants.Steps.{home}
+use Rattle.sdd_obligations.specs.All.{Given, IsSound, Log, T, bound_at, class_at, greatest_bound, home, numbers_to, tm_no}
 use Rattle.sdd_obligations.proofs.Sums.{range_at}
 use Rattle.sdd_lawful.proofs.Homes.{positive, served}
 

@@ -4,38 +4,17 @@ use Rattle.std.specs.Prelude.{◌⊎◌, filter, filter_map, option_map, unwrap_
 use Rattle.std.proofs.Common.{ℕ, suc, zero, ◌++◌, ◌-◌, ◌==◌, ◌∙◌, ◌∷◌, ◌≡◌, ◌≤◌, Bool, List, None, Option, Some, [], ap, arith, false, if◌then◌else◌, inl, inr, length, refl, slice_get, subst, sym, true}
 use Rattle.std.proofs.Math.Decide.{dec_le}
 use Rattle.std.proofs.lemmas.Bool.{eqb-true}
-use Rattle.sdd_obligations.specs.base.Numbers.{tm_no, txn_no}
-use Rattle.sdd_obligations.specs.base.Words.{head_of}
-use Rattle.sdd_obligations.specs.base.declared.change.Change.{Change}
-use Rattle.sdd_obligations.specs.base.declared.event.Event.TheVariants.{Submit as Submitting}
-use Rattle.sdd_obligations.specs.base.declared.number.TmNo.{TmNo}
-use Rattle.sdd_obligations.specs.base.declared.reply.Reply.{Reply}
-use Rattle.sdd_obligations.specs.base.declared.site.Site.{Site}
-use Rattle.sdd_obligations.specs.base.declared.site.Site.TheVariants.{T}
-use Rattle.sdd_obligations.specs.catalog.Catalogue.{Catalogue, class_at, numbers_to}
-use Rattle.sdd_obligations.specs.history.Records.{History}
-use Rattle.sdd_obligations.specs.history.declared.record.Rec.{Rec}
-use Rattle.sdd_obligations.specs.history.declared.record.Rec.TheVariants.{Commit, Submit}
-use Rattle.sdd_obligations.specs.lang.Classes.{class_for, covers}
-use Rattle.sdd_obligations.specs.lang.declared.transaction.Txn.{Txn}
-use Rattle.sdd_obligations.specs.site_module.SiteLog.{Act, Did, Force, Records, Submits, in_force}
-use Rattle.sdd_obligations.specs.serial_orders.Numbers.{IsClass}
-use Rattle.sdd_obligations.specs.serial_orders.Places.{Stands}
-use Rattle.sdd_obligations.specs.attempt.Queues.{Queued, is_for, queue}
+use Rattle.sdd_obligations.specs.All.{Act, Catalogue, Change, Commit, Did, Does, Force, Given, History, IsClass, IsEraOf, IsPermitted, IsSubmitted, Log, Mark, Queued, Rec, Records, Reply, Site, Stands, Submit as Submitting, Submits, Submitted, T, TmNo, Txn, class_at, class_for, covers, force_at, head_of, history, home, in_force, is_committed, is_for, local_of, numbers_to, queue, queued, redeclares, setting_of, submits_of, tm_no, txn_at, txn_no}
+use Rattle.sdd_obligations.specs.history.declared.record.Rec.TheVariants.{Submit}
 use Rattle.sdd_obligations.proofs.class_eras.EraSets.{covered}
 use Rattle.sdd_obligations.proofs.class_eras.Lists.{first_passes}
-use Rattle.sdd_obligations.specs.laws.Deeds.{IsSubmitted}
-use Rattle.sdd_obligations.specs.class_eras.EraOf.{IsEraOf}
 use Rattle.sdd_obligations.specs.logs.Due.{home_of}
-use Rattle.sdd_obligations.specs.logs.Entries.{Does, Given, Log, Mark, Submitted, history}
-use Rattle.sdd_obligations.specs.logs.Locals.{force_at, local_of, redeclares, setting_of, txn_at}
-use Rattle.sdd_obligations.specs.logs.Permitted.{IsPermitted}
 use Rattle.sdd_obligations.proofs.invariants.Bools.{and_left, or_left, or_right, same_number, same_or_not}
 use Rattle.sdd_obligations.proofs.invariants.Fair.{all_new, home_fair}
 use Rattle.sdd_obligations.proofs.invariants.Lists.{member_there}
 use Rattle.sdd_obligations.proofs.invariants.Made.{permitted_before, place_of_act}
 use Rattle.sdd_obligations.proofs.invariants.Queues.{queue_is}
-use Rattle.sdd_obligations.specs.invariants.Steps.{home, is_committed, queued, starts_of, submits_of}
+use Rattle.sdd_obligations.specs.invariants.Steps.{starts_of}
 use Rattle.sdd_lawful.specs.Given.{AreNumbered}
 use Rattle.sdd_lawful.proofs.Classes.{IsForClass, at_home, force_there, further_back, home_by, home_setting, submit_local}
 use Rattle.sdd_lawful.proofs.Commits.{Told, commit_rec}

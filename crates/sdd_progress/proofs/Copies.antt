@@ -1,21 +1,6 @@
 -- Where nothing goes on and all is idle, each copy has what a serial run leaves.
 use Rattle.std.proofs.Common.{ℕ, ◌∙◌, ◌≡◌, List, [], ap, inr, length, refl, subst, sym, true}
-use Rattle.sdd_obligations.specs.base.Numbers.{dm_no}
-use Rattle.sdd_obligations.specs.base.declared.number.RelNo.{RelNo}
-use Rattle.sdd_obligations.specs.base.declared.number.TxnNo.{TxnNo}
-use Rattle.sdd_obligations.specs.base.declared.site.Site.TheVariants.{D}
-use Rattle.sdd_obligations.specs.catalog.Catalogue.{has_copy}
-use Rattle.sdd_obligations.specs.catalog.Rules.{IsSound}
-use Rattle.sdd_obligations.specs.copy.Contents.{contents}
-use Rattle.sdd_obligations.specs.dm.Copies.{dated}
-use Rattle.sdd_obligations.specs.lang.Agree.{rows_in_fragment}
-use Rattle.sdd_obligations.specs.lang.Database.{Row}
-use Rattle.sdd_obligations.specs.serial_orders.Orders.{IsSerial}
-use Rattle.sdd_obligations.specs.laws.Deeds.{AppliedBefore}
-use Rattle.sdd_obligations.specs.laws.Replay.{AreAllApplied, run}
-use Rattle.sdd_obligations.specs.laws.Snapshots.{items_of}
-use Rattle.sdd_obligations.specs.logs.Entries.{Given, Log, history}
-use Rattle.sdd_obligations.specs.logs.Locals.{local_of, setting_of}
+use Rattle.sdd_obligations.specs.All.{AppliedBefore, AreAllApplied, D, Given, IsSerial, IsSound, Log, RelNo, Row, TxnNo, contents, dated, dm_no, has_copy, history, items_of, local_of, rows_in_fragment, run, setting_of}
 use Rattle.sdd_lawful.specs.Given.{HasSoundData}
 use Rattle.sdd_lawful.proofs.Applied.{applied_before}
 use Rattle.sdd_lawful.proofs.Committed.{committed_in}

@@ -2,34 +2,14 @@
 use Rattle.std.proofs.Common.{ℕ, ◌+◌, ◌<◌, ◌==◌, ◌∙◌, ◌∷◌, ◌≡◌, ◌≤◌, List, None, Option, Some, [], ap, arith, false, if◌then◌else◌, refl, slice_get, suc, subst, sym, true}
 use Rattle.std.proofs.Math.Decide.{dec_le}
 use Rattle.std.proofs.lemmas.Bool.{eqb-true}
-use Rattle.sdd_obligations.specs.base.Numbers.{dm_no, tm_no}
-use Rattle.sdd_obligations.specs.base.Sites.{number_of}
-use Rattle.sdd_obligations.specs.base.Words.{head_of}
-use Rattle.sdd_obligations.specs.base.declared.site.Site.{Site}
-use Rattle.sdd_obligations.specs.base.declared.site.Site.TheVariants.{D, T, U}
-use Rattle.sdd_obligations.specs.catalog.Catalogue.{numbers_to}
-use Rattle.sdd_obligations.specs.wire.declared.msg.Msg.{Msg}
-use Rattle.sdd_obligations.specs.wire.declared.msg.Msg.TheVariants.{Done, Hold, Release}
-use Rattle.sdd_obligations.specs.site_module.SiteLog.{Act, Bases, Did, Each, Entry, Handed, Log, Redeclared, Sends, Setting, Submits, Ticked, sends_of_act}
-use Rattle.sdd_obligations.specs.attempt.Acts.{commit_act}
-use Rattle.sdd_obligations.specs.attempt.Attempts.{Attempt, active, active_handed, active_sent, asks_rows, rejects, started}
-use Rattle.sdd_obligations.specs.attempt.Exchange.{after_hand, after_send}
-use Rattle.sdd_obligations.specs.attempt.Queues.{Queued, queue}
-use Rattle.sdd_obligations.specs.umod.Views.{Served, last_served, served_handed, ts_of}
-use Rattle.sdd_obligations.specs.logs.Entries.{Given, Hand}
+use Rattle.sdd_obligations.specs.All.{Act, Attempt, Bases, D, Did, Done, Each, Given, Hand, Handed, Hold, IsAllowed, IsFair, IsFairU, IsPermitted, IsStepU, Msg, Queued, Redeclared, Release, Sends, Served, Setting, Site, Submits, T, Ticked, U, active, active_handed, active_sent, after_hand, after_send, asks_rows, bound, commit_act, dm_no, dones_of, handed, head_of, is_done_of, last_served, limit_of, local_of, next_stamp, number_of, numbers_to, puts_to, queue, rejects, sends_of_act, served_handed, setting_of, start_at, started, tm_no, ts_of}
+use Rattle.sdd_obligations.specs.site_module.SiteLog.{Entry, Log}
 use Rattle.sdd_obligations.specs.logs.Entries as whole
-use Rattle.sdd_obligations.specs.logs.Locals.{local_of, setting_of}
-use Rattle.sdd_obligations.specs.logs.Permitted.{IsAllowed, IsPermitted}
-use Rattle.sdd_obligations.specs.logs.Traffic.{handed}
 use Rattle.sdd_obligations.proofs.logs.EachLocal.{each_local}
 use Rattle.sdd_obligations.proofs.invariants.Answered.{from_a_d}
 use Rattle.sdd_obligations.proofs.invariants.Clocks.{bound_below_next, bound_rises, limit_le}
 use Rattle.sdd_obligations.proofs.invariants.InOrder.{hand_was_put}
 use Rattle.sdd_obligations.proofs.invariants.Serving.{u_due, u_way}
-use Rattle.sdd_obligations.specs.invariants.AtU.{IsFairU, IsStepU}
-use Rattle.sdd_obligations.specs.invariants.Releases.{dones_of, is_done_of}
-use Rattle.sdd_obligations.specs.invariants.Steps.{IsFair, bound, limit_of, next_stamp, start_at}
-use Rattle.sdd_obligations.specs.invariants.Traffic.{puts_to}
 use Rattle.sdd_obligations.specs.invariants.Turns.{one_if}
 use Rattle.sdd_obligations.proofs.DonesFit.{done_fits}
 use Rattle.sdd_obligations.proofs.SendsLow.{hand_ts}

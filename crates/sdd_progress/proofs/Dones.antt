@@ -1,29 +1,8 @@
 -- Where nothing goes on and all WRITEs are applied, the module for undeclared transactions has counted the DONE of each data
 -- module for its last Commit.
 use Rattle.std.proofs.Common.{ℕ, ◌+◌, ◌++◌, ◌<◌, ◌==◌, ◌∙◌, ◌∷◌, ◌≡◌, ◌≤◌, Bool, List, Some, [], ap, arith, false, if◌then◌else◌, inl, inr, refl, slice_get, suc, subst, sym, true, zero}
-use Rattle.sdd_obligations.specs.base.Numbers.{dm_no, time_at}
-use Rattle.sdd_obligations.specs.base.Sites.{number_of, same_site}
-use Rattle.sdd_obligations.specs.base.declared.number.ClassNo.{ClassNo}
-use Rattle.sdd_obligations.specs.base.declared.number.DmNo.{DmNo}
-use Rattle.sdd_obligations.specs.base.declared.number.Ts.{Ts}
-use Rattle.sdd_obligations.specs.base.declared.number.TxnNo.{TxnNo}
-use Rattle.sdd_obligations.specs.base.declared.site.Site.{Site}
-use Rattle.sdd_obligations.specs.base.declared.site.Site.TheVariants.{D, T, U}
-use Rattle.sdd_obligations.specs.catalog.Catalogue.{numbers_to}
-use Rattle.sdd_obligations.specs.catalog.Rules.{IsSound}
-use Rattle.sdd_obligations.specs.history.declared.record.Rec.{Rec}
-use Rattle.sdd_obligations.specs.history.declared.record.Rec.TheVariants.{Apply}
-use Rattle.sdd_obligations.specs.wire.declared.msg.Msg.{Msg}
-use Rattle.sdd_obligations.specs.wire.declared.msg.Msg.TheVariants.{Done}
-use Rattle.sdd_obligations.specs.site_module.SiteLog.{Act, Bases, Did, Each, Handed, Records, Redeclared, Setting, Submits, Ticked, sends_of_act}
+use Rattle.sdd_obligations.specs.All.{Act, Apply, Attempt, Bases, ClassNo, D, Did, DmNo, Does, Done, Each, Given, Handed, IsDueEach, IsModule, IsOfWrite, IsSound, Log, Msg, Rec, Records, Redeclared, Setting, Site, Submits, T, Ticked, Ts, TxnNo, U, commit_act, dm_no, done_for, dones_of, hands_from, is_done_of, last_served, local_of, number_of, numbers_to, puts_to, same_site, sends_of_act, setting_of, tally, time_at, to_site}
 use Rattle.sdd_obligations.specs.site_module.SiteLog as site
-use Rattle.sdd_obligations.specs.serial_orders.Numbers.{IsModule}
-use Rattle.sdd_obligations.specs.attempt.Acts.{commit_act}
-use Rattle.sdd_obligations.specs.attempt.Attempts.{Attempt}
-use Rattle.sdd_obligations.specs.dm.Due.{done_for}
-use Rattle.sdd_obligations.specs.umod.Views.{last_served}
-use Rattle.sdd_obligations.specs.logs.Entries.{Does, Given, Log}
-use Rattle.sdd_obligations.specs.logs.Locals.{local_of, setting_of}
 use Rattle.sdd_obligations.proofs.invariants.Active.{each_at}
 use Rattle.sdd_obligations.proofs.invariants.Bools.{same_number, same_or_not}
 use Rattle.sdd_obligations.proofs.invariants.Dones.{dones_few}
@@ -31,10 +10,7 @@ use Rattle.sdd_obligations.proofs.invariants.Fair.{d_fair, u_fair}
 use Rattle.sdd_obligations.proofs.invariants.HoldChain.{u_table}
 use Rattle.sdd_obligations.proofs.invariants.Origins.{is_put}
 use Rattle.sdd_obligations.proofs.invariants.Turns.{tally_append}
-use Rattle.sdd_obligations.specs.invariants.ReadSteps.{IsDueEach, IsOfWrite}
-use Rattle.sdd_obligations.specs.invariants.Releases.{dones_of, is_done_of}
-use Rattle.sdd_obligations.specs.invariants.Traffic.{hands_from, puts_to, to_site}
-use Rattle.sdd_obligations.specs.invariants.Turns.{one_if, tally}
+use Rattle.sdd_obligations.specs.invariants.Turns.{one_if}
 use Rattle.sdd_obligations.proofs.DataSteps.{IsDataStep, answers_read, applies, arrives, data_step, passes, refuses_read, replies, waits_for}
 use Rattle.sdd_lawful.proofs.Applied.{HasResult, result_in}
 use Rattle.sdd_progress.proofs.Applied.{all_applied}

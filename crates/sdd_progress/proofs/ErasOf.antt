@@ -3,11 +3,8 @@ use Rattle.std.specs.Prelude.{filter, slice_index_or}
 use Rattle.std.proofs.Common.{ℕ, suc, zero, ◌++◌, ◌+◌, ◌-◌, ◌<◌, ◌∙◌, ◌∷◌, ◌≡◌, ◌≤◌, ◌⊎◌, List, Option, Some, [], ap, append_assoc, arith, cond, false, inl, inr, length, nat_le, refl, slice_get, subst, sym, true}
 use Rattle.std.proofs.lemmas.Bool.{le-leb}
 use Rattle.std.proofs.lemmas.List.{length-append}
-use Rattle.sdd_obligations.specs.catalog.Catalogue.{Catalogue}
-use Rattle.sdd_obligations.specs.logs.Entries.{Does, Entry, Given, Hand, Log, Mark, Notes, Redeclares, Round, Submitted, marks}
-use Rattle.sdd_obligations.specs.logs.Locals.{force_at, redeclares}
-use Rattle.sdd_obligations.specs.class_eras.EraOf.{IsEraOf}
-use Rattle.sdd_obligations.specs.laws.Eras.{AreEras, Eras, begun, in_force}
+use Rattle.sdd_obligations.specs.All.{AreEras, Catalogue, Does, Entry, Eras, Given, Hand, IsEraOf, Log, Mark, Notes, Redeclares, Round, Submitted, begun, force_at, marks, redeclares}
+use Rattle.sdd_obligations.specs.laws.Eras.{in_force}
 use Rattle.sdd_obligations.proofs.invariants.Bools.{true_or_false}
 use Rattle.sdd_obligations.proofs.invariants.Lists.{at_seam, in_left, place_within}
 use Rattle.sdd_obligations.proofs.invariants.Split.{le_is}

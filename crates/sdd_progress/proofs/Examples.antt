@@ -3,30 +3,16 @@ use Rattle.std.specs.List.{All}
 use Rattle.std.proofs.Common.{ℕ, suc, zero, ◌+◌, ◌-◌, ◌∷◌, ◌≡◌, ◌≤◌, List, None, Some, [], ap, arith, inl, inr, lit≤, refl, slice_get, subst, sym}
 use Rattle.std.proofs.lemmas.List.Elements.{All-from_recursion}
 use Rattle.std.specs.Prelude.{slice_index_or}
-use Rattle.sdd_obligations.specs.base.Numbers.{txn_no}
-use Rattle.sdd_obligations.specs.base.declared.event.Event.{Event}
-use Rattle.sdd_obligations.specs.base.declared.event.Event.TheVariants.{Submit}
-use Rattle.sdd_obligations.specs.base.declared.number.RelNo.{RelNo}
-use Rattle.sdd_obligations.specs.base.declared.restriction.Op.TheVariants.{Le}
+use Rattle.sdd_obligations.specs.All.{Event, FitsStart, FitsText, Given, IsDatabase, IsEntry, IsFrom1To, IsHeld, IsLawful, Le, Log, PutsHeld, RelNo, Row, Submit, Txn, database_of, extended, history, item_cmp, next, one_if, row_of, submits_by, submits_in, txn_no}
 use Rattle.sdd_history_examples.specs.Catalogues.{crossing}
 use Rattle.sdd_history_examples.specs.Texts.{given_to, put_row, query_and_put, values_by}
 use Rattle.sdd_history_examples.proofs.Sound.{sound_crossing}
 use Rattle.sdd_history_examples.proofs.Texts.{one_fits, put_fits, values_fit}
 use Rattle.sdd_history_examples.proofs.WorkedTables.{is_crossing}
-use Rattle.sdd_obligations.specs.lang.Database.{Row, database_of, item_cmp}
-use Rattle.sdd_obligations.specs.lang.Fits.{Fits, FitsStart}
-use Rattle.sdd_obligations.specs.lang.Sound.{IsDatabase, IsEntry, IsHeld, PutsHeld}
-use Rattle.sdd_obligations.specs.lang.declared.transaction.Txn.{Txn}
+use Rattle.sdd_obligations.specs.lang.Fits.{Fits}
 use Rattle.sdd_obligations.proofs.lang.SortedEntries.{sorted_nil}
-use Rattle.sdd_obligations.specs.serial_orders.Examples.{row_of}
-use Rattle.sdd_obligations.specs.serial_orders.Numbers.{IsFrom1To}
-use Rattle.sdd_obligations.specs.logs.Due.{extended, next}
-use Rattle.sdd_obligations.specs.logs.Entries.{Given, Log, history}
-use Rattle.sdd_obligations.specs.logs.Lawful.{IsLawful}
-use Rattle.sdd_obligations.specs.logs.Permitted.{one_if, submits_by, submits_in}
 use Rattle.sdd_obligations.proofs.invariants.Bools.{same_or_not}
 use Rattle.sdd_lawful.specs.Given.{HasSoundData, SubmitGiven}
-use Rattle.sdd_obligations.specs.Fitting.{FitsText}
 use Rattle.sdd_progress.proofs.Settled.{settle_ends, settled_is_committed, settled_is_finished}
 use Rattle.sdd_progress.specs.Committed.{AllCommitted}
 use Rattle.sdd_progress.specs.Examples.{all_lost, crossing_with, given_all_lost, given_late_query, late_query, log_of_all_lost, log_of_late_query}

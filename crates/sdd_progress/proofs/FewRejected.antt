@@ -3,18 +3,9 @@
 use Rattle.std.proofs.Common.{ℕ, zero, suc, ◌≤◌, ◌==◌, ◌≡◌, true, ◌&&◌, List, refl, ap, ◌∙◌, subst, inl, inr, arith}
 use Rattle.std.specs.Prelude.{option_map}
 use Rattle.std.proofs.lemmas.Bool.{and_parts, cases_Bool, eqb-true}
-use Rattle.sdd_obligations.specs.base.Numbers.{class_no, dm_no, time_at, txn_no}
-use Rattle.sdd_obligations.specs.catalog.Catalogue.{Catalogue}
-use Rattle.sdd_obligations.specs.history.declared.record.Rec.{Rec}
-use Rattle.sdd_obligations.specs.history.declared.record.Rec.TheVariants.{Submit, Start, Arrive, Wait, Answer, Reject, Commit, Apply, Pass, Nothing}
-use Rattle.sdd_obligations.specs.history.Records.{History}
-use Rattle.sdd_obligations.specs.lang.declared.transaction.Txn.{Txn}
-use Rattle.sdd_obligations.specs.serial_orders.Attempts.{Attempt, IsAttempt}
-use Rattle.sdd_obligations.specs.serial_orders.Places.{Stands}
-use Rattle.sdd_obligations.specs.laws.Eras.{Eras}
-use Rattle.sdd_obligations.specs.laws.Few.{commits_of_others, starts_of}
-use Rattle.sdd_obligations.specs.laws.Rejections.{KeepsRejections}
-use Rattle.sdd_obligations.specs.laws.Starts.{KeepsStarts, is_start_of, starts_before}
+use Rattle.sdd_obligations.specs.All.{Answer, Apply, Arrive, Catalogue, Commit, Eras, History, IsAttempt, KeepsRejections, KeepsStarts, Nothing, Pass, Rec, Reject, Stands, Start, Txn, Wait, class_no, commits_of_others, dm_no, is_start_of, starts_before, starts_of, time_at, txn_no}
+use Rattle.sdd_obligations.specs.history.declared.record.Rec.TheVariants.{Submit}
+use Rattle.sdd_obligations.specs.serial_orders.Attempts.{Attempt}
 use Rattle.sdd_obligations.proofs.invariants.Lists.{any_at}
 use Rattle.sdd_progress.specs.Few.{AreFewRejected, is_reject_of, is_rejected, is_rejected_start, rejected_of}
 use Rattle.sdd_progress.specs.Rejects.{KeepsRejects}

@@ -4,36 +4,19 @@ use Rattle.std.specs.Prelude.{nat_lt}
 use Rattle.std.proofs.Common.{ℕ, ◌&&◌, ◌-◌, ◌<◌, ◌==◌, ◌∙◌, ◌∷◌, ◌≡◌, ◌≤◌, Bool, List, None, Option, Some, [], ap, arith, false, if◌then◌else◌, inl, inr, is_none, length, not, refl, slice_get, subst, suc, sym, true}
 use Rattle.std.proofs.Math.Decide.{dec_le}
 use Rattle.std.proofs.lemmas.Bool.{eq-eqb, eqb-true, le-ltb, lt-ltb}
-use Rattle.sdd_obligations.specs.base.Numbers.{tm_no}
-use Rattle.sdd_obligations.specs.base.Words.{head_of}
-use Rattle.sdd_obligations.specs.base.declared.site.Site.TheVariants.{T, U}
-use Rattle.sdd_obligations.specs.catalog.Catalogue.{Catalogue, class_at, numbers_to}
-use Rattle.sdd_obligations.specs.catalog.Rules.{IsSound}
+use Rattle.sdd_obligations.specs.All.{AllZero, Catalogue, Given, IsClass, IsSound, Log, Queued, T, U, active, class_at, commit_act, counts, hands_from, head_of, holds, home, is_a_held, is_a_hold, is_a_release, is_link, last_served, local_of, numbers_to, puts_to, queue, setting_of, tally, tm_no}
 use Rattle.sdd_obligations.proofs.catalog.Sound.{sound_whole}
 use Rattle.sdd_obligations.specs.site_module.SiteLog as site
-use Rattle.sdd_obligations.specs.serial_orders.Numbers.{IsClass}
-use Rattle.sdd_obligations.specs.attempt.Acts.{commit_act}
-use Rattle.sdd_obligations.specs.attempt.Attempts.{active}
-use Rattle.sdd_obligations.specs.attempt.Queues.{Queued, queue}
-use Rattle.sdd_obligations.specs.net.Nets.{is_link}
 use Rattle.sdd_obligations.specs.tm.Due as tm
 use Rattle.sdd_obligations.specs.tm.Views as tm_views
-use Rattle.sdd_obligations.specs.tm.Views.{holds}
 use Rattle.sdd_obligations.specs.umod.Due as um
 use Rattle.sdd_obligations.specs.umod.Views as um_views
-use Rattle.sdd_obligations.specs.umod.Views.{counts, last_served}
-use Rattle.sdd_obligations.specs.logs.Entries.{Given, Log}
-use Rattle.sdd_obligations.specs.logs.Locals.{local_of, setting_of}
 use Rattle.sdd_obligations.proofs.invariants.Bools.{both, none_not_some, not_both, not_zero, same_or_not}
 use Rattle.sdd_obligations.proofs.invariants.HoldChain.{from_u, handed_helds, handed_holds, t_table, u_table}
 use Rattle.sdd_obligations.proofs.invariants.Holding.{t_helds}
 use Rattle.sdd_obligations.proofs.invariants.Lists.{in_filtered, in_mapped, in_range}
 use Rattle.sdd_obligations.proofs.invariants.Made.{place_of_act}
 use Rattle.sdd_obligations.proofs.invariants.Serving.{chain}
-use Rattle.sdd_obligations.specs.invariants.AtU.{AllZero}
-use Rattle.sdd_obligations.specs.invariants.Steps.{home}
-use Rattle.sdd_obligations.specs.invariants.Traffic.{hands_from, puts_to}
-use Rattle.sdd_obligations.specs.invariants.Turns.{is_a_held, is_a_hold, is_a_release, tally}
 use Rattle.sdd_obligations.proofs.HoldsFit.{at_place, chain_at}
 use Rattle.sdd_lawful.proofs.Homes.{positive}
 use Rattle.sdd_progress.proofs.Dones.{dones_counted}

@@ -2,11 +2,7 @@
 -- among the rest.
 use Rattle.std.proofs.Common.{ℕ, suc, zero, ◌++◌, ◌<◌, ◌∙◌, ◌∷◌, ◌≡◌, ◌≤◌, ◌⊎◌, [], ap, append_assoc, arith, inl, inr, length, refl, sym}
 use Rattle.std.proofs.lemmas.List.{length-append}
-use Rattle.sdd_obligations.specs.history.Records.{History}
-use Rattle.sdd_obligations.specs.history.declared.record.Rec.{Rec}
-use Rattle.sdd_obligations.specs.serial_orders.Places.{Stands}
-use Rattle.sdd_obligations.specs.logs.Entries.{Entry, Log, Redeclares, history}
-use Rattle.sdd_obligations.specs.logs.Locals.{redeclares}
+use Rattle.sdd_obligations.specs.All.{Entry, History, Log, Rec, Redeclares, Stands, history, redeclares}
 use Rattle.sdd_lawful.proofs.Places.{history_grows}
 use Rattle.sdd_progress.proofs.SinceRedeclare.{redeclare_in}
 

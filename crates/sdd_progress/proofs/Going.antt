@@ -2,31 +2,13 @@
 use Rattle.std.specs.List.{cons_option}
 use Rattle.std.proofs.Common.{ℕ, ◌&&◌, ◌++◌, ◌+◌, ◌==◌, ◌∙◌, ◌∷◌, ◌≡◌, Bool, List, None, Option, Some, [], ap, cond, false, filter, filter_map, if◌then◌else◌, inl, inr, length, map, not, refl, subst, sym, true}
 use Rattle.std.proofs.lemmas.Bool.{eqb-true}
-use Rattle.sdd_obligations.specs.base.Numbers.{dm_no}
-use Rattle.sdd_obligations.specs.base.Order.{with_values}
-use Rattle.sdd_obligations.specs.base.Words.{contains, head_of, is_empty}
-use Rattle.sdd_obligations.specs.base.declared.number.ClassNo.{ClassNo}
-use Rattle.sdd_obligations.specs.base.declared.number.Ts.{Ts}
-use Rattle.sdd_obligations.specs.base.declared.site.Site.{Site}
-use Rattle.sdd_obligations.specs.base.declared.site.Site.TheVariants.{D, T, U}
-use Rattle.sdd_obligations.specs.history.declared.record.Rec.{Rec}
-use Rattle.sdd_obligations.specs.history.declared.record.Rec.TheVariants.{Commit, Start}
-use Rattle.sdd_obligations.specs.wire.declared.msg.Msg.{Msg}
-use Rattle.sdd_obligations.specs.wire.declared.msg.Msg.TheVariants.{Fetch, Read, Ready, Reduce, Reduced, Rows, Ship, Values}
-use Rattle.sdd_obligations.specs.semijoin.Steps.{Move, next_move}
-use Rattle.sdd_obligations.specs.semijoin.declared.step.Step.{Step}
-use Rattle.sdd_obligations.specs.site_module.SiteLog.{Did, Each, Handed, Log, Records, Redeclared, Sends, Setting, Submits, Ticked}
-use Rattle.sdd_obligations.specs.attempt.Attempts.{Attempt, active, active_after, active_handed, active_sent, asks_rows, rejects, started}
-use Rattle.sdd_obligations.specs.attempt.Exchange.{Asking, Exchange, Fetching, Over, Phase, Reading, Reducing, Shipping, after_hand, after_send, answered, askings, begins, counted, counts_for, first_phase, fetches, fetches_from, goes_on, is_over, lacking, module_read, move_at, phase_ends, reduces, ships, with_use, without}
-use Rattle.sdd_obligations.specs.attempt.Fits.{uses_at}
-use Rattle.sdd_obligations.specs.attempt.Queues.{Queued, queue}
+use Rattle.sdd_obligations.specs.All.{Asking, Attempt, ClassNo, Commit, D, Did, Each, Exchange, Fetch, Fetching, Handed, IsFair, MayAnswer, Move, Msg, Over, Phase, Queued, Read, Reading, Ready, Rec, Records, Redeclared, Reduce, Reduced, Reducing, Replies, Rows, Sends, Setting, Ship, Shipping, Site, Start, Step, Submits, T, Ticked, Ts, Turn, U, Values, active, active_after, active_handed, active_sent, after_hand, after_send, answered, askings, asks_rows, begins, contains, counted, counts_for, dm_no, fetches, fetches_from, first_phase, goes_on, head_of, is_answer, is_empty, is_over, lacking, module_read, move_at, next_move, phase_ends, queue, reduces, rejects, ships, started, turn_at, uses_at, with_use, with_values, without}
+use Rattle.sdd_obligations.specs.site_module.SiteLog.{Log}
 use Rattle.sdd_obligations.proofs.invariants.Bools.{if_way, not_both, or_left, or_right, same_number}
-use Rattle.sdd_obligations.specs.invariants.Steps.{IsFair}
 use Rattle.sdd_obligations.proofs.Asking.{in_turn}
 use Rattle.sdd_obligations.proofs.AtTurn.{StandsAt, awaits}
 use Rattle.sdd_obligations.proofs.FirstSends.{IsFirstEach}
 use Rattle.sdd_obligations.proofs.Hearing.{AtTurn, InTurn, IsTimely, answers_asked, is_awaited}
-use Rattle.sdd_obligations.specs.Turns.{MayAnswer, Replies, Turn, is_answer, turn_at}
 use Rattle.sdd_lawful.proofs.Asks.{contains_either}
 use Rattle.sdd_progress.proofs.Lists.{either}
 use Rattle.sdd_progress.proofs.Moves.{move_reads}

@@ -4,26 +4,15 @@ use Rattle.std.specs.List.{cons_option}
 use Rattle.std.proofs.Common.{ℕ, ◌-◌, ◌≤◌, ◌∙◌, ◌∷◌, ◌≡◌, List, None, Option, Some, [], ap, arith, cond, drop, false, length, refl, slice_get, suc, subst, sym, true, zero}
 use Rattle.std.proofs.Math.Decide.{dec_le}
 use Rattle.std.proofs.lemmas.List.{take_all}
-use Rattle.sdd_obligations.specs.base.Sites.{are_linked, links, sites}
-use Rattle.sdd_obligations.specs.base.Words.{is_empty}
-use Rattle.sdd_obligations.specs.base.declared.site.Site.{Site}
-use Rattle.sdd_obligations.specs.base.declared.site.Site.TheVariants.{D, T, U}
-use Rattle.sdd_obligations.specs.net.Links.{delivered, is_quiet_link, link}
-use Rattle.sdd_obligations.specs.net.Nets.{is_link, is_site}
+use Rattle.sdd_obligations.specs.All.{D, Given, Log, Site, T, U, all_links, are_linked, calls_of, delivered, flight, hand_on, handed, hands_from, is_down, is_empty, is_link, is_quiet_link, is_site, link, link_of, links, local_of, puts_to, sent, sites, takes_part}
 use Rattle.sdd_obligations.proofs.net.Directions.{link_parts}
 use Rattle.sdd_obligations.proofs.net.Sound.{sound}
-use Rattle.sdd_obligations.specs.logs.Due.{hand_on}
-use Rattle.sdd_obligations.specs.logs.Entries.{Given, Log}
-use Rattle.sdd_obligations.specs.logs.Locals.{local_of}
-use Rattle.sdd_obligations.specs.logs.Traffic.{all_links, calls_of, handed, is_down, link_of, sent, takes_part}
 use Rattle.sdd_obligations.proofs.invariants.Bools.{and_left, and_right, none_not_some}
 use Rattle.sdd_obligations.proofs.invariants.InOrder.{in_order}
 use Rattle.sdd_obligations.proofs.invariants.Lists.{all_at, in_left, in_right, member_there}
 use Rattle.sdd_obligations.proofs.invariants.Sent.{sent_is}
 use Rattle.sdd_obligations.proofs.invariants.Split.{le_is}
-use Rattle.sdd_obligations.specs.invariants.Traffic.{hands_from, puts_to}
 use Rattle.sdd_obligations.proofs.OfNext.{IsThere, site_there}
-use Rattle.sdd_obligations.specs.Stages.{flight}
 use Rattle.sdd_obligations.proofs.logs.FirstHand.{one_on}
 use Rattle.sdd_progress.proofs.Lists.{none_at}
 use Rattle.sdd_progress.specs.Quiet.{IsQuiet}

@@ -1,28 +1,14 @@
 -- A transaction module is told to hold only while a transaction waits at the module for undeclared transactions; and the
 -- Commit of the transaction that this served last.
 use Rattle.std.proofs.Common.{ℕ, ◌++◌, ◌<◌, ◌==◌, ◌∙◌, ◌∷◌, ◌≡◌, ◌≤◌, ◌⊎◌, Bool, List, None, Option, Some, [], ap, arith, false, if◌then◌else◌, inl, inr, map, refl, slice_get, subst, suc, true}
-use Rattle.sdd_obligations.specs.base.Numbers.{dm_no, tm_no}
-use Rattle.sdd_obligations.specs.base.Words.{head_of, or_else}
-use Rattle.sdd_obligations.specs.base.declared.number.Ts.{Ts}
-use Rattle.sdd_obligations.specs.base.declared.site.Site.{Site}
-use Rattle.sdd_obligations.specs.base.declared.site.Site.TheVariants.{D, T}
-use Rattle.sdd_obligations.specs.catalog.Catalogue.{Catalogue, numbers_to}
-use Rattle.sdd_obligations.specs.wire.declared.msg.Msg.{Msg}
-use Rattle.sdd_obligations.specs.wire.declared.msg.Msg.TheVariants.{Fetch, Hold, Reduce, Release, Ship}
-use Rattle.sdd_obligations.specs.site_module.SiteLog.{Act, Bases, Did, Each, Entry, Handed, Log, Redeclared, Sends, Setting, Submits, Ticked, in_force}
-use Rattle.sdd_obligations.specs.attempt.Acts.{attempt_due, commit_act}
-use Rattle.sdd_obligations.specs.attempt.Attempts.{Attempt, active, asks_rows}
-use Rattle.sdd_obligations.specs.attempt.Exchange.{first_send, is_over}
-use Rattle.sdd_obligations.specs.attempt.Queues.{Queued, is_for, queue, tried}
-use Rattle.sdd_obligations.specs.umod.Due.{IsDue, by_exchange, by_hold, by_release, by_start, hold_to, start_of}
-use Rattle.sdd_obligations.specs.umod.Views.{TmCounts, counts, counts_acted, last_served, ts_of, view_of}
+use Rattle.sdd_obligations.specs.All.{Act, Attempt, Bases, Catalogue, D, Did, Each, Fetch, Handed, Hold, IsChain, IsFairU, IsStepU, Msg, Queued, Redeclared, Reduce, Release, Sends, Setting, Ship, Site, Submits, T, Ticked, TmCounts, Ts, active, asks_rows, attempt_due, by_exchange, by_hold, by_release, by_start, commit_act, counts, counts_acted, dm_no, first_send, head_of, hold_to, in_force, is_for, is_over, last_served, numbers_to, or_else, puts_to, queue, start_at, tm_no, tried, ts_of}
+use Rattle.sdd_obligations.specs.site_module.SiteLog.{Entry, Log}
+use Rattle.sdd_obligations.specs.umod.Due.{IsDue, start_of}
+use Rattle.sdd_obligations.specs.umod.Views.{view_of}
 use Rattle.sdd_obligations.proofs.invariants.Bools.{if_way}
 use Rattle.sdd_obligations.proofs.invariants.Exchanges.{asks_next}
 use Rattle.sdd_obligations.proofs.invariants.Serving.{chain, hand_commits, hand_counts, u_due, u_way}
-use Rattle.sdd_obligations.specs.invariants.AtU.{IsChain, IsFairU, IsStepU}
 use Rattle.sdd_obligations.proofs.invariants.Turns.{balance}
-use Rattle.sdd_obligations.specs.invariants.Steps.{start_at}
-use Rattle.sdd_obligations.specs.invariants.Traffic.{puts_to}
 use Rattle.sdd_obligations.specs.invariants.Turns.{one_if}
 use Rattle.sdd_obligations.proofs.SendsLow.{hand_ts}
 

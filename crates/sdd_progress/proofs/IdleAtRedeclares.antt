@@ -1,22 +1,7 @@
 -- On a lawful log all was idle wherever a further list of classes was put in force, if no module was down there.
 use Rattle.std.proofs.Common.{ℕ, ◌++◌, ◌∷◌, ◌≡◌, ◌≤◌, Bool, List, None, Option, Some, [], ap, arith, false, if◌then◌else◌, refl, subst, sym, true}
-use Rattle.sdd_obligations.specs.base.Words.{or_else}
-use Rattle.sdd_obligations.specs.base.Sites.{sites}
-use Rattle.sdd_obligations.specs.base.declared.event.Event.{Event}
-use Rattle.sdd_obligations.specs.base.declared.event.Event.TheVariants.{Deliver, Down, Lose, Redeclare, Repeat, Resend, Settle, Submit, Tick, Up}
-use Rattle.sdd_obligations.specs.base.declared.site.Site.{Site}
-use Rattle.sdd_obligations.specs.wire.declared.msg.Msg.{Msg}
-use Rattle.sdd_obligations.specs.site_module.SiteLog.{Act}
+use Rattle.sdd_obligations.specs.All.{Act, AreSubmittedOnce, Deliver, Does, Down, Entry, Event, Given, Hand, IsLawful, IsModule, Log, Lose, Mark, Msg, Notes, Redeclare, Redeclares, Repeat, Resend, Round, Settle, Site, Submit, Submitted, Tick, Up, all_links, calls_of, delivered, does_at, due_by, greatest_bound, hand_due, hand_number, hand_on, hand_with, handed, is_down, left, link_of, mark_due, mark_from, mark_of, message_at, next, next_at, next_mark, next_number, note_if, or_else, quiet, redeclares, round, site_due, sites, takes_part}
 use Rattle.sdd_obligations.proofs.site_module.Finding.{found_at}
-use Rattle.sdd_obligations.specs.net.Links.{delivered, quiet, round}
-use Rattle.sdd_obligations.specs.serial_orders.Numbers.{IsModule}
-use Rattle.sdd_obligations.specs.logs.Due.{does_at, due_by, hand_due, hand_number, hand_on, hand_with, mark_due, next, next_at, next_number, note_if, site_due}
-use Rattle.sdd_obligations.specs.logs.Entries.{Does, Entry, Given, Hand, Log, Mark, Notes, Redeclares, Round, Submitted}
-use Rattle.sdd_obligations.specs.logs.Lawful.{IsLawful}
-use Rattle.sdd_obligations.specs.logs.Locals.{redeclares}
-use Rattle.sdd_obligations.specs.logs.Marks.{greatest_bound, left, mark_from, mark_of, next_mark}
-use Rattle.sdd_obligations.specs.logs.Permitted.{AreSubmittedOnce}
-use Rattle.sdd_obligations.specs.logs.Traffic.{all_links, calls_of, handed, is_down, link_of, message_at, takes_part}
 use Rattle.sdd_obligations.proofs.logs.NewMarks.{lawful_permitted}
 use Rattle.sdd_progress.proofs.NoneWaits.{is_idle}
 use Rattle.sdd_progress.proofs.SinceRedeclare.{redeclares_up}

@@ -1,13 +1,6 @@
 -- The history of a lawful log keeps the law of eras, and so all laws; it has a serial order.
 use Rattle.std.proofs.Common.{List}
-use Rattle.sdd_obligations.specs.base.declared.number.RelNo.{RelNo}
-use Rattle.sdd_obligations.specs.lang.Database.{Row}
-use Rattle.sdd_obligations.specs.serial_orders.Orders.{IsOrderable}
-use Rattle.sdd_obligations.specs.serial_orders.Precedence.{HasNoCycle}
-use Rattle.sdd_obligations.specs.laws.Kept.{KeepsLaws}
-use Rattle.sdd_obligations.specs.laws.Redeclares.{KeepsEras}
-use Rattle.sdd_obligations.specs.logs.Entries.{Given, Log, history}
-use Rattle.sdd_obligations.specs.logs.Lawful.{IsLawful}
+use Rattle.sdd_obligations.specs.All.{Given, HasNoCycle, IsLawful, IsOrderable, KeepsEras, KeepsLaws, Log, RelNo, Row, history}
 use Rattle.sdd_lawful.proofs.Named.{numbers_exist, txns_exist}
 use Rattle.sdd_lawful.proofs.Together.{has_order, keeps_laws, no_cycle}
 use Rattle.sdd_lawful.specs.Given.{HasSoundData, IsSoundGiven, SubmitGiven}

@@ -1,31 +1,10 @@
 -- What is known of a lawful log, in the order of which the law of eras follows.
 use Rattle.std.specs.Prelude.{filter_map}
 use Rattle.std.proofs.Common.{ℕ, suc, ◌++◌, ◌<◌, ◌∙◌, ◌∷◌, ◌≡◌, List, Some, [], ap, append_assoc, arith, length, sym, true}
-use Rattle.sdd_obligations.specs.base.Numbers.{txn_no}
-use Rattle.sdd_obligations.specs.base.declared.number.RelNo.{RelNo}
-use Rattle.sdd_obligations.specs.catalog.Catalogue.{Catalogue, numbers_to}
-use Rattle.sdd_obligations.specs.catalog.Rules.{IsSound}
-use Rattle.sdd_obligations.specs.history.declared.record.Rec.{Rec}
-use Rattle.sdd_obligations.specs.lang.Database.{Row}
-use Rattle.sdd_obligations.specs.lang.Effect.{effect}
-use Rattle.sdd_obligations.specs.lang.declared.effect.Effect.{Effect}
-use Rattle.sdd_obligations.specs.site_module.SiteLog.{Bases, Did}
+use Rattle.sdd_obligations.specs.All.{Bases, Catalogue, Committed, Did, Effect, Entry, Given, HasCommit, IsCommitted, IsLawful, IsPermitted, IsSound, KeepsApplies, KeepsStarts, KeepsUndeclared, Log, Rec, RelNo, Row, StartedBefore, begun, commit_act, effect, event_at, history, is_committed, marks, numbers_to, redeclares, txn_no, write_to}
 use Rattle.sdd_obligations.specs.site_module.SiteLog as site
-use Rattle.sdd_obligations.specs.attempt.Acts.{commit_act, write_to}
 use Rattle.sdd_obligations.specs.attempt.Attempts as attempts
-use Rattle.sdd_obligations.specs.serial_orders.Attempts.{Committed, HasCommit, IsCommitted}
-use Rattle.sdd_obligations.specs.serial_orders.Places.{event_at}
-use Rattle.sdd_obligations.specs.laws.Applies.{KeepsApplies}
-use Rattle.sdd_obligations.specs.laws.Deeds.{StartedBefore}
-use Rattle.sdd_obligations.specs.laws.Eras.{begun}
-use Rattle.sdd_obligations.specs.laws.Starts.{KeepsStarts}
-use Rattle.sdd_obligations.specs.laws.Undeclared.{KeepsUndeclared}
-use Rattle.sdd_obligations.specs.logs.Entries.{Entry, Given, Log, history, marks}
-use Rattle.sdd_obligations.specs.logs.Lawful.{IsLawful}
-use Rattle.sdd_obligations.specs.logs.Locals.{redeclares}
-use Rattle.sdd_obligations.specs.logs.Permitted.{IsPermitted}
 use Rattle.sdd_obligations.proofs.logs.NewMarks.{lawful_permitted}
-use Rattle.sdd_obligations.specs.invariants.Steps.{is_committed}
 use Rattle.sdd_lawful.specs.Given.{AreNumbered, HasSoundData, IsSoundGiven, SubmitGiven}
 use Rattle.sdd_lawful.specs.Made.{record_of}
 use Rattle.sdd_lawful.proofs.Applies.{keeps_applies}

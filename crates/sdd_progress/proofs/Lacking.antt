@@ -3,42 +3,15 @@ use Rattle.std.specs.List.{AllByRecursion}
 use Rattle.std.proofs.Common.{ℕ, ◌+◌, ◌==◌, ◌∙◌, ◌∷◌, ◌≡◌, ◌≤◌, Bool, List, None, Option, Some, [], ap, arith, cond, false, filter, if◌then◌else◌, inl, inr, length, map, refl, slice_get, suc, subst, sym, true}
 use Rattle.std.proofs.lemmas.Bool.{eqb-true}
 use Rattle.std.proofs.lemmas.List.Elements.{recursion_from_All}
-use Rattle.sdd_obligations.specs.base.Numbers.{dm_no}
-use Rattle.sdd_obligations.specs.base.Words.{contains, first_some, head_of, is_empty}
-use Rattle.sdd_obligations.specs.base.declared.number.RelNo.{RelNo}
-use Rattle.sdd_obligations.specs.base.declared.site.Site.{Site}
-use Rattle.sdd_obligations.specs.base.declared.site.Site.TheVariants.{D}
-use Rattle.sdd_obligations.specs.catalog.Catalogue.{Catalogue}
-use Rattle.sdd_obligations.specs.catalog.Rules.{IsSound}
+use Rattle.sdd_obligations.specs.All.{Asks, Attempt, Catalogue, ClassView, Condition, Const, D, Delete, Exchange, Fetch, FitsCondition, FitsGiven, FitsQuery, FitsStatement, FitsText, Given, Home, IsClass, IsModule, IsPermitted, IsSound, IsStage, Log, Msg, Open, Put, Query, Read, Reduce, RelNo, Same, Ship, Site, Stmt, Turn, Update, View, active, agreed, answer_goes, answer_of, answer_to, answers, askings, asks_rows, attempt_due, base_of, class_asked, contains, dm_no, first_send, first_some, head_of, home, home_of, is_asked_of, is_empty, is_number, is_over, is_question, is_read, open_due, opens, pipe, question_goes, questions, reads_asked, rows_asked, send_due, setting_of, turn_at, turn_with, uses_in, view_of}
 use Rattle.sdd_obligations.proofs.catalog.Sound.{sound_whole}
-use Rattle.sdd_obligations.specs.lang.Fits.{FitsCondition, FitsQuery, FitsStatement}
-use Rattle.sdd_obligations.specs.lang.Source.{uses_in}
-use Rattle.sdd_obligations.specs.lang.declared.condition.Condition.{Condition}
-use Rattle.sdd_obligations.specs.lang.declared.condition.Condition.TheVariants.{Const, Same}
-use Rattle.sdd_obligations.specs.lang.declared.statement.Stmt.{Stmt}
-use Rattle.sdd_obligations.specs.lang.declared.statement.Stmt.TheVariants.{Delete, Put, Query, Update}
-use Rattle.sdd_obligations.specs.wire.declared.msg.Msg.{Msg}
-use Rattle.sdd_obligations.specs.wire.declared.msg.Msg.TheVariants.{Fetch, Read, Reduce, Ship}
 use Rattle.sdd_obligations.specs.site_module.SiteLog as site
-use Rattle.sdd_obligations.specs.serial_orders.Numbers.{IsClass, IsModule}
-use Rattle.sdd_obligations.specs.attempt.Acts.{attempt_due}
-use Rattle.sdd_obligations.specs.attempt.Attempts.{Attempt, active, asks_rows}
-use Rattle.sdd_obligations.specs.attempt.Exchange.{Exchange, askings, first_send, is_over, send_due}
-use Rattle.sdd_obligations.specs.attempt.Fits.{is_read}
-use Rattle.sdd_obligations.specs.dm.Due.{answer_of, answer_to, open_due}
-use Rattle.sdd_obligations.specs.dm.Opens.{Open, class_asked, is_asked_of, is_number, opens}
 use Rattle.sdd_obligations.specs.dm.Copies.{classes_of}
-use Rattle.sdd_obligations.specs.dm.Pipes.{pipe}
-use Rattle.sdd_obligations.specs.dm.Views.{ClassView, Home, View, class_view, home_of, view_of}
-use Rattle.sdd_obligations.specs.logs.Entries.{Given, Log}
-use Rattle.sdd_obligations.specs.logs.Locals.{setting_of}
-use Rattle.sdd_obligations.specs.logs.Permitted.{IsPermitted}
-use Rattle.sdd_obligations.specs.logs.Snapshots.{base_of}
+use Rattle.sdd_obligations.specs.dm.Views.{class_view}
 use Rattle.sdd_obligations.proofs.invariants.Bools.{and_right, not_both, or_left, same_number}
 use Rattle.sdd_obligations.proofs.invariants.Fair.{all_new, home_fair}
 use Rattle.sdd_obligations.proofs.invariants.Holding.{at_map}
 use Rattle.sdd_obligations.proofs.invariants.Lists.{in_filtered}
-use Rattle.sdd_obligations.specs.invariants.Steps.{home}
 use Rattle.sdd_obligations.proofs.AtTurn.{StandsAt, answered_last, apart, awaited, unsent}
 use Rattle.sdd_obligations.proofs.Halves.{data_turns, home_turns}
 use Rattle.sdd_obligations.proofs.Hearing.{AtTurn}
@@ -50,9 +23,6 @@ use Rattle.sdd_obligations.proofs.Spoken.{spoken}
 use Rattle.sdd_obligations.proofs.Starts.{small_home}
 use Rattle.sdd_obligations.proofs.Sums.{range_at}
 use Rattle.sdd_obligations.proofs.Texts.{active_so, submitted_fit}
-use Rattle.sdd_obligations.specs.Fitting.{FitsGiven, FitsText}
-use Rattle.sdd_obligations.specs.Stages.{IsStage, agreed, answer_goes, question_goes}
-use Rattle.sdd_obligations.specs.Turns.{Asks, Turn, answers, is_question, questions, reads_asked, rows_asked, turn_at, turn_with}
 use Rattle.sdd_progress.proofs.Going.{is_going}
 use Rattle.sdd_progress.proofs.Handed.{none_in_flight}
 use Rattle.sdd_progress.proofs.Lists.{either, head_at, no_head, none_at}

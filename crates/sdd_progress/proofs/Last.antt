@@ -3,9 +3,7 @@ use Rattle.std.proofs.Common.{ℕ, zero, suc, ◌<◌, ◌≤◌, ◌≡◌, Boo
 use Rattle.std.specs.Prelude.{filter}
 use Rattle.std.proofs.lemmas.Bool.{false≢true}
 use Rattle.std.proofs.lemmas.Option.{same_Some}
-use Rattle.sdd_obligations.specs.history.declared.record.Rec.{Rec}
-use Rattle.sdd_obligations.specs.history.Records.{History}
-use Rattle.sdd_obligations.specs.serial_orders.Places.{Stands}
+use Rattle.sdd_obligations.specs.All.{History, Rec, Stands}
 
 abbrev pub passing : (Rec → Bool) → History → ℕ
 passing test h = length (filter (λ e. test e.1) h)

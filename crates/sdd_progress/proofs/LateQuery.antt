@@ -2,9 +2,7 @@
 use Rattle.std.proofs.Common.{◌≤◌, ◌*◌, [], arith, length, refl}
 use Rattle.sdd_history_examples.specs.Catalogues.{crossing}
 use Rattle.sdd_history_examples.proofs.Sound.{sound_crossing}
-use Rattle.sdd_obligations.specs.serial_orders.Attempts.{attempts}
-use Rattle.sdd_obligations.specs.logs.Entries.{history}
-use Rattle.sdd_obligations.specs.logs.Permitted.{IsPermitted}
+use Rattle.sdd_obligations.specs.All.{IsPermitted, attempts, history}
 use Rattle.sdd_obligations.proofs.logs.NewMarks.{lawful_permitted}
 use Rattle.sdd_lawful.specs.Given.{AreErasOf, SubmitGiven, one_era}
 use Rattle.sdd_lawful.proofs.Numbered.{lawful_numbered}

@@ -1,7 +1,7 @@
 -- Small facts on lists, options and tests.
 use Rattle.std.specs.List.{list_all}
 use Rattle.std.proofs.Common.{ℕ, ◌&&◌, ◌||◌, ◌∷◌, ◌≡◌, ◌⊎◌, Bool, List, None, Option, Some, [], cond, false, filter, if◌then◌else◌, inl, inr, refl, slice_get, subst, suc, sym, true, zero}
-use Rattle.sdd_obligations.specs.base.Words.{first_some, head_of}
+use Rattle.sdd_obligations.specs.All.{first_some, head_of}
 use Rattle.sdd_obligations.proofs.invariants.Bools.{both}
 use Rattle.sdd_obligations.proofs.logs.Ticking.{or_none}
 

@@ -3,11 +3,7 @@ use Rattle.std.specs.Prelude.{filter_map, nat_lt, slice_index_or, sum}
 use Rattle.std.specs.List.{range_with_len, flat_map}
 use Rattle.std.proofs.Common.{ℕ, ◌+◌, ◌-◌, ◌<◌, ◌≤◌, ◌==◌, ◌∷◌, ◌≡◌, ◌⊎◌, Bool, List, None, Option, Some, [], ap, arith, cond, false, filter, if◌then◌else◌, inl, inr, map, refl, suc, subst, sym, true, zero}
 use Rattle.std.proofs.lemmas.Bool.{ltb-true}
-use Rattle.sdd_obligations.specs.lang.declared.condition.Condition.{Condition}
-use Rattle.sdd_obligations.specs.lang.declared.condition.Condition.TheVariants.{Const, Same}
-use Rattle.sdd_obligations.specs.semijoin.Steps.{Join, Move, better, fewest, is_candidate, joins_from, moves, moves_by, next_move, rows_at}
-use Rattle.sdd_obligations.specs.semijoin.declared.step.Step.{Step}
-use Rattle.sdd_obligations.specs.attempt.Exchange.{Asking, Exchange, count_of, counts_for, move_at}
+use Rattle.sdd_obligations.specs.All.{Asking, Condition, Const, Exchange, Join, Move, Same, Step, better, count_of, counts_for, fewest, is_candidate, joins_from, move_at, moves, moves_by, next_move, rows_at}
 use Rattle.sdd_obligations.proofs.invariants.Bools.{and_right, same_or_not}
 use Rattle.sdd_progress.specs.Going.{AllHaveParts, CountsRead, IsRead}
 

@@ -1,29 +1,8 @@
 -- An attempt of an undeclared transaction is never rejected, so where none is under way as many are committed as were started.
 use Rattle.std.proofs.Common.{ℕ, ◌<◌, ◌==◌, ◌∙◌, ◌∷◌, ◌≡◌, Bool, List, None, Some, [], ap, if◌then◌else◌, inl, inr, refl, slice_get, subst, true}
 use Rattle.std.proofs.lemmas.Bool.{eqb-true}
-use Rattle.sdd_obligations.specs.base.Words.{ascending, contains, head_of}
-use Rattle.sdd_obligations.specs.base.declared.condition.Cond.{Cond}
-use Rattle.sdd_obligations.specs.base.declared.number.ClassNo.{ClassNo}
-use Rattle.sdd_obligations.specs.base.declared.number.DmNo.{DmNo}
-use Rattle.sdd_obligations.specs.base.declared.number.Ts.{Ts}
-use Rattle.sdd_obligations.specs.base.declared.number.TxnNo.{TxnNo}
-use Rattle.sdd_obligations.specs.base.declared.site.Site.TheVariants.{D, U}
-use Rattle.sdd_obligations.specs.base.declared.usage.Use.{Use}
-use Rattle.sdd_obligations.specs.catalog.Numbers.{IsWhole}
-use Rattle.sdd_obligations.specs.lang.Classes.{fragments_in}
-use Rattle.sdd_obligations.specs.lang.Uses.{uses_of}
-use Rattle.sdd_obligations.specs.wire.declared.msg.Msg.{Msg}
-use Rattle.sdd_obligations.specs.wire.declared.msg.Msg.TheVariants.{Read, Reject}
-use Rattle.sdd_obligations.specs.site_module.SiteLog.{sends_of_act}
-use Rattle.sdd_obligations.specs.serial_orders.Numbers.{IsModule}
-use Rattle.sdd_obligations.specs.attempt.Attempts.{active}
-use Rattle.sdd_obligations.specs.attempt.Queues.{Queued, queue}
-use Rattle.sdd_obligations.specs.pipe.Pipe.{head}
-use Rattle.sdd_obligations.specs.umod.Views.{last_served}
-use Rattle.sdd_obligations.specs.logs.Entries.{Does, Given, Hand, Log}
-use Rattle.sdd_obligations.specs.logs.Locals.{local_of, setting_of}
-use Rattle.sdd_obligations.specs.logs.Permitted.{IsPermitted}
-use Rattle.sdd_obligations.specs.logs.Traffic.{handed}
+use Rattle.sdd_obligations.specs.All.{AllZero, ClassNo, Cond, D, DmNo, Does, Given, Hand, IsModule, IsPermitted, IsRead, IsRejectBy, IsWhole, Log, Msg, Queued, Read, StartedHead, Ts, TxnNo, U, Use, active, ascending, contains, fragments_in, handed, head, head_of, home, last_served, local_of, modules_asked, pipe_at, puts_to, queue, sends_of_act, setting_of, start_at, start_read, starts, to_site, uses_of}
+use Rattle.sdd_obligations.specs.wire.declared.msg.Msg.TheVariants.{Reject}
 use Rattle.sdd_obligations.proofs.invariants.Answered.{put_in_by_d}
 use Rattle.sdd_obligations.proofs.invariants.Bools.{true_or_false}
 use Rattle.sdd_obligations.proofs.invariants.Fair.{all_new, u_fair}
@@ -34,12 +13,6 @@ use Rattle.sdd_obligations.proofs.invariants.Lists.{in_none}
 use Rattle.sdd_obligations.proofs.invariants.Made.{permitted_before, place_of_hand}
 use Rattle.sdd_obligations.proofs.invariants.Retried.{was_rejected}
 use Rattle.sdd_obligations.proofs.invariants.Serving.{is_tried}
-use Rattle.sdd_obligations.specs.invariants.AtU.{AllZero, StartedHead, starts}
-use Rattle.sdd_obligations.specs.invariants.Puts.{IsRead}
-use Rattle.sdd_obligations.specs.invariants.PutsBy.{IsRejectBy}
-use Rattle.sdd_obligations.specs.invariants.Seen.{pipe_at}
-use Rattle.sdd_obligations.specs.invariants.Steps.{home, modules_asked, start_at, start_read}
-use Rattle.sdd_obligations.specs.invariants.Traffic.{puts_to, to_site}
 use Rattle.sdd_obligations.proofs.Asking.{strict_asked}
 use Rattle.sdd_obligations.proofs.Modules.{sent_to_each}
 use Rattle.sdd_obligations.proofs.Near.{AllNear, IsNear, modules_near}

@@ -2,37 +2,9 @@
 -- a further list of classes was put in force. Then each READ that waits has conditions of the list in force.
 use Rattle.std.specs.List.{list_all}
 use Rattle.std.proofs.Common.{ℕ, ◌+◌, ◌++◌, ◌==◌, ◌∙◌, ◌∷◌, ◌≡◌, ◌≤◌, Bool, List, None, Some, [], ap, arith, false, if◌then◌else◌, inl, inr, length, refl, slice_get, subst, suc, sym, true}
-use Rattle.sdd_obligations.specs.base.Numbers.{dm_no, time_at}
-use Rattle.sdd_obligations.specs.base.Sites.{number_of}
-use Rattle.sdd_obligations.specs.base.Words.{head_of}
-use Rattle.sdd_obligations.specs.base.declared.change.Change.{Change}
-use Rattle.sdd_obligations.specs.base.declared.condition.Cond.{Cond}
-use Rattle.sdd_obligations.specs.base.declared.number.ClassNo.{ClassNo}
-use Rattle.sdd_obligations.specs.base.declared.number.FragNo.{FragNo}
-use Rattle.sdd_obligations.specs.base.declared.number.Ts.{Ts}
-use Rattle.sdd_obligations.specs.base.declared.number.TxnNo.{TxnNo}
-use Rattle.sdd_obligations.specs.base.declared.site.Site.TheVariants.{D}
-use Rattle.sdd_obligations.specs.base.declared.usage.Use.{Use}
-use Rattle.sdd_obligations.specs.catalog.Catalogue.{Catalogue}
-use Rattle.sdd_obligations.specs.catalog.Rules.{IsSound}
+use Rattle.sdd_obligations.specs.All.{Catalogue, Change, ClassNo, Cond, D, Entry, FragNo, Given, IsClass, IsModule, IsPermitted, IsSound, Log, Msg, P2, P3, Pipe, Protocol, Read, Redeclares, Setting, Ts, TxnNo, Use, Write, active, all_of, bound, clock, dm_no, force_at, head, head_of, home, is_met, local_of, number_of, pipe, redeclares, setting_of, time_at, time_of, view_of}
 use Rattle.sdd_obligations.specs.protocol.declared.entry.Entry as line
-use Rattle.sdd_obligations.specs.protocol.declared.protocol.Protocol.{Protocol}
-use Rattle.sdd_obligations.specs.protocol.declared.protocol.Protocol.TheVariants.{P2, P3}
-use Rattle.sdd_obligations.specs.wire.Piped.{time_of}
-use Rattle.sdd_obligations.specs.wire.declared.msg.Msg.{Msg}
-use Rattle.sdd_obligations.specs.wire.declared.msg.Msg.TheVariants.{Read, Write}
-use Rattle.sdd_obligations.specs.site_module.SiteLog.{Setting}
 use Rattle.sdd_obligations.specs.site_module.SiteLog as site
-use Rattle.sdd_obligations.specs.serial_orders.Numbers.{IsClass, IsModule}
-use Rattle.sdd_obligations.specs.attempt.Attempts.{active}
-use Rattle.sdd_obligations.specs.attempt.Clocks.{clock}
-use Rattle.sdd_obligations.specs.pipe.Pipe.{Pipe, head}
-use Rattle.sdd_obligations.specs.dm.Due.{is_met}
-use Rattle.sdd_obligations.specs.dm.Pipes.{pipe}
-use Rattle.sdd_obligations.specs.dm.Views.{view_of}
-use Rattle.sdd_obligations.specs.logs.Entries.{Entry, Given, Log, Redeclares}
-use Rattle.sdd_obligations.specs.logs.Locals.{force_at, local_of, redeclares, setting_of}
-use Rattle.sdd_obligations.specs.logs.Permitted.{IsPermitted}
 use Rattle.sdd_obligations.proofs.invariants.Again.{stamp_ticks}
 use Rattle.sdd_obligations.proofs.invariants.Bools.{differ, not_zero, same_or_not}
 use Rattle.sdd_obligations.proofs.invariants.Fair.{home_fair}
@@ -40,8 +12,6 @@ use Rattle.sdd_obligations.proofs.invariants.Installed.{class_number, head_put, 
 use Rattle.sdd_obligations.proofs.invariants.Lists.{at_seam, in_range}
 use Rattle.sdd_obligations.proofs.invariants.Recorded.{start_of_active}
 use Rattle.sdd_obligations.proofs.invariants.Undeclared.{part_of, permitted_part, read_classes}
-use Rattle.sdd_obligations.specs.invariants.Seen.{all_of}
-use Rattle.sdd_obligations.specs.invariants.Steps.{bound, home}
 use Rattle.sdd_waiting.proofs.Descent.{none_waits}
 use Rattle.sdd_waiting.proofs.Listed.{diagonals_listed}
 use Rattle.sdd_waiting.proofs.TableFits.{table_fits}

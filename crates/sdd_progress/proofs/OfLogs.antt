@@ -1,14 +1,7 @@
 -- What the laws of histories say of permitted logs.
 use Rattle.std.proofs.Common.{◌*◌, ◌^◌, ◌≤◌, List, length, arith}
 use Rattle.std.proofs.lemmas.Nat.{mul-le}
-use Rattle.sdd_obligations.specs.base.declared.limits.TheConstants.{MAX_TXNS}
-use Rattle.sdd_obligations.specs.base.declared.number.RelNo.{RelNo}
-use Rattle.sdd_obligations.specs.catalog.Rules.{IsSound}
-use Rattle.sdd_obligations.specs.lang.Database.{Row}
-use Rattle.sdd_obligations.specs.laws.Eras.{Eras}
-use Rattle.sdd_obligations.specs.logs.Entries.{Given, Log, history}
-use Rattle.sdd_obligations.specs.logs.Permitted.{IsPermitted}
-use Rattle.sdd_obligations.specs.serial_orders.Attempts.{attempts}
+use Rattle.sdd_obligations.specs.All.{Eras, Given, IsPermitted, IsSound, Log, MAX_TXNS, RelNo, Row, attempts, history}
 use Rattle.sdd_lawful.specs.Given.{AreErasOf, AreNumbered, HasSoundData}
 use Rattle.sdd_lawful.proofs.Named.{txns_exist}
 use Rattle.sdd_lawful.proofs.Rejections.{keeps_rejections}

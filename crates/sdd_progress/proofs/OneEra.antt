@@ -2,17 +2,9 @@
 use Rattle.std.proofs.Common.{ℕ, ◌+◌, ◌++◌, ◌<◌, ◌∙◌, ◌∷◌, ◌≡◌, ◌≤◌, [], ap, append_assoc, arith, false, length, refl, subst, sym, true}
 use Rattle.std.proofs.Math.Decide.{dec_le}
 use Rattle.std.proofs.lemmas.List.{length-append}
-use Rattle.sdd_obligations.specs.base.Numbers.{txn_no}
-use Rattle.sdd_obligations.specs.history.declared.record.Rec.TheVariants.{Commit, Submit}
-use Rattle.sdd_obligations.specs.site_module.SiteLog.{Did}
-use Rattle.sdd_obligations.specs.attempt.Acts.{commit_act}
-use Rattle.sdd_obligations.specs.serial_orders.Attempts.{Attempt, Committed, HasCommit, IsAttempt, IsCommitted}
-use Rattle.sdd_obligations.specs.serial_orders.Places.{Stands, event_at}
-use Rattle.sdd_obligations.specs.laws.Deeds.{IsSubmitted}
-use Rattle.sdd_obligations.specs.laws.Eras.{begun}
-use Rattle.sdd_obligations.specs.logs.Entries.{Does, Given, Log, Submitted, history}
-use Rattle.sdd_obligations.specs.logs.Locals.{redeclares}
-use Rattle.sdd_obligations.specs.invariants.Steps.{home, is_committed}
+use Rattle.sdd_obligations.specs.All.{Commit, Committed, Did, Does, Given, HasCommit, IsAttempt, IsCommitted, IsSubmitted, Log, Stands, Submitted, begun, commit_act, event_at, history, home, is_committed, redeclares, txn_no}
+use Rattle.sdd_obligations.specs.history.declared.record.Rec.TheVariants.{Submit}
+use Rattle.sdd_obligations.specs.serial_orders.Attempts.{Attempt}
 use Rattle.sdd_lawful.proofs.Classes.{at_home}
 use Rattle.sdd_lawful.proofs.Committed.{committed_in}
 use Rattle.sdd_lawful.proofs.Locals.{committed_later}

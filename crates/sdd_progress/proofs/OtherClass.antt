@@ -4,27 +4,13 @@ use Rattle.std.specs.Prelude.{Contains}
 use Rattle.std.specs.Option.{option_or}
 use Rattle.std.proofs.lemmas.Bool.{and_parts, eqb-true}
 use Rattle.std.proofs.lemmas.List.Elements.{All-contains}
-use Rattle.sdd_obligations.specs.base.Numbers.{class_no, frag_no}
-use Rattle.sdd_obligations.specs.base.Words.{ascending}
-use Rattle.sdd_obligations.specs.base.declared.condition.Cond.{Cond}
-use Rattle.sdd_obligations.specs.base.declared.number.FragNo.{FragNo}
+use Rattle.sdd_obligations.specs.All.{Catalogue, Cond, Diagonal, Edge, FragNo, Horizontal, IsEdgeOf, IsTable, P2, P3, Protocol, ReadsFrom, Vertical, ascending, asked_by, asked_in, asked_on, class_no, classes_of, cond_for, cond_of, condition_on, conditions, conditions_of, conflict_graph, frag_no, fragments_in, fragments_of, is_asked, p2_time, same_protocol, undeclared_conditions}
 use Rattle.sdd_obligations.proofs.base.Membership.{Contains-here}
-use Rattle.sdd_obligations.specs.catalog.Catalogue.{Catalogue}
-use Rattle.sdd_obligations.specs.graph.Edges.{IsEdgeOf, ReadsFrom}
-use Rattle.sdd_obligations.specs.graph.Graph.{classes_of, conflict_graph, fragments_of}
-use Rattle.sdd_obligations.specs.graph.declared.edge.Edge.{Edge}
-use Rattle.sdd_obligations.specs.graph.declared.edge.Edge.TheVariants.{Diagonal, Horizontal, Vertical}
 use Rattle.sdd_obligations.proofs.graph.Known.{edges_known}
 use Rattle.sdd_obligations.proofs.graph.Tables.{each_to}
-use Rattle.sdd_obligations.specs.lang.Classes.{fragments_in}
-use Rattle.sdd_obligations.specs.protocol.Conditions.{asked_by, asked_in, asked_on, cond_for, cond_of, condition_on, conditions, is_asked, undeclared_conditions}
-use Rattle.sdd_obligations.specs.protocol.Protocols.{IsTable, same_protocol}
 use Rattle.sdd_obligations.specs.protocol.declared.entry.Entry.{Entry}
-use Rattle.sdd_obligations.specs.protocol.declared.protocol.Protocol.{Protocol}
-use Rattle.sdd_obligations.specs.protocol.declared.protocol.Protocol.TheVariants.{P2, P3}
 use Rattle.sdd_obligations.proofs.serial_orders.Members.{Contains-from_filter_map, Contains-from_map, Contains-map}
-use Rattle.sdd_obligations.specs.serial_orders.Attempts.{Attempt, p2_time}
-use Rattle.sdd_obligations.specs.laws.Conditions.{conditions_of}
+use Rattle.sdd_obligations.specs.serial_orders.Attempts.{Attempt}
 
 -- a diagonal of the table from the one class to the other
 pub record HasDiagonal (entries : List Entry) (i j : ℕ) : Type 0 where

@@ -3,27 +3,8 @@
 use Rattle.std.specs.List.{cons_option, flat_map, list_any}
 use Rattle.std.specs.Prelude.{filter, filter_map, not}
 use Rattle.std.proofs.Common.{ℕ, suc, ◌++◌, ◌∙◌, ◌∷◌, ◌≡◌, List, None, Option, Some, [], ap, false, length, refl, take, true}
-use Rattle.sdd_obligations.specs.base.Numbers.{dm_no}
-use Rattle.sdd_obligations.specs.base.declared.event.Event.TheVariants.{Up}
-use Rattle.sdd_obligations.specs.base.declared.number.RelNo.{RelNo}
-use Rattle.sdd_obligations.specs.base.declared.site.Site.TheVariants.{D}
-use Rattle.sdd_obligations.specs.catalog.Catalogue.{Catalogue, has_copy}
-use Rattle.sdd_obligations.specs.catalog.Rules.{IsSound}
-use Rattle.sdd_obligations.specs.copy.Contents.{contents}
-use Rattle.sdd_obligations.specs.dm.Copies.{dated}
-use Rattle.sdd_obligations.specs.history.Records.{History}
-use Rattle.sdd_obligations.specs.history.declared.record.Rec.{Rec}
-use Rattle.sdd_obligations.specs.history.declared.record.Rec.TheVariants.{Nothing}
-use Rattle.sdd_obligations.specs.lang.Database.{Row}
-use Rattle.sdd_obligations.specs.serial_orders.Attempts.{attempt_of, attempts, committed, committed_of}
-use Rattle.sdd_obligations.specs.serial_orders.Places.{placed}
-use Rattle.sdd_obligations.specs.serial_orders.Precedence.{is_apply}
+use Rattle.sdd_obligations.specs.All.{Catalogue, D, Given, History, IsPermitted, IsSound, Log, Mark, Notes, Nothing, Rec, RelNo, Row, Up, attempt_of, attempts, by_event, by_mark, committed, committed_of, contents, dated, dm_no, has_copy, history, is_apply, is_down, local_of, mark_due, marks, note_if, placed, setting_of}
 use Rattle.sdd_obligations.specs.laws.Snapshots as laws
-use Rattle.sdd_obligations.specs.logs.Due.{mark_due, note_if}
-use Rattle.sdd_obligations.specs.logs.Entries.{Given, Log, Mark, Notes, history, marks}
-use Rattle.sdd_obligations.specs.logs.Locals.{local_of, setting_of}
-use Rattle.sdd_obligations.specs.logs.Permitted.{IsPermitted, by_event, by_mark}
-use Rattle.sdd_obligations.specs.logs.Traffic.{is_down}
 use Rattle.sdd_lawful.specs.Given.{HasSoundData}
 use Rattle.sdd_lawful.specs.Made.{IsMadeAt}
 use Rattle.sdd_lawful.proofs.SameCopies.{same_copy}

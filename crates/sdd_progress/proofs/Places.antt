@@ -6,9 +6,7 @@ use Rattle.std.specs.Cmp.{nat_eq_equiv}
 use Rattle.std.proofs.lemmas.Bool.{cases_Bool, eqb-true, eq-eqb}
 use Rattle.std.proofs.lemmas.Map.Made.{length-le_from_is_member}
 use Rattle.std.proofs.lemmas.Option.{same_Some}
-use Rattle.sdd_obligations.specs.history.declared.record.Rec.{Rec}
-use Rattle.sdd_obligations.specs.history.Records.{History}
-use Rattle.sdd_obligations.specs.serial_orders.Places.{Stands}
+use Rattle.sdd_obligations.specs.All.{History, Rec, Stands}
 
 -- all such places, the first counted as k
 places : (Rec → Bool) → ℕ → History → List ℕ

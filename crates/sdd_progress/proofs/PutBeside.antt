@@ -1,14 +1,6 @@
 -- What the laws of class 0 say of an undeclared query's READ beside a put's WRITE.
 use Rattle.std.proofs.Common.{ℕ, ◌<◌, ◌≡◌, List, Some, lit≤, refl, slice_get}
-use Rattle.sdd_obligations.specs.base.Numbers.{class_no, dm_no, time_at, txn_no}
-use Rattle.sdd_obligations.specs.base.declared.change.Change.{Change}
-use Rattle.sdd_obligations.specs.base.declared.condition.Cond.{Cond}
-use Rattle.sdd_obligations.specs.base.declared.number.ClassNo.{ClassNo}
-use Rattle.sdd_obligations.specs.base.declared.number.Ts.{Ts}
-use Rattle.sdd_obligations.specs.base.declared.number.TxnNo.{TxnNo}
-use Rattle.sdd_obligations.specs.wire.declared.msg.Msg.TheVariants.{Write}
-use Rattle.sdd_obligations.specs.pipe.Pipe.{head}
-use Rattle.sdd_obligations.specs.invariants.Seen.{pipe_at}
+use Rattle.sdd_obligations.specs.All.{Change, ClassNo, Cond, Ts, TxnNo, Write, class_no, dm_no, head, pipe_at, time_at, txn_no}
 use Rattle.sdd_waiting.proofs.Examples.{later_permitted, query_is_next, writer_is_sound}
 use Rattle.sdd_waiting.specs.Examples.{conds_of_query, given_put_later, put_handed, uses_of_query}
 use Rattle.sdd_progress.proofs.Alone.{below_read, zero_time}

@@ -4,35 +4,17 @@ use Rattle.std.specs.List.{AllByRecursion}
 use Rattle.std.specs.Prelude.{max, nat_le}
 use Rattle.std.proofs.Common.{ℕ, ◌*◌, ◌+◌, ◌++◌, ◌/◌, ◌<◌, ◌==◌, ◌∙◌, ◌∷◌, ◌≡◌, ◌≢◌, ◌≤◌, ◌⊎◌, Bool, List, None, Option, Some, [], ap, arith, false, if◌then◌else◌, inl, inr, length, not, refl, slice_get, subst, suc, sym, true, zero}
 use Rattle.std.proofs.lemmas.Bool.{eqb-true, leb-false, leb-true}
-use Rattle.sdd_obligations.specs.base.Clock.{bound_of}
-use Rattle.sdd_obligations.specs.base.Numbers.{class_no, time_at}
-use Rattle.sdd_obligations.specs.base.Sites.{same_site}
-use Rattle.sdd_obligations.specs.base.Words.{first_some, head_of, or_else}
-use Rattle.sdd_obligations.specs.base.declared.number.ClassNo.{ClassNo}
-use Rattle.sdd_obligations.specs.base.declared.number.Ts.{Ts}
-use Rattle.sdd_obligations.specs.base.declared.site.Site.{Site}
-use Rattle.sdd_obligations.specs.base.declared.site.Site.TheVariants.{U}
-use Rattle.sdd_obligations.specs.catalog.Catalogue.{Catalogue}
-use Rattle.sdd_obligations.specs.wire.declared.msg.Msg.{Msg}
-use Rattle.sdd_obligations.specs.wire.declared.msg.Msg.TheVariants.{Ask, Held, Null}
+use Rattle.sdd_obligations.specs.All.{Act, AreOpen, Ask, Attempt, Bases, Catalogue, ClassNo, Did, Each, Handed, Held, IsFairT, Msg, Null, Question, Queued, Records, Redeclared, Rise, Sends, Setting, Site, Submits, Ticked, Ts, U, active, answers_hand, asks, asks_acted, asks_handed, attempt_due, bound_of, by_ask, class_no, class_view, clock, commit_act, first_send, first_some, hands, hands_from, head_of, holds, is_over, null_at, null_due, null_time, null_to, or_else, puts_to, runs, same_site, sends_of_act, start_of, time_at, to_site}
 use Rattle.sdd_obligations.specs.site_module.SiteLog as site
-use Rattle.sdd_obligations.specs.site_module.SiteLog.{Act, Bases, Did, Each, Handed, Log, Records, Redeclared, Sends, Setting, Submits, Ticked, answers_hand, hands, sends_of_act}
-use Rattle.sdd_obligations.specs.attempt.Acts.{attempt_due, commit_act}
-use Rattle.sdd_obligations.specs.attempt.Attempts.{Attempt, active}
-use Rattle.sdd_obligations.specs.attempt.Clocks.{clock}
-use Rattle.sdd_obligations.specs.attempt.Exchange.{first_send, is_over}
-use Rattle.sdd_obligations.specs.attempt.Queues.{Queued}
+use Rattle.sdd_obligations.specs.site_module.SiteLog.{Log}
 use Rattle.sdd_obligations.proofs.tm.OpenAsks.{open_did, open_handed}
-use Rattle.sdd_obligations.specs.tm.Due.{IsDue, by_ask, by_exchange, by_hold, by_start, null_at, null_due, null_time, null_to, start_of}
-use Rattle.sdd_obligations.specs.tm.Stands.{AreOpen, Rise}
-use Rattle.sdd_obligations.specs.tm.Views.{Question, View, asks, asks_acted, asks_handed, class_view, holds, runs, view_of}
+use Rattle.sdd_obligations.specs.tm.Due.{IsDue, by_exchange, by_hold, by_start}
+use Rattle.sdd_obligations.specs.tm.Views.{View, view_of}
 use Rattle.sdd_obligations.proofs.invariants.Bools.{same_number}
 use Rattle.sdd_obligations.proofs.invariants.Clocks.{clock_rises}
 use Rattle.sdd_obligations.proofs.invariants.Holding.{at_map}
 use Rattle.sdd_obligations.proofs.invariants.Lists.{at_seam, in_either, in_filtered, in_left, in_one, in_right}
 use Rattle.sdd_obligations.proofs.invariants.Sites.{site_is, site_self}
-use Rattle.sdd_obligations.specs.invariants.AtT.{IsFairT}
-use Rattle.sdd_obligations.specs.invariants.Traffic.{hands_from, puts_to, to_site}
 use Rattle.sdd_obligations.proofs.OfNext.{IsThere}
 use Rattle.sdd_progress.proofs.Lists.{kept_there, none_at}
 

@@ -1,29 +1,11 @@
 -- Each Reject of a permitted log is by a write of another transaction.
 use Rattle.std.proofs.Common.{ℕ, ◌++◌, ◌∙◌, ◌∷◌, ◌≡◌, ◌≢◌, Some, [], ap, append_assoc, arith, length, refl, slice_get, subst, sym}
-use Rattle.sdd_obligations.specs.base.Numbers.{class_no, dm_no, time_at, txn_no}
-use Rattle.sdd_obligations.specs.base.declared.condition.Cond.{Cond}
-use Rattle.sdd_obligations.specs.base.declared.number.ClassNo.{ClassNo}
-use Rattle.sdd_obligations.specs.base.declared.site.Site.TheVariants.{D}
-use Rattle.sdd_obligations.specs.catalog.Rules.{IsSound}
-use Rattle.sdd_obligations.specs.history.declared.record.Rec.{Rec}
-use Rattle.sdd_obligations.specs.history.declared.record.Rec.TheVariants.{Reject as Rejected}
-use Rattle.sdd_obligations.specs.site_module.SiteLog.{Act, Records, Setting}
+use Rattle.sdd_obligations.specs.All.{Act, AppliedBefore, ClassNo, Committed, Cond, D, Does, Entry, Eras, Given, IsAttempt, IsCommitted, IsConditionOf, IsPermitted, IsSound, KeepsStarts, Log, Rec, Records, Reject as Rejected, Setting, class_no, commit_act, dm_no, event_at, history, home, local_of, setting_of, spoils, time_at, txn_no, view_of}
 use Rattle.sdd_obligations.specs.site_module.SiteLog as site
-use Rattle.sdd_obligations.specs.attempt.Acts.{commit_act}
-use Rattle.sdd_obligations.specs.dm.Due.{spoils}
-use Rattle.sdd_obligations.specs.dm.Views.{view_of}
-use Rattle.sdd_obligations.specs.logs.Entries.{Does, Entry, Given, Log, history}
-use Rattle.sdd_obligations.specs.logs.Locals.{local_of, setting_of}
-use Rattle.sdd_obligations.specs.logs.Permitted.{IsPermitted}
 use Rattle.sdd_obligations.proofs.logs.EachLocal.{allowed_act}
-use Rattle.sdd_obligations.specs.laws.Conditions.{IsConditionOf}
-use Rattle.sdd_obligations.specs.laws.Deeds.{AppliedBefore}
-use Rattle.sdd_obligations.specs.laws.Eras.{Eras, in_force}
-use Rattle.sdd_obligations.specs.laws.Starts.{KeepsStarts}
-use Rattle.sdd_obligations.specs.serial_orders.Attempts.{Attempt, Committed, IsAttempt, IsCommitted}
-use Rattle.sdd_obligations.specs.serial_orders.Places.{event_at}
+use Rattle.sdd_obligations.specs.laws.Eras.{in_force}
+use Rattle.sdd_obligations.specs.serial_orders.Attempts.{Attempt}
 use Rattle.sdd_obligations.proofs.invariants.AreReadSteps.{d_step}
-use Rattle.sdd_obligations.specs.invariants.Steps.{home}
 use Rattle.sdd_lawful.specs.Given.{AreErasOf}
 use Rattle.sdd_lawful.proofs.Answered.{read_of_some}
 use Rattle.sdd_lawful.proofs.Applied.{IsDataIn, applied_before, data_in}

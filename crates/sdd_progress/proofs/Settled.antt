@@ -1,18 +1,10 @@
 -- A complete log at whose end the links are quiet is one at which nothing goes on; and it is, where a settle is the last.
 use Rattle.std.proofs.Common.{ℕ, false, true, ◌++◌, ◌∷◌, ◌≡◌, List, [], ap, arith, subst}
-use Rattle.sdd_obligations.specs.base.declared.event.Event.{Event}
-use Rattle.sdd_obligations.specs.base.declared.event.Event.TheVariants.{Settle}
-use Rattle.sdd_obligations.specs.net.Links.{quiet}
-use Rattle.sdd_obligations.specs.serial_orders.Numbers.{IsModule}
-use Rattle.sdd_obligations.specs.logs.Entries.{Given, Log, history, with_event}
-use Rattle.sdd_obligations.specs.logs.Locals.{redeclares}
-use Rattle.sdd_obligations.specs.logs.Permitted.{AreSubmittedOnce}
-use Rattle.sdd_obligations.specs.logs.Traffic.{all_links, calls_of, is_down}
+use Rattle.sdd_obligations.specs.All.{AreSubmittedOnce, Event, Given, IsModule, Log, Rests, Settle, all_links, calls_of, history, is_down, quiet, redeclares, with_event}
 use Rattle.sdd_obligations.proofs.logs.NewMarks.{lawful_permitted}
 use Rattle.sdd_termination.proofs.Settled.{quiet_at_last}
 use Rattle.sdd_obligations.proofs.logs.Completing.{complete_parts}
 use Rattle.sdd_obligations.proofs.logs.FirstHand.{none_to_hand}
-use Rattle.sdd_obligations.specs.logs.Resting.{Rests}
 use Rattle.sdd_lawful.proofs.Numbered.{lawful_numbered}
 use Rattle.sdd_lawful.specs.Given.{SubmitGiven}
 use Rattle.sdd_progress.proofs.Committed.{all_committed}

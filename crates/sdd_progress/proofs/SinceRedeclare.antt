@@ -1,23 +1,6 @@
 -- A READ that waits is of an attempt that started since the last list of classes was put in force, where all was idle then.
 use Rattle.std.proofs.Common.{ℕ, ◌++◌, ◌==◌, ◌∙◌, ◌∷◌, ◌≡◌, ◌≤◌, ◌⊎◌, List, Some, [], ap, append-nil, append_assoc, arith, inl, inr, length, refl, slice_get, subst, sym, true}
-use Rattle.sdd_obligations.specs.base.Numbers.{dm_no}
-use Rattle.sdd_obligations.specs.base.declared.condition.Cond.{Cond}
-use Rattle.sdd_obligations.specs.base.declared.number.ClassNo.{ClassNo}
-use Rattle.sdd_obligations.specs.base.declared.number.Ts.{Ts}
-use Rattle.sdd_obligations.specs.base.declared.number.TxnNo.{TxnNo}
-use Rattle.sdd_obligations.specs.base.declared.site.Site.{Site}
-use Rattle.sdd_obligations.specs.base.declared.site.Site.TheVariants.{D}
-use Rattle.sdd_obligations.specs.base.declared.usage.Use.{Use}
-use Rattle.sdd_obligations.specs.catalog.Rules.{IsSound}
-use Rattle.sdd_obligations.specs.wire.declared.msg.Msg.{Msg}
-use Rattle.sdd_obligations.specs.wire.declared.msg.Msg.TheVariants.{Read}
-use Rattle.sdd_obligations.specs.site_module.SiteLog.{Did}
-use Rattle.sdd_obligations.specs.serial_orders.Numbers.{IsClass, IsModule}
-use Rattle.sdd_obligations.specs.pipe.Pipe.{head}
-use Rattle.sdd_obligations.specs.dm.Pipes.{pipe}
-use Rattle.sdd_obligations.specs.logs.Entries.{Does, Entry, Given, Hand, Log, Mark, Notes, Redeclares, Round, Submitted}
-use Rattle.sdd_obligations.specs.logs.Locals.{local_of, redeclares}
-use Rattle.sdd_obligations.specs.logs.Permitted.{IsPermitted}
+use Rattle.sdd_obligations.specs.All.{ClassNo, Cond, D, Did, Does, Entry, Given, Hand, IsClass, IsModule, IsPermitted, IsPutAt, IsSound, Log, Mark, Msg, Notes, Read, Redeclares, Round, Site, Submitted, Ts, TxnNo, Use, class_puts, dm_no, head, home, local_of, pipe, puts_to, read_at, redeclares}
 use Rattle.sdd_obligations.proofs.invariants.Applied.{in_class, one_of_key, own_made, reads_strict}
 use Rattle.sdd_obligations.proofs.invariants.Bools.{same_number}
 use Rattle.sdd_obligations.proofs.invariants.ClassOrder.{head_place}
@@ -28,11 +11,6 @@ use Rattle.sdd_obligations.proofs.invariants.Made.{local_at, local_grows}
 use Rattle.sdd_obligations.proofs.invariants.Once.{processed_grows}
 use Rattle.sdd_obligations.proofs.invariants.Origins.{is_put}
 use Rattle.sdd_obligations.proofs.invariants.Split.{processed_stays}
-use Rattle.sdd_obligations.specs.invariants.Causes.{IsPutAt}
-use Rattle.sdd_obligations.specs.invariants.OnLinks.{read_at}
-use Rattle.sdd_obligations.specs.invariants.Seen.{class_puts}
-use Rattle.sdd_obligations.specs.invariants.Steps.{home}
-use Rattle.sdd_obligations.specs.invariants.Traffic.{puts_to}
 use Rattle.sdd_lawful.proofs.Homes.{home_small}
 use Rattle.sdd_progress.proofs.Applied.{pipe_has_all}
 use Rattle.sdd_progress.specs.Finished.{IsIdle}

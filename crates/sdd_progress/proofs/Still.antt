@@ -2,31 +2,15 @@
 use Rattle.std.proofs.Common.{ℕ, ◌&&◌, ◌-◌, ◌==◌, ◌≡◌, ◌≤◌, ◌⊎◌, None, Option, Some, ap, false, inl, inr, length, refl, slice_get, subst, sym, true}
 use Rattle.std.specs.Prelude.{nat_le}
 use Rattle.std.proofs.lemmas.Bool.{le-leb}
-use Rattle.sdd_obligations.specs.base.Numbers.{dm_no, tm_no}
-use Rattle.sdd_obligations.specs.base.Sites.{sites}
-use Rattle.sdd_obligations.specs.base.Words.{first_some}
-use Rattle.sdd_obligations.specs.base.declared.site.Site.{Site}
-use Rattle.sdd_obligations.specs.base.declared.site.Site.TheVariants.{D, T, U}
-use Rattle.sdd_obligations.specs.catalog.Catalogue.{Catalogue, class_at, numbers_to}
-use Rattle.sdd_obligations.specs.catalog.Rules.{IsSound}
-use Rattle.sdd_obligations.specs.site_module.SiteLog.{Act}
-use Rattle.sdd_obligations.specs.net.Nets.{is_link, is_site}
-use Rattle.sdd_obligations.specs.serial_orders.Numbers.{IsClass, IsModule}
-use Rattle.sdd_obligations.specs.attempt.Acts.{attempt_due}
-use Rattle.sdd_obligations.specs.attempt.Attempts.{active}
+use Rattle.sdd_obligations.specs.All.{Act, Catalogue, D, Given, IsClass, IsModule, IsSound, Log, Site, T, U, active, attempt_due, base_of, class_at, dm_no, does_at, first_some, home, is_link, is_site, local_of, next_at, numbers_to, setting_of, sites, tm_no}
 use Rattle.sdd_obligations.specs.dm.Due as dm
 use Rattle.sdd_obligations.specs.dm.Views as dm_views
 use Rattle.sdd_obligations.specs.tm.Due as tm
 use Rattle.sdd_obligations.specs.tm.Views as tm_views
 use Rattle.sdd_obligations.specs.umod.Due as um
 use Rattle.sdd_obligations.specs.umod.Views as um_views
-use Rattle.sdd_obligations.specs.logs.Due.{does_at, next_at}
-use Rattle.sdd_obligations.specs.logs.Entries.{Given, Log}
-use Rattle.sdd_obligations.specs.logs.Locals.{local_of, setting_of}
-use Rattle.sdd_obligations.specs.logs.Snapshots.{base_of}
 use Rattle.sdd_obligations.proofs.invariants.Bools.{same_number, same_or_not}
 use Rattle.sdd_obligations.proofs.invariants.Holding.{at_map}
-use Rattle.sdd_obligations.specs.invariants.Steps.{home}
 use Rattle.sdd_obligations.proofs.HoldsFit.{at_place}
 use Rattle.sdd_obligations.proofs.OfNext.{site_there}
 use Rattle.sdd_lawful.proofs.Homes.{positive, served}

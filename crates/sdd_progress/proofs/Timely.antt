@@ -1,20 +1,10 @@
 -- Where each `redeclare` is given when it may be, a lawful log has no data module down where it puts a list of classes in
 -- force, and puts none in force beyond those that are given.
 use Rattle.std.proofs.Common.{ℕ, ◌++◌, ◌+◌, ◌<◌, ◌≤◌, ◌∙◌, ◌∷◌, ◌≡◌, List, Some, [], ap, append-nil, append_assoc, arith, false, length, refl, subst, sym}
-use Rattle.sdd_obligations.specs.base.declared.event.Event.{Event}
-use Rattle.sdd_obligations.specs.base.declared.event.Event.TheVariants.{Deliver, Down, Lose, Redeclare, Repeat, Resend, Settle, Submit, Tick, Up}
-use Rattle.sdd_obligations.specs.net.Links.{quiet, round}
-use Rattle.sdd_obligations.specs.serial_orders.Numbers.{IsModule}
-use Rattle.sdd_obligations.specs.logs.Entries.{Given, Log, Redeclares}
-use Rattle.sdd_obligations.specs.logs.Lawful.{IsLawful}
-use Rattle.sdd_obligations.specs.logs.Locals.{redeclares}
-use Rattle.sdd_obligations.specs.logs.Marks.{left, mark_of}
-use Rattle.sdd_obligations.specs.logs.Traffic.{all_links, calls_of, is_down}
+use Rattle.sdd_obligations.specs.All.{AllFewTicks, Deliver, Down, Event, Given, IsLawful, IsModule, Log, Lose, Redeclare, Redeclares, Repeat, Resend, Settle, Submit, Tick, Up, all_links, calls_of, is_down, is_down_after, left, mark_of, quiet, redeclares, redeclares_in, round}
 use Rattle.sdd_termination.proofs.Marked.{next_is_of_events}
-use Rattle.sdd_obligations.specs.Bounds.{AllFewTicks}
 use Rattle.sdd_progress.specs.Premises.{IsUpAtRedeclares}
 use Rattle.sdd_obligations.proofs.Done.{AreDone, count_join, done, down_join, listed_first, settles_turn}
-use Rattle.sdd_obligations.specs.AfterEvents.{is_down_after, redeclares_in}
 use Rattle.sdd_progress.specs.Timely.{AreTimely}
 
 -- no data module is down

@@ -1,26 +1,13 @@
 -- Of two committed transactions of different eras the first has the smaller timestamp.
 use Rattle.std.proofs.Common.{ℕ, ◌*◌, ◌+◌, ◌++◌, ◌/◌, ◌<◌, ◌==◌, ◌∙◌, ◌∷◌, ◌≡◌, ◌≤◌, [], ap, append_assoc, arith, false, inl, inr, length, refl, subst, sym}
 use Rattle.std.proofs.lemmas.List.{length-append}
-use Rattle.sdd_obligations.specs.base.Numbers.{tm_no, txn_no}
-use Rattle.sdd_obligations.specs.base.Sites.{number_of}
-use Rattle.sdd_obligations.specs.base.declared.site.Site.{Site}
-use Rattle.sdd_obligations.specs.base.declared.site.Site.TheVariants.{T}
+use Rattle.sdd_obligations.specs.All.{Commit, Committed, Did, Does, Entry, Given, HasCommit, IsCommitted, IsOfEarlierEra, Log, Redeclares, Site, Stands, T, clock, greatest_bound, history, home, local_of, number_of, setting_of, tm_no, txn_no}
 use Rattle.sdd_obligations.proofs.catalog.Sound.{sound_whole}
-use Rattle.sdd_obligations.specs.history.declared.record.Rec.TheVariants.{Commit}
-use Rattle.sdd_obligations.specs.site_module.SiteLog.{Did}
 use Rattle.sdd_obligations.specs.site_module.SiteLog as site
-use Rattle.sdd_obligations.specs.attempt.Clocks.{clock}
-use Rattle.sdd_obligations.specs.serial_orders.Attempts.{Committed, HasCommit, IsCommitted}
-use Rattle.sdd_obligations.specs.serial_orders.Places.{Stands}
-use Rattle.sdd_obligations.specs.laws.Redeclares.{IsOfEarlierEra}
-use Rattle.sdd_obligations.specs.logs.Entries.{Does, Entry, Given, Log, Redeclares, history}
-use Rattle.sdd_obligations.specs.logs.Locals.{local_of, setting_of}
-use Rattle.sdd_obligations.specs.logs.Marks.{greatest_bound}
 use Rattle.sdd_obligations.proofs.invariants.Again.{stamp_ticks}
 use Rattle.sdd_obligations.proofs.invariants.Bools.{same_or_not}
 use Rattle.sdd_obligations.proofs.invariants.Clocks.{clock_grows}
 use Rattle.sdd_obligations.proofs.invariants.Made.{local_grows}
-use Rattle.sdd_obligations.specs.invariants.Steps.{home}
 use Rattle.sdd_lawful.proofs.Homes.{home_small}
 use Rattle.sdd_lawful.proofs.Started.{act_local, start_act_of, start_in}
 use Rattle.sdd_lawful.proofs.Starts.{start_within}

@@ -4,30 +4,9 @@ use Rattle.std.specs.List.{list_any}
 use Rattle.std.specs.Prelude.{nat_le}
 use Rattle.std.proofs.Common.{ℕ, ◌&&◌, ◌++◌, ◌<◌, ◌==◌, ◌∙◌, ◌∷◌, ◌≡◌, ◌≤◌, ◌⊎◌, List, None, Option, Some, [], ap, append-nil, append_assoc, arith, false, if◌then◌else◌, inl, inr, map, not, refl, slice_get, subst, suc, sym, true, zero}
 use Rattle.std.proofs.lemmas.Bool.{eqb-true}
-use Rattle.sdd_obligations.specs.base.Numbers.{dm_no, time_at, tm_no}
-use Rattle.sdd_obligations.specs.base.Sites.{same_site}
-use Rattle.sdd_obligations.specs.base.Words.{head_of}
-use Rattle.sdd_obligations.specs.base.declared.change.Change.{Change}
-use Rattle.sdd_obligations.specs.base.declared.condition.Cond.{Cond}
-use Rattle.sdd_obligations.specs.base.declared.number.ClassNo.{ClassNo}
-use Rattle.sdd_obligations.specs.base.declared.number.Ts.{Ts}
-use Rattle.sdd_obligations.specs.base.declared.number.TxnNo.{TxnNo}
-use Rattle.sdd_obligations.specs.base.declared.site.Site.{Site}
-use Rattle.sdd_obligations.specs.base.declared.site.Site.TheVariants.{D, T}
-use Rattle.sdd_obligations.specs.wire.Piped.{goes_through, time_of}
-use Rattle.sdd_obligations.specs.wire.declared.msg.Msg.{Msg}
-use Rattle.sdd_obligations.specs.wire.declared.msg.Msg.TheVariants.{Ask, Null, Read, Write}
-use Rattle.sdd_obligations.specs.site_module.SiteLog.{Setting, sends_of_act}
+use Rattle.sdd_obligations.specs.All.{AllGe, Ask, Attempt, Change, ClassNo, ClassView, Cond, D, FitsGiven, Given, IsClass, IsModule, IsRising, Log, Msg, Null, Pipe, Read, Setting, Site, T, Ts, TxnNo, View, Write, active, all_of, ask_for, class_in, dm_no, goes_through, hands_from, head, head_of, holds_back, home, home_of, is_met, is_read, local_of, passed, pipe, puts_to, same_site, sends_of_act, setting_of, source_of, time_at, time_of, tm_no, to_site, touches, view_of, waits}
 use Rattle.sdd_obligations.specs.site_module.SiteLog as site
-use Rattle.sdd_obligations.specs.serial_orders.Numbers.{IsClass, IsModule}
-use Rattle.sdd_obligations.specs.attempt.Attempts.{Attempt, active}
-use Rattle.sdd_obligations.specs.attempt.Fits.{is_read}
-use Rattle.sdd_obligations.specs.pipe.Pipe.{Pipe, head, passed, touches}
-use Rattle.sdd_obligations.specs.dm.Due.{ask_for, holds, holds_back, is_met}
-use Rattle.sdd_obligations.specs.dm.Pipes.{pipe, waits}
-use Rattle.sdd_obligations.specs.dm.Views.{ClassView, View, home_of, source_of, view_of}
-use Rattle.sdd_obligations.specs.logs.Entries.{Given, Log}
-use Rattle.sdd_obligations.specs.logs.Locals.{local_of, setting_of}
+use Rattle.sdd_obligations.specs.dm.Due.{holds}
 use Rattle.sdd_obligations.proofs.invariants.AreReadSteps.{class_at_place, class_in_view}
 use Rattle.sdd_obligations.proofs.invariants.Bools.{and_left, and_right, not_both, same_number, true_or_false}
 use Rattle.sdd_obligations.proofs.invariants.ClassOrder.{class_rises}
@@ -38,13 +17,8 @@ use Rattle.sdd_obligations.proofs.invariants.Lists.{any_at, place_within}
 use Rattle.sdd_obligations.proofs.invariants.Origins.{is_put}
 use Rattle.sdd_obligations.proofs.invariants.Sites.{site_self}
 use Rattle.sdd_obligations.proofs.invariants.Split.{le_is}
-use Rattle.sdd_obligations.specs.invariants.Orders.{AllGe, IsRising}
-use Rattle.sdd_obligations.specs.invariants.Seen.{all_of}
-use Rattle.sdd_obligations.specs.invariants.Steps.{home}
-use Rattle.sdd_obligations.specs.invariants.Traffic.{class_in, hands_from, puts_to, to_site}
 use Rattle.sdd_obligations.proofs.OfNext.{IsThere}
 use Rattle.sdd_obligations.proofs.Sources.{source_is_home}
-use Rattle.sdd_obligations.specs.Fitting.{FitsGiven}
 use Rattle.sdd_waiting.proofs.Passing.{head_below, passed_lasts, reached_is_passed}
 use Rattle.sdd_waiting.proofs.StuckHeads.{head_stuck}
 use Rattle.sdd_waiting.proofs.Waited.{since}

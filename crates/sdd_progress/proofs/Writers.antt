@@ -5,23 +5,12 @@ use Rattle.std.specs.List.{IsDistinct, AllByRecursion}
 use Rattle.std.proofs.lemmas.Bool.{cases_lt, ne_eqb}
 use Rattle.std.proofs.lemmas.Map.Keys.{IsDistinct-cons}
 use Rattle.std.proofs.lemmas.Option.{same_Some}
-use Rattle.sdd_obligations.specs.base.Numbers.{txn_no}
-use Rattle.sdd_obligations.specs.base.declared.condition.Cond.{Cond}
-use Rattle.sdd_obligations.specs.base.declared.number.Ts.{Ts}
-use Rattle.sdd_obligations.specs.catalog.Catalogue.{Catalogue}
-use Rattle.sdd_obligations.specs.history.declared.record.Rec.TheVariants.{Commit, Submit}
-use Rattle.sdd_obligations.specs.history.Records.{History}
-use Rattle.sdd_obligations.specs.lang.declared.transaction.Txn.{Txn}
-use Rattle.sdd_obligations.specs.lang.Classes.{class_for}
-use Rattle.sdd_obligations.specs.serial_orders.Attempts.{Attempt, Committed, IsAttempt, IsCommitted}
-use Rattle.sdd_obligations.specs.serial_orders.Places.{Stands, event_at}
+use Rattle.sdd_obligations.specs.All.{Catalogue, Commit, Committed, Cond, Eras, History, IsAgain, IsAttempt, IsCommitted, IsConditionOf, KeepsRejections, KeepsStarts, Stands, Ts, Txn, class_for, commits_of_others, event_at, is_commit_of_other, starts_before, txn_no}
+use Rattle.sdd_obligations.specs.history.declared.record.Rec.TheVariants.{Submit}
+use Rattle.sdd_obligations.specs.serial_orders.Attempts.{Attempt}
 use Rattle.sdd_obligations.proofs.serial_orders.Places.{same_commit, same_start}
-use Rattle.sdd_obligations.specs.laws.Conditions.{IsConditionOf}
 use Rattle.sdd_obligations.specs.laws.Deeds.{txn_at}
-use Rattle.sdd_obligations.specs.laws.Eras.{Eras, in_force}
-use Rattle.sdd_obligations.specs.laws.Few.{is_commit_of_other, commits_of_others}
-use Rattle.sdd_obligations.specs.laws.Rejections.{IsAgain, KeepsRejections}
-use Rattle.sdd_obligations.specs.laws.Starts.{KeepsStarts, starts_before}
+use Rattle.sdd_obligations.specs.laws.Eras.{in_force}
 use Rattle.sdd_obligations.proofs.laws.NumberedStarts.{one_start, start_counts}
 use Rattle.sdd_obligations.proofs.laws.Times.{condition_time}
 use Rattle.sdd_progress.proofs.Places.{Passes, few_places}

@@ -1,10 +1,6 @@
 -- What an active attempt waits for where nothing goes on: one of its modules has its READ, and hasn't processed it.
 use Rattle.std.specs.Prelude.{ℕ, ◌≡◌, true, Some, slice_get}
-use Rattle.sdd_obligations.specs.wire.declared.msg.Msg.{Msg}
-use Rattle.sdd_obligations.specs.serial_orders.Numbers.{IsModule}
-use Rattle.sdd_obligations.specs.attempt.Fits.{is_read}
-use Rattle.sdd_obligations.specs.dm.Pipes.{pipe}
-use Rattle.sdd_obligations.specs.logs.Entries.{Given, Log}
+use Rattle.sdd_obligations.specs.All.{Given, IsModule, Log, Msg, is_read, pipe}
 use Rattle.sdd_progress.specs.Quiet.{at_module}
 
 -- at a module the READ of the attempt of class c with timestamp ts is not processed

@@ -1,9 +1,7 @@
 -- The eras of a log: the catalogues of the lists of classes that it put in force one after the other, each with the event
 -- from which it is.
 use Rattle.std.specs.Prelude.{suc, [], ◌∷◌, ◌++◌}
-use Rattle.sdd_obligations.specs.logs.Entries.{Given, Log, Redeclares, marks}
-use Rattle.sdd_obligations.specs.logs.Locals.{force_at, redeclares}
-use Rattle.sdd_obligations.specs.laws.Eras.{Eras}
+use Rattle.sdd_obligations.specs.All.{Eras, Given, Log, Redeclares, force_at, marks, redeclares}
 
 abbrev pub eras_of : Given → Log → Eras
 eras_of g [] = (0, (force_at g 0).catalogue) ∷ []

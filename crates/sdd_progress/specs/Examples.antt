@@ -1,14 +1,9 @@
 -- Worked logs with a settle at their end: of two transactions, each reads the fragment that the other's class writes.
 use Rattle.std.specs.Prelude.{◌≡◌, List, [], ◌∷◌, ◌++◌, None, length, refl}
-use Rattle.sdd_obligations.specs.base.Numbers.{dm_no, tm_no, txn_no}
-use Rattle.sdd_obligations.specs.base.declared.event.Event.{Event}
-use Rattle.sdd_obligations.specs.base.declared.event.Event.TheVariants.{Deliver, Lose, Settle, Submit}
-use Rattle.sdd_obligations.specs.base.declared.site.Site.TheVariants.{D, T}
+use Rattle.sdd_obligations.specs.All.{D, Deliver, Event, Given, Log, Lose, Settle, Submit, T, dm_no, extended, marks, next, tm_no, txn_no}
 use Rattle.sdd_history_examples.specs.Catalogues.{crossing}
 use Rattle.sdd_history_examples.specs.Tables.{table_of_crossing}
 use Rattle.sdd_history_examples.specs.Texts.{query_and_put}
-use Rattle.sdd_obligations.specs.logs.Due.{extended, next}
-use Rattle.sdd_obligations.specs.logs.Entries.{Given, Log, marks}
 
 -- what is given, with these events
 abbrev pub crossing_with : List Event → Given

@@ -1,15 +1,6 @@
 -- A log in which everything is finished: nothing that was submitted is left to be done.
 use Rattle.std.specs.Prelude.{ℕ, ◌≡◌, ◌≤◌, [], None}
-use Rattle.sdd_obligations.specs.base.Numbers.{tm_no}
-use Rattle.sdd_obligations.specs.base.declared.site.Site.TheVariants.{T}
-use Rattle.sdd_obligations.specs.serial_orders.Numbers.{IsClass, IsModule}
-use Rattle.sdd_obligations.specs.attempt.Attempts.{active}
-use Rattle.sdd_obligations.specs.attempt.Queues.{queue}
-use Rattle.sdd_obligations.specs.dm.Pipes.{pipe}
-use Rattle.sdd_obligations.specs.tm.Views.{holds}
-use Rattle.sdd_obligations.specs.logs.Entries.{Given, Log}
-use Rattle.sdd_obligations.specs.logs.Locals.{local_of, setting_of}
-use Rattle.sdd_obligations.specs.invariants.Steps.{home}
+use Rattle.sdd_obligations.specs.All.{Given, IsClass, IsModule, Log, T, active, holds, home, local_of, pipe, queue, setting_of, tm_no}
 use Rattle.sdd_progress.specs.Quiet.{at_home, at_module}
 
 -- every message of every pipe is processed, and no attempt is under way

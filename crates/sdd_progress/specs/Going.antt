@@ -1,9 +1,6 @@
 -- An exchange that is not over lacks the answer of a module: it goes on as long as answers come.
 use Rattle.std.specs.Prelude.{ℕ, ◌≡◌, ◌≤◌, false, List, [], ◌∷◌, filter_map, cond, Some, None}
-use Rattle.sdd_obligations.specs.base.Words.{contains, is_empty}
-use Rattle.sdd_obligations.specs.lang.declared.condition.Condition.{Condition}
-use Rattle.sdd_obligations.specs.lang.declared.condition.Condition.TheVariants.{Const, Same}
-use Rattle.sdd_obligations.specs.attempt.Exchange.{Asking, Exchange, Fetching, Over, Phase, Reading, Reducing, Shipping, is_over}
+use Rattle.sdd_obligations.specs.All.{Asking, Condition, Const, Exchange, Fetching, Over, Phase, Reading, Reducing, Same, Shipping, contains, is_empty, is_over}
 
 -- the modules that read a use, and that there is one
 abbrev pub readers : List (ℕ × List ℕ) → ℕ → List ℕ

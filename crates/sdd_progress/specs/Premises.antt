@@ -1,11 +1,6 @@
 -- What is needed of what is given, and of a log, so that a log at which nothing goes on is finished.
 use Rattle.std.specs.Prelude.{ℕ, ◌≡◌, ◌≤◌, ◌++◌, ◌∷◌, false}
-use Rattle.sdd_obligations.specs.logs.Entries.{Given, Log, Redeclares}
-use Rattle.sdd_obligations.specs.logs.Locals.{IsForce, force_at, redeclares}
-use Rattle.sdd_obligations.specs.logs.Traffic.{is_down}
-use Rattle.sdd_obligations.specs.class_eras.EraOf.{IsEraOf}
-use Rattle.sdd_obligations.specs.serial_orders.Numbers.{IsModule}
-use Rattle.sdd_obligations.specs.Fitting.{FitsGiven}
+use Rattle.sdd_obligations.specs.All.{FitsGiven, Given, IsEraOf, IsForce, IsModule, Log, Redeclares, force_at, is_down, redeclares}
 use Rattle.sdd_progress.specs.Finished.{IsIdle}
 use Rattle.sdd_progress.specs.Quiet.{IsQuiet}
 

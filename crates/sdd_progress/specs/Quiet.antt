@@ -1,17 +1,8 @@
 -- A log at which nothing goes on: nothing is under way on a link, nothing is due at a site, and every data module takes
 -- part.
 use Rattle.std.specs.Prelude.{ℕ, ◌≡◌, false, true, None}
-use Rattle.sdd_obligations.specs.base.Numbers.{dm_no}
-use Rattle.sdd_obligations.specs.base.declared.site.Site.TheVariants.{D}
-use Rattle.sdd_obligations.specs.net.Links.{quiet}
+use Rattle.sdd_obligations.specs.All.{D, Given, IsModule, IsPermitted, Log, all_links, calls_of, dm_no, hand_due, home, is_down, local_of, quiet, site_due}
 use Rattle.sdd_obligations.specs.site_module.SiteLog as site
-use Rattle.sdd_obligations.specs.serial_orders.Numbers.{IsModule}
-use Rattle.sdd_obligations.specs.logs.Due.{hand_due, site_due}
-use Rattle.sdd_obligations.specs.logs.Entries.{Given, Log}
-use Rattle.sdd_obligations.specs.logs.Locals.{local_of}
-use Rattle.sdd_obligations.specs.logs.Permitted.{IsPermitted}
-use Rattle.sdd_obligations.specs.logs.Traffic.{all_links, calls_of, is_down}
-use Rattle.sdd_obligations.specs.invariants.Steps.{home}
 
 -- nothing is in flight and nothing unacknowledged; no module is down; and neither an act nor a hand is due
 pub record IsQuiet (g : Given) (log : Log) : Type 0 where

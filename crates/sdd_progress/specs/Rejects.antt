@@ -1,15 +1,7 @@
 -- The law of Rejects: why each attempt that is rejected is so.
 use Rattle.std.specs.Prelude.{ℕ, ◌<◌, ◌≤◌, ◌≡◌, ◌≢◌}
-use Rattle.sdd_obligations.specs.base.Numbers.{class_no, dm_no, txn_no, time_at}
-use Rattle.sdd_obligations.specs.base.declared.condition.Cond.{Cond}
-use Rattle.sdd_obligations.specs.catalog.Catalogue.{Catalogue}
-use Rattle.sdd_obligations.specs.history.declared.record.Rec.TheVariants.{Reject}
-use Rattle.sdd_obligations.specs.history.Records.{History}
-use Rattle.sdd_obligations.specs.serial_orders.Attempts.{Attempt, Committed, IsAttempt, IsCommitted}
-use Rattle.sdd_obligations.specs.serial_orders.Places.{Stands}
-use Rattle.sdd_obligations.specs.laws.Conditions.{IsConditionOf}
-use Rattle.sdd_obligations.specs.laws.Deeds.{AppliedBefore, ChangesOne}
-use Rattle.sdd_obligations.specs.laws.Eras.{Eras}
+use Rattle.sdd_obligations.specs.All.{AppliedBefore, Catalogue, ChangesOne, Committed, Cond, Eras, History, IsAttempt, IsCommitted, IsConditionOf, Reject, Stands, class_no, dm_no, time_at, txn_no}
+use Rattle.sdd_obligations.specs.serial_orders.Attempts.{Attempt}
 
 -- why a Reject at the place is of attempt `number` of transaction n, at module dm, and names the class and the timestamp
 pub record IsRejected (cat : Catalogue) (eras : Eras) (h : History) (n number dm class write place : ℕ) : Type 0 where

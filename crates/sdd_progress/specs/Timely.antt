@@ -1,11 +1,7 @@
 -- Where a `redeclare` may stand among the events that are given: it puts the next list of classes in force, at all
 -- transaction modules at once, and needs every data module for that.
 use Rattle.std.specs.Prelude.{ℕ, suc, ◌≡◌, ◌<◌, List, ◌∷◌, ◌++◌, false, length}
-use Rattle.sdd_obligations.specs.base.declared.event.Event.{Event}
-use Rattle.sdd_obligations.specs.base.declared.event.Event.TheVariants.{Redeclare}
-use Rattle.sdd_obligations.specs.serial_orders.Numbers.{IsModule}
-use Rattle.sdd_obligations.specs.logs.Entries.{Given}
-use Rattle.sdd_obligations.specs.AfterEvents.{is_down_after, redeclares_in}
+use Rattle.sdd_obligations.specs.All.{Event, Given, IsModule, Redeclare, is_down_after, redeclares_in}
 
 -- after these events: a list is left, and no data module is down
 pub record MayRedeclare (g : Given) (events : List Event) : Type 0 where

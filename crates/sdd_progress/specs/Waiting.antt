@@ -1,18 +1,6 @@
 -- READs that wait at modules, and what they wait for.
 use Rattle.std.specs.Prelude.{ℕ, ◌<◌, ◌≡◌, ◌≤◌, List, Some, slice_get, true}
-use Rattle.sdd_obligations.specs.base.Numbers.{time_at}
-use Rattle.sdd_obligations.specs.base.declared.change.Change.{Change}
-use Rattle.sdd_obligations.specs.base.declared.condition.Cond.{Cond}
-use Rattle.sdd_obligations.specs.base.declared.number.ClassNo.{ClassNo}
-use Rattle.sdd_obligations.specs.base.declared.number.TxnNo.{TxnNo}
-use Rattle.sdd_obligations.specs.base.declared.usage.Use.{Use}
-use Rattle.sdd_obligations.specs.wire.Piped.{time_of}
-use Rattle.sdd_obligations.specs.wire.declared.msg.Msg.{Msg}
-use Rattle.sdd_obligations.specs.wire.declared.msg.Msg.TheVariants.{Read, Write}
-use Rattle.sdd_obligations.specs.serial_orders.Numbers.{IsClass, IsModule}
-use Rattle.sdd_obligations.specs.pipe.Pipe.{head}
-use Rattle.sdd_obligations.specs.dm.Pipes.{pipe, waits}
-use Rattle.sdd_obligations.specs.logs.Entries.{Given, Log}
+use Rattle.sdd_obligations.specs.All.{Change, ClassNo, Cond, Given, IsClass, IsModule, Log, Msg, Read, TxnNo, Use, Write, head, pipe, time_at, time_of, waits}
 use Rattle.sdd_progress.specs.Quiet.{at_module}
 
 -- a READ of class c with this timestamp and these conditions waits at a module

@@ -1,13 +1,5 @@
 ghost use Rattle.std.specs.Prelude.{◌≡◌, ◌≤◌, ◌*◌, ◌^◌, List, length};
-ghost use Rattle.sdd_obligations.specs.base.declared.limits.TheConstants.{MAX_TXNS};
-ghost use Rattle.sdd_obligations.specs.base.declared.number.RelNo.{RelNo};
-ghost use Rattle.sdd_obligations.specs.lang.Database.{Row};
-ghost use Rattle.sdd_obligations.specs.laws.Eras.{Eras};
-ghost use Rattle.sdd_obligations.specs.logs.Entries.{Given, Log, history};
-ghost use Rattle.sdd_obligations.specs.logs.Lawful.{IsLawful};
-ghost use Rattle.sdd_obligations.specs.logs.Locals.{IsForce, force_at, redeclares};
-ghost use Rattle.sdd_obligations.specs.logs.Permitted.{AreSubmittedOnce, IsPermitted};
-ghost use Rattle.sdd_obligations.specs.serial_orders.Attempts.{attempts};
+ghost use Rattle.sdd_obligations.specs.All.{AreSubmittedOnce, Eras, Given, IsForce, IsLawful, IsPermitted, Log, MAX_TXNS, RelNo, Row, attempts, force_at, history, redeclares};
 ghost use Rattle.sdd_lawful.specs.Given.{AreErasOf, AreNumbered, HasSoundData, IsSoundGiven, SubmitGiven};
 ghost use Rattle.sdd_progress.specs.Few.{AreFewRejected};
 ghost use Rattle.sdd_progress.specs.Rejects.{KeepsRejects};

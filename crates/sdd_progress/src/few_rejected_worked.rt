@@ -1,7 +1,6 @@
 ghost use Rattle.std.specs.Prelude.{◌≡◌, ◌≤◌, ◌*◌, length};
 ghost use Rattle.sdd_history_examples.specs.Catalogues.{crossing};
-ghost use Rattle.sdd_obligations.specs.logs.Entries.{history};
-ghost use Rattle.sdd_obligations.specs.serial_orders.Attempts.{attempts};
+ghost use Rattle.sdd_obligations.specs.All.{attempts, history};
 ghost use Rattle.sdd_lawful.specs.Given.{one_era};
 ghost use Rattle.sdd_progress.specs.Examples.{given_late_query, log_of_late_query};
 ghost use Rattle.sdd_progress.specs.Few.{AreFewRejected, rejected_of};

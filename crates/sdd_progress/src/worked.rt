@@ -1,14 +1,5 @@
 ghost use Rattle.std.specs.Prelude.{ℕ, ◌<◌, ◌≡◌, List, Some, slice_get};
-ghost use Rattle.sdd_obligations.specs.base.Numbers.{dm_no};
-ghost use Rattle.sdd_obligations.specs.base.declared.change.Change.{Change};
-ghost use Rattle.sdd_obligations.specs.base.declared.condition.Cond.{Cond};
-ghost use Rattle.sdd_obligations.specs.base.declared.number.ClassNo.{ClassNo};
-ghost use Rattle.sdd_obligations.specs.base.declared.number.Ts.{Ts};
-ghost use Rattle.sdd_obligations.specs.base.declared.number.TxnNo.{TxnNo};
-ghost use Rattle.sdd_obligations.specs.wire.declared.msg.Msg.TheVariants.{Write};
-ghost use Rattle.sdd_obligations.specs.pipe.Pipe.{head};
-ghost use Rattle.sdd_obligations.specs.logs.Entries.{history};
-ghost use Rattle.sdd_obligations.specs.invariants.Seen.{pipe_at};
+ghost use Rattle.sdd_obligations.specs.All.{Change, ClassNo, Cond, Ts, TxnNo, Write, dm_no, head, history, pipe_at};
 ghost use Rattle.sdd_waiting.specs.Examples.{conds_of_query, given_put_later, put_handed};
 ghost use Rattle.sdd_progress.specs.Committed.{AllCommitted};
 ghost use Rattle.sdd_progress.specs.Examples.{given_all_lost, given_late_query, log_of_all_lost, log_of_late_query};

@@ -1,7 +1,7 @@
 -- The lines of queries, one query after the other.
 use Rattle.std.proofs.Common.{◌≡◌, ℕ, ◌+◌, ◌<◌, ◌≤◌, List, ◌++◌, length, drop, get_or, refl, ap, sym, ◌∙◌, drop-cons, add-one, append_assoc, append-nil}
 use Rattle.std.proofs.lemmas.List.{drop_all}
-use Rattle.sdd_lang.specs.base.declared.value.Value.{Value}
+use Rattle.sdd_lang.specs.All.{Value}
 use Rattle.sdd_report.specs.Replies.{query_lines, queries_from}
 
 -- a query's lines go from what is left to what is written

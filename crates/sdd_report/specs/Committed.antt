@@ -3,8 +3,7 @@
 use Rattle.std.specs.Prelude.{ℕ, ◌==◌, Bool, List, [], ◌∷◌, ◌++◌, codes, flat_map, map, find, filter_map, Option, Some, None}
 use Rattle.std.specs.Option.{option_map_or}
 use Rattle.std.specs.Fmt.{decimal}
-use Rattle.sdd_lang.specs.base.declared.number.TxnNo.{TxnNo}
-use Rattle.sdd_lang.specs.base.declared.reply.Reply.{Reply}
+use Rattle.sdd_lang.specs.All.{Reply, TxnNo}
 use Rattle.sdd_history.specs.declared.record.Rec.{Rec}
 use Rattle.sdd_history.specs.declared.record.Rec.TheVariants as records
 use Rattle.sdd_lang.specs.declared.transaction.Txn.{Txn}

@@ -1,7 +1,7 @@
 -- The rows of copies of fragments at data modules.
 use Rattle.std.specs.Prelude.{ℕ, List, ◌∷◌, ◌++◌, length, codes, flat_map}
 use Rattle.std.specs.Fmt.{decimal}
-use Rattle.sdd_lang.specs.catalog.Catalogue.{Catalogue}
+use Rattle.sdd_lang.specs.All.{Catalogue}
 use Rattle.sdd_report.specs.Names.{spaced, fragment_name, module_word}
 use Rattle.sdd_report.specs.Replies.{row_line}
 use Rattle.sdd_report.specs.declared.copies.CopyTable.{CopyTable}

@@ -1,12 +1,9 @@
 -- Worked rows.
 use Rattle.std.specs.Prelude.{ℕ, ◌≡◌, [], ◌∷◌, List, codes, pos, Some, None, refl}
 use Rattle.std.specs.Fmt.{digits}
-use Rattle.sdd_lang.specs.base.Numbers.{class_no, dm_no, frag_no, rel_no, time_at, tm_no, txn_no}
+use Rattle.sdd_lang.specs.All.{Catalogue, D, Int, Value, class_no, dm_no, frag_no, rel_no, time_at, tm_no, txn_no}
 use Rattle.sdd_lang.specs.base.declared.reply.Reply.TheVariants as replies
-use Rattle.sdd_lang.specs.base.declared.site.Site.TheVariants.{D}
-use Rattle.sdd_lang.specs.base.declared.value.Value.{Value}
-use Rattle.sdd_lang.specs.base.declared.value.Value.TheVariants.{Int, Text}
-use Rattle.sdd_lang.specs.catalog.Catalogue.{Catalogue}
+use Rattle.sdd_lang.specs.base.declared.value.Value.TheVariants.{Text}
 use Rattle.sdd_history.specs.declared.record.Rec.{Rec}
 use Rattle.sdd_history.specs.declared.record.Rec.TheVariants.{Submit, Start, Arrive, Wait, Answer, Reject, Commit, Apply, Pass, Nothing}
 use Rattle.sdd_lang.specs.declared.transaction.Txn.{Txn}

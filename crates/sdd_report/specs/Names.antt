@@ -2,11 +2,7 @@
 use Rattle.std.specs.Prelude.{ℕ, ◌-◌, ◌==◌, if◌then◌else◌, List, [], ◌∷◌, ◌++◌, codes, slice_get}
 use Rattle.std.specs.Option.{option_map_or}
 use Rattle.std.specs.Fmt.{decimal}
-use Rattle.sdd_lang.specs.base.declared.site.Site.{Site}
-use Rattle.sdd_lang.specs.base.declared.site.Site.TheVariants.{U, T, D}
-use Rattle.sdd_lang.specs.catalog.Catalogue.{Catalogue}
-use Rattle.sdd_lang.specs.catalog.declared.resolved.Class.{Class}
-use Rattle.sdd_lang.specs.catalog.declared.resolved.Fragment.{Fragment}
+use Rattle.sdd_lang.specs.All.{Catalogue, Class, D, Fragment, Site, T, U}
 use Rattle.sdd_lang.specs.declared.transaction.Txn.{Txn}
 
 -- a word behind a space

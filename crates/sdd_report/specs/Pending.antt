@@ -1,8 +1,7 @@
 -- Transactions that were submitted and aren't committed, and what each one is waiting for.
 use Rattle.std.specs.Prelude.{ℕ, nat_lt, Bool, List, [], ◌∷◌, ◌++◌, codes, flat_map}
 use Rattle.std.specs.List.{best_of}
-use Rattle.sdd_lang.specs.base.declared.site.Site.{Site}
-use Rattle.sdd_lang.specs.catalog.Catalogue.{Catalogue}
+use Rattle.sdd_lang.specs.All.{Catalogue, Site}
 use Rattle.sdd_lang.specs.declared.transaction.Txn.{Txn}
 use Rattle.sdd_report.specs.Names.{spaced, txn_name, module_word, site_word, class_time}
 use Rattle.sdd_report.specs.declared.pending.Pending.{Pending}

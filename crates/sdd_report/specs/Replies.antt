@@ -1,9 +1,8 @@
 -- The line of an order, and the lines of replies: what a transaction answers, with the rows of each of its queries.
 use Rattle.std.specs.Prelude.{ℕ, ◌+◌, List, [], ◌∷◌, ◌++◌, length, flat_map, codes}
 use Rattle.std.specs.Fmt.{decimal}
-use Rattle.sdd_lang.specs.base.declared.value.Value.{Value}
-use Rattle.sdd_lang.specs.base.declared.reply.Reply.{Reply}
-use Rattle.sdd_lang.specs.base.declared.reply.Reply.TheVariants.{Rows, Overflow, TooMany}
+use Rattle.sdd_lang.specs.All.{Overflow, Reply, Rows, Value}
+use Rattle.sdd_lang.specs.base.declared.reply.Reply.TheVariants.{TooMany}
 use Rattle.sdd_words.specs.Values.{value_word}
 use Rattle.sdd_words.specs.Words.{word_bytes}
 use Rattle.sdd_report.specs.Names.{spaced}

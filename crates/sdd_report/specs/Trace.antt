@@ -1,9 +1,7 @@
 -- The trace: one line a record, which begins with the number of its event.
 use Rattle.std.specs.Prelude.{ℕ, List, [], ◌∷◌, ◌++◌, codes, flat_map, Option, Some, None}
 use Rattle.std.specs.Fmt.{decimal}
-use Rattle.sdd_lang.specs.base.declared.condition.Cond.{Cond}
-use Rattle.sdd_lang.specs.base.declared.number.Ts.{Ts}
-use Rattle.sdd_lang.specs.catalog.Catalogue.{Catalogue}
+use Rattle.sdd_lang.specs.All.{Catalogue, Cond, Ts}
 use Rattle.sdd_history.specs.declared.record.Rec.{Rec}
 use Rattle.sdd_history.specs.declared.record.Rec.TheVariants as records
 use Rattle.sdd_lang.specs.declared.transaction.Txn.{Txn}

@@ -3,20 +3,9 @@ use Rattle.std.proofs.Common.{ℕ, zero, suc, ◌-◌, ◌<◌, ◌≡◌, ◌�
 use Rattle.std.specs.Prelude.{slice_get, ◌&&◌}
 use Rattle.std.specs.List.{All}
 use Rattle.std.proofs.lemmas.List.Elements.{All-head, All-tail}
-use Rattle.sdd_obligations.specs.base.Sites.{are_linked}
-use Rattle.sdd_obligations.specs.base.declared.event.Event.{Event}
-use Rattle.sdd_obligations.specs.base.declared.event.Event.TheVariants.{Submit, Deliver, Lose, Repeat, Resend, Tick, Settle, Redeclare, Down, Up}
-use Rattle.sdd_obligations.specs.base.declared.site.Site.{Site}
-use Rattle.sdd_obligations.specs.base.declared.site.Site.TheVariants.{U, T, D}
-use Rattle.sdd_obligations.specs.catalog.Catalogue.{Catalogue}
-use Rattle.sdd_obligations.specs.net.Nets.{is_site, is_link}
-use Rattle.sdd_script.specs.Valid.{IsLink, IsSite, IsValidEvent}
-use Rattle.sdd_obligations.specs.logs.Entries.{Given, with_event}
-use Rattle.sdd_obligations.specs.logs.Resting.{IsPossible}
-use Rattle.sdd_obligations.specs.Real.{IsGood}
-use Rattle.sdd_obligations.specs.AfterEvents.{redeclares_in}
+use Rattle.sdd_obligations.specs.All.{Catalogue, D, Deliver, Down, Event, Force, Given, IsGood, IsPossible, Lose, Redeclare, Repeat, Resend, Settle, Site, Submit, T, Tick, U, Up, are_linked, is_link, is_site, redeclares_in, with_event}
+use Rattle.sdd_script.specs.All.{IsLink, IsSite, IsValidEvent}
 use Rattle.sdd_obligations.proofs.Done.{count_join}
-use Rattle.sdd_obligations.specs.site_module.SiteLog.{Force}
 use Rattle.sdd_world.specs.Schedules.{AreAllowed, lists_after, takes_rounds}
 use Rattle.sdd_world.specs.declared.schedule.ClassList.{ClassList}
 use Rattle.sdd_run.specs.Lent.{force_in}

@@ -1,10 +1,8 @@
 -- No run is told of and ended by the limit.
 use Rattle.std.proofs.Common.{ℕ, List, subst}
-use Rattle.sdd_obligations.specs.catalog.Catalogue.{Catalogue}
+use Rattle.sdd_obligations.specs.All.{Catalogue, IsTheLog, Log}
 use Rattle.sdd_obligations.specs.protocol.declared.entry.Entry.{Entry}
 use Rattle.sdd_script.specs.declared.workload.Workload.{Workload}
-use Rattle.sdd_obligations.specs.logs.Entries.{Log}
-use Rattle.sdd_obligations.specs.logs.Lawful.{IsTheLog}
 use Rattle.sdd_obligations.proofs.logs.One.{limit_or_complete}
 use Rattle.sdd_lists.specs.InForce.{eras_in}
 use Rattle.sdd_run.specs.Runs.{AreTables, EndsAtLimit, IsReportOn, IsSummaryOn, given_of}

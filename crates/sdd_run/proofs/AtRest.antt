@@ -1,22 +1,10 @@
 -- Where a settle or a redeclare is the last of the events, the links are quiet at the end.
 use Rattle.std.proofs.Common.{ℕ, suc, ◌++◌, ◌≡◌, ◌∙◌, ◌∷◌, Bool, List, None, Option, Some, [], ap, false, if◌then◌else◌, inl, inr, refl, subst, sym, true}
 use Rattle.std.specs.Prelude.{◌⊎◌}
-use Rattle.sdd_obligations.specs.base.Sites.{sites}
+use Rattle.sdd_obligations.specs.All.{Act, Bases, D, Deliver, Does, Down, Entry, Event, Force, Given, Hand, IsLawful, Log, Lose, Mark, Notes, Redeclare, Redeclares, Repeat, Resend, Round, Settle, Site, Submit, Submitted, T, Tick, U, Up, after_mark, all_links, base_of, calls_of, delivered, does_at, force_at, hand_due, hand_number, hand_on, handed, left, link_of, local_of, mark_from, mark_of, next, next_at, next_in, next_number, quiet, redeclares, round, setting_of, site_due, sites, takes_part, with_event, with_force}
 use Rattle.sdd_obligations.specs.base.Words.{tail_of}
-use Rattle.sdd_obligations.specs.base.declared.event.Event.{Event}
-use Rattle.sdd_obligations.specs.base.declared.event.Event.TheVariants.{Submit, Deliver, Lose, Repeat, Resend, Tick, Settle, Redeclare, Down, Up}
-use Rattle.sdd_obligations.specs.base.declared.site.Site.{Site}
-use Rattle.sdd_obligations.specs.base.declared.site.Site.TheVariants.{D, T, U}
-use Rattle.sdd_obligations.specs.site_module.SiteLog.{Act, Bases, Force}
 use Rattle.sdd_obligations.specs.site_module.SiteLog as site
-use Rattle.sdd_obligations.specs.net.Links.{delivered, quiet, round}
-use Rattle.sdd_obligations.specs.logs.Due.{does_at, hand_due, hand_number, hand_on, next, next_at, next_in, next_number, site_due}
-use Rattle.sdd_obligations.specs.logs.Entries.{Does, Entry, Given, Hand, Log, Mark, Notes, Redeclares, Round, Submitted, with_event}
-use Rattle.sdd_obligations.specs.logs.Lawful.{IsLawful}
-use Rattle.sdd_obligations.specs.logs.Locals.{force_at, local_of, redeclares, setting_of, with_force}
-use Rattle.sdd_obligations.specs.logs.Marks.{after_mark, from_event, left, mark_from, mark_of}
-use Rattle.sdd_obligations.specs.logs.Snapshots.{base_of}
-use Rattle.sdd_obligations.specs.logs.Traffic.{all_links, calls_of, handed, link_of, takes_part}
+use Rattle.sdd_obligations.specs.logs.Marks.{from_event}
 use Rattle.sdd_obligations.proofs.logs.Steps.{none_any_base}
 use Rattle.sdd_obligations.proofs.logs.Completing.{complete_parts, none_left}
 use Rattle.sdd_obligations.proofs.logs.Ticking.{first_none, none_by_redeclare}

@@ -1,8 +1,8 @@
 -- What a data module tells of a READ that waits is what the run's log says.
 use Rattle.std.proofs.Common.{ℕ, ◌≡◌, ◌∙◌, ap, Option, Some, None}
-use Rattle.sdd_obligations.specs.base.declared.condition.Cond.{Cond}
-use Rattle.sdd_obligations.specs.dm.Waiting.{IsAwaited, waiting_at}
-use Rattle.sdd_obligations.specs.site_module.SiteLog.{Setting, Log}
+use Rattle.sdd_obligations.specs.All.{Cond, IsAwaited, Setting}
+use Rattle.sdd_obligations.specs.dm.Waiting.{waiting_at}
+use Rattle.sdd_obligations.specs.site_module.SiteLog.{Log}
 use Rattle.sdd_run.specs.Pending.{unmet}
 
 pub awaited_is : (s : Setting) (log : Log) (c t : ℕ) (o : Option Cond) → IsAwaited s log c t o → unmet s log (waiting_at c t log) ≡ o

@@ -2,17 +2,11 @@
 use Rattle.std.proofs.Common.{ℕ, ◌-◌, ◌≤◌, ◌≡◌, ◌∙◌, sym, ap, arith, List, [], ◌∷◌, ◌++◌, append_assoc}
 use Rattle.std.proofs.lemmas.List.{append-nil}
 use Rattle.std.proofs.lemmas.List.FromFn.{get_or-map-range_with_len}
-use Rattle.sdd_obligations.specs.base.declared.event.Event.{Event}
-use Rattle.sdd_obligations.specs.base.declared.limits.TheConstants.{MAX_TMS, MAX_DMS}
-use Rattle.sdd_obligations.specs.base.Numbers.{dm_no}
-use Rattle.sdd_obligations.specs.base.declared.site.Site.TheVariants.{D}
-use Rattle.sdd_obligations.specs.catalog.Catalogue.{Catalogue}
+use Rattle.sdd_obligations.specs.All.{Catalogue, D, Event, Given, MAX_DMS, MAX_TMS, dm_no, rows_of, with_event}
 use Rattle.sdd_obligations.proofs.net.Lists.{All-at}
 use Rattle.sdd_obligations.specs.protocol.declared.entry.Entry.{Entry}
-use Rattle.sdd_script.specs.Valid.{IsValid, IsValidTxn}
+use Rattle.sdd_script.specs.All.{IsValid, IsValidTxn}
 use Rattle.sdd_script.specs.declared.workload.Workload.{Workload}
-use Rattle.sdd_obligations.specs.logs.Entries.{Given, with_event}
-use Rattle.sdd_obligations.specs.logs.Locals.{rows_of}
 use Rattle.sdd_world.specs.Schedules.{with_events}
 use Rattle.sdd_world.specs.Standing.{IsSound}
 use Rattle.sdd_lists.specs.InForce.{whole_in}

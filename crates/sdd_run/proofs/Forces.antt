@@ -5,18 +5,13 @@ use Rattle.std.proofs.lemmas.Bool.{cases_lt}
 use Rattle.std.proofs.lemmas.List.{get_or_past}
 use Rattle.std.proofs.lemmas.Option.{slice_get-get_or}
 use Rattle.std.proofs.lemmas.Slice.Zip.{AllZip-long}
-use Rattle.sdd_obligations.specs.catalog.Catalogue.{Catalogue}
+use Rattle.sdd_obligations.specs.All.{Catalogue, Class, Force, IsEraOf, IsForce, IsTable, force_at}
 use Rattle.sdd_obligations.specs.catalog.Eras.{eras, extended, retired}
-use Rattle.sdd_obligations.specs.catalog.declared.resolved.Class.{Class}
-use Rattle.sdd_obligations.specs.class_eras.EraOf.{IsEraOf}
 use Rattle.sdd_obligations.proofs.class_eras.EraOfWhole.{era_of_whole}
 use Rattle.sdd_obligations.proofs.class_eras.EraSets.{era_of_itself}
 use Rattle.sdd_lists.specs.InForce.{classes_in, eras_in, whole_in}
-use Rattle.sdd_obligations.specs.site_module.SiteLog.{Force}
-use Rattle.sdd_obligations.specs.protocol.Protocols.{IsTable}
 use Rattle.sdd_obligations.specs.protocol.declared.entry.Entry.{Entry}
 use Rattle.sdd_script.specs.declared.workload.Workload.{Workload}
-use Rattle.sdd_obligations.specs.logs.Locals.{IsForce, force_at}
 use Rattle.sdd_obligations.specs.Reading.{HasEras}
 use Rattle.sdd_run.specs.Runs.{AreTables, forces_of, given_of}
 

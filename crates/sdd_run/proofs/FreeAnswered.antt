@@ -1,26 +1,9 @@
 -- A READ of a free class is answered in the event in which it is handed over.
 use Rattle.std.proofs.Common.{ℕ, ◌++◌, ◌≡◌, ◌≤◌, ◌∙◌, ◌∷◌, List, [], ap, append_assoc, arith, false, inl, inr, length, refl, subst, sym, true}
 use Rattle.std.specs.Prelude.{◌⊎◌}
-use Rattle.sdd_obligations.specs.base.declared.condition.Cond.{Cond}
-use Rattle.sdd_obligations.specs.base.declared.number.ClassNo.{ClassNo}
-use Rattle.sdd_obligations.specs.base.declared.number.DmNo.{DmNo}
-use Rattle.sdd_obligations.specs.base.declared.number.Ts.{Ts}
-use Rattle.sdd_obligations.specs.base.declared.number.TxnNo.{TxnNo}
-use Rattle.sdd_obligations.specs.base.declared.site.Site.{Site}
-use Rattle.sdd_obligations.specs.base.declared.site.Site.TheVariants.{D}
-use Rattle.sdd_obligations.specs.base.declared.usage.Use.{Use}
-use Rattle.sdd_obligations.specs.catalog.Rules.{IsSound}
-use Rattle.sdd_obligations.specs.history.declared.record.Rec.{Rec}
-use Rattle.sdd_obligations.specs.history.declared.record.Rec.TheVariants.{Answer}
-use Rattle.sdd_obligations.specs.wire.declared.msg.Msg.{Msg}
-use Rattle.sdd_obligations.specs.wire.declared.msg.Msg.TheVariants.{Read}
-use Rattle.sdd_obligations.specs.site_module.SiteLog.{Records}
-use Rattle.sdd_obligations.specs.logs.Entries.{Does, Entry, Given, Hand, Log, Mark, Notes, Redeclares, Round, Submitted, history, marks}
-use Rattle.sdd_obligations.specs.logs.Lawful.{IsLawful, IsTheLog}
-use Rattle.sdd_obligations.specs.logs.Permitted.{AreSubmittedOnce, IsPermitted}
+use Rattle.sdd_obligations.specs.All.{Answer, AreSubmittedOnce, ClassNo, Cond, D, DmNo, Does, Entry, Given, Hand, IsLawful, IsPermitted, IsSound, IsTheLog, Log, Mark, Msg, Notes, Read, Rec, Records, Redeclares, Round, Site, Stands, Submitted, Ts, TxnNo, Use, event_at, history, marks}
 use Rattle.sdd_obligations.proofs.logs.NewMarks.{lawful_permitted}
 use Rattle.sdd_obligations.proofs.invariants.Made.{permitted_before}
-use Rattle.sdd_obligations.specs.serial_orders.Places.{Stands, event_at}
 use Rattle.sdd_progress.proofs.lawful.Makers.{act_kind}
 use Rattle.sdd_progress.proofs.lawful.Places.{event_there, stands_there}
 use Rattle.sdd_progress.proofs.read_waits.EventOver.{over_at_end, over_before}

@@ -1,30 +1,9 @@
 -- An attempt of a free class neither waits nor is rejected.
 use Rattle.std.proofs.Common.{ℕ, ◌++◌, ◌≡◌, ◌∙◌, ◌∷◌, List, Some, ap, refl, subst, sym}
-use Rattle.sdd_obligations.specs.base.Numbers.{class_no, dm_no, time_at, txn_no}
-use Rattle.sdd_obligations.specs.base.declared.condition.Cond.{Cond}
-use Rattle.sdd_obligations.specs.base.declared.number.ClassNo.{ClassNo}
-use Rattle.sdd_obligations.specs.base.declared.number.DmNo.{DmNo}
-use Rattle.sdd_obligations.specs.base.declared.number.Ts.{Ts}
-use Rattle.sdd_obligations.specs.base.declared.number.TxnNo.{TxnNo}
-use Rattle.sdd_obligations.specs.base.declared.site.Site.{Site}
-use Rattle.sdd_obligations.specs.base.declared.site.Site.TheVariants.{D}
-use Rattle.sdd_obligations.specs.base.declared.usage.Use.{Use}
-use Rattle.sdd_obligations.specs.history.declared.record.Rec.{Rec}
-use Rattle.sdd_obligations.specs.history.declared.record.Rec.TheVariants.{Reject, Wait}
-use Rattle.sdd_obligations.specs.wire.declared.msg.Msg.{Msg}
-use Rattle.sdd_obligations.specs.wire.declared.msg.Msg.TheVariants.{Read}
-use Rattle.sdd_obligations.specs.site_module.SiteLog.{Act, Records, Setting}
+use Rattle.sdd_obligations.specs.All.{Act, ClassNo, Cond, D, DmNo, Does, Entry, Eras, Given, IsAttempt, IsPermitted, KeepsStarts, Log, Msg, Read, Rec, Records, Reject, Setting, Site, Stands, Ts, TxnNo, Use, Wait, class_no, dm_no, head, history, local_of, pipe_at, setting_of, time_at, txn_no}
 use Rattle.sdd_obligations.specs.site_module.SiteLog as site
-use Rattle.sdd_obligations.specs.pipe.Pipe.{head}
-use Rattle.sdd_obligations.specs.logs.Entries.{Does, Entry, Given, Log, history}
-use Rattle.sdd_obligations.specs.logs.Locals.{local_of, setting_of}
-use Rattle.sdd_obligations.specs.logs.Permitted.{IsPermitted}
 use Rattle.sdd_obligations.proofs.logs.EachLocal.{allowed_act}
-use Rattle.sdd_obligations.specs.invariants.Seen.{pipe_at}
-use Rattle.sdd_obligations.specs.laws.Eras.{Eras}
-use Rattle.sdd_obligations.specs.laws.Starts.{KeepsStarts}
-use Rattle.sdd_obligations.specs.serial_orders.Attempts.{Attempt, IsAttempt}
-use Rattle.sdd_obligations.specs.serial_orders.Places.{Stands}
+use Rattle.sdd_obligations.specs.serial_orders.Attempts.{Attempt}
 use Rattle.sdd_progress.proofs.Writers.{one_class}
 use Rattle.sdd_progress.proofs.lawful.Answered.{read_of_some}
 use Rattle.sdd_progress.proofs.lawful.Applied.{IsDataIn, data_in}

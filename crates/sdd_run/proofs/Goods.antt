@@ -3,29 +3,17 @@ use Rattle.std.proofs.Common.{ℕ, zero, suc, pos, negsuc, ◌-◌, ◌^◌, ◌
 use Rattle.std.specs.Prelude.{nat_le, slice_index_or}
 use Rattle.std.specs.List.{All}
 use Rattle.std.proofs.lemmas.List.Elements.{All-cons, All-head, All-nil, All-tail, All-weaker}
-use Rattle.sdd_obligations.specs.base.declared.event.Event.{Event}
-use Rattle.sdd_obligations.specs.base.declared.event.Event.TheVariants.{Submit, Deliver, Lose, Repeat, Resend, Tick, Settle, Redeclare, Down, Up}
+use Rattle.sdd_obligations.specs.All.{AllFewTicks, Catalogue, Delete, Deliver, Down, Event, FitsGiven, FitsStart, IsDatabase, IsGood, IsHeld, IsSound, Lose, Put, PutsHeld, Query, Redeclare, RelNo, Repeat, Resend, Row, Settle, Stmt, Submit, Tick, Up, Update, database_of, numbers_to}
 use Rattle.sdd_obligations.specs.base.declared.limits.TheConstants.{MAX_TICKS}
-use Rattle.sdd_obligations.specs.base.declared.number.RelNo.{RelNo}
 use Rattle.sdd_obligations.specs.base.declared.value.Value.{Value}
 use Rattle.sdd_obligations.specs.base.declared.value.Value.TheVariants as values
-use Rattle.sdd_obligations.specs.catalog.Catalogue.{Catalogue, numbers_to}
-use Rattle.sdd_obligations.specs.catalog.Rules.{IsSound}
-use Rattle.sdd_obligations.specs.lang.Database.{Row, database_of}
-use Rattle.sdd_obligations.specs.lang.Fits.{FitsStart}
-use Rattle.sdd_obligations.specs.lang.Sound.{IsDatabase, IsHeld, PutsHeld}
-use Rattle.sdd_obligations.specs.lang.declared.statement.Stmt.{Stmt}
-use Rattle.sdd_obligations.specs.lang.declared.statement.Stmt.TheVariants.{Put, Query, Update, Delete}
 use Rattle.sdd_obligations.proofs.lang.Pushdown.{and_both}
 use Rattle.sdd_obligations.proofs.lang.StaysDatabase.{no_database, rows_make_database}
 use Rattle.sdd_obligations.proofs.net.Lists.{All-at}
 use Rattle.sdd_obligations.specs.protocol.declared.entry.Entry.{Entry}
-use Rattle.sdd_script.specs.Valid.{HoldsValues, IsValid, IsValidEvent, IsValidRow, IsValidTxn, IsValue}
+use Rattle.sdd_script.specs.All.{HoldsValues, IsValid, IsValidEvent, IsValidRow, IsValidTxn, IsValue}
 use Rattle.sdd_script.specs.declared.workload.Workload.{Workload}
-use Rattle.sdd_obligations.specs.Bounds.{AllFewTicks}
 use Rattle.sdd_obligations.specs.Heights.{ticks_of}
-use Rattle.sdd_obligations.specs.Fitting.{FitsGiven}
-use Rattle.sdd_obligations.specs.Real.{IsGood}
 use Rattle.sdd_lists.specs.InForce.{whole_in}
 use Rattle.sdd_run.specs.Runs.{AreTables, begun}
 use Rattle.sdd_run.proofs.Allowed.{IsGoodAlong}

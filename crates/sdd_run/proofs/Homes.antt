@@ -3,18 +3,9 @@ use Rattle.std.proofs.Common.{ℕ, ◌-◌, ◌<◌, ◌≤◌, ◌≡◌, ◌�
 use Rattle.std.specs.Prelude.{◌&&◌, nat_le, if◌then◌else◌, slice_get}
 use Rattle.std.proofs.lemmas.Option.{slice_get-get_or, slice_get_past}
 use Rattle.std.proofs.lemmas.Bool.{le-leb}
-use Rattle.sdd_obligations.specs.base.declared.number.DmNo.{DmNo}
-use Rattle.sdd_obligations.specs.base.declared.number.TmNo.{TmNo}
-use Rattle.sdd_obligations.specs.base.declared.site.Site.TheVariants.{U, T, D}
-use Rattle.sdd_obligations.specs.catalog.Catalogue.{Catalogue}
-use Rattle.sdd_obligations.specs.lang.Classes.{class_for}
+use Rattle.sdd_obligations.specs.All.{Catalogue, D, DmNo, Given, IsSiteOf, Log, T, TmNo, Txn, U, class_for, force_at, is_site, redeclares, txn_at}
 use Rattle.sdd_obligations.specs.lang.Fits.{Fits}
-use Rattle.sdd_obligations.specs.lang.declared.transaction.Txn.{Txn}
-use Rattle.sdd_obligations.specs.net.Nets.{is_site}
 use Rattle.sdd_obligations.specs.logs.Due.{home_of}
-use Rattle.sdd_obligations.specs.logs.Entries.{Given, Log}
-use Rattle.sdd_obligations.specs.logs.Locals.{force_at, redeclares, txn_at}
-use Rattle.sdd_obligations.specs.logs.Resting.{IsSiteOf}
 use Rattle.sdd_world.specs.Standing.{IsSound}
 use Rattle.sdd_run.specs.Pending.{last_home}
 

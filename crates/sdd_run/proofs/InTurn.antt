@@ -2,17 +2,9 @@
 use Rattle.std.proofs.Common.{◌<◌, ◌≡◌, ◌≢◌, ◌∙◌, ◌&&◌, ◌||◌, inl, inr, true, List, [], ◌∷◌, ap, arith, sym, subst}
 use Rattle.std.specs.Prelude.{Contains, nat_lt, not}
 use Rattle.std.proofs.lemmas.Bool.{cases_eq, cases_lt, eq-eqb, false≢true, lt-ltb, ne_eqb}
-use Rattle.sdd_obligations.specs.base.Numbers.{txn_no}
-use Rattle.sdd_obligations.specs.base.declared.number.TxnNo.{TxnNo}
+use Rattle.sdd_obligations.specs.All.{Catalogue, Committed, Eras, History, IsCommitted, IsSerial, IsSubmitted, KeepsStarts, Txn, TxnNo, txn_no}
 use Rattle.sdd_obligations.proofs.base.Membership.{Contains-cases, Contains-nil}
-use Rattle.sdd_obligations.specs.catalog.Catalogue.{Catalogue}
-use Rattle.sdd_obligations.specs.history.Records.{History}
-use Rattle.sdd_obligations.specs.lang.declared.transaction.Txn.{Txn}
-use Rattle.sdd_obligations.specs.laws.Deeds.{IsSubmitted}
-use Rattle.sdd_obligations.specs.laws.Eras.{Eras}
-use Rattle.sdd_obligations.specs.laws.Starts.{KeepsStarts}
-use Rattle.sdd_obligations.specs.serial_orders.Attempts.{Committed, IsCommitted}
-use Rattle.sdd_obligations.specs.serial_orders.Orders.{IsAlong, IsSerial}
+use Rattle.sdd_obligations.specs.serial_orders.Orders.{IsAlong}
 use Rattle.sdd_obligations.specs.serial_orders.Precedence.{is_earlier, is_overwritten, is_read_by, misses, precedes}
 use Rattle.sdd_obligations.proofs.serial_orders.Places.{same_start}
 use Rattle.sdd_run.specs.Standing.{IsSubmittedBefore, StandsBefore}

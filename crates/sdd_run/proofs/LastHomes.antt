@@ -5,18 +5,11 @@ use Rattle.std.specs.Prelude.{filter_map, option_map}
 use Rattle.std.specs.List.{cons_option, list_any}
 use Rattle.std.proofs.lemmas.Bool.{eqb-true}
 use Rattle.std.proofs.lemmas.List.{length-append}
-use Rattle.sdd_obligations.specs.base.Numbers.{txn_no}
-use Rattle.sdd_obligations.specs.base.declared.number.TxnNo.{TxnNo}
-use Rattle.sdd_obligations.specs.base.declared.site.Site.{Site}
-use Rattle.sdd_obligations.specs.history.declared.record.Rec.{Rec}
-use Rattle.sdd_obligations.specs.history.declared.record.Rec.TheVariants.{Answer, Apply, Arrive, Commit, Nothing, Pass, Reject, Start, Submit, Wait}
+use Rattle.sdd_obligations.specs.All.{Answer, Apply, Arrive, Commit, Does, Given, Hand, IsPermitted, IsSubmitted, Log, Mark, Notes, Nothing, Pass, Rec, Redeclares, Reject, Round, Site, Start, Submitted, TxnNo, Wait, force_at, history, redeclares, txn_at, txn_no}
+use Rattle.sdd_obligations.specs.history.declared.record.Rec.TheVariants.{Submit}
 use Rattle.sdd_obligations.proofs.invariants.Bools.{not_both, same_number}
 use Rattle.sdd_obligations.proofs.invariants.Made.{permitted_before}
-use Rattle.sdd_obligations.specs.laws.Deeds.{IsSubmitted}
 use Rattle.sdd_obligations.specs.logs.Due.{home_of}
-use Rattle.sdd_obligations.specs.logs.Entries.{Does, Given, Hand, Log, Mark, Notes, Redeclares, Round, Submitted, history}
-use Rattle.sdd_obligations.specs.logs.Locals.{force_at, redeclares, txn_at}
-use Rattle.sdd_obligations.specs.logs.Permitted.{IsPermitted}
 use Rattle.sdd_progress.proofs.lawful.Places.{stands_there}
 use Rattle.sdd_progress.proofs.lawful.Submissions.{given_at, one_submit, submit_in}
 use Rattle.sdd_progress.proofs.AtRest.{commit_there, rest}

@@ -5,36 +5,14 @@ use Rattle.std.specs.List.{cons_option, flat_map, list_any}
 use Rattle.std.proofs.Math.Seq.{take-append_seam}
 use Rattle.std.proofs.lemmas.List.{take_all}
 use Rattle.std.proofs.lemmas.Option.{slice_get_past}
-use Rattle.sdd_obligations.specs.base.Numbers.{dm_no}
-use Rattle.sdd_obligations.specs.base.declared.event.Event.{Event}
-use Rattle.sdd_obligations.specs.base.declared.event.Event.TheVariants.{Lose}
-use Rattle.sdd_obligations.specs.base.declared.number.FragNo.{FragNo}
-use Rattle.sdd_obligations.specs.base.declared.number.RelNo.{RelNo}
-use Rattle.sdd_obligations.specs.base.declared.number.TxnNo.{TxnNo}
-use Rattle.sdd_obligations.specs.base.declared.site.Site.TheVariants.{U, D}
-use Rattle.sdd_obligations.specs.catalog.Catalogue.{Catalogue, has_copy, numbers_to}
-use Rattle.sdd_obligations.specs.catalog.Rules.{IsSound}
+use Rattle.sdd_obligations.specs.All.{AreAllApplied, Catalogue, Committed, D, Event, FragNo, Given, History, IsPermitted, IsSerial, IsSound, Log, Lose, Mark, Notes, Nothing, Rec, RelNo, Row, TxnNo, U, attempt_of, attempts, by_event, by_mark, committed, committed_of, contents, dated, dm_no, due_by, has_copy, history, is_apply, link_of, local_of, note_if, numbers_to, placed, run, setting_of}
 use Rattle.sdd_obligations.proofs.catalog.Found.{map-map}
 use Rattle.sdd_obligations.proofs.laws.Members.{Contains-from_filter, Contains-from_flat_map, Contains-from_map}
-use Rattle.sdd_obligations.specs.copy.Contents.{Dated, contents}
-use Rattle.sdd_obligations.specs.dm.Copies.{dated}
-use Rattle.sdd_obligations.specs.history.Records.{History}
-use Rattle.sdd_obligations.specs.history.declared.record.Rec.{Rec}
-use Rattle.sdd_obligations.specs.history.declared.record.Rec.TheVariants.{Nothing}
-use Rattle.sdd_obligations.specs.lang.Database.{Item, Row}
+use Rattle.sdd_obligations.specs.copy.Contents.{Dated}
+use Rattle.sdd_obligations.specs.lang.Database.{Item}
 use Rattle.sdd_obligations.specs.laws.Copied.{AreAppliedAlike}
-use Rattle.sdd_obligations.specs.laws.Replay.{AreAllApplied, run}
 use Rattle.sdd_obligations.proofs.laws.SameCopies.{equal_copies}
 use Rattle.sdd_obligations.specs.laws.Snapshots as laws
-use Rattle.sdd_obligations.specs.logs.Due.{due_by, note_if}
-use Rattle.sdd_obligations.specs.logs.Entries.{Given, Log, Mark, Notes, history}
-use Rattle.sdd_obligations.specs.logs.Locals.{local_of, setting_of}
-use Rattle.sdd_obligations.specs.logs.Permitted.{IsPermitted, by_event, by_mark}
-use Rattle.sdd_obligations.specs.logs.Traffic.{link_of}
-use Rattle.sdd_obligations.specs.serial_orders.Attempts.{Committed, attempt_of, attempts, committed, committed_of}
-use Rattle.sdd_obligations.specs.serial_orders.Orders.{IsSerial}
-use Rattle.sdd_obligations.specs.serial_orders.Places.{placed}
-use Rattle.sdd_obligations.specs.serial_orders.Precedence.{is_apply}
 use Rattle.sdd_report.specs.declared.copies.CopyTable.{CopyTable}
 use Rattle.sdd_progress.specs.lawful.Given.{HasSoundData}
 use Rattle.sdd_progress.specs.lawful.Made.{IsMadeAt}

@@ -3,34 +3,17 @@ use Rattle.std.proofs.Common.{ℕ, suc, zero, ◌-◌, ◌==◌, ◌∙◌, ◌�
 use Rattle.std.specs.Prelude.{◌⊎◌, filter_map, is_some, position}
 use Rattle.std.specs.List.{cons_option, list_any}
 use Rattle.std.proofs.lemmas.Bool.{eqb-true}
-use Rattle.sdd_obligations.specs.base.Numbers.{tm_no, txn_no}
-use Rattle.sdd_obligations.specs.base.declared.site.Site.{Site}
-use Rattle.sdd_obligations.specs.base.declared.site.Site.TheVariants.{T, U}
-use Rattle.sdd_obligations.specs.catalog.Catalogue.{class_at}
-use Rattle.sdd_obligations.specs.graph.Edges.{IsClassOf}
-use Rattle.sdd_obligations.specs.history.Records.{History}
-use Rattle.sdd_obligations.specs.history.declared.record.Rec.{Rec}
-use Rattle.sdd_obligations.specs.history.declared.record.Rec.TheVariants.{Answer, Apply, Arrive, Commit, Nothing, Pass, Reject, Start, Submit, Wait}
+use Rattle.sdd_obligations.specs.All.{Answer, Apply, Arrive, Attempt, ClassState, Commit, Given, History, IsClass, IsClassOf, IsPermitted, IsSubmitted, Log, Nothing, Pass, Queued, Rec, Reject, Site, Standing, Stands, Start, T, U, Wait, active, class_at, history, home, local_of, queue, runs, setting_of, standing_among, standing_in, tm_no, txn_no}
+use Rattle.sdd_obligations.specs.history.declared.record.Rec.TheVariants.{Submit}
 use Rattle.sdd_script.proofs.WordCuts.{NonePasses}
 use Rattle.sdd_script.proofs.NamePlaces.{none_found}
-use Rattle.sdd_obligations.specs.attempt.Attempts.{Attempt, active}
 use Rattle.sdd_obligations.specs.attempt.Lines.{Line}
-use Rattle.sdd_obligations.specs.attempt.Queues.{Queued, queue}
-use Rattle.sdd_obligations.specs.attempt.Standings.{or_standing, queued_at, standing_among, standing_by, standing_of, underway, waiting}
-use Rattle.sdd_obligations.specs.attempt.declared.standing.Standing.{Standing}
+use Rattle.sdd_obligations.specs.attempt.Standings.{or_standing, queued_at, standing_by, standing_of, underway, waiting}
 use Rattle.sdd_obligations.specs.attempt.declared.standing.Standing.TheVariants as standings
-use Rattle.sdd_obligations.specs.tm.State.{ClassState, class_of}
-use Rattle.sdd_obligations.specs.tm.Views.{runs}
-use Rattle.sdd_obligations.specs.umod.Standing.{first_underway, is_awaiting_helds, lacking_site, standing_in}
+use Rattle.sdd_obligations.specs.tm.State.{class_of}
+use Rattle.sdd_obligations.specs.umod.Standing.{first_underway, is_awaiting_helds, lacking_site}
 use Rattle.sdd_obligations.specs.umod.State as um
-use Rattle.sdd_obligations.specs.laws.Deeds.{IsSubmitted}
-use Rattle.sdd_obligations.specs.logs.Entries.{Given, Log, history}
-use Rattle.sdd_obligations.specs.logs.Locals.{local_of, setting_of}
-use Rattle.sdd_obligations.specs.logs.Permitted.{IsPermitted}
-use Rattle.sdd_obligations.specs.serial_orders.Numbers.{IsClass}
-use Rattle.sdd_obligations.specs.serial_orders.Places.{Stands}
 use Rattle.sdd_obligations.proofs.invariants.Bools.{same_number, same_or_not}
-use Rattle.sdd_obligations.specs.invariants.Steps.{home}
 use Rattle.sdd_world.specs.AtSites.{standing_at}
 use Rattle.sdd_world.specs.Standings.{standing_at_t, standing_at_u}
 use Rattle.sdd_progress.specs.lawful.Given.{AreNumbered}

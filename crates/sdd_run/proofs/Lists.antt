@@ -6,7 +6,7 @@ use Rattle.std.proofs.Math.Bool.{or-false}
 use Rattle.std.proofs.lemmas.List.{map-append, take_more}
 use Rattle.std.proofs.lemmas.List.Elements.{filter-append, filter_map-append}
 use Rattle.std.proofs.lemmas.List.Folds.{list_any-append}
-use Rattle.sdd_obligations.specs.catalog.Catalogue.{numbers_to}
+use Rattle.sdd_obligations.specs.All.{numbers_to}
 use Rattle.sdd_obligations.proofs.graph.Lists.{up_to, each_more}
 
 kept-append : {A B : Type 0} (g : A → B) (p : A → Bool) (xs ys : List A) → map g (filter p (xs ++ ys)) ≡ map g (filter p xs) ++ map g (filter p ys)

@@ -1,14 +1,11 @@
 -- The clocks of a run stay low: its events are few, and so are its attempts.
 use Rattle.std.proofs.Common.{List, subst}
 use Rattle.sdd_obligations.proofs.catalog.Sound.{sound_whole}
-use Rattle.sdd_obligations.specs.catalog.Catalogue.{Catalogue}
-use Rattle.sdd_obligations.specs.catalog.Rules.{IsSound}
+use Rattle.sdd_obligations.specs.All.{Catalogue, Given, IsLawful, IsSound, Log}
 use Rattle.sdd_obligations.proofs.LowClocks.{clock_low}
 use Rattle.sdd_obligations.specs.Bounds.{IsSmall}
 use Rattle.sdd_lists.specs.InForce.{whole_in}
 use Rattle.sdd_obligations.proofs.logs.NewMarks.{lawful_permitted}
-use Rattle.sdd_obligations.specs.logs.Entries.{Given, Log}
-use Rattle.sdd_obligations.specs.logs.Lawful.{IsLawful}
 use Rattle.sdd_obligations.specs.protocol.declared.entry.Entry.{Entry}
 use Rattle.sdd_progress.proofs.OfLogs.{few_in_limit}
 use Rattle.sdd_progress.proofs.ErasOf.{are_eras_of}
@@ -19,7 +16,7 @@ use Rattle.sdd_run.proofs.RunOf.{fine, lawful_lists, submit_given}
 use Rattle.sdd_run.proofs.Whole.{events_valid}
 use Rattle.sdd_run.specs.Clocks.{HasLowClocks}
 use Rattle.sdd_run.specs.Runs.{AreTables, given_of}
-use Rattle.sdd_script.specs.Valid.{IsValid}
+use Rattle.sdd_script.specs.All.{IsValid}
 use Rattle.sdd_script.specs.declared.workload.Workload.{Workload}
 use Rattle.sdd_progress.proofs.lawful.Numbered.{lawful_numbered}
 

@@ -3,15 +3,9 @@ use Rattle.std.proofs.Common.{ℕ, ◌+◌, ◌≤◌, ◌≡◌, ◌==◌, Bool
 use Rattle.std.specs.List.{All}
 use Rattle.std.proofs.lemmas.Bool.{eq-eqb, eqb-true}
 use Rattle.std.proofs.lemmas.List.Elements.{All-head, All-tail}
-use Rattle.sdd_obligations.specs.base.declared.event.Event.{Event}
-use Rattle.sdd_obligations.specs.base.declared.event.Event.TheVariants.{Submit, Deliver, Lose, Repeat, Resend, Tick, Settle, Redeclare, Down, Up}
-use Rattle.sdd_obligations.specs.base.declared.number.TxnNo.{TxnNo}
-use Rattle.sdd_obligations.specs.catalog.Catalogue.{Catalogue}
+use Rattle.sdd_obligations.specs.All.{Catalogue, Deliver, Does, Down, Event, Given, Hand, IsLawful, Log, Lose, Mark, Notes, Redeclare, Redeclares, Repeat, Resend, Round, Settle, Submit, Submitted, Tick, TxnNo, Up, one_if, submits_in}
 use Rattle.sdd_obligations.specs.lang.Fits.{IsFrom1To}
-use Rattle.sdd_script.specs.Valid.{IsValidEvent}
-use Rattle.sdd_obligations.specs.logs.Entries.{Given, Log, Mark, Round, Redeclares, Hand, Submitted, Notes, Does}
-use Rattle.sdd_obligations.specs.logs.Lawful.{IsLawful}
-use Rattle.sdd_obligations.specs.logs.Permitted.{one_if, submits_in}
+use Rattle.sdd_script.specs.All.{IsValidEvent}
 use Rattle.sdd_obligations.proofs.logs.NewMarks.{left_is, marked}
 use Rattle.sdd_progress.specs.lawful.Given.{AreNumbered}
 

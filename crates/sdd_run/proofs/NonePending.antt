@@ -1,10 +1,8 @@
 -- Where every transaction that was submitted is committed, none is pending.
 use Rattle.std.proofs.Common.{ℕ, ◌≡◌, None, [], refl}
-use Rattle.sdd_obligations.specs.history.Records.{History}
-use Rattle.sdd_obligations.specs.history.declared.record.Rec.{Rec}
-use Rattle.sdd_obligations.specs.history.declared.record.Rec.TheVariants.{Answer, Apply, Arrive, Commit, Nothing, Pass, Reject, Start, Submit, Wait}
+use Rattle.sdd_obligations.specs.All.{Answer, Apply, Arrive, Commit, Given, History, Log, Nothing, Pass, Rec, Reject, Start, Wait, history}
+use Rattle.sdd_obligations.specs.history.declared.record.Rec.TheVariants.{Submit}
 use Rattle.sdd_obligations.proofs.invariants.Bools.{same_number}
-use Rattle.sdd_obligations.specs.logs.Entries.{Given, Log, history}
 use Rattle.sdd_progress.proofs.Committed.{any_commit, none_left}
 use Rattle.sdd_progress.specs.Committed.{AllCommitted, IsNotLeft}
 use Rattle.sdd_run.specs.Pending.{Telling, commits, pending_by, pending_of, submitted_at}

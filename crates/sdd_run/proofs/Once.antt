@@ -3,13 +3,9 @@ use Rattle.std.proofs.Common.{ℕ, ◌+◌, ◌==◌, ◌≡◌, ◌≢◌, ◌�
 use Rattle.std.specs.Prelude.{Contains}
 use Rattle.std.proofs.lemmas.Bool.{cases_eq, eq-eqb, ne_eqb}
 use Rattle.std.proofs.lemmas.List.Sums.{sum_by-cons}
-use Rattle.sdd_obligations.specs.base.Numbers.{txn_no}
-use Rattle.sdd_obligations.specs.base.declared.number.TxnNo.{TxnNo}
+use Rattle.sdd_obligations.specs.All.{Catalogue, Committed, History, IsCommitted, IsSerial, TxnNo, txn_no}
 use Rattle.sdd_obligations.proofs.base.Membership.{Contains-cases, Contains-here, Contains-later, Contains-nil}
-use Rattle.sdd_obligations.specs.catalog.Catalogue.{Catalogue}
-use Rattle.sdd_obligations.specs.history.Records.{History}
-use Rattle.sdd_obligations.specs.serial_orders.Attempts.{Committed, IsCommitted}
-use Rattle.sdd_obligations.specs.serial_orders.Orders.{IsAlong, IsSerial}
+use Rattle.sdd_obligations.specs.serial_orders.Orders.{IsAlong}
 use Rattle.sdd_run.specs.Standing.{times_in}
 
 pub times_more : (m : TxnNo) (rest : List TxnNo) (n : ℕ) → times_in n (m ∷ rest) ≡ cond (m.0 == n) 1 0 + times_in n rest

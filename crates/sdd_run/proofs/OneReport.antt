@@ -1,14 +1,11 @@
 -- A run has one report, and one summary.
 use Rattle.std.proofs.Common.{ℕ, ◌≡◌, ◌∙◌, List, [], ◌∷◌, ap, length, refl, subst, sym}
 use Rattle.std.specs.List.{AllZip}
-use Rattle.sdd_obligations.specs.catalog.Catalogue.{Catalogue}
-use Rattle.sdd_obligations.specs.protocol.Protocols.{IsTable}
+use Rattle.sdd_obligations.specs.All.{Catalogue, IsTable, IsTheLog, Log, history, marks}
 use Rattle.sdd_obligations.specs.protocol.declared.entry.Entry.{Entry}
 use Rattle.sdd_obligations.proofs.protocol.Laws.{one_table}
 use Rattle.sdd_script.specs.declared.workload.Workload.{Workload}
 use Rattle.sdd_make.specs.Summary.{summary_of, summary_text}
-use Rattle.sdd_obligations.specs.logs.Entries.{Log, history, marks}
-use Rattle.sdd_obligations.specs.logs.Lawful.{IsTheLog}
 use Rattle.sdd_obligations.proofs.logs.One.{one_log}
 use Rattle.sdd_report.specs.Report.{report_text}
 use Rattle.sdd_run.specs.Reports.{report_of}

@@ -2,24 +2,18 @@
 use Rattle.std.proofs.Common.{ℕ, ◌≡◌, List, length}
 use Rattle.std.specs.Prelude.{Contains}
 use Rattle.std.specs.List.{AllZip}
-use Rattle.sdd_obligations.specs.catalog.Catalogue.{Catalogue}
-use Rattle.sdd_obligations.specs.catalog.Rules.{IsSound}
+use Rattle.sdd_obligations.specs.All.{AreAllApplied, Catalogue, IsAttempt, IsClassOf, IsOrderable, IsSerial, IsSound, IsTheLog, KeepsStarts, Log, history}
 use Rattle.sdd_obligations.specs.protocol.declared.entry.Entry.{Entry}
-use Rattle.sdd_script.specs.Valid.{IsValid}
+use Rattle.sdd_script.specs.All.{IsValid}
 use Rattle.sdd_script.specs.declared.workload.Workload.{Workload}
 use Rattle.sdd_lists.specs.InForce.{eras_in, whole_in}
-use Rattle.sdd_obligations.specs.logs.Entries.{Log, history}
-use Rattle.sdd_obligations.specs.logs.Lawful.{IsTheLog}
 use Rattle.sdd_obligations.proofs.net.Lists.{All-at}
-use Rattle.sdd_obligations.specs.serial_orders.Attempts.{Attempt, IsAttempt}
-use Rattle.sdd_obligations.specs.serial_orders.Orders.{IsOrderable, IsSerial}
+use Rattle.sdd_obligations.specs.serial_orders.Attempts.{Attempt}
 use Rattle.sdd_obligations.proofs.serial_orders.Serial.{serial_order_is}
 use Rattle.sdd_obligations.specs.laws.Copied.{AreAppliedAlike}
-use Rattle.sdd_obligations.specs.laws.Replay.{AreAllApplied, IsReplyOf}
-use Rattle.sdd_obligations.specs.laws.Starts.{KeepsStarts}
+use Rattle.sdd_obligations.specs.laws.Replay.{IsReplyOf}
 use Rattle.sdd_progress.proofs.lawful.Together.{replies}
 use Rattle.sdd_report.specs.declared.copies.CopyTable.{CopyTable}
-use Rattle.sdd_obligations.specs.graph.Edges.{IsClassOf}
 use Rattle.sdd_progress.specs.Few.{AreFewRejected}
 use Rattle.sdd_progress.proofs.OfLogs.{few_rejected}
 use Rattle.sdd_progress.specs.Eras.{eras_of}

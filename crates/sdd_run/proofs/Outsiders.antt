@@ -3,35 +3,18 @@ use Rattle.std.proofs.Common.{ℕ, ◌<◌, ◌≡◌, ◌∙◌, refl, sym, ap,
 use Rattle.std.specs.Prelude.{◌||◌, filter, if◌then◌else◌, slice_get}
 use Rattle.std.specs.Option.{option_map}
 use Rattle.std.proofs.lemmas.Bool.{ne_eqb}
-use Rattle.sdd_obligations.specs.base.Numbers.{dm_no}
-use Rattle.sdd_obligations.specs.base.Words.{head_of}
-use Rattle.sdd_obligations.specs.base.Sites.{same_site}
-use Rattle.sdd_obligations.specs.base.declared.event.Event.TheVariants.{Submit, Deliver, Lose, Repeat, Resend, Tick, Settle, Redeclare, Down, Up}
-use Rattle.sdd_obligations.specs.base.declared.number.DmNo.{DmNo}
-use Rattle.sdd_obligations.specs.base.declared.site.Site.{Site}
-use Rattle.sdd_obligations.specs.base.declared.site.Site.TheVariants.{D}
-use Rattle.sdd_obligations.specs.lang.declared.transaction.Txn.{Txn}
-use Rattle.sdd_obligations.specs.wire.declared.msg.Msg.{Msg}
-use Rattle.sdd_obligations.specs.wire.declared.msg.Msg.TheVariants.{Read, Fetch, Reduce, Ship, Write, Null}
-use Rattle.sdd_obligations.specs.site_module.SiteLog.{Act, Records, Sends, Setting, Handed, Did}
+use Rattle.sdd_obligations.specs.All.{Act, ClassView, D, Deliver, Did, DmNo, Does, Down, Fetch, Given, Hand, Handed, Home, IsDue, IsLawful, Log, Lose, Mark, Msg, Notes, Null, Open, Processes, Read, Records, Redeclare, Redeclares, Reduce, Repeat, Resend, Round, Sends, Setting, Settle, Ship, Site, Submit, Submitted, Tick, Txn, Up, View, Write, act_by, act_where, answer_of, answer_to, by_head, by_open, dm_no, head, head_of, home_of, is_asked_of, is_processing, is_wait, local_of, numbers_to, pipe, same_site, setting_of, txn_at, view_of, waits, with_submit}
 use Rattle.sdd_obligations.specs.site_module.SiteLog as site
-use Rattle.sdd_obligations.specs.pipe.Pipe.{head}
-use Rattle.sdd_obligations.specs.dm.Due.{IsDue, act_by, act_where, answer_of, answer_to, by_head, by_open, head_step}
-use Rattle.sdd_obligations.specs.dm.Opens.{Open, is_asked_of}
-use Rattle.sdd_obligations.specs.dm.Pipes.{is_processing, is_wait, pipe, waits, waits_acted}
-use Rattle.sdd_obligations.specs.dm.Views.{ClassView, Home, View, home_of, view_of}
+use Rattle.sdd_obligations.specs.dm.Due.{head_step}
+use Rattle.sdd_obligations.specs.dm.Pipes.{waits_acted}
 use Rattle.sdd_obligations.specs.dm.Waiting.{conds_of, waiting_at}
 use Rattle.sdd_obligations.specs.dm.declared.step.Step.{Step}
-use Rattle.sdd_obligations.specs.dm.declared.step.Step.TheVariants.{Processes, Refuses, Waits}
+use Rattle.sdd_obligations.specs.dm.declared.step.Step.TheVariants.{Refuses, Waits}
 use Rattle.sdd_obligations.proofs.invariants.AreReadSteps.{class_at_place}
-use Rattle.sdd_obligations.specs.logs.Entries.{Given, Log, Mark, Round, Redeclares, Hand, Submitted, Notes, Does}
-use Rattle.sdd_obligations.specs.logs.Lawful.{IsLawful}
-use Rattle.sdd_obligations.specs.logs.Locals.{local_of, setting_of, txn_at, with_submit}
 use Rattle.sdd_obligations.specs.logs.Permitted.{IsDueAt}
 use Rattle.sdd_obligations.proofs.logs.EachLocal.{allowed_act}
 use Rattle.sdd_obligations.proofs.logs.Permitted.{next_allowed}
 use Rattle.sdd_obligations.proofs.logs.Steps.{same_is}
-use Rattle.sdd_obligations.specs.catalog.Catalogue.{numbers_to}
 use Rattle.sdd_run.specs.Pending.{unmet, wait_at, wait_for, waits_of}
 use Rattle.sdd_run.proofs.Lists.{none_chosen}
 

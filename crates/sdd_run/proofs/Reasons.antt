@@ -3,22 +3,11 @@ use Rattle.std.proofs.Common.{ℕ, suc, ◌≡◌, ◌∷◌, Bool, List, None, 
 use Rattle.std.specs.List.{best_of, cons_option, list_any}
 use Rattle.std.specs.Option.{option_map}
 use Rattle.std.specs.Prelude.{Contains, filter_map}
-use Rattle.sdd_obligations.specs.base.declared.condition.Cond.{Cond}
-use Rattle.sdd_obligations.specs.base.declared.number.TxnNo.{TxnNo}
-use Rattle.sdd_obligations.specs.base.declared.site.Site.{Site}
-use Rattle.sdd_obligations.specs.catalog.Catalogue.{Catalogue, numbers_to}
-use Rattle.sdd_obligations.specs.history.Records.{History}
-use Rattle.sdd_obligations.specs.history.declared.record.Rec.{Rec}
+use Rattle.sdd_obligations.specs.All.{Catalogue, Cond, FitsGiven, Given, History, IsModule, IsPermitted, Log, Rec, Site, Standing, TxnNo, history, numbers_to, site_due}
 use Rattle.sdd_obligations.specs.history.declared.record.Rec.TheVariants.{Submit}
 use Rattle.sdd_obligations.proofs.laws.Members.{Contains-from_filter_map}
-use Rattle.sdd_obligations.specs.serial_orders.Numbers.{IsModule}
-use Rattle.sdd_obligations.specs.attempt.declared.standing.Standing.{Standing}
 use Rattle.sdd_obligations.specs.attempt.declared.standing.Standing.TheVariants as standings
 use Rattle.sdd_obligations.proofs.invariants.Lists.{in_range}
-use Rattle.sdd_obligations.specs.logs.Due.{site_due}
-use Rattle.sdd_obligations.specs.logs.Entries.{Given, Log, history}
-use Rattle.sdd_obligations.specs.logs.Permitted.{IsPermitted}
-use Rattle.sdd_obligations.specs.Fitting.{FitsGiven}
 use Rattle.sdd_report.specs.Pending.{is_lower, under_way}
 use Rattle.sdd_report.specs.declared.pending.Pending.{Pending}
 use Rattle.sdd_report.specs.declared.pending.Waiting.{Waiting}

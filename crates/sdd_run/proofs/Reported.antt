@@ -1,19 +1,13 @@
 -- What is told of a world that has carried out all events of a workload is told of its run.
 use Rattle.std.proofs.Common.{ℕ, ◌≡◌, ◌∙◌, List, length, Result, Ok, Err, ap, refl, subst}
 use Rattle.std.specs.Prelude.{IfOk}
-use Rattle.sdd_obligations.specs.base.declared.event.Event.{Event}
-use Rattle.sdd_obligations.specs.catalog.Catalogue.{Catalogue}
-use Rattle.sdd_obligations.specs.catalog.Rules.{IsSound}
+use Rattle.sdd_obligations.specs.All.{Catalogue, EndsByLimit, Event, History, IsSound, IsTheLog, Log, Txn, history, marks}
 use Rattle.sdd_obligations.specs.protocol.declared.entry.Entry.{Entry}
 use Rattle.sdd_report.specs.Report.{report_text}
-use Rattle.sdd_script.specs.Valid.{IsValid}
+use Rattle.sdd_script.specs.All.{IsValid}
 use Rattle.sdd_script.specs.declared.workload.Workload.{Workload}
-use Rattle.sdd_obligations.specs.lang.declared.transaction.Txn.{Txn}
-use Rattle.sdd_obligations.specs.history.Records.{History}
 use Rattle.sdd_make.specs.Summary.{summary_of, summary_text}
 use Rattle.sdd_make.specs.declared.summary.Summary.{Summary}
-use Rattle.sdd_obligations.specs.logs.Entries.{Log, history, marks}
-use Rattle.sdd_obligations.specs.logs.Lawful.{EndsByLimit, IsTheLog}
 use Rattle.sdd_world.specs.Schedules.{with_events}
 use Rattle.sdd_world.specs.Standing.{EndsBy, StandsFor}
 use Rattle.sdd_world.specs.declared.world.World.{World}

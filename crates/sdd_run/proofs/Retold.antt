@@ -4,15 +4,8 @@ use Rattle.std.specs.Prelude.{codes, filter_map, find}
 use Rattle.std.specs.List.{AllZip, cons_option}
 use Rattle.std.specs.Option.{option_map, option_map_or}
 use Rattle.std.proofs.lemmas.Bool.{cases_Bool, eq-eqb, eqb-true}
-use Rattle.sdd_obligations.specs.base.Numbers.{txn_no}
-use Rattle.sdd_obligations.specs.base.declared.number.TxnNo.{TxnNo}
-use Rattle.sdd_obligations.specs.base.declared.reply.Reply.{Reply}
-use Rattle.sdd_obligations.specs.history.Records.{History}
-use Rattle.sdd_obligations.specs.history.declared.record.Rec.{Rec}
-use Rattle.sdd_obligations.specs.history.declared.record.Rec.TheVariants.{Commit}
-use Rattle.sdd_obligations.specs.lang.declared.transaction.Txn.{Txn}
+use Rattle.sdd_obligations.specs.All.{Commit, Committed, HasCommit, History, IsCommitted, Rec, Reply, Txn, TxnNo, txn_no}
 use Rattle.sdd_obligations.specs.laws.Replay.{IsReplyOf}
-use Rattle.sdd_obligations.specs.serial_orders.Attempts.{Committed, HasCommit, IsCommitted}
 use Rattle.sdd_obligations.specs.serial_orders.Places.{record_at}
 use Rattle.sdd_report.specs.Committed.{Told, is_of, names_of, order_line, reply_of, shipped_of, told_in, told_of}
 use Rattle.sdd_report.specs.Copies.{copies_lines}

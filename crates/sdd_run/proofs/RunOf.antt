@@ -2,22 +2,13 @@
 use Rattle.std.proofs.Common.{◌≤◌, List, arith, length}
 use Rattle.std.specs.List.{All}
 use Rattle.std.proofs.lemmas.List.Elements.{All-weaker}
-use Rattle.sdd_obligations.specs.base.declared.number.RelNo.{RelNo}
-use Rattle.sdd_obligations.specs.catalog.Catalogue.{Catalogue}
-use Rattle.sdd_obligations.specs.catalog.Rules.{IsSound}
-use Rattle.sdd_obligations.specs.lang.Database.{Row}
-use Rattle.sdd_obligations.specs.lang.Fits.{Fits, FitsStart}
-use Rattle.sdd_obligations.specs.lang.Sound.{IsHeld, PutsHeld}
-use Rattle.sdd_obligations.specs.lang.declared.transaction.Txn.{Txn}
+use Rattle.sdd_obligations.specs.All.{Catalogue, FitsStart, IsHeld, IsLawful, IsPermitted, IsSound, IsTheLog, Log, PutsHeld, RelNo, Row, Txn, redeclares}
+use Rattle.sdd_obligations.specs.lang.Fits.{Fits}
 use Rattle.sdd_lists.specs.InForce.{classes_in, whole_in}
 use Rattle.sdd_obligations.specs.protocol.declared.entry.Entry.{Entry}
-use Rattle.sdd_script.specs.Valid.{HoldsValues, IsValid, IsValidRow, IsValidTxn, IsValue}
+use Rattle.sdd_script.specs.All.{HoldsValues, IsValid, IsValidRow, IsValidTxn, IsValue}
 use Rattle.sdd_script.specs.declared.workload.Workload.{Workload}
 use Rattle.sdd_obligations.proofs.logs.NewMarks.{lawful_permitted}
-use Rattle.sdd_obligations.specs.logs.Entries.{Log}
-use Rattle.sdd_obligations.specs.logs.Lawful.{IsLawful, IsTheLog}
-use Rattle.sdd_obligations.specs.logs.Locals.{redeclares}
-use Rattle.sdd_obligations.specs.logs.Permitted.{IsPermitted}
 use Rattle.sdd_progress.specs.lawful.Given.{AreErasOf, HasSoundData, SubmitGiven}
 use Rattle.sdd_progress.proofs.ErasOf.{are_eras_of}
 use Rattle.sdd_progress.specs.Eras.{eras_of}

@@ -1,27 +1,12 @@
 -- A run that a settle or a redeclare ends leaves nothing undone, where no data module is down at its end.
 use Rattle.std.proofs.Common.{ℕ, ◌≡◌, List, None, ap, length, subst, sym}
 use Rattle.std.specs.Prelude.{◌⊎◌, Contains}
-use Rattle.sdd_obligations.specs.base.Numbers.{dm_no, txn_no}
-use Rattle.sdd_obligations.specs.base.declared.site.Site.TheVariants.{D}
-use Rattle.sdd_obligations.specs.base.declared.number.TxnNo.{TxnNo}
-use Rattle.sdd_obligations.specs.catalog.Catalogue.{Catalogue, has_copy, numbers_to}
-use Rattle.sdd_obligations.specs.catalog.Rules.{IsSound}
-use Rattle.sdd_obligations.specs.history.Records.{History}
-use Rattle.sdd_obligations.specs.history.declared.record.Rec.TheVariants.{Commit}
+use Rattle.sdd_obligations.specs.All.{AreAllApplied, Catalogue, Commit, Committed, D, Given, HasCommit, History, IsAttempt, IsCommitted, IsLawful, IsOrderable, IsSerial, IsSound, IsSubmitted, IsTheLog, Log, Stands, TxnNo, dated, dm_no, has_copy, history, local_of, next, numbers_to, setting_of, txn_no, with_event}
 use Rattle.sdd_obligations.proofs.laws.Members.{Contains-from_filter, Contains-from_flat_map, Contains-from_map}
-use Rattle.sdd_obligations.specs.dm.Copies.{dated}
-use Rattle.sdd_obligations.specs.laws.Deeds.{IsSubmitted}
-use Rattle.sdd_obligations.specs.laws.Replay.{AreAllApplied}
 use Rattle.sdd_obligations.proofs.logs.NewMarks.{lawful_permitted}
-use Rattle.sdd_obligations.specs.logs.Due.{next}
-use Rattle.sdd_obligations.specs.logs.Entries.{Given, Log, history, with_event}
-use Rattle.sdd_obligations.specs.logs.Lawful.{IsLawful, IsTheLog}
-use Rattle.sdd_obligations.specs.logs.Locals.{local_of, setting_of}
-use Rattle.sdd_obligations.specs.serial_orders.Attempts.{Attempt, Committed, HasCommit, IsAttempt, IsCommitted}
-use Rattle.sdd_obligations.specs.serial_orders.Orders.{IsOrderable, IsSerial}
-use Rattle.sdd_obligations.specs.serial_orders.Places.{Stands}
+use Rattle.sdd_obligations.specs.serial_orders.Attempts.{Attempt}
 use Rattle.sdd_obligations.specs.protocol.declared.entry.Entry.{Entry}
-use Rattle.sdd_script.specs.Valid.{IsValid}
+use Rattle.sdd_script.specs.All.{IsValid}
 use Rattle.sdd_script.specs.declared.workload.Workload.{Workload}
 use Rattle.sdd_world.specs.AtSites.{standing_at}
 use Rattle.sdd_world.specs.Standings.{standing_at_t, standing_at_u}

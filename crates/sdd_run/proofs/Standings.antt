@@ -5,26 +5,10 @@ use Rattle.std.specs.List.{find, fold, list_all}
 use Rattle.std.specs.Prelude.{option_map, position}
 use Rattle.std.proofs.Math.Decide.{dec_le}
 use Rattle.std.proofs.lemmas.Bool.{eq-eqb, eqb-true}
-use Rattle.sdd_obligations.specs.base.Numbers.{tm_no}
-use Rattle.sdd_obligations.specs.base.Sites.{sites}
-use Rattle.sdd_obligations.specs.base.Words.{contains, head_of, is_empty}
-use Rattle.sdd_obligations.specs.base.declared.number.ClassNo.{ClassNo}
-use Rattle.sdd_obligations.specs.base.declared.site.Site.{Site}
-use Rattle.sdd_obligations.specs.base.declared.site.Site.TheVariants.{D, T, U}
+use Rattle.sdd_obligations.specs.All.{Act, AllZero, Attempt, Catalogue, ClassNo, D, Exchange, FitsGiven, Given, IsClass, IsFrom1To, IsModule, IsPermitted, IsSound, Log, Msg, Queued, Site, Standing, T, TmCounts, Turn, U, active, attempt_due, base_of, class_at, contains, counts, does_at, first_send, head_of, home, is_empty, is_over, is_site, last_served, local_of, next_at, numbers_to, queue, send_due, setting_of, site_due, sites, standing_among, tm_no, turn_at}
 use Rattle.sdd_obligations.proofs.catalog.Sound.{sound_whole}
-use Rattle.sdd_obligations.specs.catalog.Catalogue.{Catalogue, class_at, numbers_to}
-use Rattle.sdd_obligations.specs.catalog.Rules.{IsSound}
-use Rattle.sdd_obligations.specs.wire.declared.msg.Msg.{Msg}
-use Rattle.sdd_obligations.specs.net.Nets.{is_site}
-use Rattle.sdd_obligations.specs.site_module.SiteLog.{Act}
-use Rattle.sdd_obligations.specs.serial_orders.Numbers.{IsClass, IsFrom1To, IsModule}
-use Rattle.sdd_obligations.specs.attempt.Acts.{attempt_due}
-use Rattle.sdd_obligations.specs.attempt.Attempts.{Attempt, active}
-use Rattle.sdd_obligations.specs.attempt.Exchange.{Exchange, first_send, is_over, send_due}
 use Rattle.sdd_obligations.specs.attempt.Lines.{Line}
-use Rattle.sdd_obligations.specs.attempt.Queues.{Queued, queue}
-use Rattle.sdd_obligations.specs.attempt.Standings.{lower, lowest, or_standing, queued_at, site_of, standing_among, standing_by, standing_of, underway, waiting}
-use Rattle.sdd_obligations.specs.attempt.declared.standing.Standing.{Standing}
+use Rattle.sdd_obligations.specs.attempt.Standings.{lower, lowest, or_standing, queued_at, site_of, standing_by, standing_of, underway, waiting}
 use Rattle.sdd_obligations.specs.attempt.declared.standing.Standing.TheVariants as standings
 use Rattle.sdd_obligations.specs.tm.Due as tm
 use Rattle.sdd_obligations.specs.tm.State as tm_states
@@ -34,19 +18,11 @@ use Rattle.sdd_obligations.specs.umod.Standing as u_standing
 use Rattle.sdd_obligations.specs.umod.State as um_states
 use Rattle.sdd_obligations.specs.umod.Steps.{tm_of}
 use Rattle.sdd_obligations.specs.umod.Views as um_views
-use Rattle.sdd_obligations.specs.umod.Views.{TmCounts, counts, last_served}
-use Rattle.sdd_obligations.specs.logs.Due.{does_at, next_at, site_due}
-use Rattle.sdd_obligations.specs.logs.Entries.{Given, Log}
-use Rattle.sdd_obligations.specs.logs.Locals.{local_of, setting_of}
-use Rattle.sdd_obligations.specs.logs.Permitted.{IsPermitted}
-use Rattle.sdd_obligations.specs.logs.Snapshots.{base_of}
 use Rattle.sdd_obligations.proofs.invariants.Bools.{and_left, both, not_both, not_zero, or_left, or_right, same_or_not}
 use Rattle.sdd_obligations.proofs.invariants.Fair.{home_fair}
 use Rattle.sdd_obligations.proofs.invariants.Holding.{at_map}
 use Rattle.sdd_obligations.proofs.invariants.Lists.{in_filtered, in_mapped, in_range}
 use Rattle.sdd_obligations.proofs.invariants.Serving.{counts_tm}
-use Rattle.sdd_obligations.specs.invariants.AtU.{AllZero}
-use Rattle.sdd_obligations.specs.invariants.Steps.{home}
 use Rattle.sdd_obligations.proofs.AtTurn.{StandsAt, answered_last, apart, awaited, unsent}
 use Rattle.sdd_obligations.proofs.Halves.{home_turns}
 use Rattle.sdd_obligations.proofs.Hearing.{AtTurn}
@@ -56,8 +32,6 @@ use Rattle.sdd_obligations.proofs.Near.{HasNear, IsNear, IsNearBy, active_near}
 use Rattle.sdd_obligations.proofs.OfNext.{site_there}
 use Rattle.sdd_obligations.proofs.Spoken.{spoken}
 use Rattle.sdd_obligations.proofs.Starts.{small_home}
-use Rattle.sdd_obligations.specs.Fitting.{FitsGiven}
-use Rattle.sdd_obligations.specs.Turns.{Turn, turn_at}
 use Rattle.sdd_progress.proofs.Lacking.{goes_on}
 use Rattle.sdd_progress.proofs.Lists.{all_true, either, if_none, none_at}
 use Rattle.sdd_progress.proofs.NoRejects.{all_served}

@@ -1,22 +1,10 @@
 -- A new world of a workload stands for the empty log of what is given before its first event.
 use Rattle.std.proofs.Common.{◌-◌, ◌≡◌, ◌∙◌, ◌∷◌, ◌≤◌, List, Some, [], ap, drop, get_or, map, refl, sym, subst}
 use Rattle.std.specs.Prelude.{slice_get}
-use Rattle.sdd_obligations.specs.base.Kept.{Kept}
-use Rattle.sdd_obligations.specs.base.Numbers.{dm_no}
-use Rattle.sdd_obligations.specs.base.declared.event.Event.{Event}
-use Rattle.sdd_obligations.specs.base.declared.limits.TheConstants.{MAX_TMS, MAX_DMS}
-use Rattle.sdd_obligations.specs.base.declared.number.RelNo.{RelNo}
-use Rattle.sdd_obligations.specs.base.declared.site.Site.TheVariants.{D}
-use Rattle.sdd_obligations.specs.catalog.Catalogue.{Catalogue}
-use Rattle.sdd_obligations.specs.catalog.Rules.{IsSound}
-use Rattle.sdd_obligations.specs.lang.Database.{Row}
-use Rattle.sdd_obligations.specs.lang.declared.transaction.Txn.{Txn}
+use Rattle.sdd_obligations.specs.All.{Catalogue, Class, D, Event, Force, Given, IsGood, IsSound, Kept, MAX_DMS, MAX_TMS, RelNo, Row, Txn, dm_no, rows_of}
 use Rattle.sdd_obligations.specs.protocol.declared.entry.Entry.{Entry}
-use Rattle.sdd_script.specs.Valid.{IsValid}
+use Rattle.sdd_script.specs.All.{IsValid}
 use Rattle.sdd_script.specs.declared.workload.Workload.{Workload}
-use Rattle.sdd_obligations.specs.logs.Entries.{Given}
-use Rattle.sdd_obligations.specs.logs.Locals.{rows_of}
-use Rattle.sdd_obligations.specs.Real.{IsGood}
 use Rattle.sdd_obligations.specs.dm.State.{State}
 use Rattle.sdd_world.specs.Beginnings.{AllBegin, BeginsD, IsBegun, There}
 use Rattle.sdd_world.specs.Schedules.{AreAllowed}
@@ -25,9 +13,7 @@ use Rattle.sdd_world.specs.Standing.{StandsFor}
 use Rattle.sdd_world.specs.declared.world.World.{World}
 use Rattle.sdd_obligations.specs.base.Words.{tail_of}
 use Rattle.sdd_obligations.specs.catalog.Eras.{eras}
-use Rattle.sdd_obligations.specs.catalog.declared.resolved.Class.{Class}
 use Rattle.sdd_lists.specs.InForce.{classes_in, eras_in, whole_in}
-use Rattle.sdd_obligations.specs.site_module.SiteLog.{Force}
 use Rattle.sdd_world.specs.declared.schedule.ClassList.{ClassList}
 use Rattle.sdd_run.specs.Lent.{force_in}
 use Rattle.sdd_run.specs.Runs.{AreTables, begun, forces_of}

@@ -2,10 +2,8 @@
 use Rattle.std.proofs.Common.{ℕ, suc, ◌+◌, ◌<◌, ◌≤◌, ◌≡◌, ◌∙◌, refl, sym, ap, subst, arith, false, ◌==◌, inl, inr, List, [], ◌∷◌, ◌++◌, length, filter_map}
 use Rattle.std.specs.Prelude.{slice_index_or}
 use Rattle.std.proofs.lemmas.Bool.{cases_eq, eq-eqb, ne_eqb}
-use Rattle.sdd_obligations.specs.base.declared.event.Event.{Event}
-use Rattle.sdd_obligations.specs.base.declared.event.Event.TheVariants.{Submit, Deliver, Lose, Repeat, Resend, Tick, Settle, Redeclare, Down, Up}
-use Rattle.sdd_script.specs.Valid.{AreDistinct, submitted_by}
-use Rattle.sdd_obligations.specs.logs.Permitted.{AreSubmittedOnce, one_if, submits_in}
+use Rattle.sdd_obligations.specs.All.{AreSubmittedOnce, Deliver, Down, Event, Lose, Redeclare, Repeat, Resend, Settle, Submit, Tick, Up, one_if, submits_in}
+use Rattle.sdd_script.specs.All.{AreDistinct, submitted_by}
 
 abbrev numbers : List Event → List ℕ
 numbers es = filter_map submitted_by es

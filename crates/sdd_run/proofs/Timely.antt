@@ -5,16 +5,14 @@ use Rattle.std.specs.List.{fold}
 use Rattle.std.proofs.Math.Seq.{take-append_seam}
 use Rattle.std.proofs.lemmas.List.Sums.{sum_by-cons}
 use Rattle.std.proofs.lemmas.List.{length-map}
-use Rattle.sdd_obligations.specs.base.declared.event.Event.{Event}
-use Rattle.sdd_obligations.specs.base.declared.event.Event.TheVariants.{Submit, Deliver, Lose, Repeat, Resend, Tick, Settle, Redeclare, Down, Up}
-use Rattle.sdd_obligations.specs.catalog.Catalogue.{Catalogue}
+use Rattle.sdd_obligations.specs.All.{Catalogue, Deliver, Down, Event, Lose, Redeclare, Repeat, Resend, Settle, Submit, Tick, Up, redeclares_in}
 use Rattle.sdd_obligations.proofs.invariants.Lists.{at_seam}
 use Rattle.sdd_obligations.specs.logs.Traffic.{turned_by}
-use Rattle.sdd_obligations.specs.AfterEvents.{down_from, redeclares_in}
+use Rattle.sdd_obligations.specs.AfterEvents.{down_from}
 use Rattle.sdd_lists.specs.InForce.{classes_in}
 use Rattle.sdd_obligations.specs.protocol.declared.entry.Entry.{Entry}
 use Rattle.sdd_script.specs.Redeclaring as script
-use Rattle.sdd_script.specs.Valid.{IsValid}
+use Rattle.sdd_script.specs.All.{IsValid}
 use Rattle.sdd_script.specs.declared.workload.Workload.{Workload}
 use Rattle.sdd_progress.specs.Timely.{AreTimely}
 use Rattle.sdd_run.specs.Runs.{AreTables, given_of}

@@ -3,24 +3,12 @@
 use Rattle.std.proofs.Common.{ℕ, ◌≡◌, List, [], ◌∷◌, ap, length, refl, subst, sym}
 use Rattle.std.specs.List.{All}
 use Rattle.std.proofs.lemmas.List.Elements.{All-weaker}
-use Rattle.sdd_obligations.specs.base.declared.event.Event.{Event}
-use Rattle.sdd_obligations.specs.base.declared.event.Event.TheVariants.{Submit, Deliver, Lose, Repeat, Resend, Tick, Settle, Redeclare, Down, Up}
-use Rattle.sdd_obligations.specs.base.declared.number.RelNo.{RelNo}
-use Rattle.sdd_obligations.specs.base.declared.site.Site.{Site}
-use Rattle.sdd_obligations.specs.base.declared.site.Site.TheVariants.{U, T, D}
-use Rattle.sdd_obligations.specs.catalog.Catalogue.{Catalogue}
+use Rattle.sdd_obligations.specs.All.{Catalogue, Class, Condition, Const, D, Delete, Deliver, Down, Event, FitsCondition, FitsStart, FitsStatement, Lose, Put, Query, Redeclare, RelNo, Repeat, Resend, Row, Same, Settle, Site, Stmt, Submit, T, Tick, Txn, U, Up, Update}
 use Rattle.sdd_obligations.specs.catalog.Eras.{extended, whole}
-use Rattle.sdd_obligations.specs.catalog.declared.resolved.Class.{Class}
-use Rattle.sdd_obligations.specs.lang.Database.{Row}
-use Rattle.sdd_obligations.specs.lang.Fits.{Fits, FitsAssign, FitsCondition, FitsConditions, FitsStart, FitsStatement}
+use Rattle.sdd_obligations.specs.lang.Fits.{Fits, FitsAssign, FitsConditions}
 use Rattle.sdd_obligations.specs.lang.declared.assign.Assign.{Assign}
 use Rattle.sdd_obligations.specs.lang.declared.assign.Assign.TheVariants.{To, Add}
-use Rattle.sdd_obligations.specs.lang.declared.condition.Condition.{Condition}
-use Rattle.sdd_obligations.specs.lang.declared.condition.Condition.TheVariants.{Const, Same}
-use Rattle.sdd_obligations.specs.lang.declared.statement.Stmt.{Stmt}
-use Rattle.sdd_obligations.specs.lang.declared.statement.Stmt.TheVariants.{Put, Query, Update, Delete}
-use Rattle.sdd_obligations.specs.lang.declared.transaction.Txn.{Txn}
-use Rattle.sdd_script.specs.Valid.{IsSite, IsValid, IsValidEvent, IsValidRow, IsValidTxn}
+use Rattle.sdd_script.specs.All.{IsSite, IsValid, IsValidEvent, IsValidRow, IsValidTxn}
 use Rattle.sdd_script.specs.declared.workload.Workload.{Workload}
 use Rattle.sdd_lists.specs.InForce.{classes_in, whole_in}
 

@@ -1,12 +1,6 @@
 -- How far the clocks of a run go.
 use Rattle.std.specs.Prelude.{◌<◌, ◌^◌, ◌≡◌, ◌++◌, ◌∷◌, [], refl}
-use Rattle.sdd_obligations.specs.base.Numbers.{tm_no}
-use Rattle.sdd_obligations.specs.base.declared.event.Event.TheVariants.{Tick}
-use Rattle.sdd_obligations.specs.base.declared.site.Site.{Site}
-use Rattle.sdd_obligations.specs.base.declared.site.Site.TheVariants.{T}
-use Rattle.sdd_obligations.specs.attempt.Clocks.{clock}
-use Rattle.sdd_obligations.specs.logs.Entries.{Given, Log, Mark}
-use Rattle.sdd_obligations.specs.logs.Locals.{local_of}
+use Rattle.sdd_obligations.specs.All.{Given, Log, Mark, Site, T, Tick, clock, local_of, tm_no}
 
 -- at each moment of the log the clock of each site stands below 2^39 ticks
 abbrev pub HasLowClocks : Given → Log → Type 0

@@ -1,14 +1,8 @@
 -- The copies that the log of a run leaves.
 use Rattle.std.specs.Prelude.{ℕ, List, map, filter, flat_map, length}
-use Rattle.sdd_obligations.specs.base.Numbers.{dm_no, frag_no}
-use Rattle.sdd_obligations.specs.base.declared.site.Site.TheVariants.{D}
-use Rattle.sdd_obligations.specs.catalog.Catalogue.{Catalogue, has_copy, numbers_to}
-use Rattle.sdd_obligations.specs.copy.Contents.{Dated, contents}
-use Rattle.sdd_obligations.specs.dm.Copies.{dated}
-use Rattle.sdd_obligations.specs.logs.Entries.{Given, Log}
-use Rattle.sdd_obligations.specs.logs.Locals.{local_of, setting_of}
-use Rattle.sdd_obligations.specs.lang.Agree.{rows_in_fragment}
-use Rattle.sdd_obligations.specs.lang.Database.{Database, Item, Row}
+use Rattle.sdd_obligations.specs.All.{Catalogue, D, Given, Log, Row, contents, dated, dm_no, frag_no, has_copy, local_of, numbers_to, rows_in_fragment, setting_of}
+use Rattle.sdd_obligations.specs.copy.Contents.{Dated}
+use Rattle.sdd_obligations.specs.lang.Database.{Database, Item}
 use Rattle.sdd_report.specs.declared.copies.CopyTable.{CopyTable}
 
 -- the rows of fragment f that changes leave at module d

@@ -1,5 +1,5 @@
 -- A list of classes as it is lent to a world.
-use Rattle.sdd_obligations.specs.site_module.SiteLog.{Force}
+use Rattle.sdd_obligations.specs.All.{Force}
 use Rattle.sdd_world.specs.declared.schedule.ClassList.{ClassList}
 
 abbrev pub force_in : ClassList → Force

@@ -2,26 +2,12 @@
 use Rattle.std.specs.Prelude.{ℕ, ◌==◌, ◌≡◌, Bool, false, not, if◌then◌else◌, List, [], ◌∷◌, filter_map, find, slice_get, Option, Some, None}
 use Rattle.std.specs.List.{list_any}
 use Rattle.std.specs.Option.{option_map}
-use Rattle.sdd_obligations.specs.base.Numbers.{dm_no}
-use Rattle.sdd_obligations.specs.base.declared.condition.Cond.{Cond}
-use Rattle.sdd_obligations.specs.base.declared.number.TxnNo.{TxnNo}
-use Rattle.sdd_obligations.specs.base.declared.site.Site.{Site}
-use Rattle.sdd_obligations.specs.base.declared.site.Site.TheVariants.{U, D}
-use Rattle.sdd_obligations.specs.catalog.Catalogue.{numbers_to}
-use Rattle.sdd_obligations.specs.history.Records.{History}
-use Rattle.sdd_obligations.specs.history.declared.record.Rec.{Rec}
-use Rattle.sdd_obligations.specs.history.declared.record.Rec.TheVariants.{Commit, Submit}
-use Rattle.sdd_obligations.specs.site_module.SiteLog.{Setting}
+use Rattle.sdd_obligations.specs.All.{Commit, Cond, D, Given, History, IsSubmitted, Log, Rec, Setting, Site, Standing, Submitted, TxnNo, U, dm_no, force_at, history, is_met, local_of, numbers_to, redeclares, setting_of, txn_at, view_of}
+use Rattle.sdd_obligations.specs.history.declared.record.Rec.TheVariants.{Submit}
 use Rattle.sdd_obligations.specs.site_module.SiteLog as site
-use Rattle.sdd_obligations.specs.attempt.declared.standing.Standing.{Standing}
 use Rattle.sdd_obligations.specs.attempt.declared.standing.Standing.TheVariants as standings
-use Rattle.sdd_obligations.specs.dm.Due.{is_met}
-use Rattle.sdd_obligations.specs.dm.Views.{view_of}
 use Rattle.sdd_obligations.specs.dm.Waiting.{waiting_at}
 use Rattle.sdd_obligations.specs.logs.Due.{home_of}
-use Rattle.sdd_obligations.specs.laws.Deeds.{IsSubmitted}
-use Rattle.sdd_obligations.specs.logs.Entries.{Given, Log, Submitted, history}
-use Rattle.sdd_obligations.specs.logs.Locals.{force_at, local_of, redeclares, setting_of, txn_at}
 use Rattle.sdd_report.specs.Pending.{under_way}
 use Rattle.sdd_report.specs.declared.pending.Pending.{Pending}
 use Rattle.sdd_report.specs.declared.pending.Waiting.{Waiting}

@@ -1,16 +1,7 @@
 -- What a pending transaction may be told to wait for.
 use Rattle.std.specs.Prelude.{◌≡◌, ◌≤◌, ◌∷◌, [], Some, refl}
-use Rattle.sdd_obligations.specs.base.Numbers.{class_no, dm_no, time_at, tm_no, txn_no}
-use Rattle.sdd_obligations.specs.base.declared.event.Event.TheVariants.{Submit}
-use Rattle.sdd_obligations.specs.base.declared.site.Site.{Site}
-use Rattle.sdd_obligations.specs.base.declared.site.Site.TheVariants.{D, T, U}
-use Rattle.sdd_obligations.specs.catalog.Catalogue.{Catalogue}
-use Rattle.sdd_obligations.specs.serial_orders.Numbers.{IsClass, IsFrom1To, IsModule}
-use Rattle.sdd_obligations.specs.attempt.declared.standing.Standing.{Standing}
+use Rattle.sdd_obligations.specs.All.{Catalogue, D, IsClass, IsFrom1To, IsModule, Log, Site, Standing, Submit, T, U, class_no, dm_no, extended, local_of, setting_of, time_at, tm_no, txn_no}
 use Rattle.sdd_obligations.specs.attempt.declared.standing.Standing.TheVariants as standings
-use Rattle.sdd_obligations.specs.logs.Due.{extended}
-use Rattle.sdd_obligations.specs.logs.Entries.{Log}
-use Rattle.sdd_obligations.specs.logs.Locals.{local_of, setting_of}
 use Rattle.sdd_report.specs.declared.pending.Why.{Why}
 use Rattle.sdd_report.specs.declared.pending.Why.TheVariants.{Queued, Underway, Waits}
 use Rattle.sdd_progress.specs.Examples.{crossing_with}

@@ -2,24 +2,16 @@
 -- classes: then the whole catalogue has the classes of all lists, and one list after the other is in force, with the
 -- protocol table of its own catalogue. Without further lists the whole catalogue is the catalogue itself.
 use Rattle.std.specs.Prelude.{ℕ, ◌≡◌, List, [], ◌∷◌, ◌++◌, Contains, length, map}
-use Rattle.sdd_obligations.specs.base.declared.number.TxnNo.{TxnNo}
-use Rattle.sdd_obligations.specs.base.declared.reply.Reply.{Reply}
+use Rattle.sdd_obligations.specs.All.{AreAllApplied, Catalogue, Committed, EndsByLimit, Force, Given, IsAttempt, IsClassOf, IsCommitted, IsOrderable, IsSerial, IsTable, IsTheLog, Log, Reply, TxnNo, history, marks, numbers_to, run}
 use Rattle.std.specs.List.{All, AllZip}
-use Rattle.sdd_obligations.specs.catalog.Catalogue.{Catalogue, numbers_to}
-use Rattle.sdd_obligations.specs.protocol.Protocols.{IsTable}
 use Rattle.sdd_obligations.specs.protocol.declared.entry.Entry.{Entry}
 use Rattle.sdd_script.specs.declared.workload.Workload.{Workload}
 use Rattle.sdd_lists.specs.InForce.{eras_in, whole_in}
 use Rattle.sdd_make.specs.Summary.{summary_of, summary_text}
-use Rattle.sdd_obligations.specs.graph.Edges.{IsClassOf}
 use Rattle.sdd_obligations.specs.lang.Database.{Database}
 use Rattle.sdd_obligations.specs.laws.Copied.{AreAppliedAlike}
-use Rattle.sdd_obligations.specs.laws.Replay.{AreAllApplied, IsReplyOf, run}
-use Rattle.sdd_obligations.specs.site_module.SiteLog.{Force}
-use Rattle.sdd_obligations.specs.logs.Entries.{Given, Log, history, marks}
-use Rattle.sdd_obligations.specs.logs.Lawful.{EndsByLimit, IsTheLog}
-use Rattle.sdd_obligations.specs.serial_orders.Attempts.{Attempt, Committed, IsAttempt, IsCommitted}
-use Rattle.sdd_obligations.specs.serial_orders.Orders.{IsOrderable, IsSerial}
+use Rattle.sdd_obligations.specs.laws.Replay.{IsReplyOf}
+use Rattle.sdd_obligations.specs.serial_orders.Attempts.{Attempt}
 use Rattle.sdd_obligations.specs.serial_orders.SerialOrder.{serial_order}
 use Rattle.sdd_report.specs.Committed.{names_of, order_line}
 use Rattle.sdd_report.specs.Replies.{replies_along}

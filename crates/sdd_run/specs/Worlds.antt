@@ -3,13 +3,10 @@ use Rattle.std.specs.Prelude.{ℕ, ◌≡◌, List}
 use Rattle.std.specs.BTreeSet.{BTreeSet, contains}
 use Rattle.std.specs.List.{list_any}
 use Rattle.std.specs.Ordering.{nat_cmp}
-use Rattle.sdd_obligations.specs.catalog.Catalogue.{Catalogue}
-use Rattle.sdd_obligations.specs.history.Records.{History}
+use Rattle.sdd_obligations.specs.All.{Catalogue, Given, History, IsTheLog, Log}
 use Rattle.sdd_obligations.specs.protocol.declared.entry.Entry.{Entry}
 use Rattle.sdd_script.specs.declared.workload.Workload.{Workload}
 use Rattle.sdd_lists.specs.InForce.{whole_in}
-use Rattle.sdd_obligations.specs.logs.Entries.{Given, Log}
-use Rattle.sdd_obligations.specs.logs.Lawful.{IsTheLog}
 use Rattle.sdd_world.specs.Standing.{StandsFor}
 use Rattle.sdd_world.specs.declared.world.World.{World}
 use Rattle.sdd_run.specs.Pending.{commits}

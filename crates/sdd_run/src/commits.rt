@@ -2,7 +2,7 @@
 ghost use Rattle.std.specs.Prelude.{◌≡◌, ◌||◌, ℕ, IfOk, OnOk};
 ghost use Rattle.std.specs.BTreeSet.{contains};
 ghost use Rattle.std.specs.Ordering.{nat_cmp};
-ghost use Rattle.sdd_obligations.specs.history.Records.{History};
+ghost use Rattle.sdd_obligations.specs.All.{History};
 ghost use Rattle.sdd_run.specs.Pending.{commits};
 ghost use Rattle.sdd_run.specs.Worlds.{AreCommitted};
 

@@ -1,11 +1,7 @@
 //! The copies of data modules.
 ghost use Rattle.std.specs.Prelude.{◌≡◌, ◌≤◌, ◌++◌, ◌∷◌, [], ℕ, map, filter, length, true, IfOk, IsTrue, OnOk};
-ghost use Rattle.sdd_obligations.specs.base.declared.site.Site.TheVariants.{D};
-ghost use Rattle.sdd_obligations.specs.catalog.Catalogue.{has_copy};
-ghost use Rattle.sdd_obligations.specs.copy.Contents.{Dated, contents};
-ghost use Rattle.sdd_obligations.specs.copy.Copies.{is_here, StandFor};
-ghost use Rattle.sdd_obligations.specs.logs.Entries.{Given, Log};
-ghost use Rattle.sdd_obligations.specs.logs.Resting.{IsSiteOf};
+ghost use Rattle.sdd_obligations.specs.All.{D, Given, IsSiteOf, Log, StandFor, contents, has_copy, is_here};
+ghost use Rattle.sdd_obligations.specs.copy.Contents.{Dated};
 ghost use Rattle.sdd_run.specs.Copies.{table_of, tables_in, tables_at, tables_of};
 ghost use Rattle.sdd_run.specs.Worlds.{StandsOn};
 

@@ -2,7 +2,7 @@
 ghost use Rattle.std.specs.Prelude.{◌≡◌, ◌<◌, Some, length, map, slice_get, IfOk};
 ghost use Rattle.std.specs.List.{AllZip};
 ghost use Rattle.sdd_obligations.specs.base.Words.{tail_of};
-ghost use Rattle.sdd_obligations.specs.protocol.Protocols.{IsTable};
+ghost use Rattle.sdd_obligations.specs.All.{IsTable};
 ghost use Rattle.sdd_run.specs.Lent.{force_in};
 ghost use Rattle.sdd_run.specs.Runs.{forces_of};
 

@@ -1,29 +1,13 @@
 //! What holds of every run of a workload, told or not.
 ghost use Rattle.std.specs.Prelude.{ℕ, ◌≡◌, ◌≤◌, ◌++◌, ◌∷◌, List, None};
-ghost use Rattle.sdd_obligations.specs.base.declared.condition.Cond.{Cond};
-ghost use Rattle.sdd_obligations.specs.base.declared.number.ClassNo.{ClassNo};
-ghost use Rattle.sdd_obligations.specs.base.declared.number.DmNo.{DmNo};
-ghost use Rattle.sdd_obligations.specs.base.declared.number.Ts.{Ts};
-ghost use Rattle.sdd_obligations.specs.base.declared.number.TxnNo.{TxnNo};
-ghost use Rattle.sdd_obligations.specs.base.declared.site.Site.{Site};
-ghost use Rattle.sdd_obligations.specs.base.declared.site.Site.TheVariants.{D};
-ghost use Rattle.sdd_obligations.specs.base.declared.usage.Use.{Use};
-ghost use Rattle.sdd_obligations.specs.catalog.Rules.{IsSound};
-ghost use Rattle.sdd_obligations.specs.wire.declared.msg.Msg.TheVariants.{Read};
-ghost use Rattle.sdd_obligations.specs.logs.Due.{site_due};
-ghost use Rattle.sdd_obligations.specs.logs.Entries.{Given, Hand, Log, history, marks};
-ghost use Rattle.sdd_obligations.specs.logs.Lawful.{IsLawful, IsTheLog};
-ghost use Rattle.sdd_obligations.specs.logs.Locals.{local_of, setting_of};
-ghost use Rattle.sdd_obligations.specs.logs.Permitted.{AreSubmittedOnce, IsPermitted};
-ghost use Rattle.sdd_obligations.specs.Fitting.{FitsGiven};
+ghost use Rattle.sdd_obligations.specs.All.{AreSubmittedOnce, Catalogue, ClassNo, Cond, D, DmNo, FitsGiven, Given, Hand, IsLawful, IsPermitted, IsSound, IsTheLog, Log, Read, Site, Ts, TxnNo, Use, history, local_of, marks, setting_of, site_due};
 ghost use Rattle.sdd_world.specs.Standings.{standing_of};
 ghost use Rattle.sdd_run.specs.Reasons.{IsStanding};
 ghost use Rattle.sdd_progress.specs.read_waits.Free.{IsFreeClass};
 ghost use Rattle.sdd_run.specs.Free.{IsAnsweredWithin};
-ghost use Rattle.sdd_obligations.specs.catalog.Catalogue.{Catalogue};
 ghost use Rattle.sdd_script.specs.declared.workload.Workload.{Workload};
 ghost use Rattle.sdd_obligations.specs.protocol.declared.entry.Entry.{Entry};
-ghost use Rattle.sdd_script.specs.Valid.{IsValid};
+ghost use Rattle.sdd_script.specs.All.{IsValid};
 ghost use Rattle.sdd_run.specs.Clocks.{HasLowClocks};
 ghost use Rattle.sdd_run.specs.Runs.{AreTables, EndsAtLimit, IsReportOn, IsSummaryOn, given_of};
 

@@ -1,7 +1,7 @@
 //! The world of a workload, with all its events carried out.
 ghost use Rattle.std.specs.Prelude.{◌≡◌, IfOk, IsErrOf};
 ghost use Rattle.sdd_lists.specs.InForce.{eras_in, whole_in};
-ghost use Rattle.sdd_script.specs.Valid.{IsValid};
+ghost use Rattle.sdd_script.specs.All.{IsValid};
 ghost use Rattle.sdd_run.specs.Runs.{AreTables, EndsAtLimit};
 ghost use Rattle.sdd_run.specs.Worlds.{IsRunOf};
 

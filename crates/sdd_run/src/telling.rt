@@ -1,7 +1,6 @@
 //! The report on a world.
 ghost use Rattle.std.specs.Prelude.{◌≡◌, IfOk};
-ghost use Rattle.sdd_obligations.specs.logs.Entries.{Given, Log, history};
-ghost use Rattle.sdd_obligations.specs.serial_orders.Orders.{IsOrderable};
+ghost use Rattle.sdd_obligations.specs.All.{Given, IsOrderable, Log, history};
 ghost use Rattle.sdd_report.specs.Report.{report_text as text_of};
 ghost use Rattle.sdd_run.specs.Pending.{AreAtLastHomes};
 ghost use Rattle.sdd_run.specs.Reports.{report_by};

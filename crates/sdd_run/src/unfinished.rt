@@ -1,7 +1,6 @@
 //! What is pending when a run ends.
 ghost use Rattle.std.specs.Prelude.{◌≡◌, ◌++◌, ◌∷◌, [], filter_map, IfOk, OnOk};
-ghost use Rattle.sdd_obligations.specs.history.Records.{History};
-ghost use Rattle.sdd_obligations.specs.logs.Entries.{Given, Log};
+ghost use Rattle.sdd_obligations.specs.All.{Given, History, Log};
 ghost use Rattle.sdd_run.specs.Pending.{last_home, pending_as, pending_at, pending_by, reason_of};
 ghost use Rattle.sdd_run.specs.Worlds.{AreCommitted, StandsOn};
 ghost use Rattle.sdd_world.specs.Standings.{standing_of};

@@ -1,8 +1,6 @@
 //! Why a transaction is pending.
 ghost use Rattle.std.specs.Prelude.{◌≡◌, ◌≤◌, ◌++◌, ◌∷◌, [], ℕ, filter_map, length, IfOk, OnOk};
-ghost use Rattle.sdd_obligations.specs.base.declared.site.Site.TheVariants.{D};
-ghost use Rattle.sdd_obligations.specs.logs.Entries.{Given, Log};
-ghost use Rattle.sdd_obligations.specs.logs.Resting.{IsSiteOf};
+ghost use Rattle.sdd_obligations.specs.All.{D, Given, IsSiteOf, Log};
 ghost use Rattle.sdd_world.specs.Standing.{StandsFor};
 ghost use Rattle.sdd_run.specs.Pending.{last_home, reason_of, wait_at, waits_of, why_of};
 ghost use Rattle.sdd_run.specs.Worlds.{StandsOn};

@@ -8,11 +8,8 @@ use Rattle.std.specs.Int.Signed.{mag}
 use Rattle.std.specs.List.{AllByRecursion}
 use Rattle.std.proofs.lemmas.Slice.Eq.{bytes_eq-Decides}
 use Rattle.std.proofs.lemmas.Bool.{ne_eqb, eq-eqb}
-use Rattle.sdd_lang.specs.base.declared.number.RelNo.{RelNo}
-use Rattle.sdd_lang.specs.catalog.Catalogue.{Catalogue, kind_at, key_column}
-use Rattle.sdd_lang.specs.catalog.declared.parts.Kind.{Kind}
+use Rattle.sdd_lang.specs.All.{Catalogue, FitsAssign, FitsRef, IsColumn, Kind, RelNo, along, key_column, kind_at, kind_of_ref, must, rel_of, ◌>>=◌}
 use Rattle.sdd_lang.specs.catalog.declared.parts.Kind.TheVariants as kinds
-use Rattle.sdd_lang.specs.Fits.{IsColumn, FitsRef, FitsAssign, kind_of_ref, rel_of}
 use Rattle.sdd_lang.specs.declared.assign.Assign.{Assign}
 use Rattle.sdd_lang.specs.declared.assign.Assign.TheVariants.{To, Add}
 use Rattle.sdd_lang.specs.declared.condition.Ref.{Ref}
@@ -20,7 +17,6 @@ use Rattle.sdd_words.specs.Values.{value_word}
 use Rattle.sdd_words.specs.Keywords.{is_free, adds_of, looks_like_column}
 use Rattle.sdd_words.specs.Forms.{setting_of, joined, settings}
 use Rattle.sdd_words.specs.Number.{number_of}
-use Rattle.sdd_lang.specs.base.Readings.{◌>>=◌, must, along}
 use Rattle.sdd_words.specs.declared.form.Setting.{Setting}
 use Rattle.sdd_words.specs.declared.word.Word.{Word}
 use Rattle.sdd_words.specs.declared.word.Word.TheVariants.{Plain, Quoted}

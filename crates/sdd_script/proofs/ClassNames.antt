@@ -5,13 +5,7 @@ use Rattle.std.specs.Str.{bytes_eq}
 use Rattle.std.specs.List.{list_any, range_with_len}
 use Rattle.std.proofs.lemmas.List.{map-append}
 use Rattle.std.proofs.lemmas.List.Folds.{list_any-append}
-use Rattle.sdd_lang.specs.base.Numbers.{tm_no}
-use Rattle.sdd_lang.specs.catalog.Catalogue.{Catalogue, parts_of, class_part, numbers_to}
-use Rattle.sdd_lang.specs.catalog.Rules.{IsSound, repeats, has_name, found_from, class_rules, faults_of_class}
-use Rattle.sdd_lang.specs.catalog.declared.parts.ClassPart.{ClassPart}
-use Rattle.sdd_lang.specs.catalog.declared.parts.Parts.{Parts}
-use Rattle.sdd_lang.specs.catalog.declared.resolved.Class.{Class}
-use Rattle.sdd_lang.specs.catalog.declared.resolved.Fragment.{Fragment}
+use Rattle.sdd_lang.specs.All.{Catalogue, Class, ClassPart, Fragment, IsSound, Parts, class_part, class_rules, faults_of_class, found_from, has_name, numbers_to, parts_of, repeats, tm_no}
 use Rattle.sdd_lang.proofs.catalog.Found.{both_empty, empty_of_map, map-map}
 use Rattle.sdd_lang.proofs.catalog.NameLemmas.{list_any-map}
 use Rattle.sdd_lang.proofs.catalog.Validity.{no_faults, unbroken}

@@ -5,18 +5,13 @@ use Rattle.std.specs.Option.{option_map}
 use Rattle.std.specs.Str.{bytes_eq}
 use Rattle.std.specs.List.{AllByRecursion}
 use Rattle.std.proofs.lemmas.Slice.Eq.{bytes_eq-Decides}
-use Rattle.sdd_lang.specs.base.declared.number.RelNo.{RelNo}
-use Rattle.sdd_lang.specs.base.declared.restriction.Op.{Op}
+use Rattle.sdd_lang.specs.All.{Catalogue, FitsCondition, Kind, Op, RelNo, kind_of_ref, must, ◌>>=◌}
 use Rattle.sdd_lang.specs.base.declared.restriction.Op.TheVariants as ops
-use Rattle.sdd_lang.specs.catalog.Catalogue.{Catalogue}
-use Rattle.sdd_lang.specs.catalog.declared.parts.Kind.{Kind}
-use Rattle.sdd_lang.specs.Fits.{FitsCondition, kind_of_ref}
 use Rattle.sdd_lang.specs.declared.condition.Condition.{Condition}
 use Rattle.sdd_lang.specs.declared.condition.Condition.TheVariants.{Const, Same}
 use Rattle.sdd_words.specs.Values.{value_word}
 use Rattle.sdd_words.specs.Keywords.{is_key, is_free, op_word, op_in, op_of, looks_like_column, names_column}
 use Rattle.sdd_words.specs.Forms.{comparison_of, joined, comparisons}
-use Rattle.sdd_lang.specs.base.Readings.{◌>>=◌, must}
 use Rattle.sdd_words.specs.declared.form.Comparison.{Comparison}
 use Rattle.sdd_words.specs.declared.word.Word.{Word}
 use Rattle.sdd_words.specs.declared.word.Word.TheVariants.{Plain, Quoted}

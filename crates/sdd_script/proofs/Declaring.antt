@@ -5,14 +5,7 @@ use Rattle.std.specs.List.{All, AllByRecursion}
 use Rattle.std.proofs.lemmas.List.{map-append}
 use Rattle.std.proofs.lemmas.List.Elements.{All-from_recursion, recursion_from_All}
 use Rattle.std.proofs.lemmas.Grind.{flat_map-append}
-use Rattle.sdd_lang.specs.base.Name.{IsName}
-use Rattle.sdd_lang.specs.base.declared.limits.TheConstants.{MAX_CLASSES, MAX_READS}
-use Rattle.sdd_lang.specs.base.declared.number.TmNo.{TmNo}
-use Rattle.sdd_lang.specs.catalog.Catalogue.{Catalogue}
-use Rattle.sdd_lang.specs.catalog.Rules.{repeats, has_name}
-use Rattle.sdd_lang.specs.catalog.declared.parts.ClassPart.{ClassPart}
-use Rattle.sdd_lang.specs.catalog.declared.parts.ReadPart.{ReadPart}
-use Rattle.sdd_lang.specs.Fits.{IsFrom1To}
+use Rattle.sdd_lang.specs.All.{Catalogue, ClassPart, IsFrom1To, IsName, MAX_CLASSES, MAX_READS, ReadPart, TmNo, has_name, repeats}
 use Rattle.sdd_script.specs.ClassLists.{joined, part_names}
 use Rattle.sdd_script.specs.Naming.{class_names}
 use Rattle.sdd_script.specs.OpenLists.{class_so_far, classes_in, with_class, with_read, with_write, reads_in, writes_in}

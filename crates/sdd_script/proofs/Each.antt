@@ -1,7 +1,7 @@
 -- A loop that reads each item of a list of a line's parts.
 use Rattle.std.proofs.Common.{◌≡◌, ℕ, ◌+◌, ◌<◌, ◌≤◌, List, [], ◌∷◌, ◌++◌, length, get_or, drop, map, Result, Ok, refl, sym, ap, ◌∙◌}
 use Rattle.std.proofs.lemmas.List.{get_or_default}
-use Rattle.sdd_lang.specs.base.Readings.{◌>>=◌, along, Fails}
+use Rattle.sdd_lang.specs.All.{Fails, along, ◌>>=◌}
 use Rattle.sdd_lang.proofs.base.ReadingLaws as readings
 use Rattle.sdd_script.specs.Rules.{rule_in}
 use Rattle.sdd_script.specs.declared.fault.WorkRule.{WorkRule}

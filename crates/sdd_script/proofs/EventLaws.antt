@@ -7,21 +7,10 @@ use Rattle.std.specs.Fmt.{decimal}
 use Rattle.std.proofs.lemmas.Bool.{eqb-true, ltb-true, lt-ltb}
 use Rattle.std.proofs.lemmas.Str.{IsUtf8-append, IsUtf8-from_ascii}
 use Rattle.std.proofs.lemmas.Str.Ascii.{IsAscii-cons, IsAscii-nil}
-use Rattle.sdd_lang.specs.base.Numbers.{tm_no}
-use Rattle.sdd_lang.specs.base.declared.limits.TheConstants.{MAX_PLACE, MAX_TICKS}
-use Rattle.sdd_lang.specs.base.Sites.{are_linked}
-use Rattle.sdd_lang.specs.base.declared.event.Event.{Event}
-use Rattle.sdd_lang.specs.base.declared.event.Event.TheVariants.{Resend, Tick, Settle, Redeclare, Down, Up}
-use Rattle.sdd_lang.specs.base.declared.number.DmNo.{DmNo}
-use Rattle.sdd_lang.specs.base.declared.number.TmNo.{TmNo}
-use Rattle.sdd_lang.specs.base.declared.site.Site.{Site}
-use Rattle.sdd_lang.specs.base.declared.site.Site.TheVariants.{U, T, D}
-use Rattle.sdd_lang.specs.catalog.Catalogue.{Catalogue}
-use Rattle.sdd_lang.specs.Fits.{IsFrom1To}
+use Rattle.sdd_lang.specs.All.{Catalogue, D, DmNo, Down, Event, IsFrom1To, MAX_PLACE, MAX_TICKS, Redeclare, Resend, Settle, Site, T, Tick, TmNo, U, Up, are_linked, must, tm_no, ◌>>=◌}
 use Rattle.sdd_words.specs.Keywords.{is_free}
 use Rattle.sdd_words.specs.Lines.{HasNoNewline}
 use Rattle.sdd_words.specs.Number.{number_of}
-use Rattle.sdd_lang.specs.base.Readings.{◌>>=◌, must}
 use Rattle.sdd_words.specs.Words.{HasNoSpace, IsPlain}
 use Rattle.sdd_words.specs.declared.word.Word.{Word}
 use Rattle.sdd_words.specs.declared.word.Word.TheVariants.{Plain, Quoted}

@@ -4,11 +4,7 @@ use Rattle.std.specs.Prelude.{slice_get}
 use Rattle.std.specs.Option.{option_map_or}
 use Rattle.std.proofs.lemmas.List.{length-map, get_or-map}
 use Rattle.std.proofs.lemmas.Option.{slice_get_within, get_or_from_slice_get}
-use Rattle.sdd_lang.specs.catalog.Catalogue.{Catalogue, parts_of, relation_part, column_part}
-use Rattle.sdd_lang.specs.catalog.Cover.{no_relation}
-use Rattle.sdd_lang.specs.catalog.Rules.{IsSound}
-use Rattle.sdd_lang.specs.catalog.declared.parts.RelationPart.{RelationPart}
-use Rattle.sdd_lang.specs.catalog.declared.resolved.Relation.{Relation}
+use Rattle.sdd_lang.specs.All.{Catalogue, IsSound, Relation, RelationPart, column_part, no_relation, parts_of, relation_part}
 use Rattle.sdd_lang.proofs.catalog.RoundTrip.{have_numbers}
 use Rattle.sdd_script.specs.Naming.{columns_of, relation_if}
 

@@ -7,19 +7,8 @@ use Rattle.std.proofs.lemmas.Bool.{ltb-true, eq-eqb}
 use Rattle.std.proofs.lemmas.Str.{IsUtf8-from_ascii}
 use Rattle.std.proofs.lemmas.Str.Ascii.{IsAscii-cons, IsAscii-nil}
 use Rattle.std.proofs.lemmas.List.Elements.{recursion_from_All}
-use Rattle.sdd_lang.specs.base.Name.{IsName}
-use Rattle.sdd_lang.specs.base.Numbers.{dm_no, tm_no}
-use Rattle.sdd_lang.specs.base.declared.event.Event.{Event}
-use Rattle.sdd_lang.specs.base.declared.event.Event.TheVariants.{Submit, Deliver, Lose, Repeat, Resend, Tick, Settle, Redeclare, Down, Up}
-use Rattle.sdd_lang.specs.base.declared.number.RelNo.{RelNo}
-use Rattle.sdd_lang.specs.base.declared.restriction.Op.{Op}
+use Rattle.sdd_lang.specs.All.{Catalogue, ClassPart, D, Deliver, Down, Event, FitsAssign, FitsCondition, FitsRef, FitsStatement, IsFrom1To, IsName, IsRelation, Lose, Op, ReadPart, Redeclare, RelNo, Repeat, Resend, Settle, Submit, T, Tick, Up, Value, dm_no, tm_no}
 use Rattle.sdd_lang.specs.base.declared.restriction.Op.TheVariants as ops
-use Rattle.sdd_lang.specs.base.declared.site.Site.TheVariants.{T, D}
-use Rattle.sdd_lang.specs.base.declared.value.Value.{Value}
-use Rattle.sdd_lang.specs.catalog.Catalogue.{Catalogue}
-use Rattle.sdd_lang.specs.catalog.declared.parts.ClassPart.{ClassPart}
-use Rattle.sdd_lang.specs.catalog.declared.parts.ReadPart.{ReadPart}
-use Rattle.sdd_lang.specs.Fits.{IsFrom1To, IsRelation, FitsRef, FitsCondition, FitsAssign, FitsStatement}
 use Rattle.sdd_lang.specs.declared.assign.Assign.{Assign}
 use Rattle.sdd_lang.specs.declared.assign.Assign.TheVariants.{To, Add}
 use Rattle.sdd_lang.specs.declared.condition.Ref.{Ref}

@@ -2,8 +2,7 @@
 use Rattle.std.proofs.Common.{◌≡◌, ℕ, List, Bool, true, false, cond, Option, Some, None, Result, Ok, refl, ap, subst, ◌∙◌}
 use Rattle.std.specs.Prelude.{is_some}
 use Rattle.std.specs.Option.{option_map_or}
-use Rattle.sdd_lang.specs.base.Readings.{◌>>=◌, known}
-use Rattle.sdd_lang.specs.catalog.Catalogue.{Catalogue, has_copy}
+use Rattle.sdd_lang.specs.All.{Catalogue, has_copy, known, ◌>>=◌}
 use Rattle.sdd_words.specs.Names.{name_in}
 use Rattle.sdd_words.specs.declared.word.Word.{Word}
 use Rattle.sdd_words.specs.declared.word.Word.TheVariants.{Plain, Quoted}

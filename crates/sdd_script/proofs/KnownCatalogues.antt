@@ -7,23 +7,12 @@ use Rattle.std.specs.List.{position, prefix_len}
 use Rattle.std.proofs.lemmas.List.{length-map, get_or-map}
 use Rattle.std.proofs.lemmas.List.Elements.{All-get_or}
 use Rattle.std.proofs.lemmas.Slice.Eq.{bytes_eq-Decides}
-use Rattle.sdd_lang.specs.base.Name.{IsName, is_name}
-use Rattle.sdd_lang.specs.catalog.Catalogue.{Catalogue, parts_of, relation_part, column_part, relation_at, relation_names}
-use Rattle.sdd_lang.specs.catalog.Names.{number_of}
-use Rattle.sdd_lang.specs.catalog.Naming.{IsNamed, AreNamed}
-use Rattle.sdd_lang.specs.catalog.Numbers.{HasKey, IsWhole}
-use Rattle.sdd_lang.specs.catalog.Rules.{IsSound, repeats, relation_rules, faults_of_relation}
+use Rattle.sdd_lang.specs.All.{AreNamed, Catalogue, Column, ColumnPart, HasKey, IsColumn, IsName, IsNamed, IsRelation, IsSound, IsWhole, Parts, Relation, RelationPart, column_part, faults_of_relation, is_name, number_of, parts_of, relation_at, relation_names, relation_part, relation_rules, repeats}
 use Rattle.sdd_lang.specs.catalog.declared.parts.Kind.TheVariants.{Int}
-use Rattle.sdd_lang.specs.catalog.declared.parts.ColumnPart.{ColumnPart}
-use Rattle.sdd_lang.specs.catalog.declared.parts.Parts.{Parts}
-use Rattle.sdd_lang.specs.catalog.declared.parts.RelationPart.{RelationPart}
-use Rattle.sdd_lang.specs.catalog.declared.resolved.Column.{Column}
-use Rattle.sdd_lang.specs.catalog.declared.resolved.Relation.{Relation}
 use Rattle.sdd_lang.proofs.catalog.Distinct.{number_of_place}
 use Rattle.sdd_lang.proofs.catalog.Found.{both_empty, empty_of_map, unfound_at, map-map}
 use Rattle.sdd_lang.proofs.catalog.FragmentOf.{found_one}
 use Rattle.sdd_lang.proofs.catalog.Validity.{no_faults, unbroken}
-use Rattle.sdd_lang.specs.Fits.{IsRelation, IsColumn}
 use Rattle.sdd_script.specs.Laws.{ReadsAgain, ReadsSpelling}
 use Rattle.sdd_script.specs.Naming.{columns_of, name_of_relation, relation_named, column_named}
 use Rattle.sdd_script.specs.Spelling.{name_of_column}

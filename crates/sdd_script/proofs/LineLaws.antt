@@ -6,10 +6,9 @@ use Rattle.std.specs.List.{AllByRecursion, list_all}
 use Rattle.std.proofs.lemmas.Slice.Eq.{bytes_eq-Decides}
 use Rattle.std.proofs.lemmas.Str.{IsUtf8-append, IsUtf8-from_ascii, is_utf8-from_IsUtf8}
 use Rattle.std.proofs.lemmas.Str.Ascii.{IsAscii-cons, IsAscii-nil}
-use Rattle.sdd_lang.specs.catalog.Catalogue.{Catalogue}
+use Rattle.sdd_lang.specs.All.{Catalogue, known, must, ◌>>=◌}
 use Rattle.sdd_words.specs.Lines.{HasNoNewline}
 use Rattle.sdd_words.specs.Scan.{words_of}
-use Rattle.sdd_lang.specs.base.Readings.{◌>>=◌, known, must}
 use Rattle.sdd_words.specs.Texts.{is_sound}
 use Rattle.sdd_words.specs.Words.{word_bytes, more_bytes, line_bytes, AllWords}
 use Rattle.sdd_words.specs.declared.word.Word.{Word}

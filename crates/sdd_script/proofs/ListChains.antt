@@ -6,16 +6,7 @@ use Rattle.std.specs.List.{AllByRecursion}
 use Rattle.std.proofs.lemmas.Bool.{lt-ltb}
 use Rattle.std.proofs.lemmas.List.{map-append, length-append}
 use Rattle.std.proofs.lemmas.List.Elements.{recursion_from_All}
-use Rattle.sdd_lang.specs.base.Numbers.{dm_no, tm_no}
-use Rattle.sdd_lang.specs.base.declared.limits.TheConstants.{MAX_CLASSES, MAX_READS}
-use Rattle.sdd_lang.specs.base.declared.number.DmNo.{DmNo}
-use Rattle.sdd_lang.specs.base.declared.number.TmNo.{TmNo}
-use Rattle.sdd_lang.specs.base.declared.site.Site.TheVariants.{T, D}
-use Rattle.sdd_lang.specs.base.Readings.{◌>>=◌, known, must}
-use Rattle.sdd_lang.specs.catalog.Catalogue.{Catalogue, has_copy}
-use Rattle.sdd_lang.specs.catalog.Rules.{repeats, has_name}
-use Rattle.sdd_lang.specs.catalog.declared.parts.ClassPart.{ClassPart}
-use Rattle.sdd_lang.specs.catalog.declared.parts.ReadPart.{ReadPart}
+use Rattle.sdd_lang.specs.All.{Catalogue, ClassPart, D, DmNo, MAX_CLASSES, MAX_READS, ReadPart, T, TmNo, dm_no, has_copy, has_name, known, must, repeats, tm_no, ◌>>=◌}
 use Rattle.sdd_words.specs.Keywords.{is_free}
 use Rattle.sdd_words.specs.Words.{line_bytes}
 use Rattle.sdd_words.specs.declared.word.Word.TheVariants.{Plain}

@@ -6,7 +6,7 @@ use Rattle.std.specs.List.{position, position_or_len, list_any}
 use Rattle.std.proofs.lemmas.Bool.{ne_eqb, eq-eqb, ltb-false, cases_lt}
 use Rattle.std.proofs.lemmas.List.{length-append, get_or_append_left, get_or-append_right}
 use Rattle.std.proofs.lemmas.Slice.Eq.{bytes_eq-Decides}
-use Rattle.sdd_lang.specs.catalog.Rules.{repeats, has_name}
+use Rattle.sdd_lang.specs.All.{has_name, repeats}
 use Rattle.sdd_script.specs.Valid.{AreDistinct}
 use Rattle.sdd_script.proofs.WordCuts.{NonePasses, position_again, no_position}
 

@@ -4,12 +4,7 @@ use Rattle.std.specs.Prelude.{codes, nat_le, nat_lt}
 use Rattle.std.specs.List.{AllByRecursion, list_all}
 use Rattle.std.proofs.lemmas.Bool.{ltb-true, lt-ltb}
 use Rattle.std.proofs.lemmas.List.Elements.{All-from_recursion, recursion_from_All}
-use Rattle.sdd_lang.specs.base.Numbers.{rel_no}
-use Rattle.sdd_lang.specs.base.declared.limits.TheConstants.{MAX_STATEMENTS, MAX_USES, MAX_CONDITIONS, MAX_OUTPUT_COLUMNS, MAX_ASSIGNMENTS}
-use Rattle.sdd_lang.specs.base.declared.number.RelNo.{RelNo}
-use Rattle.sdd_lang.specs.base.declared.value.Value.{Value}
-use Rattle.sdd_lang.specs.catalog.Catalogue.{Catalogue}
-use Rattle.sdd_lang.specs.Fits.{IsRelation, FitsRef, FitsCondition, FitsStatement, kind_of_ref}
+use Rattle.sdd_lang.specs.All.{Catalogue, FitsCondition, FitsRef, FitsStatement, IsRelation, MAX_ASSIGNMENTS, MAX_CONDITIONS, MAX_OUTPUT_COLUMNS, MAX_STATEMENTS, MAX_USES, RelNo, Value, along, kind_of_ref, known, must, rel_no, ◌>>=◌}
 use Rattle.sdd_lang.specs.declared.assign.Assign.{Assign}
 use Rattle.sdd_lang.specs.declared.condition.Ref.{Ref}
 use Rattle.sdd_lang.specs.declared.condition.Condition.{Condition}
@@ -17,7 +12,6 @@ use Rattle.sdd_lang.specs.declared.statement.Stmt.{Stmt}
 use Rattle.sdd_lang.specs.declared.statement.Stmt.TheVariants.{Put, Query, Update, Delete}
 use Rattle.sdd_words.specs.Keywords.{is_key, is_free, looks_like_column}
 use Rattle.sdd_words.specs.Forms.{cut_at, up_to, from_key, comparisons, conditions_form, not_empty, look_like_columns, are_free}
-use Rattle.sdd_lang.specs.base.Readings.{◌>>=◌, known, must, along}
 use Rattle.sdd_words.specs.declared.form.Comparison.{Comparison}
 use Rattle.sdd_words.specs.declared.word.Word.{Word}
 use Rattle.sdd_words.specs.declared.word.Word.TheVariants.{Plain}

@@ -10,26 +10,15 @@ use Rattle.std.proofs.lemmas.List.Elements.{All-from_recursion}
 use Rattle.std.proofs.lemmas.List.Quantifiers.{position-Some}
 use Rattle.std.proofs.lemmas.Option.{unwrap_or-slice_get, slice_get-map}
 use Rattle.std.proofs.lemmas.Slice.Eq.{bytes_eq-Decides}
-use Rattle.sdd_lang.specs.base.Numbers.{txn_no}
-use Rattle.sdd_lang.specs.base.declared.limits.TheConstants.{MAX_WORKLOAD_BYTES}
-use Rattle.sdd_lang.specs.base.declared.event.Event.{Event}
-use Rattle.sdd_lang.specs.base.declared.event.Event.TheVariants.{Submit, Deliver, Lose, Repeat}
-use Rattle.sdd_lang.specs.base.declared.number.TxnNo.{TxnNo}
-use Rattle.sdd_lang.specs.catalog.Catalogue.{Catalogue}
-use Rattle.sdd_lang.specs.catalog.Numbers.{IsWhole}
-use Rattle.sdd_lang.specs.catalog.Rules.{IsSound, repeats}
-use Rattle.sdd_lang.specs.catalog.declared.parts.ClassPart.{ClassPart}
-use Rattle.sdd_lang.specs.Fits.{FitsStatement}
+use Rattle.sdd_lang.specs.All.{Catalogue, ClassPart, Deliver, Event, FitsStatement, IsSound, IsWhole, Lose, MAX_WORKLOAD_BYTES, Repeat, Site, Submit, TxnNo, known, repeats, txn_no, ◌>>=◌}
 use Rattle.sdd_lang.specs.declared.transaction.Txn.{Txn}
 use Rattle.sdd_words.specs.Keywords.{is_free}
 use Rattle.sdd_words.specs.Lines.{cut_lines, spelled_lines}
 use Rattle.sdd_words.specs.Names.{name_in}
-use Rattle.sdd_lang.specs.base.Readings.{◌>>=◌, known}
 use Rattle.sdd_words.specs.Words.{line_bytes}
 use Rattle.sdd_words.specs.declared.word.Word.{Word}
 use Rattle.sdd_words.specs.declared.word.Word.TheVariants.{Plain, Quoted}
 use Rattle.sdd_words.proofs.Spelled.{cut_takes}
-use Rattle.sdd_lang.specs.base.declared.site.Site.{Site}
 use Rattle.sdd_script.specs.LineRules.{keyword_rules, line_rules}
 use Rattle.sdd_script.specs.Occurrences.{number_named, txn_named, submit_of, flight_place, deliver_of, lose_of, repeat_of, resend_of, tick_of, settle_of, redeclare_of, down_of, up_of}
 use Rattle.sdd_script.specs.ClassLists.{joined, all_classes, part_names}

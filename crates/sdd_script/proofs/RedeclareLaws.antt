@@ -5,8 +5,7 @@ use Rattle.std.specs.List.{list_any, range_with_len}
 use Rattle.std.proofs.lemmas.Bool.{ltb-true, cases_lt}
 use Rattle.std.proofs.lemmas.List.{take-append-le}
 use Rattle.std.proofs.Math.Seq.{take-append_seam}
-use Rattle.sdd_lang.specs.base.declared.event.Event.{Event}
-use Rattle.sdd_lang.specs.base.declared.event.Event.TheVariants.{Submit, Deliver, Lose, Repeat, Resend, Tick, Settle, Redeclare, Down, Up}
+use Rattle.sdd_lang.specs.All.{Deliver, Down, Event, Lose, Redeclare, Repeat, Resend, Settle, Submit, Tick, Up}
 use Rattle.sdd_script.specs.Redeclaring.{is_redeclare, is_down, some_down, may_redeclare, may_follow}
 use Rattle.sdd_script.specs.Valid.{MayRedeclare, AreTimely}
 use Rattle.sdd_script.proofs.StepLaws.{both_hold, both_are, not_true, some_is}

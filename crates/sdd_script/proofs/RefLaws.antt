@@ -7,13 +7,8 @@ use Rattle.std.specs.Fmt.{decimal}
 use Rattle.std.proofs.lemmas.List.{length-map}
 use Rattle.std.proofs.lemmas.List.Elements.{All-get_or}
 use Rattle.std.proofs.lemmas.Option.{slice_get-get_or, slice_get_within, slice_get-map}
-use Rattle.sdd_lang.specs.base.Name.{is_name}
-use Rattle.sdd_lang.specs.base.declared.number.RelNo.{RelNo}
-use Rattle.sdd_lang.specs.base.declared.restriction.Op.{Op}
+use Rattle.sdd_lang.specs.All.{Catalogue, FitsRef, IsColumn, IsFrom1To, IsRelation, Kind, Op, RelNo, is_name, kind_of_ref, rel_of}
 use Rattle.sdd_lang.specs.base.declared.restriction.Op.TheVariants as ops
-use Rattle.sdd_lang.specs.catalog.Catalogue.{Catalogue}
-use Rattle.sdd_lang.specs.catalog.declared.parts.Kind.{Kind}
-use Rattle.sdd_lang.specs.Fits.{IsFrom1To, IsRelation, IsColumn, FitsRef, rel_of, kind_of_ref}
 use Rattle.sdd_lang.specs.declared.condition.Ref.{Ref}
 use Rattle.sdd_words.specs.Keywords.{is_free, is_point, has_point, before_point, behind_point, looks_like_column, spells_column, names_column}
 use Rattle.sdd_words.specs.Whole.{whole_digits}

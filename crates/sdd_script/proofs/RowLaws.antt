@@ -4,15 +4,10 @@ use Rattle.std.specs.Prelude.{◌==◌}
 use Rattle.std.specs.List.{AllByRecursion, list_all}
 use Rattle.std.proofs.lemmas.Bool.{eqb-true, eq-eqb}
 use Rattle.std.proofs.lemmas.List.{length-map}
-use Rattle.sdd_lang.specs.base.Numbers.{rel_no}
-use Rattle.sdd_lang.specs.base.declared.number.RelNo.{RelNo}
-use Rattle.sdd_lang.specs.base.declared.value.Value.{Value}
-use Rattle.sdd_lang.specs.catalog.Catalogue.{Catalogue}
-use Rattle.sdd_lang.specs.Fits.{IsRelation, FitsRow, kind_of}
+use Rattle.sdd_lang.specs.All.{Catalogue, FitsRow, IsRelation, RelNo, Value, kind_of, must, rel_no, ◌>>=◌}
 use Rattle.sdd_words.specs.Values.{value_word}
 use Rattle.sdd_words.specs.Keywords.{is_free}
 use Rattle.sdd_words.specs.Forms.{are_free, not_empty}
-use Rattle.sdd_lang.specs.base.Readings.{◌>>=◌, must}
 use Rattle.sdd_words.specs.declared.word.Word.{Word}
 use Rattle.sdd_script.specs.Naming.{columns_of, name_of_relation, relation_of}
 use Rattle.sdd_script.specs.Spelling.{relation_word, row_words}

@@ -2,16 +2,7 @@
 use Rattle.std.proofs.Common.{◌≡◌, ℕ, ◌+◌, ◌<◌, ◌≤◌, List, [], ◌∷◌, ◌++◌, length, Bool, true, false, cond, ◌&&◌, Some, None, Ok, refl, sym, ap, subst, ◌∙◌, arith, append-nil}
 use Rattle.std.specs.Prelude.{codes, not, nat_lt}
 use Rattle.std.proofs.lemmas.Bool.{ltb-true}
-use Rattle.sdd_lang.specs.base.declared.event.Event.{Event}
-use Rattle.sdd_lang.specs.base.declared.limits.TheConstants.{MAX_CLASSES, MAX_READS}
-use Rattle.sdd_lang.specs.base.declared.number.DmNo.{DmNo}
-use Rattle.sdd_lang.specs.base.declared.number.TmNo.{TmNo}
-use Rattle.sdd_lang.specs.base.declared.site.Site.TheVariants.{T, D}
-use Rattle.sdd_lang.specs.base.Readings.{◌>>=◌, known, must}
-use Rattle.sdd_lang.specs.catalog.Catalogue.{Catalogue, has_copy}
-use Rattle.sdd_lang.specs.catalog.Rules.{has_name}
-use Rattle.sdd_lang.specs.catalog.declared.parts.ClassPart.{ClassPart}
-use Rattle.sdd_lang.specs.catalog.declared.parts.ReadPart.{ReadPart}
+use Rattle.sdd_lang.specs.All.{Catalogue, ClassPart, D, DmNo, Event, MAX_CLASSES, MAX_READS, ReadPart, T, TmNo, has_copy, has_name, known, must, ◌>>=◌}
 use Rattle.sdd_lang.specs.declared.statement.Stmt.{Stmt}
 use Rattle.sdd_lang.specs.declared.transaction.Txn.{Txn}
 use Rattle.sdd_words.specs.Keywords.{is_free}

@@ -7,25 +7,13 @@ use Rattle.std.proofs.lemmas.Bool.{ltb-true}
 use Rattle.std.proofs.lemmas.List.{map-append, length-append}
 use Rattle.std.proofs.lemmas.List.Elements.{All-append, All-from_recursion}
 use Rattle.std.proofs.lemmas.List.Sums.{sum_by-append}
-use Rattle.sdd_lang.specs.base.declared.limits.TheConstants.{MAX_CLASSES, MAX_ROWS, MAX_TXNS, MAX_EVENTS}
-use Rattle.sdd_lang.specs.base.Name.{IsName, is_name}
-use Rattle.sdd_lang.specs.base.declared.event.Event.{Event}
-use Rattle.sdd_lang.specs.base.declared.number.RelNo.{RelNo}
-use Rattle.sdd_lang.specs.base.declared.number.TmNo.{TmNo}
-use Rattle.sdd_lang.specs.base.declared.number.TxnNo.{TxnNo}
-use Rattle.sdd_lang.specs.base.declared.site.Site.TheVariants.{T}
-use Rattle.sdd_lang.specs.base.declared.value.Value.{Value}
-use Rattle.sdd_lang.specs.catalog.Catalogue.{Catalogue}
-use Rattle.sdd_lang.specs.catalog.Rules.{repeats}
-use Rattle.sdd_lang.specs.catalog.declared.parts.ClassPart.{ClassPart}
-use Rattle.sdd_lang.specs.Fits.{IsFrom1To, FitsStatement}
+use Rattle.sdd_lang.specs.All.{Catalogue, ClassPart, Event, FitsStatement, IsFrom1To, IsName, MAX_CLASSES, MAX_EVENTS, MAX_ROWS, MAX_TXNS, RelNo, T, TmNo, TxnNo, Value, is_name, known, must, repeats, ◌>>=◌}
 use Rattle.sdd_lang.specs.declared.statement.Stmt.{Stmt}
 use Rattle.sdd_lang.specs.declared.statement.Stmt.TheVariants as statements
 use Rattle.sdd_lang.specs.declared.transaction.Txn.{Txn}
 use Rattle.sdd_words.specs.Forms.{are_free}
 use Rattle.sdd_words.specs.Keywords.{is_free}
 use Rattle.sdd_words.specs.Names.{name_in}
-use Rattle.sdd_lang.specs.base.Readings.{◌>>=◌, must, known}
 use Rattle.sdd_words.specs.declared.word.Word.{Word}
 use Rattle.sdd_words.specs.declared.word.Word.TheVariants.{Plain, Quoted}
 use Rattle.sdd_script.specs.ClassLists.{joined, all_classes, part_names}

@@ -3,7 +3,7 @@ use Rattle.std.proofs.Common.{◌≡◌, ℕ, ◌+◌, List, [], ◌∷◌, Bool
 use Rattle.std.specs.Prelude.{nat_le}
 use Rattle.std.proofs.lemmas.Bool.Decides.{nat_tests}
 use Rattle.std.specs.List.{AllByRecursion}
-use Rattle.sdd_lang.specs.base.Readings.{◌>>=◌, known, must}
+use Rattle.sdd_lang.specs.All.{known, must, ◌>>=◌}
 use Rattle.sdd_lang.proofs.base.ReadingLaws.{Answers}
 use Rattle.sdd_script.specs.declared.fault.WorkRule.{WorkRule}
 

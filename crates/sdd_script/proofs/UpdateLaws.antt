@@ -4,10 +4,7 @@ use Rattle.std.specs.Prelude.{codes}
 use Rattle.std.specs.Fmt.{signed_decimal}
 use Rattle.std.specs.List.{AllByRecursion}
 use Rattle.std.proofs.lemmas.List.Elements.{All-from_recursion, recursion_from_All}
-use Rattle.sdd_lang.specs.base.Numbers.{rel_no}
-use Rattle.sdd_lang.specs.base.declared.number.RelNo.{RelNo}
-use Rattle.sdd_lang.specs.catalog.Catalogue.{Catalogue}
-use Rattle.sdd_lang.specs.Fits.{IsRelation, FitsCondition, FitsAssign, FitsStatement}
+use Rattle.sdd_lang.specs.All.{Catalogue, FitsAssign, FitsCondition, FitsStatement, IsRelation, RelNo, along, known, must, rel_no, ◌>>=◌}
 use Rattle.sdd_lang.specs.declared.assign.Assign.{Assign}
 use Rattle.sdd_lang.specs.declared.assign.Assign.TheVariants.{To, Add}
 use Rattle.sdd_lang.specs.declared.condition.Condition.{Condition}
@@ -16,7 +13,6 @@ use Rattle.sdd_lang.specs.declared.statement.Stmt.TheVariants.{Update, Delete}
 use Rattle.sdd_words.specs.Values.{value_word}
 use Rattle.sdd_words.specs.Keywords.{is_key, is_free}
 use Rattle.sdd_words.specs.Forms.{up_to, from_key, comparisons, conditions_form, settings, not_empty}
-use Rattle.sdd_lang.specs.base.Readings.{◌>>=◌, known, must, along}
 use Rattle.sdd_words.specs.declared.form.Comparison.{Comparison}
 use Rattle.sdd_words.specs.declared.form.Setting.{Setting}
 use Rattle.sdd_words.specs.declared.word.Word.{Word}

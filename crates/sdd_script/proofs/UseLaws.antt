@@ -9,17 +9,12 @@ use Rattle.std.proofs.lemmas.Bool.{ltb-true, lt-ltb, ne_eqb}
 use Rattle.std.proofs.lemmas.Slice.Eq.{bytes_eq-Decides}
 use Rattle.std.proofs.lemmas.Option.{slice_get-get_or}
 use Rattle.std.proofs.lemmas.List.Quantifiers.{position-Some}
-use Rattle.sdd_lang.specs.base.Numbers.{rel_no}
-use Rattle.sdd_lang.specs.base.Name.{is_name}
-use Rattle.sdd_lang.specs.catalog.Catalogue.{Catalogue, kind_at}
+use Rattle.sdd_lang.specs.All.{Catalogue, Column, IsColumn, IsRelation, is_name, kind_at, known, rel_no, ◌>>=◌}
 use Rattle.sdd_lang.specs.catalog.declared.parts.Kind.TheVariants.{Int}
-use Rattle.sdd_lang.specs.catalog.declared.resolved.Column.{Column}
-use Rattle.sdd_lang.specs.Fits.{IsRelation, IsColumn}
 use Rattle.sdd_lang.specs.declared.condition.Ref.{Ref}
 use Rattle.sdd_words.specs.Keywords.{has_point, before_point, behind_point, looks_like_column}
 use Rattle.sdd_words.specs.Number.{number_of}
 use Rattle.sdd_words.specs.Whole.{is_whole}
-use Rattle.sdd_lang.specs.base.Readings.{◌>>=◌, known}
 use Rattle.sdd_words.specs.declared.word.Word.{Word}
 use Rattle.sdd_words.specs.declared.word.Word.TheVariants.{Plain, Quoted}
 use Rattle.sdd_words.proofs.Numbers.{number_takes, number_again}

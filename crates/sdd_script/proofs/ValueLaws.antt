@@ -4,18 +4,12 @@ use Rattle.std.specs.Prelude.{slice_get, unwrap_or}
 use Rattle.std.specs.Option.{option_map_or}
 use Rattle.std.specs.List.{AllByRecursion}
 use Rattle.std.proofs.lemmas.Option.{unwrap_or-slice_get}
-use Rattle.sdd_lang.specs.base.declared.value.Value.{Value}
+use Rattle.sdd_lang.specs.All.{Catalogue, Column, Kind, Relation, Value, key_column, kind_of, must, relation_at, ◌>>=◌}
 use Rattle.sdd_lang.specs.base.declared.value.Value.TheVariants as values
-use Rattle.sdd_lang.specs.catalog.Catalogue.{Catalogue, relation_at, key_column}
-use Rattle.sdd_lang.specs.catalog.declared.parts.Kind.{Kind}
 use Rattle.sdd_lang.specs.catalog.declared.parts.Kind.TheVariants as kinds
-use Rattle.sdd_lang.specs.catalog.declared.resolved.Column.{Column}
-use Rattle.sdd_lang.specs.catalog.declared.resolved.Relation.{Relation}
-use Rattle.sdd_lang.specs.Fits.{kind_of}
 use Rattle.sdd_words.specs.Values.{value_word}
 use Rattle.sdd_words.specs.Number.{number_of}
 use Rattle.sdd_words.specs.Texts.{is_text, text_in}
-use Rattle.sdd_lang.specs.base.Readings.{◌>>=◌, must}
 use Rattle.sdd_words.specs.declared.word.Word.{Word}
 use Rattle.sdd_words.specs.declared.word.Word.TheVariants.{Plain, Quoted}
 use Rattle.sdd_words.proofs.Numbers.{number_takes, number_again}

@@ -7,29 +7,15 @@ use Rattle.std.specs.List.{All, AllByRecursion, position, filter_map, list_any}
 use Rattle.std.proofs.lemmas.Bool.{lt-ltb, le-ltb}
 use Rattle.std.proofs.lemmas.List.{map-append, length-append, length-map, get_or-map}
 use Rattle.std.proofs.lemmas.List.Elements.{recursion_from_All, All-get_or}
-use Rattle.sdd_lang.specs.base.Numbers.{txn_no}
-use Rattle.sdd_lang.specs.base.declared.limits.TheConstants.{MAX_EVENTS, MAX_WORKLOAD_BYTES}
-use Rattle.sdd_lang.specs.base.Name.{is_name}
-use Rattle.sdd_lang.specs.base.declared.event.Event.{Event}
-use Rattle.sdd_lang.specs.base.declared.event.Event.TheVariants.{Submit, Deliver, Lose, Repeat, Resend, Tick, Settle, Redeclare, Down, Up}
-use Rattle.sdd_lang.specs.base.declared.number.RelNo.{RelNo}
-use Rattle.sdd_lang.specs.base.declared.number.TxnNo.{TxnNo}
-use Rattle.sdd_lang.specs.base.declared.site.Site.TheVariants.{T, D}
-use Rattle.sdd_lang.specs.base.declared.value.Value.{Value}
-use Rattle.sdd_lang.specs.catalog.Catalogue.{Catalogue}
-use Rattle.sdd_lang.specs.catalog.Rules.{repeats}
-use Rattle.sdd_lang.specs.catalog.declared.parts.ClassPart.{ClassPart}
+use Rattle.sdd_lang.specs.All.{Catalogue, ClassPart, D, Deliver, Down, Event, IsFrom1To, Lose, MAX_EVENTS, MAX_WORKLOAD_BYTES, Redeclare, RelNo, Repeat, Resend, Settle, Site, Submit, T, Tick, TxnNo, Up, Value, is_name, known, must, repeats, txn_no, ◌>>=◌}
 use Rattle.sdd_lang.proofs.catalog.NameLemmas.{list_any-map}
-use Rattle.sdd_lang.specs.Fits.{IsFrom1To}
 use Rattle.sdd_lang.specs.declared.transaction.Txn.{Txn}
 use Rattle.sdd_words.specs.Lines.{cut_lines}
 use Rattle.sdd_words.specs.Names.{name_in}
-use Rattle.sdd_lang.specs.base.Readings.{◌>>=◌, known, must}
 use Rattle.sdd_words.specs.Words.{line_bytes}
 use Rattle.sdd_words.specs.declared.word.Word.{Word}
 use Rattle.sdd_words.specs.declared.word.Word.TheVariants.{Plain}
 use Rattle.sdd_words.proofs.Spelled.{cut_again}
-use Rattle.sdd_lang.specs.base.declared.site.Site.{Site}
 use Rattle.sdd_script.specs.LineRules.{is_submitted, with_submitted, with_event, event_rules}
 use Rattle.sdd_script.specs.Occurrences.{number_named, txn_named, submit_of, deliver_of, lose_of, repeat_of, resend_of, tick_of, settle_of, redeclare_of, down_of, up_of}
 use Rattle.sdd_script.specs.Places.{takes_txns, takes_lists, takes_events, is_ended}

@@ -12,10 +12,8 @@ use Rattle.std.proofs.lemmas.Bool.{ne_eqb}
 use Rattle.std.proofs.lemmas.Str.{IsUtf8-append, IsUtf8-from_ascii, IsUtf8-from_is_utf8}
 use Rattle.std.proofs.lemmas.Str.Parse.{digit_from_value}
 use Rattle.std.proofs.lemmas.Fmt.{IsAscii-signed, decimal_is_IsNumeral, first_decimal, decimal_digit}
-use Rattle.sdd_lang.specs.base.Name.{is_name, is_name_byte, is_letter, is_digit, begins_with_letter, is_keyword}
-use Rattle.sdd_lang.specs.base.declared.restriction.Op.{Op}
+use Rattle.sdd_lang.specs.All.{Op, Value, begins_with_letter, is_digit, is_keyword, is_letter, is_name, is_name_byte}
 use Rattle.sdd_lang.specs.base.declared.restriction.Op.TheVariants as ops
-use Rattle.sdd_lang.specs.base.declared.value.Value.{Value}
 use Rattle.sdd_lang.specs.base.declared.value.Value.TheVariants as values
 use Rattle.sdd_words.specs.Values.{value_word}
 use Rattle.sdd_words.specs.Keywords.{is_free, op_in, is_point, has_point, before_point, behind_point, looks_like_column, spells_column, names_column}

@@ -1,13 +1,6 @@
 -- The rules of the lines of lists of classes. The line `done` that ends a list has its rules with that which ends a transaction.
 use Rattle.std.specs.Prelude.{ℕ, ◌+◌, nat_lt, ◌&&◌, not, Bool, if◌then◌else◌, Option, Some, None, List, [], ◌∷◌, ◌++◌, map, flat_map, length, Result, Ok, Err}
-use Rattle.sdd_lang.specs.base.declared.limits.TheConstants.{MAX_CLASSES, MAX_READS}
-use Rattle.sdd_lang.specs.base.declared.number.DmNo.{DmNo}
-use Rattle.sdd_lang.specs.base.declared.number.TmNo.{TmNo}
-use Rattle.sdd_lang.specs.base.Readings.{◌>>=◌, known, must}
-use Rattle.sdd_lang.specs.catalog.Catalogue.{Catalogue, has_copy}
-use Rattle.sdd_lang.specs.catalog.Rules.{has_name}
-use Rattle.sdd_lang.specs.catalog.declared.parts.ClassPart.{ClassPart}
-use Rattle.sdd_lang.specs.catalog.declared.parts.ReadPart.{ReadPart}
+use Rattle.sdd_lang.specs.All.{Catalogue, ClassPart, DmNo, MAX_CLASSES, MAX_READS, ReadPart, TmNo, has_copy, has_name, known, must, ◌>>=◌}
 use Rattle.sdd_words.specs.Keywords.{is_free}
 use Rattle.sdd_words.specs.Names.{name_in}
 use Rattle.sdd_words.specs.declared.word.Word.{Word}

@@ -1,14 +1,11 @@
 -- Columns of uses, and conditions, by their words.
 use Rattle.std.specs.Prelude.{ℕ, ◌+◌, ◌-◌, ◌^◌, ℤ, pos, negsuc, nat_lt, ◌==◌, ◌||◌, not, List, Option, Some, None, Result, Ok, Err, slice_get, if◌then◌else◌}
-use Rattle.sdd_lang.specs.base.declared.restriction.Op.{Op}
-use Rattle.sdd_lang.specs.catalog.Catalogue.{Catalogue}
-use Rattle.sdd_lang.specs.catalog.declared.resolved.Column.{Column}
+use Rattle.sdd_lang.specs.All.{Catalogue, Column, Op, along, known, must, ◌>>=◌}
 use Rattle.sdd_lang.specs.declared.condition.Condition.{Condition}
 use Rattle.sdd_lang.specs.declared.condition.Condition.TheVariants.{Const, Same}
 use Rattle.sdd_words.specs.Keywords.{before_point, behind_point, names_column}
 use Rattle.sdd_words.specs.Number.{number_of}
 use Rattle.sdd_words.specs.Whole.{is_whole}
-use Rattle.sdd_lang.specs.base.Readings.{◌>>=◌, known, must, along}
 use Rattle.sdd_words.specs.declared.form.Comparison.{Comparison}
 use Rattle.sdd_words.specs.declared.word.Word.{Word}
 use Rattle.sdd_words.specs.declared.word.Word.TheVariants.{Plain, Quoted}

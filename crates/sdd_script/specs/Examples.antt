@@ -2,18 +2,14 @@
 use Rattle.std.specs.Prelude.{◌≡◌, ℕ, pos, negsuc, [], ◌∷◌, codes, Ok, Err, Result, refl}
 use Rattle.std.specs.Fmt.{digits}
 use Rattle.std.specs.Str.{is_utf8, chars}
-use Rattle.sdd_lang.specs.base.Numbers.{tm_no, dm_no, frag_no, rel_no}
-use Rattle.sdd_lang.specs.catalog.Catalogue.{Catalogue}
+use Rattle.sdd_lang.specs.All.{Catalogue, Down, Int, Redeclare, Up, all_keys, dm_no, frag_no, rel_no, tm_no}
 use Rattle.sdd_lang.specs.catalog.declared.parts.Kind.TheVariants as kinds
-use Rattle.sdd_lang.specs.Uses.{all_keys}
 use Rattle.sdd_words.specs.Lines.{cut_lines}
 use Rattle.sdd_words.specs.Number.{number_of}
 use Rattle.sdd_words.specs.Scan.{scan}
 use Rattle.sdd_words.specs.Forms.{comparisons, settings}
 use Rattle.sdd_script.specs.LineRules.{line_rules}
 use Rattle.sdd_script.specs.Statements.{query_over, update_of_parts}
-use Rattle.sdd_lang.specs.base.declared.event.Event.TheVariants.{Redeclare, Down, Up}
-use Rattle.sdd_lang.specs.base.declared.value.Value.TheVariants.{Int}
 use Rattle.sdd_script.specs.Spelling.{spelling}
 use Rattle.sdd_script.specs.Values.{row_of}
 use Rattle.sdd_script.specs.Walk.{walk, workload}

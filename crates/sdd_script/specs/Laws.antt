@@ -1,7 +1,6 @@
 -- The reading and the spelling of workloads are inverse.
 use Rattle.std.specs.Prelude.{◌≡◌, ℕ, ◌≤◌, List, length, Ok}
-use Rattle.sdd_lang.specs.base.declared.limits.TheConstants.{MAX_WORKLOAD_BYTES}
-use Rattle.sdd_lang.specs.catalog.Catalogue.{Catalogue}
+use Rattle.sdd_lang.specs.All.{Catalogue, MAX_WORKLOAD_BYTES}
 use Rattle.sdd_script.specs.Spelling.{spelling}
 use Rattle.sdd_script.specs.Valid.{IsValid, Accepts}
 use Rattle.sdd_script.specs.Walk.{workload}

@@ -1,3 +1,4 @@
+pub mod All
 pub mod ClassLists
 pub mod Columns
 pub mod Examples
@@ -16,7 +17,7 @@ pub mod Telling
 pub mod Valid
 pub mod Values
 pub mod Walk
-pub use Rattle.sdd_lang.specs.base as base
-pub use Rattle.sdd_words.specs as words
-pub use Rattle.sdd_lang.specs.catalog as catalog
 pub use Rattle.sdd_lang.specs as lang
+pub use Rattle.sdd_lang.specs.base as base
+pub use Rattle.sdd_lang.specs.catalog as catalog
+pub use Rattle.sdd_words.specs as words

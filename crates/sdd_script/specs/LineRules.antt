@@ -2,20 +2,12 @@
 use Rattle.std.specs.Prelude.{ℕ, ◌+◌, nat_lt, nat_le, ◌==◌, ◌&&◌, not, List, [], ◌∷◌, ◌++◌, length, Bool, false, Option, Some, None, is_some, Result, Ok, Err, if◌then◌else◌}
 use Rattle.std.specs.List.{position, list_any, list_all}
 use Rattle.std.specs.Str.{bytes_eq, is_utf8}
-use Rattle.sdd_lang.specs.base.declared.limits.TheConstants.{MAX_OUTPUT_COLUMNS, MAX_ASSIGNMENTS, MAX_ROWS, MAX_TXNS, MAX_STATEMENTS, MAX_USES, MAX_CONDITIONS, MAX_EVENTS}
-use Rattle.sdd_lang.specs.base.declared.event.Event.{Event}
-use Rattle.sdd_lang.specs.base.declared.event.Event.TheVariants.{Submit}
-use Rattle.sdd_lang.specs.base.declared.number.RelNo.{RelNo}
-use Rattle.sdd_lang.specs.base.declared.number.TmNo.{TmNo}
-use Rattle.sdd_lang.specs.base.declared.number.TxnNo.{TxnNo}
-use Rattle.sdd_lang.specs.base.declared.value.Value.{Value}
-use Rattle.sdd_lang.specs.catalog.Catalogue.{Catalogue}
+use Rattle.sdd_lang.specs.All.{Catalogue, Event, MAX_ASSIGNMENTS, MAX_CONDITIONS, MAX_EVENTS, MAX_OUTPUT_COLUMNS, MAX_ROWS, MAX_STATEMENTS, MAX_TXNS, MAX_USES, RelNo, Submit, TmNo, TxnNo, Value, known, must, ◌>>=◌}
 use Rattle.sdd_lang.specs.declared.statement.Stmt.{Stmt}
 use Rattle.sdd_lang.specs.declared.statement.Stmt.TheVariants as statements
 use Rattle.sdd_words.specs.Keywords.{is_free}
 use Rattle.sdd_words.specs.Forms.{are_free}
 use Rattle.sdd_words.specs.Scan.{words_of}
-use Rattle.sdd_lang.specs.base.Readings.{◌>>=◌, known, must}
 use Rattle.sdd_words.specs.Texts.{is_sound}
 use Rattle.sdd_words.specs.declared.word.Word.{Word}
 use Rattle.sdd_script.specs.Values.{row_of}

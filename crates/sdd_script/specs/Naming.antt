@@ -3,12 +3,7 @@ use Rattle.std.specs.Prelude.{ℕ, ◌-◌, List, [], length, map, find, slice_g
 use Rattle.std.specs.Option.{option_map, option_map_or}
 use Rattle.std.specs.List.{position}
 use Rattle.std.specs.Str.{bytes_eq}
-use Rattle.sdd_lang.specs.base.Readings.{known}
-use Rattle.sdd_lang.specs.catalog.Catalogue.{Catalogue, numbers_to, fragment_at, class_at}
-use Rattle.sdd_lang.specs.catalog.declared.parts.Kind.{Kind}
-use Rattle.sdd_lang.specs.catalog.declared.resolved.Class.{Class}
-use Rattle.sdd_lang.specs.catalog.declared.resolved.Column.{Column}
-use Rattle.sdd_lang.specs.catalog.declared.resolved.Relation.{Relation}
+use Rattle.sdd_lang.specs.All.{Catalogue, Class, Column, Kind, Relation, class_at, fragment_at, known, numbers_to}
 use Rattle.sdd_words.specs.Names.{name_in}
 use Rattle.sdd_words.specs.declared.word.Word.{Word}
 use Rattle.sdd_words.specs.declared.word.Word.TheVariants.{Plain, Quoted}

@@ -3,21 +3,10 @@ use Rattle.std.specs.Prelude.{ℕ, ◌+◌, ℤ, pos, nat_lt, nat_le, ◌==◌, 
 use Rattle.std.specs.Option.{option_map}
 use Rattle.std.specs.List.{position}
 use Rattle.std.specs.Str.{bytes_eq}
-use Rattle.sdd_lang.specs.base.Numbers.{tm_no, txn_no}
-use Rattle.sdd_lang.specs.base.Sites.{are_linked}
-use Rattle.sdd_lang.specs.base.declared.event.Event.{Event}
-use Rattle.sdd_lang.specs.base.declared.event.Event.TheVariants.{Submit, Deliver, Lose, Repeat, Resend, Tick, Settle, Redeclare, Down, Up}
-use Rattle.sdd_lang.specs.base.declared.limits.TheConstants.{MAX_PLACE, MAX_TICKS}
-use Rattle.sdd_lang.specs.base.declared.number.DmNo.{DmNo}
-use Rattle.sdd_lang.specs.base.declared.number.TmNo.{TmNo}
-use Rattle.sdd_lang.specs.base.declared.number.TxnNo.{TxnNo}
-use Rattle.sdd_lang.specs.base.declared.site.Site.{Site}
-use Rattle.sdd_lang.specs.base.declared.site.Site.TheVariants.{U, T, D}
-use Rattle.sdd_lang.specs.catalog.Catalogue.{Catalogue}
+use Rattle.sdd_lang.specs.All.{Catalogue, D, Deliver, DmNo, Down, Event, Lose, MAX_PLACE, MAX_TICKS, Redeclare, Repeat, Resend, Settle, Site, Submit, T, Tick, TmNo, TxnNo, U, Up, are_linked, known, must, tm_no, txn_no, ◌>>=◌}
 use Rattle.sdd_words.specs.Keywords.{is_free}
 use Rattle.sdd_words.specs.Names.{name_in}
 use Rattle.sdd_words.specs.Number.{number_of}
-use Rattle.sdd_lang.specs.base.Readings.{◌>>=◌, known, must}
 use Rattle.sdd_words.specs.declared.word.Word.{Word}
 use Rattle.sdd_words.specs.declared.word.Word.TheVariants.{Plain, Quoted}
 use Rattle.sdd_script.specs.declared.fault.WorkRule.{WorkRule}

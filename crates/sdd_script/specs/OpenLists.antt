@@ -1,9 +1,7 @@
 -- A list of classes that isn't ended yet, of which the last class may get further reads and writes.
 use Rattle.std.specs.Prelude.{ℕ, ◌==◌, List, [], ◌∷◌, ◌++◌, length, Bool, false, Option, Some, None, is_some}
 use Rattle.std.specs.Option.{option_map, option_map_or}
-use Rattle.sdd_lang.specs.base.declared.number.TmNo.{TmNo}
-use Rattle.sdd_lang.specs.catalog.declared.parts.ClassPart.{ClassPart}
-use Rattle.sdd_lang.specs.catalog.declared.parts.ReadPart.{ReadPart}
+use Rattle.sdd_lang.specs.All.{ClassPart, ReadPart, TmNo}
 use Rattle.sdd_script.specs.declared.open_list.OpenClass.{OpenClass}
 use Rattle.sdd_script.specs.declared.open_list.OpenList.{OpenList}
 

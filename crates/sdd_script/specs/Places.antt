@@ -1,6 +1,6 @@
 -- What may stand where: rows, then transactions, then lists of classes, then events, then `end`.
 use Rattle.std.specs.Prelude.{ℕ, List, Bool, true, false}
-use Rattle.sdd_lang.specs.catalog.declared.parts.ReadPart.{ReadPart}
+use Rattle.sdd_lang.specs.All.{ReadPart}
 use Rattle.sdd_script.specs.OpenLists.{no_classes, reads_in, writes_in, takes_reads as takes_reads_in, takes_writes as takes_writes_in}
 use Rattle.sdd_script.specs.declared.open_list.OpenList.{OpenList}
 use Rattle.sdd_script.specs.declared.place.Place.{Place}

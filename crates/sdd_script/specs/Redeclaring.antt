@@ -1,9 +1,7 @@
 -- Where a `redeclare` may stand: it puts the next list of classes in force, at all modules at once.
 use Rattle.std.specs.Prelude.{ℕ, ◌==◌, ◌&&◌, nat_lt, not, Bool, true, false, List, length, count_by, if◌then◌else◌}
 use Rattle.std.specs.List.{fold, list_any}
-use Rattle.sdd_lang.specs.base.declared.event.Event.{Event}
-use Rattle.sdd_lang.specs.base.declared.event.Event.TheVariants.{Redeclare, Down, Up}
-use Rattle.sdd_lang.specs.catalog.Catalogue.{numbers_to}
+use Rattle.sdd_lang.specs.All.{Down, Event, Redeclare, Up, numbers_to}
 use Rattle.sdd_script.specs.declared.workload.Workload.{Workload}
 
 abbrev pub is_redeclare : Event → Bool

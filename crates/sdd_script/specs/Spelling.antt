@@ -2,20 +2,7 @@
 use Rattle.std.specs.Prelude.{ℕ, ◌-◌, List, [], ◌∷◌, ◌++◌, map, flat_map, codes, slice_get}
 use Rattle.std.specs.Option.{option_map_or}
 use Rattle.std.specs.Fmt.{decimal, signed_decimal}
-use Rattle.sdd_lang.specs.base.Numbers.{tm_no, dm_no}
-use Rattle.sdd_lang.specs.base.declared.event.Event.{Event}
-use Rattle.sdd_lang.specs.base.declared.event.Event.TheVariants.{Submit, Deliver, Lose, Repeat, Resend, Tick, Settle, Redeclare, Down, Up}
-use Rattle.sdd_lang.specs.base.declared.number.RelNo.{RelNo}
-use Rattle.sdd_lang.specs.base.declared.number.TmNo.{TmNo}
-use Rattle.sdd_lang.specs.base.declared.restriction.Op.TheVariants.{Eq}
-use Rattle.sdd_lang.specs.base.declared.site.Site.{Site}
-use Rattle.sdd_lang.specs.base.declared.site.Site.TheVariants.{U, T, D}
-use Rattle.sdd_lang.specs.base.declared.value.Value.{Value}
-use Rattle.sdd_lang.specs.catalog.Catalogue.{Catalogue}
-use Rattle.sdd_lang.specs.catalog.declared.parts.ClassPart.{ClassPart}
-use Rattle.sdd_lang.specs.catalog.declared.parts.ReadPart.{ReadPart}
-use Rattle.sdd_lang.specs.catalog.declared.resolved.Column.{Column}
-use Rattle.sdd_lang.specs.Fits.{rel_of}
+use Rattle.sdd_lang.specs.All.{Catalogue, ClassPart, Column, D, Deliver, Down, Eq, Event, Lose, ReadPart, Redeclare, RelNo, Repeat, Resend, Settle, Site, Submit, T, Tick, TmNo, U, Up, Value, dm_no, rel_of, tm_no}
 use Rattle.sdd_lang.specs.declared.assign.Assign.{Assign}
 use Rattle.sdd_lang.specs.declared.assign.Assign.TheVariants.{To, Add}
 use Rattle.sdd_lang.specs.declared.condition.Ref.{Ref}

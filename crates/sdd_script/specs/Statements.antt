@@ -1,9 +1,6 @@
 -- Statements, by the words behind the first word of their lines.
 use Rattle.std.specs.Prelude.{ℕ, ℤ, ◌==◌, ◌&&◌, not, List, [], ◌∷◌, map, codes, Some, Result, Ok, Err, if◌then◌else◌, Option}
-use Rattle.sdd_lang.specs.base.Numbers.{rel_no}
-use Rattle.sdd_lang.specs.base.declared.number.RelNo.{RelNo}
-use Rattle.sdd_lang.specs.base.declared.value.Value.{Value}
-use Rattle.sdd_lang.specs.catalog.Catalogue.{Catalogue}
+use Rattle.sdd_lang.specs.All.{Catalogue, RelNo, Value, along, known, must, rel_no, ◌>>=◌}
 use Rattle.sdd_lang.specs.catalog.declared.parts.Kind.TheVariants as kinds
 use Rattle.sdd_lang.specs.declared.assign.Assign.{Assign}
 use Rattle.sdd_lang.specs.declared.assign.Assign.TheVariants.{To, Add}
@@ -13,7 +10,6 @@ use Rattle.sdd_lang.specs.declared.statement.Stmt.TheVariants.{Put, Query, Updat
 use Rattle.sdd_words.specs.Keywords.{is_key, is_free}
 use Rattle.sdd_words.specs.Forms.{cut_at, up_to, from_key, conditions_form, settings, not_empty, look_like_columns, are_free}
 use Rattle.sdd_words.specs.Number.{number_of}
-use Rattle.sdd_lang.specs.base.Readings.{◌>>=◌, known, must, along}
 use Rattle.sdd_words.specs.declared.form.Comparison.{Comparison}
 use Rattle.sdd_words.specs.declared.form.Setting.{Setting}
 use Rattle.sdd_words.specs.declared.word.Word.{Word}

@@ -3,21 +3,8 @@ use Rattle.std.specs.Prelude.{ℕ, ◌+◌, ◌^◌, ◌≡◌, ◌≤◌, ◌<�
 use Rattle.std.specs.Option.{option_map_or}
 use Rattle.std.specs.Int.Signed.{mag}
 use Rattle.std.specs.List.{All, filter_map}
-use Rattle.sdd_lang.specs.base.declared.limits.TheConstants.{MAX_CLASSES, MAX_READS, MAX_ROWS, MAX_TXNS, MAX_EVENTS, MAX_PLACE, MAX_TICKS, MAX_WORKLOAD_BYTES}
-use Rattle.sdd_lang.specs.base.Name.{IsName}
-use Rattle.sdd_lang.specs.base.Sites.{are_linked}
-use Rattle.sdd_lang.specs.base.declared.event.Event.{Event}
-use Rattle.sdd_lang.specs.base.declared.event.Event.TheVariants.{Submit, Deliver, Lose, Repeat, Resend, Tick, Settle, Redeclare, Down, Up}
-use Rattle.sdd_lang.specs.base.declared.number.RelNo.{RelNo}
-use Rattle.sdd_lang.specs.base.declared.site.Site.{Site}
-use Rattle.sdd_lang.specs.base.declared.site.Site.TheVariants.{U, T, D}
-use Rattle.sdd_lang.specs.base.declared.value.Value.{Value}
+use Rattle.sdd_lang.specs.All.{Catalogue, ClassPart, D, Deliver, Down, Event, Fits, FitsStart, IsFrom1To, IsName, Lose, MAX_CLASSES, MAX_EVENTS, MAX_PLACE, MAX_READS, MAX_ROWS, MAX_TICKS, MAX_TXNS, MAX_WORKLOAD_BYTES, ReadPart, Redeclare, RelNo, Repeat, Resend, Settle, Site, Submit, T, Tick, U, Up, Value, are_linked, has_copy, repeats}
 use Rattle.sdd_lang.specs.base.declared.value.Value.TheVariants as values
-use Rattle.sdd_lang.specs.catalog.Catalogue.{Catalogue, has_copy}
-use Rattle.sdd_lang.specs.catalog.Rules.{repeats}
-use Rattle.sdd_lang.specs.catalog.declared.parts.ClassPart.{ClassPart}
-use Rattle.sdd_lang.specs.catalog.declared.parts.ReadPart.{ReadPart}
-use Rattle.sdd_lang.specs.Fits.{Fits, FitsStart, IsFrom1To}
 use Rattle.sdd_lang.specs.declared.assign.Assign.{Assign}
 use Rattle.sdd_lang.specs.declared.assign.Assign.TheVariants.{To, Add}
 use Rattle.sdd_lang.specs.declared.condition.Condition.{Condition}

@@ -1,16 +1,10 @@
 -- Values and rows, by their words.
 use Rattle.std.specs.Prelude.{List, length, ◌==◌, Bool, true, false, Option, Some, None, Result, Ok}
-use Rattle.sdd_lang.specs.base.Numbers.{rel_no}
-use Rattle.sdd_lang.specs.base.declared.number.RelNo.{RelNo}
-use Rattle.sdd_lang.specs.base.declared.value.Value.{Value}
+use Rattle.sdd_lang.specs.All.{Catalogue, Column, Kind, RelNo, Value, along, known, must, rel_no, ◌>>=◌}
 use Rattle.sdd_lang.specs.base.declared.value.Value.TheVariants as values
-use Rattle.sdd_lang.specs.catalog.Catalogue.{Catalogue}
-use Rattle.sdd_lang.specs.catalog.declared.parts.Kind.{Kind}
 use Rattle.sdd_lang.specs.catalog.declared.parts.Kind.TheVariants as kinds
-use Rattle.sdd_lang.specs.catalog.declared.resolved.Column.{Column}
 use Rattle.sdd_words.specs.Number.{number_of}
 use Rattle.sdd_words.specs.Texts.{text_in}
-use Rattle.sdd_lang.specs.base.Readings.{◌>>=◌, known, must, along}
 use Rattle.sdd_words.specs.declared.word.Word.{Word}
 use Rattle.sdd_words.specs.declared.word.Word.TheVariants.{Plain, Quoted}
 use Rattle.sdd_script.specs.Naming.{columns_of, relation_of, kind_of_place}

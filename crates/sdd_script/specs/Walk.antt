@@ -1,8 +1,7 @@
 -- A file, line by line, each in the state that the lines before it made. The first line at fault is told, with its number.
 use Rattle.std.specs.Prelude.{ℕ, ◌+◌, nat_lt, List, [], ◌∷◌, length, Result, Ok, Err, if◌then◌else◌}
 use Rattle.std.specs.Str.{is_utf8}
-use Rattle.sdd_lang.specs.base.declared.limits.TheConstants.{MAX_WORKLOAD_BYTES}
-use Rattle.sdd_lang.specs.catalog.Catalogue.{Catalogue}
+use Rattle.sdd_lang.specs.All.{Catalogue, MAX_WORKLOAD_BYTES}
 use Rattle.sdd_words.specs.Lines.{cut_lines}
 use Rattle.sdd_script.specs.LineRules.{line_rules}
 use Rattle.sdd_script.specs.Places.{is_ended}

@@ -2,11 +2,7 @@
 ghost use Rattle.std.specs.Prelude.{◌≡◌, ◌&&◌, List, map, not};
 ghost use Rattle.std.specs.List.{list_any};
 ghost use Rattle.std.specs.Str.{bytes_eq};
-ghost use Rattle.sdd_lang.specs.base.Readings.{Gives};
-ghost use Rattle.sdd_lang.specs.catalog.Catalogue.{has_copy};
-ghost use Rattle.sdd_lang.specs.catalog.Rules.{has_name};
-ghost use Rattle.sdd_lang.specs.catalog.declared.parts.ClassPart.{ClassPart};
-ghost use Rattle.sdd_lang.specs.catalog.declared.parts.ReadPart.{ReadPart};
+ghost use Rattle.sdd_lang.specs.All.{ClassPart, Gives, ReadPart, has_copy, has_name};
 ghost use Rattle.sdd_words.specs.declared.word.Word.TheVariants.{Plain};
 ghost use Rattle.sdd_script.specs.ClassLists.{all_classes, fragment_of, is_taken, with_class_of, with_read_of, with_write_of, list_rules, class_rules, reads_rules, writes_rules, class_line_rules};
 ghost use Rattle.sdd_script.specs.OpenLists.{classes_in, last_class};

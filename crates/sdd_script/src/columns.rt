@@ -1,8 +1,7 @@
 //! Columns of uses, and conditions, by their words.
 ghost use Rattle.std.specs.Prelude.{◌≡◌, ◌<◌, ◌-◌, ◌^◌, length, Some, None};
-ghost use Rattle.sdd_lang.specs.base.Readings.{along};
+ghost use Rattle.sdd_lang.specs.All.{Gives, along};
 ghost use Rattle.sdd_words.specs.declared.word.Word.TheVariants.{Plain};
-ghost use Rattle.sdd_lang.specs.base.Readings.{Gives};
 ghost use Rattle.sdd_script.specs.Rules.{rule_in};
 ghost use Rattle.sdd_script.specs.Columns.{use_in, use_at, use_numbered, column_in, column_of_use, same_of, const_of, condition_of, conditions_of};
 

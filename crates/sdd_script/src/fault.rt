@@ -1,8 +1,7 @@
 ghost use Rattle.std.specs.Prelude.{◌≡◌, Ok, Err, MatchResult};
 ghost use Rattle.sdd_script.specs.Telling.{told_at};
-ghost use Rattle.sdd_lang.specs.base.Readings.{known, must};
+ghost use Rattle.sdd_lang.specs.All.{Gives, known, must};
 ghost use Rattle.sdd_script.specs.declared.fault.LineError.TheVariants.{Broken};
-ghost use Rattle.sdd_lang.specs.base.Readings.{Gives};
 ghost use Rattle.sdd_script.specs.Rules.{rule_in};
 
 use sdd_lang::sdd_base::{NoMemory, Parcel};

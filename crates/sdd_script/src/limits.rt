@@ -1,8 +1,7 @@
 //! How many there may be.
 ghost use Rattle.std.specs.Prelude.{◌≡◌, nat_le, length};
-ghost use Rattle.sdd_lang.specs.base.Readings.{must};
+ghost use Rattle.sdd_lang.specs.All.{Gives, must};
 ghost use Rattle.sdd_script.specs.declared.fault.WorkRule.TheVariants.{TooMany};
-ghost use Rattle.sdd_lang.specs.base.Readings.{Gives};
 ghost use Rattle.sdd_script.specs.Rules.{rule_in};
 ghost use Rattle.sdd_script.specs.ClassLists.{one_more_class};
 ghost use Rattle.sdd_script.specs.LineRules.{one_more_row, written_with, statement_limits};

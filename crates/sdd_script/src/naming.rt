@@ -2,11 +2,9 @@
 ghost use Rattle.std.specs.Prelude.{◌≡◌, ◌≤◌, ◌<◌, ◌^◌, length, slice_get, option_map, MatchOption, Some, None};
 ghost use Rattle.std.specs.List.{list_any};
 ghost use Rattle.std.specs.Str.{bytes_eq};
-ghost use Rattle.sdd_lang.specs.base.Readings.{Gives};
+ghost use Rattle.sdd_lang.specs.All.{Gives, has_copy, has_name, numbers_to};
 ghost use Rattle.sdd_script.specs.Rules.{rule_in};
 ghost use Rattle.sdd_script.specs.Naming.{name_of, relation_if, columns_of, key_of, name_of_relation, relation_named, relation_of, column_named, kind_of_place, name_of_fragment, fragment_named, name_of_class, class_names};
-ghost use Rattle.sdd_lang.specs.catalog.Catalogue.{has_copy, numbers_to};
-ghost use Rattle.sdd_lang.specs.catalog.Rules.{has_name};
 
 use crate::fault::{LineError, WorkRule, broken, known};
 use sdd_lang::sdd_base::{ClassNo, DmNo, FragNo, Name, RelNo};

@@ -1,7 +1,6 @@
 //! Events, by the words behind the first word of their lines.
 ghost use Rattle.std.specs.Prelude.{◌≡◌, ◌≤◌};
-ghost use Rattle.sdd_lang.specs.base.Sites.{are_linked};
-ghost use Rattle.sdd_lang.specs.base.Readings.{Gives};
+ghost use Rattle.sdd_lang.specs.All.{Gives, are_linked};
 ghost use Rattle.sdd_script.specs.Rules.{rule_in};
 ghost use Rattle.sdd_script.specs.Occurrences.{numbered, site_in, site_of, module_of, tm_of, link_of, count_of, flight_place, deliver_of, lose_of, repeat_of, txn_named, submit_of, resend_of, tick_of, settle_of, redeclare_of, data_module_of, dm_of, down_of, up_of, event_of};
 ghost use Rattle.sdd_words.specs.declared.word.Word.TheVariants.{Plain};

@@ -1,7 +1,6 @@
 //! Queries, by the words behind the first word of their lines.
 ghost use Rattle.std.specs.Prelude.{◌≡◌, map, IfOk, codes};
-ghost use Rattle.sdd_lang.specs.base.Readings.{along};
-ghost use Rattle.sdd_lang.specs.base.Readings.{Gives};
+ghost use Rattle.sdd_lang.specs.All.{Gives, along};
 ghost use Rattle.sdd_script.specs.Rules.{rule_in};
 ghost use Rattle.sdd_script.specs.Statements.{listed_column, part_in, parts_of, query_over, query_of_parts, query_behind_from, query_with, query_of};
 

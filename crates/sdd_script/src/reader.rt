@@ -1,8 +1,7 @@
 //! One line of a workload, by its words.
 ghost use Rattle.std.specs.Prelude.{◌≡◌, ◌==◌, OnOk};
 ghost use Rattle.std.specs.List.{list_any};
-ghost use Rattle.sdd_lang.specs.base.declared.number.TxnNo.{TxnNo};
-ghost use Rattle.sdd_lang.specs.base.Readings.{Gives};
+ghost use Rattle.sdd_lang.specs.All.{Gives, TxnNo};
 ghost use Rattle.sdd_script.specs.Rules.{rule_in};
 ghost use Rattle.sdd_script.specs.LineRules.{row_rules, opened, txn_rules, with_statement, statement_rules, closed, done_rules, is_submitted, with_submitted, with_event, event_rules, end_rules, keyword_rules, words_rules, sound_rules, line_rules};
 ghost use Rattle.sdd_script.specs.Occurrences.{event_of};

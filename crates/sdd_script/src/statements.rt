@@ -1,6 +1,6 @@
 //! Statements, by the first words of their lines and the words behind them.
 ghost use Rattle.std.specs.Prelude.{◌≡◌};
-ghost use Rattle.sdd_lang.specs.base.Readings.{Gives};
+ghost use Rattle.sdd_lang.specs.All.{Gives};
 ghost use Rattle.sdd_script.specs.Rules.{rule_in};
 ghost use Rattle.sdd_script.specs.Statements.{put_of, statement_of};
 

@@ -1,7 +1,6 @@
 //! Updates, by the words behind the first word of their lines.
 ghost use Rattle.std.specs.Prelude.{◌≡◌, ◌∷◌, [], Some, codes};
-ghost use Rattle.sdd_lang.specs.base.Readings.{along};
-ghost use Rattle.sdd_lang.specs.base.Readings.{Gives};
+ghost use Rattle.sdd_lang.specs.All.{Gives, along};
 ghost use Rattle.sdd_script.specs.Rules.{rule_in};
 ghost use Rattle.sdd_script.specs.Statements.{addend_of, add_of, to_of, assign_of, update_of_parts, update_with, update_behind_set, update_to, update_of};
 

@@ -3,7 +3,7 @@ ghost use Rattle.std.specs.Prelude.{◌≡◌, length, IfOk, Some, None};
 ghost use Rattle.sdd_words.specs.Texts.{text_in};
 ghost use Rattle.sdd_words.specs.declared.word.Word.TheVariants.{Quoted};
 ghost use Rattle.sdd_script.specs.Naming.{kind_of_place};
-ghost use Rattle.sdd_lang.specs.base.Readings.{Gives};
+ghost use Rattle.sdd_lang.specs.All.{Gives};
 ghost use Rattle.sdd_script.specs.Rules.{rule_in};
 ghost use Rattle.sdd_script.specs.Values.{is_of_kind, value_of, values_of, row_of};
 

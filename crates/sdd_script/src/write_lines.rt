@@ -1,8 +1,6 @@
 //! Writing the lines of a workload.
 ghost use Rattle.std.specs.Prelude.{◌≡◌, ◌++◌, ◌∷◌, [], List, codes, flat_map, OnOk, IfOk};
-ghost use Rattle.sdd_lang.specs.base.declared.event.Event.{Event};
-ghost use Rattle.sdd_lang.specs.base.declared.number.RelNo.{RelNo};
-ghost use Rattle.sdd_lang.specs.base.declared.value.Value.{Value};
+ghost use Rattle.sdd_lang.specs.All.{Event, RelNo, Value};
 ghost use Rattle.sdd_lang.specs.declared.statement.Stmt.{Stmt};
 ghost use Rattle.sdd_lang.specs.declared.transaction.Txn.{Txn};
 ghost use Rattle.sdd_words.specs.Words.{line_bytes, more_bytes};

@@ -1,6 +1,6 @@
 //! Writing the lines of lists of classes.
 ghost use Rattle.std.specs.Prelude.{◌≡◌, ◌++◌, ℕ, List, flat_map, OnOk};
-ghost use Rattle.sdd_lang.specs.catalog.declared.parts.ReadPart.{ReadPart};
+ghost use Rattle.sdd_lang.specs.All.{ReadPart};
 ghost use Rattle.sdd_script.specs.Spelling.{ended, class_words, reads_words, writes_words, class_bytes, list_bytes};
 
 use crate::write_words::put_plain;

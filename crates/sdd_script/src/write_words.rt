@@ -2,9 +2,7 @@
 //! is wanting, what was written is not to be used.
 ghost use Rattle.std.specs.Prelude.{◌≡◌, ◌++◌, ◌∷◌, List, flat_map, OnOk};
 ghost use Rattle.std.specs.Fmt.{signed_decimal};
-ghost use Rattle.sdd_lang.specs.base.declared.number.RelNo.{RelNo};
-ghost use Rattle.sdd_lang.specs.base.declared.value.Value.{Value};
-ghost use Rattle.sdd_lang.specs.Fits.{rel_of};
+ghost use Rattle.sdd_lang.specs.All.{RelNo, Value, rel_of};
 ghost use Rattle.sdd_lang.specs.declared.condition.Ref.{Ref};
 ghost use Rattle.sdd_words.specs.Values.{value_word};
 ghost use Rattle.sdd_words.specs.Keywords.{op_word};

@@ -1,15 +1,7 @@
 -- In which order the rows arrive doesn't matter.
 use Rattle.std.proofs.Common.{ℕ, ◌+◌, List, [], ◌∷◌}
-use Rattle.sdd_laws.specs.catalog.Catalogue.{Catalogue}
-use Rattle.sdd_laws.specs.lang.declared.statement.Stmt.{Stmt}
-use Rattle.sdd_laws.specs.lang.declared.statement.Stmt.TheVariants.{Put, Query, Update, Delete}
-use Rattle.sdd_laws.specs.lang.declared.transaction.Txn.{Txn}
-use Rattle.sdd_laws.specs.lang.Condition.{part_of}
-use Rattle.sdd_laws.specs.lang.Database.{Row, Database}
-use Rattle.sdd_laws.specs.lang.Source.{uses_in}
-use Rattle.sdd_attempt.specs.exec.Choices.{Has}
-use Rattle.sdd_attempt.specs.exec.Serves.{AreEnough, AreEnoughAlong, Serves}
-use Rattle.sdd_attempt.specs.exec.Snapshots.{Shipped, rows_for}
+use Rattle.sdd_laws.specs.All.{Catalogue, Database, Delete, Put, Query, Row, Stmt, Txn, Update, part_of, uses_in}
+use Rattle.sdd_attempt.specs.All.{AreEnough, AreEnoughAlong, Has, Serves, Shipped, rows_for}
 use Rattle.sdd_serving.proofs.Held.{use_row, row_of_use}
 
 module _ (few many : Shipped) (go : (s : ℕ × Row) → Has few s → Has many s) where

@@ -2,32 +2,16 @@
 use Rattle.std.proofs.Common.{ℕ, ◌≡◌, ◌+◌, ◌-◌, inl, inr, true, List, [], ◌∷◌, length, refl, sym, subst, arith}
 use Rattle.std.specs.List.{AllByRecursion, list_all}
 use Rattle.std.proofs.lemmas.List.Elements.{recursion_from_All}
-use Rattle.sdd_laws.specs.base.Order.{meets}
-use Rattle.sdd_laws.specs.base.declared.usage.Use.{Use}
-use Rattle.sdd_laws.specs.catalog.Catalogue.{Catalogue}
-use Rattle.sdd_laws.specs.lang.declared.condition.Ref.{Ref}
-use Rattle.sdd_laws.specs.lang.declared.condition.Condition.{Condition}
-use Rattle.sdd_laws.specs.lang.declared.condition.Condition.TheVariants.{Same}
-use Rattle.sdd_laws.specs.lang.declared.statement.Stmt.{Stmt}
-use Rattle.sdd_laws.specs.lang.declared.statement.Stmt.TheVariants.{Put, Query, Update, Delete}
-use Rattle.sdd_laws.specs.lang.declared.transaction.Txn.{Txn}
-use Rattle.sdd_laws.specs.base.declared.number.RelNo.{RelNo}
-use Rattle.sdd_laws.specs.lang.Condition.{part_of}
-use Rattle.sdd_laws.specs.lang.Database.{Row, Database}
-use Rattle.sdd_laws.specs.lang.Fits.{Fits, FitsStatement, FitsCondition, IsFrom1To}
-use Rattle.sdd_laws.specs.lang.Source.{uses_in}
-use Rattle.sdd_laws.specs.lang.Uses.{part_uses, statement_uses, uses_from}
+use Rattle.sdd_laws.specs.All.{Catalogue, Condition, Database, Delete, Fits, FitsCondition, FitsStatement, Put, Query, Ref, RelNo, Row, Same, Stmt, Txn, Update, Use, all_rows, meets, part_of, part_uses, statement_uses, uses_from, uses_in, uses_of}
+use Rattle.sdd_laws.specs.lang.Fits.{IsFrom1To}
 use Rattle.sdd_laws.proofs.lang.Pushdown.{parts_meet}
-use Rattle.sdd_attempt.specs.exec.Choices.{Has}
-use Rattle.sdd_attempt.specs.exec.Serves.{IsRowOf, AreEnough, AreEnoughAlong, Serves}
+use Rattle.sdd_attempt.specs.All.{AreEnough, AreEnoughAlong, Has, IsRowOf, Serves}
 use Rattle.sdd_attempt.proofs.exec.Members.{Has-left, Has-right}
 use Rattle.sdd_serving.specs.Reducing.{Space, IsHeldAt, all_held}
 use Rattle.sdd_serving.proofs.Held.{shipped_held, held_shipped, use_row, row_of_use}
 use Rattle.sdd_serving.proofs.Keeps.{Leads, HoldEnough, HoldEnoughAlong, HasParts, all_keep, all_were}
 use Rattle.sdd_serving.proofs.Uses.{one_use, HasPart, parts_there}
 use Rattle.sdd_laws.proofs.lang.Sources.{length-statement_uses}
-use Rattle.sdd_laws.specs.lang.Uses.{uses_of}
-use Rattle.sdd_laws.specs.copy.Frozen.{all_rows}
 
 -- what is held at first: rows of the database for the uses of the transaction, and each row that a use wants somewhere
 pub record Begins (cat : Catalogue) (txn : Txn) (db : Database) (ds : List ℕ) (first : Space) : Type 0 where

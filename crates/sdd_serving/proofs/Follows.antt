@@ -2,29 +2,10 @@
 use Rattle.std.proofs.Common.{ℕ, ◌+◌, ◌≡◌, ◌≢◌, ◌==◌, ◌||◌, ◌&&◌, nat_lt, inl, inr, Bool, true, false, cond, List, [], ◌∷◌, ◌++◌, Option, Some, None, map, length, refl, ap, sym, ◌∙◌, subst}
 use Rattle.std.specs.Bool.{if◌then◌else◌}
 use Rattle.std.specs.List.{filter, filter_map}
-use Rattle.sdd_laws.specs.base.Order.{with_values}
-use Rattle.sdd_laws.specs.base.Words.{contains}
-use Rattle.sdd_laws.specs.base.declared.site.Site.{Site}
-use Rattle.sdd_laws.specs.base.declared.usage.Use.{Use}
-use Rattle.sdd_laws.specs.base.declared.value.Value.{Value}
-use Rattle.sdd_laws.specs.catalog.Catalogue.{Catalogue}
+use Rattle.sdd_laws.specs.All.{Catalogue, Condition, Delete, Put, Query, Site, Stmt, Update, Use, Value, contains, reduced, uses_in, uses_of, with_values}
 use Rattle.sdd_laws.specs.protocol.declared.entry.Entry as line
-use Rattle.sdd_laws.specs.lang.declared.condition.Condition.{Condition}
-use Rattle.sdd_laws.specs.lang.declared.statement.Stmt.{Stmt}
-use Rattle.sdd_laws.specs.lang.declared.statement.Stmt.TheVariants.{Put, Query, Update, Delete}
-use Rattle.sdd_laws.specs.lang.Source.{uses_in}
-use Rattle.sdd_laws.specs.lang.Uses.{uses_of}
-use Rattle.sdd_attempt.specs.exec.Choices.{Has}
+use Rattle.sdd_attempt.specs.All.{Asking, Exchange, Fetching, Has, Move, Msg, Over, Phase, Queued, Reading, Ready, Reduced, Reducing as Cutting, Rows, Shipping, Step, Values, after_hand, after_send, answered, asking_of, askings, begins, better, counted, counts_for, fetches, fetches_from, fewest, first_phase, goes_on, is_candidate, lacking, module_read, move_at, moves, next_move, phase_ends, read_to, rows_at, with_use, without}
 use Rattle.sdd_attempt.proofs.exec.Members.{Has-append, Has-map, Has-filter_from, Has-filter_map}
-use Rattle.sdd_attempt.specs.semijoin.declared.step.Step.{Step}
-use Rattle.sdd_attempt.specs.semijoin.Steps.{Move, moves, rows_at, is_candidate, better, fewest, next_move}
-use Rattle.sdd_laws.specs.copy.Frozen.{reduced}
-use Rattle.sdd_attempt.specs.wire.declared.msg.Msg.{Msg}
-use Rattle.sdd_attempt.specs.wire.declared.msg.Msg.TheVariants.{Ready, Values, Reduced, Rows}
-use Rattle.sdd_attempt.specs.Acts.{read_to}
-use Rattle.sdd_attempt.specs.Exchange.{Phase, Exchange, Asking, move_at, with_use, fetches_from, fetches, goes_on, phase_ends, lacking, answered, counted, counts_for, asking_of, askings, without, after_hand, after_send, module_read, first_phase, begins}
-use Rattle.sdd_attempt.specs.Exchange.Phase.{Reading, Fetching, Reducing as Cutting, Shipping, Over}
-use Rattle.sdd_attempt.specs.Queues.{Queued}
 use Rattle.sdd_serving.specs.Following.{stage_with, Follows, AwaitsNoValues, Suits}
 use Rattle.sdd_serving.specs.Freezing.{uses_at, names_use, asked_at}
 use Rattle.sdd_serving.specs.Reducing.{Space, TellsAll, IsMoveOf, IsMoveAlong}

@@ -7,33 +7,12 @@ use Rattle.std.proofs.lemmas.Cmp.{int_cmp_total}
 use Rattle.std.proofs.lemmas.List.Elements.{All-contains}
 use Rattle.std.proofs.lemmas.Map.Lookups.{exact_signed}
 use Rattle.sdd_laws.proofs.base.Membership.{Contains-nil}
-use Rattle.sdd_laws.specs.base.Numbers.{frag_no}
-use Rattle.sdd_laws.specs.base.Order.{meets}
-use Rattle.sdd_laws.specs.base.Words.{contains}
-use Rattle.sdd_laws.specs.base.declared.number.FragNo.{FragNo}
-use Rattle.sdd_laws.specs.base.declared.number.RelNo.{RelNo}
-use Rattle.sdd_laws.specs.base.declared.usage.Use.{Use}
-use Rattle.sdd_laws.specs.catalog.Catalogue.{Catalogue, fragment_at, fragment_of, key_column, numbers_to}
-use Rattle.sdd_laws.specs.catalog.Rules.{IsSound}
-use Rattle.sdd_laws.specs.protocol.Conditions.{is_read_at}
-use Rattle.sdd_laws.specs.lang.declared.condition.Condition.{Condition}
-use Rattle.sdd_laws.specs.lang.declared.statement.Stmt.{Stmt}
-use Rattle.sdd_laws.specs.lang.declared.statement.Stmt.TheVariants.{Put, Query, Update, Delete}
-use Rattle.sdd_laws.specs.lang.declared.transaction.Txn.{Txn}
-use Rattle.sdd_laws.specs.lang.Agree.{rows_in_fragment}
-use Rattle.sdd_laws.specs.lang.Database.{Item, Row, Database, item_cmp}
+use Rattle.sdd_laws.specs.All.{Catalogue, Condition, CopyRows, Database, Delete, Fits, FragNo, IsEntry, IsSound, Item, Put, Query, RelNo, Row, Stmt, Txn, Update, Use, all_rows, allowed_keys, chosen, contains, entries_of, frag_no, fragment_at, fragment_of, fragments_for, is_read_at, item_cmp, key_column, meets, meets_keys, numbers_to, part_uses, restrictions_of, rows_for, rows_in_fragment, statement_uses, use_of, uses_from, uses_of, with_keyed}
 use Rattle.sdd_laws.specs.lang.Database as databases
-use Rattle.sdd_laws.specs.lang.Fits.{Fits}
-use Rattle.sdd_laws.specs.lang.Sound.{IsEntry}
-use Rattle.sdd_laws.specs.lang.Uses.{restrictions_of, use_of, fragments_for, allowed_keys, meets_keys, part_uses, statement_uses, uses_from, uses_of}
 use Rattle.sdd_laws.proofs.lang.Pushdown.{and_parts}
 use Rattle.sdd_laws.proofs.lang.SortedEntries.{item_cmp_total, item_cmp_exact, sorted_nil}
-use Rattle.sdd_attempt.specs.exec.Choices.{Has}
-use Rattle.sdd_attempt.specs.exec.Serves.{IsRowOf}
+use Rattle.sdd_attempt.specs.All.{Has, IsRowOf, use_there, with_frags}
 use Rattle.sdd_attempt.proofs.exec.Members.{Has-append, Has-map, Has-map_from, Has-filter, Has-filter_from, Has-flat_map, Has-flat_map_from, Has-filter_map, Has-filter_map_from}
-use Rattle.sdd_laws.specs.copy.Frozen.{CopyRows, chosen, with_keyed, rows_for, all_rows}
-use Rattle.sdd_attempt.specs.Acts.{with_frags, use_there}
-use Rattle.sdd_laws.specs.Committed.{entries_of}
 use Rattle.sdd_laws.proofs.Gathered.{gathered_from, gathered_there}
 use Rattle.sdd_laws.proofs.LookUps.{one_entry}
 use Rattle.sdd_laws.proofs.Members.{Contains-map, Contains-from_map, Contains-filter, Contains-from_filter}

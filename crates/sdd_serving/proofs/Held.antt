@@ -3,13 +3,9 @@ use Rattle.std.proofs.Common.{ℕ, ◌≡◌, ◌==◌, Bool, true, false, cond,
 use Rattle.std.specs.Bool.{if◌then◌else◌}
 use Rattle.std.specs.List.{filter}
 use Rattle.std.proofs.lemmas.Bool.Decides.{Decides-eqb}
-use Rattle.sdd_laws.specs.base.Order.{column}
-use Rattle.sdd_laws.specs.base.declared.value.Value.{Value}
-use Rattle.sdd_laws.specs.lang.Database.{Row}
-use Rattle.sdd_attempt.specs.exec.Choices.{Has}
-use Rattle.sdd_attempt.specs.exec.Snapshots.{rows_for}
+use Rattle.sdd_laws.specs.All.{Frozen, Row, Value, all_rows, column, is_among, reduced}
+use Rattle.sdd_attempt.specs.All.{Has, rows_for}
 use Rattle.sdd_attempt.proofs.exec.Members.{Has-map, Has-map_from, Has-filter, Has-filter_from, Has-flat_map, Has-flat_map_from, Has-filter_map, Has-filter_map_from}
-use Rattle.sdd_laws.specs.copy.Frozen.{Frozen, reduced, is_among, all_rows}
 use Rattle.sdd_serving.specs.Reducing.{Space, IsHeldAt, all_held}
 
 -- the rows of a use, as they are kept

@@ -1,15 +1,11 @@
 -- The moves of a query come from its equalities.
 use Rattle.std.proofs.Common.{ℕ, ◌≡◌, ◌==◌, ◌+◌, ◌⊎◌, inl, inr, true, false, List, [], ◌∷◌, ap, sym, ◌∙◌, subst}
 use Rattle.std.specs.Bool.{if◌then◌else◌}
-use Rattle.sdd_laws.specs.base.ValueOrder.{value_decides}
-use Rattle.sdd_laws.specs.lang.declared.condition.Ref.{Ref}
-use Rattle.sdd_laws.specs.lang.declared.condition.Condition.{Condition}
-use Rattle.sdd_laws.specs.lang.declared.condition.Condition.TheVariants.{Const, Same}
-use Rattle.sdd_laws.specs.lang.Condition.{Tuple, value_at, meets, meets_all}
+use Rattle.sdd_laws.specs.All.{Condition, Const, Ref, Same, Tuple, meets_all, value_at, value_decides}
+use Rattle.sdd_laws.specs.lang.Condition.{meets}
 use Rattle.sdd_laws.proofs.lang.Pushdown.{and_parts}
-use Rattle.sdd_attempt.specs.exec.Choices.{Has}
+use Rattle.sdd_attempt.specs.All.{Has, Join, Move, joins_from, moves, moves_by}
 use Rattle.sdd_attempt.proofs.exec.Members.{Has-flat_map_from}
-use Rattle.sdd_attempt.specs.semijoin.Steps.{Join, Move, joins_from, moves_by, moves}
 
 -- the two sides of an equality among the conditions
 pub record IsJoined (conds : List Condition) (m : Move) : Type 0 where

@@ -3,25 +3,10 @@ use Rattle.std.proofs.Common.{ℕ, ◌≡◌, ◌≢◌, ◌≤◌, ◌<◌, ◌
 use Rattle.std.specs.List.{AllByRecursion}
 use Rattle.std.proofs.lemmas.Bool.{cases_Bool}
 use Rattle.std.proofs.lemmas.Bool.Decides.{Decides-eqb}
-use Rattle.sdd_laws.specs.base.Order.{column}
-use Rattle.sdd_laws.specs.base.declared.value.Value.{Value}
-use Rattle.sdd_laws.specs.lang.declared.condition.Ref.{Ref}
-use Rattle.sdd_laws.specs.lang.declared.condition.Condition.{Condition}
-use Rattle.sdd_laws.specs.lang.declared.condition.Condition.TheVariants.{Same}
-use Rattle.sdd_laws.specs.lang.declared.statement.Stmt.{Stmt}
-use Rattle.sdd_laws.specs.lang.declared.statement.Stmt.TheVariants.{Put, Query, Update, Delete}
-use Rattle.sdd_laws.specs.lang.Condition.{Tuple, part_of, value_at, meets_all}
-use Rattle.sdd_laws.specs.lang.Database.{Row, Database}
+use Rattle.sdd_laws.specs.All.{Condition, Database, Delete, Put, Query, Ref, Row, Same, Stmt, Tuple, Update, Value, all_rows, column, is_among, meets_all, part_of, product, reduced, restrictions_of, uses_in, value_at}
 use Rattle.sdd_laws.specs.lang.Database as databases
 use Rattle.sdd_laws.specs.lang.Fits.{IsFrom1To}
-use Rattle.sdd_laws.specs.lang.Query.{product}
-use Rattle.sdd_laws.specs.lang.Source.{uses_in}
-use Rattle.sdd_laws.specs.lang.Uses.{restrictions_of}
-use Rattle.sdd_attempt.specs.exec.Serves.{IsRowOf}
-use Rattle.sdd_attempt.specs.exec.Choices.{Has}
-use Rattle.sdd_attempt.specs.semijoin.Steps.{Move}
-use Rattle.sdd_laws.specs.copy.Frozen.{all_rows, reduced, is_among}
-use Rattle.sdd_attempt.specs.Exchange.{use_at}
+use Rattle.sdd_attempt.specs.All.{Has, IsRowOf, Move, use_at}
 use Rattle.sdd_serving.specs.Reducing.{Space, IsHeldAt, IsMoveOf, IsMoveAlong}
 use Rattle.sdd_serving.proofs.Held.{reduced_from, stays_held}
 use Rattle.sdd_serving.proofs.Joined.{IsJoined, joined, one_value}

@@ -2,12 +2,9 @@
 use Rattle.std.proofs.Common.{ℕ, ◌≡◌, ◌==◌, ◌⊎◌, inl, inr, Bool, true, not, List, [], ◌∷◌, ap, subst}
 use Rattle.std.proofs.lemmas.Bool.{cases_Bool}
 use Rattle.std.proofs.lemmas.Bool.Decides.{Decides-eqb}
-use Rattle.sdd_laws.specs.base.Order.{column}
-use Rattle.sdd_laws.specs.lang.declared.statement.Stmt.{Stmt}
-use Rattle.sdd_laws.specs.lang.Database.{Row}
-use Rattle.sdd_attempt.specs.exec.Choices.{Has}
+use Rattle.sdd_laws.specs.All.{Row, Stmt, all_rows, column, is_among}
+use Rattle.sdd_attempt.specs.All.{Has}
 use Rattle.sdd_attempt.proofs.exec.Members.{Has-filter}
-use Rattle.sdd_laws.specs.copy.Frozen.{all_rows, is_among}
 use Rattle.sdd_serving.specs.Reducing.{Space, IsHeldAt, IsMoveAlong}
 use Rattle.sdd_serving.specs.Runs.{Stage, Runs, may_reduce}
 use Rattle.sdd_serving.specs.Runs.Stage.{Resting, Telling, Reducing}

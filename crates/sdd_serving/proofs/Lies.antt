@@ -4,23 +4,9 @@ use Rattle.std.specs.List.{AllByRecursion, list_all}
 use Rattle.std.proofs.lemmas.List.{get_or_default}
 use Rattle.std.proofs.lemmas.List.Elements.{recursion_from_All}
 use Rattle.std.proofs.lemmas.Bool.Decides.{Decides-eqb}
-use Rattle.sdd_laws.specs.base.Order.{meets}
-use Rattle.sdd_laws.specs.base.Words.{contains}
-use Rattle.sdd_laws.specs.base.declared.number.RelNo.{RelNo}
-use Rattle.sdd_laws.specs.base.declared.usage.Use.{Use}
-use Rattle.sdd_laws.specs.catalog.Catalogue.{Catalogue, fragment_of}
-use Rattle.sdd_laws.specs.catalog.Rules.{IsSound}
-use Rattle.sdd_laws.specs.lang.declared.condition.Condition.{Condition}
-use Rattle.sdd_laws.specs.lang.declared.statement.Stmt.{Stmt}
-use Rattle.sdd_laws.specs.lang.declared.statement.Stmt.TheVariants.{Put, Query, Update, Delete}
-use Rattle.sdd_laws.specs.lang.declared.transaction.Txn.{Txn}
-use Rattle.sdd_laws.specs.lang.Database.{Item, Row}
-use Rattle.sdd_laws.specs.lang.Fits.{Fits, FitsStatement, FitsCondition, IsRelation, rel_of}
-use Rattle.sdd_laws.specs.lang.Sound.{IsEntry}
-use Rattle.sdd_laws.specs.lang.Source.{uses_in}
-use Rattle.sdd_laws.specs.lang.Uses.{part_uses, statement_uses, uses_from, uses_of}
+use Rattle.sdd_laws.specs.All.{Catalogue, Condition, Delete, Fits, FitsCondition, FitsStatement, IsEntry, IsRelation, IsSound, Item, Put, Query, RelNo, Row, Stmt, Txn, Update, Use, contains, fragment_of, meets, part_uses, rel_of, statement_uses, uses_from, uses_in, uses_of}
 use Rattle.sdd_laws.proofs.lang.ReadSetDecides.{lies_in_use}
-use Rattle.sdd_attempt.specs.exec.Choices.{Has}
+use Rattle.sdd_attempt.specs.All.{Has}
 use Rattle.sdd_serving.proofs.Uses.{uses_split}
 
 module _ (cat : Catalogue) (sound : IsSound cat) (e : Item × Row) (entry : IsEntry cat e) where

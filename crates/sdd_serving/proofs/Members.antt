@@ -2,7 +2,7 @@
 use Rattle.std.proofs.Common.{inl, inr, List, [], ◌∷◌, sym, subst}
 use Rattle.std.specs.List.{Contains}
 use Rattle.sdd_laws.proofs.base.Membership.{Contains-nil, Contains-here, Contains-later, Contains-cases}
-use Rattle.sdd_attempt.specs.exec.Choices.{Has}
+use Rattle.sdd_attempt.specs.All.{Has}
 
 pub to_has : {A : Type 0} (xs : List A) (x : A) → Contains xs x → Has xs x
 to_has [] x h = Contains-nil x h

@@ -1,20 +1,10 @@
 -- The whole exchange: from the copies at the modules' Answers to rows that serve the database which has them.
 use Rattle.std.proofs.Common.{ℕ, ◌≡◌, ◌==◌, ◌||◌, inl, inr, true, false, List, [], ◌∷◌, refl, ap, ◌∙◌}
 use Rattle.std.proofs.lemmas.Bool.Decides.{Decides-eqb}
-use Rattle.sdd_laws.specs.base.declared.usage.Use.{Use}
-use Rattle.sdd_laws.specs.catalog.Catalogue.{Catalogue}
-use Rattle.sdd_laws.specs.catalog.Rules.{IsSound}
-use Rattle.sdd_laws.specs.lang.declared.transaction.Txn.{Txn}
-use Rattle.sdd_laws.specs.lang.Database.{Row, Database}
-use Rattle.sdd_laws.specs.lang.Effect.{effect}
-use Rattle.sdd_laws.specs.lang.Fits.{Fits}
-use Rattle.sdd_laws.specs.lang.Source.{effect_over}
-use Rattle.sdd_attempt.specs.exec.Choices.{Has}
-use Rattle.sdd_attempt.specs.exec.Serves.{Serves}
-use Rattle.sdd_attempt.specs.exec.Snapshots.{found_for, chosen_for}
+use Rattle.sdd_laws.specs.All.{Catalogue, CopyRows, Database, Fits, IsSound, Row, Txn, Use, all_rows, effect, effect_over, rows_for}
+use Rattle.sdd_attempt.specs.All.{Has, Serves, chosen_for, found_for}
 use Rattle.sdd_attempt.proofs.exec.Members.{Has-map_from}
 use Rattle.sdd_attempt.proofs.exec.Serving.{served_effect}
-use Rattle.sdd_laws.specs.copy.Frozen.{CopyRows, rows_for, all_rows}
 use Rattle.sdd_serving.specs.Freezing.{uses_at, names_use, asked_at, frozen_space, HasCopies}
 use Rattle.sdd_serving.specs.Reducing.{Space, all_held}
 use Rattle.sdd_serving.specs.Runs.{Stage, Runs}

@@ -5,19 +5,9 @@ use Rattle.std.specs.List.{Contains}
 use Rattle.std.specs.List.Sorted.{IsStrictlySortedBy}
 use Rattle.std.specs.Map.{keys_of}
 use Rattle.std.proofs.lemmas.Bool.Decides.{Decides-eqb}
-use Rattle.sdd_laws.specs.base.declared.number.FragNo.{FragNo}
-use Rattle.sdd_laws.specs.base.declared.usage.Use.{Use}
-use Rattle.sdd_laws.specs.catalog.Catalogue.{Catalogue, fragment_of, reads_at}
-use Rattle.sdd_laws.specs.protocol.Conditions.{is_read_at}
-use Rattle.sdd_laws.specs.lang.declared.transaction.Txn.{Txn}
-use Rattle.sdd_laws.specs.lang.Database.{Item, Row, Database, item_cmp}
-use Rattle.sdd_laws.specs.lang.Sound.{IsDatabase}
-use Rattle.sdd_laws.specs.lang.Uses.{uses_of}
+use Rattle.sdd_laws.specs.All.{ArePlaced, Catalogue, Database, Dated, FragNo, IsDatabase, Item, Row, Txn, Use, contents, entries_of, fragment_of, is_read_at, item_cmp, reads_at, uses_of}
 use Rattle.sdd_laws.proofs.lang.SortedEntries.{sorted_nil}
-use Rattle.sdd_laws.specs.copy.Contents.{Dated, contents}
-use Rattle.sdd_attempt.specs.exec.Choices.{Has}
-use Rattle.sdd_laws.specs.Committed.{entries_of}
-use Rattle.sdd_laws.specs.Values.{ArePlaced}
+use Rattle.sdd_attempt.specs.All.{Has}
 use Rattle.sdd_laws.proofs.CopyEntries.{entries_ascend, lies_there}
 use Rattle.sdd_laws.proofs.Together.{together, has_copy}
 use Rattle.sdd_laws.proofs.base.Membership.{Contains-nil}

@@ -5,20 +5,9 @@ use Rattle.std.specs.Ordering.{is_eq, match_ordering, ordering_reverse}
 use Rattle.std.specs.BTreeSet.{insert_key}
 use Rattle.std.proofs.lemmas.Bool.Decides.{Decides-eqb}
 use Rattle.std.proofs.lemmas.Cmp.{tied_itself}
-use Rattle.sdd_laws.specs.base.Order.{column, value_cmp, with_values}
-use Rattle.sdd_laws.specs.base.ValueOrder.{value_cmp_total}
-use Rattle.sdd_laws.specs.base.Words.{or_else, first_some}
-use Rattle.sdd_laws.specs.base.declared.usage.Use.{Use}
-use Rattle.sdd_laws.specs.base.declared.value.Value.{Value}
-use Rattle.sdd_laws.specs.catalog.Catalogue.{Catalogue}
-use Rattle.sdd_laws.specs.lang.declared.condition.Ref.{Ref}
-use Rattle.sdd_laws.specs.lang.declared.transaction.Txn.{Txn}
-use Rattle.sdd_laws.specs.lang.Database.{Row}
-use Rattle.sdd_laws.specs.lang.Uses.{uses_of}
-use Rattle.sdd_attempt.specs.exec.Choices.{Has}
+use Rattle.sdd_laws.specs.All.{Catalogue, CopyRows, Frozen, Ref, Row, Txn, Use, Value, all_rows, column, first_some, is_among, or_else, or_nothing, reduced, rows_for, rows_of, uses_of, value_cmp, value_cmp_total, values_in, with_values}
+use Rattle.sdd_attempt.specs.All.{Has, use_there}
 use Rattle.sdd_attempt.proofs.exec.Members.{Has-map_from, Has-filter_map_from}
-use Rattle.sdd_laws.specs.copy.Frozen.{CopyRows, Frozen, or_nothing, rows_for, rows_of, reduced, is_among, values_in, all_rows}
-use Rattle.sdd_attempt.specs.Acts.{use_there}
 use Rattle.sdd_serving.specs.Freezing.{uses_at, frozen_space}
 use Rattle.sdd_serving.specs.Reducing.{TellsAll}
 use Rattle.sdd_serving.proofs.Freezing.{IsThere, there_is}

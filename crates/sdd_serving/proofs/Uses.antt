@@ -1,19 +1,9 @@
 -- The uses of a transaction have different numbers, and each part of a statement has one.
 use Rattle.std.proofs.Common.{ℕ, zero, suc, ◌≡◌, ◌≤◌, ◌<◌, ◌+◌, ◌⊎◌, inl, inr, List, [], ◌∷◌, length, map, slice_index_or, refl, ap, sym, ◌∙◌, subst, arith}
-use Rattle.sdd_laws.specs.base.declared.number.RelNo.{RelNo}
-use Rattle.sdd_laws.specs.base.declared.usage.Use.{Use}
-use Rattle.sdd_laws.specs.catalog.Catalogue.{Catalogue}
-use Rattle.sdd_laws.specs.lang.declared.condition.Condition.{Condition}
-use Rattle.sdd_laws.specs.lang.declared.statement.Stmt.{Stmt}
-use Rattle.sdd_laws.specs.lang.declared.statement.Stmt.TheVariants.{Put, Query, Update, Delete}
-use Rattle.sdd_laws.specs.lang.Condition.{Tuple}
-use Rattle.sdd_laws.specs.lang.Database.{Row, Database}
+use Rattle.sdd_laws.specs.All.{Catalogue, Condition, Database, Delete, Put, Query, RelNo, Row, Stmt, Tuple, Update, Use, part_uses, product, restrictions_of, statement_uses, use_of, uses_from, uses_in}
 use Rattle.sdd_laws.specs.lang.Database as databases
-use Rattle.sdd_laws.specs.lang.Query.{product}
-use Rattle.sdd_laws.specs.lang.Source.{uses_in}
-use Rattle.sdd_laws.specs.lang.Uses.{restrictions_of, use_of, part_uses, statement_uses, uses_from}
 use Rattle.sdd_laws.proofs.lang.Sources.{length-statement_uses}
-use Rattle.sdd_attempt.specs.exec.Choices.{Has}
+use Rattle.sdd_attempt.specs.All.{Has}
 use Rattle.sdd_attempt.proofs.exec.Members.{Has-append, Has-map_from, Has-flat_map_from}
 
 part_range : (cat : Catalogue) (before : ℕ) (conds : List Condition) (k : ℕ) (rels : List RelNo) (u : Use)

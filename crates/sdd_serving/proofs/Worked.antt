@@ -3,25 +3,8 @@
 use Rattle.std.proofs.Common.{ℕ, ◌≡◌, ◌≢◌, ◌==◌, inl, inr, pos, true, false, cond, List, [], ◌∷◌, refl, ap, sym, subst, lit≤}
 use Rattle.std.proofs.lemmas.Bool.Decides.{Decides-eqb}
 use Rattle.std.proofs.lemmas.List.Elements.{All-from_recursion}
-use Rattle.sdd_laws.specs.base.Numbers.{frag_no}
-use Rattle.sdd_laws.specs.base.declared.number.FragNo.{FragNo}
-use Rattle.sdd_laws.specs.base.declared.usage.Use.{Use}
-use Rattle.sdd_laws.specs.base.declared.value.Value.{Value}
-use Rattle.sdd_laws.specs.base.declared.value.Value.TheVariants.{Int}
-use Rattle.sdd_laws.specs.protocol.Conditions.{is_read_at}
-use Rattle.sdd_laws.specs.lang.declared.condition.Condition.{Condition}
-use Rattle.sdd_laws.specs.lang.declared.condition.Condition.TheVariants.{Same}
-use Rattle.sdd_laws.specs.lang.declared.statement.Stmt.TheVariants.{Query}
-use Rattle.sdd_laws.specs.lang.declared.transaction.Txn.{Txn}
-use Rattle.sdd_laws.specs.lang.Agree.{rows_in_fragment}
-use Rattle.sdd_laws.specs.lang.Database.{Row, Database, item_cmp}
-use Rattle.sdd_laws.specs.lang.Examples.{rel, ref, two, accounts, txn}
-use Rattle.sdd_laws.specs.lang.Sound.{IsDatabase, IsEntry}
-use Rattle.sdd_laws.specs.lang.Uses.{uses_of}
-use Rattle.sdd_attempt.specs.exec.Choices.{Has}
-use Rattle.sdd_attempt.specs.semijoin.Steps.{Move}
-use Rattle.sdd_laws.specs.copy.Frozen.{CopyRows, reduced, rows_of, values_in}
-use Rattle.sdd_laws.specs.Committed.{entries_of}
+use Rattle.sdd_laws.specs.All.{Condition, CopyRows, Database, FragNo, Int, IsDatabase, IsEntry, Query, Row, Same, Txn, Use, Value, accounts, entries_of, frag_no, is_read_at, item_cmp, reduced, ref, rel, rows_in_fragment, rows_of, two, txn, uses_of, values_in}
+use Rattle.sdd_attempt.specs.All.{Has, Move}
 use Rattle.sdd_laws.proofs.LookUps.{sorted_nil, sorted_cons}
 use Rattle.sdd_serving.specs.Freezing.{asked_at, frozen_space, HasCopies}
 use Rattle.sdd_serving.specs.Reducing.{Space, move_by, all_held}

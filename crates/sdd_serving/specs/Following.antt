@@ -1,13 +1,7 @@
 -- The exchange of an attempt follows a run.
 use Rattle.std.specs.Prelude.{ℕ, ◌==◌, ◌≡◌, Bool, true, ◌&&◌, List}
-use Rattle.sdd_laws.specs.base.declared.value.Value.{Value}
-use Rattle.sdd_laws.specs.lang.declared.statement.Stmt.{Stmt}
-use Rattle.sdd_attempt.specs.exec.Choices.{Has}
-use Rattle.sdd_attempt.specs.semijoin.Steps.{Move}
-use Rattle.sdd_attempt.specs.wire.declared.msg.Msg.{Msg}
-use Rattle.sdd_attempt.specs.wire.declared.msg.Msg.TheVariants.{Ready, Values, Reduced, Rows}
-use Rattle.sdd_attempt.specs.Exchange.{Phase, Exchange, Asking, askings, with_use}
-use Rattle.sdd_attempt.specs.Exchange.Phase.{Reading, Fetching, Reducing as Cutting, Shipping, Over}
+use Rattle.sdd_laws.specs.All.{Stmt, Value}
+use Rattle.sdd_attempt.specs.All.{Asking, Exchange, Fetching, Has, Move, Msg, Over, Phase, Reading, Ready, Reduced, Reducing as Cutting, Rows, Shipping, Values, askings, with_use}
 use Rattle.sdd_serving.specs.Reducing.{Space, TellsAll}
 use Rattle.sdd_serving.specs.Runs.{Stage, Runs}
 use Rattle.sdd_serving.specs.Runs.Stage.{Resting, Telling, Reducing}

@@ -1,19 +1,8 @@
 -- What the modules of an attempt freeze, of the copies that they have at its Answers.
 use Rattle.std.specs.Prelude.{ℕ, ◌==◌, ◌≡◌, Bool, true, List, filter_map}
 use Rattle.std.specs.List.{list_any}
-use Rattle.sdd_laws.specs.base.declared.number.FragNo.{FragNo}
-use Rattle.sdd_laws.specs.base.declared.usage.Use.{Use}
-use Rattle.sdd_laws.specs.catalog.Catalogue.{Catalogue}
-use Rattle.sdd_laws.specs.protocol.Conditions.{is_read_at}
-use Rattle.sdd_laws.specs.lang.declared.transaction.Txn.{Txn}
-use Rattle.sdd_laws.specs.lang.Agree.{rows_in_fragment}
-use Rattle.sdd_laws.specs.lang.Database.{Database}
-use Rattle.sdd_laws.specs.lang.Sound.{IsDatabase}
-use Rattle.sdd_laws.specs.lang.Uses.{uses_of}
-use Rattle.sdd_attempt.specs.exec.Choices.{Has}
-use Rattle.sdd_laws.specs.copy.Frozen.{CopyRows, frozen_for}
-use Rattle.sdd_attempt.specs.Acts.{use_there}
-use Rattle.sdd_laws.specs.Committed.{entries_of}
+use Rattle.sdd_laws.specs.All.{Catalogue, CopyRows, Database, FragNo, IsDatabase, Txn, Use, entries_of, frozen_for, is_read_at, rows_in_fragment, uses_of}
+use Rattle.sdd_attempt.specs.All.{Has, use_there}
 use Rattle.sdd_serving.specs.Reducing.{Space}
 
 -- the uses in the READ of an attempt of class c to module d

@@ -1,19 +1,8 @@
 -- The rows that the modules of an attempt hold for its uses, and the steps by which they are reduced.
 use Rattle.std.specs.Prelude.{ℕ, ◌+◌, ◌≡◌, ◌⊎◌, Bool, true, false, List, [], ◌∷◌, refl}
 use Rattle.std.specs.List.{flat_map}
-use Rattle.sdd_laws.specs.base.Order.{column}
-use Rattle.sdd_laws.specs.base.declared.value.Value.{Value}
-use Rattle.sdd_laws.specs.lang.declared.condition.Condition.{Condition}
-use Rattle.sdd_laws.specs.lang.declared.condition.Ref.{Ref}
-use Rattle.sdd_laws.specs.lang.declared.statement.Stmt.{Stmt}
-use Rattle.sdd_laws.specs.lang.declared.statement.Stmt.TheVariants.{Put, Query, Update, Delete}
-use Rattle.sdd_laws.specs.lang.Database.{Row}
-use Rattle.sdd_laws.specs.lang.Source.{uses_in}
-use Rattle.sdd_attempt.specs.exec.Choices.{Has}
-use Rattle.sdd_attempt.specs.exec.Snapshots.{Shipped}
-use Rattle.sdd_laws.specs.copy.Frozen.{Frozen, all_rows, is_among}
-use Rattle.sdd_attempt.specs.semijoin.Steps.{Join, Move, moves, moves_by}
-use Rattle.sdd_attempt.specs.Exchange.{move_at}
+use Rattle.sdd_laws.specs.All.{Condition, Delete, Frozen, Put, Query, Ref, Row, Stmt, Update, Value, all_rows, column, is_among, uses_in}
+use Rattle.sdd_attempt.specs.All.{Has, Join, Move, Shipped, move_at, moves, moves_by}
 
 -- what each module holds frozen, by its number
 abbrev pub Space : Type 0

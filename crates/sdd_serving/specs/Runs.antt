@@ -1,14 +1,8 @@
 -- Runs of an exchange: for a move the modules that hold rows of its source tell their values, one after the other; once
 -- none lacks, modules of the target are reduced by all these values, in any order; then the next move may begin.
 use Rattle.std.specs.Prelude.{ℕ, ◌≡◌, ◌≢◌, Bool, true, List, []}
-use Rattle.sdd_laws.specs.base.Order.{with_values}
-use Rattle.sdd_laws.specs.base.Words.{is_empty}
-use Rattle.sdd_laws.specs.base.declared.value.Value.{Value}
-use Rattle.sdd_laws.specs.lang.declared.statement.Stmt.{Stmt}
-use Rattle.sdd_attempt.specs.exec.Choices.{Has}
-use Rattle.sdd_laws.specs.copy.Frozen.{reduced}
-use Rattle.sdd_attempt.specs.semijoin.Steps.{Move}
-use Rattle.sdd_attempt.specs.Exchange.{without}
+use Rattle.sdd_laws.specs.All.{Stmt, Value, is_empty, reduced, with_values}
+use Rattle.sdd_attempt.specs.All.{Has, Move, without}
 use Rattle.sdd_serving.specs.Reducing.{Space, IsMoveAlong, TellsAll}
 
 -- Between moves; or values of the move's source are told, where the answers of some modules lack and these values came;

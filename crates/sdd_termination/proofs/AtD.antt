@@ -2,28 +2,12 @@
 use Rattle.std.proofs.Common.{ℕ, suc, ◌+◌, ◌<◌, ◌≤◌, ◌==◌, ◌≡◌, Bool, true, false, not, ◌&&◌, ◌||◌, if◌then◌else◌, List, [], ◌∷◌, length, filter, Option, Some, None, refl, sym, ap, ◌∙◌, subst, arith, slice_get}
 use Rattle.std.specs.List.{list_all}
 use Rattle.std.proofs.lemmas.Option.{same_Some}
-use Rattle.sdd_invariants.specs.base.Words.{head_of, tail_of}
-use Rattle.sdd_invariants.specs.base.declared.condition.Cond.{Cond}
-use Rattle.sdd_invariants.specs.base.declared.change.Change.{Change}
-use Rattle.sdd_invariants.specs.base.declared.number.ClassNo.{ClassNo}
-use Rattle.sdd_invariants.specs.base.declared.number.DmNo.{DmNo}
-use Rattle.sdd_invariants.specs.base.declared.number.Ts.{Ts}
-use Rattle.sdd_invariants.specs.base.declared.number.TxnNo.{TxnNo}
-use Rattle.sdd_invariants.specs.base.declared.site.Site.{Site}
-use Rattle.sdd_invariants.specs.base.declared.usage.Use.{Use}
-use Rattle.sdd_invariants.specs.history.declared.record.Rec.{Rec}
-use Rattle.sdd_invariants.specs.history.declared.record.Rec.TheVariants.{Answer, Apply, Arrive, Pass, Reject as Rejected, Wait}
-use Rattle.sdd_invariants.specs.wire.declared.msg.Msg.{Msg}
-use Rattle.sdd_invariants.specs.wire.declared.msg.Msg.TheVariants.{Ask, Done, Fetch, Held, Hold, Null, Read, Ready, Reduce, Reduced, Reject, Release, Rows, Ship, Values, Write}
-use Rattle.sdd_invariants.specs.site_module.SiteLog.{Act, Did, Log, Records, Sends, Setting, answers_hand, sends_of_act}
-use Rattle.sdd_invariants.specs.pipe.Pipe.{head, head_processed}
+use Rattle.sdd_invariants.specs.All.{Act, Answer, Apply, Arrive, Ask, Change, ClassNo, ClassView, Cond, Did, DmNo, Done, Fetch, Held, Hold, Home, IsDue, Msg, Null, Open, Pass, Processes, Read, Ready, Rec, Records, Reduce, Reduced, Refuses, Reject, Release, Rows, Sends, Setting, Ship, Site, Ts, TxnNo, Use, Values, View, Wait, Waits, Write, act_by, act_where, answer_of, answer_to, answers_hand, by_head, by_open, head, head_due, head_of, head_processed, home_of, is_asked_of, is_held, is_met, is_processing, is_read_of, is_wait, judge, opens, pipe, sends_of_act, step_on, tail_of, view_of, waits}
+use Rattle.sdd_invariants.specs.history.declared.record.Rec.TheVariants.{Reject as Rejected}
+use Rattle.sdd_invariants.specs.site_module.SiteLog.{Log}
 use Rattle.sdd_invariants.specs.dm.Copies.{classes_of}
-use Rattle.sdd_invariants.specs.dm.Due.{IsDue, act_by, act_where, answer_of, answer_to, by_head, by_open, head_due, is_held, is_met, judge, step_on}
-use Rattle.sdd_invariants.specs.dm.Opens.{Open, is_asked_of, is_read_of, opens}
-use Rattle.sdd_invariants.specs.dm.Pipes.{is_processing, is_wait, pipe, waits}
-use Rattle.sdd_invariants.specs.dm.Views.{ClassView, Home, View, class_view, home_of, view_of}
+use Rattle.sdd_invariants.specs.dm.Views.{class_view}
 use Rattle.sdd_invariants.specs.dm.declared.step.Step.{Step}
-use Rattle.sdd_invariants.specs.dm.declared.step.Step.TheVariants.{Processes, Refuses, Waits}
 use Rattle.sdd_invariants.proofs.Bools.{both, same_number}
 use Rattle.sdd_invariants.proofs.Lists.{in_filtered, in_mapped}
 use Rattle.sdd_termination.proofs.Sums.{by_class, filter_shorter, total, total_less, total_up}

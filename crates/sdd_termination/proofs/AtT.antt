@@ -2,21 +2,10 @@
 use Rattle.std.proofs.Common.{ℕ, suc, ◌+◌, ◌-◌, ◌<◌, ◌≤◌, ◌==◌, ◌≡◌, nat_lt, Bool, true, false, not, ◌&&◌, if◌then◌else◌, List, [], ◌∷◌, length, Option, Some, None, is_none, refl, sym, ap, subst, arith, slice_get}
 use Rattle.std.proofs.lemmas.Bool.{ltb-true}
 use Rattle.std.proofs.lemmas.Option.{same_Some}
-use Rattle.sdd_invariants.specs.base.Words.{head_of, or_else}
-use Rattle.sdd_invariants.specs.base.Numbers.{class_no, dm_no, time_at}
-use Rattle.sdd_invariants.specs.base.declared.site.Site.{Site}
-use Rattle.sdd_invariants.specs.base.declared.site.Site.TheVariants.{D, U}
-use Rattle.sdd_invariants.specs.wire.declared.msg.Msg.{Msg}
-use Rattle.sdd_invariants.specs.wire.declared.msg.Msg.TheVariants.{Held, Null}
-use Rattle.sdd_invariants.specs.site_module.SiteLog.{Act, Bases, Did, Each, Log, Sends, Setting, answers_hand, in_force}
-use Rattle.sdd_invariants.specs.attempt.Acts.{attempt_due, commit_act, start_act}
-use Rattle.sdd_invariants.specs.attempt.Attempts.{Attempt, active}
-use Rattle.sdd_invariants.specs.attempt.Clocks.{clock}
-use Rattle.sdd_invariants.specs.attempt.Exchange.{first_send, is_over}
-use Rattle.sdd_invariants.specs.attempt.Queues.{Queued, queue}
-use Rattle.sdd_invariants.specs.tm.Due.{IsDue, by_ask, by_exchange, by_hold, by_start, null_at, null_time, null_to, start_due, start_of}
-use Rattle.sdd_invariants.specs.tm.Views.{HoldCounts, Question, asks, class_view, holds, holds_acted, on_hold, runs, view_of}
-use Rattle.sdd_invariants.specs.Steps.{IsFair, IsNew, IsServed}
+use Rattle.sdd_invariants.specs.All.{Act, Attempt, Bases, D, Did, Each, Held, HoldCounts, IsFair, IsNew, IsServed, Msg, Null, Question, Queued, Sends, Setting, Site, U, active, answers_hand, asks, attempt_due, by_ask, by_exchange, by_hold, by_start, class_no, class_view, clock, commit_act, dm_no, first_send, head_of, holds, holds_acted, in_force, is_over, null_at, null_time, null_to, on_hold, or_else, queue, runs, start_act, start_due, start_of, time_at}
+use Rattle.sdd_invariants.specs.site_module.SiteLog.{Log}
+use Rattle.sdd_invariants.specs.tm.Due.{IsDue}
+use Rattle.sdd_invariants.specs.tm.Views.{view_of}
 use Rattle.sdd_invariants.proofs.Bools.{and_right, same_number}
 use Rattle.sdd_invariants.proofs.Exchanges.{asks_next}
 use Rattle.sdd_invariants.proofs.Lists.{in_mapped}

@@ -2,22 +2,10 @@
 use Rattle.std.proofs.Common.{ℕ, suc, ◌+◌, ◌-◌, ◌<◌, ◌≤◌, ◌==◌, ◌≡◌, nat_lt, Bool, true, false, ◌&&◌, if◌then◌else◌, List, [], ◌∷◌, length, Option, Some, None, refl, sym, ap, ◌∙◌, subst, inl, inr, arith, slice_get}
 use Rattle.std.proofs.lemmas.Bool.{eq-eqb, eqb-true, ltb-true, ne_eqb}
 use Rattle.std.proofs.lemmas.Option.{same_Some}
-use Rattle.sdd_invariants.specs.base.Words.{head_of, or_else}
-use Rattle.sdd_invariants.specs.base.Numbers.{dm_no, time_at, tm_no}
-use Rattle.sdd_invariants.specs.base.declared.number.Ts.{Ts}
-use Rattle.sdd_invariants.specs.base.declared.site.Site.TheVariants.{D, T}
-use Rattle.sdd_invariants.specs.catalog.Catalogue.{numbers_to}
-use Rattle.sdd_invariants.specs.wire.declared.msg.Msg.{Msg}
-use Rattle.sdd_invariants.specs.wire.declared.msg.Msg.TheVariants.{Hold, Release}
-use Rattle.sdd_invariants.specs.site_module.SiteLog.{Act, Bases, Did, Each, Log, Sends, Setting}
-use Rattle.sdd_invariants.specs.attempt.Acts.{attempt_due, commit_act, start_act}
-use Rattle.sdd_invariants.specs.attempt.Attempts.{Attempt, active}
-use Rattle.sdd_invariants.specs.attempt.Clocks.{clock}
-use Rattle.sdd_invariants.specs.attempt.Exchange.{first_send, is_over}
-use Rattle.sdd_invariants.specs.attempt.Queues.{Queued, queue}
-use Rattle.sdd_invariants.specs.umod.Due.{IsDue, by_exchange, by_hold, by_release, by_start, hold_due, hold_to, release_due, start_of}
-use Rattle.sdd_invariants.specs.umod.Views.{TmCounts, counts, last_served, view_of}
-use Rattle.sdd_invariants.specs.Steps.{IsFair, IsNew, IsServed}
+use Rattle.sdd_invariants.specs.All.{Act, Attempt, Bases, D, Did, Each, Hold, IsFair, IsNew, IsServed, Msg, Queued, Release, Sends, Setting, T, TmCounts, Ts, active, attempt_due, by_release, clock, commit_act, counts, dm_no, first_send, head_of, hold_due, hold_to, is_over, last_served, numbers_to, or_else, queue, release_due, start_act, time_at, tm_no}
+use Rattle.sdd_invariants.specs.site_module.SiteLog.{Log}
+use Rattle.sdd_invariants.specs.umod.Due.{IsDue, by_exchange, by_hold, by_start, start_of}
+use Rattle.sdd_invariants.specs.umod.Views.{view_of}
 use Rattle.sdd_invariants.proofs.Bools.{same_or_not}
 use Rattle.sdd_invariants.proofs.Exchanges.{asks_next}
 use Rattle.sdd_invariants.proofs.Lists.{in_mapped}

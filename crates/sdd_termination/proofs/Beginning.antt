@@ -1,15 +1,7 @@
 -- A round begins only where the links aren't quiet, and then it has an event.
 use Rattle.std.proofs.Common.{ℕ, ◌<◌, Bool, true, false, List, [], ◌∷◌, length, ◌≡◌, refl, sym, ◌∙◌, subst, Some, arith}
 use Rattle.std.proofs.lemmas.Bool.{false≢true}
-use Rattle.sdd_invariants.specs.base.Sites.{links}
-use Rattle.sdd_invariants.specs.base.declared.event.Event.{Event}
-use Rattle.sdd_invariants.specs.base.declared.event.Event.TheVariants.{Submit, Deliver, Lose, Repeat, Resend, Tick, Settle, Redeclare, Down, Up}
-use Rattle.sdd_invariants.specs.net.Links.{Call, quiet, round}
-use Rattle.sdd_invariants.specs.logs.Due.{next}
-use Rattle.sdd_invariants.specs.logs.Entries.{Given, Log, Round}
-use Rattle.sdd_invariants.specs.logs.Marks.{left, mark_from, mark_of}
-use Rattle.sdd_invariants.specs.logs.Traffic.{all_links, calls_of}
-use Rattle.sdd_invariants.specs.logs.Resting.{AtEach}
+use Rattle.sdd_invariants.specs.All.{AtEach, Call, Deliver, Down, Event, Given, Log, Lose, Redeclare, Repeat, Resend, Round, Settle, Submit, Tick, Up, all_links, calls_of, left, links, mark_from, mark_of, next, quiet, round}
 use Rattle.sdd_invariants.proofs.logs.Rounding.{each_of_round, no_events_quiet}
 use Rattle.sdd_termination.specs.Rounds.{IsOfRound}
 use Rattle.sdd_termination.proofs.Marked.{next_is_of_events}

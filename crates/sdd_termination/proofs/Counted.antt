@@ -1,11 +1,7 @@
 -- A lawful log has no more rounds than marks, and one.
 use Rattle.std.proofs.Common.{ℕ, suc, ◌+◌, ◌^◌, ◌<◌, ◌≤◌, List, [], ◌∷◌, length, ◌≡◌, refl, ap, None, arith}
 use Rattle.std.proofs.lemmas.Bool.{ltb-false}
-use Rattle.sdd_invariants.specs.base.declared.event.Event.{Event}
-use Rattle.sdd_invariants.specs.base.declared.limits.TheConstants.{MAX_RUN_EVENTS}
-use Rattle.sdd_invariants.specs.logs.Entries.{Does, Given, Hand, Log, Mark, Notes, Redeclares, Round, Submitted, marks}
-use Rattle.sdd_invariants.specs.logs.Lawful.{IsLawful, IsTheLog, IsWithin}
-use Rattle.sdd_invariants.specs.logs.Marks.{after_mark, left, mark_of}
+use Rattle.sdd_invariants.specs.All.{Does, Event, Given, Hand, IsLawful, IsTheLog, IsWithin, Log, MAX_RUN_EVENTS, Mark, Notes, Redeclares, Round, Submitted, after_mark, left, mark_of, marks}
 use Rattle.sdd_invariants.proofs.logs.Completing.{complete_parts}
 use Rattle.sdd_termination.specs.Rounds.{rounds}
 use Rattle.sdd_termination.proofs.Beginning.{round_begins}

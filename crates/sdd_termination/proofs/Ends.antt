@@ -1,11 +1,6 @@
 -- Every run ends: there is the log of what is given, or the limit ends it.
 use Rattle.std.proofs.Common.{ℕ, zero, suc, ◌<◌, ◌≤◌, ◌+◌, ◌≡◌, true, false, List, [], ◌∷◌, ◌++◌, Option, Some, None, refl, ap, inl, inr, arith}
-use Rattle.sdd_invariants.specs.base.declared.event.Event.{Event}
-use Rattle.sdd_invariants.specs.base.declared.event.Event.TheVariants.{Settle}
-use Rattle.sdd_invariants.specs.logs.Due.{next}
-use Rattle.sdd_invariants.specs.logs.Entries.{Entry, Given, Log, with_event}
-use Rattle.sdd_invariants.specs.logs.Lawful.{IsLawful, IsWithin, is_past}
-use Rattle.sdd_invariants.specs.logs.Permitted.{AreSubmittedOnce, submits_by, submits_in}
+use Rattle.sdd_invariants.specs.All.{AreSubmittedOnce, Entry, Event, Given, IsLawful, IsWithin, Log, Settle, is_past, next, submits_by, submits_in, with_event}
 use Rattle.sdd_invariants.proofs.logs.NewMarks.{lawful_permitted}
 use Rattle.sdd_termination.proofs.Settled.{quiet_at_last}
 use Rattle.sdd_termination.specs.Ends.{Ends, Settles}

@@ -2,20 +2,8 @@
 use Rattle.std.proofs.Common.{ℕ, suc, ◌+◌, ◌-◌, ◌*◌, ◌<◌, ◌≤◌, ◌≡◌, Bool, true, false, List, [], ◌∷◌, length, Option, Some, None, refl, sym, ap, subst, arith, slice_get}
 use Rattle.std.proofs.lemmas.Bool.{false≢true, ltb-false}
 use Rattle.std.proofs.lemmas.Option.{same_Some}
-use Rattle.sdd_invariants.specs.base.Sites.{sites}
-use Rattle.sdd_invariants.specs.base.declared.event.Event.{Event}
-use Rattle.sdd_invariants.specs.base.declared.event.Event.TheVariants.{Submit, Deliver, Lose, Repeat, Resend, Tick, Settle, Redeclare, Down, Up}
-use Rattle.sdd_invariants.specs.base.declared.limits.TheConstants.{MAX_RUN_EVENTS}
-use Rattle.sdd_invariants.specs.base.declared.site.Site.{Site}
-use Rattle.sdd_invariants.specs.site_module.SiteLog.{Act}
+use Rattle.sdd_invariants.specs.All.{Act, Deliver, Does, Down, Entry, Event, Given, Hand, IsPermitted, Log, Lose, MAX_RUN_EVENTS, Mark, Notes, Redeclare, Redeclares, Repeat, Resend, Round, Settle, Site, Submit, Submitted, Tick, Up, all_links, calls_of, does_at, due_by, hand_due, hand_on, is_past, left, mark_due, mark_from, mark_of, marks, next, next_at, note_if, quiet, round, site_due, sites}
 use Rattle.sdd_invariants.proofs.site_module.Finding.{found_at, one_of}
-use Rattle.sdd_invariants.specs.net.Links.{quiet, round}
-use Rattle.sdd_invariants.specs.logs.Due.{does_at, due_by, hand_due, hand_on, mark_due, next, next_at, note_if, site_due}
-use Rattle.sdd_invariants.specs.logs.Entries.{Does, Entry, Given, Hand, Log, Mark, Notes, Redeclares, Round, Submitted, marks}
-use Rattle.sdd_invariants.specs.logs.Lawful.{is_past}
-use Rattle.sdd_invariants.specs.logs.Marks.{left, mark_from, mark_of}
-use Rattle.sdd_invariants.specs.logs.Permitted.{IsPermitted}
-use Rattle.sdd_invariants.specs.logs.Traffic.{all_links, calls_of}
 use Rattle.sdd_termination.proofs.Beginning.{round_begins}
 use Rattle.sdd_termination.proofs.Marked.{is_of_events}
 use Rattle.sdd_termination.proofs.Sites.{act_hands, acts_left, does_falls, hand_falls, hands_left, is_hand_on}

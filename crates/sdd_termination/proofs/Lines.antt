@@ -1,18 +1,9 @@
 -- What the line of a class has left to do, once a site acts.
 use Rattle.std.proofs.Common.{ℕ, suc, ◌<◌, ◌≤◌, ◌==◌, ◌≡◌, true, false, not, if◌then◌else◌, List, [], ◌∷◌, length, filter, map, Option, Some, None, refl, sym, ap, subst, arith}
-use Rattle.sdd_invariants.specs.base.Words.{head_of, tail_of}
-use Rattle.sdd_invariants.specs.base.Clock.{Ticking, ticked, timestamp}
-use Rattle.sdd_invariants.specs.base.declared.site.Site.{Site}
+use Rattle.sdd_invariants.specs.All.{Act, Attempt, Bases, Did, IsServed, Msg, Queued, Sends, Setting, Site, Ticking, active, active_sent, after_send, asks_rows, commit_act, head_of, queue, send_due, sends_of_act, start_act, started, tail_of, ticked, timestamp, tried, work_of}
 use Rattle.sdd_invariants.specs.protocol.declared.entry.Entry as line
-use Rattle.sdd_invariants.specs.wire.declared.msg.Msg.{Msg}
-use Rattle.sdd_invariants.specs.site_module.SiteLog.{Act, Bases, Did, Log, Sends, Setting, sends_of_act}
-use Rattle.sdd_invariants.specs.attempt.Acts.{commit_act, start_act}
-use Rattle.sdd_invariants.specs.attempt.Attempts.{Attempt, active, active_sent, asks_rows, started}
-use Rattle.sdd_invariants.specs.attempt.Exchange.{after_send, send_due}
-use Rattle.sdd_invariants.specs.attempt.Queues.{Queued, queue, tried}
-use Rattle.sdd_invariants.specs.attempt.Starts.{work_of}
+use Rattle.sdd_invariants.specs.site_module.SiteLog.{Log}
 use Rattle.sdd_invariants.proofs.attempt.LineActs.{work_sent}
-use Rattle.sdd_invariants.specs.Steps.{IsServed}
 use Rattle.sdd_invariants.proofs.Bools.{same_number}
 use Rattle.sdd_termination.proofs.Sums.{filter_short}
 

@@ -3,18 +3,7 @@ use Rattle.std.proofs.Common.{ℕ, Bool, true, false, List, [], ◌∷◌, ◌�
 use Rattle.std.specs.Bool.{if◌then◌else◌}
 use Rattle.std.proofs.lemmas.Bool.{false≢true}
 use Rattle.std.proofs.lemmas.Option.{same_Some}
-use Rattle.sdd_invariants.specs.base.Words.{first_some, or_else}
-use Rattle.sdd_invariants.specs.base.Sites.{sites}
-use Rattle.sdd_invariants.specs.base.declared.event.Event.{Event}
-use Rattle.sdd_invariants.specs.base.declared.event.Event.TheVariants.{Submit, Deliver, Lose, Repeat, Resend, Tick, Settle, Redeclare, Down, Up}
-use Rattle.sdd_invariants.specs.base.declared.site.Site.{Site}
-use Rattle.sdd_invariants.specs.wire.declared.msg.Msg.{Msg}
-use Rattle.sdd_invariants.specs.site_module.SiteLog.{Act}
-use Rattle.sdd_invariants.specs.net.Links.{delivered}
-use Rattle.sdd_invariants.specs.logs.Due.{does_at, due_by, hand_due, hand_number, hand_on, hand_with, mark_due, next, next_at, next_number, note_if, site_due}
-use Rattle.sdd_invariants.specs.logs.Entries.{Does, Entry, Given, Hand, Log, Mark, Notes, Redeclares, Round, Submitted}
-use Rattle.sdd_invariants.specs.logs.Marks.{next_mark}
-use Rattle.sdd_invariants.specs.logs.Traffic.{all_links, handed, link_of, message_at, takes_part}
+use Rattle.sdd_invariants.specs.All.{Act, Deliver, Does, Down, Entry, Event, Given, Hand, Log, Lose, Mark, Msg, Notes, Redeclare, Redeclares, Repeat, Resend, Round, Settle, Site, Submit, Submitted, Tick, Up, all_links, delivered, does_at, due_by, first_some, hand_due, hand_number, hand_on, hand_with, handed, link_of, mark_due, message_at, next, next_at, next_mark, next_number, note_if, or_else, site_due, sites, takes_part}
 
 abbrev pub is_of_events : Entry → Bool
 is_of_events (Mark e) = true

@@ -1,14 +1,6 @@
 -- Where a settle has ended the links are quiet.
 use Rattle.std.proofs.Common.{ℕ, Bool, true, false, List, [], ◌∷◌, ◌++◌, ◌≡◌, refl, sym, ap, ◌∙◌, subst, Some, None}
-use Rattle.sdd_invariants.specs.base.Words.{tail_of}
-use Rattle.sdd_invariants.specs.base.declared.event.Event.{Event}
-use Rattle.sdd_invariants.specs.base.declared.event.Event.TheVariants.{Submit, Deliver, Lose, Repeat, Resend, Tick, Settle, Redeclare, Down, Up}
-use Rattle.sdd_invariants.specs.net.Links.{quiet, round}
-use Rattle.sdd_invariants.specs.logs.Due.{next}
-use Rattle.sdd_invariants.specs.logs.Entries.{Does, Entry, Given, Hand, Log, Mark, Notes, Redeclares, Round, Submitted, with_event}
-use Rattle.sdd_invariants.specs.logs.Lawful.{IsLawful}
-use Rattle.sdd_invariants.specs.logs.Marks.{after_mark, from_event, left, mark_from, mark_of}
-use Rattle.sdd_invariants.specs.logs.Traffic.{all_links, calls_of}
+use Rattle.sdd_invariants.specs.All.{Deliver, Does, Down, Entry, Event, Given, Hand, IsLawful, Log, Lose, Mark, Notes, Redeclare, Redeclares, Repeat, Resend, Round, Settle, Submit, Submitted, Tick, Up, after_mark, all_links, calls_of, from_event, left, mark_from, mark_of, next, quiet, round, tail_of, with_event}
 use Rattle.sdd_invariants.proofs.logs.Completing.{complete_parts}
 use Rattle.sdd_termination.proofs.Marked.{next_is_of_events}
 

@@ -1,13 +1,8 @@
 -- What all sites have left to do, and how many messages are left to be handed over.
 use Rattle.std.proofs.Common.{ℕ, suc, ◌-◌, ◌<◌, ◌≤◌, ◌≡◌, Bool, true, false, ◌&&◌, if◌then◌else◌, ◌∷◌, Option, Some, None, refl, sym, ap, ◌∙◌, subst, inl, inr, arith, slice_get}
 use Rattle.std.proofs.lemmas.Option.{same_Some}
-use Rattle.sdd_invariants.specs.base.Sites.{same_site, sites}
-use Rattle.sdd_invariants.specs.base.declared.site.Site.{Site}
-use Rattle.sdd_invariants.specs.base.declared.site.Site.TheVariants.{D, T, U}
-use Rattle.sdd_invariants.specs.wire.declared.msg.Msg.{Msg}
-use Rattle.sdd_invariants.specs.site_module.SiteLog.{Act, Did, Setting, sends_of_act}
+use Rattle.sdd_invariants.specs.All.{Act, D, Did, Does, Entry, Given, Hand, IsPermitted, Log, Msg, Setting, Site, T, U, all_links, base_of, calls_of, delivered, hand_number, hand_on, hand_with, handed, link_of, local_of, message_at, next_at, next_number, same_site, sends_of_act, setting_of, sites, takes_part}
 use Rattle.sdd_invariants.specs.site_module.SiteLog as site
-use Rattle.sdd_invariants.specs.net.Links.{delivered}
 use Rattle.sdd_invariants.proofs.net.Directions.{same_here, same_is}
 use Rattle.sdd_invariants.specs.dm.Views as dm_views
 use Rattle.sdd_invariants.specs.tm.Views as tm_views
@@ -15,12 +10,6 @@ use Rattle.sdd_invariants.specs.umod.Views as um_views
 use Rattle.sdd_invariants.proofs.dm.ViewSteps as dm
 use Rattle.sdd_invariants.proofs.tm.ViewSteps as tm
 use Rattle.sdd_invariants.proofs.umod.ViewSteps as um
-use Rattle.sdd_invariants.specs.logs.Due.{hand_number, hand_on, hand_with, next_at, next_number}
-use Rattle.sdd_invariants.specs.logs.Entries.{Does, Entry, Given, Hand, Log}
-use Rattle.sdd_invariants.specs.logs.Locals.{local_of, setting_of}
-use Rattle.sdd_invariants.specs.logs.Permitted.{IsPermitted}
-use Rattle.sdd_invariants.specs.logs.Snapshots.{base_of}
-use Rattle.sdd_invariants.specs.logs.Traffic.{all_links, calls_of, handed, link_of, message_at, takes_part}
 use Rattle.sdd_invariants.proofs.logs.Permitted.{number_is}
 use Rattle.sdd_invariants.proofs.logs.Handing.{delivered_puts}
 use Rattle.sdd_invariants.proofs.Bools.{and_left, and_right, true_or_false}

@@ -1,10 +1,6 @@
 -- That a run ends, and a settle.
 use Rattle.std.specs.Prelude.{◌≡◌, ◌⊎◌, true}
-use Rattle.sdd_invariants.specs.base.declared.event.Event.TheVariants.{Settle}
-use Rattle.sdd_invariants.specs.net.Links.{quiet}
-use Rattle.sdd_invariants.specs.logs.Entries.{Given, Log, with_event}
-use Rattle.sdd_invariants.specs.logs.Lawful.{EndsByLimit, IsTheLog}
-use Rattle.sdd_invariants.specs.logs.Traffic.{all_links, calls_of}
+use Rattle.sdd_invariants.specs.All.{EndsByLimit, Given, IsTheLog, Log, Settle, all_links, calls_of, quiet, with_event}
 
 -- there is the log of what is given, or the limit ends it
 abbrev pub Ends : Given → Type 0

@@ -1,9 +1,6 @@
 -- Rounds: how many a log has, and what their events are.
 use Rattle.std.specs.Prelude.{ℕ, suc, ◌≡◌, true, [], ◌∷◌}
-use Rattle.sdd_invariants.specs.base.declared.event.Event.{Event}
-use Rattle.sdd_invariants.specs.base.declared.event.Event.TheVariants.{Deliver, Resend}
-use Rattle.sdd_invariants.specs.net.Nets.{is_link}
-use Rattle.sdd_invariants.specs.logs.Entries.{Log, Round}
+use Rattle.sdd_invariants.specs.All.{Deliver, Event, Log, Resend, Round, is_link}
 
 abbrev pub rounds : Log → ℕ
 rounds [] = 0

@@ -1,5 +1,4 @@
-ghost use Rattle.sdd_invariants.specs.logs.Entries.{Given};
-ghost use Rattle.sdd_invariants.specs.logs.Permitted.{AreSubmittedOnce};
+ghost use Rattle.sdd_invariants.specs.All.{AreSubmittedOnce, Given};
 ghost use Rattle.sdd_termination.specs.Ends.{Ends, Settles};
 
 /// A law: a run ends. There is the lawful log of what is given, complete and within the limits, or

@@ -1,17 +1,5 @@
 ghost use Rattle.std.specs.Prelude.{◌≡◌, ◌<◌, ◌≤◌, ◌^◌, ◌∷◌, ℕ, suc, true, false, List, [], length, None, Some};
-ghost use Rattle.sdd_invariants.specs.base.Sites.{links};
-ghost use Rattle.sdd_invariants.specs.base.declared.event.Event.{Event};
-ghost use Rattle.sdd_invariants.specs.base.declared.event.Event.TheVariants.{Settle};
-ghost use Rattle.sdd_invariants.specs.base.declared.site.Site.{Site};
-ghost use Rattle.sdd_invariants.specs.wire.declared.msg.Msg.{Msg};
-ghost use Rattle.sdd_invariants.specs.net.Links.{Call, quiet, round};
-ghost use Rattle.sdd_invariants.specs.net.Nets.{is_link};
-ghost use Rattle.sdd_invariants.specs.logs.Due.{next};
-ghost use Rattle.sdd_invariants.specs.logs.Entries.{Given, Log, Mark, Round, marks, with_event};
-ghost use Rattle.sdd_invariants.specs.logs.Lawful.{IsLawful, IsTheLog, IsWithin};
-ghost use Rattle.sdd_invariants.specs.logs.Marks.{left};
-ghost use Rattle.sdd_invariants.specs.logs.Traffic.{all_links, calls_of};
-ghost use Rattle.sdd_invariants.specs.logs.Resting.{AtEach};
+ghost use Rattle.sdd_invariants.specs.All.{AtEach, Call, Event, Given, IsLawful, IsTheLog, IsWithin, Log, Mark, Msg, Round, Settle, Site, all_links, calls_of, is_link, left, links, marks, next, quiet, round, with_event};
 ghost use Rattle.sdd_termination.specs.Rounds.{IsOfRound, rounds};
 
 /// A law: where the links of a network aren't quiet a round has an event, and each of its events is

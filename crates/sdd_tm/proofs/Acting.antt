@@ -3,29 +3,13 @@ use Rattle.std.proofs.Common.{ℕ, suc, ◌+◌, ◌<◌, ◌≤◌, ◌^◌, �
 use Rattle.std.specs.Prelude.{slice_get, slice_set, option_map}
 use Rattle.std.specs.List.{AllByRecursion, filter, list_any, find}
 use Rattle.std.proofs.lemmas.Bool.{false≢true}
-use Rattle.sdd_attempt.specs.base.Words.{head_of, is_empty}
-use Rattle.sdd_attempt.specs.base.Numbers.{dm_no, class_no, time_at}
-use Rattle.sdd_attempt.specs.base.Clock.{Ticking, ticked, timestamp}
-use Rattle.sdd_attempt.specs.base.declared.site.Site.TheVariants.{D}
+use Rattle.sdd_attempt.specs.All.{Act, AllUpTo, Attempt, Bases, D, Did, IsLineOf, IsOfHead, IsServed, IsWaiting, Log, Msg, Notes, Null, Queued, Sends, Setting, Ticking, active, active_after, begins, class_no, clock, commit_act, commit_next, dm_no, handed, hands, head_of, in_force, is_empty, line_after, line_step, noted, queue, queue_after, send_due, send_next, sends_of_act, sent, start_act, start_next, started, starts_left, submits, ticked, ticked_by, time_at, timestamp, tried, with_act}
 use Rattle.sdd_attempt.specs.protocol.declared.entry.Entry as line
-use Rattle.sdd_attempt.specs.wire.declared.msg.Msg.{Msg}
-use Rattle.sdd_attempt.specs.wire.declared.msg.Msg.TheVariants.{Null}
-use Rattle.sdd_attempt.specs.site_module.SiteLog.{Setting, Bases, Log, Did, Act, Sends, in_force, hands, submits, sends_of_act}
-use Rattle.sdd_attempt.specs.site_module.Notes.{Notes, with_act, noted}
-use Rattle.sdd_attempt.specs.Clocks.{clock, ticked_by}
-use Rattle.sdd_attempt.specs.Queues.{Queued, queue, queue_after, tried}
-use Rattle.sdd_attempt.specs.Exchange.{begins, send_due}
-use Rattle.sdd_attempt.specs.Attempts.{Attempt, active, active_after, started}
-use Rattle.sdd_attempt.specs.Acts.{start_act, commit_act}
-use Rattle.sdd_attempt.specs.Lines.{line_after, send_next, commit_next, start_next, line_step}
 use Rattle.sdd_attempt.specs.declared.step.LineStep.TheVariants.{Sends as ToSend, Commits as ToCommit}
-use Rattle.sdd_attempt.specs.Fits.{sent, handed}
-use Rattle.sdd_attempt.specs.Sound.{IsWaiting, IsOfHead, IsLineOf, AllUpTo, IsServed}
 use Rattle.sdd_attempt.proofs.Asking.{NoReads}
 use Rattle.sdd_attempt.proofs.Stamps.{stamped_did}
 use Rattle.sdd_attempt.proofs.SoundLines.{IsApart, IsRequest, request_of, asks_apart, active_apart, line_apart, line_elsewhere, line_sent, line_committed, line_started, commit_no_reads, start_no_reads, start_is_up}
 use Rattle.sdd_attempt.proofs.LineActs.{all_up_of, asking_of, no_read_asked, own_record, record_in, served_sent, starts_committed, starts_sent, starts_started}
-use Rattle.sdd_attempt.specs.Starts.{starts_left}
 use Rattle.sdd_tm.specs.declared.step.Step.{Step}
 use Rattle.sdd_tm.specs.declared.step.Step.TheVariants.{Send, Commit, Answer, Start}
 use Rattle.sdd_tm.specs.Views.{asks, holds, holds_acted, class_view, view_of, runs, on_hold}

@@ -2,18 +2,7 @@
 use Rattle.std.proofs.Common.{ℕ, ◌≡◌, ◌≢◌, true, false, not, List, [], ◌∷◌, map, refl, ap, sym, ◌∙◌, Option, Some, None}
 use Rattle.std.specs.Prelude.{slice_get, slice_set}
 use Rattle.std.specs.List.{filter}
-use Rattle.sdd_attempt.specs.base.Numbers.{dm_no, class_no, time_at}
-use Rattle.sdd_attempt.specs.base.Clock.{Ticking}
-use Rattle.sdd_attempt.specs.base.declared.site.Site.{Site}
-use Rattle.sdd_attempt.specs.base.declared.site.Site.TheVariants.{D}
-use Rattle.sdd_attempt.specs.history.declared.record.Rec.{Rec}
-use Rattle.sdd_attempt.specs.wire.declared.msg.Msg.{Msg}
-use Rattle.sdd_attempt.specs.wire.declared.msg.Msg.TheVariants.{Null, Held}
-use Rattle.sdd_attempt.specs.site_module.SiteLog.{Setting, Log, Did, Act, Records, Sends}
-use Rattle.sdd_attempt.specs.Clocks.{clock, ticked_by}
-use Rattle.sdd_attempt.specs.Queues.{Queued, queue, queue_after}
-use Rattle.sdd_attempt.specs.Attempts.{Attempt, active, active_after, active_sent, asks_rows}
-use Rattle.sdd_attempt.specs.Lines.{line_after}
+use Rattle.sdd_attempt.specs.All.{Act, Attempt, D, Did, Held, Log, Msg, Null, Queued, Rec, Records, Sends, Setting, Site, Ticking, active, active_after, active_sent, asks_rows, class_no, clock, dm_no, line_after, queue, queue_after, ticked_by, time_at}
 use Rattle.sdd_attempt.proofs.SoundLines.{IsApart, IsRequest, asks_apart, sent_apart, queue_apart, active_apart}
 use Rattle.sdd_tm.specs.declared.asked.Asked.{Asked}
 use Rattle.sdd_tm.specs.Views.{Question, HoldCounts, asks, asks_acted, holds, holds_acted, class_view, view_of, runs}

@@ -1,29 +1,12 @@
 -- What a call of a transaction module does, of every log for which the module stands.
 use Rattle.std.proofs.Common.{ℕ, zero, suc, ◌<◌, ◌^◌, ◌≡◌, false, List, [], ◌∷◌, map, length, refl, ap, sym, ◌∙◌, subst, arith, Some, None}
 use Rattle.std.specs.Prelude.{slice_get, IsTrue}
-use Rattle.sdd_attempt.specs.base.Kept.{Kept}
-use Rattle.sdd_attempt.specs.base.Clock.{at_zero, bound_of, pushed, ticked}
-use Rattle.sdd_attempt.specs.base.declared.number.RelNo.{RelNo}
-use Rattle.sdd_attempt.specs.base.declared.number.TmNo.{TmNo}
-use Rattle.sdd_attempt.specs.base.declared.number.TxnNo.{TxnNo}
-use Rattle.sdd_attempt.specs.base.declared.site.Site.{Site}
-use Rattle.sdd_attempt.specs.base.declared.site.Site.TheVariants.{T}
-use Rattle.sdd_attempt.specs.catalog.Catalogue.{Catalogue}
+use Rattle.sdd_attempt.specs.All.{Bases, Catalogue, Does, Entry, Force, Handed, IsLineOf, IsWhole, Kept, Log, Msg, Notes, Rec, Redeclared, RelNo, Row, Setting, Site, Submits, T, Ticked, TmNo, Txn, TxnNo, at_zero, bound_of, class_for, clock, in_force, noted, nothing_noted, pushed, records_of, ticked}
 use Rattle.sdd_attempt.specs.catalog.Rules as catalogues
-use Rattle.sdd_attempt.specs.catalog.Numbers.{IsWhole}
-use Rattle.sdd_attempt.specs.lang.declared.transaction.Txn.{Txn}
-use Rattle.sdd_attempt.specs.lang.Classes.{class_for}
-use Rattle.sdd_attempt.specs.lang.Database.{Row}
-use Rattle.sdd_attempt.specs.history.declared.record.Rec.{Rec}
 use Rattle.sdd_attempt.specs.history.declared.record.Rec.TheVariants.{Submit}
-use Rattle.sdd_attempt.specs.wire.declared.msg.Msg.{Msg}
-use Rattle.sdd_attempt.specs.site_module.SiteLog.{Setting, Bases, Force, Log, Entry, Handed, Submits, Ticked, Redeclared, Does, in_force, records_of}
-use Rattle.sdd_attempt.specs.site_module.Notes.{Notes, nothing_noted, noted}
 use Rattle.sdd_attempt.proofs.site_module.Does.{DoesMore, does_from, all_noted}
-use Rattle.sdd_attempt.specs.Sound.{IsLineOf}
 use Rattle.sdd_attempt.proofs.Stamps.{stamped_still}
 use Rattle.sdd_attempt.proofs.SoundLines.{line_redeclared, line_ticked}
-use Rattle.sdd_attempt.specs.Clocks.{clock}
 use Rattle.sdd_eras.specs.EraOf.{IsEraOf}
 use Rattle.sdd_tm.specs.Views.{runs}
 use Rattle.sdd_tm.specs.Due.{next}

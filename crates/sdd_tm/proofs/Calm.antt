@@ -1,7 +1,7 @@
 -- The classes are gone through by one place that only goes on: what a class does disturbs no other, and leaves less to do.
 use Rattle.std.proofs.Common.{ℕ, ◌+◌, ◌<◌, ◌≤◌, ◌≡◌, subst, arith, Some, None}
 use Rattle.std.specs.Prelude.{slice_get}
-use Rattle.sdd_attempt.specs.site_module.SiteLog.{Bases}
+use Rattle.sdd_attempt.specs.All.{Bases}
 use Rattle.sdd_tm.specs.declared.step.Step.{Step}
 use Rattle.sdd_tm.specs.State.{ClassState, State}
 use Rattle.sdd_tm.specs.Steps.{own_step, start_step, class_step, class_done, state_done}

@@ -2,9 +2,7 @@
 use Rattle.std.proofs.Common.{ℕ, zero, suc, ◌+◌, ◌<◌, ◌≤◌, ◌≡◌, ◌≢◌, ◌==◌, Bool, true, false, cond, List, [], ◌∷◌, length, refl, ap, arith, Some}
 use Rattle.std.specs.Prelude.{slice_get}
 use Rattle.std.specs.List.{filter, range_with_len}
-use Rattle.sdd_attempt.specs.base.Sites.{number_of}
-use Rattle.sdd_attempt.specs.catalog.Catalogue.{class_at, numbers_to}
-use Rattle.sdd_attempt.specs.site_module.SiteLog.{Setting}
+use Rattle.sdd_attempt.specs.All.{Setting, class_at, number_of, numbers_to}
 use Rattle.sdd_tm.specs.Views.{runs}
 use Rattle.sdd_tm.proofs.Lists.{some_is}
 

@@ -4,7 +4,7 @@ use Rattle.std.specs.Prelude.{slice_get, slice_set}
 use Rattle.std.specs.List.{position_from}
 use Rattle.std.proofs.lemmas.Bool.{eqb-true, eqb-false}
 use Rattle.std.proofs.lemmas.Iterator.Adapters.{position_from-zero}
-use Rattle.sdd_attempt.specs.site_module.SiteLog.{Setting, Log}
+use Rattle.sdd_attempt.specs.All.{Log, Setting}
 use Rattle.sdd_tm.specs.Views.{runs}
 use Rattle.sdd_tm.specs.State.{ClassState, class_of, state_of}
 use Rattle.sdd_tm.specs.Handing.{place_of}

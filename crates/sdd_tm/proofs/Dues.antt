@@ -2,13 +2,7 @@
 use Rattle.std.proofs.Common.{ℕ, ◌≡◌, ◌≢◌, Bool, true, false, not, ◌&&◌, List, [], ◌∷◌, refl, ◌∙◌, subst, Option, Some, None, is_none}
 use Rattle.std.specs.Prelude.{slice_get, if◌then◌else◌}
 use Rattle.std.specs.List.{list_any}
-use Rattle.sdd_attempt.specs.base.Words.{or_else, first_some, head_of, is_empty}
-use Rattle.sdd_attempt.specs.catalog.Catalogue.{Catalogue}
-use Rattle.sdd_attempt.specs.site_module.SiteLog.{Setting, Bases, Log, Act}
-use Rattle.sdd_attempt.specs.Queues.{Queued, queue}
-use Rattle.sdd_attempt.specs.Attempts.{Attempt, active}
-use Rattle.sdd_attempt.specs.Acts.{attempt_due}
-use Rattle.sdd_attempt.specs.Lines.{line_step}
+use Rattle.sdd_attempt.specs.All.{Act, Attempt, Bases, Catalogue, Log, Queued, Setting, active, attempt_due, first_some, head_of, is_empty, line_step, or_else, queue}
 use Rattle.sdd_attempt.specs.declared.step.LineStep.{LineStep}
 use Rattle.sdd_attempt.specs.declared.step.LineStep.TheVariants.{Sends as ToSend, Commits as ToCommit}
 use Rattle.sdd_tm.specs.declared.step.Step.{Step}

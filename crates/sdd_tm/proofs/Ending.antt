@@ -1,8 +1,7 @@
 -- A call makes the acts that the log has next, until none is due.
 use Rattle.std.proofs.Common.{ℕ, ◌≡◌, false, ◌∷◌, refl, sym, ◌∙◌, subst, Option, Some, None}
 use Rattle.std.specs.Prelude.{slice_get}
-use Rattle.sdd_attempt.specs.site_module.SiteLog.{Setting, Bases, Log, Did, Act}
-use Rattle.sdd_attempt.specs.site_module.Notes.{Notes, with_act, noted}
+use Rattle.sdd_attempt.specs.All.{Act, Bases, Did, Log, Notes, Setting, noted, with_act}
 use Rattle.sdd_attempt.proofs.site_module.Making.{made_nothing, made_more}
 use Rattle.sdd_tm.specs.Due.{next}
 use Rattle.sdd_tm.specs.State.{ClassState, State}

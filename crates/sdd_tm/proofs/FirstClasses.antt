@@ -3,7 +3,7 @@ use Rattle.std.proofs.Common.{ℕ, zero, suc, ◌+◌, ◌-◌, ◌≤◌, ◌�
 use Rattle.std.specs.List.{filter, range_with_len}
 use Rattle.std.proofs.lemmas.List.{map-append}
 use Rattle.std.proofs.lemmas.List.Elements.{filter-append}
-use Rattle.sdd_attempt.specs.catalog.Catalogue.{Catalogue, class_at, numbers_to}
+use Rattle.sdd_attempt.specs.All.{Catalogue, class_at, numbers_to}
 use Rattle.sdd_tm.specs.State.{ClassState}
 use Rattle.sdd_tm.specs.Works.{first_class}
 

@@ -4,15 +4,9 @@ use Rattle.std.specs.Prelude.{unwrap_or, if◌then◌else◌}
 use Rattle.std.specs.List.{filter, list_all}
 use Rattle.std.proofs.lemmas.Bool.{and_parts, ne_eqb, eqb-true}
 use Rattle.std.proofs.lemmas.Bool.Decides.{nat_tests}
-use Rattle.sdd_attempt.specs.base.Words.{ascending, head_of}
-use Rattle.sdd_attempt.specs.catalog.Catalogue.{Catalogue, reads_at, writes, class_at, numbers_to}
-use Rattle.sdd_attempt.specs.lang.declared.transaction.Txn.{Txn}
-use Rattle.sdd_attempt.specs.lang.Classes.{read_set, write_set, covers, class_for, fragments_in}
+use Rattle.sdd_attempt.specs.All.{Bases, Catalogue, Log, Setting, Submits, Txn, active, ascending, class_at, class_for, covers, fragments_in, head_of, in_force, is_for, numbers_to, queue, read_set, reads_at, write_set, writes}
 use Rattle.sdd_eras.proofs.EraSets.{read_in_era, uses_in_era}
 use Rattle.sdd_eras.proofs.EraSets as eras
-use Rattle.sdd_attempt.specs.site_module.SiteLog.{Setting, Bases, Log, Submits, in_force}
-use Rattle.sdd_attempt.specs.Queues.{is_for, queue}
-use Rattle.sdd_attempt.specs.Attempts.{active}
 use Rattle.sdd_attempt.proofs.Stamps.{stamped_still}
 use Rattle.sdd_attempt.proofs.SoundLines.{line_submitted}
 use Rattle.sdd_attempt.proofs.LineActs.{resting}

@@ -3,21 +3,7 @@ use Rattle.std.proofs.Common.{ℕ, zero, suc, ◌+◌, ◌<◌, ◌≤◌, ◌^�
 use Rattle.std.specs.Prelude.{slice_get, nat_lt, if◌then◌else◌}
 use Rattle.std.specs.List.{filter, range_with_len}
 use Rattle.std.proofs.lemmas.Bool.{and_right, ne_eqb, lt-ltb, le-ltb, ltb-true, ltb-false}
-use Rattle.sdd_attempt.specs.base.Sites.{number_of}
-use Rattle.sdd_attempt.specs.base.declared.limits.TheConstants.{MAX_CLASSES}
-use Rattle.sdd_attempt.specs.base.declared.number.ClassNo.{ClassNo}
-use Rattle.sdd_attempt.specs.base.declared.site.Site.{Site}
-use Rattle.sdd_attempt.specs.base.declared.site.Site.TheVariants.{U, T, D}
-use Rattle.sdd_attempt.specs.catalog.Catalogue.{class_at, numbers_to}
-use Rattle.sdd_attempt.specs.wire.declared.msg.Msg.{Msg}
-use Rattle.sdd_attempt.specs.wire.declared.msg.Msg.TheVariants.{Ready, Reject, Values, Reduced, Rows, Ask, Hold, Held, Release}
-use Rattle.sdd_attempt.specs.site_module.SiteLog.{Setting, Bases, Log, Handed, hands}
-use Rattle.sdd_attempt.specs.Clocks.{clock, pushed_by}
-use Rattle.sdd_attempt.specs.Exchange.{Phase, Exchange, after_hand}
-use Rattle.sdd_attempt.specs.Attempts.{Attempt, active, active_handed, rejects}
-use Rattle.sdd_attempt.specs.Fits.{AwaitsAt, fetches_use}
-use Rattle.sdd_attempt.specs.Lines.{IsAwaited, line_step}
-use Rattle.sdd_attempt.specs.Sound.{FitsAnswer}
+use Rattle.sdd_attempt.specs.All.{Ask, Attempt, AwaitsAt, Bases, ClassNo, D, Exchange, FitsAnswer, Handed, Held, Hold, IsAwaited, Log, MAX_CLASSES, Msg, Phase, Ready, Reduced, Reject, Release, Rows, Setting, Site, T, U, Values, active, active_handed, after_hand, class_at, clock, fetches_use, hands, line_step, number_of, numbers_to, pushed_by, rejects}
 use Rattle.sdd_attempt.proofs.Stamps.{stamped_still}
 use Rattle.sdd_attempt.proofs.Served.{served_handed}
 use Rattle.sdd_attempt.proofs.SoundLines.{line_handed}

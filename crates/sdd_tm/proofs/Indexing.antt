@@ -1,13 +1,8 @@
 -- A class that was lent by its place.
 use Rattle.std.proofs.Common.{ℕ, zero, suc, ◌≡◌, Bool, List, [], ◌∷◌, ◌∙◌, subst, Some}
 use Rattle.std.specs.Prelude.{slice_get, slice_index_or, OnOk, Result, Ok, Err}
-use Rattle.sdd_attempt.specs.base.Clock.{Ticking}
-use Rattle.sdd_attempt.specs.catalog.Catalogue.{Catalogue}
+use Rattle.sdd_attempt.specs.All.{Bases, Catalogue, IsDatabase, Notes, ServesAt, Ticking, noted}
 use Rattle.sdd_attempt.specs.protocol.declared.entry.Entry as line
-use Rattle.sdd_attempt.specs.lang.Sound.{IsDatabase}
-use Rattle.sdd_attempt.specs.site_module.SiteLog.{Bases}
-use Rattle.sdd_attempt.specs.site_module.Notes.{Notes, noted}
-use Rattle.sdd_attempt.specs.Lines.{ServesAt}
 use Rattle.sdd_tm.specs.declared.step.Step.{Step}
 use Rattle.sdd_tm.specs.declared.step.Step.TheVariants.{Commit}
 use Rattle.sdd_tm.specs.State.{ClassState, State}

@@ -1,7 +1,7 @@
 -- Lists: the first member of which something is made, and a member that changes alone.
 use Rattle.std.proofs.Common.{ℕ, zero, suc, ◌<◌, ◌≡◌, ◌≢◌, List, [], ◌∷◌, map, length, refl, ap, ◌∙◌, arith, Option, Some, None}
 use Rattle.std.specs.Prelude.{slice_get, slice_set}
-use Rattle.sdd_attempt.specs.base.Words.{or_else, first_some}
+use Rattle.sdd_attempt.specs.All.{first_some, or_else}
 
 pub some_is : {A : Type 0} {x y : A} → Some x ≡ Some y → x ≡ y
 some_is e = cc

@@ -3,40 +3,12 @@ use Rattle.std.proofs.Common.{ℕ, ◌+◌, ◌≤◌, ◌≡◌, ◌==◌, inl,
 use Rattle.std.specs.List.{AllByRecursion, cons_option, list_all, filter_map}
 use Rattle.std.proofs.lemmas.List.Elements.{recursion_from_All}
 use Rattle.std.proofs.lemmas.Bool.{and_parts, ne_eqb, cond-false, false≢true}
-use Rattle.sdd_attempt.specs.base.Words.{ascending, contains}
-use Rattle.sdd_attempt.specs.base.declared.number.FragNo.{FragNo}
-use Rattle.sdd_attempt.specs.base.declared.number.RelNo.{RelNo}
-use Rattle.sdd_attempt.specs.base.declared.site.Site.{Site}
-use Rattle.sdd_attempt.specs.base.declared.usage.Use.{Use}
-use Rattle.sdd_attempt.specs.catalog.Catalogue.{Catalogue, reads_at, numbers_to, fragment_of}
-use Rattle.sdd_attempt.specs.catalog.Rules.{IsSound}
-use Rattle.sdd_attempt.specs.lang.declared.condition.Condition.{Condition}
-use Rattle.sdd_attempt.specs.lang.declared.statement.Stmt.{Stmt}
-use Rattle.sdd_attempt.specs.lang.declared.statement.Stmt.TheVariants.{Put, Query, Update, Delete}
-use Rattle.sdd_attempt.specs.lang.declared.transaction.Txn.{Txn}
-use Rattle.sdd_attempt.specs.lang.Classes.{fragments_in, read_set}
-use Rattle.sdd_attempt.specs.lang.Condition.{Tuple, part_of}
-use Rattle.sdd_attempt.specs.lang.Database.{Item, Row, Database, rows_of}
-use Rattle.sdd_attempt.specs.lang.Fits.{Fits, FitsStatement, FitsCondition, IsRelation, rel_of}
-use Rattle.sdd_attempt.specs.lang.Query.{product}
-use Rattle.sdd_attempt.specs.lang.Sound.{IsDatabase, IsEntry}
-use Rattle.sdd_attempt.specs.lang.Source.{uses_in}
-use Rattle.sdd_attempt.specs.lang.Uses.{restrictions_of, fragments_for, statement_uses, uses_from, uses_of}
+use Rattle.sdd_attempt.specs.All.{AreEnough, AreEnoughAlong, Bases, Catalogue, Condition, Database, Delete, Fits, FitsCondition, FitsStatement, FragNo, Has, IsDatabase, IsEntry, IsRelation, IsServed, IsSound, IsWaiting, Item, Msg, Put, Query, Queued, RelNo, Row, Serves, Site, Stmt, Ticking, Tuple, Txn, Update, Use, ascending, contains, first_phase, fragment_of, fragments_for, fragments_in, is_over, module_read, modules_of, numbers_to, part_of, product, read_set, reads_at, rel_of, restrictions_of, rows_of, sends_of_act, start_act, started, statement_uses, ticked, timestamp, uses_from, uses_in, uses_of}
 use Rattle.sdd_attempt.proofs.lang.Pushdown.{meets_restrictions, parts_meet}
 use Rattle.sdd_attempt.proofs.lang.ReadSetDecides.{lies_in_use, ascending_back}
 use Rattle.sdd_attempt.proofs.lang.Sources.{length-statement_uses}
-use Rattle.sdd_attempt.specs.exec.Choices.{Has}
-use Rattle.sdd_attempt.specs.exec.Serves.{AreEnough, AreEnoughAlong, Serves}
 use Rattle.sdd_attempt.proofs.exec.Members.{Has-map_from, Has-flat_map_from, Has-filter_map_from}
 use Rattle.sdd_attempt.specs.protocol.declared.entry.Entry as line
-use Rattle.sdd_attempt.specs.wire.declared.msg.Msg.{Msg}
-use Rattle.sdd_attempt.specs.base.Clock.{Ticking, ticked, timestamp}
-use Rattle.sdd_attempt.specs.site_module.SiteLog.{Bases, sends_of_act}
-use Rattle.sdd_attempt.specs.Queues.{Queued}
-use Rattle.sdd_attempt.specs.Exchange.{first_phase, module_read, is_over}
-use Rattle.sdd_attempt.specs.Attempts.{started}
-use Rattle.sdd_attempt.specs.Acts.{modules_of, start_act}
-use Rattle.sdd_attempt.specs.Sound.{IsWaiting, IsServed}
 use Rattle.sdd_attempt.proofs.SoundLines.{start_modules}
 
 -- no row of the database

@@ -3,14 +3,7 @@ use Rattle.std.proofs.Common.{ℕ, suc, ◌<◌, ◌≤◌, ◌≡◌, ◌≢◌
 use Rattle.std.specs.Prelude.{if◌then◌else◌}
 use Rattle.std.specs.List.{AllByRecursion, filter, list_any, find}
 use Rattle.std.proofs.lemmas.Bool.{or_parts, eq-eqb, eqb-true, ne_eqb, false≢true}
-use Rattle.sdd_attempt.specs.base.Words.{or_else, first_some}
-use Rattle.sdd_attempt.specs.base.Numbers.{class_no, time_at}
-use Rattle.sdd_attempt.specs.base.Clock.{bound_of}
-use Rattle.sdd_attempt.specs.base.declared.site.Site.{Site}
-use Rattle.sdd_attempt.specs.wire.declared.msg.Msg.{Msg}
-use Rattle.sdd_attempt.specs.wire.declared.msg.Msg.TheVariants.{Null, Ask, Hold, Held}
-use Rattle.sdd_attempt.specs.site_module.SiteLog.{Log, Handed, Did, Act, Records, Sends, hands, answers_hand}
-use Rattle.sdd_attempt.specs.Attempts.{Attempt}
+use Rattle.sdd_attempt.specs.All.{Act, Ask, Attempt, Did, Handed, Held, Hold, Log, Msg, Null, Records, Sends, Site, answers_hand, bound_of, class_no, first_some, hands, or_else, time_at}
 use Rattle.sdd_tm.specs.Views.{Question, ClassView, View, HoldCounts, asks, holds, holds_acted}
 use Rattle.sdd_tm.specs.Due.{null_time, null_at, null_to}
 use Rattle.sdd_tm.specs.State.{asked, asks_of}

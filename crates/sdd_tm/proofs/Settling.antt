@@ -1,13 +1,8 @@
 -- The loop over the classes of a module: what each step asks for, and what it leaves.
 use Rattle.std.proofs.Common.{ℕ, zero, suc, ◌+◌, ◌<◌, ◌≤◌, ◌≡◌, Bool, List, [], ◌∷◌, length, refl, ap, sym, ◌∙◌, subst, arith, Option, Some, None}
 use Rattle.std.specs.Prelude.{slice_get, slice_set}
-use Rattle.sdd_attempt.specs.lang.Sound.{IsDatabase}
-use Rattle.sdd_attempt.specs.site_module.SiteLog.{Setting, Bases, Log}
-use Rattle.sdd_attempt.specs.site_module.Notes.{Notes, noted}
-use Rattle.sdd_attempt.specs.Clocks.{clock}
-use Rattle.sdd_attempt.specs.Lines.{AreTried, ServesAt, line_step}
+use Rattle.sdd_attempt.specs.All.{AreTried, Bases, IsDatabase, IsServed, Log, Notes, ServesAt, Setting, clock, line_step, noted}
 use Rattle.sdd_attempt.specs.declared.step.LineStep.TheVariants.{Commits as ToCommit}
-use Rattle.sdd_attempt.specs.Sound.{IsServed}
 use Rattle.sdd_attempt.proofs.Tries.{tries_told}
 use Rattle.sdd_attempt.proofs.LineActs.{served_of}
 use Rattle.sdd_tm.specs.declared.step.Step.{Step}

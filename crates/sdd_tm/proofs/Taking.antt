@@ -3,17 +3,8 @@ use Rattle.std.proofs.Common.{ℕ, ◌/◌, ◌<◌, ◌^◌, ◌≡◌, ◌≢�
 use Rattle.std.specs.Prelude.{slice_get, slice_set, slice_index_or}
 use Rattle.std.proofs.lemmas.List.{length-map}
 use Rattle.std.proofs.lemmas.Bool.{eq-eqb}
-use Rattle.sdd_attempt.specs.base.Words.{contains}
-use Rattle.sdd_attempt.specs.base.declared.number.ClassNo.{ClassNo}
-use Rattle.sdd_attempt.specs.base.declared.site.Site.{Site}
-use Rattle.sdd_attempt.specs.lang.declared.transaction.Txn.{Txn}
-use Rattle.sdd_attempt.specs.lang.Fits.{Fits}
-use Rattle.sdd_attempt.specs.wire.declared.msg.Msg.{Msg}
-use Rattle.sdd_attempt.specs.wire.declared.msg.Msg.TheVariants.{Ask, Reject, Release, Held}
+use Rattle.sdd_attempt.specs.All.{Ask, Bases, ClassNo, Fits, Held, IsAwaited, Log, Msg, Queued, Reject, Release, Setting, Site, Txn, contains, in_force}
 use Rattle.sdd_eras.proofs.EraFits.{fits_in_era}
-use Rattle.sdd_attempt.specs.site_module.SiteLog.{Setting, Bases, Log, in_force}
-use Rattle.sdd_attempt.specs.Queues.{Queued}
-use Rattle.sdd_attempt.specs.Lines.{IsAwaited}
 use Rattle.sdd_attempt.proofs.LineActs.{new_in_queue}
 use Rattle.sdd_tm.specs.Views.{runs}
 use Rattle.sdd_tm.specs.Fits.{fits_kind, FitsSubmit}

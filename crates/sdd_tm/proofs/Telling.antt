@@ -3,16 +3,7 @@ use Rattle.std.proofs.Common.{ℕ, suc, ◌<◌, ◌≡◌, ◌≢◌, ◌==◌,
 use Rattle.std.specs.Prelude.{nat_lt, if◌then◌else◌}
 use Rattle.std.specs.List.{AllByRecursion, list_all}
 use Rattle.std.proofs.lemmas.Bool.{and_parts, ne_eqb, ltb-true, le-ltb}
-use Rattle.sdd_attempt.specs.base.Numbers.{time_at}
-use Rattle.sdd_attempt.specs.base.Clock.{Ticking, bound_of}
-use Rattle.sdd_attempt.specs.base.declared.site.Site.TheVariants.{U}
-use Rattle.sdd_attempt.specs.wire.declared.msg.Msg.{Msg}
-use Rattle.sdd_attempt.specs.wire.declared.msg.Msg.TheVariants.{Held}
-use Rattle.sdd_attempt.specs.site_module.SiteLog.{Setting, Bases, Log, Did, Act, Sends}
-use Rattle.sdd_attempt.specs.site_module.Notes.{Notes, with_act, noted}
-use Rattle.sdd_attempt.specs.Clocks.{clock}
-use Rattle.sdd_attempt.specs.Queues.{queue}
-use Rattle.sdd_attempt.specs.Attempts.{active}
+use Rattle.sdd_attempt.specs.All.{Act, Bases, Did, Held, Log, Msg, Notes, Sends, Setting, Ticking, U, active, bound_of, clock, noted, queue, time_at, with_act}
 use Rattle.sdd_attempt.proofs.Stamps.{stamped_did}
 use Rattle.sdd_attempt.proofs.SoundLines.{IsApart, sent_apart, line_apart}
 use Rattle.sdd_attempt.proofs.LineActs.{served_sent}

@@ -2,11 +2,7 @@
 use Rattle.std.proofs.Common.{ℕ, ◌+◌, ◌≤◌, ◌≡◌, ◌≢◌, Bool, List, map, length, refl, ap, sym, ◌∙◌, subst, arith, Option, Some, None}
 use Rattle.std.specs.Prelude.{slice_get}
 use Rattle.std.proofs.lemmas.Bool.{ne_eqb}
-use Rattle.sdd_attempt.specs.base.declared.number.ClassNo.{ClassNo}
-use Rattle.sdd_attempt.specs.base.declared.site.Site.{Site}
-use Rattle.sdd_attempt.specs.lang.declared.transaction.Txn.{Txn}
-use Rattle.sdd_attempt.specs.wire.declared.msg.Msg.{Msg}
-use Rattle.sdd_attempt.specs.wire.declared.msg.Msg.TheVariants.{Hold, Release}
+use Rattle.sdd_attempt.specs.All.{ClassNo, Hold, Msg, Release, Site, Txn}
 use Rattle.sdd_tm.specs.State.{ClassState, State}
 use Rattle.sdd_tm.specs.Steps.{start_step}
 use Rattle.sdd_tm.specs.Handing.{class_handed, hold_handed, state_handed, class_named, class_given, state_given, place_of, one_place, all_places, touched_by, touched}

@@ -1,8 +1,6 @@
 -- The view after an entry is a function of the view before it, and what is next is due.
 use Rattle.std.proofs.Common.{ℕ, ◌∷◌, map, ◌≡◌, refl, ap, Some}
-use Rattle.sdd_attempt.specs.base.Words.{first_some}
-use Rattle.sdd_attempt.specs.catalog.Catalogue.{Catalogue}
-use Rattle.sdd_attempt.specs.site_module.SiteLog.{Setting, Bases, Log, Entry, Handed, Ticked, Submits, Redeclared, Did, Act}
+use Rattle.sdd_attempt.specs.All.{Act, Bases, Catalogue, Did, Entry, Handed, Log, Redeclared, Setting, Submits, Ticked, first_some}
 use Rattle.sdd_attempt.proofs.site_module.Finding.{map_twice, found_at, one_of}
 use Rattle.sdd_tm.specs.Views.{View, class_view, view_of, after, class_after, runs}
 use Rattle.sdd_tm.specs.Due.{IsDue, by_exchange, by_ask, by_hold, by_start, due, exchange_due, null_due, null_to, held_due, start_due}

@@ -3,23 +3,9 @@ use Rattle.std.proofs.Common.{ℕ, zero, suc, ◌<◌, ◌≡◌, ◌==◌, Bool
 use Rattle.std.specs.Prelude.{slice_get, slice_set, option_map}
 use Rattle.std.specs.List.{filter, list_any}
 use Rattle.std.proofs.lemmas.Bool.{false≢true}
-use Rattle.sdd_attempt.specs.base.Words.{head_of}
-use Rattle.sdd_attempt.specs.base.Numbers.{class_no, time_at}
-use Rattle.sdd_attempt.specs.base.Clock.{Ticking, ticked, timestamp}
-use Rattle.sdd_attempt.specs.base.declared.site.Site.{Site}
-use Rattle.sdd_attempt.specs.wire.declared.msg.Msg.TheVariants.{Null}
-use Rattle.sdd_attempt.specs.site_module.SiteLog.{Setting, Bases, Log, Act, Sends, in_force, sends_of_act}
-use Rattle.sdd_attempt.specs.Clocks.{clock}
-use Rattle.sdd_attempt.specs.Queues.{Queued, queue, queue_after, tried}
-use Rattle.sdd_attempt.specs.Exchange.{begins}
-use Rattle.sdd_attempt.specs.Attempts.{Attempt, active, active_after, active_sent, started}
-use Rattle.sdd_attempt.specs.Acts.{start_act, commit_act}
-use Rattle.sdd_attempt.specs.Lines.{Line, line_done, send_next, commit_next, start_next}
-use Rattle.sdd_attempt.specs.Fits.{sent, handed}
-use Rattle.sdd_attempt.specs.Sound.{IsOfHead}
+use Rattle.sdd_attempt.specs.All.{Act, Attempt, Bases, IsOfHead, Line, Log, Null, Queued, Sends, Setting, Site, Ticking, active, active_after, active_sent, begins, class_no, clock, commit_act, commit_next, handed, head_of, in_force, line_done, queue, queue_after, send_next, sends_of_act, sent, start_act, start_next, started, ticked, time_at, timestamp, tried, work_of}
 use Rattle.sdd_attempt.proofs.SoundLines.{request_of}
 use Rattle.sdd_attempt.proofs.LineActs.{asking_of, own_record, starts_committed, starts_started, work_sent}
-use Rattle.sdd_attempt.specs.Starts.{work_of}
 use Rattle.sdd_tm.specs.declared.asked.Asked.{Asked}
 use Rattle.sdd_tm.specs.declared.step.Step.{Step}
 use Rattle.sdd_tm.specs.declared.step.Step.TheVariants.{Send, Commit, Answer, Start}

@@ -1,13 +1,7 @@
 -- What becomes of what a module keeps when a message is handed to it, or a transaction is given to it.
 use Rattle.std.specs.Prelude.{ℕ, ◌+◌, ◌==◌, Bool, true, false, if◌then◌else◌, List, [], ◌∷◌, ◌++◌, map, length, Option, Some, None}
 use Rattle.std.specs.List.{position}
-use Rattle.sdd_attempt.specs.base.declared.number.ClassNo.{ClassNo}
-use Rattle.sdd_attempt.specs.base.declared.site.Site.{Site}
-use Rattle.sdd_attempt.specs.lang.declared.transaction.Txn.{Txn}
-use Rattle.sdd_attempt.specs.wire.declared.msg.Msg.{Msg}
-use Rattle.sdd_attempt.specs.wire.declared.msg.Msg.TheVariants.{Ready, Reject, Values, Reduced, Rows, Ask, Hold, Held, Release}
-use Rattle.sdd_attempt.specs.Clocks.{pushed_by}
-use Rattle.sdd_attempt.specs.Attempts.{active_handed}
+use Rattle.sdd_attempt.specs.All.{Ask, ClassNo, Held, Hold, Msg, Ready, Reduced, Reject, Release, Rows, Site, Txn, Values, active_handed, pushed_by}
 use Rattle.sdd_tm.specs.declared.asked.Asked.{Asked}
 use Rattle.sdd_tm.specs.declared.places.Places.{Places}
 use Rattle.sdd_tm.specs.State.{ClassState, State}

@@ -1,15 +1,9 @@
 -- For which logs a transaction module stands, and what holds between the acts of a call.
 use Rattle.std.specs.Prelude.{ℕ, suc, ◌+◌, ◌<◌, ◌≤◌, ◌^◌, ◌≡◌, ◌≢◌, IsTrue, List, [], ◌∷◌, slice_get, Some, None}
 use Rattle.std.specs.List.{AllByRecursion}
-use Rattle.sdd_attempt.specs.base.Kept.{Kept}
+use Rattle.sdd_attempt.specs.All.{AreStamped, Bases, IsDatabase, IsLineOf, IsServed, IsWhole, Kept, Log, Setting, active, hands, in_force, starts_left}
 use Rattle.sdd_attempt.specs.catalog.Rules as catalogues
-use Rattle.sdd_attempt.specs.catalog.Numbers.{IsWhole}
 use Rattle.sdd_eras.specs.EraOf.{IsEraOf}
-use Rattle.sdd_attempt.specs.lang.Sound.{IsDatabase}
-use Rattle.sdd_attempt.specs.site_module.SiteLog.{Setting, Bases, Log, in_force, hands}
-use Rattle.sdd_attempt.specs.Attempts.{active}
-use Rattle.sdd_attempt.specs.Sound.{IsLineOf, AreStamped, IsServed}
-use Rattle.sdd_attempt.specs.Starts.{starts_left}
 use Rattle.sdd_tm.specs.Views.{Question, HoldCounts, asks, holds, runs}
 use Rattle.sdd_tm.specs.State.{ClassState, State, state_of}
 use Rattle.sdd_tm.specs.Steps.{own_step, start_step, class_step, held_of}

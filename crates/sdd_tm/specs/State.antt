@@ -1,12 +1,6 @@
 -- What a transaction module keeps of its log: all that its acts rest on, but the numbers of hands.
 use Rattle.std.specs.Prelude.{ℕ, ◌==◌, nat_lt, Bool, List, map, filter}
-use Rattle.sdd_attempt.specs.base.Numbers.{time_at}
-use Rattle.sdd_attempt.specs.base.Clock.{Ticking}
-use Rattle.sdd_attempt.specs.site_module.SiteLog.{Setting, Force, Log, in_force}
-use Rattle.sdd_attempt.specs.Clocks.{clock}
-use Rattle.sdd_attempt.specs.Queues.{queue}
-use Rattle.sdd_attempt.specs.Attempts.{active}
-use Rattle.sdd_attempt.specs.Lines.{Line}
+use Rattle.sdd_attempt.specs.All.{Force, Line, Log, Setting, Ticking, active, clock, in_force, queue, time_at}
 use Rattle.sdd_tm.specs.declared.asked.Asked.{Asked}
 use Rattle.sdd_tm.specs.Views.{Question, asks, holds, runs}
 

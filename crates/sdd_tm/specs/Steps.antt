@@ -1,15 +1,8 @@
 -- What the classes of a transaction module do next by themselves, and what becomes of them.
 use Rattle.std.specs.Prelude.{ℕ, nat_le, Bool, true, false, not, ◌&&◌, cond, if◌then◌else◌, List, [], ◌∷◌, is_none, slice_set, Option, Some, None, option_map}
 use Rattle.std.specs.List.{list_any, list_all, find}
-use Rattle.sdd_attempt.specs.base.Words.{or_else, is_empty}
-use Rattle.sdd_attempt.specs.base.Numbers.{class_no, time_at}
-use Rattle.sdd_attempt.specs.base.Clock.{Ticking, bound_of}
-use Rattle.sdd_attempt.specs.base.declared.site.Site.TheVariants.{U}
+use Rattle.sdd_attempt.specs.All.{Act, Attempt, Bases, Held, Line, Null, Sends, Ticking, U, bound_of, class_no, clock_done, commit_next, is_empty, line_done, line_step, or_else, send_next, start_next, time_at}
 use Rattle.sdd_attempt.specs.protocol.declared.entry.Entry as line
-use Rattle.sdd_attempt.specs.wire.declared.msg.Msg.TheVariants.{Null, Held}
-use Rattle.sdd_attempt.specs.site_module.SiteLog.{Bases, Act, Sends}
-use Rattle.sdd_attempt.specs.Attempts.{Attempt}
-use Rattle.sdd_attempt.specs.Lines.{Line, line_done, clock_done, send_next, commit_next, start_next, line_step}
 use Rattle.sdd_attempt.specs.declared.step.LineStep.{LineStep}
 use Rattle.sdd_attempt.specs.declared.step.LineStep.TheVariants.{Sends as ToSend, Commits as ToCommit}
 use Rattle.sdd_tm.specs.declared.asked.Asked.{Asked}

@@ -1,15 +1,6 @@
 -- All that the acts of a transaction module rest on, and how it changes with an entry of the log.
 use Rattle.std.specs.Prelude.{ℕ, suc, nat_lt, ◌==◌, Bool, not, List, [], ◌∷◌, ◌++◌, map, filter, length, is_none, Option}
-use Rattle.sdd_attempt.specs.base.Sites.{number_of}
-use Rattle.sdd_attempt.specs.base.Clock.{Ticking, ticked, pushed}
-use Rattle.sdd_attempt.specs.base.declared.site.Site.{Site}
-use Rattle.sdd_attempt.specs.catalog.Catalogue.{class_at, numbers_to}
-use Rattle.sdd_attempt.specs.wire.declared.msg.Msg.{Msg}
-use Rattle.sdd_attempt.specs.wire.declared.msg.Msg.TheVariants.{Ask, Hold, Held, Release}
-use Rattle.sdd_attempt.specs.site_module.SiteLog.{Setting, Force, in_force, Log, Entry, Handed, Ticked, Submits, Redeclared, Did, Act, Sends, hands, answers_hand}
-use Rattle.sdd_attempt.specs.Clocks.{clock, pushed_by, ticked_by}
-use Rattle.sdd_attempt.specs.Queues.{Queued, queue, queue_after, submitted}
-use Rattle.sdd_attempt.specs.Attempts.{Attempt, active, active_after, active_handed}
+use Rattle.sdd_attempt.specs.All.{Act, Ask, Attempt, Did, Entry, Force, Handed, Held, Hold, Log, Msg, Queued, Redeclared, Release, Sends, Setting, Site, Submits, Ticked, Ticking, active, active_after, active_handed, answers_hand, class_at, clock, hands, in_force, number_of, numbers_to, pushed, pushed_by, queue, queue_after, submitted, ticked, ticked_by}
 
 -- an ASK that has no NULL yet: its hand, the site that it came from, its class and its time
 pub record Question : Type 0 where

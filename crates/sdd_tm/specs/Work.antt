@@ -1,6 +1,6 @@
 -- How much the classes of a module have left to do before the next message comes.
 use Rattle.std.specs.Prelude.{ℕ, ◌+◌, List, [], ◌∷◌, length}
-use Rattle.sdd_attempt.specs.Starts.{work_of}
+use Rattle.sdd_attempt.specs.All.{work_of}
 use Rattle.sdd_tm.specs.State.{ClassState}
 
 -- of a class: what its line has left to do, and its NULLs

@@ -1,11 +1,6 @@
 -- What the calls of a transaction module promise of their parts.
 use Rattle.std.specs.Prelude.{ℕ, ◌==◌, false, List, [], ◌∷◌, map, filter, length}
-use Rattle.sdd_attempt.specs.base.Clock.{at_zero}
-use Rattle.sdd_attempt.specs.catalog.Catalogue.{Catalogue, class_at, numbers_to}
-use Rattle.sdd_attempt.specs.site_module.SiteLog.{Setting, Bases, Force, Log}
-use Rattle.sdd_attempt.specs.site_module.Notes.{Notes}
-use Rattle.sdd_attempt.specs.site_module.Making.{Reached}
-use Rattle.sdd_attempt.specs.Lines.{no_line}
+use Rattle.sdd_attempt.specs.All.{Bases, Catalogue, Force, Log, Notes, Reached, Setting, at_zero, class_at, no_line, numbers_to}
 use Rattle.sdd_tm.specs.Due.{next}
 use Rattle.sdd_tm.specs.State.{ClassState, State}
 use Rattle.sdd_tm.specs.Stands.{IsAmid}

@@ -1,13 +1,6 @@
 ghost use Rattle.std.specs.Prelude.{◌≡◌, ◌≢◌, ◌≤◌, ◌<◌, ◌+◌, ◌^◌, ◌++◌, ◌∷◌, ℕ, [], map, length, false, IfOk, OnOk, IsTrue, Some, None, option_map};
 ghost use Rattle.std.specs.List.{list_any, find, position};
-ghost use Rattle.sdd_attempt.specs.base.Words.{contains};
-ghost use Rattle.sdd_attempt.specs.lang.Fits.{Fits};
-ghost use Rattle.sdd_attempt.specs.lang.Sound.{IsDatabase};
-ghost use Rattle.sdd_attempt.specs.site_module.SiteLog.{Bases};
-ghost use Rattle.sdd_attempt.specs.site_module.Notes.{noted};
-ghost use Rattle.sdd_attempt.specs.Queues.{Queued};
-ghost use Rattle.sdd_attempt.specs.Lines.{clock_done, IsAwaited, AreTried, ServesAt};
-ghost use Rattle.sdd_attempt.specs.Standings.{standing_of};
+ghost use Rattle.sdd_attempt.specs.All.{AreTried, Bases, Fits, IsAwaited, IsDatabase, Queued, ServesAt, clock_done, contains, noted, standing_of};
 ghost use Rattle.sdd_tm.specs.Handing.{class_handed};
 ghost use Rattle.sdd_tm.specs.Steps.{is_idle, answers, can_answer, time_by, answer_to, class_step, act_of, class_done, without_first};
 ghost use Rattle.sdd_tm.specs.Works.{first_class, classes_of};

@@ -1,12 +1,6 @@
 ghost use Rattle.std.specs.Prelude.{◌≡◌, ◌≤◌, ◌<◌, ◌+◌, ◌/◌, ◌^◌, ℕ, map, length, slice_get, ◌==◌, IfOk, IfSome, OnOk, Some, None};
 ghost use Rattle.std.specs.List.{list_all};
-ghost use Rattle.sdd_attempt.specs.base.Clock.{bound_of, pushed, ticked};
-ghost use Rattle.sdd_attempt.specs.lang.Classes.{class_for};
-ghost use Rattle.sdd_attempt.specs.lang.Sound.{IsDatabase};
-ghost use Rattle.sdd_attempt.specs.site_module.SiteLog.{Setting, Bases, Log};
-ghost use Rattle.sdd_attempt.specs.site_module.Notes.{noted, nothing_noted};
-ghost use Rattle.sdd_attempt.specs.Standings.{standing_among};
-ghost use Rattle.sdd_attempt.specs.Lines.{AreTried, IsAwaited, ServesAt};
+ghost use Rattle.sdd_attempt.specs.All.{AreTried, Bases, IsAwaited, IsDatabase, Log, ServesAt, Setting, bound_of, class_for, noted, nothing_noted, pushed, standing_among, ticked};
 ghost use Rattle.sdd_tm.specs.Fits.{fits, FitsSubmit};
 ghost use Rattle.sdd_tm.specs.Handing.{push_of, heeded, class_handed, state_handed, state_given, class_named, place_of, one_place, all_places, touched};
 ghost use Rattle.sdd_tm.specs.State.{ClassState};

@@ -1,13 +1,7 @@
 ghost use Rattle.std.specs.Prelude.{◌≡◌, ◌∷◌, [], ◌+◌, ◌/◌, ◌<◌, ◌^◌, List, map, IfOk, OnErr, IsTrue};
-ghost use Rattle.sdd_attempt.specs.base.Clock.{bound_of};
-ghost use Rattle.sdd_attempt.specs.base.declared.site.Site.TheVariants.{T};
-ghost use Rattle.sdd_attempt.specs.history.declared.record.Rec.{Rec as Record};
+ghost use Rattle.sdd_attempt.specs.All.{Bases, Does, FitsSite, Log, Rec as Record, Redeclared, Setting, Submits, T, Ticked, bound_of, clock, standing_among};
 ghost use Rattle.sdd_attempt.specs.history.declared.record.Rec.TheVariants.{Submit};
-ghost use Rattle.sdd_attempt.specs.site_module.SiteLog.{Setting, Bases, Log, Redeclared, Submits, Ticked, Does};
 ghost use Rattle.sdd_eras.specs.EraOf.{IsEraOf};
-ghost use Rattle.sdd_attempt.specs.Clocks.{clock};
-ghost use Rattle.sdd_attempt.specs.Fits.{FitsSite};
-ghost use Rattle.sdd_attempt.specs.Standings.{standing_among};
 ghost use Rattle.sdd_tm.specs.Due.{next};
 ghost use Rattle.sdd_tm.specs.Fits.{fits, FitsSubmit};
 ghost use Rattle.sdd_tm.specs.State.{ClassState};
@@ -33,7 +27,7 @@ pub struct TxnModule<'a> {
 }
 
 impl<'a> Model for TxnModule<'a> {
-    ghost use Rattle.sdd_attempt.specs.base.Kept.{Kept};
+    ghost use Rattle.sdd_attempt.specs.All.{Kept};
     ghost use Rattle.sdd_tm.specs.State.{State};
 
     ghost Value = { Kept State };

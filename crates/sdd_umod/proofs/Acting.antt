@@ -3,29 +3,9 @@ use Rattle.std.proofs.Common.{ℕ, zero, suc, ◌+◌, ◌<◌, ◌≤◌, ◌^�
 use Rattle.std.specs.Prelude.{find, if◌then◌else◌, option_map}
 use Rattle.std.specs.List.{filter, filter_map, range_with_len}
 use Rattle.std.proofs.lemmas.Bool.{ltb-true, eqb-true, false≢true}
-use Rattle.sdd_attempt.specs.base.Words.{head_of, ascending}
-use Rattle.sdd_attempt.specs.base.Numbers.{time_at}
-use Rattle.sdd_attempt.specs.base.Clock.{Ticking, ticked, timestamp}
-use Rattle.sdd_attempt.specs.base.declared.site.Site.{Site}
-use Rattle.sdd_attempt.specs.base.declared.site.Site.TheVariants.{T}
-use Rattle.sdd_attempt.specs.catalog.Catalogue.{numbers_to}
-use Rattle.sdd_attempt.specs.catalog.Numbers.{IsWhole}
-use Rattle.sdd_attempt.specs.lang.Classes.{fragments_in}
-use Rattle.sdd_attempt.specs.lang.Uses.{uses_of}
-use Rattle.sdd_attempt.specs.wire.declared.msg.Msg.{Msg}
+use Rattle.sdd_attempt.specs.All.{Act, AllUpTo, Attempt, Bases, Did, IsOfHead, IsServed, IsWhole, Log, Msg, Notes, Queued, Sends, Setting, Site, T, Ticking, active, active_after, active_sent, after_send, ascending, asks_rows, begins, clock, commit_act, commit_next, first_phase, fragments_in, handed, head_is_untried, head_of, is_over, line_step, module_read, modules_of, noted, numbers_to, queue, queue_after, send_next, sends_of_act, sent, start_act, start_next, started, starts_left, ticked, time_at, timestamp, tried, uses_of, with_act}
 use Rattle.sdd_attempt.specs.wire.declared.msg.Msg.TheVariants as messages
-use Rattle.sdd_attempt.specs.site_module.SiteLog.{Setting, Bases, Log, Did, Act, Sends, sends_of_act}
-use Rattle.sdd_attempt.specs.site_module.Notes.{Notes, with_act, noted}
-use Rattle.sdd_attempt.specs.Clocks.{clock}
-use Rattle.sdd_attempt.specs.Queues.{Queued, queue, queue_after, tried}
-use Rattle.sdd_attempt.specs.Exchange.{after_send, begins, first_phase, module_read, is_over}
-use Rattle.sdd_attempt.specs.Attempts.{Attempt, active, active_after, active_sent, asks_rows, started}
-use Rattle.sdd_attempt.specs.Acts.{modules_of, start_act, commit_act}
-use Rattle.sdd_attempt.specs.Lines.{send_next, commit_next, start_next, line_step, head_is_untried}
 use Rattle.sdd_attempt.specs.declared.step.LineStep.TheVariants.{Sends as ToSend, Commits as ToCommit}
-use Rattle.sdd_attempt.specs.Fits.{sent, handed}
-use Rattle.sdd_attempt.specs.Sound.{IsOfHead, AllUpTo, IsServed}
-use Rattle.sdd_attempt.specs.Starts.{starts_left}
 use Rattle.sdd_attempt.proofs.Asking.{NoReads}
 use Rattle.sdd_attempt.proofs.Stamps.{stamped_did}
 use Rattle.sdd_attempt.proofs.SoundLines.{request_of, line_apart, line_sent, line_committed, line_started, commit_no_reads, start_is_up, start_modules}

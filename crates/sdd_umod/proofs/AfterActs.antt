@@ -1,17 +1,8 @@
 -- What the module keeps of the log after each act is what its step leaves.
 use Rattle.std.proofs.Common.{ℕ, ◌≡◌, List, [], ◌∷◌, map, refl, ap, sym, ◌∙◌, Option, Some, None}
-use Rattle.sdd_attempt.specs.base.Numbers.{dm_no, time_at}
-use Rattle.sdd_attempt.specs.base.declared.site.Site.TheVariants.{T, D}
-use Rattle.sdd_attempt.specs.base.declared.number.TmNo.{TmNo}
-use Rattle.sdd_attempt.specs.catalog.Catalogue.{numbers_to}
+use Rattle.sdd_attempt.specs.All.{Act, Attempt, Bases, D, Did, Log, Queued, Sends, Setting, T, TmNo, active, clock, clock_done, commit_act, commit_next, dm_no, line_done, numbers_to, send_next, start_act, start_next, time_at}
 use Rattle.sdd_attempt.specs.wire.declared.msg.Msg.TheVariants as messages
-use Rattle.sdd_attempt.specs.site_module.SiteLog.{Setting, Bases, Log, Did, Act, Sends}
 use Rattle.sdd_attempt.proofs.site_module.Finding.{map_twice}
-use Rattle.sdd_attempt.specs.Clocks.{clock}
-use Rattle.sdd_attempt.specs.Queues.{Queued}
-use Rattle.sdd_attempt.specs.Attempts.{Attempt, active}
-use Rattle.sdd_attempt.specs.Acts.{start_act, commit_act}
-use Rattle.sdd_attempt.specs.Lines.{line_done, send_next, commit_next, start_next, clock_done}
 use Rattle.sdd_attempt.proofs.SoundLines.{IsApart, IsRequest, sent_apart}
 use Rattle.sdd_umod.specs.declared.step.Step.TheVariants.{Send, Commit, Release, Start, Hold}
 use Rattle.sdd_umod.specs.declared.tm_count.Sign.TheVariants as signs

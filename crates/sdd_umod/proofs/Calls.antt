@@ -1,22 +1,9 @@
 -- What a call of the module does, of every log for which the module stands.
 use Rattle.std.proofs.Common.{ℕ, ◌<◌, ◌^◌, ◌≡◌, ◌==◌, Bool, true, false, List, [], ◌∷◌, map, refl, ap, sym, ◌∙◌, subst, arith, Option, Some, None}
 use Rattle.std.specs.Prelude.{IsTrue, find, if◌then◌else◌, option_map}
-use Rattle.sdd_attempt.specs.base.Kept.{Kept}
-use Rattle.sdd_attempt.specs.base.Words.{or_else}
-use Rattle.sdd_attempt.specs.base.declared.number.RelNo.{RelNo}
-use Rattle.sdd_attempt.specs.base.declared.number.TxnNo.{TxnNo}
-use Rattle.sdd_attempt.specs.base.declared.site.Site.{Site}
-use Rattle.sdd_attempt.specs.base.declared.site.Site.TheVariants.{U}
-use Rattle.sdd_attempt.specs.catalog.Catalogue.{Catalogue, numbers_to}
+use Rattle.sdd_attempt.specs.All.{Bases, Catalogue, Does, Handed, IsWhole, Kept, Log, Msg, Notes, Rec, RelNo, Row, Setting, Site, Submits, Txn, TxnNo, U, nothing_noted, numbers_to, or_else, records_of}
 use Rattle.sdd_attempt.specs.catalog.Rules as catalogues
-use Rattle.sdd_attempt.specs.catalog.Numbers.{IsWhole}
-use Rattle.sdd_attempt.specs.lang.declared.transaction.Txn.{Txn}
-use Rattle.sdd_attempt.specs.lang.Database.{Row}
-use Rattle.sdd_attempt.specs.history.declared.record.Rec.{Rec}
 use Rattle.sdd_attempt.specs.history.declared.record.Rec.TheVariants.{Submit}
-use Rattle.sdd_attempt.specs.wire.declared.msg.Msg.{Msg}
-use Rattle.sdd_attempt.specs.site_module.SiteLog.{Setting, Bases, Log, Handed, Submits, Does, records_of}
-use Rattle.sdd_attempt.specs.site_module.Notes.{Notes, nothing_noted}
 use Rattle.sdd_attempt.proofs.site_module.Does.{DoesMore, does_from, all_noted}
 use Rattle.sdd_umod.specs.declared.step.Step.TheVariants.{Release}
 use Rattle.sdd_umod.specs.Views.{TmCounts}

@@ -3,17 +3,8 @@ use Rattle.std.proofs.Common.{ℕ, ◌≡◌, ◌==◌, ◌≤◌, Bool, true, f
 use Rattle.std.specs.Prelude.{find, if◌then◌else◌, option_map}
 use Rattle.std.specs.List.{list_all}
 use Rattle.std.proofs.lemmas.Bool.Decides.{nat_tests}
-use Rattle.sdd_attempt.specs.base.Words.{first_some, head_of, is_empty}
-use Rattle.sdd_attempt.specs.base.Numbers.{tm_no, time_at}
-use Rattle.sdd_attempt.specs.base.declared.site.Site.TheVariants.{T}
-use Rattle.sdd_attempt.specs.catalog.Catalogue.{Catalogue}
-use Rattle.sdd_attempt.specs.catalog.Numbers.{IsWhole}
+use Rattle.sdd_attempt.specs.All.{Act, Bases, Catalogue, IsWhole, Log, Queued, Sends, Setting, T, active, attempt_due, first_some, head_is_untried, head_of, is_empty, line_step, queue, start_act, time_at, tm_no}
 use Rattle.sdd_attempt.specs.wire.declared.msg.Msg.TheVariants as messages
-use Rattle.sdd_attempt.specs.site_module.SiteLog.{Setting, Bases, Log, Act, Sends}
-use Rattle.sdd_attempt.specs.Queues.{Queued, queue}
-use Rattle.sdd_attempt.specs.Attempts.{active}
-use Rattle.sdd_attempt.specs.Acts.{attempt_due, start_act}
-use Rattle.sdd_attempt.specs.Lines.{line_step, head_is_untried}
 use Rattle.sdd_attempt.specs.declared.step.LineStep.{LineStep}
 use Rattle.sdd_attempt.specs.declared.step.LineStep.TheVariants.{Sends as ToSend, Commits as ToCommit}
 use Rattle.sdd_attempt.proofs.LineSteps.{none_due}

@@ -5,19 +5,10 @@ use Rattle.std.specs.List.{AllByRecursion, list_all, list_any, range_with_len}
 use Rattle.std.proofs.lemmas.List.{length-map}
 use Rattle.std.proofs.lemmas.List.Elements.{recursion_from_All}
 use Rattle.std.proofs.lemmas.Bool.{eq-eqb, and_from, or_left, false≢true}
-use Rattle.sdd_attempt.specs.base.Numbers.{dm_no}
-use Rattle.sdd_attempt.specs.base.declared.number.DmNo.{DmNo}
-use Rattle.sdd_attempt.specs.catalog.Catalogue.{Catalogue, catalogue_of, parts_of, fragment_at, fragment_from, has_copy, lowest_copy, reads_at, relation_names}
-use Rattle.sdd_attempt.specs.catalog.Numbers.{IsPlaced}
-use Rattle.sdd_attempt.specs.catalog.Rules.{IsSound, fragment_rules}
-use Rattle.sdd_attempt.specs.catalog.declared.parts.FragmentPart.{FragmentPart}
-use Rattle.sdd_attempt.specs.catalog.declared.parts.Parts.{Parts}
-use Rattle.sdd_attempt.specs.catalog.declared.resolved.Fragment.{Fragment}
+use Rattle.sdd_attempt.specs.All.{Catalogue, DmNo, Fragment, FragmentPart, IsPlaced, IsSound, Parts, Txn, catalogue_of, dm_no, fragment_at, fragment_from, fragment_rules, has_copy, lowest_copy, parts_of, read_set, reads_at, relation_names}
 use Rattle.sdd_attempt.proofs.catalog.Found.{both_empty, each_unfound, empty_of_map}
 use Rattle.sdd_attempt.proofs.catalog.Validity.{no_faults, unbroken}
 use Rattle.sdd_attempt.proofs.catalog.Sound.{at_number, each_image, sound_fragments}
-use Rattle.sdd_attempt.specs.lang.declared.transaction.Txn.{Txn}
-use Rattle.sdd_attempt.specs.lang.Classes.{read_set}
 use Rattle.sdd_attempt.proofs.lang.Sets.{IsThere, read_set_there}
 
 -- each fragment has a copy

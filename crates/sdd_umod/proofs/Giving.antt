@@ -1,11 +1,6 @@
 -- A transaction that is given to the module goes to the end of its queue.
 use Rattle.std.proofs.Common.{ℕ, ◌<◌, ◌^◌, ◌≡◌, false, ◌∷◌, map, refl, subst, None}
-use Rattle.sdd_attempt.specs.base.Words.{contains}
-use Rattle.sdd_attempt.specs.lang.declared.transaction.Txn.{Txn}
-use Rattle.sdd_attempt.specs.lang.Fits.{Fits}
-use Rattle.sdd_attempt.specs.site_module.SiteLog.{Setting, Bases, Log, Submits}
-use Rattle.sdd_attempt.specs.Queues.{Queued}
-use Rattle.sdd_attempt.specs.Attempts.{active}
+use Rattle.sdd_attempt.specs.All.{Bases, Fits, Log, Queued, Setting, Submits, Txn, active, contains}
 use Rattle.sdd_attempt.proofs.Stamps.{stamped_still}
 use Rattle.sdd_attempt.proofs.SoundLines.{line_submitted}
 use Rattle.sdd_attempt.proofs.LineActs.{new_in_queue, resting}

@@ -1,22 +1,8 @@
 -- A message that is handed: the module keeps what follows from the log, and nothing else of it changes.
 use Rattle.std.proofs.Common.{ℕ, suc, ◌+◌, ◌<◌, ◌≤◌, ◌^◌, ◌≡◌, ◌==◌, Bool, true, false, List, ◌∷◌, map, refl, ap, sym, ◌∙◌, subst, arith, Option, Some, None}
 use Rattle.std.specs.Prelude.{if◌then◌else◌}
-use Rattle.sdd_attempt.specs.base.Clock.{Ticking}
-use Rattle.sdd_attempt.specs.base.declared.site.Site.{Site}
-use Rattle.sdd_attempt.specs.base.declared.site.Site.TheVariants.{U, T, D}
-use Rattle.sdd_attempt.specs.catalog.Catalogue.{numbers_to}
-use Rattle.sdd_attempt.specs.wire.declared.msg.Msg.{Msg}
-use Rattle.sdd_attempt.specs.wire.declared.msg.Msg.TheVariants.{Ready, Reject, Values, Reduced, Rows, Ask, Held, Release, Done}
-use Rattle.sdd_attempt.specs.site_module.SiteLog.{Setting, Bases, Log, Handed, submits}
+use Rattle.sdd_attempt.specs.All.{Ask, Attempt, AwaitsAt, Bases, D, Done, FitsAnswer, Handed, Held, IsAwaited, Line, Log, Msg, Phase, Ready, Reduced, Reject, Release, Rows, Setting, Site, T, Ticking, U, Values, active, active_handed, after_hand, clock, fetches_use, line_step, numbers_to, pushed_by, queue, rejects, starts_left, submits}
 use Rattle.sdd_attempt.proofs.site_module.Finding.{map_twice}
-use Rattle.sdd_attempt.specs.Clocks.{clock, pushed_by}
-use Rattle.sdd_attempt.specs.Queues.{queue}
-use Rattle.sdd_attempt.specs.Exchange.{Phase, after_hand}
-use Rattle.sdd_attempt.specs.Attempts.{Attempt, active, active_handed, rejects}
-use Rattle.sdd_attempt.specs.Fits.{AwaitsAt, fetches_use}
-use Rattle.sdd_attempt.specs.Lines.{IsAwaited, Line, line_step}
-use Rattle.sdd_attempt.specs.Sound.{FitsAnswer}
-use Rattle.sdd_attempt.specs.Starts.{starts_left}
 use Rattle.sdd_attempt.proofs.Stamps.{no_sooner_hand, stamped_still}
 use Rattle.sdd_attempt.proofs.Served.{served_handed}
 use Rattle.sdd_attempt.proofs.SoundLines.{line_handed}

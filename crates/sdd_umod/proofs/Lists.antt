@@ -3,8 +3,7 @@ use Rattle.std.proofs.Common.{ℕ, zero, suc, ◌+◌, ◌-◌, ◌<◌, ◌≤�
 use Rattle.std.specs.Prelude.{find, if◌then◌else◌, option_map, slice_get, slice_index_or, slice_set}
 use Rattle.std.proofs.lemmas.List.{map-append}
 use Rattle.std.proofs.lemmas.List.Edits.{map_over_more}
-use Rattle.sdd_attempt.specs.base.Words.{or_else, first_some}
-use Rattle.sdd_attempt.specs.catalog.Catalogue.{numbers_to}
+use Rattle.sdd_attempt.specs.All.{first_some, numbers_to, or_else}
 use Rattle.sdd_attempt.proofs.graph.Lists.{up_to}
 
 pub some_is : {A : Type 0} {x y : A} → Some x ≡ Some y → x ≡ y

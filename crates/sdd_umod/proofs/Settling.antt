@@ -1,13 +1,8 @@
 -- The loop of a call: what each step asks for, and what it leaves.
 use Rattle.std.proofs.Common.{ℕ, ◌+◌, ◌<◌, ◌^◌, ◌≡◌, ◌∷◌, refl, ap, sym, ◌∙◌, subst, arith, Some, None}
-use Rattle.sdd_attempt.specs.lang.Sound.{IsDatabase}
-use Rattle.sdd_attempt.specs.site_module.SiteLog.{Setting, Bases, Log, Did}
-use Rattle.sdd_attempt.specs.site_module.Notes.{Notes, with_act, noted}
+use Rattle.sdd_attempt.specs.All.{AreTried, Bases, Did, IsDatabase, IsServed, Log, Notes, ServesAt, Setting, clock, line_step, noted, with_act}
 use Rattle.sdd_attempt.proofs.site_module.Making.{made_nothing, made_more}
-use Rattle.sdd_attempt.specs.Clocks.{clock}
-use Rattle.sdd_attempt.specs.Lines.{AreTried, ServesAt, line_step}
 use Rattle.sdd_attempt.specs.declared.step.LineStep.TheVariants.{Commits as ToCommit}
-use Rattle.sdd_attempt.specs.Sound.{IsServed}
 use Rattle.sdd_attempt.proofs.Tries.{tries_told}
 use Rattle.sdd_attempt.proofs.LineSteps.{commits}
 use Rattle.sdd_attempt.proofs.LineActs.{served_of}

@@ -2,11 +2,7 @@
 use Rattle.std.proofs.Common.{ℕ, suc, ◌<◌, ◌≡◌, ◌==◌, true, false, [], ◌∷◌, refl, ap, sym, ◌∙◌, arith, Option}
 use Rattle.std.specs.Prelude.{if◌then◌else◌}
 use Rattle.std.proofs.lemmas.Bool.{eqb-true}
-use Rattle.sdd_attempt.specs.base.declared.site.Site.{Site}
-use Rattle.sdd_attempt.specs.base.declared.site.Site.TheVariants.{U, T, D}
-use Rattle.sdd_attempt.specs.wire.declared.msg.Msg.{Msg}
-use Rattle.sdd_attempt.specs.wire.declared.msg.Msg.TheVariants.{Hold, Held, Release}
-use Rattle.sdd_attempt.specs.site_module.SiteLog.{Log, Handed, Ticked, Submits, Redeclared, Did, Records, Sends}
+use Rattle.sdd_attempt.specs.All.{D, Did, Handed, Held, Hold, Log, Msg, Records, Redeclared, Release, Sends, Site, Submits, T, Ticked, U}
 use Rattle.sdd_umod.specs.declared.tm_count.Sign.{Sign}
 use Rattle.sdd_umod.specs.declared.tm_count.Sign.TheVariants as signs
 use Rattle.sdd_umod.specs.Views.{TmCounts, counts, counts_handed, counts_acted}

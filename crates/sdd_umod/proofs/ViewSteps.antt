@@ -1,10 +1,7 @@
 -- The view after an entry is a function of the view before it, and what is next is due.
 use Rattle.std.proofs.Common.{◌∷◌, ◌≡◌, refl, ap, Some}
-use Rattle.sdd_attempt.specs.base.Words.{first_some}
-use Rattle.sdd_attempt.specs.catalog.Catalogue.{Catalogue, numbers_to}
-use Rattle.sdd_attempt.specs.site_module.SiteLog.{Setting, Bases, Log, Entry, Handed, Ticked, Submits, Redeclared, Did, Act}
+use Rattle.sdd_attempt.specs.All.{Act, Bases, Catalogue, Did, Entry, Handed, Log, Redeclared, Setting, Submits, Ticked, attempt_due, first_some, numbers_to}
 use Rattle.sdd_attempt.proofs.site_module.Finding.{map_twice, found_at, one_of}
-use Rattle.sdd_attempt.specs.Acts.{attempt_due}
 use Rattle.sdd_umod.specs.Views.{View, view_of, after, counts, counts_handed, counts_acted}
 use Rattle.sdd_umod.specs.Due.{IsDue, by_exchange, by_release, by_start, by_hold, due, release_due, start_due, hold_due}
 

@@ -3,20 +3,8 @@ use Rattle.std.proofs.Common.{ℕ, suc, ◌+◌, ◌<◌, ◌≤◌, ◌≡◌, 
 use Rattle.std.specs.Prelude.{find, if◌then◌else◌, option_map}
 use Rattle.std.specs.List.{filter}
 use Rattle.std.proofs.lemmas.Bool.{eq-eqb, eqb-true, ltb-true}
-use Rattle.sdd_attempt.specs.base.Words.{head_of}
-use Rattle.sdd_attempt.specs.base.Clock.{Ticking, ticked, timestamp}
-use Rattle.sdd_attempt.specs.catalog.Catalogue.{numbers_to}
-use Rattle.sdd_attempt.specs.site_module.SiteLog.{Setting, Bases, Log, Act, sends_of_act}
-use Rattle.sdd_attempt.specs.Clocks.{clock}
-use Rattle.sdd_attempt.specs.Queues.{Queued, queue, queue_after, tried}
-use Rattle.sdd_attempt.specs.Exchange.{begins}
-use Rattle.sdd_attempt.specs.Attempts.{Attempt, active, active_after, active_sent, started}
-use Rattle.sdd_attempt.specs.Acts.{start_act, commit_act}
-use Rattle.sdd_attempt.specs.Lines.{send_next, commit_next, start_next, line_step}
+use Rattle.sdd_attempt.specs.All.{Act, Attempt, Bases, IsOfHead, Log, Queued, Setting, Ticking, active, active_after, active_sent, begins, clock, commit_act, commit_next, handed, head_of, line_step, numbers_to, queue, queue_after, send_next, sends_of_act, sent, start_act, start_next, started, ticked, timestamp, tried, work_of}
 use Rattle.sdd_attempt.specs.declared.step.LineStep.TheVariants.{Sends as ToSend, Commits as ToCommit}
-use Rattle.sdd_attempt.specs.Fits.{sent, handed}
-use Rattle.sdd_attempt.specs.Sound.{IsOfHead}
-use Rattle.sdd_attempt.specs.Starts.{work_of}
 use Rattle.sdd_attempt.proofs.SoundLines.{request_of}
 use Rattle.sdd_attempt.proofs.Waiting.{fewer_committed}
 use Rattle.sdd_attempt.proofs.LineSteps.{has_to_send, commits}

@@ -1,12 +1,6 @@
 -- What becomes of what the module keeps when a message is handed to it, or a transaction is given to it.
 use Rattle.std.specs.Prelude.{ℕ, ◌+◌, ◌/◌, ◌<◌, ◌^◌, ◌==◌, if◌then◌else◌, List, [], ◌∷◌, ◌++◌, map}
-use Rattle.sdd_attempt.specs.base.Clock.{Ticking, pushed}
-use Rattle.sdd_attempt.specs.base.declared.site.Site.{Site}
-use Rattle.sdd_attempt.specs.base.declared.site.Site.TheVariants.{T}
-use Rattle.sdd_attempt.specs.lang.declared.transaction.Txn.{Txn}
-use Rattle.sdd_attempt.specs.wire.declared.msg.Msg.{Msg}
-use Rattle.sdd_attempt.specs.wire.declared.msg.Msg.TheVariants.{Held, Done}
-use Rattle.sdd_attempt.specs.Attempts.{active_handed}
+use Rattle.sdd_attempt.specs.All.{Done, Held, Msg, Site, T, Ticking, Txn, active_handed, pushed}
 use Rattle.sdd_umod.specs.declared.tm_count.Sign.TheVariants as signs
 use Rattle.sdd_umod.specs.Views.{Served, TmCounts}
 use Rattle.sdd_umod.specs.State.{State, as_counted}

@@ -1,11 +1,7 @@
 -- How the module for undeclared transactions has a transaction.
 use Rattle.std.specs.Prelude.{ℕ, ◌-◌, ◌≡◌, ◌==◌, ◌&&◌, Bool, not, if◌then◌else◌, find, is_none, option_map, Option, Some, None, refl}
 use Rattle.std.specs.List.{list_any}
-use Rattle.sdd_attempt.specs.base.Numbers.{class_no, tm_no}
-use Rattle.sdd_attempt.specs.base.declared.number.TmNo.{TmNo}
-use Rattle.sdd_attempt.specs.base.declared.site.Site.{Site}
-use Rattle.sdd_attempt.specs.base.declared.site.Site.TheVariants.{U, T}
-use Rattle.sdd_attempt.specs.Standings.{standing_of}
+use Rattle.sdd_attempt.specs.All.{Site, T, TmNo, U, class_no, standing_of, tm_no}
 use Rattle.sdd_attempt.specs.declared.standing.Standing.{Standing}
 use Rattle.sdd_attempt.specs.declared.standing.Standing.TheVariants.{Queued, Underway}
 use Rattle.sdd_umod.specs.Views.{TmCounts}

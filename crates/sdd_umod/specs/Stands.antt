@@ -1,14 +1,7 @@
 -- For which logs the module for undeclared transactions stands, and what holds between the acts of a call.
 use Rattle.std.specs.Prelude.{ℕ, suc, ◌+◌, ◌<◌, ◌≤◌, ◌^◌, ◌≡◌, IsTrue, Option, Some, None}
-use Rattle.sdd_attempt.specs.base.Kept.{Kept}
+use Rattle.sdd_attempt.specs.All.{AreStamped, Attempt, Bases, IsDatabase, IsLineOf, IsServed, IsWhole, Kept, Log, Setting, active, clock, starts_left}
 use Rattle.sdd_attempt.specs.catalog.Rules as catalogues
-use Rattle.sdd_attempt.specs.catalog.Numbers.{IsWhole}
-use Rattle.sdd_attempt.specs.lang.Sound.{IsDatabase}
-use Rattle.sdd_attempt.specs.site_module.SiteLog.{Setting, Bases, Log}
-use Rattle.sdd_attempt.specs.Clocks.{clock}
-use Rattle.sdd_attempt.specs.Attempts.{Attempt, active}
-use Rattle.sdd_attempt.specs.Sound.{IsLineOf, AreStamped, IsServed}
-use Rattle.sdd_attempt.specs.Starts.{starts_left}
 use Rattle.sdd_umod.specs.Views.{TmCounts, counts, last_served}
 use Rattle.sdd_umod.specs.State.{State, state_of}
 use Rattle.sdd_umod.specs.Steps.{step_of}

@@ -1,12 +1,6 @@
 -- What the module for undeclared transactions keeps of its log: all that its acts rest on.
 use Rattle.std.specs.Prelude.{ℕ, min, ◌^◌, ◌-◌, List, map}
-use Rattle.sdd_attempt.specs.base.Clock.{Ticking}
-use Rattle.sdd_attempt.specs.catalog.Catalogue.{numbers_to}
-use Rattle.sdd_attempt.specs.site_module.SiteLog.{Setting, Log}
-use Rattle.sdd_attempt.specs.Clocks.{clock}
-use Rattle.sdd_attempt.specs.Queues.{queue}
-use Rattle.sdd_attempt.specs.Attempts.{active}
-use Rattle.sdd_attempt.specs.Lines.{Line}
+use Rattle.sdd_attempt.specs.All.{Line, Log, Setting, Ticking, active, clock, numbers_to, queue}
 use Rattle.sdd_umod.specs.Views.{Served, TmCounts, counts, last_served}
 
 -- the line of class 0, the clock, what was served last, and each T

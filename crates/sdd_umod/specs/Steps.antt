@@ -1,13 +1,8 @@
 -- What the module does next by itself, the act that it is, and what becomes of what it keeps.
 use Rattle.std.specs.Prelude.{ℕ, suc, nat_lt, ◌==◌, Bool, ◌&&◌, if◌then◌else◌, [], map, find, Option, Some, None, option_map}
 use Rattle.std.specs.List.{list_all}
-use Rattle.sdd_attempt.specs.base.Words.{or_else, is_empty}
-use Rattle.sdd_attempt.specs.base.Numbers.{tm_no, time_at}
-use Rattle.sdd_attempt.specs.base.declared.number.TmNo.{TmNo}
-use Rattle.sdd_attempt.specs.base.declared.site.Site.TheVariants.{T}
+use Rattle.sdd_attempt.specs.All.{Act, Bases, Sends, T, TmNo, clock_done, commit_next, head_is_untried, is_empty, line_done, line_step, or_else, send_next, start_next, time_at, tm_no}
 use Rattle.sdd_attempt.specs.wire.declared.msg.Msg.TheVariants as messages
-use Rattle.sdd_attempt.specs.site_module.SiteLog.{Bases, Act, Sends}
-use Rattle.sdd_attempt.specs.Lines.{line_done, line_step, clock_done, send_next, commit_next, start_next, head_is_untried}
 use Rattle.sdd_attempt.specs.declared.step.LineStep.{LineStep}
 use Rattle.sdd_attempt.specs.declared.step.LineStep.TheVariants.{Sends as ToSend, Commits as ToCommit}
 use Rattle.sdd_umod.specs.declared.step.Step.{Step}

@@ -1,16 +1,6 @@
 -- All that the acts of the module for undeclared transactions rest on, and how it changes with an entry of the log.
 use Rattle.std.specs.Prelude.{ℕ, suc, ◌==◌, if◌then◌else◌, List, [], ◌∷◌, ◌++◌, map, Option, Some, None}
-use Rattle.sdd_attempt.specs.base.Clock.{Ticking, ticked, pushed}
-use Rattle.sdd_attempt.specs.base.declared.site.Site.{Site}
-use Rattle.sdd_attempt.specs.base.declared.site.Site.TheVariants.{T}
-use Rattle.sdd_attempt.specs.catalog.Catalogue.{numbers_to}
-use Rattle.sdd_attempt.specs.history.declared.record.Rec.TheVariants.{Commit}
-use Rattle.sdd_attempt.specs.wire.declared.msg.Msg.{Msg}
-use Rattle.sdd_attempt.specs.wire.declared.msg.Msg.TheVariants.{Hold, Held, Done, Release}
-use Rattle.sdd_attempt.specs.site_module.SiteLog.{Setting, Log, Entry, Handed, Ticked, Submits, Redeclared, Did, Act, Records, Sends}
-use Rattle.sdd_attempt.specs.Clocks.{clock, pushed_by, ticked_by}
-use Rattle.sdd_attempt.specs.Queues.{Queued, queue, queue_after}
-use Rattle.sdd_attempt.specs.Attempts.{Attempt, active, active_after, active_handed}
+use Rattle.sdd_attempt.specs.All.{Act, Attempt, Commit, Did, Done, Entry, Handed, Held, Hold, Log, Msg, Queued, Records, Redeclared, Release, Sends, Setting, Site, Submits, T, Ticked, Ticking, active, active_after, active_handed, clock, numbers_to, pushed, pushed_by, queue, queue_after, ticked, ticked_by}
 
 -- of one T: how many HOLDs and RELEASEs were sent to it, and how many HELDs were handed from it
 pub record TmCounts : Type 0 where

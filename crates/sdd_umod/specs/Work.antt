@@ -1,6 +1,6 @@
 -- How much the module has left to do before the next message comes.
 use Rattle.std.specs.Prelude.{ℕ, suc, ◌+◌, ◌-◌, List, [], ◌∷◌, length}
-use Rattle.sdd_attempt.specs.Starts.{work_of}
+use Rattle.sdd_attempt.specs.All.{work_of}
 use Rattle.sdd_umod.specs.Views.{TmCounts}
 use Rattle.sdd_umod.specs.State.{State}
 

@@ -1,11 +1,6 @@
 -- What the calls of the module promise of its parts.
 use Rattle.std.specs.Prelude.{ℕ, ◌<◌, ◌^◌, ◌≡◌, List, ◌∷◌, map, slice_get, Some}
-use Rattle.sdd_attempt.specs.base.Clock.{at_zero}
-use Rattle.sdd_attempt.specs.catalog.Catalogue.{Catalogue, numbers_to}
-use Rattle.sdd_attempt.specs.site_module.SiteLog.{Setting, Bases, Log}
-use Rattle.sdd_attempt.specs.site_module.Notes.{Notes}
-use Rattle.sdd_attempt.specs.site_module.Making.{Reached}
-use Rattle.sdd_attempt.specs.Lines.{no_line}
+use Rattle.sdd_attempt.specs.All.{Bases, Catalogue, Log, Notes, Reached, Setting, at_zero, no_line, numbers_to}
 use Rattle.sdd_umod.specs.Due.{next}
 use Rattle.sdd_umod.specs.Views.{Served, TmCounts}
 use Rattle.sdd_umod.specs.State.{State}

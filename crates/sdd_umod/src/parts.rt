@@ -1,12 +1,6 @@
 ghost use Rattle.std.specs.Prelude.{◌≡◌, ◌<◌, ◌+◌, ◌^◌, ◌++◌, ◌∷◌, [], ℕ, map, option_map, IfOk, OnOk, IsTrue, Some, None};
-ghost use Rattle.sdd_attempt.specs.base.Numbers.{time_at};
-ghost use Rattle.sdd_attempt.specs.base.declared.site.Site.TheVariants.{T};
-ghost use Rattle.sdd_attempt.specs.catalog.Catalogue.{numbers_to};
-ghost use Rattle.sdd_attempt.specs.lang.Sound.{IsDatabase};
+ghost use Rattle.sdd_attempt.specs.All.{AreTried, Bases, IsDatabase, Log, ServesAt, Setting, T, commit_next, noted, nothing_noted, numbers_to, time_at};
 ghost use Rattle.sdd_attempt.specs.wire.declared.msg.Msg.TheVariants as messages;
-ghost use Rattle.sdd_attempt.specs.site_module.SiteLog.{Setting, Bases, Log};
-ghost use Rattle.sdd_attempt.specs.site_module.Notes.{noted, nothing_noted};
-ghost use Rattle.sdd_attempt.specs.Lines.{commit_next, AreTried, ServesAt};
 ghost use Rattle.sdd_attempt.specs.declared.standing.Standing.TheVariants.{Queued};
 ghost use Rattle.sdd_umod.specs.Fits.{fits, FitsSubmit};
 ghost use Rattle.sdd_umod.specs.Handing.{IsEarly, heeded, held_from, state_handed, state_given};

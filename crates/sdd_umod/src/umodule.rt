@@ -1,8 +1,6 @@
 ghost use Rattle.std.specs.Prelude.{◌≡◌, ◌∷◌, [], List, IfOk, OnErr, IsTrue};
-ghost use Rattle.sdd_attempt.specs.base.declared.site.Site.TheVariants.{U};
-ghost use Rattle.sdd_attempt.specs.history.declared.record.Rec.{Rec as Record};
+ghost use Rattle.sdd_attempt.specs.All.{Bases, Does, Log, Rec as Record, Setting, Submits, U};
 ghost use Rattle.sdd_attempt.specs.history.declared.record.Rec.TheVariants.{Submit};
-ghost use Rattle.sdd_attempt.specs.site_module.SiteLog.{Setting, Bases, Log, Submits, Does};
 ghost use Rattle.sdd_umod.specs.Due.{next};
 ghost use Rattle.sdd_umod.specs.Fits.{fits, FitsSubmit};
 ghost use Rattle.sdd_umod.specs.Standing.{standing_in};
@@ -28,7 +26,7 @@ pub struct UModule<'a> {
 }
 
 impl<'a> Model for UModule<'a> {
-    ghost use Rattle.sdd_attempt.specs.base.Kept.{Kept};
+    ghost use Rattle.sdd_attempt.specs.All.{Kept};
     ghost use Rattle.sdd_umod.specs.State.{State};
 
     ghost Value = { Kept State };

@@ -1,14 +1,7 @@
 -- Where a run leaves nothing undone, its summary tells as many committed as there are transactions.
 use Rattle.std.proofs.Common.{ℕ, ◌≡◌, ◌≤◌, List, false, length, refl, subst}
-use Rattle.sdd_obligations.specs.catalog.Catalogue.{Catalogue}
-use Rattle.sdd_obligations.specs.catalog.Rules.{IsSound}
-use Rattle.sdd_obligations.specs.laws.Starts.{KeepsStarts}
-use Rattle.sdd_obligations.specs.logs.Entries.{Given, history, marks}
-use Rattle.sdd_obligations.specs.logs.Permitted.{submits_in}
+use Rattle.sdd_obligations.specs.All.{Catalogue, Given, HasCommit, IsFrom1To, IsOrderable, IsSerial, IsSound, KeepsStarts, history, marks, submits_in}
 use Rattle.sdd_run.specs.make.Summary.{summary_of}
-use Rattle.sdd_obligations.specs.serial_orders.Attempts.{HasCommit}
-use Rattle.sdd_obligations.specs.serial_orders.Numbers.{IsFrom1To}
-use Rattle.sdd_obligations.specs.serial_orders.Orders.{IsOrderable, IsSerial}
 use Rattle.sdd_run.specs.progress.Committed.{AllCommitted}
 use Rattle.sdd_run.specs.progress.Eras.{eras_of}
 use Rattle.sdd_run.specs.Runs.{IsSummaryOn, given_of, order_of}

@@ -6,29 +6,17 @@ use Rattle.std.specs.List.{AllByRecursion, cons_option}
 use Rattle.std.specs.Ordering.{int_cmp, is_eq}
 use Rattle.std.proofs.lemmas.List.Elements.{All-contains, All-from_recursion}
 use Rattle.sdd_obligations.proofs.base.Membership.{Contains-here, Contains-later}
-use Rattle.sdd_obligations.specs.base.Numbers.{tm_no}
-use Rattle.sdd_obligations.specs.base.declared.change.Change.{Change}
-use Rattle.sdd_obligations.specs.base.declared.number.RelNo.{RelNo}
-use Rattle.sdd_obligations.specs.base.declared.number.TxnNo.{TxnNo}
+use Rattle.sdd_obligations.specs.All.{Catalogue, Change, Committed, Eras, Given, Int, IsPermitted, IsSerial, IsSound, Log, RelNo, Row, Txn, TxnNo, committed, contents, copy_at, database_of, history, tm_no}
 use Rattle.sdd_obligations.specs.base.declared.value.Value.{Value}
-use Rattle.sdd_obligations.specs.base.declared.value.Value.TheVariants.{Int}
-use Rattle.sdd_obligations.specs.catalog.Catalogue.{Catalogue}
-use Rattle.sdd_obligations.specs.catalog.Rules.{IsSound}
 use Rattle.sdd_obligations.proofs.laws.Members.{Contains-from_filter}
-use Rattle.sdd_obligations.specs.copy.Contents.{Dated, contents, keys_in, latest, newer, of_fragment, row_left, row_with}
+use Rattle.sdd_obligations.specs.copy.Contents.{Dated, keys_in, latest, newer, of_fragment, row_left, row_with}
 use Rattle.sdd_obligations.proofs.lang.StaysDatabase.{rows_make_database}
-use Rattle.sdd_obligations.specs.lang.Database.{Database, Row, database_of}
+use Rattle.sdd_obligations.specs.lang.Database.{Database}
 use Rattle.sdd_obligations.specs.lang.Update.{in_range}
-use Rattle.sdd_obligations.specs.lang.declared.transaction.Txn.{Txn}
 use Rattle.sdd_obligations.proofs.laws.Orders.{agrees, listed}
 use Rattle.sdd_obligations.proofs.laws.Recorded.{are_recorded, ledger}
 use Rattle.sdd_obligations.specs.laws.Deeds.{txn_at}
-use Rattle.sdd_obligations.specs.laws.Eras.{Eras}
-use Rattle.sdd_obligations.specs.laws.Snapshots.{copy_at, dated, dated_at, first_row, first_rows, is_applied}
-use Rattle.sdd_obligations.specs.logs.Entries.{Given, Log, history}
-use Rattle.sdd_obligations.specs.logs.Permitted.{IsPermitted}
-use Rattle.sdd_obligations.specs.serial_orders.Attempts.{Committed, committed}
-use Rattle.sdd_obligations.specs.serial_orders.Orders.{IsSerial}
+use Rattle.sdd_obligations.specs.laws.Snapshots.{dated, dated_at, first_row, first_rows, is_applied}
 use Rattle.sdd_obligations.proofs.laws.Run.{replayed}
 use Rattle.sdd_obligations.specs.laws.Replayed.{IsReplayed}
 use Rattle.sdd_lawful.proofs.Applies.{keeps_applies}

@@ -3,17 +3,9 @@ use Rattle.std.proofs.Common.{ℕ, suc, ◌-◌, ◌++◌, ◌≡◌, ◌∷◌,
 use Rattle.std.specs.Prelude.{codes, flat_map}
 use Rattle.std.specs.List.{All, AllByRecursion}
 use Rattle.sdd_obligations.specs.base.Name.{IsName}
-use Rattle.sdd_obligations.specs.base.declared.number.TxnNo.{TxnNo}
-use Rattle.sdd_obligations.specs.base.declared.site.Site.{Site}
-use Rattle.sdd_obligations.specs.base.declared.site.Site.TheVariants.{U, T, D}
+use Rattle.sdd_obligations.specs.All.{Catalogue, Class, D, Fragment, Int, Row, Site, T, Txn, TxnNo, U}
 use Rattle.sdd_obligations.specs.base.declared.value.Value.{Value}
-use Rattle.sdd_obligations.specs.base.declared.value.Value.TheVariants.{Int}
-use Rattle.sdd_obligations.specs.catalog.Catalogue.{Catalogue}
-use Rattle.sdd_obligations.specs.catalog.declared.resolved.Class.{Class}
-use Rattle.sdd_obligations.specs.catalog.declared.resolved.Fragment.{Fragment}
-use Rattle.sdd_obligations.specs.lang.Database.{Row}
 use Rattle.sdd_obligations.specs.lang.Update.{in_range}
-use Rattle.sdd_obligations.specs.lang.declared.transaction.Txn.{Txn}
 use Rattle.sdd_run.specs.report.Committed.{names_of}
 use Rattle.sdd_run.specs.report.Names.{class_time, fragment_name, module_word, site_word, spaced}
 use Rattle.sdd_run.specs.report.Pending.{why_words}

@@ -2,23 +2,11 @@
 use Rattle.std.proofs.Common.{ℕ, ◌+◌, ◌++◌, ◌==◌, ◌≡◌, ◌≤◌, ◌∙◌, ◌∷◌, Bool, List, None, Option, Some, [], ap, arith, false, inl, inr, length, refl, subst, sym, true}
 use Rattle.std.specs.Prelude.{◌⊎◌}
 use Rattle.std.proofs.lemmas.Bool.{eqb-true}
-use Rattle.sdd_obligations.specs.base.Numbers.{txn_no}
-use Rattle.sdd_obligations.specs.base.Words.{or_else}
-use Rattle.sdd_obligations.specs.base.declared.event.Event.{Event}
-use Rattle.sdd_obligations.specs.base.declared.event.Event.TheVariants.{Submit, Deliver, Lose, Repeat, Resend, Tick, Settle, Redeclare, Down, Up}
-use Rattle.sdd_obligations.specs.base.declared.number.TxnNo.{TxnNo}
-use Rattle.sdd_obligations.specs.base.declared.site.Site.{Site}
+use Rattle.sdd_obligations.specs.All.{Deliver, Does, Down, Entry, Event, Given, Hand, IsLawful, IsSubmitted, Log, Lose, Mark, Notes, Redeclare, Redeclares, Repeat, Resend, Round, Settle, Site, Submit, Submitted, Tick, TxnNo, Up, all_links, calls_of, due_by, force_at, hand_due, history, left, mark_due, mark_from, mark_of, next, next_mark, note_if, one_if, or_else, quiet, redeclares, round, site_due, submits_by, submits_in, txn_at, txn_no}
 use Rattle.sdd_obligations.specs.history.declared.record.Rec.TheVariants.{Submit as Submission}
-use Rattle.sdd_obligations.specs.laws.Deeds.{IsSubmitted}
-use Rattle.sdd_obligations.specs.logs.Due.{due_by, hand_due, home_of, mark_due, next, note_if, site_due}
-use Rattle.sdd_obligations.specs.logs.Entries.{Does, Entry, Given, Hand, Log, Mark, Notes, Redeclares, Round, Submitted, history}
-use Rattle.sdd_obligations.specs.logs.Lawful.{IsLawful}
-use Rattle.sdd_obligations.specs.logs.Locals.{force_at, redeclares, txn_at}
-use Rattle.sdd_obligations.specs.logs.Marks.{from_event, left, mark_from, mark_of, next_mark}
-use Rattle.sdd_obligations.specs.logs.Permitted.{one_if, submits_by, submits_in}
-use Rattle.sdd_obligations.specs.logs.Traffic.{all_links, calls_of}
+use Rattle.sdd_obligations.specs.logs.Due.{home_of}
+use Rattle.sdd_obligations.specs.logs.Marks.{from_event}
 use Rattle.sdd_obligations.proofs.logs.NewMarks.{left_is, marked}
-use Rattle.sdd_obligations.specs.net.Links.{quiet, round}
 use Rattle.sdd_lawful.proofs.Places.{stands_there}
 
 -- of what a complete log leaves no event has a mark

@@ -4,22 +4,13 @@ use Rattle.std.proofs.Common.{ℕ, ◌-◌, ◌≡◌, ◌∷◌, ℤ, List, Non
 use Rattle.std.specs.Prelude.{Contains}
 use Rattle.std.specs.List.{All, AllByRecursion, cons_option}
 use Rattle.std.proofs.lemmas.List.Elements.{All-head, All-tail, recursion_from_All}
-use Rattle.sdd_obligations.specs.base.declared.number.RelNo.{RelNo}
-use Rattle.sdd_obligations.specs.base.declared.number.TxnNo.{TxnNo}
+use Rattle.sdd_obligations.specs.All.{Catalogue, Delete, Given, Int, IsSound, Put, Query, RelNo, Row, Stmt, Txn, TxnNo, Update, database_of, history, run}
 use Rattle.sdd_obligations.specs.base.declared.value.Value.{Value}
-use Rattle.sdd_obligations.specs.base.declared.value.Value.TheVariants.{Int}
-use Rattle.sdd_obligations.specs.catalog.Catalogue.{Catalogue}
-use Rattle.sdd_obligations.specs.catalog.Rules.{IsSound}
-use Rattle.sdd_obligations.specs.lang.Database.{Row, database_of}
 use Rattle.sdd_obligations.specs.lang.Update.{in_range}
 use Rattle.sdd_obligations.specs.lang.declared.assign.Assign.{Assign}
 use Rattle.sdd_obligations.specs.lang.declared.assign.Assign.TheVariants.{To, Add}
-use Rattle.sdd_obligations.specs.lang.declared.statement.Stmt.{Stmt}
-use Rattle.sdd_obligations.specs.lang.declared.statement.Stmt.TheVariants.{Put, Query, Update, Delete}
-use Rattle.sdd_obligations.specs.lang.declared.transaction.Txn.{Txn}
 use Rattle.sdd_obligations.specs.laws.Deeds.{txn_at}
-use Rattle.sdd_obligations.specs.laws.Replay.{run, texts_of}
-use Rattle.sdd_obligations.specs.logs.Entries.{Given, history}
+use Rattle.sdd_obligations.specs.laws.Replay.{texts_of}
 use Rattle.sdd_obligations.proofs.net.Lists.{All-at}
 use Rattle.sdd_obligations.specs.serial_orders.SerialOrder.{serial_order}
 use Rattle.sdd_run.specs.report.declared.copies.CopyTable.{CopyTable}

@@ -3,8 +3,7 @@ use Rattle.std.proofs.Common.{ℕ, List, [], ◌∷◌, inl, inr, refl}
 use Rattle.std.specs.List.{AllZip}
 use Rattle.std.specs.Prelude.{◌⊎◌}
 use Rattle.sdd_acyclic.proofs.EachTable.{each_table}
-use Rattle.sdd_obligations.specs.catalog.Catalogue.{Catalogue}
-use Rattle.sdd_obligations.specs.catalog.Rules.{IsSound}
+use Rattle.sdd_obligations.specs.All.{Catalogue, IsSound, IsTable}
 use Rattle.sdd_termination.proofs.Ends.{run_ends}
 use Rattle.sdd_obligations.specs.protocol.declared.entry.Entry.{Entry}
 use Rattle.sdd_run.specs.report.Report.{report_text}
@@ -16,7 +15,6 @@ use Rattle.sdd_run.specs.script.Valid.{IsValid}
 use Rattle.sdd_run.specs.script.declared.workload.Workload.{Workload}
 use Rattle.sdd_run.specs.class_lists.InForce.{eras_in}
 use Rattle.sdd_run.proofs.class_lists.WholeSound.{whole_sound}
-use Rattle.sdd_obligations.specs.protocol.Protocols.{IsTable}
 
 -- each catalogue has its protocol table
 tabled : (cats : List Catalogue) → (tables : List (List Entry)) × AllZip IsTable cats tables

@@ -2,23 +2,11 @@
 -- force.
 use Rattle.std.proofs.Common.{◌≡◌, ℕ, zero, suc, Some, refl, slice_get, ◌+◌, ◌≤◌, ◌==◌, List, [], ◌∷◌, ◌++◌, length, sym, ap, ◌∙◌, subst, arith, append_assoc, inl, inr}
 use Rattle.std.specs.Prelude.{slice_index_or}
-use Rattle.sdd_obligations.specs.base.Numbers.{txn_no}
-use Rattle.sdd_obligations.specs.base.declared.event.Event.{Event}
-use Rattle.sdd_obligations.specs.base.declared.event.Event.TheVariants.{Submit}
-use Rattle.sdd_obligations.specs.base.declared.site.Site.{Site}
-use Rattle.sdd_obligations.specs.AfterEvents.{redeclares_in}
-use Rattle.sdd_obligations.specs.Bounds.{AllFewTicks}
+use Rattle.sdd_obligations.specs.All.{AllFewTicks, AreSubmittedOnce, Does, Eras, Event, Given, Hand, IsLawful, IsPermitted, IsSubmitted, Log, Mark, Notes, Redeclares, Round, Site, Submit, Submitted, event_at, force_at, history, left, marks, one_if, redeclares, redeclares_in, submits_by, submits_in, txn_no}
 use Rattle.sdd_obligations.proofs.Done.{count_join, done}
 use Rattle.sdd_obligations.proofs.invariants.Made.{permitted_before}
-use Rattle.sdd_obligations.specs.laws.Deeds.{IsSubmitted}
-use Rattle.sdd_obligations.specs.laws.Eras.{Eras, in_force}
+use Rattle.sdd_obligations.specs.laws.Eras.{in_force}
 use Rattle.sdd_obligations.specs.history.declared.record.Rec.TheVariants.{Submit as Submission}
-use Rattle.sdd_obligations.specs.serial_orders.Places.{event_at}
-use Rattle.sdd_obligations.specs.logs.Entries.{Given, Log, Mark, Round, Redeclares, Hand, Submitted, Notes, Does, history, marks}
-use Rattle.sdd_obligations.specs.logs.Lawful.{IsLawful}
-use Rattle.sdd_obligations.specs.logs.Locals.{force_at, redeclares}
-use Rattle.sdd_obligations.specs.logs.Marks.{left}
-use Rattle.sdd_obligations.specs.logs.Permitted.{AreSubmittedOnce, IsPermitted, one_if, submits_by, submits_in}
 use Rattle.sdd_obligations.proofs.logs.NewMarks.{lawful_permitted, left_is, marked}
 use Rattle.sdd_lawful.specs.Given.{AreErasOf}
 use Rattle.sdd_lawful.proofs.Places.{event_there}

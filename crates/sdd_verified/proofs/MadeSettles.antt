@@ -3,13 +3,8 @@ use Rattle.std.proofs.Common.{ℕ, zero, suc, ◌+◌, ◌++◌, ◌/◌, ◌%�
 use Rattle.std.specs.Prelude.{nat_lt}
 use Rattle.std.specs.List.{list_any}
 use Rattle.std.proofs.lemmas.Bool.{cases_eq, eq-eqb}
-use Rattle.sdd_obligations.specs.base.Numbers.{dm_no, tm_no}
-use Rattle.sdd_obligations.specs.base.declared.event.Event.{Event}
-use Rattle.sdd_obligations.specs.base.declared.event.Event.TheVariants.{Settle}
-use Rattle.sdd_obligations.specs.base.declared.limits.TheConstants.{MAX_TXNS}
-use Rattle.sdd_obligations.specs.base.declared.site.Site.TheVariants.{D, T}
-use Rattle.sdd_obligations.specs.catalog.Rules.{IsSound, faults_of}
-use Rattle.sdd_obligations.specs.logs.Permitted.{one_if, submits_in}
+use Rattle.sdd_obligations.specs.All.{D, Event, IsSound, MAX_TXNS, Settle, T, dm_no, one_if, submits_in, tm_no}
+use Rattle.sdd_obligations.specs.catalog.Rules.{faults_of}
 use Rattle.sdd_run.specs.make.Bank.{bank}
 use Rattle.sdd_run.specs.make.Draws.{draw, next, shown}
 use Rattle.sdd_run.specs.make.Turns.{arrival, deliveries, delivery, drawn_events, drawn_txn, events_of, turn, turns, turns_of, txns_of, workload_of}

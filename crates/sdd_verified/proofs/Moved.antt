@@ -5,14 +5,10 @@ use Rattle.std.specs.List.{All}
 use Rattle.std.specs.Option.{option_map_or}
 use Rattle.std.proofs.lemmas.List.Elements.{All-cons, All-head, All-nil, All-tail}
 use Rattle.std.proofs.lemmas.List.Folds.{flat_map-map}
-use Rattle.sdd_obligations.specs.base.Numbers.{txn_no}
-use Rattle.sdd_obligations.specs.base.declared.number.TxnNo.{TxnNo}
-use Rattle.sdd_obligations.specs.catalog.Catalogue.{Catalogue}
-use Rattle.sdd_obligations.specs.lang.declared.transaction.Txn.{Txn}
+use Rattle.sdd_obligations.specs.All.{Catalogue, Txn, TxnNo, submits_in, txn_no}
 use Rattle.sdd_run.specs.report.Committed.{order_line}
 use Rattle.sdd_run.specs.script.Valid.{IsValid}
 use Rattle.sdd_run.specs.script.declared.workload.Workload.{Workload}
-use Rattle.sdd_obligations.specs.logs.Permitted.{submits_in}
 use Rattle.sdd_verify.specs.Classes.{class_of, classes_submitted}
 use Rattle.sdd_verify.specs.Submitted.{submitted, texts_of, txn_of}
 use Rattle.sdd_verify.specs.Verified.{IsInTurn, at}

@@ -3,17 +3,11 @@ use Rattle.std.proofs.Common.{ℕ, zero, suc, ◌++◌, ◌==◌, ◌≡◌, ◌
 use Rattle.std.specs.Prelude.{filter_map, flat_map, if◌then◌else◌, replicate}
 use Rattle.std.specs.List.{cons_option, list_any}
 use Rattle.sdd_obligations.specs.base.Words.{tail_of}
-use Rattle.sdd_obligations.specs.base.declared.event.Event.{Event}
-use Rattle.sdd_obligations.specs.base.declared.event.Event.TheVariants.{Submit, Deliver, Lose, Repeat, Resend, Tick, Settle, Redeclare, Down, Up}
-use Rattle.sdd_obligations.specs.base.declared.site.Site.{Site}
+use Rattle.sdd_obligations.specs.All.{Call, Deliver, Does, Down, Event, Given, Hand, IsLawful, Log, Lose, Mark, Msg, Notes, Redeclare, Redeclares, Repeat, Resend, Round, Settle, Site, Submit, Submitted, Tick, Up, after_mark, all_links, calls_of, in_flight, is_down, left, link, mark_from, mark_of, quiet, resends_now, round}
 use Rattle.sdd_obligations.proofs.invariants.Bools.{neither_left, neither_right}
-use Rattle.sdd_obligations.specs.logs.Entries.{Does, Given, Hand, Log, Mark, Notes, Redeclares, Round, Submitted}
-use Rattle.sdd_obligations.specs.logs.Lawful.{IsLawful}
-use Rattle.sdd_obligations.specs.logs.Marks.{after_mark, from_event, left, mark_from, mark_of}
-use Rattle.sdd_obligations.specs.logs.Traffic.{all_links, calls_of, is_down, turned_by}
-use Rattle.sdd_obligations.specs.net.Links.{Call, in_flight, link, quiet, resends_now, round}
+use Rattle.sdd_obligations.specs.logs.Marks.{from_event}
+use Rattle.sdd_obligations.specs.logs.Traffic.{turned_by}
 use Rattle.sdd_termination.proofs.Marked.{next_is_of_events}
-use Rattle.sdd_obligations.specs.wire.declared.msg.Msg.{Msg}
 use Rattle.sdd_verified.specs.Summaries.{takes_down}
 
 -- events of which none takes a module down

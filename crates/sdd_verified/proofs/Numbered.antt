@@ -4,13 +4,9 @@ use Rattle.std.specs.Prelude.{MatchOption}
 use Rattle.std.specs.List.{All, filter_map}
 use Rattle.std.proofs.lemmas.Bool.{cases_eq, ne_eqb}
 use Rattle.std.proofs.lemmas.List.Elements.{All-head, All-tail}
-use Rattle.sdd_obligations.specs.base.declared.event.Event.{Event}
-use Rattle.sdd_obligations.specs.base.declared.event.Event.TheVariants.{Submit, Deliver, Lose, Repeat, Resend, Tick, Settle, Redeclare, Down, Up}
-use Rattle.sdd_obligations.specs.catalog.Catalogue.{Catalogue}
-use Rattle.sdd_obligations.specs.lang.declared.transaction.Txn.{Txn}
+use Rattle.sdd_obligations.specs.All.{Catalogue, Deliver, Down, Event, Lose, Redeclare, Repeat, Resend, Settle, Submit, Tick, Txn, Up, one_if, submits_by, submits_in}
 use Rattle.sdd_run.specs.script.Valid as scripts
 use Rattle.sdd_run.specs.script.Valid.{IsValidEvent}
-use Rattle.sdd_obligations.specs.logs.Permitted.{one_if, submits_by, submits_in}
 use Rattle.sdd_verify.specs.Submitted.{submitted_by}
 use Rattle.sdd_verify.proofs.NamesTold.{member_at}
 

@@ -7,14 +7,9 @@ use Rattle.std.specs.Option.{option_map_or}
 use Rattle.std.specs.Str.{bytes_eq}
 use Rattle.std.proofs.lemmas.List.{length-map}
 use Rattle.std.proofs.lemmas.Option.{same_Some}
-use Rattle.sdd_obligations.specs.base.Numbers.{txn_no}
-use Rattle.sdd_obligations.specs.base.declared.number.TxnNo.{TxnNo}
-use Rattle.sdd_obligations.specs.catalog.Catalogue.{Catalogue}
+use Rattle.sdd_obligations.specs.All.{Catalogue, Given, IsFrom1To, IsSound, Txn, TxnNo, txn_no}
 use Rattle.sdd_obligations.specs.catalog.Naming.{AreNamed}
-use Rattle.sdd_obligations.specs.catalog.Rules.{IsSound, repeats}
-use Rattle.sdd_obligations.specs.lang.declared.transaction.Txn.{Txn}
-use Rattle.sdd_obligations.specs.logs.Entries.{Given}
-use Rattle.sdd_obligations.specs.serial_orders.Numbers.{IsFrom1To}
+use Rattle.sdd_obligations.specs.catalog.Rules.{repeats}
 use Rattle.sdd_run.specs.report.Committed.{names_of}
 use Rattle.sdd_run.specs.report.Names.{txn_name}
 use Rattle.sdd_run.specs.report.declared.pending.Pending.{Pending}

@@ -5,16 +5,11 @@ use Rattle.std.specs.List.{All, AllByRecursion}
 use Rattle.std.specs.Option.{option_map_or}
 use Rattle.std.proofs.lemmas.List.{append_cancel_right}
 use Rattle.sdd_obligations.specs.base.Name.{IsName}
-use Rattle.sdd_obligations.specs.base.declared.number.TxnNo.{TxnNo}
-use Rattle.sdd_obligations.specs.base.declared.reply.Reply.{Reply}
-use Rattle.sdd_obligations.specs.catalog.Catalogue.{Catalogue}
+use Rattle.sdd_obligations.specs.All.{Catalogue, IsSound, Reply, Txn, TxnNo, history}
 use Rattle.sdd_obligations.specs.catalog.Naming.{AreNamed}
-use Rattle.sdd_obligations.specs.catalog.Rules.{IsSound}
-use Rattle.sdd_obligations.specs.lang.declared.transaction.Txn.{Txn}
 use Rattle.sdd_run.specs.class_lists.InForce.{classes_in, whole_in}
 use Rattle.sdd_run.proofs.class_lists.OtherClasses.{whole_over}
 use Rattle.sdd_run.proofs.class_lists.WholeSound.{whole_named, whole_sound}
-use Rattle.sdd_obligations.specs.logs.Entries.{history}
 use Rattle.sdd_run.specs.report.Committed.{names_of}
 use Rattle.sdd_run.specs.report.Names.{txn_name}
 use Rattle.sdd_run.specs.report.Report.{Report}

@@ -7,15 +7,12 @@ use Rattle.std.specs.List.{AllByRecursion}
 use Rattle.std.proofs.lemmas.Fmt.{decimal_injective}
 use Rattle.std.proofs.lemmas.Bool.{leb-true}
 use Rattle.std.proofs.lemmas.List.{append_cancel_left, append_cancel_right}
-use Rattle.sdd_obligations.specs.base.declared.reply.Reply.{Reply}
+use Rattle.sdd_obligations.specs.All.{Catalogue, Int, Reply, Row, Txn}
 use Rattle.sdd_obligations.specs.base.declared.reply.Reply.TheVariants.{Rows, Overflow, TooMany}
 use Rattle.sdd_obligations.specs.base.declared.value.Value.{Value}
-use Rattle.sdd_obligations.specs.base.declared.value.Value.TheVariants.{Int, Text}
-use Rattle.sdd_obligations.specs.catalog.Catalogue.{Catalogue}
+use Rattle.sdd_obligations.specs.base.declared.value.Value.TheVariants.{Text}
 use Rattle.sdd_obligations.proofs.invariants.Bools.{and_left}
-use Rattle.sdd_obligations.specs.lang.Database.{Row}
 use Rattle.sdd_obligations.specs.lang.Update.{in_range}
-use Rattle.sdd_obligations.specs.lang.declared.transaction.Txn.{Txn}
 use Rattle.sdd_run.specs.report.Copies.{place_words}
 use Rattle.sdd_run.specs.report.Names.{spaced, txn_name}
 use Rattle.sdd_run.specs.report.Pending.{why_words}

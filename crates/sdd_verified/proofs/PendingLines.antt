@@ -5,11 +5,8 @@ use Rattle.std.proofs.lemmas.Bool.{ltb-true, ne_eqb}
 use Rattle.std.proofs.lemmas.List.{length-map}
 use Rattle.std.proofs.lemmas.List.Sums.{sum_by-cons}
 use Rattle.sdd_obligations.proofs.base.Membership.{Contains-cases, Contains-nil}
-use Rattle.sdd_obligations.specs.base.declared.number.TxnNo.{TxnNo}
-use Rattle.sdd_obligations.specs.catalog.Catalogue.{Catalogue}
+use Rattle.sdd_obligations.specs.All.{Catalogue, IsSound, TxnNo, history}
 use Rattle.sdd_obligations.specs.catalog.Naming.{AreNamed}
-use Rattle.sdd_obligations.specs.catalog.Rules.{IsSound}
-use Rattle.sdd_obligations.specs.logs.Entries.{history}
 use Rattle.sdd_obligations.specs.serial_orders.SerialOrder.{serial_order}
 use Rattle.sdd_run.specs.report.declared.pending.Pending.{Pending}
 use Rattle.sdd_run.specs.Reports.{report_of}

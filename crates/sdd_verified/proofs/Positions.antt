@@ -4,11 +4,8 @@ use Rattle.std.specs.Prelude.{Contains}
 use Rattle.std.specs.List.{All}
 use Rattle.std.proofs.lemmas.Bool.{cases_lt}
 use Rattle.std.proofs.lemmas.List.Elements.{All-cons, All-nil}
-use Rattle.sdd_obligations.specs.base.Numbers.{txn_no}
-use Rattle.sdd_obligations.specs.base.declared.number.TxnNo.{TxnNo}
+use Rattle.sdd_obligations.specs.All.{Catalogue, History, TxnNo, txn_no}
 use Rattle.sdd_obligations.proofs.base.Membership.{Contains-here, Contains-later}
-use Rattle.sdd_obligations.specs.catalog.Catalogue.{Catalogue}
-use Rattle.sdd_obligations.specs.history.Records.{History}
 use Rattle.sdd_obligations.specs.serial_orders.Orders.{IsAlong}
 use Rattle.sdd_run.specs.Standing.{StandsBefore}
 use Rattle.sdd_verify.specs.Verified.{at}

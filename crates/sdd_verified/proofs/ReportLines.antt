@@ -8,14 +8,8 @@ use Rattle.std.proofs.lemmas.Bool.{ne_eqb}
 use Rattle.std.proofs.lemmas.Bool.Decides.{nat_tests}
 use Rattle.std.proofs.lemmas.List.Elements.{All-cons, All-nil}
 use Rattle.sdd_obligations.specs.base.Name.{IsName}
-use Rattle.sdd_obligations.specs.base.declared.condition.Cond.{Cond}
-use Rattle.sdd_obligations.specs.base.declared.number.Ts.{Ts}
-use Rattle.sdd_obligations.specs.base.declared.number.TxnNo.{TxnNo}
-use Rattle.sdd_obligations.specs.catalog.Catalogue.{Catalogue}
-use Rattle.sdd_obligations.specs.catalog.declared.resolved.Class.{Class}
-use Rattle.sdd_obligations.specs.history.declared.record.Rec.{Rec}
+use Rattle.sdd_obligations.specs.All.{Catalogue, Class, Cond, Rec, Ts, Txn, TxnNo}
 use Rattle.sdd_obligations.specs.history.declared.record.Rec.TheVariants as records
-use Rattle.sdd_obligations.specs.lang.declared.transaction.Txn.{Txn}
 use Rattle.sdd_run.specs.report.Committed.{Told, shipped_line, shipped_of, told_of}
 use Rattle.sdd_run.specs.report.Copies.{copies_lines, copy_lines}
 use Rattle.sdd_run.specs.report.Names.{attempt_word, class_name, class_time, class_word, module_word, spaced, txn_name}

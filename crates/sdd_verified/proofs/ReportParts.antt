@@ -6,17 +6,11 @@ use Rattle.std.proofs.lemmas.Bool.{lt-ltb}
 use Rattle.std.proofs.lemmas.List.{length-map}
 use Rattle.sdd_obligations.proofs.base.Membership.{Contains-here, Contains-later}
 use Rattle.sdd_obligations.specs.base.Name.{IsName}
-use Rattle.sdd_obligations.specs.base.declared.number.TxnNo.{TxnNo}
-use Rattle.sdd_obligations.specs.base.declared.reply.Reply.{Reply}
+use Rattle.sdd_obligations.specs.All.{Catalogue, Int, IsSound, Rec, Reply, Txn, TxnNo, history, run}
 use Rattle.sdd_obligations.specs.base.declared.value.Value.{Value}
-use Rattle.sdd_obligations.specs.base.declared.value.Value.TheVariants.{Int, Text}
-use Rattle.sdd_obligations.specs.catalog.Catalogue.{Catalogue}
+use Rattle.sdd_obligations.specs.base.declared.value.Value.TheVariants.{Text}
 use Rattle.sdd_obligations.specs.catalog.Naming.{AreNamed}
-use Rattle.sdd_obligations.specs.catalog.Rules.{IsSound}
-use Rattle.sdd_obligations.specs.history.declared.record.Rec.{Rec}
-use Rattle.sdd_obligations.specs.lang.declared.transaction.Txn.{Txn}
-use Rattle.sdd_obligations.specs.laws.Replay.{IsReplyOf, run}
-use Rattle.sdd_obligations.specs.logs.Entries.{history}
+use Rattle.sdd_obligations.specs.laws.Replay.{IsReplyOf}
 use Rattle.sdd_obligations.specs.serial_orders.SerialOrder.{serial_order}
 use Rattle.sdd_run.specs.report.Committed.{names_of, order_line}
 use Rattle.sdd_run.specs.report.Copies.{copies_lines}

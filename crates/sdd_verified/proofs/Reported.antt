@@ -6,28 +6,12 @@ use Rattle.std.specs.Option.{option_map_or}
 use Rattle.std.proofs.lemmas.Bool.{cases_lt}
 use Rattle.std.proofs.lemmas.List.Elements.{All-cons, All-head, All-nil, All-tail}
 use Rattle.sdd_obligations.specs.base.Name.{IsName}
-use Rattle.sdd_obligations.specs.base.declared.number.TxnNo.{TxnNo}
-use Rattle.sdd_obligations.specs.base.declared.reply.Reply.{Reply}
-use Rattle.sdd_obligations.specs.catalog.Catalogue.{Catalogue}
+use Rattle.sdd_obligations.specs.All.{AllFewTicks, AreSubmittedOnce, Catalogue, Committed, Given, History, IsCommitted, IsFrom1To, IsSound, IsSubmitted, KeepsStarts, Reply, Txn, TxnNo, class_for, database_of, event_at, force_at, history, redeclares, run, submits_in}
 use Rattle.sdd_obligations.specs.catalog.Naming.{AreNamed}
-use Rattle.sdd_obligations.specs.catalog.Rules.{IsSound}
-use Rattle.sdd_obligations.specs.history.Records.{History}
-use Rattle.sdd_obligations.specs.lang.Classes.{class_for}
-use Rattle.sdd_obligations.specs.lang.Database.{database_of}
 use Rattle.sdd_obligations.specs.lang.Serial.{serial}
-use Rattle.sdd_obligations.specs.lang.declared.transaction.Txn.{Txn}
-use Rattle.sdd_obligations.specs.laws.Deeds.{IsSubmitted}
 use Rattle.sdd_obligations.specs.laws.Eras.{in_force}
-use Rattle.sdd_obligations.specs.laws.Replay.{run}
-use Rattle.sdd_obligations.specs.laws.Starts.{IsOfSubmit, KeepsStarts}
-use Rattle.sdd_obligations.specs.logs.Entries.{Given, history}
-use Rattle.sdd_obligations.specs.logs.Locals.{force_at, redeclares}
-use Rattle.sdd_obligations.specs.Bounds.{AllFewTicks}
+use Rattle.sdd_obligations.specs.laws.Starts.{IsOfSubmit}
 use Rattle.sdd_run.specs.progress.Eras.{eras_of}
-use Rattle.sdd_obligations.specs.logs.Permitted.{AreSubmittedOnce, submits_in}
-use Rattle.sdd_obligations.specs.serial_orders.Attempts.{Committed, IsCommitted}
-use Rattle.sdd_obligations.specs.serial_orders.Numbers.{IsFrom1To}
-use Rattle.sdd_obligations.specs.serial_orders.Places.{event_at}
 use Rattle.sdd_obligations.specs.serial_orders.SerialOrder.{serial_order}
 use Rattle.sdd_run.specs.report.Committed.{names_of, order_line, shipped_of}
 use Rattle.sdd_run.specs.report.Copies.{copies_lines}

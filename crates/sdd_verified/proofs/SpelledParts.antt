@@ -5,15 +5,8 @@ use Rattle.std.specs.Fmt.{decimal}
 use Rattle.std.specs.List.{All, AllByRecursion}
 use Rattle.std.specs.Option.{option_map_or}
 use Rattle.sdd_obligations.specs.base.Name.{IsName}
-use Rattle.sdd_obligations.specs.base.declared.number.TxnNo.{TxnNo}
-use Rattle.sdd_obligations.specs.base.declared.reply.Reply.{Reply}
+use Rattle.sdd_obligations.specs.All.{Catalogue, Class, Fragment, Rec, Reply, Row, Txn, TxnNo}
 use Rattle.sdd_obligations.specs.base.declared.reply.Reply.TheVariants.{Rows, Overflow, TooMany}
-use Rattle.sdd_obligations.specs.catalog.Catalogue.{Catalogue}
-use Rattle.sdd_obligations.specs.catalog.declared.resolved.Class.{Class}
-use Rattle.sdd_obligations.specs.catalog.declared.resolved.Fragment.{Fragment}
-use Rattle.sdd_obligations.specs.history.declared.record.Rec.{Rec}
-use Rattle.sdd_obligations.specs.lang.Database.{Row}
-use Rattle.sdd_obligations.specs.lang.declared.transaction.Txn.{Txn}
 use Rattle.sdd_run.specs.report.Committed.{Told, order_line, names_of, shipped_line, shipped_of, told_of}
 use Rattle.sdd_run.specs.report.Copies.{copies_lines, copy_lines, place_words}
 use Rattle.sdd_run.specs.report.Names.{fragment_name, module_word, spaced, txn_name}

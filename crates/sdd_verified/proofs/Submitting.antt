@@ -1,18 +1,10 @@
 -- In the history of a run transactions are submitted in the order of its schedule.
 use Rattle.std.proofs.Common.{◌≡◌, ◌≢◌, ℕ, ◌+◌, ◌<◌, ◌≤◌, ◌==◌, List, [], ◌∷◌, ◌++◌, length, refl, sym, ap, ◌∙◌, subst, arith, eq-eqb, ◌⊎◌, inl, inr, append_assoc}
 use Rattle.std.proofs.lemmas.Bool.{ne_eqb}
-use Rattle.sdd_obligations.specs.base.Numbers.{txn_no}
+use Rattle.sdd_obligations.specs.All.{AreSubmittedOnce, Deliver, Does, Down, Event, Given, Hand, IsLawful, IsPermitted, IsSubmitted, Log, Lose, Mark, Notes, Redeclare, Redeclares, Repeat, Resend, Round, Settle, Site, Submit, Submitted, Tick, TxnNo, Up, after_mark, history, left, one_if, submits_by, submits_in, txn_no}
 use Rattle.sdd_obligations.specs.base.Words.{tail_of}
-use Rattle.sdd_obligations.specs.base.declared.number.TxnNo.{TxnNo}
 use Rattle.sdd_obligations.specs.history.declared.record.Rec.TheVariants.{Submit as Submission}
-use Rattle.sdd_obligations.specs.base.declared.event.Event.{Event}
-use Rattle.sdd_obligations.specs.base.declared.event.Event.TheVariants.{Submit, Deliver, Lose, Repeat, Resend, Tick, Settle, Redeclare, Down, Up}
-use Rattle.sdd_obligations.specs.base.declared.site.Site.{Site}
-use Rattle.sdd_obligations.specs.laws.Deeds.{IsSubmitted}
-use Rattle.sdd_obligations.specs.logs.Entries.{Given, Log, Mark, Round, Redeclares, Hand, Submitted, Notes, Does, history}
-use Rattle.sdd_obligations.specs.logs.Lawful.{IsLawful}
-use Rattle.sdd_obligations.specs.logs.Marks.{after_mark, from_event, left}
-use Rattle.sdd_obligations.specs.logs.Permitted.{AreSubmittedOnce, IsPermitted, one_if, submits_by, submits_in}
+use Rattle.sdd_obligations.specs.logs.Marks.{from_event}
 use Rattle.sdd_obligations.proofs.logs.NewMarks.{lawful_permitted, left_is, marked}
 use Rattle.sdd_obligations.proofs.invariants.Made.{permitted_before}
 use Rattle.sdd_obligations.proofs.invariants.Places.{compare}

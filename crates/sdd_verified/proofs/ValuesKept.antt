@@ -8,24 +8,17 @@ use Rattle.std.specs.List.{AllByRecursion, cons_option}
 use Rattle.std.specs.Ordering.{match_ordering}
 use Rattle.std.specs.declared.cmp.Ordering.TheVariants.{Less, Equal, Greater}
 use Rattle.sdd_obligations.specs.base.Order.{column, row_cmp}
-use Rattle.sdd_obligations.specs.base.declared.change.Change.{Change}
-use Rattle.sdd_obligations.specs.base.declared.number.RelNo.{RelNo}
-use Rattle.sdd_obligations.specs.base.declared.reply.Reply.{Reply}
+use Rattle.sdd_obligations.specs.All.{Catalogue, Change, Condition, Delete, Effect, Int, Put, Query, RelNo, Reply, Row, Stmt, Txn, Update, database_of, effect, item_cmp}
 use Rattle.sdd_obligations.specs.base.declared.reply.Reply.TheVariants.{Rows, Overflow, TooMany}
 use Rattle.sdd_obligations.specs.base.declared.value.Value.{Value}
-use Rattle.sdd_obligations.specs.base.declared.value.Value.TheVariants.{Int, Text}
-use Rattle.sdd_obligations.specs.catalog.Catalogue.{Catalogue, fragment_of}
+use Rattle.sdd_obligations.specs.base.declared.value.Value.TheVariants.{Text}
+use Rattle.sdd_obligations.specs.catalog.Catalogue.{fragment_of}
 use Rattle.sdd_obligations.specs.lang.declared.assign.Assign.{Assign}
 use Rattle.sdd_obligations.specs.lang.declared.assign.Assign.TheVariants.{To, Add}
-use Rattle.sdd_obligations.specs.lang.declared.condition.Condition.{Condition}
 use Rattle.sdd_obligations.specs.lang.declared.condition.Ref.{Ref}
-use Rattle.sdd_obligations.specs.lang.declared.effect.Effect.{Effect}
-use Rattle.sdd_obligations.specs.lang.declared.statement.Stmt.{Stmt}
-use Rattle.sdd_obligations.specs.lang.declared.statement.Stmt.TheVariants.{Put, Query, Update, Delete}
-use Rattle.sdd_obligations.specs.lang.declared.transaction.Txn.{Txn}
 use Rattle.sdd_obligations.specs.lang.Condition.{Tuple, meets_all, part_of, value_at}
-use Rattle.sdd_obligations.specs.lang.Database.{Database, Item, Row, database_of, item_cmp, key_in, rows_of, with_row}
-use Rattle.sdd_obligations.specs.lang.Effect.{Changed, change_of, effect, effect_from, failed, rows_in, with_change, with_deletes, with_updates}
+use Rattle.sdd_obligations.specs.lang.Database.{Database, Item, key_in, rows_of, with_row}
+use Rattle.sdd_obligations.specs.lang.Effect.{Changed, change_of, effect_from, failed, rows_in, with_change, with_deletes, with_updates}
 use Rattle.sdd_obligations.specs.lang.Query.{answer, product, projection, selection}
 use Rattle.sdd_obligations.specs.lang.Serial.{after_changes, changed_by, item_of, serial, set_to}
 use Rattle.sdd_obligations.specs.lang.Update.{added, assigned, assigned_all, chosen, in_range, replaced}

@@ -1,13 +1,8 @@
 -- The lines of a report, part by part, each without its newline.
 use Rattle.std.specs.Prelude.{ℕ, ◌+◌, List, [], ◌∷◌, ◌++◌, codes, flat_map, length, map, Option, Some, None}
 use Rattle.std.specs.Fmt.{decimal}
-use Rattle.sdd_obligations.specs.base.declared.number.TxnNo.{TxnNo}
-use Rattle.sdd_obligations.specs.base.declared.reply.Reply.{Reply}
+use Rattle.sdd_obligations.specs.All.{Catalogue, Rec, Reply, Row, Txn, TxnNo}
 use Rattle.sdd_obligations.specs.base.declared.reply.Reply.TheVariants.{Rows, Overflow, TooMany}
-use Rattle.sdd_obligations.specs.catalog.Catalogue.{Catalogue}
-use Rattle.sdd_obligations.specs.history.declared.record.Rec.{Rec}
-use Rattle.sdd_obligations.specs.lang.Database.{Row}
-use Rattle.sdd_obligations.specs.lang.declared.transaction.Txn.{Txn}
 use Rattle.sdd_run.specs.report.Committed.{Told, told_of}
 use Rattle.sdd_run.specs.report.Copies.{place_words}
 use Rattle.sdd_run.specs.report.Names.{spaced, txn_name}

@@ -1,10 +1,7 @@
 -- Schedules that leave nothing undone, and summaries that tell of as many Commits as transactions.
 use Rattle.std.specs.Prelude.{ℕ, ◌≡◌, ◌≤◌, Bool, true, false, List, [], ◌∷◌, refl}
 use Rattle.std.specs.List.{list_any}
-use Rattle.sdd_obligations.specs.base.Numbers.{dm_no, txn_no}
-use Rattle.sdd_obligations.specs.base.declared.event.Event.{Event}
-use Rattle.sdd_obligations.specs.base.declared.event.Event.TheVariants.{Down, Settle, Submit}
-use Rattle.sdd_obligations.specs.logs.Permitted.{submits_in}
+use Rattle.sdd_obligations.specs.All.{Down, Event, Settle, Submit, dm_no, submits_in, txn_no}
 use Rattle.sdd_run.specs.make.Summary.{summary_text}
 use Rattle.sdd_run.specs.make.declared.summary.Summary.{Summary}
 use Rattle.sdd_run.specs.Settled.{EndsAtRest}

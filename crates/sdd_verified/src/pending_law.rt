@@ -1,8 +1,7 @@
 //! The lines of pending transactions in a report.
 ghost use Rattle.std.specs.Prelude.{ℕ, ◌≡◌, [], false, Contains, List, count_by, length};
-ghost use Rattle.sdd_obligations.specs.catalog.Catalogue.{Catalogue};
+ghost use Rattle.sdd_obligations.specs.All.{Catalogue, IsSound};
 ghost use Rattle.sdd_obligations.specs.catalog.Naming.{AreNamed};
-ghost use Rattle.sdd_obligations.specs.catalog.Rules.{IsSound};
 ghost use Rattle.sdd_run.specs.Reports.{report_of};
 ghost use Rattle.sdd_run.specs.Runs.{IsReportOn, given_of};
 ghost use Rattle.sdd_run.specs.script.Valid.{IsValid};

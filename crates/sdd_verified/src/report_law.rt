@@ -1,7 +1,6 @@
 //! Every run has a report, or comes to the limit.
 ghost use Rattle.std.specs.Prelude.{ℕ, ◌≡◌, ◌⊎◌, List};
-ghost use Rattle.sdd_obligations.specs.catalog.Catalogue.{Catalogue};
-ghost use Rattle.sdd_obligations.specs.catalog.Rules.{IsSound};
+ghost use Rattle.sdd_obligations.specs.All.{Catalogue, IsSound};
 ghost use Rattle.sdd_run.specs.Runs.{EndsAtLimit, IsReportOn};
 ghost use Rattle.sdd_run.specs.script.Valid.{IsValid};
 ghost use Rattle.sdd_run.specs.script.declared.workload.Workload.{Workload};

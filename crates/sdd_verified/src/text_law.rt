@@ -1,8 +1,7 @@
 //! What the text of a report gives back.
 ghost use Rattle.std.specs.Prelude.{ℕ, ◌≡◌, List};
-ghost use Rattle.sdd_obligations.specs.catalog.Catalogue.{Catalogue};
+ghost use Rattle.sdd_obligations.specs.All.{Catalogue, IsSound};
 ghost use Rattle.sdd_obligations.specs.catalog.Naming.{AreNamed};
-ghost use Rattle.sdd_obligations.specs.catalog.Rules.{IsSound};
 ghost use Rattle.sdd_run.specs.Runs.{IsReportOn};
 ghost use Rattle.sdd_run.specs.script.Valid.{IsValid};
 ghost use Rattle.sdd_run.specs.script.declared.workload.Workload.{Workload};

@@ -2,15 +2,10 @@
 use Rattle.std.proofs.Common.{◌≡◌, ℕ, List, [], ◌∷◌, subst, sym, Some}
 use Rattle.std.specs.List.{All}
 use Rattle.std.proofs.lemmas.List.Elements.{All-cons, All-head, All-nil, All-tail}
-use Rattle.sdd_script.specs.catalog.Catalogue.{Catalogue}
-use Rattle.sdd_script.specs.lang.Fits.{Fits}
-use Rattle.sdd_script.specs.lang.declared.transaction.Txn.{Txn}
+use Rattle.sdd_script.specs.All.{Catalogue, Deliver, Down, Event, Fits, IsValid, IsValidTxn, Lose, Redeclare, Repeat, Resend, Settle, Submit, Tick, Txn, Up}
 use Rattle.sdd_lists.specs.InForce.{classes_in, eras_in}
 use Rattle.sdd_lists.proofs.OtherClasses.{fits_era}
-use Rattle.sdd_script.specs.Valid.{IsValid, IsValidTxn}
 use Rattle.sdd_script.specs.declared.workload.Workload.{Workload}
-use Rattle.sdd_script.specs.base.declared.event.Event.{Event}
-use Rattle.sdd_script.specs.base.declared.event.Event.TheVariants.{Submit, Deliver, Lose, Repeat, Resend, Tick, Settle, Redeclare, Down, Up}
 use Rattle.sdd_verify.specs.Classes.{era_at}
 use Rattle.sdd_verify.specs.Submitted.{submitted_by}
 use Rattle.sdd_verify.proofs.Submissions.{found_member}

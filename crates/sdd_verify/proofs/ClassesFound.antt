@@ -1,10 +1,7 @@
 -- The classes of what events submit, one event more.
 use Rattle.std.proofs.Common.{◌≡◌, ℕ, ◌+◌, ◌<◌, ◌≤◌, List, ◌∷◌, ◌++◌, length, drop, get_or, sym, ap, ◌∙◌, append_assoc, arith}
 use Rattle.std.proofs.lemmas.List.{drop_more}
-use Rattle.sdd_script.specs.base.declared.event.Event.{Event}
-use Rattle.sdd_script.specs.base.declared.event.Event.TheVariants.{Submit, Deliver, Lose, Repeat, Resend, Tick, Settle, Redeclare, Down, Up}
-use Rattle.sdd_script.specs.catalog.Catalogue.{Catalogue}
-use Rattle.sdd_script.specs.lang.declared.transaction.Txn.{Txn}
+use Rattle.sdd_script.specs.All.{Catalogue, Deliver, Down, Event, Lose, Redeclare, Repeat, Resend, Settle, Submit, Tick, Txn, Up}
 use Rattle.sdd_verify.specs.Classes.{class_if, classes_from, redeclared}
 use Rattle.sdd_verify.specs.Submitted.{submitted_by}
 

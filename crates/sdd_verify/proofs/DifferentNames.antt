@@ -4,13 +4,8 @@ use Rattle.std.specs.Prelude.{MatchOption}
 use Rattle.std.specs.List.{All, filter_map, position}
 use Rattle.std.specs.Str.{bytes_eq}
 use Rattle.std.proofs.lemmas.List.Elements.{All-cons, All-head, All-nil, All-tail}
-use Rattle.sdd_script.specs.base.declared.event.Event.{Event}
-use Rattle.sdd_script.specs.base.declared.event.Event.TheVariants.{Submit, Deliver, Lose, Repeat, Resend, Tick, Settle, Redeclare, Down, Up}
-use Rattle.sdd_script.specs.catalog.Catalogue.{Catalogue}
-use Rattle.sdd_script.specs.catalog.Rules.{repeats}
-use Rattle.sdd_script.specs.lang.declared.transaction.Txn.{Txn}
+use Rattle.sdd_script.specs.All.{AreDistinct, Catalogue, Deliver, Down, Event, IsValid, IsValidEvent, Lose, Redeclare, Repeat, Resend, Settle, Submit, Tick, Txn, Up, repeats}
 use Rattle.sdd_script.specs.Valid as scripts
-use Rattle.sdd_script.specs.Valid.{AreDistinct, IsValid, IsValidEvent}
 use Rattle.sdd_script.specs.declared.workload.Workload.{Workload}
 use Rattle.sdd_script.proofs.NamePlaces.{place_of_name}
 use Rattle.sdd_verify.specs.Submitted.{submitted, submitted_by}

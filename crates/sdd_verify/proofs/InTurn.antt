@@ -3,7 +3,7 @@ use Rattle.std.proofs.Common.{◌≡◌, ◌≢◌, ℕ, zero, suc, ◌<◌, ◌
 use Rattle.std.specs.Prelude.{◌&&◌, ◌||◌, nat_lt}
 use Rattle.std.specs.List.{list_all}
 use Rattle.std.proofs.lemmas.Bool.{eqb-true, ltb-true, ne_eqb, lt-ltb}
-use Rattle.sdd_script.specs.base.declared.number.TxnNo.{TxnNo}
+use Rattle.sdd_script.specs.All.{TxnNo}
 use Rattle.sdd_verify.specs.Classes.{class_of}
 use Rattle.sdd_verify.specs.Orders.{is_in_turn, may_follow}
 use Rattle.sdd_verify.specs.Verified.{IsInTurn, at}

@@ -2,7 +2,8 @@
 use Rattle.std.proofs.Common.{◌≡◌, ◌≢◌, ℕ, List, [], ◌∷◌, ◌++◌, Bool, true, false, eqb, cond, refl, sym, ap, ◌∙◌, append_assoc}
 use Rattle.std.proofs.lemmas.Bool.{ne_eqb}
 use Rattle.std.proofs.lemmas.List.{append-nil}
-use Rattle.sdd_script.specs.words.Lines.{cut_lines, onto, spelled_lines, HasNoNewline, AreLines}
+use Rattle.sdd_script.specs.All.{AreLines, HasNoNewline, onto, spelled_lines}
+use Rattle.sdd_script.specs.words.Lines.{cut_lines}
 use Rattle.sdd_script.proofs.words.Spelled.{cut_takes}
 use Rattle.sdd_verify.specs.Lines.{lines_of}
 

@@ -5,7 +5,7 @@ use Rattle.std.specs.Str.{bytes_eq}
 use Rattle.std.proofs.lemmas.List.Elements.{All-cons, All-head, All-nil, All-tail}
 use Rattle.std.proofs.lemmas.Slice.Eq.{bytes_eq-Decides}
 use Rattle.sdd_script.proofs.base.ReadingLaws.{ok_is}
-use Rattle.sdd_script.specs.words.Lines.{AreLines, spelled_lines}
+use Rattle.sdd_script.specs.All.{AreLines, spelled_lines}
 use Rattle.sdd_verify.specs.Lines.{Numbered, ends_replies, is_order_line, order_line_in, passed, tells_reply}
 
 abbrev pub IsOther : List ℕ → Type 0

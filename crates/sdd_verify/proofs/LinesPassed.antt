@@ -1,7 +1,7 @@
 -- Lines that have to come, one after the other.
 use Rattle.std.proofs.Common.{◌≡◌, ℕ, ◌+◌, List, [], ◌∷◌, ◌++◌, true, false, cond, Err, refl}
 use Rattle.std.specs.Str.{bytes_eq}
-use Rattle.sdd_script.specs.base.Readings.{◌>>=◌}
+use Rattle.sdd_script.specs.All.{◌>>=◌}
 use Rattle.sdd_verify.specs.Lines.{passed}
 
 -- what comes after the first line

@@ -8,10 +8,7 @@ use Rattle.std.proofs.lemmas.Bool.{cases_Bool}
 use Rattle.std.proofs.lemmas.List.{take_more, map-append, length-map, length-take-le}
 use Rattle.std.proofs.lemmas.Map.Text.{is_eq-slice_cmp}
 use Rattle.std.proofs.lemmas.Slice.Eq.{bytes_eq-Decides}
-use Rattle.sdd_script.specs.base.Numbers.{txn_no}
-use Rattle.sdd_script.specs.base.Words.{or_else}
-use Rattle.sdd_script.specs.base.declared.number.TxnNo.{TxnNo}
-use Rattle.sdd_script.specs.lang.declared.transaction.Txn.{Txn}
+use Rattle.sdd_script.specs.All.{Txn, TxnNo, or_else, txn_no}
 use Rattle.sdd_verify.specs.Submitted.{named, named_from}
 
 abbrev Here : Txn → ℕ → List ℕ → Option TxnNo

@@ -5,12 +5,8 @@ use Rattle.std.specs.List.{All}
 use Rattle.std.specs.Str.{bytes_eq}
 use Rattle.std.proofs.lemmas.List.Elements.{All-cons, All-head, All-nil, All-tail}
 use Rattle.std.proofs.lemmas.Slice.Eq.{bytes_eq-Decides}
-use Rattle.sdd_script.specs.base.Numbers.{txn_no}
-use Rattle.sdd_script.specs.base.Readings.{along, known}
-use Rattle.sdd_script.specs.base.declared.number.TxnNo.{TxnNo}
+use Rattle.sdd_script.specs.All.{IsFrom1To, Txn, TxnNo, along, known, txn_no}
 use Rattle.sdd_script.proofs.base.ReadingLaws.{Answers, along_ok, known_ok, ok_along}
-use Rattle.sdd_script.specs.lang.Fits.{IsFrom1To}
-use Rattle.sdd_script.specs.lang.declared.transaction.Txn.{Txn}
 use Rattle.sdd_report.specs.Names.{txn_name}
 use Rattle.sdd_verify.specs.Submitted.{named, named_from}
 use Rattle.sdd_verify.proofs.Submissions.{found_member}

@@ -8,8 +8,7 @@ use Rattle.std.proofs.lemmas.Bool.Decides.{Decides-eqb}
 use Rattle.std.proofs.lemmas.List.Elements.{All-cons, All-nil}
 use Rattle.std.proofs.lemmas.List.Splits.{join_with_byte-slice_split, slice_split_at, slice_split_none}
 use Rattle.std.proofs.lemmas.Slice.Eq.{bytes_eq-Decides, starts_is}
-use Rattle.sdd_script.specs.base.Words.{tail_of}
-use Rattle.sdd_script.specs.words.Words.{HasNoSpace}
+use Rattle.sdd_script.specs.All.{HasNoSpace, tail_of}
 use Rattle.sdd_verify.specs.Lines.{is_order_line}
 use Rattle.sdd_verify.specs.Orders.{names_on, words_of}
 

@@ -4,15 +4,8 @@ use Rattle.std.specs.Fmt.{decimal}
 use Rattle.std.proofs.lemmas.List.{drop_all, drop_more}
 use Rattle.std.specs.Prelude.{codes, flat_map}
 use Rattle.sdd_script.proofs.base.ReadingLaws.{fails_bind}
-use Rattle.sdd_script.specs.base.Readings.{◌>>=◌, Fails}
-use Rattle.sdd_script.specs.base.declared.reply.Reply.{Reply}
-use Rattle.sdd_script.specs.base.declared.reply.Reply.TheVariants.{Rows, Overflow, TooMany}
-use Rattle.sdd_script.specs.base.declared.value.Value.{Value}
-use Rattle.sdd_script.specs.catalog.Catalogue.{Catalogue}
-use Rattle.sdd_script.specs.lang.Database.{Database}
-use Rattle.sdd_script.specs.lang.Effect.{effect}
-use Rattle.sdd_script.specs.lang.Serial.{after_changes}
-use Rattle.sdd_script.specs.lang.declared.transaction.Txn.{Txn}
+use Rattle.sdd_script.specs.All.{Catalogue, Database, Fails, Overflow, Reply, Rows, Txn, Value, after_changes, effect, ◌>>=◌}
+use Rattle.sdd_script.specs.base.declared.reply.Reply.TheVariants.{TooMany}
 use Rattle.sdd_report.specs.Replies.{outcome_lines, queries_from, query_lines, reply_lines, row_line, value_bytes}
 use Rattle.sdd_script.specs.words.Lines.{cut_lines}
 use Rattle.sdd_verify.specs.Flaws.{line_in}

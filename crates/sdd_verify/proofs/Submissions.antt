@@ -3,16 +3,7 @@ use Rattle.std.proofs.Common.{◌≡◌, ℕ, zero, suc, ◌+◌, ◌-◌, ◌<�
 use Rattle.std.specs.List.{All, filter_map}
 use Rattle.std.proofs.lemmas.List.{take_more, length-map}
 use Rattle.std.proofs.lemmas.List.Elements.{filter_map-append, All-nil, All-cons, All-head, All-tail}
-use Rattle.sdd_script.specs.base.declared.event.Event.{Event}
-use Rattle.sdd_script.specs.base.declared.event.Event.TheVariants.{Submit, Deliver, Lose, Repeat, Resend, Tick, Settle, Redeclare, Down, Up}
-use Rattle.sdd_script.specs.base.declared.limits.TheConstants.{MAX_EVENTS}
-use Rattle.sdd_script.specs.base.declared.number.RelNo.{RelNo}
-use Rattle.sdd_script.specs.base.declared.number.TxnNo.{TxnNo}
-use Rattle.sdd_script.specs.base.declared.value.Value.{Value}
-use Rattle.sdd_script.specs.catalog.Catalogue.{Catalogue}
-use Rattle.sdd_script.specs.lang.Fits.{Fits, FitsStart}
-use Rattle.sdd_script.specs.lang.declared.transaction.Txn.{Txn}
-use Rattle.sdd_script.specs.Valid.{IsValid, IsValidTxn, IsValidRow}
+use Rattle.sdd_script.specs.All.{Catalogue, Deliver, Down, Event, Fits, FitsStart, IsValid, IsValidRow, IsValidTxn, Lose, MAX_EVENTS, Redeclare, RelNo, Repeat, Resend, Settle, Submit, Tick, Txn, TxnNo, Up, Value}
 use Rattle.sdd_script.specs.declared.workload.Workload.{Workload}
 use Rattle.sdd_verify.specs.Submitted.{submitted, submitted_by, texts_of, txn_of}
 

@@ -8,8 +8,7 @@ use Rattle.std.specs.Ordering.{nat_cmp, is_eq}
 use Rattle.std.proofs.lemmas.Bool.{cases_Bool, cases_eq, eqb-true, ltb-true, ne_eqb, lt-ltb}
 use Rattle.std.proofs.lemmas.List.{take_more, append-nil, take-append-drop}
 use Rattle.std.proofs.lemmas.List.Folds.{list_all-append}
-use Rattle.sdd_script.specs.base.Words.{or_else}
-use Rattle.sdd_script.specs.base.declared.number.TxnNo.{TxnNo}
+use Rattle.sdd_script.specs.All.{TxnNo, or_else}
 use Rattle.sdd_verify.specs.Classes.{class_of}
 use Rattle.sdd_verify.specs.Orders.{allows, is_in_turn, may_follow}
 

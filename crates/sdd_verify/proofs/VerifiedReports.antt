@@ -6,18 +6,10 @@ use Rattle.std.proofs.lemmas.Bool.{leb-true, le-leb}
 use Rattle.std.proofs.lemmas.List.Elements.{All-head, All-tail}
 use Rattle.std.proofs.lemmas.List.Folds.{flat_map-map}
 use Rattle.sdd_script.proofs.base.ReadingLaws.{bind_ok, must_ok, ok_is}
-use Rattle.sdd_script.specs.base.Name.{IsName, begins_with_letter, is_keyword, is_name_byte}
-use Rattle.sdd_script.specs.base.Readings.{◌>>=◌, along, known, must}
-use Rattle.sdd_script.specs.base.declared.limits.TheConstants.{MAX_NAME_BYTES}
-use Rattle.sdd_script.specs.base.declared.number.TxnNo.{TxnNo}
-use Rattle.sdd_script.specs.catalog.Catalogue.{Catalogue}
-use Rattle.sdd_script.specs.lang.declared.transaction.Txn.{Txn}
+use Rattle.sdd_script.specs.All.{AreLines, Catalogue, HasNoNewline, HasNoSpace, IsName, IsValid, IsValidTxn, MAX_NAME_BYTES, Txn, TxnNo, along, begins_with_letter, cut_lines, is_keyword, is_name_byte, known, must, spelled_lines, ◌>>=◌}
 use Rattle.sdd_report.specs.Committed.{order_line}
-use Rattle.sdd_script.specs.Valid.{IsValid, IsValidTxn}
 use Rattle.sdd_script.specs.declared.workload.Workload.{Workload}
 use Rattle.sdd_script.proofs.WordLooks.{no_newline-append}
-use Rattle.sdd_script.specs.words.Lines.{AreLines, HasNoNewline, cut_lines, spelled_lines}
-use Rattle.sdd_script.specs.words.Words.{HasNoSpace}
 use Rattle.sdd_script.proofs.words.Spelled.{cut_takes}
 use Rattle.sdd_verify.specs.Classes.{classes_submitted}
 use Rattle.sdd_verify.specs.Lines.{Numbered, begun, ends_replies, is_order_line, lines_of, order_line_in, passed, tells_reply}

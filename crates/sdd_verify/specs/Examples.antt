@@ -1,14 +1,7 @@
 -- Worked rows: p puts a row, and q, of the same class, asks for all rows.
 use Rattle.std.specs.Prelude.{ℕ, ◌≡◌, [], ◌∷◌, ◌++◌, List, codes, pos, refl}
 use Rattle.std.specs.Fmt.{digits}
-use Rattle.sdd_script.specs.base.Numbers.{rel_no, tm_no, txn_no}
-use Rattle.sdd_script.specs.base.declared.event.Event.TheVariants.{Submit, Settle, Redeclare}
-use Rattle.sdd_script.specs.base.declared.value.Value.TheVariants.{Int}
-use Rattle.sdd_script.specs.catalog.declared.parts.ClassPart.{ClassPart}
-use Rattle.sdd_script.specs.lang.declared.condition.Ref.{Ref}
-use Rattle.sdd_script.specs.lang.declared.statement.Stmt.TheVariants.{Put, Query}
-use Rattle.sdd_script.specs.lang.declared.transaction.Txn.{Txn}
-use Rattle.sdd_script.specs.Examples.{accounts}
+use Rattle.sdd_script.specs.All.{ClassPart, Int, Put, Query, Redeclare, Ref, Settle, Submit, Txn, accounts, rel_no, tm_no, txn_no}
 use Rattle.sdd_script.specs.declared.workload.Workload.{Workload}
 use Rattle.sdd_script.specs.words.Lines.{cut_lines}
 use Rattle.sdd_verify.specs.Classes.{classes_submitted}

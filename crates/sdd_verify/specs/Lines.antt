@@ -2,7 +2,7 @@
 use Rattle.std.specs.Prelude.{ℕ, ◌+◌, nat_eq, nat_le, ◌||◌, not, codes, length, Bool, false, List, [], ◌∷◌, Result, Ok, Err, if◌then◌else◌}
 use Rattle.std.specs.List.{starts_with}
 use Rattle.std.specs.Str.{bytes_eq}
-use Rattle.sdd_script.specs.words.Lines.{cut_lines}
+use Rattle.sdd_script.specs.All.{cut_lines}
 use Rattle.sdd_verify.specs.declared.limits.TheConstants.{MAX_REPORT_BYTES}
 
 abbrev pub lines_of : List ℕ → List (List ℕ)

@@ -1,10 +1,7 @@
 -- Orders of submitted transactions.
 use Rattle.std.specs.Prelude.{ℕ, nat_lt, ◌==◌, ◌&&◌, ◌||◌, not, Bool, true, List, [], ◌∷◌, Option, Some, None, Result, Ok}
 use Rattle.std.specs.List.{list_all, slice_split}
-use Rattle.sdd_script.specs.base.Readings.{◌>>=◌, along, known, must}
-use Rattle.sdd_script.specs.base.Words.{tail_of}
-use Rattle.sdd_script.specs.base.declared.number.TxnNo.{TxnNo}
-use Rattle.sdd_script.specs.lang.declared.transaction.Txn.{Txn}
+use Rattle.sdd_script.specs.All.{Txn, TxnNo, along, known, must, tail_of, ◌>>=◌}
 use Rattle.sdd_verify.specs.Classes.{class_of}
 use Rattle.sdd_verify.specs.Submitted.{named}
 

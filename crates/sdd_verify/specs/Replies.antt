@@ -1,11 +1,6 @@
 -- The replies of transactions that run one after the other on one plain database.
 use Rattle.std.specs.Prelude.{ℕ, List, map}
-use Rattle.sdd_script.specs.base.declared.number.TxnNo.{TxnNo}
-use Rattle.sdd_script.specs.base.declared.reply.Reply.{Reply}
-use Rattle.sdd_script.specs.catalog.Catalogue.{Catalogue}
-use Rattle.sdd_script.specs.lang.Database.{Database, database_of}
-use Rattle.sdd_script.specs.lang.Serial.{serial}
-use Rattle.sdd_script.specs.lang.declared.transaction.Txn.{Txn}
+use Rattle.sdd_script.specs.All.{Catalogue, Database, Reply, Txn, TxnNo, database_of, serial}
 use Rattle.sdd_report.specs.Replies.{replies_along}
 use Rattle.sdd_script.specs.declared.workload.Workload.{Workload}
 use Rattle.sdd_verify.specs.Submitted.{submitted, texts_of}

@@ -2,11 +2,7 @@
 -- transaction is its place among them, counted from 1.
 use Rattle.std.specs.Prelude.{ℕ, ◌+◌, ◌-◌, ◌≡◌, refl, List, [], ◌∷◌, filter_map, Option, Some, None, slice_get, if◌then◌else◌}
 use Rattle.std.specs.Str.{bytes_eq}
-use Rattle.sdd_script.specs.base.Numbers.{txn_no}
-use Rattle.sdd_script.specs.base.declared.event.Event.{Event}
-use Rattle.sdd_script.specs.base.declared.event.Event.TheVariants.{Submit, Settle}
-use Rattle.sdd_script.specs.base.declared.number.TxnNo.{TxnNo}
-use Rattle.sdd_script.specs.lang.declared.transaction.Txn.{Txn}
+use Rattle.sdd_script.specs.All.{Event, Settle, Submit, Txn, TxnNo, txn_no}
 use Rattle.sdd_script.specs.declared.workload.Workload.{Workload}
 
 -- the transaction that an event submits

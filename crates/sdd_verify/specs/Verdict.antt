@@ -1,8 +1,6 @@
 -- What a report is judged to be: the rules in their order, of which the first that is broken tells a line.
 use Rattle.std.specs.Prelude.{ℕ, List, Result, Ok, Err}
-use Rattle.sdd_script.specs.base.Readings.{◌>>=◌, must}
-use Rattle.sdd_script.specs.base.declared.number.TxnNo.{TxnNo}
-use Rattle.sdd_script.specs.catalog.Catalogue.{Catalogue}
+use Rattle.sdd_script.specs.All.{Catalogue, TxnNo, must, ◌>>=◌}
 use Rattle.sdd_script.specs.declared.workload.Workload.{Workload}
 use Rattle.sdd_verify.specs.Classes.{classes_submitted}
 use Rattle.sdd_verify.specs.Lines.{Numbered, begun, ends_replies, lines_of, order_line_in, passed}

@@ -1,12 +1,9 @@
 -- Reports whose replies are those of one plain database.
 use Rattle.std.specs.Prelude.{ℕ, ◌≡◌, ◌≢◌, ◌≤◌, ◌<◌, false, length, List, ◌∷◌, ◌++◌, slice_index_or}
 use Rattle.std.specs.List.{All}
-use Rattle.sdd_script.specs.base.declared.number.TxnNo.{TxnNo}
-use Rattle.sdd_script.specs.catalog.Catalogue.{Catalogue}
-use Rattle.sdd_script.specs.lang.Fits.{IsFrom1To}
+use Rattle.sdd_script.specs.All.{AreLines, Catalogue, HasNoNewline, IsFrom1To, TxnNo, spelled_lines}
 use Rattle.sdd_report.specs.Committed.{order_line}
 use Rattle.sdd_script.specs.declared.workload.Workload.{Workload}
-use Rattle.sdd_script.specs.words.Lines.{AreLines, spelled_lines, HasNoNewline}
 use Rattle.sdd_verify.specs.Classes.{class_of, classes_submitted}
 use Rattle.sdd_verify.specs.Lines.{is_order_line, tells_reply}
 use Rattle.sdd_verify.specs.Replies.{serial_replies}

@@ -1,6 +1,6 @@
 //! The classes of the submitted transactions.
 ghost use Rattle.std.specs.Prelude.{ℕ, ◌≡◌, ◌<◌, ◌^◌, ◌++◌, All, IfOk};
-ghost use Rattle.sdd_script.specs.lang.Fits.{Fits};
+ghost use Rattle.sdd_script.specs.All.{Fits};
 ghost use Rattle.sdd_verify.specs.Classes.{class_if, classes_from, era_at, redeclared};
 ghost use Rattle.sdd_verify.specs.Submitted.{submitted_by};
 

@@ -1,6 +1,6 @@
 //! What ends the judging of a report.
 ghost use Rattle.std.specs.Prelude.{◌≡◌, Err};
-ghost use Rattle.sdd_script.specs.base.Readings.{Gives, known, must};
+ghost use Rattle.sdd_script.specs.All.{Gives, known, must};
 ghost use Rattle.sdd_verify.specs.Flaws.{line_in};
 
 use sdd_script::sdd_base::NoMemory;

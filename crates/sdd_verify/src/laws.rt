@@ -1,7 +1,6 @@
 //! What a verdict means.
 ghost use Rattle.std.specs.Prelude.{ℕ, ◌≡◌, List};
-ghost use Rattle.sdd_script.specs.catalog.Catalogue.{Catalogue};
-ghost use Rattle.sdd_script.specs.Valid.{IsValid};
+ghost use Rattle.sdd_script.specs.All.{Catalogue, IsValid};
 ghost use Rattle.sdd_script.specs.declared.workload.Workload.{Workload};
 ghost use Rattle.sdd_verify.specs.Verdict.{verdict};
 ghost use Rattle.sdd_verify.specs.Verified.{IsVerified};

@@ -1,6 +1,6 @@
 //! The lines of a report.
 ghost use Rattle.std.specs.Prelude.{◌≡◌, ◌+◌, ◌≤◌, ◌<◌, ◌∷◌, [], length, MatchOption};
-ghost use Rattle.sdd_script.specs.base.Readings.{Gives};
+ghost use Rattle.sdd_script.specs.All.{Gives};
 ghost use Rattle.sdd_verify.specs.Flaws.{line_in};
 ghost use Rattle.sdd_verify.specs.Lines.{lines_of, tells_reply};
 ghost use Rattle.sdd_verify.specs.declared.limits.TheConstants.{MAX_REPORT_BYTES};

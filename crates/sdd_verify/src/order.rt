@@ -1,7 +1,7 @@
 //! The order that an order line tells.
 ghost use Rattle.std.specs.Prelude.{◌≡◌, map, IfOk};
 ghost use Rattle.std.specs.Option.{option_copied};
-ghost use Rattle.sdd_script.specs.base.Readings.{Gives, along, known};
+ghost use Rattle.sdd_script.specs.All.{Gives, along, known};
 ghost use Rattle.sdd_verify.specs.Classes.{class_of};
 ghost use Rattle.sdd_verify.specs.Flaws.{line_in};
 ghost use Rattle.sdd_verify.specs.Orders.{allows, is_in_turn, names_on, order_told, words_of};

@@ -1,6 +1,6 @@
 //! The line of a report that tells the order.
 ghost use Rattle.std.specs.Prelude.{◌≡◌};
-ghost use Rattle.sdd_script.specs.base.Readings.{Gives};
+ghost use Rattle.sdd_script.specs.All.{Gives};
 ghost use Rattle.sdd_verify.specs.Flaws.{line_in};
 ghost use Rattle.sdd_verify.specs.Lines.{is_order_line, lines_of, order_line_in};
 ghost use Rattle.sdd_verify.specs.Numbered.{numbered};

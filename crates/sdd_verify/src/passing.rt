@@ -1,6 +1,6 @@
 //! Lines of a report that have to come.
 ghost use Rattle.std.specs.Prelude.{◌≡◌, ◌∷◌, []};
-ghost use Rattle.sdd_script.specs.base.Readings.{Gives};
+ghost use Rattle.sdd_script.specs.All.{Gives};
 ghost use Rattle.sdd_verify.specs.Flaws.{line_in};
 ghost use Rattle.sdd_verify.specs.Lines.{lines_of, passed};
 ghost use Rattle.sdd_verify.specs.Numbered.{numbered};

@@ -1,8 +1,6 @@
 //! The replies that have to come.
 ghost use Rattle.std.specs.Prelude.{◌≡◌, map, All};
-ghost use Rattle.sdd_script.specs.base.Readings.{Gives};
-ghost use Rattle.sdd_script.specs.lang.Database.{database_of};
-ghost use Rattle.sdd_script.specs.lang.Fits.{Fits, FitsStart};
+ghost use Rattle.sdd_script.specs.All.{Fits, FitsStart, Gives, database_of};
 ghost use Rattle.sdd_report.specs.Replies.{reply_lines};
 ghost use Rattle.sdd_verify.specs.Flaws.{line_in};
 ghost use Rattle.sdd_verify.specs.Lines.{lines_of, passed};

@@ -4,7 +4,7 @@ ghost use Rattle.std.specs.BTreeMap.{get};
 ghost use Rattle.std.specs.Cmp.Lexicographic.{slice_cmp};
 ghost use Rattle.std.specs.Option.{option_copied};
 ghost use Rattle.std.specs.Ordering.{nat_cmp};
-ghost use Rattle.sdd_script.specs.base.declared.limits.TheConstants.{MAX_EVENTS};
+ghost use Rattle.sdd_script.specs.All.{MAX_EVENTS};
 ghost use Rattle.sdd_verify.specs.Submitted.{named, submitted, submitted_by, texts_of, txn_of};
 
 use sdd_script::Workload;
@@ -27,7 +27,7 @@ impl<'a> Model for Submitted<'a> {
     ghost use Rattle.std.specs.BTreeMap.{get};
     ghost use Rattle.std.specs.Cmp.Lexicographic.{slice_cmp};
     ghost use Rattle.std.specs.Ordering.{nat_cmp};
-    ghost use Rattle.sdd_script.specs.lang.declared.transaction.Txn.{Txn as Transaction};
+    ghost use Rattle.sdd_script.specs.All.{Txn as Transaction};
     ghost use Rattle.sdd_verify.specs.Submitted.{named};
 
     ghost Value = { List Transaction };

@@ -2,31 +2,12 @@
 use Rattle.std.specs.List.{list_all}
 use Rattle.std.proofs.Common.{ℕ, ◌++◌, ◌∙◌, ◌∷◌, ◌≡◌, ◌≤◌, ◌⊎◌, List, None, Some, [], ap, arith, false, inl, inr, length, refl, subst, suc, sym, true}
 use Rattle.std.proofs.Math.Decide.{dec_le}
-use Rattle.sdd_invariants.specs.base.declared.condition.Cond.{Cond}
-use Rattle.sdd_invariants.specs.base.declared.number.ClassNo.{ClassNo}
-use Rattle.sdd_invariants.specs.base.declared.number.DmNo.{DmNo}
-use Rattle.sdd_invariants.specs.base.declared.number.Ts.{Ts}
-use Rattle.sdd_invariants.specs.base.declared.number.TxnNo.{TxnNo}
-use Rattle.sdd_invariants.specs.base.declared.site.Site.{Site}
-use Rattle.sdd_invariants.specs.base.declared.site.Site.TheVariants.{D}
-use Rattle.sdd_invariants.specs.base.declared.usage.Use.{Use}
-use Rattle.sdd_invariants.specs.history.declared.record.Rec.TheVariants.{Answer}
-use Rattle.sdd_invariants.specs.wire.declared.msg.Msg.{Msg}
-use Rattle.sdd_invariants.specs.wire.declared.msg.Msg.TheVariants.{Read}
-use Rattle.sdd_invariants.specs.site_module.SiteLog.{Act, Did, Records, Setting}
+use Rattle.sdd_invariants.specs.All.{Act, Answer, ClassNo, ClassView, Cond, D, Did, DmNo, Does, Entry, Given, IsClassHere, IsPermitted, IsReadStep, Log, Msg, Pipe, Read, Records, Setting, Site, Ts, TxnNo, Use, by_record, head, is_met, pipe, setting_of, site_due, view_of, waits}
 use Rattle.sdd_invariants.specs.site_module.SiteLog as site
-use Rattle.sdd_invariants.specs.pipe.Pipe.{Pipe, head, passed}
-use Rattle.sdd_invariants.specs.dm.Due.{is_met}
-use Rattle.sdd_invariants.specs.dm.Pipes.{pipe, waits}
-use Rattle.sdd_invariants.specs.dm.Views.{ClassView, view_of}
-use Rattle.sdd_invariants.specs.logs.Due.{site_due}
-use Rattle.sdd_invariants.specs.logs.Entries.{Does, Entry, Given, Log}
-use Rattle.sdd_invariants.specs.logs.Locals.{setting_of}
-use Rattle.sdd_invariants.specs.logs.Permitted.{IsPermitted}
+use Rattle.sdd_invariants.specs.pipe.Pipe.{passed}
 use Rattle.sdd_invariants.proofs.AreReadSteps.{class_in_view, class_not_in_view, d_step}
 use Rattle.sdd_invariants.proofs.Bools.{and_left, and_right, both, not_both, same_or_not}
 use Rattle.sdd_invariants.proofs.Processed.{not_own, passing, read_step_way}
-use Rattle.sdd_invariants.specs.ReadSteps.{IsClassHere, IsReadStep, by_record}
 use Rattle.sdd_waiting.proofs.AtModule.{IsEntryAt, acting, aside, at_module, entry_at, handed_head, handing, waits_on, waits_other}
 use Rattle.sdd_waiting.proofs.ClassSites.{HasSmallHomes}
 use Rattle.sdd_waiting.proofs.EventOver.{none_at_data}

@@ -1,24 +1,9 @@
 -- What an entry of the log of everything does at a data module.
 use Rattle.std.proofs.Common.{ℕ, ◌++◌, ◌==◌, ◌||◌, ◌∙◌, ◌∷◌, ◌≡◌, Bool, List, None, Option, Some, [], ap, false, if◌then◌else◌, refl, subst, true}
-use Rattle.sdd_invariants.specs.base.Words.{head_of}
-use Rattle.sdd_invariants.specs.base.declared.number.DmNo.{DmNo}
-use Rattle.sdd_invariants.specs.base.declared.site.Site.{Site}
-use Rattle.sdd_invariants.specs.base.declared.site.Site.TheVariants.{D}
-use Rattle.sdd_invariants.specs.history.declared.record.Rec.{Rec}
-use Rattle.sdd_invariants.specs.wire.Piped.{goes_through}
-use Rattle.sdd_invariants.specs.wire.declared.msg.Msg.{Msg}
-use Rattle.sdd_invariants.specs.site_module.SiteLog.{Act, Did, Handed, Records, Redeclared, Setting, Submits, Ticked}
+use Rattle.sdd_invariants.specs.All.{Act, D, Did, DmNo, Does, Entry, Given, Handed, IsDue, IsPermitted, Log, Msg, Pipe, Rec, Records, Redeclared, Setting, Site, Submits, Ticked, goes_through, head, head_of, home_of, is_processing, is_wait, local_of, made, pipe, put, setting_of, view_of, waits, with_made}
 use Rattle.sdd_invariants.specs.site_module.SiteLog as site
-use Rattle.sdd_invariants.specs.pipe.Pipe.{Pipe, head, put}
-use Rattle.sdd_invariants.specs.dm.Due.{IsDue}
-use Rattle.sdd_invariants.specs.dm.Pipes.{is_processing, is_wait, pipe, waits}
-use Rattle.sdd_invariants.specs.dm.Views.{home_of, view_of}
-use Rattle.sdd_invariants.specs.logs.Entries.{Does, Entry, Given, Log}
-use Rattle.sdd_invariants.specs.logs.Locals.{local_of, setting_of}
-use Rattle.sdd_invariants.specs.logs.Permitted.{IsPermitted}
 use Rattle.sdd_invariants.proofs.logs.EachLocal.{allowed_act}
 use Rattle.sdd_invariants.proofs.Made.{local_step, maker}
-use Rattle.sdd_invariants.specs.Made.{made, with_made}
 
 abbrev pub at_module : Given → DmNo → Log → site.Log
 at_module g d log = local_of g (D d) log

@@ -3,20 +3,10 @@ use Rattle.std.specs.List.{range_with_len}
 use Rattle.std.proofs.Common.{ℕ, ◌+◌, ◌-◌, ◌<◌, ◌==◌, ◌∙◌, ◌∷◌, ◌≡◌, ◌≤◌, Bool, List, Some, [], ap, arith, cond, false, filter, inl, inr, length, refl, slice_get, subst, suc, sym, true, zero}
 use Rattle.std.proofs.Math.Decide.{dec_le}
 use Rattle.std.proofs.lemmas.List.{get_or_past}
-use Rattle.sdd_invariants.specs.base.Numbers.{tm_no}
-use Rattle.sdd_invariants.specs.base.Sites.{number_of}
-use Rattle.sdd_invariants.specs.base.declared.site.Site.TheVariants.{T}
+use Rattle.sdd_invariants.specs.All.{Catalogue, Class, Given, IsServedClass, IsSound, T, class_at, home, number_of, numbers_to, runs, setting_of, tm_no}
 use Rattle.sdd_invariants.proofs.catalog.Sound.{at_number, sound_classes, sound_whole}
-use Rattle.sdd_invariants.specs.catalog.Catalogue.{Catalogue, class_at, numbers_to}
-use Rattle.sdd_invariants.specs.catalog.Numbers.{IsServedClass}
-use Rattle.sdd_invariants.specs.catalog.Rules.{IsSound}
-use Rattle.sdd_invariants.specs.catalog.declared.resolved.Class.{Class}
 use Rattle.sdd_invariants.specs.graph.Edges.{IsClassOf}
-use Rattle.sdd_invariants.specs.tm.Views.{runs}
-use Rattle.sdd_invariants.specs.logs.Entries.{Given}
-use Rattle.sdd_invariants.specs.logs.Locals.{setting_of}
 use Rattle.sdd_invariants.proofs.Bools.{not_zero, same_number, same_or_not}
-use Rattle.sdd_invariants.specs.Steps.{home}
 
 -- a number within a range is a member of it
 pub range_there : (a n x : ℕ) → a ≤ x → x < a + n → (k : ℕ) × (slice_get (range_with_len a n) k ≡ Some x)

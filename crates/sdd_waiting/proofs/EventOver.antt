@@ -1,24 +1,10 @@
 -- Where an event is over, nothing is due at any site.
 use Rattle.std.specs.List.{range_with_len}
 use Rattle.std.proofs.Common.{◌∙◌, ℕ, ◌≡◌, ◌≤◌, ◌∷◌, Bool, List, None, Option, Some, [], ap, arith, false, map, refl, slice_get, suc, true}
-use Rattle.sdd_invariants.specs.base.Sites.{sites}
-use Rattle.sdd_invariants.specs.base.Words.{first_some, or_else}
-use Rattle.sdd_invariants.specs.base.declared.event.Event.{Event}
-use Rattle.sdd_invariants.specs.base.declared.event.Event.TheVariants.{Deliver, Down, Lose, Redeclare, Repeat, Resend, Settle, Submit, Tick, Up}
-use Rattle.sdd_invariants.specs.base.declared.number.DmNo.{DmNo}
-use Rattle.sdd_invariants.specs.base.declared.number.TmNo.{TmNo}
-use Rattle.sdd_invariants.specs.base.declared.site.Site.{Site}
-use Rattle.sdd_invariants.specs.base.declared.site.Site.TheVariants.{D, T}
-use Rattle.sdd_invariants.specs.site_module.SiteLog.{Act}
+use Rattle.sdd_invariants.specs.All.{Act, D, Deliver, DmNo, Does, Down, Entry, Event, Given, Hand, IsLawful, IsTheLog, Log, Lose, Mark, Notes, Redeclare, Redeclares, Repeat, Resend, Round, Settle, Site, Submit, Submitted, T, Tick, TmNo, Up, base_of, does_at, due_by, first_some, hand_due, local_of, mark_due, next_at, next_mark, note_if, or_else, setting_of, site_due, sites}
 use Rattle.sdd_invariants.specs.dm.Due as dm
 use Rattle.sdd_invariants.specs.dm.Views as dm_views
 use Rattle.sdd_invariants.specs.tm.Due as tm
-use Rattle.sdd_invariants.specs.logs.Due.{does_at, due_by, hand_due, mark_due, next_at, note_if, site_due}
-use Rattle.sdd_invariants.specs.logs.Entries.{Does, Entry, Given, Hand, Log, Mark, Notes, Redeclares, Round, Submitted}
-use Rattle.sdd_invariants.specs.logs.Lawful.{IsLawful, IsTheLog}
-use Rattle.sdd_invariants.specs.logs.Locals.{local_of, setting_of}
-use Rattle.sdd_invariants.specs.logs.Marks.{next_mark}
-use Rattle.sdd_invariants.specs.logs.Snapshots.{base_of}
 use Rattle.sdd_invariants.proofs.Bools.{not_both}
 use Rattle.sdd_invariants.proofs.Holding.{at_map}
 use Rattle.sdd_invariants.proofs.Lists.{in_left, in_right}

@@ -1,26 +1,17 @@
 -- What the laws say of the worked logs of specs/Examples: an undeclared query beside a put, and a query that is rejected in
 -- the event in which it comes.
 use Rattle.std.proofs.Common.{ℕ, ◌+◌, ◌++◌, ◌<◌, ◌==◌, ◌∷◌, ◌≡◌, ◌≢◌, ◌≤◌, ◌⊎◌, List, Some, [], arith, inl, inr, lit<, lit≤, refl, subst, take, true}
-use Rattle.sdd_invariants.specs.base.Numbers.{class_no, dm_no, time_at, tm_no, txn_no}
-use Rattle.sdd_invariants.specs.base.declared.site.Site.{Site}
-use Rattle.sdd_invariants.specs.base.declared.site.Site.TheVariants.{D, T, U}
-use Rattle.sdd_invariants.specs.catalog.Rules.{IsSound, faults_of}
+use Rattle.sdd_invariants.specs.All.{AreSubmittedOnce, D, Does, IsApplied, IsPermitted, IsSound, Msg, Read, Ready, Records, Reject, Site, T, U, Write, base_of, class_no, dm_no, head, pipe_at, time_at, tm_no, txn_no, u_stamp}
+use Rattle.sdd_invariants.specs.catalog.Rules.{faults_of}
 use Rattle.sdd_invariants.specs.history.declared.record.Rec.TheVariants.{Reject as Rejected}
-use Rattle.sdd_invariants.specs.wire.declared.msg.Msg.{Msg}
-use Rattle.sdd_invariants.specs.wire.declared.msg.Msg.TheVariants.{Read, Ready, Reject, Write}
-use Rattle.sdd_invariants.specs.site_module.SiteLog.{Records}
-use Rattle.sdd_invariants.specs.pipe.Pipe.{head}
 use Rattle.sdd_invariants.specs.dm.Due.{holds_back}
 use Rattle.sdd_invariants.specs.logs.Due.{extended}
-use Rattle.sdd_invariants.specs.logs.Entries.{Does}
-use Rattle.sdd_invariants.specs.logs.Permitted.{AreSubmittedOnce, IsPermitted, one_if}
+use Rattle.sdd_invariants.specs.logs.Permitted.{one_if}
 use Rattle.sdd_invariants.proofs.logs.NewMarks.{lawful_permitted}
-use Rattle.sdd_invariants.specs.logs.Snapshots.{base_of}
 use Rattle.sdd_invariants.proofs.Apart.{low_or_high}
 use Rattle.sdd_invariants.proofs.Bools.{same_or_not}
 use Rattle.sdd_invariants.proofs.Undeclared.{low_applied}
-use Rattle.sdd_invariants.specs.Barrier.{IsLow, u_stamp}
-use Rattle.sdd_invariants.specs.Seen.{IsApplied, pipe_at}
+use Rattle.sdd_invariants.specs.Barrier.{IsLow}
 use Rattle.sdd_waiting.proofs.OfLawful.{answered_or_rejected}
 use Rattle.sdd_waiting.proofs.UndeclaredReads.{holds_none, not_rejected}
 use Rattle.sdd_waiting.proofs.Worked.{made_lawful, one_at_most}

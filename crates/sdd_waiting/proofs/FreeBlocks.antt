@@ -2,15 +2,11 @@
 use Rattle.std.specs.Prelude.{option_map}
 use Rattle.std.proofs.Common.{ℕ, ◌==◌, ◌∙◌, ◌≡◌, List, Some, ap, eq-eqb, refl, slice_get, suc, sym, true, zero, map}
 use Rattle.std.proofs.lemmas.Option.{slice_get-map}
-use Rattle.sdd_invariants.specs.catalog.Catalogue.{Catalogue}
-use Rattle.sdd_invariants.specs.base.declared.number.ClassNo.{ClassNo}
-use Rattle.sdd_invariants.specs.base.declared.number.FragNo.{FragNo}
+use Rattle.sdd_invariants.specs.All.{Catalogue, ClassNo, Diagonal, FragNo, IsTable, Protocol}
 use Rattle.sdd_invariants.specs.graph.Graph.{conflict_graph, ends, read_node, write_node}
-use Rattle.sdd_invariants.specs.graph.declared.edge.Edge.TheVariants.{Diagonal}
 use Rattle.sdd_invariants.proofs.protocol.Tables.{all_at}
-use Rattle.sdd_invariants.specs.protocol.Protocols.{IsTable, diagonal_protocol, protocol_in, vertical_block}
+use Rattle.sdd_invariants.specs.protocol.Protocols.{diagonal_protocol, protocol_in, vertical_block}
 use Rattle.sdd_invariants.specs.protocol.declared.entry.Entry as line
-use Rattle.sdd_invariants.specs.protocol.declared.protocol.Protocol.{Protocol}
 use Rattle.sdd_invariants.specs.protocol.declared.protocol.Protocol.TheVariants.{P1}
 use Rattle.sdd_invariants.proofs.Bools.{or_left, or_right}
 use Rattle.sdd_invariants.proofs.Lists.{in_mapped}

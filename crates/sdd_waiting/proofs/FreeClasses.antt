@@ -3,39 +3,15 @@ use Rattle.std.specs.List.{list_all, list_any}
 use Rattle.std.specs.Prelude.{◌&&◌, not}
 use Rattle.std.proofs.Common.{ℕ, ◌++◌, ◌==◌, ◌∙◌, ◌∷◌, ◌≡◌, ◌≢◌, ◌≤◌, Bool, List, None, Option, Some, [], ap, append_assoc, arith, false, inl, inr, refl, slice_get, subst, sym, true}
 use Rattle.std.proofs.lemmas.Bool.{eqb-true}
-use Rattle.sdd_invariants.specs.base.Numbers.{class_no, txn_no}
-use Rattle.sdd_invariants.specs.base.declared.change.Change.{Change}
-use Rattle.sdd_invariants.specs.base.declared.condition.Cond.{Cond}
-use Rattle.sdd_invariants.specs.base.declared.number.ClassNo.{ClassNo}
-use Rattle.sdd_invariants.specs.base.declared.number.DmNo.{DmNo}
-use Rattle.sdd_invariants.specs.base.declared.number.Ts.{Ts}
-use Rattle.sdd_invariants.specs.base.declared.number.TxnNo.{TxnNo}
-use Rattle.sdd_invariants.specs.base.declared.site.Site.{Site}
-use Rattle.sdd_invariants.specs.base.declared.site.Site.TheVariants.{D}
-use Rattle.sdd_invariants.specs.base.declared.usage.Use.{Use}
-use Rattle.sdd_invariants.specs.catalog.Rules.{IsSound}
-use Rattle.sdd_invariants.specs.history.declared.record.Rec.{Rec}
-use Rattle.sdd_invariants.specs.history.declared.record.Rec.TheVariants.{Answer, Apply, Reject as Rejected}
-use Rattle.sdd_invariants.specs.wire.Piped.{goes_through}
-use Rattle.sdd_invariants.specs.wire.declared.msg.Msg.{Msg}
-use Rattle.sdd_invariants.specs.wire.declared.msg.Msg.TheVariants.{Read, Write}
-use Rattle.sdd_invariants.specs.site_module.SiteLog.{Act, Records, Setting}
+use Rattle.sdd_invariants.specs.All.{Act, Answer, Apply, Change, ClassNo, ClassView, Cond, D, DmNo, Does, Entry, Given, Hand, IsClassHere, IsPermitted, IsSound, Log, May, Msg, Read, Rec, Records, Setting, Site, Ts, TxnNo, Use, View, Write, class_no, goes_through, head, is_met, is_wait, pipe, pipe_at, setting_of, site_due, txn_no, view_of, waits}
+use Rattle.sdd_invariants.specs.history.declared.record.Rec.TheVariants.{Reject as Rejected}
 use Rattle.sdd_invariants.specs.site_module.SiteLog as site
-use Rattle.sdd_invariants.specs.pipe.Pipe.{head}
-use Rattle.sdd_invariants.specs.dm.Due.{holds, holds_back, is_met}
-use Rattle.sdd_invariants.specs.dm.Pipes.{is_wait, pipe, waits}
-use Rattle.sdd_invariants.specs.dm.Views.{ClassView, View, view_of}
-use Rattle.sdd_invariants.specs.logs.Due.{site_due}
-use Rattle.sdd_invariants.specs.logs.Entries.{Does, Entry, Given, Hand, Log}
-use Rattle.sdd_invariants.specs.logs.Locals.{setting_of}
-use Rattle.sdd_invariants.specs.logs.Permitted.{IsPermitted}
+use Rattle.sdd_invariants.specs.dm.Due.{holds, holds_back}
 use Rattle.sdd_invariants.proofs.logs.EachLocal.{allowed_act}
 use Rattle.sdd_invariants.proofs.AreReadSteps.{class_at_place}
 use Rattle.sdd_invariants.proofs.Bools.{and_left, and_right, not_both, same_number, same_or_not}
 use Rattle.sdd_invariants.proofs.Lists.{any_at}
 use Rattle.sdd_invariants.proofs.Made.{permitted_before}
-use Rattle.sdd_invariants.specs.ReadSteps.{IsClassHere, May}
-use Rattle.sdd_invariants.specs.Seen.{pipe_at}
 use Rattle.sdd_waiting.proofs.AtModule.{at_module}
 use Rattle.sdd_waiting.proofs.EventOver.{none_at_data}
 use Rattle.sdd_waiting.proofs.FreeConditions.{names_none, unconditional}

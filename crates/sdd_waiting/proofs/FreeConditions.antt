@@ -1,22 +1,9 @@
 -- A READ of a free class has no conditions, and no condition of another declared class names it.
 use Rattle.std.proofs.Common.{ℕ, ◌∷◌, ◌≡◌, ◌≢◌, List, Some, [], ap, arith, inl, inr, refl, slice_get, subst, suc, zero}
 use Rattle.std.specs.Prelude.{slice_index_or}
-use Rattle.sdd_invariants.specs.base.declared.condition.Cond.{Cond}
-use Rattle.sdd_invariants.specs.base.declared.number.ClassNo.{ClassNo}
-use Rattle.sdd_invariants.specs.base.declared.number.DmNo.{DmNo}
-use Rattle.sdd_invariants.specs.base.declared.number.FragNo.{FragNo}
-use Rattle.sdd_invariants.specs.base.declared.number.Ts.{Ts}
-use Rattle.sdd_invariants.specs.base.declared.number.TxnNo.{TxnNo}
-use Rattle.sdd_invariants.specs.base.declared.usage.Use.{Use}
+use Rattle.sdd_invariants.specs.All.{ClassNo, Cond, DmNo, Force, FragNo, Given, IsPermitted, Log, P2, P3, Protocol, Read, Ts, TxnNo, Use, all_of, force_at, pipe_at}
 use Rattle.sdd_invariants.specs.protocol.declared.entry.Entry as line
-use Rattle.sdd_invariants.specs.protocol.declared.protocol.Protocol.{Protocol}
-use Rattle.sdd_invariants.specs.protocol.declared.protocol.Protocol.TheVariants.{P1, P2, P3}
-use Rattle.sdd_invariants.specs.wire.declared.msg.Msg.TheVariants.{Read}
-use Rattle.sdd_invariants.specs.site_module.SiteLog.{Force}
-use Rattle.sdd_invariants.specs.logs.Entries.{Given, Log}
-use Rattle.sdd_invariants.specs.logs.Locals.{force_at}
-use Rattle.sdd_invariants.specs.logs.Permitted.{IsPermitted}
-use Rattle.sdd_invariants.specs.Seen.{all_of, pipe_at}
+use Rattle.sdd_invariants.specs.protocol.declared.protocol.Protocol.TheVariants.{P1}
 use Rattle.sdd_waiting.proofs.FreeBlocks.{none_from, none_to}
 use Rattle.sdd_waiting.proofs.FromTable.{conditions_of}
 use Rattle.sdd_waiting.specs.Conditions.{IsDiagonalIn, IsFromTable}

@@ -4,51 +4,15 @@ use Rattle.std.specs.Option.{option_or}
 use Rattle.std.specs.Prelude.{filter_map}
 use Rattle.std.proofs.Common.{ℕ, ◌&&◌, ◌++◌, ◌==◌, ◌∙◌, ◌∷◌, ◌≡◌, ◌≢◌, ◌⊎◌, Bool, List, None, Option, Some, [], ap, cond, false, inl, inr, map, refl, slice_get, subst, suc, sym, true, zero}
 use Rattle.std.proofs.lemmas.Bool.{eqb-true}
-use Rattle.sdd_invariants.specs.base.Numbers.{frag_no, tm_no}
-use Rattle.sdd_invariants.specs.base.Sites.{same_site}
-use Rattle.sdd_invariants.specs.base.Words.{ascending}
-use Rattle.sdd_invariants.specs.base.declared.condition.Cond.{Cond}
-use Rattle.sdd_invariants.specs.base.declared.event.Event.TheVariants.{Deliver, Down, Lose, Redeclare, Repeat, Resend, Settle, Submit, Tick, Up}
-use Rattle.sdd_invariants.specs.base.declared.number.ClassNo.{ClassNo}
-use Rattle.sdd_invariants.specs.base.declared.number.DmNo.{DmNo}
-use Rattle.sdd_invariants.specs.base.declared.number.FragNo.{FragNo}
-use Rattle.sdd_invariants.specs.base.declared.number.TmNo.{TmNo}
-use Rattle.sdd_invariants.specs.base.declared.number.Ts.{Ts}
-use Rattle.sdd_invariants.specs.base.declared.number.TxnNo.{TxnNo}
-use Rattle.sdd_invariants.specs.base.declared.site.Site.{Site}
-use Rattle.sdd_invariants.specs.base.declared.site.Site.TheVariants.{D, T}
-use Rattle.sdd_invariants.specs.base.declared.usage.Use.{Use}
-use Rattle.sdd_invariants.specs.catalog.Catalogue.{Catalogue, class_at}
-use Rattle.sdd_invariants.specs.graph.Graph.{classes_of}
-use Rattle.sdd_invariants.specs.graph.declared.edge.Edge.{Edge}
-use Rattle.sdd_invariants.specs.graph.declared.edge.Edge.TheVariants.{Diagonal, Horizontal, Vertical}
-use Rattle.sdd_invariants.specs.lang.Classes.{fragments_in}
-use Rattle.sdd_invariants.specs.lang.Uses.{uses_of}
-use Rattle.sdd_invariants.specs.lang.declared.transaction.Txn.{Txn}
-use Rattle.sdd_invariants.specs.protocol.Conditions.{asked_by, asked_in, asked_on, cond_for, cond_of, condition_on, conditions, is_asked}
-use Rattle.sdd_invariants.specs.protocol.Protocols.{same_protocol}
+use Rattle.sdd_invariants.specs.All.{Catalogue, ClassNo, Cond, D, Deliver, Diagonal, Did, DmNo, Does, Down, Edge, FragNo, Given, Hand, Handed, Horizontal, IsPermitted, IsPutAt, IsRead, Log, Lose, Mark, Msg, Notes, P2, P3, Protocol, Queued, Read, Redeclare, Redeclares, Repeat, Resend, Round, Setting, Settle, Site, Submit, Submits, Submitted, T, Tick, Ticked, TmNo, Ts, Txn, TxnNo, Up, Use, Vertical, all_of, ascending, asked_by, asked_in, asked_on, bound, class_at, class_puts, classes_of, cond_for, cond_of, condition_on, conditions, conditions_at, force_at, frag_no, fragments_in, home, in_force, is_asked, local_of, next_stamp, pipe_at, redeclares, same_protocol, same_site, sends_of_act, setting_of, start_at, start_read, tm_no, to_site, txn_at, uses_of, with_submit}
 use Rattle.sdd_invariants.specs.protocol.declared.entry.Entry as line
-use Rattle.sdd_invariants.specs.protocol.declared.protocol.Protocol.{Protocol}
-use Rattle.sdd_invariants.specs.protocol.declared.protocol.Protocol.TheVariants.{P1, P2, P3}
-use Rattle.sdd_invariants.specs.wire.declared.msg.Msg.{Msg}
-use Rattle.sdd_invariants.specs.wire.declared.msg.Msg.TheVariants.{Read}
-use Rattle.sdd_invariants.specs.site_module.SiteLog.{Did, Handed, Setting, Submits, Ticked, in_force, sends_of_act}
+use Rattle.sdd_invariants.specs.protocol.declared.protocol.Protocol.TheVariants.{P1}
 use Rattle.sdd_invariants.specs.site_module.SiteLog as site
-use Rattle.sdd_invariants.specs.attempt.Acts.{conditions_at}
-use Rattle.sdd_invariants.specs.attempt.Queues.{Queued}
-use Rattle.sdd_invariants.specs.logs.Entries.{Does, Given, Hand, Log, Mark, Notes, Redeclares, Round, Submitted}
-use Rattle.sdd_invariants.specs.logs.Locals.{force_at, local_of, redeclares, setting_of, txn_at, with_submit}
-use Rattle.sdd_invariants.specs.logs.Permitted.{IsPermitted}
 use Rattle.sdd_invariants.proofs.Bools.{and_left, and_right, if_way, same_or_not}
 use Rattle.sdd_invariants.proofs.InPipe.{in_pipe}
 use Rattle.sdd_invariants.proofs.Installed.{class_number, origin}
 use Rattle.sdd_invariants.proofs.Lists.{in_left, in_none, in_one}
 use Rattle.sdd_invariants.proofs.ReadsPut.{start_puts}
-use Rattle.sdd_invariants.specs.Causes.{IsPutAt}
-use Rattle.sdd_invariants.specs.Puts.{IsRead}
-use Rattle.sdd_invariants.specs.Seen.{all_of, class_puts, pipe_at}
-use Rattle.sdd_invariants.specs.Steps.{bound, home, next_stamp, start_at, start_read}
-use Rattle.sdd_invariants.specs.Traffic.{to_site}
 use Rattle.sdd_waiting.specs.Conditions.{AllDiagonalsIn, AreConditionsOf, IsFromTable}
 
 -- the classes in force at a transaction module are those of the list that was put in force last

@@ -1,24 +1,12 @@
 -- Where nothing is due at a transaction module that isn't on hold, an idle class has no queue.
 use Rattle.std.proofs.Common.{ℕ, ◌∷◌, ◌≡◌, List, None, Option, Some, [], false, refl, slice_get, subst, sym}
-use Rattle.sdd_invariants.specs.base.Numbers.{tm_no}
-use Rattle.sdd_invariants.specs.base.Words.{first_some, head_of}
-use Rattle.sdd_invariants.specs.base.declared.number.TmNo.{TmNo}
-use Rattle.sdd_invariants.specs.base.declared.site.Site.TheVariants.{T}
-use Rattle.sdd_invariants.specs.catalog.Catalogue.{Catalogue, class_at}
-use Rattle.sdd_invariants.specs.catalog.Rules.{IsSound}
+use Rattle.sdd_invariants.specs.All.{Bases, Catalogue, Given, IsSound, Queued, Setting, T, TmNo, active, base_of, class_at, class_view, exchange_due, first_some, head_of, home, local_of, on_hold, queue, runs, setting_of, site_due, start_due, start_of, tm_no}
 use Rattle.sdd_invariants.specs.graph.Edges.{IsClassOf}
-use Rattle.sdd_invariants.specs.site_module.SiteLog.{Bases, Log, Setting}
-use Rattle.sdd_invariants.specs.attempt.Attempts.{active}
-use Rattle.sdd_invariants.specs.attempt.Queues.{Queued, queue}
-use Rattle.sdd_invariants.specs.tm.Due.{due, exchange_due, held_due, null_due, start_due, start_of}
-use Rattle.sdd_invariants.specs.tm.Views.{View, class_view, on_hold, runs, view_of}
-use Rattle.sdd_invariants.specs.logs.Due.{site_due}
+use Rattle.sdd_invariants.specs.site_module.SiteLog.{Log}
+use Rattle.sdd_invariants.specs.tm.Due.{due, held_due, null_due}
+use Rattle.sdd_invariants.specs.tm.Views.{View, view_of}
 use Rattle.sdd_invariants.specs.logs.Entries as all
-use Rattle.sdd_invariants.specs.logs.Entries.{Given}
-use Rattle.sdd_invariants.specs.logs.Locals.{local_of, setting_of}
-use Rattle.sdd_invariants.specs.logs.Snapshots.{base_of}
 use Rattle.sdd_invariants.proofs.Holding.{at_map}
-use Rattle.sdd_invariants.specs.Steps.{home}
 use Rattle.sdd_waiting.proofs.EventOver.{none_at_txn}
 use Rattle.sdd_waiting.proofs.StuckHeads.{neither_some, none_at}
 use Rattle.sdd_waiting.proofs.ClassSites.{class_served, home_of_class, in_runs}

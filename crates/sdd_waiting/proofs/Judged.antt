@@ -2,34 +2,12 @@
 -- after an Apply that spoils it.
 use Rattle.std.specs.List.{list_all}
 use Rattle.std.proofs.Common.{ℕ, ◌++◌, ◌∙◌, ◌∷◌, ◌≡◌, ◌≤◌, ◌⊎◌, Bool, List, None, Some, [], ap, cond, false, filter, inl, inr, not, refl, slice_get, subst, suc, sym, true, zero}
-use Rattle.sdd_invariants.specs.base.Numbers.{txn_no}
-use Rattle.sdd_invariants.specs.base.Words.{head_of}
-use Rattle.sdd_invariants.specs.base.declared.condition.Cond.{Cond}
-use Rattle.sdd_invariants.specs.base.declared.number.ClassNo.{ClassNo}
-use Rattle.sdd_invariants.specs.base.declared.number.DmNo.{DmNo}
-use Rattle.sdd_invariants.specs.base.declared.number.Ts.{Ts}
-use Rattle.sdd_invariants.specs.base.declared.number.TxnNo.{TxnNo}
-use Rattle.sdd_invariants.specs.base.declared.site.Site.{Site}
-use Rattle.sdd_invariants.specs.base.declared.site.Site.TheVariants.{D}
-use Rattle.sdd_invariants.specs.base.declared.usage.Use.{Use}
-use Rattle.sdd_invariants.specs.history.declared.record.Rec.{Rec}
-use Rattle.sdd_invariants.specs.history.declared.record.Rec.TheVariants.{Answer, Reject as Rejected}
-use Rattle.sdd_invariants.specs.wire.declared.msg.Msg.{Msg}
-use Rattle.sdd_invariants.specs.wire.declared.msg.Msg.TheVariants.{Read}
-use Rattle.sdd_invariants.specs.site_module.SiteLog.{Act, Did, Records, Setting}
+use Rattle.sdd_invariants.specs.All.{Act, Answer, ClassNo, Cond, D, Did, DmNo, Does, Entry, Given, IsClassHere, IsDue, IsPermitted, IsReadStep, Log, May, Msg, Pipe, Read, Rec, Records, Setting, Site, Ts, TxnNo, Use, View, by_record, head, head_of, home_of, is_met, is_processing, is_wait, pipe, setting_of, site_due, spoiler, spoils, txn_no, view_of, waits}
+use Rattle.sdd_invariants.specs.history.declared.record.Rec.TheVariants.{Reject as Rejected}
 use Rattle.sdd_invariants.specs.site_module.SiteLog as site
-use Rattle.sdd_invariants.specs.pipe.Pipe.{Pipe, head}
-use Rattle.sdd_invariants.specs.dm.Due.{IsDue, is_met, spoils}
-use Rattle.sdd_invariants.specs.dm.Pipes.{is_processing, is_wait, pipe, waits}
-use Rattle.sdd_invariants.specs.dm.Views.{View, home_of, view_of}
-use Rattle.sdd_invariants.specs.logs.Due.{site_due}
-use Rattle.sdd_invariants.specs.logs.Entries.{Does, Entry, Given, Log}
-use Rattle.sdd_invariants.specs.logs.Locals.{setting_of}
-use Rattle.sdd_invariants.specs.logs.Permitted.{IsPermitted}
 use Rattle.sdd_invariants.proofs.AreReadSteps.{d_step}
 use Rattle.sdd_invariants.proofs.Bools.{and_left, and_right, same_or_not}
 use Rattle.sdd_invariants.proofs.Processed.{not_own, passing, read_step_way}
-use Rattle.sdd_invariants.specs.ReadSteps.{IsClassHere, IsReadStep, May, by_record, spoiler}
 use Rattle.sdd_waiting.proofs.Answered.{Answers, all_met_later, answered_now, answered_on, no_ready_head}
 use Rattle.sdd_waiting.proofs.AtModule.{IsEntryAt, acting, aside, at_module, entry_at, handed_head, handing, waits_other}
 use Rattle.sdd_waiting.proofs.ClassSites.{HasSmallHomes}

@@ -3,11 +3,7 @@ use Rattle.std.proofs.Common.{ℕ, zero, suc, Bool, true, false, List, [], ◌�
 use Rattle.std.specs.Prelude.{slice_get}
 use Rattle.std.specs.List.{cons_option}
 use Rattle.std.proofs.lemmas.Option.{same_Some}
-use Rattle.sdd_invariants.specs.base.declared.number.ClassNo.{ClassNo}
-use Rattle.sdd_invariants.specs.base.declared.number.FragNo.{FragNo}
-use Rattle.sdd_invariants.specs.graph.declared.edge.Edge.{Edge}
-use Rattle.sdd_invariants.specs.graph.declared.edge.Edge.TheVariants.{Diagonal}
-use Rattle.sdd_invariants.specs.protocol.declared.protocol.Protocol.{Protocol}
+use Rattle.sdd_invariants.specs.All.{ClassNo, Diagonal, Edge, FragNo, Protocol}
 use Rattle.sdd_invariants.specs.protocol.declared.entry.Entry.{Entry}
 use Rattle.sdd_waiting.specs.Theorems.{DiagonalsListed}
 use Rattle.sdd_waiting.specs.WaitGraph.{WaitDiagonal}

@@ -1,34 +1,14 @@
 -- An attempt that had a Wait at a module has no Reject there.
 use Rattle.std.proofs.Common.{ℕ, ◌++◌, ◌∙◌, ◌∷◌, ◌≡◌, ◌≤◌, List, Some, ap, append_assoc, inl, inr, refl, subst, sym, true}
-use Rattle.sdd_invariants.specs.base.Numbers.{txn_no}
-use Rattle.sdd_invariants.specs.base.Sites.{number_of}
-use Rattle.sdd_invariants.specs.base.declared.condition.Cond.{Cond}
-use Rattle.sdd_invariants.specs.base.declared.number.ClassNo.{ClassNo}
-use Rattle.sdd_invariants.specs.base.declared.number.DmNo.{DmNo}
-use Rattle.sdd_invariants.specs.base.declared.number.Ts.{Ts}
-use Rattle.sdd_invariants.specs.base.declared.number.TxnNo.{TxnNo}
-use Rattle.sdd_invariants.specs.base.declared.site.Site.{Site}
-use Rattle.sdd_invariants.specs.base.declared.site.Site.TheVariants.{D}
-use Rattle.sdd_invariants.specs.base.declared.usage.Use.{Use}
-use Rattle.sdd_invariants.specs.history.declared.record.Rec.TheVariants.{Answer, Reject as Rejected, Wait}
-use Rattle.sdd_invariants.specs.wire.declared.msg.Msg.{Msg}
-use Rattle.sdd_invariants.specs.wire.declared.msg.Msg.TheVariants.{Null, Read, Write}
-use Rattle.sdd_invariants.specs.site_module.SiteLog.{Act, Did, Records, Setting}
+use Rattle.sdd_invariants.specs.All.{Act, Answer, ClassNo, Cond, D, Did, DmNo, Does, Given, IsPermitted, IsReadStep, Log, May, Msg, Null, Pipe, Read, Records, Setting, Site, Ts, TxnNo, Use, View, Wait, Write, head, home, number_of, pipe, setting_of, txn_no, view_of, waits}
+use Rattle.sdd_invariants.specs.history.declared.record.Rec.TheVariants.{Reject as Rejected}
 use Rattle.sdd_invariants.specs.site_module.SiteLog as site
-use Rattle.sdd_invariants.specs.pipe.Pipe.{Pipe, head}
-use Rattle.sdd_invariants.specs.dm.Pipes.{pipe, waits}
-use Rattle.sdd_invariants.specs.dm.Views.{View, view_of}
-use Rattle.sdd_invariants.specs.logs.Entries.{Does, Given, Log}
-use Rattle.sdd_invariants.specs.logs.Locals.{setting_of}
-use Rattle.sdd_invariants.specs.logs.Permitted.{IsPermitted}
 use Rattle.sdd_invariants.proofs.logs.EachLocal.{allowed_act}
 use Rattle.sdd_invariants.proofs.AreReadSteps.{d_step}
 use Rattle.sdd_invariants.proofs.Bools.{not_both, same_number}
 use Rattle.sdd_invariants.proofs.Made.{own_act, permitted_before}
 use Rattle.sdd_invariants.proofs.Once.{answered_once}
 use Rattle.sdd_invariants.proofs.Processed.{not_own}
-use Rattle.sdd_invariants.specs.ReadSteps.{IsReadStep, May}
-use Rattle.sdd_invariants.specs.Steps.{home}
 use Rattle.sdd_waiting.proofs.Answered.{waits_or_answered}
 use Rattle.sdd_waiting.proofs.AtModule.{at_module}
 use Rattle.sdd_waiting.proofs.Rejected.{IsProcessing, processing_of, rejected}

@@ -1,31 +1,10 @@
 -- The laws of answers and of free classes, of lawful logs at whose end an event is over.
 use Rattle.std.specs.List.{list_all}
 use Rattle.std.proofs.Common.{ℕ, ◌++◌, ◌∷◌, ◌≡◌, ◌≤◌, ◌⊎◌, List, None, Some, [], arith, false, length, true}
-use Rattle.sdd_invariants.specs.base.declared.change.Change.{Change}
-use Rattle.sdd_invariants.specs.base.declared.condition.Cond.{Cond}
-use Rattle.sdd_invariants.specs.base.declared.number.ClassNo.{ClassNo}
-use Rattle.sdd_invariants.specs.base.declared.number.DmNo.{DmNo}
-use Rattle.sdd_invariants.specs.base.declared.number.Ts.{Ts}
-use Rattle.sdd_invariants.specs.base.declared.number.TxnNo.{TxnNo}
-use Rattle.sdd_invariants.specs.base.declared.site.Site.{Site}
-use Rattle.sdd_invariants.specs.base.declared.site.Site.TheVariants.{D}
-use Rattle.sdd_invariants.specs.base.declared.usage.Use.{Use}
+use Rattle.sdd_invariants.specs.All.{Change, ClassNo, Cond, D, DmNo, Given, Hand, IsClassHere, IsPermitted, Log, Read, Site, Ts, TxnNo, Use, Write, active, head, home, is_met, local_of, pipe_at, queue, setting_of, spoiler, view_of, waits}
 use Rattle.sdd_invariants.specs.graph.Edges.{IsClassOf}
-use Rattle.sdd_invariants.specs.wire.declared.msg.Msg.TheVariants.{Read, Write}
-use Rattle.sdd_invariants.specs.attempt.Attempts.{active}
-use Rattle.sdd_invariants.specs.attempt.Queues.{queue}
-use Rattle.sdd_invariants.specs.pipe.Pipe.{head}
-use Rattle.sdd_invariants.specs.dm.Due.{is_met}
-use Rattle.sdd_invariants.specs.dm.Pipes.{waits}
-use Rattle.sdd_invariants.specs.dm.Views.{view_of}
 use Rattle.sdd_invariants.specs.tm.Views as tm
-use Rattle.sdd_invariants.specs.logs.Entries.{Given, Hand, Log}
-use Rattle.sdd_invariants.specs.logs.Locals.{local_of, setting_of}
 use Rattle.sdd_invariants.proofs.logs.NewMarks.{lawful_permitted}
-use Rattle.sdd_invariants.specs.logs.Permitted.{IsPermitted}
-use Rattle.sdd_invariants.specs.ReadSteps.{IsClassHere, spoiler}
-use Rattle.sdd_invariants.specs.Seen.{pipe_at}
-use Rattle.sdd_invariants.specs.Steps.{home}
 use Rattle.sdd_waiting.proofs.Answered as ready
 use Rattle.sdd_waiting.proofs.ClassSites.{small_homes}
 use Rattle.sdd_waiting.proofs.EventOver.{none_due}

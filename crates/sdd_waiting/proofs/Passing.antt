@@ -3,20 +3,11 @@ use Rattle.std.specs.List.{list_any}
 use Rattle.std.proofs.Common.{ℕ, ◌++◌, ◌<◌, ◌∙◌, ◌∷◌, ◌≡◌, ◌≤◌, Bool, List, Some, [], append-nil, append_assoc, ap, arith, false, if◌then◌else◌, length, map, nat_le, refl, slice_get, subst, suc, sym, true, zero}
 use Rattle.std.proofs.Math.Decide.{dec_le}
 use Rattle.std.proofs.lemmas.Bool.Decides.{nat_tests}
-use Rattle.sdd_invariants.specs.base.Sites.{number_of}
-use Rattle.sdd_invariants.specs.base.Words.{head_of}
-use Rattle.sdd_invariants.specs.base.declared.number.DmNo.{DmNo}
-use Rattle.sdd_invariants.specs.base.declared.site.Site.TheVariants.{D}
-use Rattle.sdd_invariants.specs.wire.Piped.{goes_through, time_of}
-use Rattle.sdd_invariants.specs.wire.declared.msg.Msg.{Msg}
-use Rattle.sdd_invariants.specs.site_module.SiteLog.{Did, Handed, Log, Redeclared, Submits, Ticked}
-use Rattle.sdd_invariants.specs.pipe.Pipe.{Pipe, head, passed, passed_by}
+use Rattle.sdd_invariants.specs.All.{AllGe, D, Did, DmNo, Given, Handed, IsPermitted, IsRising, Msg, Pipe, Redeclared, Submits, Ticked, all_of, goes_through, head, head_of, home, local_of, number_of, pipe, pipe_at, time_of}
+use Rattle.sdd_invariants.specs.site_module.SiteLog.{Log}
+use Rattle.sdd_invariants.specs.pipe.Pipe.{passed, passed_by}
 use Rattle.sdd_invariants.proofs.dm.Prefix.{all_handed, all_there}
-use Rattle.sdd_invariants.specs.dm.Pipes.{pipe}
 use Rattle.sdd_invariants.specs.logs.Entries as all
-use Rattle.sdd_invariants.specs.logs.Entries.{Given}
-use Rattle.sdd_invariants.specs.logs.Locals.{local_of}
-use Rattle.sdd_invariants.specs.logs.Permitted.{IsPermitted}
 use Rattle.sdd_invariants.proofs.Bools.{or_left, or_right}
 use Rattle.sdd_invariants.proofs.ClassOrder.{class_rises, earlier}
 use Rattle.sdd_invariants.proofs.InPipe.{in_pipe}
@@ -24,9 +15,6 @@ use Rattle.sdd_invariants.proofs.Lists.{any_at, at_seam, in_left, place_within, 
 use Rattle.sdd_invariants.proofs.Made.{local_grows}
 use Rattle.sdd_invariants.proofs.Once.{processed_grows}
 use Rattle.sdd_invariants.proofs.Split.{le_is}
-use Rattle.sdd_invariants.specs.Orders.{AllGe, IsRising}
-use Rattle.sdd_invariants.specs.Seen.{all_of, pipe_at}
-use Rattle.sdd_invariants.specs.Steps.{home}
 
 pub is_le : (a b : ℕ) → a ≤ b → nat_le a b ≡ true
 is_le a b l = grind (arith, nat_tests)

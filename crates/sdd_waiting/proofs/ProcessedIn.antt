@@ -1,29 +1,14 @@
 -- A message that came to a pipe and is processed later: the record that processes it.
 use Rattle.std.proofs.Common.{ℕ, ◌++◌, ◌<◌, ◌∙◌, ◌∷◌, ◌≡◌, ◌≤◌, Bool, List, None, Some, [], ap, append_assoc, arith, false, if◌then◌else◌, inl, inr, length, length-append, refl, slice_get, subst, suc, sym, true}
 use Rattle.std.proofs.Math.Decide.{dec_le}
-use Rattle.sdd_invariants.specs.base.Words.{head_of}
-use Rattle.sdd_invariants.specs.base.declared.number.DmNo.{DmNo}
-use Rattle.sdd_invariants.specs.base.declared.site.Site.{Site}
-use Rattle.sdd_invariants.specs.base.declared.site.Site.TheVariants.{D}
-use Rattle.sdd_invariants.specs.history.declared.record.Rec.{Rec}
-use Rattle.sdd_invariants.specs.wire.Piped.{goes_through}
-use Rattle.sdd_invariants.specs.wire.declared.msg.Msg.{Msg}
-use Rattle.sdd_invariants.specs.site_module.SiteLog.{Act, Did, Handed, Records, Setting}
+use Rattle.sdd_invariants.specs.All.{Act, D, Did, DmNo, Does, Entry, Given, Hand, Handed, IsPermitted, IsReadStep, Log, May, Msg, Pipe, Rec, Records, Setting, Site, all_of, by_record, goes_through, head, head_of, is_processing, pipe, put, setting_of, view_of, waits}
 use Rattle.sdd_invariants.specs.site_module.SiteLog as site
-use Rattle.sdd_invariants.specs.pipe.Pipe.{Pipe, head, put}
-use Rattle.sdd_invariants.specs.dm.Pipes.{is_processing, pipe, waits}
-use Rattle.sdd_invariants.specs.dm.Views.{view_of}
-use Rattle.sdd_invariants.specs.logs.Entries.{Does, Entry, Given, Hand, Log}
-use Rattle.sdd_invariants.specs.logs.Locals.{setting_of}
-use Rattle.sdd_invariants.specs.logs.Permitted.{IsPermitted}
 use Rattle.sdd_invariants.proofs.AreReadSteps.{d_step}
 use Rattle.sdd_invariants.proofs.Bools.{same_or_not}
 use Rattle.sdd_invariants.proofs.Lists.{at_seam, in_left, place_within}
 use Rattle.sdd_invariants.proofs.Made.{local_grows}
 use Rattle.sdd_invariants.proofs.Processed.{not_own, own_record, passing, processed_handed, processed_more, read_step_way}
 use Rattle.sdd_invariants.proofs.Sites.{site_self}
-use Rattle.sdd_invariants.specs.ReadSteps.{IsReadStep, May, by_record}
-use Rattle.sdd_invariants.specs.Seen.{all_of}
 use Rattle.sdd_waiting.proofs.AtModule.{IsEntryAt, acting, aside, at_module, entry_at, handing}
 use Rattle.sdd_waiting.proofs.Passing.{head_place, pipe_later}
 use Rattle.sdd_waiting.proofs.Rejected.{IsProcessing, processing_of}

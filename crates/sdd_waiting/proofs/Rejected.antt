@@ -1,35 +1,13 @@
 -- A Reject names a WRITE that was processed; a READ that waits is never rejected.
 use Rattle.std.proofs.Common.{ℕ, ◌∙◌, ◌∷◌, ◌≡◌, ◌≤◌, List, Some, [], ap, arith, false, filter, refl, slice_get, subst, sym, true}
-use Rattle.sdd_invariants.specs.base.Numbers.{time_at, txn_no}
-use Rattle.sdd_invariants.specs.base.Words.{head_of}
-use Rattle.sdd_invariants.specs.base.declared.condition.Cond.{Cond}
-use Rattle.sdd_invariants.specs.base.declared.number.ClassNo.{ClassNo}
-use Rattle.sdd_invariants.specs.base.declared.number.DmNo.{DmNo}
-use Rattle.sdd_invariants.specs.base.declared.number.Ts.{Ts}
-use Rattle.sdd_invariants.specs.base.declared.number.TxnNo.{TxnNo}
-use Rattle.sdd_invariants.specs.base.declared.site.Site.{Site}
-use Rattle.sdd_invariants.specs.base.declared.site.Site.TheVariants.{D}
-use Rattle.sdd_invariants.specs.base.declared.usage.Use.{Use}
-use Rattle.sdd_invariants.specs.history.declared.record.Rec.{Rec}
-use Rattle.sdd_invariants.specs.history.declared.record.Rec.TheVariants.{Answer, Apply, Pass, Reject as Rejected}
-use Rattle.sdd_invariants.specs.wire.declared.msg.Msg.{Msg}
-use Rattle.sdd_invariants.specs.wire.declared.msg.Msg.TheVariants.{Null, Read, Write}
-use Rattle.sdd_invariants.specs.site_module.SiteLog.{Act, Did, Each, Records, Setting}
+use Rattle.sdd_invariants.specs.All.{Act, Answer, Apply, ClassNo, Cond, D, Did, DmNo, Does, Each, Given, IsDueEach, IsPermitted, IsReadStep, Log, May, Msg, Null, Pass, Read, Rec, Records, Setting, Site, Ts, TxnNo, Use, View, Write, by_record, by_wait, head, head_of, in_passing, is_processing, last_write_for, local_of, or_zero, pipe, pipe_at, setting_of, spoiler, spoils, time_at, txn_no, view_of, waits}
+use Rattle.sdd_invariants.specs.history.declared.record.Rec.TheVariants.{Reject as Rejected}
 use Rattle.sdd_invariants.specs.site_module.SiteLog as site
-use Rattle.sdd_invariants.specs.pipe.Pipe.{head}
-use Rattle.sdd_invariants.specs.dm.Due.{last_write_for, or_zero, spoils}
-use Rattle.sdd_invariants.specs.dm.Pipes.{is_processing, pipe, waits}
-use Rattle.sdd_invariants.specs.dm.Views.{View, view_of}
-use Rattle.sdd_invariants.specs.logs.Entries.{Does, Given, Log}
-use Rattle.sdd_invariants.specs.logs.Locals.{local_of, setting_of}
-use Rattle.sdd_invariants.specs.logs.Permitted.{IsPermitted}
 use Rattle.sdd_invariants.proofs.logs.EachLocal.{allowed_act}
 use Rattle.sdd_invariants.proofs.Again.{is_spoilt, writer_of}
 use Rattle.sdd_invariants.proofs.AreReadSteps.{d_step}
 use Rattle.sdd_invariants.proofs.Bools.{not_both}
 use Rattle.sdd_invariants.proofs.Lists.{in_filtered}
-use Rattle.sdd_invariants.specs.ReadSteps.{IsDueEach, IsReadStep, May, by_record, by_wait, in_passing, spoiler}
-use Rattle.sdd_invariants.specs.Seen.{pipe_at}
 use Rattle.sdd_waiting.proofs.Waited.{since}
 use Rattle.sdd_waiting.specs.Rejections.{IsAnswerOf, IsRejectOf}
 use Rattle.sdd_waiting.specs.Waited.{IsWaitOf}

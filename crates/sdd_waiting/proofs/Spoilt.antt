@@ -2,34 +2,14 @@
 use Rattle.std.specs.List.{list_any}
 use Rattle.std.proofs.Common.{ℕ, ◌++◌, ◌||◌, ◌∙◌, ◌∷◌, ◌≡◌, ◌≤◌, Bool, List, None, Some, [], ap, arith, cond, false, inl, inr, length, refl, subst, suc, sym, true}
 use Rattle.std.proofs.Math.Decide.{dec_le}
-use Rattle.sdd_invariants.specs.base.Numbers.{class_no, txn_no}
-use Rattle.sdd_invariants.specs.base.declared.change.Change.{Change}
-use Rattle.sdd_invariants.specs.base.declared.condition.Cond.{Cond}
-use Rattle.sdd_invariants.specs.base.declared.number.ClassNo.{ClassNo}
-use Rattle.sdd_invariants.specs.base.declared.number.DmNo.{DmNo}
-use Rattle.sdd_invariants.specs.base.declared.number.Ts.{Ts}
-use Rattle.sdd_invariants.specs.base.declared.number.TxnNo.{TxnNo}
-use Rattle.sdd_invariants.specs.base.declared.site.Site.{Site}
-use Rattle.sdd_invariants.specs.base.declared.site.Site.TheVariants.{D}
-use Rattle.sdd_invariants.specs.history.declared.record.Rec.{Rec}
-use Rattle.sdd_invariants.specs.history.declared.record.Rec.TheVariants.{Apply}
-use Rattle.sdd_invariants.specs.wire.declared.msg.Msg.{Msg}
-use Rattle.sdd_invariants.specs.wire.declared.msg.Msg.TheVariants.{Write}
-use Rattle.sdd_invariants.specs.site_module.SiteLog.{Act, Did, Handed, Records, Setting}
+use Rattle.sdd_invariants.specs.All.{Act, Apply, Change, ClassNo, ClassView, Cond, D, Did, DmNo, Does, Entry, Given, Handed, IsClassHere, IsPermitted, IsReadStep, Log, May, Msg, Pipe, Rec, Records, Setting, Site, Ts, TxnNo, Write, class_no, head, is_processing, pipe, setting_of, spoils, touches, txn_no, view_of, waits}
 use Rattle.sdd_invariants.specs.site_module.SiteLog as site
-use Rattle.sdd_invariants.specs.pipe.Pipe.{Pipe, head, touches}
-use Rattle.sdd_invariants.specs.dm.Due.{is_at_least, spoils}
-use Rattle.sdd_invariants.specs.dm.Pipes.{is_processing, pipe, waits}
-use Rattle.sdd_invariants.specs.dm.Views.{ClassView, view_of}
-use Rattle.sdd_invariants.specs.logs.Entries.{Does, Entry, Given, Log}
-use Rattle.sdd_invariants.specs.logs.Locals.{setting_of}
-use Rattle.sdd_invariants.specs.logs.Permitted.{IsPermitted}
+use Rattle.sdd_invariants.specs.dm.Due.{is_at_least}
 use Rattle.sdd_invariants.proofs.AreReadSteps.{class_not_in_view, d_step}
 use Rattle.sdd_invariants.proofs.Bools.{neither_left, neither_right, not_both, only_right, same_or_not, true_or_false}
 use Rattle.sdd_invariants.proofs.Processed.{not_own, own_record, passing, processed_handed, processed_more, read_step_way}
 use Rattle.sdd_invariants.proofs.Split.{le_is}
 use Rattle.sdd_invariants.proofs.Waiting.{processed_in_is, spoils_is}
-use Rattle.sdd_invariants.specs.ReadSteps.{IsClassHere, IsReadStep, May}
 use Rattle.sdd_invariants.specs.Unspoilt.{spoiling}
 use Rattle.sdd_waiting.proofs.AtModule.{IsEntryAt, acting, aside, at_module, entry_at, handing}
 use Rattle.sdd_waiting.specs.Answers.{IsSpoiltIn}

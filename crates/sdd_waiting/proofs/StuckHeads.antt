@@ -1,20 +1,13 @@
 -- Where nothing is due at a data module, the head of each pipe is stuck.
 use Rattle.std.specs.List.{list_all}
 use Rattle.std.proofs.Common.{ℕ, ◌++◌, ◌∙◌, ◌∷◌, ◌≡◌, Bool, List, None, Option, Some, [], ap, false, if◌then◌else◌, refl, slice_get, subst, suc, sym, true, zero, length}
-use Rattle.sdd_invariants.specs.base.Words.{first_some, or_else}
-use Rattle.sdd_invariants.specs.wire.Piped.{goes_through}
-use Rattle.sdd_invariants.specs.wire.declared.msg.Msg.{Msg}
-use Rattle.sdd_invariants.specs.wire.declared.msg.Msg.TheVariants.{Null, Read, Write}
-use Rattle.sdd_invariants.specs.site_module.SiteLog.{Did, Handed, Log, Redeclared, Setting, Submits, Ticked}
-use Rattle.sdd_invariants.specs.pipe.Pipe.{head}
+use Rattle.sdd_invariants.specs.All.{Did, Handed, Home, IsClassHere, Msg, Null, Processes, Read, Redeclared, Setting, Submits, Ticked, View, Write, act_where, first_some, goes_through, head, head_due, home_of, is_held, is_met, open_due, or_else, pipe, step_on, view_of, waits}
+use Rattle.sdd_invariants.specs.site_module.SiteLog.{Log}
 use Rattle.sdd_invariants.proofs.dm.Prefix.{all_handed, all_there}
-use Rattle.sdd_invariants.specs.dm.Due.{act_where, due, head_due, is_held, is_met, open_due, step_on}
-use Rattle.sdd_invariants.specs.dm.Pipes.{pipe, waits}
-use Rattle.sdd_invariants.specs.dm.Views.{Home, View, class_view, home_of, view_of}
+use Rattle.sdd_invariants.specs.dm.Due.{due}
+use Rattle.sdd_invariants.specs.dm.Views.{class_view}
 use Rattle.sdd_invariants.specs.dm.declared.step.Step.{Step}
-use Rattle.sdd_invariants.specs.dm.declared.step.Step.TheVariants.{Processes}
 use Rattle.sdd_invariants.proofs.Waiting.{class_there}
-use Rattle.sdd_invariants.specs.ReadSteps.{IsClassHere}
 use Rattle.sdd_waiting.proofs.Passing.{head_place}
 use Rattle.sdd_waiting.specs.Heads.{IsStuck}
 

@@ -7,19 +7,13 @@ use Rattle.std.proofs.lemmas.Bool.{eqb-true, false≢true}
 use Rattle.std.proofs.lemmas.List.{length-map}
 use Rattle.std.proofs.lemmas.List.FromFn.{length-map-range_with_len}
 use Rattle.std.proofs.lemmas.Option.{slice_get-map, get_or_from_slice_get, same_Some}
-use Rattle.sdd_invariants.specs.base.Numbers.{class_no}
-use Rattle.sdd_invariants.specs.base.declared.number.ClassNo.{ClassNo}
-use Rattle.sdd_invariants.specs.base.declared.number.FragNo.{FragNo}
-use Rattle.sdd_invariants.specs.catalog.Catalogue.{Catalogue}
+use Rattle.sdd_invariants.specs.All.{Catalogue, ClassNo, Diagonal, Edge, FragNo, IsTable, P2, P3, Protocol, Vertical, class_no}
 use Rattle.sdd_invariants.specs.graph.Edges.{IsClassOf, IsEdgeOf, ReadsFrom}
 use Rattle.sdd_invariants.specs.graph.Graph.{conflict_graph, ends, vertical_edges, horizontal_edges, diagonal_edges, read_node, write_node}
-use Rattle.sdd_invariants.specs.graph.declared.edge.Edge.{Edge}
-use Rattle.sdd_invariants.specs.graph.declared.edge.Edge.TheVariants.{Vertical, Diagonal}
 use Rattle.sdd_invariants.proofs.graph.Known.{edges_known}
-use Rattle.sdd_invariants.specs.protocol.Protocols.{vertical_block, diagonal_protocol, protocol_in, is_vertical_of, IsTable}
+use Rattle.sdd_invariants.specs.protocol.Protocols.{vertical_block, diagonal_protocol, protocol_in, is_vertical_of}
 use Rattle.sdd_invariants.specs.protocol.declared.entry.Entry.{Entry}
-use Rattle.sdd_invariants.specs.protocol.declared.protocol.Protocol.{Protocol}
-use Rattle.sdd_invariants.specs.protocol.declared.protocol.Protocol.TheVariants.{P1, P2, P3}
+use Rattle.sdd_invariants.specs.protocol.declared.protocol.Protocol.TheVariants.{P1}
 use Rattle.sdd_invariants.proofs.protocol.Tables.{blocks_of, all_at, vertical_block-lists, first_block, first_block-vertical}
 use Rattle.sdd_waiting.specs.Theorems.{TableFits}
 use Rattle.sdd_waiting.specs.WaitGraph.{WaitDiagonal, IsClass, FitsBlocks, Fits}

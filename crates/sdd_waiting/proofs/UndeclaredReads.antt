@@ -1,31 +1,12 @@
 -- The READ of an undeclared transaction is never rejected, and holds no WRITE back: what is put with a later timestamp was
 -- started once that transaction was applied at every module.
 use Rattle.std.proofs.Common.{ℕ, ◌++◌, ◌==◌, ◌∙◌, ◌∷◌, ◌≡◌, ◌≤◌, List, Some, ap, append_assoc, arith, inl, inr, length, nat_le, slice_get, subst, sym, true}
-use Rattle.sdd_invariants.specs.base.declared.change.Change.{Change}
-use Rattle.sdd_invariants.specs.base.declared.condition.Cond.{Cond}
-use Rattle.sdd_invariants.specs.base.declared.number.ClassNo.{ClassNo}
-use Rattle.sdd_invariants.specs.base.declared.number.DmNo.{DmNo}
-use Rattle.sdd_invariants.specs.base.declared.number.Ts.{Ts}
-use Rattle.sdd_invariants.specs.base.declared.number.TxnNo.{TxnNo}
-use Rattle.sdd_invariants.specs.base.declared.site.Site.{Site}
-use Rattle.sdd_invariants.specs.base.declared.site.Site.TheVariants.{D}
-use Rattle.sdd_invariants.specs.base.declared.usage.Use.{Use}
+use Rattle.sdd_invariants.specs.All.{Act, Answer, Attempt, Change, ClassNo, Cond, D, DmNo, Does, Given, HasAnswer, IsApplyOf, IsPermitted, IsSound, Log, Msg, Read, Records, Setting, Site, Ts, TxnNo, Use, Write, class_at, head, home_of, local_of, pipe_at, setting_of, spoils, u_stamp, view_of}
 use Rattle.sdd_invariants.proofs.catalog.Sound.{sound_whole}
-use Rattle.sdd_invariants.specs.catalog.Catalogue.{class_at}
-use Rattle.sdd_invariants.specs.catalog.Rules.{IsSound}
 use Rattle.sdd_invariants.specs.graph.Edges.{IsClassOf}
-use Rattle.sdd_invariants.specs.history.declared.record.Rec.TheVariants.{Answer, Reject as Rejected}
-use Rattle.sdd_invariants.specs.wire.declared.msg.Msg.{Msg}
-use Rattle.sdd_invariants.specs.wire.declared.msg.Msg.TheVariants.{Read, Write}
-use Rattle.sdd_invariants.specs.site_module.SiteLog.{Act, Records, Setting}
+use Rattle.sdd_invariants.specs.history.declared.record.Rec.TheVariants.{Reject as Rejected}
 use Rattle.sdd_invariants.specs.site_module.SiteLog as site
-use Rattle.sdd_invariants.specs.attempt.Attempts.{Attempt}
-use Rattle.sdd_invariants.specs.pipe.Pipe.{head}
-use Rattle.sdd_invariants.specs.dm.Due.{holds, holds_back, spoils}
-use Rattle.sdd_invariants.specs.dm.Views.{home_of, view_of}
-use Rattle.sdd_invariants.specs.logs.Entries.{Does, Given, Log}
-use Rattle.sdd_invariants.specs.logs.Locals.{local_of, setting_of}
-use Rattle.sdd_invariants.specs.logs.Permitted.{IsPermitted}
+use Rattle.sdd_invariants.specs.dm.Due.{holds, holds_back}
 use Rattle.sdd_invariants.proofs.logs.EachLocal.{allowed_act}
 use Rattle.sdd_invariants.proofs.Answered.{read_of}
 use Rattle.sdd_invariants.proofs.Apart.{low_or_high}
@@ -37,9 +18,7 @@ use Rattle.sdd_invariants.proofs.Lists.{any_at, in_range}
 use Rattle.sdd_invariants.proofs.Once.{answered_there}
 use Rattle.sdd_invariants.proofs.Split.{le_is}
 use Rattle.sdd_invariants.proofs.Undeclared.{Part, answered_before, commit_t, has_cond, never_spoilt, part_join, part_of, permitted_part, read_classes}
-use Rattle.sdd_invariants.specs.Barrier.{u_stamp, zero_cond}
-use Rattle.sdd_invariants.specs.Causes.{HasAnswer, IsApplyOf}
-use Rattle.sdd_invariants.specs.Seen.{pipe_at}
+use Rattle.sdd_invariants.specs.Barrier.{zero_cond}
 use Rattle.sdd_waiting.proofs.ClassSites.{class_served, home_of_class, in_runs, range_there}
 use Rattle.sdd_waiting.proofs.Rejected.{IsRejecting, rejecting, spoiler_there}
 

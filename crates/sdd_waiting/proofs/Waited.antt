@@ -1,29 +1,11 @@
 -- A READ that waits began to by a Wait, since when nothing of its pipe was processed.
 use Rattle.std.specs.List.{list_all}
 use Rattle.std.proofs.Common.{ℕ, ◌++◌, ◌==◌, ◌||◌, ◌∙◌, ◌∷◌, ◌≡◌, ◌⊎◌, Bool, List, None, Option, Some, [], ap, filter, false, if◌then◌else◌, inl, inr, refl, subst, sym, true}
-use Rattle.sdd_invariants.specs.base.Words.{head_of}
-use Rattle.sdd_invariants.specs.base.declared.change.Change.{Change}
-use Rattle.sdd_invariants.specs.base.declared.condition.Cond.{Cond}
-use Rattle.sdd_invariants.specs.base.declared.number.ClassNo.{ClassNo}
-use Rattle.sdd_invariants.specs.base.declared.number.Ts.{Ts}
-use Rattle.sdd_invariants.specs.base.declared.number.TxnNo.{TxnNo}
-use Rattle.sdd_invariants.specs.base.declared.site.Site.{Site}
-use Rattle.sdd_invariants.specs.base.declared.usage.Use.{Use}
-use Rattle.sdd_invariants.specs.history.declared.record.Rec.{Rec}
-use Rattle.sdd_invariants.specs.wire.Piped.{goes_through}
-use Rattle.sdd_invariants.specs.wire.declared.msg.Msg.{Msg}
-use Rattle.sdd_invariants.specs.wire.declared.msg.Msg.TheVariants.{Fetch, Null, Read, Reduce, Ship, Write}
-use Rattle.sdd_invariants.specs.site_module.SiteLog.{Act, Did, Each, Entry, Handed, Log, Records, Redeclared, Sends, Setting, Submits, Ticked}
-use Rattle.sdd_invariants.specs.pipe.Pipe.{Pipe, head, put}
-use Rattle.sdd_invariants.specs.dm.Due.{IsDue, act_by, act_where, answer_of, answer_to, by_head, by_open, head_due, is_held, is_met, judged, step_on}
-use Rattle.sdd_invariants.specs.dm.Opens.{Open, is_asked_of}
-use Rattle.sdd_invariants.specs.dm.Pipes.{is_processing, is_wait, pipe, waits}
-use Rattle.sdd_invariants.specs.dm.Views.{ClassView, Home, View, home_of, view_of}
-use Rattle.sdd_invariants.specs.dm.declared.step.Step.TheVariants.{Processes}
+use Rattle.sdd_invariants.specs.All.{Act, Change, ClassNo, ClassView, Cond, Did, Each, Fetch, Handed, Home, IsClassHere, IsDue, IsDueEach, Msg, Null, Open, Pipe, Processes, Read, Rec, Records, Redeclared, Reduce, Sends, Setting, Ship, Site, Submits, Ticked, Ts, TxnNo, Use, View, Write, act_by, act_where, answer_of, answer_to, by_head, by_open, goes_through, head, head_due, head_of, home_of, is_asked_of, is_held, is_met, is_processing, is_wait, judged, pipe, put, spoiler, step_on, view_of, waits}
+use Rattle.sdd_invariants.specs.site_module.SiteLog.{Entry, Log}
 use Rattle.sdd_invariants.proofs.AreReadSteps.{class_at_place}
 use Rattle.sdd_invariants.proofs.Bools.{not_both, same_number, same_or_not}
 use Rattle.sdd_invariants.proofs.Processed.{not_own, processed_handed}
-use Rattle.sdd_invariants.specs.ReadSteps.{IsClassHere, IsDueEach, spoiler}
 use Rattle.sdd_waiting.specs.Waited.{IsWaitOf, WaitsSince, lacking}
 
 -- what is due and records a Wait is that of a head

@@ -1,36 +1,22 @@
 -- Worked logs that meet what the laws ask. Two classes, each of which reads what the other writes: a query waits until the
 -- other class has passed its time, and is answered then; or it comes behind a later put, and is rejected.
 use Rattle.std.proofs.Common.{ℕ, ◌+◌, ◌++◌, ◌==◌, ◌∷◌, ◌≡◌, ◌≢◌, ◌≤◌, Bool, List, None, Some, [], arith, false, inl, inr, negsuc, pos, refl, subst, suc, take, true, zero, lit≤, lit<}
-use Rattle.sdd_invariants.specs.base.Numbers.{class_no, dm_no, frag_no, rel_no, time_at, tm_no, txn_no}
-use Rattle.sdd_invariants.specs.base.declared.condition.Cond.{Cond}
-use Rattle.sdd_invariants.specs.base.declared.event.Event.{Event}
-use Rattle.sdd_invariants.specs.base.declared.event.Event.TheVariants.{Deliver, Submit}
+use Rattle.sdd_invariants.specs.All.{Act, AreSubmittedOnce, Catalogue, Cond, D, Deliver, Diagonal, Does, Event, Force, Given, IsLawful, IsPermitted, IsSound, Log, P3, Put, Query, Read, Records, Reject, Setting, Submit, T, Txn, Use, Vertical, class_no, dm_no, frag_no, local_of, next, pipe_at, setting_of, time_at, tm_no, txn_no}
+use Rattle.sdd_invariants.specs.base.Numbers.{rel_no}
 use Rattle.sdd_invariants.specs.base.declared.restriction.Op.TheVariants.{Le}
-use Rattle.sdd_invariants.specs.base.declared.site.Site.TheVariants.{D, T}
-use Rattle.sdd_invariants.specs.base.declared.usage.Use.{Use}
 use Rattle.sdd_invariants.specs.base.declared.value.Value.TheVariants.{Int}
-use Rattle.sdd_invariants.specs.catalog.Catalogue.{Catalogue}
-use Rattle.sdd_invariants.specs.catalog.Rules.{IsSound, faults_of}
+use Rattle.sdd_invariants.specs.catalog.Rules.{faults_of}
 use Rattle.sdd_invariants.specs.catalog.declared.parts.Kind.TheVariants as kinds
-use Rattle.sdd_invariants.specs.graph.declared.edge.Edge.TheVariants.{Diagonal, Vertical}
-use Rattle.sdd_invariants.specs.protocol.declared.protocol.Protocol.TheVariants.{P1, P3}
+use Rattle.sdd_invariants.specs.protocol.declared.protocol.Protocol.TheVariants.{P1}
 use Rattle.sdd_invariants.specs.lang.declared.condition.Condition.TheVariants.{Const}
-use Rattle.sdd_invariants.specs.lang.declared.statement.Stmt.TheVariants.{Put, Query}
-use Rattle.sdd_invariants.specs.lang.declared.transaction.Txn.{Txn}
 use Rattle.sdd_invariants.specs.history.declared.record.Rec.TheVariants.{Reject as Rejected}
-use Rattle.sdd_invariants.specs.wire.declared.msg.Msg.TheVariants.{Read, Reject}
-use Rattle.sdd_invariants.specs.site_module.SiteLog.{Act, Force, Records, Setting}
 use Rattle.sdd_invariants.specs.site_module.SiteLog as site
 use Rattle.sdd_invariants.specs.pipe.Pipe.{passed}
-use Rattle.sdd_invariants.specs.logs.Due.{extended, next}
-use Rattle.sdd_invariants.specs.logs.Entries.{Does, Given, Log}
-use Rattle.sdd_invariants.specs.logs.Lawful.{IsLawful}
-use Rattle.sdd_invariants.specs.logs.Locals.{local_of, setting_of}
-use Rattle.sdd_invariants.specs.logs.Permitted.{AreSubmittedOnce, IsPermitted, one_if}
+use Rattle.sdd_invariants.specs.logs.Due.{extended}
+use Rattle.sdd_invariants.specs.logs.Permitted.{one_if}
 use Rattle.sdd_invariants.proofs.logs.NewMarks.{lawful_permitted}
 use Rattle.sdd_invariants.proofs.Bools.{same_or_not}
 use Rattle.sdd_invariants.proofs.Fair.{d_fair}
-use Rattle.sdd_invariants.specs.Seen.{pipe_at}
 use Rattle.sdd_waiting.proofs.FromTable.{conditions_of}
 use Rattle.sdd_waiting.proofs.OfLawful.{answered}
 use Rattle.sdd_waiting.proofs.Passing.{passed_later}

@@ -1,30 +1,17 @@
 -- Worked logs of a free class: a query is answered and a put applied before the event is over in which it is handed over.
 use Rattle.std.proofs.Common.{ℕ, ◌++◌, ◌==◌, ◌∷◌, ◌≡◌, ◌⊎◌, List, Some, [], arith, inl, inr, lit≤, negsuc, pos, refl, slice_get, subst, suc, sym, take, zero, ◌∙◌}
 use Rattle.std.proofs.lemmas.List.Elements.{All-from_recursion}
-use Rattle.sdd_invariants.specs.base.Numbers.{class_no, dm_no, frag_no, rel_no, time_at, tm_no, txn_no}
-use Rattle.sdd_invariants.specs.base.declared.change.Change.{Change}
-use Rattle.sdd_invariants.specs.base.declared.event.Event.TheVariants.{Deliver, Submit}
-use Rattle.sdd_invariants.specs.base.declared.site.Site.TheVariants.{D, T}
-use Rattle.sdd_invariants.specs.base.declared.usage.Use.{Use}
+use Rattle.sdd_invariants.specs.All.{Catalogue, Change, D, Deliver, Force, Given, Hand, IsForce, IsSound, IsTable, Log, Msg, Put, Query, Read, Submit, T, Txn, Use, Vertical, Write, class_no, dm_no, frag_no, local_of, queue, setting_of, time_at, tm_no, txn_no}
+use Rattle.sdd_invariants.specs.base.Numbers.{rel_no}
 use Rattle.sdd_invariants.specs.base.declared.value.Value.TheVariants.{Int}
 use Rattle.sdd_blocks.specs.Blocks.{AreBlocks, OnACycle}
 use Rattle.sdd_blocks.specs.Graph.{IsSimpleCycle, Joins, Step}
-use Rattle.sdd_invariants.specs.catalog.Catalogue.{Catalogue}
-use Rattle.sdd_invariants.specs.catalog.Rules.{IsSound, faults_of}
+use Rattle.sdd_invariants.specs.catalog.Rules.{faults_of}
 use Rattle.sdd_invariants.specs.catalog.declared.parts.Kind.TheVariants as kinds
-use Rattle.sdd_invariants.specs.graph.declared.edge.Edge.TheVariants.{Vertical}
-use Rattle.sdd_invariants.specs.protocol.Protocols.{IsTable, protocol_in}
+use Rattle.sdd_invariants.specs.protocol.Protocols.{protocol_in}
 use Rattle.sdd_invariants.specs.protocol.declared.entry.Entry as line
 use Rattle.sdd_invariants.specs.protocol.declared.protocol.Protocol.TheVariants.{P1}
-use Rattle.sdd_invariants.specs.lang.declared.statement.Stmt.TheVariants.{Put, Query}
-use Rattle.sdd_invariants.specs.lang.declared.transaction.Txn.{Txn}
-use Rattle.sdd_invariants.specs.wire.declared.msg.Msg.{Msg}
-use Rattle.sdd_invariants.specs.wire.declared.msg.Msg.TheVariants.{Read, Write}
-use Rattle.sdd_invariants.specs.site_module.SiteLog.{Force}
-use Rattle.sdd_invariants.specs.attempt.Queues.{queue}
 use Rattle.sdd_invariants.specs.logs.Due.{extended}
-use Rattle.sdd_invariants.specs.logs.Entries.{Given, Hand, Log}
-use Rattle.sdd_invariants.specs.logs.Locals.{IsForce, local_of, setting_of}
 use Rattle.sdd_waiting.proofs.OfLawful.{answered_by_end, answered_or_rejected, applied_by_end, idle_starts}
 use Rattle.sdd_waiting.proofs.Worked.{made_lawful, one_at_most}
 use Rattle.sdd_waiting.specs.Answers.{EndsAnEvent, IsAnsweredIn, IsAppliedIn, IsRejectedAfter}

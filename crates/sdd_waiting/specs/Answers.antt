@@ -1,24 +1,7 @@
 -- When an event is over, and what was answered or rejected by then.
 use Rattle.std.specs.Prelude.{ℕ, ◌++◌, ◌∷◌, ◌≡◌, ◌≤◌, Bool, List, None, Option, Some, false, slice_get, true}
-use Rattle.sdd_invariants.specs.base.declared.change.Change.{Change}
-use Rattle.sdd_invariants.specs.base.declared.condition.Cond.{Cond}
-use Rattle.sdd_invariants.specs.base.declared.number.ClassNo.{ClassNo}
-use Rattle.sdd_invariants.specs.base.declared.number.DmNo.{DmNo}
-use Rattle.sdd_invariants.specs.base.declared.number.Ts.{Ts}
-use Rattle.sdd_invariants.specs.base.declared.number.TxnNo.{TxnNo}
-use Rattle.sdd_invariants.specs.base.declared.site.Site.{Site}
-use Rattle.sdd_invariants.specs.base.declared.site.Site.TheVariants.{D}
-use Rattle.sdd_invariants.specs.history.declared.record.Rec.TheVariants.{Answer, Apply, Reject as Rejected}
-use Rattle.sdd_invariants.specs.wire.declared.msg.Msg.{Msg}
-use Rattle.sdd_invariants.specs.wire.declared.msg.Msg.TheVariants.{Write}
-use Rattle.sdd_invariants.specs.site_module.SiteLog.{Records}
-use Rattle.sdd_invariants.specs.pipe.Pipe.{head, touches}
-use Rattle.sdd_invariants.specs.catalog.Rules.{IsSound}
-use Rattle.sdd_invariants.specs.logs.Due.{next}
-use Rattle.sdd_invariants.specs.logs.Entries.{Does, Entry, Given, Log, Mark, Redeclares, Round}
-use Rattle.sdd_invariants.specs.logs.Lawful.{IsLawful}
-use Rattle.sdd_invariants.specs.logs.Permitted.{AreSubmittedOnce}
-use Rattle.sdd_invariants.specs.Seen.{pipe_at}
+use Rattle.sdd_invariants.specs.All.{Answer, Apply, AreSubmittedOnce, Change, ClassNo, Cond, D, DmNo, Does, Entry, Given, IsLawful, IsSound, Log, Mark, Msg, Records, Redeclares, Round, Site, Ts, TxnNo, Write, head, next, pipe_at, touches}
+use Rattle.sdd_invariants.specs.history.declared.record.Rec.TheVariants.{Reject as Rejected}
 
 -- an entry that begins an event or a round
 abbrev pub begins_event : Entry → Bool

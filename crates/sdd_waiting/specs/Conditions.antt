@@ -1,16 +1,7 @@
 -- Where the conditions of a READ come from: the protocol table that was in force at the Start of its attempt.
 use Rattle.std.specs.Prelude.{ℕ, ◌++◌, ◌∷◌, ◌≡◌, ◌⊎◌, List, Some, slice_get}
-use Rattle.sdd_invariants.specs.base.declared.condition.Cond.{Cond}
-use Rattle.sdd_invariants.specs.base.declared.number.ClassNo.{ClassNo}
-use Rattle.sdd_invariants.specs.base.declared.number.FragNo.{FragNo}
-use Rattle.sdd_invariants.specs.graph.declared.edge.Edge.TheVariants.{Diagonal}
+use Rattle.sdd_invariants.specs.All.{ClassNo, Cond, Diagonal, Does, FragNo, Given, Log, P2, P3, Protocol, Queued, bound, force_at, home, local_of, next_stamp, redeclares, setting_of, start_at}
 use Rattle.sdd_invariants.specs.protocol.declared.entry.Entry as line
-use Rattle.sdd_invariants.specs.protocol.declared.protocol.Protocol.{Protocol}
-use Rattle.sdd_invariants.specs.protocol.declared.protocol.Protocol.TheVariants.{P2, P3}
-use Rattle.sdd_invariants.specs.attempt.Queues.{Queued}
-use Rattle.sdd_invariants.specs.logs.Entries.{Does, Given, Log}
-use Rattle.sdd_invariants.specs.logs.Locals.{force_at, local_of, redeclares, setting_of}
-use Rattle.sdd_invariants.specs.Steps.{bound, home, next_stamp, start_at}
 
 -- an entry of the table is a diagonal from class i to class j for the fragment, and has the protocol
 pub record IsDiagonalIn (table : List line.Entry) (protocol : Protocol) (i j : ℕ) (fragment : FragNo) : Type 0 where

@@ -1,31 +1,14 @@
 -- Worked logs. An undeclared query and a put beside it: the put is applied before the query comes, or comes while the query
 -- waits. And a query that is rejected in the event in which it comes.
 use Rattle.std.specs.Prelude.{ℕ, ◌++◌, ◌∷◌, List, Some, [], negsuc, pos, refl, take}
-use Rattle.sdd_invariants.specs.base.Numbers.{class_no, dm_no, frag_no, rel_no, time_at, tm_no, txn_no}
-use Rattle.sdd_invariants.specs.base.declared.change.Change.{Change}
-use Rattle.sdd_invariants.specs.base.declared.condition.Cond.{Cond}
-use Rattle.sdd_invariants.specs.base.declared.event.Event.{Event}
-use Rattle.sdd_invariants.specs.base.declared.event.Event.TheVariants.{Deliver, Submit, Tick}
+use Rattle.sdd_invariants.specs.All.{Attempt, Catalogue, Change, Class, Cond, D, Deliver, Diagonal, Event, Fragment, Given, Log, P2, P3, Put, Query, Queued, Submit, T, Tick, Txn, U, Use, Vertical, base_of, begins, class_no, dm_no, frag_no, local_of, time_at, tm_no, txn_no}
+use Rattle.sdd_invariants.specs.base.Numbers.{rel_no}
 use Rattle.sdd_invariants.specs.base.declared.restriction.Op.TheVariants.{Le}
-use Rattle.sdd_invariants.specs.base.declared.site.Site.TheVariants.{D, T, U}
-use Rattle.sdd_invariants.specs.base.declared.usage.Use.{Use}
 use Rattle.sdd_invariants.specs.base.declared.value.Value.TheVariants.{Int}
-use Rattle.sdd_invariants.specs.catalog.Catalogue.{Catalogue}
 use Rattle.sdd_invariants.specs.catalog.declared.parts.Kind.TheVariants as kinds
-use Rattle.sdd_invariants.specs.catalog.declared.resolved.Class.{Class}
-use Rattle.sdd_invariants.specs.catalog.declared.resolved.Fragment.{Fragment}
-use Rattle.sdd_invariants.specs.graph.declared.edge.Edge.TheVariants.{Diagonal, Vertical}
-use Rattle.sdd_invariants.specs.protocol.declared.protocol.Protocol.TheVariants.{P1, P2, P3}
+use Rattle.sdd_invariants.specs.protocol.declared.protocol.Protocol.TheVariants.{P1}
 use Rattle.sdd_invariants.specs.lang.declared.condition.Condition.TheVariants.{Const}
-use Rattle.sdd_invariants.specs.lang.declared.statement.Stmt.TheVariants.{Put, Query}
-use Rattle.sdd_invariants.specs.lang.declared.transaction.Txn.{Txn}
-use Rattle.sdd_invariants.specs.attempt.Attempts.{Attempt}
-use Rattle.sdd_invariants.specs.attempt.Exchange.{begins}
-use Rattle.sdd_invariants.specs.attempt.Queues.{Queued}
 use Rattle.sdd_invariants.specs.logs.Due.{extended}
-use Rattle.sdd_invariants.specs.logs.Entries.{Given, Log}
-use Rattle.sdd_invariants.specs.logs.Locals.{local_of}
-use Rattle.sdd_invariants.specs.logs.Snapshots.{base_of}
 use Rattle.sdd_invariants.specs.Barrier.{IsCommitT}
 use Rattle.sdd_invariants.specs.site_module.SiteLog as site
 

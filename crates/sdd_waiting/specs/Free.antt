@@ -1,14 +1,10 @@
 -- Free classes: no edge at either of their nodes lies on a simple cycle of the conflict graph.
 use Rattle.std.specs.Prelude.{ℕ, ◌==◌, ◌||◌, ◌≡◌, Bool, List, Some, map, slice_get, true}
 use Rattle.sdd_blocks.specs.Blocks.{OnACycle}
-use Rattle.sdd_invariants.specs.catalog.Catalogue.{Catalogue}
+use Rattle.sdd_invariants.specs.All.{Catalogue, Edge, Force, Given, IsForce}
 use Rattle.sdd_invariants.specs.graph.Edges.{IsClassOf}
 use Rattle.sdd_invariants.specs.graph.Graph.{conflict_graph, ends, read_node, write_node}
-use Rattle.sdd_invariants.specs.graph.declared.edge.Edge.{Edge}
 use Rattle.sdd_invariants.specs.protocol.declared.entry.Entry as line
-use Rattle.sdd_invariants.specs.site_module.SiteLog.{Force}
-use Rattle.sdd_invariants.specs.logs.Entries.{Given}
-use Rattle.sdd_invariants.specs.logs.Locals.{IsForce}
 
 -- whether a node is one of the two of class i, and whether an edge ends at one of them
 abbrev pub is_node_of : ℕ → ℕ → Bool

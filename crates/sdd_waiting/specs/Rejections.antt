@@ -1,23 +1,8 @@
 -- Why a data module rejects a READ, and what processes a READ that waits.
 use Rattle.std.specs.Prelude.{ℕ, ◌≡◌, ◌≤◌, List, Some, false, slice_get, true}
-use Rattle.sdd_invariants.specs.base.declared.change.Change.{Change}
-use Rattle.sdd_invariants.specs.base.declared.condition.Cond.{Cond}
-use Rattle.sdd_invariants.specs.base.declared.number.ClassNo.{ClassNo}
-use Rattle.sdd_invariants.specs.base.declared.number.DmNo.{DmNo}
-use Rattle.sdd_invariants.specs.base.declared.number.Ts.{Ts}
-use Rattle.sdd_invariants.specs.base.declared.number.TxnNo.{TxnNo}
-use Rattle.sdd_invariants.specs.base.declared.site.Site.TheVariants.{D}
-use Rattle.sdd_invariants.specs.base.declared.usage.Use.{Use}
-use Rattle.sdd_invariants.specs.history.declared.record.Rec.{Rec}
-use Rattle.sdd_invariants.specs.history.declared.record.Rec.TheVariants.{Answer}
-use Rattle.sdd_invariants.specs.wire.declared.msg.Msg.TheVariants.{Read, Write}
+use Rattle.sdd_invariants.specs.All.{Answer, Change, ClassNo, Cond, D, DmNo, Given, Log, Read, Rec, Ts, TxnNo, Use, Write, head, local_of, pipe, pipe_at, touches, waits}
 use Rattle.sdd_invariants.specs.site_module.SiteLog as site
-use Rattle.sdd_invariants.specs.pipe.Pipe.{head, touches}
-use Rattle.sdd_invariants.specs.dm.Pipes.{pipe, waits}
-use Rattle.sdd_invariants.specs.logs.Entries.{Given, Log}
-use Rattle.sdd_invariants.specs.logs.Locals.{local_of}
 use Rattle.sdd_invariants.specs.Causes.{IsWriter}
-use Rattle.sdd_invariants.specs.Seen.{pipe_at}
 
 -- The Reject of an attempt of class c at module d: its READ stands at the head of the pipe and doesn't wait; one of its
 -- conditions names the class `by`, and its time is that of the WRITE or before; the WRITE, of that class, was processed

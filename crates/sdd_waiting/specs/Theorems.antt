@@ -1,10 +1,6 @@
 -- The theorems. READs that wait are told by a test.
 use Rattle.std.specs.Prelude.{ℕ, ◌≡◌, Bool, true, false, List, Some, slice_get}
-use Rattle.sdd_invariants.specs.base.declared.number.ClassNo.{ClassNo}
-use Rattle.sdd_invariants.specs.base.declared.number.FragNo.{FragNo}
-use Rattle.sdd_invariants.specs.catalog.Catalogue.{Catalogue}
-use Rattle.sdd_invariants.specs.graph.declared.edge.Edge.TheVariants.{Diagonal}
-use Rattle.sdd_invariants.specs.protocol.Protocols.{IsTable}
+use Rattle.sdd_invariants.specs.All.{Catalogue, ClassNo, Diagonal, FragNo, IsTable}
 use Rattle.sdd_invariants.specs.protocol.declared.entry.Entry.{Entry}
 use Rattle.sdd_waiting.specs.WaitGraph.{WaitDiagonal, WaitGraph, IsDiagonal, Fits, Path}
 use Rattle.sdd_waiting.specs.WaitGraphs.{wait_graph, wait_protocol, HasDiagonal}

@@ -1,12 +1,8 @@
 -- The graph of waits of a catalogue, by its protocol table.
 use Rattle.std.specs.Prelude.{ℕ, suc, ◌-◌, ◌≡◌, Bool, true, false, List, [], ◌∷◌, length, map, Option, Some, None}
 use Rattle.std.specs.List.{cons_option}
-use Rattle.sdd_invariants.specs.catalog.Catalogue.{Catalogue}
+use Rattle.sdd_invariants.specs.All.{Catalogue, Diagonal, Edge, P2, P3, Protocol}
 use Rattle.sdd_invariants.specs.graph.Graph.{conflict_graph, ends, read_node, write_node}
-use Rattle.sdd_invariants.specs.graph.declared.edge.Edge.{Edge}
-use Rattle.sdd_invariants.specs.graph.declared.edge.Edge.TheVariants.{Diagonal}
-use Rattle.sdd_invariants.specs.protocol.declared.protocol.Protocol.{Protocol}
-use Rattle.sdd_invariants.specs.protocol.declared.protocol.Protocol.TheVariants.{P2, P3}
 use Rattle.sdd_invariants.specs.protocol.declared.entry.Entry.{Entry}
 use Rattle.sdd_waiting.specs.WaitGraph.{WaitDiagonal, WaitGraph, IsDiagonal}
 

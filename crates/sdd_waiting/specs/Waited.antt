@@ -1,18 +1,7 @@
 -- How a READ began to wait: the Wait that its data module made, and what is as it was then.
 use Rattle.std.specs.Prelude.{ℕ, ◌++◌, ◌∷◌, ◌≡◌, List, None, Some, filter, false, map, not}
-use Rattle.sdd_invariants.specs.base.declared.condition.Cond.{Cond}
-use Rattle.sdd_invariants.specs.base.declared.number.ClassNo.{ClassNo}
-use Rattle.sdd_invariants.specs.base.declared.number.Ts.{Ts}
-use Rattle.sdd_invariants.specs.base.declared.number.TxnNo.{TxnNo}
-use Rattle.sdd_invariants.specs.base.declared.usage.Use.{Use}
-use Rattle.sdd_invariants.specs.history.declared.record.Rec.TheVariants.{Wait}
-use Rattle.sdd_invariants.specs.wire.declared.msg.Msg.TheVariants.{Read}
-use Rattle.sdd_invariants.specs.site_module.SiteLog.{Act, Did, Log, Records, Setting}
-use Rattle.sdd_invariants.specs.pipe.Pipe.{head}
-use Rattle.sdd_invariants.specs.dm.Due.{ask_for, is_met}
-use Rattle.sdd_invariants.specs.dm.Pipes.{pipe, waits}
-use Rattle.sdd_invariants.specs.dm.Views.{View, home_of, view_of}
-use Rattle.sdd_invariants.specs.ReadSteps.{IsClassHere, spoiler}
+use Rattle.sdd_invariants.specs.All.{Act, ClassNo, Cond, Did, IsClassHere, Read, Records, Setting, Ts, TxnNo, Use, View, Wait, ask_for, head, home_of, is_met, pipe, spoiler, view_of, waits}
+use Rattle.sdd_invariants.specs.site_module.SiteLog.{Log}
 
 -- the conditions that aren't met
 abbrev pub lacking : View → List Cond → List Cond

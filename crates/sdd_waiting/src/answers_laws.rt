@@ -1,22 +1,6 @@
 ghost use Rattle.std.specs.List.{list_all};
 ghost use Rattle.std.specs.Prelude.{◌≡◌, ◌≤◌, ◌⊎◌, ◌++◌, ◌∷◌, ℕ, List, None, Some, false, length, true};
-ghost use Rattle.sdd_invariants.specs.base.declared.condition.Cond.{Cond};
-ghost use Rattle.sdd_invariants.specs.base.declared.number.ClassNo.{ClassNo};
-ghost use Rattle.sdd_invariants.specs.base.declared.number.DmNo.{DmNo};
-ghost use Rattle.sdd_invariants.specs.base.declared.number.Ts.{Ts};
-ghost use Rattle.sdd_invariants.specs.base.declared.number.TxnNo.{TxnNo};
-ghost use Rattle.sdd_invariants.specs.base.declared.site.Site.TheVariants.{D};
-ghost use Rattle.sdd_invariants.specs.base.declared.usage.Use.{Use};
-ghost use Rattle.sdd_invariants.specs.wire.declared.msg.Msg.TheVariants.{Read};
-ghost use Rattle.sdd_invariants.specs.pipe.Pipe.{head};
-ghost use Rattle.sdd_invariants.specs.dm.Due.{is_met};
-ghost use Rattle.sdd_invariants.specs.dm.Pipes.{waits};
-ghost use Rattle.sdd_invariants.specs.dm.Views.{view_of};
-ghost use Rattle.sdd_invariants.specs.logs.Entries.{Entry, Given, Log};
-ghost use Rattle.sdd_invariants.specs.logs.Lawful.{IsLawful, IsTheLog};
-ghost use Rattle.sdd_invariants.specs.logs.Locals.{local_of, setting_of};
-ghost use Rattle.sdd_invariants.specs.ReadSteps.{spoiler};
-ghost use Rattle.sdd_invariants.specs.Seen.{pipe_at};
+ghost use Rattle.sdd_invariants.specs.All.{ClassNo, Cond, D, DmNo, Entry, Given, IsLawful, IsTheLog, Log, Read, Ts, TxnNo, Use, head, is_met, local_of, pipe_at, setting_of, spoiler, view_of, waits};
 ghost use Rattle.sdd_waiting.specs.Answers.{EndsAnEvent, IsEventOver, begins_event};
 ghost use Rattle.sdd_waiting.specs.Answers.{IsAnsweredIn, IsRejectedAfter};
 

@@ -1,30 +1,9 @@
 ghost use Rattle.std.specs.Prelude.{◌≡◌, ◌≤◌, ◌++◌, ◌∷◌, ℕ, List, Some, true};
-ghost use Rattle.sdd_invariants.specs.base.Sites.{number_of};
-ghost use Rattle.sdd_invariants.specs.base.declared.change.Change.{Change};
-ghost use Rattle.sdd_invariants.specs.base.declared.condition.Cond.{Cond};
-ghost use Rattle.sdd_invariants.specs.base.declared.number.ClassNo.{ClassNo};
-ghost use Rattle.sdd_invariants.specs.base.declared.number.DmNo.{DmNo};
-ghost use Rattle.sdd_invariants.specs.base.declared.number.Ts.{Ts};
-ghost use Rattle.sdd_invariants.specs.base.declared.number.TxnNo.{TxnNo};
-ghost use Rattle.sdd_invariants.specs.base.declared.site.Site.{Site};
-ghost use Rattle.sdd_invariants.specs.base.declared.site.Site.TheVariants.{D};
-ghost use Rattle.sdd_invariants.specs.base.declared.usage.Use.{Use};
-ghost use Rattle.sdd_invariants.specs.catalog.Rules.{IsSound};
+ghost use Rattle.sdd_invariants.specs.All.{Change, ClassNo, Cond, D, Did, DmNo, Does, Each, Given, IsDueEach, IsPermitted, IsSound, Log, Msg, Read, Rec, Records, Setting, Site, Ts, TxnNo, Use, Wait, Write, head, home, is_processing, number_of, pipe_at, waits};
 ghost use Rattle.sdd_invariants.specs.graph.Edges.{IsClassOf};
-ghost use Rattle.sdd_invariants.specs.history.declared.record.Rec.{Rec};
-ghost use Rattle.sdd_invariants.specs.history.declared.record.Rec.TheVariants.{Reject as Rejected, Wait};
-ghost use Rattle.sdd_invariants.specs.wire.declared.msg.Msg.{Msg};
-ghost use Rattle.sdd_invariants.specs.wire.declared.msg.Msg.TheVariants.{Read, Write};
-ghost use Rattle.sdd_invariants.specs.site_module.SiteLog.{Setting, Did, Each, Records};
+ghost use Rattle.sdd_invariants.specs.history.declared.record.Rec.TheVariants.{Reject as Rejected};
 ghost use Rattle.sdd_invariants.specs.site_module.SiteLog as site;
-ghost use Rattle.sdd_invariants.specs.pipe.Pipe.{head};
 ghost use Rattle.sdd_invariants.specs.dm.Due.{holds_back};
-ghost use Rattle.sdd_invariants.specs.dm.Pipes.{is_processing, waits};
-ghost use Rattle.sdd_invariants.specs.logs.Entries.{Does, Given, Log};
-ghost use Rattle.sdd_invariants.specs.logs.Permitted.{IsPermitted};
-ghost use Rattle.sdd_invariants.specs.ReadSteps.{IsDueEach};
-ghost use Rattle.sdd_invariants.specs.Seen.{pipe_at};
-ghost use Rattle.sdd_invariants.specs.Steps.{home};
 ghost use Rattle.sdd_waiting.specs.Rejections.{IsAnswerOf, IsRejectOf};
 
 /// A READ is rejected only where a WRITE at or after the time of one of its conditions, of the

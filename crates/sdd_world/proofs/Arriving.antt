@@ -1,14 +1,6 @@
 -- Messages have come to a site: they are handed over, or kept.
 use Rattle.std.proofs.Common.{ℕ, ◌≡◌, ◌∙◌, ap, sym, subst, true, List, [], ◌∷◌}
-use Rattle.sdd_obligations.specs.base.declared.site.Site.{Site}
-use Rattle.sdd_obligations.specs.base.declared.site.Site.TheVariants.{U, D}
-use Rattle.sdd_obligations.specs.base.declared.number.DmNo.{DmNo}
-use Rattle.sdd_obligations.specs.base.declared.event.Event.TheVariants.{Deliver}
-use Rattle.sdd_obligations.specs.wire.declared.msg.Msg.{Msg}
-use Rattle.sdd_obligations.specs.logs.Entries.{Given, Log, Mark}
-use Rattle.sdd_obligations.specs.logs.Traffic.{is_down, takes_part}
-use Rattle.sdd_obligations.specs.logs.Locals.{local_of, setting_of}
-use Rattle.sdd_obligations.specs.logs.Resting.{from_one, IsSiteOf}
+use Rattle.sdd_obligations.specs.All.{D, Deliver, DmNo, Given, IsSiteOf, Log, Mark, Msg, Site, U, from_one, is_down, local_of, setting_of, takes_part}
 use Rattle.sdd_obligations.proofs.logs.Delivering.{delivers_messages}
 use Rattle.sdd_world.specs.declared.world.World.{World}
 use Rattle.sdd_world.specs.Standing.{Arrives, ahead_of, Keeping, HandedOn, Handing, Happened, Spooled}

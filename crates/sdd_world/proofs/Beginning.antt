@@ -2,21 +2,13 @@
 use Rattle.std.proofs.Common.{ℕ, zero, suc, ◌-◌, ◌<◌, ◌≤◌, ◌≡◌, ◌∙◌, ap, sym, subst, refl, true, false, List, [], length, replicate, Option, Some, None, arith}
 use Rattle.std.proofs.lemmas.List.{length-replicate}
 use Rattle.std.specs.Prelude.{slice_index_or}
-use Rattle.sdd_obligations.specs.base.Numbers.{dm_no}
-use Rattle.sdd_obligations.specs.base.declared.site.Site.{Site}
-use Rattle.sdd_obligations.specs.base.declared.site.Site.TheVariants.{U}
-use Rattle.sdd_obligations.specs.wire.declared.msg.Msg.{Msg}
-use Rattle.sdd_obligations.specs.net.Mailboxes.{empty_mailbox, kept_from, Mailbox, mailbox_at, place_of, queue_at}
-use Rattle.sdd_obligations.specs.logs.Entries.{Given}
-use Rattle.sdd_obligations.specs.logs.Locals.{beginning, force_at, setting_of}
-use Rattle.sdd_obligations.specs.logs.Resting.{IsSiteOf}
+use Rattle.sdd_obligations.specs.All.{Given, IsGood, IsSiteOf, Mailbox, Msg, Site, U, beginning, dm_no, empty_mailbox, force_at, kept_from, mailbox_at, place_of, queue_at, setting_of}
 use Rattle.sdd_obligations.proofs.logs.Beginning.{next_at_first, rests_at_first}
 use Rattle.sdd_world.specs.declared.world.World.{World}
 use Rattle.sdd_world.specs.Standing.{IsSound, KeepsFor, Spooled, StandsFor}
 use Rattle.sdd_world.proofs.Keeping.{dm_within}
 use Rattle.sdd_world.specs.Modules.{StandFor}
 use Rattle.sdd_world.specs.Carries.{Carries}
-use Rattle.sdd_obligations.specs.Real.{IsGood}
 
 nothing_at : {A : Type 0} (n k : ℕ) → slice_index_or (replicate {A = List A} n []) k [] ≡ []
 nothing_at zero k = refl

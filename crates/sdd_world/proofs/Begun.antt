@@ -2,14 +2,9 @@
 use Rattle.std.proofs.Common.{◌-◌, ◌≡◌, ◌≤◌, List, [], ◌∷◌, Option, Some, None, subst, sym, refl}
 use Rattle.std.proofs.lemmas.Bool.{leb-true}
 use Rattle.std.specs.Prelude.{nat_le, slice_get}
-use Rattle.sdd_obligations.specs.base.Kept.{Kept}
-use Rattle.sdd_obligations.specs.base.declared.site.Site.{Site}
-use Rattle.sdd_obligations.specs.base.declared.site.Site.TheVariants.{U, T, D}
-use Rattle.sdd_obligations.specs.catalog.Catalogue.{Catalogue}
+use Rattle.sdd_obligations.specs.All.{Catalogue, D, Given, IsSiteOf, Kept, Redeclared, Setting, Site, T, Txn, U, beginning, rows_of, setting_of}
 use Rattle.sdd_obligations.specs.protocol.declared.entry.Entry.{Entry}
 use Rattle.sdd_obligations.proofs.lang.Pushdown.{and_parts}
-use Rattle.sdd_obligations.specs.lang.declared.transaction.Txn.{Txn}
-use Rattle.sdd_obligations.specs.site_module.SiteLog.{Redeclared, Setting}
 use Rattle.sdd_obligations.specs.dm.Stands as dm
 use Rattle.sdd_obligations.specs.dm.State as dm_state
 use Rattle.sdd_obligations.specs.tm.Stands as tm
@@ -18,9 +13,6 @@ use Rattle.sdd_obligations.specs.umod.Stands as um
 use Rattle.sdd_obligations.specs.umod.State as um_state
 use Rattle.sdd_obligations.specs.site_module.SiteLog as site
 use Rattle.sdd_world.specs.AtSites.{At, Standing, StandsAt}
-use Rattle.sdd_obligations.specs.logs.Entries.{Given}
-use Rattle.sdd_obligations.specs.logs.Locals.{beginning, rows_of, setting_of}
-use Rattle.sdd_obligations.specs.logs.Resting.{IsSiteOf}
 use Rattle.sdd_world.specs.Beginnings.{AllBegin, BeginsD, BeginsT, IsBegun, There}
 use Rattle.sdd_world.specs.Modules.{LivesD, LivesT, LivesU}
 

@@ -1,23 +1,13 @@
 -- What one module's law says of all sites.
 use Rattle.std.proofs.Common.{ℕ, zero, suc, ◌-◌, ◌≡◌, ◌∙◌, ap, sym, subst, refl, Bool, List, [], ◌∷◌, Option, Some, Result, Ok, Err}
 use Rattle.std.specs.Prelude.{IfOk, IsTrue, slice_get, slice_index_or, slice_set}
-use Rattle.sdd_obligations.specs.base.declared.no_memory.NoMemory.{NoMemory}
-use Rattle.sdd_obligations.specs.base.declared.number.DmNo.{DmNo}
-use Rattle.sdd_obligations.specs.base.declared.number.TmNo.{TmNo}
-use Rattle.sdd_obligations.specs.base.declared.number.TxnNo.{TxnNo}
-use Rattle.sdd_obligations.specs.base.declared.site.Site.{Site}
-use Rattle.sdd_obligations.specs.base.declared.site.Site.TheVariants.{U, T, D}
-use Rattle.sdd_obligations.specs.lang.declared.transaction.Txn.{Txn}
-use Rattle.sdd_obligations.specs.history.declared.record.Rec.{Rec}
+use Rattle.sdd_obligations.specs.All.{Act, AreDue, Bases, D, Did, DmNo, Fitting, FittingSubmit, Handed, Msg, NoMemory, Outcome, Rec, Setting, Site, Submits, T, TmNo, Txn, TxnNo, U, fits_at, fits_submit_at, log_after}
 use Rattle.sdd_obligations.specs.history.declared.record.Rec.TheVariants.{Submit as Submission}
-use Rattle.sdd_obligations.specs.wire.declared.msg.Msg.{Msg}
-use Rattle.sdd_obligations.specs.wire.declared.outcome.Outcome.{Outcome}
-use Rattle.sdd_obligations.specs.site_module.SiteLog.{Setting, Bases, Act, Handed, Submits, AreDue, Does, Did, log_after}
+use Rattle.sdd_obligations.specs.site_module.SiteLog.{Does}
 use Rattle.sdd_obligations.specs.site_module.SiteLog as site
 use Rattle.sdd_obligations.specs.dm.Due as dm
 use Rattle.sdd_obligations.specs.tm.Due as tm
 use Rattle.sdd_obligations.specs.umod.Due as um
-use Rattle.sdd_obligations.specs.Real.{Fitting, FittingSubmit, fits_at, fits_submit_at}
 use Rattle.sdd_obligations.proofs.net.Lists.{get-set_same}
 use Rattle.sdd_world.specs.AtSites.{Standing, Lives, At, StandsAt}
 use Rattle.sdd_world.specs.DueAt.{next_of}

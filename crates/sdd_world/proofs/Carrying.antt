@@ -1,17 +1,13 @@
 -- Steps of a schedule.
 use Rattle.std.proofs.Common.{◌≡◌, ◌≢◌, ◌∙◌, sym, subst, ap, refl, false, List, [], ◌∷◌, Result, Ok, Err}
 use Rattle.std.specs.Prelude.{IfOk}
-use Rattle.sdd_obligations.specs.base.declared.event.Event.{Event}
-use Rattle.sdd_obligations.specs.base.declared.event.Event.TheVariants.{Submit, Deliver, Lose, Repeat, Resend, Tick, Settle, Redeclare, Down, Up}
-use Rattle.sdd_obligations.specs.logs.Entries.{Given, Log, with_event}
+use Rattle.sdd_obligations.specs.All.{Deliver, Down, Event, Given, IsGood, IsPossible, Log, Lose, Redeclare, Repeat, Resend, Settle, Submit, Tick, Up, with_event}
 use Rattle.sdd_obligations.proofs.logs.Grows.{lawful_grows, next_grows}
 use Rattle.sdd_world.specs.Standing.{EndsBy, IsNextList, StandsFor}
 use Rattle.sdd_world.specs.declared.ends.WorldEnd.{WorldEnd}
 use Rattle.sdd_world.specs.declared.world.World.{World}
 use Rattle.sdd_world.specs.Schedules.{AreAllowed, IsAllowed, IsListed, lists_after, takes_rounds, with_events}
 use Rattle.sdd_world.specs.declared.schedule.ClassList.{ClassList}
-use Rattle.sdd_obligations.specs.logs.Resting.{IsPossible}
-use Rattle.sdd_obligations.specs.Real.{IsGood}
 
 -- an event that is reached by no rounds
 pub no_rounds : (e : Event) → e ≢ Settle → e ≢ Redeclare → takes_rounds e ≡ false

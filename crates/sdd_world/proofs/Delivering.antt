@@ -1,20 +1,7 @@
 -- A packet arrives: what it brings is handed over, or kept for a module that is down.
 use Rattle.std.proofs.Common.{ℕ, ◌+◌, ◌≡◌, ◌∙◌, ap, sym, subst, refl, Bool, true, false, not, List, [], ◌∷◌, ◌++◌}
-use Rattle.sdd_obligations.specs.base.Sites.{same_site}
-use Rattle.sdd_obligations.specs.base.Numbers.{dm_no}
-use Rattle.sdd_obligations.specs.base.declared.site.Site.{Site}
-use Rattle.sdd_obligations.specs.base.declared.site.Site.TheVariants.{U, D}
-use Rattle.sdd_obligations.specs.base.declared.event.Event.TheVariants.{Deliver}
-use Rattle.sdd_obligations.specs.history.declared.record.Rec.TheVariants.{Nothing as Noted}
-use Rattle.sdd_obligations.specs.wire.declared.msg.Msg.{Msg}
-use Rattle.sdd_obligations.specs.net.Links.{Call, Delivers, delivered, delivery, link}
-use Rattle.sdd_obligations.specs.net.declared.delivered.Delivered.{Delivered}
-use Rattle.sdd_obligations.specs.net.declared.delivered.Delivered.TheVariants.{Nothing, Acked, Messages}
-use Rattle.sdd_obligations.specs.net.Mailboxes.{Mailbox, mailbox_at}
-use Rattle.sdd_obligations.specs.logs.Entries.{Given, Log, Mark}
-use Rattle.sdd_obligations.specs.logs.Traffic.{calls_of, handed, is_down, link_of, takes_part}
-use Rattle.sdd_obligations.specs.logs.Locals.{local_of, setting_of}
-use Rattle.sdd_obligations.specs.logs.Resting.{from_one, IsSiteOf, IsFirst, IsLinkOf, Takes}
+use Rattle.sdd_obligations.specs.All.{Acked, Call, D, Deliver, Delivered, Delivers, Given, IsFirst, IsLinkOf, IsSiteOf, Log, Mailbox, Mark, Messages, Msg, Nothing as Noted, Site, Takes, U, calls_of, delivered, delivery, dm_no, from_one, handed, is_down, link, link_of, local_of, mailbox_at, same_site, setting_of, takes_part}
+use Rattle.sdd_obligations.specs.net.declared.delivered.Delivered.TheVariants.{Nothing}
 use Rattle.sdd_obligations.proofs.logs.Delivering.{ack_same, delivers_ack, delivers_nothing, nothing_same, remain_beside}
 use Rattle.sdd_obligations.proofs.logs.Links.{sent_stays}
 use Rattle.sdd_world.specs.declared.world.World.{World}

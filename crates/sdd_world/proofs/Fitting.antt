@@ -3,11 +3,8 @@ use Rattle.std.proofs.Common.{ℕ, zero, suc, Bool, true, false, List, [], ◌�
 use Rattle.std.specs.Bool.{if◌then◌else◌}
 use Rattle.std.specs.Prelude.{◌&&◌}
 use Rattle.std.specs.List.{AllByRecursion}
-use Rattle.sdd_obligations.specs.base.Sites.{same_site}
-use Rattle.sdd_obligations.specs.base.declared.site.Site.{Site}
-use Rattle.sdd_obligations.specs.net.declared.packet.Packet.{Packet}
-use Rattle.sdd_obligations.specs.net.declared.packet.Packet.TheVariants.{Message, Ack}
-use Rattle.sdd_obligations.specs.net.Links.{Call, Puts, Delivers, Loses, Repeats, Resends, Link, link, on_link, turned, put, deliver, lose, repeat, resend, arrives, packet_at, with_packet, without_packet, with_flight, delivered, delivery, given_by, newly_delivered}
+use Rattle.sdd_obligations.specs.All.{Ack, Call, Delivers, Link, Loses, Message, Packet, Puts, Repeats, Resends, Site, arrives, deliver, delivered, delivery, given_by, link, lose, newly_delivered, on_link, packet_at, repeat, resend, same_site, turned, with_flight, with_packet, without_packet}
+use Rattle.sdd_obligations.specs.net.Links.{put}
 use Rattle.sdd_world.specs.Carries.{AllPut, AllDelivered}
 
 module _ {M : Type 0} (P : M → Type 0) where

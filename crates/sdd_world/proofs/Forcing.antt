@@ -3,19 +3,10 @@ use Rattle.std.proofs.Common.{ℕ, suc, ◌+◌, ◌-◌, ◌<◌, ◌≤◌, �
 use Rattle.std.proofs.lemmas.Bool.{and_from, cases_lt, le-leb, leb-true, ne_eqb}
 use Rattle.std.specs.List.{fold, range_with_len}
 use Rattle.std.specs.Prelude.{max, nat_le}
-use Rattle.sdd_obligations.specs.base.Numbers.{tm_no}
-use Rattle.sdd_obligations.specs.base.Sites.{number_of, same_site}
-use Rattle.sdd_obligations.specs.base.declared.number.TmNo.{TmNo}
-use Rattle.sdd_obligations.specs.base.declared.site.Site.{Site}
-use Rattle.sdd_obligations.specs.base.declared.site.Site.TheVariants.{U, T, D}
+use Rattle.sdd_obligations.specs.All.{D, FitsForce, Force, Given, IsSiteOf, Log, Redeclared, Setting, Site, T, TmNo, U, local_of, number_of, same_site, setting_of, tm_no}
 use Rattle.sdd_obligations.proofs.lang.Pushdown.{and_parts}
-use Rattle.sdd_obligations.specs.site_module.SiteLog.{Force, Redeclared, Setting}
 use Rattle.sdd_obligations.specs.site_module.SiteLog as site
 use Rattle.sdd_obligations.proofs.net.Directions.{same_is}
-use Rattle.sdd_obligations.specs.logs.Entries.{Given, Log}
-use Rattle.sdd_obligations.specs.logs.Locals.{local_of, setting_of}
-use Rattle.sdd_obligations.specs.logs.Resting.{IsSiteOf}
-use Rattle.sdd_obligations.specs.Real.{FitsForce}
 use Rattle.sdd_world.specs.Modules.{AllStandFor, AreForced, StandFor}
 use Rattle.sdd_world.specs.declared.sites.Sites.{Sites}
 

@@ -1,24 +1,10 @@
 -- A message is handed over, and its module does what is due, over plain worlds.
 use Rattle.std.proofs.Common.{ℕ, suc, ◌≤◌, ◌≡◌, ◌∙◌, ap, sym, subst, refl, true, false, List, [], ◌∷◌, ◌++◌, map, Some}
 use Rattle.std.specs.Prelude.{All}
-use Rattle.sdd_obligations.specs.base.Sites.{same_site}
-use Rattle.sdd_obligations.specs.base.Numbers.{dm_no}
-use Rattle.sdd_obligations.specs.base.declared.site.Site.{Site}
-use Rattle.sdd_obligations.specs.base.declared.site.Site.TheVariants.{U, T, D}
-use Rattle.sdd_obligations.specs.history.declared.record.Rec.{Rec}
-use Rattle.sdd_obligations.specs.wire.declared.msg.Msg.{Msg}
-use Rattle.sdd_obligations.specs.wire.declared.outcome.Outcome.{Outcome}
-use Rattle.sdd_obligations.specs.site_module.SiteLog.{Act, AreDue, Bases, Setting, log_after, records_of, sends_of}
+use Rattle.sdd_obligations.specs.All.{Act, AllLinked, AreDue, Bases, D, Given, Hand, IsFirst, IsLawful, IsSiteOf, Log, Msg, Outcome, Rec, Setting, Site, T, Takes, U, base_of, calls_of, dm_no, fits, force_at, handed, local_of, log_after, marks, next, next_in, puts, puts_past, records_of, same_site, sends_of, setting_of}
 use Rattle.sdd_obligations.specs.site_module.SiteLog as site
 use Rattle.sdd_obligations.proofs.net.Directions.{link_parts, same_is, same_here}
-use Rattle.sdd_obligations.specs.logs.Entries.{Given, Log, Hand, marks}
-use Rattle.sdd_obligations.specs.logs.Traffic.{calls_of, handed, puts}
-use Rattle.sdd_obligations.specs.logs.Locals.{force_at, local_of, setting_of}
-use Rattle.sdd_obligations.specs.logs.Snapshots.{base_of}
-use Rattle.sdd_obligations.specs.logs.Due.{next, next_in}
-use Rattle.sdd_obligations.specs.logs.Lawful.{IsLawful, puts_past}
 use Rattle.sdd_obligations.proofs.logs.Steps.{after_acts}
-use Rattle.sdd_obligations.specs.logs.Resting.{AllLinked, IsFirst, IsSiteOf, Takes}
 use Rattle.sdd_obligations.proofs.logs.Acts.{calls_acts, ends_in_acts, history_acts, linked_acts, marks_acts, other_acts, own_acts}
 use Rattle.sdd_obligations.proofs.logs.Handing.{and_right, first_lawful, first_next, hands_first, remain_other}
 use Rattle.sdd_world.specs.declared.world.World.{World}
@@ -30,7 +16,6 @@ use Rattle.sdd_world.proofs.Parting.{ahead_acts, events_before, redeclares_acts,
 use Rattle.sdd_world.specs.Modules.{StandFor}
 use Rattle.sdd_world.specs.Carries.{Carries}
 use Rattle.sdd_world.specs.declared.sites.Sites.{Sites}
-use Rattle.sdd_obligations.specs.Real.{fits}
 use Rattle.sdd_obligations.proofs.AllFacts.{all_facts}
 
 pub due_same : (g : Given) (b : Site) (bases : Bases) (l : site.Log) (acts : List Act)

@@ -1,18 +1,7 @@
 -- What is known of a mail is known of its network, and the other way round.
 use Rattle.std.proofs.Common.{◌≡◌, ℕ, ◌<◌, List, length, ap, ◌∙◌, sym, subst, Bool, true, Result, Ok, Err, Vec, Global}
 use Rattle.std.specs.Prelude.{slice_get, IfOk}
-use Rattle.sdd_obligations.specs.base.declared.limits.TheConstants.{MAX_LINK_MESSAGES}
-use Rattle.sdd_obligations.specs.base.declared.event.Event.{Event}
-use Rattle.sdd_obligations.specs.base.declared.no_memory.NoMemory.{NoMemory}
-use Rattle.sdd_obligations.specs.base.Sites.{links}
-use Rattle.sdd_obligations.specs.base.Kept.{Kept}
-use Rattle.sdd_obligations.specs.base.declared.site.Site.{Site}
-use Rattle.sdd_obligations.specs.wire.declared.msg.Msg.{Msg}
-use Rattle.sdd_obligations.specs.wire.Spelling.{spelled}
-use Rattle.sdd_obligations.specs.wire.Fits.{Fits}
-use Rattle.sdd_obligations.specs.net.Links.{Call, link, quiet, round, delivery}
-use Rattle.sdd_obligations.specs.net.declared.delivered.Delivered.{Delivered}
-use Rattle.sdd_obligations.specs.net.Nets.{Directions, StandsFor, HasLink, is_link, sent_on, index_of}
+use Rattle.sdd_obligations.specs.All.{Call, Delivered, Directions, Event, Fits, HasLink, Kept, MAX_LINK_MESSAGES, Msg, NoMemory, Site, StandsFor, delivery, index_of, is_link, link, links, quiet, round, sent_on, spelled}
 use Rattle.sdd_obligations.proofs.net.Deliveries.{acked_le, sent_of}
 use Rattle.sdd_obligations.proofs.net.Sound.{sound}
 use Rattle.sdd_obligations.proofs.logs.SpelledLinks.{link_map, delivery_map}

@@ -2,19 +2,8 @@
 use Rattle.std.proofs.Common.{ℕ, zero, suc, ◌<◌, ◌≤◌, ◌≡◌, ◌∙◌, ap, sym, subst, refl, true, false, not, List, [], ◌∷◌, ◌++◌, length, arith}
 use Rattle.std.specs.Bool.{if◌then◌else◌}
 use Rattle.std.specs.Prelude.{◌&&◌, nat_le}
-use Rattle.sdd_obligations.specs.base.Sites.{same_site}
-use Rattle.sdd_obligations.specs.base.Numbers.{dm_no}
-use Rattle.sdd_obligations.specs.base.declared.site.Site.{Site}
-use Rattle.sdd_obligations.specs.base.declared.site.Site.TheVariants.{U, T, D}
-use Rattle.sdd_obligations.specs.base.declared.number.DmNo.{DmNo}
-use Rattle.sdd_obligations.specs.base.declared.event.Event.TheVariants.{Deliver}
-use Rattle.sdd_obligations.specs.wire.declared.msg.Msg.{Msg}
-use Rattle.sdd_obligations.specs.net.Links.{delivery}
-use Rattle.sdd_obligations.specs.net.declared.delivered.Delivered.TheVariants.{Messages}
-use Rattle.sdd_obligations.specs.net.Mailboxes.{Mailbox, kept_from, mailbox_at, IsSender, OnlyAt, Puts, number_of_t, IsWithin as IsBelow}
-use Rattle.sdd_obligations.specs.logs.Entries.{Given, Log, Mark}
-use Rattle.sdd_obligations.specs.logs.Traffic.{calls_of, is_down, link_of, takes_part}
-use Rattle.sdd_obligations.specs.logs.Resting.{from_one, IsSiteOf, Remain, IsLinkOf}
+use Rattle.sdd_obligations.specs.All.{D, Deliver, DmNo, Given, IsLinkOf, IsSender, IsSiteOf, IsWithin as IsBelow, Log, Mailbox, Mark, Messages, Msg, OnlyAt, Remain, Site, T, U, calls_of, delivery, dm_no, from_one, is_down, kept_from, link_of, mailbox_at, number_of_t, same_site, takes_part}
+use Rattle.sdd_obligations.specs.net.Mailboxes.{Puts}
 use Rattle.sdd_obligations.proofs.logs.Delivering.{delivers_kept, remain_beside, remain_more}
 use Rattle.sdd_world.specs.declared.world.World.{World}
 use Rattle.sdd_world.proofs.Marking.{marked_plain}

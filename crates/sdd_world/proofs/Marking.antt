@@ -1,22 +1,7 @@
 -- Events of which nothing more is due, or that find nothing to do, over plain worlds.
 use Rattle.std.proofs.Common.{ℕ, suc, ◌+◌, ◌≤◌, ◌≡◌, ◌∙◌, ap, sym, subst, refl, Bool, true, false, List, [], ◌∷◌, ◌++◌, length, Option, Some, None, arith}
 use Rattle.std.specs.Prelude.{All, is_none, is_some, nat_lt, slice_get}
-use Rattle.sdd_obligations.specs.base.Numbers.{dm_no}
-use Rattle.sdd_obligations.specs.base.declared.site.Site.{Site}
-use Rattle.sdd_obligations.specs.base.declared.site.Site.TheVariants.{U, D}
-use Rattle.sdd_obligations.specs.base.declared.event.Event.{Event}
-use Rattle.sdd_obligations.specs.base.declared.event.Event.TheVariants.{Submit, Deliver, Lose, Repeat, Resend, Tick, Settle, Redeclare, Down, Up}
-use Rattle.sdd_obligations.specs.history.declared.record.Rec.TheVariants.{Nothing as Noted}
-use Rattle.sdd_obligations.specs.wire.declared.msg.Msg.{Msg}
-use Rattle.sdd_obligations.specs.net.Links.{Call, Loses, Repeats, Resends, delivered, link, packet_at}
-use Rattle.sdd_obligations.specs.net.declared.packet.Packet.{Packet}
-use Rattle.sdd_obligations.specs.net.Mailboxes.{Mailbox}
-use Rattle.sdd_obligations.specs.logs.Entries.{Given, Log, Mark, Notes, history, marks}
-use Rattle.sdd_obligations.specs.logs.Traffic.{calls_of, handed, is_down, link_of}
-use Rattle.sdd_obligations.specs.logs.Locals.{force_at, local_of, redeclares, setting_of}
-use Rattle.sdd_obligations.specs.logs.Marks.{after_mark, left}
-use Rattle.sdd_obligations.specs.logs.Due.{due_by, note_if}
-use Rattle.sdd_obligations.specs.logs.Resting.{IsSiteOf, Remain, Rests}
+use Rattle.sdd_obligations.specs.All.{Call, D, Deliver, Down, Event, Given, IsSiteOf, Log, Lose, Loses, Mailbox, Mark, Msg, Notes, Nothing as Noted, Packet, Redeclare, Remain, Repeat, Repeats, Resend, Resends, Rests, Settle, Site, Submit, Tick, U, Up, after_mark, calls_of, delivered, dm_no, due_by, force_at, handed, history, is_down, left, link, link_of, local_of, marks, note_if, packet_at, redeclares, setting_of}
 use Rattle.sdd_obligations.proofs.logs.Links.{delivered_lose, delivered_repeat, delivered_resend, sent_stays, unacked_none, unacked_some}
 use Rattle.sdd_obligations.proofs.logs.Marking.{IsNoTick, TurnsNone, handed_still, mark_local, none_by_mark, rests_marked, rests_noted}
 use Rattle.sdd_world.specs.declared.world.World.{World}

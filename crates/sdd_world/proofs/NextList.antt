@@ -1,22 +1,10 @@
 -- Another list of classes is put in force, once the links are quiet, over plain worlds.
 use Rattle.std.proofs.Common.{ℕ, zero, suc, ◌+◌, ◌≤◌, ◌≡◌, ◌≢◌, ◌∙◌, ap, sym, subst, refl, List, [], ◌∷◌, arith}
 use Rattle.std.proofs.lemmas.Bool.{lt-ltb}
-use Rattle.sdd_obligations.specs.base.declared.limits.TheConstants.{MAX_RUN_EVENTS}
-use Rattle.sdd_obligations.specs.base.declared.site.Site.TheVariants.{U}
-use Rattle.sdd_obligations.specs.base.declared.event.Event.{Event}
-use Rattle.sdd_obligations.specs.base.declared.event.Event.TheVariants.{Redeclare}
-use Rattle.sdd_obligations.specs.catalog.Catalogue.{Catalogue}
+use Rattle.sdd_obligations.specs.All.{Catalogue, EndsIn, Event, FitsForce, Force, Given, Log, MAX_RUN_EVENTS, Redeclare, Redeclares, U, calls_of, force_at, greatest_bound, left, local_of, marks, redeclares, redeclares_in, setting_of, settles_before, with_event, with_force}
 use Rattle.sdd_obligations.specs.protocol.declared.entry.Entry.{Entry}
-use Rattle.sdd_obligations.specs.site_module.SiteLog.{Force}
-use Rattle.sdd_obligations.specs.logs.Entries.{Given, Log, Redeclares, marks, with_event}
-use Rattle.sdd_obligations.specs.logs.Traffic.{calls_of}
-use Rattle.sdd_obligations.specs.logs.Locals.{force_at, local_of, redeclares, setting_of, with_force}
-use Rattle.sdd_obligations.specs.logs.Marks.{greatest_bound, left}
-use Rattle.sdd_obligations.specs.logs.Resting.{EndsIn, settles_before}
 use Rattle.sdd_obligations.proofs.logs.Completing.{none_left, redeclare_next}
 use Rattle.sdd_obligations.proofs.logs.Marking.{rests_redeclared}
-use Rattle.sdd_obligations.specs.AfterEvents.{redeclares_in}
-use Rattle.sdd_obligations.specs.Real.{FitsForce}
 use Rattle.sdd_obligations.proofs.AllFacts.{all_facts}
 use Rattle.sdd_obligations.proofs.Done.{count_join, redeclares_left}
 use Rattle.sdd_world.specs.declared.sites.Sites.{Sites}

@@ -2,14 +2,9 @@
 use Rattle.std.proofs.Common.{◌≡◌, ℕ, zero, suc, ◌+◌, ◌<◌, List, [], ◌∷◌, ◌++◌, length, map, take, get_or, Result, Ok, refl, sym, ap, ◌∙◌, subst, arith}
 use Rattle.std.specs.List.{AllByRecursion}
 use Rattle.std.proofs.lemmas.List.{map-append, take_more}
-use Rattle.sdd_obligations.specs.wire.declared.msg.Msg.{Msg}
-use Rattle.sdd_obligations.specs.wire.Fits.{Fits}
-use Rattle.sdd_obligations.specs.wire.Spelling.{spelled}
-use Rattle.sdd_obligations.specs.wire.Reading.{message_in}
+use Rattle.sdd_obligations.specs.All.{Acked, Delivered, Fits, Messages, Msg, delivered_as, message_in, spelled}
 use Rattle.sdd_obligations.proofs.wire.MessageLaws.{message_read_back}
-use Rattle.sdd_obligations.specs.net.declared.delivered.Delivered.{Delivered}
-use Rattle.sdd_obligations.specs.net.declared.delivered.Delivered.TheVariants.{Nothing, Acked, Messages}
-use Rattle.sdd_obligations.specs.logs.Spelled.{delivered_as}
+use Rattle.sdd_obligations.specs.net.declared.delivered.Delivered.TheVariants.{Nothing}
 use Rattle.sdd_world.specs.Carries.{AllDelivered, IsSpelling, Spells}
 
 -- the only message that has a spelling is read from it

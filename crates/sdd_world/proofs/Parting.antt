@@ -2,22 +2,8 @@
 use Rattle.std.proofs.Common.{ℕ, suc, ◌≤◌, ◌≡◌, ◌∙◌, sym, refl, false, List, [], ◌∷◌, ◌++◌, map, arith}
 use Rattle.std.specs.Prelude.{All}
 use Rattle.std.proofs.lemmas.List.Elements.{All-nil, All-append, All-cons, All-weaker}
-use Rattle.sdd_obligations.specs.base.Sites.{same_site}
-use Rattle.sdd_obligations.specs.base.Numbers.{dm_no}
-use Rattle.sdd_obligations.specs.base.declared.site.Site.{Site}
-use Rattle.sdd_obligations.specs.base.declared.site.Site.TheVariants.{D}
-use Rattle.sdd_obligations.specs.base.declared.event.Event.{Event}
-use Rattle.sdd_obligations.specs.history.declared.record.Rec.{Rec}
-use Rattle.sdd_obligations.specs.history.Records.{History}
-use Rattle.sdd_obligations.specs.wire.declared.msg.Msg.{Msg}
-use Rattle.sdd_obligations.specs.site_module.SiteLog.{Act, records_of_act}
-use Rattle.sdd_obligations.specs.net.Mailboxes.{Mailbox, kept_from, mailbox_at}
-use Rattle.sdd_obligations.specs.logs.Entries.{Given, Log, Mark, Round, Redeclares, Hand, Submitted, Notes, Does, history, marks}
-use Rattle.sdd_obligations.specs.logs.Traffic.{is_down}
-use Rattle.sdd_obligations.specs.logs.Locals.{redeclares}
-use Rattle.sdd_obligations.specs.logs.Marks.{left}
+use Rattle.sdd_obligations.specs.All.{Act, D, Does, Event, Given, Hand, History, Log, Mailbox, Mark, Msg, Notes, Rec, Redeclares, Remain, Round, Site, Submitted, dm_no, history, is_down, kept_from, left, mailbox_at, marks, records_of_act, redeclares, same_site}
 use Rattle.sdd_obligations.proofs.logs.Steps.{after_acts}
-use Rattle.sdd_obligations.specs.logs.Resting.{Remain}
 use Rattle.sdd_obligations.proofs.logs.Acts.{is_down_acts, left_acts, marks_acts}
 use Rattle.sdd_obligations.proofs.logs.Handing.{remain_acts}
 use Rattle.sdd_world.specs.Standing.{Ahead, ahead_of, KeepsFor, Spooled}

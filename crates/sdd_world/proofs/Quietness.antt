@@ -3,11 +3,7 @@ use Rattle.std.proofs.Common.{ℕ, zero, suc, ◌+◌, ◌-◌, Bool, List, [], 
 use Rattle.std.specs.Prelude.{◌&&◌, nat_le, nat_lt, cond, replicate, is_some, slice_get}
 use Rattle.std.specs.List.{list_all, filter_map, flat_map}
 use Rattle.std.proofs.lemmas.List.{length-map}
-use Rattle.sdd_obligations.specs.base.Words.{is_empty}
-use Rattle.sdd_obligations.specs.base.declared.site.Site.{Site}
-use Rattle.sdd_obligations.specs.base.declared.event.Event.TheVariants.{Deliver, Resend}
-use Rattle.sdd_obligations.specs.net.Links.{Call, Link, link, is_quiet_link, packet_at, quiet, resends_now, in_flight, round}
-use Rattle.sdd_obligations.specs.logs.Spelled.{call_as, packet_as, link_as}
+use Rattle.sdd_obligations.specs.All.{Call, Deliver, Link, Resend, Site, call_as, in_flight, is_empty, is_quiet_link, link, link_as, packet_as, packet_at, quiet, resends_now, round}
 use Rattle.sdd_obligations.proofs.logs.SpelledLinks.{link_map}
 
 all_same : {A : Type 0} (p q : A → Bool) (xs : List A) → ((x : A) → p x ≡ q x) → list_all p xs ≡ list_all q xs

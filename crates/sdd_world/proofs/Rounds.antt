@@ -2,23 +2,9 @@
 use Rattle.std.proofs.Common.{ℕ, suc, ◌+◌, ◌<◌, ◌≤◌, ◌≡◌, ◌∙◌, ap, sym, subst, refl, true, false, List, [], ◌∷◌, ◌++◌, length, Some, arith}
 use Rattle.std.proofs.Common.{◌≢◌}
 use Rattle.std.proofs.lemmas.Bool.{lt-ltb, ltb-false}
-use Rattle.sdd_obligations.specs.base.Sites.{links}
-use Rattle.sdd_obligations.specs.base.declared.limits.TheConstants.{MAX_RUN_EVENTS}
-use Rattle.sdd_obligations.specs.base.declared.site.Site.{Site}
-use Rattle.sdd_obligations.specs.base.declared.site.Site.TheVariants.{U, T, D}
-use Rattle.sdd_obligations.specs.base.declared.event.Event.{Event}
-use Rattle.sdd_obligations.specs.base.declared.event.Event.TheVariants.{Submit, Deliver, Lose, Repeat, Resend, Tick, Settle, Redeclare, Down, Up}
-use Rattle.sdd_obligations.specs.wire.declared.msg.Msg.{Msg}
-use Rattle.sdd_obligations.specs.net.Links.{Call, quiet, round}
-use Rattle.sdd_obligations.specs.net.Mailboxes.{Mailbox}
-use Rattle.sdd_obligations.specs.logs.Entries.{Does, Given, Hand, Log, Mark, Notes, Redeclares, Round, Submitted, marks, with_event}
-use Rattle.sdd_obligations.specs.logs.Traffic.{all_links, calls_of, takes_part}
-use Rattle.sdd_obligations.specs.logs.Locals.{local_of, setting_of}
-use Rattle.sdd_obligations.specs.logs.Marks.{after_mark, left}
-use Rattle.sdd_obligations.specs.logs.Due.{next}
+use Rattle.sdd_obligations.specs.All.{AtEach, Call, D, Deliver, Does, Down, Event, Given, Hand, IsGood, IsPossible, Log, Lose, MAX_RUN_EVENTS, Mailbox, Mark, Msg, Notes, Redeclare, Redeclares, Repeat, Resend, Rests, Round, Settle, Site, Submit, Submitted, T, TakesRounds, Tick, U, Up, after_mark, all_links, calls_of, left, links, local_of, marks, next, quiet, round, setting_of, takes_part, with_event}
 use Rattle.sdd_obligations.specs.logs.Lawful.{IsWithin}
 use Rattle.sdd_obligations.proofs.logs.Grows.{lawful_grows}
-use Rattle.sdd_obligations.specs.logs.Resting.{AtEach, IsPossible, Rests, TakesRounds}
 use Rattle.sdd_obligations.proofs.logs.Completing.{event_left, in_round, IsFree, IsSingle, none_left, one_more, round_next, settled}
 use Rattle.sdd_obligations.proofs.logs.FirstHand.{none_to_hand}
 use Rattle.sdd_obligations.proofs.logs.Marking.{still_none}
@@ -28,7 +14,6 @@ use Rattle.sdd_world.specs.Standing.{Before, Calm, EndsBy, Happened, IsSettled, 
 use Rattle.sdd_world.proofs.Parting.{spooled_on}
 use Rattle.sdd_world.specs.Modules.{StandFor}
 use Rattle.sdd_world.specs.Carries.{Carries}
-use Rattle.sdd_obligations.specs.Real.{IsGood}
 
 pub single : (g : Given) (e : Event) → IsPossible g e → IsSingle e
 single g (Submit n) p = tt

@@ -2,14 +2,8 @@
 use Rattle.std.proofs.Common.{ℕ, suc, ◌≡◌, ◌≢◌, ◌≤◌, ◌∙◌, ap, arith, sym, Bool, true, false, List, [], ◌∷◌, ◌++◌, append_assoc, append-nil, refl}
 use Rattle.std.specs.Prelude.{◌||◌, nat_lt}
 use Rattle.std.proofs.lemmas.Bool.{le-ltb, lt-ltb}
-use Rattle.sdd_obligations.specs.base.declared.limits.TheConstants.{MAX_LINK_MESSAGES}
-use Rattle.sdd_obligations.specs.base.declared.site.Site.{Site}
-use Rattle.sdd_obligations.specs.wire.declared.msg.Msg.{Msg}
+use Rattle.sdd_obligations.specs.All.{Call, MAX_LINK_MESSAGES, Msg, Site, is_link, puts, puts_past}
 use Rattle.sdd_world.specs.Carries.{Carries, NetValue}
-use Rattle.sdd_obligations.specs.net.Links.{Call}
-use Rattle.sdd_obligations.specs.net.Nets.{is_link}
-use Rattle.sdd_obligations.specs.logs.Traffic.{puts}
-use Rattle.sdd_obligations.specs.logs.Lawful.{puts_past}
 use Rattle.sdd_obligations.proofs.logs.Acts.{puts-append, puts_past-append}
 use Rattle.sdd_world.specs.Kinds.{AreLinked}
 use Rattle.sdd_world.specs.Following.{Sending}

@@ -1,30 +1,14 @@
 -- A transaction is given to its module, which does what is due, over plain worlds.
 use Rattle.std.proofs.Common.{ℕ, zero, suc, ◌-◌, ◌≤◌, ◌≡◌, ◌∙◌, ap, sym, subst, refl, true, false, List, [], ◌∷◌, ◌++◌, map, Some, append_assoc, arith}
 use Rattle.std.specs.Prelude.{slice_get, All, get_or}
-use Rattle.sdd_obligations.specs.base.Sites.{same_site}
-use Rattle.sdd_obligations.specs.base.declared.number.TxnNo.{TxnNo}
-use Rattle.sdd_obligations.specs.base.declared.site.Site.{Site}
-use Rattle.sdd_obligations.specs.base.declared.site.Site.TheVariants.{U}
-use Rattle.sdd_obligations.specs.base.declared.event.Event.TheVariants.{Submit}
-use Rattle.sdd_obligations.specs.lang.declared.transaction.Txn.{Txn}
+use Rattle.sdd_obligations.specs.All.{Act, AreDue, Bases, Given, IsLawful, IsSiteOf, Log, Mailbox, Mark, Msg, Outcome, Rec, Setting, Site, Submit, Submits, Txn, TxnNo, U, base_of, calls_of, fits_submit, force_at, history, local_of, log_after, marks, next_in, puts, puts_past, records_of, redeclares, same_site, sends_of, setting_of, txn_at}
 use Rattle.sdd_obligations.specs.lang.Fits.{Fits}
 use Rattle.sdd_obligations.proofs.class_eras.EraFits.{fits_in_era}
-use Rattle.sdd_obligations.specs.history.declared.record.Rec.{Rec}
 use Rattle.sdd_obligations.specs.history.declared.record.Rec.TheVariants.{Submit as Submission}
-use Rattle.sdd_obligations.specs.wire.declared.msg.Msg.{Msg}
-use Rattle.sdd_obligations.specs.wire.declared.outcome.Outcome.{Outcome}
-use Rattle.sdd_obligations.specs.site_module.SiteLog.{Act, AreDue, Bases, Setting, Submits, log_after, records_of, sends_of}
 use Rattle.sdd_obligations.specs.site_module.SiteLog as site
 use Rattle.sdd_obligations.proofs.net.Directions.{same_is}
-use Rattle.sdd_obligations.specs.net.Mailboxes.{Mailbox}
-use Rattle.sdd_obligations.specs.logs.Entries.{Given, Log, Mark, history, marks}
-use Rattle.sdd_obligations.specs.logs.Traffic.{calls_of, puts}
-use Rattle.sdd_obligations.specs.logs.Locals.{force_at, local_of, redeclares, setting_of, txn_at}
-use Rattle.sdd_obligations.specs.logs.Snapshots.{base_of}
-use Rattle.sdd_obligations.specs.logs.Due.{home_of, next_in}
-use Rattle.sdd_obligations.specs.logs.Lawful.{IsLawful, puts_past}
+use Rattle.sdd_obligations.specs.logs.Due.{home_of}
 use Rattle.sdd_obligations.proofs.logs.Steps.{after_acts}
-use Rattle.sdd_obligations.specs.logs.Resting.{IsSiteOf}
 use Rattle.sdd_obligations.proofs.logs.Acts.{calls_acts, ends_in_acts, history_acts, left_acts, linked_acts, marks_acts, other_acts, own_acts}
 use Rattle.sdd_obligations.proofs.logs.FirstHand.{listed}
 use Rattle.sdd_obligations.proofs.logs.Marking.{mark_within}
@@ -40,7 +24,6 @@ use Rattle.sdd_world.proofs.Parting.{events_before, later, redeclares_acts, spoo
 use Rattle.sdd_world.specs.Modules.{StandFor}
 use Rattle.sdd_world.specs.Carries.{Carries}
 use Rattle.sdd_world.specs.declared.sites.Sites.{Sites}
-use Rattle.sdd_obligations.specs.Real.{fits_submit}
 use Rattle.sdd_obligations.proofs.AllFacts.{all_facts}
 
 -- what is read at a place of a list is the member there

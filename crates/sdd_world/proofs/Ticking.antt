@@ -1,18 +1,8 @@
 -- The clock of a transaction module goes on, over plain worlds.
 use Rattle.std.proofs.Common.{ℕ, ◌≡◌, refl, true, false, List, ◌∷◌}
-use Rattle.sdd_obligations.specs.base.Sites.{same_site}
-use Rattle.sdd_obligations.specs.base.declared.number.TmNo.{TmNo}
-use Rattle.sdd_obligations.specs.base.declared.site.Site.{Site}
-use Rattle.sdd_obligations.specs.base.declared.site.Site.TheVariants.{U, T}
-use Rattle.sdd_obligations.specs.base.declared.event.Event.TheVariants.{Tick}
-use Rattle.sdd_obligations.specs.wire.declared.msg.Msg.{Msg}
-use Rattle.sdd_obligations.specs.site_module.SiteLog.{Setting, Ticked}
+use Rattle.sdd_obligations.specs.All.{Given, IsSiteOf, Log, Mailbox, Mark, Msg, Setting, Site, T, Tick, Ticked, TmNo, U, fits_tick, local_of, same_site, setting_of}
 use Rattle.sdd_obligations.specs.site_module.SiteLog as site
 use Rattle.sdd_obligations.proofs.net.Directions.{same_here, same_is}
-use Rattle.sdd_obligations.specs.net.Mailboxes.{Mailbox}
-use Rattle.sdd_obligations.specs.logs.Entries.{Given, Log, Mark}
-use Rattle.sdd_obligations.specs.logs.Locals.{local_of, setting_of}
-use Rattle.sdd_obligations.specs.logs.Resting.{IsSiteOf}
 use Rattle.sdd_obligations.proofs.logs.Marking.{rests_marked, ticked_none, handed_still}
 use Rattle.sdd_world.specs.declared.world.World.{World}
 use Rattle.sdd_world.specs.Standing.{Happened, Marked, Spooled}
@@ -21,7 +11,6 @@ use Rattle.sdd_world.proofs.Marking.{happened}
 use Rattle.sdd_world.proofs.Parting.{spooled_on}
 use Rattle.sdd_world.specs.Modules.{StandFor}
 use Rattle.sdd_world.specs.declared.sites.Sites.{Sites}
-use Rattle.sdd_obligations.specs.Real.{fits_tick}
 use Rattle.sdd_obligations.proofs.AllFacts.{all_facts}
 
 own_tick : (g : Given) (t : TmNo) (n : ℕ) (log : Log) → local_of g (T t) (Mark (Tick t n) ∷ log) ≡ Ticked n ∷ local_of g (T t) log

@@ -2,20 +2,8 @@
 use Rattle.std.proofs.Common.{ℕ, zero, suc, ◌<◌, ◌≤◌, ◌≡◌, ◌∙◌, ap, sym, subst, refl, Bool, true, false, not, List, [], ◌∷◌, ◌++◌, length, Some, arith}
 use Rattle.std.specs.Bool.{if◌then◌else◌}
 use Rattle.std.specs.Prelude.{◌&&◌, ◌==◌, nat_le}
-use Rattle.sdd_obligations.specs.base.Sites.{same_site, sites}
-use Rattle.sdd_obligations.specs.base.Numbers.{dm_no, tm_no}
-use Rattle.sdd_obligations.specs.base.declared.site.Site.{Site}
-use Rattle.sdd_obligations.specs.base.declared.site.Site.TheVariants.{U, T, D}
-use Rattle.sdd_obligations.specs.base.declared.number.DmNo.{DmNo}
-use Rattle.sdd_obligations.specs.base.declared.event.Event.{Event}
-use Rattle.sdd_obligations.specs.base.declared.event.Event.TheVariants.{Down, Up}
-use Rattle.sdd_obligations.specs.history.declared.record.Rec.TheVariants.{Nothing as Noted}
-use Rattle.sdd_obligations.specs.wire.declared.msg.Msg.{Msg}
-use Rattle.sdd_obligations.specs.net.Mailboxes.{Mailbox, kept_from, mailbox_at, kept_count, IsBefore, IsLowest, IsSender, OnlyAt, number_of_t, Takes as TakesFrom, IsWithin as IsBelow}
-use Rattle.sdd_obligations.specs.logs.Entries.{Given, Log, Mark, Notes}
-use Rattle.sdd_obligations.specs.logs.Traffic.{calls_of, is_down}
-use Rattle.sdd_obligations.specs.logs.Locals.{local_of, setting_of}
-use Rattle.sdd_obligations.specs.logs.Resting.{AllHanded, IsSiteOf, Remain, Rests, Waits, IsFirst, Takes}
+use Rattle.sdd_obligations.specs.All.{AllHanded, D, DmNo, Down, Event, Given, IsBefore, IsFirst, IsLowest, IsSender, IsSiteOf, IsWithin as IsBelow, Log, Mailbox, Mark, Msg, Notes, Nothing as Noted, OnlyAt, Remain, Rests, Site, T, Takes, U, Up, Waits, calls_of, dm_no, is_down, is_site, kept_count, kept_from, local_of, mailbox_at, number_of_t, same_site, setting_of, sites, tm_no}
+use Rattle.sdd_obligations.specs.net.Mailboxes.{Takes as TakesFrom}
 use Rattle.sdd_obligations.proofs.logs.Marking.{IsNoTick}
 use Rattle.sdd_world.specs.declared.world.World.{World}
 use Rattle.sdd_world.proofs.Marking.{marked_noted, marked_plain}
@@ -23,7 +11,6 @@ use Rattle.sdd_world.proofs.Keeping.{dm_within}
 use Rattle.sdd_world.specs.Standing.{ahead_of, Risen, Rising, HandedOn, Handing, Happened, KeepsFor, Marked, Parts, Spooled}
 use Rattle.std.proofs.Common.{◌≢◌}
 use Rattle.std.proofs.lemmas.Bool.{and_from, eq-eqb, eqb-true, le-leb}
-use Rattle.sdd_obligations.specs.net.Nets.{is_site}
 use Rattle.sdd_obligations.proofs.logs.Handing.{all_handed}
 use Rattle.sdd_obligations.proofs.logs.Delivering.{none_remains}
 use Rattle.sdd_obligations.proofs.logs.Lowest.{Cut, cut_at_t}

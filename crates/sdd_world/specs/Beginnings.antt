@@ -1,16 +1,7 @@
 -- For which logs the modules of a system stand before its first event.
 use Rattle.std.specs.Prelude.{ℕ, ◌-◌, ◌≤◌, ◌≡◌, List, [], ◌∷◌, length, slice_get, Option, Some, None}
-use Rattle.sdd_obligations.specs.base.Kept.{Kept}
-use Rattle.sdd_obligations.specs.base.Numbers.{dm_no, tm_no}
-use Rattle.sdd_obligations.specs.base.declared.number.RelNo.{RelNo}
-use Rattle.sdd_obligations.specs.base.declared.site.Site.TheVariants.{T, D}
-use Rattle.sdd_obligations.specs.lang.declared.transaction.Txn.{Txn}
-use Rattle.sdd_obligations.specs.logs.Entries.{Given}
-use Rattle.sdd_obligations.specs.logs.Locals.{force_at, rows_of}
-use Rattle.sdd_obligations.specs.catalog.Catalogue.{Catalogue}
+use Rattle.sdd_obligations.specs.All.{Catalogue, D, Given, Kept, Redeclared, RelNo, Row, Setting, T, Txn, dm_no, force_at, rows_of, tm_no}
 use Rattle.sdd_obligations.specs.protocol.declared.entry.Entry.{Entry}
-use Rattle.sdd_obligations.specs.lang.Database.{Row}
-use Rattle.sdd_obligations.specs.site_module.SiteLog.{Redeclared, Setting}
 use Rattle.sdd_obligations.specs.dm.Stands as dm
 use Rattle.sdd_obligations.specs.dm.State as dm_state
 use Rattle.sdd_obligations.specs.tm.Stands as tm

@@ -1,15 +1,7 @@
 -- For which calls the mail stands: the network of spellings stands for them, each message spelled.
 use Rattle.std.specs.Prelude.{ℕ, ◌≡◌, IsTrue, List, [], ◌∷◌, map}
 use Rattle.std.specs.List.{AllByRecursion}
-use Rattle.sdd_obligations.specs.base.Kept.{Kept}
-use Rattle.sdd_obligations.specs.wire.declared.msg.Msg.{Msg}
-use Rattle.sdd_obligations.specs.wire.Spelling.{spelled}
-use Rattle.sdd_obligations.specs.wire.Fits.{Fits}
-use Rattle.sdd_obligations.specs.net.declared.delivered.Delivered.{Delivered}
-use Rattle.sdd_obligations.specs.net.declared.delivered.Delivered.TheVariants.{Messages}
-use Rattle.sdd_obligations.specs.net.Links.{Call, Puts}
-use Rattle.sdd_obligations.specs.net.Nets.{Directions, StandsFor}
-use Rattle.sdd_obligations.specs.logs.Spelled.{call_as, delivered_as}
+use Rattle.sdd_obligations.specs.All.{Call, Delivered, Directions, Fits, Kept, Messages, Msg, Puts, StandsFor, call_as, delivered_as, spelled}
 
 -- what contracts see of a mail: whether it is live, and the network of spellings
 abbrev pub NetValue : Type 0

@@ -1,8 +1,6 @@
 -- What is due at a site of any kind.
 use Rattle.std.specs.Prelude.{Option}
-use Rattle.sdd_obligations.specs.base.declared.site.Site.{Site}
-use Rattle.sdd_obligations.specs.base.declared.site.Site.TheVariants.{U, T, D}
-use Rattle.sdd_obligations.specs.site_module.SiteLog.{Act, Bases, Setting}
+use Rattle.sdd_obligations.specs.All.{Act, Bases, D, Setting, Site, T, U}
 use Rattle.sdd_obligations.specs.site_module.SiteLog as site
 use Rattle.sdd_obligations.specs.dm.Due as dm
 use Rattle.sdd_obligations.specs.tm.Due as tm

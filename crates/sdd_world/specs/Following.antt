@@ -1,11 +1,6 @@
 -- What a module records and sends is put on the history and the network.
 use Rattle.std.specs.Prelude.{ℕ, ◌≡◌, true, false, List, ◌++◌, map}
-use Rattle.sdd_obligations.specs.base.declared.site.Site.{Site}
-use Rattle.sdd_obligations.specs.wire.declared.msg.Msg.{Msg}
-use Rattle.sdd_obligations.specs.wire.declared.outcome.Outcome.{Outcome}
-use Rattle.sdd_obligations.specs.net.Links.{Call}
-use Rattle.sdd_obligations.specs.logs.Traffic.{puts}
-use Rattle.sdd_obligations.specs.logs.Lawful.{puts_past}
+use Rattle.sdd_obligations.specs.All.{Call, Msg, Outcome, Site, puts, puts_past}
 use Rattle.sdd_world.specs.declared.world.World.{World}
 use Rattle.sdd_world.specs.Carries.{Carries, NetValue}
 use Rattle.sdd_world.specs.Kinds.{AreLinked}

@@ -1,15 +1,10 @@
 -- For which logs the modules of all sites stand.
 use Rattle.std.specs.Prelude.{ℕ}
-use Rattle.sdd_obligations.specs.base.declared.site.Site.{Site}
-use Rattle.sdd_obligations.specs.site_module.SiteLog.{Force, Setting}
+use Rattle.sdd_obligations.specs.All.{Force, Given, IsSiteOf, Kept, Log, Setting, Site, local_of, setting_of, with_force}
 use Rattle.sdd_obligations.specs.site_module.SiteLog as site
-use Rattle.sdd_obligations.specs.logs.Entries.{Given, Log}
-use Rattle.sdd_obligations.specs.logs.Locals.{local_of, setting_of, with_force}
-use Rattle.sdd_obligations.specs.logs.Resting.{IsSiteOf}
 use Rattle.sdd_obligations.specs.dm.Stands as dm
 use Rattle.sdd_obligations.specs.tm.Stands as tm
 use Rattle.sdd_obligations.specs.umod.Stands as um
-use Rattle.sdd_obligations.specs.base.Kept.{Kept}
 use Rattle.sdd_obligations.specs.dm.State as dm_state
 use Rattle.sdd_obligations.specs.tm.State as tm_state
 use Rattle.sdd_obligations.specs.umod.State as um_state

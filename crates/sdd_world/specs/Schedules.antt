@@ -1,10 +1,6 @@
 -- What is given with the events of a schedule, and which schedules can be carried out.
 use Rattle.std.specs.Prelude.{Bool, true, false, ◌≡◌, List, [], ◌∷◌}
-use Rattle.sdd_obligations.specs.base.declared.event.Event.{Event}
-use Rattle.sdd_obligations.specs.base.declared.event.Event.TheVariants.{Redeclare, Settle}
-use Rattle.sdd_obligations.specs.logs.Entries.{Given, with_event}
-use Rattle.sdd_obligations.specs.logs.Resting.{IsPossible}
-use Rattle.sdd_obligations.specs.Real.{IsGood}
+use Rattle.sdd_obligations.specs.All.{Event, Given, IsGood, IsPossible, Redeclare, Settle, with_event}
 use Rattle.sdd_world.specs.declared.schedule.ClassList.{ClassList}
 use Rattle.sdd_world.specs.Standing.{IsNextList}
 

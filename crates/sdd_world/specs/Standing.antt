@@ -1,30 +1,8 @@
 -- For which log a world stands, between events and within one.
 use Rattle.std.specs.Prelude.{ℕ, suc, ◌≤◌, ◌≡◌, true, false, List, [], ◌∷◌, ◌++◌, length, Some, None}
-use Rattle.sdd_obligations.specs.base.Sites.{same_site}
-use Rattle.sdd_obligations.specs.base.Numbers.{dm_no}
-use Rattle.sdd_obligations.specs.base.declared.limits.TheConstants.{MAX_TMS, MAX_DMS}
-use Rattle.sdd_obligations.specs.base.declared.site.Site.{Site}
-use Rattle.sdd_obligations.specs.base.declared.site.Site.TheVariants.{U, D}
-use Rattle.sdd_obligations.specs.base.declared.event.Event.{Event}
-use Rattle.sdd_obligations.specs.base.declared.event.Event.TheVariants.{Deliver}
-use Rattle.sdd_obligations.specs.lang.declared.transaction.Txn.{Txn}
-use Rattle.sdd_obligations.specs.catalog.Catalogue.{Catalogue}
+use Rattle.sdd_obligations.specs.All.{AtEach, Catalogue, D, Deliver, EndsByLimit, EndsIn, Event, Force, Given, IsGood, IsLinkOf, IsMarked, IsPossible, IsSiteOf, Log, MAX_DMS, MAX_TMS, Mailbox, Mark, Messages, Msg, Redeclares, Remain, Rests, Site, TakesRounds, Txn, U, Waits, after_mark, all_links, calls_of, delivery, dm_no, force_at, from_one, greatest_bound, history, is_down, kept_from, left, link_of, mailbox_at, marks, next, quiet, redeclares, redeclares_in, same_site, txn_at}
 use Rattle.sdd_obligations.specs.protocol.declared.entry.Entry.{Entry}
-use Rattle.sdd_obligations.specs.site_module.SiteLog.{Force}
 use Rattle.sdd_obligations.specs.lang.Fits.{Fits}
-use Rattle.sdd_obligations.specs.wire.declared.msg.Msg.{Msg}
-use Rattle.sdd_obligations.specs.net.declared.delivered.Delivered.TheVariants.{Messages}
-use Rattle.sdd_obligations.specs.net.Links.{delivery, quiet}
-use Rattle.sdd_obligations.specs.net.Mailboxes.{Mailbox, kept_from, mailbox_at}
-use Rattle.sdd_obligations.specs.logs.Entries.{Given, Log, Mark, Redeclares, history, marks}
-use Rattle.sdd_obligations.specs.logs.Traffic.{all_links, calls_of, is_down, link_of}
-use Rattle.sdd_obligations.specs.logs.Locals.{force_at, redeclares, txn_at}
-use Rattle.sdd_obligations.specs.logs.Marks.{after_mark, greatest_bound, left}
-use Rattle.sdd_obligations.specs.logs.Due.{next}
-use Rattle.sdd_obligations.specs.logs.Lawful.{EndsByLimit}
-use Rattle.sdd_obligations.specs.logs.Resting.{AtEach, EndsIn, from_one, IsLinkOf, IsMarked, IsPossible, IsSiteOf, Remain, Rests, TakesRounds, Waits}
-use Rattle.sdd_obligations.specs.AfterEvents.{redeclares_in}
-use Rattle.sdd_obligations.specs.Real.{IsGood}
 use Rattle.sdd_world.specs.Carries.{Carries}
 use Rattle.sdd_world.specs.Modules.{AllStandFor}
 use Rattle.sdd_world.specs.declared.world.World.{World}

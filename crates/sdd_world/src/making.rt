@@ -1,7 +1,6 @@
 ghost use Rattle.std.specs.Prelude.{IfOk};
 ghost use Rattle.std.specs.List.{All};
-ghost use Rattle.sdd_obligations.specs.lang.Fits.{FitsStart};
-ghost use Rattle.sdd_obligations.specs.class_eras.EraOf.{IsEraOf};
+ghost use Rattle.sdd_obligations.specs.All.{FitsStart, IsEraOf};
 ghost use Rattle.sdd_world.specs.Beginnings.{AllBegin, BeginsD, BeginsT};
 
 use sdd_obligations::sdd_base::{DmNo, NoMemory, RelNo, Row, TmNo};

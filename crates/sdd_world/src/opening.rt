@@ -1,9 +1,6 @@
 ghost use Rattle.std.specs.Prelude.{◌≡◌, map, IfOk};
 ghost use Rattle.std.specs.List.{AllByRecursion};
-ghost use Rattle.sdd_obligations.specs.net.declared.delivered.Delivered.{Delivered as Handed};
-ghost use Rattle.sdd_obligations.specs.wire.declared.msg.Msg.{Msg as Message};
-ghost use Rattle.sdd_obligations.specs.wire.Fits.{Fits};
-ghost use Rattle.sdd_obligations.specs.wire.Spelling.{spelled};
+ghost use Rattle.sdd_obligations.specs.All.{Delivered as Handed, Fits, Msg as Message, spelled};
 ghost use Rattle.sdd_world.specs.Carries.{IsSpelling, Spells};
 
 use sdd_obligations::sdd_base::NoMemory;

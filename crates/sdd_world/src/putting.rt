@@ -1,8 +1,5 @@
 ghost use Rattle.std.specs.Prelude.{◌≡◌, ◌≤◌, ◌++◌, [], ◌∷◌, ℕ, List, map, true, false, All, IfOk, IsErrOf, OnOk};
-ghost use Rattle.sdd_obligations.specs.net.Links.{Call};
-ghost use Rattle.sdd_obligations.specs.wire.declared.msg.Msg.{Msg};
-ghost use Rattle.sdd_obligations.specs.logs.Traffic.{puts};
-ghost use Rattle.sdd_obligations.specs.logs.Lawful.{puts_past};
+ghost use Rattle.sdd_obligations.specs.All.{Call, Msg, puts, puts_past};
 ghost use Rattle.sdd_world.specs.Carries.{Carries};
 ghost use Rattle.sdd_world.specs.Kinds.{AreLinked};
 

@@ -1,8 +1,6 @@
 //! Another list of classes is put in force in a world, once its links are quiet.
 ghost use Rattle.std.specs.Prelude.{◌≡◌, IfOk, IsErrOf};
-ghost use Rattle.sdd_obligations.specs.base.declared.event.Event.TheVariants.{Redeclare};
-ghost use Rattle.sdd_obligations.specs.logs.Entries.{Given, Log, with_event};
-ghost use Rattle.sdd_obligations.specs.Real.{IsGood};
+ghost use Rattle.sdd_obligations.specs.All.{Given, IsGood, Log, Redeclare, with_event};
 ghost use Rattle.sdd_world.specs.Standing.{EndsBy, Forcing, IsNextList, StandsFor};
 
 use crate::ends::WorldEnd;

@@ -1,6 +1,5 @@
 ghost use Rattle.std.specs.Prelude.{◌≡◌, IfOk, IsErrOf};
-ghost use Rattle.sdd_obligations.specs.base.declared.event.Event.TheVariants.{Redeclare};
-ghost use Rattle.sdd_obligations.specs.logs.Entries.{Given, Log, with_event};
+ghost use Rattle.sdd_obligations.specs.All.{Given, Log, Redeclare, with_event};
 ghost use Rattle.sdd_world.specs.Standing.{EndsBy, StandsFor};
 ghost use Rattle.sdd_world.specs.Schedules.{AreAllowed, IsAllowed, lists_after, with_events};
 

@@ -1,15 +1,5 @@
 ghost use Rattle.std.specs.Prelude.{◌≡◌, ◌<◌, ◌≤◌, All, ◌++◌, [], ◌∷◌, true, false, ℕ, List, Some, IfOk, OnOk, IsErrOf, MatchOption};
-ghost use Rattle.sdd_obligations.specs.base.declared.site.Site.{Site};
-ghost use Rattle.sdd_obligations.specs.base.declared.site.Site.TheVariants.{U, D};
-ghost use Rattle.sdd_obligations.specs.base.declared.event.Event.{Event};
-ghost use Rattle.sdd_obligations.specs.base.declared.event.Event.TheVariants.{Submit, Deliver, Lose, Repeat, Resend, Tick, Settle, Down, Up};
-ghost use Rattle.sdd_obligations.specs.wire.declared.msg.Msg.{Msg};
-ghost use Rattle.sdd_obligations.specs.net.Links.{quiet};
-ghost use Rattle.sdd_obligations.specs.net.Mailboxes.{kept_from, mailbox_at};
-ghost use Rattle.sdd_obligations.specs.logs.Entries.{Given, Log, history, with_event};
-ghost use Rattle.sdd_obligations.specs.logs.Traffic.{all_links, calls_of, is_down, takes_part};
-ghost use Rattle.sdd_obligations.specs.logs.Resting.{from_one, IsFirst, IsLinkOf, IsPossible, IsSiteOf, Takes};
-ghost use Rattle.sdd_obligations.specs.Real.{IsGood};
+ghost use Rattle.sdd_obligations.specs.All.{D, Deliver, Down, Event, Given, IsFirst, IsGood, IsLinkOf, IsPossible, IsSiteOf, Log, Lose, Msg, Repeat, Resend, Settle, Site, Submit, Takes, Tick, U, Up, all_links, calls_of, from_one, history, is_down, kept_from, mailbox_at, quiet, takes_part, with_event};
 ghost use Rattle.sdd_world.specs.declared.world.World.{World};
 ghost use Rattle.sdd_world.specs.Following.{MaySend, Followed, IsPast};
 ghost use Rattle.sdd_world.specs.Standing.{ahead_of, Arrives, Before, EndsBy, HandedOn, Handing, Happened, IsSettled, Keeping, Marked, Rising, Risen, Settles, Settling, Spooled, StandsFor};

@@ -1,6 +1,6 @@
 use Rattle.std.proofs.Common.{◌≡◌, ◌++◌, drop, map}
 use Rattle.std.specs.Prelude.{IsTrue}
-use Rattle.sdd_lang.specs.Database.{database_of}
+use Rattle.sdd_lang.specs.All.{database_of}
 use Rattle.sdd_app.specs.Serially.{replies_of}
 use Rattle.sdd_app.proofs.serially.put_replies.Given as goal
 

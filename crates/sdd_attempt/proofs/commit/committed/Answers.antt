@@ -1,9 +1,7 @@
 use Rattle.std.proofs.Common.{ap, refl, sym, subst, ◌∙◌, ◌++◌}
 use Rattle.std.specs.Prelude.{filter_map}
-use Rattle.sdd_module.specs.catalog.Catalogue.{numbers_to}
+use Rattle.sdd_module.specs.All.{effect, numbers_to, txn_no}
 use Rattle.sdd_exec.specs.Serves.{Serves}
-use Rattle.sdd_module.specs.lang.Effect.{effect}
-use Rattle.sdd_module.specs.base.Numbers.{txn_no}
 use Rattle.sdd_attempt.specs.Writes.{write_of}
 use Rattle.sdd_attempt.proofs.Noting.{committed_noted}
 use Rattle.sdd_attempt.proofs.commit.committed.Goals as goal

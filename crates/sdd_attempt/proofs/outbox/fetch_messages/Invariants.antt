@@ -1,5 +1,5 @@
 use Rattle.std.proofs.Common.{◌≡◌, take}
-use Rattle.sdd_module.specs.wire.declared.msg.Msg.TheVariants.{Fetch}
+use Rattle.sdd_module.specs.All.{Fetch}
 use Rattle.sdd_attempt.specs.Outbox.{addressed}
 use Rattle.sdd_attempt.proofs.outbox.fetch_messages.Given as goal
 

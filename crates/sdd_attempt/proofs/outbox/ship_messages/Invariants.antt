@@ -1,5 +1,5 @@
 use Rattle.std.proofs.Common.{◌≡◌, take}
-use Rattle.sdd_module.specs.wire.declared.msg.Msg.TheVariants.{Ship}
+use Rattle.sdd_module.specs.All.{Ship}
 use Rattle.sdd_attempt.specs.Outbox.{addressed}
 use Rattle.sdd_attempt.proofs.outbox.ship_messages.Given as goal
 

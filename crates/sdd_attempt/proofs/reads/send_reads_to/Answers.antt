@@ -1,4 +1,4 @@
-use Rattle.sdd_module.specs.base.Numbers.{dm_no}
+use Rattle.sdd_module.specs.All.{dm_no}
 use Rattle.sdd_attempt.proofs.Reading.{module_more, sent_more}
 use Rattle.sdd_attempt.proofs.reads.send_reads_to.Goals as goal
 

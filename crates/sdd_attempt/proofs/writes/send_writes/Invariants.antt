@@ -1,6 +1,6 @@
 use Rattle.std.proofs.Common.{◌≡◌, ◌-◌, ◌++◌}
 use Rattle.std.specs.Prelude.{filter_map}
-use Rattle.sdd_module.specs.catalog.Catalogue.{numbers_to}
+use Rattle.sdd_module.specs.All.{numbers_to}
 use Rattle.sdd_attempt.specs.Writes.{write_of}
 use Rattle.sdd_attempt.proofs.writes.send_writes.Given as goal
 

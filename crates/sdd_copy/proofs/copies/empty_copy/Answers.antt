@@ -1,5 +1,5 @@
 use Rattle.std.proofs.Common.{ap, Some}
-use Rattle.sdd_lang.specs.base.Numbers.{frag_no}
+use Rattle.sdd_lang.specs.All.{frag_no}
 use Rattle.sdd_copy.proofs.copies.empty_copy.Goals as goal
 
 pub returns-in_ok-new-in-Some : goal.returns-in_ok-new-in-Some

@@ -1,7 +1,7 @@
 use Rattle.std.proofs.Common.{rules, ◌∙◌, ap}
 use Rattle.std.specs.List.{filter}
 use Rattle.std.proofs.lemmas.Fn.{filter_same}
-use Rattle.sdd_lang.specs.base.Order.{column}
+use Rattle.sdd_lang.specs.All.{column}
 use Rattle.sdd_copy.specs.Known.{is_known}
 use Rattle.sdd_copy.proofs.reducing.keep_known.Goals as goal
 

@@ -1,6 +1,6 @@
 use Rattle.std.proofs.Common.{ap, ◌∙◌, [], map, fold, None}
 use Rattle.std.specs.Prelude.{is_some, slice_index_or}
-use Rattle.sdd_module.specs.lang.Database.{database_of}
+use Rattle.sdd_module.specs.All.{database_of}
 use Rattle.sdd_copy.specs.Copies.{with_change}
 use Rattle.sdd_copy.proofs.Standing.{stand_applied, here_applied}
 use Rattle.sdd_dm.specs.Copies.{first_row}

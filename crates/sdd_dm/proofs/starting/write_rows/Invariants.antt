@@ -1,7 +1,7 @@
 use Rattle.std.proofs.Common.{◌≡◌, map, fold}
 use Rattle.std.specs.Prelude.{IsTrue}
 use Rattle.std.specs.List.{All}
-use Rattle.sdd_module.specs.lang.Sound.{IsEntry}
+use Rattle.sdd_module.specs.All.{IsEntry}
 use Rattle.sdd_copy.specs.Copies.{with_change}
 use Rattle.sdd_dm.specs.Copies.{first_row}
 use Rattle.sdd_dm.specs.Starts.{lent}

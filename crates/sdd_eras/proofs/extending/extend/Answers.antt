@@ -1,7 +1,6 @@
 use Rattle.std.proofs.Common.{◌++◌, ap, sym, ◌∙◌, subst}
 use Rattle.std.proofs.lemmas.Result.{IfOk-weaker, IfErr-weaker}
-use Rattle.sdd_lang.specs.catalog.Catalogue.{catalogue_of}
-use Rattle.sdd_lang.specs.catalog.Rules.{TellsFirst, faults_of, IsValid}
+use Rattle.sdd_lang.specs.All.{IsValid, TellsFirst, catalogue_of, faults_of}
 use Rattle.sdd_eras.specs.Further.{with_classes}
 use Rattle.sdd_eras.proofs.Extended.{further_are_all, extended_is}
 use Rattle.sdd_eras.proofs.extending.extend.Goals as goal

@@ -1,7 +1,6 @@
 use Rattle.std.proofs.Common.{◌≤◌, ap, sym, ◌∙◌, subst, length}
 use Rattle.std.proofs.lemmas.Result.{IfOk-weaker}
-use Rattle.sdd_lang.specs.catalog.Catalogue.{catalogue_of, parts_of}
-use Rattle.sdd_lang.specs.catalog.Rules.{IsValid}
+use Rattle.sdd_lang.specs.All.{IsValid, catalogue_of, parts_of}
 use Rattle.sdd_eras.specs.Further.{with_classes}
 use Rattle.sdd_eras.specs.Retired.{retired_parts}
 use Rattle.sdd_eras.proofs.Retired.{retired_valid, retired_is, as_many_parts}

@@ -1,7 +1,6 @@
 use Rattle.std.proofs.Common.{◌≡◌, fold}
 use Rattle.std.specs.BTreeSet.{insert_key}
-use Rattle.sdd_lang.specs.base.Order.{row_cmp}
-use Rattle.sdd_lang.specs.Query.{distinct}
+use Rattle.sdd_lang.specs.All.{distinct, row_cmp}
 use Rattle.sdd_exec.proofs.found.as_set.Given as goal
 
 -- the rows that are left make of the set what all make of none

@@ -1,8 +1,7 @@
 use Rattle.std.proofs.Common.{◌≡◌, ◌∙◌}
 use Rattle.std.proofs.lemmas.Result.{IfOk-weaker}
 use Rattle.sdd_lang.specs.declared.effect.Effect.{Effect}
-use Rattle.sdd_lang.specs.Effect.{effect}
-use Rattle.sdd_lang.specs.Source.{effect_over}
+use Rattle.sdd_lang.specs.All.{effect, effect_over}
 use Rattle.sdd_exec.specs.Snapshots.{found_for, chosen_for}
 use Rattle.sdd_exec.proofs.Serving.{served_effect}
 use Rattle.sdd_exec.proofs.from_rows.effect.Goals as goal

@@ -1,7 +1,7 @@
 use Rattle.std.proofs.Common.{◌≡◌, List, [], take}
 use Rattle.std.specs.HashMap as hash
 use Rattle.std.specs.Option.{option_map_or}
-use Rattle.sdd_lang.specs.base.declared.value.Value.{Value}
+use Rattle.sdd_lang.specs.All.{Value}
 use Rattle.sdd_exec.specs.Choices.{same_row, places}
 use Rattle.sdd_exec.proofs.index.grouped.Given as goal
 

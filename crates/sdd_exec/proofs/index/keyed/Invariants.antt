@@ -1,5 +1,5 @@
 use Rattle.std.proofs.Common.{◌≡◌, ◌++◌, drop}
-use Rattle.sdd_lang.specs.Tuples.{rows_lent}
+use Rattle.sdd_lang.specs.All.{rows_lent}
 use Rattle.sdd_exec.specs.Choices.{keyed}
 use Rattle.sdd_exec.proofs.index.keyed.Given as goal
 

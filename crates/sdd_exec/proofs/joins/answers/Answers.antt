@@ -1,5 +1,5 @@
 use Rattle.std.proofs.Common.{◌≡◌, ◌<◌, ◌+◌, length, take, arith, filter_map}
-use Rattle.sdd_lang.specs.Query.{distinct}
+use Rattle.sdd_lang.specs.All.{distinct}
 use Rattle.sdd_exec.specs.Choices.{row_from}
 use Rattle.sdd_exec.proofs.Product.{no_room, all_found}
 use Rattle.sdd_exec.proofs.Steps.{found_next}

@@ -1,5 +1,5 @@
 use Rattle.std.proofs.Common.{IfOk, ◌≡◌, List, Option, subst}
-use Rattle.sdd_lang.specs.Database.{Row}
+use Rattle.sdd_lang.specs.All.{Row}
 use Rattle.sdd_exec.proofs.joins.answers_of_all.Goals as goal
 
 pub returns : goal.returns

@@ -4,7 +4,7 @@ use Rattle.std.specs.Option.{option_map_or}
 use Rattle.std.proofs.Common.{◌≡◌, ◌≤◌, ◌∙◌, [], List, ℕ, ap, arith, sym, subst, length, map}
 use Rattle.std.proofs.lemmas.Bool.{eqb-true}
 use Rattle.std.proofs.lemmas.List.{nil_from_length}
-use Rattle.sdd_lang.specs.Database.{Row}
+use Rattle.sdd_lang.specs.All.{Row}
 use Rattle.sdd_exec.specs.Choices.{Choice, picked, placed, ties_of, key_for, keyed, same_row, places, extended, extensions}
 use Rattle.sdd_exec.proofs.Steps.{flat_map_same}
 use Rattle.sdd_exec.proofs.joins.take_part.Goals as goal

@@ -1,5 +1,5 @@
 use Rattle.std.proofs.Common.{◌≡◌, ◌++◌, ℕ}
-use Rattle.sdd_lang.specs.Source.{entries_of}
+use Rattle.sdd_lang.specs.All.{entries_of}
 use Rattle.sdd_exec.specs.Snapshots.{of_relation}
 use Rattle.sdd_exec.proofs.matched.listed.Given as goal
 

@@ -1,5 +1,5 @@
 use Rattle.std.proofs.Common.{◌+◌, ◌≡◌, ◌∙◌, List, ℕ, ap, get_or, subst, sym, take}
-use Rattle.sdd_lang.specs.Database.{Row}
+use Rattle.sdd_lang.specs.All.{Row}
 use Rattle.sdd_exec.specs.Sifting.{pair_of, pairs_of}
 use Rattle.sdd_exec.proofs.Steps.{filter_map_more, filter_map_same}
 use Rattle.sdd_exec.proofs.sifting.pairs_of.Goals as goal

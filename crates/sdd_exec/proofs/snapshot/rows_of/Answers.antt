@@ -1,4 +1,4 @@
-use Rattle.sdd_lang.specs.Tuples.{rows_lent}
+use Rattle.sdd_lang.specs.All.{rows_lent}
 use Rattle.sdd_exec.proofs.Shipping.{rows_next}
 use Rattle.sdd_exec.proofs.snapshot.rows_of.Goals as goal
 

@@ -1,5 +1,5 @@
 use Rattle.std.proofs.Common.{◌≡◌, take}
-use Rattle.sdd_lang.specs.Tuples.{rows_lent}
+use Rattle.sdd_lang.specs.All.{rows_lent}
 use Rattle.sdd_exec.specs.Snapshots.{rows_for}
 use Rattle.sdd_exec.proofs.snapshot.rows_of.Given as goal
 

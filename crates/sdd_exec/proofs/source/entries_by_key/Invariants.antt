@@ -1,5 +1,5 @@
 use Rattle.std.proofs.Common.{◌≡◌, [], take, fold}
-use Rattle.sdd_lang.specs.Tuples.{rows_lent}
+use Rattle.sdd_lang.specs.All.{rows_lent}
 use Rattle.sdd_exec.specs.Snapshots.{of_relation, with_chosen}
 use Rattle.sdd_exec.proofs.source.entries_by_key.Given as goal
 

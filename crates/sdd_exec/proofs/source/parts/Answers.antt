@@ -1,5 +1,5 @@
 use Rattle.std.proofs.Common.{◌+◌, arith}
-use Rattle.sdd_lang.specs.Tuples.{rows_lent}
+use Rattle.sdd_lang.specs.All.{rows_lent}
 use Rattle.sdd_exec.proofs.Shipping.{parts_next}
 use Rattle.sdd_exec.proofs.source.parts.Goals as goal
 

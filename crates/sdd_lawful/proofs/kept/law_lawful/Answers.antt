@@ -1,5 +1,4 @@
-use Rattle.sdd_invariants.specs.catalog.Catalogue.{Catalogue}
-use Rattle.sdd_invariants.specs.logs.Entries.{history}
+use Rattle.sdd_invariants.specs.All.{Catalogue, history}
 use Rattle.sdd_invariants.proofs.logs.NewMarks.{lawful_permitted}
 use Rattle.sdd_lawful.proofs.Named.{numbers_exist, txns_exist}
 use Rattle.sdd_lawful.proofs.Numbered.{lawful_numbered}

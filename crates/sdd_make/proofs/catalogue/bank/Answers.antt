@@ -1,5 +1,5 @@
 use Rattle.std.proofs.Common.{subst}
-use Rattle.sdd_script.specs.catalog.Rules.{faults_of, TellsFirst}
+use Rattle.sdd_script.specs.All.{TellsFirst, faults_of}
 use Rattle.sdd_make.proofs.BankParts.{no_fault}
 use Rattle.sdd_make.proofs.catalogue.bank.Goals as goal
 

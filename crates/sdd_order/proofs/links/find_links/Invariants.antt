@@ -1,6 +1,6 @@
 use Rattle.std.proofs.Common.{ℕ, ◌≡◌, ◌++◌, ◌+◌, drop, length}
 use Rattle.std.specs.List.{enumerate_from, flat_map}
-use Rattle.sdd_lang.specs.Classes.{fragments_in}
+use Rattle.sdd_lang.specs.All.{fragments_in}
 use Rattle.sdd_order.specs.Attempts.{Committed}
 use Rattle.sdd_order.specs.Linked.{by_fragment, fragment_links, links}
 use Rattle.sdd_order.specs.Groups.{Groups, groups}

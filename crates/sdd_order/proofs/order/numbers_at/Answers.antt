@@ -2,8 +2,7 @@ use Rattle.std.proofs.Common.{ℕ, ◌≡◌, ◌++◌, ◌+◌, ◌∷◌, [], 
 use Rattle.std.specs.Prelude.{option_map, slice_get}
 use Rattle.std.specs.List.{cons_option}
 use Rattle.std.proofs.lemmas.List.{append-nil, get_or_default}
-use Rattle.sdd_lang.specs.base.Numbers.{txn_no}
-use Rattle.sdd_lang.specs.base.declared.number.TxnNo.{TxnNo}
+use Rattle.sdd_lang.specs.All.{TxnNo, txn_no}
 use Rattle.sdd_order.specs.Attempts.{Committed}
 use Rattle.sdd_order.specs.Linked.{numbers_at}
 use Rattle.sdd_order.proofs.Numbered.{option_more}

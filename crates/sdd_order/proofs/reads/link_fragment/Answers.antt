@@ -1,7 +1,7 @@
 use Rattle.std.proofs.Common.{◌≡◌, ◌==◌, ◌++◌, false, ap, sym, subst, ◌∙◌}
 use Rattle.std.specs.Prelude.{unwrap_or, OnOk}
 use Rattle.std.specs.List.{list_any}
-use Rattle.sdd_lang.specs.catalog.Catalogue.{reads_at}
+use Rattle.sdd_lang.specs.All.{reads_at}
 use Rattle.sdd_order.specs.Attempts.{changes}
 use Rattle.sdd_order.specs.Precedence.{module_of}
 use Rattle.sdd_order.proofs.Linking.{number_or, fragment_links_are}

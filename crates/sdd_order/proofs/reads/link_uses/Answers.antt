@@ -1,7 +1,7 @@
 use Rattle.std.proofs.Common.{ℕ, ◌≡◌, ◌++◌, List, ap, sym, ◌∙◌, drop}
 use Rattle.std.proofs.lemmas.List.{append-nil, drop_all}
 use Rattle.std.specs.List.{flat_map}
-use Rattle.sdd_lang.specs.base.declared.usage.Use.{Use}
+use Rattle.sdd_lang.specs.All.{Use}
 use Rattle.sdd_order.specs.Linked.{fragment_links}
 use Rattle.sdd_order.proofs.Numbered.{item_more}
 use Rattle.sdd_order.proofs.Linking.{over_uses}

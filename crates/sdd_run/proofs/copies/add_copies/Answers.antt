@@ -1,6 +1,6 @@
 use Rattle.std.proofs.Common.{◌≡◌, ◌∙◌, ◌++◌, ◌-◌, ap, arith, filter, length, map, sym}
 use Rattle.std.proofs.lemmas.List.{append-nil}
-use Rattle.sdd_obligations.specs.catalog.Catalogue.{has_copy, numbers_to}
+use Rattle.sdd_obligations.specs.All.{has_copy, numbers_to}
 use Rattle.sdd_run.specs.Copies.{table_of}
 use Rattle.sdd_run.proofs.Lists.{kept_to}
 use Rattle.sdd_run.proofs.copies.add_copies.Goals as goal

@@ -1,7 +1,6 @@
 use Rattle.std.proofs.Common.{◌≡◌, ◌++◌, ◌-◌, map, filter}
-use Rattle.sdd_obligations.specs.catalog.Catalogue.{has_copy, numbers_to}
+use Rattle.sdd_obligations.specs.All.{StandFor, has_copy, numbers_to}
 use Rattle.sdd_obligations.specs.copy.Contents.{Dated}
-use Rattle.sdd_obligations.specs.copy.Copies.{StandFor}
 use Rattle.sdd_run.specs.Copies.{table_of}
 use Rattle.sdd_run.proofs.copies.add_copies.Given as goal
 

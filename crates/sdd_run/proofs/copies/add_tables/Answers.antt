@@ -1,8 +1,5 @@
 use Rattle.std.proofs.Common.{◌∙◌, ◌++◌, ap, sym}
-use Rattle.sdd_obligations.specs.catalog.Catalogue.{has_copy}
-use Rattle.sdd_obligations.specs.dm.Copies.{dated}
-use Rattle.sdd_obligations.specs.base.declared.site.Site.TheVariants.{D}
-use Rattle.sdd_obligations.specs.logs.Locals.{local_of, setting_of}
+use Rattle.sdd_obligations.specs.All.{D, dated, has_copy, local_of, setting_of}
 use Rattle.sdd_run.specs.Copies.{tables_in}
 use Rattle.sdd_run.proofs.Results.{after_ok}
 use Rattle.sdd_run.proofs.copies.add_tables.Goals as goal

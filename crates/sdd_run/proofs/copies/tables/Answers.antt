@@ -1,7 +1,6 @@
 use Rattle.std.proofs.Common.{◌≡◌, ◌∙◌, ◌-◌, ap, arith, sym}
 use Rattle.std.specs.List.{flat_map}
-use Rattle.sdd_obligations.specs.base.Numbers.{dm_no}
-use Rattle.sdd_obligations.specs.catalog.Catalogue.{Catalogue, numbers_to}
+use Rattle.sdd_obligations.specs.All.{Catalogue, dm_no, numbers_to}
 use Rattle.sdd_run.specs.Copies.{tables_at}
 use Rattle.sdd_run.proofs.Homes.{dm_of}
 use Rattle.sdd_run.proofs.Lists.{each_to}

@@ -1,7 +1,6 @@
 use Rattle.std.proofs.Common.{◌≡◌, ◌-◌}
 use Rattle.std.specs.List.{flat_map}
-use Rattle.sdd_obligations.specs.catalog.Catalogue.{numbers_to}
-use Rattle.sdd_obligations.specs.logs.Entries.{Given, Log}
+use Rattle.sdd_obligations.specs.All.{Given, Log, numbers_to}
 use Rattle.sdd_run.specs.Copies.{tables_at}
 use Rattle.sdd_run.specs.Worlds.{StandsOn}
 use Rattle.sdd_run.proofs.copies.tables.Given as goal

@@ -1,6 +1,6 @@
 use Rattle.std.proofs.Common.{take}
 use Rattle.std.specs.List.{AllZip}
-use Rattle.sdd_obligations.specs.protocol.Protocols.{IsTable}
+use Rattle.sdd_obligations.specs.All.{IsTable}
 use Rattle.sdd_run.proofs.in_force.tables_of.Given as goal
 
 -- so far

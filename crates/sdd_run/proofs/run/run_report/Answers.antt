@@ -1,11 +1,7 @@
 use Rattle.std.proofs.Common.{◌∙◌, subst, sym}
 use Rattle.std.specs.List.{AllZip}
-use Rattle.sdd_obligations.specs.catalog.Catalogue.{Catalogue}
-use Rattle.sdd_obligations.specs.catalog.Rules.{IsSound}
+use Rattle.sdd_obligations.specs.All.{Catalogue, IsOrderable, IsSound, IsTable, history}
 use Rattle.sdd_lists.specs.InForce.{eras_in}
-use Rattle.sdd_obligations.specs.protocol.Protocols.{IsTable}
-use Rattle.sdd_obligations.specs.logs.Entries.{history}
-use Rattle.sdd_obligations.specs.serial_orders.Orders.{IsOrderable}
 use Rattle.sdd_run.specs.Runs.{given_of}
 use Rattle.sdd_run.specs.Worlds.{StandsOn}
 use Rattle.sdd_run.proofs.Ordered.{orderable}

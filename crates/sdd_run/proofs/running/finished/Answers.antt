@@ -1,14 +1,8 @@
 use Rattle.std.proofs.Common.{[], ◌≤◌, ◌∙◌, ap, arith, length, refl, subst, sym}
 use Rattle.std.specs.List.{All}
 use Rattle.sdd_obligations.specs.base.Words.{tail_of}
-use Rattle.sdd_obligations.specs.base.declared.limits.TheConstants.{MAX_DMS, MAX_TMS}
-use Rattle.sdd_obligations.specs.catalog.Catalogue.{Catalogue}
-use Rattle.sdd_obligations.specs.catalog.Rules.{IsSound}
-use Rattle.sdd_obligations.specs.class_eras.EraOf.{IsEraOf}
-use Rattle.sdd_obligations.specs.lang.Fits.{FitsStart}
+use Rattle.sdd_obligations.specs.All.{Catalogue, FitsStart, Given, IsEraOf, IsGood, IsSound, MAX_DMS, MAX_TMS}
 use Rattle.sdd_lists.specs.InForce.{whole_in}
-use Rattle.sdd_obligations.specs.logs.Entries.{Given}
-use Rattle.sdd_obligations.specs.Real.{IsGood}
 use Rattle.sdd_world.specs.Beginnings.{AllBegin, BeginsD, IsBegun}
 use Rattle.sdd_world.specs.Standing as standing
 use Rattle.sdd_world.specs.Standing.{StandsFor}

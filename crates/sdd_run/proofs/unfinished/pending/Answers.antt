@@ -1,5 +1,5 @@
 use Rattle.std.proofs.Common.{◌∙◌, subst}
-use Rattle.sdd_obligations.specs.logs.Entries.{history}
+use Rattle.sdd_obligations.specs.All.{history}
 use Rattle.sdd_run.specs.Pending.{last_home, pending_by}
 use Rattle.sdd_run.specs.Worlds.{AreCommitted}
 use Rattle.sdd_run.proofs.Lists.{chosen_more}

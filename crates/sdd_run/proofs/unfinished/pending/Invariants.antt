@@ -1,6 +1,6 @@
 use Rattle.std.proofs.Common.{◌≡◌, take}
 use Rattle.std.specs.Prelude.{filter_map}
-use Rattle.sdd_obligations.specs.logs.Entries.{Given, Log, history}
+use Rattle.sdd_obligations.specs.All.{Given, Log, history}
 use Rattle.sdd_run.specs.Pending.{last_home, pending_by}
 use Rattle.sdd_run.specs.Worlds.{StandsOn}
 use Rattle.sdd_run.proofs.unfinished.pending.Given as goal

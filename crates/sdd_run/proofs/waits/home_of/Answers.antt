@@ -1,9 +1,8 @@
 use Rattle.std.proofs.Common.{◌∙◌, ap, refl, subst, sym, Some}
-use Rattle.sdd_obligations.specs.catalog.Catalogue.{Catalogue}
+use Rattle.sdd_obligations.specs.All.{Catalogue, force_at, redeclares}
 use Rattle.sdd_obligations.proofs.class_eras.EraFits.{fits_in_era}
 use Rattle.sdd_obligations.specs.lang.Fits.{Fits}
 use Rattle.sdd_obligations.specs.logs.Due.{home_of as site_of}
-use Rattle.sdd_obligations.specs.logs.Locals.{force_at, redeclares}
 use Rattle.sdd_run.proofs.Homes.{no_txn, txn_read}
 use Rattle.sdd_run.proofs.waits.home_of.Goals as goal
 

@@ -1,7 +1,6 @@
 use Rattle.std.proofs.Common.{rules, [], ◌≡◌, ◌<◌, ◌≤◌, ◌∙◌, ◌-◌, arith, ap, sym, subst, length}
 use Rattle.std.specs.Prelude.{filter_map}
-use Rattle.sdd_obligations.specs.base.Numbers.{dm_no}
-use Rattle.sdd_obligations.specs.catalog.Catalogue.{Catalogue, numbers_to}
+use Rattle.sdd_obligations.specs.All.{Catalogue, dm_no, numbers_to}
 use Rattle.sdd_run.specs.Pending.{wait_at}
 use Rattle.sdd_obligations.proofs.attempt.Lists.{picked_to}
 use Rattle.sdd_run.proofs.Homes.{dm_of}

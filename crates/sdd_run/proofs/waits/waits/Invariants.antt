@@ -1,7 +1,6 @@
 use Rattle.std.proofs.Common.{◌≡◌, ◌-◌}
 use Rattle.std.specs.Prelude.{filter_map}
-use Rattle.sdd_obligations.specs.catalog.Catalogue.{numbers_to}
-use Rattle.sdd_obligations.specs.logs.Entries.{Given, Log}
+use Rattle.sdd_obligations.specs.All.{Given, Log, numbers_to}
 use Rattle.sdd_run.specs.Pending.{wait_at}
 use Rattle.sdd_run.specs.Worlds.{StandsOn}
 use Rattle.sdd_run.proofs.waits.waits.Given as goal

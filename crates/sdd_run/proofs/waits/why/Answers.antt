@@ -1,5 +1,5 @@
 use Rattle.std.proofs.Common.{◌∙◌, ap, subst, sym}
-use Rattle.sdd_obligations.specs.logs.Resting.{IsSiteOf}
+use Rattle.sdd_obligations.specs.All.{IsSiteOf}
 use Rattle.sdd_run.specs.Pending.{stands_at, why_of}
 use Rattle.sdd_run.proofs.Homes.{last_home_there}
 use Rattle.sdd_run.proofs.Results.{of_ok}

@@ -1,5 +1,5 @@
 use Rattle.std.proofs.Common.{◌∙◌}
-use Rattle.sdd_lang.specs.catalog.declared.parts.ReadPart.{ReadPart}
+use Rattle.sdd_lang.specs.All.{ReadPart}
 use Rattle.sdd_lang.proofs.catalog.NameLemmas.{has_name_of_items}
 use Rattle.sdd_script.proofs.class_lists.is_read.Goals as goal
 

@@ -1,5 +1,5 @@
 use Rattle.std.proofs.Common.{◌≡◌, drop}
-use Rattle.sdd_lang.specs.base.Readings.{along}
+use Rattle.sdd_lang.specs.All.{along}
 use Rattle.sdd_script.specs.Columns.{condition_of}
 use Rattle.sdd_script.proofs.Each.{with_front}
 use Rattle.sdd_script.proofs.columns.read_conditions.Given as goal

@@ -1,5 +1,5 @@
 use Rattle.std.proofs.Common.{arith}
-use Rattle.sdd_lang.specs.base.Readings.{along}
+use Rattle.sdd_lang.specs.All.{along}
 use Rattle.sdd_script.specs.Statements.{part_in}
 use Rattle.sdd_script.proofs.Each.{goes_on_at, ends_at}
 use Rattle.sdd_script.proofs.queries.read_relations.Goals as goal

@@ -1,5 +1,5 @@
 use Rattle.std.proofs.Common.{arith}
-use Rattle.sdd_lang.specs.base.Readings.{along}
+use Rattle.sdd_lang.specs.All.{along}
 use Rattle.sdd_script.specs.Statements.{assign_of}
 use Rattle.sdd_script.proofs.Each.{ends}
 use Rattle.sdd_script.proofs.updates.read_assigns.Goals as goal

@@ -1,5 +1,5 @@
 use Rattle.std.proofs.Common.{arith}
-use Rattle.sdd_lang.specs.base.Readings.{along}
+use Rattle.sdd_lang.specs.All.{along}
 use Rattle.sdd_script.specs.Naming.{kind_of_place}
 use Rattle.sdd_script.specs.Values.{value_of}
 use Rattle.sdd_script.proofs.Each.{ends}

@@ -1,8 +1,6 @@
 use Rattle.std.proofs.Common.{Result, Ok, Err, List, ℕ}
 use Rattle.std.specs.Prelude.{IfOk}
-use Rattle.sdd_lang.specs.catalog.Catalogue.{Catalogue}
-use Rattle.sdd_lang.specs.catalog.Numbers.{IsWhole}
-use Rattle.sdd_lang.specs.catalog.Rules.{IsSound}
+use Rattle.sdd_lang.specs.All.{Catalogue, IsSound, IsWhole}
 use Rattle.sdd_script.specs.Telling.{Tells}
 use Rattle.sdd_script.specs.Valid.{Accepts}
 use Rattle.sdd_script.specs.Walk.{workload}

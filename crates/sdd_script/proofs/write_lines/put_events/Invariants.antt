@@ -1,5 +1,5 @@
 use Rattle.std.proofs.Common.{◌≡◌, ◌++◌, drop, flat_map}
-use Rattle.sdd_lang.specs.base.declared.event.Event.{Event}
+use Rattle.sdd_lang.specs.All.{Event}
 use Rattle.sdd_script.specs.Spelling.{ended, event_words}
 use Rattle.sdd_script.proofs.write_lines.put_events.Given as goal
 

@@ -1,7 +1,6 @@
 use Rattle.std.proofs.Common.{◌≡◌, ◌++◌, drop, flat_map}
 use Rattle.std.proofs.Common.{List}
-use Rattle.sdd_lang.specs.base.declared.number.RelNo.{RelNo}
-use Rattle.sdd_lang.specs.base.declared.value.Value.{Value}
+use Rattle.sdd_lang.specs.All.{RelNo, Value}
 use Rattle.sdd_script.specs.Spelling.{ended, start_words}
 use Rattle.sdd_script.proofs.write_lines.put_starts.Given as goal
 

@@ -1,7 +1,5 @@
 use Rattle.std.proofs.Common.{◌≡◌, ◌∙◌, ◌++◌, flat_map, List}
-use Rattle.sdd_lang.specs.base.declared.event.Event.{Event}
-use Rattle.sdd_lang.specs.base.declared.number.RelNo.{RelNo}
-use Rattle.sdd_lang.specs.base.declared.value.Value.{Value}
+use Rattle.sdd_lang.specs.All.{Event, RelNo, Value}
 use Rattle.sdd_script.specs.Spelling.{ended, start_words, txn_lines, txn_bytes, list_lines, list_bytes, event_words, end_words}
 use Rattle.sdd_script.proofs.Pieces.{after, work_pieces}
 use Rattle.sdd_script.proofs.write_lines.write_workload.Goals as goal

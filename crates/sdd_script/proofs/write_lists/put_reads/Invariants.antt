@@ -1,5 +1,5 @@
 use Rattle.std.proofs.Common.{◌≡◌, ◌++◌, drop, flat_map}
-use Rattle.sdd_lang.specs.catalog.declared.parts.ReadPart.{ReadPart}
+use Rattle.sdd_lang.specs.All.{ReadPart}
 use Rattle.sdd_script.specs.Spelling.{ended, reads_words}
 use Rattle.sdd_script.proofs.write_lists.put_reads.Given as goal
 

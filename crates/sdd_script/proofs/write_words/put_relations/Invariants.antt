@@ -1,6 +1,6 @@
 use Rattle.std.proofs.Common.{◌≡◌, ◌++◌, drop, flat_map}
 use Rattle.sdd_words.specs.Words.{spaced}
-use Rattle.sdd_lang.specs.base.declared.number.RelNo.{RelNo}
+use Rattle.sdd_lang.specs.All.{RelNo}
 use Rattle.sdd_script.specs.Spelling.{relation_word}
 use Rattle.sdd_script.proofs.write_words.put_relations.Given as goal
 

@@ -1,6 +1,6 @@
 -- Those before the number at hand are there.
 use Rattle.std.proofs.Common.{◌≡◌, ◌-◌, map}
-use Rattle.sdd_attempt.specs.catalog.Catalogue.{numbers_to}
+use Rattle.sdd_attempt.specs.All.{numbers_to}
 use Rattle.sdd_umod.specs.Works.{no_counts}
 use Rattle.sdd_umod.proofs.parts.first_counts.Given as goal
 

@@ -1,7 +1,7 @@
 use Rattle.std.proofs.Common.{ℕ, Option, ap, sym, ◌∙◌}
 use Rattle.std.specs.BTreeMap.{get}
 use Rattle.std.specs.Ordering.{nat_cmp}
-use Rattle.sdd_script.specs.base.Numbers.{txn_no}
+use Rattle.sdd_script.specs.All.{txn_no}
 use Rattle.sdd_verify.specs.Orders.{allows}
 use Rattle.sdd_verify.specs.Verified.{at}
 use Rattle.sdd_verify.proofs.Turns.{goes_on, last_at, stops}

@@ -1,5 +1,5 @@
 use Rattle.std.proofs.Common.{◌≡◌, map, drop}
-use Rattle.sdd_script.specs.base.Readings.{along, known}
+use Rattle.sdd_script.specs.All.{along, known}
 use Rattle.sdd_script.proofs.base.ReadingLaws.{with_front}
 use Rattle.sdd_verify.specs.Submitted.{named}
 use Rattle.sdd_verify.proofs.order.numbers_of.Given as goal

@@ -1,7 +1,6 @@
 use Rattle.std.proofs.Common.{ap, refl, ◌∙◌}
 use Rattle.std.proofs.lemmas.Result.{err_from_is_err_and}
-use Rattle.sdd_script.specs.base.Kept.{Kept}
-use Rattle.sdd_script.specs.lang.Database.{Database}
+use Rattle.sdd_script.specs.All.{Database, Kept}
 use Rattle.sdd_verify.specs.Lines.{lines_of}
 use Rattle.sdd_verify.specs.Numbered.{numbered}
 use Rattle.sdd_verify.proofs.RepliesPassed.{fails, goes_on, none_left}

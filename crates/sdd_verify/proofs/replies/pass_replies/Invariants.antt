@@ -1,6 +1,6 @@
 use Rattle.std.proofs.Common.{◌≡◌, drop, map}
 use Rattle.std.specs.Prelude.{IsTrue}
-use Rattle.sdd_script.specs.lang.Database.{database_of}
+use Rattle.sdd_script.specs.All.{database_of}
 use Rattle.sdd_verify.specs.Lines.{lines_of, passed}
 use Rattle.sdd_verify.specs.Replies.{replies_on}
 use Rattle.sdd_verify.proofs.replies.pass_replies.Given as goal

@@ -1,7 +1,6 @@
 use Rattle.std.proofs.Common.{◌≡◌, map, take}
 use Rattle.std.specs.List.{AllByRecursion}
-use Rattle.sdd_obligations.specs.wire.Fits.{Fits}
-use Rattle.sdd_obligations.specs.wire.Spelling.{spelled}
+use Rattle.sdd_obligations.specs.All.{Fits, spelled}
 use Rattle.sdd_world.proofs.opening.open_all.Given as goal
 
 -- so far the messages are those of the spellings so far

@@ -1,5 +1,5 @@
 use Rattle.std.proofs.Common.{◌∙◌, ap, subst, sym}
-use Rattle.sdd_obligations.specs.logs.Entries.{Given, with_event}
+use Rattle.sdd_obligations.specs.All.{Given, with_event}
 use Rattle.sdd_world.proofs.Failing.{handed_on}
 use Rattle.sdd_world.proofs.Keeping.{no_items}
 use Rattle.sdd_world.specs.Schedules.{AreAllowed, with_events}

@@ -1,5 +1,5 @@
 use Rattle.std.proofs.Common.{ap, sym}
-use Rattle.sdd_obligations.specs.base.declared.event.Event.TheVariants.{Redeclare}
+use Rattle.sdd_obligations.specs.All.{Redeclare}
 use Rattle.sdd_world.proofs.Carrying.{next_list}
 use Rattle.sdd_world.proofs.Failing.{map_ok}
 use Rattle.sdd_world.specs.Schedules.{lists_after}

@@ -1,6 +1,5 @@
 use Rattle.std.proofs.Common.{sym, subst, map, false, ◌≡◌}
-use Rattle.sdd_module.specs.base.Words.{contains}
-use Rattle.sdd_module.specs.lang.Fits.{Fits}
+use Rattle.sdd_module.specs.All.{Fits, contains}
 use Rattle.sdd_attempt.specs.Lines.{Line}
 use Rattle.sdd_attempt.specs.Queues.{Queued}
 use Rattle.sdd_attempt.proofs.Queueing.{submitted_line}

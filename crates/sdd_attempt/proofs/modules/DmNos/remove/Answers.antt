@@ -1,6 +1,6 @@
 use Rattle.std.proofs.Common.{rules, ◌∙◌, ap, map, not, ◌==◌}
 use Rattle.std.proofs.lemmas.Fn.{filter_same}
-use Rattle.sdd_module.specs.base.declared.number.DmNo.{DmNo}
+use Rattle.sdd_module.specs.All.{DmNo}
 use Rattle.sdd_attempt.specs.Exchange.{without}
 use Rattle.sdd_attempt.proofs.Lists.{map-filter}
 use Rattle.sdd_attempt.proofs.modules.DmNos.remove.Goals as goal

@@ -1,8 +1,6 @@
 use Rattle.std.proofs.Common.{◌∙◌, ap, sym, subst, []}
 use Rattle.std.specs.Prelude.{option_map, unwrap_or}
-use Rattle.sdd_module.specs.base.Words.{ascending}
-use Rattle.sdd_module.specs.lang.Classes.{fragments_in}
-use Rattle.sdd_module.specs.protocol.Conditions.{conditions}
+use Rattle.sdd_module.specs.All.{ascending, conditions, fragments_in}
 use Rattle.sdd_attempt.specs.Acts.{conditions_at}
 use Rattle.sdd_attempt.specs.Reads.{Beginning, IsDeclared}
 use Rattle.sdd_attempt.proofs.Uses.{declared_at}

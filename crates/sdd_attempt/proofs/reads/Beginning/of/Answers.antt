@@ -1,8 +1,6 @@
 use Rattle.std.proofs.Common.{◌∙◌, ap, sym, subst}
 use Rattle.std.specs.List.{All}
-use Rattle.sdd_module.specs.base.Words.{ascending}
-use Rattle.sdd_module.specs.base.declared.usage.Use.{Use}
-use Rattle.sdd_module.specs.lang.Classes.{fragments_in}
+use Rattle.sdd_module.specs.All.{Use, ascending, fragments_in}
 use Rattle.sdd_module.proofs.lang.Sets.{reads_there}
 use Rattle.sdd_attempt.specs.Reads.{AreThere}
 use Rattle.sdd_attempt.proofs.Uses.{uses_there}

@@ -1,6 +1,6 @@
 use Rattle.std.proofs.Common.{◌≡◌, []}
 use Rattle.std.specs.Prelude.{fold}
-use Rattle.sdd_lang.specs.base.declared.number.FragNo.{FragNo}
+use Rattle.sdd_lang.specs.All.{FragNo}
 use Rattle.sdd_copy.specs.Items.{written, initial}
 use Rattle.sdd_copy.proofs.frag_copy.FragCopy.new.Given as goal
 

@@ -1,5 +1,5 @@
 use Rattle.std.proofs.Common.{◌≡◌, ◌==◌, cond, drop, Some, None}
-use Rattle.sdd_lang.specs.base.Words.{first_some}
+use Rattle.sdd_lang.specs.All.{first_some}
 use Rattle.sdd_copy.proofs.space.Space.rows_of.Given as goal
 
 -- the use is the first of those that are left

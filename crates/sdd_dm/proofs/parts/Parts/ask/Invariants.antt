@@ -1,5 +1,5 @@
 use Rattle.std.proofs.Common.{◌≡◌, drop, map}
-use Rattle.sdd_module.specs.Notes.{with_sends}
+use Rattle.sdd_module.specs.All.{with_sends}
 use Rattle.sdd_dm.specs.Due.{ask_for}
 use Rattle.sdd_dm.proofs.parts.Parts.ask.Given as goal
 

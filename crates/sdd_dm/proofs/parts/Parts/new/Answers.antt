@@ -1,6 +1,5 @@
 use Rattle.std.proofs.Common.{ap, List, ◌+◌}
-use Rattle.sdd_module.specs.base.declared.number.DmNo.{DmNo}
-use Rattle.sdd_module.specs.base.declared.site.Site.{Site}
+use Rattle.sdd_module.specs.All.{DmNo, Site}
 use Rattle.sdd_dm.specs.Views.{Home}
 use Rattle.sdd_dm.proofs.First.{first_shown, first_quiet}
 use Rattle.sdd_dm.proofs.parts.Parts.new.Goals as goal

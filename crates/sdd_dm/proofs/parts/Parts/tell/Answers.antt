@@ -1,10 +1,5 @@
 use Rattle.std.proofs.Common.{ℕ, List, length, ap, ◌∙◌}
-use Rattle.sdd_module.specs.base.declared.number.ClassNo.{ClassNo}
-use Rattle.sdd_module.specs.base.declared.number.Ts.{Ts}
-use Rattle.sdd_module.specs.base.declared.site.Site.{Site}
-use Rattle.sdd_module.specs.base.declared.value.Value.{Value}
-use Rattle.sdd_module.specs.wire.declared.msg.Msg.TheVariants.{Reduced}
-use Rattle.sdd_module.specs.Notes.{Notes}
+use Rattle.sdd_module.specs.All.{ClassNo, Notes, Reduced, Site, Ts, Value}
 use Rattle.sdd_pipe.specs.Pipes.{update}
 use Rattle.sdd_dm.specs.Copies.{rows_held, reduced_at}
 use Rattle.sdd_dm.specs.State.{State, frozen_of, with_out}

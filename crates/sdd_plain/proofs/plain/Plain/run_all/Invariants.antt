@@ -1,5 +1,5 @@
 use Rattle.std.proofs.Common.{◌≡◌, ◌++◌, true, drop}
-use Rattle.sdd_lang.specs.Serial.{serial}
+use Rattle.sdd_lang.specs.All.{serial}
 use Rattle.sdd_plain.proofs.plain.Plain.run_all.Given as goal
 
 -- the replies so far with those that are left are all, and what is left ends in the last database

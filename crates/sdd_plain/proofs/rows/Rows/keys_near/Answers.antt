@@ -1,5 +1,5 @@
 use Rattle.std.proofs.lemmas.Result.{IfOk-weaker}
-use Rattle.sdd_lang.specs.Uses.{Interval}
+use Rattle.sdd_lang.specs.All.{Interval}
 use Rattle.sdd_plain.specs.Held.{AreKeysOf, AreNear}
 use Rattle.sdd_plain.proofs.Near.{all_near, keyed_near}
 use Rattle.sdd_plain.proofs.rows.Rows.keys_near.Goals as goal

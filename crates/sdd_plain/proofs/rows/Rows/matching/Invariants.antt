@@ -1,7 +1,6 @@
 use Rattle.std.proofs.Common.{◌≡◌, [], ◌∷◌, map}
 use Rattle.std.specs.List.{filter}
-use Rattle.sdd_lang.specs.Condition.{meets_all}
-use Rattle.sdd_lang.specs.Source.{entries_of}
+use Rattle.sdd_lang.specs.All.{entries_of, meets_all}
 use Rattle.std.specs.Map.Iter.{deref_pair}
 use Rattle.sdd_plain.specs.Lent.{as_of}
 use Rattle.sdd_plain.proofs.rows.Rows.matching.Given as goal

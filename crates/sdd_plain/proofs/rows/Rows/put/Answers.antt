@@ -1,6 +1,6 @@
 use Rattle.std.proofs.Common.{rules}
 use Rattle.std.proofs.lemmas.Map.Views.{All-keys-insert_entry}
-use Rattle.sdd_lang.specs.Database.{item_cmp}
+use Rattle.sdd_lang.specs.All.{item_cmp}
 use Rattle.sdd_plain.specs.Held.{HasHeldKey}
 use Rattle.sdd_plain.proofs.Near.{keyed_inserted}
 use Rattle.sdd_plain.proofs.rows.Rows.put.Goals as goal

@@ -1,6 +1,6 @@
 use Rattle.std.proofs.Common.{◌∙◌, ap, sym, rules, ◌==◌, ◌&&◌, pos, w64, to_z-of_z}
 use Rattle.std.specs.Prelude.{filter, FitsSigned}
-use Rattle.sdd_lang.specs.Uses.{common, all_keys}
+use Rattle.sdd_lang.specs.All.{all_keys, common}
 use Rattle.sdd_plain.specs.Held.{is_within}
 use Rattle.sdd_plain.proofs.Ranges.{entries_within, entries_nowhere, entries_of_none}
 use Rattle.sdd_plain.proofs.rows.Rows.within.Goals as goal

@@ -1,6 +1,6 @@
 -- What is kept of a log has few classes, each number once, and the message is one that its class awaits.
 use Rattle.std.proofs.Common.{◌≡◌, ◌<◌, ◌^◌, sym, subst, length}
-use Rattle.sdd_attempt.specs.Lines.{IsAwaited}
+use Rattle.sdd_attempt.specs.All.{IsAwaited}
 use Rattle.sdd_tm.specs.State.{ClassState, State}
 use Rattle.std.specs.Prelude.{slice_get, Some}
 use Rattle.std.proofs.Common.{ℕ}

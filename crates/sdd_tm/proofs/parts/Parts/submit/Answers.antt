@@ -1,9 +1,7 @@
 -- The transaction goes to its class alone, where the module runs it.
 use Rattle.std.proofs.Common.{ℕ, ◌≡◌, ◌∙◌, ap, sym, subst, arith}
 use Rattle.std.specs.Prelude.{slice_index_or, slice_set}
-use Rattle.sdd_attempt.specs.lang.declared.transaction.Txn.{Txn}
-use Rattle.sdd_attempt.specs.lang.Classes.{class_for}
-use Rattle.sdd_attempt.specs.lang.Fits.{Fits}
+use Rattle.sdd_attempt.specs.All.{Fits, Txn, class_for}
 use Rattle.sdd_tm.specs.State.{State}
 use Rattle.sdd_tm.specs.Handing.{state_given, place_of, one_place}
 use Rattle.sdd_tm.proofs.Taking.{few_kept, apart_kept, given_nowhere, given_somewhere, given_fits, given_there, fits_in_force}

@@ -1,10 +1,7 @@
 -- A transaction is taken, and then each act is made that is due.
 use Rattle.std.proofs.Common.{◌≡◌, ◌∙◌, ◌++◌, ◌∷◌, [], ap, subst, refl, arith, true}
-use Rattle.sdd_attempt.specs.base.Kept.{Kept}
+use Rattle.sdd_attempt.specs.All.{Kept, Notes, Submits, class_for}
 use Rattle.sdd_attempt.specs.history.declared.record.Rec.TheVariants.{Submit}
-use Rattle.sdd_attempt.specs.lang.Classes.{class_for}
-use Rattle.sdd_attempt.specs.site_module.SiteLog.{Submits}
-use Rattle.sdd_attempt.specs.site_module.Notes.{Notes}
 use Rattle.sdd_tm.specs.State.{State}
 use Rattle.sdd_tm.specs.Handing.{place_of, one_place}
 use Rattle.sdd_tm.specs.Works.{Works}

@@ -1,7 +1,6 @@
 -- A new number isn't in the queue.
 use Rattle.std.proofs.Common.{◌≡◌, false, map, subst, sym}
-use Rattle.sdd_attempt.specs.base.Words.{contains}
-use Rattle.sdd_attempt.specs.Queues.{Queued}
+use Rattle.sdd_attempt.specs.All.{Queued, contains}
 use Rattle.sdd_umod.specs.State.{State}
 use Rattle.sdd_umod.proofs.Giving.{fits_kept}
 use Rattle.sdd_umod.proofs.parts.Parts.submit.Goals as goal

@@ -1,9 +1,7 @@
 -- A transaction is taken, and then each act is made that is due.
 use Rattle.std.proofs.Common.{◌∙◌, ◌++◌, ◌∷◌, [], ap, subst, refl, arith, true}
-use Rattle.sdd_attempt.specs.base.Kept.{Kept}
+use Rattle.sdd_attempt.specs.All.{Kept, Notes, Submits}
 use Rattle.sdd_attempt.specs.history.declared.record.Rec.TheVariants.{Submit}
-use Rattle.sdd_attempt.specs.site_module.SiteLog.{Submits}
-use Rattle.sdd_attempt.specs.site_module.Notes.{Notes}
 use Rattle.sdd_umod.specs.State.{State}
 use Rattle.sdd_umod.specs.Handing.{state_given}
 use Rattle.sdd_umod.specs.Works.{Works}

@@ -1,7 +1,6 @@
 -- A message is taken, and then each act is made that is due.
 use Rattle.std.proofs.Common.{◌∙◌, ◌∷◌, ap, subst, refl, true}
-use Rattle.sdd_attempt.specs.base.Kept.{Kept}
-use Rattle.sdd_attempt.specs.site_module.SiteLog.{Handed}
+use Rattle.sdd_attempt.specs.All.{Handed, Kept}
 use Rattle.sdd_umod.specs.State.{State}
 use Rattle.sdd_umod.specs.Handing.{state_handed}
 use Rattle.sdd_umod.specs.Works.{Works}

@@ -1,5 +1,5 @@
 use Rattle.std.proofs.Common.{◌∙◌}
-use Rattle.sdd_obligations.specs.wire.Spelling.{spelled}
+use Rattle.sdd_obligations.specs.All.{spelled}
 use Rattle.sdd_world.specs.Carries.{in_bytes}
 use Rattle.sdd_world.proofs.InBytes.{stands_in}
 use Rattle.sdd_world.proofs.Quietness.{unacked_same}

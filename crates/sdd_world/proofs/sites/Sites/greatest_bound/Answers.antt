@@ -1,10 +1,7 @@
 use Rattle.std.proofs.Common.{◌+◌, ◌≤◌, ap, arith, map, subst}
 use Rattle.std.specs.List.{fold, range_with_len}
 use Rattle.std.specs.Prelude.{max}
-use Rattle.sdd_obligations.specs.base.Numbers.{tm_no}
-use Rattle.sdd_obligations.specs.base.declared.site.Site.TheVariants.{T}
-use Rattle.sdd_obligations.specs.logs.Locals.{local_of, setting_of}
-use Rattle.sdd_obligations.specs.logs.Marks.{bound_at, greatest_bound}
+use Rattle.sdd_obligations.specs.All.{T, bound_at, greatest_bound, local_of, setting_of, tm_no}
 use Rattle.sdd_world.proofs.Forcing.{greatest_first, greatest_last, greatest_next, t_here}
 use Rattle.sdd_world.proofs.sites.Sites.greatest_bound.Goals as goal
 

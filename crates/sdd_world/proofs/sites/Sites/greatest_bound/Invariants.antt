@@ -1,8 +1,7 @@
 use Rattle.std.proofs.Common.{◌≡◌, ◌+◌, ◌-◌, map}
 use Rattle.std.specs.List.{fold, range_with_len}
 use Rattle.std.specs.Prelude.{max}
-use Rattle.sdd_obligations.specs.logs.Entries.{Given, Log}
-use Rattle.sdd_obligations.specs.logs.Marks.{bound_at, greatest_bound}
+use Rattle.sdd_obligations.specs.All.{Given, Log, bound_at, greatest_bound}
 use Rattle.sdd_world.specs.Modules.{AllStandFor}
 use Rattle.sdd_world.proofs.sites.Sites.greatest_bound.Given as goal
 

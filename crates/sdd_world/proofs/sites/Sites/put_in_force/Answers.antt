@@ -1,8 +1,5 @@
 use Rattle.std.proofs.Common.{◌≤◌, arith, subst}
-use Rattle.sdd_obligations.specs.base.Numbers.{tm_no}
-use Rattle.sdd_obligations.specs.base.declared.site.Site.TheVariants.{T}
-use Rattle.sdd_obligations.specs.site_module.SiteLog.{Force}
-use Rattle.sdd_obligations.specs.logs.Locals.{local_of, setting_of}
+use Rattle.sdd_obligations.specs.All.{Force, T, local_of, setting_of, tm_no}
 use Rattle.sdd_world.proofs.Forcing.{all_forced, none_forced, one_forced, t_here, t_stands}
 use Rattle.sdd_world.proofs.sites.Sites.put_in_force.Goals as goal
 

@@ -1,6 +1,5 @@
 use Rattle.std.proofs.Common.{refl}
-use Rattle.sdd_obligations.specs.base.declared.event.Event.TheVariants.{Up}
-use Rattle.sdd_obligations.specs.logs.Entries.{Mark}
+use Rattle.sdd_obligations.specs.All.{Mark, Up}
 use Rattle.std.proofs.Common.{◌∷◌}
 use Rattle.sdd_world.proofs.Failing.{map_ok}
 use Rattle.sdd_world.proofs.Marking.{order_of}

@@ -1,5 +1,5 @@
 use Rattle.std.proofs.Common.{refl}
-use Rattle.sdd_obligations.specs.base.declared.event.Event.TheVariants.{Deliver}
+use Rattle.sdd_obligations.specs.All.{Deliver}
 use Rattle.sdd_world.proofs.Failing.{map_ok}
 use Rattle.sdd_world.proofs.Marking.{order_of}
 use Rattle.sdd_world.proofs.Delivering.{arrives, got_ack, got_nothing}

@@ -1,5 +1,5 @@
 use Rattle.std.proofs.Common.{refl}
-use Rattle.sdd_obligations.specs.base.declared.event.Event.TheVariants.{Down}
+use Rattle.sdd_obligations.specs.All.{Down}
 use Rattle.sdd_world.proofs.Failing.{on_ok}
 use Rattle.sdd_world.proofs.Marking.{order_of}
 use Rattle.sdd_world.proofs.Keeping.{first_in, last_in}

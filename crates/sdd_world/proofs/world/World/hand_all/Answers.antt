@@ -1,5 +1,5 @@
 use Rattle.std.proofs.Common.{subst}
-use Rattle.sdd_obligations.specs.logs.Resting.{from_one}
+use Rattle.sdd_obligations.specs.All.{from_one}
 use Rattle.sdd_world.specs.Standing.{ahead_of, HandedOn, Handing}
 use Rattle.sdd_world.proofs.Failing.{handed_on}
 use Rattle.sdd_world.proofs.Keeping.{no_items}

@@ -1,6 +1,5 @@
 use Rattle.std.proofs.Common.{length}
-use Rattle.sdd_obligations.specs.logs.Entries.{Given, Log}
-use Rattle.sdd_obligations.specs.logs.Resting.{from_one, IsLinkOf}
+use Rattle.sdd_obligations.specs.All.{Given, IsLinkOf, Log, from_one}
 use Rattle.sdd_world.specs.Standing.{ahead_of, HandedOn, Handing}
 use Rattle.sdd_world.proofs.world.World.hand_all.Given as goal
 

@@ -1,5 +1,5 @@
 use Rattle.std.proofs.Common.{◌∙◌, refl}
-use Rattle.sdd_obligations.specs.net.Mailboxes.{kept_from, mailbox_at}
+use Rattle.sdd_obligations.specs.All.{kept_from, mailbox_at}
 use Rattle.sdd_world.proofs.Failing.{handed_on}
 use Rattle.sdd_world.proofs.Turning.{boxed, first_kept, less_kept, none_left, rising_on, taken_out}
 use Rattle.sdd_world.proofs.world.World.hand_kept.Goals as goal

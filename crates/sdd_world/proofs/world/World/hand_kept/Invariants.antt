@@ -1,7 +1,5 @@
 use Rattle.std.proofs.Common.{◌≡◌}
-use Rattle.sdd_obligations.specs.base.declared.site.Site.TheVariants.{D}
-use Rattle.sdd_obligations.specs.net.Mailboxes.{kept_count, kept_from, mailbox_at}
-use Rattle.sdd_obligations.specs.logs.Entries.{Given, Log}
+use Rattle.sdd_obligations.specs.All.{D, Given, Log, kept_count, kept_from, mailbox_at}
 use Rattle.sdd_world.specs.Standing.{ahead_of, Handing, Rising}
 use Rattle.sdd_world.proofs.world.World.hand_kept.Given as goal
 

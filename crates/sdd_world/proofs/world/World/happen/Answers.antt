@@ -1,5 +1,5 @@
 use Rattle.std.proofs.Common.{◌+◌, refl}
-use Rattle.sdd_obligations.specs.base.declared.event.Event.TheVariants.{Deliver, Submit, Up}
+use Rattle.sdd_obligations.specs.All.{Deliver, Submit, Up}
 use Rattle.sdd_world.proofs.Failing.{map_ok}
 use Rattle.sdd_world.proofs.Rounds.{marked_next, marks_end}
 use Rattle.sdd_world.proofs.world.World.happen.Goals as goal

@@ -1,5 +1,5 @@
 use Rattle.std.proofs.Common.{◌≡◌, length}
-use Rattle.sdd_obligations.specs.logs.Entries.{Given, Log}
+use Rattle.sdd_obligations.specs.All.{Given, Log}
 use Rattle.sdd_world.specs.Standing.{Keeping}
 use Rattle.sdd_world.proofs.world.World.keep_all.Given as goal
 

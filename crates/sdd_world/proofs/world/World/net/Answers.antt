@@ -1,5 +1,5 @@
 use Rattle.std.proofs.Common.{subst, sym}
-use Rattle.sdd_obligations.specs.logs.Traffic.{calls_of}
+use Rattle.sdd_obligations.specs.All.{calls_of}
 use Rattle.sdd_world.specs.Carries.{Carries}
 use Rattle.sdd_world.proofs.world.World.net.Goals as goal
 

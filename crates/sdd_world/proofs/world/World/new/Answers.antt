@@ -1,6 +1,5 @@
 use Rattle.std.proofs.Common.{◌∙◌, [], ap, refl, subst, sym}
-use Rattle.sdd_obligations.specs.catalog.Catalogue.{Catalogue}
-use Rattle.sdd_obligations.specs.site_module.SiteLog.{Force}
+use Rattle.sdd_obligations.specs.All.{Catalogue, Force}
 use Rattle.sdd_world.specs.Carries.{Carries}
 use Rattle.sdd_world.proofs.Beginning.{begins}
 use Rattle.sdd_world.proofs.Begun.{all_begun}

@@ -1,7 +1,5 @@
 use Rattle.std.proofs.Common.{◌∷◌}
-use Rattle.sdd_obligations.specs.base.declared.site.Site.TheVariants.{D}
-use Rattle.sdd_obligations.specs.base.declared.event.Event.TheVariants.{Deliver}
-use Rattle.sdd_obligations.specs.logs.Entries.{Mark}
+use Rattle.sdd_obligations.specs.All.{D, Deliver, Mark}
 use Rattle.sdd_world.proofs.Failing.{map_ok}
 use Rattle.sdd_world.proofs.Arriving.{comes_to, is_kept, is_keeping, is_over, to_hand, told}
 use Rattle.sdd_world.proofs.world.World.receive.Goals as goal

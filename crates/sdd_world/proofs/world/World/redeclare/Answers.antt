@@ -1,6 +1,5 @@
 use Rattle.std.proofs.Common.{refl}
-use Rattle.sdd_obligations.specs.base.declared.event.Event.TheVariants.{Redeclare}
-use Rattle.sdd_obligations.specs.logs.Entries.{with_event}
+use Rattle.sdd_obligations.specs.All.{Redeclare, with_event}
 use Rattle.sdd_world.proofs.Failing.{handed_on}
 use Rattle.sdd_world.proofs.NextList.{forcing}
 use Rattle.sdd_world.proofs.Rounds.{settle_begins}

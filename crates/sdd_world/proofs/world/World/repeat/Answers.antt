@@ -1,7 +1,7 @@
 use Rattle.std.proofs.Common.{refl}
 use Rattle.sdd_world.proofs.Failing.{on_ok}
 use Rattle.sdd_world.proofs.Marking.{repeated, repeated_nothing, order_of}
-use Rattle.sdd_obligations.specs.base.declared.event.Event.TheVariants.{Repeat}
+use Rattle.sdd_obligations.specs.All.{Repeat}
 use Rattle.sdd_world.proofs.world.World.repeat.Goals as goal
 
 pub returns-then-branch : goal.returns-then-branch

@@ -1,8 +1,5 @@
 use Rattle.std.proofs.Common.{◌≡◌, ◌<◌, ◌+◌, false, length}
-use Rattle.sdd_obligations.specs.base.declared.event.Event.{Event}
-use Rattle.sdd_obligations.specs.logs.Entries.{Given, Log}
-use Rattle.sdd_obligations.specs.logs.Traffic.{all_links, calls_of}
-use Rattle.sdd_obligations.specs.net.Links.{quiet}
+use Rattle.sdd_obligations.specs.All.{Event, Given, Log, all_links, calls_of, quiet}
 use Rattle.sdd_world.specs.Standing.{Rounding, Settling}
 use Rattle.sdd_world.proofs.world.World.round.Given as goal
 

@@ -1,6 +1,5 @@
 use Rattle.std.proofs.Common.{refl}
-use Rattle.sdd_obligations.specs.base.declared.event.Event.TheVariants.{Settle}
-use Rattle.sdd_obligations.specs.logs.Entries.{with_event}
+use Rattle.sdd_obligations.specs.All.{Settle, with_event}
 use Rattle.sdd_world.proofs.Failing.{handed_on}
 use Rattle.sdd_world.proofs.Rounds.{settle_begins, settle_ends}
 use Rattle.sdd_world.proofs.world.World.settle.Goals as goal

@@ -1,6 +1,5 @@
 use Rattle.std.proofs.Common.{◌-◌, ◌^◌}
-use Rattle.sdd_obligations.specs.base.declared.event.Event.{Event}
-use Rattle.sdd_obligations.specs.logs.Entries.{Given, Log}
+use Rattle.sdd_obligations.specs.All.{Event, Given, Log}
 use Rattle.sdd_world.specs.Standing.{Settles, Settling}
 use Rattle.sdd_world.proofs.world.World.settle_down.Given as goal
 

@@ -1,5 +1,4 @@
-use Rattle.sdd_obligations.specs.base.declared.site.Site.TheVariants.{D}
-use Rattle.sdd_obligations.specs.logs.Locals.{local_of, setting_of}
+use Rattle.sdd_obligations.specs.All.{D, local_of, setting_of}
 use Rattle.sdd_world.proofs.world.World.waits.Goals as goal
 
 pub waits-requires : goal.waits-requires
