@@ -7,7 +7,9 @@ SIGNATURE = re.compile(r"(?:(?:pub|abbrev|unfoldable|opaque|private)\s+)*(?:(dat
 NOT_NAMES = {"use", "module", "where", "unfolding", "open", "mod", "let", "in", "syntax", "infix", "infixl", "infixr", "tactic", "pub"}
 WORD = re.compile(r"[^\s(){}\[\];,=λ→:×∧∨]+")
 IMPORT = re.compile(r"^\s*(?:pub\s+)?(?:ghost\s+)?use\s+Rattle\.(\w+)\.([\w.]+?)\.\{([^}]*)\}", re.M)
+PASSED_ON = re.compile(r"^\s*pub\s+use\s+Rattle\.(\w+)\.([\w.]+?)\.\{([^}]*)\}", re.M)
 WHOLE = re.compile(r"^\s*(?:pub\s+)?use\s+Rattle\.(\w+)\.(specs|proofs)\.([\w.]+)\s+as\s+(\w+)\s*$", re.M)
+FOLDER = re.compile(r"^\s*pub\s+use\s+Rattle\.(\w+)\.(specs|proofs)(?:\.([\w.]+))?\s+as\s+(\w+)\s*$", re.M)
 
 
 class Part:
@@ -26,10 +28,10 @@ class Part:
         return "%s:%d" % (os.path.relpath(self.path, os.path.join(ROOT, "crates")), self.line)
 
 
-def imports_of(text):
-    """What a file's imports call: local name to (crate, kind, module, name)."""
+def imports_of(text, form=IMPORT):
+    """What a file's imports call, or those of one form: local name to (crate, kind, module, name)."""
     found = {}
-    for crate, path, names in IMPORT.findall(text):
+    for crate, path, names in form.findall(text):
         kind, _, module = path.partition(".")
         for name in names.split(","):
             name, _, other = name.strip().partition(" as ")
@@ -97,20 +99,51 @@ def parts_of(crate, kind, module, path, text):
     return parts
 
 
-def read_crate(crate):
-    """All parts of a crate's specs/ and proofs/, each with what it names."""
+class PassedOn:
+    """What crates pass on: whole folders under a name of their own (Lib.antt), and single names (`pub use`)."""
+
+    def __init__(self):
+        self.folders, self.names = {}, {}
+
+    def take(self, crate, kind, module, text):
+        if module == "Lib":
+            for low, of_kind, inside, name in FOLDER.findall(text):
+                self.folders[crate, kind, name] = low, of_kind, inside
+        for name, key in imports_of(text, PASSED_ON).items():
+            self.names[crate, kind, module, name] = key
+
+    def declared(self, key):
+        """The place where the name of a key is declared: first its folder is followed down, then the name."""
+        seen = set()
+        while key not in seen:
+            seen.add(key)
+            crate, kind, module, name = key
+            head, _, rest = module.partition(".")
+            low = self.folders.get((crate, kind, head))
+            if low:
+                key = low[0], low[1], ".".join(part for part in (low[2], rest) if part), name
+            else:
+                key = self.names.get(key, key)
+        return key
+
+
+def read_crate(crate, passed_on):
+    """All parts of a crate's specs/ and proofs/, each with what it names; what it passes on is noted."""
     found = []
     for kind in ("specs", "proofs"):
         folder = os.path.join(ROOT, "crates", crate, kind)
         for at, folders, names in os.walk(folder):
             folders.sort()
             for name in sorted(names):
-                if not name.endswith(".antt") or name == "Lib.antt":
+                if not name.endswith(".antt"):
                     continue
                 path = os.path.join(at, name)
                 with open(path, encoding="utf-8") as it:
                     text = it.read()
                 module = os.path.relpath(path, folder)[: -len(".antt")].replace(os.sep, ".")
+                passed_on.take(crate, kind, module, text)
+                if module == "Lib":
+                    continue
                 parts, calls, modules = parts_of(crate, kind, module, path, text), imports_of(text), modules_of(text)
                 here = {it.name: it.key for it in parts}
                 for it in parts:
@@ -133,20 +166,16 @@ def crates():
 
 def read_all():
     """Every part by its key; a name that is passed on by `pub use` is found under the place where it is declared."""
-    parts = {}
+    parts, passed_on = {}, PassedOn()
     for crate in crates():
-        for it in read_crate(crate):
+        for it in read_crate(crate, passed_on):
             parts[it.key] = it
-    by_name = {}
-    for key in parts:
-        by_name.setdefault((key[0], key[3]), []).append(key)
     for it in parts.values():
-        it.uses = {key if key in parts else by_name.get((key[0], key[3]), [key])[0] for key in it.uses}
-        it.uses = {key for key in it.uses if key in parts}
-    return parts
+        it.uses = {key for key in map(passed_on.declared, it.uses) if key in parts and key != it.key}
+    return parts, passed_on
 
 
-def cited_by_code():
+def cited_by_code(passed_on):
     """The keys that contracts in src/ name."""
     found = set()
     for crate in crates():
@@ -154,7 +183,7 @@ def cited_by_code():
             for name in names:
                 if name.endswith(".rt"):
                     with open(os.path.join(at, name), encoding="utf-8") as it:
-                        found |= set(imports_of(it.read()).values())
+                        found |= set(map(passed_on.declared, imports_of(it.read()).values()))
     return found
 
 

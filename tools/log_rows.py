@@ -1,4 +1,4 @@
-"""The workloads whose logs are written by write_log_rows.py: a name, the module of crates/sdd_rows/specs in
+"""The workloads whose logs are written by write_log_rows.py: a name, the module of crates/sdd_log_examples/specs in
 which it stands, what it shows, its catalogue and the workload; where its data modules are made of different
 rows, also the rows of each, in the place of the workload's."""
 

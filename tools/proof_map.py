@@ -76,9 +76,9 @@ def terms_of(made):
 
 
 def named_in(text, made, parts):
-    """The parts that a text of the same file names."""
+    """The parts that a text of the same file names, in the order of their keys."""
     heads = {word.split(".")[0] for word in antt.WORD.findall(text)}
-    return [key for key in made.uses if key[3] in heads or parts[key].name in heads]
+    return sorted(key for key in made.uses if key[3] in heads or parts[key].name in heads)
 
 
 def laws_from(parts, closure):
@@ -154,9 +154,9 @@ def picture_of(rows):
     return whole(left + len(names) * wide + 40, top + len(rows) * high + 20, STYLE, shapes)
 
 
-def unused(parts):
+def unused(parts, passed_on):
     """Lemmas that nothing names: neither a definition, a lemma, a function's proof nor a contract."""
-    named = antt.cited_by_code()
+    named = antt.cited_by_code(passed_on)
     for it in parts.values():
         named |= it.uses
     for key, it in sorted(parts.items()):
@@ -184,9 +184,9 @@ def main(words):
     parser.add_argument("--unused", action="store_true", help="lists lemmas that nothing names")
     options = parser.parse_args(words)
     try:
-        parts = antt.read_all()
+        parts, passed_on = antt.read_all()
         if options.unused:
-            print("\n".join(unused(parts)))
+            print("\n".join(unused(parts, passed_on)))
             return 0
         rows = list(rows_of(parts))
         text = page_of(parts, rows)

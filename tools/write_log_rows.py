@@ -1,11 +1,11 @@
 #!/usr/bin/env python3
-"""Writes crates/sdd_rows/specs: the logs of worked workloads, computed by the reference (reference/).
+"""Writes crates/sdd_log_examples/specs: the logs of worked workloads, computed by the reference (reference/).
 
     tools/write_log_rows.py [--check] [--out FOLDER]
     tools/write_log_rows.py --random FIRST COUNT --file FILE [--longest N]
 
 The first form writes the workloads of log_rows.py, each with the equation that the definitions' log has the
-reference's history, number of entries and number of events, and is complete; `rt check` in crates/sdd_rows
+reference's history, number of entries and number of events, and is complete; `rt check` in crates/sdd_log_examples
 computes them. With --check nothing is written: it ends with 1 where a file of FOLDER would be another.
 With --random the logs of COUNT random workloads from the seed FIRST on, with losses, repetitions, undeclared
 transactions, reducers, further lists of classes and modules that are down, are written to one FILE, which is
@@ -30,23 +30,21 @@ from reference.world import World
 HERE = os.path.dirname(os.path.abspath(__file__))
 
 OPERATORS = {"=": "Eq", "!=": "Ne", "<": "Lt", "<=": "Le", ">": "Gt", ">=": "Ge"}
+OF_ALL = (
+    "Add Answer Apply Arrive Catalogue Commit Const D Delete Deliver Down Eq Ge Given Gt Int Le Log Lose Lt Nothing Overflow P1 P2 P3 Pass Put "
+    "Query Redeclare Repeat Resend Rows Same Settle Start Submit T Tick U Up Update Wait class_no dm_no extended frag_no history marks next "
+    "rel_no time_at tm_no txn_no"
+)
 IMPORTS = [
     ("Rattle.std.specs.Prelude", "ℕ ◌≡◌ pos negsuc true false List [] ◌∷◌ length Some None refl"),
-    ("Rattle.sdd_base.specs.Numbers", "rel_no tm_no dm_no class_no frag_no txn_no time_at"),
-    ("Rattle.sdd_base.specs.declared.value.Value.TheVariants", "Int Text"),
-    ("Rattle.sdd_base.specs.declared.restriction.Op.TheVariants", "Eq Ne Lt Le Gt Ge"),
-    ("Rattle.sdd_base.specs.declared.event.Event.TheVariants", "Submit Deliver Lose Repeat Resend Tick Settle Redeclare Down Up"),
-    ("Rattle.sdd_base.specs.declared.site.Site.TheVariants", "U T D"),
-    ("Rattle.sdd_base.specs.declared.reply.Reply.TheVariants", "Rows Overflow TooMany"),
-    ("Rattle.sdd_catalog.specs.Catalogue", "Catalogue"),
+    ("Rattle.sdd_log.specs.All", OF_ALL),
     ("Rattle.sdd_graph.specs.declared.edge.Edge.TheVariants", "Vertical Horizontal Diagonal"),
-    ("Rattle.sdd_protocol.specs.declared.protocol.Protocol.TheVariants", "P1 P2 P3"),
-    ("Rattle.sdd_lang.specs.declared.condition.Condition.TheVariants", "Const Same"),
-    ("Rattle.sdd_lang.specs.declared.assign.Assign.TheVariants", "To Add"),
-    ("Rattle.sdd_lang.specs.declared.statement.Stmt.TheVariants", "Put Query Update Delete"),
-    ("Rattle.sdd_history.specs.declared.record.Rec.TheVariants", "Submit=Submission Start Arrive Answer Reject Apply Commit Wait Pass Nothing"),
-    ("Rattle.sdd_log.specs.Entries", "Given Log history marks"),
-    ("Rattle.sdd_log.specs.Due", "next extended"),
+    # what follows `All` doesn't pass on
+    ("Rattle.sdd_log.specs.history.declared.record.Rec.TheVariants", "Submit=Submission Reject"),
+    ("Rattle.sdd_log.specs.base.declared.value.Value.TheVariants", "Text"),
+    ("Rattle.sdd_log.specs.base.declared.restriction.Op.TheVariants", "Ne"),
+    ("Rattle.sdd_log.specs.base.declared.reply.Reply.TheVariants", "TooMany"),
+    ("Rattle.sdd_log.specs.lang.declared.assign.Assign.TheVariants", "To"),
 ]
 
 
@@ -272,7 +270,7 @@ def imported(body):
         if used:
             head += "use %s.{%s}\n" % (module, ", ".join(used))
     if "kinds." in body:
-        head += "use Rattle.sdd_catalog.specs.declared.parts.Kind.TheVariants as kinds\n"
+        head += "use Rattle.sdd_log.specs.catalog.declared.parts.Kind.TheVariants as kinds\n"
     return head
 
 
@@ -316,7 +314,7 @@ def differs(path, about, body):
 def main():
     asked = argparse.ArgumentParser(description=__doc__, formatter_class=argparse.RawDescriptionHelpFormatter, usage=argparse.SUPPRESS)
     asked.add_argument("--check", action="store_true")
-    asked.add_argument("--out", metavar="FOLDER", default=os.path.join(HERE, "..", "crates", "sdd_rows", "specs"))
+    asked.add_argument("--out", metavar="FOLDER", default=os.path.join(HERE, "..", "crates", "sdd_log_examples", "specs"))
     asked.add_argument("--random", nargs=2, type=int, metavar=("FIRST", "COUNT"))
     asked.add_argument("--file", metavar="FILE")
     asked.add_argument("--longest", type=int, default=220, metavar="N")
