@@ -2,7 +2,7 @@
 
 What comes through a pipe is processed in order: a NULL passes, a WRITE is applied unless a READ that waits must not see
 it, a READ is rejected, answered, or waits until each of its conditions is met. Definition: crates/sdd_dm/specs/Due.antt,
-Views.antt, Copies.antt; crates/sdd_pipe/specs/Pipe.antt, sdd_copy/specs/Contents.antt, sdd_space/specs/Frozen.antt.
+Views.antt, Copies.antt; crates/sdd_pipe/specs/Pipe.antt, sdd_copy/specs/Contents.antt, Frozen.antt.
 """
 from .breaking import is_broken
 from .messages import PIPED, Message, Record

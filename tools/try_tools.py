@@ -40,6 +40,8 @@ GOOD = [
     ["benchmark.py", "--only", "small", "--runs", "1"] + P,
     ["benchmark.py", "--only", "bank", "rows", "largest", "--part", "100", "--beside", "PROGRAM"] + P,
     ["measure_gate.py", "--log", "ROOM/log", "--into", "ROOM/gate", "--", "true"],
+    ["write_log_rows.py", "--check"], ["proof_map.py", "--into", "ROOM/map", "--picture", "ROOM/map.svg"], ["proof_map.py", "--unused"],
+    ["layers.py", "--into", "ROOM/layers.svg"], ["crate_paths.py", "--most", "20000"],
 ]
 BAD = [
     ["make_workload.py"], ["make_workload.py", "nokind", "--into", "ROOM/x"], ["make_workload.py", "bank", "-5", "--into", "ROOM/x"],
@@ -67,7 +69,7 @@ BAD = [
     ["benchmark.py", "--part", "0"] + P, ["benchmark.py", "--only", "small", "--into", "README.md"] + P,
     ["benchmark.py", "--only", "small", "--beside", "/no/p"] + P, ["measure_gate.py", "--", "/no/p"],
     ["program.py"], ["program.py", "nonsense"], ["program.py", "check", "/no/a"],
-    ["write_log_rows.py", "x"],
+    ["write_log_rows.py", "x"], ["crate_paths.py", "--crates", "/no/a"], ["crate_paths.py", "--top", "nocrate"],
 ]
 
 
