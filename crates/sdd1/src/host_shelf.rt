@@ -5,7 +5,7 @@ use std::fs;
 use std::io::Read;
 use std::rt::Files;
 
-/// Files of the system, of which four may be opened. It tells nothing of what they hold.
+/// Files of the system, of which four may be opened. Nothing is said of what they hold.
 #[derive(Drop)]
 pub struct HostShelf<'a, R: Files + Drop> {
     rt: &'a R,

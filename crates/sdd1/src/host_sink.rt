@@ -3,7 +3,7 @@ ghost use Rattle.std.specs.Prelude.{None};
 use sdd_base::{Failed, Sink};
 use std::io::Write;
 
-/// A stream of the system. It tells nothing of what it took.
+/// A stream of the system. Nothing is said of what it took.
 #[derive(Drop)]
 pub struct HostSink<W: Write + Drop> {
     inner: W,

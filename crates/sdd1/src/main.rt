@@ -1,8 +1,8 @@
 //! The program: the words, files and streams of the system, handed to the top call.
 //!
-//! What is read, printed and told is proved at `run_sdd1`; that the process's number is the status's,
-//! at `exit_code`; what is told where memory runs out before that call, at `end_out_of_memory`. The
-//! adapters over the system's files and streams are proved against the same traits with nothing told
+//! What is read and printed is proved at `run_sdd1`; that the process ends with the status's number,
+//! at `exit_code`; what is said if memory runs out before that call, at `end_out_of_memory`. The
+//! adapters of the system's files and streams are proved against the same traits, which say nothing
 //! of their content: what a real file holds, and what `main` hands over and ends with, is trusted.
 #![tactic(auto)]
 
@@ -26,7 +26,7 @@ use std::process::ExitCode;
 /// of no status. Nothing is written then.
 const NO_WORDS: u8 = 10;
 
-/// The number by which the process tells how the call ended.
+/// The exit status of the process, which says how the call ended.
 fn exit_code(status: Status) -> ExitCode
     ensures { exit_status result ≡ number_of_status status }
 {

@@ -100,7 +100,7 @@ pub record IsLow {K : Type 0} (D : Deeds K) (t u : K) : Type 0 where
   pub commits : D.commit t < D.start u
   pub applies : (d f p : ℕ) → Touches D t d ⊎ ((D.class t ≡ 0) × D.HasCopy d f) → D.Answered u d p → AppliedBefore D t d p
 
--- or wholly behind it
+-- or wholly after it
 pub record IsHigh {K : Type 0} (D : Deeds K) (t u : K) : Type 0 where
   pub time : D.ts u < D.ts t
   pub applies : (d f : ℕ) → D.HasCopy d f → AppliedBefore D u d (D.start t)

@@ -1,9 +1,9 @@
 //! No cycle of precedence: why a serial order always exists.
 //!
-//! The one contract to the layer above: where what happened gives the core's facts
+//! The one contract to the layer above: where a history gives the core's facts
 //! (`specs/Deeds.antt`), the catalogue in force and its table fit the transactions (`specs/Fits.antt`)
 //! and eras follow one another, precedence has no cycle (`orderly_in_eras` in `proofs/Apart.antt`).
-//! The core alone, over any transactions, is what the laws here say.
+//! The laws here are about the core alone, over any transactions.
 #![tactic(auto)]
 
 mod law;

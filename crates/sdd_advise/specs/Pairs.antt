@@ -10,7 +10,7 @@ use Rattle.sdd_advise.specs.declared.pair.Link.{Link}
 use Rattle.sdd_advise.specs.declared.pair.Link.TheVariants.{Linked, Apart}
 use Rattle.sdd_advise.specs.declared.pair.Pair.{Pair}
 
--- a way from the writer's write node to the reader's, away from the reader's read node, and behind it
+-- a way from the writer's write node to the reader's, away from the reader's read node, and after it
 -- the reader's vertical edge
 pub record IsClosed (edges : List Edge) (reader : ClassNo) (write : ℕ) (closed : List Edge) : Type 0 where
   pub way : List Edge

@@ -17,7 +17,7 @@ use sdd_graph::{Edge, ends};
 use sdd_protocol::Protocol;
 use std::alloc::Global;
 
-/// A good advice for each diagonal of the catalogue's conflict graph, in their order. Of several cycles
+/// Good advice for each diagonal of the catalogue's conflict graph, in their order. Of several cycles
 /// any may be given.
 ///
 /// Costs one pass over the edges of the graph for each of its nodes, at most one search of it for each
@@ -46,7 +46,7 @@ fn advices_of(alloc: Global, graph: &Graph) -> Result<Vec<Advice>, NoMemory>
 }
 
 /// Adds the advice for the edge, where it is a diagonal. Takes and gives the last pair of reader and
-/// writer: the diagonals of a pair stand one behind the other.
+/// writer: the diagonals of a pair stand one after the other.
 fn add_advice(
     alloc: Global,
     graph: &Graph,

@@ -1,9 +1,9 @@
 //! Why a read has its protocol, so that a person can check it with a pencil: by a cycle of the conflict
 //! graph, or by the nodes that lie apart.
 //!
-//! The one contract to the layer above: `advise` gives a good advice for each diagonal of a catalogue, in
-//! order, `check_advice` says whether an advice is good, as `specs/Advices.antt` defines it, and
-//! `advice_text` gives the text of such advices (`specs/Texts.antt`). That good advices say what the table
+//! The one contract to the layer above: `advise` gives good advice for each diagonal of a catalogue, in
+//! order, `check_advice` says whether advice is good, as `specs/Advices.antt` defines it, and
+//! `advice_text` gives the text of such advice (`specs/Texts.antt`). That good advice says what the table
 //! of the catalogue says is a law (`specs/Laws.antt`).
 #![tactic(auto)]
 

@@ -125,7 +125,7 @@ impl Search {
         Ok(())
     }
 
-    /// Puts the node behind those that were reached, unless it is one of them.
+    /// Puts the node after those that were reached, unless it is one of them.
     fn reach(&mut self, node: u32, came: Came) -> Result<(), NoMemory>
         requires node { node < length self.old.places.items }
         requires few { length self.old.reached.items < 2 ^ 32 }

@@ -13,7 +13,7 @@ use sdd_protocol::Protocol;
 use sdd_words::{put, put_count};
 use std::alloc::Global;
 
-/// The text of one good advice for each diagonal of the catalogue's conflict graph, in their order.
+/// The text of good advice for each diagonal of the catalogue's conflict graph, in their order.
 ///
 /// The first line of an advice says what the reader reads, where, who writes it, and the protocol; then
 /// each edge of the cycle has a line, and the nodes apart have one, but for P3. Costs what `advise` does,

@@ -32,7 +32,7 @@ catalogue_named files name = option_map catalogue_in (find_file files name)
 abbrev pub workload_named : List ShelfFile → Catalogue → List ℕ → Option (Result Workload WorkFault)
 workload_named files cat name = option_map (workload cat) (find_file files name)
 
--- A command that begins with a catalogue: its fault is told; over a sound one the command goes on. Where the file
+-- A command that begins with a catalogue: its fault is reported; with a sound one the command goes on. Where the file
 -- is absent, it comes to nothing.
 abbrev pub OverCatalogue : List ShelfFile → List ℕ → (Catalogue → Verdict → Type 0) → Verdict → Type 0
 OverCatalogue files name GoesOn verdict =
@@ -52,7 +52,7 @@ plain_verdict cat (Err fault) = FaultyWorkload fault
 abbrev pub ComesToPlain : List ShelfFile → List ℕ → Catalogue → Verdict → Type 0
 ComesToPlain files work cat verdict = option_map (plain_verdict cat) (workload_named files cat work) ≡ Some verdict
 
--- A command that goes on with a workload: its fault is told; over a sound one the command goes on. Where the file is
+-- A command that goes on with a workload: its fault is reported; with a sound one the command goes on. Where the file is
 -- absent, it comes to nothing.
 abbrev pub OverWorkload : List ShelfFile → Catalogue → List ℕ → (Workload → Verdict → Type 0) → Verdict → Type 0
 OverWorkload files cat name GoesOn verdict =

@@ -103,7 +103,7 @@ FormIsOver shelved files form = shelved ≡ Some files
 abbrev pub IsOver : Option (List ShelfFile) → List ShelfFile → List (List ℕ) → Type 0
 IsOver shelved files words = MatchOption (form_in words) (Unit {0}) (FormIsOver shelved files)
 
--- The shelf is sure of a place for each of n files and of so many more; for no file nothing is asked of it.
+-- The shelf is sure to have a place for each of n files and for so many more; where n is 0, nothing is required of it.
 abbrev pub HasRoom : (ℕ → Type 0) → ℕ → ℕ → Type 0
 HasRoom sure free zero = Unit {0}
 HasRoom sure free (suc n) = sure (free + suc n)

@@ -1,4 +1,4 @@
--- What is told of a catalogue.
+-- What is printed of a catalogue.
 use Rattle.std.specs.Prelude.{ℕ, ◌≡◌, List}
 use Rattle.sdd_lang.specs.All.{Catalogue}
 use Rattle.sdd_protocol.specs.declared.entry.Entry.{Entry}
@@ -15,7 +15,7 @@ pub record TellsTable (cat : Catalogue) (shown : Catalogue → List Entry → Li
   pub table : IsTable cat entries
   pub text_is : text ≡ shown cat entries
 
--- the text tells of the catalogue what is listed
+-- the text is what a listing prints of the catalogue
 abbrev pub Tells : Listing → Catalogue → List ℕ → Type 0
 Tells listings.Counts cat text = text ≡ check_line cat
 Tells listings.Graph cat text = TellsTable cat graph_text text

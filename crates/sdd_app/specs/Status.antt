@@ -54,7 +54,7 @@ counted_word counted.Fragment = codes " fragment"
 counted_word counted.Class = codes " class"
 counted_word counted.Read = codes " read"
 
--- what was counted, behind a space, where something was
+-- what was counted, after a space, where something was
 abbrev pub counted_words : CatRule → List ℕ
 counted_words (rules_of.TooMany what) = counted_word what
 counted_words (rules_of.TooFew what) = counted_word what
@@ -79,7 +79,7 @@ work_rule_word work_rules.BadEvent = codes "BadEvent"
 work_rule_word work_rules.NoEnd = codes "NoEnd"
 work_rule_word work_rules.BadClass = codes "BadClass"
 
--- what there were too many of, behind a space
+-- what there were too many of, after a space
 abbrev pub many_word : Counts → List ℕ
 many_word counts.Row = codes " row"
 many_word counts.Txn = codes " txn"

@@ -37,8 +37,8 @@ abbrev pub IsRefusal : Verdict → Type 0
 IsRefusal (Prints text) = ⊥
 IsRefusal verdict = Unit {0}
 
--- A status in place of a text: where it tells what the call comes to, that is such a verdict. Failures of the
--- shelf and want of memory tell nothing of it.
+-- A status in place of a text: where it says what the call comes to, that is such a verdict. A failure of the
+-- shelf, or of memory, says nothing of it.
 abbrev pub Explains : Status → (Verdict → Type 0) → Type 0
 Explains statuses.Usage P = P NoForm
 Explains (statuses.BadCatalogue fault) P = P (FaultyCatalogue fault)
@@ -49,18 +49,18 @@ Explains statuses.NoMemory P = Unit {0}
 Explains statuses.Done P = ⊥
 Explains statuses.WriteFault P = ⊥
 
--- a text, or a status in its place, tells such a verdict
+-- a text, or a status in its place, gives such a verdict
 abbrev pub Answers : {T : Type 0} → Result T Status → (T → List ℕ) → (Verdict → Type 0) → Type 0
 Answers result text P = MatchResult result (λ v. P (Prints (text v))) (λ status. Explains status P)
 
--- a status that comes of reading and judging files
+-- a status that comes from reading and judging files
 abbrev pub ComesOfFiles : Status → Type 0
 ComesOfFiles statuses.Done = ⊥
 ComesOfFiles statuses.Usage = ⊥
 ComesOfFiles statuses.WriteFault = ⊥
 ComesOfFiles status = Unit {0}
 
--- where a status tells of a fault of the catalogue, or of one of the workload or script, such a thing holds
+-- the first holds where a status reports a fault of the catalogue, the second where one of the workload or script
 abbrev pub AtFault : Type 0 → Type 0 → Status → Type 0
 AtFault OfCatalogue OfWorkload (statuses.BadCatalogue fault) = OfCatalogue
 AtFault OfCatalogue OfWorkload (statuses.BadWorkload fault) = OfWorkload

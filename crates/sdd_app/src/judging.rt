@@ -34,7 +34,7 @@ fn put_verdict(text: &mut Vec<u8>, verdict: Verdict) -> Result<(), NoMemory>
     }
 }
 
-/// The line that tells what the report is judged to be.
+/// The line with the verdict on the report.
 fn judged(
     alloc: Global,
     catalogue: &Catalogue,
@@ -50,7 +50,7 @@ fn judged(
     Ok(text)
 }
 
-/// What is told of the report in the file.
+/// The line with the verdict on the report in the file.
 fn report_answer<S: Shelf>(
     alloc: Global,
     shelf: &mut S,

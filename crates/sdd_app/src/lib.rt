@@ -7,7 +7,7 @@
 //! with the blocks, its protocol table (`sdd_protocol`); and what is printed of a workload
 //! (`specs/Serially.antt`): the replies that serial execution on one database gives (`sdd_lang`).
 //! `control` prints what a script of transaction control gives (`sdd_control`), `make` the summary of
-//! the run (`sdd_run`) of a workload that is made of a seed (`sdd_make`). `advise` tells why each read
+//! the run (`sdd_run`) of a workload that is made of a seed (`sdd_make`). `advise` says why each read
 //! has its protocol (`sdd_advise`), and `verify` judges a report against one plain database
 //! (`sdd_verify`).
 #![tactic(auto)]

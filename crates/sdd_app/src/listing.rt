@@ -1,4 +1,4 @@
-//! The commands that tell what is in a catalogue.
+//! The commands that print what is in a catalogue.
 ghost use Rattle.std.specs.Prelude.{◌≡◌, ◌+◌, ◌∷◌, [], ℕ, List, IfOk, OnOk, IfErr, IsSome, Some};
 ghost use Rattle.sdd_lang.specs.base.declared.files.ShelfFile.{ShelfFile};
 ghost use Rattle.sdd_lang.specs.base.declared.limits.TheConstants.{MAX_CATALOGUE_BYTES};
@@ -18,7 +18,7 @@ use sdd_lang::sdd_catalog::Catalogue;
 use sdd_protocol::table;
 use std::alloc::Global;
 
-/// What is told of a catalogue.
+/// What may be printed of a catalogue.
 #[derive(Clone, Copy)]
 pub enum Listing {
     /// How many modules, relations, fragments and classes there are.
@@ -31,7 +31,7 @@ pub enum Listing {
     Advice,
 }
 
-/// What is told of the catalogue.
+/// What is printed of the catalogue.
 fn listed(alloc: Global, catalogue: &Catalogue, listing: Listing) -> Result<Vec<u8>, NoMemory>
     ensures { IfOk result (λ v. Tells listing catalogue.now v.items) }
 {
@@ -49,7 +49,7 @@ fn listed(alloc: Global, catalogue: &Catalogue, listing: Listing) -> Result<Vec<
     }
 }
 
-/// What a command answers that tells of the catalogue in the file.
+/// What a command prints of the catalogue in the file.
 pub fn listing_answer<S: Shelf>(
     alloc: Global,
     shelf: &mut S,

@@ -80,7 +80,7 @@ fn answer<S: Shelf>(alloc: Global, words: &[String], shelf: &mut S) -> Result<Ve
     }
 }
 
-/// Does all that the program does: takes the words behind the program's name, reads the files that
+/// Does all that the program does: takes the words after the program's name, reads the files that
 /// they name from the shelf, writes the whole text to `out` or else the status's line to `err`.
 ///
 /// The words are judged first, then the catalogue is read and judged, then the workload, then a report.

@@ -54,7 +54,7 @@ fn submitted<'a>(alloc: Global, work: &'a Workload) -> Result<Vec<&'a Txn>, NoMe
     Ok(found)
 }
 
-/// A name, behind a space.
+/// A name, after a space.
 fn put_name(text: &mut Vec<u8>, name: &Name) -> Result<(), NoMemory>
     ensures { OnOk result (text.new.items ≡ text.old.items ++ spaced name.now) }
 {

@@ -19,7 +19,7 @@ pub enum Status {
     BadWorkload(WorkFault),
     /// A call of the shelf failed.
     ReadFault,
-    /// A call of the sink for the text failed, which took a front of it.
+    /// A call of the sink for the text failed; the sink took a first part of it.
     WriteFault,
     NoMemory,
     /// There is no number left for the next event of the run, or for the next message of a link.

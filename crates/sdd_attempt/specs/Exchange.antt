@@ -25,7 +25,7 @@ pub record Exchange : Type 0 where
   -- its modules, with the numbers of the uses that each reads
   pub modules : List (ℕ × List ℕ)
   pub phase : Phase
-  -- the messages that are still to be sent, each with its module, and the modules whose answers lack
+  -- the messages that are still to be sent, each with its module, and the modules whose answers are missing
   pub to_send : List (ℕ × Msg)
   pub lacks : List ℕ
   -- how many rows are held, of each use at each module
@@ -111,7 +111,7 @@ phase_ends ts c x (Reducing m) = goes_on ts c x x.left x.done
 phase_ends ts c x Shipping = record x { phase = Over }
 phase_ends ts c x Over = x
 
--- the answers of these modules lack
+-- the answers of these modules are still missing
 abbrev pub lacking : ℕ → ℕ → Exchange → List ℕ → Exchange
 lacking ts c x [] = phase_ends ts c (record x { lacks = [] }) x.phase
 lacking ts c x (d ∷ ds) = record x { lacks = d ∷ ds }

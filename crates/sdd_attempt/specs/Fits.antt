@@ -72,7 +72,7 @@ abbrev pub is_shipping : Phase → Bool
 is_shipping Shipping = true
 is_shipping _ = false
 
--- the active attempt has this timestamp, is in such a phase, and lacks an answer of the site
+-- the active attempt has this timestamp, is in such a phase, and has no answer of the site yet
 pub record Awaits (is_phase : Phase → Bool) (a : Attempt) (from : Site) (ts : ℕ) : Type 0 where
   pub same : a.ts ≡ ts
   pub phase : is_phase a.exchange.phase ≡ true
@@ -101,8 +101,8 @@ abbrev pub FitsRows : Setting → Bases → Option Attempt → Site → ℕ → 
 FitsRows s bases None from ts rows = ⊥
 FitsRows s bases (Some a) from ts rows = FitsRowsOf s bases a from ts rows
 
--- At each message, submission and tick: the clock stays far below what a timestamp holds, and each database that a
--- commit may be due of is a database of the catalogue. An attempt without modules commits in any call.
+-- At each message, submission and tick: the clock stays far below what a timestamp holds, and each database of which a
+-- commit may be due is a database of the catalogue. An attempt without modules commits in any call.
 pub record FitsSite (s : Setting) (bases : Bases) (log : Log) : Type 0 where
   pub time : (clock s.site log).ticks < 2 ^ 56
   pub databases : (ts : ℕ) → IsDatabase s.catalogue (bases ts)

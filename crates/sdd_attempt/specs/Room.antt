@@ -57,7 +57,7 @@ for_reduce modules = most_values modules * modules
 abbrev pub for_move : ℕ → ℕ
 for_move modules = most_values modules + for_reduce modules
 
--- by the move under way, where so many answers lack
+-- by the move under way, where so many answers are missing
 abbrev pub for_phase : ℕ → ℕ → Phase → ℕ
 for_phase lacks modules (Fetching m) = most_values lacks + for_reduce modules
 for_phase lacks modules _ = 0

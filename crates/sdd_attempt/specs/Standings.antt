@@ -28,7 +28,7 @@ abbrev pub queued_at : ℕ → Option ℕ → Standing
 queued_at c None = Absent
 queued_at c (Some place) = Queued (class_no c) (suc place)
 
--- An attempt that lacks no answer doesn't outlast the call in which the last one came.
+-- An attempt that has all its answers ends within the call in which the last one came.
 abbrev pub site_of : Option ℕ → Site
 site_of None = U
 site_of (Some d) = D (dm_no d)

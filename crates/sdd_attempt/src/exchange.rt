@@ -105,7 +105,7 @@ impl Exchange {
         }
     }
 
-    /// Of the modules whose answer lacks, the one with the lowest number.
+    /// Of the modules whose answer is missing, the one with the lowest number.
     pub(crate) fn lowest_lacking(&self) -> Option<DmNo>
         ensures { option_map (λ n. n.0) result ≡ lowest self.now.lacks }
     {
@@ -145,7 +145,7 @@ impl Exchange {
     /// answers another attempt changes nothing.
     ///
     /// Costs time in the counts that are held and in what the message carries; where it is the last
-    /// answer that lacks, also what the next messages carry.
+    /// answer that was missing, also what the next messages carry.
     pub(crate) fn hand(
         &mut self,
         ts: Ts,
@@ -316,7 +316,7 @@ fn is_own(t: Ts, k: ClassNo, ts: Ts, class: ClassNo) -> bool
     t == ts && k == class
 }
 
-/// Puts rows behind those that came before. The first ones are taken as they are.
+/// Puts rows after those that came before. The first ones are taken as they are.
 fn put_behind(found: &mut Vec<(u32, Row)>, mut rows: Vec<(u32, Row)>) -> Result<(), NoMemory>
     ensures { OnOk result (found.new.items ≡ found.old.items ++ rows.items) }
 {

@@ -24,7 +24,7 @@ use std::marker::Model;
 /// The transactions of one class at a site that are submitted and not committed, in order, and the
 /// attempt that is under way, which is that of the first one.
 ///
-/// After want of memory a line is only dropped.
+/// Once out of memory a line is only dropped.
 #[derive(Drop)]
 pub struct Line<'a> {
     alloc: Global,
@@ -168,7 +168,7 @@ impl<'a> Line<'a> {
     /// Takes a message: an answer to the attempt that is under way, or a REJECT of it, after which
     /// none is under way. Any other message changes nothing.
     ///
-    /// Costs what the message carries, and where it is the last answer that lacks what the attempt
+    /// Costs what the message carries, and with the last missing answer also what the attempt
     /// sends next.
     pub fn hand(&mut self, from: Site, msg: Msg) -> Result<(), NoMemory>
         requires { IsAwaited self.old.class from msg self.old.active }

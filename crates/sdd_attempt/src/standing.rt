@@ -9,6 +9,6 @@ pub enum Standing {
     /// is being served.
     Queued(ClassNo, u64),
     /// It is being served in the class. The timestamp is that of its active attempt, where that has
-    /// started; the site is the lowest one from which a message is lacking.
+    /// started; the site is the lowest one from which a message is missing.
     Underway(ClassNo, Option<Ts>, Site),
 }

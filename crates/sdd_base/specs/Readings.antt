@@ -16,12 +16,12 @@ known fault (Some x) = Ok x
 abbrev pub must : {F : Type 0} → F → Bool → Result (Unit {0}) F
 must fault b = if b then Ok tt else Err fault
 
--- a reading of each member in order, which is told the member's number, counted on from that of the first
+-- a reading of each member in order, which is given the member's number, counted on from that of the first
 abbrev pub along : {A B F : Type 0} → (ℕ → A → Result B F) → ℕ → List A → Result (List B) F
 along f number [] = Ok []
 along f number (x ∷ xs) = f number x >>= (λ y. along f (number + 1) xs >>= (λ ys. Ok (y ∷ ys)))
 
--- Code answers a reading with an error type E of its own: an error is a fault, or else want of memory, of which nothing is said.
+-- Code answers a reading with an error type E of its own: an error is a fault, or else memory ran out, of which nothing is said.
 
 -- an error is the fault of the reading
 abbrev pub Fails : {E F Y : Type 0} → (E → Option F) → E → Result Y F → Type 0

@@ -139,7 +139,7 @@ fn read_at(files: &[ShelfFile], opened: OpenFile, buf: &mut [u8]) -> (usize, Ope
 }
 
 /// Copies what stands from an index on, as far as there is room. How much that was, and the index
-/// behind it.
+/// after it.
 fn copy_from(bytes: &[u8], at: usize, buf: &mut [u8]) -> (usize, usize)
     ensures next { result.1 ≡ at + result.0 }
     ensures front { take result.0 buf.new ≡ take result.0 (drop at bytes.now) }

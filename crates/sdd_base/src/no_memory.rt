@@ -1,6 +1,6 @@
 use std::alloc::{AllocError, AllocFailed};
 
-/// Want of memory: the one answer that no clause ties to a cause.
+/// Out of memory: the one answer that no contract ties to a cause.
 ///
 /// A value lent by `&mut` to a call that answers it is not live from then on, and is only dropped.
 /// A value that was given by value is gone.

@@ -17,7 +17,7 @@ pub enum ReadError {
     NoMemory,
 }
 
-/// Reads a file to its end, or one byte past the limit, by which a caller tells that it is too long.
+/// Reads a file to its end, or one byte past the limit, by which a caller sees that it is too long.
 ///
 /// Takes time linear in the bytes read, and one of the shelf's numbers of open files.
 #[tactic(auto, using(crate::proofs::Taken::more_front, crate::proofs::Taken::no_front))]

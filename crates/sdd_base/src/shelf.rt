@@ -12,14 +12,14 @@ pub struct FileNo(pub u32);
 
 /// Files to read, by name.
 ///
-/// What a shelf holds is told or not, and no call changes which. What is told binds each call: a
-/// read gives what is unread, in order, and 0 bytes only at the end. Files of the system are not told.
+/// What a shelf holds is known or not, and no call changes which. What is known binds each call: a
+/// read gives what is unread, in order, and 0 bytes only at the end. Files of the system aren't known.
 pub trait Shelf {
-    // The files, where the shelf tells them.
+    // The files, where they are known.
     ghost files: { Self → Option (List ShelfFile) };
     // The numbers that `open_file` gave.
     ghost is_open: { Self → ℕ → Type 0 };
-    // The opened file that has the number, where the shelf tells it: its name, and the bytes that aren't read yet.
+    // The opened file that has the number, where it is known: its name, and the bytes that aren't read yet.
     ghost opened: { Self → ℕ → Option Opened };
     // How often a call has failed. The count stands still at its type's end.
     ghost faults: { Self → ℕ };

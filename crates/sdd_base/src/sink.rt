@@ -5,9 +5,9 @@ use crate::shelf::Failed;
 
 /// A place that takes bytes, as standard output.
 ///
-/// What it took is told or not, and no call changes which. Streams of the system are not told.
+/// What it took is known or not, and no call changes which. Of the system's streams it is unknown.
 pub trait Sink {
-    // The bytes taken so far, where the sink tells them.
+    // The bytes taken so far, where they are known.
     ghost taken: { Self → Option (List ℕ) };
     // How often a call has failed. The count stands still at its type's end.
     ghost faults: { Self → ℕ };

@@ -4,7 +4,7 @@ ghost use Rattle.sdd_base.specs.Outside.{HasCause, with_end};
 use crate::shelf::Failed;
 use crate::sink::Sink;
 
-/// Writes a finished text to its end. After a fault the sink took a front of it. Takes no memory.
+/// Writes a finished text to its end. After a fault the sink took its first part. Takes no memory.
 pub fn write_text<O: Sink>(out: &mut O, text: &[u8]) -> Result<(), Failed>
     ensures done { OnOk result (O.taken out.new ≡ with_end (O.taken out.old) text.now) }
     ensures front { OnErr result ((n : ℕ) × (O.taken out.new ≡ with_end (O.taken out.old) (take n text.now))) }

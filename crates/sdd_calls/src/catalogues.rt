@@ -25,7 +25,7 @@ fn built(alloc: Global, parts: &Parts) -> Result<Catalogue> {
     }
 }
 
-/// A class `audit` comes behind the one that is there.
+/// A class `audit` comes after the one that is there.
 pub fn is_extended<R: Files + AllocGlobal>(rt: &R) -> Result<bool> {
     let cat = catalogue(rt, "own.toml")?;
     let further = further(rt.alloc(), "audit")?;

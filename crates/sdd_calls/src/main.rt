@@ -1,8 +1,8 @@
 //! Calls, each with ample memory, the public functions of the lower crates that take memory and that no
-//! command of the program reaches, and those of which a worked row tells more than a command shows.
+//! command of the program reaches, and those of which a worked row shows more than a command.
 //!
-//! No clause ties want of memory to a cause, so that a body which always answers it proves. The calls
-//! of a command are made by the cases of `sdd_cases`; these are made here. Each answer is compared
+//! No contract says when memory runs out, so a body that always returns `NoMemory` is proved too. The
+//! calls of a command are made by the cases of `sdd_cases`, these here. Each answer is compared
 //! with what is expected, and one line is printed: a name of the call, and `yes` or `no`.
 #![tactic(auto)]
 

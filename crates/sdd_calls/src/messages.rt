@@ -5,7 +5,7 @@ use sdd_script::sdd_base::{ClassNo, Ts};
 use sdd_wire::{Msg, WireFault, decode, encode};
 use std::alloc::Global;
 
-/// A NULL of class 2 with time 191, and one byte behind it.
+/// A NULL of class 2 with time 191, and one byte after it.
 const BYTES: [u8; 14] = [11, 0, 0, 0, 2, 0, 0, 0, 0, 0, 0, 0, 191, 0];
 
 fn null() -> Msg {

@@ -11,7 +11,7 @@ use std::alloc::Global;
 use std::fs;
 use std::rt::Files;
 
-/// The error of a call that wants memory.
+/// The error of a call that ran out of memory.
 pub fn wanting(_error: NoMemory) -> Error {
     anyhow!("want of memory")
 }

@@ -1,6 +1,6 @@
 //! Runs the cases of its standard input through the top call, and prints what each answers.
 //!
-//! What is expected stands in `stdout`, made from outside. The input is text, line by line; blank
+//! What is expected stands in `stdout`, made elsewhere. The input is text, line by line; blank
 //! lines and lines that begin with `#` are skipped.
 //!
 //! | line | meaning |
@@ -24,9 +24,9 @@
 //! HEX spells, and `*N LINE` such a line N times.
 //!
 //! Printed are `case NAME`, then `run K` or `runs K to L` where the case has several (runs that
-//! follow each other and answer the same are told once), `status N`, the error line behind `!` and
-//! the text behind `|`, or `>` where no newline ends it. A line of the input that is none of these
-//! ends the program with status 1 and tells its number.
+//! follow each other and answer alike are printed once), `status N`, the error line after `!` and
+//! the text after `|`, or `>` where no newline ends it. A line of the input that is none of these
+//! ends the program with status 1, and its number is printed.
 #![tactic(auto)]
 
 mod answer;

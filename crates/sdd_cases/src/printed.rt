@@ -27,7 +27,7 @@ pub fn put_answer<W: Write>(out: &mut W, answer: &Answer) -> Result<()> {
     put_lines(out, b"|", answer.out.taken())
 }
 
-/// Writes each line behind the mark, and behind `>` what no newline ends.
+/// Writes each line after the mark, and after `>` what no newline ends.
 fn put_lines<W: Write>(out: &mut W, mark: &[u8], bytes: &[u8]) -> Result<()> {
     for line in bytes.split_inclusive(|byte| *byte == b'\n') {
         if line.ends_with(b"\n") {

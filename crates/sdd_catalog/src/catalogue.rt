@@ -41,8 +41,8 @@ impl Model for Catalogue {
 }
 
 impl Catalogue {
-    /// The catalogue of the parts, or their first fault. The rules on form and length are a
-    /// reader's, and are never told from here.
+    /// The catalogue of the parts, or their first fault. The rules on form and length are the
+    /// reader's; their faults never come from here.
     ///
     /// Costs time in the square of the relations, of the fragments, of the classes and of the reads
     /// of a class, and some steps for each fragment that a class reads or writes.

@@ -71,7 +71,7 @@ pub enum CatError {
     /// The first fault.
     #[error("the catalogue has a fault")]
     Fault(CatFault),
-    /// Want of memory.
+    /// Out of memory.
     #[error("no memory")]
     NoMemory,
 }

@@ -31,7 +31,7 @@ fn range_fault_at(rule: CatRule, range: KeyRange) -> CatFault
     }
 }
 
-/// The first fault behind a range, where these follow.
+/// The first fault after a range that is followed by these.
 #[tactic(auto, using(crate::proofs::RangeFaults::after_next, crate::proofs::RangeFaults::after_fault, crate::proofs::RangeFaults::after_last))]
 fn fault_after(first: KeyRange, rest: &[KeyRange]) -> Option<CatFault>
     ensures { result ≡ head_of (faults_after first rest.now) }

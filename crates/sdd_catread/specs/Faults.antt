@@ -1,4 +1,4 @@
--- Where the faults of a file are told, and readings of the parts that have numbers.
+-- Where in a file its faults are reported, and readings of the parts that have numbers.
 use Rattle.std.specs.Prelude.{ℕ, List, Result}
 use Rattle.sdd_base.specs.Readings.{along}
 use Rattle.sdd_catalog.specs.declared.fault.CatFault.{CatFault}

@@ -1,4 +1,4 @@
--- What the values and fields of a catalogue's tables are. A reading is told the location at which its fault is.
+-- What the values and fields of a catalogue's tables are. A reading is given the location of its fault.
 use Rattle.std.specs.Prelude.{ℕ, ℤ, pos, ◌^◌, nat_lt, Bool, true, ◌&&◌, if◌then◌else◌, List, [], ◌∷◌, codes, Option, Some, None, is_some, Result, Ok, Err}
 use Rattle.std.specs.List.{list_any, list_all}
 use Rattle.std.specs.Str.{bytes_eq}

@@ -68,7 +68,7 @@ abbrev pub end_of : Head → Draft → List Word → Result Draft WorkRule
 end_of head draft [] = Ok (record draft { stage = Ended head })
 end_of head draft _ = Err BadLine
 
--- a line behind the first, by its key and the words behind it
+-- a line after the first, by its key and the words after it
 abbrev pub event_rules : Key → Head → Draft → List Word → Result Draft WorkRule
 event_rules keys.Step head draft words = site_of head.backups words >>= λ i. with_act draft (Step i)
 event_rules keys.Deliver head draft words =

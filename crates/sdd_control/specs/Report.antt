@@ -17,7 +17,7 @@ value_word Unknown = codes "unknown"
 value_word All = codes "all"
 value_word Nought = codes "none"
 
--- a number behind a space
+-- a number after a space
 abbrev pub spaced : ℕ → List ℕ
 spaced n = 32 ∷ decimal n
 
@@ -33,7 +33,7 @@ note_words (notes.Ignored i) = codes "ignored" ++ spaced i
 note_words (notes.Value i j val) = codes "value" ++ spaced i ++ 32 ∷ value_word val
 note_words (notes.Stop i) = codes "stop" ++ spaced i
 
--- a note behind its event's number
+-- a note after its event's number
 abbrev pub note_line : ℕ → Note → List ℕ
 note_line number note = decimal number ++ 32 ∷ note_words note ++ 10 ∷ []
 

@@ -1,4 +1,4 @@
--- A control file, line by line. The first line at fault is told, with its number.
+-- A control file, line by line. The first line at fault is reported, with its number.
 use Rattle.std.specs.Prelude.{ℕ, ◌+◌, ◌^◌, nat_lt, Bool, true, false, List, [], ◌∷◌, length, Result, Ok, Err, if◌then◌else◌}
 use Rattle.std.specs.Str.{is_utf8}
 use Rattle.sdd_script.specs.declared.fault.WorkFault.{WorkFault}
@@ -22,11 +22,11 @@ abbrev pub at_line : {A : Type 0} → ℕ → Result A WorkRule → (A → Resul
 at_line line (Ok x) read_on = read_on x
 at_line line (Err rule) read_on = Err (record { line = line; rule = rule })
 
--- behind the line `end` no line may stand
+-- after the line `end` no line may stand
 abbrev pub one_line : Draft → List ℕ → Result Draft WorkRule
 one_line draft line = if is_ended draft.stage then Err BadLine else line_rules draft line
 
--- what stands behind the last newline, and the script where nothing does
+-- what stands after the last newline, and the script where nothing does
 abbrev pub tail_rules : Stage → List Act → List ℕ → Result ControlScript WorkRule
 tail_rules (Ended head) acts [] =
     Ok (record { backups = head.backups; writes = head.writes; acts = acts })
@@ -34,7 +34,7 @@ tail_rules (Ended head) acts (c ∷ cs) = Err BadLine
 tail_rules _ acts [] = Err NoEnd
 tail_rules _ acts (c ∷ cs) = if is_utf8 (c ∷ cs) then Err NoEnd else Err NotUtf8
 
--- the lines, of which the first has this number, and what stands behind the last newline
+-- the lines, of which the first has this number, and what stands after the last newline
 unfoldable pub walk : ℕ → Draft → List (List ℕ) → List ℕ → Result ControlScript WorkFault
 walk line draft [] tail =
     at_line line (tail_rules draft.stage draft.acts tail) (λ script. Ok script)

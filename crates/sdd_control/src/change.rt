@@ -126,7 +126,7 @@ impl State {
         say_gone_to_all(&mut self.links, self.backups, site)
     }
 
-    /// Adds what a note tells. Costs constant time, and time linear in the sites where one stops.
+    /// Adds what a note says. Costs constant time, and time linear in the sites where one stops.
     pub fn add(&mut self, note: &Note) -> Result<(), NoMemory>
         requires sized { IsSized self.old }
         requires fits { NoteFits self.old.backups note.now }

@@ -11,7 +11,7 @@ use sdd_script::{WorkError, WorkFault, WorkRule};
 pub enum LineError {
     /// The first rule that it breaks.
     Broken(WorkRule),
-    /// Want of memory.
+    /// Out of memory.
     NoMemory,
 }
 
@@ -50,7 +50,7 @@ pub fn must(rule: WorkRule, holds: bool) -> Result<(), LineError>
     if holds { Ok(()) } else { broken(rule) }
 }
 
-/// What a line answered, its fault told at the line's number.
+/// What a line gave, its fault with the line's number.
 pub fn at_line<T>(line: u32, read: Result<T, LineError>) -> Result<T, WorkError>
     ensures { MatchResult read (λ x. result ≡ Ok x) (λ e. result ≡ Err (told_at line e)) }
 {

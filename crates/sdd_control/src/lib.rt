@@ -7,7 +7,7 @@
 //!
 //! What the layer above gets: `read_control` gives exactly the script that the bytes of a file give,
 //! or its first fault (`specs/Walk.antt`), and `write_report` the text that the script makes
-//! (`specs/Report.antt`). `Control` answers the note of each event, and the laws promise for every
+//! (`specs/Report.antt`). `Control` returns the note of each event, and the laws promise for every
 //! list of events what `specs/Laws.antt` says.
 #![tactic(auto)]
 

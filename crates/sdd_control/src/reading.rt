@@ -43,7 +43,7 @@ fn unended(tail: &[u8]) -> WorkRule
     }
 }
 
-/// The script, where nothing stands behind the last newline.
+/// The script, where nothing stands after the last newline.
 fn finish(draft: Draft, tail: &[u8]) -> Result<ControlScript, LineError>
     ensures { Gives (λ script. script) result (tail_rules draft.stage draft.acts tail.now) }
 {

@@ -12,6 +12,6 @@ pub enum Stage {
     First,
     /// It is an event or the end.
     Events(Head),
-    /// It is behind the end.
+    /// It is after the end.
     Ended(Head),
 }

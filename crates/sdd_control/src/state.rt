@@ -32,7 +32,7 @@ pub struct State {
     pub stopped: Table<bool>,
     /// Which sites have finished.
     pub finished: Table<bool>,
-    /// The value that a site took last, behind the site from which it came.
+    /// The value that a site took last, with the site from which it came.
     pub values: Table<Option<(u32, Val)>>,
     /// The number of the last write that a site made, 0 before the first.
     pub numbers: Table<u32>,

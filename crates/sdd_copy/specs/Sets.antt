@@ -1,4 +1,4 @@
--- When dated changes are one set, whose order tells nothing.
+-- When dated changes are one set, whose order doesn't matter.
 use Rattle.std.specs.Prelude.{ℕ, ◌≡◌, Contains}
 use Rattle.sdd_lang.specs.All.{Change}
 use Rattle.sdd_copy.specs.Contents.{Dated}

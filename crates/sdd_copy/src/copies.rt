@@ -49,7 +49,7 @@ impl Copies {
         Ok(Copies { copies, live: true })
     }
 
-    /// Whether no call has answered want of memory. After one that has, the copies are only dropped.
+    /// False once a call ran out of memory; after that the copies are only dropped.
     pub fn live(&self) -> bool
         ensures { result ≡ self.now.live }
     {

@@ -49,7 +49,7 @@ impl FragCopy {
         })
     }
 
-    /// Whether no call has answered want of memory. After one that has, the copy is only dropped.
+    /// False once a call ran out of memory; after that the copy is only dropped.
     pub fn live(&self) -> bool
         ensures { result ≡ self.now.live }
     {

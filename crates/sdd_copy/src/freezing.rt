@@ -42,7 +42,7 @@ fn found_in(alloc: Global, one: &Use, copies: &Copies) -> Result<Vec<(i64, Row)>
     Ok(found)
 }
 
-/// Puts more rows behind those that were found, of which the first are taken as they stand.
+/// Puts more rows after those that were found, of which the first are taken as they stand.
 fn add_all(found: &mut Vec<(i64, Row)>, mut more: Vec<(i64, Row)>) -> Result<(), NoMemory>
     ensures { OnOk result (found.new.items ≡ found.old.items ++ more.items) }
 {

@@ -23,7 +23,7 @@ pub(crate) struct KeptItems {
     /// The key column of the fragment's relation.
     key: u32,
     /// Whether each row has its item's key in that column, so that restrictions on the column say
-    /// which keys are to be looked at. It has, unless a caller tells another column.
+    /// which keys are to be looked at. It has, unless a caller names another column.
     keyed: bool,
 }
 

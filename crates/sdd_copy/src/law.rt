@@ -11,7 +11,7 @@ pub fn law_contents()
 {}
 
 /// The contents are a function of the set of changes: neither their order nor how often one comes
-/// tells, where two different changes of one item have different dates.
+/// matters, where two different changes of one item have different dates.
 pub fn law_order()
     ensures { (f : ℕ) (xs ys : Dated) → DatesDiffer xs → AreSame xs ys
         → contents f xs ≡ contents f ys }

@@ -101,7 +101,7 @@ impl Space {
         listed(self.alloc, known)
     }
 
-    /// Keeps of a use the rows whose column is among the values. Where memory is wanting, all stays
+    /// Keeps of a use the rows whose column is among the values. Where memory runs out, all stays
     /// as it was.
     ///
     /// O((n + v) log v) for n rows and v values, which are copied into a set.

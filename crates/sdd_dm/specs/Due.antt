@@ -67,8 +67,8 @@ abbrev pub or_zero : Option ℕ → ℕ
 or_zero None = 0
 or_zero (Some w) = w
 
--- a READ that doesn't wait is rejected by the first condition that spoils it; else it is answered where no condition
--- lacks; else it waits for those that lack
+-- a READ that doesn't wait is rejected by the first condition that spoils it; else it is answered where every condition
+-- is met; else it waits for those that aren't
 abbrev pub judged : View → List Cond → Option Cond → Step
 judged v lacking (Some d) = Refuses d.class (time_at (or_zero (last_write_for v d)))
 judged v [] None = Processes
@@ -91,7 +91,7 @@ head_step v k = step_on v k.class k.waits (head k.pipe)
 
 -- the act of a head that does so
 
--- an Answer freezes the rows, and READY tells their counts
+-- an Answer freezes the rows, and READY carries their counts
 abbrev pub answer_act : Home → View → ℕ → Msg → Act
 answer_act h v c (Read ts class txn attempt conds uses) =
     Records c (Answer txn attempt h.dm) ((source_of h c, Ready ts class (counts_held (frozen_at (dated_in v) (Some (Read ts class txn attempt conds uses))))) ∷ [])

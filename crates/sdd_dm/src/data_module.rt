@@ -63,7 +63,7 @@ impl DataModule {
         })
     }
 
-    /// The copies of its fragments, lent: they hold what the changes that the log tells leave. O(1),
+    /// The copies of its fragments, lent: they hold what the changes in the log leave. O(1),
     /// and takes no memory.
     pub fn copies(&self) -> &Copies
         ensures live { (setting : Setting) (log : Log) → Stands self.now setting log

@@ -47,7 +47,7 @@ fn reader_holds(
     }
 }
 
-/// Whether a WRITE of the class is held back. The READ of the class that the hint tells is asked
+/// Whether a WRITE of the class is held back. The READ of the class that the hint names is asked
 /// first.
 pub fn is_held(
     pipes: &Pipes,

@@ -3,8 +3,8 @@
 //!
 //! The one contract to the layer above: `DataModule` is a `Module` whose acts are those that
 //! `specs/Due.antt` makes due at its site. It keeps far less than the log: of each pipe what
-//! conditions ask, the copies, and the rows that are frozen (`specs/State.antt`); for which logs it
-//! stands is in `specs/Stands.antt`.
+//! conditions ask, the copies, and the rows that are frozen (`specs/State.antt`); which logs it
+//! stands for is defined in `specs/Stands.antt`.
 #![tactic(auto)]
 
 mod conditions;

@@ -3,7 +3,7 @@ ghost use Rattle.std.specs.Prelude.{◌≡◌, ◌++◌, IfOk};
 use sdd_lang::sdd_base::{NoMemory, Parcel};
 use sdd_lang::sdd_catalog::ClassPart;
 
-/// The classes with copies of the others behind them.
+/// The classes with copies of the others after them.
 pub(crate) fn with_copies(
     mut all: Vec<ClassPart>,
     others: &[ClassPart],

@@ -7,7 +7,7 @@ use sdd_lang::sdd_base::{Listed, NoMemory};
 use sdd_lang::sdd_catalog::{CatError, Catalogue, ClassPart, Parts};
 use std::alloc::Global;
 
-/// The catalogue with the classes behind those that are there, or the first fault of these classes:
+/// The catalogue with the classes after those that are there, or the first fault of these classes:
 /// the rules on classes are continued, so their numbers go on, and a name that a class has is taken.
 ///
 /// Costs time in the square of what there is, since it builds the catalogue anew.
@@ -25,7 +25,7 @@ pub fn extend(
     Catalogue::build(alloc, &parts)
 }
 
-/// The parts with the classes behind those that are there.
+/// The parts with the classes after those that are there.
 fn add_classes(parts: Parts, classes: &[ClassPart]) -> Result<Parts, NoMemory>
     ensures { IfOk result (λ all. all ≡ with_classes (parts.classes ++ classes.now) parts) }
 {

@@ -9,7 +9,7 @@ use sdd_lang::sdd_base::{Listed, NoMemory, Row, Value};
 use sdd_lang::{Ref, value_in};
 use std::alloc::Global;
 
-/// Of each part the place of one row, counted from 0. A place that isn't told is 0.
+/// Of each part the place of one row, counted from 0. A place that isn't given is 0.
 pub type Choice = Listed<usize>;
 
 /// The place of a part in a choice.

@@ -33,7 +33,7 @@ pub fn effect(
     effect_over(alloc, cat, txn, &Shipped { cat, snap })
 }
 
-/// A snapshot tells the effect: two databases that it serves for a transaction have one.
+/// A snapshot determines the effect: all databases that it serves for a transaction give the same.
 pub fn law_one_effect()
     ensures { (cat : catalogues.Catalogue) (txn : transactions.Txn) (snap : snapshots.Shipped) (db other : Database)
         → IsDatabase cat db → IsDatabase cat other → Serves cat txn snap db → Serves cat txn snap other → of_databases.effect cat db txn ≡ of_databases.effect cat other txn }

@@ -17,7 +17,7 @@ abbrev pub AllGt : ℕ → List ℕ → Type 0
 AllGt k [] = Unit {0}
 AllGt k (x ∷ xs) = (k < x) × AllGt k xs
 
--- each is above those behind it
+-- each is above those after it
 abbrev pub IsFalling : List ℕ → Type 0
 IsFalling [] = Unit {0}
 IsFalling (x ∷ xs) = AllLt x xs × IsFalling xs

@@ -1,11 +1,11 @@
-//! What holds of every permitted log, told by the logs of its sites at places of the one log.
+//! What holds of every permitted log, said of the logs of its sites at places of the one log.
 //!
 //! The one contract to the layer above: each invariant is the conclusion of a law function. First
 //! what each act that is due at a site is (`steps_laws`), then what holds of the log of one site
 //! that runs transactions (`invariants_laws`), of one data module (`processing_laws`), of U and
 //! the transaction modules' holds (`holds_laws`); then, across sites, what is handed over and at
 //! which place (`traffic_laws`), what a data module has seen (`seen_laws`), what each record has
-//! as its cause (`records_laws`), and on which side of an undeclared transaction another one is
+//! as its cause (`records_laws`), and whether a transaction is before or after an undeclared one
 //! (`barrier_laws`).
 #![tactic(auto)]
 

@@ -76,7 +76,7 @@ impl Keys {
         }
     }
 
-    /// Whether the first of these keys isn't behind the last of the others.
+    /// Whether the first of these keys isn't after the last of the others.
     fn begin_before(&self, others: &Keys) -> bool
         ensures { result ≡ int_le self.now.0 others.now.1 }
     {

@@ -21,7 +21,7 @@ pub type Entries = Listed<Entry>;
 
 /// Where the rows come from on which a transaction's statements work.
 ///
-/// A statement is told by how many uses stand before it in its transaction: a statement has one use
+/// A statement is known by how many uses stand before it in its transaction: it has one use
 /// for each relation that it reads.
 pub trait Source {
     // What a query finds.

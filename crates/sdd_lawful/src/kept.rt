@@ -4,7 +4,7 @@ ghost use Rattle.sdd_invariants.specs.All.{Given, IsForce, IsLawful, IsPermitted
 ghost use Rattle.sdd_laws.specs.All.{AreAllApplied, AreFew, Eras, HasNoCycle, IsOrderable, IsReplyOf, IsSerial, KeepsEras, KeepsLaws, NumbersExist, TxnsExist, copy_at, items_of, run};
 ghost use Rattle.sdd_lawful.specs.Given.{AreErasOf, AreNumbered, HasSoundData, IsSoundGiven, SubmitGiven, one_era};
 
-/// All laws by which there is a serial order. That of eras is taken: it holds of lawful logs alone.
+/// All laws that give a serial order. That of eras is assumed: it holds of lawful logs alone.
 pub fn law_kept()
     ensures { (given : Given) (rows : List (RelNo × Row)) (eras : Eras) (log : Log)
         → IsSoundGiven given → HasSoundData given rows → IsPermitted given log
@@ -38,7 +38,7 @@ pub fn law_ordered()
         → IsOrderable given.catalogue (history log) }
 {}
 
-/// The same where no further list of classes is put in force: then nothing is taken of eras.
+/// The same where no further list of classes is put in force: then nothing is assumed of eras.
 pub fn law_one_list()
     ensures acyclic { (given : Given) (rows : List (RelNo × Row)) (log : Log)
         → IsSoundGiven given → HasSoundData given rows → IsPermitted given log

@@ -41,8 +41,8 @@ pub fn law_conditions()
         → KeepsConditions given.catalogue eras (history log) }
 {}
 
-/// The law of rejections: a transaction starts again only since a write came before one of its READs
-/// that it should not have come before.
+/// The law of rejections: a transaction starts again only if a write came before one of its READs
+/// and should have come after it.
 pub fn law_rejections()
     ensures { (given : Given) (log : Log) (eras : Eras) → IsSoundGiven given
         → IsPermitted given log → AreErasOf given log eras

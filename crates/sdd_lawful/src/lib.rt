@@ -3,7 +3,7 @@
 //! The one contract to the layer above: of a sound given and a permitted log the records of the log
 //! keep the laws (`law_starts` to `law_undeclared`); so no cycle of precedence is among its committed
 //! transactions (`law_ordered`, `law_one_list`), and one plain database gives their replies along a
-//! serial order (`law_replayed`). Which entry of the log made which record is told by `law_places`.
+//! serial order (`law_replayed`). `law_places` says which entry of the log made which record.
 #![tactic(auto)]
 
 mod kept;

@@ -1,4 +1,4 @@
--- Eras: the catalogues that are in force one after the other, each with the event from which it is. The catalogue beside
+-- Eras: the catalogues that are in force one after the other, each with the event from which it is in force. The catalogue beside
 -- them has the classes of all eras with their sets.
 use Rattle.std.specs.Prelude.{ℕ, suc, nat_le, ◌-◌, ◌<◌, ◌≡◌, List, filter, length, Some, slice_get, slice_index_or}
 use Rattle.sdd_lang.specs.All.{Catalogue}

@@ -1,4 +1,4 @@
--- What a history tells of committed transactions, and the copies that they read.
+-- What a history says of committed transactions, and the copies that they read.
 use Rattle.std.specs.Prelude.{ℕ, Bool, List, [], Contains, fold}
 use Rattle.sdd_lang.specs.All.{Catalogue, Change, Database, Item, Row, read_set, with_row}
 use Rattle.sdd_lang.specs.declared.effect.Effect.{Effect}

@@ -23,7 +23,7 @@ pub data Meets {T : Type 0} (cat : Catalogue) (L : Ledger T) (x y : T) : Meeting
 abbrev pub MayStandFirst : {T : Type 0} → Catalogue → Ledger T → T → T → Type 0
 MayStandFirst cat L x y = (m : Meeting) → Meets cat L x y m → may_stand_first m ≡ true
 
--- each may stand before those behind it
+-- each may stand before those after it
 abbrev pub IsAlong : {T : Type 0} → Catalogue → Ledger T → List T → Type 0
 IsAlong cat L [] = Unit {0}
 IsAlong cat L (x ∷ rest) = ((y : _) → Contains rest y → MayStandFirst cat L x y) × IsAlong cat L rest

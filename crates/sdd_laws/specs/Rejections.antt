@@ -1,5 +1,5 @@
--- The law of rejections (H6): a transaction starts again only since a write came before one of its READs that it should
--- not have come before.
+-- The law of rejections (H6): a transaction starts again only because a write came before one of its READs, and should
+-- have come after it.
 use Rattle.std.specs.Prelude.{ℕ, suc, ◌≤◌, ◌<◌, ◌≡◌, Some}
 use Rattle.sdd_lang.specs.All.{Catalogue, Cond, Ts, class_no, dm_no, time_at, txn_no}
 use Rattle.sdd_history.specs.declared.record.Rec.TheVariants.{Reject}

@@ -1,4 +1,4 @@
--- What one plain database gives that runs the transactions of an order one by one.
+-- What one plain database gives if it runs the transactions of an order one by one.
 use Rattle.std.specs.Prelude.{ℕ, ◌≡◌, pos, true, List, [], ◌∷◌, filter_map, refl}
 use Rattle.sdd_lang.specs.All.{Catalogue, Database, Ge, Int, Le, Op, RelNo, Reply, Row, Rows, TxnNo, database_of, rel_no, serial, tm_no, txn_no}
 use Rattle.sdd_history.specs.Records.{History}
@@ -30,7 +30,7 @@ abbrev pub AreAllApplied : History → ℕ → ℕ → ℕ → Type 0
 AreAllApplied h f d k = (t : Committed) → IsCommitted h t → changes t f ≡ true → AppliedBefore h t.start.txn d k
 
 -- Worked: each of two transactions asks for the values of one half of the keys and puts a row into the other half. The
--- second saw the row that the first put, and so it stands behind it.
+-- second saw the row that the first put, and so it stands after it.
 
 abbrev halves : Op → ℕ → Row → Txn
 halves op bound row =
@@ -47,12 +47,12 @@ halves op bound row =
 abbrev two_texts : ℕ → List Txn
 two_texts value = halves Le 9 (row_of 11 1) ∷ halves Ge 10 (row_of 1 value) ∷ []
 
--- along the serial order the run gives the replies that the Commits tell
+-- along the serial order the run gives the replies of the Commits
 pub replies_along : (run crossing [] (two_texts 1) (serial_order crossing waits_for_other)).0
     ≡ Rows ([] ∷ []) ∷ Rows (((Int (pos 1) ∷ []) ∷ []) ∷ []) ∷ []
 replies_along = refl
 
--- where the second puts another value than the first, the replies tell the order: in this one it sees the first's row
+-- where the second puts another value than the first, the replies depend on the order: in this one it sees the first's row
 pub replies_in_order : (run crossing [] (two_texts 2) (txn_no 1 ∷ txn_no 2 ∷ [])).0
     ≡ Rows ([] ∷ []) ∷ Rows (((Int (pos 1) ∷ []) ∷ []) ∷ []) ∷ []
 replies_in_order = refl

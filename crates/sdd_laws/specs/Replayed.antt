@@ -1,4 +1,4 @@
--- What one plain database gives that runs the transactions one by one.
+-- What one plain database gives if it runs the transactions one by one.
 use Rattle.std.specs.Prelude.{ℕ, ◌≡◌, Bool, true, List, [], ◌∷◌, map, Contains}
 use Rattle.sdd_lang.specs.All.{Catalogue, Change, Database, IsDatabase, Item, Reply, after_changes, effect, rows_in_fragment, serial}
 use Rattle.sdd_laws.specs.Committed.{all_dated, copy_of, entries_of}
@@ -23,7 +23,7 @@ run cat first L order = serial cat first (map L.text order)
 abbrev pub ChangesOf : {T : Type 0} → Ledger T → T → ℕ → Type 0
 ChangesOf L x f = (c : Change) × Contains (changes L x) c × (c.frag.0 ≡ f)
 
--- The serial run along an order gives what the Commits tell, and leaves what the copies hold.
+-- The serial run along an order gives what the Commits record, and leaves what the copies hold.
 pub record IsReplayed {T : Type 0} (cat : Catalogue) (first : Database) (L : Ledger T) (commits order : List T) : Type 0 where
   pub gives : Gives cat L first order
   pub replies : (run cat first L order).0 ≡ map (λ x. (L.result x).reply) order

@@ -32,7 +32,7 @@ pub fn law_copy_holds_values<T>(cat: &Catalogue)
     cat.known();
 }
 
-/// The order in which changes come to a copy, and how often one does, tells nothing: it is what the
+/// In which order, and how often, changes come to a copy makes no difference: it is what the
 /// set of them leaves.
 pub fn law_any_order<T>(cat: &Catalogue)
     ensures { (first : Database) (w : Writers T) (commits : List T) (applied : T → Bool) (f : ℕ) (xs : Dated)

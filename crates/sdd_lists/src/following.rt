@@ -10,7 +10,7 @@ use sdd_script::sdd_catalog::{CatError, Catalogue, ClassPart, ClassParts};
 use std::alloc::Global;
 use std::mem;
 
-/// The catalogue with these classes behind its own, where they break no rule there.
+/// The catalogue with these classes after its own, where they break no rule there.
 fn with_further(
     alloc: Global,
     catalogue: &Catalogue,
@@ -26,7 +26,7 @@ fn with_further(
     }
 }
 
-/// What is in force behind a catalogue with these classes: those that it has retire.
+/// What is in force after a catalogue with these classes: those that it has retire.
 fn next_era(alloc: Global, last: &Catalogue, classes: &[ClassPart]) -> Result<Catalogue, NoMemory>
     requires { further_faults (retired (length last.now.classes) last.now) classes.now ≡ [] }
     ensures { IfOk result (λ next. next ≡ with_further classes.now (retired (length last.now.classes) last.now)) }

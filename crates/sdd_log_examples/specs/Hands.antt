@@ -70,7 +70,7 @@ history_of_from_two_senders = refl
 pub all_of_from_two_senders : (next given_from_two_senders log_of_from_two_senders ≡ None) × (length log_of_from_two_senders ≡ 16) × (marks log_of_from_two_senders ≡ 6)
 all_of_from_two_senders = (refl, refl, refl)
 
--- two puts come at once: the first is applied before the second is handed over; an acknowledgement tells the greatest number up to which all came
+-- two puts come at once: the first is applied before the second is handed over; an acknowledgement carries the greatest number up to which all came
 
 abbrev pub catalogue_of_two_at_once : Catalogue
 catalogue_of_two_at_once = record {

@@ -5,7 +5,7 @@ use Rattle.sdd_graph.specs.declared.edge.Edge.TheVariants.{Vertical}
 use Rattle.sdd_log.specs.history.declared.record.Rec.TheVariants.{Submit as Submission}
 use Rattle.sdd_log.specs.catalog.declared.parts.Kind.TheVariants as kinds
 
--- a module that runs no class is let go: its clock goes on from the timestamp, and tells in the next HELD
+-- a module that runs no class is let go: its clock goes on from the timestamp, as the next HELD shows
 
 abbrev pub catalogue_of_released_without_classes : Catalogue
 catalogue_of_released_without_classes = record {

@@ -9,11 +9,11 @@ next state = (state * 1103515245 + 12345) % 2 ^ 31
 abbrev pub shown : ℕ → ℕ → ℕ
 shown below state = (state / 65536) % below
 
--- what is made of drawn numbers, and the state behind them
+-- what is made of drawn numbers, and the state after them
 abbrev pub Drawing : Type 0 → Type 0
 Drawing A = ℕ → A × ℕ
 
--- one drawing and then the next, which is told what the first one made
+-- one drawing and then the next, which is given what the first one made
 infixl 10 ◌>>=◌
 abbrev pub ◌>>=◌ : {A B : Type 0} → Drawing A → (A → Drawing B) → Drawing B
 first >>= then_made = λ state. then_made (first state).0 (first state).1

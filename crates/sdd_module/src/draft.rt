@@ -33,7 +33,7 @@ impl Draft {
         }
     }
 
-    /// Adds a record behind the others.
+    /// Adds a record after the others.
     pub fn record(&mut self, rec: Rec) -> Result<(), NoMemory>
         ensures { OnOk result (self.new ≡ record self.old { recs = self.old.recs ++ rec ∷ [] }) }
     {
@@ -41,7 +41,7 @@ impl Draft {
         Ok(())
     }
 
-    /// Adds a message behind the others.
+    /// Adds a message after the others.
     pub fn send(&mut self, to: Site, msg: Msg) -> Result<(), NoMemory>
         ensures { OnOk result (
             self.new ≡ record self.old { out = self.old.out ++ (to, msg) ∷ [] }) }

@@ -18,14 +18,14 @@ pub trait Module: Drop {
     /// What a message has to meet when it is handed to the site.
     ghost fits: { Setting → Bases → Log → Site → Msg → Type 0 };
 
-    /// No call on the module answered want of memory.
+    /// True until a call on the module runs out of memory.
     ghost is_live: { Self → Bool };
 
     fn live(&self) -> bool
         ensures { result ≡ is_live self.now };
 
     /// Takes a message from another site, and then makes each act that is due, one after the
-    /// other, until none is: it answers what these send and record. After want of memory it takes
+    /// other, until none is: it returns what these send and record. Once out of memory it takes
     /// nothing more.
     fn take(&mut self, from: Site, msg: Msg) -> Result<Outcome, NoMemory>
         requires lives { IsTrue (is_live self.old) }

@@ -51,7 +51,7 @@ IsSender b x = IsWithin (length b.queues) (place_of x)
 abbrev pub mailbox_at : {M : Type 0} → List (Mailbox M) → ℕ → Mailbox M
 mailbox_at boxes d = slice_index_or boxes (d - 1) (record { down = false; queues = [] })
 
--- a message is put behind those of its sender
+-- a message is put after those of its sender
 pub record Puts {M : Type 0} (old new : Mailbox M) (from : Site) (msg : M) : Type 0 where
   pub down : new.down ≡ old.down
   pub count : length new.queues ≡ length old.queues

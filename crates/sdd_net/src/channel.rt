@@ -58,7 +58,7 @@ impl<M: Parcel> Channel<M> {
         self.flight.send(Packet::Message(number, msg))
     }
 
-    /// Sends a packet for each unacknowledged message, and tells whether there was one.
+    /// Sends a packet for each unacknowledged message, and returns whether there was one.
     pub fn resend(&mut self) -> Result<bool, NoMemory>
         requires { IsTrue self.old.flight.live }
         ensures some { IfOk result (λ some. some ≡ not (is_empty self.old.sender.value.unacked)) }
@@ -79,7 +79,7 @@ impl<M: Parcel> Channel<M> {
         Ok(self.sender.unacked() > 0)
     }
 
-    /// Whether nothing is in flight or unacknowledged. Takes constant time.
+    /// Whether no packet is in flight and every message is acknowledged. Takes constant time.
     pub fn is_quiet(&self) -> bool
         ensures { result ≡ quiet_at (Some self.now) }
     {

@@ -81,7 +81,7 @@ pub fn repeat_at<M: Parcel>(
     channel.flight.repeat(place)
 }
 
-/// Sends a packet for each unacknowledged message, and tells whether there was one.
+/// Sends a packet for each unacknowledged message, and returns whether there was one.
 #[tactic(auto, using(crate::proofs::Places::live_places))]
 pub fn resend_at<M: Parcel>(channels: &mut Vec<Channel<M>>, at: usize) -> Result<bool, NoMemory>
     requires live { IsLiveAt (slice_get channels.old.items at) }

@@ -41,7 +41,7 @@ impl<M: Parcel> Flight<M> {
         }
     }
 
-    /// Whether no call has answered want of memory. Where one has, the flight is only dropped.
+    /// False once a call ran out of memory; after that the flight is only dropped.
     pub fn live(&self) -> bool
         ensures { result ≡ self.now.live }
     {

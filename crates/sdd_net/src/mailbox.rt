@@ -42,7 +42,7 @@ impl<M: Drop> Mailbox<M> {
         })
     }
 
-    /// Puts a message behind those of its sender.
+    /// Puts a message after those of its sender.
     pub fn put(&mut self, from: Site, msg: M) -> Result<(), NoMemory>
         requires { IsSender self.old from }
         ensures puts { OnOk result (Puts self.old self.new from msg) }
@@ -83,7 +83,7 @@ fn site_at(place: usize) -> Site
     Site::T(TmNo(place as u8))
 }
 
-/// Puts an item behind those of one list.
+/// Puts an item after those of one list.
 fn push_at<M: Drop>(queues: &mut Vec<VecDeque<M>>, place: usize, msg: M) -> Result<(), NoMemory>
     requires { place < length queues.old.items }
     ensures count { length queues.new.items ≡ length queues.old.items }

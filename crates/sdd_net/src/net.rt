@@ -70,7 +70,7 @@ impl<M: Parcel> Net<M> {
         })
     }
 
-    /// Whether no call has answered want of memory. Where one has, the net is only dropped.
+    /// False once a call ran out of memory; after that the net is only dropped.
     pub fn live(&self) -> bool
         ensures { result ≡ self.now.live }
     {
@@ -194,7 +194,7 @@ impl<M: Parcel> Net<M> {
         Ok(some)
     }
 
-    /// Whether no packet is in flight and nothing is unacknowledged.
+    /// Whether no packet is in flight and every message is acknowledged.
     ///
     /// Takes no memory, and constant time for each link.
     pub fn quiet(&self) -> bool

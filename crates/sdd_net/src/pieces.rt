@@ -144,7 +144,7 @@ pub fn add_times(events: &mut Vec<Event>, event: Event, count: usize) -> Result<
     Ok(())
 }
 
-/// The place of the last piece, or of a new one behind it where that is full.
+/// The place of the last piece, or of a new one after it where that is full.
 fn open_piece<T: Drop>(pieces: &mut Vec<VecDeque<T>>) -> Result<usize, NoMemory>
     ensures last { IfOk result (λ at. length pieces.new.items ≡ at + 1) }
     ensures same { flat_map (λ q. q.items) pieces.new.items ≡ flat_map (λ q. q.items) pieces.old.items }

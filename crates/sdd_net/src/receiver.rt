@@ -41,7 +41,7 @@ impl<M: Parcel> Receiver<M> {
         }
     }
 
-    /// Whether no call has answered want of memory. Where one has, the receiver is only dropped.
+    /// False once a call ran out of memory; after that the receiver is only dropped.
     pub fn live(&self) -> bool
         ensures { result ≡ self.now.live }
     {
@@ -57,8 +57,8 @@ impl<M: Parcel> Receiver<M> {
 
     /// Takes message `no` and gives the messages that have just come to belong to 1 to k, in order.
     ///
-    /// Costs O(log w) for w messages that wait, and as much for each message that it gives. Where none
-    /// waits, the next message is handed on as it comes, in constant time.
+    /// Costs O(log w) for w messages that wait, and as much for each message that it gives. Where no
+    /// message waits, the next one is handed on as it comes, in constant time.
     #[tactic(auto, using(crate::proofs::Turns::turns))]
     pub fn arrive(&mut self, no: u32, msg: M) -> Result<Parcels<M>, NoMemory>
         requires live { IsTrue self.old.live }

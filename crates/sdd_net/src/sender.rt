@@ -42,7 +42,7 @@ impl<M: Parcel> Sender<M> {
         }
     }
 
-    /// Whether no call has answered want of memory. Where one has, the sender is only dropped.
+    /// False once a call ran out of memory; after that the sender is only dropped.
     pub fn live(&self) -> bool
         ensures { result ≡ self.now.live }
     {
@@ -64,7 +64,7 @@ impl<M: Parcel> Sender<M> {
         self.unacked.len() as u32
     }
 
-    /// Whether nothing is unacknowledged. Takes constant time.
+    /// Whether every message is acknowledged. Takes constant time.
     pub fn is_done(&self) -> bool
         ensures { result ≡ is_empty self.now.value.unacked }
     {

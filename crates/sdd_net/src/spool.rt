@@ -79,7 +79,7 @@ impl<M: Drop> Spool<M> {
         was_down
     }
 
-    /// Keeps a message for a module, behind those of its sender. Out of memory the spool stays as it
+    /// Keeps a message for a module, after those of its sender. Out of memory the spool stays as it
     /// was.
     pub fn put(&mut self, dm: DmNo, from: Site, msg: M) -> Result<(), NoMemory>
         requires first { 1 ≤ dm.0 }

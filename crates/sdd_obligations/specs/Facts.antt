@@ -1,9 +1,9 @@
--- What the modules of a system ask, and that links exist: of what is next on each lawful log.
+-- What the modules of a system require of what is next on each lawful log, and that its links exist.
 use Rattle.std.specs.Prelude.{ℕ, suc, ◌∷◌, ◌≡◌, Some}
 use Rattle.sdd_invariants.specs.All.{Act, AllLinked, Does, Given, Hand, IsLawful, IsSiteOf, IsWithin, Log, Mark, Msg, Redeclares, Site, Submitted, T, Tick, Txn, base_of, force_at, local_of, next, redeclares, sends_of_act, setting_of, tm_no, txn_at}
 use Rattle.sdd_obligations.specs.Real.{FitsForce, IsGood, fits, fits_submit, fits_tick}
 
--- Of all that is given so: what the modules ask of messages, transactions, ticks and further lists of classes holds of what is next on its lawful
+-- Of all that is given so: what the modules require of messages, transactions, ticks and further lists of classes holds of what is next on its lawful
 -- logs, and what is put goes along links.
 pub record Facts : Type 0 where
   pub hand : (g : Given) → IsGood g → (log : Log) (a b : Site) (n : ℕ) (m : Msg) → IsLawful g log → IsWithin log → next g log ≡ Some (Hand a b n m)

@@ -1,10 +1,10 @@
--- A height of the log: no clock stands above it, and no time that a message tells is above it. Ticks and Starts alone
+-- A height of the log: no clock stands above it, and no time that a message carries is above it. Ticks and Starts alone
 -- raise it, for what pushes a clock is a time that lies below it already.
 use Rattle.std.specs.Prelude.{ℕ, ◌*◌, ◌+◌, ◌∷◌, ◌≤◌, List, [], map}
 use Rattle.sdd_invariants.specs.All.{Act, AllLe, Ask, Does, Event, Given, Handed, Held, Log, Mark, Msg, Null, Read, Records, Reject, Release, Site, Start, Tick, Write, clock, local_of, puts_to}
 use Rattle.sdd_invariants.specs.site_module.SiteLog as site
 
--- the times that a message tells: its own, those of a READ's conditions, and that of the write which rejects one
+-- the times that a message carries: its own, those of a READ's conditions, and that of the write which rejects one
 abbrev pub times_of : Msg → List ℕ
 times_of (Read ts class txn attempt conds uses) = ts.0 ∷ map (λ d. d.time.0) conds
 times_of (Write ts class txn changes) = ts.0 ∷ []

@@ -1,5 +1,5 @@
 -- The exchange of an attempt with a data module goes by turns: the site that makes the attempt asks, by READ, FETCH, REDUCE
--- or SHIP, and the module answers, by READY or REJECT, VALUES, REDUCED or ROWS, before the next question. An attempt is told
+-- or SHIP, and the module answers, by READY or REJECT, VALUES, REDUCED or ROWS, before the next question. An attempt is known
 -- by its timestamp and its class.
 use Rattle.std.specs.List.{list_any}
 use Rattle.std.specs.Prelude.{ℕ, ◌&&◌, ◌==◌, ◌∷◌, ◌≡◌, Bool, List, None, Option, Some, [], false, filter, if◌then◌else◌, map, not, true}

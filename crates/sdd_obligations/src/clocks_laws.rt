@@ -5,7 +5,7 @@ ghost use Rattle.sdd_invariants.specs.site_module.SiteLog as site;
 ghost use Rattle.sdd_obligations.specs.Bounds.{IsNumbered, IsSmall, class_starts, greatest_height};
 ghost use Rattle.sdd_obligations.specs.Heights.{IsUnder, height, times_of};
 
-/// No clock stands above the height of a lawful log, and no message on a link or handed over tells
+/// No clock stands above the height of a lawful log, and no message on a link or handed over has
 /// a time above it.
 pub fn law_height()
     ensures { (given : Given) (log : Log) → IsSmall given → IsLawful given log

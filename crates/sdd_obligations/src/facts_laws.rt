@@ -18,7 +18,7 @@ pub fn law_routes()
 
 /// A message that is next to be handed over is what its module asks of it: it comes from the site
 /// that may send it, in turn, with times that aren't late, as the first answer to what was asked.
-/// What is left to the laws of exchanges and databases is taken for granted here.
+/// What the laws of exchanges and databases prove is assumed here.
 pub fn law_hands()
     ensures at_d { (given : Given) (log : Log) (from : Site) (d : DmNo) (number : ℕ) (msg : Msg)
         (bases : Bases) → IsFit given → IsLawful given log → IsWithin log

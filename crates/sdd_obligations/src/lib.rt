@@ -1,5 +1,5 @@
-//! What the modules ask before each call of theirs: on every lawful log, what is next to be handed
-//! over, to be given to a module, or to tick fits the module to which it goes.
+//! What the modules require of calls: on every lawful log, the message that is handed over next,
+//! the transaction that is submitted next and the next tick fit the module to which they go.
 //!
 //! The one contract to the layer above: all of it holds, so that a world can make the call
 //! (`law_facts` of `facts_laws`). It stands on the exchange of an attempt with a data module, which goes by turns

@@ -1,4 +1,4 @@
--- The attempts of transactions, and the transactions that are committed, as a history tells them.
+-- The attempts of transactions, and the transactions that are committed, as a history records them.
 use Rattle.std.specs.Prelude.{ℕ, ◌≡◌, ◌==◌, Bool, false, ◌&&◌, List, filter_map, find, Option, Some, None, option_map, unwrap_or}
 use Rattle.std.specs.List.{list_any}
 use Rattle.sdd_lang.specs.All.{Change, Reply, Ts, Use, class_no, contains, fragments_in, time_at, txn_no}
@@ -7,7 +7,7 @@ use Rattle.sdd_history.specs.declared.record.Rec.TheVariants.{Start, Commit}
 use Rattle.sdd_history.specs.Records.{History}
 use Rattle.sdd_order.specs.Places.{Stands, placed}
 
--- an attempt, as its Start tells it, and the place of that record; the attempts of a transaction are numbered from 1
+-- an attempt, as its Start records it, and the place of that record; the attempts of a transaction are numbered from 1
 pub record Attempt : Type 0 where
   pub txn : ℕ
   pub number : ℕ
@@ -17,7 +17,7 @@ pub record Attempt : Type 0 where
   pub uses : List Use
   pub place : ℕ
 
--- a committed transaction: its committed attempt, what its Commit tells, and the place of that record
+-- a committed transaction: its committed attempt, what its Commit records, and the place of that record
 pub record Committed : Type 0 where
   pub start : Attempt
   pub reply : Reply

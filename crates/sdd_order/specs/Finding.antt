@@ -53,6 +53,6 @@ is_below (Some a) (Some b) = nat_lt a b
 is_below None o = false
 is_below (Some a) None = false
 
--- whether the marks tell that n was applied at d before attempt k of m was answered there
+-- whether the marks say that n was applied at d before attempt k of m was answered there
 abbrev pub sees : Marks → ℕ → ℕ → ℕ → ℕ → Bool
 sees marks n d m k = is_below (get pair_cmp marks.applied (n, d)) (get triple_cmp marks.answered (m, k, d))

@@ -10,7 +10,7 @@ use std::alloc::Global;
 use std::collections::BTreeMap;
 use std::marker::Model;
 
-/// An attempt, as its Start tells it. Attempts of a transaction are counted from 1.
+/// An attempt, as its Start records it. Attempts of a transaction are counted from 1.
 #[derive(Drop)]
 pub struct Attempt<'a> {
     pub txn: TxnNo,
@@ -54,7 +54,7 @@ impl<'a> Attempt<'a> {
     }
 }
 
-/// A committed transaction: its committed attempt, and what its Commit tells.
+/// A committed transaction: its committed attempt, and what its Commit records.
 #[derive(Drop)]
 pub struct Committed<'a> {
     pub start: Attempt<'a>,

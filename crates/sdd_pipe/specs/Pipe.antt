@@ -64,7 +64,7 @@ greatest numbers = fold raised None numbers
 abbrev pub last_write : List FragNo → Pipe → Option ℕ
 last_write frags p = greatest (filter_map (write_time frags) p.processed)
 
--- worked: a WRITE of fragment 2 at 65 is processed, and a NULL at 130 stands behind it
+-- worked: a WRITE of fragment 2 at 65 is processed, and a NULL at 130 stands after it
 abbrev change_of_2 : Change
 change_of_2 = record { frag = record { 0 = 2 }; key = pos 4; row = None }
 

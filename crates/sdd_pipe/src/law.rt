@@ -1,4 +1,4 @@
-//! What is kept of a pipe tells all that conditions ask of it.
+//! What is kept of a pipe answers all that conditions ask of it.
 ghost use Rattle.std.specs.Prelude.{◌≡◌, ℕ, List};
 ghost use Rattle.sdd_base.specs.declared.number.FragNo.{FragNo};
 ghost use Rattle.sdd_wire.specs.declared.msg.Msg.{Msg};

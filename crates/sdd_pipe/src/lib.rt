@@ -3,7 +3,7 @@
 //!
 //! The one contract to the layer above: what a pipe has passed, and which of its WRITEs touch a
 //! condition, is what `specs/Pipe.antt` defines. `Pipes` keeps the unprocessed messages, and of the
-//! processed ones only what conditions ask (`specs/Digest.antt`); the laws say that it tells the
+//! processed ones only what conditions ask (`specs/Digest.antt`); the laws say that it answers the
 //! same.
 #![tactic(auto)]
 

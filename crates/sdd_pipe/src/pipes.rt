@@ -15,7 +15,7 @@ use std::marker::Model;
 ///
 /// Contracts see of each pipe its digest: its unprocessed messages, and of the processed ones the
 /// greatest time and by fragment the greatest WRITE. `law_passed` and `law_last_write` say that
-/// this tells all that conditions ask of the pipe, `law_put` and `law_take` that it follows the
+/// this answers all that conditions ask of the pipe, `law_put` and `law_take` that it follows the
 /// pipe.
 #[derive(Drop)]
 pub struct Pipes {
@@ -49,7 +49,7 @@ impl Pipes {
         Ok(Pipes { pipes, live: true })
     }
 
-    /// Whether no call has answered want of memory. After one that has, the pipes are only
+    /// False once a call ran out of memory; after that the pipes are only
     /// dropped.
     pub fn live(&self) -> bool
         ensures { result ≡ self.now.live }

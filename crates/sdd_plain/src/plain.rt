@@ -15,7 +15,7 @@ pub type Replies = Listed<Reply>;
 
 /// One database without copies, on which transactions run one after the other.
 ///
-/// It is live until a call that is lent it by `&mut` answers `NoMemory`. After that it is only
+/// It is live until a call to which it is lent by `&mut` answers `NoMemory`. After that it is only
 /// dropped.
 #[derive(Drop)]
 pub struct Plain {
@@ -47,7 +47,7 @@ impl Plain {
         })
     }
 
-    /// Whether no call that was lent it has answered `NoMemory`. Takes no memory.
+    /// False once a call to which it was lent ran out of memory. Takes no memory.
     pub fn live(&self) -> bool
         ensures { result ≡ self.now.live }
     {

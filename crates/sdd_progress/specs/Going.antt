@@ -1,4 +1,4 @@
--- An exchange that is not over lacks the answer of a module: it goes on as long as answers come.
+-- An exchange that is not over waits for the answer of a module: it goes on as long as answers come.
 use Rattle.std.specs.Prelude.{ℕ, ◌≡◌, ◌≤◌, false, List, [], ◌∷◌, filter_map, cond, Some, None}
 use Rattle.sdd_obligations.specs.All.{Asking, Condition, Const, Exchange, Fetching, Over, Phase, Reading, Reducing, Same, Shipping, contains, is_empty, is_over}
 

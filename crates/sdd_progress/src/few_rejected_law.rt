@@ -14,7 +14,7 @@ pub fn law_rejects()
 
 /// A law: a transaction's rejected attempts are at most the Commits of other transactions, where an
 /// attempt that several modules reject counts once. For a lawful log with one list of classes nothing
-/// is taken of eras.
+/// is assumed of eras.
 pub fn law_few_rejected()
     ensures permitted { (given : Given) (log : Log) (eras : Eras) → IsSoundGiven given
         → IsPermitted given log → AreErasOf given log eras → AreFewRejected (history log) }

@@ -10,7 +10,7 @@ ghost use Rattle.sdd_progress.specs.Quiet.{IsQuiet};
 ghost use Rattle.sdd_progress.specs.Settled.{IsAtEnd, IsSettled};
 
 /// A law: where nothing goes on, each message of each pipe is processed and no attempt is under way;
-/// no transaction waits in a queue, and no transaction module is on hold. This takes that all was idle
+/// no transaction waits in a queue, no transaction module is on hold. This assumes that all was idle
 /// where the lists of classes were put in force, of which `law_idle_at_redeclares` speaks.
 pub fn law_finished()
     ensures idle { (given : Given) (log : Log) → IsQuiet given log
@@ -38,7 +38,7 @@ pub fn law_committed()
         → IsIdleAtRedeclares given log → AreNumbered given log → AllCommitted (history log) }
 {}
 
-/// A law: so no entry of the history is left, that is submits what isn't committed; and a test that
+/// A law: so no entry of the history submits what isn't committed; and a test that
 /// each Commit of a transaction passes, passes some entry where it is committed.
 pub fn law_none_left()
     ensures none { (h : History) (k : ℕ) (x : ℕ × Rec) → AllCommitted h → slice_get h k ≡ Some x
@@ -50,7 +50,7 @@ pub fn law_none_left()
 {}
 
 /// A law: where nothing goes on, what was committed is applied at each copy of what it changes, and
-/// each data module has what the history tells. So each copy has what one plain database leaves that
+/// each data module has what the history says. So each copy has what one plain database leaves that
 /// runs the transactions along a serial order.
 pub fn law_copies()
     ensures applied { (given : Given) (log : Log) (f d : ℕ) → IsQuiet given log

@@ -15,7 +15,7 @@ pub fn law_handed()
 {}
 
 /// A law: an attempt under way goes on as long as answers come: where its exchange isn't over, it
-/// lacks the answer of a module, or has something to send.
+/// waits for the answer of a module, or has something to send.
 pub fn law_exchanges()
     ensures { (given : Given) (log : Log) (class : ℕ) (attempt : Attempt) → IsPermitted given log
         → FitsGiven given → IsClass given.catalogue class

@@ -79,7 +79,7 @@ pub others_text
 unfolding digits
 others_text = refl
 
--- of the modules at which a READ waits, the lowest is told
+-- of the modules at which a READ waits, the lowest is printed
 abbrev pub at_module : ℕ → ℕ → Waiting
 at_module d time = record { dm = dm_no d; class = class_no 1; time = time_at time }
 

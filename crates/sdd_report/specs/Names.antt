@@ -5,7 +5,7 @@ use Rattle.std.specs.Fmt.{decimal}
 use Rattle.sdd_lang.specs.All.{Catalogue, Class, D, Fragment, Site, T, U}
 use Rattle.sdd_lang.specs.declared.transaction.Txn.{Txn}
 
--- a word behind a space
+-- a word after a space
 abbrev pub spaced : List ℕ → List ℕ
 spaced word = 32 ∷ word
 

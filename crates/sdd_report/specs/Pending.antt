@@ -28,7 +28,7 @@ abbrev pub is_lower : Waiting → Waiting → Bool
 is_lower a b = nat_lt a.dm.0 b.dm.0
 
 -- what the transaction of an attempt is waiting for: where its READ waits at some modules, for the wait at
--- the lowest of them; else for the lowest site that it lacks a message of
+-- the lowest of them; else for the lowest site whose message to it is missing
 abbrev pub under_way : Site → List Waiting → Why
 under_way site [] = Underway site
 under_way site (w ∷ ws) = Waits (best_of is_lower w ws)

@@ -11,7 +11,7 @@ use Rattle.sdd_report.specs.Names.{spaced}
 abbrev pub value_bytes : Value → List ℕ
 value_bytes v = word_bytes (value_word v)
 
--- a row, its values each behind a space
+-- a row, its values each after a space
 abbrev pub row_line : List Value → List ℕ
 row_line row = codes "row" ++ flat_map (λ v. 32 ∷ value_bytes v) row ++ 10 ∷ []
 

@@ -10,7 +10,7 @@ use Rattle.sdd_report.specs.Trace.{trace}
 use Rattle.sdd_report.specs.declared.copies.CopyTable.{CopyTable}
 use Rattle.sdd_report.specs.declared.pending.Pending.{Pending}
 
--- what a report tells: of a run over this catalogue and these transactions the records, each with the
+-- what a report prints: of a run over this catalogue and these transactions the records, each with the
 -- number of its event, the order of the committed transactions, those that are pending, and the copies
 pub record Report : Type 0 where
   pub catalogue : Catalogue

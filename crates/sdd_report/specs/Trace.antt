@@ -11,7 +11,7 @@ use Rattle.sdd_report.specs.Names.{spaced, txn_name, attempt_word, class_word, m
 abbrev pub of_submit : List Txn → ℕ → List ℕ
 of_submit txns n = codes "submit" ++ spaced (txn_name txns n)
 
--- an attempt, behind a word that says what happens to it
+-- an attempt, after a word that says what happens to it
 abbrev pub of_attempt : List ℕ → List Txn → ℕ → ℕ → List ℕ
 of_attempt word txns n attempt = word ++ spaced (attempt_word txns n attempt)
 

@@ -1,4 +1,4 @@
-//! The order, and what the Commits of its transactions tell.
+//! The order, and what the Commits of its transactions record.
 ghost use Rattle.std.specs.Prelude.{ℕ, ◌≡◌, ◌++◌, flat_map, IfOk, OnOk, MatchOption, Some, None};
 ghost use Rattle.std.specs.BTreeMap.{get};
 ghost use Rattle.std.specs.Ordering.{nat_cmp};
@@ -32,7 +32,7 @@ impl<'a> Model for Told<'a> {
     ghost view = { λ t. record { txn = t.txn; reply = t.reply.now; values = t.values; rows = t.rows } };
 }
 
-/// A history, with what the first Commit of each transaction tells laid out for quick answers.
+/// A history, with the first Commits of its transactions laid out for quick answers.
 #[derive(Drop)]
 pub struct Commits<'a> {
     history: &'a [(u32, Rec)],
@@ -112,7 +112,7 @@ impl<'a> Commits<'a> {
     }
 }
 
-/// The names of transactions, each behind a space.
+/// The names of transactions, each after a space.
 fn put_names(text: &mut Vec<u8>, txns: &[Txn], order: &[TxnNo]) -> Result<(), NoMemory>
     ensures { OnOk result (text.new.items
         ≡ text.old.items ++ flat_map spaced (names_of txns.now order.now)) }

@@ -29,7 +29,7 @@ pub enum Why {
     Queued(ClassNo, u64),
     /// The READ of its attempt waits.
     Waits(Waiting),
-    /// A message of this site is lacking.
+    /// A message of this site is missing.
     Underway(Site),
 }
 
@@ -59,8 +59,8 @@ fn lowest(first: Waiting, others: &[Waiting]) -> Waiting
     best
 }
 
-/// What a transaction is waiting for that is being served: `site` is the lowest site that its attempt
-/// lacks a message of, `waits` are the modules at which its READ waits, in any order.
+/// What a transaction that is being served is waiting for: `site` is the lowest site whose message to
+/// its attempt is missing, `waits` are the modules at which its READ waits, in any order.
 ///
 /// Costs time in the modules, and takes no memory.
 pub fn under_way(site: Site, waits: &[Waiting]) -> Why
@@ -96,7 +96,7 @@ fn put_why(text: &mut Vec<u8>, catalogue: &Catalogue, why: Why) -> Result<(), No
     }
 }
 
-/// What is waited for, behind a space, and the end of the line.
+/// What is waited for, after a space, and the end of the line.
 fn put_why_end(text: &mut Vec<u8>, catalogue: &Catalogue, why: Why) -> Result<(), NoMemory>
     ensures { OnOk result (text.new.items ≡ text.old.items ++ (spaced (why_words catalogue.now why) ++ 10 ∷ [])) }
 {

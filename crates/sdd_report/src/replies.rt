@@ -57,7 +57,7 @@ fn put_outcome(text: &mut Vec<u8>, reply: &Reply) -> Result<(), NoMemory>
     }
 }
 
-/// Puts the lines of a transaction's reply behind what was written before. Where memory is wanting,
+/// Puts the lines of a transaction's reply after what was written before. Where memory runs out,
 /// what was written is not to be used.
 ///
 /// Costs time linear in the lines.

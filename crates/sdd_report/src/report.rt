@@ -15,7 +15,7 @@ use sdd_words::put;
 use std::alloc::Global;
 use std::marker::Model;
 
-/// What a report tells of a run.
+/// What a report prints of a run.
 #[derive(Drop)]
 pub struct Report<'a> {
     /// The catalogue whose classes and fragments the numbers name, those of further lists of classes
@@ -58,7 +58,7 @@ fn put_rest(text: &mut Vec<u8>, report: &Report, commits: &Commits) -> Result<()
 }
 
 /// The text of the report. A number that names nothing has the empty name, and a transaction of the
-/// order without a Commit has no reply; of two Commits of a transaction the first is told.
+/// order without a Commit has no reply; of two Commits of a transaction the first is printed.
 ///
 /// Costs time in the text and, for each record, in the logarithm of the transactions; takes memory for
 /// the text alone and a few words for each transaction.

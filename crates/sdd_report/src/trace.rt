@@ -168,7 +168,7 @@ fn put_record(
     }
 }
 
-/// A record behind a space, and the end of its line.
+/// A record after a space, and the end of its line.
 fn put_record_end(
     text: &mut Vec<u8>,
     catalogue: &Catalogue,
@@ -196,7 +196,7 @@ fn put_line(
     put_record_end(text, catalogue, txns, &made.1)
 }
 
-/// The lines of the records, each behind the number of its event.
+/// The lines of the records, each after the number of its event.
 #[tactic(auto, using(crate::proofs::Lists::written))]
 pub fn put_trace(
     text: &mut Vec<u8>,

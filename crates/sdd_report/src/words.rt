@@ -1,4 +1,4 @@
-//! Words that are put behind a space.
+//! Words that are put after a space.
 ghost use Rattle.std.specs.Prelude.{◌≡◌, ◌++◌, ◌∷◌, OnOk};
 ghost use Rattle.std.specs.Fmt.{decimal};
 ghost use Rattle.sdd_report.specs.Names.{spaced, attempt_word, class_word, fragment_name, module_word, site_word, class_time, txn_name};

@@ -7,7 +7,7 @@ use Rattle.sdd_report.specs.Report.{Report}
 use Rattle.sdd_run.specs.Copies.{tables_of}
 use Rattle.sdd_run.specs.Pending.{Telling, pending_of}
 
--- its records, the serial order of what is committed, what is pending, and the copies, where sites tell so how they
+-- its records, the serial order of what is committed, what is pending, and the copies, where this says how sites
 -- have transactions
 abbrev pub report_by : Telling → Given → Log → Report
 report_by tell g log = record {

@@ -73,15 +73,15 @@ pub record IsReportOn (cat : Catalogue) (work : Workload) (text : List ℕ) : Ty
   pub log : Log
   pub log_is : IsTheLog (given_of cat tables work) log
   pub text_is : text ≡ report_text (report_of (given_of cat tables work) log)
-  -- The order that the text tells is serial: each committed transaction stands in it once, behind those that precede it,
-  -- of which those of its own class that were submitted before are some.
+  -- The order in the text is serial: each committed transaction stands in it once, after all that precede it, among which
+  -- are those of its own class that were submitted before it.
   pub orderable : IsOrderable (whole_in cat work) (history log)
   pub serial : IsSerial (whole_in cat work) (history log) (order_of cat work log)
   pub once : (t : Committed) → IsCommitted (history log) t → times_in t.start.txn (order_of cat work log) ≡ 1
   pub in_turn : (x y : Committed) → IsCommitted (history log) x → IsCommitted (history log) y → x.start.class ≡ y.start.class
       → IsSubmittedBefore (history log) x y → StandsBefore (order_of cat work log) x.start.txn y.start.txn
-  -- One plain database of the workload's rows that runs the transactions in that order gives the replies that their
-  -- Commits tell; and these are the replies in the text, behind what happened and the order.
+  -- One plain database that begins with the workload's rows and runs the transactions in that order gives the replies of their
+  -- Commits; and these are the replies in the text, after the trace and the order.
   pub replies : AllZip (IsReplyOf (history log)) (order_of cat work log) (plain_run cat work log).0
   pub told : text
       ≡ trace (whole_in cat work) work.txns (history log)
@@ -103,7 +103,7 @@ pub record IsReportOn (cat : Catalogue) (work : Workload) (text : List ℕ) : Ty
   pub rejections : AreFewRejected (history log)
   -- At each moment of the run each clock stands below 2^39 ticks.
   pub low_clocks : HasLowClocks (given_of cat tables work) log
-  -- Each transaction that was submitted stands in the order once, or is listed as pending once, and none does both.
+  -- Each transaction that was submitted stands in the order once, or is listed as pending once, and never both.
   pub nothing_lost : LosesNothing (report_of (given_of cat tables work) log)
   -- Each that is listed as pending is told to wait for its turn in a class, for a class at a data module, or for a message
   -- of a transaction or data module: never for one of U.
@@ -117,7 +117,7 @@ pub record IsReportOn (cat : Catalogue) (work : Workload) (text : List ℕ) : Ty
       → (copy : CopyTable) → Contains (tables_of (given_of cat tables work) log) copy
       → copy.rows ≡ rows_left (whole_in cat work) (plain_run cat work log).1 copy.frag.0
 
--- A text is the summary of the run: it tells how many transactions there are, how many Commits, Rejects and Waits the
+-- A text is the summary of the run: it says how many transactions there are, how many Commits, Rejects and Waits the
 -- one log of what is given has, and how many events.
 pub record IsSummaryOn (cat : Catalogue) (work : Workload) (text : List ℕ) : Type 0 where
   pub tables : List (List Entry)

@@ -46,7 +46,7 @@ pub fn first_table(tables: &[Table]) -> &Table
     &tables[0]
 }
 
-/// The lists behind the first, in order.
+/// The lists after the first, in order.
 pub fn further<'a>(
     alloc: Global,
     eras: &'a [Catalogue],

@@ -20,7 +20,7 @@ use std::alloc::Global;
 ///
 /// # Errors
 ///
-/// At the first number that is missing, of events or of a link's messages, and for want of memory.
+/// Where an event, or a message of a link, would pass the limit, and where memory runs out.
 pub fn run_report(alloc: Global, catalogue: &Catalogue, work: Workload) -> Result<Vec<u8>, WorldEnd>
     requires valid { IsValid catalogue.now work }
     ensures report { IfOk result (λ text. IsReportOn catalogue.now work text.items) }
@@ -39,7 +39,7 @@ pub fn run_report(alloc: Global, catalogue: &Catalogue, work: Workload) -> Resul
 ///
 /// # Errors
 ///
-/// At the first number that is missing, of events or of a link's messages, and for want of memory.
+/// Where an event, or a message of a link, would pass the limit, and where memory runs out.
 pub fn run_summary(
     alloc: Global,
     catalogue: &Catalogue,

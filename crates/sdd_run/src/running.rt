@@ -18,7 +18,7 @@ use std::alloc::Global;
 ///
 /// # Errors
 ///
-/// At the first number that is missing, of events or of a link's messages, and for want of memory.
+/// Where an event, or a message of a link, would pass the limit, and where memory runs out.
 pub fn finished<'a>(
     alloc: Global,
     catalogue: &'a Catalogue,

@@ -100,7 +100,7 @@ writes_rules cat st (word ∷ []) = do
   with_write_of st f.0
 writes_rules cat st _ = Err BadLine
 
--- a line of a list, by its keyword and the words behind it
+-- a line of a list, by its keyword and the words after it
 abbrev pub class_line_rules : ClassKey → Catalogue → State → List Word → Result State WorkRule
 class_line_rules keys.List cat st words = list_rules st words
 class_line_rules keys.Class cat st words = class_rules cat st words

@@ -51,7 +51,7 @@ pub other_byte : workload accounts (255 ∷ []) ≡ at 1 NotUtf8
 unfolding walk cut_lines is_utf8 scan line_rules row_of query_over update_of_parts comparisons settings number_of digits chars lib.Utf8.encode
 other_byte = refl
 
--- a byte behind the line `end`
+-- a byte after the line `end`
 pub behind_end : workload accounts (codes "end\nx") ≡ at 2 BadLine
 unfolding walk cut_lines is_utf8 scan line_rules row_of query_over update_of_parts comparisons settings number_of digits chars lib.Utf8.encode
 behind_end = refl
@@ -71,7 +71,7 @@ pub too_few : workload accounts (codes "row acct 1\n") ≡ at 1 WrongKind
 unfolding walk cut_lines is_utf8 scan line_rules row_of query_over update_of_parts comparisons settings number_of digits chars lib.Utf8.encode
 too_few = refl
 
--- a row behind a transaction
+-- a row after a transaction
 pub late_row : workload accounts (codes "txn a T1\ndone\nrow acct 1 1\n") ≡ at 3 BadLine
 unfolding walk cut_lines is_utf8 scan line_rules row_of query_over update_of_parts comparisons settings number_of digits chars lib.Utf8.encode
 late_row = refl
@@ -160,17 +160,17 @@ pub no_such_fragment : workload accounts (codes "list\nclass m T1\nwrites some\n
 unfolding walk cut_lines is_utf8 scan line_rules row_of query_over update_of_parts comparisons settings number_of digits chars lib.Utf8.encode
 no_such_fragment = refl
 
--- a read behind a write
+-- a read after a write
 pub late_read : workload accounts (codes "list\nclass m T1\nwrites all\nreads all D1\n") ≡ at 4 BadLine
 unfolding walk cut_lines is_utf8 scan line_rules row_of query_over update_of_parts comparisons settings number_of digits chars lib.Utf8.encode
 late_read = refl
 
--- behind a list no transaction begins
+-- after a list no transaction begins
 pub late_txn : workload accounts (codes "list\ndone\ntxn a T1\n") ≡ at 3 BadLine
 unfolding walk cut_lines is_utf8 scan line_rules row_of query_over update_of_parts comparisons settings number_of digits chars lib.Utf8.encode
 late_txn = refl
 
--- behind an event no list begins
+-- after an event no list begins
 pub late_list : workload accounts (codes "settle\nlist\n") ≡ at 2 BadLine
 unfolding walk cut_lines is_utf8 scan line_rules row_of query_over update_of_parts comparisons settings number_of digits chars lib.Utf8.encode
 late_list = refl

@@ -134,7 +134,7 @@ end_rules st [] = do
   Ok (record st { place = places.Ended })
 end_rules st _ = Err BadLine
 
--- a line, by its keyword and the words behind it
+-- a line, by its keyword and the words after it
 abbrev pub keyword_rules : Keyword → Catalogue → State → List Word → Result State WorkRule
 keyword_rules keys.Row cat st words = row_rules cat st words
 keyword_rules keys.Txn cat st words = txn_rules cat st words

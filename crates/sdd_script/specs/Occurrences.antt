@@ -1,4 +1,4 @@
--- Events, by the words behind the first word of their lines.
+-- Events, by the words after the first word of their lines.
 use Rattle.std.specs.Prelude.{ℕ, ◌+◌, ℤ, pos, nat_lt, nat_le, ◌==◌, ◌&&◌, List, [], ◌∷◌, length, Option, Some, None, Result, Ok, Err, if◌then◌else◌}
 use Rattle.std.specs.Option.{option_map}
 use Rattle.std.specs.List.{position}
@@ -146,7 +146,7 @@ up_of cat (dm ∷ []) = do
   Ok (Up d)
 up_of cat _ = Err BadLine
 
--- an event, by its first word and the words behind it, where these are the names of the transactions
+-- an event, by its first word and the words after it, where these are the names of the transactions
 abbrev pub event_of : EventKey → Catalogue → List (List ℕ) → List Word → Result Event WorkRule
 event_of keys.Submit cat names words = submit_of names words
 event_of keys.Deliver cat names words = deliver_of cat words

@@ -22,7 +22,7 @@ is_down dm events = fold (λ down e. turned_by dm e down) false events
 abbrev pub some_down : ℕ → List Event → Bool
 some_down dms events = list_any (λ dm. is_down dm events) (numbers_to dms)
 
--- behind these events, of so many data modules and lists: a list is left, and no module is down
+-- after these events, of so many data modules and lists: a list is left, and no module is down
 abbrev pub may_redeclare : ℕ → ℕ → List Event → Bool
 may_redeclare dms lists events = nat_lt (count_by is_redeclare events) lists && not (some_down dms events)
 

@@ -37,7 +37,7 @@ abbrev pub condition_words : Catalogue → List RelNo → Condition → List Wor
 condition_words cat rels (Const left op value) = column_word cat rels left ∷ Plain (op_word op) ∷ value_word value ∷ []
 condition_words cat rels (Same left right) = column_word cat rels left ∷ Plain (op_word Eq) ∷ column_word cat rels right ∷ []
 
--- the first condition behind the keyword, each further one behind `and`
+-- the first condition after the keyword, each further one after `and`
 abbrev pub conditions_words : List ℕ → Catalogue → List RelNo → List Condition → List Word
 conditions_words key cat rels [] = []
 conditions_words key cat rels (c ∷ cs) = Plain key ∷ (condition_words cat rels c ++ conditions_words (codes "and") cat rels cs)

@@ -1,4 +1,4 @@
--- Statements, by the words behind the first word of their lines.
+-- Statements, by the words after the first word of their lines.
 use Rattle.std.specs.Prelude.{ℕ, ℤ, ◌==◌, ◌&&◌, not, List, [], ◌∷◌, map, codes, Some, Result, Ok, Err, if◌then◌else◌, Option}
 use Rattle.sdd_lang.specs.All.{Catalogue, RelNo, Value, along, known, must, rel_no, ◌>>=◌}
 use Rattle.sdd_lang.specs.catalog.declared.parts.Kind.TheVariants as kinds
@@ -46,7 +46,7 @@ part_in part = do
 abbrev pub parts_of : Catalogue → List Word → Parts
 parts_of cat words = map (λ w. relation_of cat w) words
 
--- the columns, which may name the relations behind them, then the relations, then the conditions
+-- the columns, which may name the relations after them, then the relations, then the conditions
 unfoldable pub query_over : Catalogue → Parts → List Word → List Comparison → Result Stmt WorkRule
 query_over cat parts columns comparisons = do
   out ← along (λ i w. listed_column cat parts w) 0 columns
@@ -141,7 +141,7 @@ delete_of cat (name ∷ rest) = do
   comparisons ← known BadLine (conditions_form rest)
   delete_of_parts cat name comparisons
 
--- a statement, by its first word and the words behind it
+-- a statement, by its first word and the words after it
 abbrev pub statement_of : StatementKey → Catalogue → List Word → Result Stmt WorkRule
 statement_of keys.Put cat words = put_of cat words
 statement_of keys.Query cat words = query_of cat words

@@ -7,13 +7,13 @@ use Rattle.sdd_script.specs.declared.fault.WorkFault.{WorkFault}
 use Rattle.sdd_script.specs.declared.fault.WorkError.{WorkError}
 use Rattle.sdd_script.specs.declared.fault.WorkError.TheVariants.{Fault, NoMemory}
 
--- what the reading gives, or its first fault, unless memory is wanting
+-- what the reading gives, or its first fault, unless memory ran out
 abbrev pub Tells : {X : Type 0} → Result X WorkError → Result X WorkFault → Type 0
 Tells (Ok x) reading = reading ≡ Ok x
 Tells (Err (Fault fault)) reading = reading ≡ Err fault
 Tells (Err NoMemory) reading = Unit {0}
 
--- what went wrong on a line, told with the line's number
+-- what went wrong on a line, with the line's number
 abbrev pub told_at : ℕ → LineError → WorkError
 told_at line (Broken rule) = Fault (record { line = line; rule = rule })
 told_at line errors.NoMemory = NoMemory

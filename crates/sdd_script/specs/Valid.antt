@@ -109,7 +109,7 @@ pub record AreValidLists (cat : Catalogue) (lists : List (List ClassPart)) : Typ
   pub few_classes : length cat.classes + length (joined lists) ≤ MAX_CLASSES
   pub few_lists : length lists ≤ MAX_LISTS
 
--- behind these events, of so many data modules and lists: a list is left, and no module is down
+-- after these events, of so many data modules and lists: a list is left, and no module is down
 pub record MayRedeclare (dms lists : ℕ) (events : List Event) : Type 0 where
   pub left : count_by is_redeclare events < lists
   pub up : (dm : ℕ) → IsFrom1To dms dm → is_down dm events ≡ false

@@ -1,4 +1,4 @@
--- A file, line by line, each in the state that the lines before it made. The first line at fault is told, with its number.
+-- A file, line by line, each in the state that the lines before it made. The first line at fault is reported, with its number.
 use Rattle.std.specs.Prelude.{ℕ, ◌+◌, nat_lt, List, [], ◌∷◌, length, Result, Ok, Err, if◌then◌else◌}
 use Rattle.std.specs.Str.{is_utf8}
 use Rattle.sdd_lang.specs.All.{Catalogue, MAX_WORKLOAD_BYTES}
@@ -17,16 +17,16 @@ abbrev pub at_line : ℕ → Result State WorkRule → (State → Result State W
 at_line line (Ok st) read_on = read_on st
 at_line line (Err rule) read_on = Err (record { line = line; rule = rule })
 
--- behind the line `end` no line may stand
+-- after the line `end` no line may stand
 abbrev pub one_line : Catalogue → State → List ℕ → Result State WorkRule
 one_line cat st line = if is_ended st.place then Err BadLine else line_rules cat st line
 
--- what stands behind the last newline
+-- what stands after the last newline
 abbrev pub tail_rules : State → List ℕ → Result State WorkRule
 tail_rules st [] = if is_ended st.place then Ok st else Err NoEnd
 tail_rules st (c ∷ cs) = if is_ended st.place then Err BadLine else (if is_utf8 (c ∷ cs) then Err NoEnd else Err NotUtf8)
 
--- the lines, of which the first has this number, and what stands behind the last newline
+-- the lines, of which the first has this number, and what stands after the last newline
 unfoldable pub walk : Catalogue → ℕ → State → List (List ℕ) → List ℕ → Result State WorkFault
 walk cat line st [] tail = at_line line (tail_rules st tail) (λ s. Ok s)
 walk cat line st (l ∷ ls) tail = at_line line (one_line cat st l) (λ s. walk cat (line + 1) s ls tail)

@@ -1,4 +1,4 @@
-//! Deletes, by the words behind the first word of their lines.
+//! Deletes, by the words after the first word of their lines.
 ghost use Rattle.std.specs.Prelude.{◌≡◌, ◌∷◌, [], Some};
 ghost use Rattle.sdd_lang.specs.All.{Gives};
 ghost use Rattle.sdd_script.specs.Rules.{rule_in};

@@ -76,7 +76,7 @@ pub enum WorkError {
     /// The first fault.
     #[error("the workload has a fault")]
     Fault(WorkFault),
-    /// Want of memory.
+    /// Out of memory.
     #[error("no memory")]
     NoMemory,
 }
@@ -86,7 +86,7 @@ pub enum WorkError {
 pub enum LineError {
     /// The first rule that it breaks.
     Broken(WorkRule),
-    /// Want of memory.
+    /// Out of memory.
     NoMemory,
 }
 

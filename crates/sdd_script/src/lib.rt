@@ -1,4 +1,4 @@
-//! The workload file: its reader, which tells the first fault, and its writer.
+//! The workload file: its reader, which returns the first fault, and its writer.
 //!
 //! What the layer above gets: `read_workload` gives exactly what `workload` of `specs/Walk.antt` makes
 //! of the bytes, that is the workload or its first fault, and `write_workload` gives `spelling` of

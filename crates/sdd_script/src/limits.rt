@@ -54,7 +54,7 @@ fn at_most(counts: Counts, number: usize, most: usize) -> Result<(), LineError>
     must(WorkRule::TooMany(counts), number <= most)
 }
 
-/// Whether there is room for the statement behind so many, and what it holds is within the limits.
+/// Whether there is room for the statement after so many, and what it holds is within the limits.
 pub fn check_limits(before: usize, statement: &Stmt) -> Result<(), LineError>
     ensures { Gives rule_in (λ u. u) result (statement_limits before statement.now) }
 {

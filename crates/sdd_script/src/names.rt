@@ -64,7 +64,7 @@ impl Names {
         Some(place as u32 + 1)
     }
 
-    /// Puts a name at the end where it isn't there yet, and tells whether it did so.
+    /// Puts a name at the end where it isn't there yet, and returns whether it did so.
     pub fn add(&mut self, alloc: Global, name: &str) -> Result<bool, NoMemory>
         requires { length self.old < 2048 }
         ensures fresh { IfOk result (λ fresh. fresh ≡ not (is_some (position (bytes_eq name.now) self.old))) }

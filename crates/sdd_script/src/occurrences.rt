@@ -1,4 +1,4 @@
-//! Events, by the words behind the first word of their lines.
+//! Events, by the words after the first word of their lines.
 ghost use Rattle.std.specs.Prelude.{◌≡◌, ◌≤◌};
 ghost use Rattle.sdd_lang.specs.All.{Gives, are_linked};
 ghost use Rattle.sdd_script.specs.Rules.{rule_in};
@@ -273,7 +273,7 @@ fn read_up(cat: &Catalogue, words: &[Word]) -> Result<Event, LineError>
     }
 }
 
-/// An event, by its first word and the words behind it, among transactions with these names.
+/// An event, by its first word and the words after it, among transactions with these names.
 pub fn read_event(
     alloc: Global,
     cat: &Catalogue,

@@ -20,15 +20,15 @@ pub enum Place {
     Rows,
     /// Inside a transaction.
     Inside(Header),
-    /// Behind a transaction.
+    /// After a transaction.
     Between,
     /// Inside a list of classes.
     Listing(OpenList),
-    /// Behind a list of classes.
+    /// After a list of classes.
     Declared,
-    /// Behind an event.
+    /// After an event.
     Events,
-    /// Behind the line `end`.
+    /// After the line `end`.
     Ended,
 }
 

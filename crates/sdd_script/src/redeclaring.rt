@@ -1,4 +1,4 @@
-//! Where an event may stand behind others.
+//! Where an event may stand after others.
 ghost use Rattle.std.specs.Prelude.{◌≡◌, ◌==◌, count_by};
 ghost use Rattle.sdd_script.specs.Redeclaring.{is_redeclare, turned_by, is_down, some_down, may_redeclare, may_follow};
 
@@ -17,7 +17,7 @@ fn redeclares(events: &[Event]) -> usize
     events.iter().filter(|event| is_redeclare(**event)).count()
 }
 
-/// Whether the module with the number is down behind an event, where it was so before or not.
+/// Whether the module with the number is down after an event, where it was so before or not.
 fn turned_by(dm: u32, event: Event, down: bool) -> bool
     ensures { result ≡ turned_by dm event down }
 {
@@ -36,7 +36,7 @@ fn is_down(dm: u32, events: &[Event]) -> bool
         .fold(false, |down, event| turned_by(dm, *event, down))
 }
 
-/// Whether one of so many modules is down behind the events.
+/// Whether one of so many modules is down after the events.
 fn some_down(cat: &Catalogue, events: &[Event]) -> bool
     ensures { result ≡ some_down cat.now.dms events.now }
 {
@@ -44,7 +44,7 @@ fn some_down(cat: &Catalogue, events: &[Event]) -> bool
     (1..cat.dms() + 1).any(|dm| is_down(dm, events))
 }
 
-/// Whether the event may stand behind these, where there are so many lists: a `redeclare` needs a
+/// Whether the event may stand after these, where there are so many lists: a `redeclare` needs a
 /// list that is left, and no module may be down.
 ///
 /// For a `redeclare` costs time in the events and the data modules; there are at most as many of

@@ -1,4 +1,4 @@
-//! Statements, by the first words of their lines and the words behind them.
+//! Statements, by the first words of their lines and the words after them.
 ghost use Rattle.std.specs.Prelude.{◌≡◌};
 ghost use Rattle.sdd_lang.specs.All.{Gives};
 ghost use Rattle.sdd_script.specs.Rules.{rule_in};
@@ -29,7 +29,7 @@ fn read_put(alloc: Global, cat: &Catalogue, words: &[Word]) -> Result<Stmt, Line
     }
 }
 
-/// A statement, by its first word and the words behind it.
+/// A statement, by its first word and the words after it.
 pub fn read_statement(
     alloc: Global,
     cat: &Catalogue,

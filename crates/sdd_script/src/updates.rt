@@ -1,4 +1,4 @@
-//! Updates, by the words behind the first word of their lines.
+//! Updates, by the words after the first word of their lines.
 ghost use Rattle.std.specs.Prelude.{◌≡◌, ◌∷◌, [], Some, codes};
 ghost use Rattle.sdd_lang.specs.All.{Gives, along};
 ghost use Rattle.sdd_script.specs.Rules.{rule_in};

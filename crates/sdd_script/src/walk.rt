@@ -25,7 +25,7 @@ fn read_one(alloc: Global, cat: &Catalogue, state: &mut State, line: &[u8]) -> R
     read_line(alloc, cat, state, line)
 }
 
-/// What stands behind the last newline.
+/// What stands after the last newline.
 fn check_tail(state: &State, tail: &[u8]) -> Result<(), LineError>
     ensures { Gives rule_in (λ _. state.now) result (tail_rules state.now tail.now) }
 {

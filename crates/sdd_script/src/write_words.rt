@@ -1,5 +1,5 @@
-//! Writing the words of a line. Each call puts its piece behind what was written before; where memory
-//! is wanting, what was written is not to be used.
+//! Writing the words of a line. Each call puts its piece after what was written before; where memory
+//! runs out, what was written is not to be used.
 ghost use Rattle.std.specs.Prelude.{◌≡◌, ◌++◌, ◌∷◌, List, flat_map, OnOk};
 ghost use Rattle.std.specs.Fmt.{signed_decimal};
 ghost use Rattle.sdd_lang.specs.All.{RelNo, Value, rel_of};
@@ -177,7 +177,7 @@ fn put_keyed(
     put_condition(out, cat, rels, condition)
 }
 
-/// Puts conditions, the first behind `where` and each further one behind `and`.
+/// Puts conditions, the first after `where` and each further one after `and`.
 #[tactic(auto, using(crate::proofs::Lists::condition_more, crate::proofs::Lists::conditions_written))]
 pub fn put_conditions(
     out: &mut Vec<u8>,

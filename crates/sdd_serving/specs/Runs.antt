@@ -1,18 +1,18 @@
--- Runs of an exchange: for a move the modules that hold rows of its source tell their values, one after the other; once
--- none lacks, modules of the target are reduced by all these values, in any order; then the next move may begin.
+-- Runs of an exchange: for a move the modules that hold rows of its source send their values, one after the other; once
+-- none is missing, modules of the target are reduced by all these values, in any order; then the next move may begin.
 use Rattle.std.specs.Prelude.{ℕ, ◌≡◌, ◌≢◌, Bool, true, List, []}
 use Rattle.sdd_laws.specs.All.{Stmt, Value, is_empty, reduced, with_values}
 use Rattle.sdd_attempt.specs.All.{Has, Move, without}
 use Rattle.sdd_serving.specs.Reducing.{Space, IsMoveAlong, TellsAll}
 
--- Between moves; or values of the move's source are told, where the answers of some modules lack and these values came;
+-- Between moves; or values of the move's source are sent, where some modules' answers are missing and these values came;
 -- or its target is reduced by the values.
 pub data Stage : Type 0 where
   Resting : Stage
   Telling : Move → List ℕ → List Value → Stage
   Reducing : Move → List Value → Stage
 
--- whether the target may be reduced, where the values of these modules lack
+-- whether the target may be reduced, where the values of these modules are missing
 abbrev pub may_reduce : List ℕ → Bool
 may_reduce lacks = is_empty lacks
 
@@ -20,7 +20,7 @@ may_reduce lacks = is_empty lacks
 -- asked for the rows of use u, and `first` what each held at first.
 pub data Runs (ds : List ℕ) (statements : List Stmt) (asked : ℕ → ℕ → Bool) (first : Space) : Space → Stage → Type 0 where
   begins : Runs ds statements asked first first Resting
-  -- each module that was asked for the source's rows lacks
+  -- the values of each module that was asked for the source's rows are missing
   asks : {space : Space} → Runs ds statements asked first space Resting → (m : Move) → IsMoveAlong 0 statements m
       → (lacks : List ℕ) → ((d : ℕ) → Has ds d → asked d m.source.part ≡ true → Has lacks d)
       → Runs ds statements asked first space (Telling m lacks [])

@@ -27,7 +27,7 @@ pub fn law_exchange_serves(cat: &Catalogue, txn: &Txn)
     cat.known();
 }
 
-/// So what the transaction does to that database is told by the rows that are held.
+/// So what the transaction does to that database follows from the rows that are held.
 pub fn law_shipped_effect(cat: &Catalogue, txn: &Txn)
     requires { Fits cat.now txn.now }
     ensures { (c ts : ℕ) (ds : List ℕ) (copies : ℕ → CopyRows) (db : Database) (space : Space) (stage : Stage)
@@ -40,7 +40,7 @@ pub fn law_shipped_effect(cat: &Catalogue, txn: &Txn)
     cat.known();
 }
 
-/// In which order rows arrive, and how often one does, tells nothing.
+/// In which order rows arrive, and how often one does, doesn't matter.
 pub fn law_arrival(cat: &Catalogue, txn: &Txn)
     ensures { (db : Database) (a b : Shipped)
         → ((s : ℕ × Row) → Has a s → Has b s) → ((s : ℕ × Row) → Has b s → Has a s)

@@ -1,4 +1,4 @@
-//! The exchange serves: the rows that an attempt's modules ship are enough to tell what its
+//! The exchange serves: the rows that an attempt's modules ship are enough to compute what its
 //! transaction does to the database of its snapshots.
 //!
 //! The one contract to the layer above: whatever steps were made, and however far the last one is,

@@ -13,7 +13,7 @@ pub fn source_of(left: Ref, right: Ref, reduces_left: bool) -> Ref
     if reduces_left { right } else { left }
 }
 
-/// Whether REDUCE may go out, where the VALUES of these modules lack.
+/// Whether REDUCE may go out, where the VALUES of these modules are missing.
 pub fn may_reduce(lacks: &[DmNo]) -> bool
     ensures { result ≡ may_reduce (map (λ d. d.0) lacks.now) }
 {

@@ -27,7 +27,7 @@ pub fn law_rounds_end()
     ensures complete { (given : Given) (log : Log) → IsTheLog given log → rounds log < 2 ^ 32 }
 {}
 
-/// A law: the links are quiet where a settle has ended, that is where an event behind it is next,
+/// A law: the links are quiet where a settle has ended, that is where an event after it is next,
 /// and where nothing is next and it was the last.
 pub fn law_settled()
     ensures before_event { (given : Given) (log : Log) (event : Event) (events : List Event)

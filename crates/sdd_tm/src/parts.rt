@@ -166,7 +166,7 @@ impl<'a> Parts<'a> {
         self.classes.iter().all(|run| run.is_idle())
     }
 
-    /// Takes a message, and tells which classes may have something to do by that.
+    /// Takes a message, and returns which classes may have something to do after it.
     pub(crate) fn hand(&mut self, from: Site, msg: Msg) -> Result<Places, NoMemory>
         requires { (s : Setting) × (bases : Bases) × (log : Log)
             × IsKept s log self.old × fits s bases log from msg }
@@ -246,7 +246,7 @@ impl<'a> Parts<'a> {
         }
     }
 
-    /// Puts a transaction at the end of the queue of its class, and tells which class that is.
+    /// Puts a transaction at the end of the queue of its class, and returns which class that is.
     pub(crate) fn submit(&mut self, number: TxnNo, txn: &Txn) -> Result<Places, NoMemory>
         requires { (s : Setting) × (bases : Bases) × (log : Log)
             × IsKept s log self.old × FitsSubmit s bases log number.0 txn.now }

@@ -69,8 +69,8 @@ impl<'a> TxnModule<'a> {
     }
 
     /// Takes a new transaction, and then makes each act that is due, one after the other, until
-    /// none is: it answers what these send and record, behind the record of the submission. After
-    /// want of memory it takes nothing more.
+    /// none is: it returns what these send and record, after the record of the submission. Out
+    /// of memory it takes nothing more.
     pub fn submit(&mut self, number: TxnNo, txn: &Txn) -> Result<Outcome, NoMemory>
         requires lives { IsTrue self.old.live }
         requires stands { (setting : Setting) × (bases : Bases) × (log : Log)

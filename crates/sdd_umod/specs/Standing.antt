@@ -16,11 +16,11 @@ is_told n k = k.holds == n
 abbrev pub is_awaiting_helds : State → Bool
 is_awaiting_helds state = is_none state.line.active && list_any (is_told (turn state.served)) state.counts
 
--- a T whose HELD for it lacks
+-- a T whose HELD for it is missing
 abbrev pub lacks_held : ℕ → TmCounts → Bool
 lacks_held n k = not (k.helds == n)
 
--- The first such T. Where no HELD lacks the transaction starts within the call in which the last one came.
+-- The first such T. Where no HELD is missing, the transaction starts within the call in which the last one came.
 abbrev pub site_of : Option TmNo → Site
 site_of None = U
 site_of (Some tm) = T tm
@@ -39,7 +39,7 @@ standing_in state n =
     then first_underway (lacking_site state) (standing_of state.line n)
     else standing_of state.line n
 
--- worked: while the HELD of T1 lacks, the first in the queue is underway, and the second is the first that waits
+-- worked: while the HELD of T1 is missing, the first in the queue is underway, and the second is the first that waits
 
 pub first_row : first_underway (T (tm_no 1)) (Queued (class_no 0) 1) ≡ Underway (class_no 0) None (T (tm_no 1))
 first_row = refl

@@ -39,7 +39,7 @@ release_step state =
 abbrev pub turn : Served → ℕ
 turn served = suc served.commits
 
--- a T holds for the transaction of this number, and has told so
+-- a T holds for the transaction of this number, and has said so
 abbrev pub is_holding : ℕ → TmCounts → Bool
 is_holding n k = (k.holds == n) && (k.helds == n)
 

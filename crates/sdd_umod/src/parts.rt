@@ -101,7 +101,7 @@ impl<'a> Parts<'a> {
         self.line.is_idle() && any_told(self.counts.as_slice(), self.serving.turn())
     }
 
-    /// The first site whose HELD lacks.
+    /// The first site whose HELD is missing.
     fn lacking_site(&self) -> Site
         ensures { result ≡ lacking_site self.now }
     {

@@ -6,7 +6,7 @@ ghost use Rattle.sdd_umod.specs.Works.{nothing_served};
 use sdd_attempt::sdd_base::Ts;
 use std::marker::Model;
 
-/// How many attempts committed, the timestamp of the last, and how many data modules told that
+/// How many attempts committed, the timestamp of the last, and how many data modules said that
 /// they applied it.
 #[derive(Drop)]
 pub(crate) struct Serving {

@@ -67,14 +67,14 @@ impl TmCount {
         self.holds == turn
     }
 
-    /// Whether its HELD for the transaction of this number lacks.
+    /// Whether its HELD for the transaction of this number is missing.
     pub(crate) fn lacks_held(&self, turn: u64) -> bool
         ensures { result ≡ lacks_held turn self.now }
     {
         self.helds != turn
     }
 
-    /// Whether it holds for the transaction of this number, and has told so.
+    /// Whether it holds for the transaction of this number, and has said so.
     pub(crate) fn is_holding(&self, turn: u64) -> bool
         ensures { result ≡ is_holding turn self.now }
     {
@@ -134,7 +134,7 @@ pub(crate) fn first_free(counts: &[TmCount]) -> Option<TmNo>
     }
 }
 
-/// The first transaction module whose HELD for the transaction of this number lacks.
+/// The first transaction module whose HELD for the transaction of this number is missing.
 pub(crate) fn first_lacking(counts: &[TmCount], turn: u64) -> Option<TmNo>
     ensures { result ≡ option_map tm_of (find (lacks_held turn) counts.now) }
 {
@@ -144,7 +144,7 @@ pub(crate) fn first_lacking(counts: &[TmCount], turn: u64) -> Option<TmNo>
     }
 }
 
-/// Whether all hold for the transaction of this number, and have told so.
+/// Whether all hold for the transaction of this number, and have said so.
 pub(crate) fn all_hold(counts: &[TmCount], turn: u64) -> bool
     ensures { result ≡ list_all (is_holding turn) counts.now }
 {

@@ -1,4 +1,4 @@
--- Lines of a report that tell of pending transactions.
+-- Lines of a report that are of pending transactions.
 use Rattle.std.specs.Prelude.{ℕ, Bool, false, true, List, ◌≡◌, codes, nat_eq, refl}
 use Rattle.std.specs.List.{starts_with}
 

@@ -1,4 +1,4 @@
--- Schedules that leave nothing undone, and summaries that tell of as many Commits as transactions.
+-- Schedules that leave nothing undone, and summaries that count as many Commits as transactions.
 use Rattle.std.specs.Prelude.{ℕ, ◌≡◌, ◌≤◌, Bool, true, false, List, [], ◌∷◌, refl}
 use Rattle.std.specs.List.{list_any}
 use Rattle.sdd_obligations.specs.All.{Down, Event, Settle, Submit, dm_no, submits_in, txn_no}
@@ -17,7 +17,7 @@ pub record SettleAll (txns : ℕ) (events : List Event) : Type 0 where
   pub none_down : list_any takes_down events ≡ false
   pub ends : EndsAtRest events
 
--- a summary that tells that all of so many transactions are committed
+-- a summary that says that all of so many transactions are committed
 pub record TellsAllDone (txns : ℕ) (text : List ℕ) : Type 0 where
   pub counts : Summary
   pub text_is : text ≡ summary_text counts

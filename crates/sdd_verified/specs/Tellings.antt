@@ -21,7 +21,7 @@ pending_numbers left = map (λ (p : Pending). p.txn) left
 abbrev pub copies_told : Catalogue → List CopyTable → List (List ℕ × List Row)
 copies_told cat copies = map (λ (t : CopyTable). (place_words cat t.dm.0 t.frag.0, t.rows)) copies
 
--- two reports tell the same: the names of the committed transactions in their order, the replies along it, the names of
+-- two reports say the same: the names of the committed transactions in their order, the replies along it, the names of
 -- the pending ones, and the copies
 pub record TellAlike (cat : Catalogue) (work other : Workload) (text : List ℕ) (one : IsReportOn cat work text) (two : IsReportOn cat other text) : Type 0 where
   pub order : names_of work.txns (order_of cat work one.log) ≡ names_of other.txns (order_of cat other two.log)

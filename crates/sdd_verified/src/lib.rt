@@ -1,9 +1,9 @@
-//! The report on a run is verified, so that what judges reports finds no fault in it.
+//! The report on a run is verified: `verify` finds no fault in it.
 //!
 //! The contracts to the layer above are laws: `law_verified`, which joins the report on a run of
 //! `sdd_run` to the verdict of `sdd_verify`; `law_has_report`, that there is one, or the limit ends the
-//! run; `law_pending_lines`, which of its lines tell of pending transactions; `law_one_text`, what its
-//! text gives back; and of summaries `law_all_committed` and `law_made_all_committed`.
+//! run; `law_pending_lines`, which of its lines are of pending transactions; `law_one_text`, what
+//! can be read from its text; and of summaries `law_all_committed` and `law_made_all_committed`.
 #![tactic(auto)]
 
 mod law;

@@ -9,14 +9,14 @@ ghost use Rattle.sdd_run.specs.script.declared.workload.Workload.{Workload};
 ghost use Rattle.sdd_verified.specs.Summaries.{SettleAll, TellsAllDone};
 
 /// A law: where the events submit each transaction, take no data module down and end with a settle
-/// or a redeclare, the summary of the run tells as many committed as there are transactions.
+/// or a redeclare, the summary of the run counts as many committed as there are transactions.
 pub fn law_all_committed()
     ensures { (cat : Catalogue) (work : Workload) (text : List ℕ) → IsSound cat → IsValid cat work
         → SettleAll (length work.txns) work.events → IsSummaryOn cat work text
         → TellsAllDone (length work.txns) text }
 {}
 
-/// A law: the summary of each made input tells that all its transactions are committed.
+/// A law: the summary of each made input says that all its transactions are committed.
 pub fn law_made_all_committed()
     ensures { (seed n : ℕ) (text : List ℕ) → n ≤ MAX_TXNS → IsSummaryOn bank (workload_of seed n) text
         → TellsAllDone n text }

@@ -7,7 +7,7 @@ ghost use Rattle.sdd_run.specs.script.Valid.{IsValid};
 ghost use Rattle.sdd_run.specs.script.declared.workload.Workload.{Workload};
 ghost use Rattle.sdd_verified.specs.Tellings.{TellAlike, TellOfTheSame};
 
-/// A law: two reports that have one text tell the same order, replies, pending transactions and
+/// A law: two reports with the same text have the same order, replies, pending transactions and
 /// copies, whatever the workloads; by their names, and where they are of the same transactions by
 /// their numbers too.
 pub fn law_one_text()

@@ -10,7 +10,7 @@ abbrev pub redeclared : Event → ℕ → ℕ
 redeclared Redeclare n = n + 1
 redeclared event n = n
 
--- of catalogues in force one after the other, that behind so many `redeclare`s
+-- of catalogues in force one after the other, that after so many `redeclare`s
 abbrev pub era_at : Catalogue → List Catalogue → ℕ → Catalogue
 era_at cat eras n = slice_index_or eras n cat
 

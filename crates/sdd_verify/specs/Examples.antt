@@ -46,7 +46,7 @@ pub no_order : told (codes "ordered p q\n") ≡ No 3
 unfolding cut_lines digits
 no_order = refl
 
--- what stands behind the last newline is no line
+-- what stands after the last newline is no line
 pub no_line : told (codes "order") ≡ No 2
 unfolding cut_lines digits
 no_line = refl
@@ -94,7 +94,7 @@ further =
       writes = codes "all" ∷ [];
     }
 
--- p is submitted before the list is put in force, and q behind it
+-- p is submitted before the list is put in force, and q after it
 abbrev with_list : Workload
 with_list =
     record put_and_query {

@@ -1,4 +1,4 @@
--- The lines of a report, counted from 1: what stands behind the last newline is no line.
+-- The lines of a report, counted from 1: what stands after the last newline is no line.
 use Rattle.std.specs.Prelude.{ℕ, ◌+◌, nat_eq, nat_le, ◌||◌, not, codes, length, Bool, false, List, [], ◌∷◌, Result, Ok, Err, if◌then◌else◌}
 use Rattle.std.specs.List.{starts_with}
 use Rattle.std.specs.Str.{bytes_eq}
@@ -16,11 +16,11 @@ Numbered = ℕ × List (List ℕ)
 abbrev pub begun : List ℕ → Result Numbered ℕ
 begun report = if nat_le (length report) MAX_REPORT_BYTES then Ok (1, lines_of report) else Err 0
 
--- the line that tells the order: the word `order` alone, or with a space behind it
+-- the line that gives the order: the word `order` alone, or with a space after it
 abbrev pub is_order_line : List ℕ → Bool
 is_order_line line = bytes_eq line (codes "order") || starts_with nat_eq line (codes "order ")
 
--- the first order line, with its number and the lines behind it; where there is none, the number behind the last line
+-- the first order line, with its number and the lines after it; where there is none, the number after the last line
 abbrev pub order_line_in : ℕ → List (List ℕ) → Result (ℕ × List ℕ × Numbered) ℕ
 order_line_in number [] = Err number
 order_line_in number (line ∷ lines) = if is_order_line line then Ok (number, line, (number + 1, lines)) else order_line_in (number + 1) lines
@@ -34,7 +34,7 @@ abbrev pub ends_replies : List (List ℕ) → Bool
 ends_replies [] = false
 ends_replies (line ∷ lines) = not (tells_reply line)
 
--- what stands behind lines that have to come; or the number of the first that isn't there or is another
+-- what stands after lines that have to come; or the number of the first that isn't there or is another
 abbrev pub passed : ℕ → List (List ℕ) → List (List ℕ) → Result Numbered ℕ
 passed number [] lines = Ok (number, lines)
 passed number (line ∷ more) [] = Err number

@@ -5,18 +5,18 @@ use Rattle.sdd_script.specs.All.{Txn, TxnNo, along, known, must, tail_of, ◌>>=
 use Rattle.sdd_verify.specs.Classes.{class_of}
 use Rattle.sdd_verify.specs.Submitted.{named}
 
--- whether a transaction may stand somewhere behind another, of the classes of submitted transactions: it is another one, and
+-- whether a transaction may stand somewhere after another, of the classes of submitted transactions: it is another one, and
 -- where it has the other's class it was submitted later
 abbrev pub may_follow : List ℕ → TxnNo → TxnNo → Bool
 may_follow classes first later =
     not (first.0 == later.0) && (not (class_of classes first == class_of classes later) || nat_lt first.0 later.0)
 
--- whether each transaction of an order may stand behind all that stand before it
+-- whether each transaction of an order may stand after all that stand before it
 abbrev pub is_in_turn : List ℕ → List TxnNo → Bool
 is_in_turn classes [] = true
 is_in_turn classes (first ∷ order) = list_all (may_follow classes first) order && is_in_turn classes order
 
--- whether a number may stand behind the last one of its class
+-- whether a number may stand after the last one of its class
 abbrev pub allows : Option ℕ → ℕ → Bool
 allows None number = true
 allows (Some last) number = nat_lt last number
@@ -29,7 +29,7 @@ words_of line = slice_split (λ c. c == 32) line
 abbrev pub names_on : List ℕ → List (List ℕ)
 names_on line = tail_of (words_of line)
 
--- the order that an order line with this number tells; the line is at fault where it names what isn't submitted, or one
+-- the order that an order line with this number gives; the line is at fault where it names what isn't submitted, or one
 -- that may not stand there
 abbrev pub order_told : List Txn → List ℕ → ℕ → List ℕ → Result (List TxnNo) ℕ
 order_told txns classes number line = do

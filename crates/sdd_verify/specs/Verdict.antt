@@ -1,4 +1,4 @@
--- What a report is judged to be: the rules in their order, of which the first that is broken tells a line.
+-- What a report is judged to be: the rules in their order, of which the first that is broken gives the line at fault.
 use Rattle.std.specs.Prelude.{ℕ, List, Result, Ok, Err}
 use Rattle.sdd_script.specs.All.{Catalogue, TxnNo, must, ◌>>=◌}
 use Rattle.sdd_script.specs.declared.workload.Workload.{Workload}
@@ -11,8 +11,8 @@ use Rattle.sdd_verify.specs.declared.verdict.Verdict.{Verdict}
 use Rattle.sdd_verify.specs.declared.verdict.Verdict.TheVariants.{Yes, No}
 
 -- The number of the first line at fault, 0 for the whole report. The rules are:
--- the report isn't too long; it has an order line; the first one tells an order of submitted transactions; behind it
--- stand the lines of the replies that one plain database gives along the order; and behind these a line of no reply.
+-- the report isn't too long; it has an order line; the first one gives an order of submitted transactions; after it
+-- stand the lines of the replies that one plain database gives along the order; and after these a line that is of no reply.
 abbrev pub judged : Catalogue → Workload → List ℕ → Result (Unit {0}) ℕ
 judged cat work report = do
   (whole : Numbered) ← begun report

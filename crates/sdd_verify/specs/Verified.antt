@@ -14,16 +14,16 @@ use Rattle.sdd_verify.specs.declared.limits.TheConstants.{MAX_REPORT_BYTES}
 abbrev pub at : List TxnNo → ℕ → TxnNo
 at order i = slice_index_or order i (record { 0 = 0 })
 
--- Of two transactions in an order, of the classes of submitted transactions, the one behind is another one, and where they
+-- Of two transactions in an order, of the classes of submitted transactions, the one after is another one, and where they
 -- have one class it is the later submitted.
 abbrev pub IsInTurn : List ℕ → List TxnNo → Type 0
 IsInTurn classes order = (i k : ℕ) → i < k → k < length order
     → ((at order i).0 ≢ (at order k).0) × (class_of classes (at order i) ≡ class_of classes (at order k) → (at order i).0 < (at order k).0)
 
--- The report tells an order of submitted transactions, none of them twice and those of one class by submission, each by the
+-- The report gives an order of submitted transactions, none of them twice and those of one class by submission, each by the
 -- list of classes in force when it was submitted. Its first
--- order line names them; the lines behind it are the replies that one plain database gives which begins with the
--- workload's rows and runs these transactions in this order; and a line follows that is of no reply.
+-- order line names them; the lines after it are the replies of the one plain database that begins with the
+-- workload's rows and runs these transactions in this order; and then comes a line that is of no reply.
 pub record IsVerified (cat : Catalogue) (work : Workload) (report : List ℕ) : Type 0 where
   pub small : length report ≤ MAX_REPORT_BYTES
   pub order : List TxnNo

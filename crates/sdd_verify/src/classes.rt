@@ -11,7 +11,7 @@ use sdd_script::sdd_catalog::Catalogue;
 use sdd_script::sdd_lang::{Txn, class_for};
 use std::alloc::Global;
 
-/// The catalogue in force behind so many `redeclare`s.
+/// The catalogue in force after so many `redeclare`s.
 fn era_at<'a>(catalogue: &'a Catalogue, eras: &'a [Catalogue], redeclared: usize) -> &'a Catalogue
     ensures { result.now ≡ era_at catalogue.now eras.now redeclared }
 {

@@ -11,7 +11,7 @@ use std::alloc::{AllocError, AllocFailed};
 pub enum Flaw {
     /// The line with this number is at fault; 0 stands for the whole report.
     Line(u32),
-    /// Want of memory.
+    /// Out of memory.
     NoMemory,
 }
 

@@ -34,8 +34,8 @@ fn judge(alloc: Global, catalogue: &Catalogue, work: &Workload, report: &[u8]) -
     must(rest.number, rest.ends_replies())
 }
 
-/// Judges a report against one plain database: whether it tells an order of submitted transactions, and
-/// behind it the replies that the database gives which begins with the workload's rows and runs these
+/// Judges a report against one plain database: whether it has an order of submitted transactions, and
+/// after it the replies of the database that begins with the workload's rows and runs these
 /// transactions in that order.
 ///
 /// It says nothing of transactions that the report doesn't name.

@@ -32,7 +32,7 @@ impl<'a> Lines<'a> {
         })
     }
 
-    /// The first line, and the lines behind it.
+    /// The first line, and the lines after it.
     pub(crate) fn next(self) -> Option<(&'a [u8], Lines<'a>)>
         ensures { MatchOption result
             (lines_of self.entry.bytes.now ≡ [])

@@ -1,4 +1,4 @@
-//! The order that an order line tells.
+//! The order that an order line gives.
 ghost use Rattle.std.specs.Prelude.{◌≡◌, map, IfOk};
 ghost use Rattle.std.specs.Option.{option_copied};
 ghost use Rattle.sdd_script.specs.All.{Gives, along, known};
@@ -74,7 +74,7 @@ fn class_of(classes: &[u32], number: TxnNo) -> u32
     }
 }
 
-/// Whether a transaction may stand behind the last one of its class.
+/// Whether a transaction may stand after the last one of its class.
 fn may_stand_behind(last: Option<&u32>, number: TxnNo) -> bool
     ensures { result ≡ allows (option_copied last.entry) number.0 }
 {
@@ -84,7 +84,7 @@ fn may_stand_behind(last: Option<&u32>, number: TxnNo) -> bool
     }
 }
 
-/// Whether each transaction of an order may stand behind those before it: none stands twice, and those of
+/// Whether each transaction of an order may stand after those before it: none stands twice, and those of
 /// one class stand by submission. Costs a logarithmic step for each.
 fn is_in_turn(alloc: Global, classes: &[u32], order: &[TxnNo]) -> Result<bool, NoMemory>
     ensures { IfOk result (λ is. is ≡ is_in_turn classes.now order.now) }
@@ -100,7 +100,7 @@ fn is_in_turn(alloc: Global, classes: &[u32], order: &[TxnNo]) -> Result<bool, N
     Ok(true)
 }
 
-/// The order that the order line with this number tells.
+/// The order that the order line with this number gives.
 pub(crate) fn told_order(
     alloc: Global,
     submitted: &Submitted,

@@ -9,7 +9,7 @@ use crate::flaw::Flaw;
 use crate::lines::Lines;
 use sdd_script::sdd_words::next_line;
 
-/// What stands behind this line, which has to come first.
+/// What follows this line, which has to come first.
 fn pass_line<'a>(line: &[u8], report: Lines<'a>) -> Result<Lines<'a>, Flaw>
     ensures { Gives line_in numbered result
         (passed report.entry.number (line.now ∷ []) (lines_of report.entry.bytes.now)) }
@@ -26,7 +26,7 @@ fn pass_line<'a>(line: &[u8], report: Lines<'a>) -> Result<Lines<'a>, Flaw>
     }
 }
 
-/// What stands behind the lines of this text, which have to come first, one by one. Costs time linear in
+/// What follows the lines of this text, which have to come first, one by one. Costs time linear in
 /// the text.
 pub(crate) fn pass<'a>(text: &[u8], report: Lines<'a>) -> Result<Lines<'a>, Flaw>
     ensures { Gives line_in numbered result

@@ -18,7 +18,7 @@ use sdd_script::sdd_catalog::Catalogue;
 use sdd_script::sdd_lang::Txn;
 use std::alloc::Global;
 
-/// What stands behind the lines of this reply, which have to come first.
+/// What follows the lines of this reply, which have to come first.
 fn pass_reply<'a>(
     alloc: Global,
     name: &[u8],
@@ -33,8 +33,8 @@ fn pass_reply<'a>(
     pass(text.as_slice(), report)
 }
 
-/// What stands behind the replies of these transactions, which have to come first: the replies that one
-/// plain database gives which begins with these rows and runs the transactions one after the other.
+/// What follows the replies of these transactions, which have to come first: the replies of the one
+/// plain database that begins with these rows and runs the transactions one after the other.
 ///
 /// Costs what the transactions do until the first line that is another, and memory for one reply.
 pub(crate) fn pass_replies<'a>(

@@ -1,4 +1,4 @@
--- The theorems. READs that wait are told by a test.
+-- The theorems. A test says which READs wait.
 use Rattle.std.specs.Prelude.{ℕ, ◌≡◌, Bool, true, false, List, Some, slice_get}
 use Rattle.sdd_invariants.specs.All.{Catalogue, ClassNo, Diagonal, FragNo, IsTable}
 use Rattle.sdd_invariants.specs.protocol.declared.entry.Entry.{Entry}
@@ -23,7 +23,7 @@ NoPathToWriter =
     (G : WaitGraph) → Fits G → (n : ℕ) (d : WaitDiagonal) → IsDiagonal G n d → d.own ≡ false
     → ¬ Path G (G.read d.reader) (G.write d.writer)
 
--- where each READ that waits does so because of another one that waits, none waits
+-- if each READ that waits does so because of another one that waits, no READ waits
 abbrev pub NoneWaits : Type 0
 NoneWaits =
     (G : WaitGraph) → Fits G → (waits : WaitingRead → Bool)

@@ -21,8 +21,8 @@ pub fn law_no_path_to_writer()
     ensures { NoPathToWriter }
 {}
 
-/// A law: over a graph of waits that fits its block numbers, where each READ that waits has the times
-/// of a Start and waits because of another one that waits, none waits. Takes no memory.
+/// A law: over a graph of waits that fits its block numbers, if each READ that waits has the times
+/// of a Start and waits because of another one that waits, no READ waits. Takes no memory.
 pub fn law_no_ring_waits()
     ensures { NoneWaits }
 {}

@@ -23,7 +23,7 @@ pub null_cut_off : message_in (take 12 null_bytes) ≡ Err 5
 unfolding message_in message_at null_at class_at ts_at number_at
 null_cut_off = refl
 
--- with one byte behind it
+-- with one byte after it
 pub null_and_more : message_in (null_bytes ++ 0 ∷ []) ≡ Err 13
 unfolding message_in message_at null_at class_at ts_at number_at
 null_and_more = refl
@@ -41,7 +41,7 @@ pub hold_read : message_in (13 ∷ []) ≡ Ok Hold
 unfolding message_in message_at
 hold_read = refl
 
--- the VALUES of use 1 of the attempt at 65 of class 2, which are the bytes behind the count
+-- the VALUES of use 1 of the attempt at 65 of class 2, which are the bytes after the count
 abbrev values_bytes : List ℕ → List ℕ → List ℕ
 values_bytes count values =
     5 ∷ ((replicate 7 0 ++ 65 ∷ []) ++ (0 ∷ 0 ∷ 0 ∷ 2 ∷ []) ++ (0 ∷ 0 ∷ 0 ∷ 1 ∷ []) ++ count ++ values)

@@ -26,7 +26,7 @@ use Rattle.sdd_wire.specs.declared.msg.Msg.TheVariants.{Done, Release}
 use Rattle.sdd_wire.specs.Source.{Source, source_of, place, Reading, ◌>>=◌, read_as, meant, piece_at, byte_at, number_at, numbered, flag_at}
 use Rattle.sdd_wire.specs.Source.{list_at, pair_at, option_at}
 
--- the place that a fault tells, which is none where memory is wanting
+-- the place in a fault, which is none where memory ran out
 abbrev pub fault_in : WireFault → Option ℕ
 fault_in (Bad broken) = Some broken
 fault_in NoMemory = None

@@ -15,7 +15,7 @@ source_of bytes = record { whole = length bytes; left = bytes }
 abbrev pub place : Source → ℕ
 place s = s.whole - length s.left
 
--- what is read, and what is left behind it; or the place of the first field that is cut off or that
+-- what is read, and what is left after it; or the place of the first field that is cut off or that
 -- can't have its value
 abbrev pub Reading : Type 0 → Type 0
 Reading A = Source → Result (A × Source) ℕ
@@ -24,7 +24,7 @@ abbrev pub after : {A B : Type 0} → Result (A × Source) ℕ → (A → Readin
 after (Ok x) next = next x.0 x.1
 after (Err broken) next = Err broken
 
--- one reading and then the next, which is told what the first one read
+-- one reading and then the next, which is given what the first one read
 infixl 10 ◌>>=◌
 abbrev pub ◌>>=◌ : {A B : Type 0} → Reading A → (A → Reading B) → Reading B
 first >>= next = λ s. after (first s) next
@@ -83,7 +83,7 @@ items_at item (suc n) = item >>= (λ x. items_at item n >>= (λ xs. read_as (x �
 abbrev pub list_at : {A : Type 0} → Reading A → Reading (List A)
 list_at item = number_at w64 >>= items_at item
 
--- two values, one behind the other
+-- two values, one after the other
 abbrev pub pair_at : {A B : Type 0} → Reading A → Reading B → Reading (A × B)
 pair_at first second = do
   a ← first

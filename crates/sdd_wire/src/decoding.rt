@@ -26,12 +26,12 @@ fn whole_message(alloc: Global, bytes: &[u8]) -> Result<Msg, WireFault>
 
 /// The message of which the bytes are the whole spelling, or else the place where they break it.
 ///
-/// Costs time and memory linear in the bytes, whatever counts and lengths they tell: for what isn't
-/// there no memory is taken but room for the first few items of a list.
+/// Costs time and memory linear in the bytes, whatever counts and lengths they name: for what isn't
+/// there, it takes only room for the first few items of a list.
 pub fn decode(alloc: Global, bytes: &[u8]) -> Result<Msg, WireFault>
     // What is read is spelled so.
     ensures spelled { IfOk result (λ msg. Fits msg × (bytes.now ≡ spelled msg)) }
-    // What is spelled so is read, unless memory is wanting.
+    // What is spelled so is read, unless memory runs out.
     ensures read { (msg : Message) → Fits msg → bytes.now ≡ spelled msg
         → Gives fault_in (λ found. found) result (Ok msg) }
     // Where the bytes break it.

@@ -7,10 +7,10 @@ use thiserror::Error;
 pub enum WireFault {
     /// They aren't the whole spelling of one message. The place, counted from 0, is that of the
     /// first field that they cut off or that has a value it can't have, and else that of the first
-    /// byte behind the message.
+    /// byte after the message.
     #[error("the message breaks at byte {0}")]
     Bad(u64),
-    /// Want of memory.
+    /// Out of memory.
     #[error("no memory")]
     NoMemory,
 }

@@ -1,4 +1,4 @@
-//! A tag, and the fields of its message behind it.
+//! A tag, and the fields of its message after it.
 ghost use Rattle.std.specs.Prelude.{◌≡◌, ◌++◌, ◌∷◌, OnOk};
 
 use crate::spelled::Spelled;

@@ -99,7 +99,7 @@ impl<T: Spelled> Spelled for Listed<T> {
         put_items(out, items)
     }
 
-    /// Takes room for the first few items at once, and for one behind them only once those before
+    /// Takes room for the first few items at once, and for a later one only once those before
     /// it have been read, whatever the count says.
     fn read(alloc: Global, source: &mut Source<'_>) -> Result<Self, WireFault> {
         let count = u64::read(alloc, source)?;

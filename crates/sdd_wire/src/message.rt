@@ -1,4 +1,4 @@
-//! Messages: a tag, and the fields behind it.
+//! Messages: a tag, and the fields after it.
 ghost use Rattle.std.specs.Prelude.{◌≡◌};
 ghost use Rattle.sdd_base.specs.Readings.{Gives};
 ghost use Rattle.sdd_wire.specs.Spelling.{spelled};

@@ -39,7 +39,7 @@ pub enum Msg {
         by: ClassNo,
         write: Ts,
     },
-    /// To a data module: tell the values of a column of the rows of a use. Columns are counted
+    /// To a data module: send the values of a column of the rows of a use. Columns are counted
     /// from 1.
     Fetch {
         ts: Ts,

@@ -1,4 +1,4 @@
--- The forms that words take behind one another: lists up to a keyword, conditions, assignments.
+-- The forms that words take after one another: lists up to a keyword, conditions, assignments.
 use Rattle.std.specs.Prelude.{ℕ, List, [], ◌∷◌, codes, ◌+◌, ◌&&◌, take, drop, Bool, true, false, Option, Some, None, if◌then◌else◌}
 use Rattle.std.specs.Option.{option_map}
 use Rattle.std.specs.List.{position, position_or_len, before_first, list_all}
@@ -7,7 +7,7 @@ use Rattle.sdd_words.specs.declared.word.Word.{Word}
 use Rattle.sdd_words.specs.declared.form.Comparison.{Comparison}
 use Rattle.sdd_words.specs.declared.form.Setting.{Setting}
 
--- the words before and behind the first that is this keyword
+-- the words before and after the first that is this keyword
 abbrev pub cut_at : List ℕ → List Word → Option (List Word × List Word)
 cut_at key ws = option_map (λ k. (take k ws, drop (k + 1) ws)) (position (is_key key) ws)
 
@@ -19,7 +19,7 @@ up_to key ws = before_first (is_key key) ws
 abbrev pub from_key : List ℕ → List Word → List Word
 from_key key ws = drop (position_or_len (is_key key) ws) ws
 
--- one condition behind its keyword
+-- one condition after its keyword
 abbrev pub comparison_of : List ℕ → Word → Word → Word → Word → Option Comparison
 comparison_of key k left op right =
     if is_key key k && looks_like_column left && is_free right
@@ -30,13 +30,13 @@ abbrev pub joined : {A : Type 0} → Option A → Option (List A) → Option (Li
 joined (Some x) (Some xs) = Some (x ∷ xs)
 joined _ _ = None
 
--- conditions, the first behind the keyword and each further one behind `and`
+-- conditions, the first after the keyword and each further one after `and`
 unfoldable pub comparisons : List ℕ → List Word → Option (List Comparison)
 comparisons key [] = Some []
 comparisons key (k ∷ left ∷ op ∷ right ∷ more) = joined (comparison_of key k left op right) (comparisons (codes "and") more)
 comparisons key _ = None
 
--- the conditions behind `where`, if there are any
+-- the conditions after `where`, if there are any
 abbrev pub conditions_form : List Word → Option (List Comparison)
 conditions_form ws = comparisons (codes "where") ws
 
@@ -47,7 +47,7 @@ setting_of left op right =
     then option_map (λ adds. record { left = left; adds = adds; right = right }) (adds_of op)
     else None
 
--- assignments, one behind the other
+-- assignments, one after the other
 unfoldable pub settings : List Word → Option (List Setting)
 settings [] = Some []
 settings (left ∷ op ∷ right ∷ more) = joined (setting_of left op right) (settings more)

@@ -81,7 +81,7 @@ looks_like_column w = has_one_point (content w)
 abbrev pub spells_column : List ℕ → Bool
 spells_column bytes = whole_digits (before_point bytes) && is_name (behind_point bytes)
 
--- behind `=` such a word stands for a column, and any other for a value
+-- after `=` such a word stands for a column, and any other for a value
 abbrev pub names_column : Op → Word → Bool
 names_column ops.Eq (Plain bytes) = spells_column bytes
 names_column _ _ = false

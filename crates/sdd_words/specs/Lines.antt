@@ -1,4 +1,4 @@
--- The lines of a text, each without its newline, and what stands behind the last newline.
+-- The lines of a text, each without its newline, and what stands after the last newline.
 use Rattle.std.specs.Prelude.{◌≡◌, ◌≢◌, ℕ, ◌<◌, List, [], ◌∷◌, ◌++◌, length, ◌==◌, if◌then◌else◌}
 
 -- one byte more at the front
@@ -14,7 +14,7 @@ abbrev pub spelled_lines : List (List ℕ) → List ℕ
 spelled_lines [] = []
 spelled_lines (l ∷ ls) = l ++ 10 ∷ spelled_lines ls
 
--- a line and what stands behind its newline
+-- a line and what stands after its newline
 pub record Cuts (bytes line rest : List ℕ) : Type 0 where
   pub whole : bytes ≡ line ++ 10 ∷ rest
   pub first : cut_lines bytes ≡ (line ∷ (cut_lines rest).0, (cut_lines rest).1)

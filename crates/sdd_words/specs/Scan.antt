@@ -9,7 +9,7 @@ use Rattle.sdd_words.specs.declared.split.Mode.TheVariants.{Start, InPlain, InTe
 use Rattle.sdd_words.specs.declared.split.Move.{Move}
 use Rattle.sdd_words.specs.declared.split.Move.TheVariants.{Goes, Adds, Ends, Refuses}
 
--- what the next byte does: before a word, in a plain word, in a text, behind a backslash, behind the closing quote
+-- what the next byte does: before a word, in a plain word, in a text, after a backslash, after the closing quote
 abbrev pub move_of : Mode → ℕ → Move
 move_of Start c = if c == 34 then Goes InText else (if c == 32 then Refuses else Adds InPlain)
 move_of InPlain c = if c == 32 then Ends else Adds InPlain
@@ -31,7 +31,7 @@ last_word _ text = None
 abbrev pub words_at_end : Mode → List ℕ → Option (List Word)
 words_at_end mode text = option_map (λ w. w ∷ []) (last_word mode text)
 
--- the words before, and those that are read behind them
+-- the words before, and those that are read after them
 abbrev pub onto : List Word → Option (List Word) → Option (List Word)
 onto front read = option_map (λ ws. front ++ ws) read
 

@@ -12,7 +12,7 @@ abbrev pub is_nonzero : List ℕ → Bool
 is_nonzero [] = false
 is_nonzero (c ∷ cs) = not (c == 48)
 
--- digits, or digits of a number that isn't 0 behind a minus
+-- digits, or digits of a number that isn't 0 after a minus
 abbrev pub is_whole : List ℕ → Bool
 is_whole [] = false
 is_whole (c ∷ cs) = if c == 45 then whole_digits cs && is_nonzero cs else whole_digits (c ∷ cs)

@@ -3,7 +3,7 @@ use Rattle.std.specs.Prelude.{◌≢◌, ℕ, List, [], ◌∷◌, ◌++◌, ◌
 use Rattle.sdd_words.specs.declared.word.Word.{Word}
 use Rattle.sdd_words.specs.declared.word.Word.TheVariants.{Plain, Quoted}
 
--- a quote or a backslash, which stand behind a backslash in a text
+-- a quote or a backslash, which stand after a backslash in a text
 abbrev pub is_special : ℕ → Bool
 is_special c = c == 34 || c == 92
 
@@ -19,11 +19,11 @@ abbrev pub word_bytes : Word → List ℕ
 word_bytes (Plain bytes) = bytes
 word_bytes (Quoted text) = 34 ∷ (escaped text ++ 34 ∷ [])
 
--- a word behind a space
+-- a word after a space
 abbrev pub spaced : Word → List ℕ
 spaced w = 32 ∷ word_bytes w
 
--- further words, each behind one space
+-- further words, each after one space
 abbrev pub more_bytes : List Word → List ℕ
 more_bytes [] = []
 more_bytes (w ∷ ws) = 32 ∷ (word_bytes w ++ more_bytes ws)

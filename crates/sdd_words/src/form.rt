@@ -1,4 +1,4 @@
-//! The forms that words take behind one another.
+//! The forms that words take after one another.
 ghost use Rattle.std.specs.Prelude.{◌≡◌, ◌<◌, ◌∷◌, length, Some, None, IfOk, MatchOption, codes};
 ghost use Rattle.std.specs.List.{position, list_all};
 ghost use Rattle.sdd_words.specs.Keywords.{is_key, is_free, looks_like_column};
@@ -37,7 +37,7 @@ fn key_in(words: &[Word], key: &[u8]) -> Option<usize>
     words.iter().position(|word| has_key(key, word))
 }
 
-/// The words before and behind the first that is this keyword, or None exactly where none is. Takes
+/// The words before and after the first that is this keyword, or None exactly where none is. Takes
 /// no memory.
 pub fn cut_at<'a>(words: &'a [Word], key: &[u8]) -> Option<(&'a [Word], &'a [Word])>
     ensures { MatchOption result (cut_at key.now words.now ≡ None) (λ x. cut_at key.now words.now ≡ Some (x.0.now, x.1.now)) }
@@ -106,7 +106,7 @@ fn three(words: &[Word]) -> Option<(&Word, &Word, &Word, &[Word])>
     }
 }
 
-/// The conditions that the words are, the first behind `where` and each further one behind `and`, or
+/// The conditions that the words are, the first after `where` and each further one after `and`, or
 /// None exactly where they aren't conditions. Costs time and memory linear in the words.
 #[tactic(auto, using(crate::proofs::Comparing::comparison_more, crate::proofs::Comparing::no_comparison, crate::proofs::Comparing::comparisons_end, crate::proofs::Comparing::comparisons_few))]
 pub fn read_comparisons(alloc: Global, words: &[Word]) -> Result<Option<Vec<Comparison>>, NoMemory>

@@ -105,7 +105,7 @@ pub fn point_in(bytes: &[u8]) -> Option<usize>
     bytes.iter().position(|byte| *byte == b'.')
 }
 
-/// The bytes before and behind the first point, all and none where there is no point. Takes no
+/// The bytes before and after the first point, all and none where there is no point. Takes no
 /// memory.
 pub fn parts_at_point(bytes: &[u8]) -> (&[u8], &[u8])
     ensures before { result.0.now ≡ before_point bytes.now }
@@ -166,7 +166,7 @@ fn spells_column(alloc: Global, bytes: &[u8]) -> Result<bool, NoMemory>
     }
 }
 
-/// Whether the word behind the operator stands for a column: the operator is `=`, and the word is a
+/// Whether the word after the operator stands for a column: the operator is `=`, and the word is a
 /// number without sign, a point and a name.
 pub fn names_column(alloc: Global, op: Op, word: &Word) -> Result<bool, NoMemory>
     ensures { IfOk result (λ b. b ≡ names_column op word.now) }

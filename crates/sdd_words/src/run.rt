@@ -5,7 +5,7 @@ ghost use Rattle.sdd_words.specs.Words.{is_special};
 
 use memchr::memchr2;
 
-/// Whether a byte stands behind a backslash in a text.
+/// Whether a byte stands after a backslash in a text.
 pub fn is_special(byte: u8) -> bool
     ensures { result ≡ is_special byte }
 {

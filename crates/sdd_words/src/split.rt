@@ -19,9 +19,9 @@ pub enum Mode {
     InPlain,
     /// In a text.
     InText,
-    /// Behind a backslash in a text.
+    /// After a backslash in a text.
     Escape,
-    /// Behind the closing quote.
+    /// After the closing quote.
     Closed,
 }
 

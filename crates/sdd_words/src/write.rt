@@ -1,5 +1,5 @@
-//! Writing words, piece by piece. Each call puts its piece behind what was written before; where
-//! memory is wanting, what was written is not to be used.
+//! Writing words, piece by piece. Each call puts its piece after what was written before; where
+//! memory runs out, what was written is not to be used.
 ghost use Rattle.std.specs.Prelude.{◌≡◌, ◌++◌, ◌∷◌, [], ◌<◌, flat_map, length, IfOk, OnOk};
 ghost use Rattle.std.specs.Fmt.{decimal, signed_decimal};
 ghost use Rattle.sdd_base.specs.declared.value.Value.{Value};
@@ -19,7 +19,7 @@ pub fn put(out: &mut Vec<u8>, bytes: &[u8]) -> Result<(), NoMemory>
     Ok(())
 }
 
-/// Puts what stands at the front of a text: a quote or a backslash, behind a backslash, or the bytes
+/// Puts what stands at the front of a text: a quote or a backslash, after a backslash, or the bytes
 /// before the next one of these. Gives what is left of the text.
 #[tactic(auto, using(crate::proofs::Writes::run_written))]
 fn put_front<'a>(out: &mut Vec<u8>, text: &'a [u8]) -> Result<&'a [u8], NoMemory>
@@ -46,7 +46,7 @@ fn put_escaped(out: &mut Vec<u8>, text: &[u8]) -> Result<(), NoMemory>
     Ok(())
 }
 
-/// Puts a text between quotes, with its quotes and backslashes behind backslashes. Costs time linear
+/// Puts a text between quotes, with its quotes and backslashes after backslashes. Costs time linear
 /// in the text: one search and one copy for each run of bytes without these.
 pub fn put_text(out: &mut Vec<u8>, text: &[u8]) -> Result<(), NoMemory>
     ensures { OnOk result (out.new.items ≡ out.old.items ++ word_bytes (Quoted text.now)) }
@@ -89,7 +89,7 @@ fn put_spaced(out: &mut Vec<u8>, value: &Value) -> Result<(), NoMemory>
     put_value(out, value)
 }
 
-/// Puts values, each behind a space. Costs time linear in what is put.
+/// Puts values, each after a space. Costs time linear in what is put.
 #[tactic(auto, using(crate::proofs::Written::item_written, crate::proofs::Written::items_written))]
 pub fn put_values(out: &mut Vec<u8>, values: &[Value]) -> Result<(), NoMemory>
     ensures { OnOk result (out.new.items ≡ out.old.items ++ flat_map (λ (v : Value). spaced (value_word v)) values.now) }

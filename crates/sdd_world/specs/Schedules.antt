@@ -10,7 +10,7 @@ takes_rounds Settle = true
 takes_rounds Redeclare = true
 takes_rounds _ = false
 
--- what is given, with these events behind its own
+-- what is given, with these events after its own
 abbrev pub with_events : Given → List Event → Given
 with_events g [] = g
 with_events g (e ∷ events) = with_events (with_event g e) events
@@ -32,7 +32,7 @@ pub record IsAllowed (g : Given) (e : Event) (lists : List ClassList) : Type 0 w
   pub listed : e ≡ Redeclare → IsListed g lists
   pub good : IsGood (with_event g e)
 
--- each event of a schedule may come behind those before it
+-- each event of a schedule may come after those before it
 abbrev pub AreAllowed : Given → List Event → List ClassList → Type 0
 AreAllowed g [] lists = Unit {0}
 AreAllowed g (e ∷ events) lists = IsAllowed g e lists × AreAllowed (with_event g e) events (lists_after e lists)

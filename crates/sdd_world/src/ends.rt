@@ -8,7 +8,7 @@ pub enum WorldEnd {
     /// There is no number left for the next event, or for the next message of a link.
     #[error("limit")]
     Limit,
-    /// Want of memory.
+    /// Out of memory.
     #[error("no memory")]
     NoMemory,
 }

@@ -4,8 +4,8 @@
 //! that it was given, one by one (`step`, `settle`, `redeclare`) or as a schedule (`carry_out`), or
 //! the call ends it exactly where the limit ends that log.
 //!
-//! Below that, `Sites` hands each call to the module of one site, and the others stay; `home` tells
-//! the site of a transaction; on `Mail` messages travel as the bytes that spell them.
+//! Below that, `Sites` hands each call to the module of one site and no other; `home` gives
+//! the site of a transaction; `Mail` carries messages as the bytes that spell them.
 #![tactic(auto)]
 
 mod ends;

@@ -10,7 +10,7 @@ use sdd_obligations::sdd_history::{History, Recs};
 use sdd_obligations::sdd_wire::{Msg, Outs};
 use std::collections::VecDeque;
 
-/// Adds records of an event behind the others.
+/// Adds records of an event after the others.
 pub fn record_all(history: &mut History, event: u32, recs: Recs) -> Result<(), NoMemory>
     requires { All (λ earlier. earlier.0 ≤ event) history.old }
     ensures { OnOk result (history.new ≡ history.old ++ map (λ r. (event, r)) recs) }

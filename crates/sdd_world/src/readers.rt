@@ -35,7 +35,7 @@ impl<'a> World<'a> {
     ///
     /// # Errors
     ///
-    /// Only for want of memory.
+    /// Only where memory runs out.
     pub fn new(
         alloc: Global,
         whole: &'a Catalogue,
@@ -126,7 +126,7 @@ impl<'a> World<'a> {
         self.net.net()
     }
 
-    /// Whether no packet is in flight and nothing is unacknowledged. Takes no memory.
+    /// Whether no packet is in flight and every message is acknowledged. Takes no memory.
     pub fn quiet(&self) -> bool
         requires { (tms : ℕ) × (dms : ℕ) × (calls : List (Call Msg)) × Carries self.now.net tms dms calls }
         ensures { (g : Given) (log : Log)

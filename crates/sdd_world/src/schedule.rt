@@ -69,7 +69,7 @@ fn carry_out_one<'a>(
 ///
 /// # Errors
 ///
-/// At the first number that is missing, of events or of a link's messages, and for want of memory.
+/// Where an event, or a message of a link, would pass the limit, and where memory runs out.
 pub fn carry_out<'a>(
     world: World<'a>,
     events: Vec<Event>,

@@ -311,8 +311,8 @@ impl<'a> World<'a> {
     ///
     /// # Errors
     ///
-    /// At the first number that is missing, of events or of a link's messages, and for want of
-    /// memory; the world is gone then.
+    /// Where an event, or a message of a link, would pass the limit, and where memory runs out;
+    /// the world is gone then.
     pub fn step(mut self, event: &Event) -> Result<Self, WorldEnd>
         requires { (g : Given) × (log : Log) × StandsFor self g log × IsPossible g event.now
             × IsGood (with_event g event.now) }
