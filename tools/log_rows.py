@@ -169,7 +169,7 @@ ROWS = [
      "deliver D1 T1 2\ndeliver T1 D1 2\ndeliver D1 T1 3\nsettle\nend\n"),
     ("from_two_senders", "Hands", "a data module that is up again is handed the messages of the lower site first", TWO_COPIES,
      "txn y T1\nput item 1 5\ndone\ntxn z T2\nput item 1 6\ndone\nsubmit y\nsubmit z\ndown D1\ndeliver T2 D1 1\ndeliver T1 D1 1\nup D1\nend\n"),
-    ("two_at_once", "Hands", "two puts come at once: the first is applied before the second is handed over; an acknowledgement tells the greatest "
+    ("two_at_once", "Hands", "two puts come at once: the first is applied before the second is handed over; an acknowledgement carries the greatest "
      "number up to which all came", TWO_OF_ONE,
      "txn p T1\nput item 1 5\ndone\ntxn q T1\nput item 11 6\ndone\nsubmit p\nsubmit q\ndeliver T1 D1 2\ndeliver D1 T1 1\nlose T1 D1 1\n"
      "resend T1 D1\ndeliver T1 D1 1\ndeliver D1 T1 1\nresend T1 D1\nend\n"),
@@ -189,7 +189,7 @@ ROWS = [
     ("two_undeclared", "TwoUndeclared", "two undeclared queries, one after the other, and then a put", WRITER_OF_COPIES,
      "txn u T1\nquery 1.val from item\ndone\ntxn v T1\nquery 1.id from item\ndone\ntxn y T1\nput item 1 5\ndone\nsubmit u\nsubmit v\n"
      "settle\nsubmit y\nend\n"),
-    ("released_without_classes", "NoClasses", "a module that runs no class is let go: its clock goes on from the timestamp, and tells in the next HELD", ONE_OF_TWO,
+    ("released_without_classes", "NoClasses", "a module that runs no class is let go: its clock goes on from the timestamp, as the next HELD shows", ONE_OF_TWO,
      "txn u T1\nquery 1.val from item\ndone\ntxn v T1\nquery 1.id from item\ndone\ntick T1 9\nsubmit u\nsettle\ntick T2 1\nsubmit v\n"
      "deliver U T1 1\ndeliver U T2 1\ndeliver T1 U 2\ndeliver T2 U 2\nend\n"),
     ("conditions_of_a_list", "Lists", "a query asks the classes of the list that is in force, from its greatest clock on", ONE_OF_THREE,
