@@ -47,7 +47,7 @@ module _ (cat : Catalogue) (tables : List (List Entry)) (work : Workload) (sound
 
   module _ (log : Log) (lawful : IsLawful (given_of cat tables work) log) where
     -- no list is put in force beyond the last
-    few_lists : redeclares log ≤ length (classes_in cat work)
+    pub few_lists : redeclares log ≤ length (classes_in cat work)
     few_lists =
         let all = how_many cat tables work tabled in
         let few = few_redeclares (given_of cat tables work) log (few_ticks (whole_in cat work) (length work.txns) work.events (events_valid cat work valid))

@@ -121,7 +121,7 @@ module _ (cat : Catalogue) (work : Workload) (text : List ℕ) (sound : IsSound 
 
   list_in_force : (k : ℕ) → k ≤ redeclares r.log → (force_at given k).catalogue ≡ era_at cat (eras_in cat work) k
   list_in_force k most =
-      let last = few_lists cat r.tables work sound valid r.tables_are r.log r.log_is in
+      let last = few_lists cat r.tables work sound valid r.tables_are r.log r.log_is.lawful in
       sym (index_or (eras_in cat work) k cat (force_at given k).catalogue
       (list_at_number cat r.tables work r.tables_are k (omega (arith, most, last))).there)
 
