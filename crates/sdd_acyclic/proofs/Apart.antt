@@ -1,26 +1,11 @@
 -- No cycle of precedence, where what one era submits is done before what a later one submits starts.
-use Rattle.std.proofs.Common.{ℕ, ◌<◌, ◌≤◌, ◌≡◌, List, inl, inr, arith}
-use Rattle.std.proofs.lemmas.Bool.{cases_lt}
-use Rattle.sdd_base.specs.declared.number.FragNo.{FragNo}
-use Rattle.sdd_catalog.specs.Catalogue.{Catalogue}
-use Rattle.sdd_graph.specs.Graph.{conflict_graph}
-use Rattle.sdd_protocol.specs.Protocols.{IsTable}
-use Rattle.sdd_protocol.specs.declared.entry.Entry.{Entry}
-use Rattle.sdd_protocol.proofs.Tables.{blocks_of}
-use Rattle.sdd_order.specs.Paths.{IsOrderly}
-use Rattle.sdd_acyclic.specs.Deeds.{Deeds, Txn, Touches, system, Starts, Applies, ZeroAlone, ErasApart}
-use Rattle.sdd_acyclic.specs.Eras.{Ranked, of_era}
-use Rattle.sdd_acyclic.specs.Fits.{Fits, Meets}
-use Rattle.sdd_acyclic.specs.System.{System, Precedes, over}
-use Rattle.sdd_acyclic.specs.System.Precedes.{by_class, by_writes, by_unseen, by_seen}
-use Rattle.sdd_acyclic.specs.Undeclared.{HasBarriers, Declared, declared}
+use Rattle.sdd_acyclic.proofs.All.{Applies, Catalogue, Declared, Deeds, Entry, ErasApart, Fits, FragNo, HasBarriers, IsOrderly, IsTable, List, Meets, Precedes, Ranked, Starts, Touches, Txn, ZeroAlone, arith, blocks_of, by_class, by_seen, by_unseen, by_writes, cases_lt, conflict_graph, declared, inl, inr, of_era, path_as, system, ℕ, ◌<◌, ◌≡◌, ◌≤◌}
 use Rattle.sdd_acyclic.proofs.Barriers.{orderly_with_barriers}
 use Rattle.sdd_acyclic.proofs.ByRank.{orderly_by_rank}
 use Rattle.sdd_acyclic.proofs.Covers.{covers}
 use Rattle.sdd_acyclic.proofs.Deeds.{facts, bounds_rise, barriers, answer_at}
 use Rattle.sdd_acyclic.proofs.Orderly.{orderly}
 use Rattle.sdd_acyclic.proofs.Over.{precedes_over, precedes_from_over, facts_over}
-use Rattle.sdd_order.proofs.Paths.{path_as}
 use Rattle.sdd_acyclic.proofs.EachTable.{each_table}
 use Rattle.sdd_acyclic.proofs.Splits.{waits}
 

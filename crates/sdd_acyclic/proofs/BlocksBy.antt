@@ -1,14 +1,5 @@
 -- Block numbers of a graph, where it is decided which of its edges are linked.
-use Rattle.std.proofs.Common.{ℕ, zero, suc, ◌+◌, ◌<◌, ◌≤◌, ◌≡◌, ◌≢◌, List, [], ◌∷◌, ◌++◌, length, get_or, set, replicate, Some, refl, sym, ◌∙◌, subst, ◌⊎◌, inl, inr, arith}
-use Rattle.std.specs.Prelude.{slice_get}
-use Rattle.std.proofs.lemmas.Bool.{cases_eq, cases_lt}
-use Rattle.std.proofs.lemmas.List.{length_push, get_or_append_left, get_or_push, length-replicate, length-set}
-use Rattle.std.proofs.lemmas.Option.{slice_get_within, slice_get-get_or}
-use Rattle.sdd_blocks.specs.Blocks.{OnACycle, Linked, AreBlocks}
-use Rattle.sdd_blocks.specs.Blocks.Linked.{last}
-use Rattle.sdd_blocks.specs.Numbered.{AreNumbered}
-use Rattle.sdd_blocks.proofs.Linked.{linked_first, linked_second, linked_on, linked_back}
-use Rattle.sdd_blocks.proofs.Numbering.{IsNumberingAt, no_numbers_yet, number_given, number_made, all_numbered}
+use Rattle.sdd_acyclic.proofs.All.{AreBlocks, AreNumbered, IsNumberingAt, Linked, List, OnACycle, Some, [], all_numbered, arith, cases_eq, cases_lt, get_or, get_or_append_left, get_or_push, inl, inr, last, length, length-replicate, length-set, length_push, linked_back, linked_first, linked_on, linked_second, no_numbers_yet, number_given, number_made, refl, replicate, set, slice_get, slice_get-get_or, slice_get_within, subst, suc, sym, zero, ℕ, ◌++◌, ◌+◌, ◌<◌, ◌∙◌, ◌∷◌, ◌≡◌, ◌≢◌, ◌≤◌, ◌⊎◌}
 
 abbrev pub Decided : Type 0 → Type 0
 Decided A = A ⊎ (A → ⊥)
@@ -180,8 +171,7 @@ module _ (edges : List (ℕ × ℕ)) where
       within : (k b : ℕ) → slice_get numbers k ≡ Some b → k < length edges
       within k b e = let h = slice_get_within numbers k b e in omega (arith, numbered.one_each, marks.one_each)
 
-      mark_at : (k b : ℕ) → slice_get numbers k ≡ Some b
-          → slice_get marks.items k ≡ Some (get_or marks.items k 0)
+      mark_at : (k b : ℕ) → slice_get numbers k ≡ Some b → slice_get marks.items k ≡ Some (get_or marks.items k 0)
       mark_at k b e = slice_get-get_or marks.items k 0 (let h = within k b e in omega (arith, marks.one_each))
 
       -- a number is 0 where its mark is

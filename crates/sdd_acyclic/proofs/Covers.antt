@@ -1,19 +1,5 @@
 -- The conflict graph has an edge for each way in which transactions can meet.
-use Rattle.std.proofs.Common.{ℕ, zero, suc, ◌+◌, ◌-◌, ◌<◌, ◌==◌, nat_lt, ◌≡◌, ◌≢◌, Bool, true, not, ◌&&◌, List, ◌++◌, map, length, Some, ap, ◌∙◌, subst, inl, inr, arith, lt-ltb}
-use Rattle.std.specs.Prelude.{slice_get, is_some, filter, Contains}
-use Rattle.std.specs.List.{range_with_len}
-use Rattle.std.proofs.lemmas.Bool.{cases_lt, ne_eqb, and_from}
-use Rattle.std.proofs.lemmas.List.Elements.{Contains-append_left, Contains-append_right}
-use Rattle.sdd_base.specs.Numbers.{class_no, frag_no}
-use Rattle.sdd_catalog.specs.Catalogue.{Catalogue, reads_at, writes}
-use Rattle.sdd_graph.specs.Edges.{IsClassOf}
-use Rattle.sdd_graph.specs.Graph.{classes_of, fragments_of, write_sets_meet, horizontals_from, diagonals_between, diagonals_from, vertical_edges, horizontal_edges, diagonal_edges, conflict_graph}
-use Rattle.sdd_graph.specs.declared.edge.Edge.{Edge}
-use Rattle.sdd_graph.specs.declared.edge.Edge.TheVariants.{Vertical, Horizontal, Diagonal}
-use Rattle.sdd_acyclic.specs.Fits.{IsFragmentOf, Fits}
-use Rattle.sdd_acyclic.specs.Graphs.{IsVertical, IsHorizontal, IsDiagonal, Covers}
-use Rattle.sdd_acyclic.specs.System.{System}
-use Rattle.sdd_order.proofs.Members.{place_of, Contains-map, Contains-filter, Contains-flat_map, Contains-range, passes_member}
+use Rattle.sdd_acyclic.proofs.All.{Bool, Catalogue, Contains, Contains-append_left, Contains-append_right, Contains-filter, Contains-flat_map, Contains-map, Contains-range, Covers, Diagonal, Edge, Fits, Horizontal, IsClassOf, IsDiagonal, IsFragmentOf, IsHorizontal, IsVertical, List, Some, System, Vertical, and_from, ap, arith, cases_lt, class_no, classes_of, conflict_graph, diagonal_edges, diagonals_between, diagonals_from, filter, frag_no, fragments_of, horizontal_edges, horizontals_from, inl, inr, is_some, length, lt-ltb, map, nat_lt, ne_eqb, not, passes_member, place_of, range_with_len, reads_at, slice_get, subst, suc, true, vertical_edges, write_sets_meet, writes, zero, ℕ, ◌&&◌, ◌++◌, ◌+◌, ◌-◌, ◌<◌, ◌==◌, ◌∙◌, ◌≡◌, ◌≢◌}
 
 module _ (cat : Catalogue) where
   pub class_is : (i : ℕ) → IsClassOf cat i → Contains (classes_of cat) i
@@ -55,8 +41,7 @@ module _ (cat : Catalogue) where
       (Contains-append_left (horizontal_edges cat) (diagonal_edges cat) edge all))
 
   diagonal_is : (i j f : ℕ) → IsClassOf cat i → IsClassOf cat j → IsFragmentOf cat f → i ≢ j
-      → is_some (reads_at cat i f) ≡ true → writes cat j f ≡ true
-      → (k : ℕ) × IsDiagonal (conflict_graph cat) k i j f
+      → is_some (reads_at cat i f) ≡ true → writes cat j f ≡ true → (k : ℕ) × IsDiagonal (conflict_graph cat) k i j f
   diagonal_is i j f p q h n a b =
       let test : ℕ → Bool = λ z. not (i == j) && (is_some (reads_at cat i z) && writes cat j z) in
       let edge : Edge = Diagonal (class_no i) (class_no j) (frag_no f) in

@@ -1,14 +1,5 @@
 -- From a closed path of precedence to a tour of crossings; no tour of two crossings goes both ways along one edge.
-use Rattle.std.proofs.Common.{ℕ, ◌<◌, ◌≤◌, ◌≡◌, ◌≢◌, Bool, true, false, List, [], ◌∷◌, refl, sym, ap, ◌∙◌, subst, ◌⊎◌, inl, inr, arith}
-use Rattle.std.proofs.lemmas.Bool.{cases_eq, cases_lt}
-use Rattle.sdd_base.specs.declared.number.ClassNo.{ClassNo}
-use Rattle.sdd_base.specs.declared.number.FragNo.{FragNo}
-use Rattle.sdd_base.specs.Numbers.{class_no, frag_no}
-use Rattle.sdd_graph.specs.declared.edge.Edge.{Edge}
-use Rattle.sdd_acyclic.specs.Graphs.{IsHorizontal, IsDiagonal, Covers}
-use Rattle.sdd_order.specs.Paths.{IsPath}
-use Rattle.sdd_acyclic.specs.System.{System, Precedes, Below, Facts}
-use Rattle.sdd_acyclic.specs.System.Precedes.{by_class, by_writes, by_unseen, by_seen}
+use Rattle.sdd_acyclic.proofs.All.{Below, Bool, ClassNo, Covers, Edge, Facts, FragNo, IsDiagonal, IsHorizontal, IsPath, List, Precedes, System, [], ap, arith, by_class, by_seen, by_unseen, by_writes, cases_eq, cases_lt, class_no, false, frag_no, inl, inr, refl, subst, sym, true, ℕ, ◌<◌, ◌∙◌, ◌∷◌, ◌≡◌, ◌≢◌, ◌≤◌, ◌⊎◌}
 use Rattle.sdd_acyclic.proofs.Tours.{Crosses, Crossing, Run, below_on, run_on}
 use Rattle.sdd_acyclic.proofs.Tours.Crosses.{write_write, read_write, write_read}
 
@@ -45,8 +36,7 @@ same_diagonal graph k i j f i' j' f' p q =
     (ap (λ (z : ClassNo). z.0) e, ap (λ (z : ClassNo). z.0) g, ap (λ (z : FragNo). z.0) h)
 
 -- and no horizontal
-not_both : (graph : List Edge) (k i j a b f : ℕ) → IsHorizontal graph k i j
-    → ¬ IsDiagonal graph k a b f
+not_both : (graph : List Edge) (k i j a b f : ℕ) → IsHorizontal graph k i j → ¬ IsDiagonal graph k a b f
 not_both graph k i j a b f (inl p) q = cc
 not_both graph k i j a b f (inr p) q = cc
 
@@ -55,8 +45,7 @@ module _ {T : Type 0} (S : System T) (facts : Facts S) where
   earlier : (x y : T) → S.name x ≢ S.name y → S.ts y ≤ S.ts x → S.ts y < S.ts x
   earlier x y n l = elim (cases_lt (S.ts y) (S.ts x)) [
     | inl h ↦ h
-    | inr h ↦ absurd
-        (n (facts.one_time x y (omega arith)))
+    | inr h ↦ absurd (n (facts.one_time x y (omega arith)))
   ]
 
   -- within a class what precedes is earlier
@@ -77,8 +66,7 @@ module _ {T : Type 0} (S : System T) (facts : Facts S) where
   -- a writer is not seen by the later reader where a later writer is seen by the earlier reader
   clash : (w w' r r' : T) (f : ℕ) → Below S w w' → Below S r r' → S.Changes w f → S.Reads r f
       → S.Reads r' f → S.Seen w' (S.dm (S.class r) f) r → S.Seen w (S.dm (S.class r') f) r'
-  clash w w' r r' f b c a d e s =
-      facts.readers_above w r r' f c d e (facts.writers_below w w' r f b a d s)
+  clash w w' r r' f b c a d e s = facts.readers_above w r r' f c d e (facts.writers_below w w' r f b a d s)
 
   module _ (graph : List Edge) where
     -- one edge is not crossed forth and then back
@@ -124,8 +112,7 @@ module _ {T : Type 0} (S : System T) (facts : Facts S) where
       }
 
       over : (k : Crossing S graph) → CrossesOver S graph k.from k.to
-      over k =
-          record { crossing = k; leaves = same k.from k.from refl; comes = same k.to k.to refl }
+      over k = record { crossing = k; leaves = same k.from k.from refl; comes = same k.to k.to refl }
 
       -- between classes there is a crossing
       crossing : (x y : T) → Precedes S x y → S.class x ≢ S.class y → CrossesOver S graph x y
@@ -170,8 +157,7 @@ module _ {T : Type 0} (S : System T) (facts : Facts S) where
       -- each step stays in a class or crosses over
       step : (x y : T) → Precedes S x y → Earlier S x y ⊎ CrossesOver S graph x y
       step x y p = elim (cases_eq (S.class x) (S.class y)) [
-        | inl e ↦ inl
-            (record { class = e; time = one_class x y p e })
+        | inl e ↦ inl (record { class = e; time = one_class x y p e })
         | inr n ↦ inr (crossing x y p n)
       ]
 
@@ -179,17 +165,11 @@ module _ {T : Type 0} (S : System T) (facts : Facts S) where
       below x y e = record { class = e.class; time = let t = e.time in omega arith }
 
       -- and so does a path
-      along : (x : T) (m : List T) (y : T) → IsPath (Precedes S) x m y
-          → Earlier S x y ⊎ RunsOver S graph x y
+      along : (x : T) (m : List T) (y : T) → IsPath (Precedes S) x m y → Earlier S x y ⊎ RunsOver S graph x y
       along x [] y p =
           elim (step x y p) [
             | inl e ↦ inl e
-            | inr c ↦ inr (record {
-              start = c.crossing;
-              rest = [];
-              leaves = c.leaves;
-              run = c.comes;
-            })
+            | inr c ↦ inr (record { start = c.crossing; rest = []; leaves = c.leaves; run = c.comes })
           ]
       along x (z ∷ m) y p =
           elim (step x z p.0) [

@@ -1,14 +1,6 @@
 -- Which edges of a graph are linked can be decided, so every graph has block numbers.
-use Rattle.std.proofs.Common.{ℕ, zero, suc, ◌+◌, ◌<◌, ◌≤◌, ◌≡◌, ◌∙◌, ◌⊎◌, List, [], ◌∷◌, None, Option, Some, arith, eqb, false, inl, inr, length, refl, subst, sym, ap, true}
-use Rattle.std.specs.Prelude.{slice_get}
-use Rattle.std.specs.List.{AllByRecursion, IsDistinct, list_any}
-use Rattle.std.proofs.lemmas.Bool.{cases_Bool, cases_eq, cases_lt, eqb-true, ne_eqb}
-use Rattle.std.proofs.lemmas.Map.Keys.{IsDistinct-cons}
-use Rattle.std.proofs.lemmas.Map.Steps.{length-le_from_distinct_below}
-use Rattle.std.proofs.lemmas.Option.{same_Some, slice_get_within}
-use Rattle.sdd_blocks.specs.Blocks.{AreBlocks, Linked, ShareACycle}
-use Rattle.sdd_blocks.specs.Blocks.Linked.{last, more}
-use Rattle.sdd_blocks.specs.Graph.{Differ, Has, IsSimpleCycle, IsWalk, Joins, Step, edges_of, nodes_of}
+use Rattle.sdd_acyclic.proofs.All.{AllByRecursion, AreBlocks, Differ, Has, IsDistinct-cons, IsSimpleCycle, IsWalk, Joins, Linked, List, None, Option, ShareACycle, Some, Step, [], ap, arith, cases_Bool, cases_eq, cases_lt, edges_of, eqb, eqb-true, false, inl, inr, last, length, length-le_from_distinct_below, list_any, more, ne_eqb, nodes_of, refl, same_Some, slice_get, slice_get_within, subst, suc, sym, true, zero, ℕ, ◌+◌, ◌<◌, ◌∙◌, ◌∷◌, ◌≡◌, ◌≤◌, ◌⊎◌}
+use Rattle.std.specs.List.{IsDistinct}
 use Rattle.sdd_acyclic.proofs.BlocksBy.{Decided, blocks_by}
 
 -- what is decided of numbers and lists
@@ -102,7 +94,8 @@ top (e ∷ edges) = suc (e.0 + e.1) + top edges
 
 ends_below : (edges : List (ℕ × ℕ)) (k a b : ℕ) → slice_get edges k ≡ Some (a, b) → (a < top edges) × (b < top edges)
 ends_below [] k a b e = absurd cc
-ends_below ((x, y) ∷ edges) zero a b e = let p = same_Some (x, y) (a, b) e in let f : x ≡ a = ap (λ (q : ℕ × ℕ). q.0) p in let g : y ≡ b = ap (λ (q : ℕ × ℕ). q.1) p in (omega (arith, f), omega (arith, g))
+ends_below ((x, y) ∷ edges) zero a b e =
+    let p = same_Some (x, y) (a, b) e in let f : x ≡ a = ap (λ (q : ℕ × ℕ). q.0) p in let g : y ≡ b = ap (λ (q : ℕ × ℕ). q.1) p in (omega (arith, f), omega (arith, g))
 ends_below (p ∷ edges) (suc k) a b e = let r = ends_below edges k a b e in let f = r.0 in let g = r.1 in (omega (arith, f), omega (arith, g))
 
 -- the edges of small steps, of which no two are one
@@ -190,7 +183,8 @@ module _ (edges : List (ℕ × ℕ)) where
 
   share : (j k : ℕ) → Decided (ShareACycle edges j k)
   share j k =
-      let some = some_below (top edges) (λ start. (count : ℕ) × (count < suc (length edges)) × SomeSteps (length edges) (top edges) count (Shares j k start))
+      let some = some_below (top edges)
+      (λ start. (count : ℕ) × (count < suc (length edges)) × SomeSteps (length edges) (top edges) count (Shares j k start))
       (λ start. some_below (suc (length edges)) (λ count. SomeSteps (length edges) (top edges) count (Shares j k start))
       (λ count. some_steps (length edges) (top edges) count (Shares j k start)
       (λ steps. both (cycle start steps) (both (has (edges_of steps) j) (has (edges_of steps) k))))) in

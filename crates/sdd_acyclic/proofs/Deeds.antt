@@ -1,15 +1,9 @@
 -- The facts of committed transactions, from the laws of their places.
-use Rattle.std.proofs.Common.{ℕ, ◌<◌, ◌≤◌, ◌≡◌, ◌≢◌, sym, ap, ◌∙◌, subst, ◌⊎◌, inl, inr, arith}
-use Rattle.std.proofs.lemmas.Bool.{cases_eq, cases_lt}
-use Rattle.sdd_acyclic.specs.Deeds.{Deeds, Txn, Touches, IsSeen, system, Starts, Applies, IsLow, IsHigh, ZeroAlone}
-use Rattle.sdd_acyclic.specs.System.{Precedes, Below, Facts}
-use Rattle.sdd_acyclic.specs.System.Precedes.{by_class, by_writes, by_unseen, by_seen}
-use Rattle.sdd_acyclic.specs.Undeclared.{HasBarriers}
+use Rattle.sdd_acyclic.proofs.All.{Applies, Below, Deeds, Facts, HasBarriers, IsHigh, IsLow, IsSeen, Precedes, Starts, Touches, Txn, ZeroAlone, ap, arith, by_class, by_seen, by_unseen, by_writes, cases_eq, cases_lt, inl, inr, subst, sym, system, ℕ, ◌<◌, ◌∙◌, ◌≡◌, ◌≢◌, ◌≤◌, ◌⊎◌}
 
 module _ {K : Type 0} (D : Deeds K) (starts : Starts D) (applies : Applies D) where
   -- of two of one class with different times the earlier is committed before the later starts
-  one_after_other : (x y : Txn D) → D.class x.no ≡ D.class y.no → D.ts x.no < D.ts y.no
-      → D.commit x.no < D.start y.no
+  one_after_other : (x y : Txn D) → D.class x.no ≡ D.class y.no → D.ts x.no < D.ts y.no → D.commit x.no < D.start y.no
   one_after_other x y c l =
       elim (cases_lt (D.submit x.no) (D.submit y.no)) [
         | inl s ↦ starts.in_turn x y c s
@@ -25,23 +19,20 @@ module _ {K : Type 0} (D : Deeds K) (starts : Starts D) (applies : Applies D) wh
       ]
 
   -- the place of an answer, wherever it is met
-  pub answer_at : (x : Txn D) (f p : ℕ) → D.Reads x.no f → D.Answered x.no (D.dm (D.class x.no) f) p
-      → p < D.commit x.no
+  pub answer_at : (x : Txn D) (f p : ℕ) → D.Reads x.no f → D.Answered x.no (D.dm (D.class x.no) f) p → p < D.commit x.no
   answer_at x f p r a =
       let h = starts.answered x f r in let e =
       starts.one_answer x (D.dm (D.class x.no) f) p h.place a h.answered in
       omega (arith, h.before)
 
-  touches : (x y : Txn D) (f : ℕ) → D.Changes x.no f → D.Reads y.no f
-      → Touches D x.no (D.dm (D.class y.no) f)
+  touches : (x y : Txn D) (f : ℕ) → D.Changes x.no f → D.Reads y.no f → Touches D x.no (D.dm (D.class y.no) f)
   touches x y f c r = record { fragment = f; changes = c; copy = starts.copied y f r }
 
   -- equal times, one transaction
   equal : (x y : Txn D) → D.ts x.no ≤ D.ts y.no → (D.ts x.no < D.ts y.no) ⊎ (x.no ≡ y.no)
   equal x y l = elim (cases_lt (D.ts x.no) (D.ts y.no)) [
     | inl h ↦ inl h
-    | inr h ↦ inr
-        (starts.same x y (starts.one_time x y (omega arith)))
+    | inr h ↦ inr (starts.same x y (starts.one_time x y (omega arith)))
   ]
 
   own_earlier : (x y : Txn D) (f : ℕ) → D.class x.no ≡ D.class y.no → D.ts x.no < D.ts y.no
@@ -51,8 +42,7 @@ module _ {K : Type 0} (D : Deeds K) (starts : Starts D) (applies : Applies D) wh
       record {
         answer = h.place;
         answered = h.answered;
-        applied = applies.after_earlier x y (D.dm (D.class y.no) f) h.place c l
-            (touches x y f w r) h.answered;
+        applied = applies.after_earlier x y (D.dm (D.class y.no) f) h.place c l (touches x y f w r) h.answered;
       }
 
   own_later : (x y : Txn D) (f : ℕ) → D.class x.no ≡ D.class y.no → D.ts y.no ≤ D.ts x.no
@@ -71,8 +61,7 @@ module _ {K : Type 0} (D : Deeds K) (starts : Starts D) (applies : Applies D) wh
       ]
 
   writers_below : (x x' y : Txn D) (f : ℕ) → Below (system D) x x' → D.Changes x.no f
-      → D.Reads y.no f → IsSeen D x'.no (D.dm (D.class y.no) f) y.no
-      → IsSeen D x.no (D.dm (D.class y.no) f) y.no
+      → D.Reads y.no f → IsSeen D x'.no (D.dm (D.class y.no) f) y.no → IsSeen D x.no (D.dm (D.class y.no) f) y.no
   writers_below x x' y f b w r s =
       elim (equal x x' b.time) [
         | inl l ↦
@@ -91,8 +80,7 @@ module _ {K : Type 0} (D : Deeds K) (starts : Starts D) (applies : Applies D) wh
       ]
 
   readers_above : (x y y' : Txn D) (f : ℕ) → Below (system D) y y' → D.Reads y.no f
-      → D.Reads y'.no f → IsSeen D x.no (D.dm (D.class y.no) f) y.no
-      → IsSeen D x.no (D.dm (D.class y'.no) f) y'.no
+      → D.Reads y'.no f → IsSeen D x.no (D.dm (D.class y.no) f) y.no → IsSeen D x.no (D.dm (D.class y'.no) f) y'.no
   readers_above x y y' f b r r' s =
       elim (equal y y' b.time) [
         | inl l ↦
@@ -105,9 +93,7 @@ module _ {K : Type 0} (D : Deeds K) (starts : Starts D) (applies : Applies D) wh
               answered = h.answered;
               applied = record {
                 place = s.applied.place;
-                applied =
-                    subst (λ z. D.Applied x.no
-                    (D.dm z f) s.applied.place) b.class s.applied.applied;
+                applied = subst (λ z. D.Applied x.no (D.dm z f) s.applied.place) b.class s.applied.applied;
                 before = let l = s.applied.before in omega arith;
               };
             }
@@ -136,41 +122,35 @@ module _ {K : Type 0} (D : Deeds K) (starts : Starts D) (applies : Applies D) wh
 
   module _ (zero : ZeroAlone D) where
     -- x, not above u, is u or stands wholly before it; y, not below u, is u or stands wholly behind it
-    low : (u x : Txn D) → D.class u.no ≡ 0 → D.ts x.no ≤ D.ts u.no
-        → (x.no ≡ u.no) ⊎ IsLow D x.no u.no
+    low : (u x : Txn D) → D.class u.no ≡ 0 → D.ts x.no ≤ D.ts u.no → (x.no ≡ u.no) ⊎ IsLow D x.no u.no
     low u x c l =
         elim (cases_eq (D.name u.no) (D.name x.no)) [
           | inl e ↦ inl (sym (starts.same u x e))
           | inr n ↦ elim (zero.one_side u x c n) [
             | inl h ↦ inr h
-            | inr h ↦ absurd
-                (let t = h.time in omega arith)
+            | inr h ↦ absurd (let t = h.time in omega arith)
           ]
         ]
 
-    high : (u y : Txn D) → D.class u.no ≡ 0 → D.ts u.no ≤ D.ts y.no
-        → (u.no ≡ y.no) ⊎ IsHigh D y.no u.no
+    high : (u y : Txn D) → D.class u.no ≡ 0 → D.ts u.no ≤ D.ts y.no → (u.no ≡ y.no) ⊎ IsHigh D y.no u.no
     high u y c l =
         elim (cases_eq (D.name u.no) (D.name y.no)) [
           | inl e ↦ inl (starts.same u y e)
           | inr n ↦ elim (zero.one_side u y c n) [
-            | inl h ↦ absurd
-                (let t = h.time in omega arith)
+            | inl h ↦ absurd (let t = h.time in omega arith)
             | inr h ↦ inr h
           ]
         ]
 
     -- the first of them is committed not later than u
     low_commit : (u x : Txn D) → (x.no ≡ u.no) ⊎ IsLow D x.no u.no → D.commit x.no ≤ D.commit u.no
-    low_commit u x (inl e) =
-        let c : D.commit x.no ≡ D.commit u.no = ap (λ z. D.commit z) e in omega arith
+    low_commit u x (inl e) = let c : D.commit x.no ≡ D.commit u.no = ap (λ z. D.commit z) e in omega arith
     low_commit u x (inr h) = let c = h.commits in let s = starts.starts_first u in omega arith
 
     -- the second is applied behind that
     high_apply : (u y : Txn D) (d f p : ℕ) → D.HasCopy d f → (u.no ≡ y.no) ⊎ IsHigh D y.no u.no
         → D.Applied y.no d p → D.commit u.no < p
-    high_apply u y d f p c (inl e) a =
-        subst (λ z. D.commit z < p) (sym e) (applies.apply_after y d p a)
+    high_apply u y d f p c (inl e) a = subst (λ z. D.commit z < p) (sym e) (applies.apply_after y d p a)
     high_apply u y d f p c (inr h) a =
         let own = h.applies d f c in
         let after = applies.apply_after u d own.place own.applied in
@@ -201,8 +181,7 @@ module _ {K : Type 0} (D : Deeds K) (starts : Starts D) (applies : Applies D) wh
           answered = a.answered;
           applied = record {
             place = own.place;
-            applied = subst (λ z. D.Applied z (D.dm (D.class y.no) f) own.place)
-                (sym e) own.applied;
+            applied = subst (λ z. D.Applied z (D.dm (D.class y.no) f) own.place) (sym e) own.applied;
             before = omega (arith, own.before);
           };
         }
@@ -229,8 +208,7 @@ module _ {K : Type 0} (D : Deeds K) (starts : Starts D) (applies : Applies D) wh
         → ¬ Precedes (system D) y x
     barrier u x y c l h (by_class n e t) = omega arith
     barrier u x y c l h (by_writes n f a b t) = omega arith
-    barrier u x y c l h (by_unseen n f r w s) =
-        s (high_sees u x y f c n r w (low u x c l) (high u y c h))
+    barrier u x y c l h (by_unseen n f r w s) = s (high_sees u x y f c n r w (low u x c l) (high u y c h))
     barrier u x y c l h (by_seen n f w r s) =
         let one = answer_at x f s.answer r s.answered in
         let two = low_commit u x (low u x c l) in

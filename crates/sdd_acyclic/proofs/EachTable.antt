@@ -1,18 +1,7 @@
 -- Every catalogue has a protocol table.
-use Rattle.std.proofs.Common.{ℕ, ◌≡◌, List, [], ◌∷◌, length, map, refl, sym, ap, ◌∙◌, arith}
-use Rattle.std.specs.List.{AllByRecursion}
-use Rattle.std.proofs.lemmas.List.{take_all, length-map}
-use Rattle.std.proofs.lemmas.List.Elements.{All-from_recursion}
-use Rattle.sdd_blocks.specs.Blocks.{AreBlocks}
-use Rattle.sdd_catalog.specs.Catalogue.{Catalogue}
-use Rattle.sdd_graph.specs.Graph.{conflict_graph, ends}
-use Rattle.sdd_graph.specs.declared.edge.Edge.{Edge}
-use Rattle.sdd_protocol.specs.Entries.{protocol_by, entry_by}
-use Rattle.sdd_protocol.specs.Protocols.{IsTable}
-use Rattle.sdd_protocol.specs.declared.entry.Entry.{Entry}
-use Rattle.sdd_protocol.proofs.MadeTable.{is_table}
-use Rattle.sdd_protocol.proofs.Tables.{edges_of, blocks_of}
+use Rattle.sdd_acyclic.proofs.All.{All-from_recursion, AllByRecursion, AreBlocks, Catalogue, Edge, Entry, IsTable, List, [], ap, arith, blocks_of, conflict_graph, ends, entry_by, is_table, length, length-map, map, protocol_by, refl, sym, take_all, ℕ, ◌∙◌, ◌∷◌, ◌≡◌}
 use Rattle.sdd_acyclic.proofs.DecidedLinks.{each_has_blocks}
+use Rattle.sdd_protocol.proofs.Tables.{edges_of}
 
 -- the entries of edges with their blocks
 abbrev entries_by : List ℕ → List Edge → List ℕ → List Entry

@@ -1,11 +1,5 @@
 -- Along the walk of a tour whose edges lie in one block a level rises.
-use Rattle.std.proofs.Common.{ℕ, ◌+◌, ◌-◌, ◌*◌, ◌<◌, ◌≤◌, ◌==◌, ◌≡◌, ◌≢◌, Bool, true, false, cond, List, [], ◌∷◌, refl, sym, ap, ◌∙◌, subst, inl, inr, arith}
-use Rattle.std.specs.Prelude.{slice_index}
-use Rattle.std.proofs.lemmas.Bool.{eq-eqb}
-use Rattle.sdd_blocks.specs.Graph.{Step, edges_of, Has}
-use Rattle.sdd_graph.specs.declared.edge.Edge.{Edge}
-use Rattle.sdd_acyclic.specs.Graphs.{Waits}
-use Rattle.sdd_acyclic.specs.System.{System, Below, Facts}
+use Rattle.sdd_acyclic.proofs.All.{Below, Bool, Edge, Facts, Has, List, Step, System, Waits, [], ap, arith, cond, edges_of, eq-eqb, false, inl, inr, refl, slice_index, subst, sym, true, ℕ, ◌*◌, ◌+◌, ◌-◌, ◌<◌, ◌==◌, ◌∙◌, ◌∷◌, ◌≡◌, ◌≢◌, ◌≤◌}
 use Rattle.sdd_acyclic.proofs.Tours.{Crosses, Crossing, Run}
 use Rattle.sdd_acyclic.proofs.Tours.Crosses.{write_write, read_write, write_read}
 use Rattle.sdd_acyclic.proofs.Walks.{turn, stretch, walk}
@@ -13,8 +7,7 @@ use Rattle.sdd_acyclic.proofs.Walks.{turn, stretch, walk}
 -- the level of a transaction at the read node of its class, or at its write node: its timestamp, or for a reader
 -- that waits up to another time that time, which may be equal to the timestamp of a writer that it does not see
 abbrev pub level : {T : Type 0} → System T → List ℕ → ℕ → T → Bool → ℕ
-level S blocks n x true =
-    cond (slice_index blocks (S.class x - 1) == n) (2 * S.ts x + 1) (2 * S.p2 x)
+level S blocks n x true = cond (slice_index blocks (S.class x - 1) == n) (2 * S.ts x + 1) (2 * S.p2 x)
 level S blocks n x false = 2 * S.ts x + 1
 
 -- the edges that the steps go along lie in the block
@@ -29,8 +22,7 @@ turn_rest blocks n c false true rest h = λ j m. h j (inr m)
 turn_rest blocks n c false false rest h = h
 
 -- not seen: the reader's time is at most the writer's
-unseen : (b : Bool) (t s p : ℕ) → t ≢ s → ¬ (s < cond b t p)
-    → cond b (2 * t + 1) (2 * p) < 2 * s + 1
+unseen : (b : Bool) (t s p : ℕ) → t ≢ s → ¬ (s < cond b t p) → cond b (2 * t + 1) (2 * p) < 2 * s + 1
 unseen true t s p n h = omega arith
 unseen false t s p n h = omega arith
 
@@ -38,8 +30,7 @@ seen : (b : Bool) (t s p : ℕ) → s < cond b t p → 2 * s + 1 < cond b (2 * t
 seen true t s p h = omega arith
 seen false t s p h = omega arith
 
-within : (b : Bool) (s t p q : ℕ) → s ≤ t → p ≤ q
-    → cond b (2 * s + 1) (2 * p) ≤ cond b (2 * t + 1) (2 * q)
+within : (b : Bool) (s t p q : ℕ) → s ≤ t → p ≤ q → cond b (2 * s + 1) (2 * p) ≤ cond b (2 * t + 1) (2 * q)
 within true s t p q h g = omega arith
 within false s t p q h g = omega arith
 
@@ -78,8 +69,7 @@ module _ {T : Type 0} (S : System T) (graph : List Edge) (blocks : List ℕ) (fa
   turn_rises n x y false false rest h g = omega arith
 
   stretch_rises : (n : ℕ) (k l : Crossing S graph) (rest : List Step) → n ≢ 0 → Below S k.to l.from
-      → LieIn blocks n (stretch S graph k l rest)
-      → level S blocks n k.from k.out < level S blocks n l.from l.out
+      → LieIn blocks n (stretch S graph k l rest) → level S blocks n k.from k.out < level S blocks n l.from l.out
   stretch_rises n k l rest z b h =
       let e : slice_index blocks k.edge ≡ n = h k.edge (inl refl) in
       let up : level S blocks n k.from k.out < level S blocks n k.to k.into =
@@ -92,8 +82,7 @@ module _ {T : Type 0} (S : System T) (graph : List Edge) (blocks : List ℕ) (fa
 
   stretch_rest : (n : ℕ) (k l : Crossing S graph) (rest : List Step)
       → LieIn blocks n (stretch S graph k l rest) → LieIn blocks n rest
-  stretch_rest n k l rest h =
-      turn_rest blocks n (S.class l.from) k.into l.out rest (λ j m. h j (inr m))
+  stretch_rest n k l rest h = turn_rest blocks n (S.class l.from) k.into l.out rest (λ j m. h j (inr m))
 
   -- so does the walk
   pub walk_rises : (n : ℕ) (k : Crossing S graph) (w : List (Crossing S graph))

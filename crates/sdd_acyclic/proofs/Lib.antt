@@ -1,3 +1,4 @@
+mod All
 pub mod Apart
 pub mod Barriers
 pub mod BlocksBy

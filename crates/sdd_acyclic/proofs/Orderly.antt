@@ -1,21 +1,11 @@
 -- No cycle of precedence.
-use Rattle.std.proofs.Common.{ℕ, List, [], ◌∷◌, map, refl, subst, inl, arith}
-use Rattle.std.specs.Prelude.{slice_index}
-use Rattle.sdd_blocks.specs.Graph.{Step, edges_of, Has, IsSimpleCycle}
-use Rattle.sdd_blocks.specs.Blocks.{AreBlocks}
-use Rattle.sdd_graph.specs.Graph.{ends}
-use Rattle.sdd_graph.specs.declared.edge.Edge.{Edge}
-use Rattle.sdd_acyclic.specs.Graphs.{Covers, Waits}
-use Rattle.sdd_order.specs.Paths.{IsOrderly}
-use Rattle.sdd_acyclic.specs.System.{System, Precedes, Facts}
+use Rattle.sdd_acyclic.proofs.All.{AreBlocks, Covers, Edge, Facts, Has, IsOrderly, IsSimpleCycle, List, Precedes, Step, System, Waits, [], arith, edges_of, ends, inl, map, not_zero_on_cycle, refl, same_on_cycle, slice_index, subst, ℕ, ◌∷◌}
 use Rattle.sdd_acyclic.proofs.Tours.{Crossing, Run, no_tour}
 use Rattle.sdd_acyclic.proofs.Crossings.{tour, two_edges}
 use Rattle.sdd_acyclic.proofs.Walks.{node, walk, cycle_of_tour}
 use Rattle.sdd_acyclic.proofs.Levels.{walk_rises}
-use Rattle.sdd_blocks.proofs.CycleNumbers.{not_zero_on_cycle, same_on_cycle}
 
-module _ {T : Type 0} (S : System T) (graph : List Edge) (facts : Facts S)
-    (covers : Covers S graph) where
+module _ {T : Type 0} (S : System T) (graph : List Edge) (facts : Facts S) (covers : Covers S graph) where
   -- the walks of tours would be simple cycles
   frame : ((k : Crossing S graph) (w : List (Crossing S graph)) → Run S graph k w k.from
       → ¬ IsSimpleCycle (map ends graph) (node (S.class k.from) k.out) (walk S graph k w k))
@@ -32,8 +22,7 @@ module _ {T : Type 0} (S : System T) (graph : List Edge) (facts : Facts S)
       → ¬ IsSimpleCycle (map ends graph) start steps) → IsOrderly (Precedes S)
   orderly_without_cycles h = frame (λ k w r. h (node (S.class k.from) k.out) (walk S graph k w k))
 
-  module _ (blocks : List ℕ) (are : AreBlocks (map ends graph) blocks)
-      (waits : Waits S graph blocks) where
+  module _ (blocks : List ℕ) (are : AreBlocks (map ends graph) blocks) (waits : Waits S graph blocks) where
     first_edge : (k : Crossing S graph) (w : List (Crossing S graph)) (l : Crossing S graph)
         → Has (edges_of (walk S graph k w l)) k.edge
     first_edge k [] l = inl refl

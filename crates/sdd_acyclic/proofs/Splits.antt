@@ -1,35 +1,7 @@
 -- What a reader sees of the writers of a block: those below its time.
-use Rattle.std.proofs.Common.{ℕ, zero, suc, ◌+◌, ◌-◌, ◌<◌, ◌≤◌, ◌==◌, ◌≡◌, ◌≢◌, ◌↔◌, Bool, true, false, cond, ◌&&◌, ◌||◌, List, [], ◌∷◌, ◌++◌, map, length, get_or, Option, Some, None, refl, sym, ap, ◌∙◌, subst, inl, inr, arith, eq-eqb, length-append}
-use Rattle.std.specs.Prelude.{slice_get, slice_index, is_some, unwrap_or, option_map, Contains, filter_map}
-use Rattle.std.specs.List.{list_any, cons_option}
-use Rattle.std.specs.Option.{option_eq, option_or}
-use Rattle.std.proofs.lemmas.Bool.{cases_eq, cases_Bool, eqb-true, ne_eqb, and_parts, and_from}
-use Rattle.std.proofs.lemmas.List.{length-map, get_or-map}
-use Rattle.std.proofs.lemmas.List.FromFn.{length-map-range_with_len}
-use Rattle.std.proofs.lemmas.Option.{slice_get-map, slice_get_within, slice_get-get_or, same_Some}
-use Rattle.sdd_base.specs.Numbers.{class_no, frag_no}
-use Rattle.sdd_base.specs.Words.{contains}
-use Rattle.sdd_base.specs.declared.condition.Cond.{Cond}
-use Rattle.sdd_base.specs.declared.number.ClassNo.{ClassNo}
-use Rattle.sdd_base.specs.declared.number.FragNo.{FragNo}
-use Rattle.sdd_base.proofs.Membership.{Contains-nil}
-use Rattle.sdd_catalog.specs.Catalogue.{Catalogue, reads_at, numbers_to}
-use Rattle.sdd_graph.specs.Edges.{IsClassOf}
-use Rattle.sdd_graph.specs.Graph.{ends, conflict_graph, vertical_edges, horizontal_edges, diagonal_edges}
-use Rattle.sdd_graph.specs.declared.edge.Edge.{Edge}
-use Rattle.sdd_graph.specs.declared.edge.Edge.TheVariants.{Vertical, Horizontal, Diagonal}
-use Rattle.sdd_protocol.specs.Conditions.{is_read_at, is_asked, asked_on, asked_in, asked_by, cond_of, cond_for, condition_on}
-use Rattle.sdd_protocol.specs.Protocols.{same_protocol, vertical_block, diagonal_protocol, protocol_in, is_vertical_of, IsTable}
-use Rattle.sdd_protocol.specs.declared.protocol.Protocol.{Protocol}
-use Rattle.sdd_protocol.specs.declared.protocol.Protocol.TheVariants.{P1, P2, P3}
-use Rattle.sdd_protocol.specs.declared.entry.Entry.{Entry}
-use Rattle.sdd_protocol.proofs.Laws.{one_protocol}
-use Rattle.sdd_protocol.proofs.Tables.{edges_of, blocks_of, all_at, vertical_block-lists, first_block, first_block-vertical}
-use Rattle.sdd_acyclic.specs.Fits.{Fits, Meets}
-use Rattle.sdd_acyclic.specs.Graphs.{IsDiagonal, Waits, time_in}
-use Rattle.sdd_acyclic.specs.System.{System}
-use Rattle.sdd_order.proofs.Members.{Contains-filter_map, Contains-map, passes_member}
+use Rattle.sdd_acyclic.proofs.All.{Bool, Catalogue, ClassNo, Cond, Contains, Contains-filter_map, Contains-map, Contains-nil, Diagonal, Edge, Entry, Fits, FragNo, Horizontal, IsClassOf, IsDiagonal, IsTable, List, Meets, None, Option, P1, P2, P3, Protocol, Some, System, Vertical, Waits, [], all_at, and_from, and_parts, ap, arith, asked_by, asked_in, asked_on, blocks_of, cases_Bool, cases_eq, class_no, cond, cond_for, cond_of, condition_on, conflict_graph, cons_option, contains, diagonal_edges, diagonal_protocol, ends, eq-eqb, eqb-true, false, filter_map, first_block, first_block-vertical, frag_no, get_or, get_or-map, horizontal_edges, inl, inr, is_asked, is_read_at, is_vertical_of, length, length-append, length-map, length-map-range_with_len, list_any, map, ne_eqb, numbers_to, one_protocol, option_eq, option_map, option_or, passes_member, protocol_in, refl, same_Some, same_protocol, slice_get, slice_get-get_or, slice_get-map, slice_get_within, slice_index, subst, suc, sym, time_in, true, vertical_block, vertical_block-lists, vertical_edges, zero, ℕ, ◌&&◌, ◌++◌, ◌+◌, ◌-◌, ◌<◌, ◌==◌, ◌||◌, ◌↔◌, ◌∙◌, ◌∷◌, ◌≡◌, ◌≢◌, ◌≤◌}
 use Rattle.sdd_acyclic.proofs.Covers.{class_is}
+use Rattle.sdd_protocol.proofs.Tables.{edges_of}
 
 -- an edge is a diagonal between the two classes
 pub record IsBetween (i j : ℕ) (e : Edge) : Type 0 where
@@ -90,8 +62,7 @@ cond_there : (j t : ℕ) (frags : List FragNo) (f : FragNo) → Contains frags f
 cond_there j t [] f h = absurd (Contains-nil f h)
 cond_there j t (g ∷ frags) f h = refl
 
-pub names_fragment : (frags : List FragNo) (f : FragNo) → Contains frags f
-    → contains (map (λ g. g.0) frags) f.0 ≡ true
+pub names_fragment : (frags : List FragNo) (f : FragNo) → Contains frags f → contains (map (λ g. g.0) frags) f.0 ≡ true
 names_fragment frags f h =
     passes_member (λ x. x == f.0) (map (λ g. g.0) frags) f.0 (Contains-map (λ (g : FragNo). g.0) frags f h)
     (eq-eqb f.0 f.0 refl)
@@ -198,15 +169,15 @@ module _ (era : Catalogue) (entries : List Entry) (table : IsTable era entries) 
 
   -- the condition of a reader on the writers of a class with which it shares a diagonal in a block
   condition_there : (i j f k own p2 : ℕ) (test : ℕ → Bool) → IsClassOf era i → IsDiagonal (conflict_graph era) k i j f
-      → slice_index (blocks_of entries) k ≢ 0 → test f ≡ true
-      → Asks (condition_on test entries i own p2 j) j
+      → slice_index (blocks_of entries) k ≢ 0 → test f ≡ true → Asks (condition_on test entries i own p2 j) j
       (cond (slice_index (blocks_of entries) (i - 1) == slice_index (blocks_of entries) k) own p2) f
   condition_there i j f k own p2 test c e z t =
       let d = protocol_is i j f k c e z in
       let thirds = asked_by P3 test entries i j in
       let seconds = asked_by P2 test entries i j in
       let whole : Option Cond = condition_on test entries i own p2 j in
-      elim (slice_index (blocks_of entries) (i - 1) == slice_index (blocks_of entries) k) as (λ b. d.entry.protocol ≡ cond b P3 P2 → Asks whole j (cond b own p2) f) [
+      elim (slice_index (blocks_of entries) (i - 1) == slice_index (blocks_of entries) k) as
+      (λ b. d.entry.protocol ≡ cond b P3 P2 → Asks whole j (cond b own p2) f) [
         | true ↦ λ p.
             let m = in_asked i j f k test P3 d (ap (λ w. same_protocol w P3) p) t in
             asks_for whole j own thirds f

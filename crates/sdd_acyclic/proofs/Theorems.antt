@@ -1,8 +1,8 @@
 -- The theorems.
-use Rattle.sdd_acyclic.specs.Theorems.{ProtocolsLeaveNoCycle, ForestsLeaveNoCycle, system}
-use Rattle.sdd_acyclic.specs.Undeclared.{declared}
+use Rattle.sdd_acyclic.proofs.All.{ForestsLeaveNoCycle, ProtocolsLeaveNoCycle, declared}
 use Rattle.sdd_acyclic.proofs.Barriers.{orderly_with_barriers}
 use Rattle.sdd_acyclic.proofs.Orderly.{orderly, orderly_without_cycles}
+use Rattle.sdd_acyclic.specs.Theorems.{system}
 
 pub protocols_leave_no_cycle : ProtocolsLeaveNoCycle
 protocols_leave_no_cycle t graph blocks are facts covers waits barriers =

@@ -1,17 +1,10 @@
 -- Runs and tours of crossings, and how a tour that comes to a class twice is shortened.
-use Rattle.std.proofs.Common.{ℕ, zero, suc, ◌+◌, ◌<◌, ◌≡◌, ◌≢◌, Bool, true, false, List, [], ◌∷◌, length, ◌∙◌, ◌⊎◌, inl, inr, arith}
-use Rattle.std.proofs.lemmas.Bool.{cases_eq, cases_lt}
-use Rattle.sdd_blocks.specs.Graph.{Has, Differ}
-use Rattle.sdd_graph.specs.declared.edge.Edge.{Edge}
-use Rattle.sdd_acyclic.specs.Graphs.{IsHorizontal, IsDiagonal}
-use Rattle.sdd_acyclic.specs.System.{System, Below}
+use Rattle.sdd_acyclic.proofs.All.{Below, Bool, Differ, Edge, Has, IsDiagonal, IsHorizontal, List, System, [], arith, cases_eq, cases_lt, false, inl, inr, length, suc, true, zero, ℕ, ◌+◌, ◌<◌, ◌∙◌, ◌∷◌, ◌≡◌, ◌≢◌, ◌⊎◌}
 
 -- the first precedes the second, of another class, along the edge at the place k; it leaves its class at its
 -- read node or not, and comes to the other at the read node or not
-pub data Crosses {T : Type 0} (S : System T) (graph : List Edge) (x y : T) (k : ℕ) : Bool → Bool
-    → Type 0 where
-  write_write : S.ts x < S.ts y → IsHorizontal graph k (S.class x) (S.class y)
-      → Crosses S graph x y k false false
+pub data Crosses {T : Type 0} (S : System T) (graph : List Edge) (x y : T) (k : ℕ) : Bool → Bool → Type 0 where
+  write_write : S.ts x < S.ts y → IsHorizontal graph k (S.class x) (S.class y) → Crosses S graph x y k false false
   read_write : (f : ℕ) → S.Reads x f → S.Changes y f → (¬ S.Seen y (S.dm (S.class x) f) x)
       → IsDiagonal graph k (S.class x) (S.class y) f → Crosses S graph x y k true false
   write_read : (f : ℕ) → S.Changes x f → S.Reads y f → S.Seen x (S.dm (S.class y) f) y
@@ -34,8 +27,7 @@ Run S graph k [] y = Below S k.to y
 Run S graph k (l ∷ w) y = Below S k.to l.from × Run S graph l w y
 
 -- the classes that the crossings leave
-abbrev pub classes : {T : Type 0} (S : System T) (graph : List Edge) → List (Crossing S graph)
-    → List ℕ
+abbrev pub classes : {T : Type 0} (S : System T) (graph : List Edge) → List (Crossing S graph) → List ℕ
 classes S graph [] = []
 classes S graph (l ∷ w) = S.class l.from ∷ classes S graph w
 
@@ -134,17 +126,8 @@ module _ {T : Type 0} (S : System T) where
           | inr n ↦ elim (repeats l w y r.1) [
             | inl d ↦ inl (n, d)
             | inr s ↦ elim s [
-              | inl t ↦ inr (inl (record {
-                start = t.start;
-                rest = t.rest;
-                closes = t.closes;
-                short = omega arith;
-              }))
-              | inr q ↦ inr (inr (record {
-                rest = l ∷ q.rest;
-                run = (r.0, q.run);
-                short = omega arith;
-              }))
+              | inl t ↦ inr (inl (record { start = t.start; rest = t.rest; closes = t.closes; short = omega arith }))
+              | inr q ↦ inr (inr (record { rest = l ∷ q.rest; run = (r.0, q.run); short = omega arith }))
             ]
           ]
         ]
@@ -180,14 +163,12 @@ module _ {T : Type 0} (S : System T) where
     -- where no tour leaves different classes there is none
     tour_below : ((k : Crossing S graph) (w : List (Crossing S graph)) → Run S graph k w k.from
         → ¬ Differ (classes S graph (k ∷ w)))
-        → (n : ℕ) (k : Crossing S graph) (w : List (Crossing S graph)) → length w < n
-        → ¬ Run S graph k w k.from
+        → (n : ℕ) (k : Crossing S graph) (w : List (Crossing S graph)) → length w < n → ¬ Run S graph k w k.from
     tour_below h zero k w l r = absurd (omega arith)
     tour_below h (suc n) k w l r = elim
         (one_shorter k w r) [
           | inl d ↦ h k w r d
-          | inr t ↦ tour_below h n t.start t.rest
-              (omega arith) t.closes
+          | inr t ↦ tour_below h n t.start t.rest (omega arith) t.closes
         ]
 
     pub no_tour : ((k : Crossing S graph) (w : List (Crossing S graph)) → Run S graph k w k.from

@@ -1,18 +1,7 @@
 -- The walk of a tour in the conflict graph.
-use Rattle.std.proofs.Common.{ℕ, ◌-◌, ◌≤◌, ◌≡◌, ◌≢◌, Bool, true, false, List, [], ◌∷◌, map, Some, refl, sym, ap, ◌∙◌, subst, inl, inr, arith}
-use Rattle.std.specs.Prelude.{slice_get, option_map}
-use Rattle.std.proofs.lemmas.Option.{slice_get-map}
-use Rattle.sdd_blocks.specs.Graph.{Step, Joins, IsWalk, nodes_of, Has, Differ, IsSimpleCycle}
-use Rattle.sdd_blocks.proofs.Walks.{joins_back}
-use Rattle.sdd_base.specs.Numbers.{class_no, frag_no}
-use Rattle.sdd_graph.specs.Graph.{read_node, write_node, ends}
-use Rattle.sdd_graph.specs.declared.edge.Edge.{Edge}
-use Rattle.sdd_graph.specs.declared.edge.Edge.TheVariants.{Vertical, Horizontal, Diagonal}
-use Rattle.sdd_acyclic.specs.Graphs.{Covers}
-use Rattle.sdd_acyclic.specs.System.{System, Below}
+use Rattle.sdd_acyclic.proofs.All.{Below, Bool, Covers, Diagonal, Differ, Edge, Has, Horizontal, IsSimpleCycle, IsWalk, Joins, List, Some, Step, System, Vertical, [], ap, arith, class_no, closed_walks_are_cycles, ends, false, frag_no, inl, inr, joins_back, map, nodes_of, option_map, read_node, refl, slice_get, slice_get-map, subst, sym, true, write_node, ℕ, ◌-◌, ◌∙◌, ◌∷◌, ◌≡◌, ◌≢◌, ◌≤◌}
 use Rattle.sdd_acyclic.proofs.Tours.{Crosses, Crossing, Run, classes}
 use Rattle.sdd_acyclic.proofs.Tours.Crosses.{write_write, read_write, write_read}
-use Rattle.sdd_blocks.proofs.ClosedWalks.{closed_walks_are_cycles}
 
 -- the graph, as pairs of nodes
 abbrev pub pairs : List Edge → List (ℕ × ℕ)
@@ -45,18 +34,15 @@ turn_avoids : (c d : ℕ) (a b : Bool) (rest : List Step) → 1 ≤ c → 1 ≤ 
 turn_avoids c d true true rest p q n h = h
 turn_avoids c d true false rest p q n h =
     λ z m. elim m [ inl e ↦ n (sym (one_class d c false z q p e)) | inr k ↦ h z k ]
-turn_avoids c d false true rest p q n h =
-    λ z m. elim m [ inl e ↦ n (sym (one_class d c true z q p e)) | inr k ↦ h z k ]
+turn_avoids c d false true rest p q n h = λ z m. elim m [ inl e ↦ n (sym (one_class d c true z q p e)) | inr k ↦ h z k ]
 turn_avoids c d false false rest p q n h = h
 
 -- the nodes at which the class is entered and left differ
 turn_differs : (c : ℕ) (a b : Bool) (rest : List Step) → 1 ≤ c → Avoids c rest
     → Differ (nodes_of rest) → Differ (node c a ∷ nodes_of (turn c a b rest))
 turn_differs c true true rest p h d = (h true, d)
-turn_differs c true false rest p h d =
-    ((λ m. elim m [ inl e ↦ absurd (omega arith) | inr k ↦ h true k ]), (h false, d))
-turn_differs c false true rest p h d =
-    ((λ m. elim m [ inl e ↦ absurd (omega arith) | inr k ↦ h false k ]), (h true, d))
+turn_differs c true false rest p h d = ((λ m. elim m [ inl e ↦ absurd (omega arith) | inr k ↦ h true k ]), (h false, d))
+turn_differs c false true rest p h d = ((λ m. elim m [ inl e ↦ absurd (omega arith) | inr k ↦ h false k ]), (h true, d))
 turn_differs c false false rest p h d = (h false, d)
 
 -- a closed walk that begins with a step and a turn
@@ -65,16 +51,14 @@ closed_turn : (edges : List (ℕ × ℕ)) (start : ℕ) (first : Step) (c : ℕ)
     → IsWalk edges start (first ∷ turn c a b (s ∷ rest)) start
     → Differ (nodes_of (first ∷ turn c a b (s ∷ rest))) → (rest ≡ [] → first.edge ≢ s.edge)
     → IsSimpleCycle edges start (first ∷ turn c a b (s ∷ rest))
-closed_turn edges start first c true true s rest w d n =
-    closed_walks_are_cycles edges start first s rest w d n
+closed_turn edges start first c true true s rest w d n = closed_walks_are_cycles edges start first s rest w d n
 closed_turn edges start first c true false s rest w d n =
     closed_walks_are_cycles edges start first (record { edge = c - 1; to = write_node c })
     (s ∷ rest) w d (λ e. cc)
 closed_turn edges start first c false true s rest w d n =
     closed_walks_are_cycles edges start first (record { edge = c - 1; to = read_node c })
     (s ∷ rest) w d (λ e. cc)
-closed_turn edges start first c false false s rest w d n =
-    closed_walks_are_cycles edges start first s rest w d n
+closed_turn edges start first c false false s rest w d n = closed_walks_are_cycles edges start first s rest w d n
 
 turn_some : (c : ℕ) (a b : Bool) (s : Step) (rest : List Step) → turn c a b (s ∷ rest) ≢ []
 turn_some c true true s rest e = cc
@@ -93,14 +77,12 @@ module _ {T : Type 0} (S : System T) (graph : List Edge) where
   walk k [] l = stretch k l []
   walk k (a ∷ w) l = stretch k a (walk a w l)
 
-  joins_at : (k : ℕ) (e : Edge) → slice_get graph k ≡ Some e
-      → Joins (pairs graph) k (ends e).0 (ends e).1
+  joins_at : (k : ℕ) (e : Edge) → slice_get graph k ≡ Some e → Joins (pairs graph) k (ends e).0 (ends e).1
   joins_at k e h = inl (slice_get-map ends graph k ∙ ap (λ z. option_map ends z) h)
 
   joins : (x y : T) (k : ℕ) (a b : Bool) → Crosses S graph x y k a b
       → Joins (pairs graph) k (node (S.class x) a) (node (S.class y) b)
-  joins x y k _ _ (write_write l (inl e)) =
-      joins_at k (Horizontal (class_no (S.class x)) (class_no (S.class y))) e
+  joins x y k _ _ (write_write l (inl e)) = joins_at k (Horizontal (class_no (S.class x)) (class_no (S.class y))) e
   joins x y k _ _ (write_write l (inr e)) =
       joins_back (pairs graph) k (write_node (S.class y)) (write_node (S.class x))
       (joins_at k (Horizontal (class_no (S.class y)) (class_no (S.class x))) e)
@@ -111,12 +93,10 @@ module _ {T : Type 0} (S : System T) (graph : List Edge) where
       (joins_at k (Diagonal (class_no (S.class y)) (class_no (S.class x)) (frag_no f)) e)
 
   module _ (covers : Covers S graph) where
-    turns : (x : T) (a b : Bool) (rest : List Step) (to : ℕ)
-        → IsWalk (pairs graph) (node (S.class x) b) rest to
+    turns : (x : T) (a b : Bool) (rest : List Step) (to : ℕ) → IsWalk (pairs graph) (node (S.class x) b) rest to
         → IsWalk (pairs graph) (node (S.class x) a) (turn (S.class x) a b rest) to
     turns x true true rest to w = w
-    turns x true false rest to w =
-        (joins_at (S.class x - 1) (Vertical (class_no (S.class x))) (covers.vertical x), w)
+    turns x true false rest to w = (joins_at (S.class x - 1) (Vertical (class_no (S.class x))) (covers.vertical x), w)
     turns x false true rest to w = (
       joins_back (pairs graph) (S.class x - 1)
           (read_node (S.class x)) (write_node (S.class x))
@@ -138,16 +118,14 @@ module _ {T : Type 0} (S : System T) (graph : List Edge) where
         → Run S graph k w l.from → IsWalk (pairs graph) (node (S.class k.from) k.out) (walk k w l)
         (node (S.class l.from) l.out)
     is_walk k [] l r = stretches k l [] (node (S.class l.from) l.out) r refl
-    is_walk k (a ∷ w) l r =
-        stretches k a (walk a w l) (node (S.class l.from) l.out) r.0 (is_walk a w l r.1)
+    is_walk k (a ∷ w) l r = stretches k a (walk a w l) (node (S.class l.from) l.out) r.0 (is_walk a w l r.1)
 
     stretch_avoids : (c : ℕ) (k l : Crossing S graph) (rest : List Step) → 1 ≤ c
         → c ≢ S.class l.from → Avoids c rest → Avoids c (stretch k l rest)
     stretch_avoids c k l rest p n h z m =
         elim m [
           | inl e ↦ n (sym (one_class (S.class l.from) c k.into z (covers.declared l.from) p e))
-          | inr q ↦ turn_avoids c (S.class l.from) k.into l.out rest p
-              (covers.declared l.from) n h z q
+          | inr q ↦ turn_avoids c (S.class l.from) k.into l.out rest p (covers.declared l.from) n h z q
         ]
 
     -- a walk comes to the classes of its crossings only
@@ -161,13 +139,11 @@ module _ {T : Type 0} (S : System T) (graph : List Edge) where
 
     stretch_differs : (k l : Crossing S graph) (rest : List Step) → Avoids (S.class l.from) rest
         → Differ (nodes_of rest) → Differ (nodes_of (stretch k l rest))
-    stretch_differs k l rest h d =
-        turn_differs (S.class l.from) k.into l.out rest (covers.declared l.from) h d
+    stretch_differs k l rest h d = turn_differs (S.class l.from) k.into l.out rest (covers.declared l.from) h d
 
     -- where these differ it meets no node twice
     walk_differs : (k : Crossing S graph) (w : List (Crossing S graph)) (l : Crossing S graph)
-        → Differ (classes S graph w) → (¬ Has (classes S graph w) (S.class l.from))
-        → Differ (nodes_of (walk k w l))
+        → Differ (classes S graph w) → (¬ Has (classes S graph w) (S.class l.from)) → Differ (nodes_of (walk k w l))
     walk_differs k [] l d n = stretch_differs k l [] (λ z m. m) tt
     walk_differs k (a ∷ w) l d n =
         stretch_differs k a (walk a w l) (walk_avoids (S.class a.from) a w l
@@ -177,14 +153,12 @@ module _ {T : Type 0} (S : System T) (graph : List Edge) where
         → (s : Step) × (rest : List Step) × (walk k w l ≡ s ∷ rest)
     walk_some k [] l = (
       record { edge = k.edge; to = node (S.class l.from) k.into },
-      turn
-          (S.class l.from) k.into l.out [],
+      turn (S.class l.from) k.into l.out [],
       refl,
     )
     walk_some k (a ∷ w) l = (
       record { edge = k.edge; to = node (S.class a.from) k.into },
-      turn
-          (S.class a.from) k.into a.out (walk a w l),
+      turn (S.class a.from) k.into a.out (walk a w l),
       refl,
     )
 

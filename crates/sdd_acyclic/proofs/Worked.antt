@@ -1,13 +1,6 @@
 -- A system that meets the hypotheses, whatever the blocks: a writer of class 2 at time 5, which a reader of class 1
 -- at time 10, with the bound 8, has seen, so that it precedes the reader.
-use Rattle.std.proofs.Common.{ℕ, ◌-◌, ◌<◌, ◌≤◌, ◌==◌, ◌≡◌, ◌≢◌, Bool, true, false, cond, List, [], ◌∷◌, Some, refl, sym, ap, ◌∙◌, arith, lit<, lit≤}
-use Rattle.std.specs.Prelude.{slice_index}
-use Rattle.sdd_base.specs.Numbers.{class_no, frag_no}
-use Rattle.sdd_graph.specs.declared.edge.Edge.{Edge}
-use Rattle.sdd_graph.specs.declared.edge.Edge.TheVariants.{Vertical, Diagonal}
-use Rattle.sdd_acyclic.specs.Graphs.{IsVertical, IsDiagonal, Covers, Waits}
-use Rattle.sdd_acyclic.specs.System.{System, Precedes, Facts}
-use Rattle.sdd_acyclic.specs.System.Precedes.{by_seen}
+use Rattle.sdd_acyclic.proofs.All.{Bool, Covers, Diagonal, Edge, Facts, IsDiagonal, IsVertical, List, Precedes, Some, System, Vertical, Waits, [], ap, arith, by_seen, class_no, cond, false, frag_no, lit<, lit≤, refl, slice_index, sym, true, ℕ, ◌-◌, ◌<◌, ◌==◌, ◌∙◌, ◌∷◌, ◌≡◌, ◌≢◌, ◌≤◌}
 
 abbrev two : System Bool
 two =
@@ -23,9 +16,7 @@ two =
     }
 
 abbrev graph : List Edge
-graph =
-    Vertical (class_no 1) ∷ Vertical (class_no 2) ∷ Diagonal (class_no 1) (class_no 2)
-    (frag_no 1) ∷ []
+graph = Vertical (class_no 1) ∷ Vertical (class_no 2) ∷ Diagonal (class_no 1) (class_no 2) (frag_no 1) ∷ []
 
 one_time : (x y : Bool) → two.ts x ≡ two.ts y → two.name x ≡ two.name y
 one_time true true e = refl
@@ -58,11 +49,9 @@ vertical : (x : Bool) → IsVertical graph (two.class x - 1) (two.class x)
 vertical true = refl
 vertical false = refl
 
-diagonal : (x y : Bool) (f : ℕ) → x ≡ true → y ≡ false → f ≡ 1
-    → IsDiagonal graph 2 (two.class x) (two.class y) f
+diagonal : (x y : Bool) (f : ℕ) → x ≡ true → y ≡ false → f ≡ 1 → IsDiagonal graph 2 (two.class x) (two.class y) f
 diagonal true true f p q e = cc
-diagonal true false f p q e =
-    ap (λ z. Some (Diagonal (class_no 1) (class_no 2) (frag_no z))) (sym e)
+diagonal true false f p q e = ap (λ z. Some (Diagonal (class_no 1) (class_no 2) (frag_no z))) (sym e)
 diagonal false y f p q e = cc
 
 declared : (x : Bool) → 1 ≤ two.class x
@@ -89,10 +78,8 @@ waits blocks =
     record {
       split =
           λ x y f k n r w e z. (
-            (λ s. in_time x y
-                (slice_index blocks (two.class y - 1) == slice_index blocks k) s.0 s.1),
-            λ l.
-                (w.0, r.0),
+            (λ s. in_time x y (slice_index blocks (two.class y - 1) == slice_index blocks k) s.0 s.1),
+            λ l. (w.0, r.0),
           );
       rises = λ x y c l. rises x y c;
     }

@@ -1,29 +1,5 @@
 -- The advices that two searches give.
-use Rattle.std.proofs.Common.{ℕ, ◌+◌, ◌-◌, ◌≤◌, ◌<◌, ◌≡◌, ◌≢◌, true, List, [], ◌∷◌, ◌++◌, map, filter, length, get_or, take, Option, Some, None, refl, sym, ap, ◌∙◌, subst, arith, inl, inr}
-use Rattle.std.specs.Prelude.{All, Contains, slice_get, is_some}
-use Rattle.std.specs.List.{AllZip}
-use Rattle.std.proofs.lemmas.Bool.{false≢true}
-use Rattle.std.proofs.lemmas.List.{length_push, take_all}
-use Rattle.std.proofs.lemmas.List.Elements.{All-contains, filter_more}
-use Rattle.std.proofs.lemmas.Option.{same_Some}
-use Rattle.sdd_base.specs.declared.number.ClassNo.{ClassNo}
-use Rattle.sdd_blocks.specs.Graph.{Step, Has, IsWalk, Differ, edges_of, nodes_of}
-use Rattle.sdd_blocks.proofs.Cycles.{cycle_at, edges_differ}
-use Rattle.sdd_blocks.proofs.Places.{get_push_last}
-use Rattle.sdd_catalog.specs.Catalogue.{Catalogue}
-use Rattle.sdd_graph.specs.declared.edge.Edge.{Edge}
-use Rattle.sdd_graph.specs.declared.edge.Edge.TheVariants.{Vertical, Horizontal, Diagonal}
-use Rattle.sdd_graph.specs.Edges.{NamesClasses}
-use Rattle.sdd_graph.specs.Graph.{conflict_graph, ends}
-use Rattle.sdd_protocol.specs.declared.protocol.Protocol.TheVariants.{P1, P2, P3}
-use Rattle.sdd_advise.specs.Advices.{ShowsP1, ShowsP2, ShowsP3, ShowsFor, EndsWith, AreAdvices, advice_of, is_diagonal}
-use Rattle.sdd_advise.specs.Cycles.{GoesAlong, IsCycleFrom}
-use Rattle.sdd_advise.specs.Pairs.{IsClosed, LieApart}
-use Rattle.sdd_advise.specs.Reach.{Joins, AreReached, IsOther, IsAway}
-use Rattle.sdd_advise.specs.Readers.{IsReadOf}
-use Rattle.sdd_advise.specs.Searches.{place_of, placed_nodes}
-use Rattle.sdd_advise.specs.Ways.{IsWay}
-use Rattle.sdd_advise.specs.declared.advice.Advice.{Advice}
+use Rattle.sdd_advise.proofs.All.{Advice, All, All-contains, AllZip, AreAdvices, AreReached, Catalogue, ClassNo, Contains, Diagonal, Differ, Edge, EndsWith, GoesAlong, Has, Horizontal, IsAway, IsClosed, IsCycleFrom, IsOther, IsReadOf, IsWalk, IsWay, Joins, LieApart, List, NamesClasses, None, Option, P1, P2, P3, ShowsFor, ShowsP1, ShowsP2, ShowsP3, Some, Step, Vertical, [], advice_of, ap, arith, conflict_graph, cycle_at, edges_differ, edges_of, ends, false≢true, filter, filter_more, get_or, get_push_last, inl, inr, is_diagonal, is_some, length, length_push, map, nodes_of, place_of, placed_nodes, refl, same_Some, slice_get, subst, sym, take, take_all, true, ℕ, ◌++◌, ◌+◌, ◌-◌, ◌<◌, ◌∙◌, ◌∷◌, ◌≡◌, ◌≢◌, ◌≤◌}
 use Rattle.sdd_advise.proofs.Ascending.{contained_passes}
 use Rattle.sdd_advise.proofs.Edges.{joins_at, joins_from}
 use Rattle.sdd_advise.proofs.Members.{place_in}
@@ -118,12 +94,7 @@ module _ (edges : List Edge) (edge : Edge) (there : Contains edges edge) (apart 
       → AreReached edges (IsAway (ends edge).0) (ends edge).1 nodes → ¬ Contains nodes own
       → ShowsP2 edges edge (ends edge).0 (ends edge).1 own (advice_of edge P2 (edge ∷ way) nodes)
   shown_beside own way nodes w r apart_so =
-      record {
-        begins = refl;
-        cycle = closed_by w.steps way w.along w.walk w.differ;
-        reached = r;
-        own_apart = apart_so;
-      }
+      record { begins = refl; cycle = closed_by w.steps way w.along w.walk w.differ; reached = r; own_apart = apart_so }
 
   -- P3: it was, by a way that the reader's vertical edge closes
   pub shown_by_way : (vertical : Edge) (way closed : List Edge) → Contains edges vertical → edge ≢ vertical
@@ -159,8 +130,7 @@ module _ (edges : List Edge) (edge : Edge) (there : Contains edges edge) (apart 
 
 -- one edge more: the advices' edges are the diagonals so far
 pub diagonals_more : (advised more : List Edge) (edges : List Edge) (count : ℕ) (d : Edge) → count < length edges
-    → advised ≡ filter is_diagonal (take count edges)
-    → more ≡ advised ++ filter is_diagonal (get_or edges count d ∷ [])
+    → advised ≡ filter is_diagonal (take count edges) → more ≡ advised ++ filter is_diagonal (get_or edges count d ∷ [])
     → more ≡ filter is_diagonal (take (count + 1) edges)
 diagonals_more advised more edges count d l e m =
     m
@@ -219,8 +189,7 @@ module _ (edges : List Edge) (edge : Edge) (reader : ClassNo) (there : Contains 
       (ap (λ (z : ℕ × ℕ). place_of places z.0) (sym is) ∙ none)))
 
   pub good_beside : (way : List Edge) (nodes : List ℕ) (advice : Advice)
-      → IsWay edges (IsOther edge) (ends edge).1 (ends edge).0 way
-      → LieApart edges reader (ends edge).1 nodes
+      → IsWay edges (IsOther edge) (ends edge).1 (ends edge).0 way → LieApart edges reader (ends edge).1 nodes
       → advice ≡ advice_of edge P2 (edge ∷ way) nodes → ShowsFor edges advice edge
   good_beside way nodes advice w lie e =
       subst (λ z. ShowsFor edges z edge) (sym e)

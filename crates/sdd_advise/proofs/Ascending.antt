@@ -1,13 +1,5 @@
 -- Ascending lists of numbers.
-use Rattle.std.proofs.Common.{ℕ, zero, suc, ◌+◌, ◌<◌, ◌≤◌, ◌≡◌, Bool, true, false, cond, List, [], ◌∷◌, ◌++◌, filter, length, get_or, refl, sym, ap, ◌∙◌, subst, arith, inl, inr}
-use Rattle.std.specs.Prelude.{Contains}
-use Rattle.std.specs.List.{range_with_len}
-use Rattle.std.specs.List.Sorted.{IsStrictlyIncreasing}
-use Rattle.std.proofs.lemmas.Bool.{cases_eq}
-use Rattle.std.proofs.lemmas.List.{append-nil}
-use Rattle.std.proofs.lemmas.List.Elements.{filter-append}
-use Rattle.std.proofs.lemmas.List.FromFn.{get_or-range_with_len, length-range_with_len}
-use Rattle.std.proofs.lemmas.List.Kept.{IsStrictlyIncreasing-filter}
+use Rattle.sdd_advise.proofs.All.{Bool, Contains, IsStrictlyIncreasing, IsStrictlyIncreasing-filter, List, [], ap, append-nil, arith, cases_eq, cond, false, filter, filter-append, get_or, get_or-range_with_len, inl, inr, length, length-range_with_len, range_more, range_with_len, refl, subst, suc, sym, true, zero, ℕ, ◌++◌, ◌+◌, ◌<◌, ◌∙◌, ◌∷◌, ◌≡◌, ◌≤◌}
 use Rattle.sdd_advise.proofs.Members.{Among, among_at, place_in}
 
 -- a member is contained
@@ -103,18 +95,11 @@ among_passing p low (suc n) a e l m =
     ]
 
 -- a number below the bound is there exactly where it passes
-pub contains_passing : (p : ℕ → Bool) (n a : ℕ) → p a ≡ true → a < n
-    → Contains (filter p (range_with_len 0 n)) a
+pub contains_passing : (p : ℕ → Bool) (n a : ℕ) → p a ≡ true → a < n → Contains (filter p (range_with_len 0 n)) a
 contains_passing p n a e l = contains_from_among (filter p (range_with_len 0 n)) a (among_passing p 0 n a e (omega arith) (omega arith))
 
 pub contained_passes : (p : ℕ → Bool) (n a : ℕ) → Contains (filter p (range_with_len 0 n)) a → p a ≡ true
 contained_passes p n a h = passes p (range_with_len 0 n) a (among_from_contains (filter p (range_with_len 0 n)) a h)
-
-range_more : (a n : ℕ) → range_with_len a (suc n) ≡ range_with_len a n ++ (a + n) ∷ []
-range_more a zero = let e : a ≡ a + 0 = omega arith in ap (λ z. z ∷ []) e
-range_more a (suc n) =
-    let e : a + 1 + n ≡ a + suc n = omega arith in
-    ap (λ zs. a ∷ zs) (range_more (a + 1) n ∙ ap (λ z. range_with_len (a + 1) n ++ z ∷ []) e)
 
 passing_next : (p : ℕ → Bool) (n : ℕ)
     → filter p (range_with_len 0 (n + 1)) ≡ filter p (range_with_len 0 n) ++ cond (p n) (n ∷ []) []

@@ -1,15 +1,5 @@
 -- The edges at a node.
-use Rattle.std.proofs.Common.{ℕ, ◌≡◌, ◌==◌, true, false, cond, List, [], ◌∷◌, Option, Some, None, refl, sym, ap, ◌∙◌, subst, inl, inr}
-use Rattle.std.specs.Prelude.{All, Contains, option_map}
-use Rattle.std.specs.List.{filter_map, cons_option, AllByRecursion}
-use Rattle.std.proofs.lemmas.Bool.{cases_eq, eqb-true, eq-eqb, ne_eqb}
-use Rattle.std.proofs.lemmas.List.Elements.{All-from_recursion}
-use Rattle.std.proofs.lemmas.Option.{none-some, same_Some}
-use Rattle.sdd_graph.specs.declared.edge.Edge.{Edge}
-use Rattle.sdd_graph.specs.Graph.{ends}
-use Rattle.sdd_advise.specs.Neighbours.{other_end, neighbour_by, neighbours}
-use Rattle.sdd_advise.specs.Reach.{Joins}
-use Rattle.sdd_advise.specs.declared.neighbour.Neighbour.{Neighbour}
+use Rattle.sdd_advise.proofs.All.{All, All-from_recursion, AllByRecursion, Contains, Edge, Joins, List, Neighbour, None, Option, Some, [], ap, cases_eq, cond, cons_option, ends, eq-eqb, eqb-true, false, filter_map, inl, inr, ne_eqb, neighbour_by, neighbours, none-some, option_map, other_end, refl, same_Some, subst, sym, true, ℕ, ◌==◌, ◌∙◌, ◌∷◌, ◌≡◌}
 use Rattle.sdd_advise.proofs.Ascending.{contains_from_among, among_from_contains}
 use Rattle.sdd_advise.proofs.Members.{Among}
 
@@ -33,7 +23,8 @@ pair p a b e f = ap (λ z. (z, p.1)) e ∙ ap (λ z. (a, z)) f
 -- and joins the two
 pub joined_other_end : (edge : Edge) (a b : ℕ) → other_end edge a ≡ Some b → Joins edge a b
 joined_other_end edge a b =
-    elim ((ends edge).0 == a) as (λ t. (ends edge).0 == a ≡ t → cond t (Some (ends edge).1) (cond ((ends edge).1 == a) (Some (ends edge).0) None) ≡ Some b → Joins edge a b) [
+    elim ((ends edge).0 == a) as
+    (λ t. (ends edge).0 == a ≡ t → cond t (Some (ends edge).1) (cond ((ends edge).1 == a) (Some (ends edge).0) None) ≡ Some b → Joins edge a b) [
       | true ↦ λ t e. inl (pair (ends edge) a b (eqb-true (ends edge).0 a t) (same_Some (ends edge).1 b e))
       | false ↦ λ f.
           elim ((ends edge).1 == a) as (λ t. (ends edge).1 == a ≡ t → cond t (Some (ends edge).0) None ≡ Some b → Joins edge a b) [
@@ -68,8 +59,7 @@ from_mapped {X} {Y} h (z ∷ zs) y m =
     ] refl m
 
 -- an edge that joins the node to another leads to it
-pub neighbour_there : (edges : List Edge) (node other : ℕ) (edge : Edge) → Contains edges edge
-    → Joins edge node other
+pub neighbour_there : (edges : List Edge) (node other : ℕ) (edge : Edge) → Contains edges edge → Joins edge node other
     → Contains (neighbours edges node) (record { edge = edge; node = other })
 neighbour_there edges node other edge m j =
     contains_from_among (neighbours edges node) (record { edge = edge; node = other })
@@ -98,4 +88,5 @@ all_among P (x ∷ xs) h = (h x (inl refl), all_among P xs (λ y m. h y (inr m))
 
 -- all that lead from a node are neighbours of it
 pub all_neighbours : (edges : List Edge) (node : ℕ) → All (IsNeighbour edges node) (neighbours edges node)
-all_neighbours edges node = All-from_recursion (IsNeighbour edges node) (neighbours edges node) (all_among (IsNeighbour edges node) (neighbours edges node) (one_neighbour edges node))
+all_neighbours edges node =
+    All-from_recursion (IsNeighbour edges node) (neighbours edges node) (all_among (IsNeighbour edges node) (neighbours edges node) (one_neighbour edges node))

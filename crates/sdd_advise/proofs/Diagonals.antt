@@ -1,13 +1,5 @@
 -- Good advices for all diagonals say what the table says of its diagonals.
-use Rattle.std.proofs.Common.{ℕ, ◌<◌, ◌≡◌, Bool, true, false, cond, List, [], ◌∷◌, map, filter, length, get_or, refl, sym, ap, ◌∙◌, arith}
-use Rattle.std.specs.Prelude.{Contains}
-use Rattle.std.proofs.lemmas.List.{get_or-map, length-map, same_lists}
-use Rattle.std.proofs.lemmas.List.Elements.{All-filter, All-contains_itself}
-use Rattle.sdd_catalog.specs.Catalogue.{Catalogue}
-use Rattle.sdd_protocol.specs.declared.entry.Entry.{Entry}
-use Rattle.sdd_advise.specs.Advices.{is_diagonal}
-use Rattle.sdd_advise.specs.Laws.{AdvicesSayTheTable, advised, listed}
-use Rattle.sdd_advise.specs.declared.advice.Advice.{Advice}
+use Rattle.sdd_advise.proofs.All.{Advice, AdvicesSayTheTable, All-contains_itself, All-filter, Bool, Catalogue, Contains, Entry, List, [], advised, ap, arith, cond, false, filter, get_or, get_or-map, is_diagonal, length, length-map, listed, map, refl, same_lists, sym, true, ℕ, ◌<◌, ◌∙◌, ◌∷◌, ◌≡◌}
 use Rattle.sdd_advise.proofs.Right.{good_advice_is_right}
 
 -- a filter by the image, before and after
@@ -36,7 +28,8 @@ images advices entries same right =
     let a : Advice = record { edge = d.0; protocol = d.1; cycle = []; apart = [] } in
     let e : Entry = record { edge = d.0; block = 0; protocol = d.1 } in
     let edge : (get_or entries k e).edge ≡ (get_or advices k a).edge =
-    sym (get_or-map (λ (z : Entry). z.edge) entries k e d.0 there) ∙ ap (λ z. get_or z k d.0) (sym same) ∙ get_or-map (λ (z : Advice). z.edge) advices k a d.0 within in
+    sym (get_or-map (λ (z : Entry). z.edge) entries k e d.0 there) ∙ ap (λ z. get_or z k d.0) (sym same)
+    ∙ get_or-map (λ (z : Advice). z.edge) advices k a d.0 within in
     get_or-map advised advices k a d within
     ∙ ap (λ z. (z, (get_or advices k a).protocol)) (sym edge)
     ∙ ap (λ z. ((get_or entries k e).edge, z)) (sym (right k a e within edge))

@@ -1,10 +1,5 @@
 -- Whether no node is twice in a list, by marks.
-use Rattle.std.proofs.Common.{ℕ, zero, suc, ◌+◌, ◌<◌, ◌≤◌, ◌≡◌, Bool, true, false, List, [], ◌∷◌, ◌++◌, length, get_or, set, take, replicate, refl, sym, ◌∙◌, subst, arith, inl, inr, length-set}
-use Rattle.std.proofs.lemmas.Bool.{both_ways}
-use Rattle.std.proofs.lemmas.List.{take_more, take_all, length-replicate, get_or-replicate}
-use Rattle.sdd_blocks.specs.Graph.{Has, Differ}
-use Rattle.sdd_blocks.proofs.Members.{has_push_cases, has_push_last, differ_push}
-use Rattle.sdd_blocks.proofs.Places.{read_set}
+use Rattle.sdd_advise.proofs.All.{Bool, Differ, Has, List, [], arith, both_ways, differ_push, false, get_or, get_or-replicate, has_push_cases, has_push_last, inl, inr, length, length-replicate, length-set, read_set, refl, replicate, set, subst, suc, sym, take, take_all, take_more, true, zero, ℕ, ◌++◌, ◌+◌, ◌<◌, ◌∙◌, ◌∷◌, ◌≡◌, ◌≤◌}
 
 -- the nodes so far differ, and are those that are marked
 pub record IsMarking (nodes : List ℕ) (count limit : ℕ) (marks : List Bool) : Type 0 where

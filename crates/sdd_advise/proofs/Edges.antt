@@ -1,22 +1,13 @@
 -- The edges of a graph by their places, and what walks along them reach.
-use Rattle.std.proofs.Common.{ℕ, zero, suc, ◌≡◌, ◌≢◌, List, [], ◌∷◌, map, Option, Some, None, refl, sym, ap, ◌∙◌, subst, inl, inr}
-use Rattle.std.specs.Prelude.{slice_get, Contains, option_map}
-use Rattle.std.specs.List.{AllZip}
-use Rattle.std.proofs.lemmas.Option.{none-some, same_Some, slice_get-map, slice_get_within, get_or_from_slice_get}
-use Rattle.sdd_blocks.specs.Graph.{Step, Has, IsWalk, edges_of, nodes_of}
+use Rattle.sdd_advise.proofs.All.{AllZip, CanReach, Contains, Edge, GoesAlong, Has, IsAway, IsOther, IsWalk, Joins, List, None, Option, Some, Step, [], along, ap, edges_of, ends, get_or_from_slice_get, inl, inr, map, nodes_of, none-some, option_map, refl, same_Some, slice_get, slice_get-map, slice_get_within, subst, suc, sym, zero, ℕ, ◌∙◌, ◌∷◌, ◌≡◌, ◌≢◌}
 use Rattle.sdd_blocks.specs.Graph as blocks
-use Rattle.sdd_graph.specs.declared.edge.Edge.{Edge}
-use Rattle.sdd_graph.specs.Graph.{ends}
-use Rattle.sdd_advise.specs.Cycles.{GoesAlong}
-use Rattle.sdd_advise.specs.Reach.{Joins, CanReach, IsOther, IsAway}
-use Rattle.sdd_advise.specs.Reach.CanReach.{along}
 
 -- what stands at a place is contained
 pub contains_at : {X : Type 0} (xs : List X) (k : ℕ) (x : X) → slice_get xs k ≡ Some x → Contains xs x
 contains_at xs k x e = (k, slice_get_within xs k x e, get_or_from_slice_get xs k x x e)
 
 -- of what an image is
-mapped : {X Y : Type 0} (f : X → Y) (o : Option X) (y : Y) → option_map f o ≡ Some y
+pub mapped : {X Y : Type 0} (f : X → Y) (o : Option X) (y : Y) → option_map f o ≡ Some y
     → (x : X) × (o ≡ Some x) × (f x ≡ y)
 mapped f None y e = absurd (none-some y e)
 mapped f (Some x) y e = (x, refl, same_Some (f x) y e)
@@ -38,11 +29,9 @@ joins_from edges k a b (inr p) =
     (r.0, r.1, inr r.2)
 
 -- what is reached by a walk that doesn't go along an edge
-pub reach_without_edge : (edges : List Edge) (k : ℕ) (e : Edge)
-    → ((j : ℕ) → slice_get edges j ≡ Some e → j ≡ k)
+pub reach_without_edge : (edges : List Edge) (k : ℕ) (e : Edge) → ((j : ℕ) → slice_get edges j ≡ Some e → j ≡ k)
     → (start from : ℕ) (steps : List Step) (to : ℕ) → CanReach edges (IsOther e) start from
-    → IsWalk (map ends edges) from steps to → (¬ Has (edges_of steps) k)
-    → CanReach edges (IsOther e) start to
+    → IsWalk (map ends edges) from steps to → (¬ Has (edges_of steps) k) → CanReach edges (IsOther e) start to
 reach_without_edge edges k e one start from [] to r w away = subst (λ z. CanReach edges (IsOther e) start z) w r
 reach_without_edge edges k e one start from (s ∷ steps) to r w away =
     let j = joins_from edges s.edge from s.to w.0 in

@@ -1,15 +1,5 @@
 -- The steps of a search.
-use Rattle.std.proofs.Common.{ℕ, zero, suc, ◌+◌, ◌<◌, ◌^◌, ◌≡◌, ◌≢◌, true, cond, List, [], ◌∷◌, ◌++◌, length, set, replicate, Option, Some, None, refl, sym, ap, ◌∙◌, subst, arith, inl, inr, ◌⊎◌, length-set, get_or-set_same, get_or-set_other}
-use Rattle.std.specs.Prelude.{count_by, is_some, is_none, MatchOption, Contains}
-use Rattle.std.proofs.lemmas.Bool.{cases_eq, cases_lt}
-use Rattle.std.proofs.lemmas.List.{length-replicate, get_or-replicate, get_or_past, get_or_append_left, get_or_push, length_push}
-use Rattle.std.proofs.lemmas.List.Sums.{sum_by-set, sum_by-cons}
-use Rattle.std.proofs.lemmas.Option.{none-some, same_Some, MatchOption-at_some}
-use Rattle.sdd_graph.specs.declared.edge.Edge.{Edge}
-use Rattle.sdd_advise.specs.Reach.{Joins}
-use Rattle.sdd_advise.specs.Searches.{reached_at, place_of, LeadsTo, IsUnderWay}
-use Rattle.sdd_advise.specs.declared.search.Came.{Came}
-use Rattle.sdd_advise.specs.declared.search.Reached.{Reached}
+use Rattle.sdd_advise.proofs.All.{Came, Contains, Edge, IsUnderWay, Joins, LeadsTo, List, MatchOption, MatchOption-at_some, None, Option, Reached, Some, [], ap, arith, cases_eq, cases_lt, cond, count_by, get_or-replicate, get_or-set_other, get_or-set_same, get_or_append_left, get_or_past, get_or_push, inl, inr, is_none, is_some, length, length-replicate, length-set, length_push, none-some, place_of, reached_at, refl, replicate, same_Some, set, subst, suc, sum_by-cons, sum_by-set, sym, true, zero, ℕ, ◌++◌, ◌+◌, ◌<◌, ◌^◌, ◌∙◌, ◌∷◌, ◌≡◌, ◌≢◌, ◌⊎◌}
 
 -- 1 for a node without a place
 abbrev open_place : Option ℕ → ℕ
@@ -54,8 +44,7 @@ some_stays places v k a l h =
 module _ (edges : List Edge) (Goes : Edge → Type 0) (nodes : ℕ) where
   -- at the start
   pub search_begun : (start : ℕ) (places : List (Option ℕ)) (reached : List Reached) → nodes < 2 ^ 32 → start < nodes
-      → places ≡ set (blank nodes) start (Some 0)
-      → reached ≡ (record { node = start; came = None }) ∷ []
+      → places ≡ set (blank nodes) start (Some 0) → reached ≡ (record { node = start; came = None }) ∷ []
       → IsUnderWay edges Goes nodes 0 places reached
   search_begun start places reached few l p r =
       let long : length (blank nodes) ≡ nodes = length-replicate nodes None in

@@ -1,19 +1,5 @@
 -- A search goes on from one node, and is done.
-use Rattle.std.proofs.Common.{ℕ, zero, suc, ◌+◌, ◌<◌, ◌≤◌, ◌≡◌, Bool, true, List, [], ◌∷◌, ◌++◌, length, get_or, set, take, Option, Some, None, refl, sym, ap, ◌∙◌, subst, arith, inl, inr, ◌⊎◌, get_or-set_same}
-use Rattle.std.specs.Prelude.{All, Contains, is_some}
-use Rattle.std.proofs.lemmas.Bool.{cases_lt}
-use Rattle.std.proofs.lemmas.List.{take_all, length_push, get_or_append_left}
-use Rattle.std.proofs.lemmas.List.Elements.{All-nil, All-more, All-weaker, All-contains}
-use Rattle.std.proofs.lemmas.Option.{MatchOption-at_some, MatchOption-at_none}
-use Rattle.sdd_graph.specs.declared.edge.Edge.{Edge}
-use Rattle.sdd_advise.specs.Neighbours.{neighbours}
-use Rattle.sdd_advise.specs.Reach.{Joins, CanReach, AreReached}
-use Rattle.sdd_advise.specs.Reach.CanReach.{here, along}
-use Rattle.sdd_advise.specs.Searches.{reached_at, place_of, placed_nodes, IsUnderWay}
-use Rattle.sdd_advise.specs.declared.neighbour.Neighbour.{Neighbour}
-use Rattle.sdd_advise.specs.declared.search.Came.{Came}
-use Rattle.sdd_advise.specs.declared.search.Reached.{Reached}
-use Rattle.sdd_advise.specs.declared.search.Search.{Search}
+use Rattle.sdd_advise.proofs.All.{All, All-contains, All-more, All-nil, All-weaker, AreReached, Bool, Came, CanReach, Contains, Edge, IsUnderWay, Joins, List, MatchOption-at_none, MatchOption-at_some, Neighbour, None, Option, Reached, Search, Some, [], along, ap, arith, cases_lt, get_or, get_or-set_same, get_or_append_left, here, inl, inr, is_some, length, length_push, neighbours, place_of, placed_nodes, reached_at, refl, set, subst, suc, sym, take, take_all, true, zero, ℕ, ◌++◌, ◌+◌, ◌<◌, ◌∙◌, ◌∷◌, ◌≡◌, ◌≤◌, ◌⊎◌}
 use Rattle.sdd_advise.proofs.Ascending.{passing_ascend, contains_passing, contained_passes}
 use Rattle.sdd_advise.proofs.Beside.{IsNeighbour, neighbour_there, all_neighbours}
 use Rattle.sdd_advise.proofs.Found.{some_stays, node_reached, first_stays}
@@ -53,15 +39,13 @@ pub record IsGoing (edges : List Edge) (Goes : Edge → Type 0) (nodes place nod
 module _ (edges : List Edge) (Goes : Edge → Type 0) (nodes place node first : ℕ) (list : List Neighbour) (is : list ≡ neighbours edges node) where
   pub none_taken : (search : Search) → IsUnderWay edges Goes nodes place search.places.items search.reached.items
       → place < length search.reached.items → (reached_at search.reached.items place).node ≡ node
-      → (reached_at search.reached.items 0).node ≡ first
-      → IsGoing edges Goes nodes place node first list 0 search
+      → (reached_at search.reached.items 0).node ≡ first → IsGoing edges Goes nodes place node first list 0 search
   none_taken search u l n f = record { under = u; within = l; at_node = n; at_first = f; met = All-nil (IsMet Goes search.places.items) }
 
   -- an edge that doesn't pass
   pub edge_left : (count : ℕ) (d : Neighbour) (search : Search)
       → IsGoing edges Goes nodes place node first list count search → count < length list
-      → (¬ Goes (get_or list count d).edge)
-      → IsGoing edges Goes nodes place node first list (count + 1) search
+      → (¬ Goes (get_or list count d).edge) → IsGoing edges Goes nodes place node first list (count + 1) search
   edge_left count d search g l left =
       record {
         under = g.under;
@@ -76,8 +60,7 @@ module _ (edges : List Edge) (Goes : Edge → Type 0) (nodes place node first : 
 
   -- an edge that passes
   pub edge_taken : (count : ℕ) (d : Neighbour) (came : Came) (old new : Search)
-      → IsGoing edges Goes nodes place node first list count old → count < length list
-      → All (λ n. n.node < nodes) list
+      → IsGoing edges Goes nodes place node first list count old → count < length list → All (λ n. n.node < nodes) list
       → came.edge ≡ (get_or list count d).edge → came.from ≡ place → Goes (get_or list count d).edge
       → (is_some (place_of old.places.items (get_or list count d).node) ≡ true → new ≡ old)
       → (place_of old.places.items (get_or list count d).node ≡ None → new.places.items ≡ set old.places.items (get_or list count d).node (Some (length old.reached.items)))
@@ -117,7 +100,8 @@ module _ (edges : List Edge) (Goes : Edge → Type 0) (nodes place node first : 
                   subst (λ z. IsUnderWay edges Goes nodes place z new.reached.items) (sym (places none))
                   (subst (λ z. IsUnderWay edges Goes nodes place (set old.places.items n.node (Some (length old.reached.items))) z) (sym new_reached) made);
               within = let w = g.within in omega (arith, ap length new_reached, pushed old.reached.items n.node came);
-              at_node = ap (λ z. (reached_at z place).node) new_reached ∙ ap (λ (z : Reached). z.node) (kept_at old.reached.items n.node came place g.within) ∙ g.at_node;
+              at_node = ap (λ z. (reached_at z place).node) new_reached ∙ ap (λ (z : Reached). z.node)
+                  (kept_at old.reached.items n.node came place g.within) ∙ g.at_node;
               at_first = ap (λ z. (reached_at z 0).node) new_reached ∙ kept ∙ g.at_first;
               met =
                   All-more (IsMet Goes new.places.items) list count d l
@@ -128,8 +112,7 @@ module _ (edges : List Edge) (Goes : Edge → Type 0) (nodes place node first : 
 
   -- all edges were taken
   pub all_taken : (count : ℕ) (search : Search) → IsGoing edges Goes nodes place node first list count search
-      → length list ≤ count
-      → IsUnderWay edges Goes nodes (place + 1) search.places.items search.reached.items
+      → length list ≤ count → IsUnderWay edges Goes nodes (place + 1) search.places.items search.reached.items
   all_taken count search g l =
       let u = g.under in
       let met : All (IsMet Goes search.places.items) list = subst (λ z. All (IsMet Goes search.places.items) z) (take_all count list l) g.met in
@@ -147,7 +130,8 @@ module _ (edges : List Edge) (Goes : Edge → Type 0) (nodes place node first : 
               | inl before ↦ u.gone k other edge before is_edge goes joins
               | inr after ↦
                   let same : k ≡ place = omega arith in
-                  let from_here : Joins edge node other = subst (λ z. Joins edge z other) (ap (λ z. (reached_at search.reached.items z).node) same ∙ g.at_node) joins in
+                  let from_here : Joins edge node other = subst (λ z. Joins edge z other)
+                  (ap (λ z. (reached_at search.reached.items z).node) same ∙ g.at_node) joins in
                   All-contains (IsMet Goes search.places.items) list (record { edge = edge; node = other }) met
                   (subst (λ z. Contains z (record { edge = edge; node = other })) (sym is) (neighbour_there edges node other edge is_edge from_here)) goes
             ];
@@ -159,7 +143,8 @@ module _ (edges : List Edge) (Goes : Edge → Type 0) (nodes place : ℕ) (place
       → CanReach edges Goes (reached_at reached 0).node (reached_at reached k).node
   reached_so zero k l m = absurd (omega arith)
   reached_so (suc n) k l m =
-      elim ((reached_at reached k).came) as (λ o. (reached_at reached k).came ≡ o → CanReach edges Goes (reached_at reached 0).node (reached_at reached k).node) [
+      elim ((reached_at reached k).came) as
+      (λ o. (reached_at reached k).came ≡ o → CanReach edges Goes (reached_at reached 0).node (reached_at reached k).node) [
         | None ↦ λ e.
             let first : k ≡ 0 = MatchOption-at_none (k ≡ 0) (λ (c : Came). c.from < k) e (u.traced.earlier k m) in
             subst (λ z. CanReach edges Goes (reached_at reached 0).node (reached_at reached z).node) (sym first) here

@@ -1,22 +1,5 @@
 -- What a good advice names is there.
-use Rattle.std.proofs.Common.{ℕ, ◌*◌, ◌<◌, List, length, get_or, sym, subst}
-use Rattle.std.specs.Prelude.{All, Contains}
-use Rattle.std.proofs.lemmas.List.Elements.{All-nil, All-weaker, All-contains, Contains-get_or}
-use Rattle.sdd_base.specs.declared.number.ClassNo.{ClassNo}
-use Rattle.sdd_base.specs.declared.number.FragNo.{FragNo}
-use Rattle.sdd_catalog.specs.Catalogue.{Catalogue}
-use Rattle.sdd_graph.specs.declared.edge.Edge.{Edge}
-use Rattle.sdd_graph.specs.declared.edge.Edge.TheVariants.{Vertical, Horizontal, Diagonal}
-use Rattle.sdd_graph.specs.Edges.{IsEdgeOf, JoinsNodes}
-use Rattle.sdd_graph.specs.Graph.{conflict_graph, ends, write_node}
-use Rattle.sdd_graph.proofs.Known.{edges_known, edges_join}
-use Rattle.sdd_protocol.specs.declared.protocol.Protocol.{Protocol}
-use Rattle.sdd_protocol.specs.declared.protocol.Protocol.TheVariants.{P1, P2, P3}
-use Rattle.sdd_advise.specs.Advices.{ShowsProtocol, ShowsFor, IsGood}
-use Rattle.sdd_advise.specs.Cycles.{IsCycleFrom}
-use Rattle.sdd_advise.specs.Reach.{CanReach, AreReached}
-use Rattle.sdd_advise.specs.Reach.CanReach.{here, along}
-use Rattle.sdd_advise.specs.declared.advice.Advice.{Advice}
+use Rattle.sdd_advise.proofs.All.{Advice, All, All-contains, All-nil, All-weaker, AreReached, CanReach, Catalogue, ClassNo, Contains, Contains-get_or, Diagonal, Edge, FragNo, Horizontal, IsCycleFrom, IsEdgeOf, IsGood, JoinsNodes, List, P1, P2, P3, Protocol, ShowsFor, ShowsProtocol, Vertical, along, conflict_graph, edges_join, edges_known, ends, get_or, here, length, subst, sym, write_node, ℕ, ◌*◌, ◌<◌}
 use Rattle.sdd_advise.proofs.Rounds.{all_in_graph, end_within}
 use Rattle.sdd_advise.proofs.Showing.{shown_there}
 
@@ -71,10 +54,12 @@ module _ (cat : Catalogue) where
       → ShowsProtocol (conflict_graph cat) (Diagonal i j f) i j advice p
       → All (λ node. node < 2 * length cat.classes) advice.apart
   apart_by i j f advice P1 there s =
-      let w = All-contains (λ e. ((ends e).0 < 2 * length cat.classes) × ((ends e).1 < 2 * length cat.classes)) (conflict_graph cat) (Diagonal i j f) ends_within there in
+      let w = All-contains (λ e. ((ends e).0 < 2 * length cat.classes) × ((ends e).1 < 2 * length cat.classes)) (conflict_graph cat)
+      (Diagonal i j f) ends_within there in
       all_within (conflict_graph cat) _ (2 * length cat.classes) (write_node j.0) advice.apart ends_within w.1 s.reached
   apart_by i j f advice P2 there s =
-      let w = All-contains (λ e. ((ends e).0 < 2 * length cat.classes) × ((ends e).1 < 2 * length cat.classes)) (conflict_graph cat) (Diagonal i j f) ends_within there in
+      let w = All-contains (λ e. ((ends e).0 < 2 * length cat.classes) × ((ends e).1 < 2 * length cat.classes)) (conflict_graph cat)
+      (Diagonal i j f) ends_within there in
       all_within (conflict_graph cat) _ (2 * length cat.classes) (write_node j.0) advice.apart ends_within w.1 s.reached
   apart_by i j f advice P3 there s =
       subst (All (λ node. node < 2 * length cat.classes)) (sym s.none_apart) (All-nil (λ node. node < 2 * length cat.classes))

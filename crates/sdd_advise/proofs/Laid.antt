@@ -1,19 +1,5 @@
 -- How a graph is laid out.
-use Rattle.std.proofs.Common.{ℕ, ◌+◌, ◌-◌, ◌*◌, ◌<◌, ◌≡◌, List, [], ◌∷◌, ◌++◌, map, length, get_or, sym, ap, ◌∙◌, subst, arith}
-use Rattle.std.specs.Prelude.{All, Contains}
-use Rattle.std.specs.List.{range_with_len}
-use Rattle.std.proofs.lemmas.List.Elements.{All-weaker, All-contains, All-same}
-use Rattle.std.proofs.lemmas.List.FromFn.{length-map-range_with_len, get_or-map-range_with_len, map-range_with_len_more}
-use Rattle.sdd_base.specs.declared.number.ClassNo.{ClassNo}
-use Rattle.sdd_catalog.specs.Catalogue.{Catalogue}
-use Rattle.sdd_graph.specs.declared.edge.Edge.{Edge}
-use Rattle.sdd_graph.specs.declared.edge.Edge.TheVariants.{Vertical, Horizontal, Diagonal}
-use Rattle.sdd_graph.specs.Edges.{IsEdgeOf, NamesClasses, JoinsNodes}
-use Rattle.sdd_graph.specs.Graph.{conflict_graph, ends}
-use Rattle.sdd_graph.proofs.Known.{edges_known}
-use Rattle.sdd_advise.specs.Neighbours.{neighbours, HasEachOnce, HasVerticals, IsLaidOut}
-use Rattle.sdd_advise.specs.Readers.{IsReadOf}
-use Rattle.sdd_advise.specs.declared.neighbour.Neighbour.{Neighbour}
+use Rattle.sdd_advise.proofs.All.{All, All-contains, All-same, All-weaker, Catalogue, ClassNo, Contains, Diagonal, Edge, HasEachOnce, HasVerticals, Horizontal, IsEdgeOf, IsLaidOut, IsReadOf, JoinsNodes, List, NamesClasses, Neighbour, Vertical, [], ap, arith, conflict_graph, edges_known, ends, get_or, get_or-map-range_with_len, length, length-map-range_with_len, map, map-range_with_len_more, neighbours, range_with_len, subst, sym, ℕ, ◌*◌, ◌++◌, ◌+◌, ◌-◌, ◌<◌, ◌∙◌, ◌∷◌, ◌≡◌}
 use Rattle.sdd_advise.proofs.Beside.{IsNeighbour, all_neighbours}
 use Rattle.sdd_advise.proofs.Edges.{contains_at}
 use Rattle.sdd_advise.proofs.Places.{one_place_each}
@@ -34,8 +20,7 @@ verticals_there cat edge reader m r =
 
 pub laid_out : (cat : Catalogue) (classes nodes : ℕ) (edges : List Edge) (lists : List (List Neighbour))
     → edges ≡ conflict_graph cat → All NamesClasses edges → All (JoinsNodes classes) edges
-    → nodes ≡ 2 * classes → lists ≡ map (neighbours edges) (range_with_len 0 nodes)
-    → IsLaidOut edges nodes lists
+    → nodes ≡ 2 * classes → lists ≡ map (neighbours edges) (range_with_len 0 nodes) → IsLaidOut edges nodes lists
 laid_out cat classes nodes edges lists e named joined n laid =
     record {
       once = subst HasEachOnce (sym e) (one_place_each cat);

@@ -1,13 +1,5 @@
 -- A search that was left: it had reached the wanted node, or it was done.
-use Rattle.std.proofs.Common.{ℕ, ◌≡◌, ◌≤◌, true, length, None, sym, ap, ◌∙◌, subst}
-use Rattle.std.specs.Prelude.{is_some}
-use Rattle.std.proofs.lemmas.Bool.{false≢true}
-use Rattle.sdd_advise.specs.Neighbours.{Network}
-use Rattle.sdd_advise.specs.Passing.{Passes}
-use Rattle.sdd_advise.specs.Reach.{AreReached}
-use Rattle.sdd_advise.specs.Searches.{IsSearching, IsLeftAt, place_of, placed_nodes, reached_at}
-use Rattle.sdd_advise.specs.declared.search.Search.{Search}
-use Rattle.sdd_advise.specs.declared.without.Without.{Without}
+use Rattle.sdd_advise.proofs.All.{AreReached, IsLeftAt, IsSearching, Network, Passes, Search, Without, ap, false≢true, is_some, length, place_of, placed_nodes, reached_at, subst, sym, true, ℕ, ◌∙◌, ◌≡◌, ◌≤◌}
 use Rattle.sdd_advise.proofs.Going.{are_reached}
 
 module _ (network : Network) (without : Without) (start wanted place : ℕ) (search : Search) (u : IsSearching network without place search) (at_start : (reached_at search.reached.items 0).node ≡ start) where

@@ -1,4 +1,5 @@
 pub mod Advised
+mod All
 pub mod Ascending
 pub mod Beside
 pub mod Diagonals

@@ -1,17 +1,5 @@
 -- What a search without a reader's read node tells of the reader's diagonals from one writer.
-use Rattle.std.proofs.Common.{ℕ, ◌≡◌, List, ◌++◌, ◌∷◌, [], Option, None, sym, ap, ◌∙◌, subst}
-use Rattle.std.specs.Prelude.{Contains}
-use Rattle.sdd_base.specs.declared.number.ClassNo.{ClassNo}
-use Rattle.sdd_graph.specs.declared.edge.Edge.{Edge}
-use Rattle.sdd_graph.specs.declared.edge.Edge.TheVariants.{Vertical, Horizontal, Diagonal}
-use Rattle.sdd_graph.specs.Edges.{IsClassNo, NamesClasses}
-use Rattle.sdd_graph.specs.Graph.{ends, read_node, write_node}
-use Rattle.sdd_advise.specs.Pairs.{IsClosed, LieApart, IsLink, IsPairOf}
-use Rattle.sdd_advise.specs.Reach.{AreReached, IsAway}
-use Rattle.sdd_advise.specs.Readers.{IsReadOf}
-use Rattle.sdd_advise.specs.Searches.{place_of, placed_nodes}
-use Rattle.sdd_advise.specs.Ways.{IsWay}
-use Rattle.sdd_advise.specs.declared.pair.Pair.{Pair}
+use Rattle.sdd_advise.proofs.All.{AreReached, ClassNo, Contains, Diagonal, Edge, Horizontal, IsAway, IsClassNo, IsClosed, IsLink, IsPairOf, IsReadOf, IsWay, LieApart, List, NamesClasses, None, Option, Pair, Vertical, [], ap, ends, place_of, placed_nodes, read_node, subst, sym, write_node, ℕ, ◌++◌, ◌∙◌, ◌∷◌, ◌≡◌}
 use Rattle.sdd_advise.proofs.Advised.{apart_from}
 
 module _ (edges : List Edge) (reader : ClassNo) (write : ℕ) (p : ℕ × ℕ) (is : p ≡ ends (Vertical reader)) where
@@ -30,11 +18,7 @@ module _ (edges : List Edge) (reader : ClassNo) (write : ℕ) (p : ℕ × ℕ) (
   pub it_is_closed : (way closed : List Edge) → IsWay edges (IsAway p.0) write p.1 way → closed ≡ way ++ Vertical reader ∷ []
       → IsClosed edges reader write closed
   it_is_closed way closed w e =
-      record {
-        way = way;
-        leads = subst (λ (z : ℕ × ℕ). IsWay edges (IsAway z.0) write z.1 way) is w;
-        ends = e;
-      }
+      record { way = way; leads = subst (λ (z : ℕ × ℕ). IsWay edges (IsAway z.0) write z.1 way) is w; ends = e }
 
 -- the link of a diagonal's pair is that of the diagonal
 pub link_of_pair : (edges : List Edge) (reader : ClassNo) (edge : Edge) (pair : Pair) → IsPairOf edges reader edge pair

@@ -1,8 +1,5 @@
 -- Members of a list, and lists in which no member is there twice.
-use Rattle.std.proofs.Common.{ℕ, zero, suc, ◌+◌, ◌≤◌, ◌≡◌, Bool, true, false, cond, List, [], ◌∷◌, ◌++◌, map, filter, Some, refl, sym, ap, ◌∙◌, subst, arith, ◌⊎◌, inl, inr}
-use Rattle.std.specs.Prelude.{slice_get, Contains}
-use Rattle.std.specs.List.{flat_map, range_with_len}
-use Rattle.std.proofs.lemmas.Option.{none-some, same_Some, slice_get-get_or}
+use Rattle.sdd_advise.proofs.All.{Bool, Contains, List, Some, [], ap, arith, cond, false, filter, flat_map, inl, inr, map, none-some, range_with_len, refl, same_Some, slice_get, slice_get-get_or, subst, suc, sym, true, zero, ℕ, ◌++◌, ◌+◌, ◌∙◌, ◌∷◌, ◌≡◌, ◌≤◌, ◌⊎◌}
 
 -- the list has the member
 abbrev pub Among : {X : Type 0} → List X → X → Type 0
@@ -27,8 +24,7 @@ among_append (y ∷ xs) ys x (inl e) = inl (inl e)
 among_append (y ∷ xs) ys x (inr h) = elim (among_append xs ys x h) [ inl p ↦ inl (inr p) | inr q ↦ inr q ]
 
 -- a member of the images is the image of one
-pub among_map : {X Y : Type 0} (f : X → Y) (xs : List X) (y : Y) → Among (map f xs) y
-    → (x : X) × Among xs x × (f x ≡ y)
+pub among_map : {X Y : Type 0} (f : X → Y) (xs : List X) (y : Y) → Among (map f xs) y → (x : X) × Among xs x × (f x ≡ y)
 among_map f [] y h = absurd h
 among_map f (x ∷ xs) y (inl e) = (x, inl refl, e)
 among_map f (x ∷ xs) y (inr h) = let r = among_map f xs y h in (r.0, inr r.1, r.2)
@@ -91,8 +87,7 @@ unlike_filter p (x ∷ xs) one =
 
 -- where it can be told of what each is made
 pub unlike_flat : {X Y : Type 0} (f : X → List Y) (back : Y → X) (xs : List X)
-    → ((x : X) (y : Y) → Among (f x) y → back y ≡ x) → ((x : X) → Unlike (f x)) → Unlike xs
-    → Unlike (flat_map f xs)
+    → ((x : X) (y : Y) → Among (f x) y → back y ≡ x) → ((x : X) → Unlike (f x)) → Unlike xs → Unlike (flat_map f xs)
 unlike_flat f back [] told each one = tt
 unlike_flat f back (x ∷ xs) told each one =
     unlike_append (f x) (flat_map f xs) (each x) (unlike_flat f back xs told each one.1)

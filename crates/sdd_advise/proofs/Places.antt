@@ -1,11 +1,5 @@
 -- No edge is twice in a conflict graph.
-use Rattle.std.proofs.Common.{ℕ, ◌≡◌, ◌++◌, Some, refl, sym, ap, ◌∙◌, arith, inl, inr}
-use Rattle.std.specs.Prelude.{◌==◌, nat_lt, ◌&&◌, not, is_some, filter, slice_get}
-use Rattle.sdd_base.specs.Numbers.{class_no, frag_no}
-use Rattle.sdd_catalog.specs.Catalogue.{Catalogue, reads_at, writes}
-use Rattle.sdd_graph.specs.declared.edge.Edge.{Edge}
-use Rattle.sdd_graph.specs.declared.edge.Edge.TheVariants.{Vertical, Horizontal, Diagonal}
-use Rattle.sdd_graph.specs.Graph.{classes_of, fragments_of, vertical_edges, write_sets_meet, horizontals_from, horizontal_edges, diagonals_between, diagonals_from, diagonal_edges, conflict_graph}
+use Rattle.sdd_advise.proofs.All.{Catalogue, Diagonal, Edge, Horizontal, Some, Vertical, ap, arith, class_no, classes_of, conflict_graph, diagonal_edges, diagonals_between, diagonals_from, filter, frag_no, fragments_of, horizontal_edges, horizontals_from, inl, inr, is_some, nat_lt, not, reads_at, refl, slice_get, sym, vertical_edges, write_sets_meet, writes, ℕ, ◌&&◌, ◌++◌, ◌==◌, ◌∙◌, ◌≡◌}
 use Rattle.sdd_advise.proofs.Members.{Among, Unlike, among_append, among_map, among_flat, unlike_range, unlike_append, unlike_map, unlike_filter, unlike_flat, one_place}
 
 -- what tells edges apart
@@ -45,7 +39,8 @@ horizontals_unlike cat =
 between : (cat : Catalogue) (i j : ℕ) (e : Edge) → Among (diagonals_between cat i j) e
     → (f : ℕ) × (Diagonal (class_no i) (class_no j) (frag_no f) ≡ e)
 between cat i j e m =
-    let r = among_map (λ f. Diagonal (class_no i) (class_no j) (frag_no f)) (filter (λ f. not (i == j) && (is_some (reads_at cat i f) && writes cat j f)) (fragments_of cat)) e m in
+    let r = among_map (λ f. Diagonal (class_no i) (class_no j) (frag_no f))
+    (filter (λ f. not (i == j) && (is_some (reads_at cat i f) && writes cat j f)) (fragments_of cat)) e m in
     (r.0, r.2)
 
 from : (cat : Catalogue) (i : ℕ) (e : Edge) → Among (diagonals_from cat i) e

@@ -1,45 +1,8 @@
 -- A good advice for a diagonal says the protocol that the table says.
-use Rattle.std.proofs.Common.{ℕ, suc, ◌-◌, ◌≤◌, ◌≡◌, ◌≢◌, List, ◌++◌, map, length, get_or, Some, refl, sym, ap, ◌∙◌, subst, arith, inl, inr}
-use Rattle.std.specs.Prelude.{slice_get, option_map}
-use Rattle.std.proofs.lemmas.Bool.{eq-eqb, ne_eqb, cases_eq}
-use Rattle.std.proofs.lemmas.List.{length-append, length-map, get_or_append_left}
-use Rattle.std.proofs.lemmas.List.FromFn.{length-map-range_with_len, get_or-map-range_with_len}
-use Rattle.std.proofs.lemmas.Option.{slice_get-map, slice_get-get_or}
-use Rattle.sdd_base.specs.Numbers.{class_no}
-use Rattle.sdd_base.specs.declared.number.ClassNo.{ClassNo}
-use Rattle.sdd_base.specs.declared.number.FragNo.{FragNo}
-use Rattle.sdd_blocks.specs.Blocks.{AreBlocks, ShareACycle}
-use Rattle.sdd_blocks.specs.Blocks.Linked.{last}
-use Rattle.sdd_blocks.specs.Graph.{Has, edges_of}
-use Rattle.sdd_blocks.proofs.Beside.{linked_around}
-use Rattle.sdd_blocks.proofs.Bridges.{cycle_joined_ends}
-use Rattle.sdd_catalog.specs.Catalogue.{Catalogue}
-use Rattle.sdd_graph.specs.Edges.{IsEdgeOf, ReadsFrom}
-use Rattle.sdd_graph.specs.Graph.{vertical_edges, horizontal_edges, diagonal_edges, conflict_graph, ends, read_node, write_node}
-use Rattle.sdd_graph.specs.declared.edge.Edge.{Edge}
-use Rattle.sdd_graph.specs.declared.edge.Edge.TheVariants.{Vertical, Horizontal, Diagonal}
-use Rattle.sdd_graph.proofs.Known.{edges_known}
-use Rattle.sdd_protocol.specs.Protocols.{IsTable, is_vertical_of, vertical_block, diagonal_protocol, protocol_in}
-use Rattle.sdd_protocol.specs.declared.entry.Entry.{Entry}
-use Rattle.sdd_protocol.specs.declared.protocol.Protocol.{Protocol}
-use Rattle.sdd_protocol.specs.declared.protocol.Protocol.TheVariants.{P1, P2, P3}
-use Rattle.sdd_protocol.proofs.Tables.{all_at, blocks_of, first_block, vertical_block-lists, first_block-vertical}
+use Rattle.sdd_advise.proofs.All.{Advice, AreBlocks, BeginsWith, Catalogue, ClassNo, Diagonal, Edge, Entry, FragNo, GoodAdviceIsRight, Has, Horizontal, IsCycleFrom, IsEdgeOf, IsTable, List, P1, P2, P3, Protocol, ReadsFrom, ShareACycle, ShowsFor, ShowsP1, ShowsP2, ShowsP3, ShowsProtocol, Some, Vertical, all_at, ap, arith, blocks_of, cases_eq, class_no, conflict_graph, cycle_joined_ends, diagonal_edges, diagonal_protocol, edges_known, edges_of, ends, eq-eqb, first_block, first_block-vertical, get_or, get_or-map-range_with_len, get_or_append_left, here, horizontal_edges, inl, inr, is_vertical_of, last, length, length-map, length-map-range_with_len, linked_around, many_edges, map, ne_eqb, option_map, protocol_in, read_node, refl, slice_get, slice_get-get_or, slice_get-map, subst, suc, sym, vertical_block, vertical_block-lists, vertical_edges, write_node, ℕ, ◌++◌, ◌-◌, ◌∙◌, ◌≡◌, ◌≢◌, ◌≤◌}
 use Rattle.sdd_advise.proofs.Edges.{joins_at, reach_without_edge, reach_without_node, step_along}
 use Rattle.sdd_advise.proofs.Members.{place_in}
 use Rattle.sdd_advise.proofs.Places.{one_place_each}
-use Rattle.sdd_advise.specs.Advices.{BeginsWith, ShowsP1, ShowsP2, ShowsP3, ShowsProtocol, ShowsFor}
-use Rattle.sdd_advise.specs.Cycles.{IsCycleFrom}
-use Rattle.sdd_advise.specs.Laws.{GoodAdviceIsRight}
-use Rattle.sdd_advise.specs.Reach.CanReach.{here}
-use Rattle.sdd_advise.specs.declared.advice.Advice.{Advice}
-
-many_edges : (cat : Catalogue) → length cat.classes ≤ length (conflict_graph cat)
-many_edges cat =
-    omega (
-      arith,
-      length-append (vertical_edges cat) (horizontal_edges cat ++ diagonal_edges cat),
-      length-map-range_with_len (λ i. Vertical (class_no i)) 1 (length cat.classes),
-    )
 
 -- the vertical edge of a class stands at the place of the class
 pub vertical_at : (cat : Catalogue) (i : ClassNo) → 1 ≤ i.0 → i.0 ≤ length cat.classes
@@ -134,8 +97,7 @@ module _ (cat : Catalogue) (blocks : List ℕ) (i j : ClassNo) (f : FragNo) (k b
       let both = share (read_node i.0) advice.cycle 0 (length advice.cycle - 1) (i.0 - 1) (Vertical i) s.cycle s.begins s.ends h.there_at in
       linked_with b v n ((h.are.same k (i.0 - 1) b v h.block_at h.vertical_at n).1 (last both))
 
-  shown : (p : Protocol) → ShowsProtocol (conflict_graph cat) (Diagonal i j f) i j advice p
-      → diagonal_protocol b v ≡ p
+  shown : (p : Protocol) → ShowsProtocol (conflict_graph cat) (Diagonal i j f) i j advice p → diagonal_protocol b v ≡ p
   shown P1 s = shown_p1 s
   shown P2 s = shown_p2 s
   shown P3 s = shown_p3 s
@@ -163,7 +125,8 @@ module _ (cat : Catalogue) (entries : List Entry) (t : IsTable cat entries) (k :
         let long : length (blocks_of entries) ≡ length (conflict_graph cat) = t.blocks.one_each ∙ length-map (conflict_graph cat) ends in
         vertical_block-lists entries i.0
         ∙ ap (λ z. first_block (is_vertical_of i.0) z (blocks_of entries)) t.edges
-        ∙ first_block-vertical (length cat.classes) 1 (i.0 - 1) i.0 (horizontal_edges cat ++ diagonal_edges cat) (blocks_of entries) (omega arith) (omega arith) (omega arith)
+        ∙ first_block-vertical (length cat.classes) 1 (i.0 - 1) i.0 (horizontal_edges cat ++ diagonal_edges cat) (blocks_of entries) (omega arith)
+        (omega arith) (omega arith)
 
     has_blocks : HasBlocks cat (blocks_of entries) i j f k entry.block (vertical_block entries i.0)
     has_blocks =

@@ -1,20 +1,7 @@
 -- Cycles by their edges, and by the nodes to which these lead.
-use Rattle.std.proofs.Common.{ℕ, suc, ◌+◌, ◌-◌, ◌<◌, ◌≤◌, ◌≡◌, ◌≢◌, List, [], ◌∷◌, ◌++◌, map, length, get_or, drop, Option, Some, None, refl, sym, ap, ◌∙◌, subst, arith, inl, inr}
-use Rattle.std.specs.Prelude.{All, Contains, slice_get, option_map, option_and_then}
-use Rattle.std.specs.List.{AllZip}
-use Rattle.std.proofs.lemmas.List.{append-nil, append_assoc, drop_more, drop_all}
-use Rattle.std.proofs.lemmas.List.Elements.{All-nil, All-cons, All-head, All-tail, All-weaker, All-contains}
-use Rattle.std.proofs.lemmas.Option.{none-some, same_Some, option_and_then_some}
-use Rattle.sdd_blocks.specs.Graph.{Step, Differ, IsWalk, IsSimpleCycle, nodes_of}
-use Rattle.sdd_blocks.proofs.ClosedWalks.{closed_walks_are_cycles}
-use Rattle.sdd_graph.specs.declared.edge.Edge.{Edge}
-use Rattle.sdd_graph.specs.Graph.{ends}
-use Rattle.sdd_advise.specs.Cycles.{GoesAlong, IsCycleFrom}
-use Rattle.sdd_advise.specs.Neighbours.{other_end, HasEachOnce}
-use Rattle.sdd_advise.specs.Reach.{Joins}
-use Rattle.sdd_advise.specs.Walks.{nodes_along}
+use Rattle.sdd_advise.proofs.All.{All, All-cons, All-contains, All-head, All-nil, All-tail, All-weaker, AllZip, Contains, Differ, Edge, GoesAlong, HasEachOnce, IsCycleFrom, IsSimpleCycle, IsWalk, Joins, List, None, Option, Some, Step, [], ap, append-nil, append_assoc, arith, closed_walks_are_cycles, drop, drop_all, drop_more, ends, get_or, inl, inr, length, map, nodes_along, nodes_of, none-some, option_and_then, option_and_then_some, option_map, other_end, refl, same_Some, slice_get, subst, suc, sym, ℕ, ◌++◌, ◌+◌, ◌-◌, ◌<◌, ◌∙◌, ◌∷◌, ◌≡◌, ◌≢◌, ◌≤◌}
 use Rattle.sdd_advise.proofs.Beside.{other_end_joined, joined_other_end}
-use Rattle.sdd_advise.proofs.Edges.{joins_at, joins_from, contains_at}
+use Rattle.sdd_advise.proofs.Edges.{joins_at, joins_from, contains_at, mapped}
 use Rattle.sdd_advise.proofs.Members.{place_in}
 
 -- the last of the nodes, or the one before them where there are none
@@ -31,12 +18,6 @@ pub last_at : (a n : ℕ) (ns : List ℕ) → slice_get (n ∷ ns) (length (n �
 last_at a n ns =
     let e : length (n ∷ ns) - 1 ≡ length ns = omega arith in
     ap (λ z. slice_get (n ∷ ns) z) e ∙ last_there n ns
-
--- some x is a member of what an option maps to
-mapped : {X Y : Type 0} (f : X → Y) (o : Option X) (y : Y) → option_map f o ≡ Some y
-    → (x : X) × (o ≡ Some x) × (f x ≡ y)
-mapped f None y e = absurd (none-some y e)
-mapped f (Some x) y e = (x, refl, same_Some (f x) y e)
 
 -- edges of a graph that lead from node to node, as the steps of a walk
 pub record IsWalked (edges : List Edge) (start : ℕ) (cycle : List Edge) (nodes : List ℕ) : Type 0 where
@@ -112,8 +93,7 @@ closing start n ns nodes e c =
 cycle_of_steps : (edges : List Edge) (start : ℕ) (x y : Edge) (rest : List Edge) (nodes : List ℕ) (steps : List Step)
     → x ≢ y → AllZip (GoesAlong edges) steps (x ∷ y ∷ rest)
     → IsWalk (map ends edges) start steps (last_of start nodes) → nodes_of steps ≡ nodes → Differ nodes
-    → slice_get nodes (length nodes - 1) ≡ Some start
-    → IsCycleFrom edges start (x ∷ y ∷ rest)
+    → slice_get nodes (length nodes - 1) ≡ Some start → IsCycleFrom edges start (x ∷ y ∷ rest)
 cycle_of_steps edges start x y rest nodes [] n z w m d c = absurd z
 cycle_of_steps edges start x y rest nodes (s ∷ []) n z w m d c = absurd z.1
 cycle_of_steps edges start x y rest nodes (s ∷ t ∷ steps) n z w m d c =
@@ -223,8 +203,7 @@ walk_done start edges i at nodes l e =
     ∙ ap (λ z. Some z) (append-nil nodes))
 
 -- a list of two edges or more
-split : (cycle : List Edge) → 2 ≤ length cycle
-    → (x : Edge) × (y : Edge) × (rest : List Edge) × (x ∷ y ∷ rest ≡ cycle)
+split : (cycle : List Edge) → 2 ≤ length cycle → (x : Edge) × (y : Edge) × (rest : List Edge) × (x ∷ y ∷ rest ≡ cycle)
 split [] l = absurd (omega arith)
 split (x ∷ []) l = absurd (omega arith)
 split (x ∷ y ∷ rest) l = (x, y, rest, refl)

@@ -1,21 +1,5 @@
 -- What an advice shows of its edge, for each protocol.
-use Rattle.std.proofs.Common.{ℕ, ◌*◌, ◌-◌, ◌≡◌, ◌<◌, ◌≤◌, true, false, List, length, Option, sym, subst, arith}
-use Rattle.std.specs.Prelude.{Contains, is_some}
-use Rattle.std.proofs.lemmas.Bool.{both_ways}
-use Rattle.sdd_base.specs.declared.number.ClassNo.{ClassNo}
-use Rattle.sdd_base.specs.declared.number.FragNo.{FragNo}
-use Rattle.sdd_graph.specs.declared.edge.Edge.{Edge}
-use Rattle.sdd_graph.specs.declared.edge.Edge.TheVariants.{Vertical, Horizontal, Diagonal}
-use Rattle.sdd_graph.specs.Edges.{NamesClasses}
-use Rattle.sdd_graph.specs.Graph.{ends}
-use Rattle.sdd_protocol.specs.declared.protocol.Protocol.{Protocol}
-use Rattle.sdd_protocol.specs.declared.protocol.Protocol.TheVariants.{P1, P2, P3}
-use Rattle.sdd_advise.specs.Advices.{ShowsP1, ShowsP2, ShowsP3, ShowsProtocol, ShowsFor}
-use Rattle.sdd_advise.specs.Neighbours.{ArePaired}
-use Rattle.sdd_advise.specs.Reach.{AreReached}
-use Rattle.sdd_advise.specs.Readers.{IsReadOf}
-use Rattle.sdd_advise.specs.Searches.{place_of, placed_nodes}
-use Rattle.sdd_advise.specs.declared.advice.Advice.{Advice}
+use Rattle.sdd_advise.proofs.All.{Advice, ArePaired, AreReached, ClassNo, Contains, Diagonal, Edge, FragNo, Horizontal, IsReadOf, List, NamesClasses, Option, P1, P2, P3, Protocol, ShowsFor, ShowsP1, ShowsP2, ShowsP3, ShowsProtocol, Vertical, arith, both_ways, ends, false, is_some, length, place_of, placed_nodes, subst, sym, true, ℕ, ◌*◌, ◌-◌, ◌<◌, ◌≡◌, ◌≤◌}
 use Rattle.sdd_advise.proofs.Ascending.{same_ascending, contains_passing, contained_passes}
 
 -- what an advice has to show of an edge of a reader

@@ -1,15 +1,5 @@
 -- The way by which a search came to a node, from its end.
-use Rattle.std.proofs.Common.{ℕ, ◌<◌, ◌≡◌, List, [], ◌∷◌, ◌++◌, length, reverse, Option, Some, None, sym, ap, ◌∙◌, subst, arith, inl, inr}
-use Rattle.std.specs.List.{AllZip}
-use Rattle.std.proofs.lemmas.List.{reverse-append}
-use Rattle.std.proofs.lemmas.Option.{same_Some, MatchOption-at_some, MatchOption-at_none}
-use Rattle.sdd_blocks.specs.Graph.{Step, Has, nodes_of}
-use Rattle.sdd_graph.specs.declared.edge.Edge.{Edge}
-use Rattle.sdd_advise.specs.Cycles.{GoesAlong}
-use Rattle.sdd_advise.specs.Searches.{reached_at, place_of, IsUnderWay}
-use Rattle.sdd_advise.specs.Ways.{IsWay}
-use Rattle.sdd_advise.specs.declared.search.Came.{Came}
-use Rattle.sdd_advise.specs.declared.search.Reached.{Reached}
+use Rattle.sdd_advise.proofs.All.{AllZip, Came, Edge, GoesAlong, Has, IsUnderWay, IsWay, List, MatchOption-at_none, MatchOption-at_some, None, Option, Reached, Some, Step, [], ap, arith, inl, inr, length, nodes_of, place_of, reached_at, reverse, reverse-append, same_Some, subst, sym, ℕ, ◌++◌, ◌<◌, ◌∙◌, ◌∷◌, ◌≡◌}
 use Rattle.sdd_advise.proofs.Edges.{joins_at}
 use Rattle.sdd_advise.proofs.Members.{place_in}
 
@@ -23,16 +13,12 @@ module _ (edges : List Edge) (Goes : Edge → Type 0) (nodes place : ℕ) (place
   pub at_last : (at : ℕ) → at < length reached → (reached_at reached at).node ≡ last
       → IsWayBack edges Goes places reached last at []
   at_last at l e =
-      record {
-        back = record { steps = []; along = tt; walk = e; differ = ((λ h. h), tt) };
-        later = λ a h. absurd h;
-      }
+      record { back = record { steps = []; along = tt; walk = e; differ = ((λ h. h), tt) }; later = λ a h. absurd h }
 
   -- one edge back
   pub one_back : (at : ℕ) (came : Came) (way longer : List Edge) → at < length reached
       → (reached_at reached at).came ≡ Some came → IsWayBack edges Goes places reached last at way
-      → longer ≡ way ++ came.edge ∷ []
-      → IsWayBack edges Goes places reached last came.from longer
+      → longer ≡ way ++ came.edge ∷ [] → IsWayBack edges Goes places reached last came.from longer
   one_back at came way longer l e w is =
       let before : came.from < at = MatchOption-at_some (at ≡ 0) (λ (c : Came). c.from < at) came e (u.traced.earlier at l) in
       let leads = u.ways at came l e in

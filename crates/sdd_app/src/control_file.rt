@@ -12,7 +12,7 @@ ghost use Rattle.sdd_app.specs.Verdict.{Answers, AtFault, ComesOfFiles, Explains
 use crate::catalogue_file::read_named;
 use crate::status::Status;
 use sdd_control::{ControlScript, read_control, write_report};
-use sdd_lang::sdd_base::{MAX_WORKLOAD_BYTES, Shelf};
+use sdd_lang::sdd_base::{MAX_WORKLOAD_BYTES, Pages, Shelf};
 use std::alloc::Global;
 
 /// The script that the bytes give.
@@ -47,8 +47,8 @@ fn accepted_script<S: Shelf>(
 }
 
 /// What `control` answers over the script in the file.
-pub fn control_answer<S: Shelf>(alloc: Global, shelf: &mut S, file: &str) -> Result<Vec<u8>, Status>
-    ensures told { (fs : List ShelfFile) → S.files shelf.old ≡ Some fs → Answers result (λ v. v.items) (ComesToControl fs file.now) }
+pub fn control_answer<S: Shelf>(alloc: Global, shelf: &mut S, file: &str) -> Result<Pages, Status>
+    ensures told { (fs : List ShelfFile) → S.files shelf.old ≡ Some fs → Answers result (λ v. v) (ComesToControl fs file.now) }
     ensures ended { OnOk result (FilesRead (S.files shelf.old) (S.is_open shelf.old) (S.is_open shelf.new) (S.opened shelf.new) (ToItsEnd file.now ∷ [])) }
     ensures at_fault { IfErr result (AtFault ⊥ (FilesRead (S.files shelf.old) (S.is_open shelf.old)
         (S.is_open shelf.new) (S.opened shelf.new) (ToItsLimit MAX_WORKLOAD_BYTES file.now ∷ []))) }
@@ -59,5 +59,5 @@ pub fn control_answer<S: Shelf>(alloc: Global, shelf: &mut S, file: &str) -> Res
 {
     let script = accepted_script(alloc, shelf, file)?;
     let text = write_report(alloc, &script)?;
-    Ok(text.into_vec())
+    Ok(Pages::of(alloc, text.into_vec()))
 }

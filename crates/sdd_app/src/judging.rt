@@ -14,7 +14,7 @@ ghost use Rattle.sdd_app.specs.Verdict.{Answers, AtFault, ComesOfFiles};
 use crate::catalogue_file::{accepted_catalogue, read_named};
 use crate::status::Status;
 use crate::workload_file::accepted_workload;
-use sdd_lang::sdd_base::{NoMemory, Shelf};
+use sdd_lang::sdd_base::{NoMemory, Pages, Shelf};
 use sdd_lang::sdd_catalog::Catalogue;
 use sdd_verified::sdd_script::Workload;
 use sdd_verified::sdd_verify::{MAX_REPORT_BYTES, Verdict, verify};
@@ -57,10 +57,10 @@ fn report_answer<S: Shelf>(
     catalogue: &Catalogue,
     work: &Workload,
     report: &str,
-) -> Result<Vec<u8>, Status>
+) -> Result<Pages, Status>
     requires { IsValid catalogue.now work.now }
     ensures told { (fs : List ShelfFile) → S.files shelf.old ≡ Some fs
-        → Answers result (λ v. v.items) (ComesToVerdict fs report.now catalogue.now work.now) }
+        → Answers result (λ v. v) (ComesToVerdict fs report.now catalogue.now work.now) }
     ensures ended { OnOk result ((file : ℕ) × IsRead (S.files shelf.old) (S.is_open shelf.old) (S.is_open shelf.new) (S.opened shelf.new) (ToItsLimit MAX_REPORT_BYTES report.now) file) }
     ensures others { KeepsOpen (λ _. Unit {0}) (S.is_open shelf.old) (S.is_open shelf.new) (S.opened shelf.old) (S.opened shelf.new) }
     ensures later { S.faults shelf.old ≤ S.faults shelf.new }
@@ -71,7 +71,7 @@ fn report_answer<S: Shelf>(
         → IfErr result (λ s. s ≡ Status.ReadFault → ⊥) × (S.faults shelf.new ≡ S.faults shelf.old) }
 {
     let bytes = read_named(alloc, shelf, report, MAX_REPORT_BYTES)?;
-    Ok(judged(alloc, catalogue, work, bytes.as_slice())?)
+    Ok(Pages::of(alloc, judged(alloc, catalogue, work, bytes.as_slice())?))
 }
 
 /// What `verify` answers over the catalogue in the first file, the workload in the second and the
@@ -82,9 +82,9 @@ pub fn verify_answer<S: Shelf>(
     catalogue: &str,
     workload: &str,
     report: &str,
-) -> Result<Vec<u8>, Status>
+) -> Result<Pages, Status>
     ensures told { (fs : List ShelfFile) → S.files shelf.old ≡ Some fs
-        → Answers result (λ v. v.items) (OverCatalogue fs catalogue.now (ComesToVerify fs workload.now report.now)) }
+        → Answers result (λ v. v) (OverCatalogue fs catalogue.now (ComesToVerify fs workload.now report.now)) }
     ensures ended { OnOk result (FilesRead (S.files shelf.old) (S.is_open shelf.old) (S.is_open shelf.new) (S.opened shelf.new)
         (ToItsEnd catalogue.now ∷ ToItsEnd workload.now ∷ ToItsLimit MAX_REPORT_BYTES report.now ∷ [])) }
     ensures at_fault { IfErr result (AtFault

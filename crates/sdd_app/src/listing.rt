@@ -13,7 +13,7 @@ use crate::check::counts;
 use crate::edges::{graph_text, table_text};
 use crate::status::Status;
 use sdd_advise::advice_text;
-use sdd_lang::sdd_base::{NoMemory, Shelf};
+use sdd_lang::sdd_base::{NoMemory, Pages, Shelf};
 use sdd_lang::sdd_catalog::Catalogue;
 use sdd_protocol::table;
 use std::alloc::Global;
@@ -55,9 +55,9 @@ pub fn listing_answer<S: Shelf>(
     shelf: &mut S,
     catalogue: &str,
     listing: Listing,
-) -> Result<Vec<u8>, Status>
+) -> Result<Pages, Status>
     ensures told { (fs : List ShelfFile) → S.files shelf.old ≡ Some fs
-        → Answers result (λ v. v.items) (OverCatalogue fs catalogue.now (ComesToListing listing)) }
+        → Answers result (λ v. v) (OverCatalogue fs catalogue.now (ComesToListing listing)) }
     ensures ended { OnOk result (FilesRead (S.files shelf.old) (S.is_open shelf.old) (S.is_open shelf.new) (S.opened shelf.new) (ToItsEnd catalogue.now ∷ [])) }
     ensures at_fault { IfErr result (AtFault (FilesRead (S.files shelf.old) (S.is_open shelf.old)
         (S.is_open shelf.new) (S.opened shelf.new) (ToItsLimit MAX_CATALOGUE_BYTES catalogue.now ∷ [])) ⊥) }
@@ -67,5 +67,5 @@ pub fn listing_answer<S: Shelf>(
         → IfErr result (λ s. s ≡ Status.ReadFault → ⊥) × (S.faults shelf.new ≡ S.faults shelf.old) }
 {
     let catalogue = accepted_catalogue(alloc, shelf, catalogue)?;
-    Ok(listed(alloc, &catalogue, listing)?)
+    Ok(Pages::of(alloc, listed(alloc, &catalogue, listing)?))
 }

@@ -6,6 +6,7 @@ ghost use Rattle.sdd_app.specs.Answer.{ComesToMade, ComesToSummary};
 ghost use Rattle.sdd_app.specs.Verdict.{Answers, AtFault, ComesOfFiles};
 
 use crate::status::Status;
+use sdd_lang::sdd_base::Pages;
 use sdd_lang::sdd_catalog::Catalogue;
 use sdd_verified::sdd_make::{bank, law_workload_allowed, workload};
 use sdd_verified::sdd_run::run_summary;
@@ -13,21 +14,21 @@ use sdd_verified::sdd_script::Workload;
 use std::alloc::Global;
 
 /// The summary of the run of the workload.
-fn summed_up(alloc: Global, catalogue: &Catalogue, work: Workload) -> Result<Vec<u8>, Status>
+fn summed_up(alloc: Global, catalogue: &Catalogue, work: Workload) -> Result<Pages, Status>
     requires { IsValid catalogue.now work }
-    ensures told { Answers result (λ v. v.items) (ComesToSummary catalogue.now work) }
+    ensures told { Answers result (λ v. v) (ComesToSummary catalogue.now work) }
     ensures errors { IfErr result ComesOfFiles }
     ensures no_fault { IfErr result (AtFault ⊥ ⊥) }
     ensures read { IfErr result (λ s. s ≡ Status.ReadFault → ⊥) }
 {
-    Ok(run_summary(alloc, catalogue, work)?)
+    Ok(Pages::of(alloc, run_summary(alloc, catalogue, work)?))
 }
 
 /// What `make` answers: the summary of the run on the bank of the workload that is made of a seed,
 /// with so many transactions.
-pub fn make_answer(alloc: Global, seed: u32, count: u32) -> Result<Vec<u8>, Status>
+pub fn make_answer(alloc: Global, seed: u32, count: u32) -> Result<Pages, Status>
     requires { count ≤ MAX_TXNS }
-    ensures told { Answers result (λ v. v.items) (ComesToMade seed count) }
+    ensures told { Answers result (λ v. v) (ComesToMade seed count) }
     ensures errors { IfErr result ComesOfFiles }
     ensures no_fault { IfErr result (AtFault ⊥ ⊥) }
     ensures read { IfErr result (λ s. s ≡ Status.ReadFault → ⊥) }

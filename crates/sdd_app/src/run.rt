@@ -18,14 +18,14 @@ use crate::made_input::make_answer;
 use crate::status::Status;
 use crate::telling::tell;
 use crate::workload_answer::{plain_answer, run_answer};
-use sdd_lang::sdd_base::{Shelf, Sink, write_text};
+use sdd_lang::sdd_base::{Pages, Shelf, Sink, write_pages};
 use std::alloc::Global;
 
 /// The text that the command prints, or the status of a call that prints none.
-fn carried_out<S: Shelf>(alloc: Global, command: Command, shelf: &mut S) -> Result<Vec<u8>, Status>
+fn carried_out<S: Shelf>(alloc: Global, command: Command, shelf: &mut S) -> Result<Pages, Status>
     requires { IsForm (form_of command) }
     ensures told { (fs : List ShelfFile) → FormIsOver (S.files shelf.old) fs (form_of command.entry)
-        → Answers result (λ v. v.items) (FormComesTo fs (form_of command.entry)) }
+        → Answers result (λ v. v) (FormComesTo fs (form_of command.entry)) }
     ensures ended { OnOk result (FilesRead (S.files shelf.old) (S.is_open shelf.old) (S.is_open shelf.new)
         (S.opened shelf.new) (endings_of (form_of command.entry))) }
     ensures at_fault { IfErr result (AtFault
@@ -56,9 +56,9 @@ fn carried_out<S: Shelf>(alloc: Global, command: Command, shelf: &mut S) -> Resu
 }
 
 /// The text for the words, or the status of a call that prints none.
-fn answer<S: Shelf>(alloc: Global, words: &[String], shelf: &mut S) -> Result<Vec<u8>, Status>
+fn answer<S: Shelf>(alloc: Global, words: &[String], shelf: &mut S) -> Result<Pages, Status>
     ensures told { (fs : List ShelfFile) → IsOver (S.files shelf.old) fs (map string_bytes words.now)
-        → Answers result (λ v. v.items) (ComesTo fs (map string_bytes words.now)) }
+        → Answers result (λ v. v) (ComesTo fs (map string_bytes words.now)) }
     ensures ended { OnOk result (AreEnded endings_of (map string_bytes words.now) (S.files shelf.old)
         (S.is_open shelf.old) (S.is_open shelf.new) (S.opened shelf.new)) }
     ensures at_fault { IfErr result (AtFault
@@ -160,7 +160,7 @@ pub fn run_sdd1<S: Shelf, O: Sink, E: Sink>(
         → O.faults out.new ≡ O.faults out.old }
 {
     match answer(alloc, words, shelf) {
-        Ok(text) => match write_text(out, text.as_slice()) {
+        Ok(text) => match write_pages(out, &text) {
             Ok(()) => {
                 tell(err, Status::Done);
                 Status::Done

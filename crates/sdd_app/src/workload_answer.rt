@@ -13,16 +13,16 @@ use crate::catalogue_file::accepted_catalogue;
 use crate::serially::serial_text;
 use crate::status::Status;
 use crate::workload_file::accepted_workload;
-use sdd_lang::sdd_base::Shelf;
+use sdd_lang::sdd_base::{Pages, Shelf};
 use sdd_lang::sdd_catalog::Catalogue;
 use sdd_verified::sdd_run::run_report;
 use sdd_verified::sdd_script::Workload;
 use std::alloc::Global;
 
 /// The report on the run of the workload.
-fn reported(alloc: Global, catalogue: &Catalogue, work: Workload) -> Result<Vec<u8>, Status>
+fn reported(alloc: Global, catalogue: &Catalogue, work: Workload) -> Result<Pages, Status>
     requires { IsValid catalogue.now work }
-    ensures told { Answers result (λ v. v.items) (ComesToReport catalogue.now work) }
+    ensures told { Answers result (λ v. v) (ComesToReport catalogue.now work) }
     ensures errors { IfErr result ComesOfFiles }
     ensures no_fault { IfErr result (AtFault ⊥ ⊥) }
     ensures read { IfErr result (λ s. s ≡ Status.ReadFault → ⊥) }
@@ -36,9 +36,9 @@ pub fn plain_answer<S: Shelf>(
     shelf: &mut S,
     catalogue: &str,
     workload: &str,
-) -> Result<Vec<u8>, Status>
+) -> Result<Pages, Status>
     ensures told { (fs : List ShelfFile) → S.files shelf.old ≡ Some fs
-        → Answers result (λ v. v.items) (OverCatalogue fs catalogue.now (ComesToPlain fs workload.now)) }
+        → Answers result (λ v. v) (OverCatalogue fs catalogue.now (ComesToPlain fs workload.now)) }
     ensures ended { OnOk result (FilesRead (S.files shelf.old) (S.is_open shelf.old) (S.is_open shelf.new) (S.opened shelf.new)
         (ToItsEnd catalogue.now ∷ ToItsEnd workload.now ∷ [])) }
     ensures at_fault { IfErr result (AtFault
@@ -54,7 +54,7 @@ pub fn plain_answer<S: Shelf>(
 {
     let catalogue = accepted_catalogue(alloc, shelf, catalogue)?;
     let work = accepted_workload(alloc, shelf, workload, &catalogue)?;
-    Ok(serial_text(alloc, &catalogue, &work)?)
+    Ok(Pages::of(alloc, serial_text(alloc, &catalogue, &work)?))
 }
 
 /// What `run` answers over the catalogue in the first file and the workload in the second.
@@ -63,9 +63,9 @@ pub fn run_answer<S: Shelf>(
     shelf: &mut S,
     catalogue: &str,
     workload: &str,
-) -> Result<Vec<u8>, Status>
+) -> Result<Pages, Status>
     ensures told { (fs : List ShelfFile) → S.files shelf.old ≡ Some fs
-        → Answers result (λ v. v.items) (OverCatalogue fs catalogue.now (ComesToRun fs workload.now)) }
+        → Answers result (λ v. v) (OverCatalogue fs catalogue.now (ComesToRun fs workload.now)) }
     ensures ended { OnOk result (FilesRead (S.files shelf.old) (S.is_open shelf.old) (S.is_open shelf.new) (S.opened shelf.new)
         (ToItsEnd catalogue.now ∷ ToItsEnd workload.now ∷ [])) }
     ensures at_fault { IfErr result (AtFault

@@ -9,8 +9,10 @@ use Rattle.sdd_attempt.specs.Attempts.{Attempt, active_after, asks_rows, rejects
 use Rattle.sdd_attempt.specs.Clocks.{ticked_by}
 use Rattle.sdd_attempt.specs.Exchange.{Exchange, Phase, Over, after_hand, send_due}
 use Rattle.sdd_attempt.specs.Fits.{AwaitsAt, fetches_use}
+use Rattle.sdd_attempt.specs.Phases.{awaited_in}
 use Rattle.sdd_attempt.specs.Queues.{Queued, queue_after}
 use Rattle.sdd_attempt.specs.Room.{AreAwaited, HasRoom}
+use Rattle.sdd_attempt.specs.declared.answer.Answer.{Answer}
 use Rattle.sdd_attempt.specs.declared.step.LineStep.{LineStep}
 use Rattle.sdd_attempt.specs.declared.step.LineStep.TheVariants.{Sends, Commits}
 
@@ -46,6 +48,21 @@ step_by (m ∷ ms) phase = Some Sends
 abbrev pub line_step : Option Attempt → Option LineStep
 line_step None = None
 line_step (Some a) = step_by a.exchange.to_send a.exchange.phase
+
+-- how often the first transaction in the queue started
+abbrev pub tries_of_first : List Queued → ℕ
+tries_of_first [] = 0
+tries_of_first (q ∷ queue) = q.tries
+
+-- what it awaits, and from which modules
+
+abbrev pub awaited_by : Option Attempt → Option Answer
+awaited_by None = None
+awaited_by (Some a) = awaited_in a.exchange.phase
+
+abbrev pub lacked_by : Option Attempt → List ℕ
+lacked_by None = []
+lacked_by (Some a) = a.exchange.lacks
 
 -- the acts
 

@@ -1,6 +1,9 @@
 -- The phases of an exchange, as a module keeps them.
+use Rattle.std.specs.Prelude.{Option, Some, None}
 use Rattle.sdd_semijoin.specs.Steps.{Move}
 use Rattle.sdd_attempt.specs.Exchange.{Phase, Reading, Fetching, Reducing, Shipping, Over}
+use Rattle.sdd_attempt.specs.declared.answer.Answer.{Answer}
+use Rattle.sdd_attempt.specs.declared.answer.Answer.TheVariants as answers
 use Rattle.sdd_attempt.specs.declared.phase.Reduction.{Reduction}
 use Rattle.sdd_attempt.specs.declared.phase.Phase as kept
 use Rattle.sdd_attempt.specs.declared.phase.Phase.TheVariants as kinds
@@ -14,3 +17,11 @@ phase_of (kinds.Fetching r) = Fetching (move_of r)
 phase_of (kinds.Reducing r) = Reducing (move_of r)
 phase_of kinds.Shipping = Shipping
 phase_of kinds.Over = Over
+
+-- what is awaited in a phase: nothing where the exchange is over
+abbrev pub awaited_in : Phase → Option Answer
+awaited_in Reading = Some answers.Ready
+awaited_in (Fetching m) = Some answers.Values
+awaited_in (Reducing m) = Some answers.Reduced
+awaited_in Shipping = Some answers.Rows
+awaited_in Over = None

@@ -1,12 +1,16 @@
 -- The queues of a site: the transactions of a class that are submitted and not committed, in order.
 use Rattle.std.specs.Prelude.{ℕ, suc, ◌==◌, ◌||◌, Bool, not, cond, if◌then◌else◌, List, [], ◌∷◌, ◌++◌, map, filter}
-use Rattle.sdd_module.specs.All.{Act, Catalogue, Commit, Did, Log, Records, Setting, Start, Submits, Txn, class_for, in_force}
+use Rattle.sdd_module.specs.All.{Act, Catalogue, Commit, Did, Log, Records, Setting, Start, Submits, Txn, TxnNo, class_for, in_force, txn_no}
 
 -- a transaction in a queue, and how often it started
 pub record Queued : Type 0 where
   pub number : ℕ
   pub text : Txn
   pub tries : ℕ
+
+-- its number
+abbrev pub txn_of : Queued → TxnNo
+txn_of q = txn_no q.number
 
 -- whether a transaction goes to the queue of class c, by the catalogue in force: all that is given to U goes to that of
 -- class 0

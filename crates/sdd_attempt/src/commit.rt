@@ -1,4 +1,4 @@
-ghost use Rattle.std.specs.Prelude.{◌≡◌, ℕ, true, [], IfOk, OnOk};
+ghost use Rattle.std.specs.Prelude.{◌≡◌, ℕ, IfOk, OnOk};
 ghost use Rattle.sdd_exec.specs.Serves.{Serves};
 ghost use Rattle.sdd_module.specs.All.{Bases, Database, Fits, IsDatabase, effect, with_act};
 ghost use Rattle.sdd_attempt.specs.Acts.{commit_act};
@@ -11,7 +11,7 @@ use sdd_exec::{Snapshot, effect};
 use sdd_module::Draft;
 use sdd_module::sdd_base::{ClassNo, NoMemory, Row};
 use sdd_module::sdd_catalog::Catalogue;
-use sdd_module::sdd_history::Rec;
+use sdd_module::sdd_history::{PrintedReply, Rec};
 use sdd_module::sdd_lang::{Effect, Txn};
 use std::alloc::Global;
 
@@ -40,10 +40,11 @@ pub(crate) fn committed(
         ts,
     };
     send_writes(alloc, cat, attempt, effect.changes.as_slice(), draft)?;
+    let reply = PrintedReply::of(alloc, &effect.reply)?;
     draft.record(Rec::Commit {
         txn: queued.number,
         attempt: queued.tries,
-        reply: effect.reply,
+        reply,
         changes: effect.changes,
         values,
         rows,
@@ -63,17 +64,5 @@ fn effect_from(
         (db : Database) → IsDatabase cat.now db → Serves cat.now text.now rows.items db
         → made ≡ effect cat.now db text.now) }
 {
-    let snapshot = snapshot_of(alloc, rows)?;
-    effect(alloc, cat, text, &snapshot)
-}
-
-/// The rows as a snapshot. Moves them.
-fn snapshot_of(alloc: Global, rows: Vec<(u32, Row)>) -> Result<Snapshot, NoMemory>
-    ensures { IfOk result (λ snapshot. snapshot ≡ record { live = true; value = rows.items }) }
-{
-    let mut snapshot = Snapshot::new(alloc);
-    for (use_no, row) in rows {
-        snapshot.add(use_no, row)?;
-    }
-    Ok(snapshot)
+    effect(alloc, cat, text, &Snapshot::of(rows))
 }

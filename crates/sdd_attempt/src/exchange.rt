@@ -1,11 +1,12 @@
-ghost use Rattle.std.specs.Prelude.{◌≡◌, ◌<◌, ◌^◌, ◌==◌, ◌&&◌, ◌++◌, List, filter_map, length, IfOk, OnOk, option_map, not};
+ghost use Rattle.std.specs.Prelude.{◌≡◌, ◌<◌, ◌^◌, ◌==◌, ◌&&◌, ◌++◌, List, filter_map, length, map, IfOk, OnOk, option_map, not};
 ghost use Rattle.sdd_module.specs.All.{Msg, Site, head_of, is_empty, with_values};
 ghost use Rattle.sdd_attempt.specs.Exchange.{after_hand, after_send, answered, begins, fetches, goes_on, is_over, module_read, phase_ends, reduces, ships};
 ghost use Rattle.sdd_attempt.specs.Outbox.{numbered};
-ghost use Rattle.sdd_attempt.specs.Phases.{move_of};
+ghost use Rattle.sdd_attempt.specs.Phases.{awaited_in, move_of};
 ghost use Rattle.sdd_attempt.specs.Room.{AreSmall, IsSmallText};
 ghost use Rattle.sdd_attempt.specs.Standings.{lowest};
 
+use crate::answer::Answer;
 use crate::counts::Counts;
 use crate::modules::{DmNos, Modules};
 use crate::outbox::Outbox;
@@ -103,6 +104,26 @@ impl Exchange {
             Phase::Over => true,
             _ => false,
         }
+    }
+
+    /// What it awaits; nothing where it is over.
+    pub(crate) fn awaits(&self) -> Option<Answer>
+        ensures { result ≡ awaited_in self.now.phase }
+    {
+        match self.phase {
+            Phase::Reading => Some(Answer::Ready),
+            Phase::Fetching(_) => Some(Answer::Values),
+            Phase::Reducing(_) => Some(Answer::Reduced),
+            Phase::Shipping => Some(Answer::Rows),
+            Phase::Over => None,
+        }
+    }
+
+    /// The modules whose answer is missing.
+    pub(crate) fn lacking(&self) -> &[DmNo]
+        ensures { map (λ n. n.0) result.now ≡ self.now.lacks }
+    {
+        self.lacks.as_slice()
     }
 
     /// Of the modules whose answer is missing, the one with the lowest number.

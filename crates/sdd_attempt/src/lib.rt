@@ -5,6 +5,7 @@
 //! site's log, and changes with each entry as its definition says. A `Line` keeps it for one class.
 #![tactic(auto)]
 
+mod answer;
 mod begin;
 mod commit;
 mod counts;
@@ -21,6 +22,7 @@ mod standing;
 mod step;
 mod writes;
 
+pub use answer::Answer;
 pub use line::Line;
 pub use standing::Standing;
 pub use step::LineStep;

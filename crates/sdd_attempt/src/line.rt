@@ -1,10 +1,12 @@
-ghost use Rattle.std.specs.Prelude.{◌≡◌, ◌<◌, ◌≤◌, ◌+◌, ◌++◌, ◌∷◌, ◌^◌, ◌==◌, ◌&&◌, ℕ, [], is_none, length, map, not, option_map, position, unwrap_or, IsTrue, OnOk, None, false};
-ghost use Rattle.sdd_module.specs.All.{Bases, Fits, IsDatabase, contains, is_empty, noted};
+ghost use Rattle.std.specs.Prelude.{◌≡◌, ◌<◌, ◌≤◌, ◌+◌, ◌++◌, ◌∷◌, ◌^◌, ◌==◌, ◌&&◌, ℕ, [], is_none, length, map, not, option_map, position, unwrap_or, IfOk, IsTrue, OnOk, None, false};
+ghost use Rattle.sdd_module.specs.All.{Bases, Fits, IsDatabase, contains, head_of, is_empty, noted};
 ghost use Rattle.sdd_attempt.specs.Attempts.{active_handed};
-ghost use Rattle.sdd_attempt.specs.Lines.{AreTried, IsAwaited, ServesAt, clock_done, commit_next, head_is_untried, line_done, line_step, no_line, send_next, start_next};
+ghost use Rattle.sdd_attempt.specs.Lines.{AreTried, IsAwaited, ServesAt, awaited_by, clock_done, commit_next, head_is_untried, lacked_by, line_done, line_step, no_line, send_next, start_next, tries_of_first};
+ghost use Rattle.sdd_attempt.specs.Queues.{txn_of};
 ghost use Rattle.sdd_attempt.specs.Reads.{IsDeclared};
 ghost use Rattle.sdd_attempt.specs.Standings.{standing_at, standing_of};
 
+use crate::answer::Answer;
 use crate::begin::begun;
 use crate::commit::committed;
 use crate::queued::Queued;
@@ -12,7 +14,7 @@ use crate::running::Running;
 use crate::standing::Standing;
 use crate::step::LineStep;
 use sdd_module::Draft;
-use sdd_module::sdd_base::{ClassNo, Clock, NoMemory, Parcel, Site, Ts, TxnNo};
+use sdd_module::sdd_base::{ClassNo, Clock, DmNo, NoMemory, Parcel, Site, Ts, TxnNo};
 use sdd_module::sdd_catalog::Catalogue;
 use sdd_module::sdd_lang::Txn;
 use sdd_module::sdd_protocol::Table;
@@ -105,6 +107,60 @@ impl<'a> Line<'a> {
         match &self.running {
             None => None,
             Some(running) => Some(running.ts),
+        }
+    }
+
+    /// How many transactions are in the queue. Takes no memory.
+    pub fn queue_len(&self) -> usize
+        ensures { result ≡ length self.now.queue }
+    {
+        self.queue.len()
+    }
+
+    /// The transactions in the queue, in order.
+    pub fn queued(&self) -> Result<Vec<TxnNo>, NoMemory>
+        ensures { IfOk result (λ numbers. numbers.items ≡ map txn_of self.now.queue) }
+    {
+        numbers_of(self.alloc, &self.queue)
+    }
+
+    /// The first transaction in the queue.
+    pub fn first(&self) -> Option<TxnNo>
+        ensures { option_map (λ n. n.0) result ≡ option_map (λ q. q.number) (head_of self.now.queue) }
+    {
+        match self.queue.front() {
+            None => None,
+            Some(queued) => Some(queued.number),
+        }
+    }
+
+    /// How often the first transaction in the queue started; 0 where there is none.
+    pub fn tries(&self) -> u64
+        ensures { result ≡ tries_of_first self.now.queue }
+    {
+        match self.queue.front() {
+            None => 0,
+            Some(queued) => queued.tries,
+        }
+    }
+
+    /// What the attempt that is under way awaits; nothing where it is over, or none is under way.
+    pub fn awaits(&self) -> Option<Answer>
+        ensures { result ≡ awaited_by self.now.active }
+    {
+        match &self.running {
+            None => None,
+            Some(running) => running.exchange.awaits(),
+        }
+    }
+
+    /// The data modules whose answer to the attempt is missing; none where none is under way.
+    pub fn lacking(&self) -> &[DmNo]
+        ensures { map (λ n. n.0) result.now ≡ lacked_by self.now.active }
+    {
+        match &self.running {
+            None => &[],
+            Some(running) => running.exchange.lacking(),
         }
     }
 
@@ -310,6 +366,17 @@ impl<'a> Line<'a> {
             }
         }
     }
+}
+
+/// The transactions in a queue, in order.
+fn numbers_of(alloc: Global, queue: &VecDeque<Queued>) -> Result<Vec<TxnNo>, NoMemory>
+    ensures { IfOk result (λ numbers. numbers.items ≡ map txn_of queue.now.items) }
+{
+    let mut numbers = Vec::new(alloc);
+    'queue: for queued in queue.iter() {
+        numbers.push(queued.txn())?;
+    }
+    Ok(numbers)
 }
 
 /// The place of a transaction in a queue, from 0.

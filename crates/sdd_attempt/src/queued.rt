@@ -1,4 +1,5 @@
 ghost use Rattle.std.specs.Prelude.{◌≡◌, ◌<◌, ◌^◌, suc};
+ghost use Rattle.sdd_attempt.specs.Queues.{txn_of};
 
 use sdd_module::sdd_base::TxnNo;
 use sdd_module::sdd_lang::Txn;
@@ -22,6 +23,13 @@ impl Model for Queued {
 }
 
 impl Queued {
+    /// The transaction.
+    pub(crate) fn txn(&self) -> TxnNo
+        ensures { result ≡ txn_of self.now }
+    {
+        self.number
+    }
+
     /// Counts one more start.
     pub(crate) fn add_try(&mut self)
         requires { suc self.old.tries < 2 ^ 64 }

@@ -1,24 +1,21 @@
 -- The first file of a name, by a walk from the front.
-use Rattle.std.proofs.Common.{◌≡◌, ℕ, zero, suc, ◌+◌, ◌<◌, ◌≤◌, None, List, [], ◌∷◌, length, get_or, drop, Some, true, false, cond, refl, ap, sym, ◌∙◌, drop-cons, add-one, arith}
-use Rattle.std.specs.Str.{bytes_eq}
-use Rattle.std.proofs.lemmas.List.{drop_all}
-use Rattle.std.proofs.lemmas.Slice.Eq.{bytes_eq-Decides}
-use Rattle.sdd_base.specs.declared.files.ShelfFile.{ShelfFile}
-use Rattle.sdd_base.specs.Outside.{find_file}
-use Rattle.sdd_base.specs.Memory.{file_at, name_at}
+use Rattle.sdd_base.proofs.All.{List, None, ShelfFile, Some, [], add-one, ap, arith, bytes_eq, bytes_eq-Decides, cond, drop, drop-cons, drop_all, false, file_at, find_file, get_or, length, name_at, refl, suc, sym, true, zero, ℕ, ◌+◌, ◌<◌, ◌∙◌, ◌∷◌, ◌≡◌, ◌≤◌}
 
 file_at-get : (fs : List ShelfFile) (i : ℕ) (f : ShelfFile) → i < length fs → file_at fs i ≡ (get_or fs i f).bytes
 file_at-get [] i f lt = absurd (omega arith)
 file_at-get (x ∷ fs) zero f lt = refl
 file_at-get (x ∷ fs) (suc i) f lt = file_at-get fs i f (omega arith)
 
-split : (fs : List ShelfFile) (i : ℕ) (f : ShelfFile) (name : List ℕ) → i < length fs → f ≡ get_or fs i f → find_file (drop i fs) name ≡ cond (bytes_eq f.name name) (Some f.bytes) (find_file (drop (i + 1) fs) name)
+split : (fs : List ShelfFile) (i : ℕ) (f : ShelfFile) (name : List ℕ) → i < length fs → f ≡ get_or fs i f
+    → find_file (drop i fs) name ≡ cond (bytes_eq f.name name) (Some f.bytes) (find_file (drop (i + 1) fs) name)
 split fs i f name lt is = rw (drop-cons fs i f, ← is, add-one) refl
 
-pub find-here : (fs : List ShelfFile) (i : ℕ) (f : ShelfFile) (name : List ℕ) → i < length fs → f ≡ get_or fs i f → bytes_eq f.name name ≡ true → find_file (drop i fs) name ≡ Some (file_at fs i)
+pub find-here : (fs : List ShelfFile) (i : ℕ) (f : ShelfFile) (name : List ℕ) → i < length fs → f ≡ get_or fs i f → bytes_eq f.name name ≡ true
+    → find_file (drop i fs) name ≡ Some (file_at fs i)
 find-here fs i f name lt is same = split fs i f name lt is ∙ rw (same, file_at-get fs i f lt, ← is) refl
 
-pub find-on : (fs : List ShelfFile) (i : ℕ) (f : ShelfFile) (name : List ℕ) → i < length fs → f ≡ get_or fs i f → bytes_eq f.name name ≡ false → find_file (drop i fs) name ≡ find_file (drop (i + 1) fs) name
+pub find-on : (fs : List ShelfFile) (i : ℕ) (f : ShelfFile) (name : List ℕ) → i < length fs → f ≡ get_or fs i f → bytes_eq f.name name ≡ false
+    → find_file (drop i fs) name ≡ find_file (drop (i + 1) fs) name
 find-on fs i f name lt is other = split fs i f name lt is ∙ rw other refl
 
 pub find-past : (fs : List ShelfFile) (i : ℕ) (name : List ℕ) → length fs ≤ i → find_file (drop i fs) name ≡ None

@@ -1,8 +1,5 @@
 -- What stands in the front of a list.
-use Rattle.std.proofs.Common.{◌≡◌, ℕ, ◌<◌, ◌≤◌, List, length, take, slice_get, Some, get_or, ◌∙◌, sym, ap, arith, set}
-use Rattle.std.proofs.lemmas.List.{get_or-take, length-take}
-use Rattle.std.proofs.lemmas.Option.{slice_get-get_or}
-use Rattle.std.proofs.Math.Seq.{take-set-lt}
+use Rattle.sdd_base.proofs.All.{List, Some, ap, arith, get_or, get_or-take, length, length-take, set, slice_get, slice_get-get_or, take, take-set-lt, ℕ, ◌<◌, ◌∙◌, ◌≡◌}
 
 -- an index into a front of n is below n
 pub below_front : {A : Type 0} (n : ℕ) (xs : List A) (i : ℕ) → i < length (take n xs) → i < n

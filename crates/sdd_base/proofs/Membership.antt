@@ -1,6 +1,5 @@
 -- Membership of a list, from its front.
-use Rattle.std.proofs.Common.{ℕ, zero, suc, ◌≡◌, ◌<◌, ◌⊎◌, inl, inr, List, [], ◌∷◌, length, get_or, refl, sym, arith}
-use Rattle.std.specs.List.{Contains}
+use Rattle.sdd_base.proofs.All.{Contains, List, [], arith, get_or, inl, inr, length, refl, suc, sym, zero, ℕ, ◌<◌, ◌∷◌, ◌≡◌, ◌⊎◌}
 
 pub Contains-nil : {A : Type 0} (x : A) → Contains [] x → ⊥
 Contains-nil x h = let within : h.0 < 0 = h.1 in omega arith

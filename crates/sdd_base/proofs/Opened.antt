@@ -1,13 +1,5 @@
 -- What the opened files of a shelf in memory have unread, after one more is opened and after a read.
-use Rattle.std.proofs.Common.{◌≡◌, ◌≢◌, ℕ, zero, suc, ◌+◌, ◌<◌, ◌≤◌, min, List, [], ◌∷◌, ◌++◌, length, take, drop, map, set, slice_get, Option, Some, None, refl, sym, ap, ◌∙◌, subst, arith, length-append, length-set}
-use Rattle.std.specs.Prelude.{IfSome}
-use Rattle.std.specs.Option.{option_map}
-use Rattle.std.proofs.lemmas.List.{map-append, map-set, length-map}
-use Rattle.std.proofs.lemmas.Option.{slice_get-map, slice_get_within}
-use Rattle.sdd_base.specs.declared.files.ShelfFile.{ShelfFile}
-use Rattle.sdd_base.specs.declared.open_files.OpenFile.{OpenFile}
-use Rattle.sdd_base.specs.Memory.{rest_at, opened_at, name_at, file_at, ShelfState}
-use Rattle.sdd_base.specs.Outside.{GivesBytes, Opened}
+use Rattle.sdd_base.proofs.All.{GivesBytes, IfSome, List, OpenFile, Opened, ShelfFile, ShelfState, Some, [], ap, arith, drop, file_at, length, length-append, length-map, length-set, map, map-append, map-set, min, name_at, opened_at, option_map, refl, rest_at, set, slice_get, slice_get-map, slice_get_within, suc, sym, take, zero, ℕ, ◌++◌, ◌+◌, ◌<◌, ◌∙◌, ◌∷◌, ◌≡◌}
 use Rattle.sdd_base.proofs.Taken.{gives_part, held}
 
 -- an element of the front list is one of the whole
@@ -39,7 +31,8 @@ pub stay_open : (files : List ShelfFile) (opened_files after : List OpenFile) (o
     → record { files = files; opened = map (opened_at files) opened_files; faults = faults } ≡ old → after ≡ opened_files ++ opened ∷ []
     → g < length old.opened → (g < length (map (opened_at files) after)) × (slice_get (map (opened_at files) after) g ≡ slice_get old.opened g)
 stay_open files opened_files after opened old faults g is pushed within =
-    let e : map (opened_at files) after ≡ map (opened_at files) opened_files ++ opened_at files opened ∷ [] = ap (map (opened_at files)) pushed ∙ map-append (opened_at files) opened_files (opened ∷ []) in
+    let e : map (opened_at files) after ≡ map (opened_at files) opened_files ++ opened_at files opened ∷ [] = ap (map (opened_at files)) pushed
+    ∙ map-append (opened_at files) opened_files (opened ∷ []) in
     let was : map (opened_at files) opened_files ≡ old.opened = ap (λ (s : ShelfState). s.opened) is in
     let below : g < length (map (opened_at files) opened_files) = rw was within in
     (rw e (omega (arith, length-append (map (opened_at files) opened_files) (opened_at files opened ∷ []))), rw e (slice_get-append (map (opened_at files) opened_files) (opened_at files opened ∷ []) g below ∙ ap (λ (xs : List Opened). slice_get xs g) was))
@@ -56,12 +49,15 @@ none_left n buf [] count none room = refl
 none_left n buf (x ∷ rest) count none room = absurd (omega arith)
 
 pub reads : (files : List ShelfFile) (opened_files after : List OpenFile) (opened next : OpenFile) (old : ShelfState) (faults f n : ℕ) (buf : List ℕ)
-    → record { files = files; opened = map (opened_at files) opened_files; faults = faults } ≡ old → slice_get opened_files f ≡ Some opened → after ≡ set opened_files f next
-    → next ≡ record opened { at = opened.at + n } → take n buf ≡ take n (rest_at files opened) → n ≡ min (length buf) (length (rest_at files opened))
+    → record { files = files; opened = map (opened_at files) opened_files; faults = faults } ≡ old → slice_get opened_files f ≡ Some opened
+    → after ≡ set opened_files f next
+    → next ≡ record opened { at = opened.at + n } → take n buf ≡ take n (rest_at files opened)
+    → n ≡ min (length buf) (length (rest_at files opened))
     → Reads old.opened (map (opened_at files) after) f n buf
 reads files opened_files after opened next old faults f n buf is there put moved front count =
     let was : old.opened ≡ map (opened_at files) opened_files = sym (ap (λ (s : ShelfState). s.opened) is) in
-    let now : map (opened_at files) after ≡ set (map (opened_at files) opened_files) f (opened_at files next) = ap (map (opened_at files)) put ∙ map-set (opened_at files) opened_files f next in
+    let now : map (opened_at files) after ≡ set (map (opened_at files) opened_files) f (opened_at files next) = ap (map (opened_at files)) put
+    ∙ map-set (opened_at files) opened_files f next in
     let before : slice_get (map (opened_at files) opened_files) f ≡ Some (opened_at files opened) =
     slice_get-map (opened_at files) opened_files f ∙ ap (option_map (opened_at files)) there in
     let within : f < length (map (opened_at files) opened_files) =

@@ -1,8 +1,5 @@
 -- What a reading that came to no fault says, and a reading of each member of a list as a loop makes it.
-use Rattle.std.proofs.Common.{◌≡◌, ℕ, ◌+◌, ◌<◌, ◌≤◌, length, get_or, drop, map, List, [], ◌∷◌, ◌++◌, Bool, true, false, Option, Some, None, Result, Ok, Err, refl, sym, ap, ◌∙◌, subst, append_assoc}
-use Rattle.std.specs.Prelude.{IfSome}
-use Rattle.std.proofs.lemmas.List.{append-nil, drop_more, drop_all}
-use Rattle.sdd_base.specs.Readings.{◌>>=◌, known, must, along, Fails}
+use Rattle.sdd_base.proofs.All.{Bool, Err, Fails, IfSome, List, None, Ok, Option, Result, Some, [], along, ap, append-nil, append_assoc, drop, drop_all, drop_more, false, get_or, known, length, map, must, refl, subst, sym, true, ℕ, ◌++◌, ◌+◌, ◌<◌, ◌>>=◌, ◌∙◌, ◌∷◌, ◌≡◌, ◌≤◌}
 
 abbrev done : {A F : Type 0} → A → Result A F
 done x = Ok x
@@ -24,7 +21,8 @@ must_ok fault true u e = refl
 must_ok fault false u e = absurd cc
 
 -- the fault of the first reading is that of both
-pub fails_bind : {E A B F : Type 0} (fault_in : E → Option F) (e : E) (r : Result A F) (f : A → Result B F) → Fails fault_in e r → Fails fault_in e (r >>= f)
+pub fails_bind : {E A B F : Type 0} (fault_in : E → Option F) (e : E) (r : Result A F) (f : A → Result B F) → Fails fault_in e r
+    → Fails fault_in e (r >>= f)
 fails_bind fault_in e r f h =
     elim (fault_in e) as (λ o. IfSome o (λ fault. r ≡ Err fault) → IfSome o (λ fault. (r >>= f) ≡ Err fault)) [ None ↦ λ h. tt | Some fault ↦ λ h. rw h refl ] h
 
@@ -34,7 +32,8 @@ Answers f number [] [] = Unit {0}
 Answers f number (x ∷ xs) (y ∷ ys) = (f number x ≡ Ok y) × Answers f (number + 1) xs ys
 Answers f number _ _ = ⊥
 
-pub along_ok : {A B F : Type 0} (f : ℕ → A → Result B F) (number : ℕ) (xs : List A) (ys : List B) → along f number xs ≡ Ok ys → Answers f number xs ys
+pub along_ok : {A B F : Type 0} (f : ℕ → A → Result B F) (number : ℕ) (xs : List A) (ys : List B) → along f number xs ≡ Ok ys
+    → Answers f number xs ys
 along_ok f number [] [] e = tt
 along_ok {B = B} {F = F} f number [] (y ∷ ys) e = let n : List B = [] in let p : n ≡ y ∷ ys = ok_is {F = F} n (y ∷ ys) e in absurd cc
 along_ok {F = F} f number (x ∷ xs) ys e =
@@ -42,7 +41,8 @@ along_ok {F = F} f number (x ∷ xs) ys e =
     let b = bind_ok (along f (number + 1) xs) (λ ys. Ok (a.0 ∷ ys)) ys a.2 in
     rw (← ok_is {F = F} (a.0 ∷ b.0) ys b.2) (a.1, along_ok f (number + 1) xs b.0 b.1)
 
-pub ok_along : {A B F : Type 0} (f : ℕ → A → Result B F) (number : ℕ) (xs : List A) (ys : List B) → Answers f number xs ys → along f number xs ≡ Ok ys
+pub ok_along : {A B F : Type 0} (f : ℕ → A → Result B F) (number : ℕ) (xs : List A) (ys : List B) → Answers f number xs ys
+    → along f number xs ≡ Ok ys
 ok_along f number [] [] h = refl
 ok_along f number [] (y ∷ ys) h = absurd h
 ok_along f number (x ∷ xs) [] h = absurd h
@@ -53,7 +53,8 @@ abbrev pub with_front : {B F : Type 0} → List B → Result (List B) F → Resu
 with_front front reading = reading >>= (λ ys. Ok (front ++ ys))
 
 -- one more member at the front's end
-regroup : {B F : Type 0} (front : List B) (y : B) (reading : Result (List B) F) → with_front front (reading >>= (λ ys. Ok (y ∷ ys))) ≡ with_front (front ++ y ∷ []) reading
+regroup : {B F : Type 0} (front : List B) (y : B) (reading : Result (List B) F)
+    → with_front front (reading >>= (λ ys. Ok (y ∷ ys))) ≡ with_front (front ++ y ∷ []) reading
 regroup front y (Ok ys) = ap (λ zs. Ok zs) (simp append_assoc)
 regroup front y (Err fault) = refl
 
@@ -64,9 +65,11 @@ at_drop view f xs i number x lt is = ap (λ l. along f number (map view l)) (dro
 
 -- a member that is read goes to the front
 pub goes_on : {V A B F : Type 0} (view : V → A) (f : ℕ → A → Result B F) (total : Result (List B) F) (front : List B) (xs : List V) (i number : ℕ) (x : V) (y : B) → i < length xs → x ≡ get_or xs i x → f number (view x) ≡ Ok y
-    → with_front front (along f number (map view (drop i xs))) ≡ total → with_front (front ++ y ∷ []) (along f (number + 1) (map view (drop (i + 1) xs))) ≡ total
+    → with_front front (along f number (map view (drop i xs))) ≡ total
+    → with_front (front ++ y ∷ []) (along f (number + 1) (map view (drop (i + 1) xs))) ≡ total
 goes_on view f total front xs i number x y lt is h so_far =
-    let one = ap (with_front front) (at_drop view f xs i number x lt is ∙ ap (λ r. r >>= (λ y. along f (number + 1) (map view (drop (i + 1) xs)) >>= (λ ys. Ok (y ∷ ys)))) h) in
+    let one = ap (with_front front)
+    (at_drop view f xs i number x lt is ∙ ap (λ r. r >>= (λ y. along f (number + 1) (map view (drop (i + 1) xs)) >>= (λ ys. Ok (y ∷ ys)))) h) in
     sym (one ∙ regroup front y (along f (number + 1) (map view (drop (i + 1) xs)))) ∙ so_far
 
 -- the fault of a member is that of all
@@ -74,11 +77,13 @@ pub ends : {E V A B F : Type 0} (fault_in : E → Option F) (view : V → A) (f 
     → with_front front (along f number (map view (drop i xs))) ≡ total → Fails fault_in e total
 ends {B = B} {F = F} fault_in view f total e front xs i number x lt is h so_far =
     let here = fails_bind fault_in e (f number (view x)) (λ y. along f (number + 1) (map view (drop (i + 1) xs)) >>= (λ ys. Ok (y ∷ ys))) h in
-    let left : Fails fault_in e (along f number (map view (drop i xs))) = subst (λ (r : Result (List B) F). Fails fault_in e r) (sym (at_drop view f xs i number x lt is)) here in
+    let left : Fails fault_in e (along f number (map view (drop i xs))) = subst (λ (r : Result (List B) F). Fails fault_in e r)
+    (sym (at_drop view f xs i number x lt is)) here in
     subst (λ (r : Result (List B) F). Fails fault_in e r) so_far (fails_bind fault_in e (along f number (map view (drop i xs))) (λ ys. Ok (front ++ ys)) left)
 
 -- where no member is left, all are read
-pub is_done : {V A B F : Type 0} (view : V → A) (f : ℕ → A → Result B F) (total : Result (List B) F) (front : List B) (xs : List V) (i number : ℕ) → length xs ≤ i
+pub is_done : {V A B F : Type 0} (view : V → A) (f : ℕ → A → Result B F) (total : Result (List B) F) (front : List B) (xs : List V) (i number : ℕ)
+    → length xs ≤ i
     → with_front front (along f number (map view (drop i xs))) ≡ total → total ≡ Ok front
 is_done view f total front xs i number past so_far =
     let none = ap (λ l. with_front front (along f number (map view l))) (drop_all i xs past) in

@@ -1,10 +1,5 @@
 -- The other ends of linked edges at a node are joined without it.
-use Rattle.std.proofs.Common.{ℕ, ◌≢◌, List, sym, ◌∙◌, subst, inl, inr}
-use Rattle.std.proofs.lemmas.Bool.{cases_eq}
-use Rattle.sdd_blocks.specs.Graph.{Joins, JoinedWithout}
-use Rattle.sdd_blocks.specs.Blocks.{Linked}
-use Rattle.sdd_blocks.specs.Blocks.Linked.{last, more}
-use Rattle.sdd_blocks.specs.Neighbours.{Neighbours}
+use Rattle.sdd_blocks.proofs.All.{JoinedWithout, Joins, Linked, List, Neighbours, cases_eq, inl, inr, last, more, subst, sym, ℕ, ◌∙◌, ◌≢◌}
 use Rattle.sdd_blocks.proofs.Walks.{joins_back}
 use Rattle.sdd_blocks.proofs.Joined.{joined_self, joined_edge, joined_on, joined_back}
 use Rattle.sdd_blocks.proofs.Cycles.{same_ends}

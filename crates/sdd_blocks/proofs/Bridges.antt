@@ -1,7 +1,5 @@
 -- An edge is on a simple cycle exactly where a walk without it joins its ends.
-use Rattle.std.proofs.Common.{ℕ, ◌≤◌, ◌≢◌, List, [], ◌∷◌, ◌++◌, length, ◌≡◌, refl, sym, ◌∙◌, arith, subst, inl, inr}
-use Rattle.sdd_blocks.specs.Graph.{Step, Joins, IsWalk, nodes_of, edges_of, Has, Differ, JoinedWithoutEdge}
-use Rattle.sdd_blocks.specs.Blocks.{OnACycle}
+use Rattle.sdd_blocks.proofs.All.{Differ, Has, IsWalk, JoinedWithoutEdge, Joins, List, OnACycle, Step, [], arith, edges_of, inl, inr, length, nodes_of, refl, subst, sym, ℕ, ◌++◌, ◌∙◌, ◌∷◌, ◌≡◌, ◌≢◌, ◌≤◌}
 use Rattle.sdd_blocks.proofs.Members.{has_append_cases, has_push_cases}
 use Rattle.sdd_blocks.proofs.Walks.{walk_push, walk_append, edges_of-push, edges_of-append, end_met, walk_back, shorten}
 use Rattle.sdd_blocks.proofs.Cycles.{same_ends, edges_differ}
@@ -90,8 +88,7 @@ cycle_joined_ends edges k a b c j =
     ]
 
 -- an edge that meets a neighbour is no loop
-no_loop : (edges : List (ℕ × ℕ)) (k a node other : ℕ) → Joins edges k a a → Joins edges k node other
-    → node ≡ other
+no_loop : (edges : List (ℕ × ℕ)) (k a node other : ℕ) → Joins edges k a a → Joins edges k node other → node ≡ other
 no_loop edges k a node other l j = elim (same_ends edges k a a node other l j) [ inl e ↦ sym e.0 ∙ e.1 | inr e ↦ sym e.1 ∙ e.0 ]
 
 -- a loop is on no simple cycle

@@ -1,14 +1,5 @@
 -- The blocks are the classes of edges that neighbours tie together.
-use Rattle.std.proofs.Common.{ℕ, zero, suc, ◌<◌, ◌≢◌, List, [], ◌∷◌, length, get_or, ◌≡◌, refl, sym, ap, ◌∙◌, arith, subst, inl, inr, Some}
-use Rattle.std.specs.Prelude.{slice_get, slice_index, All}
-use Rattle.std.proofs.lemmas.Option.{slice_get_within, slice_get-get_or}
-use Rattle.sdd_blocks.specs.Graph.{Step, Joins, IsWalk}
-use Rattle.sdd_blocks.specs.Blocks.{ShareACycle, OnACycle, Linked, AreBlocks}
-use Rattle.sdd_blocks.specs.Blocks.Linked.{last, more}
-use Rattle.sdd_blocks.specs.Components.{AreComponents}
-use Rattle.sdd_blocks.specs.Neighbours.{Neighbours, Tied, TieNeighbours}
-use Rattle.sdd_blocks.specs.Marked.{IsPaired, AreMarked}
-use Rattle.sdd_blocks.specs.Numbered.{AreNumbered}
+use Rattle.sdd_blocks.proofs.All.{All, AreBlocks, AreComponents, AreMarked, AreNumbered, IsPaired, IsWalk, Joins, Linked, List, Neighbours, OnACycle, ShareACycle, Some, Step, TieNeighbours, Tied, [], ap, arith, get_or, inl, inr, last, length, more, refl, slice_get, slice_get-get_or, slice_get_within, slice_index, subst, suc, sym, zero, ℕ, ◌<◌, ◌∙◌, ◌∷◌, ◌≡◌, ◌≢◌}
 use Rattle.sdd_blocks.proofs.Cycles.{neighbours_share}
 use Rattle.sdd_blocks.proofs.Around.{HasNeighbour, met_on_cycle}
 use Rattle.sdd_blocks.proofs.Linked.{share_back, share_first, share_second, linked_second, one_value_if_linked}
@@ -25,8 +16,7 @@ module _ (edges pairs : List (ℕ × ℕ)) (ties : TieNeighbours edges pairs) wh
   pair_shares i j k (inr e) = share_back edges k j (neighbours_share edges k j (ties.sound i k j e))
 
   -- a walk over pairs links its ends
-  walk_links : (j : ℕ) (steps : List Step) (k : ℕ) → IsWalk pairs j steps k → OnACycle edges j
-      → Linked edges j k
+  walk_links : (j : ℕ) (steps : List Step) (k : ℕ) → IsWalk pairs j steps k → OnACycle edges j → Linked edges j k
   walk_links j [] k w c = subst (λ z. Linked edges j z) w (last c)
   walk_links j (s ∷ steps) k w c =
       let d = pair_shares s.edge j s.to w.0 in
@@ -53,8 +43,7 @@ module _ (edges pairs : List (ℕ × ℕ)) (ties : TieNeighbours edges pairs) wh
 
   module _ (labels : List ℕ) (components : AreComponents pairs (length edges) labels) where
     -- tied edges have one label
-    tied_label : (j k r : ℕ) → j < length edges → Tied pairs j r
-        → slice_index labels j ≡ slice_index labels r
+    tied_label : (j k r : ℕ) → j < length edges → Tied pairs j r → slice_index labels j ≡ slice_index labels r
     tied_label j k r h (inl e) = ap (λ z. slice_index labels z) e
     tied_label j k r h (inr p) =
         let q = ties.sound p.0 j r p.1 in
@@ -69,8 +58,7 @@ module _ (edges pairs : List (ℕ × ℕ)) (ties : TieNeighbours edges pairs) wh
         })
 
     -- neighbours have one label
-    neighbours_label : (j k : ℕ) → Neighbours edges j k
-        → slice_index labels j ≡ slice_index labels k
+    neighbours_label : (j k : ℕ) → Neighbours edges j k → slice_index labels j ≡ slice_index labels k
     neighbours_label j k h =
         let t = ties.whole j k h in
         tied_label j k t.0 (joins_within edges j h.node h.one h.first) t.1
@@ -89,8 +77,7 @@ module _ (edges pairs : List (ℕ × ℕ)) (ties : TieNeighbours edges pairs) wh
 
     module _ (marks : List ℕ) (same_length : length labels ≡ length edges) (marked : AreMarked pairs labels marks) where
       -- a mark other than 0 is one more than the label of an edge on a simple cycle
-      mark_cycle : (k x : ℕ) → slice_get marks k ≡ Some x → x ≢ 0
-          → (suc (slice_index labels k) ≡ x) × OnACycle edges k
+      mark_cycle : (k x : ℕ) → slice_get marks k ≡ Some x → x ≢ 0 → (suc (slice_index labels k) ≡ x) × OnACycle edges k
       mark_cycle k zero e n = absurd (n refl)
       mark_cycle k (suc x) e n = let m = marked.some k x e in (ap suc m.0, paired_on_cycle k m.1)
 
@@ -121,8 +108,7 @@ module _ (edges pairs : List (ℕ × ℕ)) (ties : TieNeighbours edges pairs) wh
 
       module _ (numbers : List ℕ) (numbered : AreNumbered marks numbers) where
         -- where there is a number there is a mark
-        mark_at : (k b : ℕ) → slice_get numbers k ≡ Some b
-            → slice_get marks k ≡ Some (get_or marks k 0)
+        mark_at : (k b : ℕ) → slice_get numbers k ≡ Some b → slice_get marks k ≡ Some (get_or marks k 0)
         mark_at k b e = slice_get-get_or marks k 0 (let h = slice_get_within numbers k b e in omega (arith, numbered.one_each))
 
         -- an edge with the number 0 is on no simple cycle

@@ -1,7 +1,5 @@
 -- A closed walk that meets no node twice is a simple cycle, unless it goes along one edge and back.
-use Rattle.std.proofs.Common.{ℕ, ◌≡◌, List, [], ◌∷◌, sym, subst, inl, inr, arith}
-use Rattle.sdd_blocks.specs.Graph.{Step, Joins, IsWalk, nodes_of, Has, Differ}
-use Rattle.sdd_blocks.specs.Laws.{ClosedWalksAreCycles}
+use Rattle.sdd_blocks.proofs.All.{ClosedWalksAreCycles, Differ, Has, IsWalk, Joins, List, Step, [], arith, inl, inr, nodes_of, subst, sym, ℕ, ◌∷◌, ◌≡◌}
 use Rattle.sdd_blocks.proofs.Walks.{joins_back, end_met}
 use Rattle.sdd_blocks.proofs.Cycles.{same_ends, edge_away, edges_differ}
 
@@ -12,8 +10,7 @@ led_to edges from s steps to w = end_met edges s.to steps to w.1
 
 -- the second edge is the first only where the walk is at its end
 edge_again : (edges : List (ℕ × ℕ)) (start : ℕ) (s t : Step) (rest : List Step)
-    → IsWalk edges start (s ∷ t ∷ rest) start → Differ (nodes_of (s ∷ t ∷ rest))
-    → t.edge ≡ s.edge → rest ≡ []
+    → IsWalk edges start (s ∷ t ∷ rest) start → Differ (nodes_of (s ∷ t ∷ rest)) → t.edge ≡ s.edge → rest ≡ []
 edge_again edges start s t [] w d e = λ i. []
 edge_again edges start s t (u ∷ rest) w d e =
     let back : Joins edges s.edge s.to t.to = subst (λ z. Joins edges z s.to t.to) e w.1.0 in

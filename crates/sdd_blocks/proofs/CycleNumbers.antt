@@ -1,11 +1,5 @@
 -- The edges of one simple cycle have one block number, which is not 0.
-use Rattle.std.proofs.Common.{ℕ, ◌<◌, ◌≡◌, ◌≢◌, List, [], ◌∷◌, length, Some, refl, ap, ◌∙◌, subst, inl, inr, arith}
-use Rattle.std.specs.Prelude.{slice_get, slice_index}
-use Rattle.std.proofs.lemmas.Option.{slice_get-get_or}
-use Rattle.sdd_blocks.specs.Graph.{Step, Joins, IsWalk, edges_of, Has, IsSimpleCycle}
-use Rattle.sdd_blocks.specs.Blocks.{ShareACycle, AreBlocks}
-use Rattle.sdd_blocks.specs.Blocks.Linked.{last}
-use Rattle.sdd_blocks.specs.Laws.{HaveNumber, OneNumberACycle}
+use Rattle.sdd_blocks.proofs.All.{AreBlocks, Has, HaveNumber, IsSimpleCycle, IsWalk, Joins, List, OneNumberACycle, ShareACycle, Some, Step, [], ap, arith, edges_of, inl, inr, last, length, refl, slice_get, slice_get-get_or, slice_index, subst, ℕ, ◌<◌, ◌∙◌, ◌∷◌, ◌≡◌, ◌≢◌}
 use Rattle.sdd_blocks.proofs.Classes.{joins_within}
 
 -- the edges of a walk are edges of the graph
@@ -16,8 +10,7 @@ walk_within edges from (s ∷ steps) to k w (inl e) =
     joins_within edges k from s.to (subst (λ z. Joins edges z from s.to) e w.0)
 walk_within edges from (s ∷ steps) to k w (inr h) = walk_within edges s.to steps to k w.1 h
 
-module _
-    (edges : List (ℕ × ℕ)) (blocks : List ℕ) (are : AreBlocks edges blocks)
+module _ (edges : List (ℕ × ℕ)) (blocks : List ℕ) (are : AreBlocks edges blocks)
     (start : ℕ) (steps : List Step) (cycle : IsSimpleCycle edges start steps)
   where
     -- an edge of the cycle has a number
@@ -31,8 +24,7 @@ module _
 
     -- it isn't 0
     pub not_zero_on_cycle : (k : ℕ) → Has (edges_of steps) k → slice_index blocks k ≢ 0
-    not_zero_on_cycle k h z =
-        are.none k (subst (λ n. slice_get blocks k ≡ Some n) z (number_at k h)) (share k k h h)
+    not_zero_on_cycle k h z = are.none k (subst (λ n. slice_get blocks k ≡ Some n) z (number_at k h)) (share k k h h)
 
     -- two edges of the cycle have one
     pub same_on_cycle : (j k : ℕ) → Has (edges_of steps) j → Has (edges_of steps) k
@@ -42,8 +34,7 @@ module _
         (not_zero_on_cycle j h)).1 (last (share j k h g))
 
     -- the number of an edge of the cycle is that of all
-    number_of_all : (j : ℕ) → Has (edges_of steps) j
-        → HaveNumber blocks steps (slice_index blocks j)
+    number_of_all : (j : ℕ) → Has (edges_of steps) j → HaveNumber blocks steps (slice_index blocks j)
     number_of_all j h k g = number_at k g ∙ ap (λ n. Some n) (same_on_cycle k j g h)
 
 pub one_number_a_cycle : OneNumberACycle
@@ -56,8 +47,7 @@ one_number_a_cycle edges blocks are start (s ∷ steps) cycle = (
 
 -- where every edge has the number 0 there is no simple cycle
 pub no_cycle : (edges : List (ℕ × ℕ)) (blocks : List ℕ) → AreBlocks edges blocks
-    → ((k : ℕ) → slice_index blocks k ≡ 0) → (start : ℕ) (steps : List Step)
-    → ¬ IsSimpleCycle edges start steps
+    → ((k : ℕ) → slice_index blocks k ≡ 0) → (start : ℕ) (steps : List Step) → ¬ IsSimpleCycle edges start steps
 no_cycle edges blocks are zeros start [] cycle = let long = cycle.long in omega arith
 no_cycle edges blocks are zeros start (s ∷ steps) cycle =
     not_zero_on_cycle edges blocks are start (s ∷ steps) cycle s.edge (inl refl) (zeros s.edge)

@@ -1,6 +1,5 @@
 -- Nodes joined by walks that do not meet one node.
-use Rattle.std.proofs.Common.{ℕ, ◌≢◌, List, [], ◌∷◌, ◌++◌, refl, inl, inr}
-use Rattle.sdd_blocks.specs.Graph.{Joins, nodes_of, Has, JoinedWithout}
+use Rattle.sdd_blocks.proofs.All.{Has, JoinedWithout, Joins, List, [], inl, inr, nodes_of, refl, ℕ, ◌++◌, ◌∷◌, ◌≢◌}
 use Rattle.sdd_blocks.proofs.Members.{has_append_cases}
 use Rattle.sdd_blocks.proofs.Walks.{walk_append, nodes_of-append, walk_back}
 
@@ -9,8 +8,7 @@ pub joined_self : (edges : List (ℕ × ℕ)) (w a : ℕ) → a ≢ w → Joined
 joined_self edges w a n = record { steps = []; walk = refl; avoids = λ m. elim m [ inl e ↦ n e | inr h ↦ h ] }
 
 -- an edge joins its ends
-pub joined_edge : (edges : List (ℕ × ℕ)) (w k a b : ℕ) → Joins edges k a b → a ≢ w → b ≢ w
-    → JoinedWithout edges w a b
+pub joined_edge : (edges : List (ℕ × ℕ)) (w k a b : ℕ) → Joins edges k a b → a ≢ w → b ≢ w → JoinedWithout edges w a b
 joined_edge edges w k a b j n m =
     record {
       steps = record { edge = k; to = b } ∷ [];
@@ -34,8 +32,7 @@ joined_on edges w a b c p q =
     }
 
 -- a walk without a node turned round is one without it
-pub joined_back : (edges : List (ℕ × ℕ)) (w a b : ℕ) → JoinedWithout edges w a b
-    → JoinedWithout edges w b a
+pub joined_back : (edges : List (ℕ × ℕ)) (w a b : ℕ) → JoinedWithout edges w a b → JoinedWithout edges w b a
 joined_back edges w a b p =
     let r = walk_back edges a p.steps b p.walk in
     record { steps = r.0; walk = r.1; avoids = λ h. p.avoids (r.2 w h) }

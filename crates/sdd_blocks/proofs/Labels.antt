@@ -1,13 +1,5 @@
 -- The labels of the roots become those of the components, one edge after the other.
-use Rattle.std.proofs.Common.{ℕ, ◌+◌, ◌<◌, ◌≤◌, ◌≢◌, List, [], ◌∷◌, length, ◌≡◌, sym, ap, ◌∙◌, arith, subst, ◌⊎◌, inl, inr, Some}
-use Rattle.std.specs.Prelude.{slice_index, slice_get, All}
-use Rattle.std.specs.List.{range_with_len}
-use Rattle.std.proofs.lemmas.Bool.{cases_eq, cases_lt}
-use Rattle.std.proofs.lemmas.Option.{slice_get_within, get_or_from_slice_get, some_pair_parts}
-use Rattle.std.proofs.lemmas.List.FromFn.{get_or-range_with_len}
-use Rattle.sdd_blocks.specs.Graph.{Step, Joins, IsWalk, nodes_of, Has, JoinedWithout}
-use Rattle.sdd_blocks.specs.Forest.{IsForest, AreRoots, replaced, AreJoined}
-use Rattle.sdd_blocks.specs.Components.{AreComponents}
+use Rattle.sdd_blocks.proofs.All.{All, AreComponents, AreJoined, AreRoots, Has, IsForest, IsWalk, JoinedWithout, Joins, List, Some, Step, [], ap, arith, cases_eq, cases_lt, get_or-range_with_len, get_or_from_slice_get, inl, inr, length, nodes_of, range_with_len, replaced, slice_get, slice_get_within, slice_index, some_pair_parts, subst, sym, ℕ, ◌+◌, ◌<◌, ◌∙◌, ◌∷◌, ◌≡◌, ◌≢◌, ◌≤◌, ◌⊎◌}
 use Rattle.sdd_blocks.proofs.Walks.{joins_back}
 use Rattle.sdd_blocks.proofs.Joined.{joined_self, joined_edge, joined_on}
 use Rattle.sdd_blocks.proofs.Trees.{replaced-same, replaced-new, replaced-other}
@@ -92,7 +84,8 @@ module _ (edges : List (ℕ × ℕ)) (without nodes x y k : ℕ) (j : Joins edge
 
   -- a label after the edge: the new one in place of the old one, or what it was
   label_cases : (a : ℕ) → a < nodes
-      → ((slice_index before a ≡ joined.old) × (slice_index after a ≡ joined.new)) ⊎ ((slice_index before a ≢ joined.old) × (slice_index after a ≡ slice_index before a))
+      → ((slice_index before a ≡ joined.old) × (slice_index after a ≡ joined.new)) ⊎
+      ((slice_index before a ≢ joined.old) × (slice_index after a ≡ slice_index before a))
   label_cases a h =
       let r = joined.replaced_at a (omega arith) in
       elim (cases_eq (slice_index before a) joined.old) [
@@ -138,8 +131,10 @@ module _ (edges : List (ℕ × ℕ)) (without nodes x y k : ℕ) (j : Joins edge
 -- the labels after one edge more, whose ends are joined
 pub edge_joined : (edges : List (ℕ × ℕ)) (without nodes : ℕ) (parents next : List ℕ) (count x y : ℕ)
     → AreLabelsSoFar edges without nodes parents count
-    → All (λ e. (e.0 < nodes) × (e.1 < nodes)) edges → slice_get edges count ≡ Some (x, y) → x ≢ without → y ≢ without → length next ≡ length parents → IsForest next
-    → ((before : List ℕ) → AreRoots parents before → (after : List ℕ) × AreRoots next after × AreJoined x y before after) → AreLabelsSoFar edges without nodes next (count + 1)
+    → All (λ e. (e.0 < nodes) × (e.1 < nodes)) edges → slice_get edges count ≡ Some (x, y) → x ≢ without → y ≢ without
+    → length next ≡ length parents → IsForest next
+    → ((before : List ℕ) → AreRoots parents before → (after : List ℕ) × AreRoots next after × AreJoined x y before after)
+    → AreLabelsSoFar edges without nodes next (count + 1)
 edge_joined edges without nodes parents next count x y s ends e p q n f joins =
     let j = joins s.labels s.roots in
     let many : length s.labels ≡ nodes = s.roots.one_each ∙ s.one_each in
@@ -166,7 +161,8 @@ edge_joined edges without nodes parents next count x y s ends e p q n f joins =
 -- an edge gives its ends one label, and so does a walk
 walk_label : (edges : List (ℕ × ℕ)) (without : ℕ) (labels : List ℕ)
     → ((k a b : ℕ) → slice_get edges k ≡ Some (a, b) → a ≢ without → b ≢ without → slice_index labels a ≡ slice_index labels b)
-    → (a : ℕ) (steps : List Step) (b : ℕ) → IsWalk edges a steps b → (¬ Has (a ∷ nodes_of steps) without) → slice_index labels a ≡ slice_index labels b
+    → (a : ℕ) (steps : List Step) (b : ℕ) → IsWalk edges a steps b → (¬ Has (a ∷ nodes_of steps) without)
+    → slice_index labels a ≡ slice_index labels b
 walk_label edges without labels whole a [] b w away = ap (λ z. slice_index labels z) w
 walk_label edges without labels whole a (s ∷ steps) b w away =
     let from : a ≢ without = λ e. away (inl e) in
@@ -178,7 +174,8 @@ walk_label edges without labels whole a (s ∷ steps) b w away =
 -- after all edges the labels are those of the components
 pub components_done : (edges : List (ℕ × ℕ)) (without nodes : ℕ) (parents : List ℕ) (count : ℕ) (found : List ℕ)
     → AreLabelsSoFar edges without nodes parents count → length edges ≤ count
-    → All (λ label. label < length parents) found → ((labels : List ℕ) → AreRoots parents labels → found ≡ labels) → (length found ≡ nodes) × AreComponents edges without found
+    → All (λ label. label < length parents) found → ((labels : List ℕ) → AreRoots parents labels → found ≡ labels)
+    → (length found ≡ nodes) × AreComponents edges without found
 components_done edges without nodes parents count found s done below is_labels =
     let e : found ≡ s.labels = is_labels s.labels s.roots in
     let n : length found ≡ nodes = ap length e ∙ s.roots.one_each ∙ s.one_each in (

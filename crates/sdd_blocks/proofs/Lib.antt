@@ -1,3 +1,4 @@
+mod All
 pub mod Around
 pub mod Beside
 pub mod Bridges

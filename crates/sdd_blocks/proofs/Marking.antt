@@ -1,11 +1,5 @@
 -- Marks for the members of pairs, one pair after the other.
-use Rattle.std.proofs.Common.{ℕ, zero, suc, ◌+◌, ◌<◌, ◌≤◌, List, length, set, get_or, ◌≡◌, refl, sym, ap, ◌∙◌, arith, subst, inl, inr, Some, length-set}
-use Rattle.std.specs.Prelude.{slice_index, slice_get, All}
-use Rattle.std.proofs.lemmas.Bool.{cases_lt}
-use Rattle.std.proofs.lemmas.List.{get_or_default}
-use Rattle.std.proofs.lemmas.Option.{slice_get_within, get_or_from_slice_get, some_pair_parts}
-use Rattle.sdd_blocks.specs.Graph.{Joins}
-use Rattle.sdd_blocks.specs.Marked.{IsPaired, AreMarked}
+use Rattle.sdd_blocks.proofs.All.{All, AreMarked, IsPaired, Joins, List, Some, ap, arith, cases_lt, get_or, get_or_default, get_or_from_slice_get, inl, inr, length, length-set, refl, set, slice_get, slice_get_within, slice_index, some_pair_parts, subst, suc, sym, zero, ℕ, ◌+◌, ◌<◌, ◌∙◌, ◌≡◌, ◌≤◌}
 use Rattle.sdd_blocks.proofs.Places.{read_set}
 
 -- the members of the first pairs have marks of their labels, and all others have 0
@@ -26,8 +20,7 @@ no_marks_yet pairs labels marks n zeros =
 
 -- a pair more, with both of its members marked
 pub pair_marked : (pairs : List (ℕ × ℕ)) (labels marks : List ℕ) (count a b : ℕ)
-    → IsMarkingAt pairs labels marks count → slice_get pairs count ≡ Some (a, b) → a < length labels
-    → b < length labels
+    → IsMarkingAt pairs labels marks count → slice_get pairs count ≡ Some (a, b) → a < length labels → b < length labels
     → IsMarkingAt pairs labels (set (set marks a (slice_index labels a + 1)) b (slice_index labels b + 1)) (count + 1)
 pair_marked pairs labels marks count a b s here a_within b_within =
     let once = set marks a (slice_index labels a + 1) in

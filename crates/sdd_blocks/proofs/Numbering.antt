@@ -1,10 +1,5 @@
 -- Numbers for marks, one mark after the other.
-use Rattle.std.proofs.Common.{ℕ, suc, ◌+◌, ◌<◌, ◌≤◌, ◌≢◌, List, [], ◌∷◌, ◌++◌, length, set, get_or, ◌≡◌, refl, sym, ap, ◌∙◌, arith, subst, inl, inr, Some, get_or-set_same}
-use Rattle.std.specs.Prelude.{slice_get}
-use Rattle.std.proofs.lemmas.Bool.{cases_eq, cases_lt}
-use Rattle.std.proofs.lemmas.List.{length_push, get_or_append_left, get_or_push}
-use Rattle.std.proofs.lemmas.Option.{slice_get_within, slice_get-get_or, get_or_from_slice_get}
-use Rattle.sdd_blocks.specs.Numbered.{AreNumbered}
+use Rattle.sdd_blocks.proofs.All.{AreNumbered, List, Some, [], ap, arith, cases_eq, cases_lt, get_or, get_or-set_same, get_or_append_left, get_or_from_slice_get, get_or_push, inl, inr, length, length_push, refl, set, slice_get, slice_get-get_or, slice_get_within, subst, suc, sym, ℕ, ◌++◌, ◌+◌, ◌<◌, ◌∙◌, ◌∷◌, ◌≡◌, ◌≢◌, ◌≤◌}
 use Rattle.sdd_blocks.proofs.Places.{read_set}
 
 -- the first marks have numbers up to `last`, as given for each mark
@@ -21,8 +16,7 @@ pub record IsNumberingAt (marks given numbers : List ℕ) (last count : ℕ) : T
       → (j : ℕ) × (j < k) × (get_or numbers j 0 ≡ suc b)
 
 -- before the first mark no number is given
-pub no_numbers_yet : (marks given : List ℕ) → ((x : ℕ) → get_or given x 0 ≡ 0)
-    → IsNumberingAt marks given [] 0 0
+pub no_numbers_yet : (marks given : List ℕ) → ((x : ℕ) → get_or given x 0 ≡ 0) → IsNumberingAt marks given [] 0 0
 no_numbers_yet marks given zeros =
     record {
       one_each = refl;
@@ -46,8 +40,7 @@ module _ (marks given numbers : List ℕ) (last count : ℕ) (s : IsNumberingAt 
   new n = get_or_push numbers n 0 count s.one_each
 
   -- each number so far still has a place
-  reached_kept : (n b : ℕ) → b < last
-      → (j : ℕ) × (j < count) × (get_or (numbers ++ n ∷ []) j 0 ≡ suc b)
+  reached_kept : (n b : ℕ) → b < last → (j : ℕ) × (j < count) × (get_or (numbers ++ n ∷ []) j 0 ≡ suc b)
   reached_kept n b h = let r = s.reached b h in (r.0, r.1, kept n r.0 r.1 ∙ r.2)
 
   -- and still stands behind the number before it
@@ -149,15 +142,13 @@ module _ (marks given numbers : List ℕ) (last count : ℕ) (s : IsNumberingAt 
 -- after all marks the numbers are those of the marks
 module _ (marks given numbers : List ℕ) (last count : ℕ) (s : IsNumberingAt marks given numbers last count) (n : length marks ≡ count) where
   -- a number is the one given for its mark
-  number_at : (k a x : ℕ) → slice_get numbers k ≡ Some a → slice_get marks k ≡ Some x
-      → a ≡ get_or given x 0
+  number_at : (k a x : ℕ) → slice_get numbers k ≡ Some a → slice_get marks k ≡ Some x → a ≡ get_or given x 0
   number_at k a x p q =
       let h = slice_get_within marks k x q in
       sym (get_or_from_slice_get numbers k a 0 p) ∙ s.number_is k (omega arith) ∙ ap (λ z. get_or given z 0) (get_or_from_slice_get marks k x 0 q)
 
   -- the number 0 is that of the mark 0 alone
-  zero_number : (k a x : ℕ) → slice_get numbers k ≡ Some a → slice_get marks k ≡ Some x → a ≡ 0
-      → x ≡ 0
+  zero_number : (k a x : ℕ) → slice_get numbers k ≡ Some a → slice_get marks k ≡ Some x → a ≡ 0 → x ≡ 0
   zero_number k a x p q e =
       let h = slice_get_within marks k x q in
       let is = get_or_from_slice_get marks k x 0 q in
@@ -180,7 +171,8 @@ module _ (marks given numbers : List ℕ) (last count : ℕ) (s : IsNumberingAt 
       record {
         one_each = s.one_each ∙ sym n;
         none = λ k b x p q. (zero_number k b x p q, λ e. number_at k b x p q ∙ ap (λ z. get_or given z 0) e ∙ s.zero_given);
-        same = λ j k a b x y p q u v. (one_mark j k a b x y p q u v, λ e. number_at j a x p u ∙ ap (λ z. get_or given z 0) e ∙ sym (number_at k b y q v));
+        same = λ j k a b x y p q u v.
+            (one_mark j k a b x y p q u v, λ e. number_at j a x p u ∙ ap (λ z. get_or given z 0) e ∙ sym (number_at k b y q v));
         in_order = λ k b e.
             let h = slice_get_within numbers k (suc (suc b)) e in
             let r = s.in_order k b (omega (arith, s.one_each)) (get_or_from_slice_get numbers k (suc (suc b)) 0 e) in
@@ -190,10 +182,12 @@ module _ (marks given numbers : List ℕ) (last count : ℕ) (s : IsNumberingAt 
 -- one step of the loop over the marks, where the number of the mark was given before
 pub step_given : (marks given numbers next_given next_numbers : List ℕ) (last next_last count n : ℕ)
     → IsNumberingAt marks given numbers last count → next_given ≡ given → next_last ≡ last
-    → (get_or marks count 0 ≢ 0 → get_or given (get_or marks count 0) 0 ≢ 0) → n ≡ get_or next_given (get_or marks count 0) 0 → next_numbers ≡ numbers ++ n ∷ [] → IsNumberingAt marks next_given next_numbers next_last (count + 1)
+    → (get_or marks count 0 ≢ 0 → get_or given (get_or marks count 0) 0 ≢ 0) → n ≡ get_or next_given (get_or marks count 0) 0
+    → next_numbers ≡ numbers ++ n ∷ [] → IsNumberingAt marks next_given next_numbers next_last (count + 1)
 step_given marks given numbers next_given next_numbers last next_last count n s g l known is e =
     let now = number_given marks given numbers last count s known in
-    let numbers_is : next_numbers ≡ numbers ++ get_or given (get_or marks count 0) 0 ∷ [] = e ∙ ap (λ z. numbers ++ z ∷ []) (is ∙ ap (λ z. get_or z (get_or marks count 0) 0) g) in
+    let numbers_is : next_numbers ≡ numbers ++ get_or given (get_or marks count 0) 0 ∷ [] = e
+    ∙ ap (λ z. numbers ++ z ∷ []) (is ∙ ap (λ z. get_or z (get_or marks count 0) 0) g) in
     subst (λ z. IsNumberingAt marks z next_numbers next_last (count + 1)) (sym g)
     (subst (λ z. IsNumberingAt marks given z next_last (count + 1)) (sym numbers_is)
     (subst (λ z. IsNumberingAt marks given (numbers ++ get_or given (get_or marks count 0) 0 ∷ []) z (count + 1)) (sym l) now))
@@ -202,7 +196,9 @@ step_given marks given numbers next_given next_numbers last next_last count n s 
 pub step_made : (marks given numbers next_given next_numbers : List ℕ) (last next_last count n : ℕ)
     → IsNumberingAt marks given numbers last count
     → next_given ≡ set given (get_or marks count 0) (last + 1) → next_last ≡ last + 1
-    → get_or marks count 0 ≢ 0 → get_or given (get_or marks count 0) 0 ≡ 0 → get_or marks count 0 < length given → n ≡ get_or next_given (get_or marks count 0) 0 → next_numbers ≡ numbers ++ n ∷ [] → IsNumberingAt marks next_given next_numbers next_last (count + 1)
+    → get_or marks count 0 ≢ 0 → get_or given (get_or marks count 0) 0 ≡ 0 → get_or marks count 0 < length given
+    → n ≡ get_or next_given (get_or marks count 0) 0 → next_numbers ≡ numbers ++ n ∷ []
+    → IsNumberingAt marks next_given next_numbers next_last (count + 1)
 step_made marks given numbers next_given next_numbers last next_last count n s g l not_zero not_given within is e =
     let mark = get_or marks count 0 in
     let now = number_made marks given numbers last count s not_zero not_given within in

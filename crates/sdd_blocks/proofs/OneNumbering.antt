@@ -1,15 +1,9 @@
 -- There is one list of block numbers.
-use Rattle.std.proofs.Common.{ℕ, zero, suc, ◌<◌, ◌≤◌, List, length, get_or, ◌≡◌, refl, sym, ap, ◌∙◌, arith, inl, inr, Some}
-use Rattle.std.specs.Prelude.{slice_get}
-use Rattle.std.proofs.lemmas.Bool.{cases_lt}
-use Rattle.std.proofs.lemmas.List.{ext_get_or}
-use Rattle.std.proofs.lemmas.Option.{slice_get-get_or}
-use Rattle.sdd_blocks.specs.Blocks.{AreBlocks}
+use Rattle.sdd_blocks.proofs.All.{AreBlocks, List, Some, ap, arith, cases_lt, ext_get_or, get_or, inl, inr, length, refl, slice_get, slice_get-get_or, suc, sym, zero, ℕ, ◌<◌, ◌∙◌, ◌≡◌, ◌≤◌}
 
 -- before a number each lower one stands
 lower_before : (edges : List (ℕ × ℕ)) (blocks : List ℕ) → AreBlocks edges blocks → (b k a : ℕ)
-    → slice_get blocks k ≡ Some (suc b) → a < b
-    → (j : ℕ) × (j < k) × (slice_get blocks j ≡ Some (suc a))
+    → slice_get blocks k ≡ Some (suc b) → a < b → (j : ℕ) × (j < k) × (slice_get blocks j ≡ Some (suc a))
 lower_before edges blocks h zero k a e l = absurd (omega arith)
 lower_before edges blocks h (suc b) k a e l =
     let r = h.in_order k b e in
@@ -35,7 +29,8 @@ not_lower edges xs ys p q k a b e f before =
 -- numbers of one edge are the same
 same_number : (edges : List (ℕ × ℕ)) (xs ys : List ℕ) → AreBlocks edges xs → AreBlocks edges ys
     → (k a b : ℕ) → slice_get xs k ≡ Some a → slice_get ys k ≡ Some b
-    → ((j c : ℕ) → j < k → slice_get ys j ≡ Some c → slice_get xs j ≡ Some c) → ((j c : ℕ) → j < k → slice_get xs j ≡ Some c → slice_get ys j ≡ Some c) → a ≡ b
+    → ((j c : ℕ) → j < k → slice_get ys j ≡ Some c → slice_get xs j ≡ Some c)
+    → ((j c : ℕ) → j < k → slice_get xs j ≡ Some c → slice_get ys j ≡ Some c) → a ≡ b
 same_number edges xs ys p q k zero zero e f one other = refl
 same_number edges xs ys p q k zero (suc b) e f one other = absurd (p.none k e (q.some k b f))
 same_number edges xs ys p q k (suc a) zero e f one other = absurd (q.none k f (p.some k a e))

@@ -1,9 +1,5 @@
 -- Reads of a list of numbers after a write or a push.
-use Rattle.std.proofs.Common.{ℕ, zero, suc, Some, ◌+◌, ◌<◌, ◌≢◌, List, [], ◌∷◌, ◌++◌, length, set, get_or, ◌≡◌, refl, sym, ap, ◌∙◌, arith, ◌⊎◌, inl, inr, get_or-set_same, get_or-set_other}
-use Rattle.std.specs.Prelude.{slice_get}
-use Rattle.std.proofs.lemmas.Option.{none-some, same_Some}
-use Rattle.std.proofs.lemmas.Bool.{cases_eq, cases_lt}
-use Rattle.std.proofs.lemmas.List.{get_or_append_left, get_or_push}
+use Rattle.sdd_blocks.proofs.All.{List, Some, [], ap, arith, cases_eq, cases_lt, get_or, get_or-set_other, get_or-set_same, get_or_append_left, get_or_push, inl, inr, length, none-some, refl, same_Some, set, slice_get, suc, sym, zero, ℕ, ◌++◌, ◌+◌, ◌<◌, ◌∙◌, ◌∷◌, ◌≡◌, ◌≢◌, ◌⊎◌}
 
 -- a read at the place of a write gives what was written, and a read elsewhere what was there
 pub read_set : {A : Type 0} (xs : List A) (i : ℕ) (x : A) (v : ℕ) (d : A) → i < length xs
@@ -31,8 +27,7 @@ get_push_kept (x ∷ xs) q zero p e = e
 get_push_kept (x ∷ xs) q (suc i) p e = get_push_kept xs q i p e
 
 -- the new one is the last
-pub get_push_last : {A : Type 0} (xs : List A) (q : A)
-    → slice_get (xs ++ q ∷ []) (length xs) ≡ Some q
+pub get_push_last : {A : Type 0} (xs : List A) (q : A) → slice_get (xs ++ q ∷ []) (length xs) ≡ Some q
 get_push_last [] q = refl
 get_push_last (x ∷ xs) q = get_push_last xs q
 

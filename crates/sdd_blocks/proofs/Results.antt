@@ -1,5 +1,5 @@
 -- Clauses on what a call returned.
-use Rattle.std.specs.Prelude.{IfOk, Result, Ok, Err}
+use Rattle.sdd_blocks.proofs.All.{Err, IfOk, Ok, Result}
 
 -- what follows from two facts of the value in an `Ok`
 pub IfOk-both_then : {T E : Type 0} (r : Result T E) {P Q R : T → Type 0} → IfOk r P → IfOk r Q

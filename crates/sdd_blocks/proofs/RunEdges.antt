@@ -1,14 +1,5 @@
 -- Edges as runs of edges with the same ends.
-use Rattle.std.proofs.Common.{ℕ, zero, suc, ◌+◌, ◌-◌, ◌<◌, ◌≤◌, List, [], ◌∷◌, ◌++◌, length, map, take, drop, replicate, get_or, ◌≡◌, refl, sym, ap, ◌∙◌, subst, arith, inl, inr, Some, append_assoc, length-append}
-use Rattle.std.specs.Prelude.{slice_get, All}
-use Rattle.std.proofs.lemmas.Bool.{cases_lt}
-use Rattle.std.proofs.lemmas.List.{append-nil, take_more, take_all, take-append-drop, replicate_more, length-replicate}
-use Rattle.std.proofs.lemmas.List.Elements.{All-push}
-use Rattle.std.proofs.lemmas.Option.{none-some, slice_get-get_or}
-use Rattle.sdd_blocks.specs.Graph.{Step, Joins, IsWalk, nodes_of, Has, JoinedWithout}
-use Rattle.sdd_blocks.specs.Components.{AreComponents}
-use Rattle.sdd_blocks.specs.Runs.{edges_in}
-use Rattle.sdd_blocks.specs.declared.runs.Run.{Run}
+use Rattle.sdd_blocks.proofs.All.{All, All-push, AreComponents, Has, IsWalk, JoinedWithout, Joins, List, Run, Some, Step, [], ap, append-nil, append_assoc, arith, cases_lt, drop, edges_in, get_or, inl, inr, length, length-append, length-replicate, map, nodes_of, none-some, refl, replicate, replicate_more, slice_get, slice_get-get_or, subst, suc, sym, take, take-append-drop, take_all, take_more, zero, ℕ, ◌++◌, ◌+◌, ◌-◌, ◌<◌, ◌∙◌, ◌∷◌, ◌≡◌, ◌≤◌}
 use Rattle.sdd_blocks.proofs.Labels.{ends_within}
 
 -- the edges of two lists of runs

@@ -1,12 +1,5 @@
 -- Pairs that tie neighbours together, one edge after the other, and one node after the other.
-use Rattle.std.proofs.Common.{ℕ, zero, suc, ◌+◌, ◌<◌, ◌≤◌, ◌≢◌, List, [], ◌∷◌, ◌++◌, length, set, get_or, ◌≡◌, sym, ap, ◌∙◌, arith, subst, ◌⊎◌, inl, inr, Option, Some, None, length-set}
-use Rattle.std.specs.Prelude.{slice_index, slice_get, All}
-use Rattle.std.proofs.lemmas.Bool.{cases_eq, cases_lt}
-use Rattle.std.proofs.lemmas.Bool.Decides.{nat_tests}
-use Rattle.std.proofs.lemmas.Option.{none-some, same_Some, some_pair_parts}
-use Rattle.sdd_blocks.specs.Graph.{Joins, nodes_of, Has, JoinedWithout}
-use Rattle.sdd_blocks.specs.Components.{AreComponents}
-use Rattle.sdd_blocks.specs.Neighbours.{Neighbours, Tied, TieNeighbours, TieAt, other_end}
+use Rattle.sdd_blocks.proofs.All.{All, AreComponents, Has, JoinedWithout, Joins, List, Neighbours, None, Option, Some, TieAt, TieNeighbours, Tied, [], ap, arith, cases_eq, cases_lt, get_or, inl, inr, length, length-set, nat_tests, nodes_of, none-some, other_end, same_Some, set, slice_get, slice_index, some_pair_parts, subst, suc, sym, zero, ℕ, ◌++◌, ◌+◌, ◌<◌, ◌∙◌, ◌∷◌, ◌≡◌, ◌≢◌, ◌≤◌, ◌⊎◌}
 use Rattle.sdd_blocks.proofs.Walks.{joins_back, end_met}
 use Rattle.sdd_blocks.proofs.Labels.{ends_within}
 use Rattle.sdd_blocks.proofs.Classes.{joins_within}
@@ -58,8 +51,7 @@ joins_end_within edges nodes ends k a b (inr e) = (ends_within edges nodes ends 
 pub record IsTyingAt (edges : List (ℕ × ℕ)) (node : ℕ) (labels : List ℕ) (before pairs : List (ℕ × ℕ)) (first : List (Option ℕ)) (count : ℕ) : Type 0 where
   pub one_each : length first ≡ length labels
   pub kept : (i : ℕ) (p : ℕ × ℕ) → slice_get before i ≡ Some p → slice_get pairs i ≡ Some p
-  pub sound : (i j k : ℕ) → slice_get pairs i ≡ Some (j, k)
-      → (slice_get before i ≡ Some (j, k)) ⊎ Neighbours edges j k
+  pub sound : (i j k : ℕ) → slice_get pairs i ≡ Some (j, k) → (slice_get before i ≡ Some (j, k)) ⊎ Neighbours edges j k
   pub first_is : (l r : ℕ) → get_or first l None ≡ Some r
       → (x : ℕ) × (r < count) × Joins edges r node x × (x ≢ node) × (slice_index labels x ≡ l)
   pub whole : (k x : ℕ) → k < count → Joins edges k node x → x ≢ node
@@ -87,13 +79,11 @@ module _ (edges : List (ℕ × ℕ)) (node : ℕ) (labels : List ℕ) (before : 
 
   module _ (pairs : List (ℕ × ℕ)) (first : List (Option ℕ)) (count a b : ℕ) (so_far : IsTyingAt edges node labels before pairs first count) (here : slice_get edges count ≡ Some (a, b)) where
     -- the edge itself, where it is the one meant
-    at_count : (k x : ℕ) → count ≤ k → k < count + 1 → Joins edges k node x
-        → Joins edges count node x
+    at_count : (k x : ℕ) → count ≤ k → k < count + 1 → Joins edges k node x → Joins edges count node x
     at_count k x h g j = let e : k ≡ count = omega arith in subst (λ z. Joins edges z node x) e j
 
     -- an edge that leads to no other node
-    pub not_tied : other_end (a, b) node ≡ None
-        → IsTyingAt edges node labels before pairs first (count + 1)
+    pub not_tied : other_end (a, b) node ≡ None → IsTyingAt edges node labels before pairs first (count + 1)
     not_tied o =
         record {
           one_each = so_far.one_each;
@@ -241,8 +231,7 @@ module _ (edges : List (ℕ × ℕ)) (node : ℕ) (labels : List ℕ) (before : 
 -- the neighbours that meet at nodes below `count` are tied
 pub record IsTyingBelow (edges pairs : List (ℕ × ℕ)) (count : ℕ) : Type 0 where
   pub sound : (i j k : ℕ) → slice_get pairs i ≡ Some (j, k) → Neighbours edges j k
-  pub whole : (j k : ℕ) (h : Neighbours edges j k) → h.node < count
-      → (r : ℕ) × Tied pairs j r × Tied pairs k r
+  pub whole : (j k : ℕ) (h : Neighbours edges j k) → h.node < count → (r : ℕ) × Tied pairs j r × Tied pairs k r
 
 -- before the first node there are no pairs
 pub no_pairs_yet : (edges : List (ℕ × ℕ)) → IsTyingBelow edges [] 0
@@ -250,8 +239,7 @@ no_pairs_yet edges = record { sound = λ i j k e. absurd (none-some (j, k) e); w
 
 -- a node more, with the pairs of the edges that meet there
 pub one_more_node : (edges before after : List (ℕ × ℕ)) (count : ℕ)
-    → IsTyingBelow edges before count → TieAt edges count before after
-    → IsTyingBelow edges after (count + 1)
+    → IsTyingBelow edges before count → TieAt edges count before after → IsTyingBelow edges after (count + 1)
 one_more_node edges before after count s t =
     record {
       sound = λ i j k e. elim (t.sound i j k e) [ inl b ↦ s.sound i j k b | inr h ↦ h ];

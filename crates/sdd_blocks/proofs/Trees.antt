@@ -1,14 +1,5 @@
 -- What a change of the forest does to the labels that it gives.
-use Rattle.std.proofs.Common.{ℕ, ◌+◌, ◌<◌, ◌≤◌, ◌≢◌, List, [], ◌∷◌, ◌++◌, length, map, set, get_or, ◌≡◌, refl, sym, ap, ◌∙◌, arith, inl, inr, length-set}
-use Rattle.std.specs.Prelude.{All}
-use Rattle.std.proofs.lemmas.List.{length_push, ext_get_or, map-id}
-use Rattle.std.proofs.lemmas.List.Elements.{All-nil, All-push}
-use Rattle.std.specs.Prelude.{slice_index}
-use Rattle.std.specs.List.{range_with_len}
-use Rattle.std.proofs.lemmas.Bool.Decides.{nat_tests}
-use Rattle.std.proofs.lemmas.List.{get_or-map, length-map}
-use Rattle.std.proofs.lemmas.List.FromFn.{get_or-range_with_len, length-range_with_len, map-range_with_len_more}
-use Rattle.sdd_blocks.specs.Forest.{IsForest, AreRoots, replaced, AreJoined}
+use Rattle.sdd_blocks.proofs.All.{All, All-nil, All-push, AreJoined, AreRoots, IsForest, List, [], ap, arith, ext_get_or, get_or, get_or-map, get_or-range_with_len, inl, inr, length, length-map, length-range_with_len, length-set, length_push, map, map-id, map-range_with_len_more, nat_tests, range_with_len, refl, replaced, set, slice_index, sym, ℕ, ◌++◌, ◌+◌, ◌<◌, ◌∙◌, ◌∷◌, ◌≡◌, ◌≢◌, ◌≤◌}
 use Rattle.sdd_blocks.proofs.Places.{read_set, read_push}
 
 -- as many roots as nodes
@@ -53,8 +44,7 @@ module _ (parents : List ℕ) (forest : IsForest parents) (at : ℕ) (within : a
 
   -- a node that is no root may have its parent's parent as its parent
   pub roots-halved : (next : ℕ) → slice_index parents at ≢ at
-      → next ≡ slice_index parents (slice_index parents at) → (labels : List ℕ)
-      → AreRoots parents labels
+      → next ≡ slice_index parents (slice_index parents at) → (labels : List ℕ) → AreRoots parents labels
       → AreRoots (set parents at next) labels × (slice_index labels next ≡ slice_index labels at)
   roots-halved next n e labels r =
       let p = forest at within in
@@ -129,7 +119,8 @@ module _ (parents : List ℕ) (low high : ℕ) (forest : IsForest parents) (low_
       record {
         one_each = length-relabelled ∙ r.one_each ∙ sym (length-set parents high low);
         same = λ v h. elim (read_set parents high low v 0 high_within) [
-          | inl d ↦ ap (λ z. slice_index (relabelled high low labels) z) d.1 ∙ low_label ∙ sym high_label ∙ ap (λ z. slice_index (relabelled high low labels) z) (sym d.0)
+          | inl d ↦ ap (λ z. slice_index (relabelled high low labels) z) d.1 ∙ low_label ∙ sym high_label
+              ∙ ap (λ z. slice_index (relabelled high low labels) z) (sym d.0)
           | inr d ↦
               let p = forest v (within v h) in
               ap (λ z. slice_index (relabelled high low labels) z) d.1 ∙ after (slice_index parents v) (let q = within v h in omega arith)
@@ -171,8 +162,7 @@ pub record IsOnTheWayUp (old new : List ℕ) (node at : ℕ) : Type 0 where
       → AreRoots new labels × (slice_index labels at ≡ slice_index labels node)
 
 -- at the node itself
-pub starts_up : (old : List ℕ) (node : ℕ) → IsForest old → node < length old
-    → IsOnTheWayUp old old node node
+pub starts_up : (old : List ℕ) (node : ℕ) → IsForest old → node < length old → IsOnTheWayUp old old node node
 starts_up old node f h = record { one_each = refl; forest = f; within = h; kept = λ v e. e; labels = λ labels r. (r, refl) }
 
 -- one step up
@@ -203,9 +193,9 @@ arrives old new node at w top labels r =
 
 -- joined where the first root is not above the second
 pub joined_down : (old mid : List ℕ) (new : List ℕ) (a b one other : ℕ) → IsForest new
-    → one < length new → other < length new → slice_index new one ≡ one
-    → slice_index new other ≡ other
-    → ((labels : List ℕ) → AreRoots old labels → AreRoots mid labels × (one ≡ slice_index labels a)) → ((labels : List ℕ) → AreRoots mid labels → AreRoots new labels × (other ≡ slice_index labels b))
+    → one < length new → other < length new → slice_index new one ≡ one → slice_index new other ≡ other
+    → ((labels : List ℕ) → AreRoots old labels → AreRoots mid labels × (one ≡ slice_index labels a))
+    → ((labels : List ℕ) → AreRoots mid labels → AreRoots new labels × (other ≡ slice_index labels b))
     → (before : List ℕ) → AreRoots old before → (after : List ℕ) × AreRoots (set new other one) after × AreJoined a b before after
 joined_down old mid new a b one other f h k s t p q before r =
     let x = p before r in
@@ -214,9 +204,9 @@ joined_down old mid new a b one other f h k s t p q before r =
 
 -- the same where the second root is not above the first
 pub joined_up : (old mid : List ℕ) (new : List ℕ) (a b one other : ℕ) → IsForest new
-    → one < length new → other < length new → slice_index new one ≡ one
-    → slice_index new other ≡ other
-    → ((labels : List ℕ) → AreRoots old labels → AreRoots mid labels × (one ≡ slice_index labels a)) → ((labels : List ℕ) → AreRoots mid labels → AreRoots new labels × (other ≡ slice_index labels b))
+    → one < length new → other < length new → slice_index new one ≡ one → slice_index new other ≡ other
+    → ((labels : List ℕ) → AreRoots old labels → AreRoots mid labels × (one ≡ slice_index labels a))
+    → ((labels : List ℕ) → AreRoots mid labels → AreRoots new labels × (other ≡ slice_index labels b))
     → (before : List ℕ) → AreRoots old before → (after : List ℕ) × AreRoots (set new one other) after × AreJoined a b before after
 joined_up old mid new a b one other f h k s t p q before r =
     let x = p before r in
@@ -234,12 +224,14 @@ pub record AreRootsSoFar (old now found : List ℕ) (node : ℕ) : Type 0 where
 
 -- before the first node
 pub none_so_far : (old : List ℕ) → IsForest old → AreRootsSoFar old old [] 0
-none_so_far old f = record { one_each = refl; forest = f; count = refl; below = All-nil (λ label. label < length old); labels = λ labels r. (r, λ v h. absurd (omega arith)) }
+none_so_far old f =
+    record { one_each = refl; forest = f; count = refl; below = All-nil (λ label. label < length old); labels = λ labels r. (r, λ v h. absurd (omega arith)) }
 
 -- one node more, with its root
 pub one_more_root : (old now next found : List ℕ) (node root : ℕ) → AreRootsSoFar old now found node
     → length next ≡ length now → IsForest next → root < length now
-    → ((labels : List ℕ) → AreRoots now labels → AreRoots next labels × (root ≡ slice_index labels node)) → AreRootsSoFar old next (found ++ root ∷ []) (node + 1)
+    → ((labels : List ℕ) → AreRoots now labels → AreRoots next labels × (root ≡ slice_index labels node))
+    → AreRootsSoFar old next (found ++ root ∷ []) (node + 1)
 one_more_root old now next found node root s n f h p =
     record {
       one_each = n ∙ s.one_each;

@@ -1,16 +1,5 @@
 -- Marks for the fragments that are written.
-use Rattle.std.proofs.Common.{ℕ, ◌≡◌, ◌<◌, ◌≢◌, length, Bool, true, false, not, cond, ◌||◌, List, [], ◌∷◌, ◌++◌, get_or, set, replicate, Some, None, refl, ap, sym, ◌∙◌, inl, inr, arith, length-set, get_or-set_same, get_or-set_other}
-use Rattle.std.specs.Str.{bytes_eq}
-use Rattle.std.proofs.lemmas.Bool.{cases_Bool}
-use Rattle.std.proofs.lemmas.List.{length-replicate, get_or-replicate}
-use Rattle.std.proofs.lemmas.List.Folds.{list_any-append}
-use Rattle.std.proofs.lemmas.Option.{same_Some}
-use Rattle.std.proofs.lemmas.Slice.Eq.{bytes_eq-Decides}
-use Rattle.sdd_base.specs.Words.{head_of}
-use Rattle.sdd_catalog.specs.Marks.{AreMarked}
-use Rattle.sdd_catalog.specs.Names.{Text, place_of}
-use Rattle.sdd_catalog.specs.Rules.{has_name, when}
-use Rattle.sdd_catalog.specs.declared.fault.CatRule.TheVariants.{DuplicateName, UnknownName}
+use Rattle.sdd_catalog.proofs.All.{AreMarked, Bool, DuplicateName, List, None, Some, Text, UnknownName, [], ap, arith, bytes_eq, bytes_eq-Decides, cases_Bool, cond, false, get_or, get_or-replicate, get_or-set_other, get_or-set_same, has_name, head_of, inl, inr, length, length-replicate, length-set, list_any-append, not, place_of, refl, replicate, same_Some, set, sym, true, when, ℕ, ◌++◌, ◌<◌, ◌||◌, ◌∙◌, ◌∷◌, ◌≡◌, ◌≢◌}
 use Rattle.sdd_catalog.proofs.Places.{found_place}
 
 -- before the first name nothing is marked

@@ -1,15 +1,5 @@
 -- The place of the first item with a name.
-use Rattle.std.proofs.Common.{ℕ, ◌≡◌, ◌+◌, ◌<◌, ◌≤◌, length, Bool, true, false, cond, ◌||◌, List, [], ◌∷◌, map, get_or, drop, Option, Some, None, is_some, refl, ap, sym, ◌∙◌, subst, arith}
-use Rattle.std.specs.List.{position_from, list_any, find}
-use Rattle.std.specs.Option.{IfSome}
-use Rattle.std.specs.Str.{bytes_eq}
-use Rattle.std.proofs.lemmas.Cmp.{nat_list_eq_equiv}
-use Rattle.std.proofs.lemmas.List.{drop_more}
-use Rattle.std.proofs.lemmas.Option.{none-some, same_Some}
-use Rattle.sdd_catalog.specs.Catalogue.{fragment_names}
-use Rattle.sdd_catalog.specs.Names.{Text, place_of}
-use Rattle.sdd_catalog.specs.Rules.{has_name}
-use Rattle.sdd_catalog.specs.declared.parts.FragmentPart.{FragmentPart}
+use Rattle.sdd_catalog.proofs.All.{Bool, FragmentPart, IfSome, List, None, Option, Some, Text, [], ap, arith, bytes_eq, cond, drop, drop_more, false, find, fragment_names, get_or, has_name, is_some, length, list_any, map, nat_list_eq_equiv, none-some, place_of, position_from, refl, same_Some, subst, sym, true, ℕ, ◌+◌, ◌<◌, ◌||◌, ◌∙◌, ◌∷◌, ◌≡◌, ◌≤◌}
 use Rattle.sdd_catalog.proofs.NameLemmas.{IsFound, found_at, position_from-map}
 
 -- there is a place exactly where some item passes
@@ -36,7 +26,8 @@ pub named_place : {A : Type 0} (f : A → Text) (name : Text) (xs : List A) (d :
 named_place f name xs d k e = found_place (λ x. bytes_eq name (f x)) xs d k (sym (position_from-map (bytes_eq name) f 0 xs) ∙ e)
 
 -- a place is that of an item
-pub place_within : {A : Type 0} (f : A → Text) (name : Text) (xs : List A) (o : Option ℕ) → o ≡ place_of name (map f xs) → IfSome o (λ place. place < length xs)
+pub place_within : {A : Type 0} (f : A → Text) (name : Text) (xs : List A) (o : Option ℕ) → o ≡ place_of name (map f xs)
+    → IfSome o (λ place. place < length xs)
 place_within f name xs None e = tt
 place_within f name [] (Some k) e = absurd (none-some k (sym e))
 place_within f name (x ∷ xs) (Some k) e = (named_place f name (x ∷ xs) x k (sym e)).within
@@ -55,7 +46,8 @@ none_found p (x ∷ xs) e =
       | false ↦ λ h. none_found p xs h
     ] e
 
-pub no_item_at_place : {A : Type 0} (f : A → Text) (name : Text) (xs : List A) → None ≡ place_of name (map f xs) → None ≡ find (λ x. bytes_eq name (f x)) xs
+pub no_item_at_place : {A : Type 0} (f : A → Text) (name : Text) (xs : List A) → None ≡ place_of name (map f xs)
+    → None ≡ find (λ x. bytes_eq name (f x)) xs
 no_item_at_place {A} f name xs e =
     let p : A → Bool = λ x. bytes_eq name (f x) in
     sym (none_found p xs (sym (some_place p 0 xs) ∙ ap is_some (sym (position_from-map (bytes_eq name) f 0 xs)) ∙ ap is_some (sym e)))

@@ -24,7 +24,8 @@ listed-map key [] = refl
 listed-map key (n ∷ names) = rw (listed-map key names) refl
 
 -- the keys of a table are all listed
-pub has_only_keys : (names : List (Bor (List ℕ))) (es : List Entry) → list_all (λ k. list_any (λ n. bytes_eq (string_bytes k) n.now) names) (keys_of es) ≡ has_only (map (λ n. n.now) names) (members_view es)
+pub has_only_keys : (names : List (Bor (List ℕ))) (es : List Entry)
+    → list_all (λ k. list_any (λ n. bytes_eq (string_bytes k) n.now) names) (keys_of es) ≡ has_only (map (λ n. n.now) names) (members_view es)
 has_only_keys names [] = refl
 has_only_keys names (e ∷ es) = rw (listed-map (string_bytes e.0) names, has_only_keys names es) refl
 

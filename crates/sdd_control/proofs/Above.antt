@@ -1,26 +1,19 @@
 -- Whether a site took a value from above: its last value tells.
-use Rattle.std.proofs.Common.{ℕ, ◌<◌, ◌==◌, ◌≡◌, true, [], ◌∷◌, sym, ap, ◌∙◌, subst, inl, inr, arith, lt-ltb}
-use Rattle.std.proofs.lemmas.Bool.{cases_Bool}
-use Rattle.std.specs.Prelude.{nat_lt}
-use Rattle.sdd_control.specs.Log.{Log, noted}
-use Rattle.sdd_control.specs.NoteTests.{is_above}
-use Rattle.sdd_control.specs.Standing.{last}
-use Rattle.sdd_control.specs.State.{is_from_above}
+use Rattle.sdd_control.proofs.All.{Log, [], and_both, ap, arith, cases_Bool, inl, inr, is_above, is_from_above, last, lt-ltb, nat_lt, noted, or_left, or_right, subst, sym, true, ℕ, ◌<◌, ◌==◌, ◌∙◌, ◌∷◌, ◌≡◌}
 use Rattle.sdd_control.proofs.Kept.{Kept, last_of_cases}
 use Rattle.sdd_control.proofs.Leader.{above_one}
-use Rattle.sdd_control.proofs.Lists.{and_both, or_left, or_right}
 use Rattle.sdd_control.proofs.Puts.{same_itself}
 
 -- the last value is one that was taken
-from_above_noted : (j i : ℕ) (log : Log) → is_from_above (last log j) i ≡ true
-    → noted (is_above j i) log ≡ true
+from_above_noted : (j i : ℕ) (log : Log) → is_from_above (last log j) i ≡ true → noted (is_above j i) log ≡ true
 from_above_noted j i [] e = e
 from_above_noted j i (x ∷ log) e =
     elim (last_of_cases j x.note (last log j)) [
       | inl p ↦ or_right (is_above j i x.note) (noted (is_above j i) log) (from_above_noted j i log (subst (λ z. is_from_above z i ≡ true) p e))
       | inr h ↦
           let l : nat_lt i h.0 ≡ true = subst (λ z. is_from_above z i ≡ true) h.3 e in
-          or_left (is_above j i x.note) (noted (is_above j i) log) (subst (λ z. is_above j i z ≡ true) (sym h.2) (and_both (j == j) (nat_lt i h.0) (same_itself j) l))
+          or_left (is_above j i x.note) (noted (is_above j i) log)
+          (subst (λ z. is_above j i z ≡ true) (sym h.2) (and_both (j == j) (nat_lt i h.0) (same_itself j) l))
     ]
 
 pub above_is_last : (backups writes : ℕ) (log : Log) → Kept backups writes log → (i j : ℕ)

@@ -1,20 +1,5 @@
 -- The cases of an event, and what its note says of the log before it.
-use Rattle.std.proofs.Common.{ℕ, ◌+◌, ◌-◌, ◌≤◌, ◌≡◌, ◌&&◌, not, cond, Bool, true, false, List, [], ◌∷◌, Option, Some, None, refl}
-use Rattle.sdd_control.specs.declared.message.Message.{Message}
-use Rattle.sdd_control.specs.Links.{link}
-use Rattle.sdd_control.specs.Log.{Log, noted}
-use Rattle.sdd_control.specs.NoteTests.{is_above, is_finish}
-use Rattle.sdd_control.specs.Sends.{all_answered, send, untold, unwritten}
-use Rattle.sdd_control.specs.Standing.{heir, leads, stopped, value}
-use Rattle.sdd_control.specs.Steps.{Fits, arrival, note_of}
-use Rattle.sdd_control.specs.Stretches.{first_from}
-use Rattle.sdd_control.specs.declared.value.Val.{Val}
-use Rattle.sdd_control.specs.declared.note.Note.{Note}
-use Rattle.sdd_control.specs.declared.act.Act.{Act}
-use Rattle.sdd_control.specs.declared.value.Val.TheVariants.{Unknown, All, Nought}
-use Rattle.sdd_control.specs.declared.note.Note.TheVariants.{Tell, Write, Finish, Nothing, Dropped, Gone, Ok, Ignored, Value, Stop}
-use Rattle.sdd_control.specs.declared.act.Act.TheVariants.{Step as Send, Deliver, Stop as Halt}
-use Rattle.sdd_control.specs.declared.message.Message.TheVariants.{Value as VALUE, Ok as OK, Gone as GONE}
+use Rattle.sdd_control.proofs.All.{Act, All, Bool, Deliver, Dropped, Finish, Fits, GONE, Gone, Halt, Ignored, List, Log, Message, None, Note, Nothing, Nought, OK, Ok, Option, Send, Some, Stop, Tell, Unknown, VALUE, Val, Value, Write, [], all_answered, arrival, cond, false, first_from, heir, is_above, is_finish, leads, link, not, note_of, noted, refl, send, stopped, true, untold, unwritten, value, ℕ, ◌&&◌, ◌+◌, ◌-◌, ◌∷◌, ◌≡◌, ◌≤◌}
 use Rattle.sdd_control.proofs.Lists.{and_left, and_right, not_true}
 
 -- the event gives the note
@@ -45,8 +30,7 @@ pub data Case (backups writes : ℕ) (log : Log) : Act → Note → Type 0 where
   stops : (i : ℕ) → stopped log i ≡ false → Case backups writes log (Halt i) (Stop i)
 
 module _ (backups writes : ℕ) (log : Log) where
-  case_sends : (i : ℕ) (b : Bool) (to : Option ℕ) (all : Bool) (v : Val) (left : Option ℕ)
-      → i ≤ backups
+  case_sends : (i : ℕ) (b : Bool) (to : Option ℕ) (all : Bool) (v : Val) (left : Option ℕ) → i ≤ backups
       → (leads log i && not (noted (is_finish i) log)) ≡ b → first_from (untold log i) (i + 1) (backups - i) ≡ to → all_answered backups log i ≡ all → value log i ≡ v → unwritten writes log i ≡ left
       → Case backups writes log (Send i) (send i b to all v left)
   case_sends i false to all v left l e f g h k = idle i
@@ -58,8 +42,7 @@ module _ (backups writes : ℕ) (log : Log) where
   case_sends i true None true Nought left l e f g h k = let p = and_left (leads log i) (not (noted (is_finish i) log)) e in finishes i Nought l (not_true (stopped log i) (and_left (not (stopped log i)) (heir log i) p)) (and_right (not (stopped log i)) (heir log i) p) g h (λ q. absurd (cc))
 
   case_delivered : (i j : ℕ) (b : Bool) (xs : List Message) (c : Bool) → stopped log j ≡ b
-      → link log i j ≡ xs → noted (is_above j i) log ≡ c
-      → Case backups writes log (Deliver i j) (arrival b xs c i j)
+      → link log i j ≡ xs → noted (is_above j i) log ≡ c → Case backups writes log (Deliver i j) (arrival b xs c i j)
   case_delivered i j b [] c e f g = empty i j f
   case_delivered i j true (m ∷ rest) c e f g = dropped i j e
   case_delivered i j false (GONE ∷ rest) c e f g = learns i j rest e f
@@ -67,13 +50,11 @@ module _ (backups writes : ℕ) (log : Log) where
   case_delivered i j false (VALUE v ∷ rest) true e f g = ignores i j v rest e f g
   case_delivered i j false (VALUE v ∷ rest) false e f g = takes i j v rest e f g
 
-  case_halt : (i : ℕ) (b : Bool) → stopped log i ≡ b
-      → Case backups writes log (Halt i) (cond b Nothing (Stop i))
+  case_halt : (i : ℕ) (b : Bool) → stopped log i ≡ b → Case backups writes log (Halt i) (cond b Nothing (Stop i))
   case_halt i true e = again i
   case_halt i false e = stops i e
 
-  pub case_of : (a : Act) → Fits backups a
-      → Case backups writes log a (note_of backups writes log a)
+  pub case_of : (a : Act) → Fits backups a → Case backups writes log a (note_of backups writes log a)
   case_of (Send i) f = case_sends i (leads log i && not (noted (is_finish i) log)) (first_from (untold log i) (i + 1) (backups - i)) (all_answered backups log i) (value log i) (unwritten writes log i) f refl refl refl refl refl
   case_of (Deliver i j) f = case_delivered i j (stopped log j) (link log i j) (noted (is_above j i) log) refl refl refl
   case_of (Halt i) f = case_halt i (stopped log i) refl

@@ -1,16 +1,5 @@
 -- The tables follow the log of all events.
-use Rattle.std.proofs.Common.{ℕ, ◌≤◌, ◌≡◌, Bool, true, List, [], ◌∷◌, ◌++◌, refl, sym, ap, ◌∙◌, subst}
-use Rattle.sdd_script.specs.All.{Kept as Live}
-use Rattle.sdd_control.specs.Control.{Follows, Run, run_of, with_event}
-use Rattle.sdd_control.specs.Log.{Log, noted}
-use Rattle.sdd_control.specs.NoteTests.{is_number}
-use Rattle.sdd_control.specs.Standing.{value}
-use Rattle.sdd_control.specs.State.{Adds, Takes, Tracks, note_in, value_in}
-use Rattle.sdd_control.specs.Steps.{FitAll, Fits, happened, log_after, log_of, note_of}
-use Rattle.sdd_control.specs.Stretches.{count_from}
-use Rattle.sdd_control.specs.declared.act.Act.{Act}
-use Rattle.sdd_control.specs.declared.note.Note.{Note}
-use Rattle.sdd_control.specs.declared.state.State.{State}
+use Rattle.sdd_control.proofs.All.{Act, Adds, Bool, FitAll, Fits, Follows, List, Live, Log, Note, Run, State, Takes, Tracks, [], ap, count_from, happened, is_number, log_after, log_of, note_in, note_of, noted, refl, run_of, subst, sym, true, value, value_in, with_event, ℕ, ◌++◌, ◌∙◌, ◌∷◌, ◌≡◌, ◌≤◌}
 use Rattle.sdd_control.proofs.Numbers.{count_written, numbered}
 use Rattle.sdd_control.proofs.Promises.{kept}
 use Rattle.sdd_control.proofs.Tracking.{note_same, tracks_on, value_same}
@@ -28,8 +17,7 @@ FitAll-append backups [] act f g = (g, tt)
 FitAll-append backups (x ∷ acts) act f g = (f.0, FitAll-append backups acts act f.1 g)
 
 -- the note by the tables is the note by the log
-pub followed_note : (st : State) (acts : List Act) (act : Act) → Follows st acts
-    → Fits st.backups act
+pub followed_note : (st : State) (acts : List Act) (act : Act) → Follows st acts → Fits st.backups act
     → note_in st act ≡ note_of st.backups st.writes (log_of st.backups st.writes acts) act
 followed_note st acts act f fits =
     note_same st (log_of st.backups st.writes acts) f.tracks

@@ -1,21 +1,6 @@
 -- What every log keeps: one event more.
-use Rattle.std.proofs.Common.{ℕ, ◌+◌, ◌-◌, ◌<◌, ◌≤◌, ◌==◌, ◌≡◌, ◌||◌, not, cond, Bool, true, false, List, [], ◌∷◌, ◌++◌, Option, Some, None, drop, refl, sym, ap, ◌∙◌, subst, ◌⊎◌, inl, inr, arith, append-nil, lt-ltb}
-use Rattle.std.proofs.lemmas.Bool.{cases_Bool, cases_lt}
-use Rattle.std.specs.Prelude.{nat_lt}
-use Rattle.sdd_control.specs.declared.message.Message.{Message}
-use Rattle.sdd_control.specs.Links.{link, put, taken}
-use Rattle.sdd_control.specs.Log.{Log, Stands, noted}
-use Rattle.sdd_control.specs.NoteTests.{is_above, is_gone, is_ok, is_stop, is_value, is_write}
-use Rattle.sdd_control.specs.Sends.{all_answered, answered, untold, unwritten}
-use Rattle.sdd_control.specs.Standing.{heir, knows, last, last_of, stopped, value, value_by}
-use Rattle.sdd_control.specs.declared.value.Val.{Val}
-use Rattle.sdd_control.specs.declared.note.Note.{Note}
-use Rattle.sdd_control.specs.declared.act.Act.{Act}
-use Rattle.sdd_control.specs.declared.value.Val.TheVariants.{All}
-use Rattle.sdd_control.specs.declared.note.Note.TheVariants.{Tell, Write, Finish, Gone, Ok, Value, Stop}
-use Rattle.sdd_control.specs.declared.act.Act.TheVariants.{Deliver}
-use Rattle.sdd_control.specs.declared.message.Message.TheVariants.{Value as VALUE, Ok as OK, Gone as GONE}
-use Rattle.sdd_control.proofs.Lists.{and_both, or_cases, or_left, or_right, not_both, every_at, every_all, first_at, none_at, Has, Tidy, has_append, has_first, tidy_drop, tidy_append, tidy_gone}
+use Rattle.sdd_control.proofs.All.{Act, All, Deliver, Finish, GONE, Gone, List, Log, Message, None, Note, OK, Ok, Option, Some, Stands, Stop, Tell, VALUE, Val, Value, Write, [], all_answered, and_both, answered, ap, append-nil, arith, cases_Bool, cases_lt, cond, drop, false, heir, inl, inr, is_above, is_gone, is_ok, is_stop, is_value, is_write, knows, last, last_of, link, lt-ltb, nat_lt, not, not_false, noted, or_left, or_right, put, refl, stopped, subst, sym, taken, true, untold, unwritten, value, value_by, ℕ, ◌++◌, ◌+◌, ◌-◌, ◌<◌, ◌==◌, ◌||◌, ◌∙◌, ◌∷◌, ◌≡◌, ◌≤◌, ◌⊎◌}
+use Rattle.sdd_control.proofs.Lists.{or_cases, not_both, every_at, every_all, first_at, none_at, Has, Tidy, has_append, has_first, tidy_drop, tidy_append, tidy_gone}
 use Rattle.sdd_control.proofs.Cases.{Case}
 use Rattle.sdd_control.proofs.Cases.Case.{tells, writes_one, finishes, learns, hears, takes, stops}
 use Rattle.sdd_control.proofs.Puts.{same, same_itself, gone_is, ok_is, value_is, put_value, put_ok, put_gone, put_tidy, put_by, has_taken, taken_here, taken_nil, tidy_taken}
@@ -53,8 +38,7 @@ pub record Kept (backups writes : ℕ) (log : Log) : Type 0 where
   pub ok_link : (i j : ℕ) → Has (link log j i) OK → noted (is_value j i) log ≡ true
   pub finished : (i : ℕ) (v : Val) → Stands log (Finish i v) → Ready backups log i v
   pub wrote : (i k : ℕ) → Stands log (Write i k) → Ready backups log i All
-  pub all_written : (i k : ℕ) → Stands log (Finish i All) → 1 ≤ k → k ≤ writes
-      → noted (is_write i k) log ≡ true
+  pub all_written : (i k : ℕ) → Stands log (Finish i All) → 1 ≤ k → k ≤ writes → noted (is_write i k) log ≡ true
 
 pub kept_nil : (backups writes : ℕ) → Kept backups writes []
 kept_nil backups writes =
@@ -87,8 +71,7 @@ last_of_cases j (Value a b w) before =
 last_of_cases j _ before = inl refl
 
 -- no value of a site above i, one of k: k is not above i
-not_above : (j i k : ℕ) (log : Log) → noted (is_above j i) log ≡ false
-    → noted (is_value j k) log ≡ true → k ≤ i
+not_above : (j i k : ℕ) (log : Log) → noted (is_above j i) log ≡ false → noted (is_value j k) log ≡ true → k ≤ i
 not_above j i k [] e f = absurd (cc)
 not_above j i k (x ∷ log) e f =
     elim (or_cases (is_value j k x.note) (noted (is_value j k) log) f) [
@@ -132,10 +115,6 @@ module _ (backups writes : ℕ) (log : Log) where
       → Ready backups log i v × (v ≡ All → unwritten writes log i ≡ None)
   finish_case a i v (finishes _ _ l p q r s t) = (record { within = l; heir = q; answers = r; value = s }, t)
 
-pub not_false : (b : Bool) → not b ≡ false → b ≡ true
-not_false true q = refl
-not_false false q = absurd (cc)
-
 abbrev pub more : Log → Act → Note → Log
 more log a n = record { act = a; note = n } ∷ log
 
@@ -152,8 +131,7 @@ module _ (backups writes : ℕ) (log : Log) (a : Act) (n : Note) (c : Case backu
   heir_on : (i : ℕ) → heir log i ≡ true → heir (more log a n) i ≡ true
   heir_on i h = every_all (λ z. knows (more log a n) i z) 0 i (λ l p q. know_on i l (heir_at log i l h (omega arith)))
 
-  answers_on : (i : ℕ) → all_answered backups log i ≡ true
-      → all_answered backups (more log a n) i ≡ true
+  answers_on : (i : ℕ) → all_answered backups log i ≡ true → all_answered backups (more log a n) i ≡ true
   answers_on i h =
       every_all (answered (more log a n) i) (i + 1) (backups - i) (λ l p q. elim (or_cases (noted (is_ok i l) log) (knows log i l) (every_at (answered log i) (i + 1) (backups - i) l h p q)) [
         | inl e ↦ or_left (noted (is_ok i l) (more log a n)) (knows (more log a n) i l) (or_right (is_ok i l n) (noted (is_ok i l) log) e)
@@ -190,8 +168,7 @@ module _ (backups writes : ℕ) (log : Log) (a : Act) (n : Note) (c : Case backu
   ready_on : (i : ℕ) (v : Val) → Ready backups log i v → Ready backups (more log a n) i v
   ready_on i v r = record { within = r.within; heir = heir_on i r.heir; answers = answers_on i r.answers; value = value_on i r.heir ∙ r.value }
 
-  has_new : (i j : ℕ) (m : Message) → Has (link (more log a n) i j) m
-      → Has (link log i j) m ⊎ Has (put n i j) m
+  has_new : (i j : ℕ) (m : Message) → Has (link (more log a n) i j) m → Has (link log i j) m ⊎ Has (put n i j) m
   has_new i j m h = elim (has_append (taken a i j (link log i j)) (put n i j) m h) [ inl x ↦ inl (has_taken a i j (link log i j) m x) | inr x ↦ inr x ]
 
   -- a stopped site puts nothing
@@ -248,16 +225,14 @@ module _ (backups writes : ℕ) (log : Log) (a : Act) (n : Note) (c : Case backu
         | inr p ↦ ap (λ z. taken a i j z ++ put n i j) (k.gone_empty i j p) ∙ ap (λ z. z ++ put n i j) (taken_nil a i j) ∙ put_free i j (k.gone_stopped i j p)
       ]
 
-  on_link_on : (i j : ℕ) (v : Val) → Has (link (more log a n) i j) (VALUE v)
-      → Sound (more log a n) i j v
+  on_link_on : (i j : ℕ) (v : Val) → Has (link (more log a n) i j) (VALUE v) → Sound (more log a n) i j v
   on_link_on i j v h =
       elim (has_new i j (VALUE v) h) [
         | inl x ↦ sound_on i j v (k.on_link i j v x)
         | inr x ↦ let t = tell_case backups writes log a i j v (subst (λ z. Case backups writes log a z) (put_value n i j v x) c) in sound_on i j v t.1
       ]
 
-  last_sound_on : (i j : ℕ) (v : Val) → last (more log a n) j ≡ Some (i, v)
-      → Sound (more log a n) i j v
+  last_sound_on : (i j : ℕ) (v : Val) → last (more log a n) j ≡ Some (i, v) → Sound (more log a n) i j v
   last_sound_on i j v e =
       elim (last_of_cases j n (last log j)) [
         | inl p ↦ sound_on i j v (k.last_sound i j v (sym p ∙ e))
@@ -286,8 +261,7 @@ module _ (backups writes : ℕ) (log : Log) (a : Act) (n : Note) (c : Case backu
             ]
       ]
 
-  ok_noted_on : (i j : ℕ) → noted (is_ok i j) (more log a n) ≡ true
-      → noted (is_value j i) (more log a n) ≡ true
+  ok_noted_on : (i j : ℕ) → noted (is_ok i j) (more log a n) ≡ true → noted (is_value j i) (more log a n) ≡ true
   ok_noted_on i j e =
       elim (or_cases (is_ok i j n) (noted (is_ok i j) log) e) [
         | inl p ↦
@@ -296,16 +270,14 @@ module _ (backups writes : ℕ) (log : Log) (a : Act) (n : Note) (c : Case backu
         | inr p ↦ or_right (is_value j i n) (noted (is_value j i) log) (k.ok_noted i j p)
       ]
 
-  ok_link_on : (i j : ℕ) → Has (link (more log a n) j i) OK
-      → noted (is_value j i) (more log a n) ≡ true
+  ok_link_on : (i j : ℕ) → Has (link (more log a n) j i) OK → noted (is_value j i) (more log a n) ≡ true
   ok_link_on i j h =
       elim (has_new j i OK h) [
         | inl x ↦ or_right (is_value j i n) (noted (is_value j i) log) (k.ok_link i j x)
         | inr x ↦ or_left (is_value j i n) (noted (is_value j i) log) (put_ok n j i x)
       ]
 
-  finished_on : (i : ℕ) (v : Val) → Stands (more log a n) (Finish i v)
-      → Ready backups (more log a n) i v
+  finished_on : (i : ℕ) (v : Val) → Stands (more log a n) (Finish i v) → Ready backups (more log a n) i v
   finished_on i v (inl e) = let h = finish_case backups writes log a i v (subst (λ z. Case backups writes log a z) e c) in ready_on i v h.0
   finished_on i v (inr s) = ready_on i v (k.finished i v s)
 

@@ -1,13 +1,5 @@
 -- An heir's value is never unknown.
-use Rattle.std.proofs.Common.{ℕ, zero, suc, ◌<◌, ◌==◌, ◌≡◌, ◌≢◌, Bool, true, false, List, Option, Some, None, refl, sym, ap, ◌∙◌, ◌⊎◌, inl, inr, arith}
-use Rattle.sdd_control.specs.Log.{Log, Stands}
-use Rattle.sdd_control.specs.Standing.{heir, last, value, value_by}
-use Rattle.sdd_control.specs.declared.value.Val.{Val}
-use Rattle.sdd_control.specs.declared.value.Val.TheVariants.{Unknown}
-use Rattle.sdd_control.specs.declared.note.Note.TheVariants.{Finish}
-use Rattle.sdd_control.specs.Laws.{NeverUnknown}
-use Rattle.sdd_control.specs.Steps.{FitAll, log_of}
-use Rattle.sdd_control.specs.declared.act.Act.{Act}
+use Rattle.sdd_control.proofs.All.{Act, Bool, Finish, FitAll, List, Log, NeverUnknown, None, Option, Some, Stands, Unknown, Val, ap, arith, false, heir, inl, inr, last, log_of, refl, suc, sym, true, value, value_by, zero, ℕ, ◌<◌, ◌==◌, ◌∙◌, ◌≡◌, ◌≢◌, ◌⊎◌}
 use Rattle.sdd_control.proofs.Kept.{Kept}
 use Rattle.sdd_control.proofs.Promises.{kept}
 

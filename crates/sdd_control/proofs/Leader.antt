@@ -1,24 +1,6 @@
 -- Where nothing is left to do, the lowest site that hasn't stopped has finished.
-use Rattle.std.proofs.Common.{ℕ, ◌+◌, ◌-◌, ◌<◌, ◌≤◌, ◌==◌, ◌≡◌, ◌≢◌, ◌&&◌, not, cond, Bool, true, false, List, [], ◌∷◌, Option, Some, None, drop, refl, sym, ap, ◌∙◌, subst, ◌⊎◌, inl, inr, arith, ltb→lt, T}
-use Rattle.std.proofs.lemmas.Bool.{cases_Bool, eqb-true}
-use Rattle.std.specs.Prelude.{nat_lt}
-use Rattle.sdd_control.specs.declared.message.Message.{Message}
-use Rattle.sdd_control.specs.Laws.{LeaderEnds, NoMessages, NoSends}
-use Rattle.sdd_control.specs.Links.{link, put, taken}
-use Rattle.sdd_control.specs.Log.{Log, noted}
-use Rattle.sdd_control.specs.NoteTests.{is_above, is_finish, is_gone, is_ok, is_stop, is_tell, is_value}
-use Rattle.sdd_control.specs.Sends.{all_answered, answered, send, untold, unwritten}
-use Rattle.sdd_control.specs.Standing.{heir, knows, leads, stopped, value}
-use Rattle.sdd_control.specs.Steps.{FitAll, log_after, log_of, note_of}
-use Rattle.sdd_control.specs.Stretches.{first_from}
-use Rattle.sdd_control.specs.declared.value.Val.{Val}
-use Rattle.sdd_control.specs.declared.note.Note.{Note}
-use Rattle.sdd_control.specs.declared.act.Act.{Act}
-use Rattle.sdd_control.specs.declared.value.Val.TheVariants.{Unknown, All, Nought}
-use Rattle.sdd_control.specs.declared.note.Note.TheVariants.{Nothing, Gone, Ok, Value}
-use Rattle.sdd_control.specs.declared.act.Act.TheVariants.{Step as Send, Deliver, Stop as Halt}
-use Rattle.sdd_control.specs.declared.message.Message.TheVariants.{Value as VALUE, Ok as OK, Gone as GONE}
-use Rattle.sdd_control.proofs.Lists.{and_left, and_right, and_both, or_cases, or_left, or_right, not_both, every_all, none_at, Has, has_left, has_right}
+use Rattle.sdd_control.proofs.All.{Act, All, Bool, Deliver, FitAll, GONE, Gone, Halt, LeaderEnds, List, Log, Message, NoMessages, NoSends, None, Note, Nothing, Nought, OK, Ok, Option, Send, Some, T, Unknown, VALUE, Val, Value, [], all_answered, and_both, answered, ap, arith, cases_Bool, cond, drop, eqb-true, false, first_from, heir, inl, inr, is_above, is_finish, is_gone, is_ok, is_stop, is_tell, is_value, knows, leads, link, log_after, log_of, ltb→lt, nat_lt, not, note_of, noted, or_left, or_right, put, refl, send, stopped, subst, sym, taken, true, untold, unwritten, value, ℕ, ◌&&◌, ◌+◌, ◌-◌, ◌<◌, ◌==◌, ◌∙◌, ◌∷◌, ◌≡◌, ◌≢◌, ◌≤◌, ◌⊎◌}
+use Rattle.sdd_control.proofs.Lists.{and_left, and_right, or_cases, not_both, every_all, none_at, Has, has_left, has_right}
 use Rattle.sdd_control.proofs.Cases.{Case, case_of}
 use Rattle.sdd_control.proofs.Cases.Case.{empty, dropped, learns, hears, ignores, takes}
 use Rattle.sdd_control.proofs.Puts.{same, same_itself, stop_is, tell_is, two_same}
@@ -158,7 +140,8 @@ module _ (backups writes : ℕ) (log : Log) (a : Act) (n : Note) (c : Case backu
       elim (or_cases (is_tell i j n) (noted (is_tell i j) log) e) [
         | inl p ↦
             let q = tell_is i j n p in
-            let h : Has (put n i j) (VALUE q.0) = subst (λ z. Has (put z i j) (VALUE q.0)) (sym q.1) (subst (λ z. Has (cond z (VALUE q.0 ∷ []) []) (VALUE q.0)) (sym (two_same i j)) (inl refl)) in
+            let h : Has (put n i j) (VALUE q.0) = subst (λ z. Has (put z i j) (VALUE q.0)) (sym q.1)
+            (subst (λ z. Has (cond z (VALUE q.0 ∷ []) []) (VALUE q.0)) (sym (two_same i j)) (inl refl)) in
             asked q.0 (has_right (taken a i j (link log i j)) (put n i j) (VALUE q.0) h)
         | inr p ↦ old (f.awaited i j p)
       ]
@@ -169,7 +152,8 @@ module _ (backups writes : ℕ) (log : Log) (a : Act) (n : Note) (c : Case backu
             | inl x ↦ asked v x
             | inr x ↦ elim (value_comes backups writes log i j n v x.0 x.2 x.1) [
               | inl q ↦
-                  let g : Has (put n j i) OK = subst (λ z. Has (put z j i) OK) (sym q.1) (subst (λ z. Has (cond z (OK ∷ []) []) OK) (sym (two_same j i)) (inl refl)) in
+                  let g : Has (put n j i) OK = subst (λ z. Has (put z j i) OK) (sym q.1)
+                  (subst (λ z. Has (cond z (OK ∷ []) []) OK) (sym (two_same j i)) (inl refl)) in
                   answering (has_right (taken a j i (link log j i)) (put n j i) OK g)
               | inr (inl q) ↦ none_there (stop_more j q)
               | inr (inr q) ↦ none_here (stop_more i (above_stopped backups writes log k i j q))
@@ -195,11 +179,12 @@ pub flows_after : (backups writes : ℕ) (log : Log) (acts : List Act) → Kept 
 flows_after backups writes log [] k g f = g
 flows_after backups writes log (a ∷ acts) k g f =
     let c : Case backups writes log a (note_of backups writes log a) = case_of backups writes log a f.0 in
-    flows_after backups writes (more log a (note_of backups writes log a)) acts (kept_on backups writes log a (note_of backups writes log a) c k) (flows_on backups writes log a (note_of backups writes log a) c k g) f.1
+    flows_after backups writes (more log a (note_of backups writes log a)) acts (kept_on backups writes log a (note_of backups writes log a) c k)
+    (flows_on backups writes log a (note_of backups writes log a) c k g) f.1
 
-pub flows : (backups writes : ℕ) (acts : List Act) → FitAll backups acts
-    → Flows (log_of backups writes acts)
-flows backups writes acts f = flows_after backups writes [] acts (kept_nil backups writes) (record { missed = λ l j d e. absurd (cc); awaited = λ i j e. absurd (cc) }) f
+pub flows : (backups writes : ℕ) (acts : List Act) → FitAll backups acts → Flows (log_of backups writes acts)
+flows backups writes acts f =
+    flows_after backups writes [] acts (kept_nil backups writes) (record { missed = λ l j d e. absurd (cc); awaited = λ i j e. absurd (cc) }) f
 
 -- a leader that send nothing has told all, and lacks an answer
 no_send : (i : ℕ) (to : Option ℕ) (all : Bool) (v : Val) (left : Option ℕ)
@@ -226,8 +211,7 @@ module _ (backups writes : ℕ) (log : Log) (f : Flows log) (q : NoMessages back
       by_case (known e) = e
       by_case (no_one e) = absurd (not_both (stopped log m) e up)
 
-  has_answered : (j : ℕ) → j ≤ backups → m < j → noted (is_tell m j) log ≡ true
-      → answered log m j ≡ true
+  has_answered : (j : ℕ) → j ≤ backups → m < j → noted (is_tell m j) log ≡ true → answered log m j ≡ true
   has_answered j b l t =
       elim (cases_Bool (stopped log j)) [
         | inl s ↦ or_right (noted (is_ok m j) log) (knows log m j) (knows_it j b (λ e. omega arith) s)
@@ -247,12 +231,15 @@ module _ (backups writes : ℕ) (log : Log) (f : Flows log) (q : NoMessages back
         | inl e ↦ e
         | inr e ↦
             let h : heir log m ≡ true = every_all (λ z. knows log m z) 0 m (λ l p r. knows_it l (omega arith) (λ w. omega arith) (low l (omega arith))) in
-            let b : (leads log m && not (noted (is_finish m) log)) ≡ true = and_both (leads log m) (not (noted (is_finish m) log)) (and_both (not (stopped log m)) (heir log m) (ap not up) h) (ap not e) in
-            let n : send m true (first_from (untold log m) (m + 1) (backups - m)) (all_answered backups log m) (value log m) (unwritten writes log m) ≡ Nothing =
+            let b : (leads log m && not (noted (is_finish m) log)) ≡ true = and_both (leads log m) (not (noted (is_finish m) log))
+            (and_both (not (stopped log m)) (heir log m) (ap not up) h) (ap not e) in
+            let n : send m true (first_from (untold log m) (m + 1) (backups - m)) (all_answered backups log m) (value log m)
+            (unwritten writes log m) ≡ Nothing =
             subst (λ z. send m z (first_from (untold log m) (m + 1) (backups - m)) (all_answered backups log m) (value log m) (unwritten writes log m) ≡ Nothing) b (r m in_range up) in
             let s = no_send m (first_from (untold log m) (m + 1) (backups - m)) (all_answered backups log m) (value log m) (unwritten writes log m) n in
             let all : all_answered backups log m ≡ true =
-            every_all (answered log m) (m + 1) (backups - m) (λ j p u. elim (told_or_known (noted (is_tell m j) log) (knows log m j) (none_at (untold log m) (m + 1) (backups - m) j s.0 p u)) [
+            every_all (answered log m) (m + 1) (backups - m)
+            (λ j p u. elim (told_or_known (noted (is_tell m j) log) (knows log m j) (none_at (untold log m) (m + 1) (backups - m) j s.0 p u)) [
               | inl t ↦ has_answered j (omega arith) (omega arith) t
               | inr t ↦ or_right (noted (is_ok m j) log) (knows log m j) t
             ]) in

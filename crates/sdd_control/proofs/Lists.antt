@@ -1,9 +1,5 @@
 -- Tests over stretches of numbers, and lists of messages.
-use Rattle.std.proofs.Common.{ℕ, zero, suc, ◌+◌, ◌<◌, ◌≤◌, ◌≡◌, ◌&&◌, ◌||◌, not, cond, Bool, true, false, List, [], ◌∷◌, ◌++◌, Some, None, drop, refl, sym, subst, ◌⊎◌, inl, inr, arith}
-use Rattle.std.proofs.lemmas.Bool.{cases_Bool, cases_lt}
-use Rattle.sdd_control.specs.declared.message.Message.{Message}
-use Rattle.sdd_control.specs.Stretches.{every_from, first_from}
-use Rattle.sdd_control.specs.declared.message.Message.TheVariants.{Value as VALUE, Ok as OK, Gone as GONE}
+use Rattle.sdd_control.proofs.All.{Bool, GONE, List, Message, None, OK, Some, VALUE, [], and_both, arith, cases_Bool, cases_lt, cond, drop, every_from, false, first_from, inl, inr, not, refl, subst, suc, sym, true, zero, ℕ, ◌&&◌, ◌++◌, ◌+◌, ◌<◌, ◌||◌, ◌∷◌, ◌≡◌, ◌≤◌, ◌⊎◌}
 
 pub and_left : (a b : Bool) → (a && b) ≡ true → a ≡ true
 and_left true b e = refl
@@ -13,21 +9,9 @@ pub and_right : (a b : Bool) → (a && b) ≡ true → b ≡ true
 and_right true b e = e
 and_right false b e = absurd (cc)
 
-pub and_both : (a b : Bool) → a ≡ true → b ≡ true → (a && b) ≡ true
-and_both true b p q = q
-and_both false b p q = p
-
 pub or_cases : (a b : Bool) → (a || b) ≡ true → (a ≡ true) ⊎ (b ≡ true)
 or_cases true b e = inl refl
 or_cases false b e = inr e
-
-pub or_left : (a b : Bool) → a ≡ true → (a || b) ≡ true
-or_left true b e = refl
-or_left false b e = absurd (cc)
-
-pub or_right : (a b : Bool) → b ≡ true → (a || b) ≡ true
-or_right true b e = refl
-or_right false b e = e
 
 pub not_true : (a : Bool) → not a ≡ true → a ≡ false
 not_true true e = absurd (cc)
@@ -44,13 +28,12 @@ every_at p k (suc n) j e l m =
       | inr h ↦ let q : k ≡ j = omega arith in subst (λ z. p z ≡ true) q (and_left (p k) (every_from p (k + 1) n) e)
     ]
 
-pub every_all : (p : ℕ → Bool) (k n : ℕ) → ((j : ℕ) → k ≤ j → j < k + n → p j ≡ true)
-    → every_from p k n ≡ true
+pub every_all : (p : ℕ → Bool) (k n : ℕ) → ((j : ℕ) → k ≤ j → j < k + n → p j ≡ true) → every_from p k n ≡ true
 every_all p k zero h = refl
-every_all p k (suc n) h = and_both (p k) (every_from p (k + 1) n) (h k (omega arith) (omega arith)) (every_all p (k + 1) n (λ j l m. h j (omega arith) (omega arith)))
+every_all p k (suc n) h =
+    and_both (p k) (every_from p (k + 1) n) (h k (omega arith) (omega arith)) (every_all p (k + 1) n (λ j l m. h j (omega arith) (omega arith)))
 
-pub first_at : (p : ℕ → Bool) (k n j : ℕ) → first_from p k n ≡ Some j
-    → (k ≤ j) × (j < k + n) × (p j ≡ true)
+pub first_at : (p : ℕ → Bool) (k n j : ℕ) → first_from p k n ≡ Some j → (k ≤ j) × (j < k + n) × (p j ≡ true)
 first_at p k zero j e = absurd (cc)
 first_at p k (suc n) j e =
     elim (cases_Bool (p k)) [
@@ -63,8 +46,7 @@ first_at p k (suc n) j e =
           let l = h.0 in let m = h.1 in (omega arith, omega arith, h.2)
     ]
 
-pub first_before : (p : ℕ → Bool) (k n j m : ℕ) → first_from p k n ≡ Some j → k ≤ m → m < j
-    → p m ≡ false
+pub first_before : (p : ℕ → Bool) (k n j m : ℕ) → first_from p k n ≡ Some j → k ≤ m → m < j → p m ≡ false
 first_before p k zero j m e l u = absurd (cc)
 first_before p k (suc n) j m e l u =
     elim (cases_Bool (p k)) [

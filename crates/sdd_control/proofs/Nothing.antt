@@ -1,15 +1,10 @@
 -- The tables before the first event.
-use Rattle.std.proofs.Common.{ℕ, ◌+◌, ◌*◌, ◌<◌, ◌≤◌, ◌≡◌, false, List, [], None, replicate, get_or, ap, ◌∙◌, arith}
-use Rattle.std.proofs.lemmas.List.{get_or-replicate}
-use Rattle.sdd_control.specs.State.{Tracks}
-use Rattle.sdd_control.specs.declared.state.State.{State}
+use Rattle.sdd_control.proofs.All.{List, None, State, Tracks, [], ap, arith, false, get_or, get_or-replicate, replicate, ℕ, ◌*◌, ◌+◌, ◌<◌, ◌∙◌, ◌≡◌, ◌≤◌}
 
-same_everywhere : {A : Type 0} (xs : List A) (n i : ℕ) (x : A) → xs ≡ replicate n x → i < n
-    → get_or xs i x ≡ x
+same_everywhere : {A : Type 0} (xs : List A) (n i : ℕ) (x : A) → xs ≡ replicate n x → i < n → get_or xs i x ≡ x
 same_everywhere xs n i x is within = ap (λ z. get_or z i x) is ∙ get_or-replicate n i x x within
 
-pub tracks_nothing : (st : State)
-    → st.backups ≤ 8 → st.stopped ≡ replicate 9 false → st.finished ≡ replicate 9 false
+pub tracks_nothing : (st : State) → st.backups ≤ 8 → st.stopped ≡ replicate 9 false → st.finished ≡ replicate 9 false
     → st.values ≡ replicate 9 None → st.numbers ≡ replicate 9 0
     → st.known ≡ replicate 81 false → st.told ≡ replicate 81 false → st.heard ≡ replicate 81 false
     → st.links ≡ replicate 81 [] → st.most ≡ 0 → Tracks st []

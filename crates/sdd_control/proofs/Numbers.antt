@@ -1,21 +1,10 @@
 -- The numbers that a site wrote are those from 1 to its last.
-use Rattle.std.proofs.Common.{ℕ, zero, suc, ◌+◌, ◌<◌, ◌≤◌, ◌==◌, ◌≡◌, ◌&&◌, not, cond, Bool, true, false, List, [], ◌∷◌, refl, sym, ap, ◌∙◌, subst, ◌⊎◌, inl, inr, arith, T, le-leb, leb→le}
-use Rattle.std.proofs.lemmas.Bool.{cases_Bool, cases_lt}
-use Rattle.std.specs.Prelude.{nat_lt, nat_le}
-use Rattle.std.proofs.lemmas.Bool.Decides.{nat_tests}
-use Rattle.sdd_control.specs.Stretches.{count_from}
+use Rattle.sdd_control.proofs.All.{Act, Bool, FitAll, List, Log, Note, T, Write, [], ap, arith, cases_Bool, cases_lt, cond, count_from, false, greatest, greatest_of, inl, inr, is_number, is_write, last_number, last_number_of, le-leb, leb→le, log_after, log_of, nat_le, nat_lt, nat_tests, not, not_false, note_of, noted, or_left, or_right, refl, subst, suc, sym, true, zero, ℕ, ◌&&◌, ◌+◌, ◌<◌, ◌==◌, ◌∙◌, ◌∷◌, ◌≡◌, ◌≤◌, ◌⊎◌}
 use Rattle.sdd_control.proofs.Promises.{number_noted}
-use Rattle.sdd_control.specs.Log.{Log, noted}
-use Rattle.sdd_control.specs.NoteTests.{is_number, is_write}
-use Rattle.sdd_control.specs.State.{greatest, greatest_of, last_number, last_number_of}
-use Rattle.sdd_control.specs.Steps.{FitAll, log_after, log_of, note_of}
-use Rattle.sdd_control.specs.declared.act.Act.{Act}
-use Rattle.sdd_control.specs.declared.note.Note.{Note}
-use Rattle.sdd_control.specs.declared.note.Note.TheVariants.{Write}
 use Rattle.sdd_control.proofs.Cases.{Case, case_of}
-use Rattle.sdd_control.proofs.Kept.{more, not_false, write_case}
-use Rattle.sdd_control.proofs.Lists.{and_both, and_right, first_at, first_before, not_true, or_cases, or_left, or_right}
-use Rattle.sdd_control.proofs.Puts.{same, same_itself, two_same}
+use Rattle.sdd_control.proofs.Kept.{more, write_case}
+use Rattle.sdd_control.proofs.Lists.{and_right, first_at, first_before, not_true, or_cases}
+use Rattle.sdd_control.proofs.Puts.{same, two_same}
 
 pub record Numbered (writes : ℕ) (log : Log) : Type 0 where
   pub within : (i k : ℕ) → noted (is_write i k) log ≡ true → (1 ≤ k) × (k ≤ last_number log i)
@@ -36,8 +25,7 @@ number_cases i (Write a b) before =
 number_cases i _ before = inl (refl, λ k. refl)
 
 write_same : (i k m : ℕ) (n : Note) → n ≡ Write i m → is_write i k n ≡ true → m ≡ k
-write_same i k m n e f =
-    same m k (and_right (i == i) (m == k) (subst (λ z. is_write i k z ≡ true) e f))
+write_same i k m n e f = same m k (and_right (i == i) (m == k) (subst (λ z. is_write i k z ≡ true) e f))
 
 module _ (backups writes : ℕ) (log : Log) (a : Act) (n : Note)
     (c : Case backups writes log a n) (h : Numbered writes log) where
@@ -63,8 +51,7 @@ module _ (backups writes : ℕ) (log : Log) (a : Act) (n : Note)
             absurd (cc)
       ]
 
-  within_on : (i k : ℕ) → noted (is_write i k) (more log a n) ≡ true
-      → (1 ≤ k) × (k ≤ last_number (more log a n) i)
+  within_on : (i k : ℕ) → noted (is_write i k) (more log a n) ≡ true → (1 ≤ k) × (k ≤ last_number (more log a n) i)
   within_on i k e =
       elim (number_cases i n (last_number log i)) [
         | inl x ↦ elim (or_cases (is_write i k n) (noted (is_write i k) log) e) [
@@ -81,8 +68,7 @@ module _ (backups writes : ℕ) (log : Log) (a : Act) (n : Note)
             ]
       ]
 
-  wrote_on : (i k : ℕ) → 1 ≤ k → k ≤ last_number (more log a n) i
-      → noted (is_write i k) (more log a n) ≡ true
+  wrote_on : (i k : ℕ) → 1 ≤ k → k ≤ last_number (more log a n) i → noted (is_write i k) (more log a n) ≡ true
   wrote_on i k l u =
       elim (cases_lt (last_number log i) k) [
         | inr v ↦ or_right (is_write i k n) (noted (is_write i k) log) (h.wrote i k l v)
@@ -126,20 +112,6 @@ pub numbered : (backups writes : ℕ) (acts : List Act)
     → FitAll backups acts → Numbered writes (log_of backups writes acts)
 numbered backups writes acts f = numbered_after backups writes [] acts (numbered_nil writes) f
 
--- a number that was written was written by some site
-number_by : (k : ℕ) (log : Log) → noted (is_number k) log ≡ true
-    → (i : ℕ) × (noted (is_write i k) log ≡ true)
-number_by k [] e = absurd (cc)
-number_by k (x ∷ log) e =
-    elim (or_cases (is_number k x.note) (noted (is_number k) log) e) [
-      | inl h ↦ let g = here x.note h in (g.0, or_left (is_write g.0 k x.note) (noted (is_write g.0 k) log) g.1)
-      | inr h ↦ let g = number_by k log h in (g.0, or_right (is_write g.0 k x.note) (noted (is_write g.0 k) log) g.1)
-    ]
-  where
-    here : (n : Note) → is_number k n ≡ true → (i : ℕ) × (is_write i k n ≡ true)
-    here (Write a b) q = (a, and_both (a == a) (b == k) (same_itself a) q)
-    here _ q = absurd (cc)
-
 greater : (b before : ℕ)
     → ((cond (nat_lt before b) b before ≡ b) × (before ≤ b)) ⊎ ((cond (nat_lt before b) b before ≡ before) × (b ≤ before))
 greater b before =
@@ -178,8 +150,7 @@ at_most_greatest k (x ∷ log) e =
     ]
 
 -- the greatest number was written, if there is one
-greatest_by : (log : Log) → 1 ≤ greatest log
-    → (i : ℕ) × (noted (is_write i (greatest log)) log ≡ true)
+greatest_by : (log : Log) → 1 ≤ greatest log → (i : ℕ) × (noted (is_write i (greatest log)) log ≡ true)
 greatest_by [] l = absurd (omega arith)
 greatest_by (x ∷ log) l =
     elim (greatest_cases x.note (greatest log)) [
@@ -225,8 +196,7 @@ module _ (writes : ℕ) (log : Log) (h : Numbered writes log) where
 above_fails : (g k : ℕ) → g < k → nat_le k g ≡ false
 above_fails g k l = grind (arith, nat_tests)
 
-count_none : (p : ℕ → Bool) (g k n : ℕ) → ((j : ℕ) → k ≤ j → p j ≡ nat_le j g) → g < k
-    → count_from p k n ≡ 0
+count_none : (p : ℕ → Bool) (g k n : ℕ) → ((j : ℕ) → k ≤ j → p j ≡ nat_le j g) → g < k → count_from p k n ≡ 0
 count_none p g k zero same l = refl
 count_none p g k (suc n) same l =
     let f : p k ≡ false = same k (omega arith) ∙ above_fails g k l in

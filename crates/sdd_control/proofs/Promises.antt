@@ -1,18 +1,6 @@
 -- One value, and all or none.
-use Rattle.std.proofs.Common.{ℕ, ◌+◌, zero, suc, ◌-◌, ◌<◌, ◌≤◌, ◌==◌, ◌≡◌, true, List, [], ◌∷◌, sym, ap, ◌∙◌, inl, inr, arith}
-use Rattle.std.proofs.lemmas.Bool.{cases_lt, cases_eq}
-use Rattle.sdd_control.specs.Laws.{AllWritten, NoneWritten, OneValue}
-use Rattle.sdd_control.specs.Log.{Log, noted}
-use Rattle.sdd_control.specs.NoteTests.{is_number, is_ok, is_write}
-use Rattle.sdd_control.specs.Sends.{answered}
-use Rattle.sdd_control.specs.Standing.{heir, knows, value, value_by}
-use Rattle.sdd_control.specs.Steps.{FitAll, log_after, log_of, note_of}
-use Rattle.sdd_control.specs.declared.value.Val.{Val}
-use Rattle.sdd_control.specs.declared.note.Note.{Note}
-use Rattle.sdd_control.specs.declared.act.Act.{Act}
-use Rattle.sdd_control.specs.declared.value.Val.TheVariants.{All, Nought}
-use Rattle.sdd_control.specs.declared.note.Note.TheVariants.{Write}
-use Rattle.sdd_control.proofs.Lists.{or_cases, every_at, and_right, or_left, or_right}
+use Rattle.sdd_control.proofs.All.{Act, All, AllWritten, FitAll, List, Log, NoneWritten, Note, Nought, OneValue, Val, Write, [], answered, ap, arith, cases_eq, cases_lt, heir, inl, inr, is_number, is_ok, is_write, knows, log_after, log_of, note_of, noted, or_left, or_right, suc, sym, true, value, value_by, zero, ℕ, ◌+◌, ◌-◌, ◌<◌, ◌==◌, ◌∙◌, ◌∷◌, ◌≡◌, ◌≤◌}
+use Rattle.sdd_control.proofs.Lists.{or_cases, every_at, and_right}
 use Rattle.sdd_control.proofs.Cases.{case_of}
 use Rattle.sdd_control.proofs.Kept.{Kept, Ready, kept_nil, kept_on, heir_at, more}
 
@@ -20,7 +8,8 @@ pub kept_after : (backups writes : ℕ) (log : Log) (acts : List Act) → Kept b
     → FitAll backups acts → Kept backups writes (log_after backups writes log acts)
 kept_after backups writes log [] k f = k
 kept_after backups writes log (a ∷ acts) k f =
-    kept_after backups writes (more log a (note_of backups writes log a)) acts (kept_on backups writes log a (note_of backups writes log a) (case_of backups writes log a f.0) k) f.1
+    kept_after backups writes (more log a (note_of backups writes log a)) acts
+    (kept_on backups writes log a (note_of backups writes log a) (case_of backups writes log a f.0) k) f.1
 
 pub kept : (backups writes : ℕ) (acts : List Act) → FitAll backups acts
     → Kept backups writes (log_of backups writes acts)
@@ -31,8 +20,7 @@ number_is i n (Write a b) e = and_right (a == i) (b == n) e
 number_is i n _ e = absurd (cc)
 
 -- a number that a site wrote is written
-pub number_noted : (i n : ℕ) (xs : Log) → noted (is_write i n) xs ≡ true
-    → noted (is_number n) xs ≡ true
+pub number_noted : (i n : ℕ) (xs : Log) → noted (is_write i n) xs ≡ true → noted (is_number n) xs ≡ true
 number_noted i n [] e = e
 number_noted i n (x ∷ xs) e =
     elim (or_cases (is_write i n x.note) (noted (is_write i n) xs) e) [
@@ -54,7 +42,8 @@ module _ (backups writes : ℕ) (log : Log) (k : Kept backups writes log) where
             let now : value log j ≡ t.val = ap (λ z. value_by z (j == 0) (heir log j)) t.is in
             elim (cases_eq i t.from) [
               | inl q ↦ now ∙ sym s.value ∙ ap (value log) (sym q) ∙ r.value
-              | inr q ↦ now ∙ sym s.value ∙ agree n i v r t.from (let m = s.below in omega arith) (let m = t.least in omega arith) (let m = s.below in omega arith) s.heir
+              | inr q ↦ now ∙ sym s.value ∙ agree n i v r t.from (let m = s.below in omega arith) (let m = t.least in omega arith)
+                  (let m = s.below in omega arith) s.heir
             ]
         | inr e ↦ absurd (k.never_both i j known e)
       ]
@@ -80,10 +69,8 @@ module _ (backups writes : ℕ) (log : Log) (k : Kept backups writes log) where
   pub all_written : AllWritten writes log
   all_written i n s l u = number_noted i n log (k.all_written i n s l u)
 
-pub one_value_of : (backups writes : ℕ) (acts : List Act)
-    → FitAll backups acts → OneValue (log_of backups writes acts)
-one_value_of backups writes acts f =
-    one_value backups writes (log_of backups writes acts) (kept backups writes acts f)
+pub one_value_of : (backups writes : ℕ) (acts : List Act) → FitAll backups acts → OneValue (log_of backups writes acts)
+one_value_of backups writes acts f = one_value backups writes (log_of backups writes acts) (kept backups writes acts f)
 
 pub all_written_of : (backups writes : ℕ) (acts : List Act)
     → FitAll backups acts → AllWritten writes (log_of backups writes acts)

@@ -1,17 +1,6 @@
 -- What a note puts on a link, and the tests of a note.
-use Rattle.std.proofs.Common.{ℕ, ◌==◌, ◌≡◌, ◌&&◌, not, cond, Bool, true, false, List, [], ◌∷◌, drop, refl, sym, ap, subst, ◌⊎◌, inl, inr, eq-eqb}
-use Rattle.std.proofs.lemmas.Bool.{cases_Bool, eqb-true}
-use Rattle.sdd_control.specs.declared.message.Message.{Message}
-use Rattle.sdd_control.specs.Links.{put, taken}
-use Rattle.sdd_control.specs.Log.{Log, Stands, noted}
-use Rattle.sdd_control.specs.NoteTests.{is_gone, is_ok, is_stop, is_tell, is_value}
-use Rattle.sdd_control.specs.declared.value.Val.{Val}
-use Rattle.sdd_control.specs.declared.note.Note.{Note}
-use Rattle.sdd_control.specs.declared.act.Act.{Act}
-use Rattle.sdd_control.specs.declared.note.Note.TheVariants.{Tell, Gone, Ok, Value, Stop}
-use Rattle.sdd_control.specs.declared.act.Act.TheVariants.{Deliver}
-use Rattle.sdd_control.specs.declared.message.Message.TheVariants.{Value as VALUE, Ok as OK, Gone as GONE}
-use Rattle.sdd_control.proofs.Lists.{and_left, and_right, and_both, or_left, or_right, Has, Tidy, has_drop, has_cond, tidy_cond}
+use Rattle.sdd_control.proofs.All.{Act, Bool, Deliver, GONE, Gone, List, Log, Message, Note, OK, Ok, Stands, Stop, Tell, VALUE, Val, Value, [], and_both, ap, cases_Bool, cond, drop, eq-eqb, eqb-true, false, inl, inr, is_gone, is_ok, is_stop, is_tell, is_value, not, noted, or_left, or_right, put, refl, subst, sym, taken, true, ℕ, ◌&&◌, ◌==◌, ◌∷◌, ◌≡◌, ◌⊎◌}
+use Rattle.sdd_control.proofs.Lists.{and_left, and_right, Has, Tidy, has_drop, has_cond, tidy_cond}
 
 pub same : (a b : ℕ) → (a == b) ≡ true → a ≡ b
 same a b e = eqb-true a b e
@@ -89,8 +78,7 @@ put_by (Stop a) i j =
     ]
 put_by _ i j = inl refl
 
-pub has_taken : (a : Act) (i j : ℕ) (xs : List Message) (m : Message) → Has (taken a i j xs) m
-    → Has xs m
+pub has_taken : (a : Act) (i j : ℕ) (xs : List Message) (m : Message) → Has (taken a i j xs) m → Has xs m
 has_taken (Deliver a b) i j xs m h = by_test ((a == i) && (b == j)) h
   where
     by_test : (c : Bool) → Has (cond c (drop 1 xs) xs) m → Has xs m
@@ -109,8 +97,7 @@ taken_nil (Deliver a b) i j = by_test ((a == i) && (b == j))
     by_test false = refl
 taken_nil _ i j = refl
 
-pub tidy_taken : (a : Act) (i j : ℕ) (xs : List Message) → Tidy xs → Tidy (drop 1 xs)
-    → Tidy (taken a i j xs)
+pub tidy_taken : (a : Act) (i j : ℕ) (xs : List Message) → Tidy xs → Tidy (drop 1 xs) → Tidy (taken a i j xs)
 tidy_taken (Deliver a b) i j xs t u = by_test ((a == i) && (b == j))
   where
     by_test : (c : Bool) → Tidy (cond c (drop 1 xs) xs)
@@ -119,8 +106,7 @@ tidy_taken (Deliver a b) i j xs t u = by_test ((a == i) && (b == j))
 tidy_taken _ i j xs t u = t
 
 -- what stands is noted
-pub stands_noted : (p : Note → Bool) (n : Note) (log : Log) → p n ≡ true → Stands log n
-    → noted p log ≡ true
+pub stands_noted : (p : Note → Bool) (n : Note) (log : Log) → p n ≡ true → Stands log n → noted p log ≡ true
 stands_noted p n [] e s = elim s [ ]
 stands_noted p n (x ∷ log) e (inl q) = or_left (p x.note) (noted p log) (subst (λ z. p z ≡ true) (sym q) e)
 stands_noted p n (x ∷ log) e (inr s) = or_right (p x.note) (noted p log) (stands_noted p n log e s)

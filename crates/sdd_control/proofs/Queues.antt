@@ -1,9 +1,5 @@
 -- Queues in a list, seen as lists of messages.
-use Rattle.std.proofs.Common.{ℕ, ◌<◌, ◌≡◌, List, [], get_or, length, map, set, sym, ap, ◌∙◌, subst}
-use Rattle.std.proofs.lemmas.List.{get_or-map, length-map, map-set}
-use Rattle.std.specs.declared.alloc.Global.{Global}
-use Rattle.std.specs.declared.collections.VecDeque.{VecDeque}
-use Rattle.sdd_control.specs.declared.message.Message.{Message}
+use Rattle.sdd_control.proofs.All.{Global, List, Message, VecDeque, [], ap, get_or, get_or-map, length, length-map, map, map-set, set, subst, sym, ℕ, ◌<◌, ◌∙◌, ◌≡◌}
 
 abbrev pub Queue : Type 0
 Queue = VecDeque Message Global
@@ -14,8 +10,7 @@ messages_of queue = queue.items
 -- one queue of a list is changed
 pub queue_changed : (change : List Message → List Message) (queues : List Queue)
     (lists : List (List Message)) (at : ℕ) (old new : Queue)
-    → map messages_of queues ≡ lists → at < length lists → old ≡ get_or queues at old
-    → new.items ≡ change old.items
+    → map messages_of queues ≡ lists → at < length lists → old ≡ get_or queues at old → new.items ≡ change old.items
     → map messages_of (set queues at new) ≡ set lists at (change (get_or lists at []))
 queue_changed change queues lists at old new view within is changed =
     let within_queues : at < length queues =

@@ -1,31 +1,11 @@
 -- A script that a file gives is sound.
-use Rattle.std.proofs.Common.{ℕ, ◌+◌, ◌<◌, ◌≤◌, ◌≡◌, ◌^◌, ◌==◌, ◌&&◌, not, cond, Bool, true, false, List, [], ◌∷◌, ◌++◌, length, Option, Some, None, Result, Ok, Err, refl, sym, ap, subst, arith, T, ltb→lt, leb→le, length-append, eq-eqb}
-use Rattle.std.specs.Prelude.{ℤ, pos, negsuc, nat_lt, nat_le, IfOk}
-use Rattle.sdd_control.specs.Faults.{Tells}
-use Rattle.sdd_script.specs.declared.fault.WorkError.{WorkError}
-use Rattle.sdd_script.specs.declared.fault.WorkFault.{WorkFault}
-use Rattle.sdd_script.specs.declared.fault.Counts.TheVariants.{Event}
-use Rattle.sdd_script.specs.declared.fault.WorkRule.{WorkRule}
-use Rattle.sdd_script.specs.declared.fault.WorkRule.TheVariants.{BadEvent, BadLine, BadNumber, NoEnd, NotUtf8, TooLong, TooMany}
-use Rattle.std.specs.List.{list_all}
-use Rattle.std.specs.Str.{is_utf8}
-use Rattle.sdd_script.specs.All.{Plain, Quoted, Word, cut_lines, is_free, is_sound, known, must, number_of, words_of, ◌>>=◌}
-use Rattle.sdd_control.specs.Keys.{key_of}
-use Rattle.sdd_control.specs.LineRules.{delivery_of, end_of, event_rules, head_of, head_rules, key_rules, line_rules, most_events, number_within, site_number, site_of, sound_rules, with_act, within, words_rules}
-use Rattle.sdd_control.specs.Script.{IsSound}
-use Rattle.sdd_control.specs.Steps.{FitAll, Fits}
-use Rattle.sdd_control.specs.Walk.{at_line, control_script, is_ended, most_bytes, nothing_read, one_line, tail_rules, walk, walk_bytes}
-use Rattle.sdd_control.specs.declared.act.Act.{Act}
-use Rattle.sdd_control.specs.declared.act.Act.TheVariants.{Step, Deliver, Stop}
-use Rattle.sdd_control.specs.Draft.{Draft}
-use Rattle.sdd_control.specs.declared.stage.Head.{Head}
-use Rattle.sdd_control.specs.declared.stage.Stage.{Stage}
-use Rattle.sdd_control.specs.declared.stage.Stage.TheVariants.{First, Events, Ended}
-use Rattle.sdd_control.specs.declared.key.Key.{Key}
-use Rattle.sdd_control.specs.declared.key.Key.TheVariants as keys
-use Rattle.sdd_control.specs.declared.script.ControlScript.{ControlScript}
+use Rattle.sdd_control.proofs.All.{Act, BadEvent, BadLine, BadNumber, Bool, ControlScript, Deliver, Draft, Ended, Err, Event, Events, First, FitAll, Fits, Halt as Stop, Head, IfOk, IsSound, Key, List, NoEnd, None, NotUtf8, Option, Plain, Quoted, Result, Send as Step, Some, Stage, T, Tells, TooLong, TooMany, Word, WorkError, WorkFault, WorkRule, [], ap, arith, at_line, cond, control_script, cut_lines, delivery_of, end_of, eq-eqb, event_rules, false, head_of, head_rules, is_ended, is_free, is_sound, is_utf8, key_of, key_rules, known, leb→le, length, length-append, list_all, ltb→lt, most_bytes, most_events, must, nat_le, nat_lt, negsuc, not, nothing_read, number_of, number_within, one_line, pos, refl, site_number, site_of, sound_rules, subst, sym, tail_rules, true, walk_bytes, with_act, within, words_of, words_rules, ℕ, ℤ, ◌&&◌, ◌++◌, ◌+◌, ◌<◌, ◌==◌, ◌>>=◌, ◌^◌, ◌∷◌, ◌≡◌, ◌≤◌}
+use Rattle.sdd_control.specs.LineRules.{line_rules}
+use Rattle.sdd_control.specs.Walk.{walk}
 use Rattle.sdd_control.proofs.Following.{FitAll-append}
 use Rattle.sdd_control.proofs.Lists.{and_left, and_right}
+use Rattle.std.proofs.Common.{Ok}
+use Rattle.sdd_control.specs.declared.key.Key.TheVariants as keys
 
 -- what a reading that ends well gives passes the test
 abbrev pub Gets : {A F : Type 0} → (A → Type 0) → Result A F → Type 0
@@ -62,8 +42,7 @@ pub record IsDraft (draft : Draft) : Type 0 where
   pub few : length draft.acts ≤ 2 ^ 18
   pub fits : StageFits draft.stage draft.acts
 
-within_range : (least most : ℕ) (o : Option ℤ) (n : ℕ) → within least most o ≡ Some n
-    → (least ≤ n) × (n ≤ most)
+within_range : (least most : ℕ) (o : Option ℤ) (n : ℕ) → within least most o ≡ Some n → (least ≤ n) × (n ≤ most)
 within_range least most (Some (pos m)) n e = by_test (nat_le least m) (nat_le m most) refl refl e
   where
     by_test : (a b : Bool) → nat_le least m ≡ a → nat_le m most ≡ b
@@ -79,7 +58,8 @@ within_range least most (Some (negsuc m)) n e = absurd (cc)
 within_range least most None n e = absurd (cc)
 
 number_gets : (least most : ℕ) (word : Word) → Gets (λ n. (least ≤ n) × (n ≤ most)) (number_within least most word)
-number_gets least most (Plain bytes) = gets_known (λ n. (least ≤ n) × (n ≤ most)) BadNumber (within least most (number_of bytes)) (λ n e. within_range least most (number_of bytes) n e)
+number_gets least most (Plain bytes) =
+    gets_known (λ n. (least ≤ n) × (n ≤ most)) BadNumber (within least most (number_of bytes)) (λ n e. within_range least most (number_of bytes) n e)
 number_gets least most (Quoted text) = tt
 
 head_gets : (words : List Word) → Gets IsHead (head_of words)
@@ -147,18 +127,17 @@ act_gets head draft act at d f =
     (λ _. Ok (record draft { acts = draft.acts ++ act ∷ [] }))
     (gets_must (TooMany Event) (nat_lt (length draft.acts) most_events))
     (λ _ e. record {
-      few = let l : length draft.acts < 2 ^ 18 = ltb→lt (length draft.acts) (2 ^ 18) (subst T (sym e) tt) in omega (arith, length-append draft.acts (act ∷ []));
+      few = let l : length draft.acts < 2 ^ 18 = ltb→lt (length draft.acts) (2 ^ 18) (subst T (sym e) tt) in omega
+          (arith, length-append draft.acts (act ∷ []));
       fits = subst (λ z. StageFits z (draft.acts ++ act ∷ [])) (sym at) (fits.0, FitAll-append head.backups draft.acts act fits.1 f);
     })
 
-end_gets : (head : Head) (draft : Draft) (words : List Word) → draft.stage ≡ Events head
-    → IsDraft draft
+end_gets : (head : Head) (draft : Draft) (words : List Word) → draft.stage ≡ Events head → IsDraft draft
     → Gets IsDraft (end_of head draft words)
 end_gets head draft [] at d = record { few = d.few; fits = subst (λ z. StageFits z draft.acts) at d.fits }
 end_gets head draft _ at d = tt
 
-event_gets : (key : Key) (head : Head) (draft : Draft) (words : List Word)
-    → draft.stage ≡ Events head
+event_gets : (key : Key) (head : Head) (draft : Draft) (words : List Word) → draft.stage ≡ Events head
     → IsDraft draft → Gets IsDraft (event_rules key head draft words)
 event_gets keys.Step head draft words at d =
     gets_on (λ i. i ≤ head.backups) IsDraft (site_of head.backups words) (λ i. with_act draft (Step i))
@@ -187,8 +166,7 @@ key_gets First key draft words at d = first_gets key draft words at d
 key_gets (Events head) key draft words at d = event_gets key head draft words at d
 key_gets (Ended head) key draft words at d = tt
 
-words_gets : (draft : Draft) (words : List Word) → IsDraft draft
-    → Gets IsDraft (words_rules draft words)
+words_gets : (draft : Draft) (words : List Word) → IsDraft draft → Gets IsDraft (words_rules draft words)
 words_gets draft [] d = tt
 words_gets draft (first ∷ words) d =
     gets_on (λ key. key_of first ≡ Some key) IsDraft (known BadLine (key_of first)) (λ key. key_rules draft.stage key draft words)
@@ -220,8 +198,7 @@ no_script : (b : Bool) → Gets IsSound (cond b (Err NoEnd) (Err NotUtf8))
 no_script true = tt
 no_script false = tt
 
-tail_gets : (stage : Stage) (acts : List Act) (tail : List ℕ) → length acts ≤ 2 ^ 18
-    → StageFits stage acts
+tail_gets : (stage : Stage) (acts : List Act) (tail : List ℕ) → length acts ≤ 2 ^ 18 → StageFits stage acts
     → Gets IsSound (tail_rules stage acts tail)
 tail_gets (Ended head) acts [] few fits =
     let h = fits.0 in
@@ -241,8 +218,7 @@ tail_gets (Events head) acts (c ∷ cs) few fits = no_script (is_utf8 (c ∷ cs)
 
 at_line_gets : {A : Type 0} (P : A → Type 0) (line : ℕ) (reading : Result A WorkRule)
     (read_on : A → Result ControlScript WorkFault)
-    → Gets P reading → ((x : A) → P x → Gets IsSound (read_on x))
-    → Gets IsSound (at_line line reading read_on)
+    → Gets P reading → ((x : A) → P x → Gets IsSound (read_on x)) → Gets IsSound (at_line line reading read_on)
 at_line_gets P line (Ok x) read_on h on = on x h
 at_line_gets P line (Err rule) read_on h on = tt
 
@@ -265,7 +241,6 @@ script_gets bytes = by_test (nat_lt most_bytes (length bytes))
         walk_gets 1 nothing_read (cut_lines bytes).0 (cut_lines bytes).1 (record { few = omega arith; fits = refl })
 
 -- what was read is sound
-pub told_sound : (bytes : List ℕ) (r : Result ControlScript WorkError)
-    → Tells r (control_script bytes) → IfOk r IsSound
+pub told_sound : (bytes : List ℕ) (r : Result ControlScript WorkError) → Tells r (control_script bytes) → IfOk r IsSound
 told_sound bytes (Ok script) t = subst (Gets IsSound) t (script_gets bytes)
 told_sound bytes (Err e) t = tt

@@ -1,25 +1,5 @@
 -- What the tables say is what the log says.
-use Rattle.std.proofs.Common.{ℕ, zero, suc, ◌+◌, ◌-◌, ◌==◌, ◌<◌, ◌≤◌, ◌≡◌, ◌&&◌, ◌||◌, not, cond, Bool, true, false, List, [], ◌∷◌, ◌++◌, Option, Some, None, refl, sym, ap, ◌∙◌, inl, inr, arith, lt-ltb}
-use Rattle.std.proofs.lemmas.Bool.{cases_Bool, cases_lt}
-use Rattle.std.proofs.lemmas.Bool.Decides.{nat_tests}
-use Rattle.std.specs.Prelude.{nat_lt}
-use Rattle.sdd_control.specs.Links.{link, put, taken}
-use Rattle.sdd_control.specs.Log.{Log, noted}
-use Rattle.sdd_control.specs.NoteTests.{is_finish, is_gone, is_ok, is_stop, is_tell, is_write}
-use Rattle.sdd_control.specs.Sends.{all_answered, answered, next_send, next_untold, send, untold, unwritten}
-use Rattle.sdd_control.specs.Standing.{finished, heir, knows, last, last_of, leads, stopped, value, value_by}
-use Rattle.sdd_control.specs.State.{Adds, NoteFits, Takes, Tracks, answered_in, arrival_in, greatest_of, has_finished, has_heard, has_stopped, has_told, heir_in, is_from_above, knows_in, last_number, last_number_in, last_number_of, may_send, messages_in, next_number_in, next_send_in, note_in, number_after, taken_in, untold_in, value_in}
-use Rattle.sdd_control.specs.Steps.{Fits, arrival, note_of}
-use Rattle.sdd_control.specs.Stretches.{every_from, first_from}
-use Rattle.sdd_control.specs.declared.act.Act.{Act}
-use Rattle.sdd_control.specs.declared.act.Act.TheVariants.{Step as Send, Deliver, Stop as Halt}
-use Rattle.sdd_control.specs.declared.message.Message.{Message}
-use Rattle.sdd_control.specs.declared.message.Message.TheVariants.{Value as VALUE, Ok as OK, Gone as GONE}
-use Rattle.sdd_control.specs.declared.note.Note.{Note}
-use Rattle.sdd_control.specs.declared.note.Note.TheVariants.{Nothing, Stop}
-use Rattle.sdd_control.specs.declared.state.State.{State}
-use Rattle.sdd_control.specs.declared.value.Val.{Val}
-use Rattle.sdd_control.specs.declared.value.Val.TheVariants.{Unknown, All, Nought}
+use Rattle.sdd_control.proofs.All.{Act, Adds, All, Bool, Deliver, Fits, GONE, Halt, List, Log, Message, None, Note, NoteFits, Nothing, Nought, OK, Option, Send, Some, State, Stop, Takes, Tracks, Unknown, VALUE, Val, [], all_answered, answered, answered_in, ap, arith, arrival, arrival_in, cases_Bool, cases_lt, cond, every_from, false, finished, first_from, greatest_of, has_finished, has_heard, has_stopped, has_told, heir, heir_in, inl, inr, is_finish, is_from_above, is_gone, is_ok, is_stop, is_tell, is_write, knows, knows_in, last, last_number, last_number_in, last_number_of, last_of, leads, link, lt-ltb, may_send, messages_in, nat_lt, nat_tests, next_number_in, next_send, next_send_in, next_untold, not, note_in, note_of, noted, number_after, put, refl, send, stopped, suc, sym, taken, taken_in, true, untold, untold_in, unwritten, value, value_by, value_in, zero, ℕ, ◌&&◌, ◌++◌, ◌+◌, ◌-◌, ◌<◌, ◌==◌, ◌||◌, ◌∙◌, ◌∷◌, ◌≡◌, ◌≤◌}
 use Rattle.sdd_control.proofs.Above.{above_is_last}
 use Rattle.sdd_control.proofs.Kept.{Kept}
 use Rattle.sdd_control.proofs.Lists.{first_at}
@@ -40,8 +20,7 @@ first_same p q k (suc n) same =
     ∙ ap (cond (q k) (Some k)) (first_same p q (k + 1) n (λ j l m. same j (omega arith) (omega arith)))
 
 -- the first number that passes is c + 1
-first_after : (p : ℕ → Bool) (c k n : ℕ) → ((j : ℕ) → k ≤ j → j ≤ c → p j ≡ false)
-    → p (c + 1) ≡ true → k ≤ c + 1
+first_after : (p : ℕ → Bool) (c k n : ℕ) → ((j : ℕ) → k ≤ j → j ≤ c → p j ≡ false) → p (c + 1) ≡ true → k ≤ c + 1
     → first_from p k n ≡ cond (nat_lt (c + 1) (k + n)) (Some (c + 1)) None
 first_after p c k zero below here l =
     let f : nat_lt (c + 1) (k + 0) ≡ false = grind (arith, nat_tests) in
@@ -92,8 +71,7 @@ send_same i a b c d e = cc
 
 module _ (st : State) (log : Log) (t : Tracks st log) where
   heir_same : (i : ℕ) → i ≤ st.backups → heir_in st i ≡ heir log i
-  heir_same i l =
-      every_same (knows_in st i) (λ z. knows log i z) 0 i (λ j m u. t.known i j l (omega arith))
+  heir_same i l = every_same (knows_in st i) (λ z. knows log i z) 0 i (λ j m u. t.known i j l (omega arith))
 
   pub value_same : (i : ℕ) → i ≤ st.backups → value_in st i ≡ value log i
   value_same i l =
@@ -105,8 +83,7 @@ module _ (st : State) (log : Log) (t : Tracks st log) where
       ap (λ z. not z && not (knows_in st i j)) (t.told i j l m)
       ∙ ap (λ z. not (noted (is_tell i j) log) && not z) (t.known i j l m)
 
-  answered_same : (i j : ℕ) → i ≤ st.backups → j ≤ st.backups
-      → answered_in st i j ≡ answered log i j
+  answered_same : (i j : ℕ) → i ≤ st.backups → j ≤ st.backups → answered_in st i j ≡ answered log i j
   answered_same i j l m =
       ap (λ z. z || knows_in st i j) (t.heard i j l m)
       ∙ ap (λ z. noted (is_ok i j) log || z) (t.known i j l m)
@@ -129,10 +106,8 @@ module _ (st : State) (log : Log) (t : Tracks st log) where
       ∙ ap (λ z. not (stopped log i) && z && not (has_finished st i)) (heir_same i l)
       ∙ ap (λ z. leads log i && not z) (t.finished i l)
 
-  next_number_same : Numbered st.writes log → (i : ℕ) → i ≤ st.backups
-      → next_number_in st i ≡ unwritten st.writes log i
-  next_number_same h i l =
-      ap (number_after st.writes) (t.numbers i l) ∙ sym (number_after_last st.writes log h i)
+  next_number_same : Numbered st.writes log → (i : ℕ) → i ≤ st.backups → next_number_in st i ≡ unwritten st.writes log i
+  next_number_same h i l = ap (number_after st.writes) (t.numbers i l) ∙ sym (number_after_last st.writes log h i)
 
   next_send_same : Numbered st.writes log → (i : ℕ) → i ≤ st.backups
       → next_send_in st i ≡ next_send st.backups st.writes log i
@@ -175,13 +150,11 @@ arrival_fits backups false (OK ∷ rest) above i j l m = (m, l)
 arrival_fits backups false (VALUE v ∷ rest) true i j l m = tt
 arrival_fits backups false (VALUE v ∷ rest) false i j l m = (m, l)
 
-halt_fits : (backups i : ℕ) (halted : Bool) → i ≤ backups
-    → NoteFits backups (cond halted Nothing (Stop i))
+halt_fits : (backups i : ℕ) (halted : Bool) → i ≤ backups → NoteFits backups (cond halted Nothing (Stop i))
 halt_fits backups i true l = tt
 halt_fits backups i false l = l
 
-pub note_fits : (st : State) (act : Act) → Fits st.backups act
-    → NoteFits st.backups (note_in st act)
+pub note_fits : (st : State) (act : Act) → Fits st.backups act → NoteFits st.backups (note_in st act)
 note_fits st (Send i) l =
     send_fits st.backups i (may_send st i) (first_from (untold_in st i) (i + 1) (st.backups - i))
     (every_from (answered_in st i) (i + 1) (st.backups - i)) (value_in st i) (next_number_in st i) l
@@ -192,17 +165,23 @@ note_fits st (Halt i) l = halt_fits st.backups i (has_stopped st i) l
 
 -- the tables follow the log with one event more
 pub tracks_on : (old mid new : State) (log : Log) (act : Act) (note : Note)
-    → Tracks old log → Takes old mid act → Adds mid new note
-    → Tracks new (record { act = act; note = note } ∷ log)
+    → Tracks old log → Takes old mid act → Adds mid new note → Tracks new (record { act = act; note = note } ∷ log)
 tracks_on old mid new log act note t taking adding = record {
-  stopped = λ i l. adding.stopped i (up i l) ∙ ap (λ z. is_stop i note || has_stopped z i) taking.others ∙ ap (λ z. is_stop i note || z) (t.stopped i (back i l));
-  finished = λ i l. adding.finished i (up i l) ∙ ap (λ z. is_finish i note || has_finished z i) taking.others ∙ ap (λ z. is_finish i note || z) (t.finished i (back i l));
+  stopped = λ i l. adding.stopped i (up i l) ∙ ap (λ z. is_stop i note || has_stopped z i) taking.others
+      ∙ ap (λ z. is_stop i note || z) (t.stopped i (back i l));
+  finished = λ i l. adding.finished i (up i l) ∙ ap (λ z. is_finish i note || has_finished z i) taking.others
+      ∙ ap (λ z. is_finish i note || z) (t.finished i (back i l));
   values = λ i l. adding.values i (up i l) ∙ ap (λ z. last_of i note (taken_in z i)) taking.others ∙ ap (last_of i note) (t.values i (back i l));
-  numbers = λ i l. adding.numbers i (up i l) ∙ ap (λ z. last_number_of i note (last_number_in z i)) taking.others ∙ ap (last_number_of i note) (t.numbers i (back i l));
-  known = λ i j l m. adding.known i j (up i l) (up j m) ∙ ap (λ z. is_gone i j note || knows_in z i j) taking.others ∙ ap (λ z. is_gone i j note || z) (t.known i j (back i l) (back j m));
-  told = λ i j l m. adding.told i j (up i l) (up j m) ∙ ap (λ z. is_tell i j note || has_told z i j) taking.others ∙ ap (λ z. is_tell i j note || z) (t.told i j (back i l) (back j m));
-  heard = λ i j l m. adding.heard i j (up i l) (up j m) ∙ ap (λ z. is_ok i j note || has_heard z i j) taking.others ∙ ap (λ z. is_ok i j note || z) (t.heard i j (back i l) (back j m));
-  links = λ i j l m. adding.links i j (up i l) (up j m) ∙ ap (λ z. z ++ put note i j) (taking.links i j (back i l) (back j m)) ∙ ap (λ z. taken act i j z ++ put note i j) (t.links i j (back i l) (back j m));
+  numbers = λ i l. adding.numbers i (up i l) ∙ ap (λ z. last_number_of i note (last_number_in z i)) taking.others
+      ∙ ap (last_number_of i note) (t.numbers i (back i l));
+  known = λ i j l m. adding.known i j (up i l) (up j m) ∙ ap (λ z. is_gone i j note || knows_in z i j) taking.others
+      ∙ ap (λ z. is_gone i j note || z) (t.known i j (back i l) (back j m));
+  told = λ i j l m. adding.told i j (up i l) (up j m) ∙ ap (λ z. is_tell i j note || has_told z i j) taking.others
+      ∙ ap (λ z. is_tell i j note || z) (t.told i j (back i l) (back j m));
+  heard = λ i j l m. adding.heard i j (up i l) (up j m) ∙ ap (λ z. is_ok i j note || has_heard z i j) taking.others
+      ∙ ap (λ z. is_ok i j note || z) (t.heard i j (back i l) (back j m));
+  links = λ i j l m. adding.links i j (up i l) (up j m) ∙ ap (λ z. z ++ put note i j) (taking.links i j (back i l) (back j m))
+      ∙ ap (λ z. taken act i j z ++ put note i j) (t.links i j (back i l) (back j m));
   most = adding.most ∙ ap (λ (z : State). greatest_of note z.most) taking.others ∙ ap (greatest_of note) t.most;
 }
   where

@@ -1,18 +1,15 @@
 -- Stretches of numbers, one number after the other.
-use Rattle.std.proofs.Common.{ℕ, suc, ◌+◌, ◌-◌, ◌<◌, ◌≤◌, ◌≡◌, ◌&&◌, cond, Bool, true, false, Some, None, ap, ◌∙◌, arith}
-use Rattle.sdd_control.specs.Stretches.{every_from, first_from}
+use Rattle.sdd_control.proofs.All.{Bool, None, Some, ap, arith, cond, every_from, false, first_from, suc, true, ℕ, ◌&&◌, ◌+◌, ◌-◌, ◌<◌, ◌∙◌, ◌≡◌, ◌≤◌}
 
 left_one : (k e : ℕ) → k < e → e - k ≡ suc (e - (k + 1))
 left_one k e l = omega arith
 
 pub every_fails : (p : ℕ → Bool) (k e : ℕ) → k < e → p k ≡ false → every_from p k (e - k) ≡ false
-every_fails p k e l f =
-    ap (every_from p k) (left_one k e l) ∙ ap (λ b. b && every_from p (k + 1) (e - (k + 1))) f
+every_fails p k e l f = ap (every_from p k) (left_one k e l) ∙ ap (λ b. b && every_from p (k + 1) (e - (k + 1))) f
 
 pub every_goes_on : (p : ℕ → Bool) (k e : ℕ) → k < e → p k ≡ true
     → every_from p k (e - k) ≡ every_from p (k + 1) (e - (k + 1))
-every_goes_on p k e l t =
-    ap (every_from p k) (left_one k e l) ∙ ap (λ b. b && every_from p (k + 1) (e - (k + 1))) t
+every_goes_on p k e l t = ap (every_from p k) (left_one k e l) ∙ ap (λ b. b && every_from p (k + 1) (e - (k + 1))) t
 
 pub every_ends : (p : ℕ → Bool) (k e : ℕ) → e ≤ k → every_from p k (e - k) ≡ true
 every_ends p k e l = let z : e - k ≡ 0 = omega arith in ap (every_from p k) z

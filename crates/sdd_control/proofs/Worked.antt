@@ -1,15 +1,5 @@
 -- Two runs: a commit that a backup carries to its end, and one that it gives up.
-use Rattle.std.proofs.Common.{ℕ, ◌≡◌, List, [], ◌∷◌, refl, true, false, zero, suc, arith}
-use Rattle.sdd_control.specs.Control.{run_of, written}
-use Rattle.sdd_control.specs.Laws.{NoMessages, NoSends}
-use Rattle.sdd_control.specs.Log.{Log}
-use Rattle.sdd_control.specs.Standing.{finished, stopped, value}
-use Rattle.sdd_control.specs.Steps.{happened, log_of, note_of}
-use Rattle.sdd_control.specs.declared.act.Act.{Act}
-use Rattle.sdd_control.specs.declared.act.Act.TheVariants.{Step as Send, Deliver, Stop as Halt}
-use Rattle.sdd_control.specs.declared.note.Note.{Note}
-use Rattle.sdd_control.specs.declared.note.Note.TheVariants.{Tell, Write, Finish, Gone, Ok, Value, Stop}
-use Rattle.sdd_control.specs.declared.value.Val.TheVariants.{All, Nought}
+use Rattle.sdd_control.proofs.All.{Act, All, Deliver, Finish, Gone, Halt, List, Log, NoMessages, NoSends, Note, Nought, Ok, Send, Stop, Tell, Value, Write, [], arith, false, finished, happened, log_of, note_of, refl, run_of, stopped, suc, true, value, written, zero, ℕ, ◌∷◌, ◌≡◌}
 
 -- the notes that events get, the first to happen first
 abbrev notes_after : ℕ → ℕ → Log → List Act → List Note

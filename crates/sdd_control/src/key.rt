@@ -1,7 +1,7 @@
 ghost use Rattle.std.specs.Prelude.{◌≡◌};
 ghost use Rattle.sdd_control.specs.Keys.{key_in, key_of};
 
-use sdd_script::sdd_words::Word;
+use sdd_script::sdd_words::Token;
 
 /// The first word of a line.
 #[derive(Clone, Copy, Debug, PartialEq, Eq)]
@@ -32,11 +32,11 @@ fn key_in(bytes: &[u8]) -> Option<Key>
 }
 
 /// The key that a word is, or None exactly where it is none. Takes no memory.
-pub fn key_of(word: &Word) -> Option<Key>
+pub fn key_of(word: &Token<'_>) -> Option<Key>
     ensures { result ≡ key_of word.now }
 {
-    match word {
-        Word::Plain(bytes) => key_in(bytes.as_slice()),
-        Word::Quoted(_) => None,
+    match word.plain() {
+        Some(bytes) => key_in(bytes),
+        None => None,
     }
 }

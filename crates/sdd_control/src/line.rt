@@ -11,7 +11,7 @@ use crate::key::{Key, key_of};
 use crate::limits::{MAX_BACKUPS, MAX_WRITES};
 use crate::stage::{Head, Stage};
 use sdd_script::sdd_base::MAX_EVENTS;
-use sdd_script::sdd_words::{Word, are_sound, number_in, split_line, stands_free, text_of};
+use sdd_script::sdd_words::{Token, Tokens, are_sound, number_in, stands_free, text_of, words_of};
 use sdd_script::{Counts, WorkRule};
 use std::alloc::Global;
 
@@ -33,52 +33,49 @@ fn number_in_bytes(least: u32, most: u32, bytes: &[u8]) -> Option<u32>
     }
 }
 
-fn read_number(least: u32, most: u32, word: &Word) -> Result<u32, LineError>
+fn read_number(least: u32, most: u32, word: &Token<'_>) -> Result<u32, LineError>
     ensures { Gives (λ n. n) result (number_within least most word.now) }
 {
-    match word {
-        Word::Plain(bytes) => known(
-            WorkRule::BadNumber,
-            number_in_bytes(least, most, bytes.as_slice()),
-        ),
-        Word::Quoted(_) => broken(WorkRule::BadNumber),
+    match word.plain() {
+        Some(bytes) => known(WorkRule::BadNumber, number_in_bytes(least, most, bytes)),
+        None => broken(WorkRule::BadNumber),
     }
 }
 
-fn read_site_number(word: &Word) -> Result<u32, LineError>
+fn read_site_number(word: &Token<'_>) -> Result<u32, LineError>
     ensures { Gives (λ n. n) result (site_number word.now) }
 {
     read_number(0, u32::MAX, word)
 }
 
-fn read_head(words: &[Word]) -> Result<Head, LineError>
-    ensures { Gives (λ head. head) result (head_of words.now) }
+fn read_head(words: &mut Tokens<'_>) -> Result<Head, LineError>
+    ensures { Gives (λ head. head) result (head_of words.old) }
 {
-    match words {
-        [backups, writes] => {
+    match words.only_two() {
+        Some((backups, writes)) => {
             must(
                 WorkRule::BadLine,
-                stands_free(backups) && stands_free(writes),
+                stands_free(&backups) && stands_free(&writes),
             )?;
-            let backups = read_number(1, MAX_BACKUPS, backups)?;
-            let writes = read_number(1, MAX_WRITES, writes)?;
+            let backups = read_number(1, MAX_BACKUPS, &backups)?;
+            let writes = read_number(1, MAX_WRITES, &writes)?;
             Ok(Head { backups, writes })
         }
-        _ => broken(WorkRule::BadLine),
+        None => broken(WorkRule::BadLine),
     }
 }
 
-fn read_site(backups: u32, words: &[Word]) -> Result<u32, LineError>
-    ensures { Gives (λ site. site) result (site_of backups words.now) }
+fn read_site(backups: u32, words: &mut Tokens<'_>) -> Result<u32, LineError>
+    ensures { Gives (λ site. site) result (site_of backups words.old) }
 {
-    match words {
-        [site] => {
-            must(WorkRule::BadLine, stands_free(site))?;
-            let site = read_site_number(site)?;
+    match words.only_one() {
+        Some(site) => {
+            must(WorkRule::BadLine, stands_free(&site))?;
+            let site = read_site_number(&site)?;
             must(WorkRule::BadEvent, site <= backups)?;
             Ok(site)
         }
-        _ => broken(WorkRule::BadLine),
+        None => broken(WorkRule::BadLine),
     }
 }
 
@@ -88,18 +85,18 @@ fn are_linked(backups: u32, from: u32, to: u32) -> bool
     from <= backups && to <= backups && from != to
 }
 
-fn read_delivery(backups: u32, words: &[Word]) -> Result<Act, LineError>
-    ensures { Gives (λ act. act) result (delivery_of backups words.now) }
+fn read_delivery(backups: u32, words: &mut Tokens<'_>) -> Result<Act, LineError>
+    ensures { Gives (λ act. act) result (delivery_of backups words.old) }
 {
-    match words {
-        [from, to] => {
-            must(WorkRule::BadLine, stands_free(from) && stands_free(to))?;
-            let from = read_site_number(from)?;
-            let to = read_site_number(to)?;
+    match words.only_two() {
+        Some((from, to)) => {
+            must(WorkRule::BadLine, stands_free(&from) && stands_free(&to))?;
+            let from = read_site_number(&from)?;
+            let to = read_site_number(&to)?;
             must(WorkRule::BadEvent, are_linked(backups, from, to))?;
             Ok(Act::Deliver(from, to))
         }
-        _ => broken(WorkRule::BadLine),
+        None => broken(WorkRule::BadLine),
     }
 }
 
@@ -111,20 +108,25 @@ fn add_act(draft: &mut Draft, act: Act) -> Result<(), LineError>
     Ok(())
 }
 
-fn read_end(head: Head, draft: &mut Draft, words: &[Word]) -> Result<(), LineError>
-    ensures { Gives (λ _. draft.new) result (end_of head draft.old words.now) }
+fn read_end(head: Head, draft: &mut Draft, words: &mut Tokens<'_>) -> Result<(), LineError>
+    ensures { Gives (λ _. draft.new) result (end_of head draft.old words.old) }
 {
-    match words {
-        [] => {
+    match words.next() {
+        None => {
             draft.set_stage(Stage::Ended(head));
             Ok(())
         }
-        _ => broken(WorkRule::BadLine),
+        Some(_) => broken(WorkRule::BadLine),
     }
 }
 
-fn read_event_line(key: Key, head: Head, draft: &mut Draft, words: &[Word]) -> Result<(), LineError>
-    ensures { Gives (λ _. draft.new) result (event_rules key head draft.old words.now) }
+fn read_event_line(
+    key: Key,
+    head: Head,
+    draft: &mut Draft,
+    words: &mut Tokens<'_>,
+) -> Result<(), LineError>
+    ensures { Gives (λ _. draft.new) result (event_rules key head draft.old words.old) }
 {
     match key {
         Key::Step => {
@@ -144,8 +146,8 @@ fn read_event_line(key: Key, head: Head, draft: &mut Draft, words: &[Word]) -> R
     }
 }
 
-fn read_first_line(key: Key, draft: &mut Draft, words: &[Word]) -> Result<(), LineError>
-    ensures { Gives (λ _. draft.new) result (head_rules key draft.old words.now) }
+fn read_first_line(key: Key, draft: &mut Draft, words: &mut Tokens<'_>) -> Result<(), LineError>
+    ensures { Gives (λ _. draft.new) result (head_rules key draft.old words.old) }
 {
     match key {
         Key::Control => {
@@ -157,8 +159,8 @@ fn read_first_line(key: Key, draft: &mut Draft, words: &[Word]) -> Result<(), Li
     }
 }
 
-fn read_key_line(key: Key, draft: &mut Draft, words: &[Word]) -> Result<(), LineError>
-    ensures { Gives (λ _. draft.new) result (key_rules draft.old.stage key draft.old words.now) }
+fn read_key_line(key: Key, draft: &mut Draft, words: &mut Tokens<'_>) -> Result<(), LineError>
+    ensures { Gives (λ _. draft.new) result (key_rules draft.old.stage key draft.old words.old) }
 {
     match draft.stage() {
         Stage::First => read_first_line(key, draft, words),
@@ -167,22 +169,26 @@ fn read_key_line(key: Key, draft: &mut Draft, words: &[Word]) -> Result<(), Line
     }
 }
 
-fn read_words(draft: &mut Draft, words: &[Word]) -> Result<(), LineError>
-    ensures { Gives (λ _. draft.new) result (words_rules draft.old words.now) }
+fn read_words(draft: &mut Draft, words: &mut Tokens<'_>) -> Result<(), LineError>
+    ensures { Gives (λ _. draft.new) result (words_rules draft.old words.old) }
 {
-    match words {
-        [] => broken(WorkRule::BadLine),
-        [first, words @ ..] => {
-            let key = known(WorkRule::BadLine, key_of(first))?;
+    match words.next() {
+        None => broken(WorkRule::BadLine),
+        Some(first) => {
+            let key = known(WorkRule::BadLine, key_of(&first))?;
             read_key_line(key, draft, words)
         }
     }
 }
 
-fn read_sound_words(draft: &mut Draft, words: &[Word]) -> Result<(), LineError>
-    ensures { Gives (λ _. draft.new) result (sound_rules draft.old words.now) }
+fn read_sound_words(
+    alloc: Global,
+    draft: &mut Draft,
+    words: &mut Tokens<'_>,
+) -> Result<(), LineError>
+    ensures { Gives (λ _. draft.new) result (sound_rules draft.old words.old) }
 {
-    must(WorkRule::BadLine, are_sound(words))?;
+    must(WorkRule::BadLine, are_sound(alloc, words)?)?;
     read_words(draft, words)
 }
 
@@ -193,10 +199,9 @@ pub fn read_line(alloc: Global, draft: &mut Draft, line: &[u8]) -> Result<(), Li
 {
     match text_of(line) {
         None => broken(WorkRule::NotUtf8),
-        Some(_) => match split_line(alloc, line) {
-            Ok(Some(words)) => read_sound_words(draft, words.as_slice()),
-            Ok(None) => broken(WorkRule::BadLine),
-            Err(_) => Err(LineError::NoMemory),
+        Some(_) => match words_of(line) {
+            Some(mut words) => read_sound_words(alloc, draft, &mut words),
+            None => broken(WorkRule::BadLine),
         },
     }
 }

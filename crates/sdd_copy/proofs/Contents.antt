@@ -1,21 +1,6 @@
 -- What the write rule leaves is what the dated changes make of each item.
-use Rattle.std.proofs.Common.{ℕ, ℤ, Bool, true, false, cond, List, [], ◌∷◌, ◌++◌, map, ◌≡◌, refl, ap, ◌∙◌, sym, subst, append-nil, append_assoc, Option, Some, None, arith}
-use Rattle.std.specs.Prelude.{nat_lt}
-use Rattle.std.specs.Bool.{if◌then◌else◌}
-use Rattle.std.specs.List.{fold, filter_map}
-use Rattle.std.proofs.lemmas.List.Sums.{fold-append}
-use Rattle.std.proofs.lemmas.Bool.Decides.{nat_tests}
-use Rattle.std.specs.declared.cmp.Ordering.{Ordering}
-use Rattle.std.specs.declared.cmp.Ordering.TheVariants.{Less, Equal, Greater}
-use Rattle.std.specs.Ordering.{is_eq, match_ordering, ordering_reverse, int_cmp}
-use Rattle.std.proofs.lemmas.Map.Lookups.{exact_signed}
-use Rattle.std.proofs.lemmas.Cmp.{int_cmp_total}
-use Rattle.std.specs.Map.{lookup}
-use Rattle.std.specs.BTreeMap.{insert_entry, is_at}
-use Rattle.std.specs.BTreeSet.{insert_key}
-use Rattle.sdd_lang.specs.All.{Change, Value}
-use Rattle.sdd_copy.specs.Contents.{Dated, newer, latest, row_left, keys_in, of_fragment, rows_left, contents}
-use Rattle.sdd_copy.specs.Items.{Items, is_newer, written, items_of, row_at, entries_in, rows_in}
+use Rattle.sdd_copy.proofs.All.{Bool, Change, Dated, Equal, Greater, Items, Less, List, None, Option, Ordering, Some, Value, [], ap, append-nil, append_assoc, arith, cond, contents, entries_in, exact_signed, false, filter_map, fold, fold-append, if◌then◌else◌, insert_entry, insert_key, int_cmp, int_cmp_total, is_at, is_eq, is_newer, items_of, keys_in, latest, lookup, map, match_ordering, nat_lt, nat_tests, newer, of_fragment, ordering_reverse, refl, row_at, row_left, rows_in, rows_left, subst, sym, true, written, ℕ, ℤ, ◌++◌, ◌∙◌, ◌∷◌, ◌≡◌}
+use Rattle.sdd_copy.proofs.Members.{same_either}
 
 abbrev Item : Type 0
 Item = ℕ × Option (List Value)
@@ -29,11 +14,6 @@ flipped a b e = int_cmp_total.antisymm b a ∙ ap ordering_reverse e
 
 flipped_less : (a b : ℤ) → int_cmp a b ≡ Less → int_cmp b a ≡ Greater
 flipped_less a b e = int_cmp_total.antisymm b a ∙ ap ordering_reverse e
-
-same_either : (o : Ordering) → is_eq (ordering_reverse o) ≡ is_eq o
-same_either Less = refl
-same_either Equal = refl
-same_either Greater = refl
 
 swapped : (a b : ℤ) → is_eq (int_cmp a b) ≡ is_eq (int_cmp b a)
 swapped a b = ap is_eq (int_cmp_total.antisymm a b) ∙ same_either (int_cmp b a)
@@ -71,7 +51,8 @@ above_insert j k v (e ∷ es) l h =
 ascends_insert : {X : Type 0} (k : ℤ) (v : X) (es : List (ℤ × X)) → Ascends es → Ascends (insert_entry int_cmp es k v)
 ascends_insert k v [] h = (tt, tt)
 ascends_insert k v (e ∷ es) h =
-    elim (int_cmp k e.0) as (λ o. int_cmp k e.0 ≡ o → Ascends (match_ordering o ((k, v) ∷ e ∷ es) ((e.0, v) ∷ es) (e ∷ insert_entry int_cmp es k v))) [
+    elim (int_cmp k e.0) as
+    (λ o. int_cmp k e.0 ≡ o → Ascends (match_ordering o ((k, v) ∷ e ∷ es) ((e.0, v) ∷ es) (e ∷ insert_entry int_cmp es k v))) [
       | Less ↦ λ p. ((p, above_all k e.0 es p h.0), h)
       | Equal ↦ λ p. h
       | Greater ↦ λ p. (above_insert e.0 k v es (flipped k e.0 p) h.0, ascends_insert k v es h.1)
@@ -83,7 +64,8 @@ keys es = map (λ e. e.0) es
 keys-insert : {X : Type 0} (k : ℤ) (v : X) (es : List (ℤ × X)) → keys (insert_entry int_cmp es k v) ≡ insert_key int_cmp (keys es) k
 keys-insert k v [] = refl
 keys-insert k v (e ∷ es) =
-    elim (int_cmp k e.0) as (λ o. keys (match_ordering o ((k, v) ∷ e ∷ es) ((e.0, v) ∷ es) (e ∷ insert_entry int_cmp es k v)) ≡ match_ordering o (k ∷ e.0 ∷ keys es) (e.0 ∷ keys es) (e.0 ∷ insert_key int_cmp (keys es) k)) [
+    elim (int_cmp k e.0) as
+    (λ o. keys (match_ordering o ((k, v) ∷ e ∷ es) ((e.0, v) ∷ es) (e ∷ insert_entry int_cmp es k v)) ≡ match_ordering o (k ∷ e.0 ∷ keys es) (e.0 ∷ keys es) (e.0 ∷ insert_key int_cmp (keys es) k)) [
       | Less ↦ refl
       | Equal ↦ refl
       | Greater ↦ ap (λ l. e.0 ∷ l) (keys-insert k v es)
@@ -94,16 +76,19 @@ above_none k [] h = refl
 above_none k (e ∷ es) h = rw h.0 (above_none k es h.1)
 
 -- a key that is there is not put again
-keys_same : {X : Type 0} (k : ℤ) (v : X) (es : List (ℤ × X)) → Ascends es → lookup (is_at (int_cmp k)) es ≡ Some v → insert_key int_cmp (keys es) k ≡ keys es
+keys_same : {X : Type 0} (k : ℤ) (v : X) (es : List (ℤ × X)) → Ascends es → lookup (is_at (int_cmp k)) es ≡ Some v
+    → insert_key int_cmp (keys es) k ≡ keys es
 keys_same k v [] h f = cc
 keys_same k v (e ∷ es) h f =
-    elim (int_cmp k e.0) as (λ o. int_cmp k e.0 ≡ o → cond (is_eq o) (Some e.1) (lookup (is_at (int_cmp k)) es) ≡ Some v → match_ordering o (k ∷ e.0 ∷ keys es) (e.0 ∷ keys es) (e.0 ∷ insert_key int_cmp (keys es) k) ≡ e.0 ∷ keys es) [
+    elim (int_cmp k e.0) as
+    (λ o. int_cmp k e.0 ≡ o → cond (is_eq o) (Some e.1) (lookup (is_at (int_cmp k)) es) ≡ Some v → match_ordering o (k ∷ e.0 ∷ keys es) (e.0 ∷ keys es) (e.0 ∷ insert_key int_cmp (keys es) k) ≡ e.0 ∷ keys es) [
       | Less ↦ λ p q. let none = above_none k es (above_all k e.0 es p h.0) in absurd cc
       | Equal ↦ λ p q. refl
       | Greater ↦ λ p q. ap (λ l. e.0 ∷ l) (keys_same k v es h.1 q)
     ] refl f
 
-either_way : {X : Type 0} (b c : Bool) (x y : X) (o : Option X) → (b ≡ true → c ≡ true → ⊥) → cond b (Some x) (cond c (Some y) o) ≡ cond c (Some y) (cond b (Some x) o)
+either_way : {X : Type 0} (b c : Bool) (x y : X) (o : Option X) → (b ≡ true → c ≡ true → ⊥)
+    → cond b (Some x) (cond c (Some y) o) ≡ cond c (Some y) (cond b (Some x) o)
 either_way true true x y o h = absurd (h refl refl)
 either_way true false x y o h = refl
 either_way false true x y o h = refl
@@ -118,12 +103,15 @@ eq_is Less e = cc
 eq_is Equal e = refl
 eq_is Greater e = cc
 
-lookup-insert : {X : Type 0} (q k : ℤ) (v : X) (es : List (ℤ × X)) → lookup (is_at (int_cmp q)) (insert_entry int_cmp es k v) ≡ cond (is_eq (int_cmp q k)) (Some v) (lookup (is_at (int_cmp q)) es)
+lookup-insert : {X : Type 0} (q k : ℤ) (v : X) (es : List (ℤ × X))
+    → lookup (is_at (int_cmp q)) (insert_entry int_cmp es k v) ≡ cond (is_eq (int_cmp q k)) (Some v) (lookup (is_at (int_cmp q)) es)
 lookup-insert q k v [] = refl
 lookup-insert {X} q k v (e ∷ es) =
-    elim (int_cmp k e.0) as (λ o. int_cmp k e.0 ≡ o → lookup (is_at (int_cmp q)) (match_ordering o ((k, v) ∷ e ∷ es) ((e.0, v) ∷ es) (e ∷ insert_entry int_cmp es k v)) ≡ cond (is_eq (int_cmp q k)) (Some v) (cond (is_eq (int_cmp q e.0)) (Some e.1) (lookup (is_at (int_cmp q)) es))) [
+    elim (int_cmp k e.0) as
+    (λ o. int_cmp k e.0 ≡ o → lookup (is_at (int_cmp q)) (match_ordering o ((k, v) ∷ e ∷ es) ((e.0, v) ∷ es) (e ∷ insert_entry int_cmp es k v)) ≡ cond (is_eq (int_cmp q k)) (Some v) (cond (is_eq (int_cmp q e.0)) (Some e.1) (lookup (is_at (int_cmp q)) es))) [
       | Less ↦ λ p. refl
-      | Equal ↦ λ p. let same : k ≡ e.0 = same_key k e.0 p in rw same (cond_twice (is_eq (int_cmp q e.0)) (Some v) (Some e.1) (lookup (is_at (int_cmp q)) es))
+      | Equal ↦ λ p. let same : k ≡ e.0 = same_key k e.0 p in rw same
+          (cond_twice (is_eq (int_cmp q e.0)) (Some v) (Some e.1) (lookup (is_at (int_cmp q)) es))
       | Greater ↦ λ p. ap (λ o. cond (is_eq (int_cmp q e.0)) (Some e.1) o) (lookup-insert q k v es)
           ∙ either_way (is_eq (int_cmp q e.0)) (is_eq (int_cmp q k)) e.1 v (lookup (is_at (int_cmp q)) es)
           (λ a b.
@@ -150,23 +138,26 @@ newer_later : (y x : ℕ × Change) (o : Option (ℕ × Change)) → newer y (la
 newer_later y x None = refl
 newer_later y x (Some z) =
     elim (nat_lt z.0 x.0) as (λ p. nat_lt z.0 x.0 ≡ p → newer y (cond p (Some x) (Some z)) ≡ later_of (cond (nat_lt y.0 z.0) (Some z) (Some y)) x) [
-      | true ↦ λ e. elim (nat_lt y.0 z.0) as (λ q. nat_lt y.0 z.0 ≡ q → cond (nat_lt y.0 x.0) (Some x) (Some y) ≡ later_of (cond q (Some z) (Some y)) x) [
-        | true ↦ λ f. rw (less_less y.0 z.0 x.0 f e, e) refl
-        | false ↦ λ f. refl
-      ] refl
+      | true ↦ λ e. elim (nat_lt y.0 z.0) as
+          (λ q. nat_lt y.0 z.0 ≡ q → cond (nat_lt y.0 x.0) (Some x) (Some y) ≡ later_of (cond q (Some z) (Some y)) x) [
+            | true ↦ λ f. rw (less_less y.0 z.0 x.0 f e, e) refl
+            | false ↦ λ f. refl
+          ] refl
       | false ↦ λ e. elim (nat_lt y.0 z.0) as (λ q. nat_lt y.0 z.0 ≡ q → cond q (Some z) (Some y) ≡ later_of (cond q (Some z) (Some y)) x) [
         | true ↦ λ f. rw e refl
         | false ↦ λ f. rw (not_less y.0 z.0 x.0 f e) refl
       ] refl
     ] refl
 
-one_step : (a b : Bool) (y x : ℕ × Change) (o m : Option (ℕ × Change)) → m ≡ (if b then later_of o x else o) → (if a then newer y m else m) ≡ (if b then later_of (if a then newer y o else o) x else (if a then newer y o else o))
+one_step : (a b : Bool) (y x : ℕ × Change) (o m : Option (ℕ × Change)) → m ≡ (if b then later_of o x else o)
+    → (if a then newer y m else m) ≡ (if b then later_of (if a then newer y o else o) x else (if a then newer y o else o))
 one_step true true y x o m e = rw e (newer_later y x o)
 one_step true false y x o m e = rw e refl
 one_step false true y x o m e = e
 one_step false false y x o m e = e
 
-latest_more : (k : ℤ) (ys : Dated) (x : ℕ × Change) → latest k (ys ++ x ∷ []) ≡ (if is_eq (int_cmp x.1.key k) then later_of (latest k ys) x else latest k ys)
+latest_more : (k : ℤ) (ys : Dated) (x : ℕ × Change)
+    → latest k (ys ++ x ∷ []) ≡ (if is_eq (int_cmp x.1.key k) then later_of (latest k ys) x else latest k ys)
 latest_more k [] x = refl
 latest_more k (y ∷ ys) x = one_step (is_eq (int_cmp y.1.key k)) (is_eq (int_cmp x.1.key k)) y x (latest k ys) (latest k (ys ++ x ∷ [])) (latest_more k ys x)
 
@@ -184,7 +175,8 @@ not_newer : (t : ℕ) (o : Option Item) → is_newer t o ≡ false → (v : Item
 not_newer t None e = absurd cc
 not_newer t (Some v) e = (v, refl)
 
-lookup_either : (b : Bool) (k : ℤ) (xs ys : Items) → lookup (is_at (int_cmp k)) (cond b xs ys) ≡ cond b (lookup (is_at (int_cmp k)) xs) (lookup (is_at (int_cmp k)) ys)
+lookup_either : (b : Bool) (k : ℤ) (xs ys : Items)
+    → lookup (is_at (int_cmp k)) (cond b xs ys) ≡ cond b (lookup (is_at (int_cmp k)) xs) (lookup (is_at (int_cmp k)) ys)
 lookup_either true k xs ys = refl
 lookup_either false k xs ys = refl
 
@@ -192,7 +184,8 @@ by_date : (b : Bool) (x y : ℕ × Change) → shown (cond b (Some x) (Some y)) 
 by_date true x y = refl
 by_date false x y = refl
 
-own_item : (o : Option (ℕ × Change)) (x : ℕ × Change) (m : Option Item) → shown o ≡ m → shown (later_of o x) ≡ cond (is_newer x.0 m) (Some (x.0, x.1.row)) m
+own_item : (o : Option (ℕ × Change)) (x : ℕ × Change) (m : Option Item) → shown o ≡ m
+    → shown (later_of o x) ≡ cond (is_newer x.0 m) (Some (x.0, x.1.row)) m
 own_item None x m e = rw (← e) refl
 own_item (Some y) x m e = rw (← e) (by_date (nat_lt y.0 x.0) x y)
 
@@ -200,13 +193,16 @@ cond_same : {X : Type 0} (b : Bool) (x : X) → x ≡ cond b x x
 cond_same true x = refl
 cond_same false x = refl
 
-lookup_written : (k : ℤ) (es : Items) (x : ℕ × Change) (e : Bool) → is_eq (int_cmp k x.1.key) ≡ e → lookup (is_at (int_cmp k)) (written es x) ≡ cond (is_newer x.0 (lookup (is_at (int_cmp x.1.key)) es)) (cond e (Some (x.0, x.1.row)) (lookup (is_at (int_cmp k)) es)) (lookup (is_at (int_cmp k)) es)
+lookup_written : (k : ℤ) (es : Items) (x : ℕ × Change) (e : Bool) → is_eq (int_cmp k x.1.key) ≡ e
+    → lookup (is_at (int_cmp k)) (written es x) ≡ cond (is_newer x.0 (lookup (is_at (int_cmp x.1.key)) es)) (cond e (Some (x.0, x.1.row)) (lookup (is_at (int_cmp k)) es)) (lookup (is_at (int_cmp k)) es)
 lookup_written k es x e q =
     let b : Bool = is_newer x.0 (lookup (is_at (int_cmp x.1.key)) es) in
     lookup_either b k (insert_entry int_cmp es x.1.key (x.0, x.1.row)) es
-    ∙ ap (λ o. cond b o (lookup (is_at (int_cmp k)) es)) (lookup-insert k x.1.key (x.0, x.1.row) es ∙ ap (λ c. cond c (Some (x.0, x.1.row)) (lookup (is_at (int_cmp k)) es)) q)
+    ∙ ap (λ o. cond b o (lookup (is_at (int_cmp k)) es))
+    (lookup-insert k x.1.key (x.0, x.1.row) es ∙ ap (λ c. cond c (Some (x.0, x.1.row)) (lookup (is_at (int_cmp k)) es)) q)
 
-row_more : (ys : Dated) (es : Items) (x : ℕ × Change) (k : ℤ) (b : Bool) → ((j : ℤ) → shown (latest j ys) ≡ lookup (is_at (int_cmp j)) es) → is_eq (int_cmp x.1.key k) ≡ b
+row_more : (ys : Dated) (es : Items) (x : ℕ × Change) (k : ℤ) (b : Bool) → ((j : ℤ) → shown (latest j ys) ≡ lookup (is_at (int_cmp j)) es)
+    → is_eq (int_cmp x.1.key k) ≡ b
     → shown (if b then later_of (latest k ys) x else latest k ys) ≡ lookup (is_at (int_cmp k)) (written es x)
 row_more ys es x k true h e =
     let same : x.1.key ≡ k = same_key x.1.key k (eq_is (int_cmp x.1.key k) e) in
@@ -215,7 +211,8 @@ row_more ys es x k true h e =
     ∙ ap (λ o. cond (is_newer x.0 o) (Some (x.0, x.1.row)) (lookup (is_at (int_cmp k)) es)) (sym at)
     ∙ sym (lookup_written k es x true (swapped k x.1.key ∙ e))
 row_more ys es x k false h e =
-    h k ∙ cond_same (is_newer x.0 (lookup (is_at (int_cmp x.1.key)) es)) (lookup (is_at (int_cmp k)) es) ∙ sym (lookup_written k es x false (swapped k x.1.key ∙ e))
+    h k ∙ cond_same (is_newer x.0 (lookup (is_at (int_cmp x.1.key)) es)) (lookup (is_at (int_cmp k)) es)
+    ∙ sym (lookup_written k es x false (swapped k x.1.key ∙ e))
 
 abbrev with_key : List ℤ → ℕ × Change → List ℤ
 with_key ks x = insert_key int_cmp ks x.1.key
@@ -223,7 +220,8 @@ with_key ks x = insert_key int_cmp ks x.1.key
 keys_more : (ys : Dated) (x : ℕ × Change) → keys_in (ys ++ x ∷ []) ≡ insert_key int_cmp (keys_in ys) x.1.key
 keys_more ys x = fold-append with_key [] ys (x ∷ [])
 
-keys_written : (es : Items) (x : ℕ × Change) (b : Bool) → Ascends es → is_newer x.0 (lookup (is_at (int_cmp x.1.key)) es) ≡ b → keys (cond b (insert_entry int_cmp es x.1.key (x.0, x.1.row)) es) ≡ insert_key int_cmp (keys es) x.1.key
+keys_written : (es : Items) (x : ℕ × Change) (b : Bool) → Ascends es → is_newer x.0 (lookup (is_at (int_cmp x.1.key)) es) ≡ b
+    → keys (cond b (insert_entry int_cmp es x.1.key (x.0, x.1.row)) es) ≡ insert_key int_cmp (keys es) x.1.key
 keys_written es x true h e = keys-insert x.1.key (x.0, x.1.row) es
 keys_written es x false h e =
     let v = not_newer x.0 (lookup (is_at (int_cmp x.1.key)) es) e in
@@ -236,7 +234,8 @@ ascends_written es x false h = h
 keeps_more : (ys : Dated) (es : Items) (x : ℕ × Change) → Keeps ys es → Keeps (ys ++ x ∷ []) (written es x)
 keeps_more ys es x k = record {
   ascends = ascends_written es x (is_newer x.0 (lookup (is_at (int_cmp x.1.key)) es)) k.ascends;
-  keys_are = keys_written es x (is_newer x.0 (lookup (is_at (int_cmp x.1.key)) es)) k.ascends refl ∙ ap (λ ks. insert_key int_cmp ks x.1.key) k.keys_are ∙ sym (keys_more ys x);
+  keys_are = keys_written es x (is_newer x.0 (lookup (is_at (int_cmp x.1.key)) es)) k.ascends refl ∙ ap (λ ks. insert_key int_cmp ks x.1.key) k.keys_are
+      ∙ sym (keys_more ys x);
   rows_are = λ j. ap shown (latest_more j ys x) ∙ row_more ys es x j (is_eq (int_cmp x.1.key j)) k.rows_are refl;
 }
 
@@ -254,12 +253,15 @@ AreShown f (e ∷ es) = (f e.0 ≡ Some e.1) × AreShown f es
 shown_here : (f : ℤ → Option Item) (e : ℤ × Item) (es : Items) → f e.0 ≡ lookup (is_at (int_cmp e.0)) (e ∷ es) → f e.0 ≡ Some e.1
 shown_here f e es h = h ∙ ap (λ b. cond b (Some e.1) (lookup (is_at (int_cmp e.0)) es)) (is_own e.0)
 
-shown_later : (f : ℤ → Option Item) (k : ℤ) (e : ℤ × Item) (es : Items) → int_cmp e.0 k ≡ Less → f k ≡ lookup (is_at (int_cmp k)) (e ∷ es) → f k ≡ lookup (is_at (int_cmp k)) es
+shown_later : (f : ℤ → Option Item) (k : ℤ) (e : ℤ × Item) (es : Items) → int_cmp e.0 k ≡ Less → f k ≡ lookup (is_at (int_cmp k)) (e ∷ es)
+    → f k ≡ lookup (is_at (int_cmp k)) es
 shown_later f k e es l h = h ∙ ap (λ o. cond (is_eq o) (Some e.1) (lookup (is_at (int_cmp k)) es)) (flipped_less e.0 k l)
 
-shown_above : (f : ℤ → Option Item) (b : ℤ) (es : Items) → Above b es → Ascends es → ((k : ℤ) → int_cmp b k ≡ Less → f k ≡ lookup (is_at (int_cmp k)) es) → AreShown f es
+shown_above : (f : ℤ → Option Item) (b : ℤ) (es : Items) → Above b es → Ascends es
+    → ((k : ℤ) → int_cmp b k ≡ Less → f k ≡ lookup (is_at (int_cmp k)) es) → AreShown f es
 shown_above f b [] a s h = tt
-shown_above f b (e ∷ es) a s h = (shown_here f e es (h e.0 a.0), shown_above f e.0 es s.0 s.1 (λ k l. shown_later f k e es l (h k (int_cmp_total.trans b e.0 k a.0 l))))
+shown_above f b (e ∷ es) a s h =
+    (shown_here f e es (h e.0 a.0), shown_above f e.0 es s.0 s.1 (λ k l. shown_later f k e es l (h k (int_cmp_total.trans b e.0 k a.0 l))))
 
 shown_all : (f : ℤ → Option Item) (es : Items) → Ascends es → ((k : ℤ) → f k ≡ lookup (is_at (int_cmp k)) es) → AreShown f es
 shown_all f [] s h = tt

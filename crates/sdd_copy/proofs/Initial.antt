@@ -1,9 +1,5 @@
 -- The rows that were there from the beginning, from the last to the first.
-use Rattle.std.proofs.Common.{ℕ, List, [], ◌∷◌, ◌++◌, map, ◌≡◌, ap, ◌∙◌, sym}
-use Rattle.std.specs.List.{fold}
-use Rattle.std.proofs.lemmas.List.{reverse-append}
-use Rattle.sdd_lang.specs.All.{FragNo, Value}
-use Rattle.sdd_copy.specs.Items.{Items, written, initial, initial_row}
+use Rattle.sdd_copy.proofs.All.{FragNo, Items, List, Value, [], ap, fold, initial, initial_row, map, reverse-append, sym, written, ℕ, ◌++◌, ◌∙◌, ◌∷◌, ◌≡◌}
 
 -- one row more is added
 pub one_initial : (f : FragNo) (key : ℕ) (row : List Value) (rest rows : List (List Value)) (old new whole : Items)

@@ -1,3 +1,4 @@
+mod All
 pub mod Contents
 pub mod Initial
 pub mod Members

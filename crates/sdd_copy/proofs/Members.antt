@@ -1,15 +1,7 @@
 -- What is among values is known to the set of them.
-use Rattle.std.proofs.Common.{Bool, true, false, List, [], ◌∷◌, ◌≡◌, refl, ap, ◌∙◌, sym}
-use Rattle.std.specs.Prelude.{◌||◌}
-use Rattle.std.specs.declared.cmp.Ordering.{Ordering}
-use Rattle.std.specs.declared.cmp.Ordering.TheVariants.{Less, Equal, Greater}
-use Rattle.std.specs.Ordering.{is_eq, match_ordering, ordering_reverse}
-use Rattle.std.specs.BTreeSet.{insert_key}
-use Rattle.sdd_lang.specs.All.{Value, value_cmp, value_cmp_total, with_values}
-use Rattle.sdd_copy.specs.Frozen.{is_among}
-use Rattle.sdd_copy.specs.Known.{is_known}
+use Rattle.sdd_copy.proofs.All.{Bool, Equal, Greater, Less, List, Ordering, Value, [], ap, false, insert_key, is_among, is_eq, is_known, match_ordering, ordering_reverse, refl, sym, true, value_cmp, value_cmp_total, with_values, ◌||◌, ◌∙◌, ◌∷◌, ◌≡◌}
 
-same_either : (o : Ordering) → is_eq (ordering_reverse o) ≡ is_eq o
+pub same_either : (o : Ordering) → is_eq (ordering_reverse o) ≡ is_eq o
 same_either Less = refl
 same_either Equal = refl
 same_either Greater = refl

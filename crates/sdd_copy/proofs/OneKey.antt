@@ -1,17 +1,5 @@
 -- Where one key is asked for, its item is the one that the map finds there.
-use Rattle.std.proofs.Common.{ℤ, ◌<ℤ◌, Bool, true, false, cond, List, [], ◌∷◌, ◌≡◌, refl, ap, sym, subst, Option, Some, ℕ, arith}
-use Rattle.std.specs.List.{AllByRecursion, filter}
-use Rattle.std.specs.List.Sorted.{IsStrictlySortedBy}
-use Rattle.std.specs.declared.cmp.Ordering.TheVariants.{Less, Equal, Greater}
-use Rattle.std.specs.Ordering.{int_cmp, is_eq}
-use Rattle.std.specs.Cmp.{int_ranked}
-use Rattle.std.specs.Map.{keys_of, lookup}
-use Rattle.std.specs.BTreeMap.{is_at}
-use Rattle.std.proofs.lemmas.Int.{ints}
-use Rattle.std.proofs.lemmas.Map.Keys.{sorted_head, sorted_tail}
-use Rattle.sdd_lang.specs.All.{Value}
-use Rattle.sdd_copy.specs.Items.{Items}
-use Rattle.sdd_copy.specs.Keyed.{is_within, one_at}
+use Rattle.sdd_copy.proofs.All.{AllByRecursion, Bool, Equal, Greater, IsStrictlySortedBy, Items, Less, List, Option, Some, Value, [], ap, arith, cond, false, filter, int_cmp, int_ranked, ints, is_at, is_eq, is_within, keys_of, lookup, one_at, refl, sorted_head, sorted_tail, subst, sym, true, ℕ, ℤ, ◌<ℤ◌, ◌∷◌, ◌≡◌}
 
 abbrev Item : Type 0
 Item = ℤ × (ℕ × Option (List Value))

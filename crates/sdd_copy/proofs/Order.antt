@@ -1,17 +1,5 @@
 -- The contents of changes are told by which changes there are, not by their order.
-use Rattle.std.proofs.Common.{ℕ, ℤ, Bool, true, false, cond, List, [], ◌∷◌, ◌≡◌, inl, inr, refl, ap, ◌∙◌, sym, subst, Option, Some, None, arith}
-use Rattle.std.specs.Prelude.{nat_lt, ◌==◌, Contains}
-use Rattle.std.specs.Bool.{if◌then◌else◌}
-use Rattle.std.proofs.lemmas.Bool.Decides.{nat_tests}
-use Rattle.std.specs.declared.cmp.Ordering.TheVariants.{Less, Equal, Greater}
-use Rattle.std.specs.Ordering.{is_eq, int_cmp}
-use Rattle.std.specs.Map.{lookup}
-use Rattle.std.specs.BTreeMap.{is_at}
-use Rattle.sdd_lang.specs.All.{Change, Value}
-use Rattle.sdd_lang.proofs.base.Membership.{Contains-nil, Contains-here, Contains-later, Contains-cases}
-use Rattle.sdd_copy.specs.Contents.{Dated, newer, latest, of_fragment, contents}
-use Rattle.sdd_copy.specs.Items.{Items, items_of, entries_in}
-use Rattle.sdd_copy.specs.Sets.{DatesDiffer, AreSame}
+use Rattle.sdd_copy.proofs.All.{AreSame, Bool, Change, Contains, Contains-cases, Contains-here, Contains-later, Contains-nil, Dated, DatesDiffer, Equal, Greater, Items, Less, List, None, Option, Some, Value, [], ap, arith, cond, contents, entries_in, false, if◌then◌else◌, inl, inr, int_cmp, is_at, is_eq, items_of, latest, lookup, nat_lt, nat_tests, newer, of_fragment, refl, subst, sym, true, ℕ, ℤ, ◌==◌, ◌∙◌, ◌∷◌, ◌≡◌}
 use Rattle.sdd_copy.proofs.Contents.{Above, Ascends, Keeps, same_key, flipped, is_own, eq_is, above_none, above_all, items_keep, shown, items_tell}
 
 -- the change x is one of key, and none of key in xs has a greater date
@@ -34,9 +22,6 @@ own_key a b e = rw e (is_own b)
 not_before : (n : ℕ) → nat_lt n n ≡ false
 not_before n = grind (arith, nat_tests)
 
-after_both : (a b c : ℕ) → nat_lt a b ≡ true → nat_lt b c ≡ false → nat_lt a c ≡ false → nat_lt b c ≡ false
-after_both a b c e f g = f
-
 less_than_latest : (a b c : ℕ) → nat_lt a b ≡ false → nat_lt b c ≡ false → nat_lt a c ≡ false
 less_than_latest a b c e f = grind (arith, nat_tests)
 
@@ -44,7 +29,8 @@ less_asym : (a b : ℕ) → nat_lt a b ≡ true → nat_lt b a ≡ false
 less_asym a b e = grind (arith, nat_tests)
 
 -- a change of another key in front
-other_front : (key : ℤ) (x : ℕ × Change) (xs : Dated) (o : Option (ℕ × Change)) → (x.1.key ≡ key → ⊥) → Answers key xs o → Answers key (x ∷ xs) o
+other_front : (key : ℤ) (x : ℕ × Change) (xs : Dated) (o : Option (ℕ × Change)) → (x.1.key ≡ key → ⊥) → Answers key xs o
+    → Answers key (x ∷ xs) o
 other_front key x xs None other h = λ y in_it own. elim (Contains-cases x xs y in_it) as (λ s. ⊥) [
   | inl e ↦ other (ap (λ z. z.1.key) (sym e) ∙ own)
   | inr later ↦ h y later own
@@ -59,7 +45,8 @@ other_front key x xs (Some z) other h = record {
 }
 
 -- a change of this key in front: the newer of the two
-later_one : (key : ℤ) (x z : ℕ × Change) (xs : Dated) (b : Bool) → nat_lt x.0 z.0 ≡ b → x.1.key ≡ key → IsLatest key xs z → Answers key (x ∷ xs) (cond b (Some z) (Some x))
+later_one : (key : ℤ) (x z : ℕ × Change) (xs : Dated) (b : Bool) → nat_lt x.0 z.0 ≡ b → x.1.key ≡ key → IsLatest key xs z
+    → Answers key (x ∷ xs) (cond b (Some z) (Some x))
 later_one key x z xs true e own h = record {
   among = Contains-later x xs z h.among;
   own = h.own;
@@ -77,7 +64,8 @@ later_one key x z xs false e own h = record {
   ];
 }
 
-own_front : (key : ℤ) (x : ℕ × Change) (xs : Dated) (o : Option (ℕ × Change)) → x.1.key ≡ key → Answers key xs o → Answers key (x ∷ xs) (newer x o)
+own_front : (key : ℤ) (x : ℕ × Change) (xs : Dated) (o : Option (ℕ × Change)) → x.1.key ≡ key → Answers key xs o
+    → Answers key (x ∷ xs) (newer x o)
 own_front key x xs None own h = record {
   among = Contains-here x xs;
   own = own;
@@ -88,7 +76,8 @@ own_front key x xs None own h = record {
 }
 own_front key x xs (Some z) own h = later_one key x z xs (nat_lt x.0 z.0) refl own h
 
-front : (key : ℤ) (x : ℕ × Change) (xs : Dated) (b : Bool) → is_eq (int_cmp x.1.key key) ≡ b → Answers key xs (latest key xs) → Answers key (x ∷ xs) (if b then newer x (latest key xs) else latest key xs)
+front : (key : ℤ) (x : ℕ × Change) (xs : Dated) (b : Bool) → is_eq (int_cmp x.1.key key) ≡ b → Answers key xs (latest key xs)
+    → Answers key (x ∷ xs) (if b then newer x (latest key xs) else latest key xs)
 front key x xs true e h = own_front key x xs (latest key xs) (same_key x.1.key key (eq_is (int_cmp x.1.key key) e)) h
 front key x xs false e h = other_front key x xs (latest key xs) (λ own. let t = own_key x.1.key key own in absurd cc) h
 
@@ -129,7 +118,8 @@ first_missing e es fs a h =
     let there : Held e.0 (e ∷ es) ≡ Some e.1 = at_first e es in
     let none : Held e.0 fs ≡ None = above_none e.0 fs a in cc
 
-rest_same : (k : ℤ) (e f : Item) (es fs : Items) (b : Bool) → is_eq (int_cmp k e.0) ≡ b → e.0 ≡ f.0 → Above e.0 es → Above f.0 fs → cond b (Some e.1) (Held k es) ≡ cond b (Some f.1) (Held k fs) → Held k es ≡ Held k fs
+rest_same : (k : ℤ) (e f : Item) (es fs : Items) (b : Bool) → is_eq (int_cmp k e.0) ≡ b → e.0 ≡ f.0 → Above e.0 es → Above f.0 fs
+    → cond b (Some e.1) (Held k es) ≡ cond b (Some f.1) (Held k fs) → Held k es ≡ Held k fs
 rest_same k e f es fs true own same a c h =
     let at : k ≡ e.0 = same_key k e.0 (eq_is (int_cmp k e.0) own) in
     let left : Held k es ≡ None = ap (λ j. Held j es) at ∙ above_none e.0 es a in
@@ -137,7 +127,8 @@ rest_same k e f es fs true own same a c h =
     left ∙ sym right
 rest_same k e f es fs false own same a c h = h
 
-split_same : (k : ℤ) (e f : Item) (es fs : Items) → e.0 ≡ f.0 → Held k (e ∷ es) ≡ Held k (f ∷ fs) → cond (is_eq (int_cmp k e.0)) (Some e.1) (Held k es) ≡ cond (is_eq (int_cmp k e.0)) (Some f.1) (Held k fs)
+split_same : (k : ℤ) (e f : Item) (es fs : Items) → e.0 ≡ f.0 → Held k (e ∷ es) ≡ Held k (f ∷ fs)
+    → cond (is_eq (int_cmp k e.0)) (Some e.1) (Held k es) ≡ cond (is_eq (int_cmp k e.0)) (Some f.1) (Held k fs)
 split_same k e f es fs same h = h ∙ ap (λ j. cond (is_eq (int_cmp k j)) (Some f.1) (Held k fs)) (sym same)
 
 first_same : (e f : Item) (es fs : Items) → e.0 ≡ f.0 → Held e.0 (e ∷ es) ≡ Held e.0 (f ∷ fs) → e ≡ f
@@ -159,7 +150,8 @@ same_items (e ∷ es) (f ∷ fs) s t h =
       | Greater ↦ λ p. let q = flipped e.0 f.0 p in absurd (first_missing f fs (e ∷ es) (q, above_all f.0 e.0 es q s.0) (sym (h f.0)))
       | Equal ↦ λ p.
           let same : e.0 ≡ f.0 = same_key e.0 f.0 p in
-          let rest : es ≡ fs = same_items es fs s.1 t.1 (λ k. rest_same k e f es fs (is_eq (int_cmp k e.0)) refl same s.0 t.0 (split_same k e f es fs same (h k))) in
+          let rest : es ≡ fs = same_items es fs s.1 t.1
+          (λ k. rest_same k e f es fs (is_eq (int_cmp k e.0)) refl same s.0 t.0 (split_same k e f es fs same (h k))) in
           joined e f es fs (first_same e f es fs same (h e.0)) rest
     ] refl
   where
@@ -173,7 +165,9 @@ items_same xs ys d s =
     same_items (items_of xs) (items_of ys) g.ascends h.ascends (λ k. sym (g.rows_are k) ∙ ap shown (same_latest k xs ys d s) ∙ h.rows_are k)
 
 -- members of a part
-part_more : (x y : ℕ × Change) (b : Bool) (f : ℕ) (xs : Dated) → (x.1.frag.0 == f) ≡ b → Contains (cond b (x ∷ of_fragment f xs) (of_fragment f xs)) y → (Contains (of_fragment f xs) y → Contains xs y × ((y.1.frag.0 == f) ≡ true)) → Contains (x ∷ xs) y × ((y.1.frag.0 == f) ≡ true)
+part_more : (x y : ℕ × Change) (b : Bool) (f : ℕ) (xs : Dated) → (x.1.frag.0 == f) ≡ b
+    → Contains (cond b (x ∷ of_fragment f xs) (of_fragment f xs)) y → (Contains (of_fragment f xs) y → Contains xs y × ((y.1.frag.0 == f) ≡ true))
+    → Contains (x ∷ xs) y × ((y.1.frag.0 == f) ≡ true)
 part_more x y true f xs e h g = elim (Contains-cases x (of_fragment f xs) y h) as (λ s. Contains (x ∷ xs) y × ((y.1.frag.0 == f) ≡ true)) [
   | inl same ↦ rw same (Contains-here x xs, e)
   | inr later ↦ (Contains-later x xs y (g later).0, (g later).1)
@@ -188,14 +182,16 @@ part_here : (x : ℕ × Change) (b : Bool) (f : ℕ) (xs : Dated) → b ≡ true
 part_here x true f xs e = Contains-here x (of_fragment f xs)
 part_here x false f xs e = absurd cc
 
-part_later : (x y : ℕ × Change) (b : Bool) (f : ℕ) (xs : Dated) → Contains (of_fragment f xs) y → Contains (cond b (x ∷ of_fragment f xs) (of_fragment f xs)) y
+part_later : (x y : ℕ × Change) (b : Bool) (f : ℕ) (xs : Dated) → Contains (of_fragment f xs) y
+    → Contains (cond b (x ∷ of_fragment f xs) (of_fragment f xs)) y
 part_later x y true f xs h = Contains-later x (of_fragment f xs) y h
 part_later x y false f xs h = h
 
 in_part : (f : ℕ) (xs : Dated) (y : ℕ × Change) → Contains xs y → (y.1.frag.0 == f) ≡ true → Contains (of_fragment f xs) y
 in_part f [] y h e = absurd (Contains-nil y h)
 in_part f (x ∷ xs) y h e = elim (Contains-cases x xs y h) as (λ s. Contains (of_fragment f (x ∷ xs)) y) [
-  | inl same ↦ subst (λ z. Contains (of_fragment f (x ∷ xs)) z) (sym same) (part_here x (x.1.frag.0 == f) f xs (ap (λ z. z.1.frag.0 == f) (sym same) ∙ e))
+  | inl same ↦ subst (λ z. Contains (of_fragment f (x ∷ xs)) z) (sym same)
+      (part_here x (x.1.frag.0 == f) f xs (ap (λ z. z.1.frag.0 == f) (sym same) ∙ e))
   | inr later ↦ part_later x y (x.1.frag.0 == f) f xs (in_part f xs y later e)
 ]
 
@@ -204,8 +200,10 @@ one_number a b f e g = grind (arith, nat_tests)
 
 pub same_items_left : (f : ℕ) (xs ys : Dated) → DatesDiffer xs → AreSame xs ys → items_of (of_fragment f xs) ≡ items_of (of_fragment f ys)
 same_items_left f xs ys d s =
-    let own : Differ (of_fragment f xs) = λ x y a b. d x y (of_part f xs x a).0 (of_part f xs y b).0 (one_number x.1.frag.0 y.1.frag.0 f (of_part f xs x a).1 (of_part f xs y b).1) in
-    let same : AreSame (of_fragment f xs) (of_fragment f ys) = λ x. (λ a. in_part f ys x ((s x).0 (of_part f xs x a).0) (of_part f xs x a).1, λ a. in_part f xs x ((s x).1 (of_part f ys x a).0) (of_part f ys x a).1) in
+    let own : Differ (of_fragment f xs) = λ x y a b. d x y (of_part f xs x a).0 (of_part f xs y b).0
+    (one_number x.1.frag.0 y.1.frag.0 f (of_part f xs x a).1 (of_part f xs y b).1) in
+    let same : AreSame (of_fragment f xs) (of_fragment f ys) = λ x.
+    (λ a. in_part f ys x ((s x).0 (of_part f xs x a).0) (of_part f xs x a).1, λ a. in_part f xs x ((s x).1 (of_part f ys x a).0) (of_part f ys x a).1) in
     items_same (of_fragment f xs) (of_fragment f ys) own same
 
 pub order_tells_nothing : (f : ℕ) (xs ys : Dated) → DatesDiffer xs → AreSame xs ys → contents f xs ≡ contents f ys

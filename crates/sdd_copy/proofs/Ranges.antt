@@ -1,22 +1,5 @@
 -- Items by ranges of keys: among those with keys near restrictions are all whose rows meet these.
-use Rattle.std.proofs.Common.{ℕ, ℤ, ◌≡◌, ◌<ℤ◌, ◌&&◌, Bool, true, false, not, cond, List, [], ◌∷◌, ◌++◌, map, refl, ap, sym, ◌∙◌, Option, Some, None, arith}
-use Rattle.std.specs.Prelude.{int_le, FitsSigned, IfSome}
-use Rattle.std.specs.Int.{w64}
-use Rattle.std.specs.List.{All, AllByRecursion, filter, list_all}
-use Rattle.std.specs.declared.cmp.Ordering.TheVariants.{Less, Equal, Greater}
-use Rattle.std.specs.Ordering.{int_cmp, is_le, is_lt, MatchOrdering}
-use Rattle.std.specs.Cmp.{int_ranks}
-use Rattle.std.specs.BTreeMap.{insert_entry}
-use Rattle.std.proofs.lemmas.Map.Lookups.{exact_signed}
-use Rattle.std.proofs.lemmas.Int.{ints}
-use Rattle.std.proofs.lemmas.List.{map-append}
-use Rattle.std.proofs.lemmas.List.Elements.{All-from_recursion, recursion_from_All, filter-append, filter_map-append}
-use Rattle.sdd_lang.specs.All.{Int, Interval, IsOfKeys, IsWithin, Restriction, Value, all_keys, allowed_keys, column, common, holds_some, meets}
-use Rattle.sdd_lang.proofs.KeyRanges.{allowed_key, le_true, within_common}
-use Rattle.sdd_lang.proofs.Pushdown.{and_both, filter_none, filter_same}
-use Rattle.sdd_lang.proofs.SortedEntries.{each_inserted}
-use Rattle.sdd_copy.specs.Items.{Items, row_at, entries_in}
-use Rattle.sdd_copy.specs.Keyed.{HasHeldKey, AreHeld, HasKey, AreKeyed, IsNear, is_within, rows_meeting}
+use Rattle.sdd_copy.proofs.All.{All, All-from_recursion, AllByRecursion, AreHeld, AreKeyed, Bool, Equal, FitsSigned, Greater, HasHeldKey, HasKey, IfSome, Int, Interval, IsNear, IsOfKeys, IsWithin, Items, Less, List, MatchOrdering, None, Option, Restriction, Some, Value, [], all_keys, allowed_key, allowed_keys, and_both, ap, arith, column, common, cond, each_inserted, entries_in, exact_signed, false, filter, filter-append, filter_map-append, filter_none, filter_same, holds_some, insert_entry, int_cmp, int_le, int_ranks, ints, is_le, is_lt, is_within, le_true, list_all, map, map-append, meets, not, recursion_from_All, refl, row_at, rows_meeting, sym, true, w64, within_common, ℕ, ℤ, ◌&&◌, ◌++◌, ◌<ℤ◌, ◌∙◌, ◌∷◌, ◌≡◌}
 
 abbrev Item : Type 0
 Item = ℤ × (ℕ × Option (List Value))
@@ -71,7 +54,7 @@ items_within from to keys items low high =
     ∙ ap (λ n. int_le keys.0 e.0 && int_le e.0 n) high)
     items
 
-both_ways : (b : Bool) → (b && not b) ≡ false
+pub both_ways : (b : Bool) → (b && not b) ≡ false
 both_ways true = refl
 both_ways false = refl
 
@@ -94,8 +77,7 @@ held_within : (k : ℤ) → FitsSigned w64 k → IsWithin k all_keys
 held_within k fits = grind (arith, ints)
 
 near_item : (key : ℕ) (restrictions : List Restriction) (k : ℤ) (row : Option (List Value)) → FitsSigned w64 k
-    → IfSome row (λ r. column r key ≡ Int k)
-    → AllByRecursion (IsOfKeys key) restrictions
+    → IfSome row (λ r. column r key ≡ Int k) → AllByRecursion (IsOfKeys key) restrictions
     → IfSome row (λ r. list_all (meets r) restrictions ≡ true → IsWithin k (common (allowed_keys key restrictions) all_keys))
 near_item key restrictions k None fits is of = tt
 near_item key restrictions k (Some r) fits is of = λ met.
@@ -111,8 +93,7 @@ allowed_each key restrictions (e ∷ items) of held keyed =
 
 -- where rows have their keys in a column, the keys that restrictions on it allow are near
 pub allowed_near : (key : ℕ) (restrictions : List Restriction) (items : Items) → All (IsOfKeys key) restrictions
-    → AreHeld items → All (HasKey key) items
-    → All (IsNear restrictions (allowed_keys key restrictions)) items
+    → AreHeld items → All (HasKey key) items → All (IsNear restrictions (allowed_keys key restrictions)) items
 allowed_near key restrictions items of held keyed =
     All-from_recursion (IsNear restrictions (allowed_keys key restrictions)) items
     (allowed_each key restrictions items (recursion_from_All (IsOfKeys key) restrictions of)

@@ -1,14 +1,5 @@
 -- Rows whose keys ascend are the entries of a map as they stand.
-use Rattle.std.proofs.Common.{ℤ, ◌<ℤ◌, ◌≤ℤ◌, int_lt, Bool, true, List, [], ◌∷◌, ◌++◌, map, ◌≡◌, refl, ap, ◌∙◌, sym, append-nil, append_assoc, Some, None, arith}
-use Rattle.std.specs.declared.cmp.Ordering.TheVariants.{Less, Equal, Greater}
-use Rattle.std.specs.Prelude.{fold}
-use Rattle.std.specs.List.{AllByRecursion}
-use Rattle.std.specs.Ordering.{int_cmp, MatchOrdering}
-use Rattle.std.specs.Cmp.{first_so, second_so, int_ranks}
-use Rattle.std.proofs.lemmas.Int.{ints}
-use Rattle.sdd_lang.specs.All.{Value}
-use Rattle.sdd_copy.specs.Ascending.{ascend}
-use Rattle.sdd_copy.specs.Frozen.{with_keyed}
+use Rattle.sdd_copy.proofs.All.{AllByRecursion, Bool, Equal, Greater, Less, List, MatchOrdering, None, Some, Value, [], ap, append-nil, append_assoc, arith, ascend, first_so, fold, int_cmp, int_lt, int_ranks, ints, map, refl, second_so, sym, true, with_keyed, ℤ, ◌++◌, ◌<ℤ◌, ◌∙◌, ◌∷◌, ◌≡◌, ◌≤ℤ◌}
 
 abbrev Keyed : Type 0
 Keyed = ℤ × List Value

@@ -1,17 +1,5 @@
 -- Copies stand for the changes that were applied to them.
-use Rattle.std.proofs.Common.{ℕ, zero, suc, ◌≤◌, ◌==◌, length, arith, Bool, true, false, cond, List, [], ◌∷◌, ◌++◌, map, ◌≡◌, refl, ap, ◌∙◌, sym, subst, append-nil, append_assoc, Option, Some, None}
-use Rattle.std.specs.Prelude.{slice_index_or, slice_set, is_some}
-use Rattle.std.specs.List.{All, AllByRecursion, fold}
-use Rattle.std.specs.Option.{option_map}
-use Rattle.std.proofs.lemmas.Bool.{eqb-true, eq-eqb}
-use Rattle.std.proofs.lemmas.List.{length-map}
-use Rattle.std.proofs.lemmas.List.Sums.{fold-append}
-use Rattle.std.proofs.lemmas.List.Elements.{All-from_recursion, filter-append}
-use Rattle.sdd_lang.specs.All.{Change, Kept}
-use Rattle.sdd_copy.specs.Contents.{Dated, of_fragment}
-use Rattle.sdd_copy.specs.Copies.{Held, is_here, or_none, items_at, changed_at, with_change, held_in, IsLive, StandFor}
-use Rattle.sdd_copy.specs.Items.{Items, written, items_of}
-use Rattle.sdd_copy.specs.Sets.{DatesDiffer, AreSame}
+use Rattle.sdd_copy.proofs.All.{All, All-from_recursion, AllByRecursion, AreSame, Bool, Change, Dated, DatesDiffer, Held, IsLive, Items, Kept, List, None, Option, Some, StandFor, [], ap, append-nil, append_assoc, arith, changed_at, cond, eq-eqb, eqb-true, false, filter-append, fold, fold-append, held_in, is_here, is_some, items_at, items_of, length, length-map, map, of_fragment, option_map, or_none, refl, slice_index_or, slice_set, subst, suc, sym, true, with_change, written, zero, ℕ, ◌++◌, ◌==◌, ◌∙◌, ◌∷◌, ◌≡◌, ◌≤◌}
 use Rattle.sdd_copy.proofs.Order.{same_items_left}
 
 -- copies without items

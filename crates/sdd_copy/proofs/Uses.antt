@@ -1,19 +1,6 @@
 -- The rows of uses: frozen from copies that stand for changes, and reduced one use after the other.
-use Rattle.std.proofs.Common.{ℕ, zero, suc, ℤ, ◌+◌, ◌<◌, ◌≤◌, ◌==◌, length, take, drop, arith, Bool, true, false, cond, List, [], ◌∷◌, ◌++◌, map, ◌≡◌, refl, ap, ◌∙◌, sym, Some, None}
-use Rattle.std.specs.Prelude.{slice_set, slice_index_or, fold}
-use Rattle.std.specs.List.{All, AllByRecursion, filter, flat_map}
-use Rattle.std.proofs.lemmas.Bool.{eq-eqb}
-use Rattle.std.proofs.lemmas.List.{take_all}
-use Rattle.std.proofs.lemmas.List.Edits.{map_over_more}
-use Rattle.std.proofs.lemmas.List.Elements.{recursion_from_All}
-use Rattle.sdd_lang.specs.All.{FragNo, Restriction, Use, Value, column, first_some, with_values}
-use Rattle.sdd_lang.proofs.Pushdown.{filter_same}
-use Rattle.sdd_copy.specs.Contents.{Dated, contents}
-use Rattle.sdd_copy.specs.Copies.{Held, is_here, rows_at, StandFor, AreHere}
-use Rattle.sdd_copy.specs.Items.{entries_in}
+use Rattle.sdd_copy.proofs.All.{All, AllByRecursion, AreHere, Bool, CopyRows, Dated, FragNo, Frozen, Held, List, None, Restriction, Some, StandFor, Use, Value, [], ap, arith, chosen, column, cond, contents, drop, entries_in, eq-eqb, false, filter, filter_same, first_some, flat_map, fold, frozen_for, is_among, is_here, is_known, known_use, length, map, map_over_more, recursion_from_All, reduced, refl, rows_at, rows_for, slice_index_or, slice_set, suc, sym, take, take_all, true, with_keyed, with_values, zero, ℕ, ℤ, ◌++◌, ◌+◌, ◌<◌, ◌==◌, ◌∙◌, ◌∷◌, ◌≡◌, ◌≤◌}
 use Rattle.sdd_copy.proofs.Contents.{items_tell}
-use Rattle.sdd_copy.specs.Frozen.{Frozen, CopyRows, chosen, with_keyed, rows_for, frozen_for, is_among, reduced}
-use Rattle.sdd_copy.specs.Known.{is_known, known_use}
 use Rattle.sdd_copy.proofs.Members.{known_among}
 
 -- copies that stand for changes give the contents of these
@@ -25,7 +12,8 @@ frags_told : (copies : Held) (xs : Dated) (restrictions : List Restriction) (fra
     → StandFor copies xs → AllByRecursion (λ f. is_here copies f.0 ≡ true) frags
     → flat_map (λ f. chosen restrictions (rows_at copies f.0)) frags ≡ flat_map (λ f. chosen restrictions (contents f.0 xs)) frags
 frags_told copies xs restrictions [] stand here = refl
-frags_told copies xs restrictions (f ∷ frags) stand here = rw (rows_told copies xs f.0 stand here.0, frags_told copies xs restrictions frags stand here.1) refl
+frags_told copies xs restrictions (f ∷ frags) stand here =
+    rw (rows_told copies xs f.0 stand here.0, frags_told copies xs restrictions frags stand here.1) refl
 
 abbrev rows_in_order : List (ℤ × List Value) → List (List Value)
 rows_in_order rows = map (λ e. e.1) (fold with_keyed [] rows)

@@ -45,6 +45,15 @@ entries_in items = filter_map (λ e. row_at e.0 e.1.1) items
 abbrev pub rows_in : Items → List (List Value)
 rows_in items = map (λ e. e.1) (entries_in items)
 
+-- the row with a key, where there is one that isn't deleted
+
+abbrev pub row_of_item : Option (ℕ × Option (List Value)) → Option (List Value)
+row_of_item None = None
+row_of_item (Some item) = item.1
+
+abbrev pub row_in : Items → ℤ → Option (List Value)
+row_in items key = row_of_item (lookup (is_at (int_cmp key)) items)
+
 -- worked: of two initial rows with key 4 the later stands, and a row dated 1 outdoes it
 abbrev pair : ℕ → ℕ → List Value
 pair a b = Int (pos a) ∷ Int (pos b) ∷ []

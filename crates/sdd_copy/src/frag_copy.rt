@@ -1,7 +1,8 @@
 ghost use Rattle.std.specs.Prelude.{◌≡◌, [], ◌∷◌, ◌++◌, OnOk, OnErr, IfOk, IfSome, IsTrue, map, filter, fold, true, false};
+ghost use Rattle.std.specs.Option.{option_copied};
 ghost use Rattle.sdd_lang.specs.All.{FragNo, all_keys, common};
 ghost use Rattle.sdd_copy.specs.Contents.{Dated, rows_left};
-ghost use Rattle.sdd_copy.specs.Items.{written, items_of, dated, initial, rows_in};
+ghost use Rattle.sdd_copy.specs.Items.{written, items_of, dated, initial, row_in, rows_in};
 ghost use Rattle.sdd_copy.specs.Keyed.{is_within, rows_meeting};
 
 use crate::kept_items::KeptItems;
@@ -104,6 +105,14 @@ impl FragCopy {
             → rows.items ≡ map (λ e. e.1) (rows_left xs)) }
     {
         kept_rows(self.alloc, &self.items)
+    }
+
+    /// The row with this key, lent: None where there is none, or it was deleted. O(log n) for n
+    /// items, and takes no memory.
+    pub fn row(&self, key: &i64) -> Option<&Row>
+        ensures { option_copied result ≡ row_in self.now.value key.now }
+    {
+        self.items.row(key)
     }
 
     /// The rows that aren't deleted and meet the restrictions, with their keys, ascending by key. A

@@ -4,7 +4,7 @@ ghost use Rattle.std.specs.Option.{option_copied};
 ghost use Rattle.std.specs.Ordering.{int_cmp};
 ghost use Rattle.std.specs.BTreeMap.{insert_entry};
 ghost use Rattle.sdd_lang.specs.All.{FragNo, Int, all_keys, column, common, number_in};
-ghost use Rattle.sdd_copy.specs.Items.{written, initial, is_newer};
+ghost use Rattle.sdd_copy.specs.Items.{written, initial, is_newer, row_in, row_of_item};
 ghost use Rattle.sdd_copy.specs.Keyed.{HasKey, IsNear, is_within, one_at};
 
 use crate::near::are_of_keys;
@@ -110,6 +110,13 @@ impl KeptItems {
         self.items.get(key)
     }
 
+    /// The row of the item with this key. Costs O(log n).
+    pub(crate) fn row(&self, key: &i64) -> Option<&Row>
+        ensures { option_copied result ≡ row_in self.now key.now }
+    {
+        row_of(self.items.get(key))
+    }
+
     /// How many items have these keys at most.
     pub(crate) fn room(&self, keys: &Keys) -> usize {
         match keys.ends() {
@@ -152,6 +159,16 @@ fn is_newer(ts: u64, item: Option<&(u64, Option<Row>)>) -> bool
     match item {
         None => true,
         Some(item) => item.0 < ts,
+    }
+}
+
+/// The row of an item, where it isn't deleted.
+fn row_of(item: Option<&(u64, Option<Row>)>) -> Option<&Row>
+    ensures { option_copied result ≡ row_of_item (option_copied item.entry) }
+{
+    match item {
+        None => None,
+        Some(item) => item.1.as_ref(),
     }
 }
 

@@ -1,17 +1,5 @@
 -- A WRITE that is applied: its changes stand among those of its class, wherever they came in time.
-use Rattle.std.proofs.Common.{ℕ, zero, suc, ◌+◌, ◌<◌, ◌≤◌, ◌==◌, Bool, true, false, List, [], ◌∷◌, ◌++◌, length, ◌≡◌, ◌⊎◌, inl, inr, refl, ap, arith, sym, subst, Option, Some, None}
-use Rattle.std.specs.Prelude.{◌&&◌}
-use Rattle.std.specs.Bool.{if◌then◌else◌}
-use Rattle.std.specs.List.{Contains, range_with_len, flat_map}
-use Rattle.std.proofs.lemmas.List.Elements.{Contains-append_left, Contains-append_right, Contains-append_cases}
-use Rattle.sdd_module.specs.All.{Change, Did, Handed, Log, Msg, Rec, Records, Redeclared, Sends, Setting, Site, Submits, Ticked}
-use Rattle.sdd_module.proofs.base.Membership.{Contains-nil, Contains-here, Contains-later, Contains-cases}
-use Rattle.sdd_copy.specs.Contents.{Dated}
-use Rattle.sdd_copy.specs.Sets.{DatesDiffer, AreSame}
-use Rattle.sdd_pipe.specs.Pipe.{head}
-use Rattle.sdd_dm.specs.Pipes.{pipe}
-use Rattle.sdd_dm.specs.Copies.{classes_of, is_apply, changes_in, applied, first_rows, dated}
-use Rattle.sdd_dm.specs.Stands.{written, all_dated, EachHanded}
+use Rattle.sdd_dm.proofs.All.{AreSame, Bool, Change, Contains, Contains-append_cases, Contains-append_left, Contains-append_right, Contains-cases, Contains-here, Contains-later, Contains-nil, Dated, DatesDiffer, Did, EachHanded, Handed, List, Log, Msg, None, Option, Rec, Records, Redeclared, Sends, Setting, Site, Some, Submits, Ticked, [], all_dated, ap, applied, arith, changes_in, classes_of, dated, false, first_rows, flat_map, head, if◌then◌else◌, inl, inr, is_apply, length, pipe, range_with_len, refl, subst, suc, sym, true, written, zero, ℕ, ◌&&◌, ◌++◌, ◌+◌, ◌<◌, ◌==◌, ◌∷◌, ◌≡◌, ◌≤◌, ◌⊎◌}
 use Rattle.sdd_dm.proofs.ByClass.{same_number, number_is}
 use Rattle.sdd_dm.proofs.Handed.{head_handed}
 
@@ -51,8 +39,7 @@ each_in : (log : Log) (all : Dated) → ((x : ℕ × Change) → Contains (writt
 each_in [] all h = tt
 each_in (Handed from m ∷ log) all h = (
   λ x i. h x (Contains-append_left (changes_in (Some m)) (written log) x i),
-  each_in log all
-      (λ x i. h x (Contains-append_right (changes_in (Some m)) (written log) x i)),
+  each_in log all (λ x i. h x (Contains-append_right (changes_in (Some m)) (written log) x i)),
 )
 each_in (Ticked n ∷ log) all h = each_in log all h
 each_in (Submits n txn ∷ log) all h = each_in log all h
@@ -108,11 +95,12 @@ own_applied : (c : ℕ) (r : Rec) (sends : List (Site × Msg)) (log : Log) → i
     → applied c (Did (Records c r sends) ∷ log) ≡ applied c log ++ changes_in (head (pipe c log))
 own_applied c r sends log e = rw (same_number c c refl, e) refl
 
-acted_more : (b : Bool) (xs ys : Dated) (x : ℕ × Change) → Contains xs x → Contains (if b then xs ++ ys else xs) x
+pub acted_more : (b : Bool) (xs ys : Dated) (x : ℕ × Change) → Contains xs x → Contains (if b then xs ++ ys else xs) x
 acted_more true xs ys x h = Contains-append_left xs ys x h
 acted_more false xs ys x h = h
 
-more_dated : (s : Setting) (log : Log) (c : ℕ) (r : Rec) (sends : List (Site × Msg)) (x : ℕ × Change) → c ≤ length s.catalogue.classes → is_apply r ≡ true
+more_dated : (s : Setting) (log : Log) (c : ℕ) (r : Rec) (sends : List (Site × Msg)) (x : ℕ × Change) → c ≤ length s.catalogue.classes
+    → is_apply r ≡ true
     → Contains (dated s log ++ changes_in (head (pipe c log))) x → Contains (dated s (Did (Records c r sends) ∷ log)) x
 more_dated s log c r sends x l e h =
     let after : Log = Did (Records c r sends) ∷ log in

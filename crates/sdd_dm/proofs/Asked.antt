@@ -1,19 +1,5 @@
 -- A FETCH, REDUCE or SHIP is answered from the held rows; and all messages together.
-use Rattle.std.proofs.Common.{ℕ, suc, ◌<◌, ◌≤◌, ◌==◌, false, List, [], ◌∷◌, length, ◌≡◌, refl, ap, ◌∙◌, arith, sym, subst, Option, Some, None}
-use Rattle.std.specs.Bool.{if◌then◌else◌}
-use Rattle.sdd_module.specs.All.{Act, Bases, ClassNo, Did, Fetch, Handed, Log, Msg, Notes, Null, Reached, Read, Reduce, Reduced, Rows, Sends, Setting, Ship, Site, Ts, Value, Values, Write, goes_through, hands, nothing_noted}
-use Rattle.sdd_module.proofs.Making.{made_nothing, made_one}
-use Rattle.sdd_copy.specs.Sets.{DatesDiffer}
-use Rattle.sdd_copy.specs.Frozen.{Frozen, values_in}
-use Rattle.sdd_pipe.specs.Pipes.{update}
-use Rattle.sdd_pipe.proofs.Updates.{length-update}
-use Rattle.sdd_dm.specs.Copies.{frozen, given_up, frozen_handed, reduced_at, rows_held, all_held}
-use Rattle.sdd_dm.specs.Opens.{Open, opens, opens_acted, is_asked_of}
-use Rattle.sdd_dm.specs.Views.{home_of, class_view}
-use Rattle.sdd_dm.specs.Due.{answer_to, next}
-use Rattle.sdd_dm.specs.Fits.{fits}
-use Rattle.sdd_dm.specs.State.{State, frozen_of, class_piped, state_handed, notes_handed, with_out}
-use Rattle.sdd_dm.specs.Stands.{all_dated, HasCopies, ShowsClass, Shows, Worked}
+use Rattle.sdd_dm.proofs.All.{Act, Bases, ClassNo, DatesDiffer, Did, Fetch, Frozen, Handed, HasCopies, List, Log, Msg, None, Notes, Null, Open, Option, Reached, Read, Reduce, Reduced, Rows, Sends, Setting, Ship, Shows, ShowsClass, Site, Some, State, Ts, Value, Values, Worked, Write, [], all_dated, all_held, answer_to, ap, arith, class_piped, class_view, false, fits, frozen, frozen_handed, frozen_of, given_up, goes_through, hands, home_of, if◌then◌else◌, is_asked_of, length, length-update, made_nothing, made_one, next, notes_handed, nothing_noted, opens, opens_acted, reduced_at, refl, rows_held, state_handed, subst, suc, sym, update, values_in, with_out, ℕ, ◌<◌, ◌==◌, ◌∙◌, ◌∷◌, ◌≡◌, ◌≤◌}
 use Rattle.sdd_dm.proofs.ByClass.{at_own, at_other, same_number, other_number, by_class}
 use Rattle.sdd_dm.proofs.Dates.{new_differ}
 use Rattle.sdd_dm.proofs.Messages.{is_answered, opened, put_shown, read_worked}
@@ -182,7 +168,8 @@ null_worked : (from : Site) (st : State) (class : ClassNo) (time : Ts)
 null_worked from st class time s bases log shows fit = record {
   view = Handed from (Null class time) ∷ log;
   shown = put_shown s st log from (Null class time) class.0 shows fit.source.is_class (λ j. refl) (λ k. refl) refl shows.dates tt;
-  made = made_nothing (next s bases) ◌∷◌ (Handed from (Null class time) ∷ log) (Handed from (Null class time) ∷ log) nothing_noted nothing_noted refl refl;
+  made = made_nothing (next s bases) ◌∷◌ (Handed from (Null class time) ∷ log)
+      (Handed from (Null class time) ∷ log) nothing_noted nothing_noted refl refl;
 }
 
 -- each message

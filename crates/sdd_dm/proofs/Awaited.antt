@@ -1,18 +1,5 @@
 -- What a module tells of its READs that wait.
-use Rattle.std.proofs.Common.{ℕ, zero, suc, ◌+◌, ◌<◌, ◌≤◌, Bool, true, false, not, List, [], ◌∷◌, length, ◌≡◌, refl, ap, ◌∙◌, arith, sym, subst, Option, Some, None}
-use Rattle.std.specs.Prelude.{◌==◌, ◌&&◌, find}
-use Rattle.std.specs.Bool.{if◌then◌else◌}
-use Rattle.std.specs.List.{list_all, range_with_len}
-use Rattle.sdd_module.specs.All.{Cond, Kept, Log, Msg, Read, Setting, first_some, or_else}
-use Rattle.sdd_dm.specs.declared.step.Step.{Step}
-use Rattle.sdd_dm.specs.declared.step.Step.TheVariants.{Processes}
-use Rattle.sdd_dm.specs.Pipes.{waits}
-use Rattle.sdd_dm.specs.Views.{view_of}
-use Rattle.sdd_dm.specs.Due.{is_met}
-use Rattle.sdd_dm.specs.Heads.{head_at, waits_at, is_met_in, step_by, step_at, of_class, first_step}
-use Rattle.sdd_dm.specs.State.{State}
-use Rattle.sdd_dm.specs.Stands.{Shows, Stands}
-use Rattle.sdd_dm.specs.Waiting.{conds_of, waiting_at, IsAwaited, waiting_in, first_unmet}
+use Rattle.sdd_dm.proofs.All.{Bool, Cond, IsAwaited, Kept, List, Log, Msg, None, Option, Processes, Read, Setting, Shows, Some, Stands, State, Step, [], ap, arith, conds_of, false, find, first_some, first_step, first_unmet, head_at, if◌then◌else◌, is_met, is_met_in, length, list_all, not, of_class, or_else, range_with_len, refl, step_at, step_by, subst, suc, sym, true, view_of, waiting_at, waiting_in, waits, waits_at, zero, ℕ, ◌&&◌, ◌+◌, ◌<◌, ◌==◌, ◌∙◌, ◌∷◌, ◌≡◌, ◌≤◌}
 use Rattle.sdd_dm.proofs.Shown.{met_is, waits_shown, head_shown}
 
 -- where none of a range is there, each isn't
@@ -95,8 +82,7 @@ awaited_by s st log c t (Some conds) shows l quiet e =
     let d = lacks_in st c t (waits_at st.waits c) conds (quiet_at st c quiet (omega (arith, shows.pipes))) e in
     subst (IsAwaited s log c t) (sym d.1) (
       conds,
-      sym (waiting_is s st log c t shows l)
-          ∙ e,
+      sym (waiting_is s st log c t shows l) ∙ e,
       found_same (λ x. not (is_met (view_of s log) x)) (λ x. not (is_met_in st.pipes x)) conds (λ x. ap not (sym (met_is s st log shows x))) ∙ d.1,
     )
 

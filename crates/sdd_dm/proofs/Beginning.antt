@@ -1,19 +1,6 @@
 -- The rows and copies with which a module begins.
-use Rattle.std.proofs.Common.{ℕ, zero, suc, ◌+◌, ◌<◌, ℤ, false, List, [], ◌∷◌, ◌++◌, length, map, fold, ◌≡◌, refl, ap, ◌∙◌, arith, sym, subst, Some, None}
-use Rattle.std.specs.Prelude.{slice_index_or}
-use Rattle.std.specs.Borrow.{Bor}
-use Rattle.std.specs.List.{All}
-use Rattle.std.proofs.lemmas.List.Elements.{All-head, All-tail}
-use Rattle.std.specs.Option.{option_map}
-use Rattle.std.specs.Ordering.{match_ordering}
-use Rattle.std.specs.declared.cmp.Ordering.TheVariants.{Less, Equal, Greater}
-use Rattle.std.specs.BTreeMap.{insert_entry}
-use Rattle.sdd_module.specs.All.{Catalogue, Change, Database, FragNo, IsEntry, Item, RelNo, Row, Value, frag_no, fragment_of, item_cmp, key_in, with_row}
-use Rattle.sdd_copy.specs.Contents.{Dated}
-use Rattle.sdd_copy.specs.Items.{Items, written}
-use Rattle.sdd_copy.specs.Copies.{Held, is_here, changed_at, with_change}
-use Rattle.sdd_dm.specs.Copies.{first_row}
-use Rattle.sdd_dm.specs.Starts.{lent}
+use Rattle.sdd_dm.proofs.All.{All, All-head, All-tail, Bor, Catalogue, Change, Database, Dated, Equal, FragNo, Greater, Held, IsEntry, Item, Items, Less, List, None, RelNo, Row, Some, Value, [], ap, arith, changed_at, false, first_row, fold, frag_no, fragment_of, insert_entry, is_here, item_cmp, key_in, length, lent, map, match_ordering, option_map, refl, slice_index_or, subst, suc, sym, with_change, with_row, zero, ℕ, ℤ, ◌++◌, ◌+◌, ◌<◌, ◌∙◌, ◌∷◌, ◌≡◌}
+use Rattle.sdd_copy.specs.Items.{written}
 
 -- a change of a fragment without a copy is left out
 
@@ -31,7 +18,8 @@ pub lent_put : (es : List (Item × Bor (List Value))) (k : Item) (v : Bor (List 
     → map lent (insert_entry item_cmp es k v) ≡ insert_entry item_cmp (map lent es) k v.now
 lent_put [] k v = refl
 lent_put (e ∷ es) k v =
-    elim (item_cmp k e.0) as (λ o. map lent (match_ordering o ((k, v) ∷ e ∷ es) ((e.0, v) ∷ es) (e ∷ insert_entry item_cmp es k v)) ≡ match_ordering o
+    elim (item_cmp k e.0) as
+    (λ o. map lent (match_ordering o ((k, v) ∷ e ∷ es) ((e.0, v) ∷ es) (e ∷ insert_entry item_cmp es k v)) ≡ match_ordering o
     ((k, v.now) ∷ lent e ∷ map lent es) ((e.0, v.now) ∷ map lent es) (lent e ∷ insert_entry item_cmp (map lent es) k v.now)) [
       | Less ↦ refl
       | Equal ↦ refl

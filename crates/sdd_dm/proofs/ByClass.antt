@@ -1,10 +1,5 @@
 -- Lists by class: what stands at a class of a list that is made over a range, and of one of which an element was changed.
-use Rattle.std.proofs.Common.{ℕ, zero, suc, ◌+◌, ◌<◌, ◌≤◌, ◌≢◌, ◌==◌, Bool, true, false, List, [], ◌∷◌, length, map, ◌≡◌, refl, ap, ◌∙◌, arith, sym, subst, Option, Some, None}
-use Rattle.std.specs.Prelude.{slice_index_or, filter, ◌||◌}
-use Rattle.std.specs.List.{list_any, list_all, range_with_len}
-use Rattle.std.proofs.lemmas.Bool.Decides.{nat_tests}
-use Rattle.sdd_module.specs.All.{first_some, or_else}
-use Rattle.sdd_pipe.specs.Pipes.{update}
+use Rattle.sdd_dm.proofs.All.{Bool, List, None, Option, Some, [], ap, arith, false, filter, first_some, length, list_all, list_any, map, nat_tests, or_else, range_with_len, refl, slice_index_or, subst, suc, sym, true, update, zero, ℕ, ◌+◌, ◌<◌, ◌==◌, ◌||◌, ◌∙◌, ◌∷◌, ◌≡◌, ◌≢◌, ◌≤◌}
 
 -- an element of a changed list
 
@@ -65,7 +60,8 @@ pub any_map : {A B : Type 0} (f : B → Bool) (g : A → B) (xs : List A) → li
 any_map f g [] = refl
 any_map f g (x ∷ xs) = ap (λ b. f (g x) || b) (any_map f g xs)
 
-pub any_range : (f g : ℕ → Bool) (a n : ℕ) → ((c : ℕ) → c < a + n → f c ≡ g c) → list_any f (range_with_len a n) ≡ list_any g (range_with_len a n)
+pub any_range : (f g : ℕ → Bool) (a n : ℕ) → ((c : ℕ) → c < a + n → f c ≡ g c)
+    → list_any f (range_with_len a n) ≡ list_any g (range_with_len a n)
 any_range f g a zero h = refl
 any_range f g a (suc n) h = rw (h a (omega arith), any_range f g (a + 1) n (λ c l. h c (omega arith))) refl
 
@@ -73,7 +69,8 @@ pub all_same : {A : Type 0} (f g : A → Bool) (xs : List A) → ((x : A) → f 
 all_same f g [] h = refl
 all_same f g (x ∷ xs) h = rw (h x, all_same f g xs h) refl
 
-filter_by : {A : Type 0} (f g : A → Bool) (x : A) (xs : List A) → f x ≡ g x → filter f xs ≡ filter g xs → filter f (x ∷ xs) ≡ filter g (x ∷ xs)
+filter_by : {A : Type 0} (f g : A → Bool) (x : A) (xs : List A) → f x ≡ g x → filter f xs ≡ filter g xs
+    → filter f (x ∷ xs) ≡ filter g (x ∷ xs)
 filter_by f g x xs e h =
     elim (g x) as (λ b. g x ≡ b → filter f (x ∷ xs) ≡ filter g (x ∷ xs)) [
       | true ↦ λ p. rw (e ∙ p, p, h) refl

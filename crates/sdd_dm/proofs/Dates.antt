@@ -1,20 +1,5 @@
 -- The changes of a WRITE that is handed: no two of them change one item, and no other change has its time.
-use Rattle.std.proofs.Common.{ℕ, ◌<◌, ◌==◌, ℤ, Bool, true, false, List, [], ◌∷◌, ◌++◌, map, ◌≡◌, inl, inr, refl, ap, ◌∙◌, arith, sym, subst, Some}
-use Rattle.std.specs.Prelude.{◌||◌}
-use Rattle.std.specs.List.{AllByRecursion, Contains, IsDistinct}
-use Rattle.std.specs.declared.cmp.Ordering.TheVariants.{Equal}
-use Rattle.std.specs.Ordering.{nat_cmp, int_cmp, ordering_then, is_eq}
-use Rattle.std.proofs.lemmas.Bool.Decides.{nat_tests}
-use Rattle.std.proofs.lemmas.List.Elements.{Contains-append_left, Contains-append_right, Contains-append_cases}
-use Rattle.std.proofs.lemmas.Map.Keys.{IsDistinct-head, IsDistinct-tail}
-use Rattle.sdd_module.specs.All.{Change, Did, Handed, Item, Log, Msg, Redeclared, Setting, Submits, Ticked, Write, contains, database_of, item_cmp}
-use Rattle.sdd_module.proofs.base.Membership.{Contains-nil, Contains-here, Contains-later, Contains-cases}
-use Rattle.sdd_copy.specs.Contents.{Dated}
-use Rattle.sdd_copy.specs.Sets.{DatesDiffer}
-use Rattle.sdd_copy.proofs.Contents.{is_own}
-use Rattle.sdd_dm.specs.Copies.{changes_in, first_row, first_rows}
-use Rattle.sdd_dm.specs.Fits.{write_time_of, with_time, write_times}
-use Rattle.sdd_dm.specs.Stands.{written, all_dated}
+use Rattle.sdd_dm.proofs.All.{AllByRecursion, Bool, Change, Contains, Contains-append_cases, Contains-append_left, Contains-append_right, Contains-cases, Contains-here, Contains-later, Contains-nil, Dated, DatesDiffer, Did, Equal, Handed, IsDistinct, IsDistinct-head, IsDistinct-tail, Item, List, Log, Msg, Redeclared, Setting, Some, Submits, Ticked, Write, [], all_dated, ap, arith, changes_in, contains, database_of, false, first_row, first_rows, inl, inr, int_cmp, is_eq, is_own, item_cmp, map, nat_cmp, nat_tests, or_right, ordering_then, refl, subst, sym, true, with_time, write_time_of, write_times, written, ℕ, ℤ, ◌++◌, ◌<◌, ◌==◌, ◌∙◌, ◌∷◌, ◌≡◌}
 use Rattle.sdd_dm.proofs.ByClass.{same_number}
 
 -- members of a list that a function makes
@@ -53,7 +38,8 @@ not_later x y xs apart i e f =
     let no = each_map (λ j. is_one (item x) j ≡ false) item xs y apart i in
     let yes = one_item x y e f in absurd cc
 
-pub one_change : (xs : List Change) (x y : Change) → IsDistinct is_one (map item xs) → Contains xs x → Contains xs y → x.frag.0 ≡ y.frag.0 → x.key ≡ y.key
+pub one_change : (xs : List Change) (x y : Change) → IsDistinct is_one (map item xs) → Contains xs x → Contains xs y → x.frag.0 ≡ y.frag.0
+    → x.key ≡ y.key
     → x ≡ y
 one_change [] x y d i j e f = absurd (Contains-nil x i)
 one_change (z ∷ xs) x y d i j e f =
@@ -72,11 +58,8 @@ one_change (z ∷ xs) x y d i j e f =
 
 -- the time of a WRITE that was handed before is told
 
-or_right : (a b : Bool) → b ≡ true → (a || b) ≡ true
-or_right true b e = refl
-or_right false b e = e
-
-written_time : (m : Msg) (times : List ℕ) (x : ℕ × Change) → Contains (changes_in (Some m)) x → contains (with_time (write_time_of m) times) x.0 ≡ true
+written_time : (m : Msg) (times : List ℕ) (x : ℕ × Change) → Contains (changes_in (Some m)) x
+    → contains (with_time (write_time_of m) times) x.0 ≡ true
 written_time (Write ts class txn changes) times x h =
     let r = from_map (λ c. (ts.0, c)) changes x h in
     let e : ts.0 ≡ x.0 = ap (λ y. y.0) (sym r.2) in
@@ -107,18 +90,15 @@ first_time s x h = let r = from_map (first_row s.catalogue) (database_of s.catal
 abbrev new_dated : ℕ → List Change → Dated
 new_dated t changes = map (λ c. (t, c)) changes
 
-not_before : (s : Setting) (log : Log) (t : ℕ) (x : ℕ × Change) → 0 < t → contains (write_times log) t ≡ false → Contains (all_dated s log) x → x.0 ≡ t → ⊥
+not_before : (s : Setting) (log : Log) (t : ℕ) (x : ℕ × Change) → 0 < t → contains (write_times log) t ≡ false → Contains (all_dated s log) x
+    → x.0 ≡ t → ⊥
 not_before s log t x above fresh h e = elim (Contains-append_cases (first_rows s) (written log) x h) as (λ _. ⊥) [
   | inl i ↦ let z = first_time s x i in absurd (omega arith)
   | inr i ↦ let yes = ap (contains (write_times log)) (sym e) ∙ written_times log x i in absurd cc
 ]
 
-pair_is : (x : ℕ × Change) (t : ℕ) (c : Change) → x ≡ (t, c) → (x.0 ≡ t) × (x.1 ≡ c)
-pair_is x t c e = (ap (λ y. y.0) e, ap (λ y. y.1) e)
-
 both_new : (t : ℕ) (changes : List Change) (x y : ℕ × Change) → IsDistinct is_one (map item changes) → Contains (new_dated t changes) x
-    → Contains (new_dated t changes) y
-    → x.1.frag.0 ≡ y.1.frag.0 → x.1.key ≡ y.1.key → x ≡ y
+    → Contains (new_dated t changes) y → x.1.frag.0 ≡ y.1.frag.0 → x.1.key ≡ y.1.key → x ≡ y
 both_new t changes x y d i j e f =
     let p = from_map (λ c. (t, c)) changes x i in
     let q = from_map (λ c. (t, c)) changes y j in
@@ -142,7 +122,8 @@ where_dated s log news x P f g h = elim (Contains-append_cases (first_rows s) (n
   ]
 ]
 
-pub new_differ : (s : Setting) (log : Log) (t : ℕ) (changes : List Change) → 0 < t → contains (write_times log) t ≡ false → IsDistinct is_one (map item changes)
+pub new_differ : (s : Setting) (log : Log) (t : ℕ) (changes : List Change) → 0 < t → contains (write_times log) t ≡ false
+    → IsDistinct is_one (map item changes)
     → DatesDiffer (all_dated s log) → DatesDiffer (first_rows s ++ (new_dated t changes ++ written log))
 new_differ s log t changes above fresh d old = λ x y i j e f time.
     where_dated s log (new_dated t changes) x (x ≡ y)

@@ -1,25 +1,5 @@
 -- A module to which nothing was handed stands for the empty log.
-use Rattle.std.proofs.Common.{ℕ, zero, suc, ◌+◌, true, false, List, [], ◌∷◌, ◌++◌, length, map, ◌≡◌, refl, ap, ◌∙◌, arith, sym, subst, append-nil, inl, inr, None}
-use Rattle.std.specs.Prelude.{slice_index_or, replicate, IsTrue, flat_map}
-use Rattle.std.specs.List.{AllByRecursion, Contains, IsDistinct, range_with_len}
-use Rattle.std.specs.Map.{keys_of}
-use Rattle.std.specs.Ordering.{eq_by_cmp}
-use Rattle.std.proofs.lemmas.List.{length-replicate}
-use Rattle.std.proofs.lemmas.List.Elements.{All-contains}
-use Rattle.std.proofs.lemmas.Map.Keys.{IsDistinct-from_sorted, IsDistinct-head, IsDistinct-tail}
-use Rattle.sdd_module.specs.All.{Catalogue, D, Database, DmNo, IsDatabase, IsEntry, IsSound, Item, RelNo, Row, Setting, database_of, fragment_at, fragment_of, has_copy, item_cmp}
-use Rattle.sdd_module.proofs.base.Membership.{Contains-nil, Contains-cases}
-use Rattle.sdd_module.proofs.lang.KeyRanges.{key_in_range, fragment_holds}
-use Rattle.sdd_copy.specs.Sets.{DatesDiffer}
-use Rattle.sdd_copy.specs.Copies.{Held, is_here, StandFor}
-use Rattle.sdd_pipe.specs.Digest.{empty_digest, IsDigest}
-use Rattle.sdd_pipe.specs.Pipe.{empty_pipe}
-use Rattle.sdd_pipe.proofs.Digests.{is_empty_digest}
-use Rattle.sdd_dm.specs.Copies.{classes_of, first_row, first_rows, dated}
-use Rattle.sdd_dm.specs.Views.{Home, home_of}
-use Rattle.sdd_dm.specs.Heads.{step_at, of_class, first_step}
-use Rattle.sdd_dm.specs.State.{State}
-use Rattle.sdd_dm.specs.Stands.{Shows}
+use Rattle.sdd_dm.proofs.All.{All-contains, AllByRecursion, Catalogue, Contains, Contains-cases, Contains-nil, D, Database, DatesDiffer, DmNo, IsDatabase, IsDigest, IsDistinct, IsDistinct-from_sorted, IsDistinct-head, IsDistinct-tail, IsEntry, IsSound, IsTrue, Item, List, None, RelNo, Row, Setting, Shows, StandFor, State, [], ap, append-nil, arith, classes_of, database_of, dated, empty_digest, empty_pipe, eq_by_cmp, false, first_row, first_rows, first_step, flat_map, fragment_at, fragment_holds, fragment_of, has_copy, home_of, inl, inr, is_empty_digest, is_here, item_cmp, key_in_range, keys_of, length, length-replicate, map, of_class, range_with_len, refl, replicate, slice_index_or, step_at, subst, suc, sym, true, zero, ℕ, ◌++◌, ◌+◌, ◌∙◌, ◌∷◌, ◌≡◌}
 use Rattle.sdd_dm.proofs.ByClass.{first_none}
 use Rattle.sdd_dm.proofs.Dates.{from_map, each_map, own_item}
 
@@ -38,7 +18,8 @@ flat_none (x ∷ xs) = flat_none xs
 same_item : (x y : Item) → x ≡ y → eq_by_cmp item_cmp x y ≡ true
 same_item x y e = rw e (own_item y.0 y.1)
 
-not_later : (e f : Item × Row) (db : Database) → AllByRecursion (λ i. eq_by_cmp item_cmp e.0 i ≡ false) (keys_of db) → Contains db f → e.0 ≡ f.0 → ⊥
+not_later : (e f : Item × Row) (db : Database) → AllByRecursion (λ i. eq_by_cmp item_cmp e.0 i ≡ false) (keys_of db) → Contains db f → e.0 ≡ f.0
+    → ⊥
 not_later e f db apart i same =
     let no = each_map (λ j. eq_by_cmp item_cmp e.0 j ≡ false) (λ x. x.0) db f apart i in
     let yes = same_item e.0 f.0 same in absurd cc
@@ -84,25 +65,15 @@ no_step n m c =
     let empty = at_replicate n c empty_digest in
     rw (empty) refl
 
-abbrev first_state : Home → ℕ → Held → State
-first_state h n copies = record {
-  home = h;
-  pipes_live = true;
-  pipes = replicate n empty_digest;
-  waits = replicate n false;
-  copies = record { live = true; value = copies };
-  frozen = replicate n None;
-}
-
 abbrev setting_of : Catalogue → DmNo → List (RelNo × Row) → Setting
 setting_of cat dm rows = record { catalogue = cat; site = D dm; rows = rows }
 
 pub first_shown : (cat : Catalogue) (dm : DmNo) (rows : List (RelNo × Row)) (n : ℕ) (st : State) → IsSound cat → IsDatabase cat (database_of cat rows)
     → n ≡ length cat.classes + 1
-    → st.home ≡ home_of (setting_of cat dm rows) → st.pipes ≡ replicate n empty_digest → st.waits ≡ replicate n false → st.frozen ≡ replicate n None
+    → st.home ≡ home_of (setting_of cat dm rows) → st.pipes ≡ replicate n empty_digest → st.waits ≡ replicate n false
+    → st.frozen ≡ replicate n None
     → IsTrue st.pipes_live → IsTrue st.copies.live → StandFor st.copies.value (map (first_row cat) (database_of cat rows))
-    → ((f : ℕ) → has_copy cat dm.0 f ≡ true → is_here st.copies.value f ≡ true)
-    → Shows (setting_of cat dm rows) st []
+    → ((f : ℕ) → has_copy cat dm.0 f ≡ true → is_here st.copies.value f ≡ true) → Shows (setting_of cat dm rows) st []
 first_shown cat dm rows n st sound is many home pipes waits frozen pipes_live live stand here =
     let s : Setting = setting_of cat dm rows in
     let all : dated s [] ≡ first_rows s = ap (λ xs. first_rows s ++ xs) (flat_none (classes_of s)) ∙ append-nil (first_rows s) in

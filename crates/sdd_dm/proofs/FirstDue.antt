@@ -1,19 +1,5 @@
 -- What the first head may do is what is due next, where nothing is left to answer.
-use Rattle.std.proofs.Common.{ℕ, zero, suc, ◌+◌, ◌<◌, ◌≤◌, Bool, List, [], length, ◌≡◌, refl, ap, ◌∙◌, arith, sym, subst, Option, Some, None}
-use Rattle.std.specs.Prelude.{filter}
-use Rattle.std.specs.List.{range_with_len}
-use Rattle.sdd_module.specs.All.{Act, ClassNo, Log, Msg, Setting, first_some, head_of, or_else}
-use Rattle.sdd_pipe.specs.Pipe.{head}
-use Rattle.sdd_pipe.specs.Digest.{Digest}
-use Rattle.sdd_dm.specs.declared.step.Step.{Step}
-use Rattle.sdd_dm.specs.Pipes.{pipe}
-use Rattle.sdd_dm.specs.Copies.{classes_of}
-use Rattle.sdd_dm.specs.Opens.{opens, is_asked_of}
-use Rattle.sdd_dm.specs.Views.{Home, ClassView, View, class_view, view_of}
-use Rattle.sdd_dm.specs.Due.{answer_of, open_due, head_step, act_by, act_where, head_due, due}
-use Rattle.sdd_dm.specs.Heads.{head_at, step_by, step_at, of_class, first_step}
-use Rattle.sdd_dm.specs.State.{State}
-use Rattle.sdd_dm.specs.Stands.{Shows}
+use Rattle.sdd_dm.proofs.All.{Act, Bool, ClassNo, ClassView, Digest, Home, List, Log, Msg, None, Option, Setting, Shows, Some, State, Step, View, [], act_by, act_where, answer_of, ap, arith, class_view, classes_of, due, filter, first_some, first_step, head, head_at, head_due, head_of, head_step, is_asked_of, length, of_class, open_due, opens, or_else, pipe, range_with_len, refl, step_at, step_by, subst, suc, sym, view_of, zero, ℕ, ◌+◌, ◌<◌, ◌∙◌, ◌≡◌, ◌≤◌}
 use Rattle.sdd_dm.proofs.ByClass.{first_map, first_none, first_range, found_first}
 use Rattle.sdd_dm.proofs.Shown.{step_is, head_shown}
 
@@ -39,7 +25,8 @@ where_none : (h : Home) (v : View) (c : ℕ) (o : Option Msg) → act_where h v 
 where_none h v c None = refl
 where_none h v c (Some m) = refl
 
-act_at : (h : Home) (s : Setting) (log : Log) (c : ℕ) (o : Option Step) → act_where h (view_of s log) c (head (pipe c log)) o ≡ act_of h s log (of_class c o)
+act_at : (h : Home) (s : Setting) (log : Log) (c : ℕ) (o : Option Step)
+    → act_where h (view_of s log) c (head (pipe c log)) o ≡ act_of h s log (of_class c o)
 act_at h s log c None = where_none h (view_of s log) c (head (pipe c log))
 act_at h s log c (Some step) = refl
 
@@ -54,7 +41,8 @@ head_there : (pipes : List Digest) (flags : List Bool) (c : ℕ) (w : Bool) (o :
 head_there pipes flags c w None step e = absurd cc
 head_there pipes flags c w (Some m) step e = (m, refl)
 
-acts_there : (h : Home) (v : View) (c : ℕ) (o : Option Msg) (m : Msg) (step : Step) → o ≡ Some m → act_where h v c o (Some step) ≡ Some (act_by h v c m step)
+acts_there : (h : Home) (v : View) (c : ℕ) (o : Option Msg) (m : Msg) (step : Step) → o ≡ Some m
+    → act_where h v c o (Some step) ≡ Some (act_by h v c m step)
 acts_there h v c o m step e = rw e refl
 
 abbrev IsThere : Home → Setting → Log → Option (ClassNo × Step) → Type 0
@@ -99,7 +87,8 @@ pub record IsFirst (st : State) (p : ClassNo × Step) : Type 0 where
   pub msg : Msg
   pub head : head_at st.pipes p.0.0 ≡ Some msg
 
-first_by : (st : State) (c : ℕ) (o : Option Step) (p : ClassNo × Step) → c < length st.pipes → step_at st.pipes st.waits c ≡ o → of_class c o ≡ Some p
+first_by : (st : State) (c : ℕ) (o : Option Step) (p : ClassNo × Step) → c < length st.pipes → step_at st.pipes st.waits c ≡ o
+    → of_class c o ≡ Some p
     → IsFirst st p
 first_by st c None p l q e = absurd cc
 first_by st c (Some step) p l q e =
@@ -114,8 +103,7 @@ first_is st p e =
 
 -- what is due, where a head may do something
 pub next_act : (h : Home) (s : Setting) (st : State) (log : Log) (p : ClassNo × Step) → Shows s st log → first_step st.pipes st.waits ≡ Some p
-    → (f : IsFirst st p)
-    → due h (view_of s log) ≡ Some (act_by h (view_of s log) p.0.0 f.msg p.1)
+    → (f : IsFirst st p) → due h (view_of s log) ≡ Some (act_by h (view_of s log) p.0.0 f.msg p.1)
 next_act h s st log p shows e f =
     let few : p.0.0 ≤ length s.catalogue.classes = omega (arith, f.known, shows.pipes) in
     due_is h s st log shows ∙ ap (act_of h s log) e

@@ -1,10 +1,5 @@
 -- What stands in a pipe was handed.
-use Rattle.std.proofs.Common.{ℕ, Bool, true, false, List, [], ◌∷◌, ◌++◌, ◌≡◌, sym, subst, Some}
-use Rattle.std.specs.Bool.{if◌then◌else◌}
-use Rattle.sdd_module.specs.All.{Did, Handed, Log, Msg, Redeclared, Submits, Ticked, goes_through, head_of}
-use Rattle.sdd_pipe.specs.Pipe.{head}
-use Rattle.sdd_dm.specs.Pipes.{pipe}
-use Rattle.sdd_dm.specs.Stands.{EachHanded}
+use Rattle.sdd_dm.proofs.All.{Bool, Did, EachHanded, Handed, List, Log, Msg, Redeclared, Some, Submits, Ticked, [], false, goes_through, head, head_of, if◌then◌else◌, pipe, subst, sym, true, ℕ, ◌++◌, ◌∷◌, ◌≡◌}
 use Rattle.sdd_dm.proofs.Prefix.{all_handed, all_there}
 
 -- P holds of each of some messages

@@ -1,16 +1,5 @@
 -- Each step of a head leaves fewer steps: it processes a message, or lets a READ wait that didn't wait before.
-use Rattle.std.proofs.Common.{ℕ, zero, suc, ◌<◌, Bool, true, false, List, [], ◌∷◌, length, ◌≡◌, refl, ap, ◌∙◌, arith, sym, subst, Option, Some, None}
-use Rattle.std.specs.Prelude.{IsTrue}
-use Rattle.std.specs.Bool.{if◌then◌else◌}
-use Rattle.std.specs.List.{list_all}
-use Rattle.sdd_module.specs.All.{ClassNo, Cond, Msg, Null, Read, Reduce, Ship, Write, head_of}
-use Rattle.sdd_pipe.specs.Digest.{Digest, Writes, put_digest, take_digest}
-use Rattle.sdd_pipe.specs.Pipes.{update, pipe_at}
-use Rattle.sdd_pipe.proofs.Updates.{length-update}
-use Rattle.sdd_dm.specs.declared.step.Step.{Step}
-use Rattle.sdd_dm.specs.declared.step.Step.TheVariants.{Processes, Refuses, Waits}
-use Rattle.sdd_dm.specs.Heads.{head_at, waits_at, is_met_in, step_by, first_step}
-use Rattle.sdd_dm.specs.State.{State, class_piped, state_handed, state_by, state_told, stepped, state_after, steps_in, steps_left}
+use Rattle.sdd_dm.proofs.All.{Bool, ClassNo, Cond, Digest, IsTrue, List, Msg, None, Null, Option, Processes, Read, Reduce, Refuses, Ship, Some, State, Step, Waits, Write, Writes, [], ap, arith, class_piped, false, first_step, head_at, head_of, if◌then◌else◌, is_met_in, length, length-update, list_all, pipe_at, put_digest, refl, state_after, state_by, state_handed, state_told, step_by, stepped, steps_in, steps_left, subst, suc, sym, take_digest, true, update, waits_at, zero, ℕ, ◌<◌, ◌∙◌, ◌∷◌, ◌≡◌}
 use Rattle.sdd_dm.proofs.FirstDue.{first_is}
 
 -- one class less
@@ -54,9 +43,11 @@ not_both : {P : Type 0} (b : Bool) (ds : List Cond) → (if b then Some Processe
 not_both true ds e = absurd cc
 not_both false ds e = absurd cc
 
-step_less : (st : State) (c : ℕ) (m : Msg) (step : Step) (w : Bool) → c < length st.pipes → length st.waits ≡ length st.pipes → head_at st.pipes c ≡ Some m
+step_less : (st : State) (c : ℕ) (m : Msg) (step : Step) (w : Bool) → c < length st.pipes → length st.waits ≡ length st.pipes
+    → head_at st.pipes c ≡ Some m
     → waits_at st.waits c ≡ w
-    → step_by st.pipes st.waits c w (Some m) ≡ Some step → steps_left (stepped st c m step).pipes (stepped st c m step).waits < steps_left st.pipes st.waits
+    → step_by st.pipes st.waits c w (Some m) ≡ Some step
+    → steps_left (stepped st c m step).pipes (stepped st c m step).waits < steps_left st.pipes st.waits
 step_less st c (Null class time) step w l same e f g = head_less st c (Null class time) l same e
 step_less st c (Write ts class txn changes) step w l same e f g = head_less st c (Write ts class txn changes) l same e
 step_less st c (Read ts class txn attempt conds uses) Processes w l same e f g = head_less st c (Read ts class txn attempt conds uses) l same e
@@ -90,7 +81,8 @@ stepped_whole st c (Null class time) step w = record { live = w.live; pipes_live
 stepped_whole st c (Write ts class txn changes) step w = record { live = refl; pipes_live = w.pipes_live; flags = taken_whole st c w }
 stepped_whole st c (Read ts class txn attempt conds uses) Processes w = record { live = w.live; pipes_live = w.pipes_live; flags = taken_whole st c w }
 stepped_whole st c (Read ts class txn attempt conds uses) (Refuses by write) w = record { live = w.live; pipes_live = w.pipes_live; flags = taken_whole st c w }
-stepped_whole st c (Read ts class txn attempt conds uses) (Waits ds) w = record { live = w.live; pipes_live = w.pipes_live; flags = length-update c (λ x. true) st.waits ∙ w.flags }
+stepped_whole st c (Read ts class txn attempt conds uses) (Waits ds) w =
+    record { live = w.live; pipes_live = w.pipes_live; flags = length-update c (λ x. true) st.waits ∙ w.flags }
 stepped_whole st c _ step w = w
 
 after_whole : (st : State) (c : ℕ) (o : Option Msg) (step : Step) → IsWhole st → IsWhole (state_after st c o step)

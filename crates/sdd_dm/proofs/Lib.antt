@@ -1,3 +1,4 @@
+mod All
 pub mod Applied
 pub mod Asked
 pub mod Awaited

@@ -1,17 +1,12 @@
 -- Of conditions that ascend by class the first that spoils a READ is that of the lowest class.
-use Rattle.std.proofs.Common.{ℕ, zero, suc, ◌≤◌, ◌<◌, Bool, true, false, List, [], ◌∷◌, ◌≡◌, refl, ap, ◌∙◌, sym, subst, arith, map, Some}
-use Rattle.std.specs.Prelude.{filter, slice_get, not}
-use Rattle.sdd_module.specs.All.{ClassNo, Cond, Ts, head_of, time_at}
-use Rattle.sdd_dm.specs.declared.step.Step.TheVariants.{Refuses}
-use Rattle.sdd_dm.specs.Due.{is_met, judge, judged, last_write_for, or_zero, spoils}
-use Rattle.sdd_dm.specs.Fits.{Ascend}
-use Rattle.sdd_dm.specs.Views.{View}
+use Rattle.sdd_dm.proofs.All.{Ascend, Bool, ClassNo, Cond, List, Refuses, Some, Ts, View, [], ap, arith, false, filter, head_of, is_met, judge, judged, last_write_for, map, not, or_zero, refl, slice_get, spoils, subst, suc, sym, time_at, true, zero, ℕ, ◌<◌, ◌∙◌, ◌∷◌, ◌≡◌, ◌≤◌}
 
 abbrev classes_in : List Cond → List ℕ
 classes_in conds = map (λ (d : Cond). d.class.0) conds
 
 -- the first stands below all others
-first_below : (d : Cond) (conds : List Cond) (n : ℕ) (e : Cond) → Ascend (classes_in (d ∷ conds)) → slice_get conds n ≡ Some e → d.class.0 < e.class.0
+first_below : (d : Cond) (conds : List Cond) (n : ℕ) (e : Cond) → Ascend (classes_in (d ∷ conds)) → slice_get conds n ≡ Some e
+    → d.class.0 < e.class.0
 first_below d [] n e h there = cc
 first_below d (x ∷ conds) zero e h there = let p : x ≡ e = cc in subst (λ (y : Cond). d.class.0 < y.class.0) p h.0
 first_below d (x ∷ conds) (suc n) e h there =

@@ -1,23 +1,5 @@
 -- A message is handed: it goes to its pipe, or it is answered at once.
-use Rattle.std.proofs.Common.{ℕ, suc, ◌≤◌, ◌==◌, Bool, true, false, List, [], ◌∷◌, ◌++◌, length, ◌≡◌, refl, ap, ◌∙◌, arith, sym, subst, Some, None}
-use Rattle.std.specs.Prelude.{◌&&◌, ◌||◌, filter}
-use Rattle.std.specs.Bool.{if◌then◌else◌}
-use Rattle.sdd_module.specs.All.{Act, Arrive, ClassNo, Cond, Did, Handed, Log, Msg, Read, Rec, Records, Setting, Site, Ts, TxnNo, Use, first_some, goes_through, hands, head_of, nothing_noted, or_else}
-use Rattle.sdd_module.proofs.Making.{made_one}
-use Rattle.sdd_copy.specs.Sets.{DatesDiffer}
-use Rattle.sdd_copy.specs.Copies.{StandFor}
-use Rattle.sdd_pipe.specs.Pipe.{head}
-use Rattle.sdd_pipe.specs.Digest.{empty_digest, IsDigest, put_digest}
-use Rattle.sdd_pipe.specs.Pipes.{update, pipe_at}
-use Rattle.sdd_pipe.proofs.Digests.{is_put}
-use Rattle.sdd_pipe.proofs.Updates.{length-update}
-use Rattle.sdd_dm.specs.Pipes.{is_processing, is_wait, pipe, waits}
-use Rattle.sdd_dm.specs.Copies.{classes_of, is_answer, dated, frozen, frozen_at}
-use Rattle.sdd_dm.specs.Opens.{Open, opens, opens_acted, is_asked_of, is_read_of}
-use Rattle.sdd_dm.specs.Views.{Home, home_of, ClassView, View, class_view, view_of}
-use Rattle.sdd_dm.specs.Due.{answer_to, answer_of, open_due, head_due, due, next}
-use Rattle.sdd_dm.specs.State.{State, state_handed, notes_handed}
-use Rattle.sdd_dm.specs.Stands.{HasCopies, all_dated, ShowsClass, Shows, Worked}
+use Rattle.sdd_dm.proofs.All.{Act, Arrive, Bool, ClassNo, ClassView, Cond, DatesDiffer, Did, Handed, HasCopies, Home, IsDigest, List, Log, Msg, None, Open, Read, Rec, Records, Setting, Shows, ShowsClass, Site, Some, StandFor, State, Ts, TxnNo, Use, View, Worked, [], all_dated, answer_of, answer_to, ap, arith, class_view, classes_of, dated, due, empty_digest, false, filter, first_some, frozen, frozen_at, goes_through, hands, head, head_due, head_of, home_of, if◌then◌else◌, is_answer, is_asked_of, is_processing, is_put, is_read_of, is_wait, length, length-update, made_one, next, notes_handed, nothing_noted, open_due, opens, opens_acted, or_else, pipe, pipe_at, put_digest, refl, state_handed, subst, suc, sym, true, update, view_of, waits, ℕ, ◌&&◌, ◌++◌, ◌==◌, ◌||◌, ◌∙◌, ◌∷◌, ◌≡◌, ◌≤◌}
 use Rattle.sdd_dm.proofs.ByClass.{at_own, at_other, same_number, other_number, by_class, first_map, only_class}
 use Rattle.sdd_dm.proofs.Applied.{dated_kept}
 
@@ -28,7 +10,8 @@ asked_by : (h : Home) (k : ClassView) (o : Open) (b : Bool) → is_asked_of k.cl
 asked_by h k o true e = rw e refl
 asked_by h k o false e = rw e refl
 
-pub is_answered : (h : Home) (s : Setting) (log : Log) (o : Open) (c : ℕ) (a : Act) → opens log ≡ o ∷ [] → ((k : ℕ) → is_asked_of k o ≡ (c == k))
+pub is_answered : (h : Home) (s : Setting) (log : Log) (o : Open) (c : ℕ) (a : Act) → opens log ≡ o ∷ []
+    → ((k : ℕ) → is_asked_of k o ≡ (c == k))
     → c ≤ length s.catalogue.classes
     → answer_to h (class_view s log c) o o.msg ≡ Some a → due h (view_of s log) ≡ Some a
 is_answered h s log o c a e asked l f =
@@ -62,8 +45,10 @@ handed_class s st log from m c k shows l n through kept = record {
 
 -- a WRITE or NULL comes: nothing is to be answered
 pub put_shown : (s : Setting) (st : State) (log : Log) (from : Site) (m : Msg) (c : ℕ) → Shows s st log → c ≤ length s.catalogue.classes
-    → ((j : ℕ) → goes_through j m ≡ (c == j)) → ((k : ℕ) → frozen s k (Handed from m ∷ log) ≡ frozen s k log) → opens (Handed from m ∷ log) ≡ opens log
-    → DatesDiffer (all_dated s (Handed from m ∷ log)) → HasCopies s m → Shows s (record st { pipes = update c (put_digest m) st.pipes }) (Handed from m ∷ log)
+    → ((j : ℕ) → goes_through j m ≡ (c == j)) → ((k : ℕ) → frozen s k (Handed from m ∷ log) ≡ frozen s k log)
+    → opens (Handed from m ∷ log) ≡ opens log
+    → DatesDiffer (all_dated s (Handed from m ∷ log)) → HasCopies s m
+    → Shows s (record st { pipes = update c (put_digest m) st.pipes }) (Handed from m ∷ log)
 put_shown s st log from m c shows l through kept same_opens dates read = record {
   home = shows.home;
   pipes = length-update c (put_digest m) st.pipes ∙ shows.pipes;
@@ -90,8 +75,7 @@ waits_by true c d w e f = rw (e, f) refl
 waits_by false c d w e f = refl
 
 arrived_class : (s : Setting) (st : State) (log : Log) (c k : ℕ) (r : Rec) → is_processing r ≡ false → is_wait r ≡ false → is_answer r ≡ false
-    → ShowsClass s st log k
-    → ShowsClass s st (Did (Records c r []) ∷ log) k
+    → ShowsClass s st log k → ShowsClass s st (Did (Records c r []) ∷ log) k
 arrived_class s st log c k r e f g h = record {
   pipe = subst (IsDigest (pipe_at st.pipes k)) (sym (and_false (c == k) (is_processing r) _ (pipe k log) e)) h.pipe;
   waits = h.waits ∙ sym (waits_by (c == k) (is_processing r) (is_wait r) (waits k log) e f);
@@ -100,7 +84,8 @@ arrived_class s st log c k r e f g h = record {
 
 read_closed : (n : ℕ) (from : Site) (c : ℕ) (ts : Ts) (class : ClassNo) (txn : TxnNo) (attempt : ℕ) (conds : List Cond) (uses : List Use) (dm : _)
     (os : List Open)
-    → os ≡ record { hand = n; from = from; msg = Read ts class txn attempt conds uses } ∷ [] → opens_acted (Records c (Arrive txn attempt dm) []) os ≡ []
+    → os ≡ record { hand = n; from = from; msg = Read ts class txn attempt conds uses } ∷ []
+    → opens_acted (Records c (Arrive txn attempt dm) []) os ≡ []
 read_closed n from c ts class txn attempt conds uses dm os e =
     let own : is_read_of txn.0 attempt (Read ts class txn attempt conds uses) ≡ true =
     rw (same_number txn.0 txn.0 refl, same_number attempt attempt refl) refl in

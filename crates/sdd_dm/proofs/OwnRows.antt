@@ -1,23 +1,7 @@
 -- The rows with which a module begins: those of the fragments of which it has copies.
-use Rattle.std.proofs.Common.{ℕ, Bool, true, false, cond, List, [], ◌∷◌, map, fold, filter, ◌≡◌, refl, ap, ◌∙◌, sym, subst, ℤ, Ordering}
-use Rattle.std.specs.declared.cmp.Ordering.TheVariants.{Less, Equal, Greater}
-use Rattle.std.specs.Ordering.{match_ordering}
-use Rattle.std.specs.Cmp.{IsTotalOrder}
-use Rattle.std.specs.Borrow.{Bor}
-use Rattle.std.specs.List.{All, AllByRecursion}
-use Rattle.std.specs.List.Sorted.{IsStrictlySortedBy}
-use Rattle.std.specs.Map.{keys_of}
-use Rattle.std.specs.BTreeMap.{insert_entry}
-use Rattle.std.proofs.lemmas.List.Elements.{All-filter}
-use Rattle.std.proofs.lemmas.Map.Keys.{sorted_head, sorted_tail}
-use Rattle.std.proofs.lemmas.Map.Lookups.{CmpEqualImpliesEq}
-use Rattle.sdd_module.specs.All.{Catalogue, Database, IsEntry, Item, RelNo, Row, Value, database_of, fragment_of, item_cmp, key_in, with_row}
-use Rattle.sdd_module.proofs.lang.SortedEntries.{item_cmp_total, item_cmp_exact, inserted_sorted, sorted_nil}
-use Rattle.sdd_copy.specs.Copies.{Held, is_here, with_change}
-use Rattle.sdd_copy.proofs.Standing.{here_more}
-use Rattle.sdd_dm.specs.Copies.{first_row}
-use Rattle.sdd_dm.specs.Starts.{is_own, lent, own_rows, with_own}
+use Rattle.sdd_dm.proofs.All.{All, All-filter, AllByRecursion, Bool, Bor, Catalogue, CmpEqualImpliesEq, Database, Equal, Greater, Held, IsEntry, IsStrictlySortedBy, IsTotalOrder, Item, Less, List, Ordering, RelNo, Row, Value, [], ap, cond, database_of, false, filter, first_row, fold, fragment_of, here_more, insert_entry, inserted_sorted, is_here, item_cmp, item_cmp_exact, item_cmp_total, key_in, keys_of, lent, map, match_ordering, own_rows, refl, sorted_head, sorted_nil, sorted_tail, subst, sym, true, with_change, with_own, with_row, ℕ, ℤ, ◌∙◌, ◌∷◌, ◌≡◌}
 use Rattle.sdd_dm.proofs.Beginning.{lent_put, not_written, put_row}
+use Rattle.sdd_dm.specs.Starts.{is_own}
 
 -- a key below all others goes to the front
 

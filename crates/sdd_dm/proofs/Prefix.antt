@@ -1,9 +1,5 @@
 -- What is processed of a pipe is a prefix of what was handed for it.
-use Rattle.std.proofs.Common.{ℕ, Bool, true, false, List, [], ◌∷◌, ◌++◌, ◌≡◌, refl, ap, ◌∙◌, sym, append_assoc, append-nil}
-use Rattle.std.specs.Bool.{if◌then◌else◌}
-use Rattle.sdd_module.specs.All.{Act, Did, Handed, Log, Msg, Records, Redeclared, Sends, Submits, Ticked, goes_through, head_of, tail_of}
-use Rattle.sdd_pipe.specs.Pipe.{Pipe, put, head_processed, one_or_none}
-use Rattle.sdd_dm.specs.Pipes.{pipe_acted, pipe}
+use Rattle.sdd_dm.proofs.All.{Act, Bool, Did, Handed, List, Log, Msg, Pipe, Records, Redeclared, Sends, Submits, Ticked, [], ap, append-nil, append_assoc, false, goes_through, head_of, head_processed, if◌then◌else◌, one_or_none, pipe, pipe_acted, put, refl, sym, tail_of, true, ℕ, ◌++◌, ◌∙◌, ◌∷◌, ◌≡◌}
 
 -- the messages for the pipe of class c, in the order of their hands
 abbrev pub all_handed : ℕ → Log → List Msg
@@ -15,11 +11,13 @@ moved : (done rest : List Msg) → (done ++ one_or_none (head_of rest)) ++ tail_
 moved done [] = append-nil (done ++ [])
 moved done (m ∷ rest) = append_assoc done (m ∷ []) rest
 
-handed_all : (b : Bool) (m : Msg) (p : Pipe) (all : List Msg) → p.processed ++ p.unprocessed ≡ all → (if b then put m p else p).processed ++ (if b then put m p else p).unprocessed ≡ (if b then all ++ m ∷ [] else all)
+handed_all : (b : Bool) (m : Msg) (p : Pipe) (all : List Msg) → p.processed ++ p.unprocessed ≡ all
+    → (if b then put m p else p).processed ++ (if b then put m p else p).unprocessed ≡ (if b then all ++ m ∷ [] else all)
 handed_all true m p all e = sym (append_assoc p.processed p.unprocessed (m ∷ [])) ∙ ap (λ l. l ++ m ∷ []) e
 handed_all false m p all e = e
 
-acted_all : (b : Bool) (p : Pipe) → (if b then head_processed p else p).processed ++ (if b then head_processed p else p).unprocessed ≡ p.processed ++ p.unprocessed
+acted_all : (b : Bool) (p : Pipe)
+    → (if b then head_processed p else p).processed ++ (if b then head_processed p else p).unprocessed ≡ p.processed ++ p.unprocessed
 acted_all true p = moved p.processed p.unprocessed
 acted_all false p = refl
 

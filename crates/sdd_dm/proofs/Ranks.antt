@@ -1,17 +1,6 @@
 -- What answers a message has rank 1, what a head does has rank 2, and what comes next has the lowest rank of all that is
 -- due.
-use Rattle.std.proofs.Common.{ℕ, zero, suc, ◌≤◌, Bool, true, false, List, [], ◌∷◌, ◌≡◌, refl, ap, ◌∙◌, sym, subst, arith, Option, Some, None}
-use Rattle.std.specs.Bool.{if◌then◌else◌}
-use Rattle.std.specs.Prelude.{slice_get, filter}
-use Rattle.std.specs.List.{list_all}
-use Rattle.sdd_module.specs.All.{Act, Change, ClassNo, Cond, Fetch, Msg, Null, Read, Reduce, Ship, Ts, TxnNo, Use, Write, first_some, head_of, or_else}
-use Rattle.sdd_pipe.specs.Pipe.{head}
-use Rattle.sdd_dm.specs.declared.step.Step.{Step}
-use Rattle.sdd_dm.specs.declared.step.Step.TheVariants.{Processes, Refuses, Waits}
-use Rattle.sdd_dm.specs.Opens.{Open, is_asked_of}
-use Rattle.sdd_dm.specs.Views.{Home, ClassView, View}
-use Rattle.sdd_dm.specs.Due.{answer_to, answer_of, open_due, is_met, is_held, judge, step_on, act_by, act_where, head_due, by_open, by_head}
-use Rattle.sdd_dm.specs.Ranks.{rank_of_act, IsLowest}
+use Rattle.sdd_dm.proofs.All.{Act, Bool, Change, ClassNo, ClassView, Cond, Fetch, Home, IsLowest, List, Msg, None, Null, Open, Option, Processes, Read, Reduce, Refuses, Ship, Some, Step, Ts, TxnNo, Use, View, Waits, Write, [], act_by, act_where, answer_of, answer_to, ap, arith, by_head, by_open, false, filter, first_some, head, head_due, head_of, if◌then◌else◌, is_asked_of, is_held, is_met, judge, list_all, open_due, or_else, rank_of_act, refl, slice_get, step_on, subst, suc, sym, true, zero, ℕ, ◌∙◌, ◌∷◌, ◌≡◌, ◌≤◌}
 
 same_rank : (x a : Act) (n : ℕ) → rank_of_act x ≡ n → Some x ≡ Some a → rank_of_act a ≡ n
 same_rank x a n e h = let s : x ≡ a = cc in subst (λ y. rank_of_act y ≡ n) s e
@@ -46,7 +35,8 @@ write_ranked : (h : Home) (v : View) (c : ℕ) (ts : Ts) (class : ClassNo) (txn 
 write_ranked h v c ts class txn changes true a e = cc
 write_ranked h v c ts class txn changes false a e = same_rank _ a 2 refl e
 
-step_ranked : (h : Home) (v : View) (c : ℕ) (waits : Bool) (o : Option Msg) (a : Act) → act_where h v c o (step_on v c waits o) ≡ Some a → rank_of_act a ≡ 2
+step_ranked : (h : Home) (v : View) (c : ℕ) (waits : Bool) (o : Option Msg) (a : Act) → act_where h v c o (step_on v c waits o) ≡ Some a
+    → rank_of_act a ≡ 2
 step_ranked h v c waits None a e = cc
 step_ranked h v c true (Some (Null class time)) a e = same_rank _ a 2 refl e
 step_ranked h v c false (Some (Null class time)) a e = same_rank _ a 2 refl e
@@ -60,7 +50,8 @@ step_ranked h v c false (Some m) a e = cc
 pub head_ranked : (h : Home) (v : View) (k : ClassView) (a : Act) → head_due h v k ≡ Some a → rank_of_act a ≡ 2
 head_ranked h v k a e = step_ranked h v k.class k.waits (head k.pipe) a e
 
-first_there : {A B : Type 0} (f : A → Option B) (xs : List A) (n : ℕ) (x : A) (b : B) → slice_get xs n ≡ Some x → f x ≡ Some b → (c : B) × (first_some f xs ≡ Some c)
+first_there : {A B : Type 0} (f : A → Option B) (xs : List A) (n : ℕ) (x : A) (b : B) → slice_get xs n ≡ Some x → f x ≡ Some b
+    → (c : B) × (first_some f xs ≡ Some c)
 first_there f [] n x b e g = cc
 first_there f (y ∷ ys) zero x b e g = let s : y ≡ x = cc in (b, rw (s, g) refl)
 first_there {B = B} f (y ∷ ys) (suc n) x b e g =
@@ -69,7 +60,8 @@ first_there {B = B} f (y ∷ ys) (suc n) x b e g =
       | Some z ↦ (z, refl)
     ]
 
-first_ranked : {A : Type 0} (f : A → Option Act) (n : ℕ) → ((x : A) (a : Act) → f x ≡ Some a → rank_of_act a ≡ n) → (xs : List A) (a : Act) → first_some f xs ≡ Some a → rank_of_act a ≡ n
+first_ranked : {A : Type 0} (f : A → Option Act) (n : ℕ) → ((x : A) (a : Act) → f x ≡ Some a → rank_of_act a ≡ n) → (xs : List A) (a : Act)
+    → first_some f xs ≡ Some a → rank_of_act a ≡ n
 first_ranked f n k [] a e = cc
 first_ranked f n k (x ∷ xs) a e =
     elim (f x) as (λ o. f x ≡ o → or_else o (first_some f xs) ≡ Some a → rank_of_act a ≡ n) [
@@ -78,7 +70,8 @@ first_ranked f n k (x ∷ xs) a e =
     ] refl e
 
 -- of two ranks, the first taken where it is there
-lowest : (x y : Option Act) (a b : Act) → ((c : Act) → x ≡ Some c → rank_of_act c ≡ 1) → ((c : Act) → y ≡ Some c → rank_of_act c ≡ 2) → or_else x y ≡ Some a → rank_of_act a ≤ 2
+lowest : (x y : Option Act) (a b : Act) → ((c : Act) → x ≡ Some c → rank_of_act c ≡ 1) → ((c : Act) → y ≡ Some c → rank_of_act c ≡ 2)
+    → or_else x y ≡ Some a → rank_of_act a ≤ 2
 lowest None y a b f g e = let r = g a e in omega arith
 lowest (Some z) y a b f g e = let r = f a e in omega arith
 
@@ -92,5 +85,6 @@ lowest_is_next h v a b e (by_open {a = c} n k there p) =
     omega arith
 lowest_is_next h v a b e (by_head {a = c} n k there p) =
     let other = head_ranked h v k c p in
-    let most = lowest (first_some (open_due h v) v.classes) (first_some (head_due h v) v.classes) a c (first_ranked (open_due h v) 1 (open_ranked h v) v.classes) (first_ranked (head_due h v) 2 (head_ranked h v) v.classes) e in
+    let most = lowest (first_some (open_due h v) v.classes) (first_some (head_due h v) v.classes) a c
+    (first_ranked (open_due h v) 1 (open_ranked h v) v.classes) (first_ranked (head_due h v) 2 (head_ranked h v) v.classes) e in
     omega arith

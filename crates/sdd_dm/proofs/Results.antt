@@ -1,5 +1,5 @@
 -- Clauses on what a call returned.
-use Rattle.std.specs.Prelude.{OnOk, Result, Ok, Err}
+use Rattle.sdd_dm.proofs.All.{Err, Ok, OnOk, Result}
 
 -- what follows from a fact on `Ok`
 pub on_ok : {T E : Type 0} (r : Result T E) {P Q : Type 0} → OnOk r P → (P → Q) → OnOk r Q

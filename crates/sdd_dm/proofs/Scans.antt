@@ -1,8 +1,5 @@
 -- Scans of a range from the front.
-use Rattle.std.proofs.Common.{ℕ, suc, ◌+◌, ◌-◌, ◌<◌, ◌≤◌, Bool, true, false, List, [], ◌∷◌, ◌≡◌, refl, ap, ◌∙◌, arith, sym, Option, Some, None}
-use Rattle.std.specs.Prelude.{◌||◌}
-use Rattle.std.specs.List.{list_any, range_with_len}
-use Rattle.sdd_module.specs.All.{first_some, or_else}
+use Rattle.sdd_dm.proofs.All.{Bool, List, None, Option, Some, [], ap, arith, false, first_some, list_any, or_else, range_with_len, refl, suc, sym, true, ℕ, ◌+◌, ◌-◌, ◌<◌, ◌||◌, ◌∙◌, ◌∷◌, ◌≡◌, ◌≤◌}
 
 -- what is left of the range up to n
 abbrev pub from : ℕ → ℕ → List ℕ
@@ -18,7 +15,8 @@ pub first_not : {B : Type 0} (f : ℕ → Option B) (i n : ℕ) (all : Option B)
     → first_some f (from (i + 1) n) ≡ all
 first_not f i n all h e g = sym (ap (first_some f) (from_more i n h) ∙ ap (λ o. or_else o (first_some f (from (i + 1) n))) e) ∙ g
 
-pub first_here : {B : Type 0} (f : ℕ → Option B) (i n : ℕ) (all : Option B) (b : B) → i < n → f i ≡ Some b → first_some f (from i n) ≡ all → all ≡ Some b
+pub first_here : {B : Type 0} (f : ℕ → Option B) (i n : ℕ) (all : Option B) (b : B) → i < n → f i ≡ Some b → first_some f (from i n) ≡ all
+    → all ≡ Some b
 first_here f i n all b h e g = sym g ∙ ap (first_some f) (from_more i n h) ∙ ap (λ o. or_else o (first_some f (from (i + 1) n))) e
 
 pub first_end : {B : Type 0} (f : ℕ → Option B) (i n : ℕ) (all : Option B) → n ≤ i → first_some f (from i n) ≡ all → all ≡ None

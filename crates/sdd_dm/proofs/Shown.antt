@@ -1,21 +1,5 @@
 -- What a state shows of a log: what the heads may do is the same by its digests and by the pipes.
-use Rattle.std.proofs.Common.{ℕ, suc, ◌<◌, ◌≤◌, Bool, true, false, not, List, [], ◌∷◌, length, ◌≡◌, refl, ap, ◌∙◌, arith, sym, subst, Option, Some, None}
-use Rattle.std.specs.Prelude.{◌==◌, ◌&&◌, filter, find}
-use Rattle.std.specs.Bool.{if◌then◌else◌}
-use Rattle.std.specs.List.{list_any, range_with_len}
-use Rattle.sdd_module.specs.All.{Change, Cond, Log, Msg, Null, Read, Setting, Write, head_of, time_at}
-use Rattle.sdd_pipe.specs.Pipe.{empty_pipe, head}
-use Rattle.sdd_pipe.specs.Digest.{empty_digest, IsDigest}
-use Rattle.sdd_pipe.specs.Pipes.{pipe_at}
-use Rattle.sdd_pipe.proofs.Digests.{is_empty_digest, passed_is, last_write_is}
-use Rattle.sdd_dm.specs.declared.step.Step.TheVariants.{Processes, Refuses}
-use Rattle.sdd_dm.specs.Pipes.{pipe, waits}
-use Rattle.sdd_dm.specs.Copies.{classes_of}
-use Rattle.sdd_dm.specs.Views.{ClassView, class_view, view_of, at_class}
-use Rattle.sdd_dm.specs.Due.{is_met, last_write_for, is_at_least, spoils, holds_back, is_held, or_zero, judged, judge, step_on, head_step}
-use Rattle.sdd_dm.specs.Heads.{head_at, waits_at, is_met_in, last_write_in, spoils_in, unmet, spoiler, holds_in, is_held_in, judged_in, judge_in, step_by, step_at}
-use Rattle.sdd_dm.specs.State.{State}
-use Rattle.sdd_dm.specs.Stands.{Shows}
+use Rattle.sdd_dm.proofs.All.{Bool, Change, ClassView, Cond, IsDigest, List, Log, Msg, None, Null, Option, Processes, Read, Refuses, Setting, Shows, Some, State, Write, [], ap, arith, at_class, class_view, classes_of, empty_digest, empty_pipe, false, filter, find, head, head_at, head_of, head_step, holds_back, holds_in, if◌then◌else◌, is_at_least, is_empty_digest, is_held, is_held_in, is_met, is_met_in, judge, judge_in, judged, judged_in, last_write_for, last_write_in, last_write_is, length, list_any, not, or_zero, passed_is, pipe, pipe_at, range_with_len, refl, spoiler, spoils, spoils_in, step_at, step_by, step_on, subst, suc, sym, time_at, true, unmet, view_of, waits, waits_at, ℕ, ◌&&◌, ◌<◌, ◌==◌, ◌∙◌, ◌∷◌, ◌≡◌, ◌≤◌}
 use Rattle.sdd_dm.proofs.ByClass.{at_classes, past_range, past, split, any_map, any_range, all_same, filter_same}
 
 -- the view at a class
@@ -40,10 +24,12 @@ pipe_shown s st log c h =
     (λ l. subst (λ k. IsDigest (pipe_at st.pipes c) k.pipe) (sym (at_class_is s log c l)) (h.classes c l).pipe)
     (shown_past s st log c h)
 
-pub head_shown : (s : Setting) (st : State) (log : Log) (c : ℕ) → Shows s st log → c ≤ length s.catalogue.classes → head_at st.pipes c ≡ head (pipe c log)
+pub head_shown : (s : Setting) (st : State) (log : Log) (c : ℕ) → Shows s st log → c ≤ length s.catalogue.classes
+    → head_at st.pipes c ≡ head (pipe c log)
 head_shown s st log c h l = ap head_of (h.classes c l).pipe.unprocessed
 
-pub waits_shown : (s : Setting) (st : State) (log : Log) (c : ℕ) → Shows s st log → c ≤ length s.catalogue.classes → waits_at st.waits c ≡ waits c log
+pub waits_shown : (s : Setting) (st : State) (log : Log) (c : ℕ) → Shows s st log → c ≤ length s.catalogue.classes
+    → waits_at st.waits c ≡ waits c log
 waits_shown s st log c h l = (h.classes c l).waits
 
 -- conditions
@@ -99,7 +85,8 @@ holders_are : (s : Setting) (st : State) (log : Log) (j w : ℕ) (changes : List
     (view_of s log).classes
 holders_are s st log j w changes h =
     ap (λ n. list_any (holds_in st.pipes st.waits j w changes) (range_with_len 0 n)) h.pipes
-    ∙ any_range (holds_in st.pipes st.waits j w changes) (λ c. waits c log && holds_back j w changes (head (pipe c log))) 0 (suc (length s.catalogue.classes))
+    ∙ any_range (holds_in st.pipes st.waits j w changes) (λ c. waits c log && holds_back j w changes (head (pipe c log))) 0
+    (suc (length s.catalogue.classes))
     (λ c l. holder_is s st log j w changes c h (omega arith))
     ∙ sym (any_map (λ k. k.waits && holds_back j w changes (head k.pipe)) (class_view s log) (classes_of s))
 

@@ -1,29 +1,5 @@
 -- The state after a step of a head shows the log with the act of that head.
-use Rattle.std.proofs.Common.{ℕ, ◌≤◌, ◌≢◌, ◌==◌, Bool, true, false, List, ◌∷◌, ◌++◌, length, map, ◌≡◌, refl, ap, ◌∙◌, arith, sym, subst, Option, Some, None}
-use Rattle.std.specs.Prelude.{◌&&◌, IsTrue, fold}
-use Rattle.std.specs.Bool.{if◌then◌else◌}
-use Rattle.std.specs.List.{All}
-use Rattle.std.proofs.lemmas.List.{take_all}
-use Rattle.std.proofs.lemmas.List.Elements.{All-weaker}
-use Rattle.sdd_module.specs.All.{ClassNo, Cond, Did, Kept, Log, Msg, Read, Rec, Records, Setting, Site, Ts, TxnNo, Use, has_copy, number_of}
-use Rattle.sdd_copy.specs.Contents.{Dated, contents}
-use Rattle.sdd_copy.specs.Sets.{DatesDiffer, AreSame}
-use Rattle.sdd_copy.specs.Copies.{Held, is_here, rows_at, with_change, StandFor, AreHere}
-use Rattle.sdd_copy.proofs.Standing.{stand_all, here_all, stand_same}
-use Rattle.sdd_copy.specs.Frozen.{Frozen, frozen_for}
-use Rattle.sdd_copy.proofs.Uses.{held_for, frozen_told}
-use Rattle.sdd_pipe.specs.Pipe.{head, head_processed}
-use Rattle.sdd_pipe.specs.Digest.{empty_digest, IsDigest, take_digest}
-use Rattle.sdd_pipe.specs.Pipes.{update, pipe_at}
-use Rattle.sdd_pipe.proofs.Digests.{is_taken}
-use Rattle.sdd_pipe.proofs.Updates.{length-update}
-use Rattle.sdd_dm.specs.Pipes.{is_processing, is_wait, pipe, waits}
-use Rattle.sdd_dm.specs.Copies.{is_apply, is_answer, changes_in, dated, frozen_at, frozen}
-use Rattle.sdd_dm.specs.Opens.{opens}
-use Rattle.sdd_dm.specs.Fits.{IsHere}
-use Rattle.sdd_dm.specs.Heads.{waits_at}
-use Rattle.sdd_dm.specs.State.{State, frozen_of, frozen_now, head_taken}
-use Rattle.sdd_dm.specs.Stands.{HasCopies, ShowsClass, Shows}
+use Rattle.sdd_dm.proofs.All.{All, All-weaker, AreHere, AreSame, Bool, ClassNo, Cond, Dated, DatesDiffer, Did, Frozen, HasCopies, Held, IsDigest, IsHere, IsTrue, Kept, List, Log, Msg, None, Option, Read, Rec, Records, Setting, Shows, ShowsClass, Site, Some, StandFor, State, Ts, TxnNo, Use, ap, arith, changes_in, contents, dated, empty_digest, false, fold, frozen, frozen_at, frozen_for, frozen_now, frozen_of, frozen_told, has_copy, head, head_processed, head_taken, held_for, here_all, if◌then◌else◌, is_answer, is_apply, is_here, is_processing, is_taken, is_wait, length, length-update, map, number_of, opens, pipe, pipe_at, refl, rows_at, stand_all, stand_same, subst, sym, take_all, take_digest, true, update, waits, waits_at, with_change, ℕ, ◌&&◌, ◌++◌, ◌==◌, ◌∙◌, ◌∷◌, ◌≡◌, ◌≢◌, ◌≤◌}
 use Rattle.sdd_dm.proofs.ByClass.{at_own, at_other, same_number, other_number, by_class}
 use Rattle.sdd_dm.proofs.Handed.{head_handed}
 use Rattle.sdd_dm.proofs.Applied.{applied_differ, same_dated, dated_kept}
@@ -34,13 +10,15 @@ pipe_own : (c : ℕ) (r : Rec) (sends : List (Site × Msg)) (log : Log) → is_p
     → pipe c (Did (Records c r sends) ∷ log) ≡ head_processed (pipe c log)
 pipe_own c r sends log e = rw (same_number c c refl, e) refl
 
-pipe_kept : (c : ℕ) (r : Rec) (sends : List (Site × Msg)) (log : Log) → is_processing r ≡ false → pipe c (Did (Records c r sends) ∷ log) ≡ pipe c log
+pipe_kept : (c : ℕ) (r : Rec) (sends : List (Site × Msg)) (log : Log) → is_processing r ≡ false
+    → pipe c (Did (Records c r sends) ∷ log) ≡ pipe c log
 pipe_kept c r sends log e = rw (same_number c c refl, e) refl
 
 pipe_other : (k c : ℕ) (r : Rec) (sends : List (Site × Msg)) (log : Log) → c ≢ k → pipe c (Did (Records k r sends) ∷ log) ≡ pipe c log
 pipe_other k c r sends log h = rw (other_number k c h) refl
 
-waits_own : (c : ℕ) (r : Rec) (sends : List (Site × Msg)) (log : Log) → is_processing r ≡ true → waits c (Did (Records c r sends) ∷ log) ≡ false
+pub waits_own : (c : ℕ) (r : Rec) (sends : List (Site × Msg)) (log : Log) → is_processing r ≡ true
+    → waits c (Did (Records c r sends) ∷ log) ≡ false
 waits_own c r sends log e = rw (same_number c c refl, e) refl
 
 waits_begun : (c : ℕ) (r : Rec) (sends : List (Site × Msg)) (log : Log) → is_processing r ≡ false → is_wait r ≡ true
@@ -62,7 +40,8 @@ frozen_own : (s : Setting) (c : ℕ) (r : Rec) (sends : List (Site × Msg)) (log
     → frozen s c (Did (Records c r sends) ∷ log) ≡ frozen_at (dated s log) (head (pipe c log))
 frozen_own s c r sends log e = rw (same_number c c refl, e) refl
 
-frozen_other : (s : Setting) (k c : ℕ) (r : Rec) (sends : List (Site × Msg)) (log : Log) → c ≢ k → frozen s c (Did (Records k r sends) ∷ log) ≡ frozen s c log
+frozen_other : (s : Setting) (k c : ℕ) (r : Rec) (sends : List (Site × Msg)) (log : Log) → c ≢ k
+    → frozen s c (Did (Records k r sends) ∷ log) ≡ frozen s c log
 frozen_other s k c r sends log h = rw (other_number k c h) refl
 
 -- the head is processed
@@ -98,8 +77,10 @@ taken_class s st log c k r sends copies rows shows l m e f = record {
 -- A record that processes the head of class c. The copies and the held rows are as the log gives them.
 taken_shown : (s : Setting) (st : State) (log : Log) (c : ℕ) (r : Rec) (sends : List (Site × Msg)) (copies : Kept Held) (rows : List (Option Frozen))
     → Shows s st log → c ≤ length s.catalogue.classes → is_processing r ≡ true → opens (Did (Records c r sends) ∷ log) ≡ opens log
-    → IsTrue copies.live → StandFor copies.value (dated s (Did (Records c r sends) ∷ log)) → ((f : ℕ) → is_here copies.value f ≡ is_here st.copies.value f)
-    → length rows ≡ length st.frozen → ((k : ℕ) → k ≤ length s.catalogue.classes → frozen_of rows k ≡ frozen s k (Did (Records c r sends) ∷ log))
+    → IsTrue copies.live → StandFor copies.value (dated s (Did (Records c r sends) ∷ log))
+    → ((f : ℕ) → is_here copies.value f ≡ is_here st.copies.value f)
+    → length rows ≡ length st.frozen
+    → ((k : ℕ) → k ≤ length s.catalogue.classes → frozen_of rows k ≡ frozen s k (Did (Records c r sends) ∷ log))
     → Shows s (taken c copies rows st) (Did (Records c r sends) ∷ log)
 taken_shown s st log c r sends copies rows shows l e same_opens live stand here many held = record {
   home = shows.home;
@@ -117,7 +98,8 @@ taken_shown s st log c r sends copies rows shows l e same_opens live stand here 
 }
 
 -- a NULL passes, a READ is rejected: the copies and the held rows stay
-pub passed_shown : (s : Setting) (st : State) (log : Log) (c : ℕ) (r : Rec) (sends : List (Site × Msg)) → Shows s st log → c ≤ length s.catalogue.classes
+pub passed_shown : (s : Setting) (st : State) (log : Log) (c : ℕ) (r : Rec) (sends : List (Site × Msg)) → Shows s st log
+    → c ≤ length s.catalogue.classes
     → is_processing r ≡ true → is_apply r ≡ false → is_answer r ≡ false → opens (Did (Records c r sends) ∷ log) ≡ opens log
     → Shows s (head_taken c st) (Did (Records c r sends) ∷ log)
 passed_shown s st log c r sends shows l e f g same_opens =
@@ -132,7 +114,8 @@ copies_with st xs = record { live = true; value = fold with_change st.copies.val
 
 pub applied_shown : (s : Setting) (st : State) (log : Log) (c : ℕ) (r : Rec) (sends : List (Site × Msg)) (xs : Dated) → Shows s st log
     → c ≤ length s.catalogue.classes
-    → is_processing r ≡ true → is_apply r ≡ true → is_answer r ≡ false → opens (Did (Records c r sends) ∷ log) ≡ opens log → changes_in (head (pipe c log)) ≡ xs
+    → is_processing r ≡ true → is_apply r ≡ true → is_answer r ≡ false → opens (Did (Records c r sends) ∷ log) ≡ opens log
+    → changes_in (head (pipe c log)) ≡ xs
     → Shows s (taken c (copies_with st xs) st.frozen st) (Did (Records c r sends) ∷ log)
 applied_shown s st log c r sends xs shows l e f g same_opens is =
     taken_shown s st log c r sends (copies_with st xs) st.frozen shows l e same_opens refl
@@ -175,9 +158,9 @@ answered_shown s st log c r sends f shows l e g h same_opens is =
 
 -- a READ begins to wait
 
-waiting_class : (s : Setting) (st : State) (log : Log) (c k : ℕ) (r : Rec) (sends : List (Site × Msg)) → Shows s st log → c ≤ length s.catalogue.classes
-    → k ≤ length s.catalogue.classes
-    → is_processing r ≡ false → is_wait r ≡ true → is_answer r ≡ false
+waiting_class : (s : Setting) (st : State) (log : Log) (c k : ℕ) (r : Rec) (sends : List (Site × Msg)) → Shows s st log
+    → c ≤ length s.catalogue.classes
+    → k ≤ length s.catalogue.classes → is_processing r ≡ false → is_wait r ≡ true → is_answer r ≡ false
     → ShowsClass s (record st { waits = update c (λ w. true) st.waits }) (Did (Records c r sends) ∷ log) k
 waiting_class s st log c k r sends shows l m e f g = record {
   pipe = by_class (λ j. j ≤ length s.catalogue.classes → IsDigest (pipe_at st.pipes j) (pipe j (Did (Records c r sends) ∷ log))) c k
@@ -191,8 +174,10 @@ waiting_class s st log c k r sends shows l m e f g = record {
   frozen = (shows.classes k m).frozen ∙ sym (frozen_kept s c k r sends log g);
 }
 
-pub waiting_shown : (s : Setting) (st : State) (log : Log) (c : ℕ) (r : Rec) (sends : List (Site × Msg)) → Shows s st log → c ≤ length s.catalogue.classes
-    → is_processing r ≡ false → is_wait r ≡ true → is_answer r ≡ false → is_apply r ≡ false → opens (Did (Records c r sends) ∷ log) ≡ opens log
+pub waiting_shown : (s : Setting) (st : State) (log : Log) (c : ℕ) (r : Rec) (sends : List (Site × Msg)) → Shows s st log
+    → c ≤ length s.catalogue.classes
+    → is_processing r ≡ false → is_wait r ≡ true → is_answer r ≡ false → is_apply r ≡ false
+    → opens (Did (Records c r sends) ∷ log) ≡ opens log
     → Shows s (record st { waits = update c (λ w. true) st.waits }) (Did (Records c r sends) ∷ log)
 waiting_shown s st log c r sends shows l e f g h same_opens = record {
   home = shows.home;

@@ -1,17 +1,10 @@
 -- A call that took a message did what the log has next, and stands for the log after it.
-use Rattle.std.proofs.Common.{Bool, true, List, ◌∷◌, ◌≡◌, refl, ap, ◌∙◌, subst, None}
-use Rattle.sdd_module.specs.All.{Bases, Does, Handed, Kept, Log, Msg, Notes, Rec, Setting, Site, nothing_noted}
-use Rattle.sdd_module.proofs.Does.{all_noted, does_reached}
-use Rattle.sdd_dm.specs.Views.{home_of}
-use Rattle.sdd_dm.specs.Due.{next}
-use Rattle.sdd_dm.specs.Fits.{fits}
-use Rattle.sdd_dm.specs.Heads.{first_step}
-use Rattle.sdd_dm.specs.State.{State}
-use Rattle.sdd_dm.specs.Stands.{Shows, Worked, Stands}
+use Rattle.sdd_dm.proofs.All.{Bases, Bool, Does, Handed, Kept, List, Log, Msg, None, Notes, Rec, Setting, Shows, Site, Stands, State, Worked, all_noted, ap, does_reached, first_step, fits, home_of, next, nothing_noted, refl, subst, true, ◌∙◌, ◌∷◌, ◌≡◌}
 use Rattle.sdd_dm.proofs.FirstDue.{act_of, due_is}
 
 -- where no head may do something, nothing is due
-pub nothing_due : (s : Setting) (bases : Bases) (st : State) (log : Log) → first_step st.pipes st.waits ≡ None → Shows s st log → next s bases log ≡ None
+pub nothing_due : (s : Setting) (bases : Bases) (st : State) (log : Log) → first_step st.pipes st.waits ≡ None → Shows s st log
+    → next s bases log ≡ None
 nothing_due s bases st log quiet shows = due_is (home_of s) s st log shows ∙ ap (act_of (home_of s) s log) quiet
 
 abbrev kept : Bool → State → Kept State

@@ -1,11 +1,5 @@
 -- The view after an entry is a function of the view before it, and what is next is due.
-use Rattle.std.proofs.Common.{ℕ, ◌∷◌, ◌++◌, map, ◌≡◌, refl, ap, sym, Some}
-use Rattle.sdd_module.specs.All.{Act, Did, Entry, Handed, Log, Redeclared, Setting, Submits, Ticked, first_some}
-use Rattle.sdd_module.proofs.Finding.{map_twice, flat_map-map, found_at, one_of}
-use Rattle.sdd_dm.specs.Pipes.{pipe}
-use Rattle.sdd_dm.specs.Copies.{classes_of, first_rows, dated, frozen, frozen_acted}
-use Rattle.sdd_dm.specs.Views.{Home, View, class_view, view_of, dated_in, class_after, after}
-use Rattle.sdd_dm.specs.Due.{due, open_due, head_due, IsDue, by_open, by_head}
+use Rattle.sdd_dm.proofs.All.{Act, Did, Entry, Handed, Home, IsDue, Log, Redeclared, Setting, Some, Submits, Ticked, View, after, ap, by_head, by_open, class_after, class_view, classes_of, dated, dated_in, due, first_rows, first_some, flat_map-map, found_at, frozen, frozen_acted, head_due, map, map_twice, one_of, open_due, pipe, refl, sym, view_of, ℕ, ◌++◌, ◌∷◌, ◌≡◌}
 
 pub dated_is : (s : Setting) (log : Log) → dated_in (view_of s log) ≡ dated s log
 dated_is s log = ap (λ xs. first_rows s ++ xs) (flat_map-map (class_view s log) (λ k. k.applied) (classes_of s))
@@ -15,9 +9,11 @@ class_step s (Handed from m) log c = refl
 class_step s (Submits n txn) log c = refl
 class_step s (Ticked n) log c = refl
 class_step s (Redeclared force t) log c = refl
-class_step s (Did act) log c = ap (λ xs. record (class_view s (Did act ∷ log) c) { frozen = frozen_acted c act xs (pipe c log) (frozen s c log) }) (sym (dated_is s log))
+class_step s (Did act) log c =
+    ap (λ xs. record (class_view s (Did act ∷ log) c) { frozen = frozen_acted c act xs (pipe c log) (frozen s c log) }) (sym (dated_is s log))
 
-classes_step : (s : Setting) (e : Entry) (log : Log) → map (class_view s (e ∷ log)) (classes_of s) ≡ map (class_after e (view_of s log)) (map (class_view s log) (classes_of s))
+classes_step : (s : Setting) (e : Entry) (log : Log)
+    → map (class_view s (e ∷ log)) (classes_of s) ≡ map (class_after e (view_of s log)) (map (class_view s log) (classes_of s))
 classes_step s e log = map_twice (class_view s log) (class_view s (e ∷ log)) (class_after e (view_of s log)) (classes_of s) (class_step s e log)
 
 pub view_step : (s : Setting) (e : Entry) (log : Log) → view_of s (e ∷ log) ≡ after e (view_of s log)

@@ -1,24 +1,10 @@
 -- Each step of a head is the act that is due next, and the state after it shows the log with that act.
-use Rattle.std.proofs.Common.{ℕ, ◌≤◌, Bool, true, false, [], ◌∷◌, length, map, ◌≡◌, refl, ap, ◌∙◌, arith, sym, subst, Option, Some, None}
-use Rattle.sdd_module.specs.All.{Act, Answer, Apply, Bases, ClassNo, Did, Done, Handed, Log, Msg, Notes, Null, Pass, Reached, Read, Ready, Records, Reject, Sends, Setting, Site, Wait, Write, nothing_noted, with_act}
-use Rattle.sdd_module.specs.history.declared.record.Rec.TheVariants.{Reject as Rejected}
-use Rattle.sdd_module.proofs.Does.{reached_more}
-use Rattle.sdd_copy.specs.Items as items
-use Rattle.sdd_copy.specs.Frozen.{Frozen, counts_of}
-use Rattle.sdd_pipe.specs.Pipe.{head}
-use Rattle.sdd_dm.specs.declared.step.Step.{Step}
-use Rattle.sdd_dm.specs.declared.step.Step.TheVariants.{Processes, Refuses, Waits}
-use Rattle.sdd_dm.specs.Pipes.{pipe}
-use Rattle.sdd_dm.specs.Copies.{changes_in, dated, frozen_at, counts_held}
-use Rattle.sdd_dm.specs.Views.{Home, home_of, source_of, view_of, dated_in}
-use Rattle.sdd_dm.specs.Due.{ask_for, done_for, act_by, next}
-use Rattle.sdd_dm.specs.Heads.{head_at, waits_at, step_by, first_step}
-use Rattle.sdd_dm.specs.State.{State, frozen_now, act_in, stepped, state_after, notes_after}
-use Rattle.sdd_dm.specs.Stands.{Shows, Worked}
+use Rattle.sdd_dm.proofs.All.{Act, Answer, Apply, Bases, Bool, ClassNo, Did, Done, Frozen, Handed, Home, Log, Msg, None, Notes, Null, Option, Pass, Processes, Reached, Read, Ready, Records, Refuses, Reject, Rejected, Sends, Setting, Shows, Site, Some, State, Step, Wait, Waits, Worked, Write, [], act_by, act_in, ap, arith, ask_for, changes_in, counts_held, counts_of, dated, dated_in, done_for, false, first_step, frozen_at, frozen_now, head, head_at, home_of, length, map, next, notes_after, nothing_noted, pipe, reached_more, refl, source_of, state_after, step_by, stepped, subst, sym, true, view_of, waits_at, with_act, ℕ, ◌∙◌, ◌∷◌, ◌≡◌, ◌≤◌}
 use Rattle.sdd_dm.proofs.ViewSteps.{dated_is}
 use Rattle.sdd_dm.proofs.Shown.{head_shown}
 use Rattle.sdd_dm.proofs.FirstDue.{IsFirst, first_is, next_act}
 use Rattle.sdd_dm.proofs.Stepped.{frozen_is, passed_shown, applied_shown, answered_shown, waiting_shown}
+use Rattle.sdd_copy.specs.Items as items
 
 -- the act
 
@@ -66,7 +52,8 @@ step_shown s st log c false m step shows l e f = absurd cc
 after_is : (st : State) (c : ℕ) (o : Option Msg) (m : Msg) (step : Step) → o ≡ Some m → state_after st c o step ≡ stepped st c m step
 after_is st c o m step e = rw e refl
 
-notes_are : (st : State) (c : ℕ) (o : Option Msg) (m : Msg) (step : Step) (n : Notes) → o ≡ Some m → notes_after st c o step n ≡ with_act (act_in st c m step) n
+notes_are : (st : State) (c : ℕ) (o : Option Msg) (m : Msg) (step : Step) (n : Notes) → o ≡ Some m
+    → notes_after st c o step n ≡ with_act (act_in st c m step) n
 notes_are st c o m step n e = rw e refl
 
 one_step : (s : Setting) (bases : Bases) (st new : State) (p : ClassNo × Step) (log : Log) → first_step st.pipes st.waits ≡ Some p → (f : IsFirst st p)
@@ -94,7 +81,6 @@ step_reached s bases start st new p old notes more r e is note =
 
 pub works_on : (from : Site) (m : Msg) (old st new : State) (p : ClassNo × Step) (notes more : Notes) → Worked from m old st notes
     → first_step st.pipes st.waits ≡ Some p → new ≡ state_after st p.0.0 (head_at st.pipes p.0.0) p.1
-    → more ≡ notes_after st p.0.0 (head_at st.pipes p.0.0) p.1 notes
-    → Worked from m old new more
+    → more ≡ notes_after st p.0.0 (head_at st.pipes p.0.0) p.1 notes → Worked from m old new more
 works_on from m old st new p notes more work e is note =
     λ s bases log shows fit. step_reached s bases (Handed from m ∷ log) st new p nothing_noted notes more (work s bases log shows fit) e is note

@@ -1,15 +1,5 @@
 -- A transaction that fits the whole catalogue fits each catalogue in force.
-use Rattle.std.proofs.Common.{ℕ, List, [], ◌∷◌, sym, subst}
-use Rattle.std.proofs.lemmas.List.Elements.{All-weaker}
-use Rattle.sdd_lang.specs.All.{Catalogue, Class, Fits, FitsAssign, FitsCondition, FitsConditions, FitsStatement, RelNo}
-use Rattle.sdd_lang.specs.declared.assign.Assign.{Assign}
-use Rattle.sdd_lang.specs.declared.assign.Assign.TheVariants.{To, Add}
-use Rattle.sdd_lang.specs.declared.condition.Condition.{Condition}
-use Rattle.sdd_lang.specs.declared.condition.Condition.TheVariants.{Const, Same}
-use Rattle.sdd_lang.specs.declared.statement.Stmt.{Stmt}
-use Rattle.sdd_lang.specs.declared.statement.Stmt.TheVariants.{Put, Query, Update, Delete}
-use Rattle.sdd_lang.specs.declared.transaction.Txn.{Txn}
-use Rattle.sdd_eras.specs.EraOf.{IsEraOf}
+use Rattle.sdd_eras.proofs.All.{Add, All-weaker, Assign, Catalogue, Class, Condition, Const, Delete, Fits, FitsAssign, FitsCondition, FitsConditions, FitsStatement, IsEraOf, List, Put, Query, RelNo, Same, Stmt, To, Txn, Update, [], subst, sym, ℕ, ◌∷◌}
 use Rattle.sdd_eras.proofs.EraSets.{era_is, with_classes}
 
 module _ (cat : Catalogue) (classes : List Class) where

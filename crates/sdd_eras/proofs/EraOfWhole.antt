@@ -1,9 +1,5 @@
 -- Each catalogue in force is that of an era of the catalogue with the classes of all lists.
-use Rattle.std.proofs.Common.{ℕ, zero, suc, ◌+◌, ◌-◌, ◌<◌, ◌≤◌, ◌≡◌, List, [], ◌∷◌, ◌++◌, map, take, drop, length, Some, refl, sym, ap, ◌∙◌, subst, inl, inr, arith}
-use Rattle.std.specs.Prelude.{slice_get, slice_index_or}
-use Rattle.std.proofs.lemmas.List.{length-append, length-map}
-use Rattle.sdd_lang.specs.All.{Catalogue, Class, emptied, eras, extended, retired, whole}
-use Rattle.sdd_eras.specs.EraOf.{HasSets, IsEraOf}
+use Rattle.sdd_eras.proofs.All.{Catalogue, Class, HasSets, IsEraOf, List, Some, [], ap, arith, drop, emptied, eras, extended, inl, inr, length, length-append, length-map, map, refl, retired, slice_get, slice_index_or, subst, suc, sym, take, whole, zero, ℕ, ◌++◌, ◌+◌, ◌-◌, ◌<◌, ◌∙◌, ◌∷◌, ◌≡◌, ◌≤◌}
 
 -- a class of an era and that of the same number in the whole catalogue
 pub record IsUnder (whole class : Class) : Type 0 where

@@ -1,17 +1,5 @@
 -- The sets of a class in an era, and of its transactions.
-use Rattle.std.proofs.Common.{ℕ, ◌+◌, ◌<◌, ◌≤◌, ◌==◌, ◌≡◌, true, false, cond, ◌&&◌, List, [], ◌∷◌, ◌++◌, length, Some, None, refl, sym, ap, ◌∙◌, subst, inl, inr, arith}
-use Rattle.std.specs.Prelude.{is_some, unwrap_or, option_map, filter, find}
-use Rattle.std.specs.List.{flat_map, list_all, list_any}
-use Rattle.std.proofs.lemmas.Bool.{and_parts, ne_eqb}
-use Rattle.sdd_lang.specs.All.{Catalogue, Class, FragNo, Read, RelNo, Use, ascending, class_at, class_for, contains, covers, fragments_in, head_of, lowest_copy, numbers_to, part_uses, read_set, reads_at, restrictions_of, statement_uses, use_of, uses_from, uses_of, write_set, writes, written_by}
-use Rattle.sdd_lang.proofs.catalog.Sound.{each_in_range}
-use Rattle.sdd_graph.specs.Edges.{IsClassOf}
-use Rattle.sdd_lang.specs.declared.condition.Condition.{Condition}
-use Rattle.sdd_lang.specs.declared.statement.Stmt.{Stmt}
-use Rattle.sdd_lang.specs.declared.statement.Stmt.TheVariants.{Put, Query, Update, Delete}
-use Rattle.sdd_lang.specs.declared.transaction.Txn.{Txn}
-use Rattle.sdd_lang.proofs.ReadSetDecides.{ascending_back}
-use Rattle.sdd_eras.specs.EraOf.{IsEraOf}
+use Rattle.sdd_eras.proofs.All.{Catalogue, Class, Condition, Delete, FragNo, IsClassOf, IsEraOf, List, None, Put, Query, Read, RelNo, Some, Stmt, Txn, Update, Use, [], and_parts, ap, arith, ascending, ascending_back, class_at, class_for, cond, contains, covers, each_in_range, false, filter, find, flat_map, fragments_in, head_of, inl, inr, is_some, length, list_all, list_any, lowest_copy, ne_eqb, numbers_to, option_map, part_uses, read_set, reads_at, refl, restrictions_of, statement_uses, subst, sym, true, unwrap_or, use_of, uses_from, uses_of, write_set, writes, written_by, ℕ, ◌&&◌, ◌++◌, ◌+◌, ◌<◌, ◌==◌, ◌∙◌, ◌∷◌, ◌≡◌, ◌≤◌}
 use Rattle.sdd_eras.proofs.Lists.{each_passes, at_member, first_passes, first_has}
 
 -- a catalogue with other classes
@@ -79,11 +67,9 @@ era_is cat era h =
     }
 
 pub uses_in_era : (cat era : Catalogue) → IsEraOf cat era → (txn : Txn) → uses_of era txn ≡ uses_of cat txn
-uses_in_era cat era h txn =
-    ap (λ c. uses_of c txn) (era_is cat era h) ∙ uses_same cat era.classes 0 txn.statements
+uses_in_era cat era h txn = ap (λ c. uses_of c txn) (era_is cat era h) ∙ uses_same cat era.classes 0 txn.statements
 
-pub write_set_in_era : (cat era : Catalogue) → IsEraOf cat era → (txn : Txn)
-    → write_set era txn ≡ write_set cat txn
+pub write_set_in_era : (cat era : Catalogue) → IsEraOf cat era → (txn : Txn) → write_set era txn ≡ write_set cat txn
 write_set_in_era cat era h txn =
     ap (λ c. write_set c txn) (era_is cat era h) ∙ ap ascending (all_written_same cat era.classes txn.statements)
 
@@ -97,7 +83,8 @@ covered_by : (cat : Catalogue) (txn : Txn) (n : ℕ) → (1 ≤ n) × (n < 1 + l
     → covers cat txn n ≡ true → IsCovered cat txn n
 covered_by cat txn n l e =
     let high = l.1 in
-    let parts = and_parts ((class_at cat n).tm.0 == txn.tm.0) (list_all (λ f. is_some (reads_at cat n f)) (read_set cat txn) && list_all (writes cat n) (write_set cat txn)) e in
+    let parts = and_parts ((class_at cat n).tm.0 == txn.tm.0)
+    (list_all (λ f. is_some (reads_at cat n f)) (read_set cat txn) && list_all (writes cat n) (write_set cat txn)) e in
     let sets = and_parts (list_all (λ f. is_some (reads_at cat n f)) (read_set cat txn)) (list_all (writes cat n) (write_set cat txn)) parts.1 in
     let read =
     ascending_back (λ f. is_some (reads_at cat n f) ≡ true) (fragments_in (uses_of cat txn))
@@ -111,7 +98,8 @@ covered_by cat txn n l e =
 
 pub covered : (cat : Catalogue) (txn : Txn) (n : ℕ) → n ≡ class_for cat txn → 1 ≤ n → IsCovered cat txn n
 covered cat txn n e l =
-    elim (head_of (filter (covers cat txn) (numbers_to (length cat.classes)))) as (λ o. head_of (filter (covers cat txn) (numbers_to (length cat.classes))) ≡ o → n ≡ unwrap_or o 0 → IsCovered cat txn n) [
+    elim (head_of (filter (covers cat txn) (numbers_to (length cat.classes)))) as
+    (λ o. head_of (filter (covers cat txn) (numbers_to (length cat.classes))) ≡ o → n ≡ unwrap_or o 0 → IsCovered cat txn n) [
       | None ↦ λ h z. absurd (omega arith)
       | Some x ↦ λ h z.
           subst (IsCovered cat txn) (sym z)

@@ -1,3 +1,4 @@
+mod All
 pub mod EraFits
 pub mod EraOfWhole
 pub mod EraSets

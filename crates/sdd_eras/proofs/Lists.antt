@@ -1,13 +1,8 @@
 -- What passes a test in a list.
-use Rattle.std.proofs.Common.{ℕ, ◌≡◌, ◌==◌, ◌||◌, Bool, true, false, cond, List, [], ◌∷◌, Some, refl, sym, ap, ◌∙◌, subst, inl, inr}
-use Rattle.std.specs.Prelude.{filter}
-use Rattle.std.specs.List.{list_all, AllByRecursion}
-use Rattle.std.proofs.lemmas.Bool.{cases_Bool, eqb-true, and_parts}
-use Rattle.sdd_lang.specs.All.{contains, head_of}
+use Rattle.sdd_eras.proofs.All.{AllByRecursion, Bool, List, Some, [], and_parts, ap, cases_Bool, cond, contains, eqb-true, false, filter, head_of, inl, inr, list_all, refl, subst, sym, true, ℕ, ◌==◌, ◌||◌, ◌∙◌, ◌∷◌, ◌≡◌}
 
 -- where all pass, each passes
-pub each_passes : {A : Type 0} (p : A → Bool) (xs : List A) → list_all p xs ≡ true
-    → AllByRecursion (λ x. p x ≡ true) xs
+pub each_passes : {A : Type 0} (p : A → Bool) (xs : List A) → list_all p xs ≡ true → AllByRecursion (λ x. p x ≡ true) xs
 each_passes p [] e = tt
 each_passes p (x ∷ xs) e =
     let both = and_parts (p x) (list_all p xs) e in
@@ -23,8 +18,7 @@ at_member P (x ∷ xs) n all e =
     ]
 
 -- the first that passes does so
-pub first_passes : {A : Type 0} (p : A → Bool) (xs : List A) (x : A) → head_of (filter p xs) ≡ Some x
-    → p x ≡ true
+pub first_passes : {A : Type 0} (p : A → Bool) (xs : List A) (x : A) → head_of (filter p xs) ≡ Some x → p x ≡ true
 first_passes p [] x e = cc
 first_passes p (y ∷ xs) x e =
     elim (p y) as (λ b. p y ≡ b → head_of (cond b (y ∷ filter p xs) (filter p xs)) ≡ Some x → p x ≡ true) [

@@ -1,14 +1,8 @@
 -- Classes that retire keep the rules.
-use Rattle.std.proofs.Common.{ℕ, zero, suc, ◌≡◌, ◌+◌, nat_le, nat_lt, not, List, [], ◌∷◌, ◌++◌, map, take, drop, length, refl, ap, sym, ◌∙◌}
-use Rattle.std.proofs.lemmas.List.{length-map, map-append}
-use Rattle.sdd_lang.specs.All.{CatRule, Catalogue, ClassPart, DuplicateName, IsSound, IsValid, MAX_CLASSES, MAX_READS, Parts, Text, TooMany, UnknownName, catalogue_of, class_of, class_rules, emptied, faults_at, faults_of_class, found_from, found_in, fragment_names, has_name, is_from_1_to, parts_of, read_rules, retired, when, write_rules}
-use Rattle.sdd_lang.specs.catalog.declared.fault.Counted.TheVariants as counted
-use Rattle.sdd_lang.specs.catalog.declared.fault.Part.TheVariants.{Class}
-use Rattle.sdd_lang.proofs.catalog.Found.{both_empty, empty_of_map}
-use Rattle.sdd_lang.proofs.catalog.Validity.{no_faults}
-use Rattle.sdd_eras.specs.Further.{with_classes}
-use Rattle.sdd_eras.specs.Retired.{emptied_part, retired_parts}
+use Rattle.sdd_eras.proofs.All.{CatRule, Catalogue, ClassPart, DuplicateName, IsSound, IsValid, List, MAX_CLASSES, MAX_READS, Parts, Text, TooMany, UnknownName, [], ap, both_empty, catalogue_of, class_of, class_rules, drop, emptied, emptied_part, empty_of_map, faults_at, faults_of_class, found_from, found_in, fragment_names, has_name, is_from_1_to, length, length-map, map, map-append, nat_le, nat_lt, no_faults, not, parts_of, read_rules, refl, retired, retired_parts, suc, sym, take, when, with_classes, write_rules, zero, ℕ, ◌++◌, ◌+◌, ◌∙◌, ◌∷◌, ◌≡◌}
 use Rattle.sdd_eras.proofs.Extended.{faults_of_classes}
+use Rattle.sdd_lang.specs.catalog.declared.fault.Part.TheVariants.{Class}
+use Rattle.sdd_lang.specs.catalog.declared.fault.Counted.TheVariants as counted
 
 abbrev names_of : List ClassPart → List Text
 names_of classes = map (λ c. c.name) classes
@@ -24,7 +18,8 @@ rules_behind parts count names c =
     ++ found_in (write_rules parts) c.writes
 
 -- behind classes of the same names the same rules are broken
-pub same_rules : (parts : Parts) (before earlier : List ClassPart) (c : ClassPart) → names_of before ≡ names_of earlier → class_rules parts earlier c ≡ class_rules parts before c
+pub same_rules : (parts : Parts) (before earlier : List ClassPart) (c : ClassPart) → names_of before ≡ names_of earlier
+    → class_rules parts earlier c ≡ class_rules parts before c
 same_rules parts before earlier c same =
     let lengths : length earlier ≡ length before = sym (length-map earlier (λ c. c.name)) ∙ ap length (sym same) ∙ length-map before (λ c. c.name) in
     ap (λ n. rules_behind parts n (names_of earlier) c) lengths ∙ ap (λ ns. rules_behind parts (length before) ns c) (sym same)
@@ -37,12 +32,15 @@ three_of_six a b c d e f none =
     (both_empty (a ++ b ++ c) d four.0).0
 
 -- an emptied class breaks no rule that the class doesn't break
-pub emptied_is_fine : (parts : Parts) (before : List ClassPart) (c : ClassPart) → class_rules parts before c ≡ [] → class_rules parts before (emptied_part c) ≡ []
+pub emptied_is_fine : (parts : Parts) (before : List ClassPart) (c : ClassPart) → class_rules parts before c ≡ []
+    → class_rules parts before (emptied_part c) ≡ []
 emptied_is_fine parts before c e =
-    ap (λ rules. rules ++ [] ++ [] ++ []) (three_of_six (when (nat_le MAX_CLASSES (length before)) (TooMany counted.Class)) (when (has_name (names_of before) c.name) DuplicateName) (when (not (is_from_1_to parts.tms c.tm)) UnknownName) _ _ _ e)
+    ap (λ rules. rules ++ [] ++ [] ++ [])
+    (three_of_six (when (nat_le MAX_CLASSES (length before)) (TooMany counted.Class)) (when (has_name (names_of before) c.name) DuplicateName) (when (not (is_from_1_to parts.tms c.tm)) UnknownName) _ _ _ e)
 
 -- a class that is found fine stays so behind classes of the same names
-pub fine_behind : (parts : Parts) (before earlier : List ClassPart) (c : ClassPart) → names_of before ≡ names_of earlier → faults_of_class parts before c ≡ [] → class_rules parts earlier c ≡ []
+pub fine_behind : (parts : Parts) (before earlier : List ClassPart) (c : ClassPart) → names_of before ≡ names_of earlier
+    → faults_of_class parts before c ≡ [] → class_rules parts earlier c ≡ []
 fine_behind parts before earlier c same e = same_rules parts before earlier c same ∙ empty_of_map _ _ e
 
 -- no rule broken is no fault
@@ -52,12 +50,15 @@ no_faults_at number e = ap (faults_at Class number) e
 pub both_are_empty : {A : Type 0} (xs ys : List A) → xs ≡ [] → ys ≡ [] → xs ++ ys ≡ []
 both_are_empty xs ys no_x no_y = rw (no_x, no_y) refl
 
-pub one_more : (before earlier : List ClassPart) (c d : ClassPart) → names_of before ≡ names_of earlier → c.name ≡ d.name → names_of (before ++ c ∷ []) ≡ names_of (earlier ++ d ∷ [])
+pub one_more : (before earlier : List ClassPart) (c d : ClassPart) → names_of before ≡ names_of earlier → c.name ≡ d.name
+    → names_of (before ++ c ∷ []) ≡ names_of (earlier ++ d ∷ [])
 one_more before earlier c d same name =
-    map-append (λ c. c.name) before (c ∷ []) ∙ ap (λ ns. ns ++ c.name ∷ []) same ∙ ap (λ n. names_of earlier ++ n ∷ []) name ∙ sym (map-append (λ c. c.name) earlier (d ∷ []))
+    map-append (λ c. c.name) before (c ∷ []) ∙ ap (λ ns. ns ++ c.name ∷ []) same ∙ ap (λ n. names_of earlier ++ n ∷ []) name
+    ∙ sym (map-append (λ c. c.name) earlier (d ∷ []))
 
 -- classes of which the first so many are emptied have no fault where they have none
-pub retired_unfound : (parts : Parts) (before earlier : List ClassPart) (n : ℕ) (classes : List ClassPart) → names_of before ≡ names_of earlier → found_from (faults_of_class parts) before classes ≡ [] → found_from (faults_of_class parts) earlier (retired_parts n classes) ≡ []
+pub retired_unfound : (parts : Parts) (before earlier : List ClassPart) (n : ℕ) (classes : List ClassPart) → names_of before ≡ names_of earlier
+    → found_from (faults_of_class parts) before classes ≡ [] → found_from (faults_of_class parts) earlier (retired_parts n classes) ≡ []
 retired_unfound parts before earlier zero [] same e = refl
 retired_unfound parts before earlier (suc n) [] same e = refl
 retired_unfound parts before earlier zero (c ∷ cs) same e =
@@ -68,7 +69,8 @@ retired_unfound parts before earlier zero (c ∷ cs) same e =
 retired_unfound parts before earlier (suc n) (c ∷ cs) same e =
     let split = both_empty (faults_of_class parts before c) (found_from (faults_of_class parts) (before ++ c ∷ []) cs) e in
     let here : class_rules parts earlier (emptied_part c) ≡ [] = emptied_is_fine parts earlier c (fine_behind parts before earlier c same split.0) in
-    let rest = retired_unfound parts (before ++ c ∷ []) (earlier ++ emptied_part c ∷ []) n cs (one_more before earlier c (emptied_part c) same refl) split.1 in
+    let rest = retired_unfound parts (before ++ c ∷ []) (earlier ++ emptied_part c ∷ []) n cs
+    (one_more before earlier c (emptied_part c) same refl) split.1 in
     both_are_empty _ _ (no_faults_at (length earlier + 1) here) rest
 
 -- parts of which the first so many classes are emptied keep the rules
@@ -78,14 +80,16 @@ retired_valid parts n valid =
     ∙ retired_unfound parts [] [] n parts.classes refl (no_faults parts valid).classes
 
 -- emptied parts are those of emptied classes
-pub retired_by_numbers : (names : List Text) (n : ℕ) (classes : List ClassPart) → map (class_of names) (retired_parts n classes) ≡ map emptied (take n (map (class_of names) classes)) ++ drop n (map (class_of names) classes)
+pub retired_by_numbers : (names : List Text) (n : ℕ) (classes : List ClassPart)
+    → map (class_of names) (retired_parts n classes) ≡ map emptied (take n (map (class_of names) classes)) ++ drop n (map (class_of names) classes)
 retired_by_numbers names zero [] = refl
 retired_by_numbers names (suc n) [] = refl
 retired_by_numbers names zero (c ∷ cs) = refl
 retired_by_numbers names (suc n) (c ∷ cs) = ap (λ rest. emptied (class_of names c) ∷ rest) (retired_by_numbers names n cs)
 
 -- the catalogue of the parts whose first so many classes are emptied
-pub retired_is : (cat : Catalogue) (n : ℕ) → IsSound cat → catalogue_of (with_classes (retired_parts n (parts_of cat).classes) (parts_of cat)) ≡ retired n cat
+pub retired_is : (cat : Catalogue) (n : ℕ) → IsSound cat
+    → catalogue_of (with_classes (retired_parts n (parts_of cat).classes) (parts_of cat)) ≡ retired n cat
 retired_is cat n sound =
     let parts : Parts = parts_of cat in
     ap (λ own. record (catalogue_of parts) { classes = own }) (retired_by_numbers (fragment_names parts.fragments) n parts.classes)

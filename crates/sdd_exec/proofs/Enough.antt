@@ -1,14 +1,5 @@
 -- The kept choices stay enough to tell the answer.
-use Rattle.std.specs.Prelude.{ℕ, ◌+◌, ◌==◌, ◌<◌, ◌≤◌, ◌≡◌, ◌⊎◌, nat_lt, true, false, List, [], ◌∷◌, ◌++◌, length, map, filter_map, Some, None, slice_index, slice_index_or, refl}
-use Rattle.std.proofs.Common.{sym, ◌∙◌, ap, inl, inr, ⊎_elim, arith, subst}
-use Rattle.std.proofs.lemmas.Bool.{cases_Bool, eq-eqb, lt-ltb}
-use Rattle.sdd_lang.specs.declared.condition.Ref.{Ref}
-use Rattle.sdd_lang.specs.declared.condition.Condition.{Condition}
-use Rattle.sdd_lang.specs.All.{Row, Tuple, distinct, meets_all, product, selection, value_at, within}
-use Rattle.sdd_exec.specs.declared.tie.Tie.{Tie}
-use Rattle.sdd_exec.specs.Choices.{Choice, picked, is_there, placed, passes, is_taken, ties_of, key_of, key_for, keyed, extended, row_from, Has, NoRepeats}
-use Rattle.sdd_exec.specs.Splicing.{Agrees, AreSound, Answers, IsOutside}
-use Rattle.sdd_exec.specs.Sifting.{TooMany, IsSifted, choices_of_part, pair_of, pairs_of, joined, all_rows, Stands, AreEnough, TellsAnswer}
+use Rattle.sdd_exec.proofs.All.{Agrees, Answers, AreEnough, AreSound, Choice, Condition, Has, IsOutside, IsSifted, List, NoRepeats, None, Ref, Row, Some, Stands, TellsAnswer, Tie, TooMany, Tuple, [], all_rows, ap, arith, cases_Bool, choices_of_part, distinct, eq-eqb, extended, false, filter_map, inl, inr, is_taken, is_there, joined, key_for, key_of, keyed, length, lt-ltb, map, meets_all, nat_lt, pair_of, pairs_of, passes, picked, placed, product, refl, row_from, selection, slice_index, slice_index_or, subst, sym, ties_of, true, value_at, within, ℕ, ⊎_elim, ◌++◌, ◌+◌, ◌<◌, ◌==◌, ◌∙◌, ◌∷◌, ◌≡◌, ◌≤◌, ◌⊎◌}
 use Rattle.sdd_exec.proofs.Complete.{place_is_there, passes_all, ties_hold, keys_meet, keys_agree, has_keyed, has_place, placed_at, taken_or_new, same_places}
 use Rattle.sdd_exec.proofs.Distinct.{distinct_same, in_distinct, no_more_rows}
 use Rattle.sdd_exec.proofs.Inside.{place_old, sound_part, sound_joined}
@@ -17,7 +8,8 @@ use Rattle.sdd_exec.proofs.Picked.{row_of_picked}
 use Rattle.sdd_exec.proofs.Product.{picked_in_product, choice_of, found_row}
 use Rattle.sdd_exec.proofs.Sifted.{sifted_answers}
 
-each_or_many : (room : ℕ) (P Q : Row → Type 0) → ((row : Row) → P row → Q row ⊎ TooMany room Q) → (rows : List Row) → ((row : Row) → Has rows row → P row)
+each_or_many : (room : ℕ) (P Q : Row → Type 0) → ((row : Row) → P row → Q row ⊎ TooMany room Q) → (rows : List Row)
+    → ((row : Row) → Has rows row → P row)
     → ((row : Row) → Has rows row → Q row) ⊎ TooMany room Q
 each_or_many room P Q step [] all = inl (λ row has. absurd has)
 each_or_many room P Q step (r ∷ rows) all =
@@ -34,7 +26,8 @@ each_or_many room P Q step (r ∷ rows) all =
 abbrev IsEnough : List Row → ℕ → (Row → Type 0) → Type 0
 IsEnough rows room P = ((row : Row) → Has rows row → P row) ⊎ TooMany room P
 
-enough_step : (rows : List Row) (room : ℕ) (P Q : Row → Type 0) → ((row : Row) → P row → Q row ⊎ TooMany room Q) → IsEnough rows room P → IsEnough rows room Q
+enough_step : (rows : List Row) (room : ℕ) (P Q : Row → Type 0) → ((row : Row) → P row → Q row ⊎ TooMany room Q) → IsEnough rows room P
+    → IsEnough rows room Q
 enough_step rows room P Q step enough =
     ⊎_elim
     (λ all. each_or_many room P Q step rows all)
@@ -116,7 +109,8 @@ module _ (parts : List (List Row)) (conds : List Condition) (out : List Ref) (ro
       rw is_row at (keys_meet taken part (picked parts t) ties each) ∙ sym (keys_agree parts c t taken part ties a.4.2 each) in
       let here : nat_lt place (length rows) ≡ true = lt-ltb _ _ (place_is_there parts t part less there) in
       let pair : pair_of parts ties part th ≡ Some (key_of ties (slice_index_or rows place []), place) = rw (at, here) refl in
-      let in_pairs : Has (pairs_of parts ties part thin) (key_of ties (slice_index_or rows place []), place) = Has-filter_map (pair_of parts ties part) thin th _ a.5.1 pair in
+      let in_pairs : Has (pairs_of parts ties part thin) (key_of ties (slice_index_or rows place []), place) = Has-filter_map
+      (pair_of parts ties part) thin th _ a.5.1 pair in
       let found : Has (pairs_of parts ties part thin) (key_for ties (picked parts c), place) = rw key at in_pairs in
       let next : Choice = placed (length parts) c part place in (
         t,
@@ -126,7 +120,8 @@ module _ (parts : List (List Row)) (conds : List Condition) (out : List Ref) (ro
         tt,
         (
           next,
-          Has-flat_map (extended parts part ties (pairs_of parts ties part thin)) kept c next a.4.1 (Has-map (placed (length parts) c part) _ place (has_place _ _ place found)),
+          Has-flat_map (extended parts part ties (pairs_of parts ties part thin)) kept c next a.4.1
+              (Has-map (placed (length parts) c part) _ place (has_place _ _ place found)),
           λ p within yes.
               ⊎_elim
               (λ old. place_old parts taken part place c less new p within old ∙ a.4.2 p within old)
@@ -147,7 +142,8 @@ module _ (parts : List (List Row)) (conds : List Condition) (out : List Ref) (ro
       → AreSound parts conds (taken ++ part ∷ []) next × AreEnough parts conds out room (taken ++ part ∷ []) next
   sifted_next thin next sound enough first second =
       let group : List ℕ = taken ++ part ∷ [] in
-      let sound_thin : AreSound parts conds (part ∷ []) thin = sound_kept (part ∷ []) (choices_of_part parts conds part) thin (sound_part parts conds part less) first.only in
+      let sound_thin : AreSound parts conds (part ∷ []) thin = sound_kept (part ∷ []) (choices_of_part parts conds part) thin
+      (sound_part parts conds part less) first.only in
       let sound_next : AreSound parts conds group next =
       sound_kept group (joined parts conds taken part thin kept) next (sound_joined parts conds taken part thin kept less new sound first.only) second.only in
       let all : List Row = all_rows parts conds out in
@@ -180,7 +176,8 @@ found_at_end parts conds out taken kept all row a =
     let same = same_places parts c t (λ p within. a.5.2 p within (all p within)) in
     let there : is_there parts c ≡ true = same.1 ∙ a.1 in
     let is_row : row_from parts out conds c ≡ Some row = rw (there, same.0, a.2, a.3) refl in
-    let in_all : Has (selection conds (product parts)) (picked parts t) = Has-filter (meets_all conds) (product parts) (picked parts t) (picked_in_product parts t a.1) a.2 in (
+    let in_all : Has (selection conds (product parts)) (picked parts t) = Has-filter (meets_all conds) (product parts) (picked parts t)
+    (picked_in_product parts t a.1) a.2 in (
       Has-filter_map (row_from parts out conds) kept c row a.5.1 is_row,
       subst (Has (all_rows parts conds out)) a.3 (Has-map (λ (tuple : Tuple). map (value_at tuple) out) _ (picked parts t) in_all),
     )
@@ -192,7 +189,8 @@ found_is_answer parts conds out kept row has =
     let one = Has-filter_map_from (row_from parts out conds) kept row has in
     let c : Choice = one.0 in
     let f = found_row (is_there parts c) (meets_all conds (picked parts c)) (map (value_at (picked parts c)) out) row one.2 in
-    let in_all : Has (selection conds (product parts)) (picked parts c) = Has-filter (meets_all conds) (product parts) (picked parts c) (picked_in_product parts c f.0) f.1 in
+    let in_all : Has (selection conds (product parts)) (picked parts c) = Has-filter (meets_all conds) (product parts) (picked parts c)
+    (picked_in_product parts c f.0) f.1 in
     subst (Has (all_rows parts conds out)) f.2 (Has-map (λ (tuple : Tuple). map (value_at tuple) out) _ (picked parts c) in_all)
 
 no_room_for : (room : ℕ) (rows xs : List Row) → room < length rows → NoRepeats rows → ((row : Row) → Has rows row → Has xs row)

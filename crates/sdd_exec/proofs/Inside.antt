@@ -1,18 +1,6 @@
 -- Choices that were extended by a row which its ties and its own conditions allow: their rows are there, and meet the conditions inside.
-use Rattle.std.specs.Prelude.{ℕ, ◌+◌, ◌-◌, ◌==◌, ◌<◌, ◌≡◌, nat_lt, Bool, true, false, cond, List, [], ◌∷◌, ◌++◌, length, Option, Some, None, slice_index, slice_index_or, refl}
-use Rattle.std.specs.List.{cons_option}
-use Rattle.std.proofs.Common.{sym, ◌∙◌, ap, ⊎_elim, arith, suc, subst}
-use Rattle.std.proofs.lemmas.Bool.{cases_Bool, eqb-true, eq-eqb, true≢false}
-use Rattle.sdd_lang.specs.All.{Row, Tuple, column, lists_decide, value_at, value_decides}
-use Rattle.sdd_lang.specs.declared.condition.Ref.{Ref}
-use Rattle.sdd_lang.specs.declared.condition.Condition.{Condition}
-use Rattle.sdd_lang.specs.declared.condition.Condition.TheVariants.{Const, Same}
-use Rattle.sdd_lang.specs.Condition.{meets}
-use Rattle.sdd_exec.specs.declared.tie.Tie.{Tie}
-use Rattle.sdd_exec.specs.Choices.{Choice, picked, placed, passes_one, passes, is_taken, tie_between, tie_of, ties_of, key_of, key_for, keyed, same_row, places, extended, Has}
-use Rattle.sdd_exec.specs.Splicing.{IsThereIn, MeetsInside, AllInside, AreSound}
-use Rattle.sdd_exec.specs.Sifting.{choices_of_part, pair_of, pairs_of, joined}
-use Rattle.sdd_exec.proofs.Complete.{both, value_agrees, placed_at, taken_or_new}
+use Rattle.sdd_exec.proofs.All.{AllInside, AreSound, Bool, Choice, Condition, Const, Has, IsThereIn, List, MeetsInside, None, Option, Ref, Row, Same, Some, Tie, Tuple, [], ap, arith, both, cases_Bool, choices_of_part, column, cond, cons_option, eq-eqb, eqb-true, extended, false, is_taken, joined, key_for, key_of, keyed, length, lists_decide, meets, nat_lt, pair_of, pairs_of, passes, passes_one, picked, placed, places, refl, same_row, slice_index, slice_index_or, subst, suc, sym, tie_between, tie_of, ties_of, true, true≢false, value_at, value_decides, ℕ, ⊎_elim, ◌++◌, ◌+◌, ◌-◌, ◌<◌, ◌==◌, ◌∙◌, ◌∷◌, ◌≡◌}
+use Rattle.sdd_exec.proofs.Complete.{value_agrees, placed_at, taken_or_new}
 use Rattle.sdd_exec.proofs.Members.{Has-map_from, Has-filter_from, Has-filter_map_from, Has-flat_map_from}
 use Rattle.sdd_exec.proofs.Picked.{value_in_picked}
 
@@ -33,8 +21,7 @@ keys_tail row tuple None ts e = e
 keys_tail row tuple (Some t) ts e = cc
 
 keys_head : (row : Row) (tuple : Tuple) (t : Tie) (o : Option Tie) (ts : List Tie) → o ≡ Some t
-    → key_of (cons_option o ts) row ≡ key_for (cons_option o ts) tuple
-    → column row t.column ≡ value_at tuple t.to
+    → key_of (cons_option o ts) row ≡ key_for (cons_option o ts) tuple → column row t.column ≡ value_at tuple t.to
 keys_head row tuple t None ts same e = absurd cc
 keys_head row tuple t (Some u) ts same e =
     let one : u ≡ t = cc in

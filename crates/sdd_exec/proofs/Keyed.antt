@@ -1,25 +1,7 @@
 -- Rows put one by one by their keys: a key above the last goes behind it.
-use Rattle.std.specs.Prelude.{ℕ, ℤ, ◌+◌, ◌-◌, ◌<◌, ◌≡◌, List, [], ◌∷◌, ◌++◌, length, Some, slice_get, fold, refl}
-use Rattle.std.specs.declared.cmp.Ordering.TheVariants.{Less, Greater}
-use Rattle.std.specs.Ordering.{int_cmp, ordering_reverse}
-use Rattle.std.specs.BTreeMap.{insert_entry}
-use Rattle.std.specs.List.{AllByRecursion}
-use Rattle.std.specs.List.Sorted.{IsStrictlySortedBy}
-use Rattle.std.specs.Map.{keys_of}
-use Rattle.std.proofs.Common.{ap, arith, get_or, subst, sym, ◌∙◌, zero, suc}
-use Rattle.std.proofs.lemmas.Cmp.{int_cmp_total}
-use Rattle.std.proofs.lemmas.List.{map-append, nil_from_length}
-use Rattle.std.proofs.lemmas.List.Sums.{fold-append}
-use Rattle.std.proofs.lemmas.Map.Keys.{sorted_head, sorted_tail}
-use Rattle.std.proofs.lemmas.Option.{slice_get-get_or}
-use Rattle.sdd_lang.specs.declared.source.Entry.{Entry}
-use Rattle.sdd_lang.specs.All.{Row, entries_of}
-use Rattle.sdd_lang.proofs.SortedEntries.{sorted_nil, inserted_sorted}
-use Rattle.sdd_exec.specs.Rising.{keyed_rows, by_keys, to_last_key}
-use Rattle.sdd_exec.specs.Snapshots.{of_relation}
+use Rattle.sdd_exec.proofs.All.{AllByRecursion, Entry, Greater, IsStrictlySortedBy, Less, List, Row, Some, [], ap, arith, by_keys, entries_of, fold, fold-append, insert_entry, inserted_sorted, int_cmp, int_cmp_total, keyed_rows, keys_of, length, map-append, nil_from_length, of_relation, ordering_reverse, refl, slice_get, slice_get-get_or, slice_index_or as get_or, sorted_head, sorted_nil, sorted_tail, subst, suc, sym, to_last_key, zero, ℕ, ℤ, ◌++◌, ◌+◌, ◌-◌, ◌<◌, ◌∙◌, ◌∷◌, ◌≡◌}
 
-pub entries_are : (rel : ℕ) (entries : List Entry)
-    → entries_of rel entries ≡ of_relation rel (keyed_rows entries)
+pub entries_are : (rel : ℕ) (entries : List Entry) → entries_of rel entries ≡ of_relation rel (keyed_rows entries)
 entries_are rel [] = refl
 entries_are rel (e ∷ entries) = rw (entries_are rel entries)
 
@@ -35,8 +17,7 @@ AreAlone entries = by_keys (keyed_rows entries) ≡ keyed_rows entries
 
 all_sorted : (rows kept : List (ℤ × Row)) → Ascends kept → Ascends (fold put kept rows)
 all_sorted [] kept h = h
-all_sorted (r ∷ rows) kept h =
-    all_sorted rows (put kept r) (inserted_sorted int_cmp int_cmp_total kept r.0 r.1 h)
+all_sorted (r ∷ rows) kept h = all_sorted rows (put kept r) (inserted_sorted int_cmp int_cmp_total kept r.0 r.1 h)
 
 -- so they ascend
 sorted_alone : (entries : List Entry) → AreAlone entries → Ascends (keyed_rows entries)
@@ -88,8 +69,7 @@ above_last_key (x ∷ entries) k v alone e =
     let place : length (x ∷ entries) - 1 ≡ length entries = omega arith in
     put_last (x ∷ entries) k v _ (length entries) (sorted_alone (x ∷ entries) alone) (rw place at at) (omega arith) above
 
-pushed : (entries : List Entry) (e : Entry)
-    → keyed_rows (entries ++ e ∷ []) ≡ keyed_rows entries ++ (e.key, e.row) ∷ []
+pushed : (entries : List Entry) (e : Entry) → keyed_rows (entries ++ e ∷ []) ≡ keyed_rows entries ++ (e.key, e.row) ∷ []
 pushed entries e = map-append (λ (e : Entry). (e.key, e.row)) entries (e ∷ [])
 
 -- the list with one more entry, above the last, is what putting it makes, and still alone

@@ -1,3 +1,4 @@
+mod All
 pub mod Picked
 pub mod Steps
 pub mod Members

@@ -1,15 +1,6 @@
 -- The tuples of a product are the rows of the choices that are there; so a join finds the answer.
-use Rattle.std.specs.Prelude.{ℕ, ◌<◌, ◌≤◌, ◌≡◌, nat_lt, Bool, true, false, cond, List, [], ◌∷◌, length, Option, Some, None, map, filter_map, take, drop, slice_index, slice_index_or, refl}
-use Rattle.std.specs.Borrow.{Bor}
-use Rattle.std.proofs.Common.{ap, ◌∙◌, inl, ⊎_elim}
-use Rattle.std.proofs.lemmas.Bool.{cases_Bool, ltb-true, lt-ltb, le-ltb}
-use Rattle.std.proofs.lemmas.List.{take_all}
-use Rattle.sdd_lang.specs.declared.condition.Ref.{Ref}
-use Rattle.sdd_lang.specs.declared.condition.Condition.{Condition}
-use Rattle.sdd_lang.specs.All.{Row, Tuple, distinct, meets_all, product, projection, rows_lent, selection, value_at, within}
-use Rattle.sdd_exec.specs.Choices.{Choice, picked, is_there, row_of_tuple, row_from, Has, HasAll}
+use Rattle.sdd_exec.proofs.All.{Bool, Bor, Choice, Condition, Has, HasAll, List, None, Option, Ref, Row, Some, Tuple, [], ap, both, cases_Bool, cond, distinct, drop, false, filter_map, inl, is_there, le-ltb, length, lt-ltb, ltb-true, map, meets_all, nat_lt, picked, product, projection, refl, row_from, row_of_tuple, rows_lent, selection, slice_index, slice_index_or, take, take_all, true, value_at, within, ℕ, ⊎_elim, ◌<◌, ◌∙◌, ◌∷◌, ◌≡◌, ◌≤◌}
 use Rattle.sdd_exec.proofs.Members.{Has-map, Has-map_from, Has-filter, Has-filter_from, Has-flat_map, Has-flat_map_from, Has-filter_map, Has-filter_map_from, Has-get_or, place_of}
-use Rattle.sdd_exec.proofs.Complete.{both}
 use Rattle.sdd_exec.proofs.Distinct.{distinct_same}
 use Rattle.sdd_exec.proofs.Steps.{part_is_fewer}
 
@@ -46,8 +37,10 @@ join_is_answer parts out conds kept all =
     let one = Has-filter_map_from (row_from parts out conds) kept x h in
     let c : Choice = one.0 in
     let f = found_row (is_there parts c) (meets_all conds (picked parts c)) (map (value_at (picked parts c)) out) x one.2 in
-    let in_all : Has (selection conds (product parts)) (picked parts c) = Has-filter (meets_all conds) (product parts) (picked parts c) (picked_in_product parts c f.0) f.1 in
-    let projected : Has (projection out (selection conds (product parts))) (map (value_at (picked parts c)) out) = Has-map (λ (tuple : Tuple). map (value_at tuple) out) _ (picked parts c) in_all in
+    let in_all : Has (selection conds (product parts)) (picked parts c) = Has-filter (meets_all conds) (product parts) (picked parts c)
+    (picked_in_product parts c f.0) f.1 in
+    let projected : Has (projection out (selection conds (product parts))) (map (value_at (picked parts c)) out) = Has-map
+    (λ (tuple : Tuple). map (value_at tuple) out) _ (picked parts c) in_all in
     rw f.2 at projected)
     (λ x h.
     let one = Has-map_from (λ (tuple : Tuple). map (value_at tuple) out) (selection conds (product parts)) x h in

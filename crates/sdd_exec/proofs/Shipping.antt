@@ -1,30 +1,21 @@
 -- The steps of the loops over a snapshot.
-use Rattle.std.specs.Prelude.{ℕ, ℤ, ◌+◌, ◌<◌, ◌≡◌, true, false, cond, List, [], ◌∷◌, ◌++◌, length, filter, fold, take, refl}
-use Rattle.std.specs.declared.cmp.Ordering.TheVariants.{Less, Equal, Greater}
-use Rattle.std.specs.Ordering.{nat_cmp, int_cmp, match_ordering}
-use Rattle.std.specs.BTreeMap.{insert_entry}
-use Rattle.std.proofs.Common.{arith, get_or, ap}
-use Rattle.std.proofs.lemmas.Cmp.{nat_cmp_total, tied_itself}
-use Rattle.std.proofs.lemmas.List.{take_more}
-use Rattle.std.proofs.lemmas.List.FromFn.{map-range_with_len_more}
-use Rattle.std.proofs.lemmas.List.Sums.{fold-append}
-use Rattle.std.proofs.lemmas.List.Elements.{filter_map-append}
-use Rattle.sdd_lang.specs.All.{Catalogue, Database, Row, key_in, meets_all, with_row}
-use Rattle.sdd_lang.specs.declared.condition.Condition.{Condition}
-use Rattle.sdd_exec.specs.Snapshots.{Shipped, rows_for, with_chosen, of_relation, parts_for}
+use Rattle.sdd_exec.proofs.All.{Catalogue, Condition, Database, Equal, Greater, Less, List, Row, Shipped, [], ap, arith, cond, false, filter, filter_map-append, fold, fold-append, insert_entry, int_cmp, key_in, length, map-range_with_len_more, match_ordering, meets_all, nat_cmp, nat_cmp_total, of_relation, parts_for, refl, rows_for, slice_index_or as get_or, take, take_more, tied_itself, true, with_chosen, with_row, ℕ, ℤ, ◌++◌, ◌+◌, ◌<◌, ◌∷◌, ◌≡◌}
 
-pub rows_for_more : (snap : Shipped) (number : ℕ) (i : ℕ) (d : ℕ × Row) → i < length snap → rows_for (take (i + 1) snap) number ≡ rows_for (take i snap) number ++ rows_for (get_or snap i d ∷ []) number
+pub rows_for_more : (snap : Shipped) (number : ℕ) (i : ℕ) (d : ℕ × Row) → i < length snap
+    → rows_for (take (i + 1) snap) number ≡ rows_for (take i snap) number ++ rows_for (get_or snap i d ∷ []) number
 rows_for_more snap number i d h = rw (take_more snap i d h, filter_map-append)
 
 -- a row put by its key is put at its item
-pub put_by_key : (rel : ℕ) (keyed : List (ℤ × Row)) (key : ℤ) (row : Row) → of_relation rel (insert_entry int_cmp keyed key row) ≡ with_row (of_relation rel keyed) (rel, key) row
+pub put_by_key : (rel : ℕ) (keyed : List (ℤ × Row)) (key : ℤ) (row : Row)
+    → of_relation rel (insert_entry int_cmp keyed key row) ≡ with_row (of_relation rel keyed) (rel, key) row
 put_by_key rel [] key row = refl
 put_by_key rel (e ∷ keyed) key row =
     let rest = put_by_key rel keyed key row in
     let same : nat_cmp rel rel ≡ Equal = tied_itself nat_cmp_total rel in
     rw same
     (elim (int_cmp key e.0) as (λ o. of_relation rel (match_ordering o ((key, row) ∷ e ∷ keyed) ((e.0, row) ∷ keyed) (e ∷ insert_entry int_cmp keyed key row))
-    ≡ match_ordering o (((rel, key), row) ∷ ((rel, e.0), e.1) ∷ of_relation rel keyed) (((rel, e.0), row) ∷ of_relation rel keyed) (((rel, e.0), e.1) ∷ with_row (of_relation rel keyed) (rel, key) row)) [
+    ≡ match_ordering o (((rel, key), row) ∷ ((rel, e.0), e.1) ∷ of_relation rel keyed) (((rel, e.0), row) ∷ of_relation rel keyed)
+    (((rel, e.0), e.1) ∷ with_row (of_relation rel keyed) (rel, key) row)) [
       | Less ↦ refl
       | Equal ↦ refl
       | Greater ↦ ap (λ es. ((rel, e.0), e.1) ∷ es) rest
@@ -45,24 +36,30 @@ chosen_one_by_one cat rel conds (row ∷ rows) db =
     let kept : List Row = filter (λ row. meets_all conds (row ∷ [])) rows in
     let with_it = chosen_one_by_one cat rel conds rows (with_row db (rel, key_in cat rel row) row) in
     let without = chosen_one_by_one cat rel conds rows db in
-    elim (meets_all conds (row ∷ [])) as (λ b. fold f db (cond b (row ∷ kept) kept) ≡ fold (with_chosen cat rel conds) (cond b (with_row db (rel, key_in cat rel row) row) db) rows) [
+    elim (meets_all conds (row ∷ [])) as
+    (λ b. fold f db (cond b (row ∷ kept) kept) ≡ fold (with_chosen cat rel conds) (cond b (with_row db (rel, key_in cat rel row) row) db) rows) [
       | true ↦ with_it
       | false ↦ without
     ]
 
-pub rows_next : (snap : Shipped) (number i : ℕ) (one : ℕ × Row) (before after : List Row) → i < length snap → one ≡ get_or snap i one → after ≡ before ++ rows_for (one ∷ []) number → before ≡ rows_for (take i snap) number
+pub rows_next : (snap : Shipped) (number i : ℕ) (one : ℕ × Row) (before after : List Row) → i < length snap → one ≡ get_or snap i one
+    → after ≡ before ++ rows_for (one ∷ []) number → before ≡ rows_for (take i snap) number
     → after ≡ rows_for (take (i + 1) snap) number
 rows_next snap number i one before after h e g b =
-    let step : rows_for (take (i + 1) snap) number ≡ rows_for (take i snap) number ++ rows_for (one ∷ []) number = rw (← e) at (rows_for_more snap number i one h) in
+    let step : rows_for (take (i + 1) snap) number ≡ rows_for (take i snap) number ++ rows_for (one ∷ []) number = rw (← e) at
+    (rows_for_more snap number i one h) in
     rw (g, b, step)
 
-pub chosen_next : (cat : Catalogue) (rel : ℕ) (conds : List Condition) (rows : List Row) (i : ℕ) (row : Row) (before after : Database) → i < length rows → row ≡ get_or rows i row → after ≡ with_chosen cat rel conds before row
+pub chosen_next : (cat : Catalogue) (rel : ℕ) (conds : List Condition) (rows : List Row) (i : ℕ) (row : Row) (before after : Database) → i < length rows
+    → row ≡ get_or rows i row → after ≡ with_chosen cat rel conds before row
     → before ≡ fold (with_chosen cat rel conds) [] (take i rows) → after ≡ fold (with_chosen cat rel conds) [] (take (i + 1) rows)
 chosen_next cat rel conds rows i row before after h e g b =
-    let step : fold (with_chosen cat rel conds) [] (take (i + 1) rows) ≡ with_chosen cat rel conds (fold (with_chosen cat rel conds) [] (take i rows)) row = rw (← e) at (chosen_more cat rel conds rows i row h) in
+    let step : fold (with_chosen cat rel conds) [] (take (i + 1) rows) ≡ with_chosen cat rel conds
+    (fold (with_chosen cat rel conds) [] (take i rows)) row = rw (← e) at (chosen_more cat rel conds rows i row h) in
     rw (g, b, step)
 
-pub parts_next : (snap : Shipped) (before i number : ℕ) (rows : List Row) (done after : List (List Row)) → number ≡ before + i + 1 → rows ≡ rows_for snap number → after ≡ done ++ rows ∷ [] → done ≡ parts_for snap before i → after ≡ parts_for snap before (i + 1)
+pub parts_next : (snap : Shipped) (before i number : ℕ) (rows : List Row) (done after : List (List Row)) → number ≡ before + i + 1
+    → rows ≡ rows_for snap number → after ≡ done ++ rows ∷ [] → done ≡ parts_for snap before i → after ≡ parts_for snap before (i + 1)
 parts_next snap before i number rows done after n r g d =
     let e : number ≡ before + (1 + i) = omega arith in
     rw (g, d, r, e, map-range_with_len_more (λ (p : ℕ). rows_for snap (before + p)) 1 i (1 + i) refl)

@@ -1,19 +1,6 @@
 -- What a sieve covers.
-use Rattle.std.specs.Prelude.{ℕ, ◌+◌, ◌-◌, ◌==◌, ◌<◌, ◌≡◌, Bool, true, false, not, cond, List, [], ◌∷◌, ◌++◌, length, map, take, refl}
-use Rattle.std.specs.BTreeSet.{insert_key}
-use Rattle.std.specs.List.{flat_map}
-use Rattle.std.proofs.Common.{sym, ◌∙◌, ap, inl, inr, ⊎_elim, get_or, subst, append-nil}
-use Rattle.std.proofs.lemmas.Bool.{cases_Bool}
-use Rattle.std.proofs.lemmas.List.{take_more, map-append}
-use Rattle.std.proofs.lemmas.List.Concat.{flat_map-append}
-use Rattle.sdd_lang.specs.All.{Row, lists_decide, row_cmp, value_at, value_decides}
-use Rattle.sdd_lang.specs.declared.condition.Ref.{Ref}
-use Rattle.sdd_lang.specs.declared.condition.Condition.{Condition}
-use Rattle.sdd_exec.specs.declared.sieve.Mesh.{Mesh}
-use Rattle.sdd_exec.specs.declared.sieve.Sieve.{Sieve}
-use Rattle.sdd_exec.specs.Choices.{Choice, picked, placed, same_row, Has, NoRepeats}
-use Rattle.sdd_exec.specs.Sifting.{values_of, links_of, outs_of, is_apart, TooMany, HasLike, IsCovered, found_with, IsSieve, Offered, IsSifted}
-use Rattle.sdd_exec.proofs.Complete.{both, value_agrees, placed_at}
+use Rattle.sdd_exec.proofs.All.{Bool, Choice, Condition, Has, HasLike, IsCovered, IsSieve, IsSifted, List, Mesh, NoRepeats, Offered, Ref, Row, Sieve, TooMany, [], ap, append-nil, both, cases_Bool, cond, false, flat_map, flat_map-append, found_with, inl, inr, insert_key, is_apart, length, links_of, lists_decide, map, map-append, not, outs_of, picked, placed, refl, row_cmp, same_row, slice_index_or as get_or, subst, sym, take, take_more, true, value_at, value_decides, values_of, ℕ, ⊎_elim, ◌++◌, ◌+◌, ◌-◌, ◌<◌, ◌==◌, ◌∙◌, ◌∷◌, ◌≡◌}
+use Rattle.sdd_exec.proofs.Complete.{value_agrees, placed_at}
 use Rattle.sdd_exec.proofs.Distinct.{new_or_old}
 use Rattle.sdd_exec.proofs.Members.{Has-left, Has-right, Has-append, Has-map_from}
 
@@ -25,7 +12,8 @@ like_still : (parts : List (List Row)) (links outs : List Ref) (kept next : List
     → HasLike parts links outs kept l o → HasLike parts links outs next l o
 like_still parts links outs kept next l o still like = (like.0, still like.0 like.1, like.2, like.3)
 
-covered_still : (parts : List (List Row)) (links outs : List Ref) (room : ℕ) (kept next : List Choice) (c : Choice) → ((d : Choice) → Has kept d → Has next d)
+covered_still : (parts : List (List Row)) (links outs : List Ref) (room : ℕ) (kept next : List Choice) (c : Choice)
+    → ((d : Choice) → Has kept d → Has next d)
     → IsCovered parts links outs room kept c → IsCovered parts links outs room next c
 covered_still parts links outs room kept next c still covered =
     ⊎_elim
@@ -124,7 +112,9 @@ module _ (parts : List (List Row)) (mesh : Mesh) (old new : Sieve) (choice : Cho
       let like : Like new.kept.items l o = (choice, there, refl, refl) in
       record {
         sieve = found_by is found like still;
-        covered = λ c has. ⊎_elim (λ (same : choice ≡ c). subst (λ (d : Choice). IsCovered parts mesh.links.items mesh.outs.items mesh.room new.kept.items d) same (inl like)) (λ none. absurd none) has;
+        covered = λ c has. ⊎_elim
+            (λ (same : choice ≡ c). subst (λ (d : Choice). IsCovered parts mesh.links.items mesh.outs.items mesh.room new.kept.items d) same (inl like))
+            (λ none. absurd none) has;
         still = still;
         only = λ c has. Has-append old.kept.items (choice ∷ []) c (rw kept at has);
       }
@@ -137,12 +127,14 @@ module _ (parts : List (List Row)) (mesh : Mesh) (old new : Sieve) (choice : Cho
       let like : Like new.kept.items l o = like_still parts _ _ old.kept.items new.kept.items l o still (is l o there) in
       record {
         sieve = found_by is found like still;
-        covered = λ c has. ⊎_elim (λ (same : choice ≡ c). subst (λ (d : Choice). IsCovered parts mesh.links.items mesh.outs.items mesh.room new.kept.items d) same (inl like)) (λ none. absurd none) has;
+        covered = λ c has. ⊎_elim
+            (λ (same : choice ≡ c). subst (λ (d : Choice). IsCovered parts mesh.links.items mesh.outs.items mesh.room new.kept.items d) same (inl like))
+            (λ none. absurd none) has;
         still = still;
         only = λ c has. inl (rw kept at has);
       }
 
-not_true : (b : Bool) → not b ≡ true → b ≡ false
+pub not_true : (b : Bool) → not b ≡ true → b ≡ false
 not_true true h = absurd cc
 not_true false h = refl
 
@@ -155,7 +147,8 @@ values_apart parts (r ∷ columns) choice part place h =
     let apart : (r.part - 1 == part) ≡ false = not_true (r.part - 1 == part) b.0 in
     let rest = values_apart parts columns choice part place b.1 in
     let one : value_at (picked parts (placed (length parts) choice part place)) r ≡ value_at (picked parts choice) r =
-    value_agrees parts (placed (length parts) choice part place) choice r (λ less. placed_at (length parts) choice part place (r.part - 1) less ∙ rw apart refl) in
+    value_agrees parts (placed (length parts) choice part place) choice r
+    (λ less. placed_at (length parts) choice part place (r.part - 1) less ∙ rw apart refl) in
     cc
 
 pub offered_apart : (parts : List (List Row)) (mesh : Mesh) (sieve : Sieve) (choice : Choice) (part : ℕ) (places : List ℕ) → IsSieve parts mesh sieve
@@ -166,22 +159,26 @@ offered_apart parts mesh sieve choice part places is apart many =
     offered_full parts mesh sieve (map (placed (length parts) choice part) places) (values_of parts mesh.links.items choice) is many
     (λ c has.
     let one = Has-map_from (placed (length parts) choice part) places c has in
-    subst (λ (d : Choice). values_of parts mesh.links.items d ≡ values_of parts mesh.links.items choice) one.2 (values_apart parts mesh.links.items choice part one.0 apart))
+    subst (λ (d : Choice). values_of parts mesh.links.items d ≡ values_of parts mesh.links.items choice) one.2
+    (values_apart parts mesh.links.items choice part one.0 apart))
 
 -- one item more of those that are offered in turn
 pub offered_next : {X : Type 0} (parts : List (List Row)) (mesh : Mesh) (a b c : Sieve) (f : X → Choice) (xs : List X) (i : ℕ) (x : X) → i < length xs
     → Offered parts mesh a b (map f (take i xs)) → Offered parts mesh b c (f (get_or xs i x) ∷ []) → Offered parts mesh a c (map f (take (i + 1) xs))
 offered_next parts mesh a b c f xs i x h before one =
-    let split : map f (take (i + 1) xs) ≡ map f (take i xs) ++ f (get_or xs i x) ∷ [] = ap (map f) (take_more xs i x h) ∙ map-append f (take i xs) (get_or xs i x ∷ []) in
+    let split : map f (take (i + 1) xs) ≡ map f (take i xs) ++ f (get_or xs i x) ∷ [] = ap (map f) (take_more xs i x h)
+    ∙ map-append f (take i xs) (get_or xs i x ∷ []) in
     subst (Offered parts mesh a c) (sym split) (offered_append parts mesh a b c (map f (take i xs)) (f (get_or xs i x) ∷ []) before one)
 
-pub offered_more : {X : Type 0} (parts : List (List Row)) (mesh : Mesh) (a b c : Sieve) (f : X → List Choice) (xs : List X) (i : ℕ) (x : X) → i < length xs
+pub offered_more : {X : Type 0} (parts : List (List Row)) (mesh : Mesh) (a b c : Sieve) (f : X → List Choice) (xs : List X) (i : ℕ) (x : X)
+    → i < length xs
     → x ≡ get_or xs i x
     → Offered parts mesh a b (flat_map f (take i xs)) → Offered parts mesh b c (f x) → Offered parts mesh a c (flat_map f (take (i + 1) xs))
 offered_more parts mesh a b c f xs i x h e before one =
     let last : flat_map f (get_or xs i x ∷ []) ≡ f x = append-nil (f (get_or xs i x)) ∙ ap f (sym e) in
     let split : flat_map f (take (i + 1) xs) ≡ flat_map f (take i xs) ++ f x =
-    ap (flat_map f) (take_more xs i x h) ∙ flat_map-append f (take i xs) (get_or xs i x ∷ []) ∙ ap (λ (ys : List Choice). flat_map f (take i xs) ++ ys) last in
+    ap (flat_map f) (take_more xs i x h) ∙ flat_map-append f (take i xs) (get_or xs i x ∷ [])
+    ∙ ap (λ (ys : List Choice). flat_map f (take i xs) ++ ys) last in
     subst (Offered parts mesh a c) (sym split) (offered_append parts mesh a b c (flat_map f (take i xs)) (f x) before one)
 
 -- what a sieve keeps that began with nothing

@@ -1,22 +1,13 @@
 -- Sifting the choices of a group loses no row of the answer, or else more rows are left than there is room for.
-use Rattle.std.specs.Prelude.{ℕ, ◌-◌, ◌<◌, ◌≡◌, ◌⊎◌, true, false, cond, List, [], ◌∷◌, length, map, Option, Some, None, refl}
-use Rattle.std.specs.List.{cons_option}
-use Rattle.std.proofs.Common.{sym, ◌∙◌, inl, inr, ⊎_elim, arith, subst}
-use Rattle.std.proofs.lemmas.Bool.{cases_Bool}
-use Rattle.sdd_lang.specs.All.{Row, Value, meets_all, value_at}
-use Rattle.sdd_lang.specs.declared.condition.Ref.{Ref}
-use Rattle.sdd_lang.specs.declared.condition.Condition.{Condition}
-use Rattle.sdd_lang.specs.declared.condition.Condition.TheVariants.{Const, Same}
-use Rattle.sdd_exec.specs.Choices.{Choice, picked, is_there, is_taken, Has, NoRepeats}
-use Rattle.sdd_exec.specs.Splicing.{spliced, Agrees, AllAlike, OutsAlike, AreSound, Answers, IsOutside}
-use Rattle.sdd_exec.specs.Sifting.{link_between, links_of, outs_of, values_of, TooMany, IsSifted}
+use Rattle.sdd_exec.proofs.All.{Agrees, AllAlike, Answers, AreSound, Choice, Condition, Const, Has, IsOutside, IsSifted, List, NoRepeats, None, Option, OutsAlike, Ref, Row, Same, Some, TooMany, Value, [], arith, cases_Bool, cond, cons_option, false, inl, inr, is_taken, is_there, length, link_between, links_of, map, meets_all, outs_of, picked, refl, spliced, subst, sym, true, value_at, values_of, ℕ, ⊎_elim, ◌-◌, ◌<◌, ◌∙◌, ◌∷◌, ◌≡◌, ◌⊎◌}
 use Rattle.sdd_exec.proofs.Splices.{new_in, new_out, value_in, new_there, meets_new, outs_new, links_on, outs_on}
 
 values_tail : (f g : Ref → Value) (o : Option Ref) (rs : List Ref) → map f (cons_option o rs) ≡ map g (cons_option o rs) → map f rs ≡ map g rs
 values_tail f g None rs e = e
 values_tail f g (Some r) rs e = cc
 
-values_head : (f g : Ref → Value) (r : Ref) (o : Option Ref) (rs : List Ref) → o ≡ Some r → map f (cons_option o rs) ≡ map g (cons_option o rs) → f r ≡ g r
+values_head : (f g : Ref → Value) (r : Ref) (o : Option Ref) (rs : List Ref) → o ≡ Some r → map f (cons_option o rs) ≡ map g (cons_option o rs)
+    → f r ≡ g r
 values_head f g r None rs same e = absurd cc
 values_head f g r (Some q) rs same e =
     let one : q ≡ r = cc in
@@ -115,7 +106,8 @@ sifted_answers parts conds out room Rest group choices kept row outside sound si
     let c : Choice = a.5.0 in
     let agrees : Agrees parts group c t = a.5.2 in
     let Kept : Row → Type 0 = Answers parts conds out Rest group kept in
-    let put_in : (d : Choice) → Has kept d → values_of parts (links_of group conds) d ≡ values_of parts (links_of group conds) c → Kept (values_of parts out (spliced (length parts) group d t)) =
+    let put_in : (d : Choice) → Has kept d → values_of parts (links_of group conds) d ≡ values_of parts (links_of group conds) c → Kept
+    (values_of parts out (spliced (length parts) group d t)) =
     λ d has links. (
       spliced (length parts) group d t,
       new_there parts group d t (sound d has).0 there,

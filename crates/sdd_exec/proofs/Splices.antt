@@ -1,17 +1,6 @@
 -- Choices that agree in the linked and listed columns of a group stand for each other.
-use Rattle.std.specs.Prelude.{ℕ, ◌+◌, ◌-◌, ◌<◌, ◌≡◌, true, false, nat_lt, cond, List, [], ◌∷◌, length, map, drop, slice_index, slice_index_or, refl}
-use Rattle.std.proofs.Common.{sym, ◌∙◌, ⊎_elim, arith, suc}
-use Rattle.std.proofs.lemmas.Bool.{cases_Bool, lt-ltb}
-use Rattle.std.proofs.lemmas.List.{get_or-drop}
-use Rattle.std.proofs.lemmas.List.FromFn.{get_or-map-range_with_len}
-use Rattle.sdd_lang.specs.All.{Row, meets_all, value_at, value_decides}
-use Rattle.sdd_lang.specs.declared.condition.Ref.{Ref}
-use Rattle.sdd_lang.specs.declared.condition.Condition.{Condition}
-use Rattle.sdd_lang.specs.declared.condition.Condition.TheVariants.{Const, Same}
-use Rattle.sdd_lang.specs.Condition.{meets}
-use Rattle.sdd_exec.specs.Choices.{Choice, picked, is_there, is_taken}
-use Rattle.sdd_exec.specs.Splicing.{spliced, Agrees, IsThereIn, MeetsInside, LinksAlike, AllInside, AllAlike, OutsAlike}
-use Rattle.sdd_exec.proofs.Complete.{both, place_is_there, value_agrees}
+use Rattle.sdd_exec.proofs.All.{Agrees, AllAlike, AllInside, Choice, Condition, Const, IsThereIn, LinksAlike, List, MeetsInside, OutsAlike, Ref, Row, Same, [], arith, both, cases_Bool, cond, drop, false, get_or-drop, get_or-map-range_with_len, is_taken, is_there, length, lt-ltb, map, meets, meets_all, nat_lt, picked, refl, slice_index, slice_index_or, spliced, suc, sym, true, value_at, value_decides, ℕ, ⊎_elim, ◌+◌, ◌-◌, ◌<◌, ◌∙◌, ◌∷◌, ◌≡◌}
+use Rattle.sdd_exec.proofs.Complete.{place_is_there, value_agrees}
 
 -- a choice each of whose places is one of its part is there
 there_by_places : (parts : List (List Row)) (t : Choice) → ((p : ℕ) → p < length parts → slice_index t p < length (slice_index_or parts p []))
@@ -61,7 +50,8 @@ module _ (parts : List (List Row)) (group : List ℕ) (c t : Choice) where
       (cases_Bool (is_taken group (left.part - 1)))
   meets_one (Same left right) inside alike h =
       let same : value_at (picked parts t) left ≡ value_at (picked parts t) right = (value_decides _ _).0 h in
-      let by = λ (e : value_at (picked parts new) left ≡ value_at (picked parts new) right). (value_decides (value_at (picked parts new) left) (value_at (picked parts new) right)).1 e in
+      let by = λ (e : value_at (picked parts new) left ≡ value_at (picked parts new) right).
+      (value_decides (value_at (picked parts new) left) (value_at (picked parts new) right)).1 e in
       ⊎_elim
       (λ (yes : is_taken group (left.part - 1) ≡ true).
       ⊎_elim
@@ -99,7 +89,8 @@ module _ (parts : List (List Row)) (group : List ℕ) (c t : Choice) where
       cc
 
 -- what is alike with one choice is alike with each that agrees with it in the group
-pub links_on : (parts : List (List Row)) (group : List ℕ) (d c t : Choice) (conds : List Condition) → Agrees parts group c t → AllAlike parts group d c conds
+pub links_on : (parts : List (List Row)) (group : List ℕ) (d c t : Choice) (conds : List Condition) → Agrees parts group c t
+    → AllAlike parts group d c conds
     → AllAlike parts group d t conds
 links_on parts group d c t [] agrees h = tt
 links_on parts group d c t (Const left op value ∷ conds) agrees h = (tt, links_on parts group d c t conds agrees h.1)

@@ -1,26 +1,12 @@
 -- The steps of the loops of a join.
-use Rattle.std.specs.Prelude.{ℕ, ◌+◌, ◌==◌, slice_index, ◌<◌, ◌≤◌, ◌≡◌, true, false, cond, List, [], ◌∷◌, ◌++◌, length, Option, Some, None, filter_map, fold, take, drop, refl}
-use Rattle.std.specs.declared.cmp.Ordering.TheVariants.{Less, Equal, Greater}
-use Rattle.std.specs.Ordering.{match_ordering}
-use Rattle.std.specs.List.{cons_option, flat_map}
-use Rattle.std.proofs.lemmas.List.Concat.{flat_map-append}
-use Rattle.std.specs.BTreeSet.{insert_key}
-use Rattle.std.specs.Option.{option_map_or}
-use Rattle.std.proofs.Common.{ap, arith, append_assoc, append-nil, get_or, sym, ◌∙◌, ⊎_elim}
-use Rattle.std.proofs.lemmas.Bool.{cases_Bool}
-use Rattle.std.proofs.lemmas.List.FromFn.{map-range_with_len_more}
-use Rattle.sdd_lang.specs.All.{Row, distinct, lists_decide, row_cmp, value_decides}
-use Rattle.std.proofs.lemmas.List.{at_drop_more, take_more, map-append, take-append-drop}
-use Rattle.std.proofs.lemmas.List.Sums.{fold-append}
-use Rattle.std.proofs.lemmas.List.Elements.{filter_map-append, filter-append}
-use Rattle.sdd_lang.specs.declared.condition.Condition.{Condition}
-use Rattle.sdd_exec.specs.declared.tie.Tie.{Tie}
-use Rattle.sdd_exec.specs.Choices.{keyed, key_of, passes, placed, places, same_row, with_found}
+use Rattle.sdd_exec.proofs.All.{Condition, Equal, Greater, Less, List, None, Option, Row, Some, Tie, [], ap, append-nil, append_assoc, arith, at_drop_more, cases_Bool, cond, cons_option, distinct, drop, false, filter-append, filter_map, filter_map-append, flat_map, flat_map-append, fold, fold-append, insert_key, key_of, keyed, length, lists_decide, map-append, map-range_with_len_more, match_ordering, option_map_or, passes, placed, places, refl, row_cmp, same_row, slice_index, slice_index_or as get_or, sym, take, take-append-drop, take_more, true, value_decides, with_found, ℕ, ⊎_elim, ◌++◌, ◌+◌, ◌<◌, ◌==◌, ◌∙◌, ◌∷◌, ◌≡◌, ◌≤◌}
 
-pub filter_map_more : {X Y : Type 0} (f : X → Option Y) (xs : List X) (i : ℕ) (d : X) (y : Y) → i < length xs → f (get_or xs i d) ≡ Some y → filter_map f (take (i + 1) xs) ≡ filter_map f (take i xs) ++ y ∷ []
+pub filter_map_more : {X Y : Type 0} (f : X → Option Y) (xs : List X) (i : ℕ) (d : X) (y : Y) → i < length xs → f (get_or xs i d) ≡ Some y
+    → filter_map f (take (i + 1) xs) ≡ filter_map f (take i xs) ++ y ∷ []
 filter_map_more f xs i d y h e = rw (take_more xs i d h, filter_map-append, e)
 
-pub filter_map_same : {X Y : Type 0} (f : X → Option Y) (xs : List X) (i : ℕ) (d : X) → i < length xs → f (get_or xs i d) ≡ None → filter_map f (take (i + 1) xs) ≡ filter_map f (take i xs)
+pub filter_map_same : {X Y : Type 0} (f : X → Option Y) (xs : List X) (i : ℕ) (d : X) → i < length xs → f (get_or xs i d) ≡ None
+    → filter_map f (take (i + 1) xs) ≡ filter_map f (take i xs)
 filter_map_same f xs i d h e = rw (take_more xs i d h, filter_map-append, e) (append-nil _)
 
 pub ruleset tie_steps = (filter_map_more, filter_map_same)
@@ -30,14 +16,16 @@ pub keyed_more : (part : ℕ) (conds : List Condition) (ties : List Tie) (i : �
 keyed_more part conds ties i rows d done h =
     rw (at_drop_more (keyed part conds ties i) rows i d h)
     (elim (passes part conds (get_or rows i d)) as (λ b. (done ++ cond b ((key_of ties (get_or rows i d), i) ∷ []) []) ++ keyed part conds ties (i + 1) (drop (i + 1) rows)
-    ≡ done ++ cond b ((key_of ties (get_or rows i d), i) ∷ keyed part conds ties (i + 1) (drop (i + 1) rows)) (keyed part conds ties (i + 1) (drop (i + 1) rows))) [
+    ≡ done ++ cond b ((key_of ties (get_or rows i d), i) ∷ keyed part conds ties (i + 1) (drop (i + 1) rows))
+    (keyed part conds ties (i + 1) (drop (i + 1) rows))) [
       | true ↦ rw append_assoc
       | false ↦ rw append-nil
     ])
 
 pub ruleset key_steps = (keyed_more)
 
-pub places_more : (pairs : List (Row × ℕ)) (q : Row) (i : ℕ) (d : Row × ℕ) → i < length pairs → places (take (i + 1) pairs) q ≡ places (take i pairs) q ++ places (get_or pairs i d ∷ []) q
+pub places_more : (pairs : List (Row × ℕ)) (q : Row) (i : ℕ) (d : Row × ℕ) → i < length pairs
+    → places (take (i + 1) pairs) q ≡ places (take i pairs) q ++ places (get_or pairs i d ∷ []) q
 places_more pairs q i d h = rw (take_more pairs i d h, filter-append, map-append)
 
 pub with_found_more : {X : Type 0} (f : X → Option Row) (kept : List X) (i : ℕ) (d : X) → i < length kept
@@ -50,7 +38,8 @@ insert_longer : (xs : List Row) (k : Row) → length xs ≤ length (insert_key r
 insert_longer [] k = omega arith
 insert_longer (x ∷ xs) k =
     let rest : length xs ≤ length (insert_key row_cmp xs k) = insert_longer xs k in
-    elim (row_cmp k x) as (λ o. length (x ∷ xs) ≤ length (match_ordering o (k ∷ x ∷ xs) (x ∷ xs) (x ∷ insert_key row_cmp xs k))) [ Less ↦ omega arith | Equal ↦ omega arith | Greater ↦ omega arith ]
+    elim (row_cmp k x) as
+    (λ o. length (x ∷ xs) ≤ length (match_ordering o (k ∷ x ∷ xs) (x ∷ xs) (x ∷ insert_key row_cmp xs k))) [ Less ↦ omega arith | Equal ↦ omega arith | Greater ↦ omega arith ]
 
 abbrev insert_all : List Row → List Row → List Row
 insert_all kept rows = fold (λ kept row. insert_key row_cmp kept row) kept rows
@@ -64,14 +53,16 @@ pub part_is_fewer : {X : Type 0} (f : X → Option Row) (kept : List X) (i room 
     → room < length (distinct (filter_map f (take i kept))) → room < length (distinct (filter_map f kept))
 part_is_fewer f kept i room h =
     let whole : take i kept ++ drop i kept ≡ kept = take-append-drop i kept in
-    let split : distinct (filter_map f (take i kept ++ drop i kept)) ≡ insert_all (distinct (filter_map f (take i kept))) (filter_map f (drop i kept)) = rw (filter_map-append, fold-append) in
+    let split : distinct (filter_map f (take i kept ++ drop i kept)) ≡ insert_all (distinct (filter_map f (take i kept))) (filter_map f (drop i kept)) = rw
+    (filter_map-append, fold-append) in
     let longer = fold_longer (filter_map f (drop i kept)) (distinct (filter_map f (take i kept))) in
     let more : room < length (distinct (filter_map f (take i kept ++ drop i kept))) = rw split (omega arith) in
     rw whole at more
 
 pub ruleset answer_steps = (with_found_more, part_is_fewer)
 
-pub placed_more : (p : ℕ) (choice : List ℕ) (part place : ℕ) (before after : List ℕ) (next : ℕ) → before ≡ placed p choice part place → next ≡ cond (p == part) place (slice_index choice p) → after ≡ before ++ next ∷ [] → after ≡ placed (p + 1) choice part place
+pub placed_more : (p : ℕ) (choice : List ℕ) (part place : ℕ) (before after : List ℕ) (next : ℕ) → before ≡ placed p choice part place
+    → next ≡ cond (p == part) place (slice_index choice p) → after ≡ before ++ next ∷ [] → after ≡ placed (p + 1) choice part place
 placed_more p choice part place before after next e f g =
     let f2 = λ (q : ℕ). cond (q == part) place (slice_index choice q) in
     let more = map-range_with_len_more f2 0 p p (omega arith) in
@@ -92,10 +83,12 @@ group_step items old mid new key place taken more t m others put q =
     (cases_Bool (same_row key q))
 
 pub keyed_next : (part : ℕ) (conds : List Condition) (ties : List Tie) (i : ℕ) (rows : List Row) (row : Row) (before after all : List (Row × ℕ))
-    → i < length rows → row ≡ get_or rows i row → after ≡ before ++ keyed part conds ties i (row ∷ []) → before ++ keyed part conds ties i (drop i rows) ≡ all
+    → i < length rows → row ≡ get_or rows i row → after ≡ before ++ keyed part conds ties i (row ∷ [])
+    → before ++ keyed part conds ties i (drop i rows) ≡ all
     → after ++ keyed part conds ties (i + 1) (drop (i + 1) rows) ≡ all
 keyed_next part conds ties i rows row before after all h e f g =
-    let step : (before ++ keyed part conds ties i (row ∷ [])) ++ keyed part conds ties (i + 1) (drop (i + 1) rows) ≡ before ++ keyed part conds ties i (drop i rows) =
+    let step : (before ++ keyed part conds ties i (row ∷ [])) ++ keyed part conds ties (i + 1) (drop (i + 1) rows) ≡ before ++ keyed part conds ties i
+    (drop i rows) =
     rw (← e) at (keyed_more part conds ties i rows row before h) in
     rw f (step ∙ g)
 
@@ -119,7 +112,8 @@ untied_next part conds i rows row before after all h e f g =
     ∙ g
 
 pub flat_map_next : {X Y : Type 0} (f : X → List Y) (xs : List X) (i : ℕ) (x : X) (before after piece : List Y)
-    → i < length xs → x ≡ get_or xs i x → piece ≡ f x → after ≡ before ++ piece → before ≡ flat_map f (take i xs) → after ≡ flat_map f (take (i + 1) xs)
+    → i < length xs → x ≡ get_or xs i x → piece ≡ f x → after ≡ before ++ piece → before ≡ flat_map f (take i xs)
+    → after ≡ flat_map f (take (i + 1) xs)
 flat_map_next f xs i x before after piece h e p g b =
     let last : f (get_or xs i x) ≡ piece = ap f (sym e) ∙ sym p in
     let one : flat_map f (get_or xs i x ∷ []) ≡ piece = rw append-nil last in
@@ -130,7 +124,9 @@ flat_map_same f g [] same = refl
 flat_map_same f g (x ∷ xs) same = rw (same x, flat_map_same f g xs same)
 
 pub found_next : {X : Type 0} (f : X → Option Row) (kept : List X) (i : ℕ) (choice : X) (before after : List Row)
-    → i < length kept → choice ≡ get_or kept i choice → after ≡ with_found (f choice) before → before ≡ distinct (filter_map f (take i kept)) → after ≡ distinct (filter_map f (take (i + 1) kept))
+    → i < length kept → choice ≡ get_or kept i choice → after ≡ with_found (f choice) before → before ≡ distinct (filter_map f (take i kept))
+    → after ≡ distinct (filter_map f (take (i + 1) kept))
 found_next f kept i choice before after h e g b =
-    let step : distinct (filter_map f (take (i + 1) kept)) ≡ with_found (f choice) (distinct (filter_map f (take i kept))) = rw (← e) at (with_found_more f kept i choice h) in
+    let step : distinct (filter_map f (take (i + 1) kept)) ≡ with_found (f choice) (distinct (filter_map f (take i kept))) = rw (← e) at
+    (with_found_more f kept i choice h) in
     rw (g, b, step)

@@ -1,4 +1,4 @@
-ghost use Rattle.std.specs.Prelude.{◌≡◌, IfOk, IsTrue};
+ghost use Rattle.std.specs.Prelude.{◌≡◌, IfOk};
 ghost use Rattle.sdd_lang.specs.catalog.Catalogue as catalogues;
 ghost use Rattle.sdd_lang.specs.declared.transaction.Txn as transactions;
 ghost use Rattle.sdd_lang.specs.All.{Database, Fits, IsDatabase};
@@ -26,9 +26,8 @@ pub fn effect(
     txn: &Txn,
     snap: &Snapshot,
 ) -> Result<Effect, NoMemory>
-    requires fits { Fits cat.now txn.now }
-    requires live { IsTrue snap.now.live }
-    ensures { (db : Database) → IsDatabase cat.now db → Serves cat.now txn.now snap.now.value db → IfOk result (λ effect. effect ≡ of_databases.effect cat.now db txn.now) }
+    requires { Fits cat.now txn.now }
+    ensures { (db : Database) → IsDatabase cat.now db → Serves cat.now txn.now snap.now db → IfOk result (λ effect. effect ≡ of_databases.effect cat.now db txn.now) }
 {
     effect_over(alloc, cat, txn, &Shipped { cat, snap })
 }

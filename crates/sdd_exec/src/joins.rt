@@ -14,9 +14,18 @@ use crate::index::{Index, index, places_of, untied};
 use crate::parts::Parts;
 use crate::sifting::sifted;
 use crate::tie::{Tie, key_for, ties};
-use sdd_lang::sdd_base::{NoMemory, Row, RowList};
+use sdd_lang::sdd_base::{MAX_REPLY_ROWS, NoMemory, Row, RowList};
 use sdd_lang::{Condition, Ref, meets_all, project};
 use std::alloc::Global;
+
+/// How many choices, of one row from each part taken so far, a step may make in any join before
+/// they are sifted. It is as many as a reply may have rows: sifting a join that makes no more costs
+/// more than it saves, since each of these choices may be an answer.
+const FREE_CHOICES: usize = MAX_REPLY_ROWS;
+
+/// How many more it may make for each row of the parts. It allows the equalities of a join to lead
+/// from each row to a few others, and keeps the choices linear in the rows.
+const CHOICES_PER_ROW: usize = 4;
 
 /// The first part that wasn't taken; 0 where none is left.
 fn first_left(parts: usize, taken: &[usize]) -> usize
@@ -205,11 +214,12 @@ fn take(
     Ok(Reached { taken, kept })
 }
 
-/// So many choices a step may make before they are sifted.
+/// So many choices a step may make before they are sifted. It bounds the memory of a join alone:
+/// what is answered is the same whatever it is.
 fn most_choices(parts: &Parts) -> usize {
-    let mut most = 4096usize;
+    let mut most = FREE_CHOICES;
     for part in 0..parts.count() {
-        most = most.saturating_add(parts.rows(part).len().saturating_mul(4));
+        most = most.saturating_add(parts.rows(part).len().saturating_mul(CHOICES_PER_ROW));
     }
     most
 }

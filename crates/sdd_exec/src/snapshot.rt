@@ -1,4 +1,4 @@
-ghost use Rattle.std.specs.Prelude.{◌≡◌, true, false, [], ◌∷◌, ◌++◌, OnOk, OnErr, IfOk, IsTrue};
+ghost use Rattle.std.specs.Prelude.{◌≡◌, ◌∷◌, [], ◌++◌, OnOk, IfOk};
 ghost use Rattle.sdd_lang.specs.All.{rows_lent};
 ghost use Rattle.sdd_exec.specs.Snapshots.{rows_for};
 
@@ -6,55 +6,32 @@ use sdd_lang::sdd_base::{NoMemory, Row};
 use std::alloc::Global;
 use std::marker::Model;
 
-/// Rows that were shipped for the uses of a transaction.
+/// Rows that were shipped for the uses of a transaction, each with the number of its use. Contracts
+/// see the list of them.
 #[derive(Drop)]
 pub struct Snapshot {
     rows: Vec<(u32, Row)>,
-    live: bool,
 }
 
 impl Model for Snapshot {
-    ghost use Rattle.sdd_lang.specs.All.{Kept};
     ghost use Rattle.sdd_exec.specs.Snapshots.{Shipped};
 
-    ghost Value = { Kept Shipped };
+    ghost Value = { Shipped };
 
-    ghost view = { λ s. record { live = s.live; value = s.rows.items } };
+    ghost view = { λ s. s.rows.items };
 }
 
 impl Snapshot {
-    /// No row.
-    pub fn new(alloc: Global) -> Self
-        ensures { result ≡ record { live = true; value = [] } }
+    /// The rows as they came, of which one may stand there more than once. Moves them.
+    pub fn of(rows: Vec<(u32, Row)>) -> Snapshot
+        ensures { result ≡ rows.items }
     {
-        Snapshot {
-            rows: Vec::new(alloc),
-            live: true,
-        }
+        Snapshot { rows }
     }
 
-    /// Adds a row of a use. A row may be added more than once.
-    pub fn add(&mut self, use_no: u32, row: Row) -> Result<(), NoMemory>
-        requires live { IsTrue self.old.live }
-        ensures ok { OnOk result (self.new ≡ record { live = true; value = self.old.value ++ (use_no, row) ∷ [] }) }
-        ensures err { OnErr result (self.new.live ≡ false) }
-    {
-        self.live = false;
-        self.rows.push((use_no, row))?;
-        self.live = true;
-        Ok(())
-    }
-
-    /// Whether rows may be added.
-    pub fn live(&self) -> bool
-        ensures { result ≡ self.now.live }
-    {
-        self.live
-    }
-
-    /// The rows of a use, in the order in which they were added. Costs time with all rows.
+    /// The rows of a use, in the order in which they came. Costs time with all rows.
     pub(crate) fn rows_for(&self, alloc: Global, use_no: u64) -> Result<Vec<&Row>, NoMemory>
-        ensures { IfOk result (λ rows. rows_lent rows.items ≡ rows_for self.now.value use_no) }
+        ensures { IfOk result (λ rows. rows_lent rows.items ≡ rows_for self.now use_no) }
     {
         rows_of(alloc, self.rows.as_slice(), use_no)
     }

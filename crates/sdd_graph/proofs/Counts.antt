@@ -1,13 +1,8 @@
 -- How long lists are that are made of others, and what holds of each item.
-use Rattle.std.proofs.Common.{ℕ, zero, suc, ◌≡◌, ◌≤◌, ◌<◌, ◌+◌, ◌*◌, Bool, true, false, cond, List, [], ◌∷◌, map, filter, length, get_or, ap, sym, ◌∙◌, arith, inl, inr}
-use Rattle.std.specs.List.{flat_map, range_with_len, All, AllByRecursion}
-use Rattle.std.proofs.lemmas.List.{length-append}
-use Rattle.std.proofs.lemmas.List.Elements.{All-filter, All-map, All-nil, All-append, recursion_from_All, filter_passes}
-use Rattle.std.proofs.lemmas.Bool.{cases_eq}
+use Rattle.sdd_graph.proofs.All.{All, All-append, All-filter, All-map, All-nil, AllByRecursion, Bool, List, [], ap, arith, cases_eq, cond, false, filter, filter_passes, flat_map, get_or, inl, inr, length, length-append, map, range_with_len, recursion_from_All, suc, sym, true, zero, ℕ, ◌*◌, ◌+◌, ◌<◌, ◌∙◌, ◌∷◌, ◌≡◌, ◌≤◌}
 
 -- where no list is longer than b, all together are at most b for each number
-pub flat_bound : {A : Type 0} (f : ℕ → List A) (b a n : ℕ)
-    → ((i : ℕ) → a ≤ i → i < a + n → length (f i) ≤ b)
+pub flat_bound : {A : Type 0} (f : ℕ → List A) (b a n : ℕ) → ((i : ℕ) → a ≤ i → i < a + n → length (f i) ≤ b)
     → length (flat_map f (range_with_len a n)) ≤ n * b
 flat_bound f b a zero each = omega arith
 flat_bound f b a (suc n) each =
@@ -32,8 +27,7 @@ flat_bound_but_one f b i a (suc n) each none from to =
     ]
 
 -- what is made of the items that pass is no longer than the items
-pub kept_bound : {X A : Type 0} (g : X → A) (p : X → Bool) (xs : List X)
-    → length (map g (filter p xs)) ≤ length xs
+pub kept_bound : {X A : Type 0} (g : X → A) (p : X → Bool) (xs : List X) → length (map g (filter p xs)) ≤ length xs
 kept_bound g p [] = omega arith
 kept_bound g p (x ∷ xs) =
     let rest : length (map g (filter p xs)) ≤ length xs = kept_bound g p xs in
@@ -51,6 +45,6 @@ all_flat P Q f h xs all = each_flat P Q f h xs (recursion_from_All Q xs all)
 
 -- what holds of all that is made of items that pass
 pub all_kept : {X A : Type 0} (P : A → Type 0) (Q : X → Type 0) (g : X → A) (p : X → Bool)
-    → ((x : X) → Q x → p x ≡ true → P (g x)) → (xs : List X) → All Q xs
-    → All P (map g (filter p xs))
-all_kept P Q g p h xs all = All-map P g (filter p xs) (λ k d within. h (get_or (filter p xs) k d) (All-filter p Q xs all k d within) (filter_passes p xs k d within))
+    → ((x : X) → Q x → p x ≡ true → P (g x)) → (xs : List X) → All Q xs → All P (map g (filter p xs))
+all_kept P Q g p h xs all =
+    All-map P g (filter p xs) (λ k d within. h (get_or (filter p xs) k d) (All-filter p Q xs all k d within) (filter_passes p xs k d within))

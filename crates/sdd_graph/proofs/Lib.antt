@@ -1,3 +1,4 @@
+mod All
 pub mod Counts
 pub mod Few
 pub mod Known

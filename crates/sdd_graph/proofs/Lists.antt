@@ -1,17 +1,8 @@
 -- Steps of loops that go over the numbers from 1 to n, or over a list.
-use Rattle.std.proofs.Common.{ℕ, zero, suc, ◌≡◌, ◌≢◌, ◌≤◌, ◌-◌, ◌+◌, ◌==◌, Bool, true, false, ◌&&◌, ◌||◌, cond, List, [], ◌∷◌, ◌++◌, map, filter, set, Option, Some, None, is_some, refl, ap, sym, ◌∙◌, arith, append_assoc, eq-eqb}
-use Rattle.std.specs.List.{flat_map, list_any, range_with_len, zip}
-use Rattle.std.specs.Option.{option_map}
-use Rattle.std.proofs.Math.Bool.{or-false}
-use Rattle.std.proofs.lemmas.Bool.{ne_eqb}
-use Rattle.std.proofs.lemmas.List.{map-append, append-nil, flat_map_more}
-use Rattle.std.proofs.lemmas.List.Elements.{filter-append}
-use Rattle.std.proofs.lemmas.List.Folds.{list_any-append}
-use Rattle.sdd_base.specs.declared.number.FragNo.{FragNo}
-use Rattle.sdd_catalog.specs.Catalogue.{numbers_to}
+use Rattle.sdd_graph.proofs.All.{Bool, FragNo, List, None, Option, Some, [], ap, append-nil, append_assoc, arith, cond, eq-eqb, false, filter, filter-append, flat_map, flat_map_more, is_some, list_any, list_any-append, map, map-append, ne_eqb, numbers_to, option_map, or-false, range_with_len, refl, set, suc, sym, true, zero, zip, ℕ, ◌&&◌, ◌++◌, ◌+◌, ◌-◌, ◌==◌, ◌||◌, ◌∙◌, ◌∷◌, ◌≡◌, ◌≢◌, ◌≤◌}
 
 -- one number more, from a on
-range_more : (a n : ℕ) → range_with_len a (suc n) ≡ range_with_len a n ++ (a + n) ∷ []
+pub range_more : (a n : ℕ) → range_with_len a (suc n) ≡ range_with_len a n ++ (a + n) ∷ []
 range_more a zero = let e : a ≡ a + 0 = omega arith in ap (λ z. z ∷ []) e
 range_more a (suc n) =
     let e : a + 1 + n ≡ a + suc n = omega arith in
@@ -37,8 +28,7 @@ collected_more g xs more x d items new e before same now =
 
 -- what is made of each one, in order: one more
 pub each_more : {X A : Type 0} (f : X → List A) (xs more : List X) (x : X) (old items new : List A)
-    → more ≡ xs ++ x ∷ [] → items ≡ old ++ flat_map f xs → new ≡ items ++ f x
-    → new ≡ old ++ flat_map f more
+    → more ≡ xs ++ x ∷ [] → items ≡ old ++ flat_map f xs → new ≡ items ++ f x → new ≡ old ++ flat_map f more
 each_more f xs more x old items new e before now =
     now ∙ ap (λ z. z ++ f x) before ∙ flat_map_more f old xs x ∙ ap (λ z. old ++ flat_map f z) (sym e)
 
@@ -60,7 +50,8 @@ pub kept_more : {X A : Type 0} (g : X → A) (p : X → Bool) (xs more : List X)
     → new ≡ items ++ g x ∷ [] → new ≡ old ++ map g (filter p more)
 kept_more g p xs more x old items new e before passes now =
     let kept = filter p xs in
-    now ∙ ap (λ z. z ++ g x ∷ []) before ∙ append_assoc old (map g kept) (g x ∷ []) ∙ ap (λ z. old ++ z) (sym (map_more g kept (filter p more) x (filter_takes p xs more x e passes)))
+    now ∙ ap (λ z. z ++ g x ∷ []) before ∙ append_assoc old (map g kept) (g x ∷ [])
+    ∙ ap (λ z. old ++ z) (sym (map_more g kept (filter p more) x (filter_takes p xs more x e passes)))
 
 -- and one that doesn't
 pub left_more : {X A : Type 0} (g : X → A) (p : X → Bool) (xs more : List X) (x : X) (old items new : List A)
@@ -69,15 +60,15 @@ pub left_more : {X A : Type 0} (g : X → A) (p : X → Bool) (xs more : List X)
 left_more g p xs more x old items new e before fails now = now ∙ before ∙ ap (λ z. old ++ map g z) (sym (filter_leaves p xs more x e fails))
 
 -- of two tests one after the other
-pub filter_both : {A : Type 0} (p q : A → Bool) (xs : List A)
-    → filter (λ x. p x && q x) xs ≡ filter q (filter p xs)
+pub filter_both : {A : Type 0} (p q : A → Bool) (xs : List A) → filter (λ x. p x && q x) xs ≡ filter q (filter p xs)
 filter_both p q [] = refl
 filter_both p q (x ∷ xs) =
     elim (p x) as (λ b. cond (b && q x) (x ∷ filter (λ y. p y && q y) xs) (filter (λ y. p y && q y) xs) ≡ filter q (cond b (x ∷ filter p xs) (filter p xs))) [
-      | true ↦ elim (q x) as (λ b. cond b (x ∷ filter (λ y. p y && q y) xs) (filter (λ y. p y && q y) xs) ≡ cond b (x ∷ filter q (filter p xs)) (filter q (filter p xs))) [
-        | true ↦ ap (λ z. x ∷ z) (filter_both p q xs)
-        | false ↦ filter_both p q xs
-      ]
+      | true ↦ elim (q x) as
+          (λ b. cond b (x ∷ filter (λ y. p y && q y) xs) (filter (λ y. p y && q y) xs) ≡ cond b (x ∷ filter q (filter p xs)) (filter q (filter p xs))) [
+            | true ↦ ap (λ z. x ∷ z) (filter_both p q xs)
+            | false ↦ filter_both p q xs
+          ]
       | false ↦ filter_both p q xs
     ]
 
@@ -93,8 +84,7 @@ any_both p q [] = refl
 any_both p q (x ∷ xs) = ap (λ b. (p x && q x) || b) (any_both p q xs)
 
 -- a value is there where its image is
-pub is_some_mapped : {A B : Type 0} (f : A → B) (o : Option A)
-    → is_some (option_map f o) ≡ is_some o
+pub is_some_mapped : {A B : Type 0} (f : A → B) (o : Option A) → is_some (option_map f o) ≡ is_some o
 is_some_mapped f None = refl
 is_some_mapped f (Some x) = refl
 
@@ -124,7 +114,8 @@ mark_from p a (suc n) f zero e =
     ap (λ b. b ∷ map p (range_with_len (a + 1) n)) (sym head) ∙ ap (λ bs. (p a || (f == a)) ∷ bs) rest
 mark_from p a (suc n) f (suc k) e =
     let head : (p a || (f == a)) ≡ p a = or_other (p a) f a (omega arith) in
-    let rest : set (map p (range_with_len (a + 1) n)) k true ≡ map (λ x. p x || (f == x)) (range_with_len (a + 1) n) = mark_from p (a + 1) n f k (omega arith) in
+    let rest : set (map p (range_with_len (a + 1) n)) k true ≡ map (λ x. p x || (f == x)) (range_with_len (a + 1) n) = mark_from p (a + 1) n f k
+    (omega arith) in
     ap (λ b. b ∷ set (map p (range_with_len (a + 1) n)) k true) (sym head) ∙ ap (λ bs. (p a || (f == a)) ∷ bs) rest
 
 -- whether a number is that of one of the fragments

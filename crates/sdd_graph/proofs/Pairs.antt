@@ -1,13 +1,5 @@
 -- The diagonal edges from one class to another.
-use Rattle.std.proofs.Common.{ℕ, ◌≡◌, ◌≢◌, ◌≤◌, ◌&&◌, not, is_some, List, [], ◌++◌, map, filter, length, take, sym, ◌∙◌, ap, eq-eqb}
-use Rattle.std.proofs.lemmas.Bool.{ne_eqb}
-use Rattle.std.proofs.lemmas.List.{take_all}
-use Rattle.sdd_catalog.specs.Catalogue.{Catalogue, reads_at, writes}
-use Rattle.sdd_graph.specs.declared.edge.Edge.{Edge}
-use Rattle.sdd_graph.specs.declared.edge.Edge.TheVariants.{Diagonal}
-use Rattle.sdd_base.specs.Numbers.{class_no, frag_no}
-use Rattle.sdd_graph.specs.Graph.{fragments_of, diagonals_between}
-use Rattle.sdd_graph.specs.Uses.{reads_of}
+use Rattle.sdd_graph.proofs.All.{Catalogue, Diagonal, Edge, List, [], ap, class_no, diagonals_between, eq-eqb, filter, frag_no, fragments_of, is_some, length, map, ne_eqb, not, reads_at, reads_of, sym, take, take_all, writes, ℕ, ◌&&◌, ◌++◌, ◌∙◌, ◌≡◌, ◌≢◌, ◌≤◌}
 use Rattle.sdd_graph.proofs.Lists.{filter_both, filter_none}
 
 -- the diagonal edge of a fragment

@@ -1,23 +1,9 @@
 -- What the tables of a catalogue hold at a class and at a fragment.
-use Rattle.std.proofs.Common.{ℕ, ◌≡◌, ◌≤◌, ◌<◌, ◌-◌, ◌+◌, ◌==◌, Bool, true, false, cond, ◌&&◌, List, is_some, map, take, length, get_or, ap, sym, ◌∙◌, arith}
-use Rattle.std.specs.List.{list_any, zip, All}
-use Rattle.std.proofs.lemmas.Bool.{ne_eqb}
-use Rattle.std.proofs.lemmas.List.{take_all}
-use Rattle.std.proofs.lemmas.List.Elements.{All-same, All-filter, All-weaker, All-from_recursion}
-use Rattle.std.proofs.lemmas.List.FromFn.{get_or-map-range_with_len, length-map-range_with_len}
-use Rattle.sdd_base.specs.declared.number.FragNo.{FragNo}
-use Rattle.sdd_catalog.specs.Catalogue.{Catalogue, numbers_to, class_at, reads_at, writes}
-use Rattle.sdd_catalog.specs.Numbers.{IsWhole, IsServedClass}
-use Rattle.sdd_catalog.proofs.Sound.{each_in_range}
-use Rattle.sdd_graph.specs.declared.class_uses.ClassUses.{ClassUses}
-use Rattle.sdd_graph.specs.Graph.{fragments_of, write_sets_meet}
-use Rattle.sdd_graph.specs.Edges.{IsClassOf}
-use Rattle.sdd_graph.specs.Uses.{reads_of, written_by, class_uses, all_uses}
+use Rattle.sdd_graph.proofs.All.{All, All-filter, All-from_recursion, All-same, All-weaker, Bool, Catalogue, ClassUses, FragNo, IsClassOf, IsServedClass, IsWhole, List, all_uses, ap, arith, class_at, class_uses, cond, each_in_range, false, fragments_of, get_or, get_or-map-range_with_len, is_some, length, length-map-range_with_len, list_any, map, ne_eqb, numbers_to, reads_at, reads_of, sym, take, take_all, true, write_sets_meet, writes, written_by, zip, ℕ, ◌&&◌, ◌+◌, ◌-◌, ◌<◌, ◌==◌, ◌∙◌, ◌≡◌, ◌≤◌}
 use Rattle.sdd_graph.proofs.Lists.{any_both, is_among}
 
 -- so many classes
-pub all_uses_long : (cat : Catalogue) (uses : List ClassUses) → uses ≡ all_uses cat
-    → length uses ≡ length cat.classes
+pub all_uses_long : (cat : Catalogue) (uses : List ClassUses) → uses ≡ all_uses cat → length uses ≡ length cat.classes
 all_uses_long cat uses e = ap length e ∙ length-map-range_with_len (class_uses cat) 1 (length cat.classes)
 
 -- one of them
@@ -26,7 +12,8 @@ pub uses_at : (cat : Catalogue) (uses : List ClassUses) (i : ℕ) (d : ClassUses
 uses_at cat uses i d e is =
     let from : 1 ≤ i = is.from in
     let to : i ≤ length cat.classes = is.to in
-    ap (λ (us : List ClassUses). get_or us (i - 1) d) e ∙ get_or-map-range_with_len (class_uses cat) 1 (length cat.classes) (i - 1) i d (omega arith) (omega arith)
+    ap (λ (us : List ClassUses). get_or us (i - 1) d) e ∙ get_or-map-range_with_len (class_uses cat) 1 (length cat.classes) (i - 1) i d (omega arith)
+    (omega arith)
 
 -- a flag for each fragment
 pub written_long : (cat : Catalogue) (i : ℕ) → length (written_by cat i) ≡ length cat.fragments
@@ -39,12 +26,13 @@ written_at cat i f d from to = get_or-map-range_with_len (writes cat i) 1 (lengt
 
 -- the numbers from 1 to n are such
 pub each_to : (n : ℕ) → All (λ d. (1 ≤ d) × (d ≤ n)) (numbers_to n)
-each_to n = All-weaker (λ d. (1 ≤ d) × (d < 1 + n)) (λ d. (1 ≤ d) × (d ≤ n)) (λ d h. (h.0, omega (arith, h.1))) (numbers_to n) (All-from_recursion _ (numbers_to n) (each_in_range 1 n))
+each_to n =
+    All-weaker (λ d. (1 ≤ d) × (d < 1 + n)) (λ d. (1 ≤ d) × (d ≤ n)) (λ d h. (h.0, omega (arith, h.1))) (numbers_to n) (All-from_recursion _ (numbers_to n) (each_in_range 1 n))
 
 -- what is read is there
-pub reads_within : (cat : Catalogue) (i : ℕ)
-    → All (λ f. (1 ≤ f) × (f ≤ length cat.fragments)) (reads_of cat i)
-reads_within cat i = All-filter (λ f. is_some (reads_at cat i f)) (λ f. (1 ≤ f) × (f ≤ length cat.fragments)) (fragments_of cat) (each_to (length cat.fragments))
+pub reads_within : (cat : Catalogue) (i : ℕ) → All (λ f. (1 ≤ f) × (f ≤ length cat.fragments)) (reads_of cat i)
+reads_within cat i =
+    All-filter (λ f. is_some (reads_at cat i f)) (λ f. (1 ≤ f) × (f ≤ length cat.fragments)) (fragments_of cat) (each_to (length cat.fragments))
 
 -- two write sets meet where their flags do
 pub flags_meet : (cat : Catalogue) (i j : ℕ)
@@ -52,8 +40,7 @@ pub flags_meet : (cat : Catalogue) (i j : ℕ)
 flags_meet cat i j = any_both (writes cat i) (writes cat j) (fragments_of cat)
 
 -- what is written is there
-pub writes_within : (cat : Catalogue) (i : ℕ) (written : List FragNo) → IsWhole cat
-    → IsClassOf cat i
+pub writes_within : (cat : Catalogue) (i : ℕ) (written : List FragNo) → IsWhole cat → IsClassOf cat i
     → written ≡ (class_at cat i).writes → All (λ f. (1 ≤ f.0) × (f.0 ≤ length cat.fragments)) written
 writes_within cat i written whole is e =
     let from : 1 ≤ i = is.from in

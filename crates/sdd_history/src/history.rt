@@ -9,7 +9,7 @@ use std::marker::Model;
 ///
 /// Contracts see the list of pairs of event and record. The number of an event never falls from a
 /// record to the next one. The readers take no memory, and constant time.
-#[derive(Drop, Debug)]
+#[derive(Drop)]
 pub struct History {
     records: Vec<(u32, Rec)>,
 }

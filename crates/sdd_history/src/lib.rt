@@ -6,7 +6,9 @@
 #![tactic(auto)]
 
 mod history;
+mod printed;
 mod record;
 
 pub use history::History;
+pub use printed::PrintedReply;
 pub use record::{Rec, Recs};

@@ -1,7 +1,8 @@
-use sdd_base::{Changes, ClassNo, Conds, DmNo, Listed, Reply, Ts, TxnNo, Uses};
+use crate::printed::PrintedReply;
+use sdd_base::{Changes, ClassNo, Conds, DmNo, Listed, Ts, TxnNo, Uses};
 
 /// What a site records. Attempts of a transaction are counted from 1.
-#[derive(Drop, Debug, PartialEq, Eq)]
+#[derive(Drop)]
 pub enum Rec {
     /// A transaction is given to its module.
     Submit(TxnNo),
@@ -48,7 +49,7 @@ pub enum Rec {
     Commit {
         txn: TxnNo,
         attempt: u64,
-        reply: Reply,
+        reply: PrintedReply,
         changes: Changes,
         /// How many values were sent for it, in VALUES and in REDUCE messages.
         values: u128,

@@ -4,7 +4,8 @@ use Rattle.std.specs.Prelude.{Contains}
 use Rattle.std.specs.List.{list_all, list_any}
 use Rattle.std.proofs.lemmas.Bool.{le-leb, and_parts, and_from, eqb-true, lt-ltb, ltb-true}
 use Rattle.sdd_laws.specs.All.{AppliedBefore, Apply, Attempt, Catalogue, Change, Committed, GoesTo, History, IsAnswered, IsApplied, IsCommitted, IsEarlier, IsOfCommit, KeepsApplies, Stands, Touches, class_no, committed, dm_no, has_copy, is_applied, is_from_1_to, time_at, txn_no}
-use Rattle.sdd_laws.proofs.serial_orders.Before.{or_cases, or_left, or_right}
+use Rattle.std.proofs.lemmas.Bool.{or_left, or_right}
+use Rattle.sdd_laws.proofs.serial_orders.Before.{or_cases}
 use Rattle.sdd_laws.proofs.serial_orders.Found.{from_committed}
 use Rattle.sdd_laws.proofs.serial_orders.Members.{member_passes, passes_member}
 use Rattle.sdd_laws.specs.Deeds.GoesTo.{by_change, by_no_class}

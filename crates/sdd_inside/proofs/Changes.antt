@@ -23,8 +23,7 @@ none_before f (x ∷ before) = refl
 -- no part is left
 pub changes_end : {A B : Type 0} (f : A → A → List B) (out total : List B) (before after : List A)
     → (before ≡ []) ⊎ (after ≡ []) → out ++ changes f before after ≡ total → out ≡ total
-changes_end f out total before after (inl none) h =
-    sym (ap (λ l. out ++ changes f l after) none ∙ append-nil out) ∙ h
+changes_end f out total before after (inl none) h = sym (ap (λ l. out ++ changes f l after) none ∙ append-nil out) ∙ h
 changes_end f out total before after (inr none) h =
     sym (ap (λ l. out ++ changes f before l) none ∙ ap (λ l. out ++ l) (none_before f before) ∙ append-nil out) ∙ h
 

@@ -1,40 +1,5 @@
 -- The changes of an effect: they ascend, each is of an item, in the write set, and of an item there is one.
-use Rattle.std.proofs.Common.{ℕ, ◌≡◌, inl, inr, ◌+◌, nat_lt, ℤ, ◌&&◌, ◌||◌, ◌==◌, Bool, true, false, cond, List, [], ◌∷◌, ◌++◌, map, length, Option, Some, None, refl, ap, sym, ◌∙◌, subst, append-nil, get_or}
-use Rattle.std.specs.declared.cmp.Ordering.TheVariants.{Less, Equal}
-use Rattle.std.specs.Bool.{if◌then◌else◌}
-use Rattle.std.specs.List.{All, AllByRecursion, Contains, flat_map}
-use Rattle.std.specs.List.Sorted.{IsStrictlySortedBy}
-use Rattle.std.specs.Map.{keys_of}
-use Rattle.std.proofs.lemmas.Bool.Decides.{Decides-eqb}
-use Rattle.std.proofs.lemmas.Cmp.{tied_itself}
-use Rattle.std.proofs.lemmas.List.Elements.{recursion_from_All, All-from_recursion}
-use Rattle.std.proofs.lemmas.Map.Keys.{sorted_head, sorted_tail}
-use Rattle.sdd_base.specs.declared.limits.TheConstants.{MAX_REPLY_ROWS}
-use Rattle.sdd_base.specs.Words.{ascending, contains}
-use Rattle.sdd_base.specs.declared.change.Change.{Change}
-use Rattle.sdd_base.specs.declared.number.FragNo.{FragNo}
-use Rattle.sdd_base.specs.declared.number.RelNo.{RelNo}
-use Rattle.sdd_base.specs.declared.reply.Reply.TheVariants.{Overflow, TooMany}
-use Rattle.sdd_catalog.specs.Catalogue.{Catalogue, fragment_at, fragment_of}
-use Rattle.sdd_catalog.specs.Rules.{IsSound}
-use Rattle.sdd_catalog.proofs.Members.{IsIn, at_in}
-use Rattle.sdd_lang.specs.declared.assign.Assign.{Assign}
-use Rattle.sdd_lang.specs.declared.condition.Condition.{Condition}
-use Rattle.sdd_lang.specs.declared.effect.Effect.{Effect}
-use Rattle.sdd_lang.specs.declared.statement.Stmt.{Stmt}
-use Rattle.sdd_lang.specs.declared.statement.Stmt.TheVariants.{Put, Query, Update, Delete}
-use Rattle.sdd_lang.specs.declared.transaction.Txn.{Txn}
-use Rattle.sdd_lang.specs.Changes.{IsChange, ChangesItems, LieIn, ArePlaced, OneAnItem}
-use Rattle.sdd_lang.specs.Classes.{written_by, write_set}
-use Rattle.sdd_lang.specs.Condition.{meets_all}
-use Rattle.sdd_lang.specs.Database.{Item, Row, Database, item_cmp, key_in}
-use Rattle.sdd_lang.specs.Effect.{Changed, change_of, effect, effect_from, failed, rows_in, with_change, with_updates, with_deletes}
-use Rattle.sdd_lang.specs.Fits.{Fits, FitsStatement, FitsCondition, IsRelation}
-use Rattle.sdd_lang.specs.Query.{answer}
-use Rattle.sdd_lang.specs.Serial.{item_of}
-use Rattle.sdd_lang.specs.Sound.{IsDatabase, IsEntry, PutsHeld}
-use Rattle.sdd_lang.specs.Update.{chosen, in_range, replaced}
-use Rattle.sdd_lang.specs.Uses.{fragments_for, restrictions_of}
+use Rattle.sdd_lang.proofs.All.{All, All-from_recursion, AllByRecursion, ArePlaced, Assign, Catalogue, Change, Changed, ChangesItems, Condition, Contains, Database, Decides-eqb, Delete, Effect, Equal, Fits, FitsCondition, FitsStatement, FragNo, IsChange, IsDatabase, IsEntry, IsIn, IsRelation, IsSound, IsStrictlySortedBy, Item, Less, LieIn, List, MAX_REPLY_ROWS, None, OneAnItem, Option, Overflow, Put, PutsHeld, Query, RelNo, Row, Some, Stmt, TooMany, Txn, Update, [], answer, ap, append-nil, at_in, change_of, chosen, cond, contains, effect, effect_from, failed, false, flat_map, fragment_at, fragment_of, fragments_for, get_or, if◌then◌else◌, in_range, inl, inr, item_cmp, item_of, key_in, keys_of, length, map, meets_all, nat_lt, or_holds, recursion_from_All, refl, replaced, restrictions_of, rows_in, sorted_head, sorted_tail, subst, sym, tied_itself, true, with_change, with_deletes, with_updates, write_set, written_by, ℕ, ℤ, ◌&&◌, ◌++◌, ◌+◌, ◌==◌, ◌||◌, ◌∙◌, ◌∷◌, ◌≡◌}
 use Rattle.sdd_lang.proofs.KeyRanges.{fragment_holds, key_in_range}
 use Rattle.sdd_lang.proofs.Pushdown.{and_parts, parts_meet}
 use Rattle.sdd_lang.proofs.ReadSetDecides.{at_has, ascending_back, lies_in_use}
@@ -55,35 +20,44 @@ pub record AreMade (changes : List Change) : Type 0 where
 no_changes : AreMade []
 no_changes = record { changed = []; are = refl; ascend = sorted_nil item_cmp }
 
-change_ascends : (cat : Catalogue) (changed : Changed) (rel : ℕ) (key : ℤ) (row : Option Row) → Ascending changed → Ascending (with_change cat changed rel key row)
+change_ascends : (cat : Catalogue) (changed : Changed) (rel : ℕ) (key : ℤ) (row : Option Row) → Ascending changed
+    → Ascending (with_change cat changed rel key row)
 change_ascends cat changed rel key row s = inserted_sorted item_cmp item_cmp_total changed (fragment_of cat rel key, key) row s
 
 deletes_ascend : (cat : Catalogue) (changed : Changed) (es : Database) → Ascending changed → Ascending (with_deletes cat changed es)
 deletes_ascend cat changed [] s = s
 deletes_ascend cat changed (e ∷ es) s = deletes_ascend cat (with_change cat changed e.0.0 e.0.1 None) es (change_ascends cat changed e.0.0 e.0.1 None s)
 
-updates_ascend : (cat : Catalogue) (sets : List Assign) (changed next : Changed) (es : Database) → Ascending changed → with_updates cat sets changed es ≡ Some next → Ascending next
+updates_ascend : (cat : Catalogue) (sets : List Assign) (changed next : Changed) (es : Database) → Ascending changed
+    → with_updates cat sets changed es ≡ Some next → Ascending next
 updates_ascend cat sets changed next [] s e = let same : changed ≡ next = cc in subst Ascending same s
 updates_ascend cat sets changed next (f ∷ es) s e =
-    elim (replaced sets f.1) as (λ o. elim o as (λ p. Option Changed) [ None ↦ None | Some row ↦ with_updates cat sets (with_change cat changed f.0.0 f.0.1 (Some row)) es ] ≡ Some next → Ascending next) [
+    elim (replaced sets f.1) as
+    (λ o. elim o as (λ p. Option Changed) [ None ↦ None | Some row ↦ with_updates cat sets (with_change cat changed f.0.0 f.0.1 (Some row)) es ] ≡ Some next → Ascending next) [
       | None ↦ λ k. cc
-      | Some row ↦ λ k. updates_ascend cat sets (with_change cat changed f.0.0 f.0.1 (Some row)) next es (change_ascends cat changed f.0.0 f.0.1 (Some row) s) k
+      | Some row ↦ λ k. updates_ascend cat sets (with_change cat changed f.0.0 f.0.1 (Some row)) next es
+          (change_ascends cat changed f.0.0 f.0.1 (Some row) s) k
     ] e
 
-pub effect_made : (cat : Catalogue) (db : Database) (statements : List Stmt) (answers : List (List Row)) (changed : Changed) → Ascending changed → AreMade (effect_from cat db statements answers changed).changes
+pub effect_made : (cat : Catalogue) (db : Database) (statements : List Stmt) (answers : List (List Row)) (changed : Changed) → Ascending changed
+    → AreMade (effect_from cat db statements answers changed).changes
 effect_made cat db [] answers changed s = record { changed = changed; are = refl; ascend = s }
 effect_made cat db (Put rel row ∷ rest) answers changed s =
-    effect_made cat db rest answers (with_change cat changed rel.0 (key_in cat rel.0 row) (Some row)) (change_ascends cat changed rel.0 (key_in cat rel.0 row) (Some row) s)
+    effect_made cat db rest answers (with_change cat changed rel.0 (key_in cat rel.0 row) (Some row))
+    (change_ascends cat changed rel.0 (key_in cat rel.0 row) (Some row) s)
 effect_made cat db (Query out rels conds ∷ rest) answers changed s =
     let found : List Row = answer db out rels conds in
     let next = effect_made cat db rest (answers ++ found ∷ []) changed s in
-    elim (nat_lt MAX_REPLY_ROWS (rows_in answers + length found)) as (λ b. AreMade (if b then failed TooMany else effect_from cat db rest (answers ++ found ∷ []) changed).changes) [ true ↦ no_changes | false ↦ next ]
+    elim (nat_lt MAX_REPLY_ROWS (rows_in answers + length found)) as
+    (λ b. AreMade (if b then failed TooMany else effect_from cat db rest (answers ++ found ∷ []) changed).changes) [ true ↦ no_changes | false ↦ next ]
 effect_made cat db (Update rel sets conds ∷ rest) answers changed s =
-    elim (with_updates cat sets changed (chosen db rel.0 conds)) as (λ o. with_updates cat sets changed (chosen db rel.0 conds) ≡ o → AreMade (elim o as (λ p. Effect) [ None ↦ failed Overflow | Some next ↦ effect_from cat db rest answers next ]).changes) [
+    elim (with_updates cat sets changed (chosen db rel.0 conds)) as
+    (λ o. with_updates cat sets changed (chosen db rel.0 conds) ≡ o → AreMade (elim o as (λ p. Effect) [ None ↦ failed Overflow | Some next ↦ effect_from cat db rest answers next ]).changes) [
       | None ↦ λ h. no_changes
       | Some next ↦ λ h. effect_made cat db rest answers next (updates_ascend cat sets changed next (chosen db rel.0 conds) s h)
     ] refl
-effect_made cat db (Delete rel conds ∷ rest) answers changed s = effect_made cat db rest answers (with_deletes cat changed (chosen db rel.0 conds)) (deletes_ascend cat changed (chosen db rel.0 conds) s)
+effect_made cat db (Delete rel conds ∷ rest) answers changed s =
+    effect_made cat db rest answers (with_deletes cat changed (chosen db rel.0 conds)) (deletes_ascend cat changed (chosen db rel.0 conds) s)
 
 -- members
 
@@ -102,7 +76,7 @@ contained_in xs x h = subst (λ y. IsIn y xs) h.2 (at_in xs h.0 x h.1)
 
 -- an item has one change
 
-not_below_itself : (i j : Item) → i ≡ j → item_cmp i j ≡ Less → ⊥
+pub not_below_itself : (i j : Item) → i ≡ j → item_cmp i j ≡ Less → ⊥
 not_below_itself i j same less =
     let here : item_cmp i i ≡ Less = subst (λ z. item_cmp i z ≡ Less) (sym same) less in
     let tied : item_cmp i i ≡ Equal = tied_itself item_cmp_total i in
@@ -123,14 +97,16 @@ one_entry (f ∷ es) d e sorted (inr h) (inl b) same =
 one_entry (f ∷ es) d e sorted (inr h) (inr k) same = one_entry es d e (sorted_tail item_cmp f.0 (keys_of es) sorted) h k same
 
 -- an item of a relation is of its fragment
-pub entry_placed : (cat : Catalogue) → IsSound cat → (rel : ℕ) (key : ℤ) → IsRelation cat rel → in_range key ≡ true → (fragment_at cat (fragment_of cat rel key)).rel.0 ≡ rel
+pub entry_placed : (cat : Catalogue) → IsSound cat → (rel : ℕ) (key : ℤ) → IsRelation cat rel → in_range key ≡ true
+    → (fragment_at cat (fragment_of cat rel key)).rel.0 ≡ rel
 entry_placed cat sound rel key there held = (fragment_holds cat sound rel key there.0 there.1 (key_in_range key held)).there.rel_is
 
 module _ (cat : Catalogue) (sound : IsSound cat) (txn : Txn) (fits : Fits cat txn) (held : All PutsHeld txn.statements) (db : Database) (is : IsDatabase cat db) where
   -- each change is of an item
   pub changes_items : ChangesItems cat (effect cat db txn)
   changes_items =
-      effect_changes cat sound db (recursion_from_All (IsEntry cat) db is.entries) txn.statements [] [] (recursion_from_All (FitsStatement cat) txn.statements fits.statements) (recursion_from_All PutsHeld txn.statements held) tt
+      effect_changes cat sound db (recursion_from_All (IsEntry cat) db is.entries) txn.statements [] []
+      (recursion_from_All (FitsStatement cat) txn.statements fits.statements) (recursion_from_All PutsHeld txn.statements held) tt
 
   pub change_is : (c : Change) → IsIn c (effect cat db txn).changes → IsChange cat ((c.frag.0, c.key), c.row)
   change_is c h = each_in (λ (c : Change). IsChange cat ((c.frag.0, c.key), c.row)) (effect cat db txn).changes c changes_items h
@@ -139,7 +115,8 @@ module _ (cat : Catalogue) (sound : IsSound cat) (txn : Txn) (fits : Fits cat tx
   pub effect_placed : (c : Change) → IsIn c (effect cat db txn).changes → fragment_of cat (item_of cat c).0 (item_of cat c).1 ≡ c.frag.0
   effect_placed c h =
       let k = change_is c h in
-      let rel : (fragment_at cat c.frag.0).rel.0 ≡ k.rel = ap (λ f. (fragment_at cat f).rel.0) k.frag ∙ entry_placed cat sound k.rel c.key k.there k.held in
+      let rel : (fragment_at cat c.frag.0).rel.0 ≡ k.rel = ap (λ f. (fragment_at cat f).rel.0) k.frag
+      ∙ entry_placed cat sound k.rel c.key k.there k.held in
       ap (λ r. fragment_of cat r c.key) rel ∙ sym k.frag
 
   -- and of an item there is one
@@ -153,7 +130,8 @@ module _ (cat : Catalogue) (sound : IsSound cat) (txn : Txn) (fits : Fits cat tx
       let frags : c.frag.0 ≡ d.frag.0 = sym (effect_placed c h) ∙ ap (λ (i : Item). fragment_of cat i.0 i.1) same ∙ effect_placed d k in
       let keys : c.key ≡ d.key = ap (λ (i : Item). i.1) same in
       let at : a.0 ≡ b.0 =
-      ap (λ (z : Change). (z.frag.0, z.key)) (sym x.2) ∙ ap (λ f. (f, c.key)) frags ∙ ap (λ q. (d.frag.0, q)) keys ∙ ap (λ (z : Change). (z.frag.0, z.key)) y.2 in
+      ap (λ (z : Change). (z.frag.0, z.key)) (sym x.2) ∙ ap (λ f. (f, c.key)) frags ∙ ap (λ q. (d.frag.0, q)) keys
+      ∙ ap (λ (z : Change). (z.frag.0, z.key)) y.2 in
       x.2 ∙ ap change_of (one_entry made.changed a b made.ascend x.1 y.1 at) ∙ sym y.2
 
   pub one_an_item : OneAnItem cat (effect cat db txn)
@@ -177,28 +155,37 @@ ChangedIn ws c = InSet ws c.0.0
 abbrev EntryIn : Catalogue → List ℕ → Item × Row → Type 0
 EntryIn cat ws e = InSet ws (fragment_of cat e.0.0 e.0.1)
 
-change_in : (cat : Catalogue) (ws : List ℕ) (changed : Changed) (rel : ℕ) (key : ℤ) (row : Option Row) → AllByRecursion (ChangedIn ws) changed → InSet ws (fragment_of cat rel key) → AllByRecursion (ChangedIn ws) (with_change cat changed rel key row)
+change_in : (cat : Catalogue) (ws : List ℕ) (changed : Changed) (rel : ℕ) (key : ℤ) (row : Option Row) → AllByRecursion (ChangedIn ws) changed
+    → InSet ws (fragment_of cat rel key) → AllByRecursion (ChangedIn ws) (with_change cat changed rel key row)
 change_in cat ws changed rel key row all h = each_inserted item_cmp item_cmp_exact (ChangedIn ws) changed (fragment_of cat rel key, key) row all h
 
-deletes_in : (cat : Catalogue) (ws : List ℕ) (changed : Changed) (es : Database) → AllByRecursion (ChangedIn ws) changed → AllByRecursion (EntryIn cat ws) es → AllByRecursion (ChangedIn ws) (with_deletes cat changed es)
+deletes_in : (cat : Catalogue) (ws : List ℕ) (changed : Changed) (es : Database) → AllByRecursion (ChangedIn ws) changed
+    → AllByRecursion (EntryIn cat ws) es → AllByRecursion (ChangedIn ws) (with_deletes cat changed es)
 deletes_in cat ws changed [] all h = all
-deletes_in cat ws changed (e ∷ es) all h = deletes_in cat ws (with_change cat changed e.0.0 e.0.1 None) es (change_in cat ws changed e.0.0 e.0.1 None all h.0) h.1
+deletes_in cat ws changed (e ∷ es) all h =
+    deletes_in cat ws (with_change cat changed e.0.0 e.0.1 None) es (change_in cat ws changed e.0.0 e.0.1 None all h.0) h.1
 
-updates_in : (cat : Catalogue) (ws : List ℕ) (sets : List Assign) (changed next : Changed) (es : Database) → AllByRecursion (ChangedIn ws) changed → AllByRecursion (EntryIn cat ws) es → with_updates cat sets changed es ≡ Some next → AllByRecursion (ChangedIn ws) next
+updates_in : (cat : Catalogue) (ws : List ℕ) (sets : List Assign) (changed next : Changed) (es : Database) → AllByRecursion (ChangedIn ws) changed
+    → AllByRecursion (EntryIn cat ws) es → with_updates cat sets changed es ≡ Some next → AllByRecursion (ChangedIn ws) next
 updates_in cat ws sets changed next [] all h e = let same : changed ≡ next = cc in subst (AllByRecursion (ChangedIn ws)) same all
 updates_in cat ws sets changed next (f ∷ es) all h e =
-    elim (replaced sets f.1) as (λ o. elim o as (λ p. Option Changed) [ None ↦ None | Some row ↦ with_updates cat sets (with_change cat changed f.0.0 f.0.1 (Some row)) es ] ≡ Some next → AllByRecursion (ChangedIn ws) next) [
+    elim (replaced sets f.1) as
+    (λ o. elim o as (λ p. Option Changed) [ None ↦ None | Some row ↦ with_updates cat sets (with_change cat changed f.0.0 f.0.1 (Some row)) es ] ≡ Some next → AllByRecursion (ChangedIn ws) next) [
       | None ↦ λ k. cc
-      | Some row ↦ λ k. updates_in cat ws sets (with_change cat changed f.0.0 f.0.1 (Some row)) next es (change_in cat ws changed f.0.0 f.0.1 (Some row) all h.0) h.1 k
+      | Some row ↦ λ k. updates_in cat ws sets (with_change cat changed f.0.0 f.0.1 (Some row)) next es
+          (change_in cat ws changed f.0.0 f.0.1 (Some row) all h.0) h.1 k
     ] e
 
 -- the rows that an update or a delete works on lie in its fragments
-chosen_in : (cat : Catalogue) → IsSound cat → (ws : List ℕ) (rel : RelNo) (conds : List Condition) → IsRelation cat rel.0 → AllByRecursion (FitsCondition cat (rel ∷ [])) conds
-    → AllByRecursion (InSet ws) (map (λ (f : FragNo). f.0) (fragments_for cat rel.0 (restrictions_of 1 conds))) → (db : Database) → AllByRecursion (IsEntry cat) db → AllByRecursion (EntryIn cat ws) (chosen db rel.0 conds)
+chosen_in : (cat : Catalogue) → IsSound cat → (ws : List ℕ) (rel : RelNo) (conds : List Condition) → IsRelation cat rel.0
+    → AllByRecursion (FitsCondition cat (rel ∷ [])) conds
+    → AllByRecursion (InSet ws) (map (λ (f : FragNo). f.0) (fragments_for cat rel.0 (restrictions_of 1 conds))) → (db : Database)
+    → AllByRecursion (IsEntry cat) db → AllByRecursion (EntryIn cat ws) (chosen db rel.0 conds)
 chosen_in cat sound ws rel conds there fits written [] all = tt
 chosen_in cat sound ws rel conds there fits written (e ∷ es) all =
     let rest = chosen_in cat sound ws rel conds there fits written es all.1 in
-    elim ((e.0.0 == rel.0) && meets_all conds (e.1 ∷ [])) as (λ b. ((e.0.0 == rel.0) && meets_all conds (e.1 ∷ [])) ≡ b → AllByRecursion (EntryIn cat ws) (cond b (e ∷ chosen es rel.0 conds) (chosen es rel.0 conds))) [
+    elim ((e.0.0 == rel.0) && meets_all conds (e.1 ∷ [])) as
+    (λ b. ((e.0.0 == rel.0) && meets_all conds (e.1 ∷ [])) ≡ b → AllByRecursion (EntryIn cat ws) (cond b (e ∷ chosen es rel.0 conds) (chosen es rel.0 conds))) [
       | true ↦ λ h.
           let both = and_parts (e.0.0 == rel.0) (meets_all conds (e.1 ∷ [])) h in
           let lies = lies_in_use cat sound (rel ∷ []) 1 conds rel.0 refl there fits e all.0 both.0 (parts_meet conds (e.1 ∷ []) 1 both.1) in
@@ -206,14 +193,16 @@ chosen_in cat sound ws rel conds there fits written (e ∷ es) all =
       | false ↦ λ h. rest
     ] refl
 
-changes_in : (ws : List ℕ) (changed : Changed) → AllByRecursion (ChangedIn ws) changed → AllByRecursion (λ (c : Change). InSet ws c.frag.0) (map change_of changed)
+changes_in : (ws : List ℕ) (changed : Changed) → AllByRecursion (ChangedIn ws) changed
+    → AllByRecursion (λ (c : Change). InSet ws c.frag.0) (map change_of changed)
 changes_in ws [] all = tt
 changes_in ws (c ∷ changed) all = (all.0, changes_in ws changed all.1)
 
 abbrev EffectIn : List ℕ → Effect → Type 0
 EffectIn ws e = AllByRecursion (λ (c : Change). InSet ws c.frag.0) e.changes
 
-effect_in : (cat : Catalogue) → IsSound cat → (ws : List ℕ) (db : Database) → AllByRecursion (IsEntry cat) db → (statements : List Stmt) (answers : List (List Row)) (changed : Changed) → AllByRecursion (FitsStatement cat) statements
+effect_in : (cat : Catalogue) → IsSound cat → (ws : List ℕ) (db : Database) → AllByRecursion (IsEntry cat) db
+    → (statements : List Stmt) (answers : List (List Row)) (changed : Changed) → AllByRecursion (FitsStatement cat) statements
     → AllByRecursion (Written cat ws) statements → AllByRecursion (ChangedIn ws) changed → EffectIn ws (effect_from cat db statements answers changed)
 effect_in cat sound ws db is [] answers changed fits written all = changes_in ws changed all
 effect_in cat sound ws db is (Put rel row ∷ rest) answers changed fits written all =
@@ -222,25 +211,24 @@ effect_in cat sound ws db is (Put rel row ∷ rest) answers changed fits written
 effect_in cat sound ws db is (Query out rels conds ∷ rest) answers changed fits written all =
     let found : List Row = answer db out rels conds in
     let next = effect_in cat sound ws db is rest (answers ++ found ∷ []) changed fits.1 written.1 all in
-    elim (nat_lt MAX_REPLY_ROWS (rows_in answers + length found)) as (λ b. EffectIn ws (if b then failed TooMany else effect_from cat db rest (answers ++ found ∷ []) changed)) [ true ↦ tt | false ↦ next ]
+    elim (nat_lt MAX_REPLY_ROWS (rows_in answers + length found)) as
+    (λ b. EffectIn ws (if b then failed TooMany else effect_from cat db rest (answers ++ found ∷ []) changed)) [ true ↦ tt | false ↦ next ]
 effect_in cat sound ws db is (Update rel sets conds ∷ rest) answers changed fits written all =
     let frags : List ℕ = map (λ (f : FragNo). f.0) (fragments_for cat rel.0 (restrictions_of 1 conds)) in
     let of : AllByRecursion (InSet ws) frags = subst (AllByRecursion (InSet ws)) (append-nil frags) written.0 in
     let here = chosen_in cat sound ws rel conds fits.0.0 (recursion_from_All (FitsCondition cat (rel ∷ [])) conds fits.0.3.1) of db is in
-    elim (with_updates cat sets changed (chosen db rel.0 conds)) as (λ o. with_updates cat sets changed (chosen db rel.0 conds) ≡ o → EffectIn ws (elim o as (λ p. Effect) [ None ↦ failed Overflow | Some next ↦ effect_from cat db rest answers next ])) [
+    elim (with_updates cat sets changed (chosen db rel.0 conds)) as
+    (λ o. with_updates cat sets changed (chosen db rel.0 conds) ≡ o → EffectIn ws (elim o as (λ p. Effect) [ None ↦ failed Overflow | Some next ↦ effect_from cat db rest answers next ])) [
       | None ↦ λ h. tt
-      | Some next ↦ λ h. effect_in cat sound ws db is rest answers next fits.1 written.1 (updates_in cat ws sets changed next (chosen db rel.0 conds) all here h)
+      | Some next ↦ λ h. effect_in cat sound ws db is rest answers next fits.1 written.1
+          (updates_in cat ws sets changed next (chosen db rel.0 conds) all here h)
     ] refl
 effect_in cat sound ws db is (Delete rel conds ∷ rest) answers changed fits written all =
     let frags : List ℕ = map (λ (f : FragNo). f.0) (fragments_for cat rel.0 (restrictions_of 1 conds)) in
     let of : AllByRecursion (InSet ws) frags = subst (AllByRecursion (InSet ws)) (append-nil frags) written.0 in
     let here = chosen_in cat sound ws rel conds fits.0.0 (recursion_from_All (FitsCondition cat (rel ∷ [])) conds fits.0.1.1) of db is in
-    effect_in cat sound ws db is rest answers (with_deletes cat changed (chosen db rel.0 conds)) fits.1 written.1 (deletes_in cat ws changed (chosen db rel.0 conds) all here)
-
--- each number of a list is in it
-or_holds : (a b : Bool) → b ≡ true → (a || b) ≡ true
-or_holds true b h = refl
-or_holds false b h = h
+    effect_in cat sound ws db is rest answers (with_deletes cat changed (chosen db rel.0 conds)) fits.1 written.1
+    (deletes_in cat ws changed (chosen db rel.0 conds) all here)
 
 each_contained : (xs zs : List ℕ) → ((f : ℕ) → contains xs f ≡ true → contains zs f ≡ true) → AllByRecursion (InSet zs) xs
 each_contained [] zs h = tt
@@ -252,12 +240,15 @@ each_front : (P : ℕ → Type 0) (xs ys : List ℕ) → AllByRecursion P (xs ++
 each_front P [] ys all = (tt, all)
 each_front P (x ∷ xs) ys all = let rest = each_front P xs ys all.1 in ((all.0, rest.0), rest.1)
 
-each_written : (cat : Catalogue) (ws : List ℕ) (statements : List Stmt) → AllByRecursion (InSet ws) (flat_map (written_by cat) statements) → AllByRecursion (Written cat ws) statements
+each_written : (cat : Catalogue) (ws : List ℕ) (statements : List Stmt) → AllByRecursion (InSet ws) (flat_map (written_by cat) statements)
+    → AllByRecursion (Written cat ws) statements
 each_written cat ws [] all = tt
-each_written cat ws (s ∷ rest) all = let both = each_front (InSet ws) (written_by cat s) (flat_map (written_by cat) rest) all in (both.0, each_written cat ws rest both.1)
+each_written cat ws (s ∷ rest) all =
+    let both = each_front (InSet ws) (written_by cat s) (flat_map (written_by cat) rest) all in (both.0, each_written cat ws rest both.1)
 
 -- the changes of an effect lie in the transaction's write set
-pub lie_in_write_set : (cat : Catalogue) → IsSound cat → (txn : Txn) → Fits cat txn → (db : Database) → IsDatabase cat db → LieIn (write_set cat txn) (effect cat db txn)
+pub lie_in_write_set : (cat : Catalogue) → IsSound cat → (txn : Txn) → Fits cat txn → (db : Database) → IsDatabase cat db
+    → LieIn (write_set cat txn) (effect cat db txn)
 lie_in_write_set cat sound txn fits db is =
     let ws : List ℕ = write_set cat txn in
     let each : AllByRecursion (InSet ws) ws = each_contained ws ws (λ f h. h) in

@@ -1,10 +1,5 @@
 -- The lowest class that covers a transaction, among the classes from one on.
-use Rattle.std.proofs.Common.{ℕ, suc, ◌≡◌, ◌+◌, ◌-◌, ◌≤◌, ◌<◌, true, false, cond, ◌∷◌, length, unwrap_or, ap, sym, ◌∙◌, arith}
-use Rattle.std.specs.List.{filter, range_with_len}
-use Rattle.sdd_base.specs.Words.{head_of}
-use Rattle.sdd_catalog.specs.Catalogue.{Catalogue}
-use Rattle.sdd_lang.specs.declared.transaction.Txn.{Txn}
-use Rattle.sdd_lang.specs.Classes.{covers, class_for}
+use Rattle.sdd_lang.proofs.All.{Catalogue, Txn, ap, arith, class_for, cond, covers, false, filter, head_of, length, range_with_len, suc, sym, true, unwrap_or, ℕ, ◌+◌, ◌-◌, ◌<◌, ◌∙◌, ◌∷◌, ◌≡◌, ◌≤◌}
 
 -- the lowest of n classes from c on, or 0
 unfoldable pub first_from : Catalogue → Txn → ℕ → ℕ → ℕ
@@ -16,7 +11,8 @@ first_of_all cat txn =
     let n : length cat.classes ≡ length cat.classes + 1 - 1 = omega arith in
     ap (λ k. unwrap_or (head_of (filter (covers cat txn) (range_with_len 1 k))) 0) n
 
-first_step : (cat : Catalogue) (txn : Txn) (c m n : ℕ) → n ≡ suc m → first_from cat txn c n ≡ unwrap_or (head_of (cond (covers cat txn c) (c ∷ filter (covers cat txn) (range_with_len (c + 1) m)) (filter (covers cat txn) (range_with_len (c + 1) m)))) 0
+first_step : (cat : Catalogue) (txn : Txn) (c m n : ℕ) → n ≡ suc m
+    → first_from cat txn c n ≡ unwrap_or (head_of (cond (covers cat txn c) (c ∷ filter (covers cat txn) (range_with_len (c + 1) m)) (filter (covers cat txn) (range_with_len (c + 1) m)))) 0
 unfolding first_from
 first_step cat txn c m n e = ap (λ k. unwrap_or (head_of (filter (covers cat txn) (range_with_len c k))) 0) e
 
@@ -24,15 +20,20 @@ pub first_here : (cat : Catalogue) (txn : Txn) (c n : ℕ) → c < n → true �
 first_here cat txn c n within covered =
     let m : ℕ = n - c - 1 in
     let e : n - c ≡ suc m = omega arith in
-    first_step cat txn c m (n - c) e ∙ ap (λ b. unwrap_or (head_of (cond b (c ∷ filter (covers cat txn) (range_with_len (c + 1) m)) (filter (covers cat txn) (range_with_len (c + 1) m)))) 0) (sym covered)
+    first_step cat txn c m (n - c) e ∙ ap
+    (λ b. unwrap_or (head_of (cond b (c ∷ filter (covers cat txn) (range_with_len (c + 1) m)) (filter (covers cat txn) (range_with_len (c + 1) m)))) 0)
+    (sym covered)
 
-pub first_later : (cat : Catalogue) (txn : Txn) (c n : ℕ) → c < n → false ≡ covers cat txn c → first_from cat txn c (n - c) ≡ first_from cat txn (c + 1) (n - (c + 1))
+pub first_later : (cat : Catalogue) (txn : Txn) (c n : ℕ) → c < n → false ≡ covers cat txn c
+    → first_from cat txn c (n - c) ≡ first_from cat txn (c + 1) (n - (c + 1))
 unfolding first_from
 first_later cat txn c n within covered =
     let m : ℕ = n - c - 1 in
     let e : n - c ≡ suc m = omega arith in
     let f : m ≡ n - (c + 1) = omega arith in
-    first_step cat txn c m (n - c) e ∙ ap (λ b. unwrap_or (head_of (cond b (c ∷ filter (covers cat txn) (range_with_len (c + 1) m)) (filter (covers cat txn) (range_with_len (c + 1) m)))) 0) (sym covered)
+    first_step cat txn c m (n - c) e ∙ ap
+    (λ b. unwrap_or (head_of (cond b (c ∷ filter (covers cat txn) (range_with_len (c + 1) m)) (filter (covers cat txn) (range_with_len (c + 1) m)))) 0)
+    (sym covered)
     ∙ ap (λ k. unwrap_or (head_of (filter (covers cat txn) (range_with_len (c + 1) k))) 0) f
 
 pub first_of_none : (cat : Catalogue) (txn : Txn) (c n : ℕ) → n ≤ c → first_from cat txn c (n - c) ≡ 0

@@ -1,14 +1,5 @@
 -- Sets of fragments, as flags: what one more flag adds, and whether all members pass a test.
-use Rattle.std.proofs.Common.{ℕ, zero, suc, ◌≡◌, ◌≢◌, ◌+◌, ◌-◌, ◌≤◌, ◌<◌, Bool, true, false, cond, not, ◌||◌, List, [], ◌∷◌, length, set, replicate, refl, sym, ap, ◌∙◌, subst, inl, inr, arith, get_or-set_same, get_or-set_other}
-use Rattle.std.specs.List.{AllByRecursion, filter, list_all, range_with_len}
-use Rattle.std.specs.Ordering.{nat_cmp}
-use Rattle.std.specs.declared.cmp.Ordering.TheVariants.{Less, Equal, Greater}
-use Rattle.std.specs.BTreeSet.{insert_key}
-use Rattle.std.specs.Cmp.{nat_cmp_is}
-use Rattle.std.proofs.lemmas.Bool.{cases_lt}
-use Rattle.std.proofs.lemmas.List.{get_or-replicate, get_or_past, length-replicate}
-use Rattle.sdd_catalog.specs.Catalogue.{Catalogue, numbers_to}
-use Rattle.sdd_lang.specs.FragSets.{has, members}
+use Rattle.sdd_lang.proofs.All.{AllByRecursion, Bool, Catalogue, Equal, Greater, Less, List, [], ap, arith, cases_lt, cond, false, filter, get_or-replicate, get_or-set_other, get_or-set_same, get_or_past, has, inl, inr, insert_key, length, length-replicate, list_all, members, nat_cmp, nat_cmp_is, not, numbers_to, range_with_len, refl, replicate, slice_set as set, subst, suc, sym, true, zero, ℕ, ◌+◌, ◌-◌, ◌<◌, ◌||◌, ◌∙◌, ◌∷◌, ◌≡◌, ◌≢◌, ◌≤◌}
 
 none_has : (n f : ℕ) → has (replicate n false) f ≡ false
 none_has n f = elim (cases_lt f n) [
@@ -28,8 +19,10 @@ above_same : (flags : List Bool) (f a n : ℕ) → f < a → filter (has (set fl
 above_same flags f a zero past = refl
 above_same flags f a (suc n) past =
     let other : a ≢ f = λ e. omega arith in
-    let rest : filter (has (set flags f true)) (range_with_len (a + 1) n) ≡ filter (has flags) (range_with_len (a + 1) n) = above_same flags f (a + 1) n (omega arith) in
-    ap (λ b. cond b (a ∷ filter (has (set flags f true)) (range_with_len (a + 1) n)) (filter (has (set flags f true)) (range_with_len (a + 1) n))) (get_or-set_other flags f a true false other)
+    let rest : filter (has (set flags f true)) (range_with_len (a + 1) n) ≡ filter (has flags) (range_with_len (a + 1) n) = above_same flags f (a + 1) n
+    (omega arith) in
+    ap (λ b. cond b (a ∷ filter (has (set flags f true)) (range_with_len (a + 1) n)) (filter (has (set flags f true)) (range_with_len (a + 1) n)))
+    (get_or-set_other flags f a true false other)
     ∙ ap (λ xs. cond (has flags a) (a ∷ xs) xs) rest
 
 kept_above : (p : ℕ → Bool) (f a n : ℕ) → f < a → AllByRecursion (λ x. f < x) (filter p (range_with_len a n))
@@ -48,29 +41,36 @@ put_at_first : (b : Bool) (xs : List ℕ) (f : ℕ) → AllByRecursion (λ x. f 
 put_at_first true xs f all = rw (sym (nat_cmp_is f f Equal refl)) refl
 put_at_first false xs f all = put_before xs f all
 
-put_behind : (b : Bool) (xs : List ℕ) (a f : ℕ) → a < f → insert_key nat_cmp (cond b (a ∷ xs) xs) f ≡ cond b (a ∷ insert_key nat_cmp xs f) (insert_key nat_cmp xs f)
+put_behind : (b : Bool) (xs : List ℕ) (a f : ℕ) → a < f
+    → insert_key nat_cmp (cond b (a ∷ xs) xs) f ≡ cond b (a ∷ insert_key nat_cmp xs f) (insert_key nat_cmp xs f)
 put_behind true xs a f past = rw (sym (nat_cmp_is f a Greater past)) refl
 put_behind false xs a f past = refl
 
-set_first : (flags : List Bool) (f n : ℕ) → f < length flags → filter (has (set flags f true)) (range_with_len f (suc n)) ≡ insert_key nat_cmp (filter (has flags) (range_with_len f (suc n))) f
+set_first : (flags : List Bool) (f n : ℕ) → f < length flags
+    → filter (has (set flags f true)) (range_with_len f (suc n)) ≡ insert_key nat_cmp (filter (has flags) (range_with_len f (suc n))) f
 set_first flags f n within =
-    ap (λ b. cond b (f ∷ filter (has (set flags f true)) (range_with_len (f + 1) n)) (filter (has (set flags f true)) (range_with_len (f + 1) n))) (get_or-set_same flags f true false within)
+    ap (λ b. cond b (f ∷ filter (has (set flags f true)) (range_with_len (f + 1) n)) (filter (has (set flags f true)) (range_with_len (f + 1) n)))
+    (get_or-set_same flags f true false within)
     ∙ ap (λ xs. f ∷ xs) (above_same flags f (f + 1) n (omega arith))
     ∙ sym (put_at_first (has flags f) (filter (has flags) (range_with_len (f + 1) n)) f (kept_above (has flags) f (f + 1) n (omega arith)))
 
-set_within : (flags : List Bool) (f : ℕ) → f < length flags → (a n : ℕ) → a ≤ f → f < a + n → filter (has (set flags f true)) (range_with_len a n) ≡ insert_key nat_cmp (filter (has flags) (range_with_len a n)) f
+set_within : (flags : List Bool) (f : ℕ) → f < length flags → (a n : ℕ) → a ≤ f → f < a + n
+    → filter (has (set flags f true)) (range_with_len a n) ≡ insert_key nat_cmp (filter (has flags) (range_with_len a n)) f
 set_within flags f within a zero from to = absurd (omega arith)
 set_within flags f within a (suc n) from to = elim (cases_lt a f) [
   | inl before ↦ let other : a ≢ f = λ e. omega arith in
-      ap (λ b. cond b (a ∷ filter (has (set flags f true)) (range_with_len (a + 1) n)) (filter (has (set flags f true)) (range_with_len (a + 1) n))) (get_or-set_other flags f a true false other)
+      ap (λ b. cond b (a ∷ filter (has (set flags f true)) (range_with_len (a + 1) n)) (filter (has (set flags f true)) (range_with_len (a + 1) n)))
+      (get_or-set_other flags f a true false other)
       ∙ ap (λ xs. cond (has flags a) (a ∷ xs) xs) (set_within flags f within (a + 1) n (omega arith) (omega arith))
       ∙ sym (put_behind (has flags a) (filter (has flags) (range_with_len (a + 1) n)) a f before)
   | inr here ↦ let same : f ≡ a = omega arith in
-      subst (λ k. filter (has (set flags f true)) (range_with_len k (suc n)) ≡ insert_key nat_cmp (filter (has flags) (range_with_len k (suc n))) f) same (set_first flags f n within)
+      subst (λ k. filter (has (set flags f true)) (range_with_len k (suc n)) ≡ insert_key nat_cmp (filter (has flags) (range_with_len k (suc n))) f) same
+      (set_first flags f n within)
 ]
 
 -- a flag that is set puts its number in its place
-pub one_more_member : (cat : Catalogue) (flags : List Bool) (f : ℕ) → f < length flags → 1 ≤ f → f ≤ length cat.fragments → members cat (set flags f true) ≡ insert_key nat_cmp (members cat flags) f
+pub one_more_member : (cat : Catalogue) (flags : List Bool) (f : ℕ) → f < length flags → 1 ≤ f → f ≤ length cat.fragments
+    → members cat (set flags f true) ≡ insert_key nat_cmp (members cat flags) f
 one_more_member cat flags f within from to = set_within flags f within 1 (length cat.fragments) from (omega arith)
 
 -- whether those of n members from c on that are there pass
@@ -93,7 +93,8 @@ first_fails : (p : ℕ → Bool) (h : Bool) (c : ℕ) (rest : List ℕ) → fals
 first_fails p true c rest e = rw (sym e) refl
 first_fails p false c rest e = cc
 
-first_passes : (p : ℕ → Bool) (h : Bool) (c : ℕ) (rest : List ℕ) → true ≡ (not h || p c) → list_all p (cond h (c ∷ rest) rest) ≡ list_all p rest
+first_passes : (p : ℕ → Bool) (h : Bool) (c : ℕ) (rest : List ℕ) → true ≡ (not h || p c)
+    → list_all p (cond h (c ∷ rest) rest) ≡ list_all p rest
 first_passes p true c rest e = rw (sym e) refl
 first_passes p false c rest e = refl
 
@@ -105,7 +106,8 @@ pass_fails p flags c n within e =
     ap (λ j. list_all p (filter (has flags) (range_with_len c j))) k
     ∙ first_fails p (has flags c) c (filter (has flags) (range_with_len (c + 1) m)) e
 
-pub pass_more : (p : ℕ → Bool) (flags : List Bool) (c n : ℕ) → c < n → true ≡ (not (has flags c) || p c) → pass_from p flags c (n - c) ≡ pass_from p flags (c + 1) (n - (c + 1))
+pub pass_more : (p : ℕ → Bool) (flags : List Bool) (c n : ℕ) → c < n → true ≡ (not (has flags c) || p c)
+    → pass_from p flags c (n - c) ≡ pass_from p flags (c + 1) (n - (c + 1))
 unfolding pass_from
 pass_more p flags c n within e =
     let m : ℕ = n - c - 1 in

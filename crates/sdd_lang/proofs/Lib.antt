@@ -1,3 +1,4 @@
+mod All
 pub mod EffectChanges
 pub mod Firsts
 pub mod FragSets

@@ -1,11 +1,5 @@
 -- Numbers from one to another, one more at a time.
-use Rattle.std.proofs.Common.{ℕ, zero, suc, ◌≡◌, ◌+◌, ◌-◌, ◌≤◌, Bool, true, false, cond, List, [], ◌∷◌, ◌++◌, map, ap, sym, ◌∙◌, arith}
-use Rattle.std.specs.List.{filter, range_with_len}
-use Rattle.std.proofs.lemmas.List.{append-nil, map-append}
-use Rattle.std.proofs.lemmas.List.Elements.{filter-append}
-use Rattle.sdd_base.specs.declared.number.FragNo.{FragNo}
-use Rattle.sdd_catalog.specs.Catalogue.{numbers_to}
-use Rattle.sdd_base.specs.Numbers.{frag_no}
+use Rattle.sdd_lang.proofs.All.{Bool, FragNo, List, [], ap, append-nil, arith, cond, false, filter, filter-append, frag_no, map, map-append, numbers_to, range_with_len, suc, sym, true, zero, ℕ, ◌++◌, ◌+◌, ◌-◌, ◌∙◌, ◌∷◌, ◌≡◌, ◌≤◌}
 
 pub range_more : (a n : ℕ) → range_with_len a (suc n) ≡ range_with_len a n ++ (a + n) ∷ []
 range_more a zero = let e : a ≡ a + 0 = omega arith in ap (λ k. k ∷ []) e
@@ -19,17 +13,22 @@ numbers_more n from =
     let f : 1 + (n - 1) ≡ n = omega arith in
     ap (λ k. numbers_to k) e ∙ range_more 1 (n - 1) ∙ ap (λ k. numbers_to (n - 1) ++ k ∷ []) f
 
-kept_more : (p : ℕ → Bool) (n : ℕ) → 1 ≤ n → map frag_no (filter p (numbers_to (n + 1 - 1))) ≡ map frag_no (filter p (numbers_to (n - 1))) ++ map frag_no (cond (p n) (n ∷ []) [])
+kept_more : (p : ℕ → Bool) (n : ℕ) → 1 ≤ n
+    → map frag_no (filter p (numbers_to (n + 1 - 1))) ≡ map frag_no (filter p (numbers_to (n - 1))) ++ map frag_no (cond (p n) (n ∷ []) [])
 kept_more p n from =
     ap (λ ks. map frag_no (filter p ks)) (numbers_more n from)
     ∙ ap (map frag_no) (filter-append p (numbers_to (n - 1)) (n ∷ []))
     ∙ map-append frag_no (filter p (numbers_to (n - 1))) (cond (p n) (n ∷ []) [])
 
 -- a number that passes is kept, and one that doesn't isn't
-pub frag_kept : (p : ℕ → Bool) (n : ℕ) (xs ys : List FragNo) → 1 ≤ n → true ≡ p n → xs ≡ map frag_no (filter p (numbers_to (n - 1))) → ys ≡ xs ++ frag_no n ∷ [] → ys ≡ map frag_no (filter p (numbers_to (n + 1 - 1)))
+pub frag_kept : (p : ℕ → Bool) (n : ℕ) (xs ys : List FragNo) → 1 ≤ n → true ≡ p n → xs ≡ map frag_no (filter p (numbers_to (n - 1)))
+    → ys ≡ xs ++ frag_no n ∷ [] → ys ≡ map frag_no (filter p (numbers_to (n + 1 - 1)))
 frag_kept p n xs ys from passes so more =
-    more ∙ ap (λ zs. zs ++ frag_no n ∷ []) so ∙ ap (λ b. map frag_no (filter p (numbers_to (n - 1))) ++ map frag_no (cond b (n ∷ []) [])) passes ∙ sym (kept_more p n from)
+    more ∙ ap (λ zs. zs ++ frag_no n ∷ []) so ∙ ap (λ b. map frag_no (filter p (numbers_to (n - 1))) ++ map frag_no (cond b (n ∷ []) [])) passes
+    ∙ sym (kept_more p n from)
 
-pub frag_left : (p : ℕ → Bool) (n : ℕ) (xs ys : List FragNo) → 1 ≤ n → false ≡ p n → xs ≡ map frag_no (filter p (numbers_to (n - 1))) → ys ≡ xs → ys ≡ map frag_no (filter p (numbers_to (n + 1 - 1)))
+pub frag_left : (p : ℕ → Bool) (n : ℕ) (xs ys : List FragNo) → 1 ≤ n → false ≡ p n → xs ≡ map frag_no (filter p (numbers_to (n - 1)))
+    → ys ≡ xs → ys ≡ map frag_no (filter p (numbers_to (n + 1 - 1)))
 frag_left p n xs ys from fails so same =
-    same ∙ so ∙ sym (append-nil (map frag_no (filter p (numbers_to (n - 1))))) ∙ ap (λ b. map frag_no (filter p (numbers_to (n - 1))) ++ map frag_no (cond b (n ∷ []) [])) fails ∙ sym (kept_more p n from)
+    same ∙ so ∙ sym (append-nil (map frag_no (filter p (numbers_to (n - 1)))))
+    ∙ ap (λ b. map frag_no (filter p (numbers_to (n - 1))) ++ map frag_no (cond b (n ∷ []) [])) fails ∙ sym (kept_more p n from)

@@ -1,8 +1,5 @@
 -- A transaction statement by statement.
-use Rattle.std.proofs.Common.{ℕ, ◌≡◌, ◌+◌, ◌-◌, ◌≤◌, List, [], ◌∷◌, ◌++◌, length, arith}
-use Rattle.sdd_base.specs.declared.limits.TheConstants.{MAX_REPLY_ROWS}
-use Rattle.sdd_lang.specs.Database.{Row}
-use Rattle.sdd_lang.specs.Effect.{rows_in}
+use Rattle.sdd_lang.proofs.All.{List, MAX_REPLY_ROWS, Row, [], arith, length, rows_in, ℕ, ◌++◌, ◌+◌, ◌-◌, ◌∷◌, ◌≡◌, ◌≤◌}
 
 pub rows_in-append : (answers : List (List Row)) (rows : List Row) → rows_in (answers ++ rows ∷ []) ≡ rows_in answers + length rows
 rows_in-append [] rows = omega arith

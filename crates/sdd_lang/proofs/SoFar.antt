@@ -1,9 +1,8 @@
 -- What holds of each item so far.
-use Rattle.std.proofs.Common.{ℕ, ◌≡◌, ◌+◌, ◌≤◌, ◌<◌, List, length, get_or, take, All, subst}
-use Rattle.std.proofs.lemmas.List.{take_all}
-use Rattle.std.proofs.lemmas.List.Elements.{All-more}
+use Rattle.sdd_lang.proofs.All.{All, All-more, List, get_or, length, subst, take, take_all, ℕ, ◌+◌, ◌<◌, ◌≡◌, ◌≤◌}
 
-pub all_and_next : {A : Type 0} (P : A → Type 0) (xs : List A) (i : ℕ) (x : A) → i < length xs → x ≡ get_or xs i x → All P (take i xs) → P x → All P (take (i + 1) xs)
+pub all_and_next : {A : Type 0} (P : A → Type 0) (xs : List A) (i : ℕ) (x : A) → i < length xs → x ≡ get_or xs i x → All P (take i xs) → P x
+    → All P (take (i + 1) xs)
 all_and_next P xs i x within is all here = All-more P xs i x within all (subst P is here)
 
 pub all_at_end : {A : Type 0} (P : A → Type 0) (xs : List A) (i : ℕ) → length xs ≤ i → All P (take i xs) → All P xs

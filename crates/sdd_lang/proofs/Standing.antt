@@ -1,13 +1,5 @@
 -- Rows that may stand in a part.
-use Rattle.std.proofs.Common.{ℕ, ◌≡◌, ◌&&◌, ◌==◌, Bool, true, false, cond, List, [], ◌∷◌, Some, None, refl}
-use Rattle.std.specs.List.{list_all, cons_option}
-use Rattle.sdd_base.specs.declared.restriction.Restriction.{Restriction}
-use Rattle.sdd_base.specs.Order.{meets}
-use Rattle.sdd_lang.specs.declared.condition.Condition.{Condition}
-use Rattle.sdd_lang.specs.declared.condition.Condition.TheVariants.{Const, Same}
-use Rattle.sdd_lang.specs.Database.{Row}
-use Rattle.sdd_lang.specs.Tuples.{may_stand}
-use Rattle.sdd_lang.specs.Uses.{restrictions_of}
+use Rattle.sdd_lang.proofs.All.{Bool, Condition, Const, List, None, Restriction, Row, Same, Some, [], cond, cons_option, false, list_all, may_stand, meets, refl, restrictions_of, true, ℕ, ◌&&◌, ◌==◌, ◌∷◌, ◌≡◌}
 
 and_true : (a b c : Bool) → b ≡ c → ((a && true) && b) ≡ (a && c)
 and_true true b c e = e
@@ -18,7 +10,8 @@ pub each_lets_stand : (conds : List Condition) (part : ℕ) (row : Row) → list
 each_lets_stand [] part row = refl
 each_lets_stand (Const left op value ∷ conds) part row =
     let r : Restriction = record { column = left.column; op = op; value = value } in
-    elim (left.part == part) as (λ b. (list_all (meets row) (cons_option (cond b (Some r) None) []) && list_all (λ c. may_stand (c ∷ []) part row) conds) ≡ list_all (meets row) (cons_option (cond b (Some r) None) (restrictions_of part conds))) [
+    elim (left.part == part) as
+    (λ b. (list_all (meets row) (cons_option (cond b (Some r) None) []) && list_all (λ c. may_stand (c ∷ []) part row) conds) ≡ list_all (meets row) (cons_option (cond b (Some r) None) (restrictions_of part conds))) [
       | true ↦ and_true (meets row r) _ _ (each_lets_stand conds part row)
       | false ↦ each_lets_stand conds part row
     ]

@@ -1,39 +1,18 @@
 -- The fragments that a transaction touches, statement by statement.
-use Rattle.std.proofs.Common.{ℕ, ◌≡◌, ◌+◌, ◌-◌, ◌≤◌, ◌<◌, ◌==◌, Bool, true, false, cond, List, [], ◌∷◌, ◌++◌, map, length, get_or, take, drop, refl, ap, sym, ◌∙◌}
-use Rattle.std.specs.List.{filter, flat_map}
-use Rattle.std.specs.Ordering.{nat_cmp}
-use Rattle.std.specs.BTreeSet.{insert_key}
-use Rattle.std.proofs.lemmas.List.Concat.{flat_map-append}
-use Rattle.std.proofs.lemmas.List.{take_more, take_all, at_drop_more}
-use Rattle.std.proofs.lemmas.List.Elements.{filter-append, filter_map-append}
-use Rattle.std.proofs.lemmas.List.Sums.{fold-append}
-use Rattle.sdd_base.specs.Numbers.{frag_no}
-use Rattle.sdd_base.specs.Order.{number_in}
-use Rattle.sdd_base.specs.Words.{ascending}
-use Rattle.sdd_base.specs.declared.number.FragNo.{FragNo}
-use Rattle.sdd_base.specs.declared.number.RelNo.{RelNo}
-use Rattle.sdd_base.specs.declared.usage.Use.{Use}
-use Rattle.sdd_catalog.specs.Catalogue.{Catalogue, numbers_to, key_column, relation_at}
-use Rattle.sdd_catalog.specs.declared.resolved.Relation.{Relation}
-use Rattle.sdd_lang.specs.declared.condition.Condition.{Condition}
-use Rattle.sdd_lang.specs.declared.statement.Stmt.{Stmt}
-use Rattle.sdd_lang.specs.declared.statement.Stmt.TheVariants.{Put, Query, Update, Delete}
-use Rattle.sdd_lang.specs.declared.transaction.Txn.{Txn}
-use Rattle.sdd_lang.specs.Classes.{fragments_in, read_set}
-use Rattle.sdd_lang.specs.FragSets.{has, members, put_all}
-use Rattle.sdd_lang.specs.Narrowing.{keys_left}
-use Rattle.sdd_lang.specs.Uses.{Interval, restriction_of, restrictions_of, part_uses, statement_uses, uses_from, meets_keys, all_keys, common, keys_for, allowed_keys}
+use Rattle.sdd_lang.proofs.All.{Bool, Catalogue, Condition, Delete, FragNo, Interval, List, Put, Query, RelNo, Relation, Stmt, Txn, Update, Use, [], all_keys, allowed_keys, ap, ascending, at_drop_more, common, cond, drop, false, filter, filter-append, filter_map-append, flat_map, flat_map-append, fold-append, frag_no, fragments_in, get_or, has, insert_key, key_column, keys_for, keys_left, length, map, meets_keys, members, nat_cmp, number_in, numbers_to, part_uses, put_all, read_set, refl, relation_at, restriction_of, restrictions_of, statement_uses, sym, take, take_all, take_more, true, uses_from, ℕ, ◌++◌, ◌+◌, ◌-◌, ◌<◌, ◌==◌, ◌∙◌, ◌∷◌, ◌≡◌, ◌≤◌}
 use Rattle.sdd_lang.proofs.Numbering.{numbers_more}
 
 -- one number more is looked at: it is put where it passes
-pub one_put : (p : ℕ → Bool) (n : ℕ) (ks xs ys : List ℕ) → 1 ≤ n → true ≡ p n → xs ≡ put_all ks (filter p (numbers_to (n - 1))) → ys ≡ insert_key nat_cmp xs n → ys ≡ put_all ks (filter p (numbers_to (n + 1 - 1)))
+pub one_put : (p : ℕ → Bool) (n : ℕ) (ks xs ys : List ℕ) → 1 ≤ n → true ≡ p n → xs ≡ put_all ks (filter p (numbers_to (n - 1)))
+    → ys ≡ insert_key nat_cmp xs n → ys ≡ put_all ks (filter p (numbers_to (n + 1 - 1)))
 one_put p n ks xs ys from passes so more =
     more ∙ ap (λ zs. insert_key nat_cmp zs n) so
     ∙ sym (fold-append (λ zs k. insert_key nat_cmp zs k) ks (filter p (numbers_to (n - 1))) (n ∷ []))
     ∙ ap (λ b. put_all ks (filter p (numbers_to (n - 1)) ++ cond b (n ∷ []) [])) passes
     ∙ ap (put_all ks) (sym (ap (filter p) (numbers_more n from) ∙ filter-append p (numbers_to (n - 1)) (n ∷ [])))
 
-pub none_put : (p : ℕ → Bool) (n : ℕ) (ks xs ys : List ℕ) → 1 ≤ n → false ≡ p n → xs ≡ put_all ks (filter p (numbers_to (n - 1))) → ys ≡ xs → ys ≡ put_all ks (filter p (numbers_to (n + 1 - 1)))
+pub none_put : (p : ℕ → Bool) (n : ℕ) (ks xs ys : List ℕ) → 1 ≤ n → false ≡ p n → xs ≡ put_all ks (filter p (numbers_to (n - 1)))
+    → ys ≡ xs → ys ≡ put_all ks (filter p (numbers_to (n + 1 - 1)))
 none_put p n ks xs ys from fails so same =
     same ∙ so
     ∙ sym (fold-append (λ zs k. insert_key nat_cmp zs k) ks (filter p (numbers_to (n - 1))) [])
@@ -45,13 +24,15 @@ numbers_back [] = refl
 numbers_back (n ∷ ns) = ap (λ ks. n ∷ ks) (numbers_back ns)
 
 -- the list of the members, where the numbers to the last fragment were looked at
-pub listed_numbers : (cat : Catalogue) (flags : List Bool) (n : ℕ) (fs : List FragNo) → n - 1 ≡ length cat.fragments → fs ≡ map frag_no (filter (has flags) (numbers_to (n - 1))) → map (λ (f : FragNo). f.0) fs ≡ members cat flags
+pub listed_numbers : (cat : Catalogue) (flags : List Bool) (n : ℕ) (fs : List FragNo) → n - 1 ≡ length cat.fragments
+    → fs ≡ map frag_no (filter (has flags) (numbers_to (n - 1))) → map (λ (f : FragNo). f.0) fs ≡ members cat flags
 listed_numbers cat flags n fs end is =
     ap (map (λ (f : FragNo). f.0)) is ∙ numbers_back (filter (has flags) (numbers_to (n - 1))) ∙ ap (λ k. filter (has flags) (numbers_to k)) end
 
 -- the fragments of a part, as numbers
 abbrev pub part_numbers : Catalogue → ℕ → ℕ → List Condition → List ℕ
-part_numbers cat rel part conds = filter (meets_keys cat rel (allowed_keys (key_column cat rel) (restrictions_of part conds))) (numbers_to (length cat.fragments))
+part_numbers cat rel part conds =
+    filter (meets_keys cat rel (allowed_keys (key_column cat rel) (restrictions_of part conds))) (numbers_to (length cat.fragments))
 
 -- the fragments of the first part, and then those of the others
 pub one_part : (cat : Catalogue) (ks : List ℕ) (conds : List Condition) (part : ℕ) (rel : RelNo) (rels : List RelNo)
@@ -62,24 +43,29 @@ one_part cat ks conds part rel rels =
 
 -- the fragments of a part are put, where its keys are those that the conditions allow
 pub part_put : (cat : Catalogue) (ks xs : List ℕ) (part : ℕ) (conds : List Condition) (rel : RelNo) (rels : List RelNo) (r : Relation) (keys : Interval)
-    → r ≡ relation_at cat rel.0 → keys ≡ allowed_keys r.key (restrictions_of part conds) → xs ≡ put_all ks (filter (meets_keys cat rel.0 keys) (numbers_to (length cat.fragments)))
+    → r ≡ relation_at cat rel.0 → keys ≡ allowed_keys r.key (restrictions_of part conds)
+    → xs ≡ put_all ks (filter (meets_keys cat rel.0 keys) (numbers_to (length cat.fragments)))
     → put_all xs (fragments_in (part_uses cat 0 conds (part + 1) rels)) ≡ put_all ks (fragments_in (part_uses cat 0 conds part (rel ∷ rels)))
 part_put cat ks xs part conds rel rels r keys is allowed put =
-    let e : keys ≡ allowed_keys (key_column cat rel.0) (restrictions_of part conds) = allowed ∙ ap (λ (s : Relation). allowed_keys s.key (restrictions_of part conds)) is in
-    ap (λ zs. put_all zs (fragments_in (part_uses cat 0 conds (part + 1) rels))) (put ∙ ap (λ i. put_all ks (filter (meets_keys cat rel.0 i) (numbers_to (length cat.fragments)))) e)
+    let e : keys ≡ allowed_keys (key_column cat rel.0) (restrictions_of part conds) = allowed
+    ∙ ap (λ (s : Relation). allowed_keys s.key (restrictions_of part conds)) is in
+    ap (λ zs. put_all zs (fragments_in (part_uses cat 0 conds (part + 1) rels)))
+    (put ∙ ap (λ i. put_all ks (filter (meets_keys cat rel.0 i) (numbers_to (length cat.fragments)))) e)
     ∙ sym (one_part cat ks conds part rel rels)
 
 -- with the fragments of one part more, those that are left complete them as before
 pub part_more : (cat : Catalogue) (ks xs ys : List ℕ) (part : ℕ) (conds : List Condition) (rels : List RelNo) (i : ℕ) (d : RelNo) (r : Relation) (keys : Interval)
     → i < length rels → r ≡ relation_at cat (get_or rels i d).0 → keys ≡ allowed_keys r.key (restrictions_of part conds)
     → ys ≡ put_all xs (filter (meets_keys cat (get_or rels i d).0 keys) (numbers_to (length cat.fragments)))
-    → put_all xs (fragments_in (part_uses cat 0 conds part (drop i rels))) ≡ ks → put_all ys (fragments_in (part_uses cat 0 conds (part + 1) (drop (i + 1) rels))) ≡ ks
+    → put_all xs (fragments_in (part_uses cat 0 conds part (drop i rels))) ≡ ks
+    → put_all ys (fragments_in (part_uses cat 0 conds (part + 1) (drop (i + 1) rels))) ≡ ks
 part_more cat ks xs ys part conds rels i d r keys within is allowed put so =
     part_put cat xs ys part conds (get_or rels i d) (drop (i + 1) rels) r keys is allowed put
     ∙ sym (at_drop_more (λ zs. put_all xs (fragments_in (part_uses cat 0 conds part zs))) rels i d within) ∙ so
 
 -- the numbers of uses don't tell what they read
-parts_alike : (cat : Catalogue) (before : ℕ) (conds : List Condition) (part : ℕ) (rels : List RelNo) → fragments_in (part_uses cat before conds part rels) ≡ fragments_in (part_uses cat 0 conds part rels)
+parts_alike : (cat : Catalogue) (before : ℕ) (conds : List Condition) (part : ℕ) (rels : List RelNo)
+    → fragments_in (part_uses cat before conds part rels) ≡ fragments_in (part_uses cat 0 conds part rels)
 parts_alike cat before conds part [] = refl
 parts_alike cat before conds part (rel ∷ rels) =
     ap (λ ns. map (λ (f : FragNo). f.0) (map frag_no (part_numbers cat rel.0 part conds)) ++ ns) (parts_alike cat before conds (part + 1) rels)
@@ -97,12 +83,14 @@ read_by cat s = fragments_in (statement_uses cat 0 s)
 read_from : (cat : Catalogue) (before : ℕ) (statements : List Stmt) → fragments_in (uses_from cat before statements) ≡ flat_map (read_by cat) statements
 read_from cat before [] = refl
 read_from cat before (s ∷ rest) =
-    flat_map-append (λ (u : Use). map (λ (f : FragNo). f.0) u.frags) (statement_uses cat before s) (uses_from cat (before + length (statement_uses cat before s)) rest)
+    flat_map-append (λ (u : Use). map (λ (f : FragNo). f.0) u.frags) (statement_uses cat before s)
+    (uses_from cat (before + length (statement_uses cat before s)) rest)
     ∙ ap (λ ns. ns ++ fragments_in (uses_from cat (before + length (statement_uses cat before s)) rest)) (statements_alike cat before s)
     ∙ ap (λ ns. read_by cat s ++ ns) (read_from cat (before + length (statement_uses cat before s)) rest)
 
 -- what all statements read, the transaction reads
-pub all_read : (cat : Catalogue) (txn : Txn) (i : ℕ) (xs : List ℕ) → length txn.statements ≤ i → xs ≡ ascending (flat_map (read_by cat) (take i txn.statements)) → xs ≡ read_set cat txn
+pub all_read : (cat : Catalogue) (txn : Txn) (i : ℕ) (xs : List ℕ) → length txn.statements ≤ i
+    → xs ≡ ascending (flat_map (read_by cat) (take i txn.statements)) → xs ≡ read_set cat txn
 all_read cat txn i xs past so =
     so ∙ ap (λ ss. ascending (flat_map (read_by cat) ss)) (take_all i txn.statements past) ∙ sym (ap ascending (read_from cat 0 txn.statements))
 
@@ -112,4 +100,5 @@ pub keys_more : (key part : ℕ) (conds : List Condition) (i : ℕ) (c : Conditi
 keys_more key part conds i c within is =
     ap (λ cs. allowed_keys key (restrictions_of part cs)) (take_more conds i c within ∙ ap (λ z. take i conds ++ z ∷ []) (sym is))
     ∙ ap (allowed_keys key) (filter_map-append (restriction_of part) (take i conds) (c ∷ []))
-    ∙ fold-append (λ ks r. cond (r.column == key) (common ks (keys_for r.op (number_in r.value))) ks) all_keys (restrictions_of part (take i conds)) (restrictions_of part (c ∷ []))
+    ∙ fold-append (λ ks r. cond (r.column == key) (common ks (keys_for r.op (number_in r.value))) ks) all_keys (restrictions_of part (take i conds))
+    (restrictions_of part (c ∷ []))

@@ -1,18 +1,8 @@
 -- Lists of uses, statement by statement.
-use Rattle.std.proofs.Common.{ℕ, suc, ◌≡◌, ◌+◌, ◌*◌, ◌≤◌, ◌<◌, true, false, is_some, Option, Some, None, List, [], ◌∷◌, ◌++◌, length, get_or, take, drop, refl, ap, sym, ◌∙◌, subst, arith, append_assoc, length-append}
-use Rattle.std.specs.List.{All, cons_option}
-use Rattle.std.proofs.lemmas.List.{at_drop_more, take_more}
-use Rattle.std.proofs.lemmas.List.Elements.{filter_map-append}
-use Rattle.sdd_base.specs.declared.number.RelNo.{RelNo}
-use Rattle.sdd_base.specs.declared.usage.Use.{Use}
-use Rattle.sdd_catalog.specs.Catalogue.{Catalogue}
-use Rattle.sdd_lang.specs.declared.condition.Condition.{Condition}
-use Rattle.sdd_lang.specs.declared.statement.Stmt.{Stmt}
-use Rattle.sdd_lang.specs.declared.statement.Stmt.TheVariants.{Put, Query, Update, Delete}
-use Rattle.sdd_lang.specs.Fits.{FitsStatement}
-use Rattle.sdd_lang.specs.Uses.{restriction_of, restrictions_of, part_uses, statement_uses, uses_from}
+use Rattle.sdd_lang.proofs.All.{All, Catalogue, Condition, Delete, FitsStatement, List, None, Option, Put, Query, RelNo, Some, Stmt, Update, Use, [], ap, append_assoc, arith, at_drop_more, cons_option, drop, false, filter_map-append, get_or, is_some, length, length-append, part_uses, refl, restriction_of, restrictions_of, statement_uses, subst, suc, sym, take, take_more, true, uses_from, ℕ, ◌*◌, ◌++◌, ◌+◌, ◌<◌, ◌∙◌, ◌∷◌, ◌≡◌, ◌≤◌}
 
-pub length-part_uses : (cat : Catalogue) (before : ℕ) (conds : List Condition) (part : ℕ) (rels : List RelNo) → length (part_uses cat before conds part rels) ≡ length rels
+pub length-part_uses : (cat : Catalogue) (before : ℕ) (conds : List Condition) (part : ℕ) (rels : List RelNo)
+    → length (part_uses cat before conds part rels) ≡ length rels
 length-part_uses cat before conds part [] = refl
 length-part_uses cat before conds part (rel ∷ rels) = ap suc (length-part_uses cat before conds (part + 1) rels)
 
@@ -31,20 +21,23 @@ pub record AreUsesSoFar (cat : Catalogue) (statements : List Stmt) (i : ℕ) (us
   pub few : length uses ≤ 6 * i
   pub told : uses ++ uses_from cat (length uses) (drop i statements) ≡ uses_from cat 0 statements
 
-pub uses_more : (cat : Catalogue) (statements : List Stmt) (i : ℕ) (s : Stmt) (xs ys : List Use) → All (FitsStatement cat) statements → i < length statements → s ≡ get_or statements i s
+pub uses_more : (cat : Catalogue) (statements : List Stmt) (i : ℕ) (s : Stmt) (xs ys : List Use) → All (FitsStatement cat) statements
+    → i < length statements → s ≡ get_or statements i s
     → AreUsesSoFar cat statements i xs → ys ≡ xs ++ statement_uses cat (length xs) s → AreUsesSoFar cat statements (i + 1) ys
 uses_more cat statements i s xs ys fits within is so more =
     let here : FitsStatement cat s = subst (FitsStatement cat) (sym is) (fits i s within) in
     let short : length (statement_uses cat (length xs) s) ≤ 6 = few_uses cat (length xs) s here in
     let long : length ys ≡ length xs + length (statement_uses cat (length xs) s) = ap length more ∙ length-append xs (statement_uses cat (length xs) s) in
     let few : length xs ≤ 6 * i = so.few in
-    let rest : uses_from cat (length xs) (drop i statements) ≡ statement_uses cat (length xs) s ++ uses_from cat (length xs + length (statement_uses cat (length xs) s)) (drop (i + 1) statements) =
+    let rest : uses_from cat (length xs) (drop i statements) ≡ statement_uses cat (length xs) s ++ uses_from cat
+    (length xs + length (statement_uses cat (length xs) s)) (drop (i + 1) statements) =
     at_drop_more (uses_from cat (length xs)) statements i s within ∙ ap (λ z. uses_from cat (length xs) (z ∷ drop (i + 1) statements)) (sym is) in
     record {
       few = omega arith;
       told = ap (λ zs. zs ++ uses_from cat (length ys) (drop (i + 1) statements)) more
           ∙ ap (λ n. xs ++ statement_uses cat (length xs) s ++ uses_from cat n (drop (i + 1) statements)) long
-          ∙ append_assoc xs (statement_uses cat (length xs) s) (uses_from cat (length xs + length (statement_uses cat (length xs) s)) (drop (i + 1) statements))
+          ∙ append_assoc xs (statement_uses cat (length xs) s)
+          (uses_from cat (length xs + length (statement_uses cat (length xs) s)) (drop (i + 1) statements))
           ∙ ap (λ zs. xs ++ zs) (sym rest) ∙ so.told;
     }
 
@@ -64,12 +57,14 @@ none_some None e = refl
 none_some (Some x) e = cc
 
 -- a condition that is a restriction is one more, and another one isn't
-pub one_counted : (part : ℕ) (conds : List Condition) (i : ℕ) (c : Condition) (n : ℕ) → i < length conds → c ≡ get_or conds i c → true ≡ is_some (restriction_of part c)
+pub one_counted : (part : ℕ) (conds : List Condition) (i : ℕ) (c : Condition) (n : ℕ) → i < length conds → c ≡ get_or conds i c
+    → true ≡ is_some (restriction_of part c)
     → n ≡ length (restrictions_of part (take i conds)) → n + 1 ≡ length (restrictions_of part (take (i + 1) conds))
 one_counted part conds i c n within is some so =
     omega (arith, restrictions_more part conds i c within is, one_some (restriction_of part c) some)
 
-pub none_counted : (part : ℕ) (conds : List Condition) (i : ℕ) (c : Condition) (n : ℕ) → i < length conds → c ≡ get_or conds i c → false ≡ is_some (restriction_of part c)
+pub none_counted : (part : ℕ) (conds : List Condition) (i : ℕ) (c : Condition) (n : ℕ) → i < length conds → c ≡ get_or conds i c
+    → false ≡ is_some (restriction_of part c)
     → n ≡ length (restrictions_of part (take i conds)) → n ≡ length (restrictions_of part (take (i + 1) conds))
 none_counted part conds i c n within is none so =
     omega (arith, restrictions_more part conds i c within is, none_some (restriction_of part c) none)

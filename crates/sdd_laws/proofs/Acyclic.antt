@@ -1,19 +1,5 @@
 -- A history that keeps the laws has no cycle of precedence.
-use Rattle.std.proofs.Common.{List, ap}
-use Rattle.std.specs.Prelude.{is_some}
-use Rattle.std.specs.List.{All}
-use Rattle.sdd_lang.specs.All.{Catalogue, IsDatabase, IsSound, PutsHeld, RelNo, Row, database_of}
-use Rattle.sdd_history.specs.Records.{History}
-use Rattle.sdd_lang.specs.declared.transaction.Txn.{Txn as Text}
-use Rattle.sdd_order.specs.Attempts.{Committed, IsCommitted}
-use Rattle.sdd_order.specs.Orders.{IsOrderable}
-use Rattle.sdd_order.specs.Places.{event_at}
-use Rattle.sdd_order.specs.Precedence.{HasNoCycle}
-use Rattle.sdd_acyclic.proofs.Apart.{orderly_in_eras}
-use Rattle.sdd_laws.specs.Deeds.Asks.{by_use}
-use Rattle.sdd_laws.specs.Eras.{Eras, begun}
-use Rattle.sdd_laws.specs.Kept.{FitTogether, KeepsLaws}
-use Rattle.sdd_laws.specs.Snapshots.{base_of}
+use Rattle.sdd_laws.proofs.All.{All, Catalogue, Committed, Eras, FitTogether, HasNoCycle, History, IsCommitted, IsDatabase, IsOrderable, IsSound, KeepsLaws, List, PutsHeld, RelNo, Row, Txn as Text, ap, base_of, begun, by_use, database_of, event_at, is_some, orderly_in_eras}
 use Rattle.sdd_laws.proofs.NumberedStarts.{one_start}
 use Rattle.sdd_laws.proofs.Deeds.{deeds, are_starts, are_applies, are_alone, are_apart}
 use Rattle.sdd_laws.proofs.Fitting.{frags_of, force, fits, meets}
@@ -24,8 +10,7 @@ use Rattle.sdd_laws.proofs.Precedes.{no_cycle_of_deeds}
 -- where the databases of the snapshots are databases
 acyclic_by_bases : (cat : Catalogue) → IsSound cat → (eras : Eras) (rows : List (RelNo × Row)) (txns : List Text) (h : History)
     → FitTogether cat eras rows txns h → KeepsLaws cat eras rows txns h
-    → ((t : Committed) → IsCommitted h t → IsDatabase cat (base_of cat rows h t.start))
-    → HasNoCycle cat h
+    → ((t : Committed) → IsCommitted h t → IsDatabase cat (base_of cat rows h t.start)) → HasNoCycle cat h
 acyclic_by_bases cat sound eras rows txns h fit laws bases =
     let are = fit.are_eras in
     let exist = fit.numbers_exist in
@@ -43,8 +28,7 @@ acyclic_by_bases cat sound eras rows txns h fit laws bases =
 
 pub acyclic : (cat : Catalogue) → IsSound cat → (eras : Eras) (rows : List (RelNo × Row)) (txns : List Text) (h : History)
     → IsDatabase cat (database_of cat rows) → All (λ (t : Text). All PutsHeld t.statements) txns
-    → FitTogether cat eras rows txns h → KeepsLaws cat eras rows txns h
-    → HasNoCycle cat h
+    → FitTogether cat eras rows txns h → KeepsLaws cat eras rows txns h → HasNoCycle cat h
 acyclic cat sound eras rows txns h first held fit laws =
     acyclic_by_bases cat sound eras rows txns h fit laws
     (snapshots_make_databases cat sound eras fit.are_eras rows txns h fit.txns_fit held laws.starts laws.answers laws.applies first)
@@ -52,8 +36,7 @@ acyclic cat sound eras rows txns h first held fit laws =
 -- so it has a serial order
 pub orderable : (cat : Catalogue) → IsSound cat → (eras : Eras) (rows : List (RelNo × Row)) (txns : List Text) (h : History)
     → IsDatabase cat (database_of cat rows) → All (λ (t : Text). All PutsHeld t.statements) txns
-    → FitTogether cat eras rows txns h → KeepsLaws cat eras rows txns h
-    → IsOrderable cat h
+    → FitTogether cat eras rows txns h → KeepsLaws cat eras rows txns h → IsOrderable cat h
 orderable cat sound eras rows txns h first held fit laws =
     let starting = laws.starts in
     record {

@@ -1,24 +1,8 @@
 -- Copies of modules that began with different rows are equal too, where these rows agree on the fragment.
-use Rattle.std.proofs.Common.{ℕ, ◌++◌, ◌==◌, ◌≡◌, ◌∙◌, ◌∷◌, List, [], ap, cond, false, map, refl, sym, true}
-use Rattle.std.specs.Prelude.{filter, flat_map}
-use Rattle.sdd_lang.specs.All.{Catalogue, Database, RelNo, Row, database_of, fragment_of, rows_in_fragment}
-use Rattle.sdd_copy.specs.Contents.{Dated, of_fragment, rows_left}
-use Rattle.sdd_history.specs.Records.{History}
-use Rattle.sdd_order.specs.Attempts.{Committed, committed}
-use Rattle.sdd_laws.specs.Agreeing.{AgreeOnFragment}
-use Rattle.sdd_laws.specs.Copied.{AreAppliedAlike}
-use Rattle.sdd_laws.specs.Snapshots.{copy_at, dated, first_row, first_rows, is_applied}
+use Rattle.sdd_laws.proofs.All.{AgreeOnFragment, AreAppliedAlike, Catalogue, Committed, Database, Dated, History, List, RelNo, Row, [], ap, committed, cond, copy_at, database_of, false, filter, first_rows, flat_map, fragment_of, is_applied, map, of_fragment, refl, rows_in_fragment, rows_left, sym, true, ℕ, ◌++◌, ◌==◌, ◌∙◌, ◌∷◌, ◌≡◌}
 use Rattle.sdd_laws.proofs.SameCopies.{equal_copies}
-
--- the changes of a fragment in two lists
-of_both : (f : ℕ) (xs ys : Dated) → of_fragment f (xs ++ ys) ≡ of_fragment f xs ++ of_fragment f ys
-of_both f [] ys = refl
-of_both f (x ∷ xs) ys =
-    elim (x.1.frag.0 == f)
-    as (λ b. cond b (x ∷ of_fragment f (xs ++ ys)) (of_fragment f (xs ++ ys)) ≡ cond b (x ∷ of_fragment f xs) (of_fragment f xs) ++ of_fragment f ys) [
-      | true ↦ ap (λ l. x ∷ l) (of_both f xs ys)
-      | false ↦ of_both f xs ys
-    ]
+use Rattle.sdd_laws.proofs.SameContents.{of_joined as of_both}
+use Rattle.sdd_laws.specs.Snapshots.{dated, first_row}
 
 -- of first rows they are those of the fragment's entries
 of_first : (cat : Catalogue) (f : ℕ) (db : Database) → of_fragment f (map (first_row cat) db) ≡ map (first_row cat) (rows_in_fragment cat db f)

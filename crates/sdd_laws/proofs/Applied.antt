@@ -1,13 +1,5 @@
 -- Applied before a place, as a test and by places.
-use Rattle.std.proofs.Common.{ℕ, zero, suc, ◌<◌, ◌≡◌, ◌↔◌, Bool, true, false, [], ◌∷◌, take, refl, ap, sym, ◌∙◌, inl, inr, arith}
-use Rattle.std.specs.List.{list_any}
-use Rattle.sdd_history.specs.declared.record.Rec.{Rec}
-use Rattle.sdd_history.specs.Records.{History}
-use Rattle.sdd_order.specs.Places.{Stands}
-use Rattle.sdd_order.specs.Precedence.{is_apply}
-use Rattle.sdd_order.proofs.Before.{or_cases, or_left, or_right, apply_passes}
-use Rattle.sdd_laws.specs.Deeds.{AppliedBefore}
-use Rattle.sdd_laws.specs.Snapshots.{is_applied}
+use Rattle.sdd_laws.proofs.All.{AppliedBefore, Bool, History, Rec, Stands, [], ap, apply_passes, arith, false, inl, inr, is_applied, is_apply, list_any, or_cases, or_left, or_right, refl, suc, sym, take, true, zero, ℕ, ◌<◌, ◌↔◌, ◌∙◌, ◌∷◌, ◌≡◌}
 use Rattle.sdd_laws.proofs.Precedes as by_places
 
 -- a record before the place passes

@@ -1,13 +1,5 @@
 -- What stands at an item after changes.
-use Rattle.std.proofs.Common.{◌≡◌, ◌⊎◌, inl, inr, cond, List, [], ◌∷◌, Option, Some, None, refl, ap, sym, ◌∙◌, subst}
-use Rattle.std.specs.List.{Contains}
-use Rattle.std.specs.List.Sorted.{IsStrictlySortedBy}
-use Rattle.std.specs.Map.{keys_of}
-use Rattle.std.specs.BTreeMap.{is_at}
-use Rattle.sdd_lang.proofs.base.Membership.{Contains-nil, Contains-here, Contains-later, Contains-cases}
-use Rattle.sdd_lang.specs.All.{Catalogue, Change, Database, Item, Row, after_changes, changed_by, item_cmp, item_of, set_to}
-use Rattle.sdd_lang.proofs.SortedEntries.{item_cmp_total, item_cmp_exact, inserted_sorted, removed_sorted}
-use Rattle.sdd_laws.specs.Values.{row_at}
+use Rattle.sdd_laws.proofs.All.{Catalogue, Change, Contains, Contains-cases, Contains-here, Contains-later, Contains-nil, Database, IsStrictlySortedBy, Item, List, None, Option, Row, Some, [], after_changes, ap, changed_by, cond, inl, inr, inserted_sorted, is_at, item_cmp, item_cmp_exact, item_cmp_total, item_of, keys_of, refl, removed_sorted, row_at, set_to, subst, sym, ◌∙◌, ◌∷◌, ◌≡◌, ◌⊎◌}
 use Rattle.sdd_laws.proofs.LookUps.{key_or_not, test_own, test_other, put_in, taken_out}
 
 abbrev pub Ascends : Database → Type 0
@@ -22,8 +14,7 @@ set_ascends : (db : Database) (item : Item) (r : Option Row) → Ascends db → 
 set_ascends db item None s = removed_sorted item_cmp (is_at (item_cmp item)) db s
 set_ascends db item (Some row) s = inserted_sorted item_cmp item_cmp_total db item row s
 
-set_here : (db : Database) (item at : Item) (r : Option Row) → Ascends db → item ≡ at
-    → row_at (set_to db item r) at ≡ r
+set_here : (db : Database) (item at : Item) (r : Option Row) → Ascends db → item ≡ at → row_at (set_to db item r) at ≡ r
 set_here db item at None s e =
     taken_out item_cmp item_cmp_total item_cmp_exact db item at s
     ∙ ap (λ b. cond b None (row_at db at)) (test_own item_cmp item_cmp_total item_cmp_exact item at e)

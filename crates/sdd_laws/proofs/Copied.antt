@@ -1,16 +1,7 @@
 -- In every catalogue a fragment has a copy, so that class 0 reads it somewhere.
-use Rattle.std.proofs.Common.{ℕ, zero, suc, ◌≤◌, ◌==◌, ◌≡◌, true, false, List, [], ◌∷◌, map, length, Some, refl, sym, subst, arith, eq-eqb}
-use Rattle.std.specs.Prelude.{Contains}
-use Rattle.std.specs.List.{AllByRecursion}
-use Rattle.std.proofs.lemmas.Bool.{eqb-false}
-use Rattle.std.proofs.lemmas.List.{length-map}
-use Rattle.sdd_lang.specs.All.{Catalogue, DmNo, Fragment, FragmentPart, IsPlaced, IsSound, Parts, dm_no, fragment_at, fragment_from, fragment_rules, has_copy, lowest_copy, numbers_to, parts_of, relation_names}
-use Rattle.sdd_lang.proofs.base.Membership.{Contains-here}
-use Rattle.sdd_lang.proofs.catalog.Found.{both_empty, each_unfound, empty_of_map}
-use Rattle.sdd_lang.proofs.catalog.Sound.{at_number, each_image, sound_fragments}
-use Rattle.sdd_lang.proofs.catalog.Validity.{no_faults, unbroken}
-use Rattle.sdd_order.proofs.Members.{Contains-range, passes_member}
+use Rattle.sdd_laws.proofs.All.{AllByRecursion, Catalogue, Contains, Contains-here, Contains-range, DmNo, Fragment, FragmentPart, IsSound, List, Parts, Some, [], arith, at_number, both_empty, dm_no, each_image, each_unfound, empty_of_map, eq-eqb, eqb-false, false, fragment_at, fragment_from, fragment_rules, has_copy, length, length-map, lowest_copy, map, no_faults, numbers_to, parts_of, passes_member, refl, relation_names, sound_fragments, subst, suc, sym, true, unbroken, zero, ℕ, ◌==◌, ◌∷◌, ◌≡◌, ◌≤◌}
 use Rattle.sdd_laws.proofs.Lists.{found_where_any}
+use Rattle.sdd_lang.specs.All.{IsPlaced}
 
 abbrev HasCopies : Fragment → Type 0
 HasCopies f = 1 ≤ length f.copies
@@ -34,7 +25,8 @@ each_copied cat sound =
     let parts : Parts = parts_of cat in
     let none = no_faults parts sound.valid in
     let each =
-    each_unfound _ (λ f. 1 ≤ length f.copies) (λ before f found. some_copy_part parts before f (empty_of_map _ _ found)) [] parts.fragments none.fragments in
+    each_unfound _ (λ f. 1 ≤ length f.copies)
+    (λ before f found. some_copy_part parts before f (empty_of_map _ _ found)) [] parts.fragments none.fragments in
     let there : AllByRecursion HasCopies (map (fragment_from (relation_names parts.relations)) parts.fragments) =
     each_image (fragment_from (relation_names parts.relations)) (λ (f : FragmentPart). 1 ≤ length f.copies) HasCopies
     (λ f h. subst (λ n. 1 ≤ n) (sym (length-map f.copies dm_no)) h) parts.fragments each in

@@ -1,19 +1,7 @@
 -- The entries that a copy gives a database: they ascend, each comes from a dated change, and lies in the fragment.
-use Rattle.std.proofs.Common.{ℕ, ◌≡◌, ◌==◌, ℤ, List, [], ◌∷◌, map, Some, ap, sym, ◌∙◌}
-use Rattle.std.specs.declared.cmp.Ordering.TheVariants.{Less}
-use Rattle.std.specs.Ordering.{int_cmp, ordering_then}
-use Rattle.std.specs.List.{AllByRecursion, Contains}
-use Rattle.std.specs.List.Sorted.{IsStrictlySortedBy}
-use Rattle.std.specs.Map.{keys_of}
-use Rattle.std.proofs.lemmas.Bool.Decides.{Decides-eqb}
-use Rattle.std.proofs.lemmas.Cmp.{nat_cmp_total, tied_itself}
-use Rattle.std.proofs.lemmas.Map.Keys.{sorted_head, sorted_tail}
-use Rattle.sdd_lang.specs.All.{Catalogue, Change, Item, Row, fragment_at, fragment_of, item_cmp, item_of}
-use Rattle.sdd_copy.specs.Contents.{Dated, contents}
-use Rattle.sdd_laws.specs.Committed.{entries_of}
-use Rattle.sdd_laws.specs.Values.{ArePlaced}
+use Rattle.sdd_laws.proofs.All.{AllByRecursion, ArePlaced, Catalogue, Change, Contains, Dated, Decides-eqb, IsStrictlySortedBy, Item, Less, List, Row, Some, [], ap, contents, entries_of, fragment_at, fragment_of, int_cmp, item_cmp, item_of, keys_of, map, nat_cmp_total, ordering_then, sorted_head, sorted_nil, sorted_tail, sym, tied_itself, ℕ, ℤ, ◌==◌, ◌∙◌, ◌∷◌, ◌≡◌}
 use Rattle.sdd_laws.proofs.Latest.{contents_ascend, contents_left}
-use Rattle.sdd_laws.proofs.LookUps.{sorted_nil, sorted_cons}
+use Rattle.sdd_laws.proofs.LookUps.{sorted_cons}
 use Rattle.sdd_laws.proofs.Members.{Contains-from_map, Contains-from_filter}
 use Rattle.sdd_laws.proofs.Values.{fragment_is}
 

@@ -1,20 +1,12 @@
 -- A copy holds the values of the items of its fragment.
-use Rattle.std.proofs.Common.{ℕ, ℤ, ◌≡◌, ◌↔◌, Bool, List, Some, sym, subst}
-use Rattle.std.specs.List.{Contains, filter}
-use Rattle.sdd_lang.specs.All.{Catalogue, Database, IsDatabase, IsSound, Row, fragment_at, fragment_of}
-use Rattle.sdd_copy.specs.Sets.{AreSame}
-use Rattle.sdd_copy.proofs.Order.{order_tells_nothing}
-use Rattle.sdd_copy.specs.Contents.{Dated, contents}
-use Rattle.sdd_laws.specs.Committed.{Writers, all_dated, copy_of}
-use Rattle.sdd_laws.specs.Values.{IsValue, AreWriters}
+use Rattle.sdd_laws.proofs.All.{AreSame, AreWriters, Bool, Catalogue, Contains, Database, Dated, IsDatabase, IsSound, IsValue, List, Row, Some, Writers, all_dated, contents, copy_of, filter, fragment_at, fragment_of, order_tells_nothing, subst, sym, ℕ, ℤ, ◌↔◌, ◌≡◌}
 use Rattle.sdd_laws.proofs.Members.{Contains-from_filter}
 use Rattle.sdd_laws.proofs.Origins.{all_placed, all_leave_one_row, dates_differ}
 use Rattle.sdd_laws.proofs.Values.{contents_value, value_contents}
 
 pub holds_values : {T : Type 0} (cat : Catalogue) → IsSound cat
     → (first : Database) (w : Writers T) (commits : List T) (applied : T → Bool) (f : ℕ) → IsDatabase cat first
-    → AreWriters cat w commits
-    → (key : ℤ) (row : Row) → fragment_of cat (fragment_at cat f).rel.0 key ≡ f
+    → AreWriters cat w commits → (key : ℤ) (row : Row) → fragment_of cat (fragment_at cat f).rel.0 key ≡ f
     → Contains (copy_of cat first w commits applied f) (key, row) ↔ IsValue cat
     (all_dated cat first w (filter applied commits)) ((fragment_at cat f).rel.0, key) (Some row)
 holds_values {T} cat sound first w commits applied f is writers key row holder =

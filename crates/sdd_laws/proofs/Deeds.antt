@@ -1,28 +1,9 @@
 -- What the laws say of a history, as the deeds of its committed transactions.
-use Rattle.std.proofs.Common.{ℕ, ◌<◌, ◌≤◌, ◌==◌, ◌≡◌, true, not, List, Option, Some, None, refl, sym, ap, ◌∙◌, subst, inl, inr, arith}
-use Rattle.std.specs.Prelude.{is_some, unwrap_or, option_map}
-use Rattle.std.proofs.lemmas.Bool.{cases_lt, ne_eqb}
-use Rattle.sdd_lang.specs.All.{Catalogue, IsSound, RelNo, Row, Ts, has_copy}
-use Rattle.sdd_history.specs.Records.{History}
-use Rattle.sdd_lang.specs.declared.transaction.Txn.{Txn as Text}
-use Rattle.sdd_order.specs.Attempts.{Attempt, Committed, IsAttempt, IsCommitted, reads, changes, p2_time}
-use Rattle.sdd_order.specs.Numbers.{IsModule}
-use Rattle.sdd_order.specs.Places.{event_at}
-use Rattle.sdd_order.specs.Precedence.{module_of}
-use Rattle.sdd_acyclic.specs.Deeds as core
-use Rattle.sdd_acyclic.specs.Deeds.{Deeds, Txn, Starts, Applies, IsLow, IsHigh, ZeroAlone, ErasApart}
-use Rattle.sdd_laws.specs.Answers.{KeepsAnswers}
-use Rattle.sdd_laws.specs.Applies.{IsEarlier, KeepsApplies}
-use Rattle.sdd_laws.specs.Deeds.{IsSubmitted, IsAnswered, IsApplied, AppliedBefore, Asks, Touches}
-use Rattle.sdd_laws.specs.Deeds.Asks.{by_use, by_no_class as at_each}
-use Rattle.sdd_laws.specs.Deeds.GoesTo.{by_change, by_no_class}
-use Rattle.sdd_laws.specs.Eras.{Eras, AreEras, begun}
-use Rattle.sdd_laws.specs.Redeclares.{IsOfEarlierEra, KeepsEras}
-use Rattle.sdd_laws.specs.Starts.{KeepsStarts}
-use Rattle.sdd_laws.specs.Undeclared.{KeepsUndeclared}
+use Rattle.sdd_laws.proofs.All.{AppliedBefore, Applies, AreEras, Asks, Attempt, Catalogue, Committed, Deeds, Eras, ErasApart, History, IsAnswered, IsApplied, IsAttempt, IsCommitted, IsEarlier, IsModule, IsOfEarlierEra, IsSound, IsSubmitted, KeepsAnswers, KeepsApplies, KeepsEras, KeepsStarts, KeepsUndeclared, List, None, Option, RelNo, Row, Some, Starts, Touches, Ts, Txn as Text, ZeroAlone, ap, arith, at_each, begun, by_change, by_no_class, by_use, cases_lt, changes, commit_of, event_at, has_copy, inl, inr, is_some, module_of, ne_eqb, not, one_of_txn, one_submitted, option_map, p2_time, reads, refl, same_start, subst, sym, true, unwrap_or, ℕ, ◌<◌, ◌==◌, ◌∙◌, ◌≡◌, ◌≤◌}
 use Rattle.sdd_laws.proofs.NumberedStarts.{one_start}
-use Rattle.sdd_order.proofs.Places.{one_submitted, same_start, commit_of, one_of_txn}
 use Rattle.sdd_laws.proofs.Reading.{reads_there}
+use Rattle.sdd_acyclic.specs.Deeds.{Txn}
+use Rattle.sdd_acyclic.specs.Deeds as core
 
 -- a committed transaction, with the place of its Submit
 pub record Placed : Type 0 where

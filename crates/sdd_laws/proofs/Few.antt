@@ -1,26 +1,7 @@
 -- A transaction starts again only since another one was committed: each Start but the first has a writer of its own.
-use Rattle.std.proofs.Common.{ℕ, zero, suc, ◌+◌, ◌<◌, ◌≤◌, ◌≡◌, ◌≢◌, eqb, Bool, true, false, not, cond, ◌||◌, List, [], ◌∷◌, length, take, Some, refl, sym, ap, ◌∙◌, subst, inl, inr, arith, eq-eqb}
-use Rattle.std.specs.Prelude.{filter}
-use Rattle.std.specs.List.{IsDistinct, AllByRecursion, list_any}
-use Rattle.std.specs.Cmp.{nat_eq_equiv}
-use Rattle.std.proofs.lemmas.Bool.{cases_Bool, cases_lt, ne_eqb, eqb-true}
-use Rattle.std.proofs.lemmas.Map.Made.{length-le_from_is_member}
-use Rattle.std.proofs.lemmas.Option.{same_Some}
-use Rattle.sdd_lang.specs.All.{Catalogue, Ts, class_for, txn_no}
-use Rattle.sdd_history.specs.declared.record.Rec.{Rec}
-use Rattle.sdd_history.specs.declared.record.Rec.TheVariants.{Submit, Start, Arrive, Wait, Answer, Reject, Commit, Apply, Pass, Nothing}
-use Rattle.sdd_history.specs.Records.{History}
-use Rattle.sdd_lang.specs.declared.transaction.Txn.{Txn}
-use Rattle.sdd_order.specs.Attempts.{Attempt, Committed, IsAttempt, IsCommitted}
-use Rattle.sdd_order.specs.Places.{Stands, event_at}
-use Rattle.sdd_laws.specs.Deeds.{txn_at}
-use Rattle.sdd_laws.specs.Eras.{Eras, in_force}
-use Rattle.sdd_laws.specs.Few.{is_commit_of_other, starts_of, commits_of_others, AreFew}
-use Rattle.sdd_laws.specs.Rejections.{IsAgain, KeepsRejections}
-use Rattle.sdd_laws.specs.Starts.{is_start_of, starts_before, KeepsStarts}
-use Rattle.sdd_order.proofs.Before.{or_left, or_right}
+use Rattle.sdd_laws.proofs.All.{AllByRecursion, Answer, Apply, AreFew, Arrive, Attempt, Bool, Catalogue, Commit, Committed, Eras, History, IsAgain, IsAttempt, IsCommitted, KeepsRejections, KeepsStarts, List, Nothing, Pass, Rec, Reject, Some, Stands, Start, Submit, Ts, Txn, Wait, [], ap, arith, cases_Bool, cases_lt, class_for, commits_of_others, cond, each_more, eq-eqb, eqb, eqb-true, event_at, false, filter, in_force, inl, inr, is_commit_of_other, is_start_of, length, length-le_from_is_member, list_any, nat_eq_equiv, ne_eqb, not, or_left, or_right, refl, same_Some, same_commit, same_start, starts_before, starts_of, subst, suc, sym, take, true, txn_at, txn_no, zero, ℕ, ◌+◌, ◌<◌, ◌||◌, ◌∙◌, ◌∷◌, ◌≡◌, ◌≢◌, ◌≤◌}
+use Rattle.std.specs.List.{IsDistinct}
 use Rattle.sdd_laws.proofs.NumberedStarts.{one_start, start_counts}
-use Rattle.sdd_order.proofs.Places.{same_start, same_commit}
 use Rattle.sdd_laws.proofs.Times.{condition_time}
 
 -- places of records that pass a test
@@ -76,7 +57,8 @@ last_passing test (x ∷ h) n e =
               rec = r.rec;
               stands = r.stands;
               passes = r.passes;
-              before = ap (λ b. length (cond b (x ∷ filter (λ d. test d.1) (take r.place h)) (filter (λ d. test d.1) (take r.place h)))) t ∙ ap suc r.before;
+              before = ap (λ b. length (cond b (x ∷ filter (λ d. test d.1) (take r.place h)) (filter (λ d. test d.1) (take r.place h)))) t
+                  ∙ ap suc r.before;
             }
       ] refl
       | false ↦ λ t l.
@@ -116,10 +98,6 @@ no_places = tt
 one_place_more : (k : ℕ) (ks : List ℕ) → AllByRecursion (λ q. eqb k q ≡ false) ks → IsDistinct eqb ks → IsDistinct eqb (k ∷ ks)
 unfolding IsDistinct
 one_place_more k ks apart d = (apart, d)
-
-each_more : {A : Type 0} (P Q : A → Type 0) → ((x : A) → P x → Q x) → (xs : List A) → AllByRecursion P xs → AllByRecursion Q xs
-each_more P Q f [] all = tt
-each_more P Q f (x ∷ xs) all = (f x all.0, each_more P Q f xs all.1)
 
 module _ (cat : Catalogue) (eras : Eras) (txns : List Txn) (h : History) (starting : KeepsStarts cat eras txns h) (rejecting : KeepsRejections cat eras h) where
   -- the attempts of a transaction have one class

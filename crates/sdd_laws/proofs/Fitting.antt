@@ -1,46 +1,9 @@
 -- The transactions of an era fit its catalogue, and meet the read conditions of its table.
-use Rattle.std.proofs.Common.{ℕ, ◌-◌, ◌<◌, ◌==◌, ◌≡◌, ◌↔◌, true, false, cond, List, [], ◌∷◌, map, length, Some, None, refl, sym, ap, ◌∙◌, subst, arith, eq-eqb}
-use Rattle.std.specs.Prelude.{is_some, slice_get, slice_index_or, option_map, Contains}
-use Rattle.std.specs.List.{All, AllByRecursion}
-use Rattle.std.proofs.lemmas.Bool.{ne_eqb, eqb-true}
-use Rattle.std.proofs.lemmas.List.Elements.{All-contains}
-use Rattle.std.proofs.lemmas.Option.{same_Some}
-use Rattle.sdd_lang.specs.All.{Catalogue, Change, Cond, Fits as TextFits, FragNo, Fragment, IsDatabase, IsSound, RelNo, Row, ascending, contains, frag_no, fragments_in, has_copy, reads_at, txn_no, write_set}
-use Rattle.sdd_history.specs.declared.record.Rec.{Rec}
-use Rattle.sdd_history.specs.declared.record.Rec.TheVariants.{Commit}
-use Rattle.sdd_history.specs.Records.{History}
-use Rattle.sdd_lang.specs.declared.effect.Effect.{Effect}
-use Rattle.sdd_lang.specs.declared.transaction.Txn.{Txn as Text}
-use Rattle.sdd_lang.proofs.EffectChanges.{lie_in_write_set}
-use Rattle.sdd_lang.proofs.ReadSetDecides.{ascending_back}
-use Rattle.sdd_protocol.specs.Conditions.{conditions, undeclared_conditions}
-use Rattle.sdd_protocol.specs.Protocols.{IsTable}
-use Rattle.sdd_protocol.specs.declared.entry.Entry.{Entry}
-use Rattle.sdd_protocol.proofs.Tables.{all_at}
-use Rattle.sdd_order.specs.Attempts.{Attempt, Committed, IsCommitted, reads, changes, p2_time}
-use Rattle.sdd_order.specs.Numbers.{ExistsIn, ChangeExists, IsFragment, NumbersExist}
-use Rattle.sdd_order.specs.Places.{Stands, event_at}
-use Rattle.sdd_order.specs.Precedence.{module_of}
-use Rattle.sdd_acyclic.specs.Deeds.{IsSeen}
-use Rattle.sdd_acyclic.specs.Eras.{of_era}
-use Rattle.sdd_acyclic.specs.Fits.{IsFragmentOf, Fits, Meets}
-use Rattle.sdd_acyclic.specs.Undeclared.{Declared, declared}
-use Rattle.sdd_order.proofs.Members.{member_passes}
-use Rattle.sdd_laws.specs.Answers.{KeepsAnswers}
-use Rattle.sdd_laws.specs.Applies.{KeepsApplies}
-use Rattle.sdd_laws.specs.Conditions.{IsConditionOf, KeepsConditions}
-use Rattle.sdd_laws.specs.Deeds.{IsAnswered, AppliedBefore, TouchesOne}
-use Rattle.sdd_eras.specs.EraOf.{IsEraOf}
-use Rattle.sdd_laws.specs.Eras.{Eras, AreEras, begun, in_force}
-use Rattle.sdd_laws.specs.Redeclares.{KeepsEras}
-use Rattle.sdd_laws.specs.Snapshots.{base_of}
-use Rattle.sdd_laws.specs.Starts.{IsOfSubmit, KeepsStarts}
-use Rattle.sdd_order.proofs.Before.{or_left, or_right}
+use Rattle.sdd_laws.proofs.All.{All, All-contains, AllByRecursion, AppliedBefore, AreEras, Attempt, Catalogue, Change, ChangeExists, Commit, Committed, Cond, Contains, Declared, Effect, Entry, Eras, ExistsIn, Fits as TextFits, FragNo, Fragment, History, IsAnswered, IsCommitted, IsConditionOf, IsCovered, IsDatabase, IsEraOf, IsFragment, IsFragmentOf, IsOfSubmit, IsSeen, IsSound, IsTable, KeepsAnswers, KeepsApplies, KeepsConditions, KeepsEras, KeepsStarts, List, Meets, None, NumbersExist, Rec, RelNo, Row, Some, Stands, TouchesOne, Txn as Text, [], all_at, ap, arith, ascending, ascending_back, at_member, base_of, begun, changes, cond, conditions, contains, declared, eq-eqb, eqb-true, event_at, false, frag_no, fragments_in, has_copy, in_force, is_some, length, lie_in_write_set, map, member_passes, module_of, ne_eqb, numbers_back, of_era, option_map, or_left, or_right, p2_time, reads, reads_at, refl, same_Some, slice_get, slice_index_or, subst, sym, true, txn_no, undeclared_conditions, write_set, write_set_in_era, ℕ, ◌-◌, ◌<◌, ◌==◌, ◌↔◌, ◌∙◌, ◌∷◌, ◌≡◌}
 use Rattle.sdd_laws.proofs.Deeds.{Placed, deeds, are_starts}
-use Rattle.sdd_eras.proofs.EraSets.{IsCovered, write_set_in_era}
 use Rattle.sdd_laws.proofs.InForce.{force_is}
-use Rattle.sdd_eras.proofs.Lists.{at_member}
 use Rattle.sdd_laws.proofs.Reading.{IsReadAt, class_covers, read_in_force, reads_there}
+use Rattle.sdd_acyclic.specs.Fits.{Fits}
 
 -- a number of a list is there when they ascend
 pub each_here : (xs zs : List ℕ) → ((n : ℕ) → contains xs n ≡ true → contains zs n ≡ true)
@@ -49,14 +12,10 @@ each_here [] zs h = tt
 each_here (x ∷ xs) zs h =
     (h x (or_left (x == x) (contains xs x) (eq-eqb x x refl)), each_here xs zs (λ n c. h n (or_right (x == n) (contains xs n) c)))
 
-in_ascending : (xs : List ℕ) (n : ℕ) → contains xs n ≡ true → contains (ascending xs) n ≡ true
+pub in_ascending : (xs : List ℕ) (n : ℕ) → contains xs n ≡ true → contains (ascending xs) n ≡ true
 in_ascending xs n c =
     at_member (λ m. contains (ascending xs) m ≡ true) xs n
     (ascending_back (λ m. contains (ascending xs) m ≡ true) xs (each_here (ascending xs) (ascending xs) (λ m d. d))) c
-
-numbers_back : (xs : List ℕ) → map (λ (f : FragNo). f.0) (map frag_no xs) ≡ xs
-numbers_back [] = refl
-numbers_back (x ∷ xs) = ap (λ z. x ∷ z) (numbers_back xs)
 
 -- the fragments of an attempt's uses, ascending
 abbrev pub frags_of : Placed → List FragNo
@@ -65,7 +24,8 @@ frags_of x = map frag_no (ascending (fragments_in x.txn.start.uses))
 -- a record at a place is that of an entry
 stands_entry : (h : History) (k : ℕ) (r : Rec) → Stands h k r → (e : ℕ × Rec) × (slice_get h k ≡ Some e) × (e.1 ≡ r)
 stands_entry h k r s =
-    elim (slice_get h k) as (λ o. slice_get h k ≡ o → option_map (λ (e : ℕ × Rec). e.1) o ≡ Some r → (e : ℕ × Rec) × (slice_get h k ≡ Some e) × (e.1 ≡ r)) [
+    elim (slice_get h k) as
+    (λ o. slice_get h k ≡ o → option_map (λ (e : ℕ × Rec). e.1) o ≡ Some r → (e : ℕ × Rec) × (slice_get h k ≡ Some e) × (e.1 ≡ r)) [
       | None ↦ λ p q. absurd (cc)
       | Some e ↦ λ p q. (e, p, same_Some e.1 r q)
     ] refl s
@@ -97,9 +57,11 @@ module _ (cat : Catalogue) (sound : IsSound cat) (eras : Eras) (are : AreEras ca
         let base = base_of cat rows h t.start in
         let all = lie_in_write_set cat sound s.txn text base (bases t p) in
         let of : All (λ (x : Change). contains (write_set cat s.txn) x.frag.0 ≡ true) t.changes =
-        subst (λ (e : Effect). All (λ (x : Change). contains (write_set cat s.txn) x.frag.0 ≡ true) e.changes) (answering.effect_is t s.txn p s.txn_is) all in
+        subst (λ (e : Effect). All (λ (x : Change). contains (write_set cat s.txn) x.frag.0 ≡ true) e.changes)
+        (answering.effect_is t s.txn p s.txn_is) all in
         let m = member_passes (λ (x : Change). x.frag.0 == f) t.changes c in
-        subst (λ n. contains (write_set cat s.txn) n ≡ true) (eqb-true m.0.frag.0 f m.2) (All-contains (λ (x : Change). contains (write_set cat s.txn) x.frag.0 ≡ true) t.changes m.0 of m.1)
+        subst (λ n. contains (write_set cat s.txn) n ≡ true) (eqb-true m.0.frag.0 f m.2)
+        (All-contains (λ (x : Change). contains (write_set cat s.txn) x.frag.0 ≡ true) t.changes m.0 of m.1)
 
     -- the catalogue of an era
     abbrev pub force : ℕ → Catalogue
@@ -173,7 +135,8 @@ module _ (cat : Catalogue) (sound : IsSound cat) (eras : Eras) (are : AreEras ca
               table = table;
               table_is = subst (λ k. IsTable k table) (sym (started_in_force y)) is_table;
               there =
-                  subst (λ b. Contains (cond b (undeclared_conditions cat a.ts) (conditions cat table a.class d (frags_of y.txn.item.no) a.ts (p2_time a))) c) (sym class) m;
+                  subst (λ b. Contains (cond b (undeclared_conditions cat a.ts) (conditions cat table a.class d (frags_of y.txn.item.no) a.ts (p2_time a))) c)
+                  (sym class) m;
             }
 
         met : (x y : Member) (f g : ℕ) (c : Cond) → reads (start_of y) f ≡ true

@@ -1,21 +1,11 @@
 -- A database that has the values has in a fragment what a copy does to which those are applied that change the fragment.
-use Rattle.std.proofs.Common.{ℕ, ◌≡◌, ◌==◌, ℤ, List, Option, Some, ap, sym, ◌∙◌, subst}
-use Rattle.std.specs.List.{Contains}
-use Rattle.std.proofs.lemmas.Bool.Decides.{Decides-eqb}
-use Rattle.sdd_lang.specs.All.{Catalogue, Change, Database, IsDatabase, IsSound, Item, Row, fragment_at, fragment_of, item_cmp, rows_in_fragment}
-use Rattle.sdd_lang.proofs.SortedEntries.{item_cmp_total, item_cmp_exact, filtered_sorted}
-use Rattle.sdd_copy.specs.Contents.{Dated, contents}
-use Rattle.sdd_laws.specs.Committed.{all_dated, entries_of}
-use Rattle.sdd_laws.specs.Values.{IsValue, ArePlaced, AreWriters, row_at}
-use Rattle.sdd_laws.specs.Values.IsValue.{written, untouched}
+use Rattle.sdd_laws.proofs.All.{ArePlaced, AreWriters, Catalogue, Change, ChangesOf, Contains, Database, Dated, Decides-eqb, HasValues, IsDatabase, IsSound, IsValue, Item, Ledger, List, Option, Row, Some, all_dated, ap, contents, entries_of, filtered_sorted, fragment_at, fragment_of, item_cmp, item_cmp_exact, item_cmp_total, row_at, rows_in_fragment, subst, sym, untouched, writers, written, ℕ, ℤ, ◌==◌, ◌∙◌, ◌≡◌}
 use Rattle.sdd_laws.proofs.CopyEntries.{entries_ascend}
 use Rattle.sdd_laws.proofs.LookUps.{entry_at, at_entry, same_members}
 use Rattle.sdd_laws.proofs.Members.{Contains-map, Contains-from_map, Contains-filter, Contains-from_filter}
 use Rattle.sdd_laws.proofs.Origins.{origin, from_origin, all_placed, all_leave_one_row}
 use Rattle.sdd_laws.proofs.Origins.Origin.{initial, made}
 use Rattle.sdd_laws.proofs.Values.{one_value, same_value, fragment_is, contents_value, value_contents}
-use Rattle.sdd_laws.specs.Ledger.{Ledger, writers}
-use Rattle.sdd_laws.specs.Replayed.{HasValues, ChangesOf}
 
 -- the relation of an item that has a row is that of its fragment
 rel_is : (cat : Catalogue) (xs : Dated) (item : Item) (row : Row) → ArePlaced cat xs → IsValue cat xs item (Some row)

@@ -1,13 +1,5 @@
 -- Entries that are put together one after the other, where none displaces another.
-use Rattle.std.proofs.Common.{◌≡◌, ◌⊎◌, inl, inr, List, [], ◌∷◌, sym, subst, Ordering}
-use Rattle.std.specs.Cmp.{IsTotalOrder}
-use Rattle.std.specs.List.{Contains, fold}
-use Rattle.std.specs.List.Sorted.{IsStrictlySortedBy}
-use Rattle.std.specs.Map.{keys_of}
-use Rattle.std.specs.BTreeMap.{insert_entry}
-use Rattle.std.proofs.lemmas.Map.Lookups.{CmpEqualImpliesEq}
-use Rattle.sdd_lang.proofs.base.Membership.{Contains-nil, Contains-here, Contains-later, Contains-cases}
-use Rattle.sdd_lang.proofs.SortedEntries.{inserted_sorted}
+use Rattle.sdd_laws.proofs.All.{CmpEqualImpliesEq, Contains, Contains-cases, Contains-here, Contains-later, Contains-nil, IsStrictlySortedBy, IsTotalOrder, List, Ordering, [], fold, inl, inr, insert_entry, inserted_sorted, keys_of, subst, sym, ◌∷◌, ◌≡◌, ◌⊎◌}
 use Rattle.sdd_laws.proofs.LookUps.{put_there, put_or_there, still_there}
 
 -- no entry of the list displaces this one
@@ -49,8 +41,7 @@ module _ {K X : Type 0} (R : K → K → Ordering) (total : IsTotalOrder R) (exa
         | inl same ↦
             gathered_stays (with_entry start x) es e (still_sorted start x s) (later_alone x es e alone)
             (subst (Contains (with_entry start x)) (sym same) (put_there R total exact start x.0 x.1))
-        | inr later ↦
-            gathered_there (with_entry start x) es e (still_sorted start x s) (later_alone x es e alone) later
+        | inr later ↦ gathered_there (with_entry start x) es e (still_sorted start x s) (later_alone x es e alone) later
       ]
 
   pub gathered_sorted : (start es : List (K × X)) → IsStrictlySortedBy R (keys_of start)

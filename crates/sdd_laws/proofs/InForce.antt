@@ -1,17 +1,13 @@
 -- The catalogue in force is that of an era.
-use Rattle.std.proofs.Common.{ℕ, ◌-◌, ◌<◌, ◌≤◌, nat_le, true, false, cond, [], ◌∷◌, length, get_or, arith}
-use Rattle.std.specs.Prelude.{filter}
-use Rattle.std.proofs.lemmas.Option.{slice_get-get_or, slice_get_within}
-use Rattle.sdd_lang.specs.All.{Catalogue}
-use Rattle.sdd_eras.specs.EraOf.{IsEraOf}
-use Rattle.sdd_laws.specs.Eras.{Eras, AreEras, begun, in_force}
+use Rattle.sdd_laws.proofs.All.{AreEras, Catalogue, Eras, IsEraOf, [], arith, begun, cond, false, filter, in_force, length, nat_le, slice_get-get_or, slice_get_within, slice_index_or as get_or, true, ℕ, ◌-◌, ◌<◌, ◌∷◌, ◌≤◌}
 
 -- no more eras have begun than there are
 begun_few : (eras : Eras) (event : ℕ) → begun eras event ≤ length eras
 begun_few [] event = omega arith
 begun_few (e ∷ eras) event =
     let rest = begun_few eras event in
-    elim (nat_le e.0 event) as (λ b. length (cond b (e ∷ filter (λ d. nat_le d.0 event) eras) (filter (λ d. nat_le d.0 event) eras)) ≤ length (e ∷ eras)) [
+    elim (nat_le e.0 event) as
+    (λ b. length (cond b (e ∷ filter (λ d. nat_le d.0 event) eras) (filter (λ d. nat_le d.0 event) eras)) ≤ length (e ∷ eras)) [
       | true ↦ omega arith
       | false ↦ omega arith
     ]

@@ -1,21 +1,8 @@
 -- What a copy holds is what the latest changes of its fragment leave.
-use Rattle.std.proofs.Common.{ℕ, ◌≡◌, ◌≤◌, ℤ, false, nat_lt, List, [], ◌∷◌, Option, Some, None, refl, ap, sym, ◌∙◌, subst, arith}
-use Rattle.std.specs.declared.cmp.Ordering.TheVariants.{Less}
-use Rattle.std.specs.List.{Contains, AllByRecursion, cons_option}
-use Rattle.std.specs.List.Sorted.{IsStrictlySortedBy}
-use Rattle.std.specs.Ordering.{int_cmp}
-use Rattle.std.specs.Map.{keys_of, lookup}
-use Rattle.std.specs.BTreeMap.{is_at}
-use Rattle.std.proofs.lemmas.Bool.Decides.{nat_tests}
-use Rattle.std.proofs.lemmas.Cmp.{int_cmp_total}
-use Rattle.std.proofs.lemmas.Map.Lookups.{exact_signed}
-use Rattle.sdd_lang.specs.All.{Change, Row}
-use Rattle.sdd_copy.specs.Contents.{Dated, latest, of_fragment, contents}
-use Rattle.sdd_copy.specs.Items.{Items, row_at, entries_in, items_of}
-use Rattle.sdd_copy.proofs.Contents.{Above, Ascends, Keeps, shown, items_keep, items_tell}
-use Rattle.sdd_copy.proofs.Order.{IsLatest, Answers, latest_answers}
-use Rattle.sdd_laws.proofs.LookUps.{sorted_nil, sorted_cons, entry_at, at_entry}
+use Rattle.sdd_laws.proofs.All.{Above, AllByRecursion, Answers, Ascends, Change, Contains, Dated, IsLatest, IsStrictlySortedBy, Items, Keeps, Less, List, None, Option, Row, Some, [], ap, arith, cons_option, contents, entries_in, exact_signed, false, int_cmp, int_cmp_total, is_at, items_keep, items_tell, keys_of, latest, latest_answers, lookup, nat_lt, nat_tests, of_fragment, refl, shown, sorted_nil, subst, sym, ℕ, ℤ, ◌∙◌, ◌∷◌, ◌≡◌, ◌≤◌}
+use Rattle.sdd_laws.proofs.LookUps.{sorted_cons, entry_at, at_entry}
 use Rattle.sdd_laws.proofs.Members.{Contains-filter_map, Contains-from_filter_map}
+use Rattle.sdd_copy.specs.Items.{row_at, items_of}
 
 -- the order of the rows that are kept
 
@@ -56,8 +43,7 @@ row_of e k row h = by e.1.1 h
   where
     by : (o : Option Row) → row_at e.0 o ≡ Some (k, row) → (e.0 ≡ k) × (o ≡ Some row)
     by None p = cc
-    by (Some r) p =
-        let same : ◌≡◌ {A = ℤ × Row} (e.0, r) (k, row) = cc in (ap (λ z. z.0) same, ap (λ z. Some z.1) same)
+    by (Some r) p = let same : ◌≡◌ {A = ℤ × Row} (e.0, r) (k, row) = cc in (ap (λ z. z.0) same, ap (λ z. Some z.1) same)
 
 shown_row : (o : Option (ℕ × Change)) (item : ℕ × Option Row) (row : Row) → shown o ≡ Some item → item.1 ≡ Some row
     → (x : ℕ × Change) × (o ≡ Some x) × (x.1.row ≡ Some row)
@@ -84,8 +70,7 @@ contents_left f xs k row h =
 
 -- and the latest change of a key leaves its row there, where changes of one date leave one row
 pub left_there : (f : ℕ) (xs : Dated) (k : ℤ) (row : Row) (x : ℕ × Change) → Contains (of_fragment f xs) x
-    → x.1.key ≡ k → x.1.row ≡ Some row
-    → ((y : ℕ × Change) → Contains (of_fragment f xs) y → y.1.key ≡ k → y.0 ≤ x.0)
+    → x.1.key ≡ k → x.1.row ≡ Some row → ((y : ℕ × Change) → Contains (of_fragment f xs) y → y.1.key ≡ k → y.0 ≤ x.0)
     → ((y : ℕ × Change) → Contains (of_fragment f xs) y → y.1.key ≡ k → y.0 ≡ x.0 → y.1.row ≡ x.1.row) → Contains
     (contents f xs) (k, row)
 left_there f xs k row x here own is newest one =

@@ -1,5 +1,6 @@
 pub mod Acyclic
 pub mod AgreeingCopies
+mod All
 pub mod Applied
 pub mod Changes
 pub mod Copied

@@ -1,19 +1,7 @@
 -- What stands at a key of entries, once one more is put in or one is taken out; and which entries there are.
-use Rattle.std.proofs.Common.{◌≡◌, ◌⊎◌, inl, inr, Bool, true, false, cond, List, [], ◌∷◌, Option, Some, None, refl, ap, sym, ◌∙◌, subst, Ordering}
-use Rattle.std.specs.declared.cmp.Ordering.TheVariants.{Less, Equal, Greater}
-use Rattle.std.specs.Ordering.{is_eq, match_ordering}
-use Rattle.std.specs.Cmp.{IsTotalOrder}
-use Rattle.std.specs.List.{AllByRecursion, Contains}
+use Rattle.sdd_laws.proofs.All.{AllByRecursion, Bool, CmpEqualImpliesEq, Contains, Contains-from_lookup, Equal, Greater, IsDistinct-from_sorted, IsTotalOrder, Less, List, None, Option, Ordering, Some, [], ap, cond, eq_by_cmp_equiv, false, inl, inr, insert_entry, inserted_sorted, is_at, is_eq, keys_of, lookup, lookup-from_Contains, lookup-remove_entry, match_ordering, refl, remove_entry, same_entries, sorted_nil, subst, sym, tells_apart, tied_itself, true, ◌∙◌, ◌∷◌, ◌≡◌, ◌⊎◌}
 use Rattle.std.specs.List.Sorted.{IsStrictlySortedBy}
-use Rattle.std.specs.Map.{keys_of, lookup, remove_entry}
-use Rattle.std.specs.BTreeMap.{insert_entry, is_at}
-use Rattle.std.proofs.lemmas.Cmp.{tied_itself, eq_by_cmp_equiv}
-use Rattle.std.proofs.lemmas.Map.{lookup-remove_entry}
-use Rattle.std.proofs.lemmas.Map.Keys.{IsDistinct-from_sorted}
-use Rattle.std.proofs.lemmas.Map.Lookups.{CmpEqualImpliesEq}
-use Rattle.sdd_lang.proofs.SortedEntries.{inserted_sorted, same_entries}
 use Rattle.sdd_laws.proofs.Members.{is_in, contained}
-use Rattle.std.proofs.lemmas.Map.Views.{Contains-from_lookup, lookup-from_Contains, tells_apart}
 
 cond_twice : {X : Type 0} (b : Bool) (x y z : X) → cond b x z ≡ cond b x (cond b y z)
 cond_twice true x y z = refl
@@ -54,10 +42,6 @@ module _ {K : Type 0} (R : K → K → Ordering) (total : IsTotalOrder R) (exact
 
 -- keys in order
 
-pub sorted_nil : {K : Type 0} (R : K → K → Ordering) → IsStrictlySortedBy R []
-unfolding IsStrictlySortedBy
-sorted_nil R = tt
-
 pub sorted_cons : {K : Type 0} (R : K → K → Ordering) (k : K) (ks : List K) → AllByRecursion (λ y. R k y ≡ Less) ks
     → IsStrictlySortedBy R ks → IsStrictlySortedBy R (k ∷ ks)
 unfolding IsStrictlySortedBy
@@ -74,7 +58,8 @@ module _ {K X : Type 0} (R : K → K → Ordering) (total : IsTotalOrder R) (exa
   put_in (e ∷ es) k v q =
       elim (R k e.0) as (λ o.
       R k e.0 ≡ o
-      → at q (match_ordering o ((k, v) ∷ e ∷ es) ((e.0, v) ∷ es) (e ∷ insert_entry R es k v)) ≡ cond (is_at (R q) k) (Some v) (cond (is_at (R q) e.0) (Some e.1) (at q es))) [
+      → at q (match_ordering o ((k, v) ∷ e ∷ es) ((e.0, v) ∷ es) (e ∷ insert_entry R es k v)) ≡ cond (is_at (R q) k) (Some v)
+      (cond (is_at (R q) e.0) (Some e.1) (at q es))) [
         | Less ↦ λ p. refl
         | Equal ↦
             λ p.

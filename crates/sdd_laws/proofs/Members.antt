@@ -1,9 +1,5 @@
 -- Members of lists that are made of others.
-use Rattle.std.proofs.Common.{◌≡◌, inl, inr, Bool, true, false, cond, List, [], ◌∷◌, ◌++◌, map, Option, Some, None, refl, ap, sym, ◌∙◌, subst}
-use Rattle.std.specs.List.{Contains, AllByRecursion, filter, filter_map, flat_map, cons_option}
-use Rattle.std.proofs.lemmas.List.Elements.{Contains-append_left, Contains-append_right, Contains-append_cases}
-use Rattle.sdd_lang.proofs.base.Membership.{Contains-nil, Contains-here, Contains-later, Contains-cases}
-use Rattle.sdd_lang.proofs.catalog.Members.{IsIn, at_in}
+use Rattle.sdd_laws.proofs.All.{AllByRecursion, Bool, Contains, Contains-append_cases, Contains-append_left, Contains-append_right, Contains-cases, Contains-here, Contains-later, Contains-nil, IsIn, List, None, Option, Some, [], ap, at_in, cond, cons_option, false, filter, filter_map, flat_map, inl, inr, map, refl, subst, sym, true, ◌++◌, ◌∙◌, ◌∷◌, ◌≡◌}
 
 -- between the two forms of membership
 
@@ -64,16 +60,14 @@ module _ {A : Type 0} (p : A → Bool) where
   Contains-from_filter (y ∷ xs) x h =
       elim (p y) as (λ b. p y ≡ b → Contains (cond b (y ∷ filter p xs) (filter p xs)) x → Contains (y ∷ xs) x × (p x ≡ true)) [
         | true ↦ λ e k. elim (Contains-cases y (filter p xs) x k) as (λ s. Contains (y ∷ xs) x × (p x ≡ true)) [
-          | inl same ↦
-              (subst (Contains (y ∷ xs)) (sym same) (Contains-here y xs), subst (λ z. p z ≡ true) (sym same) e)
+          | inl same ↦ (subst (Contains (y ∷ xs)) (sym same) (Contains-here y xs), subst (λ z. p z ≡ true) (sym same) e)
           | inr rest ↦ let r = Contains-from_filter xs x rest in (Contains-later y xs x r.0, r.1)
         ]
         | false ↦ λ e k. let r = Contains-from_filter xs x k in (Contains-later y xs x r.0, r.1)
       ] refl h
 
 module _ {A B : Type 0} (g : A → List B) where
-  pub Contains-flat_map : (xs : List A) (x : A) (y : B) → Contains xs x → Contains (g x) y
-      → Contains (flat_map g xs) y
+  pub Contains-flat_map : (xs : List A) (x : A) (y : B) → Contains xs x → Contains (g x) y → Contains (flat_map g xs) y
   Contains-flat_map [] x y h k = absurd (Contains-nil x h)
   Contains-flat_map (z ∷ xs) x y h k =
       elim (Contains-cases z xs x h) as (λ s. Contains (g z ++ flat_map g xs) y) [
@@ -91,8 +85,7 @@ module _ {A B : Type 0} (g : A → List B) where
       ]
 
 module _ {A B : Type 0} (g : A → Option B) where
-  pub Contains-filter_map : (xs : List A) (x : A) (y : B) → Contains xs x → g x ≡ Some y
-      → Contains (filter_map g xs) y
+  pub Contains-filter_map : (xs : List A) (x : A) (y : B) → Contains xs x → g x ≡ Some y → Contains (filter_map g xs) y
   Contains-filter_map [] x y h is = absurd (Contains-nil x h)
   Contains-filter_map (z ∷ xs) x y h is =
       elim (Contains-cases z xs x h) as (λ s. Contains (cons_option (g z) (filter_map g xs)) y) [

@@ -1,19 +1,5 @@
 -- A Start whose number says how many Starts of its transaction stand before it is the only one with that number.
-use Rattle.std.proofs.Common.{ℕ, zero, suc, ◌<◌, ◌≡◌, Bool, true, false, cond, [], ◌∷◌, length, take, refl, sym, ap, ◌∙◌, subst, inl, inr, arith, eq-eqb}
-use Rattle.std.specs.Prelude.{filter}
-use Rattle.std.proofs.lemmas.Bool.{cases_lt, cases_eq}
-use Rattle.std.proofs.lemmas.Option.{same_Some}
-use Rattle.sdd_lang.specs.All.{class_no, time_at, txn_no}
-use Rattle.sdd_history.specs.declared.record.Rec.{Rec}
-use Rattle.sdd_history.specs.declared.record.Rec.TheVariants.{Start}
-use Rattle.sdd_history.specs.Records.{History}
-use Rattle.sdd_order.specs.Attempts.{Attempt, IsAttempt}
-use Rattle.sdd_order.specs.Places.{Stands, record_at}
-use Rattle.sdd_laws.specs.Starts.{is_start_of, starts_before}
-
--- the record at a place, in the rest of a history
-stands_later : (e : ℕ × Rec) (h : History) (k : ℕ) → record_at (e ∷ h) (suc k) ≡ record_at h k
-stands_later e h k = refl
+use Rattle.sdd_laws.proofs.All.{Attempt, Bool, History, IsAttempt, Rec, Stands, Start, [], ap, arith, cases_eq, cases_lt, class_no, cond, eq-eqb, false, filter, inl, inr, is_start_of, length, refl, same_Some, starts_before, subst, suc, sym, take, time_at, true, txn_no, zero, ℕ, ◌<◌, ◌∙◌, ◌∷◌, ◌≡◌}
 
 -- one that passes makes the number of those before a later place greater
 counts_rise : (test : Rec → Bool) (p q : ℕ) (h : History) (r : Rec) → p < q → Stands h p r → test r ≡ true

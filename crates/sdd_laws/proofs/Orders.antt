@@ -1,36 +1,11 @@
 -- A serial order of a history agrees with what its transactions did.
-use Rattle.std.proofs.Common.{ℕ, ◌==◌, ◌≡◌, ◌≢◌, nat_lt, Bool, true, false, not, ◌&&◌, ◌||◌, List, [], ◌∷◌, sym, ap, ◌∙◌, subst, inl, inr, arith}
-use Rattle.std.specs.List.{Contains, list_any}
-use Rattle.std.proofs.lemmas.Bool.{cases_Bool, false≢true, eqb-true}
-use Rattle.std.proofs.lemmas.Bool.Decides.{nat_tests}
-use Rattle.sdd_lang.proofs.base.Membership.{Contains-nil, Contains-here, Contains-later, Contains-cases}
-use Rattle.sdd_lang.specs.All.{Catalogue, Change, Fits, IsSound, PutsHeld, RelNo, Row, TxnNo, fragments_in, txn_no}
-use Rattle.sdd_history.specs.Records.{History}
-use Rattle.sdd_lang.specs.declared.transaction.Txn.{Txn}
-use Rattle.std.specs.List.{All}
-use Rattle.sdd_laws.specs.Ledger.{Reads}
-use Rattle.sdd_laws.specs.Order as agreeing
-use Rattle.sdd_laws.specs.Order.{MayStandFirst, Meets, may_stand_first}
-use Rattle.sdd_laws.specs.Order.Meets.{both_write, writes_read, reads_write}
-use Rattle.sdd_order.specs.Attempts.{Committed, IsCommitted, changes, committed}
-use Rattle.sdd_order.specs.Orders.{IsAlong, IsSerial}
-use Rattle.sdd_order.specs.Precedence.{module_of, was_seen, is_earlier, is_overwritten, misses, is_read_by, precedes}
-use Rattle.sdd_order.proofs.Before.{or_left, or_right}
-use Rattle.sdd_order.proofs.Found.{from_committed, in_committed}
-use Rattle.sdd_order.proofs.Members.{member_passes, passes_member}
-use Rattle.sdd_order.proofs.Places.{same_start}
-use Rattle.sdd_laws.specs.Answers.{KeepsAnswers}
-use Rattle.sdd_laws.specs.Applies.{KeepsApplies}
-use Rattle.sdd_laws.specs.Eras.{Eras, AreEras}
-use Rattle.sdd_laws.specs.Starts.{KeepsStarts}
+use Rattle.sdd_laws.proofs.All.{All, AreEras, Catalogue, Change, Committed, Contains, Contains-cases, Contains-here, Contains-later, Contains-nil, Eras, Fits, History, IsCommitted, IsSerial, IsSound, KeepsAnswers, KeepsApplies, KeepsStarts, List, MayStandFirst, PutsHeld, Reads, RelNo, Row, Txn, TxnNo, [], and_of, ap, arith, both_write, cases_Bool, changes, committed, eqb-true, false, false≢true, fragments_in, from_committed, in_committed, inl, inr, is_earlier, is_overwritten, is_read_by, list_any, member_passes, misses, module_of, nat_lt, nat_tests, not, or_left, or_right, passes_member, precedes, reads_write, same_start, subst, sym, true, txn_no, was_seen, writes_read, ℕ, ◌&&◌, ◌==◌, ◌||◌, ◌∙◌, ◌∷◌, ◌≡◌, ◌≢◌}
 use Rattle.sdd_laws.proofs.NumberedStarts.{one_start}
 use Rattle.sdd_laws.proofs.Deeds.{same_txn}
 use Rattle.sdd_laws.proofs.Precedes.{changes_member}
 use Rattle.sdd_laws.proofs.Recorded.{ledger, reads_by_start}
-
-and_of : (a b : Bool) → a ≡ true → b ≡ true → (a && b) ≡ true
-and_of true b e f = f
-and_of false b e f = cc
+use Rattle.sdd_order.specs.Orders.{IsAlong}
+use Rattle.sdd_laws.specs.Order as agreeing
 
 -- two different ones, of which the second doesn't precede the first
 

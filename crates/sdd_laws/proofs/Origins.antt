@@ -1,21 +1,11 @@
 -- Where the dated changes of copies come from; and so that each names its item's fragment, and those of one item with
 -- one date leave one row.
-use Rattle.std.proofs.Common.{ℕ, ◌≡◌, inl, inr, List, map, Some, ap, sym, ◌∙◌, subst, arith}
-use Rattle.std.specs.List.{Contains}
-use Rattle.std.proofs.lemmas.List.Elements.{Contains-append_left, Contains-append_right, Contains-append_cases, All-contains}
-use Rattle.sdd_lang.specs.All.{Catalogue, Change, Database, IsDatabase, IsEntry, IsSound, Item, Row, fragment_at, fragment_of, item_cmp, item_of}
-use Rattle.sdd_lang.proofs.EffectChanges.{entry_placed}
-use Rattle.sdd_lang.proofs.SortedEntries.{item_cmp_total, item_cmp_exact}
-use Rattle.sdd_copy.specs.Items.{dated}
-use Rattle.sdd_copy.specs.Sets.{DatesDiffer}
-use Rattle.sdd_laws.specs.Committed.{Writers, first_row, changes_of, all_dated}
-use Rattle.sdd_laws.specs.Values.{IsPlaced, ArePlaced, LeaveOneRow, AreWriters}
+use Rattle.sdd_laws.proofs.All.{All-contains, ArePlaced, AreWriters, Catalogue, Change, Contains, Contains-append_cases, Contains-append_left, Contains-append_right, Database, DatesDiffer, IsDatabase, IsEntry, IsPlaced, IsSound, Item, LeaveOneRow, List, Row, Some, Writers, all_dated, ap, arith, changes_of, dated, entry_placed, first_row, fragment_at, fragment_of, inl, inr, item_cmp, item_cmp_exact, item_cmp_total, item_of, map, subst, sym, ℕ, ◌∙◌, ◌≡◌}
 use Rattle.sdd_laws.proofs.LookUps.{one_entry}
 use Rattle.sdd_laws.proofs.Members.{Contains-map, Contains-from_map, Contains-flat_map, Contains-from_flat_map}
 
 item_is : (cat : Catalogue) (c d : Change) → c.frag.0 ≡ d.frag.0 → c.key ≡ d.key → item_of cat c ≡ item_of cat d
-item_is cat c d f k =
-    ap (λ n. ((fragment_at cat n).rel.0, c.key)) f ∙ ap (λ i. ((fragment_at cat d.frag.0).rel.0, i)) k
+item_is cat c d f k = ap (λ n. ((fragment_at cat n).rel.0, c.key)) f ∙ ap (λ i. ((fragment_at cat d.frag.0).rel.0, i)) k
 
 -- an entry of a database lies in a fragment of its relation
 pub entry_lies : (cat : Catalogue) → IsSound cat → (db : Database) → IsDatabase cat db → (e : Item × Row)

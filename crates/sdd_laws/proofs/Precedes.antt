@@ -1,23 +1,8 @@
 -- What precedes by the test precedes by the deeds, so that a cycle of the one is one of the other.
-use Rattle.std.proofs.Common.{ℕ, subst, ◌==◌, ◌≡◌, ◌≢◌, nat_lt, true, not, ◌&&◌, ◌||◌, List, [], ◌∷◌, refl, sym, ◌∙◌, inl, inr, eq-eqb}
-use Rattle.std.specs.Prelude.{Contains}
-use Rattle.std.specs.List.{list_any}
-use Rattle.std.proofs.lemmas.Bool.{and_parts, eqb-true, eqb-false, not-true, ltb-true, false≢true}
-use Rattle.sdd_lang.specs.All.{Catalogue, Change, dm_no, fragments_in, txn_no}
-use Rattle.sdd_history.specs.declared.record.Rec.{Rec}
-use Rattle.sdd_history.specs.declared.record.Rec.TheVariants.{Submit, Start, Arrive, Wait, Answer, Reject, Commit, Apply, Pass, Nothing}
-use Rattle.sdd_history.specs.Records.{History}
-use Rattle.sdd_order.specs.Attempts.{Attempt, Committed, IsCommitted, reads, changes}
-use Rattle.sdd_order.specs.Paths.{IsPath, IsOrderly}
-use Rattle.sdd_order.specs.Places.{Stands}
-use Rattle.sdd_order.specs.Precedence.{module_of, is_answer, is_apply, was_seen, is_earlier, is_overwritten, misses, is_read_by, precedes, Precedes, HasNoCycle}
-use Rattle.sdd_acyclic.specs.Deeds.{Txn, IsSeen, system}
-use Rattle.sdd_acyclic.specs.System as core
-use Rattle.sdd_acyclic.specs.System.Precedes.{by_class, by_writes, by_unseen, by_seen}
-use Rattle.sdd_order.proofs.Members.{member_passes, passes_member}
-use Rattle.sdd_laws.specs.Deeds.{IsSubmitted, IsApplied}
-use Rattle.sdd_order.proofs.Before.{or_cases, in_turn, comes_from, apply_passes, answer_passes, is_answered}
+use Rattle.sdd_laws.proofs.All.{Answer, Apply, Arrive, Attempt, Catalogue, Change, Commit, Committed, Contains, HasNoCycle, History, IsApplied, IsCommitted, IsOrderly, IsPath, IsSeen, IsSubmitted, List, Nothing, Pass, Precedes, Rec, Reject, Stands, Start, Submit, Wait, [], and_parts, answer_passes, apply_passes, by_class, by_seen, by_unseen, by_writes, changes, comes_from, dm_no, eq-eqb, eqb-false, eqb-true, false≢true, fragments_in, in_turn, inl, inr, is_answer, is_answered, is_apply, is_earlier, is_overwritten, is_read_by, list_any, ltb-true, member_passes, misses, module_of, nat_lt, not, not-true, or_cases, passes_member, precedes, reads, refl, subst, sym, system, true, txn_no, was_seen, ℕ, ◌&&◌, ◌==◌, ◌||◌, ◌∙◌, ◌∷◌, ◌≡◌, ◌≢◌}
 use Rattle.sdd_laws.proofs.Deeds.{Placed, deeds}
+use Rattle.sdd_acyclic.specs.Deeds.{Txn}
+use Rattle.sdd_acyclic.specs.System as core
 
 pub is_applied : (h : History) (n d k : ℕ) (r : Rec) → Stands h k r → is_apply n d r ≡ true → IsApplied h n d k
 is_applied h n d k (Apply txn class dm ts) s t =

@@ -1,24 +1,7 @@
 -- Where attempts read: at modules that have copies of what they read.
-use Rattle.std.proofs.Common.{ℕ, ◌≤◌, ◌≡◌, true, List, Option, Some, None, refl, sym, ap, ◌∙◌, subst, inl, inr, arith}
-use Rattle.std.specs.Prelude.{is_some, unwrap_or}
-use Rattle.std.proofs.lemmas.Bool.{cases_lt}
-use Rattle.std.proofs.lemmas.List.Elements.{recursion_from_All}
-use Rattle.sdd_lang.specs.All.{Catalogue, IsSound, contains, fragments_in, has_copy, read_set, reads_at, uses_of}
-use Rattle.sdd_lang.proofs.catalog.Sound.{served_read}
-use Rattle.sdd_history.specs.Records.{History}
-use Rattle.sdd_lang.specs.declared.transaction.Txn.{Txn}
-use Rattle.sdd_lang.proofs.Sets.{IsThere, read_set_there}
-use Rattle.sdd_lang.proofs.ReadSetDecides.{ascending_back}
-use Rattle.sdd_order.specs.Attempts.{Attempt, IsAttempt, reads}
-use Rattle.sdd_order.specs.Numbers.{IsModule, IsFragment, IsClass}
-use Rattle.sdd_order.specs.Places.{event_at}
-use Rattle.sdd_order.specs.Precedence.{module_of}
-use Rattle.sdd_laws.specs.Eras.{Eras, AreEras, in_force}
-use Rattle.sdd_laws.specs.Starts.{IsOfSubmit, KeepsStarts}
+use Rattle.sdd_laws.proofs.All.{AreEras, Attempt, Catalogue, Eras, History, IsAttempt, IsClass, IsCovered, IsFragment, IsModule, IsOfSubmit, IsSound, IsThere, KeepsStarts, List, None, Option, Some, Txn, ap, arith, ascending_back, at_member, cases_lt, contains, covered, event_at, fragments_in, has_copy, in_force, inl, inr, is_some, module_of, read_in_era, read_set, read_set_there, reads, reads_at, recursion_from_All, refl, served_read, subst, sym, true, unwrap_or, uses_in_era, uses_of, ℕ, ◌∙◌, ◌≡◌, ◌≤◌}
 use Rattle.sdd_laws.proofs.Copied.{some_copy}
-use Rattle.sdd_eras.proofs.EraSets.{uses_in_era, IsCovered, covered, read_in_era}
 use Rattle.sdd_laws.proofs.InForce.{force_is}
-use Rattle.sdd_eras.proofs.Lists.{at_member}
 
 -- a fragment is read at a module that has a copy of it
 pub record IsReadAt (cat : Catalogue) (class f : ℕ) : Type 0 where

@@ -1,42 +1,14 @@
 -- What the laws say of the committed transactions' texts, results and snapshots, so far as replay needs it.
-use Rattle.std.proofs.Common.{ℕ, suc, ◌+◌, ◌-◌, ◌<◌, ◌≡◌, Bool, true, false, not, ◌&&◌, ◌||◌, cond, List, [], ◌∷◌, ◌++◌, take, refl, sym, ap, ◌∙◌, subst, inl, inr, arith}
-use Rattle.std.specs.Prelude.{filter, unwrap_or, Contains}
-use Rattle.std.specs.List.{All, list_any, flat_map, position_or_len}
-use Rattle.std.proofs.lemmas.Bool.{cases_Bool}
-use Rattle.std.proofs.lemmas.List.Elements.{All-contains, All-nil}
-use Rattle.sdd_lang.specs.All.{Catalogue, Fits, IsDatabase, IsSound, Item, PutsHeld, RelNo, Row, ascending, contains, database_of, dm_no, effect, fragments_in, read_set, tm_no, txn_no}
-use Rattle.sdd_lang.proofs.base.Membership.{Contains-here, Contains-later}
+use Rattle.sdd_laws.proofs.All.{All, All-ascending, All-contains, All-nil, Answer, AreEras, ArePieces, AreRecorded, Attempt, Bool, Catalogue, Committed, Contains, Contains-here, Contains-later, Eras, Fits, History, IsCommitted, IsDatabase, IsOfSubmit, IsSound, Item, KeepsAnswers, KeepsApplies, KeepsStarts, Ledger, List, PutsHeld, Reads, Rec, RelNo, Row, Stands, Txn as Text, [], all_at, answer_at, answer_passes, answer_place, any_from, ap, arith, ascending, base_of, by_use, cases_Bool, comes_before, committed, cond, contains, contents, database_of, dm_no, effect, facts, false, filter, first_rows, flat_map, fragments_in, from_committed, in_committed, inl, inr, is_answer, is_answered, is_applied, is_apply, items_of, list_any, module_of, not, or_cases, or_right, position_or_len, read_set, reads, refl, same_start, snapshot as snapshot_by, subst, suc, sym, take, tm_no, true, txn_at, txn_no, unwrap_or, was_seen, ℕ, ◌&&◌, ◌++◌, ◌+◌, ◌-◌, ◌<◌, ◌||◌, ◌∙◌, ◌∷◌, ◌≡◌}
 use Rattle.sdd_laws.proofs.Members.{Contains-flat_map, Contains-from_flat_map}
-use Rattle.sdd_copy.specs.Contents.{contents}
-use Rattle.sdd_history.specs.declared.record.Rec.{Rec}
-use Rattle.sdd_history.specs.declared.record.Rec.TheVariants.{Answer}
-use Rattle.sdd_history.specs.Records.{History}
-use Rattle.sdd_lang.specs.declared.transaction.Txn.{Txn as Text}
-use Rattle.sdd_lang.proofs.Sets.{All-ascending}
-use Rattle.sdd_protocol.proofs.Tables.{all_at}
-use Rattle.sdd_laws.specs.Ledger.{Ledger, Reads, snapshot as snapshot_by}
-use Rattle.sdd_laws.specs.Recorded.{ArePieces, AreRecorded}
 use Rattle.sdd_laws.proofs.Snapshots.{bases_are}
-use Rattle.sdd_order.specs.Attempts.{Attempt, Committed, IsCommitted, reads, committed}
-use Rattle.sdd_order.specs.Places.{Stands, comes_before}
-use Rattle.sdd_order.specs.Precedence.{module_of, is_answer, is_apply, was_seen}
-use Rattle.sdd_order.proofs.Before.{or_cases, or_right, any_from, answer_passes, is_answered}
-use Rattle.sdd_order.proofs.Found.{from_committed, in_committed}
-use Rattle.sdd_order.proofs.Places.{same_start}
-use Rattle.sdd_acyclic.specs.Deeds.{Txn}
-use Rattle.sdd_acyclic.proofs.Deeds.{facts, answer_at}
-use Rattle.sdd_laws.specs.Answers.{KeepsAnswers}
-use Rattle.sdd_laws.specs.Applies.{KeepsApplies}
-use Rattle.sdd_laws.specs.Deeds.{txn_at}
-use Rattle.sdd_laws.specs.Deeds.Asks.{by_use}
-use Rattle.sdd_laws.specs.Eras.{Eras, AreEras}
-use Rattle.sdd_laws.specs.Snapshots.{is_applied, first_rows, dated, answer_place, snapshot, items_of, base_of}
-use Rattle.sdd_laws.specs.Starts.{IsOfSubmit, KeepsStarts}
 use Rattle.sdd_laws.proofs.NumberedStarts.{one_start}
 use Rattle.sdd_laws.proofs.Deeds.{deeds, are_starts, are_applies, same_txn, apply_after}
 use Rattle.sdd_laws.proofs.Fitting.{each_here}
 use Rattle.sdd_laws.proofs.Precedes.{seen_is, at_place}
 use Rattle.sdd_laws.proofs.Reading.{reads_there}
+use Rattle.sdd_acyclic.specs.Deeds.{Txn}
+use Rattle.sdd_laws.specs.Snapshots.{dated, snapshot}
 
 -- what stands before the only record that passes a test
 
@@ -127,7 +99,7 @@ ledger cat txns h =
 abbrev pub pieces : Catalogue → List (RelNo × Row) → History → Committed → List (Item × Row)
 pieces cat rows h t = flat_map (λ f. items_of cat f (snapshot cat rows h t.start f)) (ascending (fragments_in t.start.uses))
 
-from_ascending : (xs : List ℕ) (n : ℕ) → Contains (ascending xs) n → contains xs n ≡ true
+pub from_ascending : (xs : List ℕ) (n : ℕ) → Contains (ascending xs) n → contains xs n ≡ true
 from_ascending xs n m =
     All-contains (λ k. contains xs k ≡ true) (ascending xs) n
     (All-ascending (λ k. contains xs k ≡ true) [] xs (All-nil (λ k. contains xs k ≡ true)) (each_here xs xs (λ k c. c))) m

@@ -1,23 +1,6 @@
 -- The serial run along a serial order gives the replies of the Commits, and leaves what the copies hold.
-use Rattle.std.proofs.Common.{ℕ, ◌≡◌, true, List, [], ◌∷◌, map, Some, refl, sym, ap, ◌∙◌, subst}
-use Rattle.std.specs.List.{All, AllZip, cons_option}
-use Rattle.sdd_lang.proofs.base.Membership.{Contains-here}
-use Rattle.sdd_lang.specs.All.{Catalogue, Fits, IsDatabase, IsSound, PutsHeld, RelNo, Row, TxnNo, database_of, rows_in_fragment, serial}
-use Rattle.sdd_history.specs.Records.{History}
-use Rattle.sdd_lang.specs.declared.transaction.Txn.{Txn}
-use Rattle.sdd_laws.specs.Ledger.{Ledger}
-use Rattle.sdd_laws.specs.Replayed.{IsReplayed}
+use Rattle.sdd_laws.proofs.All.{All, AllZip, AreAllApplied, AreEras, Catalogue, Committed, Contains-here, Eras, Fits, History, IsCommitted, IsDatabase, IsOfSubmit, IsReplayed, IsReplyOf, IsSerial, IsSound, KeepsAnswers, KeepsApplies, KeepsStarts, Ledger, List, PutsHeld, RelNo, Row, Some, Txn, TxnNo, [], ap, changes, committed, cons_option, copy_at, database_of, from_committed, is_applied, items_of, map, refl, rows_in_fragment, run, serial, subst, sym, texts_of, true, txn_at, ℕ, ◌∙◌, ◌∷◌, ◌≡◌}
 use Rattle.sdd_laws.proofs.Run.{replayed}
-use Rattle.sdd_order.specs.Attempts.{Committed, IsCommitted, changes, committed}
-use Rattle.sdd_order.specs.Orders.{IsSerial}
-use Rattle.sdd_order.proofs.Found.{from_committed}
-use Rattle.sdd_laws.specs.Answers.{KeepsAnswers}
-use Rattle.sdd_laws.specs.Applies.{KeepsApplies}
-use Rattle.sdd_laws.specs.Deeds.{txn_at}
-use Rattle.sdd_laws.specs.Eras.{Eras, AreEras}
-use Rattle.sdd_laws.specs.Replay.{texts_of, run, IsReplyOf, AreAllApplied}
-use Rattle.sdd_laws.specs.Snapshots.{is_applied, copy_at, items_of}
-use Rattle.sdd_laws.specs.Starts.{IsOfSubmit, KeepsStarts}
 use Rattle.sdd_laws.proofs.Applied.{before_applied}
 use Rattle.sdd_laws.proofs.Orders.{OfEach, rest_of, listed, agrees}
 use Rattle.sdd_laws.proofs.Precedes.{changes_member}

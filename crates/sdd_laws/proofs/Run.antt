@@ -1,25 +1,13 @@
 -- The serial run along an order: each transaction gives the result of its Commit, and what is left has the values.
-use Rattle.std.proofs.Common.{ℕ, ◌≡◌, ◌⊎◌, inl, inr, true, not, List, [], ◌∷◌, map, refl, ap, sym, ◌∙◌, subst}
-use Rattle.std.specs.List.{Contains, filter}
-use Rattle.std.proofs.lemmas.Bool.{false≢true}
-use Rattle.std.proofs.lemmas.List.Elements.{All-from_recursion}
-use Rattle.sdd_lang.proofs.base.Membership.{Contains-nil, Contains-here, Contains-later, Contains-cases}
-use Rattle.sdd_lang.specs.All.{Catalogue, Database, IsDatabase, IsSound, after_changes, after_reply, effect, read_set, rows_in_fragment, serial}
-use Rattle.sdd_lang.specs.declared.effect.Effect.{Effect}
-use Rattle.sdd_lang.proofs.ReadSetDecides.{read_set_decides}
-use Rattle.sdd_lang.proofs.StaysDatabase.{stays_database}
+use Rattle.sdd_laws.proofs.All.{All-from_recursion, AreRecorded, Catalogue, ChangesOf, Contains, Contains-cases, Contains-here, Contains-later, Contains-nil, Database, Effect, Gives, HasValues, IsAlong, IsDatabase, IsOrder, IsReplayed, IsSound, Ledger, List, MayStandFirst, ReadWrite, Reads, WriteRead, [], after_changes, after_reply, ap, effect, false≢true, filter, gathered, inl, inr, map, not, read_set, read_set_decides, reads_write, refl, rows_in_fragment, serial, stays_database, subst, sym, true, writers, writes_read, ℕ, ◌∙◌, ◌∷◌, ◌≡◌, ◌⊎◌}
 use Rattle.sdd_laws.proofs.Members.{all_have, Contains-filter, Contains-from_filter}
 use Rattle.sdd_laws.proofs.Origins.{origin, from_origin, more_origins}
 use Rattle.sdd_laws.proofs.Values.{same_value}
-use Rattle.sdd_laws.specs.declared.meeting.Meeting.TheVariants.{WriteRead, ReadWrite}
-use Rattle.sdd_laws.specs.Ledger.{Ledger, Reads, changes, writers, gathered}
-use Rattle.sdd_laws.specs.Order.{MayStandFirst, IsAlong, IsOrder}
-use Rattle.sdd_laws.specs.Order.Meets.{writes_read, reads_write}
-use Rattle.sdd_laws.specs.Recorded.{AreRecorded}
-use Rattle.sdd_laws.specs.Replayed.{Gives, HasValues, ChangesOf, IsReplayed, run}
 use Rattle.sdd_laws.proofs.Fragments.{rows_agree}
 use Rattle.sdd_laws.proofs.Snapshots.{bases_are, are_writers, snapshot_is}
 use Rattle.sdd_laws.proofs.Steps.{at_start, one_more}
+use Rattle.sdd_laws.specs.Ledger.{changes}
+use Rattle.sdd_laws.specs.Replayed.{run}
 
 -- the database that is left, with the changes that the Commits tell
 abbrev after_all : {T : Type 0} → Catalogue → Ledger T → Database → List T → Database

@@ -1,15 +1,7 @@
 -- A copy is told by which of the transactions that change its fragment are applied.
-use Rattle.std.proofs.Common.{ℕ, ◌≡◌, ◌==◌, inl, inr, ◌&&◌, Bool, true, false, cond, List, [], ◌∷◌, ◌++◌, map, refl, ap, sym, ◌∙◌}
-use Rattle.std.specs.List.{Contains, filter}
-use Rattle.std.proofs.lemmas.Bool.{cases_Bool}
-use Rattle.std.proofs.lemmas.Bool.Decides.{Decides-eqb}
-use Rattle.sdd_lang.proofs.base.Membership.{Contains-here, Contains-later}
-use Rattle.sdd_lang.specs.All.{Catalogue, Change, Database}
-use Rattle.sdd_copy.specs.Contents.{Dated, of_fragment, rows_left}
-use Rattle.sdd_copy.specs.Items.{dated}
-use Rattle.sdd_laws.specs.Committed.{Writers, first_row, changes_of, counts, taken, copy_of}
+use Rattle.sdd_laws.proofs.All.{Bool, Catalogue, Change, Contains, Contains-here, Contains-later, Database, Dated, Decides-eqb, List, Writers, [], ap, cases_Bool, changes_of, cond, copy_of, counts, dated, false, filter, first_row, inl, inr, map, of_fragment, refl, rows_left, sym, taken, true, ℕ, ◌&&◌, ◌++◌, ◌==◌, ◌∙◌, ◌∷◌, ◌≡◌}
 
-of_joined : (f : ℕ) (xs ys : Dated) → of_fragment f (xs ++ ys) ≡ of_fragment f xs ++ of_fragment f ys
+pub of_joined : (f : ℕ) (xs ys : Dated) → of_fragment f (xs ++ ys) ≡ of_fragment f xs ++ of_fragment f ys
 of_joined f [] ys = refl
 of_joined f (x ∷ xs) ys =
     elim (x.1.frag.0 == f) as (λ b.

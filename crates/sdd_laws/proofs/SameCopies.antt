@@ -1,13 +1,6 @@
 -- Copies at which the same transactions that change the fragment are applied are equal.
-use Rattle.std.proofs.Common.{ℕ, ◌≡◌, subst, true, List}
-use Rattle.sdd_lang.specs.All.{Catalogue, RelNo, Row, database_of}
-use Rattle.sdd_laws.specs.Committed.{Writers}
+use Rattle.sdd_laws.proofs.All.{AreAppliedAlike, Catalogue, Committed, History, List, RelNo, Row, Writers, changes, committed, copy_at, database_of, from_committed, is_applied, subst, true, ℕ, ◌≡◌}
 use Rattle.sdd_laws.proofs.SameContents.{same_copies}
-use Rattle.sdd_history.specs.Records.{History}
-use Rattle.sdd_order.specs.Attempts.{Committed, changes, committed}
-use Rattle.sdd_order.proofs.Found.{from_committed}
-use Rattle.sdd_laws.specs.Copied.{AreAppliedAlike}
-use Rattle.sdd_laws.specs.Snapshots.{is_applied, copy_at}
 use Rattle.sdd_laws.proofs.Applied.{applied_alike}
 use Rattle.sdd_laws.proofs.Precedes.{changes_member}
 

@@ -1,22 +1,11 @@
 -- The databases of the snapshots are databases, and have in each fragment that is read what its copy has.
-use Rattle.std.proofs.Common.{ℕ, zero, suc, ◌≡◌, ◌<◌, ℤ, true, List, [], ◌∷◌, Some, refl, ap, sym, ◌∙◌, subst, arith}
-use Rattle.std.specs.List.{Contains, fold, filter}
-use Rattle.std.proofs.lemmas.List.Elements.{All-contains}
-use Rattle.sdd_lang.proofs.base.Membership.{Contains-here, Contains-later}
-use Rattle.sdd_lang.specs.All.{Catalogue, Change, Database, HasRow, IsChange, IsDatabase, IsEntry, IsSound, Item, Row, fragment_at, fragment_of, item_of, rows_in_fragment}
-use Rattle.sdd_lang.specs.declared.effect.Effect.{Effect}
-use Rattle.sdd_lang.proofs.EffectChanges.{change_is, effect_placed, effect_once, entry_placed}
-use Rattle.sdd_lang.proofs.StaysDatabase.{no_database, with_row_stays}
-use Rattle.sdd_copy.specs.Contents.{Dated, contents}
-use Rattle.sdd_laws.specs.Committed.{all_dated, entries_of}
-use Rattle.sdd_laws.specs.Values.{IsPlaced, AreWriters}
+use Rattle.sdd_laws.proofs.All.{All-contains, AreRecorded, AreWriters, Catalogue, Change, Contains, Contains-here, Contains-later, Database, Dated, Effect, HasRow, IsChange, IsDatabase, IsEntry, IsPlaced, IsSound, Item, Ledger, List, Reads, Row, Some, [], all_dated, ap, arith, change_is, contents, effect_once, effect_placed, entries_of, entry_placed, filter, fold, fragment_at, fragment_of, gathered, item_of, no_database, refl, rows_in_fragment, snapshot, subst, suc, sym, true, with_item, with_row_stays, writers, zero, ℕ, ℤ, ◌<◌, ◌∙◌, ◌∷◌, ◌≡◌}
 use Rattle.sdd_laws.proofs.CopyEntries.{IsHeldBy, held_by, lies_there, entries_ascend}
 use Rattle.sdd_laws.proofs.Together.{has_copy}
 use Rattle.sdd_laws.proofs.Members.{is_in, Contains-from_filter}
 use Rattle.sdd_laws.proofs.Origins.{Origin, origin, entry_lies, all_placed}
 use Rattle.sdd_laws.proofs.Origins.Origin.{initial, made}
-use Rattle.sdd_laws.specs.Ledger.{Ledger, Reads, changes, writers, snapshot, with_item, gathered}
-use Rattle.sdd_laws.specs.Recorded.{AreRecorded}
+use Rattle.sdd_laws.specs.Ledger.{changes}
 
 -- entries that are put together
 

@@ -1,23 +1,11 @@
 -- The values of the items before the first transaction, and with one more.
-use Rattle.std.proofs.Common.{ℕ, ◌≡◌, ◌≤◌, ◌<◌, ◌⊎◌, inl, inr, true, nat_lt, List, [], ◌∷◌, Option, Some, None, refl, ap, sym, ◌∙◌, subst, arith}
-use Rattle.std.specs.List.{Contains}
-use Rattle.std.proofs.lemmas.Bool.Decides.{nat_tests}
-use Rattle.sdd_lang.proofs.base.Membership.{Contains-nil, Contains-here, Contains-later, Contains-cases}
-use Rattle.sdd_lang.specs.All.{Catalogue, Change, Database, IsDatabase, IsSound, Item, Row, after_changes, fragment_of, item_cmp, item_of, time_at}
-use Rattle.sdd_lang.proofs.SortedEntries.{item_cmp_total, item_cmp_exact}
-use Rattle.sdd_laws.specs.Committed.{first_row, all_dated}
-use Rattle.sdd_laws.specs.Values.{IsValue, AreWriters, row_at}
-use Rattle.sdd_laws.specs.Values.IsValue.{written, untouched}
+use Rattle.sdd_laws.proofs.All.{AreWriters, Catalogue, Change, Contains, Contains-cases, Contains-here, Contains-later, Contains-nil, Database, HasValues, IsDatabase, IsSound, IsValue, Item, Ledger, List, MayStandFirst, None, Option, Row, Some, Writes, [], after_changes, all_dated, ap, arith, both_write, first_row, fragment_of, inl, inr, item_cmp, item_cmp_exact, item_cmp_total, item_of, nat_lt, nat_tests, refl, row_at, subst, sym, time_at, true, untouched, writers, written, ℕ, ◌<◌, ◌∙◌, ◌∷◌, ◌≡◌, ◌≤◌, ◌⊎◌}
 use Rattle.sdd_laws.proofs.LookUps.{entry_at, at_entry}
 use Rattle.sdd_laws.proofs.Origins.{Origin, origin, from_origin, first_item, more_origins}
 use Rattle.sdd_laws.proofs.Origins.Origin.{initial, made}
 use Rattle.sdd_laws.proofs.Values.{same_value}
-use Rattle.sdd_laws.specs.Ledger.{Ledger, changes, writers}
-use Rattle.sdd_laws.specs.declared.meeting.Meeting.TheVariants.{Writes}
-use Rattle.sdd_laws.specs.Order.{MayStandFirst}
-use Rattle.sdd_laws.specs.Order.Meets.{both_write}
-use Rattle.sdd_laws.specs.Replayed.{HasValues}
 use Rattle.sdd_laws.proofs.Changes.{Untouched, some_change, untouched_at, changed_at}
+use Rattle.sdd_laws.specs.Ledger.{changes}
 
 -- two that change one item stand in the order of their timestamps
 pub written_in_order : {T : Type 0} (cat : Catalogue) (L : Ledger T) (x y : T) (c d : Change)
@@ -113,8 +101,7 @@ module _ {T : Type 0} (cat : Catalogue) (sound : IsSound cat) (first : Database)
         elim (split y h) [ inl old ↦ old | inr new ↦ absurd (un new.0 new.1 (ap (λ (z : ℕ × Change). item_of cat z.1) (sym new.2) ∙ o)) ]
 
     -- and the database has the values with it too
-    pub one_more : (db : Database) → HasValues cat first L done db
-        → IsDatabase cat (after_changes cat db (changes L x))
+    pub one_more : (db : Database) → HasValues cat first L done db → IsDatabase cat (after_changes cat db (changes L x))
         → HasValues cat first L (x ∷ done) (after_changes cat db (changes L x))
     one_more db has after = record { is = after; value = λ item. value item (some_change cat (changes L x) item) }
       where

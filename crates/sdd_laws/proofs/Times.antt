@@ -1,15 +1,5 @@
 -- The times of read conditions.
-use Rattle.std.proofs.Common.{ℕ, ◌≡◌, ◌==◌, true, false, not, cond, List, [], ◌∷◌, Option, Some, None, refl, sym, ap, ◌∙◌, ◌⊎◌, inl, inr}
-use Rattle.std.specs.Prelude.{is_some, unwrap_or, option_map, map, Contains}
-use Rattle.std.specs.Option.{option_or}
-use Rattle.sdd_lang.specs.All.{Catalogue, Cond, FragNo, Ts, ascending, frag_no, fragments_in}
-use Rattle.sdd_graph.specs.Graph.{classes_of, fragments_of}
-use Rattle.sdd_protocol.specs.Conditions.{is_asked, asked_by, cond_of, cond_for, condition_on, conditions, undeclared_conditions}
-use Rattle.sdd_protocol.specs.declared.entry.Entry.{Entry}
-use Rattle.sdd_protocol.specs.declared.protocol.Protocol.TheVariants.{P2, P3}
-use Rattle.sdd_order.specs.Attempts.{Attempt, p2_time}
-use Rattle.sdd_order.proofs.Members.{Contains-from_map, Contains-from_filter_map}
-use Rattle.sdd_laws.specs.Conditions.{conditions_of}
+use Rattle.sdd_laws.proofs.All.{Attempt, Catalogue, Cond, Contains, Contains-from_filter_map, Contains-from_map, Entry, FragNo, List, None, Option, P2, P3, Some, Ts, [], ap, ascending, asked_by, classes_of, cond, cond_for, cond_of, condition_on, conditions, conditions_of, false, frag_no, fragments_in, fragments_of, inl, inr, is_asked, is_some, map, not, option_map, option_or, p2_time, refl, sym, true, undeclared_conditions, unwrap_or, ℕ, ◌==◌, ◌∙◌, ◌∷◌, ◌≡◌, ◌⊎◌}
 
 -- the time of a condition for fragments
 time_of : (j t : ℕ) (frags : List FragNo) (c : Cond) → cond_for j t frags ≡ Some c → c.time.0 ≡ t
@@ -34,7 +24,8 @@ pub condition_time : (cat : Catalogue) (table : List Entry) (a : Attempt) (d : �
     → (c.time.0 ≡ a.ts) ⊎ ((t : Ts) × (a.p2 ≡ Some t) × (c.time.0 ≡ t.0))
 condition_time cat table a d c =
     let frags = map frag_no (ascending (fragments_in a.uses)) in
-    elim (a.class == 0) as (λ b. Contains (cond b (undeclared_conditions cat a.ts) (conditions cat table a.class d frags a.ts (p2_time a))) c → is_some a.p2 ≡ not b → (c.time.0 ≡ a.ts) ⊎ ((t : Ts) × (a.p2 ≡ Some t) × (c.time.0 ≡ t.0))) [
+    elim (a.class == 0) as
+    (λ b. Contains (cond b (undeclared_conditions cat a.ts) (conditions cat table a.class d frags a.ts (p2_time a))) c → is_some a.p2 ≡ not b → (c.time.0 ≡ a.ts) ⊎ ((t : Ts) × (a.p2 ≡ Some t) × (c.time.0 ≡ t.0))) [
       | true ↦ λ m e.
           let of = Contains-from_map (λ k. cond_of k a.ts (map frag_no (fragments_of cat))) (classes_of cat) c m in
           inl (ap (λ (z : Cond). z.time.0) of.2)

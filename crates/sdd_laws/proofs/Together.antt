@@ -1,12 +1,5 @@
 -- A database that is put together of copies of some fragments has in each of these fragments what its copy has.
-use Rattle.std.proofs.Common.{ℕ, ◌≡◌, ◌==◌, inl, inr, List, [], ap, sym, ◌∙◌, subst}
-use Rattle.std.specs.List.{Contains, fold}
-use Rattle.std.specs.List.Sorted.{IsStrictlySortedBy}
-use Rattle.std.specs.Map.{keys_of}
-use Rattle.std.proofs.lemmas.Bool.Decides.{Decides-eqb}
-use Rattle.sdd_lang.proofs.base.Membership.{Contains-nil}
-use Rattle.sdd_lang.specs.All.{Catalogue, Database, Item, Row, fragment_of, item_cmp, rows_in_fragment}
-use Rattle.sdd_lang.proofs.SortedEntries.{item_cmp_total, item_cmp_exact, sorted_nil, filtered_sorted}
+use Rattle.sdd_laws.proofs.All.{Catalogue, Contains, Contains-nil, Database, Decides-eqb, IsStrictlySortedBy, Item, List, Row, [], ap, filtered_sorted, fold, fragment_of, inl, inr, item_cmp, item_cmp_exact, item_cmp_total, keys_of, rows_in_fragment, sorted_nil, subst, sym, ℕ, ◌==◌, ◌∙◌, ◌≡◌}
 use Rattle.sdd_laws.proofs.Gathered.{with_entry, gathered_from, gathered_there, gathered_sorted}
 use Rattle.sdd_laws.proofs.LookUps.{one_entry, same_members}
 use Rattle.sdd_laws.proofs.Members.{Contains-filter, Contains-from_filter}

@@ -1,14 +1,9 @@
 -- The value of an item: there is one, only changes of the item count, and the copy of its fragment holds it.
-use Rattle.std.proofs.Common.{ℕ, ◌≡◌, ◌≤◌, ◌==◌, ℤ, false, nat_lt, Option, Some, None, refl, ap, sym, ◌∙◌, arith}
-use Rattle.std.specs.List.{Contains}
-use Rattle.std.proofs.lemmas.Bool.Decides.{Decides-eqb, nat_tests}
-use Rattle.sdd_lang.specs.All.{Catalogue, Change, Item, Row, fragment_at, fragment_of, item_of}
-use Rattle.sdd_copy.specs.Contents.{Dated, latest, of_fragment, contents}
-use Rattle.sdd_copy.proofs.Order as latest_of
-use Rattle.sdd_laws.specs.Values.{IsLatest, IsValue, ArePlaced, LeaveOneRow}
-use Rattle.sdd_laws.specs.Values.IsValue.{written, untouched}
+use Rattle.sdd_laws.proofs.All.{ArePlaced, Catalogue, Change, Contains, Dated, Decides-eqb, IsValue, Item, LeaveOneRow, None, Option, Row, Some, ap, arith, contents, false, fragment_at, fragment_of, item_of, latest, nat_lt, nat_tests, of_fragment, refl, sym, untouched, written, ℕ, ℤ, ◌==◌, ◌∙◌, ◌≡◌, ◌≤◌}
 use Rattle.sdd_laws.proofs.Latest.{contents_left, left_there}
 use Rattle.sdd_laws.proofs.Members.{Contains-filter, Contains-from_filter}
+use Rattle.sdd_laws.specs.Values.{IsLatest}
+use Rattle.sdd_copy.proofs.Order as latest_of
 
 pub one_value : (cat : Catalogue) (xs : Dated) (item : Item) (v w : Option Row) → LeaveOneRow cat xs
     → IsValue cat xs item v → IsValue cat xs item w → v ≡ w

@@ -1,10 +1,5 @@
 -- Two transactions that meet what the laws say of writers: the second puts another row with the key of the first's.
-use Rattle.std.proofs.Common.{ℕ, ◌≤◌, ◌≡◌, ◌*◌, inl, inr, List, [], ◌∷◌, refl, sym, ◌∙◌, subst, arith}
-use Rattle.std.specs.List.{Contains}
-use Rattle.sdd_lang.proofs.base.Membership.{Contains-nil, Contains-cases}
-use Rattle.sdd_lang.specs.All.{accounts}
-use Rattle.sdd_laws.specs.Committed.{puts}
-use Rattle.sdd_laws.specs.Values.{IsPlaced, AreWriters}
+use Rattle.sdd_laws.proofs.All.{AreWriters, Contains, Contains-cases, Contains-nil, IsPlaced, List, [], accounts, arith, inl, inr, puts, refl, subst, sym, ℕ, ◌*◌, ◌∙◌, ◌∷◌, ◌≡◌, ◌≤◌}
 
 only : {A : Type 0} (x y : A) → Contains (x ∷ []) y → y ≡ x
 only x y h = elim (Contains-cases x [] y h) [ inl e ↦ e | inr none ↦ absurd (Contains-nil y none) ]

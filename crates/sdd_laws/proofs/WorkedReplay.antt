@@ -1,19 +1,6 @@
 -- Two transactions that meet the theorem's conditions: one puts a row, and the other, which saw it, asks for all rows.
-use Rattle.std.proofs.Common.{ℕ, ◌<◌, ◌≤◌, ◌≡◌, inl, inr, pos, Bool, true, false, cond, not, ◌&&◌, List, [], ◌∷◌, Some, refl, sym, subst, arith, lit≤, lit<}
-use Rattle.std.specs.List.{Contains}
-use Rattle.std.proofs.lemmas.Bool.{false≢true}
-use Rattle.std.proofs.lemmas.List.Elements.{All-from_recursion}
-use Rattle.sdd_lang.proofs.base.Membership.{Contains-nil, Contains-here, Contains-cases}
-use Rattle.sdd_lang.specs.All.{FitsCondition, FitsRef, FitsStatement, IsHeld, IsRelation, Item, PutsHeld, Row, accounts, effect, frag_no, get_all, ref, rel, two, txn}
-use Rattle.sdd_lang.specs.declared.statement.Stmt.{Stmt}
-use Rattle.sdd_lang.specs.declared.statement.Stmt.TheVariants.{Put}
-use Rattle.sdd_lang.specs.declared.transaction.Txn.{Txn}
-use Rattle.sdd_laws.specs.declared.meeting.Meeting.{Meeting}
-use Rattle.sdd_laws.specs.declared.meeting.Meeting.TheVariants.{ReadWrite}
-use Rattle.sdd_laws.specs.Ledger.{Ledger, Reads, snapshot, gathered}
-use Rattle.sdd_laws.specs.Order.{MayStandFirst, may_stand_first, Meets, IsOrder}
-use Rattle.sdd_laws.specs.Order.Meets.{both_write, writes_read, reads_write}
-use Rattle.sdd_laws.specs.Recorded.{AreRecorded}
+use Rattle.sdd_laws.proofs.All.{All-from_recursion, AreRecorded, Bool, Contains, Contains-cases, Contains-here, Contains-nil, FitsCondition, FitsRef, FitsStatement, IsHeld, IsOrder, IsRelation, Item, Ledger, List, MayStandFirst, Meeting, Put, PutsHeld, ReadWrite, Reads, Row, Some, Stmt, Txn, [], accounts, arith, both_write, cond, effect, false, false≢true, frag_no, gathered, get_all, inl, inr, lit<, lit≤, may_stand_first, not, not_itself, pos, reads_write, ref, refl, rel, snapshot, subst, sym, true, two, txn, writes_read, ℕ, ◌&&◌, ◌<◌, ◌∷◌, ◌≡◌, ◌≤◌}
+use Rattle.sdd_laws.specs.Order.{Meets}
 
 abbrev put_five : Stmt
 put_five = Put (rel 1) (two (pos 5) (pos 10))
@@ -64,10 +51,6 @@ one_time true true e = refl
 one_time true false e = absurd (omega arith)
 one_time false true e = absurd (omega arith)
 one_time false false e = refl
-
-not_itself : (x : Bool) → (x && not x) ≡ false
-not_itself true = refl
-not_itself false = refl
 
 earlier : (x y : Bool) → (x && not y) ≡ true → cond y 1 0 < cond x 1 0
 earlier true true e = cc

@@ -1,14 +1,5 @@
 -- The fragments that a list of classes names, among the parts of the catalogue.
-use Rattle.std.proofs.Common.{◌≡◌, ℕ, suc, ◌+◌, ◌<◌, List, [], ◌∷◌, length, map, get_or, Bool, true, false, cond, Option, Some, refl, sym, ap, ◌∙◌, arith}
-use Rattle.std.specs.Prelude.{slice_index_or, option_map, find, pos, ◌==◌}
-use Rattle.std.specs.List.{range_with_len}
-use Rattle.std.specs.Str.{bytes_eq}
-use Rattle.std.proofs.lemmas.List.{get_or_default}
-use Rattle.std.proofs.lemmas.Slice.Eq.{bytes_eq-Decides}
-use Rattle.sdd_script.specs.All.{Catalogue, Fragment, FragmentPart, IsFragment, Text, contains, copies_in, copies_of, fragment_at, fragment_named, fragment_names, fragment_part, has_copy, has_name, is_kept_at, parts_of, rel_no}
-use Rattle.sdd_script.proofs.catalog.NameLemmas.{any_of_find, has_name_of_items, list_any-map}
-use Rattle.sdd_script.proofs.Fragments.{kept_at, some_there}
-use Rattle.sdd_script.proofs.NamePlaces.{differ_again}
+use Rattle.sdd_lists.proofs.All.{Bool, Catalogue, Fragment, FragmentPart, IsFragment, List, Option, Some, Text, [], any_of_find, ap, arith, bytes_eq, bytes_eq-Decides, cond, contains, copies_in, copies_of, differ_again, false, find, fragment_at, fragment_named, fragment_names, fragment_part, get_or_default, has_copy, has_name, has_name_of_items, is_kept_at, kept_at, length, list_any-map, map, option_map, parts_of, pos, range_with_len, refl, rel_no, slice_index_or, slice_index_or as get_or, some_there, suc, sym, true, ℕ, ◌+◌, ◌<◌, ◌==◌, ◌∙◌, ◌∷◌, ◌≡◌}
 
 -- what is found by numbers is found among the members with these numbers
 found_along : {A : Type 0} (p : A → Bool) (at : ℕ → A) (xs : List A) (a : ℕ) → ((k : ℕ) (d : A) → k < length xs → at (a + k) ≡ get_or xs k d)

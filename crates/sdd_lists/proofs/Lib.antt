@@ -1,3 +1,4 @@
+mod All
 pub mod Fragments
 pub mod OtherClasses
 pub mod Rules

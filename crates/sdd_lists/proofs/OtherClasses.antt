@@ -1,14 +1,5 @@
 -- Catalogues that differ from a given one in their classes alone, with lists of classes that may still be added.
-use Rattle.std.proofs.Common.{◌≡◌, ℕ, zero, suc, ◌+◌, ◌≤◌, List, [], ◌∷◌, ◌++◌, length, map, take, drop, Bool, true, false, cond, refl, sym, ap, subst, ◌∙◌, arith, append_assoc}
-use Rattle.std.specs.Prelude.{slice_index_or}
-use Rattle.std.specs.List.{AllByRecursion, list_any}
-use Rattle.std.specs.Str.{bytes_eq}
-use Rattle.std.proofs.lemmas.List.{length-append, length-map, map-append, take-append-drop}
-use Rattle.std.proofs.lemmas.List.Elements.{recursion_from_All}
-use Rattle.sdd_script.specs.All.{AreValidLists, Catalogue, Class, ClassPart, Fits, Fragment, IsValidClass, MAX_CLASSES, Text, Txn, class_of, class_part, emptied, eras, has_name, joined, part_names, parts_of, repeats, whole}
-use Rattle.sdd_script.proofs.catalog.Found.{map-map}
-use Rattle.sdd_eras.specs.Further.{further_faults}
-use Rattle.sdd_script.proofs.NamePlaces.{or_false}
+use Rattle.sdd_lists.proofs.All.{AllByRecursion, AreValidLists, Bool, Catalogue, Class, ClassPart, Fits, Fragment, IsValidClass, List, MAX_CLASSES, Text, Txn, [], all_before, ap, append_assoc, arith, bytes_eq, class_of, class_part, drop, emptied, eras, false, further_faults, has_name, if_false, joined, length, length-append, length-map, list_any, map, map-append, map-map, or_false, part_names, parts_of, recursion_from_All, refl, repeats, slice_index_or, subst, suc, sym, take, take-append-drop, whole, zero, ℕ, ◌++◌, ◌+◌, ◌∙◌, ◌∷◌, ◌≡◌, ◌≤◌}
 use Rattle.sdd_lists.proofs.Rules.{classes_fine}
 
 -- the catalogue with other classes
@@ -35,7 +26,8 @@ all_may_follow cat lists valid = record {
 by_names : (cat : Catalogue) (own other : List Class) (lists : List (List ClassPart)) → names_of other ≡ names_of own
     → MayFollow cat own lists → MayFollow cat other lists
 by_names cat own other lists same may =
-    let as_many : length other ≡ length own = sym (length-map other (λ (c : Class). c.name)) ∙ ap length same ∙ length-map own (λ (c : Class). c.name) in
+    let as_many : length other ≡ length own = sym (length-map other (λ (c : Class). c.name)) ∙ ap length same
+    ∙ length-map own (λ (c : Class). c.name) in
     record {
       classes = may.classes;
       names = subst (λ (l : List Text). repeats (l ++ part_names (joined lists)) ≡ false) (sym same) may.names;
@@ -54,11 +46,6 @@ pub retired_may : (cat : Catalogue) (own : List Class) (n : ℕ) (lists : List (
     → MayFollow cat own lists → MayFollow cat (map emptied (take n own) ++ drop n own) lists
 retired_may cat own n lists may = by_names cat own _ lists (emptied_names n own) may
 
--- the first list breaks no rule behind them
-all_before : {A : Type 0} (P : A → Type 0) (xs ys : List A) → AllByRecursion P (xs ++ ys) → AllByRecursion P xs × AllByRecursion P ys
-all_before P [] ys all = (tt, all)
-all_before P (x ∷ xs) ys all = let more = all_before P xs ys all.1 in ((all.0, more.0), more.1)
-
 part_names_of : (cat : Catalogue) (own : List Class) → part_names (parts_of (over cat own)).classes ≡ names_of own
 part_names_of cat own = map-map (λ (c : ClassPart). c.name) (class_part (map (λ (f : Fragment). f.name) cat.fragments)) own
 
@@ -67,10 +54,6 @@ joined_names : (own : List Text) (first : List ClassPart) (lists : List (List Cl
 joined_names own first lists =
     ap (λ (l : List Text). own ++ l) (map-append (λ (c : ClassPart). c.name) first (joined lists))
     ∙ sym (append_assoc own (part_names first) (part_names (joined lists)))
-
-if_false : (a b : Bool) → cond a true b ≡ false → (a ≡ false) × (b ≡ false)
-if_false true b e = absurd cc
-if_false false b e = (refl, e)
 
 any_in_front : (p : Text → Bool) (xs ys : List Text) → list_any p (xs ++ ys) ≡ false → list_any p xs ≡ false
 any_in_front p [] ys e = refl
@@ -103,7 +86,8 @@ none_further cat own first lists may =
     (omega (arith, may.few, as_many, length-append first (joined lists)))
 
 -- and the others may follow it
-added_names : (names : List Text) (own : List Class) (first : List ClassPart) → names_of (own ++ map (class_of names) first) ≡ names_of own ++ part_names first
+added_names : (names : List Text) (own : List Class) (first : List ClassPart)
+    → names_of (own ++ map (class_of names) first) ≡ names_of own ++ part_names first
 added_names names own first =
     map-append (λ (c : Class). c.name) own (map (class_of names) first)
     ∙ ap (λ (l : List Text). names_of own ++ l) (map-map (λ (c : Class). c.name) (class_of names) first)
@@ -122,7 +106,8 @@ others_may cat names own first lists may =
 
 -- each catalogue in force, and the whole one, differs from the given one in its classes alone
 
-pub whole_over : (cat : Catalogue) (own : List Class) (lists : List (List Class)) → whole (over cat own) lists ≡ over cat (whole (over cat own) lists).classes
+pub whole_over : (cat : Catalogue) (own : List Class) (lists : List (List Class))
+    → whole (over cat own) lists ≡ over cat (whole (over cat own) lists).classes
 whole_over cat own [] = refl
 whole_over cat own (classes ∷ lists) = whole_over cat (own ++ classes) lists
 

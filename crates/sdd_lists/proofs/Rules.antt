@@ -1,14 +1,8 @@
 -- Classes that a workload may declare break no rule behind those before them.
-use Rattle.std.proofs.Common.{◌≡◌, ℕ, ◌+◌, ◌<◌, ◌≤◌, nat_le, nat_lt, not, List, [], ◌∷◌, ◌++◌, length, map, Bool, true, false, refl, sym, ap, subst, ◌∙◌, arith, append_assoc}
-use Rattle.std.specs.List.{All, AllByRecursion}
-use Rattle.std.proofs.lemmas.Bool.Decides.{nat_tests}
-use Rattle.std.proofs.lemmas.List.{length-append, map-append, map-id}
-use Rattle.std.proofs.lemmas.List.Elements.{recursion_from_All}
-use Rattle.sdd_script.specs.All.{CatRule, Catalogue, ClassPart, DuplicateName, IsFragment, IsFrom1To, IsValidClass, IsValidRead, MAX_CLASSES, MAX_READS, Parts, ReadPart, ReadsWhereNoCopy, Text, TooMany, UnknownName, class_rules, contains, copies_of, faults_at, faults_of_class, found_from, found_in, fragment_names, has_name, is_from_1_to, part_names, parts_of, read_names, read_rules, repeats, when, write_rules}
-use Rattle.sdd_script.specs.catalog.declared.fault.Counted.TheVariants as counted
-use Rattle.sdd_script.specs.catalog.declared.fault.Part.TheVariants.{Class}
-use Rattle.sdd_script.proofs.NamePlaces.{any_none, apart_before}
+use Rattle.sdd_lists.proofs.All.{All, AllByRecursion, Bool, CatRule, Catalogue, ClassPart, DuplicateName, IsFragment, IsFrom1To, IsValidClass, IsValidRead, List, MAX_CLASSES, MAX_READS, Parts, ReadPart, ReadsWhereNoCopy, Text, TooMany, UnknownName, [], any_none, ap, apart_before, append_assoc, arith, class_rules, contains, copies_of, false, faults_at, faults_of_class, found_from, found_in, fragment_names, has_name, is_from_1_to, length, length-append, map, map-append, map-id, nat_le, nat_lt, nat_tests, not, part_names, parts_of, read_names, read_rules, recursion_from_All, refl, repeats, subst, sym, true, two_empty, when, write_rules, ℕ, ◌++◌, ◌+◌, ◌<◌, ◌∙◌, ◌∷◌, ◌≡◌, ◌≤◌}
 use Rattle.sdd_lists.proofs.Fragments.{is_copied, is_named}
+use Rattle.sdd_script.specs.catalog.declared.fault.Part.TheVariants.{Class}
+use Rattle.sdd_script.specs.catalog.declared.fault.Counted.TheVariants as counted
 
 -- a rule that isn't broken tells nothing
 kept : (b : Bool) (rule : CatRule) → b ≡ false → when b rule ≡ []
@@ -17,13 +11,11 @@ kept b rule e = ap (λ t. when t rule) e
 kept_so : (b : Bool) (rule : CatRule) → b ≡ true → when (not b) rule ≡ []
 kept_so b rule e = ap (λ t. when (not t) rule) e
 
-two_empty : {A : Type 0} (a b : List A) → a ≡ [] → b ≡ [] → a ++ b ≡ []
-two_empty a b no_a no_b = rw (no_a, no_b) refl
-
 four_empty : {A : Type 0} (a b c d : List A) → a ≡ [] → b ≡ [] → c ≡ [] → d ≡ [] → a ++ b ++ c ++ d ≡ []
 four_empty a b c d no_a no_b no_c no_d = rw (no_a, no_b, no_c, no_d) refl
 
-six_empty : {A : Type 0} (a b c d e f : List A) → a ≡ [] → b ≡ [] → c ≡ [] → d ≡ [] → e ≡ [] → f ≡ [] → a ++ b ++ c ++ d ++ e ++ f ≡ []
+six_empty : {A : Type 0} (a b c d e f : List A) → a ≡ [] → b ≡ [] → c ≡ [] → d ≡ [] → e ≡ [] → f ≡ []
+    → a ++ b ++ c ++ d ++ e ++ f ≡ []
 six_empty a b c d e f no_a no_b no_c no_d no_e no_f = rw (no_a, no_b, no_c, no_d, no_e, no_f) refl
 
 is_within : (most n : ℕ) → IsFrom1To most n → is_from_1_to most n ≡ true

@@ -1,9 +1,5 @@
 -- The catalogues that follow each other, one list more.
-use Rattle.std.proofs.Common.{◌≡◌, ℕ, ◌+◌, ◌<◌, List, [], ◌∷◌, ◌++◌, length, map, drop, get_or, refl, sym, ap, subst, ◌∙◌, append_assoc}
-use Rattle.std.proofs.lemmas.List.{drop_more}
-use Rattle.sdd_script.specs.All.{AreValidLists, Catalogue, Class, ClassPart, Fragment, Text, class_of, eras, extended, retired, whole}
-use Rattle.sdd_eras.specs.Further.{further_faults, with_further}
-use Rattle.sdd_lists.specs.InForce.{numbered}
+use Rattle.sdd_lists.proofs.All.{AreValidLists, Catalogue, Class, ClassPart, Fragment, List, Text, [], ap, append_assoc, class_of, drop, drop_more, eras, extended, further_faults, length, map, numbered, refl, retired, slice_index_or as get_or, subst, sym, whole, with_further, ℕ, ◌++◌, ◌+◌, ◌<◌, ◌∙◌, ◌∷◌, ◌≡◌}
 use Rattle.sdd_lists.proofs.OtherClasses.{MayFollow, all_may_follow, none_further, others_may, over, retired_may}
 
 abbrev fragments_of : Catalogue → List Text

@@ -1,16 +1,8 @@
 -- The catalogue with the classes of all lists of a valid workload is that of its own valid parts, and its names are names.
-use Rattle.std.proofs.Common.{◌≡◌, List, [], ◌∷◌, ◌++◌, map, refl, sym, ap, subst, ◌∙◌}
-use Rattle.std.specs.List.{All, AllByRecursion}
-use Rattle.std.proofs.lemmas.List.Elements.{All-from_recursion, recursion_from_All}
-use Rattle.sdd_script.specs.All.{AreNamed, Catalogue, Class, ClassPart, Fragment, IsName, IsNamed, IsSound, IsValid, IsValidClass, Parts, Text, catalogue_of, class_of, extended, joined, parts_of, whole}
-use Rattle.sdd_script.specs.catalog.Rules as rules_of
-use Rattle.sdd_script.proofs.catalog.RoundTrip.{parts_back}
-use Rattle.sdd_eras.specs.Further.{further_faults, with_classes, with_further}
-use Rattle.sdd_eras.proofs.Extended.{extended_is, further_are_all}
-use Rattle.sdd_script.specs.declared.workload.Workload.{Workload}
-use Rattle.sdd_lists.specs.InForce.{classes_in, numbered, whole_in}
+use Rattle.sdd_lists.proofs.All.{All, All-from_recursion, AllByRecursion, AreNamed, Catalogue, Class, ClassPart, Fragment, IsName, IsNamed, IsSound, IsValid, IsValidClass, List, Parts, Text, Workload, [], ap, catalogue_of, class_of, classes_in, extended, extended_is, further_are_all, further_faults, joined, map, numbered, parts_back, parts_of, recursion_from_All, refl, subst, sym, whole, whole_in, with_classes, with_further, ◌++◌, ◌∙◌, ◌∷◌, ◌≡◌}
 use Rattle.sdd_lists.proofs.OtherClasses.{whole_over}
 use Rattle.sdd_lists.proofs.Steps.{Stands, added_is, begins, none_broken, stands_more}
+use Rattle.sdd_script.specs.catalog.Rules as rules_of
 
 -- with further classes that break no rule a catalogue is still that of its own valid parts
 extended_sound : (cat : Catalogue) (classes : List ClassPart) → IsSound cat → further_faults cat classes ≡ []
@@ -20,10 +12,7 @@ extended_sound cat classes sound none =
     let valid : rules_of.IsValid parts = further_are_all cat classes sound ∙ none in
     let is : catalogue_of parts ≡ with_further classes cat = extended_is cat classes sound in
     let back : parts_of (catalogue_of parts) ≡ parts = parts_back parts (catalogue_of parts) valid refl in
-    subst IsSound is (record {
-      valid = subst rules_of.IsValid (sym back) valid;
-      same = ap catalogue_of back;
-    })
+    subst IsSound is (record { valid = subst rules_of.IsValid (sym back) valid; same = ap catalogue_of back })
 
 lists_sound : (cat last : Catalogue) (lists : List (List ClassPart)) → IsSound last → Stands cat last lists
     → IsSound (whole last (numbered cat lists))
@@ -36,8 +25,7 @@ lists_sound cat last (first ∷ lists) sound s =
     subst (λ (c : Catalogue). IsSound (whole c (numbered cat lists))) same more
 
 pub whole_sound : (cat : Catalogue) (work : Workload) → IsSound cat → IsValid cat work → IsSound (whole_in cat work)
-whole_sound cat work sound valid =
-    lists_sound cat cat work.lists sound (begins cat cat work.lists refl valid.lists)
+whole_sound cat work sound valid = lists_sound cat cat work.lists sound (begins cat cat work.lists refl valid.lists)
 
 -- names of classes
 

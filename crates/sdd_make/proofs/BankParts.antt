@@ -1,8 +1,5 @@
 -- The parts of the bank have no fault.
-use Rattle.std.proofs.Common.{◌≡◌, Some, ap, ◌∙◌}
-use Rattle.std.specs.Prelude.{None}
-use Rattle.sdd_script.specs.All.{CatFault, Fault, Parts, TellsFirst, faults_of, head_of}
-use Rattle.sdd_make.specs.Bank.{bank_parts, bank_is_valid}
+use Rattle.sdd_make.proofs.All.{CatFault, Fault, None, Parts, Some, TellsFirst, ap, bank_is_valid, bank_parts, faults_of, head_of, ◌∙◌, ◌≡◌}
 
 pub no_fault : (parts : Parts) (fault : CatFault) → parts ≡ bank_parts → TellsFirst (Fault fault) (faults_of parts) → ⊥
 no_fault parts fault is first =

@@ -1,9 +1,5 @@
 -- Loops that draw: one item more, and their ends.
-use Rattle.std.proofs.Common.{◌≡◌, ℕ, suc, ◌+◌, ◌-◌, ◌<◌, ◌≤◌, List, [], ◌∷◌, ◌++◌, map, arith, ap, sym, ◌∙◌, append_assoc, append-nil}
-use Rattle.std.specs.List.{range_with_len}
-use Rattle.sdd_script.specs.All.{Event, RelNo, Txn, Value}
-use Rattle.sdd_make.specs.Draws.{draw}
-use Rattle.sdd_make.specs.Turns.{account_row, delivery, deliveries, turn, turns, txns_of, events_of}
+use Rattle.sdd_make.proofs.All.{Event, List, RelNo, Txn, Value, [], account_row, ap, append-nil, append_assoc, arith, deliveries, delivery, draw, events_of, map, range_with_len, suc, sym, turn, turns, txns_of, ℕ, ◌++◌, ◌+◌, ◌-◌, ◌<◌, ◌∙◌, ◌∷◌, ◌≡◌, ◌≤◌}
 
 -- one item more before a list
 more : {X : Type 0} (old rest : List X) (x : X) → (old ++ x ∷ []) ++ rest ≡ old ++ x ∷ rest

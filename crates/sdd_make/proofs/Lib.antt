@@ -1,3 +1,4 @@
+mod All
 pub mod BankParts
 pub mod Drawn
 pub mod Names

@@ -1,12 +1,5 @@
 -- The names of the made transactions are names.
-use Rattle.std.proofs.Common.{◌≡◌, ℕ, suc, ◌+◌, ◌%◌, ◌^◌, ◌<◌, ◌≤◌, List, [], ◌∷◌, ◌++◌, length, Bool, true, false, ◌&&◌, refl, arith}
-use Rattle.std.specs.Prelude.{nat_le, not, codes}
-use Rattle.std.specs.Fmt.{decimal}
-use Rattle.std.specs.List.{list_all}
-use Rattle.std.proofs.lemmas.Bool.Decides.{nat_tests}
-use Rattle.std.proofs.lemmas.Fmt.{decimal_by_steps, length-decimal-le}
-use Rattle.sdd_script.specs.All.{IsName, begins_with_letter, is_keyword, is_name, is_name_byte}
-use Rattle.sdd_script.proofs.words.NameTexts.{both_are}
+use Rattle.sdd_make.proofs.All.{Bool, IsName, List, [], arith, begins_with_letter, both_are, codes, decimal, decimal_by_steps, false, is_keyword, is_name, is_name_byte, length, length-decimal-le, list_all, nat_le, nat_tests, not, refl, suc, true, ℕ, ◌%◌, ◌&&◌, ◌++◌, ◌+◌, ◌<◌, ◌^◌, ◌∷◌, ◌≡◌, ◌≤◌}
 
 digit_fits : (n : ℕ) → n < 10 → is_name_byte (48 + n) ≡ true
 digit_fits n small = grind (arith, nat_tests)

@@ -1,10 +1,5 @@
 -- The owner of the accounts is a text.
-use Rattle.std.proofs.Common.{[], inl, inr, arith}
-use Rattle.std.specs.Prelude.{codes}
-use Rattle.std.proofs.lemmas.Str.{IsUtf8-from_ascii}
-use Rattle.std.proofs.lemmas.Str.Ascii.{IsAscii-cons, IsAscii-nil}
-use Rattle.sdd_script.specs.All.{IsText}
-use Rattle.sdd_script.proofs.base.Membership.{Contains-nil, Contains-cases}
+use Rattle.sdd_make.proofs.All.{Contains-cases, Contains-nil, IsAscii-cons, IsAscii-nil, IsText, IsUtf8-from_ascii, [], arith, codes, inl, inr}
 
 pub owner_is_text : IsText (codes "o")
 owner_is_text =

@@ -1,10 +1,10 @@
 -- A text to which two pieces were put.
-use Rattle.std.proofs.Common.{◌≡◌, ℕ, List, ◌++◌, Result, Ok, Err, ap, ◌∙◌, append_assoc}
-use Rattle.std.specs.Prelude.{OnOk}
+use Rattle.sdd_make.proofs.All.{Err, List, Ok, OnOk, Result, ap, append_assoc, ℕ, ◌++◌, ◌∙◌, ◌≡◌}
 
 two : (text a b one both : List ℕ) → one ≡ text ++ a → both ≡ one ++ b → both ≡ text ++ (a ++ b)
 two text a b one both first second = second ∙ ap (λ (l : List ℕ). l ++ b) first ∙ append_assoc text a b
 
-pub two_put : {T E : Type 0} (r : Result T E) (text a b one both : List ℕ) → one ≡ text ++ a → OnOk r (both ≡ one ++ b) → OnOk r (both ≡ text ++ (a ++ b))
+pub two_put : {T E : Type 0} (r : Result T E) (text a b one both : List ℕ) → one ≡ text ++ a → OnOk r (both ≡ one ++ b)
+    → OnOk r (both ≡ text ++ (a ++ b))
 two_put (Ok v) text a b one both first second = two text a b one both first second
 two_put (Err e) text a b one both first second = tt

@@ -1,15 +1,5 @@
 -- The made events are valid, and each transaction is submitted once.
-use Rattle.std.proofs.Common.{◌≡◌, ℕ, zero, suc, ◌+◌, ◌*◌, ◌/◌, ◌%◌, ◌^◌, ◌<◌, ◌≤◌, [], ◌∷◌, ◌++◌, length, None, refl, arith, ap, ◌∙◌, length-append}
-use Rattle.std.specs.Prelude.{nat_lt, filter_map, sum_by}
-use Rattle.std.specs.List.{All, range_with_len}
-use Rattle.std.proofs.lemmas.List.Elements.{All-nil, All-cons, All-append, filter_map-append}
-use Rattle.std.proofs.lemmas.List.FromFn.{length-range_with_len, get_or-range_with_len}
-use Rattle.std.proofs.lemmas.List.Sums.{sum_by-cons}
-use Rattle.sdd_script.specs.All.{AreDistinct, D, Event, IsValidEvent, IsValidTxn, Submit, T, dm_no, rows_put_by, submitted_by, tm_no, txn_no}
-use Rattle.sdd_script.proofs.NoLists.{IsNoRedeclare}
-use Rattle.sdd_make.specs.Bank.{bank}
-use Rattle.sdd_make.specs.Draws.{next, shown, draw}
-use Rattle.sdd_make.specs.Turns.{arrival, delivery, deliveries, drawn_txn, drawn_events, turn, turns, txns_of, events_of}
+use Rattle.sdd_make.proofs.All.{All, All-append, All-cons, All-nil, AreDistinct, D, Event, IsNoRedeclare, IsValidEvent, IsValidTxn, None, Submit, T, [], ap, arith, arrival, bank, deliveries, delivery, dm_no, draw, drawn_events, drawn_txn, events_of, filter_map, filter_map-append, get_or-range_with_len, length, length-append, length-range_with_len, nat_lt, next, range_with_len, refl, rows_put_by, shown, submitted_by, suc, sum_by, sum_by-cons, tm_no, turn, turns, txn_no, txns_of, zero, ℕ, ◌%◌, ◌*◌, ◌++◌, ◌+◌, ◌/◌, ◌<◌, ◌^◌, ◌∙◌, ◌∷◌, ◌≡◌, ◌≤◌}
 use Rattle.sdd_make.proofs.ValidTxns.{choose, txn_valid, puts_none}
 
 -- deliveries
@@ -31,7 +21,8 @@ delivery_valid n k =
 deliveries_valid : (n count x : ℕ) → All (IsValidEvent bank n) (deliveries count x).0
 deliveries_valid n zero x = All-nil (IsValidEvent bank n)
 deliveries_valid n (suc count) x =
-    All-cons (IsValidEvent bank n) (delivery (draw 18 x).0) (deliveries count (draw 18 x).1).0 (delivery_valid n (draw 18 x).0) (deliveries_valid n count (draw 18 x).1)
+    All-cons (IsValidEvent bank n) (delivery (draw 18 x).0) (deliveries count (draw 18 x).1).0 (delivery_valid n (draw 18 x).0)
+    (deliveries_valid n count (draw 18 x).1)
 
 deliveries_count : (count x : ℕ) → length (deliveries count x).0 ≡ count
 deliveries_count zero x = refl
@@ -61,7 +52,8 @@ delivery_no_redeclare k =
 deliveries_no_redeclare : (count x : ℕ) → All IsNoRedeclare (deliveries count x).0
 deliveries_no_redeclare zero x = All-nil IsNoRedeclare
 deliveries_no_redeclare (suc count) x =
-    All-cons IsNoRedeclare (delivery (draw 18 x).0) (deliveries count (draw 18 x).1).0 (delivery_no_redeclare (draw 18 x).0) (deliveries_no_redeclare count (draw 18 x).1)
+    All-cons IsNoRedeclare (delivery (draw 18 x).0) (deliveries count (draw 18 x).1).0 (delivery_no_redeclare (draw 18 x).0)
+    (deliveries_no_redeclare count (draw 18 x).1)
 
 -- turns
 
@@ -111,7 +103,8 @@ pub no_redeclare : (count i x : ℕ) → All IsNoRedeclare (events_of (turns cou
 no_redeclare zero i x = All-nil IsNoRedeclare
 no_redeclare (suc count) i x =
     let y : ℕ = (drawn_txn i x).1 in
-    All-append IsNoRedeclare (drawn_events i y).0 (events_of (turns count (i + 1) (turn i x).1).0) (drawn_no_redeclare i y) (no_redeclare count (i + 1) (turn i x).1)
+    All-append IsNoRedeclare (drawn_events i y).0 (events_of (turns count (i + 1) (turn i x).1).0) (drawn_no_redeclare i y)
+    (no_redeclare count (i + 1) (turn i x).1)
 
 few_drawn : (i x : ℕ) → length (drawn_events i x).0 ≤ 4
 few_drawn i x = let e = deliveries_count (shown 4 (next x)) (next x) in omega (arith, e)

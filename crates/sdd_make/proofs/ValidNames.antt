@@ -1,16 +1,5 @@
 -- The names of the made transactions differ.
-use Rattle.std.proofs.Common.{◌≡◌, ℕ, zero, suc, ◌+◌, ◌^◌, ◌<◌, ◌≤◌, false, List, ◌∷◌, ◌++◌, map, refl, arith, ap, ◌∙◌}
-use Rattle.std.specs.Prelude.{codes}
-use Rattle.std.specs.Fmt.{decimal}
-use Rattle.std.specs.List.{range_with_len}
-use Rattle.std.specs.Str.{bytes_eq}
-use Rattle.std.proofs.lemmas.Bool.{false_from_ne_true}
-use Rattle.std.proofs.lemmas.Fmt.{decimal_injective}
-use Rattle.std.proofs.lemmas.List.{append_cancel_left}
-use Rattle.std.proofs.lemmas.Slice.Eq.{bytes_eq-Decides}
-use Rattle.sdd_script.specs.All.{Txn, has_name, repeats}
-use Rattle.sdd_make.specs.Draws.{next, shown}
-use Rattle.sdd_make.specs.Turns.{turn, turns, txns_of}
+use Rattle.sdd_make.proofs.All.{List, Txn, ap, append_cancel_left, arith, bytes_eq, bytes_eq-Decides, codes, decimal, decimal_injective, false, false_from_ne_true, has_name, map, next, range_with_len, refl, repeats, shown, suc, turn, turns, txns_of, zero, ℕ, ◌++◌, ◌+◌, ◌<◌, ◌^◌, ◌∙◌, ◌∷◌, ◌≡◌, ◌≤◌}
 use Rattle.sdd_make.proofs.ValidTxns.{named_by_number}
 
 abbrev name_of : ℕ → List ℕ

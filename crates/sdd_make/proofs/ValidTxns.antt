@@ -1,14 +1,5 @@
 -- The made rows and transactions are valid.
-use Rattle.std.proofs.Common.{◌≡◌, ◌≢◌, ℕ, zero, suc, ℤ, pos, negsuc, ◌+◌, ◌%◌, ◌^◌, ◌<◌, ◌≤◌, ◌==◌, Bool, true, false, cond, List, [], ◌∷◌, map, length, refl, arith}
-use Rattle.std.specs.Int.Signed.{mag}
-use Rattle.std.specs.List.{All, range_with_len}
-use Rattle.std.proofs.lemmas.List.Elements.{All-nil, All-cons, All-append}
-use Rattle.sdd_script.specs.All.{Add, AssignsValue, Condition, Const, Eq, FitsAssign, FitsCondition, FitsRef, FitsStatement, Ge, HoldsValue, HoldsValues, Int, IsRelation, IsValidRow, IsValidTxn, IsValue, RelNo, Stmt, Txn, rel_no, rows_put_by}
-use Rattle.sdd_script.specs.base.declared.value.Value.TheVariants.{Text}
-use Rattle.sdd_make.specs.Bank.{bank}
-use Rattle.sdd_make.specs.Statements.{of_account, compared, addition, payment, asking, balances, owners, txn_at, txn_of_kind, txn_of}
-use Rattle.sdd_make.specs.Turns.{account_row, accounts}
-use Rattle.sdd_script.proofs.words.Texts.{is_text}
+use Rattle.sdd_make.proofs.All.{Add, All, All-append, All-cons, All-nil, AssignsValue, Bool, Condition, Const, Eq, FitsAssign, FitsCondition, FitsRef, FitsStatement, Ge, HoldsValue, HoldsValues, Int, IsRelation, IsValidRow, IsValidTxn, IsValue, List, RelNo, Stmt, Text, Txn, [], account_row, accounts, addition, arith, asking, balances, bank, compared, cond, false, is_text, length, mag, map, negsuc, of_account, one, owners, payment, pos, range_with_len, refl, rel_no, rows_put_by, suc, true, txn_at, txn_of, txn_of_kind, zero, ℕ, ℤ, ◌%◌, ◌+◌, ◌<◌, ◌==◌, ◌^◌, ◌∷◌, ◌≡◌, ◌≢◌, ◌≤◌}
 use Rattle.sdd_make.proofs.Names.{number_named}
 use Rattle.sdd_make.proofs.Owner.{owner_is_text}
 
@@ -16,9 +7,6 @@ use Rattle.sdd_make.proofs.Owner.{owner_is_text}
 pub choose : {A : Type 0} (P : A → Type 0) (b : Bool) (x y : A) → P x → P y → P (cond b x y)
 choose P true x y p q = p
 choose P false x y p q = q
-
-one : {A : Type 0} (P : A → Type 0) (x : A) → P x → All P (x ∷ [])
-one P x p = All-cons P x [] p (All-nil P)
 
 two : {A : Type 0} (P : A → Type 0) (x y : A) → P x → P y → All P (x ∷ y ∷ [])
 two P x y p q = All-cons P x (y ∷ []) p (one P y q)
@@ -40,7 +28,8 @@ account_valid id small =
 accounts_from : (a n : ℕ) → a + n ≤ 2000 → All (IsValidRow bank) (map account_row (range_with_len a n))
 accounts_from a zero l = All-nil (IsValidRow bank)
 accounts_from a (suc n) l =
-    All-cons (IsValidRow bank) (account_row a) (map account_row (range_with_len (a + 1) n)) (account_valid a (omega arith)) (accounts_from (a + 1) n (omega arith))
+    All-cons (IsValidRow bank) (account_row a) (map account_row (range_with_len (a + 1) n)) (account_valid a (omega arith))
+    (accounts_from (a + 1) n (omega arith))
 
 pub accounts_valid : All (IsValidRow bank) accounts
 accounts_valid =
@@ -70,8 +59,7 @@ addition_fits by id = (
 )
 
 addition_values : (by : ℤ) (id : ℕ) → mag by < 2 ^ 63 → id < 2 ^ 63 → HoldsValues (addition by id)
-addition_values by id b i =
-    (one AssignsValue (Add 3 by) b, one HoldsValue (Const (of_account 1) Eq (Int (pos id))) i)
+addition_values by id b i = (one AssignsValue (Add 3 by) b, one HoldsValue (Const (of_account 1) Eq (Int (pos id))) i)
 
 payment_fits : (from to : ℕ) → All (FitsStatement bank) (payment from to)
 payment_fits from to =
@@ -128,8 +116,10 @@ paid i tm from to small l u f t = at_module i tm (payment from to) small l u (om
 of_kind : (i kind a b : ℕ) → i < 2 ^ 32 → a < 10 → b < 10 → IsValidTxn bank (txn_of_kind i kind a b)
 of_kind i kind a b small p q =
     let last = at_module i 3 balances small (omega arith) (omega arith) (omega arith) balances_fit balances_values in
-    let third = choose (IsValidTxn bank) (kind == 2) (txn_at i 3 (payment a (1000 + b))) (txn_at i 3 balances) (paid i 3 a (1000 + b) small (omega arith) (omega arith) (omega arith) (omega arith)) last in
-    let second = choose (IsValidTxn bank) (kind == 1) (txn_at i 2 (payment (1000 + a) (1000 + b))) _ (paid i 2 (1000 + a) (1000 + b) small (omega arith) (omega arith) (omega arith) (omega arith)) third in
+    let third = choose (IsValidTxn bank) (kind == 2) (txn_at i 3 (payment a (1000 + b))) (txn_at i 3 balances)
+    (paid i 3 a (1000 + b) small (omega arith) (omega arith) (omega arith) (omega arith)) last in
+    let second = choose (IsValidTxn bank) (kind == 1) (txn_at i 2 (payment (1000 + a) (1000 + b))) _
+    (paid i 2 (1000 + a) (1000 + b) small (omega arith) (omega arith) (omega arith) (omega arith)) third in
     choose (IsValidTxn bank) (kind == 0) (txn_at i 1 (payment a b)) _ (paid i 1 a b small (omega arith) (omega arith) (omega arith) (omega arith)) second
 
 pub txn_valid : (i kind a b : ℕ) → i < 2 ^ 32 → a < 10 → b < 10 → IsValidTxn bank (txn_of i kind a b)

@@ -1,12 +1,5 @@
 -- The made workload is one that the bank allows.
-use Rattle.std.proofs.Common.{◌≡◌, ℕ, ◌≤◌, [], ◌∷◌, ◌++◌, arith, refl, sym, ◌∙◌, subst, append-nil, length-append}
-use Rattle.std.specs.Prelude.{filter_map}
-use Rattle.std.specs.List.{All, range_with_len}
-use Rattle.std.proofs.lemmas.List.Elements.{All-nil, All-cons, All-append, filter_map-append}
-use Rattle.sdd_script.specs.All.{AreDistinct, AreTimely, AreValidLists, IsValid, IsValidClass, IsValidEvent, MAX_TXNS, Settle, submitted_by}
-use Rattle.sdd_script.proofs.NoLists.{IsNoRedeclare, timely_without}
-use Rattle.sdd_make.specs.Bank.{bank}
-use Rattle.sdd_make.specs.Turns.{turns_of, events_of, workload_of}
+use Rattle.sdd_make.proofs.All.{All, All-append, All-cons, All-nil, AreDistinct, AreTimely, AreValidLists, IsNoRedeclare, IsValid, IsValidClass, IsValidEvent, MAX_TXNS, Settle, [], append-nil, arith, bank, events_of, filter_map, filter_map-append, length-append, range_with_len, refl, submitted_by, subst, sym, timely_without, turns_of, workload_of, ℕ, ◌++◌, ◌∙◌, ◌∷◌, ◌≡◌, ◌≤◌}
 use Rattle.sdd_make.proofs.ValidTxns.{accounts_valid}
 use Rattle.sdd_make.proofs.ValidEvents.{txns_valid, txns_count, no_puts, events_valid, no_redeclare, few_events, submitted, numbers_differ}
 use Rattle.sdd_make.proofs.ValidNames.{no_name_repeats}
@@ -18,7 +11,8 @@ events_of_n seed n =
     (events_valid n n 1 seed (omega arith) (omega arith)) (All-cons (IsValidEvent bank n) Settle [] tt (All-nil (IsValidEvent bank n)))
 
 numbers : (seed n : ℕ) → filter_map submitted_by (events_of (turns_of seed n) ++ Settle ∷ []) ≡ range_with_len 1 n
-numbers seed n = filter_map-append submitted_by (events_of (turns_of seed n)) (Settle ∷ []) ∙ append-nil (filter_map submitted_by (events_of (turns_of seed n))) ∙ submitted n 1 seed
+numbers seed n =
+    filter_map-append submitted_by (events_of (turns_of seed n)) (Settle ∷ []) ∙ append-nil (filter_map submitted_by (events_of (turns_of seed n))) ∙ submitted n 1 seed
 
 -- there are no lists, and no `redeclare`
 

@@ -71,7 +71,8 @@ does_by view due after law Shows e log before now old new s work quiet After hol
 -- one act more: by each view that the state shows the same act is due, and the next state shows the view after it
 pub reached_more : {S V : Type 0} (Shows : S → V → Type 0) (due : V → Option Act) (after : Entry → V → V) (v : V) (state next : S) (a : Act)
     (old notes new : Notes)
-    → Reached Shows due after v state old notes → ((w : V) → Shows state w → (due w ≡ Some a) × Shows next (after (Did a) w)) → new ≡ with_act a notes
+    → Reached Shows due after v state old notes → ((w : V) → Shows state w → (due w ≡ Some a) × Shows next (after (Did a) w))
+    → new ≡ with_act a notes
     → Reached Shows due after v next old new
 reached_more Shows due after v state next a old notes new r step f =
     let s = step r.view r.shown in

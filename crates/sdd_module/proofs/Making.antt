@@ -18,11 +18,13 @@ with_acts-append [] more n = refl
 with_acts-append (a ∷ acts) more n = with_acts-append acts more (with_act a n)
 
 -- no act
-pub made_nothing : {V : Type 0} (due : V → Option Act) (after : Entry → V → V) (v w : V) (old new : Notes) → v ≡ w → new ≡ old → Made due after v w old new
+pub made_nothing : {V : Type 0} (due : V → Option Act) (after : Entry → V → V) (v w : V) (old new : Notes) → v ≡ w → new ≡ old
+    → Made due after v w old new
 made_nothing due after v w old new e f = record { acts = []; goes = e; notes_are = f }
 
 -- one act
-pub made_one : {V : Type 0} (due : V → Option Act) (after : Entry → V → V) (v w : V) (a : Act) (old new : Notes) → due v ≡ Some a → after (Did a) v ≡ w
+pub made_one : {V : Type 0} (due : V → Option Act) (after : Entry → V → V) (v w : V) (a : Act) (old new : Notes) → due v ≡ Some a
+    → after (Did a) v ≡ w
     → new ≡ with_act a old → Made due after v w old new
 made_one due after v w a old new e f g = record { acts = a ∷ []; goes = (e, f); notes_are = g }
 

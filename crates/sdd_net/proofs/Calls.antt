@@ -1,16 +1,5 @@
 -- What each call of the network does to what it stands for.
-use Rattle.std.proofs.Common.{ℕ, suc, zero, ◌*◌, ◌-◌, ◌<◌, ◌≤◌, Bool, true, false, List, [], ◌∷◌, ◌++◌, length, ◌≡◌, refl, ap, ◌∙◌, arith, sym, subst}
-use Rattle.std.specs.Prelude.{IsTrue, is_some, replicate, slice_get, Option, Some, None, Result, Ok}
-use Rattle.std.proofs.lemmas.Nat.{mul-add-lt}
-use Rattle.sdd_base.specs.Kept.{Kept}
-use Rattle.sdd_base.specs.declared.site.Site.{Site}
-use Rattle.sdd_net.specs.declared.packet.Packet.{Packet}
-use Rattle.sdd_net.specs.declared.channel.Channel.{Channel}
-use Rattle.sdd_net.specs.declared.placed_link.PlacedLink.{PlacedLink}
-use Rattle.sdd_net.specs.Links.{Call, Delivers, Loses, Repeats, Way, Link, link, unused, after_call, on_link, deliver, lose, repeat, packet_at, with_packet, without_at, with_flight}
-use Rattle.sdd_net.specs.Sound.{IsSound}
-use Rattle.sdd_net.specs.Nets.{Directions, is_link, site_count, index_of, unused_channel, Matches, Fits, Stands, StandsFor, Changes, ArePair, ChangesPair, IsNet, Does, HasLink}
-use Rattle.std.proofs.lemmas.Option.{slice_get_within}
+use Rattle.sdd_net.proofs.All.{ArePair, Bool, Call, Changes, ChangesPair, Channel, Delivers, Directions, Does, Fits, HasLink, IsNet, IsSound, IsTrue, Kept, Link, List, Loses, Matches, None, Ok, Option, Packet, PlacedLink, Repeats, Result, Site, Some, Stands, StandsFor, Way, [], after_call, ap, arith, deliver, false, index_of, is_link, is_some, length, link, lose, mul-add-lt, on_link, packet_at, refl, repeat, replicate, site_count, slice_get, slice_get_within, subst, suc, sym, true, unused, unused_channel, with_flight, with_packet, without_at, zero, ℕ, ◌*◌, ◌++◌, ◌-◌, ◌<◌, ◌∙◌, ◌∷◌, ◌≡◌, ◌≤◌}
 use Rattle.sdd_net.proofs.Lists.{without-past}
 use Rattle.sdd_net.proofs.Directions.{link_parts, link_back, place_below, index_apart, back_is, step, one_way}
 use Rattle.sdd_net.proofs.Sound.{sound}
@@ -82,7 +71,8 @@ module _ {M : Type 0} where
   back_kept (Some p) f l = refl
 
   lost : (o : Option (Packet M)) (k : ℕ) (l : Link M) → slice_get l.there.flight k ≡ o
-      → (with_packet o (λ p. record l { there = with_flight (without_at l.there.flight k) l.there }) l).there ≡ with_flight (without_at l.there.flight k) l.there
+      → (with_packet o (λ p. record l { there = with_flight (without_at l.there.flight k) l.there }) l).there ≡ with_flight
+      (without_at l.there.flight k) l.there
   lost None k l e = ap (λ f. with_flight f l.there) (sym (without-past l.there.flight k e))
   lost (Some p) k l e = refl
 
@@ -120,8 +110,7 @@ module _ {M : Type 0} where
 
   -- the two directions of a link
   pub pair_of : (tms dms : ℕ) (channels : List (Channel M)) (there back : ℕ) (from to : Site) (calls : List (Call M))
-      → there ≡ index_of tms dms from to → back ≡ index_of tms dms to from
-      → IsTrue (is_link tms dms from to)
+      → there ≡ index_of tms dms from to → back ≡ index_of tms dms to from → IsTrue (is_link tms dms from to)
       → Stands tms dms channels calls → ArePair channels there back (link from to calls)
   pair_of tms dms channels there back from to calls e f exists stands = record {
     apart = λ x. index_apart tms dms from to exists (sym e ∙ x ∙ f);
@@ -131,13 +120,13 @@ module _ {M : Type 0} where
   }
 
   pub deliver_does : (tms dms : ℕ) (old new : List (Channel M)) (there back place : ℕ) (from to : Site)
-      → there ≡ index_of tms dms from to → back ≡ index_of tms dms to from
-      → IsTrue (is_link tms dms from to)
+      → there ≡ index_of tms dms from to → back ≡ index_of tms dms to from → IsTrue (is_link tms dms from to)
       → ((l : Link M) → ArePair old there back l → IsSound l → ChangesPair old new there back (deliver place l))
       → (calls : List (Call M)) → Stands tms dms old calls → Stands tms dms new (Delivers from to place ∷ calls)
   deliver_does tms dms old new there back place from to e f exists change calls stands =
       let l : Link M = link from to calls in
-      let c : ChangesPair old new there back (deliver place l) = change l (pair_of tms dms old there back from to calls e f exists stands) (sound from to calls) in
+      let c : ChangesPair old new there back (deliver place l) = change l (pair_of tms dms old there back from to calls e f exists stands)
+      (sound from to calls) in
       step tms dms old new calls (Delivers from to place) from to (deliver place) (λ a b l. refl) exists stands
       (subst (λ k. Fits (slice_get new k) (deliver place l).there) e c.fits_there)
       (subst (λ k. Fits (slice_get new k) (deliver place l).back) f c.fits_back)
@@ -153,11 +142,11 @@ unused_matches M = record {
 }
 
 pub unused_stands : (M : Type 0) (tms dms : ℕ) (channels : List (Channel M))
-    → channels ≡ replicate (site_count tms dms * site_count tms dms) unused_channel
-    → Stands tms dms channels []
+    → channels ≡ replicate (site_count tms dms * site_count tms dms) unused_channel → Stands tms dms channels []
 unused_stands M tms dms channels e a b exists =
     let p = link_parts tms dms a b exists in
-    let below : index_of tms dms a b < site_count tms dms * site_count tms dms = mul-add-lt _ _ _ _ (place_below tms dms a p.from) (place_below tms dms b p.to) in
+    let below : index_of tms dms a b < site_count tms dms * site_count tms dms = mul-add-lt _ _ _ _ (place_below tms dms a p.from)
+    (place_below tms dms b p.to) in
     let at : slice_get channels (index_of tms dms a b) ≡ Some unused_channel =
     ap (λ cs. slice_get cs (index_of tms dms a b)) e ∙ get-replicate (site_count tms dms * site_count tms dms) (index_of tms dms a b) unused_channel below in
     subst (λ o. Fits {M = M} o unused) (sym at) (unused_matches M)

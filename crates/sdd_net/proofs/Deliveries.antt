@@ -1,13 +1,5 @@
 -- A delivery, step by step.
-use Rattle.std.proofs.Common.{ℕ, ◌-◌, ◌≤◌, ◌≢◌, List, [], ◌∷◌, ◌++◌, length, ◌≡◌, refl, ap, ◌∙◌, arith, sym, subst}
-use Rattle.std.specs.Prelude.{slice_get, Option, Some, None}
-use Rattle.sdd_net.specs.declared.packet.Packet.{Packet}
-use Rattle.sdd_net.specs.declared.packet.Packet.TheVariants.{Message, Ack}
-use Rattle.sdd_net.specs.declared.delivered.Delivered.TheVariants.{Nothing, Acked, Messages}
-use Rattle.sdd_net.specs.declared.channel.Channel.{Channel}
-use Rattle.sdd_net.specs.Links.{Way, Link, packet_at, deliver, arrives, with_packet, without_packet, without_at, with_flight, with_ack, with_arrival, delivered, newly_delivered, delivery}
-use Rattle.sdd_net.specs.Sound.{IsOf, IsSoundWay, IsSound}
-use Rattle.sdd_net.specs.Nets.{Matches, Fits, IsLive, IsLiveAt, Changes, ArePair, ChangesPair, sent_by}
+use Rattle.sdd_net.proofs.All.{Ack, Acked, ArePair, Changes, ChangesPair, Channel, Fits, IsLive, IsLiveAt, IsOf, IsSound, IsSoundWay, Link, List, Matches, Message, Messages, None, Nothing, Option, Packet, Some, Way, [], ap, arith, arrives, deliver, delivered, delivery, length, newly_delivered, packet_at, refl, sent_by, slice_get, subst, sym, with_ack, with_arrival, with_flight, with_packet, without_at, without_packet, ℕ, ◌++◌, ◌-◌, ◌∙◌, ◌∷◌, ◌≡◌, ◌≢◌, ◌≤◌}
 use Rattle.sdd_net.proofs.Lists.{All-at, without-past}
 use Rattle.sdd_net.proofs.Matching.{last_number_is}
 use Rattle.sdd_net.proofs.Sound.{delivered_le}
@@ -20,8 +12,7 @@ module _ {M : Type 0} where
   fits_live None w h = h
   fits_live (Some c) w h = matches_live c w h
 
-  pub sent_of : (o : Option (Channel M)) (w : Way M) → w.acked ≤ length w.sent → Fits o w
-      → sent_by o ≡ length w.sent
+  pub sent_of : (o : Option (Channel M)) (w : Way M) → w.acked ≤ length w.sent → Fits o w → sent_by o ≡ length w.sent
   sent_of None w l h = absurd h
   sent_of (Some c) w l h = last_number_is c w l h
 
@@ -57,7 +48,8 @@ module _ {M : Type 0} where
 
   pub delivers_ack : (old mid new : List (Channel M)) (there back place k : ℕ) (l : Link M)
       → ArePair old there back l → packet_at place l ≡ Some (Ack k)
-      → Changes old mid there (with_flight (without_at l.there.flight (place - 1)) l.there) → Changes mid new back (with_ack k l.back) → ChangesPair old new there back (deliver place l)
+      → Changes old mid there (with_flight (without_at l.there.flight (place - 1)) l.there) → Changes mid new back
+      (with_ack k l.back) → ChangesPair old new there back (deliver place l)
   delivers_ack old mid new there back place k l pair e h i =
       subst (λ o. ChangesPair old new there back (with_packet o (λ p. arrives p (without_packet place l)) l)) (sym e) (record {
         fits_there = stays mid new back there (with_ack k l.back) (with_flight (without_at l.there.flight (place - 1)) l.there) i pair.apart h.fits;
@@ -73,21 +65,18 @@ module _ {M : Type 0} where
       → ChangesPair old new there back (deliver place l)
   delivers_message old mid more new there back place n m l pair e h i j =
       subst (λ o. ChangesPair old new there back (with_packet o (λ p. arrives p (without_packet place l)) l)) (sym e) (record {
-        fits_there = stays more new back there (with_flight (l.back.flight ++ Ack (delivered (with_arrival n l.there)) ∷ []) l.back) (with_arrival n (with_flight (without_at l.there.flight (place - 1)) l.there)) j pair.apart i.fits;
+        fits_there = stays more new back there (with_flight (l.back.flight ++ Ack (delivered (with_arrival n l.there)) ∷ []) l.back)
+            (with_arrival n (with_flight (without_at l.there.flight (place - 1)) l.there)) j pair.apart i.fits;
         fits_back = j.fits;
         others = λ k a b. j.others k b ∙ (i.others k a ∙ h.others k a);
       })
 
-  pub gives_nothing : (place : ℕ) (l : Link M) → packet_at place l ≡ None
-      → Nothing ≡ delivery place l
+  pub gives_nothing : (place : ℕ) (l : Link M) → packet_at place l ≡ None → Nothing ≡ delivery place l
   gives_nothing place l e = rw e refl
 
-  pub gives_acked : (place k : ℕ) (l : Link M) → packet_at place l ≡ Some (Ack k)
-      → Acked ≡ delivery place l
+  pub gives_acked : (place k : ℕ) (l : Link M) → packet_at place l ≡ Some (Ack k) → Acked ≡ delivery place l
   gives_acked place k l e = rw e refl
 
-  pub gives_messages : (place n : ℕ) (m : M) (l : Link M) (messages : List M)
-      → packet_at place l ≡ Some (Message n m)
-      → messages ≡ newly_delivered l.there (with_arrival n l.there)
-      → Messages messages ≡ delivery place l
+  pub gives_messages : (place n : ℕ) (m : M) (l : Link M) (messages : List M) → packet_at place l ≡ Some (Message n m)
+      → messages ≡ newly_delivered l.there (with_arrival n l.there) → Messages messages ≡ delivery place l
   gives_messages place n m l messages e f = rw e (ap Messages f)

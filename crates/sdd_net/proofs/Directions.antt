@@ -1,15 +1,6 @@
 -- A call on one link changes that link and the link back, and no other.
-use Rattle.std.proofs.Common.{ℕ, ◌<◌, ◌≤◌, ◌≢◌, Bool, true, false, List, [], ◌∷◌, ◌≡◌, refl, ap, ◌∙◌, arith, sym, subst}
-use Rattle.std.specs.Bool.{if◌then◌else◌}
-use Rattle.std.specs.Prelude.{◌&&◌, nat_le, IsTrue, slice_get}
-use Rattle.std.proofs.lemmas.Bool.{eqb-true, eq-eqb, leb-true, and_parts, both_ways}
-use Rattle.std.proofs.lemmas.Nat.{same_from_place}
-use Rattle.sdd_base.specs.Sites.{same_site, are_linked}
-use Rattle.sdd_base.specs.declared.site.Site.{Site}
-use Rattle.sdd_base.specs.declared.site.Site.TheVariants.{U, T, D}
-use Rattle.sdd_net.specs.declared.channel.Channel.{Channel}
-use Rattle.sdd_net.specs.Links.{Call, Puts, Delivers, Loses, Repeats, Resends, Link, link, after_call, on_link, turned, put, deliver, lose, repeat, resend}
-use Rattle.sdd_net.specs.Nets.{is_site, is_link, place_of, site_count, index_of, Fits, Stands}
+use Rattle.sdd_net.proofs.All.{Bool, Call, Channel, D, Delivers, Fits, IsTrue, Link, List, Loses, Puts, Repeats, Resends, Site, Stands, T, U, [], after_call, and_parts, ap, are_linked, arith, both_ways, deliver, eq-eqb, eqb-true, false, if◌then◌else◌, index_of, is_link, is_site, leb-true, link, lose, nat_le, on_link, put, refl, repeat, resend, same_from_place, same_site, site_count, slice_get, subst, sym, true, turned, ℕ, ◌&&◌, ◌<◌, ◌∙◌, ◌∷◌, ◌≡◌, ◌≢◌, ◌≤◌}
+use Rattle.sdd_net.specs.Nets.{place_of}
 
 pub same_is : (a b : Site) → same_site a b ≡ true → a ≡ b
 same_is U U e = refl
@@ -60,18 +51,16 @@ link_parts tms dms a b h =
     let q = and_parts (is_site tms dms b) (are_linked a b) p.1 in
     record { from = p.0; to = q.0; linked = q.1 }
 
-pub link_back : (tms dms : ℕ) (a b : Site) → IsTrue (is_link tms dms a b)
-    → IsTrue (is_link tms dms b a)
+pub link_back : (tms dms : ℕ) (a b : Site) → IsTrue (is_link tms dms a b) → IsTrue (is_link tms dms b a)
 link_back tms dms a b h =
     let p = link_parts tms dms a b h in
     let back : are_linked b a ≡ true = linked_back a b p.linked in
     rw (p.from, p.to, back) refl
 
-within : (n most : ℕ) → (nat_le 1 n && nat_le n most) ≡ true → (1 ≤ n) × (n ≤ most)
+pub within : (n most : ℕ) → (nat_le 1 n && nat_le n most) ≡ true → (1 ≤ n) × (n ≤ most)
 within n most e = let p = and_parts (nat_le 1 n) (nat_le n most) e in (leb-true 1 n p.0, leb-true n most p.1)
 
-pub place_below : (tms dms : ℕ) (a : Site) → is_site tms dms a ≡ true
-    → place_of tms a < site_count tms dms
+pub place_below : (tms dms : ℕ) (a : Site) → is_site tms dms a ≡ true → place_of tms a < site_count tms dms
 place_below tms dms U e = omega arith
 place_below tms dms (T n) e = let w = within n.0 tms e in omega (arith, w.0, w.1)
 place_below tms dms (D n) e = let w = within n.0 dms e in omega (arith, w.0, w.1)
@@ -94,7 +83,8 @@ pub index_is : (tms dms : ℕ) (a b c d : Site) → IsTrue (is_link tms dms a b)
 index_is tms dms a b c d h k e =
     let p = link_parts tms dms a b h in
     let q = link_parts tms dms c d k in
-    let same = same_from_place (place_of tms a) (place_of tms b) (place_of tms c) (place_of tms d) (site_count tms dms) (place_below tms dms b p.to) (place_below tms dms d q.to) e in
+    let same = same_from_place (place_of tms a) (place_of tms b) (place_of tms c) (place_of tms d) (site_count tms dms) (place_below tms dms b p.to)
+    (place_below tms dms d q.to) e in
     (place_is tms dms a c p.from q.from same.0, place_is tms dms b d p.to q.to same.1)
 
 pub index_apart : (tms dms : ℕ) (a b : Site) → IsTrue (is_link tms dms a b)
@@ -120,18 +110,23 @@ and_swap false false = refl
 on_link_turned : {M : Type 0} (a b from to : Site) (f : Link M → Link M) (l : Link M) → a ≢ b
     → on_link b a from to f (turned l) ≡ turned (on_link a b from to f l)
 on_link_turned a b from to f l ne =
-    turned_on (same_site a from && same_site b to) (same_site a to && same_site b from) (same_site b from && same_site a to) (same_site b to && same_site a from) f l
+    turned_on (same_site a from && same_site b to) (same_site a to && same_site b from) (same_site b from && same_site a to)
+    (same_site b to && same_site a from) f l
     (and_swap (same_site b from) (same_site a to)) (and_swap (same_site b to) (same_site a from))
     (λ p q. ne (same_is a from (and_parts (same_site a from) (same_site b to) p).0 ∙ sym (same_is b from (and_parts (same_site a to) (same_site b from) q).1)))
 
-pub link_turned : {M : Type 0} (a b : Site) (calls : List (Call M)) → a ≢ b
-    → link b a calls ≡ turned (link a b calls)
+pub link_turned : {M : Type 0} (a b : Site) (calls : List (Call M)) → a ≢ b → link b a calls ≡ turned (link a b calls)
 link_turned a b [] ne = refl
-link_turned a b (Puts from to m ∷ calls) ne = ap (on_link b a from to (put m)) (link_turned a b calls ne) ∙ on_link_turned a b from to (put m) (link a b calls) ne
-link_turned a b (Delivers from to place ∷ calls) ne = ap (on_link b a from to (deliver place)) (link_turned a b calls ne) ∙ on_link_turned a b from to (deliver place) (link a b calls) ne
-link_turned a b (Loses from to place ∷ calls) ne = ap (on_link b a from to (lose place)) (link_turned a b calls ne) ∙ on_link_turned a b from to (lose place) (link a b calls) ne
-link_turned a b (Repeats from to place ∷ calls) ne = ap (on_link b a from to (repeat place)) (link_turned a b calls ne) ∙ on_link_turned a b from to (repeat place) (link a b calls) ne
-link_turned a b (Resends from to ∷ calls) ne = ap (on_link b a from to resend) (link_turned a b calls ne) ∙ on_link_turned a b from to resend (link a b calls) ne
+link_turned a b (Puts from to m ∷ calls) ne =
+    ap (on_link b a from to (put m)) (link_turned a b calls ne) ∙ on_link_turned a b from to (put m) (link a b calls) ne
+link_turned a b (Delivers from to place ∷ calls) ne =
+    ap (on_link b a from to (deliver place)) (link_turned a b calls ne) ∙ on_link_turned a b from to (deliver place) (link a b calls) ne
+link_turned a b (Loses from to place ∷ calls) ne =
+    ap (on_link b a from to (lose place)) (link_turned a b calls ne) ∙ on_link_turned a b from to (lose place) (link a b calls) ne
+link_turned a b (Repeats from to place ∷ calls) ne =
+    ap (on_link b a from to (repeat place)) (link_turned a b calls ne) ∙ on_link_turned a b from to (repeat place) (link a b calls) ne
+link_turned a b (Resends from to ∷ calls) ne =
+    ap (on_link b a from to resend) (link_turned a b calls ne) ∙ on_link_turned a b from to resend (link a b calls) ne
 
 pub back_is : {M : Type 0} (tms dms : ℕ) (a b : Site) (calls : List (Call M))
     → IsTrue (is_link tms dms a b) → (link b a calls).there ≡ (link a b calls).back
@@ -152,30 +147,29 @@ step {M = M} tms dms old new calls call from to f is exists stands there back ot
       | true ↦ λ p. (let q = and_parts (same_site a from) (same_site b to) p in
           subst (λ x. Fits (slice_get new (index_of tms dms x b)) (f (link x b calls)).there) (sym (same_is a from q.0))
           (subst (λ x. Fits (slice_get new (index_of tms dms from x)) (f (link from x calls)).there) (sym (same_is b to q.1)) there))
-      | false ↦ λ p. elim (same_site a to && same_site b from) as (λ c. (same_site a to && same_site b from) ≡ c → G (if c then turned (f (turned (link a b calls))) else link a b calls)) [
-        | true ↦ λ t. (let q = and_parts (same_site a to) (same_site b from) t in
-            subst (λ x. Fits (slice_get new (index_of tms dms x b)) (f (turned (link x b calls))).back) (sym (same_is a to q.0))
-            (subst (λ x. Fits (slice_get new (index_of tms dms to x)) (f (turned (link to x calls))).back) (sym (same_is b from q.1))
-            (subst (λ l. Fits (slice_get new (index_of tms dms to from)) (f (turned l)).back) (sym (link_turned from to calls (linked_apart from to (link_parts tms dms from to exists).linked))) back)))
-        | false ↦ λ t.
-            subst (λ o. Fits o (link a b calls).there)
-            (sym (others (index_of tms dms a b)
-            (λ e. let q = index_is tms dms a b from to linked exists e in
-            both_ways (same_site a from && same_site b to) p (rw (q.0, q.1, same_here from, same_here to) refl))
-            (λ e. let q = index_is tms dms a b to from linked (link_back tms dms from to exists) e in
-            both_ways (same_site a to && same_site b from) t (rw (q.0, q.1, same_here from, same_here to) refl))))
-            (stands a b linked)
-      ] refl
+      | false ↦ λ p. elim (same_site a to && same_site b from) as
+          (λ c. (same_site a to && same_site b from) ≡ c → G (if c then turned (f (turned (link a b calls))) else link a b calls)) [
+            | true ↦ λ t. (let q = and_parts (same_site a to) (same_site b from) t in
+                subst (λ x. Fits (slice_get new (index_of tms dms x b)) (f (turned (link x b calls))).back) (sym (same_is a to q.0))
+                (subst (λ x. Fits (slice_get new (index_of tms dms to x)) (f (turned (link to x calls))).back) (sym (same_is b from q.1))
+                (subst (λ l. Fits (slice_get new (index_of tms dms to from)) (f (turned l)).back) (sym (link_turned from to calls (linked_apart from to (link_parts tms dms from to exists).linked))) back)))
+            | false ↦ λ t.
+                subst (λ o. Fits o (link a b calls).there)
+                (sym (others (index_of tms dms a b)
+                (λ e. let q = index_is tms dms a b from to linked exists e in
+                both_ways (same_site a from && same_site b to) p (rw (q.0, q.1, same_here from, same_here to) refl))
+                (λ e. let q = index_is tms dms a b to from linked (link_back tms dms from to exists) e in
+                both_ways (same_site a to && same_site b from) t (rw (q.0, q.1, same_here from, same_here to) refl))))
+                (stands a b linked)
+          ] refl
     ] refl)
 
 -- where the call changes one direction
 pub one_way : {M : Type 0} (tms dms : ℕ) (old new : List (Channel M)) (calls : List (Call M)) (call : Call M) (from to : Site) (f : Link M → Link M)
     → ((a b : Site) (l : Link M) → after_call a b call l ≡ on_link a b from to f l)
-    → ((l : Link M) → (f l).back ≡ l.back)
-    → IsTrue (is_link tms dms from to) → Stands tms dms old calls
+    → ((l : Link M) → (f l).back ≡ l.back) → IsTrue (is_link tms dms from to) → Stands tms dms old calls
     → Fits (slice_get new (index_of tms dms from to)) (f (link from to calls)).there
-    → ((k : ℕ) → k ≢ index_of tms dms from to → slice_get new k ≡ slice_get old k)
-    → Stands tms dms new (call ∷ calls)
+    → ((k : ℕ) → k ≢ index_of tms dms from to → slice_get new k ≡ slice_get old k) → Stands tms dms new (call ∷ calls)
 one_way {M = M} tms dms old new calls call from to f is same exists stands there others =
     step tms dms old new calls call from to f is exists stands there
     (subst (λ w. Fits (slice_get new (index_of tms dms to from)) w) (sym (same (link from to calls)))

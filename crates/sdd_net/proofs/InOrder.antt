@@ -1,15 +1,5 @@
 -- What a link hands on is what was put on it, from 1 to `delivered`, in order.
-use Rattle.std.proofs.Common.{ℕ, suc, zero, ◌≤◌, Bool, true, false, List, [], ◌∷◌, ◌++◌, length, take, drop, ◌≡◌, refl, ap, ◌∙◌, arith, sym, append-nil}
-use Rattle.std.specs.Bool.{if◌then◌else◌}
-use Rattle.std.specs.Prelude.{◌&&◌, nat_le, IsTrue, Option, Some, None}
-use Rattle.std.proofs.lemmas.Bool.{and_parts, leb-true}
-use Rattle.std.proofs.lemmas.List.{take-append-le, take-append-drop, take_all}
-use Rattle.sdd_base.specs.Sites.{same_site}
-use Rattle.sdd_base.specs.Words.{is_empty}
-use Rattle.sdd_base.specs.declared.site.Site.{Site}
-use Rattle.sdd_net.specs.declared.packet.Packet.{Packet}
-use Rattle.sdd_net.specs.declared.packet.Packet.TheVariants.{Message, Ack}
-use Rattle.sdd_net.specs.Links.{Call, Puts, Delivers, Loses, Repeats, Resends, Link, link, turned, put, deliver, lose, repeat, resend, arrives, packet_at, with_packet, without_packet, with_flight, delivered, given_by, newly_delivered, delivery, messages_of, handed, due, is_quiet_link, top}
+use Rattle.sdd_net.proofs.All.{Ack, Bool, Call, Delivers, IsTrue, Link, List, Loses, Message, None, Option, Packet, Puts, Repeats, Resends, Site, Some, [], and_parts, ap, append-nil, arith, arrives, deliver, delivered, delivery, drop, due, false, given_by, handed, if◌then◌else◌, is_empty, is_quiet_link, leb-true, length, link, lose, messages_of, nat_le, newly_delivered, packet_at, put, refl, repeat, resend, same_site, suc, sym, take, take-append-drop, take-append-le, take_all, top, true, turned, with_flight, with_packet, without_packet, zero, ℕ, ◌&&◌, ◌++◌, ◌∙◌, ◌∷◌, ◌≡◌, ◌≤◌}
 use Rattle.sdd_net.proofs.Tops.{top_rises}
 use Rattle.sdd_net.proofs.Sound.{sound, delivered_le}
 
@@ -23,8 +13,7 @@ take-on : {A : Type 0} (j k : ℕ) (xs : List A) → j ≤ k → take j xs ++ dr
 take-on j k xs l = ap (λ ys. ys ++ drop j (take k xs)) (sym (take-less j k xs l)) ∙ take-append-drop j (take k xs)
 
 module _ {M : Type 0} where
-  puts : (c d : Bool) (m : M) (l : Link M) (ms : List M) → delivered l.there ≤ length l.there.sent
-      → ms ≡ due l.there
+  puts : (c d : Bool) (m : M) (l : Link M) (ms : List M) → delivered l.there ≤ length l.there.sent → ms ≡ due l.there
       → ms ≡ due (if c then put m l else if d then turned (put m (turned l)) else l).there
   puts true d m l ms le e = e ∙ sym (take-append-le (delivered l.there) l.there.sent (m ∷ []) le)
   puts false true m l ms le e = e
@@ -50,14 +39,12 @@ module _ {M : Type 0} where
   delivers false false place l ms e = append-nil ms ∙ e
 
   -- a change of the flight alone
-  flies : (o : Option (Packet M)) (f : Packet M → List (Packet M)) (l : Link M) (ms : List M)
-      → ms ≡ due l.there
+  flies : (o : Option (Packet M)) (f : Packet M → List (Packet M)) (l : Link M) (ms : List M) → ms ≡ due l.there
       → ms ≡ due (with_packet o (λ p. record l { there = with_flight (f p) l.there }) l).there
   flies None f l ms e = e
   flies (Some p) f l ms e = e
 
-  flies_back : (o : Option (Packet M)) (f : Packet M → List (Packet M)) (l : Link M) (ms : List M)
-      → ms ≡ due l.back
+  flies_back : (o : Option (Packet M)) (f : Packet M → List (Packet M)) (l : Link M) (ms : List M) → ms ≡ due l.back
       → ms ≡ due (with_packet o (λ p. record l { there = with_flight (f p) l.there }) l).back
   flies_back None f l ms e = e
   flies_back (Some p) f l ms e = e
@@ -80,8 +67,7 @@ module _ {M : Type 0} where
   resends false true l ms e = e
   resends false false l ms e = e
 
-pub in_order : {M : Type 0} (a b : Site) (calls : List (Call M))
-    → handed a b calls ≡ due (link a b calls).there
+pub in_order : {M : Type 0} (a b : Site) (calls : List (Call M)) → handed a b calls ≡ due (link a b calls).there
 in_order a b [] = refl
 in_order a b (Puts from to m ∷ calls) =
     puts (same_site a from && same_site b to) (same_site a to && same_site b from) m (link a b calls) (handed a b calls) (delivered_le (link a b calls).there (delivered (link a b calls).back) (sound a b calls).there) (in_order a b calls)

@@ -1,13 +1,5 @@
 -- A list that is joined of pieces: where an item of a piece stands, and what a change of a piece changes.
-use Rattle.std.proofs.Common.{ℕ, zero, suc, ◌+◌, ◌-◌, ◌<◌, List, [], ◌∷◌, ◌++◌, length, get_or, take, drop, ◌≡◌, refl, ap, ◌∙◌, arith, sym, append-nil, append_assoc, length-append}
-use Rattle.std.specs.Prelude.{replicate, slice_get, slice_set, Result, Ok, Err, OnErr, Option, Some, None, IfSome, IsSome, OnSome}
-use Rattle.std.proofs.lemmas.List.{replicate-append-replicate}
-use Rattle.std.proofs.lemmas.Option.{slice_get_read}
-use Rattle.std.specs.List.{flat_map, remove}
-use Rattle.std.proofs.Math.Seq.{drop-nil}
-use Rattle.std.proofs.lemmas.List.Edits.{remove-append_left, remove-append_right}
-use Rattle.std.proofs.lemmas.List.Concat.{flat_map-append}
-use Rattle.sdd_net.specs.Links.{without_at}
+use Rattle.sdd_net.proofs.All.{Err, IfSome, IsSome, List, None, Ok, OnErr, OnSome, Option, Result, Some, [], ap, append-nil, append_assoc, arith, drop, drop-nil, flat_map, flat_map-append, get_before, get_or, length, length-append, refl, remove, remove-append_left, remove-append_right, replicate, replicate-append-replicate, slice_get, slice_get_read, slice_set, suc, sym, take, without_at, zero, ℕ, ◌++◌, ◌+◌, ◌-◌, ◌<◌, ◌∙◌, ◌∷◌, ◌≡◌}
 
 -- an item stands behind the items before it
 get_behind : {A : Type 0} (before after : List A) (j : ℕ)
@@ -17,15 +9,8 @@ get_behind (x ∷ before) after j =
     let next : suc (length before) + j ≡ suc (length before + j) = omega arith in
     rw next (get_behind before after j)
 
-get_before : {A : Type 0} (before after : List A) (j : ℕ) → j < length before
-    → slice_get (before ++ after) j ≡ slice_get before j
-get_before [] after j l = absurd (omega arith)
-get_before (x ∷ before) after zero l = refl
-get_before (x ∷ before) after (suc j) l = get_before before after j (omega arith)
-
 without_is : {A : Type 0} (xs : List A) (k : ℕ) → remove xs k ≡ without_at xs k
-without_is xs k =
-    let next : suc k ≡ k + 1 = omega arith in ap (λ n. take k xs ++ drop n xs) next
+without_is xs k = let next : suc k ≡ k + 1 = omega arith in ap (λ n. take k xs ++ drop n xs) next
 
 -- an item of the middle part is taken out of it
 without_between : {A : Type 0} (before middle after : List A) (j : ℕ) → j < length middle
@@ -73,8 +58,7 @@ module _ {X A : Type 0} (f : X → List A) where
       ∙ length-append (flat_map f (take i ps)) (f p)
 
   -- an item of a piece stands behind the items of the pieces before it
-  pub item_at : (ps : List X) (i j : ℕ) (p : X) → i < length ps → p ≡ get_or ps i p
-      → j < length (f p)
+  pub item_at : (ps : List X) (i j : ℕ) (p : X) → i < length ps → p ≡ get_or ps i p → j < length (f p)
       → slice_get (flat_map f ps) (length (flat_map f (take i ps)) + j) ≡ slice_get (f p) j
   item_at ps i j p l e within =
       ap (λ xs. slice_get xs (length (flat_map f (take i ps)) + j)) (split_at ps i p l e)
@@ -83,8 +67,7 @@ module _ {X A : Type 0} (f : X → List A) where
 
   -- a piece without its item j
   pub without_item : (ps : List X) (i j : ℕ) (p q : X) → i < length ps → p ≡ get_or ps i p
-      → j < length (f p) → f q ≡ remove (f p) j
-      → flat_map f (slice_set ps i q)
+      → j < length (f p) → f q ≡ remove (f p) j → flat_map f (slice_set ps i q)
       ≡ without_at (flat_map f ps) (length (flat_map f (take i ps)) + j)
   without_item ps i j p q l e within left =
       set_at ps i q l
@@ -125,7 +108,8 @@ module _ {X A : Type 0} (f : X → List A) where
       ∙ sym (split_at ps i p l e)
 
 -- so many of one event, and as many more
-pub times_more : {A : Type 0} (start before now : List A) (x : A) (n m k : ℕ) → before ≡ start ++ replicate n x → now ≡ before ++ replicate m x → k ≡ n + m
+pub times_more : {A : Type 0} (start before now : List A) (x : A) (n m k : ℕ) → before ≡ start ++ replicate n x → now ≡ before ++ replicate m x
+    → k ≡ n + m
     → now ≡ start ++ replicate k x
 times_more start before now x n m k e f g =
     f ∙ ap (λ ys. ys ++ replicate m x) e ∙ append_assoc start (replicate n x) (replicate m x)
@@ -138,12 +122,10 @@ on_err (Err e) a = a
 
 -- what is read of a piece is what stands at its place in the whole
 pub item_read : {R A : Type 0} (value : R → A) (r : Option R) (whole piece : List A) (k j : ℕ)
-    → j < length piece → slice_get whole k ≡ slice_get piece j
-    → IfSome r (λ y. value y ≡ get_or piece j (value y))
+    → j < length piece → slice_get whole k ≡ slice_get piece j → IfSome r (λ y. value y ≡ get_or piece j (value y))
     → IfSome r (λ y. slice_get whole k ≡ Some (value y))
 item_read value None whole piece k j l e read = tt
-item_read value (Some y) whole piece k j l e read =
-    e ∙ slice_get_read piece (length piece) j (value y) refl l read
+item_read value (Some y) whole piece k j l e read = e ∙ slice_get_read piece (length piece) j (value y) refl l read
 
 -- what holds of a result that is there
 pub of_some : {A : Type 0} (r : Option A) {B : Type 0} → IsSome r → OnSome r B → B

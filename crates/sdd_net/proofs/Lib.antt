@@ -1,3 +1,4 @@
+mod All
 pub mod Calls
 pub mod Deliveries
 pub mod Directions

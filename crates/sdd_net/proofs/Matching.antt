@@ -1,16 +1,5 @@
 -- Each step of a channel is the step of the way for which it stands.
-use Rattle.std.proofs.Common.{ℕ, zero, suc, ◌+◌, ◌-◌, ◌≤◌, Bool, true, List, [], ◌∷◌, ◌++◌, length, drop, ◌≡◌, refl, ap, ◌∙◌, arith, sym, subst, length-drop, add-zero}
-use Rattle.std.specs.Prelude.{max, nat_lt, not, slice_get, IsTrue, OnSome, OnOk, IfOk, Option, Some, None, Result, Ok, Err}
-use Rattle.sdd_base.specs.Kept.{Kept}
-use Rattle.std.proofs.lemmas.Bool.{lt-ltb, le-ltb}
-use Rattle.std.proofs.lemmas.List.{drop-append-le, drop-drop}
-use Rattle.sdd_base.specs.Words.{is_empty}
-use Rattle.sdd_net.specs.declared.packet.Packet.{Packet}
-use Rattle.sdd_net.specs.declared.packet.Packet.TheVariants.{Message}
-use Rattle.sdd_net.specs.declared.channel.Channel.{Channel}
-use Rattle.sdd_net.specs.Links.{Way, numbered, unacked, without_at}
-use Rattle.sdd_net.specs.Parts.{AreSent, HasReceived, last_number, acknowledged, received}
-use Rattle.sdd_net.specs.Nets.{Matches}
+use Rattle.sdd_net.proofs.All.{AreSent, Bool, Channel, Err, HasReceived, IfOk, IsTrue, Kept, List, Matches, Message, None, Ok, OnOk, OnSome, Option, Packet, Result, Some, Way, [], acknowledged, add-zero, ap, arith, drop, drop-append-le, drop-drop, is_empty, last_number, le-ltb, length, length-drop, lt-ltb, max, nat_lt, not, numbered, received, refl, slice_get, subst, suc, sym, true, unacked, without_at, zero, ℕ, ◌++◌, ◌+◌, ◌-◌, ◌∙◌, ◌∷◌, ◌≡◌, ◌≤◌}
 use Rattle.sdd_net.proofs.Lists.{get-append, without-past}
 use Rattle.sdd_net.proofs.Receives.{Receives, receives}
 
@@ -19,8 +8,7 @@ module _ {M : Type 0} where
   pub acked_is : (c : Channel M) (w : Way M) → Matches c w → c.sender.value.acked ≡ w.acked
   acked_is c w h = ap (λ s. s.value.acked) h.sender
 
-  pub unacked_is : (c : Channel M) (w : Way M) → Matches c w
-      → c.sender.value.unacked ≡ drop w.acked w.sent
+  pub unacked_is : (c : Channel M) (w : Way M) → Matches c w → c.sender.value.unacked ≡ drop w.acked w.sent
   unacked_is c w h = ap (λ s. s.value.unacked) h.sender
 
   pub flight_is : (c : Channel M) (w : Way M) → Matches c w → c.flight.value ≡ w.flight
@@ -34,8 +22,7 @@ module _ {M : Type 0} where
       → last_number c.sender.value ≡ length w.sent
   last_number_is c w l h = omega (arith, acked_is c w h, unacked_count c w h)
 
-  are_sent_more : (sent more : List M) (early : List (ℕ × M)) → AreSent sent early
-      → AreSent (sent ++ more) early
+  are_sent_more : (sent more : List M) (early : List (ℕ × M)) → AreSent sent early → AreSent (sent ++ more) early
   are_sent_more sent more [] h = tt
   are_sent_more sent more ((n, m) ∷ rest) h = (get-append sent more (n - 1) m h.0, are_sent_more sent more rest h.1)
 
@@ -79,18 +66,17 @@ module _ {M : Type 0} where
 
   pub acked_matches : (c d : Channel M) (w : Way M) (k : ℕ) → Matches c w
       → d.sender ≡ record { live = true; value = acknowledged k c.sender.value }
-      → d.flight ≡ c.flight → d.receiver ≡ c.receiver
-      → Matches d (record w { acked = max w.acked k })
+      → d.flight ≡ c.flight → d.receiver ≡ c.receiver → Matches d (record w { acked = max w.acked k })
   acked_matches c d w k h s f r = record {
-    sender = s ∙ rw (acked_is c w h, unacked_is c w h) (ap (λ xs. record { live = true; value = record { acked = max w.acked k; unacked = xs } }) (drop-drop (k - w.acked) w.acked w.sent ∙ ap (λ j. drop j w.sent) (omega arith)));
+    sender = s ∙ rw (acked_is c w h, unacked_is c w h)
+        (ap (λ xs. record { live = true; value = record { acked = max w.acked k; unacked = xs } }) (drop-drop (k - w.acked) w.acked w.sent ∙ ap (λ j. drop j w.sent) (omega arith)));
     flight = f ∙ h.flight;
     receiver_live = ap (λ x. x.live) r ∙ h.receiver_live;
     received = subst (λ x. HasReceived x.value w.arrived w.sent) (sym r) h.received;
   }
 
   pub message_received : (c : Channel M) (w : Way M) (n : ℕ) (m : M) → 1 ≤ n
-      → slice_get w.sent (n - 1) ≡ Some m → Matches c w
-      → Receives n m w.arrived w.sent c.receiver.value
+      → slice_get w.sent (n - 1) ≡ Some m → Matches c w → Receives n m w.arrived w.sent c.receiver.value
   message_received c w n m one is h = receives n m w.arrived w.sent c.receiver.value one is h.received
 
   pub received_matches : (c d : Channel M) (w : Way M) (n : ℕ) (m : M) → 1 ≤ n
@@ -113,14 +99,14 @@ module _ {M : Type 0} where
 
   -- what is left of a flight, whether or not there was a packet at the place
   pub left_is : (result : Option (Packet M)) (old new : Kept (List (Packet M))) (k : ℕ)
-      → result ≡ slice_get old.value k → OnSome result (new ≡ record { live = true; value = without_at old.value k }) → (result ≡ None → new ≡ old) → IsTrue old.live
+      → result ≡ slice_get old.value k → OnSome result (new ≡ record { live = true; value = without_at old.value k }) →
+      (result ≡ None → new ≡ old) → IsTrue old.live
       → new ≡ record { live = true; value = without_at old.value k }
   left_is None old new k e some none live = none refl ∙ rw (without-past old.value k (sym e)) (ap (λ b. record { live = b; value = old.value }) live)
   left_is (Some p) old new k e some none live = some
 
 -- what two facts about a result that is Ok lead to
-pub on_both : {T E : Type 0} (r : Result T E) (A B C : Type 0) → OnOk r A → OnOk r B → (A → B → C)
-    → OnOk r C
+pub on_both : {T E : Type 0} (r : Result T E) (A B C : Type 0) → OnOk r A → OnOk r B → (A → B → C) → OnOk r C
 on_both (Ok x) A B C a b f = f a b
 on_both (Err e) A B C a b f = tt
 

@@ -1,15 +1,9 @@
 -- One channel among all.
-use Rattle.std.proofs.Common.{ℕ, suc, zero, ◌<◌, List, [], ◌∷◌, length, get_or, ◌≡◌, refl, arith, sym, subst}
-use Rattle.std.specs.Prelude.{IsTrue, slice_get, slice_set, Some}
-use Rattle.std.proofs.lemmas.Option.{slice_get_read}
-use Rattle.sdd_net.specs.declared.channel.Channel.{Channel}
-use Rattle.sdd_net.specs.Links.{Way}
-use Rattle.sdd_net.specs.Nets.{Matches, Fits, IsLive, IsLiveAt, Changes}
+use Rattle.sdd_net.proofs.All.{Changes, Channel, Fits, IsLive, IsLiveAt, IsTrue, List, Matches, Some, Way, [], arith, get_or, length, refl, slice_get, slice_get_read, slice_set, subst, suc, sym, zero, ℕ, ◌<◌, ◌∷◌, ◌≡◌}
 use Rattle.sdd_net.proofs.Lists.{get-set_same, get-set_other}
 
 module _ {M : Type 0} where
-  pub live_within : (channels : List (Channel M)) (at : ℕ) → IsLiveAt (slice_get channels at)
-      → at < length channels
+  pub live_within : (channels : List (Channel M)) (at : ℕ) → IsLiveAt (slice_get channels at) → at < length channels
   live_within [] at h = absurd h
   live_within (c ∷ cs) zero h = omega arith
   live_within (c ∷ cs) (suc at) h = let i = live_within cs at h in omega arith
@@ -36,8 +30,7 @@ module _ {M : Type 0} where
   live_receiver channels at c h e = (live_there channels at c h e).receiver
 
   pub fits_there : (channels : List (Channel M)) (at : ℕ) (c : Channel M) (w : Way M)
-      → IsLiveAt (slice_get channels at) → c ≡ get_or channels at c → Fits (slice_get channels at) w
-      → Matches c w
+      → IsLiveAt (slice_get channels at) → c ≡ get_or channels at c → Fits (slice_get channels at) w → Matches c w
   fits_there channels at c w h e f = subst (λ o. Fits o w) (is_there channels at c h e) f
 
   -- the channel is changed in its place

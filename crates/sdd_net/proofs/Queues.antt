@@ -1,19 +1,14 @@
 -- The lists of a mailbox, of which one changes.
-use Rattle.std.proofs.Common.{ℕ, zero, suc, Bool, true, false, ◌+◌, ◌<◌, ◌≤◌, ◌≢◌, ◌≡◌, refl, ap, ◌∙◌, sym, subst, List, [], ◌∷◌, ◌++◌, map, length, get_or, Option, Some, None, arith}
-use Rattle.std.specs.Option.{option_to_list}
-use Rattle.std.proofs.lemmas.Bool.{eq-eqb}
-use Rattle.sdd_base.specs.Sites.{same_site}
-use Rattle.sdd_base.specs.declared.site.Site.{Site}
-use Rattle.sdd_base.specs.declared.site.Site.TheVariants.{U, T, D}
-use Rattle.sdd_net.specs.Mailboxes.{empty_mailbox, IsBefore, IsLowest, IsWithin, number_of_t, place_of, Puts, queue_at, Takes, TakesFirst, total}
-use Rattle.std.specs.Prelude.{replicate, MatchOption, OnErr, Result, Ok, Err, slice_get, slice_set, slice_index_or}
+use Rattle.sdd_net.proofs.All.{Bool, D, Err, IsBefore, IsLowest, IsWithin, List, MatchOption, None, Ok, OnErr, Option, Result, Site, Some, T, Takes, TakesFirst, U, [], ap, arith, empty_mailbox, eq-eqb, false, get_or, get_or as slice_index_or, length, map, number_of_t, option_to_list, place_of, queue_at, refl, replicate, same_site, slice_set, subst, suc, sym, total, true, zero, ℕ, ◌++◌, ◌+◌, ◌<◌, ◌∙◌, ◌∷◌, ◌≡◌, ◌≢◌, ◌≤◌}
+use Rattle.sdd_net.specs.Mailboxes.{Puts}
 
 pub map_set : {A B : Type 0} (f : A → B) (xs : List A) (i : ℕ) (y : A) → map f (slice_set xs i y) ≡ slice_set (map f xs) i (f y)
 map_set f [] i y = refl
 map_set f (x ∷ xs) zero y = refl
 map_set f (x ∷ xs) (suc i) y = ap (λ l. f x ∷ l) (map_set f xs i y)
 
-pub map_index : {A B : Type 0} (f : A → B) (xs : List A) (i : ℕ) (x : A) (d : B) → i < length xs → x ≡ get_or xs i x → slice_index_or (map f xs) i d ≡ f x
+pub map_index : {A B : Type 0} (f : A → B) (xs : List A) (i : ℕ) (x : A) (d : B) → i < length xs → x ≡ get_or xs i x
+    → slice_index_or (map f xs) i d ≡ f x
 map_index f [] i x d l e = absurd (omega arith)
 map_index f (y ∷ xs) zero x d l e = ap f (sym e)
 map_index f (y ∷ xs) (suc i) x d l e = map_index f xs i x d (omega arith) e
@@ -37,7 +32,8 @@ length_set (x ∷ xs) zero y = refl
 length_set (x ∷ xs) (suc i) y = ap suc (length_set xs i y)
 
 -- one list with an item at its end
-pub pushed : {A B : Type 0} (f : A → List B) (xs : List A) (i : ℕ) (x y : A) (item : B) → i < length xs → x ≡ get_or xs i x → f y ≡ f x ++ item ∷ []
+pub pushed : {A B : Type 0} (f : A → List B) (xs : List A) (i : ℕ) (x y : A) (item : B) → i < length xs → x ≡ get_or xs i x
+    → f y ≡ f x ++ item ∷ []
     → map f (slice_set xs i y) ≡ slice_set (map f xs) i (slice_index_or (map f xs) i [] ++ item ∷ [])
 pushed f xs i x y item l e g = rw (map_index f xs i x [] l e) (map_set f xs i y ∙ ap (λ z. slice_set (map f xs) i z) g)
 
@@ -51,7 +47,8 @@ length_map f [] = refl
 length_map f (x ∷ xs) = ap suc (length_map f xs)
 
 -- one list stays as it was
-pub all_stay : {A B : Type 0} (f : A → List B) (xs : List A) (i : ℕ) (x y : A) → i < length xs → x ≡ get_or xs i x → f y ≡ f x → map f (slice_set xs i y) ≡ map f xs
+pub all_stay : {A B : Type 0} (f : A → List B) (xs : List A) (i : ℕ) (x y : A) → i < length xs → x ≡ get_or xs i x → f y ≡ f x
+    → map f (slice_set xs i y) ≡ map f xs
 all_stay f xs i x y l e g =
     let here : slice_index_or (map f xs) i [] ≡ f x = map_index f xs i x [] l e in
     map_set f xs i y ∙ same_set (map f xs) i (f y) [] (g ∙ sym here) (rw (length_map f xs) l)
@@ -65,7 +62,8 @@ abbrev pub Popped : {A M : Type 0} → (A → List M) → List A → List A → 
 Popped f xs ys i None = (map f ys ≡ map f xs) × (slice_index_or (map f xs) i [] ≡ [])
 Popped {M = M} f xs ys i (Some m) = (rest : List M) × (slice_index_or (map f xs) i [] ≡ m ∷ rest) × (map f ys ≡ slice_set (map f xs) i rest)
 
-pub popped : {A M : Type 0} (f : A → List M) (xs : List A) (i : ℕ) (x y : A) (o : Option M) → i < length xs → x ≡ get_or xs i x → f x ≡ option_to_list o ++ f y → (o ≡ None → f x ≡ [])
+pub popped : {A M : Type 0} (f : A → List M) (xs : List A) (i : ℕ) (x y : A) (o : Option M) → i < length xs → x ≡ get_or xs i x
+    → f x ≡ option_to_list o ++ f y → (o ≡ None → f x ≡ [])
     → Popped f xs (slice_set xs i y) i o
 popped f xs i x y None l e g n =
     let h : slice_index_or (map f xs) i [] ≡ f x = map_index f xs i x [] l e in
@@ -89,7 +87,8 @@ match_popped f xs ys i (Some m) h = h
 
 -- the whole mailbox
 
-pub filled : {M : Type 0} (queues : List (List M)) (k n : ℕ) → queues ≡ replicate k [] → k ≤ n + 1 → n + 1 ≤ k → record { down = false; queues = queues } ≡ empty_mailbox n
+pub filled : {M : Type 0} (queues : List (List M)) (k n : ℕ) → queues ≡ replicate k [] → k ≤ n + 1 → n + 1 ≤ k
+    → record { down = false; queues = queues } ≡ empty_mailbox n
 filled queues k n e l m = let s : k ≡ suc n = omega (arith, l, m) in ap (λ qs. record { down = false; queues = qs }) (e ∙ ap (λ j. replicate j []) s)
 
 some_is : (j k : ℕ) → ◌≡◌ {A = Option ℕ} (Some j) (Some k) → j ≡ k
@@ -109,19 +108,23 @@ same_place (T n) (T m) k e f = let a : n.0 ≡ k = (t_place n.0 k e).0 in let b 
 same_place (T n) (D m) k e f = cc
 same_place (D n) y k e f = cc
 
-queue_other : {M : Type 0} (queues : List (List M)) (place : ℕ) (queue : List M) (o : Option ℕ) → ((j : ℕ) → o ≡ Some j → j ≢ place) → queue_at (slice_set queues place queue) o ≡ queue_at queues o
+queue_other : {M : Type 0} (queues : List (List M)) (place : ℕ) (queue : List M) (o : Option ℕ) → ((j : ℕ) → o ≡ Some j → j ≢ place)
+    → queue_at (slice_set queues place queue) o ≡ queue_at queues o
 queue_other queues place queue None n = refl
 queue_other queues place queue (Some j) n = index_other queues place j queue [] (n j refl)
 
 apart : (x from : Site) (k : ℕ) → place_of from ≡ Some k → same_site x from ≡ false → (j : ℕ) → place_of x ≡ Some j → j ≢ k
-apart x from k e f j g = λ s. (let same : same_site x from ≡ true = same_place x from k (g ∙ ap (λ z. Some z) s) e in let no : true ≡ false = sym same ∙ f in cc)
+apart x from k e f j g =
+    λ s. (let same : same_site x from ≡ true = same_place x from k (g ∙ ap (λ z. Some z) s) e in let no : true ≡ false = sym same ∙ f in cc)
 
 within_of : (n : ℕ) (o : Option ℕ) → IsWithin n o → (k : ℕ) × (o ≡ Some k) × (k < n)
 within_of n None h = absurd h
 within_of n (Some k) h = (k, refl, h)
 
-pub puts : {M : Type 0} (down : Bool) (old new : List (List M)) (from : Site) (place : ℕ) (msg : M) → IsWithin (length old) (place_of from) → ((k : ℕ) → place_of from ≡ Some k → place ≡ k)
-    → new ≡ slice_set old place (slice_index_or old place [] ++ msg ∷ []) → Puts (record { down = down; queues = old }) (record { down = down; queues = new }) from msg
+pub puts : {M : Type 0} (down : Bool) (old new : List (List M)) (from : Site) (place : ℕ) (msg : M) → IsWithin (length old) (place_of from)
+    → ((k : ℕ) → place_of from ≡ Some k → place ≡ k)
+    → new ≡ slice_set old place (slice_index_or old place [] ++ msg ∷ [])
+    → Puts (record { down = down; queues = old }) (record { down = down; queues = new }) from msg
 puts {M = M} down old new from place msg h f e =
     let w = within_of (length old) (place_of from) h in
     let at : place_of from ≡ Some place = w.1 ∙ ap (λ k. Some k) (sym (f w.0 w.1)) in
@@ -130,27 +133,32 @@ puts {M = M} down old new from place msg h f e =
     record {
       down = refl;
       count = ap length e ∙ length_set old place queue;
-      here = ap (queue_at new) at ∙ ap (λ qs. slice_index_or qs place []) e ∙ index_set old place queue [] less ∙ ap (λ z. z ++ msg ∷ []) (sym (ap (queue_at old) at));
+      here = ap (queue_at new) at ∙ ap (λ qs. slice_index_or qs place []) e ∙ index_set old place queue [] less
+          ∙ ap (λ z. z ++ msg ∷ []) (sym (ap (queue_at old) at));
       others = λ x p. ap (λ qs. queue_at qs (place_of x)) e ∙ queue_other old place queue (place_of x) (apart x from place at p);
     }
 
-lowest : {M : Type 0} (old : List (List M)) (place : ℕ) → ((j : ℕ) → j < place → slice_index_or old j [] ≡ []) → (o : Option ℕ) → IsBefore o (Some place) → queue_at old o ≡ []
+lowest : {M : Type 0} (old : List (List M)) (place : ℕ) → ((j : ℕ) → j < place → slice_index_or old j [] ≡ []) → (o : Option ℕ)
+    → IsBefore o (Some place) → queue_at old o ≡ []
 lowest old place f None h = absurd h
 lowest old place f (Some j) h = f j h
 
-total_set : {M : Type 0} (queues : List (List M)) (i : ℕ) (item : M) (rest : List M) → i < length queues → slice_index_or queues i [] ≡ item ∷ rest → suc (total (slice_set queues i rest)) ≡ total queues
+total_set : {M : Type 0} (queues : List (List M)) (i : ℕ) (item : M) (rest : List M) → i < length queues → slice_index_or queues i [] ≡ item ∷ rest
+    → suc (total (slice_set queues i rest)) ≡ total queues
 total_set [] i item rest l e = absurd (omega arith)
 total_set (q ∷ queues) zero item rest l e = let n : length q ≡ suc (length rest) = ap length e in omega (arith, n)
 total_set (q ∷ queues) (suc i) item rest l e = let n = total_set queues i item rest (omega arith) e in omega (arith, n)
 
-pub takes : {M : Type 0} (down : Bool) (old new : List (List M)) (from : Site) (place : ℕ) (msg : M) → place_of from ≡ Some place → TakesFirst old new place msg
+pub takes : {M : Type 0} (down : Bool) (old new : List (List M)) (from : Site) (place : ℕ) (msg : M) → place_of from ≡ Some place
+    → TakesFirst old new place msg
     → Takes (record { down = down; queues = old }) (record { down = down; queues = new }) from msg × IsLowest (record { down = down; queues = old }) from
 takes {M = M} down old new from place msg at t = (
   record {
     down = refl;
     count = ap length t.left ∙ length_set old place t.rest;
     sender = subst (IsWithin (length old)) (sym at) t.within;
-    here = ap (queue_at old) at ∙ t.here ∙ ap (λ z. msg ∷ z) (sym (ap (queue_at new) at ∙ ap (λ qs. slice_index_or qs place []) t.left ∙ index_set old place t.rest [] t.within));
+    here = ap (queue_at old) at ∙ t.here ∙ ap (λ z. msg ∷ z)
+        (sym (ap (queue_at new) at ∙ ap (λ qs. slice_index_or qs place []) t.left ∙ index_set old place t.rest [] t.within));
     fewer = ap (λ qs. suc (total qs)) t.left ∙ total_set old place msg t.rest t.within t.here;
     others = λ x p. ap (λ qs. queue_at qs (place_of x)) t.left ∙ queue_other old place t.rest (place_of x) (apart x from place at p);
   },

@@ -1,15 +1,5 @@
 -- A receiver's window against all that ever arrived.
-use Rattle.std.proofs.Common.{ℕ, suc, ◌+◌, ◌-◌, ◌<◌, ◌≤◌, ◌≢◌, ◌==◌, ◌||◌, Bool, true, false, List, [], ◌∷◌, length, take, drop, ◌≡◌, refl, ap, ◌∙◌, arith, sym, subst, add-zero, length-take}
-use Rattle.std.specs.Prelude.{nat_le, IsTrue, slice_get, Some}
-use Rattle.std.specs.Ordering.{nat_cmp, match_ordering}
-use Rattle.std.specs.BTreeMap.{insert_entry}
-use Rattle.std.proofs.Math.Decide.{dec_le}
-use Rattle.std.proofs.lemmas.Bool.{eqb-true, eqb-false, eq-eqb, ne_eqb, le-leb, lt-leb}
-use Rattle.std.proofs.lemmas.List.{drop_all}
-use Rattle.sdd_base.specs.Kept.{Kept}
-use Rattle.sdd_base.specs.Words.{contains}
-use Rattle.sdd_net.specs.Links.{top}
-use Rattle.sdd_net.specs.Parts.{Receiving, Ascends, AreSent, numbers, IsEarly, HasReceived, in_turn, out_of_turn, handed_on, received}
+use Rattle.sdd_net.proofs.All.{AreSent, Ascends, Bool, HasReceived, IsEarly, IsTrue, Kept, List, Receiving, Some, [], add-zero, ap, arith, contains, dec_le, drop, drop_all, eq-eqb, eqb-false, eqb-true, false, handed_on, in_turn, insert_entry, le-leb, length, length-take, lt-leb, match_ordering, nat_cmp, nat_le, ne_eqb, numbers, out_of_turn, received, refl, slice_get, subst, suc, sym, take, top, true, ℕ, ◌+◌, ◌-◌, ◌<◌, ◌==◌, ◌||◌, ◌∙◌, ◌∷◌, ◌≡◌, ◌≢◌, ◌≤◌}
 use Rattle.sdd_net.proofs.Lists.{by_order, drop-member, get-take}
 use Rattle.sdd_net.proofs.Tops.{top_is, stops, starts, counts_up, repeated}
 
@@ -22,11 +12,6 @@ none_below k j ((n, m) ∷ rest) h l =
     let test : (n == j) ≡ false = ne_eqb n j ne in
     rw test (none_below n j rest h.1 (omega (arith, h.0)))
 
-ascends_less : {M : Type 0} (j k : ℕ) (early : List (ℕ × M)) → j ≤ k → Ascends k early
-    → Ascends j early
-ascends_less j k [] l h = tt
-ascends_less j k ((n, m) ∷ rest) l h = (omega (arith, h.0), h.1)
-
 -- a message that comes early goes to its place
 ascends_insert : {M : Type 0} (k n : ℕ) (m : M) (early : List (ℕ × M)) → Ascends k early → k < n
     → Ascends k (insert_entry nat_cmp early n m)
@@ -38,8 +23,7 @@ ascends_insert k n m ((x, y) ∷ rest) h l =
     (λ more. (h.0, ascends_insert x n m rest h.1 more))
 
 are_sent_insert : {M : Type 0} (sent : List M) (n : ℕ) (m : M) (early : List (ℕ × M))
-    → AreSent sent early → slice_get sent (n - 1) ≡ Some m
-    → AreSent sent (insert_entry nat_cmp early n m)
+    → AreSent sent early → slice_get sent (n - 1) ≡ Some m → AreSent sent (insert_entry nat_cmp early n m)
 are_sent_insert sent n m [] h e = (e, tt)
 are_sent_insert sent n m ((x, y) ∷ rest) h e =
     by_order n x (λ o. AreSent sent (match_ordering o ((n, m) ∷ (x, y) ∷ rest) ((x, m) ∷ rest) ((x, y) ∷ insert_entry nat_cmp rest n m)))
@@ -81,8 +65,7 @@ pub record Turns {M : Type 0} (k : ℕ) (ns : List ℕ) (sent : List M) (early :
   pub waits : IsEarly (top ns) ns sent (out_of_turn k early)
 
 stays : {M : Type 0} (k : ℕ) (ns : List ℕ) (sent : List M) (early : List (ℕ × M))
-    → IsEarly k ns sent early → k ≡ top ns → in_turn k early ≡ [] → out_of_turn k early ≡ early
-    → Turns k ns sent early
+    → IsEarly k ns sent early → k ≡ top ns → in_turn k early ≡ [] → out_of_turn k early ≡ early → Turns k ns sent early
 stays {M = M} k ns sent early h e none rest = record {
   count = rw none (add-zero k ∙ e);
   handed = none ∙ sym (drop_all k (take (top ns) sent) (omega (arith, length-take (top ns) sent)));
@@ -106,8 +89,7 @@ next_there k ns sent m rest h =
     sym (rw test at old)
 
 turn : {M : Type 0} (k : ℕ) (ns : List ℕ) (sent : List M) (m : M) (rest : List (ℕ × M))
-    → IsEarly k ns sent ((k + 1, m) ∷ rest) → Turns (k + 1) ns sent rest
-    → Turns k ns sent ((k + 1, m) ∷ rest)
+    → IsEarly k ns sent ((k + 1, m) ∷ rest) → Turns (k + 1) ns sent rest → Turns k ns sent ((k + 1, m) ∷ rest)
 turn {M = M} k ns sent m rest h t =
     let test : (k + 1 == k + 1) ≡ true = eq-eqb (k + 1) (k + 1) refl in
     let member : slice_get sent (k + 1 - 1) ≡ Some m = h.are_sent.0 in
@@ -121,18 +103,19 @@ turn {M = M} k ns sent m rest h t =
     }
 
 pub turns_to : {M : Type 0} (k : ℕ) (ns : List ℕ) (sent : List M) (early : List (ℕ × M))
-    → IsEarly k ns sent early → ((j : ℕ) → j < k → contains ns (suc j) ≡ true)
-    → Turns k ns sent early
+    → IsEarly k ns sent early → ((j : ℕ) → j < k → contains ns (suc j) ≡ true) → Turns k ns sent early
 turns_to k ns sent [] h below = stays k ns sent [] h (stops ns k below (sym (h.same (suc k) (omega arith)))) refl refl
 turns_to {M = M} k ns sent ((x, m) ∷ rest) h below = elim (x == k + 1) as (λ b. (x == k + 1) ≡ b → Turns k ns sent ((x, m) ∷ rest)) [
   | true ↦ λ p. (let same : x ≡ k + 1 = eqb-true x (k + 1) p in
       let h1 : IsEarly k ns sent ((k + 1, m) ∷ rest) = subst (λ z. IsEarly k ns sent ((z, m) ∷ rest)) same h in
       let one : suc k ≡ k + 1 = omega arith in
       let below1 : (j : ℕ) → j < k + 1 → contains ns (suc j) ≡ true = λ j l. counts_up ns k below (next_there k ns sent m rest h1) j (omega arith) in
-      subst (λ z. Turns k ns sent ((z, m) ∷ rest)) (sym same) (turn k ns sent m rest h1 (turns_to (k + 1) ns sent rest (next_early k ns sent m rest h1) below1)))
+      subst (λ z. Turns k ns sent ((z, m) ∷ rest)) (sym same)
+      (turn k ns sent m rest h1 (turns_to (k + 1) ns sent rest (next_early k ns sent m rest h1) below1)))
   | false ↦ λ p. (let ne : x ≢ k + 1 = eqb-false x (k + 1) p in
       let above : k < x = h.ascends.0 in
-      let gap : contains (numbers ((x, m) ∷ rest)) (suc k) ≡ false = none_below (suc k) (suc k) ((x, m) ∷ rest) (omega (arith, ne), h.ascends.1) (omega arith) in
+      let gap : contains (numbers ((x, m) ∷ rest)) (suc k) ≡ false = none_below (suc k) (suc k) ((x, m) ∷ rest) (omega (arith, ne), h.ascends.1)
+      (omega arith) in
       stays k ns sent ((x, m) ∷ rest) h (stops ns k below (sym (h.same (suc k) (omega arith)) ∙ gap)) (rw p refl) (rw p refl))
 ] refl
 
@@ -161,22 +144,22 @@ receives_old {M = M} n m arrived sent r one old h =
     }
 
 receives_new : {M : Type 0} (n : ℕ) (m : M) (arrived : List ℕ) (sent : List M) (r : Receiving M)
-    → top arrived < n → slice_get sent (n - 1) ≡ Some m → HasReceived r arrived sent
-    → Receives n m arrived sent r
+    → top arrived < n → slice_get sent (n - 1) ≡ Some m → HasReceived r arrived sent → Receives n m arrived sent r
 receives_new {M = M} n m arrived sent r new is h =
     let e : r.count ≡ top arrived = h.count in
     let test : nat_le n r.count ≡ false = lt-leb n r.count (omega arith) in
     let t : Turns (top arrived) (n ∷ arrived) sent (insert_entry nat_cmp r.early n m) =
-    turns_to (top arrived) (n ∷ arrived) sent (insert_entry nat_cmp r.early n m) (insert_early (top arrived) arrived sent n m r.early new is h.early) (starts n arrived) in
+    turns_to (top arrived) (n ∷ arrived) sent (insert_entry nat_cmp r.early n m) (insert_early (top arrived) arrived sent n m r.early new is h.early)
+    (starts n arrived) in
     record {
       stands = record { count = rw (test, e) t.count; early = rw (test, e) t.waits };
       handed = rw (test, e) t.handed;
     }
 
 pub receives : {M : Type 0} (n : ℕ) (m : M) (arrived : List ℕ) (sent : List M) (r : Receiving M)
-    → 1 ≤ n → slice_get sent (n - 1) ≡ Some m → HasReceived r arrived sent
-    → Receives n m arrived sent r
-receives n m arrived sent r one is h = elim (dec_le n (top arrived)) [ yes p ↦ receives_old n m arrived sent r one p h | no p ↦ receives_new n m arrived sent r (omega (arith, p)) is h ]
+    → 1 ≤ n → slice_get sent (n - 1) ≡ Some m → HasReceived r arrived sent → Receives n m arrived sent r
+receives n m arrived sent r one is h =
+    elim (dec_le n (top arrived)) [ yes p ↦ receives_old n m arrived sent r one p h | no p ↦ receives_new n m arrived sent r (omega (arith, p)) is h ]
 
 -- what is exact of one arrival says what the receiver stands for after it
 pub arrival_stands : {M : Type 0} (n : ℕ) (m : M) (old : Receiving M) (new : Kept (Receiving M)) (handed : List M)
@@ -188,8 +171,7 @@ arrival_stands n m old new handed one e f arrived sent is h =
     (subst (λ k. HasReceived k.value (n ∷ arrived) sent) (sym e) got.stands, f ∙ got.handed)
 
 -- a message that was handed on before changes nothing
-pub old_arrival : {M : Type 0} (n : ℕ) (m : M) (r : Kept (Receiving M)) → IsTrue r.live
-    → n ≤ r.value.count
+pub old_arrival : {M : Type 0} (n : ℕ) (m : M) (r : Kept (Receiving M)) → IsTrue r.live → n ≤ r.value.count
     → (r ≡ record { live = true; value = received n m r.value }) × ([] ≡ handed_on n m r.value)
 old_arrival n m r live old =
     let test : nat_le n r.value.count ≡ true = le-leb n r.value.count old in

@@ -1,12 +1,5 @@
 -- What is delivered on a link doesn't fall.
-use Rattle.sdd_base.specs.Sites.{same_site}
-use Rattle.std.proofs.Common.{◌≤◌, Bool, true, false, List, ◌∷◌, arith, Option, Some, None}
-use Rattle.std.specs.Bool.{if◌then◌else◌}
-use Rattle.std.specs.Prelude.{◌&&◌}
-use Rattle.sdd_base.specs.declared.site.Site.{Site}
-use Rattle.sdd_net.specs.declared.packet.Packet.{Packet}
-use Rattle.sdd_net.specs.declared.packet.Packet.TheVariants.{Message, Ack}
-use Rattle.sdd_net.specs.Links.{Call, Puts, Delivers, Loses, Repeats, Resends, Link, link, on_link, turned, put, deliver, lose, repeat, resend, arrives, packet_at, with_packet, without_packet, delivered}
+use Rattle.sdd_net.proofs.All.{Ack, Bool, Call, Delivers, Link, List, Loses, Message, None, Option, Packet, Puts, Repeats, Resends, Site, Some, arith, arrives, deliver, delivered, false, if◌then◌else◌, link, lose, on_link, packet_at, put, repeat, resend, same_site, true, turned, with_packet, without_packet, ◌&&◌, ◌∷◌, ◌≤◌}
 use Rattle.sdd_net.proofs.Tops.{top_rises}
 
 -- neither way delivers less
@@ -22,8 +15,7 @@ by_packet : {M : Type 0} (o : Option (Packet M)) (f : Packet M → Link M) (l : 
 by_packet None f l h = (omega arith, omega arith)
 by_packet (Some p) f l h = h p
 
-by_way : {M : Type 0} (c d : Bool) (f : Link M → Link M) (l : Link M)
-    → ((k : Link M) → Rises k (f k))
+by_way : {M : Type 0} (c d : Bool) (f : Link M → Link M) (l : Link M) → ((k : Link M) → Rises k (f k))
     → Rises l (if c then f l else if d then turned (f (turned l)) else l)
 by_way true d f l h = h l
 by_way false true f l h = ((h (turned l)).1, (h (turned l)).0)

@@ -1,30 +1,11 @@
 -- What the network tells of all its links is what the definitions say of them.
-use Rattle.std.proofs.Common.{ℕ, suc, zero, ◌+◌, ◌-◌, ◌<◌, ◌≤◌, Bool, true, false, cond, List, [], ◌∷◌, ◌++◌, length, take, get_or, map, ◌≡◌, refl, ap, ◌∙◌, arith, sym, subst}
-use Rattle.std.specs.Prelude.{◌&&◌, nat_le, nat_lt, IsTrue, replicate, slice_get, Option, Some, None, All}
-use Rattle.std.specs.List.{list_all, range_with_len, filter_map, flat_map, cons_option}
-use Rattle.std.proofs.lemmas.Bool.{le-leb, lt-leb}
-use Rattle.std.proofs.lemmas.List.{take_all, take_more}
-use Rattle.std.proofs.lemmas.List.Folds.{list_all_at}
-use Rattle.std.proofs.lemmas.Grind.{flat_map-append}
-use Rattle.std.proofs.lemmas.List.Elements.{filter_map-append, All-nil, All-cons, All-head, All-tail, All-same, All-append, All-map, All-weaker}
-use Rattle.sdd_base.specs.Kept.{Kept}
-use Rattle.sdd_base.specs.Words.{is_empty}
-use Rattle.sdd_base.specs.Sites.{are_linked, sites, links}
-use Rattle.sdd_base.specs.declared.site.Site.{Site}
-use Rattle.sdd_base.specs.declared.site.Site.TheVariants.{U, T, D}
-use Rattle.sdd_base.specs.declared.event.Event.{Event}
-use Rattle.sdd_base.specs.declared.event.Event.TheVariants.{Deliver, Resend}
-use Rattle.sdd_net.specs.declared.channel.Channel.{Channel}
-use Rattle.sdd_net.specs.declared.placed_link.PlacedLink.{PlacedLink}
-use Rattle.sdd_net.specs.Links.{Call, Way, link, is_quiet_link, quiet, resends_now, in_flight, round}
-use Rattle.sdd_net.specs.Nets.{Directions, is_site, is_link, index_of, placed, Fits, Stands, StandsFor, IsNet, IsLiveAt, channel_on, quiet_at, resends_at, in_flight_at, quiet_on, resend_on, deliveries_on}
+use Rattle.sdd_net.proofs.All.{All, All-append, All-cons, All-head, All-map, All-nil, All-same, All-tail, All-weaker, Bool, Call, Channel, D, Deliver, Directions, Event, Fits, IsLiveAt, IsNet, IsTrue, Kept, List, None, Option, PlacedLink, Resend, Site, Some, Stands, StandsFor, T, U, Way, [], ap, are_linked, arith, channel_on, cond, cons_option, deliveries_on, false, filter_map, filter_map-append, flat_map, flat_map-append, get_or, in_flight, in_flight_at, index_of, is_empty, is_link, is_quiet_link, is_site, le-leb, length, link, links, list_all, list_all_at, lt-leb, map, nat_le, nat_lt, placed, quiet, quiet_at, quiet_on, range_with_len, refl, replicate, resend_on, resends_at, resends_now, round, sites, slice_get, subst, suc, sym, take, take_all, take_more, true, zero, ℕ, ◌&&◌, ◌++◌, ◌+◌, ◌-◌, ◌<◌, ◌∙◌, ◌∷◌, ◌≡◌, ◌≤◌}
 use Rattle.sdd_net.proofs.Matching.{flight_is, unacked_count, not_empty}
 use Rattle.sdd_net.proofs.Directions.{link_back, back_is}
 use Rattle.sdd_net.proofs.Deliveries.{fits_live}
 use Rattle.sdd_net.proofs.Calls.{net_of, live_is}
 
-range_within : (P : ℕ → Type 0) (a n : ℕ) → ((k : ℕ) → a ≤ k → k < a + n → P k)
-    → All P (range_with_len a n)
+range_within : (P : ℕ → Type 0) (a n : ℕ) → ((k : ℕ) → a ≤ k → k < a + n → P k) → All P (range_with_len a n)
 range_within P a zero f = All-nil P
 range_within P a (suc n) f =
     All-cons P a (range_with_len (a + 1) n) (f a (omega arith) (omega arith))
@@ -155,12 +136,10 @@ module _ {M : Type 0} where
         (λ l. quiet_on d.channels (placed d.tms d.dms l) ≡ is_quiet_link (link l.0 l.1 calls))
         (λ l h. quiet_fits (channel_on d l.0 l.1) (link l.0 l.1 calls).there (s l.0 l.1 h)))
 
-    back_fits : (a b : Site) → IsTrue (is_link d.tms d.dms a b)
-        → Fits (channel_on d b a) (link a b calls).back
+    back_fits : (a b : Site) → IsTrue (is_link d.tms d.dms a b) → Fits (channel_on d b a) (link a b calls).back
     back_fits a b h = fits_back d.tms d.dms d.channels calls a b s h
 
-    resends_are : filter_map (resend_on d.channels) (all_placed d)
-        ≡ filter_map (resend_due calls) (links d.tms d.dms)
+    resends_are : filter_map (resend_on d.channels) (all_placed d) ≡ filter_map (resend_due calls) (links d.tms d.dms)
     resends_are =
         filter_map_mapped (resend_on d.channels) (resend_due calls) (placed d.tms d.dms) (links d.tms d.dms)
         (on_links d.tms d.dms (λ l. resend_on d.channels (placed d.tms d.dms l) ≡ resend_due calls l)
@@ -231,8 +210,7 @@ module _ {M : Type 0} where
       → items ≡ all_placed net.value → length items ≤ k
       → resends ≡ filter_map (resend_on net.value.channels) (take k items)
       → deliveries ≡ flat_map (deliveries_on net.value.channels) (take k items)
-      → events ≡ resends ++ deliveries → StandsFor net calls
-      → events ≡ round (links net.value.tms net.value.dms) calls
+      → events ≡ resends ++ deliveries → StandsFor net calls → events ≡ round (links net.value.tms net.value.dms) calls
   round_all net items k resends deliveries events calls e l f g h s =
       rw (h, f, g, take_all k items l, e, resends_are net.value calls s, deliveries_are net.value calls s) refl
 

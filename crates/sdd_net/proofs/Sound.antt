@@ -1,29 +1,17 @@
 -- What holds of every link, whatever calls were made.
-use Rattle.sdd_base.specs.Sites.{same_site}
-use Rattle.std.proofs.Common.{ℕ, zero, suc, ◌+◌, ◌-◌, ◌<◌, ◌≤◌, Bool, true, false, List, [], ◌∷◌, ◌++◌, length, length-append, ◌≡◌, refl, arith}
-use Rattle.std.specs.Bool.{if◌then◌else◌}
-use Rattle.std.specs.Prelude.{◌&&◌, slice_get, Some, None, All}
-use Rattle.sdd_base.specs.declared.site.Site.{Site}
-use Rattle.sdd_net.specs.declared.packet.Packet.{Packet}
-use Rattle.sdd_net.specs.declared.packet.Packet.TheVariants.{Message, Ack}
-use Rattle.sdd_net.specs.Links.{Call, Puts, Delivers, Loses, Repeats, Resends, Way, Link, link, unused, on_link, turned, put, deliver, lose, repeat, resend, arrives, packet_at, with_packet, without_packet, without_at, numbered, unacked, delivered, top}
-use Rattle.sdd_net.specs.Sound.{IsOf, IsNumber, IsSoundWay, IsSound}
-use Rattle.std.proofs.lemmas.List.Elements.{All-nil, All-cons, All-append, All-drop, All-push, All-weaker}
-use Rattle.std.proofs.lemmas.Option.{slice_get_within}
+use Rattle.sdd_net.proofs.All.{Ack, All, All-append, All-cons, All-drop, All-nil, All-push, All-weaker, Bool, Call, Delivers, IsNumber, IsOf, IsSound, IsSoundWay, Link, List, Loses, Message, None, Packet, Puts, Repeats, Resends, Site, Some, Way, [], arith, arrives, deliver, delivered, false, if◌then◌else◌, length, length-append, link, lose, numbered, on_link, packet_at, put, refl, repeat, resend, same_site, slice_get, slice_get_within, suc, top, true, turned, unacked, unused, with_packet, without_at, without_packet, zero, ℕ, ◌&&◌, ◌++◌, ◌+◌, ◌-◌, ◌<◌, ◌∷◌, ◌≡◌, ◌≤◌}
 use Rattle.sdd_net.proofs.Lists.{All-without_at, All-at, All-among, get-append, get-last}
 use Rattle.sdd_net.proofs.Tops.{top_is, top_rises}
 
 -- what is delivered was sent
-pub top_le : (P : ℕ → Type 0) (ns : List ℕ) (b : ℕ) → ((n : ℕ) → P n → n ≤ b) → All P ns
-    → top ns ≤ b
+pub top_le : (P : ℕ → Type 0) (ns : List ℕ) (b : ℕ) → ((n : ℕ) → P n → n ≤ b) → All P ns → top ns ≤ b
 top_le P ns b f h =
     elim (top ns) as (λ k. top ns ≡ k → k ≤ b) [
       | zero ↦ λ e. omega arith
       | suc k ↦ λ e. f (suc k) (All-among P ns (suc k) ((top_is ns).0 k (omega arith)) h)
     ] refl
 
-pub delivered_le : {M : Type 0} (w : Way M) (back : ℕ) → IsSoundWay w back
-    → delivered w ≤ length w.sent
+pub delivered_le : {M : Type 0} (w : Way M) (back : ℕ) → IsSoundWay w back → delivered w ≤ length w.sent
 delivered_le w back h = top_le (IsNumber w.sent) w.arrived (length w.sent) (λ n i. i.1) h.numbers
 
 -- where more was sent and more is acknowledged, packets stay right
@@ -32,31 +20,20 @@ more_packet : {M : Type 0} (sent more : List M) (j k : ℕ) → j ≤ k → (p :
 more_packet sent more j k l (Message n m) h = (h.0, get-append sent more (n - 1) m h.1)
 more_packet sent more j k l (Ack i) h = let b : i ≤ j = h in omega arith
 
-more_acks : {M : Type 0} (sent : List M) (j k : ℕ) → j ≤ k → (p : Packet M) → IsOf sent j p
-    → IsOf sent k p
+more_acks : {M : Type 0} (sent : List M) (j k : ℕ) → j ≤ k → (p : Packet M) → IsOf sent j p → IsOf sent k p
 more_acks sent j k l (Message n m) h = h
 more_acks sent j k l (Ack i) h = let b : i ≤ j = h in omega arith
 
-more_numbers : {M : Type 0} (sent : List M) (m : M) → (n : ℕ) → IsNumber sent n
-    → IsNumber (sent ++ m ∷ []) n
+more_numbers : {M : Type 0} (sent : List M) (m : M) → (n : ℕ) → IsNumber sent n → IsNumber (sent ++ m ∷ []) n
 more_numbers sent m n h = (h.0, grind (arith, length-append))
 
 with_flight : {M : Type 0} (w : Way M) (back : ℕ) (flight : List (Packet M)) → IsSoundWay w back
     → All (IsOf w.sent back) flight → IsSoundWay (record w { flight = flight }) back
 with_flight w back flight h k = record { packets = k; numbers = h.numbers; acked = h.acked }
 
-with_back : {M : Type 0} (w : Way M) (j k : ℕ) → j ≤ k → IsSoundWay w j → IsSoundWay w k
-with_back w j k l h =
-    record {
-      packets = All-weaker (IsOf w.sent j) (IsOf w.sent k) (more_acks w.sent j k l) w.flight h.packets;
-      numbers = h.numbers;
-      acked = h.acked;
-    }
-
 -- the packets of a resend
 numbered_of : {M : Type 0} (sent : List M) (j k : ℕ) (ms : List M)
-    → ((i : ℕ) (x : M) → slice_get ms i ≡ Some x → slice_get sent (k + i) ≡ Some x)
-    → All (IsOf sent j) (numbered k ms)
+    → ((i : ℕ) (x : M) → slice_get ms i ≡ Some x → slice_get sent (k + i) ≡ Some x) → All (IsOf sent j) (numbered k ms)
 numbered_of sent j k [] f = All-nil (IsOf sent j)
 numbered_of {M = M} sent j k (m ∷ ms) f =
     All-cons (IsOf sent j) (Message (k + 1) m) (numbered (k + 1) ms)
@@ -80,7 +57,8 @@ put_sound m l h = record {
 }
 
 without_sound : {M : Type 0} (place : ℕ) (l : Link M) → IsSound l → IsSound (without_packet place l)
-without_sound place l h = record { there = with_flight l.there (delivered l.back) (without_at l.there.flight (place - 1)) h.there (All-without_at (IsOf l.there.sent (delivered l.back)) (place - 1) l.there.flight h.there.packets); back = h.back }
+without_sound place l h =
+    record { there = with_flight l.there (delivered l.back) (without_at l.there.flight (place - 1)) h.there (All-without_at (IsOf l.there.sent (delivered l.back)) (place - 1) l.there.flight h.there.packets); back = h.back }
 
 arrives_sound : {M : Type 0} (p : Packet M) (l : Link M) → IsOf l.there.sent (delivered l.back) p
     → IsSound l → IsSound (arrives p l)
@@ -114,7 +92,8 @@ at_packet {M = M} place f l h k =
     ] refl
 
 deliver_sound : {M : Type 0} (place : ℕ) (l : Link M) → IsSound l → IsSound (deliver place l)
-deliver_sound place l h = at_packet place (λ p. arrives p (without_packet place l)) l h (λ p of. arrives_sound p (without_packet place l) of (without_sound place l h))
+deliver_sound place l h =
+    at_packet place (λ p. arrives p (without_packet place l)) l h (λ p of. arrives_sound p (without_packet place l) of (without_sound place l h))
 
 lose_sound : {M : Type 0} (place : ℕ) (l : Link M) → IsSound l → IsSound (lose place l)
 lose_sound place l h = at_packet place (λ p. without_packet place l) l h (λ p of. without_sound place l h)

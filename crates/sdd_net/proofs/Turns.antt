@@ -1,15 +1,5 @@
 -- The receiver's loop, and the packets that a sender makes.
-use Rattle.std.proofs.Common.{ℕ, ◌+◌, ◌<◌, ◌≢◌, ◌==◌, true, false, List, [], ◌∷◌, ◌++◌, length, ◌≡◌, refl, ap, ◌∙◌, arith, sym, add-zero, append-nil}
-use Rattle.std.proofs.lemmas.List.{length-map, map-append}
-use Rattle.std.specs.Ordering.{nat_cmp}
-use Rattle.std.specs.BTreeMap.{insert_entry}
-use Rattle.std.specs.Prelude.{nat_le, if◌then◌else◌, slice_get, map, Some}
-use Rattle.std.proofs.lemmas.Bool.{eqb-true, eq-eqb}
-use Rattle.std.proofs.lemmas.Bool.Decides.{nat_tests}
-use Rattle.sdd_net.specs.declared.packet.Packet.{Packet}
-use Rattle.sdd_net.specs.declared.packet.Packet.TheVariants.{Message}
-use Rattle.sdd_net.specs.Links.{numbered}
-use Rattle.sdd_net.specs.Parts.{in_turn, out_of_turn, handed_on, received}
+use Rattle.sdd_net.proofs.All.{List, Message, Packet, Some, [], add-zero, ap, append-nil, arith, eq-eqb, eqb-true, false, handed_on, if◌then◌else◌, in_turn, insert_entry, length, length-map, map, map-append, nat_cmp, nat_le, nat_tests, numbered, out_of_turn, received, refl, slice_get, sym, true, ℕ, ◌++◌, ◌+◌, ◌<◌, ◌==◌, ◌∙◌, ◌∷◌, ◌≡◌, ◌≢◌}
 
 -- where the first message is not the next, none is in turn
 pub in_turn-none : {M : Type 0} (k n : ℕ) (m : M) (entries : List (ℕ × M))
@@ -17,7 +7,8 @@ pub in_turn-none : {M : Type 0} (k n : ℕ) (m : M) (entries : List (ℕ × M))
 in_turn-none k n m [] e ne = cc
 in_turn-none {M = M} k n m ((x, y) ∷ rest) e ne =
     elim (x == k + 1) as (λ b. (x == k + 1) ≡ b → (if b then y ∷ in_turn (k + 1) rest else []) ≡ []) [
-      | true ↦ λ p. let same : x ≡ k + 1 = eqb-true x (k + 1) p in let pair : ◌≡◌ {A = ℕ × M} (x, y) (n, m) = cc in absurd (ne (sym (ap (λ z. z.0) pair) ∙ same))
+      | true ↦ λ p. let same : x ≡ k + 1 = eqb-true x (k + 1) p in let pair : ◌≡◌ {A = ℕ × M} (x, y) (n, m) = cc in absurd
+          (ne (sym (ap (λ z. z.0) pair) ∙ same))
       | false ↦ λ p. refl
     ] refl
 
@@ -44,16 +35,19 @@ out_of_turn-none k ((x, y) ∷ rest) e =
 pub numbered-append : {M : Type 0} (k : ℕ) (ms : List M) (m : M)
     → numbered k (ms ++ m ∷ []) ≡ numbered k ms ++ Message (k + length ms + 1) m ∷ []
 numbered-append k [] m = rw add-zero refl
-numbered-append k (x ∷ ms) m = ap (λ ps. Message (k + 1) x ∷ ps) (numbered-append (k + 1) ms m ∙ ap (λ n. numbered (k + 1) ms ++ Message n m ∷ []) (omega arith))
+numbered-append k (x ∷ ms) m =
+    ap (λ ps. Message (k + 1) x ∷ ps) (numbered-append (k + 1) ms m ∙ ap (λ n. numbered (k + 1) ms ++ Message n m ∷ []) (omega arith))
 
 -- the receiver's loop, from the entries with the new message to the state in which none is in turn
 pub received_is : {M : Type 0} (n : ℕ) (m : M) (count : ℕ) (early with : List (ℕ × M)) (k : ℕ) (rest : List (ℕ × M)) (handed : List M)
-    → count < n → with ≡ insert_entry nat_cmp early n m → handed ++ in_turn k rest ≡ in_turn count with → out_of_turn k rest ≡ out_of_turn count with
+    → count < n → with ≡ insert_entry nat_cmp early n m → handed ++ in_turn k rest ≡ in_turn count with
+    → out_of_turn k rest ≡ out_of_turn count with
     → k ≡ count + length handed → in_turn k rest ≡ []
     → (handed ≡ handed_on n m (record { count = count; early = early })) × (record { count = k; early = rest } ≡ received n m (record { count = count; early = early }))
 received_is n m count early with k rest handed below w h o e none =
     let test : nat_le n count ≡ false = grind (arith, nat_tests) in
-    let all : handed ≡ in_turn count (insert_entry nat_cmp early n m) = sym (append-nil handed) ∙ ap (λ x. handed ++ x) (sym none) ∙ h ∙ ap (λ x. in_turn count x) w in
+    let all : handed ≡ in_turn count (insert_entry nat_cmp early n m) = sym (append-nil handed) ∙ ap (λ x. handed ++ x) (sym none) ∙ h
+    ∙ ap (λ x. in_turn count x) w in
     let waits : rest ≡ out_of_turn count (insert_entry nat_cmp early n m) = sym (out_of_turn-none k rest none) ∙ o ∙ ap (λ x. out_of_turn count x) w in
     let size : k ≡ count + length (in_turn count (insert_entry nat_cmp early n m)) = e ∙ ap (λ x. count + length x) all in
     rw (test, ← all, ← waits) (refl, ap (λ x. record { count = x; early = rest }) e)
@@ -62,7 +56,8 @@ pub ruleset turns = (in_turn-none, in_turn-next, out_of_turn-next, out_of_turn-n
 
 -- the sender's loop over what it keeps
 pub numbered_more : {A M : Type 0} (f : A → M) (k n : ℕ) (ys : List A) (y : A) (m : M) (ps qs : List (Packet M))
-    → ps ≡ numbered k (map f ys) → n ≡ k + length ys → m ≡ f y → qs ≡ ps ++ Message (n + 1) m ∷ [] → qs ≡ numbered k (map f (ys ++ y ∷ []))
+    → ps ≡ numbered k (map f ys) → n ≡ k + length ys → m ≡ f y → qs ≡ ps ++ Message (n + 1) m ∷ []
+    → qs ≡ numbered k (map f (ys ++ y ∷ []))
 numbered_more f k n ys y m ps qs e same copy push =
     rw (push, e, same, copy, map-append, numbered-append, length-map) refl
 

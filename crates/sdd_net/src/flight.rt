@@ -1,4 +1,5 @@
 ghost use Rattle.std.specs.Prelude.{◌≡◌, ◌↔◌, ◌-◌, ◌≤◌, ◌<◌, [], ◌∷◌, ◌++◌, length, replicate, slice_get, true, false, Some, None, IsTrue, IfOk, OnOk, OnErr, OnSome};
+ghost use Rattle.std.specs.Option.{option_copied};
 ghost use Rattle.sdd_base.specs.Words.{is_empty};
 ghost use Rattle.sdd_net.specs.Links.{without_at};
 
@@ -61,6 +62,23 @@ impl<M: Parcel> Flight<M> {
         ensures { result ≡ is_empty self.now.value }
     {
         self.packets.is_empty()
+    }
+
+    /// The packet that stands behind so many, lent; None exactly where there is none.
+    ///
+    /// Takes no memory, and a step for each piece before the packet's.
+    pub fn behind(&self, count: usize) -> Option<&Packet<M>>
+        ensures { option_copied result ≡ slice_get self.now.value count }
+    {
+        self.packets.get(count)
+    }
+
+    /// The packet at a place, lent; None exactly where the place is past the end. Costs as `behind`.
+    pub fn packet(&self, place: u32) -> Option<&Packet<M>>
+        requires { 1 ≤ place }
+        ensures { option_copied result ≡ slice_get self.now.value (place - 1) }
+    {
+        self.behind((place - 1) as usize)
     }
 
     /// Puts a packet at the end, in constant time but for growth.

@@ -19,6 +19,7 @@ mod sender;
 mod sites;
 mod spool;
 
+pub use channel::Channel;
 pub use delivered::Delivered;
 pub use flight::Flight;
 pub use law::law_in_order;

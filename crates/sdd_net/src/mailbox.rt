@@ -51,6 +51,14 @@ impl<M: Drop> Mailbox<M> {
         push_at(&mut self.queues, place_of(from), msg)
     }
 
+    /// How many messages of a sender there are.
+    pub fn count(&self, from: Site) -> usize
+        requires { IsSender self.now from }
+        ensures { result ≡ length (kept_from self.now from) }
+    {
+        count_at(&self.queues, place_of(from))
+    }
+
     /// Takes the first message of the lowest sender of whom there is one.
     pub fn take(&mut self) -> Option<(Site, M)>
         ensures { MatchOption result
@@ -81,6 +89,15 @@ fn site_at(place: usize) -> Site
         return Site::U;
     }
     Site::T(TmNo(place as u8))
+}
+
+/// How many items one list has.
+fn count_at<M>(queues: &Vec<VecDeque<M>>, place: usize) -> usize
+    requires { place < length queues.now.items }
+    ensures { result ≡ length (slice_index_or (map (λ q. q.items) queues.now.items) place []) }
+{
+    let queue = &queues[place];
+    queue.len()
 }
 
 /// Puts an item after those of one list.

@@ -2,7 +2,7 @@ ghost use Rattle.std.specs.Prelude.{◌≡◌, ◌↔◌, ◌+◌, ◌-◌, ◌^
 ghost use Rattle.std.specs.List.{filter_map, flat_map};
 ghost use Rattle.sdd_base.specs.Sites.{links};
 ghost use Rattle.sdd_net.specs.Links.{Call, Puts, Delivers, Loses, Repeats, Resends, link, packet_at, delivery, quiet, round};
-ghost use Rattle.sdd_net.specs.Nets.{StandsFor, HasLink, Does, IsLiveAt, sent_on, unused_channel, quiet_at, resend_on, deliveries_on};
+ghost use Rattle.sdd_net.specs.Nets.{StandsFor, HasLink, Matches, Does, IsLiveAt, sent_on, unused_channel, quiet_at, resend_on, deliveries_on};
 
 use crate::channel::Channel;
 use crate::channels::{deliver_at, put_at, repeat_at, resend_at, take_at};
@@ -82,6 +82,18 @@ impl<M: Parcel> Net<M> {
         ensures { IsTrue result ↔ HasLink self.now from to }
     {
         is_link(self.tms, self.dms, from, to)
+    }
+
+    /// One direction of a link, lent: its two ends, and what is in flight between them. Takes no
+    /// memory, and constant time.
+    pub fn direction(&self, from: Site, to: Site) -> &Channel<M>
+        requires live { IsTrue self.now.live }
+        requires exists { HasLink self.now from to }
+        ensures calls { (calls : List (Call M)) → StandsFor self.now calls
+            → Matches result.now (link from to calls).there }
+    {
+        let channel = &self.channels[index_of(self.tms, self.dms, from, to)];
+        channel
     }
 
     /// How many messages were put on the link. Takes no memory, and constant time.

@@ -56,6 +56,13 @@ impl<M: Parcel> Sender<M> {
         self.acked + self.unacked.len() as u32
     }
 
+    /// The messages from 1 to this number are acknowledged. Takes constant time.
+    pub fn acked_upto(&self) -> u32
+        ensures { result ≡ self.now.value.acked }
+    {
+        self.acked
+    }
+
     /// How many messages are unacknowledged. Takes constant time.
     pub fn unacked(&self) -> u32
         ensures { result ≡ length self.now.value.unacked }

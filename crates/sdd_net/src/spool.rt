@@ -49,6 +49,16 @@ impl<M: Drop> Spool<M> {
         self.boxes[dm.0 as usize - 1].down
     }
 
+    /// How many messages of a sender are kept for the module. Takes no memory, and constant time.
+    pub fn kept(&self, dm: DmNo, from: Site) -> usize
+        requires first { 1 ≤ dm.0 }
+        requires last { dm.0 ≤ length self.now }
+        requires sender { IsSender (mailbox_at self.now dm.0) from }
+        ensures { result ≡ length (kept_from (mailbox_at self.now dm.0) from) }
+    {
+        self.boxes[dm.0 as usize - 1].count(from)
+    }
+
     /// The module goes down; false exactly where it is down. Takes no memory.
     pub fn down(&mut self, dm: DmNo) -> bool
         requires first { 1 ≤ dm.0 }

@@ -1,11 +1,5 @@
 -- When two ways of taking take the same.
-use Rattle.std.proofs.Common.{ℕ, zero, suc, ◌<◌, ◌≤◌, ◌==◌, ◌≡◌, ◌≢◌, nat_lt, ◌||◌, Bool, true, false, not, cond, List, [], ◌∷◌, map, length, Option, Some, None, refl, sym, ap, ◌∙◌, subst, ◌⊎◌, inl, inr, arith, eq-eqb}
-use Rattle.std.specs.Prelude.{filter, option_map, Contains}
-use Rattle.std.specs.List.{list_any}
-use Rattle.std.proofs.lemmas.Bool.{cases_Bool, cases_eq, ne_eqb}
-use Rattle.sdd_lang.proofs.base.Membership.{Contains-nil, Contains-here, Contains-later}
-use Rattle.sdd_order.specs.Paths.{IsPath}
-use Rattle.sdd_order.specs.Taken.{is_ready, earlier, earliest, without, taken}
+use Rattle.sdd_order.proofs.All.{Bool, Contains, Contains-here, Contains-later, IsPath, List, None, Option, Some, [], ap, arith, cases_eq, cond, earlier, earliest, eq-eqb, false, filter, inl, inr, is_ready, list_any, map, nat_lt, ne_eqb, not, option_map, refl, subst, suc, sym, taken, true, without, zero, ℕ, ◌<◌, ◌==◌, ◌||◌, ◌∙◌, ◌∷◌, ◌≡◌, ◌≤◌, ◌⊎◌}
 use Rattle.sdd_order.proofs.Taken.{IsNext, next_is, is_next, Differ, differ_without, without_is, in_without}
 
 -- what is taken first, and the rest
@@ -227,8 +221,7 @@ module _ (all : List ℕ) (link before : ℕ → ℕ → Bool) (time : ℕ → �
   next_back left r i next = record {
     member = next.member;
     ready = λ k d. ready_back i k (next.ready k d);
-    least = λ j c h.
-        time_tells i j (r.within i next.member) (r.within j c) (next.least j c (ready_forth left r j c h));
+    least = λ j c h. time_tells i j (r.within i next.member) (r.within j c) (next.least j c (ready_forth left r j c h));
   }
 
   rest_without : (left : List ℕ) → Rest left → (i : ℕ) → IsNext (λ j. j) link left i → Rest (without (λ j. j) i left)

@@ -1,13 +1,7 @@
 -- Ascending numbers, as a set of them has its members.
-use Rattle.std.proofs.Common.{Less, Equal, Greater, ℕ, zero, suc, ◌+◌, ◌<◌, ◌≤◌, ◌≡◌, Bool, true, false, cond, List, [], ◌∷◌, ◌++◌, ◌⊎◌, inl, inr, refl, sym, ap, ◌∙◌, subst, arith}
-use Rattle.std.specs.Prelude.{Contains, filter}
-use Rattle.std.specs.List.{range_with_len}
-use Rattle.std.specs.Cmp.{nat_cmp_is}
-use Rattle.std.specs.Ordering.{nat_cmp, match_ordering}
-use Rattle.std.specs.BTreeSet.{insert_key}
-use Rattle.std.proofs.lemmas.Bool.{cases_eq}
-use Rattle.sdd_lang.proofs.base.Membership.{Contains-nil, Contains-here, Contains-later, Contains-cases}
+use Rattle.sdd_order.proofs.All.{Bool, Contains, Contains-cases, Contains-here, Contains-later, Contains-nil, Equal, Greater, Less, List, [], ap, arith, cond, false, filter, inl, inr, insert_key, match_ordering, nat_cmp, nat_cmp_is, range_with_len, refl, subst, suc, sym, true, zero, ℕ, ◌++◌, ◌+◌, ◌<◌, ◌∙◌, ◌∷◌, ◌≡◌, ◌≤◌, ◌⊎◌}
 use Rattle.sdd_order.proofs.Members.{Contains-from_filter}
+use Rattle.sdd_order.proofs.EachPrecedence.{compare as compared}
 
 abbrev pub Ascending : List ℕ → Type 0
 Ascending [] = Unit {0}
@@ -23,26 +17,14 @@ equal_is k x e = sym (nat_cmp_is k x Equal e)
 greater_is : (k x : ℕ) → x < k → nat_cmp k x ≡ Greater
 greater_is k x l = sym (nat_cmp_is k x Greater l)
 
-compared : (k x : ℕ) → (k < x) ⊎ ((k ≡ x) ⊎ (x < k))
-compared k x =
-    elim (cases_eq k x) [
-      | inl e ↦ inr (inl e)
-      | inr n ↦ elim (below_or_not k x) [ inl l ↦ inl l | inr m ↦ inr (inr (omega arith)) ]
-    ]
-  where
-    below_or_not : (k x : ℕ) → (k < x) ⊎ (x ≤ k)
-    below_or_not zero zero = inr (omega arith)
-    below_or_not zero (suc x) = inl (omega arith)
-    below_or_not (suc k) zero = inr (omega arith)
-    below_or_not (suc k) (suc x) = elim (below_or_not k x) [ inl l ↦ inl (omega arith) | inr l ↦ inr (omega arith) ]
-
 -- a number put in its place
 
 pub insert_is : (ks : List ℕ) (k y : ℕ) → Contains (insert_key nat_cmp ks k) y → (y ≡ k) ⊎ Contains ks y
 insert_is [] k y m = elim (Contains-cases k [] y m) [ inl e ↦ inl e | inr n ↦ absurd (Contains-nil y n) ]
 insert_is (x ∷ xs) k y m =
     elim (compared k x) [
-      | inl l ↦ Contains-cases k (x ∷ xs) y (subst (λ o. Contains (match_ordering o (k ∷ x ∷ xs) (x ∷ xs) (x ∷ insert_key nat_cmp xs k)) y) (less_is k x l) m)
+      | inl l ↦ Contains-cases k (x ∷ xs) y
+          (subst (λ o. Contains (match_ordering o (k ∷ x ∷ xs) (x ∷ xs) (x ∷ insert_key nat_cmp xs k)) y) (less_is k x l) m)
       | inr (inl e) ↦ inr (subst (λ o. Contains (match_ordering o (k ∷ x ∷ xs) (x ∷ xs) (x ∷ insert_key nat_cmp xs k)) y) (equal_is k x e) m)
       | inr (inr g) ↦
           elim (Contains-cases x (insert_key nat_cmp xs k) y (subst (λ o. Contains (match_ordering o (k ∷ x ∷ xs) (x ∷ xs) (x ∷ insert_key nat_cmp xs k)) y) (greater_is k x g) m)) [

@@ -1,28 +1,10 @@
 -- That a record comes before another, as a test and by their places.
-use Rattle.std.proofs.Common.{ℕ, zero, suc, ◌<◌, ◌==◌, ◌≡◌, Bool, true, false, ◌&&◌, ◌||◌, List, [], ◌∷◌, Option, Some, refl, sym, ap, ◌∙◌, subst, ◌⊎◌, inl, inr, arith, eq-eqb}
-use Rattle.std.specs.Prelude.{slice_get, option_map}
-use Rattle.std.specs.List.{list_any}
-use Rattle.std.proofs.lemmas.Bool.{cases_Bool, and_parts, and_from, eqb-true}
-use Rattle.std.proofs.lemmas.Option.{same_Some}
-use Rattle.sdd_lang.specs.All.{class_no, dm_no, time_at, txn_no}
-use Rattle.sdd_history.specs.declared.record.Rec.{Rec}
-use Rattle.sdd_history.specs.declared.record.Rec.TheVariants.{Submit, Start, Arrive, Wait, Answer, Reject, Commit, Apply, Pass, Nothing}
-use Rattle.sdd_history.specs.Records.{History}
-use Rattle.sdd_order.specs.Places.{Stands, record_at, comes_before}
-use Rattle.sdd_order.specs.Precedence.{is_answer, is_apply}
+use Rattle.sdd_order.proofs.All.{Answer, Apply, Arrive, Bool, Commit, History, Nothing, Pass, Rec, Reject, Stands, Start, Submit, Wait, [], and_from, and_parts, ap, arith, class_no, comes_before, dm_no, eq-eqb, eqb-true, false, inl, inr, is_answer, is_apply, list_any, or_left, or_right, refl, same_Some, subst, suc, time_at, true, txn_no, zero, ℕ, ◌&&◌, ◌<◌, ◌==◌, ◌||◌, ◌∙◌, ◌∷◌, ◌≡◌, ◌⊎◌}
 
 -- either of two tests
 pub or_cases : (a b : Bool) → (a || b) ≡ true → (a ≡ true) ⊎ (b ≡ true)
 or_cases true b e = inl refl
 or_cases false b e = inr e
-
-pub or_left : (a b : Bool) → a ≡ true → (a || b) ≡ true
-or_left true b e = refl
-or_left false b e = cc
-
-pub or_right : (a b : Bool) → b ≡ true → (a || b) ≡ true
-or_right true b e = refl
-or_right false b e = e
 
 -- a record that passes a test
 pub record Passing (p : Rec → Bool) (h : History) : Type 0 where

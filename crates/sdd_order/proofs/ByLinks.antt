@@ -1,25 +1,5 @@
 -- Along the links the serial order is found.
-use Rattle.std.proofs.Common.{ℕ, zero, suc, ◌+◌, ◌<◌, ◌≤◌, ◌==◌, ◌≡◌, ◌&&◌, Bool, true, false, List, [], ◌∷◌, ◌⊎◌, inl, inr, length, map, get_or, Option, Some, None, refl, sym, ap, ◌∙◌, subst, arith, eq-eqb}
-use Rattle.std.specs.Prelude.{All, Contains, filter_map, option_map, slice_get}
-use Rattle.std.specs.List.{cons_option, range_with_len}
-use Rattle.std.proofs.lemmas.Bool.{and_parts, and_from, eqb-true}
-use Rattle.std.proofs.lemmas.List.{same_lists, get_or_default}
-use Rattle.std.proofs.lemmas.List.FromFn.{get_or-map-range_with_len, length-map-range_with_len}
-use Rattle.std.proofs.lemmas.Option.{slice_get_within, slice_get-get_or, same_Some}
-use Rattle.sdd_lang.proofs.base.Membership.{Contains-here, Contains-later}
-use Rattle.sdd_lang.specs.All.{Catalogue, TxnNo, txn_no}
-use Rattle.sdd_history.specs.Records.{History}
-use Rattle.sdd_order.specs.Attempts.{Committed, committed}
-use Rattle.sdd_order.specs.declared.seen.Marks.{Marks}
-use Rattle.sdd_order.specs.Finding.{AreMarks}
-use Rattle.sdd_order.specs.Linked.{links, numbers_at}
-use Rattle.sdd_order.specs.Numbers.{UseExists, IsClass}
-use Rattle.sdd_order.specs.Orders.{IsOrderable}
-use Rattle.sdd_order.specs.Precedence.{precedes}
-use Rattle.sdd_order.specs.SerialOrder.{in_order, serial_order}
-use Rattle.sdd_order.specs.Paths.{IsPath}
-use Rattle.sdd_order.specs.Taken.{taken}
-use Rattle.sdd_order.specs.Taking.{Links, has_link, nodes, order_of}
+use Rattle.sdd_order.proofs.All.{All, AreMarks, Catalogue, Committed, Contains, Contains-here, Contains-later, History, IsClass, IsOrderable, IsPath, Links, List, Marks, Some, UseExists, [], and_from, and_parts, ap, arith, committed, cons_option, eq-eqb, eqb-true, get_or, get_or-map-range_with_len, get_or_default, has_link, in_order, inl, inr, length, length-map-range_with_len, links, map, nodes, numbers_at, option_map, order_of, precedes, refl, same_Some, same_lists, serial_order, slice_get, slice_get-get_or, slice_get_within, subst, sym, taken, true, txn_no, ℕ, ◌&&◌, ◌<◌, ◌==◌, ◌∙◌, ◌∷◌, ◌≡◌, ◌⊎◌}
 use Rattle.sdd_order.proofs.Alike.{taken_by_members, taken-map, taken_by_links}
 use Rattle.sdd_order.proofs.Ascending.{from_range}
 use Rattle.sdd_order.proofs.Members.{All-members, Contains-range, member_passes, passes_member}

@@ -1,12 +1,5 @@
 -- Links along a list whose numbers rise: between which numbers there are paths of them.
-use Rattle.std.proofs.Common.{ℕ, zero, suc, ◌+◌, ◌<◌, ◌≤◌, ◌==◌, ◌≡◌, Bool, true, false, cond, List, [], ◌∷◌, ◌++◌, Some, None, length, get_or, map, refl, sym, ap, ◌∙◌, subst, ◌⊎◌, inl, inr, arith, eq-eqb}
-use Rattle.std.specs.Prelude.{Contains, filter}
-use Rattle.std.specs.List.{flat_map, range_with_len}
-use Rattle.std.proofs.lemmas.Bool.{cases_eq, eqb-true, ne_eqb}
-use Rattle.sdd_lang.proofs.base.Membership.{Contains-nil, Contains-here, Contains-later, Contains-cases}
-use Rattle.sdd_order.specs.Groups.{Groups, group, groups, chain_after, chains}
-use Rattle.sdd_order.specs.Paths.{IsPath}
-use Rattle.sdd_order.specs.Taking.{Links}
+use Rattle.sdd_order.proofs.All.{Contains, Contains-cases, Contains-here, Contains-later, Contains-nil, IsPath, Links, List, None, Some, [], ap, arith, cases_eq, chain_after, chains, cond, eq-eqb, eqb-true, false, filter, group, groups, inl, inr, map, ne_eqb, range_with_len, refl, subst, suc, sym, true, zero, ℕ, ◌<◌, ◌==◌, ◌∷◌, ◌≡◌, ◌≤◌}
 use Rattle.sdd_order.proofs.Paths.{path_as}
 use Rattle.sdd_order.proofs.Members.{Contains-flat_map, Contains-from_flat_map, Contains-map, Contains-from_map, Contains-filter, Contains-from_filter, Contains-range}
 
@@ -102,7 +95,8 @@ chain_more m n xs l c =
       | false ↦ Contains-later (m, n) (chain_after (Some n) xs) l c
     ]
 
-from_any : (m : ℕ) (xs : List ℕ) → Rises (m ∷ xs) → (i j : ℕ) → Contains (m ∷ xs) i → Contains (m ∷ xs) j → i < j → Linked (chain_after (Some m) xs) i j
+from_any : (m : ℕ) (xs : List ℕ) → Rises (m ∷ xs) → (i j : ℕ) → Contains (m ∷ xs) i → Contains (m ∷ xs) j → i < j
+    → Linked (chain_after (Some m) xs) i j
 from_any m [] r i j c d l =
     let one = only m i c in let two = only m j d in absurd (omega (arith, one, two))
   where

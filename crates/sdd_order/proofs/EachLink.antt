@@ -1,23 +1,5 @@
 -- Each link that is found is a precedence.
-use Rattle.std.proofs.Common.{ℕ, zero, suc, ◌+◌, ◌-◌, ◌<◌, ◌≤◌, ◌==◌, ◌≡◌, nat_lt, Bool, true, false, cond, List, [], ◌∷◌, ◌++◌, length, get_or, map, Option, Some, None, refl, sym, ap, ◌∙◌, subst, ◌⊎◌, inl, inr, arith}
-use Rattle.std.specs.Prelude.{slice_get, slice_index_or, Contains, All}
-use Rattle.std.specs.List.{enumerate_from, flat_map}
-use Rattle.std.proofs.lemmas.Bool.{cases_Bool, eqb-true, ltb-true}
-use Rattle.std.proofs.lemmas.List.Elements.{All-head, All-tail, All-contains, Contains-append_cases, Contains-get_or}
-use Rattle.std.proofs.lemmas.Option.{same_Some}
-use Rattle.sdd_lang.proofs.base.Membership.{Contains-nil, Contains-cases}
-use Rattle.sdd_lang.specs.All.{Catalogue, Change, FragNo, Use, fragments_in}
-use Rattle.sdd_history.specs.declared.record.Rec.{Rec}
-use Rattle.sdd_history.specs.Records.{History}
-use Rattle.sdd_order.specs.Attempts.{Committed, IsCommitted, changes}
-use Rattle.sdd_order.specs.declared.seen.Marks.{Marks}
-use Rattle.sdd_order.specs.Finding.{AreMarks}
-use Rattle.sdd_order.specs.Linked.{by_class, by_fragment, end_of, has_seen, links_at, fragment_links, read_links, links}
-use Rattle.sdd_order.specs.Numbers.{ExistsIn, UseExists, ChangeExists, IsClass, IsFragment, NumbersExist}
-use Rattle.sdd_order.specs.Orders.{IsOrderable}
-use Rattle.sdd_order.specs.Places.{Stands}
-use Rattle.sdd_order.specs.Precedence.{module_of, was_seen}
-use Rattle.sdd_order.specs.Groups.{Groups, group, groups, chains}
+use Rattle.sdd_order.proofs.All.{All, All-contains, All-head, All-tail, AreMarks, Bool, Catalogue, ChangeExists, Committed, Contains, Contains-append_cases, Contains-cases, Contains-get_or, Contains-nil, ExistsIn, FragNo, History, IsClass, IsCommitted, IsFragment, IsOrderable, List, Marks, NumbersExist, Rec, Some, Stands, Use, UseExists, [], arith, by_class, by_fragment, chains, changes, cond, end_of, enumerate_from, eqb-true, false, flat_map, fragment_links, fragments_in, get_or as slice_index_or, group, groups, has_seen, inl, inr, length, links, links_at, ltb-true, map, module_of, nat_lt, read_links, refl, same_Some, slice_get, subst, suc, sym, true, was_seen, zero, ℕ, ◌++◌, ◌+◌, ◌-◌, ◌<◌, ◌==◌, ◌∙◌, ◌∷◌, ◌≡◌, ◌⊎◌}
 use Rattle.sdd_order.proofs.Chained.{from_group, chains_are}
 use Rattle.sdd_order.proofs.Grouped.{group_at}
 use Rattle.sdd_order.proofs.Members.{Contains-from_flat_map, Contains-from_map, member_passes}
@@ -61,7 +43,8 @@ at_end writers reader k l c =
     let after : List (ℕ × ℕ) = cond (nat_lt k (length writers)) ((reader, slice_index_or writers k 0) ∷ []) [] in
     elim (Contains-append_cases before after l c) [
       | inl m ↦ let r = only (nat_lt 0 k) (slice_index_or writers (k - 1) 0, reader) l m in record { which = inl (ltb-true 0 k r.0, r.1) }
-      | inr m ↦ let r = only (nat_lt k (length writers)) (reader, slice_index_or writers k 0) l m in record { which = inr (ltb-true k (length writers) r.0, r.1) }
+      | inr m ↦ let r = only (nat_lt k (length writers))
+          (reader, slice_index_or writers k 0) l m in record { which = inr (ltb-true k (length writers) r.0, r.1) }
     ]
   where
     only : (b : Bool) (x l : ℕ × ℕ) → Contains (cond b (x ∷ []) []) l → (b ≡ true) × (l ≡ x)
@@ -175,9 +158,11 @@ module _ (cat : Catalogue) (h : History) (o : IsOrderable cat h) (marks : Marks)
       → Precedence cat h txns l.0 l.1
   read_link l c =
       let writers = groups (by_fragment txns) (length cat.fragments + 1) in
-      let p = Contains-from_flat_map (λ (z : ℕ × Committed). flat_map (fragment_links cat marks txns writers z) (fragments_in z.1.start.uses)) (enumerate_from 0 txns) l c in
+      let p = Contains-from_flat_map (λ (z : ℕ × Committed). flat_map (fragment_links cat marks txns writers z) (fragments_in z.1.start.uses))
+      (enumerate_from 0 txns) l c in
       let f = Contains-from_flat_map (fragment_links cat marks txns writers p.0) (fragments_in p.0.1.start.uses) l p.2 in
-      elim (changes p.0.1 f.0) as (λ b. changes p.0.1 f.0 ≡ b → Contains (cond b [] (links_at (writers_of f.0) p.0.0 (seen_by p.0.1 f.0))) l → Precedence cat h txns l.0 l.1) [
+      elim (changes p.0.1 f.0) as
+      (λ b. changes p.0.1 f.0 ≡ b → Contains (cond b [] (links_at (writers_of f.0) p.0.0 (seen_by p.0.1 f.0))) l → Precedence cat h txns l.0 l.1) [
         | true ↦ λ b m. absurd (Contains-nil l m)
         | false ↦ λ b m. end_link p.0.0 p.0.1 (at_enumerated txns p.0 p.1) f.0 f.1 b l m
       ] refl f.2

@@ -1,22 +1,5 @@
 -- Each precedence follows from the links.
-use Rattle.std.proofs.Common.{ℕ, zero, suc, ◌+◌, ◌-◌, ◌<◌, ◌≤◌, ◌==◌, ◌≡◌, nat_lt, Bool, true, false, not, ◌&&◌, ◌||◌, cond, List, [], ◌∷◌, ◌++◌, length, get_or, Option, Some, None, refl, sym, ap, ◌∙◌, subst, ◌⊎◌, inl, inr, arith, eq-eqb}
-use Rattle.std.specs.Prelude.{slice_get, slice_index_or, Contains}
-use Rattle.std.specs.List.{enumerate_from, flat_map, list_any}
-use Rattle.std.proofs.lemmas.Bool.{cases_Bool, cases_eq, and_parts, eqb-true, ltb-true, lt-ltb, not-true}
-use Rattle.std.proofs.lemmas.List.Elements.{Contains-append_left, Contains-append_right, Contains-get_or}
-use Rattle.std.proofs.lemmas.Option.{same_Some}
-use Rattle.sdd_lang.proofs.base.Membership.{Contains-here}
-use Rattle.sdd_lang.specs.All.{Catalogue, fragments_in}
-use Rattle.sdd_history.specs.Records.{History}
-use Rattle.sdd_order.specs.Attempts.{Committed, IsCommitted, changes}
-use Rattle.sdd_order.specs.declared.seen.Marks.{Marks}
-use Rattle.sdd_order.specs.Finding.{AreMarks}
-use Rattle.sdd_order.specs.Linked.{by_class, by_fragment, has_seen, links_at, fragment_links, read_links, links}
-use Rattle.sdd_order.specs.Numbers.{IsFragment}
-use Rattle.sdd_order.specs.Orders.{IsOrderable}
-use Rattle.sdd_order.specs.Precedence.{module_of, was_seen, is_earlier, is_overwritten, misses, is_read_by, precedes, Precedes}
-use Rattle.sdd_order.specs.Groups.{group, groups, chains}
-use Rattle.sdd_order.specs.Taking.{Links}
+use Rattle.sdd_order.proofs.All.{AreMarks, Bool, Catalogue, Committed, Contains, Contains-append_left, Contains-append_right, Contains-get_or, Contains-here, History, IsCommitted, IsFragment, IsOrderable, Links, List, Marks, Precedes, Some, [], and_parts, ap, arith, by_class, by_fragment, cases_Bool, chains, changes, cond, enumerate_from, eq-eqb, eqb-true, false, flat_map, fragment_links, fragments_in, get_or, get_or as slice_index_or, groups, has_seen, inl, inr, is_earlier, is_overwritten, is_read_by, length, links, links_at, list_any, lt-ltb, ltb-true, misses, module_of, nat_lt, not, not-true, precedes, read_links, refl, same_Some, slice_get, subst, suc, sym, true, was_seen, zero, ℕ, ◌&&◌, ◌++◌, ◌+◌, ◌-◌, ◌<◌, ◌==◌, ◌||◌, ◌∙◌, ◌∷◌, ◌≡◌, ◌≤◌, ◌⊎◌}
 use Rattle.sdd_order.proofs.Chained.{Rises, Linked, linked_by, in_group, group_rises, chains_link}
 use Rattle.sdd_order.proofs.Members.{Contains-flat_map, passes_member, member_passes}
 use Rattle.sdd_order.proofs.Paths.{path_join}
@@ -43,7 +26,7 @@ place_in xs i c = (c.0, c.1, other_default xs c.0 i c.1 ∙ c.2)
     other_default (y ∷ ys) zero d l = refl
     other_default (y ∷ ys) (suc q) d l = other_default ys q d (omega arith)
 
-compare : (a b : ℕ) → (a < b) ⊎ ((a ≡ b) ⊎ (b < a))
+pub compare : (a b : ℕ) → (a < b) ⊎ ((a ≡ b) ⊎ (b < a))
 compare zero zero = inr (inl refl)
 compare zero (suc b) = inl (omega arith)
 compare (suc a) zero = inr (inr (omega arith))

@@ -1,15 +1,5 @@
 -- The first and the last place of records that pass a test: what they tell of which comes before which.
-use Rattle.std.proofs.Common.{ℕ, zero, suc, ◌+◌, ◌<◌, ◌≤◌, ◌≡◌, nat_lt, Bool, true, false, cond, List, [], ◌∷◌, ◌++◌, take, length, get_or, reverse, Option, Some, None, refl, sym, ap, ◌∙◌, subst, inl, inr, arith}
-use Rattle.std.specs.Prelude.{find, option_map}
-use Rattle.std.specs.Option.{option_or}
-use Rattle.std.proofs.lemmas.Bool.{cases_Bool, ltb-true, lt-ltb}
-use Rattle.std.proofs.lemmas.List.{reverse-append}
-use Rattle.std.proofs.lemmas.List.Folds.{find-append}
-use Rattle.std.proofs.lemmas.Option.{same_Some}
-use Rattle.sdd_history.specs.declared.record.Rec.{Rec}
-use Rattle.sdd_history.specs.Records.{History}
-use Rattle.sdd_order.specs.Finding.{first_place, last_place, is_below}
-use Rattle.sdd_order.specs.Places.{Stands, placed, comes_before}
+use Rattle.sdd_order.proofs.All.{Bool, History, None, Option, Rec, Some, Stands, [], ap, arith, cases_Bool, comes_before, cond, false, find, find-append, first_place, get_or, inl, inr, is_below, last_place, length, lt-ltb, ltb-true, nat_lt, option_map, option_or, placed, refl, reverse, reverse-append, same_Some, suc, sym, take, true, zero, ℕ, ◌+◌, ◌<◌, ◌∙◌, ◌∷◌, ◌≡◌, ◌≤◌}
 use Rattle.sdd_order.proofs.Before.{in_turn, comes_from}
 use Rattle.sdd_order.proofs.Reading.{placed_more}
 
@@ -92,7 +82,8 @@ module _ (p : Rec → Bool) where
   last_is : (k : ℕ) (h : History) (b : ℕ) → last_from k h ≡ Some b → (a : ℕ) × (b ≡ k + a) × Passes h a
   last_is k [] b e = absurd (cc)
   last_is k (x ∷ h) b e =
-      elim (last_from (suc k) h) as (λ o. last_from (suc k) h ≡ o → option_or o (cond (p x.1) (Some k) None) ≡ Some b → (a : ℕ) × (b ≡ k + a) × Passes (x ∷ h) a) [
+      elim (last_from (suc k) h) as
+      (λ o. last_from (suc k) h ≡ o → option_or o (cond (p x.1) (Some k) None) ≡ Some b → (a : ℕ) × (b ≡ k + a) × Passes (x ∷ h) a) [
         | None ↦ λ none here. elim (cases_Bool (p x.1)) [
           | inl t ↦
               let same : k ≡ b = same_Some k b (sym (ap (λ z. cond z (Some k) None) t) ∙ here) in
@@ -112,7 +103,8 @@ module _ (p : Rec → Bool) where
   last_greatest k [] j s = absurd (let stands = s.1 in cc)
   last_greatest k (x ∷ h) zero s =
       let passes : p x.1 ≡ true = ap p (same_Some x.1 s.0 s.1) ∙ s.2 in
-      elim (last_from (suc k) h) as (λ o. last_from (suc k) h ≡ o → last_from k (x ∷ h) ≡ option_or o (cond (p x.1) (Some k) None) → (a : ℕ) × (last_from k (x ∷ h) ≡ Some (k + a)) × (zero ≤ a)) [
+      elim (last_from (suc k) h) as
+      (λ o. last_from (suc k) h ≡ o → last_from k (x ∷ h) ≡ option_or o (cond (p x.1) (Some k) None) → (a : ℕ) × (last_from k (x ∷ h) ≡ Some (k + a)) × (zero ≤ a)) [
         | None ↦ λ none is.
             let same : k ≡ k + 0 = omega arith in
             (0, is ∙ ap (λ z. cond z (Some k) None) passes ∙ ap (λ (z : ℕ). Some z) same, omega arith)

@@ -1,15 +1,5 @@
 -- The lists of attempts and of committed transactions have exactly those that the history has.
-use Rattle.std.proofs.Common.{ℕ, zero, suc, ◌+◌, ◌<◌, ◌==◌, ◌≡◌, Bool, true, false, ◌&&◌, cond, List, [], ◌∷◌, length, Option, Some, None, refl, sym, ap, ◌∙◌, subst, ◌⊎◌, inl, inr, arith, eq-eqb}
-use Rattle.std.specs.Prelude.{find, option_map, slice_get, Contains}
-use Rattle.std.proofs.lemmas.Bool.{cases_Bool, and_parts, and_from, eqb-true}
-use Rattle.std.proofs.lemmas.Option.{same_Some}
-use Rattle.sdd_lang.specs.All.{class_no, time_at, txn_no}
-use Rattle.sdd_lang.proofs.base.Membership.{Contains-nil, Contains-here, Contains-later, Contains-cases}
-use Rattle.sdd_history.specs.declared.record.Rec.{Rec}
-use Rattle.sdd_history.specs.declared.record.Rec.TheVariants.{Submit, Start, Arrive, Wait, Answer, Reject, Commit, Apply, Pass, Nothing}
-use Rattle.sdd_history.specs.Records.{History}
-use Rattle.sdd_order.specs.Attempts.{Attempt, Committed, IsAttempt, IsCommitted, attempt_of, attempts, is_attempt_of, committed_of, committed}
-use Rattle.sdd_order.specs.Places.{Stands, placed}
+use Rattle.sdd_order.proofs.All.{Answer, Apply, Arrive, Attempt, Bool, Commit, Committed, Contains, Contains-cases, Contains-here, Contains-later, Contains-nil, History, IsAttempt, IsCommitted, List, None, Nothing, Pass, Rec, Reject, Some, Stands, Start, Submit, Wait, [], and_from, and_parts, ap, arith, attempt_of, attempts, class_no, committed, committed_of, cond, eq-eqb, eqb-true, false, find, inl, inr, is_attempt_of, option_map, placed, refl, same_Some, subst, suc, sym, time_at, true, txn_no, zero, ℕ, ◌+◌, ◌==◌, ◌∙◌, ◌∷◌, ◌≡◌}
 use Rattle.sdd_order.proofs.Members.{Contains-filter_map, Contains-from_filter_map}
 use Rattle.sdd_order.proofs.Places.{same_start, one_attempt}
 
@@ -104,7 +94,8 @@ find_there p (y ∷ xs) x m t =
 
 committed_from : (h : History) (x : ℕ × Rec) (t : Committed) → Stands h x.0 x.1 → committed_of (attempts h) x ≡ Some t → IsCommitted h t
 committed_from h (k, Commit txn attempt reply changes values rows) t s e =
-    elim (find (is_attempt_of txn.0 attempt) (attempts h)) as (λ o. find (is_attempt_of txn.0 attempt) (attempts h) ≡ o → option_map (λ (a : Attempt). record { start = a; reply = reply; changes = changes; values = values; rows = rows; place = k }) o ≡ Some t → IsCommitted h t) [
+    elim (find (is_attempt_of txn.0 attempt) (attempts h)) as
+    (λ o. find (is_attempt_of txn.0 attempt) (attempts h) ≡ o → option_map (λ (a : Attempt). record { start = a; reply = reply; changes = changes; values = values; rows = rows; place = k }) o ≡ Some t → IsCommitted h t) [
       | None ↦ λ f g. absurd (cc)
       | Some a ↦ λ f g.
           let found = find_from (is_attempt_of txn.0 attempt) (attempts h) a f in
@@ -141,7 +132,8 @@ pub in_committed : (h : History)
 in_committed h one_start t c =
     let a = t.start in
     let r : Rec = Commit (txn_no a.txn) a.number t.reply t.changes t.values t.rows in
-    let passes : is_attempt_of a.txn a.number a ≡ true = and_from (a.txn == a.txn) (a.number == a.number) (eq-eqb a.txn a.txn refl) (eq-eqb a.number a.number refl) in
+    let passes : is_attempt_of a.txn a.number a ≡ true = and_from (a.txn == a.txn) (a.number == a.number) (eq-eqb a.txn a.txn refl)
+    (eq-eqb a.number a.number refl) in
     let found = find_there (is_attempt_of a.txn a.number) (attempts h) a (in_attempts h a c.started) passes in
     let b = found.0 in
     let is = find_from (is_attempt_of a.txn a.number) (attempts h) b found.1 in

@@ -1,12 +1,5 @@
 -- Groups, one pair after the other.
-use Rattle.std.proofs.Common.{None, drop, ℕ, zero, suc, ◌+◌, ◌<◌, ◌≤◌, ◌==◌, ◌≡◌, Bool, true, false, cond, List, [], ◌∷◌, ◌++◌, map, length, get_or, set, replicate, refl, sym, ap, ◌∙◌, subst, inl, inr, arith, eq-eqb}
-use Rattle.std.specs.Prelude.{filter, slice_index_or, slice_set, take, All}
-use Rattle.std.specs.List.{flat_map, range_with_len}
-use Rattle.std.proofs.lemmas.Bool.{cases_eq, ne_eqb}
-use Rattle.std.proofs.lemmas.List.{append-nil, drop_all, take_more, same_lists, length-set, length-map, get_or-set_same, get_or-set_other, map-set, get_or-map}
-use Rattle.std.proofs.lemmas.List.Elements.{filter-append, All-get_or}
-use Rattle.std.proofs.lemmas.List.FromFn.{get_or-map-range_with_len, length-map-range_with_len}
-use Rattle.sdd_order.specs.Groups.{group, groups, chain_after, chains}
+use Rattle.sdd_order.proofs.All.{List, None, [], ap, append-nil, arith, cases_eq, chain_after, chains, cond, drop, drop_all, eq-eqb, filter, filter-append, flat_map, get_or, get_or as slice_index_or, get_or-map, get_or-map-range_with_len, get_or-set_other, get_or-set_same, group, groups, inl, inr, length, length-map, length-map-range_with_len, length-set, map, map-set, ne_eqb, range_with_len, refl, replicate, same_lists, slice_set, slice_set as set, subst, suc, sym, take, take_more, zero, ℕ, ◌++◌, ◌+◌, ◌<◌, ◌==◌, ◌∙◌, ◌∷◌, ◌≡◌, ◌≤◌}
 
 map-push : {X Y : Type 0} (f : X → Y) (xs : List X) (x : X) → map f (xs ++ x ∷ []) ≡ map f xs ++ f x ∷ []
 map-push f [] x = refl

@@ -1,7 +1,5 @@
 -- Where a test ends to hold, found by halves.
-use Rattle.std.proofs.Common.{ℕ, zero, suc, ◌+◌, ◌-◌, ◌/◌, ◌<◌, ◌≤◌, ◌≡◌, nat_lt, Bool, true, false, cond, refl, sym, ap, ◌∙◌, subst, inl, inr, arith}
-use Rattle.std.proofs.lemmas.Bool.{cases_Bool, cases_eq, ltb-true, ltb-false, lt-ltb}
-use Rattle.sdd_order.specs.Linked.{end_of}
+use Rattle.sdd_order.proofs.All.{Bool, ap, arith, cases_Bool, cases_eq, cond, end_of, false, inl, inr, lt-ltb, ltb-false, ltb-true, nat_lt, refl, subst, suc, sym, true, zero, ℕ, ◌+◌, ◌-◌, ◌/◌, ◌<◌, ◌∙◌, ◌≡◌, ◌≤◌}
 
 half_below : (n : ℕ) → 0 < n → n / 2 < n
 half_below n l = omega arith

@@ -1,28 +1,7 @@
 -- Each link is a precedence.
-use Rattle.std.proofs.Common.{ℕ, zero, suc, ◌+◌, ◌-◌, ◌<◌, ◌≤◌, ◌==◌, ◌≡◌, ◌≢◌, nat_lt, Bool, true, false, not, ◌&&◌, ◌||◌, cond, List, [], ◌∷◌, ◌++◌, length, get_or, Option, Some, None, refl, sym, ap, ◌∙◌, subst, ◌⊎◌, inl, inr, arith, eq-eqb}
-use Rattle.std.specs.Prelude.{slice_get, slice_index_or, Contains}
-use Rattle.std.specs.List.{enumerate_from, flat_map, list_any}
-use Rattle.std.specs.BTreeMap.{get}
-use Rattle.std.proofs.lemmas.Bool.{cases_Bool, and_parts, and_from, eqb-true, ne_eqb, lt-ltb, ltb-true}
-use Rattle.std.proofs.lemmas.List.Elements.{Contains-append_cases, Contains-get_or}
-use Rattle.std.proofs.lemmas.Option.{same_Some}
-use Rattle.sdd_lang.proofs.base.Membership.{Contains-nil, Contains-cases}
-use Rattle.sdd_lang.specs.All.{Catalogue, fragments_in}
-use Rattle.sdd_history.specs.Records.{History}
-use Rattle.sdd_order.specs.Attempts.{Committed, IsCommitted, changes}
-use Rattle.sdd_order.specs.declared.seen.Marks.{Marks}
-use Rattle.sdd_order.specs.Finding.{AreMarks, pair_cmp, triple_cmp, is_below, last_place, sees}
-use Rattle.sdd_order.specs.Linked.{by_class, by_fragment, end_of, has_seen, links_at, fragment_links, read_links, links}
-use Rattle.sdd_order.specs.Orders.{IsOrderable}
-use Rattle.sdd_order.specs.Precedence.{module_of, is_apply, is_answer, was_seen, is_earlier, is_overwritten, misses, is_read_by, precedes}
-use Rattle.sdd_order.specs.Groups.{group, groups}
-use Rattle.sdd_order.proofs.Chained.{from_group, chains_are}
-use Rattle.sdd_order.proofs.Grouped.{group_at}
-use Rattle.sdd_order.proofs.Members.{Contains-from_flat_map, passes_member, member_passes}
-use Rattle.sdd_order.proofs.Before.{or_left, or_right}
+use Rattle.sdd_order.proofs.All.{AreMarks, Bool, Catalogue, Committed, Contains, History, IsCommitted, IsOrderable, List, Marks, None, Some, and_from, ap, arith, changes, eq-eqb, eqb-true, false, fragments_in, get, get_or as slice_index_or, has_seen, is_answer, is_apply, is_below, is_earlier, is_overwritten, is_read_by, list_any, lt-ltb, misses, module_of, nat_lt, ne_eqb, not, or_left, or_right, precedes, sees, slice_get, sym, triple_cmp, true, was_seen, ℕ, ◌&&◌, ◌-◌, ◌<◌, ◌==◌, ◌||◌, ◌∙◌, ◌≡◌, ◌≢◌}
+use Rattle.sdd_order.proofs.Members.{passes_member, member_passes}
 use Rattle.sdd_order.proofs.Firsts.{comes_before_is}
-use Rattle.sdd_order.proofs.Halves.{end_of_is}
-use Rattle.sdd_order.proofs.Nodes.{at_enumerated, from_class, from_fragment, classes_rise, fragments_rise}
 use Rattle.sdd_order.proofs.Serial.{one_txn}
 
 -- what a kind of precedence asks for

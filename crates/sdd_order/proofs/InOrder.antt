@@ -1,21 +1,6 @@
 -- The committed transactions, sorted by their timestamps.
-use Rattle.std.proofs.Common.{ℕ, zero, suc, ◌+◌, ◌<◌, ◌≤◌, ◌==◌, ◌≡◌, Bool, true, false, List, [], ◌∷◌, length, get_or, Option, Some, None, refl, sym, ap, ◌∙◌, subst, inl, inr, arith, eq-eqb}
-use Rattle.std.specs.Prelude.{All, Contains, filter_map, find, option_map, slice_get}
-use Rattle.std.specs.List.{cons_option, AllByRecursion, IsDistinct}
-use Rattle.std.specs.List.Sorted.{IsPermutation, IsNonDecreasingBy}
-use Rattle.std.proofs.lemmas.Bool.{cases_eq, ne_eqb, eqb-true}
-use Rattle.std.proofs.lemmas.List.Elements.{All-contains, All-contains_itself, Contains-get_or}
-use Rattle.std.proofs.lemmas.List.Sorted.{All-permutation, IsPermutation-sym}
-use Rattle.std.proofs.lemmas.Map.Keys.{IsDistinct-IsPermutation, IsDistinct-head, IsDistinct-tail, IsDistinct-cons}
-use Rattle.std.proofs.lemmas.Option.{same_Some}
-use Rattle.sdd_lang.proofs.base.Membership.{Contains-nil, Contains-here, Contains-later, Contains-cases}
-use Rattle.sdd_lang.specs.All.{Catalogue}
-use Rattle.sdd_history.specs.declared.record.Rec.{Rec}
-use Rattle.sdd_history.specs.declared.record.Rec.TheVariants.{Submit, Start, Arrive, Wait, Answer, Reject, Commit, Apply, Pass, Nothing}
-use Rattle.sdd_history.specs.Records.{History}
-use Rattle.sdd_order.specs.Attempts.{Attempt, Committed, IsCommitted, attempts, is_attempt_of, committed_of, committed}
-use Rattle.sdd_order.specs.Orders.{IsOrderable}
-use Rattle.sdd_order.specs.Places.{placed}
+use Rattle.sdd_order.proofs.All.{All-contains, All-contains_itself, All-permutation, AllByRecursion, Answer, Apply, Arrive, Attempt, Bool, Catalogue, Commit, Committed, Contains, Contains-cases, Contains-here, Contains-later, Contains-nil, History, IsCommitted, IsDistinct-IsPermutation, IsDistinct-cons, IsDistinct-head, IsDistinct-tail, IsNonDecreasingBy, IsOrderable, IsPermutation, IsPermutation-sym, List, None, Nothing, Option, Pass, Rec, Reject, Some, Start, Submit, Wait, [], ap, arith, attempts, cases_eq, committed, committed_of, cons_option, eq-eqb, false, filter_map, find, get_or, inl, inr, is_attempt_of, length, ne_eqb, option_map, placed, refl, same_Some, slice_get, subst, suc, sym, true, zero, ℕ, ◌<◌, ◌==◌, ◌∙◌, ◌∷◌, ◌≡◌, ◌≤◌}
+use Rattle.std.specs.List.{IsDistinct}
 use Rattle.sdd_order.proofs.Found.{from_committed}
 use Rattle.sdd_order.proofs.Implied.{AreInOrder}
 use Rattle.sdd_order.proofs.Serial.{one_of_time}
@@ -30,7 +15,7 @@ every : {X : Type 0} (P : X → Type 0) (xs : List X) → ((x : X) → Contains 
 every P [] h = tt
 every P (x ∷ xs) h = (h x (Contains-here x xs), every P xs (λ y m. h y (Contains-later x xs y m)))
 
-each : {X : Type 0} (P : X → Type 0) (xs : List X) → AllByRecursion P xs → (x : X) → Contains xs x → P x
+pub each : {X : Type 0} (P : X → Type 0) (xs : List X) → AllByRecursion P xs → (x : X) → Contains xs x → P x
 each P [] a x m = absurd (Contains-nil x m)
 each P (y ∷ xs) a x m = elim (Contains-cases y xs x m) [ inl e ↦ subst P (sym e) a.0 | inr k ↦ each P xs a.1 x k ]
 

@@ -1,4 +1,5 @@
 pub mod Alike
+mod All
 pub mod Ascending
 pub mod Before
 pub mod ByLinks

@@ -1,14 +1,5 @@
 -- How many links lead to a node from nodes of a list.
-use Rattle.std.proofs.Common.{ℕ, zero, suc, ◌+◌, ◌<◌, ◌≤◌, ◌==◌, ◌≡◌, ◌&&◌, ◌||◌, Bool, true, false, not, cond, List, [], ◌∷◌, ◌⊎◌, inl, inr, length, get_or, set, map, fold, replicate, refl, sym, ap, ◌∙◌, subst, arith, eq-eqb}
-use Rattle.std.specs.Prelude.{Contains, filter, All}
-use Rattle.std.specs.List.{list_any}
-use Rattle.std.proofs.lemmas.Bool.{cases_eq, cases_Bool, eqb-true, ne_eqb}
-use Rattle.std.proofs.lemmas.List.{length-set, get_or-set_same, get_or-set_other}
-use Rattle.std.proofs.lemmas.List.Elements.{All-head, All-tail}
-use Rattle.sdd_lang.proofs.base.Membership.{Contains-here, Contains-later}
-use Rattle.sdd_order.specs.Groups.{group}
-use Rattle.sdd_order.specs.Taken.{without}
-use Rattle.sdd_order.specs.Taking.{Links, has_link, at_node, counted}
+use Rattle.sdd_order.proofs.All.{All, All-head, All-tail, Bool, Contains, Links, List, [], ap, arith, at_node, cases_Bool, cases_eq, cond, counted, eq-eqb, eqb-true, false, filter, fold, get_or-set_other, get_or-set_same, group, has_link, inl, inr, length, length-set, list_any, map, ne_eqb, refl, subst, sym, true, without, ℕ, ◌&&◌, ◌+◌, ◌<◌, ◌==◌, ◌||◌, ◌∙◌, ◌∷◌, ◌≡◌}
 use Rattle.sdd_order.proofs.Members.{passes_member, member_passes}
 use Rattle.sdd_order.proofs.Taken.{without_is, in_without}
 

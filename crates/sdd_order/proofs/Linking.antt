@@ -1,15 +1,5 @@
 -- The links of one reader, as they are found.
-use Rattle.std.proofs.Common.{ℕ, ◌≡◌, ◌++◌, Bool, true, false, cond, List, [], ◌∷◌, length, map, drop, Option, Some, None, refl, sym, ap, ◌∙◌}
-use Rattle.std.specs.Prelude.{option_map, unwrap_or, slice_index_or}
-use Rattle.std.specs.List.{flat_map}
-use Rattle.std.proofs.lemmas.List.{append-nil, drop_all}
-use Rattle.std.proofs.lemmas.Grind.{flat_map-append}
-use Rattle.sdd_lang.specs.All.{Catalogue, DmNo, FragNo, Use, dm_no, fragments_in}
-use Rattle.sdd_order.specs.Attempts.{Committed, changes}
-use Rattle.sdd_order.specs.declared.seen.Marks.{Marks}
-use Rattle.sdd_order.specs.Linked.{end_of, has_seen, links_at, fragment_links}
-use Rattle.sdd_order.specs.Precedence.{module_of}
-use Rattle.sdd_order.specs.Groups.{Groups}
+use Rattle.sdd_order.proofs.All.{Catalogue, Committed, DmNo, FragNo, Groups, List, Marks, None, Option, Some, Use, [], ap, changes, cond, dm_no, end_of, false, flat_map, flat_map-append, fragment_links, fragments_in, get_or as slice_index_or, has_seen, length, links_at, map, module_of, option_map, refl, sym, true, unwrap_or, ℕ, ◌++◌, ◌∙◌, ◌∷◌, ◌≡◌}
 
 -- a module that may not be there
 pub number_or : (o : Option DmNo) → (unwrap_or o (dm_no 0)).0 ≡ unwrap_or (option_map (λ d. d.0) o) 0
@@ -25,7 +15,8 @@ fragment_links_are cat marks txns writers reader t f d k of_f unchanged at there
     let found : ℕ → List ℕ → ℕ = λ m l. end_of (has_seen marks txns m t l) (length l) 0 (length l) in
     ap (links_at of_f reader) (is ∙ ap (λ m. found m of_f) at)
     ∙ ap (λ l. links_at l reader (found (module_of cat t.start.class f) l)) there
-    ∙ ap (λ b. cond b [] (links_at (slice_index_or writers f []) reader (found (module_of cat t.start.class f) (slice_index_or writers f [])))) (sym unchanged)
+    ∙ ap (λ b. cond b [] (links_at (slice_index_or writers f []) reader (found (module_of cat t.start.class f) (slice_index_or writers f []))))
+    (sym unchanged)
 
 pub no_fragment_links : (cat : Catalogue) (marks : Marks) (txns : List Committed) (writers : Groups) (reader : ℕ) (t : Committed) (f : ℕ)
     → changes t f ≡ true → [] ≡ fragment_links cat marks txns writers (reader, t) f

@@ -1,14 +1,5 @@
 -- Where transactions were applied and answered, one record after the other.
-use Rattle.std.proofs.Common.{ℕ, ◌+◌, ◌<◌, ◌==◌, ◌≡◌, Bool, true, false, ◌&&◌, cond, List, length, get_or, take, Option, Some, None, refl, sym, ap, ◌∙◌, subst, inl, inr}
-use Rattle.std.specs.Option.{is_some, option_or}
-use Rattle.std.specs.Ordering.{nat_cmp, is_eq}
-use Rattle.std.specs.BTreeMap.{is_at}
-use Rattle.std.proofs.lemmas.Bool.{cases_Bool, and_parts, eqb-true}
-use Rattle.sdd_history.specs.declared.record.Rec.{Rec}
-use Rattle.sdd_history.specs.declared.record.Rec.TheVariants.{Submit, Start, Arrive, Wait, Answer, Reject, Commit, Apply, Pass, Nothing}
-use Rattle.sdd_history.specs.Records.{History}
-use Rattle.sdd_order.specs.Finding.{pair_cmp, triple_cmp, first_place, last_place, apply_key, answer_key, Applied, Answered}
-use Rattle.sdd_order.specs.Precedence.{is_answer, is_apply}
+use Rattle.sdd_order.proofs.All.{Answer, Answered, Applied, Apply, Arrive, Bool, Commit, History, None, Nothing, Option, Pass, Rec, Reject, Some, Start, Submit, Wait, and_parts, answer_key, ap, apply_key, cases_Bool, cond, eqb-true, false, first_place, get_or, inl, inr, is_answer, is_apply, is_at, is_eq, is_some, last_place, length, nat_cmp, option_or, pair_cmp, refl, subst, sym, take, triple_cmp, true, ℕ, ◌&&◌, ◌+◌, ◌<◌, ◌==◌, ◌∙◌, ◌≡◌}
 use Rattle.sdd_order.proofs.Firsts.{first_more, last_more}
 use Rattle.sdd_order.proofs.Reading.{is_eq_nat, is_eq_then, same_pair}
 

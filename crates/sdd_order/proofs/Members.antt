@@ -1,18 +1,11 @@
 -- Members of lists that are made of others.
-use Rattle.std.proofs.Common.{ℕ, zero, suc, ◌+◌, ◌<◌, ◌≤◌, ◌≡◌, ◌==◌, Bool, true, false, cond, List, [], ◌∷◌, ◌++◌, ◌||◌, map, length, get_or, Option, Some, None, refl, sym, ap, ◌∙◌, subst, inl, inr, arith}
-use Rattle.std.specs.Prelude.{All, slice_get, filter, filter_map, Contains}
-use Rattle.std.specs.List.{cons_option, flat_map, list_any, range_with_len}
-use Rattle.std.proofs.lemmas.Bool.{cases_eq, cases_Bool}
-use Rattle.std.proofs.lemmas.List.Elements.{Contains-get_or, Contains-append_cases, Contains-append_left, Contains-append_right}
-use Rattle.std.proofs.lemmas.Option.{slice_get-get_or}
-use Rattle.sdd_lang.proofs.base.Membership.{Contains-nil, Contains-here, Contains-later, Contains-cases}
+use Rattle.sdd_order.proofs.All.{All, Bool, Contains, Contains-append_cases, Contains-append_left, Contains-append_right, Contains-cases, Contains-get_or, Contains-here, Contains-later, Contains-nil, List, None, Option, Some, [], ap, arith, cases_Bool, cases_eq, cond, cons_option, false, filter, filter_map, flat_map, get_or, inl, inr, list_any, map, range_with_len, refl, slice_get, slice_get-get_or, subst, suc, sym, true, zero, ℕ, ◌+◌, ◌<◌, ◌||◌, ◌∙◌, ◌∷◌, ◌≡◌, ◌≤◌}
 
 -- a member stands at a place
 pub place_of : {X : Type 0} (xs : List X) (a : X) → Contains xs a → (k : ℕ) × (slice_get xs k ≡ Some a)
 place_of xs a h = (h.0, slice_get-get_or xs h.0 a h.1 ∙ ap (λ z. Some z) h.2)
 
-pub Contains-map : {X Y : Type 0} (f : X → Y) (xs : List X) (a : X) → Contains xs a
-    → Contains (map f xs) (f a)
+pub Contains-map : {X Y : Type 0} (f : X → Y) (xs : List X) (a : X) → Contains xs a → Contains (map f xs) (f a)
 Contains-map f [] a h = absurd (Contains-nil a h)
 Contains-map f (x ∷ xs) a h =
     elim (Contains-cases x xs a h) [

@@ -1,14 +1,5 @@
 -- The transactions by their places, their classes, and the fragments that they change.
-use Rattle.std.proofs.Common.{ℕ, zero, suc, ◌+◌, ◌<◌, ◌≤◌, ◌==◌, ◌≡◌, Bool, true, List, [], ◌∷◌, ◌++◌, length, map, Option, Some, None, refl, sym, ap, ◌∙◌, subst, inl, inr, arith, eq-eqb}
-use Rattle.std.specs.Prelude.{slice_get, Contains}
-use Rattle.std.specs.List.{enumerate_from, flat_map, list_any}
-use Rattle.std.proofs.lemmas.Bool.{eqb-true}
-use Rattle.std.proofs.lemmas.List.Elements.{Contains-append_cases}
-use Rattle.std.proofs.lemmas.Option.{same_Some}
-use Rattle.sdd_lang.proofs.base.Membership.{Contains-nil, Contains-here, Contains-later, Contains-cases}
-use Rattle.sdd_lang.specs.All.{Change}
-use Rattle.sdd_order.specs.Attempts.{Committed, changes}
-use Rattle.sdd_order.specs.Linked.{by_class, by_fragment}
+use Rattle.sdd_order.proofs.All.{Change, Committed, Contains, Contains-append_cases, Contains-cases, Contains-here, Contains-later, Contains-nil, List, Some, [], ap, arith, by_class, by_fragment, changes, enumerate_from, eq-eqb, eqb-true, flat_map, inl, inr, map, same_Some, slice_get, subst, suc, sym, true, zero, ℕ, ◌++◌, ◌+◌, ◌==◌, ◌∷◌, ◌≡◌, ◌≤◌}
 use Rattle.sdd_order.proofs.Chained.{NumbersRise}
 use Rattle.sdd_order.proofs.Members.{Contains-map, Contains-from_map, Contains-flat_map, Contains-from_flat_map, passes_member, member_passes}
 

@@ -1,21 +1,10 @@
 -- With the links counted, the nodes are taken in their order.
-use Rattle.std.proofs.Common.{ℕ, zero, suc, ◌+◌, ◌-◌, ◌<◌, ◌≤◌, ◌==◌, ◌≡◌, ◌≢◌, Bool, true, false, cond, List, [], ◌∷◌, Option, Some, None, length, get_or, replicate, refl, sym, ap, ◌∙◌, subst, inl, inr, arith, eq-eqb}
-use Rattle.std.specs.Prelude.{Contains, filter, fold, slice_index_or, All}
-use Rattle.std.specs.List.{range_with_len}
-use Rattle.std.specs.Ordering.{nat_cmp}
-use Rattle.std.specs.BTreeSet.{insert_key}
-use Rattle.std.proofs.lemmas.Bool.{cases_eq, ne_eqb, eqb-true}
-use Rattle.std.proofs.lemmas.List.{length-set, length-replicate, get_or-replicate, get_or-set_same, get_or-set_other}
-use Rattle.std.proofs.lemmas.List.Elements.{All-contains, All-weaker, All-map, Contains-get_or}
-use Rattle.sdd_lang.proofs.base.Membership.{Contains-nil, Contains-here, Contains-later, Contains-cases}
-use Rattle.sdd_order.specs.Groups.{Groups, group, groups}
-use Rattle.sdd_order.specs.Taken.{is_ready, earliest, taken}
-use Rattle.sdd_order.specs.Taking.{Links, has_link, nodes, order_of, at_node, counted, link_counts, Front, released, first_ready, taking}
+use Rattle.sdd_order.proofs.All.{All, All-contains, All-map, All-weaker, Bool, Contains, Contains-cases, Contains-here, Contains-later, Contains-nil, Front, Groups, Links, List, None, Some, [], ap, arith, at_node, cases_eq, cond, counted, earliest, eq-eqb, eqb-true, filter, first_ready, fold, get_or as slice_index_or, get_or-replicate, get_or-set_other, get_or-set_same, group, groups, has_link, inl, inr, insert_key, is_ready, length, length-replicate, length-set, link_counts, nat_cmp, ne_eqb, nodes, order_of, refl, released, replicate, subst, suc, sym, taken, taking, zero, ℕ, ◌+◌, ◌-◌, ◌<◌, ◌==◌, ◌∙◌, ◌∷◌, ◌≡◌}
 use Rattle.sdd_order.proofs.Ascending.{Ascending, insert_is, insert_has, ascending_insert, ascending_passing, from_range}
 use Rattle.sdd_order.proofs.Grouped.{group_at, groups_long}
 use Rattle.sdd_order.proofs.LinkedOrders.{one, led, times, without_node, none_led, led_none, led_without, counts_are}
 use Rattle.sdd_order.proofs.Members.{All-members, Contains-filter, Contains-from_filter, Contains-from_map, Contains-range}
-use Rattle.sdd_order.proofs.Taken.{next_is, is_next, none_next, without_is, in_without}
+use Rattle.sdd_order.proofs.Taken.{next_is, is_next, without_is, in_without}
 
 module _ (links : Links) (count : ℕ) where
   -- While links to targets of one node are still counted: the counts, and the nodes that are ready.

@@ -1,6 +1,5 @@
 -- Paths.
-use Rattle.std.proofs.Common.{List, [], ◌∷◌, ◌++◌}
-use Rattle.sdd_order.specs.Paths.{IsPath}
+use Rattle.sdd_order.proofs.All.{IsPath, List, [], ◌++◌, ◌∷◌}
 
 -- paths follow one another
 pub path_join : {T : Type 0} (R : T → T → Type 0) (x : T) (m : List T) (y : T) (n : List T) (z : T)

@@ -1,10 +1,5 @@
 -- A record at a place is one record.
-use Rattle.std.proofs.Common.{ℕ, ◌≡◌, List, Option, Some, refl, sym, ap, ◌∙◌, subst}
-use Rattle.sdd_lang.specs.All.{Change, ClassNo, Reply, Ts, TxnNo, Use, class_no, time_at, txn_no}
-use Rattle.sdd_history.specs.declared.record.Rec.TheVariants.{Submit, Start, Commit}
-use Rattle.sdd_history.specs.Records.{History}
-use Rattle.sdd_order.specs.Attempts.{Attempt, Committed, IsAttempt, IsCommitted, HasCommit}
-use Rattle.sdd_order.specs.Places.{Stands}
+use Rattle.sdd_order.proofs.All.{Attempt, ClassNo, Commit, Committed, HasCommit, History, IsAttempt, IsCommitted, Some, Stands, Start, Submit, Ts, TxnNo, ap, class_no, subst, sym, time_at, txn_no, ℕ, ◌∙◌, ◌≡◌}
 
 -- two Submits at one place are of one transaction
 pub one_submitted : (h : History) (n m k : ℕ) → Stands h k (Submit (txn_no n)) → Stands h k (Submit (txn_no m)) → n ≡ m
@@ -23,8 +18,7 @@ pub record SameStart (a b : Attempt) : Type 0 where
   pub uses : a.uses ≡ b.uses
   pub place : a.place ≡ b.place
 
-pub same_start : (h : History) (a b : Attempt) → IsAttempt h a → IsAttempt h b → a.place ≡ b.place
-    → SameStart a b
+pub same_start : (h : History) (a b : Attempt) → IsAttempt h a → IsAttempt h b → a.place ≡ b.place → SameStart a b
 same_start h a b p q same =
     let e : Some (Start (txn_no a.txn) a.number (class_no a.class) (time_at a.ts) a.p2 a.uses)
     ≡ Some (Start (txn_no b.txn) b.number (class_no b.class) (time_at b.ts) b.p2 b.uses) =
@@ -87,8 +81,7 @@ one_committed t u start s place =
     }
 
 -- where of a transaction there is one Commit, and of a transaction and number one Start, of a transaction one is committed
-pub one_of_txn : (h : History)
-    → ((n i j k l : ℕ) → HasCommit h n i k → HasCommit h n j l → k ≡ l)
+pub one_of_txn : (h : History) → ((n i j k l : ℕ) → HasCommit h n i k → HasCommit h n j l → k ≡ l)
     → ((a b : Attempt) → IsAttempt h a → IsAttempt h b → a.txn ≡ b.txn → a.number ≡ b.number → a.place ≡ b.place)
     → (t u : Committed) → IsCommitted h t → IsCommitted h u → t.start.txn ≡ u.start.txn → t ≡ u
 one_of_txn h one_commit one_start t u p q e =

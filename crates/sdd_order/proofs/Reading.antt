@@ -1,21 +1,5 @@
 -- The attempts and the committed transactions of a history, one record after the other.
-use Rattle.std.proofs.Common.{Less, Equal, Greater, ℕ, zero, suc, ◌+◌, ◌<◌, ◌==◌, ◌≡◌, ◌≢◌, Bool, true, false, ◌&&◌, cond, List, [], ◌∷◌, ◌++◌, take, length, get_or, Option, Some, None, refl, sym, ap, ◌∙◌, subst, ◌⊎◌, inl, inr, arith, eq-eqb}
-use Rattle.std.specs.Prelude.{find, filter_map, option_map}
-use Rattle.std.specs.List.{cons_option}
-use Rattle.std.specs.Option.{is_some, option_or}
-use Rattle.std.specs.Ordering.{nat_cmp, is_eq, ordering_then}
-use Rattle.std.specs.declared.cmp.Ordering.{Ordering}
-use Rattle.std.specs.Cmp.{nat_cmp_is}
-use Rattle.std.specs.BTreeMap.{is_at}
-use Rattle.std.proofs.lemmas.Bool.{cases_Bool, cases_eq, ne_eqb, eqb-true, and_parts}
-use Rattle.std.proofs.lemmas.List.{append-nil, take_more}
-use Rattle.std.proofs.lemmas.List.Elements.{filter_map-append}
-use Rattle.std.proofs.lemmas.List.Folds.{find-append}
-use Rattle.sdd_history.specs.declared.record.Rec.{Rec}
-use Rattle.sdd_history.specs.Records.{History}
-use Rattle.sdd_order.specs.Attempts.{Attempt, Committed, attempt_of, attempts, is_attempt_of, committed_of, committed}
-use Rattle.sdd_order.specs.Finding.{pair_cmp}
-use Rattle.sdd_order.specs.Places.{placed}
+use Rattle.sdd_order.proofs.All.{Attempt, Equal, Greater, History, Less, List, None, Option, Ordering, Rec, Some, [], and_parts, ap, append-nil, arith, attempt_of, attempts, cases_Bool, cases_eq, cond, cons_option, eq-eqb, eqb-true, false, filter_map, filter_map-append, find, find-append, get_or, inl, inr, is_at, is_attempt_of, is_eq, is_some, length, nat_cmp, nat_cmp_is, ne_eqb, option_or, ordering_then, pair_cmp, placed, refl, subst, suc, sym, take, take_more, true, zero, ℕ, ◌&&◌, ◌++◌, ◌+◌, ◌<◌, ◌==◌, ◌∙◌, ◌∷◌, ◌≡◌, ◌⊎◌}
 
 -- one record more
 
@@ -128,7 +112,8 @@ found_again h i e made a l is some has old n k =
           let both = and_parts (a.txn == n) (a.number == k) t in
           let there : is_some before ≡ true =
           ap is_some (sym (old n k))
-          ∙ subst (λ m. is_some (made m k) ≡ true) (eqb-true a.txn n both.0) (subst (λ j. is_some (made a.txn j) ≡ true) (eqb-true a.number k both.1) has) in
+          ∙ subst (λ m. is_some (made m k) ≡ true) (eqb-true a.txn n both.0)
+          (subst (λ j. is_some (made a.txn j) ≡ true) (eqb-true a.number k both.1) has) in
           old n k ∙ sym (then ∙ some_stays before (find (is_attempt_of n k) (a ∷ [])) there)
       | inr f ↦ old n k ∙ sym (then ∙ ap (option_or before) (other_attempt n k a f) ∙ or_none before)
     ]
@@ -153,7 +138,8 @@ found_first h i e made new a l is some absent updates old n k =
           let both = and_parts (a.txn == n) (a.number == k) t in
           let nothing : is_some before ≡ false =
           ap is_some (sym (old n k))
-          ∙ subst (λ m. is_some (made m k) ≡ false) (eqb-true a.txn n both.0) (subst (λ j. is_some (made a.txn j) ≡ false) (eqb-true a.number k both.1) absent) in
+          ∙ subst (λ m. is_some (made m k) ≡ false) (eqb-true a.txn n both.0)
+          (subst (λ j. is_some (made a.txn j) ≡ false) (eqb-true a.number k both.1) absent) in
           now ∙ ap (λ b. cond b (Some a) (made n k)) t
           ∙ sym (then ∙ or_second before (find (is_attempt_of n k) (a ∷ [])) nothing ∙ that_attempt n k a t)
       | inr f ↦

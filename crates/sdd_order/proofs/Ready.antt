@@ -1,8 +1,5 @@
 -- Of the members of a list one is ready: none of them precedes it.
-use Rattle.std.proofs.Common.{List, [], ◌∷◌, ◌++◌, ◌≡◌, refl, sym, ap, subst, ◌⊎◌, inl, inr}
-use Rattle.std.specs.Prelude.{Contains}
-use Rattle.sdd_lang.proofs.base.Membership.{Contains-nil, Contains-here, Contains-later, Contains-cases}
-use Rattle.sdd_order.specs.Paths.{IsPath, IsOrderly}
+use Rattle.sdd_order.proofs.All.{Contains, Contains-cases, Contains-here, Contains-later, Contains-nil, IsOrderly, IsPath, List, [], inl, inr, refl, subst, sym, ◌++◌, ◌∷◌, ◌≡◌, ◌⊎◌}
 use Rattle.sdd_order.proofs.Paths.{path_join}
 
 -- a member that none precedes, and that is s or leads to it

@@ -1,14 +1,5 @@
 -- In the serial order of an orderable history each committed transaction stands once, after its predecessors.
-use Rattle.std.proofs.Common.{ℕ, ◌≤◌, ◌≡◌, ◌≢◌, true, false, List, [], ◌∷◌, map, length, refl, sym, ap, ◌∙◌, subst, ◌⊎◌, inl, inr, arith}
-use Rattle.std.specs.Prelude.{Contains}
-use Rattle.std.proofs.lemmas.Bool.{cases_Bool, false≢true}
-use Rattle.sdd_lang.specs.All.{Catalogue, TxnNo, txn_no}
-use Rattle.sdd_lang.proofs.base.Membership.{Contains-here, Contains-later}
-use Rattle.sdd_history.specs.Records.{History}
-use Rattle.sdd_order.specs.Attempts.{Committed, IsCommitted, committed}
-use Rattle.sdd_order.specs.Orders.{IsFirst, IsAlong, IsSerial, IsOrderable}
-use Rattle.sdd_order.specs.Precedence.{precedes, Precedes}
-use Rattle.sdd_order.specs.SerialOrder.{in_order, serial_order}
+use Rattle.sdd_order.proofs.All.{Catalogue, Committed, Contains, Contains-here, Contains-later, History, IsAlong, IsCommitted, IsOrderable, IsSerial, List, Precedes, TxnNo, [], ap, arith, cases_Bool, committed, false, false≢true, in_order, inl, inr, length, map, precedes, serial_order, sym, txn_no, ℕ, ◌∙◌, ◌∷◌, ◌≡◌, ◌≢◌, ◌⊎◌}
 use Rattle.sdd_order.proofs.Found.{from_committed, in_committed}
 use Rattle.sdd_order.proofs.Members.{Contains-map, Contains-from_map}
 use Rattle.sdd_order.proofs.Places.{same_start, one_of_txn}

@@ -1,15 +1,5 @@
 -- One step of the nodes that are ready first, and of what is taken.
-use Rattle.std.proofs.Common.{ℕ, zero, suc, ◌+◌, ◌-◌, ◌<◌, ◌≤◌, ◌==◌, ◌≡◌, ◌≢◌, Bool, true, false, cond, List, [], ◌∷◌, ◌++◌, length, get_or, refl, sym, ap, ◌∙◌, subst, arith, eq-eqb}
-use Rattle.std.specs.Prelude.{Contains, filter, fold, slice_index_or, slice_set, All}
-use Rattle.std.specs.List.{range_with_len}
-use Rattle.std.specs.Ordering.{nat_cmp}
-use Rattle.std.specs.BTreeSet.{insert_key}
-use Rattle.std.proofs.lemmas.Bool.{ne_eqb}
-use Rattle.std.proofs.lemmas.List.{append-nil, append_assoc}
-use Rattle.std.proofs.lemmas.List.Elements.{All-head, All-tail}
-use Rattle.std.proofs.lemmas.Map.Views.{All-insert_key}
-use Rattle.sdd_order.specs.Groups.{Groups}
-use Rattle.sdd_order.specs.Taking.{at_node, Front, released, first_ready, taking}
+use Rattle.sdd_order.proofs.All.{All, All-head, All-insert_key, All-tail, Bool, Contains, Front, Groups, List, [], ap, append-nil, append_assoc, arith, at_node, cond, eq-eqb, false, filter, first_ready, fold, get_or as slice_index_or, insert_key, length, nat_cmp, ne_eqb, range_with_len, refl, released, suc, sym, taking, true, zero, ℕ, ◌++◌, ◌+◌, ◌-◌, ◌<◌, ◌==◌, ◌∙◌, ◌∷◌, ◌≡◌, ◌≢◌}
 use Rattle.sdd_order.proofs.Ascending.{insert_last, from_range}
 use Rattle.sdd_order.proofs.Members.{Contains-from_filter}
 

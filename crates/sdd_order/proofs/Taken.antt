@@ -1,11 +1,5 @@
 -- What is taken of items with different times.
-use Rattle.std.proofs.Common.{ℕ, zero, suc, ◌<◌, ◌≤◌, ◌==◌, ◌≡◌, ◌≢◌, nat_lt, ◌||◌, Bool, true, false, not, cond, List, [], ◌∷◌, length, Option, Some, None, refl, sym, ap, ◌∙◌, subst, ◌⊎◌, inl, inr, arith, eq-eqb}
-use Rattle.std.specs.Prelude.{filter, Contains}
-use Rattle.std.specs.List.{list_any}
-use Rattle.std.proofs.lemmas.Bool.{cases_Bool, cases_eq, ltb-true, ltb-false, eqb-true, eqb-false, ne_eqb, not-true}
-use Rattle.std.proofs.lemmas.Option.{same_Some}
-use Rattle.sdd_lang.proofs.base.Membership.{Contains-nil, Contains-here, Contains-later, Contains-cases}
-use Rattle.sdd_order.specs.Taken.{is_ready, earlier, earliest, without, taken}
+use Rattle.sdd_order.proofs.All.{Bool, Contains, Contains-cases, Contains-here, Contains-later, Contains-nil, List, None, Option, Some, [], ap, arith, cases_Bool, cases_eq, cond, earlier, earliest, eq-eqb, eqb-false, false, filter, inl, inr, is_ready, length, list_any, ltb-false, ltb-true, nat_lt, ne_eqb, not, not-true, refl, same_Some, subst, suc, sym, taken, true, without, zero, ℕ, ◌<◌, ◌==◌, ◌||◌, ◌∙◌, ◌∷◌, ◌≡◌, ◌≢◌, ◌≤◌}
 use Rattle.sdd_order.proofs.Members.{Contains-filter, Contains-from_filter, passes_member}
 
 module _ {A : Type 0} (time : A → ℕ) where
@@ -186,7 +180,8 @@ module _ {A : Type 0} (time : A → ℕ) where
     pub taken_is : (n : ℕ) (left : List A) (x : A) → Contains (taken before time n left) x → Contains left x
     taken_is zero left x m = absurd (Contains-nil x m)
     taken_is (suc n) left x m =
-        elim (earliest time (filter (is_ready before left) left)) as (λ o. earliest time (filter (is_ready before left) left) ≡ o → Contains (elim o as (λ p. List A) [ None ↦ [] | Some y ↦ y ∷ taken before time n (without time y left) ]) x → Contains left x) [
+        elim (earliest time (filter (is_ready before left) left)) as
+        (λ o. earliest time (filter (is_ready before left) left) ≡ o → Contains (elim o as (λ p. List A) [ None ↦ [] | Some y ↦ y ∷ taken before time n (without time y left) ]) x → Contains left x) [
           | None ↦ λ e k. absurd (Contains-nil x k)
           | Some y ↦ λ e k. elim (Contains-cases y (taken before time n (without time y left)) x k) [
             | inl same ↦ subst (Contains left) (sym same) (next_is left y e).member
@@ -201,7 +196,8 @@ module _ {A : Type 0} (time : A → ℕ) where
     taken_whole zero [] l d h x m = absurd (Contains-nil x m)
     taken_whole zero (y ∷ left) l d h x m = absurd (omega arith)
     taken_whole (suc n) left l d h x m =
-        elim (earliest time (filter (is_ready before left) left)) as (λ o. earliest time (filter (is_ready before left) left) ≡ o → Contains (elim o as (λ p. List A) [ None ↦ [] | Some y ↦ y ∷ taken before time n (without time y left) ]) x) [
+        elim (earliest time (filter (is_ready before left) left)) as
+        (λ o. earliest time (filter (is_ready before left) left) ≡ o → Contains (elim o as (λ p. List A) [ None ↦ [] | Some y ↦ y ∷ taken before time n (without time y left) ]) x) [
           | None ↦ λ e. let r = h left (λ y k. k) x m in absurd (none_next left e r.0 r.1 r.2)
           | Some y ↦ λ e.
               let next = next_is left y e in
@@ -224,7 +220,8 @@ module _ {A : Type 0} (time : A → ℕ) where
     pub taken_along : (n : ℕ) (left : List A) → IsAlongBy (taken before time n left)
     taken_along zero left = tt
     taken_along (suc n) left =
-        elim (earliest time (filter (is_ready before left) left)) as (λ o. earliest time (filter (is_ready before left) left) ≡ o → IsAlongBy (elim o as (λ p. List A) [ None ↦ [] | Some y ↦ y ∷ taken before time n (without time y left) ])) [
+        elim (earliest time (filter (is_ready before left) left)) as
+        (λ o. earliest time (filter (is_ready before left) left) ≡ o → IsAlongBy (elim o as (λ p. List A) [ None ↦ [] | Some y ↦ y ∷ taken before time n (without time y left) ])) [
           | None ↦ λ e. tt
           | Some x ↦ λ e. (
             (λ y m.

@@ -4,8 +4,8 @@ ghost use Rattle.sdd_order.specs.Attempts as definitions;
 ghost use Rattle.sdd_order.specs.Attempts.{attempts, committed, is_attempt_of};
 ghost use Rattle.sdd_order.specs.Finding.{pair_cmp};
 
-use sdd_history::Rec;
-use sdd_lang::sdd_base::{Change, Changes, ClassNo, NoMemory, Reply, Ts, TxnNo, Use, Uses};
+use sdd_history::{PrintedReply, Rec};
+use sdd_lang::sdd_base::{Change, Changes, ClassNo, NoMemory, Ts, TxnNo, Use, Uses};
 use std::alloc::Global;
 use std::collections::BTreeMap;
 use std::marker::Model;
@@ -58,7 +58,7 @@ impl<'a> Attempt<'a> {
 #[derive(Drop)]
 pub struct Committed<'a> {
     pub start: Attempt<'a>,
-    pub reply: &'a Reply,
+    pub reply: &'a PrintedReply,
     pub changes: &'a Changes,
     /// How many values were sent for it, in VALUES and in REDUCE messages.
     pub values: u128,

@@ -1,19 +1,6 @@
 -- What is kept of a pipe answers what conditions ask of it, and follows it.
-use Rattle.std.proofs.Common.{ℕ, Bool, true, false, cond, List, [], ◌∷◌, ◌++◌, map, ◌≡◌, refl, ap, ◌∙◌, sym, subst, arith, Option, Some, None}
-use Rattle.std.specs.Prelude.{◌==◌, ◌||◌, ◌&&◌, nat_le, fold, filter_map}
-use Rattle.std.specs.List.{list_any}
-use Rattle.std.proofs.lemmas.List.{map-append, append-nil}
-use Rattle.std.proofs.lemmas.List.Folds.{list_any-append}
-use Rattle.std.proofs.lemmas.List.Sums.{fold-append}
-use Rattle.std.proofs.lemmas.Bool.Decides.{nat_tests}
-use Rattle.sdd_base.specs.declared.number.FragNo.{FragNo}
-use Rattle.sdd_base.specs.declared.change.Change.{Change}
-use Rattle.sdd_wire.specs.declared.msg.Msg.{Msg}
-use Rattle.sdd_wire.specs.declared.msg.Msg.TheVariants.{Write}
-use Rattle.sdd_wire.specs.Piped.{time_of}
-use Rattle.sdd_pipe.specs.Pipe.{Pipe, empty_pipe, put, head_processed, passed, touches, write_time, raised, greatest, last_write}
-use Rattle.sdd_pipe.specs.Digest.{Writes, Digest, empty_digest, changes_of, with_room, with_write, put_digest, take_digest, is_by, has_passed, write_in, last_in, HaveRoom, IsDigest}
-use Rattle.sdd_pipe.proofs.Entries.{by_raised, write_with_room, room_stays, writes_stay, have_room_stays, have_room_append, room_made, write_raised}
+use Rattle.sdd_pipe.proofs.All.{Bool, Change, Digest, FragNo, HaveRoom, IsDigest, List, Msg, None, Option, Pipe, Some, Write, Writes, [], ap, append-nil, arith, changes_of, cond, empty_digest, empty_pipe, false, filter_map, fold, fold-append, greatest, has_passed, head_processed, is_by, last_in, last_write, list_any, list_any-append, map, map-append, nat_le, nat_tests, passed, put, put_digest, raised, refl, subst, sym, take_digest, time_of, touches, true, with_room, with_write, write_in, write_time, ℕ, ◌&&◌, ◌++◌, ◌==◌, ◌||◌, ◌∙◌, ◌∷◌, ◌≡◌}
+use Rattle.sdd_pipe.proofs.Entries.{by_raised, write_with_room, room_stays, writes_stay, have_room_stays, have_room_append, room_made, write_raised, or_swap}
 
 -- an option is told by the numbers that it reaches
 
@@ -29,7 +16,7 @@ told None (Some b) h = let e : false ≡ true = h b ∙ reaches_own b in absurd 
 told (Some a) None h = let e : true ≡ false = sym (reaches_own a) ∙ h a in absurd cc
 told (Some a) (Some b) h = ap Some (told_by a b (h a) (h b))
 
-or_assoc : (a b c : Bool) → ((a || b) || c) ≡ (a || (b || c))
+pub or_assoc : (a b c : Bool) → ((a || b) || c) ≡ (a || (b || c))
 or_assoc true b c = refl
 or_assoc false b c = refl
 
@@ -75,7 +62,8 @@ any_either : {A : Type 0} (f g : A → Bool) (xs : List A) → list_any (λ x. f
 any_either f g [] = refl
 any_either f g (x ∷ xs) = ap (λ b. (f x || g x) || b) (any_either f g xs) ∙ or_four (f x) (g x) (list_any f xs) (list_any g xs)
 
-any_swap : {A B : Type 0} (f : A → B → Bool) (xs : List A) (ys : List B) → list_any (λ x. list_any (f x) ys) xs ≡ list_any (λ y. list_any (λ x. f x y) xs) ys
+any_swap : {A B : Type 0} (f : A → B → Bool) (xs : List A) (ys : List B)
+    → list_any (λ x. list_any (f x) ys) xs ≡ list_any (λ y. list_any (λ x. f x y) xs) ys
 any_swap f [] ys = sym (any_none ys)
 any_swap f (x ∷ xs) ys = ap (λ b. list_any (f x) ys || b) (any_swap f xs ys) ∙ sym (any_either (f x) (λ y. list_any (λ z. f z y) xs) ys)
 
@@ -159,15 +147,10 @@ is_put m d p i = record {
 
 one_write : (t : ℕ) (f : FragNo) (m : Msg) → (list_any (λ x. x.frag.0 == f.0) (changes_of m) && nat_le t (time_of m)) ≡ is_by t (write_time (f ∷ []) m)
 one_write t f (Write ts class txn changes) =
-    ap (λ b. b && nat_le t ts.0) (any_same (λ x. x.frag.0 == f.0) (λ x. f.0 == x.frag.0) changes (λ x. grind (arith, nat_tests)) ∙ sym (one_touched f changes))
+    ap (λ b. b && nat_le t ts.0)
+    (any_same (λ x. x.frag.0 == f.0) (λ x. f.0 == x.frag.0) changes (λ x. grind (arith, nat_tests)) ∙ sym (one_touched f changes))
     ∙ sym (by_write t ts.0 (touches (f ∷ []) changes))
 one_write t f _ = refl
-
-or_swap : (a b : Bool) → (a || b) ≡ (b || a)
-or_swap true true = refl
-or_swap true false = refl
-or_swap false true = refl
-or_swap false false = refl
 
 write_taken : (m : Msg) (d : Digest) (p : Pipe) (rest : List Msg) → IsDigest d p → p.unprocessed ≡ m ∷ rest → (f : FragNo)
     → write_in (fold (with_write (time_of m)) d.writes (changes_of m)) f ≡ greatest (filter_map (write_time (f ∷ [])) (p.processed ++ m ∷ []))

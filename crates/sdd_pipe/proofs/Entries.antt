@@ -1,25 +1,10 @@
 -- What is kept by fragment: room for an entry, and an entry that is raised.
-use Rattle.std.proofs.Common.{ℕ, Bool, true, false, cond, List, [], ◌∷◌, ◌++◌, ◌≡◌, refl, ap, ◌∙◌, sym, arith, Option, Some, None}
-use Rattle.std.specs.Prelude.{◌==◌, ◌||◌, ◌&&◌, nat_le, fold, is_some}
-use Rattle.std.specs.Bool.{if◌then◌else◌}
-use Rattle.std.specs.List.{list_any}
-use Rattle.std.specs.Ordering.{nat_cmp, is_eq, match_ordering}
-use Rattle.std.specs.declared.cmp.Ordering.TheVariants.{Less, Equal, Greater}
-use Rattle.std.specs.BTreeMap.{insert_entry}
-use Rattle.std.proofs.lemmas.Bool.Decides.{nat_tests}
-use Rattle.sdd_base.specs.declared.number.FragNo.{FragNo}
-use Rattle.sdd_base.specs.declared.change.Change.{Change}
-use Rattle.sdd_wire.specs.declared.msg.Msg.{Msg}
-use Rattle.sdd_pipe.specs.Pipe.{raised}
-use Rattle.sdd_pipe.specs.Digest.{Writes, entry_of, with_room, raised_entry, with_write, is_by, or_none, write_in, changes_of, HasRoom, HaveRoom}
+use Rattle.sdd_pipe.proofs.All.{Bool, Change, Equal, FragNo, Greater, HasRoom, HaveRoom, Less, List, Msg, None, Option, Some, Writes, [], ap, arith, changes_of, cond, entry_of, false, fold, if◌then◌else◌, insert_entry, is_by, is_eq, is_some, list_any, match_ordering, nat_cmp, nat_le, nat_tests, or_none, raised, raised_entry, refl, sym, true, with_room, with_write, write_in, ℕ, ◌&&◌, ◌++◌, ◌==◌, ◌||◌, ◌∙◌, ◌∷◌, ◌≡◌}
 
 -- an entry is put in
 
 eq_at : (a b : ℕ) → is_eq (nat_cmp a b) ≡ (a == b)
 eq_at a b = grind (arith, nat_tests)
-
-Entry : Type 0
-Entry = ℕ × Option ℕ
 
 at_less : (f g a : ℕ) (v w x : Option (Option ℕ)) → cond (is_eq (nat_cmp g f)) v (cond (is_eq (nat_cmp g a)) w x)
     ≡ (if f == g then v else cond (is_eq (nat_cmp g a)) w x)
@@ -90,7 +75,8 @@ write_room_by writes f g None e =
 pub write_with_room : (changes : List Change) (writes : Writes) (f : FragNo) → write_in (fold with_room writes changes) f ≡ write_in writes f
 write_with_room [] writes f = refl
 write_with_room (x ∷ changes) writes f =
-    write_with_room changes (with_room writes x) f ∙ ap or_none (entry_room writes x f.0) ∙ write_room_by writes x.frag.0 f.0 (entry_of x.frag.0 writes) refl
+    write_with_room changes (with_room writes x) f ∙ ap or_none (entry_room writes x f.0)
+    ∙ write_room_by writes x.frag.0 f.0 (entry_of x.frag.0 writes) refl
 
 -- entries that are there stay
 
@@ -146,22 +132,20 @@ pub by_raised : (t time : ℕ) (o : Option ℕ) → is_by t (raised o time) ≡ 
 by_raised t time None = refl
 by_raised t time (Some u) = grind (arith, nat_tests)
 
-or_swap : (a b : Bool) → (a || b) ≡ (b || a)
+pub or_swap : (a b : Bool) → (a || b) ≡ (b || a)
 or_swap true true = refl
 or_swap true false = refl
 or_swap false true = refl
 or_swap false false = refl
 
-or_assoc : (a b c : Bool) → ((a || b) || c) ≡ (a || (b || c))
-or_assoc true b c = refl
-or_assoc false b c = refl
-
 raised_here : (t time : ℕ) (b : Bool) (latest o : Option ℕ) → (b ≡ true → o ≡ latest)
     → is_by t (or_none (if b then Some (raised latest time) else Some o)) ≡ ((b && nat_le t time) || is_by t o)
-raised_here t time true latest o e = by_raised t time latest ∙ or_swap (is_by t latest) (nat_le t time) ∙ ap (λ x. nat_le t time || is_by t x) (sym (e refl))
+raised_here t time true latest o e =
+    by_raised t time latest ∙ or_swap (is_by t latest) (nat_le t time) ∙ ap (λ x. nat_le t time || is_by t x) (sym (e refl))
 raised_here t time false latest o e = refl
 
-raised_entry_by : (writes : Writes) (t time f g : ℕ) (latest : Option ℕ) (o : Option (Option ℕ)) → entry_of f writes ≡ Some latest → entry_of g writes
+raised_entry_by : (writes : Writes) (t time f g : ℕ) (latest : Option ℕ) (o : Option (Option ℕ)) → entry_of f writes ≡ Some latest
+    → entry_of g writes
     ≡ o → is_by t (or_none (if f == g then Some (raised latest time) else o)) ≡ (((f == g) && nat_le t time) || is_by t (or_none o))
 raised_entry_by writes t time f g latest (Some last) e h =
     raised_here t time (f == g) latest last (λ p. let same : Some last ≡ Some latest = sym h ∙ same_entry writes f g (Some latest) e p in cc)

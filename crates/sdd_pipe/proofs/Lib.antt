@@ -1,3 +1,4 @@
+mod All
 pub mod Digests
 mod Entries
 pub mod Updates

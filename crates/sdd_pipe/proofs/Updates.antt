@@ -1,7 +1,5 @@
 -- An element of a list is changed by a function.
-use Rattle.std.proofs.Common.{ℕ, zero, suc, ◌≤◌, List, [], ◌∷◌, ◌≡◌, refl, ap, length, arith}
-use Rattle.std.specs.Prelude.{slice_set, slice_index_or}
-use Rattle.sdd_pipe.specs.Pipes.{update}
+use Rattle.sdd_pipe.proofs.All.{List, [], ap, arith, length, refl, slice_index_or, slice_set, suc, update, zero, ℕ, ◌∷◌, ◌≡◌, ◌≤◌}
 
 update_at : {A : Type 0} (f : A → A) (xs : List A) (k : ℕ) (x y : A) → x ≡ slice_index_or xs k x → y ≡ f x → slice_set xs k y ≡ update k f xs
 update_at f [] k x y e g = refl
@@ -9,7 +7,8 @@ update_at f (z ∷ xs) zero x y e g = let same : x ≡ z = e in rw (g, same) ref
 update_at f (z ∷ xs) (suc k) x y e g = ap (λ l. z ∷ l) (update_at f xs k x y e g)
 
 -- an element is written that is f of the old one
-pub set_is_update : {A : Type 0} (f : A → A) (xs ys : List A) (k : ℕ) (x y : A) → x ≡ slice_index_or xs k x → y ≡ f x → xs ≡ ys → slice_set xs k y
+pub set_is_update : {A : Type 0} (f : A → A) (xs ys : List A) (k : ℕ) (x y : A) → x ≡ slice_index_or xs k x → y ≡ f x → xs ≡ ys
+    → slice_set xs k y
     ≡ update k f ys
 set_is_update f xs ys k x y e g h = rw (← h) (update_at f xs k x y e g)
 

@@ -73,6 +73,15 @@ has_passed_by None latest t = is_by t latest
 abbrev pub has_passed : Digest → ℕ → Bool
 has_passed d t = has_passed_by (head_of d.unprocessed) d.latest t
 
+-- the greatest time that the class has passed
+
+abbrev pub passed_with : Option Msg → Option ℕ → Option ℕ
+passed_with (Some m) latest = Some (time_of m)
+passed_with None latest = latest
+
+abbrev pub passed_to : Digest → Option ℕ
+passed_to d = passed_with (head_of d.unprocessed) d.latest
+
 abbrev pub or_none : Option (Option ℕ) → Option ℕ
 or_none None = None
 or_none (Some time) = time

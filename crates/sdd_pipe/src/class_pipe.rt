@@ -1,10 +1,10 @@
 //! The pipe of one class.
-ghost use Rattle.std.specs.Prelude.{◌≡◌, OnOk};
+ghost use Rattle.std.specs.Prelude.{◌≡◌, length, OnOk};
 ghost use Rattle.std.specs.Option.{option_copied};
 ghost use Rattle.sdd_base.specs.Words.{head_of};
 ghost use Rattle.sdd_wire.specs.Piped.{time_of};
 ghost use Rattle.sdd_pipe.specs.Pipe.{raised};
-ghost use Rattle.sdd_pipe.specs.Digest.{empty_digest, put_digest, take_digest, has_passed, is_by, last_in};
+ghost use Rattle.sdd_pipe.specs.Digest.{empty_digest, put_digest, take_digest, has_passed, passed_to, is_by, last_in};
 
 use crate::writes::Writes;
 use sdd_base::{FragNo, NoMemory, Ts};
@@ -56,6 +56,23 @@ impl ClassPipe {
         ensures { option_copied result ≡ head_of self.now.unprocessed }
     {
         self.unprocessed.front()
+    }
+
+    /// How many messages aren't processed.
+    pub fn len(&self) -> usize
+        ensures { result ≡ length self.now.unprocessed }
+    {
+        self.unprocessed.len()
+    }
+
+    /// The greatest time that the class has passed.
+    pub fn passed_to(&self) -> Option<u64>
+        ensures { result ≡ passed_to self.now }
+    {
+        match self.unprocessed.front() {
+            Some(msg) => Some(time_of(msg)),
+            None => self.latest,
+        }
     }
 
     pub fn passed(&self, t: Ts) -> bool

@@ -2,7 +2,7 @@
 ghost use Rattle.std.specs.Prelude.{◌≡◌, ◌<◌, ◌+◌, ◌^◌, OnOk, OnErr, IfOk, IsTrue, length, replicate, suc, false, true};
 ghost use Rattle.std.specs.Option.{option_copied, option_map};
 ghost use Rattle.sdd_base.specs.Words.{head_of};
-ghost use Rattle.sdd_pipe.specs.Digest.{empty_digest, put_digest, take_digest, has_passed, last_in};
+ghost use Rattle.sdd_pipe.specs.Digest.{empty_digest, put_digest, take_digest, has_passed, passed_to, last_in};
 ghost use Rattle.sdd_pipe.specs.Pipes.{update, pipe_at};
 
 use crate::class_pipe::ClassPipe;
@@ -88,6 +88,27 @@ impl Pipes {
     {
         match self.pipes.get(class.0 as usize) {
             Some(pipe) => pipe.head(),
+            None => None,
+        }
+    }
+
+    /// How many messages of a class aren't processed. O(1), and takes no memory.
+    pub fn len(&self, class: ClassNo) -> usize
+        ensures { result ≡ length (pipe_at self.now.value class.0).unprocessed }
+    {
+        match self.pipes.get(class.0 as usize) {
+            Some(pipe) => pipe.len(),
+            None => 0,
+        }
+    }
+
+    /// The greatest time that a class has passed: None exactly where it has passed none. O(1), and
+    /// takes no memory.
+    pub fn passed_to(&self, class: ClassNo) -> Option<Ts>
+        ensures { option_map (λ ts. ts.0) result ≡ passed_to (pipe_at self.now.value class.0) }
+    {
+        match self.pipes.get(class.0 as usize) {
+            Some(pipe) => pipe.passed_to().map(|time| Ts(time)),
             None => None,
         }
     }

@@ -1,11 +1,5 @@
 -- Queries are answered over the rows that may stand in their parts.
-use Rattle.std.proofs.Common.{ℕ, ◌≡◌, ◌+◌, List, [], ◌∷◌, map, refl, ap, ◌∙◌}
-use Rattle.std.specs.Prelude.{filter}
-use Rattle.sdd_lang.specs.All.{Database, RelNo, Row, Tuple, answer, distinct, may_stand, product, projection, rows_of, selection}
-use Rattle.sdd_lang.specs.declared.condition.Ref.{Ref}
-use Rattle.sdd_lang.specs.declared.condition.Condition.{Condition}
-use Rattle.sdd_lang.proofs.Pushdown.{kept, meets_restrictions, restrictions_pushdown}
-use Rattle.sdd_plain.specs.Parts.{standing}
+use Rattle.sdd_plain.proofs.All.{Condition, Database, List, Ref, RelNo, Row, Tuple, [], answer, ap, distinct, filter, kept, map, may_stand, meets_restrictions, product, projection, refl, restrictions_pushdown, rows_of, selection, standing, ℕ, ◌+◌, ◌∙◌, ◌∷◌, ◌≡◌}
 
 standing_kept : (db : Database) (conds : List Condition) (part : ℕ) (rels : List RelNo)
     → standing db conds part rels ≡ kept (meets_restrictions conds) part (map (λ rel. rows_of db rel.0) rels)

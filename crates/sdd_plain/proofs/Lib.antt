@@ -1,3 +1,4 @@
+mod All
 pub mod Answering
 pub mod Changing
 pub mod Chosen

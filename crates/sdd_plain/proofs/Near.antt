@@ -1,21 +1,5 @@
 -- Rows near a part: among them are all that may stand in it.
-use Rattle.std.proofs.Common.{ℕ, ℤ, ◌≡◌, ◌≤ℤ◌, ◌&&◌, ◌==◌, ◌-◌, Bool, true, false, cond, List, [], ◌∷◌, map, refl, ap, sym, ◌∙◌, subst, true≢false, arith}
-use Rattle.std.specs.Prelude.{int_le, slice_index, FitsSigned}
-use Rattle.std.specs.Int.{w64}
-use Rattle.std.specs.List.{All, AllByRecursion, filter, list_all}
-use Rattle.std.specs.BTreeMap.{is_at}
-use Rattle.std.specs.Map.{keys_of}
-use Rattle.std.proofs.lemmas.Int.{ints}
-use Rattle.std.proofs.lemmas.Bool.{eqb-true}
-use Rattle.std.proofs.lemmas.List.Elements.{All-from_recursion, recursion_from_All}
-use Rattle.sdd_lang.specs.All.{Database, Int, Interval, IsOfKeys, IsWithin, Item, Row, all_keys, allowed_keys, chosen, column, common, holds_some, item_cmp, may_stand, meets_all, restrictions_of, rows_of, with_row, without_row}
-use Rattle.sdd_lang.specs.declared.condition.Condition.{Condition}
-use Rattle.sdd_lang.proofs.KeyRanges.{allowed_key, le_true, some_within, within_common}
-use Rattle.sdd_lang.proofs.Pushdown.{and_both, filter_same, filter-map, parts_meet}
-use Rattle.sdd_lang.proofs.ReadSetDecides.{rows_picked}
-use Rattle.sdd_lang.proofs.SortedEntries.{item_cmp_exact, each_inserted, each_left}
-use Rattle.sdd_plain.specs.Held.{HasKey, AreKeyed, HasHeldKey, AreHeld, AreKeysOf, AreNear, is_within}
-use Rattle.sdd_plain.specs.Lent.{as_of}
+use Rattle.sdd_plain.proofs.All.{All, All-from_recursion, AllByRecursion, AreHeld, AreKeyed, AreKeysOf, AreNear, Bool, Condition, Database, FitsSigned, HasHeldKey, HasKey, Int, Interval, IsOfKeys, IsWithin, Item, List, Row, [], all_keys, allowed_key, allowed_keys, and_both, ap, arith, as_of, chosen, column, common, cond, each_inserted, each_left, eqb-true, false, filter, filter-map, filter_same, int_le, ints, is_at, is_within, item_cmp, item_cmp_exact, keys_of, le_true, map, may_stand, meets_all, parts_meet, recursion_from_All, refl, restrictions_of, rows_of, rows_picked, slice_index, subst, sym, true, w64, with_row, within_common, without_row, ℕ, ℤ, ◌&&◌, ◌-◌, ◌==◌, ◌∙◌, ◌∷◌, ◌≡◌}
 use Rattle.sdd_plain.proofs.Chosen.{chosen_of_relation}
 
 abbrev Entry : Type 0
@@ -27,10 +11,11 @@ filter_filter p q [] = refl
 filter_filter p q (x ∷ xs) =
     let rest = filter_filter p q xs in
     elim (q x) as (λ b. filter p (cond b (x ∷ filter q xs) (filter q xs)) ≡ cond (b && p x) (x ∷ filter (λ y. q y && p y) xs) (filter (λ y. q y && p y) xs)) [
-      | true ↦ elim (p x) as (λ b. cond b (x ∷ filter p (filter q xs)) (filter p (filter q xs)) ≡ cond b (x ∷ filter (λ y. q y && p y) xs) (filter (λ y. q y && p y) xs)) [
-        | true ↦ ap (λ ys. x ∷ ys) rest
-        | false ↦ rest
-      ]
+      | true ↦ elim (p x) as
+          (λ b. cond b (x ∷ filter p (filter q xs)) (filter p (filter q xs)) ≡ cond b (x ∷ filter (λ y. q y && p y) xs) (filter (λ y. q y && p y) xs)) [
+            | true ↦ ap (λ ys. x ∷ ys) rest
+            | false ↦ rest
+          ]
       | false ↦ rest
     ]
 
@@ -52,7 +37,8 @@ held_within k fits = grind (arith, ints)
 abbrev IsNear : ℕ → ℕ → List Condition → Interval → Entry → Type 0
 IsNear rel part conds keys e = e.0.0 ≡ rel → may_stand conds part e.1 ≡ true → IsWithin e.0.1 (common keys all_keys)
 
-keyed_each : (columns : List ℕ) (rel part : ℕ) (conds : List Condition) (keys : Interval) (db : Database) → AreKeysOf part conds (slice_index columns (rel - 1)) keys
+keyed_each : (columns : List ℕ) (rel part : ℕ) (conds : List Condition) (keys : Interval) (db : Database)
+    → AreKeysOf part conds (slice_index columns (rel - 1)) keys
     → AllByRecursion (HasKey columns) db → AllByRecursion HasHeldKey (keys_of db) → AllByRecursion (IsNear rel part conds keys) db
 keyed_each columns rel part conds keys [] are keyed held = tt
 keyed_each columns rel part conds keys (e ∷ db) are keyed held = (
@@ -62,9 +48,11 @@ keyed_each columns rel part conds keys (e ∷ db) are keyed held = (
   keyed_each columns rel part conds keys db are keyed.1 held.1,
 )
 
-all_each : (rel part : ℕ) (conds : List Condition) (db : Database) → AllByRecursion HasHeldKey (keys_of db) → AllByRecursion (IsNear rel part conds all_keys) db
+all_each : (rel part : ℕ) (conds : List Condition) (db : Database) → AllByRecursion HasHeldKey (keys_of db)
+    → AllByRecursion (IsNear rel part conds all_keys) db
 all_each rel part conds [] held = tt
-all_each rel part conds (e ∷ db) held = (λ is may. within_common e.0.1 all_keys all_keys (held_within e.0.1 held.0) (held_within e.0.1 held.0), all_each rel part conds db held.1)
+all_each rel part conds (e ∷ db) held =
+    (λ is may. within_common e.0.1 all_keys all_keys (held_within e.0.1 held.0) (held_within e.0.1 held.0), all_each rel part conds db held.1)
 
 -- the keys that a part's restrictions allow on the rows' key column are those near it
 pub keyed_near : (columns : List ℕ) (rel part : ℕ) (conds : List Condition) (keys : Interval) (db : Database) → AreHeld db → All (HasKey columns) db
@@ -74,7 +62,8 @@ keyed_near columns rel part conds keys db held keyed are =
     (keyed_each columns rel part conds keys db are (recursion_from_All (HasKey columns) db keyed) (recursion_from_All HasHeldKey (keys_of db) held))
 
 -- the keys that restrictions allow are those of the rows that meet them
-pub allowed_are : (key part : ℕ) (conds : List Condition) → All (IsOfKeys key) (restrictions_of part conds) → AreKeysOf part conds key (allowed_keys key (restrictions_of part conds))
+pub allowed_are : (key part : ℕ) (conds : List Condition) → All (IsOfKeys key) (restrictions_of part conds)
+    → AreKeysOf part conds key (allowed_keys key (restrictions_of part conds))
 allowed_are key part conds of row n is all may =
     allowed_key key row n (restrictions_of part conds) is all (recursion_from_All (IsOfKeys key) (restrictions_of part conds) of) may
 
@@ -127,7 +116,8 @@ tested_rows rel part conds keys (e ∷ db) near =
 each_tested : (rel part : ℕ) (conds : List Condition) (keys : Interval) (db : Database) → AllByRecursion (IsNear rel part conds keys) db
     → AllByRecursion (IsTested rel part conds (common keys all_keys)) db
 each_tested rel part conds keys [] near = tt
-each_tested rel part conds keys (e ∷ db) near = (λ is may. within_test e.0.1 (common keys all_keys) (near.0 is may), each_tested rel part conds keys db near.1)
+each_tested rel part conds keys (e ∷ db) near =
+    (λ is may. within_test e.0.1 (common keys all_keys) (near.0 is may), each_tested rel part conds keys db near.1)
 
 -- among the rows with such keys are all that may stand
 pub near_rows : (rel part : ℕ) (conds : List Condition) (keys : Interval) (db : Database) → AreNear db rel part conds keys

@@ -1,15 +1,5 @@
 -- The rows of a relation with keys from one to another are those between two items.
-use Rattle.std.proofs.Common.{ℕ, ◌≡◌, ◌&&◌, ◌==◌, Bool, true, false, not, List, [], refl, ap, sym, ◌∙◌, inl, inr, ◌<ℤ◌, arith}
-use Rattle.std.specs.Prelude.{ℤ, int_le, filter}
-use Rattle.std.specs.declared.cmp.Ordering.{Ordering}
-use Rattle.std.specs.declared.cmp.Ordering.TheVariants.{Less, Equal, Greater}
-use Rattle.std.specs.Ordering.{int_cmp, ordering_then, is_le, is_lt, MatchOrdering}
-use Rattle.std.specs.Cmp.{int_ranks, nat_cmp_is}
-use Rattle.std.proofs.lemmas.Bool.{cases_order, eq-eqb, eqb-true}
-use Rattle.std.proofs.lemmas.Int.{ints}
-use Rattle.sdd_lang.specs.All.{Database, Interval, Item, Row, holds_some, item_cmp}
-use Rattle.sdd_lang.proofs.Pushdown.{filter_same, filter_none}
-use Rattle.sdd_plain.specs.Held.{is_within}
+use Rattle.sdd_plain.proofs.All.{Bool, Database, Equal, Greater, Interval, Item, Less, MatchOrdering, Ordering, Row, [], and_false, ap, arith, cases_order, eq-eqb, eqb-true, false, filter, filter_none, filter_same, holds_some, inl, inr, int_cmp, int_le, int_ranks, ints, is_le, is_lt, is_within, item_cmp, nat_cmp_is, not, ordering_then, refl, sym, true, ℕ, ℤ, ◌&&◌, ◌<ℤ◌, ◌==◌, ◌∙◌, ◌≡◌}
 
 -- whether an item is between the ends of an interval of a relation's keys
 abbrev pub is_between : ℕ → Interval → Item → Bool
@@ -64,7 +54,8 @@ between_is rel keys item =
 -- the entries between are those of the relation with such keys
 pub entries_between : (rel : ℕ) (keys : Interval) (db : Database)
     → filter (λ e. is_between rel keys e.0) db ≡ filter (λ e. (e.0.0 == rel) && is_within keys e.0.1) db
-entries_between rel keys db = filter_same (λ (e : Item × Row). is_between rel keys e.0) (λ (e : Item × Row). (e.0.0 == rel) && is_within keys e.0.1) (λ e. between_is rel keys e.0) db
+entries_between rel keys db =
+    filter_same (λ (e : Item × Row). is_between rel keys e.0) (λ (e : Item × Row). (e.0.0 == rel) && is_within keys e.0.1) (λ e. between_is rel keys e.0) db
 
 -- so are those between ends that are the ends of keys
 pub entries_within : (rel : ℕ) (from to : ℤ) (keys : Interval) (db : Database) → from ≡ keys.0 → to ≡ keys.1
@@ -83,16 +74,15 @@ both_ways false = refl
 
 -- no entry lies behind an item and before it
 pub entries_nowhere : (item : Item) (db : Database) → filter (λ e. is_le (item_cmp item e.0) && not (is_le (item_cmp item e.0))) db ≡ []
-entries_nowhere item db = filter_none (λ (e : Item × Row). is_le (item_cmp item e.0) && not (is_le (item_cmp item e.0))) (λ e. both_ways (is_le (item_cmp item e.0))) db
+entries_nowhere item db =
+    filter_none (λ (e : Item × Row). is_le (item_cmp item e.0) && not (is_le (item_cmp item e.0))) (λ e. both_ways (is_le (item_cmp item e.0))) db
 
 -- nor has one a key of no keys
 no_key : (keys : Interval) → holds_some keys ≡ false → (k : ℤ) → is_within keys k ≡ false
 no_key keys none k = grind (arith, ints)
 
-and_false : (a b : Bool) → b ≡ false → (a && b) ≡ false
-and_false true b e = e
-and_false false b e = refl
-
-pub entries_of_none : (rel : ℕ) (keys : Interval) (db : Database) → holds_some keys ≡ false → filter (λ e. (e.0.0 == rel) && is_within keys e.0.1) db ≡ []
+pub entries_of_none : (rel : ℕ) (keys : Interval) (db : Database) → holds_some keys ≡ false
+    → filter (λ e. (e.0.0 == rel) && is_within keys e.0.1) db ≡ []
 entries_of_none rel keys db none =
-    filter_none (λ (e : Item × Row). (e.0.0 == rel) && is_within keys e.0.1) (λ e. and_false (e.0.0 == rel) (is_within keys e.0.1) (no_key keys none e.0.1)) db
+    filter_none (λ (e : Item × Row). (e.0.0 == rel) && is_within keys e.0.1)
+    (λ e. and_false (e.0.0 == rel) (is_within keys e.0.1) (no_key keys none e.0.1)) db

@@ -1,11 +1,8 @@
 -- What a loop that collects chosen values has after one member more.
-use Rattle.std.proofs.Common.{◌≡◌, ◌∙◌, List, [], ◌∷◌, ◌++◌, Option, ap, sym}
-use Rattle.std.specs.List.{filter_map}
-use Rattle.std.proofs.lemmas.List.Elements.{filter_map-append}
+use Rattle.sdd_protocol.proofs.All.{List, Option, [], ap, filter_map, filter_map-append, sym, ◌++◌, ◌∙◌, ◌∷◌, ◌≡◌}
 
 pub chosen_more : {X A : Type 0} (f : X → Option A) (xs more : List X) (x : X) (items new : List A)
-    → more ≡ xs ++ x ∷ [] → items ≡ filter_map f xs → new ≡ items ++ filter_map f (x ∷ [])
-    → new ≡ filter_map f more
+    → more ≡ xs ++ x ∷ [] → items ≡ filter_map f xs → new ≡ items ++ filter_map f (x ∷ []) → new ≡ filter_map f more
 chosen_more f xs more x items new e h n =
     n
     ∙ ap (λ z. z ++ filter_map f (x ∷ [])) h

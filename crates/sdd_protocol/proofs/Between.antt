@@ -1,24 +1,8 @@
 -- The conditions on a writer rest on the diagonals between the reader and the writer alone.
-use Rattle.std.proofs.Common.{ℕ, ◌-◌, ◌+◌, ◌<◌, ◌≤◌, ◌==◌, ◌≡◌, Bool, true, false, ◌&&◌, cond, List, [], ◌∷◌, ◌++◌, length, get_or, take, drop, Option, Some, None, refl, sym, ap, ◌∙◌, subst, arith, inl, inr}
-use Rattle.std.specs.Prelude.{All, filter}
-use Rattle.std.specs.List.{filter_map, cons_option}
-use Rattle.std.specs.Option.{option_or}
-use Rattle.std.proofs.lemmas.Bool.{cases_Bool, cases_lt, eqb-true, and_parts}
-use Rattle.std.proofs.lemmas.List.{append-nil, take-append-drop, get_or-take, get_or-drop, get_or_past, length-take, length-drop}
-use Rattle.std.proofs.lemmas.List.Elements.{All-head, All-tail, filter-append}
-use Rattle.std.proofs.lemmas.List.Folds.{drop_split}
-use Rattle.sdd_graph.specs.declared.edge.Edge.{Edge}
-use Rattle.sdd_graph.specs.declared.edge.Edge.TheVariants.{Vertical, Horizontal, Diagonal}
-use Rattle.sdd_protocol.specs.Conditions.{asked_on, asked_in, asked_by, cond_for, condition_on}
-use Rattle.sdd_protocol.specs.Protocols.{same_protocol}
-use Rattle.sdd_protocol.specs.DiagonalIndex.{DiagonalIndex, IsIndexOf, Covers, cell, range_of, is_between}
-use Rattle.sdd_protocol.specs.declared.protocol.Protocol.{Protocol}
-use Rattle.sdd_protocol.specs.declared.protocol.Protocol.TheVariants.{P2, P3}
-use Rattle.sdd_protocol.specs.declared.entry.Entry.{Entry}
+use Rattle.sdd_protocol.proofs.All.{All, All-head, All-tail, Bool, Covers, Diagonal, DiagonalIndex, Edge, Entry, Horizontal, IsIndexOf, List, None, Option, P2, P3, Protocol, Some, Vertical, [], and_parts, ap, append-nil, arith, asked_by, asked_in, asked_on, cases_Bool, cases_lt, cell, cond, cond_for, condition_on, cons_option, drop, drop_split, eqb-true, false, filter, filter-append, filter_map, get_or, get_or-drop, get_or-take, get_or_past, inl, inr, is_between, length, length-drop, length-take, option_or, range_of, refl, same_protocol, subst, sym, take, take-append-drop, true, ℕ, ◌&&◌, ◌++◌, ◌+◌, ◌-◌, ◌<◌, ◌==◌, ◌∙◌, ◌∷◌, ◌≡◌, ◌≤◌}
 
 -- a filter that nothing passes
-filter_none : {X : Type 0} (p : X → Bool) (xs : List X) → All (λ x. p x ≡ false) xs
-    → filter p xs ≡ []
+filter_none : {X : Type 0} (p : X → Bool) (xs : List X) → All (λ x. p x ≡ false) xs → filter p xs ≡ []
 filter_none p [] h = refl
 filter_none p (x ∷ xs) h = rw (All-head (λ x. p x ≡ false) x xs h) (filter_none p xs (All-tail (λ x. p x ≡ false) x xs h))
 
@@ -55,7 +39,8 @@ covered_within index i j k (Diagonal a b f) h t =
     let both = and_parts (a.0 == i) (b.0 == j) t in
     let reader : a.0 ≡ i = eqb-true a.0 i both.0 in
     let writer : b.0 ≡ j = eqb-true b.0 j both.1 in
-    subst (λ z. ((range_of index i z).0 ≤ k) × (k < (range_of index i z).1)) writer (subst (λ z. ((range_of index z b.0).0 ≤ k) × (k < (range_of index z b.0).1)) reader h)
+    subst (λ z. ((range_of index i z).0 ≤ k) × (k < (range_of index i z).1)) writer
+    (subst (λ z. ((range_of index z b.0).0 ≤ k) × (k < (range_of index z b.0).1)) reader h)
 
 -- no range ends before it begins
 range_in_order : (entries : List Entry) (count : ℕ) (index : DiagonalIndex)
@@ -75,8 +60,7 @@ diagonals_in_range entries index h i j =
     (λ k d l t. covered_within index i j k (get_or entries k d).edge (h.covers k d l) t)
 
 -- what a diagonal asks for is between
-asked_between : (test : ℕ → Bool) (i j : ℕ) (e : Edge) → is_between i j e ≡ false
-    → asked_on test i j e ≡ None
+asked_between : (test : ℕ → Bool) (i j : ℕ) (e : Edge) → is_between i j e ≡ false → asked_on test i j e ≡ None
 asked_between test i j (Vertical c) t = refl
 asked_between test i j (Horizontal c d) t = refl
 asked_between test i j (Diagonal a c f) t =

@@ -1,17 +1,5 @@
 -- The laws of tables.
-use Rattle.std.proofs.Common.{ℕ, ◌≡◌, ◌≢◌, map, Some, sym, ap, ◌∙◌, inl, inr}
-use Rattle.std.specs.Prelude.{slice_get, length, option_map}
-use Rattle.std.proofs.lemmas.Bool.{cases_eq}
-use Rattle.std.proofs.lemmas.Option.{slice_get-map, same_Some}
-use Rattle.sdd_blocks.proofs.OneNumbering.{one_numbering}
-use Rattle.sdd_catalog.specs.Catalogue.{Catalogue}
-use Rattle.sdd_graph.specs.Edges.{JoinsNodes}
-use Rattle.sdd_graph.specs.Graph.{conflict_graph, ends, read_node, write_node}
-use Rattle.sdd_graph.specs.declared.edge.Edge.TheVariants.{Diagonal}
-use Rattle.sdd_graph.proofs.Known.{edges_join}
-use Rattle.sdd_protocol.specs.Laws.{OneBlock, OneProtocol, OneTable}
-use Rattle.sdd_protocol.specs.Protocols.{vertical_block, diagonal_protocol, protocol_in}
-use Rattle.sdd_protocol.specs.declared.entry.Entry.{Entry}
+use Rattle.sdd_protocol.proofs.All.{Catalogue, Diagonal, Entry, JoinsNodes, OneBlock, OneProtocol, OneTable, Some, ap, cases_eq, conflict_graph, diagonal_protocol, edges_join, ends, inl, inr, length, map, one_numbering, option_map, protocol_in, read_node, same_Some, slice_get, slice_get-map, sym, vertical_block, write_node, ℕ, ◌∙◌, ◌≡◌, ◌≢◌}
 use Rattle.sdd_protocol.proofs.Parallel.{parallel_number}
 use Rattle.sdd_protocol.proofs.Tables.{all_at, blocks_of, same_entries}
 

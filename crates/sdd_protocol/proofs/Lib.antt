@@ -1,3 +1,4 @@
+mod All
 mod Asking
 pub mod Between
 pub mod Laws

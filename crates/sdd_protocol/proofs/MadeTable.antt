@@ -1,30 +1,15 @@
 -- The steps from a catalogue's conflict graph to its table.
-use Rattle.std.proofs.Common.{ℕ, ◌+◌, ◌-◌, ◌*◌, ◌<◌, ◌≤◌, ◌≡◌, List, ◌++◌, map, length, get_or, refl, sym, ap, ◌∙◌, subst, arith, length-append}
-use Rattle.std.specs.Prelude.{All}
-use Rattle.std.proofs.lemmas.List.{take_all, get_or-map, length-map}
-use Rattle.std.proofs.lemmas.List.Elements.{All-map, All-weaker}
-use Rattle.std.proofs.lemmas.List.FromFn.{length-map-range_with_len}
-use Rattle.sdd_blocks.specs.Blocks.{AreBlocks}
-use Rattle.sdd_catalog.specs.Catalogue.{Catalogue}
-use Rattle.sdd_graph.specs.Edges.{IsEdgeOf, JoinsNodes}
-use Rattle.sdd_base.specs.Numbers.{class_no}
-use Rattle.sdd_graph.specs.Graph.{vertical_edges, horizontal_edges, diagonal_edges, conflict_graph, ends}
-use Rattle.sdd_graph.specs.declared.edge.Edge.{Edge}
-use Rattle.sdd_graph.specs.declared.edge.Edge.TheVariants.{Vertical, Horizontal, Diagonal}
-use Rattle.sdd_graph.proofs.Known.{edges_known}
-use Rattle.sdd_protocol.specs.Entries.{HasVertical, AreEntries, protocol_by}
-use Rattle.sdd_protocol.specs.DiagonalIndex.{HasCell}
-use Rattle.sdd_protocol.specs.Protocols.{IsTable, is_vertical_of, vertical_block, diagonal_protocol, protocol_in}
-use Rattle.sdd_protocol.specs.declared.entry.Entry.{Entry}
+use Rattle.sdd_protocol.proofs.All.{All, All-map, All-weaker, AreBlocks, AreEntries, Catalogue, Diagonal, Edge, Entry, HasCell, HasVertical, Horizontal, IsEdgeOf, IsTable, JoinsNodes, List, Vertical, ap, arith, class_no, conflict_graph, diagonal_edges, diagonal_protocol, edges_known, ends, get_or, get_or-map, horizontal_edges, is_vertical_of, length, length-append, length-map, length-map-range_with_len, map, protocol_by, protocol_in, refl, subst, sym, take_all, vertical_block, vertical_edges, ℕ, ◌*◌, ◌++◌, ◌+◌, ◌-◌, ◌<◌, ◌∙◌, ◌≡◌, ◌≤◌}
 use Rattle.sdd_protocol.proofs.Tables.{edges_of, blocks_of, first_block, vertical_block-lists, first_block-vertical}
 
 -- the ends of edges are nodes
 pub ends_below : (n : ℕ) (edges : List Edge) → All (JoinsNodes n) edges
     → All (λ p. (p.0 < 2 * n) × (p.1 < 2 * n)) (map ends edges)
-ends_below n edges h = All-map (λ p. (p.0 < 2 * n) × (p.1 < 2 * n)) ends edges (All-weaker (JoinsNodes n) (λ e. ((ends e).0 < 2 * n) × ((ends e).1 < 2 * n)) (λ e j. (j.first, j.second)) edges h)
+ends_below n edges h =
+    All-map (λ p. (p.0 < 2 * n) × (p.1 < 2 * n)) ends edges (All-weaker (JoinsNodes n) (λ e. ((ends e).0 < 2 * n) × ((ends e).1 < 2 * n)) (λ e j. (j.first, j.second)) edges h)
 
 -- there are at least the vertical edges
-many_edges : (cat : Catalogue) → length cat.classes ≤ length (conflict_graph cat)
+pub many_edges : (cat : Catalogue) → length cat.classes ≤ length (conflict_graph cat)
 many_edges cat =
     omega (
       arith,
@@ -44,7 +29,8 @@ pub readers_there : (cat : Catalogue) (edges : List Edge) (count : ℕ) → edge
 readers_there cat edges count e n =
     let few = many_edges cat in
     let long : length cat.classes ≤ count = omega (arith, ap length e) in
-    subst (λ z. All (HasVertical count) z) (sym e) (All-weaker (IsEdgeOf cat) (HasVertical count) (λ x h. has_vertical cat count x long h) (conflict_graph cat) (edges_known cat))
+    subst (λ z. All (HasVertical count) z) (sym e)
+    (All-weaker (IsEdgeOf cat) (HasVertical count) (λ x h. has_vertical cat count x long h) (conflict_graph cat) (edges_known cat))
 
 has_cell : (cat : Catalogue) (e : Edge) → IsEdgeOf cat e → HasCell (length cat.classes + 1) e
 has_cell cat (Vertical i) h = tt
@@ -59,7 +45,8 @@ entries_edges edges blocks entries h = h.same_edges ∙ take_all (length edges) 
 each_edge : (P : Edge → Type 0) (edges : List Edge) (entries : List Entry)
     → edges_of entries ≡ edges → All P edges → All (λ e. P e.edge) entries
 each_edge P edges entries e h k d l =
-    subst (λ z. P z) (get_or-map (λ z. z.edge) entries k d d.edge l) (subst (λ z. P (get_or z k d.edge)) (sym e) (h k d.edge (let m = length-map entries (λ z. z.edge) in omega (arith, ap length e))))
+    subst (λ z. P z) (get_or-map (λ z. z.edge) entries k d d.edge l)
+    (subst (λ z. P (get_or z k d.edge)) (sym e) (h k d.edge (let m = length-map entries (λ z. z.edge) in omega (arith, ap length e))))
 
 -- the classes of the entries' edges have rows and columns
 pub cells_there : (cat : Catalogue) (edges : List Edge) (blocks : List ℕ) (entries : List Entry)
@@ -71,16 +58,14 @@ cells_there cat edges blocks entries e h =
 
 module _ (cat : Catalogue) (blocks : List ℕ) (entries : List Entry) (edges_are : edges_of entries ≡ conflict_graph cat) (blocks_are : blocks_of entries ≡ blocks) (long : length cat.classes ≤ length blocks) where
   -- the block of a vertical edge stands at the place of its class
-  vertical_at : (i : ℕ) → 1 ≤ i → i ≤ length cat.classes
-      → vertical_block entries i ≡ get_or blocks (i - 1) 0
+  vertical_at : (i : ℕ) → 1 ≤ i → i ≤ length cat.classes → vertical_block entries i ≡ get_or blocks (i - 1) 0
   vertical_at i low high =
       vertical_block-lists entries i
       ∙ ap (λ z. first_block (is_vertical_of i) z (blocks_of entries)) edges_are
       ∙ ap (λ z. first_block (is_vertical_of i) (conflict_graph cat) z) blocks_are
       ∙ first_block-vertical (length cat.classes) 1 (i - 1) i (horizontal_edges cat ++ diagonal_edges cat) blocks (omega arith) (omega arith) (omega arith)
 
-  same_protocol : (e : Edge) (block : ℕ) → IsEdgeOf cat e
-      → protocol_by blocks e block ≡ protocol_in entries e block
+  same_protocol : (e : Edge) (block : ℕ) → IsEdgeOf cat e → protocol_by blocks e block ≡ protocol_in entries e block
   same_protocol (Vertical i) block h = refl
   same_protocol (Horizontal i j) block h = refl
   same_protocol (Diagonal i j f) block h = ap (λ v. diagonal_protocol block v) (sym (vertical_at i.0 h.reader.from h.reader.to))
@@ -99,5 +84,6 @@ is_table cat edges blocks entries e b h =
     record {
       edges = edges_are;
       blocks = subst (λ z. AreBlocks (map ends (conflict_graph cat)) z) (sym blocks_are) (subst (λ z. AreBlocks (map ends z) blocks) e b);
-      protocols = λ k d l. h.protocols k d l ∙ same_protocol cat blocks entries edges_are blocks_are long (get_or entries k d).edge (get_or entries k d).block (known k d l);
+      protocols = λ k d l. h.protocols k d l ∙ same_protocol cat blocks entries edges_are blocks_are long (get_or entries k d).edge
+          (get_or entries k d).block (known k d l);
     }

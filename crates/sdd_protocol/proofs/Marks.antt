@@ -1,14 +1,5 @@
 -- Marks for the fragments that are asked for, one fragment after another.
-use Rattle.std.proofs.Common.{ℕ, zero, suc, ◌+◌, ◌<◌, ◌==◌, ◌≡◌, ◌≢◌, Bool, true, false, ◌&&◌, ◌||◌, List, [], length, get_or, set, take, replicate, refl, sym, ap, ◌∙◌, subst, inl, inr}
-use Rattle.std.specs.List.{list_any}
-use Rattle.std.proofs.Math.Bool.{or-false, or-true}
-use Rattle.std.proofs.lemmas.Bool.{cases_eq, eq-eqb, ne_eqb, and_from, and_right}
-use Rattle.std.proofs.lemmas.List.{get_or-set_same, get_or-set_other}
-use Rattle.std.proofs.lemmas.List.Folds.{list_any_more}
-use Rattle.sdd_base.specs.declared.number.FragNo.{FragNo}
-use Rattle.sdd_catalog.specs.Catalogue.{Catalogue}
-use Rattle.sdd_protocol.specs.Asked.{AreMarks}
-use Rattle.sdd_protocol.specs.Conditions.{is_read_at, is_asked}
+use Rattle.sdd_protocol.proofs.All.{AreMarks, Bool, Catalogue, FragNo, List, [], and_from, and_right, ap, cases_eq, eq-eqb, false, get_or, get_or-set_other, get_or-set_same, inl, inr, is_asked, is_read_at, length, list_any, list_any_more, ne_eqb, or-false, or-true, refl, replicate, set, subst, suc, sym, take, true, zero, ℕ, ◌&&◌, ◌+◌, ◌<◌, ◌==◌, ◌||◌, ◌∙◌, ◌≡◌, ◌≢◌}
 
 -- no mark stands at first
 none_marked : (n f : ℕ) → get_or (replicate n false) f false ≡ false
@@ -16,8 +7,7 @@ none_marked zero f = refl
 none_marked (suc n) zero = refl
 none_marked (suc n) (suc f) = none_marked n f
 
-pub marks_none : (cat : Catalogue) (i dm n : ℕ)
-    → AreMarks (is_asked cat i dm []) (replicate n false)
+pub marks_none : (cat : Catalogue) (i dm n : ℕ) → AreMarks (is_asked cat i dm []) (replicate n false)
 marks_none cat i dm n = none_marked n
 
 module _ (cat : Catalogue) (i dm : ℕ) (frags : List FragNo) (k : ℕ) (d : FragNo) (l : k < length frags) where
@@ -31,7 +21,8 @@ module _ (cat : Catalogue) (i dm : ℕ) (frags : List FragNo) (k : ℕ) (d : Fra
       → is_asked cat i dm (take (k + 1) frags) f ≡ is_asked cat i dm (take k frags) f
   asked_other f n =
       let before : Bool = list_any (λ g. g.0 == f) (take k frags) in
-      asked_more f ∙ ap (λ z. (before || z) && is_read_at cat i dm f) (ne_eqb (get_or frags k d).0 f n) ∙ ap (λ z. z && is_read_at cat i dm f) (or-false before)
+      asked_more f ∙ ap (λ z. (before || z) && is_read_at cat i dm f) (ne_eqb (get_or frags k d).0 f n)
+      ∙ ap (λ z. z && is_read_at cat i dm f) (or-false before)
 
   -- a fragment that is read at the module is marked
   pub marks_more : (marks : List Bool) → AreMarks (is_asked cat i dm (take k frags)) marks
@@ -43,15 +34,15 @@ module _ (cat : Catalogue) (i dm : ℕ) (frags : List FragNo) (k : ℕ) (d : Fra
       elim (cases_eq g f) [
         | inl e ↦
             let asked : is_asked cat i dm (take (k + 1) frags) f ≡ true =
-            asked_more f ∙ and_from (before || (g == f)) (is_read_at cat i dm f) (ap (λ z. before || z) (eq-eqb g f e) ∙ or-true before) (subst (λ z. is_read_at cat i dm z ≡ true) e read) in
+            asked_more f ∙ and_from (before || (g == f)) (is_read_at cat i dm f) (ap (λ z. before || z) (eq-eqb g f e) ∙ or-true before)
+            (subst (λ z. is_read_at cat i dm z ≡ true) e read) in
             ap (λ z. get_or (set marks g true) z false) (sym e) ∙ get_or-set_same marks g true false within ∙ sym asked
         | inr n ↦ get_or-set_other marks g f true false (λ z. n (sym z)) ∙ h f ∙ sym (asked_other f n)
       ]
 
   -- another one is left out
   pub marks_same : (marks : List Bool) → AreMarks (is_asked cat i dm (take k frags)) marks
-      → is_read_at cat i dm (get_or frags k d).0 ≡ false
-      → AreMarks (is_asked cat i dm (take (k + 1) frags)) marks
+      → is_read_at cat i dm (get_or frags k d).0 ≡ false → AreMarks (is_asked cat i dm (take (k + 1) frags)) marks
   marks_same marks h read f =
       let g = (get_or frags k d).0 in
       let before : Bool = list_any (λ z. z.0 == f) (take k frags) in

@@ -1,14 +1,5 @@
 -- The ranges of a list of entries that have its diagonals, by one entry after another.
-use Rattle.std.proofs.Common.{ℕ, ◌+◌, ◌*◌, ◌<◌, ◌≤◌, ◌==◌, ◌≡◌, true, false, cond, List, length, get_or, set, refl, sym, ap, ◌∙◌, subst, arith, inl, inr, length-set}
-use Rattle.std.specs.Prelude.{All}
-use Rattle.std.proofs.lemmas.Bool.{cases_eq, eqb-true}
-use Rattle.std.proofs.lemmas.List.{get_or_default, get_or-set_same, get_or-set_other, length-replicate}
-use Rattle.std.proofs.lemmas.List.Elements.{All-replicate, All-set, All-weaker}
-use Rattle.std.proofs.lemmas.Nat.{mul-add-lt}
-use Rattle.sdd_graph.specs.declared.edge.Edge.{Edge}
-use Rattle.sdd_graph.specs.declared.edge.Edge.TheVariants.{Vertical, Horizontal, Diagonal}
-use Rattle.sdd_protocol.specs.DiagonalIndex.{DiagonalIndex, IsIndexOf, Covers, HasCell, cell, range_of, no_diagonals, widened, with_edge}
-use Rattle.sdd_protocol.specs.declared.entry.Entry.{Entry}
+use Rattle.sdd_protocol.proofs.All.{All, All-replicate, All-set, All-weaker, Covers, Diagonal, DiagonalIndex, Edge, Entry, HasCell, Horizontal, IsIndexOf, List, Vertical, ap, arith, cases_eq, cell, cond, eqb-true, false, get_or, get_or-set_other, get_or-set_same, get_or_default, inl, inr, length, length-replicate, length-set, mul-add-lt, no_diagonals, range_of, refl, set, subst, sym, true, widened, with_edge, ℕ, ◌*◌, ◌+◌, ◌<◌, ◌==◌, ◌∙◌, ◌≡◌, ◌≤◌}
 
 -- a range up to here is in place
 abbrev IsRange : ℕ → ℕ × ℕ → Type 0
@@ -24,10 +15,10 @@ index_none entries width =
 
 -- a widened range is in place, keeps the index that it had, and has the new one
 widened_range : (p : ℕ × ℕ) (k : ℕ) → IsRange k p → IsRange (k + 1) (widened p k)
-widened_range p k h = elim (p.1 == 0) as (λ b. IsRange (k + 1) (cond b k p.0, k + 1)) [ true ↦ (omega arith, omega arith) | false ↦ (omega arith, omega arith) ]
+widened_range p k h =
+    elim (p.1 == 0) as (λ b. IsRange (k + 1) (cond b k p.0, k + 1)) [ true ↦ (omega arith, omega arith) | false ↦ (omega arith, omega arith) ]
 
-widened_keeps : (p : ℕ × ℕ) (k m : ℕ) → p.1 ≤ k → p.0 ≤ m → m < p.1
-    → ((widened p k).0 ≤ m) × (m < k + 1)
+widened_keeps : (p : ℕ × ℕ) (k m : ℕ) → p.1 ≤ k → p.0 ≤ m → m < p.1 → ((widened p k).0 ≤ m) × (m < k + 1)
 widened_keeps p k m h a b =
     elim (p.1 == 0) as (λ t. (p.1 == 0) ≡ t → (cond t k p.0 ≤ m) × (m < k + 1)) [
       | true ↦ λ e. let z = eqb-true p.1 0 e in absurd (omega arith)
@@ -35,7 +26,8 @@ widened_keeps p k m h a b =
     ] refl
 
 widened_has : (p : ℕ × ℕ) (k : ℕ) → IsRange k p → ((widened p k).0 ≤ k) × (k < k + 1)
-widened_has p k h = elim (p.1 == 0) as (λ b. (cond b k p.0 ≤ k) × (k < k + 1)) [ true ↦ (omega arith, omega arith) | false ↦ (omega arith, omega arith) ]
+widened_has p k h =
+    elim (p.1 == 0) as (λ b. (cond b k p.0 ≤ k) × (k < k + 1)) [ true ↦ (omega arith, omega arith) | false ↦ (omega arith, omega arith) ]
 
 module _ (entries : List Entry) (count : ℕ) (index : DiagonalIndex) (h : IsIndexOf entries count index) where
   -- the cell of a reader and a writer is there
@@ -73,13 +65,13 @@ module _ (entries : List Entry) (count : ℕ) (index : DiagonalIndex) (h : IsInd
   covers_new (Diagonal i j g) c =
       let n = cell index i.0 j.0 in
       let old = range_of index i.0 j.0 in
-      subst (λ z. (z.0 ≤ count) × (count < z.1)) (sym (get_or-set_same index.ranges n (widened old count) (0, 0) (cell_within i.0 j.0 c.0 c.1))) (widened_has old count (range_at i.0 j.0 c.0 c.1))
+      subst (λ z. (z.0 ≤ count) × (count < z.1)) (sym (get_or-set_same index.ranges n (widened old count) (0, 0) (cell_within i.0 j.0 c.0 c.1)))
+      (widened_has old count (range_at i.0 j.0 c.0 c.1))
 
   within_later : All (IsRange (count + 1)) index.ranges
   within_later = All-weaker (IsRange count) (IsRange (count + 1)) (λ p q. (q.0, omega arith)) index.ranges h.within
 
-  within_more : (e : Edge) → HasCell index.width e
-      → All (IsRange (count + 1)) (with_edge index e count).ranges
+  within_more : (e : Edge) → HasCell index.width e → All (IsRange (count + 1)) (with_edge index e count).ranges
   within_more (Vertical i) c = within_later
   within_more (Horizontal i j) c = within_later
   within_more (Diagonal i j g) c =
@@ -92,8 +84,7 @@ module _ (entries : List Entry) (count : ℕ) (index : DiagonalIndex) (h : IsInd
   square_more (Horizontal i j) = h.square
   square_more (Diagonal i j g) = length-set index.ranges (cell index i.0 j.0) (widened (range_of index i.0 j.0) count) ∙ h.square
 
-  pub index_more : (d : Entry) → count < length entries
-      → HasCell index.width (get_or entries count d).edge
+  pub index_more : (d : Entry) → count < length entries → HasCell index.width (get_or entries count d).edge
       → IsIndexOf entries (count + 1) (with_edge index (get_or entries count d).edge count)
   index_more d l c =
       let e = (get_or entries count d).edge in
@@ -108,8 +99,7 @@ module _ (entries : List Entry) (count : ℕ) (index : DiagonalIndex) (h : IsInd
         ];
       }
 
-width-with_edge : (index : DiagonalIndex) (e : Edge) (k : ℕ)
-    → (with_edge index e k).width ≡ index.width
+width-with_edge : (index : DiagonalIndex) (e : Edge) (k : ℕ) → (with_edge index e k).width ≡ index.width
 width-with_edge index (Vertical i) k = refl
 width-with_edge index (Horizontal i j) k = refl
 width-with_edge index (Diagonal i j f) k = refl
@@ -117,8 +107,7 @@ width-with_edge index (Diagonal i j f) k = refl
 -- one more entry
 pub index_step : (entries : List Entry) (count width : ℕ) (index next : DiagonalIndex) (d : Entry)
     → next ≡ with_edge index (get_or entries count d).edge count → count < length entries
-    → All (λ e. HasCell width e.edge) entries
-    → (index.width ≡ width) × IsIndexOf entries count index
+    → All (λ e. HasCell width e.edge) entries → (index.width ≡ width) × IsIndexOf entries count index
     → (next.width ≡ width) × IsIndexOf entries (count + 1) next
 index_step entries count width index next d e l cells h =
     let edge = (get_or entries count d).edge in (

@@ -1,17 +1,5 @@
 -- The first Commit of each transaction, one record after the other.
-use Rattle.std.proofs.Common.{Less, Equal, Greater, ℕ, zero, suc, ◌+◌, ◌<◌, ◌==◌, ◌≡◌, true, false, cond, List, [], ◌∷◌, ◌++◌, take, length, get_or, Option, Some, None, refl, sym, ap, ◌∙◌, subst, ◌⊎◌, inl, inr, arith, eq-eqb}
-use Rattle.std.specs.Prelude.{find, filter_map}
-use Rattle.std.specs.List.{cons_option}
-use Rattle.std.specs.Option.{is_some, option_or}
-use Rattle.std.specs.Ordering.{nat_cmp, is_eq}
-use Rattle.std.specs.Cmp.{nat_cmp_is}
-use Rattle.std.specs.BTreeMap.{is_at}
-use Rattle.std.proofs.lemmas.Bool.{cases_Bool, cases_eq, ne_eqb, eqb-true}
-use Rattle.std.proofs.lemmas.List.{take_more}
-use Rattle.std.proofs.lemmas.List.Elements.{filter_map-append}
-use Rattle.std.proofs.lemmas.List.Folds.{find-append}
-use Rattle.sdd_history.specs.declared.record.Rec.{Rec}
-use Rattle.sdd_report.specs.Committed.{Told, told_in, told_of, is_of}
+use Rattle.sdd_report.proofs.All.{Equal, Greater, Less, List, None, Option, Rec, Some, Told, [], ap, arith, cases_Bool, cases_eq, cond, cons_option, eq-eqb, eqb-true, false, filter_map, filter_map-append, find, find-append, get_or, inl, inr, is_at, is_eq, is_of, is_some, length, nat_cmp, nat_cmp_is, ne_eqb, option_or, refl, subst, suc, sym, take, take_more, told_in, told_of, true, zero, ℕ, ◌++◌, ◌+◌, ◌<◌, ◌==◌, ◌∙◌, ◌∷◌, ◌≡◌, ◌⊎◌}
 
 abbrev pub Found : (ℕ → Option Told) → List (ℕ × Rec) → Type 0
 Found made h = (n : ℕ) → made n ≡ told_of h n
@@ -41,11 +29,11 @@ or_second (Some x) p e = absurd (cc)
 -- a record that is no Commit
 pub no_commit : (h : List (ℕ × Rec)) (i : ℕ) (e : ℕ × Rec) (made : ℕ → Option Told) → i < length h → e ≡ get_or h i e
     → told_in e.1 ≡ None → Found made (take i h) → Found made (take (i + 1) h)
-no_commit h i e made l is none old n =
-    old n ∙ sym (told_more h i e None n l is none ∙ or_none (told_of (take i h) n))
+no_commit h i e made l is none old n = old n ∙ sym (told_more h i e None n l is none ∙ or_none (told_of (take i h) n))
 
 -- a Commit of a transaction that has one
-pub further_commit : (h : List (ℕ × Rec)) (i : ℕ) (e : ℕ × Rec) (made : ℕ → Option Told) (t : Told) (key : ℕ) → i < length h → e ≡ get_or h i e
+pub further_commit : (h : List (ℕ × Rec)) (i : ℕ) (e : ℕ × Rec) (made : ℕ → Option Told) (t : Told) (key : ℕ) → i < length h
+    → e ≡ get_or h i e
     → told_in e.1 ≡ Some t → key ≡ t.txn → is_some (made key) ≡ true → Found made (take i h) → Found made (take (i + 1) h)
 further_commit h i e made t key l is some same has old n =
     let before = told_of (take i h) n in
@@ -78,7 +66,8 @@ is_at_number k n =
         elim (less_or_greater m n (λ e. d (ap suc e))) [ inl l ↦ inl (omega arith) | inr l ↦ inr (omega arith) ]
 
 -- the first Commit of a transaction
-pub first_commit : (h : List (ℕ × Rec)) (i : ℕ) (e : ℕ × Rec) (made new : ℕ → Option Told) (t : Told) (key : ℕ) → i < length h → e ≡ get_or h i e
+pub first_commit : (h : List (ℕ × Rec)) (i : ℕ) (e : ℕ × Rec) (made new : ℕ → Option Told) (t : Told) (key : ℕ) → i < length h
+    → e ≡ get_or h i e
     → told_in e.1 ≡ Some t → key ≡ t.txn → is_some (made key) ≡ false
     → ((n : ℕ) → new n ≡ cond (is_at (nat_cmp key) n) (Some t) (made n))
     → Found made (take i h) → Found new (take (i + 1) h)

@@ -1,3 +1,4 @@
+mod All
 pub mod Commits
 pub mod Lists
-pub mod Queries
+pub mod Whole

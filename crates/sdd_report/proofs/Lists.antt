@@ -1,4 +1,4 @@
 -- What loops have written, one item more and at their end.
-use Rattle.sdd_words.proofs.Written.{item_written, items_written}
+use Rattle.sdd_report.proofs.All.{item_written, items_written}
 
 pub ruleset written = (item_written, items_written)

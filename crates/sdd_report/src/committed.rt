@@ -4,14 +4,14 @@ ghost use Rattle.std.specs.BTreeMap.{get};
 ghost use Rattle.std.specs.Ordering.{nat_cmp};
 ghost use Rattle.sdd_report.specs.Committed as definitions;
 ghost use Rattle.sdd_report.specs.Names.{spaced};
-ghost use Rattle.sdd_report.specs.Committed.{told_in, told_of, names_of, order_line, reply_of, numbers_end, shipped_line, shipped_of, committed_lines};
+ghost use Rattle.sdd_report.specs.Committed.{told_in, told_of, names_of, order_line, reply_of, numbers_end, shipped_line, shipped_of};
+ghost use Rattle.sdd_report.specs.Replies.{reply_lines};
 
 use crate::names::txn_name;
-use crate::replies::put_reply;
 use crate::words::{put_large_number, put_txn, put_word};
-use sdd_history::Rec;
+use sdd_history::{PrintedReply, Rec};
 use sdd_lang::Txn;
-use sdd_lang::sdd_base::{NoMemory, Reply, TxnNo};
+use sdd_lang::sdd_base::{NoMemory, Pages, TxnNo};
 use sdd_words::put;
 use std::alloc::Global;
 use std::collections::BTreeMap;
@@ -21,7 +21,7 @@ use std::marker::Model;
 #[derive(Drop)]
 pub struct Told<'a> {
     txn: u32,
-    reply: &'a Reply,
+    reply: &'a PrintedReply,
     values: u128,
     rows: u128,
 }
@@ -123,7 +123,8 @@ fn put_names(text: &mut Vec<u8>, txns: &[Txn], order: &[TxnNo]) -> Result<(), No
     Ok(())
 }
 
-fn put_order(text: &mut Vec<u8>, txns: &[Txn], order: &[TxnNo]) -> Result<(), NoMemory>
+/// The line of the order.
+pub fn put_order(text: &mut Vec<u8>, txns: &[Txn], order: &[TxnNo]) -> Result<(), NoMemory>
     ensures { OnOk result (text.new.items ≡ text.old.items ++ order_line txns.now order.now) }
 {
     put(text, b"order")?;
@@ -131,31 +132,41 @@ fn put_order(text: &mut Vec<u8>, txns: &[Txn], order: &[TxnNo]) -> Result<(), No
     put(text, b"\n")
 }
 
-fn put_reply_of(
-    text: &mut Vec<u8>,
+fn add_reply(text: &mut Pages, name: &[u8], reply: &PrintedReply) -> Result<(), NoMemory>
+    ensures { OnOk result (text.new ≡ text.old ++ reply_lines name.now reply.now) }
+{
+    text.put(b"reply ")?;
+    text.put(name)?;
+    text.share(reply.lines())
+}
+
+fn add_reply_of(
+    text: &mut Pages,
     txns: &[Txn],
     commits: &Commits,
     txn: TxnNo,
 ) -> Result<(), NoMemory>
-    ensures { OnOk result (text.new.items ≡ text.old.items ++ reply_of txns.now commits.now txn) }
+    ensures { OnOk result (text.new ≡ text.old ++ reply_of txns.now commits.now txn) }
 {
     match commits.told(txn) {
-        Some(told) => put_reply(text, txn_name(txns, txn), told.reply),
+        Some(told) => add_reply(text, txn_name(txns, txn), told.reply),
         None => Ok(()),
     }
 }
 
+/// The replies, along the order.
 #[tactic(auto, using(crate::proofs::Lists::written))]
-fn put_replies(
-    text: &mut Vec<u8>,
+pub fn add_replies(
+    text: &mut Pages,
     txns: &[Txn],
     commits: &Commits,
     order: &[TxnNo],
 ) -> Result<(), NoMemory>
-    ensures { OnOk result (text.new.items ≡ text.old.items ++ flat_map (reply_of txns.now commits.now) order.now) }
+    ensures { OnOk result (
+        text.new ≡ text.old ++ flat_map (reply_of txns.now commits.now) order.now) }
 {
     'order: for txn in order {
-        put_reply_of(text, txns, commits, *txn)?;
+        add_reply_of(text, txns, commits, *txn)?;
     }
     Ok(())
 }
@@ -191,8 +202,9 @@ fn put_shipped_of(
     }
 }
 
+/// What was shipped, along the order.
 #[tactic(auto, using(crate::proofs::Lists::written))]
-fn put_all_shipped(
+pub fn put_all_shipped(
     text: &mut Vec<u8>,
     txns: &[Txn],
     commits: &Commits,
@@ -204,18 +216,4 @@ fn put_all_shipped(
         put_shipped_of(text, txns, commits, *txn)?;
     }
     Ok(())
-}
-
-/// The order, the replies along it, and then what was shipped.
-pub fn put_committed(
-    text: &mut Vec<u8>,
-    txns: &[Txn],
-    commits: &Commits,
-    order: &[TxnNo],
-) -> Result<(), NoMemory>
-    ensures { OnOk result (text.new.items ≡ text.old.items ++ committed_lines txns.now commits.now order.now) }
-{
-    put_order(text, txns, order)?;
-    put_replies(text, txns, commits, order)?;
-    put_all_shipped(text, txns, commits, order)
 }

@@ -1,7 +1,7 @@
 //! The text of a report on a run: its records, the serial order, the replies along the order, what was
 //! shipped, the transactions that are pending, and the copies.
 //!
-//! The one contract to the layer above: `report_text` gives exactly `report_text` of
+//! The one contract to the layer above: `report_pages` gives exactly `report_text` of
 //! `specs/Report.antt`, which is a function of the values that a `Report` holds, each of whose lines is
 //! one definition of `specs/`.
 #![tactic(auto)]
@@ -18,4 +18,4 @@ mod words;
 pub use copies::{CopyTable, CopyTables};
 pub use pending::{Pending, Waiting, Why, under_way};
 pub use replies::put_reply;
-pub use report::{Report, report_text};
+pub use report::{Report, report_pages};

@@ -1,19 +1,24 @@
 //! The text of a report.
 ghost use Rattle.std.specs.Prelude.{◌≡◌, ◌++◌, OnOk, IfOk};
 ghost use Rattle.sdd_report.specs.Report as definitions;
-ghost use Rattle.sdd_report.specs.Report.{report_text, rest_of};
+ghost use Rattle.sdd_report.specs.Committed.{order_line};
+ghost use Rattle.sdd_report.specs.Report.{report_text, after_replies};
+ghost use Rattle.sdd_report.specs.Trace.{trace};
 
-use crate::committed::{Commits, put_committed};
+use crate::committed::{Commits, add_replies, put_all_shipped, put_order};
 use crate::copies::{CopyTable, put_copies};
 use crate::pending::{Pending, put_pending};
 use crate::trace::put_trace;
 use sdd_history::Rec;
 use sdd_lang::Txn;
-use sdd_lang::sdd_base::{NoMemory, TxnNo};
+use sdd_lang::sdd_base::{NoMemory, Pages, TxnNo};
 use sdd_lang::sdd_catalog::Catalogue;
 use sdd_words::put;
 use std::alloc::Global;
 use std::marker::Model;
+
+/// What follows the replies is a page of its own where it has as many bytes.
+const MIN_PAGE_BYTES: usize = 4096;
 
 /// What a report prints of a run.
 #[derive(Drop)]
@@ -46,28 +51,55 @@ impl<'a> Model for Report<'a> {
     } };
 }
 
-/// What follows the trace.
-fn put_rest(text: &mut Vec<u8>, report: &Report, commits: &Commits) -> Result<(), NoMemory>
-    requires { commits.now ≡ report.now.history }
-    ensures { OnOk result (text.new.items ≡ text.old.items ++ rest_of report.now) }
+/// What stands before the replies: the trace, and the order.
+fn put_front(text: &mut Vec<u8>, report: &Report) -> Result<(), NoMemory>
+    ensures { OnOk result (
+        text.new.items
+        ≡ text.old.items ++ (trace report.now.catalogue report.now.txns report.now.history
+        ++ order_line report.now.txns report.now.order)) }
 {
-    put_committed(text, report.txns, commits, report.order)?;
+    put_trace(text, report.catalogue, report.txns, report.history)?;
+    put_order(text, report.txns, report.order)
+}
+
+/// What follows the replies.
+fn put_end(text: &mut Vec<u8>, report: &Report, commits: &Commits) -> Result<(), NoMemory>
+    requires { commits.now ≡ report.now.history }
+    ensures { OnOk result (text.new.items ≡ text.old.items ++ after_replies report.now) }
+{
+    put_all_shipped(text, report.txns, commits, report.order)?;
     put_pending(text, report.catalogue, report.txns, report.pending)?;
     put_copies(text, report.catalogue, report.copies)?;
     put(text, b"end\n")
 }
 
+/// Adds what follows the replies. Where it is short it is copied, so that a short report is one page.
+fn add_end(text: &mut Pages, end: Vec<u8>) -> Result<(), NoMemory>
+    ensures { OnOk result (text.new ≡ text.old ++ end.items) }
+{
+    if end.len() < MIN_PAGE_BYTES {
+        return text.put(end.as_slice());
+    }
+    text.add(end)
+}
+
 /// The text of the report. A number that names nothing has the empty name, and a transaction of the
 /// order without a Commit has no reply; of two Commits of a transaction the first is printed.
 ///
-/// Costs time in the text and, for each record, in the logarithm of the transactions; takes memory for
-/// the text alone and a few words for each transaction.
-pub fn report_text(alloc: Global, report: &Report) -> Result<Vec<u8>, NoMemory>
-    ensures { IfOk result (λ text. text.items ≡ report_text report.now) }
+/// Costs time in the text and, for each record, in the logarithm of the transactions. The lines of
+/// large replies are shared with the history; takes memory for the other lines and a few words for
+/// each transaction.
+#[tactic(auto, using(crate::proofs::Whole::whole_report))]
+pub fn report_pages(alloc: Global, report: &Report) -> Result<Pages, NoMemory>
+    ensures { IfOk result (λ text. text ≡ report_text report.now) }
 {
     let commits = Commits::of(alloc, report.history)?;
-    let mut text = Vec::new(alloc);
-    put_trace(&mut text, report.catalogue, report.txns, report.history)?;
-    put_rest(&mut text, report, &commits)?;
+    let mut front = Vec::new(alloc);
+    put_front(&mut front, report)?;
+    let mut text = Pages::of(alloc, front);
+    add_replies(&mut text, report.txns, &commits, report.order)?;
+    let mut end = Vec::new(alloc);
+    put_end(&mut end, report, &commits)?;
+    add_end(&mut text, end)?;
     Ok(text)
 }

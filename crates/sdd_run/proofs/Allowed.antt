@@ -9,7 +9,7 @@ use Rattle.sdd_obligations.proofs.Done.{count_join}
 use Rattle.sdd_world.specs.Schedules.{AreAllowed, lists_after, takes_rounds}
 use Rattle.sdd_world.specs.declared.schedule.ClassList.{ClassList}
 use Rattle.sdd_run.specs.Lent.{force_in}
-use Rattle.sdd_run.proofs.Homes.{within}
+use Rattle.sdd_world.proofs.HomesExist.{within}
 
 member : {A : Type 0} (xs : List A) (i : ℕ) → i < length xs → (x : A) × (slice_get xs i ≡ Some x)
 member [] i l = absurd (omega arith)

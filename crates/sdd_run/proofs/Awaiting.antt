@@ -3,7 +3,7 @@ use Rattle.std.proofs.Common.{ℕ, ◌≡◌, ◌∙◌, ap, Option, Some, None}
 use Rattle.sdd_obligations.specs.All.{Cond, IsAwaited, Setting}
 use Rattle.sdd_obligations.specs.dm.Waiting.{waiting_at}
 use Rattle.sdd_obligations.specs.site_module.SiteLog.{Log}
-use Rattle.sdd_run.specs.Pending.{unmet}
+use Rattle.sdd_world.specs.Pending.{unmet}
 
 pub awaited_is : (s : Setting) (log : Log) (c t : ℕ) (o : Option Cond) → IsAwaited s log c t o → unmet s log (waiting_at c t log) ≡ o
 awaited_is s log c t None h = ap (unmet s log) h

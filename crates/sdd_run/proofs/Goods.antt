@@ -7,7 +7,7 @@ use Rattle.sdd_obligations.specs.All.{AllFewTicks, Catalogue, Delete, Deliver, D
 use Rattle.sdd_obligations.specs.base.declared.limits.TheConstants.{MAX_TICKS}
 use Rattle.sdd_obligations.specs.base.declared.value.Value.{Value}
 use Rattle.sdd_obligations.specs.base.declared.value.Value.TheVariants as values
-use Rattle.sdd_obligations.proofs.lang.Pushdown.{and_both}
+use Rattle.std.proofs.lemmas.Bool.{and_from as and_both}
 use Rattle.sdd_obligations.proofs.lang.StaysDatabase.{no_database, rows_make_database}
 use Rattle.sdd_obligations.proofs.net.Lists.{All-at}
 use Rattle.sdd_obligations.specs.protocol.declared.entry.Entry.{Entry}

@@ -15,7 +15,7 @@ use Rattle.sdd_progress.proofs.lawful.Submissions.{given_at, one_submit, submit_
 use Rattle.sdd_progress.proofs.AtRest.{commit_there, rest}
 use Rattle.sdd_progress.proofs.Fronts.{history_le, redeclare_between, stands_front}
 use Rattle.sdd_progress.proofs.Known.{Known}
-use Rattle.sdd_run.specs.Pending.{AreAtLastHomes, Homes, Telling, commits, last_home, pending_as, pending_at, pending_by, pending_of, reason_of, stands_at, submitted_at, why_of}
+use Rattle.sdd_world.specs.Pending.{AreAtLastHomes, Homes, Telling, commits, last_home, pending_as, pending_at, pending_by, pending_of, reason_of, stands_at, submitted_at, why_of}
 use Rattle.sdd_run.proofs.Lossless.{commits_it}
 
 -- the site that a log tells is that of the one place where it submits the transaction

@@ -21,7 +21,7 @@ use Rattle.sdd_progress.proofs.lawful.Together.{copies as left_in_copies}
 use Rattle.sdd_progress.proofs.ErasOf.{are_eras_of}
 use Rattle.sdd_progress.specs.Eras.{eras_of}
 use Rattle.sdd_progress.specs.Premises.{HasSoundLists}
-use Rattle.sdd_run.specs.Copies.{rows_left, table_of, tables_at, tables_of}
+use Rattle.sdd_world.specs.Copies.{rows_left, table_of, tables_at, tables_of}
 
 -- The copies at the end of a log are those before a record behind it: that of an event which finds nothing to do, as one
 -- that loses a packet which isn't there.

@@ -8,10 +8,6 @@ pub mod Timely
 pub mod Whole
 pub mod Awaiting
 pub mod Beginning
-pub mod Homes
-pub mod Lists
-pub mod Outsiders
-pub mod Results
 pub mod Submissions
 pub mod SameReport
 pub mod Starting

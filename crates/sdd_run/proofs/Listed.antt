@@ -28,7 +28,7 @@ use Rattle.sdd_progress.specs.Premises.{HasSoundLists}
 use Rattle.sdd_report.specs.declared.pending.Pending.{Pending}
 use Rattle.sdd_report.specs.declared.pending.Why.{Why}
 use Rattle.sdd_report.specs.declared.pending.Why.TheVariants as reasons
-use Rattle.sdd_run.specs.Pending.{IsListed, commits, pending_as, pending_by, pending_of, reason_of, submitted_at, why_of}
+use Rattle.sdd_world.specs.Pending.{IsListed, commits, pending_as, pending_by, pending_of, reason_of, submitted_at, why_of}
 use Rattle.sdd_run.proofs.LastHomes.{submitted_there}
 
 -- what a queue has stands at some place of it

@@ -10,7 +10,7 @@ use Rattle.sdd_report.specs.declared.pending.Pending.{Pending}
 use Rattle.sdd_report.specs.declared.pending.Why.{Why}
 use Rattle.sdd_progress.proofs.Committed.{any_commit}
 use Rattle.sdd_progress.specs.Committed.{WasCommitted}
-use Rattle.sdd_run.specs.Pending.{Homes, IsListed, Telling, commits, pending_as, pending_by, pending_of, reason_of, submitted_at}
+use Rattle.sdd_world.specs.Pending.{Homes, IsListed, Telling, commits, pending_as, pending_by, pending_of, reason_of, submitted_at}
 use Rattle.sdd_run.specs.Standing.{times_in, times_pending}
 use Rattle.sdd_run.proofs.Once.{none_there, times_more}
 

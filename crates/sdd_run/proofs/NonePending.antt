@@ -5,7 +5,7 @@ use Rattle.sdd_obligations.specs.history.declared.record.Rec.TheVariants.{Submit
 use Rattle.sdd_obligations.proofs.invariants.Bools.{same_number}
 use Rattle.sdd_progress.proofs.Committed.{any_commit, none_left}
 use Rattle.sdd_progress.specs.Committed.{AllCommitted, IsNotLeft}
-use Rattle.sdd_run.specs.Pending.{Telling, commits, pending_by, pending_of, submitted_at}
+use Rattle.sdd_world.specs.Pending.{Telling, commits, pending_by, pending_of, submitted_at}
 
 not_pending : (tell : Telling) (g : Given) (log : Log) (all : History) (x : ℕ × Rec) → IsNotLeft all x → pending_by tell (submitted_at log) g log all x ≡ None
 not_pending tell g log all (event, Submit n) h = rw (any_commit all (commits n.0) n.0 (λ e attempt reply changes values rows. same_number n.0) h) refl

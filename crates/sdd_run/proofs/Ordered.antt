@@ -19,7 +19,7 @@ use Rattle.sdd_progress.proofs.OfLogs.{few_rejected}
 use Rattle.sdd_progress.specs.Eras.{eras_of}
 use Rattle.sdd_progress.proofs.KeptEras as succession
 use Rattle.sdd_progress.specs.read_waits.Free.{IsFree, IsFreeClass}
-use Rattle.sdd_run.specs.Copies.{rows_left, tables_of}
+use Rattle.sdd_world.specs.Copies.{rows_left, tables_of}
 use Rattle.sdd_run.specs.Free.{IsUndisturbed}
 use Rattle.sdd_run.specs.Runs.{AreTables, IsFreeInEach, given_of, order_of, plain_run}
 use Rattle.sdd_run.proofs.Forces.{of_list}

@@ -15,7 +15,7 @@ use Rattle.sdd_report.specs.declared.pending.Why.{Why}
 use Rattle.sdd_report.specs.declared.pending.Why.TheVariants as reasons
 use Rattle.sdd_world.specs.AtSites.{standing_at}
 use Rattle.sdd_world.specs.Standings.{standing_at_t, standing_at_u}
-use Rattle.sdd_run.specs.Pending.{commits, pending_as, pending_by, pending_of, reason_of, submitted_at, wait_at, wait_for, waits_of, why_of}
+use Rattle.sdd_world.specs.Pending.{commits, pending_as, pending_by, pending_of, reason_of, submitted_at, wait_at, wait_for, waits_of, why_of}
 use Rattle.sdd_run.specs.Reasons.{IsNumberedSite, IsReason, IsStanding}
 use Rattle.sdd_run.proofs.Standings.{each_stands}
 

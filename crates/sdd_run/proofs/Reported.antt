@@ -14,7 +14,7 @@ use Rattle.sdd_world.specs.declared.world.World.{World}
 use Rattle.sdd_run.specs.Reports.{report_of}
 use Rattle.sdd_lists.specs.InForce.{whole_in}
 use Rattle.sdd_progress.specs.Eras.{eras_of}
-use Rattle.sdd_run.specs.Pending.{AreAtLastHomes}
+use Rattle.sdd_world.specs.Pending.{AreAtLastHomes}
 use Rattle.sdd_run.specs.Runs.{AreTables, EndsAtLimit, IsReportOn, IsSummaryOn, begun, given_of, order_of}
 use Rattle.sdd_run.specs.Worlds.{IsRunOf}
 use Rattle.sdd_run.proofs.Beginning.{all_given}
@@ -48,7 +48,7 @@ run_of cat tables work events same w log stands =
     record {
       log = log;
       log_is = record { lawful = s.calm.rests.lawful; within = s.calm.rests.within; complete = s.complete };
-      stands = record { catalogue_is = refl; stands = s };
+      stands = s;
     }
 
 pub ended : (cat : Catalogue) (tables : List (List Entry)) (work : Workload) → AreTables cat work tables → (events : List Event) → events ≡ work.events

@@ -5,8 +5,8 @@ use Rattle.sdd_obligations.specs.serial_orders.SerialOrder.{serial_order}
 use Rattle.sdd_report.specs.Report.{Report}
 use Rattle.sdd_report.specs.declared.copies.CopyTable.{CopyTable}
 use Rattle.sdd_report.specs.declared.pending.Pending.{Pending}
-use Rattle.sdd_run.specs.Copies.{tables_of}
-use Rattle.sdd_run.specs.Pending.{AreAtLastHomes, Telling, last_home, pending_at, pending_of}
+use Rattle.sdd_world.specs.Copies.{tables_of}
+use Rattle.sdd_world.specs.Pending.{AreAtLastHomes, Telling, last_home, pending_at, pending_of}
 use Rattle.sdd_run.specs.Reports.{report_by}
 use Rattle.sdd_run.proofs.LastHomes.{pending_alike}
 

@@ -18,7 +18,7 @@ use Rattle.sdd_progress.proofs.Settled.{settled_is_committed, settled_is_finishe
 use Rattle.sdd_progress.specs.Committed.{AllCommitted, WasCommitted}
 use Rattle.sdd_progress.specs.Premises.{HasSoundLists}
 use Rattle.sdd_progress.specs.Settled.{IsAtEnd, IsSettled}
-use Rattle.sdd_run.specs.Copies.{table_of, tables_at, tables_of}
+use Rattle.sdd_world.specs.Copies.{table_of, tables_at, tables_of}
 use Rattle.sdd_run.specs.Reports.{report_of}
 use Rattle.sdd_lists.specs.InForce.{whole_in}
 use Rattle.sdd_run.specs.Runs.{AreTables, given_of, order_of}
@@ -26,7 +26,7 @@ use Rattle.sdd_run.proofs.AtRest.{quiet_at_rest}
 use Rattle.sdd_run.proofs.RunOf.{lists, submit_given, up}
 use Rattle.sdd_run.specs.Settled.{EndsAtRest, EndsQuiet, LosesNothing, NoneIsDown, TellsAllCommitted}
 use Rattle.sdd_run.specs.Standing.{times_in}
-use Rattle.sdd_run.specs.Pending.{IsListed}
+use Rattle.sdd_world.specs.Pending.{IsListed}
 use Rattle.sdd_run.proofs.Listed.{each_listed}
 use Rattle.sdd_run.proofs.Lossless.{in_one}
 use Rattle.sdd_run.proofs.NonePending.{none_pending}

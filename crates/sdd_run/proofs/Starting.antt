@@ -17,7 +17,6 @@ use Rattle.sdd_lists.specs.InForce.{classes_in, eras_in, whole_in}
 use Rattle.sdd_world.specs.declared.schedule.ClassList.{ClassList}
 use Rattle.sdd_run.specs.Lent.{force_in}
 use Rattle.sdd_run.specs.Runs.{AreTables, begun, forces_of}
-use Rattle.sdd_run.specs.Worlds.{StandsOn}
 use Rattle.sdd_run.proofs.Allowed.{HasLists, allowed}
 use Rattle.sdd_run.proofs.Beginning.{begins_sound, rows_given}
 use Rattle.sdd_run.proofs.Goods.{good_along, good_begun}
@@ -69,15 +68,13 @@ module _ (cat : Catalogue) (tables : List (List Entry)) (work : Workload) (sound
       → slice_get tables 0 ≡ Some table → rows ≡ work.rows → txns ≡ work.txns
       → AllBegin (BeginsD (whole_in cat work) rows) (whole_in cat work).dms dms
       → ((g : Given) → IsGood g → standing.IsSound g → IsBegun g (whole_in cat work) cat table txns dms → StandsFor w g [])
-      → StandsOn (whole_in cat work) w (begun cat tables work) []
-  starts rows txns table dms w few_tms few_dms first r t all made = record {
-    catalogue_is = refl;
-    stands = made (begun cat tables work) (good_begun cat tables work sound valid tabled) (begins_sound cat tables work few_tms few_dms valid)
-        (record {
-          catalogue_is = refl;
-          force_is = first_force cat (classes_in cat work) tables table (record { catalogue = whole_in cat work; table = [] }) first;
-          txns_are = t;
-          no_events = refl;
-          made = each_made rows dms r all;
-        });
-  }
+      → StandsFor w (begun cat tables work) []
+  starts rows txns table dms w few_tms few_dms first r t all made =
+      made (begun cat tables work) (good_begun cat tables work sound valid tabled) (begins_sound cat tables work few_tms few_dms valid)
+      (record {
+        catalogue_is = refl;
+        force_is = first_force cat (classes_in cat work) tables table (record { catalogue = whole_in cat work; table = [] }) first;
+        txns_are = t;
+        no_events = refl;
+        made = each_made rows dms r all;
+      })

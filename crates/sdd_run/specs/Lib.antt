@@ -1,8 +1,6 @@
 pub mod Clocks
-pub mod Copies
 pub mod Free
 pub mod Lent
-pub mod Pending
 pub mod Reasons
 pub mod Reports
 pub mod Runs

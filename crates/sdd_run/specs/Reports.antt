@@ -4,8 +4,8 @@ use Rattle.sdd_world.specs.Standings.{standing_at_t, standing_at_u}
 use Rattle.sdd_obligations.specs.All.{Given, Log, history}
 use Rattle.sdd_obligations.specs.serial_orders.SerialOrder.{serial_order}
 use Rattle.sdd_report.specs.Report.{Report}
-use Rattle.sdd_run.specs.Copies.{tables_of}
-use Rattle.sdd_run.specs.Pending.{Telling, pending_of}
+use Rattle.sdd_world.specs.Copies.{tables_of}
+use Rattle.sdd_world.specs.Pending.{Telling, pending_of}
 
 -- its records, the serial order of what is committed, what is pending, and the copies, where this says how sites
 -- have transactions

@@ -20,7 +20,7 @@ use Rattle.sdd_report.specs.Trace.{trace}
 use Rattle.sdd_report.specs.declared.copies.CopyTable.{CopyTable}
 use Rattle.sdd_report.specs.declared.pending.Pending.{Pending}
 use Rattle.sdd_run.specs.Clocks.{HasLowClocks}
-use Rattle.sdd_run.specs.Copies.{rows_left, tables_of}
+use Rattle.sdd_world.specs.Copies.{rows_left, tables_of}
 use Rattle.sdd_progress.specs.Few.{AreFewRejected}
 use Rattle.sdd_progress.specs.read_waits.Free.{IsFree}
 use Rattle.sdd_run.specs.Free.{IsUndisturbed}

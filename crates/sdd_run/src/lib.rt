@@ -6,15 +6,11 @@
 //! (`law_standings`), and who never waits (`law_free_answered`).
 #![tactic(auto)]
 
-mod commits;
-mod copies;
 mod in_force;
 mod law;
 mod run;
 mod running;
 mod telling;
-mod unfinished;
-mod waits;
 
 pub use law::{law_free_answered, law_low_clocks, law_one_report, law_standings};
 pub use run::{run_report, run_summary};

@@ -8,6 +8,7 @@ use crate::running::finished;
 use crate::telling::report_on;
 use sdd_lists::lists_of;
 use sdd_make::{summary_of, summary_text};
+use sdd_obligations::sdd_base::Pages;
 use sdd_obligations::sdd_catalog::Catalogue;
 use sdd_script::Workload;
 use sdd_world::WorldEnd;
@@ -21,9 +22,9 @@ use std::alloc::Global;
 /// # Errors
 ///
 /// Where an event, or a message of a link, would pass the limit, and where memory runs out.
-pub fn run_report(alloc: Global, catalogue: &Catalogue, work: Workload) -> Result<Vec<u8>, WorldEnd>
+pub fn run_report(alloc: Global, catalogue: &Catalogue, work: Workload) -> Result<Pages, WorldEnd>
     requires valid { IsValid catalogue.now work }
-    ensures report { IfOk result (λ text. IsReportOn catalogue.now work text.items) }
+    ensures report { IfOk result (λ text. IsReportOn catalogue.now work text) }
     ensures limit { IsErrOf result WorldEnd.Limit → EndsAtLimit catalogue.now work }
 {
     let lists = lists_of(alloc, catalogue, &work)?;
@@ -31,7 +32,7 @@ pub fn run_report(alloc: Global, catalogue: &Catalogue, work: Workload) -> Resul
     let whole = lists.whole();
     whole.known();
     let world = finished(alloc, catalogue, &lists, tables.as_slice(), work)?;
-    Ok(report_on(alloc, whole, &world)?)
+    Ok(report_on(alloc, &world)?)
 }
 
 /// The text of the summary of the run of a workload. Costs what its events cost, and the catalogue

@@ -2,38 +2,31 @@
 ghost use Rattle.std.specs.Prelude.{◌≡◌, IfOk};
 ghost use Rattle.sdd_obligations.specs.All.{Given, IsOrderable, Log, history};
 ghost use Rattle.sdd_report.specs.Report.{report_text as text_of};
-ghost use Rattle.sdd_run.specs.Pending.{AreAtLastHomes};
 ghost use Rattle.sdd_run.specs.Reports.{report_by};
-ghost use Rattle.sdd_run.specs.Worlds.{StandsOn};
+ghost use Rattle.sdd_world.specs.Pending.{AreAtLastHomes};
+ghost use Rattle.sdd_world.specs.Standing.{StandsFor};
 ghost use Rattle.sdd_world.specs.Standings.{standing_of};
 
-use crate::copies::tables;
-use crate::unfinished::pending;
-use sdd_obligations::sdd_base::NoMemory;
-use sdd_obligations::sdd_catalog::Catalogue;
+use sdd_obligations::sdd_base::{NoMemory, Pages};
 use sdd_obligations::sdd_order::serial_order;
-use sdd_report::{Report, report_text};
+use sdd_report::{Report, report_pages};
 use sdd_world::World;
 use std::alloc::Global;
 
 /// The text of the report on a world whose history has a serial order, and in which each pending
 /// transaction was submitted under the list of classes in force. Costs what the order, the pending
 /// transactions, the copies and the text cost.
-pub fn report_on(
-    alloc: Global,
-    catalogue: &Catalogue,
-    world: &World<'_>,
-) -> Result<Vec<u8>, NoMemory>
-    requires { (g : Given) × (log : Log) × IsOrderable catalogue.now (history log)
-        × StandsOn catalogue.now world.now g log }
-    ensures { IfOk result (λ text. (g : Given) (log : Log)
-        → StandsOn catalogue.now world.now g log → AreAtLastHomes g log
-        → text.items ≡ text_of (report_by standing_of g log)) }
+pub fn report_on(alloc: Global, world: &World<'_>) -> Result<Pages, NoMemory>
+    requires { (g : Given) × (log : Log) × IsOrderable g.catalogue (history log)
+        × StandsFor world.now g log }
+    ensures { IfOk result (λ text. (g : Given) (log : Log) → StandsFor world.now g log
+        → AreAtLastHomes g log → text ≡ text_of (report_by standing_of g log)) }
 {
+    let catalogue = world.whole();
     let history = world.history().as_slice();
     let order = serial_order(alloc, catalogue, history)?;
-    let left = pending(alloc, catalogue, world)?;
-    let copies = tables(alloc, catalogue, world)?;
+    let left = world.pending(alloc)?;
+    let copies = world.tables(alloc)?;
     let report = Report {
         catalogue,
         txns: world.transactions(),
@@ -42,5 +35,5 @@ pub fn report_on(
         pending: left.as_slice(),
         copies: copies.as_slice(),
     };
-    report_text(alloc, &report)
+    report_pages(alloc, &report)
 }

@@ -1,8 +1,5 @@
 -- A name put into a set of names, seen by its bytes.
-use Rattle.std.proofs.Common.{◌≡◌, List, [], ◌∷◌, ◌++◌, map, Bool, true, false, cond, not, refl, sym, ap, ◌∙◌}
-use Rattle.std.specs.Prelude.{is_some}
-use Rattle.std.specs.List.{position, list_any}
-use Rattle.std.proofs.lemmas.List.{map-append}
+use Rattle.sdd_script.proofs.All.{Bool, List, [], ap, cond, false, is_some, list_any, map, map-append, not, position, refl, sym, true, ◌++◌, ◌∙◌, ◌∷◌, ◌≡◌}
 use Rattle.sdd_script.proofs.Marks.{position-map}
 use Rattle.sdd_script.proofs.NamePlaces.{none_any, any_none, none_found, found_none}
 

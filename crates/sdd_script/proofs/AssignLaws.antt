@@ -1,42 +1,13 @@
 -- Assignments: what is read is spelled and fits, and what is spelled and fits is read.
-use Rattle.std.proofs.Common.{◌≡◌, ◌≢◌, ℕ, ℤ, ◌+◌, ◌^◌, ◌<◌, ◌≤◌, List, [], ◌∷◌, ◌++◌, map, Bool, true, false, cond, ◌&&◌, eqb, Option, Some, None, Result, Ok, refl, sym, ap, subst, ◌∙◌, arith}
-use Rattle.std.specs.Prelude.{codes, not, ◌==◌, if◌then◌else◌}
-use Rattle.std.specs.Option.{option_map}
-use Rattle.std.specs.Str.{bytes_eq}
-use Rattle.std.specs.Fmt.{signed_decimal}
-use Rattle.std.specs.Int.Signed.{mag}
-use Rattle.std.specs.List.{AllByRecursion}
-use Rattle.std.proofs.lemmas.Slice.Eq.{bytes_eq-Decides}
-use Rattle.std.proofs.lemmas.Bool.{ne_eqb, eq-eqb}
-use Rattle.sdd_lang.specs.All.{Catalogue, FitsAssign, FitsRef, IsColumn, Kind, RelNo, along, key_column, kind_at, kind_of_ref, must, rel_of, ◌>>=◌}
-use Rattle.sdd_lang.specs.catalog.declared.parts.Kind.TheVariants as kinds
-use Rattle.sdd_lang.specs.declared.assign.Assign.{Assign}
-use Rattle.sdd_lang.specs.declared.assign.Assign.TheVariants.{To, Add}
-use Rattle.sdd_lang.specs.declared.condition.Ref.{Ref}
-use Rattle.sdd_words.specs.Values.{value_word}
-use Rattle.sdd_words.specs.Keywords.{is_free, adds_of, looks_like_column}
-use Rattle.sdd_words.specs.Forms.{setting_of, joined, settings}
-use Rattle.sdd_words.specs.Number.{number_of}
-use Rattle.sdd_words.specs.declared.form.Setting.{Setting}
-use Rattle.sdd_words.specs.declared.word.Word.{Word}
-use Rattle.sdd_words.specs.declared.word.Word.TheVariants.{Plain, Quoted}
-use Rattle.sdd_words.proofs.Numbers.{number_takes, number_again}
-use Rattle.sdd_script.specs.Columns.{column_of_use}
-use Rattle.sdd_script.specs.Naming.{key_of}
-use Rattle.sdd_script.specs.Spelling.{column_word, own_column, assign_words, sets_words}
-use Rattle.sdd_script.specs.Statements.{addend_of, add_of, to_of, assign_of}
-use Rattle.sdd_script.specs.Valid.{AssignsValue}
-use Rattle.sdd_script.specs.Values.{is_of_kind, value_of}
-use Rattle.sdd_script.specs.declared.fault.WorkRule.{WorkRule}
-use Rattle.sdd_script.specs.declared.fault.WorkRule.TheVariants.{BadNumber, WrongKind, KeyChanged}
-use Rattle.sdd_script.specs.declared.found.Found.{Found}
-use Rattle.sdd_lang.proofs.base.ReadingLaws.{bind_ok, ok_is, known_ok, Answers, along_ok, ok_along}
-use Rattle.sdd_script.proofs.StepLaws.{must_then, both_hold, not_true, three_same, some_of}
+use Rattle.sdd_script.proofs.All.{Add, AllByRecursion, Answers, Assign, AssignsValue, BadNumber, Bool, Catalogue, FitsAssign, FitsRef, Found, IsColumn, KeyChanged, Kind, List, None, Ok, Option, Plain, Quoted, Ref, RelNo, Result, Setting, Some, To, Word, WorkRule, WrongKind, [], add_of, addend_of, adds_of, along, along_ok, ap, arith, assign_of, assign_words, bind_ok, both_hold, bytes_eq, bytes_eq-Decides, codes, column_of_use, column_word, cond, eq-eqb, eqb, false, if◌then◌else◌, is_free, is_of_kind, key_column, key_of, kind_at, kind_of_ref, known_ok, looks_like_column, mag, map, must, ne_eqb, not, number_again, number_of, number_takes, ok_along, ok_is, option_map, own_column, refl, rel_of, sets_words, setting_of, signed_decimal, subst, sym, to_of, true, value_of, value_word, ℕ, ℤ, ◌&&◌, ◌++◌, ◌+◌, ◌<◌, ◌==◌, ◌>>=◌, ◌^◌, ◌∙◌, ◌∷◌, ◌≡◌, ◌≢◌, ◌≤◌}
+use Rattle.sdd_words.specs.Forms.{settings, joined}
+use Rattle.sdd_script.proofs.StepLaws.{must_then, not_true, three_same, some_of}
 use Rattle.sdd_script.proofs.ValueLaws.{value_takes, value_again, kind_int, kind_same, key_is}
 use Rattle.sdd_script.proofs.WordLooks.{value_free, number_free}
 use Rattle.sdd_script.proofs.UseLaws.{IsKnown}
 use Rattle.sdd_script.proofs.RefLaws.{AreParts, ref_takes, ref_again, column_word_is}
 use Rattle.sdd_script.proofs.ConditionLaws.{joined_is, list_is}
+use Rattle.sdd_lang.specs.catalog.declared.parts.Kind.TheVariants as kinds
 
 -- ---- the form
 
@@ -97,12 +68,10 @@ setting_if left op right s true t e =
     record {
       left_is = r.0;
       op_is = r.1;
-      right_is =
-          r.2;
+      right_is = r.2;
       looks = (
         subst (λ (w : Word). looks_like_column w ≡ true) r.0 g.0,
-        subst
-            (λ (w : Word). is_free w ≡ true) r.2 g.1,
+        subst (λ (w : Word). is_free w ≡ true) r.2 g.1,
       );
     }
 
@@ -190,26 +159,24 @@ addend_takes (Quoted text) z e = absurd cc
 
 assign_if : (cat : Catalogue) (rel : RelNo) (left op right : Word) (adds : Bool) (f : Found) (a : Assign)
     → IsOwn cat rel left f → f.at.column ≢ key_column cat rel.0 → op ≡ Plain (adds_word adds)
-    → cond adds (add_of f right) (to_of f right) ≡ Ok a → (left ∷ op ∷ right ∷ [] ≡ assign_words cat rel a) × FitsAssign cat rel.0 a × AssignsValue a
+    → cond adds (add_of f right) (to_of f right) ≡ Ok a
+    → (left ∷ op ∷ right ∷ [] ≡ assign_words cat rel a) × FitsAssign cat rel.0 a × AssignsValue a
 assign_if cat rel left op right true f a own other is e =
     let b = must_then WrongKind (is_of_kind (Some f.kind) kinds.Int) (λ _. addend_of right >>= λ number. Ok (Add f.at.column number)) a e in
     let c = bind_ok (addend_of right) (λ number. Ok (Add f.at.column number)) a b.1 in
     let n = addend_takes right c.0 c.1 in
-    subst (λ (x : Assign). (left ∷ op ∷ right ∷ [] ≡ assign_words cat rel x) × FitsAssign cat rel.0 x × AssignsValue x) (ok_is (Add f.at.column c.0) a c.2) (
+    subst (λ (x : Assign). (left ∷ op ∷ right ∷ [] ≡ assign_words cat rel x) × FitsAssign cat rel.0 x × AssignsValue x)
+    (ok_is (Add f.at.column c.0) a c.2) (
       three_same left (column_word cat (rel ∷ []) (own_column f.at.column)) op (Plain (codes "+=")) right
           (Plain (signed_decimal c.0)) own.spelled is n.0,
-      (
-        own.column,
-        other,
-        own.kind
-            ∙ sym (kind_int f.kind b.0),
-      ),
+      (own.column, other, own.kind ∙ sym (kind_int f.kind b.0)),
       n.1,
     )
 assign_if cat rel left op right false f a own other is e =
     let c = bind_ok (value_of (Some f.kind) right) (λ value. Ok (To f.at.column value)) a e in
     let v = value_takes f.kind right c.0 c.1 in
-    subst (λ (x : Assign). (left ∷ op ∷ right ∷ [] ≡ assign_words cat rel x) × FitsAssign cat rel.0 x × AssignsValue x) (ok_is (To f.at.column c.0) a c.2) (
+    subst (λ (x : Assign). (left ∷ op ∷ right ∷ [] ≡ assign_words cat rel x) × FitsAssign cat rel.0 x × AssignsValue x)
+    (ok_is (To f.at.column c.0) a c.2) (
       three_same left (column_word cat (rel ∷ []) (own_column f.at.column)) op (Plain (codes "=")) right
           (value_word c.0) own.spelled is v.spelled,
       (own.column, other, v.same ∙ sym own.kind),
@@ -320,7 +287,8 @@ all_read cat k rel h i (a ∷ sets) fits v = (assign_again cat k rel h a fits.0 
 pub form_again : (cat : Catalogue) → IsKnown cat → (rel : RelNo) → AreParts cat (rel ∷ [])
     → (sets : List Assign) → AllByRecursion (FitsAssign cat rel.0) sets → AllByRecursion AssignsValue sets
     → settings (sets_words cat rel sets) ≡ Some (map (setting_for cat rel) sets)
-form_again cat k rel h sets fits v = ap settings (words_same cat rel sets) ∙ settings_again (map (setting_for cat rel) sets) (all_look cat k rel h sets fits v)
+form_again cat k rel h sets fits v =
+    ap settings (words_same cat rel sets) ∙ settings_again (map (setting_for cat rel) sets) (all_look cat k rel h sets fits v)
 
 pub assigns_again : (cat : Catalogue) → IsKnown cat → (rel : RelNo) → AreParts cat (rel ∷ [])
     → (sets : List Assign) → AllByRecursion (FitsAssign cat rel.0) sets → AllByRecursion AssignsValue sets

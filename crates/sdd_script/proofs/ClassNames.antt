@@ -1,17 +1,7 @@
 -- The names of a catalogue's classes: they differ, and they are found by numbers.
-use Rattle.std.proofs.Common.{◌≡◌, ℕ, suc, ◌+◌, ◌-◌, ◌<◌, List, [], ◌∷◌, ◌++◌, length, get_or, map, Bool, true, false, refl, sym, ap, subst, ◌∙◌, arith, append-nil, append_assoc}
-use Rattle.std.specs.Prelude.{◌||◌}
-use Rattle.std.specs.Str.{bytes_eq}
-use Rattle.std.specs.List.{list_any, range_with_len}
-use Rattle.std.proofs.lemmas.List.{map-append}
-use Rattle.std.proofs.lemmas.List.Folds.{list_any-append}
-use Rattle.sdd_lang.specs.All.{Catalogue, Class, ClassPart, Fragment, IsSound, Parts, class_part, class_rules, faults_of_class, found_from, has_name, numbers_to, parts_of, repeats, tm_no}
-use Rattle.sdd_lang.proofs.catalog.Found.{both_empty, empty_of_map, map-map}
-use Rattle.sdd_lang.proofs.catalog.NameLemmas.{list_any-map}
-use Rattle.sdd_lang.proofs.catalog.Validity.{no_faults, unbroken}
-use Rattle.sdd_script.specs.ClassLists.{joined, part_names}
-use Rattle.sdd_script.specs.Naming.{name_of_class, class_names}
+use Rattle.sdd_script.proofs.All.{Bool, Catalogue, Class, ClassPart, Fragment, IsSound, List, [], ap, append-nil, append_assoc, arith, both_empty, bytes_eq, class_names, class_part, class_rules, empty_of_map, false, faults_of_class, found_from, get_or, has_name, joined, length, list_any, list_any-append, list_any-map, map, map-append, map-map, name_of_class, no_faults, numbers_to, part_names, parts_of, range_with_len, refl, repeats, subst, suc, sym, tm_no, true, unbroken, ℕ, ◌++◌, ◌+◌, ◌-◌, ◌<◌, ◌||◌, ◌∙◌, ◌∷◌, ◌≡◌}
 use Rattle.sdd_script.proofs.NamePlaces.{none_any, repeats_not}
+use Rattle.sdd_lang.specs.All.{Parts}
 
 -- ---- they differ
 

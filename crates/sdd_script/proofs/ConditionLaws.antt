@@ -1,34 +1,13 @@
 -- Conditions: what is read is spelled and fits, and what is spelled and fits is read.
-use Rattle.std.proofs.Common.{◌≡◌, ℕ, ◌+◌, List, [], ◌∷◌, ◌++◌, map, Bool, true, false, cond, ◌&&◌, Option, Some, None, Result, Ok, refl, sym, ap, subst, ◌∙◌}
-use Rattle.std.specs.Prelude.{codes, if◌then◌else◌}
-use Rattle.std.specs.Option.{option_map}
-use Rattle.std.specs.Str.{bytes_eq}
-use Rattle.std.specs.List.{AllByRecursion}
-use Rattle.std.proofs.lemmas.Slice.Eq.{bytes_eq-Decides}
-use Rattle.sdd_lang.specs.All.{Catalogue, FitsCondition, Kind, Op, RelNo, kind_of_ref, must, ◌>>=◌}
-use Rattle.sdd_lang.specs.base.declared.restriction.Op.TheVariants as ops
-use Rattle.sdd_lang.specs.declared.condition.Condition.{Condition}
-use Rattle.sdd_lang.specs.declared.condition.Condition.TheVariants.{Const, Same}
-use Rattle.sdd_words.specs.Values.{value_word}
-use Rattle.sdd_words.specs.Keywords.{is_key, is_free, op_word, op_in, op_of, looks_like_column, names_column}
-use Rattle.sdd_words.specs.Forms.{comparison_of, joined, comparisons}
-use Rattle.sdd_words.specs.declared.form.Comparison.{Comparison}
-use Rattle.sdd_words.specs.declared.word.Word.{Word}
-use Rattle.sdd_words.specs.declared.word.Word.TheVariants.{Plain, Quoted}
-use Rattle.sdd_script.specs.Columns.{Parts, column_of_use, same_of, const_of, condition_of, conditions_of}
-use Rattle.sdd_script.specs.Spelling.{column_word, condition_words, conditions_words}
-use Rattle.sdd_script.specs.Valid.{HoldsValue}
-use Rattle.sdd_script.specs.Values.{is_of_kind, value_of}
-use Rattle.sdd_script.specs.declared.fault.WorkRule.{WorkRule}
-use Rattle.sdd_script.specs.declared.fault.WorkRule.TheVariants.{WrongKind}
-use Rattle.sdd_script.specs.declared.found.Found.{Found}
-use Rattle.sdd_lang.proofs.base.ReadingLaws.{bind_ok, ok_is, Answers, along_ok, ok_along}
-use Rattle.sdd_script.proofs.StepLaws.{must_then, both_hold, three_same, some_of}
+use Rattle.sdd_script.proofs.All.{AllByRecursion, Answers, Bool, Catalogue, Comparison, Condition, Const, FitsCondition, Found, HoldsValue, Kind, List, None, Ok, Op, Option, Parts, Plain, Quoted, RelNo, Result, Same, Some, Word, WorkRule, WrongKind, [], along_ok, ap, bind_ok, both_hold, bytes_eq, bytes_eq-Decides, codes, column_of_use, column_word, comparison_of, cond, condition_of, condition_words, conditions_of, conditions_words, const_of, false, if◌then◌else◌, is_free, is_key, is_of_kind, kind_of_ref, looks_like_column, map, must, names_column, ok_along, ok_is, op_in, op_of, op_word, option_map, refl, same_of, subst, sym, true, value_of, value_word, ℕ, ◌&&◌, ◌++◌, ◌+◌, ◌>>=◌, ◌∙◌, ◌∷◌, ◌≡◌}
+use Rattle.sdd_words.specs.Forms.{comparisons, joined}
+use Rattle.sdd_script.proofs.StepLaws.{must_then, three_same, some_of}
 use Rattle.sdd_script.proofs.ValueLaws.{value_takes, value_again, same_kind, kind_same}
 use Rattle.sdd_script.proofs.WordCuts.{key_is_that, is_key_again}
 use Rattle.sdd_script.proofs.WordLooks.{value_free, value_names_no_column}
 use Rattle.sdd_script.proofs.UseLaws.{IsKnown}
 use Rattle.sdd_script.proofs.RefLaws.{parts_for, AreParts, IsRef, ref_takes, ref_again, column_word_is, IsNaming, naming}
+use Rattle.sdd_lang.specs.base.declared.restriction.Op.TheVariants as ops
 
 -- ---- the form
 
@@ -49,7 +28,8 @@ made_is x y e = cc
 pub list_is : {A : Type 0} (x y : List A) → some_of x ≡ some_of y → x ≡ y
 list_is x y e = cc
 
-five_same : (a b c d e f g h : Word) (xs ys : List Word) → a ≡ b → c ≡ d → e ≡ f → g ≡ h → xs ≡ ys → a ∷ c ∷ e ∷ g ∷ xs ≡ b ∷ d ∷ f ∷ h ∷ ys
+five_same : (a b c d e f g h : Word) (xs ys : List Word) → a ≡ b → c ≡ d → e ≡ f → g ≡ h → xs ≡ ys
+    → a ∷ c ∷ e ∷ g ∷ xs ≡ b ∷ d ∷ f ∷ h ∷ ys
 five_same a b c d e f g h xs ys p q r s t = cc
 
 op_choice : (bytes : List ℕ) (o op : Op) (rest : Option Op) (b : Bool) → bytes_eq bytes (op_word o) ≡ b

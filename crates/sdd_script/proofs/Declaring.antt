@@ -1,17 +1,5 @@
 -- The classes that lists declare, with one class more, or with one read or write more of the last one.
-use Rattle.std.proofs.Common.{◌≡◌, ℕ, ◌+◌, ◌<◌, List, [], ◌∷◌, ◌++◌, length, map, false, Option, Some, None, refl, sym, ap, subst, ◌∙◌, arith, append-nil, append_assoc}
-use Rattle.std.specs.Str.{bytes_eq}
-use Rattle.std.specs.List.{All, AllByRecursion}
-use Rattle.std.proofs.lemmas.List.{map-append}
-use Rattle.std.proofs.lemmas.List.Elements.{All-from_recursion, recursion_from_All}
-use Rattle.std.proofs.lemmas.Grind.{flat_map-append}
-use Rattle.sdd_lang.specs.All.{Catalogue, ClassPart, IsFrom1To, IsName, MAX_CLASSES, MAX_READS, ReadPart, TmNo, has_name, repeats}
-use Rattle.sdd_script.specs.ClassLists.{joined, part_names}
-use Rattle.sdd_script.specs.Naming.{class_names}
-use Rattle.sdd_script.specs.OpenLists.{class_so_far, classes_in, with_class, with_read, with_write, reads_in, writes_in}
-use Rattle.sdd_script.specs.Valid.{IsFragment, IsValidRead, IsValidClass, read_names}
-use Rattle.sdd_script.specs.declared.open_list.OpenClass.{OpenClass}
-use Rattle.sdd_script.specs.declared.open_list.OpenList.{OpenList}
+use Rattle.sdd_script.proofs.All.{All, All-from_recursion, AllByRecursion, Catalogue, ClassPart, IsFragment, IsFrom1To, IsName, IsValidClass, IsValidRead, List, MAX_CLASSES, MAX_READS, None, OpenClass, OpenList, Option, ReadPart, Some, TmNo, [], ap, append_assoc, arith, bytes_eq, class_names, class_so_far, classes_in, false, has_name, joined, length, map, map-append, part_names, read_names, reads_in, recursion_from_All, refl, repeats, subst, sym, with_class, with_read, with_write, writes_in, ℕ, ◌++◌, ◌+◌, ◌<◌, ◌∙◌, ◌∷◌, ◌≡◌}
 use Rattle.sdd_script.proofs.NamePlaces.{none_any, repeats_not}
 use Rattle.sdd_script.proofs.SoundStates.{Declares, all_more, one_longer}
 
@@ -126,10 +114,7 @@ pub read_declared : (cat : Catalogue) (front : List ClassPart) (l : OpenList) (n
 read_declared cat front l n r d valid other room = last_read cat front l.classes l.last n r d valid other room
 
 write_valid : (cat : Catalogue) (c : ClassPart) (f : List ℕ) → IsFragment cat f
-    → has_name c.writes f ≡ false → IsValidClass cat c → IsValidClass cat (record c {
-      writes =
-          c.writes ++ f ∷ [];
-    })
+    → has_name c.writes f ≡ false → IsValidClass cat c → IsValidClass cat (record c { writes = c.writes ++ f ∷ [] })
 write_valid cat c f valid other h = record {
   named = h.named;
   module_is_there = h.module_is_there;
@@ -155,6 +140,3 @@ pub write_declared : (cat : Catalogue) (front : List ClassPart) (l : OpenList) (
 write_declared cat front l n f d valid other = last_write cat front l.classes l.last n f d valid other
 
 -- ---- the list ends
-
-pub joined_more : (lists : List (List ClassPart)) (cs : List ClassPart) → joined (lists ++ cs ∷ []) ≡ joined lists ++ cs
-joined_more lists cs = flat_map-append (λ (l : List ClassPart). l) lists (cs ∷ []) ∙ ap (λ (l : List ClassPart). joined lists ++ l) (append-nil cs)

@@ -1,27 +1,6 @@
 -- Events: what is read is spelled and is there, and what is spelled and is there is read.
-use Rattle.std.proofs.Common.{◌≡◌, ◌≢◌, ℕ, ℤ, pos, negsuc, ◌^◌, ◌<◌, List, [], ◌∷◌, length, Bool, true, false, cond, ◌&&◌, ltb, Option, Some, None, Result, Ok, refl, ap, subst, ◌∙◌, arith}
-use Rattle.std.specs.Prelude.{nat_le, nat_lt, ◌==◌}
-use Rattle.std.specs.Option.{option_map}
-use Rattle.std.specs.Str.{IsUtf8}
-use Rattle.std.specs.Fmt.{decimal}
-use Rattle.std.proofs.lemmas.Bool.{eqb-true, ltb-true, lt-ltb}
-use Rattle.std.proofs.lemmas.Str.{IsUtf8-append, IsUtf8-from_ascii}
-use Rattle.std.proofs.lemmas.Str.Ascii.{IsAscii-cons, IsAscii-nil}
-use Rattle.sdd_lang.specs.All.{Catalogue, D, DmNo, Down, Event, IsFrom1To, MAX_PLACE, MAX_TICKS, Redeclare, Resend, Settle, Site, T, Tick, TmNo, U, Up, are_linked, must, tm_no, ◌>>=◌}
-use Rattle.sdd_words.specs.Keywords.{is_free}
-use Rattle.sdd_words.specs.Lines.{HasNoNewline}
-use Rattle.sdd_words.specs.Number.{number_of}
-use Rattle.sdd_words.specs.Words.{HasNoSpace, IsPlain}
-use Rattle.sdd_words.specs.declared.word.Word.{Word}
-use Rattle.sdd_words.specs.declared.word.Word.TheVariants.{Plain, Quoted}
-use Rattle.sdd_words.proofs.Numbers.{number_takes, number_again}
-use Rattle.sdd_script.specs.Occurrences.{from_one, numbered, site_in, site_of, module_of, tm_of, link_of, count_of, flight_place, resend_of, tick_of, settle_of, redeclare_of, data_module_of, dm_of, down_of, up_of}
-use Rattle.sdd_script.specs.Spelling.{site_word, count_word}
-use Rattle.sdd_script.specs.Valid.{IsSite, IsLink}
-use Rattle.sdd_script.specs.declared.fault.WorkRule.{WorkRule}
-use Rattle.sdd_script.specs.declared.fault.WorkRule.TheVariants.{BadEvent, BadLine, BadNumber}
-use Rattle.sdd_lang.proofs.base.ReadingLaws.{bind_ok, ok_is, known_ok}
-use Rattle.sdd_script.proofs.StepLaws.{must_then, both_hold, both_are, le_of, of_le, some_is}
+use Rattle.sdd_script.proofs.All.{BadEvent, BadLine, BadNumber, Bool, Catalogue, D, DmNo, Down, Event, HasNoNewline, HasNoSpace, IsAscii-cons, IsAscii-nil, IsFrom1To, IsLink, IsPlain, IsSite, IsUtf8, IsUtf8-append, IsUtf8-from_ascii, List, MAX_PLACE, MAX_TICKS, None, Ok, Option, Plain, Quoted, Redeclare, Resend, Result, Settle, Site, Some, T, Tick, TmNo, U, Up, Word, WorkRule, [], ap, are_linked, arith, bind_ok, both_are, both_hold, cond, count_of, count_word, data_module_of, decimal, dm_of, down_of, eqb-true, false, flight_place, from_one, is_free, known_ok, length, link_of, lt-ltb, ltb-true, module_of, must, nat_le, nat_lt, nat_lt as ltb, negsuc, number_again, number_of, number_takes, numbered, ok_is, option_map, pos, redeclare_of, refl, resend_of, settle_of, site_in, site_of, site_word, subst, tick_of, tm_no, tm_of, true, up_of, ℕ, ℤ, ◌&&◌, ◌<◌, ◌==◌, ◌>>=◌, ◌^◌, ◌∙◌, ◌∷◌, ◌≡◌, ◌≢◌}
+use Rattle.sdd_script.proofs.StepLaws.{must_then, le_of, of_le, some_is}
 use Rattle.sdd_script.proofs.WordLooks.{IsFine, count_fine, count_free}
 use Rattle.sdd_script.proofs.UseLaws.{IsKnown}
 
@@ -31,7 +10,8 @@ one_if : (most n k : ℕ) (b : Bool) → (nat_lt 0 n && nat_le n most) ≡ b →
 one_if most n k false t e = absurd cc
 one_if most n k true t e = let h = both_hold (nat_lt 0 n) (nat_le n most) t in (some_is n k e, (omega (arith, ltb-true 0 n h.0), le_of n most h.1))
 
-one_takes : (most : ℕ) (bytes : List ℕ) (n : ℕ) (o : Option ℤ) → number_of bytes ≡ o → from_one most o ≡ Some n → (bytes ≡ decimal n) × IsFrom1To most n
+one_takes : (most : ℕ) (bytes : List ℕ) (n : ℕ) (o : Option ℤ) → number_of bytes ≡ o → from_one most o ≡ Some n
+    → (bytes ≡ decimal n) × IsFrom1To most n
 one_takes most bytes n None p e = absurd cc
 one_takes most bytes n (Some (negsuc k)) p e = absurd cc
 one_takes most bytes n (Some (pos k)) p e =
@@ -71,7 +51,8 @@ empty_if : (ds : List ℕ) → (length ds == 0) ≡ true → ds ≡ []
 empty_if [] e = refl
 empty_if (c ∷ ds) e = let n : length (c ∷ ds) ≡ 0 = eqb-true (length (c ∷ ds)) 0 e in absurd (omega (arith, n))
 
-site_if : (cat : Catalogue) (c : ℕ) (ds : List ℕ) (site : Site) (u t d : Bool) → (c == 85 && (length ds == 0)) ≡ u → (c == 84) ≡ t → (c == 68) ≡ d
+site_if : (cat : Catalogue) (c : ℕ) (ds : List ℕ) (site : Site) (u t d : Bool) → (c == 85 && (length ds == 0)) ≡ u → (c == 84) ≡ t
+    → (c == 68) ≡ d
     → cond u (Some U) (cond t (option_map (λ n. T (tm_no n)) (numbered cat.tms ds))
     (cond d (option_map (λ n. D (dm_no n)) (numbered cat.dms ds)) None)) ≡ Some site
     → IsSiteWord cat (Plain (c ∷ ds)) site
@@ -80,27 +61,22 @@ site_if cat c ds site true t d p q r e =
     let a : c ≡ 85 = eqb-true c 85 h.0 in
     let b : ds ≡ [] = empty_if ds h.1 in
     subst (λ (s : Site). IsSiteWord cat (Plain (c ∷ ds)) s) (site_is U site e) (record {
-      spelled =
-          ap (λ (x : ℕ). Plain (x ∷ ds)) a ∙ ap (λ (l : List ℕ). Plain (85 ∷ l)) b;
+      spelled = ap (λ (x : ℕ). Plain (x ∷ ds)) a ∙ ap (λ (l : List ℕ). Plain (85 ∷ l)) b;
       there = tt;
     })
 site_if cat c ds site false true d p q r e =
     let m = mapped (λ n. T (tm_no n)) (numbered cat.tms ds) site e in
     let n = numbered_takes cat.tms ds m.0 m.1 in
     subst (λ (s : Site). IsSiteWord cat (Plain (c ∷ ds)) s) m.2 (record {
-      spelled =
-          ap (λ (x : ℕ). Plain (x ∷ ds)) (eqb-true c 84 q) ∙ ap (λ (l : List ℕ). Plain (84 ∷ l)) n.0;
-      there =
-          n.1;
+      spelled = ap (λ (x : ℕ). Plain (x ∷ ds)) (eqb-true c 84 q) ∙ ap (λ (l : List ℕ). Plain (84 ∷ l)) n.0;
+      there = n.1;
     })
 site_if cat c ds site false false true p q r e =
     let m = mapped (λ n. D (dm_no n)) (numbered cat.dms ds) site e in
     let n = numbered_takes cat.dms ds m.0 m.1 in
     subst (λ (s : Site). IsSiteWord cat (Plain (c ∷ ds)) s) m.2 (record {
-      spelled =
-          ap (λ (x : ℕ). Plain (x ∷ ds)) (eqb-true c 68 r) ∙ ap (λ (l : List ℕ). Plain (68 ∷ l)) n.0;
-      there =
-          n.1;
+      spelled = ap (λ (x : ℕ). Plain (x ∷ ds)) (eqb-true c 68 r) ∙ ap (λ (l : List ℕ). Plain (68 ∷ l)) n.0;
+      there = n.1;
     })
 site_if cat c ds site false false false p q r e = absurd cc
 
@@ -124,8 +100,7 @@ module_takes cat w tm (D dm) h e = absurd cc
 module_takes cat w tm (T t) h e = let same : t ≡ tm =
     ok_is t tm e in (
       h.spelled ∙ ap (λ (x : TmNo). site_word (T x)) same,
-      subst
-          (λ (x : TmNo). IsFrom1To cat.tms x.0) same h.there,
+      subst (λ (x : TmNo). IsFrom1To cat.tms x.0) same h.there,
     )
 
 pub tm_takes : (cat : Catalogue) (w : Word) (tm : TmNo) → tm_of cat w ≡ Ok tm → (w ≡ site_word (T tm)) × IsFrom1To cat.tms tm.0
@@ -143,8 +118,7 @@ data_module_takes cat w dm (T tm) h e = absurd cc
 data_module_takes cat w dm (D d) h e = let same : d ≡ dm =
     ok_is d dm e in (
       h.spelled ∙ ap (λ (x : DmNo). site_word (D x)) same,
-      subst
-          (λ (x : DmNo). IsFrom1To cat.dms x.0) same h.there,
+      subst (λ (x : DmNo). IsFrom1To cat.dms x.0) same h.there,
     )
 
 pub dm_takes : (cat : Catalogue) (w : Word) (dm : DmNo) → dm_of cat w ≡ Ok dm → (w ≡ site_word (D dm)) × IsFrom1To cat.dms dm.0
@@ -171,8 +145,7 @@ link_takes cat from to l e =
     let f = site_takes cat from a.0 a.1 in
     let t = site_takes cat to b.0 b.1 in
     subst (λ (x : Site × Site). IsLinkWords cat from to x) (ok_is (link a.0 b.0) l c.1) (record {
-      from_is =
-          f.spelled;
+      from_is = f.spelled;
       to_is = t.spelled;
       linked = (f.there, t.there, c.0);
     })
@@ -198,16 +171,16 @@ count_again most n small h = let e = numbered_again most n small h in rw e refl
 literal : (c : ℕ) → c < 128 → IsUtf8 (c ∷ [])
 literal c lt = IsUtf8-from_ascii (c ∷ []) (IsAscii-cons c [] lt IsAscii-nil)
 
-lettered : (c : ℕ) (bytes : List ℕ) → c < 128 → c ≢ 10 → c ≢ 32 → c ≢ 34 → HasNoSpace bytes → HasNoNewline bytes → IsUtf8 bytes → IsFine (Plain (c ∷ bytes))
+lettered : (c : ℕ) (bytes : List ℕ) → c < 128 → c ≢ 10 → c ≢ 32 → c ≢ 34 → HasNoSpace bytes → HasNoNewline bytes → IsUtf8 bytes
+    → IsFine (Plain (c ∷ bytes))
 lettered c bytes lt newline space quote s l u = record {
   word = (quote, space, s);
-  utf8 =
-      IsUtf8-append (c ∷ []) bytes (literal c lt) u;
+  utf8 = IsUtf8-append (c ∷ []) bytes (literal c lt) u;
   sound = refl;
   line = (newline, l);
 }
 
-plain_space : (bytes : List ℕ) → IsPlain bytes → HasNoSpace bytes
+pub plain_space : (bytes : List ℕ) → IsPlain bytes → HasNoSpace bytes
 plain_space [] h = absurd h
 plain_space (c ∷ bytes) h = (h.1, h.2)
 
@@ -295,10 +268,8 @@ resend_takes cat (from ∷ to ∷ []) e h =
       from = b.0.0;
       to = b.0.1;
       linked = l.linked;
-      spelled =
-          two_words from (site_word b.0.0) to (site_word b.0.1) l.from_is l.to_is;
-      is =
-          ok_is (Resend b.0.0 b.0.1) e b.2;
+      spelled = two_words from (site_word b.0.0) to (site_word b.0.1) l.from_is l.to_is;
+      is = ok_is (Resend b.0.0 b.0.1) e b.2;
     }
 resend_takes cat (a ∷ b ∷ c ∷ rest) e h = absurd cc
 
@@ -332,8 +303,7 @@ tick_takes cat (tm ∷ n ∷ []) e h =
       n = c.0;
       there = t.1;
       counted = m.1;
-      spelled =
-          two_words tm (site_word (T b.0)) n (count_word c.0) t.0 m.0;
+      spelled = two_words tm (site_word (T b.0)) n (count_word c.0) t.0 m.0;
       is = ok_is (Tick b.0 c.0) e c.2;
     }
 tick_takes cat (a ∷ b ∷ c ∷ rest) e h = absurd cc

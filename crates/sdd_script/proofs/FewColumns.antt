@@ -1,12 +1,5 @@
 -- Every relation has so few columns that each has a number.
-use Rattle.std.proofs.Common.{◌≡◌, ℕ, ◌-◌, ◌^◌, ◌<◌, [], map, length, Option, Some, None, get_or, refl, ap, ◌∙◌, subst, arith}
-use Rattle.std.specs.Prelude.{slice_get}
-use Rattle.std.specs.Option.{option_map_or}
-use Rattle.std.proofs.lemmas.List.{length-map, get_or-map}
-use Rattle.std.proofs.lemmas.Option.{slice_get_within, get_or_from_slice_get}
-use Rattle.sdd_lang.specs.All.{Catalogue, IsSound, Relation, RelationPart, column_part, no_relation, parts_of, relation_part}
-use Rattle.sdd_lang.proofs.catalog.RoundTrip.{have_numbers}
-use Rattle.sdd_script.specs.Naming.{columns_of, relation_if}
+use Rattle.sdd_script.proofs.All.{Catalogue, IsSound, None, Option, Relation, RelationPart, Some, [], ap, arith, column_part, columns_of, get_or, get_or-map, get_or_from_slice_get, have_numbers, length, length-map, map, no_relation, option_map_or, parts_of, refl, relation_if, relation_part, slice_get, slice_get_within, subst, ℕ, ◌-◌, ◌<◌, ◌^◌, ◌∙◌, ◌≡◌}
 
 few_of : (cat : Catalogue) → IsSound cat → (k : ℕ) (r : Relation) → slice_get cat.relations k ≡ Some r → length r.columns < 2 ^ 32 - 1
 few_of cat sound k r e =

@@ -1,33 +1,5 @@
 -- The words of the lines of a valid workload are words, texts, and hold no newline.
-use Rattle.std.proofs.Common.{◌≡◌, ◌≢◌, ℕ, ◌<◌, List, [], ◌∷◌, ◌++◌, length, map, Bool, true, false, ◌&&◌, eqb, refl, subst, arith}
-use Rattle.std.specs.Prelude.{codes, not, nat_lt, ◌==◌}
-use Rattle.std.specs.Str.{IsAscii}
-use Rattle.std.specs.List.{AllByRecursion, list_all}
-use Rattle.std.proofs.lemmas.Bool.{ltb-true, eq-eqb}
-use Rattle.std.proofs.lemmas.Str.{IsUtf8-from_ascii}
-use Rattle.std.proofs.lemmas.Str.Ascii.{IsAscii-cons, IsAscii-nil}
-use Rattle.std.proofs.lemmas.List.Elements.{recursion_from_All}
-use Rattle.sdd_lang.specs.All.{Catalogue, ClassPart, D, Deliver, Down, Event, FitsAssign, FitsCondition, FitsRef, FitsStatement, IsFrom1To, IsName, IsRelation, Lose, Op, ReadPart, Redeclare, RelNo, Repeat, Resend, Settle, Submit, T, Tick, Up, Value, dm_no, tm_no}
-use Rattle.sdd_lang.specs.base.declared.restriction.Op.TheVariants as ops
-use Rattle.sdd_lang.specs.declared.assign.Assign.{Assign}
-use Rattle.sdd_lang.specs.declared.assign.Assign.TheVariants.{To, Add}
-use Rattle.sdd_lang.specs.declared.condition.Ref.{Ref}
-use Rattle.sdd_lang.specs.declared.condition.Condition.{Condition}
-use Rattle.sdd_lang.specs.declared.condition.Condition.TheVariants.{Const, Same}
-use Rattle.sdd_lang.specs.declared.statement.Stmt.{Stmt}
-use Rattle.sdd_lang.specs.declared.statement.Stmt.TheVariants.{Put, Query, Update, Delete}
-use Rattle.sdd_lang.specs.declared.transaction.Txn.{Txn}
-use Rattle.sdd_words.specs.Keywords.{op_word}
-use Rattle.sdd_words.specs.Lines.{HasNoNewline}
-use Rattle.sdd_words.specs.Words.{HasNoSpace}
-use Rattle.sdd_words.specs.declared.word.Word.{Word}
-use Rattle.sdd_words.specs.declared.word.Word.TheVariants.{Plain}
-use Rattle.sdd_script.specs.Naming.{name_of_relation}
-use Rattle.sdd_script.specs.Spelling.{relation_word, column_word, own_column, start_words, header_words, class_words, reads_words, writes_words, conditions_words, where_words, sets_words, statement_words, event_words, name_of_txn}
-use Rattle.sdd_script.specs.Valid.{IsValue, HoldsValue, AssignsValue, HoldsValues, IsValidRow, IsValidTxn, IsFragment, IsValidRead, IsValidEvent}
-use Rattle.sdd_script.specs.declared.keyword.Keyword.{Keyword}
-use Rattle.sdd_script.specs.declared.keyword.Keyword.TheVariants as keys
-use Rattle.sdd_script.proofs.StepLaws.{both_hold}
+use Rattle.sdd_script.proofs.All.{Add, AllByRecursion, Assign, AssignsValue, Bool, Catalogue, ClassPart, Condition, Const, D, Delete, Deliver, Down, Event, FitsAssign, FitsCondition, FitsRef, FitsStatement, HasNoNewline, HasNoSpace, HoldsValue, HoldsValues, IsAscii, IsAscii-cons, IsAscii-nil, IsFragment, IsFrom1To, IsName, IsRelation, IsUtf8-from_ascii, IsValidEvent, IsValidRead, IsValidRow, IsValidTxn, IsValue, Keyword, List, Lose, Op, Plain, Put, Query, ReadPart, Redeclare, Ref, RelNo, Repeat, Resend, Same, Settle, Stmt, Submit, T, Tick, To, Txn, Up, Update, Value, Word, [], arith, both_hold, class_words, codes, column_word, conditions_words, dm_no, eq-eqb, eqb, event_words, false, header_words, length, list_all, ltb-true, map, name_of_relation, name_of_txn, nat_lt, not, op_word, own_column, reads_words, recursion_from_All, refl, relation_word, sets_words, start_words, statement_words, subst, tm_no, true, where_words, writes_words, ℕ, ◌&&◌, ◌++◌, ◌<◌, ◌==◌, ◌∷◌, ◌≡◌, ◌≢◌}
 use Rattle.sdd_script.proofs.WordLooks.{IsFine, name_fine, number_fine, value_fine}
 use Rattle.sdd_script.proofs.UseLaws.{IsKnown}
 use Rattle.sdd_script.proofs.RefLaws.{AreParts, column_word_is}
@@ -36,6 +8,8 @@ use Rattle.sdd_script.proofs.QueryLaws.{query_fits}
 use Rattle.sdd_script.proofs.UpdateLaws.{update_fits, one_part}
 use Rattle.sdd_script.proofs.EventLaws.{site_fine, place_fine}
 use Rattle.sdd_script.proofs.LineLaws.{keyword_bytes}
+use Rattle.sdd_lang.specs.base.declared.restriction.Op.TheVariants as ops
+use Rattle.sdd_script.specs.declared.keyword.Keyword.TheVariants as keys
 use Rattle.sdd_script.specs.declared.keyword.StatementKey.TheVariants as skeys
 use Rattle.sdd_script.specs.declared.keyword.ClassKey.TheVariants as class_keys
 use Rattle.sdd_script.specs.declared.keyword.EventKey.TheVariants as ekeys
@@ -72,7 +46,8 @@ simple_byte c e =
 
 simple_ascii : (cs : List ℕ) → list_all is_simple_byte cs ≡ true → IsAscii cs
 simple_ascii [] e = IsAscii-nil
-simple_ascii (c ∷ cs) e = let h = both_hold (is_simple_byte c) (list_all is_simple_byte cs) e in IsAscii-cons c cs (simple_byte c h.0).low (simple_ascii cs h.1)
+simple_ascii (c ∷ cs) e =
+    let h = both_hold (is_simple_byte c) (list_all is_simple_byte cs) e in IsAscii-cons c cs (simple_byte c h.0).low (simple_ascii cs h.1)
 
 simple_space : (cs : List ℕ) → list_all is_simple_byte cs ≡ true → HasNoSpace cs
 simple_space [] e = tt
@@ -168,8 +143,7 @@ where_fine : (cat : Catalogue) → IsKnown cat → (rels : List RelNo) → ArePa
 where_fine cat k rels p ds fits v = conditions_fine cat k rels p (codes "where") (simple_fine (codes "where") refl) ds fits v
 
 sets_fine : (cat : Catalogue) → IsKnown cat → (rel : RelNo) → AreParts cat (rel ∷ []) → (sets : List Assign)
-    → AllByRecursion (FitsAssign cat rel.0) sets → AllByRecursion AssignsValue sets
-    → AreFine (sets_words cat rel sets)
+    → AllByRecursion (FitsAssign cat rel.0) sets → AllByRecursion AssignsValue sets → AreFine (sets_words cat rel sets)
 sets_fine cat k rel p [] fits v = tt
 sets_fine cat k rel p (To column value ∷ sets) fits v = (
   (column_word_is cat k (rel ∷ []) (own_column column) p ((omega arith, omega arith), fits.0.0)).fine,
@@ -190,7 +164,8 @@ columns_fine : (cat : Catalogue) → IsKnown cat → (rels : List RelNo) → Are
 columns_fine cat k rels p [] h = tt
 columns_fine cat k rels p (r ∷ out) h = ((column_word_is cat k rels r p h.0).fine, columns_fine cat k rels p out h.1)
 
-pub row_of_statement : (cat : Catalogue) (rel : RelNo) (row : List Value) → FitsStatement cat (Put rel row) → HoldsValues (Put rel row) → FitsRowOf cat rel row
+pub row_of_statement : (cat : Catalogue) (rel : RelNo) (row : List Value) → FitsStatement cat (Put rel row) → HoldsValues (Put rel row)
+    → FitsRowOf cat rel row
 row_of_statement cat rel row h v = (h.0, h.1, recursion_from_All IsValue row v)
 
 pub statement_fine : (cat : Catalogue) → IsKnown cat → (s : Stmt) → FitsStatement cat s → HoldsValues s → AreFine (statement_words cat s)
@@ -223,8 +198,7 @@ statement_fine cat k (Update rel sets conds) h v =
 statement_fine cat k (Delete rel conds) h v = (
   keyword_fine (keys.Statement skeys.Delete),
   (
-    name_fine (name_of_relation cat rel.0)
-        (k.relation_name rel.0 h.0),
+    name_fine (name_of_relation cat rel.0) (k.relation_name rel.0 h.0),
     where_fine cat k (rel ∷ []) (one_part cat rel h.0) conds
         (recursion_from_All (FitsCondition cat (rel ∷ [])) conds h.1.1)
         (recursion_from_All HoldsValue conds v),
@@ -274,10 +248,7 @@ class_fine cat k c named there = (keyword_fine (keys.Class class_keys.Class), (n
 pub reads_fine : (cat : Catalogue) → IsKnown cat → (r : ReadPart) → IsValidRead cat r → AreFine (reads_words r)
 reads_fine cat k r h = (
   keyword_fine (keys.Class class_keys.Reads),
-  (
-    name_fine r.fragment h.fragment.0,
-    (site_fine cat k (D (dm_no r.at)) h.module_is_there, tt),
-  ),
+  (name_fine r.fragment h.fragment.0, (site_fine cat k (D (dm_no r.at)) h.module_is_there, tt)),
 )
 
 pub writes_fine : (cat : Catalogue) (f : List ℕ) → IsFragment cat f → AreFine (writes_words f)

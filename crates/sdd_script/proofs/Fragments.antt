@@ -1,17 +1,5 @@
 -- Fragments by their names: what is read is there, and what is there is read.
-use Rattle.std.proofs.Common.{◌≡◌, ℕ, List, Bool, true, false, cond, Option, Some, None, Result, Ok, refl, ap, subst, ◌∙◌}
-use Rattle.std.specs.Prelude.{is_some}
-use Rattle.std.specs.Option.{option_map_or}
-use Rattle.sdd_lang.specs.All.{Catalogue, has_copy, known, ◌>>=◌}
-use Rattle.sdd_words.specs.Names.{name_in}
-use Rattle.sdd_words.specs.declared.word.Word.{Word}
-use Rattle.sdd_words.specs.declared.word.Word.TheVariants.{Plain, Quoted}
-use Rattle.sdd_script.specs.ClassLists.{fragment_of}
-use Rattle.sdd_script.specs.Naming.{fragment_named}
-use Rattle.sdd_script.specs.Valid.{IsFragment, is_kept_at}
-use Rattle.sdd_script.specs.declared.fault.WorkRule.{WorkRule}
-use Rattle.sdd_script.specs.declared.fault.WorkRule.TheVariants.{UnknownName}
-use Rattle.sdd_lang.proofs.base.ReadingLaws.{ok_is}
+use Rattle.sdd_script.proofs.All.{Bool, Catalogue, IsFragment, List, None, Ok, Option, Plain, Quoted, Result, Some, UnknownName, Word, WorkRule, ap, cond, false, fragment_named, fragment_of, has_copy, is_kept_at, is_some, known, name_in, ok_is, option_map_or, refl, subst, true, ℕ, ◌>>=◌, ◌∙◌, ◌≡◌}
 use Rattle.sdd_script.proofs.StepLaws.{known_then}
 use Rattle.sdd_script.proofs.SoundStates.{named_takes}
 
@@ -61,5 +49,6 @@ fragment_again cat name h =
     }
 
 -- a copy of the fragment with the name is one of the fragment with its number
-pub kept_at : (cat : Catalogue) (dm : ℕ) (name : List ℕ) (frag : ℕ) → fragment_named cat name ≡ Some frag → is_kept_at cat dm name ≡ has_copy cat dm frag
+pub kept_at : (cat : Catalogue) (dm : ℕ) (name : List ℕ) (frag : ℕ) → fragment_named cat name ≡ Some frag
+    → is_kept_at cat dm name ≡ has_copy cat dm frag
 kept_at cat dm name frag e = ap (λ (o : Option ℕ). option_map_or (has_copy cat dm) o false) e

@@ -1,27 +1,12 @@
 -- In every catalogue each number is found by its name.
-use Rattle.std.proofs.Common.{◌≡◌, ℕ, zero, suc, ◌+◌, ◌-◌, ◌<◌, ◌≤◌, List, [], ◌∷◌, length, map, take, get_or, Bool, true, false, cond, not, ltb, Some, None, refl, sym, ap, subst, ◌∙◌, arith}
-use Rattle.std.specs.Prelude.{slice_get}
-use Rattle.std.specs.Option.{option_map_or}
-use Rattle.std.specs.Str.{bytes_eq}
-use Rattle.std.specs.List.{position, prefix_len}
-use Rattle.std.proofs.lemmas.List.{length-map, get_or-map}
-use Rattle.std.proofs.lemmas.List.Elements.{All-get_or}
-use Rattle.std.proofs.lemmas.Slice.Eq.{bytes_eq-Decides}
-use Rattle.sdd_lang.specs.All.{AreNamed, Catalogue, Column, ColumnPart, HasKey, IsColumn, IsName, IsNamed, IsRelation, IsSound, IsWhole, Parts, Relation, RelationPart, column_part, faults_of_relation, is_name, number_of, parts_of, relation_at, relation_names, relation_part, relation_rules, repeats}
-use Rattle.sdd_lang.specs.catalog.declared.parts.Kind.TheVariants.{Int}
-use Rattle.sdd_lang.proofs.catalog.Distinct.{number_of_place}
-use Rattle.sdd_lang.proofs.catalog.Found.{both_empty, empty_of_map, unfound_at, map-map}
-use Rattle.sdd_lang.proofs.catalog.FragmentOf.{found_one}
-use Rattle.sdd_lang.proofs.catalog.Validity.{no_faults, unbroken}
-use Rattle.sdd_script.specs.Laws.{ReadsAgain, ReadsSpelling}
-use Rattle.sdd_script.specs.Naming.{columns_of, name_of_relation, relation_named, column_named}
-use Rattle.sdd_script.specs.Spelling.{name_of_column}
+use Rattle.sdd_script.proofs.All.{All-get_or, AreNamed, Bool, Catalogue, Column, ColumnPart, HasKey, Int, IsColumn, IsName, IsNamed, IsRelation, IsSound, IsWhole, List, None, ReadsAgain, ReadsSpelling, Relation, RelationPart, Some, [], ap, arith, both_empty, bytes_eq, bytes_eq-Decides, column_named, column_part, columns_of, cond, empty_of_map, false, faults_of_relation, found_one, get_or, get_or-map, is_name, length, length-map, map, map-map, name_of_column, name_of_relation, nat_lt as ltb, no_faults, not, number_of_place, option_map_or, parts_of, position, prefix_len, refl, relation_at, relation_named, relation_names, relation_part, relation_rules, repeats, slice_get, subst, suc, sym, take, true, unbroken, unfound_at, zero, ℕ, ◌+◌, ◌-◌, ◌<◌, ◌∙◌, ◌∷◌, ◌≡◌, ◌≤◌}
 use Rattle.sdd_script.proofs.Marks.{position-map}
 use Rattle.sdd_script.proofs.UseLaws.{IsKnown}
 use Rattle.sdd_script.proofs.NamePlaces.{place_of_name}
-use Rattle.sdd_script.proofs.ReadingLaws as reading
 use Rattle.sdd_script.proofs.ValueLaws.{columns_are, name_is}
 use Rattle.sdd_script.proofs.WholeLaws.{read_again}
+use Rattle.sdd_lang.specs.All.{Parts, number_of}
+use Rattle.sdd_script.proofs.ReadingLaws as reading
 
 no_column : Column
 no_column = record { name = []; kind = Int }
@@ -44,7 +29,8 @@ named_number cat s rel h =
     number_of_place (parts_of cat) s.valid (name_of_relation cat rel) rel no_part h.0 to (name_is cat rel
     ∙ ap (λ (r : RelationPart). r.name) (sym (part_at cat rel h)))
 
-one_relation : (cat : Catalogue) → IsSound cat → (a b : ℕ) → IsRelation cat a → IsRelation cat b → name_of_relation cat a ≡ name_of_relation cat b → a ≡ b
+one_relation : (cat : Catalogue) → IsSound cat → (a b : ℕ) → IsRelation cat a → IsRelation cat b → name_of_relation cat a ≡ name_of_relation cat b
+    → a ≡ b
 one_relation cat s a b h k e = sym (named_number cat s a h)
     ∙ ap (λ (n : List ℕ). number_of n (relation_names (parts_of cat).relations)) e ∙ named_number cat s b k
 
@@ -56,7 +42,8 @@ relation_found cat s rel h =
 
 -- ---- columns
 
-columns_differ : (before : List RelationPart) (r : RelationPart) → relation_rules before r ≡ [] → repeats (map (λ (c : ColumnPart). c.name) r.columns) ≡ false
+columns_differ : (before : List RelationPart) (r : RelationPart) → relation_rules before r ≡ []
+    → repeats (map (λ (c : ColumnPart). c.name) r.columns) ≡ false
 columns_differ before r e = let a = both_empty _ _ e in let b = both_empty _ _ a.0 in unbroken _ _ b.1
 
 abbrev names_of : List Column → List (List ℕ)

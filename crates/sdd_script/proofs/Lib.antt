@@ -1,11 +1,12 @@
 pub mod AddedNames
+mod All
 pub mod AssignLaws
 pub mod ClassNames
 pub mod ConditionLaws
 pub mod Declaring
-pub mod Each
 pub mod EventLaws
 pub mod FewColumns
+pub mod FewRead
 pub mod FineLines
 pub mod Fragments
 pub mod KnownCatalogues
@@ -22,6 +23,7 @@ pub mod ReadingLaws
 pub mod RedeclareLaws
 pub mod RefLaws
 pub mod RowLaws
+pub mod Shortened
 pub mod SoFar
 pub mod SoundEvents
 pub mod SoundLists

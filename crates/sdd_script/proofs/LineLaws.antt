@@ -1,33 +1,12 @@
 -- A line and its words, and its first word.
-use Rattle.std.proofs.Common.{◌≡◌, ℕ, List, [], ◌∷◌, ◌++◌, Bool, true, false, cond, Option, Some, None, Ok, refl, ap, ◌∙◌, arith}
-use Rattle.std.specs.Prelude.{codes}
-use Rattle.std.specs.Str.{bytes_eq, IsUtf8, is_utf8}
-use Rattle.std.specs.List.{AllByRecursion, list_all}
-use Rattle.std.proofs.lemmas.Slice.Eq.{bytes_eq-Decides}
-use Rattle.std.proofs.lemmas.Str.{IsUtf8-append, IsUtf8-from_ascii, is_utf8-from_IsUtf8}
-use Rattle.std.proofs.lemmas.Str.Ascii.{IsAscii-cons, IsAscii-nil}
-use Rattle.sdd_lang.specs.All.{Catalogue, known, must, ◌>>=◌}
-use Rattle.sdd_words.specs.Lines.{HasNoNewline}
-use Rattle.sdd_words.specs.Scan.{words_of}
-use Rattle.sdd_words.specs.Texts.{is_sound}
-use Rattle.sdd_words.specs.Words.{word_bytes, more_bytes, line_bytes, AllWords}
-use Rattle.sdd_words.specs.declared.word.Word.{Word}
-use Rattle.sdd_words.specs.declared.word.Word.TheVariants.{Plain, Quoted}
-use Rattle.sdd_words.proofs.Splits.{scan_spelled, scan_again}
-use Rattle.sdd_script.specs.LineRules.{keyword_rules, words_rules, line_rules}
-use Rattle.sdd_script.specs.FirstWords.{statement_key_in, class_key_in, event_key_in, outer_keyword, inner_keyword, keyword_in, keyword_of}
-use Rattle.sdd_script.specs.declared.keyword.StatementKey.{StatementKey}
-use Rattle.sdd_script.specs.declared.keyword.StatementKey.TheVariants.{Put, Query, Update, Delete}
-use Rattle.sdd_script.specs.declared.keyword.EventKey.{EventKey}
-use Rattle.sdd_script.specs.declared.keyword.EventKey.TheVariants.{Submit, Deliver, Lose, Repeat, Resend, Tick, Settle, Redeclare, Down, Up}
-use Rattle.sdd_script.specs.declared.keyword.ClassKey.{ClassKey}
-use Rattle.sdd_script.specs.declared.keyword.ClassKey.TheVariants as class_keys
-use Rattle.sdd_script.specs.declared.fault.WorkRule.TheVariants.{NotUtf8, BadLine}
-use Rattle.sdd_script.specs.declared.keyword.Keyword.{Keyword}
-use Rattle.sdd_script.specs.declared.keyword.Keyword.TheVariants as keys
-use Rattle.sdd_script.specs.declared.state.State.{State}
-use Rattle.sdd_script.proofs.StepLaws.{must_then, known_then, both_are, some_is}
+use Rattle.sdd_script.proofs.All.{AllByRecursion, AllWords, BadLine, Bool, Catalogue, ClassKey, EventKey, HasNoNewline, IsAscii-cons, IsAscii-nil, IsUtf8, IsUtf8-append, IsUtf8-from_ascii, Keyword, List, None, NotUtf8, Ok, Option, Plain, Quoted, Some, State, StatementKey, Word, [], ap, arith, both_are, bytes_eq, bytes_eq-Decides, class_key_in, codes, cond, event_key_in, false, inner_keyword, is_sound, is_utf8, is_utf8-from_IsUtf8, keyword_in, keyword_of, keyword_rules, known, line_bytes, list_all, more_bytes, must, outer_keyword, refl, scan_again, scan_spelled, statement_key_in, true, word_bytes, words_of, words_rules, ℕ, ◌++◌, ◌>>=◌, ◌∙◌, ◌∷◌, ◌≡◌}
+use Rattle.sdd_script.specs.LineRules.{line_rules}
+use Rattle.sdd_script.proofs.StepLaws.{must_then, known_then, some_is}
 use Rattle.sdd_script.proofs.WordLooks.{IsFine, no_newline-append}
+use Rattle.sdd_script.specs.declared.keyword.StatementKey.TheVariants.{Put, Query, Update, Delete}
+use Rattle.sdd_script.specs.declared.keyword.EventKey.TheVariants.{Submit, Deliver, Lose, Repeat, Resend, Tick, Settle, Redeclare, Down, Up}
+use Rattle.sdd_script.specs.declared.keyword.ClassKey.TheVariants as class_keys
+use Rattle.sdd_script.specs.declared.keyword.Keyword.TheVariants as keys
 
 -- ---- words
 
@@ -58,7 +37,8 @@ all_sound (w ∷ ws) h = both_are (is_sound w) (list_all is_sound ws) h.0.sound 
 
 more_utf8 : (ws : List Word) → AllByRecursion IsFine ws → IsUtf8 (more_bytes ws)
 more_utf8 [] h = IsUtf8-from_ascii [] IsAscii-nil
-more_utf8 (w ∷ ws) h = IsUtf8-append (32 ∷ []) (word_bytes w ++ more_bytes ws) space (IsUtf8-append (word_bytes w) (more_bytes ws) h.0.utf8 (more_utf8 ws h.1))
+more_utf8 (w ∷ ws) h =
+    IsUtf8-append (32 ∷ []) (word_bytes w ++ more_bytes ws) space (IsUtf8-append (word_bytes w) (more_bytes ws) h.0.utf8 (more_utf8 ws h.1))
 
 more_line : (ws : List Word) → AllByRecursion IsFine ws → HasNoNewline (more_bytes ws)
 more_line [] h = tt
@@ -118,8 +98,7 @@ keyword_bytes (keys.Event key) = event_key_bytes key
 keyword_bytes keys.End = codes "end"
 
 choice : {K : Type 0} (f : K → List ℕ) (bytes : List ℕ) (o key : K) (rest : Option K) (b : Bool)
-    → bytes_eq bytes (f o) ≡ b → cond b (Some o) rest ≡ Some key → (rest ≡ Some key → bytes ≡ f key)
-    → bytes ≡ f key
+    → bytes_eq bytes (f o) ≡ b → cond b (Some o) rest ≡ Some key → (rest ≡ Some key → bytes ≡ f key) → bytes ≡ f key
 choice f bytes o key rest true e is later = (bytes_eq-Decides bytes (f o)).0 e ∙ ap f (some_is o key is)
 choice f bytes o key rest false e is later = later is
 
@@ -151,8 +130,7 @@ event_key_is bytes key e =
     choice event_key_bytes bytes Up key None (bytes_eq bytes (codes "up")) refl e (λ e. absurd cc))))))))))
 
 outer_is : (bytes : List ℕ) (key : Keyword) (o : Option ClassKey) (p : Option EventKey)
-    → class_key_in bytes ≡ o → event_key_in bytes ≡ p → outer_keyword o p ≡ Some key
-    → bytes ≡ keyword_bytes key
+    → class_key_in bytes ≡ o → event_key_in bytes ≡ p → outer_keyword o p ≡ Some key → bytes ≡ keyword_bytes key
 outer_is bytes key (Some k) p a b e = class_key_is bytes k a ∙ ap keyword_bytes (some_is (keys.Class k) key e)
 outer_is bytes key None (Some v) a b e = event_key_is bytes v b ∙ ap keyword_bytes (some_is (keys.Event v) key e)
 outer_is bytes key None None a b e = absurd cc

@@ -1,33 +1,5 @@
 -- The spelling of lists of classes that the catalogue allows is read as these lists.
-use Rattle.std.proofs.Common.{◌≡◌, ℕ, ◌+◌, ◌<◌, ◌≤◌, List, [], ◌∷◌, ◌++◌, length, map, flat_map, Bool, true, false, cond, ◌&&◌, ltb, Option, Some, None, Result, Ok, refl, sym, ap, subst, ◌∙◌, arith, append-nil, append_assoc}
-use Rattle.std.specs.Prelude.{not, nat_lt}
-use Rattle.std.specs.Str.{bytes_eq}
-use Rattle.std.specs.List.{AllByRecursion}
-use Rattle.std.proofs.lemmas.Bool.{lt-ltb}
-use Rattle.std.proofs.lemmas.List.{map-append, length-append}
-use Rattle.std.proofs.lemmas.List.Elements.{recursion_from_All}
-use Rattle.sdd_lang.specs.All.{Catalogue, ClassPart, D, DmNo, MAX_CLASSES, MAX_READS, ReadPart, T, TmNo, dm_no, has_copy, has_name, known, must, repeats, tm_no, ◌>>=◌}
-use Rattle.sdd_words.specs.Keywords.{is_free}
-use Rattle.sdd_words.specs.Words.{line_bytes}
-use Rattle.sdd_words.specs.declared.word.Word.TheVariants.{Plain}
-use Rattle.sdd_script.specs.ClassLists.{joined, part_names, one_more_class, fragment_of, with_class_of, with_read_of, with_write_of}
-use Rattle.sdd_script.specs.Naming.{name_of, class_names}
-use Rattle.sdd_script.specs.Occurrences.{dm_of, tm_of}
-use Rattle.sdd_script.specs.OpenLists.{classes_in, no_classes}
-use Rattle.sdd_script.specs.Places.{takes_lists, is_ended}
-use Rattle.sdd_script.specs.Spelling.{list_words, class_words, reads_words, writes_words, class_lines, list_lines, done_words, site_word}
-use Rattle.sdd_script.specs.Valid.{IsFragment, IsValidRead, IsValidClass, AreValidLists, read_names}
-use Rattle.sdd_script.specs.declared.fault.Counts.TheVariants as counts
-use Rattle.sdd_script.specs.declared.fault.WorkRule.{WorkRule}
-use Rattle.sdd_script.specs.declared.fault.WorkRule.TheVariants.{BadClass, BadLine, UnknownName, TooMany}
-use Rattle.sdd_script.specs.declared.keyword.ClassKey.TheVariants as class_keys
-use Rattle.sdd_script.specs.declared.keyword.Keyword.TheVariants as keys
-use Rattle.sdd_script.specs.declared.limits.TheConstants.{MAX_LISTS}
-use Rattle.sdd_script.specs.declared.open_list.OpenList.{OpenList}
-use Rattle.sdd_script.specs.declared.place.Place.{Place}
-use Rattle.sdd_script.specs.declared.place.Place.TheVariants as places
-use Rattle.sdd_script.specs.declared.state.State.{State}
-use Rattle.sdd_script.proofs.StepLaws.{both_are}
+use Rattle.sdd_script.proofs.All.{AllByRecursion, AreValidLists, BadClass, BadLine, Bool, Catalogue, ClassPart, D, DmNo, IsFragment, IsValidClass, IsValidRead, List, MAX_CLASSES, MAX_LISTS, MAX_READS, None, Ok, OpenList, Option, Place, Plain, ReadPart, Result, Some, State, T, TmNo, TooMany, UnknownName, WorkRule, [], all_front, ap, append-nil, append_assoc, arith, both_are, bytes_eq, class_lines, class_names, class_words, classes_in, cond, dm_no, dm_of, done_words, false, flat_map, fragment_of, has_copy, has_name, is_ended, is_free, joined, known, length, length-append, line_bytes, list_lines, list_words, lt-ltb, map, map-append, must, name_of, nat_lt, nat_lt as ltb, no_classes, not, one_more_class, part_names, read_names, reads_words, recursion_from_All, refl, repeats, site_word, subst, sym, takes_lists, tm_no, tm_of, true, with_class_of, with_read_of, with_write_of, writes_words, ℕ, ◌&&◌, ◌++◌, ◌+◌, ◌<◌, ◌>>=◌, ◌∙◌, ◌∷◌, ◌≡◌, ◌≤◌}
 use Rattle.sdd_script.proofs.WordLooks.{name_free}
 use Rattle.sdd_script.proofs.UseLaws.{IsKnown}
 use Rattle.sdd_script.proofs.EventLaws.{dm_again, tm_again, site_free}
@@ -35,6 +7,10 @@ use Rattle.sdd_script.proofs.FineLines.{keyword_fine, class_fine, reads_fine, wr
 use Rattle.sdd_script.proofs.Fragments.{fragment_again, kept_at}
 use Rattle.sdd_script.proofs.NamePlaces.{any_none, apart_before}
 use Rattle.sdd_script.proofs.SpellingLaws.{IsStep, Chain, chain-append, line_step}
+use Rattle.sdd_script.specs.declared.fault.Counts.TheVariants as counts
+use Rattle.sdd_script.specs.declared.keyword.ClassKey.TheVariants as class_keys
+use Rattle.sdd_script.specs.declared.keyword.Keyword.TheVariants as keys
+use Rattle.sdd_script.specs.declared.place.Place.TheVariants as places
 
 -- a state, with its place, its lists and its count of classes
 abbrev pub at : State → Place → List (List ClassPart) → ℕ → State
@@ -110,8 +86,7 @@ reads_chain cat k st done n cs c (r ∷ rs) reads h once few =
 
 writes_step : (cat : Catalogue) (st : State) (done : List (List ClassPart)) (n : ℕ) (cs : List ClassPart)
     (c : ClassPart) (reads : List ReadPart) (writes : List (List ℕ)) (w : List ℕ) → IsFragment cat w
-    → has_name writes w ≡ false
-    → IsStep cat (at st (places.Listing (behind cs c reads writes)) done n)
+    → has_name writes w ≡ false → IsStep cat (at st (places.Listing (behind cs c reads writes)) done n)
     (at st (places.Listing (behind cs c reads (writes ++ w ∷ []))) done n) (line_bytes (writes_words w))
 writes_step cat st done n cs c reads writes w h other =
     let from : State = at st (places.Listing (behind cs c reads writes)) done n in
@@ -130,8 +105,7 @@ writes_same st done n cs c reads writes ws e = ap (λ (l : List (List ℕ)). at 
 
 writes_chain : (cat : Catalogue) (st : State) (done : List (List ClassPart)) (n : ℕ) (cs : List ClassPart)
     (c : ClassPart) (reads : List ReadPart) (ws writes : List (List ℕ)) → AllByRecursion (IsFragment cat) ws
-    → repeats (writes ++ ws) ≡ false
-    → Chain cat (at st (places.Listing (behind cs c reads writes)) done n)
+    → repeats (writes ++ ws) ≡ false → Chain cat (at st (places.Listing (behind cs c reads writes)) done n)
     (map line_bytes (map writes_words ws)) (at st (places.Listing (behind cs c reads (writes ++ ws))) done
     n)
 writes_chain cat st done n cs c reads [] writes h once = writes_same st done n cs c reads writes (writes ++ []) (sym (append-nil writes))
@@ -148,8 +122,7 @@ writes_chain cat st done n cs c reads (w ∷ ws) writes h once =
 
 class_step : (cat : Catalogue) → IsKnown cat → (st : State) (done : List (List ClassPart)) (n : ℕ)
     (l : OpenList) (c : ClassPart) → IsValidClass cat c
-    → has_name (class_names cat ++ part_names (joined done ++ classes_in l)) c.name ≡ false
-    → n < MAX_CLASSES
+    → has_name (class_names cat ++ part_names (joined done ++ classes_in l)) c.name ≡ false → n < MAX_CLASSES
     → IsStep cat (at st (places.Listing l) done n) (at st (places.Listing (behind (classes_in l) c [] [])) done (n + 1)) (line_bytes (class_words c))
 class_step cat k st done n l c h other room =
     let from : State = at st (places.Listing l) done n in
@@ -171,8 +144,7 @@ class_step cat k st done n l c h other room =
 
 class_chain : (cat : Catalogue) → IsKnown cat → (st : State) (done : List (List ClassPart)) (n : ℕ)
     (l : OpenList) (c : ClassPart) → IsValidClass cat c
-    → has_name (class_names cat ++ part_names (joined done ++ classes_in l)) c.name ≡ false
-    → n < MAX_CLASSES
+    → has_name (class_names cat ++ part_names (joined done ++ classes_in l)) c.name ≡ false → n < MAX_CLASSES
     → Chain cat (at st (places.Listing l) done n) (map line_bytes (class_lines c))
     (at st (places.Listing (behind (classes_in l) c c.reads c.writes)) done (n + 1))
 class_chain cat k st done n l c h other room =
@@ -226,8 +198,7 @@ classes_chain cat k st done rest [] n l h once few =
     record {
       last = l;
       whole = sym (append-nil (classes_in l));
-      chain =
-          count_same st (places.Listing l) done n (n + 0) (omega arith);
+      chain = count_same st (places.Listing l) done n (n + 0) (omega arith);
     }
 classes_chain cat k st done rest (c ∷ cs) n l h once few =
     let front : List ClassPart = joined done ++ classes_in l in
@@ -285,8 +256,7 @@ listed_step cat st l done n = line_step cat (at st (places.Listing l) done n)
 
 list_chain : (cat : Catalogue) → IsKnown cat → (st : State) (p : Place) (done : List (List ClassPart))
     (rest cs : List ClassPart) (n : ℕ) → takes_lists p ≡ true → length done < MAX_LISTS
-    → AllByRecursion (IsValidClass cat) cs → Differ cat (joined done ++ (cs ++ rest))
-    → n + length cs ≤ MAX_CLASSES
+    → AllByRecursion (IsValidClass cat) cs → Differ cat (joined done ++ (cs ++ rest)) → n + length cs ≤ MAX_CLASSES
     → Chain cat (at st p done n) (map line_bytes (list_lines cs)) (at st places.Declared (done ++ cs ∷ []) (n + length cs))
 list_chain cat k st p done rest cs n t room h once few =
     let begun : State = at st (places.Listing no_classes) done n in
@@ -313,13 +283,9 @@ pub record AreListed (cat : Catalogue) (st : State) (from : State) (lines : List
   pub goes_on : takes_lists place ≡ true
   pub chain : Chain cat from lines (at st place lists classes)
 
-joined_on : (done : List (List ClassPart)) (cs : List ClassPart) → joined (done ++ cs ∷ []) ≡ joined done ++ cs
+pub joined_on : (done : List (List ClassPart)) (cs : List ClassPart) → joined (done ++ cs ∷ []) ≡ joined done ++ cs
 joined_on [] cs = append-nil cs
 joined_on (d ∷ done) cs = ap (λ (l : List ClassPart). d ++ l) (joined_on done cs) ∙ sym (append_assoc d (joined done) cs)
-
-all_front : {A : Type 0} (P : A → Type 0) (xs ys : List A) → AllByRecursion P (xs ++ ys) → AllByRecursion P xs × AllByRecursion P ys
-all_front P [] ys h = (tt, h)
-all_front P (x ∷ xs) ys h = let r = all_front P xs ys h.1 in ((h.0, r.0), r.1)
 
 lists_chain : (cat : Catalogue) → IsKnown cat → (st : State) (ls : List (List ClassPart)) (p : Place)
     (done : List (List ClassPart)) (n : ℕ) → takes_lists p ≡ true → AllByRecursion (IsValidClass cat)
@@ -330,8 +296,7 @@ lists_chain cat k st [] p done n t h once few room = record {
   place = p;
   classes = n;
   goes_on = t;
-  chain =
-      ap (λ (l : List (List ClassPart)). at st p l n) (sym (append-nil done));
+  chain = ap (λ (l : List (List ClassPart)). at st p l n) (sym (append-nil done));
 }
 lists_chain cat k st (cs ∷ ls) p done n t h once few room =
     let valid = all_front (IsValidClass cat) cs (joined ls) h in
@@ -360,7 +325,8 @@ lists_chain cat k st (cs ∷ ls) p done n t h once few room =
     }
 
 -- lists that the catalogue allows are read again
-pub lists_read : (cat : Catalogue) → IsKnown cat → (st : State) (lists : List (List ClassPart)) → takes_lists st.place ≡ true → AreValidLists cat lists
+pub lists_read : (cat : Catalogue) → IsKnown cat → (st : State) (lists : List (List ClassPart)) → takes_lists st.place ≡ true
+    → AreValidLists cat lists
     → AreListed cat st (at st st.place [] (length cat.classes)) (map line_bytes (flat_map list_lines lists)) lists
 lists_read cat k st lists t v = lists_chain cat k st lists st.place [] (length cat.classes) t
     (recursion_from_All (IsValidClass cat) (joined lists) v.classes) v.names (omega (arith, v.few_lists))

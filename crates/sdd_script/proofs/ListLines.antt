@@ -1,21 +1,7 @@
 -- How the lines of a list of classes add themselves to the lines before.
-use Rattle.std.proofs.Common.{◌≡◌, ℕ, List, [], ◌∷◌, ◌++◌, map, flat_map, length, true, Option, Some, None, refl, sym, ap, ◌∙◌, append_assoc, append-nil, arith}
-use Rattle.std.specs.Prelude.{◌==◌}
-use Rattle.std.proofs.lemmas.Bool.{eqb-true}
-use Rattle.std.proofs.lemmas.List.{map-append}
-use Rattle.std.proofs.lemmas.Grind.{flat_map-append}
-use Rattle.sdd_lang.specs.All.{Catalogue, ClassPart, Event, ReadPart, RelNo, TmNo, Value}
-use Rattle.sdd_lang.specs.declared.statement.Stmt.{Stmt}
-use Rattle.sdd_lang.specs.declared.transaction.Txn.{Txn}
-use Rattle.sdd_words.specs.declared.word.Word.{Word}
-use Rattle.sdd_script.specs.OpenLists.{class_so_far, classes_in, no_classes, with_class, with_read, with_write, takes_reads, takes_writes}
-use Rattle.sdd_script.specs.Places.{takes_lists}
-use Rattle.sdd_script.specs.Spelling.{start_words, txn_lines, list_words, class_words, reads_words, writes_words, class_lines, list_lines, done_words}
-use Rattle.sdd_script.specs.declared.open_list.OpenClass.{OpenClass}
-use Rattle.sdd_script.specs.declared.open_list.OpenList.{OpenList}
-use Rattle.sdd_script.specs.declared.place.Place.{Place}
-use Rattle.sdd_script.specs.declared.place.Place.TheVariants as places
+use Rattle.sdd_script.proofs.All.{Catalogue, ClassPart, Event, List, None, OpenClass, OpenList, Option, Place, ReadPart, RelNo, Some, Stmt, TmNo, Txn, Value, Word, [], ap, append-nil, append_assoc, arith, class_lines, class_so_far, class_words, classes_in, done_words, eqb-true, flat_map, flat_map-append, length, list_lines, list_words, map, map-append, no_classes, reads_words, refl, start_words, sym, takes_lists, takes_reads_in as takes_reads, takes_writes_in as takes_writes, true, txn_lines, with_class, with_read, with_write, writes_words, ℕ, ◌++◌, ◌==◌, ◌∙◌, ◌∷◌, ◌≡◌}
 use Rattle.sdd_script.proofs.SoFar.{lines_at, InOrder, opens, stays_open, closes}
+use Rattle.sdd_script.specs.declared.place.Place.TheVariants as places
 
 -- ---- a list begins
 
@@ -62,8 +48,7 @@ pub class_more : (l : OpenList) (name : List ℕ) (tm : TmNo) → AddsLine l (wi
 class_more l name tm = flat_map-append class_lines (classes_in l) (class_so_far (record { name = name; tm = tm; reads = []; writes = [] }) ∷ [])
 
 -- the last class has one line more
-last_more : (cs : List ClassPart) (c new : ClassPart) (w : List Word)
-    → class_lines new ≡ class_lines c ++ w ∷ []
+last_more : (cs : List ClassPart) (c new : ClassPart) (w : List Word) → class_lines new ≡ class_lines c ++ w ∷ []
     → flat_map class_lines (cs ++ new ∷ []) ≡ flat_map class_lines (cs ++ c ∷ []) ++ w ∷ []
 last_more cs c new w e =
     flat_map-append class_lines cs (new ∷ [])
@@ -88,8 +73,7 @@ read_lines h reads r writes none =
 last_read : (cs : List ClassPart) (last : Option OpenClass) (r : ReadPart)
     → takes_reads (record { classes = cs; last = last }) ≡ true → AddsLine (record {
       classes = cs;
-      last =
-          last;
+      last = last;
     }) (with_read (record { classes = cs; last = last }) r) (reads_words r)
 last_read cs None r t = absurd cc
 last_read cs (Some c) r t = last_more cs (class_so_far c)
@@ -109,8 +93,7 @@ write_lines h rs writes f = ap (λ (l : List (List Word)). h ∷ (rs ++ l)) (map
 last_write : (cs : List ClassPart) (last : Option OpenClass) (f : List ℕ)
     → takes_writes (record { classes = cs; last = last }) ≡ true → AddsLine (record {
       classes = cs;
-      last =
-          last;
+      last = last;
     }) (with_write (record { classes = cs; last = last }) f) (writes_words f)
 last_write cs None f t = absurd cc
 last_write cs (Some c) f t = last_more cs (class_so_far c)
@@ -124,8 +107,7 @@ write_more l f t = last_write l.classes l.last f t
 
 pub listed_more : (cat : Catalogue) (rows : List (RelNo × List Value)) (txns : List Txn)
     (lists : List (List ClassPart)) (l : OpenList) (statements : List Stmt) (events : List Event)
-    → events ≡ []
-    → lines_at cat rows txns (lists ++ classes_in l ∷ []) places.Declared statements events ≡ lines_at cat
+    → events ≡ [] → lines_at cat rows txns (lists ++ classes_in l ∷ []) places.Declared statements events ≡ lines_at cat
     rows txns lists (places.Listing l) statements events ++ done_words ∷ []
 listed_more cat rows txns lists l statements events q =
     let front : List (List Word) = map (start_words cat) rows ++ flat_map (txn_lines cat) txns in

@@ -1,14 +1,5 @@
 -- Conditions and assignments that were written, one more.
-use Rattle.std.proofs.Common.{◌≡◌, ℕ, ◌+◌, ◌<◌, ◌≤◌, List, ◌∷◌, ◌++◌, length, get_or, drop, refl, sym, ap, ◌∙◌, append_assoc, append-nil, drop-cons, add-one}
-use Rattle.std.specs.Prelude.{codes}
-use Rattle.std.proofs.lemmas.List.{drop_all}
-use Rattle.sdd_lang.specs.All.{Catalogue, RelNo}
-use Rattle.sdd_lang.specs.declared.assign.Assign.{Assign}
-use Rattle.sdd_lang.specs.declared.condition.Condition.{Condition}
-use Rattle.sdd_words.specs.Words.{more_bytes, spaced}
-use Rattle.sdd_words.specs.declared.word.Word.TheVariants.{Plain}
-use Rattle.sdd_words.proofs.Written.{item_written, items_written, more_bytes-append}
-use Rattle.sdd_script.specs.Spelling.{condition_words, conditions_words, assign_words, sets_words}
+use Rattle.sdd_script.proofs.All.{Assign, Catalogue, Condition, List, Plain, RelNo, add-one, ap, append-nil, append_assoc, assign_words, codes, condition_words, conditions_words, drop, drop-cons, drop_all, get_or, item_written, items_written, length, more_bytes, more_bytes-append, refl, sets_words, spaced, sym, ℕ, ◌++◌, ◌+◌, ◌<◌, ◌∙◌, ◌∷◌, ◌≡◌, ◌≤◌}
 
 pub condition_more : (key : List ℕ) (cat : Catalogue) (rels : List RelNo) (conds : List Condition)
     (c : Condition) (out total : List ℕ) (i : ℕ) → i < length conds → c ≡ get_or conds i c
@@ -18,7 +9,8 @@ pub condition_more : (key : List ℕ) (cat : Catalogue) (rels : List RelNo) (con
 condition_more key cat rels conds c out total i lt is e =
     let d : drop i conds ≡ c ∷ drop (i + 1) conds = rw (drop-cons conds i c, ← is, add-one) refl in
     let rest : List ℕ = more_bytes (conditions_words (codes "and") cat rels (drop (i + 1) conds)) in
-    let one : more_bytes (conditions_words key cat rels (c ∷ drop (i + 1) conds)) ≡ spaced (Plain key) ++ (more_bytes (condition_words cat rels c) ++ rest) =
+    let one : more_bytes (conditions_words key cat rels (c ∷ drop (i + 1) conds)) ≡ spaced (Plain key) ++
+    (more_bytes (condition_words cat rels c) ++ rest) =
     ap (λ (l : List ℕ). spaced (Plain key) ++ l) (more_bytes-append (condition_words cat rels c)
     (conditions_words (codes "and") cat rels (drop (i + 1) conds))) in
     append_assoc out (spaced (Plain key) ++ more_bytes (condition_words cat rels c)) rest
@@ -33,7 +25,8 @@ conditions_written key cat rels conds out total i past e =
     sym (append-nil out) ∙ ap (λ l. out ++ more_bytes (conditions_words key cat rels l))
     (sym (drop_all i conds past)) ∙ e
 
-pub assign_more : (cat : Catalogue) (rel : RelNo) (sets : List Assign) (a : Assign) (out total : List ℕ) (i : ℕ) → i < length sets → a ≡ get_or sets i a
+pub assign_more : (cat : Catalogue) (rel : RelNo) (sets : List Assign) (a : Assign) (out total : List ℕ) (i : ℕ) → i < length sets
+    → a ≡ get_or sets i a
     → out ++ more_bytes (sets_words cat rel (drop i sets)) ≡ total
     → (out ++ more_bytes (assign_words cat rel a)) ++ more_bytes
     (sets_words cat rel (drop (i + 1) sets)) ≡ total
@@ -48,6 +41,7 @@ assign_more cat rel sets a out total i lt is e =
 
 pub assigns_written : (cat : Catalogue) (rel : RelNo) (sets : List Assign) (out total : List ℕ) (i : ℕ) → length sets ≤ i
     → out ++ more_bytes (sets_words cat rel (drop i sets)) ≡ total → out ≡ total
-assigns_written cat rel sets out total i past e = sym (append-nil out) ∙ ap (λ l. out ++ more_bytes (sets_words cat rel l)) (sym (drop_all i sets past)) ∙ e
+assigns_written cat rel sets out total i past e =
+    sym (append-nil out) ∙ ap (λ l. out ++ more_bytes (sets_words cat rel l)) (sym (drop_all i sets past)) ∙ e
 
 pub ruleset written = (item_written, items_written)

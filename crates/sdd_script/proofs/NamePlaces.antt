@@ -1,20 +1,8 @@
 -- Lists in which no item stands twice: names, and numbers.
-use Rattle.std.proofs.Common.{◌≡◌, ◌≢◌, ℕ, zero, suc, ◌+◌, ◌-◌, ◌<◌, ◌≤◌, List, [], ◌∷◌, ◌++◌, length, get_or, Bool, true, false, cond, not, eqb, ltb, Some, None, refl, sym, ap, subst, ◌∙◌, arith, inl, inr}
-use Rattle.std.specs.Prelude.{◌||◌, is_some, slice_index_or, ◌==◌}
-use Rattle.std.specs.Str.{bytes_eq}
-use Rattle.std.specs.List.{position, position_or_len, list_any}
-use Rattle.std.proofs.lemmas.Bool.{ne_eqb, eq-eqb, ltb-false, cases_lt}
-use Rattle.std.proofs.lemmas.List.{length-append, get_or_append_left, get_or-append_right}
-use Rattle.std.proofs.lemmas.Slice.Eq.{bytes_eq-Decides}
-use Rattle.sdd_lang.specs.All.{has_name, repeats}
-use Rattle.sdd_script.specs.Valid.{AreDistinct}
+use Rattle.sdd_script.proofs.All.{AreDistinct, Bool, List, None, Some, [], ap, arith, bytes_eq, bytes_eq-Decides, cases_lt, cond, eq-eqb, eqb, false, get_or, get_or as slice_index_or, get_or-append_right, get_or_append_left, has_name, inl, inr, is_some, length, length-append, list_any, ltb-false, nat_lt as ltb, ne_eqb, not, or_false, position, position_or_len, refl, repeats, subst, suc, sym, true, zero, ℕ, ◌++◌, ◌+◌, ◌-◌, ◌<◌, ◌==◌, ◌∙◌, ◌∷◌, ◌≡◌, ◌≢◌, ◌≤◌}
 use Rattle.sdd_script.proofs.WordCuts.{NonePasses, position_again, no_position}
 
-pub or_false : (a b : Bool) → (a || b) ≡ false → (a ≡ false) × (b ≡ false)
-or_false true b e = absurd cc
-or_false false b e = (refl, e)
-
-if_false : (a b : Bool) → cond a true b ≡ false → (a ≡ false) × (b ≡ false)
+pub if_false : (a b : Bool) → cond a true b ≡ false → (a ≡ false) × (b ≡ false)
 if_false true b e = absurd cc
 if_false false b e = (refl, e)
 
@@ -55,11 +43,6 @@ bytes_differ a b false p e = p
 pub differ_again : (a b : List ℕ) → bytes_eq a b ≡ false → bytes_eq b a ≡ false
 differ_again a b e = bytes_differ a b (bytes_eq b a) refl e
 
-apart_at : (name : List ℕ) (ns : List (List ℕ)) (i : ℕ) → NonePasses (bytes_eq name) ns → i < length ns → bytes_eq name (get_or ns i []) ≡ false
-apart_at name [] i h lt = absurd (omega arith)
-apart_at name (n ∷ ns) zero h lt = h.0
-apart_at name (n ∷ ns) (suc i) h lt = apart_at name ns i h.1 (omega arith)
-
 none_more : {A : Type 0} (p : A → Bool) (xs : List A) (x : A) → NonePasses p xs → p x ≡ false → NonePasses p (xs ++ x ∷ [])
 none_more p [] x h e = (e, tt)
 none_more p (y ∷ xs) x h e = (h.0, none_more p xs x h.1 e)
@@ -85,7 +68,8 @@ repeats_not (n ∷ ns) name e h =
     let b = repeats_not ns name r.1 h.1 in
     rw (a, b) refl
 
-pub apart_before : (ns : List (List ℕ)) (name : List ℕ) (rest : List (List ℕ)) → repeats (ns ++ name ∷ rest) ≡ false → NonePasses (bytes_eq name) ns
+pub apart_before : (ns : List (List ℕ)) (name : List ℕ) (rest : List (List ℕ)) → repeats (ns ++ name ∷ rest) ≡ false
+    → NonePasses (bytes_eq name) ns
 apart_before [] name rest e = tt
 apart_before (n ∷ ns) name rest e =
     let r = if_false (has_name (ns ++ name ∷ rest) n) (repeats (ns ++ name ∷ rest)) e in

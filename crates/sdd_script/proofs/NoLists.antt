@@ -1,13 +1,5 @@
 -- A workload without lists of classes has no `redeclare` among its events.
-use Rattle.std.proofs.Common.{◌≡◌, ℕ, zero, suc, List, [], ◌∷◌, length, Bool, true, false, not, Some, refl, ap, subst, arith}
-use Rattle.std.specs.Prelude.{slice_get, ◌==◌}
-use Rattle.std.specs.List.{All, AllByRecursion}
-use Rattle.std.proofs.lemmas.Bool.{eqb-true}
-use Rattle.std.proofs.lemmas.List.Elements.{All-from_recursion, recursion_from_All}
-use Rattle.sdd_lang.specs.All.{Catalogue, Deliver, Down, Event, Lose, Redeclare, Repeat, Resend, Settle, Submit, Tick, Up}
-use Rattle.sdd_script.specs.Redeclaring.{is_redeclare, has_lists}
-use Rattle.sdd_script.specs.Valid.{AreTimely, IsValid}
-use Rattle.sdd_script.specs.declared.workload.Workload.{Workload}
+use Rattle.sdd_script.proofs.All.{All, All-from_recursion, AllByRecursion, AreTimely, Catalogue, Deliver, Down, Event, IsValid, List, Lose, Redeclare, Repeat, Resend, Settle, Some, Submit, Tick, Up, Workload, [], ap, arith, eqb-true, false, has_lists, is_redeclare, length, not_false, recursion_from_All, refl, slice_get, subst, suc, zero, ℕ, ◌==◌, ◌∷◌, ◌≡◌}
 use Rattle.sdd_script.proofs.StepLaws.{some_is}
 
 -- an event that is no `redeclare`, by cases
@@ -32,10 +24,6 @@ some_event x y e = ap (λ (v : Event). Some v) e
 by_place : (es : List Event) → ((i : ℕ) → slice_get es i ≡ Some Redeclare → ⊥) → AllByRecursion IsNoRedeclare es
 by_place [] h = tt
 by_place (e ∷ es) h = (none_if e (λ is. h 0 (some_event e Redeclare is)), by_place es (λ i is. h (suc i) is))
-
-not_false : (b : Bool) → not b ≡ false → b ≡ true
-not_false true e = refl
-not_false false e = absurd cc
 
 pub no_redeclare : (cat : Catalogue) (w : Workload) → IsValid cat w → has_lists w ≡ false → All IsNoRedeclare w.events
 no_redeclare cat w v none =

@@ -1,10 +1,6 @@
 -- Written pieces make words and lines.
-use Rattle.std.proofs.Common.{◌≡◌, ℕ, List, [], ◌∷◌, ◌++◌, map, flat_map, sym, ap, ◌∙◌, append_assoc, append-nil}
-use Rattle.sdd_words.specs.declared.word.Word.{Word}
-use Rattle.sdd_words.specs.declared.word.Word.TheVariants.{Plain}
-use Rattle.sdd_words.specs.Words.{more_bytes, line_bytes, spaced}
-use Rattle.sdd_words.proofs.Written.{words_spaced, more_bytes-append, flat_map-append, flat_map-map, flat_map-flat_map}
-use Rattle.sdd_script.specs.Spelling.{ended}
+use Rattle.sdd_script.proofs.All.{List, Plain, Word, [], ap, append-nil, append_assoc, ended, flat_map, flat_map-flat_map, flat_map-map, line_bytes, map, more_bytes, more_bytes-append, spaced, sym, words_spaced, ℕ, ◌++◌, ◌∙◌, ◌∷◌, ◌≡◌}
+use Rattle.sdd_words.proofs.Written.{flat_map-append}
 
 -- one piece more
 pub after : {a t : List ℕ} (b s : List ℕ) → a ≡ b ++ s → b ≡ t → a ≡ t ++ s
@@ -25,7 +21,8 @@ three_words out a b c =
 -- a word and further ones, each made of an item
 pub word_and_items : {A : Type 0} (out : List ℕ) (a : Word) (f : A → Word) (xs : List A)
     → (out ++ spaced a) ++ flat_map (λ x. spaced (f x)) xs ≡ out ++ more_bytes (a ∷ map f xs)
-word_and_items out a f xs = append_assoc out (spaced a) (flat_map (λ x. spaced (f x)) xs) ∙ ap (λ (l : List ℕ). out ++ (spaced a ++ l)) (words_spaced f xs)
+word_and_items out a f xs =
+    append_assoc out (spaced a) (flat_map (λ x. spaced (f x)) xs) ∙ ap (λ (l : List ℕ). out ++ (spaced a ++ l)) (words_spaced f xs)
 
 -- the first word of a line and the others
 pub keyed : (out key : List ℕ) (ws : List Word) → (out ++ key) ++ more_bytes ws ≡ out ++ line_bytes (Plain key ∷ ws)
@@ -67,7 +64,8 @@ update_pieces out key a b ws vs =
     ∙ append_assoc (out ++ key) (spaced a) (more_bytes (b ∷ (ws ++ vs)))
     ∙ keyed out key (a ∷ b ∷ (ws ++ vs))
 
-pub delete_pieces : (out key : List ℕ) (a : Word) (ws : List Word) → ((out ++ key) ++ spaced a) ++ more_bytes ws ≡ out ++ line_bytes (Plain key ∷ a ∷ ws)
+pub delete_pieces : (out key : List ℕ) (a : Word) (ws : List Word)
+    → ((out ++ key) ++ spaced a) ++ more_bytes ws ≡ out ++ line_bytes (Plain key ∷ a ∷ ws)
 delete_pieces out key a ws = append_assoc (out ++ key) (spaced a) (more_bytes ws) ∙ keyed out key (a ∷ ws)
 
 -- the lines of a transaction

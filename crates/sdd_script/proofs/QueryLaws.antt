@@ -1,39 +1,14 @@
 -- Statements: what is read is spelled and fits, and what is spelled and fits is read.
-use Rattle.std.proofs.Common.{◌≡◌, ℕ, ◌+◌, ◌<◌, ◌≤◌, List, [], ◌∷◌, ◌++◌, length, map, Bool, true, false, ◌&&◌, ltb, Option, Some, Result, Ok, refl, sym, ap, subst, ◌∙◌, arith, append-nil}
-use Rattle.std.specs.Prelude.{codes, nat_le, nat_lt}
-use Rattle.std.specs.List.{AllByRecursion, list_all}
-use Rattle.std.proofs.lemmas.Bool.{ltb-true, lt-ltb}
-use Rattle.std.proofs.lemmas.List.Elements.{All-from_recursion, recursion_from_All}
-use Rattle.sdd_lang.specs.All.{Catalogue, FitsCondition, FitsRef, FitsStatement, IsRelation, MAX_ASSIGNMENTS, MAX_CONDITIONS, MAX_OUTPUT_COLUMNS, MAX_STATEMENTS, MAX_USES, RelNo, Value, along, kind_of_ref, known, must, rel_no, ◌>>=◌}
-use Rattle.sdd_lang.specs.declared.assign.Assign.{Assign}
-use Rattle.sdd_lang.specs.declared.condition.Ref.{Ref}
-use Rattle.sdd_lang.specs.declared.condition.Condition.{Condition}
-use Rattle.sdd_lang.specs.declared.statement.Stmt.{Stmt}
-use Rattle.sdd_lang.specs.declared.statement.Stmt.TheVariants.{Put, Query, Update, Delete}
-use Rattle.sdd_words.specs.Keywords.{is_key, is_free, looks_like_column}
-use Rattle.sdd_words.specs.Forms.{cut_at, up_to, from_key, comparisons, conditions_form, not_empty, look_like_columns, are_free}
-use Rattle.sdd_words.specs.declared.form.Comparison.{Comparison}
-use Rattle.sdd_words.specs.declared.word.Word.{Word}
-use Rattle.sdd_words.specs.declared.word.Word.TheVariants.{Plain}
-use Rattle.sdd_script.specs.Columns.{Parts, column_of_use, conditions_of}
-use Rattle.sdd_script.specs.LineRules.{statement_limits}
-use Rattle.sdd_script.specs.Naming.{name_of_relation, relation_of}
-use Rattle.sdd_script.specs.Spelling.{relation_word, column_word, row_words, condition_words, conditions_words, where_words, statement_words}
-use Rattle.sdd_script.specs.Statements.{put_of, listed_column, part_in, parts_of, query_over, query_of_parts, query_behind_from, query_of}
-use Rattle.sdd_script.specs.Valid.{IsValue, HoldsValue, HoldsValues}
-use Rattle.sdd_script.specs.Values.{row_of}
-use Rattle.sdd_script.specs.declared.fault.Counts.TheVariants as counts
-use Rattle.sdd_script.specs.declared.fault.WorkRule.{WorkRule}
-use Rattle.sdd_script.specs.declared.fault.WorkRule.TheVariants.{BadLine, UnknownName, TooMany}
-use Rattle.sdd_script.specs.declared.found.Found.{Found}
-use Rattle.sdd_lang.proofs.base.ReadingLaws.{bind_ok, ok_is, must_ok, Answers, along_ok, ok_along}
-use Rattle.sdd_script.proofs.StepLaws.{must_then, known_then, both_hold, both_are, le_of, of_le, two_same}
+use Rattle.sdd_script.proofs.All.{All-from_recursion, AllByRecursion, Answers, Assign, BadLine, Bool, Catalogue, Comparison, Condition, Delete, FitsCondition, FitsRef, FitsStatement, Found, HoldsValue, HoldsValues, IsRelation, IsValue, List, MAX_ASSIGNMENTS, MAX_CONDITIONS, MAX_OUTPUT_COLUMNS, MAX_STATEMENTS, MAX_USES, Ok, Option, Parts, Plain, Put, Query, Ref, RelNo, Result, Some, Stmt, TooMany, UnknownName, Update, Value, Word, WorkRule, [], along, along_ok, ap, append-nil, are_free, arith, bind_ok, both_are, both_hold, codes, column_of_use, column_word, comparisons, condition_words, conditions_form, conditions_of, conditions_words, cut_at, false, from_key, is_free, is_key, kind_of_ref, known, length, list_all, listed_column, look_like_columns, looks_like_column, lt-ltb, ltb-true, map, must, must_ok, name_of_relation, nat_le, nat_lt, nat_lt as ltb, not_empty, ok_along, ok_is, part_in, put_of, query_behind_from, query_of, query_of_parts, recursion_from_All, refl, rel_no, relation_of, relation_word, row_of, row_words, statement_limits, statement_words, subst, sym, true, up_to, where_words, ℕ, ◌&&◌, ◌++◌, ◌+◌, ◌<◌, ◌>>=◌, ◌∙◌, ◌∷◌, ◌≡◌, ◌≤◌}
+use Rattle.sdd_script.specs.Statements.{query_over, parts_of}
+use Rattle.sdd_script.proofs.StepLaws.{must_then, known_then, le_of, of_le, two_same}
 use Rattle.sdd_script.proofs.WordLooks.{name_free}
 use Rattle.sdd_script.proofs.WordCuts.{NonePasses, cut_takes, cut_again, joined_again, key_is_that, before_again, from_again, all_before, none_from}
 use Rattle.sdd_script.proofs.UseLaws.{IsKnown, relation_takes, relation_again}
 use Rattle.sdd_script.proofs.RefLaws.{parts_for, AreParts, ref_takes, ref_again, column_word_is}
 use Rattle.sdd_script.proofs.RowLaws.{FitsRowOf, row_takes, row_again, row_free}
 use Rattle.sdd_script.proofs.ConditionLaws.{conditions_take, conditions_again, comparison_for, form_again}
+use Rattle.sdd_script.specs.declared.fault.Counts.TheVariants as counts
 
 -- a statement that was read of the words behind its keyword
 pub record IsStatement (cat : Catalogue) (key : List ℕ) (words : List Word) (s : Stmt) : Type 0 where
@@ -70,7 +45,8 @@ update_limits before rel sets conds u e =
     let d = must_ok (TooMany counts.Column) (nat_le (length sets) MAX_ASSIGNMENTS) u c.1 in
     (le_of (length conds) 16 c.0, le_of (length sets) 16 d)
 
-pub delete_limits : (before : ℕ) (rel : RelNo) (conds : List Condition) (u : Unit {0}) → statement_limits before (Delete rel conds) ≡ Ok u → length conds ≤ 16
+pub delete_limits : (before : ℕ) (rel : RelNo) (conds : List Condition) (u : Unit {0}) → statement_limits before (Delete rel conds) ≡ Ok u
+    → length conds ≤ 16
 delete_limits before rel conds u e =
     let a = must_then (TooMany counts.Statement) (nat_lt before MAX_STATEMENTS) (λ _. must (TooMany counts.Cond) (nat_le (length conds) MAX_CONDITIONS)) u e in
     le_of (length conds) 16 (must_ok (TooMany counts.Cond) (nat_le (length conds) MAX_CONDITIONS) u a.1)
@@ -266,7 +242,8 @@ query_parts_take cat columns rels rest cs s look free form e =
     let a = bind_ok (along (λ i w. listed_column cat (parts_of cat rels) w) 0 columns)
     (λ out. along (λ i w. part_of cat w) 0 rels >>= λ found. conditions_of cat (parts_of cat rels) cs >>=
     λ conds. Ok (Query out found conds)) s (sym (by_words cat columns rels cs) ∙ e) in
-    let b = bind_ok (along (λ i w. part_of cat w) 0 rels) (λ found. conditions_of cat (parts_of cat rels) cs >>= λ conds. Ok (Query a.0 found conds)) s a.2 in
+    let b = bind_ok (along (λ i w. part_of cat w) 0 rels)
+    (λ found. conditions_of cat (parts_of cat rels) cs >>= λ conds. Ok (Query a.0 found conds)) s a.2 in
     let c = bind_ok (conditions_of cat (parts_of cat rels) cs) (λ conds. Ok (Query a.0 b.0 conds)) s b.2 in
     let p = parts_take cat 0 rels b.0 (along_ok (λ i w. part_of cat w) 0 rels b.0 b.1) in
     let looks = both_hold (not_empty columns) (list_all looks_like_column columns) look in
@@ -317,8 +294,7 @@ pub record FitsQuery (cat : Catalogue) (out : List Ref) (rels : List RelNo) (con
   pub conds_hold : AllByRecursion HoldsValue conds
 
 pub query_fits : (cat : Catalogue) (out : List Ref) (rels : List RelNo) (conds : List Condition)
-    → FitsStatement cat (Query out rels conds) → HoldsValues (Query out rels conds)
-    → FitsQuery cat out rels conds
+    → FitsStatement cat (Query out rels conds) → HoldsValues (Query out rels conds) → FitsQuery cat out rels conds
 query_fits cat out rels conds h v = record {
   parts = record { there = h.1; few = h.0.1 };
   relations = recursion_from_All (λ (r : RelNo). IsRelation cat r.0) rels h.1;
@@ -347,16 +323,14 @@ query_parts_again cat k out rels conds h =
     ∙ rw (a, b, c) refl
 
 all_free_names : (cat : Catalogue) → IsKnown cat → (rels : List RelNo)
-    → AllByRecursion (λ (r : RelNo). IsRelation cat r.0) rels
-    → list_all is_free (map (relation_word cat) rels) ≡ true
+    → AllByRecursion (λ (r : RelNo). IsRelation cat r.0) rels → list_all is_free (map (relation_word cat) rels) ≡ true
 all_free_names cat k [] h = refl
 all_free_names cat k (r ∷ rels) h =
     both_are (is_free (relation_word cat r)) (list_all is_free (map (relation_word cat) rels))
     (name_free (name_of_relation cat r.0) (k.relation_name r.0 h.0)) (all_free_names cat k rels h.1)
 
 columns_look : (cat : Catalogue) → IsKnown cat → (rels : List RelNo) → AreParts cat rels → (out : List Ref)
-    → AllByRecursion (FitsRef cat rels) out
-    → (list_all looks_like_column (map (column_word cat rels) out) ≡ true)
+    → AllByRecursion (FitsRef cat rels) out → (list_all looks_like_column (map (column_word cat rels) out) ≡ true)
     × (list_all is_free (map (column_word cat rels) out) ≡ true)
 columns_look cat k rels p [] h = (refl, refl)
 columns_look cat k rels p (r ∷ out) h =
@@ -364,8 +338,7 @@ columns_look cat k rels p (r ∷ out) h =
     let more = columns_look cat k rels p out h.1 in (
       both_are (looks_like_column (column_word cat rels r))
           (list_all looks_like_column (map (column_word cat rels) out)) w.looks more.0,
-      both_are
-          (is_free (column_word cat rels r)) (list_all is_free (map (column_word cat rels) out)) w.free more.1,
+      both_are (is_free (column_word cat rels r)) (list_all is_free (map (column_word cat rels) out)) w.free more.1,
     )
 
 pub query_again : (cat : Catalogue) → IsKnown cat → (out : List Ref) (rels : List RelNo) (conds : List Condition) → FitsQuery cat out rels conds
@@ -389,7 +362,8 @@ query_again cat k out rels conds h =
     (not_empty_again (column_word cat rels) out h.some_out) looks.0)
     (both_are (not_empty names) (list_all is_free names)
     (not_empty_again (relation_word cat) rels h.some_rels) frees) in
-    let f : conditions_form rest ≡ Some (map (comparison_for cat rels) conds) = form_again cat k rels h.parts (codes "where") conds h.conds_fit h.conds_hold in
+    let f : conditions_form rest ≡ Some (map (comparison_for cat rels) conds) = form_again cat k rels h.parts
+    (codes "where") conds h.conds_fit h.conds_hold in
     let g = query_parts_again cat k out rels conds h in
     let behind : query_behind_from cat cols names rest ≡ Ok (Query out rels conds) =
     ap (λ (t : Bool). must BadLine t >>= λ _. known BadLine (conditions_form rest) >>= λ comparisons. query_of_parts cat cols names comparisons) d

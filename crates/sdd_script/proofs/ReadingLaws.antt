@@ -1,47 +1,6 @@
 -- What is read is a workload that the catalogue allows, and the file is its spelling.
-use Rattle.std.proofs.Common.{◌≡◌, ℕ, ◌+◌, ◌-◌, ◌<◌, List, [], ◌∷◌, ◌++◌, length, map, get_or, Bool, true, false, cond, Option, Some, None, Result, Ok, Err, refl, sym, ap, subst, ◌∙◌, arith, append-nil, append_assoc, flat_map}
-use Rattle.std.specs.Prelude.{codes, nat_lt, slice_get, unwrap_or}
-use Rattle.std.specs.Option.{option_map, option_map_or}
-use Rattle.std.specs.Str.{bytes_eq, is_utf8}
-use Rattle.std.specs.List.{All, position}
-use Rattle.std.proofs.lemmas.Bool.{ltb-false}
-use Rattle.std.proofs.lemmas.List.{length-map}
-use Rattle.std.proofs.lemmas.List.Elements.{All-from_recursion}
-use Rattle.std.proofs.lemmas.List.Quantifiers.{position-Some}
-use Rattle.std.proofs.lemmas.Option.{unwrap_or-slice_get, slice_get-map}
-use Rattle.std.proofs.lemmas.Slice.Eq.{bytes_eq-Decides}
-use Rattle.sdd_lang.specs.All.{Catalogue, ClassPart, Deliver, Event, FitsStatement, IsSound, IsWhole, Lose, MAX_WORKLOAD_BYTES, Repeat, Site, Submit, TxnNo, known, repeats, txn_no, ◌>>=◌}
-use Rattle.sdd_lang.specs.declared.transaction.Txn.{Txn}
-use Rattle.sdd_words.specs.Keywords.{is_free}
-use Rattle.sdd_words.specs.Lines.{cut_lines, spelled_lines}
-use Rattle.sdd_words.specs.Names.{name_in}
-use Rattle.sdd_words.specs.Words.{line_bytes}
-use Rattle.sdd_words.specs.declared.word.Word.{Word}
-use Rattle.sdd_words.specs.declared.word.Word.TheVariants.{Plain, Quoted}
-use Rattle.sdd_words.proofs.Spelled.{cut_takes}
-use Rattle.sdd_script.specs.LineRules.{keyword_rules, line_rules}
-use Rattle.sdd_script.specs.Occurrences.{number_named, txn_named, submit_of, flight_place, deliver_of, lose_of, repeat_of, resend_of, tick_of, settle_of, redeclare_of, down_of, up_of}
-use Rattle.sdd_script.specs.ClassLists.{joined, all_classes, part_names}
-use Rattle.sdd_script.specs.Naming.{class_names}
-use Rattle.sdd_script.specs.OpenLists.{classes_in}
-use Rattle.sdd_script.specs.Places.{takes_events, is_ended, open_list}
-use Rattle.sdd_script.specs.Spelling.{name_of_txn, lines_of, spelling, ended}
-use Rattle.sdd_script.specs.Statements.{put_of, query_of, update_of, delete_of}
-use Rattle.sdd_script.specs.Valid.{HoldsValues, IsValidClass, IsValidEvent, IsValid, Accepts}
-use Rattle.sdd_script.specs.Walk.{at_line, one_line, tail_rules, walk, walk_bytes, nothing_read, finished, workload}
-use Rattle.sdd_script.specs.declared.fault.WorkFault.{WorkFault}
-use Rattle.sdd_script.specs.declared.fault.WorkRule.{WorkRule}
-use Rattle.sdd_script.specs.declared.fault.WorkRule.TheVariants.{BadLine, UnknownName}
-use Rattle.sdd_script.specs.declared.keyword.Keyword.{Keyword}
-use Rattle.sdd_script.specs.declared.keyword.Keyword.TheVariants as keys
-use Rattle.sdd_script.specs.declared.keyword.StatementKey.TheVariants as skeys
-use Rattle.sdd_script.specs.declared.keyword.ClassKey.TheVariants as class_keys
-use Rattle.sdd_script.specs.declared.keyword.EventKey.TheVariants as ekeys
-use Rattle.sdd_script.specs.declared.place.Place.{Place}
-use Rattle.sdd_script.specs.declared.place.Place.TheVariants as places
-use Rattle.sdd_script.specs.declared.state.State.{State}
-use Rattle.sdd_script.specs.declared.workload.Workload.{Workload}
-use Rattle.sdd_lang.proofs.base.ReadingLaws.{bind_ok, ok_is}
+use Rattle.sdd_script.proofs.All.{Accepts, All, All-from_recursion, BadLine, Bool, Catalogue, ClassPart, Deliver, Err, Event, FitsStatement, HoldsValues, IsSound, IsValid, IsValidClass, IsValidEvent, IsWhole, Keyword, List, Lose, MAX_WORKLOAD_BYTES, None, Ok, Option, Place, Plain, Quoted, Repeat, Result, Site, Some, State, Submit, Txn, TxnNo, UnknownName, Word, WorkFault, WorkRule, Workload, [], all_classes, ap, append-nil, append_assoc, arith, at_line, bind_ok, bytes_eq, bytes_eq-Decides, class_names, classes_in, codes, cond, cut_lines, cut_takes, delete_of, deliver_of, down_of, ended, false, finished, flat_map, flight_place, get_or, is_ended, is_free, is_utf8, joined, keyword_rules, known, length, length-map, line_bytes, line_rules, lines_of, lose_of, ltb-false, map, name_in, name_of_txn, nat_lt, nothing_read, number_named, ok_is, one_line, open_list, option_map, option_map_or, part_names, position, position-Some, put_of, query_of, redeclare_of, refl, repeat_of, repeats, resend_of, settle_of, slice_get, slice_get-map, spelled_lines, spelling, submit_of, subst, sym, tail_rules, takes_events, tick_of, true, txn_named, txn_no, unwrap_or, unwrap_or-slice_get, up_of, update_of, walk_bytes, workload, ℕ, ◌++◌, ◌+◌, ◌-◌, ◌<◌, ◌>>=◌, ◌∙◌, ◌∷◌, ◌≡◌}
+use Rattle.sdd_script.specs.Walk.{walk}
 use Rattle.sdd_script.proofs.StepLaws.{must_then, known_then, some_is}
 use Rattle.sdd_script.proofs.QueryLaws.{put_takes, query_takes}
 use Rattle.sdd_script.proofs.UpdateLaws.{update_takes, delete_takes}
@@ -53,6 +12,11 @@ use Rattle.sdd_script.proofs.SoundStates.{Sound, Leads, names_of, open_name, nam
 use Rattle.sdd_script.proofs.SoundLists.{list_leads, class_leads, reads_leads, writes_leads, done_leads}
 use Rattle.sdd_script.proofs.ClassNames.{class_names_differ}
 use Rattle.sdd_script.proofs.RedeclareLaws.{none_timely}
+use Rattle.sdd_script.specs.declared.keyword.Keyword.TheVariants as keys
+use Rattle.sdd_script.specs.declared.keyword.StatementKey.TheVariants as skeys
+use Rattle.sdd_script.specs.declared.keyword.ClassKey.TheVariants as class_keys
+use Rattle.sdd_script.specs.declared.keyword.EventKey.TheVariants as ekeys
+use Rattle.sdd_script.specs.declared.place.Place.TheVariants as places
 
 -- ---- events
 
@@ -109,7 +73,8 @@ submit_is cat st words e s t h =
     name_at_number st.txns (r.place + 1) ∙ ap (λ (i : ℕ). get_or (names_of st.txns) i []) back
     ∙ ap (λ (l : List (List ℕ)). get_or l r.place []) (sym names) in
     subst (λ (x : Event). IsEvent cat st (codes "submit") words x) r.is (record {
-      spelled = ap (λ (l : List Word). Plain (codes "submit") ∷ l) r.spelled ∙ ap (λ (l : List ℕ). Plain (codes "submit") ∷ Plain l ∷ []) (sym name);
+      spelled = ap (λ (l : List Word). Plain (codes "submit") ∷ l) r.spelled
+          ∙ ap (λ (l : List ℕ). Plain (codes "submit") ∷ Plain l ∷ []) (sym name);
       valid = (omega arith, omega (arith, r.within, len));
     })
 
@@ -132,8 +97,7 @@ lose_is cat st words e h =
     subst (λ (x : Event). IsEvent cat st (codes "lose") words x) (ok_is (Lose b.0.0 b.0.1 b.0.2) e b.2)
     (record {
       spelled = ap (λ (l : List Word). Plain (codes "lose") ∷ l) r.spelled;
-      valid =
-          (r.linked, r.placed);
+      valid = (r.linked, r.placed);
     })
 
 repeat_is : (cat : Catalogue) (st : State) (words : List Word) (e : Event) → repeat_of cat words ≡ Ok e → IsEvent cat st (codes "repeat") words e
@@ -143,8 +107,7 @@ repeat_is cat st words e h =
     subst (λ (x : Event). IsEvent cat st (codes "repeat") words x) (ok_is (Repeat b.0.0 b.0.1 b.0.2) e b.2)
     (record {
       spelled = ap (λ (l : List Word). Plain (codes "repeat") ∷ l) r.spelled;
-      valid =
-          (r.linked, r.placed);
+      valid = (r.linked, r.placed);
     })
 
 resend_is : (cat : Catalogue) (st : State) (words : List Word) (e : Event) → resend_of cat words ≡ Ok e → IsEvent cat st (codes "resend") words e
@@ -157,8 +120,7 @@ tick_is cat st words e h = let r =
     tick_takes cat words e h in subst (λ (x : Event). IsEvent cat st (codes "tick") words x) r.is
     (record {
       spelled = ap (λ (l : List Word). Plain (codes "tick") ∷ l) r.spelled;
-      valid =
-          (r.there, r.counted);
+      valid = (r.there, r.counted);
     })
 
 settle_is : (cat : Catalogue) (st : State) (words : List Word) (e : Event) → settle_of words ≡ Ok e → IsEvent cat st (codes "settle") words e
@@ -246,7 +208,8 @@ line_leads cat st to line s e =
           (keyword_leads cat st to k.key k.words s k.rules);
     }
 
-one_if : (cat : Catalogue) (st to : State) (line : List ℕ) (b : Bool) → cond b (Err BadLine) (line_rules cat st line) ≡ Ok to → line_rules cat st line ≡ Ok to
+one_if : (cat : Catalogue) (st to : State) (line : List ℕ) (b : Bool) → cond b (Err BadLine) (line_rules cat st line) ≡ Ok to
+    → line_rules cat st line ≡ Ok to
 one_if cat st to line true e = absurd cc
 one_if cat st to line false e = e
 
@@ -302,8 +265,7 @@ walk_takes cat n st to [] tail s e =
     subst (λ (x : State). IsFile cat st x [] tail) same (record {
       words = [];
       spelled = refl;
-      nothing =
-          t.nothing;
+      nothing = t.nothing;
       sound = s;
       so = sym (append-nil (so_far cat st));
       ended = t.ended;
@@ -411,7 +373,8 @@ lines_spelled (l ∷ lines) = ap (λ (t : List ℕ). line_bytes l ++ 10 ∷ t) (
     ∙ sym (append_assoc (line_bytes l) (10 ∷ []) (flat_map ended lines))
 
 -- a file that gives a workload spells it
-pub reads_spelling : (cat : Catalogue) → IsSound cat → IsWhole cat → (bytes : List ℕ) (w : Workload) → workload cat bytes ≡ Ok w → Accepts cat bytes w
+pub reads_spelling : (cat : Catalogue) → IsSound cat → IsWhole cat → (bytes : List ℕ) (w : Workload) → workload cat bytes ≡ Ok w
+    → Accepts cat bytes w
 reads_spelling cat sound whole bytes w e =
     let a = small_if bytes w _ (finished (walk_bytes cat 1 (nothing_read cat) bytes)) (nat_lt MAX_WORKLOAD_BYTES (length bytes)) e in
     let b = finished_ok (walk_bytes cat 1 (nothing_read cat) bytes) w a.1 in
@@ -427,9 +390,7 @@ reads_spelling cat sound whole bytes w e =
     ∙ ap (λ (l : List (List Word)). spelled_lines (map line_bytes l)) words
     ∙ lines_spelled (lines_of cat (made st)) in
     subst (λ (x : Workload). Accepts cat bytes x) b.2 (record {
-      small =
-          ltb-false MAX_WORKLOAD_BYTES (length bytes) a.0;
+      small = ltb-false MAX_WORKLOAD_BYTES (length bytes) a.0;
       valid = sound_valid cat st f.sound place;
-      spelled =
-          spelled;
+      spelled = spelled;
     })

@@ -1,15 +1,6 @@
 -- Where a `redeclare` may stand: the test of a line, and what holds of all events.
-use Rattle.std.proofs.Common.{◌≡◌, ℕ, zero, suc, ◌+◌, ◌<◌, ◌≤◌, List, [], ◌∷◌, ◌++◌, length, take, Bool, true, false, Some, refl, sym, ap, subst, ◌∙◌, inl, inr, arith, lt-ltb}
-use Rattle.std.specs.Prelude.{not, nat_lt, slice_get, count_by}
-use Rattle.std.specs.List.{list_any, range_with_len}
-use Rattle.std.proofs.lemmas.Bool.{ltb-true, cases_lt}
-use Rattle.std.proofs.lemmas.List.{take-append-le}
-use Rattle.std.proofs.Math.Seq.{take-append_seam}
-use Rattle.sdd_lang.specs.All.{Deliver, Down, Event, Lose, Redeclare, Repeat, Resend, Settle, Submit, Tick, Up}
-use Rattle.sdd_script.specs.Redeclaring.{is_redeclare, is_down, some_down, may_redeclare, may_follow}
-use Rattle.sdd_script.specs.Valid.{MayRedeclare, AreTimely}
-use Rattle.sdd_script.proofs.StepLaws.{both_hold, both_are, not_true, some_is}
-use Rattle.sdd_script.proofs.NamePlaces.{or_false}
+use Rattle.sdd_script.proofs.All.{AreTimely, Bool, Deliver, Down, Event, List, Lose, MayRedeclare, Redeclare, Repeat, Resend, Settle, Some, Submit, Tick, Up, [], ap, arith, both_are, both_hold, cases_lt, count_by, false, inl, inr, is_down, is_redeclare, length, list_any, lt-ltb, ltb-true, may_follow, may_redeclare, nat_lt, not, or_false, range_with_len, refl, slice_get, some_down, subst, suc, sym, take, take-append-le, take-append_seam, true, zero, ℕ, ◌++◌, ◌+◌, ◌<◌, ◌∙◌, ◌∷◌, ◌≡◌, ◌≤◌}
+use Rattle.sdd_script.proofs.StepLaws.{not_true, some_is}
 
 -- ---- no number of a range passes a test
 
@@ -62,7 +53,8 @@ pub item_at : {A : Type 0} (xs : List A) (x : A) (rest : List A) → slice_get (
 item_at [] x rest = refl
 item_at (z ∷ xs) x rest = item_at xs x rest
 
-redeclare_may : (dms lists : ℕ) (events : List Event) (e : Event) → may_follow dms lists events e ≡ true → e ≡ Redeclare → MayRedeclare dms lists events
+redeclare_may : (dms lists : ℕ) (events : List Event) (e : Event) → may_follow dms lists events e ≡ true → e ≡ Redeclare
+    → MayRedeclare dms lists events
 redeclare_may dms lists events e m is = may_redeclare_takes dms lists events (subst (λ (x : Event). may_follow dms lists events x ≡ true) is m)
 
 -- an event that may follow keeps all of them timely

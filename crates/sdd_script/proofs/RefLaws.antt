@@ -1,29 +1,11 @@
 -- Columns of a statement's relations: what is read is spelled and is there, and what is spelled and is there is read.
-use Rattle.std.proofs.Common.{◌≡◌, ℕ, ◌-◌, ◌^◌, ◌<◌, ◌≤◌, List, [], ◌∷◌, ◌++◌, length, map, true, false, Option, Some, None, Ok, refl, sym, ap, subst, ◌∙◌, arith}
-use Rattle.std.specs.Prelude.{slice_get}
-use Rattle.std.specs.Option.{option_map}
-use Rattle.std.specs.List.{All, position}
-use Rattle.std.specs.Fmt.{decimal}
-use Rattle.std.proofs.lemmas.List.{length-map}
-use Rattle.std.proofs.lemmas.List.Elements.{All-get_or}
-use Rattle.std.proofs.lemmas.Option.{slice_get-get_or, slice_get_within, slice_get-map}
-use Rattle.sdd_lang.specs.All.{Catalogue, FitsRef, IsColumn, IsFrom1To, IsRelation, Kind, Op, RelNo, is_name, kind_of_ref, rel_of}
-use Rattle.sdd_lang.specs.base.declared.restriction.Op.TheVariants as ops
-use Rattle.sdd_lang.specs.declared.condition.Ref.{Ref}
-use Rattle.sdd_words.specs.Keywords.{is_free, is_point, has_point, before_point, behind_point, looks_like_column, spells_column, names_column}
-use Rattle.sdd_words.specs.Whole.{whole_digits}
-use Rattle.sdd_words.specs.declared.word.Word.{Word}
-use Rattle.sdd_words.specs.declared.word.Word.TheVariants.{Plain, Quoted}
-use Rattle.sdd_words.proofs.Points.{none_after}
-use Rattle.sdd_script.specs.Columns.{Parts, column_of_use}
-use Rattle.sdd_script.specs.Naming.{columns_of, kind_of_place}
-use Rattle.sdd_script.specs.Spelling.{column_word, name_of_column}
-use Rattle.sdd_script.specs.declared.found.Found.{Found}
-use Rattle.sdd_script.proofs.StepLaws.{both_hold, some_is}
+use Rattle.sdd_script.proofs.All.{All, All-get_or, Catalogue, FitsRef, Found, IsColumn, IsFrom1To, IsRelation, Kind, List, None, Ok, Op, Option, Parts, Plain, Quoted, Ref, RelNo, Some, Word, [], ap, arith, before_point, behind_point, both_hold, column_of_use, column_word, columns_of, decimal, false, has_point, is_free, is_name, is_point, kind_of_place, kind_of_ref, length, length-map, looks_like_column, map, name_of_column, names_column, none_after, option_map, position, refl, rel_of, slice_get, slice_get-get_or, slice_get-map, slice_get_within, spells_column, subst, sym, true, whole_digits, ℕ, ◌++◌, ◌-◌, ◌<◌, ◌^◌, ◌∙◌, ◌∷◌, ◌≡◌, ◌≤◌}
+use Rattle.sdd_script.proofs.StepLaws.{some_is}
 use Rattle.sdd_script.proofs.ValueLaws.{columns_are}
 use Rattle.sdd_script.proofs.WordCuts.{no_point}
 use Rattle.sdd_script.proofs.WordLooks.{IsFine, name_parts, names_no_point, column_fine, column_free, column_looks, column_spelled}
 use Rattle.sdd_script.proofs.UseLaws.{IsKnown, use_of_takes, use_again, kind_is}
+use Rattle.sdd_lang.specs.base.declared.restriction.Op.TheVariants as ops
 
 -- the relations of a statement, all of which are there
 abbrev pub parts_for : List RelNo → Parts
@@ -87,13 +69,13 @@ pub record AreParts (cat : Catalogue) (rels : List RelNo) : Type 0 where
   pub there : AreRelations cat rels
   pub few : length rels ≤ 6
 
-pub part_is_there : (cat : Catalogue) (rels : List RelNo) (part : ℕ) → AreParts cat rels → IsFrom1To (length rels) part → IsRelation cat (rel_of rels part)
+pub part_is_there : (cat : Catalogue) (rels : List RelNo) (part : ℕ) → AreParts cat rels → IsFrom1To (length rels) part
+    → IsRelation cat (rel_of rels part)
 part_is_there cat rels part h from = All-get_or (λ (r : RelNo). IsRelation cat r.0) rels (part - 1) (record { 0 = 0 }) (omega (arith, from.0, from.1)) h.there
 
 pub ref_again : (cat : Catalogue) → IsKnown cat → (rels : List RelNo) (r : Ref) → AreParts cat rels
     → FitsRef cat rels r → column_of_use cat (parts_for rels) (column_word cat rels r) ≡ Ok (record {
-      at =
-          r;
+      at = r;
       kind = kind_of_ref cat rels r;
     })
 ref_again cat k rels r h fits =
@@ -120,8 +102,7 @@ column_word_is cat k rels r h fits =
     record {
       fine = column_fine r.part name lt e;
       free = column_free r.part name lt;
-      looks =
-          column_looks r.part name lt e;
+      looks = column_looks r.part name lt e;
       names = column_spelled r.part name lt e;
     }
 

@@ -1,21 +1,7 @@
 -- Rows: what is read is spelled and fits, and what is spelled and fits is read.
-use Rattle.std.proofs.Common.{◌≡◌, ◌≤◌, List, [], ◌∷◌, length, map, true, ◌&&◌, Ok, refl, sym, ap, subst, ◌∙◌, arith}
-use Rattle.std.specs.Prelude.{◌==◌}
-use Rattle.std.specs.List.{AllByRecursion, list_all}
-use Rattle.std.proofs.lemmas.Bool.{eqb-true, eq-eqb}
-use Rattle.std.proofs.lemmas.List.{length-map}
-use Rattle.sdd_lang.specs.All.{Catalogue, FitsRow, IsRelation, RelNo, Value, kind_of, must, rel_no, ◌>>=◌}
-use Rattle.sdd_words.specs.Values.{value_word}
-use Rattle.sdd_words.specs.Keywords.{is_free}
-use Rattle.sdd_words.specs.Forms.{are_free, not_empty}
-use Rattle.sdd_words.specs.declared.word.Word.{Word}
-use Rattle.sdd_script.specs.Naming.{columns_of, name_of_relation, relation_of}
-use Rattle.sdd_script.specs.Spelling.{relation_word, row_words}
-use Rattle.sdd_script.specs.Valid.{IsValue}
-use Rattle.sdd_script.specs.Values.{row_of, values_of}
-use Rattle.sdd_script.specs.declared.fault.WorkRule.TheVariants.{UnknownName, WrongKind}
-use Rattle.sdd_lang.proofs.base.ReadingLaws.{bind_ok, ok_is}
-use Rattle.sdd_script.proofs.StepLaws.{must_then, known_then, both_are, two_same}
+use Rattle.sdd_script.proofs.All.{AllByRecursion, Catalogue, FitsRow, IsRelation, IsValue, List, Ok, RelNo, UnknownName, Value, Word, WrongKind, [], ap, are_free, arith, bind_ok, both_are, columns_of, eq-eqb, eqb-true, is_free, kind_of, length, length-map, list_all, map, must, name_of_relation, not_empty, ok_is, refl, rel_no, relation_of, relation_word, row_words, subst, sym, true, value_word, values_of, ◌&&◌, ◌==◌, ◌>>=◌, ◌∙◌, ◌∷◌, ◌≡◌, ◌≤◌}
+use Rattle.sdd_script.specs.Values.{row_of}
+use Rattle.sdd_script.proofs.StepLaws.{must_then, known_then, two_same}
 use Rattle.sdd_script.proofs.ValueLaws.{columns_are, kinds_of, values_take, values_again, values_length}
 use Rattle.sdd_script.proofs.WordLooks.{IsFine, name_fine, name_free, value_fine, value_free}
 use Rattle.sdd_script.proofs.UseLaws.{IsKnown, relation_takes, relation_again}
@@ -81,5 +67,6 @@ values_fine : (row : List Value) → AllByRecursion IsValue row → AllByRecursi
 values_fine [] h = tt
 values_fine (v ∷ row) h = (value_fine v h.0, values_fine row h.1)
 
-pub row_fine : (cat : Catalogue) → IsKnown cat → (rel : RelNo) (row : List Value) → FitsRowOf cat rel row → AllByRecursion IsFine (row_words cat rel row)
+pub row_fine : (cat : Catalogue) → IsKnown cat → (rel : RelNo) (row : List Value) → FitsRowOf cat rel row
+    → AllByRecursion IsFine (row_words cat rel row)
 row_fine cat k rel row h = (name_fine (name_of_relation cat rel.0) (k.relation_name rel.0 h.0), values_fine row h.2)

@@ -1,19 +1,6 @@
 -- The lines that a state stands for, and how each kind of line adds itself to them.
-use Rattle.std.proofs.Common.{◌≡◌, List, [], ◌∷◌, ◌++◌, map, flat_map, true, sym, ap, ◌∙◌, append_assoc, append-nil}
-use Rattle.std.proofs.lemmas.List.{map-append}
-use Rattle.std.proofs.lemmas.Grind.{flat_map-append}
-use Rattle.sdd_lang.specs.All.{Catalogue, ClassPart, Event, RelNo, Value}
-use Rattle.sdd_lang.specs.declared.statement.Stmt.{Stmt}
-use Rattle.sdd_lang.specs.declared.transaction.Txn.{Txn}
-use Rattle.sdd_words.specs.declared.word.Word.{Word}
-use Rattle.sdd_script.specs.OpenLists.{classes_in}
-use Rattle.sdd_script.specs.Places.{takes_rows, takes_txns, takes_statements, takes_events}
-use Rattle.sdd_script.specs.Spelling.{start_words, header_words, statement_words, done_words, event_words, end_words, txn_lines, list_words, class_lines, list_lines, lines_of}
-use Rattle.sdd_script.specs.declared.place.Header.{Header}
-use Rattle.sdd_script.specs.declared.place.Place.{Place}
+use Rattle.sdd_script.proofs.All.{Catalogue, ClassPart, Event, Header, List, Place, RelNo, State, Stmt, Txn, Value, Word, Workload, [], ap, append-nil, append_assoc, class_lines, classes_in, done_words, end_words, event_words, flat_map, flat_map-append, header_words, lines_of, list_lines, list_words, map, map-append, start_words, statement_words, sym, takes_events, takes_rows, takes_statements, takes_txns, true, txn_lines, ◌++◌, ◌∙◌, ◌∷◌, ◌≡◌}
 use Rattle.sdd_script.specs.declared.place.Place.TheVariants as places
-use Rattle.sdd_script.specs.declared.state.State.{State}
-use Rattle.sdd_script.specs.declared.workload.Workload.{Workload}
 
 -- the open transaction
 abbrev pub txn_with : Header → List Stmt → Txn
@@ -29,7 +16,8 @@ abbrev pub end_lines : Place → List (List Word)
 end_lines places.Ended = end_words ∷ []
 end_lines _ = []
 
-abbrev pub lines_at : Catalogue → List (RelNo × List Value) → List Txn → List (List ClassPart) → Place → List Stmt → List Event → List (List Word)
+abbrev pub lines_at : Catalogue → List (RelNo × List Value) → List Txn → List (List ClassPart) → Place → List Stmt → List Event
+    → List (List Word)
 lines_at cat rows txns lists place statements events =
     map (start_words cat) rows ++ flat_map (txn_lines cat) txns ++ flat_map list_lines lists ++ open_lines
     cat place statements ++ map (event_words txns) events ++ end_lines place
@@ -51,7 +39,8 @@ InOrder places.Ended txns lists statements events = statements ≡ []
 -- ---- one line more
 
 behind_nothing : {A : Type 0} (a : List A) → a ++ [] ++ [] ++ [] ++ [] ++ [] ≡ a
-behind_nothing a = append-nil (a ++ [] ++ [] ++ [] ++ []) ∙ append-nil (a ++ [] ++ [] ++ []) ∙ append-nil (a ++ [] ++ []) ∙ append-nil (a ++ []) ∙ append-nil a
+behind_nothing a =
+    append-nil (a ++ [] ++ [] ++ [] ++ []) ∙ append-nil (a ++ [] ++ [] ++ []) ∙ append-nil (a ++ [] ++ []) ∙ append-nil (a ++ []) ∙ append-nil a
 
 rows_in : (cat : Catalogue) (rows : List (RelNo × List Value)) (r : RelNo × List Value)
     → lines_at cat (rows ++ r ∷ []) [] [] places.Rows [] [] ≡ lines_at cat rows [] [] places.Rows []
@@ -59,7 +48,8 @@ rows_in : (cat : Catalogue) (rows : List (RelNo × List Value)) (r : RelNo × Li
 rows_in cat rows r =
     let all : List (List Word) = map (start_words cat) rows in
     let one : map (start_words cat) (rows ++ r ∷ []) ≡ all ++ start_words cat r ∷ [] = map-append (start_words cat) rows (r ∷ []) in
-    behind_nothing (map (start_words cat) (rows ++ r ∷ [])) ∙ one ∙ ap (λ (l : List (List Word)). l ++ start_words cat r ∷ []) (sym (behind_nothing all))
+    behind_nothing (map (start_words cat) (rows ++ r ∷ [])) ∙ one
+    ∙ ap (λ (l : List (List Word)). l ++ start_words cat r ∷ []) (sym (behind_nothing all))
 
 -- at the rows nothing else was said
 rows_alone : (cat : Catalogue) (rows : List (RelNo × List Value)) (txns : List Txn)
@@ -150,7 +140,8 @@ statement_more cat rows txns lists places.Ended statements s events t o = absurd
 -- a transaction ends
 
 -- the open part is closed behind those before it
-pub closes : {A : Type 0} (r t b : List A) (x y : A) → r ++ (t ++ ((x ∷ (b ++ y ∷ [])) ++ [])) ++ [] ++ [] ++ [] ≡ (r ++ t ++ (x ∷ b) ++ [] ++ []) ++ y ∷ []
+pub closes : {A : Type 0} (r t b : List A) (x y : A)
+    → r ++ (t ++ ((x ∷ (b ++ y ∷ [])) ++ [])) ++ [] ++ [] ++ [] ≡ (r ++ t ++ (x ∷ b) ++ [] ++ []) ++ y ∷ []
 closes r t b x y =
     append-nil (r ++ (t ++ ((x ∷ (b ++ y ∷ [])) ++ [])) ++ [] ++ [])
     ∙ append-nil (r ++ (t ++ ((x ∷ (b ++ y ∷ [])) ++ [])) ++ [])

@@ -1,37 +1,13 @@
 -- An event, and the end, keep what holds in every state, and add themselves to the lines before.
-use Rattle.std.proofs.Common.{◌≡◌, ℕ, ◌<◌, List, [], ◌∷◌, ◌++◌, length, map, Bool, true, false, Result, Ok, refl, sym, ap, subst, ◌∙◌, arith, append-nil}
-use Rattle.std.specs.Prelude.{codes, not, nat_lt, ◌==◌}
-use Rattle.std.specs.List.{filter_map}
-use Rattle.std.proofs.lemmas.Bool.{ltb-true}
-use Rattle.std.proofs.lemmas.List.{map-append}
-use Rattle.std.proofs.lemmas.List.Elements.{filter_map-append}
-use Rattle.sdd_lang.specs.All.{Catalogue, ClassPart, Deliver, Down, Event, Lose, MAX_EVENTS, Redeclare, Repeat, Resend, Settle, Submit, Tick, TxnNo, Up, must, ◌>>=◌}
-use Rattle.sdd_lang.proofs.catalog.NameLemmas.{list_any-map}
-use Rattle.sdd_lang.specs.declared.statement.Stmt.{Stmt}
-use Rattle.sdd_lang.specs.declared.transaction.Txn.{Txn}
-use Rattle.sdd_words.specs.declared.word.Word.{Word}
-use Rattle.sdd_words.specs.declared.word.Word.TheVariants.{Plain}
-use Rattle.sdd_script.specs.ClassLists.{joined}
-use Rattle.sdd_script.specs.LineRules.{is_submitted, with_submitted, with_event, event_rules, end_rules}
-use Rattle.sdd_script.specs.OpenLists.{classes_in, no_classes}
-use Rattle.sdd_script.specs.Places.{takes_events, open_list}
-use Rattle.sdd_script.specs.Redeclaring.{may_follow}
-use Rattle.sdd_script.specs.Spelling.{event_words, end_words}
-use Rattle.sdd_script.specs.Valid.{IsValidEvent, submitted_by, AreDistinct}
-use Rattle.sdd_script.specs.declared.fault.Counts.TheVariants as counts
-use Rattle.sdd_script.specs.declared.fault.WorkRule.{WorkRule}
-use Rattle.sdd_script.specs.declared.fault.WorkRule.TheVariants.{BadEvent, BadLine, SubmittedTwice, TooMany}
-use Rattle.sdd_script.specs.declared.open_list.OpenList.{OpenList}
-use Rattle.sdd_script.specs.declared.place.Place.{Place}
-use Rattle.sdd_script.specs.declared.place.Place.TheVariants as places
-use Rattle.sdd_script.specs.declared.state.State.{State}
-use Rattle.sdd_lang.proofs.base.ReadingLaws.{bind_ok, ok_is}
+use Rattle.sdd_script.proofs.All.{AreDistinct, BadEvent, BadLine, Bool, Catalogue, ClassPart, Deliver, Down, Event, IsValidEvent, List, Lose, MAX_EVENTS, Ok, OpenList, Place, Plain, Redeclare, Repeat, Resend, Result, Settle, State, Stmt, Submit, SubmittedTwice, Tick, TooMany, Txn, TxnNo, Up, Word, WorkRule, [], ap, append-nil, arith, bind_ok, classes_in, codes, end_rules, end_words, event_rules, event_words, false, filter_map, filter_map-append, is_submitted, joined, length, list_any-map, ltb-true, map, map-append, may_follow, must, nat_lt, no_classes, not, ok_is, open_list, refl, submitted_by, subst, sym, takes_events, true, with_event, with_submitted, ℕ, ◌++◌, ◌<◌, ◌==◌, ◌>>=◌, ◌∙◌, ◌∷◌, ◌≡◌}
 use Rattle.sdd_script.proofs.StepLaws.{must_then, not_true}
 use Rattle.sdd_script.proofs.WordCuts.{NonePasses}
 use Rattle.sdd_script.proofs.NamePlaces.{none_any, distinct_more}
 use Rattle.sdd_script.proofs.RedeclareLaws.{timely_more}
 use Rattle.sdd_script.proofs.SoFar.{so_far, InOrder, event_more, end_more}
 use Rattle.sdd_script.proofs.SoundStates.{Sound, Declares, Leads, names_of, open_name, all_more, one_longer}
+use Rattle.sdd_script.specs.declared.fault.Counts.TheVariants as counts
+use Rattle.sdd_script.specs.declared.place.Place.TheVariants as places
 
 -- ---- an event
 
@@ -92,11 +68,14 @@ submitted_more submitted events (Resend from to) h = h ∙ sym (append-nil (filt
     ∙ sym (filter_map-append submitted_by events (Resend from to ∷ []))
 submitted_more submitted events (Tick tm n) h = h ∙ sym (append-nil (filter_map submitted_by events))
     ∙ sym (filter_map-append submitted_by events (Tick tm n ∷ []))
-submitted_more submitted events Settle h = h ∙ sym (append-nil (filter_map submitted_by events)) ∙ sym (filter_map-append submitted_by events (Settle ∷ []))
+submitted_more submitted events Settle h =
+    h ∙ sym (append-nil (filter_map submitted_by events)) ∙ sym (filter_map-append submitted_by events (Settle ∷ []))
 submitted_more submitted events Redeclare h = h ∙ sym (append-nil (filter_map submitted_by events))
     ∙ sym (filter_map-append submitted_by events (Redeclare ∷ []))
-submitted_more submitted events (Down dm) h = h ∙ sym (append-nil (filter_map submitted_by events)) ∙ sym (filter_map-append submitted_by events (Down dm ∷ []))
-submitted_more submitted events (Up dm) h = h ∙ sym (append-nil (filter_map submitted_by events)) ∙ sym (filter_map-append submitted_by events (Up dm ∷ []))
+submitted_more submitted events (Down dm) h =
+    h ∙ sym (append-nil (filter_map submitted_by events)) ∙ sym (filter_map-append submitted_by events (Down dm ∷ []))
+submitted_more submitted events (Up dm) h =
+    h ∙ sym (append-nil (filter_map submitted_by events)) ∙ sym (filter_map-append submitted_by events (Up dm ∷ []))
 
 same_distinct : (ns ms : List ℕ) → AreDistinct ns → ns ≡ ms → AreDistinct ms
 same_distinct ns ms h e = subst AreDistinct e h
@@ -195,7 +174,8 @@ event_leads cat st to key words reading s read h =
     let r = read a.0 e b.1 in
     subst (λ (x : State). Leads cat st x (Plain key ∷ words)) (ok_is (with_occurrence st e) to d.1) (record {
       sound = event_sound cat st e s a.0 r.valid (not_true (is_submitted st.submitted e) c.0) m.0 (ltb-true (length st.events) MAX_EVENTS d.0);
-      lines = event_more cat st.rows st.txns st.lists st.place st.statements st.events e a.0 ∙ ap (λ (l : List Word). so_far cat st ++ l ∷ []) (sym r.spelled);
+      lines = event_more cat st.rows st.txns st.lists st.place st.statements st.events e a.0
+          ∙ ap (λ (l : List Word). so_far cat st ++ l ∷ []) (sym r.spelled);
     })
 
 -- ---- the end

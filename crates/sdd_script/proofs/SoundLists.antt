@@ -1,37 +1,17 @@
 -- The lines of lists of classes keep what holds in every state, and add themselves to the lines before.
-use Rattle.std.proofs.Common.{◌≡◌, ℕ, ◌+◌, ◌<◌, ◌≤◌, List, [], ◌∷◌, ◌++◌, length, Bool, true, false, cond, ◌&&◌, Some, None, Ok, refl, sym, ap, subst, ◌∙◌, arith, append-nil}
-use Rattle.std.specs.Prelude.{codes, not, nat_lt}
-use Rattle.std.proofs.lemmas.Bool.{ltb-true}
-use Rattle.sdd_lang.specs.All.{Catalogue, ClassPart, D, DmNo, Event, MAX_CLASSES, MAX_READS, ReadPart, T, TmNo, has_copy, has_name, known, must, ◌>>=◌}
-use Rattle.sdd_lang.specs.declared.statement.Stmt.{Stmt}
-use Rattle.sdd_lang.specs.declared.transaction.Txn.{Txn}
-use Rattle.sdd_words.specs.Keywords.{is_free}
-use Rattle.sdd_words.specs.declared.word.Word.{Word}
-use Rattle.sdd_words.specs.declared.word.Word.TheVariants.{Plain}
-use Rattle.sdd_script.specs.ClassLists.{joined, is_taken, one_more_class, with_class_of, with_read_of, with_write_of, fragment_of, list_rules, class_rules, reads_rules, writes_rules}
-use Rattle.sdd_script.specs.LineRules.{closed, done_rules}
-use Rattle.sdd_script.specs.Naming.{name_of}
-use Rattle.sdd_script.specs.Occurrences.{dm_of, tm_of}
-use Rattle.sdd_script.specs.OpenLists.{class_so_far, classes_in, no_classes, with_class, with_read, with_write, takes_reads as takes_reads_in, takes_writes as takes_writes_in}
-use Rattle.sdd_script.specs.Places.{takes_lists, takes_classes, takes_reads, takes_writes, open_list, reads_at, writes_at}
-use Rattle.sdd_script.specs.Spelling.{list_words, class_words, reads_words, writes_words, done_words, site_word}
-use Rattle.sdd_script.specs.Valid.{AreTimely, IsValidRead, read_names}
-use Rattle.sdd_script.specs.declared.fault.Counts.TheVariants as counts
-use Rattle.sdd_script.specs.declared.fault.WorkRule.TheVariants.{BadClass, BadLine, TooMany}
-use Rattle.sdd_script.specs.declared.limits.TheConstants.{MAX_LISTS}
-use Rattle.sdd_script.specs.declared.open_list.OpenList.{OpenList}
-use Rattle.sdd_script.specs.declared.place.Place.{Place}
-use Rattle.sdd_script.specs.declared.place.Place.TheVariants as places
-use Rattle.sdd_script.specs.declared.state.State.{State}
-use Rattle.sdd_lang.proofs.base.ReadingLaws.{bind_ok, ok_is}
-use Rattle.sdd_script.proofs.StepLaws.{must_then, known_then, both_hold, not_true, some_is}
+use Rattle.sdd_script.proofs.All.{AreTimely, BadClass, BadLine, Bool, Catalogue, ClassPart, D, DmNo, Event, IsValidRead, List, MAX_CLASSES, MAX_LISTS, MAX_READS, None, Ok, OpenList, Place, Plain, ReadPart, Some, State, Stmt, T, TmNo, TooMany, Txn, Word, [], ap, append-nil, arith, bind_ok, both_hold, class_so_far, class_words, classes_in, closed, codes, cond, dm_of, done_rules, done_words, false, fragment_of, has_copy, has_name, is_free, is_taken, joined, known, length, list_rules, list_words, ltb-true, must, name_of, nat_lt, no_classes, not, ok_is, one_more_class, open_list, read_names, reads_at, reads_rules, reads_words, refl, site_word, subst, sym, takes_classes, takes_lists, takes_reads, takes_reads_in, takes_writes, takes_writes_in, tm_of, true, with_class, with_class_of, with_read, with_read_of, with_write, with_write_of, writes_at, writes_rules, writes_words, ℕ, ◌&&◌, ◌++◌, ◌+◌, ◌<◌, ◌>>=◌, ◌∙◌, ◌∷◌, ◌≡◌, ◌≤◌}
+use Rattle.sdd_script.proofs.StepLaws.{must_then, known_then, not_true, some_is}
 use Rattle.sdd_script.proofs.EventLaws.{dm_takes, tm_takes}
 use Rattle.sdd_script.proofs.Fragments.{fragment_takes, kept_at}
-use Rattle.sdd_script.proofs.Declaring.{class_declared, read_declared, write_declared, joined_more}
+use Rattle.sdd_script.proofs.Declaring.{class_declared, read_declared, write_declared}
 use Rattle.sdd_script.proofs.ListLines.{AddsLine, list_more, listing_more, class_more, read_more, write_more, listed_more}
 use Rattle.sdd_script.proofs.RedeclareLaws.{none_timely}
 use Rattle.sdd_script.proofs.SoFar.{lines_at, InOrder}
 use Rattle.sdd_script.proofs.SoundStates.{Sound, Declares, Leads, HeaderFits, names_of, open_name, lists_open, name_of_takes, one_longer, at_place, txn_closed, two_words}
+use Rattle.sdd_script.proofs.ListChains.{joined_on as joined_more}
+use Rattle.sdd_script.specs.ClassLists.{class_rules}
+use Rattle.sdd_script.specs.declared.fault.Counts.TheVariants as counts
+use Rattle.sdd_script.specs.declared.place.Place.TheVariants as places
 
 -- ---- only the place, the lists and the count of classes change
 
@@ -46,8 +26,7 @@ record IsMoved (cat : Catalogue) (st : State) (p : Place) (lists : List (List Cl
   order : InOrder p st.txns lists st.statements st.events
 
 moved : (cat : Catalogue) (st : State) (p : Place) (lists : List (List ClassPart)) (n : ℕ) → Sound cat st
-    → open_name st.place ≡ [] → st.events ≡ [] → IsMoved cat st p lists n
-    → Sound cat (with_lists st p lists n)
+    → open_name st.place ≡ [] → st.events ≡ [] → IsMoved cat st p lists n → Sound cat (with_lists st p lists n)
 moved cat st p lists n s unnamed none o = record {
   rows = s.rows;
   txns = s.txns;
@@ -117,16 +96,14 @@ abbrev Within : Place → Type 0
 Within place = place ≡ places.Listing (open_list place)
 
 inside_leads : (cat : Catalogue) (st : State) (new : OpenList) (n : ℕ) (w : List Word) → Sound cat st
-    → Within st.place → Declares cat (joined st.lists ++ classes_in new) n
-    → AddsLine (open_list st.place) new w
+    → Within st.place → Declares cat (joined st.lists ++ classes_in new) n → AddsLine (open_list st.place) new w
     → Leads cat st (with_lists st (places.Listing new) st.lists n) w
 inside_leads cat st new n w s within d adds =
     let o : (st.statements ≡ []) × (st.events ≡ []) = subst (λ (p : Place). InOrder p st.txns st.lists st.statements st.events) within s.order in
     let few : length st.lists + 1 ≤ MAX_LISTS = subst (λ (p : Place). length st.lists + lists_open p ≤ MAX_LISTS) within s.few_lists in
     record {
       sound = moved cat st (places.Listing new) st.lists n s (ap open_name within) o.1 (record {
-        header =
-            tt;
+        header = tt;
         unnamed = refl;
         declares = d;
         few_lists = few;
@@ -180,7 +157,8 @@ class_leads cat st to (word ∷ tm ∷ []) s e =
     (class_words (class_so_far (record { name = b.0; tm = c.0; reads = []; writes = [] }))) s
     (in_list st.place place)
     (class_declared cat st.lists l st.classes b.0 c.0 s.declares w.1 t.1 (not_true (is_taken cat st b.0) d.0) n.1) (class_more l b.0 c.0) in
-    subst (λ (x : State). Leads cat st x (Plain (codes "class") ∷ word ∷ tm ∷ [])) (ap (classed st b.0 c.0) n.0 ∙ ok_is (classed st b.0 c.0 f.0) to f.2)
+    subst (λ (x : State). Leads cat st x (Plain (codes "class") ∷ word ∷ tm ∷ []))
+    (ap (classed st b.0 c.0) n.0 ∙ ok_is (classed st b.0 c.0 f.0) to f.2)
     (subst (λ (ws : List Word). Leads cat st (classed st b.0 c.0 (st.classes + 1)) ws) (sym spelled) leads)
 class_leads cat st to (a ∷ b ∷ c ∷ rest) s e = absurd cc
 

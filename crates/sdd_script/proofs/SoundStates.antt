@@ -1,47 +1,16 @@
 -- What holds in every state, and that each line of rows and transactions keeps it and adds itself to the lines before.
-use Rattle.std.proofs.Common.{◌≡◌, ℕ, ◌+◌, ◌<◌, ◌≤◌, List, [], ◌∷◌, ◌++◌, length, map, Bool, true, false, cond, ◌&&◌, Option, Some, None, Result, Ok, refl, sym, ap, subst, ◌∙◌, arith, append-nil}
-use Rattle.std.specs.Prelude.{codes, not, nat_lt, is_some, sum_by}
-use Rattle.std.specs.Str.{bytes_eq}
-use Rattle.std.specs.List.{All, position, filter_map}
-use Rattle.std.proofs.lemmas.Bool.{ltb-true}
-use Rattle.std.proofs.lemmas.List.{map-append, length-append}
-use Rattle.std.proofs.lemmas.List.Elements.{All-append, All-from_recursion}
-use Rattle.std.proofs.lemmas.List.Sums.{sum_by-append}
-use Rattle.sdd_lang.specs.All.{Catalogue, ClassPart, Event, FitsStatement, IsFrom1To, IsName, MAX_CLASSES, MAX_EVENTS, MAX_ROWS, MAX_TXNS, RelNo, T, TmNo, TxnNo, Value, is_name, known, must, repeats, ◌>>=◌}
-use Rattle.sdd_lang.specs.declared.statement.Stmt.{Stmt}
-use Rattle.sdd_lang.specs.declared.statement.Stmt.TheVariants as statements
-use Rattle.sdd_lang.specs.declared.transaction.Txn.{Txn}
-use Rattle.sdd_words.specs.Forms.{are_free}
-use Rattle.sdd_words.specs.Keywords.{is_free}
-use Rattle.sdd_words.specs.Names.{name_in}
-use Rattle.sdd_words.specs.declared.word.Word.{Word}
-use Rattle.sdd_words.specs.declared.word.Word.TheVariants.{Plain, Quoted}
-use Rattle.sdd_script.specs.ClassLists.{joined, all_classes, part_names}
-use Rattle.sdd_script.specs.LineRules.{row_rules, opened, txn_rules, statement_limits, one_more_row, written_with, with_statement, statement_rules, closed}
-use Rattle.sdd_script.specs.Naming.{name_of, class_names}
-use Rattle.sdd_script.specs.Occurrences.{tm_of}
-use Rattle.sdd_script.specs.OpenLists.{classes_in, no_classes}
-use Rattle.sdd_script.specs.Places.{takes_rows, takes_txns, takes_statements, open_list}
-use Rattle.sdd_script.specs.Spelling.{start_words, header_words, done_words, site_word}
-use Rattle.sdd_script.specs.Valid.{IsValue, HoldsValues, IsValidRow, IsValidTxn, IsValidEvent, IsValidClass, AreTimely, is_put, rows_put_by, submitted_by, AreDistinct}
-use Rattle.sdd_script.specs.Values.{row_of}
-use Rattle.sdd_script.specs.declared.fault.Counts.TheVariants as counts
-use Rattle.sdd_script.specs.declared.fault.WorkRule.{WorkRule}
-use Rattle.sdd_script.specs.declared.fault.WorkRule.TheVariants.{BadLine, UnknownName, DuplicateTxn, TooMany}
-use Rattle.sdd_script.specs.declared.limits.TheConstants.{MAX_LISTS}
-use Rattle.sdd_script.specs.declared.open_list.OpenList.{OpenList}
-use Rattle.sdd_script.specs.declared.place.Header.{Header}
-use Rattle.sdd_script.specs.declared.place.Place.{Place}
-use Rattle.sdd_script.specs.declared.place.Place.TheVariants as places
-use Rattle.sdd_script.specs.declared.state.State.{State}
-use Rattle.sdd_lang.proofs.base.ReadingLaws.{bind_ok, ok_is, known_ok}
-use Rattle.sdd_script.proofs.StepLaws.{must_then, both_hold, not_true, some_is, known_then}
+use Rattle.sdd_script.proofs.All.{All, All-append, All-from_recursion, AreDistinct, AreTimely, BadLine, Bool, Catalogue, ClassPart, DuplicateTxn, Event, FitsStatement, Header, HoldsValues, IsFrom1To, IsName, IsValidClass, IsValidEvent, IsValidRow, IsValidTxn, IsValue, List, MAX_CLASSES, MAX_EVENTS, MAX_LISTS, MAX_ROWS, MAX_TXNS, None, Ok, OpenList, Place, Plain, Quoted, RelNo, Result, Some, State, Stmt, T, TmNo, TooMany, Txn, TxnNo, UnknownName, Value, Word, WorkRule, [], all_classes, ap, append-nil, are_free, arith, bind_ok, both_hold, bytes_eq, class_names, classes_in, closed, codes, cond, done_words, false, filter_map, header_words, is_free, is_name, is_put, is_some, joined, known, known_ok, length, length-append, ltb-true, map, map-append, must, name_in, name_of, nat_lt, no_classes, not, ok_is, one_more_row, open_list, opened, part_names, position, refl, repeats, row_of, row_rules, rows_put_by, site_word, start_words, statement_limits, statement_rules, submitted_by, subst, sum_by, sum_by-append, sym, takes_rows, takes_statements, takes_txns, tm_of, true, txn_rules, with_statement, written_with, ℕ, ◌&&◌, ◌++◌, ◌+◌, ◌<◌, ◌>>=◌, ◌∙◌, ◌∷◌, ◌≡◌, ◌≤◌}
+use Rattle.sdd_script.proofs.StepLaws.{must_then, not_true, some_is, known_then}
 use Rattle.sdd_script.proofs.WordCuts.{NonePasses}
 use Rattle.sdd_script.proofs.RowLaws.{row_takes}
 use Rattle.sdd_script.proofs.QueryLaws.{IsStatement, limits_before}
 use Rattle.sdd_script.proofs.EventLaws.{tm_takes}
 use Rattle.sdd_script.proofs.NamePlaces.{none_found, repeats_not}
 use Rattle.sdd_script.proofs.SoFar.{txn_with, so_far, InOrder, row_more, header_more, statement_more, done_more}
+use Rattle.sdd_script.proofs.ValueLaws.{some_text as name_if}
+use Rattle.sdd_lang.specs.declared.statement.Stmt.TheVariants as statements
+use Rattle.sdd_script.specs.declared.fault.Counts.TheVariants as counts
+use Rattle.sdd_script.specs.declared.place.Place.TheVariants as places
 
 -- a statement puts one row, or none
 abbrev pub rows_put : Stmt → ℕ
@@ -96,7 +65,7 @@ pub record Leads (cat : Catalogue) (st to : State) (words : List Word) : Type 0 
   pub sound : Sound cat to
   pub lines : so_far cat to ≡ so_far cat st ++ words ∷ []
 
-one : {A : Type 0} (P : A → Type 0) (x : A) → P x → All P (x ∷ [])
+pub one : {A : Type 0} (P : A → Type 0) (x : A) → P x → All P (x ∷ [])
 one P x h = All-from_recursion P (x ∷ []) (h, tt)
 
 pub all_more : {A : Type 0} (P : A → Type 0) (xs : List A) (x : A) → All P xs → P x → All P (xs ++ x ∷ [])
@@ -113,11 +82,13 @@ with_row st r = record st { rows = st.rows ++ r ∷ []; written = st.written + 1
 abbrev with_row_at : State → RelNo × List Value → ℕ → State
 with_row_at st r n = record st { rows = st.rows ++ r ∷ []; written = n }
 
-one_more_is : (written n : ℕ) (b : Bool) → nat_lt written MAX_ROWS ≡ b → cond b (Some (written + 1)) None ≡ Some n → (written + 1 ≡ n) × (written < MAX_ROWS)
+one_more_is : (written n : ℕ) (b : Bool) → nat_lt written MAX_ROWS ≡ b → cond b (Some (written + 1)) None ≡ Some n
+    → (written + 1 ≡ n) × (written < MAX_ROWS)
 one_more_is written n true t e = (some_is (written + 1) n e, ltb-true written MAX_ROWS t)
 one_more_is written n false t e = absurd cc
 
-row_sound : (cat : Catalogue) (st : State) (r : RelNo × List Value) → Sound cat st → IsValidRow cat r → st.written < MAX_ROWS → Sound cat (with_row st r)
+row_sound : (cat : Catalogue) (st : State) (r : RelNo × List Value) → Sound cat st → IsValidRow cat r → st.written < MAX_ROWS
+    → Sound cat (with_row st r)
 row_sound cat st r s v room = record {
   rows = all_more (IsValidRow cat) st.rows r s.rows v;
   txns = s.txns;
@@ -155,7 +126,8 @@ row_leads cat st to (name ∷ words) s e =
     let r = row_takes cat name words b.0 b.1 in
     let valid : IsValidRow cat b.0 = record { fits = (r.fits.0, r.fits.1); values = All-from_recursion IsValue b.0.1 r.fits.2 } in
     let spelled : Plain (codes "row") ∷ name ∷ words ≡ start_words cat b.0 = ap (λ (l : List Word). Plain (codes "row") ∷ l) r.spelled in
-    subst (λ (x : State). Leads cat st x (Plain (codes "row") ∷ name ∷ words)) (ap (with_row_at st b.0) n.0 ∙ ok_is (with_row_at st b.0 c.0) to c.2) (record {
+    subst (λ (x : State). Leads cat st x (Plain (codes "row") ∷ name ∷ words)) (ap (with_row_at st b.0) n.0 ∙ ok_is (with_row_at st b.0 c.0) to c.2)
+    (record {
       sound = row_sound cat st b.0 s valid n.1;
       lines = row_more cat st.rows b.0 st.txns st.lists st.place st.statements st.events place s.order
           ∙ ap (λ (l : List Word). so_far cat st ++ l ∷ []) (sym spelled);
@@ -224,13 +196,6 @@ header_sound cat st h s t named tm other room = record {
   order = no_more st.place st.txns st.lists st.statements st.events t s.order;
 }
 
-abbrev some_name : List ℕ → Option (List ℕ)
-some_name n = Some n
-
-name_if : (bytes name : List ℕ) (b : Bool) → cond b (Some bytes) None ≡ Some name → (b ≡ true) × (bytes ≡ name)
-name_if bytes name true e = (refl, cc)
-name_if bytes name false e = absurd cc
-
 pub named_takes : (bytes name : List ℕ) → name_in bytes ≡ Some name → (is_name name ≡ true) × (bytes ≡ name)
 named_takes bytes name e = let h = name_if bytes name (is_name bytes) e in (subst (λ (l : List ℕ). is_name l ≡ true) h.1 h.0, h.1)
 
@@ -279,7 +244,8 @@ with_one st q = record st { statements = st.statements ++ q ∷ []; written = st
 abbrev with_one_at : State → Stmt → ℕ → State
 with_one_at st q n = record st { statements = st.statements ++ q ∷ []; written = n }
 
-written_is : (written n : ℕ) (q : Stmt) → written ≤ MAX_ROWS → written_with written q ≡ Some n → (written + rows_put q ≡ n) × (written + rows_put q ≤ MAX_ROWS)
+written_is : (written n : ℕ) (q : Stmt) → written ≤ MAX_ROWS → written_with written q ≡ Some n
+    → (written + rows_put q ≡ n) × (written + rows_put q ≤ MAX_ROWS)
 written_is written n (statements.Put rel row) few e = let h = one_more_is written n (nat_lt written MAX_ROWS) refl e in (h.0, omega (arith, h.1))
 written_is written n (statements.Query out rels conds) few e = let h = some_is written n e in (omega (arith, h), omega (arith, few))
 written_is written n (statements.Update rel sets conds) few e = let h = some_is written n e in (omega (arith, h), omega (arith, few))
@@ -360,14 +326,8 @@ done_sound : (cat : Catalogue) (st : State) (h : Header) → Sound cat (at_place
 done_sound cat st h s = record {
   rows = s.rows;
   txns = all_more (IsValidTxn cat) st.txns (txn_with h st.statements) s.txns (record {
-    named =
-        s.header.0;
-    fits = record {
-      module_is_there = s.header.1;
-      few = s.few_statements;
-      statements =
-          s.statements;
-    };
+    named = s.header.0;
+    fits = record { module_is_there = s.header.1; few = s.few_statements; statements = s.statements };
     values = s.values;
   });
   statements = All-from_recursion (FitsStatement cat) [] tt;

@@ -1,45 +1,6 @@
 -- The spelling of a workload that the catalogue allows is read as the workload.
-use Rattle.std.proofs.Common.{◌≡◌, ℕ, ◌+◌, ◌<◌, ◌≤◌, List, [], ◌∷◌, ◌++◌, length, map, flat_map, Bool, true, false, cond, ◌&&◌, ltb, Some, None, Result, Ok, Err, refl, sym, ap, subst, ◌∙◌, arith, append-nil, append_assoc, Option}
-use Rattle.std.specs.Prelude.{codes, not, nat_lt, is_some, sum_by}
-use Rattle.std.specs.Str.{bytes_eq}
-use Rattle.std.specs.List.{AllByRecursion, position}
-use Rattle.std.proofs.lemmas.Bool.{lt-ltb}
-use Rattle.std.proofs.lemmas.List.{map-append, length-append}
-use Rattle.std.proofs.lemmas.List.Elements.{recursion_from_All}
-use Rattle.std.proofs.lemmas.List.Sums.{sum_by-cons}
-use Rattle.sdd_lang.specs.All.{Catalogue, ClassPart, Event, FitsStatement, MAX_ROWS, MAX_TXNS, RelNo, T, TmNo, TxnNo, Value, known, must, repeats, ◌>>=◌}
-use Rattle.sdd_lang.specs.declared.assign.Assign.{Assign}
-use Rattle.sdd_lang.specs.declared.condition.Condition.{Condition}
-use Rattle.sdd_lang.specs.declared.condition.Ref.{Ref}
-use Rattle.sdd_lang.specs.declared.statement.Stmt.{Stmt}
-use Rattle.sdd_lang.specs.declared.statement.Stmt.TheVariants as statements
-use Rattle.sdd_lang.specs.declared.transaction.Txn.{Txn}
-use Rattle.sdd_words.specs.Values.{value_word}
-use Rattle.sdd_words.specs.Keywords.{is_free}
-use Rattle.sdd_words.specs.Lines.{HasNoNewline, AreLines}
-use Rattle.sdd_words.specs.Words.{line_bytes}
-use Rattle.sdd_words.specs.declared.word.Word.{Word}
-use Rattle.sdd_words.specs.declared.word.Word.TheVariants.{Plain}
-use Rattle.sdd_script.specs.LineRules.{keyword_rules, line_rules, one_more_row, written_with, opened, statement_limits, with_statement, statement_rules}
-use Rattle.sdd_script.specs.Naming.{name_of}
-use Rattle.sdd_script.specs.Occurrences.{tm_of}
-use Rattle.sdd_script.specs.Places.{takes_txns, is_ended}
-use Rattle.sdd_script.specs.Spelling.{relation_word, column_word, sets_words, where_words, row_words, start_words, header_words, statement_words, done_words, txn_lines, site_word}
-use Rattle.sdd_script.specs.Statements.{put_of, query_of, update_of, delete_of}
-use Rattle.sdd_script.specs.Valid.{IsValue, HoldsValues, IsValidRow, IsValidTxn, rows_put_by}
-use Rattle.sdd_script.specs.Values.{row_of}
-use Rattle.sdd_script.specs.Walk.{at_line, one_line, tail_rules, walk}
-use Rattle.sdd_script.specs.declared.fault.Counts.TheVariants as counts
-use Rattle.sdd_script.specs.declared.fault.WorkRule.{WorkRule}
-use Rattle.sdd_script.specs.declared.fault.WorkRule.TheVariants.{BadLine, UnknownName, DuplicateTxn, TooMany}
-use Rattle.sdd_script.specs.declared.keyword.Keyword.{Keyword}
-use Rattle.sdd_script.specs.declared.keyword.Keyword.TheVariants as keys
-use Rattle.sdd_script.specs.declared.keyword.StatementKey.TheVariants as skeys
-use Rattle.sdd_script.specs.declared.place.Header.{Header}
-use Rattle.sdd_script.specs.declared.place.Place.{Place}
-use Rattle.sdd_script.specs.declared.place.Place.TheVariants as places
-use Rattle.sdd_script.specs.declared.state.State.{State}
-use Rattle.sdd_script.proofs.StepLaws.{both_are}
+use Rattle.sdd_script.proofs.All.{AllByRecursion, AreLines, Assign, BadLine, Bool, Catalogue, ClassPart, Condition, DuplicateTxn, Err, Event, FitsStatement, HasNoNewline, Header, HoldsValues, IsValidRow, IsValidTxn, IsValue, Keyword, List, MAX_ROWS, MAX_TXNS, None, Ok, Option, Place, Plain, Ref, RelNo, Result, Some, State, Stmt, T, TmNo, TooMany, Txn, TxnNo, UnknownName, Value, Word, WorkRule, [], ap, append-nil, append_assoc, arith, at_line, both_are, bytes_eq, codes, column_word, cond, delete_of, done_words, false, flat_map, header_words, is_ended, is_free, is_some, keyword_rules, known, length, length-append, line_bytes, line_rules, lt-ltb, map, map-append, must, name_of, nat_lt, nat_lt as ltb, not, one_line, one_more_row, opened, position, put_of, query_of, recursion_from_All, refl, relation_word, repeats, row_of, row_words, rows_put_by, sets_words, site_word, start_words, statement_limits, statement_rules, statement_words, subst, sum_by, sum_by-cons, sym, tail_rules, takes_txns, tm_of, true, txn_lines, update_of, value_word, where_words, with_statement, written_with, ℕ, ◌&&◌, ◌++◌, ◌+◌, ◌<◌, ◌>>=◌, ◌∙◌, ◌∷◌, ◌≡◌, ◌≤◌}
+use Rattle.sdd_script.specs.Walk.{walk}
 use Rattle.sdd_script.proofs.WordCuts.{NonePasses}
 use Rattle.sdd_script.proofs.WordLooks.{name_free}
 use Rattle.sdd_script.proofs.UseLaws.{IsKnown}
@@ -51,6 +12,11 @@ use Rattle.sdd_script.proofs.LineLaws.{keyword_bytes, line_again, line_has_no_ne
 use Rattle.sdd_script.proofs.NamePlaces.{found_none, apart_before}
 use Rattle.sdd_script.proofs.SoundStates.{rows_put, names_of}
 use Rattle.sdd_script.proofs.FineLines.{AreFine, row_of_statement, keyword_fine, start_fine, header_fine, statement_fine}
+use Rattle.sdd_lang.specs.declared.statement.Stmt.TheVariants as statements
+use Rattle.sdd_script.specs.declared.fault.Counts.TheVariants as counts
+use Rattle.sdd_script.specs.declared.keyword.Keyword.TheVariants as keys
+use Rattle.sdd_script.specs.declared.keyword.StatementKey.TheVariants as skeys
+use Rattle.sdd_script.specs.declared.place.Place.TheVariants as places
 
 -- a line that is read
 pub record IsStep (cat : Catalogue) (st to : State) (line : List ℕ) : Type 0 where
@@ -62,7 +28,8 @@ abbrev pub Chain : Catalogue → State → List (List ℕ) → State → Type 0
 Chain cat st [] to = st ≡ to
 Chain cat st (line ∷ lines) to = (next : State) × IsStep cat st next line × Chain cat next lines to
 
-pub chain-append : (cat : Catalogue) (st mid to : State) (xs ys : List (List ℕ)) → Chain cat st xs mid → Chain cat mid ys to → Chain cat st (xs ++ ys) to
+pub chain-append : (cat : Catalogue) (st mid to : State) (xs ys : List (List ℕ)) → Chain cat st xs mid → Chain cat mid ys to
+    → Chain cat st (xs ++ ys) to
 chain-append cat st mid to [] ys h k = subst (λ (x : State). Chain cat x ys to) (sym h) k
 chain-append cat st mid to (x ∷ xs) ys h k = (h.0, h.1, chain-append cat h.0 mid to xs ys h.2 k)
 
@@ -82,8 +49,7 @@ chain_walk cat n st to (line ∷ lines) h e =
 
 -- a line, by its keyword
 pub line_step : (cat : Catalogue) (st to : State) (key : Keyword) (words : List Word)
-    → is_ended st.place ≡ false → AreFine (Plain (keyword_bytes key) ∷ words)
-    → keyword_rules key cat st words ≡ Ok to
+    → is_ended st.place ≡ false → AreFine (Plain (keyword_bytes key) ∷ words) → keyword_rules key cat st words ≡ Ok to
     → IsStep cat st to (line_bytes (Plain (keyword_bytes key) ∷ words))
 line_step cat st to key words going fine e = record {
   read = ap (λ (b : Bool). cond b (Err BadLine)
@@ -92,7 +58,8 @@ line_step cat st to key words going fine e = record {
   line_is = line_has_no_newline (Plain (keyword_bytes key)) words fine;
 }
 
-abbrev pub state_of : Place → List (RelNo × List Value) → ℕ → List (List ℕ) → List Txn → List Stmt → List (List ClassPart) → ℕ → List TxnNo → List Event → State
+abbrev pub state_of : Place → List (RelNo × List Value) → ℕ → List (List ℕ) → List Txn → List Stmt → List (List ClassPart) → ℕ
+    → List TxnNo → List Event → State
 state_of place rows written names txns statements lists classes submitted events =
     record {
       place = place;
@@ -100,8 +67,7 @@ state_of place rows written names txns statements lists classes submitted events
       written = written;
       names = names;
       txns = txns;
-      statements =
-          statements;
+      statements = statements;
       lists = lists;
       classes = classes;
       submitted = submitted;
@@ -117,7 +83,8 @@ of_rows cat rows written = early cat places.Rows rows written [] [] []
 
 -- ---- rows
 
-row_step : (cat : Catalogue) → IsKnown cat → (rows : List (RelNo × List Value)) (written : ℕ) (r : RelNo × List Value) → IsValidRow cat r → written < MAX_ROWS
+row_step : (cat : Catalogue) → IsKnown cat → (rows : List (RelNo × List Value)) (written : ℕ) (r : RelNo × List Value) → IsValidRow cat r
+    → written < MAX_ROWS
     → IsStep cat (of_rows cat rows written) (of_rows cat (rows ++ r ∷ []) (written + 1)) (line_bytes (start_words cat r))
 row_step cat k rows written r h room =
     let f : FitsRowOf cat r.0 r.1 = (h.fits.0, h.fits.1, recursion_from_All IsValue r.1 h.values) in
@@ -134,7 +101,8 @@ row_step cat k rows written r h room =
     λ n. Ok (record st { rows = st.rows ++ x ∷ []; written = n })) b
     ∙ ap (λ (o : Option ℕ). known (TooMany counts.Row) o >>= λ n. Ok (of_rows cat (rows ++ r ∷ []) n)) c)
 
-rows_same : (cat : Catalogue) (rows rows2 : List (RelNo × List Value)) (n m : ℕ) → rows ≡ rows2 → n ≡ m → of_rows cat rows n ≡ of_rows cat rows2 m
+rows_same : (cat : Catalogue) (rows rows2 : List (RelNo × List Value)) (n m : ℕ) → rows ≡ rows2 → n ≡ m
+    → of_rows cat rows n ≡ of_rows cat rows2 m
 rows_same cat rows rows2 n m p q = ap (λ (l : List (RelNo × List Value)). of_rows cat l n) p ∙ ap (of_rows cat rows2) q
 
 pub rows_chain : (cat : Catalogue) → IsKnown cat → (rs rows : List (RelNo × List Value)) (written : ℕ)
@@ -160,12 +128,6 @@ room_again written (statements.Put rel row) h = ap (λ (b : Bool). cond b (Some 
 room_again written (statements.Query out rels conds) h = ap (λ (n : ℕ). Some n) (omega arith)
 room_again written (statements.Update rel sets conds) h = ap (λ (n : ℕ). Some n) (omega arith)
 room_again written (statements.Delete rel conds) h = ap (λ (n : ℕ). Some n) (omega arith)
-
-abbrev key_of_statement : Stmt → Keyword
-key_of_statement (statements.Put rel row) = (keys.Statement skeys.Put)
-key_of_statement (statements.Query out rels conds) = (keys.Statement skeys.Query)
-key_of_statement (statements.Update rel sets conds) = (keys.Statement skeys.Update)
-key_of_statement (statements.Delete rel conds) = (keys.Statement skeys.Delete)
 
 statement_rules_again : (cat : Catalogue) (h : Header) (rows : List (RelNo × List Value)) (written : ℕ)
     (names : List (List ℕ)) (txns : List Txn) (ss : List Stmt) (q : Stmt) (reading : Result Stmt WorkRule)
@@ -317,7 +279,8 @@ txn_chain cat k place rows written names txns t at h other room few =
     let mid : State = inside cat hd rows (written + rows_put_by t) more txns t.statements in
     let to : State = outside cat places.Between rows (written + rows_put_by t) more (txns ++ t ∷ []) in
     let last : Chain cat mid (line_bytes done_words ∷ []) to = (to, done_step cat hd rows (written + rows_put_by t) more txns t.statements, refl) in
-    let both : Chain cat (inside cat hd rows written more txns []) (map line_bytes (map (statement_words cat) t.statements) ++ line_bytes done_words ∷ []) to =
+    let both : Chain cat (inside cat hd rows written more txns [])
+    (map line_bytes (map (statement_words cat) t.statements) ++ line_bytes done_words ∷ []) to =
     chain-append cat (inside cat hd rows written more txns []) mid to
     (map line_bytes (map (statement_words cat) t.statements)) (line_bytes done_words ∷ []) body last in (
       inside cat hd rows written more txns [],
@@ -347,8 +310,7 @@ pub txns_chain : (cat : Catalogue) → IsKnown cat → (rows : List (RelNo × Li
     rows (written + sum_by rows_put_by ts) (names ++ names_of ts) (txns ++ ts)
 txns_chain cat k rows [] place written names txns at h differ room few = record {
   place = place;
-  goes_on =
-      at;
+  goes_on = at;
   chain = outside_same cat place rows written (written + 0) names (names ++ []) txns (txns ++ [])
       (omega arith) (sym (append-nil names)) (sym (append-nil txns));
 }

@@ -1,14 +1,9 @@
 -- What a step that broke no rule says, and what a list of them does.
-use Rattle.std.proofs.Common.{◌≡◌, ℕ, ◌+◌, List, [], ◌∷◌, Bool, true, false, ◌&&◌, Option, Some, None, Result, Ok, map, refl, ◌≤◌, not, arith}
-use Rattle.std.specs.Prelude.{nat_le}
-use Rattle.std.proofs.lemmas.Bool.Decides.{nat_tests}
-use Rattle.std.specs.List.{AllByRecursion}
-use Rattle.sdd_lang.specs.All.{known, must, ◌>>=◌}
-use Rattle.sdd_lang.proofs.base.ReadingLaws.{Answers}
-use Rattle.sdd_script.specs.declared.fault.WorkRule.{WorkRule}
+use Rattle.sdd_script.proofs.All.{AllByRecursion, Answers, Bool, List, None, Ok, Option, Result, Some, WorkRule, [], arith, false, known, map, must, nat_le, nat_tests, not, refl, true, ℕ, ◌+◌, ◌>>=◌, ◌∷◌, ◌≡◌, ◌≤◌}
 
 -- a test that holds, and then what follows
-pub must_then : {B : Type 0} (rule : WorkRule) (b : Bool) (f : Unit {0} → Result B WorkRule) (y : B) → (must rule b >>= f) ≡ Ok y → (b ≡ true) × (f tt ≡ Ok y)
+pub must_then : {B : Type 0} (rule : WorkRule) (b : Bool) (f : Unit {0} → Result B WorkRule) (y : B) → (must rule b >>= f) ≡ Ok y
+    → (b ≡ true) × (f tt ≡ Ok y)
 must_then rule true f y e = (refl, e)
 must_then rule false f y e = absurd cc
 
@@ -18,16 +13,9 @@ pub known_then : {A B : Type 0} (rule : WorkRule) (o : Option A) (f : A → Resu
 known_then rule None f y e = absurd cc
 known_then rule (Some x) f y e = (x, refl, e)
 
-pub both_hold : (a b : Bool) → (a && b) ≡ true → (a ≡ true) × (b ≡ true)
-both_hold true true e = (refl, refl)
-both_hold true false e = absurd cc
-both_hold false b e = absurd cc
-
-pub both_are : (a b : Bool) → a ≡ true → b ≡ true → (a && b) ≡ true
-both_are a b p q = rw (p, q) refl
-
 -- where each answer says what its item is and what holds of it, all do
-pub answers_say : {A B : Type 0} (f : ℕ → A → Result B WorkRule) (g : B → A) (P : B → Type 0) → ((i : ℕ) (x : A) (y : B) → f i x ≡ Ok y → (x ≡ g y) × P y)
+pub answers_say : {A B : Type 0} (f : ℕ → A → Result B WorkRule) (g : B → A) (P : B → Type 0)
+    → ((i : ℕ) (x : A) (y : B) → f i x ≡ Ok y → (x ≡ g y) × P y)
     → (i : ℕ) (xs : List A) (ys : List B) → Answers f i xs ys → (xs ≡ map g ys) × AllByRecursion P ys
 answers_say f g P one i [] [] h = (refl, tt)
 answers_say f g P one i [] (y ∷ ys) h = absurd h

@@ -1,38 +1,15 @@
 -- Updates and deletes: what is read is spelled and fits, and what is spelled and fits is read.
-use Rattle.std.proofs.Common.{◌≡◌, ◌≤◌, List, [], ◌∷◌, ◌++◌, length, map, Bool, true, ◌&&◌, Option, Some, Ok, refl, sym, ap, subst, ◌∙◌, arith}
-use Rattle.std.specs.Prelude.{codes}
-use Rattle.std.specs.Fmt.{signed_decimal}
-use Rattle.std.specs.List.{AllByRecursion}
-use Rattle.std.proofs.lemmas.List.Elements.{All-from_recursion, recursion_from_All}
-use Rattle.sdd_lang.specs.All.{Catalogue, FitsAssign, FitsCondition, FitsStatement, IsRelation, RelNo, along, known, must, rel_no, ◌>>=◌}
-use Rattle.sdd_lang.specs.declared.assign.Assign.{Assign}
-use Rattle.sdd_lang.specs.declared.assign.Assign.TheVariants.{To, Add}
-use Rattle.sdd_lang.specs.declared.condition.Condition.{Condition}
-use Rattle.sdd_lang.specs.declared.statement.Stmt.{Stmt}
-use Rattle.sdd_lang.specs.declared.statement.Stmt.TheVariants.{Update, Delete}
-use Rattle.sdd_words.specs.Values.{value_word}
-use Rattle.sdd_words.specs.Keywords.{is_key, is_free}
-use Rattle.sdd_words.specs.Forms.{up_to, from_key, comparisons, conditions_form, settings, not_empty}
-use Rattle.sdd_words.specs.declared.form.Comparison.{Comparison}
-use Rattle.sdd_words.specs.declared.form.Setting.{Setting}
-use Rattle.sdd_words.specs.declared.word.Word.{Word}
-use Rattle.sdd_words.specs.declared.word.Word.TheVariants.{Plain}
-use Rattle.sdd_script.specs.Columns.{conditions_of}
-use Rattle.sdd_script.specs.Naming.{name_of_relation, relation_of}
-use Rattle.sdd_script.specs.Spelling.{relation_word, column_word, own_column, where_words, sets_words}
-use Rattle.sdd_script.specs.Statements.{assign_of, update_of_parts, update_behind_set, update_of, delete_of}
-use Rattle.sdd_script.specs.Valid.{HoldsValue, AssignsValue, HoldsValues}
-use Rattle.sdd_script.specs.declared.fault.WorkRule.TheVariants.{BadLine, UnknownName}
-use Rattle.sdd_lang.proofs.base.ReadingLaws.{bind_ok, ok_is}
-use Rattle.sdd_script.proofs.StepLaws.{must_then, known_then, both_hold, both_are, two_same}
+use Rattle.sdd_script.proofs.All.{Add, All-from_recursion, AllByRecursion, Assign, AssignsValue, BadLine, Bool, Catalogue, Comparison, Condition, Delete, FitsAssign, FitsCondition, FitsStatement, HoldsValue, HoldsValues, IsRelation, List, Ok, Option, Plain, RelNo, Setting, Some, Stmt, To, UnknownName, Update, Word, [], along, ap, arith, assign_of, bind_ok, both_are, both_hold, codes, column_word, comparisons, conditions_form, conditions_of, delete_of, from_key, is_free, is_key, known, length, map, must, name_of_relation, not_empty, ok_is, own_column, recursion_from_All, refl, rel_no, relation_of, relation_word, sets_words, settings, signed_decimal, subst, sym, true, up_to, update_behind_set, update_of, value_word, where_words, ◌&&◌, ◌++◌, ◌>>=◌, ◌∙◌, ◌∷◌, ◌≡◌, ◌≤◌}
+use Rattle.sdd_script.specs.Statements.{update_of_parts}
+use Rattle.sdd_script.proofs.StepLaws.{must_then, known_then, two_same}
 use Rattle.sdd_script.proofs.WordLooks.{name_free, value_free, number_free}
 use Rattle.sdd_script.proofs.WordCuts.{NonePasses, joined_again, key_is_that}
 use Rattle.sdd_script.proofs.UseLaws.{IsKnown, relation_takes, relation_again}
 use Rattle.sdd_script.proofs.RefLaws.{AreParts, column_word_is}
 use Rattle.sdd_script.proofs.ConditionLaws.{conditions_take, conditions_again, comparison_for, form_again}
-use Rattle.sdd_script.proofs.AssignLaws.{AreAssigns, assigns_take, assigns_again, setting_for}
-use Rattle.sdd_script.proofs.AssignLaws as assigning
+use Rattle.sdd_script.proofs.AssignLaws.{assigns_take, assigns_again, setting_for}
 use Rattle.sdd_script.proofs.QueryLaws.{IsStatement, update_limits, delete_limits, before_where, from_where, free_no_key}
+use Rattle.sdd_script.proofs.AssignLaws as assigning
 
 middle_same : (a b c : Word) (xs ys : List Word) → b ≡ c → xs ≡ ys → a ∷ b ∷ xs ≡ a ∷ c ∷ ys
 middle_same a b c xs ys p q = cc
@@ -117,8 +94,7 @@ pub one_part : (cat : Catalogue) (rel : RelNo) → IsRelation cat rel.0 → AreP
 one_part cat rel h = record { there = All-from_recursion (λ (r : RelNo). IsRelation cat r.0) (rel ∷ []) (h, tt); few = omega arith }
 
 pub update_fits : (cat : Catalogue) (rel : RelNo) (sets : List Assign) (conds : List Condition)
-    → FitsStatement cat (Update rel sets conds) → HoldsValues (Update rel sets conds)
-    → FitsUpdate cat rel sets conds
+    → FitsStatement cat (Update rel sets conds) → HoldsValues (Update rel sets conds) → FitsUpdate cat rel sets conds
 update_fits cat rel sets conds h v = record {
   parts = one_part cat rel h.0;
   relation = h.0;
@@ -149,8 +125,7 @@ sets_not_where cat k rel p (To column value ∷ sets) h v =
         refl,
         (
           free_no_key (codes "where") (value_word value) refl (value_free value v.0),
-          sets_not_where cat
-              k rel p sets h.1 v.1,
+          sets_not_where cat k rel p sets h.1 v.1,
         ),
       ),
     )
@@ -205,7 +180,8 @@ delete_takes cat (name ∷ rest) s e =
     let b = known_then BadLine (conditions_form rest) (λ comparisons. known UnknownName
     (relation_of cat name) >>= λ rel. conditions_of cat (Some rel ∷ []) comparisons >>=
     λ conds. Ok (Delete (rel_no rel) conds)) s a.1 in
-    let c = known_then UnknownName (relation_of cat name) (λ rel. conditions_of cat (Some rel ∷ []) b.0 >>= λ conds. Ok (Delete (rel_no rel) conds)) s b.2 in
+    let c = known_then UnknownName (relation_of cat name)
+    (λ rel. conditions_of cat (Some rel ∷ []) b.0 >>= λ conds. Ok (Delete (rel_no rel) conds)) s b.2 in
     let rel : RelNo = rel_no c.0 in
     let d = bind_ok (conditions_of cat (Some c.0 ∷ []) b.0) (λ conds. Ok (Delete rel conds)) s c.2 in
     let t = relation_takes cat name c.0 c.1 in

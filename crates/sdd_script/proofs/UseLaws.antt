@@ -1,30 +1,6 @@
 -- Relations and columns of uses: what is read is spelled and is there, and what is spelled and is there is read.
-use Rattle.std.proofs.Common.{◌≡◌, ℕ, ℤ, pos, negsuc, zero, suc, ◌+◌, ◌-◌, ◌^◌, ◌<◌, ◌≤◌, List, [], ◌∷◌, ◌++◌, length, get_or, Bool, true, false, cond, eqb, ltb, Option, Some, None, Ok, refl, sym, ap, subst, ◌∙◌, arith}
-use Rattle.std.specs.Prelude.{not, ◌||◌, slice_get}
-use Rattle.std.specs.Str.{bytes_eq}
-use Rattle.std.specs.Option.{option_map_or}
-use Rattle.std.specs.Fmt.{decimal, signed_decimal}
-use Rattle.std.specs.List.{find, range_with_len}
-use Rattle.std.proofs.lemmas.Bool.{ltb-true, lt-ltb, ne_eqb}
-use Rattle.std.proofs.lemmas.Slice.Eq.{bytes_eq-Decides}
-use Rattle.std.proofs.lemmas.Option.{slice_get-get_or}
-use Rattle.std.proofs.lemmas.List.Quantifiers.{position-Some}
-use Rattle.sdd_lang.specs.All.{Catalogue, Column, IsColumn, IsRelation, is_name, kind_at, known, rel_no, ◌>>=◌}
-use Rattle.sdd_lang.specs.catalog.declared.parts.Kind.TheVariants.{Int}
-use Rattle.sdd_lang.specs.declared.condition.Ref.{Ref}
-use Rattle.sdd_words.specs.Keywords.{has_point, before_point, behind_point, looks_like_column}
-use Rattle.sdd_words.specs.Number.{number_of}
-use Rattle.sdd_words.specs.Whole.{is_whole}
-use Rattle.sdd_words.specs.declared.word.Word.{Word}
-use Rattle.sdd_words.specs.declared.word.Word.TheVariants.{Plain, Quoted}
-use Rattle.sdd_words.proofs.Numbers.{number_takes, number_again}
-use Rattle.sdd_script.specs.Columns.{Parts, use_in, use_at, use_numbered, column_in, column_of_use}
-use Rattle.sdd_script.specs.Naming.{columns_of, name_of_relation, relation_named, relation_of, column_named, kind_of_place}
-use Rattle.sdd_script.specs.Spelling.{relation_word, name_of_column}
-use Rattle.sdd_script.specs.declared.fault.WorkRule.TheVariants.{BadNumber, UnknownName}
-use Rattle.sdd_script.specs.declared.found.Found.{Found}
-use Rattle.sdd_lang.proofs.base.ReadingLaws.{ok_is}
-use Rattle.sdd_script.proofs.StepLaws.{must_then, known_then, both_hold, some_is}
+use Rattle.sdd_script.proofs.All.{BadNumber, Bool, Catalogue, Column, Found, Int, IsColumn, IsRelation, List, None, Ok, Option, Parts, Plain, Quoted, Ref, Some, UnknownName, Word, [], ap, arith, before_point, behind_point, both_hold, bytes_eq, bytes_eq-Decides, column_in, column_named, column_of_use, columns_of, cond, decimal, eqb, false, find, get_or, has_point, is_name, is_whole, kind_at, kind_of_place, known, length, looks_like_column, lt-ltb, ltb-true, name_of_column, name_of_relation, nat_lt as ltb, ne_eqb, negsuc, not, number_again, number_of, number_takes, ok_is, option_map_or, pos, position-Some, range_with_len, refl, rel_no, relation_named, relation_of, relation_word, signed_decimal, slice_get, slice_get-get_or, subst, suc, sym, true, use_at, use_in, use_numbered, zero, ℕ, ℤ, ◌++◌, ◌+◌, ◌-◌, ◌<◌, ◌>>=◌, ◌^◌, ◌||◌, ◌∙◌, ◌∷◌, ◌≡◌, ◌≤◌}
+use Rattle.sdd_script.proofs.StepLaws.{must_then, known_then, some_is}
 use Rattle.sdd_script.proofs.ValueLaws.{columns_are}
 use Rattle.sdd_script.proofs.WordCuts.{point_cut}
 use Rattle.sdd_script.proofs.WordLooks.{before_is, behind_is, decimal_is_whole}
@@ -51,8 +27,7 @@ found_step : (p : ℕ → Bool) (a n found : ℕ) (b : Bool) → p a ≡ b
     → (find p (range_with_len (a + 1) n) ≡ Some found → IsFound p (a + 1) n found)
     → cond b (Some a) (find p (range_with_len (a + 1) n)) ≡ Some found → IsFound p a (suc n) found
 found_step p a n found true e ih h = let same = some_is a found h in record {
-  passes =
-      subst (λ (x : ℕ). p x ≡ true) same e;
+  passes = subst (λ (x : ℕ). p x ≡ true) same e;
   from = omega (arith, same);
   to = omega (arith, same);
 }
@@ -92,7 +67,8 @@ name_at columns i d lt = let e = slice_get-get_or columns i d lt in rw e refl
 kind_at_place : (columns : List Column) (i : ℕ) (d : Column) → i < length columns → kind_of_place columns i ≡ Some (get_or columns i d).kind
 kind_at_place columns i d lt = let e = slice_get-get_or columns i d lt in rw e refl
 
-pub column_takes : (columns : List Column) (part : ℕ) (name : List ℕ) (f : Found) → column_in columns part name ≡ Ok f → IsColumnAt columns part name f
+pub column_takes : (columns : List Column) (part : ℕ) (name : List ℕ) (f : Found) → column_in columns part name ≡ Ok f
+    → IsColumnAt columns part name f
 column_takes columns part name f e =
     let a = known_then UnknownName (column_named columns name)
     (λ place. known UnknownName (kind_of_place columns place) >>=
@@ -151,8 +127,7 @@ use_in_is (Some None) part u e = absurd cc
 use_in_is (Some (Some rel)) part u e = use_pair rel part u e
 
 use_at_if : (parts : Parts) (part : ℕ) (u : ℕ × ℕ) (a b : Bool) → eqb part 0 ≡ a → ltb part (2 ^ 32) ≡ b
-    → cond (a || not b) None (use_in (slice_get parts (part - 1)) part) ≡ Some u
-    → IsUseAt parts (pos part) u
+    → cond (a || not b) None (use_in (slice_get parts (part - 1)) part) ≡ Some u → IsUseAt parts (pos part) u
 use_at_if parts part u true b p q e = absurd cc
 use_at_if parts part u false false p q e = absurd cc
 use_at_if parts zero u false true p q e = absurd cc
@@ -163,10 +138,8 @@ use_at_if parts (suc part) u false true p q e =
     record {
       is = ap (λ (n : ℕ). pos n) (sym same);
       some = omega (arith, same);
-      small =
-          omega (arith, same, small);
-      there = subst (λ (n : ℕ). slice_get parts (n - 1) ≡ Some (Some u.1))
-          (sym same) i.1;
+      small = omega (arith, same, small);
+      there = subst (λ (n : ℕ). slice_get parts (n - 1) ≡ Some (Some u.1)) (sym same) i.1;
     }
 
 pub use_takes : (parts : Parts) (z : ℤ) (u : ℕ × ℕ) → use_at parts z ≡ Some u → IsUseAt parts z u
@@ -205,7 +178,8 @@ use_of_takes cat parts (Plain bytes) f look e =
     let a = must_then BadNumber (is_whole (before_point bytes))
     (λ _. known UnknownName (use_numbered parts (number_of (before_point bytes))) >>=
     λ u. column_in (columns_of cat u.1) u.0 (behind_point bytes)) f e in
-    let b = known_then UnknownName (use_numbered parts (number_of (before_point bytes))) (λ u. column_in (columns_of cat u.1) u.0 (behind_point bytes)) f a.1 in
+    let b = known_then UnknownName (use_numbered parts (number_of (before_point bytes)))
+    (λ u. column_in (columns_of cat u.1) u.0 (behind_point bytes)) f a.1 in
     use_of_number cat parts bytes f b.0 (number_of (before_point bytes)) refl
     (point_cut bytes (both_hold (has_point bytes) (not (has_point (behind_point bytes))) look).0) b.1 b.2
 
@@ -225,7 +199,8 @@ use_at_again parts part rel some small there =
     let b : ltb part (2 ^ 32) ≡ true = lt-ltb part (2 ^ 32) small in
     rw (a, b, there) refl
 
-pub kind_is : (cat : Catalogue) (rel column : ℕ) → IsColumn cat rel column → kind_of_place (columns_of cat rel) (column - 1) ≡ Some (kind_at cat rel column)
+pub kind_is : (cat : Catalogue) (rel column : ℕ) → IsColumn cat rel column
+    → kind_of_place (columns_of cat rel) (column - 1) ≡ Some (kind_at cat rel column)
 kind_is cat rel column h =
     let lt : column - 1 < length (columns_of cat rel) = rw (columns_are cat rel) (omega (arith, h.0, h.1)) in
     let d : Column = record { name = []; kind = Int } in

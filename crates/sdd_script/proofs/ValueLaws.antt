@@ -1,25 +1,8 @@
 -- Values: what is read is spelled and fits, and what is spelled and fits is read.
-use Rattle.std.proofs.Common.{◌≡◌, ℕ, suc, ◌-◌, List, [], ◌∷◌, length, map, get_or, Bool, true, false, cond, Option, Some, None, Result, Ok, refl, ap, subst, ◌∙◌, arith, ◌+◌, add-one, sym}
-use Rattle.std.specs.Prelude.{slice_get, unwrap_or}
-use Rattle.std.specs.Option.{option_map_or}
-use Rattle.std.specs.List.{AllByRecursion}
-use Rattle.std.proofs.lemmas.Option.{unwrap_or-slice_get}
-use Rattle.sdd_lang.specs.All.{Catalogue, Column, Kind, Relation, Value, key_column, kind_of, must, relation_at, ◌>>=◌}
+use Rattle.sdd_script.proofs.All.{AllByRecursion, Answers, BadLine, BadNumber, Bool, Catalogue, Column, IsValue, Kind, List, None, Ok, Option, Plain, Quoted, Relation, Result, Some, Value, Word, WorkRule, WrongKind, [], add-one, along_ok, ap, arith, columns_of, cond, false, get_or, is_of_kind, is_text, key_column, key_of, kind_of, kind_of_place, length, map, must, name_of_relation, number_again, number_of, number_takes, ok_along, ok_is, option_map_or, refl, relation_at, slice_get, subst, suc, sym, text_in, true, unwrap_or, unwrap_or-slice_get, value_of, value_word, values_of, ℕ, ◌+◌, ◌-◌, ◌>>=◌, ◌∙◌, ◌∷◌, ◌≡◌}
+use Rattle.sdd_script.proofs.StepLaws.{must_then, known_then}
 use Rattle.sdd_lang.specs.base.declared.value.Value.TheVariants as values
 use Rattle.sdd_lang.specs.catalog.declared.parts.Kind.TheVariants as kinds
-use Rattle.sdd_words.specs.Values.{value_word}
-use Rattle.sdd_words.specs.Number.{number_of}
-use Rattle.sdd_words.specs.Texts.{is_text, text_in}
-use Rattle.sdd_words.specs.declared.word.Word.{Word}
-use Rattle.sdd_words.specs.declared.word.Word.TheVariants.{Plain, Quoted}
-use Rattle.sdd_words.proofs.Numbers.{number_takes, number_again}
-use Rattle.sdd_script.specs.Naming.{columns_of, key_of, name_of_relation, kind_of_place}
-use Rattle.sdd_script.specs.Valid.{IsValue}
-use Rattle.sdd_script.specs.Values.{is_of_kind, value_of, values_of}
-use Rattle.sdd_script.specs.declared.fault.WorkRule.{WorkRule}
-use Rattle.sdd_script.specs.declared.fault.WorkRule.TheVariants.{BadLine, BadNumber, WrongKind}
-use Rattle.sdd_lang.proofs.base.ReadingLaws.{ok_is, Answers, along_ok, ok_along}
-use Rattle.sdd_script.proofs.StepLaws.{must_then, known_then}
 
 -- ---- the two spellings of a relation's parts
 
@@ -64,7 +47,7 @@ pub kind_same : (a : Kind) → is_of_kind (Some a) a ≡ true
 kind_same kinds.Int = refl
 kind_same kinds.Text = refl
 
-some_text : (bytes text : List ℕ) (b : Bool) → cond b (Some bytes) None ≡ Some text → (b ≡ true) × (bytes ≡ text)
+pub some_text : (bytes text : List ℕ) (b : Bool) → cond b (Some bytes) None ≡ Some text → (b ≡ true) × (bytes ≡ text)
 some_text bytes text true e = (refl, cc)
 some_text bytes text false e = absurd cc
 
@@ -83,8 +66,7 @@ value_takes k (Quoted text) v e =
     let b = must_then WrongKind (is_of_kind (Some k) kinds.Text) (λ _. Ok (values.Text a.0)) v a.2 in
     rw (← ok_is (values.Text a.0) v b.1) (record {
       spelled = ap (λ (l : List ℕ). Quoted l) t.1;
-      same =
-          kind_text k b.0;
+      same = kind_text k b.0;
       fits = (subst (λ (l : List ℕ). is_text l ≡ true) t.1 t.0);
     })
 
@@ -137,7 +119,8 @@ row_of_answers (c ∷ cs) (w ∷ ws) (v ∷ vs) h len =
     let ks : map kind_of vs ≡ kinds_of cs = more.same in
     record { spelled = cc; same = cc; fits = (one.fits, more.fits) }
 
-pub values_take : (columns : List Column) (ws : List Word) (vs : List Value) → values_of columns ws ≡ Ok vs → length ws ≡ length columns → IsRow columns ws vs
+pub values_take : (columns : List Column) (ws : List Word) (vs : List Value) → values_of columns ws ≡ Ok vs → length ws ≡ length columns
+    → IsRow columns ws vs
 values_take columns ws vs e len = row_of_answers columns ws vs (along_ok (at_columns columns) 0 ws vs e) len
 
 heads : (k l : Kind) (ks ls : List Kind) → k ∷ ks ≡ l ∷ ls → (k ≡ l) × (ks ≡ ls)

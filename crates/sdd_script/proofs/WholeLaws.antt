@@ -1,37 +1,5 @@
 -- The whole file: the spelling of a workload that the catalogue allows is read as the workload.
-use Rattle.std.proofs.Common.{◌≡◌, ℕ, ◌+◌, ◌-◌, ◌<◌, ◌≤◌, List, [], ◌∷◌, ◌++◌, length, map, flat_map, get_or, Bool, true, false, cond, ltb, Option, Some, None, Result, Ok, Err, refl, sym, ap, subst, ◌∙◌, arith, append-nil, append_assoc}
-use Rattle.std.specs.Prelude.{not, nat_lt, sum_by, ◌==◌}
-use Rattle.std.specs.Option.{option_map}
-use Rattle.std.specs.Str.{bytes_eq}
-use Rattle.std.specs.List.{All, AllByRecursion, position, filter_map, list_any}
-use Rattle.std.proofs.lemmas.Bool.{lt-ltb, le-ltb}
-use Rattle.std.proofs.lemmas.List.{map-append, length-append, length-map, get_or-map}
-use Rattle.std.proofs.lemmas.List.Elements.{recursion_from_All, All-get_or}
-use Rattle.sdd_lang.specs.All.{Catalogue, ClassPart, D, Deliver, Down, Event, IsFrom1To, Lose, MAX_EVENTS, MAX_WORKLOAD_BYTES, Redeclare, RelNo, Repeat, Resend, Settle, Site, Submit, T, Tick, TxnNo, Up, Value, is_name, known, must, repeats, txn_no, ◌>>=◌}
-use Rattle.sdd_lang.proofs.catalog.NameLemmas.{list_any-map}
-use Rattle.sdd_lang.specs.declared.transaction.Txn.{Txn}
-use Rattle.sdd_words.specs.Lines.{cut_lines}
-use Rattle.sdd_words.specs.Names.{name_in}
-use Rattle.sdd_words.specs.Words.{line_bytes}
-use Rattle.sdd_words.specs.declared.word.Word.{Word}
-use Rattle.sdd_words.specs.declared.word.Word.TheVariants.{Plain}
-use Rattle.sdd_words.proofs.Spelled.{cut_again}
-use Rattle.sdd_script.specs.LineRules.{is_submitted, with_submitted, with_event, event_rules}
-use Rattle.sdd_script.specs.Occurrences.{number_named, txn_named, submit_of, deliver_of, lose_of, repeat_of, resend_of, tick_of, settle_of, redeclare_of, down_of, up_of}
-use Rattle.sdd_script.specs.Places.{takes_txns, takes_lists, takes_events, is_ended}
-use Rattle.sdd_script.specs.Redeclaring.{may_follow}
-use Rattle.sdd_script.specs.Spelling.{start_words, event_words, end_words, name_of_txn, txn_lines, list_lines, site_word, count_word, lines_of, spelling}
-use Rattle.sdd_script.specs.Valid.{IsValidRow, IsValidTxn, IsValidEvent, IsValid, AreTimely, rows_put_by, submitted_by, AreDistinct}
-use Rattle.sdd_script.specs.Walk.{walk, walk_bytes, nothing_read, finished, workload}
-use Rattle.sdd_script.specs.declared.fault.Counts.TheVariants as counts
-use Rattle.sdd_script.specs.declared.fault.WorkRule.{WorkRule}
-use Rattle.sdd_script.specs.declared.fault.WorkRule.TheVariants.{BadEvent, BadLine, UnknownName, SubmittedTwice, TooMany, TooLong}
-use Rattle.sdd_script.specs.declared.keyword.Keyword.TheVariants as keys
-use Rattle.sdd_script.specs.declared.keyword.EventKey.TheVariants as ekeys
-use Rattle.sdd_script.specs.declared.place.Place.{Place}
-use Rattle.sdd_script.specs.declared.place.Place.TheVariants as places
-use Rattle.sdd_script.specs.declared.state.State.{State}
-use Rattle.sdd_script.specs.declared.workload.Workload.{Workload}
+use Rattle.sdd_script.proofs.All.{All, All-get_or, AllByRecursion, AreDistinct, AreTimely, BadEvent, BadLine, Bool, Catalogue, ClassPart, D, Deliver, Down, Err, Event, IsFrom1To, IsValid, IsValidEvent, IsValidRow, IsValidTxn, List, Lose, MAX_EVENTS, MAX_WORKLOAD_BYTES, None, Ok, Option, Place, Plain, Redeclare, RelNo, Repeat, Resend, Result, Settle, Site, Some, State, Submit, SubmittedTwice, T, Tick, TooLong, TooMany, Txn, TxnNo, UnknownName, Up, Value, Word, WorkRule, Workload, [], ap, append-nil, append_assoc, arith, bytes_eq, cond, count_word, cut_again, cut_lines, deliver_of, down_of, end_words, event_rules, event_words, false, filter_map, finished, flat_map, get_or, get_or-map, is_ended, is_name, is_submitted, known, le-ltb, length, length-append, length-map, line_bytes, lines_of, list_any, list_any-map, list_lines, lose_of, lt-ltb, map, map-append, may_follow, must, name_in, name_of_txn, nat_lt, nat_lt as ltb, not, nothing_read, number_named, option_map, position, recursion_from_All, redeclare_of, refl, repeat_of, repeats, resend_of, rows_put_by, settle_of, site_word, spelling, start_words, submit_of, submitted_by, subst, sum_by, sym, takes_events, takes_lists, takes_txns, tick_of, true, txn_lines, txn_named, txn_no, up_of, walk, walk_bytes, with_event, with_submitted, workload, ℕ, ◌++◌, ◌+◌, ◌-◌, ◌<◌, ◌==◌, ◌>>=◌, ◌∙◌, ◌∷◌, ◌≡◌, ◌≤◌}
 use Rattle.sdd_script.proofs.WordLooks.{name_fine, name_free}
 use Rattle.sdd_script.proofs.UseLaws.{IsKnown}
 use Rattle.sdd_script.proofs.EventLaws.{place_again, resend_again, tick_again, down_again, up_again}
@@ -42,6 +10,10 @@ use Rattle.sdd_script.proofs.SpellingLaws.{IsStep, Chain, chain-append, chain_li
 use Rattle.sdd_script.proofs.ListChains.{lists_read}
 use Rattle.sdd_script.proofs.RedeclareLaws.{timely_may}
 use Rattle.sdd_script.proofs.FineLines.{keyword_fine, NamesOne, event_fine}
+use Rattle.sdd_script.specs.declared.fault.Counts.TheVariants as counts
+use Rattle.sdd_script.specs.declared.keyword.Keyword.TheVariants as keys
+use Rattle.sdd_script.specs.declared.keyword.EventKey.TheVariants as ekeys
+use Rattle.sdd_script.specs.declared.place.Place.TheVariants as places
 
 abbrev numbers : List TxnNo → List ℕ
 numbers submitted = map (λ (t : TxnNo). t.0) submitted
@@ -105,7 +77,8 @@ record IsFresh (submitted : List TxnNo) (e : Event) (es : List Event) : Type 0 w
   new : is_submitted submitted e ≡ false
   distinct : AreDistinct (numbers (with_submitted submitted e) ++ filter_map submitted_by es)
 
-fresh : (submitted : List TxnNo) (e : Event) (es : List Event) → AreDistinct (numbers submitted ++ filter_map submitted_by (e ∷ es)) → IsFresh submitted e es
+fresh : (submitted : List TxnNo) (e : Event) (es : List Event) → AreDistinct (numbers submitted ++ filter_map submitted_by (e ∷ es))
+    → IsFresh submitted e es
 fresh submitted (Submit txn) es d =
     let none : list_any (λ (n : ℕ). n == txn.0) (numbers submitted) ≡ false =
     any_none (λ (n : ℕ). n == txn.0) (numbers submitted) (apart_from (numbers submitted) txn.0
@@ -253,8 +226,7 @@ record AreEvents (cat : Catalogue) (st : State) (lines : List (List ℕ)) (rows 
 
 events_chain : (cat : Catalogue) → IsKnown cat → (rows : List (RelNo × List Value)) (written : ℕ)
     (txns : List Txn) (lists : List (List ClassPart)) (classes : ℕ) → All (IsValidTxn cat) txns
-    → repeats (names_of txns) ≡ false
-    → (es : List Event) (place : Place) (submitted : List TxnNo) (events : List Event)
+    → repeats (names_of txns) ≡ false → (es : List Event) (place : Place) (submitted : List TxnNo) (events : List Event)
     → takes_events place ≡ true → AllByRecursion (IsValidEvent cat (length txns)) es
     → AreDistinct (numbers submitted ++ filter_map submitted_by es)
     → length events + length es ≤ MAX_EVENTS → AreTimely cat.dms (length lists) (events ++ es)
@@ -265,8 +237,7 @@ events_chain cat k rows written txns lists classes valid differ [] place submitt
       place = place;
       submitted = submitted;
       takes = t;
-      chain =
-          ap (scheduled place rows written txns lists classes submitted) (sym (append-nil events));
+      chain = ap (scheduled place rows written txns lists classes submitted) (sym (append-nil events));
     }
 events_chain cat k rows written txns lists classes valid differ (e ∷ es) place submitted events t h d few y =
     let f = fresh submitted e es d in
@@ -276,8 +247,7 @@ events_chain cat k rows written txns lists classes valid differ (e ∷ es) place
       takes = t;
       new = f.new;
       may = timely_may cat.dms (length lists) events e es y;
-      room =
-          omega (arith, few);
+      room = omega (arith, few);
     }) in
     let joined_on : (events ++ e ∷ []) ++ es ≡ events ++ e ∷ es = append_assoc events (e ∷ []) es in
     let more = events_chain cat k rows written txns lists classes valid differ es places.Events
@@ -365,8 +335,7 @@ whole_chain cat k w v =
     let last : State = scheduled places.Ended w.rows written w.txns w.lists n events.submitted w.events in
     let ended : Chain cat after_events (line_bytes end_words ∷ []) last = (
       last,
-      end_step cat events.place w.rows written w.txns w.lists n events.submitted w.events
-          events.takes,
+      end_step cat events.place w.rows written w.txns w.lists n events.submitted w.events events.takes,
       refl,
     ) in
     let two : Chain cat (nothing_read cat) (rs ++ ts) after_txns = chain-append cat (nothing_read cat) after_rows after_txns rs ts rows_are txns.chain in

@@ -1,16 +1,5 @@
 -- A list cut at the first item that passes, both ways.
-use Rattle.std.proofs.Common.{◌≡◌, ℕ, ◌+◌, ◌<◌, List, [], ◌∷◌, ◌++◌, length, get_or, take, drop, Bool, true, false, cond, ltb, Option, Some, None, refl, sym, ap, ◌∙◌, arith, append_assoc, add-one, drop-cons}
-use Rattle.std.specs.Prelude.{nat_lt, is_some}
-use Rattle.std.specs.Option.{option_map}
-use Rattle.std.specs.List.{position, position_or_len, before_first, after_first}
-use Rattle.std.proofs.lemmas.Bool.{lt-ltb, le-ltb, eqb-true}
-use Rattle.std.proofs.lemmas.List.{length-append, take_at, drop_at, take-append-drop, take_all, drop_all}
-use Rattle.std.proofs.lemmas.List.Quantifiers.{position-Some}
-use Rattle.std.proofs.lemmas.Slice.Eq.{bytes_eq-Decides}
-use Rattle.sdd_words.specs.Forms.{cut_at}
-use Rattle.sdd_words.specs.Keywords.{is_key, is_point, has_point, before_point, behind_point}
-use Rattle.sdd_words.specs.declared.word.Word.{Word}
-use Rattle.sdd_words.specs.declared.word.Word.TheVariants.{Plain, Quoted}
+use Rattle.sdd_script.proofs.All.{Bool, List, None, Option, Plain, Quoted, Some, Word, [], add-one, after_first, ap, append_assoc, arith, before_first, before_point, behind_point, bytes_eq-Decides, cond, cut_at, drop, drop-cons, drop_all, drop_at, eqb-true, false, get_or, has_point, is_key, is_point, is_some, le-ltb, length, length-append, lt-ltb, nat_lt, nat_lt as ltb, option_map, place_if, position, position-Some, position_or_len, refl, sym, take, take-append-drop, take_all, take_at, true, ℕ, ◌++◌, ◌+◌, ◌<◌, ◌∙◌, ◌∷◌, ◌≡◌}
 
 abbrev pub NonePasses : {A : Type 0} → (A → Bool) → List A → Type 0
 NonePasses p [] = Unit {0}
@@ -20,14 +9,17 @@ pub none-append : {A : Type 0} (p : A → Bool) (xs ys : List A) → NonePasses 
 none-append p [] ys h k = k
 none-append p (x ∷ xs) ys h k = (h.0, none-append p xs ys h.1 k)
 
-pub first_at : {A : Type 0} (p : A → Bool) (xs : List A) (x : A) (rest : List A) → NonePasses p xs → p x ≡ true → position_or_len p (xs ++ x ∷ rest) ≡ length xs
+pub first_at : {A : Type 0} (p : A → Bool) (xs : List A) (x : A) (rest : List A) → NonePasses p xs → p x ≡ true
+    → position_or_len p (xs ++ x ∷ rest) ≡ length xs
 first_at p [] x rest h e = rw e refl
 first_at p (y ∷ xs) x rest h e = let a = h.0 in let ih = first_at p xs x rest h.1 e in rw (a, ih) (omega arith)
 
-pub before_again : {A : Type 0} (p : A → Bool) (xs : List A) (x : A) (rest : List A) → NonePasses p xs → p x ≡ true → before_first p (xs ++ x ∷ rest) ≡ xs
+pub before_again : {A : Type 0} (p : A → Bool) (xs : List A) (x : A) (rest : List A) → NonePasses p xs → p x ≡ true
+    → before_first p (xs ++ x ∷ rest) ≡ xs
 before_again p xs x rest h e = take_at xs (x ∷ rest) (position_or_len p (xs ++ x ∷ rest)) (sym (first_at p xs x rest h e))
 
-pub after_again : {A : Type 0} (p : A → Bool) (xs : List A) (x : A) (rest : List A) → NonePasses p xs → p x ≡ true → after_first p (xs ++ x ∷ rest) ≡ rest
+pub after_again : {A : Type 0} (p : A → Bool) (xs : List A) (x : A) (rest : List A) → NonePasses p xs → p x ≡ true
+    → after_first p (xs ++ x ∷ rest) ≡ rest
 after_again p xs x rest h e =
     let n : length (xs ++ x ∷ []) ≡ position_or_len p (xs ++ x ∷ rest) + 1 = rw (first_at p xs x rest h e) (omega (arith, length-append xs (x ∷ []))) in
     ap (λ l. drop (position_or_len p (xs ++ x ∷ rest) + 1) l) (sym (append_assoc xs (x ∷ []) rest))
@@ -117,7 +109,8 @@ cut_if key ws before behind (Some k) p e =
 pub cut_takes : (key : List ℕ) (ws before behind : List Word) → cut_at key ws ≡ Some (before, behind) → ws ≡ before ++ Plain key ∷ behind
 cut_takes key ws before behind e = cut_if key ws before behind (position (is_key key) ws) refl e
 
-pub cut_again : (key : List ℕ) (before behind : List Word) → NonePasses (is_key key) before → cut_at key (before ++ Plain key ∷ behind) ≡ Some (before, behind)
+pub cut_again : (key : List ℕ) (before behind : List Word) → NonePasses (is_key key) before
+    → cut_at key (before ++ Plain key ∷ behind) ≡ Some (before, behind)
 cut_again key before behind h =
     let t : is_key key (Plain key) ≡ true = is_key_again key in
     let p = position_again (is_key key) before (Plain key) behind h t in
@@ -133,14 +126,11 @@ cut_again key before behind h =
 pub no_point : (bytes : List ℕ) → NonePasses is_point bytes → has_point bytes ≡ false
 no_point bytes h = let e = no_position is_point bytes h in rw e refl
 
-place_if : (b : Bool) (n k : ℕ) → cond b (Some n) None ≡ Some k → n ≡ k
-place_if true n k e = cc
-place_if false n k e = absurd cc
-
 place_is : (n len k : ℕ) → cond (ltb n len) (Some n) None ≡ Some k → n ≡ k
 place_is n len k e = place_if (ltb n len) n k e
 
-point_if : (bytes : List ℕ) (o : Option ℕ) → position is_point bytes ≡ o → is_some o ≡ true → bytes ≡ before_point bytes ++ 46 ∷ behind_point bytes
+point_if : (bytes : List ℕ) (o : Option ℕ) → position is_point bytes ≡ o → is_some o ≡ true
+    → bytes ≡ before_point bytes ++ 46 ∷ behind_point bytes
 point_if bytes None p e = absurd cc
 point_if bytes (Some k) p e =
     let at = position-Some is_point bytes k 0 p in

@@ -1,33 +1,9 @@
 -- What the words of a spelling look like: each is a word, a text, holds no newline, and is no keyword where it could be mistaken for one.
-use Rattle.std.proofs.Common.{◌≡◌, ◌≢◌, ℕ, ℤ, pos, negsuc, zero, suc, ◌+◌, ◌^◌, ◌<◌, ◌≤◌, List, [], ◌∷◌, ◌++◌, length, get_or, Bool, true, false, ◌&&◌, eqb, None, refl, ap, subst, append-nil, arith}
-use Rattle.std.specs.Prelude.{codes, not, nat_le, ◌||◌}
-use Rattle.std.specs.Str.{bytes_eq, IsUtf8, is_utf8}
-use Rattle.std.specs.Int.Signed.{mag}
-use Rattle.std.specs.Fmt.{decimal, signed_decimal}
-use Rattle.std.specs.Str.Parse.{AllDigits}
-use Rattle.std.specs.List.{list_all, position_or_len, after_first}
-use Rattle.std.proofs.lemmas.List.{drop_all}
-use Rattle.std.proofs.lemmas.Bool.Decides.{nat_tests}
-use Rattle.std.proofs.lemmas.Bool.{ne_eqb}
-use Rattle.std.proofs.lemmas.Str.{IsUtf8-append, IsUtf8-from_ascii, IsUtf8-from_is_utf8}
-use Rattle.std.proofs.lemmas.Str.Parse.{digit_from_value}
-use Rattle.std.proofs.lemmas.Fmt.{IsAscii-signed, decimal_is_IsNumeral, first_decimal, decimal_digit}
-use Rattle.sdd_lang.specs.All.{Op, Value, begins_with_letter, is_digit, is_keyword, is_letter, is_name, is_name_byte}
+use Rattle.sdd_script.proofs.All.{AllDigits, Bool, HasNoNewline, HasNoSpace, IsAscii-signed, IsPlain, IsUtf8, IsUtf8-append, IsUtf8-escaped, IsUtf8-from_ascii, IsUtf8-from_is_utf8, IsValue, IsWord, List, None, Op, Plain, Quoted, Value, Word, [], after_first, ap, append-nil, arith, before_point, begins_with_letter, behind_point, both_are, both_hold, bytes_eq, codes, decimal, decimal_digit, decimal_is_IsNumeral, digit_from_value, drop_all, eqb, escaped, escaped_byte, false, first_decimal, get_or, has_newline, has_point, is_digit, is_free, is_keyword, is_letter, is_name, is_name_byte, is_point, is_sound, is_text, is_utf8, is_whole, length, list_all, looks_like_column, mag, name_is_utf8, names_column, nat_le, ne_eqb, negsuc, not, number_plain, op_in, or_false as or_parts, pos, position_or_len, refl, signed_decimal, spells_column, subst, suc, true, value_word, whole_digits, word_bytes, zero, ℕ, ℤ, ◌&&◌, ◌++◌, ◌+◌, ◌<◌, ◌^◌, ◌∷◌, ◌≡◌, ◌≢◌, ◌≤◌}
+use Rattle.sdd_script.proofs.StepLaws.{not_true, of_le as le_is}
+use Rattle.sdd_script.proofs.WordCuts.{NonePasses, none_at, before_again, after_again, position_again, no_point}
 use Rattle.sdd_lang.specs.base.declared.restriction.Op.TheVariants as ops
 use Rattle.sdd_lang.specs.base.declared.value.Value.TheVariants as values
-use Rattle.sdd_words.specs.Values.{value_word}
-use Rattle.sdd_words.specs.Keywords.{is_free, op_in, is_point, has_point, before_point, behind_point, looks_like_column, spells_column, names_column}
-use Rattle.sdd_words.specs.Lines.{HasNoNewline}
-use Rattle.sdd_words.specs.Texts.{is_text, is_sound, has_newline}
-use Rattle.sdd_words.specs.Whole.{whole_digits, is_whole}
-use Rattle.sdd_words.specs.Words.{escaped, escaped_byte, word_bytes, HasNoSpace, IsPlain, IsWord}
-use Rattle.sdd_words.specs.declared.word.Word.{Word}
-use Rattle.sdd_words.specs.declared.word.Word.TheVariants.{Plain, Quoted}
-use Rattle.sdd_words.proofs.NameTexts.{name_is_utf8}
-use Rattle.sdd_words.proofs.Utf8.{IsUtf8-escaped, number_plain}
-use Rattle.sdd_script.specs.Valid.{IsValue}
-use Rattle.sdd_script.proofs.StepLaws.{both_hold, both_are, not_true}
-use Rattle.sdd_script.proofs.WordCuts.{NonePasses, none_at, before_again, after_again, position_again, no_point}
 
 -- a word as lines hold it
 pub record IsFine (w : Word) : Type 0 where
@@ -67,8 +43,7 @@ pub names_no_point : (bs : List ℕ) → list_all is_name_byte bs ≡ true → N
 names_no_point [] e = tt
 names_no_point (b ∷ bs) e = let h =
     both_hold (is_name_byte b) (list_all is_name_byte bs) e in (
-      ne_eqb b 46
-          (not_it is_name_byte b 46 refl h.0),
+      ne_eqb b 46 (not_it is_name_byte b 46 refl h.0),
       names_no_point bs h.1,
     )
 
@@ -88,16 +63,14 @@ plain_name [] l e = absurd cc
 plain_name (b ∷ bs) l e = let h =
     both_hold (is_name_byte b) (list_all is_name_byte bs) e in (
       not_it is_name_byte b 34 refl h.0,
-      not_it
-          is_name_byte b 32 refl h.0,
+      not_it is_name_byte b 32 refl h.0,
       names_no_space bs h.1,
     )
 
 pub name_fine : (bs : List ℕ) → is_name bs ≡ true → IsFine (Plain bs)
 name_fine bs e = let n = name_parts bs e in record {
   word = plain_name bs n.letter n.bytes_are;
-  utf8 =
-      name_is_utf8 bs e;
+  utf8 = name_is_utf8 bs e;
   sound = refl;
   line = names_no_newline bs n.bytes_are;
 }
@@ -106,13 +79,13 @@ name_fine bs e = let n = name_parts bs e in record {
 
 -- a word is known to be free by its first byte
 free_first : (c : ℕ) (cs : List ℕ) → eqb c 102 ≡ false → eqb c 119 ≡ false → eqb c 97 ≡ false
-    → eqb c 115 ≡ false → eqb c 43 ≡ false → eqb c 61 ≡ false → eqb c 33 ≡ false → eqb c 60 ≡ false
-    → eqb c 62 ≡ false
+    → eqb c 115 ≡ false → eqb c 43 ≡ false → eqb c 61 ≡ false → eqb c 33 ≡ false → eqb c 60 ≡ false → eqb c 62 ≡ false
     → is_free (Plain (c ∷ cs)) ≡ true
 free_first c cs f w a s p e n l g = rw (f, w, a, s, p, e, n, l, g) refl
 
 -- or by its first byte and as no keyword
-free_if : (c : ℕ) (cs : List ℕ) → is_keyword (c ∷ cs) ≡ false → eqb c 43 ≡ false → eqb c 61 ≡ false → eqb c 33 ≡ false → eqb c 60 ≡ false → eqb c 62 ≡ false
+free_if : (c : ℕ) (cs : List ℕ) → is_keyword (c ∷ cs) ≡ false → eqb c 43 ≡ false → eqb c 61 ≡ false → eqb c 33 ≡ false
+    → eqb c 60 ≡ false → eqb c 62 ≡ false
     → is_free (Plain (c ∷ cs)) ≡ true
 free_if c cs k p e n l g =
     let o : op_in (c ∷ cs) ≡ None = rw (e, n, l, g) refl in
@@ -137,9 +110,6 @@ free_digit c cs d =
     (ne_eqb c 60 (not_it is_digit c 60 refl d)) (ne_eqb c 62 (not_it is_digit c 62 refl d))
 
 -- ---- numbers
-
-le_is : (a b : ℕ) → a ≤ b → nat_le a b ≡ true
-le_is a b h = grind (arith, nat_tests)
 
 within : (c : ℕ) → 48 ≤ c → c ≤ 57 → is_digit c ≡ true
 within c lo hi = both_are (nat_le 48 c) (nat_le c 57) (le_is 48 c lo) (le_is c 57 hi)
@@ -185,11 +155,9 @@ signed_no_point (negsuc n) lt = (refl, digits_no_point (decimal (suc n)) (wide_p
 pub number_fine : (z : ℤ) → mag z < 2 ^ 63 → IsFine (Plain (signed_decimal z))
 number_fine z lt = record {
   word = number_plain z lt;
-  utf8 =
-      IsUtf8-from_ascii (signed_decimal z) (IsAscii-signed z lt);
+  utf8 = IsUtf8-from_ascii (signed_decimal z) (IsAscii-signed z lt);
   sound = refl;
-  line =
-      signed_no_newline z lt;
+  line = signed_no_newline z lt;
 }
 
 pub number_free : (z : ℤ) → mag z < 2 ^ 63 → is_free (Plain (signed_decimal z)) ≡ true
@@ -208,10 +176,6 @@ count_free n lt = number_free (pos n) lt
 quote : IsUtf8 (34 ∷ [])
 unfolding lib.Utf8.encode
 quote = (34 ∷ [], (refl, refl))
-
-or_parts : (a b : Bool) → (a || b) ≡ false → (a ≡ false) × (b ≡ false)
-or_parts true b e = absurd cc
-or_parts false b e = (refl, e)
 
 escaped_line : (c : ℕ) (x y : Bool) → eqb c 34 ≡ x → eqb c 92 ≡ y → c ≢ 10 → HasNoNewline (escaped_byte c)
 escaped_line c true y p q n = rw p ((λ e. omega arith), (n, tt))

@@ -59,5 +59,5 @@ pub use Rattle.sdd_script.specs.words.Number.{number_of}
 pub use Rattle.sdd_script.specs.words.Scan.{words_of}
 pub use Rattle.sdd_script.specs.words.Texts.{is_sound}
 pub use Rattle.sdd_script.specs.words.Words.{HasNoSpace}
-pub use Rattle.sdd_script.specs.words.declared.word.Word.{Word}
-pub use Rattle.sdd_script.specs.words.declared.word.Word.TheVariants.{Plain, Quoted}
+pub use Rattle.sdd_script.specs.words.Words.{Word}
+pub use Rattle.sdd_script.specs.words.Words.{Plain, Quoted}

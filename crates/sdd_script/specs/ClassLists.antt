@@ -3,8 +3,7 @@ use Rattle.std.specs.Prelude.{ℕ, ◌+◌, nat_lt, ◌&&◌, not, Bool, if◌th
 use Rattle.sdd_lang.specs.All.{Catalogue, ClassPart, DmNo, MAX_CLASSES, MAX_READS, ReadPart, TmNo, has_copy, has_name, known, must, ◌>>=◌}
 use Rattle.sdd_words.specs.Keywords.{is_free}
 use Rattle.sdd_words.specs.Names.{name_in}
-use Rattle.sdd_words.specs.declared.word.Word.{Word}
-use Rattle.sdd_words.specs.declared.word.Word.TheVariants.{Plain, Quoted}
+use Rattle.sdd_words.specs.Words.{Word, Plain, Quoted}
 use Rattle.sdd_script.specs.Naming.{name_of, class_names, fragment_named}
 use Rattle.sdd_script.specs.Occurrences.{dm_of, tm_of}
 use Rattle.sdd_script.specs.OpenLists.{classes_in, no_classes, with_class, with_read, with_write}

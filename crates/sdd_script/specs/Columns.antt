@@ -7,8 +7,7 @@ use Rattle.sdd_words.specs.Keywords.{before_point, behind_point, names_column}
 use Rattle.sdd_words.specs.Number.{number_of}
 use Rattle.sdd_words.specs.Whole.{is_whole}
 use Rattle.sdd_words.specs.declared.form.Comparison.{Comparison}
-use Rattle.sdd_words.specs.declared.word.Word.{Word}
-use Rattle.sdd_words.specs.declared.word.Word.TheVariants.{Plain, Quoted}
+use Rattle.sdd_words.specs.Words.{Word, Plain, Quoted}
 use Rattle.sdd_script.specs.Naming.{columns_of, column_named, kind_of_place}
 use Rattle.sdd_script.specs.Values.{is_of_kind, value_of}
 use Rattle.sdd_script.specs.declared.fault.WorkRule.{WorkRule}

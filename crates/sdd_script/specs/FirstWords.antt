@@ -1,8 +1,7 @@
 -- The first words of lines.
 use Rattle.std.specs.Prelude.{ℕ, List, codes, Option, Some, None, if◌then◌else◌}
 use Rattle.std.specs.Str.{bytes_eq}
-use Rattle.sdd_words.specs.declared.word.Word.{Word}
-use Rattle.sdd_words.specs.declared.word.Word.TheVariants.{Plain, Quoted}
+use Rattle.sdd_words.specs.Words.{Word, Plain, Quoted}
 use Rattle.sdd_script.specs.declared.keyword.Keyword.{Keyword}
 use Rattle.sdd_script.specs.declared.keyword.Keyword.TheVariants as keys
 use Rattle.sdd_script.specs.declared.keyword.StatementKey.{StatementKey}

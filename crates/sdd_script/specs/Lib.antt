@@ -2,6 +2,7 @@ pub mod All
 pub mod ClassLists
 pub mod Columns
 pub mod Examples
+pub mod Few
 pub mod FirstWords
 pub mod Laws
 pub mod LineRules

@@ -9,7 +9,7 @@ use Rattle.sdd_words.specs.Keywords.{is_free}
 use Rattle.sdd_words.specs.Forms.{are_free}
 use Rattle.sdd_words.specs.Scan.{words_of}
 use Rattle.sdd_words.specs.Texts.{is_sound}
-use Rattle.sdd_words.specs.declared.word.Word.{Word}
+use Rattle.sdd_words.specs.Words.{Word}
 use Rattle.sdd_script.specs.Values.{row_of}
 use Rattle.sdd_script.specs.ClassLists.{class_line_rules}
 use Rattle.sdd_script.specs.FirstWords.{keyword_of}

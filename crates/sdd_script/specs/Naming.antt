@@ -5,8 +5,7 @@ use Rattle.std.specs.List.{position}
 use Rattle.std.specs.Str.{bytes_eq}
 use Rattle.sdd_lang.specs.All.{Catalogue, Class, Column, Kind, Relation, class_at, fragment_at, known, numbers_to}
 use Rattle.sdd_words.specs.Names.{name_in}
-use Rattle.sdd_words.specs.declared.word.Word.{Word}
-use Rattle.sdd_words.specs.declared.word.Word.TheVariants.{Plain, Quoted}
+use Rattle.sdd_words.specs.Words.{Word, Plain, Quoted}
 use Rattle.sdd_script.specs.declared.fault.WorkRule.{WorkRule}
 use Rattle.sdd_script.specs.declared.fault.WorkRule.TheVariants.{UnknownName}
 

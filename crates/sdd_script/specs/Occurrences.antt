@@ -7,8 +7,7 @@ use Rattle.sdd_lang.specs.All.{Catalogue, D, Deliver, DmNo, Down, Event, Lose, M
 use Rattle.sdd_words.specs.Keywords.{is_free}
 use Rattle.sdd_words.specs.Names.{name_in}
 use Rattle.sdd_words.specs.Number.{number_of}
-use Rattle.sdd_words.specs.declared.word.Word.{Word}
-use Rattle.sdd_words.specs.declared.word.Word.TheVariants.{Plain, Quoted}
+use Rattle.sdd_words.specs.Words.{Word, Plain, Quoted}
 use Rattle.sdd_script.specs.declared.fault.WorkRule.{WorkRule}
 use Rattle.sdd_script.specs.declared.keyword.EventKey.{EventKey}
 use Rattle.sdd_script.specs.declared.keyword.EventKey.TheVariants as keys

@@ -13,9 +13,7 @@ use Rattle.sdd_lang.specs.declared.statement.Stmt.TheVariants as statements
 use Rattle.sdd_lang.specs.declared.transaction.Txn.{Txn}
 use Rattle.sdd_words.specs.Values.{value_word}
 use Rattle.sdd_words.specs.Keywords.{op_word}
-use Rattle.sdd_words.specs.Words.{line_bytes}
-use Rattle.sdd_words.specs.declared.word.Word.{Word}
-use Rattle.sdd_words.specs.declared.word.Word.TheVariants.{Plain}
+use Rattle.sdd_words.specs.Words.{line_bytes, Word, Plain}
 use Rattle.sdd_script.specs.Naming.{columns_of, name_of_relation}
 use Rattle.sdd_script.specs.declared.workload.Workload.{Workload}
 

@@ -12,8 +12,7 @@ use Rattle.sdd_words.specs.Forms.{cut_at, up_to, from_key, conditions_form, sett
 use Rattle.sdd_words.specs.Number.{number_of}
 use Rattle.sdd_words.specs.declared.form.Comparison.{Comparison}
 use Rattle.sdd_words.specs.declared.form.Setting.{Setting}
-use Rattle.sdd_words.specs.declared.word.Word.{Word}
-use Rattle.sdd_words.specs.declared.word.Word.TheVariants.{Plain, Quoted}
+use Rattle.sdd_words.specs.Words.{Word, Plain, Quoted}
 use Rattle.sdd_script.specs.Naming.{key_of, relation_of}
 use Rattle.sdd_script.specs.Values.{is_of_kind, value_of, row_of}
 use Rattle.sdd_script.specs.Columns.{Parts, column_of_use, conditions_of}
@@ -97,13 +96,18 @@ assign_of cat rel s = do
   _ ← must KeyChanged (not (f.at.column == key_of cat rel))
   if s.adds then add_of f s.right else to_of f s.right
 
+-- the assignments, the conditions
+abbrev pub update_over : Catalogue → ℕ → List Setting → List Comparison → Result Stmt WorkRule
+update_over cat rel sets comparisons = do
+  assigns ← along (λ i s. assign_of cat rel s) 0 sets
+  conds ← conditions_of cat (Some rel ∷ []) comparisons
+  Ok (Update (rel_no rel) assigns conds)
+
 -- the relation, the assignments, the conditions
 unfoldable pub update_of_parts : Catalogue → Word → List Setting → List Comparison → Result Stmt WorkRule
 update_of_parts cat name sets comparisons = do
   rel ← known UnknownName (relation_of cat name)
-  assigns ← along (λ i s. assign_of cat rel s) 0 sets
-  conds ← conditions_of cat (Some rel ∷ []) comparisons
-  Ok (Update (rel_no rel) assigns conds)
+  update_over cat rel sets comparisons
 
 abbrev pub update_with : Catalogue → Word → List Setting → List Word → Result Stmt WorkRule
 update_with cat name sets rest = do
@@ -126,12 +130,16 @@ update_of cat (name ∷ key ∷ words) = do
   update_to cat name words
 update_of cat _ = Err BadLine
 
+abbrev pub delete_over : Catalogue → ℕ → List Comparison → Result Stmt WorkRule
+delete_over cat rel comparisons = do
+  conds ← conditions_of cat (Some rel ∷ []) comparisons
+  Ok (Delete (rel_no rel) conds)
+
 -- the relation, the conditions
 abbrev pub delete_of_parts : Catalogue → Word → List Comparison → Result Stmt WorkRule
 delete_of_parts cat name comparisons = do
   rel ← known UnknownName (relation_of cat name)
-  conds ← conditions_of cat (Some rel ∷ []) comparisons
-  Ok (Delete (rel_no rel) conds)
+  delete_over cat rel comparisons
 
 -- delete: a relation, and perhaps conditions
 abbrev pub delete_of : Catalogue → List Word → Result Stmt WorkRule

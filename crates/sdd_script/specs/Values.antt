@@ -5,8 +5,7 @@ use Rattle.sdd_lang.specs.base.declared.value.Value.TheVariants as values
 use Rattle.sdd_lang.specs.catalog.declared.parts.Kind.TheVariants as kinds
 use Rattle.sdd_words.specs.Number.{number_of}
 use Rattle.sdd_words.specs.Texts.{text_in}
-use Rattle.sdd_words.specs.declared.word.Word.{Word}
-use Rattle.sdd_words.specs.declared.word.Word.TheVariants.{Plain, Quoted}
+use Rattle.sdd_words.specs.Words.{Word, Plain, Quoted}
 use Rattle.sdd_script.specs.Naming.{columns_of, relation_of, kind_of_place}
 use Rattle.sdd_script.specs.declared.fault.WorkRule.{WorkRule}
 use Rattle.sdd_script.specs.declared.fault.WorkRule.TheVariants.{BadLine, BadNumber, UnknownName, WrongKind}

@@ -3,7 +3,7 @@ ghost use Rattle.std.specs.Prelude.{◌≡◌, ◌&&◌, List, map, not};
 ghost use Rattle.std.specs.List.{list_any};
 ghost use Rattle.std.specs.Str.{bytes_eq};
 ghost use Rattle.sdd_lang.specs.All.{ClassPart, Gives, ReadPart, has_copy, has_name};
-ghost use Rattle.sdd_words.specs.declared.word.Word.TheVariants.{Plain};
+ghost use Rattle.sdd_words.specs.Words.{Plain};
 ghost use Rattle.sdd_script.specs.ClassLists.{all_classes, fragment_of, is_taken, with_class_of, with_read_of, with_write_of, list_rules, class_rules, reads_rules, writes_rules, class_line_rules};
 ghost use Rattle.sdd_script.specs.OpenLists.{classes_in, last_class};
 ghost use Rattle.sdd_script.specs.Places.{open_list, reads_at};
@@ -19,15 +19,15 @@ use crate::place::Place;
 use crate::state::State;
 use sdd_lang::sdd_base::{DmNo, MAX_READS, Name, TmNo};
 use sdd_lang::sdd_catalog::{Catalogue, ClassPart, ClassParts, ReadPart};
-use sdd_words::{Word, read_name, stands_free};
+use sdd_words::{Token, Tokens, read_name, stands_free};
 use std::alloc::Global;
 use std::mem;
 
-fn list_line(alloc: Global, state: &mut State, words: &[Word]) -> Result<(), LineError>
-    ensures { Gives rule_in (λ _. state.new) result (list_rules state.old words.now) }
+fn list_line(alloc: Global, state: &mut State, words: &mut Tokens<'_>) -> Result<(), LineError>
+    ensures { Gives rule_in (λ _. state.new) result (list_rules state.old words.old) }
 {
-    match words {
-        [] => {
+    match words.next() {
+        None => {
             must(WorkRule::BadLine, state.place.takes_lists())?;
             must(
                 WorkRule::TooMany(Counts::List),
@@ -36,7 +36,7 @@ fn list_line(alloc: Global, state: &mut State, words: &[Word]) -> Result<(), Lin
             state.place = Place::Listing(no_classes(alloc));
             Ok(())
         }
-        _ => broken(WorkRule::BadLine),
+        Some(_) => broken(WorkRule::BadLine),
     }
 }
 
@@ -119,21 +119,21 @@ fn class_line(
     alloc: Global,
     cat: &Catalogue,
     state: &mut State,
-    words: &[Word],
+    words: &mut Tokens<'_>,
 ) -> Result<(), LineError>
-    ensures { Gives rule_in (λ _. state.new) result (class_rules cat.now state.old words.now) }
+    ensures { Gives rule_in (λ _. state.new) result (class_rules cat.now state.old words.old) }
 {
-    match words {
-        [word, tm] => {
+    match words.only_two() {
+        Some((word, tm)) => {
             must(
                 WorkRule::BadLine,
-                state.place.takes_classes() && (stands_free(word) && stands_free(tm)),
+                state.place.takes_classes() && (stands_free(&word) && stands_free(&tm)),
             )?;
-            let name = name_in_word(alloc, word)?;
-            let tm = read_tm(cat, tm)?;
+            let name = name_in_word(alloc, &word)?;
+            let tm = read_tm(cat, &tm)?;
             add_class(alloc, cat, state, name, tm)
         }
-        _ => broken(WorkRule::BadLine),
+        None => broken(WorkRule::BadLine),
     }
 }
 
@@ -149,12 +149,12 @@ fn fragment_in(alloc: Global, cat: &Catalogue, bytes: &[u8]) -> Result<(Name, u3
 }
 
 /// A fragment's name and its number.
-fn read_fragment(alloc: Global, cat: &Catalogue, word: &Word) -> Result<(Name, u32), LineError>
+fn read_fragment(alloc: Global, cat: &Catalogue, word: &Token<'_>) -> Result<(Name, u32), LineError>
     ensures { Gives rule_in (λ f. f) result (fragment_of cat.now word.now) }
 {
-    match word {
-        Word::Plain(bytes) => fragment_in(alloc, cat, bytes.as_slice()),
-        Word::Quoted(_) => broken(WorkRule::UnknownName),
+    match word.plain() {
+        Some(bytes) => fragment_in(alloc, cat, bytes),
+        None => broken(WorkRule::UnknownName),
     }
 }
 
@@ -218,21 +218,21 @@ fn reads_line(
     alloc: Global,
     cat: &Catalogue,
     state: &mut State,
-    words: &[Word],
+    words: &mut Tokens<'_>,
 ) -> Result<(), LineError>
-    ensures { Gives rule_in (λ _. state.new) result (reads_rules cat.now state.old words.now) }
+    ensures { Gives rule_in (λ _. state.new) result (reads_rules cat.now state.old words.old) }
 {
-    match words {
-        [word, dm] => {
+    match words.only_two() {
+        Some((word, dm)) => {
             must(
                 WorkRule::BadLine,
-                state.place.takes_reads() && (stands_free(word) && stands_free(dm)),
+                state.place.takes_reads() && (stands_free(&word) && stands_free(&dm)),
             )?;
-            let (fragment, number) = read_fragment(alloc, cat, word)?;
-            let dm = read_dm(cat, dm)?;
+            let (fragment, number) = read_fragment(alloc, cat, &word)?;
+            let dm = read_dm(cat, &dm)?;
             add_read(alloc, cat, state, fragment, number, dm)
         }
-        _ => broken(WorkRule::BadLine),
+        None => broken(WorkRule::BadLine),
     }
 }
 
@@ -252,20 +252,20 @@ fn writes_line(
     alloc: Global,
     cat: &Catalogue,
     state: &mut State,
-    words: &[Word],
+    words: &mut Tokens<'_>,
 ) -> Result<(), LineError>
-    ensures { Gives rule_in (λ _. state.new) result (writes_rules cat.now state.old words.now) }
+    ensures { Gives rule_in (λ _. state.new) result (writes_rules cat.now state.old words.old) }
 {
-    match words {
-        [word] => {
+    match words.only_one() {
+        Some(word) => {
             must(
                 WorkRule::BadLine,
-                state.place.takes_writes() && stands_free(word),
+                state.place.takes_writes() && stands_free(&word),
             )?;
-            let (fragment, _) = read_fragment(alloc, cat, word)?;
+            let (fragment, _) = read_fragment(alloc, cat, &word)?;
             add_write(alloc, state, fragment)
         }
-        _ => broken(WorkRule::BadLine),
+        None => broken(WorkRule::BadLine),
     }
 }
 
@@ -275,9 +275,9 @@ pub fn read_class_line(
     cat: &Catalogue,
     state: &mut State,
     key: ClassKey,
-    words: &[Word],
+    words: &mut Tokens<'_>,
 ) -> Result<(), LineError>
-    ensures { Gives rule_in (λ _. state.new) result (class_line_rules key cat.now state.old words.now) }
+    ensures { Gives rule_in (λ _. state.new) result (class_line_rules key cat.now state.old words.old) }
 {
     match key {
         ClassKey::List => list_line(alloc, state, words),

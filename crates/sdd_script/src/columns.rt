@@ -1,33 +1,37 @@
 //! Columns of uses, and conditions, by their words.
 ghost use Rattle.std.specs.Prelude.{◌≡◌, ◌<◌, ◌-◌, ◌^◌, length, Some, None};
-ghost use Rattle.sdd_lang.specs.All.{Gives, along};
-ghost use Rattle.sdd_words.specs.declared.word.Word.TheVariants.{Plain};
+ghost use Rattle.sdd_lang.specs.All.{Gives, MAX_CONDITIONS};
+ghost use Rattle.sdd_words.specs.Words.{Plain};
+ghost use Rattle.sdd_script.specs.Few.{few};
 ghost use Rattle.sdd_script.specs.Rules.{rule_in};
 ghost use Rattle.sdd_script.specs.Columns.{use_in, use_at, use_numbered, column_in, column_of_use, same_of, const_of, condition_of, conditions_of};
 
 use crate::fault::{LineError, WorkRule, broken, known, must};
+use crate::few::keep_few;
 use crate::found::Found;
 use crate::naming::{column_named, columns_of, kind_of_place};
 use crate::values::{is_of_kind, read_value};
-use sdd_lang::sdd_base::Op;
+use sdd_lang::sdd_base::{MAX_CONDITIONS, Op};
 use sdd_lang::sdd_catalog::{Catalogue, Column};
 use sdd_lang::{Condition, Ref};
-use sdd_words::{Comparison, Word, is_whole_number, names_column, number_in, parts_at_point};
+use sdd_words::{
+    Comparison, Comparisons, Token, is_whole_number, names_column, number_in, parts_at_point,
+};
 use std::alloc::Global;
 
 /// The number of a use and its relation, or None exactly where one of them isn't there.
-fn use_at(parts: &[Option<u32>], part: i64) -> Option<(u32, u32)>
+fn use_at(parts: &[Option<u8>], part: i64) -> Option<(u32, u32)>
     ensures { result ≡ use_at parts.now part }
 {
     let part = u32::try_from(part).ok()?;
     let place = part.checked_sub(1)?;
     match parts.get(place as usize) {
-        Some(Some(rel)) => Some((part, *rel)),
+        Some(Some(rel)) => Some((part, u32::from(*rel))),
         _ => None,
     }
 }
 
-fn use_numbered(parts: &[Option<u32>], part: Option<i64>) -> Option<(u32, u32)>
+fn use_numbered(parts: &[Option<u8>], part: Option<i64>) -> Option<(u32, u32)>
     ensures { result ≡ use_numbered parts.now part }
 {
     use_at(parts, part?)
@@ -48,11 +52,7 @@ fn column_in(columns: &[Column], part: u32, name: &[u8]) -> Result<Found, LineEr
 
 /// The column of a use that bytes name.
 #[tactic(auto, using(crate::proofs::FewColumns::few_columns))]
-fn column_of_use_in(
-    cat: &Catalogue,
-    parts: &[Option<u32>],
-    bytes: &[u8],
-) -> Result<Found, LineError>
+fn column_of_use_in(cat: &Catalogue, parts: &[Option<u8>], bytes: &[u8]) -> Result<Found, LineError>
     ensures { Gives rule_in (λ f. f) result (column_of_use cat.now parts.now (Plain bytes.now)) }
 {
     let (number, name) = parts_at_point(bytes);
@@ -66,16 +66,20 @@ fn column_of_use_in(
 }
 
 /// The column of a use that a word names.
-pub fn read_column(cat: &Catalogue, parts: &[Option<u32>], word: &Word) -> Result<Found, LineError>
+pub fn read_column(
+    cat: &Catalogue,
+    parts: &[Option<u8>],
+    word: &Token<'_>,
+) -> Result<Found, LineError>
     ensures { Gives rule_in (λ f. f) result (column_of_use cat.now parts.now word.now) }
 {
-    match word {
-        Word::Quoted(_) => broken(WorkRule::BadNumber),
-        Word::Plain(bytes) => column_of_use_in(cat, parts, bytes.as_slice()),
+    match word.plain() {
+        Some(bytes) => column_of_use_in(cat, parts, bytes),
+        None => broken(WorkRule::BadNumber),
     }
 }
 
-fn read_const(alloc: Global, left: Found, op: Op, right: &Word) -> Result<Condition, LineError>
+fn read_const(alloc: Global, left: Found, op: Op, right: &Token<'_>) -> Result<Condition, LineError>
     ensures { Gives rule_in (λ c. c) result (const_of left op right.now) }
 {
     let value = read_value(alloc, Some(left.kind), right)?;
@@ -88,9 +92,9 @@ fn read_const(alloc: Global, left: Found, op: Op, right: &Word) -> Result<Condit
 
 fn read_same(
     cat: &Catalogue,
-    parts: &[Option<u32>],
+    parts: &[Option<u8>],
     left: Found,
-    right: &Word,
+    right: &Token<'_>,
 ) -> Result<Condition, LineError>
     ensures { Gives rule_in (λ c. c) result (same_of cat.now parts.now left right.now) }
 {
@@ -105,8 +109,8 @@ fn read_same(
 fn read_condition(
     alloc: Global,
     cat: &Catalogue,
-    parts: &[Option<u32>],
-    words: &Comparison,
+    parts: &[Option<u8>],
+    words: &Comparison<'_>,
 ) -> Result<Condition, LineError>
     ensures { Gives rule_in (λ c. c) result (condition_of cat.now parts.now words.now) }
 {
@@ -118,19 +122,21 @@ fn read_condition(
     }
 }
 
-/// The conditions of a statement on the relations of these parts.
-#[tactic(auto, using(crate::proofs::Each::each_loop))]
+/// The conditions of a statement on the relations of these parts; of too many the first ones.
+#[tactic(auto, using(crate::proofs::FewRead::few_loop))]
 pub fn read_conditions(
     alloc: Global,
     cat: &Catalogue,
-    parts: &[Option<u32>],
-    words: &[Comparison],
+    parts: &[Option<u8>],
+    words: &mut Comparisons<'_>,
 ) -> Result<Vec<Condition>, LineError>
-    ensures { Gives rule_in (λ v. v.items) result (conditions_of cat.now parts.now words.now) }
+    ensures { Gives rule_in (λ v. v.items) result
+        (few MAX_CONDITIONS (conditions_of cat.now parts.now words.old)) }
 {
     let mut conds = Vec::new(alloc);
-    'words: for (i, one) in words.iter().enumerate() {
-        conds.push(read_condition(alloc, cat, parts, one)?)?;
+    'words: while let Some(one) = words.next() {
+        let condition = read_condition(alloc, cat, parts, &one)?;
+        keep_few(&mut conds, MAX_CONDITIONS, condition)?;
     }
     Ok(conds)
 }

@@ -1,7 +1,7 @@
 ghost use Rattle.std.specs.Prelude.{◌≡◌};
 ghost use Rattle.sdd_script.specs.FirstWords.{statement_key_in, class_key_in, event_key_in, outer_keyword, inner_keyword, keyword_in, keyword_of};
 
-use sdd_words::Word;
+use sdd_words::Token;
 
 /// The first word of a line.
 #[derive(Clone, Copy, Debug, PartialEq, Eq)]
@@ -149,11 +149,11 @@ fn keyword_in(bytes: &[u8]) -> Option<Keyword>
 }
 
 /// The keyword that a word is, or None exactly where it is none. Takes no memory.
-pub fn keyword_of(word: &Word) -> Option<Keyword>
+pub fn keyword_of(word: &Token<'_>) -> Option<Keyword>
     ensures { result ≡ keyword_of word.now }
 {
-    match word {
-        Word::Plain(bytes) => keyword_in(bytes.as_slice()),
-        Word::Quoted(_) => None,
+    match word.plain() {
+        Some(bytes) => keyword_in(bytes),
+        None => None,
     }
 }

@@ -12,6 +12,7 @@ mod class_lists;
 mod columns;
 mod deletes;
 mod fault;
+mod few;
 mod found;
 mod grown;
 mod keyword;

@@ -1,5 +1,5 @@
 //! Relations, columns, fragments and classes by their names.
-ghost use Rattle.std.specs.Prelude.{◌≡◌, ◌≤◌, ◌<◌, ◌^◌, length, slice_get, option_map, MatchOption, Some, None};
+ghost use Rattle.std.specs.Prelude.{◌≡◌, ◌≤◌, ◌<◌, ◌^◌, length, slice_get, option_map, IfSome, MatchOption, Some, None};
 ghost use Rattle.std.specs.List.{list_any};
 ghost use Rattle.std.specs.Str.{bytes_eq};
 ghost use Rattle.sdd_lang.specs.All.{Gives, has_copy, has_name, numbers_to};
@@ -9,7 +9,7 @@ ghost use Rattle.sdd_script.specs.Naming.{name_of, relation_if, columns_of, key_
 use crate::fault::{LineError, WorkRule, broken, known};
 use sdd_lang::sdd_base::{ClassNo, DmNo, FragNo, Name, RelNo};
 use sdd_lang::sdd_catalog::{Catalogue, Column, Kind, Relation};
-use sdd_words::{Word, read_name};
+use sdd_words::{Token, read_name};
 use std::alloc::Global;
 
 /// The relation at the place below a number, or None past the last.
@@ -63,7 +63,8 @@ fn has_name(cat: &Catalogue, rel: u32, name: &[u8]) -> bool
 }
 
 fn relation_named(cat: &Catalogue, name: &[u8]) -> Option<u32>
-    ensures { result ≡ relation_named cat.now name.now }
+    ensures relation { result ≡ relation_named cat.now name.now }
+    ensures few { IfSome result (λ rel. rel < 2 ^ 8) }
 {
     cat.known();
     (1..cat.relations() + 1).find(|rel| has_name(cat, *rel, name))
@@ -71,12 +72,24 @@ fn relation_named(cat: &Catalogue, name: &[u8]) -> Option<u32>
 
 /// The number of the relation that the word names, or None exactly where there is none. Costs time in
 /// the number of relations.
-pub fn relation_of(cat: &Catalogue, word: &Word) -> Option<u32>
+pub fn relation_of(cat: &Catalogue, word: &Token<'_>) -> Option<u32>
+    ensures relation { result ≡ relation_of cat.now word.now }
+    ensures few { IfSome result (λ rel. rel < 2 ^ 8) }
+{
+    match word.plain() {
+        Some(name) => relation_named(cat, name),
+        None => None,
+    }
+}
+
+/// The number of the relation that the word names, in one byte, or None exactly where there is none.
+/// Costs time in the number of relations.
+pub fn part_of(cat: &Catalogue, word: &Token<'_>) -> Option<u8>
     ensures { result ≡ relation_of cat.now word.now }
 {
-    match word {
-        Word::Plain(name) => relation_named(cat, name.as_slice()),
-        Word::Quoted(_) => None,
+    match relation_of(cat, word) {
+        Some(rel) => Some(rel as u8),
+        None => None,
     }
 }
 
@@ -164,11 +177,11 @@ pub fn has_class(cat: &Catalogue, name: &[u8]) -> bool
 }
 
 /// The name that a word is.
-pub fn name_in_word(alloc: Global, word: &Word) -> Result<Name, LineError>
+pub fn name_in_word(alloc: Global, word: &Token<'_>) -> Result<Name, LineError>
     ensures { Gives rule_in (λ n. n) result (name_of word.now) }
 {
-    match word {
-        Word::Plain(bytes) => known(WorkRule::UnknownName, read_name(alloc, bytes.as_slice())?),
-        Word::Quoted(_) => broken(WorkRule::UnknownName),
+    match word.plain() {
+        Some(bytes) => known(WorkRule::UnknownName, read_name(alloc, bytes)?),
+        None => broken(WorkRule::UnknownName),
     }
 }

@@ -3,14 +3,14 @@ ghost use Rattle.std.specs.Prelude.{◌≡◌, ◌≤◌};
 ghost use Rattle.sdd_lang.specs.All.{Gives, are_linked};
 ghost use Rattle.sdd_script.specs.Rules.{rule_in};
 ghost use Rattle.sdd_script.specs.Occurrences.{numbered, site_in, site_of, module_of, tm_of, link_of, count_of, flight_place, deliver_of, lose_of, repeat_of, txn_named, submit_of, resend_of, tick_of, settle_of, redeclare_of, data_module_of, dm_of, down_of, up_of, event_of};
-ghost use Rattle.sdd_words.specs.declared.word.Word.TheVariants.{Plain};
+ghost use Rattle.sdd_words.specs.Words.{Plain};
 
 use crate::fault::{LineError, WorkRule, broken, known, must};
 use crate::keyword::EventKey;
 use crate::names::Names;
 use sdd_lang::sdd_base::{DmNo, Event, MAX_PLACE, MAX_TICKS, Site, TmNo, TxnNo};
 use sdd_lang::sdd_catalog::Catalogue;
-use sdd_words::{Word, number_in, read_name, stands_free};
+use sdd_words::{Token, Tokens, number_in, read_name, stands_free};
 use std::alloc::Global;
 
 /// The number of a module, from 1 to the most.
@@ -56,12 +56,12 @@ fn site_in(cat: &Catalogue, bytes: &[u8]) -> Option<Site>
     }
 }
 
-fn read_site(cat: &Catalogue, word: &Word) -> Result<Site, LineError>
+fn read_site(cat: &Catalogue, word: &Token<'_>) -> Result<Site, LineError>
     ensures { Gives rule_in (λ s. s) result (site_of cat.now word.now) }
 {
-    match word {
-        Word::Quoted(_) => broken(WorkRule::BadEvent),
-        Word::Plain(bytes) => known(WorkRule::BadEvent, site_in(cat, bytes.as_slice())),
+    match word.plain() {
+        Some(bytes) => known(WorkRule::BadEvent, site_in(cat, bytes)),
+        None => broken(WorkRule::BadEvent),
     }
 }
 
@@ -75,7 +75,7 @@ fn module_of(site: Site) -> Result<TmNo, LineError>
 }
 
 /// The transaction module that a word names.
-pub fn read_tm(cat: &Catalogue, word: &Word) -> Result<TmNo, LineError>
+pub fn read_tm(cat: &Catalogue, word: &Token<'_>) -> Result<TmNo, LineError>
     ensures { Gives rule_in (λ t. t) result (tm_of cat.now word.now) }
 {
     module_of(read_site(cat, word)?)
@@ -91,7 +91,7 @@ fn data_module_of(site: Site) -> Result<DmNo, LineError>
 }
 
 /// The data module that a word names.
-pub fn read_dm(cat: &Catalogue, word: &Word) -> Result<DmNo, LineError>
+pub fn read_dm(cat: &Catalogue, word: &Token<'_>) -> Result<DmNo, LineError>
     ensures { Gives rule_in (λ d. d) result (dm_of cat.now word.now) }
 {
     data_module_of(read_site(cat, word)?)
@@ -106,7 +106,7 @@ fn are_linked(from: Site, to: Site) -> bool
     }
 }
 
-fn read_link(cat: &Catalogue, from: &Word, to: &Word) -> Result<(Site, Site), LineError>
+fn read_link(cat: &Catalogue, from: &Token<'_>, to: &Token<'_>) -> Result<(Site, Site), LineError>
     ensures { Gives rule_in (λ l. l) result (link_of cat.now from.now to.now) }
 {
     let from = read_site(cat, from)?;
@@ -125,48 +125,51 @@ fn count_in(most: u32, digits: &[u8]) -> Option<u32>
 }
 
 /// A number from 1 to the most.
-fn read_count(most: u32, word: &Word) -> Result<u32, LineError>
+fn read_count(most: u32, word: &Token<'_>) -> Result<u32, LineError>
     ensures { Gives rule_in (λ n. n) result (count_of most word.now) }
 {
-    match word {
-        Word::Quoted(_) => broken(WorkRule::BadNumber),
-        Word::Plain(bytes) => known(WorkRule::BadNumber, count_in(most, bytes.as_slice())),
+    match word.plain() {
+        Some(bytes) => known(WorkRule::BadNumber, count_in(most, bytes)),
+        None => broken(WorkRule::BadNumber),
     }
 }
 
-fn read_flight_place(cat: &Catalogue, words: &[Word]) -> Result<(Site, Site, u32), LineError>
-    ensures { Gives rule_in (λ p. p) result (flight_place cat.now words.now) }
+fn read_flight_place(
+    cat: &Catalogue,
+    words: &mut Tokens<'_>,
+) -> Result<(Site, Site, u32), LineError>
+    ensures { Gives rule_in (λ p. p) result (flight_place cat.now words.old) }
 {
-    match words {
-        [from, to, place] => {
+    match words.only_three() {
+        Some((from, to, place)) => {
             must(
                 WorkRule::BadLine,
-                stands_free(from) && stands_free(to) && stands_free(place),
+                stands_free(&from) && stands_free(&to) && stands_free(&place),
             )?;
-            let (from, to) = read_link(cat, from, to)?;
-            let place = read_count(MAX_PLACE, place)?;
+            let (from, to) = read_link(cat, &from, &to)?;
+            let place = read_count(MAX_PLACE, &place)?;
             Ok((from, to, place))
         }
-        _ => broken(WorkRule::BadLine),
+        None => broken(WorkRule::BadLine),
     }
 }
 
-fn read_deliver(cat: &Catalogue, words: &[Word]) -> Result<Event, LineError>
-    ensures { Gives rule_in (λ e. e) result (deliver_of cat.now words.now) }
+fn read_deliver(cat: &Catalogue, words: &mut Tokens<'_>) -> Result<Event, LineError>
+    ensures { Gives rule_in (λ e. e) result (deliver_of cat.now words.old) }
 {
     let (from, to, place) = read_flight_place(cat, words)?;
     Ok(Event::Deliver { from, to, place })
 }
 
-fn read_lose(cat: &Catalogue, words: &[Word]) -> Result<Event, LineError>
-    ensures { Gives rule_in (λ e. e) result (lose_of cat.now words.now) }
+fn read_lose(cat: &Catalogue, words: &mut Tokens<'_>) -> Result<Event, LineError>
+    ensures { Gives rule_in (λ e. e) result (lose_of cat.now words.old) }
 {
     let (from, to, place) = read_flight_place(cat, words)?;
     Ok(Event::Lose { from, to, place })
 }
 
-fn read_repeat(cat: &Catalogue, words: &[Word]) -> Result<Event, LineError>
-    ensures { Gives rule_in (λ e. e) result (repeat_of cat.now words.now) }
+fn read_repeat(cat: &Catalogue, words: &mut Tokens<'_>) -> Result<Event, LineError>
+    ensures { Gives rule_in (λ e. e) result (repeat_of cat.now words.old) }
 {
     let (from, to, place) = read_flight_place(cat, words)?;
     Ok(Event::Repeat { from, to, place })
@@ -180,96 +183,96 @@ fn txn_in(alloc: Global, names: &Names, bytes: &[u8]) -> Result<TxnNo, LineError
     Ok(TxnNo(number))
 }
 
-fn read_txn(alloc: Global, names: &Names, word: &Word) -> Result<TxnNo, LineError>
+fn read_txn(alloc: Global, names: &Names, word: &Token<'_>) -> Result<TxnNo, LineError>
     ensures { Gives rule_in (λ t. t) result (txn_named names.now word.now) }
 {
-    match word {
-        Word::Plain(bytes) => txn_in(alloc, names, bytes.as_slice()),
-        Word::Quoted(_) => broken(WorkRule::UnknownName),
+    match word.plain() {
+        Some(bytes) => txn_in(alloc, names, bytes),
+        None => broken(WorkRule::UnknownName),
     }
 }
 
-fn read_submit(alloc: Global, names: &Names, words: &[Word]) -> Result<Event, LineError>
-    ensures { Gives rule_in (λ e. e) result (submit_of names.now words.now) }
+fn read_submit(alloc: Global, names: &Names, words: &mut Tokens<'_>) -> Result<Event, LineError>
+    ensures { Gives rule_in (λ e. e) result (submit_of names.now words.old) }
 {
-    match words {
-        [name] => {
-            must(WorkRule::BadLine, stands_free(name))?;
-            let txn = read_txn(alloc, names, name)?;
+    match words.only_one() {
+        Some(name) => {
+            must(WorkRule::BadLine, stands_free(&name))?;
+            let txn = read_txn(alloc, names, &name)?;
             Ok(Event::Submit(txn))
         }
-        _ => broken(WorkRule::BadLine),
+        None => broken(WorkRule::BadLine),
     }
 }
 
-fn read_resend(cat: &Catalogue, words: &[Word]) -> Result<Event, LineError>
-    ensures { Gives rule_in (λ e. e) result (resend_of cat.now words.now) }
+fn read_resend(cat: &Catalogue, words: &mut Tokens<'_>) -> Result<Event, LineError>
+    ensures { Gives rule_in (λ e. e) result (resend_of cat.now words.old) }
 {
-    match words {
-        [from, to] => {
-            must(WorkRule::BadLine, stands_free(from) && stands_free(to))?;
-            let (from, to) = read_link(cat, from, to)?;
+    match words.only_two() {
+        Some((from, to)) => {
+            must(WorkRule::BadLine, stands_free(&from) && stands_free(&to))?;
+            let (from, to) = read_link(cat, &from, &to)?;
             Ok(Event::Resend { from, to })
         }
-        _ => broken(WorkRule::BadLine),
+        None => broken(WorkRule::BadLine),
     }
 }
 
-fn read_tick(cat: &Catalogue, words: &[Word]) -> Result<Event, LineError>
-    ensures { Gives rule_in (λ e. e) result (tick_of cat.now words.now) }
+fn read_tick(cat: &Catalogue, words: &mut Tokens<'_>) -> Result<Event, LineError>
+    ensures { Gives rule_in (λ e. e) result (tick_of cat.now words.old) }
 {
-    match words {
-        [tm, n] => {
-            must(WorkRule::BadLine, stands_free(tm) && stands_free(n))?;
-            let tm = read_tm(cat, tm)?;
-            let n = read_count(MAX_TICKS, n)?;
+    match words.only_two() {
+        Some((tm, n)) => {
+            must(WorkRule::BadLine, stands_free(&tm) && stands_free(&n))?;
+            let tm = read_tm(cat, &tm)?;
+            let n = read_count(MAX_TICKS, &n)?;
             Ok(Event::Tick { tm, n })
         }
-        _ => broken(WorkRule::BadLine),
+        None => broken(WorkRule::BadLine),
     }
 }
 
-fn read_settle(words: &[Word]) -> Result<Event, LineError>
-    ensures { Gives rule_in (λ e. e) result (settle_of words.now) }
+fn read_settle(words: &mut Tokens<'_>) -> Result<Event, LineError>
+    ensures { Gives rule_in (λ e. e) result (settle_of words.old) }
 {
-    match words {
-        [] => Ok(Event::Settle),
-        _ => broken(WorkRule::BadLine),
+    match words.next() {
+        None => Ok(Event::Settle),
+        Some(_) => broken(WorkRule::BadLine),
     }
 }
 
-fn read_redeclare(words: &[Word]) -> Result<Event, LineError>
-    ensures { Gives rule_in (λ e. e) result (redeclare_of words.now) }
+fn read_redeclare(words: &mut Tokens<'_>) -> Result<Event, LineError>
+    ensures { Gives rule_in (λ e. e) result (redeclare_of words.old) }
 {
-    match words {
-        [] => Ok(Event::Redeclare),
-        _ => broken(WorkRule::BadLine),
+    match words.next() {
+        None => Ok(Event::Redeclare),
+        Some(_) => broken(WorkRule::BadLine),
     }
 }
 
-fn read_down(cat: &Catalogue, words: &[Word]) -> Result<Event, LineError>
-    ensures { Gives rule_in (λ e. e) result (down_of cat.now words.now) }
+fn read_down(cat: &Catalogue, words: &mut Tokens<'_>) -> Result<Event, LineError>
+    ensures { Gives rule_in (λ e. e) result (down_of cat.now words.old) }
 {
-    match words {
-        [dm] => {
-            must(WorkRule::BadLine, stands_free(dm))?;
-            let dm = read_dm(cat, dm)?;
+    match words.only_one() {
+        Some(dm) => {
+            must(WorkRule::BadLine, stands_free(&dm))?;
+            let dm = read_dm(cat, &dm)?;
             Ok(Event::Down(dm))
         }
-        _ => broken(WorkRule::BadLine),
+        None => broken(WorkRule::BadLine),
     }
 }
 
-fn read_up(cat: &Catalogue, words: &[Word]) -> Result<Event, LineError>
-    ensures { Gives rule_in (λ e. e) result (up_of cat.now words.now) }
+fn read_up(cat: &Catalogue, words: &mut Tokens<'_>) -> Result<Event, LineError>
+    ensures { Gives rule_in (λ e. e) result (up_of cat.now words.old) }
 {
-    match words {
-        [dm] => {
-            must(WorkRule::BadLine, stands_free(dm))?;
-            let dm = read_dm(cat, dm)?;
+    match words.only_one() {
+        Some(dm) => {
+            must(WorkRule::BadLine, stands_free(&dm))?;
+            let dm = read_dm(cat, &dm)?;
             Ok(Event::Up(dm))
         }
-        _ => broken(WorkRule::BadLine),
+        None => broken(WorkRule::BadLine),
     }
 }
 
@@ -279,9 +282,9 @@ pub fn read_event(
     cat: &Catalogue,
     names: &Names,
     key: EventKey,
-    words: &[Word],
+    words: &mut Tokens<'_>,
 ) -> Result<Event, LineError>
-    ensures { Gives rule_in (λ e. e) result (event_of key cat.now names.now words.now) }
+    ensures { Gives rule_in (λ e. e) result (event_of key cat.now names.now words.old) }
 {
     match key {
         EventKey::Submit => read_submit(alloc, names, words),

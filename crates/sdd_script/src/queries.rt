@@ -1,83 +1,95 @@
 //! Queries, by the words after the first word of their lines.
 ghost use Rattle.std.specs.Prelude.{◌≡◌, map, IfOk, codes};
-ghost use Rattle.sdd_lang.specs.All.{Gives, along};
+ghost use Rattle.sdd_lang.specs.All.{Gives, MAX_OUTPUT_COLUMNS, MAX_USES, along};
+ghost use Rattle.sdd_script.specs.Few.{few, short};
 ghost use Rattle.sdd_script.specs.Rules.{rule_in};
 ghost use Rattle.sdd_script.specs.Statements.{listed_column, part_in, parts_of, query_over, query_of_parts, query_behind_from, query_with, query_of};
 
 use crate::columns::{read_column, read_conditions};
 use crate::fault::{LineError, WorkRule, broken, known, must};
-use crate::naming::relation_of;
-use sdd_lang::sdd_base::{Listed, NoMemory, RelNo};
+use crate::few::keep_few;
+use crate::naming::part_of;
+use sdd_lang::sdd_base::{Listed, MAX_OUTPUT_COLUMNS, MAX_USES, NoMemory, RelNo};
 use sdd_lang::sdd_catalog::Catalogue;
 use sdd_lang::{Ref, Stmt};
-use sdd_words::{
-    Comparison, Word, are_free, cut_at, look_like_columns, read_comparisons, split_from,
-};
+use sdd_words::{Comparisons, Token, Tokens, are_free, look_like_columns, read_comparisons};
 use std::alloc::Global;
 
 /// The relations of words by their places, with None where there is no such relation.
-fn read_parts(alloc: Global, cat: &Catalogue, rels: &[Word]) -> Result<Vec<Option<u32>>, NoMemory>
-    ensures { IfOk result (λ v. v.items ≡ parts_of cat.now rels.now) }
+#[tactic(auto, using(crate::proofs::FewRead::part_more, crate::proofs::FewRead::all_parts))]
+fn read_parts(
+    alloc: Global,
+    cat: &Catalogue,
+    rels: &mut Tokens<'_>,
+) -> Result<Vec<Option<u8>>, NoMemory>
+    ensures { IfOk result (λ v. v.items ≡ parts_of cat.now rels.old) }
 {
-    let parts = rels
-        .iter()
-        .map(|word| relation_of(cat, word))
-        .collect(alloc)?;
+    let mut parts = Vec::new(alloc);
+    'rels: while let Some(rel) = rels.next() {
+        parts.push(part_of(cat, &rel))?;
+    }
     Ok(parts)
 }
 
-fn read_listed_column(cat: &Catalogue, parts: &[Option<u32>], word: &Word) -> Result<Ref, LineError>
+fn read_listed_column(
+    cat: &Catalogue,
+    parts: &[Option<u8>],
+    word: &Token<'_>,
+) -> Result<Ref, LineError>
     ensures { Gives rule_in (λ r. r) result (listed_column cat.now parts.now word.now) }
 {
     let found = read_column(cat, parts, word)?;
     Ok(found.at)
 }
 
-#[tactic(auto, using(crate::proofs::Each::each_loop))]
+#[tactic(auto, using(crate::proofs::FewRead::few_loop))]
 fn read_listed(
     alloc: Global,
     cat: &Catalogue,
-    parts: &[Option<u32>],
-    words: &[Word],
+    parts: &[Option<u8>],
+    words: &mut Tokens<'_>,
 ) -> Result<Vec<Ref>, LineError>
     ensures { Gives rule_in (λ v. v.items) result
-        (along (λ i w. listed_column cat.now parts.now w) 0 words.now) }
+        (few MAX_OUTPUT_COLUMNS (along (λ i w. listed_column cat.now parts.now w) 0 words.old)) }
 {
     let mut out = Vec::new(alloc);
-    'words: for (i, word) in words.iter().enumerate() {
-        out.push(read_listed_column(cat, parts, word)?)?;
+    'words: while let Some(word) = words.next() {
+        let column = read_listed_column(cat, parts, &word)?;
+        keep_few(&mut out, MAX_OUTPUT_COLUMNS, column)?;
     }
     Ok(out)
 }
 
-fn read_part(part: &Option<u32>) -> Result<RelNo, LineError>
-    ensures { Gives rule_in (λ r. r) result (part_in part.now) }
+fn read_part(part: Option<u8>) -> Result<RelNo, LineError>
+    ensures { Gives rule_in (λ r. r) result (part_in part) }
 {
-    let rel = known(WorkRule::UnknownName, *part)?;
-    Ok(RelNo(rel))
+    let rel = known(WorkRule::UnknownName, part)?;
+    Ok(RelNo(u32::from(rel)))
 }
 
-#[tactic(auto, using(crate::proofs::Each::each_loop))]
-fn read_relations(alloc: Global, parts: &[Option<u32>]) -> Result<Vec<RelNo>, LineError>
-    ensures { Gives rule_in (λ v. v.items) result (along (λ i p. part_in p) 0 parts.now) }
+#[tactic(auto, using(crate::proofs::FewRead::few_loop))]
+fn read_relations(alloc: Global, parts: &[Option<u8>]) -> Result<Vec<RelNo>, LineError>
+    ensures { Gives rule_in (λ v. v.items) result
+        (few MAX_USES (along (λ i p. part_in p) 0 parts.now)) }
 {
     let mut rels = Vec::new(alloc);
-    'parts: for (i, part) in parts.iter().enumerate() {
-        rels.push(read_part(part)?)?;
+    'parts: for part in parts {
+        let rel = read_part(*part)?;
+        keep_few(&mut rels, MAX_USES, rel)?;
     }
     Ok(rels)
 }
 
 /// A query over relations that stand at these places.
-#[tactic(auto, using(crate::proofs::Each::fails_bind), unfolding(crate::specs::Statements::query_over))]
 fn read_query_of(
     alloc: Global,
     cat: &Catalogue,
-    parts: &[Option<u32>],
-    columns: &[Word],
-    words: &[Comparison],
+    parts: &[Option<u8>],
+    columns: &mut Tokens<'_>,
+    words: &mut Comparisons<'_>,
 ) -> Result<Stmt, LineError>
-    ensures { Gives rule_in (λ s. s) result (query_over cat.now parts.now columns.now words.now) }
+    ensures { Gives rule_in (λ s. s) result
+        (short (query_over cat.now parts.now columns.old words.old)) }
 {
     let out = read_listed(alloc, cat, parts, columns)?;
     let rels = read_relations(alloc, parts)?;
@@ -89,15 +101,15 @@ fn read_query_of(
     })
 }
 
-#[tactic(auto, using(crate::proofs::Each::fails_bind), unfolding(crate::specs::Statements::query_of_parts))]
 fn read_query_parts(
     alloc: Global,
     cat: &Catalogue,
-    columns: &[Word],
-    rels: &[Word],
-    words: &[Comparison],
+    columns: &mut Tokens<'_>,
+    rels: &mut Tokens<'_>,
+    words: &mut Comparisons<'_>,
 ) -> Result<Stmt, LineError>
-    ensures { Gives rule_in (λ s. s) result (query_of_parts cat.now columns.now rels.now words.now) }
+    ensures { Gives rule_in (λ s. s) result
+        (short (query_of_parts cat.now columns.old rels.old words.old)) }
 {
     let parts = read_parts(alloc, cat, rels)?;
     read_query_of(alloc, cat, parts.as_slice(), columns, words)
@@ -106,39 +118,43 @@ fn read_query_parts(
 fn read_query_behind_from(
     alloc: Global,
     cat: &Catalogue,
-    columns: &[Word],
-    rels: &[Word],
-    rest: &[Word],
+    columns: &mut Tokens<'_>,
+    rels: &mut Tokens<'_>,
+    rest: Tokens<'_>,
 ) -> Result<Stmt, LineError>
-    ensures { Gives rule_in (λ s. s) result (query_behind_from cat.now columns.now rels.now rest.now) }
+    ensures { Gives rule_in (λ s. s) result
+        (short (query_behind_from cat.now columns.old rels.old rest.entry)) }
 {
     must(
         WorkRule::BadLine,
         look_like_columns(columns) && are_free(rels),
     )?;
-    let words = known(WorkRule::BadLine, read_comparisons(alloc, rest)?)?;
-    read_query_parts(alloc, cat, columns, rels, words.as_slice())
+    match read_comparisons(rest) {
+        Some(mut words) => read_query_parts(alloc, cat, columns, rels, &mut words),
+        None => broken(WorkRule::BadLine),
+    }
 }
 
 fn read_query_with(
     alloc: Global,
     cat: &Catalogue,
-    columns: &[Word],
-    behind: &[Word],
+    columns: &mut Tokens<'_>,
+    behind: &Tokens<'_>,
 ) -> Result<Stmt, LineError>
-    ensures { Gives rule_in (λ s. s) result (query_with cat.now columns.now behind.now) }
+    ensures { Gives rule_in (λ s. s) result
+        (short (query_with cat.now columns.old behind.now)) }
 {
-    let key = b"where".as_slice();
-    let (rels, rest) = split_from(behind, key);
-    read_query_behind_from(alloc, cat, columns, rels, rest)
+    let (mut rels, rest) = behind.split_from(b"where");
+    read_query_behind_from(alloc, cat, columns, &mut rels, rest)
 }
 
-/// A query, by its columns, `from`, its relations, and its conditions.
-pub fn read_query(alloc: Global, cat: &Catalogue, words: &[Word]) -> Result<Stmt, LineError>
-    ensures { Gives rule_in (λ s. s) result (query_of cat.now words.now) }
+/// A query, by its columns, `from`, its relations, and its conditions; of what is too many the first
+/// ones.
+pub fn read_query(alloc: Global, cat: &Catalogue, words: &Tokens<'_>) -> Result<Stmt, LineError>
+    ensures { Gives rule_in (λ s. s) result (short (query_of cat.now words.now)) }
 {
-    match cut_at(words, b"from".as_slice()) {
-        Some((columns, behind)) => read_query_with(alloc, cat, columns, behind),
+    match words.cut_at(b"from") {
+        Some((mut columns, behind)) => read_query_with(alloc, cat, &mut columns, &behind),
         None => broken(WorkRule::BadLine),
     }
 }

@@ -2,6 +2,7 @@
 ghost use Rattle.std.specs.Prelude.{◌≡◌, ◌==◌, OnOk};
 ghost use Rattle.std.specs.List.{list_any};
 ghost use Rattle.sdd_lang.specs.All.{Gives, TxnNo};
+ghost use Rattle.sdd_script.specs.Few.{short};
 ghost use Rattle.sdd_script.specs.Rules.{rule_in};
 ghost use Rattle.sdd_script.specs.LineRules.{row_rules, opened, txn_rules, with_statement, statement_rules, closed, done_rules, is_submitted, with_submitted, with_event, event_rules, end_rules, keyword_rules, words_rules, sound_rules, line_rules};
 ghost use Rattle.sdd_script.specs.Occurrences.{event_of};
@@ -23,7 +24,7 @@ use crate::values::read_row;
 use sdd_lang::sdd_base::{Event, MAX_EVENTS, MAX_TXNS, Name, NoMemory, TmNo, TxnNo};
 use sdd_lang::sdd_catalog::Catalogue;
 use sdd_lang::{Stmt, Txn};
-use sdd_words::{Word, are_free, are_sound, split_line, stands_free, text_of};
+use sdd_words::{Tokens, are_free, are_sound, stands_free, text_of, words_of};
 use std::alloc::Global;
 use std::mem;
 
@@ -31,18 +32,18 @@ fn row_line(
     alloc: Global,
     cat: &Catalogue,
     state: &mut State,
-    words: &[Word],
+    words: &mut Tokens<'_>,
 ) -> Result<(), LineError>
-    ensures { Gives rule_in (λ _. state.new) result (row_rules cat.now state.old words.now) }
+    ensures { Gives rule_in (λ _. state.new) result (row_rules cat.now state.old words.old) }
 {
-    match words {
-        [] => broken(WorkRule::BadLine),
-        [name, values @ ..] => {
+    match words.next() {
+        None => broken(WorkRule::BadLine),
+        Some(name) => {
             must(
                 WorkRule::BadLine,
-                state.place.takes_rows() && (stands_free(name) && are_free(values)),
+                state.place.takes_rows() && (stands_free(&name) && are_free(words)),
             )?;
-            let row = read_row(alloc, cat, name, values)?;
+            let row = read_row(alloc, cat, &name, words)?;
             state.written = known(WorkRule::TooMany(Counts::Row), one_more_row(state.written))?;
             state.rows.push(row)?;
             Ok(())
@@ -64,21 +65,21 @@ fn txn_line(
     alloc: Global,
     cat: &Catalogue,
     state: &mut State,
-    words: &[Word],
+    words: &mut Tokens<'_>,
 ) -> Result<(), LineError>
-    ensures { Gives rule_in (λ _. state.new) result (txn_rules cat.now state.old words.now) }
+    ensures { Gives rule_in (λ _. state.new) result (txn_rules cat.now state.old words.old) }
 {
-    match words {
-        [word, tm] => {
+    match words.only_two() {
+        Some((word, tm)) => {
             must(
                 WorkRule::BadLine,
-                state.place.takes_txns() && (stands_free(word) && stands_free(tm)),
+                state.place.takes_txns() && (stands_free(&word) && stands_free(&tm)),
             )?;
-            let name = name_in_word(alloc, word)?;
-            let tm = read_tm(cat, tm)?;
+            let name = name_in_word(alloc, &word)?;
+            let tm = read_tm(cat, &tm)?;
             open_txn(alloc, state, name, tm)
         }
-        _ => broken(WorkRule::BadLine),
+        None => broken(WorkRule::BadLine),
     }
 }
 
@@ -95,18 +96,32 @@ fn add_statement(state: &mut State, statement: Stmt) -> Result<(), LineError>
     Ok(())
 }
 
+/// Adds a statement as it was read, of what is too many in it no more than the first ones.
+fn short_statement_line(
+    alloc: Global,
+    cat: &Catalogue,
+    state: &mut State,
+    key: StatementKey,
+    words: &mut Tokens<'_>,
+) -> Result<(), LineError>
+    ensures { Gives rule_in (λ _. state.new) result
+        (statement_rules state.old (short (statement_of key cat.now words.old))) }
+{
+    must(WorkRule::BadLine, state.place.takes_statements())?;
+    add_statement(state, read_statement(alloc, cat, key, words)?)
+}
+
 fn statement_line(
     alloc: Global,
     cat: &Catalogue,
     state: &mut State,
     key: StatementKey,
-    words: &[Word],
+    words: &mut Tokens<'_>,
 ) -> Result<(), LineError>
     ensures { Gives rule_in (λ _. state.new) result
-        (statement_rules state.old (statement_of key cat.now words.now)) }
+        (statement_rules state.old (statement_of key cat.now words.old)) }
 {
-    must(WorkRule::BadLine, state.place.takes_statements())?;
-    add_statement(state, read_statement(alloc, cat, key, words)?)
+    short_statement_line(alloc, cat, state, key, words)
 }
 
 /// Ends the transaction or the list of classes that is open.
@@ -133,12 +148,12 @@ fn close(alloc: Global, state: &mut State) -> Result<(), LineError>
     }
 }
 
-fn done_line(alloc: Global, state: &mut State, words: &[Word]) -> Result<(), LineError>
-    ensures { Gives rule_in (λ _. state.new) result (done_rules state.old words.now) }
+fn done_line(alloc: Global, state: &mut State, words: &mut Tokens<'_>) -> Result<(), LineError>
+    ensures { Gives rule_in (λ _. state.new) result (done_rules state.old words.old) }
 {
-    match words {
-        [] => close(alloc, state),
-        _ => broken(WorkRule::BadLine),
+    match words.next() {
+        None => close(alloc, state),
+        Some(_) => broken(WorkRule::BadLine),
     }
 }
 
@@ -192,26 +207,26 @@ fn event_line(
     cat: &Catalogue,
     state: &mut State,
     key: EventKey,
-    words: &[Word],
+    words: &mut Tokens<'_>,
 ) -> Result<(), LineError>
     ensures { Gives rule_in (λ _. state.new) result
-        (event_rules cat.now state.old (event_of key cat.now state.old.names words.now)) }
+        (event_rules cat.now state.old (event_of key cat.now state.old.names words.old)) }
 {
     must(WorkRule::BadLine, state.place.takes_events())?;
     let event = read_event(alloc, cat, &state.names, key, words)?;
     add_event(cat, state, event)
 }
 
-fn end_line(state: &mut State, words: &[Word]) -> Result<(), LineError>
-    ensures { Gives rule_in (λ _. state.new) result (end_rules state.old words.now) }
+fn end_line(state: &mut State, words: &mut Tokens<'_>) -> Result<(), LineError>
+    ensures { Gives rule_in (λ _. state.new) result (end_rules state.old words.old) }
 {
-    match words {
-        [] => {
+    match words.next() {
+        None => {
             must(WorkRule::BadLine, state.place.takes_events())?;
             state.place = Place::Ended;
             Ok(())
         }
-        _ => broken(WorkRule::BadLine),
+        Some(_) => broken(WorkRule::BadLine),
     }
 }
 
@@ -220,9 +235,9 @@ fn read_keyword_line(
     cat: &Catalogue,
     state: &mut State,
     keyword: Keyword,
-    words: &[Word],
+    words: &mut Tokens<'_>,
 ) -> Result<(), LineError>
-    ensures { Gives rule_in (λ _. state.new) result (keyword_rules keyword cat.now state.old words.now) }
+    ensures { Gives rule_in (λ _. state.new) result (keyword_rules keyword cat.now state.old words.old) }
 {
     match keyword {
         Keyword::Row => row_line(alloc, cat, state, words),
@@ -239,14 +254,14 @@ fn read_words(
     alloc: Global,
     cat: &Catalogue,
     state: &mut State,
-    words: &[Word],
+    words: &mut Tokens<'_>,
 ) -> Result<(), LineError>
-    ensures { Gives rule_in (λ _. state.new) result (words_rules cat.now state.old words.now) }
+    ensures { Gives rule_in (λ _. state.new) result (words_rules cat.now state.old words.old) }
 {
-    match words {
-        [] => broken(WorkRule::BadLine),
-        [first, words @ ..] => {
-            let keyword = known(WorkRule::BadLine, keyword_of(first))?;
+    match words.next() {
+        None => broken(WorkRule::BadLine),
+        Some(first) => {
+            let keyword = known(WorkRule::BadLine, keyword_of(&first))?;
             read_keyword_line(alloc, cat, state, keyword, words)
         }
     }
@@ -256,11 +271,11 @@ fn read_sound_words(
     alloc: Global,
     cat: &Catalogue,
     state: &mut State,
-    words: &[Word],
+    words: &mut Tokens<'_>,
 ) -> Result<(), LineError>
-    ensures { Gives rule_in (λ _. state.new) result (sound_rules cat.now state.old words.now) }
+    ensures { Gives rule_in (λ _. state.new) result (sound_rules cat.now state.old words.old) }
 {
-    must(WorkRule::BadLine, are_sound(words))?;
+    must(WorkRule::BadLine, are_sound(alloc, words)?)?;
     read_words(alloc, cat, state, words)
 }
 
@@ -275,6 +290,8 @@ pub fn read_line(
     ensures { Gives rule_in (λ _. state.new) result (line_rules cat.now state.old line.now) }
 {
     must(WorkRule::NotUtf8, text_of(line).is_some())?;
-    let words = known(WorkRule::BadLine, split_line(alloc, line)?)?;
-    read_sound_words(alloc, cat, state, words.as_slice())
+    match words_of(line) {
+        Some(mut words) => read_sound_words(alloc, cat, state, &mut words),
+        None => broken(WorkRule::BadLine),
+    }
 }

@@ -1,6 +1,7 @@
 //! Statements, by the first words of their lines and the words after them.
 ghost use Rattle.std.specs.Prelude.{◌≡◌};
 ghost use Rattle.sdd_lang.specs.All.{Gives};
+ghost use Rattle.sdd_script.specs.Few.{short};
 ghost use Rattle.sdd_script.specs.Rules.{rule_in};
 ghost use Rattle.sdd_script.specs.Statements.{put_of, statement_of};
 
@@ -12,31 +13,33 @@ use crate::updates::read_update;
 use crate::values::read_row;
 use sdd_lang::Stmt;
 use sdd_lang::sdd_catalog::Catalogue;
-use sdd_words::{Word, are_free, stands_free};
+use sdd_words::{Tokens, are_free, stands_free};
 use std::alloc::Global;
 
 /// A put, by a relation and values.
-fn read_put(alloc: Global, cat: &Catalogue, words: &[Word]) -> Result<Stmt, LineError>
-    ensures { Gives rule_in (λ s. s) result (put_of cat.now words.now) }
+#[tactic(auto, using(crate::proofs::Shortened::fails_at))]
+fn read_put(alloc: Global, cat: &Catalogue, words: &mut Tokens<'_>) -> Result<Stmt, LineError>
+    ensures { Gives rule_in (λ s. s) result (short (put_of cat.now words.old)) }
 {
-    match words {
-        [] => broken(WorkRule::BadLine),
-        [name, values @ ..] => {
-            must(WorkRule::BadLine, stands_free(name) && are_free(values))?;
-            let (rel, row) = read_row(alloc, cat, name, values)?;
+    match words.next() {
+        None => broken(WorkRule::BadLine),
+        Some(name) => {
+            must(WorkRule::BadLine, stands_free(&name) && are_free(words))?;
+            let (rel, row) = read_row(alloc, cat, &name, words)?;
             Ok(Stmt::Put { rel, row })
         }
     }
 }
 
-/// A statement, by its first word and the words after it.
+/// A statement, by its first word and the words after it; of what is too many in it no more than the
+/// first ones, which tell that it is.
 pub fn read_statement(
     alloc: Global,
     cat: &Catalogue,
     key: StatementKey,
-    words: &[Word],
+    words: &mut Tokens<'_>,
 ) -> Result<Stmt, LineError>
-    ensures { Gives rule_in (λ s. s) result (statement_of key cat.now words.now) }
+    ensures { Gives rule_in (λ s. s) result (short (statement_of key cat.now words.old)) }
 {
     match key {
         StatementKey::Put => read_put(alloc, cat, words),

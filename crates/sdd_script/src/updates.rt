@@ -1,33 +1,35 @@
 //! Updates, by the words after the first word of their lines.
 ghost use Rattle.std.specs.Prelude.{◌≡◌, ◌∷◌, [], Some, codes};
-ghost use Rattle.sdd_lang.specs.All.{Gives, along};
+ghost use Rattle.sdd_lang.specs.All.{Gives, MAX_ASSIGNMENTS, along};
+ghost use Rattle.sdd_script.specs.Few.{few, short};
 ghost use Rattle.sdd_script.specs.Rules.{rule_in};
-ghost use Rattle.sdd_script.specs.Statements.{addend_of, add_of, to_of, assign_of, update_of_parts, update_with, update_behind_set, update_to, update_of};
+ghost use Rattle.sdd_script.specs.Statements.{addend_of, add_of, to_of, assign_of, update_over, update_of_parts, update_with, update_behind_set, update_to, update_of};
 
 use crate::columns::{read_column, read_conditions};
 use crate::fault::{LineError, WorkRule, broken, known, must};
+use crate::few::keep_few;
 use crate::found::Found;
-use crate::naming::{key_of, relation_of};
+use crate::naming::{key_of, part_of};
 use crate::values::{is_of_kind, read_value};
-use sdd_lang::sdd_base::{Listed, RelNo};
+use sdd_lang::sdd_base::{Listed, MAX_ASSIGNMENTS, RelNo};
 use sdd_lang::sdd_catalog::{Catalogue, Kind};
 use sdd_lang::{Assign, Stmt};
 use sdd_words::{
-    Comparison, Setting, Word, has_key, has_words, number_in, read_comparisons, read_settings,
-    split_from, stands_free,
+    Comparisons, Setting, Settings, Token, Tokens, has_key, number_in, read_comparisons,
+    read_settings, stands_free,
 };
 use std::alloc::Global;
 
-fn read_addend(word: &Word) -> Result<i64, LineError>
+fn read_addend(word: &Token<'_>) -> Result<i64, LineError>
     ensures { Gives rule_in (λ n. n) result (addend_of word.now) }
 {
-    match word {
-        Word::Plain(bytes) => known(WorkRule::BadNumber, number_in(bytes.as_slice())),
-        Word::Quoted(_) => broken(WorkRule::WrongKind),
+    match word.plain() {
+        Some(bytes) => known(WorkRule::BadNumber, number_in(bytes)),
+        None => broken(WorkRule::WrongKind),
     }
 }
 
-fn read_add(found: Found, word: &Word) -> Result<Assign, LineError>
+fn read_add(found: Found, word: &Token<'_>) -> Result<Assign, LineError>
     ensures { Gives rule_in (λ a. a) result (add_of found word.now) }
 {
     must(WorkRule::WrongKind, is_of_kind(Some(found.kind), Kind::Int))?;
@@ -38,7 +40,7 @@ fn read_add(found: Found, word: &Word) -> Result<Assign, LineError>
     })
 }
 
-fn read_to(alloc: Global, found: Found, word: &Word) -> Result<Assign, LineError>
+fn read_to(alloc: Global, found: Found, word: &Token<'_>) -> Result<Assign, LineError>
     ensures { Gives rule_in (λ a. a) result (to_of found word.now) }
 {
     let value = read_value(alloc, Some(found.kind), word)?;
@@ -51,13 +53,16 @@ fn read_to(alloc: Global, found: Found, word: &Word) -> Result<Assign, LineError
 fn read_assign(
     alloc: Global,
     cat: &Catalogue,
-    rel: u32,
-    words: &Setting,
+    rel: u8,
+    words: &Setting<'_>,
 ) -> Result<Assign, LineError>
     ensures { Gives rule_in (λ a. a) result (assign_of cat.now rel words.now) }
 {
     let found = read_column(cat, &[Some(rel)], &words.left)?;
-    must(WorkRule::KeyChanged, found.at.column != key_of(cat, rel))?;
+    must(
+        WorkRule::KeyChanged,
+        found.at.column != key_of(cat, u32::from(rel)),
+    )?;
     if words.adds {
         read_add(found, &words.right)
     } else {
@@ -65,91 +70,116 @@ fn read_assign(
     }
 }
 
-#[tactic(auto, using(crate::proofs::Each::each_loop))]
+#[tactic(auto, using(crate::proofs::FewRead::few_loop))]
 fn read_assigns(
     alloc: Global,
     cat: &Catalogue,
-    rel: u32,
-    words: &[Setting],
+    rel: u8,
+    words: &mut Settings<'_>,
 ) -> Result<Vec<Assign>, LineError>
-    ensures { Gives rule_in (λ v. v.items) result (along (λ i s. assign_of cat.now rel s) 0 words.now) }
+    ensures { Gives rule_in (λ v. v.items) result
+        (few MAX_ASSIGNMENTS (along (λ i s. assign_of cat.now rel s) 0 words.old)) }
 {
     let mut sets = Vec::new(alloc);
-    'words: for (i, one) in words.iter().enumerate() {
-        sets.push(read_assign(alloc, cat, rel, one)?)?;
+    'words: while let Some(one) = words.next() {
+        let assign = read_assign(alloc, cat, rel, &one)?;
+        keep_few(&mut sets, MAX_ASSIGNMENTS, assign)?;
     }
     Ok(sets)
 }
 
-#[tactic(auto, using(crate::proofs::Each::fails_bind), unfolding(crate::specs::Statements::update_of_parts))]
-fn read_update_parts(
+fn read_update_of(
     alloc: Global,
     cat: &Catalogue,
-    name: &Word,
-    sets: &[Setting],
-    words: &[Comparison],
+    rel: u8,
+    sets: &mut Settings<'_>,
+    words: &mut Comparisons<'_>,
 ) -> Result<Stmt, LineError>
-    ensures { Gives rule_in (λ s. s) result (update_of_parts cat.now name.now sets.now words.now) }
+    ensures { Gives rule_in (λ s. s) result (short (update_over cat.now rel sets.old words.old)) }
 {
-    let rel = known(WorkRule::UnknownName, relation_of(cat, name))?;
     let assigns = read_assigns(alloc, cat, rel, sets)?;
     let conds = read_conditions(alloc, cat, &[Some(rel)], words)?;
     Ok(Stmt::Update {
-        rel: RelNo(rel),
+        rel: RelNo(u32::from(rel)),
         sets: Listed::from_vec(assigns),
         conds: Listed::from_vec(conds),
     })
 }
 
+#[tactic(auto, using(crate::proofs::Shortened::fails_at), unfolding(crate::specs::Statements::update_of_parts))]
+fn read_update_parts(
+    alloc: Global,
+    cat: &Catalogue,
+    name: &Token<'_>,
+    sets: &mut Settings<'_>,
+    words: &mut Comparisons<'_>,
+) -> Result<Stmt, LineError>
+    ensures { Gives rule_in (λ s. s) result
+        (short (update_of_parts cat.now name.now sets.old words.old)) }
+{
+    let rel = known(WorkRule::UnknownName, part_of(cat, name))?;
+    read_update_of(alloc, cat, rel, sets, words)
+}
+
 fn read_update_form(
     alloc: Global,
     cat: &Catalogue,
-    name: &Word,
-    sets: &[Setting],
-    rest: &[Word],
+    name: &Token<'_>,
+    sets: &mut Settings<'_>,
+    rest: Tokens<'_>,
 ) -> Result<Stmt, LineError>
-    ensures { Gives rule_in (λ s. s) result (update_with cat.now name.now sets.now rest.now) }
+    ensures { Gives rule_in (λ s. s) result
+        (short (update_with cat.now name.now sets.old rest.entry)) }
 {
-    let words = known(WorkRule::BadLine, read_comparisons(alloc, rest)?)?;
-    read_update_parts(alloc, cat, name, sets, words.as_slice())
+    match read_comparisons(rest) {
+        Some(mut words) => read_update_parts(alloc, cat, name, sets, &mut words),
+        None => broken(WorkRule::BadLine),
+    }
 }
 
 fn read_update_behind_set(
     alloc: Global,
     cat: &Catalogue,
-    name: &Word,
-    sets: &[Word],
-    rest: &[Word],
+    name: &Token<'_>,
+    sets: Tokens<'_>,
+    rest: Tokens<'_>,
 ) -> Result<Stmt, LineError>
-    ensures { Gives rule_in (λ s. s) result (update_behind_set cat.now name.now sets.now rest.now) }
+    ensures { Gives rule_in (λ s. s) result
+        (short (update_behind_set cat.now name.now sets.entry rest.entry)) }
 {
-    must(WorkRule::BadLine, stands_free(name) && has_words(sets))?;
-    let sets = known(WorkRule::BadLine, read_settings(alloc, sets)?)?;
-    read_update_form(alloc, cat, name, sets.as_slice(), rest)
+    must(WorkRule::BadLine, stands_free(name) && sets.has_words())?;
+    match read_settings(sets) {
+        Some(mut sets) => read_update_form(alloc, cat, name, &mut sets, rest),
+        None => broken(WorkRule::BadLine),
+    }
 }
 
 fn read_update_to(
     alloc: Global,
     cat: &Catalogue,
-    name: &Word,
-    words: &[Word],
+    name: &Token<'_>,
+    words: &Tokens<'_>,
 ) -> Result<Stmt, LineError>
-    ensures { Gives rule_in (λ s. s) result (update_to cat.now name.now words.now) }
+    ensures { Gives rule_in (λ s. s) result (short (update_to cat.now name.now words.now)) }
 {
-    let key = b"where".as_slice();
-    let (sets, rest) = split_from(words, key);
+    let (sets, rest) = words.split_from(b"where");
     read_update_behind_set(alloc, cat, name, sets, rest)
 }
 
-/// An update, by its relation, `set`, its assignments, and its conditions.
-pub fn read_update(alloc: Global, cat: &Catalogue, words: &[Word]) -> Result<Stmt, LineError>
-    ensures { Gives rule_in (λ s. s) result (update_of cat.now words.now) }
+/// An update, by its relation, `set`, its assignments, and its conditions; of what is too many the
+/// first ones.
+pub fn read_update(
+    alloc: Global,
+    cat: &Catalogue,
+    words: &mut Tokens<'_>,
+) -> Result<Stmt, LineError>
+    ensures { Gives rule_in (λ s. s) result (short (update_of cat.now words.old)) }
 {
-    match words {
-        [name, key, words @ ..] => {
-            must(WorkRule::BadLine, has_key(b"set".as_slice(), key))?;
-            read_update_to(alloc, cat, name, words)
+    match words.two() {
+        Some((name, key)) => {
+            must(WorkRule::BadLine, has_key(b"set", &key))?;
+            read_update_to(alloc, cat, &name, words)
         }
-        _ => broken(WorkRule::BadLine),
+        None => broken(WorkRule::BadLine),
     }
 }

@@ -1,17 +1,19 @@
 //! Values and rows, by their words.
 ghost use Rattle.std.specs.Prelude.{◌≡◌, length, IfOk, Some, None};
 ghost use Rattle.sdd_words.specs.Texts.{text_in};
-ghost use Rattle.sdd_words.specs.declared.word.Word.TheVariants.{Quoted};
+ghost use Rattle.sdd_words.specs.Words.{Quoted};
 ghost use Rattle.sdd_script.specs.Naming.{kind_of_place};
 ghost use Rattle.sdd_lang.specs.All.{Gives};
+ghost use Rattle.sdd_script.specs.Few.{few, few_of, few_row};
 ghost use Rattle.sdd_script.specs.Rules.{rule_in};
 ghost use Rattle.sdd_script.specs.Values.{is_of_kind, value_of, values_of, row_of};
 
 use crate::fault::{LineError, WorkRule, known, must};
+use crate::few::keep_few;
 use crate::naming::{columns_of, kind_of_place, relation_of};
 use sdd_lang::sdd_base::{Listed, NoMemory, RelNo, Row, Text, Value};
 use sdd_lang::sdd_catalog::{Catalogue, Column, Kind};
-use sdd_words::{Word, is_text, number_in, text_of};
+use sdd_words::{Token, Tokens, is_text, number_in, text_of};
 use std::alloc::Global;
 
 /// Whether the kind will do, as any does where there is none.
@@ -37,16 +39,17 @@ fn read_text(alloc: Global, bytes: &[u8]) -> Result<Option<Text>, NoMemory>
 }
 
 /// The value that a word is, of the kind, or of any where there is none.
-pub fn read_value(alloc: Global, kind: Option<Kind>, word: &Word) -> Result<Value, LineError>
+pub fn read_value(alloc: Global, kind: Option<Kind>, word: &Token<'_>) -> Result<Value, LineError>
     ensures { Gives rule_in (λ v. v) result (value_of kind word.now) }
 {
-    match word {
-        Word::Plain(bytes) => {
-            let number = known(WorkRule::BadNumber, number_in(bytes.as_slice()))?;
+    match word.plain() {
+        Some(bytes) => {
+            let number = known(WorkRule::BadNumber, number_in(bytes))?;
             must(WorkRule::WrongKind, is_of_kind(kind, Kind::Int))?;
             Ok(Value::Int(number))
         }
-        Word::Quoted(bytes) => {
+        None => {
+            let bytes = word.content(alloc)?;
             let text = known(WorkRule::BadLine, read_text(alloc, bytes.as_slice())?)?;
             must(WorkRule::WrongKind, is_of_kind(kind, Kind::Text))?;
             Ok(Value::Text(text))
@@ -59,38 +62,67 @@ fn value_at(
     alloc: Global,
     columns: &[Column],
     place: usize,
-    word: &Word,
+    word: &Token<'_>,
 ) -> Result<Value, LineError>
     ensures { Gives rule_in (λ v. v) result (value_of (kind_of_place columns.now place) word.now) }
 {
     read_value(alloc, kind_of_place(columns, place), word)
 }
 
-/// The values that words are, each of its column's kind.
-#[tactic(auto, using(crate::proofs::Each::each_loop))]
-fn read_values(alloc: Global, columns: &[Column], words: &[Word]) -> Result<Vec<Value>, LineError>
-    ensures { Gives rule_in (λ v. v.items) result (values_of columns.now words.now) }
+/// The values that words are, each of its column's kind; of too many the first ones.
+#[tactic(auto, using(crate::proofs::FewRead::few_loop))]
+fn read_values(
+    alloc: Global,
+    columns: &[Column],
+    words: &mut Tokens<'_>,
+) -> Result<Vec<Value>, LineError>
+    ensures { Gives rule_in (λ v. v.items) result
+        (few (length columns.now) (values_of columns.now words.old)) }
 {
     let mut values = Vec::new(alloc);
-    'words: for (i, word) in words.iter().enumerate() {
-        values.push(value_at(alloc, columns, i, word)?)?;
+    'words: while let Some(word) = words.next() {
+        let value = value_at(alloc, columns, values.len(), &word)?;
+        keep_few(&mut values, columns.len(), value)?;
     }
     Ok(values)
 }
 
-/// A relation and a row of it, by the relation's name and the values.
-#[tactic(auto, using(crate::proofs::Each::fails_bind), unfolding(crate::specs::Values::row_of))]
+/// A row of a relation with these columns, by its values.
+fn read_row_of(
+    alloc: Global,
+    columns: &[Column],
+    rel: RelNo,
+    words: &mut Tokens<'_>,
+) -> Result<(RelNo, Row), LineError>
+    ensures { Gives rule_in (λ r. r) result (few_row columns.now rel words.old) }
+{
+    let row = read_values(alloc, columns, words)?;
+    must(WorkRule::WrongKind, row.len() == columns.len())?;
+    Ok((rel, Listed::from_vec(row)))
+}
+
+/// A relation and a row of it, whose values are counted when enough of them are read.
+fn read_few(
+    alloc: Global,
+    cat: &Catalogue,
+    name: &Token<'_>,
+    words: &mut Tokens<'_>,
+) -> Result<(RelNo, Row), LineError>
+    ensures { Gives rule_in (λ r. r) result (few_of cat.now name.now words.old) }
+{
+    let rel = known(WorkRule::UnknownName, relation_of(cat, name))?;
+    read_row_of(alloc, columns_of(cat, rel), RelNo(rel), words)
+}
+
+/// A relation and a row of it, by the relation's name and the values. Of too many values no more are
+/// kept than tell that they are too many.
 pub fn read_row(
     alloc: Global,
     cat: &Catalogue,
-    name: &Word,
-    words: &[Word],
+    name: &Token<'_>,
+    words: &mut Tokens<'_>,
 ) -> Result<(RelNo, Row), LineError>
-    ensures { Gives rule_in (λ r. r) result (row_of cat.now name.now words.now) }
+    ensures { Gives rule_in (λ r. r) result (row_of cat.now name.now words.old) }
 {
-    let rel = known(WorkRule::UnknownName, relation_of(cat, name))?;
-    let columns = columns_of(cat, rel);
-    let row = read_values(alloc, columns, words)?;
-    must(WorkRule::WrongKind, words.len() == columns.len())?;
-    Ok((RelNo(rel), Listed::from_vec(row)))
+    read_few(alloc, cat, name, words)
 }

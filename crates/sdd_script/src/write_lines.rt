@@ -3,8 +3,7 @@ ghost use Rattle.std.specs.Prelude.{◌≡◌, ◌++◌, ◌∷◌, [], List, co
 ghost use Rattle.sdd_lang.specs.All.{Event, RelNo, Value};
 ghost use Rattle.sdd_lang.specs.declared.statement.Stmt.{Stmt};
 ghost use Rattle.sdd_lang.specs.declared.transaction.Txn.{Txn};
-ghost use Rattle.sdd_words.specs.Words.{line_bytes, more_bytes};
-ghost use Rattle.sdd_words.specs.declared.word.Word.TheVariants.{Plain};
+ghost use Rattle.sdd_words.specs.Words.{line_bytes, more_bytes, Plain};
 ghost use Rattle.sdd_script.specs.Spelling.{ended, start_words, row_words, query_words, update_words, delete_words, site_word, count_word, statement_words, header_words, done_words, end_words, txn_lines, txn_bytes, name_of_txn, event_words, spelling};
 
 use crate::workload::Workload;

@@ -6,8 +6,7 @@ ghost use Rattle.sdd_lang.specs.All.{RelNo, Value, rel_of};
 ghost use Rattle.sdd_lang.specs.declared.condition.Ref.{Ref};
 ghost use Rattle.sdd_words.specs.Values.{value_word};
 ghost use Rattle.sdd_words.specs.Keywords.{op_word};
-ghost use Rattle.sdd_words.specs.Words.{word_bytes, more_bytes, spaced};
-ghost use Rattle.sdd_words.specs.declared.word.Word.TheVariants.{Plain};
+ghost use Rattle.sdd_words.specs.Words.{word_bytes, more_bytes, spaced, Plain};
 ghost use Rattle.sdd_script.specs.Spelling.{relation_word, row_words, name_of_column, column_word, condition_words, conditions_words, where_words, own_column, assign_words, sets_words, site_word, count_word};
 
 use crate::naming::{columns_of, name_of_relation};

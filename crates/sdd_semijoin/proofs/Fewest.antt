@@ -17,19 +17,23 @@ of_three : (counts : List ℕ) (b m s : Move) (p q : Bool)
     → better counts b (cond p (Some s) (Some m)) ≡ better counts (cond q m b) (Some s)
 of_three counts b m s true true e f =
     let g : nat_lt (rows_at counts s.source.part) (rows_at counts b.source.part) ≡ true =
-    lt-ltb (rows_at counts s.source.part) (rows_at counts b.source.part) (omega (arith, ltb-true (rows_at counts s.source.part) (rows_at counts m.source.part) e, ltb-true (rows_at counts m.source.part) (rows_at counts b.source.part) f)) in
+    lt-ltb (rows_at counts s.source.part) (rows_at counts b.source.part)
+    (omega (arith, ltb-true (rows_at counts s.source.part) (rows_at counts m.source.part) e, ltb-true (rows_at counts m.source.part) (rows_at counts b.source.part) f)) in
     rw (g, e) refl
 of_three counts b m s true false e f = refl
 of_three counts b m s false true e f = rw (e, f) refl
 of_three counts b m s false false e f =
     let g : nat_lt (rows_at counts s.source.part) (rows_at counts b.source.part) ≡ false =
-    le-ltb (rows_at counts s.source.part) (rows_at counts b.source.part) (omega (arith, ltb-false (rows_at counts s.source.part) (rows_at counts m.source.part) e, ltb-false (rows_at counts m.source.part) (rows_at counts b.source.part) f)) in
+    le-ltb (rows_at counts s.source.part) (rows_at counts b.source.part)
+    (omega (arith, ltb-false (rows_at counts s.source.part) (rows_at counts m.source.part) e, ltb-false (rows_at counts m.source.part) (rows_at counts b.source.part) f)) in
     rw (g, f) refl
 
 better_fewer : (counts : List ℕ) (b m : Move) (o : Option Move) → better counts b (better counts m o) ≡ better counts (fewer counts (Some b) m) o
 better_fewer counts b m None =
-    elim (nat_lt (rows_at counts m.source.part) (rows_at counts b.source.part)) as (λ (t : Bool). cond t (Some m) (Some b) ≡ Some (cond t m b)) [ true ↦ refl | false ↦ refl ]
-better_fewer counts b m (Some s) = of_three counts b m s (nat_lt (rows_at counts s.source.part) (rows_at counts m.source.part)) (nat_lt (rows_at counts m.source.part) (rows_at counts b.source.part)) refl refl
+    elim (nat_lt (rows_at counts m.source.part) (rows_at counts b.source.part)) as
+    (λ (t : Bool). cond t (Some m) (Some b) ≡ Some (cond t m b)) [ true ↦ refl | false ↦ refl ]
+better_fewer counts b m (Some s) =
+    of_three counts b m s (nat_lt (rows_at counts s.source.part) (rows_at counts m.source.part)) (nat_lt (rows_at counts m.source.part) (rows_at counts b.source.part)) refl refl
 
 after_is_better : (counts : List ℕ) (b : Move) (ms : List Move) → best_after counts (Some b) ms ≡ better counts b (fewest counts ms)
 after_is_better counts b [] = refl
@@ -39,11 +43,13 @@ best_is_fewest : (counts : List ℕ) (ms : List Move) → best_after counts None
 best_is_fewest counts [] = refl
 best_is_fewest counts (m ∷ ms) = after_is_better counts m ms
 
-best-append : (counts : List ℕ) (best : Option Move) (xs ys : List Move) → best_after counts best (xs ++ ys) ≡ best_after counts (best_after counts best xs) ys
+best-append : (counts : List ℕ) (best : Option Move) (xs ys : List Move)
+    → best_after counts best (xs ++ ys) ≡ best_after counts (best_after counts best xs) ys
 best-append counts best [] ys = refl
 best-append counts best (x ∷ xs) ys = best-append counts (Some (fewer counts best x)) xs ys
 
-joins_split : (same : Bool) (j : Join) (rest : List Join) → flat_map moves_by (if same then rest else j ∷ rest) ≡ flat_map moves_by (if same then [] else j ∷ []) ++ flat_map moves_by rest
+joins_split : (same : Bool) (j : Join) (rest : List Join)
+    → flat_map moves_by (if same then rest else j ∷ rest) ≡ flat_map moves_by (if same then [] else j ∷ []) ++ flat_map moves_by rest
 joins_split true j rest = refl
 joins_split false j rest = refl
 
@@ -52,11 +58,13 @@ moves_split : (k : ℕ) (c : Condition) (rest : List Condition) → moves_from k
 moves_split k (Const left op value) rest = refl
 moves_split k (Same left right) rest = joins_split (left.part == right.part) (record { number = k; left = left; right = right }) (joins_from (k + 1) rest)
 
-pub none_before : (counts : List ℕ) (done : List Step) (conds : List Condition) → best_after counts None (filter (is_candidate counts done) (moves_from 1 conds)) ≡ next_move conds counts done
+pub none_before : (counts : List ℕ) (done : List Step) (conds : List Condition)
+    → best_after counts None (filter (is_candidate counts done) (moves_from 1 conds)) ≡ next_move conds counts done
 none_before counts done conds = best_is_fewest counts (filter (is_candidate counts done) (moves conds))
 
 -- one condition more
-pub best_more : (counts : List ℕ) (done : List Step) (conds : List Condition) (i : ℕ) (c : Condition) (best new end : Option Move) → i < length conds → c ≡ get_or conds i c
+pub best_more : (counts : List ℕ) (done : List Step) (conds : List Condition) (i : ℕ) (c : Condition) (best new end : Option Move) → i < length conds
+    → c ≡ get_or conds i c
     → new ≡ best_after counts best (filter (is_candidate counts done) (moves_from (i + 1) (c ∷ [])))
     → best_after counts best (filter (is_candidate counts done) (moves_from (i + 1) (drop i conds))) ≡ end
     → best_after counts new (filter (is_candidate counts done) (moves_from (i + 1 + 1) (drop (i + 1) conds))) ≡ end

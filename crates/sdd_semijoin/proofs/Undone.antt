@@ -23,24 +23,28 @@ few_from k (Same left right ∷ rest) =
 
 few_left : (p : Move → Bool) (ms : List Move) → length (filter p ms) ≤ length ms
 few_left p [] = omega arith
-few_left p (m ∷ ms) = elim (p m) as (λ t. length (if t then m ∷ filter p ms else filter p ms) ≤ suc (length ms)) [ true ↦ omega (arith, few_left p ms) | false ↦ omega (arith, few_left p ms) ]
+few_left p (m ∷ ms) =
+    elim (p m) as (λ t. length (if t then m ∷ filter p ms else filter p ms) ≤ suc (length ms)) [ true ↦ omega (arith, few_left p ms) | false ↦ omega (arith, few_left p ms) ]
 
 pub few_undone : (conds : List Condition) (done : List Step) → undone conds done ≤ 2 * length conds
 few_undone conds done = omega (arith, few_left (λ m. not (list_any (same_step m.step) done)) (moves conds), few_from 1 conds)
 
 -- whether a move is done after one step more
 
-count_step : (a b : Bool) (m : Move) (xs ys : List Move) → length xs ≤ length ys → length (if not (a || b) then m ∷ xs else xs) ≤ length (if not a then m ∷ ys else ys)
+count_step : (a b : Bool) (m : Move) (xs ys : List Move) → length xs ≤ length ys
+    → length (if not (a || b) then m ∷ xs else xs) ≤ length (if not a then m ∷ ys else ys)
 count_step true b m xs ys h = h
 count_step false true m xs ys h = omega (arith, h)
 count_step false false m xs ys h = omega (arith, h)
 
-count_less : (a b : Bool) (m : Move) (xs ys : List Move) → length xs < length ys → length (if not (a || b) then m ∷ xs else xs) < length (if not a then m ∷ ys else ys)
+count_less : (a b : Bool) (m : Move) (xs ys : List Move) → length xs < length ys
+    → length (if not (a || b) then m ∷ xs else xs) < length (if not a then m ∷ ys else ys)
 count_less true b m xs ys h = h
 count_less false true m xs ys h = omega (arith, h)
 count_less false false m xs ys h = omega (arith, h)
 
-count_here : (a b : Bool) (m : Move) (xs ys : List Move) → not a ≡ true → b ≡ true → length xs ≤ length ys → length (if not (a || b) then m ∷ xs else xs) < length (if not a then m ∷ ys else ys)
+count_here : (a b : Bool) (m : Move) (xs ys : List Move) → not a ≡ true → b ≡ true → length xs ≤ length ys
+    → length (if not (a || b) then m ∷ xs else xs) < length (if not a then m ∷ ys else ys)
 count_here true b m xs ys e f h = cc
 count_here false true m xs ys e f h = omega (arith, h)
 count_here false false m xs ys e f h = cc
@@ -64,17 +68,22 @@ makes_itself m = rw (same_as_itself m.step) refl
 no_more : (done : List Step) (s : Step) (ms : List Move) → undone_among (done ++ s ∷ []) ms ≤ undone_among done ms
 no_more done s [] = omega arith
 no_more done s (m ∷ ms) =
-    subst (λ t. length (if not t then m ∷ left_by (done ++ s ∷ []) ms else left_by (done ++ s ∷ []) ms) ≤ undone_among done (m ∷ ms)) (sym (list_any-append (same_step m.step) done (s ∷ [])))
+    subst (λ t. length (if not t then m ∷ left_by (done ++ s ∷ []) ms else left_by (done ++ s ∷ []) ms) ≤ undone_among done (m ∷ ms))
+    (sym (list_any-append (same_step m.step) done (s ∷ [])))
     (count_step (list_any (same_step m.step) done) (makes m s) m (left_by (done ++ s ∷ []) ms) (left_by done ms) (no_more done s ms))
 
-less_behind : (done : List Step) (s : Step) (m : Move) (ms : List Move) → undone_among (done ++ s ∷ []) ms < undone_among done ms → undone_among (done ++ s ∷ []) (m ∷ ms) < undone_among done (m ∷ ms)
+less_behind : (done : List Step) (s : Step) (m : Move) (ms : List Move) → undone_among (done ++ s ∷ []) ms < undone_among done ms
+    → undone_among (done ++ s ∷ []) (m ∷ ms) < undone_among done (m ∷ ms)
 less_behind done s m ms h =
-    subst (λ t. length (if not t then m ∷ left_by (done ++ s ∷ []) ms else left_by (done ++ s ∷ []) ms) < undone_among done (m ∷ ms)) (sym (list_any-append (same_step m.step) done (s ∷ [])))
+    subst (λ t. length (if not t then m ∷ left_by (done ++ s ∷ []) ms else left_by (done ++ s ∷ []) ms) < undone_among done (m ∷ ms))
+    (sym (list_any-append (same_step m.step) done (s ∷ [])))
     (count_less (list_any (same_step m.step) done) (makes m s) m (left_by (done ++ s ∷ []) ms) (left_by done ms) h)
 
-less_here : (done : List Step) (m : Move) (ms : List Move) → not (list_any (same_step m.step) done) ≡ true → undone_among (done ++ m.step ∷ []) (m ∷ ms) < undone_among done (m ∷ ms)
+less_here : (done : List Step) (m : Move) (ms : List Move) → not (list_any (same_step m.step) done) ≡ true
+    → undone_among (done ++ m.step ∷ []) (m ∷ ms) < undone_among done (m ∷ ms)
 less_here done m ms e =
-    subst (λ t. length (if not t then m ∷ left_by (done ++ m.step ∷ []) ms else left_by (done ++ m.step ∷ []) ms) < undone_among done (m ∷ ms)) (sym (list_any-append (same_step m.step) done (m.step ∷ [])))
+    subst (λ t. length (if not t then m ∷ left_by (done ++ m.step ∷ []) ms else left_by (done ++ m.step ∷ []) ms) < undone_among done (m ∷ ms))
+    (sym (list_any-append (same_step m.step) done (m.step ∷ [])))
     (count_here (list_any (same_step m.step) done) (makes m m.step) m (left_by (done ++ m.step ∷ []) ms) (left_by done ms) e (makes_itself m) (no_more done m.step ms))
 
 -- a move that is chosen
@@ -90,13 +99,17 @@ falls_by counts done x ms m (Some y) new rest e =
       | false ↦ λ f. subst (Falls done (x ∷ ms)) (some_is f) (less_here done x ms new)
     ] e
 
-falls : (counts : List ℕ) (done : List Step) (ms : List Move) (m : Move) → fewest counts (filter (is_candidate counts done) ms) ≡ Some m → Falls done ms m
+falls : (counts : List ℕ) (done : List Step) (ms : List Move) (m : Move) → fewest counts (filter (is_candidate counts done) ms) ≡ Some m
+    → Falls done ms m
 falls counts done [] m e = cc
 falls counts done (x ∷ ms) m e =
-    elim (is_candidate counts done x) as (λ t. is_candidate counts done x ≡ t → fewest counts (if t then x ∷ filter (is_candidate counts done) ms else filter (is_candidate counts done) ms) ≡ Some m → Falls done (x ∷ ms) m) [
-      | true ↦ λ is f. falls_by counts done x ms m (fewest counts (filter (is_candidate counts done) ms)) (first_so (not (list_any (same_step x.step) done)) _ is) (falls counts done ms m) f
+    elim (is_candidate counts done x) as
+    (λ t. is_candidate counts done x ≡ t → fewest counts (if t then x ∷ filter (is_candidate counts done) ms else filter (is_candidate counts done) ms) ≡ Some m → Falls done (x ∷ ms) m) [
+      | true ↦ λ is f. falls_by counts done x ms m (fewest counts (filter (is_candidate counts done) ms))
+          (first_so (not (list_any (same_step x.step) done)) _ is) (falls counts done ms m) f
       | false ↦ λ is f. less_behind done m.step x ms (falls counts done ms m f)
     ] refl e
 
-pub fewer_left : (conds : List Condition) (counts : List ℕ) (done : List Step) (m : Move) → next_move conds counts done ≡ Some m → undone conds (done ++ m.step ∷ []) < undone conds done
+pub fewer_left : (conds : List Condition) (counts : List ℕ) (done : List Step) (m : Move) → next_move conds counts done ≡ Some m
+    → undone conds (done ++ m.step ∷ []) < undone conds done
 fewer_left conds counts done m e = falls counts done (moves conds) m e

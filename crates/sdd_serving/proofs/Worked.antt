@@ -5,7 +5,8 @@ use Rattle.std.proofs.lemmas.Bool.Decides.{Decides-eqb}
 use Rattle.std.proofs.lemmas.List.Elements.{All-from_recursion}
 use Rattle.sdd_laws.specs.All.{Condition, CopyRows, Database, FragNo, Int, IsDatabase, IsEntry, Query, Row, Same, Txn, Use, Value, accounts, entries_of, frag_no, is_read_at, item_cmp, reduced, ref, rel, rows_in_fragment, rows_of, two, txn, uses_of, values_in}
 use Rattle.sdd_attempt.specs.All.{Has, Move}
-use Rattle.sdd_laws.proofs.LookUps.{sorted_nil, sorted_cons}
+use Rattle.sdd_laws.proofs.lang.SortedEntries.{sorted_nil}
+use Rattle.sdd_laws.proofs.LookUps.{sorted_cons}
 use Rattle.sdd_serving.specs.Freezing.{asked_at, frozen_space, HasCopies}
 use Rattle.sdd_serving.specs.Reducing.{Space, move_by, all_held}
 use Rattle.sdd_serving.specs.Runs.{Stage, Runs}

@@ -1,7 +1,7 @@
 -- What a call of a transaction module does, of every log for which the module stands.
 use Rattle.std.proofs.Common.{ℕ, zero, suc, ◌<◌, ◌^◌, ◌≡◌, false, List, [], ◌∷◌, map, length, refl, ap, sym, ◌∙◌, subst, arith, Some, None}
 use Rattle.std.specs.Prelude.{slice_get, IsTrue}
-use Rattle.sdd_attempt.specs.All.{Bases, Catalogue, Does, Entry, Force, Handed, IsLineOf, IsWhole, Kept, Log, Msg, Notes, Rec, Redeclared, RelNo, Row, Setting, Site, Submits, T, Ticked, TmNo, Txn, TxnNo, at_zero, bound_of, class_for, clock, in_force, noted, nothing_noted, pushed, records_of, ticked}
+use Rattle.sdd_attempt.specs.All.{Bases, Catalogue, Does, Entry, Fits, Force, Handed, IsLineOf, IsWhole, Kept, Log, Msg, Notes, Rec, Redeclared, RelNo, Row, Setting, Site, Submits, T, Ticked, TmNo, Txn, TxnNo, at_zero, bound_of, class_for, clock, in_force, noted, nothing_noted, pushed, records_of, ticked}
 use Rattle.sdd_attempt.specs.catalog.Rules as catalogues
 use Rattle.sdd_attempt.specs.history.declared.record.Rec.TheVariants.{Submit}
 use Rattle.sdd_attempt.proofs.site_module.Does.{DoesMore, does_from, all_noted}
@@ -20,7 +20,7 @@ use Rattle.sdd_tm.specs.Works.{Works, first_class, classes_of, first_state}
 use Rattle.sdd_tm.proofs.Lists.{some_is}
 use Rattle.std.proofs.lemmas.List.{length-map}
 use Rattle.sdd_tm.proofs.Handing.{amid_handed}
-use Rattle.sdd_tm.proofs.Taking.{few_kept, apart_kept}
+use Rattle.sdd_tm.proofs.Taking.{few_kept, apart_kept, fits_in_force}
 use Rattle.sdd_tm.proofs.Touching.{calm_handed, calm_given}
 use Rattle.sdd_tm.proofs.Giving.{amid_given}
 use Rattle.sdd_tm.proofs.Telling.{nothing_due, told_once, told_settled, held_ticked}
@@ -106,6 +106,20 @@ take_does from m old new taken notes all records sends live t c e f s bases log 
 
 abbrev pub submitted : TxnNo → Notes
 submitted n = record { recs = Submit n ∷ []; out = [] }
+
+-- the class by the list in force is that by what the module keeps
+
+pub class_here : (k : Kept State) (s : Setting) (log : Log) (txn : Txn) (class : ℕ) → Stands k s log
+    → class ≡ class_for (in_force s log).catalogue txn → class ≡ class_for k.value.force.catalogue txn
+class_here k s log txn class st e = e ∙ ap (λ (x : State). class_for x.force.catalogue txn) st.state_is
+
+pub class_in_force : (k : Kept State) (s : Setting) (log : Log) (txn : Txn) (class : ℕ) → Stands k s log
+    → class ≡ class_for k.value.force.catalogue txn → class ≡ class_for (in_force s log).catalogue txn
+class_in_force k s log txn class st e = e ∙ sym (ap (λ (x : State). class_for x.force.catalogue txn) st.state_is)
+
+pub fits_here : (k : Kept State) (s : Setting) (bases : Bases) (log : Log) (n : ℕ) (txn : Txn) → Stands k s log
+    → FitsSubmit s bases log n txn → Fits k.value.force.catalogue txn
+fits_here k s bases log n txn st f = fits_in_force s bases log k.value n txn (kept_of k s log st) f
 
 -- its class in the catalogue in force
 abbrev pub given_to : Kept State → ℕ → Txn → State

@@ -1,6 +1,6 @@
 ghost use Rattle.std.specs.Prelude.{◌≡◌, ◌≤◌, ◌<◌, ◌+◌, ◌/◌, ◌^◌, ℕ, map, length, slice_get, ◌==◌, IfOk, IfSome, OnOk, Some, None};
 ghost use Rattle.std.specs.List.{list_all};
-ghost use Rattle.sdd_attempt.specs.All.{AreTried, Bases, IsAwaited, IsDatabase, Log, ServesAt, Setting, bound_of, class_for, noted, nothing_noted, pushed, standing_among, ticked};
+ghost use Rattle.sdd_attempt.specs.All.{AreTried, Bases, IsAwaited, IsDatabase, Fits, Log, ServesAt, Setting, bound_of, class_for, noted, nothing_noted, pushed, standing_among, ticked};
 ghost use Rattle.sdd_tm.specs.Fits.{fits, FitsSubmit};
 ghost use Rattle.sdd_tm.specs.Handing.{push_of, heeded, class_handed, state_handed, state_given, class_named, place_of, one_place, all_places, touched};
 ghost use Rattle.sdd_tm.specs.State.{ClassState};
@@ -246,16 +246,28 @@ impl<'a> Parts<'a> {
         }
     }
 
-    /// Puts a transaction at the end of the queue of its class, and returns which class that is.
-    pub(crate) fn submit(&mut self, number: TxnNo, txn: &Txn) -> Result<Places, NoMemory>
+    /// The class in which a transaction runs by the list in force.
+    pub(crate) fn class_for(&self, txn: &Txn) -> ClassNo
+        requires { Fits self.now.force.catalogue txn.now }
+        ensures { result.0 ≡ class_for self.now.force.catalogue txn.now }
+    {
+        class_for(self.catalogue, txn)
+    }
+
+    /// Puts a transaction at the end of the queue of a class, and returns the place of that class.
+    pub(crate) fn submit(
+        &mut self,
+        number: TxnNo,
+        txn: &Txn,
+        class: ClassNo,
+    ) -> Result<Places, NoMemory>
         requires { (s : Setting) × (bases : Bases) × (log : Log)
             × IsKept s log self.old × FitsSubmit s bases log number.0 txn.now }
-        ensures state { OnOk result (self.new
-            ≡ state_given (class_for self.old.force.catalogue txn.now) number.0 txn.now self.old) }
+        ensures state { OnOk result (
+            self.new ≡ state_given class.0 number.0 txn.now self.old) }
         ensures places { IfOk result (λ places. places
-            ≡ one_place (place_of self.old.classes (class_for self.old.force.catalogue txn.now))) }
+            ≡ one_place (place_of self.old.classes class.0)) }
     {
-        let class = class_for(self.catalogue, txn);
         match self.place_of(class) {
             None => Ok(Places { from: 0, end: 0 }),
             Some(place) => {

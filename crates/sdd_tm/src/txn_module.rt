@@ -1,5 +1,5 @@
 ghost use Rattle.std.specs.Prelude.{◌≡◌, ◌∷◌, [], ◌+◌, ◌/◌, ◌<◌, ◌^◌, List, map, IfOk, OnErr, IsTrue};
-ghost use Rattle.sdd_attempt.specs.All.{Bases, Does, FitsSite, Log, Rec as Record, Redeclared, Setting, Submits, T, Ticked, bound_of, clock, standing_among};
+ghost use Rattle.sdd_attempt.specs.All.{Bases, Does, FitsSite, Log, Rec as Record, Redeclared, Setting, Submits, T, Ticked, bound_of, class_for, clock, in_force, standing_among};
 ghost use Rattle.sdd_attempt.specs.history.declared.record.Rec.TheVariants.{Submit};
 ghost use Rattle.sdd_eras.specs.EraOf.{IsEraOf};
 ghost use Rattle.sdd_tm.specs.Due.{next};
@@ -9,7 +9,7 @@ ghost use Rattle.sdd_tm.specs.Stands.{Stands};
 
 use crate::parts::Parts;
 use sdd_attempt::Standing;
-use sdd_attempt::sdd_base::{NoMemory, Site, TmNo, Ts, TxnNo};
+use sdd_attempt::sdd_base::{ClassNo, NoMemory, Site, TmNo, Ts, TxnNo};
 use sdd_attempt::sdd_catalog::Catalogue;
 use sdd_attempt::sdd_history::Rec;
 use sdd_attempt::sdd_lang::Txn;
@@ -70,7 +70,7 @@ impl<'a> TxnModule<'a> {
 
     /// Takes a new transaction, and then makes each act that is due, one after the other, until
     /// none is: it returns what these send and record, after the record of the submission. Out
-    /// of memory it takes nothing more.
+    /// of memory it takes nothing more. Costs, before these acts, what `class_for` does.
     pub fn submit(&mut self, number: TxnNo, txn: &Txn) -> Result<Outcome, NoMemory>
         requires lives { IsTrue self.old.live }
         requires stands { (setting : Setting) × (bases : Bases) × (log : Log)
@@ -83,10 +83,33 @@ impl<'a> TxnModule<'a> {
         ensures lives_on { IfOk result (λ _. IsTrue self.new.live) }
         ensures dies { OnErr result (¬ IsTrue self.new.live) }
     {
+        let class = self.parts.class_for(txn);
+        self.submit_in_class(number, txn, class)
+    }
+
+    /// The same for a transaction whose class by the list in force is known.
+    pub fn submit_in_class(
+        &mut self,
+        number: TxnNo,
+        txn: &Txn,
+        class: ClassNo,
+    ) -> Result<Outcome, NoMemory>
+        requires lives { IsTrue self.old.live }
+        requires stands { (setting : Setting) × (bases : Bases) × (log : Log)
+            × Stands self.old setting log × FitsSubmit setting bases log number.0 txn.now
+            × (class.0 ≡ class_for (in_force setting log).catalogue txn.now) }
+        ensures law { IfOk result (λ outcome. (setting : Setting) (bases : Bases) (log : Log)
+            → Stands self.old setting log → FitsSubmit setting bases log number.0 txn.now
+            → (recs : List Record) × (outcome.recs ≡ Submit number ∷ recs)
+            × Does (next setting bases) (Submits number.0 txn.now ∷ log) recs outcome.out
+            (Stands self.new setting)) }
+        ensures lives_on { IfOk result (λ _. IsTrue self.new.live) }
+        ensures dies { OnErr result (¬ IsTrue self.new.live) }
+    {
         self.live = false;
         let mut draft = self.parts.draft();
         draft.record(Rec::Submit(number))?;
-        let places = self.parts.submit(number, txn)?;
+        let places = self.parts.submit(number, txn, class)?;
         self.parts.settle(places, &mut draft)?;
         self.parts.tell_held(&mut draft)?;
         self.live = true;

@@ -23,9 +23,7 @@ use Rattle.sdd_words.proofs.Splits.{scan_again}
 use Rattle.sdd_words.specs.Scan.{scan}
 use Rattle.sdd_words.specs.declared.split.Mode.TheVariants.{Start}
 use Rattle.sdd_words.specs.Values.{value_word}
-use Rattle.sdd_words.specs.Words.{AllWords, HasNoSpace, IsPlain, line_bytes, more_bytes, word_bytes}
-use Rattle.sdd_words.specs.declared.word.Word.{Word}
-use Rattle.sdd_words.specs.declared.word.Word.TheVariants.{Plain}
+use Rattle.sdd_words.specs.Words.{AllWords, HasNoSpace, IsPlain, line_bytes, more_bytes, word_bytes, Word, Plain}
 use Rattle.sdd_verified.proofs.ReportLines.{decimal_is, glyph_apart}
 use Rattle.sdd_verified.proofs.ValuesKept.{Answers, Hold, Holds}
 use Rattle.sdd_verified.specs.Parts.{all_pending_words, answers_words, copies_words, copy_words, order_words, outcome_words, pending_words, queries_words, query_words, replies_words, row_words, rows_words}

@@ -1,13 +1,5 @@
 -- The transactions of a valid workload fit each catalogue that is in force.
-use Rattle.std.proofs.Common.{◌≡◌, ℕ, List, [], ◌∷◌, subst, sym, Some}
-use Rattle.std.specs.List.{All}
-use Rattle.std.proofs.lemmas.List.Elements.{All-cons, All-head, All-nil, All-tail}
-use Rattle.sdd_script.specs.All.{Catalogue, Deliver, Down, Event, Fits, IsValid, IsValidTxn, Lose, Redeclare, Repeat, Resend, Settle, Submit, Tick, Txn, Up}
-use Rattle.sdd_lists.specs.InForce.{classes_in, eras_in}
-use Rattle.sdd_lists.proofs.OtherClasses.{fits_era}
-use Rattle.sdd_script.specs.declared.workload.Workload.{Workload}
-use Rattle.sdd_verify.specs.Classes.{era_at}
-use Rattle.sdd_verify.specs.Submitted.{submitted_by}
+use Rattle.sdd_verify.proofs.All.{All, All-cons, All-head, All-nil, All-tail, Catalogue, Deliver, Down, Event, Fits, IsValid, IsValidTxn, List, Lose, Redeclare, Repeat, Resend, Settle, Some, Submit, Tick, Txn, Up, Workload, [], classes_in, era_at, eras_in, fits_era, submitted_by, subst, sym, ℕ, ◌∷◌, ◌≡◌}
 use Rattle.sdd_verify.proofs.Submissions.{found_member}
 
 all_fit : (cat : Catalogue) (work : Workload) (n : ℕ) (txns : List Txn) → All (IsValidTxn cat) txns → All (Fits (era_at cat (eras_in cat work) n)) txns

@@ -1,9 +1,5 @@
 -- The classes of what events submit, one event more.
-use Rattle.std.proofs.Common.{◌≡◌, ℕ, ◌+◌, ◌<◌, ◌≤◌, List, ◌∷◌, ◌++◌, length, drop, get_or, sym, ap, ◌∙◌, append_assoc, arith}
-use Rattle.std.proofs.lemmas.List.{drop_more}
-use Rattle.sdd_script.specs.All.{Catalogue, Deliver, Down, Event, Lose, Redeclare, Repeat, Resend, Settle, Submit, Tick, Txn, Up}
-use Rattle.sdd_verify.specs.Classes.{class_if, classes_from, redeclared}
-use Rattle.sdd_verify.specs.Submitted.{submitted_by}
+use Rattle.sdd_verify.proofs.All.{Catalogue, Deliver, Down, Event, List, Lose, Redeclare, Repeat, Resend, Settle, Submit, Tick, Txn, Up, ap, append_assoc, arith, class_if, classes_from, drop, drop_more, get_or, length, redeclared, submitted_by, sym, ℕ, ◌++◌, ◌+◌, ◌<◌, ◌∙◌, ◌∷◌, ◌≡◌, ◌≤◌}
 
 pub one_more : (era : ℕ → Catalogue) (txns : List Txn) (events : List Event) (i n next : ℕ) (e : Event) (classes more total : List ℕ)
     → i < length events → e ≡ get_or events i e → next ≡ redeclared e n → more ≡ classes ++ class_if (era n) (submitted_by txns e)

@@ -1,17 +1,9 @@
 -- The names of the transactions that a valid workload submits differ.
-use Rattle.std.proofs.Common.{◌≡◌, ◌≢◌, ℕ, zero, suc, ◌-◌, ◌<◌, ◌≤◌, List, [], ◌∷◌, length, map, get_or, slice_get, false, Option, Some, None, refl, sym, ap, ◌∙◌, arith}
-use Rattle.std.specs.Prelude.{MatchOption}
-use Rattle.std.specs.List.{All, filter_map, position}
-use Rattle.std.specs.Str.{bytes_eq}
-use Rattle.std.proofs.lemmas.List.Elements.{All-cons, All-head, All-nil, All-tail}
-use Rattle.sdd_script.specs.All.{AreDistinct, Catalogue, Deliver, Down, Event, IsValid, IsValidEvent, Lose, Redeclare, Repeat, Resend, Settle, Submit, Tick, Txn, Up, repeats}
-use Rattle.sdd_script.specs.Valid as scripts
-use Rattle.sdd_script.specs.declared.workload.Workload.{Workload}
-use Rattle.sdd_script.proofs.NamePlaces.{place_of_name}
-use Rattle.sdd_verify.specs.Submitted.{submitted, submitted_by}
+use Rattle.sdd_verify.proofs.All.{All, All-cons, All-head, All-nil, All-tail, AreDistinct, Catalogue, Deliver, Down, Event, IsValid, IsValidEvent, List, Lose, MatchOption, None, Option, Redeclare, Repeat, Resend, Settle, Some, Submit, Tick, Txn, Up, Workload, [], ap, arith, bytes_eq, false, filter_map, get_or, length, map, place_of_name, position, refl, repeats, slice_get, submitted, submitted_by, suc, sym, zero, ℕ, ◌-◌, ◌<◌, ◌∙◌, ◌∷◌, ◌≡◌, ◌≢◌, ◌≤◌}
 use Rattle.sdd_verify.proofs.NamesTold.{AllDiffer}
+use Rattle.sdd_script.specs.Valid as scripts
 
-some_is : {A : Type 0} (x y : A) → Some x ≡ Some y → x ≡ y
+pub some_is : {A : Type 0} (x y : A) → Some x ≡ Some y → x ≡ y
 some_is x y e = cc
 
 abbrev names_of : List Txn → List (List ℕ)
@@ -115,8 +107,7 @@ module _ (cat : Catalogue) (count : ℕ) (txns : List Txn) (none : repeats (name
       let numbers : List ℕ = filter_map scripts.submitted_by events in
       rw b (others_differ m u events (sym h.0) h.1 fine (first_apart m numbers there), later (others_apart m numbers there))
 
-  all_differ : (events : List Event) → All IsFine events
-      → AreDistinct (filter_map scripts.submitted_by events)
+  all_differ : (events : List Event) → All IsFine events → AreDistinct (filter_map scripts.submitted_by events)
       → AllDiffer (filter_map (submitted_by txns) events)
   all_differ [] fine apart = tt
   all_differ (e ∷ events) fine apart =

@@ -1,12 +1,5 @@
 -- Orders in turn, by their tests and by their members.
-use Rattle.std.proofs.Common.{◌≡◌, ◌≢◌, ℕ, zero, suc, ◌<◌, ◌==◌, List, [], ◌∷◌, length, Bool, true, false, not, refl, arith, eq-eqb}
-use Rattle.std.specs.Prelude.{◌&&◌, ◌||◌, nat_lt}
-use Rattle.std.specs.List.{list_all}
-use Rattle.std.proofs.lemmas.Bool.{eqb-true, ltb-true, ne_eqb, lt-ltb}
-use Rattle.sdd_script.specs.All.{TxnNo}
-use Rattle.sdd_verify.specs.Classes.{class_of}
-use Rattle.sdd_verify.specs.Orders.{is_in_turn, may_follow}
-use Rattle.sdd_verify.specs.Verified.{IsInTurn, at}
+use Rattle.sdd_verify.proofs.All.{Bool, IsInTurn, List, TxnNo, [], arith, at, class_of, eq-eqb, eqb-true, false, is_in_turn, length, list_all, lt-ltb, ltb-true, may_follow, nat_lt, ne_eqb, not, refl, suc, true, zero, ℕ, ◌&&◌, ◌<◌, ◌==◌, ◌||◌, ◌∷◌, ◌≡◌, ◌≢◌}
 
 module _ (classes : List ℕ) where
   abbrev MayFollow : TxnNo → TxnNo → Type 0

@@ -1,3 +1,4 @@
+mod All
 pub mod ClassesFit
 pub mod ClassesFound
 pub mod DifferentNames
@@ -12,3 +13,4 @@ pub mod RepliesPassed
 pub mod Submissions
 pub mod Turns
 pub mod VerifiedReports
+pub mod WordsCut

@@ -1,20 +1,6 @@
 -- The lines of texts that stand one behind the other.
-use Rattle.std.proofs.Common.{◌≡◌, ◌≢◌, ℕ, List, [], ◌∷◌, ◌++◌, Bool, true, false, eqb, cond, refl, sym, ap, ◌∙◌, append_assoc}
-use Rattle.std.proofs.lemmas.Bool.{ne_eqb}
-use Rattle.std.proofs.lemmas.List.{append-nil}
-use Rattle.sdd_script.specs.All.{AreLines, HasNoNewline, onto, spelled_lines}
+use Rattle.sdd_verify.proofs.All.{AreLines, Bool, List, [], ap, append-nil, append_assoc, cond, cut_takes, eqb, false, line_behind, lines_of, ne_eqb, onto, refl, spelled_lines, sym, true, ℕ, ◌++◌, ◌∙◌, ◌∷◌, ◌≡◌, ◌≢◌}
 use Rattle.sdd_script.specs.words.Lines.{cut_lines}
-use Rattle.sdd_script.proofs.words.Spelled.{cut_takes}
-use Rattle.sdd_verify.specs.Lines.{lines_of}
-
--- a line that is ended, and what stands behind it
-pub line_behind : (line rest : List ℕ) → HasNoNewline line → cut_lines (line ++ 10 ∷ rest) ≡ (line ∷ (cut_lines rest).0, (cut_lines rest).1)
-unfolding cut_lines
-line_behind [] rest h = refl
-line_behind (c ∷ line) rest h =
-    let other : eqb c 10 ≡ false = ne_eqb c 10 h.0 in
-    let more = line_behind line rest h.1 in
-    rw (other, more) refl
 
 -- lines that are ended, and what stands behind them
 pub lines_behind : (lines : List (List ℕ)) (rest : List ℕ) → AreLines lines
@@ -29,7 +15,8 @@ onto_lines : (c : ℕ) (cut : List (List ℕ) × List ℕ) → c ≢ 10 → AreL
 onto_lines c ([], rest) other h = tt
 onto_lines c ((line ∷ lines), rest) other h = ((other, h.0), h.1)
 
-lines_by : (c : ℕ) (cut : List (List ℕ) × List ℕ) (b : Bool) → eqb c 10 ≡ b → AreLines cut.0 → AreLines (cond b ([] ∷ cut.0, cut.1) (onto c cut)).0
+lines_by : (c : ℕ) (cut : List (List ℕ) × List ℕ) (b : Bool) → eqb c 10 ≡ b → AreLines cut.0
+    → AreLines (cond b ([] ∷ cut.0, cut.1) (onto c cut)).0
 lines_by c cut true e h = (tt, h)
 lines_by c cut false e h = onto_lines c cut (λ is. let t : eqb c 10 ≡ true = rw is refl in absurd cc) h
 

@@ -1,12 +1,5 @@
 -- What rules that are kept tell of the lines of a report, and the other way round.
-use Rattle.std.proofs.Common.{◌≡◌, ℕ, ◌+◌, List, [], ◌∷◌, ◌++◌, length, Bool, true, false, cond, not, Ok, Err, refl, sym, ap, ◌∙◌, arith, subst, append_assoc}
-use Rattle.std.specs.List.{All}
-use Rattle.std.specs.Str.{bytes_eq}
-use Rattle.std.proofs.lemmas.List.Elements.{All-cons, All-head, All-nil, All-tail}
-use Rattle.std.proofs.lemmas.Slice.Eq.{bytes_eq-Decides}
-use Rattle.sdd_script.proofs.base.ReadingLaws.{ok_is}
-use Rattle.sdd_script.specs.All.{AreLines, spelled_lines}
-use Rattle.sdd_verify.specs.Lines.{Numbered, ends_replies, is_order_line, order_line_in, passed, tells_reply}
+use Rattle.sdd_verify.proofs.All.{All, All-cons, All-head, All-nil, All-tail, AreLines, Bool, Err, List, Numbered, Ok, [], ap, append_assoc, arith, bytes_eq, bytes_eq-Decides, cond, ends_replies, false, is_order_line, length, not_true, ok_is, order_line_in, passed, refl, spelled_lines, subst, sym, tells_reply, true, ℕ, ◌++◌, ◌+◌, ◌∙◌, ◌∷◌, ◌≡◌}
 
 abbrev pub IsOther : List ℕ → Type 0
 IsOther line = is_order_line line ≡ false
@@ -29,7 +22,8 @@ first_by number line lines at false e later h =
     let f = later h in
     record { before = line ∷ f.before; others = All-cons IsOther line f.before e f.others; is = f.is; whole = ap (λ (l : List (List ℕ)). line ∷ l) f.whole }
 
-pub first_order : (number : ℕ) (lines : List (List ℕ)) (at : ℕ × List ℕ × Numbered) → order_line_in number lines ≡ Ok at → FirstOrder number lines at
+pub first_order : (number : ℕ) (lines : List (List ℕ)) (at : ℕ × List ℕ × Numbered) → order_line_in number lines ≡ Ok at
+    → FirstOrder number lines at
 first_order number [] at h = absurd cc
 first_order number (line ∷ lines) at h = first_by number line lines at (is_order_line line) refl (λ more. first_order (number + 1) lines at more) h
 
@@ -45,7 +39,8 @@ order_again number (first ∷ before) line lines others is =
 
 -- lines that have come stand there, and then the rest
 
-passed_by : (number : ℕ) (line : List ℕ) (more : List (List ℕ)) (told : List ℕ) (lines : List (List ℕ)) (rest : Numbered) (b : Bool) → bytes_eq told line ≡ b
+passed_by : (number : ℕ) (line : List ℕ) (more : List (List ℕ)) (told : List ℕ) (lines : List (List ℕ)) (rest : Numbered) (b : Bool)
+    → bytes_eq told line ≡ b
     → (passed (number + 1) more lines ≡ Ok rest → lines ≡ more ++ rest.1)
     → cond b (passed (number + 1) more lines) (Err number) ≡ Ok rest → told ∷ lines ≡ (line ∷ more) ++ rest.1
 passed_by number line more told lines rest true e later h =
@@ -54,7 +49,8 @@ passed_by number line more told lines rest true e later h =
     rw (same, behind) refl
 passed_by number line more told lines rest false e later h = absurd cc
 
-pub passed_is : (number : ℕ) (expected lines : List (List ℕ)) (rest : Numbered) → passed number expected lines ≡ Ok rest → lines ≡ expected ++ rest.1
+pub passed_is : (number : ℕ) (expected lines : List (List ℕ)) (rest : Numbered) → passed number expected lines ≡ Ok rest
+    → lines ≡ expected ++ rest.1
 passed_is number [] lines rest h =
     let here : Numbered = (number, lines) in
     let same : here ≡ rest = ok_is {F = ℕ} here rest h in
@@ -79,10 +75,6 @@ pub record Follows (lines : List (List ℕ)) : Type 0 where
   pub whole : lines ≡ next ∷ more
   pub other : tells_reply next ≡ false
 
-not_true : (b : Bool) → not b ≡ true → b ≡ false
-not_true true e = absurd cc
-not_true false e = refl
-
 pub follows : (lines : List (List ℕ)) → ends_replies lines ≡ true → Follows lines
 follows [] h = absurd cc
 follows (line ∷ lines) h = record { next = line; more = lines; whole = refl; other = not_true (tells_reply line) h }
@@ -97,7 +89,8 @@ pub rest_lines : (front rest : List (List ℕ)) → AreLines (front ++ rest) →
 rest_lines [] rest h = h
 rest_lines (line ∷ front) rest h = rest_lines front rest h.1
 
-pub spelled_apart : (front rest : List (List ℕ)) (tail : List ℕ) → spelled_lines (front ++ rest) ++ tail ≡ spelled_lines front ++ (spelled_lines rest ++ tail)
+pub spelled_apart : (front rest : List (List ℕ)) (tail : List ℕ)
+    → spelled_lines (front ++ rest) ++ tail ≡ spelled_lines front ++ (spelled_lines rest ++ tail)
 spelled_apart [] rest tail = refl
 spelled_apart (line ∷ front) rest tail =
     let more = spelled_apart front rest tail in

@@ -1,8 +1,5 @@
 -- Lines that have to come, one after the other.
-use Rattle.std.proofs.Common.{◌≡◌, ℕ, ◌+◌, List, [], ◌∷◌, ◌++◌, true, false, cond, Err, refl}
-use Rattle.std.specs.Str.{bytes_eq}
-use Rattle.sdd_script.specs.All.{◌>>=◌}
-use Rattle.sdd_verify.specs.Lines.{passed}
+use Rattle.sdd_verify.proofs.All.{Err, List, [], bytes_eq, cond, false, passed, refl, true, ℕ, ◌++◌, ◌+◌, ◌>>=◌, ◌∷◌, ◌≡◌}
 
 -- what comes after the first line
 pub after_line : (number : ℕ) (line : List ℕ) (more lines : List (List ℕ))

@@ -1,15 +1,5 @@
 -- The number of the first transaction of each name, one transaction more.
-use Rattle.std.proofs.Common.{◌≡◌, ℕ, ◌+◌, ◌<◌, ◌≤◌, List, [], ◌∷◌, ◌++◌, Bool, true, false, cond, Option, Some, None, is_some, refl, sym, ap, ◌∙◌, subst, length, take, map, get_or, arith, inl, inr, Bor}
-use Rattle.std.specs.BTreeMap.{is_at}
-use Rattle.std.specs.Cmp.Lexicographic.{slice_cmp}
-use Rattle.std.specs.Ordering.{nat_cmp}
-use Rattle.std.specs.Str.{bytes_eq}
-use Rattle.std.proofs.lemmas.Bool.{cases_Bool}
-use Rattle.std.proofs.lemmas.List.{take_more, map-append, length-map, length-take-le}
-use Rattle.std.proofs.lemmas.Map.Text.{is_eq-slice_cmp}
-use Rattle.std.proofs.lemmas.Slice.Eq.{bytes_eq-Decides}
-use Rattle.sdd_script.specs.All.{Txn, TxnNo, or_else, txn_no}
-use Rattle.sdd_verify.specs.Submitted.{named, named_from}
+use Rattle.sdd_verify.proofs.All.{Bool, Bor, List, None, Option, Some, Txn, TxnNo, [], ap, arith, bytes_eq, bytes_eq-Decides, cases_Bool, cond, false, get_or, inl, inr, is_at, is_eq-slice_cmp, is_some, length, length-map, length-take-le, map, map-append, named, named_from, nat_cmp, or_else, refl, slice_cmp, subst, sym, take, take_more, true, txn_no, ℕ, ◌++◌, ◌+◌, ◌<◌, ◌∙◌, ◌∷◌, ◌≡◌, ◌≤◌}
 
 abbrev Here : Txn → ℕ → List ℕ → Option TxnNo
 Here txn number name = cond (bytes_eq txn.name name) (Some (txn_no number)) None
@@ -43,7 +33,8 @@ or_second None p e = refl
 or_second (Some x) p e = absurd cc
 
 -- a transaction whose name has a number
-pub known_name : (txns : List Txn) (txn : Txn) (made : List ℕ → Option TxnNo) → is_some (made txn.name) ≡ true → Found made txns → Found made (txns ++ txn ∷ [])
+pub known_name : (txns : List Txn) (txn : Txn) (made : List ℕ → Option TxnNo) → is_some (made txn.name) ≡ true → Found made txns
+    → Found made (txns ++ txn ∷ [])
 known_name txns txn made has old name =
     let number : ℕ = 1 + length txns in
     let before : Option TxnNo = named txns name in
@@ -58,7 +49,8 @@ known_name txns txn made has old name =
     ]
 
 -- the first transaction of a name
-pub new_name : (txns : List Txn) (txn : Txn) (made new : List ℕ → Option TxnNo) (number : TxnNo) → number.0 ≡ length txns + 1 → is_some (made txn.name) ≡ false
+pub new_name : (txns : List Txn) (txn : Txn) (made new : List ℕ → Option TxnNo) (number : TxnNo) → number.0 ≡ length txns + 1
+    → is_some (made txn.name) ≡ false
     → ((name : List ℕ) → new name ≡ cond (is_at (slice_cmp nat_cmp txn.name) name) (Some number) (made name))
     → Found made txns → Found new (txns ++ txn ∷ [])
 new_name txns txn made new number is absent updates old name =

@@ -1,18 +1,6 @@
 -- Names of transactions, and the numbers that they tell.
-use Rattle.std.proofs.Common.{◌≡◌, ◌≢◌, ℕ, zero, suc, ◌+◌, ◌-◌, ◌<◌, ◌≤◌, List, [], ◌∷◌, length, map, Bool, true, false, cond, Some, Ok, refl, sym, ap, ◌∙◌, arith, slice_get, inl, inr}
-use Rattle.std.proofs.lemmas.Bool.{cases_Bool}
-use Rattle.std.specs.List.{All}
-use Rattle.std.specs.Str.{bytes_eq}
-use Rattle.std.proofs.lemmas.List.Elements.{All-cons, All-head, All-nil, All-tail}
-use Rattle.std.proofs.lemmas.Slice.Eq.{bytes_eq-Decides}
-use Rattle.sdd_script.specs.All.{IsFrom1To, Txn, TxnNo, along, known, txn_no}
-use Rattle.sdd_script.proofs.base.ReadingLaws.{Answers, along_ok, known_ok, ok_along}
-use Rattle.sdd_report.specs.Names.{txn_name}
-use Rattle.sdd_verify.specs.Submitted.{named, named_from}
-use Rattle.sdd_verify.proofs.Submissions.{found_member}
-
-some_is : {A : Type 0} (x y : A) → Some x ≡ Some y → x ≡ y
-some_is x y e = cc
+use Rattle.sdd_verify.proofs.All.{All, All-cons, All-head, All-nil, All-tail, Answers, Bool, IsFrom1To, List, Ok, Some, Txn, TxnNo, [], along, along_ok, ap, arith, bytes_eq, bytes_eq-Decides, cases_Bool, cond, false, inl, inr, known, known_ok, length, map, named, named_from, ok_along, refl, slice_get, suc, sym, true, txn_name, txn_no, zero, ℕ, ◌+◌, ◌-◌, ◌<◌, ◌∙◌, ◌∷◌, ◌≡◌, ◌≢◌, ◌≤◌}
+use Rattle.sdd_verify.proofs.Submissions.{found_member, some_is}
 
 -- a number that a name tells is that of a transaction of this name
 pub record Tells (txns : List Txn) (name : List ℕ) (number : TxnNo) : Type 0 where
@@ -39,17 +27,14 @@ tells_by first txn txns name number false e later h =
     let t = later h in
     let from = t.from in
     let within = t.within in
-    record {
-      from = omega (arith, from);
-      within = omega (arith, within);
-      found = λ place at. found_behind place at;
-    }
+    record { from = omega (arith, from); within = omega (arith, within); found = λ place at. found_behind place at }
   where
     found_behind : (place : ℕ) → number.0 ≡ first + place → (t : Txn) × (slice_get (txn ∷ txns) place ≡ Some t) × (t.name ≡ name)
     found_behind zero at = let from = (later h).from in absurd (omega (arith, from, at))
     found_behind (suc place) at = (later h).found place (omega (arith, at))
 
-tells_from : (first : ℕ) (txns : List Txn) (name : List ℕ) (number : TxnNo) → named_from first txns name ≡ Some number → TellsFrom first txns name number
+tells_from : (first : ℕ) (txns : List Txn) (name : List ℕ) (number : TxnNo) → named_from first txns name ≡ Some number
+    → TellsFrom first txns name number
 tells_from first [] name number h = absurd cc
 tells_from first (txn ∷ txns) name number h =
     tells_by first txn txns name number (bytes_eq txn.name name) refl
@@ -94,7 +79,8 @@ member_at [] place lt = absurd (omega arith)
 member_at (txn ∷ txns) zero lt = (txn, refl)
 member_at (txn ∷ txns) (suc place) lt = member_at txns place (omega arith)
 
-pub named_again : (txns : List Txn) (number : TxnNo) → AllDiffer txns → IsFrom1To (length txns) number.0 → named txns (txn_name txns number.0) ≡ Some number
+pub named_again : (txns : List Txn) (number : TxnNo) → AllDiffer txns → IsFrom1To (length txns) number.0
+    → named txns (txn_name txns number.0) ≡ Some number
 named_again txns number apart there =
     let from = there.0 in
     let within = there.1 in

@@ -1,16 +1,5 @@
 -- The words of an order line.
-use Rattle.std.proofs.Common.{◌≡◌, ℕ, List, [], ◌∷◌, ◌++◌, drop, Bool, true, false, eqb, refl, sym, ap, ◌∙◌, ◌⊎◌, inl, inr, append-nil, rules}
-use Rattle.std.specs.Prelude.{codes, ◌||◌}
-use Rattle.std.specs.List.{All, flat_map, join_with_byte}
-use Rattle.std.specs.Str.{bytes_eq}
-use Rattle.std.proofs.lemmas.Bool.{ne_eqb}
-use Rattle.std.proofs.lemmas.Bool.Decides.{Decides-eqb}
-use Rattle.std.proofs.lemmas.List.Elements.{All-cons, All-nil}
-use Rattle.std.proofs.lemmas.List.Splits.{join_with_byte-slice_split, slice_split_at, slice_split_none}
-use Rattle.std.proofs.lemmas.Slice.Eq.{bytes_eq-Decides, starts_is}
-use Rattle.sdd_script.specs.All.{HasNoSpace, tail_of}
-use Rattle.sdd_verify.specs.Lines.{is_order_line}
-use Rattle.sdd_verify.specs.Orders.{names_on, words_of}
+use Rattle.sdd_verify.proofs.All.{All, All-cons, All-nil, Bool, Decides-eqb, HasNoSpace, List, [], ap, append-nil, bytes_eq, bytes_eq-Decides, codes, drop, eqb, false, flat_map, inl, inr, is_order_line, join_with_byte, join_with_byte-slice_split, names_on, ne_eqb, refl, rules, slice_split_at, slice_split_none, starts_is, sym, tail_of, true, words_of, ℕ, ◌++◌, ◌||◌, ◌∙◌, ◌∷◌, ◌≡◌, ◌⊎◌}
 
 -- words, each behind a space
 abbrev pub behind_spaces : List (List ℕ) → List ℕ
@@ -25,7 +14,8 @@ HaveNoSpace [] = Unit {0}
 HaveNoSpace (name ∷ names) = HasNoSpace name × HaveNoSpace names
 
 -- words that are put behind spaces are cut again
-pub words_again : (word : List ℕ) (names : List (List ℕ)) → HasNoSpace word → HaveNoSpace names → words_of (word ++ behind_spaces names) ≡ word ∷ names
+pub words_again : (word : List ℕ) (names : List (List ℕ)) → HasNoSpace word → HaveNoSpace names
+    → words_of (word ++ behind_spaces names) ≡ word ∷ names
 words_again word [] h hs = ap words_of (append-nil word) ∙ slice_split_none (λ c. eqb c 32) word (no_space word h)
 words_again word (name ∷ names) h hs =
     slice_split_at (λ c. eqb c 32) word 32 (name ++ behind_spaces names) (no_space word h) refl
@@ -49,7 +39,8 @@ joined word (name ∷ names) = ap (λ (l : List ℕ). word ++ 32 ∷ l) (joined 
 cut_joined : (line word : List ℕ) (names : List (List ℕ)) → words_of line ≡ word ∷ names → line ≡ word ++ behind_spaces (names_on line)
 cut_joined line word names e =
     let is : names_on line ≡ names = ap tail_of e in
-    sym (join_with_byte-slice_split 32 line) ∙ ap (join_with_byte 32) e ∙ joined word names ∙ ap (λ (l : List (List ℕ)). word ++ behind_spaces l) (sym is)
+    sym (join_with_byte-slice_split 32 line) ∙ ap (join_with_byte 32) e ∙ joined word names
+    ∙ ap (λ (l : List (List ℕ)). word ++ behind_spaces l) (sym is)
 
 either : (a b : Bool) → (a || b) ≡ true → (a ≡ true) ⊎ (b ≡ true)
 either true b e = inl refl

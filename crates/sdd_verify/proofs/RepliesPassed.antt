@@ -1,17 +1,6 @@
 -- The replies of transactions that have to come, one after the other.
-use Rattle.std.proofs.Common.{◌≡◌, ℕ, ◌+◌, List, [], ◌∷◌, ◌++◌, Result, Ok, sym, ap, ◌∙◌, append_assoc, subst, length, map, drop, get_or, ◌<◌, ◌≤◌, Bor}
-use Rattle.std.specs.Fmt.{decimal}
-use Rattle.std.proofs.lemmas.List.{drop_all, drop_more}
-use Rattle.std.specs.Prelude.{codes, flat_map}
-use Rattle.sdd_script.proofs.base.ReadingLaws.{fails_bind}
-use Rattle.sdd_script.specs.All.{Catalogue, Database, Fails, Overflow, Reply, Rows, Txn, Value, after_changes, effect, ◌>>=◌}
-use Rattle.sdd_script.specs.base.declared.reply.Reply.TheVariants.{TooMany}
-use Rattle.sdd_report.specs.Replies.{outcome_lines, queries_from, query_lines, reply_lines, row_line, value_bytes}
+use Rattle.sdd_verify.proofs.All.{Bor, Catalogue, Database, Fails, Flaw, List, Numbered, Ok, Overflow, Reply, Result, Rows, TooMany, Txn, Value, [], after_changes, ap, append_assoc, codes, decimal, drop, drop_all, drop_more, effect, fails_bind, flat_map, get_or, length, line_in, lines_of, map, passed, queries_from, query_lines, replies, replies_on, reply_lines, row_line, subst, sym, value_bytes, ℕ, ◌++◌, ◌+◌, ◌<◌, ◌>>=◌, ◌∙◌, ◌∷◌, ◌≡◌, ◌≤◌}
 use Rattle.sdd_script.specs.words.Lines.{cut_lines}
-use Rattle.sdd_verify.specs.Flaws.{line_in}
-use Rattle.sdd_verify.specs.declared.flaw.Flaw.{Flaw}
-use Rattle.sdd_verify.specs.Lines.{Numbered, lines_of, passed}
-use Rattle.sdd_verify.specs.Replies.{replies, replies_on}
 use Rattle.sdd_verify.proofs.LineCuts.{IsWhole, whole_append, whole_behind, whole_empty, whole_ended}
 use Rattle.sdd_verify.proofs.LinesPassed.{after_lines}
 
@@ -34,11 +23,6 @@ queries_whole number [] = whole_empty
 queries_whole number (rows ∷ answers) =
     whole_append (query_lines number rows) (queries_from (number + 1) answers) (query_whole number rows)
     (queries_whole (number + 1) answers)
-
-outcome_whole : (reply : Reply) → IsWhole (outcome_lines reply)
-outcome_whole (Rows answers) = whole_append (codes " ok\n") (queries_from 1 answers) (whole_ended (codes " ok") [] whole_empty) (queries_whole 1 answers)
-outcome_whole Overflow = whole_ended (codes " overflow") [] whole_empty
-outcome_whole TooMany = whole_ended (codes " toomany") [] whole_empty
 
 -- behind a text that ends no line
 behind_front : (front word rest : List ℕ) → IsWhole rest → IsWhole (front ++ (word ++ 10 ∷ rest))
@@ -69,7 +53,8 @@ module _ (cat : Catalogue) (db : Database) (txns : List (Bor Txn)) (i : ℕ) (t 
     (within : i < length txns) (there : t ≡ get_or txns i t) (replied : reply ≡ (effect cat db t.now).reply) where
   apart : passed number (lines_of (replies_on cat db (map (λ u. u.now) (drop i txns)))) lines
       ≡ (passed number (lines_of (reply_lines t.now.name reply)) lines
-      >>= λ rest. passed rest.0 (lines_of (replies_on cat (after_changes cat db (effect cat db t.now).changes) (map (λ u. u.now) (drop (i + 1) txns)))) rest.1)
+      >>= λ rest. passed rest.0
+      (lines_of (replies_on cat (after_changes cat db (effect cat db t.now).changes) (map (λ u. u.now) (drop (i + 1) txns)))) rest.1)
   apart =
       let next : Database = after_changes cat db (effect cat db t.now).changes in
       let others : List Txn = map (λ (u : Bor Txn). u.now) (drop (i + 1) txns) in
@@ -108,7 +93,8 @@ module _ (cat : Catalogue) (db : Database) (txns : List (Bor Txn)) (i : ℕ) (t 
       subst P (sym apart ∙ so_far) (fails_bind line_in e (passed number (lines_of (reply_lines t.now.name reply)) lines) more here)
 
 -- where no transaction is left, nothing has to come
-pub none_left : (cat : Catalogue) (db : Database) (txns : List (Bor Txn)) (i number : ℕ) (lines : List (List ℕ)) (total : Result Numbered ℕ) → length txns ≤ i
+pub none_left : (cat : Catalogue) (db : Database) (txns : List (Bor Txn)) (i number : ℕ) (lines : List (List ℕ)) (total : Result Numbered ℕ)
+    → length txns ≤ i
     → passed number (lines_of (replies_on cat db (map (λ u. u.now) (drop i txns)))) lines ≡ total → total ≡ Ok (number, lines)
 unfolding cut_lines
 none_left cat db txns i number lines total past so_far =

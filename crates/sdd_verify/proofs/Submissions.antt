@@ -1,11 +1,5 @@
 -- The transactions that are submitted, event by event, and those that an order names.
-use Rattle.std.proofs.Common.{◌≡◌, ℕ, zero, suc, ◌+◌, ◌-◌, ◌<◌, ◌≤◌, subst, slice_get, List, [], ◌∷◌, ◌++◌, length, map, take, get_or, Option, Some, None, refl, sym, Bor, arith}
-use Rattle.std.specs.List.{All, filter_map}
-use Rattle.std.proofs.lemmas.List.{take_more, length-map}
-use Rattle.std.proofs.lemmas.List.Elements.{filter_map-append, All-nil, All-cons, All-head, All-tail}
-use Rattle.sdd_script.specs.All.{Catalogue, Deliver, Down, Event, Fits, FitsStart, IsValid, IsValidRow, IsValidTxn, Lose, MAX_EVENTS, Redeclare, RelNo, Repeat, Resend, Settle, Submit, Tick, Txn, TxnNo, Up, Value}
-use Rattle.sdd_script.specs.declared.workload.Workload.{Workload}
-use Rattle.sdd_verify.specs.Submitted.{submitted, submitted_by, texts_of, txn_of}
+use Rattle.sdd_verify.proofs.All.{All, All-cons, All-head, All-nil, All-tail, Bor, Catalogue, Deliver, Down, Event, Fits, FitsStart, IsValid, IsValidRow, IsValidTxn, List, Lose, MAX_EVENTS, None, Option, Redeclare, RelNo, Repeat, Resend, Settle, Some, Submit, Tick, Txn, TxnNo, Up, Value, Workload, [], arith, filter_map, filter_map-append, get_or, length, length-map, map, refl, slice_get, submitted, submitted_by, subst, suc, sym, take, take_more, texts_of, txn_of, zero, ℕ, ◌++◌, ◌+◌, ◌-◌, ◌<◌, ◌∷◌, ◌≡◌, ◌≤◌}
 
 -- what a list gives that goes on by one member
 pub filter_map_more : {A B : Type 0} (f : A → Option B) (xs : List A) (i : ℕ) (d : A) → i < length xs
@@ -36,13 +30,14 @@ filter_map_length f (x ∷ xs) = given_length f x xs (f x) refl (filter_map_leng
 pub few_submitted : (work : Workload) → length work.events ≤ MAX_EVENTS → length (submitted work) ≤ MAX_EVENTS
 few_submitted work few = let most = filter_map_length (submitted_by work.txns) work.events in omega (arith, few, most)
 
-pub few_lent : (work : Workload) (txns : List (Bor Txn)) → length work.events ≤ MAX_EVENTS → map (λ t. t.now) txns ≡ submitted work → length txns ≤ MAX_EVENTS
+pub few_lent : (work : Workload) (txns : List (Bor Txn)) → length work.events ≤ MAX_EVENTS → map (λ t. t.now) txns ≡ submitted work
+    → length txns ≤ MAX_EVENTS
 few_lent work txns few is =
     let all = few_submitted work few in
     let same : length txns ≡ length (submitted work) = rw (← is) (sym (length-map txns (λ (t : Bor Txn). t.now))) in
     omega (arith, all, same)
 
-some_is : {A : Type 0} (x y : A) → Some x ≡ Some y → x ≡ y
+pub some_is : {A : Type 0} (x y : A) → Some x ≡ Some y → x ≡ y
 some_is x y e = cc
 
 -- a member that is found is one of the list
@@ -87,7 +82,7 @@ all_fit cat (t ∷ txns) all = All-cons (Fits cat) t txns (All-head (IsValidTxn 
 pub submitted_fit : (cat : Catalogue) (work : Workload) → IsValid cat work → All (Fits cat) (submitted work)
 submitted_fit cat work valid = all_fit cat (submitted work) (submitted_valid cat work valid)
 
-lent_fit : (cat : Catalogue) (txns : List (Bor Txn)) → All (Fits cat) (map (λ t. t.now) txns) → All (λ (t : Bor Txn). Fits cat t.now) txns
+pub lent_fit : (cat : Catalogue) (txns : List (Bor Txn)) → All (Fits cat) (map (λ t. t.now) txns) → All (λ (t : Bor Txn). Fits cat t.now) txns
 lent_fit cat [] all = All-nil (λ (t : Bor Txn). Fits cat t.now)
 lent_fit cat (t ∷ txns) all =
     let given : List Txn = map (λ (u : Bor Txn). u.now) txns in
@@ -102,7 +97,7 @@ texts_fit cat work order texts valid is =
     lent_fit cat texts (rw is (all_given (txn_of (submitted work)) (Fits cat) order
     (λ n t found. found_member (Fits cat) (submitted work) (n.0 - 1) t fit found)))
 
-start_fits : (cat : Catalogue) (rows : List (RelNo × List Value)) → All (IsValidRow cat) rows → All (FitsStart cat) rows
+pub start_fits : (cat : Catalogue) (rows : List (RelNo × List Value)) → All (IsValidRow cat) rows → All (FitsStart cat) rows
 start_fits cat [] all = All-nil (FitsStart cat)
 start_fits cat (r ∷ rows) all = All-cons (FitsStart cat) r rows (All-head (IsValidRow cat) r rows all).fits
     (start_fits cat rows (All-tail (IsValidRow cat) r rows all))

@@ -1,34 +1,10 @@
 -- Orders in which each transaction may stand behind those before it, one transaction more.
-use Rattle.std.proofs.Common.{◌≡◌, ℕ, zero, suc, ◌+◌, ◌<◌, ◌==◌, List, [], ◌∷◌, ◌++◌, Bool, true, false, cond, not, Option, Some, None, Less, Equal, Greater, refl, sym, ap, ◌∙◌, subst, arith, ◌⊎◌, inl, inr, length, take, drop, get_or, eq-eqb, append_assoc}
-use Rattle.std.specs.Prelude.{◌&&◌, ◌||◌, nat_lt}
-use Rattle.std.specs.BTreeMap.{is_at}
-use Rattle.std.specs.Cmp.{nat_cmp_is}
-use Rattle.std.specs.List.{list_all}
-use Rattle.std.specs.Ordering.{nat_cmp, is_eq}
-use Rattle.std.proofs.lemmas.Bool.{cases_Bool, cases_eq, eqb-true, ltb-true, ne_eqb, lt-ltb}
-use Rattle.std.proofs.lemmas.List.{take_more, append-nil, take-append-drop}
-use Rattle.std.proofs.lemmas.List.Folds.{list_all-append}
-use Rattle.sdd_script.specs.All.{TxnNo, or_else}
-use Rattle.sdd_verify.specs.Classes.{class_of}
-use Rattle.sdd_verify.specs.Orders.{allows, is_in_turn, may_follow}
-
-both : (a b : Bool) → (a && b) ≡ true → (a ≡ true) × (b ≡ true)
-both true b e = (refl, e)
-both false b e = absurd cc
-
-both_true : (a b : Bool) → a ≡ true → b ≡ true → (a && b) ≡ true
-both_true a b e f = rw (e, f) refl
-
-and_again : (a b c : Bool) → (a && (b && c)) ≡ ((a && b) && c)
-and_again true b c = refl
-and_again false b c = refl
+use Rattle.sdd_verify.proofs.All.{Bool, Equal, Greater, Less, List, None, Option, Some, TxnNo, [], allows, ap, append-nil, append_assoc, arith, both, cases_Bool, cases_eq, class_of, cond, drop, eq-eqb, eqb-true, false, get_or, inl, inr, is_at, is_eq, is_in_turn, length, list_all, list_all-append, lt-ltb, ltb-true, may_follow, nat_cmp, nat_cmp_is, nat_lt, ne_eqb, not, or_else, refl, subst, suc, sym, take, take-append-drop, take_more, true, zero, ℕ, ◌&&◌, ◌++◌, ◌+◌, ◌<◌, ◌==◌, ◌||◌, ◌∙◌, ◌∷◌, ◌≡◌, ◌⊎◌}
+use Rattle.sdd_verify.proofs.DifferentNames.{some_is}
 
 and_true : (a : Bool) → (a && true) ≡ a
 and_true true = refl
 and_true false = refl
-
-some_is : {A : Type 0} (x y : A) → Some x ≡ Some y → x ≡ y
-some_is x y e = cc
 
 -- whether a key is another number
 pub is_at_number : (k n : ℕ) → is_at (nat_cmp k) n ≡ (k == n)

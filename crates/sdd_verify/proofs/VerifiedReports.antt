@@ -1,28 +1,8 @@
 -- A report is judged to be sound exactly where it is verified.
-use Rattle.std.proofs.Common.{◌≡◌, ◌≢◌, ℕ, ◌+◌, ◌-◌, ◌≤◌, List, [], ◌∷◌, ◌++◌, length, map, Bool, true, false, cond, Result, Ok, Err, refl, sym, ap, ◌∙◌, subst, arith, append_assoc, rules}
-use Rattle.std.specs.Prelude.{codes, nat_le, not, ◌&&◌}
-use Rattle.std.specs.List.{All, list_all}
-use Rattle.std.proofs.lemmas.Bool.{leb-true, le-leb}
-use Rattle.std.proofs.lemmas.List.Elements.{All-head, All-tail}
-use Rattle.std.proofs.lemmas.List.Folds.{flat_map-map}
-use Rattle.sdd_script.proofs.base.ReadingLaws.{bind_ok, must_ok, ok_is}
-use Rattle.sdd_script.specs.All.{AreLines, Catalogue, HasNoNewline, HasNoSpace, IsName, IsValid, IsValidTxn, MAX_NAME_BYTES, Txn, TxnNo, along, begins_with_letter, cut_lines, is_keyword, is_name_byte, known, must, spelled_lines, ◌>>=◌}
-use Rattle.sdd_report.specs.Committed.{order_line}
-use Rattle.sdd_script.specs.declared.workload.Workload.{Workload}
-use Rattle.sdd_script.proofs.WordLooks.{no_newline-append}
-use Rattle.sdd_script.proofs.words.Spelled.{cut_takes}
-use Rattle.sdd_verify.specs.Classes.{classes_submitted}
-use Rattle.sdd_verify.specs.Lines.{Numbered, begun, ends_replies, is_order_line, lines_of, order_line_in, passed, tells_reply}
-use Rattle.sdd_verify.specs.Orders.{is_in_turn, names_on, order_told}
-use Rattle.sdd_verify.specs.Replies.{serial_replies}
-use Rattle.sdd_verify.specs.Submitted.{named, submitted, texts_of}
-use Rattle.sdd_verify.specs.Verdict.{judged, verdict, verdict_of}
-use Rattle.sdd_verify.specs.Verified.{IsInTurn, IsVerified}
-use Rattle.sdd_verify.specs.declared.limits.TheConstants.{MAX_REPORT_BYTES}
-use Rattle.sdd_verify.specs.declared.verdict.Verdict.TheVariants.{Yes}
+use Rattle.sdd_verify.proofs.All.{All, All-head, All-tail, AreLines, Bool, Catalogue, Err, HasNoNewline, HasNoSpace, IsInTurn, IsName, IsValid, IsValidTxn, IsVerified, List, MAX_NAME_BYTES, MAX_REPORT_BYTES, Numbered, Ok, Result, Txn, TxnNo, Workload, Yes, [], along, ap, append_assoc, arith, begins_with_letter, begun, bind_ok, both, classes_submitted, codes, cond, cut_lines, cut_takes, ends_replies, false, flat_map-map, is_in_turn, is_keyword, is_name_byte, is_order_line, judged, known, le-leb, leb-true, length, line_behind, lines_of, list_all, map, must, must_ok, named, names_on, nat_le, no_newline-append, not, ok_is, order_line, order_line_in, order_told, passed, refl, rules, serial_replies, spelled_lines, submitted, subst, sym, tells_reply, texts_of, true, verdict, verdict_of, ℕ, ◌&&◌, ◌++◌, ◌+◌, ◌-◌, ◌>>=◌, ◌∙◌, ◌∷◌, ◌≡◌, ◌≢◌, ◌≤◌}
 use Rattle.sdd_verify.proofs.DifferentNames.{submitted_differ}
 use Rattle.sdd_verify.proofs.InTurn.{in_turn, in_turn_again}
-use Rattle.sdd_verify.proofs.LineCuts.{IsWhole, cut_are_lines, line_behind, lines_behind, whole_behind, whole_is}
+use Rattle.sdd_verify.proofs.LineCuts.{IsWhole, cut_are_lines, lines_behind, whole_behind, whole_is}
 use Rattle.sdd_verify.proofs.LinesFound.{IsOther, first_order, follows, front_lines, order_again, passed_again, passed_is, rest_lines, spelled_apart}
 use Rattle.sdd_verify.proofs.NamesTold.{IsThere, all_told, member_at, name_in, told_again}
 use Rattle.sdd_verify.proofs.OrderWords.{HaveNoSpace, behind_spaces, is_order_line_again, names_again, order_line_is}
@@ -44,10 +24,6 @@ line_is txns order rest =
     ∙ sym (append_assoc (codes "order") words (10 ∷ rest))
 
 -- names hold no space and no newline
-
-both : (a b : Bool) → (a && b) ≡ true → (a ≡ true) × (b ≡ true)
-both true b e = (refl, e)
-both false b e = absurd cc
 
 not_it : (c k : ℕ) → is_name_byte k ≡ false → is_name_byte c ≡ true → c ≢ k
 not_it c k other e same = let q : is_name_byte c ≡ is_name_byte k = ap is_name_byte same in absurd cc

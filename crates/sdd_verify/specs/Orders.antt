@@ -25,6 +25,11 @@ allows (Some last) number = nat_lt last number
 abbrev pub words_of : List ℕ → List (List ℕ)
 words_of line = slice_split (λ c. c == 32) line
 
+-- the words of a text in which each stands behind a space
+abbrev pub words_behind : List ℕ → List (List ℕ)
+words_behind [] = []
+words_behind (space ∷ text) = words_of text
+
 -- the names on an order line, which are its words but the first
 abbrev pub names_on : List ℕ → List (List ℕ)
 names_on line = tail_of (words_of line)

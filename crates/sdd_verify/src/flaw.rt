@@ -4,7 +4,7 @@ ghost use Rattle.sdd_script.specs.All.{Gives, known, must};
 ghost use Rattle.sdd_verify.specs.Flaws.{line_in};
 
 use sdd_script::sdd_base::NoMemory;
-use std::alloc::{AllocError, AllocFailed};
+use std::alloc::AllocFailed;
 
 /// What ends the judging of a report.
 #[derive(Clone, Copy, Debug, PartialEq, Eq)]
@@ -30,17 +30,6 @@ pub(crate) fn must(line: u32, holds: bool) -> Result<(), Flaw>
     ensures { Gives line_in (λ u. u) result (must line holds) }
 {
     if holds { Ok(()) } else { Err(Flaw::Line(line)) }
-}
-
-impl From<AllocError> for Flaw {
-    ghost use Rattle.std.specs.Prelude.{◌≡◌};
-    ghost use Rattle.sdd_verify.specs.declared.flaw.Flaw.TheVariants.{NoMemory};
-
-    ghost from_gives = { λ _ e. e ≡ NoMemory };
-
-    fn from(_error: AllocError) -> Self {
-        Flaw::NoMemory
-    }
 }
 
 impl<T: Drop> From<AllocFailed<T>> for Flaw {

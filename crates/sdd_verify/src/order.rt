@@ -1,23 +1,36 @@
 //! The order that an order line gives.
-ghost use Rattle.std.specs.Prelude.{◌≡◌, map, IfOk};
+ghost use Rattle.std.specs.Prelude.{◌≡◌, ◌==◌, ◌≤◌, ◌∷◌, length, IfOk};
+ghost use Rattle.std.specs.List.{position};
 ghost use Rattle.std.specs.Option.{option_copied};
 ghost use Rattle.sdd_script.specs.All.{Gives, along, known};
 ghost use Rattle.sdd_verify.specs.Classes.{class_of};
 ghost use Rattle.sdd_verify.specs.Flaws.{line_in};
-ghost use Rattle.sdd_verify.specs.Orders.{allows, is_in_turn, names_on, order_told, words_of};
+ghost use Rattle.sdd_verify.specs.Orders.{allows, is_in_turn, names_on, order_told, words_behind, words_of};
 ghost use Rattle.sdd_verify.specs.Submitted.{named};
 
 use crate::flaw::{Flaw, known, must};
 use crate::submitted::Submitted;
 use sdd_script::sdd_base::{NoMemory, TxnNo};
-use std::alloc::{AllocError, Global};
+use std::alloc::Global;
 use std::collections::BTreeMap;
 
-/// The words of a line, cut at each space.
-fn words_of(alloc: Global, line: &[u8]) -> Result<Vec<&[u8]>, AllocError>
-    ensures { IfOk result (λ words. map (λ w. w.now) words.items ≡ words_of line.now) }
+/// Where the first space is.
+fn space_in(text: &[u8]) -> Option<usize>
+    ensures { result ≡ position (λ c. c == 32) text.now }
 {
-    line.split(|byte| *byte == b' ').collect(alloc)
+    text.iter().position(|byte| *byte == b' ')
+}
+
+/// The word before the first space of a text, and the text from that space on.
+#[tactic(auto, using(crate::proofs::WordsCut::cut_at_place, crate::proofs::WordsCut::cut_nowhere))]
+fn cut_word(text: &[u8]) -> (&[u8], &[u8])
+    ensures cut { words_of text.now ≡ result.0.now ∷ words_behind result.1.now }
+    ensures no_longer { length result.1.now ≤ length text.now }
+{
+    match space_in(text) {
+        Some(place) => text.split_at(place),
+        None => (text, &[]),
+    }
 }
 
 /// The number of the transaction of this name, without which the line is at fault.
@@ -27,21 +40,24 @@ fn number_of(alloc: Global, submitted: &Submitted, line: u32, name: &[u8]) -> Re
     known(line, submitted.named(alloc, name)?)
 }
 
-/// The numbers of the transactions of these names.
-#[tactic(auto, using(sdd_base::proofs::ReadingLaws::goes_on, sdd_base::proofs::ReadingLaws::ends, sdd_base::proofs::ReadingLaws::is_done))]
-fn numbers_of(
+/// The numbers of the transactions whose names stand in this text, each behind a space.
+#[tactic(auto, using(crate::proofs::WordsCut::name_read, crate::proofs::WordsCut::name_fails, crate::proofs::WordsCut::names_read, crate::proofs::WordsCut::names_begin))]
+fn numbers_in(
     alloc: Global,
     submitted: &Submitted,
     line: u32,
-    names: &[&[u8]],
+    names: &[u8],
 ) -> Result<Vec<TxnNo>, Flaw>
     ensures { Gives line_in (λ order. order.items) result
-        (along (λ _ name. known line (named submitted.now name)) 0 (map (λ w. w.now) names.now)) }
+        (along (λ _ name. known line (named submitted.now name)) 0 (words_behind names.now)) }
 {
     let mut order = Vec::new(alloc);
-    'names: for name in names {
+    let mut rest = names;
+    'names: while let [_, text @ ..] = rest {
+        let (name, behind) = cut_word(text);
         let number = number_of(alloc, submitted, line, name)?;
         order.push(number)?;
+        rest = behind;
     }
     Ok(order)
 }
@@ -56,11 +72,8 @@ fn named_on(
     ensures { Gives line_in (λ order. order.items) result
         (along (λ _ name. known number (named submitted.now name)) 0 (names_on line.now)) }
 {
-    let words = words_of(alloc, line)?;
-    match words.as_slice() {
-        [_, names @ ..] => numbers_of(alloc, submitted, number, names),
-        [] => Ok(Vec::new(alloc)),
-    }
+    let (_, names) = cut_word(line);
+    numbers_in(alloc, submitted, number, names)
 }
 
 /// The class of a submitted transaction; a number past the last has class 0.

@@ -1,14 +1,5 @@
 -- What is decoded is spelled so, and what is spelled is decoded.
-use Rattle.std.proofs.Common.{◌≡◌, ℕ, ◌<◌, ◌^◌, List, length, Result, Ok, Err, ap, ◌∙◌, inl, inr, arith, subst}
-use Rattle.std.specs.Prelude.{All, IfOk}
-use Rattle.std.proofs.lemmas.Bool.{cases_lt}
-use Rattle.std.proofs.lemmas.List.{get_or_past}
-use Rattle.sdd_base.specs.Readings.{Gives}
-use Rattle.sdd_wire.specs.declared.fault.WireFault.{WireFault}
-use Rattle.sdd_wire.specs.declared.msg.Msg.{Msg}
-use Rattle.sdd_wire.specs.Spelling.{spelled}
-use Rattle.sdd_wire.specs.Fits.{Fits}
-use Rattle.sdd_wire.specs.Reading.{fault_in, message_in}
+use Rattle.sdd_wire.proofs.All.{All, Err, Fits, Gives, IfOk, List, Msg, Ok, Result, WireFault, ap, arith, cases_lt, fault_in, get_or_past, inl, inr, length, message_in, spelled, subst, ℕ, ◌<◌, ◌^◌, ◌∙◌, ◌≡◌}
 use Rattle.sdd_wire.proofs.Laws.{AreBytes}
 use Rattle.sdd_wire.proofs.MessageLaws.{message_read_back, message_spelled_so}
 
@@ -24,8 +15,7 @@ pub law_spelled_so : (bytes : List ℕ) (msg : Msg) → All (λ byte. byte < 2 ^
 law_spelled_so bytes msg h e = message_spelled_so bytes msg (are_bytes bytes h) e
 
 pub decoded_so : (bytes : List ℕ) (result : Result Msg WireFault) → AreBytes bytes
-    → Gives fault_in (λ msg. msg) result (message_in bytes)
-    → IfOk result (λ msg. Fits msg × (bytes ≡ spelled msg))
+    → Gives fault_in (λ msg. msg) result (message_in bytes) → IfOk result (λ msg. Fits msg × (bytes ≡ spelled msg))
 decoded_so bytes (Ok msg) fits given = message_spelled_so bytes msg fits given
 decoded_so bytes (Err fault) fits given = tt
 

@@ -1,17 +1,8 @@
 -- Items that a loop reads, one after the other.
-use Rattle.std.proofs.Common.{◌≡◌, ℕ, zero, suc, ◌+◌, ◌-◌, ◌<◌, ◌≤◌, List, [], ◌∷◌, ◌++◌, length, take, get_or, Result, Ok, Err}
-use Rattle.std.proofs.Common.{refl, sym, ap, ◌∙◌, append_assoc, add-one, arith}
-use Rattle.std.specs.List.{AllByRecursion, flat_map}
-use Rattle.std.proofs.lemmas.List.{append-nil, flat_map_more, take_more}
-use Rattle.sdd_base.specs.Readings.{Fails}
-use Rattle.sdd_wire.specs.Source.{Source, Reading, after, read_as, items_at}
-use Rattle.sdd_wire.specs.Reading.{fault_in}
-use Rattle.sdd_wire.specs.declared.fault.WireFault.{WireFault}
-use Rattle.sdd_wire.specs.declared.fault.WireFault.TheVariants.{Bad, NoMemory}
+use Rattle.sdd_wire.proofs.All.{AllByRecursion, Bad, Err, Fails, List, NoMemory, Ok, Reading, Result, Source, WireFault, [], add-one, after, ap, append-nil, append_assoc, arith, fault_in, flat_map, flat_map_more, get_or, items_at, length, read_as, refl, suc, sym, take, take_more, zero, ℕ, ◌++◌, ◌+◌, ◌-◌, ◌<◌, ◌∙◌, ◌∷◌, ◌≡◌, ◌≤◌}
 
 -- what was read before, and what is still read
-abbrev pub with_front : {A : Type 0} → List A → Result (List A × Source) ℕ
-    → Result (List A × Source) ℕ
+abbrev pub with_front : {A : Type 0} → List A → Result (List A × Source) ℕ → Result (List A × Source) ℕ
 with_front front reading = after reading (λ xs. read_as (front ++ xs))
 
 regroup : {A : Type 0} (front : List A) (x : A) (reading : Result (List A × Source) ℕ)

@@ -1,7 +1,6 @@
 -- What is read is spelled so, and what is spelled is read: the law of one reading, and of one reading
 -- and then the next.
-use Rattle.std.proofs.Common.{◌≡◌, ℕ, ◌<◌, List, [], ◌++◌, get_or, Option, Some, None, Result, Ok, Err, refl, sym, ap, ◌∙◌, subst, append_assoc}
-use Rattle.sdd_wire.specs.Source.{Source, place, Reading, after, ◌>>=◌, read_as, known_at, meant}
+use Rattle.sdd_wire.proofs.All.{Err, List, None, Ok, Option, Reading, Result, Some, Source, [], after, ap, append_assoc, get_or, known_at, meant, place, read_as, refl, subst, sym, ℕ, ◌++◌, ◌<◌, ◌>>=◌, ◌∙◌, ◌≡◌}
 
 abbrev pub AreBytes : List ℕ → Type 0
 AreBytes bytes = (i : ℕ) → get_or bytes i 0 < 256
@@ -52,8 +51,7 @@ taken_on s front mid text t first second = record {
   bytes = second.bytes;
 }
 
-spelled_front : (s : Source) (text front : List ℕ) (t : Source) → text ≡ front → Takes s text t
-    → Takes s front t
+spelled_front : (s : Source) (text front : List ℕ) (t : Source) → text ≡ front → Takes s text t → Takes s front t
 spelled_front s text front t is takes = record {
   parts = takes.parts ∙ ap (λ (l : List ℕ). l ++ t.left) is;
   bytes = takes.bytes;
@@ -69,17 +67,12 @@ only_then {first = first} {next = next} {Q = Q} only then = record {
       let read = after_ok (first s) next (y, t) e in
       let a = only.took s read.1 read.0 bytes read.2 in
       let b = (then read.0 a.text a.holds).took read.1 t y a.takes.bytes read.3 in
-      record {
-        text = a.text ++ b.text;
-        takes = taken_on s a.text read.1 b.text t a.takes b.takes;
-        holds = b.holds;
-      };
+      record { text = a.text ++ b.text; takes = taken_on s a.text read.1 b.text t a.takes b.takes; holds = b.holds };
 }
 
 pub only_next : {A B : Type 0} {fits : A → Type 0} {spelling : A → List ℕ} {first : Reading A}
     {next : A → Reading B} {Q : B → List ℕ → Type 0} → Law fits spelling first
-    → ((x : A) → fits x → OnlyReads (λ y more. Q y (spelling x ++ more)) (next x))
-    → OnlyReads Q (first >>= next)
+    → ((x : A) → fits x → OnlyReads (λ y more. Q y (spelling x ++ more)) (next x)) → OnlyReads Q (first >>= next)
 only_next {next = next} {Q = Q} law then = only_then law.only (λ x text h.
     subst (λ (l : List ℕ). OnlyReads (λ y more. Q y (l ++ more)) (next x)) (sym h.0) (then x h.1))
 
@@ -114,8 +107,7 @@ only_done {A = A} x Q h = record {
 }
 
 pub back_next : {A B : Type 0} {first : Reading A} {text more : List ℕ} {x : A} {y : B} (next : A → Reading B)
-    → ReadsBack first text x → ReadsBack (next x) more y
-    → ReadsBack (first >>= next) (text ++ more) y
+    → ReadsBack first text x → ReadsBack (next x) more y → ReadsBack (first >>= next) (text ++ more) y
 back_next {first = first} {text = text} {more = more} {x = x} next a b = record {
   reads = λ whole rest.
       ap (λ (l : List ℕ). after (first (left whole l)) next) (append_assoc text more rest)
@@ -124,9 +116,7 @@ back_next {first = first} {text = text} {more = more} {x = x} next a b = record 
 
 pub back_last : {A B : Type 0} {last : Reading A} {text : List ℕ} {x : A} (made : A → B)
     → ReadsBack last text x → ReadsBack (last >>= (λ y. read_as (made y))) text (made x)
-back_last made a = record {
-  reads = λ whole rest. ap (λ r. after r (λ y. read_as (made y))) (a.reads whole rest);
-}
+back_last made a = record { reads = λ whole rest. ap (λ r. after r (λ y. read_as (made y))) (a.reads whole rest) }
 
 pub back_as : {A : Type 0} {reading : Reading A} {text other : List ℕ} {x : A}
     → ReadsBack reading text x → text ≡ other → ReadsBack reading other x

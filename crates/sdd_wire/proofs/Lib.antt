@@ -1,3 +1,4 @@
+mod All
 pub mod Decoded
 pub mod Items
 pub mod Laws

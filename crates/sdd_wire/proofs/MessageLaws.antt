@@ -1,28 +1,7 @@
 -- The laws of messages: of the fields behind each tag, and of a tag with its fields.
-use Rattle.std.proofs.Common.{◌≡◌, ℕ, List, [], ◌∷◌, ◌++◌, length, Some, Result, Ok, Err, refl, sym, ap, ◌∙◌, subst}
-use Rattle.std.proofs.Common.{append_assoc}
-use Rattle.sdd_base.specs.Words.{is_empty, tail_of}
-use Rattle.sdd_base.specs.declared.number.ClassNo.{ClassNo}
-use Rattle.sdd_base.specs.declared.number.Ts.{Ts}
-use Rattle.sdd_base.specs.declared.number.TxnNo.{TxnNo}
-use Rattle.std.proofs.lemmas.List.{append-nil}
-use Rattle.sdd_base.specs.declared.change.Change.{Change}
-use Rattle.sdd_base.specs.declared.condition.Cond.{Cond}
-use Rattle.sdd_base.specs.declared.usage.Use.{Use}
-use Rattle.sdd_base.specs.declared.value.Value.{Value}
-use Rattle.sdd_wire.specs.declared.msg.Msg.{Msg}
-use Rattle.sdd_wire.specs.declared.msg.Msg.TheVariants.{Read, Ready, Reject, Fetch, Values, Reduce, Reduced, Ship, Rows, Write, Null, Ask, Hold, Held}
-use Rattle.sdd_wire.specs.declared.msg.Msg.TheVariants.{Done, Release}
-use Rattle.std.specs.Bool.{if◌then◌else◌}
-use Rattle.std.specs.Int.{w32, w64}
-use Rattle.sdd_wire.specs.Source.{Source, source_of, place, Reading, after, read_as, known_at, number_at, numbered, list_at, pair_at}
-use Rattle.sdd_wire.specs.Spelling.{spelled_u32, spelled_u64, spelled_list, spelled_pair, spelled_row, spelled_cond, spelled_use, spelled_change, spelled}
-use Rattle.sdd_wire.specs.Fits.{FitsU32, FitsU64, FitsList, FitsPair, FitsRow, FitsCond, FitsUse, FitsChange, Fits}
-use Rattle.sdd_wire.specs.Reading.{row_at, cond_at, use_at, change_at, read_at, ready_at, reject_at, fetch_at, values_at, reduce_at, reduced_at}
-use Rattle.sdd_wire.specs.Reading.{ship_at, rows_at, write_at, null_at, ask_at, held_at, done_at, release_at, fields_by_tag, message_at, whole}
-use Rattle.sdd_wire.specs.Reading.{message_in}
-use Rattle.sdd_wire.proofs.Laws.{AreBytes, OnlyReads, ReadsBack, IsSpelled, Law, only_then, only_meant, only_next, only_last, only_done, back_next}
-use Rattle.sdd_wire.proofs.Laws.{back_last, back_as}
+use Rattle.sdd_wire.proofs.All.{Ask, Change, ClassNo, Cond, Done, Err, Fetch, Fits, FitsChange, FitsCond, FitsList, FitsPair, FitsRow, FitsU32, FitsU64, FitsUse, Held, Hold, List, Msg, Null, Ok, Read, Reading, Ready, Reduce, Reduced, Reject, Release, Result, Rows, Ship, Some, Source, Ts, TxnNo, Use, Value, Values, Write, [], after, ap, append-nil, append_assoc, change_at, cond_at, fields_by_tag, if◌then◌else◌, is_empty, known_at, length, list_at, number_at, numbered, pair_at, place, read_as, refl, row_at, source_of, spelled, spelled_change, spelled_cond, spelled_list, spelled_pair, spelled_row, spelled_u32, spelled_u64, spelled_use, subst, sym, tail_of, use_at, w32, w64, whole, ℕ, ◌++◌, ◌∙◌, ◌∷◌, ◌≡◌}
+use Rattle.sdd_wire.specs.Reading.{read_at, ready_at, reject_at, fetch_at, values_at, reduce_at, reduced_at, ship_at, rows_at, write_at, null_at, ask_at, held_at, done_at, release_at, message_at, message_in}
+use Rattle.sdd_wire.proofs.Laws.{AreBytes, OnlyReads, ReadsBack, IsSpelled, Law, only_then, only_meant, only_next, only_last, only_done, back_next, back_last, back_as}
 use Rattle.sdd_wire.proofs.NumberLaws.{byte_law, u32_law, u64_law, class_law, txn_law, ts_law}
 use Rattle.sdd_wire.proofs.PartLaws.{pair_law, list_law, row_law, use_law, cond_law, change_law, AllNumbered, numbered_so}
 
@@ -59,8 +38,7 @@ read_fields =
     only_last _ uses_law (λ uses h6. (simp append_assoc, (h1, h2, h3, h4, h5, h6))))))))
 
 read_back : (ts : Ts) (class : ClassNo) (txn : TxnNo) (attempt : ℕ) (conds : List Cond) (uses : List Use)
-    → Fits (Read ts class txn attempt conds uses)
-    → Back read_at (Read ts class txn attempt conds uses)
+    → Fits (Read ts class txn attempt conds uses) → Back read_at (Read ts class txn attempt conds uses)
 unfolding read_at
 read_back ts class txn attempt conds uses fits =
     back_as (back_next _ (ts_law.back ts fits.0) (back_next _ (class_law.back class fits.1) (
@@ -131,8 +109,7 @@ reduce_fields =
     (simp append_assoc, (h1, h2, h3, h4, h5)))))))
 
 reduce_back : (ts : Ts) (class : ClassNo) (use_no : ℕ) (column : ℕ) (values : List Value)
-    → Fits (Reduce ts class use_no column values)
-    → Back reduce_at (Reduce ts class use_no column values)
+    → Fits (Reduce ts class use_no column values) → Back reduce_at (Reduce ts class use_no column values)
 unfolding reduce_at
 reduce_back ts class use_no column values fits =
     back_as (back_next _ (ts_law.back ts fits.0) (back_next _ (class_law.back class fits.1) (
@@ -159,8 +136,7 @@ ship_fields = only_next ts_law (λ ts h1. only_last _ class_law (λ class h2. (r
 
 ship_back : (ts : Ts) (class : ClassNo) → Fits (Ship ts class) → Back ship_at (Ship ts class)
 unfolding ship_at
-ship_back ts class fits =
-    back_next _ (ts_law.back ts fits.0) (back_last _ (class_law.back class fits.1))
+ship_back ts class fits = back_next _ (ts_law.back ts fits.0) (back_last _ (class_law.back class fits.1))
 
 rows_fields : Fields 9 rows_at
 unfolding rows_at
@@ -195,8 +171,7 @@ null_fields = only_next class_law (λ class h1. only_last _ ts_law (λ time h2. 
 
 null_back : (class : ClassNo) (time : Ts) → Fits (Null class time) → Back null_at (Null class time)
 unfolding null_at
-null_back class time fits =
-    back_next _ (class_law.back class fits.0) (back_last _ (ts_law.back time fits.1))
+null_back class time fits = back_next _ (class_law.back class fits.0) (back_last _ (ts_law.back time fits.1))
 
 ask_fields : Fields 12 ask_at
 unfolding ask_at
@@ -204,8 +179,7 @@ ask_fields = only_next class_law (λ class h1. only_last _ ts_law (λ time h2. (
 
 ask_back : (class : ClassNo) (time : Ts) → Fits (Ask class time) → Back ask_at (Ask class time)
 unfolding ask_at
-ask_back class time fits =
-    back_next _ (class_law.back class fits.0) (back_last _ (ts_law.back time fits.1))
+ask_back class time fits = back_next _ (class_law.back class fits.0) (back_last _ (ts_law.back time fits.1))
 
 hold_fields : Fields 13 (read_as Hold)
 hold_fields = only_done Hold _ (refl, tt)
@@ -256,10 +230,7 @@ by_tags = (
                   rows_fields,
                   (
                     write_fields,
-                    (
-                      null_fields,
-                      (ask_fields, (hold_fields, (held_fields, (done_fields, (release_fields, tt))))),
-                    ),
+                    (null_fields, (ask_fields, (hold_fields, (held_fields, (done_fields, (release_fields, tt)))))),
                   ),
                 ),
               ),
@@ -272,8 +243,7 @@ by_tags = (
 )
 
 behind_tag : (tag : ℕ) (fields : Reading Msg) (text : List ℕ) (msg : Msg)
-    → numbered fields_by_tag tag ≡ Some fields → ReadsBack fields text msg
-    → ReadsBack message_at (tag ∷ text) msg
+    → numbered fields_by_tag tag ≡ Some fields → ReadsBack fields text msg → ReadsBack message_at (tag ∷ text) msg
 unfolding message_at
 behind_tag tag fields text msg is back = record {
   reads = λ whole rest.
@@ -285,10 +255,8 @@ behind_tag tag fields text msg is back = record {
 message_back : (msg : Msg) → Fits msg → ReadsBack message_at (spelled msg) msg
 message_back (Read ts class txn attempt conds uses) fits =
     behind_tag 1 read_at _ _ refl (read_back ts class txn attempt conds uses fits)
-message_back (Ready ts class counts) fits =
-    behind_tag 2 ready_at _ _ refl (ready_back ts class counts fits)
-message_back (Reject ts class by write) fits =
-    behind_tag 3 reject_at _ _ refl (reject_back ts class by write fits)
+message_back (Ready ts class counts) fits = behind_tag 2 ready_at _ _ refl (ready_back ts class counts fits)
+message_back (Reject ts class by write) fits = behind_tag 3 reject_at _ _ refl (reject_back ts class by write fits)
 message_back (Fetch ts class use_no column) fits =
     behind_tag 4 fetch_at _ _ refl (fetch_back ts class use_no column fits)
 message_back (Values ts class use_no values) fits =
@@ -298,14 +266,11 @@ message_back (Reduce ts class use_no column values) fits =
 message_back (Reduced ts class use_no count) fits =
     behind_tag 7 reduced_at _ _ refl (reduced_back ts class use_no count fits)
 message_back (Ship ts class) fits = behind_tag 8 ship_at _ _ refl (ship_back ts class fits)
-message_back (Rows ts class rows) fits =
-    behind_tag 9 rows_at _ _ refl (rows_back ts class rows fits)
-message_back (Write ts class txn changes) fits =
-    behind_tag 10 write_at _ _ refl (write_back ts class txn changes fits)
+message_back (Rows ts class rows) fits = behind_tag 9 rows_at _ _ refl (rows_back ts class rows fits)
+message_back (Write ts class txn changes) fits = behind_tag 10 write_at _ _ refl (write_back ts class txn changes fits)
 message_back (Null class time) fits = behind_tag 11 null_at _ _ refl (null_back class time fits)
 message_back (Ask class time) fits = behind_tag 12 ask_at _ _ refl (ask_back class time fits)
-message_back Hold fits =
-    behind_tag 13 (read_as Hold) [] _ refl (record { reads = λ whole rest. refl })
+message_back Hold fits = behind_tag 13 (read_as Hold) [] _ refl (record { reads = λ whole rest. refl })
 message_back (Held time) fits = behind_tag 14 held_at _ _ refl (held_back time fits)
 message_back (Done ts) fits = behind_tag 15 done_at _ _ refl (done_back ts fits)
 message_back (Release ts) fits = behind_tag 16 release_at _ _ refl (release_back ts fits)

@@ -1,16 +1,7 @@
 -- The laws of bytes and numbers.
-use Rattle.std.proofs.Common.{◌≡◌, ℕ, zero, suc, ◌+◌, ◌<◌, ◌≤◌, Bool, true, false, List, [], ◌∷◌, ◌++◌, length, take, drop, Some}
-use Rattle.std.proofs.Common.{Result, Ok, Err, refl, sym, ap, ◌∙◌, subst, arith, inl, inr}
-use Rattle.std.specs.Prelude.{nat_lt, if◌then◌else◌}
-use Rattle.std.specs.Int.{w32, w64, to_be_bytes, from_be_bytes, cast_signed, cast_unsigned}
-use Rattle.std.proofs.Math.Facts.{Fits-of_z, sfits_to_z}
-use Rattle.std.proofs.lemmas.Bool.{cases_lt, ltb-false, le-ltb}
-use Rattle.std.proofs.lemmas.Int.{to_z-of_z, of_z-to_z}
-use Rattle.std.proofs.lemmas.List.{take_at, drop_at, take-append-drop, length-append, length-take, get_or-drop, get_or-take, get_or_past}
-use Rattle.std.proofs.lemmas.Nat.{be_bytes_4, be_bytes_8, from_be_bytes-to_be_bytes_4, from_be_bytes-to_be_bytes_8}
-use Rattle.sdd_wire.specs.Source.{Source, place, Reading, piece_at, first_byte, byte_at, number_at, flag, flag_at}
-use Rattle.sdd_wire.specs.Spelling.{spelled_u32, spelled_u64, spelled_i64, spelled_class, spelled_rel, spelled_frag, spelled_txn, spelled_ts}
-use Rattle.sdd_wire.specs.Fits.{FitsU32, FitsU64, FitsI64, FitsClass, FitsRel, FitsFrag, FitsTxn, FitsTs}
+use Rattle.sdd_wire.proofs.All.{Bool, Err, Fits-of_z, FitsClass, FitsFrag, FitsI64, FitsRel, FitsTs, FitsTxn, FitsU32, FitsU64, List, Ok, Reading, Result, Some, Source, [], ap, arith, be_bytes_4, be_bytes_8, byte_at, cases_lt, cast_signed, cast_unsigned, drop, drop_at, false, first_byte, flag, flag_at, from_be_bytes, from_be_bytes-to_be_bytes_4, from_be_bytes-to_be_bytes_8, get_or-drop, get_or-take, get_or_past, if◌then◌else◌, inl, inr, le-ltb, length, length-append, length-take, ltb-false, nat_lt, of_z-to_z, piece_at, place, refl, sfits_to_z, spelled_class, spelled_frag, spelled_rel, spelled_ts, spelled_txn, subst, suc, sym, take, take-append-drop, take_at, to_be_bytes, to_z-of_z, true, w32, w64, zero, ℕ, ◌++◌, ◌+◌, ◌<◌, ◌∙◌, ◌∷◌, ◌≡◌, ◌≤◌}
+use Rattle.sdd_wire.specs.Source.{number_at}
+use Rattle.sdd_wire.specs.Spelling.{spelled_u32, spelled_u64, spelled_i64}
 use Rattle.sdd_wire.specs.Reading.{i64_at, class_at, rel_at, frag_at, txn_at, ts_at}
 use Rattle.sdd_wire.proofs.Laws.{AreBytes, Took, ReadsBack, IsSpelled, Law, only_last, back_last, only_meant}
 
@@ -38,8 +29,7 @@ piece_back n text len = record {
 }
 
 took_piece : (n : ℕ) (s t : Source) (x : List ℕ) → AreBytes s.left → n ≤ length s.left
-    → take n s.left ≡ x → record s { left = drop n s.left } ≡ t
-    → Took (IsSpelled (IsPiece n) (λ y. y)) s x t
+    → take n s.left ≡ x → record s { left = drop n s.left } ≡ t → Took (IsSpelled (IsPiece n) (λ y. y)) s x t
 took_piece n s t x fits long front rest =
     let whole : s.left ≡ take n s.left ++ drop n s.left = sym (take-append-drop n s.left) in
     record {
@@ -63,8 +53,7 @@ done x = Ok x
 done_is : {A : Type 0} (x y : A × Source) → done x ≡ done y → x ≡ y
 done_is x y e = cc
 
-piece_ok : (b : Bool) (at : ℕ) (x y : List ℕ × Source) → (if b then Err at else done x) ≡ Ok y
-    → (b ≡ false) × (x ≡ y)
+piece_ok : (b : Bool) (at : ℕ) (x y : List ℕ × Source) → (if b then Err at else done x) ≡ Ok y → (b ≡ false) × (x ≡ y)
 piece_ok true at x y e = absurd cc
 piece_ok false at x y e = (refl, done_is x y e)
 

@@ -1,25 +1,8 @@
 -- The laws of lists, texts and values, and of the parts of messages that are made of them.
-use Rattle.std.proofs.Common.{◌≡◌, ℕ, zero, suc, ◌+◌, Bool, true, false, List, [], ◌∷◌, ◌++◌, length, Option, Some, None}
-use Rattle.std.proofs.Common.{refl, sym, ap, ◌∙◌, subst, arith, append_assoc}
-use Rattle.std.specs.Prelude.{slice_get}
-use Rattle.std.specs.List.{flat_map, AllByRecursion}
-use Rattle.sdd_base.specs.Text.{IsText}
-use Rattle.sdd_base.specs.declared.restriction.Op.{Op}
-use Rattle.sdd_base.specs.declared.restriction.Op.TheVariants.{Eq, Ne, Lt, Le, Gt, Ge}
-use Rattle.sdd_base.specs.declared.value.Value.{Value}
-use Rattle.sdd_base.specs.declared.value.Value.TheVariants.{Int, Text}
-use Rattle.sdd_wire.specs.Source.{Reading, numbered, items_at, list_at, pair_at}
-use Rattle.sdd_wire.specs.Source.{if_there, option_at}
-use Rattle.sdd_wire.specs.Spelling.{spelled_frag, spelled_u64, spelled_list}
-use Rattle.sdd_wire.specs.Spelling.{spelled_pair, spelled_option, spelled_text, spelled_value, spelled_row, spelled_op, spelled_restriction}
-use Rattle.sdd_wire.specs.Spelling.{spelled_use, spelled_cond, spelled_change}
-use Rattle.sdd_wire.specs.Fits.{FitsFrag, FitsU64, FitsList, FitsPair, FitsOption, FitsValue, FitsRow}
-use Rattle.sdd_wire.specs.Fits.{FitsOp, FitsRestriction, FitsUse, FitsCond, FitsChange}
-use Rattle.sdd_wire.specs.Reading.{frag_at, text_in, text_at, value_by, value_at, row_at, ops_by_byte, op_at, restriction_at, use_at, cond_at, change_at}
-use Rattle.sdd_wire.proofs.Laws.{OnlyReads, ReadsBack, IsSpelled, Law, only_next, only_last, only_weaker, only_meant, only_done, back_next, back_last}
-use Rattle.sdd_wire.proofs.Laws.{back_as, back_meant}
-use Rattle.sdd_wire.proofs.NumberLaws.{IsByte, piece_back, piece_law, byte_law, flag_byte, flag_law, u32_law, u64_law, i64_law, class_law}
-use Rattle.sdd_wire.proofs.NumberLaws.{rel_law, frag_law, ts_law}
+use Rattle.sdd_wire.proofs.All.{AllByRecursion, Bool, Eq, FitsChange, FitsCond, FitsFrag, FitsList, FitsOp, FitsOption, FitsPair, FitsRestriction, FitsRow, FitsU64, FitsUse, FitsValue, Ge, Gt, Int, IsText, Le, List, Lt, Ne, None, Op, Option, Reading, Some, Text, Value, [], ap, append_assoc, arith, false, flat_map, frag_at, if_there, items_at, length, list_at, numbered, ops_by_byte, option_at, pair_at, refl, row_at, slice_get, spelled_change, spelled_cond, spelled_frag, spelled_list, spelled_op, spelled_option, spelled_pair, spelled_restriction, spelled_row, spelled_text, spelled_u64, spelled_use, spelled_value, subst, suc, sym, text_in, true, value_by, zero, ℕ, ◌++◌, ◌+◌, ◌∙◌, ◌∷◌, ◌≡◌}
+use Rattle.sdd_wire.specs.Reading.{text_at, value_at, op_at, restriction_at, use_at, cond_at, change_at}
+use Rattle.sdd_wire.proofs.Laws.{OnlyReads, ReadsBack, IsSpelled, Law, only_next, only_last, only_weaker, only_meant, only_done, back_next, back_last, back_as, back_meant}
+use Rattle.sdd_wire.proofs.NumberLaws.{IsByte, piece_back, piece_law, byte_law, flag_byte, flag_law, u32_law, u64_law, i64_law, class_law, rel_law, frag_law, ts_law}
 use Rattle.sdd_wire.proofs.Texts.{text_found, found_text}
 
 -- pairs, options and lists
@@ -63,8 +46,7 @@ items_back law (suc n) (x ∷ xs) len fits =
     back_next _ (law.back x fits.0) (back_last _ (items_back law n xs (omega arith) fits.1))
 
 items_law : {A : Type 0} {fits : A → Type 0} {spelling : A → List ℕ} {item : Reading A}
-    → Law fits spelling item → (n : ℕ)
-    → Law (FitsItems fits n) (flat_map spelling) (items_at item n)
+    → Law fits spelling item → (n : ℕ) → Law (FitsItems fits n) (flat_map spelling) (items_at item n)
 items_law law zero = record {
   back = λ xs fits. items_back law zero xs fits.0 fits.1;
   only = only_done [] _ (refl, (refl, tt));
@@ -103,8 +85,7 @@ unfolding value_at
 value_back (Int z) fits = back_next _ (flag_law.back false tt) (back_last _ (i64_law.back z fits))
 value_back (Text text) fits = back_next _ (flag_law.back true tt) (back_last _ (text_law.back text fits))
 
-value_only : (b : Bool)
-    → OnlyReads (λ v more. IsSpelled FitsValue spelled_value v (flag_byte b ++ more)) (value_by b)
+value_only : (b : Bool) → OnlyReads (λ v more. IsSpelled FitsValue spelled_value v (flag_byte b ++ more)) (value_by b)
 value_only false = only_last _ i64_law (λ z h. (refl, h))
 value_only true = only_last _ text_law (λ text h. (refl, h))
 
@@ -123,10 +104,8 @@ AllNumbered P n (x ∷ xs) = P n x × AllNumbered P (suc n) xs
 at_number : {A : Type 0} (P : ℕ → A → Type 0) (first : ℕ) (xs : List A) (k : ℕ) (x : A)
     → AllNumbered P first xs → slice_get xs k ≡ Some x → P (k + first) x
 at_number P first [] k x all is = absurd cc
-at_number P first (y ∷ xs) zero x all is =
-    let same : y ≡ x = cc in rw (← same) (subst (λ k. P k y) (omega arith) all.0)
-at_number P first (y ∷ xs) (suc k) x all is =
-    subst (λ n. P n x) (omega arith) (at_number P (suc first) xs k x all.1 is)
+at_number P first (y ∷ xs) zero x all is = let same : y ≡ x = cc in rw (← same) (subst (λ k. P k y) (omega arith) all.0)
+at_number P first (y ∷ xs) (suc k) x all is = subst (λ n. P n x) (omega arith) (at_number P (suc first) xs k x all.1 is)
 
 pub numbered_so : {A : Type 0} (P : ℕ → A → Type 0) (xs : List A) (n : ℕ) (x : A)
     → AllNumbered P 1 xs → numbered xs n ≡ Some x → P n x

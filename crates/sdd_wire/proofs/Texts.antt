@@ -1,17 +1,7 @@
 -- Bytes that are the text of a column, and others.
-use Rattle.std.proofs.Common.{Bool, subst, ◌≡◌, ℕ, List, length, true, false, not, Some, None, refl, ◌∙◌}
-use Rattle.std.specs.Prelude.{Contains, ◌==◌, ◌&&◌, nat_le, if◌then◌else◌}
-use Rattle.std.specs.Str.{IsUtf8, is_utf8}
-use Rattle.std.proofs.lemmas.Bool.{leb-true, le-leb, eqb-true, eq-eqb, not-true, not_from_false, and_parts, and_from, both_ways, false_from_ne_true}
-use Rattle.std.proofs.lemmas.List.{get_or_default}
-use Rattle.std.proofs.lemmas.List.Folds.{Any-from_list_any, list_any_at}
-use Rattle.std.proofs.lemmas.Str.{IsUtf8-from_is_utf8, is_utf8-from_IsUtf8}
-use Rattle.sdd_base.specs.Text.{IsText}
-use Rattle.sdd_base.specs.Words.{contains}
-use Rattle.sdd_base.specs.declared.limits.TheConstants.{MAX_TEXT_BYTES}
-use Rattle.sdd_wire.specs.Reading.{is_text, text_in}
+use Rattle.sdd_wire.proofs.All.{Any-from_list_any, Bool, Contains, IsText, IsUtf8, IsUtf8-from_is_utf8, List, MAX_TEXT_BYTES, None, Some, and_from, and_parts, both_ways, contains, eq-eqb, eqb-true, false, false_from_ne_true, get_or_default, if◌then◌else◌, is_text, is_utf8, is_utf8-from_IsUtf8, le-leb, leb-true, length, list_any_at, nat_le, not, not-true, not_from_false, refl, subst, text_in, true, ℕ, ◌&&◌, ◌==◌, ◌∙◌, ◌≡◌}
 
-contains-true : (ns : List ℕ) (n : ℕ) → contains ns n ≡ true → Contains ns n
+pub contains-true : (ns : List ℕ) (n : ℕ) → contains ns n ≡ true → Contains ns n
 contains-true ns n h =
     let found = Any-from_list_any (λ x. x == n) ns h in
     (found.0, found.2, get_or_default ns found.0 n found.1 found.2 ∙ found.3 ∙ eqb-true found.1 n found.4)
@@ -55,8 +45,7 @@ no_text bytes other = rw (false_from_ne_true (is_text bytes) (λ e. other (is_te
 pub no_utf8 : (bytes : List ℕ) → (IsUtf8 bytes → ⊥) → text_in bytes ≡ None
 no_utf8 bytes other = no_text bytes (λ t. other t.utf8)
 
-found : (b : Bool) (bytes text : List ℕ)
-    → (if b then Some bytes else None) ≡ Some text → (b ≡ true) × (bytes ≡ text)
+found : (b : Bool) (bytes text : List ℕ) → (if b then Some bytes else None) ≡ Some text → (b ≡ true) × (bytes ≡ text)
 found true bytes text e = (refl, cc)
 found false bytes text e = absurd cc
 

@@ -6,7 +6,7 @@ use sdd_history::Recs;
 pub type Outs = Listed<(Site, Msg)>;
 
 /// What a module sends and what it records in one call, each in its order.
-#[derive(Drop, Debug, PartialEq, Eq)]
+#[derive(Drop)]
 pub struct Outcome {
     pub out: Outs,
     pub recs: Recs,

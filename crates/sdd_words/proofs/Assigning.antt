@@ -1,32 +1,43 @@
 -- The assignments, one more.
-use Rattle.std.proofs.Common.{◌≡◌, ◌<◌, List, [], ◌∷◌, ◌++◌, length, Option, Some, None, refl, sym, ap, ◌∙◌, append-nil, arith}
-use Rattle.sdd_words.specs.declared.word.Word.{Word}
-use Rattle.sdd_words.specs.declared.form.Setting.{Setting}
-use Rattle.sdd_words.specs.Forms.{setting_of, joined, settings}
-use Rattle.sdd_words.proofs.Joining.{onto, onto-joined}
+use Rattle.sdd_words.proofs.All.{Bool, List, MatchOption, None, Option, Setting, Some, Word, [], ap, arith, false, is_some, joined, length, not_empty, refl, setting_of, sym, true, unwrap_or, ◌<◌, ◌∙◌, ◌∷◌, ◌≡◌}
+use Rattle.sdd_words.specs.Forms.{settings}
+use Rattle.sdd_words.proofs.Comparing.{some_joined}
 
-pub setting_more : (l o r : Word) (more ws : List Word) (s : Setting) (front : List Setting) (total : Option (List Setting)) → ws ≡ l ∷ o ∷ r ∷ more → Some s ≡ setting_of l o r
-    → onto front (settings ws) ≡ total → onto (front ++ s ∷ []) (settings more) ≡ total
+pub setting_more : (l o r : Word) (more ws : List Word) (s : Setting) → ws ≡ l ∷ o ∷ r ∷ more → Some s ≡ setting_of l o r
+    → settings ws ≡ joined (Some s) (settings more)
 unfolding settings
-setting_more l o r more ws s front total is e so_far =
-    let one : settings ws ≡ joined (Some s) (settings more) = rw (is, e) refl in
-    sym (onto-joined front s (settings more)) ∙ ap (onto front) (sym one) ∙ so_far
+setting_more l o r more ws s is e = rw (is, e) refl
 
-pub no_setting : (l o r : Word) (more ws : List Word) (front : List Setting) (total : Option (List Setting)) → ws ≡ l ∷ o ∷ r ∷ more → None ≡ setting_of l o r
-    → onto front (settings ws) ≡ total → total ≡ None
+pub no_setting : (l o r : Word) (more ws : List Word) → ws ≡ l ∷ o ∷ r ∷ more → None ≡ setting_of l o r → settings ws ≡ None
 unfolding settings
-no_setting l o r more ws front total is e so_far =
-    let one : settings ws ≡ None = rw (is, ← e) refl in
-    sym so_far ∙ ap (onto front) one
+no_setting l o r more ws is e = rw (is, ← e) refl
 
-pub settings_end : (ws : List Word) (front : List Setting) (total : Option (List Setting)) → length ws ≡ 0 → onto front (settings ws) ≡ total → total ≡ Some front
+pub settings_few : (ws : List Word) → length ws < 3 → not_empty ws ≡ true → settings ws ≡ None
 unfolding settings
-settings_end [] front total len so_far = sym so_far ∙ ap (λ (x : List Setting). Some x) (append-nil front)
-settings_end (w ∷ ws) front total len so_far = absurd (omega arith)
+settings_few [] few some = absurd cc
+settings_few (a ∷ []) few some = refl
+settings_few (a ∷ b ∷ []) few some = refl
+settings_few (a ∷ b ∷ c ∷ ws) few some = absurd (omega arith)
 
-pub settings_few : (ws : List Word) (front : List Setting) (total : Option (List Setting)) → length ws < 3 → (length ws ≡ 0 → ⊥) → onto front (settings ws) ≡ total → total ≡ None
+pub setting_read : (l o r : Word) (more ws : List Word) (read : Option Setting) → ws ≡ l ∷ o ∷ r ∷ more → read ≡ setting_of l o r
+    → MatchOption read (not_empty ws ≡ true → settings ws ≡ None) (λ one. settings ws ≡ joined (Some one) (settings more))
+setting_read l o r more ws None is e = λ _. no_setting l o r more ws is e
+setting_read l o r more ws (Some s) is e = setting_more l o r more ws s is e
+
+-- whether words are assignments, one less
+pub are_settings_more : (ws more : List Word) (s : Setting) (total : Bool) → settings ws ≡ joined (Some s) (settings more)
+    → is_some (settings ws) ≡ total → is_some (settings more) ≡ total
+are_settings_more ws more s total is so_far = sym (some_joined s (settings more)) ∙ ap is_some (sym is) ∙ so_far
+
+pub are_no_settings : (ws : List Word) (total : Bool) → settings ws ≡ None → is_some (settings ws) ≡ total → false ≡ total
+are_no_settings ws total is so_far = ap is_some (sym is) ∙ so_far
+
+pub are_settings_all : (ws : List Word) (total : Bool) → not_empty ws ≡ false → is_some (settings ws) ≡ total → true ≡ total
 unfolding settings
-settings_few [] front total few some so_far = absurd (some refl)
-settings_few (a ∷ []) front total few some so_far = sym so_far
-settings_few (a ∷ b ∷ []) front total few some so_far = sym so_far
-settings_few (a ∷ b ∷ c ∷ ws) front total few some so_far = absurd (omega arith)
+are_settings_all [] total none so_far = so_far
+are_settings_all (w ∷ ws) total none so_far = absurd cc
+
+pub none_left : (ws : List Word) → not_empty ws ≡ false → unwrap_or (settings ws) [] ≡ []
+unfolding settings
+none_left [] none = refl
+none_left (w ∷ ws) none = absurd cc

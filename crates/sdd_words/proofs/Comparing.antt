@@ -1,34 +1,75 @@
 -- The conditions, one more.
-use Rattle.std.proofs.Common.{◌≡◌, ℕ, ◌<◌, List, [], ◌∷◌, ◌++◌, length, Option, Some, None, refl, sym, ap, ◌∙◌, append-nil, arith}
-use Rattle.std.specs.Prelude.{codes}
-use Rattle.sdd_words.specs.declared.word.Word.{Word}
-use Rattle.sdd_words.specs.declared.form.Comparison.{Comparison}
-use Rattle.sdd_words.specs.Forms.{comparison_of, joined, comparisons}
-use Rattle.sdd_words.proofs.Joining.{onto, onto-joined}
+use Rattle.sdd_words.proofs.All.{Bool, Comparison, List, MatchOption, None, Option, Some, Word, [], ap, arith, codes, comparison_of, false, is_some, joined, length, not_empty, refl, sym, true, unwrap_or, ℕ, ◌<◌, ◌∙◌, ◌∷◌, ◌≡◌}
+use Rattle.sdd_words.specs.Forms.{comparisons}
 
-pub comparison_more : (key : List ℕ) (k l o r : Word) (more ws : List Word) (c : Comparison) (front : List Comparison) (total : Option (List Comparison)) → ws ≡ k ∷ l ∷ o ∷ r ∷ more → Some c ≡ comparison_of key k l o r
-    → onto front (comparisons key ws) ≡ total → onto (front ++ c ∷ []) (comparisons (codes "and") more) ≡ total
-unfolding comparisons
-comparison_more key k l o r more ws c front total is e so_far =
-    let one : comparisons key ws ≡ joined (Some c) (comparisons (codes "and") more) = rw (is, e) refl in
-    sym (onto-joined front c (comparisons (codes "and") more)) ∙ ap (onto front) (sym one) ∙ so_far
+pub some_joined : {A : Type 0} (x : A) (read : Option (List A)) → is_some (joined (Some x) read) ≡ is_some read
+some_joined x None = refl
+some_joined x (Some xs) = refl
 
-pub no_comparison : (key : List ℕ) (k l o r : Word) (more ws : List Word) (front : List Comparison) (total : Option (List Comparison)) → ws ≡ k ∷ l ∷ o ∷ r ∷ more → None ≡ comparison_of key k l o r
-    → onto front (comparisons key ws) ≡ total → total ≡ None
+pub comparison_more : (key : List ℕ) (k l o r : Word) (more ws : List Word) (c : Comparison) → ws ≡ k ∷ l ∷ o ∷ r ∷ more
+    → Some c ≡ comparison_of key k l o r
+    → comparisons key ws ≡ joined (Some c) (comparisons (codes "and") more)
 unfolding comparisons
-no_comparison key k l o r more ws front total is e so_far =
-    let one : comparisons key ws ≡ None = rw (is, ← e) refl in
-    sym so_far ∙ ap (onto front) one
+comparison_more key k l o r more ws c is e = rw (is, e) refl
 
-pub comparisons_end : (key : List ℕ) (ws : List Word) (front : List Comparison) (total : Option (List Comparison)) → length ws ≡ 0 → onto front (comparisons key ws) ≡ total → total ≡ Some front
+pub no_comparison : (key : List ℕ) (k l o r : Word) (more ws : List Word) → ws ≡ k ∷ l ∷ o ∷ r ∷ more → None ≡ comparison_of key k l o r
+    → comparisons key ws ≡ None
 unfolding comparisons
-comparisons_end key [] front total len so_far = sym so_far ∙ ap (λ (x : List Comparison). Some x) (append-nil front)
-comparisons_end key (w ∷ ws) front total len so_far = absurd (omega arith)
+no_comparison key k l o r more ws is e = rw (is, ← e) refl
 
-pub comparisons_few : (key : List ℕ) (ws : List Word) (front : List Comparison) (total : Option (List Comparison)) → length ws < 4 → (length ws ≡ 0 → ⊥) → onto front (comparisons key ws) ≡ total → total ≡ None
+pub comparisons_few : (key : List ℕ) (ws : List Word) → length ws < 4 → not_empty ws ≡ true → comparisons key ws ≡ None
 unfolding comparisons
-comparisons_few key [] front total few some so_far = absurd (some refl)
-comparisons_few key (a ∷ []) front total few some so_far = sym so_far
-comparisons_few key (a ∷ b ∷ []) front total few some so_far = sym so_far
-comparisons_few key (a ∷ b ∷ c ∷ []) front total few some so_far = sym so_far
-comparisons_few key (a ∷ b ∷ c ∷ d ∷ ws) front total few some so_far = absurd (omega arith)
+comparisons_few key [] few some = absurd cc
+comparisons_few key (a ∷ []) few some = refl
+comparisons_few key (a ∷ b ∷ []) few some = refl
+comparisons_few key (a ∷ b ∷ c ∷ []) few some = refl
+comparisons_few key (a ∷ b ∷ c ∷ d ∷ ws) few some = absurd (omega arith)
+
+pub comparison_read : (key : List ℕ) (k l o r : Word) (more ws : List Word) (read : Option Comparison) → ws ≡ k ∷ l ∷ o ∷ r ∷ more
+    → read ≡ comparison_of key k l o r
+    → MatchOption read (not_empty ws ≡ true → comparisons key ws ≡ None) (λ one. comparisons key ws ≡ joined (Some one) (comparisons (codes "and") more))
+comparison_read key k l o r more ws None is e = λ _. no_comparison key k l o r more ws is e
+comparison_read key k l o r more ws (Some c) is e = comparison_more key k l o r more ws c is e
+
+-- whether words are conditions, one less
+pub are_comparisons_more : (key : List ℕ) (ws more : List Word) (c : Comparison) (total : Bool)
+    → comparisons key ws ≡ joined (Some c) (comparisons (codes "and") more)
+    → is_some (comparisons key ws) ≡ total → is_some (comparisons (codes "and") more) ≡ total
+are_comparisons_more key ws more c total is so_far = sym (some_joined c (comparisons (codes "and") more)) ∙ ap is_some (sym is) ∙ so_far
+
+pub are_no_comparisons : (key : List ℕ) (ws : List Word) (total : Bool) → comparisons key ws ≡ None → is_some (comparisons key ws) ≡ total
+    → false ≡ total
+are_no_comparisons key ws total is so_far = ap is_some (sym is) ∙ so_far
+
+pub are_comparisons_all : (key : List ℕ) (ws : List Word) (total : Bool) → not_empty ws ≡ false → is_some (comparisons key ws) ≡ total
+    → true ≡ total
+unfolding comparisons
+are_comparisons_all key [] total none so_far = so_far
+are_comparisons_all key (w ∷ ws) total none so_far = absurd cc
+
+-- what is left of them
+
+some_left : {A : Type 0} (o read : Option (List A)) (x : A) → o ≡ joined (Some x) read → is_some o ≡ true
+    → (is_some read ≡ true) × (unwrap_or o [] ≡ x ∷ unwrap_or read [])
+some_left o None x e some = let none : o ≡ None = e in absurd cc
+some_left o (Some xs) x e some = (refl, ap (λ r. unwrap_or r []) e)
+
+pub first_of : {A : Type 0} (o read : Option (List A)) (x : A) → o ≡ joined (Some x) read → is_some o ≡ true
+    → unwrap_or o [] ≡ x ∷ unwrap_or read []
+first_of o read x e some = (some_left o read x e some).1
+
+pub more_of : {A : Type 0} (o read : Option (List A)) (x : A) → o ≡ joined (Some x) read → is_some o ≡ true → is_some read ≡ true
+more_of o read x e some = (some_left o read x e some).0
+
+pub all_of : {A : Type 0} (o : Option (List A)) → is_some o ≡ true → o ≡ Some (unwrap_or o [])
+all_of None some = absurd cc
+all_of (Some xs) some = refl
+
+pub none_of : {A : Type 0} (o : Option (List A)) → is_some o ≡ false → o ≡ None
+none_of None none = refl
+none_of (Some xs) none = absurd cc
+
+pub none_left : (key : List ℕ) (ws : List Word) → not_empty ws ≡ false → unwrap_or (comparisons key ws) [] ≡ []
+unfolding comparisons
+none_left key [] none = refl
+none_left key (w ∷ ws) none = absurd cc

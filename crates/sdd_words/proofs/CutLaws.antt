@@ -1,14 +1,13 @@
 -- The first line of a text.
-use Rattle.std.proofs.Common.{◌≡◌, ℕ, suc, ◌+◌, ◌<◌, List, [], ◌∷◌, ◌++◌, length, get_or, take, drop, Bool, true, false, eqb, refl, ap, sym, ◌∙◌, arith, add-one, drop-cons, length-drop, length-take}
-use Rattle.std.proofs.lemmas.Bool.{eqb-true}
-use Rattle.std.proofs.lemmas.List.{take-append-drop, get_or-take}
-use Rattle.sdd_words.specs.Lines.{cut_lines, Cuts}
+use Rattle.sdd_words.proofs.All.{Bool, Cuts, List, [], add-one, ap, arith, drop, drop-cons, eqb, eqb-true, false, get_or, get_or-take, length, length-drop, length-take, refl, suc, sym, take, take-append-drop, true, ℕ, ◌++◌, ◌+◌, ◌<◌, ◌∙◌, ◌∷◌, ◌≡◌}
+use Rattle.sdd_words.specs.Lines.{cut_lines}
 
 not_newline : (c : ℕ) (b : Bool) → eqb c 10 ≡ b → (c ≡ 10 → ⊥) → eqb c 10 ≡ false
 not_newline c true e other = absurd (other (eqb-true c 10 e))
 not_newline c false e other = e
 
-pub whole-first : (line rest : List ℕ) → ((k : ℕ) → k < length line → get_or line k 0 ≡ 10 → ⊥) → cut_lines (line ++ 10 ∷ rest) ≡ (line ∷ (cut_lines rest).0, (cut_lines rest).1)
+pub whole-first : (line rest : List ℕ) → ((k : ℕ) → k < length line → get_or line k 0 ≡ 10 → ⊥)
+    → cut_lines (line ++ 10 ∷ rest) ≡ (line ∷ (cut_lines rest).0, (cut_lines rest).1)
 unfolding cut_lines
 whole-first [] rest none = refl
 whole-first (c ∷ line) rest none = rw (not_newline c (eqb c 10) refl (none 0 (omega arith)), whole-first line rest (λ k lt. none (suc k) (omega arith))) refl
@@ -27,7 +26,8 @@ parts bytes i lt e = sym (take-append-drop i bytes) ∙ ap (λ (t : List ℕ). t
 none_in : (bytes : List ℕ) (i k : ℕ) → ((j : ℕ) → j < i → get_or bytes j 0 ≡ 10 → ⊥) → k < i → get_or (take i bytes) k 0 ≡ 10 → ⊥
 none_in bytes i k none below = rw (get_or-take i bytes k 0 below) (none k below)
 
-pub cuts_at : (bytes : List ℕ) (i : ℕ) → i < length bytes → get_or bytes i 0 ≡ 10 → ((k : ℕ) → k < i → get_or bytes k 0 ≡ 10 → ⊥) → Cuts bytes (take i bytes) (drop (i + 1) bytes)
+pub cuts_at : (bytes : List ℕ) (i : ℕ) → i < length bytes → get_or bytes i 0 ≡ 10 → ((k : ℕ) → k < i → get_or bytes k 0 ≡ 10 → ⊥)
+    → Cuts bytes (take i bytes) (drop (i + 1) bytes)
 cuts_at bytes i lt e none =
     let p = parts bytes i lt e in
     let len : length (take i bytes) ≡ i = omega (arith, length-take i bytes) in

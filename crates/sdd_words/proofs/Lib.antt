@@ -1,15 +1,20 @@
+mod All
 pub mod Assigning
 pub mod Comparing
 pub mod CutLaws
-pub mod Joining
+pub mod KeyCuts
 pub mod NameTexts
 pub mod Numbers
 pub mod Points
+pub mod Queries
 pub mod Runs
 pub mod Scans
 pub mod Spelled
 pub mod Splits
+pub mod TextCuts
+pub mod TextPoints
 pub mod Texts
 pub mod Utf8
+pub mod WordCuts
 pub mod Writes
 pub mod Written

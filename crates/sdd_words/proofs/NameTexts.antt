@@ -1,13 +1,5 @@
 -- Names are texts.
-use Rattle.std.proofs.Common.{◌≡◌, ℕ, ◌<◌, List, [], ◌∷◌, length, Some, None, cond, Bool, true, false, ◌&&◌, refl, arith}
-use Rattle.std.specs.Prelude.{nat_le, not}
-use Rattle.std.specs.Str.{IsUtf8, IsAscii}
-use Rattle.std.specs.List.{list_all}
-use Rattle.std.proofs.lemmas.Str.{IsUtf8-from_ascii}
-use Rattle.std.proofs.lemmas.Str.Ascii.{IsAscii-cons, IsAscii-nil}
-use Rattle.std.proofs.lemmas.Bool.Decides.{nat_tests}
-use Rattle.sdd_base.specs.Name.{is_name, is_name_byte, begins_with_letter, is_keyword}
-use Rattle.sdd_words.specs.Names.{name_in}
+use Rattle.sdd_words.proofs.All.{Bool, IsAscii, IsAscii-cons, IsAscii-nil, IsUtf8, IsUtf8-from_ascii, List, None, Some, [], arith, begins_with_letter, cond, false, is_keyword, is_name, is_name_byte, length, list_all, name_in, nat_le, nat_tests, not, refl, true, ℕ, ◌&&◌, ◌<◌, ◌∷◌, ◌≡◌}
 
 -- the bytes of names are ASCII
 name_byte_is_ascii : (b : ℕ) → is_name_byte b ≡ true → b < 128
@@ -18,10 +10,6 @@ pub both_hold : (a b : Bool) → (a && b) ≡ true → (a ≡ true) × (b ≡ tr
 both_hold true true e = (refl, refl)
 both_hold true false e = absurd cc
 both_hold false b e = absurd cc
-
--- and tests that hold each hold together
-pub both_are : (a b : Bool) → a ≡ true → b ≡ true → (a && b) ≡ true
-both_are a b p q = rw (p, q) refl
 
 name_bytes_are_ascii : (bs : List ℕ) → list_all is_name_byte bs ≡ true → IsAscii bs
 name_bytes_are_ascii [] e = IsAscii-nil

@@ -1,23 +1,13 @@
 -- A spelled number is parsed.
-use Rattle.std.proofs.Common.{◌≡◌, ◌^◌, ◌<◌, ℤ, pos, negsuc, Bool, true, false, cond, ◌&&◌, refl, subst, Some, None, List, ℕ, Result, Ok, Err, FitsSigned, w64, arith, sym, ◌∙◌, int_eq}
-use Rattle.std.specs.Int.Signed.{mag}
-use Rattle.std.specs.Str.{bytes_eq}
-use Rattle.std.proofs.lemmas.Slice.Eq.{bytes_eq-Decides}
-use Rattle.std.proofs.lemmas.Bool.{lt-ltb, ltb-true}
-use Rattle.std.specs.Cmp.{signed_Decides}
-use Rattle.sdd_words.specs.Number.{number_of, is_small}
-use Rattle.std.specs.Fmt.{signed_decimal}
-use Rattle.std.specs.Str.Parse.{ParsesSigned, signed_digits_value, IsNumeral, without_leading_sign}
-use Rattle.std.proofs.lemmas.Int.{ints}
-use Rattle.std.proofs.lemmas.Fmt.{parse-signed_decimal, IsAscii-signed}
-use Rattle.std.proofs.lemmas.Str.{IsUtf8-from_ascii}
-use Rattle.std.specs.Str.{IsUtf8}
+use Rattle.sdd_words.proofs.All.{Bool, Err, FitsSigned, IsAscii-signed, IsNumeral, IsUtf8, IsUtf8-from_ascii, List, None, Ok, ParsesSigned, Result, Some, arith, bytes_eq, bytes_eq-Decides, cond, false, int_eq, ints, is_small, lt-ltb, ltb-true, mag, negsuc, not_true, parse-signed_decimal, pos, refl, signed_Decides, signed_decimal, signed_digits_value, subst, sym, true, w64, without_leading_sign, ℕ, ℤ, ◌&&◌, ◌<◌, ◌^◌, ◌∙◌, ◌≡◌}
+use Rattle.sdd_words.specs.Number.{number_of}
 
 small : (z : ℤ) → FitsSigned w64 z → mag z < 2 ^ 63
 small (pos n) fits = omega (arith, ints)
 small (negsuc n) fits = omega (arith, ints)
 
-pub parses : {E : Type 0} (z : ℤ) (bs : List ℕ) (r : Result ℤ E) → FitsSigned w64 z → bs ≡ signed_decimal z → ParsesSigned w64 10 bs r → r ≡ Ok z
+pub parses : {E : Type 0} (z : ℤ) (bs : List ℕ) (r : Result ℤ E) → FitsSigned w64 z → bs ≡ signed_decimal z → ParsesSigned w64 10 bs r
+    → r ≡ Ok z
 parses z bs r fits e h = parse-signed_decimal w64 z bs r fits (small z fits) e h
 
 pub same_number : {E : Type 0} (r : Result ℤ E) (y z : ℤ) → r ≡ Ok y → r ≡ Ok z → y ≡ z
@@ -39,25 +29,25 @@ pub parsed_fits : {E : Type 0} (r : Result ℤ E) (bs : List ℕ) (z : ℤ) → 
 parsed_fits {E} (Ok x) bs z h e = subst (FitsSigned w64) (sym h.1 ∙ ok_is {E = E} x z e) h.0.1
 parsed_fits (Err x) bs z h e = absurd cc
 
-not_true : (b : Bool) → (b ≡ true → ⊥) → b ≡ false
-not_true true h = absurd (h refl)
-not_true false h = refl
-
-by_tests : (bs : List ℕ) (z : ℤ) (x y : Bool) → z ≡ signed_digits_value 10 bs → bytes_eq bs (signed_decimal z) ≡ x → is_small z ≡ y → number_of bs ≡ cond (x && y) (Some z) None
+by_tests : (bs : List ℕ) (z : ℤ) (x y : Bool) → z ≡ signed_digits_value 10 bs → bytes_eq bs (signed_decimal z) ≡ x → is_small z ≡ y
+    → number_of bs ≡ cond (x && y) (Some z) None
 unfolding number_of
 by_tests bs z x y e p q = rw (← e, p, q) refl
 
-pub number_of-spelled : (bs : List ℕ) (z : ℤ) → z ≡ signed_digits_value 10 bs → bs ≡ signed_decimal z → FitsSigned w64 z → number_of bs ≡ Some z
+pub number_of-spelled : (bs : List ℕ) (z : ℤ) → z ≡ signed_digits_value 10 bs → bs ≡ signed_decimal z → FitsSigned w64 z
+    → number_of bs ≡ Some z
 number_of-spelled bs z e h fits = by_tests bs z true true e ((bytes_eq-Decides bs (signed_decimal z)).1 h) (lt-ltb (mag z) (2 ^ 63) (small z fits))
 
 pub number_of-other : (bs : List ℕ) (z : ℤ) → z ≡ signed_digits_value 10 bs → (bs ≡ signed_decimal z → ⊥) → number_of bs ≡ None
-number_of-other bs z e other = by_tests bs z false (is_small z) e (not_true (bytes_eq bs (signed_decimal z)) (λ t. other ((bytes_eq-Decides bs (signed_decimal z)).0 t))) refl
+number_of-other bs z e other =
+    by_tests bs z false (is_small z) e (not_true (bytes_eq bs (signed_decimal z)) (λ t. other ((bytes_eq-Decides bs (signed_decimal z)).0 t))) refl
 
 fits_small : (z : ℤ) → mag z < 2 ^ 63 → FitsSigned w64 z
 fits_small (pos n) lt = omega (arith, ints)
 fits_small (negsuc n) lt = omega (arith, ints)
 
-by_cases : (bs : List ℕ) (x y : Bool) → bytes_eq bs (signed_decimal (signed_digits_value 10 bs)) ≡ x → is_small (signed_digits_value 10 bs) ≡ y → (x ≡ true → y ≡ true → ⊥) → number_of bs ≡ None
+by_cases : (bs : List ℕ) (x y : Bool) → bytes_eq bs (signed_decimal (signed_digits_value 10 bs)) ≡ x → is_small (signed_digits_value 10 bs) ≡ y
+    → (x ≡ true → y ≡ true → ⊥) → number_of bs ≡ None
 by_cases bs true true p q no-both = absurd (no-both refl refl)
 by_cases bs true false p q no-both = by_tests bs (signed_digits_value 10 bs) true false refl p q
 by_cases bs false y p q no-both = by_tests bs (signed_digits_value 10 bs) false y refl p q
@@ -65,7 +55,8 @@ by_cases bs false y p q no-both = by_tests bs (signed_digits_value 10 bs) false 
 pub number_of-unparsed : {E : Type 0} (r : Result ℤ E) (f : E) (bs : List ℕ) → ParsesSigned w64 10 bs r → r ≡ Err f → number_of bs ≡ None
 number_of-unparsed r f bs h e =
     let z : ℤ = signed_digits_value 10 bs in
-    by_cases bs (bytes_eq bs (signed_decimal z)) (is_small z) refl refl (λ p q. let k = parses z bs r (fits_small z (ltb-true (mag z) (2 ^ 63) q)) ((bytes_eq-Decides bs (signed_decimal z)).0 p) h in absurd cc)
+    by_cases bs (bytes_eq bs (signed_decimal z)) (is_small z) refl refl
+    (λ p q. let k = parses z bs r (fits_small z (ltb-true (mag z) (2 ^ 63) q)) ((bytes_eq-Decides bs (signed_decimal z)).0 p) h in absurd cc)
 
 pub number_of_other_bytes : (bs : List ℕ) → (IsUtf8 bs → ⊥) → number_of bs ≡ None
 number_of_other_bytes bs other =
@@ -79,7 +70,7 @@ found_if : (b : Bool) (y z : ℤ) → cond b (Some y) None ≡ Some z → (b ≡
 found_if true y z e = (refl, cc)
 found_if false y z e = absurd cc
 
-both : (x y : Bool) → (x && y) ≡ true → (x ≡ true) × (y ≡ true)
+pub both : (x y : Bool) → (x && y) ≡ true → (x ≡ true) × (y ≡ true)
 both true true e = (refl, refl)
 both true false e = absurd cc
 both false y e = absurd cc
@@ -101,14 +92,16 @@ not_not : (z : ℤ) → mag z < 2 ^ 63 → (IsParsed (signed_decimal z) → ⊥)
 not_not z lt none = let e = parse-signed_decimal {E = Unit {0}} w64 z (signed_decimal z) (Err tt) (fits_small z lt) lt refl none in absurd cc
 
 value_if : (z : ℤ) → mag z < 2 ^ 63 → IsParsed (signed_decimal z) → signed_digits_value 10 (signed_decimal z) ≡ z
-value_if z lt p = ok_is {E = Unit {0}} (signed_digits_value 10 (signed_decimal z)) z (parse-signed_decimal w64 z (signed_decimal z) (Ok (signed_digits_value 10 (signed_decimal z))) (fits_small z lt) lt refl (p, refl))
+value_if z lt p =
+    ok_is {E = Unit {0}} (signed_digits_value 10 (signed_decimal z)) z (parse-signed_decimal w64 z (signed_decimal z) (Ok (signed_digits_value 10 (signed_decimal z))) (fits_small z lt) lt refl (p, refl))
 
 stable : (b : Bool) (y z : ℤ) → int_eq y z ≡ b → ((y ≡ z → ⊥) → ⊥) → y ≡ z
 stable true y z e h = (signed_Decides y z).0 e
 stable false y z e h = absurd (h (λ p. let q : int_eq y z ≡ true = (signed_Decides y z).1 p in absurd cc))
 
 signed_value : (z : ℤ) → mag z < 2 ^ 63 → signed_digits_value 10 (signed_decimal z) ≡ z
-signed_value z lt = stable (int_eq (signed_digits_value 10 (signed_decimal z)) z) (signed_digits_value 10 (signed_decimal z)) z refl (λ other. not_not z lt (λ p. other (value_if z lt p)))
+signed_value z lt =
+    stable (int_eq (signed_digits_value 10 (signed_decimal z)) z) (signed_digits_value 10 (signed_decimal z)) z refl (λ other. not_not z lt (λ p. other (value_if z lt p)))
 
 -- what is spelled is read
 pub number_again : (z : ℤ) → mag z < 2 ^ 63 → number_of (signed_decimal z) ≡ Some z

@@ -1,10 +1,5 @@
 -- Runs of a text: what stands before its first quote or backslash.
-use Rattle.std.proofs.Common.{◌≡◌, ℕ, ◌<◌, ◌≤◌, true, false, not, List, length, get_or, sym, ap, arith}
-use Rattle.std.specs.List.{position_or_len}
-use Rattle.std.proofs.lemmas.Bool.{false_from_ne_true}
-use Rattle.std.proofs.lemmas.List.Sums.{prefix_len_is}
-use Rattle.memchr.specs.Find.{Nowhere, NoneBefore, Passes}
-use Rattle.sdd_words.specs.Words.{is_special}
+use Rattle.sdd_words.proofs.All.{List, NoneBefore, Nowhere, Passes, ap, arith, false, get_or, is_special, length, not, not_true as false_from_ne_true, position_or_len, prefix_len_is, sym, true, ℕ, ◌<◌, ◌≡◌, ◌≤◌}
 
 -- how many bytes stand before the first quote or backslash
 abbrev pub run_of : List ℕ → ℕ

@@ -1,13 +1,12 @@
 -- Lines joined by newlines are cut into these lines, and what is cut is joined again.
-use Rattle.std.proofs.Common.{◌≡◌, ◌≢◌, ℕ, List, [], ◌∷◌, ◌++◌, Bool, true, false, eqb, refl, ap, ◌∙◌}
-use Rattle.std.proofs.lemmas.Bool.{eqb-true}
-use Rattle.sdd_words.specs.Lines.{cut_lines, onto, spelled_lines, HasNoNewline, AreLines}
+use Rattle.sdd_words.proofs.All.{AreLines, Bool, HasNoNewline, List, [], ap, eqb, eqb-true, false, refl, spelled_lines, true, ℕ, ◌++◌, ◌∙◌, ◌∷◌, ◌≡◌, ◌≢◌}
+use Rattle.sdd_words.specs.Lines.{cut_lines, onto}
 
 not_newline : (c : ℕ) (b : Bool) → eqb c 10 ≡ b → c ≢ 10 → eqb c 10 ≡ false
 not_newline c true e other = absurd (other (eqb-true c 10 e))
 not_newline c false e other = e
 
-first_line : (line rest : List ℕ) → HasNoNewline line → cut_lines (line ++ 10 ∷ rest) ≡ (line ∷ (cut_lines rest).0, (cut_lines rest).1)
+pub first_line : (line rest : List ℕ) → HasNoNewline line → cut_lines (line ++ 10 ∷ rest) ≡ (line ∷ (cut_lines rest).0, (cut_lines rest).1)
 unfolding cut_lines
 first_line [] rest h = refl
 first_line (c ∷ line) rest h = rw (not_newline c (eqb c 10) refl h.0, first_line line rest h.1) refl

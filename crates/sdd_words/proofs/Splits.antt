@@ -1,14 +1,6 @@
 -- What is read is spelled, and what is spelled is read.
-use Rattle.std.proofs.Common.{◌≡◌, ◌≢◌, ℕ, List, [], ◌∷◌, ◌++◌, Option, Some, None, Bool, true, false, eqb, refl, sym, ap, ◌∙◌, append_assoc, append-nil}
-use Rattle.std.proofs.lemmas.Bool.{eqb-true, eq-eqb}
-use Rattle.sdd_words.specs.declared.word.Word.{Word}
-use Rattle.sdd_words.specs.declared.word.Word.TheVariants.{Plain, Quoted}
-use Rattle.sdd_words.specs.declared.split.Mode.{Mode}
-use Rattle.sdd_words.specs.declared.split.Mode.TheVariants.{Start, InPlain, InText, Escape, Closed}
-use Rattle.sdd_words.specs.declared.split.Move.{Move}
-use Rattle.sdd_words.specs.declared.split.Move.TheVariants.{Goes, Adds, Ends, Refuses}
-use Rattle.sdd_words.specs.Words.{escaped_byte, escaped, word_bytes, more_bytes, line_bytes, HasNoSpace, IsPlain, IsWord, AllWords, AreWords}
-use Rattle.sdd_words.specs.Scan.{scan, moved, move_of, onto, word_of, words_at_end}
+use Rattle.sdd_words.proofs.All.{Adds, AllWords, AreWords, Bool, Closed, Ends, Escape, Goes, HasNoSpace, InPlain, InText, IsPlain, IsWord, List, Mode, Move, None, Option, Plain, Quoted, Refuses, Some, Start, Word, [], ap, append-nil, append_assoc, eq-eqb, eqb, eqb-true, escaped, escaped_byte, false, line_bytes, more_bytes, move_of, moved, onto, refl, sym, true, word_bytes, word_of, words_at_end, ℕ, ◌++◌, ◌∙◌, ◌∷◌, ◌≡◌, ◌≢◌}
+use Rattle.sdd_words.specs.Scan.{scan}
 
 not_byte : (c k : ℕ) (b : Bool) → eqb c k ≡ b → c ≢ k → eqb c k ≡ false
 not_byte c k true e other = absurd (other (eqb-true c k e))
@@ -24,7 +16,8 @@ plain_again (c ∷ cs) text rest h =
     let ih : scan InPlain (text ++ c ∷ []) (cs ++ rest) ≡ scan InPlain ((text ++ c ∷ []) ++ cs) rest = plain_again cs (text ++ c ∷ []) rest h.1 in
     rw n (ih ∙ ap (λ (t : List ℕ). scan InPlain t rest) (append_assoc text (c ∷ []) cs))
 
-text_step : (c : ℕ) (cs text rest : List ℕ) (x y : Bool) → eqb c 34 ≡ x → eqb c 92 ≡ y → scan InText (text ++ c ∷ []) (escaped cs ++ rest) ≡ scan InText ((text ++ c ∷ []) ++ cs) rest
+text_step : (c : ℕ) (cs text rest : List ℕ) (x y : Bool) → eqb c 34 ≡ x → eqb c 92 ≡ y
+    → scan InText (text ++ c ∷ []) (escaped cs ++ rest) ≡ scan InText ((text ++ c ∷ []) ++ cs) rest
     → scan InText text ((escaped_byte c ++ escaped cs) ++ rest) ≡ scan InText ((text ++ c ∷ []) ++ cs) rest
 unfolding scan
 text_step c cs text rest true y p q ih = rw (p, p) ih
@@ -35,7 +28,8 @@ text_again : (bytes text rest : List ℕ) → scan InText text (escaped bytes ++
 unfolding scan
 text_again [] text rest = rw (append-nil text) refl
 text_again (c ∷ cs) text rest =
-    text_step c cs text rest (eqb c 34) (eqb c 92) refl refl (text_again cs (text ++ c ∷ []) rest) ∙ ap (λ (t : List ℕ). scan InText t rest) (append_assoc text (c ∷ []) cs)
+    text_step c cs text rest (eqb c 34) (eqb c 92) refl refl (text_again cs (text ++ c ∷ []) rest)
+    ∙ ap (λ (t : List ℕ). scan InText t rest) (append_assoc text (c ∷ []) cs)
 
 text_closed : (text rest : List ℕ) → scan Start [] (word_bytes (Quoted text) ++ rest) ≡ scan Closed text rest
 unfolding scan
@@ -102,7 +96,8 @@ pub record Spells (bytes : List ℕ) (ws : List Word) : Type 0 where
 
 escaped-snoc : (text : List ℕ) (c : ℕ) → escaped (text ++ c ∷ []) ≡ escaped text ++ escaped_byte c
 escaped-snoc [] c = append-nil (escaped_byte c)
-escaped-snoc (x ∷ text) c = ap (λ (t : List ℕ). escaped_byte x ++ t) (escaped-snoc text c) ∙ sym (append_assoc (escaped_byte x) (escaped text) (escaped_byte c))
+escaped-snoc (x ∷ text) c =
+    ap (λ (t : List ℕ). escaped_byte x ++ t) (escaped-snoc text c) ∙ sym (append_assoc (escaped_byte x) (escaped text) (escaped_byte c))
 
 no_space-snoc : (text : List ℕ) (c : ℕ) → HasNoSpace text → c ≢ 32 → HasNoSpace (text ++ c ∷ [])
 no_space-snoc [] c h n = (n, tt)
@@ -117,8 +112,10 @@ record Moves (mode to : Mode) (text next : List ℕ) (c : ℕ) : Type 0 where
   same : before mode text ++ c ∷ [] ≡ before to next
   keeps : Keeps to next
 
-goes_start : (to : Mode) (c : ℕ) (text : List ℕ) (x y : Bool) → eqb c 34 ≡ x → eqb c 32 ≡ y → text ≡ [] → Goes to ≡ move_of Start c → Moves Start to text text c
-goes_start to c text true y p q k e = let h : Goes to ≡ Goes InText = rw p at e in let t : to ≡ InText = cc in rw (t, k, eqb-true c 34 p) (record { same = refl; keeps = tt })
+goes_start : (to : Mode) (c : ℕ) (text : List ℕ) (x y : Bool) → eqb c 34 ≡ x → eqb c 32 ≡ y → text ≡ [] → Goes to ≡ move_of Start c
+    → Moves Start to text text c
+goes_start to c text true y p q k e =
+    let h : Goes to ≡ Goes InText = rw p at e in let t : to ≡ InText = cc in rw (t, k, eqb-true c 34 p) (record { same = refl; keeps = tt })
 goes_start to c text false true p q k e = let h : Goes to ≡ Refuses = rw (p, q) at e in absurd cc
 goes_start to c text false false p q k e = let h : Goes to ≡ Adds InPlain = rw (p, q) at e in absurd cc
 
@@ -126,9 +123,12 @@ goes_plain : (to : Mode) (c : ℕ) (text : List ℕ) (x : Bool) → eqb c 32 ≡
 goes_plain to c text true p e = let h : Goes to ≡ Ends = rw p at e in absurd cc
 goes_plain to c text false p e = let h : Goes to ≡ Adds InPlain = rw p at e in absurd cc
 
-goes_text : (to : Mode) (c : ℕ) (text : List ℕ) (x y : Bool) → eqb c 34 ≡ x → eqb c 92 ≡ y → Goes to ≡ move_of InText c → Moves InText to text text c
-goes_text to c text true y p q e = let h : Goes to ≡ Goes Closed = rw p at e in let t : to ≡ Closed = cc in rw (t, eqb-true c 34 p) (record { same = refl; keeps = tt })
-goes_text to c text false true p q e = let h : Goes to ≡ Goes Escape = rw (p, q) at e in let t : to ≡ Escape = cc in rw (t, eqb-true c 92 q) (record { same = refl; keeps = tt })
+goes_text : (to : Mode) (c : ℕ) (text : List ℕ) (x y : Bool) → eqb c 34 ≡ x → eqb c 92 ≡ y → Goes to ≡ move_of InText c
+    → Moves InText to text text c
+goes_text to c text true y p q e =
+    let h : Goes to ≡ Goes Closed = rw p at e in let t : to ≡ Closed = cc in rw (t, eqb-true c 34 p) (record { same = refl; keeps = tt })
+goes_text to c text false true p q e =
+    let h : Goes to ≡ Goes Escape = rw (p, q) at e in let t : to ≡ Escape = cc in rw (t, eqb-true c 92 q) (record { same = refl; keeps = tt })
 goes_text to c text false false p q e = let h : Goes to ≡ Adds InText = rw (p, q) at e in absurd cc
 
 goes_escape : (to : Mode) (c : ℕ) (x y : Bool) → eqb c 34 ≡ x → eqb c 92 ≡ y → Goes to ≡ move_of Escape c → ⊥
@@ -150,16 +150,21 @@ goes_as Closed to c text k e = absurd (goes_closed to c (eqb c 32) refl e)
 differs : (c k : ℕ) → eqb c k ≡ false → c ≢ k
 differs c k p e = let h : eqb c k ≡ true = eq-eqb c k e in absurd cc
 
-adds_start : (to : Mode) (c : ℕ) (text : List ℕ) (x y : Bool) → eqb c 34 ≡ x → eqb c 32 ≡ y → text ≡ [] → Adds to ≡ move_of Start c → Moves Start to text (text ++ c ∷ []) c
+adds_start : (to : Mode) (c : ℕ) (text : List ℕ) (x y : Bool) → eqb c 34 ≡ x → eqb c 32 ≡ y → text ≡ [] → Adds to ≡ move_of Start c
+    → Moves Start to text (text ++ c ∷ []) c
 adds_start to c text true y p q k e = let h : Adds to ≡ Goes InText = rw p at e in absurd cc
 adds_start to c text false true p q k e = let h : Adds to ≡ Refuses = rw (p, q) at e in absurd cc
-adds_start to c text false false p q k e = let h : Adds to ≡ Adds InPlain = rw (p, q) at e in let t : to ≡ InPlain = cc in rw (t, k) (record { same = refl; keeps = (differs c 34 p, differs c 32 q, tt) })
+adds_start to c text false false p q k e =
+    let h : Adds to ≡ Adds InPlain = rw (p, q) at e in let t : to ≡ InPlain = cc in rw (t, k) (record { same = refl; keeps = (differs c 34 p, differs c 32 q, tt) })
 
-adds_plain : (to : Mode) (c : ℕ) (text : List ℕ) (x : Bool) → eqb c 32 ≡ x → IsPlain text → Adds to ≡ move_of InPlain c → Moves InPlain to text (text ++ c ∷ []) c
+adds_plain : (to : Mode) (c : ℕ) (text : List ℕ) (x : Bool) → eqb c 32 ≡ x → IsPlain text → Adds to ≡ move_of InPlain c
+    → Moves InPlain to text (text ++ c ∷ []) c
 adds_plain to c text true p k e = let h : Adds to ≡ Ends = rw p at e in absurd cc
-adds_plain to c text false p k e = let h : Adds to ≡ Adds InPlain = rw p at e in let t : to ≡ InPlain = cc in rw t (record { same = refl; keeps = plain-snoc text c k (differs c 32 p) })
+adds_plain to c text false p k e =
+    let h : Adds to ≡ Adds InPlain = rw p at e in let t : to ≡ InPlain = cc in rw t (record { same = refl; keeps = plain-snoc text c k (differs c 32 p) })
 
-adds_text : (to : Mode) (c : ℕ) (text : List ℕ) (x y : Bool) → eqb c 34 ≡ x → eqb c 92 ≡ y → Adds to ≡ move_of InText c → Moves InText to text (text ++ c ∷ []) c
+adds_text : (to : Mode) (c : ℕ) (text : List ℕ) (x y : Bool) → eqb c 34 ≡ x → eqb c 92 ≡ y → Adds to ≡ move_of InText c
+    → Moves InText to text (text ++ c ∷ []) c
 adds_text to c text true y p q e = let h : Adds to ≡ Goes Closed = rw p at e in absurd cc
 adds_text to c text false true p q e = let h : Adds to ≡ Goes Escape = rw (p, q) at e in absurd cc
 adds_text to c text false false p q e =
@@ -168,7 +173,8 @@ adds_text to c text false false p q e =
     let one : escaped_byte c ≡ c ∷ [] = rw (p, q) refl in
     rw t (record { same = ap (λ (l : List ℕ). 34 ∷ l) (sym (escaped-snoc text c ∙ ap (λ (l : List ℕ). escaped text ++ l) one)); keeps = tt })
 
-adds_escape : (to : Mode) (c : ℕ) (text : List ℕ) (x y : Bool) → eqb c 34 ≡ x → eqb c 92 ≡ y → Adds to ≡ move_of Escape c → Moves Escape to text (text ++ c ∷ []) c
+adds_escape : (to : Mode) (c : ℕ) (text : List ℕ) (x y : Bool) → eqb c 34 ≡ x → eqb c 92 ≡ y → Adds to ≡ move_of Escape c
+    → Moves Escape to text (text ++ c ∷ []) c
 adds_escape to c text false false p q e = let h : Adds to ≡ Refuses = rw (p, q) at e in absurd cc
 adds_escape to c text true y p q e =
     let h : Adds to ≡ Adds InText = rw p at e in
@@ -201,7 +207,8 @@ record EndsWord (mode : Mode) (text : List ℕ) (c : ℕ) : Type 0 where
   made : IsMade mode text
   space : c ≡ 32
 
-ends_as : (mode : Mode) (c : ℕ) (text : List ℕ) (x y z : Bool) → eqb c 34 ≡ x → eqb c 92 ≡ y → eqb c 32 ≡ z → Keeps mode text → Ends ≡ move_of mode c → EndsWord mode text c
+ends_as : (mode : Mode) (c : ℕ) (text : List ℕ) (x y z : Bool) → eqb c 34 ≡ x → eqb c 92 ≡ y → eqb c 32 ≡ z → Keeps mode text
+    → Ends ≡ move_of mode c → EndsWord mode text c
 ends_as Start c text true y z p q r k e = let h : Ends ≡ Goes InText = rw p at e in absurd cc
 ends_as Start c text false y true p q r k e = let h : Ends ≡ Refuses = rw (p, r) at e in absurd cc
 ends_as Start c text false y false p q r k e = let h : Ends ≡ Adds InPlain = rw (p, r) at e in absurd cc
@@ -227,9 +234,11 @@ at_end Start text ws k e = absurd cc
 at_end InPlain text ws k e = let p = same_words (Plain text ∷ []) ws e in rw (← p) (record { words = (k, tt); spelled = sym (append-nil text) })
 at_end InText text ws k e = absurd cc
 at_end Escape text ws k e = absurd cc
-at_end Closed text ws k e = let p = same_words (Quoted text ∷ []) ws e in rw (← p) (record { words = (tt, tt); spelled = sym (append-nil (word_bytes (Quoted text))) })
+at_end Closed text ws k e =
+    let p = same_words (Quoted text ∷ []) ws e in rw (← p) (record { words = (tt, tt); spelled = sym (append-nil (word_bytes (Quoted text))) })
 
-onto_is : (w : Word) (read : Option (List Word)) (ws : List Word) → onto (w ∷ []) read ≡ Some ws → (vs : List Word) × (read ≡ Some vs) × (ws ≡ w ∷ vs)
+onto_is : (w : Word) (read : Option (List Word)) (ws : List Word) → onto (w ∷ []) read ≡ Some ws
+    → (vs : List Word) × (read ≡ Some vs) × (ws ≡ w ∷ vs)
 onto_is w None ws e = absurd cc
 onto_is w (Some vs) ws e = (vs, refl, sym (same_words (w ∷ vs) ws e))
 
@@ -237,23 +246,27 @@ joins : (w : Word) (cs : List ℕ) (vs : List Word) → IsWord w → Spells cs v
 joins w cs [] h s = absurd s.words
 joins w cs (v ∷ vs) h s = record { words = (h, s.words); spelled = ap (λ (l : List ℕ). word_bytes w ++ 32 ∷ l) s.spelled }
 
-steps_on : (mode to : Mode) (text next : List ℕ) (c : ℕ) (cs : List ℕ) (ws : List Word) → Moves mode to text next c → Spells (before to next ++ cs) ws → Spells (before mode text ++ c ∷ cs) ws
+steps_on : (mode to : Mode) (text next : List ℕ) (c : ℕ) (cs : List ℕ) (ws : List Word) → Moves mode to text next c → Spells (before to next ++ cs) ws
+    → Spells (before mode text ++ c ∷ cs) ws
 steps_on mode to text next c cs ws m s =
-    let e : before mode text ++ c ∷ cs ≡ before to next ++ cs = sym (append_assoc (before mode text) (c ∷ []) cs) ∙ ap (λ (l : List ℕ). l ++ cs) m.same in
+    let e : before mode text ++ c ∷ cs ≡ before to next ++ cs = sym (append_assoc (before mode text) (c ∷ []) cs)
+    ∙ ap (λ (l : List ℕ). l ++ cs) m.same in
     rw e s
 
 takes_one : (m : Move) (mode : Mode) (text : List ℕ) (c : ℕ) (cs : List ℕ) (ws : List Word) → m ≡ move_of mode c → Keeps mode text
     → ((to : Mode) (t : List ℕ) (vs : List Word) → Keeps to t → scan to t cs ≡ Some vs → Spells (before to t ++ cs) vs)
     → moved m mode text c (λ m t. scan m t cs) ≡ Some ws → Spells (before mode text ++ c ∷ cs) ws
 takes_one (Goes to) mode text c cs ws is k ih e = let m = goes_as mode to c text k is in steps_on mode to text text c cs ws m (ih to text ws m.keeps e)
-takes_one (Adds to) mode text c cs ws is k ih e = let m = adds_as mode to c text k is in steps_on mode to text (text ++ c ∷ []) c cs ws m (ih to (text ++ c ∷ []) ws m.keeps e)
+takes_one (Adds to) mode text c cs ws is k ih e =
+    let m = adds_as mode to c text k is in steps_on mode to text (text ++ c ∷ []) c cs ws m (ih to (text ++ c ∷ []) ws m.keeps e)
 takes_one Ends mode text c cs ws is k ih e =
     let m = ends_as mode c text (eqb c 34) (eqb c 92) (eqb c 32) refl refl refl k is in
     let p = onto_is (word_of mode text) (scan Start [] cs) ws e in
     rw (m.made.same, m.space, p.2) (joins (word_of mode text) cs p.0 m.made.is_word (ih Start [] p.0 refl p.1))
 takes_one Refuses mode text c cs ws is k ih e = absurd cc
 
-takes : (mode : Mode) (text bytes : List ℕ) (ws : List Word) → Keeps mode text → scan mode text bytes ≡ Some ws → Spells (before mode text ++ bytes) ws
+takes : (mode : Mode) (text bytes : List ℕ) (ws : List Word) → Keeps mode text → scan mode text bytes ≡ Some ws
+    → Spells (before mode text ++ bytes) ws
 unfolding scan
 takes mode text [] ws k e = rw (append-nil (before mode text)) (at_end mode text ws k e)
 takes mode text (c ∷ cs) ws k e = takes_one (move_of mode c) mode text c cs ws refl k (λ to t vs h g. takes to t cs vs h g) e

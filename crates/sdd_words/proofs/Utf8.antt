@@ -1,15 +1,7 @@
 -- The spelling of a text is UTF-8, and that of a number is a plain word.
-use Rattle.std.proofs.Common.{◌≡◌, ℕ, ℤ, pos, negsuc, zero, suc, ◌^◌, ◌<◌, List, [], ◌∷◌, ◌++◌, length, get_or, Bool, true, false, ◌&&◌, eqb, refl, sym, ap, ◌∙◌, append_assoc, append-nil, arith, inl, inr}
-use Rattle.std.specs.Str.{IsUtf8, IsAscii, all_scalars, encode_utf8_all}
-use Rattle.std.specs.Int.Signed.{mag}
-use Rattle.std.specs.Fmt.{signed_decimal, decimal}
-use Rattle.std.specs.Str.Parse.{AllDigits}
-use Rattle.std.proofs.lemmas.Str.Parse.{digit_from_value}
-use Rattle.std.proofs.lemmas.Fmt.{decimal_is_IsNumeral}
-use Rattle.std.proofs.lemmas.Bool.{eqb-true, cases_lt}
-use Rattle.std.proofs.lemmas.Str.{encode_ascii, encodes-append, encodes-IsAscii, inside_one}
+use Rattle.sdd_words.proofs.All.{AllDigits, Bool, HasNoSpace, IsAscii, IsPlain, IsUtf8, List, [], all_scalars, ap, append-nil, append_assoc, arith, cases_lt, decimal, decimal_is_IsNumeral, digit_from_value, encode_ascii, encode_utf8_all, encodes-IsAscii, encodes-append, eqb, eqb-true, escaped, escaped_byte, false, get_or, inl, inr, inside_one, length, mag, negsuc, pos, refl, signed_decimal, suc, sym, true, zero, ℕ, ℤ, ◌++◌, ◌<◌, ◌^◌, ◌∙◌, ◌∷◌, ◌≡◌}
 use lib.Utf8.{encode, scalar}
-use Rattle.sdd_words.specs.Words.{escaped_byte, escaped, HasNoSpace, IsPlain}
+use Rattle.sdd_words.proofs.Numbers.{both}
 
 high_byte : (b : ℕ) (x y : Bool) → eqb b 34 ≡ x → eqb b 92 ≡ y → (b < 128 → ⊥) → escaped_byte b ≡ b ∷ []
 high_byte b true y p q h = let e = eqb-true b 34 p in absurd (h (omega arith))
@@ -46,7 +38,8 @@ char_step c =
     elim (cases_lt c 128) [
       | inl lt ↦ rw (encode_ascii c lt) (append-nil (escaped_byte c) ∙ sym (low_ascii c (eqb c 34) (eqb c 92) refl refl lt))
       | inr le ↦
-          let same : escaped (encode c) ≡ encode c = high_same (encode c) (λ k lt low. let e : c ≡ get_or (encode c) k 0 = inside_one c [] (encode c) k (sym (append-nil (encode c))) lt low in omega arith) in
+          let same : escaped (encode c) ≡ encode c = high_same (encode c)
+          (λ k lt low. let e : c ≡ get_or (encode c) k 0 = inside_one c [] (encode c) k (sym (append-nil (encode c))) lt low in omega arith) in
           let byte : escaped_byte c ≡ c ∷ [] = high_byte c (eqb c 34) (eqb c 92) refl refl (λ lt. omega arith) in
           same ∙ sym (append-nil (encode c)) ∙ ap encode_utf8_all (sym byte)
     ]
@@ -55,14 +48,11 @@ char_step c =
 chars_escape : (cs : List ℕ) → escaped (encode_utf8_all cs) ≡ encode_utf8_all (escaped cs)
 chars_escape [] = refl
 chars_escape (c ∷ cs) =
-    escaped-append (encode c) (encode_utf8_all cs) ∙ ap (λ (l : List ℕ). l ++ escaped (encode_utf8_all cs)) (char_step c) ∙ ap (λ (l : List ℕ). encode_utf8_all (escaped_byte c) ++ l) (chars_escape cs) ∙ sym (encodes-append (escaped_byte c) (escaped cs))
+    escaped-append (encode c) (encode_utf8_all cs) ∙ ap (λ (l : List ℕ). l ++ escaped (encode_utf8_all cs)) (char_step c)
+    ∙ ap (λ (l : List ℕ). encode_utf8_all (escaped_byte c) ++ l) (chars_escape cs) ∙ sym (encodes-append (escaped_byte c) (escaped cs))
 
-both : (x y : Bool) → (x && y) ≡ true → (x ≡ true) × (y ≡ true)
-both true true e = (refl, refl)
-both true false e = absurd cc
-both false y e = absurd cc
-
-scalar_step : (c : ℕ) (cs : List ℕ) (x y : Bool) → eqb c 34 ≡ x → eqb c 92 ≡ y → scalar c ≡ true → all_scalars (escaped cs) ≡ true → all_scalars (escaped_byte c ++ escaped cs) ≡ true
+scalar_step : (c : ℕ) (cs : List ℕ) (x y : Bool) → eqb c 34 ≡ x → eqb c 92 ≡ y → scalar c ≡ true → all_scalars (escaped cs) ≡ true
+    → all_scalars (escaped_byte c ++ escaped cs) ≡ true
 scalar_step c cs true y p q h k = rw (p, h, k) refl
 scalar_step c cs false true p q h k = rw (p, q, h, k) refl
 scalar_step c cs false false p q h k = rw (p, q, h, k) refl
@@ -80,8 +70,10 @@ digits_plain (c ∷ ds) h = let r = digit_from_value c (omega (arith, h.0)) in (
 
 numeral_plain : (ds : List ℕ) → 0 < length ds → AllDigits 10 ds → IsPlain ds
 numeral_plain [] some h = absurd (omega arith)
-numeral_plain (c ∷ ds) some h = let r = digit_from_value c (omega (arith, h.0)) in ((λ e. omega (arith, r.0)), (λ e. omega (arith, r.0)), digits_plain ds h.1)
+numeral_plain (c ∷ ds) some h =
+    let r = digit_from_value c (omega (arith, h.0)) in ((λ e. omega (arith, r.0)), (λ e. omega (arith, r.0)), digits_plain ds h.1)
 
 pub number_plain : (z : ℤ) → mag z < 2 ^ 63 → IsPlain (signed_decimal z)
 number_plain (pos n) lt = let k = decimal_is_IsNumeral n (omega arith) in numeral_plain (decimal n) k.0.0 k.0.1
-number_plain (negsuc n) lt = let k = decimal_is_IsNumeral (suc n) (omega arith) in ((λ e. omega arith), (λ e. omega arith), digits_plain (decimal (suc n)) k.0.1)
+number_plain (negsuc n) lt =
+    let k = decimal_is_IsNumeral (suc n) (omega arith) in ((λ e. omega arith), (λ e. omega arith), digits_plain (decimal (suc n)) k.0.1)

@@ -1,10 +1,6 @@
 -- What was written, one run more.
-use Rattle.std.proofs.Common.{◌≡◌, ℕ, suc, ◌+◌, ◌-◌, not, List, [], ◌∷◌, ◌++◌, length, take, drop, length-drop, inl, inr, refl, sym, ap, ◌∙◌, append_assoc, arith}
-use Rattle.std.specs.List.{position_or_len}
-use Rattle.std.proofs.lemmas.Bool.{cases_Bool, cond-false, cond-true}
-use Rattle.std.proofs.lemmas.List.{take_all}
+use Rattle.sdd_words.proofs.All.{List, [], ap, append_assoc, arith, cases_Bool, cond-false, cond-true, drop, escaped, escaped_byte, inl, inr, is_special, length, length-drop, not, position_or_len, refl, suc, sym, take, take_all, ℕ, ◌++◌, ◌+◌, ◌-◌, ◌∙◌, ◌∷◌, ◌≡◌}
 use Rattle.sdd_words.proofs.Runs.{run_of}
-use Rattle.sdd_words.specs.Words.{is_special, escaped, escaped_byte}
 
 -- a run is spelled as it is
 run_escaped : (text : List ℕ) → escaped text ≡ take (run_of text) text ++ escaped (drop (run_of text) text)

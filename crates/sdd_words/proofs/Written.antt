@@ -1,18 +1,17 @@
 -- What was written, one item more, and how written words are put together.
-use Rattle.std.proofs.Common.{◌≡◌, ℕ, ◌+◌, ◌<◌, ◌≤◌, List, [], ◌∷◌, ◌++◌, length, map, flat_map, get_or, drop, refl, sym, ap, ◌∙◌, append_assoc, append-nil, drop-cons, add-one}
-use Rattle.std.proofs.lemmas.List.{drop_all}
-use Rattle.sdd_words.specs.declared.word.Word.{Word}
-use Rattle.sdd_words.specs.Words.{more_bytes, spaced}
+use Rattle.sdd_words.proofs.All.{List, Word, [], add-one, ap, append-nil, append_assoc, drop, drop-cons, drop_all, flat_map, get_or, length, map, more_bytes, refl, spaced, sym, ℕ, ◌++◌, ◌+◌, ◌<◌, ◌∙◌, ◌∷◌, ◌≡◌, ◌≤◌}
 
 -- what f makes of the items before, and what it makes of those that are left
-pub item_written : {A : Type 0} (f : A → List ℕ) (xs : List A) (x : A) (out total : List ℕ) (i : ℕ) → i < length xs → x ≡ get_or xs i x → out ++ flat_map f (drop i xs) ≡ total
+pub item_written : {A : Type 0} (f : A → List ℕ) (xs : List A) (x : A) (out total : List ℕ) (i : ℕ) → i < length xs → x ≡ get_or xs i x
+    → out ++ flat_map f (drop i xs) ≡ total
     → (out ++ f x) ++ flat_map f (drop (i + 1) xs) ≡ total
 item_written f xs x out total i lt is e =
     let d : drop i xs ≡ x ∷ drop (i + 1) xs = rw (drop-cons xs i x, ← is, add-one) refl in
     let g : flat_map f (drop i xs) ≡ f x ++ flat_map f (drop (i + 1) xs) = rw d refl in
     append_assoc out (f x) (flat_map f (drop (i + 1) xs)) ∙ ap (λ (l : List ℕ). out ++ l) (sym g) ∙ e
 
-pub items_written : {A : Type 0} (f : A → List ℕ) (xs : List A) (out total : List ℕ) (i : ℕ) → length xs ≤ i → out ++ flat_map f (drop i xs) ≡ total → out ≡ total
+pub items_written : {A : Type 0} (f : A → List ℕ) (xs : List A) (out total : List ℕ) (i : ℕ) → length xs ≤ i
+    → out ++ flat_map f (drop i xs) ≡ total → out ≡ total
 items_written f xs out total i past e = sym (append-nil out) ∙ ap (λ l. out ++ flat_map f l) (sym (drop_all i xs past)) ∙ e
 
 pub flat_map-append : {A : Type 0} (f : A → List ℕ) (xs ys : List A) → flat_map f (xs ++ ys) ≡ flat_map f xs ++ flat_map f ys
@@ -23,7 +22,8 @@ pub flat_map-map : {A B : Type 0} (f : B → List ℕ) (g : A → B) (xs : List 
 flat_map-map f g [] = refl
 flat_map-map f g (x ∷ xs) = ap (λ (l : List ℕ). f (g x) ++ l) (flat_map-map f g xs)
 
-pub flat_map-flat_map : {A B : Type 0} (f : B → List ℕ) (g : A → List B) (xs : List A) → flat_map f (flat_map g xs) ≡ flat_map (λ x. flat_map f (g x)) xs
+pub flat_map-flat_map : {A B : Type 0} (f : B → List ℕ) (g : A → List B) (xs : List A)
+    → flat_map f (flat_map g xs) ≡ flat_map (λ x. flat_map f (g x)) xs
 flat_map-flat_map f g [] = refl
 flat_map-flat_map f g (x ∷ xs) = flat_map-append f (g x) (flat_map g xs) ∙ ap (λ (l : List ℕ). flat_map f (g x) ++ l) (flat_map-flat_map f g xs)
 
@@ -34,4 +34,5 @@ words_spaced f (x ∷ xs) = ap (λ (l : List ℕ). spaced (f x) ++ l) (words_spa
 
 pub more_bytes-append : (ws vs : List Word) → more_bytes (ws ++ vs) ≡ more_bytes ws ++ more_bytes vs
 more_bytes-append [] vs = refl
-more_bytes-append (w ∷ ws) vs = ap (λ (l : List ℕ). spaced w ++ l) (more_bytes-append ws vs) ∙ sym (append_assoc (spaced w) (more_bytes ws) (more_bytes vs))
+more_bytes-append (w ∷ ws) vs =
+    ap (λ (l : List ℕ). spaced w ++ l) (more_bytes-append ws vs) ∙ sym (append_assoc (spaced w) (more_bytes ws) (more_bytes vs))

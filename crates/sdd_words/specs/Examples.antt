@@ -4,8 +4,7 @@ use Rattle.sdd_words.specs.Keywords.{looks_like_column, spells_column}
 use Rattle.sdd_words.specs.Lines.{cut_lines}
 use Rattle.sdd_words.specs.Scan.{scan, words_of}
 use Rattle.sdd_words.specs.Whole.{is_whole}
-use Rattle.sdd_words.specs.Words.{line_bytes}
-use Rattle.sdd_words.specs.declared.word.Word.TheVariants.{Plain, Quoted}
+use Rattle.sdd_words.specs.Words.{line_bytes, Plain, Quoted}
 
 -- a word and a text with a quote in it
 pub two_words : words_of (codes "row \"a\\\"b\"") ≡ Some (Plain (codes "row") ∷ Quoted (codes "a\"b") ∷ [])

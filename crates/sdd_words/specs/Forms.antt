@@ -1,9 +1,9 @@
 -- The forms that words take after one another: lists up to a keyword, conditions, assignments.
 use Rattle.std.specs.Prelude.{ℕ, List, [], ◌∷◌, codes, ◌+◌, ◌&&◌, take, drop, Bool, true, false, Option, Some, None, if◌then◌else◌}
-use Rattle.std.specs.Option.{option_map}
+use Rattle.std.specs.Option.{option_map, unwrap_or}
 use Rattle.std.specs.List.{position, position_or_len, before_first, list_all}
 use Rattle.sdd_words.specs.Keywords.{is_key, op_of, adds_of, is_free, looks_like_column}
-use Rattle.sdd_words.specs.declared.word.Word.{Word}
+use Rattle.sdd_words.specs.Words.{Word}
 use Rattle.sdd_words.specs.declared.form.Comparison.{Comparison}
 use Rattle.sdd_words.specs.declared.form.Setting.{Setting}
 
@@ -64,3 +64,16 @@ look_like_columns ws = not_empty ws && list_all looks_like_column ws
 -- words that can stand for names, at least one
 abbrev pub are_free : List Word → Bool
 are_free ws = not_empty ws && list_all is_free ws
+
+-- what stands before a condition: `where` before the first one, else `and`
+abbrev pub comparison_key : Bool → List ℕ
+comparison_key true = codes "where"
+comparison_key false = codes "and"
+
+-- the conditions of words, none where they aren't conditions
+abbrev pub comparisons_left : List ℕ → List Word → List Comparison
+comparisons_left key ws = unwrap_or (comparisons key ws) []
+
+-- the assignments of words, none where they aren't assignments
+abbrev pub settings_left : List Word → List Setting
+settings_left ws = unwrap_or (settings ws) []

@@ -6,8 +6,7 @@ use Rattle.sdd_base.specs.Name.{is_keyword, is_name}
 use Rattle.sdd_base.specs.declared.restriction.Op.{Op}
 use Rattle.sdd_base.specs.declared.restriction.Op.TheVariants as ops
 use Rattle.sdd_words.specs.Whole.{whole_digits}
-use Rattle.sdd_words.specs.declared.word.Word.{Word}
-use Rattle.sdd_words.specs.declared.word.Word.TheVariants.{Plain, Quoted}
+use Rattle.sdd_words.specs.Words.{Word, Plain, Quoted}
 
 -- whether a word is this one, written plainly
 abbrev pub is_key : List ℕ → Word → Bool

@@ -4,8 +4,10 @@ pub mod Keywords
 pub mod Lines
 pub mod Names
 pub mod Number
+pub mod Replies
 pub mod Scan
 pub mod Texts
+pub mod Tokens
 pub mod Values
 pub mod Whole
 pub mod Words

@@ -1,9 +1,7 @@
 -- Reading the words of a line byte by byte.
 use Rattle.std.specs.Prelude.{ℕ, List, [], ◌∷◌, ◌++◌, ◌==◌, Option, Some, None, if◌then◌else◌}
 use Rattle.std.specs.Option.{option_map}
-use Rattle.sdd_words.specs.Words.{is_special}
-use Rattle.sdd_words.specs.declared.word.Word.{Word}
-use Rattle.sdd_words.specs.declared.word.Word.TheVariants.{Plain, Quoted}
+use Rattle.sdd_words.specs.Words.{is_special, Word, Plain, Quoted}
 use Rattle.sdd_words.specs.declared.split.Mode.{Mode}
 use Rattle.sdd_words.specs.declared.split.Mode.TheVariants.{Start, InPlain, InText, Escape, Closed}
 use Rattle.sdd_words.specs.declared.split.Move.{Move}
@@ -16,6 +14,16 @@ move_of InPlain c = if c == 32 then Ends else Adds InPlain
 move_of InText c = if c == 34 then Goes Closed else (if c == 92 then Goes Escape else Adds InText)
 move_of Escape c = if is_special c then Adds InText else Refuses
 move_of Closed c = if c == 32 then Ends else Refuses
+
+-- where what the byte does leads to, none where it may not stand there
+abbrev pub moves_to : Move → Option Mode
+moves_to (Goes to) = Some to
+moves_to (Adds to) = Some to
+moves_to Ends = Some Start
+moves_to Refuses = None
+
+abbrev pub mode_after : Mode → ℕ → Option Mode
+mode_after mode c = moves_to (move_of mode c)
 
 -- the word that was read
 abbrev pub word_of : Mode → List ℕ → Word

@@ -3,8 +3,7 @@ use Rattle.std.specs.Prelude.{ℕ, nat_le, ◌==◌, ◌&&◌, not, length, List
 use Rattle.std.specs.List.{list_any}
 use Rattle.std.specs.Str.{is_utf8}
 use Rattle.sdd_base.specs.declared.limits.TheConstants.{MAX_TEXT_BYTES}
-use Rattle.sdd_words.specs.declared.word.Word.{Word}
-use Rattle.sdd_words.specs.declared.word.Word.TheVariants.{Plain, Quoted}
+use Rattle.sdd_words.specs.Words.{Word, Plain, Quoted}
 
 abbrev pub has_newline : List ℕ → Bool
 has_newline bytes = list_any (λ c. c == 10) bytes

@@ -2,8 +2,7 @@
 use Rattle.std.specs.Fmt.{signed_decimal}
 use Rattle.sdd_base.specs.declared.value.Value.{Value}
 use Rattle.sdd_base.specs.declared.value.Value.TheVariants.{Int, Text}
-use Rattle.sdd_words.specs.declared.word.Word.{Word}
-use Rattle.sdd_words.specs.declared.word.Word.TheVariants.{Plain, Quoted}
+use Rattle.sdd_words.specs.Words.{Word, Plain, Quoted}
 
 -- a whole number by its one spelling, or a text between quotes
 abbrev pub value_word : Value → Word

@@ -1,7 +1,10 @@
 -- The words of a line, and how they are spelled.
 use Rattle.std.specs.Prelude.{◌≢◌, ℕ, List, [], ◌∷◌, ◌++◌, ◌==◌, ◌||◌, Bool, if◌then◌else◌}
-use Rattle.sdd_words.specs.declared.word.Word.{Word}
-use Rattle.sdd_words.specs.declared.word.Word.TheVariants.{Plain, Quoted}
+
+-- A word of a line: without quotes, by its bytes, or a text between quotes, by the bytes that it stands for.
+pub data Word : Type 0 where
+  Plain : List ℕ → Word
+  Quoted : List ℕ → Word
 
 -- a quote or a backslash, which stand after a backslash in a text
 abbrev pub is_special : ℕ → Bool

@@ -1,210 +1,262 @@
 //! The forms that words take after one another.
-ghost use Rattle.std.specs.Prelude.{◌≡◌, ◌<◌, ◌∷◌, length, Some, None, IfOk, MatchOption, codes};
-ghost use Rattle.std.specs.List.{position, list_all};
-ghost use Rattle.sdd_words.specs.Keywords.{is_key, is_free, looks_like_column};
-ghost use Rattle.sdd_words.specs.Forms.{cut_at, up_to, from_key, comparison_of, conditions_form, setting_of, settings, not_empty, look_like_columns, are_free};
+ghost use Rattle.std.specs.Prelude.{◌≡◌, ◌<◌, ◌∷◌, [], length, true, Some, None, IfSome, MatchOption, codes, is_some};
+ghost use Rattle.std.specs.List.{list_all};
+ghost use Rattle.sdd_words.specs.Keywords.{is_free, looks_like_column};
+ghost use Rattle.sdd_words.specs.Forms.{comparison_key, comparisons, comparison_of, conditions_form, joined, not_empty, setting_of, settings, look_like_columns, are_free};
 
 use crate::keyword::{adds, has_key, looks_like_column, operator, stands_free};
-use crate::word::Word;
-use sdd_base::{Listed, NoMemory, Op, Parcel};
-use std::alloc::Global;
+use crate::token::Token;
+use crate::tokens::Tokens;
+use sdd_base::Op;
+use std::marker::Model;
 
 /// A condition as it is written.
-#[derive(Drop, Debug, PartialEq, Eq)]
-pub struct Comparison {
-    pub left: Word,
+#[derive(Drop)]
+pub struct Comparison<'a> {
+    pub left: Token<'a>,
     pub op: Op,
-    pub right: Word,
+    pub right: Token<'a>,
 }
-
-/// Conditions as they are written.
-pub type Comparisons = Listed<Comparison>;
 
 /// An assignment as it is written: with `+=` where it adds, else with `=`.
-#[derive(Drop, Debug, PartialEq, Eq)]
-pub struct Setting {
-    pub left: Word,
+#[derive(Drop)]
+pub struct Setting<'a> {
+    pub left: Token<'a>,
     pub adds: bool,
-    pub right: Word,
+    pub right: Token<'a>,
 }
 
-/// Assignments as they are written.
-pub type Settings = Listed<Setting>;
-
-fn key_in(words: &[Word], key: &[u8]) -> Option<usize>
-    ensures { result ≡ position (is_key key.now) words.now }
-{
-    words.iter().position(|word| has_key(key, word))
+/// Words that are conditions, read from the front.
+#[derive(Drop)]
+pub struct Comparisons<'a> {
+    /// Whether none was read.
+    is_first: bool,
+    words: Tokens<'a>,
 }
 
-/// The words before and after the first that is this keyword, or None exactly where none is. Takes
-/// no memory.
-pub fn cut_at<'a>(words: &'a [Word], key: &[u8]) -> Option<(&'a [Word], &'a [Word])>
-    ensures { MatchOption result (cut_at key.now words.now ≡ None) (λ x. cut_at key.now words.now ≡ Some (x.0.now, x.1.now)) }
+impl<'a> Model for Comparisons<'a> {
+    ghost use Rattle.std.specs.Prelude.{◌≡◌, List, true, is_some};
+    ghost use Rattle.sdd_words.specs.Forms.{comparisons, comparisons_left, comparison_key};
+    ghost use Rattle.sdd_words.specs.declared.form.Comparison.{Comparison as Condition};
+
+    ghost Value = { List Condition };
+
+    ghost view = { λ c. comparisons_left (comparison_key c.is_first) c.words };
+
+    ghost invariant = { λ c. is_some (comparisons (comparison_key c.is_first) c.words) ≡ true };
+}
+
+/// Words that are assignments, read from the front.
+#[derive(Drop)]
+pub struct Settings<'a> {
+    words: Tokens<'a>,
+}
+
+impl<'a> Model for Settings<'a> {
+    ghost use Rattle.std.specs.Prelude.{◌≡◌, List, true, is_some};
+    ghost use Rattle.sdd_words.specs.Forms.{settings, settings_left};
+    ghost use Rattle.sdd_words.specs.declared.form.Setting.{Setting as Assignment};
+
+    ghost Value = { List Assignment };
+
+    ghost view = { λ s. settings_left s.words };
+
+    ghost invariant = { λ s. is_some (settings s.words) ≡ true };
+}
+
+/// What stands before a condition: `where` before the first one, else `and`.
+fn comparison_key(is_first: bool) -> &'static [u8]
+    ensures { result.now ≡ comparison_key is_first }
 {
-    match key_in(words, key) {
-        Some(at) => {
-            let (before, _) = words.split_at(at);
-            let (_, behind) = words.split_at(at + 1);
-            Some((before, behind))
+    if is_first { b"where" } else { b"and" }
+}
+
+/// The condition of these words.
+fn compared<'a>(
+    key: &[u8],
+    first: &Token<'_>,
+    left: Token<'a>,
+    op: &Token<'_>,
+    right: Token<'a>,
+) -> Option<Comparison<'a>>
+    ensures { result ≡ comparison_of key.now first.now left.entry op.now right.entry }
+{
+    if has_key(key, first) && looks_like_column(&left) && stands_free(&right) {
+        match operator(op) {
+            Some(op) => Some(Comparison { left, op, right }),
+            None => None,
         }
+    } else {
+        None
+    }
+}
+
+/// The next condition, whose words are taken away.
+#[tactic(auto, using(crate::proofs::Comparing::comparison_more, crate::proofs::Comparing::no_comparison, crate::proofs::Comparing::comparisons_few))]
+fn next_comparison<'a>(key: &[u8], words: &mut Tokens<'a>) -> Option<Comparison<'a>>
+    ensures read { MatchOption result
+        (not_empty words.old ≡ true → comparisons key.now words.old ≡ None)
+        (λ one. comparisons key.now words.old ≡ joined (Some one) (comparisons (codes "and") words.new)) }
+    ensures shorter { IfSome result (λ _. length words.new < length words.old) }
+{
+    match words.four() {
+        Some((first, left, op, right)) => compared(key, &first, left, &op, right),
         None => None,
     }
 }
 
-/// The words before the first that is this keyword, and those from it on, all and none where none
-/// is. Takes no memory.
-#[tactic(auto, using(crate::proofs::Points::before_at, crate::proofs::Points::from_at, crate::proofs::Points::all_before, crate::proofs::Points::none_from))]
-pub fn split_from<'a>(words: &'a [Word], key: &[u8]) -> (&'a [Word], &'a [Word])
-    ensures before { result.0.now ≡ up_to key.now words.now }
-    ensures rest { result.1.now ≡ from_key key.now words.now }
+#[tactic(auto, using(crate::proofs::Comparing::are_comparisons_more, crate::proofs::Comparing::are_no_comparisons, crate::proofs::Comparing::are_comparisons_all))]
+fn are_comparisons(words: &mut Tokens<'_>) -> bool
+    ensures { result ≡ is_some (conditions_form words.old) }
 {
-    match key_in(words, key) {
-        Some(at) => words.split_at(at),
-        None => (words, &[]),
-    }
-}
-
-fn read_comparison(
-    key: &[u8],
-    first: &Word,
-    left: &Word,
-    op: &Word,
-    right: &Word,
-) -> Result<Option<Comparison>, NoMemory>
-    ensures { IfOk result (λ o. o ≡ comparison_of key.now first.now left.now op.now right.now) }
-{
-    if has_key(key, first) && looks_like_column(left) && stands_free(right) {
-        match operator(op) {
-            Some(op) => Ok(Some(Comparison {
-                left: left.copy()?,
-                op,
-                right: right.copy()?,
-            })),
-            None => Ok(None),
+    let mut is_first = true;
+    'groups: while words.has_words() {
+        match next_comparison(comparison_key(is_first), words) {
+            Some(_) => is_first = false,
+            None => return false,
         }
-    } else {
-        Ok(None)
     }
-}
-
-fn four(words: &[Word]) -> Option<(&Word, &Word, &Word, &Word, &[Word])>
-    ensures { MatchOption result (length words.now < 4) (λ x. words.now ≡ x.0.now ∷ x.1.now ∷ x.2.now ∷ x.3.now ∷ x.4.now) }
-{
-    match words {
-        [a, b, c, d, more @ ..] => Some((a, b, c, d, more)),
-        _ => None,
-    }
-}
-
-fn three(words: &[Word]) -> Option<(&Word, &Word, &Word, &[Word])>
-    ensures { MatchOption result (length words.now < 3) (λ x. words.now ≡ x.0.now ∷ x.1.now ∷ x.2.now ∷ x.3.now) }
-{
-    match words {
-        [a, b, c, more @ ..] => Some((a, b, c, more)),
-        _ => None,
-    }
+    true
 }
 
 /// The conditions that the words are, the first after `where` and each further one after `and`, or
-/// None exactly where they aren't conditions. Costs time and memory linear in the words.
-#[tactic(auto, using(crate::proofs::Comparing::comparison_more, crate::proofs::Comparing::no_comparison, crate::proofs::Comparing::comparisons_end, crate::proofs::Comparing::comparisons_few))]
-pub fn read_comparisons(alloc: Global, words: &[Word]) -> Result<Option<Vec<Comparison>>, NoMemory>
-    ensures { IfOk result (λ o. MatchOption o (conditions_form words.now ≡ None) (λ v. conditions_form words.now ≡ Some v.items)) }
+/// None exactly where they aren't conditions. Costs time linear in the words.
+#[tactic(auto, using(crate::proofs::Comparing::all_of, crate::proofs::Comparing::none_of))]
+pub fn read_comparisons(words: Tokens<'_>) -> Option<Comparisons<'_>>
+    ensures { MatchOption result
+        (conditions_form words.entry ≡ None)
+        (λ found. conditions_form words.entry ≡ Some found) }
 {
-    let mut found = Vec::new(alloc);
-    let mut rest = words;
-    let mut key = b"where".as_slice();
-    'groups: while let Some((first, left, op, right, more)) = four(rest) {
-        match read_comparison(key, first, left, op, right)? {
-            Some(one) => {
-                found.push(one)?;
-            }
-            None => return Ok(None),
-        }
-        rest = more;
-        key = b"and".as_slice();
-    }
-    if rest.is_empty() {
-        Ok(Some(found))
+    if are_comparisons(&mut words.copy()) {
+        Some(Comparisons {
+            is_first: true,
+            words,
+        })
     } else {
-        Ok(None)
+        None
     }
 }
 
-fn read_setting(left: &Word, op: &Word, right: &Word) -> Result<Option<Setting>, NoMemory>
-    ensures { IfOk result (λ o. o ≡ setting_of left.now op.now right.now) }
+impl<'a> Comparisons<'a> {
+    /// The next condition, or None exactly where none is left.
+    #[tactic(auto, using(crate::proofs::Comparing::first_of, crate::proofs::Comparing::more_of, crate::proofs::Comparing::none_left))]
+    pub fn next(&mut self) -> Option<Comparison<'a>>
+        ensures { MatchOption result
+            ((self.old ≡ []) × (self.new ≡ []))
+            (λ one. self.old ≡ one ∷ self.new) }
+    {
+        if !self.words.has_words() {
+            return None;
+        }
+        let one = next_comparison(comparison_key(self.is_first), &mut self.words)?;
+        self.is_first = false;
+        Some(one)
+    }
+}
+
+/// The assignment of these words.
+fn assigned<'a>(left: Token<'a>, op: &Token<'_>, right: Token<'a>) -> Option<Setting<'a>>
+    ensures { result ≡ setting_of left.entry op.now right.entry }
 {
-    if looks_like_column(left) && stands_free(right) {
+    if looks_like_column(&left) && stands_free(&right) {
         match adds(op) {
-            Some(adds) => Ok(Some(Setting {
-                left: left.copy()?,
-                adds,
-                right: right.copy()?,
-            })),
-            None => Ok(None),
+            Some(adds) => Some(Setting { left, adds, right }),
+            None => None,
         }
     } else {
-        Ok(None)
+        None
     }
 }
 
-/// The assignments that the words are, or None exactly where they aren't. Costs time and memory
-/// linear in the words.
-#[tactic(auto, using(crate::proofs::Assigning::setting_more, crate::proofs::Assigning::no_setting, crate::proofs::Assigning::settings_end, crate::proofs::Assigning::settings_few))]
-pub fn read_settings(alloc: Global, words: &[Word]) -> Result<Option<Vec<Setting>>, NoMemory>
-    ensures { IfOk result (λ o. MatchOption o (settings words.now ≡ None) (λ v. settings words.now ≡ Some v.items)) }
+/// The next assignment, whose words are taken away.
+#[tactic(auto, using(crate::proofs::Assigning::setting_more, crate::proofs::Assigning::no_setting, crate::proofs::Assigning::settings_few))]
+fn next_setting<'a>(words: &mut Tokens<'a>) -> Option<Setting<'a>>
+    ensures read { MatchOption result
+        (not_empty words.old ≡ true → settings words.old ≡ None)
+        (λ one. settings words.old ≡ joined (Some one) (settings words.new)) }
+    ensures shorter { IfSome result (λ _. length words.new < length words.old) }
 {
-    let mut found = Vec::new(alloc);
-    let mut rest = words;
-    'groups: while let Some((left, op, right, more)) = three(rest) {
-        match read_setting(left, op, right)? {
-            Some(one) => {
-                found.push(one)?;
-            }
-            None => return Ok(None),
+    match words.three() {
+        Some((left, op, right)) => assigned(left, &op, right),
+        None => None,
+    }
+}
+
+#[tactic(auto, using(crate::proofs::Assigning::are_settings_more, crate::proofs::Assigning::are_no_settings, crate::proofs::Assigning::are_settings_all))]
+fn are_settings(words: &mut Tokens<'_>) -> bool
+    ensures { result ≡ is_some (settings words.old) }
+{
+    'groups: while words.has_words() {
+        match next_setting(words) {
+            Some(_) => (),
+            None => return false,
         }
-        rest = more;
     }
-    if rest.is_empty() {
-        Ok(Some(found))
+    true
+}
+
+/// The assignments that the words are, or None exactly where they aren't. Costs time linear in the
+/// words.
+#[tactic(auto, using(crate::proofs::Comparing::all_of, crate::proofs::Comparing::none_of))]
+pub fn read_settings(words: Tokens<'_>) -> Option<Settings<'_>>
+    ensures { MatchOption result
+        (settings words.entry ≡ None)
+        (λ found. settings words.entry ≡ Some found) }
+{
+    if are_settings(&mut words.copy()) {
+        Some(Settings { words })
     } else {
-        Ok(None)
+        None
     }
 }
 
-/// Whether there are words. Takes no memory.
-pub fn has_words(words: &[Word]) -> bool
-    ensures { result ≡ not_empty words.now }
-{
-    match words {
-        [] => false,
-        _ => true,
+impl<'a> Settings<'a> {
+    /// The next assignment, or None exactly where none is left.
+    #[tactic(auto, using(crate::proofs::Comparing::first_of, crate::proofs::Comparing::more_of, crate::proofs::Assigning::none_left))]
+    pub fn next(&mut self) -> Option<Setting<'a>>
+        ensures { MatchOption result
+            ((self.old ≡ []) × (self.new ≡ []))
+            (λ one. self.old ≡ one ∷ self.new) }
+    {
+        if !self.words.has_words() {
+            return None;
+        }
+        next_setting(&mut self.words)
     }
 }
 
-fn all_look_like_columns(words: &[Word]) -> bool
-    ensures { result ≡ list_all looks_like_column words.now }
+fn all_look_like_columns(words: &mut Tokens<'_>) -> bool
+    ensures { result ≡ list_all looks_like_column words.old }
 {
-    words.iter().all(|word| looks_like_column(word))
+    'words: while let Some(word) = words.next() {
+        if !looks_like_column(&word) {
+            return false;
+        }
+    }
+    true
 }
 
-fn all_free(words: &[Word]) -> bool
-    ensures { result ≡ list_all is_free words.now }
+fn all_free(words: &mut Tokens<'_>) -> bool
+    ensures { result ≡ list_all is_free words.old }
 {
-    words.iter().all(|word| stands_free(word))
+    'words: while let Some(word) = words.next() {
+        if !stands_free(&word) {
+            return false;
+        }
+    }
+    true
 }
 
-/// Whether there are words, and each can stand for a column. Takes no memory.
-pub fn look_like_columns(words: &[Word]) -> bool
+/// Whether there are words, and each can stand for a column. Costs time linear in the words.
+pub fn look_like_columns(words: &Tokens<'_>) -> bool
     ensures { result ≡ look_like_columns words.now }
 {
-    has_words(words) && all_look_like_columns(words)
+    words.has_words() && all_look_like_columns(&mut words.copy())
 }
 
-/// Whether there are words, and none is a keyword. Takes no memory.
-pub fn are_free(words: &[Word]) -> bool
+/// Whether there are words, and none is a keyword. Costs time linear in the words.
+pub fn are_free(words: &Tokens<'_>) -> bool
     ensures { result ≡ are_free words.now }
 {
-    has_words(words) && all_free(words)
+    words.has_words() && all_free(&mut words.copy())
 }

@@ -1,14 +1,6 @@
-//! The words of a line, byte by byte, and within a text by runs.
-ghost use Rattle.std.specs.Prelude.{◌≡◌, ◌≤◌, ◌++◌, List, length, IfOk, IfSome, IfNone, MatchOption, None, Some, []};
-ghost use Rattle.sdd_words.specs.Words.{AreWords, line_bytes};
-ghost use Rattle.sdd_words.specs.Scan.{scan, words_of, move_of, word_of, last_word};
-ghost use Rattle.sdd_words.specs.declared.split.Mode.TheVariants.{Start};
-ghost use Rattle.sdd_words.specs.declared.word.Word.{Word};
-
-use crate::run::run_length;
-use crate::word::Word;
-use sdd_base::{Bytes, NoMemory};
-use std::alloc::Global;
+//! Where the words of a line begin and end, byte by byte.
+ghost use Rattle.std.specs.Prelude.{◌≡◌, [], is_some};
+ghost use Rattle.sdd_words.specs.Scan.{last_word, mode_after, move_of, words_of};
 
 /// Where a byte of a line stands.
 #[derive(Clone, Copy)]
@@ -57,88 +49,38 @@ fn next_move(mode: Mode, byte: u8) -> Move
     }
 }
 
-/// The word that ends.
-fn made(mode: Mode, text: Vec<u8>) -> Word
-    ensures { result ≡ word_of mode text.items }
+/// Whether a word may end there.
+fn ends_word(mode: Mode) -> bool
+    ensures { result ≡ is_some (last_word mode []) }
 {
-    let text = Bytes::from_vec(text);
-    match mode {
-        Mode::Closed => Word::Quoted(text),
-        _ => Word::Plain(text),
+    matches!(mode, Mode::InPlain | Mode::Closed)
+}
+
+/// Where the next byte stands, or None exactly where this one may not stand there.
+fn mode_after(mode: Mode, byte: u8) -> Option<Mode>
+    ensures { result ≡ mode_after mode byte }
+{
+    match next_move(mode, byte) {
+        Move::Goes(to) => Some(to),
+        Move::Adds(to) => Some(to),
+        Move::Ends => Some(Mode::Start),
+        Move::Refuses => None,
     }
 }
 
-/// The word that the end of the line ends.
-fn last(mode: Mode, text: Vec<u8>) -> Option<Word>
-    ensures { result ≡ last_word mode text.items }
+/// Whether the bytes are words with one space between two. Takes no memory.
+#[tactic(auto, using(crate::proofs::Scans::byte_more, crate::proofs::Scans::byte_refused, crate::proofs::Scans::line_ended))]
+pub(crate) fn are_words(line: &[u8]) -> bool
+    ensures { result ≡ is_some (words_of line.now) }
 {
-    match mode {
-        Mode::InPlain => Some(Word::Plain(Bytes::from_vec(text))),
-        Mode::Closed => Some(Word::Quoted(Bytes::from_vec(text))),
-        _ => None,
-    }
-}
-
-/// Takes the bytes of a text up to the next quote or backslash into it, and gives what is left of the
-/// line. Outside of a text it takes none.
-#[tactic(auto, using(crate::proofs::Scans::run_taken))]
-fn take_run<'a>(text: &mut Vec<u8>, mode: Mode, line: &'a [u8]) -> Result<&'a [u8], NoMemory>
-    ensures read_on { IfOk result (λ rest. scan mode text.new.items rest.now ≡ scan mode text.old.items line.now) }
-    ensures no_longer { IfOk result (λ rest. length rest.now ≤ length line.now) }
-{
-    match mode {
-        Mode::InText => {
-            let length = run_length(line);
-            text.extend_from_slice(&line[..length])?;
-            Ok(&line[length..])
-        }
-        _ => Ok(line),
-    }
-}
-
-fn scan_line(alloc: Global, line: &[u8]) -> Result<Option<Vec<Word>>, NoMemory>
-    ensures { IfOk result (λ o. MatchOption o (scan Start [] line.now ≡ None) (λ v. scan Start [] line.now ≡ Some v.items)) }
-{
-    let mut words = Vec::new(alloc);
-    let mut text = Vec::new(alloc);
     let mut mode = Mode::Start;
     let mut rest = line;
     'bytes: while let [byte, more @ ..] = rest {
-        match next_move(mode, *byte) {
-            Move::Goes(to) => mode = to,
-            Move::Adds(to) => {
-                text.push(*byte)?;
-                mode = to;
-            }
-            Move::Ends => {
-                words.push(made(mode, text))?;
-                text = Vec::new(alloc);
-                mode = Mode::Start;
-            }
-            Move::Refuses => return Ok(None),
+        match mode_after(mode, *byte) {
+            Some(to) => mode = to,
+            None => return false,
         }
-        rest = take_run(&mut text, mode, more)?;
+        rest = more;
     }
-    match last(mode, text) {
-        Some(word) => {
-            words.push(word)?;
-            Ok(Some(words))
-        }
-        None => Ok(None),
-    }
-}
-
-/// The words of a line, or None exactly where it isn't words with one space between two. Costs time
-/// and memory linear in the line.
-#[tactic(auto, using(crate::proofs::Splits::none_spelled, crate::proofs::Splits::scan_words, crate::proofs::Splits::scan_spelled))]
-pub fn split_line(alloc: Global, line: &[u8]) -> Result<Option<Vec<Word>>, NoMemory>
-    ensures found { IfOk result (λ o. IfSome o (λ v. AreWords v.items × (line.now ≡ line_bytes v.items))) }
-    ensures none { IfOk result (λ o. IfNone o ((ws : List Word) → AreWords ws → line.now ≡ line_bytes ws → ⊥)) }
-    ensures exact { IfOk result (λ o. MatchOption o (scan Start [] line.now ≡ None) (λ v. scan Start [] line.now ≡ Some v.items)) }
-{
-    match scan_line(alloc, line) {
-        Ok(Some(words)) => Ok(Some(words)),
-        Ok(None) => Ok(None),
-        Err(e) => Err(e),
-    }
+    ends_word(mode)
 }

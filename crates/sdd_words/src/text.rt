@@ -1,11 +1,13 @@
 //! Texts of words.
-ghost use Rattle.std.specs.Prelude.{◌≡◌, MatchOption, true, false};
+ghost use Rattle.std.specs.Prelude.{◌≡◌, IfOk, MatchOption, true, false};
 ghost use Rattle.std.specs.List.{list_all};
 ghost use Rattle.std.specs.Str.{is_utf8};
 ghost use Rattle.sdd_words.specs.Texts.{has_newline, is_text, is_sound};
 
-use crate::word::Word;
-use sdd_base::MAX_TEXT_BYTES;
+use crate::token::Token;
+use crate::tokens::Tokens;
+use sdd_base::{MAX_TEXT_BYTES, NoMemory};
+use std::alloc::Global;
 
 /// The text of the bytes, or None exactly where they aren't UTF-8. Takes no memory.
 #[tactic(auto, using(crate::proofs::Texts::is_text, crate::proofs::Texts::is_no_text))]
@@ -40,18 +42,34 @@ pub fn is_text(bytes: &[u8]) -> bool
     bytes.len() <= MAX_TEXT_BYTES && !has_newline(bytes) && is_utf8(bytes)
 }
 
-fn is_sound(word: &Word) -> bool
-    ensures { result ≡ is_sound word.now }
+/// Whether a word that is written as a text is one.
+fn is_sound(alloc: Global, word: &Token<'_>) -> Result<bool, NoMemory>
+    ensures { IfOk result (λ sound. sound ≡ is_sound word.now) }
 {
-    match word {
-        Word::Plain(_) => true,
-        Word::Quoted(text) => is_text(text.as_slice()),
+    match word.plain() {
+        Some(_) => Ok(true),
+        None => {
+            let text = word.content(alloc)?;
+            Ok(is_text(text.as_slice()))
+        }
     }
 }
 
-/// Whether each word that is written as a text is one. Takes no memory.
-pub fn are_sound(words: &[Word]) -> bool
-    ensures { result ≡ list_all is_sound words.now }
+fn all_sound(alloc: Global, words: &mut Tokens<'_>) -> Result<bool, NoMemory>
+    ensures { IfOk result (λ sound. sound ≡ list_all is_sound words.old) }
 {
-    words.iter().all(|word| is_sound(word))
+    'words: while let Some(word) = words.next() {
+        if !is_sound(alloc, &word)? {
+            return Ok(false);
+        }
+    }
+    Ok(true)
+}
+
+/// Whether each word that is written as a text is one. Costs time linear in the words, and memory for
+/// the longest text.
+pub fn are_sound(alloc: Global, words: &Tokens<'_>) -> Result<bool, NoMemory>
+    ensures { IfOk result (λ sound. sound ≡ list_all is_sound words.now) }
+{
+    all_sound(alloc, &mut words.copy())
 }

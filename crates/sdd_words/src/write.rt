@@ -4,8 +4,7 @@ ghost use Rattle.std.specs.Prelude.{◌≡◌, ◌++◌, ◌∷◌, [], ◌<◌,
 ghost use Rattle.std.specs.Fmt.{decimal, signed_decimal};
 ghost use Rattle.sdd_base.specs.declared.value.Value.{Value};
 ghost use Rattle.sdd_words.specs.Values.{value_word};
-ghost use Rattle.sdd_words.specs.Words.{escaped, word_bytes, spaced};
-ghost use Rattle.sdd_words.specs.declared.word.Word.TheVariants.{Quoted};
+ghost use Rattle.sdd_words.specs.Words.{escaped, word_bytes, spaced, Quoted};
 
 use crate::run::{is_special, run_length};
 use itoa::Buffer;
@@ -51,9 +50,10 @@ fn put_escaped(out: &mut Vec<u8>, text: &[u8]) -> Result<(), NoMemory>
 pub fn put_text(out: &mut Vec<u8>, text: &[u8]) -> Result<(), NoMemory>
     ensures { OnOk result (out.new.items ≡ out.old.items ++ word_bytes (Quoted text.now)) }
 {
-    put(out, b"\"")?;
+    out.push(b'"')?;
     put_escaped(out, text)?;
-    put(out, b"\"")
+    out.push(b'"')?;
+    Ok(())
 }
 
 /// Puts a number by its one spelling.
@@ -85,7 +85,7 @@ pub fn put_value(out: &mut Vec<u8>, value: &Value) -> Result<(), NoMemory>
 fn put_spaced(out: &mut Vec<u8>, value: &Value) -> Result<(), NoMemory>
     ensures { OnOk result (out.new.items ≡ out.old.items ++ spaced (value_word value.now)) }
 {
-    put(out, b" ")?;
+    out.push(b' ')?;
     put_value(out, value)
 }
 

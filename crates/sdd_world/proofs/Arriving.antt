@@ -30,6 +30,7 @@ module _ (w now : World)
     parts = record {
       good = h.marked.parts.good;
       sound = h.marked.parts.sound;
+      whole_is = ap (λ v. v.whole.now) h.same ∙ h.marked.parts.whole_is;
       catalogue_is = ap (λ v. v.catalogue.now) h.same ∙ h.marked.parts.catalogue_is;
       txns_are = ap (λ v. v.txns) h.same ∙ h.marked.parts.txns_are;
       given_is = ap (λ v. v.given.items) h.same ∙ h.marked.parts.given_is;

@@ -47,15 +47,16 @@ spooled_none g tms dms t d = record {
 
 -- nothing is recorded, kept or due
 pub begins : (w : World) (tms dms : ℕ) → w.history ≡ [] → w.marks ≡ 0 → w.given.items ≡ [] → w.spool ≡ empty_spool tms dms
-    → (g : Given) → IsGood g → IsSound g → w.catalogue.now ≡ (force_at g 0).catalogue
+    → (g : Given) → IsGood g → IsSound g → w.whole.now ≡ g.catalogue → w.catalogue.now ≡ (force_at g 0).catalogue
     → g.catalogue.tms ≡ tms → g.catalogue.dms ≡ dms → w.txns ≡ g.txns → g.events ≡ []
     → ((at : Site) → IsSiteOf g at → StandFor w.sites at (setting_of g at) (beginning g at))
     → Carries w.net g.catalogue.tms g.catalogue.dms [] → StandsFor w g []
-begins w tms dms h m v s g good sound c t d x e sites net = record {
+begins w tms dms h m v s g good sound all c t d x e sites net = record {
   calm = record {
     parts = record {
       good = good;
       sound = sound;
+      whole_is = all;
       catalogue_is = c;
       txns_are = x;
       given_is = v ∙ sym e;

@@ -137,6 +137,7 @@ module _ (w : World) (g : Given) (log : Log) (a b : Site) (m : Msg) (kept : Site
           parts = record {
             good = h.parts.good;
             sound = h.parts.sound;
+            whole_is = d.whole ∙ h.parts.whole_is;
             catalogue_is = d.catalogue ∙ h.parts.catalogue_is ∙ ap (λ k. (force_at g k).catalogue) (sym (redeclares_acts b t.acts handed_log));
             txns_are = d.txns ∙ h.parts.txns_are;
             given_is = ap (λ v. v.items) d.given ∙ h.parts.given_is;

@@ -21,3 +21,7 @@ pub mod Sends
 pub mod Submitting
 pub mod Ticking
 pub mod Turning
+pub mod HomesExist
+pub mod Lists
+pub mod Outsiders
+pub mod Results

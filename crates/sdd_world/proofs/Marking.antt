@@ -56,6 +56,7 @@ resend_keeps a b log x y = keeps_by_call (Resends a b) (Resend a b) log x y refl
 
 -- what of a world stays but for its history, its network, its modules and its mailboxes
 pub record Stays (old new : World) : Type 0 where
+  pub whole : new.whole.now ≡ old.whole.now
   pub catalogue : new.catalogue.now ≡ old.catalogue.now
   pub txns : new.txns ≡ old.txns
   pub given : new.given ≡ old.given
@@ -81,6 +82,7 @@ happened w w2 g log e more m s r = record {
     parts = record {
       good = m.parts.good;
       sound = m.parts.sound;
+      whole_is = s.whole ∙ m.parts.whole_is;
       catalogue_is = s.catalogue ∙ m.parts.catalogue_is ∙ ap (λ k. (force_at g k).catalogue) (sym r.redeclares_is);
       txns_are = s.txns ∙ m.parts.txns_are;
       given_is = ap (λ v. v.items) s.given ∙ m.parts.given_is;
@@ -110,7 +112,7 @@ pub marked_plain : (w w2 : World) (g : Given) (log : Log) (e : Event)
     → Happened w2 g log
 marked_plain w w2 g log e m i r same n s =
     happened w w2 g log e (Mark e ∷ log) m
-    (record { catalogue = ap (λ v. v.catalogue.now) same; txns = ap (λ v. v.txns) same; given = ap (λ v. v.given) same; marks = ap (λ v. v.marks) same })
+    (record { whole = ap (λ v. v.whole.now) same; catalogue = ap (λ v. v.catalogue.now) same; txns = ap (λ v. v.txns) same; given = ap (λ v. v.given) same; marks = ap (λ v. v.marks) same })
     (record {
       rests = r;
       marks_is = refl;
@@ -134,7 +136,7 @@ pub marked_noted : (w w2 : World) (g : Given) (log : Log) (e : Event)
     → Spooled g (Mark e ∷ log) w2.spool U → Happened w2 g log
 marked_noted w w2 g log e m i r same noted n s =
     happened w w2 g log e (Notes ∷ Mark e ∷ log) m
-    (record { catalogue = ap (λ v. v.catalogue.now) same; txns = ap (λ v. v.txns) same; given = ap (λ v. v.given) same; marks = ap (λ v. v.marks) same })
+    (record { whole = ap (λ v. v.whole.now) same; catalogue = ap (λ v. v.catalogue.now) same; txns = ap (λ v. v.txns) same; given = ap (λ v. v.given) same; marks = ap (λ v. v.marks) same })
     (record {
       rests = r;
       marks_is = refl;

@@ -98,6 +98,7 @@ module _ (w : World) (g : Given) (log : Log) (force : Force) (f : Forcing w g lo
             parts = record {
               good = f.calm.parts.good;
               sound = f.calm.parts.sound;
+              whole_is = ap (λ v. v.whole.now) same ∙ f.calm.parts.whole_is;
               catalogue_is = is ∙ ap (λ (x : Force). x.catalogue) (sym f.force_is);
               txns_are = ap (λ v. v.txns) same ∙ f.calm.parts.txns_are;
               given_is = ap (λ v. v.given.items) same ∙ f.calm.parts.given_is;

@@ -1,7 +1,7 @@
 -- A transaction is given to its module, which does what is due, over plain worlds.
 use Rattle.std.proofs.Common.{ℕ, zero, suc, ◌-◌, ◌≤◌, ◌≡◌, ◌∙◌, ap, sym, subst, refl, true, false, List, [], ◌∷◌, ◌++◌, map, Some, append_assoc, arith}
 use Rattle.std.specs.Prelude.{slice_get, All, get_or}
-use Rattle.sdd_obligations.specs.All.{Act, AreDue, Bases, Given, IsLawful, IsSiteOf, Log, Mailbox, Mark, Msg, Outcome, Rec, Setting, Site, Submit, Submits, Txn, TxnNo, U, base_of, calls_of, fits_submit, force_at, history, local_of, log_after, marks, next_in, puts, puts_past, records_of, redeclares, same_site, sends_of, setting_of, txn_at}
+use Rattle.sdd_obligations.specs.All.{Act, AreDue, Bases, D, Force, Given, IsLawful, IsSiteOf, Log, Mailbox, Mark, Msg, Outcome, Rec, Setting, Site, Submit, Submits, T, Txn, TxnNo, U, base_of, calls_of, class_for, fits_submit, force_at, history, local_of, log_after, marks, next_in, puts, puts_past, records_of, redeclares, same_site, sends_of, setting_of, txn_at}
 use Rattle.sdd_obligations.specs.lang.Fits.{Fits}
 use Rattle.sdd_obligations.proofs.class_eras.EraFits.{fits_in_era}
 use Rattle.sdd_obligations.specs.history.declared.record.Rec.TheVariants.{Submit as Submission}
@@ -14,6 +14,7 @@ use Rattle.sdd_obligations.proofs.logs.FirstHand.{listed}
 use Rattle.sdd_obligations.proofs.logs.Marking.{mark_within}
 use Rattle.sdd_obligations.proofs.logs.Submitting.{home_in, other_local, submits_and_acts, submitted, submitted_local, submitted_within, acts_lawful}
 use Rattle.sdd_world.specs.declared.world.World.{World}
+use Rattle.sdd_world.specs.AtSites.{IsClassAt}
 use Rattle.sdd_world.specs.DueAt.{next_of}
 use Rattle.sdd_world.specs.Kinds.{AreLinked}
 use Rattle.sdd_world.specs.Following.{Followed, IsPast, MaySend}
@@ -25,6 +26,7 @@ use Rattle.sdd_world.specs.Modules.{StandFor}
 use Rattle.sdd_world.specs.Carries.{Carries}
 use Rattle.sdd_world.specs.declared.sites.Sites.{Sites}
 use Rattle.sdd_obligations.proofs.AllFacts.{all_facts}
+use Rattle.sdd_obligations.proofs.Submitting.{forced_is}
 
 -- what is read at a place of a list is the member there
 pub read_at : {A : Type 0} (xs : List A) (i : ℕ) (x y : A) → slice_get xs i ≡ Some x → y ≡ get_or xs i y → slice_get xs i ≡ Some y
@@ -75,11 +77,20 @@ module _ (w : World) (g : Given) (log : Log) (n : TxnNo)
     submit_stands : StandFor w.sites home (setting_of g home) (local_of g home log)
     submit_stands = m.parts.sites home home_here
 
-    pub submit_asks : (at : Site) → at ≡ home → (setting : Setting) × (bases : Bases) × (l : site.Log)
-        × StandFor w.sites at setting l × fits_submit at setting bases l n.0 txn
-    submit_asks at e =
-        subst (λ z. (setting : Setting) × (bases : Bases) × (l : site.Log) × StandFor w.sites z setting l × fits_submit z setting bases l n.0 txn) (sym e)
-        (setting_of g home, base_of g submitted_log, local_of g home log, submit_stands, submit_fits)
+    -- the list in force at a transaction module is that of the world
+    class_at : (at : Site) (class : ℕ) → class ≡ class_for (w.catalogue.now) txn
+        → IsClassAt at (setting_of g at) (local_of g at log) class txn
+    class_at U class e = tt
+    class_at (T t) class e = e ∙ ap (λ c. class_for c txn) m.parts.catalogue_is ∙ sym (ap (λ (f : Force). class_for f.catalogue txn) (forced_is g t log))
+    class_at (D d) class e = tt
+
+    pub submit_asks : (at : Site) (class : ℕ) → at ≡ home → class ≡ class_for (w.catalogue.now) txn
+        → (setting : Setting) × (bases : Bases) × (l : site.Log)
+        × StandFor w.sites at setting l × fits_submit at setting bases l n.0 txn × IsClassAt at setting l class txn
+    submit_asks at class e is =
+        subst (λ z. (setting : Setting) × (bases : Bases) × (l : site.Log) × StandFor w.sites z setting l
+        × fits_submit z setting bases l n.0 txn × IsClassAt z setting l class txn) (sym e)
+        (setting_of g home, base_of g submitted_log, local_of g home log, submit_stands, submit_fits, class_at home class is)
 
     -- what the module of the site did
     pub record Taken (s : Sites) (outcome : Outcome) : Type 0 where
@@ -162,7 +173,7 @@ module _ (w : World) (g : Given) (log : Log) (n : TxnNo)
         let calls : calls_of (after_acts home t.acts submitted_log) ≡ puts home outcome.out (calls_of log) =
         calls_acts home t.acts submitted_log ∙ ap (λ o. puts home o (calls_of log)) (sym t.sends_are) in
         happened w w2 g log (Submit n) (after_acts home t.acts submitted_log) m
-        (record { catalogue = f.catalogue; txns = f.txns; given = f.given; marks = f.marks })
+        (record { whole = f.whole; catalogue = f.catalogue; txns = f.txns; given = f.given; marks = f.marks })
         (record {
           rests = submits_and_acts g n log m.marked txn t.acts is
               (listed g.catalogue.tms g.catalogue.dms home home_here) t.due

@@ -50,7 +50,7 @@ module _ (w : World) (g : Given) (log : Log) (t : TmNo)
   pub ticked : (s : Sites) → TickLaw s → OthersLaw s → Happened (record w { sites = s }) g log
   ticked s law others =
       happened w (record w { sites = s }) g log (Tick t n) (Mark (Tick t n) ∷ log) m
-      (record { catalogue = refl; txns = refl; given = refl; marks = refl })
+      (record { whole = refl; catalogue = refl; txns = refl; given = refl; marks = refl })
       (record {
         rests = rests_marked g log (Tick t n) m.marked (ticked_none g log t n m.marked.rests.no_site) refl
             (handed_still log (Tick t n) tt (λ a b. refl) m.marked.rests.handed_all);

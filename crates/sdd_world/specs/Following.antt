@@ -11,6 +11,7 @@ MaySend w at outcome = (tms : ℕ) × (dms : ℕ) × (calls : List (Call Msg)) �
 
 -- it was recorded and sent, and the rest stayed
 pub record Followed (old new : World) (at : Site) (outcome : Outcome) : Type 0 where
+  pub whole : new.whole.now ≡ old.whole.now
   pub catalogue : new.catalogue.now ≡ old.catalogue.now
   pub txns : new.txns ≡ old.txns
   pub given : new.given ≡ old.given

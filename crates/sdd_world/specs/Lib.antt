@@ -8,3 +8,5 @@ pub mod Modules
 pub mod Schedules
 pub mod Standing
 pub mod Standings
+pub mod Copies
+pub mod Pending

@@ -46,6 +46,7 @@ pub record Rising (g : Given) (boxes : List (Mailbox Msg)) (d : ℕ) : Type 0 wh
 pub record Parts (w : World) (g : Given) (log : Log) : Type 0 where
   pub good : IsGood g
   pub sound : IsSound g
+  pub whole_is : w.whole.now ≡ g.catalogue
   pub catalogue_is : w.catalogue.now ≡ (force_at g (redeclares log)).catalogue
   pub txns_are : w.txns ≡ g.txns
   pub given_is : w.given.items ≡ g.events

@@ -2,22 +2,27 @@
 //!
 //! The one contract to the layer above: a world stands for the complete lawful log of the events
 //! that it was given, one by one (`step`, `settle`, `redeclare`) or as a schedule (`carry_out`), or
-//! the call ends it exactly where the limit ends that log.
+//! the call ends it exactly where the limit ends that log. What it tells is what that log says: its
+//! records, modules and links, the copies (`tables`) and what is pending (`pending`).
 //!
 //! Below that, `Sites` hands each call to the module of one site and no other; `home` gives
 //! the site of a transaction; `Mail` carries messages as the bytes that spell them.
 #![tactic(auto)]
 
+mod commits;
 mod ends;
 mod homes;
 mod mail;
 mod making;
 mod opening;
+mod pending;
 mod putting;
 mod readers;
 mod redeclaring;
 mod schedule;
 mod sites;
+mod tables;
+mod waits;
 mod world;
 
 pub use ends::WorldEnd;

@@ -54,6 +54,7 @@ impl<'a> World<'a> {
         let net = Mail::new(alloc, whole.tms(), whole.dms())?;
         let spool = Spool::new(alloc, whole.tms(), whole.dms())?;
         Ok(World {
+            whole,
             catalogue,
             txns,
             given: Vec::new(alloc),
@@ -67,6 +68,13 @@ impl<'a> World<'a> {
             net,
             spool,
         })
+    }
+
+    /// The catalogue with the classes of all lists that are ever put in force, lent. Takes no memory.
+    pub fn whole(&self) -> &'a Catalogue
+        ensures { (g : Given) (log : Log) → StandsFor self.now g log → result.now ≡ g.catalogue }
+    {
+        self.whole
     }
 
     /// The catalogue with the classes in force, lent. Takes no memory.

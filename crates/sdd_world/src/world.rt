@@ -5,14 +5,14 @@ ghost use Rattle.sdd_world.specs.Following.{MaySend, Followed, IsPast};
 ghost use Rattle.sdd_world.specs.Standing.{ahead_of, Arrives, Before, EndsBy, HandedOn, Handing, Happened, IsSettled, Keeping, Marked, Rising, Risen, Settles, Settling, Spooled, StandsFor};
 
 use crate::ends::WorldEnd;
-use crate::homes::home;
+use crate::homes::home_in;
 use crate::mail::Mail;
 use crate::putting::{record_all, send_all};
 use crate::sites::Sites;
 use sdd_obligations::sdd_base::{DmNo, Event, Listed, NoMemory, Site, TmNo, TxnNo};
 use sdd_obligations::sdd_catalog::Catalogue;
 use sdd_obligations::sdd_history::{History, Rec};
-use sdd_obligations::sdd_lang::Txn;
+use sdd_obligations::sdd_lang::{Txn, class_for};
 use sdd_obligations::sdd_net::{Delivered, Parcels, Spool};
 use sdd_obligations::sdd_wire::{Msg, Outcome};
 use std::collections::VecDeque;
@@ -21,6 +21,8 @@ use std::collections::VecDeque;
 /// that are down, and what was given and recorded.
 #[derive(Drop)]
 pub struct World<'a> {
+    /// The catalogue with the classes of all lists that are ever put in force.
+    pub(crate) whole: &'a Catalogue,
     /// The catalogue with the classes in force.
     pub(crate) catalogue: &'a Catalogue,
     pub(crate) txns: Listed<Txn>,
@@ -234,8 +236,9 @@ impl<'a> World<'a> {
             → Marked self.old g log (Submit number) → EndsBy g }
     {
         let txn = &self.txns.as_slice()[number.0 as usize - 1];
-        let at = home(self.catalogue, txn);
-        let outcome = self.sites.submit(at, number, txn)?;
+        let class = class_for(self.catalogue, txn);
+        let at = home_in(txn, class);
+        let outcome = self.sites.submit(at, class, number, txn)?;
         self.follow(at, outcome)
     }
 

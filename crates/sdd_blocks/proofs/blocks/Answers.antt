@@ -1,9 +1,4 @@
-use Rattle.std.proofs.Common.{ℕ, Vec, Global, All, length, ◌<◌, sym, subst, ◌∙◌, ap, arith}
-use Rattle.std.proofs.lemmas.Result.{IfOk-weaker}
-use Rattle.sdd_blocks.specs.Blocks.{AreBlocks}
-use Rattle.sdd_blocks.specs.Components.{AreComponents}
-use Rattle.sdd_blocks.specs.Marked.{AreMarked}
-use Rattle.sdd_blocks.specs.Numbered.{AreNumbered}
+use Rattle.sdd_blocks.proofs.All.{All, AreBlocks, AreComponents, AreMarked, AreNumbered, Global, IfOk-weaker, Vec, ap, arith, length, subst, sym, ℕ, ◌<◌, ◌∙◌}
 use Rattle.sdd_blocks.proofs.Classes.{blocks_from_marks, pairs_within}
 use Rattle.sdd_blocks.proofs.blocks.Goals as goal
 
@@ -24,10 +19,13 @@ returns c =
     let pairs = c.in_ok-pairs.pairs.items in
     let labels = c.in_ok-labels.labels.items in
     let marks = c.in_ok-marks.marks.items in
-    let components : AreComponents pairs (length edges) labels = subst (λ z. AreComponents z (length edges) labels) c.deref.ensures.value c.in_ok-labels.ensures.components in
+    let components : AreComponents pairs (length edges) labels = subst
+    (λ z. AreComponents z (length edges) labels) c.deref.ensures.value c.in_ok-labels.ensures.components in
     let marked : AreMarked pairs labels marks =
-    subst (λ z. AreMarked z labels marks) c.deref-2.ensures.value (subst (λ z. AreMarked c.deref-2.result.now z marks) c.deref-3.ensures.value c.in_ok-marks.ensures.marked) in
-    IfOk-weaker c.numbers.result (λ (found : Vec ℕ Global). AreNumbered c.deref-4.result.now found.items) (λ (found : Vec ℕ Global). AreBlocks edges found.items)
+    subst (λ z. AreMarked z labels marks) c.deref-2.ensures.value
+    (subst (λ z. AreMarked c.deref-2.result.now z marks) c.deref-3.ensures.value c.in_ok-marks.ensures.marked) in
+    IfOk-weaker c.numbers.result (λ (found : Vec ℕ Global). AreNumbered c.deref-4.result.now found.items)
+    (λ (found : Vec ℕ Global). AreBlocks edges found.items)
     (λ (found : Vec ℕ Global) numbered.
     blocks_from_marks edges pairs c.in_ok-pairs.ensures labels components marks c.in_ok-labels.ensures.length marked found.items
     (subst (λ z. AreNumbered z found.items) c.deref-4.ensures.value numbered))

@@ -1,11 +1,4 @@
-use Rattle.std.proofs.Common.{◌≡◌, ◌∷◌, [], sym, ap, ◌∙◌}
-use Rattle.std.proofs.lemmas.Result.{IfOk-weaker}
-use Rattle.sdd_graph.specs.Graph.{ends}
-use Rattle.sdd_protocol.specs.declared.protocol.Protocol.TheVariants.{P1, P2}
-use Rattle.sdd_advise.specs.Advices.{ShowsFor, advice_of}
-use Rattle.sdd_advise.specs.Reach.{IsOther}
-use Rattle.sdd_advise.specs.Searches.{placed_nodes, reached_at}
-use Rattle.sdd_advise.specs.declared.without.Without.TheVariants.{OneEdge}
+use Rattle.sdd_advise.proofs.All.{IfOk-weaker, IsOther, OneEdge, P1, P2, ShowsFor, [], advice_of, ap, ends, placed_nodes, reached_at, sym, ◌∙◌, ◌∷◌, ◌≡◌}
 use Rattle.sdd_advise.proofs.Advised.{good_off_cycles, good_beside, way_moved}
 use Rattle.sdd_advise.proofs.advising.advice_apart.Goals as goal
 

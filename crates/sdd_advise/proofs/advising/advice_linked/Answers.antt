@@ -1,7 +1,4 @@
-use Rattle.std.proofs.Common.{◌≡◌, ◌∷◌, []}
-use Rattle.std.proofs.lemmas.Result.{IfOk-weaker}
-use Rattle.sdd_protocol.specs.declared.protocol.Protocol.TheVariants.{P3}
-use Rattle.sdd_advise.specs.Advices.{ShowsFor, advice_of}
+use Rattle.sdd_advise.proofs.All.{IfOk-weaker, P3, ShowsFor, [], advice_of, ◌∷◌, ◌≡◌}
 use Rattle.sdd_advise.proofs.Advised.{good_linked}
 use Rattle.sdd_advise.proofs.advising.advice_linked.Goals as goal
 

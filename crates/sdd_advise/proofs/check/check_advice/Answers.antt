@@ -1,7 +1,4 @@
-use Rattle.std.proofs.Common.{ap, subst}
-use Rattle.std.specs.Prelude.{IfOk, ◌↔◌, IsTrue}
-use Rattle.sdd_advise.specs.Advices.{ShowsFor}
-use Rattle.sdd_advise.specs.Neighbours.{Network}
+use Rattle.sdd_advise.proofs.All.{IfOk, IsTrue, Network, ShowsFor, ap, subst, ◌↔◌}
 use Rattle.sdd_advise.proofs.check.check_advice.Goals as goal
 
 pub returns-in-Diagonal : goal.returns-in-Diagonal

@@ -1,8 +1,4 @@
-use Rattle.std.proofs.Common.{◌<◌, ◌≡◌, length, sym, ap, ◌∙◌, arith}
-use Rattle.std.specs.Prelude.{is_some}
-use Rattle.std.proofs.lemmas.Bool.{false≢true}
-use Rattle.sdd_advise.specs.Passing.{Passes}
-use Rattle.sdd_advise.specs.Searches.{placed_nodes}
+use Rattle.sdd_advise.proofs.All.{Passes, ap, arith, false≢true, is_some, length, placed_nodes, sym, ◌<◌, ◌∙◌, ◌≡◌}
 use Rattle.sdd_advise.proofs.Showing.{not_apart, apart_so, those_reached}
 use Rattle.sdd_advise.proofs.check.lies_apart.Goals as goal
 
@@ -23,5 +19,6 @@ returns c =
     let has = ap is_some (sym c.place.ensures) ∙ sym c.is_some.ensures ∙ c.if-is_some.false in (
       (λ t. apart_so c.args.graph.now.edges (Passes c.args.without.now) c.args.start c.args.node c.args.nodes.now places c.in_ok-search.ensures.reached has (c.is_same-2.ensures.0 t ∙ same)),
       λ h.
-          c.is_same-2.ensures.1 (those_reached c.args.graph.now.edges (Passes c.args.without.now) c.args.start c.args.node c.args.nodes.now places c.in_ok-search.ensures.reached h.0 ∙ sym same),
+          c.is_same-2.ensures.1
+          (those_reached c.args.graph.now.edges (Passes c.args.without.now) c.args.start c.args.node c.args.nodes.now places c.in_ok-search.ensures.reached h.0 ∙ sym same),
     )

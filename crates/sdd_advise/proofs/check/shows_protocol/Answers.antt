@@ -1,12 +1,4 @@
-use Rattle.std.proofs.Common.{ℕ, ◌<◌, sym, subst}
-use Rattle.std.specs.Prelude.{◌↔◌, IsTrue}
-use Rattle.std.proofs.lemmas.List.Elements.{All-contains}
-use Rattle.std.proofs.lemmas.Result.{IfOk-weaker}
-use Rattle.sdd_graph.specs.declared.edge.Edge.TheVariants.{Vertical}
-use Rattle.sdd_graph.specs.Edges.{NamesClasses}
-use Rattle.sdd_graph.specs.Graph.{ends}
-use Rattle.sdd_protocol.specs.declared.protocol.Protocol.TheVariants.{P1, P2, P3}
-use Rattle.sdd_advise.specs.Advices.{ShowsP1, ShowsP2, ShowsP3, ShowsFor}
+use Rattle.sdd_advise.proofs.All.{All-contains, IfOk-weaker, IsTrue, NamesClasses, P1, P2, P3, ShowsFor, ShowsP1, ShowsP2, ShowsP3, Vertical, ends, subst, sym, ℕ, ◌<◌, ◌↔◌}
 use Rattle.sdd_advise.proofs.Showing.{shown_of, shows_of, own_within}
 use Rattle.sdd_advise.proofs.check.shows_protocol.Goals as goal
 

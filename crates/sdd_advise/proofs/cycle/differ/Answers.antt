@@ -1,6 +1,4 @@
-use Rattle.std.proofs.Common.{◌<◌, false, length, get_or, sym, ◌∙◌, arith, refl}
-use Rattle.std.proofs.lemmas.Bool.{false≢true}
-use Rattle.std.proofs.lemmas.List.{get_or_read}
+use Rattle.sdd_advise.proofs.All.{arith, false, false≢true, get_or, get_or_read, length, refl, sym, ◌<◌, ◌∙◌}
 use Rattle.sdd_advise.proofs.Distinctness.{one_marked, met_again}
 use Rattle.sdd_advise.proofs.cycle.differ.Goals as goal
 

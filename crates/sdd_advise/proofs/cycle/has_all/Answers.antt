@@ -1,7 +1,4 @@
-use Rattle.std.proofs.Common.{refl, subst}
-use Rattle.std.specs.Prelude.{All, Contains}
-use Rattle.std.proofs.lemmas.List.{take_all}
-use Rattle.std.proofs.lemmas.List.Elements.{All-more}
+use Rattle.sdd_advise.proofs.All.{All, All-more, Contains, refl, subst, take_all}
 use Rattle.sdd_advise.proofs.cycle.has_all.Goals as goal
 
 pub edges-preserved : goal.edges-preserved

@@ -1,5 +1,4 @@
-use Rattle.std.proofs.Common.{take}
-use Rattle.std.specs.Prelude.{All, Contains}
+use Rattle.sdd_advise.proofs.All.{All, Contains, take}
 use Rattle.sdd_advise.proofs.cycle.has_all.Given as goal
 
 abbrev pub invariant-edges : goal.invariant-edges

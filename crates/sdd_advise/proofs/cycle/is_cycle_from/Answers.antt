@@ -1,12 +1,4 @@
-use Rattle.std.proofs.Common.{ℕ, Global, Vec, ◌≡◌, ◌<◌, ◌-◌, Some, length, refl, sym, ap, ◌∙◌, subst, arith}
-use Rattle.std.specs.Prelude.{All, Contains, option_map, slice_get, ◌↔◌, IsTrue}
-use Rattle.std.proofs.lemmas.Bool.{false≢true}
-use Rattle.std.proofs.lemmas.List.Elements.{All-weaker, All-contains}
-use Rattle.std.proofs.lemmas.Result.{IfOk-weaker}
-use Rattle.sdd_blocks.specs.Graph.{Differ}
-use Rattle.sdd_graph.specs.Edges.{NamesClasses}
-use Rattle.sdd_advise.specs.Cycles.{IsCycleFrom}
-use Rattle.sdd_advise.specs.Walks.{nodes_along}
+use Rattle.sdd_advise.proofs.All.{All, All-contains, All-weaker, Contains, Differ, Global, IfOk-weaker, IsCycleFrom, IsTrue, NamesClasses, Some, Vec, ap, arith, false≢true, length, nodes_along, option_map, refl, slice_get, subst, sym, ℕ, ◌-◌, ◌<◌, ◌↔◌, ◌∙◌, ◌≡◌}
 use Rattle.sdd_advise.proofs.Rounds.{cycle_is_long, all_in_graph, first_two_differ, leads_on, cycle_where_round, nodes_within}
 use Rattle.sdd_advise.proofs.cycle.is_cycle_from.Goals as goal
 

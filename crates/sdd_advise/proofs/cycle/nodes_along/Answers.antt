@@ -1,4 +1,4 @@
-use Rattle.std.proofs.Common.{◌∙◌, sym}
+use Rattle.sdd_advise.proofs.All.{sym, ◌∙◌}
 use Rattle.sdd_advise.proofs.Rounds.{walk_more, walk_stops, walk_done}
 use Rattle.sdd_advise.proofs.cycle.nodes_along.Goals as goal
 

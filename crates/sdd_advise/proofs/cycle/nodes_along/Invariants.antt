@@ -1,6 +1,4 @@
-use Rattle.std.proofs.Common.{◌≡◌, ◌++◌, drop}
-use Rattle.std.specs.Prelude.{option_map}
-use Rattle.sdd_advise.specs.Walks.{nodes_along}
+use Rattle.sdd_advise.proofs.All.{drop, nodes_along, option_map, ◌++◌, ◌≡◌}
 use Rattle.sdd_advise.proofs.cycle.nodes_along.Given as goal
 
 abbrev pub invariant-edges : goal.invariant-edges

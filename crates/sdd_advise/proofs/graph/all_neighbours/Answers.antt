@@ -1,4 +1,4 @@
-use Rattle.std.proofs.Common.{◌∙◌}
+use Rattle.sdd_advise.proofs.All.{◌∙◌}
 use Rattle.sdd_advise.proofs.Laid.{laid_more}
 use Rattle.sdd_advise.proofs.graph.all_neighbours.Goals as goal
 

@@ -1,6 +1,4 @@
-use Rattle.std.proofs.Common.{◌≡◌, map}
-use Rattle.std.specs.List.{range_with_len}
-use Rattle.sdd_advise.specs.Neighbours.{neighbours}
+use Rattle.sdd_advise.proofs.All.{map, neighbours, range_with_len, ◌≡◌}
 use Rattle.sdd_advise.proofs.graph.all_neighbours.Given as goal
 
 abbrev pub invariant-nodes : goal.invariant-nodes

@@ -1,8 +1,4 @@
-use Rattle.std.proofs.Common.{◌≢◌, refl, subst}
-use Rattle.std.specs.Prelude.{All}
-use Rattle.std.proofs.lemmas.Bool.{both_ways, false≢true}
-use Rattle.std.proofs.lemmas.List.{take_all}
-use Rattle.std.proofs.lemmas.List.Elements.{All-more, All-contains}
+use Rattle.sdd_advise.proofs.All.{All, All-contains, All-more, both_ways, false≢true, refl, subst, take_all, ◌≢◌}
 use Rattle.sdd_advise.proofs.graph.has_edge.Goals as goal
 
 pub others-preserved : goal.others-preserved

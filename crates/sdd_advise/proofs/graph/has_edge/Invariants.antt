@@ -1,5 +1,4 @@
-use Rattle.std.proofs.Common.{◌≢◌, take}
-use Rattle.std.specs.Prelude.{All}
+use Rattle.sdd_advise.proofs.All.{All, take, ◌≢◌}
 use Rattle.sdd_advise.proofs.graph.has_edge.Given as goal
 
 abbrev pub invariant-others : goal.invariant-others

@@ -1,7 +1,4 @@
-use Rattle.std.proofs.Common.{◌∙◌, sym, refl}
-use Rattle.sdd_advise.specs.Reach.{IsAway}
-use Rattle.sdd_advise.specs.Searches.{reached_at}
-use Rattle.sdd_advise.specs.declared.without.Without.TheVariants.{OneNode}
+use Rattle.sdd_advise.proofs.All.{IsAway, OneNode, reached_at, refl, sym, ◌∙◌}
 use Rattle.sdd_advise.proofs.Advised.{way_moved}
 use Rattle.sdd_advise.proofs.Linking.{they_lie_apart, it_is_closed}
 use Rattle.sdd_advise.proofs.pair.link_of.Goals as goal

@@ -1,6 +1,4 @@
-use Rattle.std.proofs.Common.{◌*◌, ◌<◌, length, sym, subst}
-use Rattle.std.specs.Prelude.{All}
-use Rattle.sdd_graph.specs.Edges.{IsEdgeOf}
+use Rattle.sdd_advise.proofs.All.{All, IsEdgeOf, length, subst, sym, ◌*◌, ◌<◌}
 use Rattle.sdd_advise.proofs.Known.{good_edge, good_cycle, good_apart}
 use Rattle.sdd_advise.proofs.spelling.put_advice.Goals as goal
 

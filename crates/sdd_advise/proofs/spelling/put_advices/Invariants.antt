@@ -1,5 +1,4 @@
-use Rattle.std.proofs.Common.{◌≡◌, ◌++◌, take}
-use Rattle.sdd_advise.specs.Texts.{advices_text}
+use Rattle.sdd_advise.proofs.All.{advices_text, take, ◌++◌, ◌≡◌}
 use Rattle.sdd_advise.proofs.spelling.put_advices.Given as goal
 
 -- so far the text holds the lines of the advices so far

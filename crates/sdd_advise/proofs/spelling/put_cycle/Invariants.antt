@@ -1,6 +1,4 @@
-use Rattle.std.proofs.Common.{◌≡◌, ◌++◌, take}
-use Rattle.std.specs.List.{flat_map}
-use Rattle.sdd_advise.specs.Texts.{cycle_line}
+use Rattle.sdd_advise.proofs.All.{cycle_line, flat_map, take, ◌++◌, ◌≡◌}
 use Rattle.sdd_advise.proofs.spelling.put_cycle.Given as goal
 
 -- so far the text holds the lines of the edges so far

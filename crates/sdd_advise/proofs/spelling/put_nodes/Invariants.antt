@@ -1,6 +1,4 @@
-use Rattle.std.proofs.Common.{◌≡◌, ◌++◌, take}
-use Rattle.std.specs.List.{flat_map}
-use Rattle.sdd_advise.specs.Texts.{spaced_node}
+use Rattle.sdd_advise.proofs.All.{flat_map, spaced_node, take, ◌++◌, ◌≡◌}
 use Rattle.sdd_advise.proofs.spelling.put_nodes.Given as goal
 
 -- so far the text holds the nodes so far

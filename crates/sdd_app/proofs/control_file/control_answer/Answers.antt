@@ -13,8 +13,8 @@ returns-in_err-script-clause-told g c = λ fs told.
 
 pub returns-clause-told : goal.returns-clause-told
 returns-clause-told g c = λ fs told.
-    reports_control fs c.args.file.now c.in_ok-script.script c.into_vec.result.items
-    (c.in_ok-script.ensures.told fs told) (rw c.into_vec.ensures c.in_ok-text.ensures)
+    reports_control fs c.args.file.now c.in_ok-script.script c.of.result
+    (c.in_ok-script.ensures.told fs told) (rw (c.of.ensures, c.into_vec.ensures) c.in_ok-text.ensures)
 
 pub returns-clause-ended : goal.returns-clause-ended
 returns-clause-ended g c = let e = c.in_ok-script.ensures.ended in one_ended _ _ _ _ _ e.0 e.1

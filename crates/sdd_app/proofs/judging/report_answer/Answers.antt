@@ -32,10 +32,9 @@ pub returns-clause-told : goal.returns-clause-told
 returns-clause-told g c = λ fs told.
     let cat = c.args.catalogue.now in
     let work = c.args.work.now in
-    let text = c.in_ok-judged.field-0.items in
     read_gives MAX_REPORT_BYTES (judged_as cat work) (long_reports cat work) (find_file fs c.args.report.now) c.as_slice.result.now
     (rw c.as_slice.ensures.value (c.in_ok-bytes.ensures.read fs told))
-    ∙ ap (λ t. Some (Prints t)) (sym c.in_ok-judged.ensures)
+    ∙ ap (λ t. Some (Prints t)) (sym (c.of.ensures ∙ c.in_ok-judged.ensures))
 
 pub returns-clause-ended : goal.returns-clause-ended
 returns-clause-ended g c =

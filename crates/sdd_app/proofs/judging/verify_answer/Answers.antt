@@ -49,8 +49,8 @@ returns-clause-told g c = λ fs told.
     let report = c.args.report.now in
     let cat = c.in_ok-catalogue.catalogue in
     let second = c.in_ok-catalogue.ensures.files ∙ told in
-    goes_on fs c.args.catalogue.now (ComesToVerify fs work report) cat (Prints c.in_ok-text.text.items) (c.in_ok-catalogue.ensures.told fs told)
-    (judges_report fs work report cat c.in_ok-work.work (Prints c.in_ok-text.text.items) (c.in_ok-work.ensures.told fs second)
+    goes_on fs c.args.catalogue.now (ComesToVerify fs work report) cat (Prints c.in_ok-text.text) (c.in_ok-catalogue.ensures.told fs told)
+    (judges_report fs work report cat c.in_ok-work.work (Prints c.in_ok-text.text) (c.in_ok-work.ensures.told fs second)
     (c.in_ok-text.ensures.told fs (c.in_ok-work.ensures.files ∙ second)))
 
 pub returns-clause-ended : goal.returns-clause-ended

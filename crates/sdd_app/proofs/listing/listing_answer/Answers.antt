@@ -23,7 +23,7 @@ returns-in_err-catalogue-clause-surely g c = λ free fs sure told some.
 pub returns-clause-told : goal.returns-clause-told
 returns-clause-told g c = λ fs told.
     goes_on fs c.args.catalogue.now (ComesToListing c.args.listing) c.in_ok-catalogue.catalogue
-    (Prints c.in_ok-listed.field-0.items) (c.in_ok-catalogue.ensures.told fs told) c.in_ok-listed.ensures
+    (Prints c.of.result) (c.in_ok-catalogue.ensures.told fs told) (rw c.of.ensures c.in_ok-listed.ensures)
 
 pub returns-clause-ended : goal.returns-clause-ended
 returns-clause-ended g c = let e = c.in_ok-catalogue.ensures.ended in one_ended _ _ _ _ _ e.0 e.1

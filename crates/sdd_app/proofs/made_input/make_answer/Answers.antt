@@ -14,6 +14,6 @@ summed_up-requires c =
 
 pub returns-clause-told : goal.returns-clause-told
 returns-clause-told c =
-    all_made c.args.seed c.args.count c.requires c.summed_up.result (λ v. v.items)
-    (subst (λ cat. Answers c.summed_up.result (λ v. v.items) (ComesToSummary cat (workload_of c.args.seed c.args.count))) c.in_ok-catalogue.ensures
-    (subst (λ work. Answers c.summed_up.result (λ v. v.items) (ComesToSummary c.in_ok-catalogue.catalogue work)) c.in_ok-work.ensures c.summed_up.ensures.told))
+    all_made c.args.seed c.args.count c.requires c.summed_up.result (λ v. v)
+    (subst (λ cat. Answers c.summed_up.result (λ v. v) (ComesToSummary cat (workload_of c.args.seed c.args.count))) c.in_ok-catalogue.ensures
+    (subst (λ work. Answers c.summed_up.result (λ v. v) (ComesToSummary c.in_ok-catalogue.catalogue work)) c.in_ok-work.ensures c.summed_up.ensures.told))

@@ -15,7 +15,7 @@ returns-in-Some-clause-told g c = λ fs told.
     let words = map string_bytes c.args.words.now in
     let form = form_of c.in-Some.command in
     let is = found_form words form found.0 found.1 in
-    words_answer c.carried_out.result (λ v. v.items) fs words form is (c.carried_out.ensures.told fs (rw is at told))
+    words_answer c.carried_out.result (λ v. v) fs words form is (c.carried_out.ensures.told fs (rw is at told))
 
 pub returns-in-Some-clause-ended : goal.returns-in-Some-clause-ended
 returns-in-Some-clause-ended g c =

@@ -13,42 +13,42 @@ three free = omega arith
 
 pub returns-in-Check-clause-told : goal.returns-in-Check-clause-told
 returns-in-Check-clause-told g c = λ fs.
-    answers_so c.listing_answer.result (λ v. v.items) _ fs _ _ c.in-Check.is (c.listing_answer.ensures.told fs)
+    answers_so c.listing_answer.result (λ v. v) _ fs _ _ c.in-Check.is (c.listing_answer.ensures.told fs)
 
 pub returns-in-Graph-clause-told : goal.returns-in-Graph-clause-told
 returns-in-Graph-clause-told g c = λ fs.
-    answers_so c.listing_answer-in-Graph.result (λ v. v.items) _ fs _ _ c.in-Graph.is (c.listing_answer-in-Graph.ensures.told fs)
+    answers_so c.listing_answer-in-Graph.result (λ v. v) _ fs _ _ c.in-Graph.is (c.listing_answer-in-Graph.ensures.told fs)
 
 pub returns-in-Table-clause-told : goal.returns-in-Table-clause-told
 returns-in-Table-clause-told g c = λ fs.
-    answers_so c.listing_answer-in-Table.result (λ v. v.items) _ fs _ _ c.in-Table.is (c.listing_answer-in-Table.ensures.told fs)
+    answers_so c.listing_answer-in-Table.result (λ v. v) _ fs _ _ c.in-Table.is (c.listing_answer-in-Table.ensures.told fs)
 
 pub returns-in-Run-clause-told : goal.returns-in-Run-clause-told
 returns-in-Run-clause-told g c = λ fs.
-    answers_so c.run_answer.result (λ v. v.items) _ fs _ _ c.in-Run.is (c.run_answer.ensures.told fs)
+    answers_so c.run_answer.result (λ v. v) _ fs _ _ c.in-Run.is (c.run_answer.ensures.told fs)
 
 pub returns-in-Plain-clause-told : goal.returns-in-Plain-clause-told
 returns-in-Plain-clause-told g c = λ fs.
-    answers_so c.plain_answer.result (λ v. v.items) _ fs _ _ c.in-Plain.is (c.plain_answer.ensures.told fs)
+    answers_so c.plain_answer.result (λ v. v) _ fs _ _ c.in-Plain.is (c.plain_answer.ensures.told fs)
 
 pub returns-in-Control-clause-told : goal.returns-in-Control-clause-told
 returns-in-Control-clause-told g c = λ fs.
-    answers_so c.control_answer.result (λ v. v.items) _ fs _ _ c.in-Control.is (c.control_answer.ensures.told fs)
+    answers_so c.control_answer.result (λ v. v) _ fs _ _ c.in-Control.is (c.control_answer.ensures.told fs)
 
 pub returns-in-Verify-clause-told : goal.returns-in-Verify-clause-told
 returns-in-Verify-clause-told g c = λ fs.
-    answers_so c.verify_answer.result (λ v. v.items) _ fs _ _ c.in-Verify.is (c.verify_answer.ensures.told fs)
+    answers_so c.verify_answer.result (λ v. v) _ fs _ _ c.in-Verify.is (c.verify_answer.ensures.told fs)
 
 pub returns-in-Advise-clause-told : goal.returns-in-Advise-clause-told
 returns-in-Advise-clause-told g c = λ fs.
-    answers_so c.listing_answer-in-Advise.result (λ v. v.items) _ fs _ _ c.in-Advise.is (c.listing_answer-in-Advise.ensures.told fs)
+    answers_so c.listing_answer-in-Advise.result (λ v. v) _ fs _ _ c.in-Advise.is (c.listing_answer-in-Advise.ensures.told fs)
 
 pub make_answer-requires : goal.make_answer-requires
 make_answer-requires g c = (subst (λ command. IsForm (form_of command)) c.in-Make.is c.requires).1
 
 pub returns-in-Make-clause-told : goal.returns-in-Make-clause-told
 returns-in-Make-clause-told g c = λ fs.
-    answers_so c.make_answer.result (λ v. v.items) _ fs _ _ c.in-Make.is (λ _. c.make_answer.ensures.told)
+    answers_so c.make_answer.result (λ v. v) _ fs _ _ c.in-Make.is (λ _. c.make_answer.ensures.told)
 
 pub returns-in-Make-clause-ended : goal.returns-in-Make-clause-ended
 returns-in-Make-clause-ended g c = rw c.in-Make.is (none_read c.make_answer.result _ _ _ _)

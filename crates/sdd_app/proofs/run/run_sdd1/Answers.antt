@@ -39,28 +39,28 @@ returns-clause-surely_refused g c = λ free fs v shelf told comes refusal.
 pub returns-clause-shelf_still : goal.returns-clause-shelf_still
 returns-clause-shelf_still g c = λ free fs shelf told there. (c.in-Err.ensures.surely free fs shelf told there).1
 
-pub returns-in-Ok-write_text-clause-refused : goal.returns-in-Ok-write_text-clause-refused
-returns-in-Ok-write_text-clause-refused g c = λ fs v told comes refusal shelf.
-    absurd (prints_or_refuses fs (map string_bytes c.args.words.now) c.in-Ok.text.items v (c.in-Ok.ensures.told fs told) comes refusal)
+pub returns-in-Ok-write_pages-clause-refused : goal.returns-in-Ok-write_pages-clause-refused
+returns-in-Ok-write_pages-clause-refused g c = λ fs v told comes refusal shelf.
+    absurd (prints_or_refuses fs (map string_bytes c.args.words.now) c.in-Ok.text v (c.in-Ok.ensures.told fs told) comes refusal)
 
-pub returns-in-Ok-write_text-clause-surely_refused : goal.returns-in-Ok-write_text-clause-surely_refused
-returns-in-Ok-write_text-clause-surely_refused g c = λ free fs v shelf told comes refusal.
-    absurd (prints_or_refuses fs (map string_bytes c.args.words.now) c.in-Ok.text.items v (c.in-Ok.ensures.told fs told) comes refusal)
+pub returns-in-Ok-write_pages-clause-surely_refused : goal.returns-in-Ok-write_pages-clause-surely_refused
+returns-in-Ok-write_pages-clause-surely_refused g c = λ free fs v shelf told comes refusal.
+    absurd (prints_or_refuses fs (map string_bytes c.args.words.now) c.in-Ok.text v (c.in-Ok.ensures.told fs told) comes refusal)
 
-pub returns-in-Ok-write_text-clause-shelf_still : goal.returns-in-Ok-write_text-clause-shelf_still
-returns-in-Ok-write_text-clause-shelf_still g c = λ free fs shelf told there. (c.in-Ok.ensures.surely free fs shelf told there).1
+pub returns-in-Ok-write_pages-clause-shelf_still : goal.returns-in-Ok-write_pages-clause-shelf_still
+returns-in-Ok-write_pages-clause-shelf_still g c = λ free fs shelf told there. (c.in-Ok.ensures.surely free fs shelf told there).1
 
-pub returns-in-Ok-write_text-clause-out_still : goal.returns-in-Ok-write_text-clause-out_still
-returns-in-Ok-write_text-clause-out_still g c = λ room fs sure told fits.
-    (c.write_text.ensures.surely room (rw c.as_slice.ensures.value (fits c.in-Ok.text.items (c.in-Ok.ensures.told fs told))) sure).1
+pub returns-in-Ok-write_pages-clause-out_still : goal.returns-in-Ok-write_pages-clause-out_still
+returns-in-Ok-write_pages-clause-out_still g c = λ room fs sure told fits.
+    (c.write_pages.ensures.surely room (fits c.in-Ok.text (c.in-Ok.ensures.told fs told)) sure).1
 
 pub returns-in-Ok-clause-refused : goal.returns-in-Ok-clause-refused
 returns-in-Ok-clause-refused g c = λ fs v told comes refusal shelf.
-    absurd (prints_or_refuses fs (map string_bytes c.args.words.now) c.in-Ok.text.items v (c.in-Ok.ensures.told fs told) comes refusal)
+    absurd (prints_or_refuses fs (map string_bytes c.args.words.now) c.in-Ok.text v (c.in-Ok.ensures.told fs told) comes refusal)
 
 pub returns-in-Ok-clause-surely_refused : goal.returns-in-Ok-clause-surely_refused
 returns-in-Ok-clause-surely_refused g c = λ free fs v shelf told comes refusal.
-    absurd (prints_or_refuses fs (map string_bytes c.args.words.now) c.in-Ok.text.items v (c.in-Ok.ensures.told fs told) comes refusal)
+    absurd (prints_or_refuses fs (map string_bytes c.args.words.now) c.in-Ok.text v (c.in-Ok.ensures.told fs told) comes refusal)
 
 pub returns-in-Ok-clause-shelf_still : goal.returns-in-Ok-clause-shelf_still
 returns-in-Ok-clause-shelf_still g c = λ free fs shelf told there. (c.in-Ok.ensures.surely free fs shelf told there).1

@@ -31,9 +31,9 @@ pub returns-clause-told : goal.returns-clause-told
 returns-clause-told g c = λ fs told.
     let work = c.args.workload.now in
     let cat = c.in_ok-catalogue.catalogue in
-    let text = c.in_ok-serial_text.field-0.items in
+    let text = c.of.result in
     goes_on fs c.args.catalogue.now (ComesToPlain fs work) cat (Prints text) (c.in_ok-catalogue.ensures.told fs told)
-    (replies_plain fs work cat c.in_ok-work.work text (c.in_ok-work.ensures.told fs (c.in_ok-catalogue.ensures.files ∙ told)) c.in_ok-serial_text.ensures)
+    (replies_plain fs work cat c.in_ok-work.work text (c.in_ok-work.ensures.told fs (c.in_ok-catalogue.ensures.files ∙ told)) (c.of.ensures ∙ c.in_ok-serial_text.ensures))
 
 pub returns-clause-ended : goal.returns-clause-ended
 returns-clause-ended g c =

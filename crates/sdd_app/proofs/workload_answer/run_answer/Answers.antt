@@ -42,8 +42,8 @@ pub returns-clause-told : goal.returns-clause-told
 returns-clause-told g c = λ fs told.
     let work = c.args.workload.now in
     let cat = c.in_ok-catalogue.catalogue in
-    goes_on fs c.args.catalogue.now (ComesToRun fs work) cat (Prints c.in_ok-text.text.items) (c.in_ok-catalogue.ensures.told fs told)
-    (reports_run fs work cat c.in_ok-work.work (Prints c.in_ok-text.text.items)
+    goes_on fs c.args.catalogue.now (ComesToRun fs work) cat (Prints c.in_ok-text.text) (c.in_ok-catalogue.ensures.told fs told)
+    (reports_run fs work cat c.in_ok-work.work (Prints c.in_ok-text.text)
     (c.in_ok-work.ensures.told fs (c.in_ok-catalogue.ensures.files ∙ told)) c.in_ok-text.ensures.told)
 
 pub returns-clause-ended : goal.returns-clause-ended

@@ -21,4 +21,4 @@ returns c = λ bases sound serves.
     committed_noted cat bases c.args.class.0 q r c.queued.inside.number c.queued.inside.tries c.values-values.result c.rows-rows.result c.running.inside.ts.0 c.in_ok-effect.effect writes
     notes c.send_writes.new.draft c.record.new.self
     (ap (λ x. txn_no x.number) c.queued.view_is) (ap (λ x. x.tries) c.queued.view_is) (c.values-values.ensures ∙ ap (λ x. x.exchange.values) c.running.view_is) (c.rows-rows.ensures ∙ ap (λ x. x.exchange.rows) c.running.view_is)
-    (ap (λ x. x.ts) c.running.view_is) made refl sent c.in_ok-record.ensures
+    (ap (λ x. x.ts) c.running.view_is) made refl sent (rw c.in_ok-reply.ensures at c.in_ok-record.ensures)

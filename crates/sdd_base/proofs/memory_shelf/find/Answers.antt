@@ -1,11 +1,11 @@
-use Rattle.std.proofs.Common.{◌≡◌, ◌∙◌, true, false, sym}
-use Rattle.std.specs.Str.{bytes_eq}
+use Rattle.sdd_base.proofs.All.{bytes_eq, false, sym, true, ◌∙◌, ◌≡◌}
 use Rattle.sdd_base.proofs.Finding.{find-here, find-named, find-on, find-past}
 use Rattle.sdd_base.proofs.memory_shelf.find.Goals as goal
 
 pub returns-then-eq-clause-first : goal.returns-then-eq-clause-first
 returns-then-eq-clause-first c =
-    let same : bytes_eq c.index-files-i.result.name c.args.name.now ≡ true = rw (← c.as_slice.ensures, ← c.as_bytes.ensures.value) (sym c.if-eq.ensures) in
+    let same : bytes_eq c.index-files-i.result.name c.args.name.now ≡ true = rw (← c.as_slice.ensures, ← c.as_bytes.ensures.value)
+    (sym c.if-eq.ensures) in
     c.files.invariant ∙ find-here c.args.files.now c.files.i c.index-files-i.result c.args.name.now c.files-test.true c.index-files-i.is same
 
 pub returns-then-eq-clause-named : goal.returns-then-eq-clause-named
@@ -16,7 +16,8 @@ returns-then-eq-clause-named c =
 
 pub files-preserved : goal.files-preserved
 files-preserved c =
-    let other : bytes_eq c.index-files-i.result.name c.args.name.now ≡ false = rw (← c.as_slice.ensures, ← c.as_bytes.ensures.value) (sym c.if-eq.ensures) in
+    let other : bytes_eq c.index-files-i.result.name c.args.name.now ≡ false = rw (← c.as_slice.ensures, ← c.as_bytes.ensures.value)
+    (sym c.if-eq.ensures) in
     c.files.invariant ∙ find-on c.args.files.now c.files.i c.index-files-i.result c.args.name.now c.files-test.true c.index-files-i.is other
 
 pub returns-clause-first : goal.returns-clause-first

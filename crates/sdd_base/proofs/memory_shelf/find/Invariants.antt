@@ -1,5 +1,4 @@
-use Rattle.std.proofs.Common.{◌≡◌, drop}
-use Rattle.sdd_base.specs.Outside.{find_file}
+use Rattle.sdd_base.proofs.All.{drop, find_file, ◌≡◌}
 use Rattle.sdd_base.proofs.memory_shelf.find.Given as goal
 
 abbrev pub invariant-files : goal.invariant-files

@@ -1,5 +1,4 @@
-use Rattle.std.proofs.Common.{◌≡◌, ℕ, ◌≤◌, ◌+◌, ◌-◌, vec_len}
-use Rattle.sdd_base.specs.Outside.{KeepsOpen, with_front}
+use Rattle.sdd_base.proofs.All.{KeepsOpen, vec_len, with_front, ℕ, ◌+◌, ◌-◌, ◌≡◌, ◌≤◌}
 use Rattle.sdd_base.proofs.reading.read_file.Given as goal
 
 abbrev pub invariant-fill : goal.invariant-fill
@@ -11,7 +10,8 @@ invariant-fill g l = record {
   others : KeepsOpen (λ _. Unit {0}) (g.S.Shelf.is_open l.fn.shelf) (g.S.Shelf.is_open l.shelf) (g.S.Shelf.opened l.fn.shelf) (g.S.Shelf.opened l.shelf);
   files : g.S.Shelf.files l.shelf ≡ g.S.Shelf.files l.fn.shelf;
   later : g.S.Shelf.faults l.fn.shelf ≤ g.S.Shelf.faults l.shelf;
-  surely : (free : ℕ) → g.S.Shelf.sure l.initial.shelf free → g.S.Shelf.sure l.shelf free × (g.S.Shelf.faults l.shelf ≡ g.S.Shelf.faults l.initial.shelf);
+  surely : (free : ℕ) → g.S.Shelf.sure l.initial.shelf free → g.S.Shelf.sure l.shelf free ×
+      (g.S.Shelf.faults l.shelf ≡ g.S.Shelf.faults l.initial.shelf);
 }
 
 abbrev pub decreases-fill : goal.decreases-fill

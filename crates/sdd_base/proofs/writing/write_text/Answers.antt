@@ -1,4 +1,4 @@
-use Rattle.std.proofs.Common.{arith, ◌≡◌, ◌∙◌, ◌≤◌, ◌-◌, ◌+◌, subst, drop, length}
+use Rattle.sdd_base.proofs.All.{arith, drop, length, subst, ◌+◌, ◌-◌, ◌∙◌, ◌≡◌, ◌≤◌}
 use Rattle.sdd_base.proofs.Taken.{with_end-take}
 use Rattle.sdd_base.proofs.writing.write_text.Goals as goal
 

@@ -1,12 +1,12 @@
-use Rattle.std.proofs.Common.{ℕ, ◌+◌, Vec, Global, subst, sym, inl, inr}
+use Rattle.sdd_blocks.proofs.All.{Global, Vec, inl, inr, slice_get-get_or, subst, sym, ℕ, ◌+◌}
 use Rattle.sdd_blocks.proofs.Results.{IfOk-both_then}
-use Rattle.std.proofs.lemmas.Option.{slice_get-get_or}
 use Rattle.sdd_blocks.proofs.Labels.{AreLabelsSoFar, no_edges_yet, edge_left_out, edge_joined, components_done}
-use Rattle.sdd_blocks.proofs.components.components.Goals as goal
 use Rattle.sdd_blocks.proofs.components.components.Goals.{then-a-without+then-b-without, else-a-without, else-a-without-via-then-a-without+else-b-without, else-a-without-via-else-a-without}
+use Rattle.sdd_blocks.proofs.components.components.Goals as goal
 
 pub loop-edge-init : goal.loop-edge-init
-loop-edge-init c = no_edges_yet c.args.edges.now c.args.without c.args.nodes _ c.in_ok-forest.ensures.length c.in_ok-forest.ensures.forest c.in_ok-forest.ensures.roots
+loop-edge-init c =
+    no_edges_yet c.args.edges.now c.args.without c.args.nodes _ c.in_ok-forest.ensures.length c.in_ok-forest.ensures.forest c.in_ok-forest.ensures.roots
 
 pub loop-edge-preserved : goal.loop-edge-preserved
 loop-edge-preserved c =

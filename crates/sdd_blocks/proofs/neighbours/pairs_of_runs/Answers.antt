@@ -1,7 +1,4 @@
-use Rattle.std.proofs.Common.{◌<◌, sym, subst}
-use Rattle.std.specs.Prelude.{All}
-use Rattle.sdd_blocks.specs.Components.{AreComponents}
-use Rattle.sdd_blocks.specs.Runs.{edges_in}
+use Rattle.sdd_blocks.proofs.All.{All, AreComponents, edges_in, subst, sym, ◌<◌}
 use Rattle.sdd_blocks.proofs.RunEdges.{run_ends_within, components_of_runs}
 use Rattle.sdd_blocks.proofs.Ties.{one_more_node, all_nodes}
 use Rattle.sdd_blocks.proofs.neighbours.pairs_of_runs.Goals as goal

@@ -1,4 +1,4 @@
-use Rattle.sdd_blocks.specs.Runs.{edges_in}
+use Rattle.sdd_blocks.proofs.All.{edges_in}
 use Rattle.sdd_blocks.proofs.Ties.{IsTyingBelow}
 use Rattle.sdd_blocks.proofs.neighbours.pairs_of_runs.Given as goal
 

@@ -1,13 +1,8 @@
-use Rattle.std.proofs.Common.{ℕ, List, Some, ◌≡◌, ◌+◌, ◌<◌, ◌≤◌, length, take, get_or, subst, sym, refl, ap, ◌∙◌, arith}
-use Rattle.std.specs.Prelude.{slice_get, All}
-use Rattle.std.proofs.lemmas.List.{get_or_default, take_all}
-use Rattle.sdd_blocks.specs.Neighbours.{other_end}
-use Rattle.sdd_blocks.specs.Runs.{edges_in}
-use Rattle.sdd_blocks.specs.declared.runs.Run.{Run}
+use Rattle.sdd_blocks.proofs.All.{All, List, Run, Some, ap, arith, edges_in, get_or, get_or_default, length, other_end, refl, slice_get, subst, sym, take, take_all, ℕ, ◌+◌, ◌<◌, ◌∙◌, ◌≡◌, ◌≤◌}
 use Rattle.sdd_blocks.proofs.RunEdges.{run_at, count_more, count_within}
 use Rattle.sdd_blocks.proofs.Ties.{IsTyingAt, edge_tied, none_tied, all_tied, other_end_joins, joins_end_within}
-use Rattle.sdd_blocks.proofs.neighbours.tie_at.Goals as goal
 use Rattle.sdd_blocks.proofs.neighbours.tie_at.Goals.{in-Some+else-loop-edge-test, in_default}
+use Rattle.sdd_blocks.proofs.neighbours.tie_at.Goals as goal
 
 -- the edges up to the next run
 past_run : (runs : List Run) (i from : ℕ) → i < length runs → from ≡ length (edges_in (take i runs))

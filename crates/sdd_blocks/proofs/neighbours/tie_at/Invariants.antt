@@ -1,5 +1,4 @@
-use Rattle.std.proofs.Common.{◌≡◌, length, take}
-use Rattle.sdd_blocks.specs.Runs.{edges_in}
+use Rattle.sdd_blocks.proofs.All.{edges_in, length, take, ◌≡◌}
 use Rattle.sdd_blocks.proofs.Ties.{IsTyingAt}
 use Rattle.sdd_blocks.proofs.neighbours.tie_at.Given as goal
 

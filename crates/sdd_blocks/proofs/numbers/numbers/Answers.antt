@@ -1,8 +1,7 @@
-use Rattle.std.proofs.Common.{ℕ, ◌+◌, ◌≡◌, ◌<◌, List, length, get_or, set, arith, ap, sym, ◌∙◌, length-set}
-use Rattle.std.proofs.lemmas.List.{get_or_default}
+use Rattle.sdd_blocks.proofs.All.{List, ap, arith, get_or, get_or_default, length, length-set, set, sym, ℕ, ◌+◌, ◌<◌, ◌∙◌, ◌≡◌}
 use Rattle.sdd_blocks.proofs.Numbering.{step_given, step_made, all_numbered}
-use Rattle.sdd_blocks.proofs.numbers.numbers.Goals as goal
 use Rattle.sdd_blocks.proofs.numbers.numbers.Goals.{then-mark-ne0+then-index-eq0, else-mark-ne0, else-mark-ne0-via-then-mark-ne0+else-index-eq0, else-mark-ne0-via-else-mark-ne0}
+use Rattle.sdd_blocks.proofs.numbers.numbers.Goals as goal
 
 -- what was read, at the default 0
 read : (xs : List ℕ) (i n : ℕ) → i < length xs → n ≡ get_or xs i n → n ≡ get_or xs i 0
@@ -35,7 +34,8 @@ loop-mark-preserved c =
           let next_places : length next ≡ c.args.limit = ap length next_is ∙ places in (
             step_given marks given numbers next _ c.loop-mark.last _ count n inv next_is w.last-is
                 (elim w.else-mark-ne0.branch [
-                  | else-mark-ne0-via-then-mark-ne0+else-index-eq0 x ↦ λ z e. x.if-index-eq0.false (read given mark x.index.result.now within x.index.ensures ∙ e)
+                  | else-mark-ne0-via-then-mark-ne0+else-index-eq0 x ↦ λ z e. x.if-index-eq0.false
+                      (read given mark x.index.result.now within x.index.ensures ∙ e)
                   | else-mark-ne0-via-else-mark-ne0 x ↦ λ z e. z x.if-mark-ne0.false
                 ])
                 (read next mark n (omega arith) c.index-in-loop-mark.ensures) c.in_ok-push.ensures.items,
@@ -44,4 +44,5 @@ loop-mark-preserved c =
     ]
 
 pub returns : goal.returns
-returns c = all_numbered c.args.marks.now c.loop-mark.given.items c.loop-mark.numbers.items c.loop-mark.last c.loop-mark.mark-index c.loop-mark.invariant.0 (omega arith)
+returns c =
+    all_numbered c.args.marks.now c.loop-mark.given.items c.loop-mark.numbers.items c.loop-mark.last c.loop-mark.mark-index c.loop-mark.invariant.0 (omega arith)

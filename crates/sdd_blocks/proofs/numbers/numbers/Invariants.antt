@@ -1,4 +1,4 @@
-use Rattle.std.proofs.Common.{◌≡◌, length}
+use Rattle.sdd_blocks.proofs.All.{length, ◌≡◌}
 use Rattle.sdd_blocks.proofs.Numbering.{IsNumberingAt}
 use Rattle.sdd_blocks.proofs.numbers.numbers.Given as goal
 

@@ -1,7 +1,7 @@
-use Rattle.std.proofs.Common.{◌+◌, sym, subst}
+use Rattle.sdd_blocks.proofs.All.{subst, sym, ◌+◌}
 use Rattle.sdd_blocks.proofs.RunEdges.{AreRunsSoFar, run_goes_on, run_ended}
-use Rattle.sdd_blocks.proofs.runs.runs_of.Goals as goal
 use Rattle.sdd_blocks.proofs.runs.runs_of.Goals.{then-not-is_repeated+in_ok-push, else-not-is_repeated}
+use Rattle.sdd_blocks.proofs.runs.runs_of.Goals as goal
 
 pub loop-place-preserved : goal.loop-place-preserved
 loop-place-preserved c =

@@ -1,5 +1,4 @@
-use Rattle.std.proofs.Common.{sym, ◌∙◌}
-use Rattle.sdd_catalog.specs.Rules.{read_rules}
+use Rattle.sdd_catalog.proofs.All.{read_rules, sym, ◌∙◌}
 use Rattle.sdd_catalog.proofs.Firsts.{found_here, found_later}
 use Rattle.sdd_catalog.proofs.class_rules.broken_by_reads.Goals as goal
 

@@ -1,7 +1,4 @@
-use Rattle.std.proofs.Common.{◌≡◌, ◌<◌, true, false, length, get_or, refl, sym, ◌∙◌, arith}
-use Rattle.std.proofs.lemmas.List.{get_or_default}
-use Rattle.sdd_catalog.specs.Catalogue.{fragment_names}
-use Rattle.sdd_catalog.specs.Rules.{has_name}
+use Rattle.sdd_catalog.proofs.All.{arith, false, fragment_names, get_or, get_or_default, has_name, length, refl, sym, true, ◌<◌, ◌∙◌, ◌≡◌}
 use Rattle.sdd_catalog.proofs.Marking.{first_write_rule, name_marked}
 use Rattle.sdd_catalog.proofs.Places.{place_there}
 use Rattle.sdd_catalog.proofs.class_rules.broken_by_write.Goals as goal

@@ -1,11 +1,4 @@
-use Rattle.std.proofs.Common.{◌≡◌, ◌+◌, ◌∷◌, ◌++◌, [], List, length, take, refl, sym, ap, ◌∙◌, subst}
-use Rattle.std.proofs.lemmas.List.{length-map, take_more}
-use Rattle.sdd_catalog.specs.Catalogue.{fragment_names}
-use Rattle.sdd_catalog.specs.Marks.{AreMarked}
-use Rattle.sdd_catalog.specs.Names.{Text}
-use Rattle.sdd_catalog.specs.Rules.{write_rules}
-use Rattle.sdd_catalog.specs.declared.parts.FragmentPart.{FragmentPart}
-use Rattle.sdd_catalog.specs.declared.parts.Parts.{Parts}
+use Rattle.sdd_catalog.proofs.All.{AreMarked, FragmentPart, List, Parts, Text, [], ap, fragment_names, length, length-map, refl, subst, sym, take, take_more, write_rules, ◌++◌, ◌+◌, ◌∙◌, ◌∷◌, ◌≡◌}
 use Rattle.sdd_catalog.proofs.Firsts.{found_here, found_later}
 use Rattle.sdd_catalog.proofs.Marking.{no_marks}
 use Rattle.sdd_catalog.proofs.class_rules.broken_by_writes.Goals as goal
@@ -13,7 +6,8 @@ use Rattle.sdd_catalog.proofs.class_rules.broken_by_writes.Goals as goal
 pub loop-index-init : goal.loop-index-init
 loop-index-init c =
     let fragments = c.args.parts.now.fragments in
-    let count = ap length (c.as_slice.ensures ∙ ap (λ (p : Parts). p.fragments) c.parts.ensures) ∙ sym (length-map fragments (λ (f : FragmentPart). f.name)) in
+    let count = ap length (c.as_slice.ensures ∙ ap (λ (p : Parts). p.fragments) c.parts.ensures)
+    ∙ sym (length-map fragments (λ (f : FragmentPart). f.name)) in
     record {
       rest = refl;
       marks = subst (AreMarked (fragment_names fragments) []) (sym (c.in_ok-marks.ensures.items_if_clones_equal (λ y e. e)))
@@ -30,7 +24,8 @@ loop-index-preserved c =
     let x = c.index-writes-index.result in
     let before = take i writes in
     let within = c.loop-index-test.true in
-    let more : take (i + 1) writes ≡ before ++ x ∷ [] = take_more writes i x within ∙ ap (λ (z : Text). before ++ z ∷ []) (sym c.index-writes-index.is) in
+    let more : take (i + 1) writes ≡ before ++ x ∷ [] = take_more writes i x within
+    ∙ ap (λ (z : Text). before ++ z ∷ []) (sym c.index-writes-index.is) in
     let marked = c.loop-index.invariant.marks in
     let names = fragment_names c.args.parts.now.fragments in
     let fine = sym (c.in_default.ensures.rule before marked) in

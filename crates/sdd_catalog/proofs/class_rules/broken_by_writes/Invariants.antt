@@ -1,8 +1,4 @@
-use Rattle.std.proofs.Common.{◌≡◌, take, drop}
-use Rattle.sdd_base.specs.Words.{head_of}
-use Rattle.sdd_catalog.specs.Catalogue.{fragment_names}
-use Rattle.sdd_catalog.specs.Marks.{AreMarked}
-use Rattle.sdd_catalog.specs.Rules.{write_rules, found_from, found_in}
+use Rattle.sdd_catalog.proofs.All.{AreMarked, drop, found_from, found_in, fragment_names, head_of, take, write_rules, ◌≡◌}
 use Rattle.sdd_catalog.proofs.class_rules.broken_by_writes.Given as goal
 
 -- nothing is found so far, and what was written is marked

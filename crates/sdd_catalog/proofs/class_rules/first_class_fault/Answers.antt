@@ -1,7 +1,7 @@
-use Rattle.std.proofs.Common.{sym, ◌∙◌}
-use Rattle.sdd_catalog.specs.Rules.{faults_of_class}
+use Rattle.sdd_catalog.proofs.All.{faults_of_class, sym, ◌∙◌}
 use Rattle.sdd_catalog.proofs.Firsts.{found_here}
 use Rattle.sdd_catalog.proofs.class_rules.first_class_fault.Goals as goal
 
 pub returns-in-Some : goal.returns-in-Some
-returns-in-Some c = found_here (faults_of_class c.args.parts.now) _ _ _ _ c.loop-index.invariant.rest c.index-classes-index.is c.loop-index-test.true (sym c.in-Some.is ∙ c.in_ok-fault.ensures)
+returns-in-Some c =
+    found_here (faults_of_class c.args.parts.now) _ _ _ _ c.loop-index.invariant.rest c.index-classes-index.is c.loop-index-test.true (sym c.in-Some.is ∙ c.in_ok-fault.ensures)

@@ -1,8 +1,4 @@
-use Rattle.std.proofs.Common.{List, Some, None, refl, ap, sym, ◌∙◌}
-use Rattle.sdd_base.specs.Words.{head_of}
-use Rattle.sdd_catalog.specs.Rules.{faults_of_relation, faults_of_fragment, faults_of_ranges, found_in}
-use Rattle.sdd_catalog.specs.declared.parts.RelationPart.{RelationPart}
-use Rattle.sdd_catalog.specs.declared.parts.FragmentPart.{FragmentPart}
+use Rattle.sdd_catalog.proofs.All.{FragmentPart, List, None, RelationPart, Some, ap, faults_of_fragment, faults_of_ranges, faults_of_relation, found_in, head_of, refl, sym, ◌∙◌}
 use Rattle.sdd_catalog.proofs.FirstFault.{first_of_all}
 use Rattle.sdd_catalog.proofs.first_fault.first_fault.Goals as goal
 
@@ -12,7 +8,8 @@ returns-in-Some c = first_of_all c.args.parts.now (Some c.in-Some.fault) _ _ _ _
 pub returns-in-Some-relation_fault : goal.returns-in-Some-relation_fault
 returns-in-Some-relation_fault c =
     let relations = ap (λ (rs : List RelationPart). head_of (found_in faults_of_relation rs)) c.as_slice-relations.ensures in
-    first_of_all c.args.parts.now None (Some c.in-Some-relation_fault.fault) _ _ _ c.in_default.ensures (c.in-Some-relation_fault.ensures ∙ relations) refl refl refl
+    first_of_all c.args.parts.now None (Some c.in-Some-relation_fault.fault) _ _ _ c.in_default.ensures
+    (c.in-Some-relation_fault.ensures ∙ relations) refl refl refl
 
 pub returns-in-Some-fragment_fault : goal.returns-in-Some-fragment_fault
 returns-in-Some-fragment_fault c =

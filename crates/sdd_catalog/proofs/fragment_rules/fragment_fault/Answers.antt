@@ -1,6 +1,7 @@
-use Rattle.sdd_catalog.specs.Rules.{faults_of_fragment}
+use Rattle.sdd_catalog.proofs.All.{faults_of_fragment}
 use Rattle.sdd_catalog.proofs.Firsts.{found_here}
 use Rattle.sdd_catalog.proofs.fragment_rules.fragment_fault.Goals as goal
 
 pub returns-in-Some : goal.returns-in-Some
-returns-in-Some c = found_here (faults_of_fragment c.args.parts.now) _ _ _ _ c.loop-index.invariant.rest c.index-fragments-index.is c.loop-index-test.true c.in-Some.ensures
+returns-in-Some c =
+    found_here (faults_of_fragment c.args.parts.now) _ _ _ _ c.loop-index.invariant.rest c.index-fragments-index.is c.loop-index-test.true c.in-Some.ensures

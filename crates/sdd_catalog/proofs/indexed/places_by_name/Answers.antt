@@ -1,7 +1,4 @@
-use Rattle.std.proofs.Common.{ℕ, ◌-◌, List, Option, sym, ap, ◌∙◌, arith}
-use Rattle.std.specs.HashMap.{get}
-use Rattle.std.specs.Str.{bytes_eq}
-use Rattle.sdd_catalog.specs.declared.parts.FragmentPart.{FragmentPart}
+use Rattle.sdd_catalog.proofs.All.{FragmentPart, List, Option, ap, arith, bytes_eq, get, sym, ℕ, ◌-◌, ◌∙◌}
 use Rattle.sdd_catalog.proofs.Places.{one_place_back, all_places}
 use Rattle.sdd_catalog.proofs.indexed.places_by_name.Goals as goal
 

@@ -1,7 +1,4 @@
-use Rattle.std.proofs.Common.{ℕ, ◌≡◌, ◌≤◌, List, length, drop}
-use Rattle.std.specs.HashMap.{get}
-use Rattle.std.specs.List.{position_from}
-use Rattle.std.specs.Str.{bytes_eq}
+use Rattle.sdd_catalog.proofs.All.{List, bytes_eq, drop, get, length, position_from, ℕ, ◌≡◌, ◌≤◌}
 use Rattle.sdd_catalog.proofs.indexed.places_by_name.Given as goal
 
 -- the places of the names from this fragment on

@@ -1,4 +1,4 @@
-use Rattle.std.proofs.Common.{length}
+use Rattle.sdd_catalog.proofs.All.{length}
 use Rattle.sdd_catalog.proofs.named.+repeats.Given as goal
 
 abbrev pub decreases-repeats : goal.decreases-repeats

@@ -1,4 +1,4 @@
-use Rattle.std.proofs.Common.{◌∙◌}
+use Rattle.sdd_catalog.proofs.All.{◌∙◌}
 use Rattle.sdd_catalog.proofs.NameLemmas.{has_name_of_items}
 use Rattle.sdd_catalog.proofs.named.has_name.Goals as goal
 

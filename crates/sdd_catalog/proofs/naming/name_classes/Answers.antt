@@ -1,5 +1,4 @@
-use Rattle.std.proofs.Common.{subst, sym, length}
-use Rattle.sdd_catalog.specs.Numbers.{NamesFragments}
+use Rattle.sdd_catalog.proofs.All.{NamesFragments, length, subst, sym}
 use Rattle.sdd_catalog.proofs.naming.name_classes.Goals as goal
 
 pub name_class-requires : goal.name_class-requires

@@ -1,5 +1,4 @@
-use Rattle.std.proofs.Common.{◌≡◌, map, take}
-use Rattle.sdd_catalog.specs.Catalogue.{column_part}
+use Rattle.sdd_catalog.proofs.All.{column_part, map, take, ◌≡◌}
 use Rattle.sdd_catalog.proofs.naming.name_columns.Given as goal
 
 -- the parts so far are the items so far, named

@@ -1,5 +1,4 @@
-use Rattle.std.proofs.Common.{◌≡◌, map, take}
-use Rattle.sdd_catalog.specs.Catalogue.{fragment_part}
+use Rattle.sdd_catalog.proofs.All.{fragment_part, map, take, ◌≡◌}
 use Rattle.sdd_catalog.proofs.naming.name_fragments.Given as goal
 
 -- the parts so far are the items so far, named

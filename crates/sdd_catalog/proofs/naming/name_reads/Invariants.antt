@@ -1,5 +1,4 @@
-use Rattle.std.proofs.Common.{◌≡◌, map, take}
-use Rattle.sdd_catalog.specs.Catalogue.{read_part}
+use Rattle.sdd_catalog.proofs.All.{map, read_part, take, ◌≡◌}
 use Rattle.sdd_catalog.proofs.naming.name_reads.Given as goal
 
 -- the parts so far are the items so far, named

@@ -1,5 +1,4 @@
-use Rattle.std.proofs.Common.{◌≡◌, map, take}
-use Rattle.sdd_catalog.specs.Catalogue.{relation_part}
+use Rattle.sdd_catalog.proofs.All.{map, relation_part, take, ◌≡◌}
 use Rattle.sdd_catalog.proofs.naming.name_relations.Given as goal
 
 -- the parts so far are the items so far, named

@@ -1,5 +1,4 @@
-use Rattle.std.proofs.Common.{◌≡◌, map, take}
-use Rattle.sdd_catalog.specs.Names.{name_at}
+use Rattle.sdd_catalog.proofs.All.{map, name_at, take, ◌≡◌}
 use Rattle.sdd_catalog.proofs.naming.name_writes.Given as goal
 
 -- the parts so far are the items so far, named

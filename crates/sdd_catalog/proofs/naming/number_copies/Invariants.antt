@@ -1,4 +1,4 @@
-use Rattle.std.proofs.Common.{◌≡◌, map, take}
+use Rattle.sdd_catalog.proofs.All.{map, take, ◌≡◌}
 use Rattle.sdd_catalog.proofs.naming.number_copies.Given as goal
 
 -- the numbers so far are those of the copies so far

@@ -1,6 +1,4 @@
-use Rattle.std.proofs.Common.{ap, Some, ◌∙◌, get_or, pos}
-use Rattle.std.proofs.lemmas.List.{get_or_default}
-use Rattle.sdd_catalog.specs.declared.ranges.KeyRange.{KeyRange}
+use Rattle.sdd_catalog.proofs.All.{KeyRange, Some, ap, get_or, get_or_default, pos, ◌∙◌}
 use Rattle.sdd_catalog.proofs.RangeFaults.{after_fault}
 use Rattle.sdd_catalog.proofs.range_rules.fault_after.Goals as goal
 
@@ -11,4 +9,5 @@ returns-in-Some c =
     let none : KeyRange = record { number = 0; from = pos 0; to = pos 0 } in
     let x : KeyRange = get_or xs i none in
     ap Some c.range_fault_at.ensures
-    ∙ after_fault _ _ xs i x c.in-Some.rule (get_or_default xs i none x c.loop-range-test.true) c.loop-range-test.true c.in-Some.ensures c.loop-range.invariant
+    ∙ after_fault _ _ xs i x c.in-Some.rule
+    (get_or_default xs i none x c.loop-range-test.true) c.loop-range-test.true c.in-Some.ensures c.loop-range.invariant

@@ -1,6 +1,4 @@
-use Rattle.std.proofs.Common.{◌≡◌, drop}
-use Rattle.sdd_base.specs.Words.{head_of}
-use Rattle.sdd_catalog.specs.Rules.{faults_after}
+use Rattle.sdd_catalog.proofs.All.{drop, faults_after, head_of, ◌≡◌}
 use Rattle.sdd_catalog.proofs.range_rules.fault_after.Given as goal
 
 -- nothing is found so far

@@ -1,4 +1,4 @@
-use Rattle.sdd_catalog.specs.Rules.{faults_of_relation}
+use Rattle.sdd_catalog.proofs.All.{faults_of_relation}
 use Rattle.sdd_catalog.proofs.Firsts.{found_here}
 use Rattle.sdd_catalog.proofs.relation_rules.relation_fault.Goals as goal
 

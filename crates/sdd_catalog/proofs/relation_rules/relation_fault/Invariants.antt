@@ -1,6 +1,4 @@
-use Rattle.std.proofs.Common.{◌≡◌, ◌≤◌, take, drop}
-use Rattle.sdd_base.specs.Words.{head_of}
-use Rattle.sdd_catalog.specs.Rules.{faults_of_relation, found_from, found_in}
+use Rattle.sdd_catalog.proofs.All.{drop, faults_of_relation, found_from, found_in, head_of, take, ◌≡◌, ◌≤◌}
 use Rattle.sdd_catalog.proofs.relation_rules.relation_fault.Given as goal
 
 -- nothing is found so far

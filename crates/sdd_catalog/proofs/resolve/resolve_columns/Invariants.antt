@@ -1,7 +1,4 @@
-use Rattle.std.proofs.Common.{◌≡◌, map, take}
-use Rattle.std.specs.List.{All}
-use Rattle.sdd_base.specs.Name.{IsName}
-use Rattle.sdd_catalog.specs.Catalogue.{column_of}
+use Rattle.sdd_catalog.proofs.All.{All, IsName, column_of, map, take, ◌≡◌}
 use Rattle.sdd_catalog.proofs.resolve.resolve_columns.Given as goal
 
 -- what is resolved are the parts so far, whose names are names

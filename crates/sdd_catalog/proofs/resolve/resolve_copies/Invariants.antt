@@ -1,5 +1,4 @@
-use Rattle.std.proofs.Common.{◌≡◌, map, take}
-use Rattle.sdd_base.specs.Numbers.{dm_no}
+use Rattle.sdd_catalog.proofs.All.{dm_no, map, take, ◌≡◌}
 use Rattle.sdd_catalog.proofs.resolve.resolve_copies.Given as goal
 
 -- what is resolved are the numbers so far

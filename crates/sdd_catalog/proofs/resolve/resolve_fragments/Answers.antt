@@ -1,13 +1,10 @@
-use Rattle.std.proofs.Common.{arith}
-use Rattle.std.proofs.lemmas.Grind.{common_steps}
-use Rattle.std.proofs.lemmas.List.Elements.{All-push, All-same}
-use Rattle.sdd_base.specs.Name.{IsName}
-use Rattle.sdd_catalog.specs.declared.resolved.Fragment.{Fragment}
+use Rattle.sdd_catalog.proofs.All.{All-push, All-same, Fragment, IsName, arith, common_steps}
 use Rattle.sdd_catalog.proofs.resolve.resolve_fragments.Goals as goal
 
 pub loop-fragment-preserved : goal.loop-fragment-preserved
 loop-fragment-preserved c =
     record {
       value = grind (arith, common_steps);
-      named = All-same (λ (f : Fragment). IsName f.name) _ _ c.in_ok-push.ensures.items (All-push (λ (f : Fragment). IsName f.name) _ _ c.loop-fragment.invariant.named c.in_ok-resolve_fragment.ensures.named);
+      named = All-same (λ (f : Fragment). IsName f.name) _ _ c.in_ok-push.ensures.items
+          (All-push (λ (f : Fragment). IsName f.name) _ _ c.loop-fragment.invariant.named c.in_ok-resolve_fragment.ensures.named);
     }

@@ -1,5 +1,4 @@
-use Rattle.std.proofs.Common.{◌≡◌, map, take}
-use Rattle.sdd_catalog.specs.Catalogue.{read_of, fragment_names}
+use Rattle.sdd_catalog.proofs.All.{fragment_names, map, read_of, take, ◌≡◌}
 use Rattle.sdd_catalog.proofs.resolve.resolve_reads.Given as goal
 
 -- what is resolved are the parts so far

@@ -1,7 +1,4 @@
-use Rattle.std.proofs.Common.{arith}
-use Rattle.std.proofs.lemmas.Grind.{common_steps}
-use Rattle.std.proofs.lemmas.List.Elements.{All-push, All-same}
-use Rattle.sdd_catalog.specs.Naming.{IsNamed}
+use Rattle.sdd_catalog.proofs.All.{All-push, All-same, IsNamed, arith, common_steps}
 use Rattle.sdd_catalog.proofs.resolve.resolve_relations.Goals as goal
 
 pub loop-relation-preserved : goal.loop-relation-preserved

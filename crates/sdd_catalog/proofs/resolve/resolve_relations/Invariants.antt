@@ -1,7 +1,4 @@
-use Rattle.std.proofs.Common.{◌≡◌, map, take}
-use Rattle.std.specs.List.{All}
-use Rattle.sdd_catalog.specs.Naming.{IsNamed}
-use Rattle.sdd_catalog.specs.Catalogue.{relation_of}
+use Rattle.sdd_catalog.proofs.All.{All, IsNamed, map, relation_of, take, ◌≡◌}
 use Rattle.sdd_catalog.proofs.resolve.resolve_relations.Given as goal
 
 -- what is resolved are the parts so far, whose names are names

@@ -1,7 +1,4 @@
-use Rattle.std.proofs.Common.{◌≡◌, map, take}
-use Rattle.sdd_base.specs.Numbers.{frag_no}
-use Rattle.sdd_catalog.specs.Names.{number_of}
-use Rattle.sdd_catalog.specs.Catalogue.{fragment_names}
+use Rattle.sdd_catalog.proofs.All.{frag_no, fragment_names, map, number_of, take, ◌≡◌}
 use Rattle.sdd_catalog.proofs.resolve.resolve_writes.Given as goal
 
 -- what is resolved are the parts so far

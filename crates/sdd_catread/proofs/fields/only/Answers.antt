@@ -6,4 +6,5 @@ pub returns-then-has_only : goal.returns-then-has_only
 returns-then-has_only c = rw (sym (has_only_keys c.args.names.now c.args.table.now.entries) ∙ (sym c.has_only.ensures ∙ c.if-has_only.true)) refl
 
 pub returns-else-has_only : goal.returns-else-has_only
-returns-else-has_only c = rw (c.breaks.ensures, sym (has_only_keys c.args.names.now c.args.table.now.entries) ∙ (sym c.has_only.ensures ∙ c.if-has_only.false)) refl
+returns-else-has_only c =
+    rw (c.breaks.ensures, sym (has_only_keys c.args.names.now c.args.table.now.entries) ∙ (sym c.has_only.ensures ∙ c.if-has_only.false)) refl

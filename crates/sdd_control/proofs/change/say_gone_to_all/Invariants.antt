@@ -1,5 +1,4 @@
-use Rattle.std.proofs.Common.{◌≡◌, ◌≤◌, ◌++◌, ℕ, length}
-use Rattle.sdd_control.specs.Links.{gone_below, messages_at}
+use Rattle.sdd_control.proofs.All.{gone_below, length, messages_at, ℕ, ◌++◌, ◌≡◌, ◌≤◌}
 use Rattle.sdd_control.proofs.change.say_gone_to_all.Given as goal
 
 abbrev pub invariant-others : goal.invariant-others

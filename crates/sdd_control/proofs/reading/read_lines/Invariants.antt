@@ -1,5 +1,4 @@
-use Rattle.std.proofs.Common.{◌≡◌, ◌+◌, ◌≤◌, ◌^◌, length}
-use Rattle.sdd_control.specs.Walk.{walk_bytes}
+use Rattle.sdd_control.proofs.All.{length, walk_bytes, ◌+◌, ◌^◌, ◌≡◌, ◌≤◌}
 use Rattle.sdd_control.proofs.reading.read_lines.Given as goal
 
 -- the lines that are left give, behind this draft, what all of them give

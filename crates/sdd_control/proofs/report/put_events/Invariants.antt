@@ -1,7 +1,4 @@
-use Rattle.std.proofs.Common.{◌≡◌, ◌+◌, ◌++◌, length, true}
-use Rattle.sdd_control.specs.Control.{run_after}
-use Rattle.sdd_control.specs.Report.{note_lines}
-use Rattle.sdd_control.specs.Steps.{FitAll}
+use Rattle.sdd_control.proofs.All.{FitAll, length, note_lines, run_after, true, ◌++◌, ◌+◌, ◌≡◌}
 use Rattle.sdd_control.proofs.report.put_events.Given as goal
 
 -- what was written, with the lines of the events that are left, is the whole

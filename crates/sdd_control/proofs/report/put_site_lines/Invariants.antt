@@ -1,5 +1,4 @@
-use Rattle.std.proofs.Common.{◌≡◌, ◌+◌, ◌-◌, ◌++◌}
-use Rattle.sdd_control.specs.Report.{site_lines}
+use Rattle.sdd_control.proofs.All.{site_lines, ◌++◌, ◌+◌, ◌-◌, ◌≡◌}
 use Rattle.sdd_control.proofs.report.put_site_lines.Given as goal
 
 abbrev pub invariant-sites : goal.invariant-sites

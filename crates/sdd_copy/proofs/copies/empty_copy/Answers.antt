@@ -1,5 +1,4 @@
-use Rattle.std.proofs.Common.{ap, Some}
-use Rattle.sdd_lang.specs.All.{frag_no}
+use Rattle.sdd_copy.proofs.All.{Some, ap, frag_no}
 use Rattle.sdd_copy.proofs.copies.empty_copy.Goals as goal
 
 pub returns-in_ok-new-in-Some : goal.returns-in_ok-new-in-Some

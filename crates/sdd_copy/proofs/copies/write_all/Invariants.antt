@@ -1,7 +1,4 @@
-use Rattle.std.proofs.Common.{◌≡◌}
-use Rattle.std.specs.Prelude.{All, fold}
-use Rattle.sdd_copy.specs.Copies.{with_change, held_in, IsLive}
-use Rattle.sdd_copy.specs.Items.{dated}
+use Rattle.sdd_copy.proofs.All.{All, IsLive, dated, fold, held_in, with_change, ◌≡◌}
 use Rattle.sdd_copy.proofs.copies.write_all.Given as goal
 
 -- the changes that are left make of these copies what all make of the old ones

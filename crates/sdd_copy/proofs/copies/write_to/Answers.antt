@@ -1,7 +1,4 @@
-use Rattle.std.proofs.Common.{arith}
-use Rattle.std.specs.Option.{option_map}
-use Rattle.std.proofs.lemmas.Result.{on_ok_weaker}
-use Rattle.sdd_copy.specs.Items.{written}
+use Rattle.sdd_copy.proofs.All.{arith, on_ok_weaker, option_map, written}
 use Rattle.sdd_copy.proofs.Standing.{held_past, map_changed}
 use Rattle.sdd_copy.proofs.copies.write_to.Goals as goal
 

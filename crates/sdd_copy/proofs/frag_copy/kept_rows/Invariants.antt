@@ -1,5 +1,4 @@
-use Rattle.std.proofs.Common.{◌≡◌, ◌++◌}
-use Rattle.sdd_copy.specs.Items.{rows_in}
+use Rattle.sdd_copy.proofs.All.{rows_in, ◌++◌, ◌≡◌}
 use Rattle.sdd_copy.proofs.frag_copy.kept_rows.Given as goal
 
 abbrev pub invariant-loop-item : goal.invariant-loop-item

@@ -1,7 +1,4 @@
-use Rattle.std.proofs.Common.{◌≡◌, rules, w64, to_z-of_z}
-use Rattle.std.specs.Prelude.{filter, FitsSigned}
-use Rattle.std.proofs.lemmas.Result.{IfOk-weaker}
-use Rattle.sdd_copy.specs.Keyed.{is_within, rows_meeting}
+use Rattle.sdd_copy.proofs.All.{FitsSigned, IfOk-weaker, filter, is_within, rows_meeting, rules, to_z-of_z, w64, ◌≡◌}
 use Rattle.sdd_copy.proofs.Ranges.{near_to, near_row_there, near_rows_there}
 use Rattle.sdd_copy.proofs.frag_copy.met_rows.Goals as goal
 

@@ -1,7 +1,4 @@
-use Rattle.std.proofs.Common.{◌∙◌, ap}
-use Rattle.std.specs.Map.Iter.{deref_pair}
-use Rattle.std.proofs.lemmas.Map.Iter.{iter_end}
-use Rattle.sdd_copy.specs.Keyed.{rows_meeting}
+use Rattle.sdd_copy.proofs.All.{ap, deref_pair, iter_end, rows_meeting, ◌∙◌}
 use Rattle.sdd_copy.proofs.Ranges.{met_end}
 use Rattle.sdd_copy.proofs.frag_copy.met_within.Goals as goal
 

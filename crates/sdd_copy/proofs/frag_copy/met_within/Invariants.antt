@@ -1,6 +1,4 @@
-use Rattle.std.proofs.Common.{◌≡◌, map}
-use Rattle.std.specs.Map.Iter.{deref_pair}
-use Rattle.sdd_copy.specs.Keyed.{rows_meeting}
+use Rattle.sdd_copy.proofs.All.{deref_pair, map, rows_meeting, ◌≡◌}
 use Rattle.sdd_copy.proofs.frag_copy.met_within.Given as goal
 
 -- the rows so far are those of the items so far

@@ -1,6 +1,4 @@
-use Rattle.std.proofs.Common.{◌≡◌, drop, None}
-use Rattle.std.specs.Option.{option_copied}
-use Rattle.sdd_copy.specs.Ascending.{ascend}
+use Rattle.sdd_copy.proofs.All.{None, ascend, drop, option_copied, ◌≡◌}
 use Rattle.sdd_copy.proofs.freezing.ascend.Given as goal
 
 -- the rows that are left ascend from the last one as all do

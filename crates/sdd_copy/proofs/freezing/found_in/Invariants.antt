@@ -1,7 +1,4 @@
-use Rattle.std.proofs.Common.{◌≡◌, ◌++◌, drop}
-use Rattle.std.specs.List.{flat_map}
-use Rattle.sdd_copy.specs.Copies.{rows_at}
-use Rattle.sdd_copy.specs.Frozen.{chosen}
+use Rattle.sdd_copy.proofs.All.{chosen, drop, flat_map, rows_at, ◌++◌, ◌≡◌}
 use Rattle.sdd_copy.proofs.freezing.found_in.Given as goal
 
 -- the rows so far, with those of the fragments that are left

@@ -1,6 +1,4 @@
-use Rattle.std.proofs.Common.{◌≡◌, []}
-use Rattle.std.specs.List.{fold}
-use Rattle.sdd_copy.specs.Frozen.{with_keyed}
+use Rattle.sdd_copy.proofs.All.{[], fold, with_keyed, ◌≡◌}
 use Rattle.sdd_copy.proofs.freezing.merged.Given as goal
 
 -- the rows that are left make of these what all make of none

@@ -1,7 +1,4 @@
-use Rattle.std.proofs.Common.{◌≡◌, map}
-use Rattle.std.proofs.lemmas.Result.{IfOk-weaker}
-use Rattle.sdd_copy.specs.Copies.{rows_at}
-use Rattle.sdd_copy.specs.Frozen.{rows_for}
+use Rattle.sdd_copy.proofs.All.{IfOk-weaker, map, rows_at, rows_for, ◌≡◌}
 use Rattle.sdd_copy.proofs.Sorting.{found_ascending}
 use Rattle.sdd_copy.proofs.freezing.rows_for.Goals as goal
 

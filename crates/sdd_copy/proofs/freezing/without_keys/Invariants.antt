@@ -1,4 +1,4 @@
-use Rattle.std.proofs.Common.{◌≡◌, ◌++◌, map}
+use Rattle.sdd_copy.proofs.All.{map, ◌++◌, ◌≡◌}
 use Rattle.sdd_copy.proofs.freezing.without_keys.Given as goal
 
 abbrev pub invariant-loop-row : goal.invariant-loop-row

@@ -1,8 +1,5 @@
-use Rattle.std.proofs.Common.{rules, ◌∙◌, ap}
-use Rattle.std.specs.List.{filter}
+use Rattle.sdd_copy.proofs.All.{ap, column, filter, is_known, rules, ◌∙◌}
 use Rattle.std.proofs.lemmas.Fn.{filter_same}
-use Rattle.sdd_lang.specs.All.{column}
-use Rattle.sdd_copy.specs.Known.{is_known}
 use Rattle.sdd_copy.proofs.reducing.keep_known.Goals as goal
 
 pub returns : goal.returns

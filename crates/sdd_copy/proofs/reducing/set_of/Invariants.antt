@@ -1,5 +1,4 @@
-use Rattle.std.proofs.Common.{◌≡◌, take, []}
-use Rattle.sdd_lang.specs.All.{with_values}
+use Rattle.sdd_copy.proofs.All.{[], take, with_values, ◌≡◌}
 use Rattle.sdd_copy.proofs.reducing.set_of.Given as goal
 
 abbrev pub invariant-loop-value : goal.invariant-loop-value

@@ -1,5 +1,4 @@
-use Rattle.std.proofs.Common.{◌≡◌, map, take, []}
-use Rattle.sdd_lang.specs.All.{column, with_values}
+use Rattle.sdd_copy.proofs.All.{[], column, map, take, with_values, ◌≡◌}
 use Rattle.sdd_copy.proofs.reducing.values_of.Given as goal
 
 abbrev pub invariant-loop-row : goal.invariant-loop-row

@@ -1,4 +1,4 @@
-use Rattle.std.proofs.Common.{◌≡◌, ◌++◌}
+use Rattle.sdd_copy.proofs.All.{◌++◌, ◌≡◌}
 use Rattle.sdd_copy.proofs.space.listed.Given as goal
 
 abbrev pub invariant-loop-value : goal.invariant-loop-value

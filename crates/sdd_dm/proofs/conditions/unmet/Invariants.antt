@@ -1,5 +1,4 @@
-use Rattle.std.proofs.Common.{◌≡◌, ◌++◌, drop}
-use Rattle.sdd_dm.specs.Heads.{unmet}
+use Rattle.sdd_dm.proofs.All.{drop, unmet, ◌++◌, ◌≡◌}
 use Rattle.sdd_dm.proofs.conditions.unmet.Given as goal
 
 abbrev pub invariant-loop-cond : goal.invariant-loop-cond

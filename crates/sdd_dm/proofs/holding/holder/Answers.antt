@@ -1,6 +1,4 @@
-use Rattle.std.proofs.Common.{◌<◌, length, arith, sym, ◌∙◌}
-use Rattle.std.specs.List.{list_any, range_with_len}
-use Rattle.sdd_dm.specs.Heads.{holds_in}
+use Rattle.sdd_dm.proofs.All.{arith, holds_in, length, list_any, range_with_len, sym, ◌<◌, ◌∙◌}
 use Rattle.sdd_dm.proofs.Scans.{any_not}
 use Rattle.sdd_dm.proofs.holding.holder.Goals as goal
 

@@ -1,6 +1,4 @@
-use Rattle.std.proofs.Common.{◌≡◌, length}
-use Rattle.std.specs.List.{list_any, range_with_len}
-use Rattle.sdd_dm.specs.Heads.{holds_in}
+use Rattle.sdd_dm.proofs.All.{holds_in, length, list_any, range_with_len, ◌≡◌}
 use Rattle.sdd_dm.proofs.Scans.{from}
 use Rattle.sdd_dm.proofs.holding.holder.Given as goal
 

@@ -1,5 +1,4 @@
-use Rattle.std.proofs.Common.{◌<◌, length, arith, sym, ◌∙◌}
-use Rattle.sdd_dm.specs.Heads.{holds_in}
+use Rattle.sdd_dm.proofs.All.{arith, holds_in, length, sym, ◌<◌, ◌∙◌}
 use Rattle.sdd_dm.proofs.ByClass.{any_class}
 use Rattle.sdd_dm.proofs.holding.holds_still.Goals as goal
 

@@ -1,5 +1,4 @@
-use Rattle.std.proofs.Common.{◌<◌, length, arith, sym, ap, ◌∙◌}
-use Rattle.sdd_dm.specs.Heads.{of_class, step_at, first_step}
+use Rattle.sdd_dm.proofs.All.{ap, arith, first_step, length, of_class, step_at, sym, ◌<◌, ◌∙◌}
 use Rattle.sdd_dm.proofs.Scans.{first_not}
 use Rattle.sdd_dm.proofs.judging.first_step.Goals as goal
 

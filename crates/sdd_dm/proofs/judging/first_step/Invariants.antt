@@ -1,6 +1,4 @@
-use Rattle.std.proofs.Common.{◌≡◌, length}
-use Rattle.sdd_module.specs.All.{first_some}
-use Rattle.sdd_dm.specs.Heads.{of_class, step_at, first_step}
+use Rattle.sdd_dm.proofs.All.{first_some, first_step, length, of_class, step_at, ◌≡◌}
 use Rattle.sdd_dm.proofs.Scans.{from}
 use Rattle.sdd_dm.proofs.judging.first_step.Given as goal
 

@@ -1,5 +1,4 @@
-use Rattle.std.proofs.Common.{sym, arith, refl}
-use Rattle.sdd_pipe.proofs.Updates.{set_is_update, update_past}
+use Rattle.sdd_dm.proofs.All.{arith, refl, set_is_update, sym, update_past}
 use Rattle.sdd_dm.proofs.slots.put_space.Goals as goal
 
 pub returns-then-at-len-clause-new : goal.returns-then-at-len-clause-new

@@ -1,6 +1,4 @@
-use Rattle.std.proofs.Common.{sym, arith, refl}
-use Rattle.sdd_pipe.proofs.Updates.{set_is_update, update_past}
-use Rattle.sdd_dm.specs.Copies.{reduced_at}
+use Rattle.sdd_dm.proofs.All.{arith, reduced_at, refl, set_is_update, sym, update_past}
 use Rattle.sdd_dm.proofs.slots.reduce_space.Goals as goal
 
 pub returns-in_ok-reduce_slot : goal.returns-in_ok-reduce_slot

@@ -1,4 +1,4 @@
-use Rattle.std.proofs.Common.{rules, ◌∙◌, FitsSigned, w64, to_z-of_z}
+use Rattle.sdd_dm.proofs.All.{FitsSigned, rules, to_z-of_z, w64, ◌∙◌}
 use Rattle.sdd_dm.proofs.OwnRows.{other_left, own_added}
 use Rattle.sdd_dm.proofs.starting.add_row.Goals as goal
 

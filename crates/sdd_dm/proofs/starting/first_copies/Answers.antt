@@ -1,10 +1,4 @@
-use Rattle.std.proofs.Common.{ap, ◌∙◌, [], map, fold, None}
-use Rattle.std.specs.Prelude.{is_some, slice_index_or}
-use Rattle.sdd_module.specs.All.{database_of}
-use Rattle.sdd_copy.specs.Copies.{with_change}
-use Rattle.sdd_copy.proofs.Standing.{stand_applied, here_applied}
-use Rattle.sdd_dm.specs.Copies.{first_row}
-use Rattle.sdd_dm.specs.Starts.{own_rows}
+use Rattle.sdd_dm.proofs.All.{None, [], ap, database_of, first_row, fold, here_applied, is_some, map, own_rows, slice_index_or, stand_applied, with_change, ◌∙◌}
 use Rattle.sdd_dm.proofs.OwnRows.{own_are_enough, own_entries}
 use Rattle.sdd_dm.proofs.starting.first_copies.Goals as goal
 

@@ -1,6 +1,4 @@
-use Rattle.std.proofs.Common.{ℕ, ◌≡◌, ◌<◌, length, None}
-use Rattle.std.specs.Prelude.{slice_index_or, is_some}
-use Rattle.sdd_module.specs.All.{has_copy}
+use Rattle.sdd_dm.proofs.All.{None, has_copy, is_some, length, slice_index_or, ℕ, ◌<◌, ◌≡◌}
 use Rattle.sdd_dm.proofs.starting.key_columns.Given as goal
 
 abbrev pub invariant-loop-number : goal.invariant-loop-number

@@ -1,5 +1,4 @@
-use Rattle.std.proofs.Common.{◌≡◌, None}
-use Rattle.std.specs.Prelude.{replicate}
+use Rattle.sdd_dm.proofs.All.{None, replicate, ◌≡◌}
 use Rattle.sdd_dm.proofs.starting.no_spaces.Given as goal
 
 abbrev pub invariant-loop : goal.invariant-loop

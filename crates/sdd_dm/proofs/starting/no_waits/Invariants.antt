@@ -1,5 +1,4 @@
-use Rattle.std.proofs.Common.{◌≡◌, false}
-use Rattle.std.specs.Prelude.{replicate}
+use Rattle.sdd_dm.proofs.All.{false, replicate, ◌≡◌}
 use Rattle.sdd_dm.proofs.starting.no_waits.Given as goal
 
 abbrev pub invariant-loop : goal.invariant-loop

@@ -1,5 +1,4 @@
-use Rattle.std.proofs.Common.{◌≡◌, drop, map, fold}
-use Rattle.sdd_dm.specs.Starts.{lent, own_rows, with_own}
+use Rattle.sdd_dm.proofs.All.{drop, fold, lent, map, own_rows, with_own, ◌≡◌}
 use Rattle.sdd_dm.proofs.starting.own_rows.Given as goal
 
 -- the rows that are left make of these what all make of none

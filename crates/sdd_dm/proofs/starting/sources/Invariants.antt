@@ -1,5 +1,4 @@
-use Rattle.std.proofs.Common.{◌≡◌, ◌∷◌, map, take}
-use Rattle.sdd_module.specs.All.{T, U}
+use Rattle.sdd_dm.proofs.All.{T, U, map, take, ◌∷◌, ◌≡◌}
 use Rattle.sdd_dm.proofs.starting.sources.Given as goal
 
 abbrev pub invariant-loop-place : goal.invariant-loop-place

@@ -1,5 +1,4 @@
-use Rattle.std.proofs.Common.{rules, ap, ◌∙◌, FitsSigned, w64, to_z-of_z}
-use Rattle.sdd_module.specs.All.{fragment_of}
+use Rattle.sdd_dm.proofs.All.{FitsSigned, ap, fragment_of, rules, to_z-of_z, w64, ◌∙◌}
 use Rattle.sdd_dm.proofs.Beginning.{first_entry, later_entries, one_written, with_key}
 use Rattle.sdd_dm.proofs.starting.write_rows.Goals as goal
 

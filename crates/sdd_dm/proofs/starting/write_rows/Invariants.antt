@@ -1,10 +1,4 @@
-use Rattle.std.proofs.Common.{◌≡◌, map, fold}
-use Rattle.std.specs.Prelude.{IsTrue}
-use Rattle.std.specs.List.{All}
-use Rattle.sdd_module.specs.All.{IsEntry}
-use Rattle.sdd_copy.specs.Copies.{with_change}
-use Rattle.sdd_dm.specs.Copies.{first_row}
-use Rattle.sdd_dm.specs.Starts.{lent}
+use Rattle.sdd_dm.proofs.All.{All, IsEntry, IsTrue, first_row, fold, lent, map, with_change, ◌≡◌}
 use Rattle.sdd_dm.proofs.starting.write_rows.Given as goal
 
 abbrev pub invariant-loop-item : goal.invariant-loop-item

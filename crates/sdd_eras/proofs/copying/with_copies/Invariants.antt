@@ -1,4 +1,4 @@
-use Rattle.std.proofs.Common.{◌≡◌, ◌++◌, take}
+use Rattle.sdd_eras.proofs.All.{take, ◌++◌, ◌≡◌}
 use Rattle.sdd_eras.proofs.copying.with_copies.Given as goal
 
 -- the classes so far are those at the beginning and the others so far

@@ -1,5 +1,4 @@
-use Rattle.std.proofs.Common.{◌≡◌, map, take}
-use Rattle.sdd_eras.specs.Retired.{emptied_part}
+use Rattle.sdd_eras.proofs.All.{emptied_part, map, take, ◌≡◌}
 use Rattle.sdd_eras.proofs.retiring.empty_all.Given as goal
 
 -- the classes so far are emptied

@@ -1,8 +1,4 @@
-use Rattle.std.proofs.Common.{◌≤◌, ap, sym, ◌∙◌, subst, length}
-use Rattle.std.proofs.lemmas.Result.{IfOk-weaker}
-use Rattle.sdd_lang.specs.All.{IsValid, catalogue_of, parts_of}
-use Rattle.sdd_eras.specs.Further.{with_classes}
-use Rattle.sdd_eras.specs.Retired.{retired_parts}
+use Rattle.sdd_eras.proofs.All.{IfOk-weaker, IsValid, ap, catalogue_of, length, parts_of, retired_parts, subst, sym, with_classes, ◌∙◌, ◌≤◌}
 use Rattle.sdd_eras.proofs.Retired.{retired_valid, retired_is, as_many_parts}
 use Rattle.sdd_eras.proofs.retiring.retire.Goals as goal
 
@@ -20,4 +16,5 @@ pub returns : goal.returns
 returns c =
     let cat = c.args.catalogue.now in
     let emptied = c.in_ok-parts-2.ensures ∙ ap (λ p. with_classes (retired_parts c.args.upto p.classes) p) c.in_ok-parts.ensures in
-    IfOk-weaker c.build_valid.result _ _ (λ built is. is ∙ ap catalogue_of emptied ∙ retired_is cat c.args.upto c.known.ensures.sound) c.build_valid.ensures
+    IfOk-weaker c.build_valid.result _ _
+    (λ built is. is ∙ ap catalogue_of emptied ∙ retired_is cat c.args.upto c.known.ensures.sound) c.build_valid.ensures

@@ -1,5 +1,4 @@
-use Rattle.std.proofs.Common.{◌≡◌}
-use Rattle.sdd_exec.specs.Choices.{placed}
+use Rattle.sdd_exec.proofs.All.{placed, ◌≡◌}
 use Rattle.sdd_exec.proofs.choice.placed.Given as goal
 
 abbrev pub invariant-loop-p : goal.invariant-loop-p

@@ -1,6 +1,4 @@
-use Rattle.std.proofs.Common.{◌≡◌, fold}
-use Rattle.std.specs.BTreeSet.{insert_key}
-use Rattle.sdd_lang.specs.All.{distinct, row_cmp}
+use Rattle.sdd_exec.proofs.All.{distinct, fold, insert_key, row_cmp, ◌≡◌}
 use Rattle.sdd_exec.proofs.found.as_set.Given as goal
 
 -- the rows that are left make of the set what all make of none

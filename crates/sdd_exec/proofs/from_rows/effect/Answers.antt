@@ -1,14 +1,10 @@
-use Rattle.std.proofs.Common.{◌≡◌, ◌∙◌}
-use Rattle.std.proofs.lemmas.Result.{IfOk-weaker}
-use Rattle.sdd_lang.specs.declared.effect.Effect.{Effect}
-use Rattle.sdd_lang.specs.All.{effect, effect_over}
-use Rattle.sdd_exec.specs.Snapshots.{found_for, chosen_for}
+use Rattle.sdd_exec.proofs.All.{Effect, IfOk-weaker, chosen_for, effect, effect_over, found_for, ◌∙◌, ◌≡◌}
 use Rattle.sdd_exec.proofs.Serving.{served_effect}
 use Rattle.sdd_exec.proofs.from_rows.effect.Goals as goal
 
 pub returns : goal.returns
 returns c =
-    let snap = c.args.snap.now.value in
+    let snap = c.args.snap.now in
     let found : Effect = effect_over c.args.cat.now (found_for snap) (chosen_for c.args.cat.now snap) c.args.txn.now in
     λ db whole serves.
     IfOk-weaker c.effect_over.result (λ (e : Effect). e ≡ found) (λ (e : Effect). e ≡ effect c.args.cat.now db c.args.txn.now)

@@ -1,8 +1,5 @@
-use Rattle.std.proofs.Common.{◌≡◌, List, [], take}
+use Rattle.sdd_exec.proofs.All.{List, Value, [], option_map_or, places, same_row, take, ◌≡◌}
 use Rattle.std.specs.HashMap as hash
-use Rattle.std.specs.Option.{option_map_or}
-use Rattle.sdd_lang.specs.All.{Value}
-use Rattle.sdd_exec.specs.Choices.{same_row, places}
 use Rattle.sdd_exec.proofs.index.grouped.Given as goal
 
 abbrev pub invariant-loop-key : goal.invariant-loop-key

@@ -1,4 +1,4 @@
-use Rattle.sdd_lang.specs.All.{rows_lent}
+use Rattle.sdd_exec.proofs.All.{rows_lent}
 use Rattle.sdd_exec.proofs.Picked.{lent_at, lent_within}
 use Rattle.sdd_exec.proofs.Steps.{keyed_next}
 use Rattle.sdd_exec.proofs.index.keyed.Goals as goal

@@ -1,7 +1,6 @@
-use Rattle.std.proofs.Common.{◌≡◌, ◌++◌, drop}
-use Rattle.sdd_lang.specs.All.{rows_lent}
-use Rattle.sdd_exec.specs.Choices.{keyed}
+use Rattle.sdd_exec.proofs.All.{drop, keyed, rows_lent, ◌++◌, ◌≡◌}
 use Rattle.sdd_exec.proofs.index.keyed.Given as goal
 
 abbrev pub invariant-loop-place : goal.invariant-loop-place
-invariant-loop-place l = l.keyed.items ++ keyed l.part l.conds l.ties l.place (drop l.place (rows_lent l.rows)) ≡ keyed l.part l.conds l.ties 0 (rows_lent l.rows)
+invariant-loop-place l =
+    l.keyed.items ++ keyed l.part l.conds l.ties l.place (drop l.place (rows_lent l.rows)) ≡ keyed l.part l.conds l.ties 0 (rows_lent l.rows)

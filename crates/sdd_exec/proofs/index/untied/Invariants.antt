@@ -1,6 +1,4 @@
-use Rattle.std.proofs.Common.{◌≡◌, ◌++◌, [], drop}
-use Rattle.sdd_lang.specs.All.{rows_lent}
-use Rattle.sdd_exec.specs.Choices.{keyed, places}
+use Rattle.sdd_exec.proofs.All.{[], drop, keyed, places, rows_lent, ◌++◌, ◌≡◌}
 use Rattle.sdd_exec.proofs.index.untied.Given as goal
 
 abbrev pub invariant-loop-place : goal.invariant-loop-place

@@ -1,5 +1,4 @@
-use Rattle.std.proofs.Common.{◌≡◌, ◌∙◌, sym, true}
-use Rattle.sdd_exec.specs.Choices.{is_there}
+use Rattle.sdd_exec.proofs.All.{is_there, sym, true, ◌∙◌, ◌≡◌}
 use Rattle.sdd_exec.proofs.Picked.{row_of_choice}
 use Rattle.sdd_exec.proofs.joins.add_answer.Goals as goal
 

@@ -1,6 +1,4 @@
-use Rattle.std.proofs.Common.{◌≡◌, ◌<◌, ◌+◌, length, take, arith, filter_map}
-use Rattle.sdd_lang.specs.All.{distinct}
-use Rattle.sdd_exec.specs.Choices.{row_from}
+use Rattle.sdd_exec.proofs.All.{arith, distinct, filter_map, length, row_from, take, ◌+◌, ◌<◌, ◌≡◌}
 use Rattle.sdd_exec.proofs.Product.{no_room, all_found}
 use Rattle.sdd_exec.proofs.Steps.{found_next}
 use Rattle.sdd_exec.proofs.joins.answers.Goals as goal

@@ -1,6 +1,4 @@
-use Rattle.std.proofs.Common.{◌≡◌, ◌≤◌, length, take, filter_map}
-use Rattle.sdd_lang.specs.All.{distinct}
-use Rattle.sdd_exec.specs.Choices.{row_from}
+use Rattle.sdd_exec.proofs.All.{distinct, filter_map, length, row_from, take, ◌≡◌, ◌≤◌}
 use Rattle.sdd_exec.proofs.joins.answers.Given as goal
 
 abbrev pub invariant-loop-choice : goal.invariant-loop-choice

@@ -1,5 +1,4 @@
-use Rattle.std.proofs.Common.{IfOk, ◌≡◌, List, Option, subst}
-use Rattle.sdd_lang.specs.All.{Row}
+use Rattle.sdd_exec.proofs.All.{IfOk, List, Option, Row, subst, ◌≡◌}
 use Rattle.sdd_exec.proofs.joins.answers_of_all.Goals as goal
 
 pub returns : goal.returns

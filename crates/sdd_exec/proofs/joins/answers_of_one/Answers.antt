@@ -1,5 +1,4 @@
-use Rattle.std.proofs.Common.{◌≡◌, ◌<◌, ◌+◌, length, take, arith, filter_map}
-use Rattle.sdd_lang.specs.All.{distinct}
+use Rattle.sdd_exec.proofs.All.{arith, distinct, filter_map, length, take, ◌+◌, ◌<◌, ◌≡◌}
 use Rattle.sdd_exec.proofs.Product.{row_of_lent, no_room_of_one, all_of_one}
 use Rattle.sdd_exec.proofs.Steps.{found_next}
 use Rattle.sdd_exec.proofs.joins.answers_of_one.Goals as goal

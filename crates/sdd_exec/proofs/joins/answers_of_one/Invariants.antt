@@ -1,5 +1,4 @@
-use Rattle.std.proofs.Common.{◌≡◌, ◌≤◌, length, take, filter_map}
-use Rattle.sdd_lang.specs.All.{distinct}
+use Rattle.sdd_exec.proofs.All.{distinct, filter_map, length, take, ◌≡◌, ◌≤◌}
 use Rattle.sdd_exec.proofs.Product.{row_of_lent}
 use Rattle.sdd_exec.proofs.joins.answers_of_one.Given as goal
 

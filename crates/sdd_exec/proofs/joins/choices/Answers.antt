@@ -1,5 +1,4 @@
-use Rattle.std.proofs.Common.{ap}
-use Rattle.sdd_lang.specs.All.{within}
+use Rattle.sdd_exec.proofs.All.{ap, within}
 use Rattle.sdd_exec.proofs.Product.{join_is_answer}
 use Rattle.sdd_exec.proofs.joins.choices.Goals as goal
 

@@ -1,5 +1,4 @@
-use Rattle.std.proofs.Common.{◌≡◌, ◌++◌, map, take}
-use Rattle.sdd_exec.specs.Choices.{placed}
+use Rattle.sdd_exec.proofs.All.{map, placed, take, ◌++◌, ◌≡◌}
 use Rattle.sdd_exec.proofs.joins.extend.Given as goal
 
 abbrev pub invariant-loop-place : goal.invariant-loop-place

@@ -1,8 +1,5 @@
-use Rattle.std.proofs.Common.{◌≡◌, [], map, take, length}
-use Rattle.std.specs.List.{flat_map}
+use Rattle.sdd_exec.proofs.All.{[], flat_map, key_for, length, map, option_map_or, picked, placed, same_row, take, ◌≡◌}
 use Rattle.std.specs.HashMap as hash
-use Rattle.std.specs.Option.{option_map_or}
-use Rattle.sdd_exec.specs.Choices.{same_row, key_for, picked, placed}
 use Rattle.sdd_exec.proofs.joins.extend_all.Given as goal
 
 abbrev pub invariant-loop-choice : goal.invariant-loop-choice

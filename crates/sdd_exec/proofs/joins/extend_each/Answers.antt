@@ -1,5 +1,4 @@
-use Rattle.std.proofs.Common.{ℕ, List, map, refl}
-use Rattle.sdd_exec.specs.Choices.{placed}
+use Rattle.sdd_exec.proofs.All.{List, map, placed, refl, ℕ}
 use Rattle.sdd_exec.proofs.Steps.{flat_map_next}
 use Rattle.sdd_exec.proofs.joins.extend_each.Goals as goal
 
@@ -7,4 +6,5 @@ pub loop-choice-preserved : goal.loop-choice-preserved
 loop-choice-preserved c =
     let f = λ (choice : List ℕ). map (placed c.args.parts choice c.args.part) c.args.places.now in
     flat_map_next f c.args.kept.now c.loop-choice.choice-index c.choice-item.result c.loop-choice.made.items
-    c.extend.new.kept.items (f c.choice-item.result) c.loop-choice-test.true c.choice-item.is refl (rw c.as_slice.ensures at c.in_ok-extend.ensures) c.loop-choice.invariant
+    c.extend.new.kept.items (f c.choice-item.result) c.loop-choice-test.true c.choice-item.is refl
+    (rw c.as_slice.ensures at c.in_ok-extend.ensures) c.loop-choice.invariant

@@ -1,6 +1,4 @@
-use Rattle.std.proofs.Common.{◌≡◌, map, take}
-use Rattle.std.specs.List.{flat_map}
-use Rattle.sdd_exec.specs.Choices.{placed}
+use Rattle.sdd_exec.proofs.All.{flat_map, map, placed, take, ◌≡◌}
 use Rattle.sdd_exec.proofs.joins.extend_each.Given as goal
 
 abbrev pub invariant-loop-choice : goal.invariant-loop-choice

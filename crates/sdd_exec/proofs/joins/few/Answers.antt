@@ -1,4 +1,4 @@
-use Rattle.std.proofs.Common.{arith}
+use Rattle.sdd_exec.proofs.All.{arith}
 use Rattle.sdd_exec.proofs.Complete.{complete_end}
 use Rattle.sdd_exec.proofs.joins.few.Goals as goal
 

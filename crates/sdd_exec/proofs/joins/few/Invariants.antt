@@ -1,5 +1,4 @@
-use Rattle.std.proofs.Common.{◌≡◌, ◌<◌, ℕ, true}
-use Rattle.sdd_exec.specs.Choices.{IsComplete, is_taken}
+use Rattle.sdd_exec.proofs.All.{IsComplete, is_taken, true, ℕ, ◌<◌, ◌≡◌}
 use Rattle.sdd_exec.proofs.joins.few.Given as goal
 
 abbrev pub invariant-loop-step : goal.invariant-loop-step

@@ -1,12 +1,6 @@
-use Rattle.std.specs.HashMap as hash
-use Rattle.std.specs.Prelude.{IfOk, slice_index_or}
-use Rattle.std.specs.Option.{option_map_or}
-use Rattle.std.proofs.Common.{◌≡◌, ◌≤◌, ◌∙◌, [], List, ℕ, ap, arith, sym, subst, length, map}
-use Rattle.std.proofs.lemmas.Bool.{eqb-true}
-use Rattle.std.proofs.lemmas.List.{nil_from_length}
-use Rattle.sdd_lang.specs.All.{Row}
-use Rattle.sdd_exec.specs.Choices.{Choice, picked, placed, ties_of, key_for, keyed, same_row, places, extended, extensions}
+use Rattle.sdd_exec.proofs.All.{Choice, IfOk, List, Row, [], ap, arith, eqb-true, extended, extensions, key_for, keyed, length, map, nil_from_length, option_map_or, picked, placed, places, same_row, slice_index_or, subst, sym, ties_of, ℕ, ◌∙◌, ◌≡◌, ◌≤◌}
 use Rattle.sdd_exec.proofs.Steps.{flat_map_same}
+use Rattle.std.specs.HashMap as hash
 use Rattle.sdd_exec.proofs.joins.take_part.Goals as goal
 
 pub returns-then-is_empty : goal.returns-then-is_empty
@@ -29,7 +23,8 @@ returns c =
     let part = c.args.part in
     let ties = ties_of c.args.taken.now part conds in
     let found = λ (choice : List ℕ). option_map_or (λ v. v.items) (hash.get same_row c.in_ok-index.index (key_for ties (picked parts choice))) [] in
-    let has : (q : Row) → option_map_or (λ v. v.items) (hash.get same_row c.in_ok-index.index q) [] ≡ places (keyed part conds ties 0 (slice_index_or parts part [])) q =
+    let has : (q : Row) → option_map_or (λ v. v.items) (hash.get same_row c.in_ok-index.index q) [] ≡ places
+    (keyed part conds ties 0 (slice_index_or parts part [])) q =
     λ q. rw (c.deref.ensures.value, c.in_ok-ties.ensures, c.rows.ensures) at (c.in_ok-index.ensures q) in
     subst (λ (made : List Choice). IfOk c.extend_all.result (λ extended. length extended.items ≤ c.args.most → extended.items ≡ made))
     (flat_map_same (λ choice. map (placed (length parts) choice part) (found choice)) (extensions parts conds c.args.taken.now part) c.args.kept.now

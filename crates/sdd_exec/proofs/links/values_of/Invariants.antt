@@ -1,4 +1,4 @@
-use Rattle.std.proofs.Common.{◌≡◌, take}
+use Rattle.sdd_exec.proofs.All.{take, ◌≡◌}
 use Rattle.sdd_exec.specs.Sifting as sift
 use Rattle.sdd_exec.proofs.links.values_of.Given as goal
 

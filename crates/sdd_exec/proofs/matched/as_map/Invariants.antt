@@ -1,7 +1,4 @@
-use Rattle.std.proofs.Common.{◌≡◌, fold}
-use Rattle.std.specs.BTreeMap.{insert_entry}
-use Rattle.std.specs.Ordering.{int_cmp}
-use Rattle.sdd_exec.specs.Rising.{keyed_rows, by_keys}
+use Rattle.sdd_exec.proofs.All.{by_keys, fold, insert_entry, int_cmp, keyed_rows, ◌≡◌}
 use Rattle.sdd_exec.proofs.matched.as_map.Given as goal
 
 -- the entries that are left make of the map what all make of none

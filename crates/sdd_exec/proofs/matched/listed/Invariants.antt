@@ -1,6 +1,4 @@
-use Rattle.std.proofs.Common.{◌≡◌, ◌++◌, ℕ}
-use Rattle.sdd_lang.specs.All.{entries_of}
-use Rattle.sdd_exec.specs.Snapshots.{of_relation}
+use Rattle.sdd_exec.proofs.All.{entries_of, of_relation, ℕ, ◌++◌, ◌≡◌}
 use Rattle.sdd_exec.proofs.matched.listed.Given as goal
 
 abbrev pub invariant-loop-key : goal.invariant-loop-key

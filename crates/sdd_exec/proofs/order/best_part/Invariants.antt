@@ -1,4 +1,4 @@
-use Rattle.std.proofs.Common.{◌<◌}
+use Rattle.sdd_exec.proofs.All.{◌<◌}
 use Rattle.sdd_exec.proofs.order.best_part.Given as goal
 
 abbrev pub invariant-loop-part : goal.invariant-loop-part

@@ -1,6 +1,4 @@
-use Rattle.std.proofs.Common.{length, map, take}
-use Rattle.sdd_exec.specs.Choices.{placed}
-use Rattle.sdd_exec.specs.Sifting.{Offered}
+use Rattle.sdd_exec.proofs.All.{Offered, length, map, placed, take}
 use Rattle.sdd_exec.proofs.sieve.offer_each.Given as goal
 
 abbrev pub invariant-loop-place : goal.invariant-loop-place

@@ -1,5 +1,4 @@
-use Rattle.std.proofs.lemmas.List.{take_all}
-use Rattle.sdd_exec.specs.Choices.{extended}
+use Rattle.sdd_exec.proofs.All.{extended, take_all}
 use Rattle.sdd_exec.proofs.Sieves.{offered_none, offered_more}
 use Rattle.sdd_exec.proofs.sifting.offer_all.Goals as goal
 

@@ -1,5 +1,4 @@
-use Rattle.std.proofs.Common.{take}
-use Rattle.sdd_exec.specs.Sifting.{Offered, extended_by}
+use Rattle.sdd_exec.proofs.All.{Offered, extended_by, take}
 use Rattle.sdd_exec.proofs.sifting.offer_all.Given as goal
 
 abbrev pub invariant-loop-choice : goal.invariant-loop-choice

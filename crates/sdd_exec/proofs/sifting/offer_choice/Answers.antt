@@ -1,4 +1,4 @@
-use Rattle.std.proofs.Common.{sym, ◌∙◌}
+use Rattle.sdd_exec.proofs.All.{sym, ◌∙◌}
 use Rattle.sdd_exec.proofs.Sieves.{offered_apart}
 use Rattle.sdd_exec.proofs.sifting.offer_choice.Goals as goal
 

@@ -1,9 +1,7 @@
-use Rattle.std.proofs.Common.{◌+◌, ◌≡◌, ◌∙◌, List, ℕ, ap, get_or, subst, sym, take}
-use Rattle.sdd_lang.specs.All.{Row}
-use Rattle.sdd_exec.specs.Sifting.{pair_of, pairs_of}
+use Rattle.sdd_exec.proofs.All.{List, Row, ap, pair_of, pairs_of, slice_index_or as get_or, subst, sym, take, ℕ, ◌+◌, ◌∙◌, ◌≡◌}
 use Rattle.sdd_exec.proofs.Steps.{filter_map_more, filter_map_same}
-use Rattle.sdd_exec.proofs.sifting.pairs_of.Goals as goal
 use Rattle.sdd_exec.proofs.sifting.pairs_of.Goals.{in-Some+in_ok-push, in_default}
+use Rattle.sdd_exec.proofs.sifting.pairs_of.Goals as goal
 
 pub loop-choice-preserved : goal.loop-choice-preserved
 loop-choice-preserved c =
@@ -19,5 +17,6 @@ loop-choice-preserved c =
           subst (λ m. Now m.items) (sym w.pairs-is)
           (rw (w.in_ok-push.ensures.items, c.loop-choice.invariant) (sym (filter_map_more f xs i x _ c.loop-choice-test.true (at_item ∙ w.in-Some.is))))
       | in_default w ↦
-          subst (λ m. Now m.items) (sym w.pairs-is) (c.loop-choice.invariant ∙ sym (filter_map_same f xs i x c.loop-choice-test.true (at_item ∙ w.in_default.is)))
+          subst (λ m. Now m.items) (sym w.pairs-is)
+          (c.loop-choice.invariant ∙ sym (filter_map_same f xs i x c.loop-choice-test.true (at_item ∙ w.in_default.is)))
     ]

@@ -1,4 +1,4 @@
-use Rattle.std.proofs.Common.{arith}
+use Rattle.sdd_exec.proofs.All.{arith}
 use Rattle.sdd_exec.proofs.Enough.{enough_start, tells_answer}
 use Rattle.sdd_exec.proofs.Inside.{sound_start}
 use Rattle.sdd_exec.proofs.sifting.sifted.Goals as goal

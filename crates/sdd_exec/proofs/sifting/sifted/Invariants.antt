@@ -1,7 +1,4 @@
-use Rattle.std.proofs.Common.{◌≡◌, ◌<◌, ℕ, true}
-use Rattle.sdd_exec.specs.Choices.{is_taken}
-use Rattle.sdd_exec.specs.Sifting.{AreEnough}
-use Rattle.sdd_exec.specs.Splicing.{AreSound}
+use Rattle.sdd_exec.proofs.All.{AreEnough, AreSound, is_taken, true, ℕ, ◌<◌, ◌≡◌}
 use Rattle.sdd_exec.proofs.sifting.sifted.Given as goal
 
 abbrev pub invariant-loop-step : goal.invariant-loop-step

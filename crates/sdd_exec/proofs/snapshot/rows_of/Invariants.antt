@@ -1,6 +1,4 @@
-use Rattle.std.proofs.Common.{◌≡◌, take}
-use Rattle.sdd_lang.specs.All.{rows_lent}
-use Rattle.sdd_exec.specs.Snapshots.{rows_for}
+use Rattle.sdd_exec.proofs.All.{rows_for, rows_lent, take, ◌≡◌}
 use Rattle.sdd_exec.proofs.snapshot.rows_of.Given as goal
 
 abbrev pub invariant-loop-one : goal.invariant-loop-one

@@ -1,5 +1,4 @@
-use Rattle.sdd_lang.specs.All.{rows_lent}
-use Rattle.sdd_exec.specs.Snapshots.{of_relation}
+use Rattle.sdd_exec.proofs.All.{of_relation, rows_lent}
 use Rattle.sdd_exec.proofs.Picked.{lent_at, lent_within}
 use Rattle.sdd_exec.proofs.Shipping.{chosen_next}
 use Rattle.sdd_exec.proofs.source.entries_by_key.Goals as goal

@@ -1,6 +1,4 @@
-use Rattle.std.proofs.Common.{◌≡◌, [], take, fold}
-use Rattle.sdd_lang.specs.All.{rows_lent}
-use Rattle.sdd_exec.specs.Snapshots.{of_relation, with_chosen}
+use Rattle.sdd_exec.proofs.All.{[], fold, of_relation, rows_lent, take, with_chosen, ◌≡◌}
 use Rattle.sdd_exec.proofs.source.entries_by_key.Given as goal
 
 abbrev pub invariant-loop-row : goal.invariant-loop-row

@@ -1,5 +1,4 @@
-use Rattle.std.proofs.Common.{◌≡◌, take}
-use Rattle.sdd_exec.specs.Choices.{picked, key_for}
+use Rattle.sdd_exec.proofs.All.{key_for, picked, take, ◌≡◌}
 use Rattle.sdd_exec.proofs.tie.key_for.Given as goal
 
 abbrev pub invariant-loop-tie : goal.invariant-loop-tie

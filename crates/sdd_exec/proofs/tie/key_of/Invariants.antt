@@ -1,5 +1,4 @@
-use Rattle.std.proofs.Common.{◌≡◌, take}
-use Rattle.sdd_exec.specs.Choices.{key_of}
+use Rattle.sdd_exec.proofs.All.{key_of, take, ◌≡◌}
 use Rattle.sdd_exec.proofs.tie.key_of.Given as goal
 
 abbrev pub invariant-loop-tie : goal.invariant-loop-tie

@@ -1,5 +1,4 @@
-use Rattle.std.proofs.Common.{◌≡◌, take}
-use Rattle.sdd_exec.specs.Choices.{ties_of}
+use Rattle.sdd_exec.proofs.All.{take, ties_of, ◌≡◌}
 use Rattle.sdd_exec.proofs.tie.ties.Given as goal
 
 abbrev pub invariant-loop-cond : goal.invariant-loop-cond

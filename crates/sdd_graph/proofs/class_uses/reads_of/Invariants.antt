@@ -1,5 +1,4 @@
-use Rattle.std.proofs.Common.{◌≡◌, ◌-◌, filter, is_some}
-use Rattle.sdd_catalog.specs.Catalogue.{numbers_to, reads_at}
+use Rattle.sdd_graph.proofs.All.{filter, is_some, numbers_to, reads_at, ◌-◌, ◌≡◌}
 use Rattle.sdd_graph.proofs.class_uses.reads_of.Given as goal
 
 -- the fragments so far that are read

@@ -1,10 +1,4 @@
-use Rattle.std.proofs.Common.{ℕ, ◌≡◌, ◌≤◌, ◌-◌, true, false, length, take, get_or, set, replicate, ◌∙◌, ap, arith}
-use Rattle.std.proofs.lemmas.List.{take_more}
-use Rattle.std.proofs.lemmas.List.FromFn.{length-range_with_len, length-map-range_with_len}
-use Rattle.std.proofs.lemmas.Simd.{splat_is_map}
-use Rattle.sdd_base.specs.Numbers.{frag_no}
-use Rattle.sdd_base.specs.declared.number.FragNo.{FragNo}
-use Rattle.sdd_catalog.specs.Catalogue.{numbers_to, class_at}
+use Rattle.sdd_graph.proofs.All.{FragNo, ap, arith, class_at, false, frag_no, get_or, length, length-map-range_with_len, length-range_with_len, numbers_to, replicate, set, splat_is_map, take, take_more, true, ℕ, ◌-◌, ◌∙◌, ◌≡◌, ◌≤◌}
 use Rattle.sdd_graph.proofs.Lists.{is_among, mark_more}
 use Rattle.sdd_graph.proofs.Tables.{writes_within, written_all}
 use Rattle.sdd_graph.proofs.class_uses.written_by.Goals as goal

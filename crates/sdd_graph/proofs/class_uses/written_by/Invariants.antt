@@ -1,5 +1,4 @@
-use Rattle.std.proofs.Common.{◌≡◌, map, take, length}
-use Rattle.sdd_catalog.specs.Catalogue.{numbers_to}
+use Rattle.sdd_graph.proofs.All.{length, map, numbers_to, take, ◌≡◌}
 use Rattle.sdd_graph.proofs.Lists.{is_among}
 use Rattle.sdd_graph.proofs.class_uses.written_by.Given as goal
 

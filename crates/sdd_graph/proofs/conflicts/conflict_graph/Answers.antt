@@ -1,7 +1,4 @@
-use Rattle.std.proofs.Common.{length, ◌≤◌, ◌≡◌, ap, arith}
-use Rattle.std.proofs.lemmas.List.Elements.{All-same}
-use Rattle.sdd_graph.specs.Edges.{IsEdgeOf, NamesClasses, JoinsNodes}
-use Rattle.sdd_graph.specs.Graph.{conflict_graph}
+use Rattle.sdd_graph.proofs.All.{All-same, IsEdgeOf, JoinsNodes, NamesClasses, ap, arith, conflict_graph, length, ◌≡◌, ◌≤◌}
 use Rattle.sdd_graph.proofs.Known.{edges_known, edges_named, edges_join}
 use Rattle.sdd_graph.proofs.Few.{few_edges}
 use Rattle.sdd_graph.proofs.conflicts.conflict_graph.Goals as goal
@@ -13,7 +10,8 @@ pub returns-clause-named : goal.returns-clause-named
 returns-clause-named c = All-same NamesClasses _ (conflict_graph c.args.cat.now) c.in_ok-edges.ensures (edges_named c.args.cat.now c.known.ensures.whole)
 
 pub returns-clause-nodes : goal.returns-clause-nodes
-returns-clause-nodes c = All-same (JoinsNodes (length c.args.cat.now.classes)) _ (conflict_graph c.args.cat.now) c.in_ok-edges.ensures (edges_join c.args.cat.now)
+returns-clause-nodes c =
+    All-same (JoinsNodes (length c.args.cat.now.classes)) _ (conflict_graph c.args.cat.now) c.in_ok-edges.ensures (edges_join c.args.cat.now)
 
 pub returns-clause-few : goal.returns-clause-few
 returns-clause-few c =

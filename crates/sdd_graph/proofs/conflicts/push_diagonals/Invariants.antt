@@ -1,7 +1,4 @@
-use Rattle.std.proofs.Common.{◌≡◌, ◌-◌, ◌++◌}
-use Rattle.std.specs.List.{flat_map}
-use Rattle.sdd_catalog.specs.Catalogue.{numbers_to}
-use Rattle.sdd_graph.specs.Graph.{diagonals_from}
+use Rattle.sdd_graph.proofs.All.{diagonals_from, flat_map, numbers_to, ◌++◌, ◌-◌, ◌≡◌}
 use Rattle.sdd_graph.proofs.conflicts.push_diagonals.Given as goal
 
 -- the edges of the classes so far are pushed

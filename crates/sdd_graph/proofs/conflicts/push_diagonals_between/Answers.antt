@@ -1,13 +1,8 @@
-use Rattle.std.proofs.Common.{◌++◌, Vec, Global, sym, ◌∙◌, ap}
-use Rattle.std.proofs.lemmas.List.{take_more, append-nil}
-use Rattle.sdd_catalog.specs.Catalogue.{writes}
-use Rattle.sdd_graph.specs.declared.edge.Edge.{Edge}
-use Rattle.sdd_graph.specs.declared.edge.Edge.TheVariants.{Diagonal}
-use Rattle.sdd_base.specs.Numbers.{class_no, frag_no}
+use Rattle.sdd_graph.proofs.All.{Diagonal, Edge, Global, Vec, ap, append-nil, class_no, frag_no, sym, take_more, writes, ◌++◌, ◌∙◌}
 use Rattle.sdd_graph.proofs.Lists.{kept_more, left_more}
 use Rattle.sdd_graph.proofs.Pairs.{none_to_itself, between_others}
-use Rattle.sdd_graph.proofs.conflicts.push_diagonals_between.Goals as goal
 use Rattle.sdd_graph.proofs.conflicts.push_diagonals_between.Goals.{then-writes+in_ok-push, else-writes}
+use Rattle.sdd_graph.proofs.conflicts.push_diagonals_between.Goals as goal
 
 pub returns-then-i-j : goal.returns-then-i-j
 returns-then-i-j c =

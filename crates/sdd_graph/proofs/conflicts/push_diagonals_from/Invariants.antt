@@ -1,7 +1,4 @@
-use Rattle.std.proofs.Common.{◌≡◌, ◌-◌, ◌++◌}
-use Rattle.std.specs.List.{flat_map}
-use Rattle.sdd_catalog.specs.Catalogue.{numbers_to}
-use Rattle.sdd_graph.specs.Graph.{diagonals_between}
+use Rattle.sdd_graph.proofs.All.{diagonals_between, flat_map, numbers_to, ◌++◌, ◌-◌, ◌≡◌}
 use Rattle.sdd_graph.proofs.conflicts.push_diagonals_from.Given as goal
 
 -- the edges to the classes so far are pushed

@@ -1,7 +1,4 @@
-use Rattle.std.proofs.Common.{◌≡◌, ◌-◌, ◌++◌}
-use Rattle.std.specs.List.{flat_map}
-use Rattle.sdd_catalog.specs.Catalogue.{numbers_to}
-use Rattle.sdd_graph.specs.Graph.{horizontals_from}
+use Rattle.sdd_graph.proofs.All.{flat_map, horizontals_from, numbers_to, ◌++◌, ◌-◌, ◌≡◌}
 use Rattle.sdd_graph.proofs.conflicts.push_horizontals.Given as goal
 
 -- the edges of the classes so far are pushed

@@ -1,4 +1,4 @@
-use Rattle.std.proofs.Common.{◌∙◌, sym, arith}
+use Rattle.sdd_lang.proofs.All.{arith, sym, ◌∙◌}
 use Rattle.sdd_lang.proofs.Firsts.{first_of_all, first_here, first_later, first_of_none}
 use Rattle.sdd_lang.proofs.classes.first_covering.Goals as goal
 

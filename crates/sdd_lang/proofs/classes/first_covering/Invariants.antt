@@ -1,5 +1,4 @@
-use Rattle.std.proofs.Common.{◌≡◌, ◌+◌, ◌-◌, length}
-use Rattle.sdd_lang.specs.Classes.{class_for}
+use Rattle.sdd_lang.proofs.All.{class_for, length, ◌+◌, ◌-◌, ◌≡◌}
 use Rattle.sdd_lang.proofs.Firsts.{first_from}
 use Rattle.sdd_lang.proofs.classes.first_covering.Given as goal
 

@@ -1,8 +1,4 @@
-use Rattle.std.proofs.Common.{◌≡◌, ◌-◌, map}
-use Rattle.std.specs.List.{filter}
-use Rattle.sdd_base.specs.Numbers.{frag_no}
-use Rattle.sdd_catalog.specs.Catalogue.{numbers_to}
-use Rattle.sdd_lang.specs.FragSets.{has}
+use Rattle.sdd_lang.proofs.All.{filter, frag_no, has, map, numbers_to, ◌-◌, ◌≡◌}
 use Rattle.sdd_lang.proofs.classes.listed.Given as goal
 
 -- the members among the numbers so far

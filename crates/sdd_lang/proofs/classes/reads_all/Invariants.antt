@@ -1,11 +1,9 @@
-use Rattle.std.proofs.Common.{◌≡◌, ◌+◌, ◌-◌, length, is_some}
-use Rattle.std.specs.List.{list_all}
-use Rattle.sdd_catalog.specs.Catalogue.{reads_at}
-use Rattle.sdd_lang.specs.FragSets.{members}
+use Rattle.sdd_lang.proofs.All.{is_some, length, list_all, members, reads_at, ◌+◌, ◌-◌, ◌≡◌}
 use Rattle.sdd_lang.proofs.FragSets.{pass_from}
 use Rattle.sdd_lang.proofs.classes.reads_all.Given as goal
 
 -- those that are left decide
 abbrev pub invariant-loop-number : goal.invariant-loop-number
 invariant-loop-number l =
-    list_all (λ f. is_some (reads_at l.cat l.class.0 f)) (members l.cat l.set) ≡ pass_from (λ f. is_some (reads_at l.cat l.class.0 f)) l.set l.number (length l.cat.fragments + 1 - l.number)
+    list_all (λ f. is_some (reads_at l.cat l.class.0 f)) (members l.cat l.set) ≡ pass_from (λ f. is_some (reads_at l.cat l.class.0 f)) l.set l.number
+    (length l.cat.fragments + 1 - l.number)

@@ -1,7 +1,4 @@
-use Rattle.std.proofs.Common.{◌≡◌, ◌+◌, ◌-◌, length}
-use Rattle.std.specs.List.{list_all}
-use Rattle.sdd_catalog.specs.Catalogue.{writes}
-use Rattle.sdd_lang.specs.FragSets.{members}
+use Rattle.sdd_lang.proofs.All.{length, list_all, members, writes, ◌+◌, ◌-◌, ◌≡◌}
 use Rattle.sdd_lang.proofs.FragSets.{pass_from}
 use Rattle.sdd_lang.proofs.classes.writes_all.Given as goal
 

@@ -1,4 +1,4 @@
-use Rattle.std.proofs.Common.{length}
+use Rattle.sdd_lang.proofs.All.{length}
 use Rattle.sdd_lang.proofs.fitting.+are_kinds.Given as goal
 
 -- one value fewer

@@ -1,5 +1,4 @@
-use Rattle.std.proofs.Common.{◌≡◌, take}
-use Rattle.sdd_lang.specs.Uses.{allowed_keys}
+use Rattle.sdd_lang.proofs.All.{allowed_keys, take, ◌≡◌}
 use Rattle.sdd_lang.proofs.keys.allowed_keys.Given as goal
 
 -- the keys that the restrictions so far allow

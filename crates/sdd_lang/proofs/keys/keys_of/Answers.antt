@@ -1,6 +1,4 @@
-use Rattle.std.proofs.Common.{◌∙◌, ◌∷◌, [], ap, sym, arith}
-use Rattle.sdd_lang.specs.Narrowing.{keys_left}
-use Rattle.sdd_lang.specs.Uses.{restrictions_of}
+use Rattle.sdd_lang.proofs.All.{[], ap, arith, keys_left, restrictions_of, sym, ◌∙◌, ◌∷◌}
 use Rattle.sdd_lang.proofs.StatementSets.{keys_more}
 use Rattle.sdd_lang.proofs.keys.keys_of.Goals as goal
 

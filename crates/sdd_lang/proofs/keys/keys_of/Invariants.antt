@@ -1,5 +1,4 @@
-use Rattle.std.proofs.Common.{◌≡◌, take}
-use Rattle.sdd_lang.specs.Uses.{allowed_keys, restrictions_of}
+use Rattle.sdd_lang.proofs.All.{allowed_keys, restrictions_of, take, ◌≡◌}
 use Rattle.sdd_lang.proofs.keys.keys_of.Given as goal
 
 -- the keys that the conditions so far allow

@@ -1,5 +1,4 @@
-use Rattle.std.proofs.Common.{All, take}
-use Rattle.sdd_lang.specs.Sound.{PutsHeld}
+use Rattle.sdd_lang.proofs.All.{All, PutsHeld, take}
 use Rattle.sdd_lang.proofs.laws.law_puts_held.Given as goal
 
 abbrev pub invariant-loop-statement : goal.invariant-loop-statement

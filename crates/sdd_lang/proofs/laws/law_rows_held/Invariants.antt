@@ -1,5 +1,4 @@
-use Rattle.std.proofs.Common.{All, take}
-use Rattle.sdd_lang.specs.Sound.{IsHeld}
+use Rattle.sdd_lang.proofs.All.{All, IsHeld, take}
 use Rattle.sdd_lang.proofs.laws.law_rows_held.Given as goal
 
 abbrev pub invariant-loop-row : goal.invariant-loop-row

@@ -1,12 +1,12 @@
-use Rattle.std.proofs.Common.{◌≡◌, length, ap, arith}
-use Rattle.sdd_lang.specs.Sound.{IsHeld}
+use Rattle.sdd_lang.proofs.All.{IsHeld, ap, arith, length, ◌≡◌}
 use Rattle.sdd_lang.proofs.SoFar.{all_and_next, all_at_end}
 use Rattle.sdd_lang.proofs.laws.row_held.Goals as goal
 
 pub loop-value-preserved : goal.loop-value-preserved
 loop-value-preserved c =
     let same : length c.as_slice-value-items.result.now ≡ length c.args.row.now = ap length c.as_slice-value-items.ensures in
-    all_and_next IsHeld c.args.row.now c.loop-value.value-index c.value-item.result (omega arith) (rw c.as_slice-value-items.ensures at c.value-item.is) c.loop-value.invariant c.value_held.ensures
+    all_and_next IsHeld c.args.row.now c.loop-value.value-index c.value-item.result (omega arith)
+    (rw c.as_slice-value-items.ensures at c.value-item.is) c.loop-value.invariant c.value_held.ensures
 
 pub returns : goal.returns
 returns c =

@@ -1,5 +1,4 @@
-use Rattle.std.proofs.Common.{All, take}
-use Rattle.sdd_lang.specs.Sound.{IsHeld}
+use Rattle.sdd_lang.proofs.All.{All, IsHeld, take}
 use Rattle.sdd_lang.proofs.laws.row_held.Given as goal
 
 abbrev pub invariant-loop-value : goal.invariant-loop-value

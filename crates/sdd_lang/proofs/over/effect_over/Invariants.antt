@@ -1,6 +1,4 @@
-use Rattle.std.proofs.Common.{◌≡◌, ◌≤◌, ◌*◌, drop}
-use Rattle.sdd_lang.specs.Source.{effect_over}
-use Rattle.sdd_lang.specs.Run.{effect_after}
+use Rattle.sdd_lang.proofs.All.{drop, effect_after, effect_over, ◌*◌, ◌≡◌, ◌≤◌}
 use Rattle.sdd_lang.proofs.over.effect_over.Given as goal
 
 -- few uses so far; to go on with the statements that are left is to take all from the start

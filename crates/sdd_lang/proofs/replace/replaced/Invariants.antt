@@ -1,5 +1,4 @@
-use Rattle.std.proofs.Common.{◌≡◌, drop}
-use Rattle.sdd_lang.specs.Update.{assigned_all, replaced}
+use Rattle.sdd_lang.proofs.All.{assigned_all, drop, replaced, ◌≡◌}
 use Rattle.sdd_lang.proofs.replace.replaced.Given as goal
 
 -- what is left to assign makes of the row what all assignments make of the old one

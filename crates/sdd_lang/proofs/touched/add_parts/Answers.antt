@@ -1,4 +1,4 @@
-use Rattle.std.proofs.Common.{◌≡◌, ◌+◌, arith}
+use Rattle.sdd_lang.proofs.All.{arith, ◌+◌, ◌≡◌}
 use Rattle.sdd_lang.proofs.StatementSets.{part_more}
 use Rattle.sdd_lang.proofs.touched.add_parts.Goals as goal
 
@@ -7,5 +7,7 @@ loop-rel-preserved c =
     let counted : c.loop-rel.part ≡ c.loop-rel.rel-index + 1 = c.loop-rel.invariant.counted in
     record {
       counted = omega arith;
-      told = part_more c.args.cat.now _ _ _ c.loop-rel.part c.args.conds.now c.args.rels.now c.loop-rel.rel-index (record { 0 = 0 }) c.relation.result.now c.keys_of-keys.result (omega arith) c.relation.ensures c.keys_of-keys.ensures c.add_use.ensures c.loop-rel.invariant.told;
+      told = part_more c.args.cat.now _ _ _ c.loop-rel.part c.args.conds.now c.args.rels.now c.loop-rel.rel-index
+          (record { 0 = 0 }) c.relation.result.now c.keys_of-keys.result
+          (omega arith) c.relation.ensures c.keys_of-keys.ensures c.add_use.ensures c.loop-rel.invariant.told;
     }

@@ -1,7 +1,4 @@
-use Rattle.std.proofs.Common.{◌≡◌, ◌+◌, drop}
-use Rattle.sdd_lang.specs.Classes.{fragments_in}
-use Rattle.sdd_lang.specs.FragSets.{members, put_all}
-use Rattle.sdd_lang.specs.Uses.{part_uses}
+use Rattle.sdd_lang.proofs.All.{drop, fragments_in, members, part_uses, put_all, ◌+◌, ◌≡◌}
 use Rattle.sdd_lang.proofs.touched.add_parts.Given as goal
 
 -- with the fragments of the parts that are left these are all

@@ -1,4 +1,4 @@
-use Rattle.std.proofs.Common.{◌∙◌}
+use Rattle.sdd_lang.proofs.All.{◌∙◌}
 use Rattle.sdd_lang.proofs.Standing.{each_lets_stand}
 use Rattle.sdd_lang.proofs.tuple.may_stand.Goals as goal
 

@@ -1,6 +1,4 @@
-use Rattle.std.proofs.Common.{◌≡◌, take, map}
-use Rattle.sdd_lang.specs.Condition.{value_at}
-use Rattle.sdd_lang.specs.Tuples.{rows_lent}
+use Rattle.sdd_lang.proofs.All.{map, rows_lent, take, value_at, ◌≡◌}
 use Rattle.sdd_lang.proofs.tuple.project.Given as goal
 
 -- the values so far are those of the columns so far

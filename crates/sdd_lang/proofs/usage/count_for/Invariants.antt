@@ -1,5 +1,4 @@
-use Rattle.std.proofs.Common.{◌≡◌, ◌≤◌, length, take}
-use Rattle.sdd_lang.specs.Uses.{restrictions_of}
+use Rattle.sdd_lang.proofs.All.{length, restrictions_of, take, ◌≡◌, ◌≤◌}
 use Rattle.sdd_lang.proofs.usage.count_for.Given as goal
 
 -- those of the conditions so far

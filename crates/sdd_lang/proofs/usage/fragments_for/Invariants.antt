@@ -1,8 +1,4 @@
-use Rattle.std.proofs.Common.{◌≡◌, ◌-◌, map}
-use Rattle.std.specs.List.{filter}
-use Rattle.sdd_catalog.specs.Catalogue.{numbers_to}
-use Rattle.sdd_base.specs.Numbers.{frag_no}
-use Rattle.sdd_lang.specs.Uses.{meets_keys}
+use Rattle.sdd_lang.proofs.All.{filter, frag_no, map, meets_keys, numbers_to, ◌-◌, ◌≡◌}
 use Rattle.sdd_lang.proofs.usage.fragments_for.Given as goal
 
 -- those of the numbers so far that hold such a key

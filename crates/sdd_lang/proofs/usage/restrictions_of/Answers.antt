@@ -1,8 +1,6 @@
-use Rattle.std.proofs.Common.{arith}
-use Rattle.std.proofs.lemmas.Grind.{common_steps}
-use Rattle.std.proofs.lemmas.List.Elements.{filter_map-append}
-use Rattle.sdd_lang.proofs.usage.restrictions_of.Goals as goal
+use Rattle.sdd_lang.proofs.All.{arith, common_steps, filter_map-append}
 use Rattle.sdd_lang.proofs.usage.restrictions_of.Goals.{in-Some+in_ok-push-in-Some, in-None}
+use Rattle.sdd_lang.proofs.usage.restrictions_of.Goals as goal
 
 pub loop-cond-preserved : goal.loop-cond-preserved
 loop-cond-preserved c =

@@ -1,5 +1,4 @@
-use Rattle.std.proofs.Common.{◌≡◌, take}
-use Rattle.sdd_lang.specs.Uses.{restrictions_of}
+use Rattle.sdd_lang.proofs.All.{restrictions_of, take, ◌≡◌}
 use Rattle.sdd_lang.proofs.usage.restrictions_of.Given as goal
 
 -- those of the conditions so far

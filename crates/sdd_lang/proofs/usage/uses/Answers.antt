@@ -1,4 +1,4 @@
-use Rattle.std.proofs.Common.{◌≡◌, length, ap, arith}
+use Rattle.sdd_lang.proofs.All.{ap, arith, length, ◌≡◌}
 use Rattle.sdd_lang.proofs.UseLists.{uses_more}
 use Rattle.sdd_lang.proofs.usage.uses.Goals as goal
 

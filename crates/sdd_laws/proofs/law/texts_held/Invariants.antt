@@ -1,5 +1,4 @@
-use Rattle.std.proofs.Common.{All, take}
-use Rattle.sdd_lang.specs.All.{PutsHeld}
+use Rattle.sdd_laws.proofs.All.{All, PutsHeld, take}
 use Rattle.sdd_laws.proofs.law.texts_held.Given as goal
 
 abbrev pub invariant-loop-txn : goal.invariant-loop-txn

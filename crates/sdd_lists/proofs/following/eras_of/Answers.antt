@@ -1,4 +1,4 @@
-use Rattle.std.proofs.Common.{◌∙◌}
+use Rattle.sdd_lists.proofs.All.{◌∙◌}
 use Rattle.sdd_lists.proofs.Steps.{begins, era_allowed, era_more, era_stands, eras_begin}
 use Rattle.sdd_lists.proofs.following.eras_of.Goals as goal
 

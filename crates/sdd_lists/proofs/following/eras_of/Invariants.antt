@@ -1,6 +1,4 @@
-use Rattle.std.proofs.Common.{◌≡◌, ◌++◌, drop}
-use Rattle.sdd_script.specs.All.{eras}
-use Rattle.sdd_lists.specs.InForce.{numbered}
+use Rattle.sdd_lists.proofs.All.{drop, eras, numbered, ◌++◌, ◌≡◌}
 use Rattle.sdd_lists.proofs.Steps.{Stands}
 use Rattle.sdd_lists.proofs.following.eras_of.Given as goal
 

@@ -1,6 +1,4 @@
-use Rattle.std.proofs.Common.{◌≡◌, drop}
-use Rattle.sdd_script.specs.All.{whole}
-use Rattle.sdd_lists.specs.InForce.{numbered}
+use Rattle.sdd_lists.proofs.All.{drop, numbered, whole, ◌≡◌}
 use Rattle.sdd_lists.proofs.Steps.{Stands}
 use Rattle.sdd_lists.proofs.following.whole_of.Given as goal
 

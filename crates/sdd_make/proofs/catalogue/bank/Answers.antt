@@ -1,5 +1,4 @@
-use Rattle.std.proofs.Common.{subst}
-use Rattle.sdd_script.specs.All.{TellsFirst, faults_of}
+use Rattle.sdd_make.proofs.All.{TellsFirst, faults_of, subst}
 use Rattle.sdd_make.proofs.BankParts.{no_fault}
 use Rattle.sdd_make.proofs.catalogue.bank.Goals as goal
 

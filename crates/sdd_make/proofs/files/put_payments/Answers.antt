@@ -1,4 +1,4 @@
-use Rattle.sdd_make.specs.Files.{eastpay_text, westpay_text}
+use Rattle.sdd_make.proofs.All.{eastpay_text, westpay_text}
 use Rattle.sdd_make.proofs.TwoPieces.{two_put}
 use Rattle.sdd_make.proofs.files.put_payments.Goals as goal
 

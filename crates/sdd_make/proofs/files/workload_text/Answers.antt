@@ -1,7 +1,4 @@
-use Rattle.std.proofs.Common.{◌≡◌, subst}
-use Rattle.std.specs.Prelude.{IfOk}
-use Rattle.sdd_script.specs.All.{spelling}
-use Rattle.sdd_make.specs.Bank.{bank}
+use Rattle.sdd_make.proofs.All.{IfOk, bank, spelling, subst, ◌≡◌}
 use Rattle.sdd_make.proofs.files.workload_text.Goals as goal
 
 pub returns : goal.returns

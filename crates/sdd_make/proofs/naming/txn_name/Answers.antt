@@ -1,7 +1,4 @@
-use Rattle.std.proofs.Common.{◌≡◌, ◌^◌, ◌<◌, ◌++◌, rules, subst, sym}
-use Rattle.std.specs.Prelude.{codes}
-use Rattle.std.specs.Fmt.{decimal}
-use Rattle.sdd_script.specs.All.{IsName}
+use Rattle.sdd_make.proofs.All.{IsName, codes, decimal, rules, subst, sym, ◌++◌, ◌<◌, ◌^◌, ◌≡◌}
 use Rattle.sdd_make.proofs.Names.{number_named}
 use Rattle.sdd_make.proofs.naming.txn_name.Goals as goal
 

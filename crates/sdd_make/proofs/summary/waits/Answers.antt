@@ -1,8 +1,4 @@
-use Rattle.std.proofs.Common.{◌∙◌, rules, tests}
-use Rattle.std.proofs.lemmas.Iterator.{YieldsList-from_slice}
-use Rattle.std.proofs.lemmas.Iterator.Consumers.{YieldsList-from_filter, count_from_yields_List}
-use Rattle.std.proofs.lemmas.List.Sums.{length-filter}
-use Rattle.sdd_make.specs.Summary.{is_wait}
+use Rattle.sdd_make.proofs.All.{YieldsList-from_filter, YieldsList-from_slice, count_from_yields_List, is_wait, length-filter, rules, tests, ◌∙◌}
 use Rattle.sdd_make.proofs.summary.waits.Goals as goal
 
 pub returns : goal.returns

@@ -1,4 +1,4 @@
-use Rattle.std.proofs.Common.{◌+◌, refl}
+use Rattle.sdd_make.proofs.All.{refl, ◌+◌}
 use Rattle.sdd_make.proofs.Drawn.{account_more}
 use Rattle.sdd_make.proofs.turns.add_accounts.Goals as goal
 

@@ -1,6 +1,4 @@
-use Rattle.std.proofs.Common.{◌≡◌, ◌+◌, ◌-◌, ◌++◌, map}
-use Rattle.std.specs.List.{range_with_len}
-use Rattle.sdd_make.specs.Turns.{account_row}
+use Rattle.sdd_make.proofs.All.{account_row, map, range_with_len, ◌++◌, ◌+◌, ◌-◌, ◌≡◌}
 use Rattle.sdd_make.proofs.turns.add_accounts.Given as goal
 
 -- the rows so far and those that are left are all of them

@@ -1,5 +1,4 @@
-use Rattle.std.proofs.Common.{◌≡◌, ◌-◌, ◌++◌}
-use Rattle.sdd_make.specs.Turns.{deliveries}
+use Rattle.sdd_make.proofs.All.{deliveries, ◌++◌, ◌-◌, ◌≡◌}
 use Rattle.sdd_make.proofs.turns.add_deliveries.Given as goal
 
 -- the events so far and those that are left are all of them, and so for the state

@@ -1,5 +1,4 @@
-use Rattle.std.proofs.Common.{◌≡◌, ◌+◌, ◌-◌, ◌++◌}
-use Rattle.sdd_make.specs.Turns.{turns, turns_of, txns_of, events_of}
+use Rattle.sdd_make.proofs.All.{events_of, turns, turns_of, txns_of, ◌++◌, ◌+◌, ◌-◌, ◌≡◌}
 use Rattle.sdd_make.proofs.turns.add_turns.Given as goal
 
 -- what was made so far and what is left are all of it

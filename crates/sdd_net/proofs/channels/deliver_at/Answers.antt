@@ -1,6 +1,4 @@
-use Rattle.std.proofs.Common.{◌-◌, ◌≢◌, ap, ◌∙◌, sym}
-use Rattle.std.specs.Prelude.{Some}
-use Rattle.sdd_net.specs.declared.packet.Packet.TheVariants.{Message}
+use Rattle.sdd_net.proofs.All.{Message, Some, ap, sym, ◌-◌, ◌∙◌, ◌≢◌}
 use Rattle.sdd_net.proofs.Deliveries.{stays, fits_live, ack_known, packet_is_of, delivers_nothing, delivers_message, gives_messages}
 use Rattle.sdd_net.proofs.channels.deliver_at.Goals as goal
 
@@ -38,7 +36,8 @@ returns-in_ok-send_at-in-Some-Message-clause-given g c l pair sound =
 
 pub returns-in-None-clause-law : goal.returns-in-None-clause-law
 returns-in-None-clause-law g c l pair sound =
-    delivers_nothing _ _ c.args.there c.args.back c.args.place l pair (sym (c.take_at.ensures.packet l.there pair.fits_there) ∙ c.in-None.is) (c.take_at.ensures.some l.there pair.fits_there)
+    delivers_nothing _ _ c.args.there c.args.back c.args.place l pair (sym (c.take_at.ensures.packet l.there pair.fits_there) ∙ c.in-None.is)
+    (c.take_at.ensures.some l.there pair.fits_there)
 
 pub returns-in_ok-send_at-in-Some-Message-clause-law : goal.returns-in_ok-send_at-in-Some-Message-clause-law
 returns-in_ok-send_at-in-Some-Message-clause-law g c l pair sound =

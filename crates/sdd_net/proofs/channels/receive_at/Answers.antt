@@ -1,4 +1,4 @@
-use Rattle.std.proofs.Common.{ap, ◌∙◌}
+use Rattle.sdd_net.proofs.All.{ap, ◌∙◌}
 use Rattle.sdd_net.proofs.Matching.{message_received, received_matches, if_on, if_both}
 use Rattle.sdd_net.proofs.Places.{fits_there, changes}
 use Rattle.sdd_net.proofs.channels.receive_at.Goals as goal
@@ -17,7 +17,8 @@ returns-clause-count g c =
     let x = c.index_mut-channel.result.now in
     let there = c.index_mut-channel.ensures.value in
     if_both c.receive.result _ _ _ c.receive.ensures.count c.receive.ensures.receiver (λ given e r w sent fits.
-    e ∙ ap (λ y. y.value.count) r ∙ (message_received x w c.args.no c.args.msg c.requires.number sent (fits_there channels c.args.at x w c.requires.live there fits)).stands.count)
+    e ∙ ap (λ y. y.value.count) r ∙
+    (message_received x w c.args.no c.args.msg c.requires.number sent (fits_there channels c.args.at x w c.requires.live there fits)).stands.count)
 
 pub returns-clause-law : goal.returns-clause-law
 returns-clause-law g c =

@@ -1,5 +1,4 @@
-use Rattle.std.proofs.Common.{◌++◌}
-use Rattle.sdd_net.specs.Links.{unacked}
+use Rattle.sdd_net.proofs.All.{unacked, ◌++◌}
 use Rattle.sdd_net.proofs.Matching.{flight_is, resent_is, flight_matches, some_unacked, if_on}
 use Rattle.sdd_net.proofs.Places.{fits_there, changes}
 use Rattle.sdd_net.proofs.channels.resend_at.Goals as goal

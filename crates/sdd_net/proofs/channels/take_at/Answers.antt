@@ -1,5 +1,4 @@
-use Rattle.std.proofs.Common.{◌-◌, refl}
-use Rattle.sdd_net.specs.Links.{without_at}
+use Rattle.sdd_net.proofs.All.{refl, without_at, ◌-◌}
 use Rattle.sdd_net.proofs.Matching.{flight_is, flight_matches, left_is}
 use Rattle.sdd_net.proofs.Places.{fits_there, changes, live_flight}
 use Rattle.sdd_net.proofs.channels.take_at.Goals as goal

@@ -1,5 +1,4 @@
-use Rattle.std.proofs.Common.{◌≡◌, ◌<◌, ℕ, [], length, map}
-use Rattle.std.specs.Prelude.{slice_index_or}
+use Rattle.sdd_net.proofs.All.{[], get_or as slice_index_or, length, map, ℕ, ◌<◌, ◌≡◌}
 use Rattle.sdd_net.proofs.mailbox.pop_first.Given as goal
 
 abbrev pub invariant-loop-place : goal.invariant-loop-place

@@ -1,6 +1,4 @@
-use Rattle.std.proofs.Common.{◌≡◌}
-use Rattle.std.specs.Prelude.{replicate}
-use Rattle.sdd_net.specs.Nets.{unused_channel}
+use Rattle.sdd_net.proofs.All.{replicate, unused_channel, ◌≡◌}
 use Rattle.sdd_net.proofs.net.unused_channels.Given as goal
 
 abbrev pub invariant-loop : goal.invariant-loop

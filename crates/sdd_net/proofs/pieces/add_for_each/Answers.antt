@@ -1,6 +1,4 @@
-use Rattle.std.proofs.Common.{◌+◌, ◌∙◌, ap, sym, arith}
-use Rattle.std.specs.Prelude.{length, take}
-use Rattle.std.specs.List.{flat_map}
+use Rattle.sdd_net.proofs.All.{ap, arith, flat_map, length, sym, take, ◌+◌, ◌∙◌}
 use Rattle.sdd_net.proofs.Joined.{count_more, times_more}
 use Rattle.sdd_net.proofs.pieces.add_for_each.Goals as goal
 

@@ -1,5 +1,4 @@
-use Rattle.std.proofs.Common.{◌≡◌, ◌++◌}
-use Rattle.std.specs.Prelude.{replicate}
+use Rattle.sdd_net.proofs.All.{replicate, ◌++◌, ◌≡◌}
 use Rattle.sdd_net.proofs.pieces.add_times.Given as goal
 
 abbrev pub invariant-loop : goal.invariant-loop

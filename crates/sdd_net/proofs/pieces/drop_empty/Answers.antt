@@ -1,5 +1,4 @@
-use Rattle.std.proofs.Common.{◌≡◌, ◌∙◌, ap, length, rules}
-use Rattle.std.specs.List.{flat_map}
+use Rattle.sdd_net.proofs.All.{ap, flat_map, length, rules, ◌∙◌, ◌≡◌}
 use Rattle.sdd_net.proofs.Joined.{without_empty, none_held}
 use Rattle.sdd_net.proofs.pieces.drop_empty.Goals as goal
 

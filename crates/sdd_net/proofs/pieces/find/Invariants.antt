@@ -1,5 +1,4 @@
-use Rattle.std.proofs.Common.{◌≡◌, ◌+◌, length, take}
-use Rattle.std.specs.List.{flat_map}
+use Rattle.sdd_net.proofs.All.{flat_map, length, take, ◌+◌, ◌≡◌}
 use Rattle.sdd_net.proofs.pieces.find.Given as goal
 
 abbrev pub invariant-loop-at : goal.invariant-loop-at

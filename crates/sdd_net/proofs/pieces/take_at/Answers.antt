@@ -1,6 +1,4 @@
-use Rattle.std.proofs.Common.{◌+◌, ◌<◌, length, take, arith, rules}
-use Rattle.std.specs.Prelude.{IsSome}
-use Rattle.std.specs.List.{flat_map}
+use Rattle.sdd_net.proofs.All.{IsSome, arith, flat_map, length, rules, take, ◌+◌, ◌<◌}
 use Rattle.sdd_net.proofs.Joined.{count_more, item_at, item_read, of_some, without_item}
 use Rattle.sdd_net.proofs.pieces.take_at.Goals as goal
 

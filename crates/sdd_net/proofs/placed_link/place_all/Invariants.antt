@@ -1,5 +1,4 @@
-use Rattle.std.proofs.Common.{◌≡◌, map, take}
-use Rattle.sdd_net.specs.Nets.{placed}
+use Rattle.sdd_net.proofs.All.{map, placed, take, ◌≡◌}
 use Rattle.sdd_net.proofs.placed_link.place_all.Given as goal
 
 abbrev pub invariant-loop-from : goal.invariant-loop-from

@@ -1,8 +1,4 @@
-use Rattle.std.proofs.Common.{◌∙◌, ap, sym, cond, get_or}
-use Rattle.std.specs.Prelude.{Option, Some, None}
-use Rattle.sdd_base.specs.Sites.{are_linked}
-use Rattle.sdd_base.specs.declared.site.Site.{Site}
-use Rattle.sdd_base.specs.declared.site.Site.TheVariants.{U}
+use Rattle.sdd_net.proofs.All.{None, Option, Site, Some, U, ap, are_linked, cond, get_or, sym, ◌∙◌}
 use Rattle.sdd_net.proofs.SiteLists.{links_yes, links_no}
 use Rattle.sdd_net.proofs.sites.add_links.Goals.{then-are_linked+in_ok-push, else-are_linked}
 use Rattle.sdd_net.proofs.sites.add_links.Goals as goal
@@ -13,7 +9,9 @@ loop-to-preserved c =
     elim c.if-are_linked.branch [
       | then-are_linked+in_ok-push w ↦ (let same = sym c.are_linked.ensures ∙ w.if-are_linked.true in
           let push = ap (λ v. v.items) w.links-is ∙ w.in_ok-push.ensures.items in
-          links_yes f c.args.sites.now c.loop-to.to-index U _ c.args.links.now.items c.loop-to.links.items _ c.loop-to-test.true c.loop-to.invariant (ap (λ b. cond {A = Option (Site × Site)} b (Some (c.args.from, get_or c.args.sites.now c.loop-to.to-index U)) None) same) push)
+          links_yes f c.args.sites.now c.loop-to.to-index U _ c.args.links.now.items c.loop-to.links.items _ c.loop-to-test.true c.loop-to.invariant
+          (ap (λ b. cond {A = Option (Site × Site)} b (Some (c.args.from, get_or c.args.sites.now c.loop-to.to-index U)) None) same) push)
       | else-are_linked w ↦ (let same = sym c.are_linked.ensures ∙ w.if-are_linked.false in
-          links_no f c.args.sites.now c.loop-to.to-index U c.args.links.now.items _ c.loop-to-test.true (ap (λ v. v.items) w.links-is ∙ c.loop-to.invariant) (ap (λ b. cond {A = Option (Site × Site)} b (Some (c.args.from, get_or c.args.sites.now c.loop-to.to-index U)) None) same))
+          links_no f c.args.sites.now c.loop-to.to-index U c.args.links.now.items _ c.loop-to-test.true (ap (λ v. v.items) w.links-is ∙ c.loop-to.invariant)
+          (ap (λ b. cond {A = Option (Site × Site)} b (Some (c.args.from, get_or c.args.sites.now c.loop-to.to-index U)) None) same))
     ]

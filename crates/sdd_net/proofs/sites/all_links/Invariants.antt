@@ -1,8 +1,6 @@
-use Rattle.std.proofs.Common.{◌≡◌, take, cond}
-use Rattle.std.specs.Prelude.{Some, None}
-use Rattle.std.specs.List.{filter_map, flat_map}
-use Rattle.sdd_base.specs.Sites.{are_linked}
+use Rattle.sdd_net.proofs.All.{None, Some, are_linked, cond, filter_map, flat_map, take, ◌≡◌}
 use Rattle.sdd_net.proofs.sites.all_links.Given as goal
 
 abbrev pub invariant-loop-from : goal.invariant-loop-from
-invariant-loop-from l = l.links.items ≡ flat_map (λ a. filter_map (λ b. cond (are_linked a b) (Some (a, b)) None) l.from-items) (take l.from-index l.from-items)
+invariant-loop-from l =
+    l.links.items ≡ flat_map (λ a. filter_map (λ b. cond (are_linked a b) (Some (a, b)) None) l.from-items) (take l.from-index l.from-items)

@@ -1,6 +1,4 @@
-use Rattle.std.proofs.Common.{ℕ, ◌≡◌, Option, Some, ap, sym, ◌∙◌}
-use Rattle.std.specs.Prelude.{option_map}
-use Rattle.sdd_order.specs.Attempts.{Attempt, Committed, committed_of}
+use Rattle.sdd_order.proofs.All.{Attempt, Committed, Option, Some, ap, committed_of, option_map, sym, ℕ, ◌∙◌, ◌≡◌}
 use Rattle.sdd_order.proofs.attempts.committed_of.Goals as goal
 
 pub returns-in-Some : goal.returns-in-Some

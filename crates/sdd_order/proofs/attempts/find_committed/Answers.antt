@@ -1,10 +1,7 @@
-use Rattle.std.proofs.Common.{ℕ, ◌≡◌, ◌+◌, List, ap, sym, subst, ◌∙◌, take}
-use Rattle.std.specs.Prelude.{filter_map}
-use Rattle.sdd_order.specs.Attempts.{Committed, attempts, committed_of}
-use Rattle.sdd_order.specs.Places.{placed}
+use Rattle.sdd_order.proofs.All.{Committed, List, ap, attempts, committed_of, filter_map, placed, subst, sym, take, ℕ, ◌+◌, ◌∙◌, ◌≡◌}
 use Rattle.sdd_order.proofs.Reading.{one_made, none_made}
-use Rattle.sdd_order.proofs.attempts.find_committed.Goals as goal
 use Rattle.sdd_order.proofs.attempts.find_committed.Goals.{in-Some+in_ok-push, in_default}
+use Rattle.sdd_order.proofs.attempts.find_committed.Goals as goal
 
 pub loop-place-preserved : goal.loop-place-preserved
 loop-place-preserved c =

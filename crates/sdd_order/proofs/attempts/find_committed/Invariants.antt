@@ -1,7 +1,4 @@
-use Rattle.std.proofs.Common.{◌≡◌, take}
-use Rattle.std.specs.Prelude.{filter_map}
-use Rattle.sdd_order.specs.Attempts.{attempts, committed_of}
-use Rattle.sdd_order.specs.Places.{placed}
+use Rattle.sdd_order.proofs.All.{attempts, committed_of, filter_map, placed, take, ◌≡◌}
 use Rattle.sdd_order.proofs.attempts.find_committed.Given as goal
 
 abbrev pub invariant-loop-place : goal.invariant-loop-place

@@ -1,10 +1,7 @@
-use Rattle.std.proofs.Common.{ℕ, ◌≡◌, ◌+◌, BTreeMap, Option, Some, ap, sym, subst, ◌∙◌, take}
-use Rattle.std.specs.BTreeMap.{get}
-use Rattle.sdd_order.specs.Attempts.{Attempt}
-use Rattle.sdd_order.specs.Finding.{pair_cmp}
+use Rattle.sdd_order.proofs.All.{Attempt, BTreeMap, Option, Some, ap, get, pair_cmp, subst, sym, take, ℕ, ◌+◌, ◌∙◌, ◌≡◌}
 use Rattle.sdd_order.proofs.Reading.{Found, found_no_start, found_again_at, found_first_at}
-use Rattle.sdd_order.proofs.attempts.starts.Goals as goal
 use Rattle.sdd_order.proofs.attempts.starts.Goals.{in-Some+then-not-contains_key+in_ok-insert, in-Some+else-not-contains_key, in_default}
+use Rattle.sdd_order.proofs.attempts.starts.Goals as goal
 
 pub loop-place-preserved : goal.loop-place-preserved
 loop-place-preserved c =

@@ -1,5 +1,4 @@
-use Rattle.std.proofs.Common.{◌≡◌, ◌++◌, None, drop}
-use Rattle.sdd_order.specs.Groups.{chain_after}
+use Rattle.sdd_order.proofs.All.{None, chain_after, drop, ◌++◌, ◌≡◌}
 use Rattle.sdd_order.proofs.chain.add_chain.Given as goal
 
 abbrev pub invariant-loop-number : goal.invariant-loop-number

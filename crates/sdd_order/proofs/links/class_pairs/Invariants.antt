@@ -1,7 +1,4 @@
-use Rattle.std.proofs.Common.{ℕ, ◌≡◌, ◌++◌, drop, map}
-use Rattle.std.specs.List.{enumerate_from}
-use Rattle.sdd_order.specs.Attempts.{Committed}
-use Rattle.sdd_order.specs.Linked.{by_class}
+use Rattle.sdd_order.proofs.All.{Committed, by_class, drop, enumerate_from, map, ℕ, ◌++◌, ◌≡◌}
 use Rattle.sdd_order.proofs.links.class_pairs.Given as goal
 
 abbrev pub invariant-loop-place : goal.invariant-loop-place

@@ -1,9 +1,4 @@
-use Rattle.std.proofs.Common.{ℕ, ◌≡◌, ◌++◌, ◌+◌, drop, length}
-use Rattle.std.specs.List.{enumerate_from, flat_map}
-use Rattle.sdd_lang.specs.All.{fragments_in}
-use Rattle.sdd_order.specs.Attempts.{Committed}
-use Rattle.sdd_order.specs.Linked.{by_fragment, fragment_links, links}
-use Rattle.sdd_order.specs.Groups.{Groups, groups}
+use Rattle.sdd_order.proofs.All.{Committed, Groups, by_fragment, drop, enumerate_from, flat_map, fragment_links, fragments_in, groups, length, links, ℕ, ◌++◌, ◌+◌, ◌≡◌}
 use Rattle.sdd_order.proofs.links.find_links.Given as goal
 
 abbrev pub invariant-loop-place : goal.invariant-loop-place

@@ -1,6 +1,4 @@
-use Rattle.std.proofs.Common.{ℕ, map, ap, ◌∙◌, ◌++◌}
-use Rattle.sdd_order.specs.Attempts.{Committed}
-use Rattle.sdd_order.specs.Linked.{by_fragment}
+use Rattle.sdd_order.proofs.All.{Committed, ap, by_fragment, map, ℕ, ◌++◌, ◌∙◌}
 use Rattle.sdd_order.proofs.Numbered.{numbered_more}
 use Rattle.sdd_order.proofs.links.fragment_pairs.Goals as goal
 

@@ -1,6 +1,4 @@
-use Rattle.std.proofs.Common.{rules}
-use Rattle.std.proofs.lemmas.List.Sorted.{IsNonDecreasingBy-from_sort_by_key}
-use Rattle.sdd_order.specs.Attempts.{Committed}
+use Rattle.sdd_order.proofs.All.{Committed, IsNonDecreasingBy-from_sort_by_key, rules}
 use Rattle.sdd_order.proofs.order.by_time.Goals as goal
 
 pub returns-clause-sorted : goal.returns-clause-sorted

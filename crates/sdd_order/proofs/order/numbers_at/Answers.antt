@@ -1,13 +1,7 @@
-use Rattle.std.proofs.Common.{ℕ, ◌≡◌, ◌++◌, ◌+◌, ◌∷◌, [], List, Option, refl, ap, sym, subst, ◌∙◌, drop}
-use Rattle.std.specs.Prelude.{option_map, slice_get}
-use Rattle.std.specs.List.{cons_option}
-use Rattle.std.proofs.lemmas.List.{append-nil, get_or_default}
-use Rattle.sdd_lang.specs.All.{TxnNo, txn_no}
-use Rattle.sdd_order.specs.Attempts.{Committed}
-use Rattle.sdd_order.specs.Linked.{numbers_at}
+use Rattle.sdd_order.proofs.All.{Committed, List, Option, TxnNo, [], ap, append-nil, cons_option, drop, get_or_default, numbers_at, option_map, refl, slice_get, subst, sym, txn_no, ℕ, ◌++◌, ◌+◌, ◌∙◌, ◌∷◌, ◌≡◌}
 use Rattle.sdd_order.proofs.Numbered.{option_more}
-use Rattle.sdd_order.proofs.order.numbers_at.Goals as goal
 use Rattle.sdd_order.proofs.order.numbers_at.Goals.{in-Some+in_ok-push, in_default}
+use Rattle.sdd_order.proofs.order.numbers_at.Goals as goal
 
 pub loop-place-preserved : goal.loop-place-preserved
 loop-place-preserved c =

@@ -1,5 +1,4 @@
-use Rattle.std.proofs.Common.{◌≡◌, ◌++◌, drop}
-use Rattle.sdd_order.specs.Linked.{numbers_at}
+use Rattle.sdd_order.proofs.All.{drop, numbers_at, ◌++◌, ◌≡◌}
 use Rattle.sdd_order.proofs.order.numbers_at.Given as goal
 
 abbrev pub invariant-loop-place : goal.invariant-loop-place

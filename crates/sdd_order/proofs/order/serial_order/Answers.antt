@@ -1,13 +1,4 @@
-use Rattle.std.proofs.Common.{ℕ, ◌≡◌, ◌<◌, List, length, ap, sym, subst, ◌∙◌}
-use Rattle.std.specs.Prelude.{All}
-use Rattle.std.proofs.lemmas.List.Sorted.{length_permutation}
-use Rattle.std.proofs.lemmas.Result.{IfOk-weaker}
-use Rattle.sdd_order.specs.Attempts.{Committed, committed}
-use Rattle.sdd_order.specs.Linked.{links, numbers_at}
-use Rattle.sdd_order.specs.Numbers.{IsClass, UseExists}
-use Rattle.sdd_order.specs.Orders.{IsSerial}
-use Rattle.sdd_order.specs.SerialOrder.{serial_order}
-use Rattle.sdd_order.specs.Taking.{order_of}
+use Rattle.sdd_order.proofs.All.{All, Committed, IfOk-weaker, IsClass, IsSerial, List, UseExists, ap, committed, length, length_permutation, links, numbers_at, order_of, serial_order, subst, sym, ℕ, ◌<◌, ◌∙◌, ◌≡◌}
 use Rattle.sdd_order.proofs.ByLinks.{all_exist, ends_within, order_found}
 use Rattle.sdd_order.proofs.InOrder.{in_order_of_time, in_sorted, from_sorted}
 use Rattle.sdd_order.proofs.Serial.{serial_order_is}

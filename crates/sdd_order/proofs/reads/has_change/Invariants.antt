@@ -1,5 +1,4 @@
-use Rattle.std.proofs.Common.{◌≡◌, ◌==◌, drop}
-use Rattle.std.specs.List.{list_any}
+use Rattle.sdd_order.proofs.All.{drop, list_any, ◌==◌, ◌≡◌}
 use Rattle.sdd_order.proofs.reads.has_change.Given as goal
 
 abbrev pub invariant-loop-change : goal.invariant-loop-change

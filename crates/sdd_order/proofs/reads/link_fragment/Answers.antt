@@ -1,9 +1,4 @@
-use Rattle.std.proofs.Common.{◌≡◌, ◌==◌, ◌++◌, false, ap, sym, subst, ◌∙◌}
-use Rattle.std.specs.Prelude.{unwrap_or, OnOk}
-use Rattle.std.specs.List.{list_any}
-use Rattle.sdd_lang.specs.All.{reads_at}
-use Rattle.sdd_order.specs.Attempts.{changes}
-use Rattle.sdd_order.specs.Precedence.{module_of}
+use Rattle.sdd_order.proofs.All.{OnOk, ap, changes, false, list_any, module_of, reads_at, subst, sym, unwrap_or, ◌++◌, ◌==◌, ◌∙◌, ◌≡◌}
 use Rattle.sdd_order.proofs.Linking.{number_or, fragment_links_are}
 use Rattle.sdd_order.proofs.reads.link_fragment.Goals as goal
 

@@ -1,6 +1,4 @@
-use Rattle.std.proofs.Common.{◌≡◌, ◌++◌, drop}
-use Rattle.std.specs.List.{flat_map}
-use Rattle.sdd_order.specs.Linked.{fragment_links}
+use Rattle.sdd_order.proofs.All.{drop, flat_map, fragment_links, ◌++◌, ◌≡◌}
 use Rattle.sdd_order.proofs.reads.link_use.Given as goal
 
 abbrev pub invariant-loop-frag : goal.invariant-loop-frag

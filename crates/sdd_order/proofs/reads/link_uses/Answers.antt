@@ -1,8 +1,4 @@
-use Rattle.std.proofs.Common.{ℕ, ◌≡◌, ◌++◌, List, ap, sym, ◌∙◌, drop}
-use Rattle.std.proofs.lemmas.List.{append-nil, drop_all}
-use Rattle.std.specs.List.{flat_map}
-use Rattle.sdd_lang.specs.All.{Use}
-use Rattle.sdd_order.specs.Linked.{fragment_links}
+use Rattle.sdd_order.proofs.All.{List, Use, ap, append-nil, drop, drop_all, flat_map, fragment_links, sym, ℕ, ◌++◌, ◌∙◌, ◌≡◌}
 use Rattle.sdd_order.proofs.Numbered.{item_more}
 use Rattle.sdd_order.proofs.Linking.{over_uses}
 use Rattle.sdd_order.proofs.reads.link_uses.Goals as goal
@@ -19,6 +15,7 @@ returns c =
     let links : ℕ → List (ℕ × ℕ) = fragment_links c.args.cat.now c.args.marks.now c.args.txns.now c.args.writers.now (c.args.reader, c.args.txn.now) in
     let items = c.uses-used-items.result.now in
     let some : List Use → List (ℕ × ℕ) = flat_map (λ u. flat_map (λ f. links f.0) u.frags) in
-    sym (append-nil c.loop-used.links.items) ∙ ap (λ l. c.loop-used.links.items ++ some l) (sym (drop_all c.loop-used.used-index items c.loop-used-test.false))
+    sym (append-nil c.loop-used.links.items) ∙ ap (λ l. c.loop-used.links.items ++ some l)
+    (sym (drop_all c.loop-used.used-index items c.loop-used-test.false))
     ∙ c.loop-used.invariant
     ∙ ap (λ l. c.args.links.now.items ++ l) (ap some (c.uses-used-items.ensures) ∙ over_uses links c.args.txn.now.start.uses)

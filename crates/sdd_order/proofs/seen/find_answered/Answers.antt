@@ -1,9 +1,7 @@
-use Rattle.std.proofs.Common.{ℕ, ◌≡◌, ◌+◌, Option, sym, subst, ◌∙◌, take}
-use Rattle.std.specs.BTreeMap.{get}
-use Rattle.sdd_order.specs.Finding.{triple_cmp, Answered}
+use Rattle.sdd_order.proofs.All.{Answered, Option, get, subst, sym, take, triple_cmp, ℕ, ◌+◌, ◌∙◌, ◌≡◌}
 use Rattle.sdd_order.proofs.Marking.{no_answer, answered_last}
-use Rattle.sdd_order.proofs.seen.find_answered.Goals as goal
 use Rattle.sdd_order.proofs.seen.find_answered.Goals.{in-Some+in_ok-insert, in_default}
+use Rattle.sdd_order.proofs.seen.find_answered.Goals as goal
 
 pub loop-place-preserved : goal.loop-place-preserved
 loop-place-preserved c =

@@ -1,6 +1,4 @@
-use Rattle.std.proofs.Common.{take}
-use Rattle.std.specs.BTreeMap.{get}
-use Rattle.sdd_order.specs.Finding.{triple_cmp, Answered}
+use Rattle.sdd_order.proofs.All.{Answered, get, take, triple_cmp}
 use Rattle.sdd_order.proofs.seen.find_answered.Given as goal
 
 abbrev pub invariant-loop-place : goal.invariant-loop-place

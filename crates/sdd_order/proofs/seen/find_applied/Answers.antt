@@ -1,9 +1,7 @@
-use Rattle.std.proofs.Common.{ℕ, ◌≡◌, ◌+◌, Option, sym, subst, ◌∙◌, take}
-use Rattle.std.specs.BTreeMap.{get}
-use Rattle.sdd_order.specs.Finding.{pair_cmp, Applied}
+use Rattle.sdd_order.proofs.All.{Applied, Option, get, pair_cmp, subst, sym, take, ℕ, ◌+◌, ◌∙◌, ◌≡◌}
 use Rattle.sdd_order.proofs.Marking.{no_apply, applied_again, applied_first}
-use Rattle.sdd_order.proofs.seen.find_applied.Goals as goal
 use Rattle.sdd_order.proofs.seen.find_applied.Goals.{in-Some+then-not-contains_key+in_ok-insert, in-Some+else-not-contains_key, in_default}
+use Rattle.sdd_order.proofs.seen.find_applied.Goals as goal
 
 pub loop-place-preserved : goal.loop-place-preserved
 loop-place-preserved c =

@@ -1,6 +1,4 @@
-use Rattle.std.proofs.Common.{take}
-use Rattle.std.specs.BTreeMap.{get}
-use Rattle.sdd_order.specs.Finding.{pair_cmp, Applied}
+use Rattle.sdd_order.proofs.All.{Applied, get, pair_cmp, take}
 use Rattle.sdd_order.proofs.seen.find_applied.Given as goal
 
 abbrev pub invariant-loop-place : goal.invariant-loop-place

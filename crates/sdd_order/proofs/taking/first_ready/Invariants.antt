@@ -1,5 +1,4 @@
-use Rattle.std.proofs.Common.{◌≡◌}
-use Rattle.sdd_order.specs.Taking.{first_ready}
+use Rattle.sdd_order.proofs.All.{first_ready, ◌≡◌}
 use Rattle.sdd_order.proofs.taking.first_ready.Given as goal
 
 abbrev pub invariant-loop-node : goal.invariant-loop-node

@@ -1,5 +1,4 @@
-use Rattle.std.proofs.Common.{◌≡◌, ◌≤◌, All, length, drop, fold, replicate}
-use Rattle.sdd_order.specs.Taking.{counted}
+use Rattle.sdd_order.proofs.All.{All, counted, drop, fold, length, replicate, ◌≡◌, ◌≤◌}
 use Rattle.sdd_order.proofs.taking.link_counts.Given as goal
 
 abbrev pub invariant-loop-to : goal.invariant-loop-to

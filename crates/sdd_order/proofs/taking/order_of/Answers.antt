@@ -1,8 +1,4 @@
-use Rattle.std.proofs.Common.{List, ℕ, ◌≡◌, ◌<◌, length, ap, sym, subst, ◌∙◌, arith}
-use Rattle.std.specs.Prelude.{All}
-use Rattle.std.proofs.lemmas.Result.{IfOk-weaker}
-use Rattle.sdd_order.specs.Groups.{groups}
-use Rattle.sdd_order.specs.Taking.{order_of, link_counts, first_ready, taking}
+use Rattle.sdd_order.proofs.All.{All, IfOk-weaker, List, ap, arith, first_ready, groups, length, link_counts, order_of, subst, sym, taking, ℕ, ◌<◌, ◌∙◌, ◌≡◌}
 use Rattle.sdd_order.proofs.Grouped.{groups_long}
 use Rattle.sdd_order.proofs.OrderOf.{counts_long, first_within, targets_within, ready_made, order_made}
 use Rattle.sdd_order.proofs.taking.order_of.Goals as goal

@@ -1,7 +1,4 @@
-use Rattle.std.proofs.Common.{List, [], ℕ, ◌≡◌, ◌<◌, ◌∷◌, ◌-◌, ◌+◌, suc, length, ap, sym, subst, arith, ◌∙◌}
-use Rattle.std.specs.Prelude.{All, slice_index_or, fold}
-use Rattle.std.proofs.lemmas.List.Elements.{All-head, All-tail, All-get_or}
-use Rattle.sdd_order.specs.Taking.{Front, taking, released}
+use Rattle.sdd_order.proofs.All.{All, All-get_or, All-head, All-tail, Front, List, [], ap, arith, fold, get_or as slice_index_or, length, released, subst, suc, sym, taking, ℕ, ◌+◌, ◌-◌, ◌<◌, ◌∙◌, ◌∷◌, ◌≡◌}
 use Rattle.sdd_order.proofs.Steps.{taking_more, taken_more, taken_all, released_below, nothing_in}
 use Rattle.sdd_order.proofs.taking.taken.Goals as goal
 

@@ -1,6 +1,4 @@
-use Rattle.std.proofs.Common.{◌≡◌, drop}
-use Rattle.std.specs.Prelude.{fold}
-use Rattle.sdd_pipe.specs.Digest.{with_room}
+use Rattle.sdd_pipe.proofs.All.{drop, fold, with_room, ◌≡◌}
 use Rattle.sdd_pipe.proofs.writes.make_entries.Given as goal
 
 abbrev pub invariant-loop-change : goal.invariant-loop-change

@@ -1,4 +1,4 @@
-use Rattle.sdd_protocol.specs.Entries.{AreEntries}
+use Rattle.sdd_protocol.proofs.All.{AreEntries}
 use Rattle.sdd_protocol.proofs.entries.entries.Given as goal
 
 abbrev pub invariant-loop-k : goal.invariant-loop-k

@@ -1,4 +1,4 @@
-use Rattle.std.proofs.Common.{◌*◌, ◌<◌, All, sym, ◌∙◌, subst}
+use Rattle.sdd_protocol.proofs.All.{All, subst, sym, ◌*◌, ◌<◌, ◌∙◌}
 use Rattle.sdd_protocol.proofs.MadeTable.{ends_below}
 use Rattle.sdd_protocol.proofs.making.block_numbers.Goals as goal
 

@@ -1,10 +1,4 @@
-use Rattle.std.proofs.Common.{◌+◌, ◌≡◌, map, length, All, sym, ◌∙◌, subst}
-use Rattle.std.proofs.lemmas.List.{length-map}
-use Rattle.sdd_blocks.specs.Blocks.{AreBlocks}
-use Rattle.sdd_graph.specs.Graph.{ends}
-use Rattle.sdd_protocol.specs.Entries.{HasVertical, AreEntries}
-use Rattle.sdd_protocol.specs.DiagonalIndex.{HasCell}
-use Rattle.sdd_protocol.specs.Protocols.{IsTable}
+use Rattle.sdd_protocol.proofs.All.{All, AreBlocks, AreEntries, HasCell, HasVertical, IsTable, ends, length, length-map, map, subst, sym, ◌+◌, ◌∙◌, ◌≡◌}
 use Rattle.sdd_protocol.proofs.MadeTable.{readers_there, cells_there, is_table}
 use Rattle.sdd_protocol.proofs.making.table.Goals as goal
 
@@ -33,5 +27,6 @@ returns c =
     let entries = c.in_ok-entries.entries.items in
     let blocks : AreBlocks (map ends edges) numbers = subst (λ z. AreBlocks (map ends z) numbers) c.deref.ensures.value c.in_ok-numbers.ensures in
     let made : AreEntries edges numbers (length edges) entries =
-    subst (λ z. AreEntries edges z (length edges) entries) c.deref-3.ensures.value (subst (λ z. AreEntries z c.deref-3.result.now (length z) entries) c.deref-2.ensures.value c.in_ok-entries.ensures) in
+    subst (λ z. AreEntries edges z (length edges) entries) c.deref-3.ensures.value
+    (subst (λ z. AreEntries z c.deref-3.result.now (length z) entries) c.deref-2.ensures.value c.in_ok-entries.ensures) in
     subst (λ z. IsTable cat z) (sym c.new.ensures) (is_table cat edges numbers entries c.in_ok-edges.ensures.edges blocks made)

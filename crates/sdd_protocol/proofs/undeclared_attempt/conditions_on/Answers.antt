@@ -1,5 +1,4 @@
-use Rattle.sdd_graph.proofs.Lists.{up_to, collected_more}
-use Rattle.sdd_protocol.specs.Conditions.{cond_of}
+use Rattle.sdd_protocol.proofs.All.{collected_more, cond_of, up_to}
 use Rattle.sdd_protocol.proofs.undeclared_attempt.conditions_on.Goals as goal
 
 pub loop-class-preserved : goal.loop-class-preserved

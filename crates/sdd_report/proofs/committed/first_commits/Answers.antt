@@ -1,10 +1,7 @@
-use Rattle.std.proofs.Common.{ℕ, ◌+◌, Option, ap, sym, subst, ◌∙◌, take}
-use Rattle.std.specs.BTreeMap.{get}
-use Rattle.std.specs.Ordering.{nat_cmp}
-use Rattle.sdd_report.specs.Committed.{Told}
+use Rattle.sdd_report.proofs.All.{Option, Told, ap, get, nat_cmp, subst, sym, take, ℕ, ◌+◌, ◌∙◌}
 use Rattle.sdd_report.proofs.Commits.{Found, no_commit, further_commit, first_commit}
-use Rattle.sdd_report.proofs.committed.first_commits.Goals as goal
 use Rattle.sdd_report.proofs.committed.first_commits.Goals.{in-Some+then-not-contains_key+in_ok-insert, in-Some+else-not-contains_key, in_default}
+use Rattle.sdd_report.proofs.committed.first_commits.Goals as goal
 
 pub history-preserved : goal.history-preserved
 history-preserved c =

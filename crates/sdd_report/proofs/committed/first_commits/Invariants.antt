@@ -1,7 +1,4 @@
-use Rattle.std.proofs.Common.{ℕ, ◌≡◌, take}
-use Rattle.std.specs.BTreeMap.{get}
-use Rattle.std.specs.Ordering.{nat_cmp}
-use Rattle.sdd_report.specs.Committed.{told_of}
+use Rattle.sdd_report.proofs.All.{get, nat_cmp, take, told_of, ℕ, ◌≡◌}
 use Rattle.sdd_report.proofs.committed.first_commits.Given as goal
 
 abbrev pub invariant-history : goal.invariant-history

@@ -1,6 +1,4 @@
-use Rattle.std.proofs.Common.{◌≡◌, ◌++◌, take, flat_map}
-use Rattle.sdd_report.specs.Committed.{names_of}
-use Rattle.sdd_report.specs.Names.{spaced}
+use Rattle.sdd_report.proofs.All.{flat_map, names_of, spaced, take, ◌++◌, ◌≡◌}
 use Rattle.sdd_report.proofs.committed.put_names.Given as goal
 
 -- the names so far are written

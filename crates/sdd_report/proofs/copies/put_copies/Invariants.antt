@@ -1,5 +1,4 @@
-use Rattle.std.proofs.Common.{◌≡◌, ◌++◌, drop}
-use Rattle.sdd_report.specs.Copies.{copies_lines}
+use Rattle.sdd_report.proofs.All.{copies_lines, drop, ◌++◌, ◌≡◌}
 use Rattle.sdd_report.proofs.copies.put_copies.Given as goal
 
 -- what was written and what is left to write is all of it

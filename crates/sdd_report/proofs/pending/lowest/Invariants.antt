@@ -1,6 +1,4 @@
-use Rattle.std.proofs.Common.{◌≡◌, length}
-use Rattle.std.specs.List.{best_of}
-use Rattle.sdd_report.specs.Pending.{is_lower}
+use Rattle.sdd_report.proofs.All.{best_of, is_lower, length, ◌≡◌}
 use Rattle.sdd_report.proofs.pending.lowest.Given as goal
 
 -- the lowest so far and what is left have the lowest of all

@@ -1,5 +1,4 @@
-use Rattle.std.proofs.Common.{◌≡◌, ◌++◌, drop}
-use Rattle.sdd_report.specs.Trace.{cond_words}
+use Rattle.sdd_report.proofs.All.{cond_words, drop, ◌++◌, ◌≡◌}
 use Rattle.sdd_report.proofs.trace.put_conds.Given as goal
 
 -- what was written and what is left to write is all of it

@@ -1,5 +1,4 @@
-use Rattle.std.proofs.Common.{◌≡◌, ◌++◌, drop}
-use Rattle.sdd_report.specs.Trace.{trace}
+use Rattle.sdd_report.proofs.All.{drop, trace, ◌++◌, ◌≡◌}
 use Rattle.sdd_report.proofs.trace.put_trace.Given as goal
 
 -- what was written and what is left to write is all of it

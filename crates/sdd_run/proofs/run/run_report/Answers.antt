@@ -1,9 +1,8 @@
 use Rattle.std.proofs.Common.{◌∙◌, subst, sym}
 use Rattle.std.specs.List.{AllZip}
-use Rattle.sdd_obligations.specs.All.{Catalogue, IsOrderable, IsSound, IsTable, history}
+use Rattle.sdd_obligations.specs.All.{IsSound, IsTable}
 use Rattle.sdd_lists.specs.InForce.{eras_in}
 use Rattle.sdd_run.specs.Runs.{given_of}
-use Rattle.sdd_run.specs.Worlds.{StandsOn}
 use Rattle.sdd_run.proofs.Ordered.{orderable}
 use Rattle.sdd_run.proofs.Reported.{last_homes, reported}
 use Rattle.sdd_run.proofs.run.run_report.Goals as goal
@@ -26,8 +25,8 @@ report_on-requires c =
     let sound = subst IsSound is c.known.ensures.sound in (
       given_of cat tables c.args.work,
       r.log,
-      subst (λ (k : Catalogue). IsOrderable k (history r.log)) (sym is) (orderable cat tables c.args.work sound c.requires.valid tabled r.log r.log_is),
-      subst (λ k. StandsOn k c.in_ok-world.world (given_of cat tables c.args.work) r.log) (sym is) r.stands,
+      orderable cat tables c.args.work sound c.requires.valid tabled r.log r.log_is,
+      r.stands,
     )
 
 pub returns-clause-report : goal.returns-clause-report
@@ -40,6 +39,5 @@ returns-clause-report c =
     let tabled = subst (λ ts. AllZip IsTable (eras_in cat c.args.work) ts) (sym c.as_slice.ensures.value)
     (subst (λ cats. AllZip IsTable cats c.in_ok-tables.tables.items) (c.eras.ensures ∙ c.in_ok-lists.ensures.eras) c.in_ok-tables.ensures) in
     let sound = subst IsSound is c.known.ensures.sound in
-    let stands = subst (λ k. StandsOn k c.in_ok-world.world given r.log) (sym is) r.stands in
-    reported cat tables c.args.work r.log sound c.requires.valid tabled r.log_is c.in_ok-report_on.field-0.items
-    (c.in_ok-report_on.ensures given r.log stands (last_homes cat tables c.args.work sound c.requires.valid tabled r.log r.log_is))
+    reported cat tables c.args.work r.log sound c.requires.valid tabled r.log_is c.in_ok-report_on.field-0
+    (c.in_ok-report_on.ensures given r.log r.stands (last_homes cat tables c.args.work sound c.requires.valid tabled r.log r.log_is))

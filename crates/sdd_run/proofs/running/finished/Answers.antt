@@ -47,8 +47,8 @@ carry_out-requires c =
     let made = subst (λ (k : Catalogue). AllBegin (BeginsD k c.as_slice.result.now) k.dms dms) is c.in_ok-modules.ensures in
     let new = subst (λ k. (g : Given) → IsGood g → standing.IsSound g → IsBegun g k cat table work.txns dms → StandsFor c.in_ok-world.world g [])
     is c.in_ok-world.ensures in
-    let begins = (starts cat tables work sound c.requires.valid tabled c.as_slice.result.now work.txns table dms c.in_ok-world.world
-    few_tms few_dms c.first_table.ensures c.as_slice.ensures refl made new).stands in
+    let begins = starts cat tables work sound c.requires.valid tabled c.as_slice.result.now work.txns table dms c.in_ok-world.world
+    few_tms few_dms c.first_table.ensures c.as_slice.ensures refl made new in
     let lent = c.in_ok-further.ensures ∙ ap (λ cats. tail_of (forces_of cats tables)) (c.eras.ensures ∙ c.requires.eras) in
     let allowed = all_allowed cat tables work sound c.requires.valid tabled c.into_vec.result.items c.in_ok-further.further.items c.into_vec.ensures lent in
     (begun cat tables work, [], begins, allowed)
@@ -68,8 +68,8 @@ returns-clause-run c =
     let made = subst (λ (k : Catalogue). AllBegin (BeginsD k c.as_slice.result.now) k.dms dms) is c.in_ok-modules.ensures in
     let new = subst (λ k. (g : Given) → IsGood g → standing.IsSound g → IsBegun g k cat table work.txns dms → StandsFor c.in_ok-world.world g [])
     is c.in_ok-world.ensures in
-    let begins = (starts cat tables work sound c.requires.valid tabled c.as_slice.result.now work.txns table dms c.in_ok-world.world
-    few_tms few_dms c.first_table.ensures c.as_slice.ensures refl made new).stands in
+    let begins = starts cat tables work sound c.requires.valid tabled c.as_slice.result.now work.txns table dms c.in_ok-world.world
+    few_tms few_dms c.first_table.ensures c.as_slice.ensures refl made new in
     let lent = c.in_ok-further.ensures ∙ ap (λ cats. tail_of (forces_of cats tables)) (c.eras.ensures ∙ c.requires.eras) in
     let allowed = all_allowed cat tables work sound c.requires.valid tabled c.into_vec.result.items c.in_ok-further.further.items c.into_vec.ensures lent in
     if_ok c.carry_out.result _ _
@@ -93,8 +93,8 @@ returns-clause-limit c = λ is_limit.
     let made = subst (λ (k : Catalogue). AllBegin (BeginsD k c.as_slice.result.now) k.dms dms) is c.in_ok-modules.ensures in
     let new = subst (λ k. (g : Given) → IsGood g → standing.IsSound g → IsBegun g k cat table work.txns dms → StandsFor c.in_ok-world.world g [])
     is c.in_ok-world.ensures in
-    let begins = (starts cat tables work sound c.requires.valid tabled c.as_slice.result.now work.txns table dms c.in_ok-world.world
-    few_tms few_dms c.first_table.ensures c.as_slice.ensures refl made new).stands in
+    let begins = starts cat tables work sound c.requires.valid tabled c.as_slice.result.now work.txns table dms c.in_ok-world.world
+    few_tms few_dms c.first_table.ensures c.as_slice.ensures refl made new in
     let lent = c.in_ok-further.ensures ∙ ap (λ cats. tail_of (forces_of cats tables)) (c.eras.ensures ∙ c.requires.eras) in
     let allowed = all_allowed cat tables work sound c.requires.valid tabled c.into_vec.result.items c.in_ok-further.further.items c.into_vec.ensures lent in
     ended cat tables work tabled c.into_vec.result.items c.into_vec.ensures

@@ -1,17 +1,17 @@
 use Rattle.std.proofs.Common.{◌∙◌, ap}
 use Rattle.sdd_report.specs.Report.{report_text as text_of}
 use Rattle.sdd_world.specs.Standings.{standing_of}
-use Rattle.sdd_run.proofs.Results.{of_ok}
+use Rattle.sdd_world.proofs.Results.{of_ok}
 use Rattle.sdd_run.proofs.SameReport.{report_is}
 use Rattle.sdd_run.proofs.telling.report_on.Goals as goal
 
 pub returns : goal.returns
 returns c =
-    of_ok c.report_text.result _ _ c.report_text.ensures (λ text told given log s homes.
+    of_ok c.report_pages.result _ _ c.report_pages.ensures (λ text told given log s homes.
     told
-    ∙ ap text_of (report_is standing_of given log c.args.catalogue.now c.transactions.result.now c.as_slice-history.result.now
-    c.as_slice.result.now c.as_slice-2.result.now c.as_slice-3.result.now homes s.catalogue_is (c.transactions.ensures given log s.stands)
-    (c.as_slice-history.ensures ∙ c.history.ensures given log s.stands)
+    ∙ ap text_of (report_is standing_of given log c.whole.result.now c.transactions.result.now c.as_slice-history.result.now
+    c.as_slice.result.now c.as_slice-2.result.now c.as_slice-3.result.now homes (sym (c.whole.ensures given log s)) (c.transactions.ensures given log s)
+    (c.as_slice-history.ensures ∙ c.history.ensures given log s)
     (c.as_slice.ensures.value ∙ c.in_ok-order.ensures.order)
     (c.as_slice-2.ensures.value ∙ c.in_ok-left.ensures given log s)
     (c.as_slice-3.ensures.value ∙ c.in_ok-copies.ensures given log s)))

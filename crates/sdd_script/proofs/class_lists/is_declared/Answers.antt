@@ -1,6 +1,4 @@
-use Rattle.std.proofs.Common.{◌≡◌}
-use Rattle.sdd_script.specs.OpenLists.{classes_in}
-use Rattle.sdd_script.specs.Places.{open_list}
+use Rattle.sdd_script.proofs.All.{classes_in, open_list, ◌≡◌}
 use Rattle.sdd_script.proofs.ClassNames.{in_lists, declared_in_lists, declared_in_open_list}
 use Rattle.sdd_script.proofs.class_lists.is_declared.Goals as goal
 

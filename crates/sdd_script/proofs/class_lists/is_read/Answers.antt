@@ -1,6 +1,4 @@
-use Rattle.std.proofs.Common.{◌∙◌}
-use Rattle.sdd_lang.specs.All.{ReadPart}
-use Rattle.sdd_lang.proofs.catalog.NameLemmas.{has_name_of_items}
+use Rattle.sdd_script.proofs.All.{ReadPart, has_name_of_items, ◌∙◌}
 use Rattle.sdd_script.proofs.class_lists.is_read.Goals as goal
 
 pub returns : goal.returns

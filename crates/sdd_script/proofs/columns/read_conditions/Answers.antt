@@ -1,13 +1,23 @@
-use Rattle.std.proofs.Common.{arith}
-use Rattle.sdd_lang.specs.All.{along}
-use Rattle.sdd_script.specs.Columns.{condition_of}
-use Rattle.sdd_script.proofs.Each.{ends}
+use Rattle.sdd_script.proofs.All.{MAX_CONDITIONS, along, ap, arith, condition_of, few, refl, sym, ◌∙◌}
+use Rattle.sdd_script.proofs.FewRead.{ends_few, goes_few, kept_and_left}
 use Rattle.sdd_script.proofs.columns.read_conditions.Goals as goal
 
-pub returns-in_err-read_condition : goal.returns-in_err-read_condition
-returns-in_err-read_condition c =
-    let failed = ends (λ i w. condition_of c.args.cat.now c.args.parts.now w) c.args.words.now
-    c.index-words-i.result c.in_err-read_condition.field-0.0 c.words.conds.items c.words.i
-    (along (λ i w. condition_of c.args.cat.now c.args.parts.now w) 0 c.args.words.now) c.words-test.true
-    c.index-words-i.is c.in_err-read_condition.ensures c.words.invariant in
-    grind (arith, failed)
+pub words-preserved : goal.words-preserved
+words-preserved c =
+    let went = goes_few MAX_CONDITIONS (λ i w. condition_of c.args.cat.now c.args.parts.now w) (λ i x le. refl) c.words.conds.items
+    c.keep_few.new.kept.items c.in-Some.one c.in_ok-condition.condition c.next.new.self
+    (few MAX_CONDITIONS (along (λ i w. condition_of c.args.cat.now c.args.parts.now w) 0 c.args.words.now)) c.words.invariant.within
+    c.in_ok-keep_few.ensures c.in_ok-condition.ensures
+    (ap (kept_and_left MAX_CONDITIONS (λ i w. condition_of c.args.cat.now c.args.parts.now w) c.words.conds.items) (sym c.in-Some.ensures)
+    ∙ c.words.invariant.same) in
+    record { within = went.0; same = went.1 }
+
+pub returns-in_err-condition : goal.returns-in_err-condition
+returns-in_err-condition c =
+    let found =
+    ends_few MAX_CONDITIONS (λ i w. condition_of c.args.cat.now c.args.parts.now w) c.words.conds.items c.in-Some.one c.next.new.self
+    c.in_err-condition.field-0.0
+    (few MAX_CONDITIONS (along (λ i w. condition_of c.args.cat.now c.args.parts.now w) 0 c.args.words.now)) c.in_err-condition.ensures
+    (ap (kept_and_left MAX_CONDITIONS (λ i w. condition_of c.args.cat.now c.args.parts.now w) c.words.conds.items) (sym c.in-Some.ensures)
+    ∙ c.words.invariant.same) in
+    grind (arith, found)

@@ -1,4 +1,4 @@
-use Rattle.std.proofs.Common.{◌∙◌}
+use Rattle.sdd_script.proofs.All.{◌∙◌}
 use Rattle.sdd_script.proofs.ClassNames.{named_by_number}
 use Rattle.sdd_script.proofs.naming.has_class.Goals as goal
 

@@ -1,10 +1,14 @@
-use Rattle.std.proofs.Common.{◌≡◌, drop}
-use Rattle.sdd_lang.specs.All.{along}
-use Rattle.sdd_script.specs.Statements.{listed_column}
-use Rattle.sdd_script.proofs.Each.{with_front}
+use Rattle.sdd_script.proofs.All.{MAX_OUTPUT_COLUMNS, along, few, length, listed_column, ◌+◌, ◌≡◌, ◌≤◌}
+use Rattle.sdd_script.proofs.FewRead.{kept_and_left}
 use Rattle.sdd_script.proofs.queries.read_listed.Given as goal
 
--- what was read and what is left to read is all of it
+-- what is kept and what is left to read is all of it, as far as it is kept
 abbrev pub invariant-words : goal.invariant-words
-invariant-words l = with_front l.out.items (along (λ i w. listed_column l.cat l.parts w) l.i
-    (drop l.i l.words)) ≡ along (λ i w. listed_column l.cat l.parts w) 0 l.words
+invariant-words l = record {
+  within : length l.out.items ≤ MAX_OUTPUT_COLUMNS + 1;
+  same : kept_and_left MAX_OUTPUT_COLUMNS (λ i w. listed_column l.cat l.parts w) l.out.items l.words ≡ few MAX_OUTPUT_COLUMNS (along (λ i w.
+      listed_column l.cat l.parts w) 0 l.fn.words);
+}
+
+abbrev pub decreases-words : goal.decreases-words
+decreases-words l = length l.words

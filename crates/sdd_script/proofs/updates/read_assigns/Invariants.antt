@@ -1,9 +1,14 @@
-use Rattle.std.proofs.Common.{◌≡◌, drop}
-use Rattle.sdd_lang.specs.All.{along}
-use Rattle.sdd_script.specs.Statements.{assign_of}
-use Rattle.sdd_script.proofs.Each.{with_front}
+use Rattle.sdd_script.proofs.All.{MAX_ASSIGNMENTS, along, assign_of, few, length, ◌+◌, ◌≡◌, ◌≤◌}
+use Rattle.sdd_script.proofs.FewRead.{kept_and_left}
 use Rattle.sdd_script.proofs.updates.read_assigns.Given as goal
 
--- what was read and what is left to read is all of it
+-- what is kept and what is left to read is all of it, as far as it is kept
 abbrev pub invariant-words : goal.invariant-words
-invariant-words l = with_front l.sets.items (along (λ i w. assign_of l.cat l.rel w) l.i (drop l.i l.words)) ≡ along (λ i w. assign_of l.cat l.rel w) 0 l.words
+invariant-words l = record {
+  within : length l.sets.items ≤ MAX_ASSIGNMENTS + 1;
+  same : kept_and_left MAX_ASSIGNMENTS (λ i w. assign_of l.cat l.rel w) l.sets.items l.words ≡ few MAX_ASSIGNMENTS (along (λ i w. assign_of l.cat
+      l.rel w) 0 l.fn.words);
+}
+
+abbrev pub decreases-words : goal.decreases-words
+decreases-words l = length l.words

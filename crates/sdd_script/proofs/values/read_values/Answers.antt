@@ -1,14 +1,29 @@
-use Rattle.std.proofs.Common.{arith}
-use Rattle.sdd_lang.specs.All.{along}
-use Rattle.sdd_script.specs.Naming.{kind_of_place}
-use Rattle.sdd_script.specs.Values.{value_of}
-use Rattle.sdd_script.proofs.Each.{ends}
+use Rattle.sdd_script.proofs.All.{Fails, Ok, along, ap, arith, few, kind_of_place, length, refl, rule_in, sym, value_of, ◌∙◌, ◌≡◌}
+use Rattle.sdd_script.proofs.FewRead.{ends_few, goes_few, kept_and_left, steady_kind}
 use Rattle.sdd_script.proofs.values.read_values.Goals as goal
 
-pub returns-in_err-value_at : goal.returns-in_err-value_at
-returns-in_err-value_at c =
-    let failed = ends (λ i w. value_of (kind_of_place c.args.columns.now i) w) c.args.words.now
-    c.index-words-i.result c.in_err-value_at.field-0.0 c.words.values.items c.words.i
-    (along (λ i w. value_of (kind_of_place c.args.columns.now i) w) 0 c.args.words.now) c.words-test.true
-    c.index-words-i.is c.in_err-value_at.ensures c.words.invariant in
-    grind (arith, failed)
+pub words-preserved : goal.words-preserved
+words-preserved c =
+    let long : c.len.result ≡ length c.words.values.items = omega arith in
+    let read : value_of (kind_of_place c.args.columns.now (length c.words.values.items)) c.in-Some.word ≡ Ok c.in_ok-value.value =
+    rw (← long) c.in_ok-value.ensures in
+    let went = goes_few (length c.args.columns.now) (λ i w. value_of (kind_of_place c.args.columns.now i) w) (steady_kind c.args.columns.now)
+    c.words.values.items c.keep_few.new.kept.items c.in-Some.word c.in_ok-value.value c.next.new.self
+    (few (length c.args.columns.now) (along (λ i w. value_of (kind_of_place c.args.columns.now i) w) 0 c.args.words.now)) c.words.invariant.within
+    c.in_ok-keep_few.ensures read
+    (ap (kept_and_left (length c.args.columns.now) (λ i w. value_of (kind_of_place c.args.columns.now i) w) c.words.values.items) (sym
+    c.in-Some.ensures) ∙ c.words.invariant.same) in
+    record { within = went.0; same = went.1 }
+
+pub returns-in_err-value : goal.returns-in_err-value
+returns-in_err-value c =
+    let long : c.len.result ≡ length c.words.values.items = omega arith in
+    let fails : Fails rule_in c.in_err-value.field-0.0 (value_of (kind_of_place c.args.columns.now (length c.words.values.items)) c.in-Some.word) =
+    rw (← long) c.in_err-value.ensures in
+    let found =
+    ends_few (length c.args.columns.now) (λ i w. value_of (kind_of_place c.args.columns.now i) w) c.words.values.items c.in-Some.word c.next.new.self
+    c.in_err-value.field-0.0
+    (few (length c.args.columns.now) (along (λ i w. value_of (kind_of_place c.args.columns.now i) w) 0 c.args.words.now)) fails
+    (ap (kept_and_left (length c.args.columns.now) (λ i w. value_of (kind_of_place c.args.columns.now i) w) c.words.values.items) (sym
+    c.in-Some.ensures) ∙ c.words.invariant.same) in
+    grind (arith, found)

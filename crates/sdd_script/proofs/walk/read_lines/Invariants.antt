@@ -1,5 +1,4 @@
-use Rattle.std.proofs.Common.{◌≡◌, ◌+◌, ◌≤◌, ◌^◌, length}
-use Rattle.sdd_script.specs.Walk.{walk_bytes}
+use Rattle.sdd_script.proofs.All.{length, walk_bytes, ◌+◌, ◌^◌, ◌≡◌, ◌≤◌}
 use Rattle.sdd_script.proofs.walk.read_lines.Given as goal
 
 -- the lines that are left give, in this state, what all of them give

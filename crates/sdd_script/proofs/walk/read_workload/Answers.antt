@@ -1,11 +1,4 @@
-use Rattle.std.proofs.Common.{Result, Ok, Err, List, ℕ}
-use Rattle.std.specs.Prelude.{IfOk}
-use Rattle.sdd_lang.specs.All.{Catalogue, IsSound, IsWhole}
-use Rattle.sdd_script.specs.Telling.{Tells}
-use Rattle.sdd_script.specs.Valid.{Accepts}
-use Rattle.sdd_script.specs.Walk.{workload}
-use Rattle.sdd_script.specs.declared.fault.WorkError.{WorkError}
-use Rattle.sdd_script.specs.declared.workload.Workload.{Workload}
+use Rattle.sdd_script.proofs.All.{Accepts, Catalogue, Err, IfOk, IsSound, IsWhole, List, Ok, Result, Tells, WorkError, Workload, workload, ℕ}
 use Rattle.sdd_script.proofs.ReadingLaws.{reads_spelling}
 use Rattle.sdd_script.proofs.walk.read_workload.Goals as goal
 

@@ -1,6 +1,4 @@
-use Rattle.std.proofs.Common.{◌≡◌, ◌++◌, drop, flat_map}
-use Rattle.sdd_lang.specs.All.{Event}
-use Rattle.sdd_script.specs.Spelling.{ended, event_words}
+use Rattle.sdd_script.proofs.All.{Event, drop, ended, event_words, flat_map, ◌++◌, ◌≡◌}
 use Rattle.sdd_script.proofs.write_lines.put_events.Given as goal
 
 -- what was written and what is left to write is all of it

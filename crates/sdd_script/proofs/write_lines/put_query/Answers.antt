@@ -1,7 +1,4 @@
-use Rattle.std.proofs.Common.{◌∙◌}
-use Rattle.std.specs.Prelude.{codes}
-use Rattle.sdd_words.specs.declared.word.Word.TheVariants.{Plain}
-use Rattle.sdd_script.specs.Spelling.{column_word, relation_word, where_words}
+use Rattle.sdd_script.proofs.All.{Plain, codes, column_word, relation_word, where_words, ◌∙◌}
 use Rattle.sdd_script.proofs.Pieces.{after, query_pieces}
 use Rattle.sdd_script.proofs.write_lines.put_query.Goals as goal
 

@@ -1,7 +1,4 @@
-use Rattle.std.proofs.Common.{◌≡◌, ◌++◌, drop, flat_map}
-use Rattle.std.proofs.Common.{List}
-use Rattle.sdd_lang.specs.All.{RelNo, Value}
-use Rattle.sdd_script.specs.Spelling.{ended, start_words}
+use Rattle.sdd_script.proofs.All.{List, RelNo, Value, drop, ended, flat_map, start_words, ◌++◌, ◌≡◌}
 use Rattle.sdd_script.proofs.write_lines.put_starts.Given as goal
 
 -- what was written and what is left to write is all of it

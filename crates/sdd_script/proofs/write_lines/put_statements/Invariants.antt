@@ -1,6 +1,4 @@
-use Rattle.std.proofs.Common.{◌≡◌, ◌++◌, drop, flat_map}
-use Rattle.sdd_lang.specs.declared.statement.Stmt.{Stmt}
-use Rattle.sdd_script.specs.Spelling.{ended, statement_words}
+use Rattle.sdd_script.proofs.All.{Stmt, drop, ended, flat_map, statement_words, ◌++◌, ◌≡◌}
 use Rattle.sdd_script.proofs.write_lines.put_statements.Given as goal
 
 -- what was written and what is left to write is all of it

@@ -1,6 +1,4 @@
-use Rattle.std.proofs.Common.{◌≡◌, ◌∙◌, ◌++◌, flat_map}
-use Rattle.sdd_lang.specs.declared.statement.Stmt.{Stmt}
-use Rattle.sdd_script.specs.Spelling.{ended, header_words, statement_words, done_words}
+use Rattle.sdd_script.proofs.All.{Stmt, done_words, ended, flat_map, header_words, statement_words, ◌++◌, ◌∙◌, ◌≡◌}
 use Rattle.sdd_script.proofs.Pieces.{after, txn_pieces}
 use Rattle.sdd_script.proofs.write_lines.put_txn.Goals as goal
 
@@ -13,4 +11,5 @@ returns c =
     (λ (s : Stmt). ended (statement_words c.args.cat.now s)) c.args.txn.now.statements =
     rw c.as_slice.ensures at c.in_ok-put_statements.ensures in
     after _ _ c.in_ok-put.ensures (after _ _ b a)
-    ∙ txn_pieces c.args.out.now.items (header_words c.args.txn.now.name c.args.txn.now.tm) (statement_words c.args.cat.now) c.args.txn.now.statements done_words
+    ∙ txn_pieces c.args.out.now.items (header_words c.args.txn.now.name c.args.txn.now.tm)
+    (statement_words c.args.cat.now) c.args.txn.now.statements done_words

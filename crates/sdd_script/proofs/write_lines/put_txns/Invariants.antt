@@ -1,5 +1,4 @@
-use Rattle.std.proofs.Common.{◌≡◌, ◌++◌, drop, flat_map}
-use Rattle.sdd_script.specs.Spelling.{txn_bytes}
+use Rattle.sdd_script.proofs.All.{drop, flat_map, txn_bytes, ◌++◌, ◌≡◌}
 use Rattle.sdd_script.proofs.write_lines.put_txns.Given as goal
 
 -- what was written and what is left to write is all of it

@@ -1,7 +1,4 @@
-use Rattle.std.proofs.Common.{◌∙◌, ◌∷◌, []}
-use Rattle.std.specs.Prelude.{codes}
-use Rattle.sdd_words.specs.declared.word.Word.TheVariants.{Plain}
-use Rattle.sdd_script.specs.Spelling.{relation_word, sets_words, where_words}
+use Rattle.sdd_script.proofs.All.{Plain, [], codes, relation_word, sets_words, where_words, ◌∙◌, ◌∷◌}
 use Rattle.sdd_script.proofs.Pieces.{after, update_pieces}
 use Rattle.sdd_script.proofs.write_lines.put_update.Goals as goal
 

@@ -1,6 +1,4 @@
-use Rattle.std.proofs.Common.{◌≡◌, ◌∙◌, ◌++◌, flat_map, List}
-use Rattle.sdd_lang.specs.All.{Event, RelNo, Value}
-use Rattle.sdd_script.specs.Spelling.{ended, start_words, txn_lines, txn_bytes, list_lines, list_bytes, event_words, end_words}
+use Rattle.sdd_script.proofs.All.{Event, List, RelNo, Value, end_words, ended, event_words, flat_map, list_bytes, list_lines, start_words, txn_bytes, txn_lines, ◌++◌, ◌∙◌, ◌≡◌}
 use Rattle.sdd_script.proofs.Pieces.{after, work_pieces}
 use Rattle.sdd_script.proofs.write_lines.write_workload.Goals as goal
 

@@ -1,6 +1,4 @@
-use Rattle.std.proofs.Common.{◌≡◌, ◌∙◌, ◌++◌, flat_map, List, ℕ}
-use Rattle.sdd_lang.specs.All.{ReadPart}
-use Rattle.sdd_script.specs.Spelling.{ended, class_words, reads_words, writes_words}
+use Rattle.sdd_script.proofs.All.{List, ReadPart, class_words, ended, flat_map, reads_words, writes_words, ℕ, ◌++◌, ◌∙◌, ◌≡◌}
 use Rattle.sdd_script.proofs.Pieces.{after, class_pieces}
 use Rattle.sdd_script.proofs.write_lists.put_class.Goals as goal
 

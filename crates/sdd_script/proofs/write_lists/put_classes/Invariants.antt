@@ -1,5 +1,4 @@
-use Rattle.std.proofs.Common.{◌≡◌, ◌++◌, drop, flat_map}
-use Rattle.sdd_script.specs.Spelling.{class_bytes}
+use Rattle.sdd_script.proofs.All.{class_bytes, drop, flat_map, ◌++◌, ◌≡◌}
 use Rattle.sdd_script.proofs.write_lists.put_classes.Given as goal
 
 -- what was written and what is left to write is all of it

@@ -1,5 +1,4 @@
-use Rattle.std.proofs.Common.{◌∙◌}
-use Rattle.sdd_script.specs.Spelling.{list_words, class_lines, done_words}
+use Rattle.sdd_script.proofs.All.{class_lines, done_words, list_words, ◌∙◌}
 use Rattle.sdd_script.proofs.Pieces.{after, list_pieces}
 use Rattle.sdd_script.proofs.write_lists.put_list.Goals as goal
 

@@ -1,5 +1,4 @@
-use Rattle.std.proofs.Common.{◌≡◌, ◌++◌, drop, flat_map}
-use Rattle.sdd_script.specs.Spelling.{list_bytes}
+use Rattle.sdd_script.proofs.All.{drop, flat_map, list_bytes, ◌++◌, ◌≡◌}
 use Rattle.sdd_script.proofs.write_lists.put_lists.Given as goal
 
 -- what was written and what is left to write is all of it

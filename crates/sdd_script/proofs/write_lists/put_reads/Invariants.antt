@@ -1,6 +1,4 @@
-use Rattle.std.proofs.Common.{◌≡◌, ◌++◌, drop, flat_map}
-use Rattle.sdd_lang.specs.All.{ReadPart}
-use Rattle.sdd_script.specs.Spelling.{ended, reads_words}
+use Rattle.sdd_script.proofs.All.{ReadPart, drop, ended, flat_map, reads_words, ◌++◌, ◌≡◌}
 use Rattle.sdd_script.proofs.write_lists.put_reads.Given as goal
 
 -- what was written and what is left to write is all of it

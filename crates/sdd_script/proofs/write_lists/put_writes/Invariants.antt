@@ -1,5 +1,4 @@
-use Rattle.std.proofs.Common.{◌≡◌, ◌++◌, drop, flat_map, List, ℕ}
-use Rattle.sdd_script.specs.Spelling.{ended, writes_words}
+use Rattle.sdd_script.proofs.All.{List, drop, ended, flat_map, writes_words, ℕ, ◌++◌, ◌≡◌}
 use Rattle.sdd_script.proofs.write_lists.put_writes.Given as goal
 
 -- what was written and what is left to write is all of it

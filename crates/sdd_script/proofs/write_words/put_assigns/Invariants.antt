@@ -1,6 +1,4 @@
-use Rattle.std.proofs.Common.{◌≡◌, ◌++◌, drop}
-use Rattle.sdd_words.specs.Words.{more_bytes}
-use Rattle.sdd_script.specs.Spelling.{sets_words}
+use Rattle.sdd_script.proofs.All.{drop, more_bytes, sets_words, ◌++◌, ◌≡◌}
 use Rattle.sdd_script.proofs.write_words.put_assigns.Given as goal
 
 -- what was written and what is left to write is all of it

@@ -1,7 +1,4 @@
-use Rattle.std.proofs.Common.{◌≡◌, ◌++◌, drop, flat_map}
-use Rattle.sdd_words.specs.Words.{spaced}
-use Rattle.sdd_lang.specs.declared.condition.Ref.{Ref}
-use Rattle.sdd_script.specs.Spelling.{column_word}
+use Rattle.sdd_script.proofs.All.{Ref, column_word, drop, flat_map, spaced, ◌++◌, ◌≡◌}
 use Rattle.sdd_script.proofs.write_words.put_columns.Given as goal
 
 -- what was written and what is left to write is all of it

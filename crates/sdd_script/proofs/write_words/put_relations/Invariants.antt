@@ -1,7 +1,4 @@
-use Rattle.std.proofs.Common.{◌≡◌, ◌++◌, drop, flat_map}
-use Rattle.sdd_words.specs.Words.{spaced}
-use Rattle.sdd_lang.specs.All.{RelNo}
-use Rattle.sdd_script.specs.Spelling.{relation_word}
+use Rattle.sdd_script.proofs.All.{RelNo, drop, flat_map, relation_word, spaced, ◌++◌, ◌≡◌}
 use Rattle.sdd_script.proofs.write_words.put_relations.Given as goal
 
 -- what was written and what is left to write is all of it

@@ -1,6 +1,4 @@
-use Rattle.std.proofs.Common.{◌∙◌}
-use Rattle.sdd_words.specs.Values.{value_word}
-use Rattle.sdd_script.specs.Spelling.{relation_word}
+use Rattle.sdd_script.proofs.All.{relation_word, value_word, ◌∙◌}
 use Rattle.sdd_script.proofs.Pieces.{after, word_and_items}
 use Rattle.sdd_script.proofs.write_words.put_row.Goals as goal
 

@@ -11,7 +11,8 @@ pub loop-cond-preserved : goal.loop-cond-preserved
 loop-cond-preserved c =
     let i = c.loop-cond.cond-index in
     let number : c.loop-cond.number + 1 ≡ i + 1 = omega (arith, c.loop-cond.invariant.number) in
-    let here = c.with_condition-best.ensures ∙ ap (λ k. best_after c.args.counts.now c.loop-cond.best (filter (is_candidate c.args.counts.now c.args.done.now) (moves_from k (c.cond-item.result ∷ [])))) number in
+    let here = c.with_condition-best.ensures ∙ ap
+    (λ k. best_after c.args.counts.now c.loop-cond.best (filter (is_candidate c.args.counts.now c.args.done.now) (moves_from k (c.cond-item.result ∷ [])))) number in
     record {
       number = number;
       best = best_more c.args.counts.now c.args.done.now c.args.conds.now i c.cond-item.result c.loop-cond.best c.with_condition-best.result

@@ -1,5 +1,4 @@
-use Rattle.std.proofs.Common.{◌≡◌, ◌≤◌, ◌++◌, drop}
-use Rattle.sdd_verify.specs.Classes.{classes_from, era_at}
+use Rattle.sdd_verify.proofs.All.{classes_from, drop, era_at, ◌++◌, ◌≡◌, ◌≤◌}
 use Rattle.sdd_verify.proofs.classes.submitted_classes.Given as goal
 
 -- the classes so far, and those of the events that are left

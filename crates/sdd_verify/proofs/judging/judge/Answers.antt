@@ -1,6 +1,4 @@
-use Rattle.std.proofs.Common.{◌∙◌, ap, map, List}
-use Rattle.sdd_script.specs.All.{Txn}
-use Rattle.sdd_verify.specs.Submitted.{texts_of}
+use Rattle.sdd_verify.proofs.All.{List, Txn, ap, map, texts_of, ◌∙◌}
 use Rattle.sdd_verify.proofs.ClassesFit.{txns_fit}
 use Rattle.sdd_verify.proofs.Submissions.{rows_fit, texts_fit}
 use Rattle.sdd_verify.proofs.judging.judge.Goals as goal

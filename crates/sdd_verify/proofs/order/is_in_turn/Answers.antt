@@ -1,9 +1,4 @@
-use Rattle.std.proofs.Common.{ℕ, Option, ap, sym, ◌∙◌}
-use Rattle.std.specs.BTreeMap.{get}
-use Rattle.std.specs.Ordering.{nat_cmp}
-use Rattle.sdd_script.specs.All.{txn_no}
-use Rattle.sdd_verify.specs.Orders.{allows}
-use Rattle.sdd_verify.specs.Verified.{at}
+use Rattle.sdd_verify.proofs.All.{Option, allows, ap, at, get, nat_cmp, sym, txn_no, ℕ, ◌∙◌}
 use Rattle.sdd_verify.proofs.Turns.{goes_on, last_at, stops}
 use Rattle.sdd_verify.proofs.order.is_in_turn.Goals as goal
 

@@ -1,7 +1,4 @@
-use Rattle.std.proofs.Common.{ℕ, ◌≡◌, true, take}
-use Rattle.std.specs.BTreeMap.{get}
-use Rattle.std.specs.Ordering.{nat_cmp}
-use Rattle.sdd_verify.specs.Orders.{is_in_turn}
+use Rattle.sdd_verify.proofs.All.{get, is_in_turn, nat_cmp, take, true, ℕ, ◌≡◌}
 use Rattle.sdd_verify.proofs.Turns.{last_of}
 use Rattle.sdd_verify.proofs.order.is_in_turn.Given as goal
 

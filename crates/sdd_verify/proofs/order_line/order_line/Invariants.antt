@@ -1,5 +1,4 @@
-use Rattle.std.proofs.Common.{◌≡◌, length}
-use Rattle.sdd_verify.specs.Lines.{lines_of, order_line_in}
+use Rattle.sdd_verify.proofs.All.{length, lines_of, order_line_in, ◌≡◌}
 use Rattle.sdd_verify.proofs.order_line.order_line.Given as goal
 
 -- what is looked for stands in the lines that are left

@@ -1,5 +1,4 @@
-use Rattle.std.proofs.Common.{◌≡◌, length}
-use Rattle.sdd_verify.specs.Lines.{lines_of, passed}
+use Rattle.sdd_verify.proofs.All.{length, lines_of, passed, ◌≡◌}
 use Rattle.sdd_verify.proofs.passing.pass.Given as goal
 
 -- the lines that are left have to come before those of the report that are left

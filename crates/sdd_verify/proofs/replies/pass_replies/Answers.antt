@@ -1,8 +1,4 @@
-use Rattle.std.proofs.Common.{ap, refl, ◌∙◌}
-use Rattle.std.proofs.lemmas.Result.{err_from_is_err_and}
-use Rattle.sdd_script.specs.All.{Database, Kept}
-use Rattle.sdd_verify.specs.Lines.{lines_of}
-use Rattle.sdd_verify.specs.Numbered.{numbered}
+use Rattle.sdd_verify.proofs.All.{Database, Kept, ap, err_from_is_err_and, lines_of, numbered, refl, ◌∙◌}
 use Rattle.sdd_verify.proofs.RepliesPassed.{fails, goes_on, none_left}
 use Rattle.sdd_verify.proofs.replies.pass_replies.Goals as goal
 

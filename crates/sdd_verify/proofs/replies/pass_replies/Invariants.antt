@@ -1,8 +1,4 @@
-use Rattle.std.proofs.Common.{◌≡◌, drop, map}
-use Rattle.std.specs.Prelude.{IsTrue}
-use Rattle.sdd_script.specs.All.{database_of}
-use Rattle.sdd_verify.specs.Lines.{lines_of, passed}
-use Rattle.sdd_verify.specs.Replies.{replies_on}
+use Rattle.sdd_verify.proofs.All.{IsTrue, database_of, drop, lines_of, map, passed, replies_on, ◌≡◌}
 use Rattle.sdd_verify.proofs.replies.pass_replies.Given as goal
 
 -- the replies of the transactions that are left have to come before the lines that are left

@@ -1,11 +1,7 @@
-use Rattle.std.proofs.Common.{ℕ, List, Option, subst, sym, ◌∙◌, ◌+◌, map, take}
-use Rattle.std.specs.BTreeMap.{get}
-use Rattle.std.specs.Cmp.Lexicographic.{slice_cmp}
-use Rattle.std.specs.Ordering.{nat_cmp}
-use Rattle.sdd_script.specs.All.{TxnNo}
+use Rattle.sdd_verify.proofs.All.{List, Option, TxnNo, get, map, nat_cmp, slice_cmp, subst, sym, take, ℕ, ◌+◌, ◌∙◌}
 use Rattle.sdd_verify.proofs.NamesFound.{Found, known_step, new_step}
-use Rattle.sdd_verify.proofs.submitted.numbers_by_name.Goals as goal
 use Rattle.sdd_verify.proofs.submitted.numbers_by_name.Goals.{then-not-contains_key+in_ok-insert, else-not-contains_key}
+use Rattle.sdd_verify.proofs.submitted.numbers_by_name.Goals as goal
 
 pub txns-preserved : goal.txns-preserved
 txns-preserved c =

@@ -1,8 +1,4 @@
-use Rattle.std.proofs.Common.{ℕ, ◌≡◌, List, map, take}
-use Rattle.std.specs.BTreeMap.{get}
-use Rattle.std.specs.Cmp.Lexicographic.{slice_cmp}
-use Rattle.std.specs.Ordering.{nat_cmp}
-use Rattle.sdd_verify.specs.Submitted.{named}
+use Rattle.sdd_verify.proofs.All.{List, get, map, named, nat_cmp, slice_cmp, take, ℕ, ◌≡◌}
 use Rattle.sdd_verify.proofs.submitted.numbers_by_name.Given as goal
 
 -- the numbers of the transactions so far

@@ -1,6 +1,4 @@
-use Rattle.std.proofs.Common.{◌≡◌, take, map}
-use Rattle.std.specs.List.{filter_map}
-use Rattle.sdd_verify.specs.Submitted.{submitted_by}
+use Rattle.sdd_verify.proofs.All.{filter_map, map, submitted_by, take, ◌≡◌}
 use Rattle.sdd_verify.proofs.submitted.submissions.Given as goal
 
 -- the transactions of the events so far

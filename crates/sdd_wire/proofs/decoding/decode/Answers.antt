@@ -1,4 +1,4 @@
-use Rattle.std.proofs.Common.{arith}
+use Rattle.sdd_wire.proofs.All.{arith}
 use Rattle.sdd_wire.proofs.Decoded.{decoded_so, decoded_again}
 use Rattle.sdd_wire.proofs.decoding.decode.Goals as goal
 

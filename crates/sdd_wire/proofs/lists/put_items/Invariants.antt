@@ -1,5 +1,4 @@
-use Rattle.std.proofs.Common.{◌≡◌, ◌++◌, take}
-use Rattle.std.specs.List.{flat_map, AllByRecursion}
+use Rattle.sdd_wire.proofs.All.{AllByRecursion, flat_map, take, ◌++◌, ◌≡◌}
 use Rattle.sdd_wire.proofs.lists.put_items.Given as goal
 
 abbrev pub invariant-items : goal.invariant-items

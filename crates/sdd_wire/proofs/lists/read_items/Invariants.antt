@@ -1,5 +1,4 @@
-use Rattle.std.proofs.Common.{◌≡◌, ◌-◌}
-use Rattle.sdd_wire.specs.Source.{items_at}
+use Rattle.sdd_wire.proofs.All.{items_at, ◌-◌, ◌≡◌}
 use Rattle.sdd_wire.proofs.Items.{with_front}
 use Rattle.sdd_wire.proofs.lists.read_items.Given as goal
 

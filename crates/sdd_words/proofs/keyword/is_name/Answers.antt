@@ -1,4 +1,4 @@
-use Rattle.std.proofs.Common.{sym, ◌∙◌}
+use Rattle.sdd_words.proofs.All.{sym, ◌∙◌}
 use Rattle.sdd_words.proofs.NameTexts.{named}
 use Rattle.sdd_words.proofs.keyword.is_name.Goals as goal
 

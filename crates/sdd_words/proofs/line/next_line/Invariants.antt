@@ -1,4 +1,4 @@
-use Rattle.std.proofs.Common.{◌≡◌, ℕ, ◌<◌, get_or}
+use Rattle.sdd_words.proofs.All.{get_or, ℕ, ◌<◌, ◌≡◌}
 use Rattle.sdd_words.proofs.line.next_line.Given as goal
 
 abbrev pub invariant-bytes : goal.invariant-bytes

@@ -1,4 +1,4 @@
-use Rattle.std.proofs.Common.{sym}
+use Rattle.sdd_words.proofs.All.{sym}
 use Rattle.sdd_words.proofs.NameTexts.{name_in_other_bytes}
 use Rattle.sdd_words.proofs.naming.read_name.Goals as goal
 

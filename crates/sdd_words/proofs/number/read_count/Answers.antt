@@ -1,6 +1,4 @@
-use Rattle.std.proofs.Common.{◌≡◌, ℕ, Result, Ok, arith}
-use Rattle.std.specs.Fmt.{decimal}
-use Rattle.std.proofs.lemmas.Fmt.{parse-decimal}
+use Rattle.sdd_words.proofs.All.{Ok, Result, arith, decimal, parse-decimal, ℕ, ◌≡◌}
 use Rattle.sdd_words.proofs.number.read_count.Goals as goal
 
 same_count : {E : Type 0} (r : Result ℕ E) (m n : ℕ) → r ≡ Ok m → r ≡ Ok n → m ≡ n

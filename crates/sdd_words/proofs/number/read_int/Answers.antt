@@ -1,6 +1,4 @@
-use Rattle.std.proofs.Common.{◌≡◌, sym, rules, subst, FitsSigned, w64}
-use Rattle.std.proofs.lemmas.Int.{to_z-of_z}
-use Rattle.std.specs.Fmt.{signed_decimal}
+use Rattle.sdd_words.proofs.All.{FitsSigned, rules, signed_decimal, subst, sym, to_z-of_z, w64, ◌≡◌}
 use Rattle.sdd_words.proofs.Numbers.{parses, same_number, parsed_fits, parsed_value, number_of-spelled, number_of-other, number_of-unparsed}
 use Rattle.sdd_words.proofs.number.read_int.Goals as goal
 

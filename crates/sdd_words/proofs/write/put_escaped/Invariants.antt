@@ -1,5 +1,4 @@
-use Rattle.std.proofs.Common.{◌≡◌, ◌++◌, length}
-use Rattle.sdd_words.specs.Words.{escaped}
+use Rattle.sdd_words.proofs.All.{escaped, length, ◌++◌, ◌≡◌}
 use Rattle.sdd_words.proofs.write.put_escaped.Given as goal
 
 abbrev pub invariant-fronts : goal.invariant-fronts

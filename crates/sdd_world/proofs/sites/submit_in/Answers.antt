@@ -7,8 +7,8 @@ use Rattle.sdd_world.proofs.sites.submit_in.Goals as goal
 
 pub returns-clause-law : goal.returns-clause-law
 returns-clause-law c = submitted_in (λ t. t.live) tm_stands.Stands tm.next c.args.modules.now.items c.args.at
-    c.index_mut-module.result.now c.submit.new.self tm_fits.FitsSubmit c.args.number c.args.txn.now c.submit.result
-    c.index_mut-module.ensures.value c.submit.ensures.law c.submit.ensures.lives_on
+    c.index_mut-module.result.now c.submit_in_class.new.self tm_fits.FitsSubmit c.args.number c.args.txn.now c.submit_in_class.result
+    c.index_mut-module.ensures.value c.submit_in_class.ensures.law c.submit_in_class.ensures.lives_on
 
 pub returns-clause-others : goal.returns-clause-others
-returns-clause-others c = λ k ne. get-set_other c.args.modules.now.items c.args.at k c.submit.new.self ne
+returns-clause-others c = λ k ne. get-set_other c.args.modules.now.items c.args.at k c.submit_in_class.new.self ne

@@ -1,5 +1,4 @@
-use Rattle.std.proofs.Common.{◌∙◌, ap, arith, ◌<◌}
-use Rattle.sdd_advise.specs.Neighbours.{Network}
+use Rattle.sdd_advise.proofs.All.{Network, ap, arith, ◌<◌, ◌∙◌}
 use Rattle.sdd_advise.proofs.Laid.{laid_long, laid_at, neighbours_named, neighbours_within}
 use Rattle.sdd_advise.proofs.graph.Graph.neighbours.Goals as goal
 

@@ -1,6 +1,4 @@
-use Rattle.std.proofs.Common.{◌*◌, length, map, ap, ◌∙◌}
-use Rattle.std.specs.List.{range_with_len}
-use Rattle.sdd_advise.specs.Neighbours.{neighbours}
+use Rattle.sdd_advise.proofs.All.{ap, length, map, neighbours, range_with_len, ◌*◌, ◌∙◌}
 use Rattle.sdd_advise.proofs.Laid.{laid_out}
 use Rattle.sdd_advise.proofs.graph.Graph.of.Goals as goal
 

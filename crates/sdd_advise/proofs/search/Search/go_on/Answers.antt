@@ -1,10 +1,7 @@
-use Rattle.std.proofs.Common.{◌+◌, refl, sym, subst}
-use Rattle.std.proofs.lemmas.Bool.{both_ways}
-use Rattle.sdd_advise.specs.Passing.{Passes}
-use Rattle.sdd_advise.specs.Searches.{reached_at}
+use Rattle.sdd_advise.proofs.All.{Passes, both_ways, reached_at, refl, subst, sym, ◌+◌}
 use Rattle.sdd_advise.proofs.Going.{IsGoing, edge_left, edge_taken, all_taken}
-use Rattle.sdd_advise.proofs.search.Search.go_on.Goals as goal
 use Rattle.sdd_advise.proofs.search.Search.go_on.Goals.{then-passes+in_ok-reach, else-passes}
+use Rattle.sdd_advise.proofs.search.Search.go_on.Goals as goal
 
 pub neighbours-preserved : goal.neighbours-preserved
 neighbours-preserved c =

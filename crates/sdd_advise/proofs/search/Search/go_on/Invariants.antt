@@ -1,5 +1,4 @@
-use Rattle.sdd_advise.specs.Passing.{Passes}
-use Rattle.sdd_advise.specs.Searches.{reached_at}
+use Rattle.sdd_advise.proofs.All.{Passes, reached_at}
 use Rattle.sdd_advise.proofs.Going.{IsGoing}
 use Rattle.sdd_advise.proofs.search.Search.go_on.Given as goal
 

@@ -1,9 +1,7 @@
-use Rattle.std.proofs.Common.{◌∙◌, sym, ap}
-use Rattle.std.specs.Prelude.{is_some}
-use Rattle.sdd_advise.specs.Searches.{place_of}
+use Rattle.sdd_advise.proofs.All.{ap, is_some, place_of, sym, ◌∙◌}
 use Rattle.sdd_advise.proofs.Ascending.{passing_more, passing_same}
-use Rattle.sdd_advise.proofs.search.Search.nodes.Goals as goal
 use Rattle.sdd_advise.proofs.search.Search.nodes.Goals.{then-is_some+in_ok-push, else-is_some}
+use Rattle.sdd_advise.proofs.search.Search.nodes.Goals as goal
 
 pub nodes-preserved : goal.nodes-preserved
 nodes-preserved c =

@@ -1,7 +1,4 @@
-use Rattle.std.proofs.Common.{ℕ, None, Some, replicate, set, length, ◌≡◌, ◌≤◌, ◌<◌, ◌^◌, ◌∙◌, ap, subst, arith}
-use Rattle.sdd_advise.specs.Passing.{Passes}
-use Rattle.sdd_advise.specs.Reach.{AreReached}
-use Rattle.sdd_advise.specs.Searches.{IsUnderWay, placed_nodes, reached_at}
+use Rattle.sdd_advise.proofs.All.{AreReached, IsUnderWay, None, Passes, Some, ap, arith, length, placed_nodes, reached_at, replicate, set, subst, ℕ, ◌<◌, ◌^◌, ◌∙◌, ◌≡◌, ◌≤◌}
 use Rattle.sdd_advise.proofs.Found.{search_begun}
 use Rattle.sdd_advise.proofs.Going.{are_reached}
 use Rattle.sdd_advise.proofs.search.Search.of.Goals as goal

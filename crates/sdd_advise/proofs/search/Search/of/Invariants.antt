@@ -1,5 +1,4 @@
-use Rattle.std.proofs.Common.{◌≡◌, ◌-◌}
-use Rattle.sdd_advise.specs.Searches.{IsSearching, reached_at}
+use Rattle.sdd_advise.proofs.All.{IsSearching, reached_at, ◌-◌, ◌≡◌}
 use Rattle.sdd_advise.proofs.search.Search.of.Given as goal
 
 abbrev pub invariant-places : goal.invariant-places

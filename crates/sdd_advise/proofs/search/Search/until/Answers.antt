@@ -1,6 +1,4 @@
-use Rattle.std.proofs.Common.{ℕ, None, Some, is_some, replicate, set, length, ◌≤◌, ◌<◌, ◌^◌, ◌∙◌, sym, ap, arith}
-use Rattle.sdd_advise.specs.Passing.{Passes}
-use Rattle.sdd_advise.specs.Searches.{reached_at}
+use Rattle.sdd_advise.proofs.All.{None, Passes, Some, ap, arith, is_some, length, reached_at, replicate, set, sym, ℕ, ◌<◌, ◌^◌, ◌∙◌, ◌≤◌}
 use Rattle.sdd_advise.proofs.Found.{search_begun}
 use Rattle.sdd_advise.proofs.Left.{left_found, left_done}
 use Rattle.sdd_advise.proofs.search.Search.until.Goals as goal

@@ -1,8 +1,4 @@
-use Rattle.std.proofs.Common.{rules, None, ◌<◌, ◌≡◌, ◌∙◌, sym, refl, subst, arith}
-use Rattle.std.proofs.lemmas.Option.{MatchOption-at_some}
-use Rattle.sdd_advise.specs.Passing.{Passes}
-use Rattle.sdd_advise.specs.Searches.{reached_at}
-use Rattle.sdd_advise.specs.declared.search.Came.{Came}
+use Rattle.sdd_advise.proofs.All.{Came, MatchOption-at_some, None, Passes, arith, reached_at, refl, rules, subst, sym, ◌<◌, ◌∙◌, ◌≡◌}
 use Rattle.sdd_advise.proofs.WayBack.{IsWayBack, at_last, one_back, all_back}
 use Rattle.sdd_advise.proofs.search.Search.way_to.Goals as goal
 

@@ -1,8 +1,4 @@
-use Rattle.std.proofs.Common.{ℕ, ◌<◌, length}
-use Rattle.sdd_advise.specs.Neighbours.{Network}
-use Rattle.sdd_advise.specs.Passing.{Passes}
-use Rattle.sdd_advise.specs.Searches.{IsSearching, reached_at}
-use Rattle.sdd_advise.specs.declared.without.Without.{Without}
+use Rattle.sdd_advise.proofs.All.{IsSearching, Network, Passes, Without, length, reached_at, ℕ, ◌<◌}
 use Rattle.sdd_advise.proofs.WayBack.{IsWayBack}
 use Rattle.sdd_advise.proofs.search.Search.way_to.Given as goal
 

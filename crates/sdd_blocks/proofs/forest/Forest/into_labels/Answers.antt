@@ -1,4 +1,4 @@
-use Rattle.std.proofs.Common.{◌+◌, arith, subst, sym}
+use Rattle.sdd_blocks.proofs.All.{arith, subst, sym, ◌+◌}
 use Rattle.sdd_blocks.proofs.Trees.{AreRootsSoFar, one_more_root, all_roots}
 use Rattle.sdd_blocks.proofs.forest.Forest.into_labels.Goals as goal
 

@@ -1,4 +1,4 @@
-use Rattle.std.proofs.Common.{arith}
+use Rattle.sdd_blocks.proofs.All.{arith}
 use Rattle.sdd_blocks.proofs.Trees.{joined_down, joined_up}
 use Rattle.sdd_blocks.proofs.forest.Forest.join.Goals as goal
 

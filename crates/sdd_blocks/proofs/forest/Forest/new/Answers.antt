@@ -1,6 +1,4 @@
-use Rattle.std.proofs.Common.{ℕ, List, [], ◌∷◌, ◌++◌, length, ◌≡◌, sym, subst, arith, ap, ◌∙◌}
-use Rattle.std.specs.List.{range_with_len}
-use Rattle.sdd_blocks.specs.Forest.{IsForest, AreRoots}
+use Rattle.sdd_blocks.proofs.All.{AreRoots, IsForest, List, [], ap, arith, length, range_with_len, subst, sym, ℕ, ◌++◌, ◌∙◌, ◌∷◌, ◌≡◌}
 use Rattle.sdd_blocks.proofs.Trees.{forest-singles, roots-singles, length-singles, singles-push}
 use Rattle.sdd_blocks.proofs.forest.Forest.new.Goals as goal
 

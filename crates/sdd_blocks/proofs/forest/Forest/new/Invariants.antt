@@ -1,5 +1,4 @@
-use Rattle.std.proofs.Common.{◌≡◌}
-use Rattle.std.specs.List.{range_with_len}
+use Rattle.sdd_blocks.proofs.All.{range_with_len, ◌≡◌}
 use Rattle.sdd_blocks.proofs.forest.Forest.new.Given as goal
 
 abbrev pub invariant-loop-node : goal.invariant-loop-node

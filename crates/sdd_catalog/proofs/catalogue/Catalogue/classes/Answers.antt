@@ -1,4 +1,4 @@
-use Rattle.std.proofs.Common.{arith}
+use Rattle.sdd_catalog.proofs.All.{arith}
 use Rattle.sdd_catalog.proofs.RoundTrip.{sound_has_few}
 use Rattle.sdd_catalog.proofs.catalogue.Catalogue.classes.Goals as goal
 

@@ -1,6 +1,4 @@
-use Rattle.std.proofs.Common.{List, subst, to_z-of_z}
-use Rattle.sdd_catalog.specs.Cover.{IsNumberFor}
-use Rattle.sdd_catalog.specs.declared.ranges.KeyRange.{KeyRange}
+use Rattle.sdd_catalog.proofs.All.{IsNumberFor, KeyRange, List, subst, to_z-of_z}
 use Rattle.sdd_catalog.proofs.FragmentOf.{one_holder}
 use Rattle.sdd_catalog.proofs.catalogue.Catalogue.fragment_of.Goals as goal
 

@@ -1,4 +1,4 @@
-use Rattle.std.proofs.Common.{◌≤◌, arith}
+use Rattle.sdd_catalog.proofs.All.{arith, ◌≤◌}
 use Rattle.sdd_catalog.proofs.Sound.{lowest_is_few}
 use Rattle.sdd_catalog.proofs.catalogue.Catalogue.lowest_copy.Goals as goal
 

@@ -1,6 +1,4 @@
-use Rattle.std.proofs.Common.{List, get_or, ap, ◌∙◌}
-use Rattle.sdd_catalog.specs.declared.parts.FragmentPart.{FragmentPart}
-use Rattle.sdd_catalog.specs.declared.parts.Parts.{Parts}
+use Rattle.sdd_catalog.proofs.All.{FragmentPart, List, Parts, ap, get_or, ◌∙◌}
 use Rattle.sdd_catalog.proofs.Places.{item_at_place, no_item_at_place}
 use Rattle.sdd_catalog.proofs.indexed.IndexedParts.fragment.Goals as goal
 

@@ -1,5 +1,4 @@
-use Rattle.std.proofs.Common.{◌∙◌}
-use Rattle.sdd_catalog.specs.Catalogue.{fragment_names}
+use Rattle.sdd_catalog.proofs.All.{fragment_names, ◌∙◌}
 use Rattle.sdd_catalog.proofs.Places.{place_there}
 use Rattle.sdd_catalog.proofs.indexed.IndexedParts.has_fragment.Goals as goal
 

@@ -1,5 +1,4 @@
-use Rattle.std.proofs.Common.{rules}
-use Rattle.sdd_catalog.specs.declared.parts.FragmentPart.{FragmentPart}
+use Rattle.sdd_catalog.proofs.All.{FragmentPart, rules}
 use Rattle.sdd_catalog.proofs.Places.{place_within}
 use Rattle.sdd_catalog.proofs.indexed.IndexedParts.place_of.Goals as goal
 

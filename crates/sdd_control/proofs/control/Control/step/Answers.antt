@@ -1,8 +1,4 @@
-use Rattle.std.proofs.Common.{◌≡◌, ◌∷◌, ◌++◌, [], true, ap, ◌∙◌, subst, sym}
-use Rattle.sdd_control.specs.Control.{Follows, Run, run_of, with_event}
-use Rattle.sdd_control.specs.State.{NoteFits}
-use Rattle.sdd_control.specs.Steps.{Fits}
-use Rattle.sdd_control.specs.declared.state.State.{State}
+use Rattle.sdd_control.proofs.All.{Fits, Follows, NoteFits, Run, State, [], ap, run_of, subst, sym, true, with_event, ◌++◌, ◌∙◌, ◌∷◌, ◌≡◌}
 use Rattle.sdd_control.proofs.Following.{fits_now, follows_now, follows_on, note_now, run_now, run_on}
 use Rattle.sdd_control.proofs.Tracking.{note_fits}
 use Rattle.sdd_control.proofs.control.Control.step.Goals as goal

@@ -1,4 +1,4 @@
-use Rattle.std.proofs.Common.{◌∙◌}
+use Rattle.sdd_control.proofs.All.{◌∙◌}
 use Rattle.sdd_control.proofs.Following.{value_now}
 use Rattle.sdd_control.proofs.control.Control.value.Goals as goal
 

@@ -1,4 +1,4 @@
-use Rattle.std.proofs.Common.{◌≡◌, [], map, replicate}
+use Rattle.sdd_control.proofs.All.{[], map, replicate, ◌≡◌}
 use Rattle.sdd_control.proofs.links.Links.new.Given as goal
 
 abbrev pub invariant-fill : goal.invariant-fill

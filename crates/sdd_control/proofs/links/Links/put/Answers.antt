@@ -1,4 +1,4 @@
-use Rattle.std.proofs.Common.{[], ◌∷◌, ◌++◌}
+use Rattle.sdd_control.proofs.All.{[], ◌++◌, ◌∷◌}
 use Rattle.sdd_control.proofs.Queues.{queue_changed}
 use Rattle.sdd_control.proofs.links.Links.put.Goals as goal
 

@@ -1,4 +1,4 @@
-use Rattle.std.proofs.Common.{drop}
+use Rattle.sdd_control.proofs.All.{drop}
 use Rattle.sdd_control.proofs.Queues.{queue_changed}
 use Rattle.sdd_control.proofs.links.Links.take.Goals as goal
 

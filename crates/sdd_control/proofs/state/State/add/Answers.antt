@@ -1,5 +1,4 @@
-use Rattle.std.proofs.Common.{subst, sym}
-use Rattle.sdd_control.specs.State.{Adds}
+use Rattle.sdd_control.proofs.All.{Adds, subst, sym}
 use Rattle.sdd_control.proofs.state.State.add.Goals as goal
 
 pub returns-in-Finish : goal.returns-in-Finish

@@ -1,5 +1,4 @@
-use Rattle.std.proofs.Common.{◌+◌, ◌∙◌, sym}
-use Rattle.sdd_control.specs.State.{answered_in}
+use Rattle.sdd_control.proofs.All.{answered_in, sym, ◌+◌, ◌∙◌}
 use Rattle.sdd_control.proofs.Walks.{every_goes_on}
 use Rattle.sdd_control.proofs.state.State.has_all_answers.Goals as goal
 

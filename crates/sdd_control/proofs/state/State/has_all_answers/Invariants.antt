@@ -1,6 +1,4 @@
-use Rattle.std.proofs.Common.{◌≡◌, ◌+◌, ◌-◌}
-use Rattle.sdd_control.specs.State.{answered_in}
-use Rattle.sdd_control.specs.Stretches.{every_from}
+use Rattle.sdd_control.proofs.All.{answered_in, every_from, ◌+◌, ◌-◌, ◌≡◌}
 use Rattle.sdd_control.proofs.state.State.has_all_answers.Given as goal
 
 abbrev pub invariant-higher : goal.invariant-higher

@@ -1,4 +1,4 @@
-use Rattle.std.proofs.Common.{refl}
+use Rattle.sdd_control.proofs.All.{refl}
 use Rattle.sdd_control.proofs.Nothing.{tracks_nothing}
 use Rattle.sdd_control.proofs.state.State.new.Goals as goal
 

@@ -1,5 +1,4 @@
-use Rattle.std.proofs.Common.{◌+◌, ◌∙◌, sym}
-use Rattle.sdd_control.specs.State.{untold_in}
+use Rattle.sdd_control.proofs.All.{sym, untold_in, ◌+◌, ◌∙◌}
 use Rattle.sdd_control.proofs.Walks.{first_goes_on}
 use Rattle.sdd_control.proofs.state.State.next_untold.Goals as goal
 

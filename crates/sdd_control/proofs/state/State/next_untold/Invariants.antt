@@ -1,6 +1,4 @@
-use Rattle.std.proofs.Common.{◌≡◌, ◌+◌, ◌-◌}
-use Rattle.sdd_control.specs.State.{untold_in}
-use Rattle.sdd_control.specs.Stretches.{first_from}
+use Rattle.sdd_control.proofs.All.{first_from, untold_in, ◌+◌, ◌-◌, ◌≡◌}
 use Rattle.sdd_control.proofs.state.State.next_untold.Given as goal
 
 abbrev pub invariant-higher : goal.invariant-higher

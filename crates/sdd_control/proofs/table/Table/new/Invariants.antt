@@ -1,4 +1,4 @@
-use Rattle.std.proofs.Common.{◌≡◌, replicate}
+use Rattle.sdd_control.proofs.All.{replicate, ◌≡◌}
 use Rattle.sdd_control.proofs.table.Table.new.Given as goal
 
 abbrev pub invariant-fill : goal.invariant-fill

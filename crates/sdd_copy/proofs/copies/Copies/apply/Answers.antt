@@ -1,7 +1,4 @@
-use Rattle.std.proofs.Common.{◌∙◌, ap}
-use Rattle.std.specs.Prelude.{fold}
-use Rattle.sdd_copy.specs.Copies.{with_change, held_in}
-use Rattle.sdd_copy.specs.Items.{dated}
+use Rattle.sdd_copy.proofs.All.{ap, dated, fold, held_in, with_change, ◌∙◌}
 use Rattle.sdd_copy.proofs.Standing.{stand_applied, here_applied}
 use Rattle.sdd_copy.proofs.copies.Copies.apply.Goals as goal
 

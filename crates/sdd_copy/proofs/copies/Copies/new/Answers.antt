@@ -1,7 +1,4 @@
-use Rattle.std.proofs.Common.{◌∙◌, ap, map, sym, subst}
-use Rattle.std.proofs.lemmas.List.{take_all}
-use Rattle.std.specs.List.{All}
-use Rattle.sdd_copy.specs.Copies.{IsLive}
+use Rattle.sdd_copy.proofs.All.{All, IsLive, ap, map, subst, sym, take_all, ◌∙◌}
 use Rattle.sdd_copy.proofs.Standing.{made, live_made, made_whole, stand_made, here_made}
 use Rattle.sdd_copy.proofs.copies.Copies.new.Goals as goal
 

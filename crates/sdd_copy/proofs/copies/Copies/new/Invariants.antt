@@ -1,4 +1,4 @@
-use Rattle.std.proofs.Common.{◌≡◌, map, take}
+use Rattle.sdd_copy.proofs.All.{map, take, ◌≡◌}
 use Rattle.sdd_copy.proofs.Standing.{made}
 use Rattle.sdd_copy.proofs.copies.Copies.new.Given as goal
 

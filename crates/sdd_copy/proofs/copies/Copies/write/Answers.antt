@@ -1,6 +1,4 @@
-use Rattle.std.proofs.Common.{ℕ, ◌∙◌, ap}
-use Rattle.sdd_lang.specs.All.{Change}
-use Rattle.sdd_copy.specs.Copies.{with_change, held_in}
+use Rattle.sdd_copy.proofs.All.{Change, ap, held_in, with_change, ℕ, ◌∙◌}
 use Rattle.sdd_copy.proofs.Standing.{stand_written, here_written}
 use Rattle.sdd_copy.proofs.copies.Copies.write.Goals as goal
 

@@ -1,7 +1,4 @@
-use Rattle.std.proofs.Common.{ap, ◌∙◌, ◌≡◌, map}
-use Rattle.std.proofs.lemmas.Result.{IfOk-weaker}
-use Rattle.sdd_copy.specs.Contents.{Dated, rows_left}
-use Rattle.sdd_copy.specs.Items.{items_of, rows_in}
+use Rattle.sdd_copy.proofs.All.{Dated, IfOk-weaker, ap, items_of, map, rows_in, rows_left, ◌∙◌, ◌≡◌}
 use Rattle.sdd_copy.proofs.Contents.{rows_told}
 use Rattle.sdd_copy.proofs.frag_copy.FragCopy.rows.Goals as goal
 

@@ -1,6 +1,4 @@
-use Rattle.std.proofs.Common.{◌∙◌, ap}
-use Rattle.std.specs.Prelude.{filter}
-use Rattle.sdd_copy.specs.Keyed.{is_within, one_at}
+use Rattle.sdd_copy.proofs.All.{ap, filter, is_within, one_at, ◌∙◌}
 use Rattle.sdd_copy.proofs.OneKey.{item_at_key}
 use Rattle.sdd_copy.proofs.kept_items.KeptItems.at.Goals as goal
 

@@ -1,4 +1,4 @@
-use Rattle.std.proofs.Common.{refl}
+use Rattle.sdd_copy.proofs.All.{refl}
 use Rattle.sdd_copy.proofs.Ranges.{all_near, allowed_near}
 use Rattle.sdd_copy.proofs.kept_items.KeptItems.keys_near.Goals as goal
 

@@ -1,5 +1,4 @@
-use Rattle.std.proofs.Common.{rules, w64, to_z-of_z}
-use Rattle.std.specs.Prelude.{FitsSigned}
+use Rattle.sdd_copy.proofs.All.{FitsSigned, rules, to_z-of_z, w64}
 use Rattle.sdd_copy.proofs.Ranges.{held_put, keyed_put}
 use Rattle.sdd_copy.proofs.kept_items.KeptItems.put.Goals as goal
 

@@ -1,7 +1,4 @@
-use Rattle.std.proofs.Common.{◌∙◌, ap, sym, rules, pos, w64, to_z-of_z}
-use Rattle.std.specs.Prelude.{filter, FitsSigned}
-use Rattle.sdd_lang.specs.All.{all_keys, common}
-use Rattle.sdd_copy.specs.Keyed.{is_within}
+use Rattle.sdd_copy.proofs.All.{FitsSigned, all_keys, ap, common, filter, is_within, pos, rules, sym, to_z-of_z, w64, ◌∙◌}
 use Rattle.sdd_copy.proofs.Ranges.{items_within, items_nowhere, items_of_none}
 use Rattle.sdd_copy.proofs.kept_items.KeptItems.within.Goals as goal
 

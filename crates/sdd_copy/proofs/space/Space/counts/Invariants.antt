@@ -1,4 +1,4 @@
-use Rattle.std.proofs.Common.{◌≡◌, map, take, length}
+use Rattle.sdd_copy.proofs.All.{length, map, take, ◌≡◌}
 use Rattle.sdd_copy.proofs.space.Space.counts.Given as goal
 
 abbrev pub invariant-loop-number : goal.invariant-loop-number

@@ -1,6 +1,4 @@
-use Rattle.std.proofs.Common.{◌≡◌, map, take}
-use Rattle.sdd_copy.specs.Copies.{rows_at}
-use Rattle.sdd_copy.specs.Frozen.{rows_for}
+use Rattle.sdd_copy.proofs.All.{map, rows_at, rows_for, take, ◌≡◌}
 use Rattle.sdd_copy.proofs.space.Space.freeze.Given as goal
 
 -- the uses so far, with their rows

@@ -1,6 +1,4 @@
-use Rattle.std.proofs.Common.{ap, sym, ◌∙◌, ◌≡◌, length, arith}
-use Rattle.std.proofs.lemmas.List.{with_items_is}
-use Rattle.sdd_copy.specs.Known.{known_use}
+use Rattle.sdd_copy.proofs.All.{ap, arith, known_use, length, sym, with_items_is, ◌∙◌, ◌≡◌}
 use Rattle.sdd_copy.proofs.Uses.{over_more, reduced_all, with_uses}
 use Rattle.sdd_copy.proofs.space.Space.reduce.Goals as goal
 

@@ -1,5 +1,4 @@
-use Rattle.std.proofs.Common.{◌≡◌, ◌++◌, map, take, drop}
-use Rattle.sdd_copy.specs.Known.{known_use}
+use Rattle.sdd_copy.proofs.All.{drop, known_use, map, take, ◌++◌, ◌≡◌}
 use Rattle.sdd_copy.proofs.space.Space.reduce.Given as goal
 
 -- the uses so far are reduced

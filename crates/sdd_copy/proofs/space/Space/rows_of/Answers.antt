@@ -1,5 +1,4 @@
-use Rattle.std.proofs.Common.{◌∙◌, ap, sym}
-use Rattle.sdd_copy.specs.Frozen.{or_nothing, rows_of}
+use Rattle.sdd_copy.proofs.All.{ap, or_nothing, rows_of, sym, ◌∙◌}
 use Rattle.sdd_copy.proofs.Uses.{first_at, with_uses}
 use Rattle.sdd_copy.proofs.space.Space.rows_of.Goals as goal
 

@@ -1,5 +1,4 @@
-use Rattle.std.proofs.Common.{◌≡◌, ◌==◌, cond, drop, Some, None}
-use Rattle.sdd_lang.specs.All.{first_some}
+use Rattle.sdd_copy.proofs.All.{None, Some, cond, drop, first_some, ◌==◌, ◌≡◌}
 use Rattle.sdd_copy.proofs.space.Space.rows_of.Given as goal
 
 -- the use is the first of those that are left

@@ -1,6 +1,4 @@
-use Rattle.std.proofs.Common.{◌≡◌, ◌++◌, map}
-use Rattle.std.specs.List.{flat_map}
-use Rattle.sdd_copy.specs.Frozen.{all_rows}
+use Rattle.sdd_copy.proofs.All.{all_rows, flat_map, map, ◌++◌, ◌≡◌}
 use Rattle.sdd_copy.proofs.space.Space.ship.Given as goal
 
 -- the rows so far, with those of the uses that are left

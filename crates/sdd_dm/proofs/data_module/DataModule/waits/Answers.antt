@@ -1,5 +1,4 @@
-use Rattle.std.proofs.Common.{ap, ◌∙◌}
-use Rattle.sdd_dm.specs.Waiting.{waiting_in, first_unmet}
+use Rattle.sdd_dm.proofs.All.{ap, first_unmet, waiting_in, ◌∙◌}
 use Rattle.sdd_dm.proofs.Awaited.{awaited_is}
 use Rattle.sdd_dm.proofs.data_module.DataModule.waits.Goals as goal
 

@@ -1,4 +1,4 @@
-use Rattle.std.proofs.Common.{ap, sym}
+use Rattle.sdd_dm.proofs.All.{ap, sym}
 use Rattle.sdd_dm.proofs.Taking.{take_does}
 use Rattle.sdd_dm.proofs.data_module.DataModuleModule.take.Goals as goal
 

@@ -1,6 +1,4 @@
-use Rattle.std.proofs.Common.{◌≡◌, drop, map}
-use Rattle.sdd_module.specs.All.{with_sends}
-use Rattle.sdd_dm.specs.Due.{ask_for}
+use Rattle.sdd_dm.proofs.All.{ask_for, drop, map, with_sends, ◌≡◌}
 use Rattle.sdd_dm.proofs.parts.Parts.ask.Given as goal
 
 abbrev pub invariant-loop-cond : goal.invariant-loop-cond

@@ -1,6 +1,4 @@
-use Rattle.std.proofs.Common.{ap, List, ◌+◌}
-use Rattle.sdd_module.specs.All.{DmNo, Site}
-use Rattle.sdd_dm.specs.Views.{Home}
+use Rattle.sdd_dm.proofs.All.{DmNo, Home, List, Site, ap, ◌+◌}
 use Rattle.sdd_dm.proofs.First.{first_shown, first_quiet}
 use Rattle.sdd_dm.proofs.parts.Parts.new.Goals as goal
 

@@ -1,8 +1,4 @@
-use Rattle.std.proofs.Common.{ℕ, List, length, ap, ◌∙◌}
-use Rattle.sdd_module.specs.All.{ClassNo, Notes, Reduced, Site, Ts, Value}
-use Rattle.sdd_pipe.specs.Pipes.{update}
-use Rattle.sdd_dm.specs.Copies.{rows_held, reduced_at}
-use Rattle.sdd_dm.specs.State.{State, frozen_of, with_out}
+use Rattle.sdd_dm.proofs.All.{ClassNo, List, Notes, Reduced, Site, State, Ts, Value, ap, frozen_of, length, reduced_at, rows_held, update, with_out, ℕ, ◌∙◌}
 use Rattle.sdd_dm.proofs.Results.{on_ok}
 use Rattle.sdd_dm.proofs.parts.Parts.tell.Goals as goal
 

@@ -1,6 +1,4 @@
-use Rattle.std.proofs.Common.{sym, subst, ◌∙◌, ◌<◌, refl}
-use Rattle.sdd_dm.specs.State.{State, steps_left}
-use Rattle.sdd_dm.specs.Stands.{Worked}
+use Rattle.sdd_dm.proofs.All.{State, Worked, refl, steps_left, subst, sym, ◌<◌, ◌∙◌}
 use Rattle.sdd_dm.proofs.Asked.{hand_worked}
 use Rattle.sdd_dm.proofs.FirstDue.{first_is}
 use Rattle.sdd_dm.proofs.Left.{IsWhole, steps_fall, whole_on, whole_handed}
@@ -11,7 +9,8 @@ pub loop-draft-init : goal.loop-draft-init
 loop-draft-init c = record {
   worked = hand_worked c.args.from c.args.msg c.args.self.now c.args.self.now c.hand.new.self c.new-draft.result c.hand.new.draft refl
       c.in_ok-hand.ensures.state c.new-draft.ensures c.in_ok-hand.ensures.notes;
-  whole = whole_handed c.args.msg c.args.self.now c.hand.new.self c.in_ok-hand.ensures.state (record { live = c.requires.live; pipes_live = c.requires.pipes_live; flags = c.requires.flags });
+  whole = whole_handed c.args.msg c.args.self.now c.hand.new.self c.in_ok-hand.ensures.state
+      (record { live = c.requires.live; pipes_live = c.requires.pipes_live; flags = c.requires.flags });
 }
 
 pub loop-draft-smaller : goal.loop-draft-smaller

@@ -1,5 +1,4 @@
-use Rattle.std.proofs.Common.{length, ◌≡◌, ◌≤◌, ◌∙◌, arith}
-use Rattle.sdd_graph.specs.Edges.{IsClassOf}
+use Rattle.sdd_graph.proofs.All.{IsClassOf, arith, length, ◌∙◌, ◌≡◌, ◌≤◌}
 use Rattle.sdd_graph.proofs.Tables.{all_uses_long, uses_at}
 use Rattle.sdd_graph.proofs.uses.Uses.class.Goals as goal
 

@@ -1,4 +1,4 @@
-use Rattle.sdd_graph.specs.Uses.{class_uses}
+use Rattle.sdd_graph.proofs.All.{class_uses}
 use Rattle.sdd_graph.proofs.Lists.{up_to, collected_more}
 use Rattle.sdd_graph.proofs.uses.Uses.of.Goals as goal
 

@@ -1,6 +1,4 @@
-use Rattle.std.proofs.Common.{◌≡◌, ◌-◌, map}
-use Rattle.sdd_catalog.specs.Catalogue.{numbers_to}
-use Rattle.sdd_graph.specs.Uses.{class_uses}
+use Rattle.sdd_graph.proofs.All.{class_uses, map, numbers_to, ◌-◌, ◌≡◌}
 use Rattle.sdd_graph.proofs.uses.Uses.of.Given as goal
 
 -- the classes so far

@@ -1,7 +1,4 @@
-use Rattle.std.proofs.Common.{length, ◌≡◌, ◌≤◌, ◌∙◌, ap}
-use Rattle.std.proofs.lemmas.List.Elements.{All-same}
-use Rattle.sdd_graph.specs.Uses.{reads_of}
-use Rattle.sdd_graph.specs.declared.class_uses.ClassUses.{ClassUses}
+use Rattle.sdd_graph.proofs.All.{All-same, ClassUses, ap, length, reads_of, ◌∙◌, ◌≡◌, ◌≤◌}
 use Rattle.sdd_graph.proofs.Tables.{reads_within}
 use Rattle.sdd_graph.proofs.uses.Uses.reads.Goals as goal
 

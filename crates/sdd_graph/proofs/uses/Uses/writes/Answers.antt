@@ -1,6 +1,4 @@
-use Rattle.std.proofs.Common.{length, get_or, ◌≡◌, ◌-◌, Bool, false, List, ◌∙◌, ap, arith}
-use Rattle.sdd_graph.specs.Uses.{written_by}
-use Rattle.sdd_graph.specs.declared.class_uses.ClassUses.{ClassUses}
+use Rattle.sdd_graph.proofs.All.{Bool, ClassUses, List, ap, arith, false, get_or, length, written_by, ◌-◌, ◌∙◌, ◌≡◌}
 use Rattle.sdd_graph.proofs.Tables.{written_long, written_at}
 use Rattle.sdd_graph.proofs.uses.Uses.writes.Goals as goal
 

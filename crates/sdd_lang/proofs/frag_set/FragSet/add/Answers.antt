@@ -1,7 +1,4 @@
-use Rattle.std.proofs.Common.{◌∙◌, ap, arith}
-use Rattle.std.specs.Ordering.{nat_cmp}
-use Rattle.std.specs.BTreeSet.{insert_key}
-use Rattle.sdd_lang.specs.FragSets.{members}
+use Rattle.sdd_lang.proofs.All.{ap, arith, insert_key, members, nat_cmp, ◌∙◌}
 use Rattle.sdd_lang.proofs.FragSets.{one_more_member}
 use Rattle.sdd_lang.proofs.frag_set.FragSet.add.Goals as goal
 

@@ -1,6 +1,4 @@
-use Rattle.std.proofs.Common.{◌≡◌, drop}
-use Rattle.sdd_lang.specs.Effect.{with_deletes}
-use Rattle.sdd_lang.specs.Source.{entries_of}
+use Rattle.sdd_lang.proofs.All.{drop, entries_of, with_deletes, ◌≡◌}
 use Rattle.sdd_lang.proofs.pending.Pending.delete.Given as goal
 
 -- to delete the rows that are left on these changes is to delete all on the old ones

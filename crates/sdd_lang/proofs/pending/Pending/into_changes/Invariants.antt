@@ -1,5 +1,4 @@
-use Rattle.std.proofs.Common.{◌≡◌, map}
-use Rattle.sdd_lang.specs.Effect.{change_of}
+use Rattle.sdd_lang.proofs.All.{change_of, map, ◌≡◌}
 use Rattle.sdd_lang.proofs.pending.Pending.into_changes.Given as goal
 
 -- the changes so far

@@ -1,5 +1,4 @@
-use Rattle.std.proofs.Common.{rules, w64, to_z-of_z}
-use Rattle.std.specs.Prelude.{FitsSigned}
+use Rattle.sdd_lang.proofs.All.{FitsSigned, rules, to_z-of_z, w64}
 use Rattle.sdd_lang.proofs.pending.Pending.put.Goals as goal
 
 pub returns : goal.returns

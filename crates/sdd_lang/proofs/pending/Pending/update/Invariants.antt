@@ -1,6 +1,4 @@
-use Rattle.std.proofs.Common.{◌≡◌, drop}
-use Rattle.sdd_lang.specs.Effect.{with_updates}
-use Rattle.sdd_lang.specs.Source.{entries_of}
+use Rattle.sdd_lang.proofs.All.{drop, entries_of, with_updates, ◌≡◌}
 use Rattle.sdd_lang.proofs.pending.Pending.update.Given as goal
 
 -- to replace the rows that are left on these changes is to replace all on the old ones

@@ -1,4 +1,4 @@
-use Rattle.std.proofs.Common.{◌≡◌, length, ap, arith}
+use Rattle.sdd_lang.proofs.All.{ap, arith, length, ◌≡◌}
 use Rattle.sdd_lang.proofs.StatementSets.{all_read}
 use Rattle.sdd_lang.proofs.touched.Touched.add_all.Goals as goal
 

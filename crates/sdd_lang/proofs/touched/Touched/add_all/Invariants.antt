@@ -1,8 +1,4 @@
-use Rattle.std.proofs.Common.{◌≡◌, take}
-use Rattle.std.specs.List.{flat_map}
-use Rattle.sdd_base.specs.Words.{ascending}
-use Rattle.sdd_lang.specs.Classes.{written_by}
-use Rattle.sdd_lang.specs.FragSets.{members}
+use Rattle.sdd_lang.proofs.All.{ascending, flat_map, members, take, written_by, ◌≡◌}
 use Rattle.sdd_lang.proofs.StatementSets.{read_by}
 use Rattle.sdd_lang.proofs.touched.Touched.add_all.Given as goal
 

@@ -1,4 +1,4 @@
-use Rattle.std.proofs.Common.{[]}
+use Rattle.sdd_lang.proofs.All.{[]}
 use Rattle.sdd_lang.proofs.StatementSets.{part_put}
 use Rattle.sdd_lang.proofs.touched.Touched.add_change.Goals as goal
 

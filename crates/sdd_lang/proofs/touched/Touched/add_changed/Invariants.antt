@@ -1,8 +1,4 @@
-use Rattle.std.proofs.Common.{◌≡◌, ◌-◌}
-use Rattle.std.specs.List.{filter}
-use Rattle.sdd_catalog.specs.Catalogue.{numbers_to}
-use Rattle.sdd_lang.specs.FragSets.{members, put_all}
-use Rattle.sdd_lang.specs.Uses.{meets_keys}
+use Rattle.sdd_lang.proofs.All.{filter, meets_keys, members, numbers_to, put_all, ◌-◌, ◌≡◌}
 use Rattle.sdd_lang.proofs.touched.Touched.add_changed.Given as goal
 
 -- those of the numbers so far that hold such a key are added

@@ -1,4 +1,4 @@
-use Rattle.std.proofs.Common.{◌≡◌, ◌++◌, true}
+use Rattle.sdd_net.proofs.All.{true, ◌++◌, ◌≡◌}
 use Rattle.sdd_net.proofs.channel.Channel.resend.Given as goal
 
 abbrev pub invariant-loop-packet : goal.invariant-loop-packet

@@ -1,4 +1,4 @@
-use Rattle.std.proofs.Common.{map}
+use Rattle.sdd_net.proofs.All.{map}
 use Rattle.sdd_net.proofs.Queues.{filled}
 use Rattle.sdd_net.proofs.mailbox.Mailbox.new.Goals as goal
 

@@ -1,5 +1,4 @@
-use Rattle.std.proofs.Common.{◌≡◌, map}
-use Rattle.std.specs.Prelude.{replicate, []}
+use Rattle.sdd_net.proofs.All.{[], map, replicate, ◌≡◌}
 use Rattle.sdd_net.proofs.mailbox.Mailbox.new.Given as goal
 
 abbrev pub invariant-loop : goal.invariant-loop

@@ -1,5 +1,4 @@
-use Rattle.std.proofs.Common.{map, subst}
-use Rattle.sdd_net.specs.Mailboxes.{IsLowest, Takes}
+use Rattle.sdd_net.proofs.All.{IsLowest, Takes, map, subst}
 use Rattle.sdd_net.proofs.Queues.{takes}
 use Rattle.sdd_net.proofs.mailbox.Mailbox.take.Goals as goal
 

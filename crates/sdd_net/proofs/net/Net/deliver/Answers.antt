@@ -1,5 +1,4 @@
-use Rattle.std.proofs.Common.{refl, true}
-use Rattle.sdd_net.specs.Links.{Delivers, link}
+use Rattle.sdd_net.proofs.All.{Delivers, link, refl, true}
 use Rattle.sdd_net.proofs.Sound.{sound}
 use Rattle.sdd_net.proofs.Calls.{live_is, stands_of, exists_of, still, does, deliver_does, pair_of}
 use Rattle.sdd_net.proofs.net.Net.deliver.Goals as goal
@@ -9,7 +8,8 @@ invariant_of-self-2 g c =
     let i = c.self.inside in
     let live = live_is c.args.self.now i.live i.tms i.dms i.channels.items c.self.view_is c.requires.live in
     let exists = exists_of c.args.self.now i.live i.tms i.dms i.channels.items c.args.from c.args.to c.self.view_is c.requires.exists in
-    still i.tms i.dms i.links.items i.live true i.channels.items c.deliver_at.new.channels.items (Delivers c.args.from c.args.to c.args.place) c.self.invariant live
+    still i.tms i.dms i.links.items i.live true i.channels.items c.deliver_at.new.channels.items
+    (Delivers c.args.from c.args.to c.args.place) c.self.invariant live
     (deliver_does i.tms i.dms i.channels.items c.deliver_at.new.channels.items c.index_of-there.result c.index_of-back.result c.args.place c.args.from c.args.to c.index_of-there.ensures c.index_of-back.ensures exists c.in_ok-delivered.ensures.law)
 
 pub returns-clause-ok : goal.returns-clause-ok
@@ -17,7 +17,8 @@ returns-clause-ok g c =
     let i = c.self.inside in
     let live = live_is c.args.self.now i.live i.tms i.dms i.channels.items c.self.view_is c.requires.live in
     let exists = exists_of c.args.self.now i.live i.tms i.dms i.channels.items c.args.from c.args.to c.self.view_is c.requires.exists in
-    does c.args.self.now i.live true i.tms i.dms i.channels.items c.deliver_at.new.channels.items (Delivers c.args.from c.args.to c.args.place) c.self.view_is refl
+    does c.args.self.now i.live true i.tms i.dms i.channels.items c.deliver_at.new.channels.items
+    (Delivers c.args.from c.args.to c.args.place) c.self.view_is refl
     (deliver_does i.tms i.dms i.channels.items c.deliver_at.new.channels.items c.index_of-there.result c.index_of-back.result c.args.place c.args.from c.args.to c.index_of-there.ensures c.index_of-back.ensures exists c.in_ok-delivered.ensures.law)
 
 pub deliver_at-requires-clause-pair : goal.deliver_at-requires-clause-pair

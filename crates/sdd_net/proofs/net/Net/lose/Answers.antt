@@ -1,4 +1,4 @@
-use Rattle.sdd_net.specs.Links.{Loses}
+use Rattle.sdd_net.proofs.All.{Loses}
 use Rattle.sdd_net.proofs.Calls.{live_is, exists_of, still, does, lose_does}
 use Rattle.sdd_net.proofs.net.Net.lose.Goals as goal
 

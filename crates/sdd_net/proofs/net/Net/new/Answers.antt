@@ -1,6 +1,4 @@
-use Rattle.std.proofs.Common.{[], ap, ◌∙◌}
-use Rattle.std.specs.Prelude.{map, replicate}
-use Rattle.sdd_net.specs.Nets.{placed, unused_channel}
+use Rattle.sdd_net.proofs.All.{[], ap, map, placed, replicate, unused_channel, ◌∙◌}
 use Rattle.sdd_net.proofs.Calls.{unused_stands}
 use Rattle.sdd_net.proofs.net.Net.new.Goals as goal
 
@@ -13,4 +11,5 @@ invariant_of-result g c = record {
 }
 
 pub returns-clause-unused : goal.returns-clause-unused
-returns-clause-unused g c = unused_stands _ c.args.tms c.args.dms c.in_ok-channels.channels.items (c.in_ok-channels.ensures ∙ ap (λ n. replicate n unused_channel) c.pair_count.ensures)
+returns-clause-unused g c =
+    unused_stands _ c.args.tms c.args.dms c.in_ok-channels.channels.items (c.in_ok-channels.ensures ∙ ap (λ n. replicate n unused_channel) c.pair_count.ensures)

@@ -1,4 +1,4 @@
-use Rattle.std.proofs.Common.{◌∙◌, sym}
+use Rattle.sdd_net.proofs.All.{sym, ◌∙◌}
 use Rattle.sdd_net.proofs.Rounds.{no_link, all_is, live_at, quiet_all, quiet_not}
 use Rattle.sdd_net.proofs.net.Net.quiet.Goals as goal
 

@@ -1,6 +1,4 @@
-use Rattle.std.proofs.Common.{◌≡◌, take, true}
-use Rattle.std.specs.List.{list_all}
-use Rattle.sdd_net.specs.Nets.{quiet_on}
+use Rattle.sdd_net.proofs.All.{list_all, quiet_on, take, true, ◌≡◌}
 use Rattle.sdd_net.proofs.net.Net.quiet.Given as goal
 
 abbrev pub invariant-loop-link : goal.invariant-loop-link

@@ -1,7 +1,4 @@
-use Rattle.std.proofs.Common.{sym, refl, subst, true}
-use Rattle.std.specs.Prelude.{slice_get}
-use Rattle.sdd_net.specs.Nets.{Fits}
-use Rattle.sdd_net.specs.Links.{Repeats, link, packet_at}
+use Rattle.sdd_net.proofs.All.{Fits, Repeats, link, packet_at, refl, slice_get, subst, sym, true}
 use Rattle.sdd_net.proofs.Calls.{live_is, stands_of, exists_of, still, does, repeat_does, repeated_way}
 use Rattle.sdd_net.proofs.net.Net.repeat.Goals as goal
 
@@ -10,7 +7,8 @@ invariant_of-self-2 g c =
     let i = c.self.inside in
     let live = live_is c.args.self.now i.live i.tms i.dms i.channels.items c.self.view_is c.requires.live in
     let exists = exists_of c.args.self.now i.live i.tms i.dms i.channels.items c.args.from c.args.to c.self.view_is c.requires.exists in
-    still i.tms i.dms i.links.items i.live true i.channels.items c.repeat_at.new.channels.items (Repeats c.args.from c.args.to c.args.place) c.self.invariant live
+    still i.tms i.dms i.links.items i.live true i.channels.items c.repeat_at.new.channels.items
+    (Repeats c.args.from c.args.to c.args.place) c.self.invariant live
     (repeat_does i.tms i.dms i.channels.items c.repeat_at.new.channels.items c.index_of-at.result c.args.place c.args.from c.args.to c.index_of-at.ensures exists
     (λ l h. (repeated_way i.channels.items c.repeat_at.new.channels.items c.index_of-at.result c.args.place c.in_ok-there.there l (packet_at c.args.place l) c.requires.place refl c.in_ok-there.ensures.some c.in_ok-there.ensures.there c.in_ok-there.ensures.none h).0))
 
@@ -19,7 +17,8 @@ returns-clause-ok g c =
     let i = c.self.inside in
     let live = live_is c.args.self.now i.live i.tms i.dms i.channels.items c.self.view_is c.requires.live in
     let exists = exists_of c.args.self.now i.live i.tms i.dms i.channels.items c.args.from c.args.to c.self.view_is c.requires.exists in
-    does c.args.self.now i.live true i.tms i.dms i.channels.items c.repeat_at.new.channels.items (Repeats c.args.from c.args.to c.args.place) c.self.view_is refl
+    does c.args.self.now i.live true i.tms i.dms i.channels.items c.repeat_at.new.channels.items
+    (Repeats c.args.from c.args.to c.args.place) c.self.view_is refl
     (repeat_does i.tms i.dms i.channels.items c.repeat_at.new.channels.items c.index_of-at.result c.args.place c.args.from c.args.to c.index_of-at.ensures exists
     (λ l h. (repeated_way i.channels.items c.repeat_at.new.channels.items c.index_of-at.result c.args.place c.in_ok-there.there l (packet_at c.args.place l) c.requires.place refl c.in_ok-there.ensures.some c.in_ok-there.ensures.there c.in_ok-there.ensures.none h).0))
 
@@ -29,5 +28,6 @@ returns-clause-there g c calls stands =
     let live = live_is c.args.self.now i.live i.tms i.dms i.channels.items c.self.view_is c.requires.live in
     let exists = exists_of c.args.self.now i.live i.tms i.dms i.channels.items c.args.from c.args.to c.self.view_is c.requires.exists in
     let l = link c.args.from c.args.to calls in
-    let h = subst (λ k. Fits (slice_get i.channels.items k) l.there) (sym c.index_of-at.ensures) (stands_of c.args.self.now i.live i.tms i.dms i.channels.items calls c.self.view_is stands c.args.from c.args.to exists) in
+    let h = subst (λ k. Fits (slice_get i.channels.items k) l.there) (sym c.index_of-at.ensures)
+    (stands_of c.args.self.now i.live i.tms i.dms i.channels.items calls c.self.view_is stands c.args.from c.args.to exists) in
     (repeated_way i.channels.items c.repeat_at.new.channels.items c.index_of-at.result c.args.place c.in_ok-there.there l (packet_at c.args.place l) c.requires.place refl c.in_ok-there.ensures.some c.in_ok-there.ensures.there c.in_ok-there.ensures.none h).1

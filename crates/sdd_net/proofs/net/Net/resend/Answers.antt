@@ -1,5 +1,4 @@
-use Rattle.std.proofs.Common.{refl, true}
-use Rattle.sdd_net.specs.Links.{Resends, resend}
+use Rattle.sdd_net.proofs.All.{Resends, refl, resend, true}
 use Rattle.sdd_net.proofs.Calls.{live_is, exists_of, still, does, way_does}
 use Rattle.sdd_net.proofs.net.Net.resend.Goals as goal
 

@@ -1,4 +1,4 @@
-use Rattle.sdd_net.specs.Nets.{resend_on, deliveries_on}
+use Rattle.sdd_net.proofs.All.{deliveries_on, resend_on}
 use Rattle.sdd_net.proofs.Matching.{if_on}
 use Rattle.sdd_net.proofs.Rounds.{no_link, all_is, live_at, round_all, resends_more, deliveries_more}
 use Rattle.sdd_net.proofs.net.Net.round.Goals as goal

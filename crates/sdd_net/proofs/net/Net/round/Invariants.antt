@@ -1,6 +1,4 @@
-use Rattle.std.proofs.Common.{◌≡◌, take}
-use Rattle.std.specs.List.{filter_map, flat_map}
-use Rattle.sdd_net.specs.Nets.{resend_on, deliveries_on}
+use Rattle.sdd_net.proofs.All.{deliveries_on, filter_map, flat_map, resend_on, take, ◌≡◌}
 use Rattle.sdd_net.proofs.net.Net.round.Given as goal
 
 abbrev pub invariant-loop-link : goal.invariant-loop-link

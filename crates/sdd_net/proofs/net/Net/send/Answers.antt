@@ -1,5 +1,4 @@
-use Rattle.std.proofs.Common.{refl, true}
-use Rattle.sdd_net.specs.Links.{Puts, put}
+use Rattle.sdd_net.proofs.All.{Puts, put, refl, true}
 use Rattle.sdd_net.proofs.Calls.{live_is, exists_of, still, does, way_does}
 use Rattle.sdd_net.proofs.Deliveries.{acked_le}
 use Rattle.sdd_net.proofs.net.Net.send.Goals as goal

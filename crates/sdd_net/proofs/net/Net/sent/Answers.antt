@@ -1,7 +1,4 @@
-use Rattle.std.proofs.Common.{◌∙◌, sym, subst}
-use Rattle.std.specs.Prelude.{slice_get}
-use Rattle.sdd_net.specs.Links.{link}
-use Rattle.sdd_net.specs.Nets.{Fits}
+use Rattle.sdd_net.proofs.All.{Fits, link, slice_get, subst, sym, ◌∙◌}
 use Rattle.sdd_net.proofs.Sound.{sound}
 use Rattle.sdd_net.proofs.Matching.{last_number_is}
 use Rattle.sdd_net.proofs.Deliveries.{acked_le, fits_live}
@@ -15,7 +12,8 @@ returns-clause-calls g c calls stands =
     let channels = i.channels.items in
     let exists = exists_of c.args.self.now i.live i.tms i.dms channels c.args.from c.args.to c.self.view_is c.requires.exists in
     let w = (link c.args.from c.args.to calls).there in
-    let fits = subst (λ k. Fits (slice_get channels k) w) (sym c.index_of.ensures) (stands_of c.args.self.now i.live i.tms i.dms channels calls c.self.view_is stands c.args.from c.args.to exists) in
+    let fits = subst (λ k. Fits (slice_get channels k) w) (sym c.index_of.ensures)
+    (stands_of c.args.self.now i.live i.tms i.dms channels calls c.self.view_is stands c.args.from c.args.to exists) in
     let x = c.index-channel.result.now in
     let h = fits_there channels c.index_of.result x w (fits_live _ w fits) c.index-channel.ensures fits in
     c.count.ensures ∙ last_number_is x w (acked_le w _ (sound c.args.from c.args.to calls).there) h

@@ -1,6 +1,4 @@
-use Rattle.std.proofs.Common.{◌<◌, ◌∙◌, ap, length, arith}
-use Rattle.std.specs.Prelude.{slice_get}
-use Rattle.std.specs.List.{flat_map}
+use Rattle.sdd_net.proofs.All.{ap, arith, flat_map, length, slice_get, ◌<◌, ◌∙◌}
 use Rattle.sdd_net.proofs.Joined.{count_more, item_at, item_read}
 use Rattle.sdd_net.proofs.pieces.Pieces.get.Goals as goal
 

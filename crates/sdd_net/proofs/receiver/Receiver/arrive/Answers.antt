@@ -1,5 +1,4 @@
-use Rattle.std.proofs.Common.{◌≤◌, ap, ◌∙◌, arith, true}
-use Rattle.sdd_net.specs.Parts.{handed_on}
+use Rattle.sdd_net.proofs.All.{ap, arith, handed_on, true, ◌∙◌, ◌≤◌}
 use Rattle.sdd_net.proofs.Turns.{received_is}
 use Rattle.sdd_net.proofs.Matching.{if_both}
 use Rattle.sdd_net.proofs.Receives.{arrival_stands, old_arrival, next_arrival}
@@ -9,14 +8,16 @@ pub returns-clause-ok : goal.returns-clause-ok
 returns-clause-ok g c =
     let none = c.take_next.ensures.none c.in_default.is in
     let i = c.loop-next.invariant in
-    rw (← c.self.view_is, none.0) (ap (λ v. record { live = true; value = v }) (received_is _ _ _ _ _ _ _ _ c.if-no-self.false c.in_ok-insert.ensures.entries i.handed i.waits i.count none.1).1)
+    rw (← c.self.view_is, none.0)
+    (ap (λ v. record { live = true; value = v }) (received_is _ _ _ _ _ _ _ _ c.if-no-self.false c.in_ok-insert.ensures.entries i.handed i.waits i.count none.1).1)
 
 pub returns-clause-law : goal.returns-clause-law
 returns-clause-law g c =
     let none = c.take_next.ensures.none c.in_default.is in
     let i = c.loop-next.invariant in
     let handed = (received_is _ _ _ _ _ _ _ _ c.if-no-self.false c.in_ok-insert.ensures.entries i.handed i.waits i.count none.1).0 in
-    arrival_stands c.args.no c.args.msg c.args.self.now.value (record { live = true; value = record { count = c.loop-next.self-inside.count; early = c.take_next.new.early.entries } }) c.from_vec-2.result c.requires.number
+    arrival_stands c.args.no c.args.msg c.args.self.now.value
+    (record { live = true; value = record { count = c.loop-next.self-inside.count; early = c.take_next.new.early.entries } }) c.from_vec-2.result c.requires.number
     (returns-clause-ok g c) (c.from_vec-2.ensures ∙ handed ∙ ap (λ v. handed_on c.args.no c.args.msg v.value) c.self.view_is)
 
 pub returns-then-no-self-clause-law : goal.returns-then-no-self-clause-law
@@ -24,7 +25,8 @@ returns-then-no-self-clause-law g c =
     let count = ap (λ v. v.value.count) c.self.view_is in
     let old : c.args.no ≤ c.args.self.now.value.count = omega (arith, count, c.if-no-self.true) in
     let same = old_arrival c.args.no c.args.msg c.args.self.now c.requires.live old in
-    arrival_stands c.args.no c.args.msg c.args.self.now.value c.args.self.now c.from_vec.result c.requires.number same.0 (c.from_vec.ensures ∙ c.new-handed.ensures.items ∙ same.1)
+    arrival_stands c.args.no c.args.msg c.args.self.now.value c.args.self.now c.from_vec.result c.requires.number same.0
+    (c.from_vec.ensures ∙ c.new-handed.ensures.items ∙ same.1)
 
 pub returns-then-is_next-clause-law : goal.returns-then-is_next-clause-law
 returns-then-is_next-clause-law g c =

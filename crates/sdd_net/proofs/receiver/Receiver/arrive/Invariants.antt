@@ -1,5 +1,4 @@
-use Rattle.std.proofs.Common.{◌≡◌, ◌+◌, ◌++◌, length, false}
-use Rattle.sdd_net.specs.Parts.{in_turn, out_of_turn}
+use Rattle.sdd_net.proofs.All.{false, in_turn, length, out_of_turn, ◌++◌, ◌+◌, ◌≡◌}
 use Rattle.sdd_net.proofs.receiver.Receiver.arrive.Given as goal
 
 abbrev pub invariant-loop-next : goal.invariant-loop-next

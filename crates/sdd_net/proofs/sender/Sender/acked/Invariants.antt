@@ -1,5 +1,4 @@
-use Rattle.std.proofs.Common.{◌-◌, ◌≡◌, ◌+◌, ◌≤◌, length, drop}
-use Rattle.std.specs.Prelude.{max}
+use Rattle.sdd_net.proofs.All.{drop, length, max, ◌+◌, ◌-◌, ◌≡◌, ◌≤◌}
 use Rattle.sdd_net.proofs.sender.Sender.acked.Given as goal
 
 abbrev pub invariant-loop-self : goal.invariant-loop-self

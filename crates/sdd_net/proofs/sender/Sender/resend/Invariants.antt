@@ -1,6 +1,4 @@
-use Rattle.std.proofs.Common.{◌≡◌, ◌+◌, length}
-use Rattle.std.specs.Prelude.{map}
-use Rattle.sdd_net.specs.Links.{numbered}
+use Rattle.sdd_net.proofs.All.{length, map, numbered, ◌+◌, ◌≡◌}
 use Rattle.sdd_net.proofs.sender.Sender.resend.Given as goal
 
 abbrev pub invariant-loop-msg : goal.invariant-loop-msg

@@ -1,6 +1,4 @@
-use Rattle.std.proofs.Common.{◌≡◌}
-use Rattle.std.specs.Prelude.{replicate}
-use Rattle.sdd_net.specs.Mailboxes.{empty_mailbox}
+use Rattle.sdd_net.proofs.All.{empty_mailbox, replicate, ◌≡◌}
 use Rattle.sdd_net.proofs.spool.Spool.new.Given as goal
 
 abbrev pub invariant-loop : goal.invariant-loop

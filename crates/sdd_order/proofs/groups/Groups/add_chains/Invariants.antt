@@ -1,6 +1,4 @@
-use Rattle.std.proofs.Common.{◌≡◌, ◌++◌, None, drop}
-use Rattle.std.specs.List.{flat_map}
-use Rattle.sdd_order.specs.Groups.{chain_after}
+use Rattle.sdd_order.proofs.All.{None, chain_after, drop, flat_map, ◌++◌, ◌≡◌}
 use Rattle.sdd_order.proofs.groups.Groups.add_chains.Given as goal
 
 abbrev pub invariant-loop-list : goal.invariant-loop-list

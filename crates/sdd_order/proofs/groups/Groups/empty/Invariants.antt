@@ -1,4 +1,4 @@
-use Rattle.std.proofs.Common.{◌≡◌, [], map, replicate}
+use Rattle.sdd_order.proofs.All.{[], map, replicate, ◌≡◌}
 use Rattle.sdd_order.proofs.groups.Groups.empty.Given as goal
 
 abbrev pub invariant-loop : goal.invariant-loop

@@ -1,8 +1,7 @@
-use Rattle.std.proofs.Common.{List, ℕ, ◌≡◌, ◌+◌, ◌∙◌, take, sym, subst}
-use Rattle.sdd_order.specs.Groups.{groups}
+use Rattle.sdd_order.proofs.All.{List, groups, subst, sym, take, ℕ, ◌+◌, ◌∙◌, ◌≡◌}
 use Rattle.sdd_order.proofs.Grouped.{groups_next, groups_past}
-use Rattle.sdd_order.proofs.groups.Groups.of.Goals as goal
 use Rattle.sdd_order.proofs.groups.Groups.of.Goals.{then-key-count+in_ok-add, else-key-count}
+use Rattle.sdd_order.proofs.groups.Groups.of.Goals as goal
 
 pub loop-key-preserved : goal.loop-key-preserved
 loop-key-preserved c =

@@ -1,5 +1,4 @@
-use Rattle.std.proofs.Common.{◌≡◌, take}
-use Rattle.sdd_order.specs.Groups.{groups}
+use Rattle.sdd_order.proofs.All.{groups, take, ◌≡◌}
 use Rattle.sdd_order.proofs.groups.Groups.of.Given as goal
 
 abbrev pub invariant-loop-key : goal.invariant-loop-key

@@ -1,6 +1,4 @@
-use Rattle.std.proofs.Common.{rules, ◌≡◌, ap, ◌∙◌, sym}
-use Rattle.sdd_pipe.specs.Digest.{last_in, empty_digest}
-use Rattle.sdd_pipe.specs.Pipes.{pipe_at}
+use Rattle.sdd_pipe.proofs.All.{ap, empty_digest, last_in, pipe_at, rules, sym, ◌∙◌, ◌≡◌}
 use Rattle.sdd_pipe.proofs.Digests.{no_last}
 use Rattle.sdd_pipe.proofs.pipes.Pipes.last_write.Goals as goal
 

@@ -1,6 +1,4 @@
-use Rattle.std.proofs.Common.{◌≡◌}
-use Rattle.std.specs.Prelude.{replicate}
-use Rattle.sdd_pipe.specs.Digest.{empty_digest}
+use Rattle.sdd_pipe.proofs.All.{empty_digest, replicate, ◌≡◌}
 use Rattle.sdd_pipe.proofs.pipes.Pipes.new.Given as goal
 
 abbrev pub invariant-loop : goal.invariant-loop

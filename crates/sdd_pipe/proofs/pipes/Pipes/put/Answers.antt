@@ -1,6 +1,4 @@
-use Rattle.std.proofs.Common.{ap, true, List}
-use Rattle.sdd_base.specs.Kept.{Kept}
-use Rattle.sdd_pipe.specs.Digest.{Digest, put_digest}
+use Rattle.sdd_pipe.proofs.All.{Digest, Kept, List, ap, put_digest, true}
 use Rattle.sdd_pipe.proofs.Updates.{set_is_update}
 use Rattle.sdd_pipe.proofs.pipes.Pipes.put.Goals as goal
 

@@ -1,7 +1,4 @@
-use Rattle.std.proofs.Common.{ap, ◌∙◌, List, Bool}
-use Rattle.sdd_base.specs.Kept.{Kept}
-use Rattle.sdd_pipe.specs.Digest.{Digest, take_digest}
-use Rattle.sdd_pipe.specs.Pipes.{update}
+use Rattle.sdd_pipe.proofs.All.{Bool, Digest, Kept, List, ap, take_digest, update, ◌∙◌}
 use Rattle.sdd_pipe.proofs.Updates.{set_is_update}
 use Rattle.sdd_pipe.proofs.pipes.Pipes.take.Goals as goal
 

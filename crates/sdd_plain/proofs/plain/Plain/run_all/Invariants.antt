@@ -1,5 +1,4 @@
-use Rattle.std.proofs.Common.{◌≡◌, ◌++◌, true, drop}
-use Rattle.sdd_lang.specs.All.{serial}
+use Rattle.sdd_plain.proofs.All.{drop, serial, true, ◌++◌, ◌≡◌}
 use Rattle.sdd_plain.proofs.plain.Plain.run_all.Given as goal
 
 -- the replies so far with those that are left are all, and what is left ends in the last database

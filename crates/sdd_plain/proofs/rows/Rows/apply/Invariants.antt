@@ -1,5 +1,4 @@
-use Rattle.std.proofs.Common.{◌≡◌, drop}
-use Rattle.sdd_lang.specs.All.{after_changes}
+use Rattle.sdd_plain.proofs.All.{after_changes, drop, ◌≡◌}
 use Rattle.sdd_plain.proofs.rows.Rows.apply.Given as goal
 
 -- the changes that are left make of these rows what all make of the old ones

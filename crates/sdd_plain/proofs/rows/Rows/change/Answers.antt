@@ -1,9 +1,9 @@
-use Rattle.std.proofs.Common.{◌∙◌, rules, w64, to_z-of_z}
-use Rattle.std.specs.Prelude.{FitsSigned}
+use Rattle.sdd_plain.proofs.All.{FitsSigned, rules, to_z-of_z, w64, ◌∙◌}
 use Rattle.sdd_plain.proofs.Changing.{change_to_none}
 use Rattle.sdd_plain.proofs.rows.Rows.change.Goals as goal
 
 pub returns-in-None : goal.returns-in-None
 returns-in-None c =
     let fits : FitsSigned w64 c.args.change.now.key = search rules in
-    (rw (to_z-of_z fits) at c.remove.ensures) ∙ change_to_none c.args.cat.now c.args.self.now c.args.change.now c.relation_of.result c.relation_of.ensures c.in-None.is
+    (rw (to_z-of_z fits) at c.remove.ensures)
+    ∙ change_to_none c.args.cat.now c.args.self.now c.args.change.now c.relation_of.result c.relation_of.ensures c.in-None.is

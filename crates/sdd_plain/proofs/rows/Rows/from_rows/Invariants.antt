@@ -1,5 +1,4 @@
-use Rattle.std.proofs.Common.{◌≡◌, drop, fold}
-use Rattle.sdd_lang.specs.All.{database_of, key_in, with_row}
+use Rattle.sdd_plain.proofs.All.{database_of, drop, fold, key_in, with_row, ◌≡◌}
 use Rattle.sdd_plain.proofs.rows.Rows.from_rows.Given as goal
 
 -- the rows that are left make of these what all make of none

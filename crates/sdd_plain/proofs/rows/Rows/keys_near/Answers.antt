@@ -1,6 +1,4 @@
-use Rattle.std.proofs.lemmas.Result.{IfOk-weaker}
-use Rattle.sdd_lang.specs.All.{Interval}
-use Rattle.sdd_plain.specs.Held.{AreKeysOf, AreNear}
+use Rattle.sdd_plain.proofs.All.{AreKeysOf, AreNear, IfOk-weaker, Interval}
 use Rattle.sdd_plain.proofs.Near.{all_near, keyed_near}
 use Rattle.sdd_plain.proofs.rows.Rows.keys_near.Goals as goal
 
@@ -15,4 +13,5 @@ returns c =
     let are = λ (keys : Interval) (h : AreKeysOf c.args.part c.args.conds.now column keys).
     keyed_near c.self.inside.columns.items c.args.rel.0 c.args.part c.args.conds.now keys db c.self.invariant.0 (c.self.invariant.1 c.if-not-self.false)
     (rw (c.key_column-column.ensures, c.as_slice.ensures.value) at h) in
-    rw (← c.self.view_is) (IfOk-weaker c.keys_of_part.result (AreKeysOf c.args.part c.args.conds.now column) (AreNear db c.args.rel.0 c.args.part c.args.conds.now) are c.keys_of_part.ensures)
+    rw (← c.self.view_is)
+    (IfOk-weaker c.keys_of_part.result (AreKeysOf c.args.part c.args.conds.now column) (AreNear db c.args.rel.0 c.args.part c.args.conds.now) are c.keys_of_part.ensures)

@@ -1,9 +1,4 @@
-use Rattle.std.proofs.Common.{◌∙◌, ap, map, [], ◌∷◌}
-use Rattle.std.specs.List.{filter}
-use Rattle.std.specs.Map.Iter.{deref_pair}
-use Rattle.std.proofs.lemmas.Map.Iter.{iter_end}
-use Rattle.sdd_lang.specs.All.{entries_of, meets_all}
-use Rattle.sdd_plain.specs.Lent.{as_of}
+use Rattle.sdd_plain.proofs.All.{[], ap, as_of, deref_pair, entries_of, filter, iter_end, map, meets_all, ◌∙◌, ◌∷◌}
 use Rattle.sdd_plain.proofs.Near.{matching_rows}
 use Rattle.sdd_plain.proofs.rows.Rows.matching.Goals as goal
 

@@ -1,8 +1,4 @@
-use Rattle.std.proofs.Common.{◌≡◌, [], ◌∷◌, map}
-use Rattle.std.specs.List.{filter}
-use Rattle.sdd_lang.specs.All.{entries_of, meets_all}
-use Rattle.std.specs.Map.Iter.{deref_pair}
-use Rattle.sdd_plain.specs.Lent.{as_of}
+use Rattle.sdd_plain.proofs.All.{[], as_of, deref_pair, entries_of, filter, map, meets_all, ◌∷◌, ◌≡◌}
 use Rattle.sdd_plain.proofs.rows.Rows.matching.Given as goal
 
 -- the entries so far are those of the rows so far that meet the conditions

@@ -1,6 +1,4 @@
-use Rattle.std.proofs.Common.{◌∙◌, ap}
-use Rattle.std.specs.Prelude.{filter}
-use Rattle.sdd_lang.specs.All.{may_stand}
+use Rattle.sdd_plain.proofs.All.{ap, filter, may_stand, ◌∙◌}
 use Rattle.sdd_plain.proofs.Near.{near_rows}
 use Rattle.sdd_plain.proofs.rows.Rows.near.Goals as goal
 

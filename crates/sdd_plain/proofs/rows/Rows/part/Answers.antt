@@ -1,8 +1,4 @@
-use Rattle.std.proofs.Common.{◌∙◌, ap, map}
-use Rattle.std.specs.List.{filter}
-use Rattle.std.specs.Map.Iter.{deref_pair}
-use Rattle.std.proofs.lemmas.Map.Iter.{iter_end}
-use Rattle.sdd_lang.specs.All.{may_stand}
+use Rattle.sdd_plain.proofs.All.{ap, deref_pair, filter, iter_end, map, may_stand, ◌∙◌}
 use Rattle.sdd_plain.proofs.Near.{part_rows}
 use Rattle.sdd_plain.proofs.rows.Rows.part.Goals as goal
 

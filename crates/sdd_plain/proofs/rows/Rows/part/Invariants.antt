@@ -1,7 +1,4 @@
-use Rattle.std.proofs.Common.{◌≡◌, map}
-use Rattle.std.specs.List.{filter}
-use Rattle.std.specs.Map.Iter.{deref_pair}
-use Rattle.sdd_lang.specs.All.{may_stand, rows_lent}
+use Rattle.sdd_plain.proofs.All.{deref_pair, filter, map, may_stand, rows_lent, ◌≡◌}
 use Rattle.sdd_plain.proofs.rows.Rows.part.Given as goal
 
 -- the rows so far that may stand in the part

@@ -1,5 +1,4 @@
-use Rattle.std.proofs.Common.{◌≡◌, ◌+◌, ◌++◌, drop}
-use Rattle.sdd_plain.specs.Parts.{standing}
+use Rattle.sdd_plain.proofs.All.{drop, standing, ◌++◌, ◌+◌, ◌≡◌}
 use Rattle.sdd_plain.proofs.rows.Rows.parts.Given as goal
 
 -- the parts so far, with those of the relations that are left

@@ -1,7 +1,4 @@
-use Rattle.std.specs.BTreeMap.{is_at}
-use Rattle.std.proofs.lemmas.Map.Views.{All-map-remove_entry}
-use Rattle.sdd_lang.specs.All.{item_cmp}
-use Rattle.sdd_plain.specs.Held.{HasHeldKey}
+use Rattle.sdd_plain.proofs.All.{All-map-remove_entry, HasHeldKey, is_at, item_cmp}
 use Rattle.sdd_plain.proofs.Near.{keyed_left}
 use Rattle.sdd_plain.proofs.rows.Rows.remove.Goals as goal
 

@@ -1,7 +1,4 @@
-use Rattle.std.proofs.Common.{◌∙◌, ap, sym, rules, ◌==◌, ◌&&◌, pos, w64, to_z-of_z}
-use Rattle.std.specs.Prelude.{filter, FitsSigned}
-use Rattle.sdd_lang.specs.All.{all_keys, common}
-use Rattle.sdd_plain.specs.Held.{is_within}
+use Rattle.sdd_plain.proofs.All.{FitsSigned, all_keys, ap, common, filter, is_within, pos, rules, sym, to_z-of_z, w64, ◌&&◌, ◌==◌, ◌∙◌}
 use Rattle.sdd_plain.proofs.Ranges.{entries_within, entries_nowhere, entries_of_none}
 use Rattle.sdd_plain.proofs.rows.Rows.within.Goals as goal
 
@@ -11,7 +8,8 @@ returns-in-Some c =
     let high : FitsSigned w64 c.in-Some.to = search rules in
     let found = rw (c.new.ensures.start, c.new.ensures.end, to_z-of_z low, to_z-of_z high) at (c.range.ensures.between c.new.ensures.exhausted) in
     found
-    ∙ entries_within c.args.rel.0 c.in-Some.from c.in-Some.to (common c.args.keys.now all_keys) c.self.inside.rows.entries c.in-Some.ensures.1 c.in-Some.ensures.2
+    ∙ entries_within c.args.rel.0 c.in-Some.from c.in-Some.to
+    (common c.args.keys.now all_keys) c.self.inside.rows.entries c.in-Some.ensures.1 c.in-Some.ensures.2
     ∙ ap (filter (λ e. (e.0.0 == c.args.rel.0) && is_within (common c.args.keys.now all_keys) e.0.1)) c.self.view_is
 
 pub returns-in-None : goal.returns-in-None

@@ -1,10 +1,7 @@
-use Rattle.std.proofs.Common.{◌+◌, ◌<◌, ◌≡◌, Bool, true, false, List, length, get_or, set, take, ap, sym, ◌∙◌, subst, arith, length-set}
-use Rattle.sdd_base.specs.declared.number.FragNo.{FragNo}
-use Rattle.sdd_protocol.specs.Asked.{AreMarks}
-use Rattle.sdd_protocol.specs.Conditions.{is_read_at, is_asked}
+use Rattle.sdd_protocol.proofs.All.{AreMarks, Bool, FragNo, List, ap, arith, false, get_or, is_asked, is_read_at, length, length-set, set, subst, sym, take, true, ◌+◌, ◌<◌, ◌∙◌, ◌≡◌}
 use Rattle.sdd_protocol.proofs.Marks.{marks_more, marks_same}
-use Rattle.sdd_protocol.proofs.asked.Asked.of.Goals as goal
 use Rattle.sdd_protocol.proofs.asked.Asked.of.Goals.{then-is_read_at, else-is_read_at}
+use Rattle.sdd_protocol.proofs.asked.Asked.of.Goals as goal
 
 pub loop-frag-preserved : goal.loop-frag-preserved
 loop-frag-preserved c =

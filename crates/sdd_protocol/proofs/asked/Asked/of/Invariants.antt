@@ -1,6 +1,4 @@
-use Rattle.std.proofs.Common.{◌≡◌, ◌+◌, length, take}
-use Rattle.sdd_protocol.specs.Asked.{AreMarks}
-use Rattle.sdd_protocol.specs.Conditions.{is_asked}
+use Rattle.sdd_protocol.proofs.All.{AreMarks, is_asked, length, take, ◌+◌, ◌≡◌}
 use Rattle.sdd_protocol.proofs.asked.Asked.of.Given as goal
 
 abbrev pub invariant-loop-frag : goal.invariant-loop-frag

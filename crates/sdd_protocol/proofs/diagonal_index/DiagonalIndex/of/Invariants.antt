@@ -1,5 +1,4 @@
-use Rattle.std.proofs.Common.{◌≡◌}
-use Rattle.sdd_protocol.specs.DiagonalIndex.{IsIndexOf}
+use Rattle.sdd_protocol.proofs.All.{IsIndexOf, ◌≡◌}
 use Rattle.sdd_protocol.proofs.diagonal_index.DiagonalIndex.of.Given as goal
 
 abbrev pub invariant-loop-k : goal.invariant-loop-k

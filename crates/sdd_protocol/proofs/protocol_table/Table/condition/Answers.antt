@@ -1,13 +1,5 @@
-use Rattle.std.proofs.Common.{ℕ, ◌≡◌, ◌∙◌, Bool, Vec, Global, ap}
-use Rattle.std.proofs.lemmas.Result.{IfOk-weaker}
+use Rattle.sdd_protocol.proofs.All.{Attempt, Bool, Cond, Global, IfOk-weaker, Vec, ap, classes_of, conditions, conditions_on, is_asked, is_marked, numbers_to, ℕ, ◌∙◌, ◌≡◌}
 use mathlib.Core.Path.{fun_ext}
-use Rattle.sdd_base.specs.declared.condition.Cond.{Cond}
-use Rattle.sdd_catalog.specs.Catalogue.{numbers_to}
-use Rattle.sdd_graph.specs.Graph.{classes_of}
-use Rattle.sdd_protocol.specs.Asked.{is_marked}
-use Rattle.sdd_protocol.specs.Attempts.{conditions_on}
-use Rattle.sdd_protocol.specs.Conditions.{is_asked, conditions}
-use Rattle.sdd_protocol.specs.declared.attempt.Attempt.{Attempt}
 use Rattle.sdd_protocol.proofs.protocol_table.Table.condition.Goals as goal
 
 pub returns : goal.returns

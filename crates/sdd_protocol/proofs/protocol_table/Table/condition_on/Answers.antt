@@ -1,8 +1,4 @@
-use Rattle.std.proofs.Common.{◌≡◌, ◌∙◌, Option}
-use Rattle.std.proofs.lemmas.Result.{IfOk-weaker}
-use Rattle.sdd_base.specs.declared.condition.Cond.{Cond}
-use Rattle.sdd_protocol.specs.Asked.{is_marked}
-use Rattle.sdd_protocol.specs.Attempts.{condition_by}
+use Rattle.sdd_protocol.proofs.All.{Cond, IfOk-weaker, Option, condition_by, is_marked, ◌∙◌, ◌≡◌}
 use Rattle.sdd_protocol.proofs.Between.{condition_on-between}
 use Rattle.sdd_protocol.proofs.protocol_table.Table.condition_on.Goals as goal
 

@@ -1,6 +1,4 @@
-use Rattle.sdd_graph.proofs.Lists.{up_to}
-use Rattle.sdd_protocol.specs.Asked.{is_marked}
-use Rattle.sdd_protocol.specs.Attempts.{condition_by}
+use Rattle.sdd_protocol.proofs.All.{condition_by, is_marked, up_to}
 use Rattle.sdd_protocol.proofs.Asking.{chosen_more}
 use Rattle.sdd_protocol.proofs.protocol_table.Table.conditions.Goals as goal
 

@@ -1,6 +1,4 @@
-use Rattle.std.proofs.Common.{◌-◌, ◌∙◌, List, ap, take, drop, filter}
-use Rattle.sdd_protocol.specs.DiagonalIndex.{range_of, is_between}
-use Rattle.sdd_protocol.specs.declared.entry.Entry.{Entry}
+use Rattle.sdd_protocol.proofs.All.{Entry, List, ap, drop, filter, is_between, range_of, take, ◌-◌, ◌∙◌}
 use Rattle.sdd_protocol.proofs.Between.{diagonals_in_range}
 use Rattle.sdd_protocol.proofs.protocol_table.Table.diagonals.Goals as goal
 

@@ -1,6 +1,4 @@
-use Rattle.std.proofs.Common.{◌∙◌, refl}
-use Rattle.std.specs.Prelude.{string_bytes}
-use Rattle.std.specs.Str.{bytes_eq}
+use Rattle.sdd_script.proofs.All.{bytes_eq, refl, string_bytes, ◌∙◌}
 use Rattle.sdd_script.proofs.AddedNames.{fresh}
 use Rattle.sdd_script.proofs.names.Names.add.Goals.{in-Ok, in-Err}
 use Rattle.sdd_script.proofs.names.Names.add.Goals as goal

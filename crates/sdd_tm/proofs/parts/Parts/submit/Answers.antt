@@ -1,17 +1,10 @@
 -- The transaction goes to its class alone, where the module runs it.
 use Rattle.std.proofs.Common.{ℕ, ◌≡◌, ◌∙◌, ap, sym, subst, arith}
 use Rattle.std.specs.Prelude.{slice_index_or, slice_set}
-use Rattle.sdd_attempt.specs.All.{Fits, Txn, class_for}
 use Rattle.sdd_tm.specs.State.{State}
-use Rattle.sdd_tm.specs.Handing.{state_given, place_of, one_place}
-use Rattle.sdd_tm.proofs.Taking.{few_kept, apart_kept, given_nowhere, given_somewhere, given_fits, given_there, fits_in_force}
+use Rattle.sdd_tm.specs.Handing.{one_place}
+use Rattle.sdd_tm.proofs.Taking.{few_kept, apart_kept, given_nowhere, given_somewhere, given_fits, given_there}
 use Rattle.sdd_tm.proofs.parts.Parts.submit.Goals as goal
-
-pub class_for-class-requires : goal.class_for-class-requires
-class_for-class-requires c =
-    let r = c.requires in
-    subst (λ (st : State). Fits st.force.catalogue c.args.txn.now) (sym c.self.view_is)
-    (fits_in_force r.0 r.1 r.2 c.args.self.now c.args.number.0 c.args.txn.now r.3 r.4)
 
 pub place_of-requires : goal.place_of-requires
 place_of-requires c = let r = c.requires in few_kept r.0 r.2 c.args.self.now r.3
@@ -19,7 +12,7 @@ place_of-requires c = let r = c.requires in few_kept r.0 r.2 c.args.self.now r.3
 pub submit-requires-clause-fits : goal.submit-requires-clause-fits
 submit-requires-clause-fits c =
     let r = c.requires in
-    (given_fits r.0 r.1 r.2 c.args.self.now c.class_for-class.result.0 c.args.number.0 c.args.txn.now c.in-Some.place
+    (given_fits r.0 r.1 r.2 c.args.self.now c.args.class.0 c.args.number.0 c.args.txn.now c.in-Some.place
     c.index_mut-run.result.now r.3 r.4 c.in-Some.ensures
     (subst (λ (st : State). c.index_mut-run.result.now ≡ slice_index_or st.classes c.in-Some.place
     c.index_mut-run.result.now) c.self.view_is c.index_mut-run.ensures.value)).0
@@ -27,7 +20,7 @@ submit-requires-clause-fits c =
 pub submit-requires-clause-fresh : goal.submit-requires-clause-fresh
 submit-requires-clause-fresh c =
     let r = c.requires in
-    (given_fits r.0 r.1 r.2 c.args.self.now c.class_for-class.result.0 c.args.number.0 c.args.txn.now c.in-Some.place
+    (given_fits r.0 r.1 r.2 c.args.self.now c.args.class.0 c.args.number.0 c.args.txn.now c.in-Some.place
     c.index_mut-run.result.now r.3 r.4 c.in-Some.ensures
     (subst (λ (st : State). c.index_mut-run.result.now ≡ slice_index_or st.classes c.in-Some.place
     c.index_mut-run.result.now) c.self.view_is c.index_mut-run.ensures.value)).1
@@ -36,43 +29,26 @@ pub overflow_add-result : goal.overflow_add-result
 overflow_add-result c =
     let r = c.requires in
     let few = few_kept r.0 r.2 c.args.self.now r.3 in
-    let there = given_there c.args.self.now c.class_for-class.result.0 c.in-Some.place c.in-Some.ensures in
+    let there = given_there c.args.self.now c.args.class.0 c.in-Some.place c.in-Some.ensures in
     omega arith
-
--- the class that is found is the one in force
-in_force_for : (st now : State) (txn : Txn) (k : ℕ) → k ≡ class_for st.force.catalogue txn → st ≡ now
-    → k ≡ class_for now.force.catalogue txn
-in_force_for st now txn k e is = e ∙ ap (λ (x : State). class_for x.force.catalogue txn) is
 
 pub returns-in-None-clause-state : goal.returns-in-None-clause-state
 returns-in-None-clause-state c =
-    let now = c.args.self.now in
-    let k = in_force_for _ now c.args.txn.now c.class_for-class.result.0 c.class_for-class.ensures c.self.view_is in
-    given_nowhere now c.class_for-class.result.0 c.args.number.0 c.args.txn.now c.in-None.ensures
-    ∙ ap (λ k. state_given k c.args.number.0 c.args.txn.now now) k
+    given_nowhere c.args.self.now c.args.class.0 c.args.number.0 c.args.txn.now c.in-None.ensures
 
 pub returns-in-None-clause-places : goal.returns-in-None-clause-places
-returns-in-None-clause-places c =
-    let now = c.args.self.now in
-    let k = in_force_for _ now c.args.txn.now c.class_for-class.result.0 c.class_for-class.ensures c.self.view_is in
-    ap one_place (c.in-None.ensures ∙ ap (λ k. place_of now.classes k) k)
+returns-in-None-clause-places c = ap one_place c.in-None.ensures
 
 pub returns-in_ok-submit-in-Some-clause-state : goal.returns-in_ok-submit-in-Some-clause-state
 returns-in_ok-submit-in-Some-clause-state c =
     let r = c.requires in
     let now = c.args.self.now in
     let run = c.index_mut-run.result.now in
-    let number = c.args.number.0 in
-    let k = in_force_for _ now c.args.txn.now c.class_for-class.result.0 c.class_for-class.ensures c.self.view_is in
     let lent = subst (λ (st : State). run ≡ slice_index_or st.classes c.in-Some.place run) c.self.view_is
     c.index_mut-run.ensures.value in
     ap (λ (st : State). record st { classes = slice_set st.classes c.in-Some.place c.submit.new.self }) c.self.view_is
-    ∙ given_somewhere now c.class_for-class.result.0 number c.args.txn.now c.in-Some.place run c.submit.new.self
+    ∙ given_somewhere now c.args.class.0 c.args.number.0 c.args.txn.now c.in-Some.place run c.submit.new.self
     c.in-Some.ensures (apart_kept r.0 r.2 now r.3) lent c.in_ok-submit-in-Some.ensures
-    ∙ ap (λ k. state_given k number c.args.txn.now now) k
 
 pub returns-in_ok-submit-in-Some-clause-places : goal.returns-in_ok-submit-in-Some-clause-places
-returns-in_ok-submit-in-Some-clause-places c =
-    let now = c.args.self.now in
-    let k = in_force_for _ now c.args.txn.now c.class_for-class.result.0 c.class_for-class.ensures c.self.view_is in
-    ap one_place (c.in-Some.ensures ∙ ap (λ k. place_of now.classes k) k)
+returns-in_ok-submit-in-Some-clause-places c = ap one_place c.in-Some.ensures

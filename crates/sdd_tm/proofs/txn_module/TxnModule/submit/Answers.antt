@@ -1,55 +1,19 @@
--- A transaction is taken, and then each act is made that is due.
-use Rattle.std.proofs.Common.{◌≡◌, ◌∙◌, ◌++◌, ◌∷◌, [], ap, subst, refl, arith, true}
-use Rattle.sdd_attempt.specs.All.{Kept, Notes, Submits, class_for}
-use Rattle.sdd_attempt.specs.history.declared.record.Rec.TheVariants.{Submit}
+-- The class is found by the list in force, and fits.
+use Rattle.std.proofs.Common.{◌∙◌, ap, sym, subst}
+use Rattle.sdd_attempt.specs.All.{Fits, Kept, class_for}
 use Rattle.sdd_tm.specs.State.{State}
-use Rattle.sdd_tm.specs.Handing.{place_of, one_place}
-use Rattle.sdd_tm.specs.Works.{Works}
-use Rattle.sdd_tm.proofs.Calls.{given_to, few_given, calm_after, amid_after, submit_does}
+use Rattle.sdd_tm.proofs.Calls.{class_in_force, fits_here}
 use Rattle.sdd_tm.proofs.txn_module.TxnModule.submit.Goals as goal
 
-taken_is : (c : goal.After-draft-2-1) → c.submit.new.self ≡ given_to c.args.self.now c.args.number.0 c.args.txn.now
-taken_is c = c.in_ok-places.ensures.state ∙ ap (λ (k : Kept State). given_to k c.args.number.0 c.args.txn.now) c.self.view_is
-
-pub settle-requires-clause-few : goal.settle-requires-clause-few
-settle-requires-clause-few c =
+pub class_for-class-requires : goal.class_for-class-requires
+class_for-class-requires c =
     let r = c.requires.stands in
-    few_given c.args.self.now r.0 r.2 c.args.number.0 c.args.txn.now c.submit.new.self r.3 (taken_is c)
+    subst (λ (k : Kept State). Fits k.value.force.catalogue c.args.txn.now) (sym c.self.view_is)
+    (fits_here c.args.self.now r.0 r.1 r.2 c.args.number.0 c.args.txn.now r.3 r.4)
 
-pub settle-requires-clause-calm : goal.settle-requires-clause-calm
-settle-requires-clause-calm c =
+pub submit_in_class-requires-clause-stands : goal.submit_in_class-requires-clause-stands
+submit_in_class-requires-clause-stands c =
     let r = c.requires.stands in
-    calm_after c.args.self.now r.0 r.2 c.args.number.0 c.args.txn.now c.submit.new.self c.in_ok-places.places r.3 (taken_is c)
-    (c.in_ok-places.ensures.places
-    ∙ ap (λ (k : Kept State). one_place
-    (place_of k.value.classes (class_for k.value.force.catalogue c.args.txn.now))) c.self.view_is)
-
-pub settle-requires-clause-amid : goal.settle-requires-clause-amid
-settle-requires-clause-amid c =
-    let r = c.requires.stands in (
-      r.0,
-      r.1,
-      Submits c.args.number.0 c.args.txn.now ∷ r.2,
-      amid_after c.args.self.now r.0 r.1 r.2 c.args.number.0
-          c.args.txn.now c.submit.new.self (omega arith) r.3 r.4 (taken_is c),
-    )
-
-pub returns-clause-law : goal.returns-clause-law
-returns-clause-law c =
-    let number = c.args.number in
     let txn = c.args.txn.now in
-    let old = c.args.self.now in
-    let taken = c.in_ok-places.ensures.state ∙ ap (λ (k : Kept State). given_to k number.0 txn) c.self.view_is in
-    let begun = c.in_ok-record.ensures ∙ ap (λ (n : Notes). record n { recs = n.recs ++ Submit number ∷ [] })
-    c.draft-draft.ensures in
-    let works = subst (λ notes. Works c.submit.new.self c.settle.new.self notes c.settle.new.draft) begun
-    c.in_ok-settle.ensures.works in
-    submit_does number txn old (record { live = true; value = c.tell_held.new.self }) c.submit.new.self
-    c.settle.new.draft c.tell_held.new.draft c.finish.result.recs c.finish.result.out (omega arith) refl taken
-    (record {
-      settled_state = c.settle.new.self;
-      works = works;
-      settled = c.in_ok-settle.ensures.settled;
-      told_is = c.in_ok-tell_held.ensures.state;
-      noted_is = c.in_ok-tell_held.ensures.draft;
-    }) c.finish.ensures.recs c.finish.ensures.out
+    let here = c.class_for-class.ensures ∙ ap (λ (k : Kept State). class_for k.value.force.catalogue txn) c.self.view_is in
+    (r.0, r.1, r.2, r.3, r.4, class_in_force c.args.self.now r.0 r.2 txn c.class_for-class.result.0 r.3 here)

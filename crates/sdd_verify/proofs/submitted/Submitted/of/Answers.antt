@@ -1,4 +1,4 @@
-use Rattle.std.proofs.Common.{◌∙◌, ap, map}
+use Rattle.sdd_verify.proofs.All.{ap, map, ◌∙◌}
 use Rattle.sdd_verify.proofs.Submissions.{few_lent}
 use Rattle.sdd_verify.proofs.submitted.Submitted.of.Goals as goal
 

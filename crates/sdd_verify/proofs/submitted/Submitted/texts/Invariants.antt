@@ -1,5 +1,4 @@
-use Rattle.std.proofs.Common.{◌≡◌, take, map}
-use Rattle.sdd_verify.specs.Submitted.{texts_of}
+use Rattle.sdd_verify.proofs.All.{map, take, texts_of, ◌≡◌}
 use Rattle.sdd_verify.proofs.submitted.Submitted.texts.Given as goal
 
 -- the transactions of the numbers so far

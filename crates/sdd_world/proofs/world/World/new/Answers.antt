@@ -11,6 +11,7 @@ returns c = λ g good sound begun.
     let dms_are = ap (λ (k : Catalogue). k.dms) begun.catalogue_is in
     begins
     (record {
+      whole = c.args.whole;
       catalogue = c.args.catalogue;
       txns = c.args.txns;
       given = c.new-4.result;
@@ -20,7 +21,7 @@ returns c = λ g good sound begun.
       net = c.in_ok-net.net;
       spool = c.in_ok-spool.spool;
     })
-    c.tms-2.result c.dms-2.result c.new-5.ensures refl c.new-4.ensures.items c.in_ok-spool.ensures g good sound
+    c.tms-2.result c.dms-2.result c.new-5.ensures refl c.new-4.ensures.items c.in_ok-spool.ensures g good sound (sym begun.catalogue_is)
     (ap (λ (f : Force). f.catalogue) (sym begun.force_is))
     (tms_are ∙ sym c.tms-2.ensures) (dms_are ∙ sym c.dms-2.ensures) begun.txns_are begun.no_events
     (all_begun c.args.whole.now c.args.catalogue.now c.args.table.now c.args.txns c.in_ok-u.u c.in_ok-tms.tms.items c.args.modules.items c.in_ok-u.ensures

@@ -3,8 +3,8 @@ use Rattle.sdd_world.proofs.Failing.{map_ok}
 use Rattle.sdd_world.proofs.Submitting.{events_order, home_is, may_send, submit_asks, submit_done, submit_ends, taken, txn_fits, txn_read}
 use Rattle.sdd_world.proofs.world.World.submit.Goals as goal
 
-pub home-at-requires : goal.home-at-requires
-home-at-requires c =
+pub class_for-class-requires : goal.class_for-class-requires
+class_for-class-requires c =
     let r = c.requires in
     txn_fits c.args.self.now r.0 r.1
     c.args.number r.2 c.index-as_slice-number.result
@@ -19,9 +19,11 @@ submit-requires c =
     r.0 r.1 c.args.number r.2 c.index-as_slice-number.result (c.index-as_slice-number.is
     ∙ ap (λ xs. get_or xs (c.args.number.0 - 1) c.index-as_slice-number.result) c.as_slice.ensures)) in
     let here = home_is c.args.self.now
-    r.0 r.1 c.args.number r.2 c.index-as_slice-number.result is c.home-at.result c.home-at.ensures in
+    r.0 r.1 c.args.number r.2 c.index-as_slice-number.result is c.home_in-at.result
+    (c.home_in-at.ensures c.args.self.now.catalogue.now c.class_for-class.ensures) in
     submit_asks c.args.self.now r.0 r.1
-    c.args.number r.2 c.index-as_slice-number.result is c.home-at.result here
+    c.args.number r.2 c.index-as_slice-number.result is c.home_in-at.result
+    c.class_for-class.result.0 here c.class_for-class.ensures
 
 pub follow-requires-clause-sends : goal.follow-requires-clause-sends
 follow-requires-clause-sends c =
@@ -30,12 +32,13 @@ follow-requires-clause-sends c =
     r.0 r.1 c.args.number r.2 c.index-as_slice-number.result (c.index-as_slice-number.is
     ∙ ap (λ xs. get_or xs (c.args.number.0 - 1) c.index-as_slice-number.result) c.as_slice.ensures)) in
     let here = home_is c.args.self.now
-    r.0 r.1 c.args.number r.2 c.index-as_slice-number.result is c.home-at.result c.home-at.ensures in
+    r.0 r.1 c.args.number r.2 c.index-as_slice-number.result is c.home_in-at.result
+    (c.home_in-at.ensures c.args.self.now.catalogue.now c.class_for-class.ensures) in
     may_send c.args.self.now r.0 r.1
-    c.args.number r.2 c.index-as_slice-number.result is c.submit.new.self c.home-at.result
+    c.args.number r.2 c.index-as_slice-number.result is c.submit.new.self c.home_in-at.result
     c.in_ok-outcome.outcome here
     (taken c.args.self.now r.0 r.1
-    c.args.number r.2 c.index-as_slice-number.result is c.submit.new.self c.home-at.result
+    c.args.number r.2 c.index-as_slice-number.result is c.submit.new.self c.home_in-at.result
     c.in_ok-outcome.outcome here c.in_ok-outcome.ensures.law)
 
 pub follow-requires-clause-order : goal.follow-requires-clause-order
@@ -49,12 +52,13 @@ returns-clause-ok c = map_ok c.follow.result _ _ c.follow.ensures.ok (λ x f giv
     given log c.args.number m c.index-as_slice-number.result (c.index-as_slice-number.is
     ∙ ap (λ xs. get_or xs (c.args.number.0 - 1) c.index-as_slice-number.result) c.as_slice.ensures)) in
     let here = home_is c.args.self.now
-    given log c.args.number m c.index-as_slice-number.result is c.home-at.result c.home-at.ensures in
+    given log c.args.number m c.index-as_slice-number.result is c.home_in-at.result
+    (c.home_in-at.ensures c.args.self.now.catalogue.now c.class_for-class.ensures) in
     submit_done c.args.self.now given log
-    c.args.number m c.index-as_slice-number.result is c.submit.new.self c.follow.new.self c.home-at.result
+    c.args.number m c.index-as_slice-number.result is c.submit.new.self c.follow.new.self c.home_in-at.result
     c.in_ok-outcome.outcome here
     (taken c.args.self.now given log
-    c.args.number m c.index-as_slice-number.result is c.submit.new.self c.home-at.result
+    c.args.number m c.index-as_slice-number.result is c.submit.new.self c.home_in-at.result
     c.in_ok-outcome.outcome here c.in_ok-outcome.ensures.law)
     c.in_ok-outcome.ensures.others f)
 
@@ -64,11 +68,12 @@ returns-clause-limit c = λ e given log m.
     given log c.args.number m c.index-as_slice-number.result (c.index-as_slice-number.is
     ∙ ap (λ xs. get_or xs (c.args.number.0 - 1) c.index-as_slice-number.result) c.as_slice.ensures)) in
     let here = home_is c.args.self.now
-    given log c.args.number m c.index-as_slice-number.result is c.home-at.result c.home-at.ensures in
+    given log c.args.number m c.index-as_slice-number.result is c.home_in-at.result
+    (c.home_in-at.ensures c.args.self.now.catalogue.now c.class_for-class.ensures) in
     submit_ends c.args.self.now given log
-    c.args.number m c.index-as_slice-number.result is c.submit.new.self c.home-at.result
+    c.args.number m c.index-as_slice-number.result is c.submit.new.self c.home_in-at.result
     c.in_ok-outcome.outcome here
     (taken c.args.self.now given log
-    c.args.number m c.index-as_slice-number.result is c.submit.new.self c.home-at.result
+    c.args.number m c.index-as_slice-number.result is c.submit.new.self c.home_in-at.result
     c.in_ok-outcome.outcome here c.in_ok-outcome.ensures.law)
     (c.follow.ensures.limit e)

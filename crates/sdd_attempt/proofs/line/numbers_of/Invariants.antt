@@ -1,0 +1,10 @@
+use Rattle.std.proofs.Common.{◌≡◌, map}
+use Rattle.sdd_attempt.specs.Queues.{txn_of}
+use Rattle.sdd_attempt.proofs.line.numbers_of.Given as goal
+
+abbrev pub invariant-queue : goal.invariant-queue
+invariant-queue l = record {
+  can : goal.iterator-queue.can_next l.queued-iterator;
+  ends : goal.iterator-queue.is_finite l.queued-iterator;
+  numbers : l.numbers.items ≡ map txn_of (map (λ q. q.now) l.yielded);
+}

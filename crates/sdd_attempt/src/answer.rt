@@ -1,0 +1,10 @@
+/// What an attempt that is under way awaits from data modules.
+#[derive(Clone, Copy, Debug, PartialEq, Eq)]
+pub enum Answer {
+    /// How many rows there are for its READ.
+    Ready,
+    Values,
+    /// How many rows are left after a REDUCE.
+    Reduced,
+    Rows,
+}

@@ -1,7 +1,0 @@
-use Rattle.std.proofs.Common.{◌≡◌, ◌++◌, drop, flat_map}
-use Rattle.sdd_report.specs.Committed.{reply_of}
-use Rattle.sdd_report.proofs.committed.put_replies.Given as goal
-
--- what was written and what is left to write is all of it
-abbrev pub invariant-order : goal.invariant-order
-invariant-order l = l.text.items ++ flat_map (reply_of l.txns l.commits) (drop l.txn-index l.order) ≡ l.fn.text.items ++ flat_map (reply_of l.txns l.commits) l.order

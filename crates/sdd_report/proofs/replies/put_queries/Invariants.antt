@@ -1,7 +1,0 @@
-use Rattle.std.proofs.Common.{◌≡◌, ◌++◌, ◌+◌, drop}
-use Rattle.sdd_report.specs.Replies.{queries_from}
-use Rattle.sdd_report.proofs.replies.put_queries.Given as goal
-
--- what is written and what is left are all of it
-abbrev pub invariant-queries : goal.invariant-queries
-invariant-queries l = l.text.items ++ queries_from (l.i + 1) (drop l.i l.answers) ≡ l.fn.text.items ++ queries_from 1 l.answers

@@ -1,7 +1,0 @@
-use Rattle.std.proofs.Common.{◌≡◌, ◌++◌, take, flat_map}
-use Rattle.sdd_report.specs.Replies.{row_line}
-use Rattle.sdd_report.proofs.replies.put_rows.Given as goal
-
--- so far the text holds what stands for the items so far
-abbrev pub invariant-rows : goal.invariant-rows
-invariant-rows l = l.text.items ≡ l.fn.text.items ++ flat_map row_line (take l.row-index l.rows)

@@ -1,9 +1,0 @@
-use Rattle.std.proofs.Common.{◌≡◌, ◌++◌, ◌-◌, map, filter}
-use Rattle.sdd_obligations.specs.All.{StandFor, has_copy, numbers_to}
-use Rattle.sdd_obligations.specs.copy.Contents.{Dated}
-use Rattle.sdd_run.specs.Copies.{table_of}
-use Rattle.sdd_run.proofs.copies.add_copies.Given as goal
-
-abbrev pub invariant-loop-number : goal.invariant-loop-number
-invariant-loop-number l = (xs : Dated) → StandFor l.copies.value xs
-    → l.tables.items ≡ l.fn.tables.items ++ map (table_of l.dm.0 xs) (filter (has_copy l.catalogue l.dm.0) (numbers_to (l.number - 1)))

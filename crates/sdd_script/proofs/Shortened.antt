@@ -1,0 +1,199 @@
+-- A statement of which no more is kept than tells that it is too long breaks the same limits.
+use Rattle.sdd_script.proofs.All.{Assign, BadLine, Bool, Condition, Delete, Err, Fails, IfSome, LineError, List, MAX_ASSIGNMENTS, MAX_CONDITIONS, MAX_OUTPUT_COLUMNS, MAX_STATEMENTS, MAX_USES, None, Ok, Option, Put, Query, Ref, RelNo, Result, Some, State, Stmt, TooMany, Update, WorkRule, [], ap, arith, cases_Bool, false, few, inl, inr, known, leb-false, leb-true, length, length-take, lt-leb, must, nat_le, nat_lt, ok_is, refl, rule_in, short, shortened, statement_rules, sym, take, take_all, takes_statements, true, with_statement, ℕ, ◌++◌, ◌+◌, ◌<◌, ◌>>=◌, ◌∙◌, ◌∷◌, ◌≡◌, ◌≤◌}
+use Rattle.sdd_script.specs.declared.fault.Counts.TheVariants as counts
+
+-- ---- what was read in part is read of the short statement
+
+given : {A : Type 0} (most : ℕ) (read : Result (List A) WorkRule) (kept : List A) → few most read ≡ Ok kept
+    → (xs : List A) × (read ≡ Ok xs) × (take (most + 1) xs ≡ kept)
+given most (Ok xs) kept e = (xs, refl, ok_is {F = WorkRule} (take (most + 1) xs) kept e)
+given most (Err rule) kept e = absurd cc
+
+pub fails_at : {A : Type 0} (err : LineError) (read : Result A WorkRule) (f : A → Result Stmt WorkRule) → Fails rule_in err read
+    → Fails rule_in err (short (read >>= f))
+fails_at err read f h =
+    elim (rule_in err) as (λ o. IfSome o (λ fault. read ≡ Err fault)
+    → IfSome o (λ fault. short (read >>= f) ≡ Err fault)) [ None ↦ λ h. tt | Some fault ↦ λ h. rw h refl ] h
+
+failed : {A : Type 0} (most : ℕ) (read : Result (List A) WorkRule) (rule : WorkRule) → few most read ≡ Err rule → read ≡ Err rule
+failed most (Ok xs) rule e = absurd cc
+failed most (Err own) rule e = let same : own ≡ rule = cc in ap (λ r. Err r) same
+
+exact : {A : Type 0} (most : ℕ) (err : LineError) (read : Result (List A) WorkRule) → Fails rule_in err (few most read) → Fails rule_in err read
+exact most err read h =
+    elim (rule_in err) as (λ o. IfSome o (λ fault. few most read ≡ Err fault)
+    → IfSome o (λ fault. read ≡ Err fault)) [ None ↦ λ h. tt | Some fault ↦ λ h. failed most read fault h ] h
+
+pub fails_short : {A : Type 0} (most : ℕ) (err : LineError) (read : Result (List A) WorkRule) (f : List A → Result Stmt WorkRule)
+    → Fails rule_in err (few most read) → Fails rule_in err (short (read >>= f))
+fails_short most err read f h = fails_at err read f (exact most err read h)
+
+pub fails_second : {A B : Type 0} (m n : ℕ) (err : LineError) (read : Result (List A) WorkRule) (kept : List A) (second : Result (List B) WorkRule)
+    (f : List A → List B → Result Stmt WorkRule) → few m read ≡ Ok kept → Fails rule_in err (few n second)
+    → Fails rule_in err (short (read >>= (λ x. second >>= f x)))
+fails_second m n err read kept second f e h =
+    let a = given m read kept e in
+    rw a.1 (fails_short n err second (f a.0) h)
+
+pub fails_third : {A B C : Type 0} (m n k : ℕ) (err : LineError) (read : Result (List A) WorkRule) (kept : List A) (second : Result (List B)
+    WorkRule) (more : List B)
+    (third : Result (List C) WorkRule) (f : List A → List B → List C → Result Stmt WorkRule) → few m read ≡ Ok kept → few n second ≡ Ok more
+    → Fails rule_in err (few k third) → Fails rule_in err (short (read >>= (λ x. second >>= (λ y. third >>= f x y))))
+fails_third m n k err read kept second more third f e g h =
+    let a = given m read kept e in
+    let b = given n second more g in
+    rw (a.1, b.1) (fails_short k err third (f a.0 b.0) h)
+
+abbrev made : Stmt → Result Stmt WorkRule
+made statement = Ok statement
+
+pub query_short : (read : Result (List Ref) WorkRule) (second : Result (List RelNo) WorkRule) (third : Result (List Condition) WorkRule)
+    (out : List Ref) (rels : List RelNo) (conds : List Condition)
+    → few MAX_OUTPUT_COLUMNS read ≡ Ok out → few MAX_USES second ≡ Ok rels → few MAX_CONDITIONS third ≡ Ok conds
+    → short (read >>= (λ out. second >>= (λ rels. third >>= (λ conds. Ok (Query out rels conds))))) ≡ Ok (Query out rels conds)
+query_short (Err rule) second third out rels conds e g h = absurd cc
+query_short (Ok a) (Err rule) third out rels conds e g h = absurd cc
+query_short (Ok a) (Ok b) (Err rule) out rels conds e g h = absurd cc
+query_short (Ok a) (Ok b) (Ok c) out rels conds e g h =
+    let p = ok_is {F = WorkRule} (take (MAX_OUTPUT_COLUMNS + 1) a) out e in
+    let q = ok_is {F = WorkRule} (take (MAX_USES + 1) b) rels g in
+    let r = ok_is {F = WorkRule} (take (MAX_CONDITIONS + 1) c) conds h in
+    ap (λ l. made (Query l (take (MAX_USES + 1) b) (take (MAX_CONDITIONS + 1) c))) p
+    ∙ ap (λ l. made (Query out l (take (MAX_CONDITIONS + 1) c))) q
+    ∙ ap (λ l. made (Query out rels l)) r
+
+pub update_short : (rel : RelNo) (read : Result (List Assign) WorkRule) (second : Result (List Condition) WorkRule) (sets : List Assign) (conds :
+    List Condition)
+    → few MAX_ASSIGNMENTS read ≡ Ok sets → few MAX_CONDITIONS second ≡ Ok conds
+    → short (read >>= (λ sets. second >>= (λ conds. Ok (Update rel sets conds)))) ≡ Ok (Update rel sets conds)
+update_short rel (Err rule) second sets conds e g = absurd cc
+update_short rel (Ok a) (Err rule) sets conds e g = absurd cc
+update_short rel (Ok a) (Ok b) sets conds e g =
+    let p = ok_is {F = WorkRule} (take (MAX_ASSIGNMENTS + 1) a) sets e in
+    let q = ok_is {F = WorkRule} (take (MAX_CONDITIONS + 1) b) conds g in
+    ap (λ l. made (Update rel l (take (MAX_CONDITIONS + 1) b))) p ∙ ap (λ l. made (Update rel sets l)) q
+
+pub delete_short : (rel : RelNo) (read : Result (List Condition) WorkRule) (conds : List Condition) → few MAX_CONDITIONS read ≡ Ok conds
+    → short (read >>= (λ conds. Ok (Delete rel conds))) ≡ Ok (Delete rel conds)
+delete_short rel (Err rule) conds e = absurd cc
+delete_short rel (Ok a) conds e =
+    ap (λ l. made (Delete rel l)) (ok_is {F = WorkRule} (take (MAX_CONDITIONS + 1) a) conds e)
+
+-- ---- the same limits are broken
+
+whole : {A : Type 0} (most : ℕ) (xs : List A) → nat_le (length xs) most ≡ true → take (most + 1) xs ≡ xs
+whole most xs within = let le : length xs ≤ most = leb-true (length xs) most within in take_all (most + 1) xs (omega arith)
+
+too_many : {A : Type 0} (most : ℕ) (xs : List A) → nat_le (length xs) most ≡ false → nat_le (length (take (most + 1) xs)) most ≡ false
+too_many most xs above =
+    let lt : most < length xs = leb-false (length xs) most above in
+    lt-leb (length (take (most + 1) xs)) most (omega (arith, length-take (most + 1) xs))
+
+same_test : {A : Type 0} (most : ℕ) (xs : List A) → nat_le (length (take (most + 1) xs)) most ≡ nat_le (length xs) most
+same_test most xs = elim (cases_Bool (nat_le (length xs) most)) [
+  | inl within ↦ ap (λ l. nat_le (length l) most) (whole most xs within)
+  | inr above ↦ too_many most xs above ∙ sym above
+]
+
+-- the tests of a statement's lists
+abbrev tested : Bool → Bool → Bool → Bool → Result (Unit {0}) WorkRule
+tested statements rels conds out = do
+  _ ← must (TooMany counts.Statement) statements
+  _ ← must (TooMany counts.Part) rels
+  _ ← must (TooMany counts.Cond) conds
+  must (TooMany counts.Column) out
+
+abbrev tested_update : Bool → Bool → Bool → Result (Unit {0}) WorkRule
+tested_update statements conds sets = do
+  _ ← must (TooMany counts.Statement) statements
+  _ ← must (TooMany counts.Cond) conds
+  must (TooMany counts.Column) sets
+
+abbrev tested_delete : Bool → Bool → Result (Unit {0}) WorkRule
+tested_delete statements conds = do
+  _ ← must (TooMany counts.Statement) statements
+  must (TooMany counts.Cond) conds
+
+abbrev passed : Result (Unit {0}) WorkRule
+passed = Ok tt
+
+all_passed : (a b c d : Bool) → tested a b c d ≡ passed → (b ≡ true) × (c ≡ true) × (d ≡ true)
+all_passed true true true true e = (refl, refl, refl)
+all_passed true true true false e = absurd cc
+all_passed true true false d e = absurd cc
+all_passed true false c d e = absurd cc
+all_passed false b c d e = absurd cc
+
+update_passed : (a b c : Bool) → tested_update a b c ≡ passed → (b ≡ true) × (c ≡ true)
+update_passed true true true e = (refl, refl)
+update_passed true true false e = absurd cc
+update_passed true false c e = absurd cc
+update_passed false b c e = absurd cc
+
+delete_passed : (a b : Bool) → tested_delete a b ≡ passed → b ≡ true
+delete_passed true true e = refl
+delete_passed true false e = absurd cc
+delete_passed false b e = absurd cc
+
+abbrev outcome : State → Option ℕ → Result (Unit {0}) WorkRule → Stmt → Result State WorkRule
+outcome st written limits statement = do
+  written ← known (TooMany counts.Row) written
+  _ ← limits
+  Ok (record st { statements = st.statements ++ statement ∷ []; written = written })
+
+by_limits : (st : State) (written : Option ℕ) (limits : Result (Unit {0}) WorkRule) (s t : Stmt) → (limits ≡ passed → s ≡ t)
+    → outcome st written limits s ≡ outcome st written limits t
+by_limits st None limits s t same = refl
+by_limits st (Some written) (Err rule) s t same = refl
+by_limits st (Some written) (Ok tt) s t same = ap (outcome st (Some written) passed) (same refl)
+
+same_statement : (st : State) (s : Stmt) → with_statement st (shortened s) ≡ with_statement st s
+same_statement st (Put rel row) = refl
+same_statement st (Query out rels conds) =
+    let room = nat_lt (length st.statements) MAX_STATEMENTS in
+    let p = nat_le (length rels) MAX_USES in
+    let q = nat_le (length conds) MAX_CONDITIONS in
+    let short_out = take (MAX_OUTPUT_COLUMNS + 1) out in
+    let short_rels = take (MAX_USES + 1) rels in
+    let short_conds = take (MAX_CONDITIONS + 1) conds in
+    let statement = Query short_out short_rels short_conds in
+    let made = outcome st (Some st.written) in
+    ap (λ b. made (tested room b (nat_le (length short_conds) MAX_CONDITIONS) (nat_le (length short_out) MAX_OUTPUT_COLUMNS)) statement) (same_test
+    MAX_USES rels)
+    ∙ ap (λ b. made (tested room p b (nat_le (length short_out) MAX_OUTPUT_COLUMNS)) statement) (same_test MAX_CONDITIONS conds)
+    ∙ ap (λ b. made (tested room p q b) statement) (same_test MAX_OUTPUT_COLUMNS out)
+    ∙ by_limits st (Some st.written) (tested room p q (nat_le (length out) MAX_OUTPUT_COLUMNS)) statement (Query out rels conds) (λ e.
+    let all = all_passed room p q (nat_le (length out) MAX_OUTPUT_COLUMNS) e in
+    ap (λ l. Query l short_rels short_conds) (whole MAX_OUTPUT_COLUMNS out all.2)
+    ∙ ap (λ l. Query out l short_conds) (whole MAX_USES rels all.0)
+    ∙ ap (λ l. Query out rels l) (whole MAX_CONDITIONS conds all.1))
+same_statement st (Update rel sets conds) =
+    let room = nat_lt (length st.statements) MAX_STATEMENTS in
+    let q = nat_le (length conds) MAX_CONDITIONS in
+    let short_sets = take (MAX_ASSIGNMENTS + 1) sets in
+    let short_conds = take (MAX_CONDITIONS + 1) conds in
+    let statement = Update rel short_sets short_conds in
+    let made = outcome st (Some st.written) in
+    ap (λ b. made (tested_update room b (nat_le (length short_sets) MAX_ASSIGNMENTS)) statement) (same_test MAX_CONDITIONS conds)
+    ∙ ap (λ b. made (tested_update room q b) statement) (same_test MAX_ASSIGNMENTS sets)
+    ∙ by_limits st (Some st.written) (tested_update room q (nat_le (length sets) MAX_ASSIGNMENTS)) statement (Update rel sets conds) (λ e.
+    let all = update_passed room q (nat_le (length sets) MAX_ASSIGNMENTS) e in
+    ap (λ l. Update rel l short_conds) (whole MAX_ASSIGNMENTS sets all.1)
+    ∙ ap (λ l. Update rel sets l) (whole MAX_CONDITIONS conds all.0))
+same_statement st (Delete rel conds) =
+    let room = nat_lt (length st.statements) MAX_STATEMENTS in
+    let short_conds = take (MAX_CONDITIONS + 1) conds in
+    let made = outcome st (Some st.written) in
+    ap (λ b. made (tested_delete room b) (Delete rel short_conds)) (same_test MAX_CONDITIONS conds)
+    ∙ by_limits st (Some st.written) (tested_delete room (nat_le (length conds) MAX_CONDITIONS)) (Delete rel short_conds) (Delete rel conds) (λ e.
+    ap (λ l. Delete rel l) (whole MAX_CONDITIONS conds (delete_passed room (nat_le (length conds) MAX_CONDITIONS) e)))
+
+same_by : (takes : Bool) (st : State) (read : Result Stmt WorkRule)
+    → (must BadLine takes >>= (λ _. short read >>= with_statement st)) ≡ (must BadLine takes >>= (λ _. read >>= with_statement st))
+same_by false st read = refl
+same_by true st (Err rule) = refl
+same_by true st (Ok statement) = same_statement st statement
+
+-- a statement that is shortened breaks the rules that it breaks whole
+pub same_rules : (st : State) (read : Result Stmt WorkRule) → statement_rules st (short read) ≡ statement_rules st read
+same_rules st read = same_by (takes_statements st.place) st read

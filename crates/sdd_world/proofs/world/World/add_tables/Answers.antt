@@ -1,0 +1,23 @@
+use Rattle.std.proofs.Common.{◌∙◌, ◌++◌, ap, sym}
+use Rattle.sdd_obligations.specs.All.{D, dated, has_copy, local_of, setting_of}
+use Rattle.sdd_world.specs.Copies.{tables_in}
+use Rattle.sdd_world.proofs.Results.{after_ok}
+use Rattle.sdd_world.proofs.world.World.add_tables.Goals as goal
+
+pub copies-copies-requires : goal.copies-copies-requires
+copies-copies-requires c = let r = c.requires in (r.0, r.1, r.2, r.3)
+
+pub add_copies-requires-clause-live : goal.add_copies-requires-clause-live
+add_copies-requires-clause-live c = let r = c.requires in c.copies-copies.ensures.live r.0 r.1 r.2 r.3
+
+pub add_copies-requires-clause-here : goal.add_copies-requires-clause-here
+add_copies-requires-clause-here c = λ f h.
+    let r = c.requires in
+    c.copies-copies.ensures.here r.0 r.1 r.2 r.3 f (ap (λ cat. has_copy cat c.args.dm.0 f) (sym r.3.calm.parts.whole_is) ∙ h)
+
+pub returns : goal.returns
+returns c =
+    after_ok c.add_copies.result _ _ c.add_copies.ensures (λ made given log here s.
+    made (dated (setting_of given (D c.args.dm)) (local_of given (D c.args.dm) log)) (c.copies-copies.ensures.stand given log here s)
+    ∙ ap (λ cat. c.args.tables.now.items ++ tables_in cat c.args.dm.0
+    (dated (setting_of given (D c.args.dm)) (local_of given (D c.args.dm) log))) s.calm.parts.whole_is)

@@ -1,0 +1,10 @@
+use Rattle.std.proofs.Common.{◌≡◌, ◌-◌}
+use Rattle.std.specs.Prelude.{filter_map}
+use Rattle.sdd_obligations.specs.All.{Given, Log, numbers_to}
+use Rattle.sdd_world.specs.Pending.{wait_at}
+use Rattle.sdd_world.specs.Standing.{StandsFor}
+use Rattle.sdd_world.proofs.world.World.all_waits.Given as goal
+
+abbrev pub invariant-loop-number : goal.invariant-loop-number
+invariant-loop-number l = (given : Given) (log : Log) → StandsFor l.self given log
+    → l.found.items ≡ filter_map (wait_at given log l.class.0 l.ts.0) (numbers_to (l.number - 1))

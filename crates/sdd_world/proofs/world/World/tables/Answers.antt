@@ -1,0 +1,24 @@
+use Rattle.std.proofs.Common.{◌≡◌, ◌∙◌, ◌-◌, ap, arith, sym}
+use Rattle.std.specs.List.{flat_map}
+use Rattle.sdd_obligations.specs.All.{Catalogue, dm_no, numbers_to}
+use Rattle.sdd_world.specs.Copies.{tables_at}
+use Rattle.sdd_world.proofs.HomesExist.{dm_of}
+use Rattle.sdd_world.proofs.Lists.{each_to}
+use Rattle.sdd_world.proofs.world.World.tables.Goals as goal
+
+pub add_tables-requires : goal.add_tables-requires
+add_tables-requires c =
+    let r = c.requires in
+    (r.0, r.1, dm_of r.0 c.args.self.now.whole.now (dm_no c.loop-number.number) (sym r.2.calm.parts.whole_is) c.loop-number.auto.number (omega arith), r.2)
+
+pub loop-number-preserved : goal.loop-number-preserved
+loop-number-preserved c = λ given log s.
+    each_to (tables_at given log) c.loop-number.number c.loop-number.tables.items c.add_tables.new.tables.items
+    c.loop-number.auto.number (c.in_ok-add_tables.ensures given log (dm_of given c.args.self.now.whole.now
+    (dm_no c.loop-number.number) (sym s.calm.parts.whole_is) c.loop-number.auto.number (omega arith)) s)
+    (c.loop-number.invariant given log s)
+
+pub returns : goal.returns
+returns c = λ given log s.
+    let all : c.loop-number.number - 1 ≡ c.args.self.now.whole.now.dms = omega arith in
+    c.loop-number.invariant given log s ∙ ap (λ n. flat_map (tables_at given log) (numbers_to n)) (all ∙ ap (λ (k : Catalogue). k.dms) s.calm.parts.whole_is)

@@ -1,0 +1,93 @@
+//! What is pending when a run ends.
+ghost use Rattle.std.specs.Prelude.{◌≡◌, ◌++◌, ◌∷◌, [], filter_map, IfOk, OnOk};
+ghost use Rattle.sdd_obligations.specs.All.{Given, History, Log};
+ghost use Rattle.sdd_world.specs.Pending.{AreCommitted, last_home, pending_as, pending_at, pending_by, reason_of};
+ghost use Rattle.sdd_world.specs.Standing.{StandsFor};
+ghost use Rattle.sdd_world.specs.Standings.{standing_of};
+
+use crate::commits::committed;
+use crate::world::World;
+use sdd_obligations::sdd_base::{NoMemory, TxnNo};
+use sdd_obligations::sdd_history::Rec;
+use sdd_report::Pending;
+use std::alloc::Global;
+use std::collections::BTreeSet;
+
+impl World<'_> {
+    /// The transaction, where its site has it, and why it is pending.
+    fn pending_one(&self, alloc: Global, number: TxnNo) -> Result<Option<Pending>, NoMemory>
+        requires { (g : Given) × (log : Log) × StandsFor self.now g log }
+        ensures { IfOk result (λ one. (g : Given) (log : Log) → StandsFor self.now g log
+            → one ≡ pending_as number (reason_of standing_of (last_home g log) g log number.0)) }
+    {
+        match self.why(alloc, number)? {
+            Some(why) => Ok(Some(Pending { txn: number, why })),
+            None => Ok(None),
+        }
+    }
+
+    /// The transaction that a record submits, where it is pending.
+    fn pending_in(
+        &self,
+        alloc: Global,
+        entry: &(u32, Rec),
+        committed: &BTreeSet<u32>,
+    ) -> Result<Option<Pending>, NoMemory>
+        requires { (g : Given) × (log : Log) × StandsFor self.now g log }
+        ensures { IfOk result (λ one. (g : Given) (log : Log) (all : History)
+            → StandsFor self.now g log → AreCommitted committed.now all
+            → one ≡ pending_by standing_of (last_home g log) g log all entry.now) }
+    {
+        let Rec::Submit(number) = &entry.1 else {
+            return Ok(None);
+        };
+        if committed.contains(&number.0) {
+            return Ok(None);
+        }
+        self.pending_one(alloc, *number)
+    }
+
+    /// Adds the transaction that a record submits, where it is pending.
+    fn add_pending(
+        &self,
+        alloc: Global,
+        entry: &(u32, Rec),
+        committed: &BTreeSet<u32>,
+        found: &mut Vec<Pending>,
+    ) -> Result<(), NoMemory>
+        requires { (g : Given) × (log : Log) × StandsFor self.now g log }
+        ensures { OnOk result ((g : Given) (log : Log) (all : History)
+            → StandsFor self.now g log → AreCommitted committed.now all
+            → found.new.items ≡ found.old.items
+            ++ filter_map (pending_by standing_of (last_home g log) g log all) (entry.now ∷ [])) }
+    {
+        let Some(one) = self.pending_in(alloc, entry, committed)? else {
+            return Ok(());
+        };
+        found.push(one)?;
+        Ok(())
+    }
+
+    /// The transactions that were submitted and aren't committed, in order of submission, each with
+    /// what it waits for. Each is looked for at the site of its class by the list in force.
+    ///
+    /// O(r log t) for r records of t transactions, and of each that is pending a look at its queue
+    /// and at each data module.
+    ///
+    /// # Errors
+    ///
+    /// Only where memory runs out.
+    pub fn pending(&self, alloc: Global) -> Result<Vec<Pending>, NoMemory>
+        requires { (g : Given) × (log : Log) × StandsFor self.now g log }
+        ensures { IfOk result (λ found. (g : Given) (log : Log) → StandsFor self.now g log
+            → found.items ≡ pending_at standing_of (last_home g log) g log) }
+    {
+        let history = self.history().as_slice();
+        let committed = committed(alloc, history)?;
+        let mut found = Vec::new(alloc);
+        for entry in history {
+            self.add_pending(alloc, entry, &committed, &mut found)?;
+        }
+        Ok(found)
+    }
+}
