@@ -14,7 +14,7 @@ use Rattle.sdd_obligations.specs.laws.Replay.{texts_of}
 use Rattle.sdd_obligations.proofs.net.Lists.{All-at}
 use Rattle.sdd_obligations.specs.serial_orders.SerialOrder.{serial_order}
 use Rattle.sdd_run.specs.report.declared.copies.CopyTable.{CopyTable}
-use Rattle.sdd_world.specs.Copies.{tables_of}
+use Rattle.sdd_run.specs.world.Copies.{tables_of}
 use Rattle.sdd_run.specs.Runs.{IsReportOn, given_of}
 use Rattle.sdd_run.proofs.Left.{told_rows}
 use Rattle.sdd_run.proofs.RunOf.{eras_are, fine, lists, permitted}

@@ -1,9 +1,17 @@
-use Rattle.std.proofs.Common.{◌∙◌, ap}
+use Rattle.std.proofs.Common.{◌∙◌, ap, subst, sym}
+use Rattle.sdd_obligations.specs.All.{IsOrderable}
 use Rattle.sdd_report.specs.Report.{report_text as text_of}
 use Rattle.sdd_world.specs.Standings.{standing_of}
 use Rattle.sdd_world.proofs.Results.{of_ok}
 use Rattle.sdd_run.proofs.SameReport.{report_is}
 use Rattle.sdd_run.proofs.telling.report_on.Goals as goal
+
+pub serial_order-requires : goal.serial_order-requires
+serial_order-requires c =
+    let given = c.requires.0 in
+    let s = c.requires.1.1.1 in
+    subst (λ cat. IsOrderable cat c.as_slice-history.result.now) (sym (c.whole.ensures given c.requires.1.0 s))
+    (subst (IsOrderable given.catalogue) (sym (c.as_slice-history.ensures ∙ c.history.ensures given c.requires.1.0 s)) c.requires.1.1.0)
 
 pub returns : goal.returns
 returns c =
