@@ -1,14 +1,5 @@
 -- What an attempt asks, and what has answered it, after each entry of the log; and a READY comes only while it is awaited.
-use Rattle.std.proofs.Common.{ℕ, ◌+◌, length, ◌<◌, ◌≡◌, ◌==◌, inl, inr, Bool, true, false, ◌&&◌, cond, List, [], ◌∷◌, ◌++◌, map, refl, sym, ◌∙◌, subst, Option, Some, None}
-use Rattle.std.specs.Bool.{if◌then◌else◌}
-use Rattle.std.specs.List.{AllByRecursion, list_any, filter_map}
-use Rattle.std.proofs.lemmas.Bool.{and_parts, and_from, or_cases, or_left, or_right, eqb-true, eq-eqb, cases_eq, false≢true, cond-true}
-use Rattle.sdd_module.specs.All.{Bases, D, DmNo, Log, Msg, Read, Ready, Reduced, Rows, Setting, Site, T, U, Values, contains, dm_no, same_site, with_values}
-use Rattle.sdd_attempt.specs.Queues.{Queued}
-use Rattle.sdd_attempt.specs.Exchange.{Phase, Exchange, counted, without, lacking, answered, after_hand, after_send, begins, first_phase, module_read}
-use Rattle.sdd_attempt.specs.Attempts.{Attempt, started, rejects, active_handed, asks_rows, active_sent, active}
-use Rattle.sdd_attempt.specs.Fits.{sent, handed, at_site, is_read, is_verdict, AnswersRead, Awaits, AwaitsAt, FitsRows, fetches_use, reduces_use, is_shipping}
-use Rattle.sdd_attempt.specs.Sound.{modules_in, is_reading, awaits_ready, IsModuleOf, ReadsWent, IsAsking, IsAskingAt, AllUpTo, FitsAnswer}
+use Rattle.sdd_attempt.proofs.All.{AllByRecursion, AllUpTo, AnswersRead, Attempt, Awaits, AwaitsAt, Bases, Bool, D, DmNo, Exchange, FitsAnswer, FitsRows, IsAsking, IsAskingAt, IsModuleOf, List, Log, Msg, None, Option, Phase, Queued, Read, ReadsWent, Ready, Reduced, Rows, Setting, Site, Some, T, U, Values, [], active, active_handed, active_sent, after_hand, after_send, and_from, and_parts, answered, asks_rows, at_site, awaits_ready, begins, cases_eq, cond, cond-true, contains, counted, dm_no, eq-eqb, eqb-true, false, false≢true, fetches_use, filter_map, first_phase, handed, if◌then◌else◌, inl, inr, is_read, is_reading, is_shipping, is_verdict, lacking, length, list_any, map, module_read, modules_in, or_cases, or_left, or_right, reduces_use, refl, rejects, same_site, sent, started, subst, sym, true, with_values, without, ℕ, ◌&&◌, ◌++◌, ◌+◌, ◌<◌, ◌==◌, ◌∙◌, ◌∷◌, ◌≡◌}
 use Rattle.sdd_attempt.proofs.Phases.{with_counts, with_union, with_rows, modules_stay, AllAsk, asks_stay, others_awaited, fetching_not_reading, reducing_not_reading, shipping_not_reading}
 use Rattle.sdd_attempt.proofs.Stamps.{no_read}
 
@@ -20,7 +11,8 @@ module_went modules U d same h = absurd h
 module_went modules (T t) d same h = absurd h
 
 -- to a module to which a READ went
-went : (ts c : ℕ) (modules : List ℕ) (d : DmNo) (ms : List (Site × Msg)) → ReadsWent ts c modules ms → list_any (at_site (D d) (is_read ts c)) ms ≡ true → contains modules d.0 ≡ true
+went : (ts c : ℕ) (modules : List ℕ) (d : DmNo) (ms : List (Site × Msg)) → ReadsWent ts c modules ms → list_any (at_site (D d) (is_read ts c)) ms ≡ true
+    → contains modules d.0 ≡ true
 went ts c modules d [] h e = absurd (false≢true e)
 went ts c modules d (m ∷ ms) h e =
     elim (or_cases (at_site (D d) (is_read ts c) m) (list_any (at_site (D d) (is_read ts c)) ms) e) [
@@ -28,7 +20,8 @@ went ts c modules d (m ∷ ms) h e =
       | inr there ↦ went ts c modules d ms h.1 there
     ]
 
-pub ready_awaited : (log : Log) (c : ℕ) (a : Attempt) (d : DmNo) → IsAsking c (sent log) (handed log) a → AnswersRead log (D d) a.ts c → awaits_ready a.exchange d.0 ≡ true
+pub ready_awaited : (log : Log) (c : ℕ) (a : Attempt) (d : DmNo) → IsAsking c (sent log) (handed log) a → AnswersRead log (D d) a.ts c
+    → awaits_ready a.exchange d.0 ≡ true
 ready_awaited log c a d h f =
     let there : contains (modules_in a.exchange) d.0 ≡ true = went a.ts c (modules_in a.exchange) d (sent log) h.reads f.asked in
     elim (awaits_ready a.exchange d.0) as (λ b. awaits_ready a.exchange d.0 ≡ b → b ≡ true) [
@@ -43,10 +36,12 @@ abbrev AllAnswered : ℕ → ℕ → List (Site × Msg) → Exchange → Type 0
 AllAnswered ts c handed x = (e : ℕ) → contains (modules_in x) e ≡ true → awaits_ready x e ≡ false → list_any (at_site (D (dm_no e)) (is_verdict ts c)) handed ≡ true
 
 by_now : (ts c : ℕ) (h : Site × Msg) (handed : List (Site × Msg)) (x : Exchange) → AllAnswered ts c handed x → AllAnswered ts c (h ∷ handed) x
-by_now ts c h handed x all e there w = or_right (at_site (D (dm_no e)) (is_verdict ts c) h) (list_any (at_site (D (dm_no e)) (is_verdict ts c)) handed) (all e there w)
+by_now ts c h handed x all e there w =
+    or_right (at_site (D (dm_no e)) (is_verdict ts c) h) (list_any (at_site (D (dm_no e)) (is_verdict ts c)) handed) (all e there w)
 
 -- an answer in a later phase: no READY was awaited
-later_answered : (ts c d : ℕ) (h : Site × Msg) (handed : List (Site × Msg)) (b : Bool) (x y : Exchange) → (cond b (answered ts c d y) x).modules ≡ x.modules → (b ≡ true → is_reading x.phase ≡ false)
+later_answered : (ts c d : ℕ) (h : Site × Msg) (handed : List (Site × Msg)) (b : Bool) (x y : Exchange) → (cond b (answered ts c d y) x).modules ≡ x.modules
+    → (b ≡ true → is_reading x.phase ≡ false)
     → AllAnswered ts c handed x → AllAnswered ts c (h ∷ handed) (cond b (answered ts c d y) x)
 later_answered ts c d h handed true x y same phase all e there w =
     let before : contains (modules_in x) e ≡ true = subst (λ (ms : List (ℕ × List ℕ)). contains (map (λ m. m.0) ms) e ≡ true) same there in
@@ -55,13 +50,15 @@ later_answered ts c d h handed true x y same phase all e there w =
 later_answered ts c d h handed false x y same phase all e there w = by_now ts c h handed x all e there w
 
 -- a READY: the others are awaited as before
-ready_answered : (ts c d : ℕ) (h : Site × Msg) (handed : List (Site × Msg)) (b : Bool) (x y : Exchange) → (cond b (answered ts c d y) x).modules ≡ x.modules → y.phase ≡ x.phase → y.lacks ≡ x.lacks
+ready_answered : (ts c d : ℕ) (h : Site × Msg) (handed : List (Site × Msg)) (b : Bool) (x y : Exchange) → (cond b (answered ts c d y) x).modules ≡ x.modules
+    → y.phase ≡ x.phase → y.lacks ≡ x.lacks
     → (b ≡ true → at_site (D (dm_no d)) (is_verdict ts c) h ≡ true) → AllAnswered ts c handed x → AllAnswered ts c (h ∷ handed) (cond b (answered ts c d y) x)
 ready_answered ts c d h handed true x y same phase lacks verdict all e there w =
     let before : contains (modules_in x) e ≡ true = subst (λ (ms : List (ℕ × List ℕ)). contains (map (λ m. m.0) ms) e ≡ true) same there in
     let now : awaits_ready (lacking ts c y (without x.lacks d)) e ≡ false = subst (λ ls. awaits_ready (lacking ts c y (without ls d)) e ≡ false) lacks w in
     elim (cases_eq e d) [
-      | inl own ↦ or_left (at_site (D (dm_no e)) (is_verdict ts c) h) (list_any (at_site (D (dm_no e)) (is_verdict ts c)) handed) (subst (λ n. at_site (D (dm_no n)) (is_verdict ts c) h ≡ true) (sym own) (verdict refl))
+      | inl own ↦ or_left (at_site (D (dm_no e)) (is_verdict ts c) h) (list_any (at_site (D (dm_no e)) (is_verdict ts c)) handed)
+          (subst (λ n. at_site (D (dm_no n)) (is_verdict ts c) h ≡ true) (sym own) (verdict refl))
       | inr apart ↦
           elim (awaits_ready x e) as (λ r. awaits_ready x e ≡ r → list_any (at_site (D (dm_no e)) (is_verdict ts c)) (h ∷ handed) ≡ true) [
             | true ↦ λ q. absurd (false≢true (sym now ∙ others_awaited ts c d e x y phase apart q))
@@ -71,10 +68,12 @@ ready_answered ts c d h handed true x y same phase lacks verdict all e there w =
 ready_answered ts c d h handed false x y same phase lacks verdict all e there w = by_now ts c h handed x all e there w
 
 -- what fits class k fits the attempt of class c, where they are the same
-pub of_class : (s : Setting) (log : Log) (f : Phase → Bool) (from : Site) (ts k c : ℕ) (a : Attempt) → AwaitsAt f (active s k log) from ts → k ≡ c → active s c log ≡ Some a → Awaits f a from ts
+pub of_class : (s : Setting) (log : Log) (f : Phase → Bool) (from : Site) (ts k c : ℕ) (a : Attempt) → AwaitsAt f (active s k log) from ts → k ≡ c
+    → active s c log ≡ Some a → Awaits f a from ts
 of_class s log f from ts k c a h same is = subst (λ o. AwaitsAt f o from ts) is (subst (λ n. AwaitsAt f (active s n log) from ts) same h)
 
-pub of_rows : (s : Setting) (bases : Bases) (log : Log) (from : Site) (ts : ℕ) (o : Option Attempt) (rows : List (ℕ × _)) → FitsRows s bases o from ts rows → AwaitsAt is_shipping o from ts
+pub of_rows : (s : Setting) (bases : Bases) (log : Log) (from : Site) (ts : ℕ) (o : Option Attempt) (rows : List (ℕ × _)) → FitsRows s bases o from ts rows
+    → AwaitsAt is_shipping o from ts
 of_rows s bases log from ts None rows h = absurd h
 of_rows s bases log from ts (Some a) rows h = h.awaited
 
@@ -84,19 +83,25 @@ verdict_of d ts t c k h = and_from (d == d) ((t == ts) && (k == c)) (eq-eqb d d 
 answers_now : (s : Setting) (bases : Bases) (log : Log) (c : ℕ) (d : DmNo) (m : Msg) (a : Attempt) → active s c log ≡ Some a → FitsAnswer s bases log (D d) m
     → AllAnswered a.ts c (handed log) a.exchange → AllAnswered a.ts c ((D d, m) ∷ handed log) (after_hand a.ts c d.0 m a.exchange)
 answers_now s bases log c d (Ready t k counts) a is f all =
-    ready_answered a.ts c d.0 (D d, Ready t k counts) (handed log) ((t.0 == a.ts) && (k.0 == c)) a.exchange (with_counts a.exchange (counted d.0 counts a.exchange.counts)) (modules_stay a.ts c d.0 (Ready t k counts) a.exchange) refl refl (verdict_of d.0 a.ts t.0 c k.0) all
+    ready_answered a.ts c d.0 (D d, Ready t k counts) (handed log) ((t.0 == a.ts) && (k.0 == c)) a.exchange
+    (with_counts a.exchange (counted d.0 counts a.exchange.counts)) (modules_stay a.ts c d.0 (Ready t k counts) a.exchange) refl refl
+    (verdict_of d.0 a.ts t.0 c k.0) all
 answers_now s bases log c d (Values t k u values) a is f all =
-    later_answered a.ts c d.0 (D d, Values t k u values) (handed log) ((t.0 == a.ts) && (k.0 == c)) a.exchange (with_union a.exchange (with_values a.exchange.union values) (a.exchange.values + length values)) (modules_stay a.ts c d.0 (Values t k u values) a.exchange)
+    later_answered a.ts c d.0 (D d, Values t k u values) (handed log) ((t.0 == a.ts) && (k.0 == c)) a.exchange
+    (with_union a.exchange (with_values a.exchange.union values) (a.exchange.values + length values)) (modules_stay a.ts c d.0 (Values t k u values) a.exchange)
     (λ e. fetching_not_reading u a.exchange.phase (of_class s log (fetches_use u) (D d) t.0 k.0 c a f (eqb-true k.0 c (and_parts (t.0 == a.ts) (k.0 == c) e).1) is).phase) all
 answers_now s bases log c d (Reduced t k u n) a is f all =
-    later_answered a.ts c d.0 (D d, Reduced t k u n) (handed log) ((t.0 == a.ts) && (k.0 == c)) a.exchange (with_counts a.exchange (counted d.0 ((u, n) ∷ []) a.exchange.counts)) (modules_stay a.ts c d.0 (Reduced t k u n) a.exchange)
+    later_answered a.ts c d.0 (D d, Reduced t k u n) (handed log) ((t.0 == a.ts) && (k.0 == c)) a.exchange
+    (with_counts a.exchange (counted d.0 ((u, n) ∷ []) a.exchange.counts)) (modules_stay a.ts c d.0 (Reduced t k u n) a.exchange)
     (λ e. reducing_not_reading u a.exchange.phase (of_class s log (reduces_use u) (D d) t.0 k.0 c a f (eqb-true k.0 c (and_parts (t.0 == a.ts) (k.0 == c) e).1) is).phase) all
 answers_now s bases log c d (Rows t k rows) a is f all =
-    later_answered a.ts c d.0 (D d, Rows t k rows) (handed log) ((t.0 == a.ts) && (k.0 == c)) a.exchange (with_rows a.exchange (a.exchange.found ++ rows) (a.exchange.rows + length rows)) (modules_stay a.ts c d.0 (Rows t k rows) a.exchange)
+    later_answered a.ts c d.0 (D d, Rows t k rows) (handed log) ((t.0 == a.ts) && (k.0 == c)) a.exchange
+    (with_rows a.exchange (a.exchange.found ++ rows) (a.exchange.rows + length rows)) (modules_stay a.ts c d.0 (Rows t k rows) a.exchange)
     (λ e. shipping_not_reading a.exchange.phase (of_class s log is_shipping (D d) t.0 k.0 c a (of_rows s bases log (D d) t.0 (active s k.0 log) rows f) (eqb-true k.0 c (and_parts (t.0 == a.ts) (k.0 == c) e).1) is).phase) all
 answers_now s bases log c d m a is f all = by_now a.ts c (D d, m) (handed log) a.exchange all
 
-asking_now : (s : Setting) (bases : Bases) (log : Log) (c : ℕ) (d : DmNo) (m : Msg) (a : Attempt) → active s c log ≡ Some a → FitsAnswer s bases log (D d) m → IsAsking c (sent log) (handed log) a → (b : Bool)
+asking_now : (s : Setting) (bases : Bases) (log : Log) (c : ℕ) (d : DmNo) (m : Msg) (a : Attempt) → active s c log ≡ Some a → FitsAnswer s bases log (D d) m
+    → IsAsking c (sent log) (handed log) a → (b : Bool)
     → IsAskingAt c (sent log) ((D d, m) ∷ handed log) (if b then None else Some (record a { exchange = after_hand a.ts c d.0 m a.exchange }))
 asking_now s bases log c d m a is f h true = tt
 asking_now s bases log c d m a is f h false = record {
@@ -109,14 +114,16 @@ asking_still : (c : ℕ) (sent handed : List (Site × Msg)) (h : Site × Msg) (o
 asking_still c sent handed h None k = tt
 asking_still c sent handed h (Some a) k = record { asks = k.asks; reads = k.reads; answered = by_now a.ts c h handed a.exchange k.answered }
 
-asking_from : (s : Setting) (bases : Bases) (log : Log) (c : ℕ) (from : Site) (m : Msg) (o : Option Attempt) → active s c log ≡ o → FitsAnswer s bases log from m → IsAskingAt c (sent log) (handed log) o
+asking_from : (s : Setting) (bases : Bases) (log : Log) (c : ℕ) (from : Site) (m : Msg) (o : Option Attempt) → active s c log ≡ o
+    → FitsAnswer s bases log from m → IsAskingAt c (sent log) (handed log) o
     → IsAskingAt c (sent log) ((from, m) ∷ handed log) (active_handed c from m o)
 asking_from s bases log c (D d) m (Some a) is f h = asking_now s bases log c d m a is f h (rejects m a.ts c)
 asking_from s bases log c (D d) m None is f h = tt
 asking_from s bases log c U m o is f h = asking_still c (sent log) (handed log) (U, m) o h
 asking_from s bases log c (T t) m o is f h = asking_still c (sent log) (handed log) (T t, m) o h
 
-pub asking_handed : (s : Setting) (bases : Bases) (log : Log) (c : ℕ) (from : Site) (m : Msg) → FitsAnswer s bases log from m → IsAskingAt c (sent log) (handed log) (active s c log)
+pub asking_handed : (s : Setting) (bases : Bases) (log : Log) (c : ℕ) (from : Site) (m : Msg) → FitsAnswer s bases log from m
+    → IsAskingAt c (sent log) (handed log) (active s c log)
     → IsAskingAt c (sent log) ((from, m) ∷ handed log) (active_handed c from m (active s c log))
 asking_handed s bases log c from m f h = asking_from s bases log c from m (active s c log) refl f h
 
@@ -126,7 +133,8 @@ asking_handed s bases log c from m f h = asking_from s bases log c from m (activ
 abbrev pub NoReads : ℕ → ℕ → List (Site × Msg) → Type 0
 NoReads ts c ms = AllByRecursion (λ m. is_read ts c m.1 ≡ false) ms
 
-pub reads_more : (ts c : ℕ) (modules : List ℕ) (ms sent : List (Site × Msg)) → NoReads ts c ms → ReadsWent ts c modules sent → ReadsWent ts c modules (ms ++ sent)
+pub reads_more : (ts c : ℕ) (modules : List ℕ) (ms sent : List (Site × Msg)) → NoReads ts c ms → ReadsWent ts c modules sent
+    → ReadsWent ts c modules (ms ++ sent)
 reads_more ts c modules [] sent none h = h
 reads_more ts c modules (m ∷ ms) sent none h = (λ e. absurd (false≢true (sym none.0 ∙ e)), reads_more ts c modules ms sent none.1 h)
 
@@ -134,18 +142,18 @@ asks_no_read : (ts c r k : ℕ) (m : Msg) → asks_rows ts c m ≡ true → is_r
 asks_no_read ts c r k (Read t class txn attempt conds uses) e = absurd (false≢true e)
 asks_no_read ts c r k _ e = refl
 
-pub asking_sends : (c : ℕ) (ms sent handed : List (Site × Msg)) (o : Option Attempt) → ((ts : ℕ) → NoReads ts c ms) → IsAskingAt c sent handed o → IsAskingAt c (ms ++ sent) handed o
+pub asking_sends : (c : ℕ) (ms sent handed : List (Site × Msg)) (o : Option Attempt) → ((ts : ℕ) → NoReads ts c ms) → IsAskingAt c sent handed o
+    → IsAskingAt c (ms ++ sent) handed o
 asking_sends c ms sent handed None none h = tt
-asking_sends c ms sent handed (Some a) none h = record { asks = h.asks; reads = reads_more a.ts c (modules_in a.exchange) ms sent (none a.ts) h.reads; answered = h.answered }
+asking_sends c ms sent handed (Some a) none h =
+    record { asks = h.asks; reads = reads_more a.ts c (modules_in a.exchange) ms sent (none a.ts) h.reads; answered = h.answered }
 
--- the next message of an exchange goes out
-asks_tail : (ts c : ℕ) (m : ℕ × Msg) (ms : List (ℕ × Msg)) → AllAsk ts c (m ∷ ms) → AllAsk ts c ms
-asks_tail ts c m ms h = h.1
-
-pub asking_sent : (c : ℕ) (sent handed : List (Site × Msg)) (a : Attempt) (to : Site) (m : ℕ × Msg) (ms : List (ℕ × Msg)) → a.exchange.to_send ≡ m ∷ ms → IsAsking c sent handed a → IsAskingAt c ((to, m.1) ∷ sent) handed (active_sent c m.1 (Some a))
+pub asking_sent : (c : ℕ) (sent handed : List (Site × Msg)) (a : Attempt) (to : Site) (m : ℕ × Msg) (ms : List (ℕ × Msg)) → a.exchange.to_send ≡ m ∷ ms
+    → IsAsking c sent handed a → IsAskingAt c ((to, m.1) ∷ sent) handed (active_sent c m.1 (Some a))
 asking_sent c sent handed a to m ms e h =
     let all : AllAsk a.ts c (m ∷ ms) = subst (AllAsk a.ts c) e h.asks in
-    let now : active_sent c m.1 (Some a) ≡ Some (record a { exchange = after_send a.exchange }) = cond-true (asks_rows a.ts c m.1) (Some (record a { exchange = after_send a.exchange })) (Some a) all.0 in
+    let now : active_sent c m.1 (Some a) ≡ Some (record a { exchange = after_send a.exchange }) = cond-true (asks_rows a.ts c m.1)
+    (Some (record a { exchange = after_send a.exchange })) (Some a) all.0 in
     subst (IsAskingAt c ((to, m.1) ∷ sent) handed) (sym now)
     (record {
       asks = rw e all.1;
@@ -159,7 +167,8 @@ early_reads : (t ts c : ℕ) (modules : List ℕ) (ms : List (Site × Msg)) → 
 early_reads t ts c modules [] l h = tt
 early_reads t ts c modules (m ∷ ms) l h = (λ e. absurd (false≢true (sym (no_read t ts c m.1 l h.0) ∙ e)), early_reads t ts c modules ms l h.1)
 
-reads_both : (ts c : ℕ) (modules : List ℕ) (ms ns : List (Site × Msg)) → ReadsWent ts c modules ms → ReadsWent ts c modules ns → ReadsWent ts c modules (ms ++ ns)
+reads_both : (ts c : ℕ) (modules : List ℕ) (ms ns : List (Site × Msg)) → ReadsWent ts c modules ms → ReadsWent ts c modules ns
+    → ReadsWent ts c modules (ms ++ ns)
 reads_both ts c modules [] ns h k = k
 reads_both ts c modules (m ∷ ms) ns h k = (h.0, reads_both ts c modules ms ns h.1 k)
 
@@ -175,9 +184,11 @@ all_awaited : (ms : List (ℕ × List ℕ)) (e : ℕ) → contains (map (λ m. m
 all_awaited [] e h = absurd (false≢true h)
 all_awaited (m ∷ ms) e h = h
 
-pub asking_started : (t ts c : ℕ) (q : Queued) (sends sent handed : List (Site × Msg)) → t < ts → AllUpTo t sent → AreReads sends (modules_in (begins q.text sends)) → IsAskingAt c (sends ++ sent) handed (started ts sends (Some q))
+pub asking_started : (t ts c : ℕ) (q : Queued) (sends sent handed : List (Site × Msg)) → t < ts → AllUpTo t sent
+    → AreReads sends (modules_in (begins q.text sends)) → IsAskingAt c (sends ++ sent) handed (started ts sends (Some q))
 asking_started t ts c q sends sent handed l early reads = record {
   asks = tt;
-  reads = reads_both ts c (modules_in (begins q.text sends)) sends sent (reads_to ts c (modules_in (begins q.text sends)) sends reads) (early_reads t ts c (modules_in (begins q.text sends)) sent l early);
+  reads = reads_both ts c (modules_in (begins q.text sends)) sends sent (reads_to ts c (modules_in (begins q.text sends)) sends reads)
+      (early_reads t ts c (modules_in (begins q.text sends)) sent l early);
   answered = λ e there w. absurd (false≢true (sym w ∙ all_awaited (filter_map module_read sends) e there));
 }

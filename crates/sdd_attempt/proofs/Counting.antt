@@ -1,13 +1,6 @@
 -- How many rows are counted of a use.
-use Rattle.std.proofs.Common.{ℕ, ◌+◌, ◌<◌, ◌≡◌, ap, sym, ◌∙◌, arith, ◌==◌, Bool, true, false, cond, List, [], ◌∷◌, ◌++◌, length, map, filter, not, ◌&&◌, drop, get_or, Some, None}
-use Rattle.std.specs.Prelude.{filter_map, fold, sum}
-use Rattle.std.specs.List.{cons_option}
-use Rattle.std.proofs.lemmas.List.{at_drop_more}
-use Rattle.sdd_module.specs.All.{DmNo}
-use Rattle.sdd_attempt.specs.Exchange.{count_of, counted}
+use Rattle.sdd_attempt.proofs.All.{Bool, DmNo, List, None, Some, [], ap, arith, at_drop_more, cond, cons_option, count_in, count_of, counted, drop, false, filter, filter_map, fold, get_or, is_other, length, map, map-append, not, numbered, sum, sym, true, ℕ, ◌&&◌, ◌++◌, ◌+◌, ◌<◌, ◌==◌, ◌∙◌, ◌∷◌, ◌≡◌}
 use Rattle.sdd_attempt.proofs.Lists.{map-filter}
-use Rattle.std.proofs.lemmas.List.{map-append}
-use Rattle.sdd_attempt.specs.Counts.{numbered, count_in, is_other}
 
 sum_from : (a : ℕ) (ns : List ℕ) → fold ◌+◌ a ns ≡ a + sum ns
 sum_from a [] = omega arith
@@ -27,12 +20,15 @@ pub count_more : (es : List ((ℕ × DmNo) × ℕ)) (i : ℕ) (e : (ℕ × DmNo)
     → rows + count_of (map numbered (drop i es)) u ≡ all → rows + count_in u e + count_of (map numbered (drop (i + 1) es)) u ≡ all
 count_more es i e u rows all within is h =
     let here : count_of (map numbered (drop i es)) u ≡ count_in u e + count_of (map numbered (drop (i + 1) es)) u =
-    at_drop_more (λ l. count_of (map numbered l) u) es i e within ∙ ap (λ z. count_of (map numbered (z ∷ drop (i + 1) es)) u) (sym is) ∙ count_first e (drop (i + 1) es) u in
+    at_drop_more (λ l. count_of (map numbered l) u) es i e within ∙ ap (λ z. count_of (map numbered (z ∷ drop (i + 1) es)) u) (sym is)
+    ∙ count_first e (drop (i + 1) es) u in
     omega (arith, here, h)
 
 -- a count is put in the place of an earlier one
-pub count_put : (old kept new : List ((ℕ × DmNo) × ℕ)) (counts : List ((ℕ × ℕ) × ℕ)) (dm : DmNo) (u n : ℕ) → map numbered old ≡ counts → kept ≡ filter (is_other dm.0 u) old → new ≡ kept ++ ((u, dm), n) ∷ []
+pub count_put : (old kept new : List ((ℕ × DmNo) × ℕ)) (counts : List ((ℕ × ℕ) × ℕ)) (dm : DmNo) (u n : ℕ) → map numbered old ≡ counts
+    → kept ≡ filter (is_other dm.0 u) old → new ≡ kept ++ ((u, dm), n) ∷ []
     → map numbered new ≡ counted dm.0 ((u, n) ∷ []) counts
 count_put old kept new counts dm u n e f g =
     ap (map numbered) g ∙ map-append numbered kept (((u, dm), n) ∷ [])
-    ∙ ap (λ l. l ++ ((u, dm.0), n) ∷ []) (ap (map numbered) f ∙ map-filter numbered (λ c. not ((c.0.0 == u) && (c.0.1 == dm.0))) old ∙ ap (filter (λ c. not ((c.0.0 == u) && (c.0.1 == dm.0)))) e)
+    ∙ ap (λ l. l ++ ((u, dm.0), n) ∷ [])
+    (ap (map numbered) f ∙ map-filter numbered (λ c. not ((c.0.0 == u) && (c.0.1 == dm.0))) old ∙ ap (filter (λ c. not ((c.0.0 == u) && (c.0.1 == dm.0)))) e)

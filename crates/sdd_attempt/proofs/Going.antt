@@ -1,17 +1,6 @@
 -- The moves of an exchange: which comes next, and that what is counted only grows.
-use Rattle.std.proofs.Common.{ℕ, ◌+◌, ◌<◌, ◌≤◌, ◌≡◌, refl, ap, sym, ◌∙◌, subst, arith, ◌==◌, ◌&&◌, Bool, true, if◌then◌else◌, List, [], ◌∷◌, ◌++◌, length, drop, get_or, Option, Some, None}
-use Rattle.std.specs.Prelude.{option_map}
-use Rattle.std.proofs.lemmas.List.Elements.{All-tail}
-use Rattle.sdd_attempt.specs.Room.{AreSmall, IsSmallQuery}
-use Rattle.sdd_attempt.specs.declared.phase.Reduction.{Reduction}
-use Rattle.sdd_attempt.specs.Phases.{move_of}
-use Rattle.sdd_module.specs.All.{ClassNo, Ts, Value, Values, with_values}
-use Rattle.sdd_semijoin.specs.declared.step.Step.{Step}
-use Rattle.sdd_semijoin.specs.Steps.{Move, next_move}
-use Rattle.sdd_attempt.specs.Exchange.{Asking, Exchange, Phase, Reading, Fetching, Reducing, Shipping, Over, without, counts_for, with_use, move_at, reduces, fetches, fetches_from, goes_on, phase_ends, lacking, answered, after_hand}
-
-some_is : {A : Type 0} {a b : A} → Some a ≡ Some b → a ≡ b
-some_is e = cc
+use Rattle.sdd_attempt.proofs.All.{All-tail, AreSmall, Asking, Bool, ClassNo, Exchange, Fetching, IsSmallQuery, List, Move, None, Option, Over, Phase, Reading, Reducing, Reduction, Shipping, Some, Step, Ts, Value, Values, [], after_hand, answered, ap, arith, counts_for, drop, fetches, fetches_from, get_or, goes_on, if◌then◌else◌, lacking, length, move_at, move_of, next_move, option_map, phase_ends, reduces, refl, subst, sym, true, with_use, with_values, without, ℕ, ◌&&◌, ◌++◌, ◌+◌, ◌<◌, ◌==◌, ◌∙◌, ◌∷◌, ◌≡◌, ◌≤◌}
+use Rattle.sdd_attempt.proofs.LineActs.{some_is}
 
 no_move : {A B : Type 0} (f : A → B) (o : Option A) → None ≡ option_map f o → o ≡ None
 no_move f None e = refl
@@ -26,17 +15,20 @@ abbrev pub goes_by : ℕ → ℕ → Exchange → Asking → List Asking → Lis
 goes_by ts c x q rest steps None = goes_on ts c x rest []
 goes_by ts c x q rest steps (Some m) = fetches ts c (move_at q.before m) (record x { left = q ∷ rest; done = steps ++ m.step ∷ [] })
 
-pub goes_split : (ts c : ℕ) (x : Exchange) (q : Asking) (rest : List Asking) (steps : List Step) → goes_on ts c x (q ∷ rest) steps ≡ goes_by ts c x q rest steps (next_move q.conds (counts_for x.counts q) steps)
+pub goes_split : (ts c : ℕ) (x : Exchange) (q : Asking) (rest : List Asking) (steps : List Step)
+    → goes_on ts c x (q ∷ rest) steps ≡ goes_by ts c x q rest steps (next_move q.conds (counts_for x.counts q) steps)
 goes_split ts c x q rest steps = elim (next_move q.conds (counts_for x.counts q) steps) as (λ o. elim o [ None ↦ goes_on ts c x rest [] | Some m ↦ fetches ts c (move_at q.before m) (record x { left = q ∷ rest; done = steps ++ m.step ∷ [] }) ] ≡ goes_by ts c x q rest steps o) [
   | None ↦ refl
   | Some m ↦ refl
 ]
 
 -- what is left and done doesn't matter where both are given
-goes_same : (ts c : ℕ) (x : Exchange) (left : List Asking) (steps : List Step) (qs : List Asking) (now : List Step) → goes_on ts c (record x { left = left; done = steps }) qs now ≡ goes_on ts c x qs now
+goes_same : (ts c : ℕ) (x : Exchange) (left : List Asking) (steps : List Step) (qs : List Asking) (now : List Step)
+    → goes_on ts c (record x { left = left; done = steps }) qs now ≡ goes_on ts c x qs now
 goes_same ts c x left steps [] now = refl
 goes_same ts c x left steps (q ∷ rest) now =
-    elim (next_move q.conds (counts_for x.counts q) now) as (λ o. goes_by ts c (record x { left = left; done = steps }) q rest now o ≡ goes_by ts c x q rest now o) [
+    elim (next_move q.conds (counts_for x.counts q) now) as
+    (λ o. goes_by ts c (record x { left = left; done = steps }) q rest now o ≡ goes_by ts c x q rest now o) [
       | None ↦ goes_same ts c x left steps rest []
       | Some m ↦ refl
     ]
@@ -47,7 +39,8 @@ pub goes_past : (ts c : ℕ) (x : Exchange) (q : Asking) (rest : List Asking) (s
 goes_past ts c x q rest steps e = goes_same ts c x rest [] rest [] ∙ sym (goes_split ts c x q rest steps ∙ ap (goes_by ts c x q rest steps) e)
 
 -- it has one
-pub goes_to : (ts c : ℕ) (x : Exchange) (q : Asking) (rest : List Asking) (steps : List Step) (m : Move) → next_move q.conds (counts_for x.counts q) steps ≡ Some m
+pub goes_to : (ts c : ℕ) (x : Exchange) (q : Asking) (rest : List Asking) (steps : List Step) (m : Move)
+    → next_move q.conds (counts_for x.counts q) steps ≡ Some m
     → fetches ts c (move_at q.before m) (record x { left = q ∷ rest; done = steps ++ m.step ∷ [] }) ≡ goes_on ts c x (q ∷ rest) steps
 goes_to ts c x q rest steps m e = sym (goes_split ts c x q rest steps ∙ ap (goes_by ts c x q rest steps) e)
 
@@ -61,22 +54,29 @@ small_rest (q ∷ left) all = All-tail IsSmallQuery q left all
 
 -- The same of an exchange x whose first query was looked at: `counts` and `steps` are what its next move was asked of.
 
-pub past_first : (ts c : ℕ) (x z : Exchange) (q : Asking) (counts : List ℕ) (steps none_done : List Step) (rest : List Asking) (next : Option Reduction) → x ≡ z → 0 < length x.left → q ≡ get_or x.left 0 q
-    → counts ≡ counts_for x.counts q → steps ≡ x.done → next ≡ None → option_map move_of next ≡ option_map (move_at q.before) (next_move q.conds counts steps) → rest ≡ drop 1 x.left → none_done ≡ []
+pub past_first : (ts c : ℕ) (x z : Exchange) (q : Asking) (counts : List ℕ) (steps none_done : List Step) (rest : List Asking) (next : Option Reduction) → x ≡ z
+    → 0 < length x.left → q ≡ get_or x.left 0 q
+    → counts ≡ counts_for x.counts q → steps ≡ x.done → next ≡ None → option_map move_of next ≡ option_map (move_at q.before) (next_move q.conds counts steps)
+    → rest ≡ drop 1 x.left → none_done ≡ []
     → goes_on ts c (record x { left = rest; done = none_done }) rest none_done ≡ goes_on ts c z z.left z.done
 past_first ts c x z q counts steps none_done rest next same some first e f none asked g h =
     let asks : None ≡ option_map (move_at q.before) (next_move q.conds (counts_for x.counts q) x.done) =
-    sym (ap (option_map move_of) none) ∙ asked ∙ ap (λ ns. option_map (move_at q.before) (next_move q.conds ns steps)) e ∙ ap (λ ds. option_map (move_at q.before) (next_move q.conds (counts_for x.counts q) ds)) f in
-    ap (λ l. goes_on ts c (record x { left = l; done = none_done }) l none_done) g ∙ ap (λ ds. goes_on ts c (record x { left = drop 1 x.left; done = ds }) (drop 1 x.left) ds) h
+    sym (ap (option_map move_of) none) ∙ asked ∙ ap (λ ns. option_map (move_at q.before) (next_move q.conds ns steps)) e
+    ∙ ap (λ ds. option_map (move_at q.before) (next_move q.conds (counts_for x.counts q) ds)) f in
+    ap (λ l. goes_on ts c (record x { left = l; done = none_done }) l none_done) g
+    ∙ ap (λ ds. goes_on ts c (record x { left = drop 1 x.left; done = ds }) (drop 1 x.left) ds) h
     ∙ goes_past ts c x q (drop 1 x.left) x.done (no_move (move_at q.before) (next_move q.conds (counts_for x.counts q) x.done) asks)
     ∙ ap (λ l. goes_on ts c x l x.done) (sym (first_of x.left q some first)) ∙ ap (λ y. goes_on ts c y y.left y.done) same
 
-pub to_first : (ts c : ℕ) (x z : Exchange) (q : Asking) (counts : List ℕ) (steps more : List Step) (one : Reduction) (next : Option Reduction) → x ≡ z → 0 < length x.left → q ≡ get_or x.left 0 q
-    → counts ≡ counts_for x.counts q → steps ≡ x.done → next ≡ Some one → option_map move_of next ≡ option_map (move_at q.before) (next_move q.conds counts steps) → more ≡ x.done ++ one.step ∷ []
+pub to_first : (ts c : ℕ) (x z : Exchange) (q : Asking) (counts : List ℕ) (steps more : List Step) (one : Reduction) (next : Option Reduction) → x ≡ z
+    → 0 < length x.left → q ≡ get_or x.left 0 q
+    → counts ≡ counts_for x.counts q → steps ≡ x.done → next ≡ Some one
+    → option_map move_of next ≡ option_map (move_at q.before) (next_move q.conds counts steps) → more ≡ x.done ++ one.step ∷ []
     → fetches ts c (move_of one) (record x { done = more }) ≡ goes_on ts c z z.left z.done
 to_first ts c x z q counts steps more one next same some first e f has asked g =
     let asks : Some (move_of one) ≡ option_map (move_at q.before) (next_move q.conds (counts_for x.counts q) x.done) =
-    sym (ap (option_map move_of) has) ∙ asked ∙ ap (λ ns. option_map (move_at q.before) (next_move q.conds ns steps)) e ∙ ap (λ ds. option_map (move_at q.before) (next_move q.conds (counts_for x.counts q) ds)) f in
+    sym (ap (option_map move_of) has) ∙ asked ∙ ap (λ ns. option_map (move_at q.before) (next_move q.conds ns steps)) e
+    ∙ ap (λ ds. option_map (move_at q.before) (next_move q.conds (counts_for x.counts q) ds)) f in
     let m = a_move (move_at q.before) (next_move q.conds (counts_for x.counts q) x.done) (move_of one) asks in
     let left : x.left ≡ q ∷ drop 1 x.left = first_of x.left q some first in
     let step : one.step ≡ m.0.step = ap (λ n. n.step) m.2 in
@@ -94,7 +94,8 @@ from_grows : (ts c : ℕ) (m : Move) (x : Exchange) (ds : List ℕ) → x.values
 from_grows ts c m x [] = omega arith
 from_grows ts c m x (d ∷ ds) = omega arith
 
-by_grows : (ts c : ℕ) (x : Exchange) (q : Asking) (rest : List Asking) (steps : List Step) (o : Option Move) → x.values ≤ (goes_on ts c x rest []).values → x.values ≤ (goes_by ts c x q rest steps o).values
+by_grows : (ts c : ℕ) (x : Exchange) (q : Asking) (rest : List Asking) (steps : List Step) (o : Option Move) → x.values ≤ (goes_on ts c x rest []).values
+    → x.values ≤ (goes_by ts c x q rest steps o).values
 by_grows ts c x q rest steps None h = h
 by_grows ts c x q rest steps (Some m) h =
     from_grows ts c (move_at q.before m) (record x { left = q ∷ rest; done = steps ++ m.step ∷ [] }) (with_use x (move_at q.before m).source.part)
@@ -102,7 +103,8 @@ by_grows ts c x q rest steps (Some m) h =
 goes_grows : (ts c : ℕ) (x : Exchange) (qs : List Asking) (steps : List Step) → x.values ≤ (goes_on ts c x qs steps).values
 goes_grows ts c x [] steps = omega arith
 goes_grows ts c x (q ∷ rest) steps =
-    subst (λ y. x.values ≤ y.values) (sym (goes_split ts c x q rest steps)) (by_grows ts c x q rest steps (next_move q.conds (counts_for x.counts q) steps) (goes_grows ts c x rest []))
+    subst (λ y. x.values ≤ y.values) (sym (goes_split ts c x q rest steps))
+    (by_grows ts c x q rest steps (next_move q.conds (counts_for x.counts q) steps) (goes_grows ts c x rest []))
 
 ends_grows : (ts c : ℕ) (x : Exchange) (p : Phase) → x.values ≤ (phase_ends ts c x p).values
 ends_grows ts c x Reading = goes_grows ts c x x.left x.done

@@ -1,4 +1,5 @@
 pub mod Addressed
+mod All
 pub mod Asking
 pub mod Counting
 pub mod Going

@@ -1,21 +1,10 @@
 -- What the acts of an attempt leave of its line: what may start, what is left to do, and which rows serve.
-use Rattle.std.proofs.Common.{ℕ, suc, ◌<◌, ◌≤◌, ◌≡◌, ◌==◌, true, false, not, cond, List, [], ◌∷◌, map, length, refl, ap, sym, ◌∙◌, subst, arith, Option, Some, None}
-use Rattle.std.specs.Prelude.{if◌then◌else◌}
-use Rattle.std.specs.List.{AllByRecursion, filter}
-use Rattle.std.proofs.lemmas.Bool.{and_from, cond-true, eq-eqb, ne_eqb, false≢true}
-use Rattle.sdd_module.specs.All.{Act, Bases, Catalogue, Log, Msg, Nothing, Read, Rec, Records, Sends, Setting, Site, contains, submits, tail_of}
-use Rattle.sdd_attempt.specs.Queues.{Queued, queue, tried}
-use Rattle.sdd_attempt.specs.Exchange.{after_send, first_send, is_over, send_due}
-use Rattle.sdd_attempt.specs.Attempts.{Attempt, active, active_sent, asks_rows}
-use Rattle.sdd_attempt.specs.Fits.{sent, handed, is_read}
-use Rattle.sdd_attempt.specs.Lines.{ServesAt, line_step}
-use Rattle.sdd_attempt.specs.Sound.{IsWaiting, IsAsking, IsAskingAt, IsOfHead, IsLineOf, IsUpTo, AllUpTo, IsServed}
-use Rattle.sdd_attempt.specs.Starts.{starts_left, work_of}
+use Rattle.sdd_attempt.proofs.All.{Act, AllByRecursion, AllUpTo, Attempt, Bases, Catalogue, IsAsking, IsAskingAt, IsLineOf, IsOfHead, IsServed, IsUpTo, IsWaiting, List, Log, Msg, None, Nothing, Option, Queued, Read, Rec, Records, Sends, ServesAt, Setting, Site, Some, [], active, active_sent, after_send, and_from, ap, arith, asks_rows, cond-true, contains, eq-eqb, false, false≢true, filter, first_send, handed, if◌then◌else◌, is_over, is_read, length, line_step, map, ne_eqb, not, queue, refl, send_due, sent, starts_left, submits, subst, suc, sym, tail_of, tried, true, work_of, ℕ, ◌<◌, ◌==◌, ◌∙◌, ◌∷◌, ◌≡◌, ◌≤◌}
 use Rattle.sdd_attempt.proofs.Asking.{NoReads}
 use Rattle.sdd_attempt.proofs.Waiting.{fewer_committed}
 use Rattle.sdd_attempt.proofs.LineSteps.{not_over}
 
-some_is : {A : Type 0} {x y : A} → Some x ≡ Some y → x ≡ y
+pub some_is : {A : Type 0} {x y : A} → Some x ≡ Some y → x ≡ y
 some_is e = cc
 
 -- what may start
@@ -86,10 +75,6 @@ all_up_of t (m ∷ ms) h = (up_of_no_read t 0 0 m.1 (λ ts c. (h ts c).0), all_u
 abbrev pub record_in : Act → Rec
 record_in (Records c r messages) = r
 record_in (Sends to m hand) = Nothing
-
--- a record is of its own class
-pub own_record : {A : Type 0} (c : ℕ) (x y : A) → cond (c == c) x y ≡ x
-own_record c x y = cond-true (c == c) x y (eq-eqb c c refl)
 
 pub asking_of : (s : Setting) (log : Log) (c : ℕ) (a : Attempt) → IsLineOf s c log → active s c log ≡ Some a
     → IsAsking c (sent log) (handed log) a

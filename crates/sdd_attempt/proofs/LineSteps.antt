@@ -1,12 +1,5 @@
 -- What an attempt makes due, by what its line does next.
-use Rattle.std.proofs.Common.{ℕ, ◌≡◌, true, false, List, [], ◌∷◌, refl, ap, Option, Some, None}
-use Rattle.std.specs.Prelude.{if◌then◌else◌}
-use Rattle.sdd_module.specs.All.{Act, Bases, Catalogue, D, Msg, Sends, dm_no, or_else}
-use Rattle.sdd_attempt.specs.Exchange.{Phase, Over, first_send, send_due, is_over}
-use Rattle.sdd_attempt.specs.Attempts.{Attempt}
-use Rattle.sdd_attempt.specs.Acts.{commit_act, attempt_due}
-use Rattle.sdd_attempt.specs.Lines.{step_by, line_step}
-use Rattle.sdd_attempt.specs.declared.step.LineStep.TheVariants.{Sends as ToSend, Commits as ToCommit}
+use Rattle.sdd_attempt.proofs.All.{Act, Attempt, Bases, Catalogue, D, List, Msg, None, Option, Over, Phase, Sends, Some, ToCommit, ToSend, [], ap, attempt_due, commit_act, dm_no, false, first_send, if◌then◌else◌, is_over, line_step, or_else, refl, send_due, step_by, true, ℕ, ◌∷◌, ◌≡◌}
 
 none_by : (ms : List (ℕ × Msg)) (p : Phase) (x : Act) → step_by ms p ≡ None
     → or_else (first_send ms) (if is_over p then Some x else None) ≡ None

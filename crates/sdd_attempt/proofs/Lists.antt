@@ -1,18 +1,14 @@
 -- Lists that are made item by item, and lists of items that are kept in another form.
-use Rattle.std.proofs.Common.{ℕ, suc, ◌+◌, ◌-◌, ◌<◌, ◌≤◌, ◌≡◌, refl, ap, sym, ◌∙◌, arith, Bool, true, false, if◌then◌else◌, List, [], ◌∷◌, ◌++◌, length, map, filter, drop, get_or, append_assoc, Option, Some, None}
-use Rattle.std.specs.Prelude.{filter_map, option_map}
-use Rattle.std.specs.List.{cons_option}
-use Rattle.sdd_module.specs.All.{numbers_to}
-use Rattle.sdd_graph.proofs.Lists.{up_to}
-use Rattle.std.proofs.lemmas.List.{at_drop_more}
-use Rattle.std.proofs.lemmas.List.Elements.{filter_map-append}
+use Rattle.sdd_attempt.proofs.All.{Bool, List, None, Option, Some, [], ap, append_assoc, arith, at_drop_more, cons_option, drop, false, filter, filter_map, filter_map-append, get_or, if◌then◌else◌, length, map, numbers_to, option_map, refl, suc, sym, true, up_to, ℕ, ◌++◌, ◌+◌, ◌-◌, ◌<◌, ◌∙◌, ◌∷◌, ◌≡◌, ◌≤◌}
 
 -- two lists that are made of one
-pub map_both : {A B C D : Type 0} (f : A → B) (g : B → D) (h : A → C) (k : C → D) → ((a : A) → g (f a) ≡ k (h a)) → (xs : List A) → map g (map f xs) ≡ map k (map h xs)
+pub map_both : {A B C D : Type 0} (f : A → B) (g : B → D) (h : A → C) (k : C → D) → ((a : A) → g (f a) ≡ k (h a)) → (xs : List A)
+    → map g (map f xs) ≡ map k (map h xs)
 map_both f g h k same [] = refl
 map_both f g h k same (x ∷ xs) = rw (same x, map_both f g h k same xs) refl
 
-kept_by : {A B : Type 0} (h : A → B) (x : A) (t : Bool) (ys : List A) (zs : List B) → map h ys ≡ zs → map h (if t then x ∷ ys else ys) ≡ (if t then h x ∷ zs else zs)
+kept_by : {A B : Type 0} (h : A → B) (x : A) (t : Bool) (ys : List A) (zs : List B) → map h ys ≡ zs
+    → map h (if t then x ∷ ys else ys) ≡ (if t then h x ∷ zs else zs)
 kept_by h x true ys zs e = ap (λ l. h x ∷ l) e
 kept_by h x false ys zs e = e
 
@@ -21,28 +17,34 @@ pub map-filter : {A B : Type 0} (h : A → B) (q : B → Bool) (xs : List A) →
 map-filter h q [] = refl
 map-filter h q (x ∷ xs) = kept_by h x (q (h x)) (filter (λ y. q (h y)) xs) (filter q (map h xs)) (map-filter h q xs)
 
-picked : {C D : Type 0} (k : C → D) (o : Option C) (p : Option D) (ys : List C) (zs : List D) → option_map k o ≡ p → map k ys ≡ zs → map k (cons_option o ys) ≡ cons_option p zs
+picked : {C D : Type 0} (k : C → D) (o : Option C) (p : Option D) (ys : List C) (zs : List D) → option_map k o ≡ p → map k ys ≡ zs
+    → map k (cons_option o ys) ≡ cons_option p zs
 picked k None p ys zs e f = rw (← e) f
 picked k (Some c) p ys zs e f = rw (← e) (ap (λ l. k c ∷ l) f)
 
 -- and is picked where it is in that form
-pub map-filter_map : {A B C D : Type 0} (h : A → B) (k : C → D) (f : A → Option C) (g : B → Option D) → ((a : A) → option_map k (f a) ≡ g (h a)) → (xs : List A) → map k (filter_map f xs) ≡ filter_map g (map h xs)
+pub map-filter_map : {A B C D : Type 0} (h : A → B) (k : C → D) (f : A → Option C) (g : B → Option D) → ((a : A) → option_map k (f a) ≡ g (h a)) → (xs : List A)
+    → map k (filter_map f xs) ≡ filter_map g (map h xs)
 map-filter_map h k f g same [] = refl
 map-filter_map h k f g same (x ∷ xs) = picked k (f x) (g (h x)) (filter_map f xs) (filter_map g (map h xs)) (same x) (map-filter_map h k f g same xs)
 
-pub map-filter_map_all : {A C D : Type 0} (k : C → D) (f : A → Option C) (g : A → Option D) → ((a : A) → option_map k (f a) ≡ g a) → (xs : List A) → map k (filter_map f xs) ≡ filter_map g xs
+pub map-filter_map_all : {A C D : Type 0} (k : C → D) (f : A → Option C) (g : A → Option D) → ((a : A) → option_map k (f a) ≡ g a) → (xs : List A)
+    → map k (filter_map f xs) ≡ filter_map g xs
 map-filter_map_all k f g same [] = refl
 map-filter_map_all k f g same (x ∷ xs) = picked k (f x) (g x) (filter_map f xs) (filter_map g xs) (same x) (map-filter_map_all k f g same xs)
 
 -- one item more
-pub filter_map_more : {A B : Type 0} (f : A → Option B) (xs : List A) (i : ℕ) (x : A) (old more all : List B) → i < length xs → x ≡ get_or xs i x → more ≡ old ++ filter_map f (x ∷ []) → old ++ filter_map f (drop i xs) ≡ all → more ++ filter_map f (drop (i + 1) xs) ≡ all
+pub filter_map_more : {A B : Type 0} (f : A → Option B) (xs : List A) (i : ℕ) (x : A) (old more all : List B) → i < length xs → x ≡ get_or xs i x
+    → more ≡ old ++ filter_map f (x ∷ []) → old ++ filter_map f (drop i xs) ≡ all → more ++ filter_map f (drop (i + 1) xs) ≡ all
 filter_map_more f xs i x old more all l e g h =
-    let here : filter_map f (drop i xs) ≡ filter_map f (x ∷ drop (i + 1) xs) = at_drop_more (filter_map f) xs i x l ∙ ap (λ z. filter_map f (z ∷ drop (i + 1) xs)) (sym e) in
+    let here : filter_map f (drop i xs) ≡ filter_map f (x ∷ drop (i + 1) xs) = at_drop_more (filter_map f) xs i x l
+    ∙ ap (λ z. filter_map f (z ∷ drop (i + 1) xs)) (sym e) in
     ap (λ ys. ys ++ filter_map f (drop (i + 1) xs)) g ∙ append_assoc old (filter_map f (x ∷ [])) (filter_map f (drop (i + 1) xs))
     ∙ ap (λ ys. old ++ ys) (sym (filter_map-append f (x ∷ []) (drop (i + 1) xs))) ∙ ap (λ ys. old ++ ys) (sym here) ∙ h
 
 -- one number more, of those from 1 on
-pub picked_to : {B : Type 0} (f : ℕ → Option B) (n : ℕ) (old more : List B) → 1 ≤ n → more ≡ old ++ filter_map f (n ∷ []) → old ≡ filter_map f (numbers_to (n - 1)) → more ≡ filter_map f (numbers_to (n + 1 - 1))
+pub picked_to : {B : Type 0} (f : ℕ → Option B) (n : ℕ) (old more : List B) → 1 ≤ n → more ≡ old ++ filter_map f (n ∷ [])
+    → old ≡ filter_map f (numbers_to (n - 1)) → more ≡ filter_map f (numbers_to (n + 1 - 1))
 picked_to f n old more some e before =
     e ∙ ap (λ l. l ++ filter_map f (n ∷ [])) before ∙ sym (ap (filter_map f) (up_to n some) ∙ filter_map-append f (numbers_to (n - 1)) (n ∷ []))
 

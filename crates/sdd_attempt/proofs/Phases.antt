@@ -1,15 +1,6 @@
 -- What an answer makes of an exchange: its modules stay, what is to be sent asks for rows of the attempt, and it is over
 -- only once all rows are shipped.
-use Rattle.std.proofs.Common.{ℕ, ◌+◌, ◌≡◌, ◌≢◌, ◌==◌, Bool, true, false, ◌&&◌, ◌||◌, not, cond, List, [], ◌∷◌, ◌++◌, length, map, refl, ap, sym, ◌∙◌, subst, Some, None}
-use Rattle.std.specs.List.{AllByRecursion}
-use Rattle.std.proofs.lemmas.Bool.{and_parts, eqb-true, eq-eqb, ne_eqb, false≢true}
-use Rattle.sdd_module.specs.All.{Fetch, Msg, Ready, Reduce, Reduced, Row, Rows, Ship, Value, Values, class_no, contains, time_at, with_values}
-use Rattle.sdd_semijoin.specs.declared.step.Step.{Step}
-use Rattle.sdd_semijoin.specs.Steps.{Move, next_move}
-use Rattle.sdd_attempt.specs.Exchange.{Asking, Phase, Reading, Fetching, Reducing, Shipping, Over, Exchange, without, counts_for, move_at, with_use, to_all, reduces, fetches_from, fetches, ships, goes_on, phase_ends, lacking, answered, counted, after_hand, is_over}
-use Rattle.sdd_attempt.specs.Attempts.{asks_rows}
-use Rattle.sdd_attempt.specs.Fits.{fetches_use, reduces_use, is_shipping}
-use Rattle.sdd_attempt.specs.Sound.{is_reading, awaits_ready}
+use Rattle.sdd_attempt.proofs.All.{AllByRecursion, Asking, Bool, Exchange, Fetch, Fetching, List, Move, Msg, None, Over, Phase, Reading, Ready, Reduce, Reduced, Reducing, Row, Rows, Ship, Shipping, Some, Step, Value, Values, [], after_hand, and_parts, answered, ap, asks_rows, awaits_ready, class_no, cond, contains, counted, counts_for, eq-eqb, eqb-true, false, false≢true, fetches, fetches_from, fetches_use, goes_on, is_over, is_reading, is_shipping, lacking, length, map, move_at, ne_eqb, next_move, not, phase_ends, reduces, reduces_use, refl, ships, subst, sym, time_at, to_all, true, with_use, with_values, without, ℕ, ◌&&◌, ◌++◌, ◌+◌, ◌==◌, ◌||◌, ◌∙◌, ◌∷◌, ◌≡◌, ◌≢◌}
 
 -- a property of what comes of an exchange, by the ways in which it goes on
 
@@ -36,17 +27,17 @@ goes_keep P ts c x reduced asked shipped (q ∷ rest) done =
 
 -- its modules
 
-goes_modules : (ts c : ℕ) (x : Exchange) (qs : List Asking) (done : List Step) → (goes_on ts c x qs done).modules ≡ x.modules
+pub goes_modules : (ts c : ℕ) (x : Exchange) (qs : List Asking) (done : List Step) → (goes_on ts c x qs done).modules ≡ x.modules
 goes_modules ts c x qs done = goes_keep (λ y. y.modules ≡ x.modules) ts c x (λ m y e. e) (λ m y d ds e. e) refl qs done
 
-ends_modules : (ts c : ℕ) (x : Exchange) (p : Phase) → (phase_ends ts c x p).modules ≡ x.modules
+pub ends_modules : (ts c : ℕ) (x : Exchange) (p : Phase) → (phase_ends ts c x p).modules ≡ x.modules
 ends_modules ts c x Reading = goes_modules ts c x x.left x.done
 ends_modules ts c x (Fetching m) = refl
 ends_modules ts c x (Reducing m) = goes_modules ts c x x.left x.done
 ends_modules ts c x Shipping = refl
 ends_modules ts c x Over = refl
 
-lacking_modules : (ts c : ℕ) (x : Exchange) (ds : List ℕ) → (lacking ts c x ds).modules ≡ x.modules
+pub lacking_modules : (ts c : ℕ) (x : Exchange) (ds : List ℕ) → (lacking ts c x ds).modules ≡ x.modules
 lacking_modules ts c x [] = ends_modules ts c (record x { lacks = [] }) x.phase
 lacking_modules ts c x (d ∷ ds) = refl
 
@@ -72,7 +63,8 @@ abbrev pub with_rows : Exchange → List (ℕ × Row) → ℕ → Exchange
 with_rows x found n = record x { found = found; rows = n }
 
 -- a message leaves an exchange as it is, or is an answer of its module
-hand_keeps : (P : Exchange → Type 0) (ts c d : ℕ) (x : Exchange) → P x → ((y : Exchange) → IsAlike x y → P (answered ts c d y)) → (m : Msg) → P (after_hand ts c d m x)
+hand_keeps : (P : Exchange → Type 0) (ts c d : ℕ) (x : Exchange) → P x → ((y : Exchange) → IsAlike x y → P (answered ts c d y)) → (m : Msg)
+    → P (after_hand ts c d m x)
 hand_keeps P ts c d x h k (Ready t l counts) =
     let y : Exchange = with_counts x (counted d counts x.counts) in
     if_keeps P ((t.0 == ts) && (l.0 == c)) (answered ts c d y) x (k y (record { modules = refl; phase = refl; to_send = refl; lacks = refl })) h
@@ -96,7 +88,7 @@ modules_stay ts c d m x = hand_keeps (λ y. y.modules ≡ x.modules) ts c d x re
 abbrev pub AllAsk : ℕ → ℕ → List (ℕ × Msg) → Type 0
 AllAsk ts c ms = AllByRecursion (λ m. asks_rows ts c m.1 ≡ true) ms
 
-own : (ts c : ℕ) → ((ts == ts) && (c == c)) ≡ true
+pub own : (ts c : ℕ) → ((ts == ts) && (c == c)) ≡ true
 own ts c = rw (eq-eqb ts ts refl, eq-eqb c c refl) refl
 
 all_ask : (ts c : ℕ) (m : Msg) (ds : List ℕ) → asks_rows ts c m ≡ true → AllAsk ts c (to_all m ds)
@@ -113,7 +105,8 @@ ships_ask : (ts c : ℕ) (x : Exchange) → AllAsk ts c (ships ts c x).to_send
 ships_ask ts c x = all_ask ts c (Ship (time_at ts) (class_no c)) (map (λ m. m.0) x.modules) (own ts c)
 
 goes_ask : (ts c : ℕ) (x : Exchange) (qs : List Asking) (done : List Step) → AllAsk ts c (goes_on ts c x qs done).to_send
-goes_ask ts c x qs done = goes_keep (λ y. AllAsk ts c y.to_send) ts c x (λ m y e. reduces_ask ts c m y) (λ m y d ds e. fetches_ask ts c m y d ds) (ships_ask ts c x) qs done
+goes_ask ts c x qs done =
+    goes_keep (λ y. AllAsk ts c y.to_send) ts c x (λ m y e. reduces_ask ts c m y) (λ m y d ds e. fetches_ask ts c m y d ds) (ships_ask ts c x) qs done
 
 ends_ask : (ts c : ℕ) (x : Exchange) → AllAsk ts c x.to_send → (p : Phase) → AllAsk ts c (phase_ends ts c x p).to_send
 ends_ask ts c x h Reading = goes_ask ts c x x.left x.done
@@ -127,15 +120,13 @@ lacking_ask ts c x h [] = ends_ask ts c (record x { lacks = [] }) h x.phase
 lacking_ask ts c x h (d ∷ ds) = h
 
 pub asks_stay : (ts c d : ℕ) (m : Msg) (x : Exchange) → AllAsk ts c x.to_send → AllAsk ts c (after_hand ts c d m x).to_send
-asks_stay ts c d m x h = hand_keeps (λ y. AllAsk ts c y.to_send) ts c d x h (λ y e. lacking_ask ts c y (subst (AllAsk ts c) (sym e.to_send) h) (without y.lacks d)) m
+asks_stay ts c d m x h =
+    hand_keeps (λ y. AllAsk ts c y.to_send) ts c d x h (λ y e. lacking_ask ts c y (subst (AllAsk ts c) (sym e.to_send) h) (without y.lacks d)) m
 
 -- phases
 
 goes_not_over : (ts c : ℕ) (x : Exchange) (qs : List Asking) (done : List Step) → is_over (goes_on ts c x qs done).phase ≡ false
 goes_not_over ts c x qs done = goes_keep (λ y. is_over y.phase ≡ false) ts c x (λ m y e. refl) (λ m y d ds e. refl) refl qs done
-
-goes_not_reading : (ts c : ℕ) (x : Exchange) (qs : List Asking) (done : List Step) → is_reading (goes_on ts c x qs done).phase ≡ false
-goes_not_reading ts c x qs done = goes_keep (λ y. is_reading y.phase ≡ false) ts c x (λ m y e. refl) (λ m y d ds e. refl) refl qs done
 
 -- the answers of phases before the last don't make an exchange over
 
@@ -237,7 +228,8 @@ lacking_awaits : (ts c : ℕ) (x : Exchange) (ds : List ℕ) (e : ℕ) → is_re
 lacking_awaits ts c x [] e r h = absurd (false≢true h)
 lacking_awaits ts c x (d ∷ ds) e r h = rw (r, h) refl
 
-pub others_awaited : (ts c d e : ℕ) (x y : Exchange) → y.phase ≡ x.phase → e ≢ d → awaits_ready x e ≡ true → awaits_ready (lacking ts c y (without x.lacks d)) e ≡ true
+pub others_awaited : (ts c d e : ℕ) (x y : Exchange) → y.phase ≡ x.phase → e ≢ d → awaits_ready x e ≡ true
+    → awaits_ready (lacking ts c y (without x.lacks d)) e ≡ true
 others_awaited ts c d e x y same apart h =
     let p = and_parts (is_reading x.phase) (contains x.lacks e) h in
     lacking_awaits ts c y (without x.lacks d) e (ap is_reading same ∙ p.0) (still_there x.lacks d e apart p.1)

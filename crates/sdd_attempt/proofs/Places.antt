@@ -1,54 +1,38 @@
 -- The standing of a transaction by its place in the queue.
-use Rattle.std.proofs.Common.{ℕ, suc, ◌+◌, ◌≡◌, refl, ap, sym, ◌∙◌, arith, ◌==◌, Bool, true, false, not, cond, if◌then◌else◌, List, [], ◌∷◌, filter, Option, Some, None}
-use Rattle.std.specs.Prelude.{option_map, position}
-use Rattle.std.specs.List.{position_from}
-use Rattle.sdd_attempt.specs.Attempts.{Attempt}
-use Rattle.sdd_attempt.specs.Lines.{IsLine, Running, active_of, attempt_of}
-use Rattle.sdd_attempt.specs.Queues as queues
-use Rattle.sdd_attempt.specs.Standings.{queued_at, standing_at, standing_by, underway}
-use Rattle.sdd_attempt.specs.declared.standing.Standing.{Standing}
-use Rattle.sdd_attempt.specs.declared.standing.Standing.TheVariants.{Absent, Queued}
-use Rattle.std.proofs.lemmas.Bool.Decides.{nat_tests}
-use Rattle.std.proofs.lemmas.Iterator.Adapters.{position_from-zero}
-use Rattle.sdd_module.specs.All.{Catalogue, class_no}
+use Rattle.sdd_attempt.proofs.All.{Absent, Attempt, Bool, Catalogue, IsLine, List, None, Option, Running, Some, Standing, [], active_of, ap, arith, attempt_of, class_no, cond, false, filter, if◌then◌else◌, later, nat_tests, not, option_map, position, position_from, position_from-zero, queued_at, refl, standing_at, standing_by, suc, sym, true, underway, ℕ, ◌==◌, ◌∙◌, ◌∷◌, ◌≡◌}
 use Rattle.sdd_attempt.proofs.Queueing.{all_kept, itself}
+use Rattle.sdd_attempt.specs.declared.standing.Standing.TheVariants.{Queued}
+use Rattle.sdd_attempt.specs.Queues as queues
 
 -- by a place, where there is one
 abbrev pub at_place : ℕ → Option Attempt → Option ℕ → Standing
 at_place c a None = Absent
 at_place c a (Some place) = standing_at c a place
 
-later_by : (t : Bool) (i : ℕ) (o p : Option ℕ) → o ≡ option_map suc p → cond t (Some (suc i)) o ≡ option_map suc (cond t (Some i) p)
-later_by true i o p e = refl
-later_by false i o p e = e
-
-pub later : {A : Type 0} (p : A → Bool) (i : ℕ) (xs : List A) → position_from p (suc i) xs ≡ option_map suc (position_from p i xs)
-later p i [] = refl
-later p i (x ∷ xs) =
-    let e : suc i + 1 ≡ suc (i + 1) = omega arith in
-    ap (λ k. cond (p x) (Some (suc i)) (position_from p k xs)) e ∙ later_by (p x) i (position_from p (suc (i + 1)) xs) (position_from p (i + 1) xs) (later p (i + 1) xs)
-
 idle_at : (c : ℕ) (o : Option ℕ) → queued_at c o ≡ at_place c None o
 idle_at c None = refl
 idle_at c (Some place) = refl
 
-not_first : (n : ℕ) → (suc n == 0) ≡ false
+pub not_first : (n : ℕ) → (suc n == 0) ≡ false
 not_first n = grind (arith, nat_tests)
 
 behind : (c : ℕ) (a : Attempt) (o : Option ℕ) → queued_at c o ≡ at_place c (Some a) (option_map suc o)
 behind c a None = refl
 behind c a (Some place) = ap (λ (b : Bool). if b then underway c a.ts a.exchange else Queued (class_no c) (suc place)) (sym (not_first place))
 
-by_first : (c : ℕ) (q : queues.Queued) (rest : List queues.Queued) (r : Running) (n : ℕ) (here mine : Bool) → mine ≡ true → filter (λ x. not (x.number == q.number)) rest ≡ rest
+by_first : (c : ℕ) (q : queues.Queued) (rest : List queues.Queued) (r : Running) (n : ℕ) (here mine : Bool) → mine ≡ true
+    → filter (λ x. not (x.number == q.number)) rest ≡ rest
     → (if here then underway c r.ts r.exchange else queued_at c (position (λ x. x.number == n) (cond (not mine) (q ∷ filter (λ x. not (x.number == q.number)) rest) (filter (λ x. not (x.number == q.number)) rest))))
     ≡ at_place c (Some (attempt_of q r)) (cond here (Some 0) (position_from (λ x. x.number == n) 1 rest))
 by_first c q rest r n true mine e same = refl
 by_first c q rest r n false true e same = rw same
     (behind c (attempt_of q r) (position (λ x. x.number == n) rest)
-    ∙ ap (λ o. at_place c (Some (attempt_of q r)) (option_map suc o)) (position_from-zero (λ x. x.number == n) rest) ∙ ap (at_place c (Some (attempt_of q r))) (sym (later (λ x. x.number == n) 0 rest)))
+    ∙ ap (λ o. at_place c (Some (attempt_of q r)) (option_map suc o)) (position_from-zero (λ x. x.number == n) rest)
+    ∙ ap (at_place c (Some (attempt_of q r))) (sym (later (λ x. x.number == n) 0 rest)))
 by_first c q rest r n false false e same = cc
 
-pub standing_told : (cat : Catalogue) (c : ℕ) (queue : List queues.Queued) (r : Option Running) (n : ℕ) → IsLine cat c queue r → standing_by c queue (active_of queue r) n ≡ at_place c (active_of queue r) (position (λ q. q.number == n) queue)
+pub standing_told : (cat : Catalogue) (c : ℕ) (queue : List queues.Queued) (r : Option Running) (n : ℕ) → IsLine cat c queue r
+    → standing_by c queue (active_of queue r) n ≡ at_place c (active_of queue r) (position (λ q. q.number == n) queue)
 standing_told cat c [] None n line = refl
 standing_told cat c [] (Some r) n line = absurd line.runs
 standing_told cat c (q ∷ queue) None n line = idle_at c (position (λ x. x.number == n) (q ∷ queue))

@@ -1,13 +1,5 @@
 -- One module more, among some that ascend.
-use Rattle.std.proofs.Common.{ℕ, suc, ◌≡◌, refl, ap, sym, ◌∙◌, arith, ◌==◌, Bool, true, false, not, cond, List, [], ◌∷◌, ◌++◌, map, get_or, insert, nat_lt, Option, Some, None}
-use Rattle.std.specs.Prelude.{option_map, position, unwrap_or}
-use Rattle.std.specs.BTreeSet.{insert_key}
-use Rattle.std.specs.Ordering.{nat_cmp}
-use Rattle.std.specs.declared.cmp.Ordering.TheVariants.{Less, Equal, Greater}
-use Rattle.std.proofs.lemmas.Bool.Decides.{nat_tests}
-use Rattle.std.proofs.lemmas.Iterator.Adapters.{position_from-zero}
-use Rattle.sdd_module.specs.All.{DmNo}
-use Rattle.sdd_attempt.proofs.Places.{later}
+use Rattle.sdd_attempt.proofs.All.{Bool, DmNo, Equal, Greater, Less, List, None, Option, Some, [], ap, arith, cond, false, get_or, insert, insert_key, later, map, nat_cmp, nat_lt, nat_tests, not, option_map, position, position_from-zero, refl, suc, sym, true, unwrap_or, ℕ, ◌++◌, ◌==◌, ◌∙◌, ◌∷◌, ◌≡◌}
 
 abbrev number : DmNo → ℕ
 number n = n.0
@@ -45,7 +37,8 @@ behind_first : (x d : DmNo) (xs : List DmNo) (t : Bool) → nat_lt x.0 d.0 ≡ t
 behind_first x d xs false t e h = cc
 behind_first x d xs true t e h = rw (greater d.0 x.0 t) (ap (λ l. x.0 ∷ l) (h (none_before (position (reaches d.0) xs) e)))
 
-pub put_behind : (xs : List DmNo) (d : DmNo) → position (λ n. not (nat_lt n.0 d.0)) xs ≡ None → insert_key nat_cmp (map (λ n. n.0) xs) d.0 ≡ map (λ n. n.0) (xs ++ d ∷ [])
+pub put_behind : (xs : List DmNo) (d : DmNo) → position (λ n. not (nat_lt n.0 d.0)) xs ≡ None
+    → insert_key nat_cmp (map (λ n. n.0) xs) d.0 ≡ map (λ n. n.0) (xs ++ d ∷ [])
 put_behind [] d e = refl
 put_behind (x ∷ xs) d e = behind_first x d xs (nat_lt x.0 d.0) refl (sym (first_of_more (reaches d.0) x xs) ∙ e) (put_behind xs d)
 
@@ -54,11 +47,13 @@ put_behind (x ∷ xs) d e = behind_first x d xs (nat_lt x.0 d.0) refl (sym (firs
 abbrev put_at : DmNo → List DmNo → ℕ → DmNo → List DmNo
 put_at z xs i d = cond ((get_or xs i z).0 == d.0) xs (insert xs i d)
 
-further : (x d : DmNo) (xs : List DmNo) (j : ℕ) (t : Bool) → x.0 ∷ map number (cond t xs (insert xs j d)) ≡ map number (cond t (x ∷ xs) (insert (x ∷ xs) (suc j) d))
+further : (x d : DmNo) (xs : List DmNo) (j : ℕ) (t : Bool)
+    → x.0 ∷ map number (cond t xs (insert xs j d)) ≡ map number (cond t (x ∷ xs) (insert (x ∷ xs) (suc j) d))
 further x d xs j true = refl
 further x d xs j false = refl
 
-at_first : (x d : DmNo) (xs : List DmNo) (t : Bool) → (x.0 == d.0) ≡ t → nat_lt x.0 d.0 ≡ false → insert_key nat_cmp (map number (x ∷ xs)) d.0 ≡ map number (cond t (x ∷ xs) (insert (x ∷ xs) 0 d))
+at_first : (x d : DmNo) (xs : List DmNo) (t : Bool) → (x.0 == d.0) ≡ t → nat_lt x.0 d.0 ≡ false
+    → insert_key nat_cmp (map number (x ∷ xs)) d.0 ≡ map number (cond t (x ∷ xs) (insert (x ∷ xs) 0 d))
 at_first x d xs true e f = rw (equal d.0 x.0 e) refl
 at_first x d xs false e f = rw (less d.0 x.0 f e) refl
 
@@ -72,11 +67,14 @@ at_or_further z x d xs i false o t e h =
     at_first x d xs (x.0 == d.0) refl t ∙ ap (λ k. map number (put_at z (x ∷ xs) k d)) (zero_is i e)
 at_or_further z x d xs i true None t e h = cc
 at_or_further z x d xs i true (Some j) t e h =
-    rw (greater d.0 x.0 t) (ap (λ l. x.0 ∷ l) (h j refl) ∙ further x d xs j ((get_or xs j z).0 == d.0) ∙ ap (λ (o : Option ℕ). map number (put_at z (x ∷ xs) (unwrap_or o 0) d)) e)
+    rw (greater d.0 x.0 t)
+    (ap (λ l. x.0 ∷ l) (h j refl) ∙ further x d xs j ((get_or xs j z).0 == d.0) ∙ ap (λ (o : Option ℕ). map number (put_at z (x ∷ xs) (unwrap_or o 0) d)) e)
 
-among : (z : DmNo) (xs : List DmNo) (d : DmNo) (i : ℕ) → position (reaches d.0) xs ≡ Some i → insert_key nat_cmp (map number xs) d.0 ≡ map number (put_at z xs i d)
+among : (z : DmNo) (xs : List DmNo) (d : DmNo) (i : ℕ) → position (reaches d.0) xs ≡ Some i
+    → insert_key nat_cmp (map number xs) d.0 ≡ map number (put_at z xs i d)
 among z [] d i e = cc
-among z (x ∷ xs) d i e = at_or_further z x d xs i (nat_lt x.0 d.0) (position (reaches d.0) xs) refl (sym (first_of_more (reaches d.0) x xs) ∙ e) (λ j f. among z xs d j f)
+among z (x ∷ xs) d i e =
+    at_or_further z x d xs i (nat_lt x.0 d.0) (position (reaches d.0) xs) refl (sym (first_of_more (reaches d.0) x xs) ∙ e) (λ j f. among z xs d j f)
 
 differs : (n k : ℕ) → (n ≡ k → ⊥) → (n == k) ≡ false
 differs n k e = grind (arith, nat_tests)
@@ -84,8 +82,12 @@ differs n k e = grind (arith, nat_tests)
 agrees : (n k : ℕ) → n ≡ k → (n == k) ≡ true
 agrees n k e = grind (arith, nat_tests)
 
-pub put_among : (xs : List DmNo) (d x : DmNo) (i : ℕ) → position (λ n. not (nat_lt n.0 d.0)) xs ≡ Some i → x ≡ get_or xs i x → (x.0 ≡ d.0 → ⊥) → insert_key nat_cmp (map (λ n. n.0) xs) d.0 ≡ map (λ n. n.0) (insert xs i d)
-put_among xs d x i e at other = among x xs d i e ∙ ap (λ t. map number (cond t xs (insert xs i d))) (ap (λ (y : DmNo). y.0 == d.0) (sym at) ∙ differs x.0 d.0 other)
+pub put_among : (xs : List DmNo) (d x : DmNo) (i : ℕ) → position (λ n. not (nat_lt n.0 d.0)) xs ≡ Some i → x ≡ get_or xs i x → (x.0 ≡ d.0 → ⊥)
+    → insert_key nat_cmp (map (λ n. n.0) xs) d.0 ≡ map (λ n. n.0) (insert xs i d)
+put_among xs d x i e at other =
+    among x xs d i e ∙ ap (λ t. map number (cond t xs (insert xs i d))) (ap (λ (y : DmNo). y.0 == d.0) (sym at) ∙ differs x.0 d.0 other)
 
-pub stands_among : (xs : List DmNo) (d x : DmNo) (i : ℕ) → position (λ n. not (nat_lt n.0 d.0)) xs ≡ Some i → x ≡ get_or xs i x → x.0 ≡ d.0 → insert_key nat_cmp (map (λ n. n.0) xs) d.0 ≡ map (λ n. n.0) xs
-stands_among xs d x i e at same = among x xs d i e ∙ ap (λ t. map number (cond t xs (insert xs i d))) (ap (λ (y : DmNo). y.0 == d.0) (sym at) ∙ agrees x.0 d.0 same)
+pub stands_among : (xs : List DmNo) (d x : DmNo) (i : ℕ) → position (λ n. not (nat_lt n.0 d.0)) xs ≡ Some i → x ≡ get_or xs i x → x.0 ≡ d.0
+    → insert_key nat_cmp (map (λ n. n.0) xs) d.0 ≡ map (λ n. n.0) xs
+stands_among xs d x i e at same =
+    among x xs d i e ∙ ap (λ t. map number (cond t xs (insert xs i d))) (ap (λ (y : DmNo). y.0 == d.0) (sym at) ∙ agrees x.0 d.0 same)

@@ -1,25 +1,10 @@
 -- The line of a class after each step: what it keeps, and that it is what the act makes of it.
-use Rattle.std.proofs.Common.{ℕ, suc, ◌<◌, ◌≡◌, refl, ap, sym, ◌∙◌, subst, arith, rules, ◌==◌, ◌||◌, Bool, true, false, not, cond, if◌then◌else◌, List, [], ◌∷◌, ◌++◌, length, map, filter, drop, get_or, Option, Some, None}
-use Rattle.std.specs.Prelude.{option_map, slice_set}
-use Rattle.std.specs.Cmp.{second_so}
-use Rattle.std.specs.List.{AllByRecursion}
-use Rattle.std.proofs.lemmas.Bool.{eqb-true}
-use Rattle.std.proofs.lemmas.Bool.Decides.{nat_tests}
-use Rattle.sdd_module.specs.wire.declared.msg.Msg.TheVariants as msgs
+use Rattle.sdd_attempt.proofs.All.{All-append, All-cons, All-head, All-nil, All-tail, AllByRecursion, AreAwaitedFrom, AreDistinct, Attempt, Bases, Bool, CarriesFew, Catalogue, D, Exchange, Fetching, Fits, IsAwaited, IsLine, IsRunning, IsWhole, List, Msg, None, Option, Over, Phase, Queued, Reading, Reducing, Running, RunsFirst, Shipping, Site, Some, T, Ticking, U, [], active_handed, active_of, after_hand, after_send, ap, arith, ascending, asks_rows, attempt_of, begins, bound_of, commit_next, cond, contains, drop, eqb-true, false, fetches_use, filter, fragments_in, get_or, handed_by, if◌then◌else◌, is_fetching, length, line_done, line_of, map, map-append, modules_of, nat_tests, neither, not, option_map, read_to, refl, rejects, rules, second_so, send_next, sends_of_act, slice_set, start_act, start_next, subst, suc, sym, tail_of, ticked, timestamp, tried, true, uses_of, ℕ, ◌++◌, ◌<◌, ◌==◌, ◌∙◌, ◌∷◌, ◌≡◌}
 use Rattle.sdd_attempt.proofs.Phases.{asks_stay}
-use Rattle.std.proofs.lemmas.List.{map-append}
-use Rattle.std.proofs.lemmas.List.Elements.{All-append, All-cons, All-head, All-nil, All-tail}
-use Rattle.sdd_module.specs.All.{Bases, Catalogue, D, Fits, IsWhole, Msg, Site, T, Ticking, U, ascending, bound_of, contains, fragments_in, sends_of_act, tail_of, ticked, timestamp, uses_of}
-use Rattle.sdd_module.specs.protocol.declared.entry.Entry as line
-use Rattle.sdd_attempt.specs.Acts.{start_act, modules_of, read_to}
 use Rattle.sdd_attempt.proofs.Uses.{few_modules, same_length, small_text}
-use Rattle.sdd_attempt.specs.Attempts.{Attempt, active_handed, asks_rows, rejects}
-use Rattle.sdd_attempt.specs.Exchange.{Exchange, Phase, Reading, Fetching, Reducing, Shipping, Over, after_hand, after_send, begins}
-use Rattle.sdd_attempt.specs.Lines.{AreAwaitedFrom, AreDistinct, IsAwaited, IsLine, IsRunning, Running, RunsFirst, active_of, attempt_of, commit_next, handed_by, line_done, line_of, send_next, start_next}
-use Rattle.sdd_attempt.specs.Queues.{Queued, tried}
-use Rattle.sdd_attempt.specs.Room.{CarriesFew, is_fetching}
-use Rattle.sdd_attempt.specs.Fits.{fetches_use}
 use Rattle.sdd_attempt.proofs.Room.{begins_room, handed_room, sent_room}
+use Rattle.sdd_module.specs.wire.declared.msg.Msg.TheVariants as msgs
+use Rattle.sdd_module.specs.protocol.declared.entry.Entry as line
 
 abbrev number_of : Queued → ℕ
 number_of q = q.number
@@ -29,12 +14,8 @@ number_of q = q.number
 pub itself : (n : ℕ) → (n == n) ≡ true
 itself n = search rules
 
-other_way : (m n : ℕ) → (m == n) ≡ false → (n == m) ≡ false
+pub other_way : (m n : ℕ) → (m == n) ≡ false → (n == m) ≡ false
 other_way m n e = grind (arith, nat_tests)
-
-neither : (a b : Bool) → (a || b) ≡ false → (a ≡ false) × (b ≡ false)
-neither true b e = cc
-neither false b e = (refl, e)
 
 contains_more : (ns : List ℕ) (n m : ℕ) → contains ns m ≡ false → (n == m) ≡ false → contains (ns ++ n ∷ []) m ≡ false
 contains_more [] n m e f = rw f refl
@@ -69,13 +50,15 @@ runs_more c queue q None h = tt
 runs_more c [] q (Some r) h = absurd h
 runs_more c (x ∷ queue) q (Some r) h = h
 
-pub submitted_line : (cat : Catalogue) (c : ℕ) (queue more : List Queued) (r : Option Running) (q : Queued) → IsLine cat c queue r → Fits cat q.text → contains (map number_of queue) q.number ≡ false
+pub submitted_line : (cat : Catalogue) (c : ℕ) (queue more : List Queued) (r : Option Running) (q : Queued) → IsLine cat c queue r → Fits cat q.text
+    → contains (map number_of queue) q.number ≡ false
     → more ≡ queue ++ q ∷ [] → IsLine cat c more r
 submitted_line cat c queue more r q line fits fresh e =
     subst (λ qs. IsLine cat c qs r) (sym e) (record {
       class = line.class;
       distinct = subst AreDistinct (sym (map-append number_of queue (q ∷ []))) (distinct_more (map number_of queue) q.number line.distinct fresh);
-      fits = All-append (λ (x : Queued). Fits cat x.text) queue (q ∷ []) line.fits (All-cons (λ (x : Queued). Fits cat x.text) q [] fits (All-nil (λ (x : Queued). Fits cat x.text)));
+      fits = All-append (λ (x : Queued). Fits cat x.text) queue (q ∷ []) line.fits
+          (All-cons (λ (x : Queued). Fits cat x.text) q [] fits (All-nil (λ (x : Queued). Fits cat x.text)));
       runs = runs_more c queue q r line.runs;
     })
 
@@ -98,13 +81,16 @@ sent_running c q r is = record {
   asks = sent_asks (λ (m : ℕ × Msg). asks_rows r.ts c m.1 ≡ true) r.exchange.to_send is.asks;
 }
 
-pub sent_line : (cat : Catalogue) (c : ℕ) (queue : List Queued) (r : Running) → IsLine cat c queue (Some r) → IsLine cat c queue (Some (record r { exchange = after_send r.exchange }))
+pub sent_line : (cat : Catalogue) (c : ℕ) (queue : List Queued) (r : Running) → IsLine cat c queue (Some r)
+    → IsLine cat c queue (Some (record r { exchange = after_send r.exchange }))
 sent_line cat c [] r line = absurd line.runs
 sent_line cat c (q ∷ queue) r line = record { class = line.class; distinct = line.distinct; fits = line.fits; runs = sent_running c q r line.runs }
 
-sends_by : (cat : Catalogue) (c : ℕ) (q : Queued) (queue : List Queued) (ts : ℕ) (x : Exchange) (ms : List (ℕ × Msg)) → AllByRecursion (λ m. asks_rows ts c m.1 ≡ true) ms
+sends_by : (cat : Catalogue) (c : ℕ) (q : Queued) (queue : List Queued) (ts : ℕ) (x : Exchange) (ms : List (ℕ × Msg))
+    → AllByRecursion (λ m. asks_rows ts c m.1 ≡ true) ms
     → line_of cat c (q ∷ queue) (Some (record { ts = ts; exchange = record x { to_send = tail_of ms } }))
-    ≡ line_done (send_next (Some (attempt_of q (record { ts = ts; exchange = record x { to_send = ms } })))) (line_of cat c (q ∷ queue) (Some (record { ts = ts; exchange = record x { to_send = ms } })))
+    ≡ line_done (send_next (Some (attempt_of q (record { ts = ts; exchange = record x { to_send = ms } }))))
+    (line_of cat c (q ∷ queue) (Some (record { ts = ts; exchange = record x { to_send = ms } })))
 sends_by cat c q queue ts x [] all = refl
 sends_by cat c q queue ts x (m ∷ ms) all = rw all.0 refl
 
@@ -115,7 +101,8 @@ sent_view cat c (q ∷ queue) r line = sends_by cat c q queue r.ts r.exchange r.
 
 -- hand
 
-handed_runs : (c : ℕ) (q : Queued) (queue : List Queued) (from : Site) (m : Msg) (r : Running) → IsRunning c q r → AreAwaitedFrom c from m r → CarriesFew m → RunsFirst c (q ∷ queue) (handed_by c from m r)
+handed_runs : (c : ℕ) (q : Queued) (queue : List Queued) (from : Site) (m : Msg) (r : Running) → IsRunning c q r → AreAwaitedFrom c from m r → CarriesFew m
+    → RunsFirst c (q ∷ queue) (handed_by c from m r)
 handed_runs c q queue U m r is awaited few = is
 handed_runs c q queue (T t) m r is awaited few = is
 handed_runs c q queue (D d) m r is awaited few =
@@ -124,15 +111,19 @@ handed_runs c q queue (D d) m r is awaited few =
       | false ↦ record { started = is.started; room = handed_room r.ts c d.0 m r.exchange is.room awaited few; asks = asks_stay r.ts c d.0 m r.exchange is.asks }
     ]
 
-pub handed_line : (cat : Catalogue) (c : ℕ) (queue : List Queued) (from : Site) (m : Msg) (r : Running) → IsLine cat c queue (Some r) → AreAwaitedFrom c from m r → CarriesFew m → IsLine cat c queue (handed_by c from m r)
+pub handed_line : (cat : Catalogue) (c : ℕ) (queue : List Queued) (from : Site) (m : Msg) (r : Running) → IsLine cat c queue (Some r)
+    → AreAwaitedFrom c from m r → CarriesFew m → IsLine cat c queue (handed_by c from m r)
 handed_line cat c [] from m r line awaited few = absurd line.runs
-handed_line cat c (q ∷ queue) from m r line awaited few = record { class = line.class; distinct = line.distinct; fits = line.fits; runs = handed_runs c q queue from m r line.runs awaited few }
+handed_line cat c (q ∷ queue) from m r line awaited few =
+    record { class = line.class; distinct = line.distinct; fits = line.fits; runs = handed_runs c q queue from m r line.runs awaited few }
 
-handed_active : (c : ℕ) (q : Queued) (from : Site) (m : Msg) (r : Running) → option_map (attempt_of q) (handed_by c from m r) ≡ active_handed c from m (Some (attempt_of q r))
+handed_active : (c : ℕ) (q : Queued) (from : Site) (m : Msg) (r : Running)
+    → option_map (attempt_of q) (handed_by c from m r) ≡ active_handed c from m (Some (attempt_of q r))
 handed_active c q U m r = refl
 handed_active c q (T t) m r = refl
 handed_active c q (D d) m r =
-    elim (rejects m r.ts c) as (λ b. option_map (attempt_of q) (if b then None else Some (record r { exchange = after_hand r.ts c d.0 m r.exchange })) ≡ (if b then None else Some (record (attempt_of q r) { exchange = after_hand r.ts c d.0 m r.exchange }))) [
+    elim (rejects m r.ts c) as
+    (λ b. option_map (attempt_of q) (if b then None else Some (record r { exchange = after_hand r.ts c d.0 m r.exchange })) ≡ (if b then None else Some (record (attempt_of q r) { exchange = after_hand r.ts c d.0 m r.exchange }))) [
       | true ↦ refl
       | false ↦ refl
     ]
@@ -153,10 +144,12 @@ fetches_is u Over e = cc
 awaited_by : (c : ℕ) (q : Queued) (from : Site) (m : Msg) (r : Running) → IsAwaited c from m (Some (attempt_of q r)) → AreAwaitedFrom c from m r
 awaited_by c q U m r h = tt
 awaited_by c q (T t) m r h = tt
-awaited_by c q (D d) (msgs.Values t k u vs) r h = λ own. let fits = h (eqb-true k.0 c (second_so (t.0 == r.ts) (k.0 == c) own)) in (fetches_is u r.exchange.phase fits.phase, fits.lacks)
+awaited_by c q (D d) (msgs.Values t k u vs) r h =
+    λ own. let fits = h (eqb-true k.0 c (second_so (t.0 == r.ts) (k.0 == c) own)) in (fetches_is u r.exchange.phase fits.phase, fits.lacks)
 awaited_by c q (D d) _ r h = tt
 
-pub awaited_line : (cat : Catalogue) (c : ℕ) (queue : List Queued) (from : Site) (m : Msg) (r : Running) → IsLine cat c queue (Some r) → IsAwaited c from m (active_of queue (Some r)) → AreAwaitedFrom c from m r
+pub awaited_line : (cat : Catalogue) (c : ℕ) (queue : List Queued) (from : Site) (m : Msg) (r : Running) → IsLine cat c queue (Some r)
+    → IsAwaited c from m (active_of queue (Some r)) → AreAwaitedFrom c from m r
 awaited_line cat c [] from m r line h = absurd line.runs
 awaited_line cat c (q ∷ queue) from m r line h = awaited_by c q from m r h
 
@@ -173,27 +166,33 @@ start_of cat c table clock q = record { ts = timestamp (ticked clock 1); exchang
 abbrev pub one_try : Queued → Queued
 one_try q = record q { tries = suc q.tries }
 
-begun_by : (cat : Catalogue) (c : ℕ) (table : List line.Entry) (clock : Ticking) (q : Queued) (queue : List Queued) (own mine : Bool) → own ≡ true → mine ≡ true → map (tried q.number) queue ≡ queue
+begun_by : (cat : Catalogue) (c : ℕ) (table : List line.Entry) (clock : Ticking) (q : Queued) (queue : List Queued) (own mine : Bool) → own ≡ true → mine ≡ true
+    → map (tried q.number) queue ≡ queue
     → line_of cat c (one_try q ∷ queue) (Some (start_of cat c table clock q))
     ≡ record {
       catalogue = cat;
       class = c;
       queue = if own then cond mine (one_try q) q ∷ map (tried q.number) queue else q ∷ queue;
-      active = if own then Some (record { txn = q.number; attempt = suc q.tries; ts = timestamp (ticked clock 1); text = q.text; exchange = begins q.text (sends_of_act (start_act cat table c clock q)) }) else None;
+      active = if own then Some
+          (record { txn = q.number; attempt = suc q.tries; ts = timestamp (ticked clock 1); text = q.text; exchange = begins q.text (sends_of_act (start_act cat table c clock q)) }) else None;
     }
 begun_by cat c table clock q queue true true e f same = rw same refl
 begun_by cat c table clock q queue true false e f same = cc
 begun_by cat c table clock q queue false mine e f same = cc
 
-pub begun_view : (cat : Catalogue) (c : ℕ) (table : List line.Entry) (clock : Ticking) (q : Queued) (queue : List Queued) → AreDistinct (map number_of (q ∷ queue))
+pub begun_view : (cat : Catalogue) (c : ℕ) (table : List line.Entry) (clock : Ticking) (q : Queued) (queue : List Queued)
+    → AreDistinct (map number_of (q ∷ queue))
     → line_of cat c (one_try q ∷ queue) (Some (start_of cat c table clock q)) ≡ line_done (start_next table clock (line_of cat c (q ∷ queue) None)) (line_of cat c (q ∷ queue) None)
-begun_view cat c table clock q queue distinct = begun_by cat c table clock q queue (c == c) (q.number == q.number) (itself c) (itself q.number) (untouched q.number queue distinct.0)
+begun_view cat c table clock q queue distinct =
+    begun_by cat c table clock q queue (c == c) (q.number == q.number) (itself c) (itself q.number) (untouched q.number queue distinct.0)
 
-pub begun_line : (cat : Catalogue) (c : ℕ) (table : List line.Entry) (clock : Ticking) (q : Queued) (queue : List Queued) → IsWhole cat → IsLine cat c (q ∷ queue) None → IsLine cat c (one_try q ∷ queue) (Some (start_of cat c table clock q))
+pub begun_line : (cat : Catalogue) (c : ℕ) (table : List line.Entry) (clock : Ticking) (q : Queued) (queue : List Queued) → IsWhole cat
+    → IsLine cat c (q ∷ queue) None → IsLine cat c (one_try q ∷ queue) (Some (start_of cat c table clock q))
 begun_line cat c table clock q queue whole line =
     let fits : Fits cat q.text = All-head (λ (x : Queued). Fits cat x.text) q queue line.fits in
     let small = small_text cat q.text fits in
-    let reads = same_length (read_to cat table c q (uses_of cat q.text) (timestamp (ticked clock 1)) (bound_of clock)) (modules_of cat c (ascending (fragments_in (uses_of cat q.text)))) in
+    let reads = same_length (read_to cat table c q (uses_of cat q.text) (timestamp (ticked clock 1)) (bound_of clock))
+    (modules_of cat c (ascending (fragments_in (uses_of cat q.text)))) in
     record {
       class = line.class;
       distinct = line.distinct;
@@ -219,7 +218,8 @@ none_active : (queue : List Queued) → active_of queue None ≡ None
 none_active [] = refl
 none_active (q ∷ queue) = refl
 
-ended_by : (cat : Catalogue) (c : ℕ) (q : Queued) (queue : List Queued) (a : Option Attempt) (own mine : Bool) → own ≡ true → mine ≡ true → filter (λ x. not (x.number == q.number)) queue ≡ queue
+ended_by : (cat : Catalogue) (c : ℕ) (q : Queued) (queue : List Queued) (a : Option Attempt) (own mine : Bool) → own ≡ true → mine ≡ true
+    → filter (λ x. not (x.number == q.number)) queue ≡ queue
     → line_of cat c queue None
     ≡ record {
       catalogue = cat;
@@ -233,7 +233,8 @@ ended_by cat c q queue a false mine e f same = cc
 
 pub ended_view : (cat : Catalogue) (c : ℕ) (q : Queued) (queue : List Queued) (r : Running) (bases : Bases) → AreDistinct (map number_of (q ∷ queue))
     → line_of cat c queue None ≡ line_done (commit_next bases (line_of cat c (q ∷ queue) (Some r))) (line_of cat c (q ∷ queue) (Some r))
-ended_view cat c q queue r bases distinct = ended_by cat c q queue (Some (attempt_of q r)) (c == c) (q.number == q.number) (itself c) (itself q.number) (all_kept q.number queue distinct.0)
+ended_view cat c q queue r bases distinct =
+    ended_by cat c q queue (Some (attempt_of q r)) (c == c) (q.number == q.number) (itself c) (itself q.number) (all_kept q.number queue distinct.0)
 
 -- the same of a queue whose first transaction the code has looked at
 
@@ -256,7 +257,8 @@ begun_seen cat c table clock (x ∷ queue) q new before r line some first e f id
     ∙ ap (λ a. line_done (start_next table clock (record (line_of cat c (x ∷ queue) None) { active = a })) (record (line_of cat c (x ∷ queue) None) { active = a })) (sym idle)
 
 pub ended_at : (cat : Catalogue) (c : ℕ) (queue rest : List Queued) (r : Option Running) → IsLine cat c queue r → rest ≡ drop 1 queue → IsLine cat c rest None
-ended_at cat c [] rest r line e = subst (λ qs. IsLine cat c qs None) (sym e) (record { class = line.class; distinct = line.distinct; fits = line.fits; runs = tt })
+ended_at cat c [] rest r line e =
+    subst (λ qs. IsLine cat c qs None) (sym e) (record { class = line.class; distinct = line.distinct; fits = line.fits; runs = tt })
 ended_at cat c (q ∷ queue) rest r line e = subst (λ qs. IsLine cat c qs None) (sym e) (ended_line cat c q queue r line)
 
 pub ended_seen : (cat : Catalogue) (c : ℕ) (queue rest : List Queued) (r : Running) (bases : Bases) → IsLine cat c queue (Some r) → rest ≡ drop 1 queue

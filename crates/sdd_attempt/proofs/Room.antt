@@ -1,23 +1,8 @@
 -- An exchange has room from its beginning to its end.
-use Rattle.std.proofs.Common.{ℕ, suc, ◌+◌, ◌*◌, ◌^◌, ◌<◌, ◌≤◌, ◌≡◌, refl, sym, subst, arith, suc-mul, ◌==◌, ◌&&◌, ◌||◌, Bool, true, false, not, cond, if◌then◌else◌, List, [], ◌∷◌, ◌++◌, length, length-append, Option, Some, None}
-use Rattle.std.specs.Prelude.{filter_map}
-use Rattle.std.specs.List.{All}
-use Rattle.std.specs.BTreeSet.{insert_key}
-use Rattle.std.specs.declared.cmp.Ordering.{Ordering}
-use Rattle.std.specs.declared.cmp.Ordering.TheVariants.{Less, Equal, Greater}
-use Rattle.std.specs.Ordering.{match_ordering}
-use Rattle.std.proofs.lemmas.List.Elements.{All-append, All-cons, All-head, All-nil, All-tail, All-weaker}
-use Rattle.std.proofs.lemmas.Nat.{mul-le}
-use Rattle.std.proofs.Math.Nat.{mul-le-mul_right}
-use Rattle.sdd_module.specs.All.{Condition, Const, Delete, Msg, Put, Query, Row, Same, Site, Stmt, Txn, Update, Value, contains, uses_in, value_cmp, with_values}
-use Rattle.sdd_module.specs.wire.declared.msg.Msg.TheVariants as msgs
-use Rattle.sdd_semijoin.specs.declared.step.Step.{Step}
-use Rattle.sdd_semijoin.specs.Steps.{Move, next_move}
-use Rattle.sdd_semijoin.proofs.Undone.{fewer_left, few_undone}
-use Rattle.sdd_attempt.specs.Exchange.{Asking, Exchange, Phase, Reading, Fetching, Reducing, Shipping, Over, without, counts_for, with_use, move_at, reduces, fetches, fetches_from, goes_on, phase_ends, lacking, answered, after_hand, after_send, counted, asking_of, askings, begins, first_phase, module_read}
+use Rattle.sdd_attempt.proofs.All.{All, All-append, All-cons, All-head, All-nil, All-tail, All-weaker, AreAwaited, AreSmall, Asking, Bool, CarriesFew, Condition, Const, Delete, Equal, Exchange, Fetching, Greater, HasRoom, HasUnion, IsSmallQuery, IsSmallStatement, IsSmallText, JoinsWithin, Less, List, Move, Msg, None, Option, Ordering, Over, Phase, Put, Query, Reading, Reducing, Row, Same, Shipping, Site, Some, Step, Stmt, Txn, Update, Value, [], after_hand, after_send, answered, arith, asking_of, askings, begins, cond, contains, counted, counts_for, false, fetches, fetches_from, few_undone, fewer_left, filter_map, first_phase, for_move, for_phase, for_reduce, goes_on, if◌then◌else◌, insert_key, is_fetching, lacking, length, length-append, match_ordering, module_read, most_values, move_at, moves_left, mul-le, mul-le-mul_right, next_move, not, phase_ends, reduces, refl, subst, suc, suc-mul, sym, true, uses_in, value_cmp, with_use, with_values, without, ℕ, ◌&&◌, ◌*◌, ◌++◌, ◌+◌, ◌<◌, ◌==◌, ◌^◌, ◌||◌, ◌∷◌, ◌≡◌, ◌≤◌}
 use Rattle.sdd_attempt.proofs.Going.{goes_by, goes_split}
 use Rattle.sdd_attempt.proofs.Lists.{few_filtered, few_picked}
-use Rattle.sdd_attempt.specs.Room.{AreSmall, IsSmallQuery, HasRoom, HasUnion, for_phase, for_move, for_reduce, most_values, moves_left, is_fetching, AreAwaited, CarriesFew, IsSmallStatement, IsSmallText, JoinsWithin}
+use Rattle.sdd_module.specs.wire.declared.msg.Msg.TheVariants as msgs
 
 -- lengths
 
@@ -35,7 +20,8 @@ fewer_without (n ∷ ns) d e =
       | false ↦ λ f. omega (arith, fewer_without ns d f)
     ] e
 
-put_by : (o : Ordering) (v x : Value) (xs ys : List Value) → length ys ≤ suc (length xs) → length (match_ordering o (v ∷ x ∷ xs) (x ∷ xs) (x ∷ ys)) ≤ suc (suc (length xs))
+put_by : (o : Ordering) (v x : Value) (xs ys : List Value) → length ys ≤ suc (length xs)
+    → length (match_ordering o (v ∷ x ∷ xs) (x ∷ xs) (x ∷ ys)) ≤ suc (suc (length xs))
 put_by Less v x xs ys h = omega arith
 put_by Equal v x xs ys h = omega arith
 put_by Greater v x xs ys h = omega (arith, h)
@@ -114,7 +100,8 @@ ends_room ts c x Reading e room = goes_room ts c x x.left x.done room.small room
 ends_room ts c x (Fetching m) e room =
     let values : x.values + for_phase (length x.lacks) (length x.modules) (Fetching m) + moves_left x.left x.done * for_move (length x.modules) < 2 ^ 128 =
     subst (λ p. x.values + for_phase (length x.lacks) (length x.modules) p + moves_left x.left x.done * for_move (length x.modules) < 2 ^ 128) e room.values in
-    let union : HasUnion (length x.union) (length x.lacks) (length x.modules) (Fetching m) = subst (HasUnion (length x.union) (length x.lacks) (length x.modules)) e room.union in
+    let union : HasUnion (length x.union) (length x.lacks) (length x.modules) (Fetching m) = subst
+    (HasUnion (length x.union) (length x.lacks) (length x.modules)) e room.union in
     reduces_room ts c m x (record { small = room.small; values = omega (arith, values); union = omega (arith, union); rows = room.rows })
 ends_room ts c x (Reducing m) e room = goes_room ts c x x.left x.done room.small room.rows (omega (arith, room.values))
 ends_room ts c x Shipping e room = record { small = room.small; values = omega (arith, room.values); union = tt; rows = room.rows }
@@ -153,14 +140,16 @@ answered_room ts c d x room =
     })
 
 -- the values that come have the room of the answer that lacked
-values_by : (values few lacks modules : ℕ) (p : Phase) → is_fetching p ≡ true → few < lacks → values < 2 ^ 64 → values + for_phase few modules p ≤ for_phase lacks modules p
+values_by : (values few lacks modules : ℕ) (p : Phase) → is_fetching p ≡ true → few < lacks → values < 2 ^ 64
+    → values + for_phase few modules p ≤ for_phase lacks modules p
 values_by values few lacks modules Reading e less small = cc
 values_by values few lacks modules (Fetching m) e less small = omega (arith, less, small)
 values_by values few lacks modules (Reducing m) e less small = cc
 values_by values few lacks modules Shipping e less small = cc
 values_by values few lacks modules Over e less small = cc
 
-united_by : (union all values few lacks modules : ℕ) (p : Phase) → is_fetching p ≡ true → few < lacks → values < 2 ^ 64 → all ≤ union + values → HasUnion union lacks modules p → HasUnion all few modules p
+united_by : (union all values few lacks modules : ℕ) (p : Phase) → is_fetching p ≡ true → few < lacks → values < 2 ^ 64 → all ≤ union + values
+    → HasUnion union lacks modules p → HasUnion all few modules p
 united_by union all values few lacks modules Reading e less small le h = cc
 united_by union all values few lacks modules (Fetching m) e less small le h = omega (arith, less, small, le, h)
 united_by union all values few lacks modules (Reducing m) e less small le h = cc
@@ -176,17 +165,20 @@ values_room ts c d vs x room fetching lacks few =
     (record {
       small = room.small;
       values = omega (arith, room.values, values_by (length vs) (length ds) (length x.lacks) (length x.modules) x.phase fetching less few);
-      union = united_by (length x.union) (length (with_values x.union vs)) (length vs) (length ds) (length x.lacks) (length x.modules) x.phase fetching less few (few_united x.union vs) room.union;
+      union = united_by (length x.union) (length (with_values x.union vs)) (length vs) (length ds) (length x.lacks) (length x.modules) x.phase fetching less few
+          (few_united x.union vs) room.union;
       rows = room.rows;
     })
 
-rows_room : (ts c d : ℕ) (rows : List (ℕ × Row)) (x : Exchange) → HasRoom x → HasRoom (answered ts c d (record x { found = x.found ++ rows; rows = x.rows + length rows }))
+rows_room : (ts c d : ℕ) (rows : List (ℕ × Row)) (x : Exchange) → HasRoom x
+    → HasRoom (answered ts c d (record x { found = x.found ++ rows; rows = x.rows + length rows }))
 rows_room ts c d rows x room =
     answered_room ts c d (record x { found = x.found ++ rows; rows = x.rows + length rows })
     (record { small = room.small; values = room.values; union = room.union; rows = omega (arith, room.rows, length-append x.found rows) })
 
 counts_room : (ts c d : ℕ) (counts : List ((ℕ × ℕ) × ℕ)) (x : Exchange) → HasRoom x → HasRoom (answered ts c d (record x { counts = counts }))
-counts_room ts c d counts x room = answered_room ts c d (record x { counts = counts }) (record { small = room.small; values = room.values; union = room.union; rows = room.rows })
+counts_room ts c d counts x room =
+    answered_room ts c d (record x { counts = counts }) (record { small = room.small; values = room.values; union = room.union; rows = room.rows })
 
 -- a message
 
@@ -195,9 +187,12 @@ where_own true x y room h = h refl
 where_own false x y room h = room
 
 pub handed_room : (ts c d : ℕ) (m : Msg) (x : Exchange) → HasRoom x → AreAwaited ts c d m x → CarriesFew m → HasRoom (after_hand ts c d m x)
-handed_room ts c d (msgs.Ready t k counts) x room awaited few = where_own ((t.0 == ts) && (k.0 == c)) x _ room (λ own. counts_room ts c d (counted d counts x.counts) x room)
-handed_room ts c d (msgs.Values t k u vs) x room awaited few = where_own ((t.0 == ts) && (k.0 == c)) x _ room (λ own. values_room ts c d vs x room (awaited own).0 (awaited own).1 few)
-handed_room ts c d (msgs.Reduced t k u n) x room awaited few = where_own ((t.0 == ts) && (k.0 == c)) x _ room (λ own. counts_room ts c d (counted d ((u, n) ∷ []) x.counts) x room)
+handed_room ts c d (msgs.Ready t k counts) x room awaited few =
+    where_own ((t.0 == ts) && (k.0 == c)) x _ room (λ own. counts_room ts c d (counted d counts x.counts) x room)
+handed_room ts c d (msgs.Values t k u vs) x room awaited few =
+    where_own ((t.0 == ts) && (k.0 == c)) x _ room (λ own. values_room ts c d vs x room (awaited own).0 (awaited own).1 few)
+handed_room ts c d (msgs.Reduced t k u n) x room awaited few =
+    where_own ((t.0 == ts) && (k.0 == c)) x _ room (λ own. counts_room ts c d (counted d ((u, n) ∷ []) x.counts) x room)
 handed_room ts c d (msgs.Rows t k rows) x room awaited few = where_own ((t.0 == ts) && (k.0 == c)) x _ room (λ own. rows_room ts c d rows x room)
 handed_room ts c d _ x room awaited few = room
 
@@ -210,7 +205,9 @@ joins_within before low (Same left right) h = (omega (arith, low, h.0), omega (a
 asking_small : (before : ℕ) (s : Stmt) → before + uses_in s ≤ 192 → before ≤ 186 → IsSmallStatement s → AreSmall (asking_of before s)
 asking_small before (Put rel row) few low small = All-nil IsSmallQuery
 asking_small before (Query out rels conds) few low small =
-    All-cons IsSmallQuery (record { before = before; uses = length rels; conds = conds }) [] (record { uses = few; conds = small.1; joins = All-weaker (JoinsWithin 0 6) (JoinsWithin before 192) (joins_within before low) conds small.2 }) (All-nil IsSmallQuery)
+    All-cons IsSmallQuery (record { before = before; uses = length rels; conds = conds }) []
+    (record { uses = few; conds = small.1; joins = All-weaker (JoinsWithin 0 6) (JoinsWithin before 192) (joins_within before low) conds small.2 })
+    (All-nil IsSmallQuery)
 asking_small before (Update rel sets conds) few low small = All-nil IsSmallQuery
 asking_small before (Delete rel conds) few low small = All-nil IsSmallQuery
 
@@ -225,7 +222,8 @@ askings_small before [] few all = All-nil IsSmallQuery
 askings_small before (s ∷ rest) few all =
     let small : IsSmallStatement s = All-head IsSmallStatement s rest all in
     let uses = few_uses s small in
-    All-append IsSmallQuery (asking_of before s) (askings (before + uses_in s) rest) (asking_small before s (omega (arith, few, uses)) (omega (arith, few)) small)
+    All-append IsSmallQuery (asking_of before s) (askings (before + uses_in s) rest)
+    (asking_small before s (omega (arith, few, uses)) (omega (arith, few)) small)
     (askings_small (before + uses_in s) rest (omega (arith, few, uses)) (All-tail IsSmallStatement s rest all))
 
 first_moves : (before : ℕ) (s : Stmt) (rest : List Asking) → IsSmallStatement s → moves_left (asking_of before s ++ rest) [] ≤ 32 + moves_left rest []
@@ -242,11 +240,14 @@ few_moves before (s ∷ rest) all =
 -- 32 statements make at most 1024 moves
 begins_values : (moves modules : ℕ) → moves ≤ 1024 → modules ≤ 65536 → moves * for_move modules < 2 ^ 128
 begins_values moves modules few low =
-    let reduce : most_values modules * modules ≤ (65536 * 2 ^ 64) * 65536 = mul-le (most_values modules) modules (65536 * 2 ^ 64) 65536 (omega (arith, low)) low in
-    let all : moves * for_move modules ≤ 1024 * (65536 * 2 ^ 64 + (65536 * 2 ^ 64) * 65536) = mul-le moves (for_move modules) 1024 (65536 * 2 ^ 64 + (65536 * 2 ^ 64) * 65536) few (omega (arith, low, reduce)) in
+    let reduce : most_values modules * modules ≤ (65536 * 2 ^ 64) * 65536 = mul-le (most_values modules) modules (65536 * 2 ^ 64) 65536
+    (omega (arith, low)) low in
+    let all : moves * for_move modules ≤ 1024 * (65536 * 2 ^ 64 + (65536 * 2 ^ 64) * 65536) = mul-le moves (for_move modules) 1024
+    (65536 * 2 ^ 64 + (65536 * 2 ^ 64) * 65536) few (omega (arith, low, reduce)) in
     omega (arith, all)
 
-begins_by : (text : Txn) (ms : List (ℕ × List ℕ)) (x : Exchange) → x.phase ≡ first_phase ms → AreSmall x.left → x.values + moves_left x.left x.done * for_move (length x.modules) < 2 ^ 128 → x.rows ≡ length x.found → HasRoom x
+begins_by : (text : Txn) (ms : List (ℕ × List ℕ)) (x : Exchange) → x.phase ≡ first_phase ms → AreSmall x.left
+    → x.values + moves_left x.left x.done * for_move (length x.modules) < 2 ^ 128 → x.rows ≡ length x.found → HasRoom x
 begins_by text [] x e small values rows =
     record { small = small; values = subst (λ p. x.values + for_phase (length x.lacks) (length x.modules) p + moves_left x.left x.done * for_move (length x.modules) < 2 ^ 128) (sym e) (omega (arith, values)); union = subst (HasUnion (length x.union) (length x.lacks) (length x.modules)) (sym e) tt; rows = rows }
 begins_by text (m ∷ ms) x e small values rows =

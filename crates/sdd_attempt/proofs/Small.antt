@@ -1,18 +1,10 @@
 -- Numbers of uses and conditions stay small.
-use Rattle.std.proofs.Common.{ℕ, ◌+◌, ◌≤◌, ◌≡◌, refl, subst, nat_lt, ◌==◌, Bool, true, false, cond, if◌then◌else◌, List, [], ◌∷◌, filter, Option, Some, None}
-use Rattle.std.specs.List.{All, flat_map}
-use Rattle.std.proofs.lemmas.List.Elements.{All-cons, All-filter, All-head, All-nil, All-tail}
-use Rattle.sdd_module.specs.All.{Condition, Const, Same}
-use Rattle.sdd_semijoin.specs.declared.step.Step.{Step}
-use Rattle.sdd_semijoin.specs.Steps.{Join, Move, joins_from, moves_by, moves, rows_at, is_candidate, better, fewest, next_move}
-use Rattle.sdd_attempt.specs.Exchange.{Asking}
-use Rattle.sdd_attempt.specs.Room.{JoinsWithin, IsSmallQuery, FitsMove}
-
-some_is : {A : Type 0} {a b : A} → Some a ≡ Some b → a ≡ b
-some_is e = cc
+use Rattle.sdd_attempt.proofs.All.{All, All-cons, All-filter, All-head, All-nil, All-tail, Asking, Bool, Condition, Const, FitsMove, IsSmallQuery, Join, JoinsWithin, List, Move, None, Option, Same, Some, Step, [], better, cond, false, fewest, filter, flat_map, if◌then◌else◌, is_candidate, joins_from, moves, moves_by, nat_lt, next_move, refl, rows_at, subst, true, ℕ, ◌+◌, ◌==◌, ◌∷◌, ◌≡◌, ◌≤◌}
+use Rattle.sdd_attempt.proofs.LineActs.{some_is}
 
 -- the move that is chosen is one of them
-chosen_by : (P : Move → Type 0) (counts : List ℕ) (x : Move) (o : Option Move) (m : Move) → P x → ((y : Move) → o ≡ Some y → P y) → better counts x o ≡ Some m → P m
+pub chosen_by : (P : Move → Type 0) (counts : List ℕ) (x : Move) (o : Option Move) (m : Move) → P x → ((y : Move) → o ≡ Some y → P y)
+    → better counts x o ≡ Some m → P m
 chosen_by P counts x None m p h e = subst P (some_is e) p
 chosen_by P counts x (Some y) m p h e =
     elim (nat_lt (rows_at counts y.source.part) (rows_at counts x.source.part)) as (λ t. cond t (Some y) (Some x) ≡ Some m → P m) [
@@ -22,10 +14,12 @@ chosen_by P counts x (Some y) m p h e =
 
 fewest_keeps : (P : Move → Type 0) (counts : List ℕ) (ms : List Move) (m : Move) → All P ms → fewest counts ms ≡ Some m → P m
 fewest_keeps P counts [] m all e = cc
-fewest_keeps P counts (x ∷ ms) m all e = chosen_by P counts x (fewest counts ms) m (All-head P x ms all) (λ y f. fewest_keeps P counts ms y (All-tail P x ms all) f) e
+fewest_keeps P counts (x ∷ ms) m all e =
+    chosen_by P counts x (fewest counts ms) m (All-head P x ms all) (λ y f. fewest_keeps P counts ms y (All-tail P x ms all) f) e
 
 -- moves between columns whose uses have room
-fit_by : (before : ℕ) (same : Bool) (j : Join) (rest : List Join) → before + j.left.part ≤ 192 → before + j.right.part ≤ 192 → All (FitsMove before) (flat_map moves_by rest) → All (FitsMove before) (flat_map moves_by (if same then rest else j ∷ rest))
+fit_by : (before : ℕ) (same : Bool) (j : Join) (rest : List Join) → before + j.left.part ≤ 192 → before + j.right.part ≤ 192
+    → All (FitsMove before) (flat_map moves_by rest) → All (FitsMove before) (flat_map moves_by (if same then rest else j ∷ rest))
 fit_by before true j rest l r all = all
 fit_by before false j rest l r all =
     let to_left : Move = record { step = record { cond = j.number; left = true }; source = j.right; target = j.left } in
@@ -43,4 +37,5 @@ fit_moves before k (Same left right ∷ rest) all =
 
 pub move_fits : (q : Asking) (counts : List ℕ) (steps : List Step) (m : Move) → IsSmallQuery q → next_move q.conds counts steps ≡ Some m → FitsMove q.before m
 move_fits q counts steps m small e =
-    fewest_keeps (FitsMove q.before) counts (filter (is_candidate counts steps) (moves q.conds)) m (All-filter (is_candidate counts steps) (FitsMove q.before) (moves q.conds) (fit_moves q.before 1 q.conds small.joins)) e
+    fewest_keeps (FitsMove q.before) counts (filter (is_candidate counts steps) (moves q.conds)) m
+    (All-filter (is_candidate counts steps) (FitsMove q.before) (moves q.conds) (fit_moves q.before 1 q.conds small.joins)) e

@@ -1,23 +1,14 @@
 -- The line of a class after each entry of the log of a site.
-use Rattle.std.proofs.Common.{ℕ, ◌<◌, ◌^◌, ◌≡◌, ◌≢◌, ◌==◌, true, false, ◌&&◌, ◌||◌, not, cond, List, [], ◌∷◌, ◌++◌, map, refl, ap, sym, ◌∙◌, subst, arith, Option, Some, None, is_some}
-use Rattle.std.specs.List.{AllByRecursion, cons_option, filter, filter_map, list_all}
-use Rattle.std.proofs.lemmas.Bool.{and_right, eq-eqb, ne_eqb, or_left, or_right, cond-true, cond-false, and_parts, eqb-true, false≢true}
-use Rattle.sdd_module.specs.All.{Act, Bases, Catalogue, Change, Commit, D, Did, Fetch, Fits, Force, Handed, Log, Msg, Rec, Records, Redeclared, Reduce, Sends, Setting, Ship, Site, Start, Submits, Ticked, Ticking, Txn, Use, Write, ascending, bound_of, class_no, contains, dm_no, effect, fragments_in, has_copy, head_of, in_force, is_empty, numbers_to, read_set, reads_at, sends_of_act, submits, ticked, time_at, timestamp, txn_no, uses_of}
-use Rattle.sdd_module.specs.protocol.declared.entry.Entry as line
-use Rattle.sdd_attempt.specs.Clocks.{clock}
-use Rattle.sdd_attempt.specs.Queues.{Queued, is_for, tried, queue, queue_after}
-use Rattle.sdd_attempt.specs.Exchange.{module_read, first_send, send_due}
-use Rattle.sdd_attempt.specs.Attempts.{Attempt, started, active, active_after, active_sent, asks_rows}
-use Rattle.sdd_attempt.specs.Acts.{modules_of, read_to, write_to, start_act, commit_act}
-use Rattle.sdd_attempt.specs.Fits.{sent, handed, is_read}
-use Rattle.sdd_attempt.specs.Sound.{IsQueue, IsOfHead, IsAsking, IsAskingAt, IsLineOf, AllUpTo, AreStamped, FitsAnswer}
+use Rattle.sdd_attempt.proofs.All.{Act, AllByRecursion, AllUpTo, AreStamped, Attempt, Bases, Catalogue, Change, Commit, D, Did, Fetch, Fits, FitsAnswer, Force, Handed, IsAsking, IsAskingAt, IsLineOf, IsOfHead, IsQueue, List, Log, Msg, None, Option, Queued, Rec, Records, Redeclared, Reduce, Sends, Setting, Ship, Site, Some, Start, Submits, Ticked, Ticking, Txn, Use, Write, [], active, active_after, active_sent, and_parts, and_right, ap, arith, ascending, asks_rows, bound_of, class_no, clock, commit_act, cond, cond-false, cond-true, cons_option, contains, dm_no, effect, eq-eqb, eqb-true, false, false≢true, filter, filter_map, first_send, fragments_in, handed, has_copy, head_of, in_force, is_empty, is_for, is_read, is_some, list_all, map, module_read, modules_of, ne_eqb, not, numbers_to, or_left, or_right, queue, queue_after, read_set, read_to, reads_at, refl, send_due, sends_of_act, sent, start_act, started, submits, subst, sym, ticked, time_at, timestamp, tried, true, txn_no, uses_of, write_to, ℕ, ◌&&◌, ◌++◌, ◌<◌, ◌==◌, ◌^◌, ◌||◌, ◌∙◌, ◌∷◌, ◌≡◌, ◌≢◌}
 use Rattle.sdd_attempt.proofs.Phases.{AllAsk}
 use Rattle.sdd_attempt.proofs.Asking.{NoReads, AreReads, asking_handed, asking_sends, asking_sent, asking_started}
 use Rattle.sdd_attempt.proofs.Waiting.{queue_did, queue_submitted, head_handed, head_submitted, head_sent, head_started}
+use Rattle.sdd_module.specs.protocol.declared.entry.Entry as line
 
 -- what is handed, given, or passes
 
-pub line_handed : (s : Setting) (bases : Bases) (c : ℕ) (log : Log) (from : Site) (m : Msg) → FitsAnswer s bases log from m → IsLineOf s c log → IsLineOf s c (Handed from m ∷ log)
+pub line_handed : (s : Setting) (bases : Bases) (c : ℕ) (log : Log) (from : Site) (m : Msg) → FitsAnswer s bases log from m → IsLineOf s c log
+    → IsLineOf s c (Handed from m ∷ log)
 line_handed s bases c log from m f h = record {
   in_queue = h.in_queue;
   of_head = head_handed c (queue s c log) from m (active s c log) h.of_head;
@@ -50,7 +41,8 @@ pub sent_apart : (c : ℕ) (m : Msg) (o : Option Attempt) → IsApart c m → ac
 sent_apart c m None h = refl
 sent_apart c m (Some a) h = cond-false (asks_rows a.ts c m) _ (Some a) (h.asks a.ts)
 
-pub line_apart : (s : Setting) (c : ℕ) (log : Log) (to : Site) (m : Msg) (hand : Option ℕ) → IsApart c m → IsLineOf s c log → IsLineOf s c (Did (Sends to m hand) ∷ log)
+pub line_apart : (s : Setting) (c : ℕ) (log : Log) (to : Site) (m : Msg) (hand : Option ℕ) → IsApart c m → IsLineOf s c log
+    → IsLineOf s c (Did (Sends to m hand) ∷ log)
 line_apart s c log to m hand apart h = record {
   in_queue = h.in_queue;
   of_head = head_sent c (queue s c log) m (active s c log) h.of_head;
@@ -64,11 +56,14 @@ other_class ts t k c h = and_right (t == ts) (k == c) (ne_eqb k c h)
 -- rows of one class are asked for by that class alone
 pub asks_apart : (ts k c : ℕ) (m : Msg) → asks_rows ts k m ≡ true → k ≢ c → IsApart c m
 asks_apart ts k c (Fetch t class u col) e h =
-    let same : class.0 ≡ k = eqb-true class.0 k (and_parts (t.0 == ts) (class.0 == k) e).1 in record { reads = λ r. refl; asks = λ r. other_class r t.0 class.0 c (λ q. h (sym same ∙ q)) }
+    let same : class.0 ≡ k = eqb-true class.0 k
+    (and_parts (t.0 == ts) (class.0 == k) e).1 in record { reads = λ r. refl; asks = λ r. other_class r t.0 class.0 c (λ q. h (sym same ∙ q)) }
 asks_apart ts k c (Reduce t class u col values) e h =
-    let same : class.0 ≡ k = eqb-true class.0 k (and_parts (t.0 == ts) (class.0 == k) e).1 in record { reads = λ r. refl; asks = λ r. other_class r t.0 class.0 c (λ q. h (sym same ∙ q)) }
+    let same : class.0 ≡ k = eqb-true class.0 k
+    (and_parts (t.0 == ts) (class.0 == k) e).1 in record { reads = λ r. refl; asks = λ r. other_class r t.0 class.0 c (λ q. h (sym same ∙ q)) }
 asks_apart ts k c (Ship t class) e h =
-    let same : class.0 ≡ k = eqb-true class.0 k (and_parts (t.0 == ts) (class.0 == k) e).1 in record { reads = λ r. refl; asks = λ r. other_class r t.0 class.0 c (λ q. h (sym same ∙ q)) }
+    let same : class.0 ≡ k = eqb-true class.0 k
+    (and_parts (t.0 == ts) (class.0 == k) e).1 in record { reads = λ r. refl; asks = λ r. other_class r t.0 class.0 c (λ q. h (sym same ∙ q)) }
 asks_apart ts k c _ e h = absurd (false≢true e)
 
 -- the records of another class
@@ -83,19 +78,24 @@ active_apart c k (Start txn attempt class ts p2 uses) sends qs o h = cond-false 
 active_apart c k (Commit txn attempt reply changes values rows) sends qs o h = cond-false (k == c) None o (ne_eqb k c h)
 active_apart c k _ sends qs o h = refl
 
-pub line_elsewhere : (s : Setting) (c k : ℕ) (log : Log) (r : Rec) (sends : List (Site × Msg)) → k ≢ c → ((ts : ℕ) → NoReads ts c sends) → IsLineOf s c log → IsLineOf s c (Did (Records k r sends) ∷ log)
+pub line_elsewhere : (s : Setting) (c k : ℕ) (log : Log) (r : Rec) (sends : List (Site × Msg)) → k ≢ c → ((ts : ℕ) → NoReads ts c sends) → IsLineOf s c log
+    → IsLineOf s c (Did (Records k r sends) ∷ log)
 line_elsewhere s c k log r sends apart none h =
     let same_queue : queue_after c (Records k r sends) (queue s c log) ≡ queue s c log = queue_apart c k r sends (queue s c log) apart in
-    let same_active : active_after c (Records k r sends) (queue s c log) (active s c log) ≡ active s c log = active_apart c k r sends (queue s c log) (active s c log) apart in
+    let same_active : active_after c (Records k r sends) (queue s c log) (active s c log) ≡ active s c log = active_apart c k r sends (queue s c log)
+    (active s c log) apart in
     record {
       in_queue = subst (IsQueue s.catalogue c (submits log)) (sym same_queue) h.in_queue;
-      of_head = subst (λ q. IsOfHead q (active_after c (Records k r sends) (queue s c log) (active s c log))) (sym same_queue) (subst (IsOfHead (queue s c log)) (sym same_active) h.of_head);
-      asking = subst (IsAskingAt c (sends ++ sent log) (handed log)) (sym same_active) (asking_sends c sends (sent log) (handed log) (active s c log) none h.asking);
+      of_head = subst (λ q. IsOfHead q (active_after c (Records k r sends) (queue s c log) (active s c log))) (sym same_queue)
+          (subst (IsOfHead (queue s c log)) (sym same_active) h.of_head);
+      asking = subst (IsAskingAt c (sends ++ sent log) (handed log)) (sym same_active)
+          (asking_sends c sends (sent log) (handed log) (active s c log) none h.asking);
     }
 
 -- the next message of the exchange
 
-send_is : (ms : List (ℕ × Msg)) (act : Act) → first_send ms ≡ Some act → (m : ℕ × Msg) × (rest : List (ℕ × Msg)) × (ms ≡ m ∷ rest) × (act ≡ Sends (D (dm_no m.0)) m.1 None)
+send_is : (ms : List (ℕ × Msg)) (act : Act) → first_send ms ≡ Some act
+    → (m : ℕ × Msg) × (rest : List (ℕ × Msg)) × (ms ≡ m ∷ rest) × (act ≡ Sends (D (dm_no m.0)) m.1 None)
 send_is [] act e = absurd cc
 send_is (m ∷ rest) act e = (m, rest, refl, cc)
 
@@ -106,13 +106,15 @@ pub record IsRequest (c : ℕ) (a : Attempt) (act : Act) : Type 0 where
   pub act_is : act ≡ Sends (D (dm_no to)) msg None
   pub asks : asks_rows a.ts c msg ≡ true
 
-pub request_of : (c : ℕ) (sent handed : List (Site × Msg)) (a : Attempt) (act : Act) → IsAsking c sent handed a → send_due a.exchange ≡ Some act → IsRequest c a act
+pub request_of : (c : ℕ) (sent handed : List (Site × Msg)) (a : Attempt) (act : Act) → IsAsking c sent handed a → send_due a.exchange ≡ Some act
+    → IsRequest c a act
 request_of c sent handed a act h e =
     let o = send_is a.exchange.to_send act e in
     let all : AllAsk a.ts c (o.0 ∷ o.1) = subst (AllAsk a.ts c) o.2 h.asks in
     record { to = o.0.0; msg = o.0.1; act_is = o.3; asks = all.0 }
 
-line_requests : (s : Setting) (c : ℕ) (log : Log) (act : Act) (o : Option Attempt) (a : Attempt) → active s c log ≡ o → o ≡ Some a → send_due a.exchange ≡ Some act → IsLineOf s c log → IsLineOf s c (Did act ∷ log)
+line_requests : (s : Setting) (c : ℕ) (log : Log) (act : Act) (o : Option Attempt) (a : Attempt) → active s c log ≡ o → o ≡ Some a
+    → send_due a.exchange ≡ Some act → IsLineOf s c log → IsLineOf s c (Did act ∷ log)
 line_requests s c log act o a is here e h =
     let p = send_is a.exchange.to_send act e in
     let m = p.0 in
@@ -121,20 +123,24 @@ line_requests s c log act o a is here e h =
     (record {
       in_queue = h.in_queue;
       of_head = head_sent c (queue s c log) m.1 (active s c log) h.of_head;
-      asking = subst (λ x. IsAskingAt c ((D (dm_no m.0), m.1) ∷ sent log) (handed log) (active_sent c m.1 x)) (sym (is ∙ here)) (asking_sent c (sent log) (handed log) a (D (dm_no m.0)) m p.1 p.2 own);
+      asking = subst (λ x. IsAskingAt c ((D (dm_no m.0), m.1) ∷ sent log) (handed log) (active_sent c m.1 x)) (sym (is ∙ here))
+          (asking_sent c (sent log) (handed log) a (D (dm_no m.0)) m p.1 p.2 own);
     })
 
-pub line_sent : (s : Setting) (c : ℕ) (log : Log) (act : Act) (a : Attempt) → active s c log ≡ Some a → send_due a.exchange ≡ Some act → IsLineOf s c log → IsLineOf s c (Did act ∷ log)
+pub line_sent : (s : Setting) (c : ℕ) (log : Log) (act : Act) (a : Attempt) → active s c log ≡ Some a → send_due a.exchange ≡ Some act → IsLineOf s c log
+    → IsLineOf s c (Did act ∷ log)
 line_sent s c log act a is e h = line_requests s c log act (active s c log) a refl is e h
 
 -- the Commit
 
-writes_no_reads : (cat : Catalogue) (c : ℕ) (a : Attempt) (changes : List Change) (ts k : ℕ) (ds : List ℕ) → NoReads ts k (filter_map (write_to cat c a changes) ds)
+writes_no_reads : (cat : Catalogue) (c : ℕ) (a : Attempt) (changes : List Change) (ts k : ℕ) (ds : List ℕ)
+    → NoReads ts k (filter_map (write_to cat c a changes) ds)
 writes_no_reads cat c a changes ts k [] = tt
 writes_no_reads cat c a changes ts k (d ∷ ds) =
     let rest = writes_no_reads cat c a changes ts k ds in
     let here : List Change = filter (λ x. has_copy cat d x.frag.0) changes in
-    elim (not (is_empty here) || (c == 0)) as (λ b. NoReads ts k (cons_option (cond b (Some (D (dm_no d), Write (time_at a.ts) (class_no c) (txn_no a.txn) here)) None) (filter_map (write_to cat c a changes) ds))) [
+    elim (not (is_empty here) || (c == 0)) as
+    (λ b. NoReads ts k (cons_option (cond b (Some (D (dm_no d), Write (time_at a.ts) (class_no c) (txn_no a.txn) here)) None) (filter_map (write_to cat c a changes) ds))) [
       | true ↦ (refl, rest)
       | false ↦ rest
     ]
@@ -142,10 +148,11 @@ writes_no_reads cat c a changes ts k (d ∷ ds) =
 pub commit_no_reads : (cat : Catalogue) (bases : Bases) (c : ℕ) (a : Attempt) (ts k : ℕ) → NoReads ts k (sends_of_act (commit_act cat bases c a))
 commit_no_reads cat bases c a ts k = writes_no_reads cat c a (effect cat (bases a.ts) a.text).changes ts k (numbers_to cat.dms)
 
-own_class : {A : Type 0} (c : ℕ) (x y : A) → cond (c == c) x y ≡ x
+pub own_class : {A : Type 0} (c : ℕ) (x y : A) → cond (c == c) x y ≡ x
 own_class c x y = cond-true (c == c) x y (eq-eqb c c refl)
 
-pub line_committed : (s : Setting) (bases : Bases) (c : ℕ) (log : Log) (a : Attempt) → IsLineOf s c log → IsLineOf s c (Did (commit_act s.catalogue bases c a) ∷ log)
+pub line_committed : (s : Setting) (bases : Bases) (c : ℕ) (log : Log) (a : Attempt) → IsLineOf s c log
+    → IsLineOf s c (Did (commit_act s.catalogue bases c a) ∷ log)
 line_committed s bases c log a h =
     let act : Act = commit_act s.catalogue bases c a in
     let none : active_after c act (queue s c log) (active s c log) ≡ None = own_class c None (active s c log) in
@@ -185,18 +192,21 @@ each_in : (ds : List ℕ) → AllByRecursion (λ d. contains ds d ≡ true) ds
 each_in [] = tt
 each_in (d ∷ ds) = (or_left (d == d) (contains ds d) (eq-eqb d d refl), in_more d ds ds (each_in ds))
 
-pub start_no_reads : (cat : Catalogue) (table : List line.Entry) (c : ℕ) (k : Ticking) (q : Queued) (ts other : ℕ) → c ≢ other → NoReads ts other (sends_of_act (start_act cat table c k q))
+pub start_no_reads : (cat : Catalogue) (table : List line.Entry) (c : ℕ) (k : Ticking) (q : Queued) (ts other : ℕ) → c ≢ other
+    → NoReads ts other (sends_of_act (start_act cat table c k q))
 start_no_reads cat table c k q ts other h =
     let uses : List Use = uses_of cat q.text in
     reads_of_class cat table c q uses (timestamp (ticked k 1)) (bound_of k) ts other (modules_of cat c (ascending (fragments_in uses))) h
 
-pub start_is_up : (cat : Catalogue) (table : List line.Entry) (c : ℕ) (k : Ticking) (q : Queued) → AllUpTo (timestamp (ticked k 1)) (sends_of_act (start_act cat table c k q))
+pub start_is_up : (cat : Catalogue) (table : List line.Entry) (c : ℕ) (k : Ticking) (q : Queued)
+    → AllUpTo (timestamp (ticked k 1)) (sends_of_act (start_act cat table c k q))
 start_is_up cat table c k q =
     let uses : List Use = uses_of cat q.text in
     reads_up cat table c q uses (timestamp (ticked k 1)) (bound_of k) (modules_of cat c (ascending (fragments_in uses)))
 
 -- the modules to which it sends READs
-pub start_modules : (cat : Catalogue) (table : List line.Entry) (c : ℕ) (k : Ticking) (q : Queued) → map (λ (m : ℕ × List ℕ). m.0) (filter_map module_read (sends_of_act (start_act cat table c k q))) ≡ modules_of cat c (ascending (fragments_in (uses_of cat q.text)))
+pub start_modules : (cat : Catalogue) (table : List line.Entry) (c : ℕ) (k : Ticking) (q : Queued)
+    → map (λ (m : ℕ × List ℕ). m.0) (filter_map module_read (sends_of_act (start_act cat table c k q))) ≡ modules_of cat c (ascending (fragments_in (uses_of cat q.text)))
 start_modules cat table c k q =
     let uses : List Use = uses_of cat q.text in
     modules_read cat table c q uses (timestamp (ticked k 1)) (bound_of k) (modules_of cat c (ascending (fragments_in uses)))
@@ -214,16 +224,21 @@ start_asking cat table c k q sent handed early =
     asking_started (timestamp k) own c q reads sent handed (ticks_on k) early
     (subst (AreReads reads) (sym (modules_read cat table c q uses own (bound_of k) ds)) (are_reads cat table c q uses own (bound_of k) ds ds (each_in ds)))
 
-pub line_started : (s : Setting) (table : List line.Entry) (c : ℕ) (log : Log) (q : Queued) (rest : List Queued) → queue s c log ≡ q ∷ rest → AreStamped s log → IsLineOf s c log
+pub line_started : (s : Setting) (table : List line.Entry) (c : ℕ) (log : Log) (q : Queued) (rest : List Queued) → queue s c log ≡ q ∷ rest → AreStamped s log
+    → IsLineOf s c log
     → IsLineOf s c (Did (start_act s.catalogue table c (clock s.site log) q) ∷ log)
 line_started s table c log q rest is stamped h =
     let act : Act = start_act s.catalogue table c (clock s.site log) q in
     let own : ℕ = timestamp (ticked (clock s.site log) 1) in
     let begun : Option Attempt = started own (sends_of_act act) (Some q) in
-    let now : active_after c act (queue s c log) (active s c log) ≡ begun = own_class c (started own (sends_of_act act) (head_of (queue s c log))) (active s c log) ∙ ap (λ qs. started own (sends_of_act act) (head_of qs)) is in
-    let tried_on : queue_after c act (queue s c log) ≡ map (tried q.number) (q ∷ rest) = own_class c (map (tried q.number) (queue s c log)) (queue s c log) ∙ ap (map (tried q.number)) is in
+    let now : active_after c act (queue s c log) (active s c log) ≡ begun = own_class c (started own (sends_of_act act) (head_of (queue s c log)))
+    (active s c log) ∙ ap (λ qs. started own (sends_of_act act) (head_of qs)) is in
+    let tried_on : queue_after c act (queue s c log) ≡ map (tried q.number) (q ∷ rest) = own_class c (map (tried q.number) (queue s c log)) (queue s c log)
+    ∙ ap (map (tried q.number)) is in
     record {
       in_queue = queue_did s.catalogue c (submits log) act (queue s c log) h.in_queue;
-      of_head = subst (λ qs. IsOfHead qs (active_after c act (queue s c log) (active s c log))) (sym tried_on) (subst (IsOfHead (map (tried q.number) (q ∷ rest))) (sym now) (head_started own (sends_of_act act) q rest));
-      asking = subst (IsAskingAt c (sends_of_act act ++ sent log) (handed log)) (sym now) (start_asking s.catalogue table c (clock s.site log) q (sent log) (handed log) stamped);
+      of_head = subst (λ qs. IsOfHead qs (active_after c act (queue s c log) (active s c log))) (sym tried_on)
+          (subst (IsOfHead (map (tried q.number) (q ∷ rest))) (sym now) (head_started own (sends_of_act act) q rest));
+      asking = subst (IsAskingAt c (sends_of_act act ++ sent log) (handed log)) (sym now)
+          (start_asking s.catalogue table c (clock s.site log) q (sent log) (handed log) stamped);
     }

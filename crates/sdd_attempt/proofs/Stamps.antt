@@ -1,10 +1,5 @@
 -- The clock of a site only goes on, so no READ that it sent has a time that is still to come.
-use Rattle.std.proofs.Common.{ℕ, ◌<◌, ◌≤◌, ◌≡◌, ◌==◌, false, List, [], ◌∷◌, ◌++◌, refl, sym, subst, arith}
-use Rattle.std.proofs.lemmas.Bool.{ne_eqb, and_left}
-use Rattle.sdd_module.specs.All.{Act, Ask, Did, Entry, Handed, Held, Log, Msg, Read, Rec, Records, Redeclared, Reject, Release, Sends, Setting, Site, Start, Submits, Ticked, Ticking, pushed, sends_of_act, timestamp}
-use Rattle.sdd_attempt.specs.Clocks.{clock, pushed_by, ticked_by}
-use Rattle.sdd_attempt.specs.Fits.{sent, is_read}
-use Rattle.sdd_attempt.specs.Sound.{IsUpTo, AllUpTo, AreStamped}
+use Rattle.sdd_attempt.proofs.All.{Act, AllUpTo, AreStamped, Ask, Did, Entry, Handed, Held, IsUpTo, List, Log, Msg, Read, Rec, Records, Redeclared, Reject, Release, Sends, Setting, Site, Start, Submits, Ticked, Ticking, [], and_left, arith, clock, false, is_read, ne_eqb, pushed, pushed_by, refl, sends_of_act, sent, subst, sym, ticked_by, timestamp, ℕ, ◌++◌, ◌<◌, ◌==◌, ◌∷◌, ◌≡◌, ◌≤◌}
 
 -- the clock
 
@@ -61,7 +56,8 @@ pub no_read : (t ts c : ℕ) (m : Msg) → t < ts → IsUpTo t m → is_read ts 
 no_read t ts c (Read r class txn attempt conds uses) l h = and_left (r.0 == ts) (class.0 == c) (ne_eqb r.0 ts (λ e. absurd (omega arith)))
 no_read t ts c _ l h = refl
 
-pub stamped_did : (s : Setting) (log : Log) (act : Act) → AreStamped s log → AllUpTo (timestamp (clock s.site (Did act ∷ log))) (sends_of_act act) → AreStamped s (Did act ∷ log)
+pub stamped_did : (s : Setting) (log : Log) (act : Act) → AreStamped s log → AllUpTo (timestamp (clock s.site (Did act ∷ log))) (sends_of_act act)
+    → AreStamped s (Did act ∷ log)
 stamped_did s log act st h =
     let now : ℕ = timestamp (clock s.site log) in
     let next : ℕ = timestamp (clock s.site (Did act ∷ log)) in

@@ -1,11 +1,5 @@
 -- Each try of a transaction was a Start, which took a tick of the clock.
-use Rattle.std.proofs.Common.{ℕ, suc, ◌+◌, ◌≤◌, ◌==◌, Bool, true, false, not, cond, List, [], ◌∷◌, ◌++◌, map, arith}
-use Rattle.std.specs.List.{filter}
-use Rattle.std.proofs.lemmas.List.Elements.{All-nil, All-push, All-map, All-filter, All-weaker}
-use Rattle.sdd_module.specs.All.{Commit, Did, Handed, Log, Msg, Rec, Records, Redeclared, Sends, Setting, Site, Start, Submits, Ticked, in_force}
-use Rattle.sdd_attempt.specs.Clocks.{clock, ticked_by}
-use Rattle.sdd_attempt.specs.Queues.{Queued, queue, is_for, tried, queue_after}
-use Rattle.sdd_attempt.specs.Lines.{AreTried}
+use Rattle.sdd_attempt.proofs.All.{All-filter, All-map, All-nil, All-push, All-weaker, AreTried, Bool, Commit, Did, Handed, List, Log, Msg, Queued, Rec, Records, Redeclared, Sends, Setting, Site, Start, Submits, Ticked, [], arith, clock, cond, false, filter, in_force, is_for, map, not, queue, queue_after, suc, ticked_by, tried, true, ℕ, ◌++◌, ◌+◌, ◌==◌, ◌∷◌, ◌≤◌}
 use Rattle.sdd_attempt.proofs.Stamps.{no_sooner}
 
 pub tried_later : (n m : ℕ) (qs : List Queued) → AreTried n qs → n ≤ m → AreTried m qs
@@ -18,27 +12,38 @@ if_tried : (n : ℕ) (b : Bool) (xs ys : List Queued) → AreTried n xs → AreT
 if_tried n true xs ys h k = h
 if_tried n false xs ys h k = k
 
-started : (n c k : ℕ) (r : Rec) (sends : List (Site × Msg)) (clk : ℕ) (qs : List Queued) → AreTried clk qs → clk ≤ n → AreTried (suc clk) (queue_after c (Records k r sends) qs)
+started : (n c k : ℕ) (r : Rec) (sends : List (Site × Msg)) (clk : ℕ) (qs : List Queued) → AreTried clk qs → clk ≤ n
+    → AreTried (suc clk) (queue_after c (Records k r sends) qs)
 started n c k (Start txn attempt class ts p2 uses) sends clk qs h l =
-    if_tried (suc clk) (k == c) (map (tried txn.0) qs) qs (All-map (λ (q : Queued). q.tries ≤ suc clk) (tried txn.0) qs (All-weaker (λ (q : Queued). q.tries ≤ clk) (λ (q : Queued). (tried txn.0 q).tries ≤ suc clk) (λ q e. one_more clk txn.0 q e) qs h)) (tried_later clk (suc clk) qs h (omega arith))
+    if_tried (suc clk) (k == c) (map (tried txn.0) qs) qs
+    (All-map (λ (q : Queued). q.tries ≤ suc clk) (tried txn.0) qs (All-weaker (λ (q : Queued). q.tries ≤ clk) (λ (q : Queued). (tried txn.0 q).tries ≤ suc clk) (λ q e. one_more clk txn.0 q e) qs h)) (tried_later clk (suc clk) qs h (omega arith))
 started n c k (Commit txn attempt reply changes values rows) sends clk qs h l =
-    if_tried (suc clk) (k == c) (filter (λ q. not (q.number == txn.0)) qs) qs (All-filter (λ q. not (q.number == txn.0)) (λ (q : Queued). q.tries ≤ suc clk) qs (tried_later clk (suc clk) qs h (omega arith))) (tried_later clk (suc clk) qs h (omega arith))
+    if_tried (suc clk) (k == c) (filter (λ q. not (q.number == txn.0)) qs) qs
+    (All-filter (λ q. not (q.number == txn.0)) (λ (q : Queued). q.tries ≤ suc clk) qs (tried_later clk (suc clk) qs h (omega arith)))
+    (tried_later clk (suc clk) qs h (omega arith))
 started n c k _ sends clk qs h l = tried_later clk (suc clk) qs h (omega arith)
 
-kept : (c k : ℕ) (r : Rec) (sends : List (Site × Msg)) (s : Setting) (log : Log) → AreTried (clock s.site log).ticks (queue s c log) → AreTried (ticked_by (Records k r sends) (clock s.site log)).ticks (queue_after c (Records k r sends) (queue s c log))
+kept : (c k : ℕ) (r : Rec) (sends : List (Site × Msg)) (s : Setting) (log : Log) → AreTried (clock s.site log).ticks (queue s c log)
+    → AreTried (ticked_by (Records k r sends) (clock s.site log)).ticks (queue_after c (Records k r sends) (queue s c log))
 kept c k (Start txn attempt class ts p2 uses) sends s log h =
-    tried_later (suc (clock s.site log).ticks) ((clock s.site log).ticks + 1) _ (started (clock s.site log).ticks c k (Start txn attempt class ts p2 uses) sends (clock s.site log).ticks (queue s c log) h (omega arith)) (omega arith)
+    tried_later (suc (clock s.site log).ticks) ((clock s.site log).ticks + 1) _
+    (started (clock s.site log).ticks c k (Start txn attempt class ts p2 uses) sends (clock s.site log).ticks (queue s c log) h (omega arith)) (omega arith)
 kept c k (Commit txn attempt reply changes values rows) sends s log h =
-    if_tried (clock s.site log).ticks (k == c) (filter (λ q. not (q.number == txn.0)) (queue s c log)) (queue s c log) (All-filter (λ q. not (q.number == txn.0)) (λ (q : Queued). q.tries ≤ (clock s.site log).ticks) (queue s c log) h) h
+    if_tried (clock s.site log).ticks (k == c) (filter (λ q. not (q.number == txn.0)) (queue s c log)) (queue s c log)
+    (All-filter (λ q. not (q.number == txn.0)) (λ (q : Queued). q.tries ≤ (clock s.site log).ticks) (queue s c log) h) h
 kept c k _ sends s log h = h
 
 pub tries_told : (s : Setting) (c : ℕ) (log : Log) → AreTried (clock s.site log).ticks (queue s c log)
 tries_told s c [] = All-nil (λ (q : Queued). q.tries ≤ 0)
-tries_told s c (Handed from m ∷ log) = tried_later (clock s.site log).ticks (clock s.site (Handed from m ∷ log)).ticks (queue s c log) (tries_told s c log) (no_sooner s.site (Handed from m) log).0
-tries_told s c (Ticked n ∷ log) = tried_later (clock s.site log).ticks (clock s.site (Ticked n ∷ log)).ticks (queue s c log) (tries_told s c log) (no_sooner s.site (Ticked n) log).0
-tries_told s c (Redeclared force t ∷ log) = tried_later (clock s.site log).ticks (clock s.site (Redeclared force t ∷ log)).ticks (queue s c log) (tries_told s c log) (no_sooner s.site (Redeclared force t) log).0
+tries_told s c (Handed from m ∷ log) =
+    tried_later (clock s.site log).ticks (clock s.site (Handed from m ∷ log)).ticks (queue s c log) (tries_told s c log) (no_sooner s.site (Handed from m) log).0
+tries_told s c (Ticked n ∷ log) =
+    tried_later (clock s.site log).ticks (clock s.site (Ticked n ∷ log)).ticks (queue s c log) (tries_told s c log) (no_sooner s.site (Ticked n) log).0
+tries_told s c (Redeclared force t ∷ log) =
+    tried_later (clock s.site log).ticks (clock s.site (Redeclared force t ∷ log)).ticks (queue s c log) (tries_told s c log) (no_sooner s.site (Redeclared force t) log).0
 tries_told s c (Submits n txn ∷ log) =
-    if_tried (clock s.site log).ticks (is_for c (in_force s log).catalogue txn) (queue s c log ++ record { number = n; text = txn; tries = 0 } ∷ []) (queue s c log)
+    if_tried (clock s.site log).ticks (is_for c (in_force s log).catalogue txn) (queue s c log ++ record { number = n; text = txn; tries = 0 } ∷ [])
+    (queue s c log)
     (All-push (λ (q : Queued). q.tries ≤ (clock s.site log).ticks) (queue s c log) (record { number = n; text = txn; tries = 0 }) (tries_told s c log) (omega arith)) (tries_told s c log)
 tries_told s c (Did (Records k r sends) ∷ log) = kept c k r sends s log (tries_told s c log)
 tries_told s c (Did (Sends to m hand) ∷ log) = tries_told s c log

@@ -1,33 +1,19 @@
 -- The uses of a transaction and their fragments: each is there, and they are few.
-use Rattle.std.proofs.Common.{ℕ, suc, ◌+◌, ◌*◌, ◌≤◌, ◌≡◌, refl, ap, sym, ◌∙◌, arith, ◌==◌, Bool, true, false, if◌then◌else◌, List, [], ◌∷◌, length, length-append, map, filter}
-use Rattle.std.specs.Prelude.{filter_map, fold}
-use Rattle.std.specs.List.{All, AllByRecursion}
-use Rattle.std.specs.BTreeSet.{insert_key}
-use Rattle.std.specs.Ordering.{match_ordering, nat_cmp}
-use Rattle.std.specs.declared.cmp.Ordering.{Ordering}
-use Rattle.std.specs.declared.cmp.Ordering.TheVariants.{Less, Equal, Greater}
-use Rattle.std.proofs.lemmas.Bool.Decides.{nat_tests}
-use Rattle.std.proofs.lemmas.Grind.{flat_map-append}
-use Rattle.std.proofs.lemmas.List.Elements.{All-append, All-cons, All-from_recursion, All-head, All-nil, All-tail, All-weaker}
-use Rattle.std.proofs.lemmas.List.FromFn.{length-range_with_len}
-use Rattle.sdd_module.specs.All.{Catalogue, Condition, Const, Delete, Fits, FitsCondition, FitsStatement, FragNo, IsWhole, Put, Query, RelNo, Restriction, Same, Stmt, Txn, Update, Use, allowed_keys, ascending, conditions, frag_no, fragments_for, fragments_in, key_column, meets_keys, numbers_to, part_uses, reads_at, restrictions_of, statement_uses, undeclared_conditions, uses_from, uses_of}
-use Rattle.sdd_graph.specs.Edges.{IsClassOf}
-use Rattle.sdd_module.specs.protocol.declared.entry.Entry as line
-use Rattle.sdd_module.proofs.lang.Sets.{IsThere, fragments_there}
-use Rattle.sdd_attempt.specs.Acts.{conditions_at, modules_of}
-use Rattle.sdd_attempt.specs.Room.{IsSmallStatement, IsSmallText, JoinsWithin}
+use Rattle.sdd_attempt.proofs.All.{All, All-append, All-cons, All-from_recursion, All-head, All-nil, All-tail, All-weaker, AllByRecursion, AreThere, Bool, Catalogue, Condition, Const, Delete, Equal, Fits, FitsCondition, FitsStatement, FragNo, Greater, IsClassOf, IsSmallStatement, IsSmallText, IsThere, IsWhole, JoinsWithin, Less, List, Ordering, Put, Query, RelNo, Restriction, Same, Stmt, Txn, Update, Use, [], allowed_keys, ap, arith, ascending, conditions, conditions_at, false, filter, filter_map, flat_map-append, fold, frag_no, fragments_for, fragments_in, fragments_there, if◌then◌else◌, insert_key, key_column, length, length-append, length-range_with_len, map, match_ordering, meets_keys, modules_of, nat_cmp, nat_tests, numbers_to, part_uses, reads_at, refl, restrictions_of, statement_uses, suc, sym, true, undeclared_conditions, uses_from, uses_of, ℕ, ◌*◌, ◌+◌, ◌==◌, ◌∙◌, ◌∷◌, ◌≡◌, ◌≤◌}
 use Rattle.sdd_attempt.proofs.Lists.{few_filtered, few_picked}
-use Rattle.sdd_attempt.specs.Reads.{AreThere}
+use Rattle.sdd_module.specs.protocol.declared.entry.Entry as line
 
 -- each is there
 
-each_there : (cat : Catalogue) (fs : List FragNo) → AllByRecursion (IsThere cat) (map (λ (f : FragNo). f.0) fs) → AllByRecursion (λ (f : FragNo). IsThere cat f.0) fs
+each_there : (cat : Catalogue) (fs : List FragNo) → AllByRecursion (IsThere cat) (map (λ (f : FragNo). f.0) fs)
+    → AllByRecursion (λ (f : FragNo). IsThere cat f.0) fs
 each_there cat [] all = tt
 each_there cat (f ∷ fs) all = (all.0, each_there cat fs all.1)
 
 use_there : (cat : Catalogue) (rel : ℕ) (restrictions : List Restriction) → AreThere cat (fragments_for cat rel restrictions)
 use_there cat rel restrictions =
-    All-from_recursion (λ (f : FragNo). IsThere cat f.0) (fragments_for cat rel restrictions) (each_there cat (fragments_for cat rel restrictions) (fragments_there cat rel restrictions))
+    All-from_recursion (λ (f : FragNo). IsThere cat f.0) (fragments_for cat rel restrictions)
+    (each_there cat (fragments_for cat rel restrictions) (fragments_there cat rel restrictions))
 
 abbrev UsesThere : Catalogue → List Use → Type 0
 UsesThere cat uses = All (λ (u : Use). AreThere cat u.frags) uses
@@ -35,7 +21,9 @@ UsesThere cat uses = All (λ (u : Use). AreThere cat u.frags) uses
 parts_there : (cat : Catalogue) (before : ℕ) (conds : List Condition) (part : ℕ) (rels : List RelNo) → UsesThere cat (part_uses cat before conds part rels)
 parts_there cat before conds part [] = All-nil (λ (u : Use). AreThere cat u.frags)
 parts_there cat before conds part (rel ∷ rels) =
-    All-cons (λ (u : Use). AreThere cat u.frags) (record { number = before + part; rel = rel; frags = fragments_for cat rel.0 (restrictions_of part conds); restrictions = restrictions_of part conds }) (part_uses cat before conds (part + 1) rels)
+    All-cons (λ (u : Use). AreThere cat u.frags)
+    (record { number = before + part; rel = rel; frags = fragments_for cat rel.0 (restrictions_of part conds); restrictions = restrictions_of part conds })
+    (part_uses cat before conds (part + 1) rels)
     (use_there cat rel.0 (restrictions_of part conds)) (parts_there cat before conds (part + 1) rels)
 
 statement_there : (cat : Catalogue) (before : ℕ) (s : Stmt) → UsesThere cat (statement_uses cat before s)
@@ -62,7 +50,8 @@ frags_back (f ∷ fs) = ap (λ l. f ∷ l) (frags_back fs)
 not_zero : (c : ℕ) → 1 ≤ c → (c == 0) ≡ false
 not_zero c some = grind (arith, nat_tests)
 
-pub declared_at : (cat : Catalogue) (table : List line.Entry) (c : ℕ) (frags : List ℕ) (fs : List FragNo) (own p2 d : ℕ) → IsClassOf cat c → map (λ (f : FragNo). f.0) fs ≡ frags
+pub declared_at : (cat : Catalogue) (table : List line.Entry) (c : ℕ) (frags : List ℕ) (fs : List FragNo) (own p2 d : ℕ) → IsClassOf cat c
+    → map (λ (f : FragNo). f.0) fs ≡ frags
     → conditions cat table c d fs own p2 ≡ conditions_at cat table c frags own p2 d
 declared_at cat table c frags fs own p2 d class e =
     ap (λ l. conditions cat table c d l own p2) (sym (frags_back fs) ∙ ap (map frag_no) e)
@@ -79,19 +68,22 @@ few_for cat rel restrictions =
     let p = meets_keys cat rel (allowed_keys (key_column cat rel) restrictions) in
     omega (arith, same_length frag_no (filter p (numbers_to (length cat.fragments))), few_filtered p (numbers_to (length cat.fragments)), length-range_with_len 1 (length cat.fragments))
 
-few_in_parts : (cat : Catalogue) (before : ℕ) (conds : List Condition) (part : ℕ) (rels : List RelNo) → length cat.fragments ≤ 256 → length (fragments_in (part_uses cat before conds part rels)) ≤ 256 * length rels
+few_in_parts : (cat : Catalogue) (before : ℕ) (conds : List Condition) (part : ℕ) (rels : List RelNo) → length cat.fragments ≤ 256
+    → length (fragments_in (part_uses cat before conds part rels)) ≤ 256 * length rels
 few_in_parts cat before conds part [] small = omega arith
 few_in_parts cat before conds part (rel ∷ rels) small =
     let frags : List FragNo = fragments_for cat rel.0 (restrictions_of part conds) in
     omega (arith, small, length-append (map (λ (f : FragNo). f.0) frags) (fragments_in (part_uses cat before conds (part + 1) rels)), same_length (λ (f : FragNo). f.0) frags, few_for cat rel.0 (restrictions_of part conds), few_in_parts cat before conds (part + 1) rels small)
 
-few_in_statement : (cat : Catalogue) (before : ℕ) (s : Stmt) → length cat.fragments ≤ 256 → IsSmallStatement s → length (fragments_in (statement_uses cat before s)) ≤ 1536
+few_in_statement : (cat : Catalogue) (before : ℕ) (s : Stmt) → length cat.fragments ≤ 256 → IsSmallStatement s
+    → length (fragments_in (statement_uses cat before s)) ≤ 1536
 few_in_statement cat before (Put rel row) small few = omega arith
 few_in_statement cat before (Query out rels conds) small few = omega (arith, few_in_parts cat before conds 1 rels small, few.0)
 few_in_statement cat before (Update rel sets conds) small few = omega (arith, few_in_parts cat before conds 1 (rel ∷ []) small)
 few_in_statement cat before (Delete rel conds) small few = omega (arith, few_in_parts cat before conds 1 (rel ∷ []) small)
 
-few_in_statements : (cat : Catalogue) (before : ℕ) (sts : List Stmt) → length cat.fragments ≤ 256 → All IsSmallStatement sts → length (fragments_in (uses_from cat before sts)) ≤ 1536 * length sts
+few_in_statements : (cat : Catalogue) (before : ℕ) (sts : List Stmt) → length cat.fragments ≤ 256 → All IsSmallStatement sts
+    → length (fragments_in (uses_from cat before sts)) ≤ 1536 * length sts
 few_in_statements cat before [] small all = omega arith
 few_in_statements cat before (s ∷ rest) small all =
     let here : List Use = statement_uses cat before s in
@@ -104,7 +96,8 @@ few_in_statements cat before (s ∷ rest) small all =
       length-append (fragments_in here) (fragments_in more),
     )
 
-put_few : (o : Ordering) (k x : ℕ) (xs ys : List ℕ) → length ys ≤ suc (length xs) → length (match_ordering o (k ∷ x ∷ xs) (x ∷ xs) (x ∷ ys)) ≤ suc (suc (length xs))
+put_few : (o : Ordering) (k x : ℕ) (xs ys : List ℕ) → length ys ≤ suc (length xs)
+    → length (match_ordering o (k ∷ x ∷ xs) (x ∷ xs) (x ∷ ys)) ≤ suc (suc (length xs))
 put_few Less k x xs ys h = omega arith
 put_few Equal k x xs ys h = omega arith
 put_few Greater k x xs ys h = omega (arith, h)
@@ -117,7 +110,8 @@ all_few : (ks ns : List ℕ) → length (fold (λ ks k. insert_key nat_cmp ks k)
 all_few ks [] = omega arith
 all_few ks (n ∷ ns) = omega (arith, all_few (insert_key nat_cmp ks n) ns, inserted_few ks n)
 
-few_modules_by : (cat : Catalogue) (c : ℕ) (undeclared : Bool) (frags : List ℕ) → cat.dms ≤ 16 → length frags ≤ 65536 → length (if undeclared then numbers_to cat.dms else ascending (filter_map (reads_at cat c) frags)) ≤ 65536
+few_modules_by : (cat : Catalogue) (c : ℕ) (undeclared : Bool) (frags : List ℕ) → cat.dms ≤ 16 → length frags ≤ 65536
+    → length (if undeclared then numbers_to cat.dms else ascending (filter_map (reads_at cat c) frags)) ≤ 65536
 few_modules_by cat c true frags low few = omega (arith, length-range_with_len 1 cat.dms, low)
 few_modules_by cat c false frags low few = omega (arith, all_few [] (filter_map (reads_at cat c) frags), few_picked (reads_at cat c) frags, few)
 
@@ -125,7 +119,8 @@ few_modules_by cat c false frags low few = omega (arith, all_few [] (filter_map 
 
 small_join : (cat : Catalogue) (rels : List RelNo) → length rels ≤ 6 → (c : Condition) → FitsCondition cat rels c → JoinsWithin 0 6 c
 small_join cat rels few (Const left op value) fits = tt
-small_join cat rels few (Same left right) fits = let l : left.part ≤ length rels = fits.0.0.1 in let r : right.part ≤ length rels = fits.1.0.1 in (omega arith, omega arith)
+small_join cat rels few (Same left right) fits =
+    let l : left.part ≤ length rels = fits.0.0.1 in let r : right.part ≤ length rels = fits.1.0.1 in (omega arith, omega arith)
 
 small_statement : (cat : Catalogue) (s : Stmt) → FitsStatement cat s → IsSmallStatement s
 small_statement cat (Put rel row) fits = tt
@@ -136,9 +131,11 @@ small_statement cat (Update rel sets conds) fits = tt
 small_statement cat (Delete rel conds) fits = tt
 
 pub small_text : (cat : Catalogue) (txn : Txn) → Fits cat txn → IsSmallText txn
-small_text cat txn fits = record { few = fits.few; statements = All-weaker (FitsStatement cat) IsSmallStatement (small_statement cat) txn.statements fits.statements }
+small_text cat txn fits =
+    record { few = fits.few; statements = All-weaker (FitsStatement cat) IsSmallStatement (small_statement cat) txn.statements fits.statements }
 
-pub few_modules : (cat : Catalogue) (c : ℕ) (txn : Txn) → IsWhole cat → IsSmallText txn → length (modules_of cat c (ascending (fragments_in (uses_of cat txn)))) ≤ 65536
+pub few_modules : (cat : Catalogue) (c : ℕ) (txn : Txn) → IsWhole cat → IsSmallText txn
+    → length (modules_of cat c (ascending (fragments_in (uses_of cat txn)))) ≤ 65536
 few_modules cat c txn whole small =
     few_modules_by cat c (c == 0) (ascending (fragments_in (uses_of cat txn))) whole.few_dms
     (omega (arith, all_few [] (fragments_in (uses_of cat txn)), few_in_statements cat 0 txn.statements whole.few_fragments small.statements, small.few))

@@ -1,14 +1,6 @@
 -- The queue of a class after each entry of the log: its transactions stay different ones that fit, and the active
 -- attempt is of the first of them.
-use Rattle.std.proofs.Common.{ℕ, zero, suc, ◌<◌, ◌≤◌, ◌^◌, ◌≡◌, ◌≢◌, ◌==◌, Bool, true, false, not, cond, List, [], ◌∷◌, ◌++◌, map, length, refl, ap, sym, ◌∙◌, subst, arith, Option, Some, None, is_some}
-use Rattle.std.specs.Bool.{if◌then◌else◌}
-use Rattle.std.specs.List.{AllByRecursion, filter, list_all}
-use Rattle.std.proofs.lemmas.Bool.{or_right, eq-eqb, eqb-true, false≢true}
-use Rattle.sdd_module.specs.All.{Act, Catalogue, Commit, D, Fits, Msg, Rec, Records, Sends, Site, Start, T, Txn, U, contains, head_of, read_set, reads_at}
-use Rattle.sdd_attempt.specs.Queues.{Queued, is_for, submitted, tried, queue_after}
-use Rattle.sdd_attempt.specs.Exchange.{after_hand, after_send}
-use Rattle.sdd_attempt.specs.Attempts.{Attempt, started, rejects, active_handed, asks_rows, active_sent}
-use Rattle.sdd_attempt.specs.Sound.{Differ, IsWaiting, IsQueue, IsOfHead}
+use Rattle.sdd_attempt.proofs.All.{Act, AllByRecursion, Attempt, Bool, Catalogue, Commit, D, Differ, Fits, IsOfHead, IsQueue, IsWaiting, List, Msg, None, Option, Queued, Rec, Records, Sends, Site, Some, Start, T, Txn, U, [], active_handed, active_sent, after_hand, after_send, all_kept, ap, arith, asks_rows, cond, contains, eq-eqb, eqb-true, false, false≢true, filter, head_of, if◌then◌else◌, is_for, is_some, length, list_all, map, not, or_right, queue_after, read_set, reads_at, refl, rejects, started, submitted, subst, suc, sym, tried, true, zero, ℕ, ◌++◌, ◌<◌, ◌==◌, ◌^◌, ◌∙◌, ◌∷◌, ◌≡◌, ◌≢◌, ◌≤◌}
 
 -- a try changes no number and no text
 
@@ -22,7 +14,8 @@ tried_waiting cat c given n q h =
       | false ↦ h
     ]
 
-all_tried : (cat : Catalogue) (c : ℕ) (given : List ℕ) (n : ℕ) (qs : List Queued) → AllByRecursion (IsWaiting cat c given) qs → AllByRecursion (IsWaiting cat c given) (map (tried n) qs)
+all_tried : (cat : Catalogue) (c : ℕ) (given : List ℕ) (n : ℕ) (qs : List Queued) → AllByRecursion (IsWaiting cat c given) qs
+    → AllByRecursion (IsWaiting cat c given) (map (tried n) qs)
 all_tried cat c given n [] h = tt
 all_tried cat c given n (q ∷ qs) h = (tried_waiting cat c given n q h.0, all_tried cat c given n qs h.1)
 
@@ -36,10 +29,6 @@ tried_differ n (q ∷ qs) h = (tried_apart n (tried n q).number q.number qs (tri
 
 -- a filter leaves no number that wasn't there
 
-all_kept : {A : Type 0} (P : A → Type 0) (p : A → Bool) (xs : List A) → AllByRecursion P xs → AllByRecursion P (filter p xs)
-all_kept P p [] h = tt
-all_kept P p (x ∷ xs) h = elim (p x) as (λ b. AllByRecursion P (cond b (x ∷ filter p xs) (filter p xs))) [ true ↦ (h.0, all_kept P p xs h.1) | false ↦ all_kept P p xs h.1 ]
-
 kept_differ : (p : Queued → Bool) (qs : List Queued) → Differ qs → Differ (filter p qs)
 kept_differ p [] h = tt
 kept_differ p (q ∷ qs) h =
@@ -50,13 +39,16 @@ kept_differ p (q ∷ qs) h =
 
 -- an act
 
-if_queue : (cat : Catalogue) (c : ℕ) (given : List ℕ) (b : Bool) (old new : List Queued) → IsQueue cat c given old → IsQueue cat c given new → IsQueue cat c given (cond b new old)
+if_queue : (cat : Catalogue) (c : ℕ) (given : List ℕ) (b : Bool) (old new : List Queued) → IsQueue cat c given old → IsQueue cat c given new
+    → IsQueue cat c given (cond b new old)
 if_queue cat c given true old new h k = k
 if_queue cat c given false old new h k = h
 
-record_queue : (cat : Catalogue) (c k : ℕ) (given : List ℕ) (r : Rec) (sends : List (Site × Msg)) (qs : List Queued) → IsQueue cat c given qs → IsQueue cat c given (queue_after c (Records k r sends) qs)
+record_queue : (cat : Catalogue) (c k : ℕ) (given : List ℕ) (r : Rec) (sends : List (Site × Msg)) (qs : List Queued) → IsQueue cat c given qs
+    → IsQueue cat c given (queue_after c (Records k r sends) qs)
 record_queue cat c k given (Start txn attempt class ts p2 uses) sends qs h =
-    if_queue cat c given (k == c) qs (map (tried txn.0) qs) h (record { differ = tried_differ txn.0 qs h.differ; waiting = all_tried cat c given txn.0 qs h.waiting })
+    if_queue cat c given (k == c) qs (map (tried txn.0) qs) h
+    (record { differ = tried_differ txn.0 qs h.differ; waiting = all_tried cat c given txn.0 qs h.waiting })
 record_queue cat c k given (Commit txn attempt reply changes values rows) sends qs h =
     if_queue cat c given (k == c) qs (filter (λ q. not (q.number == txn.0)) qs) h
     (record { differ = kept_differ (λ q. not (q.number == txn.0)) qs h.differ; waiting = all_kept (IsWaiting cat c given) (λ q. not (q.number == txn.0)) qs h.waiting })
@@ -68,7 +60,8 @@ queue_did cat c given (Sends to m hand) qs h = h
 
 -- a submission
 
-waits_still : (cat : Catalogue) (c n : ℕ) (given : List ℕ) (qs : List Queued) → AllByRecursion (IsWaiting cat c given) qs → AllByRecursion (IsWaiting cat c (n ∷ given)) qs
+waits_still : (cat : Catalogue) (c n : ℕ) (given : List ℕ) (qs : List Queued) → AllByRecursion (IsWaiting cat c given) qs
+    → AllByRecursion (IsWaiting cat c (n ∷ given)) qs
 waits_still cat c n given [] h = tt
 waits_still cat c n given (q ∷ qs) h =
     (record { is_given = or_right (n == q.number) (contains given q.number) h.0.is_given; small = h.0.small; fitting = h.0.fitting; covered = h.0.covered }, waits_still cat c n given qs h.1)
@@ -77,21 +70,25 @@ all_push : {A : Type 0} (P : A → Type 0) (xs : List A) (x : A) → AllByRecurs
 all_push P [] x h k = (k, tt)
 all_push P (y ∷ xs) x h k = (h.0, all_push P xs x h.1 k)
 
-differ_push : (cat : Catalogue) (c : ℕ) (given : List ℕ) (qs : List Queued) (r : Queued) → AllByRecursion (IsWaiting cat c given) qs → contains given r.number ≡ false → Differ qs → Differ (qs ++ r ∷ [])
+differ_push : (cat : Catalogue) (c : ℕ) (given : List ℕ) (qs : List Queued) (r : Queued) → AllByRecursion (IsWaiting cat c given) qs
+    → contains given r.number ≡ false → Differ qs → Differ (qs ++ r ∷ [])
 differ_push cat c given [] r all fresh h = (tt, tt)
 differ_push cat c given (q ∷ qs) r all fresh h =
     let apart : r.number ≢ q.number = λ e. false≢true (sym fresh ∙ ap (contains given) e ∙ all.0.is_given) in
     (all_push (λ (x : Queued). x.number ≢ q.number) qs r h.0 apart, differ_push cat c given qs r all.1 fresh h.1)
 
-pub queue_submitted : (cat : Catalogue) (c : ℕ) (given : List ℕ) (here : Catalogue) (n : ℕ) (txn : Txn) (qs : List Queued) → contains given n ≡ false → n < 2 ^ 32 → Fits cat txn
-    → (is_for c here txn ≡ true → list_all (λ f. is_some (reads_at cat c f)) (read_set cat txn) ≡ true) → IsQueue cat c given qs → IsQueue cat c (n ∷ given) (submitted c here n txn qs)
+pub queue_submitted : (cat : Catalogue) (c : ℕ) (given : List ℕ) (here : Catalogue) (n : ℕ) (txn : Txn) (qs : List Queued) → contains given n ≡ false
+    → n < 2 ^ 32 → Fits cat txn
+    → (is_for c here txn ≡ true → list_all (λ f. is_some (reads_at cat c f)) (read_set cat txn) ≡ true) → IsQueue cat c given qs
+    → IsQueue cat c (n ∷ given) (submitted c here n txn qs)
 queue_submitted cat c given here n txn qs fresh small fits covered h =
     let new : Queued = record { number = n; text = txn; tries = 0 } in
     let old : IsQueue cat c (n ∷ given) qs = record { differ = h.differ; waiting = waits_still cat c n given qs h.waiting } in
     elim (is_for c here txn) as (λ b. is_for c here txn ≡ b → IsQueue cat c (n ∷ given) (cond b (qs ++ new ∷ []) qs)) [
       | true ↦ λ e. record {
         differ = differ_push cat c given qs new h.waiting fresh h.differ;
-        waiting = all_push (IsWaiting cat c (n ∷ given)) qs new old.waiting (record { is_given = rw (eq-eqb n n refl) refl; small = small; fitting = fits; covered = covered e });
+        waiting = all_push (IsWaiting cat c (n ∷ given)) qs new old.waiting
+            (record { is_given = rw (eq-eqb n n refl) refl; small = small; fitting = fits; covered = covered e });
       }
       | false ↦ λ e. old
     ] refl
@@ -121,7 +118,8 @@ head_pushed : (queue : List Queued) (r : Queued) (o : Option Attempt) → IsOfHe
 head_pushed queue r None h = tt
 head_pushed queue r (Some a) h = head_push queue (record { number = a.txn; text = a.text; tries = a.attempt }) r h
 
-pub head_submitted : (c : ℕ) (here : Catalogue) (n : ℕ) (txn : Txn) (queue : List Queued) (o : Option Attempt) → IsOfHead queue o → IsOfHead (submitted c here n txn queue) o
+pub head_submitted : (c : ℕ) (here : Catalogue) (n : ℕ) (txn : Txn) (queue : List Queued) (o : Option Attempt) → IsOfHead queue o
+    → IsOfHead (submitted c here n txn queue) o
 head_submitted c here n txn queue o h =
     elim (is_for c here txn) as (λ b. IsOfHead (cond b (queue ++ record { number = n; text = txn; tries = 0 } ∷ []) queue) o) [
       | true ↦ head_pushed queue (record { number = n; text = txn; tries = 0 }) o h
@@ -134,7 +132,8 @@ head_sent c queue m (Some a) h =
     elim (asks_rows a.ts c m) as (λ b. IsOfHead queue (if b then Some (record a { exchange = after_send a.exchange }) else Some a)) [ true ↦ h | false ↦ h ]
 
 -- a Start of the first one
-pub head_started : (ts : ℕ) (sends : List (Site × Msg)) (q : Queued) (rest : List Queued) → IsOfHead (map (tried q.number) (q ∷ rest)) (started ts sends (Some q))
+pub head_started : (ts : ℕ) (sends : List (Site × Msg)) (q : Queued) (rest : List Queued)
+    → IsOfHead (map (tried q.number) (q ∷ rest)) (started ts sends (Some q))
 head_started ts sends q rest = rw (eq-eqb q.number q.number refl) refl
 
 -- how many there are
@@ -143,7 +142,7 @@ head_started ts sends q rest = rw (eq-eqb q.number q.number refl) refl
 abbrev others : ℕ → List Queued → List Queued
 others n qs = filter (λ q. not (q.number == n)) qs
 
-shorter : (p : Queued → Bool) (qs : List Queued) → length (filter p qs) ≤ length qs
+pub shorter : (p : Queued → Bool) (qs : List Queued) → length (filter p qs) ≤ length qs
 shorter p [] = omega arith
 shorter p (q ∷ qs) = let rest = shorter p qs in elim (p q) as (λ b. length (cond b (q ∷ filter p qs) (filter p qs)) ≤ suc (length qs)) [ true ↦ omega arith | false ↦ omega arith ]
 
@@ -181,7 +180,8 @@ below_others n [] h = tt
 below_others n (q ∷ qs) h =
     elim (q.number == n) as (λ b. (q.number == n) ≡ b → AllByRecursion (λ q. q.number < n) (cond (not b) (q ∷ others n qs) (others n qs))) [
       | true ↦ λ e. below_others n qs h.1
-      | false ↦ λ e. let apart : q.number ≢ n = λ s. false≢true (sym e ∙ eq-eqb q.number n s) in let low : q.number < suc n = h.0 in (omega arith, below_others n qs h.1)
+      | false ↦ λ e. let apart : q.number ≢ n = λ s. false≢true (sym e ∙ eq-eqb q.number n s) in let low : q.number < suc n = h.0 in
+          (omega arith, below_others n qs h.1)
     ] refl
 
 -- there are no more than there are numbers

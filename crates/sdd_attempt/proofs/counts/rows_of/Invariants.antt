@@ -1,6 +1,4 @@
-use Rattle.std.proofs.Common.{◌≡◌, ◌≤◌, ◌*◌, ◌^◌, ◌+◌, drop, map}
-use Rattle.sdd_attempt.specs.Exchange.{count_of}
-use Rattle.sdd_attempt.specs.Counts.{numbered}
+use Rattle.sdd_attempt.proofs.All.{count_of, drop, map, numbered, ◌*◌, ◌+◌, ◌^◌, ◌≡◌, ◌≤◌}
 use Rattle.sdd_attempt.proofs.counts.rows_of.Given as goal
 
 abbrev pub invariant-loop-count : goal.invariant-loop-count

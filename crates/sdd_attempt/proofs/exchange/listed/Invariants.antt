@@ -1,4 +1,4 @@
-use Rattle.std.proofs.Common.{◌≡◌, map}
+use Rattle.sdd_attempt.proofs.All.{map, ◌≡◌}
 use Rattle.sdd_attempt.proofs.exchange.listed.Given as goal
 
 abbrev pub invariant-loop-value : goal.invariant-loop-value

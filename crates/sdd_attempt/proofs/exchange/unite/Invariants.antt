@@ -1,5 +1,4 @@
-use Rattle.std.proofs.Common.{◌≡◌}
-use Rattle.sdd_module.specs.All.{with_values}
+use Rattle.sdd_attempt.proofs.All.{with_values, ◌≡◌}
 use Rattle.sdd_attempt.proofs.exchange.unite.Given as goal
 
 abbrev pub invariant-loop-value : goal.invariant-loop-value

@@ -1,5 +1,4 @@
-use Rattle.std.proofs.Common.{◌≡◌, map}
-use Rattle.sdd_attempt.specs.Queues.{txn_of}
+use Rattle.sdd_attempt.proofs.All.{map, txn_of, ◌≡◌}
 use Rattle.sdd_attempt.proofs.line.numbers_of.Given as goal
 
 abbrev pub invariant-queue : goal.invariant-queue

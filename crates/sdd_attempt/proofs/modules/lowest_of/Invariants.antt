@@ -1,6 +1,4 @@
-use Rattle.std.proofs.Common.{◌≡◌, drop, map}
-use Rattle.std.specs.Prelude.{fold, option_map}
-use Rattle.sdd_attempt.specs.Standings.{lower, lowest}
+use Rattle.sdd_attempt.proofs.All.{drop, fold, lower, lowest, map, option_map, ◌≡◌}
 use Rattle.sdd_attempt.proofs.modules.lowest_of.Given as goal
 
 abbrev pub invariant-loop-dm : goal.invariant-loop-dm

@@ -1,6 +1,4 @@
-use Rattle.std.proofs.Common.{◌≡◌, take}
-use Rattle.sdd_module.specs.All.{Fetch}
-use Rattle.sdd_attempt.specs.Outbox.{addressed}
+use Rattle.sdd_attempt.proofs.All.{Fetch, addressed, take, ◌≡◌}
 use Rattle.sdd_attempt.proofs.outbox.fetch_messages.Given as goal
 
 abbrev pub invariant-loop-dm : goal.invariant-loop-dm

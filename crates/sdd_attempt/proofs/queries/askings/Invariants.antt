@@ -1,5 +1,4 @@
-use Rattle.std.proofs.Common.{◌≡◌, ◌≤◌, ◌*◌, ◌++◌, drop}
-use Rattle.sdd_attempt.specs.Exchange.{askings}
+use Rattle.sdd_attempt.proofs.All.{askings, drop, ◌*◌, ◌++◌, ◌≡◌, ◌≤◌}
 use Rattle.sdd_attempt.proofs.queries.askings.Given as goal
 
 abbrev pub invariant-loop-statement : goal.invariant-loop-statement

@@ -1,7 +1,4 @@
-use Rattle.std.proofs.Common.{◌∙◌, ◌++◌, ◌∷◌, [], ap, sym, map}
-use Rattle.std.proofs.lemmas.List.{map-append}
-use Rattle.sdd_module.specs.All.{DmNo, dm_no}
-use Rattle.sdd_graph.proofs.Lists.{up_to}
+use Rattle.sdd_attempt.proofs.All.{DmNo, [], ap, dm_no, map, map-append, sym, up_to, ◌++◌, ◌∙◌, ◌∷◌}
 use Rattle.sdd_attempt.proofs.reads.all_modules.Goals as goal
 
 pub loop-number-preserved : goal.loop-number-preserved

@@ -1,5 +1,4 @@
-use Rattle.std.proofs.Common.{◌≡◌, ◌-◌, map}
-use Rattle.sdd_module.specs.All.{numbers_to}
+use Rattle.sdd_attempt.proofs.All.{map, numbers_to, ◌-◌, ◌≡◌}
 use Rattle.sdd_attempt.proofs.reads.all_modules.Given as goal
 
 abbrev pub invariant-loop-number : goal.invariant-loop-number

@@ -1,8 +1,4 @@
-use Rattle.std.proofs.Common.{◌≡◌, drop, map}
-use Rattle.std.specs.Prelude.{filter_map, fold}
-use Rattle.std.specs.Ordering.{nat_cmp}
-use Rattle.std.specs.BTreeSet.{insert_key}
-use Rattle.sdd_module.specs.All.{ascending, reads_at}
+use Rattle.sdd_attempt.proofs.All.{ascending, drop, filter_map, fold, insert_key, map, nat_cmp, reads_at, ◌≡◌}
 use Rattle.sdd_attempt.proofs.reads.modules_read.Given as goal
 
 abbrev pub invariant-loop-frag : goal.invariant-loop-frag

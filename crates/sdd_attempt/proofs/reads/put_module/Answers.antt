@@ -1,6 +1,4 @@
-use Rattle.std.proofs.Common.{ap, sym, ◌∙◌, map, nat_lt, not}
-use Rattle.std.specs.Prelude.{position}
-use Rattle.sdd_module.specs.All.{DmNo}
+use Rattle.sdd_attempt.proofs.All.{DmNo, ap, map, nat_lt, not, position, sym, ◌∙◌}
 use Rattle.sdd_attempt.proofs.Putting.{put_among, put_behind, stands_among}
 use Rattle.sdd_attempt.proofs.reads.put_module.Goals as goal
 

@@ -1,6 +1,4 @@
-use Rattle.std.proofs.Common.{◌≡◌, take}
-use Rattle.std.specs.Prelude.{filter}
-use Rattle.sdd_module.specs.All.{is_read_at}
+use Rattle.sdd_attempt.proofs.All.{filter, is_read_at, take, ◌≡◌}
 use Rattle.sdd_attempt.proofs.reads.read_at.Given as goal
 
 abbrev pub invariant-loop-frag : goal.invariant-loop-frag

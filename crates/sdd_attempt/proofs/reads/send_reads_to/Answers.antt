@@ -1,4 +1,4 @@
-use Rattle.sdd_module.specs.All.{dm_no}
+use Rattle.sdd_attempt.proofs.All.{dm_no}
 use Rattle.sdd_attempt.proofs.Reading.{module_more, sent_more}
 use Rattle.sdd_attempt.proofs.reads.send_reads_to.Goals as goal
 
@@ -8,6 +8,8 @@ loop-dm-preserved c =
     let ds = c.args.dms.now in
     let i = c.loop-dm.dm-index in
     record {
-      draft = sent_more b ds i (dm_no 0) c.in_ok-read.read c.args.draft.now c.loop-dm.draft c.send.new.self c.loop-dm-test.true c.in_ok-read.ensures c.loop-dm.invariant.draft c.in_ok-send.ensures;
-      modules = module_more b ds i (dm_no 0) c.in_ok-read.read c.loop-dm.modules c.add.new.self c.loop-dm-test.true c.in_ok-read.ensures c.loop-dm.invariant.modules c.in_ok-add.ensures;
+      draft = sent_more b ds i
+          (dm_no 0) c.in_ok-read.read c.args.draft.now c.loop-dm.draft c.send.new.self c.loop-dm-test.true c.in_ok-read.ensures c.loop-dm.invariant.draft c.in_ok-send.ensures;
+      modules = module_more b ds i
+          (dm_no 0) c.in_ok-read.read c.loop-dm.modules c.add.new.self c.loop-dm-test.true c.in_ok-read.ensures c.loop-dm.invariant.modules c.in_ok-add.ensures;
     }

@@ -1,7 +1,4 @@
-use Rattle.std.proofs.Common.{◌≡◌, ◌++◌, map, take}
-use Rattle.std.specs.Prelude.{filter_map}
-use Rattle.sdd_attempt.specs.Exchange.{module_read}
-use Rattle.sdd_attempt.specs.Reads.{reads_to}
+use Rattle.sdd_attempt.proofs.All.{filter_map, map, module_read, reads_to, take, ◌++◌, ◌≡◌}
 use Rattle.sdd_attempt.proofs.reads.send_reads_to.Given as goal
 
 abbrev pub invariant-loop-dm : goal.invariant-loop-dm

@@ -1,7 +1,6 @@
-use Rattle.std.proofs.Common.{◌≡◌, ◌++◌, drop}
-use Rattle.std.specs.Prelude.{filter_map}
-use Rattle.sdd_attempt.specs.Acts.{use_there}
+use Rattle.sdd_attempt.proofs.All.{drop, filter_map, use_there, ◌++◌, ◌≡◌}
 use Rattle.sdd_attempt.proofs.reads.uses_at.Given as goal
 
 abbrev pub invariant-loop-one : goal.invariant-loop-one
-invariant-loop-one l = l.found.items ++ filter_map (use_there l.cat l.class.0 l.dm.0) (drop l.one-index l.uses) ≡ filter_map (use_there l.cat l.class.0 l.dm.0) l.uses
+invariant-loop-one l =
+    l.found.items ++ filter_map (use_there l.cat l.class.0 l.dm.0) (drop l.one-index l.uses) ≡ filter_map (use_there l.cat l.class.0 l.dm.0) l.uses

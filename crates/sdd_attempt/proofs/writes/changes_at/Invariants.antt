@@ -1,5 +1,4 @@
-use Rattle.std.proofs.Common.{◌≡◌, take}
-use Rattle.sdd_attempt.specs.Writes.{changes_at}
+use Rattle.sdd_attempt.proofs.All.{changes_at, take, ◌≡◌}
 use Rattle.sdd_attempt.proofs.writes.changes_at.Given as goal
 
 abbrev pub invariant-loop-change : goal.invariant-loop-change

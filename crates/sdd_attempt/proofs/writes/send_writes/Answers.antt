@@ -1,4 +1,4 @@
-use Rattle.sdd_attempt.specs.Writes.{write_of}
+use Rattle.sdd_attempt.proofs.All.{write_of}
 use Rattle.sdd_attempt.proofs.Noting.{sent_to}
 use Rattle.sdd_attempt.proofs.writes.send_writes.Goals as goal
 

@@ -1,7 +1,4 @@
-use Rattle.std.proofs.Common.{◌≡◌, ◌-◌, ◌++◌}
-use Rattle.std.specs.Prelude.{filter_map}
-use Rattle.sdd_module.specs.All.{numbers_to}
-use Rattle.sdd_attempt.specs.Writes.{write_of}
+use Rattle.sdd_attempt.proofs.All.{filter_map, numbers_to, write_of, ◌++◌, ◌-◌, ◌≡◌}
 use Rattle.sdd_attempt.proofs.writes.send_writes.Given as goal
 
 abbrev pub invariant-loop-number : goal.invariant-loop-number

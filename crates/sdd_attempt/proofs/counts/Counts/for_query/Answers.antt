@@ -1,6 +1,4 @@
-use Rattle.std.proofs.Common.{◌+◌, rules}
-use Rattle.sdd_graph.proofs.Lists.{up_to, collected_more}
-use Rattle.sdd_attempt.specs.Exchange.{count_of}
+use Rattle.sdd_attempt.proofs.All.{collected_more, count_of, rules, up_to, ◌+◌}
 use Rattle.sdd_attempt.proofs.counts.Counts.for_query.Goals as goal
 
 pub loop-part-preserved : goal.loop-part-preserved

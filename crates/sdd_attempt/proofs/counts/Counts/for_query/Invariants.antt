@@ -1,6 +1,4 @@
-use Rattle.std.proofs.Common.{◌≡◌, ◌+◌, ◌-◌, map}
-use Rattle.std.specs.List.{range_with_len}
-use Rattle.sdd_attempt.specs.Exchange.{count_of}
+use Rattle.sdd_attempt.proofs.All.{count_of, map, range_with_len, ◌+◌, ◌-◌, ◌≡◌}
 use Rattle.sdd_attempt.proofs.counts.Counts.for_query.Given as goal
 
 abbrev pub invariant-loop-part : goal.invariant-loop-part

@@ -1,6 +1,4 @@
-use Rattle.std.proofs.Common.{rules}
-use Rattle.std.proofs.lemmas.Fn.{filter_same}
-use Rattle.sdd_attempt.specs.Counts.{is_other}
+use Rattle.sdd_attempt.proofs.All.{filter_same, is_other, rules}
 use Rattle.sdd_attempt.proofs.Counting.{count_put}
 use Rattle.sdd_attempt.proofs.counts.Counts.put.Goals as goal
 

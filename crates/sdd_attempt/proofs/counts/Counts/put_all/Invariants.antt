@@ -1,5 +1,4 @@
-use Rattle.std.proofs.Common.{◌≡◌, drop}
-use Rattle.sdd_attempt.specs.Exchange.{counted}
+use Rattle.sdd_attempt.proofs.All.{counted, drop, ◌≡◌}
 use Rattle.sdd_attempt.proofs.counts.Counts.put_all.Given as goal
 
 abbrev pub invariant-loop-new : goal.invariant-loop-new

@@ -1,7 +1,4 @@
-use Rattle.std.proofs.Common.{◌≡◌, ◌<◌, ◌^◌, ◌∙◌, sym, subst}
-use Rattle.std.specs.Result.{OnOk}
-use Rattle.sdd_attempt.specs.Exchange.{Exchange}
-use Rattle.sdd_attempt.specs.Room.{AreSmall}
+use Rattle.sdd_attempt.proofs.All.{AreSmall, Exchange, OnOk, subst, sym, ◌<◌, ◌^◌, ◌∙◌, ◌≡◌}
 use Rattle.sdd_attempt.proofs.Going.{to_first, past_first, small_rest}
 use Rattle.sdd_attempt.proofs.exchange.Exchange.go_on.Goals as goal
 

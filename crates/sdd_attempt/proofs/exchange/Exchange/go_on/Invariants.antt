@@ -1,6 +1,4 @@
-use Rattle.std.proofs.Common.{◌≡◌, length}
-use Rattle.sdd_attempt.specs.Exchange.{goes_on}
-use Rattle.sdd_attempt.specs.Room.{AreSmall}
+use Rattle.sdd_attempt.proofs.All.{AreSmall, goes_on, length, ◌≡◌}
 use Rattle.sdd_attempt.proofs.exchange.Exchange.go_on.Given as goal
 
 abbrev pub invariant-loop-query : goal.invariant-loop-query

@@ -1,6 +1,4 @@
-use Rattle.std.proofs.Common.{ap, sym, subst, ◌<◌, ◌≡◌, ◌∙◌, arith, get_or, length, [], None}
-use Rattle.std.specs.Prelude.{option_map, unwrap_or}
-use Rattle.sdd_attempt.specs.Lines.{Line, line_done, start_next}
+use Rattle.sdd_attempt.proofs.All.{Line, None, [], ap, arith, get_or, length, line_done, option_map, start_next, subst, sym, unwrap_or, ◌<◌, ◌∙◌, ◌≡◌}
 use Rattle.sdd_attempt.proofs.Queueing.{begun_at, begun_seen}
 use Rattle.sdd_attempt.proofs.line.Line.begin.Goals as goal
 
@@ -14,7 +12,8 @@ add_try-requires c =
 pub invariant_of-self-in-Some : goal.invariant_of-self-in-Some
 invariant_of-self-in-Some c =
     let s = c.self.inside in
-    begun_at s.cat.now s.class.0 (unwrap_or (option_map (λ t. t.now) c.args.table) []) c.args.clock.now s.queue.items c.in-Some.queued.now c.add_try.new.self s.running c.in_ok-running-in-Some.running
+    begun_at s.cat.now s.class.0
+    (unwrap_or (option_map (λ t. t.now) c.args.table) []) c.args.clock.now s.queue.items c.in-Some.queued.now c.add_try.new.self s.running c.in_ok-running-in-Some.running
     c.known.ensures.whole c.self.invariant c.in-Some.ensures.item.3.0 c.in-Some.ensures.value c.add_try.ensures c.in_ok-running-in-Some.ensures.running
 
 pub returns-in_ok-running-in-Some-clause-line : goal.returns-in_ok-running-in-Some-clause-line

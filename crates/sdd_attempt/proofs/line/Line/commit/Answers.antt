@@ -1,5 +1,4 @@
-use Rattle.std.proofs.Common.{ap, sym, subst, ◌∙◌}
-use Rattle.sdd_attempt.specs.Lines.{IsLine, Line, commit_next, line_done, line_of}
+use Rattle.sdd_attempt.proofs.All.{IsLine, Line, ap, commit_next, line_done, line_of, subst, sym, ◌∙◌}
 use Rattle.sdd_attempt.proofs.Noting.{any_result}
 use Rattle.sdd_attempt.proofs.Queueing.{ended_at, ended_seen}
 use Rattle.sdd_attempt.proofs.line.Line.commit.Goals as goal
@@ -7,7 +6,8 @@ use Rattle.sdd_attempt.proofs.line.Line.commit.Goals as goal
 pub invariant_of-self-in-Some-pop_front : goal.invariant_of-self-in-Some-pop_front
 invariant_of-self-in-Some-pop_front c =
     let s = c.self.inside in
-    subst (IsLine s.cat.now s.class.0 c.pop_front.new.self.items) (sym c.take.ensures.after) (ended_at s.cat.now s.class.0 s.queue.items c.pop_front.new.self.items s.running c.self.invariant c.pop_front.ensures.rest)
+    subst (IsLine s.cat.now s.class.0 c.pop_front.new.self.items) (sym c.take.ensures.after)
+    (ended_at s.cat.now s.class.0 s.queue.items c.pop_front.new.self.items s.running c.self.invariant c.pop_front.ensures.rest)
 
 pub returns-in-Some-pop_front-clause-line : goal.returns-in-Some-pop_front-clause-line
 returns-in-Some-pop_front-clause-line c =

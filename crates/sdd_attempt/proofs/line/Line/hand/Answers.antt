@@ -1,5 +1,4 @@
-use Rattle.std.proofs.Common.{sym, subst, ◌≡◌, cond, Some, None}
-use Rattle.sdd_attempt.specs.Lines.{IsAwaited, IsLine, Line, active_of, handed_by}
+use Rattle.sdd_attempt.proofs.All.{IsAwaited, IsLine, Line, None, Some, active_of, cond, handed_by, subst, sym, ◌≡◌}
 use Rattle.sdd_attempt.proofs.Queueing.{awaited_line, handed_line}
 use Rattle.sdd_attempt.proofs.line.Line.hand.Goals as goal
 
@@ -9,6 +8,8 @@ invariant_of-self-in-Ok-true c =
     let r = c.in-Some.running in
     let line = subst (IsLine s.cat.now s.class.0 s.queue.items) c.in-Some.is c.self.invariant in
     let asked = subst (λ (l : Line). IsAwaited l.class c.args.from c.args.msg l.active) (sym c.self.view_is) c.requires in
-    let awaited = awaited_line s.cat.now s.class.0 s.queue.items c.args.from c.args.msg r line (subst (λ o. IsAwaited s.class.0 c.args.from c.args.msg (active_of s.queue.items o)) c.in-Some.is asked) in
+    let awaited = awaited_line s.cat.now s.class.0 s.queue.items c.args.from c.args.msg r line
+    (subst (λ o. IsAwaited s.class.0 c.args.from c.args.msg (active_of s.queue.items o)) c.in-Some.is asked) in
     let goes_on = subst (λ b. cond b (Some c.handed.new.self) None ≡ handed_by s.class.0 c.args.from c.args.msg r) c.in-Ok-true.field-0-test c.in-Ok-true.ensures.running in
-    subst (IsLine s.cat.now s.class.0 s.queue.items) (sym goes_on) (handed_line s.cat.now s.class.0 s.queue.items c.args.from c.args.msg r line awaited c.in-Ok-true.ensures.few)
+    subst (IsLine s.cat.now s.class.0 s.queue.items) (sym goes_on)
+    (handed_line s.cat.now s.class.0 s.queue.items c.args.from c.args.msg r line awaited c.in-Ok-true.ensures.few)

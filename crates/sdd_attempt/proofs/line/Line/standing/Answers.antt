@@ -1,6 +1,4 @@
-use Rattle.std.proofs.Common.{ap, sym, ◌∙◌}
-use Rattle.sdd_attempt.specs.Lines.{Line, active_of}
-use Rattle.sdd_attempt.specs.Standings.{standing_at, standing_of}
+use Rattle.sdd_attempt.proofs.All.{Line, active_of, ap, standing_at, standing_of, sym, ◌∙◌}
 use Rattle.sdd_attempt.proofs.Places.{at_place, standing_told}
 use Rattle.sdd_attempt.proofs.line.Line.standing.Goals as goal
 

@@ -1,7 +1,4 @@
-use Rattle.std.proofs.Common.{rules, ◌∙◌, ap, map, not, ◌==◌}
-use Rattle.std.proofs.lemmas.Fn.{filter_same}
-use Rattle.sdd_module.specs.All.{DmNo}
-use Rattle.sdd_attempt.specs.Exchange.{without}
+use Rattle.sdd_attempt.proofs.All.{DmNo, ap, filter_same, map, not, rules, without, ◌==◌, ◌∙◌}
 use Rattle.sdd_attempt.proofs.Lists.{map-filter}
 use Rattle.sdd_attempt.proofs.modules.DmNos.remove.Goals as goal
 

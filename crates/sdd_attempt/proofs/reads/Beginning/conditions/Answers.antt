@@ -1,8 +1,4 @@
-use Rattle.std.proofs.Common.{◌∙◌, ap, sym, subst, []}
-use Rattle.std.specs.Prelude.{option_map, unwrap_or}
-use Rattle.sdd_module.specs.All.{ascending, conditions, fragments_in}
-use Rattle.sdd_attempt.specs.Acts.{conditions_at}
-use Rattle.sdd_attempt.specs.Reads.{Beginning, IsDeclared}
+use Rattle.sdd_attempt.proofs.All.{Beginning, IsDeclared, [], ap, ascending, conditions, conditions_at, fragments_in, option_map, subst, sym, unwrap_or, ◌∙◌}
 use Rattle.sdd_attempt.proofs.Uses.{declared_at}
 use Rattle.sdd_attempt.proofs.reads.Beginning.conditions.Goals as goal
 

@@ -1,8 +1,4 @@
-use Rattle.std.proofs.Common.{◌∙◌, ap, sym, subst}
-use Rattle.std.specs.List.{All}
-use Rattle.sdd_module.specs.All.{Use, ascending, fragments_in}
-use Rattle.sdd_module.proofs.lang.Sets.{reads_there}
-use Rattle.sdd_attempt.specs.Reads.{AreThere}
+use Rattle.sdd_attempt.proofs.All.{All, AreThere, Use, ap, ascending, fragments_in, reads_there, subst, sym, ◌∙◌}
 use Rattle.sdd_attempt.proofs.Uses.{uses_there}
 use Rattle.sdd_attempt.proofs.reads.Beginning.of.Goals as goal
 

@@ -1,6 +1,4 @@
-use Rattle.std.proofs.Common.{sym, subst, ◌<◌, ◌^◌}
-use Rattle.sdd_attempt.specs.Exchange.{after_hand}
-use Rattle.sdd_attempt.specs.Lines.{AreAwaitedFrom, Running}
+use Rattle.sdd_attempt.proofs.All.{AreAwaitedFrom, Running, after_hand, subst, sym, ◌<◌, ◌^◌}
 use Rattle.sdd_attempt.proofs.Room.{handed_room, values_below}
 use Rattle.sdd_attempt.proofs.running.Running.handed.Goals as goal
 
