@@ -1,36 +1,18 @@
 -- A class that has a step makes the act that is due, and the module keeps what follows from the log.
-use Rattle.std.proofs.Common.{ℕ, suc, ◌+◌, ◌<◌, ◌≤◌, ◌^◌, ◌≡◌, ◌≢◌, ◌==◌, Bool, true, false, not, ◌&&◌, List, [], ◌∷◌, map, refl, ap, sym, ◌∙◌, subst, arith, Option, Some, None, is_none}
-use Rattle.std.specs.Prelude.{slice_get, slice_set, option_map}
-use Rattle.std.specs.List.{AllByRecursion, filter, list_any, find}
-use Rattle.std.proofs.lemmas.Bool.{false≢true}
-use Rattle.sdd_attempt.specs.All.{Act, AllUpTo, Attempt, Bases, D, Did, IsLineOf, IsOfHead, IsServed, IsWaiting, Log, Msg, Notes, Null, Queued, Sends, Setting, Ticking, active, active_after, begins, class_no, clock, commit_act, commit_next, dm_no, handed, hands, head_of, in_force, is_empty, line_after, line_step, noted, queue, queue_after, send_due, send_next, sends_of_act, sent, start_act, start_next, started, starts_left, submits, ticked, ticked_by, time_at, timestamp, tried, with_act}
-use Rattle.sdd_attempt.specs.protocol.declared.entry.Entry as line
-use Rattle.sdd_attempt.specs.declared.step.LineStep.TheVariants.{Sends as ToSend, Commits as ToCommit}
-use Rattle.sdd_attempt.proofs.Asking.{NoReads}
-use Rattle.sdd_attempt.proofs.Stamps.{stamped_did}
-use Rattle.sdd_attempt.proofs.SoundLines.{IsApart, IsRequest, request_of, asks_apart, active_apart, line_apart, line_elsewhere, line_sent, line_committed, line_started, commit_no_reads, start_no_reads, start_is_up}
-use Rattle.sdd_attempt.proofs.LineActs.{all_up_of, asking_of, no_read_asked, own_record, record_in, served_sent, starts_committed, starts_sent, starts_started}
-use Rattle.sdd_tm.specs.declared.step.Step.{Step}
-use Rattle.sdd_tm.specs.declared.step.Step.TheVariants.{Send, Commit, Answer, Start}
-use Rattle.sdd_tm.specs.Views.{asks, holds, holds_acted, class_view, view_of, runs, on_hold}
-use Rattle.sdd_tm.specs.Due.{next, start_due}
-use Rattle.sdd_tm.specs.State.{ClassState, State, asks_of, class_of, state_of}
-use Rattle.sdd_tm.specs.Steps.{can_answer, asks_done, answer_time, answer_to, act_of, class_step, state_done}
-use Rattle.sdd_tm.specs.Stands.{InTurn, IsSound, all_starts, IsAmid, IsCalm}
+use Rattle.sdd_tm.proofs.All.{Act, AllByRecursion, AllUpTo, Answer, Attempt, Bases, Bool, ClassState, Commit, D, Did, InTurn, IsAmid, IsCalm, IsLineOf, IsOfHead, IsRequest, IsServed, IsSound, IsWaiting, List, Log, Msg, NoReads, None, Notes, Null, Option, Queued, Send, Sends, Setting, Some, Start, State, Step, Ticking, ToCommit, ToSend, [], act_of, active, active_after, active_apart, all_starts, all_up_of, answer_time, answer_to, ap, arith, asking_of, asks, asks_apart, asks_done, asks_of, begins, can_answer, class_no, class_of, class_step, class_view, clock, commit_act, commit_next, commit_no_reads, commits, dm_no, false, false≢true, filter, find, handed, hands, has_to_send, head_of, holds, holds_acted, in_force, is_empty, is_none, line_after, line_apart, line_committed, line_elsewhere, line_sent, line_started, line_step, list_any, map, next, no_read_asked, not, noted, on_hold, option_map, own_record, queue, queue_after, record_in, refl, request_of, runs, send_due, send_next, sends_of_act, sent, served_sent, slice_get, slice_set, stamped_did, start_act, start_due, start_is_up, start_next, start_no_reads, started, starts_committed, starts_left, starts_sent, starts_started, state_done, state_of, submits, subst, suc, sym, ticked, ticked_by, time_at, timestamp, tried, true, view_of, with_act, ℕ, ◌&&◌, ◌+◌, ◌<◌, ◌==◌, ◌^◌, ◌∙◌, ◌∷◌, ◌≡◌, ◌≢◌, ◌≤◌}
 use Rattle.sdd_tm.proofs.Lists.{some_is, get_map, of_map, by_order}
 use Rattle.sdd_tm.proofs.ClassNumbers.{runs_apart, runs_class}
 use Rattle.sdd_tm.proofs.OpenAsks.{open_did, first_answered}
-use Rattle.sdd_attempt.proofs.LineSteps.{has_to_send, commits}
 use Rattle.sdd_tm.proofs.Dues.{IsStep, sends, commits_now, answers, starts, step_is, attempt_is_due, null_is_due, start_is_due}
-use Rattle.sdd_tm.proofs.AfterActs.{no_held, after_request, after_record, after_null}
+use Rattle.sdd_tm.proofs.AfterActs.{no_held, after_request, after_record, after_null, null_apart}
 use Rattle.sdd_tm.proofs.NoModules.{start_served}
 use Rattle.sdd_tm.proofs.Rooms.{starts_set}
+use Rattle.sdd_attempt.specs.protocol.declared.entry.Entry as line
 
 -- each class: the one at a place, and the others
 
 each_class : (s : Setting) (P : ℕ → Type 0) (place c : ℕ) → slice_get (runs s) place ≡ Some c → P c
-    → ((i d : ℕ) → slice_get (runs s) i ≡ Some d → i ≢ place → P d) → (i d : ℕ) → slice_get (runs s) i ≡ Some d
-    → P d
+    → ((i d : ℕ) → slice_get (runs s) i ≡ Some d → i ≢ place → P d) → (i d : ℕ) → slice_get (runs s) i ≡ Some d → P d
 each_class s P place c e own others i d f =
     by_order (P d) i place (λ l. others i d f (λ q. absurd (omega arith)))
     (λ same. subst P (some_is (sym e ∙ ap (slice_get (runs s)) (sym same) ∙ f)) own)
@@ -180,9 +162,6 @@ makes_commit s bases log place end c amid calm e h =
     }
 
 -- a NULL
-
-null_apart : (c d : ℕ) (time : ℕ) → IsApart d (Null (class_no c) (time_at time))
-null_apart c d time = record { reads = λ ts. refl; asks = λ ts. refl }
 
 makes_answer : (s : Setting) (bases : Bases) (log : Log) (place end c : ℕ) → IsAmid s bases (state_of s log) log
     → IsCalm place end (state_of s log) → slice_get (runs s) place ≡ Some c → line_step (active s c log) ≡ None

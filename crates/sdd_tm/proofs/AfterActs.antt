@@ -1,13 +1,5 @@
 -- What the module keeps of the log after each act: that of one class changes, as its step says.
-use Rattle.std.proofs.Common.{ℕ, ◌≡◌, ◌≢◌, true, false, not, List, [], ◌∷◌, map, refl, ap, sym, ◌∙◌, Option, Some, None}
-use Rattle.std.specs.Prelude.{slice_get, slice_set}
-use Rattle.std.specs.List.{filter}
-use Rattle.sdd_attempt.specs.All.{Act, Attempt, D, Did, Held, Log, Msg, Null, Queued, Rec, Records, Sends, Setting, Site, Ticking, active, active_after, active_sent, asks_rows, class_no, clock, dm_no, line_after, queue, queue_after, ticked_by, time_at}
-use Rattle.sdd_attempt.proofs.SoundLines.{IsApart, IsRequest, asks_apart, sent_apart, queue_apart, active_apart}
-use Rattle.sdd_tm.specs.declared.asked.Asked.{Asked}
-use Rattle.sdd_tm.specs.Views.{Question, HoldCounts, asks, asks_acted, holds, holds_acted, class_view, view_of, runs}
-use Rattle.sdd_tm.specs.State.{ClassState, State, asks_of, class_of, state_of}
-use Rattle.sdd_tm.specs.Steps.{can_answer, without_first}
+use Rattle.sdd_tm.proofs.All.{Act, Asked, Attempt, ClassState, D, Did, Held, HoldCounts, IsApart, IsRequest, List, Log, Msg, None, Null, Option, Question, Queued, Rec, Records, Sends, Setting, Site, Some, State, Ticking, [], active, active_after, active_apart, active_sent, ap, asks, asks_acted, asks_apart, asks_of, asks_rows, can_answer, class_no, class_of, class_view, clock, dm_no, false, filter, holds, holds_acted, line_after, map, not, queue, queue_after, queue_apart, refl, runs, sent_apart, slice_get, slice_set, state_of, sym, ticked_by, time_at, true, view_of, without_first, ℕ, ◌∙◌, ◌∷◌, ◌≡◌, ◌≢◌}
 use Rattle.sdd_tm.proofs.Lists.{map_is_set}
 use Rattle.sdd_tm.proofs.ClassNumbers.{runs_apart}
 use Rattle.sdd_tm.proofs.OpenAsks.{IsFirst}
@@ -65,8 +57,7 @@ request_others s log ts place c to m e asks_for i d f apart =
 
 request_own : (s : Setting) (log : Log) (c : ℕ) (to : Site) (m : Msg)
     → class_of s (Did (Sends to m None) ∷ log) c ≡ record {
-      line = line_after (Sends to m None)
-          (class_of s log c).line;
+      line = line_after (Sends to m None) (class_of s log c).line;
       asks = asks_of c (asks log);
     }
 request_own s log c to m =
@@ -93,8 +84,7 @@ records_others s log place c r sends e i d f apart =
     (active_apart d c r sends (queue s d log) (active s d log) other) refl
 
 pub after_record : (s : Setting) (log : Log) (place c : ℕ) (r : Rec) (sends : List (Site × Msg))
-    → slice_get (runs s) place ≡ Some c
-    → state_of s (Did (Records c r sends) ∷ log)
+    → slice_get (runs s) place ≡ Some c → state_of s (Did (Records c r sends) ∷ log)
     ≡ with_class place (ticked_by (Records c r sends) (clock s.site log))
     (record { line = line_after (Records c r sends) (class_of s log c).line; asks = asks_of c (asks log) })
     (state_of s log)
@@ -103,7 +93,7 @@ after_record s log place c r sends e =
 
 -- a NULL
 
-null_apart : (c d : ℕ) (time : ℕ) → IsApart d (Null (class_no c) (time_at time))
+pub null_apart : (c d : ℕ) (time : ℕ) → IsApart d (Null (class_no c) (time_at time))
 null_apart c d time = record { reads = λ ts. refl; asks = λ ts. refl }
 
 pub after_null : (s : Setting) (log : Log) (place c : ℕ) → slice_get (runs s) place ≡ Some c
@@ -111,8 +101,7 @@ pub after_null : (s : Setting) (log : Log) (place c : ℕ) → slice_get (runs s
     → state_of s (Did (Sends first.question.from (Null (class_no c) (time_at time)) (Some first.question.hand)) ∷ log)
     ≡ with_class place (clock s.site log)
     (record {
-      line = line_after (Sends first.question.from (Null (class_no c) (time_at time)) None)
-          (class_of s log c).line;
+      line = line_after (Sends first.question.from (Null (class_no c) (time_at time)) None) (class_of s log c).line;
       asks = without_first (can_answer (active s c log)) (asks_of c (asks log));
     })
     (state_of s log)

@@ -1,9 +1,6 @@
 -- How several classes have a transaction: the first that has it tells.
-use Rattle.std.proofs.Common.{ℕ, zero, suc, ◌+◌, ◌<◌, ◌≤◌, ◌≡◌, ◌≢◌, List, [], ◌∷◌, map, length, drop, slice_index_or, refl, ap, sym, arith, add-one}
-use Rattle.sdd_attempt.specs.All.{or_standing, standing_among, standing_of}
-use Rattle.sdd_attempt.specs.declared.standing.Standing.{Standing}
-use Rattle.sdd_attempt.specs.declared.standing.Standing.TheVariants.{Absent, Queued, Underway}
-use Rattle.sdd_tm.specs.State.{ClassState}
+use Rattle.sdd_tm.proofs.All.{Absent, ClassState, List, Standing, Underway, [], add-one, ap, arith, drop, length, map, or_standing, refl, slice_index_or, standing_among, standing_of, suc, sym, zero, ℕ, ◌+◌, ◌<◌, ◌∷◌, ◌≡◌, ◌≢◌, ◌≤◌}
+use Rattle.sdd_attempt.specs.declared.standing.Standing.TheVariants.{Queued}
 
 -- those from a place on
 abbrev pub standing_from : List ClassState → ℕ → ℕ → Standing

@@ -1,30 +1,13 @@
 -- What a call of a transaction module does, of every log for which the module stands.
-use Rattle.std.proofs.Common.{ℕ, zero, suc, ◌<◌, ◌^◌, ◌≡◌, false, List, [], ◌∷◌, map, length, refl, ap, sym, ◌∙◌, subst, arith, Some, None}
-use Rattle.std.specs.Prelude.{slice_get, IsTrue}
-use Rattle.sdd_attempt.specs.All.{Bases, Catalogue, Does, Entry, Fits, Force, Handed, IsLineOf, IsWhole, Kept, Log, Msg, Notes, Rec, Redeclared, RelNo, Row, Setting, Site, Submits, T, Ticked, TmNo, Txn, TxnNo, at_zero, bound_of, class_for, clock, in_force, noted, nothing_noted, pushed, records_of, ticked}
-use Rattle.sdd_attempt.specs.catalog.Rules as catalogues
-use Rattle.sdd_attempt.specs.history.declared.record.Rec.TheVariants.{Submit}
-use Rattle.sdd_attempt.proofs.site_module.Does.{DoesMore, does_from, all_noted}
-use Rattle.sdd_attempt.proofs.Stamps.{stamped_still}
-use Rattle.sdd_attempt.proofs.SoundLines.{line_redeclared, line_ticked}
-use Rattle.sdd_eras.specs.EraOf.{IsEraOf}
-use Rattle.sdd_tm.specs.Views.{runs}
-use Rattle.sdd_tm.specs.Due.{next}
-use Rattle.sdd_tm.specs.Fits.{fits, FitsSubmit}
-use Rattle.sdd_tm.specs.State.{ClassState, State, class_of, state_of}
-use Rattle.sdd_tm.specs.Steps.{class_step, held_of, told}
-use Rattle.sdd_tm.specs.Handing.{class_handed, state_handed, class_given, state_given, place_of, one_place, touched}
-use Rattle.sdd_tm.specs.declared.places.Places.{Places}
-use Rattle.sdd_tm.specs.Stands.{IsKept, AreSettled, Stands, IsAmid, IsCalm}
-use Rattle.sdd_tm.specs.Works.{Works, first_class, classes_of, first_state}
+use Rattle.sdd_tm.proofs.All.{AreSettled, Bases, Catalogue, ClassState, Does, DoesMore, Entry, Fits, FitsSubmit, Force, Handed, IsAmid, IsCalm, IsEraOf, IsKept, IsLineOf, IsTrue, IsWhole, Kept, List, Log, Msg, None, Notes, Places, Rec, Redeclared, RelNo, Row, Setting, Site, Some, Stands, State, Submit, Submits, T, Ticked, TmNo, Txn, TxnNo, Works, [], all_noted, ap, arith, at_zero, bound_of, class_for, class_given, class_handed, class_of, class_step, classes_of, clock, does_from, false, first_class, first_state, fits, held_of, in_force, length, length-map, line_redeclared, line_ticked, map, next, noted, nothing_noted, one_place, place_of, pushed, records_of, refl, runs, slice_get, stamped_still, state_given, state_handed, state_of, subst, suc, sym, ticked, told, touched, zero, ℕ, ◌<◌, ◌^◌, ◌∙◌, ◌∷◌, ◌≡◌}
 use Rattle.sdd_tm.proofs.Lists.{some_is}
-use Rattle.std.proofs.lemmas.List.{length-map}
 use Rattle.sdd_tm.proofs.Handing.{amid_handed}
 use Rattle.sdd_tm.proofs.Taking.{few_kept, apart_kept, fits_in_force}
 use Rattle.sdd_tm.proofs.Touching.{calm_handed, calm_given}
 use Rattle.sdd_tm.proofs.Giving.{amid_given}
 use Rattle.sdd_tm.proofs.Telling.{nothing_due, told_once, told_settled, held_ticked}
 use Rattle.sdd_tm.proofs.Ending.{works_told}
+use Rattle.sdd_attempt.specs.catalog.Rules as catalogues
 
 -- what a call has done after an entry that it took in
 pub record Called (taken now : State) (old notes new : Notes) : Type 0 where
@@ -160,8 +143,7 @@ submit_does n txn old new taken notes all records sends small live t c e f s bas
     let d = call_does taken new (submitted n) notes all s bases (Submits n.0 txn ∷ log) live c
     (amid_after old s bases log n.0 txn taken small st fit t) in (
       records_of d.acts,
-      e
-          ∙ d.recs_are,
+      e ∙ d.recs_are,
       subst (λ xs. Does (next s bases) (Submits n.0 txn ∷ log) (records_of d.acts) xs (Stands new s))
           (sym (f ∙ d.out_is)) d.does,
     )

@@ -1,11 +1,5 @@
 -- The classes are gone through by one place that only goes on: what a class does disturbs no other, and leaves less to do.
-use Rattle.std.proofs.Common.{ℕ, ◌+◌, ◌<◌, ◌≤◌, ◌≡◌, subst, arith, Some, None}
-use Rattle.std.specs.Prelude.{slice_get}
-use Rattle.sdd_attempt.specs.All.{Bases}
-use Rattle.sdd_tm.specs.declared.step.Step.{Step}
-use Rattle.sdd_tm.specs.State.{ClassState, State}
-use Rattle.sdd_tm.specs.Steps.{own_step, start_step, class_step, class_done, state_done}
-use Rattle.sdd_tm.specs.Stands.{AreSettled, IsCalm}
+use Rattle.sdd_tm.proofs.All.{AreSettled, Bases, ClassState, IsCalm, None, Some, State, Step, arith, class_done, class_step, own_step, slice_get, start_step, state_done, subst, ℕ, ◌+◌, ◌<◌, ◌≡◌, ◌≤◌}
 use Rattle.sdd_tm.proofs.Lists.{get_set_other, by_order}
 use Rattle.sdd_tm.proofs.Dues.{class_none, none_parts}
 

@@ -1,9 +1,5 @@
 -- The classes that a module runs: each number once, and each the number of a class.
-use Rattle.std.proofs.Common.{ℕ, zero, suc, ◌+◌, ◌<◌, ◌≤◌, ◌≡◌, ◌≢◌, ◌==◌, Bool, true, false, cond, List, [], ◌∷◌, length, refl, ap, arith, Some}
-use Rattle.std.specs.Prelude.{slice_get}
-use Rattle.std.specs.List.{filter, range_with_len}
-use Rattle.sdd_attempt.specs.All.{Setting, class_at, number_of, numbers_to}
-use Rattle.sdd_tm.specs.Views.{runs}
+use Rattle.sdd_tm.proofs.All.{Bool, List, Setting, Some, [], ap, arith, class_at, cond, false, filter, length, number_of, numbers_to, range_with_len, refl, runs, slice_get, suc, true, zero, ℕ, ◌+◌, ◌<◌, ◌==◌, ◌∷◌, ◌≡◌, ◌≢◌, ◌≤◌}
 use Rattle.sdd_tm.proofs.Lists.{some_is}
 
 -- numbers in order, from the first on and below the second
@@ -20,8 +16,7 @@ range_climbs a zero high l = tt
 range_climbs a (suc n) high l = (
   omega arith,
   omega arith,
-  lower (suc a) (a + 1) high (range_with_len (a + 1) n) (omega arith)
-      (range_climbs (a + 1) n high (omega arith)),
+  lower (suc a) (a + 1) high (range_with_len (a + 1) n) (omega arith) (range_climbs (a + 1) n high (omega arith)),
 )
 
 kept_climbs : (p : ℕ → Bool) (low high : ℕ) (xs : List ℕ) → Climb low high xs → Climb low high (filter p xs)

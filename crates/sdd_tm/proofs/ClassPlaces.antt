@@ -1,14 +1,5 @@
 -- The place of a class by its number.
-use Rattle.std.proofs.Common.{ℕ, zero, suc, ◌+◌, ◌≡◌, ◌≢◌, ◌==◌, Bool, true, false, cond, List, [], ◌∷◌, map, refl, ap, sym, ◌∙◌, subst, arith, Some, None}
-use Rattle.std.specs.Prelude.{slice_get, slice_set}
-use Rattle.std.specs.List.{position_from}
-use Rattle.std.proofs.lemmas.Bool.{eqb-true, eqb-false}
-use Rattle.std.proofs.lemmas.Iterator.Adapters.{position_from-zero}
-use Rattle.sdd_attempt.specs.All.{Log, Setting}
-use Rattle.sdd_tm.specs.Views.{runs}
-use Rattle.sdd_tm.specs.State.{ClassState, class_of, state_of}
-use Rattle.sdd_tm.specs.Handing.{place_of}
-use Rattle.sdd_tm.specs.Stands.{AreApart}
+use Rattle.sdd_tm.proofs.All.{AreApart, Bool, ClassState, List, Log, None, Setting, Some, [], ap, arith, class_of, cond, eqb-false, eqb-true, false, map, place_of, position_from, position_from-zero, refl, runs, slice_get, slice_set, state_of, subst, suc, sym, true, zero, ℕ, ◌+◌, ◌==◌, ◌∙◌, ◌∷◌, ◌≡◌, ◌≢◌}
 use Rattle.sdd_tm.proofs.Lists.{some_is, of_map, map_is_set, map_same}
 use Rattle.sdd_tm.proofs.ClassNumbers.{runs_apart}
 

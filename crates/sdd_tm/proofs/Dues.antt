@@ -1,26 +1,9 @@
 -- What is due by a log, where at most one class has a step of its own: that class's step.
-use Rattle.std.proofs.Common.{ℕ, ◌≡◌, ◌≢◌, Bool, true, false, not, ◌&&◌, List, [], ◌∷◌, refl, ◌∙◌, subst, Option, Some, None, is_none}
-use Rattle.std.specs.Prelude.{slice_get, if◌then◌else◌}
-use Rattle.std.specs.List.{list_any}
-use Rattle.sdd_attempt.specs.All.{Act, Attempt, Bases, Catalogue, Log, Queued, Setting, active, attempt_due, first_some, head_of, is_empty, line_step, or_else, queue}
-use Rattle.sdd_attempt.specs.declared.step.LineStep.{LineStep}
-use Rattle.sdd_attempt.specs.declared.step.LineStep.TheVariants.{Sends as ToSend, Commits as ToCommit}
-use Rattle.sdd_tm.specs.declared.step.Step.{Step}
-use Rattle.sdd_tm.specs.declared.step.Step.TheVariants.{Send, Commit, Answer, Start}
-use Rattle.sdd_tm.specs.Views.{ClassView, View, class_view, view_of, asks, runs, on_hold}
-use Rattle.sdd_tm.specs.Due.{exchange_due, null_due, held_due, start_of, start_due, next}
-use Rattle.sdd_tm.specs.State.{ClassState, asks_of, class_of, state_of}
-use Rattle.sdd_tm.specs.Steps.{can_answer, of_line, own_step, start_step, class_step}
-use Rattle.sdd_tm.specs.Stands.{IsCalm}
+use Rattle.sdd_tm.proofs.All.{Act, Answer, Attempt, Bases, Bool, Catalogue, ClassState, ClassView, Commit, IsCalm, LineStep, List, Log, None, Option, Queued, Send, Setting, Some, Start, Step, ToCommit, ToSend, View, [], active, asks, asks_of, attempt_due, can_answer, class_of, class_step, class_view, exchange_due, false, first_some, head_of, held_due, if◌then◌else◌, is_empty, is_none, line_step, list_any, next, none_due, not, null_due, of_line, on_hold, or_else, own_step, queue, refl, runs, slice_get, start_due, start_of, start_step, state_of, subst, true, view_of, ℕ, ◌&&◌, ◌∙◌, ◌∷◌, ◌≡◌, ◌≢◌}
 use Rattle.sdd_tm.proofs.Lists.{some_is, get_map, of_map, none_first, only_first, first_at}
 use Rattle.sdd_tm.proofs.OpenAsks.{none_answered}
-use Rattle.sdd_attempt.proofs.LineSteps.{none_due}
 
 -- a step of a class
-
-answer_if : (b : Bool) (s : Step) → (if b then Some Answer else None) ≡ Some s → (b ≡ true) × (s ≡ Answer)
-answer_if true s e = (refl, cc)
-answer_if false s e = absurd cc
 
 no_answer_if : (b : Bool) → (if b then Some Answer else None) ≡ None → b ≡ false
 no_answer_if true e = absurd cc
@@ -53,10 +36,6 @@ pub data IsStep (on : Bool) (k : ClassState) : Step → Type 0 where
   answers : line_step k.line.active ≡ None → list_any (can_answer k.line.active) k.asks ≡ true → IsStep on k Answer
   starts : line_step k.line.active ≡ None → list_any (can_answer k.line.active) k.asks ≡ false
       → (not on && (is_none k.line.active && not (is_empty k.line.queue))) ≡ true → IsStep on k Start
-
-start_if : (b : Bool) (s : Step) → (if b then Some Start else None) ≡ Some s → (b ≡ true) × (s ≡ Start)
-start_if true s e = (refl, cc)
-start_if false s e = absurd cc
 
 step_by : (on : Bool) (k : ClassState) (l : Option LineStep) (b w : Bool) (s : Step) → line_step k.line.active ≡ l
     → list_any (can_answer k.line.active) k.asks ≡ b

@@ -1,14 +1,5 @@
 -- A call makes the acts that the log has next, until none is due.
-use Rattle.std.proofs.Common.{ℕ, ◌≡◌, false, ◌∷◌, refl, sym, ◌∙◌, subst, Option, Some, None}
-use Rattle.std.specs.Prelude.{slice_get}
-use Rattle.sdd_attempt.specs.All.{Act, Bases, Did, Log, Notes, Setting, noted, with_act}
-use Rattle.sdd_attempt.proofs.site_module.Making.{made_nothing, made_more}
-use Rattle.sdd_tm.specs.Due.{next}
-use Rattle.sdd_tm.specs.State.{ClassState, State}
-use Rattle.sdd_tm.specs.Steps.{act_of, class_step, state_done, held_of, told_by, told}
-use Rattle.sdd_tm.specs.declared.step.Step.{Step}
-use Rattle.sdd_tm.specs.Stands.{AreSettled, IsAmid, IsCalm}
-use Rattle.sdd_tm.specs.Works.{Works}
+use Rattle.sdd_tm.proofs.All.{Act, AreSettled, Bases, ClassState, Did, IsAmid, IsCalm, Log, None, Notes, Option, Setting, Some, State, Step, Works, act_of, class_step, false, held_of, made_more, made_nothing, next, noted, refl, slice_get, state_done, subst, sym, told, told_by, with_act, ℕ, ◌∙◌, ◌∷◌, ◌≡◌}
 use Rattle.sdd_tm.proofs.Acting.{makes}
 use Rattle.sdd_tm.proofs.Telling.{tells}
 
@@ -16,12 +7,7 @@ use Rattle.sdd_tm.proofs.Telling.{tells}
 
 works_none : (state : State) (notes : Notes) → Works state state notes notes
 works_none state notes s bases log amid =
-    record {
-      view = log;
-      shown = amid;
-      made = made_nothing (next s bases) (λ e l. e ∷ l) log log notes notes refl
-          refl;
-    }
+    record { view = log; shown = amid; made = made_nothing (next s bases) (λ e l. e ∷ l) log log notes notes refl refl }
 
 -- one act more, which each log makes due
 works_more : (before now after : State) (old notes new : Notes) → Works before now old notes
@@ -54,8 +40,7 @@ works_on before now place end k step after old notes new works calm here steps i
       m.act,
       m.is_due,
       noted_is s bases log amid ∙ m.notes notes,
-      subst (λ st. IsAmid s bases st (Did m.act ∷ log))
-          (sym (is bases)) m.amid,
+      subst (λ st. IsAmid s bases st (Did m.act ∷ log)) (sym (is bases)) m.amid,
     ))
 
 -- HELD

@@ -1,20 +1,9 @@
 -- The classes of a module are found one by one.
-use Rattle.std.proofs.Common.{ℕ, zero, suc, ◌+◌, ◌-◌, ◌≤◌, ◌≡◌, ◌==◌, true, false, cond, List, [], ◌∷◌, ◌++◌, map, refl, ap, sym, ◌∙◌, arith, append-nil}
-use Rattle.std.specs.List.{filter, range_with_len}
-use Rattle.std.proofs.lemmas.List.{map-append}
-use Rattle.std.proofs.lemmas.List.Elements.{filter-append}
-use Rattle.sdd_attempt.specs.All.{Catalogue, class_at, numbers_to}
-use Rattle.sdd_tm.specs.State.{ClassState}
-use Rattle.sdd_tm.specs.Works.{first_class}
+use Rattle.sdd_tm.proofs.All.{Catalogue, ClassState, List, [], ap, append-nil, arith, class_at, cond, false, filter, filter-append, first_class, map, map-append, numbers_to, range_push, refl, suc, sym, true, ℕ, ◌++◌, ◌+◌, ◌-◌, ◌==◌, ◌∙◌, ◌∷◌, ◌≡◌, ◌≤◌}
 
 -- those among the first n classes
 abbrev pub classes_to : Catalogue → ℕ → ℕ → List ℕ
 classes_to cat tm n = filter (λ c. (class_at cat c).tm.0 == tm) (numbers_to n)
-
-range_push : (a n : ℕ) → range_with_len a (suc n) ≡ range_with_len a n ++ (a + n) ∷ []
-range_push a zero = let e : a + 0 ≡ a = omega arith in rw e refl
-range_push a (suc n) = let e : a + 1 + n ≡ a + suc n = omega arith in
-    ap (λ rest. a ∷ rest) (range_push (a + 1) n ∙ ap (λ k. range_with_len (a + 1) n ++ k ∷ []) e)
 
 to_more : (cat : Catalogue) (tm n : ℕ) → classes_to cat tm (suc n) ≡ classes_to cat tm n ++ cond
     ((class_at cat (suc n)).tm.0 == tm) (suc n ∷ []) []

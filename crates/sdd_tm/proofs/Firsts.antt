@@ -1,9 +1,5 @@
 -- The first member that passes, by its place.
-use Rattle.std.proofs.Common.{ℕ, suc, ◌+◌, ◌<◌, ◌≡◌, Bool, true, false, cond, List, [], ◌∷◌, length, get_or, IsSome, IfSome, OnSome, refl, ap, sym, ◌∙◌, subst, arith, Option, Some, None}
-use Rattle.std.specs.List.{position, position_from, find, remove}
-use Rattle.std.proofs.lemmas.Iterator.Adapters.{position_from-zero}
-use Rattle.std.proofs.lemmas.Bool.{false≢true}
-use Rattle.sdd_tm.specs.Steps.{without_first}
+use Rattle.sdd_tm.proofs.All.{Bool, IfSome, IsSome, List, None, OnSome, Option, Some, [], ap, arith, cond, false, false≢true, find, length, position, position_from, position_from-zero, refl, remove, slice_index_or as get_or, subst, suc, sym, true, without_first, ℕ, ◌+◌, ◌<◌, ◌∙◌, ◌∷◌, ◌≡◌}
 use Rattle.sdd_tm.proofs.Lists.{some_is}
 
 pub record IsNowhere {A : Type 0} (p : A → Bool) (xs : List A) : Type 0 where
@@ -42,11 +38,7 @@ first_from p n place (x ∷ xs) e =
           record {
             at = 0;
             place_is = omega arith;
-            first = record {
-              within = omega arith;
-              found = λ d. rw g refl;
-              left = rw g refl;
-            };
+            first = record { within = omega arith; found = λ d. rw g refl; left = rw g refl };
           }
       | false ↦ λ g h.
           let r = first_from p (n + 1) place xs h in

@@ -1,23 +1,9 @@
 -- A transaction that is given to the module goes to the queue of its class.
-use Rattle.std.proofs.Common.{ℕ, ◌+◌, ◌<◌, ◌≤◌, ◌^◌, ◌≡◌, ◌==◌, Bool, true, false, ◌&&◌, ◌||◌, cond, List, [], ◌∷◌, ◌++◌, map, length, refl, ap, sym, ◌∙◌, subst, arith, is_some}
-use Rattle.std.specs.Prelude.{unwrap_or, if◌then◌else◌}
-use Rattle.std.specs.List.{filter, list_all}
-use Rattle.std.proofs.lemmas.Bool.{and_parts, ne_eqb, eqb-true}
-use Rattle.std.proofs.lemmas.Bool.Decides.{nat_tests}
-use Rattle.sdd_attempt.specs.All.{Bases, Catalogue, Log, Setting, Submits, Txn, active, ascending, class_at, class_for, covers, fragments_in, head_of, in_force, is_for, numbers_to, queue, read_set, reads_at, write_set, writes}
-use Rattle.sdd_eras.proofs.EraSets.{read_in_era, uses_in_era}
-use Rattle.sdd_eras.proofs.EraSets as eras
-use Rattle.sdd_attempt.proofs.Stamps.{stamped_still}
-use Rattle.sdd_attempt.proofs.SoundLines.{line_submitted}
-use Rattle.sdd_attempt.proofs.LineActs.{resting}
-use Rattle.sdd_tm.specs.Views.{runs}
-use Rattle.sdd_tm.specs.Fits.{FitsSubmit}
-use Rattle.sdd_tm.specs.State.{State, class_of, state_of}
-use Rattle.sdd_tm.specs.Handing.{class_given, state_given}
-use Rattle.sdd_tm.specs.Stands.{IsSound, IsSettingOf, AreSettled, all_starts, IsAmid}
+use Rattle.sdd_tm.proofs.All.{AreSettled, Bases, Bool, Catalogue, FitsSubmit, IsAmid, IsSettingOf, IsSound, List, Log, Setting, State, Submits, Txn, [], active, all_starts, and_parts, ap, arith, ascending, class_at, class_for, class_given, class_of, cond, covers, eqb-true, false, filter, fragments_in, head_of, if◌then◌else◌, in_force, is_for, is_some, length, line_submitted, list_all, map, map_map, nat_tests, ne_eqb, numbers_to, queue, read_in_era, read_set, reads_at, refl, resting, runs, stamped_still, state_given, state_of, subst, sym, true, unwrap_or, uses_in_era, write_set, writes, ℕ, ◌&&◌, ◌++◌, ◌+◌, ◌<◌, ◌==◌, ◌^◌, ◌||◌, ◌∙◌, ◌∷◌, ◌≡◌, ◌≤◌}
 use Rattle.sdd_tm.proofs.Lists.{map_same}
 use Rattle.sdd_tm.proofs.ClassNumbers.{runs_class}
-use Rattle.sdd_tm.proofs.Handing.{has_room, settled_of, map_map}
+use Rattle.sdd_tm.proofs.Handing.{has_room, settled_of}
+use Rattle.sdd_eras.proofs.EraSets as eras
 
 -- the class of a transaction covers it
 
@@ -82,11 +68,7 @@ class_kept s log n txn c low =
         → class_of s (Submits n txn ∷ log)
         c ≡ (if b then record (class_of s log c) {
           line = record (class_of s log c).line {
-            queue = queue s c log ++ record {
-              number = n;
-              text = txn;
-              tries = 0;
-            } ∷ [];
+            queue = queue s c log ++ record { number = n; text = txn; tries = 0 } ∷ [];
           };
         } else class_of s log c)
     by true e = rw e refl

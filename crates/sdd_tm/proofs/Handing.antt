@@ -1,19 +1,5 @@
 -- A message that is handed: the module keeps what follows from the log, and only what the message touches may have a step.
-use Rattle.std.proofs.Common.{ℕ, zero, suc, ◌+◌, ◌<◌, ◌≤◌, ◌^◌, ◌≡◌, ◌≢◌, ◌==◌, Bool, true, false, ◌&&◌, cond, List, [], ◌∷◌, ◌++◌, map, length, refl, ap, sym, ◌∙◌, subst, arith, Option, Some, None}
-use Rattle.std.specs.Prelude.{slice_get, nat_lt, if◌then◌else◌}
-use Rattle.std.specs.List.{filter, range_with_len}
-use Rattle.std.proofs.lemmas.Bool.{and_right, ne_eqb, lt-ltb, le-ltb, ltb-true, ltb-false}
-use Rattle.sdd_attempt.specs.All.{Ask, Attempt, AwaitsAt, Bases, ClassNo, D, Exchange, FitsAnswer, Handed, Held, Hold, IsAwaited, Log, MAX_CLASSES, Msg, Phase, Ready, Reduced, Reject, Release, Rows, Setting, Site, T, U, Values, active, active_handed, after_hand, class_at, clock, fetches_use, hands, line_step, number_of, numbers_to, pushed_by, rejects}
-use Rattle.sdd_attempt.proofs.Stamps.{stamped_still}
-use Rattle.sdd_attempt.proofs.Served.{served_handed}
-use Rattle.sdd_attempt.proofs.SoundLines.{line_handed}
-use Rattle.sdd_attempt.proofs.LineActs.{resting}
-use Rattle.sdd_tm.specs.declared.asked.Asked.{Asked}
-use Rattle.sdd_tm.specs.Views.{Question, HoldCounts, asks, asks_handed, holds, holds_handed, view_of, on_hold, runs}
-use Rattle.sdd_tm.specs.Fits.{fits_kind, fits}
-use Rattle.sdd_tm.specs.State.{ClassState, State, asked, asks_of, class_of, state_of}
-use Rattle.sdd_tm.specs.Handing.{ask_handed, class_handed, hold_handed, owed_handed, state_handed, class_named}
-use Rattle.sdd_tm.specs.Stands.{InTurn, IsSound, IsSettingOf, AreSettled, all_starts, IsAmid}
+use Rattle.sdd_tm.proofs.All.{AreSettled, Ask, Asked, Attempt, AwaitsAt, Bases, Bool, ClassNo, ClassState, D, Exchange, FitsAnswer, Handed, Held, Hold, HoldCounts, InTurn, IsAmid, IsAwaited, IsSettingOf, IsSound, List, Log, MAX_CLASSES, Msg, None, Option, Phase, Question, Ready, Reduced, Reject, Release, Rows, Setting, Site, Some, State, T, U, Values, [], active, active_handed, after_hand, all_starts, and_right, ap, arith, ask_handed, asked, asks, asks_handed, asks_of, class_at, class_handed, class_named, class_of, clock, cond, false, fetches_use, filter, fits, fits_kind, hands, hold_handed, holds, holds_handed, if◌then◌else◌, le-ltb, length, length_range, line_handed, line_step, lt-ltb, ltb-false, ltb-true, map, map_map, nat_lt, ne_eqb, number_of, numbers_to, on_hold, owed_handed, pushed_by, refl, rejects, resting, runs, served_handed, shorter, slice_get, stamped_still, state_handed, state_of, subst, suc, sym, true, view_of, ℕ, ◌&&◌, ◌++◌, ◌+◌, ◌<◌, ◌==◌, ◌^◌, ◌∙◌, ◌∷◌, ◌≡◌, ◌≢◌, ◌≤◌}
 use Rattle.sdd_tm.proofs.Lists.{get_map, map_same}
 use Rattle.sdd_tm.proofs.OpenAsks.{open_handed}
 use Rattle.sdd_tm.proofs.Dues.{own_none, none_parts}
@@ -94,10 +80,6 @@ owed_kept : (n : ℕ) (m : Msg) (h : HoldCounts) → InTurn h
 owed_kept n Hold h turns = let b = turns.answered in lt-ltb h.helds (suc h.holds) (omega arith)
 owed_kept n _ h turns = refl
 
-pub map_map : {A B C : Type 0} (f : B → C) (g : A → B) (xs : List A) → map f (map g xs) ≡ map (λ x. f (g x)) xs
-map_map f g [] = refl
-map_map f g (x ∷ xs) = ap (λ rest. f (g x) ∷ rest) (map_map f g xs)
-
 pub state_kept : (s : Setting) (log : Log) (from : Site) (m : Msg) → InTurn (holds log)
     → state_of s (Handed from m ∷ log) ≡ state_handed from m (state_of s log)
 state_kept s log from m turns =
@@ -157,18 +139,6 @@ early s bases log from (Reject ts class by write) f = let t = f.0.time in let l 
 early s bases log from (Release ts) f = let t = f.0.time in let l = f.1.early in omega arith
 early s bases log from (Held time) f = absurd f.1
 early s bases log from _ f = f.0.time
-
-shorter : {A : Type 0} (p : A → Bool) (xs : List A) → length (filter p xs) ≤ length xs
-shorter p [] = omega arith
-shorter p (x ∷ xs) = let rest = shorter p xs in
-    elim (p x) as (λ b. length (cond b (x ∷ filter p xs) (filter p xs)) ≤ suc (length xs)) [
-      | true ↦ omega arith
-      | false ↦ omega arith
-    ]
-
-length_range : (a n : ℕ) → length (range_with_len a n) ≡ n
-length_range a zero = refl
-length_range a (suc n) = ap suc (length_range (a + 1) n)
 
 pub few_runs : (s : Setting) (log : Log) → IsSettingOf s log → length (runs s) ≤ 64
 few_runs s log setting =

@@ -1,14 +1,8 @@
 -- A class that was lent by its place.
-use Rattle.std.proofs.Common.{ℕ, zero, suc, ◌≡◌, Bool, List, [], ◌∷◌, ◌∙◌, subst, Some}
-use Rattle.std.specs.Prelude.{slice_get, slice_index_or, OnOk, Result, Ok, Err}
-use Rattle.sdd_attempt.specs.All.{Bases, Catalogue, IsDatabase, Notes, ServesAt, Ticking, noted}
-use Rattle.sdd_attempt.specs.protocol.declared.entry.Entry as line
-use Rattle.sdd_tm.specs.declared.step.Step.{Step}
-use Rattle.sdd_tm.specs.declared.step.Step.TheVariants.{Commit}
-use Rattle.sdd_tm.specs.State.{ClassState, State}
-use Rattle.sdd_tm.specs.Steps.{act_of}
+use Rattle.sdd_tm.proofs.All.{Bases, Bool, Catalogue, ClassState, Commit, Err, IsDatabase, List, Notes, Ok, OnOk, Result, ServesAt, Some, State, Step, Ticking, [], act_of, noted, slice_get, slice_index_or, subst, suc, zero, ℕ, ◌∙◌, ◌∷◌, ◌≡◌}
 use Rattle.sdd_tm.proofs.Lists.{some_is}
 use Rattle.sdd_tm.proofs.Settling.{NotesDone}
+use Rattle.sdd_attempt.specs.protocol.declared.entry.Entry as line
 
 -- the parts of a module
 abbrev pub parts : Catalogue → List line.Entry → Ticking → Bool → Bool → List ClassState → State

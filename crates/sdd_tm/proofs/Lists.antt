@@ -1,7 +1,5 @@
 -- Lists: the first member of which something is made, and a member that changes alone.
-use Rattle.std.proofs.Common.{ℕ, zero, suc, ◌<◌, ◌≡◌, ◌≢◌, List, [], ◌∷◌, map, length, refl, ap, ◌∙◌, arith, Option, Some, None}
-use Rattle.std.specs.Prelude.{slice_get, slice_set}
-use Rattle.sdd_attempt.specs.All.{first_some, or_else}
+use Rattle.sdd_tm.proofs.All.{List, None, Option, Some, [], ap, arith, first_some, length, map, or_else, refl, slice_get, slice_set, suc, zero, ℕ, ◌<◌, ◌∙◌, ◌∷◌, ◌≡◌, ◌≢◌}
 
 pub some_is : {A : Type 0} {x y : A} → Some x ≡ Some y → x ≡ y
 some_is e = cc
@@ -87,8 +85,7 @@ map_is_set f g (y ∷ xs) zero x new e is h =
 map_is_set f g (y ∷ xs) (suc k) x new e is h =
     rw (
       h 0 y refl (λ q. absurd (omega arith)),
-      map_is_set f g xs k x new e is
-          (λ i z q r. h (suc i) z q (λ t. r (omega arith))),
+      map_is_set f g xs k x new e is (λ i z q r. h (suc i) z q (λ t. r (omega arith))),
     ) refl
 
 -- whichever order two numbers have

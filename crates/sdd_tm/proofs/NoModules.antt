@@ -1,22 +1,9 @@
 -- An attempt that reads at no module needs no rows: no row of a database meets the restrictions of one of its uses.
-use Rattle.std.proofs.Common.{ℕ, ◌+◌, ◌≤◌, ◌≡◌, ◌==◌, inl, inr, true, false, cond, List, [], ◌∷◌, ◌++◌, map, length, refl, sym, ◌∙◌, subst, arith, Option, Some, None, is_some}
-use Rattle.std.specs.List.{AllByRecursion, cons_option, list_all, filter_map}
-use Rattle.std.proofs.lemmas.List.Elements.{recursion_from_All}
-use Rattle.std.proofs.lemmas.Bool.{and_parts, ne_eqb, cond-false, false≢true}
-use Rattle.sdd_attempt.specs.All.{AreEnough, AreEnoughAlong, Bases, Catalogue, Condition, Database, Delete, Fits, FitsCondition, FitsStatement, FragNo, Has, IsDatabase, IsEntry, IsRelation, IsServed, IsSound, IsWaiting, Item, Msg, Put, Query, Queued, RelNo, Row, Serves, Site, Stmt, Ticking, Tuple, Txn, Update, Use, ascending, contains, first_phase, fragment_of, fragments_for, fragments_in, is_over, module_read, modules_of, numbers_to, part_of, product, read_set, reads_at, rel_of, restrictions_of, rows_of, sends_of_act, start_act, started, statement_uses, ticked, timestamp, uses_from, uses_in, uses_of}
-use Rattle.sdd_attempt.proofs.lang.Pushdown.{meets_restrictions, parts_meet}
-use Rattle.sdd_attempt.proofs.lang.ReadSetDecides.{lies_in_use, ascending_back}
-use Rattle.sdd_attempt.proofs.lang.Sources.{length-statement_uses}
-use Rattle.sdd_attempt.proofs.exec.Members.{Has-map_from, Has-flat_map_from, Has-filter_map_from}
+use Rattle.sdd_tm.proofs.All.{AllByRecursion, AreEnough, AreEnoughAlong, Bases, Catalogue, Condition, Database, Delete, Fits, FitsCondition, FitsStatement, FragNo, Has, Has-filter_map_from, Has-flat_map_from, Has-map_from, IsDatabase, IsEntry, IsRelation, IsServed, IsWaiting, Item, List, Msg, None, Option, Put, Query, Queued, RelNo, Row, Serves, Site, Some, Stmt, Ticking, Tuple, Txn, Update, Use, [], all_parts, and_parts, arith, ascending, ascending_back, cond, cond-false, cons_option, contains, each_has, false, false≢true, filter_map, first_phase, fragment_of, fragments_for, fragments_in, is_over, is_some, length, length-statement_uses, lies_in_use, list_all, map, meets_restrictions, module_read, modules_of, ne_eqb, numbers_to, part_of, parts_meet, product, read_set, reads_at, recursion_from_All, refl, rel_of, restrictions_of, rows_of, sends_of_act, start_act, start_modules, started, statement_uses, subst, sym, ticked, timestamp, true, uses_from, uses_in, uses_of, ℕ, ◌++◌, ◌+◌, ◌==◌, ◌∙◌, ◌∷◌, ◌≡◌, ◌≤◌}
+use Rattle.sdd_attempt.specs.All.{IsSound}
 use Rattle.sdd_attempt.specs.protocol.declared.entry.Entry as line
-use Rattle.sdd_attempt.proofs.SoundLines.{start_modules}
 
 -- no row of the database
-
-each_has : {A : Type 0} (P : A → Type 0) (xs : List A) (x : A) → AllByRecursion P xs → Has xs x → P x
-each_has P [] x all h = absurd h
-each_has P (y ∷ xs) x all (inl e) = subst P e all.0
-each_has P (y ∷ xs) x all (inr h) = each_has P xs x all.1 h
 
 entry_of : (db : Database) (rel : ℕ) (row : Row) → Has (rows_of db rel) row
     → (e : Item × Row) × Has db e × ((e.0.0 == rel) ≡ true) × (e.1 ≡ row)
@@ -71,11 +58,6 @@ enough cat sound db is before (Update rel sets conds) fits none = λ row of.
 enough cat sound db is before (Delete rel conds) fits none = λ row of.
     absurd (no_row cat sound db is (rel ∷ []) 1 conds rel.0 refl fits.0
     (recursion_from_All (FitsCondition cat (rel ∷ [])) conds fits.1.1) none.0 row of.0 of.1)
-
-all_parts : {A : Type 0} (P : A → Type 0) (xs ys : List A) → AllByRecursion P (xs ++ ys)
-    → AllByRecursion P xs × AllByRecursion P ys
-all_parts P [] ys h = (tt, h)
-all_parts P (x ∷ xs) ys h = let r = all_parts P xs ys h.1 in ((h.0, r.0), r.1)
 
 enough_along : (cat : Catalogue) → IsSound cat → (db : Database) → IsDatabase cat db
     → (before : ℕ) (statements : List Stmt) → AllByRecursion (FitsStatement cat) statements

@@ -1,14 +1,5 @@
 -- The open ASKs: they keep their order, and the first of a class that can be answered goes away with its NULL.
-use Rattle.std.proofs.Common.{ℕ, suc, ◌<◌, ◌≤◌, ◌≡◌, ◌≢◌, ◌==◌, Bool, true, false, not, ◌||◌, cond, List, [], ◌∷◌, ◌++◌, map, refl, ap, sym, ◌∙◌, arith, Option, Some, None}
-use Rattle.std.specs.Prelude.{if◌then◌else◌}
-use Rattle.std.specs.List.{AllByRecursion, filter, list_any, find}
-use Rattle.std.proofs.lemmas.Bool.{or_parts, eq-eqb, eqb-true, ne_eqb, false≢true}
-use Rattle.sdd_attempt.specs.All.{Act, Ask, Attempt, Did, Handed, Held, Hold, Log, Msg, Null, Records, Sends, Site, answers_hand, bound_of, class_no, first_some, hands, or_else, time_at}
-use Rattle.sdd_tm.specs.Views.{Question, ClassView, View, HoldCounts, asks, holds, holds_acted}
-use Rattle.sdd_tm.specs.Due.{null_time, null_at, null_to}
-use Rattle.sdd_tm.specs.State.{asked, asks_of}
-use Rattle.sdd_tm.specs.Steps.{can_answer, without_first, answer_time}
-use Rattle.sdd_tm.specs.Stands.{Rise, AreOpen}
+use Rattle.sdd_tm.proofs.All.{Act, AllByRecursion, AreOpen, Ask, Attempt, Bool, ClassView, Did, Handed, Held, Hold, HoldCounts, List, Log, Msg, None, Null, Option, Question, Records, Rise, Sends, Site, Some, View, [], answer_time, answers_hand, ap, arith, asked, asks, asks_of, bound_of, can_answer, class_no, cond, eq-eqb, eqb-true, false, false≢true, filter, find, first_some, hands, holds, holds_acted, if◌then◌else◌, list_any, map, ne_eqb, not, null_at, null_time, null_to, or_else, or_parts, refl, suc, sym, time_at, true, without_first, ℕ, ◌++◌, ◌<◌, ◌==◌, ◌||◌, ◌∙◌, ◌∷◌, ◌≡◌, ◌≢◌, ◌≤◌}
 
 -- hands that rise
 
@@ -172,8 +163,7 @@ skips v k low high q qs h none not_yet first =
     }
   where
     find_on : (b : Bool) → (b ≡ true → can_answer k.active (asked q) ≡ false)
-        → find (can_answer k.active) (asks_of k.class qs) ≡ Some (asked first.question)
-        → find (can_answer k.active)
+        → find (can_answer k.active) (asks_of k.class qs) ≡ Some (asked first.question) → find (can_answer k.active)
         (map asked (cond b (q ∷ filter (λ r. r.class == k.class) qs) (filter (λ r. r.class == k.class) qs))) ≡ Some
         (asked first.question)
     find_on true f g = rw (f refl) g

@@ -1,11 +1,5 @@
 -- How many transactions of a module may start before the next message.
-use Rattle.std.proofs.Common.{ℕ, zero, suc, ◌+◌, ◌*◌, ◌≤◌, ◌^◌, ◌≡◌, List, [], ◌∷◌, map, length, refl, ap, arith, Some}
-use Rattle.std.specs.Prelude.{slice_get, slice_set}
-use Rattle.sdd_attempt.specs.All.{IsLineOf, Log, Setting, active, queue, starts_left, submits}
-use Rattle.sdd_attempt.proofs.Waiting.{few_waiting}
-use Rattle.sdd_attempt.proofs.LineActs.{left_is_few}
-use Rattle.sdd_tm.specs.State.{ClassState, class_of}
-use Rattle.sdd_tm.specs.Stands.{all_starts}
+use Rattle.sdd_tm.proofs.All.{ClassState, IsLineOf, List, Log, Setting, Some, [], active, all_starts, ap, arith, class_of, few_waiting, left_is_few, length, map, queue, refl, slice_get, slice_set, starts_left, submits, suc, zero, ℕ, ◌*◌, ◌+◌, ◌^◌, ◌∷◌, ◌≡◌, ◌≤◌}
 use Rattle.sdd_tm.proofs.Lists.{some_is}
 
 -- one class changes

@@ -1,21 +1,7 @@
 -- The loop over the classes of a module: what each step asks for, and what it leaves.
-use Rattle.std.proofs.Common.{ℕ, zero, suc, ◌+◌, ◌<◌, ◌≤◌, ◌≡◌, Bool, List, [], ◌∷◌, length, refl, ap, sym, ◌∙◌, subst, arith, Option, Some, None}
-use Rattle.std.specs.Prelude.{slice_get, slice_set}
-use Rattle.sdd_attempt.specs.All.{AreTried, Bases, IsDatabase, IsServed, Log, Notes, ServesAt, Setting, clock, line_step, noted}
-use Rattle.sdd_attempt.specs.declared.step.LineStep.TheVariants.{Commits as ToCommit}
-use Rattle.sdd_attempt.proofs.Tries.{tries_told}
-use Rattle.sdd_attempt.proofs.LineActs.{served_of}
-use Rattle.sdd_tm.specs.declared.step.Step.{Step}
-use Rattle.sdd_tm.specs.declared.step.Step.TheVariants.{Send, Commit, Answer, Start}
-use Rattle.sdd_tm.specs.Views.{runs}
-use Rattle.sdd_tm.specs.State.{ClassState, State, class_of}
-use Rattle.sdd_tm.specs.Steps.{act_of, class_step, step_at, state_done}
-use Rattle.sdd_tm.specs.Stands.{IsAmid, IsCalm}
-use Rattle.sdd_tm.specs.Work.{work}
-use Rattle.sdd_tm.specs.Works.{Works}
+use Rattle.sdd_tm.proofs.All.{Answer, AreTried, Bases, Bool, ClassState, Commit, IsAmid, IsCalm, IsDatabase, IsServed, List, Log, None, Notes, Option, Send, ServesAt, Setting, Some, Start, State, Step, ToCommit, Works, [], act_of, ap, arith, class_of, class_step, clock, commits, length, line_step, noted, refl, runs, served_of, slice_get, slice_set, state_done, step_at, subst, suc, sym, tries_told, work, zero, ℕ, ◌+◌, ◌<◌, ◌∙◌, ◌∷◌, ◌≡◌, ◌≤◌}
 use Rattle.sdd_tm.proofs.Lists.{of_map}
 use Rattle.sdd_tm.proofs.ClassNumbers.{runs_class}
-use Rattle.sdd_attempt.proofs.LineSteps.{commits}
 use Rattle.sdd_tm.proofs.Dues.{IsStep, commits_now, starts, step_is}
 use Rattle.sdd_tm.proofs.Acting.{may_start}
 use Rattle.sdd_tm.proofs.Calm.{calm_done, calm_next}
@@ -146,8 +132,7 @@ length_set (y ∷ xs) zero x = refl
 length_set (y ∷ xs) (suc i) x = ap suc (length_set xs i x)
 
 pub goes_on : (before now after : State) (place end : ℕ) (step : Step) (old notes new : Notes) → Bases
-    → Going before now place end old notes → place < end
-    → Some step ≡ step_at now.on_hold (slice_get now.classes place)
+    → Going before now place end old notes → place < end → Some step ≡ step_at now.on_hold (slice_get now.classes place)
     → StateDone now place step after → NotesDone now place step notes new → Going before after place end old new
 goes_on before now after place end step old notes new bases going less e state draft =
     let h = has_step now place step e in

@@ -1,16 +1,5 @@
 -- One class among the parts of a module takes a message, or a transaction.
-use Rattle.std.proofs.Common.{ℕ, ◌/◌, ◌<◌, ◌^◌, ◌≡◌, ◌≢◌, false, List, [], ◌∷◌, ◌++◌, map, length, refl, ap, sym, ◌∙◌, subst, arith, Some, None}
-use Rattle.std.specs.Prelude.{slice_get, slice_set, slice_index_or}
-use Rattle.std.proofs.lemmas.List.{length-map}
-use Rattle.std.proofs.lemmas.Bool.{eq-eqb}
-use Rattle.sdd_attempt.specs.All.{Ask, Bases, ClassNo, Fits, Held, IsAwaited, Log, Msg, Queued, Reject, Release, Setting, Site, Txn, contains, in_force}
-use Rattle.sdd_eras.proofs.EraFits.{fits_in_era}
-use Rattle.sdd_attempt.proofs.LineActs.{new_in_queue}
-use Rattle.sdd_tm.specs.Views.{runs}
-use Rattle.sdd_tm.specs.Fits.{fits_kind, FitsSubmit}
-use Rattle.sdd_tm.specs.State.{ClassState, State, class_of, state_of}
-use Rattle.sdd_tm.specs.Handing.{push_of, heeded, class_handed, state_handed, class_named, class_given, state_given, place_of}
-use Rattle.sdd_tm.specs.Stands.{IsKept, AreApart}
+use Rattle.sdd_tm.proofs.All.{AreApart, Ask, Bases, ClassNo, ClassState, Fits, FitsSubmit, Held, IsAwaited, IsKept, List, Log, Msg, None, Queued, Reject, Release, Setting, Site, Some, State, Txn, [], ap, arith, class_given, class_handed, class_named, class_of, contains, eq-eqb, false, fits_in_era, fits_kind, heeded, in_force, length, length-map, map, new_in_queue, place_of, push_of, refl, runs, slice_get, slice_index_or, slice_set, state_given, state_handed, state_of, subst, sym, ℕ, ◌++◌, ◌/◌, ◌<◌, ◌^◌, ◌∙◌, ◌∷◌, ◌≡◌, ◌≢◌}
 use Rattle.sdd_tm.proofs.Lists.{some_is, of_map, map_same, get_within}
 use Rattle.sdd_tm.proofs.ClassPlaces.{somewhere, named_nowhere, named_alone, classes_apart}
 use Rattle.sdd_tm.proofs.Handing.{handed_other, is_awaited, few_runs}
@@ -97,8 +86,7 @@ given_own c n txn k e = rw (eq-eqb k.line.class c e) refl
 
 pub given_somewhere : (st : State) (c n : ℕ) (txn : Txn) (place : ℕ) (run new : ClassState)
     → Some place ≡ place_of st.classes c → AreApart st.classes → run ≡ slice_index_or st.classes place run
-    → new ≡ with_given n txn run
-    → record st { classes = slice_set st.classes place new } ≡ state_given c n txn st
+    → new ≡ with_given n txn run → record st { classes = slice_set st.classes place new } ≡ state_given c n txn st
 given_somewhere st c n txn place run new e apart lent is =
     let at = somewhere st.classes c place (sym e) in
     let same : run ≡ at.class = lent_is st.classes place at.class run at.there lent in

@@ -1,21 +1,9 @@
 -- HELD: on hold, once no class is active, it is what is due, and once.
-use Rattle.std.proofs.Common.{ℕ, suc, ◌<◌, ◌≡◌, ◌≢◌, ◌==◌, Bool, true, false, ◌&&◌, List, [], ◌∷◌, map, refl, ap, sym, ◌∙◌, subst, arith, Option, Some, None, is_none}
-use Rattle.std.specs.Prelude.{nat_lt, if◌then◌else◌}
-use Rattle.std.specs.List.{AllByRecursion, list_all}
-use Rattle.std.proofs.lemmas.Bool.{and_parts, ne_eqb, ltb-true, le-ltb}
-use Rattle.sdd_attempt.specs.All.{Act, Bases, Did, Held, Log, Msg, Notes, Sends, Setting, Ticking, U, active, bound_of, clock, noted, queue, time_at, with_act}
-use Rattle.sdd_attempt.proofs.Stamps.{stamped_did}
-use Rattle.sdd_attempt.proofs.SoundLines.{IsApart, sent_apart, line_apart}
-use Rattle.sdd_attempt.proofs.LineActs.{served_sent}
-use Rattle.sdd_tm.specs.Views.{Question, asks, asks_acted, holds, holds_acted, class_view, view_of, runs, on_hold}
-use Rattle.sdd_tm.specs.Views as views
-use Rattle.sdd_tm.specs.Due.{held_due, next}
-use Rattle.sdd_tm.specs.State.{State, asks_of, class_of, state_of}
-use Rattle.sdd_tm.specs.Steps.{is_idle, held_of, told_by, told}
-use Rattle.sdd_tm.specs.Stands.{AreSettled, IsAmid}
+use Rattle.sdd_tm.proofs.All.{Act, AllByRecursion, AreSettled, Bases, Bool, Did, Held, IsAmid, IsApart, List, Log, Msg, None, Notes, Option, Question, Sends, Setting, Some, State, Ticking, U, [], active, and_parts, ap, arith, asks, asks_acted, asks_of, bound_of, class_of, class_view, clock, false, held_due, held_of, holds, if◌then◌else◌, is_idle, is_none, le-ltb, line_apart, list_all, ltb-true, map, nat_lt, ne_eqb, next, noted, on_hold, queue, refl, runs, sent_apart, served_sent, stamped_did, state_of, subst, suc, sym, time_at, told, told_by, true, view_of, with_act, ℕ, ◌&&◌, ◌<◌, ◌==◌, ◌∙◌, ◌∷◌, ◌≡◌, ◌≢◌}
 use Rattle.sdd_tm.proofs.Lists.{some_is, map_same}
 use Rattle.sdd_tm.proofs.OpenAsks.{without_hand, open_did}
 use Rattle.sdd_tm.proofs.Dues.{held_is_due}
+use Rattle.sdd_tm.specs.Views as views
 
 -- whether all classes are idle, of the log and of what is kept of it
 idle_alike : (s : Setting) (log : Log) (cs : List ℕ) → list_all views.is_idle (map (class_view s log) cs) ≡ list_all

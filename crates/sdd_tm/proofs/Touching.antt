@@ -1,12 +1,5 @@
 -- Only what a message or a transaction touches may have a step after it.
-use Rattle.std.proofs.Common.{ℕ, ◌+◌, ◌≤◌, ◌≡◌, ◌≢◌, Bool, List, map, length, refl, ap, sym, ◌∙◌, subst, arith, Option, Some, None}
-use Rattle.std.specs.Prelude.{slice_get}
-use Rattle.std.proofs.lemmas.Bool.{ne_eqb}
-use Rattle.sdd_attempt.specs.All.{ClassNo, Hold, Msg, Release, Site, Txn}
-use Rattle.sdd_tm.specs.State.{ClassState, State}
-use Rattle.sdd_tm.specs.Steps.{start_step}
-use Rattle.sdd_tm.specs.Handing.{class_handed, hold_handed, state_handed, class_named, class_given, state_given, place_of, one_place, all_places, touched_by, touched}
-use Rattle.sdd_tm.specs.Stands.{AreSettled, IsCalm, AreApart}
+use Rattle.sdd_tm.proofs.All.{AreApart, AreSettled, Bool, ClassNo, ClassState, Hold, IsCalm, List, Msg, None, Option, Release, Site, Some, State, Txn, all_places, ap, arith, class_given, class_handed, class_named, hold_handed, length, map, ne_eqb, one_place, place_of, refl, slice_get, start_step, state_given, state_handed, subst, sym, touched, touched_by, ℕ, ◌+◌, ◌∙◌, ◌≡◌, ◌≢◌, ◌≤◌}
 use Rattle.sdd_tm.proofs.Lists.{some_is, of_map, get_within}
 use Rattle.sdd_tm.proofs.Dues.{none_parts}
 use Rattle.sdd_tm.proofs.Calm.{calm_kept}

@@ -1,9 +1,5 @@
 -- The view after an entry is a function of the view before it, and what is next is due.
-use Rattle.std.proofs.Common.{ℕ, ◌∷◌, map, ◌≡◌, refl, ap, Some}
-use Rattle.sdd_attempt.specs.All.{Act, Bases, Catalogue, Did, Entry, Handed, Log, Redeclared, Setting, Submits, Ticked, first_some}
-use Rattle.sdd_attempt.proofs.site_module.Finding.{map_twice, found_at, one_of}
-use Rattle.sdd_tm.specs.Views.{View, class_view, view_of, after, class_after, runs}
-use Rattle.sdd_tm.specs.Due.{IsDue, by_exchange, by_ask, by_hold, by_start, due, exchange_due, null_due, null_to, held_due, start_due}
+use Rattle.sdd_tm.proofs.All.{Act, Bases, Catalogue, Did, Entry, Handed, IsDue, Log, Redeclared, Setting, Some, Submits, Ticked, View, after, ap, by_ask, by_exchange, by_hold, by_start, class_after, class_view, due, exchange_due, first_some, found_at, held_due, map, map_twice, null_due, null_to, one_of, refl, runs, start_due, view_of, ℕ, ◌∷◌, ◌≡◌}
 
 class_step : (s : Setting) (e : Entry) (log : Log) (c : ℕ)
     → class_view s (e ∷ log) c ≡ class_after e (view_of s log) (class_view s log c)

@@ -1,21 +1,6 @@
 -- Each step of a class leaves it less to do.
-use Rattle.std.proofs.Common.{ℕ, zero, suc, ◌<◌, ◌≡◌, ◌==◌, Bool, true, false, not, ◌||◌, cond, List, [], ◌∷◌, map, length, refl, ap, sym, ◌∙◌, subst, arith, Option, Some, None}
-use Rattle.std.specs.Prelude.{slice_get, slice_set, option_map}
-use Rattle.std.specs.List.{filter, list_any}
-use Rattle.std.proofs.lemmas.Bool.{false≢true}
-use Rattle.sdd_attempt.specs.All.{Act, Attempt, Bases, IsOfHead, Line, Log, Null, Queued, Sends, Setting, Site, Ticking, active, active_after, active_sent, begins, class_no, clock, commit_act, commit_next, handed, head_of, in_force, line_done, queue, queue_after, send_next, sends_of_act, sent, start_act, start_next, started, ticked, time_at, timestamp, tried, work_of}
-use Rattle.sdd_attempt.proofs.SoundLines.{request_of}
-use Rattle.sdd_attempt.proofs.LineActs.{asking_of, own_record, starts_committed, starts_started, work_sent}
-use Rattle.sdd_tm.specs.declared.asked.Asked.{Asked}
-use Rattle.sdd_tm.specs.declared.step.Step.{Step}
-use Rattle.sdd_tm.specs.declared.step.Step.TheVariants.{Send, Commit, Answer, Start}
-use Rattle.sdd_tm.specs.Views.{asks, view_of, runs, on_hold}
-use Rattle.sdd_tm.specs.State.{ClassState, State, asks_of, class_of, state_of}
-use Rattle.sdd_tm.specs.Steps.{can_answer, without_first, answer_time, answer_to, act_of, class_step, class_done, state_done}
-use Rattle.sdd_tm.specs.Stands.{IsAmid}
-use Rattle.sdd_tm.specs.Work.{work_in, work}
+use Rattle.sdd_tm.proofs.All.{Act, Answer, Asked, Attempt, Bases, Bool, ClassState, Commit, IsAmid, IsOfHead, Line, List, Log, None, Null, Option, Queued, Send, Sends, Setting, Site, Some, Start, State, Step, Ticking, [], act_of, active, active_after, active_sent, answer_time, answer_to, ap, arith, asking_of, asks, asks_of, begins, can_answer, class_done, class_no, class_of, class_step, clock, commit_act, commit_next, commits, cond, false, false≢true, filter, handed, has_to_send, head_of, in_force, length, line_done, list_any, map, not, on_hold, option_map, own_record, queue, queue_after, refl, request_of, runs, send_next, sends_of_act, sent, slice_get, slice_set, start_act, start_next, started, starts_committed, starts_started, state_done, state_of, subst, suc, sym, ticked, time_at, timestamp, tried, true, view_of, without_first, work, work_in, work_of, work_sent, zero, ℕ, ◌<◌, ◌==◌, ◌||◌, ◌∙◌, ◌∷◌, ◌≡◌}
 use Rattle.sdd_tm.proofs.Lists.{some_is, of_map}
-use Rattle.sdd_attempt.proofs.LineSteps.{has_to_send, commits}
 use Rattle.sdd_tm.proofs.Dues.{IsStep, sends, commits_now, answers, starts, step_is}
 use Rattle.sdd_tm.proofs.Acting.{may_start}
 
@@ -131,8 +116,7 @@ step_falls s bases log place c Start amid e (starts h cannot may) =
 -- of the module
 pub work_falls : (s : Setting) (bases : Bases) (state : State) (log : Log) (place : ℕ) (k : ClassState)
     (step : Step) → IsAmid s bases state log → slice_get state.classes place ≡ Some k
-    → class_step state.on_hold k ≡ Some step
-    → work (state_done bases place k step state).classes < work state.classes
+    → class_step state.on_hold k ≡ Some step → work (state_done bases place k step state).classes < work state.classes
 work_falls s bases state log place k step amid here steps =
     let is : state_of s log ≡ state = amid.state_is in
     let r = of_map (class_of s log) (runs s) place k (subst (λ (st : State). slice_get st.classes place ≡ Some k)

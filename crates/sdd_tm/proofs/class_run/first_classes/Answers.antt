@@ -1,9 +1,7 @@
-use Rattle.std.proofs.Common.{◌≡◌, ◌==◌, ◌∙◌, ap, sym, true, false, eq-eqb}
-use Rattle.std.proofs.lemmas.Bool.{ne_eqb}
-use Rattle.sdd_attempt.specs.All.{class_at}
+use Rattle.sdd_tm.proofs.All.{ap, class_at, eq-eqb, false, ne_eqb, sym, true, ◌==◌, ◌∙◌, ◌≡◌}
 use Rattle.sdd_tm.proofs.FirstClasses.{class_kept, class_left}
-use Rattle.sdd_tm.proofs.class_run.first_classes.Goals as goal
 use Rattle.sdd_tm.proofs.class_run.first_classes.Goals.{then-class-tm+in_ok-push, else-class-tm}
+use Rattle.sdd_tm.proofs.class_run.first_classes.Goals as goal
 
 pub loop-number-preserved : goal.loop-number-preserved
 loop-number-preserved c =

@@ -1,5 +1,4 @@
-use Rattle.std.proofs.Common.{◌≡◌, ◌-◌, map}
-use Rattle.sdd_tm.specs.Works.{first_class}
+use Rattle.sdd_tm.proofs.All.{first_class, map, ◌-◌, ◌≡◌}
 use Rattle.sdd_tm.proofs.FirstClasses.{classes_to}
 use Rattle.sdd_tm.proofs.class_run.first_classes.Given as goal
 

@@ -1,6 +1,5 @@
 -- The place that is found is that of the first which passes.
-use Rattle.std.proofs.Common.{sym, option_map, arith}
-use Rattle.sdd_tm.specs.Steps.{answers}
+use Rattle.sdd_tm.proofs.All.{answers, arith, option_map, sym}
 use Rattle.sdd_tm.proofs.Firsts.{is_nowhere, is_first_at, removed_found, removed_left}
 use Rattle.sdd_tm.proofs.class_run.take_first.Goals as goal
 

@@ -1,5 +1,5 @@
 -- The first class that has the transaction tells.
-use Rattle.std.proofs.Common.{◌∙◌, ◌+◌, refl, sym}
+use Rattle.sdd_tm.proofs.All.{refl, sym, ◌+◌, ◌∙◌}
 use Rattle.sdd_tm.proofs.Among.{standing_from, standing_here, standing_passed, standing_found, standing_past}
 use Rattle.sdd_tm.proofs.parts.standing_among.Goals as goal
 

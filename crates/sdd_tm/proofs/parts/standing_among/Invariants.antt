@@ -1,7 +1,5 @@
 -- The classes before the place at hand don't have the transaction.
-use Rattle.std.proofs.Common.{◌≡◌, map}
-use Rattle.sdd_attempt.specs.All.{standing_among}
-use Rattle.sdd_tm.specs.State.{ClassState}
+use Rattle.sdd_tm.proofs.All.{ClassState, map, standing_among, ◌≡◌}
 use Rattle.sdd_tm.proofs.Among.{standing_from}
 use Rattle.sdd_tm.proofs.parts.standing_among.Given as goal
 

@@ -1,10 +1,5 @@
 -- What is kept of a log has few classes, each number once, and the message is one that its class awaits.
-use Rattle.std.proofs.Common.{◌≡◌, ◌<◌, ◌^◌, sym, subst, length}
-use Rattle.sdd_attempt.specs.All.{IsAwaited}
-use Rattle.sdd_tm.specs.State.{ClassState, State}
-use Rattle.std.specs.Prelude.{slice_get, Some}
-use Rattle.std.proofs.Common.{ℕ}
-use Rattle.sdd_tm.specs.Stands.{AreApart}
+use Rattle.sdd_tm.proofs.All.{AreApart, ClassState, IsAwaited, Some, State, length, slice_get, subst, sym, ℕ, ◌<◌, ◌^◌, ◌≡◌}
 use Rattle.sdd_tm.proofs.Taking.{few_kept, apart_kept, awaited_kept, push_early, handed_unnamed}
 use Rattle.sdd_tm.proofs.parts.Parts.hand.Goals as goal
 

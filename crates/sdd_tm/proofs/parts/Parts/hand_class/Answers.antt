@@ -1,7 +1,5 @@
 -- The message changes the class that it names alone.
-use Rattle.std.proofs.Common.{◌≡◌, ◌∙◌, ap, subst}
-use Rattle.std.specs.Prelude.{slice_index_or, slice_set}
-use Rattle.sdd_tm.specs.State.{State}
+use Rattle.sdd_tm.proofs.All.{State, ap, slice_index_or, slice_set, subst, ◌∙◌, ◌≡◌}
 use Rattle.sdd_tm.proofs.Taking.{handed_nowhere, handed_somewhere}
 use Rattle.sdd_tm.proofs.parts.Parts.hand_class.Goals as goal
 

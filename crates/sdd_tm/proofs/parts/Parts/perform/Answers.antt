@@ -1,7 +1,5 @@
 -- The class at the place is the one that was lent.
-use Rattle.std.proofs.Common.{subst}
-use Rattle.std.specs.Prelude.{OnOk}
-use Rattle.sdd_tm.specs.State.{State}
+use Rattle.sdd_tm.proofs.All.{OnOk, State, subst}
 use Rattle.sdd_tm.proofs.Settling.{NotesDone}
 use Rattle.sdd_tm.proofs.Indexing.{parts, notes_of_lent}
 use Rattle.sdd_tm.proofs.parts.Parts.perform.Goals as goal

@@ -1,5 +1,5 @@
 -- Within the call some log is kept, by which the next act is due and has room.
-use Rattle.std.proofs.Common.{arith}
+use Rattle.sdd_tm.proofs.All.{arith}
 use Rattle.sdd_tm.proofs.Settling.{still, declared_class, tried_class, goes_on, less_work}
 use Rattle.sdd_tm.proofs.parts.Parts.settle.Goals as goal
 

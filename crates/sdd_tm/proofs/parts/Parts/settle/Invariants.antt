@@ -1,5 +1,4 @@
-use Rattle.std.proofs.Common.{◌+◌, ◌-◌}
-use Rattle.sdd_tm.specs.Work.{work}
+use Rattle.sdd_tm.proofs.All.{work, ◌+◌, ◌-◌}
 use Rattle.sdd_tm.proofs.Settling.{Going}
 use Rattle.sdd_tm.proofs.parts.Parts.settle.Given as goal
 

@@ -1,8 +1,5 @@
 -- The transaction goes to its class alone, where the module runs it.
-use Rattle.std.proofs.Common.{ℕ, ◌≡◌, ◌∙◌, ap, sym, subst, arith}
-use Rattle.std.specs.Prelude.{slice_index_or, slice_set}
-use Rattle.sdd_tm.specs.State.{State}
-use Rattle.sdd_tm.specs.Handing.{one_place}
+use Rattle.sdd_tm.proofs.All.{State, ap, arith, one_place, slice_index_or, slice_set, subst, sym, ℕ, ◌∙◌, ◌≡◌}
 use Rattle.sdd_tm.proofs.Taking.{few_kept, apart_kept, given_nowhere, given_somewhere, given_fits, given_there}
 use Rattle.sdd_tm.proofs.parts.Parts.submit.Goals as goal
 

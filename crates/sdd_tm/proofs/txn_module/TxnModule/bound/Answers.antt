@@ -1,7 +1,5 @@
 -- The bound of the clock.
-use Rattle.std.proofs.Common.{◌∙◌, ap}
-use Rattle.sdd_attempt.specs.All.{Kept, bound_of}
-use Rattle.sdd_tm.specs.State.{State}
+use Rattle.sdd_tm.proofs.All.{Kept, State, ap, bound_of, ◌∙◌}
 use Rattle.sdd_tm.proofs.Calls.{bound_is}
 use Rattle.sdd_tm.proofs.txn_module.TxnModule.bound.Goals as goal
 

@@ -1,6 +1,5 @@
 -- A module before its first message stands for the log of what is in force.
-use Rattle.std.proofs.Common.{refl}
-use Rattle.sdd_attempt.specs.All.{Force}
+use Rattle.sdd_tm.proofs.All.{Force, refl}
 use Rattle.sdd_tm.proofs.Calls.{new_stands}
 use Rattle.sdd_tm.proofs.txn_module.TxnModule.new.Goals as goal
 

@@ -1,7 +1,5 @@
 -- Classes are put in force, and push the clock.
-use Rattle.std.proofs.Common.{◌∙◌, ap}
-use Rattle.sdd_attempt.specs.All.{Force, Kept, pushed}
-use Rattle.sdd_tm.specs.State.{State}
+use Rattle.sdd_tm.proofs.All.{Force, Kept, State, ap, pushed, ◌∙◌}
 use Rattle.sdd_tm.proofs.Calls.{redeclared_stands}
 use Rattle.sdd_tm.proofs.txn_module.TxnModule.redeclare.Goals as goal
 

@@ -1,7 +1,5 @@
 -- The class is found by the list in force, and fits.
-use Rattle.std.proofs.Common.{◌∙◌, ap, sym, subst}
-use Rattle.sdd_attempt.specs.All.{Fits, Kept, class_for}
-use Rattle.sdd_tm.specs.State.{State}
+use Rattle.sdd_tm.proofs.All.{Fits, Kept, State, ap, class_for, subst, sym, ◌∙◌}
 use Rattle.sdd_tm.proofs.Calls.{class_in_force, fits_here}
 use Rattle.sdd_tm.proofs.txn_module.TxnModule.submit.Goals as goal
 

@@ -1,10 +1,5 @@
 -- A transaction is taken, and then each act is made that is due.
-use Rattle.std.proofs.Common.{◌≡◌, ◌∙◌, ◌++◌, ◌∷◌, [], ap, subst, refl, arith, true}
-use Rattle.sdd_attempt.specs.All.{Kept, Notes, Submits}
-use Rattle.sdd_attempt.specs.history.declared.record.Rec.TheVariants.{Submit}
-use Rattle.sdd_tm.specs.State.{State}
-use Rattle.sdd_tm.specs.Handing.{place_of, one_place, state_given}
-use Rattle.sdd_tm.specs.Works.{Works}
+use Rattle.sdd_tm.proofs.All.{Kept, Notes, State, Submit, Submits, Works, [], ap, arith, one_place, place_of, refl, state_given, subst, true, ◌++◌, ◌∙◌, ◌∷◌, ◌≡◌}
 use Rattle.sdd_tm.proofs.Calls.{class_here, given_to, few_given, calm_after, amid_after, submit_does}
 use Rattle.sdd_tm.proofs.txn_module.TxnModule.submit_in_class.Goals as goal
 

@@ -1,7 +1,5 @@
 -- Time passes on the clock alone.
-use Rattle.std.proofs.Common.{◌∙◌, ap}
-use Rattle.sdd_attempt.specs.All.{Kept, ticked}
-use Rattle.sdd_tm.specs.State.{State}
+use Rattle.sdd_tm.proofs.All.{Kept, State, ap, ticked, ◌∙◌}
 use Rattle.sdd_tm.proofs.Calls.{tick_stands}
 use Rattle.sdd_tm.proofs.txn_module.TxnModule.tick.Goals as goal
 

@@ -1,9 +1,5 @@
 -- A message is taken, and then each act is made that is due.
-use Rattle.std.proofs.Common.{◌≡◌, ◌∙◌, ◌∷◌, ap, subst, refl, true}
-use Rattle.sdd_attempt.specs.All.{Handed, Kept}
-use Rattle.sdd_tm.specs.State.{State}
-use Rattle.sdd_tm.specs.Handing.{state_handed, touched}
-use Rattle.sdd_tm.specs.Works.{Works}
+use Rattle.sdd_tm.proofs.All.{Handed, Kept, State, Works, ap, refl, state_handed, subst, touched, true, ◌∙◌, ◌∷◌, ◌≡◌}
 use Rattle.sdd_tm.proofs.Calls.{few_handed, calm_for, amid_for, take_does}
 use Rattle.sdd_tm.proofs.txn_module.TxnModuleModule.take.Goals as goal
 
@@ -27,8 +23,7 @@ settle-requires-clause-amid c =
       r.0,
       r.1,
       Handed c.args.from c.args.msg ∷ r.2,
-      amid_for c.args.self.now r.0 r.1 r.2 c.args.from c.args.msg
-          c.hand.new.self r.3 r.4 (taken_is c),
+      amid_for c.args.self.now r.0 r.1 r.2 c.args.from c.args.msg c.hand.new.self r.3 r.4 (taken_is c),
     )
 
 pub returns-clause-law : goal.returns-clause-law
