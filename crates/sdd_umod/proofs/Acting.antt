@@ -1,27 +1,10 @@
 -- The module's next step is the act that is due, and then it keeps what follows from the log.
-use Rattle.std.proofs.Common.{ℕ, zero, suc, ◌+◌, ◌<◌, ◌≤◌, ◌^◌, ◌≡◌, ◌==◌, Bool, true, false, not, ◌&&◌, List, [], ◌∷◌, map, refl, ap, sym, ◌∙◌, subst, arith, Option, Some, None}
-use Rattle.std.specs.Prelude.{find, if◌then◌else◌, option_map}
-use Rattle.std.specs.List.{filter, filter_map, range_with_len}
-use Rattle.std.proofs.lemmas.Bool.{ltb-true, eqb-true, false≢true}
-use Rattle.sdd_attempt.specs.All.{Act, AllUpTo, Attempt, Bases, Did, IsOfHead, IsServed, IsWhole, Log, Msg, Notes, Queued, Sends, Setting, Site, T, Ticking, active, active_after, active_sent, after_send, ascending, asks_rows, begins, clock, commit_act, commit_next, first_phase, fragments_in, handed, head_is_untried, head_of, is_over, line_step, module_read, modules_of, noted, numbers_to, queue, queue_after, send_next, sends_of_act, sent, start_act, start_next, started, starts_left, ticked, time_at, timestamp, tried, uses_of, with_act}
-use Rattle.sdd_attempt.specs.wire.declared.msg.Msg.TheVariants as messages
-use Rattle.sdd_attempt.specs.declared.step.LineStep.TheVariants.{Sends as ToSend, Commits as ToCommit}
-use Rattle.sdd_attempt.proofs.Asking.{NoReads}
-use Rattle.sdd_attempt.proofs.Stamps.{stamped_did}
-use Rattle.sdd_attempt.proofs.SoundLines.{request_of, line_apart, line_sent, line_committed, line_started, commit_no_reads, start_is_up, start_modules}
-use Rattle.sdd_attempt.proofs.LineSteps.{has_to_send, commits}
-use Rattle.sdd_attempt.proofs.LineActs.{all_up_of, asking_of, no_read_asked, served_sent, starts_committed, starts_sent, starts_started}
-use Rattle.sdd_umod.specs.declared.step.Step.{Step}
-use Rattle.sdd_umod.specs.declared.step.Step.TheVariants.{Send, Commit, Release, Start, Hold}
-use Rattle.sdd_umod.specs.Views.{TmCounts, counts, last_served}
-use Rattle.sdd_umod.specs.Due.{next}
-use Rattle.sdd_umod.specs.State.{State, line_of, state_of}
-use Rattle.sdd_umod.specs.Steps.{tm_of, is_kept_on_hold, is_free, may_start, release_step, start_step, hold_step, step_of, act_of, state_done}
-use Rattle.sdd_umod.specs.Stands.{AreStarted, IsSound, IsAmid, running}
+use Rattle.sdd_umod.proofs.All.{Act, AllUpTo, AreStarted, Attempt, Bases, Bool, Commit, Did, Hold, IsAmid, IsOfHead, IsServed, IsSound, IsWhole, List, Log, Msg, NoReads, None, Notes, Option, Queued, Release, Send, Sends, Setting, Site, Some, Start, State, Step, T, Ticking, TmCounts, ToCommit, ToSend, [], act_of, active, active_after, active_sent, after_send, all_up_of, ap, arith, ascending, asking_of, asks_rows, begins, clock, commit_act, commit_next, commit_no_reads, commits, counts, eqb-true, false, false≢true, filter, filter_map, find, first_phase, fragments_in, handed, has_to_send, head_is_untried, head_of, hold_step, if◌then◌else◌, is_free, is_kept_on_hold, is_over, last_served, line_apart, line_committed, line_of, line_sent, line_started, line_step, ltb-true, map, may_start, module_read, modules_of, next, no_read_asked, not, noted, numbers_to, option_map, queue, queue_after, range_with_len, refl, release_step, request_of, running, send_next, sends_of_act, sent, served_sent, stamped_did, start_act, start_is_up, start_modules, start_next, start_step, started, starts_committed, starts_left, starts_sent, starts_started, state_done, state_of, step_of, subst, suc, sym, ticked, time_at, timestamp, tm_of, tried, true, uses_of, with_act, zero, ℕ, ◌&&◌, ◌+◌, ◌<◌, ◌==◌, ◌^◌, ◌∙◌, ◌∷◌, ◌≡◌, ◌≤◌}
 use Rattle.sdd_umod.proofs.Lists.{found_in_map}
 use Rattle.sdd_umod.proofs.Dues.{IsStep, sends, commits_now, releases, starts, holds, step_is, attempt_is_due, release_is_due, start_comes, hold_comes}
 use Rattle.sdd_umod.proofs.AfterActs.{after_request, after_commit, after_start, after_release, after_hold, release_apart, hold_apart}
 use Rattle.sdd_umod.proofs.Turns.{turn_release, turn_hold, turn_commit, own_counts}
+use Rattle.sdd_attempt.specs.wire.declared.msg.Msg.TheVariants as messages
 
 -- The act of the step is the one that is due, and then the module keeps what follows from the log.
 pub record Makes (s : Setting) (bases : Bases) (log : Log) (step : Step) (state : State) : Type 0 where

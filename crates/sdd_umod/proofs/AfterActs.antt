@@ -1,14 +1,7 @@
 -- What the module keeps of the log after each act is what its step leaves.
-use Rattle.std.proofs.Common.{ℕ, ◌≡◌, List, [], ◌∷◌, map, refl, ap, sym, ◌∙◌, Option, Some, None}
-use Rattle.sdd_attempt.specs.All.{Act, Attempt, Bases, D, Did, Log, Queued, Sends, Setting, T, TmNo, active, clock, clock_done, commit_act, commit_next, dm_no, line_done, numbers_to, send_next, start_act, start_next, time_at}
+use Rattle.sdd_umod.proofs.All.{Act, Attempt, Bases, Commit, D, Did, Hold, IsApart, IsRequest, List, Log, None, Option, Queued, Release, Send, Sends, Setting, Some, Start, State, T, TmCounts, TmNo, [], active, ap, clock, clock_done, commit_act, commit_next, committed, counted, counts, dm_no, line_done, line_of, map, map_twice, numbers_to, refl, send_next, sent_apart, start_act, start_next, state_done, state_of, sym, time_at, ts_of, ℕ, ◌∙◌, ◌∷◌, ◌≡◌}
 use Rattle.sdd_attempt.specs.wire.declared.msg.Msg.TheVariants as messages
-use Rattle.sdd_attempt.proofs.site_module.Finding.{map_twice}
-use Rattle.sdd_attempt.proofs.SoundLines.{IsApart, IsRequest, sent_apart}
-use Rattle.sdd_umod.specs.declared.step.Step.TheVariants.{Send, Commit, Release, Start, Hold}
 use Rattle.sdd_umod.specs.declared.tm_count.Sign.TheVariants as signs
-use Rattle.sdd_umod.specs.Views.{TmCounts, counts, ts_of}
-use Rattle.sdd_umod.specs.State.{State, line_of, state_of}
-use Rattle.sdd_umod.specs.Steps.{counted, committed, state_done}
 
 -- the next message of the exchange
 pub after_request : (s : Setting) (bases : Bases) (log : Log) (a : Attempt) (act : Act) → IsRequest 0 a act

@@ -1,22 +1,9 @@
 -- What a call of the module does, of every log for which the module stands.
-use Rattle.std.proofs.Common.{ℕ, ◌<◌, ◌^◌, ◌≡◌, ◌==◌, Bool, true, false, List, [], ◌∷◌, map, refl, ap, sym, ◌∙◌, subst, arith, Option, Some, None}
-use Rattle.std.specs.Prelude.{IsTrue, find, if◌then◌else◌, option_map}
-use Rattle.sdd_attempt.specs.All.{Bases, Catalogue, Does, Handed, IsWhole, Kept, Log, Msg, Notes, Rec, RelNo, Row, Setting, Site, Submits, Txn, TxnNo, U, nothing_noted, numbers_to, or_else, records_of}
-use Rattle.sdd_attempt.specs.catalog.Rules as catalogues
-use Rattle.sdd_attempt.specs.history.declared.record.Rec.TheVariants.{Submit}
-use Rattle.sdd_attempt.proofs.site_module.Does.{DoesMore, does_from, all_noted}
-use Rattle.sdd_umod.specs.declared.step.Step.TheVariants.{Release}
-use Rattle.sdd_umod.specs.Views.{TmCounts}
-use Rattle.sdd_umod.specs.Due.{next}
-use Rattle.sdd_umod.specs.Fits.{fits, FitsSubmit}
-use Rattle.sdd_umod.specs.State.{State, state_of}
-use Rattle.sdd_umod.specs.Steps.{is_kept_on_hold, step_of, tm_of}
-use Rattle.sdd_umod.specs.Handing.{state_handed, state_given}
-use Rattle.sdd_umod.specs.Stands.{IsKept, Stands, IsAmid}
-use Rattle.sdd_umod.specs.Works.{Works, first_state, no_counts}
+use Rattle.sdd_umod.proofs.All.{Bases, Bool, Catalogue, Does, DoesMore, FitsSubmit, Handed, IsAmid, IsKept, IsTrue, IsWhole, Kept, List, Log, Msg, None, Notes, Option, Rec, RelNo, Release, Row, Setting, Site, Some, Stands, State, Submit, Submits, TmCounts, Txn, TxnNo, U, Works, [], all_noted, ap, arith, does_from, false, find, first_state, fits, if◌then◌else◌, is_kept_on_hold, map, next, no_counts, nothing_noted, numbers_to, option_map, or_else, records_of, refl, state_given, state_handed, state_of, step_of, subst, sym, tm_of, true, ℕ, ◌<◌, ◌==◌, ◌^◌, ◌∙◌, ◌∷◌, ◌≡◌}
 use Rattle.sdd_umod.proofs.Handing.{amid_handed}
 use Rattle.sdd_umod.proofs.Giving.{amid_given}
 use Rattle.sdd_umod.proofs.Dues.{nothing_due}
+use Rattle.sdd_attempt.specs.catalog.Rules as catalogues
 
 stands_now : (new : Kept State) (s : Setting) (bases : Bases) (log : Log) → IsTrue new.live → step_of new.value ≡ None
     → IsAmid s bases new.value log → Stands new s log

@@ -1,21 +1,8 @@
 -- What is due by a log is what the module does next by what it keeps of it.
-use Rattle.std.proofs.Common.{ℕ, ◌≡◌, ◌==◌, ◌≤◌, Bool, true, false, ◌&&◌, List, [], ◌∷◌, refl, ap, sym, ◌∙◌, subst, arith, Option, Some, None}
-use Rattle.std.specs.Prelude.{find, if◌then◌else◌, option_map}
-use Rattle.std.specs.List.{list_all}
-use Rattle.std.proofs.lemmas.Bool.Decides.{nat_tests}
-use Rattle.sdd_attempt.specs.All.{Act, Bases, Catalogue, IsWhole, Log, Queued, Sends, Setting, T, active, attempt_due, first_some, head_is_untried, head_of, is_empty, line_step, queue, start_act, time_at, tm_no}
-use Rattle.sdd_attempt.specs.wire.declared.msg.Msg.TheVariants as messages
-use Rattle.sdd_attempt.specs.declared.step.LineStep.{LineStep}
-use Rattle.sdd_attempt.specs.declared.step.LineStep.TheVariants.{Sends as ToSend, Commits as ToCommit}
-use Rattle.sdd_attempt.proofs.LineSteps.{none_due}
-use Rattle.sdd_umod.specs.declared.step.Step.{Step}
-use Rattle.sdd_umod.specs.declared.step.Step.TheVariants.{Send, Commit, Release, Start, Hold}
-use Rattle.sdd_umod.specs.Views.{TmCounts, View, view_of}
-use Rattle.sdd_umod.specs.Due as table
-use Rattle.sdd_umod.specs.Due.{next, release_due, start_due, hold_due}
-use Rattle.sdd_umod.specs.State.{State, as_counted, state_of}
-use Rattle.sdd_umod.specs.Steps.{of_line, tm_of, is_applied, is_kept_on_hold, is_free, may_start, release_step, start_step, hold_step, step_of, act_of}
+use Rattle.sdd_umod.proofs.All.{Act, Bases, Bool, Catalogue, Commit, Hold, IsWhole, LineStep, List, Log, None, Option, Queued, Release, Send, Sends, Setting, Some, Start, State, Step, T, TmCounts, ToCommit, ToSend, View, [], act_of, active, ap, arith, as_counted, attempt_due, false, find, first_some, head_is_untried, head_of, hold_due, hold_step, if◌then◌else◌, is_applied, is_empty, is_free, is_kept_on_hold, line_step, list_all, may_start, nat_tests, next, none_due, of_line, option_map, queue, refl, release_due, release_step, start_act, start_due, start_step, state_of, step_of, subst, sym, time_at, tm_no, tm_of, true, view_of, ℕ, ◌&&◌, ◌==◌, ◌∙◌, ◌∷◌, ◌≡◌, ◌≤◌}
 use Rattle.sdd_umod.proofs.Lists.{some_is, or_by, or_nothing, first_found, first_found_if}
+use Rattle.sdd_attempt.specs.wire.declared.msg.Msg.TheVariants as messages
+use Rattle.sdd_umod.specs.Due as table
 
 -- a step of the module
 
@@ -44,8 +31,7 @@ release_is : (state : State) (step : Step) (b : Bool) (o : Option TmCounts) → 
     → release_step state ≡ Some step → (if b then option_map Release (option_map tm_of o) else None) ≡ Some step → IsStep state step
 release_is state step true None none e f g h = absurd cc
 release_is state step false o none e f g h = absurd cc
-release_is state step true (Some k) none e f g h =
-    subst (IsStep state) (some_is h) (releases k none f (g ∙ sym h))
+release_is state step true (Some k) none e f g h = subst (IsStep state) (some_is h) (releases k none f (g ∙ sym h))
 
 start_is : (state : State) (step : Step) (b : Bool) → line_step state.line.active ≡ None → release_step state ≡ None
     → may_start state ≡ b → (if b then Some Start else None) ≡ Some step → IsStep state step

@@ -1,15 +1,6 @@
 -- Undeclared transactions read every fragment somewhere: each one has a copy.
-use Rattle.std.proofs.Common.{ℕ, zero, suc, ◌+◌, ◌≤◌, ◌<◌, ◌≡◌, ◌≢◌, ◌==◌, Bool, true, false, cond, List, [], ◌∷◌, length, refl, ap, sym, ◌∙◌, subst, arith, Some, is_some}
-use Rattle.std.specs.Prelude.{find}
-use Rattle.std.specs.List.{AllByRecursion, list_all, list_any, range_with_len}
-use Rattle.std.proofs.lemmas.List.{length-map}
-use Rattle.std.proofs.lemmas.List.Elements.{recursion_from_All}
-use Rattle.std.proofs.lemmas.Bool.{eq-eqb, and_from, or_left, false≢true}
-use Rattle.sdd_attempt.specs.All.{Catalogue, DmNo, Fragment, FragmentPart, IsPlaced, IsSound, Parts, Txn, catalogue_of, dm_no, fragment_at, fragment_from, fragment_rules, has_copy, lowest_copy, parts_of, read_set, reads_at, relation_names}
-use Rattle.sdd_attempt.proofs.catalog.Found.{both_empty, each_unfound, empty_of_map}
-use Rattle.sdd_attempt.proofs.catalog.Validity.{no_faults, unbroken}
-use Rattle.sdd_attempt.proofs.catalog.Sound.{at_number, each_image, sound_fragments}
-use Rattle.sdd_attempt.proofs.lang.Sets.{IsThere, read_set_there}
+use Rattle.sdd_umod.proofs.All.{AllByRecursion, Bool, Catalogue, DmNo, Fragment, FragmentPart, IsPlaced, IsThere, List, Parts, Some, Txn, [], and_from, ap, arith, at_number, both_empty, catalogue_of, cond, dm_no, each_image, each_unfound, empty_of_map, eq-eqb, false, false≢true, find, fragment_at, fragment_from, fragment_rules, has_copy, is_some, length, length-map, list_all, list_any, lowest_copy, no_faults, or_left, parts_of, range_with_len, read_set, read_set_there, reads_at, recursion_from_All, refl, relation_names, sound_fragments, subst, suc, sym, true, unbroken, zero, ℕ, ◌+◌, ◌<◌, ◌==◌, ◌∙◌, ◌∷◌, ◌≡◌, ◌≢◌, ◌≤◌}
+use Rattle.sdd_attempt.specs.All.{IsSound}
 
 -- each fragment has a copy
 

@@ -1,14 +1,5 @@
 -- A transaction that is given to the module goes to the end of its queue.
-use Rattle.std.proofs.Common.{ℕ, ◌<◌, ◌^◌, ◌≡◌, false, ◌∷◌, map, refl, subst, None}
-use Rattle.sdd_attempt.specs.All.{Bases, Fits, Log, Queued, Setting, Submits, Txn, active, contains}
-use Rattle.sdd_attempt.proofs.Stamps.{stamped_still}
-use Rattle.sdd_attempt.proofs.SoundLines.{line_submitted}
-use Rattle.sdd_attempt.proofs.LineActs.{new_in_queue, resting}
-use Rattle.sdd_umod.specs.Fits.{FitsSubmit}
-use Rattle.sdd_umod.specs.State.{State, state_of}
-use Rattle.sdd_umod.specs.Steps.{step_of}
-use Rattle.sdd_umod.specs.Handing.{state_given}
-use Rattle.sdd_umod.specs.Stands.{IsSound, IsSetting, IsKept, IsAmid}
+use Rattle.sdd_umod.proofs.All.{Bases, Fits, FitsSubmit, IsAmid, IsKept, IsSetting, IsSound, Log, None, Queued, Setting, State, Submits, Txn, active, contains, false, line_submitted, map, new_in_queue, refl, resting, stamped_still, state_given, state_of, step_of, subst, ℕ, ◌<◌, ◌^◌, ◌∷◌, ◌≡◌}
 use Rattle.sdd_umod.proofs.Everywhere.{reads_all}
 use Rattle.sdd_umod.proofs.Handing.{has_room, settled_line}
 

@@ -1,24 +1,11 @@
 -- A message that is handed: the module keeps what follows from the log, and nothing else of it changes.
-use Rattle.std.proofs.Common.{ℕ, suc, ◌+◌, ◌<◌, ◌≤◌, ◌^◌, ◌≡◌, ◌==◌, Bool, true, false, List, ◌∷◌, map, refl, ap, sym, ◌∙◌, subst, arith, Option, Some, None}
-use Rattle.std.specs.Prelude.{if◌then◌else◌}
-use Rattle.sdd_attempt.specs.All.{Ask, Attempt, AwaitsAt, Bases, D, Done, FitsAnswer, Handed, Held, IsAwaited, Line, Log, Msg, Phase, Ready, Reduced, Reject, Release, Rows, Setting, Site, T, Ticking, U, Values, active, active_handed, after_hand, clock, fetches_use, line_step, numbers_to, pushed_by, queue, rejects, starts_left, submits}
-use Rattle.sdd_attempt.proofs.site_module.Finding.{map_twice}
-use Rattle.sdd_attempt.proofs.Stamps.{no_sooner_hand, stamped_still}
-use Rattle.sdd_attempt.proofs.Served.{served_handed}
-use Rattle.sdd_attempt.proofs.SoundLines.{line_handed}
-use Rattle.sdd_attempt.proofs.LineActs.{left_is_few, resting}
-use Rattle.sdd_attempt.proofs.Waiting.{few_waiting}
-use Rattle.sdd_umod.specs.declared.tm_count.Sign.TheVariants as signs
-use Rattle.sdd_umod.specs.Views.{Served, TmCounts, counts, counts_handed, last_served, served_handed as served_now}
-use Rattle.sdd_umod.specs.Fits.{fits_kind, fits}
-use Rattle.sdd_umod.specs.State.{State, as_counted, line_of, served_of, state_of}
-use Rattle.sdd_umod.specs.Steps.{counted, of_line, step_of}
-use Rattle.sdd_umod.specs.Handing.{IsEarly, clock_heeded, served_heeded, counts_heeded, state_handed}
-use Rattle.sdd_umod.specs.Stands.{InTurn, IsSound, IsSetting, IsKept, IsAmid, running}
-use Rattle.sdd_umod.specs.Works.{HaveRoom}
+use Rattle.sdd_umod.proofs.All.{Ask, Attempt, AwaitsAt, Bases, Bool, D, Done, FitsAnswer, Handed, HaveRoom, Held, InTurn, IsAmid, IsAwaited, IsEarly, IsKept, IsSetting, IsSound, Line, List, Log, Msg, None, Option, Phase, Ready, Reduced, Reject, Rows, Served, Setting, Site, Some, State, T, Ticking, TmCounts, U, Values, active, active_handed, after_hand, ap, arith, as_counted, clock, clock_heeded, counted, counts, counts_handed, counts_heeded, false, fetches_use, few_waiting, fits, fits_kind, if◌then◌else◌, last_served, left_is_few, line_handed, line_of, line_step, map, map_twice, no_sooner_hand, numbers_to, of_line, pushed_by, queue, refl, rejects, resting, running, served_handed, served_heeded, served_now, stamped_still, starts_left, state_handed, state_of, step_of, submits, subst, suc, sym, true, ℕ, ◌+◌, ◌<◌, ◌==◌, ◌^◌, ◌∙◌, ◌∷◌, ◌≡◌, ◌≤◌}
 use Rattle.sdd_umod.proofs.Lists.{or_nothing, get_map_of}
 use Rattle.sdd_umod.proofs.Dues.{line_none}
 use Rattle.sdd_umod.proofs.Turns.{tm_told, turn_held}
+use Rattle.sdd_attempt.specs.All.{Release}
+use Rattle.sdd_umod.specs.State.{served_of}
+use Rattle.sdd_umod.specs.declared.tm_count.Sign.TheVariants as signs
 
 -- what is kept of the log
 
@@ -79,7 +66,7 @@ answer_fits s bases log from (Reduced ts class u n) f = f
 answer_fits s bases log from (Rows ts class rows) f = f
 answer_fits s bases log from _ f = tt
 
-commits_same : (m : Msg) (v : Served) → (served_now m v).commits ≡ v.commits
+pub commits_same : (m : Msg) (v : Served) → (served_now m v).commits ≡ v.commits
 commits_same (Done t) v = elim (t.0 == v.ts) as (λ b. (if b then record v { dones = suc v.dones } else v).commits ≡ v.commits) [ true ↦ refl | false ↦ refl ]
 commits_same _ v = refl
 

@@ -1,10 +1,5 @@
 -- Lists: the first member that passes, and members that are made of others.
-use Rattle.std.proofs.Common.{ℕ, zero, suc, ◌+◌, ◌-◌, ◌<◌, ◌≤◌, ◌≡◌, Bool, true, false, ◌&&◌, cond, List, [], ◌∷◌, ◌++◌, map, length, take, drop, arith, refl, ap, sym, ◌∙◌, Option, Some, None}
-use Rattle.std.specs.Prelude.{find, if◌then◌else◌, option_map, slice_get, slice_index_or, slice_set}
-use Rattle.std.proofs.lemmas.List.{map-append}
-use Rattle.std.proofs.lemmas.List.Edits.{map_over_more}
-use Rattle.sdd_attempt.specs.All.{first_some, numbers_to, or_else}
-use Rattle.sdd_attempt.proofs.graph.Lists.{up_to}
+use Rattle.sdd_umod.proofs.All.{Bool, List, None, Option, Some, [], ap, arith, cond, drop, false, find, first_some, if◌then◌else◌, length, map, map-append, map_over_more, numbers_to, option_map, or_else, refl, slice_get, slice_index_or, slice_set, suc, sym, take, true, up_to, zero, ℕ, ◌&&◌, ◌++◌, ◌+◌, ◌-◌, ◌<◌, ◌∙◌, ◌∷◌, ◌≡◌, ◌≤◌}
 
 pub some_is : {A : Type 0} {x y : A} → Some x ≡ Some y → x ≡ y
 some_is e = cc

@@ -1,19 +1,5 @@
 -- The loop of a call: what each step asks for, and what it leaves.
-use Rattle.std.proofs.Common.{ℕ, ◌+◌, ◌<◌, ◌^◌, ◌≡◌, ◌∷◌, refl, ap, sym, ◌∙◌, subst, arith, Some, None}
-use Rattle.sdd_attempt.specs.All.{AreTried, Bases, Did, IsDatabase, IsServed, Log, Notes, ServesAt, Setting, clock, line_step, noted, with_act}
-use Rattle.sdd_attempt.proofs.site_module.Making.{made_nothing, made_more}
-use Rattle.sdd_attempt.specs.declared.step.LineStep.TheVariants.{Commits as ToCommit}
-use Rattle.sdd_attempt.proofs.Tries.{tries_told}
-use Rattle.sdd_attempt.proofs.LineSteps.{commits}
-use Rattle.sdd_attempt.proofs.LineActs.{served_of}
-use Rattle.sdd_umod.specs.declared.step.Step.{Step}
-use Rattle.sdd_umod.specs.declared.step.Step.TheVariants.{Send, Commit, Release, Start, Hold}
-use Rattle.sdd_umod.specs.Due.{next}
-use Rattle.sdd_umod.specs.State.{State, state_of}
-use Rattle.sdd_umod.specs.Steps.{act_of, step_of, state_done}
-use Rattle.sdd_umod.specs.Stands.{IsAmid}
-use Rattle.sdd_umod.specs.Work.{work}
-use Rattle.sdd_umod.specs.Works.{HaveRoom, Works}
+use Rattle.sdd_umod.proofs.All.{AreTried, Bases, Commit, Did, HaveRoom, Hold, IsAmid, IsDatabase, IsServed, Log, None, Notes, Release, Send, ServesAt, Setting, Some, Start, State, Step, ToCommit, Works, act_of, ap, arith, clock, commits, line_step, made_more, made_nothing, next, noted, refl, served_of, state_done, state_of, step_of, subst, sym, tries_told, with_act, work, ℕ, ◌+◌, ◌<◌, ◌^◌, ◌∙◌, ◌∷◌, ◌≡◌}
 use Rattle.sdd_umod.proofs.Dues.{IsStep, commits_now, step_is}
 use Rattle.sdd_umod.proofs.Acting.{makes}
 use Rattle.sdd_umod.proofs.Handing.{counts_room}

@@ -1,13 +1,7 @@
 -- HOLDs, HELDs and RELEASEs of each T stay in turn, and a Commit had its Start.
-use Rattle.std.proofs.Common.{ℕ, suc, ◌<◌, ◌≡◌, ◌==◌, true, false, [], ◌∷◌, refl, ap, sym, ◌∙◌, arith, Option}
-use Rattle.std.specs.Prelude.{if◌then◌else◌}
-use Rattle.std.proofs.lemmas.Bool.{eqb-true}
-use Rattle.sdd_attempt.specs.All.{D, Did, Handed, Held, Hold, Log, Msg, Records, Redeclared, Release, Sends, Site, Submits, T, Ticked, U}
-use Rattle.sdd_umod.specs.declared.tm_count.Sign.{Sign}
+use Rattle.sdd_umod.proofs.All.{D, Did, Handed, Held, InTurn, Log, Msg, Option, Records, Redeclared, Sends, Sign, Site, Submits, T, Ticked, TmCounts, U, [], ap, arith, counted, counts, counts_acted, counts_handed, eqb-true, false, if◌then◌else◌, refl, suc, sym, true, ℕ, ◌<◌, ◌==◌, ◌∙◌, ◌∷◌, ◌≡◌}
+use Rattle.sdd_attempt.specs.All.{Hold, Release}
 use Rattle.sdd_umod.specs.declared.tm_count.Sign.TheVariants as signs
-use Rattle.sdd_umod.specs.Views.{TmCounts, counts, counts_handed, counts_acted}
-use Rattle.sdd_umod.specs.Steps.{counted}
-use Rattle.sdd_umod.specs.Stands.{InTurn}
 
 -- which T the counts are of
 
@@ -16,7 +10,7 @@ tm_counted signs.Hold n k = elim (n == k.tm) as (λ b. (if b then record k { hol
 tm_counted signs.Held n k = elim (n == k.tm) as (λ b. (if b then record k { helds = suc k.helds } else k).tm ≡ k.tm) [ true ↦ refl | false ↦ refl ]
 tm_counted signs.Release n k = elim (n == k.tm) as (λ b. (if b then record k { releases = suc k.releases } else k).tm ≡ k.tm) [ true ↦ refl | false ↦ refl ]
 
-tm_handed : (from : Site) (m : Msg) (k : TmCounts) → (counts_handed from m k).tm ≡ k.tm
+pub tm_handed : (from : Site) (m : Msg) (k : TmCounts) → (counts_handed from m k).tm ≡ k.tm
 tm_handed (T n) (Held time) k = tm_counted signs.Held n.0 k
 tm_handed (T n) _ k = refl
 tm_handed U m k = refl

@@ -1,16 +1,14 @@
 -- The view after an entry is a function of the view before it, and what is next is due.
-use Rattle.std.proofs.Common.{◌∷◌, ◌≡◌, refl, ap, Some}
-use Rattle.sdd_attempt.specs.All.{Act, Bases, Catalogue, Did, Entry, Handed, Log, Redeclared, Setting, Submits, Ticked, attempt_due, first_some, numbers_to}
-use Rattle.sdd_attempt.proofs.site_module.Finding.{map_twice, found_at, one_of}
-use Rattle.sdd_umod.specs.Views.{View, view_of, after, counts, counts_handed, counts_acted}
-use Rattle.sdd_umod.specs.Due.{IsDue, by_exchange, by_release, by_start, by_hold, due, release_due, start_due, hold_due}
+use Rattle.sdd_umod.proofs.All.{Act, Bases, Catalogue, Did, Entry, Handed, IsDue, Log, Redeclared, Setting, Some, Submits, Ticked, View, after, ap, attempt_due, by_exchange, by_hold, by_release, by_start, counts, counts_acted, counts_handed, due, first_some, found_at, hold_due, map_twice, numbers_to, one_of, refl, release_due, start_due, view_of, ◌∷◌, ◌≡◌}
 
 pub view_step : (s : Setting) (e : Entry) (log : Log) → view_of s (e ∷ log) ≡ after e (view_of s log)
-view_step s (Handed from m) log = ap (λ ks. record (view_of s (Handed from m ∷ log)) { counts = ks }) (map_twice (λ t. counts t log) (λ t. counts t (Handed from m ∷ log)) (counts_handed from m) (numbers_to s.catalogue.tms) (λ t. refl))
+view_step s (Handed from m) log =
+    ap (λ ks. record (view_of s (Handed from m ∷ log)) { counts = ks }) (map_twice (λ t. counts t log) (λ t. counts t (Handed from m ∷ log)) (counts_handed from m) (numbers_to s.catalogue.tms) (λ t. refl))
 view_step s (Submits n txn) log = refl
 view_step s (Ticked n) log = refl
 view_step s (Redeclared force t) log = refl
-view_step s (Did act) log = ap (λ ks. record (view_of s (Did act ∷ log)) { counts = ks }) (map_twice (λ t. counts t log) (λ t. counts t (Did act ∷ log)) (counts_acted act) (numbers_to s.catalogue.tms) (λ t. refl))
+view_step s (Did act) log =
+    ap (λ ks. record (view_of s (Did act ∷ log)) { counts = ks }) (map_twice (λ t. counts t log) (λ t. counts t (Did act ∷ log)) (counts_acted act) (numbers_to s.catalogue.tms) (λ t. refl))
 
 pub next_is_due : (cat : Catalogue) (bases : Bases) (v : View) (a : Act) → due cat bases v ≡ Some a → IsDue cat bases v a
 next_is_due cat bases v a e =

@@ -1,25 +1,9 @@
 -- Each step leaves the module less to do.
-use Rattle.std.proofs.Common.{ℕ, suc, ◌+◌, ◌<◌, ◌≤◌, ◌≡◌, ◌==◌, Bool, true, false, not, cond, List, [], ◌∷◌, map, length, refl, ap, sym, ◌∙◌, subst, arith, Option, Some, None}
-use Rattle.std.specs.Prelude.{find, if◌then◌else◌, option_map}
-use Rattle.std.specs.List.{filter}
-use Rattle.std.proofs.lemmas.Bool.{eq-eqb, eqb-true, ltb-true}
-use Rattle.sdd_attempt.specs.All.{Act, Attempt, Bases, IsOfHead, Log, Queued, Setting, Ticking, active, active_after, active_sent, begins, clock, commit_act, commit_next, handed, head_of, line_step, numbers_to, queue, queue_after, send_next, sends_of_act, sent, start_act, start_next, started, ticked, timestamp, tried, work_of}
-use Rattle.sdd_attempt.specs.declared.step.LineStep.TheVariants.{Sends as ToSend, Commits as ToCommit}
-use Rattle.sdd_attempt.proofs.SoundLines.{request_of}
-use Rattle.sdd_attempt.proofs.Waiting.{fewer_committed}
-use Rattle.sdd_attempt.proofs.LineSteps.{has_to_send, commits}
-use Rattle.sdd_attempt.proofs.LineActs.{asking_of, starts_committed, starts_started, work_sent}
-use Rattle.sdd_umod.specs.declared.step.Step.{Step}
-use Rattle.sdd_umod.specs.declared.step.Step.TheVariants.{Send, Commit, Release, Start, Hold}
-use Rattle.sdd_umod.specs.declared.tm_count.Sign.TheVariants as signs
-use Rattle.sdd_umod.specs.Views.{TmCounts, counts, last_served}
-use Rattle.sdd_umod.specs.State.{State, line_of, state_of}
-use Rattle.sdd_umod.specs.Steps.{counted, is_free, is_kept_on_hold, step_of, state_done}
-use Rattle.sdd_umod.specs.Stands.{InTurn, IsAmid}
-use Rattle.sdd_umod.specs.Work.{signs_left, all_signs, work}
+use Rattle.sdd_umod.proofs.All.{Act, Attempt, Bases, Bool, Commit, Hold, InTurn, IsAmid, IsOfHead, List, Log, None, Option, Queued, Release, Send, Setting, Some, Start, State, Step, Ticking, TmCounts, ToCommit, ToSend, [], active, active_after, active_sent, all_signs, ap, arith, asking_of, begins, clock, commit_act, commit_next, commits, cond, counted, counts, eq-eqb, eqb-true, false, fewer_committed, filter, find, handed, has_to_send, head_of, if◌then◌else◌, is_free, is_kept_on_hold, last_served, length, line_of, line_step, ltb-true, map, not, numbers_to, option_map, queue, queue_after, refl, request_of, send_next, sends_of_act, sent, signs_left, start_act, start_next, started, starts_committed, starts_started, state_done, state_of, step_of, subst, suc, sym, ticked, timestamp, tried, true, work, work_of, work_sent, ℕ, ◌+◌, ◌<◌, ◌==◌, ◌∙◌, ◌∷◌, ◌≡◌, ◌≤◌}
 use Rattle.sdd_umod.proofs.Lists.{some_is, found_in_map}
 use Rattle.sdd_umod.proofs.Dues.{IsStep, sends, commits_now, releases, starts, holds, step_is}
 use Rattle.sdd_umod.proofs.Acting.{first_of}
+use Rattle.sdd_umod.specs.declared.tm_count.Sign.TheVariants as signs
 
 -- HOLDs and RELEASEs
 
@@ -58,8 +42,7 @@ fewer_where txns f p (x ∷ ks) k h e l =
           let here : signs_left txns (f x) < signs_left txns x =
           subst (λ (y : TmCounts). signs_left txns (f y) < signs_left txns y) (sym (some_is g)) l in
           let rest = no_more txns f ks h in omega arith
-      | false ↦ λ g.
-          let here = h x in let rest = fewer_where txns f p ks k h g l in omega arith
+      | false ↦ λ g. let here = h x in let rest = fewer_where txns f p ks k h g l in omega arith
     ] e
 
 released_fewer : (txns : ℕ) (k : TmCounts) → k.releases < txns → signs_left txns (counted signs.Release k.tm k) < signs_left txns k

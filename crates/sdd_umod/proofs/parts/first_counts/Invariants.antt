@@ -1,7 +1,5 @@
 -- Those before the number at hand are there.
-use Rattle.std.proofs.Common.{◌≡◌, ◌-◌, map}
-use Rattle.sdd_attempt.specs.All.{numbers_to}
-use Rattle.sdd_umod.specs.Works.{no_counts}
+use Rattle.sdd_umod.proofs.All.{map, no_counts, numbers_to, ◌-◌, ◌≡◌}
 use Rattle.sdd_umod.proofs.parts.first_counts.Given as goal
 
 abbrev pub invariant-loop-tm : goal.invariant-loop-tm

@@ -1,6 +1,5 @@
 -- One more is counted.
-use Rattle.std.proofs.Common.{◌∙◌, ap, sym}
-use Rattle.sdd_umod.specs.Steps.{counted}
+use Rattle.sdd_umod.proofs.All.{ap, counted, sym, ◌∙◌}
 use Rattle.sdd_umod.proofs.Lists.{changed_more}
 use Rattle.sdd_umod.proofs.tm_count.count.Goals as goal
 

@@ -1,6 +1,5 @@
 -- Those before the place at hand are counted.
-use Rattle.std.proofs.Common.{◌≡◌, ◌++◌, map, take, drop}
-use Rattle.sdd_umod.specs.Steps.{counted}
+use Rattle.sdd_umod.proofs.All.{counted, drop, map, take, ◌++◌, ◌≡◌}
 use Rattle.sdd_umod.proofs.tm_count.count.Given as goal
 
 abbrev pub invariant-loop-one : goal.invariant-loop-one

@@ -1,5 +1,5 @@
 -- The counts have room while the clock is low.
-use Rattle.std.proofs.Common.{arith}
+use Rattle.sdd_umod.proofs.All.{arith}
 use Rattle.sdd_umod.proofs.Handing.{kept_room}
 use Rattle.sdd_umod.proofs.parts.Parts.hand.Goals as goal
 

@@ -1,7 +1,5 @@
 -- A push leaves the counts.
-use Rattle.std.proofs.Common.{ap, sym, subst}
-use Rattle.sdd_umod.specs.State.{State}
-use Rattle.sdd_umod.specs.Works.{HaveRoom}
+use Rattle.sdd_umod.proofs.All.{HaveRoom, State, ap, subst, sym}
 use Rattle.sdd_umod.proofs.parts.Parts.heed.Goals as goal
 
 pub count_held-requires : goal.count_held-requires

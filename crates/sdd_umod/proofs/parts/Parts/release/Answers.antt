@@ -1,7 +1,5 @@
 -- The counts that are lent are those of the module.
-use Rattle.std.proofs.Common.{◌∙◌, ap, sym, subst}
-use Rattle.sdd_umod.specs.State.{State}
-use Rattle.sdd_umod.specs.Works.{HaveRoom}
+use Rattle.sdd_umod.proofs.All.{HaveRoom, State, ap, subst, sym, ◌∙◌}
 use Rattle.sdd_umod.proofs.parts.Parts.release.Goals as goal
 
 pub count-requires : goal.count-requires

@@ -1,6 +1,5 @@
 -- Within the call some log is kept, by which the next act is due and has room.
-use Rattle.std.proofs.Common.{arith, ap, sym, Some}
-use Rattle.sdd_umod.specs.declared.step.Step.{Step}
+use Rattle.sdd_umod.proofs.All.{Some, Step, ap, arith, sym}
 use Rattle.sdd_umod.proofs.Settling.{still, of_class, are_tried, commits_few, have_room, works_on, less_work}
 use Rattle.sdd_umod.proofs.parts.Parts.settle.Goals as goal
 

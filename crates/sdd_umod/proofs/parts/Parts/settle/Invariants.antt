@@ -1,5 +1,4 @@
-use Rattle.sdd_umod.specs.Work.{work}
-use Rattle.sdd_umod.specs.Works.{Works}
+use Rattle.sdd_umod.proofs.All.{Works, work}
 use Rattle.sdd_umod.proofs.parts.Parts.settle.Given as goal
 
 abbrev pub invariant-loop-step : goal.invariant-loop-step

@@ -1,7 +1,5 @@
 -- A new number isn't in the queue.
-use Rattle.std.proofs.Common.{◌≡◌, false, map, subst, sym}
-use Rattle.sdd_attempt.specs.All.{Queued, contains}
-use Rattle.sdd_umod.specs.State.{State}
+use Rattle.sdd_umod.proofs.All.{Queued, State, contains, false, map, subst, sym, ◌≡◌}
 use Rattle.sdd_umod.proofs.Giving.{fits_kept}
 use Rattle.sdd_umod.proofs.parts.Parts.submit.Goals as goal
 

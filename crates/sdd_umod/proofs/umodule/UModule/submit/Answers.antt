@@ -1,10 +1,5 @@
 -- A transaction is taken, and then each act is made that is due.
-use Rattle.std.proofs.Common.{◌∙◌, ◌++◌, ◌∷◌, [], ap, subst, refl, arith, true}
-use Rattle.sdd_attempt.specs.All.{Kept, Notes, Submits}
-use Rattle.sdd_attempt.specs.history.declared.record.Rec.TheVariants.{Submit}
-use Rattle.sdd_umod.specs.State.{State}
-use Rattle.sdd_umod.specs.Handing.{state_given}
-use Rattle.sdd_umod.specs.Works.{Works}
+use Rattle.sdd_umod.proofs.All.{Kept, Notes, State, Submit, Submits, Works, [], ap, arith, refl, state_given, subst, true, ◌++◌, ◌∙◌, ◌∷◌}
 use Rattle.sdd_umod.proofs.Calls.{amid_after, submit_does}
 use Rattle.sdd_umod.proofs.umodule.UModule.submit.Goals as goal
 

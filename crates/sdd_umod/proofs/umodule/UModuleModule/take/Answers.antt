@@ -1,9 +1,5 @@
 -- A message is taken, and then each act is made that is due.
-use Rattle.std.proofs.Common.{◌∙◌, ◌∷◌, ap, subst, refl, true}
-use Rattle.sdd_attempt.specs.All.{Handed, Kept}
-use Rattle.sdd_umod.specs.State.{State}
-use Rattle.sdd_umod.specs.Handing.{state_handed}
-use Rattle.sdd_umod.specs.Works.{Works}
+use Rattle.sdd_umod.proofs.All.{Handed, Kept, State, Works, ap, refl, state_handed, subst, true, ◌∙◌, ◌∷◌}
 use Rattle.sdd_umod.proofs.Calls.{amid_for, take_does}
 use Rattle.sdd_umod.proofs.umodule.UModuleModule.take.Goals as goal
 
