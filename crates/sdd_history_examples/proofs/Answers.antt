@@ -1,14 +1,8 @@
 -- Tests that tell that a history keeps the law of Answers and Commits.
-use Rattle.std.proofs.Common.{ℕ, ◌==◌, ◌≡◌, Bool, true, List, Option, Some, None, take, refl, subst, eq-eqb}
-use Rattle.std.specs.Prelude.{Contains}
-use Rattle.std.specs.List.{AllByRecursion, list_all, list_any}
-use Rattle.std.proofs.lemmas.Bool.{eqb-true}
-use Rattle.sdd_laws.specs.All.{Answer, AnsweredBefore, Asks, Attempt, Catalogue, Committed, History, IsCommitted, KeepsAnswers, RelNo, Row, Stands, Txn, base_of, committed, dm_no, effect, fragments_in, is_answer, numbers_to, reads_at, txn_at, txn_no}
-use Rattle.sdd_laws.proofs.serial_orders.Before.{is_answered}
-use Rattle.sdd_laws.specs.Deeds.Asks.{by_use, by_no_class}
-use Rattle.sdd_laws.proofs.Applied.{passes_before}
-use Rattle.sdd_history_examples.proofs.Each.{if_so, so, each, all_pairs, each_pair, each_has, each_number, each_to}
+use Rattle.sdd_history_examples.proofs.All.{AllByRecursion, Answer, AnsweredBefore, Asks, Attempt, Bool, Catalogue, Committed, Contains, History, IsCommitted, KeepsAnswers, List, None, Option, RelNo, Row, Some, Stands, Txn, base_of, by_use, committed, dm_no, each_has, effect, eq-eqb, eqb-true, fragments_in, is_answer, is_answered, list_all, list_any, numbers_to, passes_before, reads_at, refl, subst, take, true, txn_at, txn_no, ℕ, ◌==◌, ◌≡◌}
+use Rattle.sdd_history_examples.proofs.Each.{if_so, so, each, all_pairs, each_pair, each_number, each_to}
 use Rattle.sdd_history_examples.proofs.Listed.{CommitAt, AnswerAt, commits, in_commits, answers, in_answers, is_started, started_before}
+use Rattle.sdd_laws.specs.Deeds.Asks.{by_no_class}
 
 -- whether an attempt is answered at a module before a place
 abbrev pub is_answered_before : History → Attempt → ℕ → ℕ → Bool

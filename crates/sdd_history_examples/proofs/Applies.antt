@@ -1,16 +1,5 @@
 -- Tests that tell that a history keeps the law of Applies.
-use Rattle.std.proofs.Common.{ℕ, ◌<◌, ◌==◌, ◌≡◌, nat_lt, Bool, true, nat_le, ◌&&◌, ◌||◌, refl, ap, ◌∙◌, inl, inr, eq-eqb}
-use Rattle.std.specs.Prelude.{Contains}
-use Rattle.std.specs.List.{list_all, list_any}
-use Rattle.std.proofs.lemmas.Bool.{le-leb, and_parts, and_from, eqb-true, lt-ltb, ltb-true}
-use Rattle.sdd_laws.specs.All.{AppliedBefore, Apply, Attempt, Catalogue, Change, Committed, GoesTo, History, IsAnswered, IsApplied, IsCommitted, IsEarlier, IsOfCommit, KeepsApplies, Stands, Touches, class_no, committed, dm_no, has_copy, is_applied, is_from_1_to, time_at, txn_no}
-use Rattle.std.proofs.lemmas.Bool.{or_left, or_right}
-use Rattle.sdd_laws.proofs.serial_orders.Before.{or_cases}
-use Rattle.sdd_laws.proofs.serial_orders.Found.{from_committed}
-use Rattle.sdd_laws.proofs.serial_orders.Members.{member_passes, passes_member}
-use Rattle.sdd_laws.specs.Deeds.GoesTo.{by_change, by_no_class}
-use Rattle.sdd_laws.proofs.Applied.{applied_before}
-use Rattle.sdd_laws.proofs.Precedes.{changes_member}
+use Rattle.sdd_history_examples.proofs.All.{AppliedBefore, Apply, Attempt, Bool, Catalogue, Change, Committed, Contains, GoesTo, History, IsAnswered, IsApplied, IsCommitted, IsEarlier, IsOfCommit, KeepsApplies, Stands, Touches, and_from, and_parts, ap, applied_before, by_change, by_no_class, changes_member, class_no, committed, dm_no, eq-eqb, eqb-true, from_committed, has_copy, inl, inr, is_applied, is_from_1_to, le-leb, list_all, list_any, lt-ltb, ltb-true, member_passes, nat_le, nat_lt, or_cases, or_left, or_right, passes_member, refl, time_at, true, txn_no, ℕ, ◌&&◌, ◌<◌, ◌==◌, ◌||◌, ◌∙◌, ◌≡◌}
 use Rattle.sdd_history_examples.proofs.Each.{if_so, so, each, all_pairs, each_pair}
 use Rattle.sdd_history_examples.proofs.Fitting.{from_1_to}
 use Rattle.sdd_history_examples.proofs.Listed.{AnswerAt, ApplyAt, answers, in_answers, applies, in_applies}
@@ -130,7 +119,8 @@ module _ (cat : Catalogue) (h : History) (there : (t : Committed) → IsCommitte
 
     one_apply : (n d j k : ℕ) → IsApplied h n d j → IsApplied h n d k → j ≡ k
     one_apply n d j k p q =
-        let e = each_pair same_apply (applies h) (applies h) _ _ pass.one_apply (in_applies h n p.class d p.ts j p.stands) (in_applies h n q.class d q.ts k q.stands) in
+        let e = each_pair same_apply (applies h) (applies h) _ _ pass.one_apply (in_applies h n p.class d p.ts j p.stands)
+        (in_applies h n q.class d q.ts k q.stands) in
         let u = so (n == n) (if_so (d == d) (j == k)) e (eq-eqb n n refl) in
         eqb-true j k (so (d == d) (j == k) u (eq-eqb d d refl))
 
@@ -139,7 +129,8 @@ module _ (cat : Catalogue) (h : History) (there : (t : Committed) → IsCommitte
         let n = x.start.txn in
         let m = y.start.txn in
         let t = of_earlier (λ x y. all_pairs (applies_rise x y) (applies h) (applies h)) x y e pass.rise in
-        let u = each_pair (applies_rise x y) (applies h) (applies h) _ _ t (in_applies h n p.class d p.ts j p.stands) (in_applies h m q.class d q.ts k q.stands) in
+        let u = each_pair (applies_rise x y) (applies h) (applies h) _ _ t (in_applies h n p.class d p.ts j p.stands)
+        (in_applies h m q.class d q.ts k q.stands) in
         let v = so (n == n) (if_so (m == m) (if_so (d == d) (nat_lt j k))) u (eq-eqb n n refl) in
         let w = so (m == m) (if_so (d == d) (nat_lt j k)) v (eq-eqb m m refl) in
         ltb-true j k (so (d == d) (nat_lt j k) w (eq-eqb d d refl))
@@ -158,7 +149,8 @@ module _ (cat : Catalogue) (h : History) (there : (t : Committed) → IsCommitte
         let n = x.start.txn in
         let own = is_answer_of y.start (record { txn = y.start.txn; number = y.start.number; dm = d; place = k }) in
         let t = of_earlier (λ x y. all_pairs (answered_after x y) (applies h) (answers h)) x y e pass.after_earlier in
-        let u = each_pair (answered_after x y) (applies h) (answers h) _ _ t (in_applies h n p.class d p.ts j p.stands) (in_answers h y.start.txn y.start.number d k a) in
+        let u = each_pair (answered_after x y) (applies h) (answers h) _ _ t (in_applies h n p.class d p.ts j p.stands)
+        (in_answers h y.start.txn y.start.number d k a) in
         let v = so (n == n) (if_so own (if_so (d == d) (nat_lt j k))) u (eq-eqb n n refl) in
         let w = so own (if_so (d == d) (nat_lt j k)) v (own_answer y.start d k) in
         ltb-true j k (so (d == d) (nat_lt j k) w (eq-eqb d d refl))
@@ -177,7 +169,8 @@ module _ (cat : Catalogue) (h : History) (there : (t : Committed) → IsCommitte
         let m = y.start.txn in
         let own = is_answer_of x.start (record { txn = x.start.txn; number = x.start.number; dm = d; place = j }) in
         let t = of_earlier (λ x y. all_pairs (answered_first x y) (answers h) (applies h)) x y e pass.before_later in
-        let u = each_pair (answered_first x y) (answers h) (applies h) _ _ t (in_answers h x.start.txn x.start.number d j a) (in_applies h m q.class d q.ts k q.stands) in
+        let u = each_pair (answered_first x y) (answers h) (applies h) _ _ t (in_answers h x.start.txn x.start.number d j a)
+        (in_applies h m q.class d q.ts k q.stands) in
         let v = so own (if_so (m == m) (if_so (d == d) (nat_lt j k))) u (own_answer x.start d j) in
         let w = so (m == m) (if_so (d == d) (nat_lt j k)) v (eq-eqb m m refl) in
         ltb-true j k (so (d == d) (nat_lt j k) w (eq-eqb d d refl))

@@ -1,12 +1,5 @@
 -- Block numbers of graphs with one simple cycle, or none.
-use Rattle.std.proofs.Common.{ℕ, zero, suc, ◌≡◌, ◌≢◌, Bool, true, false, not, ◌&&◌, cond, List, [], ◌∷◌, length, Some, refl, sym, ap, ◌∙◌, ◌⊎◌, inl, inr, arith}
-use Rattle.std.specs.Prelude.{slice_get}
-use Rattle.std.proofs.lemmas.Bool.{and_parts}
-use Rattle.std.proofs.lemmas.Option.{some_pair_parts}
-use Rattle.sdd_blocks.specs.Blocks.{ShareACycle, OnACycle, Linked, AreBlocks}
-use Rattle.sdd_blocks.specs.Blocks.Linked.{last, more}
-use Rattle.sdd_blocks.specs.Graph.{Step, IsWalk, edges_of, Has, IsSimpleCycle}
-use Rattle.sdd_blocks.proofs.Bridges.{cycle_joined_ends}
+use Rattle.sdd_history_examples.proofs.All.{AreBlocks, Bool, Has, IsSimpleCycle, IsWalk, List, OnACycle, ShareACycle, Some, Step, [], and_parts, ap, arith, cond, cycle_joined_ends, edges_of, false, inl, inr, last, length, linked_on, not, refl, slice_get, some_pair_parts, suc, sym, true, zero, ℕ, ◌&&◌, ◌∙◌, ◌∷◌, ◌≡◌, ◌≢◌, ◌⊎◌}
 
 -- a set of nodes, as a test, that all edges but one stay within or without
 
@@ -79,11 +72,6 @@ no_blocks edges blocks long each =
       in_order = λ k b e. let z = (each k (suc (suc b)) e).0 in absurd (omega arith);
     }
 
--- what is linked with an edge lies on a cycle
-linked_on : (edges : List (ℕ × ℕ)) (j k : ℕ) → Linked edges j k → OnACycle edges k
-linked_on edges j k (last s) = record { start = s.start; steps = s.steps; cycle = s.cycle; first = s.second; second = s.second }
-linked_on edges j k (more {k = m} s l) = linked_on edges m k l
-
 -- an edge has the number 0 and lies on no cycle, or the number 1 and lies on the one cycle
 abbrev pub IsNumbered : List (ℕ × ℕ) → List Step → ℕ → ℕ → Type 0
 IsNumbered edges steps k b = ((b ≡ 0) × (¬ OnACycle edges k)) ⊎ ((b ≡ 1) × Has (edges_of steps) k)
@@ -102,10 +90,7 @@ one_block edges blocks start steps cycle long each =
       same = λ j k a b p q n. elim (each j a p) [
         | inl z ↦ absurd (n z.0)
         | inr one ↦ elim (each k b q) [
-          | inl z ↦ (
-            (λ e. absurd (n (e ∙ z.0))),
-            (λ l. absurd (z.1 (linked_on edges j k l))),
-          )
+          | inl z ↦ ((λ e. absurd (n (e ∙ z.0))), (λ l. absurd (z.1 (linked_on edges j k l))))
           | inr two ↦ ((λ e. last (share j k one.1 two.1)), (λ l. one.0 ∙ sym two.0))
         ]
       ];

@@ -1,14 +1,6 @@
 -- A test that tells that a history keeps the law of read conditions, by the protocol table of its catalogue.
-use Rattle.std.proofs.Common.{ℕ, ◌==◌, ◌≡◌, nat_lt, Bool, true, ◌&&◌, List, map, refl, sym, ap, ◌∙◌, subst, eq-eqb}
-use Rattle.std.specs.Prelude.{Contains}
-use Rattle.std.specs.List.{AllByRecursion, list_any}
-use Rattle.std.proofs.lemmas.Bool.{and_from, eqb-true, lt-ltb, ltb-true}
-use Rattle.sdd_laws.specs.All.{Attempt, Catalogue, Change, Committed, Cond, Entry, Eras, FragNo, History, IsCommitted, IsConditionOf, IsTable, KeepsConditions, TouchesOne, attempts, committed, conditions_of, contains, event_at, has_copy, in_force, is_applied}
-use Rattle.sdd_laws.proofs.protocol.Laws.{one_table}
-use Rattle.sdd_laws.proofs.serial_orders.Found.{in_attempts}
-use Rattle.sdd_laws.proofs.serial_orders.Members.{member_passes, passes_member}
-use Rattle.sdd_laws.proofs.Applied.{applied_before, before_applied}
-use Rattle.sdd_history_examples.proofs.Each.{each_has, same, same_is, if_so, so, all_pairs, each_pair}
+use Rattle.sdd_history_examples.proofs.All.{AllByRecursion, Attempt, Bool, Catalogue, Change, Committed, Cond, Contains, Entry, Eras, FragNo, History, IsCommitted, IsConditionOf, IsTable, KeepsConditions, List, TouchesOne, and_from, ap, applied_before, attempts, before_applied, committed, conditions_of, contains, each_has, eq-eqb, eqb-true, event_at, has_copy, in_attempts, in_force, is_applied, list_any, lt-ltb, ltb-true, map, member_passes, nat_lt, one_table, passes_member, refl, subst, sym, true, ℕ, ◌&&◌, ◌==◌, ◌∙◌, ◌≡◌}
+use Rattle.sdd_history_examples.proofs.Each.{same, same_is, if_so, so, all_pairs, each_pair}
 use Rattle.sdd_history_examples.proofs.Listed.{AnswerAt, answers, in_answers}
 
 abbrev touches_one : Catalogue → Committed → ℕ → List FragNo → Bool
@@ -60,7 +52,8 @@ module _ (cat : Catalogue) (eras : Eras) (table : ℕ → List Entry) (h : Histo
               let all = all_pairs (is_split cat h z) (conditions_of cat (table (event_at h a.place)) a d) (committed h) in
               let v = so (a.txn == a.txn) (if_so (a.number == a.number) all) u (eq-eqb a.txn a.txn refl) in
               let w = so (a.number == a.number) all v (eq-eqb a.number a.number refl) in
-              let split = each_pair (is_split cat h z) (conditions_of cat (table (event_at h a.place)) a d) (committed h) c x w (by_table cat eras h table a d c (each_has (HasTable cat eras h table) (attempts h) a is (in_attempts h a p)) of) (there x q) in
+              let split = each_pair (is_split cat h z) (conditions_of cat (table (event_at h a.place)) a d) (committed h) c x w
+              (by_table cat eras h table a d c (each_has (HasTable cat eras h table) (attempts h) a is (in_attempts h a p)) of) (there x q) in
               let equal = same (is_applied h d k x.start.txn) (nat_lt x.start.ts c.time.0) in
               let one = so (x.start.class == c.class.0) (if_so (touches_one cat x d c.frags) equal) split (eq-eqb x.start.class c.class.0 class) in
               let two = so (touches_one cat x d c.frags) equal one (touches_is cat x d c.frags t) in

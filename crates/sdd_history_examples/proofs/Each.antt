@@ -1,12 +1,5 @@
 -- Tests of the members of lists, and what they tell.
-use Rattle.std.proofs.Common.{ℕ, ◌≤◌, ◌≡◌, Bool, true, false, not, cond, List, [], ◌∷◌, refl, sym, ap, ◌∙◌, subst, inl, inr, arith}
-use Rattle.std.specs.Prelude.{Contains}
-use Rattle.std.specs.List.{AllByRecursion, list_all}
-use Rattle.std.proofs.lemmas.Bool.{and_parts}
-use Rattle.sdd_laws.specs.All.{contains, numbers_to}
-use Rattle.sdd_laws.proofs.base.Membership.{Contains-nil, Contains-cases}
-use Rattle.sdd_laws.proofs.serial_orders.Members.{Contains-range}
-use Rattle.sdd_laws.proofs.class_eras.Lists.{each_passes, at_member}
+use Rattle.sdd_history_examples.proofs.All.{Bool, Contains, Contains-cases, Contains-nil, Contains-range, List, [], and_parts, ap, arith, at_member, cond, contains, each_passes, false, inl, inr, list_all, not, numbers_to, refl, sym, true, ℕ, ◌∙◌, ◌∷◌, ◌≡◌, ◌≤◌}
 
 -- a test that counts only where another passes
 abbrev pub if_so : Bool → Bool → Bool
@@ -43,15 +36,6 @@ all_pairs p xs ys = list_all (λ x. list_all (p x) ys) xs
 pub each_pair : {A B : Type 0} (p : A → B → Bool) (xs : List A) (ys : List B) (x : A) (y : B) → all_pairs p xs ys ≡ true
     → Contains xs x → Contains ys y → p x y ≡ true
 each_pair p xs ys x y e m n = each (p x) ys y (each (λ z. list_all (p z) ys) xs x e m) n
-
--- what all have, each has
-pub each_has : {A : Type 0} (P : A → Type 0) (xs : List A) (x : A) → AllByRecursion P xs → Contains xs x → P x
-each_has P [] x all m = absurd (Contains-nil x m)
-each_has P (y ∷ xs) x all m =
-    elim (Contains-cases y xs x m) [
-      | inl same ↦ subst P (sym same) all.0
-      | inr later ↦ each_has P xs x all.1 later
-    ]
 
 -- of numbers
 pub each_number : (p : ℕ → Bool) (xs : List ℕ) (n : ℕ) → list_all p xs ≡ true → contains xs n ≡ true → p n ≡ true

@@ -1,13 +1,5 @@
 -- A test that tells that what one list of classes submits is done before the next is in force.
-use Rattle.std.proofs.Common.{ℕ, ◌<◌, ◌==◌, ◌≡◌, nat_lt, Bool, true, ◌&&◌, refl, ap, ◌∙◌, subst, eq-eqb}
-use Rattle.std.specs.Prelude.{Contains}
-use Rattle.std.specs.List.{list_all}
-use Rattle.std.proofs.lemmas.Bool.{and_from, and_parts, eqb-true, lt-ltb, ltb-true}
-use Rattle.sdd_laws.specs.All.{Attempt, Catalogue, Change, Committed, DmNo, Eras, GoesTo, History, IsAttempt, IsCommitted, IsOfEarlierEra, KeepsEras, attempts, begun, committed, event_at, fragment_at, has_copy, is_applied, numbers_to}
-use Rattle.sdd_laws.proofs.serial_orders.Found.{in_attempts}
-use Rattle.sdd_laws.proofs.serial_orders.Members.{member_passes}
-use Rattle.sdd_laws.specs.Deeds.GoesTo.{by_change, by_no_class}
-use Rattle.sdd_laws.proofs.Applied.{applied_before}
+use Rattle.sdd_history_examples.proofs.All.{Attempt, Bool, Catalogue, Change, Committed, Contains, DmNo, Eras, GoesTo, History, IsAttempt, IsCommitted, IsOfEarlierEra, KeepsEras, and_from, and_parts, ap, applied_before, attempts, begun, by_change, by_no_class, committed, eq-eqb, eqb-true, event_at, fragment_at, has_copy, in_attempts, is_applied, list_all, lt-ltb, ltb-true, member_passes, nat_lt, numbers_to, refl, subst, true, ℕ, ◌&&◌, ◌<◌, ◌==◌, ◌∙◌, ◌≡◌}
 use Rattle.sdd_history_examples.proofs.Each.{if_so, so, each, all_pairs, each_pair, each_to}
 use Rattle.sdd_history_examples.proofs.Listed.{submits, in_submits}
 

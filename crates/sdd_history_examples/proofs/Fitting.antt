@@ -1,13 +1,6 @@
 -- Tests that tell that what the laws speak of fits together.
-use Rattle.std.proofs.Common.{ℕ, zero, suc, ◌<◌, ◌≤◌, ◌≡◌, nat_le, Bool, true, ◌&&◌, List, [], ◌∷◌, length, Some, refl, subst, arith}
-use Rattle.std.specs.Prelude.{slice_get}
-use Rattle.std.specs.List.{All, AllByRecursion, list_all}
-use Rattle.std.proofs.lemmas.Bool.{and_parts, leb-true}
-use Rattle.std.proofs.lemmas.List.Elements.{All-from_recursion}
-use Rattle.std.proofs.lemmas.Option.{same_Some}
-use Rattle.sdd_laws.specs.All.{Answer, Apply, AreEras, AreFragments, Arrive, Catalogue, Change, ChangeExists, Commit, Cond, CondExists, Eras, ExistsIn, FitTogether, Fits, FitsStart, FragNo, History, IsEraOf, IsFrom1To, NamesOneOf, Nothing, Pass, Rec, Reject, RelNo, Row, Start, Submit, Txn, Use, UseExists, Wait, is_from_1_to}
-use Rattle.sdd_laws.proofs.class_eras.EraSets.{era_of_itself}
-use Rattle.sdd_history_examples.specs.Catalogues.{one_era}
+use Rattle.sdd_history_examples.proofs.All.{All, All-from_recursion, AllByRecursion, Answer, Apply, AreEras, AreFragments, Arrive, Bool, Catalogue, Change, ChangeExists, Commit, Cond, CondExists, Eras, ExistsIn, FitTogether, Fits, FitsStart, FragNo, History, IsEraOf, List, NamesOneOf, Nothing, Pass, Rec, Reject, RelNo, Row, Some, Start, Submit, Txn, Use, UseExists, Wait, [], and_parts, era_of_itself, is_from_1_to, leb-true, length, list_all, nat_le, one_era, refl, same_Some, slice_get, subst, suc, true, zero, ℕ, ◌&&◌, ◌<◌, ◌∷◌, ◌≡◌, ◌≤◌}
+use Rattle.sdd_laws.specs.All.{IsFrom1To}
 
 -- what a test tells of each member
 
@@ -139,5 +132,6 @@ fit_together cat eras rows txns h pass =
       rows_fit = All-from_recursion (FitsStart cat) rows pass.rows_fit;
       txns_fit = All-from_recursion (Fits cat) txns pass.txns_fit;
       numbers_exist = all_by (λ (e : ℕ × Rec). ExistsIn cat e.1) (λ e. exists_in cat e.1) (λ e t. exists cat e.1 t) h pass.numbers_exist;
-      txns_exist = all_by (λ (e : ℕ × Rec). NamesOneOf (length txns) e.1) (λ e. names_one_of (length txns) e.1) (λ e t. names (length txns) e.1 t) h pass.txns_exist;
+      txns_exist = all_by (λ (e : ℕ × Rec). NamesOneOf (length txns) e.1) (λ e. names_one_of (length txns) e.1)
+          (λ e t. names (length txns) e.1 t) h pass.txns_exist;
     }

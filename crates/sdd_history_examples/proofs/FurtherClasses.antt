@@ -1,13 +1,5 @@
 -- A put, and then a query under a further list of classes.
-use Rattle.std.proofs.Common.{ℕ, zero, suc, ◌<◌, ◌≤◌, ◌≡◌, nat_lt, cond, [], ◌∷◌, Some, refl, subst, inl, inr, arith, lit<, lit≤}
-use Rattle.std.specs.Prelude.{slice_get}
-use Rattle.std.proofs.lemmas.Option.{same_Some}
-use Rattle.sdd_laws.specs.All.{AreEras, Catalogue, HasSets, IsEraOf, Le, class_at}
-use Rattle.sdd_history_examples.specs.Catalogues.{both_classes, further_classes, one_class, two_eras}
-use Rattle.sdd_history_examples.specs.Histories.{redeclares}
-use Rattle.sdd_history_examples.specs.Keeping.{KeepsAll}
-use Rattle.sdd_history_examples.specs.Tables.{table_of_one, table_of_two}
-use Rattle.sdd_history_examples.specs.Texts.{given_to, put_row, values_by, put_then_query}
+use Rattle.sdd_history_examples.proofs.All.{AreEras, Catalogue, HasSets, IsEraOf, KeepsAll, Le, Some, [], arith, both_classes, class_at, cond, further_classes, given_to, inl, inr, lit<, lit≤, nat_lt, one_class, put_row, put_then_query, redeclares, refl, same_Some, slice_get, subst, suc, table_of_one, table_of_two, two_eras, values_by, zero, ℕ, ◌<◌, ◌∷◌, ◌≡◌, ◌≤◌}
 use Rattle.sdd_history_examples.proofs.Answers.{PassAnswers}
 use Rattle.sdd_history_examples.proofs.Applies.{PassApplies}
 use Rattle.sdd_history_examples.proofs.Fitting.{PassFit}
@@ -115,4 +107,5 @@ pub redeclares_keeps : KeepsAll both_classes two_eras [] put_then_query redeclar
 redeclares_keeps =
     keeps_all both_classes two_eras [] put_then_query redeclares
     (record { sound = sound_both_classes; fit = fits; starts = starts; answers = answers; applies = applies; alone = refl; lists = record { apart = refl; one_era = refl } })
-    (λ event. cond (nat_lt event 5) table_of_one table_of_two) (is_one_class, (is_further_classes, tt)) refl (no_rejections both_classes two_eras redeclares refl)
+    (λ event. cond (nat_lt event 5) table_of_one table_of_two) (is_one_class, (is_further_classes, tt)) refl
+    (no_rejections both_classes two_eras redeclares refl)

@@ -1,10 +1,5 @@
 -- Tests that together tell that a history keeps all laws.
-use Rattle.std.proofs.Common.{ℕ, ◌≡◌, nat_lt, true, not, List, sym, ◌∙◌}
-use Rattle.std.specs.List.{AllByRecursion, list_all}
-use Rattle.std.proofs.lemmas.Bool.{lt-ltb, not-true, false≢true}
-use Rattle.sdd_laws.specs.All.{Attempt, Catalogue, Entry, Eras, History, KeepsRejections, RelNo, Row, Txn, attempts}
-use Rattle.sdd_laws.proofs.serial_orders.Found.{in_attempts}
-use Rattle.sdd_history_examples.specs.Keeping.{AreSound, KeepsAll, KeepsOthers}
+use Rattle.sdd_history_examples.proofs.All.{AllByRecursion, AreSound, Attempt, Catalogue, Entry, Eras, History, KeepsAll, KeepsOthers, KeepsRejections, List, RelNo, Row, Txn, attempts, false≢true, in_attempts, list_all, lt-ltb, nat_lt, not, not-true, sym, true, ℕ, ◌∙◌, ◌≡◌}
 use Rattle.sdd_history_examples.proofs.Answers.{PassAnswers, keeps_answers}
 use Rattle.sdd_history_examples.proofs.Applies.{PassApplies, keeps_applies}
 use Rattle.sdd_history_examples.proofs.Conditions.{HasTable, conditions_met, keeps_conditions}

@@ -1,3 +1,4 @@
+mod All
 mod Answers
 mod Applies
 mod Blocks

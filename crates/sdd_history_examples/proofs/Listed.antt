@@ -1,12 +1,5 @@
 -- The Submits, Commits, Answers and Applies of a history, as lists.
-use Rattle.std.proofs.Common.{ℕ, ◌==◌, ◌≡◌, nat_lt, Bool, true, ◌&&◌, List, Option, Some, None, refl, subst}
-use Rattle.std.specs.Prelude.{filter_map, Contains}
-use Rattle.std.specs.List.{list_any}
-use Rattle.std.proofs.lemmas.Bool.{and_parts, eqb-true, ltb-true}
-use Rattle.sdd_laws.specs.All.{Answer, Apply, Attempt, Commit, Committed, CommittedBefore, HasCommit, History, IsSubmitted, Rec, Stands, StartedBefore, Submit, attempts, class_no, committed, dm_no, placed, time_at, txn_no}
-use Rattle.sdd_laws.proofs.serial_orders.Found.{at_place, from_attempts, from_committed}
-use Rattle.sdd_laws.proofs.serial_orders.Places.{commit_of}
-use Rattle.sdd_laws.proofs.serial_orders.Members.{Contains-filter_map, member_passes}
+use Rattle.sdd_history_examples.proofs.All.{Answer, Apply, Attempt, Bool, Commit, Committed, CommittedBefore, Contains, Contains-filter_map, HasCommit, History, IsSubmitted, List, None, Option, Rec, Some, Stands, StartedBefore, Submit, and_parts, at_place, attempts, class_no, commit_of, committed, dm_no, eqb-true, filter_map, from_attempts, from_committed, list_any, ltb-true, member_passes, nat_lt, placed, refl, subst, time_at, true, txn_no, ℕ, ◌&&◌, ◌==◌, ◌≡◌}
 
 -- a transaction and the place of its Submit
 abbrev submit_of : ℕ × Rec → Option (ℕ × ℕ)

@@ -1,14 +1,6 @@
 -- Neither of two transactions waits for the other, and each is answered before the other's put is applied: all laws but that
 -- of read conditions are kept, and each precedes the other.
-use Rattle.std.proofs.Common.{[], ◌∷◌, Some, refl, lit<, lit≤}
-use Rattle.std.proofs.lemmas.Bool.{false≢true}
-use Rattle.sdd_laws.specs.All.{Committed, Cond, Ge, IsCommitted, KeepsConditions, Le, Rows, class_no, frag_no, high_keys, low_keys, misses_both, put, time_at}
-use Rattle.sdd_laws.proofs.base.Membership.{Contains-here}
-use Rattle.sdd_laws.proofs.Applied.{before_applied}
-use Rattle.sdd_history_examples.specs.Catalogues.{crossing, one_era}
-use Rattle.sdd_history_examples.specs.Keeping.{BreaksConditions}
-use Rattle.sdd_history_examples.specs.Tables.{table_of_crossing}
-use Rattle.sdd_history_examples.specs.Texts.{given_to, put_row, values_by, two_of_both}
+use Rattle.sdd_history_examples.proofs.All.{BreaksConditions, Committed, Cond, Contains-here, Ge, IsCommitted, KeepsConditions, Le, Rows, Some, [], before_applied, class_no, crossing, false≢true, frag_no, given_to, high_keys, lit<, lit≤, low_keys, misses_both, one_era, put, put_row, refl, table_of_crossing, time_at, two_of_both, values_by, ◌∷◌}
 use Rattle.sdd_history_examples.proofs.Answers.{PassAnswers}
 use Rattle.sdd_history_examples.proofs.Applies.{PassApplies}
 use Rattle.sdd_history_examples.proofs.Fitting.{PassFit, are_eras}

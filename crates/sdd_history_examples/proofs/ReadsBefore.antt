@@ -1,10 +1,5 @@
 -- A put and a query that is answered before the put comes to its module.
-use Rattle.std.proofs.Common.{[], ◌∷◌, refl, lit<, lit≤}
-use Rattle.sdd_laws.specs.All.{Le, reads_before}
-use Rattle.sdd_history_examples.specs.Catalogues.{bridge, one_era}
-use Rattle.sdd_history_examples.specs.Keeping.{KeepsAll}
-use Rattle.sdd_history_examples.specs.Tables.{table_of_bridge}
-use Rattle.sdd_history_examples.specs.Texts.{given_to, put_row, values_by, put_and_query}
+use Rattle.sdd_history_examples.proofs.All.{KeepsAll, Le, [], bridge, given_to, lit<, lit≤, one_era, put_and_query, put_row, reads_before, refl, table_of_bridge, values_by, ◌∷◌}
 use Rattle.sdd_history_examples.proofs.Answers.{PassAnswers}
 use Rattle.sdd_history_examples.proofs.Applies.{PassApplies}
 use Rattle.sdd_history_examples.proofs.Fitting.{PassFit, are_eras}

@@ -1,11 +1,5 @@
 -- A transaction that no class covers runs between two of one class.
-use Rattle.std.proofs.Common.{[], ◌∷◌, refl, lit<, lit≤}
-use Rattle.sdd_laws.specs.All.{Le}
-use Rattle.sdd_history_examples.specs.Catalogues.{one_era, one_writer}
-use Rattle.sdd_history_examples.specs.Histories.{runs_alone}
-use Rattle.sdd_history_examples.specs.Keeping.{KeepsAll}
-use Rattle.sdd_history_examples.specs.Tables.{table_of_one}
-use Rattle.sdd_history_examples.specs.Texts.{given_to, put_row, values_by, undeclared_between}
+use Rattle.sdd_history_examples.proofs.All.{KeepsAll, Le, [], given_to, lit<, lit≤, one_era, one_writer, put_row, refl, runs_alone, table_of_one, undeclared_between, values_by, ◌∷◌}
 use Rattle.sdd_history_examples.proofs.Answers.{PassAnswers}
 use Rattle.sdd_history_examples.proofs.Applies.{PassApplies}
 use Rattle.sdd_history_examples.proofs.Fitting.{PassFit, are_eras}
@@ -23,7 +17,8 @@ fits =
       txns_fit = (
         one_fits 1 one_writer.classes 1 (lit≤ tt, lit≤ tt) (put_row 1 5) (put_fits 1 one_writer.classes 1 5),
         (
-          two_fit 1 one_writer.classes 2 (lit≤ tt, lit≤ tt) (values_by Le 9) (put_row 11 5) (values_fit 1 one_writer.classes Le 9) (put_fits 1 one_writer.classes 11 5),
+          two_fit 1 one_writer.classes 2 (lit≤ tt, lit≤ tt) (values_by Le 9) (put_row 11 5) (values_fit 1 one_writer.classes Le 9)
+              (put_fits 1 one_writer.classes 11 5),
           (one_fits 1 one_writer.classes 1 (lit≤ tt, lit≤ tt) (put_row 1 6) (put_fits 1 one_writer.classes 1 6), tt),
         ),
       );

@@ -1,10 +1,6 @@
 -- The worked catalogues are valid.
-use Rattle.std.proofs.Common.{ℕ, refl}
-use Rattle.std.proofs.lemmas.List.Elements.{All-from_recursion}
-use Rattle.sdd_laws.specs.All.{Catalogue, IsSound}
+use Rattle.sdd_history_examples.proofs.All.{All-from_recursion, AreSound, Catalogue, IsSound, both_classes, bridge, crossing, further_classes, one_class, one_era, one_reader, one_writer, refl, two_eras, ℕ}
 use Rattle.sdd_laws.specs.catalog.Rules.{faults_of}
-use Rattle.sdd_history_examples.specs.Catalogues.{bridge, one_reader, crossing, one_class, one_writer, both_classes, further_classes, one_era, two_eras}
-use Rattle.sdd_history_examples.specs.Keeping.{AreSound}
 
 -- one list of classes
 one_sound : (cat : Catalogue) → IsSound cat → AreSound cat (one_era cat)

@@ -1,12 +1,6 @@
 -- Tests that tell that a history keeps the law of Starts.
-use Rattle.std.proofs.Common.{ℕ, suc, ◌%◌, ◌<◌, ◌≤◌, ◌==◌, ◌≡◌, nat_lt, Bool, true, not, ◌&&◌, List, Option, Some, refl, sym, ap, ◌∙◌, subst, inl, inr, arith, eq-eqb}
-use Rattle.std.specs.Prelude.{is_some, unwrap_or, option_map, Contains}
-use Rattle.std.specs.List.{AllByRecursion, list_all}
-use Rattle.std.proofs.lemmas.Bool.{and_parts, cases_lt, eqb-true, lt-ltb, ltb-true, not-true, false≢true}
-use Rattle.sdd_laws.specs.All.{Attempt, Catalogue, Committed, CommittedBefore, Eras, HasCommit, History, IsAttempt, IsBound, IsCommitted, IsOfSubmit, IsSubmitted, KeepsStarts, Ts, Txn, attempts, class_for, committed, event_at, in_force, p2_time, starts_before, txn_at}
-use Rattle.sdd_laws.proofs.serial_orders.Found.{in_attempts, in_committed}
-use Rattle.sdd_laws.proofs.NumberedStarts.{one_start}
-use Rattle.sdd_history_examples.proofs.Each.{same, same_is, if_so, so, each, all_pairs, each_pair, each_has}
+use Rattle.sdd_history_examples.proofs.All.{AllByRecursion, Attempt, Bool, Catalogue, Committed, CommittedBefore, Contains, Eras, HasCommit, History, IsAttempt, IsBound, IsCommitted, IsOfSubmit, IsSubmitted, KeepsStarts, List, Option, Some, Ts, Txn, and_parts, ap, arith, attempts, cases_lt, class_for, committed, each_has, eq-eqb, eqb-true, event_at, false≢true, in_attempts, in_committed, in_force, inl, inr, is_some, list_all, lt-ltb, ltb-true, nat_lt, not, not-true, one_start, option_map, p2_time, refl, starts_before, subst, suc, sym, true, txn_at, unwrap_or, ℕ, ◌%◌, ◌&&◌, ◌<◌, ◌==◌, ◌∙◌, ◌≡◌, ◌≤◌}
+use Rattle.sdd_history_examples.proofs.Each.{same, same_is, if_so, so, each, all_pairs, each_pair}
 use Rattle.sdd_history_examples.proofs.Listed.{CommitAt, submits, in_submits, commits, in_commits, is_committed, committed_before}
 
 -- the class that covers a transaction with a number where it is submitted
@@ -65,17 +59,20 @@ module _ (cat : Catalogue) (eras : Eras) (txns : List Txn) (h : History) (pass :
 
   one_submit : (n j k : ℕ) → IsSubmitted h n j → IsSubmitted h n k → j ≡ k
   one_submit n j k p q =
-      let e = each_pair (λ (x y : ℕ × ℕ). if_so (x.0 == y.0) (x.1 == y.1)) (submits h) (submits h) (n, j) (n, k) pass.one_submit (in_submits h n j p) (in_submits h n k q) in
+      let e = each_pair (λ (x y : ℕ × ℕ). if_so (x.0 == y.0) (x.1 == y.1)) (submits h) (submits h) (n, j) (n, k) pass.one_submit (in_submits h n j p)
+      (in_submits h n k q) in
       eqb-true j k (so (n == n) (j == k) e (eq-eqb n n refl))
 
   one_time : (a b : Attempt) → IsAttempt h a → IsAttempt h b → a.ts ≡ b.ts → a.place ≡ b.place
   one_time a b p q e =
-      let t = each_pair (λ (a b : Attempt). if_so (a.ts == b.ts) (a.place == b.place)) (attempts h) (attempts h) a b pass.one_time (in_attempts h a p) (in_attempts h b q) in
+      let t = each_pair (λ (a b : Attempt). if_so (a.ts == b.ts) (a.place == b.place)) (attempts h) (attempts h) a b pass.one_time (in_attempts h a p)
+      (in_attempts h b q) in
       eqb-true a.place b.place (so (a.ts == b.ts) (a.place == b.place) t (eq-eqb a.ts b.ts e))
 
   rise : (a b : Attempt) → IsAttempt h a → IsAttempt h b → a.class ≡ b.class → a.place < b.place → a.ts < b.ts
   rise a b p q e l =
-      let t = each_pair (λ (a b : Attempt). if_so (a.class == b.class) (if_so (nat_lt a.place b.place) (nat_lt a.ts b.ts))) (attempts h) (attempts h) a b pass.rise (in_attempts h a p) (in_attempts h b q) in
+      let t = each_pair (λ (a b : Attempt). if_so (a.class == b.class) (if_so (nat_lt a.place b.place) (nat_lt a.ts b.ts))) (attempts h)
+      (attempts h) a b pass.rise (in_attempts h a p) (in_attempts h b q) in
       let u = so (a.class == b.class) (if_so (nat_lt a.place b.place) (nat_lt a.ts b.ts)) t (eq-eqb a.class b.class e) in
       ltb-true a.ts b.ts (so (nat_lt a.place b.place) (nat_lt a.ts b.ts) u (lt-ltb a.place b.place l))
 
@@ -105,12 +102,14 @@ module _ (cat : Catalogue) (eras : Eras) (txns : List Txn) (h : History) (pass :
 
   one_commit : (n i j k l : ℕ) → HasCommit h n i k → HasCommit h n j l → k ≡ l
   one_commit n i j k l p q =
-      let e = each_pair (λ (x y : CommitAt). if_so (x.txn == y.txn) (x.place == y.place)) (commits h) (commits h) _ _ pass.one_commit (in_commits h n i k p) (in_commits h n j l q) in
+      let e = each_pair (λ (x y : CommitAt). if_so (x.txn == y.txn) (x.place == y.place)) (commits h) (commits h) _ _ pass.one_commit (in_commits h n i k p)
+      (in_commits h n j l q) in
       eqb-true k l (so (n == n) (k == l) e (eq-eqb n n refl))
 
   by_last : (t : Committed) (a : Attempt) → IsCommitted h t → IsAttempt h a → a.txn ≡ t.start.txn → a.number ≤ t.start.number
   by_last t a c p e =
-      let u = each_pair (λ (t : Committed) (a : Attempt). if_so (a.txn == t.start.txn) (not (nat_lt t.start.number a.number))) (committed h) (attempts h) t a pass.by_last (there t c) (in_attempts h a p) in
+      let u = each_pair (λ (t : Committed) (a : Attempt). if_so (a.txn == t.start.txn) (not (nat_lt t.start.number a.number))) (committed h)
+      (attempts h) t a pass.by_last (there t c) (in_attempts h a p) in
       not_below t.start.number a.number
       (so (a.txn == t.start.txn) (not (nat_lt t.start.number a.number)) u (eq-eqb a.txn t.start.txn e))
 
@@ -127,7 +126,8 @@ module _ (cat : Catalogue) (eras : Eras) (txns : List Txn) (h : History) (pass :
         last = eqb-true (p2_time a % 64) 63 one.0;
         below = ltb-true (p2_time a) a.ts two.0;
         above = λ b q class l.
-            let u = each (λ (b : Attempt). if_so (b.class == a.class) (if_so (nat_lt b.place a.place) (is_bound_over (p2_time a) b))) (attempts h) b two.1 (in_attempts h b q) in
+            let u = each (λ (b : Attempt). if_so (b.class == a.class) (if_so (nat_lt b.place a.place) (is_bound_over (p2_time a) b))) (attempts h) b two.1
+            (in_attempts h b q) in
             let v = so (b.class == a.class) (if_so (nat_lt b.place a.place) (is_bound_over (p2_time a) b)) u (eq-eqb b.class a.class class) in
             let w = so (nat_lt b.place a.place) (is_bound_over (p2_time a) b) v (lt-ltb b.place a.place l) in
             let both = and_parts (not (nat_lt (p2_time a) b.ts)) (not (nat_lt (p2_time a) (p2_time b))) w in

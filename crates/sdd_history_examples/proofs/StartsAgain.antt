@@ -1,16 +1,7 @@
 -- A query that comes after a later put is rejected, and starts again with a greater timestamp.
-use Rattle.std.proofs.Common.{◌<◌, ◌≡◌, [], ◌∷◌, Some, refl, lit<, lit≤, subst, arith}
-use Rattle.std.proofs.lemmas.Option.{same_Some}
-use Rattle.sdd_laws.specs.All.{Attempt, Committed, Cond, IsAgain, KeepsRejections, Le, Rows, Ts, attempts, class_no, frag_no, low_keys, put, starts_again, time_at}
-use Rattle.sdd_laws.proofs.base.Membership.{Contains-here}
-use Rattle.sdd_laws.proofs.serial_orders.Found.{in_attempts}
-use Rattle.sdd_history_examples.specs.Catalogues.{crossing, one_era}
-use Rattle.sdd_history_examples.specs.Keeping.{KeepsAll}
-use Rattle.sdd_history_examples.specs.Tables.{table_of_crossing}
-use Rattle.sdd_history_examples.specs.Texts.{given_to, put_row, values_by, query_and_put}
+use Rattle.sdd_history_examples.proofs.All.{Attempt, Committed, Cond, Contains-here, IsAgain, KeepsAll, KeepsRejections, Le, Rows, Some, Ts, [], arith, attempts, class_no, crossing, each_has, frag_no, given_to, in_attempts, lit<, lit≤, low_keys, one_era, put, put_row, query_and_put, refl, same_Some, starts_again, subst, table_of_crossing, time_at, values_by, ◌<◌, ◌∷◌, ◌≡◌}
 use Rattle.sdd_history_examples.proofs.Answers.{PassAnswers}
 use Rattle.sdd_history_examples.proofs.Applies.{PassApplies}
-use Rattle.sdd_history_examples.proofs.Each.{each_has}
 use Rattle.sdd_history_examples.proofs.Fitting.{PassFit, are_eras}
 use Rattle.sdd_history_examples.proofs.Keeping.{keeps_all}
 use Rattle.sdd_history_examples.proofs.Sound.{sound_crossing}

@@ -1,10 +1,5 @@
 -- The transactions of the worked histories fit the catalogues, whatever the classes.
-use Rattle.std.proofs.Common.{ℕ, List, [], ◌∷◌, pos, refl, lit≤}
-use Rattle.std.proofs.lemmas.List.Elements.{All-from_recursion}
-use Rattle.sdd_laws.specs.All.{Class, Const, Fits, FitsCondition, FitsRef, FitsStart, FitsStatement, Int, IsRelation, Op, RelNo, Stmt, rel_no, row_of, with_classes}
-use Rattle.sdd_laws.specs.lang.Fits.{IsFrom1To}
-use Rattle.sdd_history_examples.specs.Catalogues.{named}
-use Rattle.sdd_history_examples.specs.Texts.{given_to, put_row, column, values_by, all_rows}
+use Rattle.sdd_history_examples.proofs.All.{All-from_recursion, Class, Const, Fits, FitsCondition, FitsRef, FitsStart, FitsStatement, Int, IsFrom1To, IsRelation, List, Op, RelNo, Stmt, [], all_rows, column, given_to, lit≤, named, pos, put_row, refl, rel_no, row_of, values_by, with_classes, ℕ, ◌∷◌}
 
 module _ (high : ℕ) (classes : List Class) where
   pub row_fits : (id value : ℕ) → FitsStart (named (with_classes high classes)) (rel_no 1, row_of id value)

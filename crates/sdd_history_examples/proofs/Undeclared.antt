@@ -1,11 +1,5 @@
 -- A test that tells that undeclared transactions run alone.
-use Rattle.std.proofs.Common.{ℕ, ◌==◌, ◌≡◌, nat_lt, Bool, true, not, ◌&&◌, ◌||◌, ap, inl, inr, eq-eqb}
-use Rattle.std.specs.Prelude.{Contains}
-use Rattle.std.specs.List.{list_all}
-use Rattle.std.proofs.lemmas.Bool.{and_parts, ltb-true, ne_eqb}
-use Rattle.sdd_laws.specs.All.{Catalogue, Committed, History, IsCommitted, IsWhollyAfter, IsWhollyBefore, KeepsUndeclared, committed, is_applied, numbers_to}
-use Rattle.sdd_laws.proofs.serial_orders.Before.{or_cases}
-use Rattle.sdd_laws.proofs.Applied.{applied_before}
+use Rattle.sdd_history_examples.proofs.All.{Bool, Catalogue, Committed, Contains, History, IsCommitted, IsWhollyAfter, IsWhollyBefore, KeepsUndeclared, and_parts, ap, applied_before, committed, eq-eqb, inl, inr, is_applied, list_all, ltb-true, nat_lt, ne_eqb, not, numbers_to, or_cases, true, ℕ, ◌&&◌, ◌==◌, ◌||◌, ◌≡◌}
 use Rattle.sdd_history_examples.proofs.Applies.{goes, goes_is, is_answer_of, own_answer}
 use Rattle.sdd_history_examples.proofs.Each.{if_so, so, each, all_pairs, each_pair, each_to}
 use Rattle.sdd_history_examples.proofs.Listed.{AnswerAt, answers, in_answers}

@@ -1,10 +1,5 @@
 -- A query of two modules, which waits at both for the puts that are up to its time.
-use Rattle.std.proofs.Common.{[], ◌∷◌, refl, lit<, lit≤}
-use Rattle.sdd_laws.specs.All.{waits_at_two}
-use Rattle.sdd_history_examples.specs.Catalogues.{one_era, one_reader}
-use Rattle.sdd_history_examples.specs.Keeping.{KeepsAll}
-use Rattle.sdd_history_examples.specs.Tables.{table_of_one_reader}
-use Rattle.sdd_history_examples.specs.Texts.{given_to, put_row, all_rows, rows_of_two, two_puts_and_query}
+use Rattle.sdd_history_examples.proofs.All.{KeepsAll, [], all_rows, given_to, lit<, lit≤, one_era, one_reader, put_row, refl, rows_of_two, table_of_one_reader, two_puts_and_query, waits_at_two, ◌∷◌}
 use Rattle.sdd_history_examples.proofs.Answers.{PassAnswers}
 use Rattle.sdd_history_examples.proofs.Applies.{PassApplies}
 use Rattle.sdd_history_examples.proofs.Fitting.{PassFit, are_eras}

@@ -1,10 +1,5 @@
 -- Each of two transactions reads what the other writes, and the second waits for the first.
-use Rattle.std.proofs.Common.{[], ◌∷◌, refl, lit<, lit≤}
-use Rattle.sdd_laws.specs.All.{Ge, Le, waits_for_other}
-use Rattle.sdd_history_examples.specs.Catalogues.{crossing, one_era}
-use Rattle.sdd_history_examples.specs.Keeping.{KeepsAll}
-use Rattle.sdd_history_examples.specs.Tables.{table_of_crossing}
-use Rattle.sdd_history_examples.specs.Texts.{given_to, put_row, values_by, two_of_both}
+use Rattle.sdd_history_examples.proofs.All.{Ge, KeepsAll, Le, [], crossing, given_to, lit<, lit≤, one_era, put_row, refl, table_of_crossing, two_of_both, values_by, waits_for_other, ◌∷◌}
 use Rattle.sdd_history_examples.proofs.Answers.{PassAnswers}
 use Rattle.sdd_history_examples.proofs.Applies.{PassApplies}
 use Rattle.sdd_history_examples.proofs.Fitting.{PassFit, are_eras}

@@ -1,14 +1,5 @@
 -- The tables of the worked catalogues.
-use Rattle.std.proofs.Common.{ℕ, zero, suc, ◌==◌, ◌≡◌, ◌≢◌, nat_lt, true, false, List, [], ◌∷◌, Some, refl, sym, ◌∙◌, inl, inr, lit≤, eq-eqb}
-use Rattle.std.specs.Prelude.{slice_get}
-use Rattle.std.proofs.lemmas.Bool.{false≢true}
-use Rattle.std.proofs.lemmas.List.Elements.{All-from_recursion}
-use Rattle.std.proofs.lemmas.Option.{same_Some}
-use Rattle.sdd_blocks.specs.Blocks.{OnACycle}
-use Rattle.sdd_blocks.specs.Graph.{Step, IsSimpleCycle}
-use Rattle.sdd_laws.specs.All.{Entry, IsTable, protocol_in}
-use Rattle.sdd_history_examples.specs.Catalogues.{bridge, crossing, further_classes, one_class, one_reader, one_writer}
-use Rattle.sdd_history_examples.specs.Tables.{table_of_two, table_of_bridge, table_of_one_reader, table_of_crossing, table_of_one}
+use Rattle.sdd_history_examples.proofs.All.{All-from_recursion, Entry, IsSimpleCycle, IsTable, List, OnACycle, Some, Step, [], bridge, crossing, eq-eqb, false, false≢true, further_classes, inl, inr, lit≤, nat_lt, one_class, one_reader, one_writer, protocol_in, refl, same_Some, slice_get, suc, sym, table_of_bridge, table_of_crossing, table_of_one, table_of_one_reader, table_of_two, true, zero, ℕ, ◌==◌, ◌∙◌, ◌∷◌, ◌≡◌, ◌≢◌}
 use Rattle.sdd_history_examples.proofs.Blocks.{crosses_alone, no_blocks, IsNumbered, one_block}
 
 differ : (a b : ℕ) → (a == b) ≡ false → a ≢ b

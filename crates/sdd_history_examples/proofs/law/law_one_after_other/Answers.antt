@@ -1,4 +1,4 @@
-use Rattle.std.proofs.Common.{refl}
+use Rattle.sdd_history_examples.proofs.All.{refl}
 use Rattle.sdd_history_examples.proofs.OneAfterOther.{one_after_other_keeps}
 use Rattle.sdd_history_examples.proofs.law.law_one_after_other.Goals as goal
 

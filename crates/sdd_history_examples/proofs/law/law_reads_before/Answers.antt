@@ -1,4 +1,4 @@
-use Rattle.std.proofs.Common.{refl}
+use Rattle.sdd_history_examples.proofs.All.{refl}
 use Rattle.sdd_history_examples.proofs.ReadsBefore.{reads_before_keeps}
 use Rattle.sdd_history_examples.proofs.law.law_reads_before.Goals as goal
 

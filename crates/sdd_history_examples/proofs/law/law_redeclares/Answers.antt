@@ -1,4 +1,4 @@
-use Rattle.std.proofs.Common.{refl}
+use Rattle.sdd_history_examples.proofs.All.{refl}
 use Rattle.sdd_history_examples.proofs.FurtherClasses.{redeclares_keeps}
 use Rattle.sdd_history_examples.proofs.law.law_redeclares.Goals as goal
 

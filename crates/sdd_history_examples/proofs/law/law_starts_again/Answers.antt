@@ -1,4 +1,4 @@
-use Rattle.std.proofs.Common.{refl}
+use Rattle.sdd_history_examples.proofs.All.{refl}
 use Rattle.sdd_history_examples.proofs.StartsAgain.{starts_again_keeps}
 use Rattle.sdd_history_examples.proofs.law.law_starts_again.Goals as goal
 

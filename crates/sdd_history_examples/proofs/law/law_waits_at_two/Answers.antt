@@ -1,4 +1,4 @@
-use Rattle.std.proofs.Common.{refl}
+use Rattle.sdd_history_examples.proofs.All.{refl}
 use Rattle.sdd_history_examples.proofs.WaitsAtTwo.{waits_at_two_keeps}
 use Rattle.sdd_history_examples.proofs.law.law_waits_at_two.Goals as goal
 

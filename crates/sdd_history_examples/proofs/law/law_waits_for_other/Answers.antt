@@ -1,4 +1,4 @@
-use Rattle.std.proofs.Common.{refl}
+use Rattle.sdd_history_examples.proofs.All.{refl}
 use Rattle.sdd_history_examples.proofs.WaitsForOther.{waits_for_other_keeps}
 use Rattle.sdd_history_examples.proofs.law.law_waits_for_other.Goals as goal
 
