@@ -1,8 +1,7 @@
 -- In which order the rows arrive doesn't matter.
-use Rattle.std.proofs.Common.{ℕ, ◌+◌, List, [], ◌∷◌}
-use Rattle.sdd_laws.specs.All.{Catalogue, Database, Delete, Put, Query, Row, Stmt, Txn, Update, part_of, uses_in}
-use Rattle.sdd_attempt.specs.All.{AreEnough, AreEnoughAlong, Has, Serves, Shipped, rows_for}
+use Rattle.sdd_serving.proofs.All.{AreEnough, AreEnoughAlong, Catalogue, Database, Delete, Has, List, Put, Query, Row, Serves, Shipped, Stmt, Txn, Update, [], part_of, uses_in, ℕ, ◌+◌, ◌∷◌}
 use Rattle.sdd_serving.proofs.Held.{use_row, row_of_use}
+use Rattle.sdd_attempt.specs.All.{rows_for}
 
 module _ (few many : Shipped) (go : (s : ℕ × Row) → Has few s → Has many s) where
   moved : (n : ℕ) (row : Row) → Has (rows_for few n) row → Has (rows_for many n) row

@@ -1,17 +1,8 @@
 -- What is shipped after any number of reductions serves the database.
-use Rattle.std.proofs.Common.{ℕ, ◌≡◌, ◌+◌, ◌-◌, inl, inr, true, List, [], ◌∷◌, length, refl, sym, subst, arith}
-use Rattle.std.specs.List.{AllByRecursion, list_all}
-use Rattle.std.proofs.lemmas.List.Elements.{recursion_from_All}
-use Rattle.sdd_laws.specs.All.{Catalogue, Condition, Database, Delete, Fits, FitsCondition, FitsStatement, Put, Query, Ref, RelNo, Row, Same, Stmt, Txn, Update, Use, all_rows, meets, part_of, part_uses, statement_uses, uses_from, uses_in, uses_of}
-use Rattle.sdd_laws.specs.lang.Fits.{IsFrom1To}
-use Rattle.sdd_laws.proofs.lang.Pushdown.{parts_meet}
-use Rattle.sdd_attempt.specs.All.{AreEnough, AreEnoughAlong, Has, IsRowOf, Serves}
-use Rattle.sdd_attempt.proofs.exec.Members.{Has-left, Has-right}
-use Rattle.sdd_serving.specs.Reducing.{Space, IsHeldAt, all_held}
+use Rattle.sdd_serving.proofs.All.{AllByRecursion, AreEnough, AreEnoughAlong, Catalogue, Condition, Database, Delete, Fits, FitsCondition, FitsStatement, Has, Has-left, Has-right, IsFrom1To, IsHeldAt, IsRowOf, List, Put, Query, Ref, RelNo, Row, Same, Serves, Space, Stmt, Txn, Update, Use, [], all_held, all_rows, arith, inl, inr, length, length-statement_uses, list_all, meets, part_of, part_uses, parts_meet, recursion_from_All, refl, statement_uses, subst, sym, true, uses_from, uses_in, uses_of, ℕ, ◌+◌, ◌-◌, ◌∷◌, ◌≡◌}
 use Rattle.sdd_serving.proofs.Held.{shipped_held, held_shipped, use_row, row_of_use}
 use Rattle.sdd_serving.proofs.Keeps.{Leads, HoldEnough, HoldEnoughAlong, HasParts, all_keep, all_were}
 use Rattle.sdd_serving.proofs.Uses.{one_use, HasPart, parts_there}
-use Rattle.sdd_laws.proofs.lang.Sources.{length-statement_uses}
 
 -- what is held at first: rows of the database for the uses of the transaction, and each row that a use wants somewhere
 pub record Begins (cat : Catalogue) (txn : Txn) (db : Database) (ds : List ℕ) (first : Space) : Type 0 where

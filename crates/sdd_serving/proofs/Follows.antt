@@ -1,17 +1,7 @@
 -- The exchange of an attempt, entry by entry, follows a run.
-use Rattle.std.proofs.Common.{ℕ, ◌+◌, ◌≡◌, ◌≢◌, ◌==◌, ◌||◌, ◌&&◌, nat_lt, inl, inr, Bool, true, false, cond, List, [], ◌∷◌, ◌++◌, Option, Some, None, map, length, refl, ap, sym, ◌∙◌, subst}
-use Rattle.std.specs.Bool.{if◌then◌else◌}
-use Rattle.std.specs.List.{filter, filter_map}
-use Rattle.sdd_laws.specs.All.{Catalogue, Condition, Delete, Put, Query, Site, Stmt, Update, Use, Value, contains, reduced, uses_in, uses_of, with_values}
+use Rattle.sdd_serving.proofs.All.{Asking, AwaitsNoValues, Bool, Catalogue, Condition, Cutting, Delete, Exchange, Fetching, Follows, Has, Has-append, Has-filter_from, Has-filter_map, Has-map, IsMoveAlong, IsMoveOf, List, Move, Msg, None, Option, Over, Phase, Put, Query, Queued, Reading, Ready, Reduced, Reducing, Resting, Rows, Runs, Shipping, Site, Some, Space, Stage, Step, Stmt, Suits, Telling, TellsAll, Update, Use, Value, Values, [], after_hand, after_send, answered, ap, asked_at, asking_of, askings, asks as run_asks, begins as run_begins, better, cond, contains, counted, counts_for, false, fetches, fetches_from, fewest, filter, filter_map, first_phase, goes_on, if◌then◌else◌, inl, inr, is_candidate, lacking, length, map, module_read, move_at, moves, names_use, nat_lt, next_move, phase_ends, read_to, reduced, reduces as run_reduces, refl, rests as run_rests, rows_at, sends as run_sends, stage_with, subst, sym, tells as run_tells, true, uses_at, uses_in, uses_of, with_use, with_values, without, ℕ, ◌&&◌, ◌++◌, ◌+◌, ◌==◌, ◌||◌, ◌∙◌, ◌∷◌, ◌≡◌, ◌≢◌}
+use Rattle.sdd_attempt.specs.All.{begins}
 use Rattle.sdd_laws.specs.protocol.declared.entry.Entry as line
-use Rattle.sdd_attempt.specs.All.{Asking, Exchange, Fetching, Has, Move, Msg, Over, Phase, Queued, Reading, Ready, Reduced, Reducing as Cutting, Rows, Shipping, Step, Values, after_hand, after_send, answered, asking_of, askings, begins, better, counted, counts_for, fetches, fetches_from, fewest, first_phase, goes_on, is_candidate, lacking, module_read, move_at, moves, next_move, phase_ends, read_to, rows_at, with_use, without}
-use Rattle.sdd_attempt.proofs.exec.Members.{Has-append, Has-map, Has-filter_from, Has-filter_map}
-use Rattle.sdd_serving.specs.Following.{stage_with, Follows, AwaitsNoValues, Suits}
-use Rattle.sdd_serving.specs.Freezing.{uses_at, names_use, asked_at}
-use Rattle.sdd_serving.specs.Reducing.{Space, TellsAll, IsMoveOf, IsMoveAlong}
-use Rattle.sdd_serving.specs.Runs.{Stage, Runs}
-use Rattle.sdd_serving.specs.Runs.Stage.{Resting, Telling, Reducing}
-use Rattle.sdd_serving.specs.Runs.Runs.{begins as run_begins, asks as run_asks, tells as run_tells, sends as run_sends, reduces as run_reduces, rests as run_rests}
 
 -- moves that are chosen
 
@@ -115,8 +105,7 @@ module _ (ds : List ℕ) (statements : List Stmt) (asked : ℕ → ℕ → Bool)
   module _ (ts c : ℕ) where
     asked_next : (space : Space) (x : Exchange) (m : Move) → At space Resting → IsMoveAlong 0 statements m
         → ((q : Asking) → Has x.left q → Has (askings 0 statements) q)
-        → ((d u : ℕ) → Has ds d → asked d u ≡ true → Has (with_use x u) d)
-        → Along space (fetches ts c m x)
+        → ((d u : ℕ) → Has ds d → asked d u ≡ true → Has (with_use x u) d) → Along space (fetches ts c m x)
     asked_next space x m r q left modules = by (with_use x m.source.part) (λ d h a. modules d m.source.part h a)
       where
         by : (lacks : List ℕ) → ((d : ℕ) → Has ds d → asked d m.source.part ≡ true → Has lacks d)
@@ -126,11 +115,11 @@ module _ (ds : List ℕ) (statements : List Stmt) (asked : ℕ → ℕ → Bool)
 
     went_on : (space : Space) (x : Exchange) (qs : List Asking) (done : List Step) → At space Resting
         → ((q : Asking) → Has qs q → Has (askings 0 statements) q)
-        → ((d u : ℕ) → Has ds d → asked d u ≡ true → Has (with_use x u) d)
-        → Along space (goes_on ts c x qs done)
+        → ((d u : ℕ) → Has ds d → asked d u ≡ true → Has (with_use x u) d) → Along space (goes_on ts c x qs done)
     went_on space x [] done r left modules = record { runs = r; left = λ q h. absurd h; modules = modules }
     went_on space x (q ∷ qs) done r left modules =
-        elim (next_move q.conds (counts_for x.counts q) done) as (λ o. next_move q.conds (counts_for x.counts q) done ≡ o → Along space (elim o as (λ _. Exchange) [
+        elim (next_move q.conds (counts_for x.counts q) done) as
+        (λ o. next_move q.conds (counts_for x.counts q) done ≡ o → Along space (elim o as (λ _. Exchange) [
           | None ↦ goes_on ts c x qs []
           | Some m ↦ fetches ts c (move_at q.before m) (record x { left = q ∷ qs; done = done ++ m.step ∷ [] })
         ])) [

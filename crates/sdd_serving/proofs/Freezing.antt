@@ -1,27 +1,10 @@
 -- What the modules freeze are rows of the database, and each row that a use wants is frozen somewhere.
-use Rattle.std.proofs.Common.{ℕ, ◌+◌, ◌≡◌, ◌==◌, ◌||◌, inl, inr, ℤ, true, false, cond, List, [], ◌∷◌, Some, None, map, length, refl, ap, sym, ◌∙◌, subst}
-use Rattle.std.specs.List.{Contains, filter, flat_map, list_all, fold}
-use Rattle.std.specs.Ordering.{int_cmp}
-use Rattle.std.proofs.lemmas.Bool.Decides.{Decides-eqb}
-use Rattle.std.proofs.lemmas.Cmp.{int_cmp_total}
-use Rattle.std.proofs.lemmas.List.Elements.{All-contains}
-use Rattle.std.proofs.lemmas.Map.Lookups.{exact_signed}
-use Rattle.sdd_laws.proofs.base.Membership.{Contains-nil}
-use Rattle.sdd_laws.specs.All.{Catalogue, Condition, CopyRows, Database, Delete, Fits, FragNo, IsEntry, IsSound, Item, Put, Query, RelNo, Row, Stmt, Txn, Update, Use, all_rows, allowed_keys, chosen, contains, entries_of, frag_no, fragment_at, fragment_of, fragments_for, is_read_at, item_cmp, key_column, meets, meets_keys, numbers_to, part_uses, restrictions_of, rows_for, rows_in_fragment, statement_uses, use_of, uses_from, uses_of, with_keyed}
-use Rattle.sdd_laws.specs.lang.Database as databases
-use Rattle.sdd_laws.proofs.lang.Pushdown.{and_parts}
-use Rattle.sdd_laws.proofs.lang.SortedEntries.{item_cmp_total, item_cmp_exact, sorted_nil}
-use Rattle.sdd_attempt.specs.All.{Has, IsRowOf, use_there, with_frags}
-use Rattle.sdd_attempt.proofs.exec.Members.{Has-append, Has-map, Has-map_from, Has-filter, Has-filter_from, Has-flat_map, Has-flat_map_from, Has-filter_map, Has-filter_map_from}
-use Rattle.sdd_laws.proofs.Gathered.{gathered_from, gathered_there}
-use Rattle.sdd_laws.proofs.LookUps.{one_entry}
-use Rattle.sdd_laws.proofs.Members.{Contains-map, Contains-from_map, Contains-filter, Contains-from_filter}
-use Rattle.sdd_serving.specs.Freezing.{uses_at, frozen_space, HasCopies}
-use Rattle.sdd_serving.specs.Reducing.{IsHeldAt}
+use Rattle.sdd_serving.proofs.All.{All-contains, Catalogue, Condition, Contains, Contains-filter, Contains-from_filter, Contains-from_map, Contains-map, Contains-nil, CopyRows, Database, Decides-eqb, Delete, Fits, FragNo, Has, Has-append, Has-filter, Has-filter_from, Has-filter_map, Has-filter_map_from, Has-flat_map, Has-flat_map_from, Has-map, Has-map_from, HasCopies, IsEntry, IsHeldAt, IsRowOf, IsSound, Item, List, None, Put, Query, RelNo, Row, Some, Stmt, Txn, Update, Use, [], all_rows, allowed_keys, and_parts, ap, chosen, cond, contains, entries_of, exact_signed, false, filter, flat_map, fold, frag_no, fragment_at, fragment_of, fragments_for, frozen_space, gathered_from, gathered_there, inl, inr, int_cmp, int_cmp_total, is_read_at, item_cmp, item_cmp_exact, item_cmp_total, key_column, length, list_all, map, meets, meets_keys, numbers_to, one_entry, part_uses, refl, restrictions_of, rows_for, rows_in_fragment, sorted_nil, statement_uses, subst, sym, true, use_of, use_there, uses_at, uses_from, uses_of, with_frags, with_keyed, ℕ, ℤ, ◌+◌, ◌==◌, ◌||◌, ◌∙◌, ◌∷◌, ◌≡◌}
 use Rattle.sdd_serving.proofs.Enough.{Begins}
 use Rattle.sdd_serving.proofs.Held.{has_row, row_there}
 use Rattle.sdd_serving.proofs.Lies.{lies_in_fragment}
 use Rattle.sdd_serving.proofs.Members.{to_has, of_has}
+use Rattle.sdd_laws.specs.lang.Database as databases
 
 -- the fragments of a use are of its relation
 
@@ -47,8 +30,7 @@ part_of_relation cat before conds k [] u h = absurd h
 part_of_relation cat before conds k (rel ∷ rels) u (inl same) =
     subst (OfRelation cat) same
     (for_relation cat rel.0 (use_of cat (before + k) rel (restrictions_of k conds)) refl refl)
-part_of_relation cat before conds k (rel ∷ rels) u (inr there) =
-    part_of_relation cat before conds (k + 1) rels u there
+part_of_relation cat before conds k (rel ∷ rels) u (inr there) = part_of_relation cat before conds (k + 1) rels u there
 
 statement_of_relation : (cat : Catalogue) (before : ℕ) (s : Stmt) (u : Use) → Has (statement_uses cat before s) u
     → OfRelation cat u
@@ -85,7 +67,7 @@ there_is cat c d u v e =
         let same : ◌≡◌ {A = Use} (record u { frags = f ∷ fs }) v = cc in
         subst (λ z. IsThere cat c d u z) same (record { number = refl; restrictions = refl; from = h })
 
-is_there : (cat : Catalogue) (c d : ℕ) (u : Use) (f : FragNo) → Has u.frags f → is_read_at cat c d f.0 ≡ true
+pub is_there : (cat : Catalogue) (c d : ℕ) (u : Use) (f : FragNo) → Has u.frags f → is_read_at cat c d f.0 ≡ true
     → (v : Use) × (use_there cat c d u ≡ Some v) × Has v.frags f
 is_there cat c d u f h t =
     by (filter (λ f. is_read_at cat c d f.0) u.frags) (Has-filter (λ f. is_read_at cat c d f.0) u.frags f h t)

@@ -1,12 +1,6 @@
 -- Which rows are held after a reduction, and which are shipped.
-use Rattle.std.proofs.Common.{ℕ, ◌≡◌, ◌==◌, Bool, true, false, cond, List, Some, None, map, refl, ap, sym, ◌∙◌, subst}
-use Rattle.std.specs.Bool.{if◌then◌else◌}
-use Rattle.std.specs.List.{filter}
-use Rattle.std.proofs.lemmas.Bool.Decides.{Decides-eqb}
-use Rattle.sdd_laws.specs.All.{Frozen, Row, Value, all_rows, column, is_among, reduced}
-use Rattle.sdd_attempt.specs.All.{Has, rows_for}
-use Rattle.sdd_attempt.proofs.exec.Members.{Has-map, Has-map_from, Has-filter, Has-filter_from, Has-flat_map, Has-flat_map_from, Has-filter_map, Has-filter_map_from}
-use Rattle.sdd_serving.specs.Reducing.{Space, IsHeldAt, all_held}
+use Rattle.sdd_serving.proofs.All.{Bool, Decides-eqb, Frozen, Has, Has-filter, Has-filter_from, Has-filter_map, Has-filter_map_from, Has-flat_map, Has-flat_map_from, Has-map, Has-map_from, IsHeldAt, List, None, Row, Some, Space, Value, all_held, all_rows, ap, column, cond, false, filter, if◌then◌else◌, is_among, map, reduced, refl, subst, sym, true, ℕ, ◌==◌, ◌∙◌, ◌≡◌}
+use Rattle.sdd_attempt.specs.All.{rows_for}
 
 -- the rows of a use, as they are kept
 abbrev pub Kept : Type 0

@@ -1,11 +1,6 @@
 -- The moves of a query come from its equalities.
-use Rattle.std.proofs.Common.{ℕ, ◌≡◌, ◌==◌, ◌+◌, ◌⊎◌, inl, inr, true, false, List, [], ◌∷◌, ap, sym, ◌∙◌, subst}
-use Rattle.std.specs.Bool.{if◌then◌else◌}
-use Rattle.sdd_laws.specs.All.{Condition, Const, Ref, Same, Tuple, meets_all, value_at, value_decides}
+use Rattle.sdd_serving.proofs.All.{Condition, Const, Has, Has-flat_map_from, Join, List, Move, Ref, Same, Tuple, [], and_parts, ap, false, if◌then◌else◌, inl, inr, joins_from, meets_all, moves, moves_by, subst, sym, true, value_at, value_decides, ℕ, ◌+◌, ◌==◌, ◌∙◌, ◌∷◌, ◌≡◌, ◌⊎◌}
 use Rattle.sdd_laws.specs.lang.Condition.{meets}
-use Rattle.sdd_laws.proofs.lang.Pushdown.{and_parts}
-use Rattle.sdd_attempt.specs.All.{Has, Join, Move, joins_from, moves, moves_by}
-use Rattle.sdd_attempt.proofs.exec.Members.{Has-flat_map_from}
 
 -- the two sides of an equality among the conditions
 pub record IsJoined (conds : List Condition) (m : Move) : Type 0 where
@@ -14,8 +9,7 @@ pub record IsJoined (conds : List Condition) (m : Move) : Type 0 where
   pub there : Has conds (Same left right)
   pub sides : ((m.source ≡ right) × (m.target ≡ left)) ⊎ ((m.source ≡ left) × (m.target ≡ right))
 
-join_there : (k : ℕ) (conds : List Condition) (j : Join) → Has (joins_from k conds) j
-    → Has conds (Same j.left j.right)
+join_there : (k : ℕ) (conds : List Condition) (j : Join) → Has (joins_from k conds) j → Has conds (Same j.left j.right)
 join_there k [] j h = absurd h
 join_there k (Const left op value ∷ rest) j h = inr (join_there (k + 1) rest j h)
 join_there k (Same left right ∷ rest) j h =

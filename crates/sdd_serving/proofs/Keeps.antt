@@ -1,22 +1,14 @@
 -- Moves of the queries lose no row that a statement needs.
-use Rattle.std.proofs.Common.{ℕ, ◌≡◌, ◌≢◌, ◌≤◌, ◌<◌, ◌==◌, ◌+◌, ◌⊎◌, inl, inr, true, List, [], ◌∷◌, length, map, ap, sym, ◌∙◌, subst, arith}
-use Rattle.std.specs.List.{AllByRecursion}
-use Rattle.std.proofs.lemmas.Bool.{cases_Bool}
-use Rattle.std.proofs.lemmas.Bool.Decides.{Decides-eqb}
-use Rattle.sdd_laws.specs.All.{Condition, Database, Delete, Put, Query, Ref, Row, Same, Stmt, Tuple, Update, Value, all_rows, column, is_among, meets_all, part_of, product, reduced, restrictions_of, uses_in, value_at}
-use Rattle.sdd_laws.specs.lang.Database as databases
-use Rattle.sdd_laws.specs.lang.Fits.{IsFrom1To}
-use Rattle.sdd_attempt.specs.All.{Has, IsRowOf, Move, use_at}
-use Rattle.sdd_serving.specs.Reducing.{Space, IsHeldAt, IsMoveOf, IsMoveAlong}
+use Rattle.sdd_serving.proofs.All.{AllByRecursion, Condition, Database, Decides-eqb, Delete, Has, IsFrom1To, IsHeldAt, IsMoveAlong, IsMoveOf, IsRowOf, List, Move, Put, Query, Ref, Row, Same, Space, Stmt, Tuple, Update, Value, [], all_rows, ap, arith, cases_Bool, column, inl, inr, is_among, length, map, meets_all, part_of, product, reduced, restrictions_of, subst, sym, true, use_at, uses_in, value_at, ℕ, ◌+◌, ◌<◌, ◌==◌, ◌∙◌, ◌∷◌, ◌≡◌, ◌≢◌, ◌≤◌, ◌⊎◌}
 use Rattle.sdd_serving.proofs.Held.{reduced_from, stays_held}
 use Rattle.sdd_serving.proofs.Joined.{IsJoined, joined, one_value}
+use Rattle.sdd_laws.specs.lang.Database as databases
 
 -- the values of a move reduce what one module holds: among them are those of all rows that are held for its source
 pub record Reduces (ds : List ℕ) (m : Move) (before after : Space) : Type 0 where
   pub at : ℕ
   pub values : List Value
-  pub covers : (row : Row) → IsHeldAt ds before m.source.part row
-      → is_among values (column row m.source.column) ≡ true
+  pub covers : (row : Row) → IsHeldAt ds before m.source.part row → is_among values (column row m.source.column) ≡ true
   pub here : after at ≡ reduced m.target.part m.target.column values (before at)
   pub elsewhere : (d : ℕ) → d ≢ at → after d ≡ before d
 

@@ -1,14 +1,5 @@
 -- A run of the exchange is a sequence of reductions each of which has the values of all rows of its source.
-use Rattle.std.proofs.Common.{ℕ, ◌≡◌, ◌==◌, ◌⊎◌, inl, inr, Bool, true, not, List, [], ◌∷◌, ap, subst}
-use Rattle.std.proofs.lemmas.Bool.{cases_Bool}
-use Rattle.std.proofs.lemmas.Bool.Decides.{Decides-eqb}
-use Rattle.sdd_laws.specs.All.{Row, Stmt, all_rows, column, is_among}
-use Rattle.sdd_attempt.specs.All.{Has}
-use Rattle.sdd_attempt.proofs.exec.Members.{Has-filter}
-use Rattle.sdd_serving.specs.Reducing.{Space, IsHeldAt, IsMoveAlong}
-use Rattle.sdd_serving.specs.Runs.{Stage, Runs, may_reduce}
-use Rattle.sdd_serving.specs.Runs.Stage.{Resting, Telling, Reducing}
-use Rattle.sdd_serving.specs.Runs.Runs.{begins, asks, tells, sends, reduces, rests}
+use Rattle.sdd_serving.proofs.All.{Bool, Decides-eqb, Has, Has-filter, IsHeldAt, IsMoveAlong, List, Reducing, Resting, Row, Runs, Space, Stage, Stmt, Telling, [], all_rows, ap, asks, begins, cases_Bool, column, inl, inr, is_among, may_reduce, not, reduces, rests, sends, subst, tells, true, ℕ, ◌==◌, ◌∷◌, ◌≡◌, ◌⊎◌}
 use Rattle.sdd_serving.proofs.Keeps.{Leads, Reduces, was_held, all_were}
 use Rattle.sdd_serving.proofs.Keeps.Leads.{none, more}
 use Rattle.sdd_serving.proofs.Told.{old_among, new_among}

@@ -1,3 +1,4 @@
+mod All
 pub mod Arrived
 pub mod Enough
 pub mod Follows

@@ -1,12 +1,5 @@
 -- An entry that meets the restrictions of a use lies in one of its fragments.
-use Rattle.std.proofs.Common.{ℕ, suc, ◌≡◌, ◌<◌, ◌+◌, ◌-◌, inl, inr, true, List, [], ◌∷◌, map, length, get_or, ap, subst, arith}
-use Rattle.std.specs.List.{AllByRecursion, list_all}
-use Rattle.std.proofs.lemmas.List.{get_or_default}
-use Rattle.std.proofs.lemmas.List.Elements.{recursion_from_All}
-use Rattle.std.proofs.lemmas.Bool.Decides.{Decides-eqb}
-use Rattle.sdd_laws.specs.All.{Catalogue, Condition, Delete, Fits, FitsCondition, FitsStatement, IsEntry, IsRelation, IsSound, Item, Put, Query, RelNo, Row, Stmt, Txn, Update, Use, contains, fragment_of, meets, part_uses, rel_of, statement_uses, uses_from, uses_in, uses_of}
-use Rattle.sdd_laws.proofs.lang.ReadSetDecides.{lies_in_use}
-use Rattle.sdd_attempt.specs.All.{Has}
+use Rattle.sdd_serving.proofs.All.{AllByRecursion, Catalogue, Condition, Decides-eqb, Delete, Fits, FitsCondition, FitsStatement, Has, IsEntry, IsRelation, IsSound, Item, List, Put, Query, RelNo, Row, Stmt, Txn, Update, Use, [], ap, arith, contains, fragment_of, get_or_default, inl, inr, length, lies_in_use, list_all, map, meets, part_uses, recursion_from_All, rel_of, slice_index_or as get_or, statement_uses, subst, suc, true, uses_from, uses_in, uses_of, ℕ, ◌+◌, ◌-◌, ◌<◌, ◌∷◌, ◌≡◌}
 use Rattle.sdd_serving.proofs.Uses.{uses_split}
 
 module _ (cat : Catalogue) (sound : IsSound cat) (e : Item × Row) (entry : IsEntry cat e) where

@@ -1,8 +1,5 @@
 -- Between the two forms of membership.
-use Rattle.std.proofs.Common.{inl, inr, List, [], ◌∷◌, sym, subst}
-use Rattle.std.specs.List.{Contains}
-use Rattle.sdd_laws.proofs.base.Membership.{Contains-nil, Contains-here, Contains-later, Contains-cases}
-use Rattle.sdd_attempt.specs.All.{Has}
+use Rattle.sdd_serving.proofs.All.{Contains, Contains-cases, Contains-here, Contains-later, Contains-nil, Has, List, [], inl, inr, subst, sym, ◌∷◌}
 
 pub to_has : {A : Type 0} (xs : List A) (x : A) → Contains xs x → Has xs x
 to_has [] x h = Contains-nil x h

@@ -1,13 +1,5 @@
 -- The whole exchange: from the copies at the modules' Answers to rows that serve the database which has them.
-use Rattle.std.proofs.Common.{ℕ, ◌≡◌, ◌==◌, ◌||◌, inl, inr, true, false, List, [], ◌∷◌, refl, ap, ◌∙◌}
-use Rattle.std.proofs.lemmas.Bool.Decides.{Decides-eqb}
-use Rattle.sdd_laws.specs.All.{Catalogue, CopyRows, Database, Fits, IsSound, Row, Txn, Use, all_rows, effect, effect_over, rows_for}
-use Rattle.sdd_attempt.specs.All.{Has, Serves, chosen_for, found_for}
-use Rattle.sdd_attempt.proofs.exec.Members.{Has-map_from}
-use Rattle.sdd_attempt.proofs.exec.Serving.{served_effect}
-use Rattle.sdd_serving.specs.Freezing.{uses_at, names_use, asked_at, frozen_space, HasCopies}
-use Rattle.sdd_serving.specs.Reducing.{Space, all_held}
-use Rattle.sdd_serving.specs.Runs.{Stage, Runs}
+use Rattle.sdd_serving.proofs.All.{Catalogue, CopyRows, Database, Decides-eqb, Fits, Has, Has-map_from, HasCopies, IsSound, List, Row, Runs, Serves, Space, Stage, Txn, Use, [], all_held, all_rows, ap, asked_at, chosen_for, effect, effect_over, false, found_for, frozen_space, inl, inr, names_use, refl, rows_for, served_effect, true, uses_at, ℕ, ◌==◌, ◌||◌, ◌∙◌, ◌∷◌, ◌≡◌}
 use Rattle.sdd_serving.proofs.Enough.{serves}
 use Rattle.sdd_serving.proofs.Freezing.{begins}
 use Rattle.sdd_serving.proofs.Held.{Kept, has_row}

@@ -1,17 +1,5 @@
 -- The database that is put together of the copies which an attempt reads has these copies.
-use Rattle.std.proofs.Common.{ℕ, ◌≡◌, ◌==◌, true, List, [], Option, Some, None, refl, ap, sym, ◌∙◌, subst}
-use Rattle.std.specs.Option.{option_eq}
-use Rattle.std.specs.List.{Contains}
-use Rattle.std.specs.List.Sorted.{IsStrictlySortedBy}
-use Rattle.std.specs.Map.{keys_of}
-use Rattle.std.proofs.lemmas.Bool.Decides.{Decides-eqb}
-use Rattle.sdd_laws.specs.All.{ArePlaced, Catalogue, Database, Dated, FragNo, IsDatabase, Item, Row, Txn, Use, contents, entries_of, fragment_of, is_read_at, item_cmp, reads_at, uses_of}
-use Rattle.sdd_laws.proofs.lang.SortedEntries.{sorted_nil}
-use Rattle.sdd_attempt.specs.All.{Has}
-use Rattle.sdd_laws.proofs.CopyEntries.{entries_ascend, lies_there}
-use Rattle.sdd_laws.proofs.Together.{together, has_copy}
-use Rattle.sdd_laws.proofs.base.Membership.{Contains-nil}
-use Rattle.sdd_serving.specs.Freezing.{HasCopies}
+use Rattle.sdd_serving.proofs.All.{ArePlaced, Catalogue, Contains, Contains-nil, Database, Dated, Decides-eqb, FragNo, Has, HasCopies, IsDatabase, IsStrictlySortedBy, Item, List, None, Option, Row, Some, Txn, Use, [], ap, contents, entries_ascend, entries_of, fragment_of, has_copy, is_read_at, item_cmp, keys_of, lies_there, option_eq, reads_at, refl, sorted_nil, subst, sym, together, true, uses_of, ℕ, ◌==◌, ◌∙◌, ◌≡◌}
 
 -- a use of the transaction is of the fragment
 pub record IsUsed (cat : Catalogue) (txn : Txn) (f : ℕ) : Type 0 where

@@ -1,24 +1,10 @@
 -- What the values that modules tell have, and their union.
-use Rattle.std.proofs.Common.{ℕ, ◌≡◌, ◌==◌, ◌||◌, inl, inr, Bool, true, false, cond, List, [], ◌∷◌, Some, None, map, refl, ap, sym, ◌∙◌, subst, Ordering}
-use Rattle.std.specs.declared.cmp.Ordering.TheVariants.{Less, Equal, Greater}
-use Rattle.std.specs.Ordering.{is_eq, match_ordering, ordering_reverse}
-use Rattle.std.specs.BTreeSet.{insert_key}
-use Rattle.std.proofs.lemmas.Bool.Decides.{Decides-eqb}
-use Rattle.std.proofs.lemmas.Cmp.{tied_itself}
-use Rattle.sdd_laws.specs.All.{Catalogue, CopyRows, Frozen, Ref, Row, Txn, Use, Value, all_rows, column, first_some, is_among, or_else, or_nothing, reduced, rows_for, rows_of, uses_of, value_cmp, value_cmp_total, values_in, with_values}
-use Rattle.sdd_attempt.specs.All.{Has, use_there}
-use Rattle.sdd_attempt.proofs.exec.Members.{Has-map_from, Has-filter_map_from}
-use Rattle.sdd_serving.specs.Freezing.{uses_at, frozen_space}
-use Rattle.sdd_serving.specs.Reducing.{TellsAll}
+use Rattle.sdd_serving.proofs.All.{Catalogue, CopyRows, Decides-eqb, Equal, Frozen, Greater, Has, Has-filter_map_from, Has-map_from, Less, List, None, Ordering, Ref, Row, Some, TellsAll, Txn, Use, Value, [], all_rows, ap, column, cond, either, false, first_some, frozen_space, inl, inr, insert_key, is_among, is_eq, map, match_ordering, or_else, or_nothing, ordering_reverse, reduced, refl, rows_for, rows_of, subst, sym, tied_itself, true, use_there, uses_at, uses_of, value_cmp, value_cmp_total, values_in, with_values, ℕ, ◌==◌, ◌||◌, ◌∙◌, ◌∷◌, ◌≡◌}
 use Rattle.sdd_serving.proofs.Freezing.{IsThere, there_is}
 use Rattle.sdd_serving.proofs.Held.{Kept, has_row, lessened, same_number}
 use Rattle.sdd_serving.proofs.Uses.{one_use}
 
 -- values that are put together
-
-either : (a b : Bool) → b ≡ true → (a || b) ≡ true
-either true b e = refl
-either false b e = e
 
 among_self : (v : Value) → is_eq (value_cmp v v) ≡ true
 among_self v = ap is_eq (tied_itself value_cmp_total v)
@@ -132,8 +118,7 @@ rows_told (x ∷ es) e once h =
     → or_nothing (or_else (cond b (Some x.1) None) (first_some (λ (z : Kept). cond (z.0 == e.0) (Some z.1) None) es)) ≡ e.1) [
       | true ↦ λ q. ap (λ (z : Kept). z.1) (once x (inl refl) ((Decides-eqb x.0 e.0).0 q))
       | false ↦ λ q. elim h [
-        | inl same ↦
-            let own : (x.0 == e.0) ≡ true = (Decides-eqb x.0 e.0).1 (ap (λ (z : Kept). z.0) same) in absurd cc
+        | inl same ↦ let own : (x.0 == e.0) ≡ true = (Decides-eqb x.0 e.0).1 (ap (λ (z : Kept). z.0) same) in absurd cc
         | inr later ↦ rows_told es e (λ d k n. once d (inr k) n) later
       ]
     ] refl

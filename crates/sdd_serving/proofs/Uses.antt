@@ -1,10 +1,6 @@
 -- The uses of a transaction have different numbers, and each part of a statement has one.
-use Rattle.std.proofs.Common.{ℕ, zero, suc, ◌≡◌, ◌≤◌, ◌<◌, ◌+◌, ◌⊎◌, inl, inr, List, [], ◌∷◌, length, map, slice_index_or, refl, ap, sym, ◌∙◌, subst, arith}
-use Rattle.sdd_laws.specs.All.{Catalogue, Condition, Database, Delete, Put, Query, RelNo, Row, Stmt, Tuple, Update, Use, part_uses, product, restrictions_of, statement_uses, use_of, uses_from, uses_in}
+use Rattle.sdd_serving.proofs.All.{Catalogue, Condition, Database, Delete, Has, Has-append, Has-flat_map_from, Has-map_from, List, Put, Query, RelNo, Row, Stmt, Tuple, Update, Use, [], ap, arith, inl, inr, length, length-statement_uses, map, part_uses, product, refl, restrictions_of, slice_index_or, statement_uses, subst, suc, sym, use_of, uses_from, uses_in, zero, ℕ, ◌+◌, ◌<◌, ◌∙◌, ◌∷◌, ◌≡◌, ◌≤◌, ◌⊎◌}
 use Rattle.sdd_laws.specs.lang.Database as databases
-use Rattle.sdd_laws.proofs.lang.Sources.{length-statement_uses}
-use Rattle.sdd_attempt.specs.All.{Has}
-use Rattle.sdd_attempt.proofs.exec.Members.{Has-append, Has-map_from, Has-flat_map_from}
 
 part_range : (cat : Catalogue) (before : ℕ) (conds : List Condition) (k : ℕ) (rels : List RelNo) (u : Use)
     → Has (part_uses cat before conds k rels) u → (before + k ≤ u.number) × (u.number < before + k + length rels)

@@ -1,17 +1,6 @@
 -- A worked exchange: of the accounts (5, 6) and (6, 7) a query joins those of which one's balance is the other's number.
 -- The rows of its first use are reduced by the balances of its second: (5, 6) is dropped, and what is left serves.
-use Rattle.std.proofs.Common.{ℕ, ◌≡◌, ◌≢◌, ◌==◌, inl, inr, pos, true, false, cond, List, [], ◌∷◌, refl, ap, sym, subst, lit≤}
-use Rattle.std.proofs.lemmas.Bool.Decides.{Decides-eqb}
-use Rattle.std.proofs.lemmas.List.Elements.{All-from_recursion}
-use Rattle.sdd_laws.specs.All.{Condition, CopyRows, Database, FragNo, Int, IsDatabase, IsEntry, Query, Row, Same, Txn, Use, Value, accounts, entries_of, frag_no, is_read_at, item_cmp, reduced, ref, rel, rows_in_fragment, rows_of, two, txn, uses_of, values_in}
-use Rattle.sdd_attempt.specs.All.{Has, Move}
-use Rattle.sdd_laws.proofs.lang.SortedEntries.{sorted_nil}
-use Rattle.sdd_laws.proofs.LookUps.{sorted_cons}
-use Rattle.sdd_serving.specs.Freezing.{asked_at, frozen_space, HasCopies}
-use Rattle.sdd_serving.specs.Reducing.{Space, move_by, all_held}
-use Rattle.sdd_serving.specs.Runs.{Stage, Runs}
-use Rattle.sdd_serving.specs.Runs.Stage.{Resting, Telling, Reducing}
-use Rattle.sdd_serving.specs.Runs.Runs.{begins, asks, tells, sends, reduces, rests}
+use Rattle.sdd_serving.proofs.All.{All-from_recursion, Condition, CopyRows, Database, Decides-eqb, FragNo, Has, HasCopies, Int, IsDatabase, IsEntry, List, Move, Query, Reducing, Resting, Row, Runs, Same, Space, Stage, Telling, Txn, Use, Value, [], accounts, all_held, ap, asked_at, asks, begins, cond, entries_of, false, frag_no, frozen_space, inl, inr, is_read_at, item_cmp, lit≤, move_by, pos, reduced, reduces, ref, refl, rel, rests, rows_in_fragment, rows_of, sends, sorted_cons, sorted_nil, subst, sym, tells, true, two, txn, uses_of, values_in, ℕ, ◌==◌, ◌∷◌, ◌≡◌, ◌≢◌}
 use Rattle.sdd_serving.proofs.Told.{frozen_once, tells_all}
 
 abbrev joined : List Condition
@@ -89,8 +78,7 @@ elsewhere : (d : ℕ) → d ≢ 1 → last d ≡ first d
 elsewhere d n =
     elim (d == 1) as (λ b.
     (d == 1) ≡ b → cond b (reduced 1 1 told (first 1)) (first d) ≡ first d) [
-      | true ↦ λ e. absurd
-          (n ((Decides-eqb d 1).0 e))
+      | true ↦ λ e. absurd (n ((Decides-eqb d 1).0 e))
       | false ↦ λ e. refl
     ] refl
 
