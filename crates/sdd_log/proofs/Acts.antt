@@ -1,29 +1,13 @@
 -- What a site's acts, one after the other, do to the log's recursions.
-use Rattle.std.proofs.Common.{ℕ, suc, Bool, true, false, List, [], ◌∷◌, ◌++◌, length, map, ◌≡◌, refl, ap, ◌∙◌, sym, Some, append_assoc, append-nil}
-use Rattle.std.specs.Prelude.{◌||◌, nat_lt}
-use Rattle.std.specs.Bool.{if◌then◌else◌}
-use Rattle.std.proofs.lemmas.List.{map-append}
-use Rattle.sdd_attempt.specs.All.{Act, D, Did, Event, MAX_LINK_MESSAGES, Msg, Site, T, U, log_after, records_of, records_of_act, same_site, sends_of, sends_of_act}
-use Rattle.sdd_net.specs.Links.{Call, Puts, link}
-use Rattle.sdd_net.proofs.Directions.{same_here}
-use Rattle.sdd_log.specs.Entries.{Given, Log, Does, history, marks}
-use Rattle.sdd_log.specs.Traffic.{puts, calls_of, handed, is_down, takes_part}
-use Rattle.sdd_log.specs.Locals.{local_of}
-use Rattle.sdd_log.specs.Marks.{left}
-use Rattle.sdd_log.specs.Due.{next}
-use Rattle.sdd_log.specs.Lawful.{IsLawful, IsWithin, EndsByLimit, puts_past}
+use Rattle.sdd_log.proofs.All.{Act, AllLinked, Call, D, Did, Does, EndsByLimit, Event, Given, IsLawful, IsWithin, List, Log, MAX_LINK_MESSAGES, Msg, Puts, Site, Some, T, U, [], ap, append-nil, append_assoc, calls_of, false, handed, history, is_down, left, length, link, local_of, log_after, map, map-append, marks, nat_lt, next, or_assoc, or_false, puts, puts_past, records_of, records_of_act, refl, same_here, same_site, sends_of, sends_of_act, suc, sym, takes_part, true, ℕ, ◌++◌, ◌||◌, ◌∙◌, ◌∷◌, ◌≡◌}
 use Rattle.sdd_log.proofs.Steps.{after_acts}
-use Rattle.sdd_log.specs.Resting.{AllLinked, IsLinkOf}
 
 pub puts-append : (at : Site) (xs ys : List (Site × Msg)) (calls : List (Call Msg)) → puts at (xs ++ ys) calls ≡ puts at ys (puts at xs calls)
 puts-append at [] ys calls = refl
 puts-append at (x ∷ xs) ys calls = puts-append at xs ys (Puts at x.0 x.1 ∷ calls)
 
-or_assoc : (a b c : Bool) → ((a || b) || c) ≡ (a || (b || c))
-or_assoc true b c = refl
-or_assoc false b c = refl
-
-pub puts_past-append : (at : Site) (xs ys : List (Site × Msg)) (calls : List (Call Msg)) → puts_past calls at (xs ++ ys) ≡ (puts_past calls at xs || puts_past (puts at xs calls) at ys)
+pub puts_past-append : (at : Site) (xs ys : List (Site × Msg)) (calls : List (Call Msg))
+    → puts_past calls at (xs ++ ys) ≡ (puts_past calls at xs || puts_past (puts at xs calls) at ys)
 puts_past-append at [] ys calls = refl
 puts_past-append at (x ∷ xs) ys calls =
     ap (λ b. nat_lt MAX_LINK_MESSAGES (suc (length (link at x.0 calls).there.sent)) || b) (puts_past-append at xs ys (Puts at x.0 x.1 ∷ calls))
@@ -69,24 +53,25 @@ pub lawful_before : (g : Given) (at : Site) (acts : List Act) (log : Log) → Is
 lawful_before g at [] log h = h
 lawful_before g at (a ∷ acts) log h = (lawful_before g at acts (Does at a ∷ log) h).1
 
-or_false : (a b : Bool) → (a || b) ≡ false → (a ≡ false) × (b ≡ false)
-or_false true b e = cc
-or_false false b e = (refl, e)
-
 -- no put is past: the log stays within
-pub within_acts : (at : Site) (acts : List Act) (log : Log) → puts_past (calls_of log) at (sends_of acts) ≡ false → IsWithin log → IsWithin (after_acts at acts log)
+pub within_acts : (at : Site) (acts : List Act) (log : Log) → puts_past (calls_of log) at (sends_of acts) ≡ false → IsWithin log
+    → IsWithin (after_acts at acts log)
 within_acts at [] log e w = w
 within_acts at (a ∷ acts) log e w =
-    let p = or_false (puts_past (calls_of log) at (sends_of_act a)) (puts_past (puts at (sends_of_act a) (calls_of log)) at (sends_of acts)) (sym (puts_past-append at (sends_of_act a) (sends_of acts) (calls_of log)) ∙ e) in
+    let p = or_false (puts_past (calls_of log) at (sends_of_act a)) (puts_past (puts at (sends_of_act a) (calls_of log)) at (sends_of acts))
+    (sym (puts_past-append at (sends_of_act a) (sends_of acts) (calls_of log)) ∙ e) in
     within_acts at acts (Does at a ∷ log) p.1 (p.0, w)
 
 -- a put is past: the log ends there
-pub ends_in_acts : (g : Given) (at : Site) (acts : List Act) (log : Log) → puts_past (calls_of log) at (sends_of acts) ≡ true → IsWithin log → IsLawful g (after_acts at acts log) → (more : Log) × EndsByLimit g more
+pub ends_in_acts : (g : Given) (at : Site) (acts : List Act) (log : Log) → puts_past (calls_of log) at (sends_of acts) ≡ true → IsWithin log
+    → IsLawful g (after_acts at acts log) → (more : Log) × EndsByLimit g more
 ends_in_acts g at [] log e w l = cc
 ends_in_acts g at (a ∷ acts) log e w l =
-    let q : (puts_past (calls_of log) at (sends_of_act a) || puts_past (calls_of (Does at a ∷ log)) at (sends_of acts)) ≡ true = sym (puts_past-append at (sends_of_act a) (sends_of acts) (calls_of log)) ∙ e in
+    let q : (puts_past (calls_of log) at (sends_of_act a) || puts_past (calls_of (Does at a ∷ log)) at (sends_of acts)) ≡ true = sym
+    (puts_past-append at (sends_of_act a) (sends_of acts) (calls_of log)) ∙ e in
     let k : IsLawful g (Does at a ∷ log) = lawful_before g at acts (Does at a ∷ log) l in
-    elim (puts_past (calls_of log) at (sends_of_act a)) as (λ b. puts_past (calls_of log) at (sends_of_act a) ≡ b → (b || puts_past (calls_of (Does at a ∷ log)) at (sends_of acts)) ≡ true → (more : Log) × EndsByLimit g more) [
+    elim (puts_past (calls_of log) at (sends_of_act a)) as
+    (λ b. puts_past (calls_of log) at (sends_of_act a) ≡ b → (b || puts_past (calls_of (Does at a ∷ log)) at (sends_of acts)) ≡ true → (more : Log) × EndsByLimit g more) [
       | true ↦ λ p r. (log, record { lawful = k.1; within = w; entry = Does at a; next_is = k.0; past = p })
       | false ↦ λ p r. ends_in_acts g at acts (Does at a ∷ log) r (p, w) l
     ] refl q
@@ -96,7 +81,8 @@ AllLinked-append : (g : Given) (at : Site) (xs ys : List (Site × Msg)) → AllL
 AllLinked-append g at [] ys h k = k
 AllLinked-append g at (x ∷ xs) ys h k = (h.0, AllLinked-append g at xs ys h.1 k)
 
-pub linked_acts : (g : Given) (at : Site) (acts : List Act) (log : Log) → ((log : Log) (act : Act) → IsLawful g log → next g log ≡ Some (Does at act) → AllLinked g at (sends_of_act act))
+pub linked_acts : (g : Given) (at : Site) (acts : List Act) (log : Log)
+    → ((log : Log) (act : Act) → IsLawful g log → next g log ≡ Some (Does at act) → AllLinked g at (sends_of_act act))
     → IsLawful g (after_acts at acts log) → AllLinked g at (sends_of acts)
 linked_acts g at [] log law l = tt
 linked_acts g at (a ∷ acts) log law l =

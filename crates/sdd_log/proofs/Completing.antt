@@ -1,15 +1,6 @@
 -- The complete log of what was given, with one event more; rounds, and when they end.
-use Rattle.std.proofs.Common.{ℕ, zero, suc, Bool, true, false, List, [], ◌∷◌, ◌++◌, ◌≡◌, refl, ap, ◌∙◌, Option, Some, None}
-use Rattle.sdd_attempt.specs.All.{Deliver, Down, Event, Lose, Redeclare, Repeat, Resend, Settle, Submit, Tick, Up, or_else, tail_of}
-use Rattle.sdd_net.specs.Links.{quiet, round}
-use Rattle.sdd_log.specs.Entries.{Given, Log, Entry, Mark, Redeclares, Round, with_event}
-use Rattle.sdd_log.specs.Traffic.{all_links, calls_of}
-use Rattle.sdd_log.specs.Marks.{after_mark, from_event, greatest_bound, left, mark_from, mark_of, next_mark}
-use Rattle.sdd_log.specs.Due.{hand_due, mark_due, next, site_due}
-use Rattle.sdd_log.specs.Lawful.{IsLawful}
+use Rattle.sdd_log.proofs.All.{Bool, Deliver, Down, EndsIn, Entry, Event, Given, IsLawful, List, Log, Lose, Mark, None, Option, Redeclare, Redeclares, Repeat, Resend, Round, Settle, Some, Submit, TakesRounds, Tick, Up, [], after_mark, all_links, ap, calls_of, false, from_event, greatest_bound, hand_due, left, mark_due, mark_from, mark_of, next, next_mark, or_else, or_none, quiet, refl, round, settles_before, site_due, suc, tail_of, true, with_event, zero, ℕ, ◌++◌, ◌∙◌, ◌∷◌, ◌≡◌}
 use Rattle.sdd_log.proofs.Grows.{grows, with_end}
-use Rattle.sdd_log.specs.Resting.{EndsIn, settles_before, TakesRounds}
-use Rattle.sdd_log.proofs.Ticking.{or_none}
 
 -- nothing is due at all
 pub record IsOver (g : Given) (log : Log) : Type 0 where
@@ -41,7 +32,8 @@ IsSingle Redeclare = ⊥
 IsSingle _ = Unit {0}
 
 -- an event more behind events of which nothing is left
-more_marked : (g : Given) (log : Log) (q : Bool) (r ws : List Event) (e : Event) → IsSingle e → mark_from g log q r ws ≡ None → mark_from (with_event g e) log q r (ws ++ e ∷ []) ≡ Some (Mark e)
+more_marked : (g : Given) (log : Log) (q : Bool) (r ws : List Event) (e : Event) → IsSingle e → mark_from g log q r ws ≡ None
+    → mark_from (with_event g e) log q r (ws ++ e ∷ []) ≡ Some (Mark e)
 more_marked g log q r [] (Submit n) i h = refl
 more_marked g log q r [] (Deliver a b k) i h = refl
 more_marked g log q r [] (Lose a b k) i h = refl
@@ -65,7 +57,8 @@ more_marked g log q r (Tick t n ∷ ws) e i h = cc
 more_marked g log q r (Down d ∷ ws) e i h = cc
 more_marked g log q r (Up d ∷ ws) e i h = cc
 
-more_taken : (g : Given) (log : Log) (q : Bool) (r ws : List Event) (e : Event) → IsSingle e → mark_from g log q r ws ≡ None → tail_of (from_event (ws ++ e ∷ [])) ≡ []
+more_taken : (g : Given) (log : Log) (q : Bool) (r ws : List Event) (e : Event) → IsSingle e → mark_from g log q r ws ≡ None
+    → tail_of (from_event (ws ++ e ∷ [])) ≡ []
 more_taken g log q r [] (Submit n) i h = refl
 more_taken g log q r [] (Deliver a b k) i h = refl
 more_taken g log q r [] (Lose a b k) i h = refl
@@ -180,8 +173,7 @@ mark_at g log q ws o e s h = ap (mark_of g log) e ∙ ap (λ b. mark_from g log 
 
 -- where nothing is in flight and all is acknowledged, a settle ends
 pub settled : (g : Given) (log : Log) (ws : List Event) → IsFree g log
-    → left g.events log ≡ (ws, []) → EndsIn Settle ws → quiet (all_links g) (calls_of log) ≡ true
-    → next g log ≡ None
+    → left g.events log ≡ (ws, []) → EndsIn Settle ws → quiet (all_links g) (calls_of log) ≡ true → next g log ≡ None
 settled g log ws f e s q =
     let r = round (all_links g) (calls_of log) in
     next_is_mark g log None f (mark_at g log true ws None e q (ap (mark_from g log true r) s.1 ∙ settled_from g log r s.0))
@@ -199,13 +191,13 @@ redeclare_next g log ws f e s q =
 
 -- else a round is next
 pub round_next : (g : Given) (log : Log) (ws : List Event) (e : Event) → IsFree g log
-    → left g.events log ≡ (ws, []) → TakesRounds e → EndsIn e ws
-    → quiet (all_links g) (calls_of log) ≡ false
+    → left g.events log ≡ (ws, []) → TakesRounds e → EndsIn e ws → quiet (all_links g) (calls_of log) ≡ false
     → next g log ≡ Some (Round (round (all_links g) (calls_of log)))
 round_next g log ws e f l t s q =
     let r = round (all_links g) (calls_of log) in
     next_is_mark g log (Some (Round r)) f (mark_at g log false ws (Some (Round r)) l q (ap (mark_from g log false r) s.1 ∙ round_from g log r e s.0 t))
 
 -- in a round its next event is next
-pub in_round : (g : Given) (log : Log) (ws : List Event) (e : Event) (rest : List Event) → IsFree g log → left g.events log ≡ (ws, e ∷ rest) → next g log ≡ Some (Mark e)
+pub in_round : (g : Given) (log : Log) (ws : List Event) (e : Event) (rest : List Event) → IsFree g log → left g.events log ≡ (ws, e ∷ rest)
+    → next g log ≡ Some (Mark e)
 in_round g log ws e rest f l = next_is_mark g log (Some (Mark e)) f (ap (mark_of g log) l)

@@ -1,15 +1,7 @@
 -- What holds of each entry of a site's log, wherever it may come, holds of the log that a permitted log gives the site.
-use Rattle.std.proofs.Common.{ℕ, suc, Bool, true, false, [], ◌∷◌, ◌≡◌, refl, sym, subst, Option, Some, None}
-use Rattle.std.specs.Bool.{if◌then◌else◌}
-use Rattle.sdd_attempt.specs.All.{Act, D, Deliver, Did, Down, Each, Event, Force, Handed, Lose, Msg, Redeclare, Redeclared, Repeat, Resend, Settle, Site, Submit, Submits, T, Tick, Ticked, Txn, U, Up, same_site}
-use Rattle.sdd_attempt.specs.site_module.SiteLog as site
-use Rattle.sdd_log.specs.Entries.{Given, Log, Entry, Mark, Round, Redeclares, Hand, Submitted, Notes, Does}
-use Rattle.sdd_log.specs.Locals.{redeclares, force_at, txn_at, beginning, with_force, with_submit, local_of}
-use Rattle.sdd_log.specs.Due.{mark_due, due_by, note_if}
-use Rattle.sdd_log.specs.Lawful.{IsLawful}
-use Rattle.sdd_log.specs.Permitted.{IsDueAt, IsAllowed, by_mark, by_round, by_redeclare, by_event, by_site, by_link, IsPermitted, AreSubmittedOnce}
+use Rattle.sdd_log.proofs.All.{Act, AreSubmittedOnce, Bool, D, Deliver, Did, Does, Down, Each, Entry, Event, Force, Given, Hand, Handed, IsAllowed, IsDueAt, IsLawful, IsPermitted, Log, Lose, Mark, Msg, None, Notes, Option, Redeclare, Redeclared, Redeclares, Repeat, Resend, Round, Settle, Site, Some, Submit, Submits, Submitted, T, Tick, Ticked, Txn, U, Up, [], beginning, by_event, by_link, by_mark, by_redeclare, by_round, by_site, due_by, false, force_at, if◌then◌else◌, local_of, mark_due, note_if, redeclares, refl, same_is, same_site, subst, suc, sym, true, txn_at, with_force, with_submit, ℕ, ◌∷◌, ◌≡◌}
 use Rattle.sdd_log.proofs.NewMarks.{lawful_permitted}
-use Rattle.sdd_log.proofs.Steps.{same_is}
+use Rattle.sdd_attempt.specs.site_module.SiteLog as site
 
 -- a mark makes due only a Submit or a Nothing
 abbrev is_note : Entry → Bool

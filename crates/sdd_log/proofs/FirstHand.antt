@@ -1,27 +1,14 @@
 -- Which message is handed over first: that of the first link, in their order, with one that is to be handed over.
-use Rattle.std.proofs.Common.{ℕ, zero, suc, ◌+◌, ◌<◌, ◌≤◌, Bool, true, false, cond, List, [], ◌∷◌, ◌++◌, map, ◌≡◌, refl, ap, ◌∙◌, arith, sym, subst, Option, Some, None, inl, inr}
-use Rattle.std.specs.Bool.{if◌then◌else◌}
-use Rattle.std.specs.Prelude.{◌&&◌, ◌⊎◌, nat_lt, nat_le}
-use Rattle.std.specs.List.{filter_map, flat_map, cons_option, range_with_len}
-use Rattle.std.proofs.lemmas.Bool.{lt-ltb, le-ltb, leb-true, and_parts, eq-eqb}
-use Rattle.sdd_attempt.specs.All.{D, Msg, Site, T, U, are_linked, first_some, links, or_else, same_site, sites}
-use Rattle.sdd_net.specs.Links.{delivered}
-use Rattle.sdd_net.specs.Nets.{is_site, is_link}
-use Rattle.sdd_net.proofs.Directions.{same_is, same_here, link_parts}
-use Rattle.sdd_log.specs.Entries.{Given, Log, Entry, Hand}
-use Rattle.sdd_log.specs.Traffic.{link_of, handed, message_at, takes_part, all_links}
-use Rattle.sdd_log.specs.Due.{hand_number, hand_on, hand_due, next_number}
+use Rattle.sdd_log.proofs.All.{AllHanded, AtEach, Bool, D, Entry, Given, Hand, IsLinkOf, List, Log, Msg, None, Option, Site, Some, T, U, [], all_links, and_parts, ap, are_linked, arith, cond, cons_option, delivered, false, filter_map, first_nowhere, first_some, flat_map, hand_due, hand_number, hand_on, handed, if◌then◌else◌, inl, inr, is_link, is_site, le-ltb, leb-true, link_of, link_parts, links, lt-ltb, map, message_at, nat_le, next_number, or_else, range_with_len, refl, same_here, same_is, same_site, sites, suc, takes_part, true, zero, ℕ, ◌&&◌, ◌++◌, ◌+◌, ◌<◌, ◌∙◌, ◌∷◌, ◌≡◌, ◌≤◌, ◌⊎◌}
 use Rattle.sdd_log.proofs.Steps.{has_site}
-use Rattle.sdd_log.specs.Resting.{AllHanded, AtEach, IsLinkOf}
-
-or_both : {A : Type 0} (x y : Option A) → x ≡ None → y ≡ None → or_else x y ≡ None
-or_both x y e f = rw e f
+use Rattle.sdd_log.proofs.Ticking.{or_both}
 
 -- the first of a list
 
 first_append : {A B : Type 0} (f : A → Option B) (xs ys : List A) → first_some f (xs ++ ys) ≡ or_else (first_some f xs) (first_some f ys)
 first_append f [] ys = refl
-first_append f (x ∷ xs) ys = elim (f x) as (λ o. or_else o (first_some f (xs ++ ys)) ≡ or_else (or_else o (first_some f xs)) (first_some f ys)) [ None ↦ first_append f xs ys | Some y ↦ refl ]
+first_append f (x ∷ xs) ys =
+    elim (f x) as (λ o. or_else o (first_some f (xs ++ ys)) ≡ or_else (or_else o (first_some f xs)) (first_some f ys)) [ None ↦ first_append f xs ys | Some y ↦ refl ]
 
 first_flat : {A B C : Type 0} (f : B → Option C) (h : A → List B) (xs : List A) → first_some f (flat_map h xs) ≡ first_some (λ x. first_some f (h x)) xs
 first_flat f h [] = refl
@@ -33,11 +20,8 @@ through f (Some x) = f x
 
 first_filter : {A B C : Type 0} (f : B → Option C) (k : A → Option B) (xs : List A) → first_some f (filter_map k xs) ≡ first_some (λ x. through f (k x)) xs
 first_filter f k [] = refl
-first_filter f k (x ∷ xs) = elim (k x) as (λ o. first_some f (cons_option o (filter_map k xs)) ≡ or_else (through f o) (first_some (λ x. through f (k x)) xs)) [ None ↦ first_filter f k xs | Some y ↦ ap (λ o. or_else (f y) o) (first_filter f k xs) ]
-
-pub first_nowhere : {A B : Type 0} (f : A → Option B) (xs : List A) → ((x : A) → f x ≡ None) → first_some f xs ≡ None
-first_nowhere f [] h = refl
-first_nowhere f (x ∷ xs) h = or_both (f x) (first_some f xs) (h x) (first_nowhere f xs h)
+first_filter f k (x ∷ xs) =
+    elim (k x) as (λ o. first_some f (cons_option o (filter_map k xs)) ≡ or_else (through f o) (first_some (λ x. through f (k x)) xs)) [ None ↦ first_filter f k xs | Some y ↦ ap (λ o. or_else (f y) o) (first_filter f k xs) ]
 
 pub each_weaker : {A : Type 0} (P Q : A → Type 0) (xs : List A) → ((x : A) → P x → Q x) → AtEach P xs → AtEach Q xs
 each_weaker P Q [] h a = tt
@@ -73,12 +57,14 @@ split (x ∷ xs) at h =
 
 has_back : (at : Site) (xs ys : List Site) → has_site at ys ≡ true → has_site at (xs ++ ys) ≡ true
 has_back at [] ys k = k
-has_back at (x ∷ xs) ys k = elim (same_site x at) as (λ b. elim b as (λ _. Bool) [ true ↦ true | false ↦ has_site at (xs ++ ys) ] ≡ true) [ true ↦ refl | false ↦ has_back at xs ys k ]
+has_back at (x ∷ xs) ys k =
+    elim (same_site x at) as (λ b. elim b as (λ _. Bool) [ true ↦ true | false ↦ has_site at (xs ++ ys) ] ≡ true) [ true ↦ refl | false ↦ has_back at xs ys k ]
 
 has_front : (at : Site) (xs ys : List Site) → has_site at xs ≡ true → has_site at (xs ++ ys) ≡ true
 has_front at [] ys h = cc
 has_front at (x ∷ xs) ys h =
-    elim (same_site x at) as (λ b. elim b as (λ _. Bool) [ true ↦ true | false ↦ has_site at xs ] ≡ true → elim b as (λ _. Bool) [ true ↦ true | false ↦ has_site at (xs ++ ys) ] ≡ true) [
+    elim (same_site x at) as
+    (λ b. elim b as (λ _. Bool) [ true ↦ true | false ↦ has_site at xs ] ≡ true → elim b as (λ _. Bool) [ true ↦ true | false ↦ has_site at (xs ++ ys) ] ≡ true) [
       | true ↦ λ p. refl
       | false ↦ λ p. has_front at xs ys p
     ] h
@@ -87,7 +73,8 @@ pub here_or_later : (a k : ℕ) → a ≤ k → (a ≡ k) ⊎ (a + 1 ≤ k)
 here_or_later zero zero h = inl refl
 here_or_later zero (suc k) h = inr (omega arith)
 here_or_later (suc a) zero h = absurd (omega arith)
-here_or_later (suc a) (suc k) h = elim (here_or_later a k (omega arith)) as (λ _. (suc a ≡ suc k) ⊎ (suc a + 1 ≤ suc k)) [ inl p ↦ inl (ap suc p) | inr q ↦ inr (omega arith) ]
+here_or_later (suc a) (suc k) h =
+    elim (here_or_later a k (omega arith)) as (λ _. (suc a ≡ suc k) ⊎ (suc a + 1 ≤ suc k)) [ inl p ↦ inl (ap suc p) | inr q ↦ inr (omega arith) ]
 
 has_here : (f : ℕ → Site) (a k : ℕ) (xs : List Site) → a ≡ k → has_site (f k) (f a ∷ xs) ≡ true
 has_here f a k xs p = let s : same_site (f a) (f k) ≡ true = ap (λ z. same_site (f z) (f k)) p ∙ same_here (f k) in rw (s, has_site) refl
@@ -111,10 +98,12 @@ pub listed : (tms dms : ℕ) (at : Site) → is_site tms dms at ≡ true → has
 listed tms dms U h = refl
 listed tms dms (T t) h =
     let p = numbered t.0 tms h in
-    has_front (T t) (map (λ n. T (record { 0 = n })) (range_with_len 1 tms)) (map (λ n. D (record { 0 = n })) (range_with_len 1 dms)) (in_range (λ n. T (record { 0 = n })) tms 1 t.0 p.0 p.1)
+    has_front (T t) (map (λ n. T (record { 0 = n })) (range_with_len 1 tms)) (map (λ n. D (record { 0 = n })) (range_with_len 1 dms))
+    (in_range (λ n. T (record { 0 = n })) tms 1 t.0 p.0 p.1)
 listed tms dms (D d) h =
     let p = numbered d.0 dms h in
-    has_back (D d) (map (λ n. T (record { 0 = n })) (range_with_len 1 tms)) (map (λ n. D (record { 0 = n })) (range_with_len 1 dms)) (in_range (λ n. D (record { 0 = n })) dms 1 d.0 p.0 p.1)
+    has_back (D d) (map (λ n. T (record { 0 = n })) (range_with_len 1 tms)) (map (λ n. D (record { 0 = n })) (range_with_len 1 dms))
+    (in_range (λ n. D (record { 0 = n })) dms 1 d.0 p.0 p.1)
 
 -- the first link at which something is
 
@@ -122,7 +111,8 @@ link_other : {B : Type 0} (f : Site × Site → Option B) (x y : Site) (c : Bool
 link_other f x y true e = e
 link_other f x y false e = refl
 
-link_here : {B : Type 0} (f : Site × Site → Option B) (x y : Site) (c : Bool) (e : B) → c ≡ true → f (x, y) ≡ Some e → through f (cond c (Some (x, y)) None) ≡ Some e
+link_here : {B : Type 0} (f : Site × Site → Option B) (x y : Site) (c : Bool) (e : B) → c ≡ true → f (x, y) ≡ Some e
+    → through f (cond c (Some (x, y)) None) ≡ Some e
 link_here f x y true e h p = p
 link_here f x y false e h p = cc
 
@@ -179,7 +169,8 @@ pub none_to_hand : (g : Given) (log : Log) → AllHanded log → hand_due g log 
 none_to_hand g log h = first_nowhere (hand_on log) (all_links g) (λ l. none_on log l.0 l.1 (h l.0 l.1))
 
 -- the next message, where one is left
-pub one_on : (log : Log) (a b : Site) (m : Msg) → takes_part b log ≡ true → handed a b log < delivered (link_of a b log).there → message_at a b (suc (handed a b log)) log ≡ Some m
+pub one_on : (log : Log) (a b : Site) (m : Msg) → takes_part b log ≡ true → handed a b log < delivered (link_of a b log).there
+    → message_at a b (suc (handed a b log)) log ≡ Some m
     → hand_on log (a, b) ≡ Some (Hand a b (suc (handed a b log)) m)
 one_on log a b m part less is = rw (part, lt-ltb (handed a b log) (delivered (link_of a b log).there) less, is) refl
 

@@ -1,19 +1,6 @@
 -- Messages that are to be handed over, one after the other, each with all that it makes due at its site.
-use Rattle.std.proofs.Common.{ℕ, zero, suc, ◌+◌, ◌-◌, ◌<◌, ◌≤◌, Bool, true, false, List, [], ◌∷◌, ◌++◌, length, ◌≡◌, refl, ap, ◌∙◌, arith, sym, subst, Some, None}
-use Rattle.std.specs.Bool.{if◌then◌else◌}
-use Rattle.std.specs.Prelude.{◌&&◌, slice_get}
-use Rattle.std.proofs.lemmas.Bool.{and_parts}
-use Rattle.sdd_attempt.specs.All.{Act, AreDue, D, Handed, Msg, Site, T, U, are_linked, same_site, sends_of, sites}
-use Rattle.sdd_net.specs.Links.{Call, Puts, link, delivered}
-use Rattle.sdd_net.proofs.Directions.{same_is, same_here, link_parts}
-use Rattle.sdd_log.specs.Entries.{Given, Log, Hand}
-use Rattle.sdd_log.specs.Traffic.{puts, calls_of, link_of, sent, handed, message_at, takes_part}
-use Rattle.sdd_log.specs.Locals.{local_of}
-use Rattle.sdd_log.specs.Snapshots.{base_of}
-use Rattle.sdd_log.specs.Due.{next, next_in, mark_due, site_due, hand_due}
-use Rattle.sdd_log.specs.Lawful.{IsLawful, IsWithin, puts_past}
+use Rattle.sdd_log.proofs.All.{Act, AllHanded, AreDue, Call, D, Given, Hand, Handed, IsFirst, IsLawful, List, Log, Msg, None, Puts, Remain, Site, Some, T, Takes, U, Waits, [], and_left, and_right, ap, arith, base_of, calls_of, delivered, false, hand_due, handed, length, link, link_of, link_parts, local_of, mark_due, message_at, next, next_in, puts, puts_past, refl, same_here, same_is, same_site, sends_of, sent, slice_get, subst, suc, sym, takes_part, true, ℕ, ◌&&◌, ◌+◌, ◌-◌, ◌∙◌, ◌∷◌, ◌≡◌}
 use Rattle.sdd_log.proofs.Steps.{after_acts, hand_and_acts}
-use Rattle.sdd_log.specs.Resting.{AllHanded, AtEach, IsFirst, Remain, Takes, Waits}
 use Rattle.sdd_log.proofs.Acts.{calls_acts, handed_acts, takes_part_acts, within_acts}
 use Rattle.sdd_log.proofs.FirstHand.{IsDone, each_weaker, hand_is_due, listed}
 use Rattle.sdd_log.proofs.Links.{delivered_put, sent_stays}
@@ -53,14 +40,6 @@ now_handed a b x y n m log e = rw e refl
 
 this_handed : (a b : Site) (n : ℕ) (m : Msg) (log : Log) → handed a b (Hand a b n m ∷ log) ≡ n
 this_handed a b n m log = rw (same_here a, same_here b) refl
-
-pub and_left : (c d : Bool) → c ≡ false → (c && d) ≡ false
-and_left true d e = cc
-and_left false d e = refl
-
-pub and_right : (c d : Bool) → d ≡ false → (c && d) ≡ false
-and_right true d e = e
-and_right false d e = refl
 
 remain_handed : (log : Log) (a b : Site) (m : Msg) (rest : List Msg) → Remain log a b (m ∷ rest) → Remain (Hand a b (suc (handed a b log)) m ∷ log) a b rest
 remain_handed log a b m rest r =

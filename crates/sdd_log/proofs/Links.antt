@@ -1,15 +1,5 @@
 -- What a call on a link leaves as it was.
-use Rattle.std.proofs.Common.{ℕ, zero, suc, ◌+◌, ◌-◌, ◌<◌, ◌≤◌, Bool, true, false, List, [], ◌∷◌, ◌++◌, length, ◌≡◌, refl, ap, ◌∙◌, arith, sym, Option, Some, None, length-drop}
-use Rattle.std.specs.Bool.{if◌then◌else◌}
-use Rattle.std.specs.Prelude.{◌&&◌, nat_lt, is_none, slice_get, take, drop}
-use Rattle.std.proofs.lemmas.List.{length-take-le}
-use Rattle.std.proofs.lemmas.Bool.{ltb-true, ltb-false}
-use Rattle.sdd_attempt.specs.All.{Site, is_empty, same_site}
-use Rattle.sdd_net.specs.declared.delivered.Delivered.TheVariants.{Nothing, Acked, Messages}
-use Rattle.sdd_net.specs.declared.packet.Packet.{Packet}
-use Rattle.sdd_net.specs.declared.packet.Packet.TheVariants.{Message, Ack}
-use Rattle.sdd_net.specs.Links.{Call, Puts, Delivers, Loses, Repeats, Resends, Link, Way, link, on_link, turned, put, deliver, lose, repeat, resend, arrives, packet_at, with_packet, without_packet, delivered, top, given_by, newly_delivered, numbered, unacked}
-use Rattle.sdd_net.proofs.Lists.{get-append, get-take}
+use Rattle.sdd_log.proofs.All.{Ack, Acked, Bool, Call, Delivers, Link, List, Loses, Message, Messages, None, Nothing, Option, Packet, Puts, Repeats, Resends, Site, Some, Way, [], ap, arith, arrives, deliver, delivered, drop, false, get-append, given_by, if◌then◌else◌, is_empty, is_none, length, length-drop, length-take-le, link, lose, ltb-false, ltb-true, nat_lt, newly_delivered, numbered, on_link, packet_at, put, refl, repeat, resend, same_site, slice_get, suc, sym, take, top, true, turned, unacked, with_packet, without_packet, zero, ℕ, ◌&&◌, ◌+◌, ◌-◌, ◌<◌, ◌∙◌, ◌∷◌, ◌≡◌, ◌≤◌}
 
 -- Both ways of a link, before a call and after it: the same numbers arrived, and what was put stays.
 

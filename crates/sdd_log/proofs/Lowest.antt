@@ -1,13 +1,5 @@
 -- The first of several messages: of one site alone, or of senders in their order.
-use Rattle.std.proofs.Common.{ℕ, zero, suc, ◌+◌, ◌<◌, ◌≤◌, Bool, true, false, List, [], ◌∷◌, ◌++◌, map, ◌≡◌, refl, ap, ◌∙◌, arith, sym, subst, append_assoc}
-use Rattle.std.specs.Bool.{if◌then◌else◌}
-use Rattle.std.specs.Prelude.{◌⊎◌}
-use Rattle.std.specs.List.{range_with_len}
-use Rattle.std.proofs.Common.{inl, inr}
-use Rattle.sdd_attempt.specs.All.{D, Msg, Site, T, U, same_site, sites, tm_no}
-use Rattle.sdd_net.proofs.Directions.{same_here, link_parts}
-use Rattle.sdd_log.specs.Entries.{Given}
-use Rattle.sdd_log.specs.Resting.{AtEach, from_one, IsFirst, IsLinkOf, Takes}
+use Rattle.sdd_log.proofs.All.{AtEach, Bool, D, Given, IsFirst, IsLinkOf, List, Msg, Site, T, Takes, U, [], ap, append_assoc, arith, false, from_one, if◌then◌else◌, inl, inr, link_parts, map, range_with_len, refl, same_here, same_site, sites, suc, sym, tm_no, true, zero, ℕ, ◌++◌, ◌+◌, ◌<◌, ◌∙◌, ◌∷◌, ◌≡◌, ◌≤◌}
 use Rattle.sdd_log.proofs.FirstHand.{each_weaker, here_or_later, listed, Split, split}
 
 -- of one site
@@ -21,7 +13,8 @@ one_other a x messages e = rw e refl
 pub first_of_one : (g : Given) (a b : Site) (m : Msg) (rest : List Msg) → IsLinkOf g a b → IsFirst g (from_one a (m ∷ rest)) a b m rest
 first_of_one g a b m rest l =
     let k = link_parts g.catalogue.tms g.catalogue.dms a b l in
-    let s : Split (sites g.catalogue.tms g.catalogue.dms) a = split (sites g.catalogue.tms g.catalogue.dms) a (listed g.catalogue.tms g.catalogue.dms a k.from) in
+    let s : Split (sites g.catalogue.tms g.catalogue.dms) a = split (sites g.catalogue.tms g.catalogue.dms) a
+    (listed g.catalogue.tms g.catalogue.dms a k.from) in
     record {
       linked = l;
       before = s.before;
@@ -49,13 +42,15 @@ pub record Cut (xs : List Site) (at : Site) (P : Site → Type 0) : Type 0 where
   pub parts : xs ≡ before ++ at ∷ after
   pub lower : AtEach P before
 
-cut_range : (P : Site → Type 0) (m a k : ℕ) → a ≤ k → k < a + m → ((j : ℕ) → a ≤ j → j < k → P (T (tm_no j))) → Cut (map (λ n. T (tm_no n)) (range_with_len a m)) (T (tm_no k)) P
+cut_range : (P : Site → Type 0) (m a k : ℕ) → a ≤ k → k < a + m → ((j : ℕ) → a ≤ j → j < k → P (T (tm_no j)))
+    → Cut (map (λ n. T (tm_no n)) (range_with_len a m)) (T (tm_no k)) P
 cut_range P zero a k l u h = absurd (omega arith)
 cut_range P (suc m) a k l u h =
     elim (here_or_later a k l) as (λ _. Cut (T (tm_no a) ∷ map (λ n. T (tm_no n)) (range_with_len (a + 1) m)) (T (tm_no k)) P) [
       | inl p ↦ record { before = []; after = map (λ n. T (tm_no n)) (range_with_len (a + 1) m); parts = ap (λ z. T (tm_no z) ∷ map (λ n. T (tm_no n)) (range_with_len (a + 1) m)) p; lower = tt }
       | inr q ↦
-          let c : Cut (map (λ n. T (tm_no n)) (range_with_len (a + 1) m)) (T (tm_no k)) P = cut_range P m (a + 1) k q (omega arith) (λ j x y. h j (omega arith) y) in
+          let c : Cut (map (λ n. T (tm_no n)) (range_with_len (a + 1) m)) (T (tm_no k)) P = cut_range P m (a + 1) k q (omega arith)
+          (λ j x y. h j (omega arith) y) in
           record { before = T (tm_no a) ∷ c.before; after = c.after; parts = ap (λ z. T (tm_no a) ∷ z) c.parts; lower = (h a (omega arith) (omega arith), c.lower) }
     ]
 
@@ -66,6 +61,7 @@ cut_at_t P tms dms k l u first h =
     record {
       before = U ∷ c.before;
       after = c.after ++ map (λ n. D (record { 0 = n })) (range_with_len 1 dms);
-      parts = ap (λ z. U ∷ (z ++ map (λ n. D (record { 0 = n })) (range_with_len 1 dms))) c.parts ∙ ap (λ z. U ∷ z) (append_assoc c.before (T (tm_no k) ∷ c.after) (map (λ n. D (record { 0 = n })) (range_with_len 1 dms)));
+      parts = ap (λ z. U ∷ (z ++ map (λ n. D (record { 0 = n })) (range_with_len 1 dms))) c.parts
+          ∙ ap (λ z. U ∷ z) (append_assoc c.before (T (tm_no k) ∷ c.after) (map (λ n. D (record { 0 = n })) (range_with_len 1 dms)));
       lower = (first, c.lower);
     }

@@ -1,20 +1,8 @@
 -- What the mark of an event leaves, where nothing else was due.
-use Rattle.std.proofs.Common.{ℕ, suc, ◌≤◌, Bool, true, false, List, [], ◌∷◌, ◌≡◌, refl, ◌∙◌, sym, subst, Option, Some, None}
-use Rattle.std.specs.Bool.{if◌then◌else◌}
-use Rattle.std.proofs.lemmas.Bool.{le-ltb}
-use Rattle.sdd_attempt.specs.All.{Act, Bases, D, Deliver, Down, Event, Force, Lose, MAX_RUN_EVENTS, Redeclare, Repeat, Resend, Settle, Site, Submit, T, Tick, Ticked, TmNo, U, Up, first_some, same_site, sites}
-use Rattle.sdd_attempt.specs.site_module.SiteLog as site
-use Rattle.sdd_net.specs.Links.{delivered}
-use Rattle.sdd_net.proofs.Directions.{same_is}
-use Rattle.sdd_log.specs.Entries.{Given, Log, Mark, Notes, Redeclares, marks}
-use Rattle.sdd_log.specs.Traffic.{link_of, takes_part}
-use Rattle.sdd_log.specs.Locals.{force_at, local_of, redeclares, setting_of, with_force}
-use Rattle.sdd_log.specs.Snapshots.{base_of}
-use Rattle.sdd_log.specs.Due.{next, next_in, next_at, does_at, due_by, site_due}
-use Rattle.sdd_log.specs.Lawful.{is_past}
+use Rattle.sdd_log.proofs.All.{Act, AllHanded, Bases, Bool, D, Deliver, Down, Event, Force, Given, IsMarked, List, Log, Lose, MAX_RUN_EVENTS, Mark, None, Notes, Option, Redeclare, Redeclares, Repeat, Resend, Rests, Settle, Site, Some, Submit, T, Tick, Ticked, TmNo, U, Up, [], base_of, delivered, does_at, due_by, false, first_some, force_at, if◌then◌else◌, is_past, le-ltb, link_of, local_of, marks, next, next_at, next_in, redeclares, refl, same_is, same_site, setting_of, site_due, sites, subst, suc, sym, takes_part, true, with_force, ℕ, ◌∙◌, ◌∷◌, ◌≡◌, ◌≤◌}
 use Rattle.sdd_log.proofs.Steps.{AllNone, all_none, none_any_base}
-use Rattle.sdd_log.specs.Resting.{AllHanded, IsMarked, Rests}
 use Rattle.sdd_log.proofs.Ticking.{none_by_redeclare, none_by_tick}
+use Rattle.sdd_attempt.specs.site_module.SiteLog as site
 
 -- where the logs of the sites stay, or that of one gets a tick, nothing gets due
 
@@ -26,14 +14,17 @@ none_same : (g : Given) (log more : Log) (x : Site) → local_of g x more ≡ lo
 none_same g log more x e n = rw e (none_any_base g x (base_of g log) (base_of g more) (local_of g x log) n)
 
 pub still_none : (g : Given) (log more : Log) → ((x : Site) → local_of g x more ≡ local_of g x log) → site_due g log ≡ None → site_due g more ≡ None
-still_none g log more e n = none_at_all (next_at g log) (next_at g more) (sites g.catalogue.tms g.catalogue.dms) (λ x k. none_same g log more x (e x) k) (all_none (next_at g log) (sites g.catalogue.tms g.catalogue.dms) n)
+still_none g log more e n =
+    none_at_all (next_at g log) (next_at g more) (sites g.catalogue.tms g.catalogue.dms) (λ x k. none_same g log more x (e x) k) (all_none (next_at g log) (sites g.catalogue.tms g.catalogue.dms) n)
 
-ticked_here : (g : Given) (x t : Site) (bases : Bases) (n : ℕ) (l : site.Log) → x ≡ t → next_in g x bases l ≡ None → (next_in g t bases l ≡ None → next_in g t bases (Ticked n ∷ l) ≡ None) → next_in g x bases (Ticked n ∷ l) ≡ None
+ticked_here : (g : Given) (x t : Site) (bases : Bases) (n : ℕ) (l : site.Log) → x ≡ t → next_in g x bases l ≡ None
+    → (next_in g t bases l ≡ None → next_in g t bases (Ticked n ∷ l) ≡ None) → next_in g x bases (Ticked n ∷ l) ≡ None
 ticked_here g x t bases n l e k h =
     let back : next_in g t bases l ≡ None = subst (λ y. next_in g y bases l ≡ None) e k in
     subst (λ y. next_in g y bases (Ticked n ∷ l) ≡ None) (sym e) (h back)
 
-ticked_if : (g : Given) (x : Site) (bases : Bases) (n : ℕ) (c : Bool) (l : site.Log) → (c ≡ true → next_in g x bases (Ticked n ∷ l) ≡ None) → next_in g x bases l ≡ None
+ticked_if : (g : Given) (x : Site) (bases : Bases) (n : ℕ) (c : Bool) (l : site.Log) → (c ≡ true → next_in g x bases (Ticked n ∷ l) ≡ None)
+    → next_in g x bases l ≡ None
     → next_in g x bases (if c then Ticked n ∷ l else l) ≡ None
 ticked_if g x bases n true l h k = h refl
 ticked_if g x bases n false l h k = k
@@ -75,7 +66,8 @@ pub none_by_note : (g : Given) (log : Log) (e : Event) → IsNoTick e → site_d
 none_by_note g log e h n = still_none g log (Notes ∷ Mark e ∷ log) (λ x. mark_local g e log x h) n
 
 -- an event of which nothing more is due
-pub rests_marked : (g : Given) (log : Log) (e : Event) → IsMarked g log e → site_due g (Mark e ∷ log) ≡ None → due_by g e log ≡ None → AllHanded (Mark e ∷ log) → Rests g (Mark e ∷ log)
+pub rests_marked : (g : Given) (log : Log) (e : Event) → IsMarked g log e → site_due g (Mark e ∷ log) ≡ None → due_by g e log ≡ None → AllHanded (Mark e ∷ log)
+    → Rests g (Mark e ∷ log)
 rests_marked g log e k s d h = record {
   lawful = (k.next_is, k.rests.lawful);
   within = (mark_within log e k.few, k.rests.within);
@@ -91,7 +83,8 @@ part_noted (T t) log = refl
 part_noted (D d) log = refl
 
 -- an event that finds nothing to do
-pub rests_noted : (g : Given) (log : Log) (e : Event) → IsMarked g log e → IsNoTick e → due_by g e log ≡ Some Notes → AllHanded (Mark e ∷ log) → Rests g (Notes ∷ Mark e ∷ log)
+pub rests_noted : (g : Given) (log : Log) (e : Event) → IsMarked g log e → IsNoTick e → due_by g e log ≡ Some Notes → AllHanded (Mark e ∷ log)
+    → Rests g (Notes ∷ Mark e ∷ log)
 rests_noted g log e k i d h =
     let noted : next g (Mark e ∷ log) ≡ Some Notes = rw d refl in
     record {
@@ -123,19 +116,19 @@ part_marked (D d) (Down k) log h = absurd h
 part_marked (D d) (Up k) log h = absurd h
 
 -- where an event delivers nothing, all stays handed over
-pub handed_still : (log : Log) (e : Event) → TurnsNone e → ((a b : Site) → delivered (link_of a b (Mark e ∷ log)).there ≡ delivered (link_of a b log).there) → AllHanded log → AllHanded (Mark e ∷ log)
+pub handed_still : (log : Log) (e : Event) → TurnsNone e → ((a b : Site) → delivered (link_of a b (Mark e ∷ log)).there ≡ delivered (link_of a b log).there)
+    → AllHanded log → AllHanded (Mark e ∷ log)
 handed_still log e t same h a b part = h a b (sym (part_marked b e log t) ∙ part) ∙ sym (same a b)
 
 -- a list of classes is put in force
 
-forced_none : (g : Given) (x : Site) (bases : Bases) (force : Force) (t : ℕ) (l : site.Log)
+pub forced_none : (g : Given) (x : Site) (bases : Bases) (force : Force) (t : ℕ) (l : site.Log)
     → next_in g x bases l ≡ None → next_in g x bases (with_force x force t l) ≡ None
 forced_none g U bases force t l k = k
 forced_none g (T n) bases force t l k = none_by_redeclare (setting_of g (T n)) bases l force t k
 forced_none g (D d) bases force t l k = k
 
-redeclared_none : (g : Given) (log : Log) (t : ℕ) → site_due g log ≡ None
-    → site_due g (Redeclares t ∷ log) ≡ None
+redeclared_none : (g : Given) (log : Log) (t : ℕ) → site_due g log ≡ None → site_due g (Redeclares t ∷ log) ≡ None
 redeclared_none g log t k =
     let more : Log = Redeclares t ∷ log in
     none_at_all (next_at g log) (next_at g more) (sites g.catalogue.tms g.catalogue.dms) (λ x i.
@@ -143,16 +136,14 @@ redeclared_none g log t k =
     (none_any_base g x (base_of g log) (base_of g more) (local_of g x log) i))
     (all_none (next_at g log) (sites g.catalogue.tms g.catalogue.dms) k)
 
-part_redeclared : (x : Site) (t : ℕ) (log : Log)
-    → takes_part x (Redeclares t ∷ log) ≡ takes_part x log
+pub part_redeclared : (x : Site) (t : ℕ) (log : Log) → takes_part x (Redeclares t ∷ log) ≡ takes_part x log
 part_redeclared U t log = refl
 part_redeclared (T n) t log = refl
 part_redeclared (D d) t log = refl
 
 -- after it the log is at rest
 pub rests_redeclared : (g : Given) (log : Log) (t : ℕ) → Rests g log
-    → next g log ≡ Some (Redeclares t) → suc (marks log) ≤ MAX_RUN_EVENTS
-    → Rests g (Redeclares t ∷ log)
+    → next g log ≡ Some (Redeclares t) → suc (marks log) ≤ MAX_RUN_EVENTS → Rests g (Redeclares t ∷ log)
 rests_redeclared g log t r n few = record {
   lawful = (n, r.lawful);
   within = (le-ltb MAX_RUN_EVENTS (suc (marks log)) few, r.within);

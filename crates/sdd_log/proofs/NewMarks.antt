@@ -1,19 +1,6 @@
 -- Where the events submit each transaction at most once, the marks of a lawful log submit no number twice, so it is
 -- permitted.
-use Rattle.std.proofs.Common.{ℕ, zero, suc, ◌+◌, ◌≤◌, ◌==◌, Bool, true, false, not, cond, List, [], ◌∷◌, ◌++◌, ◌≡◌, refl, ap, ◌∙◌, sym, subst, arith, Option, Some, None}
-use Rattle.std.specs.Prelude.{replicate, flat_map, filter_map, ◌||◌}
-use Rattle.std.specs.List.{cons_option}
-use Rattle.std.specs.Bool.{if◌then◌else◌}
-use Rattle.std.proofs.lemmas.Bool.{eq-eqb}
-use Rattle.sdd_attempt.specs.All.{Act, Deliver, Down, Event, Lose, Msg, Redeclare, Repeat, Resend, Settle, Site, Submit, Tick, Up, sites, tail_of}
-use Rattle.sdd_attempt.proofs.site_module.Finding.{found_at, one_of}
-use Rattle.sdd_net.specs.Links.{Call, link, delivered, round, resends_now, in_flight, quiet}
-use Rattle.sdd_log.specs.Entries.{Given, Log, Entry, Mark, Round, Redeclares, Hand, Submitted, Notes, Does}
-use Rattle.sdd_log.specs.Traffic.{calls_of, all_links, message_at, handed, link_of, takes_part}
-use Rattle.sdd_log.specs.Marks.{mark_of, mark_from, next_mark, from_event, after_mark, left}
-use Rattle.sdd_log.specs.Due.{mark_due, due_by, note_if, site_due, does_at, next_at, next_number, hand_with, hand_number, hand_on, hand_due, next}
-use Rattle.sdd_log.specs.Lawful.{IsLawful}
-use Rattle.sdd_log.specs.Permitted.{was_marked, is_new_mark, one_if, submits_by, submits_in, AreSubmittedOnce, IsPermitted}
+use Rattle.sdd_log.proofs.All.{Act, AreSubmittedOnce, Bool, Call, Deliver, Does, Down, Entry, Event, Given, Hand, IsLawful, IsPermitted, List, Log, Lose, Mark, Msg, None, Notes, Option, Redeclare, Redeclares, Repeat, Resend, Round, Settle, Site, Some, Submit, Submitted, Tick, Up, [], after_mark, all_links, ap, arith, calls_of, cond, cons_option, delivered, does_at, due_by, eq-eqb, false, filter_map, flat_map, found_at, from_event, hand_due, hand_number, hand_on, hand_with, handed, if◌then◌else◌, in_flight, is_new_mark, left, link, link_of, mark_due, mark_from, mark_of, message_at, next, next_at, next_mark, next_number, not, note_if, one_if, one_of, quiet, refl, replicate, resends_now, round, site_due, sites, submits_by, submits_in, subst, suc, sym, tail_of, takes_part, true, was_marked, zero, ℕ, ◌++◌, ◌+◌, ◌==◌, ◌||◌, ◌∙◌, ◌∷◌, ◌≡◌, ◌≤◌}
 use Rattle.sdd_log.proofs.Permitted.{HasNewMarks, permitted_if_new}
 
 -- how often transaction n is submitted by marks
@@ -31,14 +18,16 @@ none_replicate : (n k : ℕ) (e : Event) → submits_by n e ≡ 0 → submits_in
 none_replicate n zero e h = refl
 none_replicate n (suc k) e h = let i = none_replicate n k e h in omega arith
 
-none_resent : (n : ℕ) (ls : List (Site × Site)) (calls : List (Call Msg)) → submits_in n (filter_map (λ l. cond (resends_now (link l.0 l.1 calls)) (Some (Resend l.0 l.1)) None) ls) ≡ 0
+none_resent : (n : ℕ) (ls : List (Site × Site)) (calls : List (Call Msg))
+    → submits_in n (filter_map (λ l. cond (resends_now (link l.0 l.1 calls)) (Some (Resend l.0 l.1)) None) ls) ≡ 0
 none_resent n [] calls = refl
 none_resent n (l ∷ ls) calls = elim (resends_now (link l.0 l.1 calls)) as (λ b. submits_in n (cons_option (cond b (Some (Resend l.0 l.1)) None) (filter_map (λ l. cond (resends_now (link l.0 l.1 calls)) (Some (Resend l.0 l.1)) None) ls)) ≡ 0) [
   | true ↦ (let i = none_resent n ls calls in omega arith)
   | false ↦ none_resent n ls calls
 ]
 
-none_delivered : (n : ℕ) (ls : List (Site × Site)) (calls : List (Call Msg)) → submits_in n (flat_map (λ l. replicate (in_flight (link l.0 l.1 calls)) (Deliver l.0 l.1 1)) ls) ≡ 0
+none_delivered : (n : ℕ) (ls : List (Site × Site)) (calls : List (Call Msg))
+    → submits_in n (flat_map (λ l. replicate (in_flight (link l.0 l.1 calls)) (Deliver l.0 l.1 1)) ls) ≡ 0
 none_delivered n [] calls = refl
 none_delivered n (l ∷ ls) calls = none_in n _ _ (none_replicate n (in_flight (link l.0 l.1 calls)) (Deliver l.0 l.1 1) refl) (none_delivered n ls calls)
 
@@ -141,7 +130,8 @@ from_event_same n (Down d ∷ ws) = refl
 from_event_same n (Up d ∷ ws) = refl
 
 -- the event that is marked is the first of those left
-marks_first : (g : Given) (log : Log) (q : Bool) (r ws : List Event) (e : Event) → mark_from g log q r ws ≡ Some (Mark e) → (rest : List Event) × (from_event ws ≡ e ∷ rest)
+pub marks_first : (g : Given) (log : Log) (q : Bool) (r ws : List Event) (e : Event) → mark_from g log q r ws ≡ Some (Mark e)
+    → (rest : List Event) × (from_event ws ≡ e ∷ rest)
 marks_first g log q r [] e h = cc
 marks_first g log true r (Settle ∷ ws) e h = marks_first g log true r ws e h
 marks_first g log false r (Settle ∷ ws) e h = cc
@@ -157,7 +147,8 @@ marks_first g log q r (Down d ∷ ws) e h = let p : Down d ≡ e = cc in (ws, ap
 marks_first g log q r (Up d ∷ ws) e h = let p : Up d ≡ e = cc in (ws, ap (λ x. x ∷ ws) p)
 
 -- and so is the `redeclare` that is carried out
-redeclares_first : (g : Given) (log : Log) (q : Bool) (r ws : List Event) (t : ℕ) → mark_from g log q r ws ≡ Some (Redeclares t) → (rest : List Event) × (from_event ws ≡ Redeclare ∷ rest)
+pub redeclares_first : (g : Given) (log : Log) (q : Bool) (r ws : List Event) (t : ℕ) → mark_from g log q r ws ≡ Some (Redeclares t)
+    → (rest : List Event) × (from_event ws ≡ Redeclare ∷ rest)
 redeclares_first g log q r [] t h = cc
 redeclares_first g log true r (Settle ∷ ws) t h = redeclares_first g log true r ws t h
 redeclares_first g log false r (Settle ∷ ws) t h = cc
@@ -172,7 +163,7 @@ redeclares_first g log q r (Tick u k ∷ ws) t h = cc
 redeclares_first g log q r (Down d ∷ ws) t h = cc
 redeclares_first g log q r (Up d ∷ ws) t h = cc
 
-marks_round : (g : Given) (log : Log) (q : Bool) (r ws es : List Event) → mark_from g log q r ws ≡ Some (Round es) → r ≡ es
+pub marks_round : (g : Given) (log : Log) (q : Bool) (r ws es : List Event) → mark_from g log q r ws ≡ Some (Round es) → r ≡ es
 marks_round g log q r [] es h = cc
 marks_round g log true r (Settle ∷ ws) es h = marks_round g log true r ws es h
 marks_round g log false r (Settle ∷ ws) es h = cc
@@ -187,7 +178,8 @@ marks_round g log q r (Tick t k ∷ ws) es h = cc
 marks_round g log q r (Down d ∷ ws) es h = cc
 marks_round g log q r (Up d ∷ ws) es h = cc
 
-mark_step : (g : Given) (log : Log) (n m : ℕ) (e : Event) (s : List Event × List Event) → mark_of g log s ≡ Some (Mark e) → IsLeft n g.events s m → IsLeft n g.events (after_mark s) (submits_by n e + m)
+mark_step : (g : Given) (log : Log) (n m : ℕ) (e : Event) (s : List Event × List Event) → mark_of g log s ≡ Some (Mark e) → IsLeft n g.events s m
+    → IsLeft n g.events (after_mark s) (submits_by n e + m)
 mark_step g log n m e (ws, []) h i =
     let r = marks_first g log (quiet (all_links g) (calls_of log)) (round (all_links g) (calls_of log)) ws e h in
     let a : submits_in n (from_event ws) ≡ submits_by n e + submits_in n r.0 = ap (submits_in n) r.1 in
@@ -199,7 +191,8 @@ mark_step g log n m e (ws, x ∷ r) h i =
     let y : submits_by n e ≡ 0 = ap (submits_by n) (sym p) ∙ z in
     record { all = omega (arith, i.all, y); round_none = omega (arith, i.round_none) }
 
-redeclare_step : (g : Given) (log : Log) (n m t : ℕ) (s : List Event × List Event) → mark_of g log s ≡ Some (Redeclares t) → IsLeft n g.events s m → IsLeft n g.events (after_mark s) m
+redeclare_step : (g : Given) (log : Log) (n m t : ℕ) (s : List Event × List Event) → mark_of g log s ≡ Some (Redeclares t) → IsLeft n g.events s m
+    → IsLeft n g.events (after_mark s) m
 redeclare_step g log n m t (ws, []) h i =
     let r = redeclares_first g log (quiet (all_links g) (calls_of log)) (round (all_links g) (calls_of log)) ws t h in
     let a : submits_in n (from_event ws) ≡ 0 + submits_in n r.0 = ap (submits_in n) r.1 in
@@ -207,7 +200,8 @@ redeclare_step g log n m t (ws, []) h i =
     record { all = omega (arith, from_event_same n ws, i.all, a, b); round_none = refl }
 redeclare_step g log n m t (ws, x ∷ r) h i = cc
 
-round_step : (g : Given) (log : Log) (n m : ℕ) (es : List Event) (s : List Event × List Event) → mark_of g log s ≡ Some (Round es) → IsLeft n g.events s m → IsLeft n g.events (s.0, es) m
+round_step : (g : Given) (log : Log) (n m : ℕ) (es : List Event) (s : List Event × List Event) → mark_of g log s ≡ Some (Round es) → IsLeft n g.events s m
+    → IsLeft n g.events (s.0, es) m
 round_step g log n m es (ws, []) h i =
     let p = marks_round g log (quiet (all_links g) (calls_of log)) (round (all_links g) (calls_of log)) ws es h in
     record { all = i.all; round_none = ap (submits_in n) (sym p) ∙ none_round n (all_links g) (calls_of log) }
@@ -225,7 +219,8 @@ left_is g n (Does a act ∷ log) h = left_is g n log h.1
 
 counts_mark : (n : ℕ) (log : Log) → was_marked n log ≡ true → 1 ≤ marked n log
 counts_mark n [] h = cc
-counts_mark n (Mark (Submit k) ∷ log) h = elim (k.0 == n) as (λ b. (b || was_marked n log) ≡ true → 1 ≤ one_if b + marked n log) [ true ↦ λ p. omega arith | false ↦ λ p. let i = counts_mark n log p in omega arith ] h
+counts_mark n (Mark (Submit k) ∷ log) h =
+    elim (k.0 == n) as (λ b. (b || was_marked n log) ≡ true → 1 ≤ one_if b + marked n log) [ true ↦ λ p. omega arith | false ↦ λ p. let i = counts_mark n log p in omega arith ] h
 counts_mark n (Mark (Deliver a b k) ∷ log) h = let i = counts_mark n log h in omega arith
 counts_mark n (Mark (Lose a b k) ∷ log) h = let i = counts_mark n log h in omega arith
 counts_mark n (Mark (Repeat a b k) ∷ log) h = let i = counts_mark n log h in omega arith

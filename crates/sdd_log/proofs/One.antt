@@ -1,9 +1,5 @@
 -- Of what is given there is one log: it is complete, or the limit ends it, and not both.
-use Rattle.std.proofs.Common.{true, false, [], ◌∷◌, ◌≡◌, refl, ap, ◌∙◌, sym, subst, Some, None, inl, inr}
-use Rattle.std.specs.Prelude.{◌⊎◌}
-use Rattle.sdd_log.specs.Entries.{Given, Log, Entry}
-use Rattle.sdd_log.specs.Due.{next}
-use Rattle.sdd_log.specs.Lawful.{IsLawful, IsWithin, is_past, IsTheLog, EndsByLimit}
+use Rattle.sdd_log.proofs.All.{EndsByLimit, Entry, Given, IsLawful, IsTheLog, IsWithin, Log, None, Some, [], ap, false, inl, inr, is_past, next, refl, subst, sym, true, ◌∙◌, ◌∷◌, ◌≡◌, ◌⊎◌}
 
 -- the first is the second, or what the second was before
 abbrev pub IsBefore : Log → Log → Type 0
@@ -80,5 +76,6 @@ limit_or_complete g m l h k =
             let same : h.entry ≡ q.0 = cc in
             let no : true ≡ false = sym h.past ∙ ap (is_past m) same ∙ v.0 in cc
       ]
-      | inr p ↦ let e : m ≡ l = no_more g l m k.complete h.lawful p in let a : next g l ≡ Some h.entry = ap (next g) (sym e) ∙ h.next_is in let c : None ≡ Some h.entry = sym k.complete ∙ a in cc
+      | inr p ↦ let e : m ≡ l = no_more g l m k.complete h.lawful p in let a : next g l ≡ Some h.entry = ap (next g) (sym e)
+          ∙ h.next_is in let c : None ≡ Some h.entry = sym k.complete ∙ a in cc
     ]

@@ -1,17 +1,6 @@
 -- A network that isn't quiet has a round with an event, and each event of a round is of a link.
-use Rattle.std.proofs.Common.{ℕ, zero, suc, ◌+◌, ◌-◌, ◌<◌, ◌≤◌, Bool, true, false, cond, List, [], ◌∷◌, ◌++◌, length, ◌≡◌, refl, ap, ◌∙◌, arith, sym, subst, Option, Some, None}
-use Rattle.std.specs.Bool.{if◌then◌else◌}
-use Rattle.std.specs.Prelude.{◌&&◌, nat_lt, nat_le, replicate, All}
-use Rattle.std.specs.List.{filter_map, flat_map, cons_option, list_all}
-use Rattle.std.proofs.lemmas.Bool.{and_parts, and_from, ltb-false, le-leb}
-use Rattle.std.proofs.lemmas.List.Elements.{All-head, All-tail}
-use Rattle.sdd_attempt.specs.All.{Deliver, Event, Resend, Site, are_linked, is_empty, links, same_site, sites}
-use Rattle.sdd_net.specs.Links.{Call, Link, link, turned, is_quiet_link, quiet, round, resends_now, in_flight}
-use Rattle.sdd_net.specs.Nets.{is_site, is_link}
-use Rattle.sdd_net.proofs.Directions.{same_is, link_parts, link_back, back_is}
-use Rattle.sdd_net.proofs.Rounds.{links_exist}
+use Rattle.sdd_log.proofs.All.{All, All-head, All-tail, AtEach, Bool, Call, Deliver, Event, List, None, Option, Resend, Site, Some, [], and_from, are_linked, arith, back_is, both_empty, cond, cons_option, false, filter_map, flat_map, in_flight, is_empty, is_link, is_quiet_link, le-leb, length, link, link_back, link_parts, links, links_exist, list_all, ltb-false, nat_le, nat_lt, quiet, refl, replicate, resends_now, round, same_is, same_site, sites, subst, suc, sym, true, zero, ℕ, ◌&&◌, ◌++◌, ◌+◌, ◌-◌, ◌∙◌, ◌∷◌, ◌≡◌}
 use Rattle.sdd_log.proofs.Steps.{has_site}
-use Rattle.sdd_log.specs.Resting.{AtEach}
 use Rattle.sdd_log.proofs.FirstHand.{each_weaker, listed}
 
 -- what holds of each member, of lists that are put together
@@ -97,15 +86,11 @@ each_of_round Q tms dms calls h =
 
 -- a round without events
 
-both_empty : {A : Type 0} (xs ys : List A) → xs ++ ys ≡ [] → (xs ≡ []) × (ys ≡ [])
-both_empty [] ys e = (refl, e)
-both_empty (x ∷ xs) ys e = cc
-
 flat_empty : {A B : Type 0} (f : A → List B) (xs : List A) → flat_map f xs ≡ [] → AtEach (λ x. f x ≡ []) xs
 flat_empty f [] e = tt
 flat_empty f (x ∷ xs) e = let p = both_empty (f x) (flat_map f xs) e in (p.0, flat_empty f xs p.1)
 
-cons_empty : {B : Type 0} (o : Option B) (ys : List B) → cons_option o ys ≡ [] → (o ≡ None) × (ys ≡ [])
+pub cons_empty : {B : Type 0} (o : Option B) (ys : List B) → cons_option o ys ≡ [] → (o ≡ None) × (ys ≡ [])
 cons_empty None ys e = (refl, e)
 cons_empty (Some y) ys e = cc
 

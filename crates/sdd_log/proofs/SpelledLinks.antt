@@ -1,13 +1,5 @@
 -- One map over the calls is the same map over the links, and over what their deliveries hand on.
-use Rattle.std.proofs.Common.{ℕ, zero, suc, ◌+◌, ◌-◌, Bool, true, false, List, [], ◌∷◌, ◌++◌, length, map, take, drop, ◌≡◌, refl, ap, ◌∙◌, sym, Option, Some, None}
-use Rattle.std.specs.Bool.{if◌then◌else◌}
-use Rattle.std.specs.Prelude.{◌&&◌, slice_get}
-use Rattle.std.proofs.lemmas.List.{map-append, length-map}
-use Rattle.sdd_attempt.specs.All.{Site, same_site}
-use Rattle.sdd_net.specs.declared.packet.Packet.{Packet}
-use Rattle.sdd_net.specs.declared.packet.Packet.TheVariants.{Message, Ack}
-use Rattle.sdd_net.specs.Links.{Call, Puts, Delivers, Loses, Repeats, Resends, Link, Way, link, on_link, turned, put, deliver, lose, repeat, resend, arrives, packet_at, with_packet, without_packet, without_at, numbered, unacked, delivered, delivery, given_by, newly_delivered, with_flight}
-use Rattle.sdd_log.specs.Spelled.{call_as, packet_as, way_as, link_as, delivered_as}
+use Rattle.sdd_log.proofs.All.{Ack, Bool, Call, Delivers, Link, List, Loses, Message, None, Option, Packet, Puts, Repeats, Resends, Site, Some, Way, [], ap, arrives, call_as, deliver, delivered, delivered_as, delivery, drop, false, given_by, if◌then◌else◌, length, length-map, link, link_as, lose, map, map-append, newly_delivered, numbered, on_link, packet_as, packet_at, put, refl, repeat, resend, same_site, slice_get, suc, sym, take, true, turned, unacked, way_as, with_flight, with_packet, without_at, without_packet, zero, ℕ, ◌&&◌, ◌++◌, ◌+◌, ◌-◌, ◌∙◌, ◌∷◌, ◌≡◌}
 
 module _ {A B : Type 0} (f : A → B) where
   abbrev map_option : {X Y : Type 0} → (X → Y) → Option X → Option Y

@@ -1,20 +1,9 @@
 -- A transaction is given to its module, and the module does what is due.
-use Rattle.std.proofs.Common.{ℕ, suc, ◌≤◌, Bool, true, false, List, [], ◌∷◌, ◌≡◌, refl, ap, ◌∙◌, sym, Some, None}
-use Rattle.std.specs.Bool.{if◌then◌else◌}
-use Rattle.sdd_attempt.specs.All.{Act, AreDue, D, MAX_RUN_EVENTS, Site, Submit, Submits, T, Txn, TxnNo, U, same_site, sends_of, sites}
-use Rattle.sdd_net.specs.Links.{delivered}
-use Rattle.sdd_net.proofs.Directions.{same_here}
-use Rattle.sdd_log.specs.Entries.{Given, Log, Mark, Submitted, marks}
-use Rattle.sdd_log.specs.Traffic.{calls_of, handed, link_of, takes_part}
-use Rattle.sdd_log.specs.Locals.{force_at, local_of, redeclares, txn_at}
-use Rattle.sdd_log.specs.Snapshots.{base_of}
-use Rattle.sdd_log.specs.Due.{next, next_in, next_at, home_of, site_due}
-use Rattle.sdd_log.specs.Lawful.{IsLawful, IsWithin, puts_past}
+use Rattle.sdd_log.proofs.All.{Act, AreDue, D, Given, IsLawful, IsMarked, IsWithin, List, Log, Mark, None, Rests, Site, Some, Submit, Submits, Submitted, T, Txn, TxnNo, U, [], base_of, calls_of, false, force_at, home_of, local_of, next_at, next_in, puts_past, redeclares, refl, same_here, same_site, sends_of, site_due, sites, sym, takes_part, true, txn_at, ℕ, ◌∙◌, ◌∷◌, ◌≡◌}
 use Rattle.sdd_log.proofs.Steps.{after_acts, AllNone, Settled, all_none, has_site, none_any_base, nothing_due, steps}
-use Rattle.sdd_log.specs.Resting.{AllHanded, IsMarked, Rests}
 use Rattle.sdd_log.proofs.Acts.{handed_acts, takes_part_acts, within_acts}
 use Rattle.sdd_log.proofs.Handing.{delivered_acts, no_mark_acts}
-use Rattle.sdd_log.proofs.Marking.{mark_within, none_by_mark, part_marked}
+use Rattle.sdd_log.proofs.Marking.{mark_within, none_by_mark}
 
 pub other_local : (g : Given) (b to : Site) (n : ℕ) (log : Log) → same_site b to ≡ false → local_of g b (Submitted to n ∷ log) ≡ local_of g b log
 other_local g b to n log e = rw e refl

@@ -1,17 +1,8 @@
 -- A tick of a clock makes nothing due at its site, nor does another list of classes.
-use Rattle.std.proofs.Common.{ℕ, Bool, true, false, not, ◌≡◌, refl, ap, ◌∙◌, Option, Some, None}
-use Rattle.std.specs.Bool.{if◌then◌else◌}
-use Rattle.std.specs.Prelude.{◌==◌, ◌&&◌, nat_lt, List, [], ◌∷◌}
-use Rattle.std.specs.List.{list_all}
-use Rattle.sdd_attempt.specs.All.{Attempt, Bases, Catalogue, Force, Held, Queued, Redeclared, Sends, Setting, Ticked, Ticking, U, bound_of, first_some, head_of, or_else, pushed, ticked, time_at}
+use Rattle.sdd_log.proofs.All.{Attempt, Bases, Bool, Catalogue, Force, Held, List, None, Option, Queued, Redeclared, Sends, Setting, Some, Ticked, Ticking, U, [], ap, bound_of, false, first_some, head_of, if◌then◌else◌, list_all, nat_lt, not, or_else, or_none, pushed, refl, ticked, time_at, true, view_step, ℕ, ◌&&◌, ◌==◌, ◌∙◌, ◌∷◌, ◌≡◌}
 use Rattle.sdd_attempt.specs.site_module.SiteLog as site
 use Rattle.sdd_tm.specs.Due as tm
 use Rattle.sdd_tm.specs.Views as views
-use Rattle.sdd_tm.proofs.ViewSteps.{view_step}
-
-pub or_none : {A : Type 0} (x y : Option A) → or_else x y ≡ None → (x ≡ None) × (y ≡ None)
-or_none None y e = (refl, e)
-or_none (Some a) y e = cc
 
 pub or_both : {A : Type 0} (x y : Option A) → x ≡ None → y ≡ None → or_else x y ≡ None
 or_both x y e f = rw e f
@@ -20,7 +11,7 @@ pub first_none : {A B : Type 0} (f h : A → Option B) (xs : List A) → ((a : A
 first_none f h [] k e = refl
 first_none f h (x ∷ xs) k e = let p = or_none (f x) (first_some f xs) e in or_both (h x) (first_some h xs) (k x p.0) (first_none f h xs k p.1)
 
-none_instead : {A : Type 0} (b : Bool) (x y : A) → (if b then Some x else None) ≡ None → (if b then Some y else None) ≡ None
+pub none_instead : {A : Type 0} (b : Bool) (x y : A) → (if b then Some x else None) ≡ None → (if b then Some y else None) ≡ None
 none_instead true x y e = cc
 none_instead false x y e = refl
 
@@ -33,8 +24,7 @@ abbrev with_both : views.View → Ticking → Force → views.View
 with_both v k f = record v { clock = k; force = f }
 
 null_none : (v : views.View) (k : Ticking) (f : Force) (q : views.Question) (o : Option Attempt)
-    → tm.null_at q (tm.null_time v o q.time) ≡ None
-    → tm.null_at q (tm.null_time (with_both v k f) o q.time) ≡ None
+    → tm.null_at q (tm.null_time v o q.time) ≡ None → tm.null_at q (tm.null_time (with_both v k f) o q.time) ≡ None
 null_none v k f q None e = cc
 null_none v k f q (Some a) e = e
 
@@ -56,8 +46,7 @@ start_none cat v k f c e =
     (tm.start_of cat (with_both v k f) c.class (head_of c.queue))
     (start_of_none cat v k f c.class (head_of c.queue)) e
 
-held_none : (v : views.View) (k : Ticking) (f : Force) → tm.held_due v ≡ None
-    → tm.held_due (with_both v k f) ≡ None
+held_none : (v : views.View) (k : Ticking) (f : Force) → tm.held_due v ≡ None → tm.held_due (with_both v k f) ≡ None
 held_none v k f e =
     none_instead (views.on_hold v && (list_all views.is_idle v.classes && nat_lt v.holds.helds v.holds.holds))
     (Sends U (Held (time_at (bound_of v.clock))) (Some v.holds.last)) (Sends U (Held (time_at (bound_of k))) (Some v.holds.last)) e
@@ -69,7 +58,8 @@ due_none cat bases v k f e =
     let q = or_none (first_some (tm.null_due v) v.classes) _ p.1 in
     let r = or_none (tm.held_due v) (first_some (tm.start_due cat v) v.classes) q.1 in
     let w : views.View = with_both v k f in
-    or_both (first_some (tm.exchange_due cat bases) v.classes) (or_else (first_some (tm.null_due w) v.classes) (or_else (tm.held_due w) (first_some (tm.start_due cat w) v.classes))) p.0
+    or_both (first_some (tm.exchange_due cat bases) v.classes)
+    (or_else (first_some (tm.null_due w) v.classes) (or_else (tm.held_due w) (first_some (tm.start_due cat w) v.classes))) p.0
     (or_both (first_some (tm.null_due w) v.classes) (or_else (tm.held_due w) (first_some (tm.start_due cat w) v.classes))
     (first_none (tm.null_due v) (tm.null_due w) v.classes (λ c h. first_none (tm.null_to v c) (tm.null_to w c) v.asks (null_to_none v k f c) h) q.0)
     (or_both (tm.held_due w) (first_some (tm.start_due cat w) v.classes) (held_none v k f r.0)

@@ -1,19 +1,6 @@
 -- A data module goes down, and comes up again: what was kept for it is then handed over.
-use Rattle.std.proofs.Common.{ℕ, ◌+◌, Bool, true, false, not, List, [], ◌∷◌, ◌≡◌, refl, ap, ◌∙◌, sym, subst, Some}
-use Rattle.std.specs.Bool.{if◌then◌else◌}
-use Rattle.std.specs.Prelude.{◌==◌}
-use Rattle.std.proofs.lemmas.Bool.{eqb-true, eq-eqb}
-use Rattle.sdd_attempt.specs.All.{D, DmNo, Down, Msg, Site, T, U, Up, same_site}
-use Rattle.sdd_net.specs.Links.{delivered}
-use Rattle.sdd_log.specs.Entries.{Given, Log, Mark, Notes}
-use Rattle.sdd_log.specs.Traffic.{handed, link_of, is_down, takes_part}
-use Rattle.sdd_log.specs.Due.{note_if}
-use Rattle.sdd_log.specs.Resting.{IsMarked, Remain, Rests, Waits}
+use Rattle.sdd_log.proofs.All.{Bool, D, DmNo, Down, Given, IsMarked, List, Log, Mark, Msg, Notes, Remain, Rests, Site, T, U, Up, Waits, ap, eq-eqb, eqb-true, false, flip_same, if◌then◌else◌, is_down, not, note_if, refl, same_site, subst, takes_part, true, ◌==◌, ◌∷◌, ◌≡◌}
 use Rattle.sdd_log.proofs.Marking.{mark_within, none_by_mark, rests_marked, rests_noted}
-
-not_turned : (b : Bool) → not b ≡ true → b ≡ false
-not_turned true e = cc
-not_turned false e = refl
 
 down_if : (c down : Bool) → not (if c then true else down) ≡ true → not down ≡ true
 down_if true down e = cc
@@ -26,7 +13,8 @@ part_down (T t) d log e = refl
 part_down (D n) d log e = down_if (d.0 == n.0) (is_down n.0 log) e
 
 pub goes_down : (g : Given) (d : DmNo) (log : Log) → IsMarked g log (Down d) → is_down d.0 log ≡ false → Rests g (Mark (Down d) ∷ log)
-goes_down g d log m e = rests_marked g log (Down d) m (none_by_mark g log (Down d) tt m.rests.no_site) (ap note_if e) (λ a b p. m.rests.handed_all a b (part_down b d log p))
+goes_down g d log m e =
+    rests_marked g log (Down d) m (none_by_mark g log (Down d) tt m.rests.no_site) (ap note_if e) (λ a b p. m.rests.handed_all a b (part_down b d log p))
 
 pub is_down_already : (g : Given) (d : DmNo) (log : Log) → IsMarked g log (Down d) → is_down d.0 log ≡ true → Rests g (Notes ∷ Mark (Down d) ∷ log)
 is_down_already g d log m e = rests_noted g log (Down d) m tt (ap note_if e) (λ a b p. m.rests.handed_all a b (part_down b d log p))
@@ -34,9 +22,6 @@ is_down_already g d log m e = rests_noted g log (Down d) m tt (ap note_if e) (λ
 up_if : (c down : Bool) → c ≡ false → not (if c then false else down) ≡ true → not down ≡ true
 up_if true down n e = cc
 up_if false down n e = e
-
-flip_same : (n d : ℕ) → (n == d) ≡ false → (d == n) ≡ false
-flip_same n d e = elim (d == n) as (λ c. (d == n) ≡ c → c ≡ false) [ true ↦ λ p. (let s : d ≡ n = eqb-true d n p in let t : (n == d) ≡ true = eq-eqb n d (sym s) in let no : true ≡ false = sym t ∙ e in cc) | false ↦ λ p. refl ] refl
 
 -- another module that takes part after an `up` took part before it
 part_up : (y : Site) (d : DmNo) (log : Log) → same_site y (D d) ≡ false → takes_part y (Mark (Up d) ∷ log) ≡ true → takes_part y log ≡ true
@@ -61,7 +46,8 @@ pub isnt_down : (g : Given) (d : DmNo) (log : Log) → IsMarked g log (Up d) →
 isnt_down g d log m e = rests_noted g log (Up d) m tt (ap (λ c. note_if (not c)) e) (λ a b p. m.rests.handed_all a b (up_part b d log e p))
 
 -- what was kept for a module that comes up is to be handed over
-pub comes_up : (g : Given) (d : DmNo) (log : Log) (kept : Site → List Msg) → IsMarked g log (Up d) → is_down d.0 log ≡ true → ((a : Site) → Remain log a (D d) (kept a)) → Waits g (Mark (Up d) ∷ log) (D d) kept
+pub comes_up : (g : Given) (d : DmNo) (log : Log) (kept : Site → List Msg) → IsMarked g log (Up d) → is_down d.0 log ≡ true
+    → ((a : Site) → Remain log a (D d) (kept a)) → Waits g (Mark (Up d) ∷ log) (D d) kept
 comes_up g d log kept m e r = record {
   lawful = (m.next_is, m.rests.lawful);
   within = (mark_within log (Up d) m.few, m.rests.within);
