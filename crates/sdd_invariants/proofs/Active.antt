@@ -1,9 +1,6 @@
 -- How the active attempt changes: it ends, or keeps all but its exchange. And what holds of each kind of step.
-use Rattle.std.proofs.Common.{ℕ, ◌++◌, ◌∷◌, ◌≡◌, None, Option, Some, [], refl, subst, sym, true}
-use Rattle.sdd_log.specs.All.{Act, Attempt, Bases, D, Each, Entry, Exchange, Msg, Queued, Sends, Setting, Site, T, U, active, active_handed, active_sent, after_hand, after_send, asks_rows, commit_act, head_of, is_over, queue, rejects}
-use Rattle.sdd_log.specs.site_module.SiteLog.{Log}
+use Rattle.sdd_invariants.proofs.All.{Act, Attempt, Bases, D, Each, Entry, Exchange, IsSend, IsStep, Log, Msg, None, Option, Queued, Sends, Setting, Site, Some, T, U, [], active, active_handed, active_sent, after_hand, after_send, asks_rows, by_commit, by_send, by_start, commit_act, head_of, home, is_over, queue, refl, rejects, start_at, subst, sym, true, ℕ, ◌++◌, ◌∷◌, ◌≡◌}
 use Rattle.sdd_invariants.proofs.Bools.{if_way}
-use Rattle.sdd_invariants.specs.Steps.{IsSend, IsStep, by_commit, by_send, by_start, home, start_at}
 
 pub handed_way : (P : Option Attempt → Type 0) (c : ℕ) (from : Site) (m : Msg) (o : Option Attempt) → P None
     → ((a : Attempt) (x : Exchange) → o ≡ Some a → P (Some (record a { exchange = x }))) → P o → P (active_handed c from m o)
@@ -23,8 +20,7 @@ sent_way P c m (Some a) f h =
 pub step_way : (s : Setting) (log : Log) (act : Act) (P : Act → Type 0)
     → ((c : ℕ) (q : Queued) → home s.catalogue c ≡ s.site → active s c log ≡ None → head_of (queue s c log) ≡ Some q → P (start_at s c log q))
     → ((c : ℕ) (bases : Bases) (a : Attempt) → home s.catalogue c ≡ s.site → active s c log ≡ Some a → P (commit_act s.catalogue bases c a))
-    → ((to : Site) (m : Msg) (hand : Option ℕ) → IsSend s log m → P (Sends to m hand))
-    → IsStep s log act → P act
+    → ((to : Site) (m : Msg) (hand : Option ℕ) → IsSend s log m → P (Sends to m hand)) → IsStep s log act → P act
 step_way s log act P f g h (by_start c q at i j e) = subst P (sym e) (f c q at i j)
 step_way s log act P f g h (by_commit c bases a at i o e) = subst P (sym e) (g c bases a at i)
 step_way s log act P f g h (by_send to m hand i e) = subst P (sym e) (h to m hand i)
@@ -33,8 +29,7 @@ step_way s log act P f g h (by_send to m hand i e) = subst P (sym e) (h to m han
 pub step_way_over : (s : Setting) (log : Log) (act : Act) (P : Act → Type 0)
     → ((c : ℕ) (q : Queued) → home s.catalogue c ≡ s.site → active s c log ≡ None → head_of (queue s c log) ≡ Some q → P (start_at s c log q))
     → ((c : ℕ) (bases : Bases) (a : Attempt) → home s.catalogue c ≡ s.site → active s c log ≡ Some a → is_over a.exchange.phase ≡ true → P (commit_act s.catalogue bases c a))
-    → ((to : Site) (m : Msg) (hand : Option ℕ) → IsSend s log m → P (Sends to m hand))
-    → IsStep s log act → P act
+    → ((to : Site) (m : Msg) (hand : Option ℕ) → IsSend s log m → P (Sends to m hand)) → IsStep s log act → P act
 step_way_over s log act P f g h (by_start c q at i j e) = subst P (sym e) (f c q at i j)
 step_way_over s log act P f g h (by_commit c bases a at i o e) = subst P (sym e) (g c bases a at i o)
 step_way_over s log act P f g h (by_send to m hand i e) = subst P (sym e) (h to m hand i)

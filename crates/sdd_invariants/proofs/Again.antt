@@ -1,30 +1,21 @@
 -- An attempt that isn't its transaction's first follows a Reject of the attempt before it, by a WRITE of a committed
 -- transaction; and its time of P2 is above that WRITE's time.
-use Rattle.std.specs.List.{cons_option}
-use Rattle.std.specs.Prelude.{filter_map, fold, max}
-use Rattle.std.proofs.Common.{ℕ, ◌*◌, ◌++◌, ◌+◌, ◌/◌, ◌<◌, ◌∙◌, ◌∷◌, ◌≡◌, ◌≤◌, ◌⊎◌, Bool, List, None, Option, Some, [], ap, append_assoc, arith, cond, false, filter, inl, inr, length, refl, slice_get, subst, suc, sym, true, zero}
-use Rattle.std.proofs.Math.Decide.{dec_le}
-use Rattle.sdd_log.specs.All.{Change, ClassNo, ClassView, Cond, D, DmNo, Does, FragNo, Given, Hand, Handed, IsPermitted, Log, Msg, Pipe, Queued, Read, Records, Reject, Setting, Site, Ts, TxnNo, Write, active, at_class, clock, empty_pipe, greatest, handed, head, head_of, home_of, is_at_least, last_write, last_write_for, local_of, number_of, or_zero, pipe, queue, raised, setting_of, source_of, spoils, time_at, touches, view_of, write_time}
-use Rattle.sdd_log.specs.history.declared.record.Rec.TheVariants.{Reject as Rejected}
+use Rattle.sdd_invariants.proofs.All.{Bool, Change, ClassNo, ClassView, Cond, D, DmNo, Does, FragNo, Given, Hand, Handed, IsAgain, IsOf, IsOfWrite, IsPermitted, IsReadOf, IsRejectBy, IsWriter, List, Msg, None, Option, Pipe, Queued, Read, Records, Reject, Rejected, Setting, Site, Some, Ts, TxnNo, Write, [], active, ap, append_assoc, arith, at_class, class_puts, clock, cond, cons_option, dec_le, empty_pipe, false, filter, filter_map, fold, greatest, handed, head, head_of, home, home_of, inl, inr, is_at_least, last_write, last_write_for, length, local_of, max, next_stamp, number_of, or_zero, pipe, pipe_at, queue, raised, refl, results, setting_of, slice_get, source_of, spoils, subst, suc, sym, time_at, touches, true, view_of, write_time, zero, ℕ, ◌*◌, ◌++◌, ◌+◌, ◌/◌, ◌<◌, ◌∙◌, ◌∷◌, ◌≡◌, ◌≤◌, ◌⊎◌}
 use Rattle.sdd_invariants.proofs.Clocks.{clock_grows, clock_number}
 use Rattle.sdd_invariants.proofs.Recorded.{start_of_active}
 use Rattle.sdd_invariants.proofs.Retried.{was_rejected}
 use Rattle.sdd_invariants.proofs.Processed.{matched, zip_at}
 use Rattle.sdd_invariants.proofs.Waiting.{processed_in_is}
-use Rattle.sdd_invariants.specs.PutsBy.{IsRejectBy}
 use Rattle.sdd_invariants.proofs.Answered.{of_attempt, put_in_by_d, read_of}
 use Rattle.sdd_invariants.proofs.Installed.{class_number, origin, write_origin}
-use Rattle.sdd_invariants.specs.Causes.{IsAgain, IsReadOf, IsWriter}
 use Rattle.sdd_invariants.proofs.InPipe.{in_pipe}
 use Rattle.sdd_invariants.proofs.Split.{le_is, processed_stays}
-use Rattle.sdd_invariants.specs.Seen.{class_puts, pipe_at}
 use Rattle.sdd_invariants.proofs.AreReadSteps.{class_not_in_view}
 use Rattle.sdd_invariants.proofs.Lists.{in_filtered}
-use Rattle.sdd_invariants.specs.ReadSteps.{IsOf, IsOfWrite, results}
-use Rattle.sdd_invariants.specs.Steps.{home, next_stamp}
 use Rattle.sdd_invariants.proofs.Fair.{all_new, d_fair, home_fair}
 use Rattle.sdd_invariants.proofs.InOrder.{hand_was_put}
 use Rattle.sdd_invariants.proofs.Made.{permitted_before, place_of_hand}
+use Rattle.sdd_log.specs.All.{Log}
 use Rattle.sdd_log.specs.site_module.SiteLog as site
 
 -- the greatest of numbers is one of them
@@ -48,8 +39,7 @@ greatest_in xs w e = elim (greatest_from None xs w e) [ inl p ↦ (let q : ◌�
 
 mapped_cons : (f : Msg → Option ℕ) (m : Msg) (ms : List Msg) (ws : List ℕ) (k y w : ℕ)
     → ((j : ℕ) → slice_get ws j ≡ Some w → (i : ℕ) × (x : Msg) × (slice_get ms i ≡ Some x) × (f x ≡ Some w)) → f m ≡ Some y
-    → slice_get (y ∷ ws) k ≡ Some w
-    → (i : ℕ) × (x : Msg) × (slice_get (m ∷ ms) i ≡ Some x) × (f x ≡ Some w)
+    → slice_get (y ∷ ws) k ≡ Some w → (i : ℕ) × (x : Msg) × (slice_get (m ∷ ms) i ≡ Some x) × (f x ≡ Some w)
 mapped_cons f m ms ws zero y w g p q = (0, m, refl, p ∙ q)
 mapped_cons f m ms ws (suc k) y w g p q = let i = g k q in (suc i.0, i.1, i.2, i.3)
 
@@ -72,11 +62,11 @@ time_is frags (Write ts k txn changes) w e =
     let p = cond_is (touches frags changes) ts.0 w e in (ts, k, txn, changes, refl, p.1, p.0)
 time_is frags _ w e = cc
 
-first_there : (ds : List Cond) (d : Cond) → head_of ds ≡ Some d → slice_get ds 0 ≡ Some d
+pub first_there : (ds : List Cond) (d : Cond) → head_of ds ≡ Some d → slice_get ds 0 ≡ Some d
 first_there [] d e = cc
 first_there (x ∷ ds) d e = e
 
-first_of_filter : (f : Cond → Bool) (ds : List Cond) (d : Cond) → head_of (filter f ds) ≡ Some d
+pub first_of_filter : (f : Cond → Bool) (ds : List Cond) (d : Cond) → head_of (filter f ds) ≡ Some d
     → (k : ℕ) × (slice_get ds k ≡ Some d) × (f d ≡ true)
 first_of_filter f ds d e = let i = in_filtered f ds 0 d (first_there (filter f ds) d e) in (i.1, i.2, i.0)
 
@@ -121,7 +111,8 @@ writer_of g log d j place ts of txn changes h e =
     let l : site.Log = local_of g (D d) log in
     let m : Msg = Write ts of txn changes in
     let p = in_pipe g j d log h in
-    let there : slice_get (class_puts g j d log) place ≡ Some m = subst (λ ms. slice_get ms place ≡ Some m) (sym p.1) (processed_stays (pipe j l) p.0 place m e) in
+    let there : slice_get (class_puts g j d log) place ≡ Some m = subst (λ ms. slice_get ms place ≡ Some m) (sym p.1)
+    (processed_stays (pipe j l) p.0 place m e) in
     let put = origin g j d log place m h there in
     let c : of.0 ≡ j = class_number of.0 j ts.0 put.of_class in
     let w = write_origin g log j d ts of txn changes c put in
@@ -154,25 +145,30 @@ again g c log q h small idle e tried_once =
     let r = was_rejected s c (local_of g at log) q (home_fair g c log h) (all_new g at log h) idle e tried_once in
     let m : Msg = Reject r.ts r.class_of r.by r.write in
     let i = place_of_hand g at log r.later (D r.from) m r.before r.is in
-    let h2 : IsPermitted g (Hand (D r.from) at i.number m ∷ i.rest) = permitted_before g i.later (Hand (D r.from) at i.number m ∷ i.rest) (subst (IsPermitted g) i.is h) in
+    let h2 : IsPermitted g (Hand (D r.from) at i.number m ∷ i.rest) = permitted_before g i.later (Hand (D r.from) at i.number m ∷ i.rest)
+    (subst (IsPermitted g) i.is h) in
     let p = put_in_by_d g i.rest r.from at (handed (D r.from) at i.rest) m h2.1 (hand_was_put g i.rest (D r.from) at i.number m h2.0).1 in
     let ds : Setting = setting_of g (D r.from) in
     let l : site.Log = local_of g (D r.from) p.before in
     let b : IsRejectBy ds l at p.act r.ts r.class_of r.by r.write = p.by in
-    let h3 : IsPermitted g (Does (D r.from) p.act ∷ p.before) = permitted_before g p.later (Does (D r.from) p.act ∷ p.before) (subst (IsPermitted g) p.is h2.1) in
+    let h3 : IsPermitted g (Does (D r.from) p.act ∷ p.before) = permitted_before g p.later (Does (D r.from) p.act ∷ p.before)
+    (subst (IsPermitted g) p.is h2.1) in
     let ro = read_of g b.class r.from p.before r.ts r.class_of b.txn b.attempt b.conds b.uses h3.1 b.head_is in
     let k : b.class ≡ c = sym ro.0 ∙ r.class_is in
     let front : Log = (i.later ++ Hand (D r.from) at i.number m ∷ []) ++ p.later in
     let whole : log ≡ front ++ Does (D r.from) p.act ∷ p.before =
-    i.is ∙ ap (λ x. i.later ++ Hand (D r.from) at i.number m ∷ x) p.is ∙ sym (append_assoc i.later (Hand (D r.from) at i.number m ∷ []) (p.later ++ Does (D r.from) p.act ∷ p.before))
+    i.is ∙ ap (λ x. i.later ++ Hand (D r.from) at i.number m ∷ x) p.is
+    ∙ sym (append_assoc i.later (Hand (D r.from) at i.number m ∷ []) (p.later ++ Does (D r.from) p.act ∷ p.before))
     ∙ sym (append_assoc (i.later ++ Hand (D r.from) at i.number m ∷ []) p.later (Does (D r.from) p.act ∷ p.before)) in
     let active_then : active s c (local_of g at i.rest) ≡ Some r.attempt = ap (active s c) i.local_is ∙ r.active_is in
-    let o = of_attempt g c i.rest (p.later ++ Does (D r.from) p.act ∷ []) p.before r.attempt b.txn.0 b.attempt r.ts.0 h2.1 active_then (p.is ∙ sym (append_assoc p.later (Does (D r.from) p.act ∷ []) p.before)) (subst (λ j. IsReadOf g p.before j b.txn.0 b.attempt r.ts.0) k ro.1) r.ts_is in
+    let o = of_attempt g c i.rest (p.later ++ Does (D r.from) p.act ∷ []) p.before r.attempt b.txn.0 b.attempt r.ts.0 h2.1 active_then
+    (p.is ∙ sym (append_assoc p.later (Does (D r.from) p.act ∷ []) p.before)) (subst (λ j. IsReadOf g p.before j b.txn.0 b.attempt r.ts.0) k ro.1) r.ts_is in
     let f = first_of_filter (spoils (view_of ds l)) b.conds b.cond_by b.spoiler_is in
     let z = is_spoilt ds l b.cond_by f.2 in
     let wr = writer_of g p.before r.from b.cond_by.class.0 z.place z.ts z.of z.txn z.changes h3.1 z.there in
     let w_is : z.ts.0 ≡ r.write.0 = z.ts_is ∙ sym b.write_is in
-    let wr2 : IsWriter g p.before r.from r.by.0 r.write.0 = subst (λ t. IsWriter g p.before r.from r.by.0 t) w_is (subst (λ j. IsWriter g p.before r.from j z.ts.0) (ap (λ (y : ClassNo). y.0) (sym b.by_is)) wr) in
+    let wr2 : IsWriter g p.before r.from r.by.0 r.write.0 = subst (λ t. IsWriter g p.before r.from r.by.0 t) w_is
+    (subst (λ j. IsWriter g p.before r.from j z.ts.0) (ap (λ (y : ClassNo). y.0) (sym b.by_is)) wr) in
     let cm = wr2.commit in
     let other : Site = home g.catalogue r.by.0 in
     let hb : IsPermitted g cm.before = (permitted_before g cm.later (Does other _ ∷ cm.before) (subst (IsPermitted g) cm.is h3.1)).1 in
@@ -191,7 +187,8 @@ again g c log q h small idle e tried_once =
       by = r.by;
       write = r.write;
       sends = (source_of (home_of ds) b.class, m) ∷ [];
-      is = whole ∙ ap (λ x. front ++ Does (D r.from) x ∷ p.before) (b.act_is ∙ ap (λ j. Records j (Rejected b.txn b.attempt (home_of ds).dm r.by r.write) ((source_of (home_of ds) b.class, m) ∷ [])) k);
+      is = whole ∙ ap (λ x. front ++ Does (D r.from) x ∷ p.before)
+          (b.act_is ∙ ap (λ j. Records j (Rejected b.txn b.attempt (home_of ds).dm r.by r.write) ((source_of (home_of ds) b.class, m) ∷ [])) k);
       number_is = o.0 ∙ r.number_is;
       try_is = o.1 ∙ r.try_is;
       ts = r.ts;

@@ -1,34 +1,22 @@
 -- What a data module puts, and why; an Answer follows its attempt's Start, and a Commit an Answer of its attempt at each
 -- module that it reads.
-use Rattle.std.specs.List.{list_any}
-use Rattle.std.proofs.Common.{ℕ, ◌&&◌, ◌++◌, ◌==◌, ◌||◌, ◌∙◌, ◌∷◌, ◌≡◌, Bool, List, Some, [], ap, append_assoc, arith, false, if◌then◌else◌, inl, inr, refl, slice_get, subst, suc, sym, true, zero}
-use Rattle.std.proofs.lemmas.Bool.{eqb-true}
-use Rattle.sdd_log.specs.All.{Act, Answer, Ask, Attempt, ClassNo, Cond, D, Did, DmNo, Does, Done, Each, Fetch, Given, Hand, Handed, IsPermitted, Log, Msg, Queued, Read, Ready, Records, Redeclared, Reduce, Reduced, Reject, Setting, Ship, Site, Submits, T, Ticked, Ts, TxnNo, U, Use, Values, active, asks_rows, clock, contains, counts, handed, head, head_of, home_of, is_over, local_of, queue, same_site, sends_of_act, setting_of, source_of}
-use Rattle.sdd_log.specs.wire.declared.msg.Msg.TheVariants.{Rows}
-use Rattle.sdd_log.proofs.EachLocal.{each_local}
+use Rattle.sdd_invariants.proofs.All.{Act, Answer, Ask, Attempt, Bool, ClassNo, Cond, D, Did, DmNo, Does, Done, Each, Fetch, Given, Hand, Handed, HasAnswer, IsDueEach, IsFair, IsFetch, IsHonest, IsPermitted, IsPutByD, IsRead, IsReadOf, IsReadyBy, IsReduce, IsSend, IsShip, IsStep, List, Msg, Queued, Read, Ready, Records, Redeclared, Reduce, Reduced, Reject, Rows, Setting, Ship, Site, Some, Submits, T, Ticked, Ts, TxnNo, U, Use, Values, WasAsked, [], a_held, a_hold, a_null, a_release, active, ap, append_assoc, arith, asks_in, asks_rows, clock, contains, counts, each_local, eqb-true, false, handed, head, head_of, home, home_of, if◌then◌else◌, inl, inr, is_answer, is_over, is_ready, list_any, local_of, modules_asked, next_stamp, of_exchange, or_left, or_right, pipe_at, puts_to, queue, refl, same_site, sends_of_act, setting_of, slice_get, source_of, start_at, start_read, subst, suc, sym, to_site, true, was_asked, was_ready, zero, ℕ, ◌&&◌, ◌++◌, ◌==◌, ◌||◌, ◌∙◌, ◌∷◌, ◌≡◌}
 use Rattle.sdd_invariants.proofs.Clocks.{clock_grows, clock_number}
 use Rattle.sdd_invariants.proofs.Origins.{was_put}
 use Rattle.sdd_invariants.proofs.ReadsPut.{start_puts}
 use Rattle.sdd_invariants.proofs.Recorded.{start_of_active}
 use Rattle.sdd_invariants.proofs.WritesPut.{commit_puts}
-use Rattle.sdd_invariants.specs.Puts.{IsRead}
 use Rattle.sdd_invariants.proofs.PutBy.{put_by_d}
-use Rattle.sdd_invariants.specs.PutsBy.{IsFetch, IsPutByD, IsReadyBy, IsReduce, IsShip, WasAsked}
 use Rattle.sdd_invariants.proofs.Installed.{class_number, head_put}
 use Rattle.sdd_invariants.proofs.Readied.{all_ready, over_reads}
-use Rattle.sdd_invariants.specs.Causes.{HasAnswer, IsReadOf}
-use Rattle.sdd_invariants.specs.Readied.{IsHonest, asks_in, is_answer, is_ready, was_asked, was_ready}
-use Rattle.sdd_invariants.specs.Seen.{pipe_at}
 use Rattle.sdd_invariants.proofs.Active.{each_at, step_way}
-use Rattle.sdd_invariants.proofs.Bools.{and_left, and_right, not_both, or_left, or_right}
+use Rattle.sdd_invariants.proofs.Bools.{and_left, and_right, not_both}
 use Rattle.sdd_invariants.proofs.Lists.{in_none, in_one}
 use Rattle.sdd_invariants.proofs.Sites.{site_is, the_one}
-use Rattle.sdd_invariants.specs.ReadSteps.{IsDueEach}
-use Rattle.sdd_invariants.specs.Steps.{IsFair, IsSend, IsStep, a_held, a_hold, a_null, a_release, home, modules_asked, next_stamp, of_exchange, start_at, start_read}
-use Rattle.sdd_invariants.specs.Traffic.{puts_to, to_site}
 use Rattle.sdd_invariants.proofs.Fair.{d_fair, home_fair, t_fair, u_fair}
 use Rattle.sdd_invariants.proofs.InOrder.{hand_was_put}
 use Rattle.sdd_invariants.proofs.Made.{local_grows, own_act, permitted_before, place_of_act, place_of_hand}
+use Rattle.sdd_log.specs.All.{Log}
 use Rattle.sdd_log.specs.site_module.SiteLog as site
 
 -- the kinds of messages that a data module puts
@@ -96,7 +84,8 @@ pub put_in_by_d : (g : Given) (log : Log) (d : DmNo) (at : Site) (k : ℕ) (m : 
     → slice_get (puts_to at (local_of g (D d) log)) k ≡ Some m
     → IsPutIn g log (D d) at m (λ l act. IsPutByD (setting_of g (D d)) l at act m)
 put_in_by_d g log d at k m h e =
-    put_in g log (D d) at k m (λ l act. IsPutByD (setting_of g (D d)) l at act m) (IsDueEach (setting_of g (D d))) (d_fair g d log h) (λ l act j q there. put_by_d (setting_of g (D d)) l act q at j m there) e
+    put_in g log (D d) at k m (λ l act. IsPutByD (setting_of g (D d)) l at act m) (IsDueEach (setting_of g (D d))) (d_fair g d log h)
+    (λ l act j q there. put_by_d (setting_of g (D d)) l act q at j m there) e
 
 -- what only D puts comes from a D
 not_from_d : (g : Given) (log : Log) (from at : Site) (k : ℕ) (m : Msg) → Each (IsFair (setting_of g from)) (local_of g from log)
@@ -138,31 +127,39 @@ asked_of_put : (ts c : ℕ) (b : Site) (l : site.Log) (k : ℕ) (m : Msg) → sl
     → asks_rows ts c m ≡ true → was_asked ts c l ≡ true
 asked_of_put ts c b l k m e f =
     let p = was_put b l k m e in
-    subst (λ x. was_asked ts c x ≡ true) (sym p.is) (asked_more ts c p.later (Did p.act ∷ p.before) (or_left (asks_in ts c (sends_of_act p.act)) (was_asked ts c p.before) (any_sent (asks_rows ts c) b (sends_of_act p.act) p.place m p.there f)))
+    subst (λ x. was_asked ts c x ≡ true) (sym p.is)
+    (asked_more ts c p.later (Did p.act ∷ p.before) (or_left (asks_in ts c (sends_of_act p.act)) (was_asked ts c p.before) (any_sent (asks_rows ts c) b (sends_of_act p.act) p.place m p.there f)))
 
 asked_then : (g : Given) (log : Log) (at : Site) (d : DmNo) (ts c : ℕ) (later log2 : Log) (P : Msg → Type 0) → IsPermitted g log
     → log ≡ later ++ log2 → WasAsked (local_of g (D d) log2) at P → ((m : Msg) → P m → asks_rows ts c m ≡ true)
     → was_asked ts c (local_of g at log) ≡ true
 asked_then g log at d ts c later log2 P h e w f =
     let i = place_of_hand g (D d) log2 w.later at w.asked w.before w.is in
-    let h2 : IsPermitted g (Hand at (D d) i.number w.asked ∷ i.rest) = permitted_before g i.later (Hand at (D d) i.number w.asked ∷ i.rest) (subst (IsPermitted g) i.is (permitted_before g later log2 (subst (IsPermitted g) e h))) in
+    let h2 : IsPermitted g (Hand at (D d) i.number w.asked ∷ i.rest) = permitted_before g i.later (Hand at (D d) i.number w.asked ∷ i.rest)
+    (subst (IsPermitted g) i.is (permitted_before g later log2 (subst (IsPermitted g) e h))) in
     let put = hand_was_put g i.rest at (D d) i.number w.asked h2.0 in
     let a = asked_of_put ts c (D d) (local_of g at i.rest) (handed at (D d) i.rest) w.asked put.1 (f w.asked w.fits) in
     let x = local_grows g at (i.later ++ Hand at (D d) i.number w.asked ∷ []) i.rest in
-    let here : was_asked ts c (local_of g at log2) ≡ true = subst (λ l. was_asked ts c (local_of g at l) ≡ true) (append_assoc i.later (Hand at (D d) i.number w.asked ∷ []) i.rest ∙ sym i.is) (subst (λ l. was_asked ts c l ≡ true) (sym x.1) (asked_more ts c x.0 (local_of g at i.rest) a)) in
+    let here : was_asked ts c (local_of g at log2) ≡ true = subst (λ l. was_asked ts c (local_of g at l) ≡ true)
+    (append_assoc i.later (Hand at (D d) i.number w.asked ∷ []) i.rest ∙ sym i.is)
+    (subst (λ l. was_asked ts c l ≡ true) (sym x.1) (asked_more ts c x.0 (local_of g at i.rest) a)) in
     let y = local_grows g at later log2 in
-    subst (λ l. was_asked ts c (local_of g at l) ≡ true) (sym e) (subst (λ l. was_asked ts c l ≡ true) (sym y.1) (asked_more ts c y.0 (local_of g at log2) here))
+    subst (λ l. was_asked ts c (local_of g at l) ≡ true) (sym e)
+    (subst (λ l. was_asked ts c l ≡ true) (sym y.1) (asked_more ts c y.0 (local_of g at log2) here))
 
 honest_d : (g : Given) (log : Log) (at : Site) (d : DmNo) (m : Msg) (ts c : ℕ) (later before : Log) (act : Act)
     → IsPermitted g log → log ≡ later ++ Does (D d) act ∷ before
     → IsPutByD (setting_of g (D d)) (local_of g (D d) before) at act m → is_answer ts c m ≡ true
     → was_asked ts c (local_of g at log) ≡ true
 honest_d g log at d (Values t k u vs) ts c later before act h e w f =
-    asked_then g log at d ts c (later ++ Does (D d) act ∷ []) before (IsFetch t k u) h (e ∙ sym (append_assoc later (Does (D d) act ∷ []) before)) w (λ m p. ap (asks_rows ts c) p.1 ∙ f)
+    asked_then g log at d ts c (later ++ Does (D d) act ∷ []) before (IsFetch t k u) h (e ∙ sym (append_assoc later (Does (D d) act ∷ []) before)) w
+    (λ m p. ap (asks_rows ts c) p.1 ∙ f)
 honest_d g log at d (Reduced t k u n) ts c later before act h e w f =
-    asked_then g log at d ts c (later ++ Does (D d) act ∷ []) before (IsReduce t k u) h (e ∙ sym (append_assoc later (Does (D d) act ∷ []) before)) w (λ m p. ap (asks_rows ts c) p.2 ∙ f)
+    asked_then g log at d ts c (later ++ Does (D d) act ∷ []) before (IsReduce t k u) h (e ∙ sym (append_assoc later (Does (D d) act ∷ []) before)) w
+    (λ m p. ap (asks_rows ts c) p.2 ∙ f)
 honest_d g log at d (Rows t k rows) ts c later before act h e w f =
-    asked_then g log at d ts c (later ++ Does (D d) act ∷ []) before (IsShip t k) h (e ∙ sym (append_assoc later (Does (D d) act ∷ []) before)) w (λ m p. ap (asks_rows ts c) p ∙ f)
+    asked_then g log at d ts c (later ++ Does (D d) act ∷ []) before (IsShip t k) h (e ∙ sym (append_assoc later (Does (D d) act ∷ []) before)) w
+    (λ m p. ap (asks_rows ts c) p ∙ f)
 honest_d g log at d m ts c later before act h e w f = cc
 
 answer_d : (ts c : ℕ) (m : Msg) → is_answer ts c m ≡ true → is_from_d m ≡ true
@@ -197,7 +194,8 @@ read_of g c d log ts k txn attempt conds uses h e =
     let at : Site = home g.catalogue c in
     let p = head_put g c d log (Read ts k txn attempt conds uses) h e in
     let z : k.0 ≡ c = class_number k.0 c ts.0 p.of_class in
-    let r : IsRead (setting_of g at) (local_of g at p.before) p.act c ts.0 txn.0 attempt = subst (λ j. IsRead (setting_of g at) (local_of g at p.before) p.act j ts.0 txn.0 attempt) z p.by in
+    let r : IsRead (setting_of g at) (local_of g at p.before) p.act c ts.0 txn.0 attempt = subst
+    (λ j. IsRead (setting_of g at) (local_of g at p.before) p.act j ts.0 txn.0 attempt) z p.by in
     (z, record { later = p.later; before = p.before; queued = r.queued; is = p.is ∙ ap (λ x. p.later ++ Does at x ∷ p.before) r.act_is; idle = r.idle; head_is = r.head; number_is = r.number_is; try_is = r.try_is; ts_is = r.time_is })
 
 -- one timestamp, one Start
@@ -220,7 +218,7 @@ one_start s c (x ∷ l1) [] b1 b2 q1 q2 e f =
 one_start s c (x ∷ l1) (y ∷ l2) b1 b2 q1 q2 e f =
     let p : l1 ++ Did (start_at s c b1 q1) ∷ b1 ≡ l2 ++ Did (start_at s c b2 q2) ∷ b2 = cc in one_start s c l1 l2 b1 b2 q1 q2 e p
 
-same_head : (s : Setting) (c : ℕ) (b1 b2 : site.Log) (q1 q2 : Queued) → b1 ≡ b2 → head_of (queue s c b1) ≡ Some q1
+pub same_head : (s : Setting) (c : ℕ) (b1 b2 : site.Log) (q1 q2 : Queued) → b1 ≡ b2 → head_of (queue s c b1) ≡ Some q1
     → head_of (queue s c b2) ≡ Some q2 → q1 ≡ q2
 same_head s c b1 b2 q1 q2 e f g = let p : Some q1 ≡ Some q2 = sym f ∙ ap (λ b. head_of (queue s c b)) e ∙ g in cc
 
@@ -233,8 +231,10 @@ of_attempt g c log later log2 a n k t h e is r ts =
     let s : Setting = setting_of g at in
     let st = start_of_active s c (local_of g at log) a (home_fair g c log h) e in
     let x = local_grows g at (later ++ r.later) (Does at (start_at s c (local_of g at r.before) r.queued) ∷ r.before) in
-    let whole : log ≡ (later ++ r.later) ++ Does at (start_at s c (local_of g at r.before) r.queued) ∷ r.before = is ∙ ap (λ l. later ++ l) r.is ∙ sym (append_assoc later r.later _) in
-    let here : local_of g at log ≡ x.0 ++ Did (start_at s c (local_of g at r.before) r.queued) ∷ local_of g at r.before = ap (local_of g at) whole ∙ x.1 ∙ ap (λ l. x.0 ++ l) (own_act g at (start_at s c (local_of g at r.before) r.queued) r.before) in
+    let whole : log ≡ (later ++ r.later) ++ Does at (start_at s c (local_of g at r.before) r.queued) ∷ r.before = is ∙ ap (λ l. later ++ l) r.is
+    ∙ sym (append_assoc later r.later _) in
+    let here : local_of g at log ≡ x.0 ++ Did (start_at s c (local_of g at r.before) r.queued) ∷ local_of g at r.before = ap (local_of g at) whole ∙ x.1
+    ∙ ap (λ l. x.0 ++ l) (own_act g at (start_at s c (local_of g at r.before) r.queued) r.before) in
     let stamp : next_stamp s st.before ≡ next_stamp s (local_of g at r.before) = sym st.ts_is ∙ sym ts ∙ r.ts_is in
     let same : st.before ≡ local_of g at r.before = one_start s c st.later x.0 st.before (local_of g at r.before) st.queued r.queued stamp (sym st.is ∙ here) in
     let q : st.queued ≡ r.queued = same_head s c st.before (local_of g at r.before) st.queued r.queued same st.head r.head_is in
@@ -264,8 +264,10 @@ ready_msg ts c from d m log p e = cc
 ready_handed : (ts c : ℕ) (d : Site) (log : site.Log) → was_ready ts c d log ≡ true → WasReady log d ts c
 ready_handed ts c d [] e = cc
 ready_handed ts c d (Handed from m ∷ log) e =
-    elim (same_site d from && is_ready ts c m) as (λ b. (same_site d from && is_ready ts c m) ≡ b → (b || was_ready ts c d log) ≡ true → WasReady (Handed from m ∷ log) d ts c) [
-      | true ↦ λ p q. ready_msg ts c from d m log (sym (site_is d from (and_left (same_site d from) (is_ready ts c m) p))) (and_right (same_site d from) (is_ready ts c m) p)
+    elim (same_site d from && is_ready ts c m) as
+    (λ b. (same_site d from && is_ready ts c m) ≡ b → (b || was_ready ts c d log) ≡ true → WasReady (Handed from m ∷ log) d ts c) [
+      | true ↦ λ p q. ready_msg ts c from d m log (sym (site_is d from (and_left (same_site d from) (is_ready ts c m) p)))
+          (and_right (same_site d from) (is_ready ts c m) p)
       | false ↦ λ p q. more_ready (Handed from m) log d ts c (ready_handed ts c d log q)
     ] refl e
 ready_handed ts c d (Ticked n ∷ log) e = more_ready (Ticked n) log d ts c (ready_handed ts c d log e)
@@ -280,23 +282,29 @@ answer_there g c d log a h e w =
     let at : Site = home g.catalogue c in
     let r = ready_handed a.ts c (D d) (local_of g at log) w in
     let i = place_of_hand g at log r.later (D d) (Ready r.t r.k r.counts) r.before r.is in
-    let h2 : IsPermitted g (Hand (D d) at i.number (Ready r.t r.k r.counts) ∷ i.rest) = permitted_before g i.later (Hand (D d) at i.number (Ready r.t r.k r.counts) ∷ i.rest) (subst (IsPermitted g) i.is h) in
-    let p = put_in_by_d g i.rest d at (handed (D d) at i.rest) (Ready r.t r.k r.counts) h2.1 (hand_was_put g i.rest (D d) at i.number (Ready r.t r.k r.counts) h2.0).1 in
+    let h2 : IsPermitted g (Hand (D d) at i.number (Ready r.t r.k r.counts) ∷ i.rest) = permitted_before g i.later
+    (Hand (D d) at i.number (Ready r.t r.k r.counts) ∷ i.rest) (subst (IsPermitted g) i.is h) in
+    let p = put_in_by_d g i.rest d at (handed (D d) at i.rest) (Ready r.t r.k r.counts) h2.1
+    (hand_was_put g i.rest (D d) at i.number (Ready r.t r.k r.counts) h2.0).1 in
     let by : IsReadyBy (setting_of g (D d)) (local_of g (D d) p.before) at p.act r.t r.k r.counts = p.by in
     let h3 : IsPermitted g (Does (D d) p.act ∷ p.before) = permitted_before g p.later (Does (D d) p.act ∷ p.before) (subst (IsPermitted g) p.is h2.1) in
     let ro = read_of g by.class d p.before r.t r.k by.txn by.attempt by.conds by.uses h3.1 by.head_is in
     let of : by.class ≡ c = sym ro.0 ∙ r.class_is in
     let front : Log = (i.later ++ Hand (D d) at i.number (Ready r.t r.k r.counts) ∷ []) ++ p.later in
-    let whole : log ≡ front ++ Does (D d) p.act ∷ p.before = i.is ∙ ap (λ l. i.later ++ Hand (D d) at i.number (Ready r.t r.k r.counts) ∷ l) p.is ∙ sym (append_assoc i.later (Hand (D d) at i.number (Ready r.t r.k r.counts) ∷ []) (p.later ++ Does (D d) p.act ∷ p.before)) ∙ sym (append_assoc (i.later ++ Hand (D d) at i.number (Ready r.t r.k r.counts) ∷ []) p.later (Does (D d) p.act ∷ p.before)) in
+    let whole : log ≡ front ++ Does (D d) p.act ∷ p.before = i.is ∙ ap (λ l. i.later ++ Hand (D d) at i.number (Ready r.t r.k r.counts) ∷ l) p.is
+    ∙ sym (append_assoc i.later (Hand (D d) at i.number (Ready r.t r.k r.counts) ∷ []) (p.later ++ Does (D d) p.act ∷ p.before))
+    ∙ sym (append_assoc (i.later ++ Hand (D d) at i.number (Ready r.t r.k r.counts) ∷ []) p.later (Does (D d) p.act ∷ p.before)) in
     let read : IsReadOf g p.before c by.txn.0 by.attempt r.t.0 = subst (λ j. IsReadOf g p.before j by.txn.0 by.attempt r.t.0) of ro.1 in
-    let o = of_attempt g c log (front ++ Does (D d) p.act ∷ []) p.before a by.txn.0 by.attempt r.t.0 h e (whole ∙ sym (append_assoc front (Does (D d) p.act ∷ []) p.before)) read r.ts_is in
+    let o = of_attempt g c log (front ++ Does (D d) p.act ∷ []) p.before a by.txn.0 by.attempt r.t.0 h e
+    (whole ∙ sym (append_assoc front (Does (D d) p.act ∷ []) p.before)) read r.ts_is in
     record {
       later = front;
       before = p.before;
       txn = by.txn;
       attempt = by.attempt;
       sends = (source_of (home_of (setting_of g (D d))) by.class, Ready r.t r.k r.counts) ∷ [];
-      is = whole ∙ ap (λ x. front ++ Does (D d) x ∷ p.before) (by.act_is ∙ ap (λ j. Records j (Answer by.txn by.attempt ((home_of (setting_of g (D d))).dm)) ((source_of (home_of (setting_of g (D d))) by.class, Ready r.t r.k r.counts) ∷ [])) of);
+      is = whole ∙ ap (λ x. front ++ Does (D d) x ∷ p.before)
+          (by.act_is ∙ ap (λ j. Records j (Answer by.txn by.attempt ((home_of (setting_of g (D d))).dm)) ((source_of (home_of (setting_of g (D d))) by.class, Ready r.t r.k r.counts) ∷ [])) of);
       number_is = o.0;
       try_is = o.1;
       ts = r.t;
@@ -313,4 +321,5 @@ pub answered_all : (g : Given) (c : ℕ) (log : Log) (a : Attempt) (d : DmNo) �
     → is_over a.exchange.phase ≡ true
     → contains (modules_asked (setting_of g (home g.catalogue c)) c a.text) d.0 ≡ true → HasAnswer g log d c a
 answered_all g c log a d h e o p =
-    answer_there g c d log a h e (all_ready (setting_of g (home g.catalogue c)) c (local_of g (home g.catalogue c) log) a d.0 (home_fair g c log h) (honest g (home g.catalogue c) log h) e (over_reads a.exchange o) p)
+    answer_there g c d log a h e
+    (all_ready (setting_of g (home g.catalogue c)) c (local_of g (home g.catalogue c) log) a d.0 (home_fair g c log h) (honest g (home g.catalogue c) log h) e (over_reads a.exchange o) p)

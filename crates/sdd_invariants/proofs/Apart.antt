@@ -1,31 +1,20 @@
 -- H5 without the Applies: an undeclared transaction and a declared one. The declared one committed before the undeclared one's Start, with a smaller timestamp; or it started when that one's RELEASE was handed to its site, with a greater one.
-use Rattle.std.specs.List.{cons_option}
-use Rattle.std.proofs.Common.{ℕ, ◌*◌, ◌++◌, ◌+◌, ◌/◌, ◌<◌, ◌∙◌, ◌∷◌, ◌≡◌, ◌≤◌, ◌⊎◌, Bool, List, None, Option, Some, [], ap, append-nil, append_assoc, arith, drop, false, if◌then◌else◌, inl, inr, length, refl, slice_get, subst, suc, sym, take, true, zero}
-use Rattle.std.proofs.lemmas.List.{take-append-drop}
-use Rattle.std.proofs.lemmas.List.Elements.{filter_map-append}
-use Rattle.sdd_log.specs.All.{Act, Ask, Attempt, Did, Does, Each, Given, Handed, Held, IsPermitted, Log, Msg, Queued, Redeclared, Reject, Release, Sends, Setting, Site, Submits, T, Ticked, Ticking, U, active, clock, commit_act, counts, handed, holds, local_of, number_of, numbers_to, pushed_by, runs, same_site, sends_of_act, setting_of, tm_no}
-use Rattle.sdd_log.proofs.EachLocal.{allowed_act}
+use Rattle.sdd_invariants.proofs.All.{Act, Ask, Attempt, Bool, Did, Does, Each, Given, Handed, Held, IsCommitT, IsFair, IsFairT, IsHeldAt, IsHigh, IsLow, IsPermitted, IsStartU, List, Msg, None, Option, Queued, Redeclared, Reject, Release, Sends, Setting, Site, Some, Submits, T, Ticked, Ticking, U, [], active, allowed_act, ap, append-nil, append_assoc, arith, bound, clock, commit_act, cons_option, counts, dones_of, drawn_so_far, drop, false, filter_map-append, handed, hands_from, holds, if◌then◌else◌, in_left, inl, inr, is_a_held, is_a_release, length, local_of, number_of, numbers_to, one_if, pushed_by, puts_to, refl, release_time, release_times, runs, same_site, sends_of_act, setting_of, slice_get, stamp_of, start_at, start_u, starts, subst, suc, sym, take, take-append-drop, tally, tm_no, to_site, true, u_stamp, zero, ℕ, ◌*◌, ◌++◌, ◌+◌, ◌/◌, ◌<◌, ◌∙◌, ◌∷◌, ◌≡◌, ◌≤◌, ◌⊎◌}
 use Rattle.sdd_invariants.proofs.HoldChain.{from_u, handed_helds, handed_holds, hold_chain, t_table, u_table}
-use Rattle.sdd_invariants.specs.Barrier.{IsCommitT, IsHigh, IsLow, IsStartU, start_u, u_stamp}
 use Rattle.sdd_invariants.proofs.Holding.{hold_rule, still, t_helds}
 use Rattle.sdd_invariants.proofs.Releases.{serving, start_ready}
 use Rattle.sdd_invariants.proofs.Rose.{held_idle, held_rose, held_time, helds_grow, start_off}
 use Rattle.sdd_invariants.proofs.Serving.{u_due}
-use Rattle.sdd_invariants.specs.AtT.{IsFairT, IsHeldAt}
-use Rattle.sdd_invariants.specs.AtU.{starts}
-use Rattle.sdd_invariants.specs.Releases.{dones_of, drawn_so_far, release_time, release_times}
-use Rattle.sdd_invariants.specs.Turns.{is_a_held, is_a_release, one_if, tally}
 use Rattle.sdd_invariants.proofs.Clocks.{clock_grows, clock_rises}
 use Rattle.sdd_invariants.proofs.Origins.{is_put}
 use Rattle.sdd_invariants.proofs.Places.{committed_by, compare}
 use Rattle.sdd_invariants.proofs.Again.{mapped_in, stamp_ticks}
 use Rattle.sdd_invariants.proofs.Active.{each_at}
-use Rattle.sdd_invariants.proofs.Lists.{in_left, in_taken, member_there}
-use Rattle.sdd_invariants.specs.Steps.{IsFair, bound, stamp_of, start_at}
-use Rattle.sdd_invariants.specs.Traffic.{hands_from, puts_to, to_site}
+use Rattle.sdd_invariants.proofs.Lists.{in_taken, member_there}
 use Rattle.sdd_invariants.proofs.Fair.{t_fair}
 use Rattle.sdd_invariants.proofs.InOrder.{in_order}
 use Rattle.sdd_invariants.proofs.Made.{local_grows, own_act, permitted_before, place_of_act}
+use Rattle.sdd_log.specs.All.{Log}
 use Rattle.sdd_log.specs.site_module.SiteLog as site
 
 -- lists
@@ -69,7 +58,7 @@ drawn_grow (Did act ∷ later) log =
     (i.0 ++ stamp_of act, ap (λ xs. xs ++ stamp_of act) i.1 ∙ append_assoc (drawn_so_far log) i.0 (stamp_of act))
 
 -- what was handed has pushed the clock
-up_le : (a b c : ℕ) → a ≤ b → b ≤ c → a ≤ c
+pub up_le : (a b c : ℕ) → a ≤ b → b ≤ c → a ≤ c
 up_le a b c p q = omega arith
 
 abbrev push : Msg → ℕ
@@ -143,16 +132,21 @@ low g k t c j full later log q a cm x front i run small h e between p =
     let fair = each_at (IsFair s) x.later (Did held) x.before (subst (Each (IsFair s)) x.is (t_fair g (tm_no t) log h.1)) in
     let idle : active s c x.before ≡ None = held_idle s table.0.0 x.before x.to x.time x.hand table.0.1 j c run in
     let to_u : x.to ≡ U = (hold_rule s table.0.0 x.before held table.0.1).2 in
-    let by = committed_by s c (front ++ x.later) cm.later st.later st.before x.before cm.before between a start (Did (commit_act g.catalogue cm.bases c a)) (Did held) (sym cm.is ∙ e) cm.active_is st.is st.none_since p idle in
-    let there : lt ≡ (x.later ++ Did held ∷ by.0) ++ Did (commit_act g.catalogue cm.bases c a) ∷ cm.before = x.is ∙ ap (λ l. x.later ++ Did held ∷ l) by.1 ∙ sym (append_assoc x.later (Did held ∷ by.0) (Did (commit_act g.catalogue cm.bases c a) ∷ cm.before)) in
+    let by = committed_by s c (front ++ x.later) cm.later st.later st.before x.before cm.before between a start (Did (commit_act g.catalogue cm.bases c a))
+    (Did held) (sym cm.is ∙ e) cm.active_is st.is st.none_since p idle in
+    let there : lt ≡ (x.later ++ Did held ∷ by.0) ++ Did (commit_act g.catalogue cm.bases c a) ∷ cm.before = x.is ∙ ap (λ l. x.later ++ Did held ∷ l) by.1
+    ∙ sym (append_assoc x.later (Did held ∷ by.0) (Did (commit_act g.catalogue cm.bases c a) ∷ cm.before)) in
     let time : x.time.0 ≡ bound s x.before = held_time s x.before x.to x.time x.hand fair.0 in
-    let one : slice_get (to_site U (sends_of_act held)) 0 ≡ Some (Held x.time) = subst (λ y. slice_get (to_site U ((y, Held x.time) ∷ [])) 0 ≡ Some (Held x.time)) (sym to_u) refl in
+    let one : slice_get (to_site U (sends_of_act held)) 0 ≡ Some (Held x.time) = subst
+    (λ y. slice_get (to_site U ((y, Held x.time) ∷ [])) 0 ≡ Some (Held x.time)) (sym to_u) refl in
     let put0 = is_put U x.later held x.before 0 (Held x.time) one in
     let put : slice_get (puts_to U lt) put0.0 ≡ Some (Held x.time) = subst (λ l. slice_get (puts_to U l) put0.0 ≡ Some (Held x.time)) (sym x.is) put0.1 in
     let su = at_start g k t log q i h in
     let first = in_order g log at U h.1 in
-    let all : tally is_a_held (take (handed at U log) (puts_to U lt)) ≡ tally is_a_held (puts_to U lt) = ap (tally is_a_held) (sym first) ∙ sym (handed_helds t lu) ∙ su.got ∙ sym su.sent ∙ t_helds s lt (t_table g (tm_no t) log h.1) in
-    let got : slice_get (hands_from at lu) put0.0 ≡ Some (Held x.time) = subst (λ ms. slice_get ms put0.0 ≡ Some (Held x.time)) (sym first) (in_first is_a_held (handed at U log) (puts_to U lt) put0.0 (Held x.time) all put refl) in
+    let all : tally is_a_held (take (handed at U log) (puts_to U lt)) ≡ tally is_a_held (puts_to U lt) = ap (tally is_a_held) (sym first)
+    ∙ sym (handed_helds t lu) ∙ su.got ∙ sym su.sent ∙ t_helds s lt (t_table g (tm_no t) log h.1) in
+    let got : slice_get (hands_from at lu) put0.0 ≡ Some (Held x.time) = subst (λ ms. slice_get ms put0.0 ≡ Some (Held x.time)) (sym first)
+    (in_first is_a_held (handed at U log) (puts_to U lt) put0.0 (Held x.time) all put refl) in
     let clk : x.time.0 / 64 ≤ (clock U lu).ticks = has_pushed U at lu put0.0 (Held x.time) got in
     let grew = clock_grows at between (start ∷ st.before) in
     let lo : (clock at st.before).ticks + 1 ≤ (clock at x.before).ticks = subst (λ l. (clock at st.before).ticks + 1 ≤ (clock at l).ticks) (sym p) grew in
@@ -176,10 +170,13 @@ high g k t c full later log q a cm x i h e between p =
     let st = cm.start in
     let act : Act = start_at s c st.before st.queued in
     let held : Act = Sends x.to (Held x.time) x.hand in
-    let whole : local_of g at full ≡ (cm.later ++ Did (commit_act g.catalogue cm.bases c a) ∷ st.later) ++ Did act ∷ st.before = cm.is ∙ ap (λ l. cm.later ++ Did (commit_act g.catalogue cm.bases c a) ∷ l) st.is ∙ sym (append_assoc cm.later (Did (commit_act g.catalogue cm.bases c a) ∷ st.later) (Did act ∷ st.before)) in
+    let whole : local_of g at full ≡ (cm.later ++ Did (commit_act g.catalogue cm.bases c a) ∷ st.later) ++ Did act ∷ st.before = cm.is
+    ∙ ap (λ l. cm.later ++ Did (commit_act g.catalogue cm.bases c a) ∷ l) st.is
+    ∙ sym (append_assoc cm.later (Did (commit_act g.catalogue cm.bases c a) ∷ st.later) (Did act ∷ st.before)) in
     let lifted = place_of_act g at full (cm.later ++ Did (commit_act g.catalogue cm.bases c a) ∷ st.later) act st.before whole in
     let hs : IsPermitted g lifted.rest = (permitted_before g lifted.later (Does at act ∷ lifted.rest) (subst (IsPermitted g) lifted.is h)).1 in
-    let table = each_at (IsFairT s) (cm.later ++ Did (commit_act g.catalogue cm.bases c a) ∷ st.later) (Did act) st.before (subst (Each (IsFairT s)) whole (t_table g (tm_no t) full h)) in
+    let table = each_at (IsFairT s) (cm.later ++ Did (commit_act g.catalogue cm.bases c a) ∷ st.later) (Did act) st.before
+    (subst (Each (IsFairT s)) whole (t_table g (tm_no t) full h)) in
     let off = start_off s table.0.0 st.before c st.queued table.0.1 in
     let owed = (still s st.before table.1).owed in
     let grew = helds_grow between (Did held ∷ x.before) in
@@ -199,33 +196,39 @@ high g k t c full later log q a cm x i h e between p =
     let clk : got.0 / 64 ≤ (clock at st.before).ticks = subst (λ l. got.0 / 64 ≤ (clock at l).ticks) same (subst (λ y. y / 64 ≤ (clock at lt).ticks) pm clk0) in
     let stamp : a.ts ≡ ((clock at st.before).ticks + 1) * 64 + number_of at = st.ts_is ∙ stamp_ticks s st.before in
     let ps : List Msg = puts_to at lu in
-    let parts : release_times ps ≡ release_times hd ++ release_times (drop (handed U at lifted.rest) ps) = ap release_times (sym (take-append-drop (handed U at lifted.rest) ps)) ∙ filter_map-append release_time (take (handed U at lifted.rest) ps) (drop (handed U at lifted.rest) ps) ∙ ap (λ l. release_times l ++ release_times (drop (handed U at lifted.rest) ps)) (sym first) in
-    let in_puts : slice_get (release_times ps) n ≡ Some got.0 = subst (λ l. slice_get l n ≡ Some got.0) (sym parts) (in_left (release_times hd) (release_times (drop (handed U at lifted.rest) ps)) n got.0 got.1) in
+    let parts : release_times ps ≡ release_times hd ++ release_times (drop (handed U at lifted.rest) ps) = ap release_times
+    (sym (take-append-drop (handed U at lifted.rest) ps)) ∙ filter_map-append release_time (take (handed U at lifted.rest) ps)
+    (drop (handed U at lifted.rest) ps) ∙ ap (λ l. release_times l ++ release_times (drop (handed U at lifted.rest) ps)) (sym first) in
+    let in_puts : slice_get (release_times ps) n ≡ Some got.0 = subst (λ l. slice_get l n ≡ Some got.0) (sym parts)
+    (in_left (release_times hd) (release_times (drop (handed U at lifted.rest) ps)) n got.0 got.1) in
     let sv = serving su k t lu i (u_table g lifted.rest hs) in
     let in_drawn = in_taken (drawn_so_far lu) (counts t lu).releases n got.0 (subst (λ l. slice_get l n ≡ Some got.0) sv.released in_puts) in
     let f1 = local_grows g U (lifted.later ++ Does at act ∷ []) lifted.rest in
     let full1 : local_of g U full ≡ f1.0 ++ lu = ap (local_of g U) (lifted.is ∙ sym (append_assoc lifted.later (Does at act ∷ []) lifted.rest)) ∙ f1.1 in
     let d1 = drawn_grow f1.0 lu in
-    let here : slice_get (drawn_so_far (local_of g U full)) n ≡ Some got.0 = subst (λ l. slice_get l n ≡ Some got.0) (sym (ap drawn_so_far full1 ∙ d1.1)) (in_left (drawn_so_far lu) d1.0 n got.0 in_drawn.0) in
+    let here : slice_get (drawn_so_far (local_of g U full)) n ≡ Some got.0 = subst (λ l. slice_get l n ≡ Some got.0) (sym (ap drawn_so_far full1 ∙ d1.1))
+    (in_left (drawn_so_far lu) d1.0 n got.0 in_drawn.0) in
     let f2 = local_grows g U later (Does U (start_u g log q) ∷ log) in
-    let full2 : local_of g U full ≡ f2.0 ++ Did (start_u g log q) ∷ local_of g U log = ap (local_of g U) e ∙ f2.1 ∙ ap (λ l. f2.0 ++ l) (own_act g U (start_u g log q) log) in
+    let full2 : local_of g U full ≡ f2.0 ++ Did (start_u g log q) ∷ local_of g U log = ap (local_of g U) e ∙ f2.1
+    ∙ ap (λ l. f2.0 ++ l) (own_act g U (start_u g log q) log) in
     let d2 = drawn_grow f2.0 (Did (start_u g log q) ∷ local_of g U log) in
     let hu : IsPermitted g log = (permitted_before g later (Does U (start_u g log q) ∷ log) (subst (IsPermitted g) e h)).1 in
     let cu = serving su k t (local_of g U log) i (u_table g log hu) in
     let own : slice_get (drawn_so_far (Did (start_u g log q) ∷ local_of g U log)) n ≡ Some ts = end_at (drawn_so_far (local_of g U log)) n ts cu.counted in
-    let there : slice_get (drawn_so_far (local_of g U full)) n ≡ Some ts = subst (λ l. slice_get l n ≡ Some ts) (sym (ap drawn_so_far full2 ∙ d2.1)) (in_left (drawn_so_far (Did (start_u g log q) ∷ local_of g U log)) d2.0 n ts own) in
+    let there : slice_get (drawn_so_far (local_of g U full)) n ≡ Some ts = subst (λ l. slice_get l n ≡ Some ts) (sym (ap drawn_so_far full2 ∙ d2.1))
+    (in_left (drawn_so_far (Did (start_u g log q) ∷ local_of g U log)) d2.0 n ts own) in
     let is : got.0 ≡ ts = (let z : Some got.0 ≡ Some ts = sym here ∙ there in cc) in
     record {
       start = lifted;
-      above = subst (λ y. y < a.ts) is (above_ts (clock U (local_of g U log)).ticks (clock at st.before).ticks (number_of at) got.0 a.ts ts is (stamp_ticks su (local_of g U log)) clk stamp);
+      above = subst (λ y. y < a.ts) is
+          (above_ts (clock U (local_of g U log)).ticks (clock at st.before).ticks (number_of at) got.0 a.ts ts is (stamp_ticks su (local_of g U log)) clk stamp);
       released = in_drawn.1;
       dones = subst (λ y. g.catalogue.dms ≤ dones_of y lu) is (sv.done n got.0 in_drawn.1 in_drawn.0);
     }
 
 pub low_or_high : (g : Given) (k t c j : ℕ) (full later log : Log) (q : Queued) (a : Attempt) (cm : IsCommitT g t c full a)
     → slice_get (numbers_to g.catalogue.tms) k ≡ Some t → slice_get (runs (setting_of g (T (tm_no t)))) j ≡ Some c
-    → number_of (T (tm_no t)) ≤ 63
-    → IsPermitted g full → full ≡ later ++ Does U (start_u g log q) ∷ log
+    → number_of (T (tm_no t)) ≤ 63 → IsPermitted g full → full ≡ later ++ Does U (start_u g log q) ∷ log
     → IsLow g t c full log a cm (u_stamp g log) ⊎ IsHigh g t c full log a cm (u_stamp g log) (starts (local_of g U log))
 low_or_high g k t c j full later log q a cm i run small h e =
     let at : Site = T (tm_no t) in
@@ -237,8 +240,11 @@ low_or_high g k t c j full later log q a cm i run small h e =
     let held : Act = Sends x.to (Held x.time) x.hand in
     let start : Act = start_at s c st.before st.queued in
     let f = local_grows g at (later ++ Does U (start_u g log q) ∷ []) log in
-    let one : local_of g at full ≡ (f.0 ++ x.later) ++ Did held ∷ x.before = ap (local_of g at) (e ∙ sym (append_assoc later (Does U (start_u g log q) ∷ []) log)) ∙ f.1 ∙ ap (λ l. f.0 ++ l) x.is ∙ sym (append_assoc f.0 x.later (Did held ∷ x.before)) in
-    let two : local_of g at full ≡ (cm.later ++ Did (commit_act g.catalogue cm.bases c a) ∷ st.later) ++ Did start ∷ st.before = cm.is ∙ ap (λ l. cm.later ++ Did (commit_act g.catalogue cm.bases c a) ∷ l) st.is ∙ sym (append_assoc cm.later (Did (commit_act g.catalogue cm.bases c a) ∷ st.later) (Did start ∷ st.before)) in
+    let one : local_of g at full ≡ (f.0 ++ x.later) ++ Did held ∷ x.before = ap (local_of g at)
+    (e ∙ sym (append_assoc later (Does U (start_u g log q) ∷ []) log)) ∙ f.1 ∙ ap (λ l. f.0 ++ l) x.is ∙ sym (append_assoc f.0 x.later (Did held ∷ x.before)) in
+    let two : local_of g at full ≡ (cm.later ++ Did (commit_act g.catalogue cm.bases c a) ∷ st.later) ++ Did start ∷ st.before = cm.is
+    ∙ ap (λ l. cm.later ++ Did (commit_act g.catalogue cm.bases c a) ∷ l) st.is
+    ∙ sym (append_assoc cm.later (Did (commit_act g.catalogue cm.bases c a) ∷ st.later) (Did start ∷ st.before)) in
     elim (compare (cm.later ++ Did (commit_act g.catalogue cm.bases c a) ∷ st.later) (f.0 ++ x.later) (Did start) (Did held) st.before x.before (sym two ∙ one)) [
       | inl r ↦ (let z : Did start ≡ Did held = r.1 in let y : start ≡ held = cc in cc)
       | inr r ↦ elim r [

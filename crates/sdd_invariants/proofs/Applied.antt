@@ -1,26 +1,17 @@
 -- The split, said of records: a transaction of a condition's class that changes one of its fragments with a copy there is
 -- applied before the Answer exactly where its timestamp is below the condition's time.
-use Rattle.std.specs.List.{cons_option}
-use Rattle.std.specs.Prelude.{filter_map}
-use Rattle.std.proofs.Common.{ℕ, ◌++◌, ◌<◌, ◌==◌, ◌∙◌, ◌∷◌, ◌≡◌, ◌≢◌, ◌≤◌, List, None, Option, Some, [], ap, append_assoc, arith, cond, false, if◌then◌else◌, length, refl, slice_get, subst, suc, sym, true, zero}
-use Rattle.sdd_log.specs.All.{Act, Answer, Apply, Attempt, Bases, Change, Cond, D, Did, DmNo, Does, FragNo, Given, IsPermitted, Log, Msg, Null, Read, Rec, Records, Site, Ts, Write, class_no, commit_act, goes_through, local_of, number_of, pipe, same_site, setting_of, time_at, touches, txn_no}
+use Rattle.sdd_invariants.proofs.All.{Act, AllGt, Answer, Apply, Attempt, Bases, Change, Cond, D, Did, DmNo, Does, FragNo, Given, IsAnswerWith, IsApplied, IsOf, IsOfWrite, IsPermitted, IsStrict, List, Msg, None, Null, Option, Read, Rec, Records, Site, Some, Ts, Write, [], ap, append_assoc, arith, changes_to, class_in, class_no, class_puts, commit_act, cond, cons_option, false, filter_map, goes_through, home, if◌then◌else◌, length, local_of, number_of, pipe, pipe_at, place_within, puts_to, read_at, refl, results, same_site, setting_of, slice_get, subst, suc, sym, time_at, touches, true, txn_no, write_at, zero, ℕ, ◌++◌, ◌<◌, ◌==◌, ◌∙◌, ◌∷◌, ◌≡◌, ◌≢◌, ◌≤◌}
 use Rattle.sdd_invariants.proofs.Origins.{commit_writes, is_put}
 use Rattle.sdd_invariants.proofs.ReadsPut.{read_once}
 use Rattle.sdd_invariants.proofs.WritesPut.{written}
-use Rattle.sdd_invariants.specs.OnLinks.{read_at, write_at}
 use Rattle.sdd_invariants.proofs.Processed.{matched, zip_at, zip_back}
 use Rattle.sdd_invariants.proofs.InPipe.{in_pipe_later}
 use Rattle.sdd_invariants.proofs.Split.{processed_stays, processed_there, split}
-use Rattle.sdd_invariants.specs.Seen.{IsAnswerWith, IsApplied, changes_to, class_puts, pipe_at}
 use Rattle.sdd_invariants.proofs.Bools.{same_number}
-use Rattle.sdd_invariants.proofs.Lists.{place_within}
 use Rattle.sdd_invariants.proofs.Sites.{site_self}
-use Rattle.sdd_invariants.specs.Orders.{AllGt, IsStrict}
-use Rattle.sdd_invariants.specs.ReadSteps.{IsOf, IsOfWrite, results}
-use Rattle.sdd_invariants.specs.Steps.{home}
-use Rattle.sdd_invariants.specs.Traffic.{class_in, puts_to}
 use Rattle.sdd_invariants.proofs.Fair.{d_fair, home_fair}
 use Rattle.sdd_invariants.proofs.Made.{local_at, permitted_before}
+use Rattle.sdd_log.specs.All.{Log}
 use Rattle.sdd_log.specs.site_module.SiteLog as site
 
 pub in_class : (c : ℕ) (ms : List Msg) (k : ℕ) (m : Msg) → slice_get ms k ≡ Some m → goes_through c m ≡ true
@@ -90,12 +81,14 @@ no_read c _ e = refl
 pub writes_strict : (g : Given) (c : ℕ) (d : DmNo) (log : Log) → IsPermitted g log → number_of (home g.catalogue c) ≤ 63
     → IsStrict (filter_map (write_at c) (class_puts g c d log))
 writes_strict g c d log h small =
-    subst IsStrict (sym (same_keys c (write_at c) (puts_to (D d) (local_of g (home g.catalogue c) log)) (no_write c))) (written (setting_of g (home g.catalogue c)) c (D d) (local_of g (home g.catalogue c) log) small (home_fair g c log h)).strict
+    subst IsStrict (sym (same_keys c (write_at c) (puts_to (D d) (local_of g (home g.catalogue c) log)) (no_write c)))
+    (written (setting_of g (home g.catalogue c)) c (D d) (local_of g (home g.catalogue c) log) small (home_fair g c log h)).strict
 
 pub reads_strict : (g : Given) (c : ℕ) (d : DmNo) (log : Log) → IsPermitted g log → number_of (home g.catalogue c) ≤ 63
     → IsStrict (filter_map (read_at c) (class_puts g c d log))
 reads_strict g c d log h small =
-    subst IsStrict (sym (same_keys c (read_at c) (puts_to (D d) (local_of g (home g.catalogue c) log)) (no_read c))) (read_once (setting_of g (home g.catalogue c)) c (D d) (local_of g (home g.catalogue c) log) small (home_fair g c log h)).strict
+    subst IsStrict (sym (same_keys c (read_at c) (puts_to (D d) (local_of g (home g.catalogue c) log)) (no_read c)))
+    (read_once (setting_of g (home g.catalogue c)) c (D d) (local_of g (home g.catalogue c) log) small (home_fair g c log h)).strict
 
 -- a record of a WRITE belongs to a WRITE of that time and class
 pub of_write : (ts : Ts) (c txn : ℕ) (r : Rec) (m : Msg) → IsOfWrite ts c txn r → IsOf r m → write_at c m ≡ Some ts.0
@@ -130,7 +123,8 @@ commit_there g d j later log bases a lo hi t =
     let s = local_at g at later log (Does at act) (Did act) (own_made at act) in
     let k = commit_writes (setting_of g at) j bases a d.0 lo hi t in
     let p = is_put (D d) s.0 act (local_of g at log) k.0 w k.1 in
-    let there : slice_get (puts_to (D d) (local_of g at (later ++ Does at act ∷ log))) p.0 ≡ Some w = subst (λ l. slice_get (puts_to (D d) l) p.0 ≡ Some w) (sym s.1) p.1 in
+    let there : slice_get (puts_to (D d) (local_of g at (later ++ Does at act ∷ log))) p.0 ≡ Some w = subst (λ l. slice_get (puts_to (D d) l) p.0 ≡ Some w)
+    (sym s.1) p.1 in
     in_class j (puts_to (D d) (local_of g at (later ++ Does at act ∷ log))) p.0 w there (same_number j)
 
 -- applied exactly where its WRITE stands among the processed ones
@@ -144,8 +138,10 @@ applied_processed g d j later log a i n xs h small there x =
     let m = matched (setting_of g (D d)) j l (d_fair g d log before) in
     let more = in_pipe_later g j d later log before in
     let z = zip_back IsOf (results j l) (pipe j l).processed x.place x.rec m.matched x.there in
-    let at : slice_get (class_puts g j d (later ++ log)) x.place ≡ Some z.0 = subst (λ ms. slice_get ms x.place ≡ Some z.0) (sym more.1) (processed_stays (pipe j l) more.0 x.place z.0 z.1) in
-    let k : x.place ≡ i = one_of_key (write_at j) (class_puts g j d (later ++ log)) x.place i z.0 (Write (time_at a.ts) (class_no j) (txn_no n) xs) a.ts (writes_strict g j d (later ++ log) h small) at there (of_write (time_at a.ts) j a.txn x.rec z.0 x.is z.2) (write_own j a.ts n xs) in
+    let at : slice_get (class_puts g j d (later ++ log)) x.place ≡ Some z.0 = subst (λ ms. slice_get ms x.place ≡ Some z.0) (sym more.1)
+    (processed_stays (pipe j l) more.0 x.place z.0 z.1) in
+    let k : x.place ≡ i = one_of_key (write_at j) (class_puts g j d (later ++ log)) x.place i z.0 (Write (time_at a.ts) (class_no j) (txn_no n) xs) a.ts
+    (writes_strict g j d (later ++ log) h small) at there (of_write (time_at a.ts) j a.txn x.rec z.0 x.is z.2) (write_own j a.ts n xs) in
     subst (λ y. y < length (pipe j l).processed) k (place_within (pipe j l).processed x.place z.0 z.1)
 
 pub processed_applied : (g : Given) (d : DmNo) (j : ℕ) (later log : Log) (a : Attempt) (i : ℕ) (xs : List Change)
@@ -165,8 +161,7 @@ processed_applied g d j later log a i xs h there lt =
 -- at an Answer with the condition q, of a transaction of its class that is committed anywhere in the log
 pub split_applied : (g : Given) (d : DmNo) (q : Cond) (act : Act) (later log later2 log2 : Log) (bases : Bases) (a : Attempt)
     → IsPermitted g (later ++ Does (D d) act ∷ log) → number_of (home g.catalogue q.class.0) ≤ 63 → 1 ≤ d.0
-    → d.0 ≤ g.catalogue.dms
-    → IsAnswerWith g log d q act → q.class.0 ≢ 0
+    → d.0 ≤ g.catalogue.dms → IsAnswerWith g log d q act → q.class.0 ≢ 0
     → later ++ Does (D d) act ∷ log ≡ later2 ++ Does (home g.catalogue q.class.0) (commit_act g.catalogue bases q.class.0 a) ∷ log2
     → touches q.frags (changes_to g bases a d) ≡ true
     → (IsApplied g log d q.class.0 a → a.ts < q.time.0) × (a.ts < q.time.0 → IsApplied g log d q.class.0 a)
@@ -179,11 +174,16 @@ split_applied g d q act later log later2 log2 bases a h small lo hi r declared s
     let whole : (later ++ Does (D d) act ∷ []) ++ log ≡ full = append_assoc later (Does (D d) act ∷ []) log in
     let found = commit_there g d j later2 log2 bases a lo hi (touched_some q.frags xs t) in
     let there : slice_get (class_puts g j d full) found.0 ≡ Some w = subst (λ x. slice_get (class_puts g j d x) found.0 ≡ Some w) (sym same) found.1 in
-    let h2 : IsPermitted g (later ++ Does (D d) (Records r.class (Answer r.txn r.attempt r.module_no) r.sends) ∷ log) = subst (λ x. IsPermitted g (later ++ Does (D d) x ∷ log)) r.act_is h in
-    let there2 : slice_get (class_puts g j d (later ++ Does (D d) (Records r.class (Answer r.txn r.attempt r.module_no) r.sends) ∷ log)) found.0 ≡ Some w = subst (λ x. slice_get (class_puts g j d (later ++ Does (D d) x ∷ log)) found.0 ≡ Some w) r.act_is there in
+    let h2 : IsPermitted g (later ++ Does (D d) (Records r.class (Answer r.txn r.attempt r.module_no) r.sends) ∷ log) = subst
+    (λ x. IsPermitted g (later ++ Does (D d) x ∷ log)) r.act_is h in
+    let there2 : slice_get
+    (class_puts g j d (later ++ Does (D d) (Records r.class (Answer r.txn r.attempt r.module_no) r.sends) ∷ log)) found.0 ≡ Some w = subst
+    (λ x. slice_get (class_puts g j d (later ++ Does (D d) x ∷ log)) found.0 ≡ Some w) r.act_is there in
     let h3 : IsPermitted g ((later ++ Does (D d) act ∷ []) ++ log) = subst (IsPermitted g) (sym whole) h in
-    let there3 : slice_get (class_puts g j d ((later ++ Does (D d) act ∷ []) ++ log)) found.0 ≡ Some w = subst (λ x. slice_get (class_puts g j d x) found.0 ≡ Some w) (sym whole) there in
-    let parts = split g later log d q r.class r.txn r.attempt r.module_no r.sends r.ts r.of r.reader r.tries r.conds r.uses r.place found.0 (time_at a.ts) (class_no j) (txn_no a.txn) xs h2 small r.head_is r.there declared there2 t in (
+    let there3 : slice_get (class_puts g j d ((later ++ Does (D d) act ∷ []) ++ log)) found.0 ≡ Some w = subst
+    (λ x. slice_get (class_puts g j d x) found.0 ≡ Some w) (sym whole) there in
+    let parts = split g later log d q r.class r.txn r.attempt r.module_no r.sends r.ts r.of r.reader r.tries r.conds r.uses r.place found.0 (time_at a.ts)
+    (class_no j) (txn_no a.txn) xs h2 small r.head_is r.there declared there2 t in (
       (λ x. parts.0 (applied_processed g d j (later ++ Does (D d) act ∷ []) log a found.0 a.txn xs h3 small there3 x)),
       (λ lt. processed_applied g d j (later ++ Does (D d) act ∷ []) log a found.0 xs h3 there3 (parts.1 lt)),
     )

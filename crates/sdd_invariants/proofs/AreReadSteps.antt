@@ -1,12 +1,6 @@
 -- What is due at a data module is a step.
-use Rattle.std.specs.List.{list_all}
-use Rattle.std.proofs.Common.{ℕ, ◌∷◌, ◌≡◌, ◌≤◌, Bool, List, None, Option, Some, [], arith, false, filter, if◌then◌else◌, inl, inr, length, map, refl, slice_get, subst, suc, sym, true}
-use Rattle.std.proofs.lemmas.List.{get_or_past}
-use Rattle.std.proofs.lemmas.List.FromFn.{get_or-map-range_with_len, length-map-range_with_len}
-use Rattle.sdd_log.specs.All.{Act, Change, ClassNo, ClassView, Cond, Fetch, Home, IsDue, Msg, Null, Open, Processes, Read, Reduce, Setting, Ship, Ts, TxnNo, Use, Write, act_by, act_where, answer_of, answer_to, at_class, by_head, by_open, class_view, classes_of, empty_pipe, head, head_due, head_of, home_of, is_asked_of, is_held, is_met, judged, lacking, pipe, step_on, view_of, waits}
-use Rattle.sdd_log.specs.site_module.SiteLog.{Log}
-use Rattle.sdd_invariants.proofs.Lists.{in_mapped, in_range, nothing_left}
-use Rattle.sdd_invariants.specs.ReadSteps.{IsClassHere, IsReadStep, IsReadWith, by_record, by_wait, in_passing, spoiler}
+use Rattle.sdd_invariants.proofs.All.{Act, Bool, Change, ClassNo, ClassView, Cond, Fetch, Home, IsClassHere, IsDue, IsReadStep, IsReadWith, List, Log, Msg, None, Null, Open, Option, Processes, Read, Reduce, Setting, Ship, Some, Ts, TxnNo, Use, Write, [], act_by, act_where, answer_of, answer_to, arith, at_class, by_head, by_open, by_record, by_wait, class_view, classes_of, empty_pipe, false, filter, get_or-map-range_with_len, get_or_past, head, head_due, head_of, home_of, if◌then◌else◌, in_mapped, in_passing, inl, inr, is_asked_of, is_held, is_met, judged, lacking, length, length-map-range_with_len, list_all, map, pipe, refl, slice_get, spoiler, step_on, subst, suc, sym, true, view_of, waits, ℕ, ◌∷◌, ◌≡◌, ◌≤◌}
+use Rattle.sdd_invariants.proofs.Lists.{in_range, nothing_left}
 
 abbrev pub no_class : ClassView
 no_class = record { class = 0; pipe = empty_pipe; waits = false; applied = []; frozen = None }
@@ -19,7 +13,8 @@ class_in_view s log c h =
 pub class_not_in_view : (s : Setting) (log : Log) (c : ℕ) → suc (length s.catalogue.classes) ≤ c
     → at_class (view_of s log) c ≡ no_class
 class_not_in_view s log c h =
-    let l : length (map (class_view s log) (classes_of s)) ≡ suc (length s.catalogue.classes) = length-map-range_with_len (class_view s log) 0 (suc (length s.catalogue.classes)) in
+    let l : length (map (class_view s log) (classes_of s)) ≡ suc (length s.catalogue.classes) = length-map-range_with_len (class_view s log) 0
+    (suc (length s.catalogue.classes)) in
     get_or_past (map (class_view s log) (classes_of s)) c no_class (omega arith)
 
 -- a class of the view, by its place
@@ -48,8 +43,7 @@ asked_step s log h k (Some o) a e = open_step s log h k o o.msg a e
 
 -- a READ that doesn't wait, by what it lacks and what spoils it
 judged_step : (s : Setting) (log : Log) (c : ℕ) (ts : Ts) (class : ClassNo) (txn : TxnNo) (attempt : ℕ) (conds : List Cond) (uses : List Use) (lacking : List Cond) (by : Option Cond) (a : Act)
-    → IsClassHere s c → waits c log ≡ false
-    → head (pipe c log) ≡ Some (Read ts class txn attempt conds uses)
+    → IsClassHere s c → waits c log ≡ false → head (pipe c log) ≡ Some (Read ts class txn attempt conds uses)
     → (lacking ≡ [] → list_all (is_met (view_of s log)) conds ≡ true) → spoiler (view_of s log) conds ≡ by
     → Some (act_by (home_of s) (view_of s log) c (Read ts class txn attempt conds uses) (judged (view_of s log) lacking by)) ≡ Some a
     → IsReadStep s log a

@@ -1,13 +1,8 @@
 -- What is due at a transaction module or at U is a step.
-use Rattle.std.specs.Prelude.{is_none}
-use Rattle.std.proofs.Common.{ℕ, ◌&&◌, ◌<◌, ◌==◌, ◌∙◌, ◌∷◌, ◌≡◌, Bool, List, None, Option, Some, [], ap, arith, false, if◌then◌else◌, length, map, nat_le, not, refl, slice_get, subst, sym, true}
-use Rattle.std.proofs.lemmas.Bool.{eqb-true}
-use Rattle.sdd_log.specs.All.{Act, Attempt, Bases, D, Held, Hold, Msg, Null, Queued, Release, Sends, Setting, Site, T, TmNo, Ts, U, active, attempt_due, class_at, class_no, commit_act, dm_no, first_send, head_of, is_over, number_of, numbers_to, or_else, queue, time_at}
-use Rattle.sdd_log.specs.site_module.SiteLog.{Log}
+use Rattle.sdd_invariants.proofs.All.{Act, Attempt, Bases, Bool, D, Held, Hold, IsServed, IsStep, List, Log, Msg, None, Null, Option, Queued, Release, Sends, Setting, Site, Some, T, TmNo, Ts, U, [], a_held, a_hold, a_null, a_release, active, ap, arith, attempt_due, bound, by_commit, by_send, by_start, class_at, class_no, commit_act, dm_no, eqb-true, false, first_send, head_of, home, if◌then◌else◌, in_mapped, is_none, is_over, length, limit, limit_of, map, nat_le, not, number_of, numbers_to, of_exchange, or_else, queue, refl, slice_get, start_at, subst, sym, time_at, true, ℕ, ◌&&◌, ◌<◌, ◌==◌, ◌∙◌, ◌∷◌, ◌≡◌}
 use Rattle.sdd_invariants.proofs.Bools.{not_zero}
 use Rattle.sdd_invariants.proofs.Exchanges.{asks_next, not_reading}
-use Rattle.sdd_invariants.proofs.Lists.{in_filtered, in_mapped, in_range}
-use Rattle.sdd_invariants.specs.Steps.{IsServed, IsStep, a_held, a_hold, a_null, a_release, bound, by_commit, by_send, by_start, home, limit, limit_of, of_exchange, start_at}
+use Rattle.sdd_invariants.proofs.Lists.{in_filtered, in_range}
 use Rattle.sdd_log.specs.tm.Due as tm
 use Rattle.sdd_log.specs.tm.Views as tm_views
 use Rattle.sdd_log.specs.umod.Due as um
@@ -110,11 +105,12 @@ t_step s t bases log act at (tm.by_ask k n c q p r e) =
 t_step s t bases log act at (tm.by_hold e) = held_if s log _ _ act e
 t_step s t bases log act at (tm.by_start k c p e) =
     let v = class_of_view s t log k c at p in
-    start_if s log v.0 (not (tm_views.on_hold (tm_views.view_of s log))) (active s v.0 log) act v.1 refl (subst (λ w. tm.start_due s.catalogue (tm_views.view_of s log) w ≡ Some act) (sym v.2) e)
+    start_if s log v.0 (not (tm_views.on_hold (tm_views.view_of s log))) (active s v.0 log) act v.1 refl
+    (subst (λ w. tm.start_due s.catalogue (tm_views.view_of s log) w ≡ Some act) (sym v.2) e)
 
 -- U: there a Start is due where the queue's head has none, so class 0 is idle
 
-idle_of : (o : Option Attempt) (qs : List Queued) (q : Queued) → IsServed o qs → head_of qs ≡ Some q → (q.tries == 0) ≡ true
+pub idle_of : (o : Option Attempt) (qs : List Queued) (q : Queued) → IsServed o qs → head_of qs ≡ Some q → (q.tries == 0) ≡ true
     → o ≡ None
 idle_of None qs q h e z = refl
 idle_of (Some a) [] q h e z = absurd h

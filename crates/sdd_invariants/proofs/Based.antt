@@ -1,8 +1,5 @@
 -- A Commit that is due has the reply and the changes of the effect on the database that is given for its attempt.
-use Rattle.std.proofs.Common.{ℕ, ◌&&◌, ◌==◌, ◌∷◌, ◌≡◌, Bool, List, None, Option, Some, [], false, if◌then◌else◌, not, refl, subst, sym, true}
-use Rattle.sdd_log.specs.All.{Act, Attempt, Bases, D, Held, Hold, Msg, Null, Queued, Release, Sends, Setting, Site, Ticking, Ts, U, active, attempt_due, class_no, commit_act, dm_no, first_send, head_of, is_over, or_else, queue, start_act, time_at}
-use Rattle.sdd_invariants.specs.Causes.{IsBased}
-use Rattle.sdd_invariants.proofs.Lists.{in_mapped}
+use Rattle.sdd_invariants.proofs.All.{Act, Attempt, Bases, Bool, D, Held, Hold, IsBased, List, Msg, None, Null, Option, Queued, Release, Sends, Setting, Site, Some, Ticking, Ts, U, [], active, attempt_due, class_no, commit_act, dm_no, false, first_send, head_of, if◌then◌else◌, in_mapped, is_over, not, or_else, queue, refl, start_act, subst, sym, time_at, true, ℕ, ◌&&◌, ◌==◌, ◌∷◌, ◌≡◌}
 use Rattle.sdd_log.specs.site_module.SiteLog as site
 use Rattle.sdd_log.specs.tm.Due as tm
 use Rattle.sdd_log.specs.tm.Views as tm_views

@@ -1,16 +1,9 @@
 -- Tests, and numbers that are the same or not.
-use Rattle.std.proofs.Common.{ℕ, ◌&&◌, ◌<◌, ◌==◌, ◌||◌, ◌≡◌, ◌≤◌, ◌⊎◌, Bool, None, Option, Some, arith, eq-eqb, false, if◌then◌else◌, inl, inr, refl, subst, suc, true}
-use Rattle.std.proofs.Math.Decide.{dec_le}
-use Rattle.std.proofs.lemmas.Bool.{eqb-true}
+use Rattle.sdd_invariants.proofs.All.{Bool, None, Option, Some, arith, dec_le, eq-eqb, eqb-true, false, if◌then◌else◌, inl, inr, refl, subst, suc, true, ℕ, ◌&&◌, ◌<◌, ◌==◌, ◌||◌, ◌≡◌, ◌≤◌, ◌⊎◌}
 
 pub if_way : {A : Type 0} (P : A → Type 0) (b : Bool) (x y : A) → P x → P y → P (if b then x else y)
 if_way P true x y h k = h
 if_way P false x y h k = k
-
-pub both : (a b : Bool) → a ≡ true → b ≡ true → (a && b) ≡ true
-both true true e f = refl
-both true false e f = cc
-both false b e f = cc
 
 pub and_left : (a b : Bool) → (a && b) ≡ true → a ≡ true
 and_left true b e = refl
@@ -19,14 +12,6 @@ and_left false b e = cc
 pub and_right : (a b : Bool) → (a && b) ≡ true → b ≡ true
 and_right true b e = e
 and_right false b e = cc
-
-pub or_left : (a b : Bool) → a ≡ true → (a || b) ≡ true
-or_left true b e = refl
-or_left false b e = cc
-
-pub or_right : (a b : Bool) → b ≡ true → (a || b) ≡ true
-or_right true b e = refl
-or_right false b e = e
 
 pub neither_left : (a b : Bool) → (a || b) ≡ false → a ≡ false
 neither_left true b e = cc

@@ -1,18 +1,13 @@
 -- Within a class a module processes in the order of times.
-use Rattle.std.proofs.Common.{ℕ, ◌++◌, ◌<◌, ◌∷◌, ◌≡◌, ◌≤◌, List, Some, [], arith, length, map, slice_get, subst, suc, sym, zero}
-use Rattle.std.proofs.Math.Decide.{dec_le}
-use Rattle.sdd_log.specs.All.{D, DmNo, Given, IsPermitted, Log, Msg, head, head_of, local_of, number_of, setting_of, time_of}
+use Rattle.sdd_invariants.proofs.All.{AllGe, D, DmNo, Given, IsPermitted, IsRising, List, Msg, Some, [], arith, class_puts, dec_le, head, head_of, home, in_left, length, local_of, map, number_of, pipe_at, puts_to, setting_of, slice_get, subst, suc, sym, time_of, zero, ℕ, ◌++◌, ◌<◌, ◌∷◌, ◌≡◌, ◌≤◌}
 use Rattle.sdd_invariants.proofs.Times.{timed}
 use Rattle.sdd_invariants.proofs.InPipe.{in_pipe_later, times_are}
-use Rattle.sdd_invariants.specs.Seen.{class_puts, pipe_at}
-use Rattle.sdd_invariants.proofs.Lists.{at_seam, in_left}
-use Rattle.sdd_invariants.specs.Orders.{AllGe, IsRising}
-use Rattle.sdd_invariants.specs.Steps.{home}
-use Rattle.sdd_invariants.specs.Traffic.{puts_to}
+use Rattle.sdd_invariants.proofs.Lists.{at_seam}
 use Rattle.sdd_invariants.proofs.Fair.{home_fair}
 use Rattle.sdd_invariants.proofs.Made.{permitted_before}
+use Rattle.sdd_log.specs.All.{Log}
 
-ge_at : (k : ℕ) (ms : List Msg) (b : ℕ) (y : Msg) → AllGe k (map time_of ms) → slice_get ms b ≡ Some y → k ≤ time_of y
+pub ge_at : (k : ℕ) (ms : List Msg) (b : ℕ) (y : Msg) → AllGe k (map time_of ms) → slice_get ms b ≡ Some y → k ≤ time_of y
 ge_at k [] b y h e = cc
 ge_at k (m ∷ ms) zero y h e = let p : m ≡ y = cc in subst (λ x. k ≤ time_of x) p h.0
 ge_at k (m ∷ ms) (suc b) y h e = ge_at k ms b y h.1 e
@@ -37,7 +32,8 @@ earlier ms a b t x y h e f l k = elim (dec_le b a) [
 pub class_rises : (g : Given) (c : ℕ) (d : DmNo) (log : Log) → IsPermitted g log → number_of (home g.catalogue c) ≤ 63
     → IsRising (map time_of (class_puts g c d log))
 class_rises g c d log h small =
-    subst IsRising (times_are c (puts_to (D d) (local_of g (home g.catalogue c) log))) (timed (setting_of g (home g.catalogue c)) c (D d) (local_of g (home g.catalogue c) log) small (home_fair g c log h)).rises
+    subst IsRising (times_are c (puts_to (D d) (local_of g (home g.catalogue c) log)))
+    (timed (setting_of g (home g.catalogue c)) c (D d) (local_of g (home g.catalogue c) log) small (home_fair g c log h)).rises
 
 pub in_class_order : (g : Given) (c : ℕ) (d : DmNo) (log : Log) (a b : ℕ) (x y : Msg) → IsPermitted g log
     → number_of (home g.catalogue c) ≤ 63 → slice_get (class_puts g c d log) a ≡ Some x
@@ -65,7 +61,8 @@ pub head_place : (g : Given) (c : ℕ) (d : DmNo) (later log : Log) (m : Msg) �
     → slice_get (class_puts g c d (later ++ log)) (length (pipe_at g c d log).processed) ≡ Some m
 head_place g c d later log m h e =
     let i = in_pipe_later g c d later log h in
-    subst (λ ms. slice_get ms (length (pipe_at g c d log).processed) ≡ Some m) (sym i.1) (head_at (pipe_at g c d log).processed (pipe_at g c d log).unprocessed i.0 m e)
+    subst (λ ms. slice_get ms (length (pipe_at g c d log).processed) ≡ Some m) (sym i.1)
+    (head_at (pipe_at g c d log).processed (pipe_at g c d log).unprocessed i.0 m e)
 
 -- at a head: of its class the messages with smaller times are processed, those with greater ones are not
 pub around_head : (g : Given) (c : ℕ) (d : DmNo) (later log : Log) (a : ℕ) (x m : Msg) → IsPermitted g (later ++ log)

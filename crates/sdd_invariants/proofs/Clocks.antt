@@ -1,13 +1,8 @@
 -- Starts draw timestamps that rise and lie above all that was promised before.
-use Rattle.std.proofs.Common.{ℕ, ◌*◌, ◌++◌, ◌+◌, ◌<◌, ◌==◌, ◌∙◌, ◌∷◌, ◌≡◌, ◌≢◌, ◌≤◌, Bool, List, None, Option, Some, [], arith, false, if◌then◌else◌, refl, slice_get, subst, suc, sym, true, zero}
-use Rattle.sdd_log.specs.All.{Act, Ask, Attempt, Did, Each, Entry, Fetch, Handed, Held, Msg, Null, Queued, Records, Redeclared, Reduce, Reject, Release, Sends, Setting, Ship, Site, Start, Submits, Ticked, Ticking, active, asks_rows, clock, head_of, number_of, pushed_by, queue, sends_of_act, started, ticked_by, time_at}
-use Rattle.sdd_log.specs.site_module.SiteLog.{Log}
-use Rattle.sdd_invariants.specs.Stamps.{AllOf, IsClocked, stamp_or}
+use Rattle.sdd_invariants.proofs.All.{Act, AllLe, AllOf, Ask, Attempt, Bool, Did, Each, Entry, Fetch, Handed, Held, IsClocked, IsFair, IsSend, IsStep, List, Log, Msg, None, Null, Option, Queued, Records, Redeclared, Reduce, Reject, Release, Sends, Setting, Ship, Site, Some, Start, Submits, Ticked, Ticking, [], a_held, a_hold, a_null, a_release, active, arith, asks_rows, bound, clock, false, head_of, if◌then◌else◌, last_stamp, limit, limit_of, next_stamp, number_of, of_exchange, promise_of, promises, pushed_by, queue, refl, sends_of_act, slice_get, stamp_or, stamps, start_at, started, subst, suc, sym, ticked_by, time_at, time_if_some, true, zero, ℕ, ◌*◌, ◌++◌, ◌+◌, ◌<◌, ◌==◌, ◌∙◌, ◌∷◌, ◌≡◌, ◌≢◌, ◌≤◌}
 use Rattle.sdd_invariants.proofs.Active.{handed_way, sent_way, step_way}
 use Rattle.sdd_invariants.proofs.Bools.{if_way}
 use Rattle.sdd_invariants.proofs.Lists.{le_join, le_up, lt_above}
-use Rattle.sdd_invariants.specs.Orders.{AllLe}
-use Rattle.sdd_invariants.specs.Steps.{IsFair, IsSend, IsStep, a_held, a_hold, a_null, a_release, bound, last_stamp, limit, limit_of, next_stamp, of_exchange, promise_of, promises, stamps, start_at, time_if_some}
 
 -- a clock keeps its number, and no entry lowers it
 
@@ -96,7 +91,8 @@ clock_start s c log q h =
     record {
       drawn_le = (omega arith, le_up (last_stamp s log) (next_stamp s log) (stamps log) (omega arith) h.drawn_le);
       falls = (lt_above (last_stamp s log) (next_stamp s log) (stamps log) (omega arith) h.drawn_le, h.falls);
-      promised_le = one_time (c == 0) (bound s (Did (start_at s c log q) ∷ log)) (bound s log) (promises log) up (le_up (bound s log) (bound s (Did (start_at s c log q) ∷ log)) (promises log) up h.promised_le);
+      promised_le = one_time (c == 0) (bound s (Did (start_at s c log q) ∷ log)) (bound s log) (promises log) up
+          (le_up (bound s log) (bound s (Did (start_at s c log q) ∷ log)) (promises log) up h.promised_le);
     }
 
 -- what an exchange sends carries no promise
@@ -130,7 +126,8 @@ drawn_act s log act i h = step_way s log act (λ x. IsDrawn s (Did x ∷ log))
     (λ k q at f e. λ c.
     let old : stamp_or (active s c log) ≤ last_stamp s log = h c in
     let new = stamp_started (next_stamp s log) (sends_of_act (start_at s k log q)) (head_of (queue s k log)) in
-    stamp_if (k == c) (next_stamp s log) _ (active s c log) (stamp_started (next_stamp s log) (sends_of_act (start_at s k log q)) (head_of (queue s c log))) (omega arith))
+    stamp_if (k == c) (next_stamp s log) _ (active s c log) (stamp_started (next_stamp s log) (sends_of_act (start_at s k log q)) (head_of (queue s c log)))
+    (omega arith))
     (λ k bases a at f. λ c. stamp_if (k == c) (last_stamp s log) None (active s c log) (omega arith) (h c))
     (λ to m hand f. drawn_sends s log to m hand h) i
 
@@ -187,7 +184,8 @@ stamp_is s log = let n = clock_number s.site log in omega arith
 of_act : (s : Setting) (log : Log) (act : Act) → IsStep s log act → AllOf (number_of s.site) (stamps log)
     → AllOf (number_of s.site) (stamps (Did act ∷ log))
 of_act s log act i h =
-    step_way s log act (λ x. AllOf (number_of s.site) (stamps (Did x ∷ log))) (λ c q at f e. (((clock s.site log).ticks, stamp_is s log), h)) (λ c bases a at f. h) (λ to m hand f. h) i
+    step_way s log act (λ x. AllOf (number_of s.site) (stamps (Did x ∷ log))) (λ c q at f e. (((clock s.site log).ticks, stamp_is s log), h))
+    (λ c bases a at f. h) (λ to m hand f. h) i
 
 pub of_site : (s : Setting) (log : Log) → Each (IsFair s) log → AllOf (number_of s.site) (stamps log)
 of_site s [] h = tt

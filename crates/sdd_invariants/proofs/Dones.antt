@@ -1,37 +1,20 @@
 -- Where as many DONEs for a timestamp were handed to U as there are data modules, each of these has an Apply of class 0 with it.
-use Rattle.std.specs.List.{range_with_len}
-use Rattle.std.specs.Prelude.{filter_map}
-use Rattle.std.proofs.Common.{ℕ, ◌++◌, ◌+◌, ◌<◌, ◌==◌, ◌∙◌, ◌∷◌, ◌≡◌, ◌≤◌, Bool, List, Option, Some, [], ap, arith, false, if◌then◌else◌, inl, inr, length, refl, slice_get, subst, suc, sym, take, true, zero}
-use Rattle.std.proofs.Math.Decide.{dec_le}
-use Rattle.std.proofs.lemmas.Bool.{eqb-true}
-use Rattle.std.proofs.lemmas.List.Elements.{filter_map-append}
-use Rattle.sdd_log.specs.All.{Act, Apply, Attempt, Bases, Change, ClassNo, D, Did, DmNo, Does, Done, Each, Given, Handed, IsPermitted, Log, Msg, Pipe, Records, Redeclared, Sends, Setting, Site, Submits, Ticked, Ts, TxnNo, U, Write, class_is, commit_act, dm_no, effect, goes_through, handed, head, head_of, head_processed, home_of, local_of, number_of, numbers_to, one_or_none, pipe, pipe_acted, same_site, sends_of_act, setting_of, write_to}
-use Rattle.sdd_log.proofs.EachLocal.{each_local}
-use Rattle.sdd_invariants.specs.Barrier.{HasApply}
+use Rattle.sdd_invariants.proofs.All.{Act, AllGt, Apply, Attempt, Bases, Bool, Change, ClassNo, D, Did, DmNo, Does, Done, Each, Given, Handed, HasApply, IsDoneBy, IsDueEach, IsPermitted, IsPutByD, IsStrict, IsWrite, List, Msg, Option, Pipe, Records, Redeclared, Sends, Setting, Site, Some, Submits, Ticked, Ts, TxnNo, U, Write, [], all_of, ap, arith, class_is, commit_act, dec_le, dm_no, dones_of, each_local, effect, eqb-true, false, filter_map, filter_map-append, goes_through, handed, hands_from, head, head_of, head_processed, home, home_of, if◌then◌else◌, in_left, inl, inr, is_done_of, length, local_of, number_of, numbers_to, one_if, one_or_none, pipe, pipe_acted, pipe_at, place_within, puts_to, range_with_len, refl, same_site, sends_of_act, setting_of, slice_get, subst, suc, sym, take, tally, to_site, true, write_at, write_to, writes_in, zero, ℕ, ◌++◌, ◌+◌, ◌<◌, ◌==◌, ◌∙◌, ◌∷◌, ◌≡◌, ◌≤◌}
 use Rattle.sdd_invariants.proofs.Turns.{tally_append, tally_take}
-use Rattle.sdd_invariants.specs.Releases.{dones_of, is_done_of}
-use Rattle.sdd_invariants.specs.Turns.{one_if, tally}
 use Rattle.sdd_invariants.proofs.WritesPut.{goes_write}
-use Rattle.sdd_invariants.specs.OnLinks.{write_at, writes_in}
-use Rattle.sdd_invariants.specs.Puts.{IsWrite}
 use Rattle.sdd_invariants.proofs.Processed.{own_record, processed_handed, processed_more}
 use Rattle.sdd_invariants.proofs.PutBy.{put_by_d}
-use Rattle.sdd_invariants.specs.PutsBy.{IsDoneBy, IsPutByD}
 use Rattle.sdd_invariants.proofs.Answered.{from_a_d, is_from_d, put_in_by_d}
 use Rattle.sdd_invariants.proofs.Installed.{head_put}
 use Rattle.sdd_invariants.proofs.Applied.{key_rises, writes_strict}
 use Rattle.sdd_invariants.proofs.InPipe.{in_pipe}
-use Rattle.sdd_invariants.specs.Seen.{all_of, pipe_at}
 use Rattle.sdd_invariants.proofs.Bools.{if_way, same_or_not}
-use Rattle.sdd_invariants.proofs.Lists.{at_seam, in_left, in_taken, place_within}
+use Rattle.sdd_invariants.proofs.Lists.{at_seam, in_taken}
 use Rattle.sdd_invariants.proofs.Sites.{GoesTo, site_self}
-use Rattle.sdd_invariants.specs.Orders.{AllGt, IsStrict}
-use Rattle.sdd_invariants.specs.ReadSteps.{IsDueEach}
-use Rattle.sdd_invariants.specs.Steps.{home}
-use Rattle.sdd_invariants.specs.Traffic.{hands_from, puts_to, to_site}
 use Rattle.sdd_invariants.proofs.Fair.{d_fair}
 use Rattle.sdd_invariants.proofs.InOrder.{hand_was_put, in_order}
 use Rattle.sdd_invariants.proofs.Made.{permitted_before}
+use Rattle.sdd_log.specs.All.{Log}
 use Rattle.sdd_log.specs.site_module.SiteLog as site
 
 -- lists
@@ -42,11 +25,11 @@ tally_at f (m ∷ ms) l = elim (f m) as (λ b. f m ≡ b → 0 < one_if b + tall
   | false ↦ λ p q. let i = tally_at f ms (omega arith) in (suc i.0, i.1, i.2, i.3)
 ] refl l
 
-gt_left : (k : ℕ) (xs ys : List ℕ) → AllGt k (xs ++ ys) → AllGt k xs
+pub gt_left : (k : ℕ) (xs ys : List ℕ) → AllGt k (xs ++ ys) → AllGt k xs
 gt_left k [] ys h = tt
 gt_left k (x ∷ xs) ys h = (h.0, gt_left k xs ys h.1)
 
-strict_left : (xs ys : List ℕ) → IsStrict (xs ++ ys) → IsStrict xs
+pub strict_left : (xs ys : List ℕ) → IsStrict (xs ++ ys) → IsStrict xs
 strict_left [] ys h = tt
 strict_left (x ∷ xs) ys h = (gt_left x xs ys h.0, strict_left xs ys h.1)
 
@@ -56,7 +39,8 @@ pub strict_pipe : (g : Given) (c : ℕ) (d : DmNo) (log : Log) → number_of (ho
 strict_pipe g c d log small h =
     let p = in_pipe g c d log h in
     let l : List Msg = all_of (pipe_at g c d log) in
-    strict_left (writes_in c l) (writes_in c p.0) (subst IsStrict (ap (writes_in c) p.1 ∙ filter_map-append (write_at c) l p.0) (writes_strict g c d log h small))
+    strict_left (writes_in c l) (writes_in c p.0)
+    (subst IsStrict (ap (writes_in c) p.1 ∙ filter_map-append (write_at c) l p.0) (writes_strict g c d log h small))
 
 abbrev IsStrictHere : site.Log → site.Entry → Type 0
 IsStrictHere log (Did act) =
@@ -107,11 +91,11 @@ one_at_most false = omega arith
 one_done : (x : ℕ) (t : Ts) → tally (is_done_of x) (to_site U ((U, Done t) ∷ [])) ≤ 1
 one_done x t = one_at_most (t.0 == x)
 
-next_in : (ps us : List Msg) (m : Msg) → head_of us ≡ Some m → slice_get (ps ++ us) (length ps) ≡ Some m
+pub next_in : (ps us : List Msg) (m : Msg) → head_of us ≡ Some m → slice_get (ps ++ us) (length ps) ≡ Some m
 next_in ps [] m e = cc
 next_in ps (y ∷ us) m e = at_seam ps us y ∙ e
 
-head_in : (p : Pipe) (m : Msg) → head p ≡ Some m → slice_get (all_of p) (length p.processed) ≡ Some m
+pub head_in : (p : Pipe) (m : Msg) → head p ≡ Some m → slice_get (all_of p) (length p.processed) ≡ Some m
 head_in p m e = next_in p.processed p.unprocessed m e
 
 own_did : (s : Setting) (x : ℕ) (act : Act) (log : site.Log) (t : Ts) → t.0 ≡ x → IsStrictHere log (Did act)
@@ -123,14 +107,17 @@ own_did s x act log t tx strict b h =
     let own : write_at 0 w ≡ Some x = (let q : (b.class.0 == 0) ≡ true = strict.1 w b.head_is in rw q (ap (λ y. Some y) tx)) in
     let none : tally (is_done_of x) (puts_to U log) ≤ 0 = elim (dec_le 1 (tally (is_done_of x) (puts_to U log))) [
       | yes l ↦ (let v = h.was l in
-          let less = key_rises (write_at 0) (all_of p) v.0 (length p.processed) v.1 w x x strict.0 (in_left p.processed p.unprocessed v.0 v.1 v.2) at v.3 own (place_within p.processed v.0 v.1 v.2) in
+          let less = key_rises (write_at 0) (all_of p) v.0 (length p.processed) v.1 w x x strict.0 (in_left p.processed p.unprocessed v.0 v.1 v.2) at v.3 own
+          (place_within p.processed v.0 v.1 v.2) in
           absurd (omega (arith, less)))
       | no n ↦ omega (arith, n)
     ] in
     let a = tally_append (is_done_of x) (puts_to U log) (to_site U (sends_of_act act)) in
-    let one : tally (is_done_of x) (to_site U (sends_of_act act)) ≤ 1 = subst (λ y. tally (is_done_of x) (to_site U (sends_of_act y)) ≤ 1) (sym b.act_is) (one_done x t) in
+    let one : tally (is_done_of x) (to_site U (sends_of_act act)) ≤ 1 = subst (λ y. tally (is_done_of x) (to_site U (sends_of_act y)) ≤ 1) (sym b.act_is)
+    (one_done x t) in
     let r = own_record 0 (Apply b.txn b.class (home_of s).dm t) ((U, Done t) ∷ []) log refl in
-    let pr : (pipe 0 (Did act ∷ log)).processed ≡ p.processed ++ w ∷ [] = ap (λ y. (pipe 0 (Did y ∷ log)).processed) b.act_is ∙ ap (λ (q : Pipe). q.processed) r.0 ∙ processed_more p w b.head_is in
+    let pr : (pipe 0 (Did act ∷ log)).processed ≡ p.processed ++ w ∷ [] = ap (λ y. (pipe 0 (Did y ∷ log)).processed) b.act_is
+    ∙ ap (λ (q : Pipe). q.processed) r.0 ∙ processed_more p w b.head_is in
     record {
       le = omega (arith, a, none, one);
       was = λ l. (length p.processed, w, subst (λ ms. slice_get ms (length p.processed) ≡ Some w) (sym pr) (at_seam p.processed [] w), own);
@@ -206,7 +193,7 @@ to_range f x a (suc n) k m g e = elim (g a) [
   ]
 ]
 
-hand_more : (f : Msg → Bool) (b : Bool) (xs : List Msg) (m : Msg) → tally f xs ≤ tally f (if b then xs ++ m ∷ [] else xs)
+pub hand_more : (f : Msg → Bool) (b : Bool) (xs : List Msg) (m : Msg) → tally f xs ≤ tally f (if b then xs ++ m ∷ [] else xs)
 hand_more f true xs m = let a = tally_append f xs (m ∷ []) in omega arith
 hand_more f false xs m = omega arith
 
@@ -219,11 +206,13 @@ dones_within : (n x : ℕ) (l : site.Log) → Each (IsFromModule n) l → dones_
 dones_within n x [] h = omega arith
 dones_within n x (Handed from m ∷ l) h =
     let i = dones_within n x l h.1 in
-    let up : (d : ℕ) → from_d x l d ≤ from_d x (Handed from m ∷ l) d = λ d. hand_more (is_done_of x) (same_site (D (dm_no d)) from) (hands_from (D (dm_no d)) l) m in
+    let up : (d : ℕ) → from_d x l d ≤ from_d x (Handed from m ∷ l) d = λ d. hand_more (is_done_of x) (same_site (D (dm_no d)) from)
+    (hands_from (D (dm_no d)) l) m in
     elim (is_done_of x m) as (λ b. is_done_of x m ≡ b → one_if b + dones_of x l ≤ sum_of (from_d x (Handed from m ∷ l)) (numbers_to n)) [
       | true ↦ λ p. (let w = h.0 x p in
           let same : same_site (D (dm_no w.1)) from ≡ true = subst (λ y. same_site (D (dm_no w.1)) y ≡ true) (sym w.2) (site_self (D (dm_no w.1))) in
-          let j = sum_more (from_d x l) (from_d x (Handed from m ∷ l)) (numbers_to n) w.0 w.1 up (hand_one (is_done_of x) (same_site (D (dm_no w.1)) from) (hands_from (D (dm_no w.1)) l) m same p) w.3 in
+          let j = sum_more (from_d x l) (from_d x (Handed from m ∷ l)) (numbers_to n) w.0 w.1 up
+          (hand_one (is_done_of x) (same_site (D (dm_no w.1)) from) (hands_from (D (dm_no w.1)) l) m same p) w.3 in
           omega arith)
       | false ↦ λ p. (let j = sum_up (from_d x l) (from_d x (Handed from m ∷ l)) (numbers_to n) up in omega arith)
     ] refl
@@ -247,8 +236,10 @@ in_range : (g : Given) (log : Log) (d : DmNo) (ts : Ts) (of : ClassNo) (txn : Tx
 in_range g log d ts of txn changes h e =
     let p = head_put g 0 d log (Write ts of txn changes) h e in
     let z : of.0 ≡ 0 = number_zero of.0 ts.0 p.of_class in
-    let w : IsWrite (setting_of g U) (local_of g U p.before) p.act 0 ts.0 txn.0 = subst (λ j. IsWrite (setting_of g U) (local_of g U p.before) p.act j ts.0 txn.0) z p.by in
-    write_range g d w.bases w.attempt p.place (Write ts of txn changes) (subst (λ y. slice_get (to_site (D d) (sends_of_act y)) p.place ≡ Some (Write ts of txn changes)) w.act_is p.there)
+    let w : IsWrite (setting_of g U) (local_of g U p.before) p.act 0 ts.0 txn.0 = subst
+    (λ j. IsWrite (setting_of g U) (local_of g U p.before) p.act j ts.0 txn.0) z p.by in
+    write_range g d w.bases w.attempt p.place (Write ts of txn changes)
+    (subst (λ y. slice_get (to_site (D d) (sends_of_act y)) p.place ≡ Some (Write ts of txn changes)) w.act_is p.there)
 
 done_from : (g : Given) (log : Log) (from : Site) (k : ℕ) (m : Msg) (x : ℕ) → IsPermitted g log
     → slice_get (puts_to U (local_of g from log)) k ≡ Some m → is_done_of x m ≡ true
@@ -257,7 +248,8 @@ done_from g log from k m x h e f =
     let t = done_is x m f in
     let d = from_a_d g log from U k m h e (ap is_from_d t.1) in
     let p = put_in_by_d g log d.0 U k m h (subst (λ y. slice_get (puts_to U (local_of g y log)) k ≡ Some m) d.1 e) in
-    let b : IsDoneBy (setting_of g (D d.0)) (local_of g (D d.0) p.before) U p.act t.0 = subst (IsPutByD (setting_of g (D d.0)) (local_of g (D d.0) p.before) U p.act) t.1 p.by in
+    let b : IsDoneBy (setting_of g (D d.0)) (local_of g (D d.0) p.before) U p.act t.0 = subst
+    (IsPutByD (setting_of g (D d.0)) (local_of g (D d.0) p.before) U p.act) t.1 p.by in
     let hb : IsPermitted g p.before = (permitted_before g p.later (Does (D d.0) p.act ∷ p.before) (subst (IsPermitted g) p.is h)).1 in
     let r = in_range g p.before d.0 t.0 b.class b.txn b.changes hb b.head_is in
     (r.0, d.0.0, d.1, r.1)
@@ -276,7 +268,8 @@ from_one g log x d h =
     let at : DmNo = dm_no d in
     let o = (once (setting_of g (D at)) x (local_of g (D at) log) (d_fair g at log h) (stricts g at log h)).le in
     let t = tally_take (is_done_of x) (handed (D at) U log) (puts_to U (local_of g (D at) log)) in
-    let e : from_d x (local_of g U log) d ≡ tally (is_done_of x) (take (handed (D at) U log) (puts_to U (local_of g (D at) log))) = ap (tally (is_done_of x)) (in_order g log (D at) U h) in
+    let e : from_d x (local_of g U log) d ≡ tally (is_done_of x) (take (handed (D at) U log) (puts_to U (local_of g (D at) log))) = ap (tally (is_done_of x))
+    (in_order g log (D at) U h) in
     omega arith
 
 pub range_length : (a n : ℕ) → length (range_with_len a n) ≡ n

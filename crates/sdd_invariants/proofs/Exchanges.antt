@@ -1,13 +1,7 @@
 -- What every step of an exchange keeps: its modules stay; once the READs are answered they are no more awaited; while
 -- they are awaited nothing is sent; and what it still has to send are its own FETCHes, REDUCEs and SHIPs.
-use Rattle.std.proofs.Common.{ℕ, ◌&&◌, ◌++◌, ◌+◌, ◌==◌, ◌∙◌, ◌∷◌, ◌≡◌, Bool, List, None, Option, Some, [], ap, false, if◌then◌else◌, length, map, refl, subst, sym, true}
-use Rattle.sdd_log.specs.All.{Asking, Attempt, Commit, D, Did, Exchange, Fetching, Handed, Msg, Over, Phase, Queued, Reading, Ready, Rec, Records, Redeclared, Reduced, Reducing, Sends, Setting, Shipping, Site, Start, Submits, T, Ticked, U, Values, active, active_after, active_handed, active_sent, after_hand, after_send, answered, asks_rows, counted, counts, counts_for, fetches, fetches_from, goes_on, head_of, lacking, move_at, phase_ends, queue, reduces, rejects, ships, started, tail_of, to_all, with_use, with_values, without}
-use Rattle.sdd_log.specs.wire.declared.msg.Msg.TheVariants.{Rows}
-use Rattle.sdd_log.specs.site_module.SiteLog.{Log}
-use Rattle.sdd_semijoin.specs.Steps.{Move, next_move}
-use Rattle.sdd_semijoin.specs.declared.step.Step.{Step}
-use Rattle.sdd_invariants.proofs.Bools.{if_way, not_both, same_number}
-use Rattle.sdd_invariants.specs.Steps.{is_reading}
+use Rattle.sdd_invariants.proofs.All.{Asking, Attempt, Bool, Commit, D, Did, Exchange, Fetching, Handed, List, Log, Move, Msg, None, Option, Over, Phase, Queued, Reading, Ready, Rec, Records, Redeclared, Reduced, Reducing, Rows, Sends, Setting, Shipping, Site, Some, Start, Step, Submits, T, Ticked, U, Values, [], active, active_after, active_handed, active_sent, after_hand, after_send, answered, ap, asks_rows, counted, counts, counts_for, false, fetches, fetches_from, goes_on, head_of, if◌then◌else◌, is_reading, lacking, length, map, move_at, next_move, own, phase_ends, queue, reduces, refl, rejects, ships, started, subst, sym, tail_of, to_all, true, with_use, with_values, without, ℕ, ◌++◌, ◌+◌, ◌∙◌, ◌∷◌, ◌≡◌}
+use Rattle.sdd_invariants.proofs.Bools.{if_way, not_both}
 
 abbrev pub IsQuiet : Exchange → Type 0
 IsQuiet x = is_reading x.phase ≡ true → x.to_send ≡ []
@@ -23,7 +17,7 @@ pub record GoesOn (ts c : ℕ) (x y : Exchange) : Type 0 where
   pub quiet : IsQuiet x → IsQuiet y
   pub asks : AllAsk ts c x.to_send → AllAsk ts c y.to_send
 
-never : {A : Type 0} (b : Bool) → b ≡ true → b ≡ false → A
+pub never : {A : Type 0} (b : Bool) → b ≡ true → b ≡ false → A
 never b e f = absurd (not_both b e f)
 
 -- a step to a phase that awaits no READY
@@ -48,9 +42,6 @@ all_ask : (ts c : ℕ) (m : Msg) (ds : List ℕ) → asks_rows ts c m ≡ true �
 all_ask ts c m [] e = tt
 all_ask ts c m (d ∷ ds) e = (e, all_ask ts c m ds e)
 
-own : (ts c : ℕ) → ((ts == ts) && (c == c)) ≡ true
-own ts c = rw (same_number ts, same_number c) refl
-
 reducing : (ts c : ℕ) (m : Move) (x : Exchange) → GoesOn ts c x (reduces ts c m x)
 reducing ts c m x = to_later ts c x (reduces ts c m x) refl refl (λ h. all_ask ts c _ (with_use x m.target.part) (own ts c))
 
@@ -62,9 +53,11 @@ fetching ts c m x (d ∷ ds) = to_later ts c x (fetches_from ts c m x (d ∷ ds)
 going_on : (ts c : ℕ) (x : Exchange) (qs : List Asking) (done : List Step) → GoesOn ts c x (goes_on ts c x qs done)
 going_on ts c x [] done = to_later ts c x (ships ts c x) refl refl (λ h. all_ask ts c _ (map (λ m. m.0) x.modules) (own ts c))
 going_on ts c x (q ∷ rest) done =
-    elim (next_move q.conds (counts_for x.counts q) done) as (λ o. GoesOn ts c x (elim o as (λ _. Exchange) [ None ↦ goes_on ts c x rest [] | Some m ↦ fetches ts c (move_at q.before m) (record x { left = q ∷ rest; done = done ++ m.step ∷ [] }) ])) [
+    elim (next_move q.conds (counts_for x.counts q) done) as
+    (λ o. GoesOn ts c x (elim o as (λ _. Exchange) [ None ↦ goes_on ts c x rest [] | Some m ↦ fetches ts c (move_at q.before m) (record x { left = q ∷ rest; done = done ++ m.step ∷ [] }) ])) [
       | None ↦ going_on ts c x rest []
-      | Some m ↦ two_steps ts c x (record x { left = q ∷ rest; done = done ++ m.step ∷ [] }) _ (same_phase ts c x (record x { left = q ∷ rest; done = done ++ m.step ∷ [] }) refl refl refl)
+      | Some m ↦ two_steps ts c x (record x { left = q ∷ rest; done = done ++ m.step ∷ [] }) _
+          (same_phase ts c x (record x { left = q ∷ rest; done = done ++ m.step ∷ [] }) refl refl refl)
           (fetching ts c (move_at q.before m) (record x { left = q ∷ rest; done = done ++ m.step ∷ [] }) (with_use x (move_at q.before m).source.part))
     ]
 
@@ -77,9 +70,11 @@ pub reads_no_more : (ts c : ℕ) (x : Exchange) (qs : List Asking) (done : List 
     → is_reading (goes_on ts c x qs done).phase ≡ false
 reads_no_more ts c x [] done = refl
 reads_no_more ts c x (q ∷ rest) done =
-    elim (next_move q.conds (counts_for x.counts q) done) as (λ o. is_reading (elim o as (λ _. Exchange) [ None ↦ goes_on ts c x rest [] | Some m ↦ fetches ts c (move_at q.before m) (record x { left = q ∷ rest; done = done ++ m.step ∷ [] }) ]).phase ≡ false) [
+    elim (next_move q.conds (counts_for x.counts q) done) as
+    (λ o. is_reading (elim o as (λ _. Exchange) [ None ↦ goes_on ts c x rest [] | Some m ↦ fetches ts c (move_at q.before m) (record x { left = q ∷ rest; done = done ++ m.step ∷ [] }) ]).phase ≡ false) [
       | None ↦ reads_no_more ts c x rest []
-      | Some m ↦ fetching_no_more ts c (move_at q.before m) (record x { left = q ∷ rest; done = done ++ m.step ∷ [] }) (with_use x (move_at q.before m).source.part)
+      | Some m ↦ fetching_no_more ts c (move_at q.before m) (record x { left = q ∷ rest; done = done ++ m.step ∷ [] })
+          (with_use x (move_at q.before m).source.part)
     ]
 
 phase_goes : (ts c : ℕ) (x : Exchange) (p : Phase) → GoesOn ts c x (phase_ends ts c x p)
@@ -91,7 +86,8 @@ phase_goes ts c x Over = same_phase ts c x x refl refl refl
 
 lacking_goes : (ts c : ℕ) (x : Exchange) (ds : List ℕ) → GoesOn ts c x (lacking ts c x ds)
 lacking_goes ts c x [] =
-    two_steps ts c x (record x { lacks = [] }) _ (same_phase ts c x (record x { lacks = [] }) refl refl refl) (phase_goes ts c (record x { lacks = [] }) x.phase)
+    two_steps ts c x (record x { lacks = [] }) _ (same_phase ts c x (record x { lacks = [] }) refl refl refl)
+    (phase_goes ts c (record x { lacks = [] }) x.phase)
 lacking_goes ts c x (d ∷ ds) = same_phase ts c x (record x { lacks = d ∷ ds }) refl refl refl
 
 pub answered_goes : (ts c d : ℕ) (x : Exchange) → GoesOn ts c x (answered ts c d x)
@@ -137,14 +133,16 @@ kept_hand : (Q : Attempt → Type 0) (c : ℕ) (from : Site) (m : Msg) (o : Opti
     → Has Q (active_handed c from m o)
 kept_hand Q c (D d) m None k h = tt
 kept_hand Q c (D d) m (Some a) k h =
-    if_way (Has Q) (rejects m a.ts c) None (Some (record a { exchange = after_hand a.ts c d.0 m a.exchange })) tt (k.goes a (after_hand a.ts c d.0 m a.exchange) (hand_goes a.ts c d.0 m a.exchange) h)
+    if_way (Has Q) (rejects m a.ts c) None (Some (record a { exchange = after_hand a.ts c d.0 m a.exchange })) tt
+    (k.goes a (after_hand a.ts c d.0 m a.exchange) (hand_goes a.ts c d.0 m a.exchange) h)
 kept_hand Q c U m o k h = h
 kept_hand Q c (T t) m o k h = h
 
 kept_sent : (Q : Attempt → Type 0) (c : ℕ) (m : Msg) (o : Option Attempt) → IsKept c Q → Has Q o → Has Q (active_sent c m o)
 kept_sent Q c m None k h = tt
 kept_sent Q c m (Some a) k h =
-    if_way (Has Q) (asks_rows a.ts c m) (Some (record a { exchange = after_send a.exchange })) (Some a) (k.goes a (after_send a.exchange) (send_goes a.ts c a.exchange) h) h
+    if_way (Has Q) (asks_rows a.ts c m) (Some (record a { exchange = after_send a.exchange })) (Some a)
+    (k.goes a (after_send a.exchange) (send_goes a.ts c a.exchange) h) h
 
 kept_started : (Q : Attempt → Type 0) (c ts : ℕ) (sends : List (Site × Msg)) (o : Option Queued) → IsKept c Q
     → Has Q (started ts sends o)

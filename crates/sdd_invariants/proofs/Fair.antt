@@ -1,15 +1,11 @@
 -- On a permitted log each site's own log is made of steps, and submits no number twice.
-use Rattle.std.proofs.Common.{ℕ, ◌==◌, ◌||◌, ◌∙◌, ◌∷◌, ◌≡◌, Bool, None, Option, Some, [], ap, false, inl, inr, not, refl, subst, true}
-use Rattle.sdd_log.specs.All.{D, Deliver, Did, DmNo, Does, Down, Each, Given, Hand, Handed, IsAllowed, IsPermitted, Log, Lose, Mark, Notes, Redeclare, Redeclared, Redeclares, Repeat, Resend, Round, Settle, Site, Submit, Submits, Submitted, T, Tick, Ticked, TmNo, U, Up, base_of, by_event, by_link, by_mark, by_redeclare, by_round, by_site, class_at, contains, is_new_mark, local_of, mark_due, note_if, setting_of, submits, tm_no, was_marked}
-use Rattle.sdd_log.specs.Entries.{Entry}
-use Rattle.sdd_log.proofs.EachLocal.{each_local}
+use Rattle.sdd_invariants.proofs.All.{Bool, D, Deliver, Did, DmNo, Does, Down, Each, Given, Hand, Handed, IsAllowed, IsDueEach, IsFair, IsNew, IsPermitted, Lose, Mark, None, Notes, Option, Redeclare, Redeclared, Redeclares, Repeat, Resend, Round, Settle, Site, Some, Submit, Submits, Submitted, T, Tick, Ticked, TmNo, U, Up, [], ap, base_of, by_event, by_link, by_mark, by_redeclare, by_round, by_site, class_at, contains, each_local, false, home, inl, inr, is_new_mark, local_of, made, mark_due, not, note_if, or_right, refl, setting_of, submits, subst, tm_no, true, was_marked, with_made, ℕ, ◌==◌, ◌||◌, ◌∙◌, ◌∷◌, ◌≡◌}
 use Rattle.sdd_invariants.proofs.Queues.{queue_is}
 use Rattle.sdd_invariants.proofs.AreSteps.{t_step, u_step}
-use Rattle.sdd_invariants.proofs.Bools.{if_way, only_right, or_right, true_or_false}
-use Rattle.sdd_invariants.specs.ReadSteps.{IsDueEach}
-use Rattle.sdd_invariants.specs.Steps.{IsFair, IsNew, home}
+use Rattle.sdd_invariants.proofs.Bools.{if_way, only_right, true_or_false}
 use Rattle.sdd_invariants.proofs.Made.{local_step, maker}
-use Rattle.sdd_invariants.specs.Made.{made, with_made}
+use Rattle.sdd_log.specs.All.{Log}
+use Rattle.sdd_log.specs.Entries.{Entry}
 use Rattle.sdd_log.specs.site_module.SiteLog as site
 
 -- a Submitted comes right after its mark
@@ -60,7 +56,7 @@ allowed_mark g log e (by_event {e = x} p) = mark_entry g log x (subst (AreOfMark
 allowed_mark g log e (by_site at act d) = tt
 allowed_mark g log e (by_link a b n m p q r f) = tt
 
-tail_marked : (n : ℕ) (e : Entry) (log : Log) → was_marked n log ≡ true → was_marked n (e ∷ log) ≡ true
+pub tail_marked : (n : ℕ) (e : Entry) (log : Log) → was_marked n log ≡ true → was_marked n (e ∷ log) ≡ true
 tail_marked n (Mark (Submit k)) log h = or_right (k.0 == n) (was_marked n log) h
 tail_marked n (Mark (Deliver a b k)) log h = h
 tail_marked n (Mark (Lose a b k)) log h = h
@@ -163,7 +159,8 @@ u_if_new g = each_local g U (IsFairIfNew g) (record {
   ticked = λ log p n i x. tt;
   submits = λ log p n k a e i x. tt;
   redeclared = λ l k t i x. tt;
-  did = λ log act p due i x. u_step (setting_of g U) (base_of g log) (local_of g U log) act refl (queue_is (setting_of g U) 0 (local_of g U log) (all_fair g (local_of g U log) i x) x).served due;
+  did = λ log act p due i x. u_step (setting_of g U) (base_of g log) (local_of g U log) act refl
+      (queue_is (setting_of g U) 0 (local_of g U log) (all_fair g (local_of g U log) i x) x).served due;
 })
 
 pub u_fair : (g : Given) (log : Log) → IsPermitted g log → Each (IsFair (setting_of g U)) (local_of g U log)

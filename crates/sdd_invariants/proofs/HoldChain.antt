@@ -1,22 +1,15 @@
 -- Between U and one T: the counts of HOLDs, RELEASEs, HELDs, Starts and Commits of class 0 stand in one chain.
-use Rattle.std.proofs.Common.{ℕ, ◌++◌, ◌+◌, ◌<◌, ◌==◌, ◌||◌, ◌∙◌, ◌∷◌, ◌≡◌, ◌≤◌, Bool, List, Some, [], ap, arith, false, if◌then◌else◌, inl, inr, refl, slice_get, subst, suc, sym, take, true, zero}
-use Rattle.sdd_log.specs.All.{Act, Ask, D, Did, Done, Each, Fetch, Given, Handed, Held, Hold, HoldCounts, IsPermitted, Log, Msg, Null, Read, Ready, Redeclared, Reduce, Reduced, Reject, Release, Sends, Setting, Ship, Site, Submits, T, Ticked, TmCounts, TmNo, U, Values, Write, base_of, counts, counts_acted, counts_handed, handed, hands, holds, holds_acted, holds_handed, local_of, numbers_to, same_site, setting_of, tm_no}
-use Rattle.sdd_log.specs.wire.declared.msg.Msg.TheVariants.{Rows}
-use Rattle.sdd_log.proofs.EachLocal.{each_local}
-use Rattle.sdd_invariants.specs.Barrier.{IsHoldChain}
+use Rattle.sdd_invariants.proofs.All.{Act, AllIdle, Ask, Bool, D, Did, Done, Each, Fetch, Given, Handed, Held, Hold, HoldCounts, IsFairT, IsFairU, IsHoldChain, IsPermitted, IsPutByD, List, Msg, NoneHold, Null, Read, Ready, Redeclared, Reduce, Reduced, Reject, Release, Rows, Sends, Setting, Ship, Site, Some, Submits, T, Ticked, TmCounts, TmNo, U, Values, Write, [], ap, arith, base_of, counts, counts_acted, counts_handed, counts_tm, each_local, false, handed, hands, hands_from, holds, holds_acted, holds_handed, if◌then◌else◌, inl, inr, is_a_held, is_a_hold, is_a_release, local_of, numbers_to, one_if, or_left, or_right, puts_to, refl, same_site, setting_of, slice_get, subst, suc, sym, take, tally, tm_no, true, zero, ℕ, ◌++◌, ◌+◌, ◌<◌, ◌==◌, ◌||◌, ◌∙◌, ◌∷◌, ◌≡◌}
 use Rattle.sdd_invariants.proofs.Holding.{still, t_helds, t_none}
-use Rattle.sdd_invariants.proofs.Serving.{chain, counts_tm}
+use Rattle.sdd_invariants.proofs.Serving.{chain, flip as turned}
 use Rattle.sdd_invariants.proofs.Turns.{balance, tally_append, tally_take, turns_take}
-use Rattle.sdd_invariants.specs.AtT.{AllIdle, IsFairT}
-use Rattle.sdd_invariants.specs.AtU.{IsFairU}
-use Rattle.sdd_invariants.specs.Turns.{NoneHold, is_a_held, is_a_hold, is_a_release, one_if, tally}
 use Rattle.sdd_invariants.proofs.Queues.{queue_is}
-use Rattle.sdd_invariants.specs.PutsBy.{IsPutByD}
 use Rattle.sdd_invariants.proofs.Answered.{put_in_by_d}
-use Rattle.sdd_invariants.proofs.Bools.{if_way, not_both, or_left, or_right, same_number, same_or_not}
-use Rattle.sdd_invariants.specs.Traffic.{hands_from, puts_to}
+use Rattle.sdd_invariants.proofs.Bools.{if_way, not_both, same_or_not}
 use Rattle.sdd_invariants.proofs.Fair.{all_new, u_fair}
 use Rattle.sdd_invariants.proofs.InOrder.{hand_was_put, in_order}
+use Rattle.sdd_invariants.proofs.Releases.{one_if_le}
+use Rattle.sdd_log.specs.All.{Log}
 use Rattle.sdd_log.specs.site_module.SiteLog as site
 
 pub t_table : (g : Given) (t : TmNo) (log : Log) → IsPermitted g log → Each (IsFairT (setting_of g (T t))) (local_of g (T t) log)
@@ -121,13 +114,7 @@ count_if : (b : Bool) (k : TmCounts) → (if b then record k { helds = suc k.hel
 count_if true k = omega arith
 count_if false k = omega arith
 
-turned : (n t : ℕ) → (n == t) ≡ false → (t == n) ≡ false
-turned n t e = elim (same_or_not t n) [
-  | inl p ↦ (let q : (n == t) ≡ true = subst (λ x. (x == t) ≡ true) p (same_number t) in let z : ◌≡◌ {A = Bool} true false = sym q ∙ e in cc)
-  | inr p ↦ p
-]
-
-same_turned : (n t : ℕ) → (n == t) ≡ (t == n)
+pub same_turned : (n t : ℕ) → (n == t) ≡ (t == n)
 same_turned n t = elim (same_or_not n t) [
   | inl p ↦ subst (λ x. (n == x) ≡ (x == n)) p refl
   | inr p ↦ p ∙ sym (turned n t p)
@@ -181,10 +168,6 @@ handed_helds t (Submits n txn ∷ l) = handed_helds t l
 handed_helds t (Redeclared force u ∷ l) = handed_helds t l
 handed_helds t (Did act ∷ l) = more_of act (counts t l) ∙ handed_helds t l
 
-one_if_le : (b : Bool) → one_if b ≤ 1
-one_if_le true = omega arith
-one_if_le false = omega arith
-
 pub hold_chain : (g : Given) (k t : ℕ) (log : Log) → slice_get (numbers_to g.catalogue.tms) k ≡ Some t → IsPermitted g log
     → IsHoldChain g t log
 hold_chain g k t log i h =
@@ -204,7 +187,8 @@ hold_chain g k t log i h =
     let p2 = one_if_le c.state in
     let less_h = tally_take is_a_hold (handed U at log) (puts_to at lu) in
     let less_r = tally_take is_a_release (handed U at log) (puts_to at lu) in
-    let got : (counts t lu).helds ≡ tally is_a_held (take (handed at U log) (puts_to U lt)) = handed_helds t lu ∙ ap (tally is_a_held) (in_order g log at U h) in
+    let got : (counts t lu).helds ≡ tally is_a_held (take (handed at U log) (puts_to U lt)) = handed_helds t lu
+    ∙ ap (tally is_a_held) (in_order g log at U h) in
     let put : (holds lt).helds ≡ tally is_a_held (puts_to U lt) = t_helds (setting_of g at) lt (t_table g (tm_no t) log h) in
     let less_e = tally_take is_a_held (handed at U log) (puts_to U lt) in
     record {

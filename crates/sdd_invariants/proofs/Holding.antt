@@ -1,23 +1,15 @@
 -- At a T no more HELDs are sent than HOLDs were handed, and between a HELD and its RELEASE every class is idle.
-use Rattle.std.specs.List.{list_all}
-use Rattle.std.specs.Prelude.{is_none}
-use Rattle.std.proofs.Common.{ℕ, ◌&&◌, ◌++◌, ◌+◌, ◌<◌, ◌==◌, ◌∙◌, ◌∷◌, ◌≡◌, ◌≤◌, Bool, List, None, Option, Some, [], ap, append-nil, arith, false, if◌then◌else◌, inl, inr, map, nat_lt, not, refl, slice_get, subst, suc, sym, true, zero}
-use Rattle.std.proofs.lemmas.Bool.Decides.{nat_tests}
-use Rattle.sdd_log.specs.All.{Act, Attempt, Bases, Commit, D, Did, Each, Fetch, Handed, Held, Hold, HoldCounts, Msg, Null, Question, Queued, Rec, Records, Redeclared, Reduce, Release, Sends, Setting, Ship, Site, Start, Submits, T, Ticked, U, active, active_handed, active_sent, asks_rows, attempt_due, by_ask, class_no, commit_act, dm_no, effect, exchange_due, first_send, hands, head_of, holds, holds_handed, is_idle, is_over, null_at, on_hold, or_else, runs, same_site, sends_of_act, time_at, write_to}
-use Rattle.sdd_log.specs.site_module.SiteLog.{Log}
-use Rattle.sdd_log.specs.tm.Due.{IsDue, by_exchange, by_hold, by_start, start_of}
-use Rattle.sdd_log.specs.tm.Views.{class_view, view_of}
+use Rattle.sdd_invariants.proofs.All.{Act, AllIdle, Attempt, Bases, Bool, Commit, D, Did, Each, Fetch, Handed, Held, Hold, HoldCounts, HoldRule, IsFairT, IsStill, List, Log, Msg, None, NoneHold, Null, Option, Question, Queued, QuietSends, Rec, Records, Redeclared, Reduce, Release, SendRule, Sends, Setting, Ship, Site, Some, Start, Submits, Ticked, U, [], active, ap, append-nil, arith, asks_rows, at_map, attempt_due, bound, by_ask, by_exchange, by_hold, class_no, commit_act, dm_no, effect, exchange_due, false, first_send, hands, head_of, holds, holds_handed, if◌then◌else◌, in_mapped, inl, inr, is_a_held, is_a_hold, is_a_release, is_idle, is_none, is_over, list_all, map, modules_asked, nat_lt, nat_tests, not, null_at, on_hold, one_if, or_else, puts_to, refl, runs, same_site, sends_of_act, start_at, start_of, start_read, subst, suc, sym, tally, time_at, to_site, true, write_to, ℕ, ◌&&◌, ◌++◌, ◌+◌, ◌<◌, ◌==◌, ◌∙◌, ◌∷◌, ◌≡◌, ◌≤◌}
 use Rattle.sdd_invariants.proofs.Turns.{none_hold_join, tally_append}
-use Rattle.sdd_invariants.specs.AtT.{AllIdle, HoldRule, IsFairT, IsStill, QuietSends, SendRule}
-use Rattle.sdd_invariants.specs.Turns.{NoneHold, is_a_held, is_a_hold, is_a_release, one_if, tally}
 use Rattle.sdd_invariants.proofs.ReadsPut.{start_puts}
 use Rattle.sdd_invariants.proofs.WritesPut.{commit_puts, goes_write}
 use Rattle.sdd_invariants.proofs.Bools.{if_way}
 use Rattle.sdd_invariants.proofs.Exchanges.{asks_next}
-use Rattle.sdd_invariants.proofs.Lists.{all_at, in_mapped}
+use Rattle.sdd_invariants.proofs.Lists.{all_at}
 use Rattle.sdd_invariants.proofs.Sites.{none_to}
-use Rattle.sdd_invariants.specs.Steps.{bound, modules_asked, start_at, start_read}
-use Rattle.sdd_invariants.specs.Traffic.{puts_to, to_site}
+use Rattle.sdd_invariants.proofs.Places.{none_handed, none_sent}
+use Rattle.sdd_log.specs.tm.Due.{IsDue, by_start}
+use Rattle.sdd_log.specs.tm.Views.{class_view, view_of}
 
 quiet_mapped : (f : ℕ → Msg) (ds : List ℕ) → to_site U (map (λ d. (D (dm_no d), f d)) ds) ≡ []
 quiet_mapped f [] = refl
@@ -38,7 +30,8 @@ quiet_start s c log q = (
 quiet_commit : (s : Setting) (c : ℕ) (bases : Bases) (a : Attempt) → QuietSends (sends_of_act (commit_act s.catalogue bases c a))
 quiet_commit s c bases a = (
   (λ b. elim (commit_puts s c bases b a) [ inl e ↦ rw e tt | inr p ↦ rw p.1 (refl, refl, tt) ]),
-  none_to (write_to s.catalogue c a (effect s.catalogue (bases a.ts) a.text).changes) U 1 s.catalogue.dms (goes_write s.catalogue c a (effect s.catalogue (bases a.ts) a.text).changes) (λ d l. refl),
+  none_to (write_to s.catalogue c a (effect s.catalogue (bases a.ts) a.text).changes) U 1 s.catalogue.dms
+      (goes_write s.catalogue c a (effect s.catalogue (bases a.ts) a.text).changes) (λ d l. refl),
 )
 
 asks_rule : (s : Setting) (log : Log) (to : Site) (ts c : ℕ) (m : Msg) → asks_rows ts c m ≡ true → SendRule s log to m
@@ -74,20 +67,14 @@ null_rule s log q true None act e = cc
 null_rule s log q true (Some t) act e = rule_is s log (Sends q.from (Null (class_no q.class) (time_at t)) (Some q.hand)) act tt e
 null_rule s log q false o act e = cc
 
-pub at_map : {A B : Type 0} (f : A → B) (xs : List A) (k : ℕ) (x : A) → slice_get xs k ≡ Some x
-    → slice_get (map f xs) k ≡ Some (f x)
-at_map f [] k x e = cc
-at_map f (y ∷ xs) zero x e = let p : y ≡ x = cc in ap (λ z. Some (f z)) p
-at_map f (y ∷ xs) (suc k) x e = at_map f xs k x e
-
-none_of : (o : Option Attempt) → is_none o ≡ true → o ≡ None
+pub none_of : (o : Option Attempt) → is_none o ≡ true → o ≡ None
 none_of None e = refl
 none_of (Some a) e = cc
 
 pub lt_is : (a b : ℕ) → nat_lt a b ≡ true → a < b
 lt_is a b e = grind (arith, nat_tests)
 
-not_lt_is : (a b : ℕ) → nat_lt a b ≡ false → b ≤ a
+pub not_lt_is : (a b : ℕ) → nat_lt a b ≡ false → b ≤ a
 not_lt_is a b e = grind (arith, nat_tests)
 
 held_rule : (s : Setting) (log : Log) (a b c : Bool) (hand : Option ℕ) (act : Act) → (b ≡ true → AllIdle s log)
@@ -115,17 +102,10 @@ hold_rule s bases log act (by_exchange k c p e) =
 hold_rule s bases log act (by_ask k n c q p r e) = null_rule s log q (q.class == c.class) _ act e
 hold_rule s bases log act (by_hold e) =
     held_rule s log (on_hold (view_of s log)) (list_all is_idle (view_of s log).classes) (nat_lt (holds log).helds (holds log).holds) _ act
-    (λ i k c p. none_of (active s c log) (all_at is_idle (view_of s log).classes k (class_view s log c) i (at_map (class_view s log) (runs s) k c p))) (λ l. lt_is _ _ l) e
+    (λ i k c p. none_of (active s c log) (all_at is_idle (view_of s log).classes k (class_view s log c) i (at_map (class_view s log) (runs s) k c p)))
+    (λ l. lt_is _ _ l) e
 hold_rule s bases log act (by_start k c p e) =
     start_rule s log (on_hold (view_of s log)) (is_idle c) c.class (head_of c.queue) act (λ l. not_lt_is _ _ l) e
-
-none_handed : (c : ℕ) (from : Site) (m : Msg) (o : Option Attempt) → o ≡ None → active_handed c from m o ≡ None
-none_handed c (D d) m o e = rw e refl
-none_handed c U m o e = e
-none_handed c (T t) m o e = e
-
-none_sent : (c : ℕ) (m : Msg) (o : Option Attempt) → o ≡ None → active_sent c m o ≡ None
-none_sent c m o e = rw e refl
 
 hand_still : (s : Setting) (from : Site) (m : Msg) (log : Log) → (holds log).releases ≤ (holds (Handed from m ∷ log)).releases
     → (holds log).holds ≤ (holds (Handed from m ∷ log)).holds → (holds (Handed from m ∷ log)).helds ≡ (holds log).helds

@@ -1,12 +1,7 @@
 -- What goes through a class's pipes is put by the site that runs the class.
-use Rattle.std.proofs.Common.{ℕ, ◌++◌, ◌∙◌, ◌∷◌, ◌≡◌, Bool, List, None, Option, Some, [], ap, false, if◌then◌else◌, subst, sym, true}
-use Rattle.sdd_log.specs.All.{Act, Catalogue, Did, Each, Fetch, Handed, Msg, Redeclared, Reduce, Setting, Ship, Site, Submits, Ticked, asks_rows, commit_act, piped, same_site, sends_of_act}
-use Rattle.sdd_log.specs.site_module.SiteLog.{Log}
+use Rattle.sdd_invariants.proofs.All.{Act, AllHomed, AllPiped, Bool, Catalogue, Did, Each, Fetch, Handed, IsFair, IsHomed, IsSend, IsStep, List, Log, Msg, None, Option, Redeclared, Reduce, Setting, Ship, Site, Some, Submits, Ticked, [], a_held, a_hold, a_null, a_release, ap, asks_rows, commit_act, false, home, if◌then◌else◌, next_stamp, of_exchange, piped, puts_to, same_site, sends_of_act, start_at, subst, sym, to_site, true, ℕ, ◌++◌, ◌∙◌, ◌∷◌, ◌≡◌}
 use Rattle.sdd_invariants.proofs.Times.{piped_commit, piped_start}
-use Rattle.sdd_invariants.specs.OnLinks.{AllHomed, AllPiped, IsHomed}
 use Rattle.sdd_invariants.proofs.Active.{step_way}
-use Rattle.sdd_invariants.specs.Steps.{IsFair, IsSend, IsStep, a_held, a_hold, a_null, a_release, home, next_stamp, of_exchange, start_at}
-use Rattle.sdd_invariants.specs.Traffic.{puts_to, to_site}
 
 pub homed_join : (cat : Catalogue) (at : Site) (xs ys : List Msg) → AllHomed cat at xs → AllHomed cat at ys
     → AllHomed cat at (xs ++ ys)

@@ -1,17 +1,12 @@
 -- The messages that were handed over on a link are, in order, the first of those that were put on it.
-use Rattle.std.proofs.Common.{ℕ, ◌&&◌, ◌++◌, ◌-◌, ◌∙◌, ◌∷◌, ◌≡◌, ◌≤◌, Bool, List, None, Option, Some, [], ap, append-nil, arith, false, if◌then◌else◌, length, refl, slice_get, subst, suc, sym, take, true}
-use Rattle.std.proofs.lemmas.List.{take-append-le}
-use Rattle.sdd_log.specs.All.{Call, D, Deliver, Delivers, Did, Does, Down, Event, Force, Given, Hand, Handed, IsAllowed, IsPermitted, Log, Lose, Loses, Mark, Msg, Notes, Puts, Redeclare, Redeclared, Redeclares, Repeat, Repeats, Resend, Resends, Round, Settle, Site, Submit, Submits, Submitted, T, Tick, Ticked, Txn, U, Up, by_event, by_link, by_mark, by_redeclare, by_round, by_site, calls_of, delivered, due_by, force_at, handed, link, link_of, local_of, mark_due, message_at, note_if, puts, redeclares, same_site, sends_of_act, sent, takes_part, txn_at}
-use Rattle.sdd_log.proofs.net.Rises.{rises}
-use Rattle.sdd_log.proofs.net.Sound.{delivered_le, sound}
-use Rattle.sdd_log.specs.Entries.{Entry}
+use Rattle.sdd_invariants.proofs.All.{Bool, Call, D, Deliver, Delivers, Did, Does, Down, Event, Force, Given, Hand, Handed, IsAllowed, IsPermitted, List, Lose, Loses, Mark, Msg, None, Notes, Option, Puts, Redeclare, Redeclared, Redeclares, Repeat, Repeats, Resend, Resends, Round, Settle, Site, Some, Submit, Submits, Submitted, T, Tick, Ticked, Txn, U, Up, [], ap, append-nil, arith, by_event, by_link, by_mark, by_redeclare, by_round, by_site, calls_of, delivered, delivered_le, due_by, false, force_at, forced, given_to, handed, handed_by, hands_from, if◌then◌else◌, length, link, link_of, local_of, made, mark_due, message_at, note_if, put_by, puts, puts_to, redeclares, refl, rises, same_site, sends_of_act, sent, slice_get, sound, subst, suc, sym, take, take-append-le, takes_part, true, txn_at, with_made, ℕ, ◌&&◌, ◌++◌, ◌-◌, ◌∙◌, ◌∷◌, ◌≡◌, ◌≤◌}
 use Rattle.sdd_invariants.proofs.Bools.{and_left, and_right}
 use Rattle.sdd_invariants.proofs.Lists.{take_one_more}
 use Rattle.sdd_invariants.proofs.Sites.{site_is}
-use Rattle.sdd_invariants.specs.Traffic.{hands_from, puts_to}
 use Rattle.sdd_invariants.proofs.Made.{local_step}
 use Rattle.sdd_invariants.proofs.Sent.{sent_grows, sent_is}
-use Rattle.sdd_invariants.specs.Made.{forced, given_to, handed_by, made, put_by, with_made}
+use Rattle.sdd_log.specs.All.{Log}
+use Rattle.sdd_log.specs.Entries.{Entry}
 use Rattle.sdd_log.specs.site_module.SiteLog as site
 
 -- a hand that is allowed is of the next message, which is delivered
@@ -76,7 +71,7 @@ within_if : (c : Bool) (n k d : ℕ) → (c ≡ true → n ≤ d) → k ≤ d �
 within_if true n k d f l = f refl
 within_if false n k d f l = l
 
-at_link : (P : Site → Site → Type 0) (a b from to : Site) → (same_site a from && same_site b to) ≡ true → P from to → P a b
+pub at_link : (P : Site → Site → Type 0) (a b from to : Site) → (same_site a from && same_site b to) ≡ true → P from to → P a b
 at_link P a b from to e x =
     subst (λ f. P f b) (sym (site_is a from (and_left _ _ e))) (subst (λ t. P from t) (sym (site_is b to (and_right _ _ e))) x)
 
@@ -106,7 +101,8 @@ handed_le g (Does at act ∷ log) a b h =
     let i = handed_le g log a b h.1 in let j = delivered_puts a b at (sends_of_act act) (calls_of log) in omega arith
 handed_le g (Hand from to n m ∷ log) a b h =
     within_if (same_site a from && same_site b to) n (handed a b log) (delivered (link_of a b log).there)
-    (λ e. at_link (λ x y. n ≤ delivered (link_of x y log).there) a b from to e (allowed_hand g log (Hand from to n m) h.0).delivered_is) (handed_le g log a b h.1)
+    (λ e. at_link (λ x y. n ≤ delivered (link_of x y log).there) a b from to e (allowed_hand g log (Hand from to n m) h.0).delivered_is)
+    (handed_le g log a b h.1)
 handed_le g (Round es ∷ log) a b h = handed_le g log a b h.1
 handed_le g (Redeclares t ∷ log) a b h = handed_le g log a b h.1
 handed_le g (Submitted s n ∷ log) a b h = handed_le g log a b h.1
@@ -124,11 +120,11 @@ handed_within g log a b h =
 
 -- the messages handed from a, once an entry came to the log of b
 
-if_more : (c : Bool) (xs : List Msg) (m : Msg) → (if c then xs ++ m ∷ [] else xs) ≡ xs ++ (if c then m ∷ [] else [])
+pub if_more : (c : Bool) (xs : List Msg) (m : Msg) → (if c then xs ++ m ∷ [] else xs) ≡ xs ++ (if c then m ∷ [] else [])
 if_more true xs m = refl
 if_more false xs m = sym (append-nil _)
 
-hands_step : (a : Site) (o : Option site.Entry) (l : site.Log) → hands_from a (with_made o l) ≡ hands_from a l ++ handed_by a o
+pub hands_step : (a : Site) (o : Option site.Entry) (l : site.Log) → hands_from a (with_made o l) ≡ hands_from a l ++ handed_by a o
 hands_step a None l = sym (append-nil _)
 hands_step a (Some (Handed from m)) l = if_more (same_site a from) (hands_from a l) m
 hands_step a (Some (Did act)) l = sym (append-nil _)
@@ -136,7 +132,7 @@ hands_step a (Some (Ticked n)) l = sym (append-nil _)
 hands_step a (Some (Submits n t)) l = sym (append-nil _)
 hands_step a (Some (Redeclared force t)) l = sym (append-nil _)
 
-hands_grow : (g : Given) (a b : Site) (e : Entry) (log : Log)
+pub hands_grow : (g : Given) (a b : Site) (e : Entry) (log : Log)
     → hands_from a (local_of g b (e ∷ log)) ≡ hands_from a (local_of g b log) ++ handed_by a (made g b log e)
 hands_grow g a b e log = ap (hands_from a) (local_step g b e log) ∙ hands_step a (made g b log e) (local_of g b log)
 

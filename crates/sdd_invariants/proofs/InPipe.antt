@@ -1,22 +1,13 @@
 -- The pipe of a class at a data module is a first part of the class's messages that its site put on the link there.
-use Rattle.std.proofs.Common.{ℕ, ◌++◌, ◌∙◌, ◌∷◌, ◌≡◌, Bool, List, None, Option, Some, [], ap, append-nil, append_assoc, cond, drop, false, if◌then◌else◌, map, refl, slice_get, subst, suc, sym, take, true, zero}
-use Rattle.std.proofs.lemmas.Bool.{eqb-true}
-use Rattle.std.proofs.lemmas.List.{take-append-drop}
-use Rattle.std.proofs.lemmas.List.Elements.{filter-append}
-use Rattle.sdd_log.specs.All.{Catalogue, D, Did, DmNo, Each, Given, Handed, IsPermitted, Log, Msg, Redeclared, Site, Submits, T, Ticked, U, class_is, goes_through, handed, local_of, piped, same_site, setting_of, time_of}
-use Rattle.sdd_log.proofs.dm.Prefix.{all_handed, all_there}
-use Rattle.sdd_log.proofs.EachLocal.{each_local}
+use Rattle.sdd_invariants.proofs.All.{AllHomed, Bool, Catalogue, D, Did, DmNo, Each, Given, Handed, IsHomed, IsPermitted, List, Msg, None, Option, Redeclared, Site, Some, Submits, T, Ticked, U, [], all_handed, all_of, all_there, ap, append-nil, append_assoc, class_in, class_is, class_puts, cond, drop, each_local, eqb-true, false, filter-append, goes_through, handed, hands_from, home, if◌then◌else◌, local_of, map, pipe_at, piped, puts_to, refl, same_site, setting_of, slice_get, subst, suc, sym, take, take-append-drop, time_of, times_in, true, zero, ℕ, ◌++◌, ◌∙◌, ◌∷◌, ◌≡◌}
 use Rattle.sdd_invariants.proofs.Homes.{homed}
-use Rattle.sdd_invariants.specs.OnLinks.{AllHomed, IsHomed}
 use Rattle.sdd_invariants.proofs.PutBy.{d_pipes_none}
-use Rattle.sdd_invariants.specs.Seen.{all_of, class_puts, pipe_at}
 use Rattle.sdd_invariants.proofs.Bools.{not_both}
 use Rattle.sdd_invariants.proofs.Sites.{site_self}
-use Rattle.sdd_invariants.specs.Steps.{home}
-use Rattle.sdd_invariants.specs.Traffic.{class_in, hands_from, puts_to, times_in}
 use Rattle.sdd_invariants.proofs.Fair.{d_fair, t_fair, u_fair}
 use Rattle.sdd_invariants.proofs.InOrder.{hand_was_put, in_order}
 use Rattle.sdd_invariants.proofs.Sent.{puts_more}
+use Rattle.sdd_log.specs.All.{Log}
 use Rattle.sdd_log.specs.site_module.SiteLog as site
 
 pub times_are : (c : ℕ) (ms : List Msg) → times_in c ms ≡ map time_of (class_in c ms)
@@ -66,7 +57,8 @@ home_hands g at = each_local g at (IsHomeHand g.catalogue) (record {
 one_more : (c : ℕ) (xs : List Msg) (m : Msg)
     → class_in c (xs ++ m ∷ []) ≡ (if goes_through c m then class_in c xs ++ m ∷ [] else class_in c xs)
 one_more c xs m =
-    filter-append (goes_through c) xs (m ∷ []) ∙ (elim (goes_through c m) as (λ b. class_in c xs ++ cond b (m ∷ []) [] ≡ (if b then class_in c xs ++ m ∷ [] else class_in c xs)) [ true ↦ refl | false ↦ append-nil _ ])
+    filter-append (goes_through c) xs (m ∷ []) ∙
+    (elim (goes_through c m) as (λ b. class_in c xs ++ cond b (m ∷ []) [] ≡ (if b then class_in c xs ++ m ∷ [] else class_in c xs)) [ true ↦ refl | false ↦ append-nil _ ])
 
 class_and_time : (c : ℕ) (o : Option (ℕ × ℕ)) → class_is c o ≡ true → (t : ℕ) × (o ≡ Some (c, t))
 class_and_time c None e = cc
@@ -95,7 +87,8 @@ handed_from cat c (Did act ∷ l) h = handed_from cat c l h.1
 pub pipe_is : (g : Given) (c : ℕ) (d : DmNo) (log : Log) → IsPermitted g log
     → all_of (pipe_at g c d log) ≡ class_in c (take (handed (home g.catalogue c) (D d) log) (puts_to (D d) (local_of g (home g.catalogue c) log)))
 pipe_is g c d log h =
-    all_there c (local_of g (D d) log) ∙ handed_from g.catalogue c (local_of g (D d) log) (home_hands g (D d) log h) ∙ ap (class_in c) (in_order g log (home g.catalogue c) (D d) h)
+    all_there c (local_of g (D d) log) ∙ handed_from g.catalogue c (local_of g (D d) log) (home_hands g (D d) log h)
+    ∙ ap (class_in c) (in_order g log (home g.catalogue c) (D d) h)
 
 pub in_pipe : (g : Given) (c : ℕ) (d : DmNo) (log : Log) → IsPermitted g log
     → (more : List Msg) × (class_puts g c d log ≡ all_of (pipe_at g c d log) ++ more)

@@ -1,33 +1,21 @@
 -- An Apply follows the Commit that put its WRITE; within a class a module applies in the order of timestamps and leaves
 -- none out; and an Answer stands behind the Applies of its class with smaller timestamps, and before the others.
-use Rattle.std.specs.List.{range_with_len}
-use Rattle.std.specs.Prelude.{filter_map}
-use Rattle.std.proofs.Common.{ℕ, ◌++◌, ◌+◌, ◌<◌, ◌==◌, ◌||◌, ◌∙◌, ◌∷◌, ◌≡◌, ◌≤◌, ◌⊎◌, Bool, List, None, Option, Some, [], ap, arith, cond, false, inl, inr, length, not, refl, slice_get, subst, suc, sym, true, zero}
-use Rattle.std.proofs.lemmas.Bool.{eqb-true}
-use Rattle.sdd_log.specs.All.{Act, Apply, Attempt, Bases, Change, ClassNo, D, Did, DmNo, Does, Each, Given, IsPermitted, Log, Msg, Null, Read, Rec, Records, Setting, Site, Ts, TxnNo, Write, class_is, class_no, commit_act, dm_no, effect, goes_through, head, is_empty, is_processing, local_of, number_of, pipe, sends_of_act, setting_of, time_at, time_of, txn_no, view_of, waits, write_to}
-use Rattle.sdd_log.proofs.EachLocal.{allowed_act}
+use Rattle.sdd_invariants.proofs.All.{Act, Apply, Attempt, Bases, Bool, Change, ClassNo, D, Did, DmNo, Does, Each, Given, IsApplied, IsApplyOf, IsFair, IsOf, IsPermitted, IsPutAt, IsPutBy, IsReadStep, IsWrite, List, May, Msg, None, Null, Option, Read, Rec, Records, Setting, Site, Some, Ts, TxnNo, Write, [], allowed_act, ap, arith, by_record, by_wait, changes_at, changes_to, class_in, class_is, class_no, class_puts, commit_act, cond, dm_no, effect, eqb-true, false, filter_map, goes_through, head, home, in_passing, inl, inr, is_empty, is_processing, length, local_of, not, number_of, or_left, or_right, pipe, pipe_at, place_within, puts_to, range_with_len, refl, results, sends_of_act, setting_of, slice_get, subst, suc, sym, time_at, time_of, to_site, true, txn_no, view_of, waits, write_at, write_to, zero, ℕ, ◌++◌, ◌+◌, ◌<◌, ◌==◌, ◌||◌, ◌∙◌, ◌∷◌, ◌≡◌, ◌≤◌, ◌⊎◌}
 use Rattle.sdd_invariants.proofs.Origins.{is_put, not_empty, was_put}
 use Rattle.sdd_invariants.proofs.ReadsPut.{put_by}
 use Rattle.sdd_invariants.proofs.WritesPut.{goes_write, write_is}
-use Rattle.sdd_invariants.specs.OnLinks.{write_at}
-use Rattle.sdd_invariants.specs.Puts.{IsPutBy, IsWrite}
 use Rattle.sdd_invariants.proofs.Processed.{matched, zip_back}
-use Rattle.sdd_invariants.specs.Causes.{IsApplyOf, IsPutAt}
 use Rattle.sdd_invariants.proofs.Applied.{applied_processed, in_class, key_rises, of_write, own_made, processed_applied, writes_strict}
 use Rattle.sdd_invariants.proofs.ClassOrder.{around_head, head_place}
 use Rattle.sdd_invariants.proofs.InPipe.{in_pipe}
 use Rattle.sdd_invariants.proofs.Split.{processed_stays}
-use Rattle.sdd_invariants.specs.Seen.{IsApplied, changes_to, class_puts, pipe_at}
 use Rattle.sdd_invariants.proofs.Active.{each_at}
 use Rattle.sdd_invariants.proofs.AreReadSteps.{d_step}
-use Rattle.sdd_invariants.proofs.Bools.{not_both, or_left, or_right, same_number, same_or_not}
-use Rattle.sdd_invariants.proofs.Lists.{place_within}
+use Rattle.sdd_invariants.proofs.Bools.{not_both, same_number, same_or_not}
 use Rattle.sdd_invariants.proofs.Sites.{GoesTo, some_to}
-use Rattle.sdd_invariants.specs.ReadSteps.{IsOf, IsReadStep, May, by_record, by_wait, in_passing, results}
-use Rattle.sdd_invariants.specs.Steps.{IsFair, changes_at, home}
-use Rattle.sdd_invariants.specs.Traffic.{class_in, puts_to, to_site}
 use Rattle.sdd_invariants.proofs.Fair.{d_fair, home_fair}
 use Rattle.sdd_invariants.proofs.Made.{local_at, place_of_act}
+use Rattle.sdd_log.specs.All.{Log}
 use Rattle.sdd_log.specs.site_module.SiteLog as site
 
 -- what goes through a pipe stands on its link
@@ -42,7 +30,8 @@ out_class : (c : ℕ) (ms : List Msg) (k : ℕ) (m : Msg) → slice_get (class_i
     → (i : ℕ) × (slice_get ms i ≡ Some m) × (goes_through c m ≡ true)
 out_class c [] k m e = cc
 out_class c (x ∷ ms) k m e =
-    elim (goes_through c x) as (λ b. goes_through c x ≡ b → slice_get (cond b (x ∷ class_in c ms) (class_in c ms)) k ≡ Some m → (i : ℕ) × (slice_get (x ∷ ms) i ≡ Some m) × (goes_through c m ≡ true)) [
+    elim (goes_through c x) as
+    (λ b. goes_through c x ≡ b → slice_get (cond b (x ∷ class_in c ms) (class_in c ms)) k ≡ Some m → (i : ℕ) × (slice_get (x ∷ ms) i ≡ Some m) × (goes_through c m ≡ true)) [
       | true ↦ λ p q. out_cons c x ms k m p (λ j r. out_class c ms j m r) q
       | false ↦ λ p q. let i = out_class c ms k m q in (suc i.0, i.1, i.2)
     ] refl e
@@ -110,8 +99,10 @@ pub write_origin : (g : Given) (log : Log) (k : ℕ) (d : DmNo) (ts : Ts) (of : 
     → of.0 ≡ k → IsPutAt g log k d (Write ts of txn changes) → IsApplyOf g log d k txn.0 ts.0
 write_origin g log k d ts of txn changes e p =
     let at : Site = home g.catalogue k in
-    let w : IsWrite (setting_of g at) (local_of g at p.before) p.act k ts.0 txn.0 = subst (λ j. IsWrite (setting_of g at) (local_of g at p.before) p.act j ts.0 txn.0) e p.by in
-    let there : slice_get (to_site (D d) (sends_of_act (commit_act g.catalogue w.bases k w.attempt))) p.place ≡ Some (Write ts of txn changes) = subst (λ x. slice_get (to_site (D d) (sends_of_act x)) p.place ≡ Some (Write ts of txn changes)) w.act_is p.there in
+    let w : IsWrite (setting_of g at) (local_of g at p.before) p.act k ts.0 txn.0 = subst
+    (λ j. IsWrite (setting_of g at) (local_of g at p.before) p.act j ts.0 txn.0) e p.by in
+    let there : slice_get (to_site (D d) (sends_of_act (commit_act g.catalogue w.bases k w.attempt))) p.place ≡ Some (Write ts of txn changes) = subst
+    (λ x. slice_get (to_site (D d) (sends_of_act x)) p.place ≡ Some (Write ts of txn changes)) w.act_is p.there in
     let i = commit_put_is (setting_of g at) k w.bases w.attempt d p.place (Write ts of txn changes) there in
     record { later = p.later; before = p.before; bases = w.bases; attempt = w.attempt; is = p.is ∙ ap (λ x. p.later ++ Does at x ∷ p.before) w.act_is; active_is = w.active_is; ts_is = w.time_is; number_is = w.number_is; touches_it = i.1 }
 
@@ -148,7 +139,8 @@ pub apply_of_head : (g : Given) (log : Log) (d : DmNo) (k : ℕ) (txn : TxnNo) (
     → (changes : List Change) × (head (pipe_at g k d log) ≡ Some (Write ts of txn changes))
 apply_of_head g log d k txn of dm ts sends h =
     let act : Act = Records k (Apply txn of dm ts) sends in
-    apply_head (setting_of g (D d)) (local_of g (D d) log) k txn of dm ts sends (d_step (setting_of g (D d)) (local_of g (D d) log) act (allowed_act g log (Does (D d) act) h.0))
+    apply_head (setting_of g (D d)) (local_of g (D d) log) k txn of dm ts sends
+    (d_step (setting_of g (D d)) (local_of g (D d) log) act (allowed_act g log (Does (D d) act) h.0))
 
 pub class_number : (c k t : ℕ) → class_is k (Some (c, t)) ≡ true → c ≡ k
 class_number c k t e = eqb-true c k e
@@ -171,11 +163,14 @@ applied_below g log d k ts of txn changes a h small e x =
     let m = matched (setting_of g (D d)) k l (d_fair g d log h) in
     let z = zip_back IsOf (results k l) (pipe k l).processed x.place x.rec m.matched x.there in
     let p = in_pipe g k d log h in
-    let there : slice_get (class_puts g k d log) x.place ≡ Some z.0 = subst (λ ms. slice_get ms x.place ≡ Some z.0) (sym p.1) (processed_stays (pipe k l) p.0 x.place z.0 z.1) in
+    let there : slice_get (class_puts g k d log) x.place ≡ Some z.0 = subst (λ ms. slice_get ms x.place ≡ Some z.0) (sym p.1)
+    (processed_stays (pipe k l) p.0 x.place z.0 z.1) in
     let put = head_put g k d log (Write ts of txn changes) h e in
     let c : of.0 ≡ k = class_number of.0 k ts.0 put.of_class in
     let now : write_at k (Write ts of txn changes) ≡ Some ts.0 = (let q : (of.0 == k) ≡ true = ap (λ y. y == k) c ∙ same_number k in rw q refl) in
-    key_rises (write_at k) (class_puts g k d log) x.place (length (pipe k l).processed) z.0 (Write ts of txn changes) a.ts ts.0 (writes_strict g k d log h small) there (head_place g k d [] log (Write ts of txn changes) h e) (of_write (time_at a.ts) k a.txn x.rec z.0 x.is z.2) now (place_within (pipe k l).processed x.place z.0 z.1)
+    key_rises (write_at k) (class_puts g k d log) x.place (length (pipe k l).processed) z.0 (Write ts of txn changes) a.ts ts.0
+    (writes_strict g k d log h small) there (head_place g k d [] log (Write ts of txn changes) h e) (of_write (time_at a.ts) k a.txn x.rec z.0 x.is z.2) now
+    (place_within (pipe k l).processed x.place z.0 z.1)
 
 -- the WRITE of a Commit to a module that it touches
 pub commit_put : (g : Given) (c : ℕ) (d : DmNo) (later log : Log) (bases : Bases) (a : Attempt) → 1 ≤ d.0 → d.0 ≤ g.catalogue.dms
@@ -187,9 +182,11 @@ commit_put g c d later log bases a lo hi t =
     let w : Msg = Write (time_at a.ts) (class_no c) (txn_no a.txn) (changes_to g bases a d) in
     let s = local_at g at later log (Does at act) (Did act) (own_made at act) in
     let goes : (not (is_empty (changes_to g bases a d)) || (c == 0)) ≡ true = elim t [ inl z ↦ or_right _ _ z | inr n ↦ or_left _ _ (ap not (not_empty (changes_to g bases a d) n)) ] in
-    let k = some_to (write_to g.catalogue c a (effect g.catalogue (bases a.ts) a.text).changes) 1 g.catalogue.dms d.0 w lo (omega arith) (ap (λ b. cond b (to_module d.0 w) None) goes) in
+    let k = some_to (write_to g.catalogue c a (effect g.catalogue (bases a.ts) a.text).changes) 1 g.catalogue.dms d.0 w lo (omega arith)
+    (ap (λ b. cond b (to_module d.0 w) None) goes) in
     let p = is_put (D d) s.0 act (local_of g at log) k.0 w k.1 in
-    let there : slice_get (puts_to (D d) (local_of g at (later ++ Does at act ∷ log))) p.0 ≡ Some w = subst (λ l. slice_get (puts_to (D d) l) p.0 ≡ Some w) (sym s.1) p.1 in
+    let there : slice_get (puts_to (D d) (local_of g at (later ++ Does at act ∷ log))) p.0 ≡ Some w = subst (λ l. slice_get (puts_to (D d) l) p.0 ≡ Some w)
+    (sym s.1) p.1 in
     in_class c (puts_to (D d) (local_of g at (later ++ Does at act ∷ log))) p.0 w there (same_number c)
 
 -- at a head m of class c, a transaction of c that is committed anywhere in the log and touches the module: it is applied
@@ -203,7 +200,8 @@ pub around_applied : (g : Given) (c : ℕ) (d : DmNo) (later log later2 log2 : L
 around_applied g c d later log later2 log2 m bases a h small lo hi e same t =
     let w : Msg = Write (time_at a.ts) (class_no c) (txn_no a.txn) (changes_to g bases a d) in
     let found = commit_put g c d later2 log2 bases a lo hi t in
-    let there : slice_get (class_puts g c d (later ++ log)) found.0 ≡ Some w = subst (λ x. slice_get (class_puts g c d x) found.0 ≡ Some w) (sym same) found.1 in
+    let there : slice_get (class_puts g c d (later ++ log)) found.0 ≡ Some w = subst (λ x. slice_get (class_puts g c d x) found.0 ≡ Some w)
+    (sym same) found.1 in
     let r = around_head g c d later log found.0 w m h small e there in (
       (λ lt. processed_applied g d c later log a found.0 (changes_to g bases a d) h there (r.0 lt)),
       (λ lt x. let i = r.1 lt in let j = applied_processed g d c later log a found.0 a.txn (changes_to g bases a d) h small there x in absurd (omega arith)),

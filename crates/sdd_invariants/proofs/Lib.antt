@@ -1,5 +1,6 @@
 pub mod Active
 pub mod Again
+mod All
 pub mod Answered
 pub mod Apart
 pub mod Applied

@@ -1,13 +1,6 @@
 -- Members of lists by place, and lists of numbers in order.
-use Rattle.std.specs.BTreeSet.{insert_key}
-use Rattle.std.specs.Cmp.{nat_cmp_is}
-use Rattle.std.specs.List.{list_all, list_any, range_with_len}
-use Rattle.std.specs.Ordering.{nat_cmp}
-use Rattle.std.specs.Prelude.{fold}
-use Rattle.std.proofs.Common.{ℕ, ◌&&◌, ◌++◌, ◌+◌, ◌<◌, ◌∷◌, ◌≡◌, ◌≤◌, ◌⊎◌, Bool, Equal, Greater, Less, List, Some, [], ap, arith, cond, false, filter, if◌then◌else◌, inl, inr, length, map, not, refl, slice_get, subst, suc, sym, take, true, zero}
-use Rattle.sdd_log.specs.All.{ascending}
+use Rattle.sdd_invariants.proofs.All.{AllGt, AllLe, AllLt, Bool, Equal, Greater, IsStrict, Less, List, Some, [], ap, arith, ascending, cond, false, filter, fold, if◌then◌else◌, inl, inr, insert_key, length, list_all, list_any, nat_cmp, nat_cmp_is, not, range_with_len, refl, slice_get, subst, suc, sym, take, true, zero, ℕ, ◌&&◌, ◌++◌, ◌+◌, ◌<◌, ◌∷◌, ◌≡◌, ◌≤◌, ◌⊎◌}
 use Rattle.sdd_invariants.proofs.Bools.{and_left, and_right, lower_same_higher, only_right, true_or_false}
-use Rattle.sdd_invariants.specs.Orders.{AllGt, AllLe, AllLt, IsStrict}
 
 -- members by place
 
@@ -16,11 +9,6 @@ pub in_either : {A : Type 0} (xs ys : List A) (k : ℕ) (m : A) → slice_get (x
 in_either [] ys k m e = inr (k, e)
 in_either (x ∷ xs) ys zero m e = inl e
 in_either (x ∷ xs) ys (suc k) m e = in_either xs ys k m e
-
-pub in_left : {A : Type 0} (xs ys : List A) (k : ℕ) (m : A) → slice_get xs k ≡ Some m → slice_get (xs ++ ys) k ≡ Some m
-in_left [] ys k m e = cc
-in_left (x ∷ xs) ys zero m e = e
-in_left (x ∷ xs) ys (suc k) m e = in_left xs ys k m e
 
 pub in_right : {A : Type 0} (xs ys : List A) (k : ℕ) (m : A) → slice_get ys k ≡ Some m
     → (j : ℕ) × (slice_get (xs ++ ys) j ≡ Some m)
@@ -39,12 +27,6 @@ in_one ms x (suc k) m e f = let g : slice_get (x ∷ []) (suc k) ≡ Some m = su
 
 pub in_none : {A B : Type 0} (ms : List A) (k : ℕ) (m : A) → ms ≡ [] → slice_get ms k ≡ Some m → B
 in_none ms k m e f = let g : slice_get [] k ≡ Some m = subst (λ l. slice_get l k ≡ Some m) e f in cc
-
-pub in_mapped : {A B : Type 0} (f : A → B) (xs : List A) (k : ℕ) (y : B) → slice_get (map f xs) k ≡ Some y
-    → (x : A) × (slice_get xs k ≡ Some x) × (f x ≡ y)
-in_mapped f [] k y e = cc
-in_mapped f (x ∷ xs) zero y e = (x, refl, (let p : f x ≡ y = cc in p))
-in_mapped f (x ∷ xs) (suc k) y e = in_mapped f xs k y e
 
 pub in_filtered : {A : Type 0} (p : A → Bool) (xs : List A) (k : ℕ) (x : A) → slice_get (filter p xs) k ≡ Some x
     → (p x ≡ true) × (j : ℕ) × (slice_get xs j ≡ Some x)
@@ -88,11 +70,6 @@ within_left (y ∷ xs) ys (suc k) x e l = within_left xs ys k x e (omega arith)
 pub at_seam : {A : Type 0} (xs ys : List A) (y : A) → slice_get (xs ++ y ∷ ys) (length xs) ≡ Some y
 at_seam [] ys y = refl
 at_seam (x ∷ xs) ys y = at_seam xs ys y
-
-pub place_within : {A : Type 0} (xs : List A) (k : ℕ) (x : A) → slice_get xs k ≡ Some x → k < length xs
-place_within [] k x e = cc
-place_within (y ∷ xs) zero x e = omega arith
-place_within (y ∷ xs) (suc k) x e = let i = place_within xs k x e in omega arith
 
 pub any_at : {A : Type 0} (f : A → Bool) (xs : List A) → list_any f xs ≡ true → (k : ℕ) × (x : A) × (slice_get xs k ≡ Some x) × (f x ≡ true)
 any_at f [] e = cc

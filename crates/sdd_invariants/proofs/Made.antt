@@ -1,10 +1,9 @@
 -- The log of a site after an entry, and the place of each of its entries in the log of everything.
-use Rattle.std.proofs.Common.{ℕ, ◌++◌, ◌∙◌, ◌∷◌, ◌≡◌, Bool, None, Option, Some, [], ap, false, if◌then◌else◌, refl, subst, suc, sym, true}
-use Rattle.sdd_log.specs.All.{Act, D, Deliver, Did, Does, Down, Force, Given, Hand, Handed, IsPermitted, Log, Lose, Mark, Msg, Notes, Redeclare, Redeclared, Redeclares, Repeat, Resend, Round, Settle, Site, Submit, Submits, Submitted, T, Tick, Ticked, Txn, U, Up, force_at, local_of, redeclares, same_site, txn_at, with_force, with_submit}
-use Rattle.sdd_log.specs.Entries.{Entry}
+use Rattle.sdd_invariants.proofs.All.{Act, Bool, D, Deliver, Did, Does, Down, Force, Given, Hand, Handed, IsActAt, IsAt, IsHandAt, IsPermitted, IsSubmitAt, Lose, Mark, Msg, None, Notes, Option, Redeclare, Redeclared, Redeclares, Repeat, Resend, Round, Settle, Site, Some, Submit, Submits, Submitted, T, Tick, Ticked, Txn, U, Up, [], ap, false, force_at, forced, given_to, if◌then◌else◌, local_of, made, redeclares, refl, same_site, subst, suc, sym, true, txn_at, with_force, with_made, with_submit, ℕ, ◌++◌, ◌∙◌, ◌∷◌, ◌≡◌}
 use Rattle.sdd_invariants.proofs.Bools.{not_both}
 use Rattle.sdd_invariants.proofs.Sites.{site_is, site_self}
-use Rattle.sdd_invariants.specs.Made.{IsActAt, IsAt, IsHandAt, IsSubmitAt, forced, given_to, made, with_made}
+use Rattle.sdd_log.specs.All.{Log}
+use Rattle.sdd_log.specs.Entries.{Entry}
 use Rattle.sdd_log.specs.site_module.SiteLog as site
 
 submit_step : (n : ℕ) (o : Option Txn) (l : site.Log) → with_submit n o l ≡ with_made (given_to n o) l
@@ -38,7 +37,8 @@ local_step g at (Redeclares t) log = force_step at (force_at g (suc (redeclares 
 local_step g at (Hand from to n m) log =
     if_step (same_site at to) (Some (Handed from m)) (Handed from m ∷ local_of g at log) (local_of g at log) refl
 local_step g at (Submitted to n) log =
-    if_step (same_site at to) (given_to n (txn_at g n)) (with_submit n (txn_at g n) (local_of g at log)) (local_of g at log) (submit_step n (txn_at g n) (local_of g at log))
+    if_step (same_site at to) (given_to n (txn_at g n)) (with_submit n (txn_at g n) (local_of g at log)) (local_of g at log)
+    (submit_step n (txn_at g n) (local_of g at log))
 local_step g at (Does by act) log =
     if_step (same_site at by) (Some (Did act)) (Did act ∷ local_of g at log) (local_of g at log) refl
 local_step g at (Round es) log = refl
@@ -122,8 +122,7 @@ at_more g at e log x before h =
     record { later = e ∷ h.later; entry = h.entry; rest = h.rest; is = ap (λ l. e ∷ l) h.is; local_is = h.local_is; makes = h.makes }
 
 place_in : (g : Given) (at : Site) (e : Entry) (log : Log) (o : Option site.Entry) (later : site.Log) (x : site.Entry) (before : site.Log)
-    → made g at log e ≡ o
-    → ((k : site.Log) → local_of g at log ≡ k ++ x ∷ before → IsAt g at log x before)
+    → made g at log e ≡ o → ((k : site.Log) → local_of g at log ≡ k ++ x ∷ before → IsAt g at log x before)
     → with_made o (local_of g at log) ≡ later ++ x ∷ before → IsAt g at (e ∷ log) x before
 place_in g at e log None later x before m i q = at_more g at e log x before (i later q)
 place_in g at e log (Some y) [] x before m i q =
@@ -174,7 +173,8 @@ pub local_at : (g : Given) (at : Site) (later rest : Log) (e : Entry) (x : site.
 local_at g at [] rest e x m = ([], local_step g at e rest ∙ ap (λ o. with_made o (local_of g at rest)) m)
 local_at g at (y ∷ later) rest e x m =
     let i = local_at g at later rest e x m in
-    more_at (made g at (later ++ e ∷ rest) y) i.0 (local_of g at (later ++ e ∷ rest)) (x ∷ local_of g at rest) (local_of g at (y ∷ (later ++ e ∷ rest))) (local_step g at y (later ++ e ∷ rest)) i.1
+    more_at (made g at (later ++ e ∷ rest) y) i.0 (local_of g at (later ++ e ∷ rest)) (x ∷ local_of g at rest) (local_of g at (y ∷ (later ++ e ∷ rest)))
+    (local_step g at y (later ++ e ∷ rest)) i.1
 
 -- a later log's local log goes on from an earlier one's
 pub local_grows : (g : Given) (at : Site) (later log : Log)
@@ -182,7 +182,8 @@ pub local_grows : (g : Given) (at : Site) (later log : Log)
 local_grows g at [] log = ([], refl)
 local_grows g at (y ∷ later) log =
     let i = local_grows g at later log in
-    more_at (made g at (later ++ log) y) i.0 (local_of g at (later ++ log)) (local_of g at log) (local_of g at (y ∷ (later ++ log))) (local_step g at y (later ++ log)) i.1
+    more_at (made g at (later ++ log) y) i.0 (local_of g at (later ++ log)) (local_of g at log) (local_of g at (y ∷ (later ++ log)))
+    (local_step g at y (later ++ log)) i.1
 
 pub own_act : (g : Given) (at : Site) (act : Act) (log : Log) → local_of g at (Does at act ∷ log) ≡ Did act ∷ local_of g at log
 own_act g at act log = rw (site_self at) refl

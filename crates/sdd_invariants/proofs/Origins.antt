@@ -1,12 +1,7 @@
 -- A message on a link was put by one act of the site's log, and what an act puts is on the link.
-use Rattle.std.proofs.Common.{ℕ, ◌++◌, ◌<◌, ◌∷◌, ◌≡◌, ◌≤◌, List, Some, [], ap, arith, false, inl, inr, length, refl, slice_get}
-use Rattle.sdd_log.specs.All.{Act, Attempt, Bases, Change, D, Did, Entry, Handed, Msg, Redeclared, Setting, Site, Submits, Ticked, Write, class_no, commit_act, dm_no, effect, is_empty, sends_of_act, time_at, txn_no, write_to}
-use Rattle.sdd_log.specs.site_module.SiteLog.{Log}
-use Rattle.sdd_invariants.specs.Puts.{IsPut}
-use Rattle.sdd_invariants.proofs.Lists.{in_either, in_left, in_right}
+use Rattle.sdd_invariants.proofs.All.{Act, Attempt, Bases, Change, D, Did, Entry, Handed, IsPut, List, Log, Msg, Redeclared, Setting, Site, Some, Submits, Ticked, Write, [], ap, arith, changes_at, class_no, commit_act, dm_no, effect, false, in_left, inl, inr, is_empty, length, puts_to, refl, sends_of_act, slice_get, time_at, to_site, txn_no, write_to, ℕ, ◌++◌, ◌<◌, ◌∷◌, ◌≡◌, ◌≤◌}
+use Rattle.sdd_invariants.proofs.Lists.{in_either, in_right}
 use Rattle.sdd_invariants.proofs.Sites.{some_to}
-use Rattle.sdd_invariants.specs.Steps.{changes_at}
-use Rattle.sdd_invariants.specs.Traffic.{puts_to, to_site}
 
 more_put : (b : Site) (e : Entry) (log : Log) (m : Msg) → IsPut b log m → IsPut b (e ∷ log) m
 more_put b e log m h =

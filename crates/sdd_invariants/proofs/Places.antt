@@ -1,8 +1,5 @@
 -- Two places of one log; and a class that is idle stays so until it records something.
-use Rattle.std.proofs.Common.{ℕ, ◌++◌, ◌<◌, ◌==◌, ◌∙◌, ◌∷◌, ◌≡◌, ◌⊎◌, List, None, Option, Some, [], ap, arith, false, inl, inr, length, length-append, refl, subst, sym}
-use Rattle.sdd_log.specs.All.{Attempt, Commit, D, Did, Entry, Handed, Msg, Queued, Rec, Records, Redeclared, Sends, Setting, Site, Start, Submits, T, Ticked, U, active, active_after, active_handed, active_sent, queue}
-use Rattle.sdd_log.specs.site_module.SiteLog.{Log}
-use Rattle.sdd_invariants.specs.OfRecords.{NoRecord, is_recorded}
+use Rattle.sdd_invariants.proofs.All.{Attempt, Commit, D, Did, Entry, Handed, List, Log, Msg, NoRecord, None, Option, Queued, Rec, Records, Redeclared, Sends, Setting, Site, Some, Start, Submits, T, Ticked, U, [], active, active_after, active_handed, active_sent, ap, arith, false, inl, inr, is_recorded, length, length-append, queue, refl, subst, sym, ℕ, ◌++◌, ◌<◌, ◌==◌, ◌∙◌, ◌∷◌, ◌≡◌, ◌⊎◌}
 
 abbrev pub AreSame : {A : Type 0} → A → A → List A → List A → Type 0
 AreSame x y b1 b2 = (b1 ≡ b2) × (x ≡ y)
@@ -41,12 +38,12 @@ other_record c k (Start txn attempt class ts p2 uses) sends qs a e = rw e refl
 other_record c k (Commit txn attempt reply changes values rows) sends qs a e = rw e refl
 other_record c k _ sends qs a e = refl
 
-none_handed : (c : ℕ) (from : Site) (m : Msg) (o : Option Attempt) → o ≡ None → active_handed c from m o ≡ None
+pub none_handed : (c : ℕ) (from : Site) (m : Msg) (o : Option Attempt) → o ≡ None → active_handed c from m o ≡ None
 none_handed c (D d) m o e = rw e refl
 none_handed c U m o e = e
 none_handed c (T t) m o e = e
 
-none_sent : (c : ℕ) (m : Msg) (o : Option Attempt) → o ≡ None → active_sent c m o ≡ None
+pub none_sent : (c : ℕ) (m : Msg) (o : Option Attempt) → o ≡ None → active_sent c m o ≡ None
 none_sent c m o e = rw e refl
 
 pub idle_stays : (s : Setting) (c : ℕ) (later log : Log) → NoRecord c later → active s c log ≡ None
@@ -79,8 +76,7 @@ not_both s c log a e f = let q : ◌≡◌ {A = Option Attempt} None (Some a) = 
 -- where the class is idle behind the Start of an attempt, that attempt's Commit, if it comes anywhere, stands before
 pub committed_by : (s : Setting) (c : ℕ) (l2 l3 later b1 b2 b3 z : Log) (a : Attempt) (start commit y : Entry)
     → l3 ++ commit ∷ b3 ≡ l2 ++ y ∷ b2 → active s c b3 ≡ Some a → b3 ≡ later ++ start ∷ b1 → NoRecord c later
-    → b2 ≡ z ++ start ∷ b1 → active s c b2 ≡ None
-    → (w : Log) × (b2 ≡ w ++ commit ∷ b3)
+    → b2 ≡ z ++ start ∷ b1 → active s c b2 ≡ None → (w : Log) × (b2 ≡ w ++ commit ∷ b3)
 committed_by s c l2 l3 later b1 b2 b3 z a start commit y e f g n p idle =
     elim (compare l3 l2 commit y b3 b2 e) [
       | inl q ↦ absurd (not_both s c b2 a (subst (λ l. active s c l ≡ Some a) q.0 f) idle)

@@ -1,17 +1,10 @@
 -- The records of a pipe belong to its messages, in order.
-use Rattle.std.specs.List.{AllZip}
-use Rattle.std.proofs.Common.{ℕ, ◌&&◌, ◌++◌, ◌==◌, ◌∙◌, ◌∷◌, ◌≡◌, ◌⊎◌, Bool, List, None, Some, [], ap, false, if◌then◌else◌, inl, inr, refl, slice_get, subst, suc, sym, true, zero}
-use Rattle.sdd_log.specs.All.{Act, Answer, Apply, Cond, Did, Each, Handed, Msg, Null, Pass, Pipe, Read, Rec, Records, Redeclared, Sends, Setting, Site, Submits, Ticked, View, Write, goes_through, head, head_processed, is_processing, is_wait, one_or_none, pipe, put, view_of, waits}
-use Rattle.sdd_log.specs.history.declared.record.Rec.TheVariants.{Reject as Rejected}
-use Rattle.sdd_log.specs.site_module.SiteLog.{Log}
-use Rattle.sdd_invariants.specs.Matched.{IsMatched}
+use Rattle.sdd_invariants.proofs.All.{Act, AllZip, Answer, Apply, Bool, Cond, Did, Each, Handed, IsClassHere, IsDueEach, IsMatched, IsOf, IsReadStep, IsReadWith, List, Log, May, Msg, None, Null, Pass, Pipe, Read, Rec, Records, Redeclared, Rejected, Sends, Setting, Site, Some, Submits, Ticked, View, Write, [], ap, by_record, by_wait, false, goes_through, head, head_processed, if◌then◌else◌, in_passing, inl, inr, is_moving, is_processing, is_wait, one_or_none, pipe, put, refl, results, slice_get, spoiler, subst, suc, sym, true, view_of, waits, zero, ℕ, ◌&&◌, ◌++◌, ◌==◌, ◌∙◌, ◌∷◌, ◌≡◌, ◌⊎◌}
 use Rattle.sdd_invariants.proofs.AreReadSteps.{d_step}
 use Rattle.sdd_invariants.proofs.Bools.{if_way, neither_left, neither_right, same_number, same_or_not}
-use Rattle.sdd_invariants.specs.ReadSteps.{IsClassHere, IsDueEach, IsOf, IsReadStep, IsReadWith, May, by_record, by_wait, in_passing, is_moving, results, spoiler}
 
 -- what holds of each kind of step holds of an act that is one
-pub read_step_way : (s : Setting) (log : Log) (act : Act) (P : Act → Type 0)
-    → (is_moving act ≡ false → P act)
+pub read_step_way : (s : Setting) (log : Log) (act : Act) (P : Act → Type 0) → (is_moving act ≡ false → P act)
     → ((c : ℕ) (conds : List Cond) (r : Rec) (sends : List (Site × Msg)) → IsClassHere s c → is_processing r ≡ false → is_wait r ≡ true → IsReadWith conds (head (pipe c log)) → spoiler (view_of s log) conds ≡ None → P (Records c r sends))
     → ((c : ℕ) (m : Msg) (r : Rec) (sends : List (Site × Msg)) → IsClassHere s c → is_processing r ≡ true → head (pipe c log) ≡ Some m → May (view_of s log) c (waits c log) m r → P (Records c r sends))
     → IsReadStep s log act → P act
@@ -28,7 +21,7 @@ same_of : (c k : ℕ) (b : Bool) (r : Rec) (sends : List (Site × Msg)) (log : L
     → IsSame c log (Did (Records k r sends) ∷ log)
 same_of c k b r sends log e = record { pipe_same = rw e refl; results_same = rw e refl }
 
-and_false : (a : Bool) → (a && false) ≡ false
+pub and_false : (a : Bool) → (a && false) ≡ false
 and_false true = refl
 and_false false = refl
 
@@ -89,7 +82,8 @@ matched_own : (s : Setting) (c : ℕ) (m : Msg) (r : Rec) (sends : List (Site ×
     → IsMatched c (Did (Records c r sends) ∷ log)
 matched_own s c m r sends log p e i h =
     let o = own_record c r sends log p in
-    let d : (pipe c (Did (Records c r sends) ∷ log)).processed ≡ (pipe c log).processed ++ m ∷ [] = ap (λ q. q.processed) o.0 ∙ processed_more (pipe c log) m e in
+    let d : (pipe c (Did (Records c r sends) ∷ log)).processed ≡ (pipe c log).processed ++ m ∷ [] = ap (λ q. q.processed) o.0
+    ∙ processed_more (pipe c log) m e in
     record { matched = rw (o.1, d) (zip_push IsOf (results c log) (pipe c log).processed r m h.matched (may_is (view_of s log) c (waits c log) m r i)) }
 
 pub matched : (s : Setting) (c : ℕ) (log : Log) → Each (IsDueEach s) log → IsMatched c log
@@ -105,7 +99,8 @@ matched s c (Did act ∷ log) h =
     (λ e. matched_same c log (Did act ∷ log) (passing c act log e).0 i)
     (λ k conds r sends l p w a b. matched_same c log (Did (Records k r sends) ∷ log) (not_own c k r sends log (inr p)) i)
     (λ k m r sends l p e j. elim (same_or_not k c) [
-      | inl q ↦ subst (λ x. IsMatched c (Did (Records x r sends) ∷ log)) (sym q) (matched_own s c m r sends log p (rw q at e) (subst (λ x. May (view_of s log) x (waits x log) m r) q j) i)
+      | inl q ↦ subst (λ x. IsMatched c (Did (Records x r sends) ∷ log)) (sym q)
+          (matched_own s c m r sends log p (rw q at e) (subst (λ x. May (view_of s log) x (waits x log) m r) q j) i)
       | inr q ↦ matched_same c log (Did (Records k r sends) ∷ log) (not_own c k r sends log (inl q)) i
     ]) (d_step s log act h.0)
 

@@ -1,15 +1,8 @@
 -- Who puts what at a data module.
-use Rattle.std.specs.List.{list_all}
-use Rattle.std.proofs.Common.{ℕ, ◌++◌, ◌==◌, ◌∷◌, ◌≡◌, ◌⊎◌, Bool, List, None, Option, Some, [], ap, arith, false, filter, if◌then◌else◌, inl, inr, is_some, map, not, refl, slice_get, subst, suc, sym, true, zero}
-use Rattle.std.proofs.lemmas.Bool.{eqb-true}
-use Rattle.sdd_log.specs.All.{Act, Apply, Arrive, Change, ClassNo, ClassView, Cond, Did, Done, Each, Entry, Fetch, Handed, Home, IsDue, Msg, Null, Open, Processes, Read, Records, Redeclared, Reduce, Sends, Setting, Ship, Site, Submits, Ticked, Ts, TxnNo, U, Use, Write, act_by, act_where, answer_of, answer_to, ask_for, by_head, by_open, class_asked, hands, head, head_due, head_of, home_of, is_asked_of, is_held, is_met, judged, lacking, opens, opens_acted, pipe, piped, same_site, sends_of_act, step_on, view_of, waits}
-use Rattle.sdd_log.specs.site_module.SiteLog.{Log}
-use Rattle.sdd_invariants.specs.PutsBy.{IsFetch, IsPutByD, IsReduce, IsShip, WasAsked}
+use Rattle.sdd_invariants.proofs.All.{Act, Apply, Arrive, Bool, Change, ClassNo, ClassView, Cond, Did, Done, Each, Entry, Fetch, Handed, Home, IsClassHere, IsDue, IsDueEach, IsFetch, IsPutByD, IsReduce, IsShip, List, Log, Msg, None, Null, Open, Option, Processes, Read, Records, Redeclared, Reduce, Sends, Setting, Ship, Site, Some, Submits, Ticked, Ts, TxnNo, U, Use, WasAsked, Write, [], act_by, act_where, answer_of, answer_to, ap, arith, ask_for, by_head, by_open, class_asked, eqb-true, false, filter, hands, head, head_due, head_of, home_of, if◌then◌else◌, inl, inr, is_asked_of, is_held, is_met, is_some, judged, lacking, list_all, map, not, opens, opens_acted, pipe, piped, puts_to, refl, same_site, sends_of_act, slice_get, spoiler, step_on, subst, suc, sym, to_site, true, view_of, waits, zero, ℕ, ◌++◌, ◌==◌, ◌∷◌, ◌≡◌, ◌⊎◌}
 use Rattle.sdd_invariants.proofs.AreReadSteps.{class_at_place}
 use Rattle.sdd_invariants.proofs.Lists.{in_either, in_filtered, in_one}
 use Rattle.sdd_invariants.proofs.Sites.{site_is, the_one}
-use Rattle.sdd_invariants.specs.ReadSteps.{IsClassHere, IsDueEach, spoiler}
-use Rattle.sdd_invariants.specs.Traffic.{puts_to, to_site}
 
 abbrev PutsBy : Setting → Log → Act → Type 0
 PutsBy s log act = (b : Site) (k : ℕ) (m : Msg) → slice_get (to_site b (sends_of_act act)) k ≡ Some m → IsPutByD s log b act m
@@ -74,7 +67,7 @@ by_open_one s log h k o (Ship ts class) a w e = puts_some s log _ a
     (λ b j x q. let i = the_one b o.from _ j x q in subst (IsPutByD s log b _) i.1 (asked_at log b o.from (IsShip ts class) (Ship ts class) i.0 w refl)) e
 by_open_one s log h k o _ a w e = cc
 
-first_there : (os : List Open) (o : Open) → head_of os ≡ Some o → slice_get os 0 ≡ Some o
+pub first_there : (os : List Open) (o : Open) → head_of os ≡ Some o → slice_get os 0 ≡ Some o
 first_there [] o e = cc
 first_there (x ∷ os) o e = e
 
@@ -89,8 +82,7 @@ by_asked s log h k (Some o) a p e =
 
 map_cons : (f : Cond → Site × Msg) (d : Cond) (ds : List Cond) (ms : List Msg) (b : Site) (k : ℕ) (m : Msg) → b ≡ (f d).0
     → ((j : ℕ) → slice_get ms j ≡ Some m → (i : ℕ) × (x : Cond) × (slice_get ds i ≡ Some x) × (f x ≡ (b, m)))
-    → slice_get ((f d).1 ∷ ms) k ≡ Some m
-    → (i : ℕ) × (x : Cond) × (slice_get (d ∷ ds) i ≡ Some x) × (f x ≡ (b, m))
+    → slice_get ((f d).1 ∷ ms) k ≡ Some m → (i : ℕ) × (x : Cond) × (slice_get (d ∷ ds) i ≡ Some x) × (f x ≡ (b, m))
 map_cons f d ds ms b zero m p g e = let q : (f d).1 ≡ m = cc in (0, d, refl, (rw p (ap (λ z. ((f d).0, z)) q)))
 map_cons f d ds ms b (suc k) m p g e = let i = g k e in (suc i.0, i.1, i.2, i.3)
 

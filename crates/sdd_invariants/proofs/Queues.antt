@@ -1,14 +1,8 @@
 -- The queue of a class is what was submitted to it and isn't committed, each with the number of its Starts; the active
 -- attempt is that of its head.
-use Rattle.std.specs.Prelude.{filter_map}
-use Rattle.std.proofs.Common.{ℕ, ◌++◌, ◌<◌, ◌==◌, ◌||◌, ◌∙◌, ◌∷◌, ◌≡◌, ◌⊎◌, Bool, List, None, Option, Some, [], ap, arith, cond, false, filter, if◌then◌else◌, inl, inr, map, not, refl, subst, suc, sym, true}
-use Rattle.std.proofs.lemmas.List.Elements.{filter_map-append}
-use Rattle.sdd_log.specs.All.{Act, Attempt, Bases, Did, Each, Entry, Exchange, Handed, Msg, Queued, Redeclared, Sends, Setting, Site, Submits, Ticked, Txn, active, commit_act, contains, head_of, in_force, is_for, queue, sends_of_act, started, submits, tried}
-use Rattle.sdd_log.specs.site_module.SiteLog.{Log}
-use Rattle.sdd_invariants.specs.InQueues.{AllKnown, IsQueue}
+use Rattle.sdd_invariants.proofs.All.{Act, AllKnown, Attempt, Bases, Bool, Did, Each, Entry, Exchange, Handed, IsFair, IsNew, IsQueue, IsServed, IsStep, List, Log, Msg, None, Option, Queued, Redeclared, Sends, Setting, Site, Some, Submits, Ticked, Txn, [], active, ap, arith, commit_act, cond, contains, false, filter, filter_map, filter_map-append, head_of, if◌then◌else◌, in_force, inl, inr, is_committed, is_for, map, next_stamp, not, or_right, queue, queued, refl, sends_of_act, start_at, started, starts_of, submits, submits_of, subst, suc, sym, tried, true, ℕ, ◌++◌, ◌<◌, ◌==◌, ◌||◌, ◌∙◌, ◌∷◌, ◌≡◌, ◌⊎◌}
 use Rattle.sdd_invariants.proofs.Active.{handed_way, sent_way, step_way}
-use Rattle.sdd_invariants.proofs.Bools.{if_way, neither_right, or_right, same_number, same_or_not}
-use Rattle.sdd_invariants.specs.Steps.{IsFair, IsNew, IsServed, IsStep, is_committed, next_stamp, queued, start_at, starts_of, submits_of}
+use Rattle.sdd_invariants.proofs.Bools.{if_way, neither_right, same_number, same_or_not}
 
 -- lists
 known_more : (log more : Log) (xs : List (ℕ × Txn))
@@ -99,10 +93,12 @@ queue_start : (s : Setting) (c : ℕ) (log : Log) (q : Queued) → head_of (queu
     → IsQueue s c (Did (start_at s c log q) ∷ log)
 queue_start s c log q e h =
     let act : Act = start_at s c log q in
-    let starts : (m : ℕ) → starts_of c m (Did act ∷ log) ≡ (if m == q.number then suc (starts_of c m log) else starts_of c m log) = λ m. rw (same_number c) refl in
+    let starts : (m : ℕ) → starts_of c m (Did act ∷ log) ≡ (if m == q.number then suc (starts_of c m log) else starts_of c m log) = λ m. rw
+    (same_number c) refl in
     let there : contains (submits log) q.number ≡ true = head_known c log (submits_of s c log) q h.known (ap head_of (sym h.is) ∙ e) in
     record {
-      is = rw (same_number c) (ap (map (tried q.number)) h.is ∙ sym (map_each (queued c log) (queued c (Did act ∷ log)) (tried q.number) (submits_of s c log) (λ x. start_each c log act q.number x starts (λ m. refl))));
+      is = rw (same_number c)
+          (ap (map (tried q.number)) h.is ∙ sym (map_each (queued c log) (queued c (Did act ∷ log)) (tried q.number) (submits_of s c log) (λ x. start_each c log act q.number x starts (λ m. refl))));
       known = known_more log (Did act ∷ log) (submits_of s c log) (λ n p. p) h.known;
       fresh = λ n p. (starts n ∙ ap (λ b. if b then suc (starts_of c n log) else starts_of c n log) (other_number n q.number log p there) ∙ (h.fresh n p).0, (h.fresh n p).1);
       served = rw (same_number c) (serve_start (next_stamp s log) (sends_of_act act) (queue s c log) q e);
@@ -113,7 +109,8 @@ commit_each : (c : ℕ) (log : Log) (act : Act) (n : ℕ) (x : ℕ × Txn)
     → ((m : ℕ) → is_committed c m (Did act ∷ log) ≡ ((m == n) || is_committed c m log))
     → (queued c log x ≡ None) × (queued c (Did act ∷ log) x ≡ None) ⊎ ((q : Queued) × (queued c log x ≡ Some q) × (((not (q.number == n) ≡ true) × (queued c (Did act ∷ log) x ≡ Some q)) ⊎ ((not (q.number == n) ≡ false) × (queued c (Did act ∷ log) x ≡ None))))
 commit_each c log act n x f g =
-    elim (is_committed c x.0 log) as (λ b. is_committed c x.0 log ≡ b → (queued c log x ≡ None) × (queued c (Did act ∷ log) x ≡ None) ⊎ ((q : Queued) × (queued c log x ≡ Some q) × (((not (q.number == n) ≡ true) × (queued c (Did act ∷ log) x ≡ Some q)) ⊎ ((not (q.number == n) ≡ false) × (queued c (Did act ∷ log) x ≡ None))))) [
+    elim (is_committed c x.0 log) as
+    (λ b. is_committed c x.0 log ≡ b → (queued c log x ≡ None) × (queued c (Did act ∷ log) x ≡ None) ⊎ ((q : Queued) × (queued c log x ≡ Some q) × (((not (q.number == n) ≡ true) × (queued c (Did act ∷ log) x ≡ Some q)) ⊎ ((not (q.number == n) ≡ false) × (queued c (Did act ∷ log) x ≡ None))))) [
       | true ↦ λ p. inl (rw p refl, rw (g x.0, p) (elim (x.0 == n) as (λ b. (if b || true then None else Some (stands x.0 x.1 (starts_of c x.0 (Did act ∷ log)))) ≡ None) [ true ↦ refl | false ↦ refl ]))
       | false ↦ λ p. inr (
         stands x.0 x.1 (starts_of c x.0 log),
@@ -141,17 +138,21 @@ exchanged a x (q ∷ qs) h = h
 queue_submit : (s : Setting) (c : ℕ) (log : Log) (k : ℕ) (txn : Txn) → contains (submits log) k ≡ false → IsQueue s c log
     → IsQueue s c (Submits k txn ∷ log)
 queue_submit s c log k txn new h =
-    let more : AllKnown (Submits k txn ∷ log) (submits_of s c log) = known_more log (Submits k txn ∷ log) (submits_of s c log) (λ n p. or_right (k == n) (contains (submits log) n) p) h.known in
+    let more : AllKnown (Submits k txn ∷ log) (submits_of s c log) = known_more log (Submits k txn ∷ log) (submits_of s c log)
+    (λ n p. or_right (k == n) (contains (submits log) n) p) h.known in
     let self : contains (submits (Submits k txn ∷ log)) k ≡ true = rw (same_number k) refl in
     let stood : queued c log (k, txn) ≡ Some (stands k txn 0) = rw ((h.fresh k new).1, (h.fresh k new).0) refl in
     record {
-      is = elim (is_for c (in_force s log).catalogue txn) as (λ b. (if b then queue s c log ++ stands k txn 0 ∷ [] else queue s c log) ≡ filter_map (queued c log) (if b then submits_of s c log ++ (k, txn) ∷ [] else submits_of s c log)) [
-        | true ↦ ap (λ l. l ++ stands k txn 0 ∷ []) h.is ∙ sym (filter_map-append (queued c log) (submits_of s c log) ((k, txn) ∷ []) ∙ rw stood refl)
-        | false ↦ h.is
-      ];
-      known = if_way (AllKnown (Submits k txn ∷ log)) (is_for c (in_force s log).catalogue txn) (submits_of s c log ++ (k, txn) ∷ []) (submits_of s c log) (known_push (Submits k txn ∷ log) (submits_of s c log) (k, txn) more self) more;
+      is = elim (is_for c (in_force s log).catalogue txn) as
+          (λ b. (if b then queue s c log ++ stands k txn 0 ∷ [] else queue s c log) ≡ filter_map (queued c log) (if b then submits_of s c log ++ (k, txn) ∷ [] else submits_of s c log)) [
+            | true ↦ ap (λ l. l ++ stands k txn 0 ∷ []) h.is ∙ sym (filter_map-append (queued c log) (submits_of s c log) ((k, txn) ∷ []) ∙ rw stood refl)
+            | false ↦ h.is
+          ];
+      known = if_way (AllKnown (Submits k txn ∷ log)) (is_for c (in_force s log).catalogue txn) (submits_of s c log ++ (k, txn) ∷ []) (submits_of s c log)
+          (known_push (Submits k txn ∷ log) (submits_of s c log) (k, txn) more self) more;
       fresh = λ n p. h.fresh n (neither_right (k == n) (contains (submits log) n) p);
-      served = if_way (IsServed (active s c log)) (is_for c (in_force s log).catalogue txn) (queue s c log ++ stands k txn 0 ∷ []) (queue s c log) (served_push (active s c log) (queue s c log) (stands k txn 0) h.served) h.served;
+      served = if_way (IsServed (active s c log)) (is_for c (in_force s log).catalogue txn) (queue s c log ++ stands k txn 0 ∷ []) (queue s c log)
+          (served_push (active s c log) (queue s c log) (stands k txn 0) h.served) h.served;
     }
 
 queue_commit : (s : Setting) (c : ℕ) (bases : Bases) (log : Log) (a : Attempt) → active s c log ≡ Some a → IsQueue s c log
@@ -160,9 +161,11 @@ queue_commit s c bases log a e h =
     let act : Act = commit_act s.catalogue bases c a in
     let commits : (m : ℕ) → is_committed c m (Did act ∷ log) ≡ ((m == a.txn) || is_committed c m log) = λ m. rw (same_number c) refl in
     let head = served_head a (queue s c log) (subst (λ o. IsServed o (queue s c log)) e h.served) in
-    let there : contains (submits log) a.txn ≡ true = subst (λ n. contains (submits log) n ≡ true) head.2 (head_known c log (submits_of s c log) head.0 h.known (ap head_of (sym h.is) ∙ head.1)) in
+    let there : contains (submits log) a.txn ≡ true = subst (λ n. contains (submits log) n ≡ true) head.2
+    (head_known c log (submits_of s c log) head.0 h.known (ap head_of (sym h.is) ∙ head.1)) in
     record {
-      is = rw (same_number c) (ap (filter (λ q. not (q.number == a.txn))) h.is ∙ sym (filter_each (queued c log) (queued c (Did act ∷ log)) (λ q. not (q.number == a.txn)) (submits_of s c log) (λ x. commit_each c log act a.txn x (λ m. refl) commits)));
+      is = rw (same_number c)
+          (ap (filter (λ q. not (q.number == a.txn))) h.is ∙ sym (filter_each (queued c log) (queued c (Did act ∷ log)) (λ q. not (q.number == a.txn)) (submits_of s c log) (λ x. commit_each c log act a.txn x (λ m. refl) commits)));
       known = known_more log (Did act ∷ log) (submits_of s c log) (λ n p. p) h.known;
       fresh = λ n p. ((h.fresh n p).0, commits n ∙ ap (λ b. b || is_committed c n log) (other_number n a.txn log p there) ∙ (h.fresh n p).1);
       served = rw (same_number c) tt;
@@ -175,7 +178,8 @@ queue_same : (s : Setting) (c : ℕ) (log : Log) (e : Entry) → queue s c (e �
     → ((n : ℕ) → contains (submits (e ∷ log)) n ≡ contains (submits log) n) → IsServed (active s c (e ∷ log)) (queue s c log)
     → IsQueue s c log → IsQueue s c (e ∷ log)
 queue_same s c log e a b f g w i h = record {
-  is = a ∙ h.is ∙ same_map (queued c log) (queued c (e ∷ log)) (submits_of s c log) (λ x. same_queued c log e x f g) ∙ ap (filter_map (queued c (e ∷ log))) (sym b);
+  is = a ∙ h.is ∙ same_map (queued c log) (queued c (e ∷ log)) (submits_of s c log) (λ x. same_queued c log e x f g)
+      ∙ ap (filter_map (queued c (e ∷ log))) (sym b);
   known = subst (AllKnown (e ∷ log)) (sym b) (known_more log (e ∷ log) (submits_of s c log) (λ n p. w n ∙ p) h.known);
   fresh = λ n p. (f n ∙ (h.fresh n (sym (w n) ∙ p)).0, g n ∙ (h.fresh n (sym (w n) ∙ p)).1);
   served = subst (IsServed (active s c (e ∷ log))) (sym a) i;

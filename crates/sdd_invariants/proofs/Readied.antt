@@ -1,34 +1,18 @@
 -- Once an attempt awaits no READY any more, a READY for it was handed from each of its modules. It rests on this, that each
 -- answer of an exchange comes after a question.
-use Rattle.std.specs.List.{cons_option}
-use Rattle.std.specs.Prelude.{filter_map}
-use Rattle.std.proofs.Common.{ℕ, ◌&&◌, ◌++◌, ◌+◌, ◌==◌, ◌||◌, ◌∙◌, ◌∷◌, ◌≡◌, ◌≤◌, ◌⊎◌, Bool, List, None, Option, Some, [], ap, arith, cond, false, if◌then◌else◌, inl, inr, length, map, not, refl, subst, sym, true}
-use Rattle.std.proofs.lemmas.Bool.{eqb-true}
-use Rattle.sdd_log.specs.All.{Act, Attempt, Bases, Catalogue, Change, ClassNo, D, Did, DmNo, Each, Entry, Exchange, Fetch, Handed, Msg, Phase, Queued, Reading, Ready, Redeclared, Reduce, Reduced, Sends, Setting, Ship, Site, Submits, T, Ticked, Ts, U, Values, Write, active, active_handed, active_sent, after_hand, after_send, answered, asks_rows, begins, class_no, commit_act, contains, counted, counts, dm_no, effect, first_phase, is_empty, is_over, lacking, module_read, numbers_to, phase_ends, rejects, same_site, sends_of_act, started, time_at, txn_no, with_values, without, write_to}
-use Rattle.sdd_log.specs.wire.declared.msg.Msg.TheVariants.{Rows}
-use Rattle.sdd_log.specs.site_module.SiteLog.{Log}
+use Rattle.sdd_invariants.proofs.All.{Act, AllReadied, AreReady, Attempt, Bases, Bool, Catalogue, Change, ClassNo, D, Did, DmNo, Each, Entry, Exchange, Fetch, Handed, IsFair, IsHonest, IsSend, IsStep, List, Log, Msg, None, Option, Phase, Queued, Reading, Ready, Redeclared, Reduce, Reduced, Rows, Sends, Setting, Ship, Site, Some, Submits, T, Ticked, Ts, U, Values, Write, [], a_held, a_hold, a_null, a_release, active, active_handed, active_sent, after_hand, after_send, answered, ap, arith, asks_in, asks_rows, begins, both, changes_at, class_no, commit_act, cond, cons_option, contains, counted, counts, dm_no, effect, eqb-true, false, filter_map, first_phase, firsts, if◌then◌else◌, inl, inr, is_empty, is_over, is_reading, is_ready, lacking, last_stamp, length, map, module_read, modules_asked, neither, next_stamp, not, numbers_to, of_exchange, or_left, or_right, phase_ends, refl, rejects, same_site, sends_of_act, site_d, stamp_or, start_at, start_read, started, subst, sym, time_at, true, txn_no, was_asked, was_ready, with_values, without, write_to, ℕ, ◌&&◌, ◌++◌, ◌+◌, ◌==◌, ◌||◌, ◌∙◌, ◌∷◌, ◌≡◌, ◌≤◌, ◌⊎◌}
 use Rattle.sdd_invariants.proofs.Clocks.{drawn, stamp_rises}
-use Rattle.sdd_invariants.specs.Stamps.{stamp_or}
-use Rattle.sdd_invariants.specs.Readied.{AllReadied, AreReady, IsHonest, asks_in, firsts, is_ready, site_d, was_asked, was_ready}
 use Rattle.sdd_invariants.proofs.Active.{step_way}
-use Rattle.sdd_invariants.proofs.Bools.{and_left, and_right, both, if_way, not_both, only_right, or_left, or_right, same_number, same_or_not}
-use Rattle.sdd_invariants.proofs.Exchanges.{GoesOn, answered_goes, hand_goes}
+use Rattle.sdd_invariants.proofs.Bools.{and_left, and_right, if_way, not_both, only_right, same_number, same_or_not}
+use Rattle.sdd_invariants.proofs.Exchanges.{GoesOn, answered_goes, hand_goes, never}
 use Rattle.sdd_invariants.proofs.Sites.{site_self}
-use Rattle.sdd_invariants.specs.Steps.{IsFair, IsSend, IsStep, a_held, a_hold, a_null, a_release, changes_at, is_reading, last_stamp, modules_asked, next_stamp, of_exchange, start_at, start_read}
-
-never : {A : Type 0} (b : Bool) → b ≡ true → b ≡ false → A
-never b e f = absurd (not_both b e f)
-
-neither : (a b : Bool) → a ≡ false → b ≡ false → (a || b) ≡ false
-neither true b e f = cc
-neither false b e f = f
 
 either : (a b : Bool) → (a || b) ≡ true → (a ≡ true) ⊎ (b ≡ true)
 either true b e = inl refl
 either false b e = inr e
 
 -- whose question it is
-asks_whose : (t k ts c : ℕ) (m : Msg) → asks_rows t k m ≡ true → asks_rows ts c m ≡ true → (t ≡ ts) × (k ≡ c)
+pub asks_whose : (t k ts c : ℕ) (m : Msg) → asks_rows t k m ≡ true → asks_rows ts c m ≡ true → (t ≡ ts) × (k ≡ c)
 asks_whose t k ts c (Fetch a b u col) e f =
     (sym (eqb-true a.0 t (and_left _ _ e)) ∙ eqb-true a.0 ts (and_left _ _ f), sym (eqb-true b.0 k (and_right _ _ e)) ∙ eqb-true b.0 c (and_right _ _ f))
 asks_whose t k ts c (Reduce a b u col vs) e f =
@@ -211,23 +195,28 @@ got_if ts c d log false x z h f k = k
 got_ready : (ts c : ℕ) (d : DmNo) (t : Ts) (k : ClassNo) (counts : List (ℕ × ℕ)) (log : Log) → ((t.0 == ts) && (k.0 == c)) ≡ true
     → was_ready ts c (site_d d.0) (Handed (D d) (Ready t k counts) ∷ log) ≡ true
 got_ready ts c d t k counts log e =
-    or_left (same_site (D d) (D d) && is_ready ts c (Ready t k counts)) (was_ready ts c (D d) log) (both (same_site (D d) (D d)) (is_ready ts c (Ready t k counts)) (site_self (D d)) e)
+    or_left (same_site (D d) (D d) && is_ready ts c (Ready t k counts)) (was_ready ts c (D d) log)
+    (both (same_site (D d) (D d)) (is_ready ts c (Ready t k counts)) (site_self (D d)) e)
 
 ready_hand : (ts c : ℕ) (d : DmNo) (m : Msg) (log : Log) (x : Exchange) → IsHonest log (Handed (D d) m)
     → (is_reading x.phase ≡ true → was_asked ts c log ≡ false) → AreReady ts c log x
     → AreReady ts c (Handed (D d) m ∷ log) (after_hand ts c d.0 m x)
 ready_hand ts c d (Ready t k counts) log x honest f h =
     let more = ready_more ts c (Handed (D d) (Ready t k counts)) log x (handed_more ts c (D d) (Ready t k counts) log) h in
-    got_if ts c d.0 (Handed (D d) (Ready t k counts) ∷ log) ((t.0 == ts) && (k.0 == c)) x (record x { counts = counted d.0 counts x.counts }) more (got_ready ts c d t k counts log) more
+    got_if ts c d.0 (Handed (D d) (Ready t k counts) ∷ log) ((t.0 == ts) && (k.0 == c)) x (record x { counts = counted d.0 counts x.counts }) more
+    (got_ready ts c d t k counts log) more
 ready_hand ts c d (Values t k u vs) log x honest f h =
     let more = ready_more ts c (Handed (D d) (Values t k u vs)) log x (handed_more ts c (D d) (Values t k u vs) log) h in
-    past_if ts c d.0 (Handed (D d) (Values t k u vs) ∷ log) ((t.0 == ts) && (k.0 == c)) x (record x { union = with_values x.union vs; values = x.values + length vs }) refl (λ b. is_past ts c log x f (honest ts c b)) more
+    past_if ts c d.0 (Handed (D d) (Values t k u vs) ∷ log) ((t.0 == ts) && (k.0 == c)) x
+    (record x { union = with_values x.union vs; values = x.values + length vs }) refl (λ b. is_past ts c log x f (honest ts c b)) more
 ready_hand ts c d (Reduced t k u n) log x honest f h =
     let more = ready_more ts c (Handed (D d) (Reduced t k u n)) log x (handed_more ts c (D d) (Reduced t k u n) log) h in
-    past_if ts c d.0 (Handed (D d) (Reduced t k u n) ∷ log) ((t.0 == ts) && (k.0 == c)) x (record x { counts = counted d.0 ((u, n) ∷ []) x.counts }) refl (λ b. is_past ts c log x f (honest ts c b)) more
+    past_if ts c d.0 (Handed (D d) (Reduced t k u n) ∷ log) ((t.0 == ts) && (k.0 == c)) x (record x { counts = counted d.0 ((u, n) ∷ []) x.counts }) refl
+    (λ b. is_past ts c log x f (honest ts c b)) more
 ready_hand ts c d (Rows t k rows) log x honest f h =
     let more = ready_more ts c (Handed (D d) (Rows t k rows)) log x (handed_more ts c (D d) (Rows t k rows) log) h in
-    past_if ts c d.0 (Handed (D d) (Rows t k rows) ∷ log) ((t.0 == ts) && (k.0 == c)) x (record x { found = x.found ++ rows; rows = x.rows + length rows }) refl (λ b. is_past ts c log x f (honest ts c b)) more
+    past_if ts c d.0 (Handed (D d) (Rows t k rows) ∷ log) ((t.0 == ts) && (k.0 == c)) x (record x { found = x.found ++ rows; rows = x.rows + length rows }) refl
+    (λ b. is_past ts c log x f (honest ts c b)) more
 ready_hand ts c d m log x honest f h = ready_more ts c (Handed (D d) m) log x (handed_more ts c (D d) m log) h
 
 -- it reads on only if it did
@@ -278,7 +267,8 @@ readied_start s c log q h =
     let sends : List (Site × Msg) = sends_of_act (start_at s c log q) in
     record {
       modules_are = starts_with s c log q (modules_asked s c q.text);
-      ready = begins_ready ts c (Did (start_at s c log q) ∷ log) (filter_map module_read sends) (begins q.text sends) refl refl (empty_or (filter_map module_read sends)) (begin_reads q sends (filter_map module_read sends) refl);
+      ready = begins_ready ts c (Did (start_at s c log q) ∷ log) (filter_map module_read sends) (begins q.text sends) refl refl
+          (empty_or (filter_map module_read sends)) (begin_reads q sends (filter_map module_read sends) refl);
       unasked = λ p. neither (asks_in ts c sends) (was_asked ts c log) (asks_start s ts c c log q) (fresh_asked s c log h);
     }
 
@@ -321,7 +311,8 @@ readied_act s c log act fair i h = step_way s log act (λ x. AllReadied s c (Did
       | inr p ↦ rw p (readied_on s c log (start_at s k log q) (active s c log) (λ ts. asks_start s ts c k log q) h)
     ])
     (λ k bases a at f. elim (same_or_not k c) [
-      | inl p ↦ subst (λ j. AllReadied s j (Did (commit_act s.catalogue bases k a) ∷ log) (active s j (Did (commit_act s.catalogue bases k a) ∷ log))) p (rw (same_number k) tt)
+      | inl p ↦ subst (λ j. AllReadied s j (Did (commit_act s.catalogue bases k a) ∷ log) (active s j (Did (commit_act s.catalogue bases k a) ∷ log))) p
+          (rw (same_number k) tt)
       | inr p ↦ rw p (readied_on s c log (commit_act s.catalogue bases k a) (active s c log) (λ ts. asks_commit s ts c k bases a) h)
     ])
     (λ to m hand f. readied_send s c log to m hand (active s c log) refl f h) i

@@ -1,20 +1,11 @@
 -- The READs of a class on a link have different, rising times.
-use Rattle.std.specs.Prelude.{filter_map}
-use Rattle.std.proofs.Common.{ℕ, ◌++◌, ◌<◌, ◌==◌, ◌∙◌, ◌∷◌, ◌≡◌, ◌≤◌, ◌⊎◌, Bool, List, None, Some, [], ap, append-nil, arith, cond, false, if◌then◌else◌, inl, inr, refl, slice_get, subst, suc, sym, true}
-use Rattle.std.proofs.lemmas.List.Elements.{filter_map-append}
-use Rattle.sdd_log.specs.All.{Act, Catalogue, Did, Each, Entry, Handed, Msg, Null, Queued, Read, Redeclared, Sends, Setting, Site, Submits, Ticked, Write, ascending, asks_rows, commit_act, fragments_in, modules_of, number_of, numbers_to, reads_at, same_site, sends_of_act, uses_of}
-use Rattle.sdd_log.specs.site_module.SiteLog.{Log}
+use Rattle.sdd_invariants.proofs.All.{Act, AllLt, Bool, Catalogue, Did, Each, Entry, Handed, IsFair, IsPutBy, IsSend, IsStep, IsStrict, List, Log, Msg, None, Null, Queued, Read, Redeclared, Sends, Setting, Site, Some, Submits, Ticked, Write, [], a_held, a_hold, a_null, a_release, ap, append-nil, arith, ascending, asks_rows, bound, commit_act, cond, false, filter_map, filter_map-append, fragments_in, if◌then◌else◌, inl, inr, modules_asked, modules_of, next_stamp, number_of, numbers_to, of_exchange, puts_to, read_at, reads_at, reads_in, refl, same_site, sends_of_act, slice_get, start_at, start_read, subst, suc, sym, to_site, true, uses_of, ℕ, ◌++◌, ◌<◌, ◌==◌, ◌∙◌, ◌∷◌, ◌≡◌, ◌≤◌, ◌⊎◌}
 use Rattle.sdd_invariants.proofs.Clocks.{bound_rises, clock_number}
 use Rattle.sdd_invariants.proofs.WritesPut.{commit_puts}
-use Rattle.sdd_invariants.specs.OnLinks.{read_at, reads_in}
-use Rattle.sdd_invariants.specs.Puts.{IsPutBy}
 use Rattle.sdd_invariants.proofs.Active.{step_way}
 use Rattle.sdd_invariants.proofs.Bools.{if_way}
 use Rattle.sdd_invariants.proofs.Lists.{ascending_ascends, in_if, in_none, in_one, lt_push, lt_up, range_ascends, strict_push}
 use Rattle.sdd_invariants.proofs.Sites.{one_of_each}
-use Rattle.sdd_invariants.specs.Orders.{AllLt, IsStrict}
-use Rattle.sdd_invariants.specs.Steps.{IsFair, IsSend, IsStep, a_held, a_hold, a_null, a_release, bound, modules_asked, next_stamp, of_exchange, start_at, start_read}
-use Rattle.sdd_invariants.specs.Traffic.{puts_to, to_site}
 
 pub strict_modules : (cat : Catalogue) (c : ℕ) (fs : List ℕ) → IsStrict (modules_of cat c fs)
 strict_modules cat c fs =

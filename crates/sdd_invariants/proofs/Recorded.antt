@@ -1,17 +1,10 @@
 -- The records of a site that runs transactions: a Start is that of its queue's head, a Commit that of the class's active attempt; and an active attempt has its Start.
-use Rattle.std.specs.Prelude.{filter_map}
-use Rattle.std.proofs.Common.{ℕ, ◌++◌, ◌<◌, ◌∙◌, ◌∷◌, ◌≡◌, ◌≤◌, Bool, List, None, Option, Some, [], ap, arith, false, if◌then◌else◌, inl, inr, length, refl, slice_get, subst, suc, sym, take, true, zero}
-use Rattle.std.proofs.Math.Decide.{dec_le}
-use Rattle.std.proofs.lemmas.List.{take-append-le, take_all}
-use Rattle.sdd_log.specs.All.{Act, Attempt, Bases, Did, Each, Entry, Handed, Queued, Redeclared, Sends, Setting, Submits, Ticked, Txn, active, commit_act, head_of, in_force, is_for, number_of, queue, sends_of_act, started}
-use Rattle.sdd_log.specs.site_module.SiteLog.{Log}
+use Rattle.sdd_invariants.proofs.All.{Act, AllCommitted, Attempt, Bases, Bool, Did, Each, Entry, Handed, HasStart, IsFair, IsFirstLeft, IsNew, IsRecord, IsServed, IsStep, List, Log, None, Option, Queued, Redeclared, Says, Sends, Setting, Some, Submits, Ticked, Txn, WasSubmitted, [], active, ap, arith, bound, commit_act, dec_le, false, filter_map, head_of, home, if◌then◌else◌, in_force, inl, inr, is_committed, is_for, is_recorded, last_stamp, length, next_stamp, number_of, queue, queued, refl, sends_of_act, slice_get, stamps, start_at, started, starts_of, submits_of, subst, suc, sym, take, take-append-le, take_all, true, zero, ℕ, ◌++◌, ◌<◌, ◌∙◌, ◌∷◌, ◌≡◌, ◌≤◌}
 use Rattle.sdd_invariants.proofs.Clocks.{clocked, stamp_below_bound}
 use Rattle.sdd_invariants.proofs.Queues.{queue_is, served_head}
-use Rattle.sdd_invariants.specs.OfRecords.{AllCommitted, HasStart, IsFirstLeft, IsRecord, Says, WasSubmitted, is_recorded}
 use Rattle.sdd_invariants.proofs.Active.{handed_way, sent_way, step_way}
 use Rattle.sdd_invariants.proofs.Bools.{same_number, same_or_not}
 use Rattle.sdd_invariants.proofs.Lists.{le_up, lt_above}
-use Rattle.sdd_invariants.specs.Steps.{IsFair, IsNew, IsServed, IsStep, bound, home, is_committed, last_stamp, next_stamp, queued, stamps, start_at, starts_of, submits_of}
 
 pub recorded : (s : Setting) (log : Log) (act : Act) → IsStep s log act → IsRecord s log act
 recorded s log act i = step_way s log act (IsRecord s log)
@@ -56,7 +49,8 @@ started_act s c log act i h = step_way s log act (λ x. IsStarted s c (Did x ∷
       | inr p ↦ rw p (started_more s c (Did (start_at s k log q)) log (active s c log) p h)
     ])
     (λ k bases a at f. elim (same_or_not k c) [
-      | inl p ↦ subst (λ j. IsStarted s j (Did (commit_act s.catalogue bases k a) ∷ log) (active s j (Did (commit_act s.catalogue bases k a) ∷ log))) p (rw (same_number k) tt)
+      | inl p ↦ subst (λ j. IsStarted s j (Did (commit_act s.catalogue bases k a) ∷ log) (active s j (Did (commit_act s.catalogue bases k a) ∷ log))) p
+          (rw (same_number k) tt)
       | inr p ↦ rw p (started_more s c (Did (commit_act s.catalogue bases k a)) log (active s c log) p h)
     ])
     (λ to m hand f. let j = started_more s c (Did (Sends to m hand)) log (active s c log) refl h in
@@ -139,7 +133,8 @@ submit_found : (s : Setting) (c : ℕ) (log : Log) (n : ℕ) (txn : Txn) (b : Bo
     → WasSubmitted s c (Submits n txn ∷ log) k m t
 submit_found s c log n txn false k m t f g i e = submitted_more s c (Submits n txn) log k m t (ap (take k) g) (i k e)
 submit_found s c log n txn true k m t f g i e = elim (dec_le (suc k) (length (submits_of s c log))) [
-  | yes l ↦ submitted_more s c (Submits n txn) log k m t (ap (take k) g ∙ take-append-le k (submits_of s c log) ((n, txn) ∷ []) (omega arith)) (i k (get_left (submits_of s c log) (pair n txn) k (pair m t) l e))
+  | yes l ↦ submitted_more s c (Submits n txn) log k m t (ap (take k) g ∙ take-append-le k (submits_of s c log) ((n, txn) ∷ []) (omega arith))
+      (i k (get_left (submits_of s c log) (pair n txn) k (pair m t) l e))
   | no l ↦ (let r = get_end (submits_of s c log) (pair n txn) k (pair m t) (omega (arith, l)) e in
       record {
         later = [];
@@ -167,7 +162,8 @@ start_says : (s : Setting) (c : ℕ) (log : Log) (q : Queued) → number_of s.si
 start_says s c log q low h n at e =
     let i = clocked s log low h in
     let l = head_left s c log q h n e in
-    let there : slice_get (submits_of s c log) l.place ≡ Some (pair q.number q.text) = l.there ∙ ap (λ m. Some (pair m l.text)) (sym l.number_is) ∙ ap (λ t. Some (pair q.number t)) (sym l.text_is) in
+    let there : slice_get (submits_of s c log) l.place ≡ Some (pair q.number q.text) = l.there ∙ ap (λ m. Some (pair m l.text)) (sym l.number_is)
+    ∙ ap (λ t. Some (pair q.number t)) (sym l.text_is) in
     let w = was_submitted s c log l.place q.number q.text there in
     record {
       at_home = at;

@@ -1,19 +1,9 @@
 -- At U: the RELEASEs to a T carry the timestamps of the Starts, in order; and for each of those as many DONEs were handed as there are data modules.
-use Rattle.std.proofs.Common.{ℕ, ◌++◌, ◌+◌, ◌<◌, ◌==◌, ◌∙◌, ◌∷◌, ◌≡◌, ◌≤◌, Bool, List, None, Option, Some, [], ap, append-nil, arith, false, if◌then◌else◌, inl, inr, length, length-append, refl, slice_get, subst, suc, sym, take, true, zero}
-use Rattle.std.proofs.Math.Decide.{dec_le}
-use Rattle.std.proofs.lemmas.List.{take-append-le}
-use Rattle.std.proofs.lemmas.List.Elements.{filter_map-append}
-use Rattle.sdd_log.specs.All.{Act, Attempt, Bases, D, Did, Done, Each, Entry, Handed, Hold, Msg, Queued, Records, Redeclared, Release, Sends, Served, Setting, Site, Start, Submits, T, Ticked, TmCounts, Ts, active, active_handed, commit_act, counts, dm_no, head_of, last_served, numbers_to, queue, sends_of_act, served_handed, started, tm_no, ts_of}
-use Rattle.sdd_log.specs.site_module.SiteLog.{Log}
-use Rattle.sdd_invariants.proofs.Serving.{chain, flip, hand_commits, hand_counts, is_tried, no_puts, none_mapped, not_started, puts_else, sent_count, u_due, u_way}
+use Rattle.sdd_invariants.proofs.All.{Act, Attempt, Bases, Bool, D, Did, Done, Each, Entry, Handed, Hold, IsChain, IsFairU, IsServing, IsStepU, IsTried, List, Log, Msg, None, Option, Queued, Records, Redeclared, Release, Sends, Served, Setting, Site, Some, Start, Submits, T, Ticked, TmCounts, Ts, [], active, active_handed, ap, append-nil, arith, commit_act, counts, dec_le, dm_no, dones_of, drawn_so_far, false, filter_map-append, hand_commits, head_of, if◌then◌else◌, inl, inr, is_done_of, last_of, last_served, length, length-append, modules_asked, next_stamp, numbers_to, one_if, puts_to, queue, refl, release_time, release_times, sends_of_act, served_handed, slice_get, start_at, start_read, started, starts, subst, suc, sym, take, take-append-le, tm_no, true, ts_of, zero, ℕ, ◌++◌, ◌+◌, ◌<◌, ◌==◌, ◌∙◌, ◌∷◌, ◌≡◌, ◌≤◌}
+use Rattle.sdd_invariants.proofs.Serving.{chain, flip, hand_counts, is_tried, no_puts, none_mapped, not_started, puts_else, sent_count, u_due, u_way}
 use Rattle.sdd_invariants.proofs.Turns.{balance}
-use Rattle.sdd_invariants.specs.AtU.{IsChain, IsFairU, IsStepU, IsTried, starts}
-use Rattle.sdd_invariants.specs.Releases.{IsServing, dones_of, drawn_so_far, is_done_of, last_of, release_time, release_times}
-use Rattle.sdd_invariants.specs.Turns.{one_if}
 use Rattle.sdd_invariants.proofs.Active.{handed_way, sent_way}
 use Rattle.sdd_invariants.proofs.Bools.{if_way, same_number, same_or_not}
-use Rattle.sdd_invariants.specs.Steps.{modules_asked, next_stamp, start_at, start_read}
-use Rattle.sdd_invariants.specs.Traffic.{puts_to}
 
 last_push : (xs : List ℕ) (x : ℕ) → last_of (xs ++ x ∷ []) ≡ Some x
 last_push [] x = refl
@@ -56,7 +46,7 @@ is_last : (xs : List ℕ) (o : Option Attempt) → LastIs xs o → (a : Attempt)
 is_last xs o h a e = subst (LastIs xs) e h
 
 -- a hand
-served_by : (m : Msg) (v : Served) → (served_handed m v).ts ≡ v.ts
+pub served_by : (m : Msg) (v : Served) → (served_handed m v).ts ≡ v.ts
 served_by (Done t) v = if_way (λ (x : Served). x.ts ≡ v.ts) (t.0 == v.ts) (record v { dones = suc v.dones }) v refl refl
 served_by m v = refl
 
@@ -72,9 +62,11 @@ serving_hand s t from m log h =
     let ts = served_by m (last_served s log) in
     record {
       counted = h.counted;
-      active_last = is_last (drawn_so_far log) (active_handed 0 from m (active s 0 log)) (handed_way (LastIs (drawn_so_far log)) 0 from m (active s 0 log) tt (λ a x e. h.active_last a e) (last_is (drawn_so_far log) (active s 0 log) h.active_last));
+      active_last = is_last (drawn_so_far log) (active_handed 0 from m (active s 0 log))
+          (handed_way (LastIs (drawn_so_far log)) 0 from m (active s 0 log) tt (λ a x e. h.active_last a e) (last_is (drawn_so_far log) (active s 0 log) h.active_last));
       served_last = λ e l. h.served_last (e ∙ c) (omega arith) ∙ ap (λ x. Some x) (sym ts);
-      dones_le = subst (λ x. (served_handed m (last_served s log)).dones ≤ dones_of x (Handed from m ∷ log)) (sym ts) (dones_by m (last_served s log) (dones_of (last_served s log).ts log) h.dones_le);
+      dones_le = subst (λ x. (served_handed m (last_served s log)).dones ≤ dones_of x (Handed from m ∷ log)) (sym ts)
+          (dones_by m (last_served s log) (dones_of (last_served s log).ts log) h.dones_le);
       released = h.released ∙ ap (λ r. take r (drawn_so_far log)) (sym k.0);
       done = λ j x l e. (let i = h.done j x (omega (arith, k.0)) e in omega arith);
     }
@@ -100,11 +92,13 @@ serving_start : (s : Setting) (t : ℕ) (log : Log) (q : Queued) → head_of (qu
 serving_start s t log q e r c h =
     let ts : ℕ = next_stamp s log in
     let act : Act = start_at s 0 log q in
-    let same : puts_to (T (tm_no t)) (Did act ∷ log) ≡ puts_to (T (tm_no t)) log = ap (λ xs. puts_to (T (tm_no t)) log ++ xs) (none_mapped (tm_no t) (start_read s 0 log q) (modules_asked s 0 q.text)) ∙ append-nil _ in
+    let same : puts_to (T (tm_no t)) (Did act ∷ log) ≡ puts_to (T (tm_no t)) log = ap (λ xs. puts_to (T (tm_no t)) log ++ xs)
+    (none_mapped (tm_no t) (start_read s 0 log q) (modules_asked s 0 q.text)) ∙ append-nil _ in
     let n = length-append (drawn_so_far log) (ts ∷ []) in
     record {
       counted = omega (arith, n, h.counted);
-      active_last = is_last (drawn_so_far log ++ ts ∷ []) (active s 0 (Did act ∷ log)) (subst (λ o. LastIs (drawn_so_far log ++ ts ∷ []) (started ts (sends_of_act act) o)) (sym e) (last_push (drawn_so_far log) ts));
+      active_last = is_last (drawn_so_far log ++ ts ∷ []) (active s 0 (Did act ∷ log))
+          (subst (λ o. LastIs (drawn_so_far log ++ ts ∷ []) (started ts (sends_of_act act) o)) (sym e) (last_push (drawn_so_far log) ts));
       served_last = λ p l. absurd (omega arith);
       dones_le = h.dones_le;
       released = ap release_times same ∙ h.released ∙ sym (take-append-le (counts t log).releases (drawn_so_far log) (ts ∷ []) (omega (arith, h.counted)));
@@ -116,7 +110,8 @@ serving_commit : (s : Setting) (t : ℕ) (log : Log) (bases : Bases) (a : Attemp
 serving_commit s t log bases a e h =
     let act : Act = commit_act s.catalogue bases 0 a in
     let none : drawn_so_far (Did act ∷ log) ≡ drawn_so_far log = append-nil _ in
-    let same : puts_to (T (tm_no t)) (Did act ∷ log) ≡ puts_to (T (tm_no t)) log = ap (λ xs. puts_to (T (tm_no t)) log ++ xs) (no_puts s (tm_no t) bases a) ∙ append-nil _ in
+    let same : puts_to (T (tm_no t)) (Did act ∷ log) ≡ puts_to (T (tm_no t)) log = ap (λ xs. puts_to (T (tm_no t)) log ++ xs) (no_puts s (tm_no t) bases a)
+    ∙ append-nil _ in
     let ts : (last_served s (Did act ∷ log)).ts ≡ a.ts = ap ts_of e in
     record {
       counted = rw none h.counted;
@@ -139,23 +134,28 @@ serving_release s t ts log l v c u h =
     let r : ℕ = (counts t log).releases in
     let xs : List ℕ = drawn_so_far log in
     let none : drawn_so_far (e ∷ log) ≡ xs = append-nil _ in
-    let k : (counts t (e ∷ log)).releases ≡ suc r = ap (λ x. (if x then record (counts t log) { releases = suc (counts t log).releases } else counts t log).releases) (sent_count t t log ∙ same_number t) in
-    let p : puts_to (T (tm_no t)) (e ∷ log) ≡ puts_to (T (tm_no t)) log ++ Release ts ∷ [] = ap (λ x. puts_to (T (tm_no t)) log ++ (if x then Release ts ∷ [] else [])) (same_number t) in
+    let k : (counts t (e ∷ log)).releases ≡ suc r = ap
+    (λ x. (if x then record (counts t log) { releases = suc (counts t log).releases } else counts t log).releases) (sent_count t t log ∙ same_number t) in
+    let p : puts_to (T (tm_no t)) (e ∷ log) ≡ puts_to (T (tm_no t)) log ++ Release ts ∷ [] = ap
+    (λ x. puts_to (T (tm_no t)) log ++ (if x then Release ts ∷ [] else [])) (same_number t) in
     let n : length xs ≡ suc r = omega (arith, h.counted) in
     let last : last_of xs ≡ Some ts.0 = h.served_last (omega arith) (omega arith) ∙ ap (λ x. Some x) (sym v.0) in
     let whole : xs ≡ take r xs ++ ts.0 ∷ [] = last_split xs r ts.0 n last in
     record {
       counted = rw none h.counted;
-      active_last = is_last (drawn_so_far (e ∷ log)) (active s 0 (e ∷ log)) (rw none (sent_way (LastIs xs) 0 (Release ts) (active s 0 log) (λ a x f. h.active_last a f) (last_is xs (active s 0 log) h.active_last)));
+      active_last = is_last (drawn_so_far (e ∷ log)) (active s 0 (e ∷ log))
+          (rw none (sent_way (LastIs xs) 0 (Release ts) (active s 0 log) (λ a x f. h.active_last a f) (last_is xs (active s 0 log) h.active_last)));
       served_last = rw none h.served_last;
       dones_le = h.dones_le;
-      released = ap release_times p ∙ release_push (puts_to (T (tm_no t)) log) ts ∙ ap (λ ys. ys ++ ts.0 ∷ []) h.released ∙ sym whole ∙ sym (take_all xs (suc r) (omega arith)) ∙ ap (λ m. take m xs) (sym k) ∙ ap (take (counts t (e ∷ log)).releases) (sym none);
+      released = ap release_times p ∙ release_push (puts_to (T (tm_no t)) log) ts ∙ ap (λ ys. ys ++ ts.0 ∷ []) h.released ∙ sym whole
+          ∙ sym (take_all xs (suc r) (omega arith)) ∙ ap (λ m. take m xs) (sym k) ∙ ap (take (counts t (e ∷ log)).releases) (sym none);
       done = λ j x i f. (let g : slice_get xs j ≡ Some x = subst (λ ys. slice_get ys j ≡ Some x) none f in
           elim (dec_le (suc j) r) [
             | yes w ↦ h.done j x w g
             | no w ↦ (let at : j ≡ r = omega (arith, k, i, w) in
                 let short : length (take r xs) ≡ r = (let m = length-append (take r xs) (ts.0 ∷ []) in let o : length xs ≡ length (take r xs ++ ts.0 ∷ []) = ap length whole in omega arith) in
-                let is : ts.0 ≡ x = at_end (take r xs) r ts.0 x short (subst (λ ys. slice_get ys r ≡ Some x) whole (subst (λ y. slice_get xs y ≡ Some x) at g)) in
+                let is : ts.0 ≡ x = at_end (take r xs) r ts.0 x short
+                (subst (λ ys. slice_get ys r ≡ Some x) whole (subst (λ y. slice_get xs y ≡ Some x) at g)) in
                 let d : s.catalogue.dms ≤ dones_of (last_served s log).ts log = omega (arith, v.1, h.dones_le) in
                 subst (λ y. s.catalogue.dms ≤ dones_of y log) (sym v.0 ∙ is) d)
           ]);
@@ -171,9 +171,10 @@ hold_times t n log =
 
 hold_releases : (t n : ℕ) (log : Log) → (counts t (Did (Sends (T (tm_no n)) Hold None) ∷ log)).releases ≡ (counts t log).releases
 hold_releases t n log =
-    if_way (λ (x : TmCounts). x.releases ≡ (counts t log).releases) (n == (counts t log).tm) (record (counts t log) { holds = suc (counts t log).holds }) (counts t log) refl refl
+    if_way (λ (x : TmCounts). x.releases ≡ (counts t log).releases) (n == (counts t log).tm) (record (counts t log) { holds = suc (counts t log).holds })
+    (counts t log) refl refl
 
-one_if_le : (b : Bool) → one_if b ≤ 1
+pub one_if_le : (b : Bool) → one_if b ≤ 1
 one_if_le true = omega arith
 one_if_le false = omega arith
 
@@ -211,15 +212,19 @@ serving s k t (Did act ∷ log) i h =
     (λ bases a e. serving_commit s t log bases a e j)
     (λ d m a e. serving_send s t log (D (dm_no d)) m refl (ap release_times (append-nil (puts_to (T (tm_no t)) log))) j)
     (λ n ts l v. elim (same_or_not t n) [
-      | inl p ↦ subst (λ x. IsServing s t (Did (Sends (T (tm_no x)) (Release ts) None) ∷ log)) p (serving_release s t ts log (subst (λ x. (counts x log).releases < (last_served s log).commits) (sym p) l) v c.committed (ahead s t log c) j)
-      | inr p ↦ serving_send s t log (T (tm_no n)) (Release ts) (ap (λ x. (if x then record (counts t log) { releases = suc (counts t log).releases } else counts t log).releases) (sent_count t n log ∙ flip t n p)) (ap release_times (puts_else t n (Release ts) log p)) j
+      | inl p ↦ subst (λ x. IsServing s t (Did (Sends (T (tm_no x)) (Release ts) None) ∷ log)) p
+          (serving_release s t ts log (subst (λ x. (counts x log).releases < (last_served s log).commits) (sym p) l) v c.committed (ahead s t log c) j)
+      | inr p ↦ serving_send s t log (T (tm_no n)) (Release ts)
+          (ap (λ x. (if x then record (counts t log) { releases = suc (counts t log).releases } else counts t log).releases) (sent_count t n log ∙ flip t n p))
+          (ap release_times (puts_else t n (Release ts) log p)) j
     ])
     (λ n e. serving_send s t log (T (tm_no n)) Hold (hold_releases t n log) (hold_times t n log) j) (u_due s h.0.0.0 log act h.0.0.1)
 
 -- at a Start of class 0 each T sent and was sent as many as it takes
 abbrev ReadyIf : Setting → Log → Act → Type 0
 ReadyIf s log (Records k (Start txn attempt c ts p2 us) sends) =
-    (starts log ≡ (last_served s log).commits) × ((j t : ℕ) → slice_get (numbers_to s.catalogue.tms) j ≡ Some t → (counts t log).helds ≡ suc (last_served s log).commits)
+    (starts log ≡ (last_served s log).commits) ×
+    ((j t : ℕ) → slice_get (numbers_to s.catalogue.tms) j ≡ Some t → (counts t log).helds ≡ suc (last_served s log).commits)
 ReadyIf s log act = Unit {0}
 
 starts_are : (s : Setting) (log : Log) (q : Queued) → head_of (queue s 0 log) ≡ Some q → q.tries ≡ 0 → IsTried s log

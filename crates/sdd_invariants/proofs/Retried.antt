@@ -1,14 +1,8 @@
 -- A transaction that is tried again is still its queue's head, and the REJECT of its last attempt was handed after that attempt's Start.
-use Rattle.std.proofs.Common.{ℕ, ◌&&◌, ◌++◌, ◌<◌, ◌==◌, ◌∙◌, ◌∷◌, ◌≡◌, ◌⊎◌, Bool, List, None, Option, Some, [], ap, arith, cond, false, filter, if◌then◌else◌, inl, inr, map, not, refl, subst, suc, sym, true}
-use Rattle.std.proofs.lemmas.Bool.{eqb-true}
-use Rattle.sdd_log.specs.All.{Act, Attempt, ClassNo, D, Did, DmNo, Each, Entry, Handed, Msg, Queued, Redeclared, Reject, Sends, Setting, Site, Submits, T, Ticked, Ts, Txn, U, active, active_handed, active_sent, after_hand, commit_act, head_of, in_force, is_for, queue, rejects, sends_of_act, started, tried}
-use Rattle.sdd_log.specs.site_module.SiteLog.{Log}
+use Rattle.sdd_invariants.proofs.All.{Act, Attempt, Bool, ClassNo, D, Did, DmNo, Each, Entry, Handed, IsFair, IsNew, IsRejected, IsServed, IsStep, List, Log, Msg, None, Option, Queued, Redeclared, Reject, Sends, Setting, Site, Some, Submits, T, Ticked, Ts, Txn, U, [], active, active_handed, active_sent, after_hand, ap, arith, commit_act, cond, eqb-true, false, filter, head_of, if◌then◌else◌, in_force, inl, inr, is_for, is_recorded, map, next_stamp, not, queue, refl, rejects, sends_of_act, start_at, started, subst, suc, sym, tried, true, ℕ, ◌&&◌, ◌++◌, ◌<◌, ◌==◌, ◌∙◌, ◌∷◌, ◌≡◌, ◌⊎◌}
 use Rattle.sdd_invariants.proofs.Queues.{queue_is}
-use Rattle.sdd_invariants.specs.OfRecords.{is_recorded}
-use Rattle.sdd_invariants.specs.Rejections.{IsRejected}
 use Rattle.sdd_invariants.proofs.Active.{sent_way, step_way}
 use Rattle.sdd_invariants.proofs.Bools.{same_number, same_or_not}
-use Rattle.sdd_invariants.specs.Steps.{IsFair, IsNew, IsServed, IsStep, next_stamp, start_at}
 
 abbrev pub AllZero : List Queued → Type 0
 AllZero [] = Unit {0}
@@ -75,10 +69,11 @@ head_push n k (x ∷ qs) q h = h
 but_tried : (n : ℕ) (qs : List Queued) → ZeroBut n qs → ZeroBut n (map (tried n) qs)
 but_tried n [] h = tt
 but_tried n (q ∷ qs) h = (
-  elim (q.number == n) as (λ b. (q.number == n) ≡ b → (((cond b (record q { tries = suc q.tries }) q).number == n) ≡ true) ⊎ ((cond b (record q { tries = suc q.tries }) q).tries ≡ 0)) [
-    | true ↦ λ e. inl e
-    | false ↦ λ e. h.0
-  ] refl,
+  elim (q.number == n) as
+      (λ b. (q.number == n) ≡ b → (((cond b (record q { tries = suc q.tries }) q).number == n) ≡ true) ⊎ ((cond b (record q { tries = suc q.tries }) q).tries ≡ 0)) [
+        | true ↦ λ e. inl e
+        | false ↦ λ e. h.0
+      ] refl,
   but_tried n qs h.1,
 )
 
@@ -136,7 +131,8 @@ ended : (s : Setting) (c : ℕ) (log : Log) (from : Site) (m : Msg) (o : Option 
     → IsServed o (queue s c log) → IsHead n k (queue s c log) → (o ≡ None → IsRejected s c log n k)
     → active_handed c from m o ≡ None → IsRejected s c (Handed from m ∷ log) n k
 ended s c log (D d) m (Some a) n k e v h f g =
-    elim (rejects m a.ts c) as (λ b. rejects m a.ts c ≡ b → (if b then None else Some (record a { exchange = after_hand a.ts c d.0 m a.exchange })) ≡ None → IsRejected s c (Handed (D d) m ∷ log) n k) [
+    elim (rejects m a.ts c) as
+    (λ b. rejects m a.ts c ≡ b → (if b then None else Some (record a { exchange = after_hand a.ts c d.0 m a.exchange })) ≡ None → IsRejected s c (Handed (D d) m ∷ log) n k) [
       | true ↦ λ r x. ends_by s c log d m a n k e (head_served a (queue s c log) n k v h) r
       | false ↦ λ r x. cc
     ] refl g
@@ -176,7 +172,8 @@ tried_start : (s : Setting) (c : ℕ) (log : Log) (q : Queued) → head_of (queu
     → IsTriedAt s c log (queue s c log) (active s c log)
     → IsTriedAt s c (Did (start_at s c log q) ∷ log) (map (tried q.number) (queue s c log)) (started (next_stamp s log) (sends_of_act (start_at s c log q)) (head_of (queue s c log)))
 tried_start s c log q e h =
-    let but : ZeroBut q.number (queue s c log) = elim h [ inl z ↦ but_zero q.number (queue s c log) z | inr t ↦ subst (λ n. ZeroBut n (queue s c log)) (sym (head_is t.number t.tries (queue s c log) q t.head e).0) t.others ] in
+    let but : ZeroBut q.number
+    (queue s c log) = elim h [ inl z ↦ but_zero q.number (queue s c log) z | inr t ↦ subst (λ n. ZeroBut n (queue s c log)) (sym (head_is t.number t.tries (queue s c log) q t.head e).0) t.others ] in
     inr (record {
       number = q.number;
       tries = suc q.tries;

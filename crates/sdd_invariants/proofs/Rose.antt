@@ -1,13 +1,9 @@
 -- At a T: the HELD that was sent as number n + 1 and the log before it, its time, and that a Start comes where it isn't on hold.
-use Rattle.std.proofs.Common.{ℕ, ◌++◌, ◌∙◌, ◌∷◌, ◌≡◌, ◌≤◌, Option, [], ap, arith, refl, subst, suc, sym, true}
-use Rattle.sdd_log.specs.All.{Act, Bases, Did, Entry, Handed, Held, HoldCounts, Msg, Queued, Redeclared, Sends, Setting, Site, Submits, Ticked, Ts, asks_rows, hands, holds, holds_acted}
-use Rattle.sdd_log.specs.site_module.SiteLog.{Log}
+use Rattle.sdd_invariants.proofs.All.{Act, AllIdle, Bases, Did, Entry, Handed, Held, HoldCounts, IsHeldAt, IsSend, IsStep, Log, Msg, Option, Queued, Redeclared, Sends, Setting, Site, Submits, Ticked, Ts, [], a_held, a_hold, a_null, a_release, ap, arith, asks_rows, bound, hands, holds, holds_acted, of_exchange, refl, start_at, subst, suc, sym, true, ℕ, ◌++◌, ◌∙◌, ◌∷◌, ◌≡◌, ◌≤◌}
+use Rattle.sdd_invariants.proofs.Holding.{hand_helds, hold_rule}
+use Rattle.sdd_invariants.proofs.Active.{step_way}
 use Rattle.sdd_log.specs.tm.Due.{IsDue}
 use Rattle.sdd_log.specs.tm.Views.{view_of}
-use Rattle.sdd_invariants.proofs.Holding.{hand_helds, hold_rule}
-use Rattle.sdd_invariants.specs.AtT.{AllIdle, IsHeldAt}
-use Rattle.sdd_invariants.proofs.Active.{step_way}
-use Rattle.sdd_invariants.specs.Steps.{IsSend, IsStep, a_held, a_hold, a_null, a_release, bound, of_exchange, start_at}
 
 held_more : (e : Entry) (log : Log) (n : ℕ) → IsHeldAt log n → IsHeldAt (e ∷ log) n
 held_more e log n h =

@@ -1,12 +1,10 @@
 -- Only what is put changes the list of messages that were put on a link.
-use Rattle.std.proofs.Common.{ℕ, ◌&&◌, ◌++◌, ◌∙◌, ◌∷◌, ◌≡◌, Bool, List, None, Option, Some, [], ap, append-nil, append_assoc, false, if◌then◌else◌, refl, suc, sym, true}
-use Rattle.sdd_log.specs.All.{Ack, Act, Call, D, Deliver, Delivers, Did, Does, Down, Force, Given, Hand, Handed, Link, Log, Lose, Loses, Mark, Message, Msg, Notes, Packet, Puts, Redeclare, Redeclared, Redeclares, Repeat, Repeats, Resend, Resends, Round, Settle, Site, Submit, Submits, Submitted, T, Tick, Ticked, Txn, U, Up, arrives, calls_of, deliver, force_at, link, local_of, lose, on_link, packet_at, puts, redeclares, repeat, resend, same_site, sends_of_act, sent, turned, txn_at, with_packet, without_packet}
+use Rattle.sdd_invariants.proofs.All.{Ack, Act, Bool, Call, D, Deliver, Delivers, Did, Does, Down, Force, Given, Hand, Handed, Link, List, Lose, Loses, Mark, Message, Msg, None, Notes, Option, Packet, Puts, Redeclare, Redeclared, Redeclares, Repeat, Repeats, Resend, Resends, Round, Settle, Site, Some, Submit, Submits, Submitted, T, Tick, Ticked, Txn, U, Up, [], ap, append-nil, append_assoc, arrives, calls_of, deliver, false, force_at, forced, given_to, if◌then◌else◌, link, local_of, lose, made, on_link, packet_at, put_by, puts, puts_to, redeclares, refl, repeat, resend, same_site, sends_of_act, sent, suc, sym, to_site, true, turned, txn_at, with_made, with_packet, without_packet, ℕ, ◌&&◌, ◌++◌, ◌∙◌, ◌∷◌, ◌≡◌}
+use Rattle.sdd_invariants.proofs.Bools.{if_way}
+use Rattle.sdd_invariants.proofs.Made.{local_step}
+use Rattle.sdd_log.specs.All.{Log}
 use Rattle.sdd_log.specs.net.Links.{put}
 use Rattle.sdd_log.specs.Entries.{Entry}
-use Rattle.sdd_invariants.proofs.Bools.{if_way}
-use Rattle.sdd_invariants.specs.Traffic.{puts_to, to_site}
-use Rattle.sdd_invariants.proofs.Made.{local_step}
-use Rattle.sdd_invariants.specs.Made.{forced, given_to, made, put_by, with_made}
 use Rattle.sdd_log.specs.site_module.SiteLog as site
 
 abbrev Same : {M : Type 0} → Link M → Link M → Type 0
@@ -82,11 +80,11 @@ put_if : (c : Bool) (b : Site) (act : Act)
 put_if true b act = refl
 put_if false b act = refl
 
-no_put : (b : Site) (c : Bool) (o : Option site.Entry) → put_by b o ≡ [] → put_by b (if c then o else None) ≡ []
+pub no_put : (b : Site) (c : Bool) (o : Option site.Entry) → put_by b o ≡ [] → put_by b (if c then o else None) ≡ []
 no_put b true o e = e
 no_put b false o e = refl
 
-given_puts : (b : Site) (n : ℕ) (o : Option Txn) → put_by b (given_to n o) ≡ []
+pub given_puts : (b : Site) (n : ℕ) (o : Option Txn) → put_by b (given_to n o) ≡ []
 given_puts b n None = refl
 given_puts b n (Some t) = refl
 

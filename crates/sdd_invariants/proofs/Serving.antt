@@ -1,42 +1,16 @@
 -- The chain of holds at U.
-use Rattle.std.specs.List.{list_all}
-use Rattle.std.proofs.Common.{ℕ, ◌&&◌, ◌++◌, ◌<◌, ◌==◌, ◌∙◌, ◌∷◌, ◌≡◌, ◌≤◌, ◌⊎◌, Bool, List, None, Option, Some, [], ap, append-nil, arith, cond, false, filter, if◌then◌else◌, inl, inr, map, not, refl, slice_get, subst, suc, sym, true}
-use Rattle.std.proofs.lemmas.Bool.{eqb-true}
-use Rattle.sdd_log.specs.All.{Act, Attempt, Bases, D, Did, Done, Each, Entry, Handed, Held, Hold, Msg, Queued, Redeclared, Release, Sends, Served, Setting, Site, Submits, T, Ticked, TmCounts, TmNo, Ts, Txn, active, asks_rows, attempt_due, by_exchange, by_hold, by_release, by_start, commit_act, counts, counts_acted, counts_handed, dm_no, effect, first_send, head_of, hold_due, hold_to, in_force, is_for, is_holding, is_over, last_served, numbers_to, or_else, queue, release_due, sends_of_act, served_handed, start_of, tm_no, tried, write_to}
-use Rattle.sdd_log.specs.site_module.SiteLog.{Log}
-use Rattle.sdd_log.specs.umod.Due.{IsDue}
-use Rattle.sdd_log.specs.umod.Views.{view_of}
-use Rattle.sdd_invariants.proofs.Holding.{at_map, lt_is}
+use Rattle.sdd_invariants.proofs.All.{Act, AllZero, Attempt, Bases, Bool, D, Did, Each, Entry, Handed, Held, Hold, IsChain, IsFairU, IsServed, IsStepU, IsTried, List, Log, Msg, None, Option, Queued, Redeclared, Release, Sends, Setting, Site, Some, StartedHead, Submits, T, Ticked, TmCounts, TmNo, Ts, Txn, ZeroBut, [], active, ap, append-nil, arith, asks_rows, at_map, attempt_due, by_release, commit_act, cond, counts, counts_handed, counts_tm, dm_no, effect, eqb-true, false, filter, first_send, hand_commits, head_of, hold_due, hold_to, if◌then◌else◌, in_force, in_mapped, inl, inr, is_a_hold, is_a_release, is_for, is_holding, is_over, last_served, list_all, map, modules_asked, not, numbers_to, one_if, or_else, puts_to, queue, refl, release_due, sends_of_act, slice_get, start_at, start_read, starts, subst, suc, sym, tm_no, to_site, tried, true, turns, u_commit, u_exchange, u_hold, u_release, u_start, write_to, ℕ, ◌&&◌, ◌++◌, ◌<◌, ◌==◌, ◌∙◌, ◌∷◌, ◌≡◌, ◌≤◌, ◌⊎◌}
+use Rattle.sdd_invariants.proofs.Holding.{lt_is}
 use Rattle.sdd_invariants.proofs.Turns.{balance, tally_append, turns_append}
-use Rattle.sdd_invariants.specs.AtU.{AllZero, IsChain, IsFairU, IsStepU, IsTried, StartedHead, ZeroBut, starts, u_commit, u_exchange, u_hold, u_release, u_start}
-use Rattle.sdd_invariants.specs.Turns.{is_a_hold, is_a_release, one_if, turns}
 use Rattle.sdd_invariants.proofs.Queues.{served_head}
 use Rattle.sdd_invariants.proofs.WritesPut.{goes_write}
-use Rattle.sdd_invariants.proofs.Bools.{if_way, same_number, same_or_not}
+use Rattle.sdd_invariants.proofs.Bools.{same_number, same_or_not}
 use Rattle.sdd_invariants.proofs.Exchanges.{asks_next}
-use Rattle.sdd_invariants.proofs.Lists.{all_at, in_mapped}
+use Rattle.sdd_invariants.proofs.Lists.{all_at}
 use Rattle.sdd_invariants.proofs.Sites.{none_to}
-use Rattle.sdd_invariants.specs.Steps.{IsServed, modules_asked, start_at, start_read}
-use Rattle.sdd_invariants.specs.Traffic.{puts_to, to_site}
-
-hand_tm : (from : Site) (m : Msg) (k : TmCounts) → (counts_handed from m k).tm ≡ k.tm
-hand_tm (T n) (Held time) k = if_way (λ (x : TmCounts). x.tm ≡ k.tm) (n.0 == k.tm) (record k { helds = suc k.helds }) k refl refl
-hand_tm from m k = refl
-
-act_tm : (act : Act) (k : TmCounts) → (counts_acted act k).tm ≡ k.tm
-act_tm (Sends (T n) Hold hand) k =
-    if_way (λ (x : TmCounts). x.tm ≡ k.tm) (n.0 == k.tm) (record k { holds = suc k.holds }) k refl refl
-act_tm (Sends (T n) (Release ts) hand) k =
-    if_way (λ (x : TmCounts). x.tm ≡ k.tm) (n.0 == k.tm) (record k { releases = suc k.releases }) k refl refl
-act_tm act k = refl
-
-pub counts_tm : (t : ℕ) (log : Log) → (counts t log).tm ≡ t
-counts_tm t [] = refl
-counts_tm t (Handed from m ∷ log) = hand_tm from m (counts t log) ∙ counts_tm t log
-counts_tm t (Ticked n ∷ log) = counts_tm t log
-counts_tm t (Redeclared force u ∷ log) = counts_tm t log
-counts_tm t (Submits n txn ∷ log) = counts_tm t log
-counts_tm t (Did act ∷ log) = act_tm act (counts t log) ∙ counts_tm t log
+use Rattle.sdd_log.specs.All.{by_exchange, by_hold, by_start, start_of}
+use Rattle.sdd_log.specs.umod.Due.{IsDue}
+use Rattle.sdd_log.specs.umod.Views.{view_of}
 
 pub step_is : (s : Setting) (log : Log) (x a : Act) → IsStepU s log x → Some x ≡ Some a → IsStepU s log a
 step_is s log x a h e = let p : x ≡ a = cc in subst (IsStepU s log) p h
@@ -79,7 +53,8 @@ hold_u : (s : Setting) (log : Log) (t : ℕ) (k : TmCounts) (o : Option Queued) 
     → hold_to k o ≡ Some act → IsStepU s log act
 hold_u s log t k None act q p e = cc
 hold_u s log t k (Some x) act q p e =
-    hold_if s log t k.tm (k.releases == k.holds) act p (λ l. ap (λ (y : TmCounts). y.releases) (sym q) ∙ eqb-true k.releases k.holds l ∙ ap (λ (y : TmCounts). y.holds) q) e
+    hold_if s log t k.tm (k.releases == k.holds) act p
+    (λ l. ap (λ (y : TmCounts). y.releases) (sym q) ∙ eqb-true k.releases k.holds l ∙ ap (λ (y : TmCounts). y.holds) q) e
 
 ready_is : (a b c : ℕ) → ((a == c) && (b == c)) ≡ true → (a ≡ c) × (b ≡ c)
 ready_is a b c e =
@@ -104,7 +79,8 @@ pub u_due : (s : Setting) (bases : Bases) (log : Log) (act : Act) → IsDue s.ca
 u_due s bases log act (by_exchange e) = attempt_u s log bases (active s 0 log) act refl e
 u_due s bases log act (by_release j k p e) =
     let r = in_mapped (λ t. counts t log) (numbers_to s.catalogue.tms) j k p in
-    release_u s log r.0 _ _ (counts r.0 log).tm _ act (counts_tm r.0 log) (λ l. lt_is _ _ l) (λ l. (refl, eqb-true _ _ l)) (subst (λ x. release_due s.catalogue (view_of s log) x ≡ Some act) (sym r.2) e)
+    release_u s log r.0 _ _ (counts r.0 log).tm _ act (counts_tm r.0 log) (λ l. lt_is _ _ l) (λ l. (refl, eqb-true _ _ l))
+    (subst (λ x. release_due s.catalogue (view_of s log) x ≡ Some act) (sym r.2) e)
 u_due s bases log act (by_start e) = start_u s log (head_of (queue s 0 log)) act refl e
 u_due s bases log act (by_hold j k p e) =
     let r = in_mapped (λ t. counts t log) (numbers_to s.catalogue.tms) j k p in
@@ -139,10 +115,11 @@ head_push n (x ∷ qs) q h = h
 but_tried : (n : ℕ) (qs : List Queued) → AllZero qs → ZeroBut n (map (tried n) qs)
 but_tried n [] h = tt
 but_tried n (q ∷ qs) h = (
-  elim (q.number == n) as (λ b. (q.number == n) ≡ b → (((cond b (record q { tries = suc q.tries }) q).number == n) ≡ true) ⊎ ((cond b (record q { tries = suc q.tries }) q).tries ≡ 0)) [
-    | true ↦ λ e. inl e
-    | false ↦ λ e. inr h.0
-  ] refl,
+  elim (q.number == n) as
+      (λ b. (q.number == n) ≡ b → (((cond b (record q { tries = suc q.tries }) q).number == n) ≡ true) ⊎ ((cond b (record q { tries = suc q.tries }) q).tries ≡ 0)) [
+        | true ↦ λ e. inl e
+        | false ↦ λ e. inr h.0
+      ] refl,
   but_tried n qs h.1,
 )
 
@@ -165,18 +142,13 @@ not_started n [] q h e z = h
 not_started n (x ∷ qs) q h e z =
     let p : x ≡ q = cc in let t : x.tries ≡ 0 = ap (λ (y : Queued). y.tries) p ∙ z in omega (arith, h.1)
 
-zero_head : (qs : List Queued) (q : Queued) → AllZero qs → head_of qs ≡ Some q → q.tries ≡ 0
+pub zero_head : (qs : List Queued) (q : Queued) → AllZero qs → head_of qs ≡ Some q → q.tries ≡ 0
 zero_head [] q h e = cc
 zero_head (x ∷ qs) q h e = let p : x ≡ q = cc in ap (λ (y : Queued). y.tries) (sym p) ∙ h.0
 
 number_head : (n : ℕ) (qs : List Queued) (q : Queued) → StartedHead n qs → head_of qs ≡ Some q → q.number ≡ n
 number_head n [] q h e = absurd h
 number_head n (x ∷ qs) q h e = let p : x ≡ q = cc in ap (λ (y : Queued). y.number) (sym p) ∙ h.0
-
-pub hand_commits : (m : Msg) (v : Served) → (served_handed m v).commits ≡ v.commits
-hand_commits (Done t) v =
-    if_way (λ (x : Served). x.commits ≡ v.commits) (t.0 == v.ts) (record v { dones = suc v.dones }) v refl refl
-hand_commits m v = refl
 
 tried_on : (s : Setting) (log : Log) (e : Entry) → starts (e ∷ log) ≡ starts log
     → (last_served s (e ∷ log)).commits ≡ (last_served s log).commits → queue s 0 (e ∷ log) ≡ queue s 0 log → IsTried s log
@@ -228,7 +200,9 @@ is_tried s (Did act ∷ log) h =
     let i = is_tried s log h.1 in
     u_way s log act (λ x. IsTried s (Did x ∷ log))
     (λ q e z r. tried_start s log q e z i) (λ bases a e. tried_commit s log bases a e h.0.1 i)
-    (λ d m a e. tried_on s log (Did (Sends (D (dm_no d)) m None)) refl refl refl i) (λ t ts l v. tried_on s log (Did (Sends (T (tm_no t)) (Release ts) None)) refl refl refl i) (λ t e. tried_on s log (Did (Sends (T (tm_no t)) Hold None)) refl refl refl i) (u_due s h.0.0.0 log act h.0.0.1)
+    (λ d m a e. tried_on s log (Did (Sends (D (dm_no d)) m None)) refl refl refl i)
+    (λ t ts l v. tried_on s log (Did (Sends (T (tm_no t)) (Release ts) None)) refl refl refl i)
+    (λ t e. tried_on s log (Did (Sends (T (tm_no t)) Hold None)) refl refl refl i) (u_due s h.0.0.0 log act h.0.0.1)
 
 hand_if : (b : Bool) (k : TmCounts)
     → ((if b then record k { helds = suc k.helds } else k).releases ≡ k.releases) × ((if b then record k { helds = suc k.helds } else k).holds ≡ k.holds) × (k.helds ≤ (if b then record k { helds = suc k.helds } else k).helds)
@@ -267,7 +241,8 @@ chain_start : (s : Setting) (t : ℕ) (log : Log) (q : Queued) → head_of (queu
     → IsTried s log → IsChain s t log → IsChain s t (Did (start_at s 0 log q) ∷ log)
 chain_start s t log q e z r i h =
     let n : starts log ≡ (last_served s log).commits = elim i [ inl p ↦ p.0 | inr p ↦ absurd (not_started p.0 (queue s 0 log) q p.2 e z) ] in
-    let same : puts_to (T (tm_no t)) (Did (start_at s 0 log q) ∷ log) ≡ puts_to (T (tm_no t)) log = ap (λ xs. puts_to (T (tm_no t)) log ++ xs) (none_mapped (tm_no t) (start_read s 0 log q) (modules_asked s 0 q.text)) ∙ append-nil _ in
+    let same : puts_to (T (tm_no t)) (Did (start_at s 0 log q) ∷ log) ≡ puts_to (T (tm_no t)) log = ap (λ xs. puts_to (T (tm_no t)) log ++ xs)
+    (none_mapped (tm_no t) (start_read s 0 log q) (modules_asked s 0 q.text)) ∙ append-nil _ in
     record {
       released = h.released;
       committed = omega (arith, h.committed);
@@ -282,7 +257,8 @@ chain_start s t log q e z r i h =
 pub no_puts : (s : Setting) (t : TmNo) (bases : Bases) (a : Attempt)
     → to_site (T t) (sends_of_act (commit_act s.catalogue bases 0 a)) ≡ []
 no_puts s t bases a =
-    none_to (write_to s.catalogue 0 a (effect s.catalogue (bases a.ts) a.text).changes) (T t) 1 s.catalogue.dms (goes_write s.catalogue 0 a (effect s.catalogue (bases a.ts) a.text).changes) (λ d l. refl)
+    none_to (write_to s.catalogue 0 a (effect s.catalogue (bases a.ts) a.text).changes) (T t) 1 s.catalogue.dms
+    (goes_write s.catalogue 0 a (effect s.catalogue (bases a.ts) a.text).changes) (λ d l. refl)
 
 pub sent_count : (t n : ℕ) (log : Log) → (n == (counts t log).tm) ≡ (n == t)
 sent_count t n log = ap (λ x. n == x) (counts_tm t log)
@@ -308,8 +284,10 @@ chain_release s t ts log l h =
     let e : Entry = Did (Sends (T (tm_no t)) (Release ts) None) in
     let b = balance false h.state (puts_to (T (tm_no t)) log) h.turns_are in
     let on : h.state ≡ true = state_true h.state (omega (arith, b, h.holds_are, h.releases_are, h.committed, h.started_hold)) in
-    let k : counts t (e ∷ log) ≡ record (counts t log) { releases = suc (counts t log).releases } = ap (λ x. if x then record (counts t log) { releases = suc (counts t log).releases } else counts t log) (sent_count t t log ∙ same_number t) in
-    let p : puts_to (T (tm_no t)) (e ∷ log) ≡ puts_to (T (tm_no t)) log ++ Release ts ∷ [] = ap (λ x. puts_to (T (tm_no t)) log ++ (if x then Release ts ∷ [] else [])) (same_number t) in
+    let k : counts t (e ∷ log) ≡ record (counts t log) { releases = suc (counts t log).releases } = ap
+    (λ x. if x then record (counts t log) { releases = suc (counts t log).releases } else counts t log) (sent_count t t log ∙ same_number t) in
+    let p : puts_to (T (tm_no t)) (e ∷ log) ≡ puts_to (T (tm_no t)) log ++ Release ts ∷ [] = ap
+    (λ x. puts_to (T (tm_no t)) log ++ (if x then Release ts ∷ [] else [])) (same_number t) in
     let more_h = tally_append is_a_hold (puts_to (T (tm_no t)) log) (Release ts ∷ []) in
     let more_r = tally_append is_a_release (puts_to (T (tm_no t)) log) (Release ts ∷ []) in
     record {
@@ -329,8 +307,10 @@ chain_hold s t log l h =
     let e : Entry = Did (Sends (T (tm_no t)) Hold None) in
     let b = balance false h.state (puts_to (T (tm_no t)) log) h.turns_are in
     let off : h.state ≡ false = state_false h.state (omega (arith, b, h.holds_are, h.releases_are)) in
-    let k : counts t (e ∷ log) ≡ record (counts t log) { holds = suc (counts t log).holds } = ap (λ x. if x then record (counts t log) { holds = suc (counts t log).holds } else counts t log) (sent_count t t log ∙ same_number t) in
-    let p : puts_to (T (tm_no t)) (e ∷ log) ≡ puts_to (T (tm_no t)) log ++ Hold ∷ [] = ap (λ x. puts_to (T (tm_no t)) log ++ (if x then Hold ∷ [] else [])) (same_number t) in
+    let k : counts t (e ∷ log) ≡ record (counts t log) { holds = suc (counts t log).holds } = ap
+    (λ x. if x then record (counts t log) { holds = suc (counts t log).holds } else counts t log) (sent_count t t log ∙ same_number t) in
+    let p : puts_to (T (tm_no t)) (e ∷ log) ≡ puts_to (T (tm_no t)) log ++ Hold ∷ [] = ap (λ x. puts_to (T (tm_no t)) log ++ (if x then Hold ∷ [] else []))
+    (same_number t) in
     let more_h = tally_append is_a_hold (puts_to (T (tm_no t)) log) (Hold ∷ []) in
     let more_r = tally_append is_a_release (puts_to (T (tm_no t)) log) (Hold ∷ []) in
     record {
@@ -390,10 +370,16 @@ chain s k t (Did act ∷ log) e h =
     (λ bases a f. λ w. chain_on s t log (Did (commit_act s.catalogue bases 0 a)) refl (omega arith) (commits_le s (Did (commit_act s.catalogue bases 0 a) ∷ log) w) refl (ap (λ xs. puts_to (T (tm_no t)) log ++ xs) (no_puts s (tm_no t) bases a) ∙ append-nil _) i)
     (λ d m a f. λ w. chain_on s t log (Did (Sends (D (dm_no d)) m None)) refl (omega arith) i.committed refl (append-nil _) i)
     (λ n ts l v. λ w. elim (same_or_not t n) [
-      | inl p ↦ subst (λ x. IsChain s t (Did (Sends (T (tm_no x)) (Release ts) None) ∷ log)) p (chain_release s t ts log (subst (λ x. (counts x log).releases < (last_served s log).commits) (sym p) l) i)
-      | inr p ↦ chain_on s t log (Did (Sends (T (tm_no n)) (Release ts) None)) (ap (λ x. if x then record (counts t log) { releases = suc (counts t log).releases } else counts t log) (sent_count t n log ∙ flip t n p)) (omega arith) i.committed refl (puts_else t n (Release ts) log p) i
+      | inl p ↦ subst (λ x. IsChain s t (Did (Sends (T (tm_no x)) (Release ts) None) ∷ log)) p
+          (chain_release s t ts log (subst (λ x. (counts x log).releases < (last_served s log).commits) (sym p) l) i)
+      | inr p ↦ chain_on s t log (Did (Sends (T (tm_no n)) (Release ts) None))
+          (ap (λ x. if x then record (counts t log) { releases = suc (counts t log).releases } else counts t log) (sent_count t n log ∙ flip t n p))
+          (omega arith) i.committed refl (puts_else t n (Release ts) log p) i
     ])
     (λ n l. λ w. elim (same_or_not t n) [
-      | inl p ↦ subst (λ x. IsChain s t (Did (Sends (T (tm_no x)) Hold None) ∷ log)) p (chain_hold s t log (subst (λ x. (counts x log).releases ≡ (counts x log).holds) (sym p) l) i)
-      | inr p ↦ chain_on s t log (Did (Sends (T (tm_no n)) Hold None)) (ap (λ x. if x then record (counts t log) { holds = suc (counts t log).holds } else counts t log) (sent_count t n log ∙ flip t n p)) (omega arith) i.committed refl (puts_else t n Hold log p) i
+      | inl p ↦ subst (λ x. IsChain s t (Did (Sends (T (tm_no x)) Hold None) ∷ log)) p
+          (chain_hold s t log (subst (λ x. (counts x log).releases ≡ (counts x log).holds) (sym p) l) i)
+      | inr p ↦ chain_on s t log (Did (Sends (T (tm_no n)) Hold None))
+          (ap (λ x. if x then record (counts t log) { holds = suc (counts t log).holds } else counts t log) (sent_count t n log ∙ flip t n p))
+          (omega arith) i.committed refl (puts_else t n Hold log p) i
     ]) (u_due s h.0.0.0 log act h.0.0.1) then_tried

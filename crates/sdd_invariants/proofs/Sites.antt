@@ -1,13 +1,7 @@
 -- Sites that are the same, and messages among those sent to one.
-use Rattle.std.specs.List.{cons_option, range_with_len}
-use Rattle.std.specs.Prelude.{filter_map}
-use Rattle.std.proofs.Common.{ℕ, ◌+◌, ◌<◌, ◌∷◌, ◌≡◌, ◌≤◌, ◌⊎◌, List, None, Option, Some, [], ap, arith, eq-eqb, false, if◌then◌else◌, inl, inr, map, refl, slice_get, subst, suc, sym, true, zero}
-use Rattle.std.proofs.lemmas.Bool.{eqb-true}
-use Rattle.sdd_log.specs.All.{D, Msg, Site, T, U, dm_no, same_site, tm_no}
+use Rattle.sdd_invariants.proofs.All.{AllGt, D, IsStrict, List, Msg, None, Option, Site, Some, T, U, [], ap, arith, cons_option, dm_no, eq-eqb, eqb-true, false, filter_map, if◌then◌else◌, inl, inr, map, range_with_len, refl, same_site, slice_get, subst, suc, sym, tm_no, to_site, true, zero, ℕ, ◌+◌, ◌<◌, ◌∷◌, ◌≡◌, ◌≤◌, ◌⊎◌}
 use Rattle.sdd_invariants.proofs.Bools.{differ, same_number, same_or_not}
 use Rattle.sdd_invariants.proofs.Lists.{in_if}
-use Rattle.sdd_invariants.specs.Orders.{AllGt, IsStrict}
-use Rattle.sdd_invariants.specs.Traffic.{to_site}
 
 pub site_is : (a b : Site) → same_site a b ≡ true → a ≡ b
 site_is U U e = refl
@@ -71,10 +65,11 @@ pub one_to : (f : ℕ → Option (Site × Msg)) (b : Site) (a n : ℕ) → GoesT
 one_to f b a zero g = inl refl
 one_to f b a (suc n) g = elim (g a) [
   | inl e ↦ rw e (one_to f b (a + 1) n g)
-  | inr p ↦ elim (same_site b (D (dm_no a))) as (λ x. same_site b (D (dm_no a)) ≡ x → (to_site b (filter_map f (range_with_len a (suc n))) ≡ []) ⊎ ((d : ℕ) × (m : Msg) × (f d ≡ Some (D (dm_no d), m)) × (to_site b (filter_map f (range_with_len a (suc n))) ≡ m ∷ []))) [
-    | true ↦ λ e. inr (a, p.0, p.1, rw (p.1, e) (ap (λ xs. p.0 ∷ xs) (none_to f b (a + 1) n g (λ d l. other_module b a d e (omega arith)))))
-    | false ↦ λ e. rw (p.1, e) (one_to f b (a + 1) n g)
-  ] refl
+  | inr p ↦ elim (same_site b (D (dm_no a))) as
+      (λ x. same_site b (D (dm_no a)) ≡ x → (to_site b (filter_map f (range_with_len a (suc n))) ≡ []) ⊎ ((d : ℕ) × (m : Msg) × (f d ≡ Some (D (dm_no d), m)) × (to_site b (filter_map f (range_with_len a (suc n))) ≡ m ∷ []))) [
+        | true ↦ λ e. inr (a, p.0, p.1, rw (p.1, e) (ap (λ xs. p.0 ∷ xs) (none_to f b (a + 1) n g (λ d l. other_module b a d e (omega arith)))))
+        | false ↦ λ e. rw (p.1, e) (one_to f b (a + 1) n g)
+      ] refl
 ]
 
 to_cons : (b : Site) (p : Site × Msg) (ps : List (Site × Msg)) (k : ℕ) (m : Msg) → slice_get (to_site b ps) k ≡ Some m

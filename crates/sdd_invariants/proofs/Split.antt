@@ -1,24 +1,15 @@
 -- An Answer splits the WRITEs of a condition's class: those that change one of its fragments are processed before it
 -- exactly where their time is below the condition's.
-use Rattle.std.specs.List.{list_all, list_any}
-use Rattle.std.proofs.Common.{ℕ, ◌++◌, ◌+◌, ◌<◌, ◌∙◌, ◌∷◌, ◌≡◌, ◌≢◌, ◌≤◌, ◌⊎◌, List, None, Some, [], ap, append_assoc, arith, cond, false, inl, inr, length, length-append, map, nat_le, slice_get, subst, suc, sym, true, zero}
-use Rattle.std.proofs.Math.Decide.{dec_le}
-use Rattle.std.proofs.lemmas.Bool.Decides.{nat_tests}
-use Rattle.sdd_log.specs.All.{Act, Answer, Change, ClassNo, ClassView, Cond, D, DmNo, Does, Each, Given, IsPermitted, Log, Msg, Pipe, Read, Records, Setting, Site, Ts, TxnNo, Use, Write, empty_pipe, head, head_of, is_at_least, is_met, is_processing, local_of, number_of, passed, passed_by, pipe, setting_of, spoils, time_of, touches, view_of, waits}
-use Rattle.sdd_log.proofs.EachLocal.{allowed_act}
+use Rattle.sdd_invariants.proofs.All.{Act, AllUnspoilt, Answer, Change, ClassNo, ClassView, Cond, D, DmNo, Does, Each, Given, IsDueEach, IsPermitted, IsReadStep, IsRising, IsUnspoilt, List, May, Msg, None, Pipe, Read, Records, Setting, Site, Some, Ts, TxnNo, Use, Write, [], all_of, allowed_act, ap, append_assoc, arith, by_record, by_wait, class_puts, cond, dec_le, empty_pipe, false, head, head_of, home, in_left, in_passing, inl, inr, is_at_least, is_met, is_processing, length, length-append, list_all, list_any, local_of, map, nat_le, nat_tests, number_of, passed, passed_by, pipe, pipe_at, place_within, setting_of, slice_get, spoiling, spoils, subst, suc, sym, time_of, touches, true, view_of, waits, zero, ℕ, ◌++◌, ◌+◌, ◌<◌, ◌∙◌, ◌∷◌, ◌≡◌, ◌≢◌, ◌≤◌, ◌⊎◌}
 use Rattle.sdd_invariants.proofs.Waiting.{any_false_at, no_spoiler, processed_in_is, spoils_is, waiting}
-use Rattle.sdd_invariants.specs.Unspoilt.{AllUnspoilt, IsUnspoilt, spoiling}
 use Rattle.sdd_invariants.proofs.ClassOrder.{class_rises, earlier}
 use Rattle.sdd_invariants.proofs.InPipe.{in_pipe_later}
-use Rattle.sdd_invariants.specs.Seen.{all_of, class_puts, pipe_at}
 use Rattle.sdd_invariants.proofs.AreReadSteps.{class_in_view, class_not_in_view, d_step}
 use Rattle.sdd_invariants.proofs.Bools.{not_both}
-use Rattle.sdd_invariants.proofs.Lists.{all_at, any_at, at_seam, in_left, place_within, within_left}
-use Rattle.sdd_invariants.specs.Orders.{IsRising}
-use Rattle.sdd_invariants.specs.ReadSteps.{IsDueEach, IsReadStep, May, by_record, by_wait, in_passing}
-use Rattle.sdd_invariants.specs.Steps.{home}
+use Rattle.sdd_invariants.proofs.Lists.{all_at, any_at, at_seam, within_left}
 use Rattle.sdd_invariants.proofs.Fair.{d_fair}
 use Rattle.sdd_invariants.proofs.Made.{permitted_before}
+use Rattle.sdd_log.specs.All.{Log}
 use Rattle.sdd_log.specs.site_module.SiteLog as site
 
 pub le_is : (a b : ℕ) → nat_le a b ≡ true → a ≤ b
@@ -64,7 +55,9 @@ answered_if s log c txn attempt module_no sends ts k t a conds uses h (by_record
     let at : c ≡ j = cc in
     let i2 : head (pipe c log) ≡ Some m = subst (λ x. head (pipe x log) ≡ Some m) (sym at) i in
     let is : m ≡ Read ts k t a conds uses = cc in
-    let m2 : May (view_of s log) c (waits c log) (Read ts k t a conds uses) (Answer txn attempt module_no) = subst (λ x. May (view_of s log) x (waits x log) (Read ts k t a conds uses) (Answer txn attempt module_no)) (sym at) (subst (λ x. May (view_of s log) j (waits j log) (Read ts k t a conds uses) x) (sym same) (subst (λ x. May (view_of s log) j (waits j log) x r) is may)) in (
+    let m2 : May (view_of s log) c (waits c log) (Read ts k t a conds uses) (Answer txn attempt module_no) = subst
+    (λ x. May (view_of s log) x (waits x log) (Read ts k t a conds uses) (Answer txn attempt module_no)) (sym at)
+    (subst (λ x. May (view_of s log) j (waits j log) (Read ts k t a conds uses) x) (sym same) (subst (λ x. May (view_of s log) j (waits j log) x r) is may)) in (
       m2.2,
       elim m2.3 [
         | inl w ↦ (let u = waiting s log h c w in subst (IsUnspoilt s log) f u.1)
@@ -114,7 +107,8 @@ split g later log d q r txn attempt module_no sends ts k t a conds uses n i w j 
     elim (dec_le (suc c) (suc (length s.catalogue.classes))) [
       | yes lt ↦ (
         (λ lo. let in_it : slice_get (pipe c l).processed i ≡ Some (Write w j x changes) = processed_there (pipe c l) more.0 i (Write w j x changes) there lo in
-            let none : list_any (spoiling q) (pipe c l).processed ≡ false = subst (λ ms. list_any (spoiling q) ms ≡ false) (processed_in_is s l c lt) (sym (spoils_is s l q) ∙ clean) in
+            let none : list_any (spoiling q) (pipe c l).processed ≡ false = subst (λ ms. list_any (spoiling q) ms ≡ false) (processed_in_is s l c lt)
+            (sym (spoils_is s l q) ∙ clean) in
             below_time q w j x changes tch (any_false_at (spoiling q) (pipe c l).processed i (Write w j x changes) none in_it)),
         (λ lo. has_passed (pipe c l) more.0 q.time.0 i (Write w j x changes) rises there lo (subst (λ (v : ClassView). passed v.pipe q.time.0 ≡ true) (class_in_view s l c lt) met)),
       )

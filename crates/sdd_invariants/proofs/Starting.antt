@@ -1,16 +1,12 @@
 -- What is said of a record that a site makes.
-use Rattle.std.proofs.Common.{ℕ, ◌∙◌, ◌∷◌, ◌≡◌, ◌≤◌, Some, subst, sym, true}
-use Rattle.sdd_log.specs.All.{Act, Attempt, Bases, Commit, DmNo, Does, Each, Given, IsPermitted, Log, Records, Setting, T, TmNo, U, active, base_of, commit_act, contains, is_over, local_of, number_of, setting_of}
-use Rattle.sdd_log.proofs.EachLocal.{allowed_act}
+use Rattle.sdd_invariants.proofs.All.{Act, Attempt, Bases, Commit, DmNo, Does, Each, Given, HasAnswer, IsBased, IsFair, IsPermitted, IsStep, Records, Says, Setting, Some, T, TmNo, U, active, allowed_act, base_of, commit_act, contains, home, is_over, local_of, modules_asked, number_of, setting_of, subst, sym, true, ℕ, ◌∙◌, ◌∷◌, ◌≡◌, ◌≤◌}
 use Rattle.sdd_invariants.proofs.Recorded.{says}
-use Rattle.sdd_invariants.specs.OfRecords.{Says}
 use Rattle.sdd_invariants.proofs.Answered.{answered_all}
 use Rattle.sdd_invariants.proofs.Based.{t_based, u_based}
-use Rattle.sdd_invariants.specs.Causes.{HasAnswer, IsBased}
 use Rattle.sdd_invariants.proofs.Active.{step_way_over}
-use Rattle.sdd_invariants.specs.Steps.{IsFair, IsStep, home, modules_asked}
 use Rattle.sdd_invariants.proofs.Fair.{all_new, home_fair}
 use Rattle.sdd_invariants.proofs.Made.{own_act}
+use Rattle.sdd_log.specs.All.{Log}
 use Rattle.sdd_log.specs.site_module.SiteLog as site
 
 home_step : (g : Given) (c : ℕ) (log : Log) (act : Act) → IsPermitted g (Does (home g.catalogue c) act ∷ log)
@@ -22,7 +18,8 @@ home_step g c log act h =
 pub says_at : (g : Given) (c : ℕ) (log : Log) (act : Act) → IsPermitted g (Does (home g.catalogue c) act ∷ log)
     → number_of (home g.catalogue c) ≤ 63 → Says (setting_of g (home g.catalogue c)) (local_of g (home g.catalogue c) log) act
 says_at g c log act h small =
-    says (setting_of g (home g.catalogue c)) (local_of g (home g.catalogue c) log) act small (home_fair g c log h.1) (all_new g (home g.catalogue c) log h.1) (home_step g c log act h)
+    says (setting_of g (home g.catalogue c)) (local_of g (home g.catalogue c) log) act small (home_fair g c log h.1) (all_new g (home g.catalogue c) log h.1)
+    (home_step g c log act h)
 
 -- at a Commit its attempt's exchange is over
 abbrev IsOverAt : Setting → site.Log → Act → Type 0
@@ -30,12 +27,13 @@ IsOverAt s log (Records k (Commit txn attempt reply changes values rows) sends) 
     (a : Attempt) → active s k log ≡ Some a → is_over a.exchange.phase ≡ true
 IsOverAt s log act = Unit {0}
 
-one_active : (s : Setting) (c : ℕ) (log : site.Log) (a b : Attempt) → active s c log ≡ Some a → active s c log ≡ Some b → a ≡ b
+pub one_active : (s : Setting) (c : ℕ) (log : site.Log) (a b : Attempt) → active s c log ≡ Some a → active s c log ≡ Some b → a ≡ b
 one_active s c log a b e f = let p : Some a ≡ Some b = sym e ∙ f in cc
 
 over_at : (s : Setting) (log : site.Log) (act : Act) → IsStep s log act → IsOverAt s log act
 over_at s log act i =
-    step_way_over s log act (IsOverAt s log) (λ c q at f e. tt) (λ c bases a at f o. λ b e. subst (λ (x : Attempt). is_over x.exchange.phase ≡ true) (one_active s c log a b f e) o) (λ to m hand f. tt) i
+    step_way_over s log act (IsOverAt s log) (λ c q at f e. tt)
+    (λ c bases a at f o. λ b e. subst (λ (x : Attempt). is_over x.exchange.phase ≡ true) (one_active s c log a b f e) o) (λ to m hand f. tt) i
 
 pub commit_over : (s : Setting) (log : site.Log) (c : ℕ) (bases : Bases) (a : Attempt)
     → IsStep s log (commit_act s.catalogue bases c a) → active s c log ≡ Some a → is_over a.exchange.phase ≡ true
@@ -47,7 +45,8 @@ pub commit_answered : (g : Given) (c : ℕ) (log : Log) (bases : Bases) (a : Att
     → active (setting_of g (home g.catalogue c)) c (local_of g (home g.catalogue c) log) ≡ Some a
     → contains (modules_asked (setting_of g (home g.catalogue c)) c a.text) d.0 ≡ true → HasAnswer g log d c a
 commit_answered g c log bases a d h e p =
-    answered_all g c log a d h.1 e (commit_over (setting_of g (home g.catalogue c)) (local_of g (home g.catalogue c) log) c bases a (home_step g c log (commit_act g.catalogue bases c a) h) e) p
+    answered_all g c log a d h.1 e
+    (commit_over (setting_of g (home g.catalogue c)) (local_of g (home g.catalogue c) log) c bases a (home_step g c log (commit_act g.catalogue bases c a) h) e) p
 
 -- its reply and changes are those of the effect on the database of the attempt's snapshots
 pub t_commit : (g : Given) (t : TmNo) (log : Log) (act : Act) → IsPermitted g (Does (T t) act ∷ log)

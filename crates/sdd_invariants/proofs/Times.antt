@@ -1,16 +1,9 @@
 -- On a link the times of a class never fall: each is at most the class's limit, which never falls either.
-use Rattle.std.specs.Prelude.{filter_map}
-use Rattle.std.proofs.Common.{ℕ, ◌++◌, ◌==◌, ◌||◌, ◌∙◌, ◌∷◌, ◌≡◌, ◌≤◌, Bool, List, None, Option, Some, [], ap, arith, cond, false, if◌then◌else◌, inl, inr, map, not, refl, subst, sym, true}
-use Rattle.sdd_log.specs.All.{Act, Attempt, Bases, Catalogue, Change, D, Did, Each, Entry, Fetch, Handed, Msg, Null, Queued, Redeclared, Reduce, Sends, Setting, Ship, Site, Submits, Ticked, Write, active, asks_rows, class_is, class_no, commit_act, dm_no, effect, goes_through, head_of, is_empty, number_of, numbers_to, piped, queue, same_site, sends_of_act, time_at, time_in, time_of, txn_no, write_to}
-use Rattle.sdd_log.specs.site_module.SiteLog.{Log}
+use Rattle.sdd_invariants.proofs.All.{Act, AllGe, AllLe, AllPiped, Attempt, Bases, Bool, Catalogue, Change, D, Did, Each, Entry, Fetch, Handed, IsFair, IsRising, IsSend, IsStep, IsTimed, List, Log, Msg, None, Null, Option, Queued, Redeclared, Reduce, Sends, Setting, Ship, Site, Some, Submits, Ticked, Write, [], a_held, a_hold, a_null, a_release, active, ap, arith, asks_rows, bound, changes_at, class_is, class_no, commit_act, cond, dm_no, effect, false, filter_map, goes_through, head_of, if◌then◌else◌, inl, inr, is_empty, limit, limit_of, map, next_stamp, not, number_of, numbers_to, of_exchange, piped, puts_to, queue, refl, same_site, sends_of_act, start_at, subst, sym, time_at, time_in, time_of, times_in, to_site, true, txn_no, write_to, ℕ, ◌++◌, ◌==◌, ◌||◌, ◌∙◌, ◌∷◌, ◌≡◌, ◌≤◌}
 use Rattle.sdd_invariants.proofs.Clocks.{bound_rises, limit_le}
-use Rattle.sdd_invariants.specs.OnLinks.{AllPiped, IsTimed}
 use Rattle.sdd_invariants.proofs.Active.{handed_way, sent_way, step_way}
 use Rattle.sdd_invariants.proofs.Bools.{same_number, same_or_not}
 use Rattle.sdd_invariants.proofs.Lists.{le_up}
-use Rattle.sdd_invariants.specs.Orders.{AllGe, AllLe, IsRising}
-use Rattle.sdd_invariants.specs.Steps.{IsFair, IsSend, IsStep, a_held, a_hold, a_null, a_release, bound, changes_at, limit, limit_of, next_stamp, of_exchange, start_at}
-use Rattle.sdd_invariants.specs.Traffic.{puts_to, times_in, to_site}
 
 abbrev pub AllAre : ℕ → List ℕ → Type 0
 AllAre t [] = Unit {0}
@@ -58,7 +51,8 @@ times_if : (c t : ℕ) (b : Bool) (m : Msg) (ms : List Msg) → AllAre t (times_
     → AllAre t (times_in c (if b then m ∷ ms else ms))
 times_if c t false m ms h i = i
 times_if c t true m ms h i =
-    elim (goes_through c m) as (λ b. AllAre t (if b then time_of m ∷ [] else []) → AllAre t (if b then time_of m ∷ times_in c ms else times_in c ms)) [ true ↦ λ k. (k.0, i) | false ↦ λ k. i ] h
+    elim (goes_through c m) as
+    (λ b. AllAre t (if b then time_of m ∷ [] else []) → AllAre t (if b then time_of m ∷ times_in c ms else times_in c ms)) [ true ↦ λ k. (k.0, i) | false ↦ λ k. i ] h
 
 time_piped : (c t : ℕ) (m : Msg) → piped m ≡ Some (c, t) → AllAre t (times_in c (m ∷ []))
 time_piped c t m e =
@@ -94,7 +88,8 @@ piped_writes : (cat : Catalogue) (c : ℕ) (a : Attempt) (changes : List Change)
     → AllPiped c a.ts (filter_map (write_to cat c a changes) ds)
 piped_writes cat c a changes [] = tt
 piped_writes cat c a changes (d ∷ ds) =
-    piped_cond c a.ts (not (is_empty (changes_at cat d changes)) || (c == 0)) (D (dm_no d), Write (time_at a.ts) (class_no c) (txn_no a.txn) (changes_at cat d changes))
+    piped_cond c a.ts (not (is_empty (changes_at cat d changes)) || (c == 0))
+    (D (dm_no d), Write (time_at a.ts) (class_no c) (txn_no a.txn) (changes_at cat d changes))
     (write_to cat c a changes) ds refl (piped_writes cat c a changes ds) d refl
 
 pub piped_start : (s : Setting) (c : ℕ) (log : Log) (q : Queued)
@@ -137,7 +132,8 @@ commit_own s c bases b log a l e = record {
 commit_other : (s : Setting) (k c : ℕ) (bases : Bases) (b : Site) (log : Log) (a : Attempt) → (k == c) ≡ false
     → Goes s c b log (commit_act s.catalogue bases k a)
 commit_other s k c bases b log a e =
-    quiet_act s c b log (commit_act s.catalogue bases k a) (rw e (omega arith)) (piped_other k c a.ts b (sends_of_act (commit_act s.catalogue bases k a)) e (piped_commit s k bases a))
+    quiet_act s c b log (commit_act s.catalogue bases k a) (rw e (omega arith))
+    (piped_other k c a.ts b (sends_of_act (commit_act s.catalogue bases k a)) e (piped_commit s k bases a))
 
 limit_sent : (s : Setting) (c : ℕ) (log : Log) (to : Site) (m : Msg) (hand : Option ℕ)
     → limit s c log ≡ limit s c (Did (Sends to m hand) ∷ log)
@@ -161,7 +157,8 @@ null_own s c b log to hand = record {
   time = limit s c log;
   above = omega arith;
   below = (let l = limit_sent s c log to (Null (class_no c) (time_at (limit s c log))) hand in omega arith);
-  all_at = times_if c (limit s c log) (same_site b to) (Null (class_no c) (time_at (limit s c log))) [] (time_piped c (limit s c log) (Null (class_no c) (time_at (limit s c log))) refl) tt;
+  all_at = times_if c (limit s c log) (same_site b to) (Null (class_no c) (time_at (limit s c log))) []
+      (time_piped c (limit s c log) (Null (class_no c) (time_at (limit s c log))) refl) tt;
 }
 
 send_goes : (s : Setting) (c : ℕ) (b : Site) (log : Log) (to : Site) (m : Msg) (hand : Option ℕ) → IsSend s log m
@@ -206,9 +203,11 @@ timed s c b [] w h = record { rises = tt; within = tt }
 timed s c b (Handed from m ∷ log) w h =
     timed_on s c b log (Handed from m) (limit_handed s c from m log (limit_le s log c w h.1)) refl (timed s c b log w h.1)
 timed s c b (Ticked n ∷ log) w h =
-    timed_on s c b log (Ticked n) (limit_on (bound s log) (bound s (Ticked n ∷ log)) (active s c log) (bound_rises s (Ticked n) log)) refl (timed s c b log w h.1)
+    timed_on s c b log (Ticked n) (limit_on (bound s log) (bound s (Ticked n ∷ log)) (active s c log) (bound_rises s (Ticked n) log)) refl
+    (timed s c b log w h.1)
 timed s c b (Redeclared force t ∷ log) w h =
-    timed_on s c b log (Redeclared force t) (limit_on (bound s log) (bound s (Redeclared force t ∷ log)) (active s c log) (bound_rises s (Redeclared force t) log)) refl (timed s c b log w h.1)
+    timed_on s c b log (Redeclared force t)
+    (limit_on (bound s log) (bound s (Redeclared force t ∷ log)) (active s c log) (bound_rises s (Redeclared force t) log)) refl (timed s c b log w h.1)
 timed s c b (Submits n txn ∷ log) w h = timed_on s c b log (Submits n txn) (omega arith) refl (timed s c b log w h.1)
 timed s c b (Did act ∷ log) w h =
     let i = timed s c b log w h.1 in

@@ -1,7 +1,5 @@
 -- HOLDs and RELEASEs that alternate, and how many there are.
-use Rattle.std.proofs.Common.{ℕ, ◌++◌, ◌+◌, ◌∷◌, ◌≡◌, ◌≤◌, Bool, List, None, Option, Some, [], ap, arith, false, refl, suc, take, true, zero}
-use Rattle.sdd_log.specs.All.{Hold, Msg, Release}
-use Rattle.sdd_invariants.specs.Turns.{NoneHold, is_a_hold, is_a_release, one_if, tally, turn, turns}
+use Rattle.sdd_invariants.proofs.All.{Bool, Hold, List, Msg, None, NoneHold, Option, Release, Some, [], ap, arith, false, is_a_hold, is_a_release, one_if, refl, suc, take, tally, true, turn, turns, zero, ℕ, ◌++◌, ◌+◌, ◌∷◌, ◌≡◌, ◌≤◌}
 
 pub tally_append : (f : Msg → Bool) (xs ys : List Msg) → tally f (xs ++ ys) ≡ tally f xs + tally f ys
 tally_append f [] ys = omega arith

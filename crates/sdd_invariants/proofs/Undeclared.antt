@@ -1,35 +1,25 @@
 -- H5's Applies, and that a READ of an undeclared transaction is never spoilt.
-use Rattle.std.proofs.Common.{ℕ, ◌++◌, ◌<◌, ◌==◌, ◌∙◌, ◌∷◌, ◌≡◌, ◌≢◌, ◌≤◌, List, Some, [], ap, append_assoc, arith, false, inl, inr, length, refl, slice_get, subst, suc, sym, true, zero}
-use Rattle.sdd_log.specs.All.{Act, Answer, Attempt, Bases, ClassNo, Cond, D, Did, DmNo, Does, Given, IsPermitted, Log, Msg, Queued, Read, Records, Setting, Site, T, Ts, TxnNo, U, Use, Write, active, clock, commit_act, contains, dm_no, head, home_of, local_of, number_of, numbers_to, runs, sends_of_act, setting_of, spoils, tm_no, touches, undeclared_conditions, view_of}
-use Rattle.sdd_graph.specs.Graph.{classes_of}
-use Rattle.sdd_log.specs.Entries.{Entry}
+use Rattle.sdd_invariants.proofs.All.{Act, Answer, Attempt, Bases, ClassNo, Cond, D, Did, DmNo, Does, Given, HasAnswer, HasApply, HasStart, IsApplied, IsCommitT, IsHigh, IsPermitted, IsRead, IsWriter, List, Msg, Queued, Read, Records, Setting, Site, Some, T, Ts, TxnNo, U, Use, Write, [], active, ap, append_assoc, arith, at_map, changes_to, clock, commit_act, contains, dm_no, dones_of, drawn_so_far, false, head, home, home_of, in_left, in_mapped, inl, inr, length, local_of, next_stamp, number_of, numbers_to, or_left, or_right, pipe_at, place_within, refl, runs, sends_of_act, setting_of, slice_get, spoils, start_at, start_read, start_u, starts, subst, suc, sym, tm_no, to_site, touches, true, u_stamp, undeclared_conditions, view_of, zero, zero_cond, ℕ, ◌++◌, ◌<◌, ◌==◌, ◌∙◌, ◌∷◌, ◌≡◌, ◌≢◌, ◌≤◌}
 use Rattle.sdd_invariants.proofs.Apart.{at_start, drawn_grow, end_at, low_or_high}
 use Rattle.sdd_invariants.proofs.Dones.{all_applied}
 use Rattle.sdd_invariants.proofs.HoldChain.{hold_chain, u_table}
-use Rattle.sdd_invariants.specs.Barrier.{HasApply, IsCommitT, IsHigh, start_u, u_stamp, zero_cond}
-use Rattle.sdd_invariants.proofs.Holding.{at_map}
 use Rattle.sdd_invariants.proofs.Releases.{serving}
-use Rattle.sdd_invariants.specs.AtU.{starts}
-use Rattle.sdd_invariants.specs.Releases.{dones_of, drawn_so_far}
 use Rattle.sdd_invariants.proofs.Clocks.{clock_grows}
 use Rattle.sdd_invariants.proofs.ReadsPut.{start_puts}
 use Rattle.sdd_invariants.proofs.Recorded.{start_of_active}
-use Rattle.sdd_invariants.specs.OfRecords.{HasStart}
-use Rattle.sdd_invariants.specs.Puts.{IsRead}
 use Rattle.sdd_invariants.proofs.Again.{is_spoilt, le_as, stamp_ticks, writer_of}
 use Rattle.sdd_invariants.proofs.Answered.{read_of}
 use Rattle.sdd_invariants.proofs.Installed.{class_number, head_put, write_origin}
 use Rattle.sdd_invariants.proofs.Once.{answered_there}
 use Rattle.sdd_invariants.proofs.Starting.{commit_answered}
-use Rattle.sdd_invariants.specs.Causes.{HasAnswer, IsWriter}
 use Rattle.sdd_invariants.proofs.Applied.{split_applied}
-use Rattle.sdd_invariants.specs.Seen.{IsApplied, changes_to, pipe_at}
-use Rattle.sdd_invariants.proofs.Bools.{or_left, or_right, same_number}
-use Rattle.sdd_invariants.proofs.Lists.{in_left, in_mapped, in_none, in_one, place_within}
-use Rattle.sdd_invariants.specs.Steps.{home, next_stamp, start_at, start_read}
-use Rattle.sdd_invariants.specs.Traffic.{to_site}
+use Rattle.sdd_invariants.proofs.Bools.{same_number}
+use Rattle.sdd_invariants.proofs.Lists.{in_none, in_one}
 use Rattle.sdd_invariants.proofs.Fair.{home_fair}
 use Rattle.sdd_invariants.proofs.Made.{local_grows, own_act, permitted_before}
+use Rattle.sdd_log.specs.All.{Log}
+use Rattle.sdd_graph.specs.Graph.{classes_of}
+use Rattle.sdd_log.specs.Entries.{Entry}
 use Rattle.sdd_log.specs.site_module.SiteLog as site
 
 -- first parts of a log
@@ -46,7 +36,7 @@ pub permitted_part : (g : Given) (a b : Log) → IsPermitted g a → Part a b �
 permitted_part g a b h p = permitted_before g p.0 b (subst (IsPermitted g) p.1 h)
 
 -- an Apply of an undeclared transaction follows its Answer at the module
-has_number : (ns : List ℕ) (k d : ℕ) → slice_get ns k ≡ Some d → contains ns d ≡ true
+pub has_number : (ns : List ℕ) (k d : ℕ) → slice_get ns k ≡ Some d → contains ns d ≡ true
 has_number [] k d e = cc
 has_number (x ∷ ns) zero d e =
     let p : x ≡ d = cc in let q : (x == d) ≡ true = ap (λ y. x == y) (sym p) ∙ same_number x in or_left (x == d) (contains ns d) q
@@ -62,7 +52,8 @@ answered_before g k d log x h i p =
     let put = head_put g 0 d p.before m h1 p.head_is in
     let z : p.of.0 ≡ 0 = class_number p.of.0 0 p.ts.0 put.of_class in
     let w = write_origin g p.before 0 d p.ts p.of p.txn p.changes z put in
-    let h2 : IsPermitted g (Does U (commit_act g.catalogue w.bases 0 w.attempt) ∷ w.before) = permitted_before g w.later (Does U (commit_act g.catalogue w.bases 0 w.attempt) ∷ w.before) (subst (IsPermitted g) w.is h1) in
+    let h2 : IsPermitted g (Does U (commit_act g.catalogue w.bases 0 w.attempt) ∷ w.before) = permitted_before g w.later
+    (Does U (commit_act g.catalogue w.bases 0 w.attempt) ∷ w.before) (subst (IsPermitted g) w.is h1) in
     let ans = commit_answered g 0 w.before w.bases w.attempt d h2 w.active_is (has_number (numbers_to g.catalogue.dms) k d.0 i) in
     (w.attempt, w.before, part_join log p.before w.before p1 (part_of p.before w.later _ w.before w.is), ans, sym w.ts_is ∙ p.ts_is)
 
@@ -72,8 +63,11 @@ not_again : (g : Given) (d : DmNo) (log : Log) (a : Attempt) (ts : Ts) (k : Clas
     → a.ts ≡ ts.0 → ⊥
 not_again g d log a ts k txn n ds us before h e p w same =
     let ans : Act = Records 0 (Answer w.txn w.attempt (home_of (setting_of g (D d))).dm) w.sends in
-    let whole : log ≡ (p.0 ++ w.later) ++ Does (D d) ans ∷ w.before = p.1 ∙ ap (λ l. p.0 ++ l) w.is ∙ sym (append_assoc p.0 w.later (Does (D d) ans ∷ w.before)) in
-    answered_there g 0 d (p.0 ++ w.later) w.before (home_of (setting_of g (D d))).dm w.sends w.ts ts w.of k w.txn w.txn txn w.attempt w.attempt n w.conds ds w.uses us (subst (IsPermitted g) whole h) (omega arith)
+    let whole : log ≡ (p.0 ++ w.later) ++ Does (D d) ans ∷ w.before = p.1 ∙ ap (λ l. p.0 ++ l) w.is
+    ∙ sym (append_assoc p.0 w.later (Does (D d) ans ∷ w.before)) in
+    answered_there g 0 d (p.0 ++ w.later) w.before
+    (home_of (setting_of g (D d))).dm w.sends w.ts ts w.of k w.txn w.txn txn w.attempt w.attempt n w.conds ds w.uses us (subst (IsPermitted g) whole h)
+    (omega arith)
     w.head_is (subst (λ l. head (pipe_at g 0 d l) ≡ Some (Read ts k txn n ds us)) whole e) (w.ts_is ∙ same)
 
 -- of an undeclared transaction's READ: its conditions are on each class, at its timestamp, with all fragments
@@ -96,11 +90,12 @@ zero_conds g d log ts k txn n ds us h e =
     let m : Msg = Read ts k txn n ds us in
     let p = head_put g 0 d log m h e in
     let z : k.0 ≡ 0 = class_number k.0 0 ts.0 p.of_class in
-    let r : IsRead (setting_of g U) (local_of g U p.before) p.act 0 ts.0 txn.0 n = subst (λ j. IsRead (setting_of g U) (local_of g U p.before) p.act j ts.0 txn.0 n) z p.by in
+    let r : IsRead (setting_of g U) (local_of g U p.before) p.act 0 ts.0 txn.0 n = subst
+    (λ j. IsRead (setting_of g U) (local_of g U p.before) p.act j ts.0 txn.0 n) z p.by in
     conds_put g d (local_of g U p.before) r.queued p.place m (subst (λ y. slice_get (to_site (D d) (sends_of_act y)) p.place ≡ Some m) r.act_is p.there)
     ∙ ap (undeclared_conditions g.catalogue) (sym r.time_is)
 
-read_times : (g : Given) (d : DmNo) (log : Log) (ts : Ts) (k : ClassNo) (txn : TxnNo) (n : ℕ) (ds : List Cond) (us : List Use) (j : ℕ) (q : Cond)
+pub read_times : (g : Given) (d : DmNo) (log : Log) (ts : Ts) (k : ClassNo) (txn : TxnNo) (n : ℕ) (ds : List Cond) (us : List Use) (j : ℕ) (q : Cond)
     → IsPermitted g log → head (pipe_at g 0 d log) ≡ Some (Read ts k txn n ds us) → slice_get ds j ≡ Some q → q.time.0 ≡ ts.0
 read_times g d log ts k txn n ds us j q h e f =
     let r = in_mapped (zero_cond g ts.0) (classes_of g.catalogue) j q (subst (λ l. slice_get l j ≡ Some q) (zero_conds g d log ts k txn n ds us h e) f) in
@@ -117,7 +112,8 @@ pub has_cond : (g : Given) (d : DmNo) (log : Log) (ts : Ts) (k : ClassNo) (txn :
     → IsPermitted g log → head (pipe_at g 0 d log) ≡ Some (Read ts k txn n ds us) → slice_get (classes_of g.catalogue) j ≡ Some c
     → slice_get ds j ≡ Some (zero_cond g ts.0 c)
 has_cond g d log ts k txn n ds us j c h e f =
-    subst (λ l. slice_get l j ≡ Some (zero_cond g ts.0 c)) (sym (zero_conds g d log ts k txn n ds us h e)) (at_map (zero_cond g ts.0) (classes_of g.catalogue) j c f)
+    subst (λ l. slice_get l j ≡ Some (zero_cond g ts.0 c)) (sym (zero_conds g d log ts k txn n ds us h e))
+    (at_map (zero_cond g ts.0) (classes_of g.catalogue) j c f)
 
 -- a Commit at the site of its class, as H5 takes it
 pub commit_t : (g : Given) (t c : ℕ) (log later before : Log) (bases : Bases) (a : Attempt) → IsPermitted g log
@@ -128,7 +124,8 @@ commit_t g t c log later before bases a h hm e act =
     let hb : IsPermitted g before = permitted_part g log before h (part_of log later _ before e) in
     let st = start_of_active (setting_of g (home g.catalogue c)) c (local_of g (home g.catalogue c) before) a (home_fair g c before hb) act in
     let x = local_grows g (home g.catalogue c) later (Does (home g.catalogue c) (commit_act g.catalogue bases c a) ∷ before) in
-    let is : local_of g (home g.catalogue c) log ≡ x.0 ++ Did (commit_act g.catalogue bases c a) ∷ local_of g (home g.catalogue c) before = ap (local_of g (home g.catalogue c)) e ∙ x.1 ∙ ap (λ l. x.0 ++ l) (own_act g (home g.catalogue c) (commit_act g.catalogue bases c a) before) in
+    let is : local_of g (home g.catalogue c) log ≡ x.0 ++ Did (commit_act g.catalogue bases c a) ∷ local_of g (home g.catalogue c) before = ap
+    (local_of g (home g.catalogue c)) e ∙ x.1 ∙ ap (λ l. x.0 ++ l) (own_act g (home g.catalogue c) (commit_act g.catalogue bases c a) before) in
     record {
       later = x.0;
       before = local_of g at before;
@@ -212,7 +209,8 @@ zero_pair g k t log later log2 q q2 i h e =
     let x = local_grows g U later (Does U (start_u g log2 q2) ∷ log2) in
     let is : lu ≡ x.0 ++ Did (start_u g log2 q2) ∷ l2 = ap (local_of g U) e ∙ x.1 ∙ ap (λ l. x.0 ++ l) (own_act g U (start_u g log2 q2) log2) in
     let dg = drawn_grow x.0 (Did (start_u g log2 q2) ∷ l2) in
-    let there : slice_get (drawn_so_far lu) (starts l2) ≡ Some ts = subst (λ l. slice_get l (starts l2) ≡ Some ts) (sym (ap drawn_so_far is ∙ dg.1)) (in_left (drawn_so_far (Did (start_u g log2 q2) ∷ l2)) dg.0 (starts l2) ts (end_at (drawn_so_far l2) (starts l2) ts sv2.counted)) in
+    let there : slice_get (drawn_so_far lu) (starts l2) ≡ Some ts = subst (λ l. slice_get l (starts l2) ≡ Some ts) (sym (ap drawn_so_far is ∙ dg.1))
+    (in_left (drawn_so_far (Did (start_u g log2 q2) ∷ l2)) dg.0 (starts l2) ts (end_at (drawn_so_far l2) (starts l2) ts sv2.counted)) in
     let lt : starts l2 < length (drawn_so_far lu) = place_within (drawn_so_far lu) (starts l2) ts there in
     let grew = clock_grows U x.0 (Did (start_u g log2 q2) ∷ l2) in
     let clk : (clock U lu).ticks ≡ (clock U (x.0 ++ Did (start_u g log2 q2) ∷ l2)).ticks = ap (λ l. (clock U l).ticks) is in

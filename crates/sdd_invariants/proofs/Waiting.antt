@@ -1,19 +1,9 @@
 -- While a READ waits, no WRITE that spoils one of its conditions is processed.
-use Rattle.std.specs.List.{cons_option, list_any}
-use Rattle.std.specs.Prelude.{filter_map, fold, max}
-use Rattle.std.proofs.Common.{ℕ, ◌&&◌, ◌++◌, ◌<◌, ◌==◌, ◌||◌, ◌∙◌, ◌∷◌, ◌≡◌, ◌≢◌, ◌≤◌, Bool, List, None, Option, Some, [], ap, arith, cond, false, filter, if◌then◌else◌, inl, inr, length, nat_le, not, refl, slice_get, subst, suc, sym, true, zero}
-use Rattle.std.proofs.Math.Decide.{dec_le}
-use Rattle.std.proofs.lemmas.Bool.Decides.{nat_tests}
-use Rattle.std.proofs.lemmas.List.FromFn.{length-map-range_with_len}
-use Rattle.std.proofs.lemmas.Option.{slice_get-get_or}
-use Rattle.sdd_log.specs.All.{Apply, Change, ClassNo, ClassView, Cond, Did, Each, Entry, Handed, Msg, Null, Pipe, Read, Rec, Records, Redeclared, Setting, Site, Submits, Ticked, Ts, TxnNo, Write, at_class, class_view, goes_through, greatest, head, head_of, holds_back, is_at_least, is_processing, pipe, put, raised, spoils, touches, view_of, waits, write_time}
-use Rattle.sdd_log.specs.site_module.SiteLog.{Log}
-use Rattle.sdd_log.specs.dm.Due.{holds}
-use Rattle.sdd_invariants.proofs.Processed.{not_own, own_record, passing, processed_handed, processed_more, read_step_way}
-use Rattle.sdd_invariants.specs.Unspoilt.{AllUnspoilt, IsUnspoilt, IsWaiting, spoiling}
+use Rattle.sdd_invariants.proofs.All.{AllUnspoilt, Apply, Bool, Change, ClassNo, ClassView, Cond, Did, Each, Entry, Handed, IsClassHere, IsDueEach, IsReadWith, IsUnspoilt, IsWaiting, List, Log, May, Msg, None, Null, Option, Pipe, Read, Rec, Records, Redeclared, Setting, Site, Some, Submits, Ticked, Ts, TxnNo, Write, [], ap, arith, at_class, class_view, cond, cons_option, dec_le, false, filter, filter_map, fold, goes_through, greatest, head, head_of, holds_back, if◌then◌else◌, inl, inr, is_at_least, is_processing, length, length-map-range_with_len, list_any, max, nat_le, nat_tests, not, or_assoc, pipe, put, raised, refl, slice_get, slice_get-get_or, spoiler, spoiling, spoils, subst, suc, sym, touches, true, view_of, waits, waits_own, write_time, zero, ℕ, ◌&&◌, ◌++◌, ◌<◌, ◌==◌, ◌||◌, ◌∙◌, ◌∷◌, ◌≡◌, ◌≢◌, ◌≤◌}
+use Rattle.sdd_invariants.proofs.Processed.{not_own, own_record, passing, processed_handed, processed_more, read_step_way, and_false as never_and}
 use Rattle.sdd_invariants.proofs.AreReadSteps.{class_in_view, class_not_in_view, d_step, no_class}
 use Rattle.sdd_invariants.proofs.Bools.{neither_left, neither_right, same_number, same_or_not}
-use Rattle.sdd_invariants.specs.ReadSteps.{IsClassHere, IsDueEach, IsReadWith, May, spoiler}
+use Rattle.sdd_log.specs.dm.Due.{holds}
 
 -- what the table tests, as a test of each processed message
 
@@ -28,15 +18,12 @@ or_nothing : (b : Bool) → b ≡ (b || false)
 or_nothing true = refl
 or_nothing false = refl
 
-or_assoc : (a b c : Bool) → ((a || b) || c) ≡ (a || (b || c))
-or_assoc true b c = refl
-or_assoc false b c = refl
-
 greatest_test : (t : ℕ) (o : Option ℕ) (xs : List ℕ)
     → is_at_least t (fold raised o xs) ≡ (is_at_least t o || list_any (nat_le t) xs)
 greatest_test t o [] = or_nothing (is_at_least t o)
 greatest_test t o (x ∷ xs) =
-    greatest_test t (raised o x) xs ∙ ap (λ b. b || list_any (nat_le t) xs) (raised_test t o x) ∙ or_assoc (is_at_least t o) (nat_le t x) (list_any (nat_le t) xs)
+    greatest_test t (raised o x) xs ∙ ap (λ b. b || list_any (nat_le t) xs) (raised_test t o x)
+    ∙ or_assoc (is_at_least t o) (nat_le t x) (list_any (nat_le t) xs)
 
 any_of_some : (t : ℕ) (o : Option ℕ) (xs : List ℕ)
     → list_any (nat_le t) (cons_option o xs) ≡ (is_at_least t o || list_any (nat_le t) xs)
@@ -123,7 +110,8 @@ head_handed s log false p m h = refl
 pub no_spoiler : (s : Setting) (log : Log) (ds : List Cond) → spoiler (view_of s log) ds ≡ None → AllUnspoilt s log ds
 no_spoiler s log [] e = tt
 no_spoiler s log (d ∷ ds) e =
-    elim (spoils (view_of s log) d) as (λ b. spoils (view_of s log) d ≡ b → head_of (cond b (d ∷ filter (spoils (view_of s log)) ds) (filter (spoils (view_of s log)) ds)) ≡ None → AllUnspoilt s log (d ∷ ds)) [
+    elim (spoils (view_of s log) d) as
+    (λ b. spoils (view_of s log) d ≡ b → head_of (cond b (d ∷ filter (spoils (view_of s log)) ds) (filter (spoils (view_of s log)) ds)) ≡ None → AllUnspoilt s log (d ∷ ds)) [
       | true ↦ λ p q. cc
       | false ↦ λ p q. (inr p, no_spoiler s log ds q)
     ] refl e
@@ -150,14 +138,11 @@ waits_other : (c k : ℕ) (r : Rec) (sends : List (Site × Msg)) (log : Log) →
     → waits c (Did (Records k r sends) ∷ log) ≡ waits c log
 waits_other c k r sends log e = rw e refl
 
-waits_own : (c : ℕ) (r : Rec) (sends : List (Site × Msg)) (log : Log) → is_processing r ≡ true
-    → waits c (Did (Records c r sends) ∷ log) ≡ false
-waits_own c r sends log e = rw (same_number c, e) refl
-
 pub class_there : (s : Setting) (log : Log) (c : ℕ) → IsClassHere s c
     → slice_get (view_of s log).classes c ≡ Some (class_view s log c)
 class_there s log c l =
-    let n : length (view_of s log).classes ≡ suc (length s.catalogue.classes) = length-map-range_with_len (class_view s log) 0 (suc (length s.catalogue.classes)) in
+    let n : length (view_of s log).classes ≡ suc (length s.catalogue.classes) = length-map-range_with_len (class_view s log) 0
+    (suc (length s.catalogue.classes)) in
     let in_it : c < length (view_of s log).classes = omega arith in
     slice_get-get_or (view_of s log).classes c no_class in_it ∙ ap (λ x. Some x) (class_in_view s log c l)
 
@@ -166,10 +151,6 @@ class_there s log c l =
 abbrev IsSafe : ℕ → Msg → List Cond → Type 0
 IsSafe k m [] = Unit {0}
 IsSafe k m (d ∷ ds) = (((d.class.0 == k) && spoiling d m) ≡ false) × IsSafe k m ds
-
-never_and : (b : Bool) → (b && false) ≡ false
-never_and true = refl
-never_and false = refl
 
 safe_other : (k : ℕ) (m : Msg) (ds : List Cond) → ((d : Cond) → spoiling d m ≡ false) → IsSafe k m ds
 safe_other k m [] f = tt
@@ -208,7 +189,8 @@ may_safe : (s : Setting) (log : Log) (k c : ℕ) (m : Msg) (r : Rec) → k ≢ 0
     → May (view_of s log) k (waits k log) m r → IsReadSafe k m (head (pipe c log))
 may_safe s log k c (Write ts class txn changes) (Apply t j dm w) n l q h =
     let e : list_any (λ (v : ClassView). v.waits && holds_back k ts.0 changes (head v.pipe)) (view_of s log).classes ≡ false = unheld k _ n h.3 in
-    let f : (waits c log && holds_back k ts.0 changes (head (pipe c log))) ≡ false = any_false_at (λ (v : ClassView). v.waits && holds_back k ts.0 changes (head v.pipe)) (view_of s log).classes c (class_view s log c) e (class_there s log c l) in
+    let f : (waits c log && holds_back k ts.0 changes (head (pipe c log))) ≡ false = any_false_at
+    (λ (v : ClassView). v.waits && holds_back k ts.0 changes (head v.pipe)) (view_of s log).classes c (class_view s log c) e (class_there s log c l) in
     read_safe k ts class txn changes (head (pipe c log)) (rw q at f)
 may_safe s log k c (Read ts class txn attempt conds uses) r n l q h =
     read_safe_other k (Read ts class txn attempt conds uses) (head (pipe c log)) (λ d. refl)
@@ -244,7 +226,8 @@ still s k m r sends log (d ∷ ds) l p e f h = (
         | inl q ↦ (let nonzero : k ≢ 0 = λ w. zero_not d.class.0 z (sym q ∙ w) in
             let fine : spoiling d m ≡ false = rw (subst (λ x. (d.class.0 == x) ≡ true) (sym q) (same_number d.class.0)) at (f nonzero).0 in
             inr (spoils_is s (Did (Records k r sends) ∷ log) d
-            ∙ ap (list_any (spoiling d)) (subst (λ j. processed_in s (Did (Records k r sends) ∷ log) j ≡ processed_in s log j ++ m ∷ []) q (processed_own s k m r sends log l p e))
+            ∙ ap (list_any (spoiling d))
+            (subst (λ j. processed_in s (Did (Records k r sends) ∷ log) j ≡ processed_in s log j ++ m ∷ []) q (processed_own s k m r sends log l p e))
             ∙ any_append (spoiling d) (processed_in s log d.class.0) (m ∷ []) ∙ both_false _ _ (sym (spoils_is s log d) ∙ u) fine))
         | inr q ↦ inr (spoils_is s (Did (Records k r sends) ∷ log) d ∙ ap (list_any (spoiling d)) (processed_else s d.class.0 k r sends log q) ∙ sym (spoils_is s log d) ∙ u)
       ]
@@ -289,7 +272,8 @@ waiting s (Did act ∷ log) h c =
     (λ e. waiting_on s c (Did act) log (λ j. ap (λ (x : Pipe). x.processed) (passing j act log e).0.pipe_same) (passing c act log e).1 (λ _. ap head (passing c act log e).0.pipe_same) i)
     (λ k conds r sends l p w a b. elim (same_or_not k c) [
       | inl q ↦ subst (λ x. IsWaiting s c (Did (Records x r sends) ∷ log)) (sym q) (wait_own s c conds r sends log (rw q at l) p (rw q at a) b)
-      | inr q ↦ waiting_on s c (Did (Records k r sends)) log (λ j. ap (λ (x : Pipe). x.processed) (not_own j k r sends log (inr p)).pipe_same) (waits_other c k r sends log q) (λ _. ap head (not_own c k r sends log (inr p)).pipe_same) i
+      | inr q ↦ waiting_on s c (Did (Records k r sends)) log (λ j. ap (λ (x : Pipe). x.processed) (not_own j k r sends log (inr p)).pipe_same)
+          (waits_other c k r sends log q) (λ _. ap head (not_own c k r sends log (inr p)).pipe_same) i
     ])
     (λ k m r sends l p e j. elim (same_or_not k c) [
       | inl q ↦ subst (λ x. IsWaiting s c (Did (Records x r sends) ∷ log)) (sym q) (record_own s c r sends log p)

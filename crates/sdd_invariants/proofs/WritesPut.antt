@@ -1,18 +1,10 @@
 -- The WRITEs of a class on a link have different, rising times; each was put by the Commit of the attempt with its time.
-use Rattle.std.proofs.Common.{ℕ, ◌++◌, ◌<◌, ◌==◌, ◌||◌, ◌∙◌, ◌∷◌, ◌≡◌, ◌≤◌, ◌⊎◌, Bool, List, None, Option, Some, [], ap, append-nil, arith, cond, false, if◌then◌else◌, inl, inr, map, not, refl, subst, suc, sym, true}
-use Rattle.std.proofs.lemmas.List.Elements.{filter_map-append}
-use Rattle.sdd_log.specs.All.{Act, Attempt, Bases, Catalogue, Change, D, Did, Each, Entry, Handed, Msg, Queued, Redeclared, Sends, Setting, Site, Submits, Ticked, Write, active, asks_rows, class_no, commit_act, dm_no, effect, head_of, is_empty, number_of, queue, same_site, sends_of_act, time_at, txn_no, write_to}
-use Rattle.sdd_log.specs.site_module.SiteLog.{Log}
+use Rattle.sdd_invariants.proofs.All.{Act, AllLt, Attempt, Bases, Bool, Catalogue, Change, D, Did, Each, Entry, Handed, IsFair, IsSend, IsStep, IsStrict, List, Log, Msg, None, Option, Queued, Redeclared, Sends, Setting, Site, Some, Submits, Ticked, Write, [], a_held, a_hold, a_null, a_release, active, ap, append-nil, arith, asks_rows, bound, changes_at, class_no, commit_act, cond, dm_no, effect, false, filter_map-append, head_of, if◌then◌else◌, inl, inr, is_empty, last_stamp, map, not, number_of, of_exchange, puts_to, queue, refl, same_site, sends_of_act, stamp_or, start_at, subst, suc, sym, time_at, to_site, true, txn_no, write_at, write_to, writes_in, ℕ, ◌++◌, ◌<◌, ◌==◌, ◌||◌, ◌∙◌, ◌∷◌, ◌≡◌, ◌≤◌, ◌⊎◌}
 use Rattle.sdd_invariants.proofs.Clocks.{bound_rises, drawn, stamp_below_bound}
-use Rattle.sdd_invariants.specs.OnLinks.{write_at, writes_in}
-use Rattle.sdd_invariants.specs.Stamps.{stamp_or}
 use Rattle.sdd_invariants.proofs.Active.{handed_way, sent_way, step_way}
 use Rattle.sdd_invariants.proofs.Bools.{same_number, same_or_not}
 use Rattle.sdd_invariants.proofs.Lists.{lt_push, lt_up, strict_push}
 use Rattle.sdd_invariants.proofs.Sites.{GoesTo, one_to}
-use Rattle.sdd_invariants.specs.Orders.{AllLt, IsStrict}
-use Rattle.sdd_invariants.specs.Steps.{IsFair, IsSend, IsStep, a_held, a_hold, a_null, a_release, bound, changes_at, last_stamp, of_exchange, start_at}
-use Rattle.sdd_invariants.specs.Traffic.{puts_to, to_site}
 
 -- no WRITE with this time or a later one was put yet
 abbrev pub open_of : ℕ → Option Attempt → ℕ
@@ -86,10 +78,6 @@ commit_puts s c bases b a = elim (one_to (write_to s.catalogue c a (effect s.cat
   | inl e ↦ inl e
   | inr p ↦ inr (p.0, p.3 ∙ ap (λ m. m ∷ []) (write_is s.catalogue c a (effect s.catalogue (bases a.ts) a.text).changes p.0 p.1 p.2))
 ]
-
-write_time_is : (k c t n : ℕ) (xs : List Change)
-    → write_at c (Write (time_at t) (class_no k) (txn_no n) xs) ≡ cond (k == c) (Some t) None
-write_time_is k c t n xs = refl
 
 opens_commit_own : (s : Setting) (c : ℕ) (bases : Bases) (b : Site) (log : Log) (a : Attempt) → active s c log ≡ Some a
     → a.ts ≤ bound s log → Opens s c b log (commit_act s.catalogue bases c a)

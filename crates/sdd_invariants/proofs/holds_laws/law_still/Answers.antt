@@ -1,6 +1,4 @@
-use Rattle.sdd_invariants.proofs.Holding.{hold_rule}
-use Rattle.sdd_invariants.proofs.Holding.{still}
-use Rattle.sdd_invariants.proofs.Holding.{t_none}
+use Rattle.sdd_invariants.proofs.Holding.{hold_rule, still, t_none}
 use Rattle.sdd_invariants.proofs.holds_laws.law_still.Goals as goal
 
 pub returns-clause-still : goal.returns-clause-still

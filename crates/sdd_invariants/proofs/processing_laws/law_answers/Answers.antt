@@ -1,5 +1,4 @@
-use Rattle.sdd_invariants.proofs.PutBy.{d_pipes_none}
-use Rattle.sdd_invariants.proofs.PutBy.{put_by_d}
+use Rattle.sdd_invariants.proofs.PutBy.{d_pipes_none, put_by_d}
 use Rattle.sdd_invariants.proofs.processing_laws.law_answers.Goals as goal
 
 pub returns-clause-put_by : goal.returns-clause-put_by

@@ -1,6 +1,4 @@
-use Rattle.sdd_invariants.proofs.Installed.{applied_below}
-use Rattle.sdd_invariants.proofs.Installed.{apply_follows}
-use Rattle.sdd_invariants.proofs.Installed.{around_applied}
+use Rattle.sdd_invariants.proofs.Installed.{applied_below, apply_follows, around_applied}
 use Rattle.sdd_invariants.proofs.records_laws.law_applies.Goals as goal
 
 pub returns-clause-follows : goal.returns-clause-follows

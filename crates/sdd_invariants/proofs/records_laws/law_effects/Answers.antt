@@ -1,5 +1,4 @@
-use Rattle.sdd_invariants.proofs.Starting.{t_commit}
-use Rattle.sdd_invariants.proofs.Starting.{u_commit}
+use Rattle.sdd_invariants.proofs.Starting.{t_commit, u_commit}
 use Rattle.sdd_invariants.proofs.records_laws.law_effects.Goals as goal
 
 pub returns-clause-declared : goal.returns-clause-declared

@@ -1,5 +1,4 @@
-use Rattle.sdd_invariants.proofs.InOrder.{handed_within}
-use Rattle.sdd_invariants.proofs.InOrder.{in_order}
+use Rattle.sdd_invariants.proofs.InOrder.{handed_within, in_order}
 use Rattle.sdd_invariants.proofs.traffic_laws.law_in_order.Goals as goal
 
 pub returns-clause-first : goal.returns-clause-first

@@ -1,6 +1,4 @@
-use Rattle.sdd_invariants.proofs.Made.{place_of_act}
-use Rattle.sdd_invariants.proofs.Made.{place_of_hand}
-use Rattle.sdd_invariants.proofs.Made.{place_of_submit}
+use Rattle.sdd_invariants.proofs.Made.{place_of_act, place_of_hand, place_of_submit}
 use Rattle.sdd_invariants.proofs.traffic_laws.law_places.Goals as goal
 
 pub returns-clause-act : goal.returns-clause-act

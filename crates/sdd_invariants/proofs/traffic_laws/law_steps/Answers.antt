@@ -1,6 +1,4 @@
-use Rattle.sdd_invariants.proofs.Fair.{all_new}
-use Rattle.sdd_invariants.proofs.Fair.{d_fair}
-use Rattle.sdd_invariants.proofs.Fair.{home_fair}
+use Rattle.sdd_invariants.proofs.Fair.{all_new, d_fair, home_fair}
 use Rattle.sdd_invariants.proofs.traffic_laws.law_steps.Goals as goal
 
 pub returns-clause-of_class : goal.returns-clause-of_class
