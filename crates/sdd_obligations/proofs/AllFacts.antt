@@ -1,15 +1,7 @@
 -- All that the modules ask: what is next on a lawful log fits the module to which it goes.
-use Rattle.std.proofs.Common.{ℕ, ◌/◌, ◌<◌, ◌==◌, ◌^◌, ◌∷◌, ◌≡◌, ◌≤◌, Bool, Some, arith, false, if◌then◌else◌, subst, suc, sym, true}
-use Rattle.sdd_invariants.specs.All.{D, DmNo, Entry, FitsSite, Given, Hand, IsLawful, IsWithin, Log, Mark, Msg, Redeclares, Site, Submitted, T, Tick, TmNo, Txn, U, base_of, class_for, clock, force_at, greatest_bound, local_of, next, redeclares, setting_of, tm_no, txn_at}
-use Rattle.sdd_invariants.proofs.catalog.Sound.{sound_whole}
-use Rattle.sdd_invariants.specs.logs.Due.{home_of}
-use Rattle.sdd_invariants.proofs.logs.NewMarks.{lawful_permitted}
+use Rattle.sdd_obligations.proofs.All.{Bool, D, DmNo, Entry, Facts, FitsForce, FitsSite, Given, Hand, IsFit, IsGood, IsLawful, IsWithin, Log, Mark, Msg, Redeclares, Site, Some, Submitted, T, Tick, TmNo, Txn, U, arith, base_of, class_for, clock, false, fits_submit, force_at, greatest_bound, height, if◌then◌else◌, lawful_permitted, local_of, next, redeclares, setting_of, sound_whole, subst, suc, sym, tm_no, top, true, txn_at, ℕ, ◌/◌, ◌<◌, ◌==◌, ◌^◌, ◌∷◌, ◌≡◌, ◌≤◌}
 use Rattle.sdd_obligations.proofs.Put.{databases}
-use Rattle.sdd_obligations.specs.Facts.{Facts}
 use Rattle.sdd_obligations.proofs.Early.{clock_below, height_below, is_under}
-use Rattle.sdd_obligations.specs.Given.{IsFit}
-use Rattle.sdd_obligations.specs.Real.{FitsForce, IsGood, fits, fits_submit}
-use Rattle.sdd_obligations.specs.Heights.{height, top}
 use Rattle.sdd_obligations.proofs.OfNext.{of_next}
 use Rattle.sdd_obligations.proofs.Under.{div_le, greatest_le}
 use Rattle.sdd_obligations.proofs.FitsAtD.{d_fits}
@@ -18,6 +10,8 @@ use Rattle.sdd_obligations.proofs.Handing.{is_handed}
 use Rattle.sdd_obligations.proofs.Exchanged.{served_here, upheld_d, upheld_r}
 use Rattle.sdd_obligations.proofs.Submitting.{at_home, declared_here, home_exists, is_new}
 use Rattle.sdd_obligations.proofs.Upholding.{sends_linked}
+use Rattle.sdd_invariants.specs.logs.Due.{home_of}
+use Rattle.sdd_obligations.specs.Real.{fits}
 
 early : (t : ℕ) → t < 2 ^ 53 → t < 2 ^ 56
 early t l = omega (arith, l)
@@ -70,20 +64,17 @@ submit_fits : (g : Given) → IsGood g → (log : Log) (at : Site) (n : ℕ) (tx
 submit_fits g good log U n txn l w e f =
     record {
       site = site_fits g log U (Submitted U n) good l w e;
-      fitting = (fit_of g good).txns_fit n txn
-          f;
+      fitting = (fit_of g good).txns_fit n txn f;
       fresh = is_new g log U n txn (fit_of g good).small l e f;
     }
 submit_fits g good log (T t) n txn l w e f =
     let r = declared_here g log t n txn (fit_of g good).small l e f in
     record {
       site = site_fits g log (T t) (Submitted (T t) n) good l w e;
-      fitting =
-          (fit_of g good).txns_fit n txn f;
+      fitting = (fit_of g good).txns_fit n txn f;
       here = r.0;
       declared = r.1;
-      fresh =
-          is_new g log (T t) n txn (fit_of g good).small l e f;
+      fresh = is_new g log (T t) n txn (fit_of g good).small l e f;
     }
 submit_fits g good log (D d) n txn l w e f =
     let h : D d ≡ home_of (force_at g (redeclares log)).catalogue (Some txn) =
@@ -95,8 +86,7 @@ early_time : (h t : ℕ) → h < 2 ^ 53 → t ≤ top h → t / 64 < 2 ^ 57
 early_time h t l m = let d : t / 64 ≤ h = div_le t h m in omega (arith, l, d)
 
 redeclare_fits : (g : Given) → IsGood g → (log : Log) (t : ℕ) → IsLawful g log → IsWithin log
-    → next g log ≡ Some (Redeclares t)
-    → FitsForce g.catalogue (force_at g (suc (redeclares log))) t
+    → next g log ≡ Some (Redeclares t) → FitsForce g.catalogue (force_at g (suc (redeclares log))) t
 redeclare_fits g good log t l w e =
     let s = (fit_of g good).small in
     let is : t ≡ greatest_bound g log = of_next g log (Redeclares t) s.few_ticks l e in

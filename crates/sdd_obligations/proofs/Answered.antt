@@ -1,23 +1,13 @@
 -- An answer that is next to be handed over is awaited by its site.
-use Rattle.std.specs.List.{list_any}
-use Rattle.std.proofs.Common.{ℕ, ◌&&◌, ◌==◌, ◌∙◌, ◌∷◌, ◌≡◌, ◌≤◌, Bool, List, None, Option, Some, ap, false, not, refl, subst, sym, true}
-use Rattle.sdd_invariants.specs.All.{AnswersRead, Attempt, AwaitsAt, ClassNo, D, DmNo, Fetch, Fetching, Given, Hand, IsAllowed, IsPermitted, Msg, Over, Phase, Read, Reading, Ready, Reduce, Reduced, Reducing, Reject, Row, Rows, Setting, Ship, Shipping, Site, Ts, Value, Values, active, contains, dm_no, fetches_use, handed, head_of, home, is_shipping, local_of, number_of, numbers_of, reduces_use, setting_of, uses_at, uses_read}
-use Rattle.sdd_invariants.specs.site_module.SiteLog.{Log}
-use Rattle.sdd_invariants.specs.logs.Entries as all
+use Rattle.sdd_obligations.proofs.All.{AnswersRead, Asks, Attempt, AwaitsAt, AwaitsRows, Bool, ClassNo, D, DmNo, Fetch, Fetching, Given, Hand, IsAllowed, IsAwaited, IsPermitted, List, Msg, None, Option, Over, Phase, Read, Reading, Ready, Reduce, Reduced, Reducing, Reject, Replies, RepliesToFetch, RepliesToRead, RepliesToReduce, RepliesToShip, Row, Rows, Setting, Ship, Shipping, Site, Some, Ts, Turn, Value, Values, active, ap, both, contains, dm_no, false, fetches_use, hand_was_put, handed, head_of, home, home_fair, is_a_read, is_answer, is_exchanging, is_shipping, list_any, local_of, not, number_of, numbers_of, reduces_use, refl, same_number, setting_of, subst, sym, true, turn_at, uses_at, uses_read, ℕ, ◌&&◌, ◌==◌, ◌∙◌, ◌∷◌, ◌≡◌, ◌≤◌}
 use Rattle.sdd_obligations.proofs.Hearing.{AtTurn, answers_asked, is_awaited}
 use Rattle.sdd_obligations.proofs.AtTurn.{awaits}
 use Rattle.sdd_obligations.proofs.ReadSent.{IsLastRead, last_read, numbers_are, reads_sent, was_answered, was_sent}
 use Rattle.sdd_obligations.proofs.Sources.{answer_source, home_first}
 use Rattle.sdd_obligations.proofs.Spoken.{answer_in_turn, spoken}
 use Rattle.sdd_obligations.proofs.Halves.{IsSpoken, active_of, home_log, home_turns}
-use Rattle.sdd_obligations.specs.Awaited.{AwaitsRows, IsAwaited}
-use Rattle.sdd_obligations.specs.Turns.{Asks, Replies, RepliesToFetch, RepliesToRead, RepliesToReduce, RepliesToShip, Turn, is_a_read, is_answer, is_exchanging, turn_at}
-use Rattle.sdd_invariants.proofs.Bools.{both, not_both, same_number}
-use Rattle.sdd_invariants.proofs.Fair.{home_fair}
-use Rattle.sdd_invariants.proofs.InOrder.{hand_was_put}
-
-pub never : {A : Type 0} (b : Bool) → b ≡ true → b ≡ false → A
-never b e f = absurd (not_both b e f)
+use Rattle.sdd_invariants.specs.site_module.SiteLog.{Log}
+use Rattle.sdd_invariants.specs.logs.Entries as all
 
 -- the phase of an attempt whose question is so
 
@@ -182,10 +172,8 @@ read_answered g ts c d n log x h i a e f =
       uses = by.uses;
       last = now.0;
       none_answered = now.1;
-      uses_are =
-          sym (numbers_are by.question by.uses r) ∙ now.2;
-      replies =
-          read_replies by.uses by.question x r by.replies;
+      uses_are = sym (numbers_are by.question by.uses r) ∙ now.2;
+      replies = read_replies by.uses by.question x r by.replies;
     }
 
 answers_read_of : (ts c d : ℕ) (log : Log) (x : Msg) → IsReadAnswer ts c d log x → AnswersRead log (D (dm_no d)) ts c
@@ -200,8 +188,7 @@ awaited_by g log d n (Ready t k counts) h few a b home_is =
     (let r = read_answered g t.0 k.0 d n log (Ready t k counts) h (spoken g k.0 log h (few k.0)) (a t.0 k.0 (own t k)) (own t k) refl in
     record {
       answers = answers_read_of t.0 k.0 d (home_log g k.0 log) (Ready t k counts) r;
-      counts_are =
-          r.replies ∙ sym r.uses_are ∙ sym (ap uses_read r.last);
+      counts_are = r.replies ∙ sym r.uses_are ∙ sym (ap uses_read r.last);
     })
 awaited_by g log d n (Reject t k by write) h few a b home_is =
     subst (λ x. IsAwaited (setting_of g x) (local_of g x log) (D (dm_no d)) (Reject t k by write)) (home_is t.0 k.0 (own t k))
@@ -212,8 +199,7 @@ awaited_by g log d n (Values t k u vs) h few a b home_is =
     (let r = rows_answered g t.0 k.0 d n log (Values t k u vs) h (spoken g k.0 log h (few k.0)) (a t.0 k.0 (own t k)) (own t k) refl in
     let w = r.active_now in
     subst (λ o. AwaitsAt (fetches_use u) o (D (dm_no d)) t.0) (sym w.active_is) (record {
-      same =
-          w.ts_is;
+      same = w.ts_is;
       phase = fetch_phase w.attempt.exchange.phase r.question u r.uses t k vs w.phase r.replies;
       lacks = w.lacks;
     }))
@@ -222,8 +208,7 @@ awaited_by g log d n (Reduced t k u x) h few a b home_is =
     (let r = rows_answered g t.0 k.0 d n log (Reduced t k u x) h (spoken g k.0 log h (few k.0)) (a t.0 k.0 (own t k)) (own t k) refl in
     let w = r.active_now in
     subst (λ o. AwaitsAt (reduces_use u) o (D (dm_no d)) t.0) (sym w.active_is) (record {
-      same =
-          w.ts_is;
+      same = w.ts_is;
       phase = reduce_phase w.attempt.exchange.phase r.question u x r.uses t k w.phase r.replies;
       lacks = w.lacks;
     }))
@@ -235,8 +220,7 @@ awaited_by g log d n (Rows t k rows) h few a b home_is =
     subst (λ o. AwaitsRows o (D (dm_no d)) t.0 rows) (sym w.active_is)
     (record {
       awaited = record { same = w.ts_is; phase = s.is; lacks = w.lacks };
-      named =
-          subst (λ l. list_any (λ (y : ℕ × Row). not (contains l y.0)) rows ≡ false) (sym w.uses) s.named;
+      named = subst (λ l. list_any (λ (y : ℕ × Row). not (contains l y.0)) rows ≡ false) (sym w.uses) s.named;
     }))
 awaited_by g log d n m h few a b home_is = tt
 

@@ -1,17 +1,7 @@
 -- A READY or REJECT that is next to be handed over answers a READ of the site, and is the first that does.
-use Rattle.std.specs.List.{list_any}
-use Rattle.std.proofs.Common.{ℕ, ◌&&◌, ◌++◌, ◌+◌, ◌<◌, ◌==◌, ◌∙◌, ◌∷◌, ◌≡◌, ◌≤◌, Bool, List, Some, [], ap, append_assoc, arith, false, if◌then◌else◌, inl, inr, refl, slice_get, subst, suc, sym, take, true, zero}
-use Rattle.sdd_invariants.specs.All.{Act, AnswersRead, D, Did, DmNo, Does, Given, Handed, IsPermitted, Log, Msg, Read, Redeclared, Setting, Site, Submits, Ticked, at_site, handed, hands_from, home, is_read, is_verdict, local_of, number_of, one_if, puts_to, same_site, sends_of_act, setting_of, tally, to_site}
-use Rattle.sdd_invariants.specs.attempt.Fits.{handed as all_handed, sent}
-use Rattle.sdd_invariants.proofs.Turns.{tally_append, tally_take}
-use Rattle.sdd_invariants.proofs.Answered.{put_in_by_d}
-use Rattle.sdd_invariants.proofs.Installed.{head_put}
-use Rattle.sdd_invariants.proofs.Bools.{and_left, and_right, both, only_right, or_left, or_right, same_number, true_or_false}
-use Rattle.sdd_invariants.proofs.Lists.{take_one_more}
-use Rattle.sdd_invariants.proofs.Sites.{site_is, site_self}
-use Rattle.sdd_invariants.proofs.InOrder.{in_order}
-use Rattle.sdd_invariants.proofs.Made.{local_grows, own_act, permitted_before}
+use Rattle.sdd_obligations.proofs.All.{Act, AnswersRead, Bool, D, Did, DmNo, Does, Given, Handed, IsPermitted, List, Log, Msg, Read, Redeclared, Site, Some, Submits, Ticked, [], all_handed, and_left, and_right, ap, append_assoc, arith, at_site, both, false, handed, hands_from, head_put, home, if◌then◌else◌, in_order, inl, inr, is_read, is_verdict, list_any, local_grows, local_of, number_of, one_if, only_right, or_left, or_right, own_act, permitted_before, push_more, put_in_by_d, puts_to, refl, same_number, same_site, sends_of_act, setting_of, site_is, site_self, slice_get, subst, suc, sym, take, take_one_more, tally, tally_append, tally_take, to_site, true, true_or_false, zero, ℕ, ◌&&◌, ◌++◌, ◌+◌, ◌<◌, ◌==◌, ◌∙◌, ◌∷◌, ◌≡◌, ◌≤◌}
 use Rattle.sdd_obligations.proofs.Verdicts.{in_class, one_verdict, verdict_by}
+use Rattle.sdd_invariants.specs.attempt.Fits.{sent}
 use Rattle.sdd_invariants.specs.site_module.SiteLog as site
 
 -- the READ was sent
@@ -53,10 +43,6 @@ sent_of_act b f (Submits n txn ∷ later) act before k m e h = sent_of_act b f l
 sent_of_act b f (Redeclared force t ∷ later) act before k m e h = sent_of_act b f later act before k m e h
 
 -- what was handed is counted
-
-push_more : (f : Msg → Bool) (c : Bool) (xs : List Msg) (m : Msg) → tally f xs ≤ tally f (if c then xs ++ m ∷ [] else xs)
-push_more f true xs m = let a = tally_append f xs (m ∷ []) in omega (arith, a)
-push_more f false xs m = omega arith
 
 push_one : (f : Msg → Bool) (c d : Bool) (xs : List Msg) (m : Msg) → f m ≡ d → (c && d) ≡ true
     → 0 < tally f (if c then xs ++ m ∷ [] else xs)

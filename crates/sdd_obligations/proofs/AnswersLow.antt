@@ -1,15 +1,8 @@
 -- What a data module sends lies below what was handed to it.
-use Rattle.std.proofs.Common.{ℕ, ◌&&◌, ◌+◌, ◌==◌, ◌∷◌, ◌≡◌, ◌≤◌, List, None, Option, Some, [], arith, length, subst, suc, sym}
-use Rattle.std.proofs.Math.Decide.{dec_le}
-use Rattle.std.specs.Prelude.{filter_map}
-use Rattle.sdd_invariants.specs.All.{Act, Ask, ClassNo, ClassView, Did, Done, Handed, IsAskBy, IsDue, IsPutByD, IsRejectBy, Msg, Pipe, Read, Ready, Records, Redeclared, Reduced, Reject, Rows, Sends, Setting, Site, Submits, Ticked, Ts, Values, at_class, goes_through, head, head_processed, home_of, is_processing, one_or_none, pipe, pipe_acted, put, sends_of_act, tail_of, to_site, view_of, write_time}
-use Rattle.sdd_invariants.specs.site_module.SiteLog.{Log}
-use Rattle.sdd_invariants.proofs.PutBy.{put_by_d}
-use Rattle.sdd_invariants.proofs.AreReadSteps.{class_in_view, class_not_in_view}
-use Rattle.sdd_invariants.proofs.Bools.{if_way}
-use Rattle.sdd_obligations.specs.Heights.{AllLow, HandsLow, IsLow, starts_by, top}
+use Rattle.sdd_obligations.proofs.All.{Act, AllLow, Ask, ClassNo, ClassView, Did, Done, Handed, HandsLow, IsAskBy, IsDue, IsLow, IsPutByD, IsRejectBy, List, Msg, None, Option, Pipe, Read, Ready, Records, Redeclared, Reduced, Reject, Rows, Sends, Setting, Site, Some, Submits, Ticked, Ts, Values, [], arith, at_class, class_in_view, class_not_in_view, dec_le, filter_map, goes_through, head, head_processed, home_of, if_way, is_processing, length, one_or_none, pipe, pipe_acted, put, put_by_d, sends_of_act, starts_by, subst, suc, sym, tail_of, to_site, top, view_of, write_time, ℕ, ◌&&◌, ◌+◌, ◌==◌, ◌∷◌, ◌≡◌, ◌≤◌}
 use Rattle.sdd_obligations.proofs.LowLists.{all_low_join, all_low_of, all_low_up, cond_le_at, greatest_le, write_times_le}
 use Rattle.sdd_obligations.proofs.SendsLow.{PutsLow}
+use Rattle.sdd_invariants.specs.site_module.SiteLog.{Log}
 
 -- pipes
 

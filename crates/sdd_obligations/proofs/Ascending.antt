@@ -1,11 +1,7 @@
 -- The conditions of a READ ascend by class, and what ascends does so at each step.
-use Rattle.std.specs.List.{cons_option, range_with_len}
-use Rattle.std.specs.Option.{option_or}
-use Rattle.std.specs.Prelude.{filter_map}
-use Rattle.std.proofs.Common.{ℕ, ◌+◌, ◌<◌, ◌==◌, ◌∷◌, ◌≡◌, Bool, List, None, Option, Some, [], ap, arith, length, map, refl, subst, suc, sym, zero}
-use Rattle.sdd_invariants.specs.All.{AllGt, Ascend, Catalogue, Cond, FragNo, IsStrict, P2, P3, StartsAbove, asked_by, cond_for, cond_of, condition_on, conditions, conditions_at, frag_no, fragments_of, is_asked, undeclared_conditions}
+use Rattle.sdd_obligations.proofs.All.{AllGt, Ascend, Bool, Catalogue, Cond, FragNo, IsStrict, List, None, Option, P2, P3, Some, StartsAbove, [], ap, arith, cond_for, cond_of, condition_on, conditions, conditions_at, cons_option, filter_map, frag_no, fragments_of, if_way, is_asked, length, map, option_or, range_with_len, refl, subst, suc, sym, undeclared_conditions, zero, ℕ, ◌+◌, ◌<◌, ◌==◌, ◌∷◌, ◌≡◌}
+use Rattle.sdd_invariants.specs.All.{asked_by}
 use Rattle.sdd_invariants.specs.protocol.declared.entry.Entry as line
-use Rattle.sdd_invariants.proofs.Bools.{if_way}
 
 cond_class : (j t : ℕ) (fs : List FragNo) (q : Cond) → cond_for j t fs ≡ Some q → q.class.0 ≡ j
 cond_class j t [] q e = cc

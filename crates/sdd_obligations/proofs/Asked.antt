@@ -1,21 +1,12 @@
 -- Along the log of the site of a class the questions of the active attempt are those of its phase.
-use Rattle.std.proofs.Common.{ℕ, ◌&&◌, ◌==◌, ◌∙◌, ◌∷◌, ◌≡◌, ◌⊎◌, Bool, List, None, Option, Some, [], ap, cond, false, if◌then◌else◌, inl, inr, refl, subst, sym, true}
-use Rattle.std.specs.List.{AllByRecursion}
-use Rattle.sdd_invariants.specs.All.{Act, Attempt, Bases, D, Did, DmNo, Each, Handed, IsFair, IsStep, Msg, Queued, Redeclared, Reject, Sends, Setting, Site, Submits, T, Ticked, U, active, active_handed, active_sent, after_hand, after_send, asks_rows, commit_act, dm_no, head_of, next_stamp, queue, rejects, same_site, sends_of_act, start_at, start_read, started, tail_of, to_site}
-use Rattle.sdd_invariants.specs.site_module.SiteLog.{Log}
-use Rattle.sdd_invariants.proofs.Clocks.{stamp_below_next}
-use Rattle.sdd_invariants.proofs.ReadsPut.{start_puts}
-use Rattle.sdd_invariants.proofs.WritesPut.{commit_puts}
-use Rattle.sdd_obligations.proofs.Asking.{in_turn, send_is_question}
+use Rattle.sdd_obligations.proofs.All.{Act, AllByRecursion, Asks, AsksPhase, Attempt, Bases, D, Did, DmNo, Each, Handed, IsFair, IsStep, List, Msg, None, Option, Queued, Redeclared, Reject, Sends, Setting, Silent, Site, Some, Submits, T, Ticked, Turn, U, [], active, active_handed, active_sent, after_hand, after_send, and_no, ap, asked, asked_by, asks_rows, commit_act, commit_puts, cond, dm_no, false, head_of, if◌then◌else◌, inl, inr, is_a_read, is_a_refusal, is_answer, is_question, next_stamp, question_of, questions, queue, refl, rejects, same_number, same_or_not, same_site, sends_of_act, stamp_below_next, start_at, start_puts, start_read, started, step_way, subst, sym, tail_of, to_site, told, true, turn_at, uses_by, uses_in, ℕ, ◌&&◌, ◌==◌, ◌∙◌, ◌∷◌, ◌≡◌, ◌⊎◌}
+use Rattle.sdd_obligations.proofs.Asking.{in_turn, send_is_question, one_attempt as one_active, and_true}
 use Rattle.sdd_obligations.proofs.AtTurn.{StandsAt, hand_not}
 use Rattle.sdd_obligations.proofs.FirstSends.{IsFirstEach, IsFirstSend}
-use Rattle.sdd_obligations.proofs.Hearing.{AtTurn, InTurn, IsTimely, and_no, asked_one, told_one}
-use Rattle.sdd_obligations.specs.Turns.{Asks, Silent, Turn, asked, asked_by, is_a_read, is_a_refusal, is_answer, is_question, questions, told, turn_at, uses_by, uses_in}
-use Rattle.sdd_invariants.proofs.Active.{step_way}
-use Rattle.sdd_invariants.proofs.Bools.{same_number, same_or_not}
-use Rattle.sdd_obligations.specs.Contents.{AsksPhase, question_of}
+use Rattle.sdd_obligations.proofs.Hearing.{AtTurn, InTurn, IsTimely, asked_one, told_one}
 use Rattle.sdd_obligations.proofs.Questions.{after_answer, hand_asks}
 use Rattle.sdd_obligations.proofs.InStep.{never}
+use Rattle.sdd_invariants.specs.site_module.SiteLog.{Log}
 
 abbrev pub AllAskPhase : ℕ → Log → Option Attempt → Type 0
 AllAskPhase c log None = Unit {0}
@@ -34,10 +25,6 @@ stands_of s c log a h e d = (subst (λ o. AtTurn a.ts d o (turn_at a.ts c d log)
 not_refusal : (ts c : ℕ) (m : Msg) → is_answer ts c m ≡ true → rejects m ts c ≡ false → is_a_refusal m ≡ false
 not_refusal ts c (Reject t k b write) e f = never (is_answer ts c (Reject t k b write)) e f
 not_refusal ts c m e f = refl
-
-and_true : (a : Bool) (x y : Turn) → (if a && true then x else y) ≡ (if a then x else y)
-and_true true x y = refl
-and_true false x y = refl
 
 hand_phase : (s : Setting) (c : ℕ) (log : Log) (n : DmNo) (m : Msg) (o : Option Attempt)
     → active s c log ≡ o → InTurn s c log → IsTimely c log (Handed (D n) m) → AllAskPhase c log o
@@ -142,9 +129,6 @@ commit_phase s k c bases a log h = elim (k == c) as (λ b. AllAskPhase c (Did (c
 ]
 
 -- a send
-
-one_active : (s : Setting) (c : ℕ) (log : Log) (a b : Attempt) → active s c log ≡ Some a → active s c log ≡ Some b → b ≡ a
-one_active s c log a b e f = let p : Some b ≡ Some a = sym f ∙ e in cc
 
 send_turn : (s : Setting) (c ts d : ℕ) (log : Log) (to : Site) (m : Msg) (hand : Option ℕ)
     → turn_at ts c d (Did (Sends to m hand) ∷ log) ≡ (if same_site (D (dm_no d)) to && is_question ts c m

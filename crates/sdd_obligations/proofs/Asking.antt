@@ -1,19 +1,13 @@
 -- A site that makes attempts asks in turn, where each answer that is handed to it comes in turn.
-use Rattle.std.proofs.Common.{ℕ, ◌&&◌, ◌<◌, ◌==◌, ◌∙◌, ◌∷◌, ◌≡◌, ◌⊎◌, Bool, List, None, Option, Some, [], ap, arith, cond, false, if◌then◌else◌, inl, inr, refl, subst, sym, true}
-use Rattle.sdd_invariants.specs.All.{Act, Attempt, Bases, D, Did, Each, Fetch, Handed, IsFair, IsSend, IsStep, IsStrict, Msg, Phase, Queued, Read, Reading, Redeclared, Reduce, Sends, Setting, Ship, Site, Submits, Ticked, a_held, a_hold, a_null, a_release, active, active_sent, after_send, ascending, asks_rows, begins, commit_act, contains, dm_no, first_phase, fragments_in, head_of, is_over, last_stamp, modules_asked, next_stamp, number_of, of_exchange, queue, same_site, sends_of_act, start_at, start_read, started, tail_of, to_site, uses_of}
-use Rattle.std.proofs.lemmas.Bool.{eqb-true}
-use Rattle.sdd_invariants.specs.site_module.SiteLog.{Log}
+use Rattle.sdd_obligations.proofs.All.{Act, Asks, Attempt, Bases, Bool, D, Did, Each, Fetch, Handed, IsFair, IsOfUses, IsSend, IsStep, IsStrict, List, MayAsk, Msg, None, Option, Phase, Queued, Read, Reading, Redeclared, Reduce, Sends, Setting, Ship, Silent, Site, Some, Submits, Ticked, Turn, [], a_held, a_hold, a_null, a_release, active, active_sent, after_send, and_left, and_no, ap, arith, ascending, asked, asked_by, asks_rows, asks_whose, begins, commit_act, commit_puts, cond, contains, differ, dm_no, drawn_at, eqb-true, false, first_phase, fragments_in, head_of, if_way, if◌then◌else◌, inl, inr, is_a_read, is_exchanging, is_over, is_question, last_stamp, modules_asked, next_stamp, not_both, not_true as asks_not, number_of, of_exchange, questions, queue, refl, same_number, same_or_not, same_site, sends_of_act, site_is, stamp_below_next, stamp_rises, start_at, start_read, started, step_way_over, strict_modules, subst, sym, tail_of, to_site, true, turn_at, uses_by, uses_in, uses_of, ℕ, ◌&&◌, ◌<◌, ◌==◌, ◌∙◌, ◌∷◌, ◌≡◌, ◌⊎◌}
 use Rattle.sdd_obligations.proofs.AtTurn.{IsAt, StandsAt, answered_last, apart, awaited, awaits, unsent}
-use Rattle.sdd_obligations.proofs.FirstSends.{IsFirstEach, IsFirstSend, asks_whose}
-use Rattle.sdd_obligations.proofs.Modules.{firsts, read_firsts, read_modules, read_uses, sent_to_each, to_module}
-use Rattle.sdd_obligations.specs.Turns.{Asks, IsOfUses, MayAsk, Silent, Turn, asked, asked_by, is_a_read, is_exchanging, is_question, questions, turn_at, uses_by, uses_in}
-use Rattle.sdd_invariants.proofs.Clocks.{drawn_at, stamp_below_next, stamp_rises}
-use Rattle.sdd_invariants.proofs.ReadsPut.{strict_modules}
-use Rattle.sdd_invariants.proofs.WritesPut.{commit_puts}
-use Rattle.sdd_invariants.proofs.Active.{step_way_over}
-use Rattle.sdd_invariants.proofs.Sites.{site_is}
-use Rattle.sdd_invariants.proofs.Bools.{and_left, differ, if_way, not_both, same_number, same_or_not}
-use Rattle.sdd_obligations.proofs.Hearing.{AllAtTurn, AtTurn, InTurn, IsStrictOf, IsTimely, Turns, and_no, asked_one, in_turn_hand, quiet_but, quiet_over, turns_now}
+use Rattle.sdd_obligations.proofs.FirstSends.{IsFirstEach, IsFirstSend}
+use Rattle.sdd_obligations.proofs.Modules.{firsts, read_firsts, read_modules, read_uses, sent_to_each, to_module, below_not as not_below}
+use Rattle.sdd_obligations.proofs.Hearing.{AllAtTurn, AtTurn, InTurn, IsStrictOf, IsTimely, Turns, asked_one, in_turn_hand, quiet_but, quiet_over, turns_now}
+use Rattle.sdd_obligations.proofs.Replying.{asks_no_a_read as asks_no_read}
+use Rattle.sdd_obligations.proofs.FitsAtT.{own as own_started}
+use Rattle.sdd_obligations.proofs.Stages.{nothing as nothing_there}
+use Rattle.sdd_invariants.specs.site_module.SiteLog.{Log}
 
 -- a send
 
@@ -22,10 +16,6 @@ asks_is_question t k ts c (Fetch a b u col) e = refl
 asks_is_question t k ts c (Reduce a b u col vs) e = refl
 asks_is_question t k ts c (Ship a b) e = refl
 asks_is_question t k ts c m e = cc
-
-pub asks_no_read : (t k : ℕ) (m : Msg) → asks_rows t k m ≡ true → is_a_read m ≡ false
-asks_no_read t k (Read a b txn attempt conds uses) e = cc
-asks_no_read t k _ e = refl
 
 pub send_is_question : (s : Setting) (log : Log) (ts c : ℕ) (m : Msg) → IsSend s log m → is_question ts c m ≡ asks_rows ts c m
 send_is_question s log ts c m (of_exchange k a at i e w) = asks_is_question a.ts k ts c m e
@@ -44,9 +34,6 @@ after_question c to m v ts d = if same_site (D (dm_no d)) to && asks_rows ts c m
 
 cons_is : (m n : Msg) (ms ns : List Msg) → m ∷ ms ≡ n ∷ ns → (m ≡ n) × (ms ≡ ns)
 cons_is m n ms ns e = (cc, cc)
-
-nothing_there : {A : Type 0} (m : Msg) (ms : List Msg) → m ∷ ms ≡ [] → A
-nothing_there m ms e = cc
 
 -- the first message is sent
 sent_at : (n d : ℕ) (m : Msg) (rest : List (ℕ × Msg)) (ms : List (ℕ × List ℕ)) (p : Phase) (lacks : List ℕ) (v : Turn) (b : Bool)
@@ -75,17 +62,13 @@ not_asked_turn c to m v ts d e =
     ap (λ (b : Bool). if same_site (D (dm_no d)) to && b then asked m (v ts d) else v ts d) e
     ∙ ap (λ (b : Bool). if b then asked m (v ts d) else v ts d) (and_no (same_site (D (dm_no d)) to))
 
-asks_not : (b : Bool) → (b ≡ true → ⊥) → b ≡ false
-asks_not true f = absurd (f refl)
-asks_not false f = refl
-
-one_attempt : (s : Setting) (c : ℕ) (log : Log) (a b : Attempt) → active s c log ≡ Some a → active s c log ≡ Some b → b ≡ a
+pub one_attempt : (s : Setting) (c : ℕ) (log : Log) (a b : Attempt) → active s c log ≡ Some a → active s c log ≡ Some b → b ≡ a
 one_attempt s c log a b e f = let p : Some a ≡ Some b = sym e ∙ f in cc
 
 none_attempt : (s : Setting) (c : ℕ) (log : Log) (b : Attempt) → active s c log ≡ None → active s c log ≡ Some b → ⊥
 none_attempt s c log b e f = let p : ◌≡◌ {A = Option Attempt} None (Some b) = sym e ∙ f in cc
 
-and_true : (b : Bool) (x y : Turn) → (if b && true then x else y) ≡ (if b then x else y)
+pub and_true : (b : Bool) (x y : Turn) → (if b && true then x else y) ≡ (if b then x else y)
 and_true true x y = refl
 and_true false x y = refl
 
@@ -165,9 +148,6 @@ in_turn_send s c log to m hand fair first i h = record {
 
 -- a Start
 
-not_below : (a b : ℕ) → a < b → (a == b) ≡ false
-not_below a b l = elim (same_or_not a b) [ inl p ↦ absurd (omega (arith, p, l)) | inr p ↦ p ]
-
 pub strict_asked : (s : Setting) (k : ℕ) (q : Queued) → IsStrict (modules_asked s k q.text)
 strict_asked s k q = strict_modules s.catalogue k (ascending (fragments_in (uses_of s.catalogue q.text)))
 
@@ -193,9 +173,6 @@ first_reading (m ∷ ms) d e = refl
 
 abbrev start_numbers : Setting → ℕ → Log → Queued → ℕ → List ℕ
 start_numbers s k log q d = uses_by (start_read s k log q d) []
-
-own_started : (n k : ℕ) → ((n == n) && (k == k)) ≡ true
-own_started n k = rw (same_number n, same_number k) refl
 
 start_stands : (s : Setting) (k : ℕ) (log : Log) (q : Queued) (d : ℕ) (v : Turns) → v (next_stamp s log) d ≡ Silent
     → StandsAt d (begins q.text (sends_of_act (start_at s k log q))) (after_start s k log q k v (next_stamp s log) d)
@@ -241,8 +218,7 @@ start_fresh s k log q c ts d h l =
 
 active_started : (s : Setting) (k : ℕ) (log : Log) (q : Queued) → head_of (queue s k log) ≡ Some q
     → active s k (Did (start_at s k log q) ∷ log) ≡ started (next_stamp s log) (sends_of_act (start_at s k log q)) (Some q)
-active_started s k log q e =
-    rw (same_number k) (ap (started (next_stamp s log) (sends_of_act (start_at s k log q))) e)
+active_started s k log q e = rw (same_number k) (ap (started (next_stamp s log) (sends_of_act (start_at s k log q))) e)
 
 in_turn_start : (s : Setting) (k : ℕ) (log : Log) (q : Queued) → active s k log ≡ None → head_of (queue s k log) ≡ Some q
     → InTurn s k log → InTurn s k (Did (start_at s k log q) ∷ log)

@@ -1,13 +1,6 @@
 -- An ASK that is next to be handed over is for a class that the module runs.
-use Rattle.std.specs.List.{range_with_len}
-use Rattle.std.specs.Prelude.{slice_index_or}
-use Rattle.std.proofs.Common.{ℕ, ◌+◌, ◌-◌, ◌<◌, ◌==◌, ◌∷◌, ◌≡◌, ◌≤◌, Bool, List, Some, [], ap, arith, cond, false, filter, length, map, slice_get, subst, suc, sym, true, zero}
-use Rattle.sdd_invariants.specs.All.{Ask, Catalogue, Class, ClassNo, D, DmNo, Does, Given, IsAskBy, IsPermitted, IsRead, Log, Msg, Read, Setting, T, TmNo, Ts, U, class_at, contains, home, home_of, local_of, numbers_to, puts_to, runs, setting_of, source_of, tm_no}
-use Rattle.sdd_invariants.proofs.Answered.{put_in_by_d}
-use Rattle.sdd_invariants.proofs.Installed.{head_put}
-use Rattle.sdd_invariants.proofs.Made.{permitted_before}
+use Rattle.sdd_obligations.proofs.All.{Ask, Bool, Catalogue, Class, ClassNo, D, DmNo, Does, Given, IsAskBy, IsPermitted, IsRead, List, Log, Msg, Read, Setting, Some, T, TmNo, Ts, U, [], ap, arith, class_at, cond, contains, false, filter, head_put, home, home_of, length, local_of, map, numbers_to, or_left, or_right, permitted_before, put_in_by_d, puts_to, range_with_len, runs, same_number, setting_of, slice_get, slice_index_or, source_of, subst, suc, sym, tm_no, true, zero, ℕ, ◌+◌, ◌-◌, ◌<◌, ◌==◌, ◌∷◌, ◌≡◌, ◌≤◌}
 use Rattle.sdd_obligations.proofs.Conditions.{act_within, one_within}
-use Rattle.sdd_invariants.proofs.Bools.{or_left, or_right, same_number}
 use Rattle.sdd_obligations.proofs.Sums.{range_at}
 
 -- the class of a data module's question to a T

@@ -1,9 +1,7 @@
 -- How an exchange stands with one of the data modules, by the turn, and that each of its steps keeps that.
-use Rattle.std.proofs.Common.{ℕ, ◌&&◌, ◌+◌, ◌++◌, ◌==◌, ◌∙◌, ◌∷◌, ◌≡◌, ◌⊎◌, Bool, List, None, Some, [], ap, false, if◌then◌else◌, inl, inr, length, refl, subst, sym, true}
-use Rattle.sdd_invariants.specs.All.{Asking, Exchange, Fetch, Fetching, IsStrict, Move, Msg, Over, Phase, Reading, Ready, Reduce, Reduced, Reducing, Reject, Rows, Ship, Shipping, Step, Values, after_hand, answered, class_no, contains, counted, counts_for, fetches, fetches_from, goes_on, lacking, move_at, next_move, phase_ends, reduces, ships, time_at, to_all, uses_at, with_use, with_values, without}
+use Rattle.sdd_obligations.proofs.All.{Asking, Asks, Bool, Exchange, Fetch, Fetching, IsOfUses, IsStrict, List, Move, Msg, None, Over, Phase, Reading, Ready, Reduce, Reduced, Reducing, Reject, Rows, Ship, Shipping, Silent, Some, Step, Told, Turn, Values, [], after_hand, answered, ap, class_no, contains, counted, counts_for, false, fetches, fetches_from, goes_on, if◌then◌else◌, inl, inr, is_a_read, is_a_refusal, is_a_ship, is_answer, lacking, length, move_at, next_move, phase_ends, reduces, refl, same_number, ships, subst, sym, time_at, to_all, true, uses_at, with_use, with_values, without, ℕ, ◌&&◌, ◌++◌, ◌+◌, ◌==◌, ◌∙◌, ◌∷◌, ◌≡◌, ◌⊎◌}
 use Rattle.sdd_obligations.proofs.Modules.{firsts, one_to_each, reading_ascends, reading_reads, to_module, without_other, without_own}
-use Rattle.sdd_obligations.specs.Turns.{Asks, IsOfUses, Silent, Told, Turn, is_a_read, is_a_refusal, is_a_ship, is_answer}
-use Rattle.sdd_invariants.proofs.Bools.{not_both, same_number}
+use Rattle.sdd_obligations.proofs.Opened.{never}
 
 -- the phase awaits the answer to a question
 
@@ -46,9 +44,6 @@ StandsAt d x v = IsAt d x.modules x.phase x.to_send x.lacks v
 pub data IsIdle (d : ℕ) (ms : List (ℕ × List ℕ)) (v : Turn) : Type 0 where
   heard : (q : Msg) (ns : List ℕ) → v ≡ Told ns q → is_a_ship q ≡ false → uses_at ms d ≡ ns → contains (firsts ms) d ≡ true → IsIdle d ms v
   unread : v ≡ Silent → contains (firsts ms) d ≡ false → IsIdle d ms v
-
-never : {A : Type 0} (b : Bool) → b ≡ true → b ≡ false → A
-never b e f = absurd (not_both b e f)
 
 in_none : {A : Type 0} (lacks : List ℕ) (d : ℕ) → lacks ≡ [] → contains lacks d ≡ true → A
 in_none lacks d e f = let g : contains [] d ≡ true = subst (λ l. contains l d ≡ true) e f in cc
@@ -107,14 +102,12 @@ to_next ts c d x (q ∷ rest) done v h i =
     elim (next_move q.conds (counts_for x.counts q) done) as (λ o. StandsAt d
     (elim o as (λ _. Exchange) [
       | None ↦ goes_on ts c x rest []
-      | Some m ↦ fetches ts c
-          (move_at q.before m) (record x { left = q ∷ rest; done = done ++ m.step ∷ [] })
+      | Some m ↦ fetches ts c (move_at q.before m) (record x { left = q ∷ rest; done = done ++ m.step ∷ [] })
     ]) v) [
       | None ↦ to_next ts c d x rest [] v h i
       | Some m ↦ to_fetch_from ts c d (move_at q.before m) (record x {
         left = q ∷ rest;
-        done =
-            done ++ m.step ∷ [];
+        done = done ++ m.step ∷ [];
       }) (with_use x (move_at q.before m).source.part) v refl h i
     ]
 
@@ -142,7 +135,7 @@ ended_at ts c d x Over v h z i e = subst (λ p. IsAt d x.modules p x.to_send x.l
 abbrev pub IsNext : ℕ → ℕ → Turn → Turn → Type 0
 IsNext n d v w = ((d ≡ n) × (ns : List ℕ) × (q : Msg) × (v ≡ Asks ns q) × (w ≡ Told ns q)) ⊎ (((d == n) ≡ false) × (w ≡ v))
 
-read_no_ship : (m : Msg) → is_a_read m ≡ true → is_a_ship m ≡ false
+pub read_no_ship : (m : Msg) → is_a_read m ≡ true → is_a_ship m ≡ false
 read_no_ship (Ship t k) e = cc
 read_no_ship _ e = refl
 

@@ -1,17 +1,5 @@
 -- Within the limits of a run no log is higher than the greatest height.
-use Rattle.std.specs.Prelude.{map}
-use Rattle.std.specs.List.{range_with_len}
-use Rattle.std.proofs.Common.{ℕ, ◌*◌, ◌+◌, ◌<◌, ◌^◌, ◌∷◌, ◌≡◌, ◌≤◌, ◌∙◌, List, None, Option, Some, [], ap, arith, length, refl, subst, suc, sym}
-use Rattle.std.proofs.Math.Nat.{mul-le-mul, mul-le-mul_right, suc-mul}
-use Rattle.std.proofs.lemmas.List.{length-append, length-map}
-use Rattle.std.proofs.lemmas.List.FromFn.{length-range_with_len}
-use Rattle.sdd_invariants.specs.All.{Act, D, Did, Does, Each, Entry, Given, Hand, Handed, IsFair, IsLawful, IsPermitted, IsWithin, Log, MAX_LINK_MESSAGES, MAX_RUN_EVENTS, MAX_TICKS, Mark, Notes, Records, Redeclared, Redeclares, Round, Site, Start, Submits, Submitted, T, Ticked, U, dm_no, handed, hands, home_of, local_of, made, marks, setting_of, sites, starts, starts_more, submits, tm_no, view_of, with_made}
-use Rattle.sdd_invariants.proofs.logs.EachLocal.{each_local}
-use Rattle.sdd_invariants.proofs.logs.NewMarks.{lawful_permitted}
-use Rattle.sdd_invariants.proofs.Fair.{all_new, t_fair, u_fair}
-use Rattle.sdd_invariants.proofs.Made.{local_step, own_act}
-use Rattle.sdd_obligations.specs.Bounds.{AllFewTicks, IsNumbered, IsSmall, greatest_height, most_classes, most_sites}
-use Rattle.sdd_obligations.specs.Heights.{height, starts_by, ticks_of}
+use Rattle.sdd_obligations.proofs.All.{Act, AllFewTicks, D, Did, Does, Each, Entry, Given, Hand, Handed, IsFair, IsLawful, IsNumbered, IsPermitted, IsSmall, IsWithin, List, Log, MAX_LINK_MESSAGES, MAX_RUN_EVENTS, MAX_TICKS, Mark, None, Notes, Option, Records, Redeclared, Redeclares, Round, Site, Some, Start, Submits, Submitted, T, Ticked, U, [], all_new, ap, arith, dm_no, each_local, greatest_height, handed, hands, height, home_of, lawful_permitted, length, length-append, length-map, length-range_with_len, local_of, local_step, made, map, marks, most_classes, most_sites, mul-le-mul, mul-le-mul_right, own_act, range_with_len, refl, setting_of, sites, starts, starts_by, starts_more, submits, subst, suc, suc-mul, sym, t_fair, ticks_of, tm_no, trans_le, u_fair, view_of, with_made, ℕ, ◌*◌, ◌+◌, ◌<◌, ◌^◌, ◌∙◌, ◌∷◌, ◌≡◌, ◌≤◌}
 use Rattle.sdd_obligations.proofs.Counting.{site_few}
 use Rattle.sdd_obligations.proofs.Limits.{handed_few, hands_few, marks_few, submits_few}
 use Rattle.sdd_obligations.proofs.NoStarts.{d_starts_not}
@@ -107,9 +95,6 @@ came_few g at log s l p w =
     let d = total_le (λ a. handed a at log) (all_sites g) MAX_LINK_MESSAGES (λ a. handed_few g log p w a at) in
     let e : length (all_sites g) * MAX_LINK_MESSAGES ≤ most_sites * MAX_LINK_MESSAGES = mul-le-mul_right MAX_LINK_MESSAGES (few_sites g s) in
     sum_of (length (submits (local_of g at log))) (hands (local_of g at log)) (marks log) _ _ MAX_RUN_EVENTS _ a b c d e
-
-trans_le : (x y z : ℕ) → x ≤ y → y ≤ z → x ≤ z
-trans_le x y z a b = omega (arith, a, b)
 
 of_classes : (g : Given) (at : Site) (log : Log) → IsSmall g → IsLawful g log → IsPermitted g log → IsWithin log → IsNumbered at
     → Each (IsFair (setting_of g at)) (local_of g at log) → starts (local_of g at log) ≤ most_starts

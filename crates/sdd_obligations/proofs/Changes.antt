@@ -1,22 +1,7 @@
 -- The changes of a transaction that fits, on a database, as WRITEs take them to data modules.
-use Rattle.std.proofs.Common.{ℕ, ℤ, ◌≡◌, Bool, true, false, cond, List, [], ◌∷◌, map, refl, ap, sym, ◌∙◌, subst}
-use Rattle.std.specs.List.{AllByRecursion, IsDistinct, filter}
-use Rattle.std.specs.Map.{keys_of}
-use Rattle.std.specs.Ordering.{eq_by_cmp, is_eq}
-use Rattle.std.proofs.lemmas.List.Elements.{All-from_recursion}
-use Rattle.std.proofs.lemmas.Map.Keys.{IsDistinct-from_sorted}
-use Rattle.std.proofs.lemmas.Map.Made.{IsDistinct-keys_filter}
-use Rattle.sdd_invariants.specs.All.{Catalogue, Change, Changed, Database, IsDatabase, IsSound, Txn, change_of, changes_at, effect, has_copy, item_cmp}
-use Rattle.sdd_invariants.proofs.lang.EffectChanges.{AreMade, changes_items, effect_made}
-use Rattle.sdd_invariants.proofs.lang.SortedEntries.{sorted_nil}
-use Rattle.sdd_obligations.specs.Fitting.{AreWritten, FitsText, IsItemChange}
+use Rattle.sdd_obligations.proofs.All.{All-from_recursion, AllByRecursion, AreMade, AreWritten, Bool, Catalogue, Change, Changed, Database, FitsText, IsDatabase, IsDistinct, IsDistinct-from_sorted, IsDistinct-keys_filter, IsItemChange, IsSound, List, Txn, [], all_kept, ap, change_of, changes_at, changes_items, cond, effect, effect_made, eq_by_cmp, false, filter, has_copy, is_eq, item_cmp, keys_of, map, refl, sorted_nil, subst, sym, true, ℕ, ℤ, ◌∙◌, ◌∷◌, ◌≡◌}
 
 -- what all have, those have that are kept; and these pass the test
-
-all_kept : {A : Type 0} (P : A → Type 0) (p : A → Bool) (xs : List A) → AllByRecursion P xs → AllByRecursion P (filter p xs)
-all_kept P p [] all = tt
-all_kept P p (x ∷ xs) all =
-    elim (p x) as (λ b. AllByRecursion P (cond b (x ∷ filter p xs) (filter p xs))) [ true ↦ (all.0, all_kept P p xs all.1) | false ↦ all_kept P p xs all.1 ]
 
 kept_pass : {A : Type 0} (p : A → Bool) (xs : List A) → AllByRecursion (λ x. p x ≡ true) (filter p xs)
 kept_pass p [] = tt

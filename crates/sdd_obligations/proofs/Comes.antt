@@ -1,22 +1,16 @@
 -- A question that is next to be handed over is for rows that its data module holds.
-use Rattle.std.proofs.Common.{ℕ, ◌∙◌, ◌∷◌, ◌≡◌, ◌≤◌, Bool, List, None, Option, Some, [], ap, arith, false, if◌then◌else◌, not, refl, subst, sym, true}
-use Rattle.sdd_invariants.specs.All.{AreFor, D, DmNo, Fetch, FitsShip, Given, Hand, HaveUse, IsAllowed, IsPermitted, Msg, Reduce, Ship, Site, active, asks_rows, contains, frozen, handed, home, local_of, number_of, setting_of}
-use Rattle.sdd_laws.specs.All.{Frozen}
-use Rattle.sdd_invariants.specs.logs.Entries as all
-use Rattle.sdd_obligations.proofs.Asking.{asks_no_read}
+use Rattle.sdd_obligations.proofs.All.{AreFor, Asks, Bool, D, DmNo, Fetch, FitsShip, Frozen, Given, Hand, HaveUse, IsAllowed, IsOfUses, IsPermitted, IsServable, List, MayAsk, Msg, None, Option, Reduce, Refused, Replies, Ship, Silent, Site, Some, Told, Turn, [], active, answers, ap, arith, asks_rows, contains, false, flight, frozen, hand_was_put, handed, home, if◌then◌else◌, is_a_read, is_a_ship, is_answer, is_exchanging, is_question, local_of, not, number_of, questions, refl, setting_of, subst, sym, told, true, turn_at, turn_with, uses_held, ℕ, ◌∙◌, ◌∷◌, ◌≡◌, ◌≤◌}
 use Rattle.sdd_obligations.proofs.Hearing.{answers_asked}
 use Rattle.sdd_obligations.proofs.Flights.{first_in_flight}
-use Rattle.sdd_obligations.proofs.Replying.{asks_question}
+use Rattle.sdd_obligations.proofs.Replying.{asks_question, asks_no_a_read as asks_no_read}
 use Rattle.sdd_obligations.proofs.Held.{AreHeldFor}
 use Rattle.sdd_obligations.proofs.Sources.{asked_here, question_home, source_is_home}
 use Rattle.sdd_obligations.proofs.Spoken.{first_of_kind, answer_in_turn, question_in_turn, spoken}
 use Rattle.sdd_obligations.proofs.Halves.{IsLast, active_last, active_of, data_log, home_log, home_turns}
-use Rattle.sdd_obligations.specs.Awaited.{IsServable}
-use Rattle.sdd_obligations.specs.Turns.{Asks, IsOfUses, MayAsk, Refused, Replies, Silent, Told, Turn, answers, is_a_read, is_a_ship, is_answer, is_exchanging, is_question, questions, told, turn_at, turn_with, uses_held}
 use Rattle.sdd_obligations.proofs.Stages.{answer_flies, question_flies}
-use Rattle.sdd_obligations.specs.Stages.{flight}
-use Rattle.sdd_invariants.proofs.InOrder.{hand_was_put}
-use Rattle.sdd_obligations.proofs.Answered.{never, own}
+use Rattle.sdd_obligations.proofs.Answered.{own}
+use Rattle.sdd_obligations.proofs.InStep.{never}
+use Rattle.sdd_invariants.specs.logs.Entries as all
 
 -- questions
 

@@ -1,17 +1,9 @@
 -- The conditions of a READ are on classes of the catalogue.
-use Rattle.std.specs.List.{All, cons_option, range_with_len}
-use Rattle.std.specs.Option.{option_or}
-use Rattle.std.specs.Prelude.{filter_map}
-use Rattle.std.proofs.Common.{ℕ, ◌+◌, ◌<◌, ◌==◌, ◌^◌, ◌∷◌, ◌≡◌, ◌≤◌, List, None, Option, Some, [], arith, inl, inr, length, map, slice_get, subst, suc, zero}
-use Rattle.std.proofs.lemmas.List.Elements.{All-cons, All-nil}
-use Rattle.sdd_invariants.specs.All.{Act, AllLt, Catalogue, ClassNo, Cond, Each, FitsCond, FragNo, IsFair, IsRead, Msg, P2, P3, Queued, Read, Setting, Site, Ts, TxnNo, Use, ascending, asked_by, bound, classes_of, cond_for, cond_of, condition_on, conditions_at, frag_no, fragments_in, fragments_of, in_force, is_asked, next_stamp, puts_to, sends_of_act, start_at, start_read, to_site, uses_of}
-use Rattle.sdd_invariants.specs.protocol.declared.entry.Entry as line
+use Rattle.sdd_obligations.proofs.All.{Act, All, All-cons, All-nil, AllLt, Catalogue, ClassNo, Cond, Each, FitsCond, FragNo, IsFair, IsRead, List, Msg, None, Option, P2, P3, Queued, Read, Setting, Site, Some, Ts, TxnNo, Use, [], arith, ascending, bound, cond_for, cond_of, condition_on, conditions_at, cons_option, each_at, filter_map, frag_no, fragments_in, fragments_of, if_way, in_force, in_none, in_one, inl, inr, is_asked, length, map, next_stamp, option_or, puts_to, range_with_len, sends_of_act, slice_get, start_at, start_puts, start_read, subst, suc, to_site, uses_of, was_put, zero, ℕ, ◌+◌, ◌<◌, ◌==◌, ◌^◌, ◌∷◌, ◌≡◌, ◌≤◌}
+use Rattle.sdd_invariants.specs.All.{asked_by, classes_of}
 use Rattle.sdd_invariants.specs.site_module.SiteLog.{Log}
-use Rattle.sdd_invariants.proofs.Origins.{was_put}
-use Rattle.sdd_invariants.proofs.ReadsPut.{put_by, start_puts}
-use Rattle.sdd_invariants.proofs.Active.{each_at}
-use Rattle.sdd_invariants.proofs.Bools.{if_way}
-use Rattle.sdd_invariants.proofs.Lists.{in_none, in_one}
+use Rattle.sdd_invariants.proofs.ReadsPut.{put_by}
+use Rattle.sdd_invariants.specs.protocol.declared.entry.Entry as line
 
 -- conditions on classes from 1 to n
 

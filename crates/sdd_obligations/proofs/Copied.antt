@@ -1,44 +1,17 @@
 -- The database of an attempt's snapshots has the copies that its modules had at their Answers.
-use Rattle.std.proofs.Common.{ℕ, ◌≤◌, ◌==◌, ◌≡◌, inl, inr, true, false, List, [], ◌∷◌, ◌++◌, length, arith, refl, ap, sym, ◌∙◌, subst, map}
-use Rattle.std.specs.Prelude.{Option, Some, None, filter, filter_map, is_some}
-use Rattle.std.specs.Bool.{if◌then◌else◌}
-use Rattle.std.specs.Option.{option_eq}
-use Rattle.std.specs.List.{Contains, flat_map}
-use Rattle.std.proofs.lemmas.Bool.Decides.{Decides-eqb}
-use Rattle.std.proofs.lemmas.List.Elements.{recursion_from_All}
-use Rattle.sdd_invariants.specs.All.{Act, Answer, AreThere, Attempt, Catalogue, Change, D, Database, DmNo, Does, FragNo, Given, HasAnswer, IsChange, IsPermitted, IsSound, Item, Log, Msg, Read, Records, Row, Setting, Txn, Use, active, ascending, base_of, contains, dated, dm_no, fragment_at, fragment_of, fragments_in, frags_asked, head, home, home_of, is_at, is_over, is_read_at, items_of, local_of, modules_asked, modules_of, numbers_to, pipe, reads_at, setting_of, snapshots_at, use_there, uses_of, with_frags}
-use Rattle.sdd_invariants.proofs.catalog.Sound.{served_read}
-use Rattle.sdd_invariants.proofs.lang.EffectChanges.{entry_placed}
-use Rattle.sdd_invariants.specs.site_module.SiteLog as site
-use Rattle.sdd_laws.specs.All.{ArePlaced, Dated, IsPlaced}
-use Rattle.sdd_exec.specs.Choices.{Has}
-use Rattle.sdd_exec.proofs.Members.{Has-filter, Has-filter_map, Has-filter_map_from, Has-flat_map, Has-flat_map_from, Has-map, Has-map_from}
-use Rattle.sdd_laws.proofs.Members.{each_has}
-use Rattle.sdd_invariants.proofs.attempt.Uses.{uses_there}
-use Rattle.sdd_laws.proofs.Copied.{some_copy}
-use Rattle.sdd_invariants.proofs.Answered.{answered_all}
-use Rattle.sdd_serving.specs.Freezing.{HasCopies, uses_at}
-use Rattle.sdd_serving.proofs.Freezing.{there_is}
-use Rattle.sdd_serving.proofs.Members.{of_has, to_has}
-use Rattle.sdd_serving.proofs.Together.{IsPiece, IsUsed, has_copies}
-use Rattle.sdd_invariants.proofs.Bools.{same_number}
-use Rattle.sdd_laws.proofs.serial_orders.Members.{Contains-range}
-use Rattle.sdd_invariants.proofs.Made.{local_grows, own_act}
-use Rattle.sdd_obligations.specs.Fitting.{FitsGiven, IsItemChange}
+use Rattle.sdd_obligations.proofs.All.{Act, Answer, ArePlaced, AreThere, Attempt, Catalogue, Change, Contains, Contains-range, D, Database, Dated, DmNo, Does, FitsGiven, FragNo, Given, Has, Has-filter_map, Has-filter_map_from, Has-flat_map, Has-flat_map_from, Has-map, Has-map_from, HasAnswer, HasCopies, HasEras, IsChange, IsItemChange, IsPermitted, IsPiece, IsPlaced, IsSound, IsUsed, Item, List, Log, Msg, None, Option, Read, Records, Row, Setting, Some, Txn, Use, active, answered_all, ap, arith, ascending, base_of, before_answer, contains, copies_read, dated, dm_no, each_has, each_of, entry_placed, false, filter_map, flat_map, fragment_at, fragment_of, fragments_in, frags_asked, has_copies, head, home, home_of, if◌then◌else◌, inl, inr, is_at, is_over, is_read_at, is_some, items_of, length, local_grows, local_of, map, modules_asked, modules_of, numbers_to, of_has, option_eq, own_act, pipe, reads_at, recursion_from_All, refl, same_number, served_read, setting_of, snapshots_at, some_copy, subst, sym, there_is, to_has, true, use_part, use_there, uses_of, uses_there, ℕ, ◌++◌, ◌==◌, ◌∙◌, ◌∷◌, ◌≡◌, ◌≤◌}
 use Rattle.sdd_obligations.proofs.EffectsHeld.{HandFits, all_items}
 use Rattle.sdd_obligations.proofs.Put.{acts_fit, databases, hands_fit}
-use Rattle.sdd_obligations.specs.Reading.{HasEras, before_answer, copies_read}
 use Rattle.sdd_obligations.proofs.ShippedAnswered.{answer_to, uses_at_head}
 use Rattle.sdd_obligations.proofs.Covered.{Covers, attempt_covered, class_within}
-use Rattle.sdd_obligations.proofs.Listed.{each_of, from_order, has_contains, in_order}
+use Rattle.sdd_obligations.proofs.Listed.{from_order, has_contains, in_order}
 use Rattle.sdd_obligations.proofs.Places.{IsAnswerAt}
 use Rattle.sdd_obligations.proofs.Snapped.{IsSnapped, MaySnap, each_before_answer, may_snap, snapped}
+use Rattle.sdd_obligations.proofs.ReadsFit.{same_option as read_is}
+use Rattle.sdd_serving.specs.Freezing.{uses_at}
+use Rattle.sdd_invariants.specs.site_module.SiteLog as site
 
 -- where a class reads the fragments of a transaction that it covers
-
-read_is : (o : Option ℕ) (d : ℕ) → option_eq ◌==◌ o (Some d) ≡ true → o ≡ Some d
-read_is None d e = cc
-read_is (Some m) d e = ap (λ z. Some z) ((Decides-eqb m d).0 e)
 
 is_read : (o : Option ℕ) (d : ℕ) → o ≡ Some d → option_eq ◌==◌ o (Some d) ≡ true
 is_read o d e = subst (λ z. option_eq ◌==◌ z (Some d) ≡ true) (sym e) (same_number d)
@@ -58,8 +31,7 @@ frag_there cat txn u f h k =
     (recursion_from_All (λ (u : Use). AreThere cat u.frags) (uses_of cat txn) (uses_there cat txn)) h)) k
 
 reads_somewhere : (cat : Catalogue) → IsSound cat → (c : ℕ) (txn : Txn) → Covers cat c txn
-    → (u : Use) (f : FragNo) → Has (uses_of cat txn) u → Has u.frags f → (d : ℕ)
-    × (reads_at cat c f.0 ≡ Some d)
+    → (u : Use) (f : FragNo) → Has (uses_of cat txn) u → Has u.frags f → (d : ℕ) × (reads_at cat c f.0 ≡ Some d)
 reads_somewhere cat sound c txn (inl z) u f h k =
     let there = frag_there cat txn u f h k in
     subst (λ j. (d : ℕ) × (reads_at cat j f.0 ≡ Some d)) (sym z) (some_copy cat sound f.0 there.0 there.1)
@@ -99,14 +71,6 @@ frags_are None = refl
 frags_are (Some (Read ts class txn attempt conds uses)) = refl
 frags_are (Some _) = refl
 
-use_part : (cat : Catalogue) (c d : ℕ) (u : Use) (f : FragNo) → Has u.frags f
-    → is_read_at cat c d f.0 ≡ true → (v : Use) × (use_there cat c d u ≡ Some v) × Has v.frags f
-use_part cat c d u f h t = by (filter (λ f. is_read_at cat c d f.0) u.frags) (Has-filter (λ f. is_read_at cat c d f.0) u.frags f h t)
-  where
-    by : (fs : List FragNo) → Has fs f → (v : Use) × (with_frags u fs ≡ Some v) × Has v.frags f
-    by [] h = absurd h
-    by (g ∷ fs) h = (record u { frags = g ∷ fs }, refl, h)
-
 asked_frag : (cat : Catalogue) (c d : ℕ) (txn : Txn) (u : Use) (f : FragNo) → Has (uses_of cat txn) u
     → Has u.frags f → is_read_at cat c d f.0 ≡ true → Has (ascending (fragments_in (uses_at cat c txn d)))
     f.0
@@ -117,8 +81,7 @@ asked_frag cat c d txn u f h k t =
 
 -- and back
 frag_asked : (cat : Catalogue) (c d : ℕ) (txn : Txn) (f : ℕ)
-    → Has (ascending (fragments_in (uses_at cat c txn d))) f → IsUsed cat txn f
-    × (is_read_at cat c d f ≡ true)
+    → Has (ascending (fragments_in (uses_at cat c txn d))) f → IsUsed cat txn f × (is_read_at cat c d f ≡ true)
 frag_asked cat c d txn f h =
     let p = Has-flat_map_from (λ (u : Use). map (λ f. f.0) u.frags) (uses_at cat c txn d) f (from_order (fragments_in (uses_at cat c txn d)) f h) in
     let v : Use = p.0 in

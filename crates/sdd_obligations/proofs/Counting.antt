@@ -1,16 +1,7 @@
 -- A class starts no more attempts than transactions were given to its site and messages handed to it.
-use Rattle.std.proofs.Common.{ℕ, ◌*◌, ◌++◌, ◌+◌, ◌-◌, ◌==◌, ◌∷◌, ◌≡◌, ◌≤◌, Bool, List, None, Option, Some, [], ap, arith, cond, false, filter, if◌then◌else◌, inl, inr, length, map, not, refl, slice_get, subst, suc, sym, true}
-use Rattle.std.proofs.Math.Decide.{dec_le}
-use Rattle.std.proofs.lemmas.List.{get_or_past, length-append, length-map}
-use Rattle.std.proofs.lemmas.List.FromFn.{length-range_with_len}
-use Rattle.sdd_invariants.specs.All.{Act, Attempt, Bases, Catalogue, Class, D, Did, Each, Handed, IsFair, IsNew, IsServed, IsStep, Msg, Queued, Redeclared, Sends, Setting, Site, Submits, T, Ticked, U, active, active_handed, active_sent, class_at, commit_act, hands, head_of, home, in_force, is_for, next_stamp, queue, sends_of_act, start_at, started, starts, submits, submitted, tm_no, tried}
-use Rattle.sdd_invariants.specs.site_module.SiteLog.{Log}
-use Rattle.sdd_invariants.specs.dm.Copies.{classes_of}
-use Rattle.sdd_invariants.proofs.Queues.{queue_is}
-use Rattle.sdd_invariants.proofs.Active.{sent_way, step_way}
-use Rattle.sdd_invariants.proofs.Bools.{same_number, same_or_not}
-use Rattle.sdd_obligations.specs.Bounds.{IsNumbered, class_starts, start_of_class}
+use Rattle.sdd_obligations.proofs.All.{Act, Attempt, Bases, Bool, Catalogue, Class, D, Did, Each, Handed, IsFair, IsNew, IsNumbered, IsServed, IsStep, List, Msg, None, Option, Queued, Redeclared, Sends, Setting, Site, Some, Submits, T, Ticked, U, [], active, active_handed, active_sent, ap, arith, class_at, class_starts, classes_of, commit_act, dec_le, false, filter, filter_shorter, get_or_past, hands, head_of, home, if◌then◌else◌, in_force, inl, inr, is_for, length, length-append, length-map, length-range_with_len, map, next_stamp, not, queue, queue_is, refl, same_number, same_or_not, sends_of_act, sent_way, slice_get, start_at, start_of_class, started, starts, step_way, submits, submitted, subst, suc, sym, tm_no, tried, true, ℕ, ◌*◌, ◌++◌, ◌+◌, ◌-◌, ◌==◌, ◌∷◌, ◌≡◌, ◌≤◌}
 use Rattle.sdd_obligations.proofs.Sums.{range_at, total, total_le, total_raise, total_up}
+use Rattle.sdd_invariants.specs.site_module.SiteLog.{Log}
 
 abbrev busy : Option Attempt → ℕ
 busy None = 0
@@ -53,12 +44,6 @@ same_count cs qs all l = omega (arith, l)
 count_other_start : (s : Setting) (k c : ℕ) (log : Log) (q : Queued) → (k == c) ≡ false → IsCounted s c log
     → IsCounted s c (Did (start_at s k log q) ∷ log)
 count_other_start s k c log q e h = rw e (same_count (class_starts c log) (length (queue s c log)) _ h)
-
-filter_shorter : (p : Queued → Bool) (qs : List Queued) → length (filter p qs) ≤ length qs
-filter_shorter p [] = omega arith
-filter_shorter p (q ∷ qs) =
-    let i = filter_shorter p qs in
-    elim (p q) as (λ b. length (cond b (q ∷ filter p qs) (filter p qs)) ≤ suc (length qs)) [ true ↦ omega (arith, i) | false ↦ omega (arith, i) ]
 
 head_taken : (a : Attempt) (qs : List Queued) → IsServed (Some a) qs → suc (length (filter (λ q. not (q.number == a.txn)) qs)) ≤ length qs
 head_taken a [] h = absurd h

@@ -1,17 +1,8 @@
 -- The class of an active attempt covers its transaction, whatever list of classes was in force.
-use Rattle.std.proofs.Common.{ℕ, ◌≤◌, ◌==◌, ◌≡◌, ◌⊎◌, inl, inr, true, false, [], ◌∷◌, length, arith, sym, zero, suc}
-use Rattle.std.specs.Prelude.{Some}
-use Rattle.std.proofs.lemmas.Bool.{eqb-true}
-use Rattle.sdd_invariants.specs.All.{Attempt, Catalogue, Did, Each, Given, Handed, IsPermitted, Redeclared, Setting, Site, Submits, Ticked, Txn, active, class_for, home, in_force, is_for, local_of, setting_of}
+use Rattle.sdd_obligations.proofs.All.{Attempt, Catalogue, Did, Each, Given, Handed, HasEras, IsCovered, IsEraOf, IsPermitted, Redeclared, Setting, Site, Some, Submits, Ticked, Txn, [], active, all_new, arith, class_for, covered, covered_in_era, each_local, eqb-true, era_of_itself, home, home_fair, in_force, inl, inr, is_for, length, local_of, only_right, same_or_not, setting_of, some_class, sym, true, ℕ, ◌==◌, ◌∷◌, ◌≡◌, ◌≤◌, ◌⊎◌}
+use Rattle.sdd_obligations.proofs.Texts.{SubmitHas, active_so}
 use Rattle.sdd_invariants.specs.site_module.SiteLog.{Entry, Log}
 use Rattle.sdd_invariants.specs.logs.Entries as whole
-use Rattle.sdd_invariants.proofs.logs.EachLocal.{each_local}
-use Rattle.sdd_laws.specs.All.{IsEraOf}
-use Rattle.sdd_laws.proofs.class_eras.EraSets.{IsCovered, covered, covered_in_era, era_of_itself}
-use Rattle.sdd_invariants.proofs.Bools.{only_right, same_or_not}
-use Rattle.sdd_invariants.proofs.Fair.{all_new, home_fair}
-use Rattle.sdd_obligations.proofs.Texts.{SubmitHas, active_so}
-use Rattle.sdd_obligations.specs.Reading.{HasEras}
 
 -- a list of classes that a site puts in force is one of the catalogue
 abbrev ForceIs : Catalogue → Log → Entry → Type 0
@@ -44,20 +35,14 @@ in_force_is s (Did act ∷ log) h = in_force_is s log h.1
 abbrev pub Covers : Catalogue → ℕ → Txn → Type 0
 Covers cat c txn = (c ≡ 0) ⊎ IsCovered cat txn c
 
-some_class : (c : ℕ) → (c == 0) ≡ false → 1 ≤ c
-some_class zero e = cc
-some_class (suc c) e = omega arith
-
-covers_for : (cat era : Catalogue) → IsEraOf cat era → (c : ℕ) (txn : Txn) → is_for c era txn ≡ true
-    → Covers cat c txn
+covers_for : (cat era : Catalogue) → IsEraOf cat era → (c : ℕ) (txn : Txn) → is_for c era txn ≡ true → Covers cat c txn
 covers_for cat era of c txn e = elim (same_or_not c 0) [
   | inl z ↦ inl z
   | inr n ↦ inr (covered_in_era cat era of txn c
       (covered era txn c (sym (eqb-true (class_for era txn) c (only_right (c == 0) (class_for era txn == c) n e))) (some_class c n)))
 ]
 
-submitted_covered : (g : Given) → HasEras g → (at : Site) (c : ℕ) (log : whole.Log)
-    → IsPermitted g log
+submitted_covered : (g : Given) → HasEras g → (at : Site) (c : ℕ) (log : whole.Log) → IsPermitted g log
     → Each (SubmitHas (Covers g.catalogue c) (setting_of g at) c) (local_of g at log)
 submitted_covered g eras at c = each_local g at (SubmitHas (Covers g.catalogue c) (setting_of g at) c) (record {
   handed = λ log p from n m a i. tt;

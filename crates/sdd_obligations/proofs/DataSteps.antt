@@ -1,12 +1,6 @@
 -- What a data module does, act by act, with all that it sends.
-use Rattle.std.specs.List.{list_all}
-use Rattle.std.proofs.Common.{ℕ, ◌∷◌, ◌≡◌, Bool, List, None, Option, Some, [], ap, false, filter, if◌then◌else◌, length, map, refl, subst, sym, true}
-use Rattle.sdd_invariants.specs.All.{Act, Answer, Apply, Arrive, Change, ClassNo, Cond, Done, Fetch, IsClassHere, IsDue, Msg, Null, Open, Pass, Processes, Read, Ready, Records, Reduce, Reduced, Reject, Rows, Sends, Setting, Ship, Ts, TxnNo, Use, Values, Wait, Write, act_by, act_where, all_held, answer_of, answer_to, ask_for, by_head, by_open, copies, dated_in, done_for, frozen, head, head_due, head_of, home_of, is_asked_of, is_held, is_met, judged, open_due, opens, pipe, rows_held, source_of, step_on, view_of, waits}
-use Rattle.sdd_invariants.specs.history.declared.record.Rec.TheVariants.{Reject as Rejected}
+use Rattle.sdd_obligations.proofs.All.{Act, Answer, Apply, Arrive, Bool, Change, ClassNo, Cond, Done, Fetch, Frozen, IsClassHere, IsDue, List, Msg, None, Null, Open, Option, Pass, Processes, Read, Ready, Records, Reduce, Reduced, Reject, Rejected, Rows, Sends, Setting, Ship, Some, Ts, TxnNo, Use, Values, Wait, Write, [], act_by, act_where, all_held, answer_of, answer_to, ap, ask_for, by_head, by_open, class_at_place, class_view, copies, counts_of, dated_in, done_for, false, filter, frozen, frozen_for, head, head_due, head_of, home_of, if◌then◌else◌, is_asked_of, is_held, is_met, judged, length, list_all, map, open_due, opens, pipe, refl, rows_held, source_of, step_on, subst, sym, true, values_in, view_of, waits, ℕ, ◌∷◌, ◌≡◌}
 use Rattle.sdd_invariants.specs.site_module.SiteLog.{Log}
-use Rattle.sdd_laws.specs.All.{Frozen, counts_of, frozen_for, values_in}
-use Rattle.sdd_invariants.specs.dm.Views.{class_view}
-use Rattle.sdd_invariants.proofs.AreReadSteps.{class_at_place}
 
 -- what answers a FETCH, REDUCE or SHIP, where these rows are held
 abbrev pub reply : Option Frozen → Msg → Option Msg

@@ -1,12 +1,6 @@
 -- What is done of the events, as a lawful log tells it: which modules are down then, and how many lists were put in force.
-use Rattle.std.proofs.Common.{ℕ, suc, ◌++◌, ◌+◌, ◌∙◌, ◌∷◌, ◌≡◌, Bool, List, Some, [], ap, append_assoc, arith, false, refl, subst, sym, true}
-use Rattle.sdd_invariants.specs.All.{AtEach, Deliver, Does, Down, Event, Given, Hand, IsLawful, Log, Lose, Mark, Notes, Redeclare, Redeclares, Repeat, Resend, Round, Settle, Submit, Submitted, Tick, Up, after_mark, all_links, calls_of, from_event, is_down, left, mark_from, mark_of, quiet, redeclares, round, tail_of, turned_by}
-use Rattle.sdd_invariants.proofs.logs.Grows.{mark_is_next}
-use Rattle.sdd_invariants.proofs.logs.Marking.{TurnsNone}
-use Rattle.sdd_invariants.proofs.logs.Rounding.{each_of_round}
+use Rattle.sdd_obligations.proofs.All.{AllFewTicks, AtEach, Bool, Deliver, Does, Down, Event, Given, Hand, IsLawful, List, Log, Lose, Mark, Notes, Redeclare, Redeclares, Repeat, Resend, Round, Settle, Some, Submit, Submitted, Tick, TurnsNone, Up, [], after_mark, all_links, ap, append_assoc, arith, calls_of, down_from, each_of_round, false, from_event, is_down, is_down_after, left, mark_from, mark_is_next, mark_of, quiet, redeclares, redeclares_in, refl, round, subst, suc, sym, tail_of, true, turned_by, ℕ, ◌++◌, ◌+◌, ◌∙◌, ◌∷◌, ◌≡◌}
 use Rattle.sdd_obligations.proofs.OfNext.{of_next}
-use Rattle.sdd_obligations.specs.Bounds.{AllFewTicks}
-use Rattle.sdd_obligations.specs.AfterEvents.{down_from, is_down_after, redeclares_in}
 
 -- parts of lists of events
 
@@ -81,7 +75,8 @@ by_mark : (ws : List Event) (x e : Event) → Some (Mark x) ≡ Some (Mark e) �
     → IsSplit ws e × (redeclares_in (e ∷ []) ≡ 0)
 by_mark ws x e h n s = let p : x ≡ e = cc in (subst (IsSplit ws) p s, subst (λ y. redeclares_in (y ∷ []) ≡ 0) p n)
 
-marked_first : (g : Given) (log : Log) (q : Bool) (r ws : List Event) (e : Event) → mark_from g log q r ws ≡ Some (Mark e) → IsSplit ws e × (redeclares_in (e ∷ []) ≡ 0)
+marked_first : (g : Given) (log : Log) (q : Bool) (r ws : List Event) (e : Event) → mark_from g log q r ws ≡ Some (Mark e)
+    → IsSplit ws e × (redeclares_in (e ∷ []) ≡ 0)
 marked_first g log q r [] e h = absurd (cc)
 marked_first g log true r (Settle ∷ ws) e h = let i = marked_first g log true r ws e h in (behind_settle e ws i.0, i.1)
 marked_first g log false r (Settle ∷ ws) e h = absurd (cc)
@@ -153,7 +148,8 @@ turned_same d (Up m) b h = absurd h
 abbrev pub AreDone : Given → (ℕ → Bool) → ℕ → List Event × List Event → Type 0
 AreDone g down lists s = AtEach TurnsNone s.1 × IsDoneAs g down lists s.0
 
-mark_done : (g : Given) (log : Log) (e : Event) (s : List Event × List Event) → mark_of g log s ≡ Some (Mark e) → AreDone g (λ d. is_down d log) (redeclares log) s
+mark_done : (g : Given) (log : Log) (e : Event) (s : List Event × List Event) → mark_of g log s ≡ Some (Mark e)
+    → AreDone g (λ d. is_down d log) (redeclares log) s
     → AreDone g (λ d. turned_by d e (is_down d log)) (redeclares log) (after_mark s)
 mark_done g log e (ws, []) m i =
     let f = marked_first g log (quiet (all_links g) (calls_of log)) (round (all_links g) (calls_of log)) ws e m in (
@@ -172,7 +168,8 @@ mark_done g log e (ws, x ∷ r) m i =
       },
     )
 
-list_done : (g : Given) (log : Log) (t : ℕ) (s : List Event × List Event) → mark_of g log s ≡ Some (Redeclares t) → AreDone g (λ d. is_down d log) (redeclares log) s
+list_done : (g : Given) (log : Log) (t : ℕ) (s : List Event × List Event) → mark_of g log s ≡ Some (Redeclares t)
+    → AreDone g (λ d. is_down d log) (redeclares log) s
     → AreDone g (λ d. is_down d log) (suc (redeclares log)) (after_mark s)
 list_done g log t (ws, []) m i =
     let f = listed_first g log (quiet (all_links g) (calls_of log)) (round (all_links g) (calls_of log)) ws t m in (

@@ -1,21 +1,7 @@
 -- A DONE that is next to be handed over answers the last Commit of U, and is the first of its module.
-use Rattle.std.proofs.Common.{ℕ, ◌++◌, ◌+◌, ◌<◌, ◌∙◌, ◌∷◌, ◌≡◌, ◌≤◌, ◌⊎◌, Bool, List, Option, Some, [], ap, append_assoc, arith, false, inl, inr, refl, slice_get, subst, sym, true}
-use Rattle.sdd_invariants.specs.All.{Act, Attempt, Bases, Commit, D, Did, DmNo, Does, Done, Each, FitsDone, Given, Hand, Handed, IsDoneBy, IsFair, IsFairU, IsPermitted, IsStepU, Log, Msg, NoRecord, Queued, Records, Redeclared, Sends, Served, Setting, Submits, Ticked, Ts, U, Write, active, commit_act, dones_of, handed, is_done, is_done_of, is_recorded, last_served, local_of, next_stamp, numbers_to, one_if, puts_to, served_acted, setting_of, start_at, start_u, tally, ts_of}
-use Rattle.sdd_invariants.specs.site_module.SiteLog.{Entry}
-use Rattle.sdd_invariants.proofs.Dones.{dones_few, put_once}
-use Rattle.sdd_invariants.proofs.HoldChain.{u_table}
-use Rattle.sdd_invariants.proofs.Undeclared.{zero_pair}
-use Rattle.sdd_invariants.proofs.Serving.{u_due, u_way}
-use Rattle.sdd_invariants.proofs.Places.{compare}
-use Rattle.sdd_invariants.proofs.Recorded.{start_of_active}
-use Rattle.sdd_invariants.proofs.Answered.{put_in_by_d}
-use Rattle.sdd_invariants.proofs.Installed.{class_number, head_put, write_origin}
-use Rattle.sdd_invariants.proofs.Active.{each_at}
-use Rattle.sdd_invariants.proofs.Bools.{same_number, true_or_false}
-use Rattle.sdd_invariants.proofs.Fair.{u_fair}
-use Rattle.sdd_invariants.proofs.Made.{local_grows, own_act, permitted_before, place_of_act}
-use Rattle.sdd_obligations.proofs.SendsLow.{hand_ts}
+use Rattle.sdd_obligations.proofs.All.{Act, Attempt, Bases, Bool, Commit, D, Did, DmNo, Does, Done, Each, FitsDone, Given, Hand, Handed, IsDoneBy, IsFair, IsFairU, IsPermitted, IsStepU, List, Log, Msg, NoRecord, Option, Queued, Records, Redeclared, Served, Setting, Some, Submits, Ticked, Ts, U, Write, [], active, ap, append_assoc, arith, class_number, commit_act, compare, dones_few, dones_of, each_at, false, hand_ts, handed, head_put, inl, inr, is_done, is_done_of, is_recorded, last_served, local_grows, local_of, next_stamp, numbers_to, one_if, own_act, permitted_before, place_of_act, put_in_by_d, put_once, puts_to, refl, same_number, served_acted, setting_of, slice_get, start_at, start_of_active, start_u, subst, sym, tally, true, true_or_false, ts_of, u_due, u_fair, u_table, u_way, write_origin, zero_pair, ℕ, ◌++◌, ◌+◌, ◌<◌, ◌∙◌, ◌∷◌, ◌≡◌, ◌≤◌, ◌⊎◌}
 use Rattle.sdd_obligations.proofs.Answering.{none_before}
+use Rattle.sdd_invariants.specs.site_module.SiteLog.{Entry}
 use Rattle.sdd_invariants.specs.site_module.SiteLog as site
 
 -- the first of its module
@@ -111,8 +97,7 @@ start_between s y b l a front c r f e is =
           later = st.later;
           between = v.between;
           queued = st.queued;
-          is =
-              subst (λ x. l ≡ st.later ++ Did (start_at s 0 x st.queued) ∷ x) v.is st.is;
+          is = subst (λ x. l ≡ st.later ++ Did (start_at s 0 x st.queued) ∷ x) v.is st.is;
         }
         | inr v ↦ (let n = no_record_at 0 front (Did y) v.between
             (subst (NoRecord 0) v.front st.none_since) in let z : ◌≡◌ {A = Bool} true false = sym r ∙ n in cc)

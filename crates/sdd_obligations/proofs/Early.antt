@@ -1,9 +1,5 @@
 -- Clocks and times of messages stay as low as modules ask.
-use Rattle.std.proofs.Common.{ℕ, ◌<◌, ◌^◌, ◌∷◌, ◌≡◌, ◌≤◌, List, Some, [], arith, slice_get}
-use Rattle.sdd_invariants.specs.All.{AllLe, AllLt, Given, IsLawful, IsWithin, Log, Msg, Site, clock, local_of, puts_to}
-use Rattle.sdd_invariants.proofs.logs.NewMarks.{lawful_permitted}
-use Rattle.sdd_obligations.specs.Bounds.{IsSmall, greatest_height}
-use Rattle.sdd_obligations.specs.Heights.{IsUnder, height, times_of, top}
+use Rattle.sdd_obligations.proofs.All.{AllLe, AllLt, Given, IsLawful, IsSmall, IsUnder, IsWithin, List, Log, Msg, Site, Some, [], arith, clock, greatest_height, height, lawful_permitted, local_of, puts_to, slice_get, times_of, top, ℕ, ◌<◌, ◌^◌, ◌∷◌, ◌≡◌, ◌≤◌}
 use Rattle.sdd_obligations.proofs.Bounded.{greatest_below, height_few}
 use Rattle.sdd_obligations.proofs.LowLists.{low_at}
 use Rattle.sdd_obligations.proofs.Under.{under}

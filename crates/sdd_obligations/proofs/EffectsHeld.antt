@@ -1,14 +1,7 @@
 -- What a data module holds, where the WRITEs that are handed to it have changes of items.
-use Rattle.std.proofs.Common.{ℕ, ◌==◌, ◌&&◌, Bool, true, false, List, [], ◌∷◌, ◌++◌, map, Option, Some}
-use Rattle.std.specs.Bool.{if◌then◌else◌}
-use Rattle.std.specs.List.{AllByRecursion, flat_map}
-use Rattle.std.proofs.lemmas.List.Elements.{recursion_from_All}
-use Rattle.sdd_invariants.specs.All.{Act, Answer, Catalogue, Change, Did, Each, Handed, IsDatabase, IsEntry, IsSound, Msg, Pipe, Records, Redeclared, Sends, Setting, Submits, Ticked, Write, applied, applied_acted, changes_in, database_of, dated, frags_asked, goes_through, head, head_of, head_processed, is_apply, is_at, is_processing, items_of, pipe, pipe_acted, put, snapshots, tail_of}
+use Rattle.sdd_obligations.proofs.All.{Act, AllByRecursion, Answer, AreWritten, Bool, Catalogue, Change, Dated, Did, Each, Handed, IsDatabase, IsEntry, IsItemChange, IsSound, List, Msg, Option, Pipe, Records, Redeclared, Sends, Setting, Some, Submits, Ticked, Write, [], all_joined, applied, applied_acted, changes_in, classes_of, database_of, dated, false, flat_map, frags_asked, goes_through, head, head_of, head_processed, if◌then◌else◌, is_apply, is_at, is_processing, items_of, map, pipe, pipe_acted, put, recursion_from_All, snapshots, tail_of, true, ℕ, ◌&&◌, ◌++◌, ◌==◌, ◌∷◌}
+use Rattle.sdd_obligations.proofs.Entries.{AreItems, all_gathered, first_are_items, items_are_entries}
 use Rattle.sdd_invariants.specs.site_module.SiteLog.{Entry, Log}
-use Rattle.sdd_laws.specs.All.{Dated}
-use Rattle.sdd_invariants.specs.dm.Copies.{classes_of}
-use Rattle.sdd_obligations.specs.Fitting.{AreWritten, IsItemChange}
-use Rattle.sdd_obligations.proofs.Entries.{AreItems, all_gathered, all_joined, first_are_items, items_are_entries}
 
 -- a WRITE to data module d has such changes
 abbrev pub FitsMsg : Catalogue → ℕ → Msg → Type 0

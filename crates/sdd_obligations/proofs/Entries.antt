@@ -1,25 +1,10 @@
 -- What copies hold are entries of a database, where the changes that make them are changes of items.
-use Rattle.std.proofs.Common.{ℕ, ℤ, ◌≡◌, ◌==◌, true, false, cond, List, [], ◌∷◌, ◌++◌, map, Option, Some, None, refl, ap, sym, ◌∙◌, subst}
-use Rattle.std.specs.Prelude.{nat_lt}
-use Rattle.std.specs.Bool.{if◌then◌else◌}
-use Rattle.std.specs.List.{AllByRecursion, cons_option, filter_map, flat_map, fold}
-use Rattle.std.specs.Ordering.{int_cmp, is_eq}
-use Rattle.std.proofs.lemmas.Bool.Decides.{Decides-eqb}
-use Rattle.std.proofs.lemmas.List.Elements.{recursion_from_All}
-use Rattle.sdd_invariants.specs.All.{Catalogue, Change, Database, FitsRow, HasRow, IsChange, IsDatabase, IsEntry, IsRelation, IsSound, Item, Row, first_row, fragment_at, in_range, items_of, key_in, with_item}
-use Rattle.sdd_laws.specs.All.{Dated, keys_in, latest, newer, of_fragment, row_left, row_with}
-use Rattle.sdd_laws.proofs.copy.Contents.{eq_is, same_key}
-use Rattle.sdd_invariants.proofs.lang.EffectChanges.{entry_placed}
-use Rattle.sdd_invariants.proofs.lang.StaysDatabase.{no_database, with_row_stays}
-use Rattle.sdd_obligations.specs.Fitting.{IsItemChange}
+use Rattle.sdd_obligations.proofs.All.{AllByRecursion, Catalogue, Change, Database, Dated, Decides-eqb, FitsRow, HasRow, IsChange, IsDatabase, IsEntry, IsItemChange, IsRelation, IsSound, Item, List, None, Option, Row, Some, [], all_joined, ap, cond, cons_option, entry_placed, eq_is, false, filter_map, first_row, flat_map, fold, fragment_at, if◌then◌else◌, int_cmp, is_eq, items_of, key_in, keys_in, latest, map, nat_lt, newer, no_database, of_fragment, recursion_from_All, refl, row_left, row_with, same_key, subst, sym, true, with_item, with_row_stays, ℕ, ℤ, ◌==◌, ◌∙◌, ◌∷◌, ◌≡◌}
+use Rattle.sdd_invariants.specs.All.{in_range}
 
 -- each dated change is of an item
 abbrev pub AreItems : Catalogue → Dated → Type 0
 AreItems cat xs = AllByRecursion (λ (x : ℕ × Change). IsItemChange cat x.1) xs
-
-pub all_joined : {A : Type 0} (P : A → Type 0) (xs ys : List A) → AllByRecursion P xs → AllByRecursion P ys → AllByRecursion P (xs ++ ys)
-all_joined P [] ys h k = k
-all_joined P (x ∷ xs) ys h k = (h.0, all_joined P xs ys h.1 k)
 
 pub all_gathered : {A B : Type 0} (P : B → Type 0) (f : A → List B) (xs : List A) → ((x : A) → AllByRecursion P (f x)) → AllByRecursion P (flat_map f xs)
 all_gathered P f [] h = tt

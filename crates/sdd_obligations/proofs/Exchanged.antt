@@ -1,23 +1,11 @@
 -- What is left of a message that is next to be handed over: the laws of exchanges and of databases give it.
-use Rattle.std.proofs.Common.{ℕ, ◌-◌, ◌==◌, ◌∷◌, ◌≡◌, ◌≤◌, Bool, List, None, Option, Some, [], ap, arith, false, if◌then◌else◌, length, refl, subst, suc, sym, true}
-use Rattle.std.proofs.Math.Decide.{dec_le}
-use Rattle.std.proofs.lemmas.List.{get_or_past}
-use Rattle.std.proofs.lemmas.List.Elements.{All-get_or}
-use Rattle.sdd_invariants.specs.All.{Attempt, Bases, Catalogue, Class, ClassNo, D, DmNo, Fetch, FitsRows, Given, Hand, IsPermitted, IsServedClass, IsWhole, Log, Msg, Read, Ready, Reduce, Reduced, Row, Rows, ServesIfLast, Setting, Ship, Site, T, TmNo, Ts, U, Values, Write, active, base_of, class_at, home, local_of, number_of, setting_of, tm_no, without}
+use Rattle.sdd_obligations.proofs.All.{All-get_or, Attempt, AwaitsRows, Bases, Bool, Catalogue, Class, ClassNo, D, DmNo, Fetch, FitsGiven, FitsRows, Given, Hand, HasEras, IsPermitted, IsRouted, IsServedAt, IsServedClass, IsUpheldD, IsUpheldR, IsWhole, List, Log, Msg, None, Option, Read, Ready, Reduce, Reduced, Row, Rows, ServedBy, ServesIfLast, Setting, Ship, Site, Some, T, TmNo, Ts, U, Values, Write, [], active, allowed_hand, ap, arith, base_of, class_at, dec_le, false, get_or_past, home, if◌then◌else◌, length, local_of, number_of, refl, setting_of, start_of_active, subst, suc, sym, tm_no, true, without, ℕ, ◌-◌, ◌==◌, ◌∷◌, ◌≡◌, ◌≤◌}
 use Rattle.sdd_obligations.proofs.Answered.{answers_are_awaited}
 use Rattle.sdd_obligations.proofs.Comes.{questions_are_servable}
 use Rattle.sdd_obligations.proofs.ReadsFit.{reads_are_readable}
-use Rattle.sdd_obligations.specs.Awaited.{AwaitsRows}
 use Rattle.sdd_obligations.proofs.Written.{changes_fit, write_put}
-use Rattle.sdd_obligations.specs.Fitting.{FitsGiven}
-use Rattle.sdd_invariants.proofs.Recorded.{start_of_active}
 use Rattle.sdd_obligations.proofs.Served.{rows_serve}
-use Rattle.sdd_obligations.specs.Reading.{HasEras}
-use Rattle.sdd_invariants.proofs.InOrder.{allowed_hand}
 use Rattle.sdd_obligations.proofs.FitsAtD.{fair_of}
-use Rattle.sdd_obligations.specs.Real.{IsServedAt, ServedBy}
-use Rattle.sdd_obligations.specs.Routes.{IsRouted}
-use Rattle.sdd_obligations.specs.Upheld.{IsUpheldD, IsUpheldR}
 
 -- each class's site has a small number
 
@@ -29,8 +17,7 @@ tm_small cat c w = elim (dec_le (suc (c - 1)) (length cat.classes)) [
       ap (λ (k : Class). k.tm.0) (get_or_past cat.classes (c - 1) (record {
         name = [];
         tm = tm_no 0;
-        reads =
-            [];
+        reads = [];
         writes = [];
       }) (omega (arith, m))) in omega (arith, e))
 ]
@@ -88,8 +75,7 @@ rows_served g log (D d) b n ts of rows w good eras h route (Some x) e =
 rows_served g log (T t) b n ts of rows w good eras h route (Some x) e = absurd route.0
 rows_served g log U b n ts of rows w good eras h route (Some x) e = absurd route.0
 
-pub served_here : (g : Given) (log : Log) (a b : Site) (n : ℕ) (m : Msg) → IsWhole g.catalogue
-    → FitsGiven g → HasEras g
+pub served_here : (g : Given) (log : Log) (a b : Site) (n : ℕ) (m : Msg) → IsWhole g.catalogue → FitsGiven g → HasEras g
     → IsPermitted g (Hand a b n m ∷ log) → IsRouted a b m → IsServedAt (setting_of g b) (base_of g (Hand a b n m ∷ log)) (local_of g b log) a m
 served_here g log a b n (Rows ts of rows) w good eras h route =
     rows_served g log a b n ts of rows w good eras h route (active (setting_of g b) of.0 (local_of g b log)) refl

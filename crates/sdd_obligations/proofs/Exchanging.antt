@@ -1,19 +1,7 @@
 -- The rows that came to an exchange are those that the modules hold.
-use Rattle.std.proofs.Common.{ℕ, ◌&&◌, ◌+◌, ◌++◌, ◌==◌, ◌∙◌, ◌∷◌, ◌≡◌, Bool, List, None, Some, [], ap, false, if◌then◌else◌, inl, inr, length, refl, subst, sym, true}
-use Rattle.std.proofs.lemmas.Bool.{eqb-true}
-use Rattle.sdd_invariants.specs.All.{Asking, ClassNo, Exchange, Fetch, Fetching, Move, Msg, Over, Phase, Read, Reading, Ready, Reduce, Reduced, Reducing, Reject, Row, Rows, Ship, Shipping, Step, Stmt, Ts, Value, Values, after_hand, after_send, answered, contains, counted, counts_for, fetches, fetches_from, goes_on, lacking, move_at, next_move, phase_ends, with_use, with_values, without}
-use Rattle.sdd_exec.specs.Choices.{Has}
-use Rattle.sdd_exec.proofs.Members.{Has-append, Has-left, Has-right}
-use Rattle.sdd_laws.specs.All.{Frozen, all_rows, rows_of, values_in}
+use Rattle.sdd_obligations.proofs.All.{Asking, AwaitsNoValues, Bool, ClassNo, Exchange, Fetch, Fetching, Follows, Frozen, Has, Has-append, Has-left, Has-right, KeepsOnce, List, Move, Msg, None, Over, Phase, Read, Reading, Ready, Reduce, Reduced, Reducing, Reject, Replies, Row, Rows, Ship, Shipping, Some, Space, Step, Stmt, Tells, TellsAll, Ts, Value, Values, [], after_hand, after_send, all_rows, answered, ap, contains, counted, counts_for, eqb-true, false, fetches, fetches_from, follows_hand, follows_send, goes_on, if◌then◌else◌, inl, inr, is_a_read, is_a_refusal, is_a_ship, is_answer, is_shipped, lack_modules, lacking, length, move_at, next_move, phase_ends, question, question_of, refl, rows_of, subst, sym, tells_all, true, true_or_false, values_in, with_use, with_values, without, ℕ, ◌&&◌, ◌++◌, ◌+◌, ◌==◌, ◌∙◌, ◌∷◌, ◌≡◌}
 use Rattle.sdd_obligations.proofs.AtTurn.{awaits}
 use Rattle.sdd_obligations.proofs.Modules.{firsts, without_other}
-use Rattle.sdd_obligations.specs.Turns.{Replies, is_a_read, is_a_refusal, is_a_ship, is_answer}
-use Rattle.sdd_serving.specs.Following.{AwaitsNoValues, Follows}
-use Rattle.sdd_serving.specs.Reducing.{Space, TellsAll}
-use Rattle.sdd_serving.proofs.Follows.{follows_hand, follows_send}
-use Rattle.sdd_serving.proofs.Told.{KeepsOnce, tells_all}
-use Rattle.sdd_invariants.proofs.Bools.{true_or_false}
-use Rattle.sdd_obligations.specs.Contents.{Tells, is_shipped, question, question_of}
 use Rattle.sdd_obligations.proofs.InStep.{never}
 
 -- which question a phase awaits
@@ -67,14 +55,12 @@ next_ships ts c x (q ∷ rest) done =
     elim (next_move q.conds (counts_for x.counts q) done) as (λ o. ShipsAll
     (elim o as (λ _. Exchange) [
       | None ↦ goes_on ts c x rest []
-      | Some m ↦ fetches ts c
-          (move_at q.before m) (record x { left = q ∷ rest; done = done ++ m.step ∷ [] })
+      | Some m ↦ fetches ts c (move_at q.before m) (record x { left = q ∷ rest; done = done ++ m.step ∷ [] })
     ])) [
       | None ↦ next_ships ts c x rest []
       | Some m ↦ λ e. never _ e (fetch_ships ts c (move_at q.before m) (record x {
         left = q ∷ rest;
-        done =
-            done ++ m.step ∷ [];
+        done = done ++ m.step ∷ [];
       }) (with_use x (move_at q.before m).source.part))
     ]
 
@@ -100,8 +86,7 @@ next_found ts c x (q ∷ rest) done =
     elim (next_move q.conds (counts_for x.counts q) done) as (λ o.
     (elim o as (λ _. Exchange) [
       | None ↦ goes_on ts c x rest []
-      | Some m ↦ fetches ts c
-          (move_at q.before m) (record x { left = q ∷ rest; done = done ++ m.step ∷ [] })
+      | Some m ↦ fetches ts c (move_at q.before m) (record x { left = q ∷ rest; done = done ++ m.step ∷ [] })
     ]).found ≡ x.found) [
       | None ↦ next_found ts c x rest []
       | Some m ↦ fetch_found ts c (move_at q.before m) (record x { left = q ∷ rest; done = done ++ m.step ∷ [] }) (with_use x (move_at q.before m).source.part)
@@ -117,39 +102,6 @@ end_found ts c x Over = refl
 lack_found : (ts c : ℕ) (x : Exchange) (ds : List ℕ) → (lacking ts c x ds).found ≡ x.found
 lack_found ts c x [] = end_found ts c (record x { lacks = [] }) x.phase
 lack_found ts c x (d ∷ ds) = refl
-
--- modules stay
-fetch_modules : (ts c : ℕ) (m : Move) (x : Exchange) (ds : List ℕ) → (fetches_from ts c m x ds).modules ≡ x.modules
-fetch_modules ts c m x [] = refl
-fetch_modules ts c m x (d ∷ ds) = refl
-
-next_modules : (ts c : ℕ) (x : Exchange) (qs : List Asking) (done : List Step) → (goes_on ts c x qs done).modules ≡ x.modules
-next_modules ts c x [] done = refl
-next_modules ts c x (q ∷ rest) done =
-    elim (next_move q.conds (counts_for x.counts q) done) as (λ o.
-    (elim o as (λ _. Exchange) [
-      | None ↦ goes_on ts c x rest []
-      | Some m ↦ fetches ts c
-          (move_at q.before m) (record x { left = q ∷ rest; done = done ++ m.step ∷ [] })
-    ]).modules ≡ x.modules) [
-      | None ↦ next_modules ts c x rest []
-      | Some m ↦ fetch_modules ts c (move_at q.before m) (record x {
-        left = q ∷ rest;
-        done =
-            done ++ m.step ∷ [];
-      }) (with_use x (move_at q.before m).source.part)
-    ]
-
-end_modules : (ts c : ℕ) (x : Exchange) (p : Phase) → (phase_ends ts c x p).modules ≡ x.modules
-end_modules ts c x Reading = next_modules ts c x x.left x.done
-end_modules ts c x (Fetching m) = refl
-end_modules ts c x (Reducing m) = next_modules ts c x x.left x.done
-end_modules ts c x Shipping = refl
-end_modules ts c x Over = refl
-
-lack_modules : (ts c : ℕ) (x : Exchange) (ds : List ℕ) → (lacking ts c x ds).modules ≡ x.modules
-lack_modules ts c x [] = end_modules ts c (record x { lacks = [] }) x.phase
-lack_modules ts c x (d ∷ ds) = refl
 
 module _ (ds : List ℕ) (statements : List Stmt) (asked : ℕ → ℕ → Bool) (first : Space) where
   -- the exchange follows a run, and the rows that came are those of the modules that shipped theirs
@@ -201,8 +153,7 @@ module _ (ds : List ℕ) (statements : List Stmt) (asked : ℕ → ℕ → Bool)
         by [] e g =
             let over : phase_ends ts c (record y { lacks = [] }) x.phase ≡ record y {
               lacks = [];
-              phase =
-                  Over;
+              phase = Over;
             } = ap (phase_ends ts c (record y { lacks = [] })) p in
             subst (Serving space) (sym over) (record {
               follows = subst (Follows ds statements asked first space) over g;
@@ -260,8 +211,7 @@ rows_of_msg _ = []
 
 told_values : (ts c : ℕ) (x : Exchange) (q : Msg) (v : Move) (t : Ts) (k : ClassNo) (u : ℕ)
     (vs : List Value) (f : Frozen) → x.phase ≡ Fetching v → q ≡ question_of ts c x
-    → Tells q (Values t k u vs) f
-    → vs ≡ values_in (rows_of v.source.part f) v.source.column
+    → Tells q (Values t k u vs) f → vs ≡ values_in (rows_of v.source.part f) v.source.column
 told_values ts c x q v t k u vs f p e h =
     let now : Tells (question ts c (Fetching v) x.union) (Values t k u vs) f =
     subst (λ z. Tells z (Values t k u vs) f) (e ∙ ap (λ ph. question ts c ph x.union) p) h in
@@ -311,12 +261,7 @@ module _ (ds : List ℕ) (statements : List Stmt) (asked : ℕ → ℕ → Bool)
         told_values ts c x r.question v.0 t k u vs (space n) v.1 (r.content q.2) (r.tells q.2) in
         if_own ((t.0 == ts) && (k.0 == c)) x y own
         (follows_hand ds statements asked first ts c space x n (Values t k u vs) h.follows
-        (λ e. (
-          v.0,
-          v.1,
-          subst (TellsAll (space n) v.0.source) (sym told)
-              (tells_all (space n) once v.0.source),
-        )))
+        (λ e. (v.0, v.1, subst (TellsAll (space n) v.0.source) (sym told) (tells_all (space n) once v.0.source))))
         (λ f. early ds statements asked first ts c n space there x y h f (not_shipping x.phase r.question r.phase q.1) refl refl within)
     hand_serves x (Reduced t k u z) own kind r once within h =
         let q = reduced_kind r.uses r.question t k u z r.replies in

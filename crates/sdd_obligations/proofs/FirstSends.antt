@@ -1,12 +1,7 @@
 -- A FETCH, REDUCE or SHIP that a site sends is the first message that the active attempt of its class has still to send;
 -- and records are of classes of the catalogue.
-use Rattle.std.proofs.Common.{ℕ, ◌&&◌, ◌==◌, ◌∙◌, ◌∷◌, ◌≡◌, ◌≤◌, Bool, List, None, Option, Some, [], ap, arith, false, if◌then◌else◌, length, not, refl, slice_get, subst, sym, true}
-use Rattle.std.proofs.lemmas.Bool.{eqb-true}
-use Rattle.sdd_invariants.specs.All.{Act, Attempt, Bases, D, Did, Fetch, Handed, Held, Hold, Msg, Null, Queued, Records, Redeclared, Reduce, Release, Sends, Setting, Ship, Site, Submits, Ticked, Ticking, Ts, U, active, asks_rows, attempt_due, class_at, class_no, commit_act, dm_no, first_send, head_of, is_over, number_of, numbers_to, or_else, queue, start_act, time_at}
+use Rattle.sdd_obligations.proofs.All.{Act, Attempt, Bases, Bool, D, Did, Handed, Held, Hold, List, Msg, None, Null, Option, Queued, Records, Redeclared, Release, Sends, Setting, Site, Some, Submits, Ticked, Ticking, Ts, U, [], active, ap, arith, asks_next, asks_rows, asks_whose, attempt_due, class_at, class_no, commit_act, dm_no, false, first_send, head_of, if◌then◌else◌, in_filtered, in_mapped, in_range, is_over, length, not, number_of, numbers_to, or_else, queue, refl, slice_get, start_act, subst, sym, time_at, true, ℕ, ◌&&◌, ◌==◌, ◌∷◌, ◌≡◌, ◌≤◌}
 use Rattle.sdd_invariants.specs.site_module.SiteLog.{Entry, Log}
-use Rattle.sdd_invariants.proofs.Bools.{and_left, and_right}
-use Rattle.sdd_invariants.proofs.Exchanges.{asks_next}
-use Rattle.sdd_invariants.proofs.Lists.{in_filtered, in_mapped, in_range}
 use Rattle.sdd_invariants.specs.tm.Due as tm
 use Rattle.sdd_invariants.specs.tm.Views as tm_views
 use Rattle.sdd_invariants.specs.umod.Due as um
@@ -33,16 +28,6 @@ IsFirstEach s log (Ticked n) = Unit {0}
 IsFirstEach s log (Submits n txn) = Unit {0}
 IsFirstEach s log (Redeclared force t) = Unit {0}
 
--- whose question it is
-pub asks_whose : (t k ts c : ℕ) (m : Msg) → asks_rows t k m ≡ true → asks_rows ts c m ≡ true → (t ≡ ts) × (k ≡ c)
-asks_whose t k ts c (Fetch a b u col) e f =
-    (sym (eqb-true a.0 t (and_left _ _ e)) ∙ eqb-true a.0 ts (and_left _ _ f), sym (eqb-true b.0 k (and_right _ _ e)) ∙ eqb-true b.0 c (and_right _ _ f))
-asks_whose t k ts c (Reduce a b u col vs) e f =
-    (sym (eqb-true a.0 t (and_left _ _ e)) ∙ eqb-true a.0 ts (and_left _ _ f), sym (eqb-true b.0 k (and_right _ _ e)) ∙ eqb-true b.0 c (and_right _ _ f))
-asks_whose t k ts c (Ship a b) e f =
-    (sym (eqb-true a.0 t (and_left _ _ e)) ∙ eqb-true a.0 ts (and_left _ _ f), sym (eqb-true b.0 k (and_right _ _ e)) ∙ eqb-true b.0 c (and_right _ _ f))
-asks_whose t k ts c _ e f = cc
-
 send_is : (s : Setting) (log : Log) (x a : Act) → IsFirstSend s log x → Some x ≡ Some a → IsFirstSend s log a
 send_is s log x a h e = let p : x ≡ a = cc in subst (IsFirstSend s log) p h
 
@@ -54,8 +39,7 @@ first_of s log c a p rest l i e ts k f =
       attempt = a;
       active_is = subst (λ j. active s j log ≡ Some a) w.1 i;
       ts_is = w.0;
-      module_no =
-          p.0;
+      module_no = p.0;
       rest = rest;
       first = e;
       to_is = refl;

@@ -1,10 +1,5 @@
 -- What is next to be handed to a data module fits there.
-use Rattle.std.proofs.Common.{ℕ, ◌≡◌, Some, refl}
-use Rattle.sdd_invariants.specs.All.{Ask, Bases, D, DmNo, Done, Each, Fetch, Given, Hand, Held, Hold, IsFair, IsLawful, IsPermitted, Log, Msg, Null, Read, Ready, Reduce, Reduced, Reject, Release, Rows, Ship, Site, T, U, Values, Write, fits, handed, local_of, next, setting_of}
-use Rattle.sdd_invariants.proofs.Fair.{t_fair, u_fair}
-use Rattle.sdd_obligations.specs.Bounds.{IsSmall}
-use Rattle.sdd_obligations.specs.Routes.{IsRunner}
-use Rattle.sdd_obligations.specs.Upheld.{IsUpheldD}
+use Rattle.sdd_obligations.proofs.All.{Ask, Bases, D, DmNo, Done, Each, Fetch, Given, Hand, Held, Hold, IsFair, IsLawful, IsPermitted, IsRunner, IsSmall, IsUpheldD, Log, Msg, Null, Read, Ready, Reduce, Reduced, Reject, Release, Rows, Ship, Site, Some, T, U, Values, Write, fits, handed, local_of, next, refl, setting_of, t_fair, u_fair, ℕ, ◌≡◌}
 use Rattle.sdd_obligations.proofs.Conditions.{conds_fit, late, read_within}
 use Rattle.sdd_obligations.proofs.Fresh.{is_above, is_fresh}
 use Rattle.sdd_obligations.proofs.Handing.{IsHanded}

@@ -1,13 +1,6 @@
 -- What is next to be handed to a transaction module, or to U, fits there.
-use Rattle.std.proofs.Common.{ℕ, ◌&&◌, ◌-◌, ◌==◌, ◌∷◌, ◌≡◌, ◌≤◌, arith, subst, sym, true}
-use Rattle.sdd_invariants.specs.All.{AnswersRead, Ask, Bases, ClassNo, D, DmNo, Done, Fetch, Given, Hand, Held, Hold, IsPermitted, IsWhole, Log, Msg, Null, Read, Ready, Reduce, Reduced, Reject, Release, Rows, Ship, Site, T, TmNo, Ts, U, Values, Write, handed, is_verdict, local_of, number_of, setting_of}
-use Rattle.sdd_invariants.specs.tm.Fits as tm
-use Rattle.sdd_invariants.specs.umod.Fits as um
-use Rattle.sdd_invariants.proofs.Bools.{both, same_number}
-use Rattle.sdd_obligations.specs.Bounds.{IsSmall}
+use Rattle.sdd_obligations.proofs.All.{AnswersRead, Ask, Bases, ClassNo, D, DmNo, Done, Fetch, Given, Hand, Held, Hold, IsD, IsPermitted, IsSmall, IsT, IsUpheldR, IsWhole, Log, Msg, Null, Read, Ready, Reduce, Reduced, Reject, Release, Rows, Ship, Site, T, TmNo, Ts, U, Values, Write, arith, both, handed, is_verdict, local_of, number_of, same_number, setting_of, subst, sym, true, ℕ, ◌&&◌, ◌-◌, ◌==◌, ◌∷◌, ◌≡◌, ◌≤◌}
 use Rattle.sdd_obligations.proofs.OfNext.{d_of_sites, t_of_sites}
-use Rattle.sdd_obligations.specs.Routes.{IsD, IsT}
-use Rattle.sdd_obligations.specs.Upheld.{IsUpheldR}
 use Rattle.sdd_obligations.proofs.Answering.{answers_read}
 use Rattle.sdd_obligations.proofs.AsksFit.{asked_class, asks_not_u}
 use Rattle.sdd_obligations.proofs.Conditions.{late}
@@ -15,6 +8,8 @@ use Rattle.sdd_obligations.proofs.DonesFit.{done_fits}
 use Rattle.sdd_obligations.proofs.Handing.{IsHanded}
 use Rattle.sdd_obligations.proofs.HoldsFit.{at_place, held_fits, hold_fits, release_fits}
 use Rattle.sdd_obligations.proofs.NoRejects.{u_not_rejected, verdict_home}
+use Rattle.sdd_invariants.specs.tm.Fits as tm
+use Rattle.sdd_invariants.specs.umod.Fits as um
 
 -- a READY or REJECT from a data module
 
@@ -24,7 +19,7 @@ answers_at g log d b n ts c m h small e =
     let at = verdict_home g d log (handed (D d) b log) m b ts c h.permitted.1 h.place e in
     answers_read g d log ts c m b h.permitted.1 at (subst (λ x. number_of x ≤ 63) at small) h.place e
 
-own : (ts c : ℕ) → ((ts == ts) && (c == c)) ≡ true
+pub own : (ts c : ℕ) → ((ts == ts) && (c == c)) ≡ true
 own ts c = both (ts == ts) (c == c) (same_number ts) (same_number c)
 
 tm_small : (g : Given) (log : Log) (a : Site) (t : TmNo) (n : ℕ) (m : Msg) → IsSmall g → IsHanded g log a (T t) n m → number_of (T t) ≤ 63

@@ -1,30 +1,6 @@
 -- What is put on a link and not handed over yet, and how an entry changes it; and what an entry adds to the turns.
-use Rattle.std.proofs.Common.{ℕ, ◌&&◌, ◌++◌, ◌∙◌, ◌∷◌, ◌≡◌, Bool, List, None, Option, Some, [], ap, append-nil, append_assoc, drop, false, if◌then◌else◌, refl, slice_get, suc, sym, true, zero}
-use Rattle.std.proofs.lemmas.List.{take-append-drop}
-use Rattle.std.proofs.lemmas.List.Elements.{filter-append}
-use Rattle.sdd_invariants.specs.All.{Act, D, Deliver, Did, Does, Down, Entry, Force, Given, Hand, Handed, IsAllowed, IsPermitted, Log, Lose, Mark, Msg, Notes, Redeclare, Redeclared, Redeclares, Repeat, Resend, Round, Settle, Site, Submit, Submits, Submitted, T, Tick, Ticked, Txn, U, Up, dm_no, force_at, forced, given_to, handed, handed_by, hands_from, local_of, made, put_by, puts_to, redeclares, same_site, sends_of_act, to_site, txn_at, with_made}
-use Rattle.sdd_obligations.specs.Stages.{flight}
-use Rattle.sdd_obligations.specs.Turns.{Silent, answers, asked_by, is_answer, is_question, questions, told_by, turn_at, turn_with}
-use Rattle.sdd_invariants.proofs.InOrder.{hand_was_put, in_order}
-use Rattle.sdd_invariants.proofs.Made.{local_step}
-use Rattle.sdd_invariants.proofs.Sent.{puts_grow}
+use Rattle.sdd_obligations.proofs.All.{Act, Bool, D, Deliver, Did, Does, Down, Entry, Force, Given, Hand, Handed, IsAllowed, IsPermitted, List, Log, Lose, Mark, Msg, None, Notes, Option, Redeclare, Redeclares, Repeat, Resend, Round, Settle, Silent, Site, Some, Submit, Submitted, T, Tick, Ticked, Txn, U, Up, [], answers, ap, append_assoc, asked_by, dm_no, drop, false, filter-append, flight, force_at, forced, given_to, hand_was_put, handed, handed_by, hands_from, hands_grow, if◌then◌else◌, in_order, is_answer, is_question, local_of, local_step, made, put_by, puts_grow, puts_to, questions, redeclares, refl, same_site, sends_of_act, slice_get, suc, sym, take-append-drop, to_site, told_by, true, turn_at, turn_with, txn_at, with_made, zero, ℕ, ◌&&◌, ◌++◌, ◌∙◌, ◌∷◌, ◌≡◌}
 use Rattle.sdd_invariants.specs.site_module.SiteLog as site
-
-if_more : (c : Bool) (xs : List Msg) (m : Msg) → (if c then xs ++ m ∷ [] else xs) ≡ xs ++ (if c then m ∷ [] else [])
-if_more true xs m = refl
-if_more false xs m = sym (append-nil _)
-
-hands_step : (a : Site) (o : Option site.Entry) (l : site.Log) → hands_from a (with_made o l) ≡ hands_from a l ++ handed_by a o
-hands_step a None l = sym (append-nil _)
-hands_step a (Some (Handed from m)) l = if_more (same_site a from) (hands_from a l) m
-hands_step a (Some (Did act)) l = sym (append-nil _)
-hands_step a (Some (Ticked n)) l = sym (append-nil _)
-hands_step a (Some (Submits n t)) l = sym (append-nil _)
-hands_step a (Some (Redeclared force t)) l = sym (append-nil _)
-
-hands_grow : (g : Given) (a b : Site) (e : Entry) (log : Log)
-    → hands_from a (local_of g b (e ∷ log)) ≡ hands_from a (local_of g b log) ++ handed_by a (made g b log e)
-hands_grow g a b e log = ap (hands_from a) (local_step g b e log) ∙ hands_step a (made g b log e) (local_of g b log)
 
 flight_splits : (g : Given) (a b : Site) (log : Log) → IsPermitted g log
     → puts_to b (local_of g a log) ≡ hands_from a (local_of g b log) ++ flight g a b log

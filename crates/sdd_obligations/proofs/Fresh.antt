@@ -1,21 +1,10 @@
 -- No WRITE that was handed to a data module has the timestamp of the one that is next.
-use Rattle.std.proofs.Common.{ℕ, ◌++◌, ◌*◌, ◌+◌, ◌<◌, ◌==◌, ◌∙◌, ◌∷◌, ◌≡◌, ◌≤◌, Bool, List, Some, [], ap, append_assoc, arith, false, if◌then◌else◌, inl, inr, length, refl, slice_get, subst, sym, true}
-use Rattle.std.proofs.lemmas.Bool.{eqb-true}
-use Rattle.sdd_invariants.specs.All.{Act, Change, ClassNo, D, Did, DmNo, Does, Given, Hand, Handed, IsApplyOf, IsLawful, IsPermitted, Log, Msg, Queued, Records, Redeclared, Sends, Setting, Site, Submits, T, Ticked, TmNo, Ts, TxnNo, U, Write, all_of, class_puts, clock, commit_act, contains, goes_through, home, local_of, next_stamp, number_of, pipe, pipe_at, setting_of, sites, start_at, tm_no, with_time, write_at, write_time_of, write_times}
-use Rattle.sdd_invariants.proofs.dm.Prefix.{all_handed, all_there}
-use Rattle.sdd_invariants.proofs.Recorded.{start_of_active}
-use Rattle.sdd_invariants.proofs.Installed.{origin, write_origin}
-use Rattle.sdd_invariants.proofs.Applied.{one_of_key, writes_strict}
-use Rattle.sdd_invariants.proofs.InPipe.{in_pipe}
-use Rattle.sdd_invariants.proofs.Bools.{only_right, same_number, true_or_false}
-use Rattle.sdd_invariants.proofs.Lists.{at_seam, in_left, place_within}
-use Rattle.sdd_invariants.proofs.Fair.{home_fair}
-use Rattle.sdd_invariants.proofs.Made.{local_grows, permitted_before}
-use Rattle.sdd_obligations.specs.Bounds.{IsNumbered, IsSmall}
+use Rattle.sdd_obligations.proofs.All.{Act, Bool, Change, ClassNo, D, Did, DmNo, Does, Given, Hand, Handed, IsApplyOf, IsLawful, IsNumbered, IsPermitted, IsRunner, IsSmall, List, Log, Msg, Queued, Records, Redeclared, Sends, Setting, Site, Some, Submits, T, Ticked, TmNo, Ts, TxnNo, U, Write, [], all_of, all_there, ap, append_assoc, arith, at_seam, class_puts, clock, commit_act, contains, eqb-true, false, goes_through, home, home_fair, if◌then◌else◌, in_left, in_pipe, inl, inr, length, local_grows, local_of, next_stamp, number_of, one_of_key, only_right, origin, permitted_before, pipe, pipe_at, place_within, refl, same_number, setting_of, sites, slice_get, start_at, start_of_active, subst, sym, tm_no, true, true_or_false, with_time, write_at, write_origin, write_time_of, write_times, writes_strict, ℕ, ◌*◌, ◌++◌, ◌+◌, ◌<◌, ◌==◌, ◌∙◌, ◌∷◌, ◌≡◌, ◌≤◌}
 use Rattle.sdd_obligations.proofs.OfNext.{IsThere, of_next, t_of_sites}
-use Rattle.sdd_obligations.specs.Routes.{IsRunner}
 use Rattle.sdd_obligations.proofs.Piping.{pipe_with}
 use Rattle.sdd_obligations.proofs.Stamped.{same_start, stamp_ticks}
+use Rattle.sdd_obligations.proofs.Linking.{lawful_part}
+use Rattle.sdd_invariants.proofs.dm.Prefix.{all_handed}
 use Rattle.sdd_invariants.specs.site_module.SiteLog as site
 
 -- an attempt of class c was started with the timestamp t
@@ -50,17 +39,11 @@ started_of g log d c n t h a =
       before = st.before;
       queued = st.queued;
       is = st.is;
-      ts_is =
-          a.ts_is ∙ st.ts_is;
+      ts_is = a.ts_is ∙ st.ts_is;
     } in
     let front : log ≡ (a.later ++ Does at act ∷ []) ++ a.before = a.is ∙ sym (append_assoc a.later (Does at act ∷ []) a.before) in
     let x = local_grows g at (a.later ++ Does at act ∷ []) a.before in
     started_on (setting_of g at) c t x.0 (local_of g at a.before) (local_of g at log) (ap (local_of g at) front ∙ x.1) here
-
--- what acts is a site of the network
-lawful_part : (g : Given) (later log : Log) → IsLawful g (later ++ log) → IsLawful g log
-lawful_part g [] log h = h
-lawful_part g (e ∷ later) log h = lawful_part g later log h.1
 
 pub record IsOfNetwork (a : Site) : Type 0 where
   pub numbered : IsNumbered a
@@ -143,8 +126,7 @@ more_write e l t h = record {
   before = h.before;
   from = h.from;
   ts = h.ts;
-  class =
-      h.class;
+  class = h.class;
   txn = h.txn;
   changes = h.changes;
   is = ap (λ x. e ∷ x) h.is;

@@ -1,16 +1,9 @@
 -- Where a site that runs transactions sends to.
-use Rattle.std.specs.List.{cons_option}
-use Rattle.std.specs.Prelude.{filter_map}
-use Rattle.std.proofs.Common.{ℕ, ◌==◌, ◌∷◌, ◌≡◌, ◌⊎◌, Bool, List, None, Option, Some, [], ap, cond, false, if◌then◌else◌, inl, inr, refl, slice_get, subst, suc, sym, true, zero}
-use Rattle.sdd_invariants.specs.All.{Act, Ask, Attempt, Bases, Change, D, Did, Fetch, Handed, Held, Hold, IsStepU, Msg, Null, Question, Queued, Records, Redeclared, Reduce, Release, Sends, Setting, Ship, Site, Submits, T, Ticked, U, WasAsked, active, asks, asks_acted, asks_handed, asks_rows, attempt_due, bound, by_ask, by_exchange, by_hold, by_start, class_no, class_view, commit_act, dm_no, effect, exchange_due, first_send, hands, head_of, is_over, modules_asked, null_at, numbers_to, or_else, runs, same_site, sends_of_act, start_at, start_of, start_read, time_at, tm_no, to_site, write_to}
+use Rattle.sdd_obligations.proofs.All.{Act, Ask, Attempt, Bases, Bool, Change, D, Did, Fetch, GoesTo, Handed, Held, Hold, IsAnAsk, IsStepU, List, Msg, None, Null, Option, Question, Queued, Records, Redeclared, Reduce, Release, Sends, Setting, Ship, Site, Some, Submits, T, Ticked, U, WasAsked, [], active, ap, asks_acted, asks_handed, asks_next, asks_rows, attempt_due, bound, by_ask, by_exchange, by_hold, by_start, class_no, commit_act, cond, cons_option, dm_no, effect, exchange_due, false, filter_map, first_send, hands, head_of, if◌then◌else◌, in_either, in_filtered, in_mapped, in_one, inl, inr, is_over, modules_asked, null_at, numbers_to, or_else, refl, runs, same_site, sends_of_act, site_is, slice_get, start_at, start_of, start_read, subst, suc, sym, the_one, time_at, tm_no, to_site, true, u_way, write_to, zero, ℕ, ◌==◌, ◌∷◌, ◌≡◌, ◌⊎◌}
+use Rattle.sdd_invariants.specs.All.{asks, class_view}
 use Rattle.sdd_invariants.specs.site_module.SiteLog.{Entry, Log}
 use Rattle.sdd_invariants.specs.tm.Due.{IsDue}
 use Rattle.sdd_invariants.specs.tm.Views.{view_of}
-use Rattle.sdd_invariants.proofs.Serving.{u_way}
-use Rattle.sdd_invariants.proofs.Exchanges.{asks_next}
-use Rattle.sdd_invariants.proofs.Lists.{in_either, in_filtered, in_mapped, in_one}
-use Rattle.sdd_invariants.proofs.Sites.{site_is, the_one}
-use Rattle.sdd_obligations.specs.Routes.{GoesTo, IsAnAsk}
 
 -- a message to a site is one of those that are sent
 
@@ -115,8 +108,7 @@ asks_in n from (Ask class time) log qs k q f e = elim (in_either qs (record { ha
   | inl p ↦ more_asked log (Handed from (Ask class time)) q.from (f k p)
   | inr p ↦ (let r : record { hand = n; from = from; class = class.0; time = time.0 } ≡ q =
       in_one (record { hand = n; from = from; class = class.0; time = time.0 } ∷ []) (record {
-        hand =
-            n;
+        hand = n;
         from = from;
         class = class.0;
         time = time.0;

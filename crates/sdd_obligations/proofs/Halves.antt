@@ -1,27 +1,13 @@
 -- An exchange in lockstep, by the turns of both sides; and what each side keeps of it.
-use Rattle.std.proofs.Common.{ℕ, ◌++◌, ◌<◌, ◌==◌, ◌∙◌, ◌∷◌, ◌≡◌, ◌≤◌, Bool, List, None, Option, Some, [], ap, arith, false, if◌then◌else◌, inl, inr, length, map, not, refl, slice_get, subst, suc, sym, true, zero}
-use Rattle.std.proofs.Math.Decide.{dec_le}
-use Rattle.std.proofs.lemmas.Bool.{eqb-true}
-use Rattle.sdd_invariants.specs.All.{Act, AllLe, Attempt, D, Did, Each, Given, Handed, IsPermitted, Log, Msg, Pipe, Read, Redeclared, Setting, Submits, Ticked, active, all_of, class_puts, dm_no, goes_through, head, head_of, home, is_read, limit_of, local_of, number_of, pipe, pipe_at, puts_to, sends_of_act, setting_of, time_of, times_in}
+use Rattle.sdd_obligations.proofs.All.{AllLe, Asks, Attempt, Bool, D, Each, Given, IsPermitted, IsStage, List, Log, MayAnswer, MayAsk, Msg, None, Option, Read, Refused, Silent, Some, Told, Turn, [], active, agreed, all_of, and_left, answer_goes, answers, ap, arith, both, class_puts, d_fair, dec_le, dm_no, eqb-true, false, flight, goes_through, head_in, home, home_fair, if_way, if◌then◌else◌, in_class_order, in_left, in_pipe, inl, inr, is_a_read, is_a_refusal, is_exchanging, is_read, length, limit_of, local_of, map, not, number_of, pipe, pipe_at, place_within, processed_stays, puts_to, question_goes, questions, refl, same_number, same_or_not, setting_of, slice_get, subst, suc, sym, time_of, timed, times_are, times_in, told, true, turn_at, turn_with, uses_held, zero, ℕ, ◌<◌, ◌==◌, ◌∙◌, ◌∷◌, ◌≡◌, ◌≤◌}
 use Rattle.sdd_obligations.proofs.Asking.{in_turn}
 use Rattle.sdd_obligations.proofs.Hearing.{AtTurn, InTurn, IsTimely}
 use Rattle.sdd_obligations.proofs.Held.{IsAlone, IsHeldAt}
 use Rattle.sdd_obligations.proofs.Sources.{home_first, source_is_home}
 use Rattle.sdd_obligations.proofs.Telling.{IsHomeOf, head_through, has_turn}
 use Rattle.sdd_obligations.proofs.Replying.{HasTurnAt, IsAskedInTurn}
-use Rattle.sdd_obligations.specs.Stages.{IsStage, agreed, answer_goes, flight, question_goes}
-use Rattle.sdd_obligations.specs.Turns.{Asks, MayAnswer, MayAsk, Refused, Silent, Told, Turn, answers, is_a_read, is_a_refusal, is_exchanging, questions, told, turn_at, turn_with, uses_held}
-use Rattle.sdd_invariants.proofs.Times.{timed}
-use Rattle.sdd_invariants.proofs.ClassOrder.{in_class_order}
-use Rattle.sdd_invariants.proofs.InPipe.{in_pipe, times_are}
-use Rattle.sdd_invariants.proofs.Split.{processed_stays}
-use Rattle.sdd_invariants.proofs.Bools.{and_left, both, if_way, not_both, same_number, same_or_not}
-use Rattle.sdd_invariants.proofs.Lists.{at_seam, in_left, place_within}
-use Rattle.sdd_invariants.proofs.Fair.{d_fair, home_fair}
+use Rattle.sdd_obligations.proofs.InStep.{never}
 use Rattle.sdd_invariants.specs.site_module.SiteLog as site
-
-never : {A : Type 0} (b : Bool) → b ≡ true → b ≡ false → A
-never b e f = absurd (not_both b e f)
 
 abbrev pub home_log : Given → ℕ → Log → site.Log
 home_log g c log = local_of g (home g.catalogue c) log
@@ -109,7 +95,7 @@ last_at : (g : Given) (ts c d : ℕ) (log : Log) (j : ℕ) (m : Msg) → IsLast 
 last_at g ts c d log j m h e =
     le_at ts (class_puts g c (dm_no d) log) j m (subst (AllLe ts) (times_are c (puts_to (D (dm_no d)) (home_log g c log))) h) e
 
-read_time : (ts c : ℕ) (m : Msg) → is_read ts c m ≡ true → time_of m ≡ ts
+pub read_time : (ts c : ℕ) (m : Msg) → is_read ts c m ≡ true → time_of m ≡ ts
 read_time ts c (Read t k txn attempt conds uses) e = eqb-true t.0 ts (and_left (t.0 == ts) (k.0 == c) e)
 read_time ts c m e = cc
 
@@ -133,8 +119,7 @@ was_put_for g ts c d log ns h i e =
           subst (λ l. slice_get l r.place ≡ Some r.read) (sym p.1)
           (processed_stays (pipe_at g c (dm_no d) log) p.0 r.place r.read r.there);
       is = r.is;
-      processed =
-          place_within (pipe c (data_log g d log)).processed r.place r.read r.there;
+      processed = place_within (pipe c (data_log g d log)).processed r.place r.read r.there;
     }
 
 not_read_held : (b : Bool) (ns : List ℕ) → not b ≡ true → (if b then None else Some ns) ≡ Some ns
@@ -152,13 +137,6 @@ is_read_at : (ts c : ℕ) (m : Msg) → is_a_read m ≡ true → goes_through c 
 is_read_at ts c (Read t k txn attempt conds uses) e f z =
     both (t.0 == ts) (k.0 == c) (subst (λ n. (t.0 == n) ≡ true) z (same_number t.0)) f
 is_read_at ts c m e f z = cc
-
-next_in : (ps us : List Msg) (m : Msg) → head_of us ≡ Some m → slice_get (ps ++ us) (length ps) ≡ Some m
-next_in ps [] m e = cc
-next_in ps (y ∷ us) m e = at_seam ps us y ∙ e
-
-head_in : (p : Pipe) (m : Msg) → head p ≡ Some m → slice_get (all_of p) (length p.processed) ≡ Some m
-head_in p m e = next_in p.processed p.unprocessed m e
 
 pub alone : (g : Given) (ts c d : ℕ) (log : Log) → IsPermitted g log → number_of (home g.catalogue c) ≤ 63 → IsSpoken g c log
     → IsLast g ts c d log → IsAlone (setting_of g (D (dm_no d))) ts c (home g.catalogue c) (data_log g d log)

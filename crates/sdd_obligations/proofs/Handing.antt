@@ -1,14 +1,7 @@
 -- What is next to be handed over: it was put, it goes along a link of the network, and no time in it is late.
-use Rattle.std.proofs.Common.{ℕ, ◌^◌, ◌∷◌, ◌≡◌, ◌≤◌, Some, arith, slice_get, true}
-use Rattle.sdd_invariants.specs.All.{AllLt, D, Given, Hand, IsLawful, IsPermitted, IsWithin, Log, Msg, Site, T, U, handed, is_link, local_of, next, number_of, puts_to, sites}
-use Rattle.sdd_invariants.proofs.net.Directions.{link_parts}
-use Rattle.sdd_invariants.proofs.logs.NewMarks.{lawful_permitted}
-use Rattle.sdd_invariants.proofs.InOrder.{hand_was_put}
-use Rattle.sdd_obligations.specs.Bounds.{IsNumbered, IsSmall}
-use Rattle.sdd_obligations.specs.Heights.{times_of}
+use Rattle.sdd_obligations.proofs.All.{AllLt, D, Given, Hand, IsLawful, IsNumbered, IsPermitted, IsRouted, IsRunner, IsSmall, IsWithin, Log, Msg, Site, Some, T, U, arith, hand_was_put, handed, is_link, lawful_permitted, link_parts, local_of, next, number_of, puts_to, sites, slice_get, times_of, true, ℕ, ◌^◌, ◌∷◌, ◌≡◌, ◌≤◌}
 use Rattle.sdd_obligations.proofs.Early.{times_below}
 use Rattle.sdd_obligations.proofs.OfNext.{IsThere, from_there, link_of_links, of_next, site_there, t_of_sites}
-use Rattle.sdd_obligations.specs.Routes.{IsRouted, IsRunner}
 use Rattle.sdd_obligations.proofs.Routed.{routed}
 
 -- with it the log is permitted, and it is the next of those that were put on its link

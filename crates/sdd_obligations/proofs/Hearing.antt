@@ -1,13 +1,9 @@
 -- An answer that is handed in turn to a site that makes attempts keeps its turns.
-use Rattle.std.proofs.Common.{ℕ, ◌&&◌, ◌<◌, ◌==◌, ◌∙◌, ◌∷◌, ◌≡◌, Bool, List, None, Option, Some, [], ap, arith, cond, false, if◌then◌else◌, inl, inr, not, refl, subst, sym, true}
-use Rattle.sdd_invariants.specs.All.{Attempt, D, Did, Exchange, Fetch, Fetching, Handed, IsStrict, Msg, Over, Phase, Read, Reading, Redeclared, Reduce, Reducing, Reject, Setting, Ship, Shipping, Site, Submits, T, Ticked, U, active, active_handed, after_hand, contains, dm_no, is_over, is_reading, last_stamp, rejects, uses_at}
-use Rattle.sdd_invariants.specs.site_module.SiteLog.{Entry, Log}
-use Rattle.sdd_obligations.proofs.AtTurn.{IsNext, StandsAt, answered_last, apart, awaited, awaits, hand_at, hand_not, is_fetch_of, is_reduce_of, silent_not_asks, told_not_asks, unsent}
+use Rattle.sdd_obligations.proofs.All.{Asks, Attempt, Bool, D, Did, Exchange, Fetch, Fetching, Handed, IsStrict, List, MayAnswer, Msg, None, Option, Over, Phase, Read, Reading, Redeclared, Reduce, Reducing, Refused, Reject, Replies, RepliesToFetch, RepliesToReduce, RepliesToShip, Setting, Ship, Shipping, Silent, Site, Some, Submits, T, Ticked, Told, Turn, U, [], active, active_handed, after_hand, and_no, answers, ap, arith, asked, asked_by, cond, contains, dm_no, false, hand_goes, if_way, if◌then◌else◌, inl, inr, is_a_read, is_a_refusal, is_a_ship, is_answer, is_exchanging, is_over, is_question, is_reading, last_stamp, not, questions, refl, rejects, same_number, same_or_not, stamp_rises, subst, sym, told, told_by, true, turn_at, uses_at, ℕ, ◌&&◌, ◌<◌, ◌==◌, ◌∙◌, ◌∷◌, ◌≡◌}
+use Rattle.sdd_obligations.proofs.AtTurn.{IsNext, StandsAt, answered_last, apart, awaited, awaits, hand_at, hand_not, is_fetch_of, is_reduce_of, silent_not_asks, told_not_asks, unsent, read_no_ship}
 use Rattle.sdd_obligations.proofs.Modules.{firsts}
-use Rattle.sdd_obligations.specs.Turns.{Asks, MayAnswer, Refused, Replies, RepliesToFetch, RepliesToReduce, RepliesToShip, Silent, Told, Turn, answers, asked, asked_by, is_a_read, is_a_refusal, is_a_ship, is_answer, is_exchanging, is_question, questions, told, told_by, turn_at}
-use Rattle.sdd_invariants.proofs.Clocks.{stamp_rises}
-use Rattle.sdd_invariants.proofs.Bools.{if_way, not_both, same_number, same_or_not}
-use Rattle.sdd_invariants.proofs.Exchanges.{hand_goes}
+use Rattle.sdd_obligations.proofs.InStep.{never}
+use Rattle.sdd_invariants.specs.site_module.SiteLog.{Entry, Log}
 
 -- the turn of an attempt with timestamp ts at module d, where this is the active attempt of its class
 abbrev pub AtTurn : ℕ → ℕ → Option Attempt → Turn → Type 0
@@ -95,9 +91,6 @@ rejected_read ns (Reduce t k u col vs) m e h = reject_no_reduce u m e h
 rejected_read ns (Ship t k) m e h = reject_no_ship ns m e h
 rejected_read ns q m e h = absurd h
 
-never : {A : Type 0} (b : Bool) → b ≡ true → b ≡ false → A
-never b e f = absurd (not_both b e f)
-
 read_no_fetch : (n : ℕ) (m : Msg) → is_a_read m ≡ true → is_fetch_of n m ≡ false
 read_no_fetch n (Read t k txn attempt conds uses) e = refl
 read_no_fetch n m e = cc
@@ -105,10 +98,6 @@ read_no_fetch n m e = cc
 read_no_reduce : (n : ℕ) (m : Msg) → is_a_read m ≡ true → is_reduce_of n m ≡ false
 read_no_reduce n (Read t k txn attempt conds uses) e = refl
 read_no_reduce n m e = cc
-
-read_no_ship : (m : Msg) → is_a_read m ≡ true → is_a_ship m ≡ false
-read_no_ship (Read t k txn attempt conds uses) e = refl
-read_no_ship m e = cc
 
 awaits_read : (p : Phase) (q : Msg) → awaits p q ≡ true → is_a_read q ≡ true → is_reading p ≡ true
 awaits_read Reading q e f = refl
@@ -194,10 +183,6 @@ next_of n d true m v ns q e f g = elim (same_or_not d n) [
   | inr p ↦ inr (p, rw p refl)
 ]
 next_of n d false m v ns q e f g = cc
-
-pub and_no : (a : Bool) → (a && false) ≡ false
-and_no true = refl
-and_no false = refl
 
 stands_on : (c n d : ℕ) (m : Msg) (a : Attempt) (v : Turns) → IsStrict (firsts a.exchange.modules) → AllAtTurn (Some a) v
     → rejects m a.ts c ≡ false → (is_answer a.ts c m ≡ true → MayAnswer (v a.ts n) m)

@@ -1,26 +1,12 @@
 -- What a data module answers comes in turn, and while an attempt exchanges rows they are held for it.
-use Rattle.std.specs.List.{flat_map, list_any}
-use Rattle.std.proofs.Common.{ℕ, ◌&&◌, ◌++◌, ◌==◌, ◌||◌, ◌∙◌, ◌∷◌, ◌≡◌, ◌⊎◌, Bool, List, None, Option, Some, [], ap, cond, false, filter, if◌then◌else◌, inl, inr, length, map, not, refl, slice_get, subst, sym, true}
-use Rattle.std.proofs.lemmas.Bool.{eqb-true}
-use Rattle.sdd_invariants.specs.All.{Act, Answer, Apply, Arrive, ClassNo, Cond, Did, Done, Fetch, Handed, IsClassHere, Msg, Open, Pass, Read, Ready, Rec, Records, Reduce, Reduced, Reject, Rows, Sends, Setting, Ship, Site, Ts, TxnNo, Use, Value, Values, Wait, all_held, ask_for, asks_rows, class_asked, column, contains, copies, dated, dated_in, done_for, frozen, frozen_at, frozen_handed, given_up, head, head_of, home_of, is_answer as is_answer_record, is_asked_of, is_number, is_read, opens, pipe, reduced_at, rows_held, same_site, sends_of_act, source_of, to_site, view_of}
-use Rattle.sdd_invariants.specs.history.declared.record.Rec.TheVariants.{Reject as Rejected}
-use Rattle.sdd_invariants.specs.site_module.SiteLog.{Log}
-use Rattle.sdd_laws.specs.All.{CopyRows, Frozen, is_among, reduced, rows_for, values_in}
+use Rattle.sdd_obligations.proofs.All.{Act, Answer, Apply, Arrive, Asks, Bool, ClassNo, Cond, CopyRows, Did, Done, Fetch, Frozen, Handed, IsClassHere, List, MayAnswer, MayAsk, Msg, None, Open, Option, Pass, Read, Ready, Rec, Records, Reduce, Reduced, Refused, Reject, Rejected, Replies, Rows, Sends, Setting, Ship, Silent, Site, Some, Told, Ts, Turn, TxnNo, Use, Value, Values, Wait, [], all_held, and_left, and_right, answers, ap, ask_for, asked, asks_rows, both, class_asked, column, cond, contains, copies, dated, dated_in, done_for, eqb-true, false, filter, flat_map, frozen, frozen_at, frozen_handed, given_up, head, head_of, home_of, if_way, if◌then◌else◌, in_filtered, inl, inr, is_a_read, is_a_refusal, is_a_ship, is_among, is_answer, is_answer_record, is_asked_of, is_exchanging, is_number, is_question, is_read, length, list_any, map, not, opens, or_left, or_right, pipe, reduced, reduced_at, refl, rows_for, rows_held, same_number, same_or_not, same_site, sends_of_act, site_self, source_of, subst, sym, to_site, told, told_by, true, turn_with, uses_by, uses_held, values_in, view_of, ℕ, ◌&&◌, ◌++◌, ◌==◌, ◌||◌, ◌∙◌, ◌∷◌, ◌≡◌, ◌⊎◌}
 use Rattle.sdd_obligations.proofs.Hearing.{told_is, told_one}
 use Rattle.sdd_obligations.proofs.DataSteps.{IsDataStep, counts_told, data_step_way, reply}
 use Rattle.sdd_obligations.proofs.Telling.{IsHomeOf, asks_no_answer, done_no_answer, head_through, read_next}
-use Rattle.sdd_obligations.proofs.Replying.{HasTurnAt, IsOwn, asked_rows, asked_turn, asks_no_a_read, reply_answers, reply_no_refusal, told_turn}
-use Rattle.sdd_obligations.specs.Turns.{Asks, MayAnswer, MayAsk, Refused, Replies, Silent, Told, Turn, answers, asked, is_a_read, is_a_refusal, is_a_ship, is_answer, is_exchanging, is_question, told, told_by, turn_with, uses_by, uses_held}
-use Rattle.sdd_invariants.proofs.Lists.{in_filtered}
-use Rattle.sdd_invariants.proofs.Bools.{and_left, and_right, both, if_way, or_left, or_right, not_both, same_number, same_or_not}
-use Rattle.sdd_invariants.proofs.Sites.{site_self}
-
-never : {A : Type 0} (b : Bool) → b ≡ true → b ≡ false → A
-never b e f = absurd (not_both b e f)
-
-and_no : (a : Bool) → (a && false) ≡ false
-and_no true = refl
-and_no false = refl
+use Rattle.sdd_obligations.proofs.Replying.{HasTurnAt, IsOwn, asked_rows, asked_turn, asks_no_a_read, reply_answers, reply_no_refusal, told_turn, held_told as held_now, and_no}
+use Rattle.sdd_obligations.proofs.Linking.{first_there}
+use Rattle.sdd_obligations.proofs.InStep.{never}
+use Rattle.sdd_invariants.specs.site_module.SiteLog.{Log}
 
 -- rows are held for the attempt, of these uses
 abbrev pub AreHeldFor : ℕ → List ℕ → Option Frozen → Type 0
@@ -102,9 +88,6 @@ own_uses ts c v ns m e h = (subst (IsOwn ts c) e h).1
 exchanging : (v : Turn) (ns : List ℕ) (q : Msg) → v ≡ Asks ns q → is_a_read q ≡ false → is_exchanging v ≡ true
 exchanging v ns q e f = ap is_exchanging e ∙ ap not f
 
-held_now : (v : Turn) (ns : List ℕ) (q : Msg) → v ≡ Asks ns q → is_a_read q ≡ false → uses_held v ≡ Some ns
-held_now v ns q e f = ap uses_held e ∙ ap (λ (b : Bool). if b then None else Some ns) f
-
 class_of_asked : (ts c k : ℕ) (m : Msg) → asks_rows ts c m ≡ true → is_number k (class_asked m) ≡ true → k ≡ c
 class_of_asked ts c k (Fetch t j u col) e f = sym (eqb-true j.0 k f) ∙ eqb-true j.0 c (and_right (t.0 == ts) (j.0 == c) e)
 class_of_asked ts c k (Reduce t j u col vs) e f = sym (eqb-true j.0 k f) ∙ eqb-true j.0 c (and_right (t.0 == ts) (j.0 == c) e)
@@ -113,10 +96,6 @@ class_of_asked ts c k m e f = cc
 
 asked_class : (ts c k : ℕ) (o : Open) → asks_rows ts c o.msg ≡ true → is_asked_of k o ≡ true → k ≡ c
 asked_class ts c k o e f = class_of_asked ts c k o.msg e f
-
-first_there : (os : List Open) (o : Open) → head_of os ≡ Some o → slice_get os 0 ≡ Some o
-first_there [] o e = cc
-first_there (x ∷ os) o e = e
 
 pub tells_in_turn : (s : Setting) (ts c : ℕ) (at : Site) (log : Log) (act : Act) → IsHomeOf s c at → IsDataStep s log act
     → HasTurnAt ts c at log

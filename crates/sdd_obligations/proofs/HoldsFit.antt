@@ -1,12 +1,5 @@
 -- HOLD, HELD and RELEASE come in turn.
-use Rattle.std.specs.List.{range_with_len}
-use Rattle.std.proofs.Common.{ℕ, ◌+◌, ◌-◌, ◌<◌, ◌==◌, ◌^◌, ◌∷◌, ◌≡◌, ◌≤◌, Bool, Some, ap, arith, false, if◌then◌else◌, nat_lt, refl, slice_get, subst, suc, sym, true}
-use Rattle.std.proofs.lemmas.Bool.Decides.{nat_tests}
-use Rattle.sdd_invariants.specs.All.{FitsHeldFrom, FitsHold, FitsRelease, Given, Hand, Handed, Held, Hold, IsHoldChain, IsPermitted, Log, Msg, Release, Site, T, TmCounts, TmNo, Ts, U, counts, holds, local_of, numbers_to, setting_of}
-use Rattle.sdd_invariants.proofs.HoldChain.{hold_chain}
-use Rattle.sdd_invariants.proofs.Serving.{counts_tm}
-use Rattle.sdd_invariants.proofs.Bools.{same_number}
-use Rattle.sdd_invariants.proofs.Sites.{site_self}
+use Rattle.sdd_obligations.proofs.All.{Bool, FitsHeldFrom, FitsHold, FitsRelease, Given, Hand, Handed, Held, Hold, IsHoldChain, IsPermitted, Log, Msg, Release, Site, Some, T, TmCounts, TmNo, Ts, U, ap, arith, counts, counts_tm, false, hold_chain, holds, if◌then◌else◌, local_of, nat_lt, nat_tests, numbers_to, range_with_len, refl, same_number, setting_of, site_self, slice_get, subst, suc, sym, true, ℕ, ◌+◌, ◌-◌, ◌<◌, ◌==◌, ◌^◌, ◌∷◌, ◌≡◌, ◌≤◌}
 use Rattle.sdd_obligations.proofs.Sums.{range_at}
 use Rattle.sdd_invariants.specs.site_module.SiteLog as site
 

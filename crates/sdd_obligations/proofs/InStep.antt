@@ -1,19 +1,9 @@
 -- What it means that the exchange of an attempt goes in step with the modules that it reads at.
-use Rattle.std.proofs.Common.{ℕ, ◌==◌, ◌||◌, ◌≡◌, inl, inr, Bool, true, false, List, [], ◌∷◌, ◌++◌, length, arith, refl, ap, sym, ◌∙◌, subst}
-use Rattle.std.specs.Prelude.{Option, Some}
-use Rattle.std.proofs.lemmas.Bool.{eqb-true}
-use Rattle.sdd_invariants.specs.All.{Act, Answer, Attempt, D, Did, DmNo, Does, Exchange, Fetching, Given, Hand, IsPermitted, Log, Move, Msg, Over, Phase, Reading, Records, Reduce, Reducing, Shipping, Site, Value, contains, first_phase, home, local_of}
-use Rattle.sdd_exec.specs.Choices.{Has}
-use Rattle.sdd_invariants.proofs.Places.{longer}
-use Rattle.sdd_laws.specs.All.{Frozen}
+use Rattle.sdd_obligations.proofs.All.{Act, Answer, Asks, AsksPhase, Attempt, Bool, D, Did, DmNo, Does, Exchange, Fetching, FitsGiven, Frozen, Given, Hand, Has, IsPermitted, List, Log, Move, Msg, Option, Over, Phase, Reading, Records, Reduce, Reducing, Replies, Shipping, Silent, Site, Some, Tells, Turn, Value, [], ap, arith, contains, eqb-true, false, first_phase, home, inl, inr, is_a_read, is_answer, is_question, is_shipped, length, local_of, longer, not_both, refl, subst, sym, true, turn_at, ℕ, ◌++◌, ◌==◌, ◌||◌, ◌∙◌, ◌∷◌, ◌≡◌}
 use Rattle.sdd_obligations.proofs.AtTurn.{StandsAt, answered_last, apart, awaited, awaits, unsent}
 use Rattle.sdd_obligations.proofs.Modules.{firsts}
-use Rattle.sdd_obligations.specs.Turns.{Asks, Replies, Silent, Turn, is_a_read, is_answer, is_question, turn_at}
-use Rattle.sdd_invariants.proofs.Bools.{not_both}
-use Rattle.sdd_obligations.specs.Fitting.{FitsGiven}
 use Rattle.sdd_obligations.proofs.Places.{IsAnswerAt, one_answer}
 use Rattle.sdd_obligations.proofs.Snapped.{answer_more}
-use Rattle.sdd_obligations.specs.Contents.{AsksPhase, Tells, is_shipped}
 use Rattle.sdd_obligations.proofs.Kept.{IsFrozen}
 use Rattle.sdd_obligations.proofs.Spaces.{kept_at, own, set}
 

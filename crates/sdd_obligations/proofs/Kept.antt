@@ -1,16 +1,9 @@
 -- What a data module keeps for an attempt, entry by entry.
-use Rattle.std.proofs.Common.{ℕ, ◌==◌, ◌&&◌, ◌≡◌, ◌⊎◌, inl, inr, Bool, true, false, List, [], ◌∷◌, refl, ap, sym, ◌∙◌}
-use Rattle.std.specs.Prelude.{Option, Some, None}
-use Rattle.std.specs.Bool.{if◌then◌else◌}
-use Rattle.std.proofs.lemmas.Bool.{eqb-true}
-use Rattle.sdd_invariants.specs.All.{Act, Answer, ClassNo, Cond, Did, DmNo, Handed, Msg, Read, Rec, Records, Redeclared, Reduce, Rows, Sends, Setting, Site, Submits, Ticked, Ts, TxnNo, Use, Value, copies, dated, frozen, frozen_at, head, is_answer, is_at, pipe, reduced_at}
-use Rattle.sdd_invariants.specs.site_module.SiteLog.{Entry, Log}
-use Rattle.sdd_laws.specs.All.{Frozen, frozen_for, reduced}
-use Rattle.sdd_invariants.proofs.Bools.{same_number, same_or_not}
+use Rattle.sdd_obligations.proofs.All.{Act, Answer, Bool, ClassNo, Cond, Did, DmNo, Frozen, Handed, List, Msg, None, Option, Read, Rec, Records, Redeclared, Reduce, Rows, Sends, Setting, Site, Some, Submits, Ticked, Ts, TxnNo, Use, Value, [], ap, copies, dated, eqb-true, false, frozen, frozen_at, frozen_for, head, held_for, if◌then◌else◌, inl, inr, is_answer_record as is_answer, is_at, kept, pipe, reduced, reduced_at, refl, same_number, same_or_not, sym, true, ℕ, ◌&&◌, ◌==◌, ◌∙◌, ◌∷◌, ◌≡◌, ◌⊎◌}
 use Rattle.sdd_obligations.proofs.ShippedAnswered.{uses_at_head}
 use Rattle.sdd_obligations.proofs.Places.{IsAnswerAt}
 use Rattle.sdd_obligations.proofs.Snapped.{answer_more}
-use Rattle.sdd_obligations.specs.Contents.{held_for, kept}
+use Rattle.sdd_invariants.specs.site_module.SiteLog.{Entry, Log}
 
 -- rows are held for the attempt
 abbrev pub IsFor : ℕ → Option Frozen → Type 0
@@ -124,8 +117,7 @@ answer_keeps s c ts txn attempt dm sends log k (Some (Read t of tx n conds uses)
       attempt = attempt;
       dm = dm;
       sends = sends;
-      before =
-          log;
+      before = log;
       is = refl;
       at = ap (is_at ts) e ∙ ap (λ n. n == ts) mine ∙ same_number ts;
     };

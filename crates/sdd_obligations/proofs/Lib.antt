@@ -1,3 +1,4 @@
+mod All
 pub mod AllFacts
 pub mod Answered
 pub mod Answering

@@ -1,26 +1,12 @@
 -- How many marks there are within the limits, how many messages on a link, and how many messages and transactions a site
 -- was handed and given.
-use Rattle.std.specs.Prelude.{nat_lt}
-use Rattle.std.proofs.Common.{ℕ, ◌&&◌, ◌+◌, ◌++◌, ◌∷◌, ◌≡◌, ◌≤◌, Bool, List, None, Option, Some, [], ap, arith, false, if◌then◌else◌, length, refl, subst, suc, sym, true}
-use Rattle.std.proofs.lemmas.Bool.Decides.{nat_tests}
-use Rattle.std.proofs.lemmas.List.{length-append}
-use Rattle.sdd_invariants.specs.All.{Call, D, Did, Does, Entry, Event, Force, Given, Hand, Handed, IsAllowed, IsLawful, IsPermitted, IsWithin, Link, Log, MAX_LINK_MESSAGES, MAX_RUN_EVENTS, Mark, Msg, Notes, Puts, Redeclared, Redeclares, Round, Site, Submit, Submits, Submitted, T, Tick, Ticked, Txn, U, calls_of, force_at, forced, given_to, handed, hands, link, local_of, made, made_by_mark, marks, put_by, puts, puts_past, redeclares, same_site, sends_of_act, sent, sites, submits, turned, txn_at, with_made}
-use Rattle.sdd_invariants.specs.net.Links.{put}
-use Rattle.sdd_invariants.proofs.Bools.{and_left, and_right, both, if_way, neither_left, neither_right}
-use Rattle.sdd_invariants.proofs.Sites.{site_is, site_self}
-use Rattle.sdd_invariants.proofs.Fair.{IsMarkEntry, allowed_mark}
-use Rattle.sdd_invariants.proofs.InOrder.{allowed_hand, delivered_within, handed_le}
-use Rattle.sdd_invariants.proofs.Made.{local_step}
-use Rattle.sdd_invariants.proofs.Sent.{sent_grows}
-use Rattle.sdd_obligations.specs.Bounds.{AllFewTicks}
+use Rattle.sdd_obligations.proofs.All.{AllFewTicks, Bool, Call, D, Did, Does, Entry, Event, Force, Given, Hand, Handed, IsAllowed, IsLawful, IsMarkEntry, IsPermitted, IsWithin, Link, List, Log, MAX_LINK_MESSAGES, MAX_RUN_EVENTS, Mark, Msg, None, Notes, Option, Puts, Redeclared, Redeclares, Round, Site, Some, Submit, Submits, Submitted, T, Tick, Ticked, Txn, U, [], allowed_hand, allowed_mark, ap, arith, both, calls_of, delivered_within, false, force_at, forced, given_to, handed, handed_le, hands, if_way, if◌then◌else◌, length, length-append, link, local_of, local_step, made, made_by_mark, marks, neither_left, neither_right, not_past, nothing_if, put_by, puts, puts_past, redeclares, refl, same_link, same_site, sends_of_act, sent, sent_grows, site_self, sites, submits, suc, true, turned, txn_at, with_made, ℕ, ◌&&◌, ◌++◌, ◌+◌, ◌∷◌, ◌≡◌, ◌≤◌}
 use Rattle.sdd_obligations.proofs.OfNext.{IsThere, from_there, of_next}
 use Rattle.sdd_obligations.proofs.Sums.{total, total_raise, total_up}
+use Rattle.sdd_invariants.specs.net.Links.{put}
 use Rattle.sdd_invariants.specs.site_module.SiteLog as site
 
 -- marks and messages within the limits
-
-not_past : (n k : ℕ) → nat_lt n k ≡ false → k ≤ n
-not_past n k e = grind (arith, nat_tests)
 
 pub marks_few : (log : Log) → IsWithin log → marks log ≤ MAX_RUN_EVENTS
 marks_few [] h = omega arith
@@ -42,10 +28,6 @@ put_within n true d m l f h = let e = length-append l.there.sent (m ∷ []) in l
 put_within n false true m l f h = h
 put_within n false false m l f h = h
 
-same_link : (P : Site → Site → Type 0) (a b from to : Site) → (same_site a from && same_site b to) ≡ true → P from to → P a b
-same_link P a b from to e x =
-    subst (λ f. P f b) (sym (site_is a from (and_left _ _ e))) (subst (λ t. P from t) (sym (site_is b to (and_right _ _ e))) x)
-
 one_within : (at to : Site) (m : Msg) (calls : List (Call Msg)) → AllWithin calls
     → suc (length (link at to calls).there.sent) ≤ MAX_LINK_MESSAGES → AllWithin (Puts at to m ∷ calls)
 one_within at to m calls w l a b =
@@ -58,19 +40,6 @@ puts_within at [] calls w e = w
 puts_within at (s ∷ sends) calls w e =
     let l = not_past MAX_LINK_MESSAGES (suc (length (link at s.0 calls).there.sent)) (neither_left _ _ e) in
     puts_within at sends (Puts at s.0 s.1 ∷ calls) (one_within at s.0 s.1 calls w l) (neither_right _ _ e)
-
-nothing_if : (b : Site) (c : Bool) (o : Option site.Entry) → put_by b o ≡ [] → put_by b (if c then o else None) ≡ []
-nothing_if b true o e = e
-nothing_if b false o e = refl
-
-nothing_forced : (a b : Site) (force : Force) (t : ℕ) → put_by b (forced a force t) ≡ []
-nothing_forced U b force t = refl
-nothing_forced (T n) b force t = refl
-nothing_forced (D d) b force t = refl
-
-nothing_given : (b : Site) (n : ℕ) (o : Option Txn) → put_by b (given_to n o) ≡ []
-nothing_given b n None = refl
-nothing_given b n (Some t) = refl
 
 nothing_marked : (a b : Site) (e : Event) → put_by b (made_by_mark a e) ≡ []
 nothing_marked a b (Tick t n) = nothing_if b (same_site a (T t)) (Some (Ticked n)) refl

@@ -1,32 +1,16 @@
 -- What an act sends goes along links of the network.
-use Rattle.std.specs.List.{All}
-use Rattle.std.specs.Prelude.{nat_le, slice_index_or}
-use Rattle.std.proofs.Common.{ℕ, ◌++◌, ◌==◌, ◌∙◌, ◌∷◌, ◌≡◌, ◌≤◌, Bool, List, None, Option, Some, [], ap, arith, cond, false, filter, if◌then◌else◌, map, refl, slice_get, subst, suc, sym, true, zero}
-use Rattle.std.proofs.lemmas.Bool.Decides.{nat_tests}
-use Rattle.std.proofs.lemmas.List.Elements.{All-head, All-tail}
-use Rattle.sdd_invariants.specs.All.{Act, AllLinked, Attempt, Bases, Change, Class, ClassView, Cond, D, Did, DmNo, Does, Done, Each, Fetch, Given, Hand, Handed, Hold, Home, IsDueAt, IsLawful, IsPermitted, IsServedClass, IsWhole, Log, Msg, Null, Open, Processes, Queued, Read, Records, Reduce, Refuses, Sends, Setting, Ship, Site, T, TmNo, U, View, Waits, WasAsked, Write, active, are_linked, attempt_due, base_of, class_no, commit_act, dm_no, effect, first_send, head, head_of, home_of, is_asked_of, is_link, is_over, is_site, local_of, modules_asked, numbers_to, opens, or_else, queue, sends_of_act, setting_of, sites, source_of, start_at, start_read, time_at, tm_no, view_of, write_to}
-use Rattle.sdd_invariants.specs.dm.Due as dm
+use Rattle.sdd_obligations.proofs.All.{Act, All, All-head, All-tail, AllFewTicks, AllLinked, Attempt, Bases, Bool, Change, Class, ClassView, Cond, D, DmNo, Does, Done, Fetch, Given, Hand, Hold, Home, IsAnAsk, IsDueAt, IsLawful, IsPermitted, IsServedClass, IsWhole, List, Log, Msg, None, Null, Open, Option, Processes, Queued, Read, Reduce, Refuses, Sends, Setting, Ship, Site, Some, T, TmNo, U, View, Waits, WasAsked, Write, [], active, ap, are_linked, arith, attempt_due, base_of, both, class_no, commit_act, cond, counts_tm, dm_no, effect, false, filter, first_send, head, head_of, home_of, if◌then◌else◌, in_filtered, in_mapped, in_range, is_asked_of, is_link, is_over, is_site, link_back, local_of, map, modules_asked, nat_le, numbers_to, opens, or_else, place_of_hand, queue, refl, sends_of_act, setting_of, sites, slice_get, slice_index_or, source_of, start_at, start_read, subst, suc, sym, t_fair, time_at, tm_no, true, u_fair, view_of, was_handed, write_to, zero, ℕ, ◌++◌, ◌==◌, ◌∙◌, ◌∷◌, ◌≡◌, ◌≤◌}
+use Rattle.sdd_obligations.proofs.OfNext.{IsThere, OfNext, d_of_sites, link_of_links, of_next, t_of_sites}
+use Rattle.sdd_obligations.proofs.Going.{in_made, was_asked_of}
+use Rattle.sdd_obligations.proofs.Near.{AllNear, HasNear, IsNear, SendsNear, active_near, modules_near}
+use Rattle.sdd_obligations.proofs.Submitting.{le_true}
 use Rattle.sdd_invariants.specs.dm.declared.step.Step.{Step}
+use Rattle.sdd_invariants.specs.dm.Due as dm
 use Rattle.sdd_invariants.specs.tm.Due as tm
 use Rattle.sdd_invariants.specs.tm.Views as tm_views
 use Rattle.sdd_invariants.specs.umod.Due as um
 use Rattle.sdd_invariants.specs.umod.Views as um_views
-use Rattle.sdd_invariants.proofs.Serving.{counts_tm}
-use Rattle.sdd_invariants.proofs.net.Directions.{link_back}
-use Rattle.sdd_invariants.proofs.PutBy.{was_handed}
-use Rattle.sdd_invariants.proofs.Bools.{both}
-use Rattle.sdd_invariants.proofs.Lists.{in_filtered, in_mapped, in_range}
-use Rattle.sdd_invariants.proofs.Fair.{t_fair, u_fair}
-use Rattle.sdd_invariants.proofs.Made.{place_of_hand}
-use Rattle.sdd_obligations.specs.Bounds.{AllFewTicks}
-use Rattle.sdd_obligations.proofs.OfNext.{IsThere, OfNext, d_of_sites, link_of_links, of_next, t_of_sites}
-use Rattle.sdd_obligations.specs.Routes.{IsAnAsk}
-use Rattle.sdd_obligations.proofs.Going.{in_made, was_asked_of}
-use Rattle.sdd_obligations.proofs.Near.{AllNear, HasNear, IsNear, SendsNear, active_near, modules_near}
 use Rattle.sdd_invariants.specs.site_module.SiteLog as site
-
-le_true : (a b : ℕ) → a ≤ b → nat_le a b ≡ true
-le_true a b l = grind (arith, nat_tests)
 
 -- the ends of links
 
@@ -61,7 +45,7 @@ one_linked : (g : Given) (at to : Site) (m : Msg) (hand : Option ℕ) → Links 
 one_linked g at to m hand l = (l, tt)
 
 -- a site that a message was handed from is linked
-lawful_part : (g : Given) (later log : Log) → IsLawful g (later ++ log) → IsLawful g log
+pub lawful_part : (g : Given) (later log : Log) → IsLawful g (later ++ log) → IsLawful g log
 lawful_part g [] log h = h
 lawful_part g (e ∷ later) log h = lawful_part g later log h.1
 
@@ -224,7 +208,7 @@ answer_linked g d h k o (Reduce ts class u col vs) act l e = linked_some g (D d)
 answer_linked g d h k o (Ship ts class) act l e = linked_some g (D d) _ act (l, tt) e
 answer_linked g d h k o _ act l e = cc
 
-first_there : (os : List Open) (o : Open) → head_of os ≡ Some o → slice_get os 0 ≡ Some o
+pub first_there : (os : List Open) (o : Open) → head_of os ≡ Some o → slice_get os 0 ≡ Some o
 first_there [] o e = cc
 first_there (x ∷ os) o e = e
 

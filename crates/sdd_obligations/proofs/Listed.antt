@@ -1,17 +1,5 @@
 -- Members of lists that are put in order.
-use Rattle.std.proofs.Common.{ℕ, ◌==◌, ◌≡◌, inl, inr, true, List, [], ◌∷◌, ap, refl, ◌∙◌, subst}
-use Rattle.std.specs.List.{AllByRecursion}
-use Rattle.std.proofs.lemmas.List.Elements.{All-nil, recursion_from_All}
-use Rattle.sdd_invariants.specs.All.{ascending, contains}
-use Rattle.sdd_exec.specs.Choices.{Has}
-use Rattle.sdd_invariants.proofs.lang.ReadSetDecides.{ascending_back}
-use Rattle.sdd_invariants.proofs.lang.Sets.{All-ascending}
-use Rattle.sdd_invariants.proofs.Bools.{or_left, or_right, same_number}
-
-pub each_of : {A : Type 0} (P : A → Type 0) (xs : List A) (x : A) → AllByRecursion P xs → Has xs x → P x
-each_of P [] x all h = absurd h
-each_of P (y ∷ ys) x all (inl e) = subst P e all.0
-each_of P (y ∷ ys) x all (inr h) = each_of P ys x all.1 h
+use Rattle.sdd_obligations.proofs.All.{All-ascending, All-nil, AllByRecursion, Has, List, [], ap, ascending, ascending_back, contains, each_of, inl, inr, or_left, or_right, recursion_from_All, refl, same_number, true, ℕ, ◌==◌, ◌∙◌, ◌∷◌, ◌≡◌}
 
 pub all_of : {A : Type 0} (P : A → Type 0) (xs : List A) → ((x : A) → Has xs x → P x) → AllByRecursion P xs
 all_of P [] h = tt

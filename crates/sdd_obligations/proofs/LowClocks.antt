@@ -1,17 +1,9 @@
 -- The clocks of a run whose schedule has few events, and that has few attempts: ticks come from the schedule alone, and each
 -- Start is an attempt.
-use Rattle.std.specs.List.{cons_option, flat_map}
-use Rattle.std.specs.Prelude.{filter_map, replicate}
-use Rattle.std.proofs.Common.{ℕ, ◌*◌, ◌+◌, ◌++◌, ◌<◌, ◌^◌, ◌∙◌, ◌∷◌, ◌≡◌, ◌≤◌, Bool, List, None, Some, [], ap, arith, cond, false, length, map, refl, subst, suc, true, zero}
-use Rattle.std.proofs.Math.Nat.{mul-le-mul_right, suc-mul}
-use Rattle.sdd_invariants.specs.All.{Act, Call, Deliver, Does, Down, Event, Given, Hand, History, IsLawful, Log, Lose, MAX_EVENTS, MAX_TICKS, Mark, Msg, Notes, Nothing, Rec, Records, Redeclare, Redeclares, Repeat, Resend, Round, Settle, Site, Start, Submit, Submitted, Tick, Up, after_mark, all_links, calls_of, clock, from_event, history, in_flight, left, link, local_of, mark_from, mark_of, marks, quiet, records_of_act, resends_now, round, tail_of, txn_no}
-use Rattle.sdd_invariants.specs.history.declared.record.Rec.TheVariants.{Submit as Submission}
-use Rattle.sdd_laws.specs.All.{Attempt, attempt_of, attempts, placed}
-use Rattle.sdd_invariants.proofs.logs.Grows.{mark_is_next}
-use Rattle.sdd_obligations.specs.Bounds.{AllFewTicks, IsSmall}
-use Rattle.sdd_obligations.specs.Heights.{height, starts_by, ticks_of}
+use Rattle.sdd_obligations.proofs.All.{Act, AllFewTicks, Bool, Call, Deliver, Does, Down, Event, Given, Hand, History, IsLawful, IsSmall, List, Log, Lose, MAX_EVENTS, MAX_TICKS, Mark, Msg, None, Notes, Nothing, Rec, Records, Redeclare, Redeclares, Repeat, Resend, Round, Settle, Site, Some, Start, Submission, Submit, Submitted, Tick, Up, [], after_mark, all_links, ap, arith, attempt_of, attempts, calls_of, clock, cond, cons_option, false, filter_map, flat_map, from_event, height, history, in_flight, left, length, link, local_of, map, mark_from, mark_is_next, mark_of, marks, mul-le-mul_right, placed, quiet, records_of_act, refl, replicate, resends_now, round, starts_by, subst, suc, suc-mul, tail_of, ticks_of, trans_le, true, txn_no, zero, ℕ, ◌*◌, ◌++◌, ◌+◌, ◌<◌, ◌^◌, ◌∙◌, ◌∷◌, ◌≡◌, ◌≤◌}
 use Rattle.sdd_obligations.proofs.Early.{is_under}
 use Rattle.sdd_obligations.proofs.OfNext.{of_next}
+use Rattle.sdd_laws.specs.All.{Attempt}
 
 -- the ticks of events
 
@@ -193,9 +185,6 @@ starts_are (Hand a b n m ∷ log) = starts_are log
 
 low : (c h t s u v : ℕ) → c ≤ h → h ≡ t + s → t + u ≤ v → v ≤ MAX_EVENTS * MAX_TICKS → s ≤ 2 ^ 22 → c < 2 ^ 39
 low c h t s u v a b d e f = omega (arith, a, b, d, e, f)
-
-trans_le : (x y z : ℕ) → x ≤ y → y ≤ z → x ≤ z
-trans_le x y z a b = omega (arith, a, b)
 
 pub clock_low : (g : Given) (log : Log) (at : Site) → IsSmall g → IsLawful g log → length g.events ≤ MAX_EVENTS
     → length (attempts (history log)) ≤ 2 ^ 22 → (clock at (local_of g at log)).ticks < 2 ^ 39

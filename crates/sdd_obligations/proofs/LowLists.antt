@@ -1,10 +1,5 @@
 -- Times and messages below a height, in lists.
-use Rattle.std.specs.List.{cons_option}
-use Rattle.std.specs.Prelude.{filter_map, fold}
-use Rattle.std.proofs.Common.{ℕ, ◌++◌, ◌∷◌, ◌≡◌, ◌≤◌, Bool, List, None, Option, Some, [], arith, cond, false, if◌then◌else◌, map, refl, slice_get, subst, suc, true, zero}
-use Rattle.sdd_invariants.specs.All.{AllLe, Cond, FragNo, Msg, Write, greatest, or_zero, raised, touches, write_time}
-use Rattle.sdd_invariants.proofs.Lists.{le_up}
-use Rattle.sdd_obligations.specs.Heights.{AllLow, IsLow, times_of, top}
+use Rattle.sdd_obligations.proofs.All.{AllLe, AllLow, Bool, Cond, FragNo, IsLow, List, Msg, None, Option, Some, Write, [], arith, cond, cons_option, false, filter_map, fold, greatest, if◌then◌else◌, le_up, map, or_zero, raised, refl, slice_get, subst, suc, times_of, top, touches, true, write_time, zero, ℕ, ◌++◌, ◌∷◌, ◌≡◌, ◌≤◌}
 
 pub low_up : (h k : ℕ) (m : Msg) → h ≤ k → IsLow h m → IsLow k m
 low_up h k m l i = le_up (top h) (top k) (times_of m) (omega arith) i

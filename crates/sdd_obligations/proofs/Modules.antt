@@ -1,20 +1,8 @@
 -- Lists of modules: what is sent to each of them, and the uses that are read there.
-use Rattle.std.specs.List.{cons_option}
-use Rattle.std.specs.Prelude.{filter_map}
-use Rattle.std.proofs.Common.{ℕ, ◌++◌, ◌<◌, ◌==◌, ◌||◌, ◌∙◌, ◌∷◌, ◌≡◌, ◌⊎◌, Bool, List, None, Some, [], ap, arith, cond, false, filter, if◌then◌else◌, inl, inr, map, not, refl, subst, sym, true}
-use Rattle.std.proofs.lemmas.Bool.{eqb-true}
-use Rattle.sdd_invariants.specs.All.{AllGt, D, IsStrict, Msg, contains, dm_no, module_read, to_all, to_site, uses_at, without}
-use Rattle.sdd_invariants.proofs.Bools.{differ, or_left, or_right, same_number, same_or_not}
+use Rattle.sdd_obligations.proofs.All.{AllGt, Bool, D, IsStrict, List, Msg, None, Some, [], ap, arith, cond, cons_option, contains, dm_no, either, eqb-true, false, filter, filter_map, if◌then◌else◌, inl, inr, map, module_read, not, not_same, or_left, or_right, refl, same_number, same_or_not, subst, sym, to_all, to_site, true, uses_at, without, ℕ, ◌++◌, ◌<◌, ◌==◌, ◌||◌, ◌∙◌, ◌∷◌, ◌≡◌}
 
-pub not_same : (a b : ℕ) → (a == b) ≡ false → (b == a) ≡ false
-not_same a b e = elim (same_or_not b a) [ inl p ↦ absurd (differ a b e (sym p)) | inr p ↦ p ]
-
-below_not : (a b : ℕ) → a < b → (a == b) ≡ false
+pub below_not : (a b : ℕ) → a < b → (a == b) ≡ false
 below_not a b l = elim (same_or_not a b) [ inl p ↦ absurd (omega (arith, p, l)) | inr p ↦ p ]
-
-either : (a b : Bool) → (a || b) ≡ true → (a ≡ true) ⊎ (b ≡ true)
-either true b e = inl refl
-either false b e = inr e
 
 -- a list without a number
 
@@ -127,17 +115,13 @@ reading_reads (m ∷ ms) u d e =
       | true ↦ λ p q. elim (either (m.0 == d) (contains (reading ms u) d) q) [
         | inl r ↦ (or_left (m.0 == d) (contains (firsts ms) d) r, contains_left (filter (λ (u : ℕ). m.0 == d) m.1) (uses_at ms d) u (reads_here d u m r p))
         | inr r ↦ (let i = reading_reads ms u d r in (
-          or_right (m.0 ==
-              d) (contains (firsts ms) d) i.0,
-          contains_right (filter (λ (u : ℕ). m.0 == d) m.1)
-              (uses_at ms d) u i.1,
+          or_right (m.0 == d) (contains (firsts ms) d) i.0,
+          contains_right (filter (λ (u : ℕ). m.0 == d) m.1) (uses_at ms d) u i.1,
         ))
       ]
       | false ↦ λ p q. (let i = reading_reads ms u d q in (
-        or_right (m.0 ==
-            d) (contains (firsts ms) d) i.0,
-        contains_right (filter (λ (u : ℕ). m.0 == d) m.1)
-            (uses_at ms d) u i.1,
+        or_right (m.0 == d) (contains (firsts ms) d) i.0,
+        contains_right (filter (λ (u : ℕ). m.0 == d) m.1) (uses_at ms d) u i.1,
       ))
     ] refl e
 

@@ -1,20 +1,7 @@
 -- An attempt sends to data modules of the catalogue alone.
-use Rattle.std.specs.BTreeSet.{insert_key}
-use Rattle.std.specs.List.{All, cons_option, range_with_len}
-use Rattle.std.specs.Ordering.{nat_cmp}
-use Rattle.std.specs.Prelude.{filter_map, find, fold, option_map}
-use Rattle.std.proofs.Common.{ℕ, ◌&&◌, ◌++◌, ◌+◌, ◌-◌, ◌==◌, ◌∷◌, ◌≡◌, ◌≤◌, Bool, Equal, Greater, Less, List, None, Option, Some, [], arith, cond, false, if◌then◌else◌, inl, inr, length, map, refl, subst, suc, sym, true, zero}
-use Rattle.std.specs.Cmp.{nat_cmp_is}
-use Rattle.std.proofs.Math.Decide.{dec_le}
-use Rattle.std.proofs.lemmas.List.{get_or_past}
-use Rattle.std.proofs.lemmas.List.Elements.{All-get_or, All-nil}
-use Rattle.sdd_invariants.proofs.catalog.Sound.{found_in_all}
-use Rattle.sdd_invariants.specs.All.{Act, Asking, Attempt, Catalogue, Class, D, Did, Each, Exchange, Fetching, Handed, IsFair, IsServedClass, IsStep, IsWhole, Move, Msg, Over, Phase, Queued, Reading, Ready, Redeclared, Reduced, Reducing, Rows, Setting, Shipping, Site, Step, Submits, T, Ticked, U, Values, active, active_handed, active_sent, after_hand, after_send, answered, ascending, asks_rows, class_at, contains, counted, counts_for, dm_no, fetches, fetches_from, goes_on, head_of, lacking, module_read, modules_asked, modules_of, move_at, next_move, next_stamp, numbers_to, phase_ends, queue, reads_at, reduces, rejects, sends_of_act, ships, start_at, start_read, started, tail_of, tm_no, to_all, with_use, with_values, without}
+use Rattle.sdd_obligations.proofs.All.{Act, All, All-get_or, All-nil, Asking, Attempt, Bool, Catalogue, Class, D, Did, Each, Equal, Exchange, Fetching, Greater, Handed, IsFair, IsServedClass, IsStep, IsWhole, Less, List, Move, Msg, None, Option, Over, Phase, Queued, ReadPlace, Reading, Ready, Redeclared, Reduced, Reducing, Rows, Setting, Shipping, Site, Some, Step, Submits, T, Ticked, U, Values, [], active, active_handed, active_sent, after_hand, after_send, answered, arith, ascending, asks_rows, class_at, cond, cons_option, contains, counted, counts_for, dec_le, dm_no, false, fetches, fetches_from, filter_map, find, fold, found_in_all, get_or_past, goes_on, head_of, if_way, if◌then◌else◌, inl, inr, insert_key, lacking, length, lower_same_higher, map, module_read, modules_asked, modules_of, move_at, nat_cmp, nat_cmp_is, next_move, next_stamp, numbers_to, option_map, phase_ends, queue, range_with_len, reads_at, reduces, refl, rejects, sends_of_act, ships, start_at, start_read, started, step_way, subst, suc, sym, tail_of, tm_no, to_all, true, with_use, with_values, without, zero, ℕ, ◌&&◌, ◌++◌, ◌+◌, ◌-◌, ◌==◌, ◌∷◌, ◌≡◌, ◌≤◌}
 use Rattle.sdd_invariants.specs.catalog.Numbers.{IsServed}
-use Rattle.sdd_invariants.specs.catalog.declared.resolved.Read.{Read as ReadPlace}
 use Rattle.sdd_invariants.specs.site_module.SiteLog.{Log}
-use Rattle.sdd_invariants.proofs.Active.{step_way}
-use Rattle.sdd_invariants.proofs.Bools.{if_way, lower_same_higher}
 
 -- numbers from 1 to n
 
@@ -73,18 +60,15 @@ on_near n ts c x (q ∷ rest) done h =
     elim (next_move q.conds (counts_for x.counts q) done) as (λ o. IsNearBy n
     (elim o as (λ _. Exchange) [
       | None ↦ goes_on ts c x rest []
-      | Some m ↦ fetches ts c
-          (move_at q.before m) (record x { left = q ∷ rest; done = done ++ m.step ∷ [] })
+      | Some m ↦ fetches ts c (move_at q.before m) (record x { left = q ∷ rest; done = done ++ m.step ∷ [] })
     ])) [
       | None ↦ on_near n ts c x rest [] h
       | Some m ↦ fetches_near n ts c (move_at q.before m) (record x {
         left = q ∷ rest;
-        done =
-            done ++ m.step ∷ [];
+        done = done ++ m.step ∷ [];
       }) (with_use x (move_at q.before m).source.part)
           (use_near n (move_at q.before m).source.part x.modules h.modules) (record {
-            modules =
-                h.modules;
+            modules = h.modules;
             sends = h.sends;
           })
     ]
@@ -110,24 +94,20 @@ hand_near n ts c d (Ready t k counts) x h =
     (record { modules = h.modules; sends = h.sends })
 hand_near n ts c d (Values t k u vs) x h =
     answered_near n ts c d ((t.0 == ts) && (k.0 == c)) x (record x {
-      union =
-          with_values x.union vs;
+      union = with_values x.union vs;
       values = x.values + length vs;
     }) h (record {
       modules = h.modules;
-      sends =
-          h.sends;
+      sends = h.sends;
     })
 hand_near n ts c d (Reduced t k u r) x h =
     answered_near n ts c d ((t.0 == ts) && (k.0 == c)) x (record x {
-      counts =
-          counted d ((u, r) ∷ []) x.counts;
+      counts = counted d ((u, r) ∷ []) x.counts;
     }) h (record { modules = h.modules; sends = h.sends })
 hand_near n ts c d (Rows t k rows) x h =
     answered_near n ts c d ((t.0 == ts) && (k.0 == c)) x (record x {
       found = x.found ++ rows;
-      rows =
-          x.rows + length rows;
+      rows = x.rows + length rows;
     }) h (record { modules = h.modules; sends = h.sends })
 hand_near n ts c d _ x h = h
 

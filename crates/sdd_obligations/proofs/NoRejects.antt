@@ -1,13 +1,5 @@
 -- A READY or REJECT goes to the site that runs its class; no REJECT and no ASK goes to U.
-use Rattle.std.proofs.Common.{ℕ, ◌-◌, ◌==◌, ◌∙◌, ◌∷◌, ◌≡◌, ◌≤◌, Bool, List, Some, [], ap, arith, cond, false, filter, inl, inr, length, refl, slice_get, subst, suc, sym, true, zero}
-use Rattle.std.proofs.lemmas.List.Elements.{All-get_or}
-use Rattle.sdd_invariants.specs.All.{Catalogue, ClassNo, Cond, D, DmNo, Does, Given, IsClassHere, IsPermitted, IsReadyBy, IsRejectBy, IsServedClass, IsWhole, Log, Msg, Read, Ready, Reject, Setting, Site, T, Ts, TxnNo, U, Use, View, class_at, head, head_of, home, home_of, is_verdict, local_of, numbers_to, pipe_at, puts_to, runs, setting_of, source_of, spoiler, spoils, tm_no, view_of}
-use Rattle.sdd_invariants.proofs.Undeclared.{never_spoilt, read_classes}
-use Rattle.sdd_invariants.proofs.Answered.{put_in_by_d}
-use Rattle.sdd_invariants.proofs.Installed.{class_number}
-use Rattle.sdd_invariants.proofs.Bools.{not_both, not_zero, same_number, same_or_not}
-use Rattle.sdd_invariants.proofs.Lists.{in_filtered, in_range}
-use Rattle.sdd_invariants.proofs.Made.{permitted_before}
+use Rattle.sdd_obligations.proofs.All.{All-get_or, Bool, Catalogue, ClassNo, Cond, D, DmNo, Does, Given, IsClassHere, IsPermitted, IsReadyBy, IsRejectBy, IsServedClass, IsWhole, List, Log, Msg, Read, Ready, Reject, Setting, Site, Some, T, Ts, TxnNo, U, Use, View, [], ap, arith, class_at, class_number, cond, false, filter, first_there, head, home, home_of, in_filtered, in_range, inl, inr, is_verdict, length, local_of, never_spoilt, not_both, not_zero, numbers_to, permitted_before, pipe_at, put_in_by_d, puts_to, read_classes, refl, runs, same_number, same_or_not, setting_of, slice_get, source_of, spoiler, spoils, subst, suc, sym, tm_no, true, view_of, zero, ℕ, ◌-◌, ◌==◌, ◌∙◌, ◌∷◌, ◌≡◌, ◌≤◌}
 use Rattle.sdd_obligations.proofs.HoldsFit.{at_place}
 use Rattle.sdd_obligations.proofs.Piping.{source_is_home}
 use Rattle.sdd_obligations.proofs.Verdicts.{in_class, two_same}
@@ -64,21 +56,15 @@ runs_place g c l m =
 class_served : (cat : Catalogue) (c : ℕ) → IsWhole cat → 1 ≤ c → c ≤ length cat.classes → IsServedClass cat (class_at cat c)
 class_served cat c w l m = All-get_or (IsServedClass cat) cat.classes (c - 1) (record {
   name = [];
-  tm =
-      tm_no 0;
+  tm = tm_no 0;
   reads = [];
   writes = [];
 }) (omega (arith, l, m)) w.classes
 
-first_there : (ds : List Cond) (q : Cond) → head_of ds ≡ Some q → slice_get ds 0 ≡ Some q
-first_there [] q e = cc
-first_there (d ∷ ds) q e = e
-
 -- so no REJECT goes to U
 
 not_spoilt : (g : Given) (d : DmNo) (log : Log) (ts : Ts) (k : ClassNo) (txn : TxnNo) (n : ℕ) (ds : List Cond) (us : List Use) (q : Cond) → IsWhole g.catalogue
-    → 1 ≤ d.0 → d.0 ≤ g.catalogue.dms → IsPermitted g log
-    → head (pipe_at g 0 d log) ≡ Some (Read ts k txn n ds us)
+    → 1 ≤ d.0 → d.0 ≤ g.catalogue.dms → IsPermitted g log → head (pipe_at g 0 d log) ≡ Some (Read ts k txn n ds us)
     → spoiler (view_of (setting_of g (D d)) (local_of g (D d) log)) ds ≡ Some q → ⊥
 not_spoilt g d log ts k txn n ds us q w l m h e f =
     let v : View = view_of (setting_of g (D d)) (local_of g (D d) log) in

@@ -1,9 +1,6 @@
 -- A data module starts nothing.
-use Rattle.std.proofs.Common.{ℕ, ◌≡◌, None, Option, Some, refl, subst}
-use Rattle.sdd_invariants.specs.All.{Act, ClassView, Fetch, Home, IsDue, Msg, Null, Open, Processes, Read, Reduce, Refuses, Ship, View, Waits, Write, act_by, act_where, answer_of, answer_to, by_head, by_open, head, head_of, head_step, is_asked_of}
-use Rattle.std.specs.Prelude.{filter}
+use Rattle.sdd_obligations.proofs.All.{Act, ClassView, Fetch, Home, IsDue, Msg, None, Null, Open, Option, Processes, Read, Reduce, Refuses, Ship, Some, View, Waits, Write, act_by, act_where, answer_of, answer_to, by_head, by_open, filter, head, head_of, head_step, is_asked_of, refl, starts_by, subst, ℕ, ◌≡◌}
 use Rattle.sdd_invariants.specs.dm.declared.step.Step.{Step}
-use Rattle.sdd_obligations.specs.Heights.{starts_by}
 
 no_start : (x a : Act) → starts_by x ≡ 0 → Some x ≡ Some a → starts_by a ≡ 0
 no_start x a h e = let p : x ≡ a = cc in subst (λ y. starts_by y ≡ 0) p h

@@ -1,19 +1,6 @@
 -- What the next entry of a log is, beyond that it is allowed: it concerns sites and links of the network, and an event
 -- comes from those that were given or from a round.
-use Rattle.std.specs.List.{cons_option, flat_map, range_with_len}
-use Rattle.std.specs.Prelude.{IsTrue, filter_map, nat_le, replicate}
-use Rattle.std.proofs.Common.{ℕ, ◌&&◌, ◌++◌, ◌+◌, ◌-◌, ◌∷◌, ◌≡◌, ◌≤◌, Bool, List, None, Option, Some, [], arith, cond, false, if◌then◌else◌, inl, inr, map, refl, slice_get, subst, suc, sym, true, zero}
-use Rattle.std.proofs.lemmas.Bool.Decides.{nat_tests}
-use Rattle.sdd_invariants.specs.All.{Act, Call, D, Deliver, DmNo, Does, Down, Entry, Event, Given, Hand, IsLawful, Log, Lose, MAX_TICKS, Mark, Msg, Notes, Redeclare, Redeclares, Repeat, Resend, Round, Settle, Site, Submit, Submitted, T, Tick, TmNo, U, Up, after_mark, all_links, calls_of, delivered, dm_no, does_at, due_by, from_event, greatest_bound, hand_due, hand_number, hand_on, hand_with, handed, in_flight, is_link, is_site, left, link, link_of, links, mark_due, mark_from, mark_of, message_at, next, next_at, next_number, note_if, quiet, resends_now, round, site_due, sites, tail_of, takes_part, tm_no}
-use Rattle.sdd_invariants.proofs.site_module.Finding.{found_at, one_of}
-use Rattle.sdd_invariants.proofs.net.Directions.{link_parts}
-use Rattle.sdd_invariants.proofs.net.Lists.{All-at}
-use Rattle.sdd_invariants.proofs.net.Rounds.{links_exist}
-use Rattle.sdd_invariants.proofs.Holding.{at_map}
-use Rattle.sdd_invariants.proofs.Bools.{and_left, and_right}
-use Rattle.sdd_invariants.proofs.Lists.{in_either, in_left, in_mapped, in_range, in_right}
-use Rattle.sdd_obligations.specs.Bounds.{AllFewTicks}
-use Rattle.sdd_obligations.specs.Heights.{ticks_of}
+use Rattle.sdd_obligations.proofs.All.{Act, All-at, AllFewTicks, Bool, Call, D, Deliver, DmNo, Does, Down, Entry, Event, Given, Hand, IsLawful, IsTrue, List, Log, Lose, MAX_TICKS, Mark, Msg, None, Notes, Option, Redeclare, Redeclares, Repeat, Resend, Round, Settle, Site, Some, Submit, Submitted, T, Tick, TmNo, U, Up, [], after_mark, all_links, and_left, and_right, arith, at_map, calls_of, cond, cons_option, delivered, dm_no, does_at, due_by, false, filter_map, flat_map, found_at, from_event, greatest_bound, hand_due, hand_number, hand_on, hand_with, handed, if◌then◌else◌, in_either, in_flight, in_left, in_mapped, in_range, in_right, inl, inr, is_link, is_site, le_is, left, link, link_of, link_parts, links, links_exist, map, mark_due, mark_from, mark_of, message_at, nat_le, next, next_at, next_number, note_if, one_of, quiet, range_with_len, refl, replicate, resends_now, round, site_due, sites, slice_get, subst, suc, sym, tail_of, takes_part, ticks_of, tm_no, true, zero, ℕ, ◌&&◌, ◌++◌, ◌+◌, ◌-◌, ◌∷◌, ◌≡◌, ◌≤◌}
 use Rattle.sdd_obligations.proofs.Sums.{range_at}
 
 abbrev pub IsThere : {A : Type 0} → List A → A → Type 0
@@ -198,9 +185,6 @@ d_of_sites tms dms d (suc k, e) =
     ]
 
 -- a site that exists is there, and so are the ends of a link
-
-le_is : (a b : ℕ) → nat_le a b ≡ true → a ≤ b
-le_is a b e = grind (arith, nat_tests)
 
 there_in : (n k : ℕ) → (nat_le 1 k && nat_le k n) ≡ true → IsThere (range_with_len 1 n) k
 there_in n k e =

@@ -1,12 +1,7 @@
 -- Along a run each module keeps the rows of a use once.
-use Rattle.std.proofs.Common.{ℕ, Bool, inl, inr, List, subst, sym}
-use Rattle.sdd_invariants.specs.All.{Stmt}
-use Rattle.sdd_serving.specs.Reducing.{Space}
-use Rattle.sdd_serving.specs.Runs.{Stage, Runs}
-use Rattle.sdd_serving.specs.Runs.Runs.{begins, asks, tells, sends, reduces, rests}
-use Rattle.sdd_serving.specs.Runs.Stage.{Resting, Telling, Reducing}
-use Rattle.sdd_serving.proofs.Told.{KeepsOnce, reduced_once}
-use Rattle.sdd_invariants.proofs.Bools.{differ, same_or_not}
+use Rattle.sdd_obligations.proofs.All.{Bool, KeepsOnce, List, Resting, Runs, Space, Stage, Stmt, Telling, asks, differ, inl, inr, reduced_once, rests, same_or_not, sends, subst, sym, tells, ℕ}
+use Rattle.sdd_serving.specs.Runs.Runs.{begins, reduces}
+use Rattle.sdd_serving.specs.Runs.Stage.{Reducing}
 
 module _ (ds : List ℕ) (statements : List Stmt) (asked : ℕ → ℕ → Bool) (first : Space) (once : (d : ℕ) → KeepsOnce (first d)) where
   pub runs_once : (space : Space) (stage : Stage) → Runs ds statements asked first space stage → (d : ℕ) → KeepsOnce (space d)

@@ -1,9 +1,6 @@
 -- The messages that a data module has still to answer came by different hands; and lists of them.
-use Rattle.std.proofs.Common.{ℕ, ◌++◌, ◌<◌, ◌∙◌, ◌∷◌, ◌≡◌, Bool, List, Option, Some, [], ap, arith, cond, false, filter, if◌then◌else◌, is_some, map, refl, slice_get, subst, suc, sym, true, zero}
-use Rattle.sdd_invariants.specs.All.{Act, AllGt, AllLe, Arrive, Did, Handed, IsStrict, Msg, Open, Records, Redeclared, Sends, Site, Submits, Ticked, class_asked, hands, opens, opens_acted}
+use Rattle.sdd_obligations.proofs.All.{Act, AllGt, AllLe, Arrive, Bool, Did, Handed, IsStrict, List, Msg, Open, Option, Records, Redeclared, Sends, Site, Some, Submits, Ticked, [], ap, arith, class_asked, cond, false, filter, hands, if◌then◌else◌, is_some, le_join, le_up, lt_above, map, not_both, opens, opens_acted, refl, slice_get, strict_push, subst, suc, sym, true, zero, ℕ, ◌++◌, ◌<◌, ◌∙◌, ◌∷◌, ◌≡◌}
 use Rattle.sdd_invariants.specs.site_module.SiteLog.{Log}
-use Rattle.sdd_invariants.proofs.Bools.{not_both}
-use Rattle.sdd_invariants.proofs.Lists.{le_join, le_up, lt_above, strict_push}
 
 abbrev pub hands_in : List Open → List ℕ
 hands_in os = map (λ (o : Open). o.hand) os
@@ -39,12 +36,7 @@ pub record AreApart (log : Log) : Type 0 where
 
 apart_if : (b : Bool) (n : ℕ) (from : Site) (m : Msg) (os : List Open) → IsStrict (hands_in os) → AllLe n (hands_in os)
     → IsStrict (hands_in (if b then os ++ record { hand = suc n; from = from; msg = m } ∷ [] else os))
-    × AllLe (suc n) (hands_in (if b then os ++ record {
-      hand = suc n;
-      from = from;
-      msg =
-          m;
-    } ∷ [] else os))
+    × AllLe (suc n) (hands_in (if b then os ++ record { hand = suc n; from = from; msg = m } ∷ [] else os))
 apart_if true n from m os h l =
     let o : Open = record { hand = suc n; from = from; msg = m } in (
       subst IsStrict (sym (hands_push os o)) (strict_push (suc n) (hands_in os) h (lt_above n (suc n) (hands_in os) (omega arith) l)),
@@ -97,7 +89,7 @@ one_hand (x ∷ os) (suc i) (suc j) o p h e f g = one_hand os i j o p h.1 e f g
 
 -- sifting
 
-never : {A : Type 0} (b : Bool) → b ≡ true → b ≡ false → A
+pub never : {A : Type 0} (b : Bool) → b ≡ true → b ≡ false → A
 never b e f = absurd (not_both b e f)
 
 pub sift_within : {A : Type 0} (p q : A → Bool) (xs : List A) → ((j : ℕ) (x : A) → slice_get xs j ≡ Some x → q x ≡ true → p x ≡ true)

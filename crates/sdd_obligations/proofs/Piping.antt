@@ -1,13 +1,8 @@
 -- A READ, WRITE or NULL that is next to be handed over comes from the site that runs its class, in turn.
-use Rattle.std.specs.Prelude.{fold, max, slice_index_or}
-use Rattle.std.proofs.Common.{ℕ, ◌++◌, ◌-◌, ◌<◌, ◌==◌, ◌^◌, ◌∙◌, ◌∷◌, ◌≡◌, ◌≤◌, List, Some, [], ap, append_assoc, arith, false, length, map, refl, subst, suc, sym, true, zero}
-use Rattle.sdd_invariants.specs.All.{AllGe, AllLe, Class, D, DmNo, FitsClass, FitsPipe, Given, Hand, Handed, IsPermitted, IsRising, Log, Msg, Setting, Site, T, U, all_of, class_is, class_puts, goes_through, handed, home, home_of, last_time, local_of, number_of, pipe, pipe_at, piped, setting_of, source_of, time_in, time_of, tm_no}
-use Rattle.sdd_invariants.proofs.ClassOrder.{class_rises}
-use Rattle.sdd_invariants.proofs.InPipe.{in_pipe, put_at_home}
-use Rattle.sdd_invariants.proofs.Bools.{not_zero, same_number}
-use Rattle.sdd_invariants.proofs.Sites.{site_self}
+use Rattle.sdd_obligations.proofs.All.{AllGe, AllLe, Class, D, DmNo, FitsClass, FitsPipe, Given, Hand, Handed, IsPermitted, IsRising, List, Log, Msg, Setting, Site, Some, T, U, [], all_of, ap, append_assoc, arith, class_is, class_puts, class_rises, false, fold, goes_through, handed, home, home_of, in_pipe, last_time, length, local_of, map, max, not_zero, number_of, pipe, pipe_at, piped, put_at_home, refl, same_number, setting_of, site_self, slice_index_or, source_of, subst, suc, sym, time_in, time_of, tm_no, true, zero, ℕ, ◌++◌, ◌-◌, ◌<◌, ◌==◌, ◌^◌, ◌∙◌, ◌∷◌, ◌≡◌, ◌≤◌}
 use Rattle.sdd_obligations.proofs.Counting.{class_here}
 use Rattle.sdd_obligations.proofs.Handing.{IsHanded}
+use Rattle.sdd_obligations.proofs.Under.{max_le as max_of}
 
 -- the site that runs a class, as a data module has it
 
@@ -29,9 +24,6 @@ class_fits : (g : Given) (d : DmNo) (from : Site) (c : ℕ) → home g.catalogue
 class_fits g d from c e l = record { is_class = l; home = sym e ∙ sym (source_is_home (setting_of g (D d)) c l) }
 
 -- no time before it is later
-
-max_of : (a b k : ℕ) → a ≤ k → b ≤ k → max a b ≤ k
-max_of a b k l m = omega (arith, l, m)
 
 fold_le : (k a : ℕ) (ns : List ℕ) → a ≤ k → AllLe k ns → fold max a ns ≤ k
 fold_le k a [] l h = l

@@ -1,17 +1,7 @@
 -- The place of an Answer to a READ with a timestamp in the log of a data module: there is at most one.
-use Rattle.std.proofs.Common.{ℕ, ◌<◌, ◌≤◌, ◌≡◌, inl, inr, Bool, true, false, List, [], ◌∷◌, ◌++◌, length, append_assoc, arith, refl, ap, sym, ◌∙◌, subst, suc}
-use Rattle.std.specs.Prelude.{Option, Some}
-use Rattle.std.proofs.lemmas.Bool.{eqb-true}
-use Rattle.sdd_invariants.specs.All.{Act, Answer, ClassNo, Cond, D, Did, DmNo, Does, Each, Given, IsClassHere, IsDueEach, IsPermitted, IsReadOf, IsReadStep, IsSound, Log, Msg, Read, Records, Sends, Setting, Site, Ts, TxnNo, Use, by_record, by_wait, head, in_passing, is_at, is_moving, is_processing, local_of, pipe, pipe_at, setting_of}
-use Rattle.sdd_invariants.specs.site_module.SiteLog as site
-use Rattle.sdd_invariants.proofs.Places.{compare}
-use Rattle.sdd_invariants.proofs.Answered.{read_of}
-use Rattle.sdd_invariants.proofs.Once.{answered_there}
-use Rattle.sdd_invariants.proofs.Active.{each_at}
-use Rattle.sdd_invariants.proofs.AreReadSteps.{d_step}
-use Rattle.sdd_invariants.proofs.Fair.{d_fair}
-use Rattle.sdd_invariants.proofs.Made.{permitted_before, place_of_act}
+use Rattle.sdd_obligations.proofs.All.{Act, Answer, Bool, ClassNo, Cond, D, Did, DmNo, Does, Each, Given, IsClassHere, IsDueEach, IsPermitted, IsReadOf, IsReadStep, IsSound, List, Log, Msg, Option, Read, Records, Sends, Setting, Site, Some, Ts, TxnNo, Use, [], answered_there, ap, append_assoc, arith, by_record, by_wait, compare, d_fair, d_step, each_at, eqb-true, false, head, in_passing, inl, inr, is_at, is_moving, is_processing, length, local_of, permitted_before, pipe, pipe_at, place_of_act, read_of, refl, setting_of, subst, suc, sym, true, ℕ, ◌++◌, ◌<◌, ◌∙◌, ◌∷◌, ◌≡◌, ◌≤◌}
 use Rattle.sdd_obligations.proofs.Starts.{one_start, read_later, small_home, start_here}
+use Rattle.sdd_invariants.specs.site_module.SiteLog as site
 
 -- a READ with this timestamp
 pub record IsReadAt (ts : ℕ) (o : Option Msg) : Type 0 where

@@ -1,24 +1,12 @@
 -- The WRITEs that are put on links have changes of items, and the databases of snapshots are databases: each of these
 -- follows from the other one, a step of the log earlier.
-use Rattle.std.proofs.Common.{ℕ, ◌-◌, ◌≡◌, List, [], ◌∷◌, ◌++◌, Option, Some, None, refl, ap, sym, ◌∙◌, slice_get, subst}
-use Rattle.std.specs.List.{flat_map}
-use Rattle.sdd_invariants.specs.All.{Act, Attempt, Bases, Change, D, Did, DmNo, Does, Each, Entry, Given, Hand, Handed, IsAllowed, IsBased, IsDatabase, IsEntry, IsFair, IsNew, IsPermitted, IsPutBy, IsPutByD, IsSound, IsStep, IsWrite, Log, Msg, Redeclared, Setting, Site, Submits, T, Ticked, U, Write, base_of, changes_at, commit_act, dm_no, effect, local_of, made, message_at, numbers_to, sends_of_act, setting_of, snapshots_at, to_site, with_made}
-use Rattle.sdd_invariants.specs.site_module.SiteLog as site
-use Rattle.sdd_invariants.proofs.logs.EachLocal.{allowed_act}
-use Rattle.sdd_invariants.proofs.Origins.{was_put}
-use Rattle.sdd_invariants.proofs.ReadsPut.{put_by}
-use Rattle.sdd_invariants.proofs.PutBy.{put_by_d}
-use Rattle.sdd_invariants.proofs.Fair.{all_new, t_fair, u_fair}
-use Rattle.sdd_invariants.proofs.InOrder.{allowed_hand}
-use Rattle.sdd_invariants.proofs.Made.{local_step, maker, own_act, place_of_act}
-use Rattle.sdd_invariants.proofs.Sent.{sent_is}
-use Rattle.sdd_invariants.proofs.Installed.{commit_put_is}
-use Rattle.sdd_invariants.proofs.Starting.{t_commit, u_commit}
-use Rattle.sdd_obligations.specs.Fitting.{AreWritten, FitsGiven, FitsText}
+use Rattle.sdd_obligations.proofs.All.{Act, AreWritten, Attempt, Bases, Change, D, Did, DmNo, Does, Each, Entry, FitsGiven, FitsText, Given, Hand, Handed, IsAllowed, IsBased, IsDatabase, IsEntry, IsFair, IsNew, IsPermitted, IsPutBy, IsPutByD, IsSound, IsStep, IsWrite, List, Log, Msg, None, Option, Redeclared, Setting, Site, Some, Submits, T, Ticked, U, Write, [], all_new, allowed_act, allowed_hand, ap, base_of, changes_at, commit_act, commit_put_is, dm_no, effect, flat_map, local_of, local_step, made, maker, message_at, numbers_to, own_act, place_of_act, put_by_d, refl, sends_of_act, sent_is, setting_of, slice_get, snapshots_at, subst, sym, t_commit, t_fair, to_site, u_commit, u_fair, was_put, with_made, ℕ, ◌++◌, ◌-◌, ◌∙◌, ◌∷◌, ◌≡◌}
 use Rattle.sdd_obligations.proofs.Changes.{effect_written}
 use Rattle.sdd_obligations.proofs.Entries.{all_gathered, entries_make_one}
 use Rattle.sdd_obligations.proofs.EffectsHeld.{FitsMsg, HandFits, snapshot_entries}
 use Rattle.sdd_obligations.proofs.Texts.{SubmitHas, active_so, submitted_fit}
+use Rattle.sdd_invariants.proofs.ReadsPut.{put_by}
+use Rattle.sdd_invariants.specs.site_module.SiteLog as site
 
 -- each database of snapshots is a database of the catalogue
 abbrev pub AreDatabases : Given → Log → Type 0

@@ -1,12 +1,8 @@
 -- The questions that an exchange puts are those of its phase.
-use Rattle.std.proofs.Common.{ℕ, ◌&&◌, ◌+◌, ◌++◌, ◌==◌, ◌∙◌, ◌∷◌, ◌≡◌, Bool, List, None, Some, [], ap, false, if◌then◌else◌, length, map, refl, subst, sym, true}
-use Rattle.std.specs.List.{AllByRecursion}
-use Rattle.sdd_invariants.specs.All.{Asking, Exchange, Fetch, Fetching, Move, Msg, Over, Phase, Read, Reading, Ready, Reduce, Reduced, Reducing, Reject, Rows, Ship, Shipping, Step, Value, Values, after_hand, answered, contains, counted, counts_for, fetches, fetches_from, goes_on, lacking, move_at, next_move, phase_ends, reduces, to_all, with_use, with_values, without}
+use Rattle.sdd_obligations.proofs.All.{AllByRecursion, Asking, Asks, AsksPhase, Bool, Exchange, Fetch, Fetching, List, MayAnswer, Move, Msg, None, Over, Phase, Read, Reading, Ready, Reduce, Reduced, Reducing, Refused, Reject, Replies, Rows, Ship, Shipping, Silent, Some, Step, Told, Turn, Value, Values, [], after_hand, answered, ap, contains, counted, counts_for, false, fetches, fetches_from, goes_on, if◌then◌else◌, is_a_refusal, is_answer, lacking, length, map, move_at, next_move, phase_ends, question, question_of, reduces, refl, subst, sym, to_all, told, true, with_use, with_values, without, ℕ, ◌&&◌, ◌++◌, ◌+◌, ◌==◌, ◌∙◌, ◌∷◌, ◌≡◌}
 use Rattle.sdd_obligations.proofs.AtTurn.{StandsAt, awaits}
 use Rattle.sdd_obligations.proofs.Hearing.{answers_asked, is_awaited}
 use Rattle.sdd_obligations.proofs.Modules.{without_other}
-use Rattle.sdd_obligations.specs.Turns.{Asks, MayAnswer, Refused, Replies, Silent, Told, Turn, is_a_refusal, is_answer, told}
-use Rattle.sdd_obligations.specs.Contents.{AsksPhase, question, question_of}
 use Rattle.sdd_obligations.proofs.InStep.{never}
 
 -- what goes to all modules is one question
@@ -31,14 +27,12 @@ sends_next ts c x (q ∷ rest) done =
     elim (next_move q.conds (counts_for x.counts q) done) as (λ o. SendsPhase ts c
     (elim o as (λ _. Exchange) [
       | None ↦ goes_on ts c x rest []
-      | Some m ↦ fetches ts c
-          (move_at q.before m) (record x { left = q ∷ rest; done = done ++ m.step ∷ [] })
+      | Some m ↦ fetches ts c (move_at q.before m) (record x { left = q ∷ rest; done = done ++ m.step ∷ [] })
     ])) [
       | None ↦ sends_next ts c x rest []
       | Some m ↦ sends_fetches ts c (move_at q.before m) (record x {
         left = q ∷ rest;
-        done =
-            done ++ m.step ∷ [];
+        done = done ++ m.step ∷ [];
       }) (with_use x (move_at q.before m).source.part)
     ]
 
@@ -124,10 +118,8 @@ module _ (ts c n : ℕ) (m : Msg) (v : ℕ → Turn) where
     where
       by : (z : Msg) → m ≡ z → is_answer ts c z ≡ true → AsksPhase ts c (after_hand ts c n z x) w
       by (Ready t k counts) e i = answered_if ((t.0 == ts) && (k.0 == c)) x (record x {
-        counts =
-            counted n counts x.counts;
-      }) i (answer_asks x (record x { counts = counted n counts x.counts })
-          stands refl refl h.sends h)
+        counts = counted n counts x.counts;
+      }) i (answer_asks x (record x { counts = counted n counts x.counts }) stands refl refl h.sends h)
       by (Values t k u vs) e i =
           let a = answers_asked (v n) m may in
           let q = is_awaited n x (v n) a.uses a.question (stands n) a.is in
@@ -138,13 +130,10 @@ module _ (ts c n : ℕ) (m : Msg) (v : ℕ → Turn) where
           (answer_asks x (record x { union = with_values x.union vs; values = x.values + length vs }) stands
           refl same (subst (λ z. AllByRecursion (λ (p : ℕ × Msg). p.1 ≡ z) x.to_send) same h.sends) h)
       by (Reduced t k u y) e i = answered_if ((t.0 == ts) && (k.0 == c)) x (record x {
-        counts =
-            counted n ((u, y) ∷ []) x.counts;
-      }) i
-          (answer_asks x (record x { counts = counted n ((u, y) ∷ []) x.counts }) stands refl refl h.sends h)
+        counts = counted n ((u, y) ∷ []) x.counts;
+      }) i (answer_asks x (record x { counts = counted n ((u, y) ∷ []) x.counts }) stands refl refl h.sends h)
       by (Rows t k rows) e i = answered_if ((t.0 == ts) && (k.0 == c)) x (record x {
-        found =
-            x.found ++ rows;
+        found = x.found ++ rows;
         rows = x.rows + length rows;
       }) i
           (answer_asks x (record x { found = x.found ++ rows; rows = x.rows + length rows }) stands refl refl

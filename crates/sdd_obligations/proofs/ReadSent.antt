@@ -1,21 +1,13 @@
 -- The READ whose answer lacks is the last of its attempt that was sent to its module, and no READY or REJECT of it was
 -- handed.
-use Rattle.std.proofs.Common.{ℕ, ◌&&◌, ◌++◌, ◌==◌, ◌||◌, ◌∙◌, ◌∷◌, ◌≡◌, Bool, List, Some, [], ap, cond, false, filter, if◌then◌else◌, inl, inr, map, refl, slice_get, subst, sym, true}
-use Rattle.std.specs.List.{list_any}
-use Rattle.std.proofs.lemmas.List.Elements.{filter-append}
-use Rattle.sdd_invariants.specs.All.{Act, D, Did, Each, Handed, IsFair, Msg, Read, Ready, Redeclared, Reject, Setting, Site, Submits, T, Ticked, U, at_site, dm_no, head_of, is_read, is_verdict, numbers_of, same_site, sends_of_act, to_site}
-use Rattle.sdd_invariants.specs.site_module.SiteLog.{Log}
-use Rattle.sdd_invariants.specs.attempt.Fits as fits
+use Rattle.sdd_obligations.proofs.All.{Act, Asks, Bool, D, Did, Each, Handed, IsFair, IsOfUses, List, MayAnswer, MayAsk, Msg, Read, Ready, Redeclared, Refused, Reject, Setting, Silent, Site, Some, Submits, T, Ticked, Told, Turn, U, [], and_left, and_right, ap, asked, asked_by, at_site, both, cond, dm_no, false, filter, filter-append, head_of, if_way, if◌then◌else◌, in_filtered, inl, inr, is_a_read, is_a_refusal, is_answer, is_question, is_read, is_verdict, list_any, map, not_both, not_true, numbers_of, questions, refl, same_site, same_sym, sends_of_act, site_is, slice_get, subst, sym, to_site, told, true, turn_at, uses_by, ℕ, ◌&&◌, ◌++◌, ◌||◌, ◌∙◌, ◌∷◌, ◌≡◌}
 use Rattle.sdd_obligations.proofs.Asking.{IsInTurn, asks_in_turn, in_turn}
 use Rattle.sdd_obligations.proofs.Hearing.{IsTimely, told_one}
 use Rattle.sdd_obligations.proofs.FirstSends.{IsFirstEach}
-use Rattle.sdd_obligations.proofs.Modules.{not_same}
 use Rattle.sdd_obligations.proofs.Opened.{sift_within}
 use Rattle.sdd_obligations.proofs.Replying.{read_question, uses_twice}
-use Rattle.sdd_obligations.specs.Turns.{Asks, IsOfUses, MayAnswer, MayAsk, Refused, Silent, Told, Turn, asked, asked_by, is_a_read, is_a_refusal, is_answer, is_question, questions, told, turn_at, uses_by}
-use Rattle.sdd_invariants.proofs.Bools.{and_left, and_right, both, if_way, not_both, same_or_not}
-use Rattle.sdd_invariants.proofs.Lists.{in_filtered}
-use Rattle.sdd_invariants.proofs.Sites.{site_is}
+use Rattle.sdd_invariants.specs.site_module.SiteLog.{Log}
+use Rattle.sdd_invariants.specs.attempt.Fits as fits
 
 -- of the READs of the attempt that were sent to module d, newest first, and whether one was answered
 abbrev pub IsLastRead : ℕ → Turn → List (Site × Msg) → Bool → Type 0
@@ -31,13 +23,7 @@ reads_sent ts c d log = filter (at_site (D (dm_no d)) (is_read ts c)) (fits.sent
 abbrev pub was_answered : ℕ → ℕ → ℕ → Log → Bool
 was_answered ts c d log = list_any (at_site (D (dm_no d)) (is_verdict ts c)) (fits.handed log)
 
-never : {A : Type 0} (b : Bool) → b ≡ true → b ≡ false → A
-never b e f = absurd (not_both b e f)
-
 -- sites
-
-same_sym : (a b : ℕ) → (a == b) ≡ (b == a)
-same_sym a b = elim (same_or_not a b) [ inl p ↦ subst (λ y. (a == y) ≡ (y == a)) p refl | inr p ↦ p ∙ sym (not_same a b p) ]
 
 pub site_sym : (a b : Site) → same_site a b ≡ same_site b a
 site_sym U U = refl
@@ -98,8 +84,7 @@ no_use_read ns (Read t k txn attempt conds uses) h e = absurd h
 no_use_read ns m h e = cc
 
 of_questions : (ts c : ℕ) (ms : List Msg) (m : Msg) → questions ts c ms ≡ m ∷ [] → is_question ts c m ≡ true
-of_questions ts c ms m e =
-    (in_filtered (is_question ts c) ms 0 m (subst (λ l. slice_get l 0 ≡ Some m) (sym e) refl)).0
+of_questions ts c ms m e = (in_filtered (is_question ts c) ms 0 m (subst (λ l. slice_get l 0 ≡ Some m) (sym e) refl)).0
 
 one_read : (ts c : ℕ) (m : Msg) → is_read ts c m ≡ true → filter (is_read ts c) (m ∷ []) ≡ m ∷ []
 one_read ts c m e = ap (λ (b : Bool). cond b (m ∷ []) []) e
@@ -143,10 +128,6 @@ after_told d Silent m reads b h = absurd h
 after_told d (Asks ns q) m reads b h = if_way (λ w. IsLastRead d w reads b) (is_a_refusal m) Refused (Told ns q) tt tt
 after_told d (Told ns q) m reads b h = absurd h
 after_told d Refused m reads b h = absurd h
-
-not_true : (b : Bool) → (b ≡ true → ⊥) → b ≡ false
-not_true true f = absurd (f refl)
-not_true false f = refl
 
 last_hand : (ts c d : ℕ) (from : Site) (m : Msg) (log : Log) → IsTimely c log (Handed from m)
     → IsLastRead d (turn_at ts c d log) (reads_sent ts c d log) (was_answered ts c d log)

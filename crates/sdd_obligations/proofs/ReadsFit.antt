@@ -1,35 +1,17 @@
 -- What a READ says: its conditions are on classes of the catalogue and ascend by class, its uses ascend by number, and its
 -- module has copies of their fragments.
-use Rattle.std.specs.List.{AllByRecursion, cons_option, range_with_len}
-use Rattle.std.specs.Option.{option_eq}
-use Rattle.std.specs.Prelude.{filter_map}
-use Rattle.std.proofs.Common.{ℕ, ◌&&◌, ◌+◌, ◌++◌, ◌<◌, ◌==◌, ◌∙◌, ◌∷◌, ◌≡◌, ◌≤◌, Bool, List, None, Option, Some, [], ap, arith, cond, false, filter, inl, inr, length, map, refl, slice_get, subst, suc, sym, true, zero}
-use Rattle.std.proofs.lemmas.Bool.{eqb-true}
-use Rattle.std.proofs.lemmas.List.Elements.{All-from_recursion}
-use Rattle.sdd_invariants.specs.All.{Act, AllGt, AllLe, Catalogue, Cond, Condition, D, Delete, Did, DmNo, Each, FragNo, Given, Hand, IsFair, IsHere, IsPermitted, IsSend, IsStep, IsStrict, Msg, Put, Query, Queued, Read, RelNo, Setting, Site, Stmt, Update, Use, a_held, a_hold, a_null, a_release, ascending, bound, cond_of, condition_on, conditions, conditions_at, dm_no, frag_no, fragments_in, fragments_of, handed, has_copy, home, in_force, is_asked, is_read_at, local_of, modules_asked, next_stamp, of_exchange, part_uses, puts_to, reads_at, sends_of_act, setting_of, start_read, statement_uses, to_site, undeclared_conditions, use_there, uses_from, uses_of, with_frags}
-use Rattle.sdd_invariants.specs.catalog.Rules as catalogues
-use Rattle.sdd_invariants.proofs.catalog.Sound.{served_read}
-use Rattle.sdd_invariants.specs.protocol.declared.entry.Entry as line
-use Rattle.sdd_invariants.specs.site_module.SiteLog.{Log}
-use Rattle.sdd_invariants.specs.logs.Entries as all
+use Rattle.sdd_obligations.proofs.All.{Act, All-from_recursion, AllByRecursion, AllGt, AllLe, Bool, Catalogue, Cond, Condition, D, Delete, Did, DmNo, Each, FragNo, Given, Hand, IsFair, IsHere, IsPermitted, IsReadable, IsSend, IsStep, IsStrict, List, Msg, None, Option, Put, Query, Queued, Read, RelNo, Setting, Site, Some, Stmt, Update, Use, [], a_held, a_hold, a_null, a_release, ap, arith, ascending, both, bound, commit_puts, cond, cond_of, condition_on, conditions, conditions_at, cons_option, dm_no, each_at, eqb-true, false, filter, filter_map, frag_no, fragments_in, fragments_of, gt_down, hand_was_put, handed, has_copy, home, home_fair, if_way, in_force, in_if, in_none, in_one, inl, inr, is_a_read, is_asked, is_read_at, length, local_of, map, modules_asked, next_stamp, of_exchange, option_eq, part_uses, puts_to, range_with_len, reads_at, refl, same_number, sends_of_act, served_read, setting_of, slice_get, start_read, statement_uses, step_way, subst, suc, sym, the_one, to_site, true, undeclared_conditions, use_there, uses_from, uses_of, was_put, with_frags, zero, ℕ, ◌&&◌, ◌++◌, ◌+◌, ◌<◌, ◌==◌, ◌∙◌, ◌∷◌, ◌≡◌, ◌≤◌}
 use Rattle.sdd_obligations.proofs.Ascending.{condition_class, conditions_strict, strict_ascends}
-use Rattle.sdd_obligations.proofs.Asking.{asks_no_read, strict_asked}
+use Rattle.sdd_obligations.proofs.Asking.{strict_asked}
 use Rattle.sdd_obligations.proofs.FirstSends.{IsFirstEach, IsFirstSend}
 use Rattle.sdd_obligations.proofs.Modules.{sent_to_each}
 use Rattle.sdd_obligations.proofs.Sources.{home_first, question_home}
-use Rattle.sdd_obligations.specs.Awaited.{IsReadable}
-use Rattle.sdd_obligations.specs.Turns.{is_a_read}
-use Rattle.sdd_invariants.proofs.Origins.{was_put}
-use Rattle.sdd_invariants.proofs.WritesPut.{commit_puts}
-use Rattle.sdd_invariants.proofs.Active.{each_at, step_way}
-use Rattle.sdd_invariants.proofs.Bools.{both, if_way, not_both, same_number}
-use Rattle.sdd_invariants.proofs.Lists.{gt_down, in_if, in_none, in_one}
-use Rattle.sdd_invariants.proofs.Sites.{the_one}
-use Rattle.sdd_invariants.proofs.Fair.{home_fair}
-use Rattle.sdd_invariants.proofs.InOrder.{hand_was_put}
-
-never : {A : Type 0} (b : Bool) → b ≡ true → b ≡ false → A
-never b e f = absurd (not_both b e f)
+use Rattle.sdd_obligations.proofs.Replying.{asks_no_a_read as asks_no_read}
+use Rattle.sdd_obligations.proofs.InStep.{never}
+use Rattle.sdd_invariants.specs.site_module.SiteLog.{Log}
+use Rattle.sdd_invariants.specs.catalog.Rules as catalogues
+use Rattle.sdd_invariants.specs.protocol.declared.entry.Entry as line
+use Rattle.sdd_invariants.specs.logs.Entries as all
 
 -- conditions are on classes of the catalogue
 
@@ -188,7 +170,7 @@ all_placed cat before (s ∷ rest) =
     (uses_from cat (before + length (statement_uses cat before s)) rest) (statement_placed cat before s)
     (all_placed cat (before + length (statement_uses cat before s)) rest)
 
-same_option : (o : Option ℕ) (d : ℕ) → option_eq ◌==◌ o (Some d) ≡ true → o ≡ Some d
+pub same_option : (o : Option ℕ) (d : ℕ) → option_eq ◌==◌ o (Some d) ≡ true → o ≡ Some d
 same_option None d e = cc
 same_option (Some x) d e = ap (λ y. Some y) (eqb-true x d e)
 

@@ -1,17 +1,11 @@
 -- What a data module has still to answer is what the turns say: a hand, and the answer to a FETCH, REDUCE or SHIP.
-use Rattle.std.proofs.Common.{ℕ, ◌&&◌, ◌++◌, ◌==◌, ◌∙◌, ◌∷◌, ◌≡◌, Bool, List, None, Option, Some, [], ap, append-nil, cond, false, filter, if◌then◌else◌, inl, inr, is_some, length, map, not, refl, slice_get, subst, suc, sym, true, zero}
-use Rattle.std.proofs.lemmas.List.Elements.{filter-append}
-use Rattle.sdd_invariants.specs.All.{Act, Arrive, Did, DmNo, Fetch, Handed, Msg, Open, Pipe, Read, Records, Redeclared, Reduce, Reduced, Rows, Sends, Ship, Site, Submits, Ticked, TxnNo, Values, all_held, asks_rows, class_asked, goes_through, hands, head, head_of, head_processed, is_asked_of, is_processing, is_read, is_read_of, one_or_none, opens, opens_handed, pipe, pipe_acted, put, rows_held, same_site}
-use Rattle.sdd_invariants.specs.site_module.SiteLog.{Entry, Log}
-use Rattle.sdd_laws.specs.All.{Frozen, values_in}
-use Rattle.sdd_obligations.proofs.Hearing.{asked_one, told_is, told_one}
+use Rattle.sdd_obligations.proofs.All.{Act, Arrive, Asks, Bool, Did, DmNo, Fetch, Frozen, Handed, List, MayAsk, Msg, None, Open, Option, Pipe, Read, Records, Redeclared, Reduce, Reduced, Refused, Rows, Sends, Ship, Silent, Site, Some, Submits, Ticked, Told, Turn, TxnNo, Values, [], all_held, and_right as and_right_of, ap, append-nil, asked, asks_rows, class_asked, cond, false, filter, filter-append, goes_through, hands, head, head_of, head_processed, if_way, if◌then◌else◌, in_filtered, in_left, inl, inr, is_a_read, is_a_refusal, is_answer, is_asked_of, is_processing, is_question, is_read, is_read_of, is_some, length, map, not, not_both, not_true, one_or_none, opens, opens_handed, passing, pipe, pipe_acted, processed_handed, put, reads_asked, refl, rows_asked, rows_held, same_number, same_or_not, same_site, site_self, slice_get, subst, suc, sym, told, true, turn_with, uses_by, uses_held, uses_in, values_in, zero, ℕ, ◌&&◌, ◌++◌, ◌==◌, ◌∙◌, ◌∷◌, ◌≡◌}
+use Rattle.sdd_obligations.proofs.Hearing.{told_is, told_one, asked_one as asked_if}
 use Rattle.sdd_obligations.proofs.DataSteps.{reply}
 use Rattle.sdd_obligations.proofs.Opened.{are_apart, one_hand, sift_has, sift_swap, sift_within}
-use Rattle.sdd_obligations.specs.Turns.{Asks, MayAsk, Refused, Silent, Told, Turn, asked, asked_by, is_a_read, is_a_refusal, is_answer, is_question, questions, reads_asked, rows_asked, told, turn_with, uses_by, uses_held, uses_in}
-use Rattle.sdd_invariants.proofs.Processed.{passing, processed_handed}
-use Rattle.sdd_invariants.proofs.Bools.{if_way, not_both, same_number, same_or_not}
-use Rattle.sdd_invariants.proofs.Lists.{in_filtered, in_left}
-use Rattle.sdd_invariants.proofs.Sites.{site_self}
+use Rattle.sdd_obligations.proofs.Linking.{first_there}
+use Rattle.sdd_obligations.proofs.InStep.{never}
+use Rattle.sdd_invariants.specs.site_module.SiteLog.{Entry, Log}
 
 -- a question that is handed comes from the site that runs the class, and may come next
 abbrev pub IsAskedInTurn : ℕ → Site → Log → Entry → Type 0
@@ -55,16 +49,9 @@ pub record HasTurn (ts c : ℕ) (at : Site) (os : List Open) (p : Pipe) (v : Tur
 abbrev pub HasTurnAt : ℕ → ℕ → Site → Log → Type 0
 HasTurnAt ts c at log = HasTurn ts c at (opens log) (pipe c log) (turn_with ts c at log)
 
-never : {A : Type 0} (b : Bool) → b ≡ true → b ≡ false → A
-never b e f = absurd (not_both b e f)
-
 pub and_no : (a : Bool) → (a && false) ≡ false
 and_no true = refl
 and_no false = refl
-
-asked_if : (ts c : ℕ) (b : Bool) (m : Msg) (v : Turn)
-    → asked_by (questions ts c (if b then m ∷ [] else [])) v ≡ (if b && is_question ts c m then asked m v else v)
-asked_if ts c b m v = asked_one ts c b m v
 
 -- messages
 
@@ -84,10 +71,6 @@ asks_asked ts c (Reduce t k u col vs) e = refl
 asks_asked ts c (Ship t k) e = refl
 asks_asked ts c m e = cc
 
-pub and_right_of : (a b : Bool) → (a && b) ≡ true → b ≡ true
-and_right_of true b e = e
-and_right_of false b e = cc
-
 read_through : (ts c : ℕ) (m : Msg) → is_read ts c m ≡ true → goes_through c m ≡ true
 read_through ts c (Read t k txn attempt conds uses) e = and_right_of (t.0 == ts) (k.0 == c) e
 read_through ts c m e = cc
@@ -103,10 +86,6 @@ read_is_a_read ts c m e = cc
 pub uses_twice : (m : Msg) (ns : List ℕ) → uses_by m (uses_by m ns) ≡ uses_by m ns
 uses_twice (Read t k txn attempt conds uses) ns = refl
 uses_twice _ ns = refl
-
-not_true : (b : Bool) → (b ≡ true → ⊥) → b ≡ false
-not_true true f = absurd (f refl)
-not_true false f = refl
 
 none_implied : (a b : Bool) → (a ≡ true → b ≡ true) → b ≡ false → a ≡ false
 none_implied a b f e = not_true a (λ p. not_both b (f p) e)
@@ -245,8 +224,7 @@ turn_still ts c at log act t rows reads h =
     (record {
       own = h.own;
       rows_are = ap (map asker) rows ∙ h.rows_are;
-      reads_are =
-          reads ∙ h.reads_are;
+      reads_are = reads ∙ h.reads_are;
       was_read = λ ns e. stays_processed ts c act (pipe c log) (h.was_read ns e);
     })
 
@@ -327,10 +305,6 @@ asked_rows_of ts c at os (Asks ns m) i o e f =
       | false ↦ λ g. let x : slice_get [] i ≡ Some (asker o) = subst (λ l. slice_get l i ≡ Some (asker o)) g (get_map (filter (asks_open ts c) os) i o f) in cc
     ] e
 
-first_there : (os : List Open) (o : Open) → head_of os ≡ Some o → slice_get os 0 ≡ Some o
-first_there [] o e = cc
-first_there (x ∷ os) o e = e
-
 -- an open message that asks for rows of the attempt is the one that the turn says
 pub asked_rows : (ts c : ℕ) (at : Site) (log : Log) (v : Turn) (k : ℕ) (o : Open) → HasTurn ts c at (opens log) (pipe c log) v
     → head_of (filter (is_asked_of k) (opens log)) ≡ Some o → asks_rows ts c o.msg ≡ true → IsAskedRows ts c at (opens log) v o
@@ -346,7 +320,7 @@ told_turn ts c at to m hand log = told_one ts c (same_site at to) m (turn_with t
 not_own_hand : (o : Open) → filter (λ (x : Open). not (o.hand == x.hand)) (o ∷ []) ≡ []
 not_own_hand o = ap (λ (b : Bool). cond (not b) (o ∷ []) []) (same_number o.hand)
 
-held_told : (v : Turn) (ns : List ℕ) (q : Msg) → v ≡ Asks ns q → is_a_read q ≡ false → uses_held v ≡ Some ns
+pub held_told : (v : Turn) (ns : List ℕ) (q : Msg) → v ≡ Asks ns q → is_a_read q ≡ false → uses_held v ≡ Some ns
 held_told v ns q e f = ap uses_held e ∙ ap (λ (b : Bool). if b then None else Some ns) f
 
 pub turn_replies : (ts c : ℕ) (at : Site) (log : Log) (f : Option Frozen) (k : ℕ) (o : Open) (m : Msg)

@@ -1,20 +1,5 @@
 -- Each message on a link goes from and to the kinds of sites of its kind.
-use Rattle.std.proofs.Common.{ℕ, ◌++◌, ◌∙◌, ◌∷◌, ◌≡◌, List, None, Option, Some, [], ap, append_assoc, false, inl, inr, map, refl, slice_get, subst, suc, sym, true, zero}
-use Rattle.std.specs.Prelude.{slice_index_or}
-use Rattle.sdd_invariants.specs.All.{Act, Ask, Class, D, Did, DmNo, Does, Done, Each, Fetch, Given, Hand, Handed, Held, Hold, IsFairT, IsFairU, IsFetch, IsPermitted, IsPutByD, IsReduce, IsShip, IsStepU, Log, Msg, NoneHold, Null, Read, Ready, Reduce, Reduced, Reject, Release, Rows, Sends, Setting, Ship, Site, T, TmNo, U, Values, WasAsked, Write, asks_rows, dm_no, handed, home_of, is_a_held, is_a_hold, is_a_release, local_of, puts_to, sends_of_act, setting_of, source_of, start_read, to_site}
-use Rattle.sdd_invariants.proofs.HoldChain.{t_table, u_table}
-use Rattle.sdd_invariants.proofs.Holding.{t_none}
-use Rattle.sdd_invariants.proofs.Serving.{u_due, u_way}
-use Rattle.sdd_invariants.proofs.Origins.{was_put}
-use Rattle.sdd_invariants.proofs.ReadsPut.{start_puts}
-use Rattle.sdd_invariants.proofs.WritesPut.{commit_puts}
-use Rattle.sdd_invariants.proofs.Answered.{from_a_d, put_in_by_d}
-use Rattle.sdd_invariants.proofs.Active.{each_at}
-use Rattle.sdd_invariants.proofs.Lists.{in_none, in_one}
-use Rattle.sdd_invariants.proofs.Sites.{the_one}
-use Rattle.sdd_invariants.proofs.InOrder.{hand_was_put}
-use Rattle.sdd_invariants.proofs.Made.{permitted_before, place_of_hand}
-use Rattle.sdd_obligations.specs.Routes.{GoesTo, IsAnAsk, IsD, IsRouted, IsRunner}
+use Rattle.sdd_obligations.proofs.All.{Act, Ask, Class, D, Did, DmNo, Does, Done, Each, Fetch, Given, GoesTo, Hand, Handed, Held, Hold, IsAnAsk, IsD, IsFairT, IsFairU, IsFetch, IsPermitted, IsPutByD, IsReduce, IsRouted, IsRunner, IsShip, IsStepU, List, Log, Msg, None, NoneHold, Null, Option, Read, Ready, Reduce, Reduced, Reject, Release, Rows, Sends, Setting, Ship, Site, Some, T, TmNo, U, Values, WasAsked, Write, [], ap, append_assoc, asks_rows, commit_puts, dm_no, each_at, false, from_a_d, hand_was_put, handed, home_of, in_none, in_one, inl, inr, is_a_held, is_a_hold, is_a_release, local_of, map, permitted_before, place_of_hand, put_in_by_d, puts_to, refl, sends_of_act, setting_of, slice_get, slice_index_or, source_of, start_puts, start_read, subst, suc, sym, t_none, t_table, the_one, to_site, true, u_due, u_table, u_way, was_put, zero, ℕ, ◌++◌, ◌∙◌, ◌∷◌, ◌≡◌}
 use Rattle.sdd_obligations.proofs.Going.{t_goes, u_goes}
 use Rattle.sdd_invariants.specs.site_module.SiteLog as site
 

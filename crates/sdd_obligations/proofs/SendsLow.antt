@@ -1,21 +1,11 @@
 -- What a site that runs transactions sends lies below its clock's height.
-use Rattle.std.proofs.Common.{ℕ, ◌+◌, ◌==◌, ◌∷◌, ◌≡◌, ◌≤◌, Bool, List, None, Option, Some, [], arith, inl, inr, map, refl, subst, suc, sym, true}
-use Rattle.std.specs.Option.{option_or}
-use Rattle.sdd_invariants.specs.All.{Act, AllLe, Attempt, Bases, Catalogue, Commit, Cond, D, Did, Done, Each, Fetch, FragNo, Handed, Hold, HoldRule, IsFair, IsSend, IsStepU, Msg, P2, P3, Queued, Records, Redeclared, Reduce, Release, Sends, Served, Setting, Ship, Site, Submits, T, Ticked, TmNo, Ts, a_held, a_hold, a_null, a_release, active, ascending, asked_by, asks_rows, bound, classes_of, clock, commit_act, cond_for, cond_of, condition_on, conditions_at, dm_no, frag_no, fragments_in, fragments_of, in_force, is_asked, last_served, last_stamp, next_stamp, number_of, of_exchange, same_site, sends_of_act, served_acted, served_handed, stamp_or, start_at, start_read, tm_no, to_site, ts_of, uses_of}
-use Rattle.sdd_invariants.specs.protocol.declared.entry.Entry as line
+use Rattle.sdd_obligations.proofs.All.{Act, AllLe, AllLow, Attempt, Bases, Bool, Catalogue, Commit, Cond, D, Did, Each, Fetch, FragNo, Handed, Hold, HoldRule, IsFair, IsLow, IsSend, IsStepU, List, Msg, None, Option, P2, P3, Queued, Records, Redeclared, Reduce, Release, Sends, Served, Setting, Ship, Site, Some, Submits, T, Ticked, TmNo, Ts, [], a_held, a_hold, a_null, a_release, active, arith, ascending, asks_rows, bound, clock, clock_number, commit_act, commit_puts, cond_for, cond_of, condition_on, conditions_at, dm_no, drawn, drawn_at, frag_no, fragments_in, fragments_of, hand_ts, hold_rule, if_way, in_force, inl, inr, is_asked, last_served, last_stamp, limit_le, map, next_stamp, number_of, of_exchange, option_or, refl, same_site, sends_of_act, served_acted, stamp_or, stamp_rises, start_at, start_puts, start_read, starts_by, step_way, subst, suc, sym, t_step, tm_no, to_site, top, true, ts_of, u_way, uses_of, ℕ, ◌+◌, ◌==◌, ◌∷◌, ◌≡◌, ◌≤◌}
+use Rattle.sdd_obligations.proofs.LowLists.{IsEarlyCond, all_low_up, conds_all_le, conds_le, low_one}
+use Rattle.sdd_invariants.specs.All.{asked_by, classes_of}
 use Rattle.sdd_invariants.specs.site_module.SiteLog.{Log}
+use Rattle.sdd_invariants.specs.protocol.declared.entry.Entry as line
 use Rattle.sdd_invariants.specs.tm.Due as tm
 use Rattle.sdd_invariants.specs.tm.Views as tm_views
-use Rattle.sdd_invariants.proofs.Holding.{hold_rule}
-use Rattle.sdd_invariants.proofs.Serving.{u_way}
-use Rattle.sdd_invariants.proofs.Clocks.{clock_number, drawn, drawn_at, limit_le, stamp_rises}
-use Rattle.sdd_invariants.proofs.ReadsPut.{start_puts}
-use Rattle.sdd_invariants.proofs.WritesPut.{commit_puts}
-use Rattle.sdd_invariants.proofs.Active.{step_way}
-use Rattle.sdd_invariants.proofs.AreSteps.{t_step}
-use Rattle.sdd_invariants.proofs.Bools.{if_way}
-use Rattle.sdd_obligations.specs.Heights.{AllLow, IsLow, starts_by, top}
-use Rattle.sdd_obligations.proofs.LowLists.{IsEarlyCond, all_low_up, conds_all_le, conds_le, low_one}
 
 -- the conditions of a READ tell its own time or that of P2
 
@@ -125,10 +115,6 @@ t_low h s t bases log act at w l f d = step_way s log act (λ x. HoldRule s log 
     (λ to m hand i r. t_send h s log to m hand w l f i r) (t_step s t bases log act at d) (hold_rule s bases log act d)
 
 -- at U: the time of a RELEASE is that of the attempt that was served last
-
-pub hand_ts : (m : Msg) (v : Served) → (served_handed m v).ts ≡ v.ts
-hand_ts (Done t) v = if_way (λ (x : Served). x.ts ≡ v.ts) (t.0 == v.ts) (record v { dones = suc v.dones }) v refl refl
-hand_ts m v = refl
 
 ts_is : (o : Option Attempt) (k : ℕ) → stamp_or o ≤ k → ts_of o ≤ k
 ts_is None k h = omega arith

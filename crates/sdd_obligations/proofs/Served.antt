@@ -1,33 +1,18 @@
 -- With the last ROWS the rows that came serve the database of the attempt's snapshots.
-use Rattle.std.proofs.Common.{ℕ, ◌++◌, ◌+◌, ◌≤◌, ◌==◌, ◌∙◌, ◌∷◌, ◌≡◌, List, None, Some, [], ap, if◌then◌else◌, length, refl, subst}
-use Rattle.sdd_invariants.specs.All.{Attempt, Catalogue, ClassNo, D, DmNo, Exchange, Given, Hand, Handed, IsPermitted, Log, Msg, Over, Row, Rows, ServesIfLast, Setting, Shipping, Site, Ts, active, active_handed, after_hand, answered, base_of, contains, dated, dm_no, home, is_over, lacking, local_of, modules_asked, phase_ends, setting_of, with_made, without}
-use Rattle.sdd_exec.specs.Serves.{Serves}
-use Rattle.sdd_exec.proofs.Members.{Has-flat_map, Has-flat_map_from}
-use Rattle.sdd_invariants.specs.site_module.SiteLog as site
-use Rattle.sdd_laws.specs.All.{CopyRows, all_rows, contents}
+use Rattle.sdd_obligations.proofs.All.{Attempt, Catalogue, ClassNo, CopyRows, D, DmNo, Exchange, FitsGiven, FitsText, Given, Hand, Handed, Has-flat_map, Has-flat_map_from, HasCopies, HasEras, IsPermitted, List, Log, Msg, None, Over, Row, Rows, Serves, ServesIfLast, Setting, Shipping, Site, Some, Space, Ts, [], active, active_handed, after_hand, all_new, all_rows, answered, ap, base_of, before_answer, both, contains, contents, copies_read, dated, dm_no, exchange_serves, frozen_space, home, home_fair, if◌then◌else◌, is_over, is_shipped, lacking, length, local_of, local_step, modules_asked, phase_ends, refl, same_number, serves_by_members, setting_of, site_self, stage_of, subst, with_made, without, ℕ, ◌++◌, ◌+◌, ◌==◌, ◌∙◌, ◌∷◌, ◌≡◌, ◌≤◌}
 use Rattle.sdd_obligations.proofs.Hearing.{is_awaited}
-use Rattle.sdd_serving.specs.Following.{stage_of}
-use Rattle.sdd_serving.specs.Freezing.{HasCopies, frozen_space}
-use Rattle.sdd_serving.specs.Reducing.{Space, all_held}
-use Rattle.sdd_serving.proofs.Arrived.{serves_by_members}
-use Rattle.sdd_serving.proofs.Serves.{exchange_serves}
-use Rattle.sdd_invariants.proofs.Bools.{both, same_number}
-use Rattle.sdd_invariants.proofs.Sites.{site_self}
-use Rattle.sdd_invariants.proofs.Fair.{all_new, home_fair}
-use Rattle.sdd_invariants.proofs.Made.{local_step}
-use Rattle.sdd_obligations.specs.Fitting.{FitsGiven, FitsText}
 use Rattle.sdd_obligations.proofs.Texts.{active_so, submitted_fit}
-use Rattle.sdd_obligations.specs.Reading.{HasEras, before_answer, copies_read}
 use Rattle.sdd_obligations.proofs.Copied.{copies_are}
 use Rattle.sdd_obligations.proofs.Covered.{attempt_covered, class_within}
 use Rattle.sdd_obligations.proofs.Places.{one_answer}
 use Rattle.sdd_obligations.proofs.Snapped.{snapped}
 use Rattle.sdd_obligations.proofs.Starts.{small_home}
 use Rattle.sdd_obligations.proofs.Exchanging.{rows_kind, shipping_is}
-use Rattle.sdd_obligations.specs.Contents.{is_shipped}
 use Rattle.sdd_obligations.proofs.Simulated.{AllServed, served_all}
 use Rattle.sdd_obligations.proofs.Spaces.{Agrees, own, set, space_at}
 use Rattle.sdd_obligations.proofs.Stepping.{in_step}
+use Rattle.sdd_serving.specs.Reducing.{all_held}
+use Rattle.sdd_invariants.specs.site_module.SiteLog as site
 
 -- the copies that were read are those at the Answers
 copies_agree : (g : Given) → FitsGiven g → (ts : ℕ) (log : Log) → IsPermitted g log → Agrees g ts (copies_read g log ts) log

@@ -1,18 +1,8 @@
 -- An Answer to the READ of an active attempt: of its class, at a module that it asked, for the uses that are read there.
-use Rattle.std.proofs.Common.{ℕ, ◌≤◌, ◌==◌, ◌≡◌, true, false, List, [], ◌∷◌, ◌++◌, append_assoc, length, refl, ap, sym, ◌∙◌, slice_get, subst, suc, zero, map}
-use Rattle.std.specs.Prelude.{Option, Some, None}
-use Rattle.std.specs.Bool.{if◌then◌else◌}
-use Rattle.std.proofs.lemmas.Bool.{eqb-true}
-use Rattle.sdd_invariants.specs.All.{Act, Answer, Attempt, D, DmNo, Does, Given, IsPermitted, IsRead, IsReadOf, IsSound, Log, Msg, Queued, Read, Records, Setting, Site, Use, active, contains, dm_no, head, home, local_of, modules_asked, next_stamp, pipe, pipe_at, sends_of_act, setting_of, start_read, to_site}
-use Rattle.sdd_invariants.proofs.Recorded.{start_of_active}
-use Rattle.sdd_invariants.proofs.Installed.{head_put}
-use Rattle.sdd_invariants.proofs.Answered.{read_of}
-use Rattle.sdd_serving.specs.Freezing.{uses_at}
-use Rattle.sdd_invariants.proofs.Bools.{or_left, or_right, same_number}
-use Rattle.sdd_invariants.proofs.Fair.{home_fair}
-use Rattle.sdd_invariants.proofs.Made.{permitted_before, place_of_act}
+use Rattle.sdd_obligations.proofs.All.{Act, Answer, Attempt, D, DmNo, Does, Given, IsPermitted, IsRead, IsReadOf, IsSound, List, Log, Msg, None, Option, Queued, Read, Records, Setting, Site, Some, Use, [], active, ap, append_assoc, contains, dm_no, eqb-true, false, head, head_put, home, home_fair, if◌then◌else◌, length, local_of, map, modules_asked, next_stamp, or_left, or_right, permitted_before, pipe, pipe_at, place_of_act, read_of, refl, same_number, sends_of_act, setting_of, slice_get, start_of_active, start_read, subst, suc, sym, to_site, true, zero, ℕ, ◌++◌, ◌==◌, ◌∙◌, ◌∷◌, ◌≡◌, ◌≤◌}
 use Rattle.sdd_obligations.proofs.Places.{IsAnswerAt, class_here, read_at_head}
 use Rattle.sdd_obligations.proofs.Starts.{StartAt, drawn_already, one_start, read_later, start_here}
+use Rattle.sdd_serving.specs.Freezing.{uses_at}
 
 -- of messages that go one to each module, one that goes to a module is its
 
@@ -84,14 +74,11 @@ read_started g log ts d h x =
     put.by in
     let start : IsReadOf g p.rest x.class r.txn.0 r.attempt r.t.0 = record {
       later = put.later;
-      before =
-          put.before;
+      before = put.before;
       queued = by.queued;
-      is =
-          put.is ∙ ap (λ y. put.later ++ Does at y ∷ put.before) by.act_is;
+      is = put.is ∙ ap (λ y. put.later ++ Does at y ∷ put.before) by.act_is;
       idle = by.idle;
-      head_is =
-          by.head;
+      head_is = by.head;
       number_is = by.number_is;
       try_is = by.try_is;
       ts_is = by.time_is;

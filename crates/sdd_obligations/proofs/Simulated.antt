@@ -1,39 +1,19 @@
 -- The exchange of an active attempt follows a run over what its modules keep, on every permitted log.
-use Rattle.std.proofs.Common.{ℕ, ◌≤◌, ◌==◌, ◌≡◌, ◌≢◌, inl, inr, Bool, true, false, List, [], ◌∷◌, length, refl, ap, sym, ◌∙◌, subst, suc}
-use Rattle.std.specs.Prelude.{Option, Some, None, filter_map}
-use Rattle.std.specs.Bool.{if◌then◌else◌}
-use Rattle.sdd_invariants.specs.All.{Act, AllReadied, Attempt, Bases, Catalogue, D, Did, DmNo, Does, Each, Entry, Exchange, Given, Hand, Handed, IsFair, IsPermitted, Log, Mark, Msg, Notes, Queued, Redeclares, Reduce, Reject, Round, Sends, Setting, Site, Submitted, T, U, Value, active, active_handed, active_sent, after_hand, after_send, asks_rows, beginning, begins, bound, class_at, class_no, clock, commit_act, contains, dated, dm_no, head, head_of, home, in_force, local_of, made, module_read, modules_asked, next_stamp, pipe, queue, rejects, same_site, sends_of_act, setting_of, start_at, started, time_at, tm_no, with_made}
-use Rattle.sdd_exec.specs.Choices.{Has}
-use Rattle.sdd_invariants.specs.site_module.SiteLog as site
-use Rattle.sdd_invariants.proofs.attempt.SoundLines.{start_modules}
-use Rattle.sdd_laws.specs.All.{CopyRows, Frozen, contents, frozen_for, reduced}
+use Rattle.sdd_obligations.proofs.All.{Act, AllReadied, Asks, Attempt, Bases, Bool, Catalogue, CopyRows, D, Did, DmNo, Does, Each, Entry, Exchange, FitsGiven, Frozen, Given, Hand, Handed, Has, HasEras, IsFair, IsPermitted, KeepsOnce, List, Log, Mark, Msg, None, Notes, Option, Queued, Redeclares, Reduce, Reject, Round, Sends, Setting, Site, Some, Space, Submitted, T, Tells, U, Value, [], active, active_handed, active_sent, after_hand, after_send, ap, asked_at, asks_rows, beginning, begins, bound, class_at, class_no, clock, commit_act, contains, contents, dated, dm_no, false, filter_map, follows_reduce, follows_start, frozen_for, frozen_once, frozen_space, head, head_of, home, home_fair, honest, if_way, if◌then◌else◌, in_force, inl, inr, is_a_refusal, is_answer, is_question, is_shipped, kept, length, local_of, local_step, made, module_read, modules_asked, next_stamp, own_act, pipe, question, question_of, queue, readied, reduced, refl, rejects, same_number, same_or_not, same_site, sends_of_act, setting_of, site_is, site_self, start_at, start_modules, started, step_way, subst, suc, sym, time_at, tm_no, true, turn_at, with_made, ℕ, ◌==◌, ◌∙◌, ◌∷◌, ◌≡◌, ◌≢◌, ◌≤◌}
 use Rattle.sdd_obligations.proofs.AtTurn.{hand_not}
 use Rattle.sdd_obligations.proofs.Hearing.{is_awaited}
 use Rattle.sdd_obligations.proofs.Modules.{firsts}
-use Rattle.sdd_obligations.specs.Turns.{Asks, is_a_refusal, is_answer, is_question, turn_at}
-use Rattle.sdd_invariants.proofs.Answered.{honest}
-use Rattle.sdd_invariants.proofs.Readied.{readied}
-use Rattle.sdd_serving.specs.Freezing.{asked_at, frozen_space, uses_at}
-use Rattle.sdd_serving.specs.Reducing.{Space}
-use Rattle.sdd_serving.proofs.Follows.{follows_reduce, follows_start}
-use Rattle.sdd_serving.proofs.Told.{KeepsOnce, frozen_once}
-use Rattle.sdd_invariants.proofs.Active.{step_way}
-use Rattle.sdd_invariants.proofs.Bools.{if_way, same_number, same_or_not}
-use Rattle.sdd_invariants.proofs.Sites.{site_is, site_self}
-use Rattle.sdd_invariants.proofs.Fair.{home_fair}
-use Rattle.sdd_invariants.proofs.Made.{local_step, own_act}
-use Rattle.sdd_obligations.specs.Fitting.{FitsGiven}
-use Rattle.sdd_obligations.specs.Reading.{HasEras}
 use Rattle.sdd_obligations.proofs.ShippedAnswered.{answer_to, not_before, uses_at_head}
 use Rattle.sdd_obligations.proofs.Covered.{attempt_covered, class_within}
 use Rattle.sdd_obligations.proofs.Listed.{has_contains}
 use Rattle.sdd_obligations.proofs.Places.{IsAnswerAt}
-use Rattle.sdd_obligations.specs.Contents.{Tells, is_shipped, kept, question, question_of}
 use Rattle.sdd_obligations.proofs.Exchanging.{IsReply, Serving, hand_serves, send_serves}
 use Rattle.sdd_obligations.proofs.Kept.{IsFrozen, IsReduced, act_keeps, hand_keeps, kept_answered}
 use Rattle.sdd_obligations.proofs.Once.{runs_once}
 use Rattle.sdd_obligations.proofs.Spaces.{Agrees, IsStillEntry, agrees_before, home_apart, kept_apart, kept_at, kept_still, made_still, or_first, own, set, space_at, space_same, still_active}
 use Rattle.sdd_obligations.proofs.InStep.{InStep, again, awaited_there, col_of, contains_has, never, none_read, reducing_is, use_of}
+use Rattle.sdd_serving.specs.Freezing.{uses_at}
+use Rattle.sdd_invariants.specs.site_module.SiteLog as site
 
 module _ (g : Given) (good : FitsGiven g) (eras : HasEras g) (c : ℕ)
     (in_step : (log : Log) → IsPermitted g log → (a : Attempt)
@@ -69,8 +49,7 @@ module _ (g : Given) (good : FitsGiven g) (eras : HasEras g) (c : ℕ)
 
   -- where the modules keep the same
   still_served : (e : Entry) (log : Log) (o : Option Attempt)
-      → ((ts d : ℕ) → kept_at g c ts d (e ∷ log) ≡ kept_at g c ts d log) → AllServed log o
-      → AllServed (e ∷ log) o
+      → ((ts d : ℕ) → kept_at g c ts d (e ∷ log) ≡ kept_at g c ts d log) → AllServed log o → AllServed (e ∷ log) o
   still_served e log None k h = tt
   still_served e log (Some a) k h = λ copies agree.
       subst (λ space. Serves a copies space a.exchange)
@@ -132,10 +111,7 @@ module _ (g : Given) (good : FitsGiven g) (eras : HasEras g) (c : ℕ)
   handed_from_d log None d n m h e hand served = tt
   handed_from_d log (Some a) d n m h e hand served =
       elim (rejects m a.ts c) as (λ b. rejects m a.ts c ≡ b
-      → AllServed log (if b then None else Some (record a {
-        exchange =
-            after_hand a.ts c d.0 m a.exchange;
-      }))) [
+      → AllServed log (if b then None else Some (record a { exchange = after_hand a.ts c d.0 m a.exchange }))) [
         | true ↦ λ kind. tt
         | false ↦ λ kind copies agree. taken log a copies d n m h e hand kind (is_answer a.ts c m) refl (served copies agree)
       ] refl
@@ -192,8 +168,7 @@ module _ (g : Given) (good : FitsGiven g) (eras : HasEras g) (c : ℕ)
       let elsewhere : (k : ℕ) → k ≢ d.0 → new k ≡ old k =
       λ k ne. elim (same_or_not k d.0) [
         | inl p ↦ absurd (ne p)
-        | inr p ↦ ap (λ o. or_first o (first k))
-            (others k p)
+        | inr p ↦ ap (λ o. or_first o (first k)) (others k p)
       ] in
       let early : is_shipped a.exchange.phase ≡ false = ap is_shipped v.1 in
       record {
@@ -229,10 +204,8 @@ module _ (g : Given) (good : FitsGiven g) (eras : HasEras g) (c : ℕ)
 
   frozen_same : (log : Log) (a : Attempt) (copies : ℕ → CopyRows) (d : DmNo) (act : Act)
       → IsPermitted g (Does (D d) act ∷ log) → active s c (mine (Does (D d) act ∷ log)) ≡ Some a
-      → Agrees g a.ts copies (Does (D d) act ∷ log)
-      → own g d.0 (Does (D d) act ∷ log) ≡ Did act ∷ own g d.0 log
-      → (r : IsFrozen (set g d.0) c a.ts act (own g d.0 log)) → (o : Option Frozen)
-      → kept_at g c a.ts d.0 log ≡ o
+      → Agrees g a.ts copies (Does (D d) act ∷ log) → own g d.0 (Does (D d) act ∷ log) ≡ Did act ∷ own g d.0 log
+      → (r : IsFrozen (set g d.0) c a.ts act (own g d.0 log)) → (o : Option Frozen) → kept_at g c a.ts d.0 log ≡ o
       → space_at g c a.ts (first_of a copies) (Does (D d) act ∷ log) d.0 ≡ or_first o (first_of a copies d.0)
   frozen_same log a copies d act h e agree here r (Some f) k =
       let older : IsAnswerAt a.ts (own g d.0 log) = kept_answered (set g d.0) c a.ts (own g d.0 log) f k in
@@ -295,8 +268,7 @@ module _ (g : Given) (good : FitsGiven g) (eras : HasEras g) (c : ℕ)
         txn = q.number;
         attempt = suc q.tries;
         ts = next_stamp s (mine log);
-        text =
-            q.text;
+        text = q.text;
         exchange = begins q.text (sends_of_act act);
       } in
       let is : active s c (Did act ∷ mine log) ≡ Some a = rw (same_number c) (ap (started (next_stamp s (mine log)) (sends_of_act act)) e) in

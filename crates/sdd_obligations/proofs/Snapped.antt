@@ -1,11 +1,8 @@
 -- What an attempt reads at one data module: the copies just before the Answer to it.
-use Rattle.std.proofs.Common.{ℕ, ◌≡◌, ◌⊎◌, inl, inr, Bool, true, false, List, [], ◌∷◌, ◌++◌, refl, ap, sym, ◌∙◌, subst}
-use Rattle.std.specs.Bool.{if◌then◌else◌}
-use Rattle.std.specs.List.{flat_map}
-use Rattle.sdd_invariants.specs.All.{Answer, Did, DmNo, Each, Handed, Msg, Records, Redeclared, Sends, Setting, Site, Submits, Ticked, TxnNo, dated, frags_asked, head, is_at, items_of, pipe, snapshots}
-use Rattle.sdd_invariants.specs.site_module.SiteLog.{Entry, Log}
-use Rattle.sdd_obligations.specs.Reading.{before_answer}
+use Rattle.sdd_obligations.proofs.All.{Answer, Bool, Did, DmNo, Each, Handed, List, Msg, Records, Redeclared, Sends, Setting, Site, Submits, Ticked, TxnNo, [], ap, before_answer, dated, false, flat_map, frags_asked, head, if◌then◌else◌, inl, inr, is_at, items_of, pipe, refl, snapshots, subst, sym, true, ℕ, ◌++◌, ◌∙◌, ◌∷◌, ◌≡◌, ◌⊎◌}
 use Rattle.sdd_obligations.proofs.Places.{IsAnswerAt}
+use Rattle.sdd_obligations.proofs.Opened.{never}
+use Rattle.sdd_invariants.specs.site_module.SiteLog.{Entry, Log}
 
 -- the Answer that is found: what is read is what the copies hold before it
 pub record IsSnapped (s : Setting) (ts : ℕ) (log : Log) : Type 0 where
@@ -25,8 +22,7 @@ answer_more ts e log h =
       txn = h.txn;
       attempt = h.attempt;
       dm = h.dm;
-      sends =
-          h.sends;
+      sends = h.sends;
       before = h.before;
       is = ap (λ l. e ∷ l) h.is;
       at = h.at;
@@ -48,8 +44,7 @@ snap_answer s ts k txn attempt dm sends log true e h =
         txn = txn;
         attempt = attempt;
         dm = dm;
-        sends =
-            sends;
+        sends = sends;
         before = log;
         is = refl;
         at = e;
@@ -86,8 +81,7 @@ snap_there s ts k txn attempt dm sends log true e h =
         txn = txn;
         attempt = attempt;
         dm = dm;
-        sends =
-            sends;
+        sends = sends;
         before = log;
         is = refl;
         at = e;
@@ -96,10 +90,6 @@ snap_there s ts k txn attempt dm sends log true e h =
       before_is = rw e refl;
     }
 snap_there s ts k txn attempt dm sends log false e h = snap_behind s ts (Did (Records k (Answer txn attempt dm) sends)) log (rw e refl) (rw e refl) (h refl)
-
-never : {A : Type 0} (b : Bool) → b ≡ true → b ≡ false → A
-never true e f = cc
-never false e f = cc
 
 module _ (s : Setting) (ts : ℕ) (k : ℕ) (txn : TxnNo) (attempt : ℕ) (dm : DmNo) (sends : List (Site × Msg))
     (before : Log) (at : is_at ts (head (pipe k before)) ≡ true) where

@@ -1,36 +1,16 @@
 -- Questions of a class are put by the site that runs it, which is the one to which a data module answers; and what is sent
 -- first on permitted logs.
-use Rattle.std.proofs.Common.{ℕ, ◌&&◌, ◌++◌, ◌-◌, ◌<◌, ◌==◌, ◌∙◌, ◌∷◌, ◌≡◌, ◌≤◌, Bool, List, Some, [], ap, append_assoc, arith, false, if◌then◌else◌, inl, inr, length, map, refl, slice_get, slice_index_or, subst, suc, sym, true, zero}
-use Rattle.std.proofs.lemmas.Bool.{eqb-true}
-use Rattle.sdd_invariants.specs.All.{Act, Catalogue, Class, ClassNo, Cond, D, Did, DmNo, Each, Fetch, Given, Hand, Handed, IsClassHere, IsDueEach, IsFair, IsFetch, IsPermitted, IsPutByD, IsReduce, IsSend, IsShip, IsStep, Log, Msg, Read, Ready, Reduce, Reduced, Reject, Rows, Setting, Ship, Site, T, TmNo, Ts, TxnNo, U, Use, Values, WasAsked, a_held, a_hold, a_null, a_release, asks_rows, base_of, class_at, dm_no, handed, head, home, home_of, local_of, next_stamp, of_exchange, pipe, puts_to, same_site, sends_of_act, setting_of, source_of, start_read, tm_no, to_site}
-use Rattle.sdd_invariants.proofs.logs.EachLocal.{each_local}
-use Rattle.sdd_obligations.proofs.FirstSends.{IsFirstEach, IsFirstSend, asks_whose, t_first, u_first}
+use Rattle.sdd_obligations.proofs.All.{Act, Bool, Catalogue, Class, ClassNo, Cond, D, Did, DmNo, Each, Fetch, Given, Hand, Handed, IsClassHere, IsDueEach, IsFair, IsFetch, IsPermitted, IsPutByD, IsReduce, IsSend, IsShip, IsStep, List, Log, Msg, Read, Ready, Reduce, Reduced, Reject, Rows, Setting, Ship, Site, Some, T, TmNo, Ts, TxnNo, U, Use, Values, WasAsked, [], a_held, a_hold, a_null, a_release, and_right, ap, append_assoc, arith, asks_rows, asks_whose, base_of, class_at, commit_puts, d_fair, dm_no, each_at, each_local, eqb-true, false, hand_was_put, handed, head, home, home_fair, home_of, if_way, if◌then◌else◌, in_none, in_one, inl, inr, is_answer, is_question, length, local_of, map, next_stamp, of_exchange, permitted_before, pipe, place_of_hand, put_by_d, puts_to, refl, same_site, sends_of_act, setting_of, slice_get, slice_index_or, source_of, start_puts, start_read, step_way, subst, suc, suc_no_zero, sym, t_fair, the_one, tm_no, to_site, true, u_fair, was_put, zero, ℕ, ◌&&◌, ◌++◌, ◌-◌, ◌<◌, ◌==◌, ◌∙◌, ◌∷◌, ◌≡◌, ◌≤◌}
+use Rattle.sdd_obligations.proofs.FirstSends.{IsFirstEach, IsFirstSend, t_first, u_first}
 use Rattle.sdd_obligations.proofs.Asking.{send_is_question}
 use Rattle.sdd_obligations.proofs.Telling.{head_through}
-use Rattle.sdd_obligations.specs.Turns.{is_answer, is_question}
-use Rattle.sdd_invariants.proofs.Origins.{was_put}
-use Rattle.sdd_invariants.proofs.ReadsPut.{start_puts}
-use Rattle.sdd_invariants.proofs.WritesPut.{commit_puts}
-use Rattle.sdd_invariants.proofs.PutBy.{put_by_d}
-use Rattle.sdd_invariants.proofs.Active.{each_at, step_way}
-use Rattle.sdd_invariants.proofs.Bools.{and_right, if_way, not_both, not_zero}
-use Rattle.sdd_invariants.proofs.Lists.{in_none, in_one}
-use Rattle.sdd_invariants.proofs.Sites.{the_one}
-use Rattle.sdd_invariants.proofs.Fair.{d_fair, home_fair, t_fair, u_fair}
-use Rattle.sdd_invariants.proofs.InOrder.{hand_was_put}
-use Rattle.sdd_invariants.proofs.Made.{permitted_before, place_of_hand}
+use Rattle.sdd_obligations.proofs.InStep.{never}
 use Rattle.sdd_invariants.specs.site_module.SiteLog as site
-
-never : {A : Type 0} (b : Bool) → b ≡ true → b ≡ false → A
-never b e f = absurd (not_both b e f)
 
 -- the site that runs a class, as a data module has it
 
 abbrev no_class : Class
 no_class = record { name = []; tm = tm_no 0; reads = []; writes = [] }
-
-suc_no_zero : (n : ℕ) → (suc n == 0) ≡ false
-suc_no_zero n = not_zero (suc n) (omega arith)
 
 class_there : (ks : List Class) (n : ℕ) (k : Class) → n < length ks
     → slice_index_or (map (λ (k : Class). T k.tm) ks) n U ≡ T (tm_no (slice_index_or ks n k).tm.0)
@@ -48,10 +28,6 @@ source_is_home s (suc n) l =
     class_there s.catalogue.classes n no_class (omega (arith, l))
     ∙ sym (ap (λ (b : Bool). if b then U else T (tm_no (class_at s.catalogue (suc n)).tm.0))
     (suc_no_zero n) ∙ e)
-
--- data modules are other sites
-pub apart_from_home : (cat : Catalogue) (c d : ℕ) → same_site (D (dm_no d)) (home cat c) ≡ false
-apart_from_home cat c d = if_way (λ x. same_site (D (dm_no d)) x ≡ false) (c == 0) U (T (tm_no (class_at cat c).tm.0)) refl refl
 
 pub home_apart : (cat : Catalogue) (c d : ℕ) → same_site (home cat c) (D (dm_no d)) ≡ false
 home_apart cat c d = if_way (λ x. same_site x (D (dm_no d)) ≡ false) (c == 0) U (T (tm_no (class_at cat c).tm.0)) refl refl
@@ -153,8 +129,7 @@ question_home g (D d) b log place m ts c h e f =
 abbrev AsksHere : Setting → site.Log → Act → Type 0
 AsksHere s log act =
     IsFirstSend s log act → (b : Site) (place ts c : ℕ) (m : Msg)
-    → slice_get (to_site b (sends_of_act act)) place ≡ Some m → asks_rows ts c m ≡ true
-    → c ≤ length s.catalogue.classes
+    → slice_get (to_site b (sends_of_act act)) place ≡ Some m → asks_rows ts c m ≡ true → c ≤ length s.catalogue.classes
 
 act_here : (s : Setting) (log : site.Log) (act : Act) → IsStep s log act → AsksHere s log act
 act_here s log act i = step_way s log act (AsksHere s log)

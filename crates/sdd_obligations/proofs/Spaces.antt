@@ -1,16 +1,9 @@
 -- What the modules keep for an attempt, as the log of everything goes on.
-use Rattle.std.proofs.Common.{ℕ, ◌==◌, ◌≡◌, false, ◌∷◌, refl, ap, sym, ◌∙◌, subst, suc}
-use Rattle.std.specs.Prelude.{Option, Some, None}
-use Rattle.sdd_invariants.specs.All.{Catalogue, D, Deliver, Did, DmNo, Does, Down, Entry, Force, Given, Hand, Handed, Log, Lose, Mark, Notes, Redeclare, Redeclared, Redeclares, Repeat, Resend, Round, Setting, Settle, Site, Submit, Submits, Submitted, T, Tick, Ticked, Txn, U, Up, active, class_at, dated, dm_no, force_at, forced, given_to, home, local_of, made, redeclares, same_site, setting_of, tm_no, txn_at, with_made}
-use Rattle.sdd_invariants.specs.site_module.SiteLog as site
-use Rattle.sdd_laws.specs.All.{CopyRows, Frozen, contents}
-use Rattle.sdd_serving.specs.Reducing.{Space}
-use Rattle.sdd_invariants.proofs.Bools.{if_way}
-use Rattle.sdd_invariants.proofs.Made.{local_step}
+use Rattle.sdd_obligations.proofs.All.{Catalogue, CopyRows, D, Deliver, Did, DmNo, Does, Down, Entry, Force, Frozen, Given, Hand, Handed, Log, Lose, Mark, None, Notes, Option, Redeclare, Redeclared, Redeclares, Repeat, Resend, Round, Setting, Settle, Site, Some, Space, Submit, Submits, Submitted, T, Tick, Ticked, Txn, U, Up, active, ap, class_at, contents, dated, dm_no, false, force_at, forced, given_to, home, if_way, kept, local_of, local_step, made, redeclares, refl, same_site, setting_of, subst, suc, sym, tm_no, txn_at, with_made, ℕ, ◌==◌, ◌∙◌, ◌∷◌, ◌≡◌}
 use Rattle.sdd_obligations.proofs.Places.{IsAnswerAt}
 use Rattle.sdd_obligations.proofs.Snapped.{answer_more}
-use Rattle.sdd_obligations.specs.Contents.{kept}
 use Rattle.sdd_obligations.proofs.Kept.{kept_same}
+use Rattle.sdd_invariants.specs.site_module.SiteLog as site
 
 -- entries of a site's log that leave its attempts and its rows
 

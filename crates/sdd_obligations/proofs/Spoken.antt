@@ -1,24 +1,17 @@
 -- On a permitted log the exchanges of a class with the data modules go by turns.
-use Rattle.std.proofs.Common.{ℕ, ◌&&◌, ◌++◌, ◌∙◌, ◌∷◌, ◌≡◌, ◌≤◌, ◌⊎◌, Bool, List, None, Option, Some, [], ap, cond, drop, false, filter, if◌then◌else◌, inl, inr, refl, subst, sym, true}
-use Rattle.sdd_invariants.specs.All.{Act, AllLe, D, Did, Does, Each, Entry, Given, Hand, Handed, IsAllowed, IsDueEach, IsFair, IsPermitted, IsStep, Log, Msg, Redeclared, Setting, Site, Submits, T, Ticked, U, dm_no, frozen, goes_through, handed, handed_by, home, local_of, made, number_of, put_by, puts_to, same_site, sends_of_act, setting_of, time_of, times_in, to_site, with_made}
+use Rattle.sdd_obligations.proofs.All.{Act, AllLe, Bool, D, Did, Does, Each, Entry, Given, Hand, Handed, IsAllowed, IsDueEach, IsFair, IsPermitted, IsStage, IsStep, List, Log, MayAnswer, MayAsk, Msg, None, Option, Redeclared, Site, Some, Submits, T, Ticked, Turn, U, [], agreed, answers, ap, asked_by, cond, d_fair, dm_no, drop, false, filter, flight, frozen, goes_through, hand_was_put, handed, handed_by, home, home_fair, if◌then◌else◌, inl, inr, is_answer, is_exchanging, is_question, local_of, local_step, made, maker, number_of, own_act, put_by, puts_grow, puts_to, questions, refl, same_site, sends_of_act, setting_of, site_is, site_self, subst, sym, time_of, times_in, to_site, told_by, true, turn_at, turn_with, uses_held, with_made, ℕ, ◌&&◌, ◌++◌, ◌∙◌, ◌∷◌, ◌≡◌, ◌≤◌, ◌⊎◌}
 use Rattle.sdd_obligations.proofs.Asking.{asks_in_turn}
 use Rattle.sdd_obligations.proofs.Hearing.{IsTimely}
 use Rattle.sdd_obligations.proofs.DataSteps.{data_step}
 use Rattle.sdd_obligations.proofs.FirstSends.{IsFirstEach, IsFirstSend}
 use Rattle.sdd_obligations.proofs.Flights.{first_in_flight, handed_did, handed_hand, is_plain, nothing_put, put_did, put_hand, questions_step, answers_step, quiet_made, silent_first, turn_at_step, turn_with_step}
 use Rattle.sdd_obligations.proofs.Held.{AreHeldFor, IsHeldAt, held_act, held_hand, tells_in_turn}
-use Rattle.sdd_obligations.proofs.Sources.{apart_from_home, home_apart, home_first, question_home}
+use Rattle.sdd_obligations.proofs.Sources.{home_apart, home_first, question_home}
 use Rattle.sdd_obligations.proofs.Stages.{IsMove, answer_comes, answer_got, answer_put, move_as, moved, question_comes, question_got, question_put, still}
 use Rattle.sdd_obligations.proofs.Replying.{IsAskedInTurn}
-use Rattle.sdd_obligations.specs.Stages.{IsStage, agreed, flight}
-use Rattle.sdd_obligations.specs.Turns.{MayAnswer, MayAsk, Turn, answers, asked_by, is_answer, is_exchanging, is_question, questions, told_by, turn_at, turn_with, uses_held}
-use Rattle.sdd_invariants.proofs.Sites.{site_is, site_self}
-use Rattle.sdd_invariants.proofs.Fair.{d_fair, home_fair}
-use Rattle.sdd_invariants.proofs.InOrder.{hand_was_put}
-use Rattle.sdd_invariants.proofs.Made.{local_step, maker, own_act}
-use Rattle.sdd_invariants.proofs.Sent.{puts_grow}
-use Rattle.sdd_invariants.specs.site_module.SiteLog as site
 use Rattle.sdd_obligations.proofs.Halves.{IsLast, IsSpoken, StageAt, active_last, alone, data_log, data_turns, exchanging_active, home_log, home_source, home_turns}
+use Rattle.sdd_obligations.proofs.Spaces.{home_apart as apart_from_home}
+use Rattle.sdd_invariants.specs.site_module.SiteLog as site
 
 -- what an entry adds
 

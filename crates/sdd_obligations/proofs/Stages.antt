@@ -1,8 +1,5 @@
 -- Each entry keeps an exchange in lockstep.
-use Rattle.std.proofs.Common.{ℕ, ◌++◌, ◌∙◌, ◌∷◌, ◌≡◌, Bool, List, [], ap, append-nil, false, if◌then◌else◌, subst, sym, true}
-use Rattle.sdd_invariants.specs.All.{Msg}
-use Rattle.sdd_obligations.specs.Stages.{IsStage, agreed, answer_goes, question_goes}
-use Rattle.sdd_obligations.specs.Turns.{Asks, MayAnswer, MayAsk, Refused, Silent, Told, Turn, asked, asked_by, is_a_refusal, told, told_by}
+use Rattle.sdd_obligations.proofs.All.{Asks, Bool, IsStage, List, MayAnswer, MayAsk, Msg, Refused, Silent, Told, Turn, [], agreed, answer_goes, ap, append-nil, asked, asked_by, false, if◌then◌else◌, is_a_refusal, question_goes, subst, sym, told, told_by, true, ℕ, ◌++◌, ◌∙◌, ◌∷◌, ◌≡◌}
 
 -- what one entry adds: questions that are put, questions that are handed over, answers that are put, answers that are
 -- handed over
@@ -35,7 +32,7 @@ no_second (Asks ns q) x y h k = no_second_if (is_a_refusal y) ns q x k
 no_second (Told ns q) x y h k = absurd h
 no_second Refused x y h k = absurd h
 
-nothing : {A : Type 0} (m : Msg) (ms : List Msg) → m ∷ ms ≡ [] → A
+pub nothing : {A : Type 0} (m : Msg) (ms : List Msg) → m ∷ ms ≡ [] → A
 nothing m ms e = cc
 
 one_only : (m n : Msg) (ms : List Msg) → m ∷ ms ≡ n ∷ [] → (m ≡ n) × (ms ≡ [])
@@ -87,15 +84,13 @@ moved v w pq hq pa ha qs xs qs2 xs2 (answer_got y) e f h =
 
 pub question_comes : (v w : Turn) (qs xs : List Msg) (m : Msg) (rest : List Msg) → qs ≡ m ∷ rest → IsStage v w qs xs → MayAsk w m
 question_comes v w qs xs m rest e (agreed s q x) = nothing m rest (sym e ∙ q)
-question_comes v w qs xs m rest e (question_goes n q x s a) =
-    subst (MayAsk w) (sym (one_only m n rest (sym e ∙ q)).0) a
+question_comes v w qs xs m rest e (question_goes n q x s a) = subst (MayAsk w) (sym (one_only m n rest (sym e ∙ q)).0) a
 question_comes v w qs xs m rest e (answer_goes y q x s a) = nothing m rest (sym e ∙ q)
 
 pub answer_comes : (v w : Turn) (qs xs : List Msg) (y : Msg) (rest : List Msg) → xs ≡ y ∷ rest → IsStage v w qs xs → MayAnswer v y
 answer_comes v w qs xs y rest e (agreed s q x) = nothing y rest (sym e ∙ x)
 answer_comes v w qs xs y rest e (question_goes m q x s a) = nothing y rest (sym e ∙ x)
-answer_comes v w qs xs y rest e (answer_goes z q x s a) =
-    subst (MayAnswer v) (sym (one_only y z rest (sym e ∙ x)).0) a
+answer_comes v w qs xs y rest e (answer_goes z q x s a) = subst (MayAnswer v) (sym (one_only y z rest (sym e ∙ x)).0) a
 
 -- the question or the answer under way, and the turns
 

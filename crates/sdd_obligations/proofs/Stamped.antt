@@ -1,10 +1,6 @@
 -- A WRITE's timestamp is above 0, and no two WRITEs of different Commits have the same.
-use Rattle.std.proofs.Common.{ℕ, ◌++◌, ◌*◌, ◌+◌, ◌<◌, ◌∷◌, ◌≡◌, Some, ap, arith, inl, inr, subst, sym}
-use Rattle.sdd_invariants.specs.All.{Act, Attempt, Did, Each, IsFair, Queued, Setting, active, clock, next_stamp, number_of, start_at}
+use Rattle.sdd_obligations.proofs.All.{Act, Attempt, Did, Each, IsFair, Queued, Setting, Some, active, ap, arith, clock, clock_grows, clock_number, compare, inl, inr, next_stamp, number_of, start_at, start_of_active, subst, sym, ℕ, ◌*◌, ◌++◌, ◌+◌, ◌<◌, ◌∷◌, ◌≡◌}
 use Rattle.sdd_invariants.specs.site_module.SiteLog.{Entry, Log}
-use Rattle.sdd_invariants.proofs.Clocks.{clock_grows, clock_number}
-use Rattle.sdd_invariants.proofs.Places.{compare}
-use Rattle.sdd_invariants.proofs.Recorded.{start_of_active}
 
 pub stamp_above : (s : Setting) (log : Log) → 0 < next_stamp s log
 stamp_above s log = omega arith

@@ -1,12 +1,6 @@
 -- One timestamp, one Start: of whatever classes.
-use Rattle.std.proofs.Common.{ℕ, ◌+◌, ◌*◌, ◌≤◌, ◌==◌, ◌≡◌, ◌⊎◌, inl, inr, Bool, true, false, ◌∷◌, ◌++◌, length, append_assoc, arith, refl, ap, sym, ◌∙◌, subst, suc, zero}
-use Rattle.std.specs.Prelude.{Some}
-use Rattle.sdd_invariants.specs.All.{Catalogue, Did, Does, Given, IsReadOf, IsServedClass, IsSound, Log, Queued, Records, Setting, Site, T, U, class_at, clock, head_of, home, local_of, next_stamp, number_of, queue, setting_of, start_at, tm_no}
-use Rattle.sdd_invariants.proofs.catalog.Sound.{at_number, sound_classes, sound_whole}
+use Rattle.sdd_obligations.proofs.All.{Bool, Catalogue, Did, Does, Given, IsReadOf, IsServedClass, IsSound, Log, Queued, Records, Setting, Site, Some, T, U, ap, append_assoc, arith, at_number, class_at, clock, clock_grows, clock_number, compare, false, head_of, home, inl, inr, length, local_grows, local_of, next_stamp, number_of, own_act, queue, refl, same_head, setting_of, sound_classes, sound_whole, start_at, subst, suc, sym, tm_no, true, zero, ℕ, ◌*◌, ◌++◌, ◌+◌, ◌==◌, ◌∙◌, ◌∷◌, ◌≡◌, ◌≤◌, ◌⊎◌}
 use Rattle.sdd_invariants.specs.site_module.SiteLog as site
-use Rattle.sdd_invariants.proofs.Clocks.{clock_grows, clock_number}
-use Rattle.sdd_invariants.proofs.Places.{compare}
-use Rattle.sdd_invariants.proofs.Made.{local_grows, own_act}
 
 -- in one site's log
 
@@ -113,10 +107,6 @@ numbers_alike j k m n a b e = omega arith
 
 stamp_is : (s : Setting) (log : site.Log) → next_stamp s log ≡ suc (clock s.site log).ticks * 64 + number_of s.site
 stamp_is s log = let n = clock_number s.site log in omega arith
-
-same_head : (s : Setting) (c : ℕ) (b1 b2 : site.Log) (q1 q2 : Queued) → b1 ≡ b2 → head_of (queue s c b1) ≡ Some q1
-    → head_of (queue s c b2) ≡ Some q2 → q1 ≡ q2
-same_head s c b1 b2 q1 q2 e f g = let p : Some q1 ≡ Some q2 = sym f ∙ ap (λ b. head_of (queue s c b)) e ∙ g in cc
 
 -- two Starts with one timestamp are one, whatever their classes
 pub one_start : (g : Given) → IsSound g.catalogue → (c k : ℕ) (log : Log) (t : ℕ) (q1 q2 : Queued)

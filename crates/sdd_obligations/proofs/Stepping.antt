@@ -1,11 +1,5 @@
 -- The exchange of an active attempt and its modules go in step.
-use Rattle.std.proofs.Common.{ℕ, ◌++◌, ◌≤◌, ◌==◌, ◌∙◌, ◌∷◌, ◌≡◌, Bool, List, None, Option, Some, [], ap, drop, false, if◌then◌else◌, inl, inr, refl, subst, sym, take, true}
-use Rattle.std.proofs.lemmas.List.{take-append-drop}
-use Rattle.std.proofs.lemmas.List.Elements.{filter-append}
-use Rattle.sdd_invariants.specs.All.{Act, Attempt, Bases, D, Did, DmNo, Does, Each, Entry, Fetch, Given, Hand, Handed, IsAllowed, IsFair, IsPermitted, Log, Mark, Msg, Notes, Queued, Read, Redeclared, Redeclares, Reduce, Reject, Round, Sends, Setting, Ship, Site, Submits, Submitted, T, Ticked, U, active, active_handed, active_sent, beginning, class_at, commit_act, dm_no, handed, head_of, home, local_of, made, next_stamp, number_of, puts_to, queue, same_site, sends_of_act, setting_of, start_at, started, tm_no, with_made}
-use Rattle.sdd_invariants.specs.site_module.SiteLog as site
-use Rattle.sdd_invariants.proofs.logs.EachLocal.{allowed_act}
-use Rattle.sdd_invariants.proofs.Clocks.{stamp_below_next}
+use Rattle.sdd_obligations.proofs.All.{Act, Asks, Attempt, Bases, Bool, D, Did, DmNo, Does, Each, Entry, Fetch, Given, Hand, Handed, IsAllowed, IsFair, IsPermitted, IsStage, List, Log, Mark, MayAnswer, Msg, None, Notes, Option, Queued, Read, Redeclared, Redeclares, Reduce, Reject, Replies, Round, Sends, Setting, Ship, Silent, Site, Some, Submits, Submitted, T, Tells, Ticked, Told, Turn, U, [], active, active_handed, active_sent, agreed, allowed_act, answer_goes, answers, ap, beginning, class_at, commit_act, dm_no, drop, false, filter-append, flight, handed, handed_way, head_of, home, home_fair, if_way, if◌then◌else◌, inl, inr, is_a_read, is_a_refusal, is_answer, is_question, kept, local_of, local_step, made, next_stamp, number_of, own_act, puts_to, question_goes, queue, refl, same_number, same_or_not, same_site, sends_of_act, sent_way, setting_of, site_is, site_self, stamp_below_next, start_at, started, step_way, subst, sym, take, take-append-drop, tm_no, told, true, turn_at, turn_with, uses_by, uses_in, with_made, ℕ, ◌++◌, ◌==◌, ◌∙◌, ◌∷◌, ◌≡◌, ◌≤◌}
 use Rattle.sdd_obligations.proofs.Comes.{answer_stands, question_stands}
 use Rattle.sdd_obligations.proofs.DataSteps.{data_step}
 use Rattle.sdd_obligations.proofs.Halves.{active_last, data_turns, home_source, home_turns}
@@ -13,19 +7,12 @@ use Rattle.sdd_obligations.proofs.Hearing.{AtTurn, told_is}
 use Rattle.sdd_obligations.proofs.Replying.{IsAskedInTurn}
 use Rattle.sdd_obligations.proofs.Sources.{home_first}
 use Rattle.sdd_obligations.proofs.Spoken.{spoken}
-use Rattle.sdd_obligations.specs.Stages.{IsStage, agreed, answer_goes, flight, question_goes}
-use Rattle.sdd_obligations.specs.Turns.{Asks, MayAnswer, Replies, Silent, Told, Turn, answers, is_a_read, is_a_refusal, is_answer, is_question, told, turn_at, turn_with, uses_by, uses_in}
-use Rattle.sdd_invariants.proofs.Active.{handed_way, sent_way, step_way}
-use Rattle.sdd_invariants.proofs.Bools.{if_way, same_number, same_or_not}
-use Rattle.sdd_invariants.proofs.Sites.{site_is, site_self}
-use Rattle.sdd_invariants.proofs.Fair.{home_fair}
-use Rattle.sdd_invariants.proofs.Made.{local_step, own_act}
-use Rattle.sdd_obligations.specs.Contents.{Tells, kept}
 use Rattle.sdd_obligations.proofs.Asked.{AllAskPhase, asks_phase}
 use Rattle.sdd_obligations.proofs.Kept.{kept_same}
 use Rattle.sdd_obligations.proofs.InStep.{InStep, IsAnswered}
 use Rattle.sdd_obligations.proofs.Spaces.{IsStill, IsStillEntry, home_apart, made_still, own, set, still_active}
 use Rattle.sdd_obligations.proofs.Told.{KnowsTold, told_act, told_hand, told_still}
+use Rattle.sdd_invariants.specs.site_module.SiteLog as site
 
 -- a module that nothing was said to said nothing
 
@@ -111,8 +98,7 @@ module _ (g : Given) (c : ℕ) (small : number_of (home g.catalogue c) ≤ 63) w
       (t.0 ts q).0
 
   module_hand : (log : Log) (from : Site) (d : DmNo) (n : ℕ) (m : Msg) (ts : ℕ)
-      → IsPermitted g (Hand from (D d) n m ∷ log) → (k : ℕ) → Knows ts k log
-      → Knows ts k (Hand from (D d) n m ∷ log)
+      → IsPermitted g (Hand from (D d) n m ∷ log) → (k : ℕ) → Knows ts k log → Knows ts k (Hand from (D d) n m ∷ log)
   module_hand log from d n m ts h k knows = elim (same_or_not k d.0) [
     | inl p ↦ (let here : own g d.0 (Hand from (D d) n m ∷ log) ≡ Handed from m ∷ own g d.0 log =
         local_step g (D d) (Hand from (D d) n m) log

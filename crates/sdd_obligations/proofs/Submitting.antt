@@ -1,18 +1,10 @@
 -- A transaction that is next to be given to a module is new there, fits, and is of the module.
-use Rattle.std.specs.Prelude.{nat_le}
-use Rattle.std.proofs.lemmas.Bool.Decides.{nat_tests}
-use Rattle.std.proofs.Common.{ℕ, ◌≤◌, arith, ◌==◌, ◌∙◌, ◌∷◌, ◌≡◌, ◌≢◌, Bool, None, Option, Some, [], ap, false, if◌then◌else◌, refl, subst, sym, true}
-use Rattle.sdd_invariants.specs.All.{Deliver, Did, Does, Down, Each, Entry, Event, Fits, Force, Given, Hand, Handed, IsLawful, IsNew, Log, Lose, Mark, Notes, Redeclare, Redeclared, Redeclares, Repeat, Resend, Round, Settle, Site, Submit, Submits, Submitted, T, Tick, Ticked, TmNo, Txn, U, Up, class_for, contains, force_at, in_force, is_site, local_of, mark_due, next, note_if, redeclares, same_site, setting_of, submits, txn_at, with_submit, with_tick}
-use Rattle.sdd_invariants.specs.logs.Due.{home_of}
-use Rattle.sdd_invariants.proofs.logs.NewMarks.{lawful_permitted}
-use Rattle.sdd_invariants.proofs.Bools.{both, differ, if_way}
-use Rattle.sdd_invariants.proofs.Sites.{site_self}
-use Rattle.sdd_invariants.proofs.Fair.{all_new}
-use Rattle.sdd_obligations.specs.Bounds.{IsSmall}
+use Rattle.sdd_obligations.proofs.All.{Bool, Deliver, Did, Does, Down, Each, Entry, Event, Fits, Force, Given, Hand, Handed, IsLawful, IsNew, IsSmall, Log, Lose, Mark, None, Notes, Option, Redeclare, Redeclares, Repeat, Resend, Round, Settle, Site, Some, Submit, Submits, Submitted, T, Tick, Ticked, TmNo, Txn, U, Up, [], all_new, ap, arith, both, class_for, contains, differ, false, force_at, if_way, if◌then◌else◌, in_force, is_site, lawful_permitted, local_of, mark_due, nat_le, nat_tests, next, note_if, redeclares, refl, same_site, setting_of, site_self, submits, subst, sym, true, txn_at, with_submit, with_tick, ℕ, ◌==◌, ◌∙◌, ◌∷◌, ◌≡◌, ◌≢◌, ◌≤◌}
 use Rattle.sdd_obligations.proofs.OfNext.{of_next}
+use Rattle.sdd_invariants.specs.logs.Due.{home_of}
 use Rattle.sdd_invariants.specs.site_module.SiteLog as site
 
-le_true : (a b : ℕ) → a ≤ b → nat_le a b ≡ true
+pub le_true : (a b : ℕ) → a ≤ b → nat_le a b ≡ true
 le_true a b l = grind (arith, nat_tests)
 
 -- it is new

@@ -1,7 +1,5 @@
 -- Sums of numbers over lists.
-use Rattle.std.specs.List.{range_with_len}
-use Rattle.std.proofs.Common.{ℕ, ◌*◌, ◌+◌, ◌<◌, ◌∷◌, ◌≡◌, ◌≤◌, List, Some, [], arith, length, refl, slice_get, subst, suc, sym, zero}
-use Rattle.std.proofs.Math.Nat.{suc-mul}
+use Rattle.sdd_obligations.proofs.All.{List, Some, [], arith, length, range_with_len, refl, slice_get, subst, suc, suc-mul, sym, zero, ℕ, ◌*◌, ◌+◌, ◌<◌, ◌∷◌, ◌≡◌, ◌≤◌}
 
 abbrev pub total : {A : Type 0} → (A → ℕ) → List A → ℕ
 total f [] = 0

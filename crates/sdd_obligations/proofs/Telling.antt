@@ -1,17 +1,9 @@
 -- A data module answers in turn, where each question that is handed to it comes in turn.
-use Rattle.std.proofs.Common.{ℕ, ◌&&◌, ◌++◌, ◌==◌, ◌∙◌, ◌∷◌, ◌≡◌, Bool, List, Some, [], ap, cond, false, filter, if◌then◌else◌, inl, inr, length, map, refl, slice_get, subst, sym, true}
-use Rattle.std.proofs.lemmas.Bool.{eqb-true}
-use Rattle.sdd_invariants.specs.All.{Act, Answer, Apply, Change, ClassNo, Cond, Did, Done, Each, Handed, IsClassHere, IsDueEach, Msg, Null, Open, Pass, Pipe, Read, Ready, Rec, Records, Redeclared, Reject, Sends, Setting, Site, Submits, Ticked, Ts, TxnNo, U, Wait, Write, ask_for, done_for, frozen, goes_through, head, head_of, head_processed, home_of, is_processing, is_read, opens, pipe, pipe_acted, put, same_site, source_of, tail_of, to_site}
-use Rattle.sdd_invariants.specs.history.declared.record.Rec.TheVariants.{Reject as Rejected}
-use Rattle.sdd_invariants.specs.site_module.SiteLog.{Log}
+use Rattle.sdd_obligations.proofs.All.{Act, Answer, Apply, Asks, Bool, Cond, Did, Done, Each, Handed, IsClassHere, IsDueEach, List, Msg, Null, Open, Pass, Pipe, Read, Ready, Rec, Records, Redeclared, Refused, Reject, Rejected, Sends, Setting, Silent, Site, Some, Submits, Ticked, Told, Ts, Turn, U, Wait, Write, [], and_right as and_right_of, answers, ap, ask_for, at_seam, cond, done_for, eqb-true, false, filter, frozen, goes_through, head, head_of, head_processed, home_of, if_way, if◌then◌else◌, inl, inr, is_a_refusal, is_answer, is_processing, is_read, length, map, not_own, opens, own_record, pipe, pipe_acted, processed_more, put, reads_asked, refl, rows_asked, same_or_not, same_site, site_self, slice_get, source_of, subst, sym, tail_of, to_site, told, told_by, true, turn_with, ℕ, ◌&&◌, ◌++◌, ◌==◌, ◌∙◌, ◌∷◌, ◌≡◌}
 use Rattle.sdd_obligations.proofs.Hearing.{told_one}
 use Rattle.sdd_obligations.proofs.DataSteps.{IsDataStep, counts_told, data_step, data_step_way}
-use Rattle.sdd_obligations.specs.Turns.{Asks, Refused, Silent, Told, Turn, answers, is_a_refusal, is_answer, reads_asked, rows_asked, told, told_by, turn_with}
-use Rattle.sdd_invariants.proofs.Processed.{not_own, own_record, processed_more}
-use Rattle.sdd_invariants.proofs.Bools.{if_way, same_or_not}
-use Rattle.sdd_invariants.proofs.Lists.{at_seam}
-use Rattle.sdd_invariants.proofs.Sites.{site_self}
-use Rattle.sdd_obligations.proofs.Replying.{HasTurn, HasTurnAt, IsAskedInTurn, IsProcessed, and_no, and_right_of, asker, asks_open, from_site, read_asks_none, read_is_a_read, turn_arrives, turn_hand, turn_replies, turn_still}
+use Rattle.sdd_obligations.proofs.Replying.{HasTurn, HasTurnAt, IsAskedInTurn, IsProcessed, and_no, asker, asks_open, from_site, read_asks_none, read_is_a_read, turn_arrives, turn_hand, turn_replies, turn_still}
+use Rattle.sdd_invariants.specs.site_module.SiteLog.{Log}
 
 -- a head that is processed
 
@@ -137,9 +129,6 @@ pub done_no_answer : (ts c : ℕ) (at : Site) (k : ℕ) (t : Ts) → answers ts 
 done_no_answer ts c at k t =
     if_way (λ l. answers ts c (to_site at l) ≡ []) (k == 0) ((U, Done t) ∷ []) []
     (if_way (λ l. answers ts c l ≡ []) (same_site at U) (Done t ∷ []) [] refl refl) refl
-
-write_no_read : (ts c : ℕ) (t : Ts) (k : ClassNo) (txn : TxnNo) (changes : List Change) → is_read ts c (Write t k txn changes) ≡ false
-write_no_read ts c t k txn changes = refl
 
 -- heads go through their pipes
 

@@ -1,13 +1,7 @@
 -- The transaction of an attempt is one that was given to its class, and has what all these have.
-use Rattle.std.proofs.Common.{ℕ, ◌≡◌, Bool, true, false, List, [], ◌∷◌, ◌++◌, Option, Some, None, refl, sym, subst}
-use Rattle.std.specs.Bool.{if◌then◌else◌}
-use Rattle.std.specs.List.{AllByRecursion, cons_option, filter_map}
-use Rattle.sdd_invariants.specs.All.{Attempt, Did, Each, Given, Handed, IsFair, IsNew, IsPermitted, IsServed, Queued, Redeclared, Setting, Site, Submits, Ticked, Txn, active, in_force, is_committed, is_for, local_of, queue, queued, setting_of, starts_of, submits_of}
+use Rattle.sdd_obligations.proofs.All.{AllByRecursion, Attempt, Bool, Did, Each, FitsGiven, FitsText, Given, Handed, IsFair, IsNew, IsPermitted, IsServed, List, None, Option, Queued, Redeclared, Setting, Site, Some, Submits, Ticked, Txn, [], active, cons_option, each_local, false, filter_map, if◌then◌else◌, in_force, is_committed, is_for, local_of, queue, queue_is, queued, refl, setting_of, starts_of, submits_of, subst, sym, true, ℕ, ◌++◌, ◌∷◌, ◌≡◌}
 use Rattle.sdd_invariants.specs.site_module.SiteLog.{Entry, Log}
 use Rattle.sdd_invariants.specs.logs.Entries as whole
-use Rattle.sdd_invariants.proofs.logs.EachLocal.{each_local}
-use Rattle.sdd_invariants.proofs.Queues.{queue_is}
-use Rattle.sdd_obligations.specs.Fitting.{FitsGiven, FitsText}
 
 -- so has each transaction that is given to class c at a site
 abbrev pub SubmitHas : (Txn → Type 0) → Setting → ℕ → Log → Entry → Type 0
@@ -47,8 +41,7 @@ module _ (P : Txn → Type 0) where
       (cons_option (if b then None else Some (record {
         number = x.0;
         text = x.1;
-        tries =
-            starts_of c x.0 log;
+        tries = starts_of c x.0 log;
       })) (filter_map (queued c log) xs))) [
         | true ↦ queued_so c log xs all.1
         | false ↦ (all.0, queued_so c log xs all.1)

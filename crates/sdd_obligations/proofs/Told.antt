@@ -1,22 +1,13 @@
 -- What a data module told last of an attempt's rows is what it keeps.
-use Rattle.std.proofs.Common.{ℕ, ◌&&◌, ◌++◌, ◌==◌, ◌∙◌, ◌∷◌, ◌≡◌, List, None, Option, Some, [], ap, append-nil, cond, false, filter, if◌then◌else◌, inl, inr, map, refl, subst, sym, true}
-use Rattle.std.proofs.lemmas.Bool.{eqb-true}
-use Rattle.std.proofs.lemmas.List.Elements.{filter-append}
-use Rattle.sdd_invariants.specs.All.{Act, Answer, Apply, Arrive, ClassNo, Cond, Did, Done, Fetch, Handed, IsClassHere, Msg, Open, Pass, Read, Ready, Records, Reduce, Reject, Rows, Sends, Setting, Ship, Site, Ts, TxnNo, Use, Values, Wait, ask_for, asks_rows, class_asked, done_for, frozen, head, head_of, home_of, is_asked_of, is_number, is_read, opens, pipe, puts_to, same_site, sends_of_act, source_of, to_site}
-use Rattle.sdd_invariants.specs.history.declared.record.Rec.TheVariants.{Reject as Rejected}
-use Rattle.sdd_invariants.specs.site_module.SiteLog.{Log}
-use Rattle.sdd_laws.specs.All.{Frozen, all_rows, rows_of, values_in}
+use Rattle.sdd_obligations.proofs.All.{Act, Answer, Apply, Arrive, Asks, ClassNo, Cond, Did, Done, Fetch, Frozen, Handed, IsClassHere, List, Msg, None, Open, Option, Pass, Read, Ready, Records, Reduce, Refused, Reject, Rejected, Rows, Sends, Setting, Ship, Site, Some, Tells, Told, Ts, Turn, TxnNo, Use, Values, Wait, [], all_rows, and_no, and_right, answers, ap, append-nil, ask_for, asked, asks_rows, both, class_asked, cond, done_for, eqb-true, false, filter, filter-append, frozen, head, head_of, home_of, if◌then◌else◌, inl, inr, is_a_read, is_answer, is_asked_of, is_number, is_question, is_read, kept, map, opens, pipe, puts_to, refl, rows_of, same_number, same_site, sends_of_act, site_self, source_of, subst, sym, to_site, told, told_by, true, turn_with, uses_by, uses_held, uses_in, values_in, ℕ, ◌&&◌, ◌++◌, ◌==◌, ◌∙◌, ◌∷◌, ◌≡◌}
 use Rattle.sdd_obligations.proofs.DataSteps.{IsDataStep, counts_told, data_step_way, reply}
-use Rattle.sdd_obligations.proofs.Hearing.{and_no, told_is, told_one}
+use Rattle.sdd_obligations.proofs.Hearing.{told_is, told_one}
 use Rattle.sdd_obligations.proofs.Held.{AreHeldFor, IsHeldAt}
 use Rattle.sdd_obligations.proofs.Replying.{HasTurnAt, asked_rows, asked_turn, asks_no_a_read, reply_answers, reply_no_refusal, told_turn}
 use Rattle.sdd_obligations.proofs.Telling.{IsHomeOf, asks_no_answer, done_no_answer, head_through, read_next}
-use Rattle.sdd_obligations.specs.Turns.{Asks, Refused, Told, Turn, answers, asked, is_a_read, is_answer, is_question, told, told_by, turn_with, uses_by, uses_held, uses_in}
-use Rattle.sdd_invariants.proofs.Bools.{and_right, both, same_number}
-use Rattle.sdd_invariants.proofs.Sites.{site_self}
-use Rattle.sdd_obligations.specs.Contents.{Tells, kept}
 use Rattle.sdd_obligations.proofs.InStep.{never}
 use Rattle.sdd_obligations.proofs.Kept.{hand_keeps, kept_now, other_answer_keeps, record_keeps, send_keeps}
+use Rattle.sdd_invariants.specs.site_module.SiteLog.{Log}
 
 -- the last answer that was put
 pub record IsTold (s : Setting) (c ts : ℕ) (at : Site) (log : Log) (q : Msg) : Type 0 where
@@ -74,8 +65,7 @@ module _ (s : Setting) (c ts : ℕ) (at : Site) (log : Log) where
   more_answers act = filter-append (is_answer ts c) (puts_to at log) (to_site at (sends_of_act act))
 
   quiet_act : (act : Act) → answers ts c (to_site at (sends_of_act act)) ≡ []
-      → kept s c ts (Did act ∷ log) ≡ kept s c ts log → KnowsTold s c ts at log
-      → KnowsTold s c ts at (Did act ∷ log)
+      → kept s c ts (Did act ∷ log) ≡ kept s c ts log → KnowsTold s c ts at log → KnowsTold s c ts at (Did act ∷ log)
   quiet_act act none keeps h =
       told_still s c ts at log (Did act ∷ log) (ap (λ l. told_by l v) none) keeps (more_answers act
       ∙ ap (λ l. answers ts c (puts_to at log) ++ l) none ∙ append-nil _) h

@@ -1,16 +1,5 @@
 -- The height of a lawful log is one: no clock and no message's time is above it.
-use Rattle.std.specs.Prelude.{fold, max}
-use Rattle.std.proofs.Common.{ℕ, ◌*◌, ◌+◌, ◌-◌, ◌/◌, ◌∷◌, ◌≡◌, ◌≤◌, List, None, Option, Some, [], arith, if◌then◌else◌, map, refl, slice_get, subst, suc, sym}
-use Rattle.sdd_invariants.specs.All.{Act, Ask, D, Did, Does, Entry, Event, Force, Given, Hand, Handed, Held, IsDueAt, IsLawful, IsPermitted, Log, Mark, Msg, Notes, Records, Redeclared, Redeclares, Reject, Release, Round, Site, Start, Submits, Submitted, T, Tick, Ticked, Ticking, Txn, U, base_of, beginning, bound_at, clock, force_at, forced, given_to, greatest_bound, local_of, made, made_by_mark, numbers_to, pushed_by, put_by, puts_to, redeclares, same_site, sends_of_act, sent, setting_of, ticked_by, tm_no, to_site, txn_at, with_made}
-use Rattle.sdd_invariants.proofs.logs.EachLocal.{allowed_act}
-use Rattle.sdd_invariants.proofs.Serving.{u_due}
-use Rattle.sdd_invariants.proofs.Bools.{if_way}
-use Rattle.sdd_invariants.proofs.Fair.{t_fair, u_fair}
-use Rattle.sdd_invariants.proofs.InOrder.{allowed_hand}
-use Rattle.sdd_invariants.proofs.Made.{local_step}
-use Rattle.sdd_invariants.proofs.Sent.{puts_grow, sent_is}
-use Rattle.sdd_obligations.specs.Bounds.{AllFewTicks}
-use Rattle.sdd_obligations.specs.Heights.{AllLow, HandsLow, IsLow, IsUnder, height, starts_by, ticks_of, top}
+use Rattle.sdd_obligations.proofs.All.{Act, AllFewTicks, AllLow, Ask, D, Did, Does, Entry, Event, Force, Given, Hand, Handed, HandsLow, Held, IsDueAt, IsLawful, IsLow, IsPermitted, IsUnder, List, Log, Mark, Msg, None, Notes, Option, Records, Redeclared, Redeclares, Reject, Release, Round, Site, Some, Start, Submits, Submitted, T, Tick, Ticked, Ticking, Txn, U, [], allowed_act, allowed_hand, arith, base_of, beginning, bound_at, clock, fold, force_at, forced, given_to, greatest_bound, height, if_way, if◌then◌else◌, local_of, local_step, made, made_by_mark, map, max, numbers_to, pushed_by, put_by, puts_grow, puts_to, redeclares, refl, same_site, sends_of_act, sent, sent_is, setting_of, slice_get, starts_by, subst, suc, sym, t_fair, ticked_by, ticks_of, tm_no, to_site, top, txn_at, u_due, u_fair, with_made, ℕ, ◌*◌, ◌+◌, ◌-◌, ◌/◌, ◌∷◌, ◌≡◌, ◌≤◌}
 use Rattle.sdd_obligations.proofs.AnswersLow.{d_low}
 use Rattle.sdd_obligations.proofs.LowLists.{all_low_join, all_low_up, low_at, low_up}
 use Rattle.sdd_obligations.proofs.OfNext.{OfNext, of_next, t_of_sites}
@@ -31,7 +20,7 @@ MayGrow h k (Some (Did act)) = (starts_by act + h ≤ k) × ((b : Site) → AllL
 pub div_le : (t h : ℕ) → t ≤ h * 64 + 63 → t / 64 ≤ h
 div_le t h l = omega arith
 
-max_le : (a b h : ℕ) → a ≤ h → b ≤ h → max a b ≤ h
+pub max_le : (a b h : ℕ) → a ≤ h → b ≤ h → max a b ≤ h
 max_le a b h l m = omega arith
 
 push_le : (a t h : ℕ) → a ≤ h → t ≤ h * 64 + 63 → max a (t / 64) ≤ h

@@ -1,19 +1,14 @@
 -- What is next on a lawful log is what modules ask.
-use Rattle.std.proofs.Common.{ℕ, ◌∷◌, ◌≡◌, ◌≢◌, Some, false}
-use Rattle.sdd_invariants.specs.All.{Act, AllLinked, Bases, D, DmNo, Does, Given, Hand, IsLawful, IsSiteOf, IsWithin, Log, Msg, Site, Submitted, T, TmNo, Txn, U, class_for, contains, in_force, local_of, next, sends_of_act, setting_of, submits, txn_at}
-use Rattle.sdd_invariants.specs.dm.Fits as dm
-use Rattle.sdd_invariants.specs.tm.Fits as tm
-use Rattle.sdd_invariants.specs.umod.Fits as um
-use Rattle.sdd_invariants.proofs.logs.EachLocal.{allowed_act}
-use Rattle.sdd_invariants.proofs.logs.NewMarks.{lawful_permitted}
+use Rattle.sdd_obligations.proofs.All.{Act, AllLinked, Bases, D, DmNo, Does, Given, Hand, IsFit, IsLawful, IsSiteOf, IsUpheldD, IsUpheldR, IsWithin, Log, Msg, Site, Some, Submitted, T, TmNo, Txn, U, allowed_act, class_for, contains, false, in_force, lawful_permitted, local_of, next, sends_of_act, setting_of, submits, txn_at, ℕ, ◌∷◌, ◌≡◌, ◌≢◌}
 use Rattle.sdd_obligations.proofs.OfNext.{of_next}
-use Rattle.sdd_obligations.specs.Given.{IsFit}
-use Rattle.sdd_obligations.specs.Upheld.{IsUpheldD, IsUpheldR}
 use Rattle.sdd_obligations.proofs.FitsAtD.{d_fits}
 use Rattle.sdd_obligations.proofs.FitsAtT.{t_fits, u_fits}
 use Rattle.sdd_obligations.proofs.Handing.{is_handed}
 use Rattle.sdd_obligations.proofs.Linking.{act_linked}
 use Rattle.sdd_obligations.proofs.Submitting.{declared_here, home_exists, is_new}
+use Rattle.sdd_invariants.specs.dm.Fits as dm
+use Rattle.sdd_invariants.specs.tm.Fits as tm
+use Rattle.sdd_invariants.specs.umod.Fits as um
 
 pub hand_d : (g : Given) (log : Log) (a : Site) (d : DmNo) (n : ℕ) (m : Msg) (bases : Bases) → IsFit g → IsLawful g log → IsWithin log
     → next g log ≡ Some (Hand a (D d) n m) → IsUpheldD (setting_of g (D d)) (local_of g (D d) log) a m

@@ -1,32 +1,8 @@
 -- A data module puts at most one READY or REJECT for a READ, behind which the READ is processed.
-use Rattle.std.proofs.Common.{ℕ, ◌&&◌, ◌++◌, ◌<◌, ◌==◌, ◌∙◌, ◌∷◌, ◌≡◌, ◌≤◌, Bool, List, Some, [], ap, arith, false, if◌then◌else◌, length, refl, slice_get, subst, sym, true}
-use Rattle.std.proofs.Math.Decide.{dec_le}
-use Rattle.std.proofs.lemmas.Bool.{eqb-true}
-use Rattle.std.proofs.lemmas.List.Elements.{filter_map-append}
-use Rattle.sdd_invariants.specs.All.{Act, AllGt, Answer, ClassNo, Cond, D, Did, DmNo, Each, Given, Handed, IsDueEach, IsPermitted, IsPutByD, IsStrict, Log, Msg, Pipe, Read, Ready, Rec, Records, Redeclared, Reject, Sends, Setting, Site, Submits, Ticked, Ts, TxnNo, Use, all_of, goes_through, head, head_of, head_processed, home, home_of, is_processing, is_verdict, local_of, number_of, one_if, one_or_none, pipe, pipe_acted, pipe_at, puts_to, read_at, reads_in, same_site, sends_of_act, setting_of, source_of, tally, to_site}
-use Rattle.sdd_invariants.specs.history.declared.record.Rec.TheVariants.{Reject as Rejected}
-use Rattle.sdd_invariants.proofs.logs.EachLocal.{each_local}
-use Rattle.sdd_invariants.proofs.Dones.{tally_at}
-use Rattle.sdd_invariants.proofs.Turns.{tally_append}
-use Rattle.sdd_invariants.proofs.Processed.{own_record, processed_handed, processed_more}
-use Rattle.sdd_invariants.proofs.PutBy.{put_by_d}
-use Rattle.sdd_invariants.proofs.Installed.{class_number, head_put}
-use Rattle.sdd_invariants.proofs.Applied.{key_rises, reads_strict}
-use Rattle.sdd_invariants.proofs.InPipe.{in_pipe}
-use Rattle.sdd_invariants.proofs.Bools.{and_left, and_right, if_way, same_number}
-use Rattle.sdd_invariants.proofs.Lists.{at_seam, in_left, place_within}
-use Rattle.sdd_invariants.proofs.Fair.{d_fair}
+use Rattle.sdd_obligations.proofs.All.{Act, Answer, Bool, ClassNo, Cond, D, Did, DmNo, Each, Given, Handed, IsDueEach, IsPermitted, IsPutByD, IsStrict, List, Log, Msg, Pipe, Read, Ready, Rec, Records, Redeclared, Reject, Rejected, Sends, Setting, Site, Some, Submits, Ticked, Ts, TxnNo, Use, [], all_of, and_left, and_right, ap, arith, at_seam, class_number, d_fair, dec_le, each_local, eqb-true, false, filter_map-append, goes_through, head, head_of, head_processed, head_put, home, home_of, if_way, if◌then◌else◌, in_left, in_pipe, is_processing, is_verdict, key_rises, length, local_of, number_of, one_le, one_or_none, own_record, pipe, pipe_acted, pipe_at, place_within, processed_handed, processed_more, put_by_d, puts_to, read_at, reads_in, reads_strict, refl, same_number, same_site, sends_of_act, setting_of, slice_get, source_of, strict_left, subst, sym, tally, tally_append, tally_at, to_site, true, ℕ, ◌&&◌, ◌++◌, ◌<◌, ◌==◌, ◌∙◌, ◌∷◌, ◌≡◌, ◌≤◌}
 use Rattle.sdd_invariants.specs.site_module.SiteLog as site
 
 -- the READs of a pipe rise, and its head is of the class
-
-gt_left : (k : ℕ) (xs ys : List ℕ) → AllGt k (xs ++ ys) → AllGt k xs
-gt_left k [] ys h = tt
-gt_left k (x ∷ xs) ys h = (h.0, gt_left k xs ys h.1)
-
-strict_left : (xs ys : List ℕ) → IsStrict (xs ++ ys) → IsStrict xs
-strict_left [] ys h = tt
-strict_left (x ∷ xs) ys h = (gt_left x xs ys h.0, strict_left xs ys h.1)
 
 strict_reads : (g : Given) (c : ℕ) (d : DmNo) (log : Log) → number_of (home g.catalogue c) ≤ 63 → IsPermitted g log
     → IsStrict (reads_in c (all_of (pipe_at g c d log)))
@@ -84,18 +60,15 @@ verdict_by s c ts b log act (Ready t k counts) i e h =
     let q = two_same t.0 ts k.0 c e in
     let own : k.0 ≡ h.class = class_number k.0 h.class t.0 (i h.class (Read t k h.txn h.attempt h.conds h.uses) h.head_is) in
     at_class c h.class log act ts (sym own ∙ q.1) (record {
-      rec =
-          Answer h.txn h.attempt (home_of s).dm;
+      rec = Answer h.txn h.attempt (home_of s).dm;
       to = source_of (home_of s) h.class;
-      msg =
-          Ready t k counts;
+      msg = Ready t k counts;
       stamp = t;
       of = k;
       txn = h.txn;
       attempt = h.attempt;
       conds = h.conds;
-      uses =
-          h.uses;
+      uses = h.uses;
       processes = refl;
       head_is = h.head_is;
       class_is = own;
@@ -106,18 +79,15 @@ verdict_by s c ts b log act (Reject t k by write) i e h =
     let q = two_same t.0 ts k.0 c e in
     let own : k.0 ≡ h.class = class_number k.0 h.class t.0 (i h.class (Read t k h.txn h.attempt h.conds h.uses) h.head_is) in
     at_class c h.class log act ts (sym own ∙ q.1) (record {
-      rec =
-          Rejected h.txn h.attempt (home_of s).dm by write;
+      rec = Rejected h.txn h.attempt (home_of s).dm by write;
       to = source_of (home_of s) h.class;
-      msg =
-          Reject t k by write;
+      msg = Reject t k by write;
       stamp = t;
       of = k;
       txn = h.txn;
       attempt = h.attempt;
       conds = h.conds;
-      uses =
-          h.uses;
+      uses = h.uses;
       processes = refl;
       head_is = h.head_is;
       class_is = own;
@@ -148,15 +118,11 @@ quiet_did c ts b act log e h =
       was = λ l. (let w = h.was (omega (arith, a, e, l)) in (w.0, w.1, stays_processed c act (pipe c log) w.0 w.1 w.2, w.3));
     }
 
-one_le : (b : Bool) → one_if b ≤ 1
-one_le true = omega arith
-one_le false = omega arith
-
 one_at_most : (f : Msg → Bool) (c : Bool) (m : Msg) → tally f (if c then m ∷ [] else []) ≤ 1
 one_at_most f true m = let i = one_le (f m) in omega (arith, i)
 one_at_most f false m = omega arith
 
-next_in : (ps us : List Msg) (m : Msg) → head_of us ≡ Some m → slice_get (ps ++ us) (length ps) ≡ Some m
+pub next_in : (ps us : List Msg) (m : Msg) → head_of us ≡ Some m → slice_get (ps ++ us) (length ps) ≡ Some m
 next_in ps [] m e = cc
 next_in ps (y ∷ us) m e = at_seam ps us y ∙ e
 

@@ -1,10 +1,5 @@
 -- What a data module asks of a WRITE's changes.
-use Rattle.std.proofs.Common.{ℕ, ◌≡◌, List, Option, Some, None, ap, sym, ◌∙◌}
-use Rattle.std.specs.Prelude.{IfSome, get_or}
-use Rattle.std.specs.List.{All}
-use Rattle.sdd_invariants.specs.All.{Catalogue, Change, ClassNo, D, DmNo, FitsChange, Given, HasRow, IsChange, IsPermitted, IsSound, Log, Row, Site, Ts, TxnNo, Write, fragment_at, key_in, message_at, setting_of}
-use Rattle.sdd_invariants.proofs.lang.EffectChanges.{entry_placed}
-use Rattle.sdd_obligations.specs.Fitting.{AreWritten, FitsGiven, IsItemChange}
+use Rattle.sdd_obligations.proofs.All.{All, AreWritten, Catalogue, Change, ClassNo, D, DmNo, FitsChange, FitsGiven, Given, HasRow, IfSome, IsChange, IsItemChange, IsPermitted, IsSound, List, Log, None, Option, Row, Site, Some, Ts, TxnNo, Write, ap, entry_placed, fragment_at, key_in, message_at, setting_of, slice_index_or as get_or, sym, ℕ, ◌∙◌, ◌≡◌}
 use Rattle.sdd_obligations.proofs.Put.{acts_fit, message_fits}
 
 row_keyed : (cat : Catalogue) (rel of : ℕ) (c : Change) (o : Option Row) → of ≡ rel → HasRow cat rel c.key o → IfSome o (λ row. key_in cat of row ≡ c.key)
