@@ -1,21 +1,13 @@
 -- The Answers of a history, as acts of data modules, each with the READ that it answers and the Start that sent it.
-use Rattle.std.specs.Prelude.{filter_map, option_map, unwrap_or}
-use Rattle.std.proofs.Common.{ℕ, suc, ◌++◌, ◌<◌, ◌==◌, ◌∙◌, ◌∷◌, ◌≡◌, Bool, List, None, Some, [], ap, arith, false, if◌then◌else◌, inl, inr, length, map, refl, slice_get, subst, sym, true, zero}
-use Rattle.sdd_invariants.specs.All.{Act, Answer, Catalogue, ClassNo, Cond, D, DmNo, Does, Entry, Given, IsPermitted, IsRead, IsReadStep, IsSound, Log, May, Msg, Read, Rec, Records, Setting, Site, Ts, TxnNo, Use, View, ascending, bound, by_record, by_wait, class_no, conditions, conditions_at, contains, dm_no, frag_no, fragments_in, head, history, home, in_force, in_passing, is_processing, local_of, modules_asked, modules_of, next_stamp, p2_of, pipe, pipe_at, sends_of_act, setting_of, start_at, start_read, time_at, to_site, txn_no, undeclared_conditions, use_there, uses_of, view_of, waits}
-use Rattle.sdd_invariants.specs.protocol.declared.entry.Entry as line
-use Rattle.sdd_invariants.specs.site_module.SiteLog as site
-use Rattle.sdd_invariants.proofs.logs.EachLocal.{allowed_act}
-use Rattle.sdd_laws.specs.All.{Attempt, IsAnswered, IsAttempt, Stands, p2_time}
-use Rattle.sdd_invariants.proofs.Installed.{class_number, head_put}
-use Rattle.sdd_invariants.proofs.AreReadSteps.{d_step}
-use Rattle.sdd_invariants.proofs.Bools.{not_both, or_left, or_right, same_number, same_or_not}
-use Rattle.sdd_lawful.specs.Made.{IsMadeAt, record_of}
+use Rattle.sdd_lawful.proofs.All.{Act, Answer, Attempt, Bool, Catalogue, ClassNo, Cond, D, DmNo, Does, Entry, Given, IsAnswered, IsAttempt, IsMadeAt, IsPermitted, IsRead, IsReadStep, IsSound, List, Log, May, Msg, None, Read, Rec, Records, Setting, Site, Some, Stands, Ts, TxnNo, Use, View, [], allowed_act, ap, arith, ascending, bound, by_record, by_wait, class_no, class_number, conditions, conditions_at, contains, d_step, dm_no, false, filter_map, frag_no, fragments_in, head, head_put, history, home, if◌then◌else◌, in_force, in_passing, inl, inr, is_processing, length, local_of, map, modules_asked, modules_of, next_stamp, not_both, option_map, or_left, or_right, p2_of, p2_time, pipe, pipe_at, record_of, refl, same_number, same_or_not, sends_of_act, setting_of, slice_get, start_at, start_read, subst, suc, sym, time_at, to_site, true, txn_no, undeclared_conditions, unwrap_or, use_there, uses_of, view_of, waits, zero, ℕ, ◌++◌, ◌<◌, ◌==◌, ◌∙◌, ◌∷◌, ◌≡◌}
 use Rattle.sdd_lawful.proofs.Applied.{IsDataIn, data_in}
 use Rattle.sdd_lawful.proofs.Classes.{at_home, further_back, home_setting}
 use Rattle.sdd_lawful.proofs.Commits.{begun_as}
 use Rattle.sdd_lawful.proofs.Committed.{same_attempt}
 use Rattle.sdd_lawful.proofs.Places.{place_rises, stands_there}
 use Rattle.sdd_lawful.proofs.Started.{start_of}
+use Rattle.sdd_invariants.specs.protocol.declared.entry.Entry as line
+use Rattle.sdd_invariants.specs.site_module.SiteLog as site
 
 -- an Answer is of a READ at the head of its pipe
 pub record IsReadMsg (txn : TxnNo) (attempt : ℕ) (m : Msg) : Type 0 where
@@ -131,7 +123,8 @@ read_of_some g log later before e c n number d ts of ds us h is top =
     let r : IsRead (home_setting g c) l p.act c ts.0 n number = subst (λ j. IsRead (home_setting g c) l p.act j ts.0 n number) z p.by in
     let start : Act = start_at (home_setting g c) c l r.queued in
     let b : Attempt = begun_as g c l r.queued (length (history p.before)) in
-    let i = in_reads (start_read (home_setting g c) c l r.queued) d (modules_asked (home_setting g c) c r.queued.text) p.place m (subst (λ y. slice_get (to_site (D (dm_no d)) (sends_of_act y)) p.place ≡ Some m) r.act_is p.there) in
+    let i = in_reads (start_read (home_setting g c) c l r.queued) d (modules_asked (home_setting g c) c r.queued.text) p.place m
+    (subst (λ y. slice_get (to_site (D (dm_no d)) (sends_of_act y)) p.place ≡ Some m) r.act_is p.there) in
     let start_is : before ≡ p.later ++ Does at start ∷ p.before = p.is ∙ ap (λ y. p.later ++ Does at y ∷ p.before) r.act_is in
     let f = further_back log later before e (Does at start) p.later p.before is start_is in
     let rises = place_rises p.later (Does at start) p.before (start_of b) refl in
@@ -153,7 +146,8 @@ read_of_some g log later before e c n number d ts of ds us h is top =
         start_makes = refl;
         start_place = refl;
         start_before = omega arith;
-        conds_are = conds_same g.catalogue (in_force (home_setting g c) l).table c (ascending (fragments_in (uses_of g.catalogue r.queued.text))) (next_stamp (home_setting g c) l) (bound (home_setting g c) l) d;
+        conds_are = conds_same g.catalogue (in_force (home_setting g c) l).table c (ascending (fragments_in (uses_of g.catalogue r.queued.text)))
+            (next_stamp (home_setting g c) l) (bound (home_setting g c) l) d;
         uses_are = refl;
         asked = i.0;
       };
@@ -181,12 +175,14 @@ pub record IsAnswerOfSome (g : Given) (log : Log) (n number d k : ℕ) : Type 0 
   pub number_is : attempt.number ≡ number
   pub answer : IsAnswerIn g log attempt d k
 
-answer_as : (g : Given) (log later : Log) (sends : List (Site × Msg)) (before : Log) (b : Attempt) (c n number d k : ℕ) → b.class ≡ c → b.txn ≡ n → b.number ≡ number
+answer_as : (g : Given) (log later : Log) (sends : List (Site × Msg)) (before : Log) (b : Attempt) (c n number d k : ℕ) → b.class ≡ c → b.txn ≡ n
+    → b.number ≡ number
     → log ≡ later ++ Does (D (dm_no d)) (Records c (Answer (txn_no n) number (dm_no d)) sends) ∷ before → length (history before) ≡ k
     → IsPermitted g (Does (D (dm_no d)) (Records c (Answer (txn_no n) number (dm_no d)) sends) ∷ before) → IsReadIn g before b d → IsAnswerIn g log b d k
 answer_as g log later sends before b c n number d k p q r is place h read =
     let named : Records b.class (answer_rec b d) sends ≡ Records c (Answer (txn_no n) number (dm_no d)) sends =
-    ap (λ y. Records y (answer_rec b d) sends) p ∙ ap (λ y. Records c (Answer (txn_no y) b.number (dm_no d)) sends) q ∙ ap (λ y. Records c (Answer (txn_no n) y (dm_no d)) sends) r in
+    ap (λ y. Records y (answer_rec b d) sends) p ∙ ap (λ y. Records c (Answer (txn_no y) b.number (dm_no d)) sends) q
+    ∙ ap (λ y. Records c (Answer (txn_no n) y (dm_no d)) sends) r in
     record {
       later = later;
       sends = sends;
@@ -200,10 +196,12 @@ answer_as g log later sends before b c n number d k p q r is place h read =
 pub answer_of_some : (g : Given) (log : Log) (n number d k : ℕ) → IsPermitted g log
     → Stands (history log) k (Answer (txn_no n) number (dm_no d)) → IsAnswerOfSome g log n number d k
 answer_of_some g log n number d k h st =
-    let x : IsDataIn g log k (Answer (txn_no n) number (dm_no d)) (dm_no d) = data_in g log k (Answer (txn_no n) number (dm_no d)) (dm_no d) h refl refl (λ e p. sym p) st in
+    let x : IsDataIn g log k (Answer (txn_no n) number (dm_no d)) (dm_no d) = data_in g log k (Answer (txn_no n) number (dm_no d)) (dm_no d) h refl refl
+    (λ e p. sym p) st in
     let act : Act = Records x.class (Answer (txn_no n) number (dm_no d)) x.sends in
     let s : Setting = setting_of g (D (dm_no d)) in
-    let w = answer_head s (local_of g (D (dm_no d)) x.before) x.class (txn_no n) number (dm_no d) x.sends (d_step s (local_of g (D (dm_no d)) x.before) act (allowed_act g x.before (Does (D (dm_no d)) act) x.permitted.0)) in
+    let w = answer_head s (local_of g (D (dm_no d)) x.before) x.class (txn_no n) number (dm_no d) x.sends
+    (d_step s (local_of g (D (dm_no d)) x.before) act (allowed_act g x.before (Does (D (dm_no d)) act) x.permitted.0)) in
     let r = read_of_some g log x.later x.before (Does (D (dm_no d)) act) x.class n number d w.ts w.class w.conds w.uses x.permitted.1 x.is w.is in
     record {
       attempt = r.attempt;

@@ -1,23 +1,11 @@
 -- The Applies of a history, as acts of data modules; and what a data module has applied at one of its acts.
-use Rattle.std.specs.Prelude.{filter_map}
-use Rattle.std.proofs.Common.{ℕ, suc, ◌&&◌, ◌++◌, ◌+◌, ◌<◌, ◌==◌, ◌∙◌, ◌∷◌, ◌≡◌, ◌≤◌, Bool, List, Option, Some, [], ap, append_assoc, arith, false, if◌then◌else◌, inl, inr, length, refl, slice_get, subst, sym, true, zero}
-use Rattle.std.specs.List.{range_with_len}
-use Rattle.std.proofs.lemmas.Bool.{eqb-true}
-use Rattle.sdd_invariants.specs.All.{Act, Apply, Attempt as Running, Bases, Catalogue, Change, ClassNo, D, Did, DmNo, Does, Given, Handed, IsApplied, IsApplyOf, IsOfWrite, IsPermitted, IsPutAt, IsWrite, Log, Msg, Rec, Records, Redeclared, Sends, Setting, Site, Submits, Ticked, Ts, TxnNo, Write, class_no, commit_act, dm_no, effect, head, history, is_processing, local_of, pipe_at, results, sends_of_act, time_at, to_site, txn_no, write_to}
-use Rattle.sdd_invariants.specs.site_module.SiteLog.{Log as SiteLog}
-use Rattle.sdd_invariants.specs.site_module.SiteLog as site
-use Rattle.sdd_invariants.proofs.WritesPut.{goes_write}
-use Rattle.sdd_laws.specs.All.{AppliedBefore, IsModule, Stands}
-use Rattle.sdd_invariants.proofs.Installed.{apply_follows, apply_of_head, head_put}
-use Rattle.sdd_invariants.proofs.Bools.{and_left, same_number, same_or_not, true_or_false}
-use Rattle.sdd_invariants.proofs.Lists.{at_seam, in_either, in_left, in_one}
-use Rattle.sdd_invariants.proofs.Sites.{GoesTo}
-use Rattle.sdd_invariants.proofs.Made.{permitted_before, place_of_act}
-use Rattle.sdd_lawful.specs.Made.{IsMadeAt}
+use Rattle.sdd_lawful.proofs.All.{Act, AppliedBefore, Apply, Bases, Bool, Catalogue, Change, ClassNo, D, Did, DmNo, Does, Given, Handed, IsApplied, IsApplyOf, IsMadeAt, IsModule, IsOfWrite, IsPermitted, IsPutAt, IsWrite, List, Log, Msg, Option, Rec, Records, Redeclared, Running, Sends, Site, SiteLog, Some, Stands, Submits, Ticked, Ts, TxnNo, Write, [], and_left, ap, append_assoc, apply_follows, apply_of_head, arith, at_seam, class_no, commit_act, dm_no, effect, eqb-true, false, filter_map, goes_write, head, head_put, history, if◌then◌else◌, in_either, in_left, in_one, inl, inr, is_processing, length, local_of, permitted_before, pipe_at, place_of_act, range_with_len, refl, results, same_number, same_or_not, sends_of_act, slice_get, subst, suc, sym, time_at, to_site, true, true_or_false, txn_no, write_to, zero, ℕ, ◌&&◌, ◌++◌, ◌+◌, ◌<◌, ◌==◌, ◌∙◌, ◌∷◌, ◌≡◌, ◌≤◌}
 use Rattle.sdd_lawful.proofs.Classes.{at_home, home_setting}
 use Rattle.sdd_lawful.proofs.Makers.{IsOfData, act_kind, data_home, is_of_run, is_own}
 use Rattle.sdd_lawful.proofs.Places.{made_at, place_rises, stands_there}
 use Rattle.sdd_lawful.proofs.Started.{act_local, act_of_record}
+use Rattle.sdd_invariants.proofs.Sites.{GoesTo}
+use Rattle.sdd_invariants.specs.site_module.SiteLog as site
 
 -- the record of a data module, as one of its acts
 pub record IsDataIn (g : Given) (log : Log) (k : ℕ) (r : Rec) (d : DmNo) : Type 0 where
@@ -72,7 +60,8 @@ pub put_module : (g : Given) (c : ℕ) (d : DmNo) (log : Log) (ts : Ts) (of : Cl
     → IsPutAt g log c d (Write ts of txn changes) → IsModule g.catalogue d.0
 put_module g c d log ts of txn changes p =
     let w : IsWrite (home_setting g c) (at_home g c p.before) p.act of.0 ts.0 txn.0 = p.by in
-    write_module g.catalogue of.0 w.bases w.attempt d p.place (Write ts of txn changes) (subst (λ x. slice_get (to_site (D d) (sends_of_act x)) p.place ≡ Some (Write ts of txn changes)) w.act_is p.there)
+    write_module g.catalogue of.0 w.bases w.attempt d p.place (Write ts of txn changes)
+    (subst (λ x. slice_get (to_site (D d) (sends_of_act x)) p.place ≡ Some (Write ts of txn changes)) w.act_is p.there)
 
 -- an Apply of a transaction
 
@@ -132,8 +121,7 @@ pub record HasResult (c : ℕ) (log : SiteLog) (r : Rec) : Type 0 where
   pub is : log ≡ later ++ Did (Records c r sends) ∷ before
 
 result_past : (c : ℕ) (e : site.Entry) (log : SiteLog) (r : Rec) → HasResult c log r → HasResult c (e ∷ log) r
-result_past c e log r h =
-    record { later = e ∷ h.later; sends = h.sends; before = h.before; is = ap (λ l. e ∷ l) h.is }
+result_past c e log r h = record { later = e ∷ h.later; sends = h.sends; before = h.before; is = ap (λ l. e ∷ l) h.is }
 
 pub result_in : (c : ℕ) (log : SiteLog) (i : ℕ) (r : Rec) → slice_get (results c log) i ≡ Some r → HasResult c log r
 result_in c [] i r e = cc
@@ -178,9 +166,12 @@ applied_rec g full front log d c n ts (Apply t j dm w) is h of x =
     let p = place_of_act g (D d) log x.later act x.before x.is in
     let now : IsPermitted g (Does (D d) act ∷ p.rest) = permitted_before g p.later (Does (D d) act ∷ p.rest) (subst (IsPermitted g) p.is h) in
     let same : dm ≡ d = act_kind g (D d) act p.rest now in
-    let whole : full ≡ (front ++ p.later) ++ Does (D d) act ∷ p.rest = is ∙ ap (λ l. front ++ l) p.is ∙ sym (append_assoc front p.later (Does (D d) act ∷ p.rest)) in
-    let there : Stands (history full) (length (history p.rest)) (Apply t j dm w) = subst (λ l. Stands (history l) (length (history p.rest)) (Apply t j dm w)) (sym whole) (stands_there (front ++ p.later) (Does (D d) act) p.rest (Apply t j dm w) refl) in
-    let at_d : Stands (history full) (length (history p.rest)) (Apply t j d w) = subst (λ y. Stands (history full) (length (history p.rest)) (Apply t j y w)) same there in
+    let whole : full ≡ (front ++ p.later) ++ Does (D d) act ∷ p.rest = is ∙ ap (λ l. front ++ l) p.is
+    ∙ sym (append_assoc front p.later (Does (D d) act ∷ p.rest)) in
+    let there : Stands (history full) (length (history p.rest)) (Apply t j dm w) = subst (λ l. Stands (history l) (length (history p.rest)) (Apply t j dm w))
+    (sym whole) (stands_there (front ++ p.later) (Does (D d) act) p.rest (Apply t j dm w) refl) in
+    let at_d : Stands (history full) (length (history p.rest)) (Apply t j d w) = subst
+    (λ y. Stands (history full) (length (history p.rest)) (Apply t j y w)) same there in
     let rises = place_rises p.later (Does (D d) act) p.rest (Apply t j dm w) refl in
     let size : length (history log) ≡ length (history (p.later ++ Does (D d) act ∷ p.rest)) = ap (λ l. length (history l)) p.is in
     record {

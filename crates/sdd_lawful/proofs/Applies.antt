@@ -1,11 +1,5 @@
 -- The history of a permitted log keeps the law of Applies.
-use Rattle.std.proofs.Common.{ℕ, ◌++◌, ◌<◌, ◌==◌, ◌∙◌, ◌∷◌, ◌≡◌, ◌⊎◌, Some, [], ap, append_assoc, arith, inl, inr, length, refl, subst, sym, true}
-use Rattle.sdd_invariants.specs.All.{D, Does, Given, IsApplied, IsPermitted, IsSound, Log, Msg, Rec, Records, TxnNo, Write, changes_to, class_no, commit_act, dm_no, head, history, home, pipe_at, time_at, time_of, txn_no}
-use Rattle.sdd_laws.specs.All.{AppliedBefore, Attempt, Committed, GoesTo, IsAnswered, IsCommitted, IsEarlier, IsOfCommit, KeepsApplies, Stands, Touches, by_change, record_at}
-use Rattle.sdd_laws.specs.Deeds as deeds
-use Rattle.sdd_invariants.proofs.Installed.{applied_below, around_applied}
-use Rattle.sdd_invariants.proofs.Bools.{lower_same_higher}
-use Rattle.sdd_lawful.specs.Made.{IsMadeAt}
+use Rattle.sdd_lawful.proofs.All.{AppliedBefore, Attempt, Committed, D, Does, Given, GoesTo, IsAnswered, IsApplied, IsCommitted, IsEarlier, IsMadeAt, IsOfCommit, IsPermitted, IsSound, KeepsApplies, Log, Msg, Rec, Records, Some, Stands, Touches, TxnNo, Write, [], ap, append_assoc, applied_below, arith, around_applied, by_change, changes_to, class_no, commit_act, dm_no, head, history, home, inl, inr, length, lower_same_higher, pipe_at, record_at, refl, subst, sym, time_at, time_of, true, txn_no, ℕ, ◌++◌, ◌<◌, ◌==◌, ◌∙◌, ◌∷◌, ◌≡◌, ◌⊎◌}
 use Rattle.sdd_lawful.proofs.Answered.{IsAnswerIn, answer_in, answer_made, answer_rec, read_msg}
 use Rattle.sdd_lawful.proofs.Applied.{IsApplyIn, applied_before, applied_there, apply_in, apply_made, apply_rec}
 use Rattle.sdd_lawful.proofs.Classes.{further_back}
@@ -13,6 +7,7 @@ use Rattle.sdd_lawful.proofs.Committed.{IsCommittedIn, commit_of_log, committed_
 use Rattle.sdd_lawful.proofs.Homes.{home_small}
 use Rattle.sdd_lawful.proofs.Places.{entries_in_order, place_rises}
 use Rattle.sdd_lawful.proofs.Touched.{goes_module, goes_some, some_goes}
+use Rattle.sdd_laws.specs.Deeds as deeds
 
 -- an Apply is of a committed transaction
 pub of_commit : (g : Given) (log : Log) → IsSound g.catalogue → IsPermitted g log → (n class d ts k : ℕ)
@@ -20,10 +15,12 @@ pub of_commit : (g : Given) (log : Log) → IsSound g.catalogue → IsPermitted 
 of_commit g log sound h n class d ts k s =
     let x = apply_in g log n class d ts k h s in
     let y = x.of in
-    let f = further_back log x.later x.before (Does (D (dm_no d)) (Records class (apply_rec n class d ts) x.sends)) (Does (home g.catalogue class) (commit_act g.catalogue y.bases class y.attempt)) y.later y.before x.is y.is in
+    let f = further_back log x.later x.before (Does (D (dm_no d)) (Records class (apply_rec n class d ts) x.sends))
+    (Does (home g.catalogue class) (commit_act g.catalogue y.bases class y.attempt)) y.later y.before x.is y.is in
     let c = commit_of_log g log f.0 y.before class y.bases y.attempt sound h f.1 y.active_is in
     let rises = place_rises y.later (Does (home g.catalogue class) (commit_act g.catalogue y.bases class y.attempt)) y.before _ refl in
-    let size : length (history x.before) ≡ length (history (y.later ++ Does (home g.catalogue class) (commit_act g.catalogue y.bases class y.attempt) ∷ y.before)) = ap (λ l. length (history l)) y.is in
+    let size : length (history x.before) ≡ length
+    (history (y.later ++ Does (home g.catalogue class) (commit_act g.catalogue y.bases class y.attempt) ∷ y.before)) = ap (λ l. length (history l)) y.is in
     let place = x.place_is in
     let at = c.place_is in
     record {
@@ -33,7 +30,8 @@ of_commit g log sound h n class d ts k s =
       class_is = c.class_is;
       ts_is = c.ts_is ∙ sym y.ts_is;
       before = omega arith;
-      goes = some_goes g.catalogue c.committed _ d c.changes_are x.at_module (subst (λ i. ((i == 0) ≡ true) ⊎ (0 < length (changes_to g y.bases y.attempt (dm_no d)))) (sym c.class_is) y.touches_it);
+      goes = some_goes g.catalogue c.committed _ d c.changes_are x.at_module
+          (subst (λ i. ((i == 0) ≡ true) ⊎ (0 < length (changes_to g y.bases y.attempt (dm_no d)))) (sym c.class_is) y.touches_it);
     }
 
 -- of a committed transaction
@@ -48,7 +46,9 @@ apply_of_committed g log t d k sound h c a =
     let same : o.committed ≡ t = same_committed g log sound h o.committed t o.is_committed c o.txn_is in
     let class : a.class ≡ t.start.class = sym o.class_is ∙ ap (λ (y : Committed). y.start.class) same in
     let ts : a.ts ≡ t.start.ts = sym o.ts_is ∙ ap (λ (y : Committed). y.start.ts) same in
-    let there : Stands (history log) k (apply_rec t.start.txn t.start.class d t.start.ts) = subst (λ j. Stands (history log) k (apply_rec t.start.txn t.start.class d j)) ts (subst (λ j. Stands (history log) k (apply_rec t.start.txn j d a.ts)) class a.stands) in
+    let there : Stands (history log) k (apply_rec t.start.txn t.start.class d t.start.ts) = subst
+    (λ j. Stands (history log) k (apply_rec t.start.txn t.start.class d j)) ts
+    (subst (λ j. Stands (history log) k (apply_rec t.start.txn j d a.ts)) class a.stands) in
     record { apply = apply_in g log t.start.txn t.start.class d t.start.ts k h there; goes = subst (λ y. GoesTo g.catalogue y d) same o.goes }
 
 -- what is applied before a place of the history is applied in the log up to there
@@ -57,8 +57,10 @@ pub seen_applied : (g : Given) (full : Log) (t : Committed) (c : IsCommittedIn g
     → IsApplied g m.before (dm_no d) t.start.class c.running
 seen_applied g full t c d j k r m x l =
     let z = entries_in_order full j k (apply_rec t.start.txn t.start.class d t.start.ts) r (apply_made g full t.start.txn t.start.class d t.start.ts j x) m l in
-    let named : apply_rec t.start.txn t.start.class d t.start.ts ≡ apply_rec c.running.txn t.start.class d c.running.ts = ap (λ y. apply_rec y t.start.class d t.start.ts) (sym c.txn_is) ∙ ap (λ y. apply_rec c.running.txn t.start.class d y) (sym c.ts_is) in
-    applied_there g m.before z.between x.before d t.start.class c.running x.sends (z.is ∙ ap (λ y. z.between ++ Does (D (dm_no d)) (Records t.start.class y x.sends) ∷ x.before) named)
+    let named : apply_rec t.start.txn t.start.class d t.start.ts ≡ apply_rec c.running.txn t.start.class d c.running.ts = ap
+    (λ y. apply_rec y t.start.class d t.start.ts) (sym c.txn_is) ∙ ap (λ y. apply_rec c.running.txn t.start.class d y) (sym c.ts_is) in
+    applied_there g m.before z.between x.before d t.start.class c.running x.sends
+    (z.is ∙ ap (λ y. z.between ++ Does (D (dm_no d)) (Records t.start.class y x.sends) ∷ x.before) named)
 
 -- and the other way round
 pub applied_seen : (g : Given) (full : Log) (t : Committed) (c : IsCommittedIn g full t) (d k : ℕ) (r : Rec) (m : IsMadeAt full k r)
@@ -82,7 +84,8 @@ split_at g full t c d k r m msg sound h goes e =
     let is : full ≡ front ++ m.before = m.is ∙ sym (append_assoc m.later (m.entry ∷ []) m.before) in
     let small = home_small g.catalogue sound t.start.class in
     let at = goes_module g.catalogue sound t d goes in
-    let w = around_applied g t.start.class (dm_no d) front m.before c.later c.before msg c.bases c.running (subst (IsPermitted g) is h) (omega arith) at.0 at.1 e (sym is ∙ c.is) (goes_some g full t c d goes) in
+    let w = around_applied g t.start.class (dm_no d) front m.before c.later c.before msg c.bases c.running (subst (IsPermitted g) is h)
+    (omega arith) at.0 at.1 e (sym is ∙ c.is) (goes_some g full t c d goes) in
     let ts = c.ts_is in
     record { smaller = λ l. applied_seen g full t c d k r m h (w.0 (omega arith)); greater = λ l x. w.1 (omega arith) x }
 
@@ -93,7 +96,8 @@ not_twice g log t c d j k sound h x y l =
     let r : Rec = apply_rec t.start.txn t.start.class d t.start.ts in
     let i = seen_applied g log t c d j k r (apply_made g log t.start.txn t.start.class d t.start.ts k y) x l in
     let small = home_small g.catalogue sound t.start.class in
-    let b = applied_below g y.before (dm_no d) t.start.class (time_at t.start.ts) (class_no t.start.class) (txn_no t.start.txn) y.changes c.running y.permitted.1 (omega arith) y.head_is i in
+    let b = applied_below g y.before (dm_no d) t.start.class (time_at t.start.ts) (class_no t.start.class)
+    (txn_no t.start.txn) y.changes c.running y.permitted.1 (omega arith) y.head_is i in
     let ts = c.ts_is in
     absurd (omega arith)
 
@@ -122,7 +126,8 @@ no_earlier_after g log x y cy d j k sound h e time p q l =
     let i = seen_applied g log y cy d k j r (apply_made g log x.start.txn x.start.class d x.start.ts j p) q l in
     let here : IsApplied g p.before (dm_no d) x.start.class cy.running = subst (λ c. IsApplied g p.before (dm_no d) c cy.running) (sym e) i in
     let small = home_small g.catalogue sound x.start.class in
-    let b = applied_below g p.before (dm_no d) x.start.class (time_at x.start.ts) (class_no x.start.class) (txn_no x.start.txn) p.changes cy.running p.permitted.1 (omega arith) p.head_is here in
+    let b = applied_below g p.before (dm_no d) x.start.class (time_at x.start.ts) (class_no x.start.class)
+    (txn_no x.start.txn) p.changes cy.running p.permitted.1 (omega arith) p.head_is here in
     let ts = cy.ts_is in
     absurd (omega arith)
 
@@ -153,7 +158,10 @@ none_left_out : (g : Given) (log : Log) → IsSound g.catalogue → IsPermitted 
 none_left_out g log sound h x y d k e t b =
     let q = (apply_of_committed g log y d k sound h e.second b).apply in
     let m = apply_made g log y.start.txn y.start.class d y.start.ts k q in
-    let head_is : head (pipe_at g x.start.class (dm_no d) q.before) ≡ Some (Write (time_at y.start.ts) (class_no y.start.class) (txn_no y.start.txn) q.changes) = subst (λ c. head (pipe_at g c (dm_no d) q.before) ≡ Some (Write (time_at y.start.ts) (class_no y.start.class) (txn_no y.start.txn) q.changes)) (sym e.class) q.head_is in
+    let head_is : head (pipe_at g x.start.class (dm_no d) q.before) ≡ Some
+    (Write (time_at y.start.ts) (class_no y.start.class) (txn_no y.start.txn) q.changes) = subst
+    (λ c. head (pipe_at g c (dm_no d) q.before) ≡ Some (Write (time_at y.start.ts) (class_no y.start.class) (txn_no y.start.txn) q.changes))
+    (sym e.class) q.head_is in
     (split_at g log x (committed_in g log x sound h e.first) d k (apply_rec y.start.txn y.start.class d y.start.ts) m (Write (time_at y.start.ts) (class_no y.start.class) (txn_no y.start.txn) q.changes) sound h (by_change t) head_is).smaller e.time
 
 -- at the Answer of a committed attempt
@@ -166,7 +174,8 @@ at_answer : (g : Given) (log : Log) → (sound : IsSound g.catalogue) (h : IsPer
     → x.start.class ≡ y.start.class → GoesTo g.catalogue x d → (w : IsAnswerIn g log y.start d k)
     → IsSplitAt g log x c d k (answer_rec y.start d) (answer_made g log y.start d k w) y.start.ts
 at_answer g log sound h x y d k c e goes w =
-    split_at g log x c d k (answer_rec y.start d) (answer_made g log y.start d k w) (read_msg y.start w.read.conds w.read.uses) sound h goes (head_of_class g y.start x.start.class d w.before (read_msg y.start w.read.conds w.read.uses) e w.read.head_is)
+    split_at g log x c d k (answer_rec y.start d) (answer_made g log y.start d k w) (read_msg y.start w.read.conds w.read.uses) sound h goes
+    (head_of_class g y.start x.start.class d w.before (read_msg y.start w.read.conds w.read.uses) e w.read.head_is)
 
 has_earlier : (g : Given) (log : Log) → IsSound g.catalogue → IsPermitted g log → (x y : Committed) (d k : ℕ) → IsEarlier (history log) x y
     → GoesTo g.catalogue x d → IsAnswered (history log) y.start d k → AppliedBefore (history log) x.start.txn d k

@@ -1,17 +1,6 @@
 -- The Answers and Commits of a history: one Answer of an attempt at a module, after its Start, and before its Commit one
 -- at each module that is asked.
-use Rattle.std.specs.Prelude.{filter_map}
-use Rattle.std.specs.List.{cons_option, range_with_len}
-use Rattle.std.proofs.Common.{ℕ, ◌++◌, ◌+◌, ◌<◌, ◌==◌, ◌∙◌, ◌∷◌, ◌≡◌, ◌≤◌, List, None, Option, Some, [], ap, arith, inl, inr, length, refl, slice_get, subst, suc, sym, true, zero}
-use Rattle.sdd_invariants.specs.All.{Act, Answer, Catalogue, D, Does, Given, IsPermitted, IsSound, Log, Records, ascending, class_no, commit_act, contains, dm_no, fragments_in, has_copy, head, history, home, home_of, lowest_copy, modules_of, numbers_to, pipe_at, reads_at, setting_of, time_at, txn_no}
-use Rattle.sdd_invariants.proofs.catalog.Sound.{each_in_range, found_has}
-use Rattle.sdd_invariants.proofs.lang.ReadSetDecides.{ascending_back}
-use Rattle.sdd_laws.specs.All.{AnsweredBefore, Asks, Attempt, Committed, HasCommit, IsAttempt, IsCommitted, Stands, StartedBefore, by_no_class, by_use}
-use Rattle.sdd_laws.proofs.Fitting.{each_here}
-use Rattle.sdd_laws.proofs.class_eras.Lists.{at_member}
-use Rattle.sdd_invariants.proofs.Once.{answered_once}
-use Rattle.sdd_invariants.proofs.Starting.{commit_answered}
-use Rattle.sdd_invariants.proofs.Bools.{lower_same_higher, only_right, or_left, or_right, same_number, same_or_not}
+use Rattle.sdd_lawful.proofs.All.{Act, Answer, AnsweredBefore, Asks, Attempt, Catalogue, Committed, D, Does, Given, HasCommit, IsAttempt, IsCommitted, IsPermitted, IsSound, List, Log, None, Option, Records, Some, Stands, StartedBefore, [], answered_once, ap, arith, ascending, by_no_class, by_use, class_no, commit_act, commit_answered, cons_option, contains, contains_at, dm_no, each_in_range, filter_map, found_has, fragments_in, has_copy, head, history, home, home_of, in_ascending, inl, inr, length, lower_same_higher, lowest_copy, modules_of, numbers_to, only_right, or_left, or_right, pipe_at, range_with_len, reads_at, refl, same_number, same_or_not, setting_of, subst, sym, time_at, true, txn_no, ℕ, ◌++◌, ◌+◌, ◌<◌, ◌==◌, ◌∙◌, ◌∷◌, ◌≡◌, ◌≤◌}
 use Rattle.sdd_lawful.proofs.Answered.{IsAnswerIn, answer_in, answer_made, answer_of_some, answer_rec, read_msg}
 use Rattle.sdd_lawful.proofs.Beginnings.{in_numbers}
 use Rattle.sdd_lawful.proofs.Classes.{further_back}
@@ -25,14 +14,16 @@ not_behind : {A : Type 0} (g : Given) (log : Log) (a : Attempt) (d j k : ℕ) �
 not_behind g log a d j k sound h x y l =
     let z = entries_in_order log j k (answer_rec a d) (answer_rec a d) (answer_made g log a d j x) (answer_made g log a d k y) l in
     let small = home_small g.catalogue sound a.class in
-    let now : IsPermitted g (z.between ++ Does (D (dm_no d)) (Records a.class (answer_rec a d) x.sends) ∷ x.before) = subst (IsPermitted g) z.is y.permitted.1 in
+    let now : IsPermitted g (z.between ++ Does (D (dm_no d)) (Records a.class (answer_rec a d) x.sends) ∷ x.before) = subst
+    (IsPermitted g) z.is y.permitted.1 in
     absurd (answered_once g a.class (dm_no d) z.between x.before (dm_no d) x.sends (time_at a.ts) (time_at a.ts) (class_no a.class) (class_no a.class) (txn_no a.txn) (txn_no a.txn) a.number a.number x.read.conds y.read.conds x.read.uses y.read.uses now (omega arith) x.read.head_is
     (subst (λ b. head (pipe_at g a.class (dm_no d) b) ≡ Some (read_msg a y.read.conds y.read.uses)) z.is y.read.head_is) refl refl)
 
 answer_at : (g : Given) (log : Log) (a : Attempt) (n number d k : ℕ) → IsSound g.catalogue → IsPermitted g log → IsAttempt (history log) a
     → a.txn ≡ n → a.number ≡ number → Stands (history log) k (Answer (txn_no n) number (dm_no d)) → IsAnswerIn g log a d k
 answer_at g log a n number d k sound h s e f st =
-    answer_in g log a d k sound h s (subst (λ i. Stands (history log) k (Answer (txn_no a.txn) i (dm_no d))) (sym f) (subst (λ i. Stands (history log) k (Answer (txn_no i) number (dm_no d))) (sym e) st))
+    answer_in g log a d k sound h s
+    (subst (λ i. Stands (history log) k (Answer (txn_no a.txn) i (dm_no d))) (sym f) (subst (λ i. Stands (history log) k (Answer (txn_no i) number (dm_no d))) (sym e) st))
 
 pub one_answer : (g : Given) (log : Log) → IsSound g.catalogue → IsPermitted g log → (n number d j k : ℕ)
     → Stands (history log) j (Answer (txn_no n) number (dm_no d)) → Stands (history log) k (Answer (txn_no n) number (dm_no d)) → j ≡ k
@@ -61,11 +52,6 @@ commit_after g log sound h n number k c =
 
 -- the modules that are asked
 
-pub in_ascending : (xs : List ℕ) (n : ℕ) → contains xs n ≡ true → contains (ascending xs) n ≡ true
-in_ascending xs n c =
-    at_member (λ m. contains (ascending xs) m ≡ true) xs n
-    (ascending_back (λ m. contains (ascending xs) m ≡ true) xs (each_here (ascending xs) (ascending xs) (λ m d. d))) c
-
 contains_made : (f : ℕ → Option ℕ) (xs : List ℕ) (x y : ℕ) → contains xs x ≡ true → f x ≡ Some y → contains (filter_map f xs) y ≡ true
 contains_made f [] x y c e = cc
 contains_made f (z ∷ xs) x y c e = elim (same_or_not z x) [
@@ -74,17 +60,13 @@ contains_made f (z ∷ xs) x y c e = elim (same_or_not z x) [
       elim (f z) as (λ o. contains (cons_option o (filter_map f xs)) y ≡ true) [ None ↦ i | Some w ↦ or_right (w == y) (contains (filter_map f xs) y) i ])
 ]
 
-pub contains_at : (ns : List ℕ) (k n : ℕ) → slice_get ns k ≡ Some n → contains ns n ≡ true
-contains_at [] k n e = cc
-contains_at (x ∷ ns) zero n e = let p : x ≡ n = cc in or_left (x == n) (contains ns n) (ap (λ y. y == n) p ∙ same_number n)
-contains_at (x ∷ ns) (suc k) n e = or_right (x == n) (contains ns n) (contains_at ns k n e)
-
 zero_asks : (cat : Catalogue) (a : Attempt) (f d : ℕ) → a.class ≡ 0 → reads_at cat a.class f ≡ Some d
     → contains (modules_of cat a.class (ascending (fragments_in a.uses))) d ≡ true
 zero_asks cat a f d p e =
     let q : (a.class == 0) ≡ true = ap (λ y. y == 0) p in
     let low : lowest_copy cat f ≡ Some d = rw q at e in
-    let w : (1 ≤ d) × (d < 1 + cat.dms) = found_has (λ x. (1 ≤ x) × (x < 1 + cat.dms)) (λ dm. has_copy cat dm f) (range_with_len 1 cat.dms) d (each_in_range 1 cat.dms) low in
+    let w : (1 ≤ d) × (d < 1 + cat.dms) = found_has (λ x. (1 ≤ x) × (x < 1 + cat.dms)) (λ dm. has_copy cat dm f) (range_with_len 1 cat.dms) d
+    (each_in_range 1 cat.dms) low in
     let i = in_numbers 1 cat.dms d w.0 w.1 in
     rw q (contains_at (numbers_to cat.dms) i.0 d i.1)
 
@@ -101,16 +83,21 @@ pub answered : (g : Given) (log : Log) → IsSound g.catalogue → IsPermitted g
     → Asks g.catalogue t.start d → AnsweredBefore (history log) t.start d t.place
 answered g log sound h t d ct asks =
     let c = committed_in g log t sound h ct in
-    let asked = subst (λ us. contains (modules_of g.catalogue t.start.class (ascending (fragments_in us))) d ≡ true) c.uses_are (asks_module g.catalogue t.start d asks) in
+    let asked = subst (λ us. contains (modules_of g.catalogue t.start.class (ascending (fragments_in us))) d ≡ true) c.uses_are
+    (asks_module g.catalogue t.start d asks) in
     let a = commit_answered g t.start.class c.before c.bases c.running (dm_no d) c.permitted c.active_is asked in
     let ans : Act = Records t.start.class (Answer a.txn a.attempt (home_of (setting_of g (D (dm_no d)))).dm) a.sends in
-    let f = further_back log c.later c.before (Does (home g.catalogue t.start.class) (commit_act g.catalogue c.bases t.start.class c.running)) (Does (D (dm_no d)) ans) a.later a.before c.is a.is in
-    let there : Stands (history log) (length (history a.before)) (Answer a.txn a.attempt (dm_no d)) = subst (λ l. Stands (history l) (length (history a.before)) (Answer a.txn a.attempt (dm_no d))) (sym f.1) (stands_there f.0 (Does (D (dm_no d)) ans) a.before (Answer a.txn a.attempt (dm_no d)) refl) in
+    let f = further_back log c.later c.before (Does (home g.catalogue t.start.class) (commit_act g.catalogue c.bases t.start.class c.running))
+    (Does (D (dm_no d)) ans) a.later a.before c.is a.is in
+    let there : Stands (history log) (length (history a.before)) (Answer a.txn a.attempt (dm_no d)) = subst
+    (λ l. Stands (history l) (length (history a.before)) (Answer a.txn a.attempt (dm_no d))) (sym f.1)
+    (stands_there f.0 (Does (D (dm_no d)) ans) a.before (Answer a.txn a.attempt (dm_no d)) refl) in
     let rises = place_rises a.later (Does (D (dm_no d)) ans) a.before (Answer a.txn a.attempt (dm_no d)) refl in
     let size : length (history c.before) ≡ length (history (a.later ++ Does (D (dm_no d)) ans ∷ a.before)) = ap (λ l. length (history l)) a.is in
     let place = c.place_is in
     record {
       place = length (history a.before);
-      answered = subst (λ i. Stands (history log) (length (history a.before)) (Answer (txn_no t.start.txn) i (dm_no d))) (a.try_is ∙ c.number_is) (subst (λ i. Stands (history log) (length (history a.before)) (Answer (txn_no i) a.attempt (dm_no d))) (a.number_is ∙ c.txn_is) there);
+      answered = subst (λ i. Stands (history log) (length (history a.before)) (Answer (txn_no t.start.txn) i (dm_no d))) (a.try_is ∙ c.number_is)
+          (subst (λ i. Stands (history log) (length (history a.before)) (Answer (txn_no i) a.attempt (dm_no d))) (a.number_is ∙ c.txn_is) there);
       before = omega arith;
     }

@@ -1,25 +1,7 @@
 -- The fragments of uses, of all modules and of one.
-use Rattle.std.specs.Prelude.{filter, filter_map}
-use Rattle.std.specs.List.{Contains, cons_option}
-use Rattle.std.proofs.Common.{ℕ, ◌++◌, ◌==◌, ◌∙◌, ◌∷◌, ◌≡◌, ◌⊎◌, Bool, List, Some, [], ap, cond, false, inl, inr, map, refl, subst, sym, true}
-use Rattle.std.proofs.lemmas.Bool.{eqb-true}
-use Rattle.std.proofs.lemmas.List.Elements.{All-contains, All-nil}
-use Rattle.sdd_invariants.specs.All.{Catalogue, FragNo, Use, ascending, contains, fragments_in, is_read_at, use_there, with_frags}
-use Rattle.sdd_invariants.proofs.lang.Sets.{All-ascending}
-use Rattle.sdd_laws.proofs.Fitting.{each_here}
-use Rattle.sdd_invariants.proofs.Bools.{only_right, or_left, or_right, same_number, same_or_not, true_or_false}
-use Rattle.sdd_invariants.proofs.Lists.{any_at}
-use Rattle.sdd_lawful.proofs.Conditions.{member_of}
+use Rattle.sdd_lawful.proofs.All.{Bool, Catalogue, FragNo, List, Use, [], ap, cond, cons_option, contains, false, filter, filter_map, fragments_in, inl, inr, is_read_at, map, only_right, or_left, or_right, refl, same_number, same_or_not, subst, sym, true, true_or_false, use_there, with_frags, ℕ, ◌++◌, ◌==◌, ◌∙◌, ◌∷◌, ◌≡◌, ◌⊎◌}
 
 -- numbers in lists
-
-pub from_ascending : (xs : List ℕ) (n : ℕ) → Contains (ascending xs) n → contains xs n ≡ true
-from_ascending xs n m =
-    All-contains (λ k. contains xs k ≡ true) (ascending xs) n
-    (All-ascending (λ k. contains xs k ≡ true) [] xs (All-nil (λ k. contains xs k ≡ true)) (each_here xs xs (λ k c. c))) m
-
-pub number_member : (xs : List ℕ) (n : ℕ) → contains xs n ≡ true → Contains xs n
-number_member xs n e = let i = any_at (λ x. x == n) xs e in member_of xs i.0 n (i.2 ∙ ap (λ y. Some y) (eqb-true i.1 n i.3))
 
 -- the fragments of the uses at one module
 
@@ -72,8 +54,7 @@ more_use u (f ∷ fs) rest = refl
 
 there_more : (cat : Catalogue) (c d : ℕ) (u : Use) (us : List Use)
     → fragments_in (filter_map (use_there cat c d) (u ∷ us)) ≡ numbers_of (filter (λ f. is_read_at cat c d f.0) u.frags) ++ fragments_in (filter_map (use_there cat c d) us)
-there_more cat c d u us =
-    more_use u (filter (λ f. is_read_at cat c d f.0) u.frags) (filter_map (use_there cat c d) us)
+there_more cat c d u us = more_use u (filter (λ f. is_read_at cat c d f.0) u.frags) (filter_map (use_there cat c d) us)
 
 pub read_there : (cat : Catalogue) (c d f : ℕ) (us : List Use) → contains (fragments_in us) f ≡ true → is_read_at cat c d f ≡ true
     → contains (fragments_in (filter_map (use_there cat c d) us)) f ≡ true

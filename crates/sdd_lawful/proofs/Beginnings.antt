@@ -1,10 +1,5 @@
 -- The Starts of undeclared transactions, as acts of U; and what is there in every catalogue.
-use Rattle.std.specs.List.{range_with_len}
-use Rattle.std.proofs.Common.{ℕ, suc, ◌++◌, ◌+◌, ◌<◌, ◌==◌, ◌∙◌, ◌∷◌, ◌≡◌, ◌≤◌, List, Some, [], ap, arith, inl, inr, length, map, slice_get, subst, true, zero}
-use Rattle.sdd_invariants.specs.All.{Act, Does, FragNo, Given, History, IsPermitted, IsSound, IsStartOf, Log, Queued, U, contains, frag_no, history, home, next_stamp, start_at, start_u, u_stamp}
-use Rattle.sdd_invariants.proofs.Recorded.{recorded}
-use Rattle.sdd_laws.specs.All.{Attempt, Committed, IsAttempt, IsCommitted, IsFragment, changes}
-use Rattle.sdd_invariants.proofs.Bools.{differ, lower_same_higher, or_left, or_right, same_number, same_or_not}
+use Rattle.sdd_lawful.proofs.All.{Act, Attempt, Committed, Does, FragNo, Given, History, IsAttempt, IsCommitted, IsFragment, IsPermitted, IsSound, IsStartOf, List, Log, Queued, Some, U, [], ap, arith, changes, contains, differ, frag_no, history, home, inl, inr, length, lower_same_higher, map, next_stamp, or_left, or_right, range_with_len, recorded, same_number, same_or_not, slice_get, start_at, start_u, subst, suc, true, u_stamp, zero, ℕ, ◌++◌, ◌+◌, ◌<◌, ◌==◌, ◌∙◌, ◌∷◌, ◌≡◌, ◌≤◌}
 use Rattle.sdd_lawful.proofs.Classes.{at_home, home_setting}
 use Rattle.sdd_lawful.proofs.Committed.{home_step}
 use Rattle.sdd_lawful.proofs.Started.{start_act_of, start_in}
@@ -27,7 +22,8 @@ in_numbers a (suc n) x lo hi = elim (same_or_not a x) [
 
 pub numbered_there : (ns : List ℕ) (k f : ℕ) → slice_get ns k ≡ Some f → contains (map (λ (g : FragNo). g.0) (map frag_no ns)) f ≡ true
 numbered_there [] k f e = cc
-numbered_there (n ∷ ns) zero f e = let p : n ≡ f = cc in or_left (n == f) (contains (map (λ (g : FragNo). g.0) (map frag_no ns)) f) (ap (λ y. y == f) p ∙ same_number f)
+numbered_there (n ∷ ns) zero f e =
+    let p : n ≡ f = cc in or_left (n == f) (contains (map (λ (g : FragNo). g.0) (map frag_no ns)) f) (ap (λ y. y == f) p ∙ same_number f)
 numbered_there (n ∷ ns) (suc k) f e = or_right (n == f) (contains (map (λ (g : FragNo). g.0) (map frag_no ns)) f) (numbered_there ns k f e)
 
 pub at_map : {A B : Type 0} (f : A → B) (xs : List A) (k : ℕ) (x : A) → slice_get xs k ≡ Some x → slice_get (map f xs) k ≡ Some (f x)
@@ -55,9 +51,14 @@ pub started_at_u : (g : Given) (log : Log) (a : Attempt) → IsSound g.catalogue
 started_at_u g log a sound h s e =
     let x = start_in g log a sound h s in
     let act : Act = start_act_of a x.sends in
-    let r : IsStartOf (home_setting g a.class) (at_home g a.class x.before) act a.class = recorded (home_setting g a.class) (at_home g a.class x.before) act (home_step g a.class x.before act x.permitted) in
-    let is : log ≡ x.later ++ Does (home g.catalogue a.class) (start_at (home_setting g a.class) a.class (at_home g a.class x.before) r.queued) ∷ x.before = x.is ∙ ap (λ y. x.later ++ Does (home g.catalogue a.class) y ∷ x.before) r.act_is in
-    let now : IsPermitted g (Does (home g.catalogue a.class) (start_at (home_setting g a.class) a.class (at_home g a.class x.before) r.queued) ∷ x.before) = subst (λ y. IsPermitted g (Does (home g.catalogue a.class) y ∷ x.before)) r.act_is x.permitted in
+    let r : IsStartOf (home_setting g a.class) (at_home g a.class x.before) act a.class = recorded (home_setting g a.class) (at_home g a.class x.before) act
+    (home_step g a.class x.before act x.permitted) in
+    let is : log ≡ x.later ++ Does (home g.catalogue a.class)
+    (start_at (home_setting g a.class) a.class (at_home g a.class x.before) r.queued) ∷ x.before = x.is
+    ∙ ap (λ y. x.later ++ Does (home g.catalogue a.class) y ∷ x.before) r.act_is in
+    let now : IsPermitted g
+    (Does (home g.catalogue a.class) (start_at (home_setting g a.class) a.class (at_home g a.class x.before) r.queued) ∷ x.before) = subst
+    (λ y. IsPermitted g (Does (home g.catalogue a.class) y ∷ x.before)) r.act_is x.permitted in
     record {
       later = x.later;
       before = x.before;

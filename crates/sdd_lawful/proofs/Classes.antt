@@ -1,13 +1,8 @@
 -- The class of a transaction: that of the list of classes in force when it was given, at the site that runs the class.
-use Rattle.std.proofs.Common.{ℕ, ◌++◌, ◌==◌, ◌∙◌, ◌∷◌, ◌≡◌, None, Option, Some, [], ap, append_assoc, if◌then◌else◌, inl, inr, refl, subst, sym, true}
-use Rattle.std.proofs.lemmas.Bool.{eqb-true}
-use Rattle.sdd_invariants.specs.All.{Deliver, Did, Does, Down, Entry, Force, Given, Hand, Handed, IsPermitted, Log, Lose, Mark, Notes, Redeclare, Redeclared, Redeclares, Repeat, Resend, Round, Setting, Settle, Site, Submit, Submits, Submitted, T, Tick, Ticked, TmNo, Txn, U, Up, class_at, class_for, force_at, given_to, home, in_force, is_for, local_of, redeclares, same_site, setting_of, tm_no, txn_at, with_submit}
-use Rattle.sdd_invariants.specs.site_module.SiteLog as site
-use Rattle.sdd_invariants.specs.logs.Due.{home_of}
-use Rattle.sdd_invariants.proofs.Bools.{if_way, only_right, same_or_not}
-use Rattle.sdd_invariants.proofs.Sites.{site_self}
-use Rattle.sdd_invariants.proofs.Made.{local_at}
+use Rattle.sdd_lawful.proofs.All.{Deliver, Did, Does, Down, Entry, Force, Given, Hand, Handed, IsPermitted, Log, Lose, Mark, None, Notes, Option, Redeclare, Redeclares, Repeat, Resend, Round, Setting, Settle, Site, Some, Submit, Submits, Submitted, T, Tick, Ticked, TmNo, Txn, U, Up, [], ap, append_assoc, class_at, class_for, eqb-true, force_at, given_to, home, if_way, if◌then◌else◌, in_force, inl, inr, is_for, local_at, local_of, only_right, redeclares, refl, same_or_not, same_site, setting_of, site_self, subst, sym, tm_no, true, txn_at, with_submit, ℕ, ◌++◌, ◌==◌, ◌∙◌, ◌∷◌, ◌≡◌}
 use Rattle.sdd_lawful.proofs.Submissions.{given_at, same_submission}
+use Rattle.sdd_invariants.specs.logs.Due.{home_of}
+use Rattle.sdd_invariants.specs.site_module.SiteLog as site
 
 -- the classes in force at a transaction module are those that were put in force last
 
@@ -20,7 +15,8 @@ pub force_there : (g : Given) (t : TmNo) (log : Log)
 force_there g t [] = refl
 force_there g t (Mark (Tick u n) ∷ log) =
     let l : site.Log = local_of g (T t) log in
-    if_way (λ (x : site.Log). in_force (setting_of g (T t)) x ≡ force_at g (redeclares log)) (same_site (T t) (T u)) (Ticked n ∷ l) l (force_there g t log) (force_there g t log)
+    if_way (λ (x : site.Log). in_force (setting_of g (T t)) x ≡ force_at g (redeclares log)) (same_site (T t) (T u)) (Ticked n ∷ l) l (force_there g t log)
+    (force_there g t log)
 force_there g t (Mark (Submit k) ∷ log) = force_there g t log
 force_there g t (Mark (Deliver a b k) ∷ log) = force_there g t log
 force_there g t (Mark (Lose a b k) ∷ log) = force_there g t log
@@ -34,14 +30,17 @@ force_there g t (Round es ∷ log) = force_there g t log
 force_there g t (Redeclares u ∷ log) = refl
 force_there g t (Hand from to n m ∷ log) =
     let l : site.Log = local_of g (T t) log in
-    if_way (λ (x : site.Log). in_force (setting_of g (T t)) x ≡ force_at g (redeclares log)) (same_site (T t) to) (Handed from m ∷ l) l (force_there g t log) (force_there g t log)
+    if_way (λ (x : site.Log). in_force (setting_of g (T t)) x ≡ force_at g (redeclares log)) (same_site (T t) to) (Handed from m ∷ l) l (force_there g t log)
+    (force_there g t log)
 force_there g t (Submitted to n ∷ log) =
     let l : site.Log = local_of g (T t) log in
-    if_way (λ (x : site.Log). in_force (setting_of g (T t)) x ≡ force_at g (redeclares log)) (same_site (T t) to) (with_submit n (txn_at g n) l) l (after_submit (setting_of g (T t)) n (txn_at g n) l ∙ force_there g t log) (force_there g t log)
+    if_way (λ (x : site.Log). in_force (setting_of g (T t)) x ≡ force_at g (redeclares log)) (same_site (T t) to) (with_submit n (txn_at g n) l) l
+    (after_submit (setting_of g (T t)) n (txn_at g n) l ∙ force_there g t log) (force_there g t log)
 force_there g t (Notes ∷ log) = force_there g t log
 force_there g t (Does by act ∷ log) =
     let l : site.Log = local_of g (T t) log in
-    if_way (λ (x : site.Log). in_force (setting_of g (T t)) x ≡ force_at g (redeclares log)) (same_site (T t) by) (Did act ∷ l) l (force_there g t log) (force_there g t log)
+    if_way (λ (x : site.Log). in_force (setting_of g (T t)) x ≡ force_at g (redeclares log)) (same_site (T t) by) (Did act ∷ l) l (force_there g t log)
+    (force_there g t log)
 
 -- the log of the site that runs a class
 abbrev pub at_home : Given → ℕ → Log → site.Log
@@ -74,8 +73,7 @@ zero_home c txn e = elim (same_or_not c 0) [
 
 -- at that site it is of the class that covers it
 pub class_given : (g : Given) (c n : ℕ) (text : Txn) (rest : Log) → IsPermitted g (Submitted (home g.catalogue c) n ∷ rest)
-    → txn_at g n ≡ Some text
-    → IsForClass g c rest text → c ≡ class_for (force_at g (redeclares rest)).catalogue text
+    → txn_at g n ≡ Some text → IsForClass g c rest text → c ≡ class_for (force_at g (redeclares rest)).catalogue text
 class_given g c n text rest h t f =
     let x = given_at g rest (home g.catalogue c) n h in
     let same : redeclares rest ≡ redeclares x.earlier = ap redeclares x.is in
@@ -86,12 +84,13 @@ class_given g c n text rest h t f =
           p ∙ sym (zero_home (class_for (force_at g (redeclares rest)).catalogue text) text (sym q ∙ here)))
       | inr p ↦ (let t_no : TmNo = tm_no (class_at g.catalogue c).tm.0 in
           let q : home g.catalogue c ≡ T t_no = rw p refl in
-          let inf : is_for c (in_force (setting_of g (T t_no)) (local_of g (T t_no) rest)).catalogue text ≡ true = subst (λ a. is_for c (in_force (setting_of g a) (local_of g a rest)).catalogue text ≡ true) q f in
+          let inf : is_for c (in_force (setting_of g (T t_no)) (local_of g (T t_no) rest)).catalogue text ≡ true = subst
+          (λ a. is_for c (in_force (setting_of g a) (local_of g a rest)).catalogue text ≡ true) q f in
           let k : (class_for (in_force (setting_of g (T t_no)) (local_of g (T t_no) rest)).catalogue text == c) ≡ true = only_right (c == 0) _ p inf in
           sym (eqb-true _ c k) ∙ ap (λ (w : Force). class_for w.catalogue text) (force_there g t_no rest))
     ]
 
-text_one : (o : Option Txn) (x y : Txn) → o ≡ Some x → o ≡ Some y → x ≡ y
+pub text_one : (o : Option Txn) (x y : Txn) → o ≡ Some x → o ≡ Some y → x ≡ y
 text_one o x y e f = let p : Some x ≡ Some y = sym e ∙ f in cc
 
 -- so a transaction has one class

@@ -1,19 +1,11 @@
 -- The Commits of a history, as acts of the sites that run their classes, each with the Start of its attempt.
-use Rattle.std.proofs.Common.{ℕ, suc, ◌++◌, ◌<◌, ◌∙◌, ◌∷◌, ◌≡◌, List, Some, ap, arith, false, inl, inr, length, refl, subst, sym, true}
-use Rattle.sdd_invariants.specs.All.{Act, Change, Commit, Did, Does, Given, IsCommitRecord, IsPermitted, IsSound, Log, Msg, Queued, Rec, Records, Reply, Site, Txn, bound, head_of, history, home, is_committed, next_stamp, p2_of, queue, start_at, txn_at, txn_no, uses_of}
-use Rattle.sdd_invariants.specs.site_module.SiteLog as site
-use Rattle.sdd_invariants.proofs.Places.{compare}
-use Rattle.sdd_invariants.proofs.Recorded.{head_left, was_submitted}
-use Rattle.sdd_laws.specs.All.{Attempt, HasCommit, IsAttempt, Stands}
-use Rattle.sdd_invariants.proofs.Starting.{says_at}
-use Rattle.sdd_invariants.proofs.Fair.{all_new, home_fair}
-use Rattle.sdd_invariants.proofs.Made.{permitted_before, place_of_act, place_of_submit}
-use Rattle.sdd_lawful.specs.Made.{IsMadeAt}
+use Rattle.sdd_lawful.proofs.All.{Act, Attempt, Change, Commit, Did, Does, Given, HasCommit, IsAttempt, IsCommitRecord, IsMadeAt, IsPermitted, IsSound, List, Log, Msg, Queued, Rec, Records, Reply, Site, Some, Stands, Txn, all_new, ap, arith, bound, compare, false, head_left, head_of, history, home, home_fair, inl, inr, is_committed, length, next_stamp, p2_of, permitted_before, place_of_act, place_of_submit, queue, refl, says_at, start_at, subst, suc, sym, true, txn_at, txn_no, uses_of, was_submitted, ℕ, ◌++◌, ◌<◌, ◌∙◌, ◌∷◌, ◌≡◌}
 use Rattle.sdd_lawful.proofs.Classes.{at_home, further_back, home_setting}
 use Rattle.sdd_lawful.proofs.Homes.{home_small}
 use Rattle.sdd_lawful.proofs.Locals.{committed_here, committed_later}
 use Rattle.sdd_lawful.proofs.Places.{place_rises, stands_there}
 use Rattle.sdd_lawful.proofs.Started.{act_local, one_start_class, run_in, start_in, start_of}
+use Rattle.sdd_invariants.specs.site_module.SiteLog as site
 
 -- what a Commit tells
 pub record Told : Type 0 where
@@ -102,7 +94,9 @@ begun g log n number k told x =
       number_is = sym s.try_is;
       class_is = refl;
       ts_is = sym s.ts_is;
-      text_is = ap (txn_at g) s.number_is ∙ text_of_head g x.class p.rest s.queued (permitted_before g p.later (Does at act ∷ p.rest) (subst (IsPermitted g) p.is x.permitted.1)).1 (subst (λ l. head_of (queue (home_setting g x.class) x.class l) ≡ Some s.queued) (sym p.local_is) s.head) ∙ ap (λ t. Some t) (sym s.text_is);
+      text_is = ap (txn_at g) s.number_is ∙ text_of_head g x.class p.rest s.queued
+          (permitted_before g p.later (Does at act ∷ p.rest) (subst (IsPermitted g) p.is x.permitted.1)).1
+          (subst (λ l. head_of (queue (home_setting g x.class) x.class l) ≡ Some s.queued) (sym p.local_is) s.head) ∙ ap (λ t. Some t) (sym s.text_is);
       uses_are = ap (uses_of g.catalogue) (sym s.text_is);
       before = omega arith;
     }
@@ -125,12 +119,14 @@ pub commit_seen : (g : Given) (c n number : ℕ) (told : Told) (sends : List (Si
 commit_seen g c n number told sends later before =
     let act : Act = Records c (commit_rec n number told) sends in
     let m = act_local g (home g.catalogue c) act later before in
-    subst (λ l. is_committed c n l ≡ true) (sym m.1) (committed_later c n m.0 (Did act ∷ at_home g c before) (committed_here c (at_home g c before) (txn_no n) number told.reply told.changes told.values told.rows sends))
+    subst (λ l. is_committed c n l ≡ true) (sym m.1)
+    (committed_later c n m.0 (Did act ∷ at_home g c before) (committed_here c (at_home g c before) (txn_no n) number told.reply told.changes told.values told.rows sends))
 
 not_after : {A : Type 0} (g : Given) (log : Log) (n i j k l : ℕ) (t u : Told) (x : IsCommitIn g log n i k t) (y : IsCommitIn g log n j l u)
     → x.class ≡ y.class → (between : Log) → y.before ≡ between ++ Does (home g.catalogue x.class) (Records x.class (commit_rec n i t) x.sends) ∷ x.before → A
 not_after g log n i j k l t u x y e between p =
-    let seen : is_committed x.class n (at_home g x.class y.before) ≡ true = subst (λ b. is_committed x.class n (at_home g x.class b) ≡ true) (sym p) (commit_seen g x.class n i t x.sends between x.before) in
+    let seen : is_committed x.class n (at_home g x.class y.before) ≡ true = subst (λ b. is_committed x.class n (at_home g x.class b) ≡ true) (sym p)
+    (commit_seen g x.class n i t x.sends between x.before) in
     let there : is_committed y.class n (at_home g y.class y.before) ≡ true = subst (λ c. is_committed c n (at_home g c y.before) ≡ true) e seen in
     let none : true ≡ false = sym there ∙ y.says.first in cc
 

@@ -1,20 +1,11 @@
 -- A committed transaction of a history, as the Commit of an active attempt; and what makes one of each.
-use Rattle.std.proofs.Common.{ℕ, ◌++◌, ◌∙◌, ◌∷◌, ◌≡◌, List, Some, ap, arith, length, refl, subst, sym}
-use Rattle.sdd_invariants.specs.All.{Act, Attempt as Running, Bases, Change, Commit, Does, Each, Effect, Given, IsFair, IsPermitted, IsSound, IsStep, Log, Records, Reply, Setting, TxnNo, active, commit_act, effect, history, home, sends_of_act, txn_at, txn_no, uses_of}
-use Rattle.sdd_invariants.specs.site_module.SiteLog as site
-use Rattle.sdd_laws.proofs.NumberedStarts.{one_start}
-use Rattle.sdd_laws.specs.All.{Attempt, Committed, IsAttempt, IsCommitted, Stands}
-use Rattle.sdd_laws.proofs.serial_orders.Places.{one_attempt, one_of_txn, same_start}
-use Rattle.sdd_invariants.proofs.Starting.{says_at}
-use Rattle.sdd_invariants.proofs.Active.{step_way}
-use Rattle.sdd_invariants.proofs.Fair.{home_fair}
-use Rattle.sdd_invariants.proofs.Made.{own_act, permitted_before}
-use Rattle.sdd_lawful.specs.Made.{IsMadeAt}
+use Rattle.sdd_lawful.proofs.All.{Act, Attempt, Bases, Change, Commit, Committed, Does, Each, Effect, Given, IsAttempt, IsCommitted, IsFair, IsMadeAt, IsPermitted, IsSound, IsStep, List, Log, Records, Reply, Running, Setting, Some, Stands, TxnNo, active, ap, arith, commit_act, effect, history, home, home_fair, length, one_active, one_attempt, one_of_txn, one_start, own_act, permitted_before, refl, same_start, says_at, sends_of_act, step_way, subst, sym, txn_at, txn_no, uses_of, ℕ, ◌++◌, ◌∙◌, ◌∷◌, ◌≡◌}
 use Rattle.sdd_lawful.proofs.Classes.{at_home, home_setting}
 use Rattle.sdd_lawful.proofs.Commits.{IsCommitIn, Told, begun, commit_class, commit_in, commit_rec, one_commit}
 use Rattle.sdd_lawful.proofs.Counted.{numbered}
 use Rattle.sdd_lawful.proofs.Homes.{home_small}
 use Rattle.sdd_lawful.proofs.Places.{stands_there}
+use Rattle.sdd_invariants.specs.site_module.SiteLog as site
 
 -- of one transaction and number there is one attempt
 pub one_place : (g : Given) (log : Log) → IsSound g.catalogue → IsPermitted g log → (a b : Attempt) → IsAttempt (history log) a
@@ -58,9 +49,6 @@ pub home_step : (g : Given) (c : ℕ) (log : Log) (act : Act) → IsPermitted g 
 home_step g c log act h =
     (subst (λ l. Each (IsFair (home_setting g c)) l) (own_act g (home g.catalogue c) act log) (home_fair g c (Does (home g.catalogue c) act ∷ log) h)).0
 
-pub one_active : (s : Setting) (c : ℕ) (log : site.Log) (a b : Running) → active s c log ≡ Some a → active s c log ≡ Some b → a ≡ b
-one_active s c log a b e f = let p : Some a ≡ Some b = sym e ∙ f in cc
-
 pub record IsCommittedIn (g : Given) (log : Log) (t : Committed) : Type 0 where
   pub later : Log
   pub before : Log
@@ -83,7 +71,8 @@ committed_as : (g : Given) (log : Log) (t : Committed) (k : ℕ) (later before :
     → log ≡ later ++ Does (home g.catalogue k) (commit_act g.catalogue bases k running) ∷ before → length (history before) ≡ t.place
     → IsPermitted g (Does (home g.catalogue k) (commit_act g.catalogue bases k running) ∷ before)
     → active (home_setting g k) k (at_home g k before) ≡ Some running → running.txn ≡ t.start.txn → running.attempt ≡ t.start.number
-    → running.ts ≡ t.start.ts → txn_at g t.start.txn ≡ Some running.text → t.start.uses ≡ uses_of g.catalogue running.text → t.reply ≡ (effect g.catalogue (bases running.ts) running.text).reply
+    → running.ts ≡ t.start.ts → txn_at g t.start.txn ≡ Some running.text → t.start.uses ≡ uses_of g.catalogue running.text
+    → t.reply ≡ (effect g.catalogue (bases running.ts) running.text).reply
     → t.changes ≡ (effect g.catalogue (bases running.ts) running.text).changes → IsCommittedIn g log t
 committed_as g log t k later before bases running e is place h active_is n i ts text uses reply changes = record {
   later = later;
@@ -111,14 +100,17 @@ committed_in g log t sound h c =
     let b = begun g log t.start.txn t.start.number t.place told x in
     let class : x.class ≡ t.start.class = sym (commit_class g log t.start.txn t.start.number t.place told x t.start sound h c.started refl) in
     let act : Act = Records x.class (commit_rec t.start.txn t.start.number told) x.sends in
-    let r : IsOfRunning (home_setting g x.class) (at_home g x.class x.before) x.class (txn_no t.start.txn) t.start.number t.reply t.changes act = of_running (home_setting g x.class) (at_home g x.class x.before) act (home_step g x.class x.before act x.permitted) in
-    let now : x.says.now ≡ r.running = one_active (home_setting g x.class) x.class (at_home g x.class x.before) x.says.now r.running x.says.active_is r.active_is in
+    let r : IsOfRunning (home_setting g x.class) (at_home g x.class x.before) x.class (txn_no t.start.txn) t.start.number t.reply t.changes act = of_running
+    (home_setting g x.class) (at_home g x.class x.before) act (home_step g x.class x.before act x.permitted) in
+    let now : x.says.now ≡ r.running = one_active (home_setting g x.class) x.class
+    (at_home g x.class x.before) x.says.now r.running x.says.active_is r.active_is in
     let start : t.start ≡ b.attempt = same_attempt g log sound h t.start b.attempt c.started b.started (sym b.txn_is) (sym b.number_is) in
     let ts : r.running.ts ≡ t.start.ts = ap (λ (y : Running). y.ts) (sym now) ∙ sym b.ts_is ∙ ap (λ (y : Attempt). y.ts) (sym start) in
     committed_as g log t x.class x.later x.before r.bases r.running class
     (x.is ∙ ap (λ y. x.later ++ Does (home g.catalogue x.class) y ∷ x.before) r.act_is) x.place_is
     (subst (λ y. IsPermitted g (Does (home g.catalogue x.class) y ∷ x.before)) r.act_is x.permitted) r.active_is
-    (ap (λ (y : TxnNo). y.0) (sym r.txn_is)) (sym r.number_is) ts (b.text_is ∙ ap (λ (y : Running). Some y.text) now) (ap (λ (y : Attempt). y.uses) start ∙ b.uses_are ∙ ap (λ (y : Running). uses_of g.catalogue y.text) now) r.reply_is r.changes_are
+    (ap (λ (y : TxnNo). y.0) (sym r.txn_is)) (sym r.number_is) ts (b.text_is ∙ ap (λ (y : Running). Some y.text) now)
+    (ap (λ (y : Attempt). y.uses) start ∙ b.uses_are ∙ ap (λ (y : Running). uses_of g.catalogue y.text) now) r.reply_is r.changes_are
 
 abbrev pub committed_made : (g : Given) (log : Log) (t : Committed) (x : IsCommittedIn g log t)
     → IsMadeAt log t.place (Commit (txn_no x.running.txn) x.running.attempt (effect g.catalogue (x.bases x.running.ts) x.running.text).reply (effect g.catalogue (x.bases x.running.ts) x.running.text).changes x.running.exchange.values x.running.exchange.rows)
@@ -163,8 +155,12 @@ commit_of_log g log later before class bases running sound h is active_is =
     } in
     let b = begun g log running.txn running.attempt (length (history before)) told x in
     let same : x.says.now ≡ running = one_active (home_setting g class) class (at_home g class before) x.says.now running x.says.active_is active_is in
-    let there : Stands (history log) (length (history before)) (commit_rec running.txn running.attempt told) = subst (λ l. Stands (history l) (length (history before)) (commit_rec running.txn running.attempt told)) (sym is) (stands_there later (Does (home g.catalogue class) act) before (commit_rec running.txn running.attempt told) refl) in
-    let named : Stands (history log) (length (history before)) (commit_rec b.attempt.txn b.attempt.number told) = subst (λ n. Stands (history log) (length (history before)) (commit_rec b.attempt.txn n told)) (sym b.number_is) (subst (λ n. Stands (history log) (length (history before)) (commit_rec n running.attempt told)) (sym b.txn_is) there) in
+    let there : Stands (history log) (length (history before)) (commit_rec running.txn running.attempt told) = subst
+    (λ l. Stands (history l) (length (history before)) (commit_rec running.txn running.attempt told)) (sym is)
+    (stands_there later (Does (home g.catalogue class) act) before (commit_rec running.txn running.attempt told) refl) in
+    let named : Stands (history log) (length (history before)) (commit_rec b.attempt.txn b.attempt.number told) = subst
+    (λ n. Stands (history log) (length (history before)) (commit_rec b.attempt.txn n told)) (sym b.number_is)
+    (subst (λ n. Stands (history log) (length (history before)) (commit_rec n running.attempt told)) (sym b.txn_is) there) in
     record {
       committed = record { start = b.attempt; reply = told.reply; changes = told.changes; values = told.values; rows = told.rows; place = length (history before) };
       is_committed = record { started = b.started; committed = named };

@@ -1,19 +1,5 @@
 -- The history of a permitted log keeps the law of read conditions.
-use Rattle.std.specs.Prelude.{filter, filter_map}
-use Rattle.std.specs.List.{cons_option, Contains, list_any}
-use Rattle.std.specs.Option.{option_or}
-use Rattle.std.proofs.Common.{ℕ, suc, ◌++◌, ◌<◌, ◌==◌, ◌||◌, ◌∙◌, ◌∷◌, ◌≡◌, ◌≤◌, List, None, Option, Some, [], ap, append_assoc, arith, false, if◌then◌else◌, inl, inr, length, map, refl, slice_get, subst, sym, true, zero}
-use Rattle.std.proofs.lemmas.Bool.{eqb-true}
-use Rattle.std.proofs.lemmas.Option.{get_or_from_slice_get, slice_get-get_or}
-use Rattle.sdd_invariants.specs.All.{Catalogue, Change, Cond, D, Does, Entry, Force, FragNo, Given, IsAnswerWith, IsApplied, IsPermitted, IsSound, IsTable, Log, P2, P3, Records, T, TmNo, ascending, asked_by, class_at, class_no, classes_of, commit_act, cond_for, cond_of, condition_on, conditions, conditions_at, contains, dm_no, force_at, frag_no, fragments_in, fragments_of, has_copy, history, home, in_force, is_asked, local_of, marks, redeclares, setting_of, time_at, tm_no, touches, txn_no, undeclared_conditions}
-use Rattle.sdd_invariants.specs.protocol.declared.entry.Entry as line
-use Rattle.sdd_invariants.proofs.protocol.Laws.{one_table}
-use Rattle.sdd_laws.specs.All.{AppliedBefore, Attempt, Committed, Eras, IsAnswered, IsAttempt, IsCommitted, IsConditionOf, KeepsConditions, TouchesOne, conditions_of, event_at, p2_time}
-use Rattle.sdd_laws.specs.Eras as law_eras
-use Rattle.sdd_invariants.proofs.Applied.{split_applied}
-use Rattle.sdd_invariants.proofs.Bools.{same_or_not}
-use Rattle.sdd_invariants.proofs.Lists.{any_at, in_mapped, in_range, place_within}
-use Rattle.sdd_lawful.specs.Given.{AreErasOf}
+use Rattle.sdd_lawful.proofs.All.{AppliedBefore, AreErasOf, Attempt, Catalogue, Change, Committed, Cond, Contains, D, Does, Entry, Eras, Force, FragNo, Given, IsAnswerWith, IsAnswered, IsApplied, IsAttempt, IsCommitted, IsConditionOf, IsPermitted, IsSound, IsTable, KeepsConditions, List, Log, None, Option, P2, P3, Records, Some, T, TmNo, TouchesOne, [], any_at, ap, append_assoc, arith, ascending, asked_by, class_at, class_no, classes_of, commit_act, cond_for, cond_of, condition_on, conditions, conditions_at, conditions_of, cons_option, contains, dm_no, eqb-true, event_at, false, filter, filter_map, force_at, frag_no, fragments_in, fragments_of, get_or_from_slice_get, has_copy, history, home, if◌then◌else◌, in_force, in_mapped, in_range, inl, inr, is_asked, length, list_any, local_of, map, marks, member_at, one_table, option_or, p2_time, place_within, redeclares, refl, same_or_not, setting_of, slice_get, split_applied, subst, suc, sym, time_at, tm_no, touches, true, txn_no, undeclared_conditions, zero, ℕ, ◌++◌, ◌<◌, ◌==◌, ◌||◌, ◌∙◌, ◌∷◌, ◌≡◌, ◌≤◌}
 use Rattle.sdd_lawful.proofs.Answered.{IsReadIn, answer_in, answer_made, answer_rec}
 use Rattle.sdd_lawful.proofs.Applies.{apply_of_committed, applied_seen, seen_applied}
 use Rattle.sdd_lawful.proofs.Classes.{at_home, force_there, further_back, home_setting}
@@ -22,11 +8,10 @@ use Rattle.sdd_lawful.proofs.Homes.{home_small}
 use Rattle.sdd_lawful.proofs.Places.{event_there}
 use Rattle.sdd_lawful.proofs.Started.{start_of}
 use Rattle.sdd_lawful.proofs.Touched.{any_there, copy_module, kept_there}
+use Rattle.sdd_invariants.specs.protocol.declared.entry.Entry as line
+use Rattle.sdd_laws.specs.Eras as law_eras
 
 -- members of lists
-
-pub member_at : {A : Type 0} (xs : List A) (x : A) → Contains xs x → (k : ℕ) × (slice_get xs k ≡ Some x)
-member_at xs x h = (h.0, slice_get-get_or xs h.0 x h.1 ∙ ap (λ y. Some y) h.2)
 
 pub member_of : {A : Type 0} (xs : List A) (k : ℕ) (x : A) → slice_get xs k ≡ Some x → Contains xs x
 member_of xs k x e = (k, place_within xs k x e, get_or_from_slice_get xs k x x e)
@@ -47,8 +32,7 @@ in_filter_mapped {A = A} {B = B} f (x ∷ xs) k y e =
 
 cond_for_class : (j time : ℕ) (fs : List FragNo) (c : Cond) → cond_for j time fs ≡ Some c → c.class.0 ≡ j
 cond_for_class j time [] c e = cc
-cond_for_class j time (f ∷ fs) c e =
-    let p : cond_of j time (f ∷ fs) ≡ c = cc in ap (λ (x : Cond). x.class.0) (sym p)
+cond_for_class j time (f ∷ fs) c e = let p : cond_of j time (f ∷ fs) ≡ c = cc in ap (λ (x : Cond). x.class.0) (sym p)
 
 either_class : (a b : Option Cond) (j : ℕ) (c : Cond) → ((x : Cond) → a ≡ Some x → x.class.0 ≡ j) → ((x : Cond) → b ≡ Some x → x.class.0 ≡ j)
     → option_or a b ≡ Some c → c.class.0 ≡ j
@@ -64,7 +48,9 @@ above_zero cat table class frags own p2 d k c e = elim (same_or_not class 0) [
       let low = r.0 in omega arith)
   | inr p ↦ (let i = in_filter_mapped (condition_on (is_asked cat class d (map frag_no frags)) table class own p2) (classes_of cat) k c (rw p at e) in
       let r = in_range 1 (length cat.classes) i.0 i.1 i.2 in
-      let q = either_class (cond_for i.1 own (asked_by P3 (is_asked cat class d (map frag_no frags)) table class i.1)) (cond_for i.1 p2 (asked_by P2 (is_asked cat class d (map frag_no frags)) table class i.1)) i.1 c (λ x f. cond_for_class i.1 own _ x f) (λ x f. cond_for_class i.1 p2 _ x f) i.3 in
+      let q = either_class (cond_for i.1 own (asked_by P3 (is_asked cat class d (map frag_no frags)) table class i.1))
+      (cond_for i.1 p2 (asked_by P2 (is_asked cat class d (map frag_no frags)) table class i.1)) i.1 c (λ x f. cond_for_class i.1 own _ x f)
+      (λ x f. cond_for_class i.1 p2 _ x f) i.3 in
       let low = r.0 in omega arith)
 ]
 
@@ -77,7 +63,8 @@ start_event g log later before e a d is x =
     let f = further_back log later before e start x.between x.start_log is x.start_is in (
       f.0 ++ start ∷ [],
       f.1 ∙ sym (append_assoc f.0 (start ∷ []) x.start_log),
-      ap (event_at (history log)) (sym x.start_place) ∙ ap (λ l. event_at (history l) (length (history x.start_log))) f.1 ∙ event_there f.0 start x.start_log (start_of a) x.start_makes,
+      ap (event_at (history log)) (sym x.start_place) ∙ ap (λ l. event_at (history l) (length (history x.start_log))) f.1
+          ∙ event_there f.0 start x.start_log (start_of a) x.start_makes,
     )
 
 -- by the table of the catalogue in force at the Start
@@ -88,15 +75,19 @@ same_table : (g : Given) (log : Log) (eras : Eras) (a : Attempt) (table : List l
 same_table g log eras a table all start_log are is event t ne =
     let t_no : TmNo = tm_no (class_at g.catalogue a.class).tm.0 in
     let here : home g.catalogue a.class ≡ T t_no = rw ne refl in
-    let force : in_force (home_setting g a.class) (at_home g a.class start_log) ≡ force_at g (redeclares start_log) = ap (λ s. in_force (setting_of g s) (local_of g s start_log)) here ∙ force_there g t_no start_log in
-    let cat : law_eras.in_force g.catalogue eras (event_at (history log) a.place) ≡ (force_at g (redeclares start_log)).catalogue = ap (law_eras.in_force g.catalogue eras) event ∙ are.force_is all start_log is in
+    let force : in_force (home_setting g a.class) (at_home g a.class start_log) ≡ force_at g (redeclares start_log) = ap
+    (λ s. in_force (setting_of g s) (local_of g s start_log)) here ∙ force_there g t_no start_log in
+    let cat : law_eras.in_force g.catalogue eras (event_at (history log) a.place) ≡ (force_at g (redeclares start_log)).catalogue = ap
+    (law_eras.in_force g.catalogue eras) event ∙ are.force_is all start_log is in
     ap (λ (f : Force). f.table) force
-    ∙ one_table (force_at g (redeclares start_log)).catalogue (force_at g (redeclares start_log)).table table (are.tabled all start_log is).table (subst (λ c. IsTable c table) cat t)
+    ∙ one_table (force_at g (redeclares start_log)).catalogue (force_at g (redeclares start_log)).table table (are.tabled all start_log is).table
+    (subst (λ c. IsTable c table) cat t)
 
 conds_by : (g : Given) (a : Attempt) (d : ℕ) (force_table table : List line.Entry) → ((a.class == 0) ≡ false → force_table ≡ table)
     → conditions_at g.catalogue force_table a.class (ascending (fragments_in a.uses)) a.ts (p2_time a) d ≡ conditions_of g.catalogue table a d
 conds_by g a d force_table table f =
-    elim (a.class == 0) as (λ b. ((b ≡ false) → force_table ≡ table) → (if b then undeclared_conditions g.catalogue a.ts else conditions g.catalogue force_table a.class d (map frag_no (ascending (fragments_in a.uses))) a.ts (p2_time a)) ≡ (if b then undeclared_conditions g.catalogue a.ts else conditions g.catalogue table a.class d (map frag_no (ascending (fragments_in a.uses))) a.ts (p2_time a))) [
+    elim (a.class == 0) as
+    (λ b. ((b ≡ false) → force_table ≡ table) → (if b then undeclared_conditions g.catalogue a.ts else conditions g.catalogue force_table a.class d (map frag_no (ascending (fragments_in a.uses))) a.ts (p2_time a)) ≡ (if b then undeclared_conditions g.catalogue a.ts else conditions g.catalogue table a.class d (map frag_no (ascending (fragments_in a.uses))) a.ts (p2_time a))) [
       | true ↦ λ h. refl
       | false ↦ λ h. ap (λ t. conditions g.catalogue t a.class d (map frag_no (ascending (fragments_in a.uses))) a.ts (p2_time a)) (h refl)
     ] f
@@ -106,7 +97,8 @@ pub conds_are : (g : Given) (log : Log) (eras : Eras) (a : Attempt) (d : ℕ) (l
     → IsTable (law_eras.in_force g.catalogue eras (event_at (history log) a.place)) table → x.conds ≡ conditions_of g.catalogue table a d
 conds_are g log eras a d later before e table are is x t =
     let s = start_event g log later before e a d is x in
-    x.conds_are ∙ conds_by g a d (in_force (home_setting g a.class) (at_home g a.class x.start_log)).table table (same_table g log eras a table s.0 x.start_log are s.1 s.2 t)
+    x.conds_are ∙ conds_by g a d (in_force (home_setting g a.class) (at_home g a.class x.start_log)).table table
+    (same_table g log eras a table s.0 x.start_log are s.1 s.2 t)
 
 -- a change of one of a condition's fragments touches it
 
@@ -160,7 +152,8 @@ met g log eras sound h are a d k q x s t cd cx class touch =
       place = m.0;
       there = there;
     } in
-    let low = above_zero g.catalogue (in_force (home_setting g a.class) (at_home g a.class w.read.start_log)).table a.class (ascending (fragments_in a.uses)) a.ts (p2_time a) d m.0 q (subst (λ ds. slice_get ds m.0 ≡ Some q) w.read.conds_are there) in
+    let low = above_zero g.catalogue (in_force (home_setting g a.class) (at_home g a.class w.read.start_log)).table a.class
+    (ascending (fragments_in a.uses)) a.ts (p2_time a) d m.0 q (subst (λ ds. slice_get ds m.0 ≡ Some q) w.read.conds_are there) in
     let at = copy_module g.catalogue sound d touch.fragment touch.copied in
     let small = home_small g.catalogue sound q.class.0 in
     let changed = subst (λ ys. list_any (λ (y : Change). y.frag.0 == touch.fragment) ys ≡ true) c.changes_are touch.changed in

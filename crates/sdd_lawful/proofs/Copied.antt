@@ -1,18 +1,5 @@
 -- The copies of a data module, by its own log, are those that the history gives.
-use Rattle.std.specs.List.{Contains}
-use Rattle.std.proofs.Common.{ℕ, ◌&&◌, ◌++◌, ◌==◌, ◌∙◌, ◌∷◌, ◌≡◌, Bool, List, Some, [], ap, append_assoc, arith, false, if◌then◌else◌, inl, inr, length, map, refl, slice_get, subst, sym, true}
-use Rattle.std.proofs.lemmas.Bool.{eqb-true}
-use Rattle.std.proofs.lemmas.List.Elements.{Contains-append_left, Contains-append_right, Contains-append_cases}
-use Rattle.sdd_invariants.specs.All.{Act, Apply, Bases, Change, ClassNo, D, Did, DmNo, Does, Given, Handed, IsPermitted, IsSound, IsWrite, Log, Msg, Rec, Records, Redeclared, Sends, Setting, Site, Submits, Ticked, Ts, TxnNo, Write, applied, changes_at, changes_in, class_no, commit_act, dm_no, has_copy, head, history, home, is_apply, local_of, pipe, pipe_at, sends_of_act, time_at, to_site, txn_no}
-use Rattle.sdd_invariants.proofs.base.Membership.{Contains-nil}
-use Rattle.sdd_laws.proofs.Members.{Contains-filter, Contains-from_filter, Contains-from_map, Contains-map}
-use Rattle.sdd_laws.specs.All.{AppliedBefore, Committed, Dated, IsCommitted, Stands}
-use Rattle.sdd_invariants.specs.site_module.SiteLog as site
-use Rattle.sdd_invariants.specs.site_module.SiteLog.{Log as SiteLog}
-use Rattle.sdd_invariants.proofs.Installed.{apply_of_head, class_number, commit_put_is, head_put}
-use Rattle.sdd_invariants.proofs.Bools.{and_left, and_right, same_number, true_or_false}
-use Rattle.sdd_invariants.proofs.Made.{permitted_before, place_of_act}
-use Rattle.sdd_lawful.specs.Made.{IsMadeAt}
+use Rattle.sdd_lawful.proofs.All.{Act, AppliedBefore, Apply, Change, ClassNo, Committed, Contains, Contains-append_cases, Contains-append_right, Contains-filter, Contains-from_filter, Contains-from_map, Contains-map, Contains-nil, D, Did, DmNo, Does, Given, Handed, IsCommitted, IsMadeAt, IsPermitted, IsSound, IsWrite, List, Log, Msg, Rec, Records, Redeclared, Sends, Site, SiteLog, Some, Stands, Submits, Ticked, Ts, TxnNo, Write, [], and_left, and_right, ap, append_assoc, applied, applied_if, apply_of_head, arith, changes_at, changes_in, class_no, class_number, commit_act, commit_put_is, dm_no, eqb-true, has_copy, head, head_put, history, home, inl, inr, is_apply, length, local_of, map, permitted_before, pipe, pipe_at, place_of_act, refl, same_number, sends_of_act, slice_get, subst, sym, time_at, to_site, true, true_or_false, txn_no, ℕ, ◌&&◌, ◌++◌, ◌==◌, ◌∙◌, ◌∷◌, ◌≡◌}
 use Rattle.sdd_lawful.proofs.Applied.{IsApplyIn, apply_made, apply_rec}
 use Rattle.sdd_lawful.proofs.Applies.{apply_of_committed}
 use Rattle.sdd_lawful.proofs.Classes.{at_home, further_back, home_setting}
@@ -20,6 +7,7 @@ use Rattle.sdd_lawful.proofs.Committed.{commit_of_log, same_committed}
 use Rattle.sdd_lawful.proofs.Makers.{act_kind}
 use Rattle.sdd_lawful.proofs.Places.{entries_in_order, place_rises, stands_there}
 use Rattle.sdd_lawful.proofs.Started.{act_local}
+use Rattle.sdd_invariants.specs.site_module.SiteLog as site
 
 -- a change with its date
 abbrev pub at_date : ℕ → Change → ℕ × Change
@@ -47,11 +35,13 @@ head_commit g log front rest c d ts of txn changes sound h is top =
     let hr = permitted_before g front rest (subst (IsPermitted g) is h) in
     let put = head_put g c (dm_no d) rest m hr top in
     let z : of.0 ≡ c = class_number of.0 c ts.0 put.of_class in
-    let r : IsWrite (home_setting g c) (at_home g c put.before) put.act c ts.0 txn.0 = subst (λ j. IsWrite (home_setting g c) (at_home g c put.before) put.act j ts.0 txn.0) z put.by in
+    let r : IsWrite (home_setting g c) (at_home g c put.before) put.act c ts.0 txn.0 = subst
+    (λ j. IsWrite (home_setting g c) (at_home g c put.before) put.act j ts.0 txn.0) z put.by in
     let sent = subst (λ y. slice_get (to_site (D (dm_no d)) (sends_of_act y)) put.place ≡ Some m) r.act_is put.there in
     let same = commit_put_is (home_setting g c) c r.bases r.attempt (dm_no d) put.place m sent in
     let whole : log ≡ (front ++ put.later) ++ Does (home g.catalogue c) (commit_act g.catalogue r.bases c r.attempt) ∷ put.before =
-    is ∙ ap (λ k. front ++ k) (put.is ∙ ap (λ y. put.later ++ Does (home g.catalogue c) y ∷ put.before) r.act_is) ∙ sym (append_assoc front put.later (Does (home g.catalogue c) (commit_act g.catalogue r.bases c r.attempt) ∷ put.before)) in
+    is ∙ ap (λ k. front ++ k) (put.is ∙ ap (λ y. put.later ++ Does (home g.catalogue c) y ∷ put.before) r.act_is)
+    ∙ sym (append_assoc front put.later (Does (home g.catalogue c) (commit_act g.catalogue r.bases c r.attempt) ∷ put.before)) in
     let o = commit_of_log g log (front ++ put.later) put.before c r.bases r.attempt sound h whole r.active_is in
     record {
       writer = o.committed;
@@ -93,16 +83,13 @@ applied_from c (Ticked n ∷ l) x h = applied_past c (Ticked n) l x (applied_fro
 applied_from c (Submits n text ∷ l) x h = applied_past c (Submits n text) l x (applied_from c l x h)
 applied_from c (Redeclared force t ∷ l) x h = applied_past c (Redeclared force t) l x (applied_from c l x h)
 
-applied_if : (b : Bool) (xs ys : Dated) (x : ℕ × Change) → Contains xs x → Contains (if b then xs ++ ys else xs) x
-applied_if true xs ys x h = Contains-append_left xs ys x h
-applied_if false xs ys x h = h
-
 applied_has : (c : ℕ) (later before : SiteLog) (r : Rec) (sends : List (Site × Msg)) (x : ℕ × Change) → is_apply r ≡ true
     → Contains (changes_in (head (pipe c before))) x → Contains (applied c (later ++ Did (Records c r sends) ∷ before)) x
 applied_has c [] before r sends x a h =
     rw (same_number c, a) (Contains-append_right (applied c before) (changes_in (head (pipe c before))) x h)
 applied_has c (Did (Records k q ss) ∷ later) before r sends x a h =
-    applied_if ((k == c) && is_apply q) (applied c (later ++ Did (Records c r sends) ∷ before)) (changes_in (head (pipe c (later ++ Did (Records c r sends) ∷ before)))) x (applied_has c later before r sends x a h)
+    applied_if ((k == c) && is_apply q) (applied c (later ++ Did (Records c r sends) ∷ before))
+    (changes_in (head (pipe c (later ++ Did (Records c r sends) ∷ before)))) x (applied_has c later before r sends x a h)
 applied_has c (Did (Sends to m hand) ∷ later) before r sends x a h = applied_has c later before r sends x a h
 applied_has c (Handed from m ∷ later) before r sends x a h = applied_has c later before r sends x a h
 applied_has c (Ticked n ∷ later) before r sends x a h = applied_has c later before r sends x a h
@@ -137,17 +124,23 @@ change_of g log d k q m c x sound h i r =
     let f = further_back log m.later m.before m.entry (Does (D (dm_no d)) act) p.later p.rest m.is p.is in
     let now = permitted_before g f.0 (Does (D (dm_no d)) act ∷ p.rest) (subst (IsPermitted g) f.1 h) in
     let w = apply_of_head g p.rest (dm_no d) c r.txn r.class r.dm r.ts i.sends now in
-    let o = head_commit g log (f.0 ++ Does (D (dm_no d)) act ∷ []) p.rest c d r.ts r.class r.txn w.0 sound h (f.1 ∙ sym (append_assoc f.0 (Does (D (dm_no d)) act ∷ []) p.rest)) w.1 in
+    let o = head_commit g log (f.0 ++ Does (D (dm_no d)) act ∷ []) p.rest c d r.ts r.class r.txn w.0 sound h
+    (f.1 ∙ sym (append_assoc f.0 (Does (D (dm_no d)) act ∷ []) p.rest)) w.1 in
     let dm : r.dm ≡ dm_no d = act_kind g (D (dm_no d)) act p.rest now in
-    let there : Stands (history log) (length (history p.rest)) (Apply r.txn r.class r.dm r.ts) = subst (λ l. Stands (history l) (length (history p.rest)) (Apply r.txn r.class r.dm r.ts)) (sym f.1) (stands_there f.0 (Does (D (dm_no d)) act) p.rest (Apply r.txn r.class r.dm r.ts) refl) in
-    let at_d : Stands (history log) (length (history p.rest)) (Apply r.txn r.class (dm_no d) r.ts) = subst (λ y. Stands (history log) (length (history p.rest)) (Apply r.txn r.class y r.ts)) dm there in
+    let there : Stands (history log) (length (history p.rest)) (Apply r.txn r.class r.dm r.ts) = subst
+    (λ l. Stands (history l) (length (history p.rest)) (Apply r.txn r.class r.dm r.ts)) (sym f.1)
+    (stands_there f.0 (Does (D (dm_no d)) act) p.rest (Apply r.txn r.class r.dm r.ts) refl) in
+    let at_d : Stands (history log) (length (history p.rest)) (Apply r.txn r.class (dm_no d) r.ts) = subst
+    (λ y. Stands (history log) (length (history p.rest)) (Apply r.txn r.class y r.ts)) dm there in
     let rises = place_rises p.later (Does (D (dm_no d)) act) p.rest (Apply r.txn r.class r.dm r.ts) refl in
     let size : length (history m.before) ≡ length (history (p.later ++ Does (D (dm_no d)) act ∷ p.rest)) = ap (λ l. length (history l)) p.is in
     let place = m.place_is in
-    let top : head (pipe c i.before) ≡ Some (Write r.ts r.class r.txn w.0) = subst (λ l. head (pipe c l) ≡ Some (Write r.ts r.class r.txn w.0)) p.local_is w.1 in
+    let top : head (pipe c i.before) ≡ Some (Write r.ts r.class r.txn w.0) = subst
+    (λ l. head (pipe c l) ≡ Some (Write r.ts r.class r.txn w.0)) p.local_is w.1 in
     let in_write : Contains (map (λ y. at_date r.ts.0 y) w.0) x = subst (λ t. Contains (changes_in t) x) top i.there in
     let z = Contains-from_map (λ y. at_date r.ts.0 y) w.0 x in_write in
-    let in_all = Contains-from_filter (λ (y : Change). has_copy g.catalogue d y.frag.0) o.writer.changes z.0 (subst (λ ys. Contains ys z.0) o.changes_are z.1) in
+    let in_all = Contains-from_filter (λ (y : Change). has_copy g.catalogue d y.frag.0) o.writer.changes z.0
+    (subst (λ ys. Contains ys z.0) o.changes_are z.1) in
     record {
       writer = o.writer;
       is_committed = o.is_committed;
@@ -167,13 +160,16 @@ pub change_there : (g : Given) (log : Log) (d k : ℕ) (q : Rec) (m : IsMadeAt l
 change_there g log d k q m t y sound h ct b in_it copied =
     let a : IsApplyIn g log t.start.txn t.start.class d t.start.ts b.place = (apply_of_committed g log t d b.place sound h ct b.applied).apply in
     let act : Act = Records t.start.class (apply_rec t.start.txn t.start.class d t.start.ts) a.sends in
-    let o = head_commit g log (a.later ++ Does (D (dm_no d)) act ∷ []) a.before t.start.class d (time_at t.start.ts) (class_no t.start.class) (txn_no t.start.txn) a.changes sound h (a.is ∙ sym (append_assoc a.later (Does (D (dm_no d)) act ∷ []) a.before)) a.head_is in
+    let o = head_commit g log (a.later ++ Does (D (dm_no d)) act ∷ []) a.before t.start.class d (time_at t.start.ts) (class_no t.start.class)
+    (txn_no t.start.txn) a.changes sound h (a.is ∙ sym (append_assoc a.later (Does (D (dm_no d)) act ∷ []) a.before)) a.head_is in
     let same : o.writer ≡ t = same_committed g log sound h o.writer t o.is_committed ct o.txn_is in
     let changes : a.changes ≡ changes_at g.catalogue d t.changes = o.changes_are ∙ ap (λ (z : Committed). changes_at g.catalogue d z.changes) same in
     let some = Contains-filter (λ (z : Change). has_copy g.catalogue d z.frag.0) t.changes y in_it copied in
     let dated_one = Contains-map (λ z. at_date t.start.ts z) a.changes y (subst (λ ys. Contains ys y) (sym changes) some) in
-    let z = entries_in_order log b.place k (apply_rec t.start.txn t.start.class d t.start.ts) q (apply_made g log t.start.txn t.start.class d t.start.ts b.place a) m b.before in
+    let z = entries_in_order log b.place k (apply_rec t.start.txn t.start.class d t.start.ts) q
+    (apply_made g log t.start.txn t.start.class d t.start.ts b.place a) m b.before in
     let l = act_local g (D (dm_no d)) act z.between a.before in
     let here : local_of g (D (dm_no d)) m.before ≡ l.0 ++ Did act ∷ local_of g (D (dm_no d)) a.before = ap (local_of g (D (dm_no d))) z.is ∙ l.1 in
     let there = subst (λ w. Contains (changes_in w) (at_date t.start.ts y)) (sym a.head_is) dated_one in
-    subst (λ w. Contains (applied t.start.class w) (at_date t.start.ts y)) (sym here) (applied_has t.start.class l.0 (local_of g (D (dm_no d)) a.before) (apply_rec t.start.txn t.start.class d t.start.ts) a.sends (at_date t.start.ts y) refl there)
+    subst (λ w. Contains (applied t.start.class w) (at_date t.start.ts y)) (sym here)
+    (applied_has t.start.class l.0 (local_of g (D (dm_no d)) a.before) (apply_rec t.start.txn t.start.class d t.start.ts) a.sends (at_date t.start.ts y) refl there)

@@ -1,18 +1,9 @@
 -- How many Starts of a transaction a history has is how often the site that runs its class started it.
-use Rattle.std.specs.Prelude.{filter}
-use Rattle.std.proofs.Common.{ℕ, suc, ◌&&◌, ◌++◌, ◌+◌, ◌==◌, ◌∙◌, ◌∷◌, ◌≡◌, Bool, List, None, Option, Some, [], ap, append_assoc, arith, cond, false, if◌then◌else◌, inl, inr, length, length-append, refl, subst, sym, take, true}
-use Rattle.std.proofs.lemmas.Bool.{eqb-true}
-use Rattle.std.proofs.lemmas.List.Elements.{filter-append}
-use Rattle.sdd_invariants.specs.All.{Commit, D, Deliver, Did, Does, Down, Entry, Force, Given, Hand, Handed, History, IsPermitted, IsSound, Log, Lose, Mark, Msg, Notes, Rec, Records, Redeclare, Redeclared, Redeclares, Repeat, Resend, Round, Sends, Settle, Site, Start, Submit, Submits, Submitted, T, Tick, Ticked, Txn, TxnNo, U, Up, force_at, history, home, local_of, marks, redeclares, same_site, starts_of, txn_at, with_force, with_submit}
-use Rattle.sdd_invariants.specs.site_module.SiteLog.{Log as SiteLog}
-use Rattle.sdd_invariants.specs.site_module.SiteLog as site
-use Rattle.sdd_laws.specs.All.{Attempt, IsAttempt, is_start_of, starts_before}
-use Rattle.sdd_invariants.proofs.Bools.{if_way, same_number, same_or_not}
-use Rattle.sdd_invariants.proofs.Sites.{site_self}
-use Rattle.sdd_lawful.specs.Made.{record_of}
+use Rattle.sdd_lawful.proofs.All.{Attempt, Bool, Commit, D, Deliver, Did, Does, Down, Entry, Force, Given, Hand, Handed, History, IsAttempt, IsPermitted, IsSound, List, Log, Lose, Mark, Msg, None, Notes, Option, Rec, Records, Redeclare, Redeclares, Repeat, Resend, Round, Sends, Settle, Site, SiteLog, Some, Start, Submit, Submitted, T, Tick, Ticked, Txn, TxnNo, U, Up, [], ap, append_assoc, arith, cond, eqb-true, false, filter, filter-append, force_at, history, home, if_way, if◌then◌else◌, inl, inr, is_start_of, length, length-append, local_of, marks, record_of, redeclares, refl, same_number, same_or_not, same_site, site_self, starts_before, starts_of, subst, suc, sym, take, true, txn_at, with_force, with_submit, ℕ, ◌&&◌, ◌++◌, ◌+◌, ◌==◌, ◌∙◌, ◌∷◌, ◌≡◌}
 use Rattle.sdd_lawful.proofs.Classes.{IsGivenTo, at_home, one_class}
 use Rattle.sdd_lawful.proofs.Places.{history_before, history_step, recorded}
 use Rattle.sdd_lawful.proofs.Started.{attempt_from, given_of_attempt, start_act_of, start_at_entry, start_in}
+use Rattle.sdd_invariants.specs.site_module.SiteLog as site
 
 -- how many Starts of transaction n
 
@@ -168,7 +159,8 @@ pub numbered : (g : Given) (log : Log) → IsSound g.catalogue → IsPermitted g
 numbered g log sound h a s =
     let x = start_in g log a sound h s in
     let act : Entry = Does (home g.catalogue a.class) (start_act_of a x.sends) in
-    let own = all_own g log a.class a.txn x.says.text (x.later ++ act ∷ []) x.before sound h (given_of_attempt g log a x) (x.is ∙ sym (append_assoc x.later (act ∷ []) x.before)) in
+    let own = all_own g log a.class a.txn x.says.text (x.later ++ act ∷ []) x.before sound h (given_of_attempt g log a x)
+    (x.is ∙ sym (append_assoc x.later (act ∷ []) x.before)) in
     let count = counted g a.class a.txn x.before own in
     let before = history_before log (x.later ++ act ∷ []) x.before (x.is ∙ sym (append_assoc x.later (act ∷ []) x.before)) in
     let up_to : take a.place (history log) ≡ history x.before = subst (λ k. take k (history log) ≡ history x.before) x.place_is before in

@@ -1,18 +1,6 @@
 -- What a Wait, an Arrive and a Pass of a data module are due to.
-use Rattle.std.specs.Prelude.{filter, nat_lt}
-use Rattle.std.specs.List.{list_all}
-use Rattle.std.proofs.Common.{ℕ, suc, ◌++◌, ◌&&◌, ◌==◌, ◌∙◌, ◌∷◌, ◌≡◌, Bool, List, None, Option, Some, [], ap, false, if◌then◌else◌, inl, inr, not, refl, slice_get, subst, sym, true}
-use Rattle.sdd_invariants.specs.All.{Act, Arrive, Ask, Attempt, Bases, Catalogue, ClassNo, ClassView, Cond, D, Did, DmNo, Fetch, Given, Handed, Held, Home, IsClassHere, IsDue, IsDueAt, IsReadStep, IsStep, May, Msg, Null, Open, Pass, Processes, Queued, Read, Rec, Records, Redeclared, Reduce, Sends, Setting, Ship, Site, Submits, T, Ticked, TmNo, Ts, TxnNo, U, Use, View, Wait, Write, act_by, act_where, active, answer_of, answer_to, asks_rows, attempt_due, base_of, bound_of, by_head, by_open, by_record, by_wait, class_at, commit_act, dm_no, first_send, hands, head, head_due, head_of, home, home_of, in_passing, is_asked_of, is_held, is_met, is_over, is_processing, judged, local_of, opens, or_else, pipe, sends_of_act, setting_of, spoiler, start_at, start_read, step_on, time_at, tm_no, to_site, view_of, waits}
-use Rattle.sdd_invariants.specs.site_module.SiteLog.{Entry, Log}
-use Rattle.sdd_invariants.proofs.PutBy.{was_handed}
-use Rattle.sdd_invariants.proofs.Active.{step_way}
-use Rattle.sdd_invariants.proofs.AreReadSteps.{class_at_place}
-use Rattle.sdd_invariants.proofs.Bools.{not_both}
-use Rattle.sdd_invariants.proofs.Exchanges.{asks_next}
-use Rattle.sdd_invariants.proofs.Lists.{in_either, in_filtered, in_mapped, in_none, in_one}
-use Rattle.sdd_invariants.proofs.Sites.{the_one}
-use Rattle.sdd_invariants.proofs.ReadsPut.{start_puts}
-use Rattle.sdd_invariants.proofs.Installed.{commit_put_is}
+use Rattle.sdd_lawful.proofs.All.{Act, Arrive, Ask, Bases, Bool, Catalogue, ClassNo, ClassView, Cond, D, Did, DmNo, Fetch, Given, Handed, Held, Home, IsClassHere, IsDue, IsDueAt, IsReadStep, IsStep, List, May, Msg, None, Null, Open, Option, Pass, Processes, Queued, Read, Rec, Records, Redeclared, Reduce, Running as Attempt, Sends, Setting, Ship, Site, SiteLog as Log, Some, Submits, T, Ticked, TmNo, Ts, TxnNo, U, Use, View, Wait, Write, [], act_by, act_where, active, answer_of, answer_to, ap, asks_next, asks_rows, attempt_due, base_of, bound_of, by_head, by_open, by_record, by_wait, class_at, class_at_place, commit_act, commit_put_is, dm_no, false, filter, first_send, first_there, hands, head, head_due, head_of, home, home_of, if◌then◌else◌, in_either, in_filtered, in_mapped, in_none, in_one, in_passing, inl, inr, is_asked_of, is_held, is_met, is_over, is_processing, judged, list_all, local_of, nat_lt, not, not_both, opens, or_else, pipe, refl, sends_of_act, setting_of, slice_get, spoiler, start_at, start_puts, start_read, step_on, step_way, subst, suc, sym, the_one, time_at, tm_no, to_site, true, view_of, waits, was_handed, ℕ, ◌&&◌, ◌++◌, ◌==◌, ◌∙◌, ◌∷◌, ◌≡◌}
+use Rattle.sdd_invariants.specs.site_module.SiteLog.{Entry}
 use Rattle.sdd_invariants.specs.logs.Entries as log
 use Rattle.sdd_invariants.specs.tm.Due as tm
 use Rattle.sdd_invariants.specs.umod.Due as um
@@ -56,10 +44,6 @@ arriving l h k o (Reduce ts class u col values) later before a is e = due_some l
 arriving l h k o (Ship ts class) later before a is e = due_some l _ a tt e
 arriving l h k o _ later before a is e = cc
 
-first_there : (os : List Open) (o : Open) → head_of os ≡ Some o → slice_get os 0 ≡ Some o
-first_there [] o e = cc
-first_there (x ∷ os) o e = e
-
 asked : (l : Log) (h : Home) (k : ClassView) (x : Option Open) (a : Act) → head_of (filter (is_asked_of k.class) (opens l)) ≡ x
     → answer_of h k x ≡ Some a → DueTo l a
 asked l h k None a p e = cc
@@ -87,9 +71,11 @@ by_step : (l : Log) (h : Home) (v : View) (c : ℕ) (w : Bool) (m : Msg) (a : Ac
     → act_where h v c (Some m) (step_on v c w (Some m)) ≡ Some a → DueTo l a
 by_step l h v c w (Null class time) a top e = due_some l _ a tt e
 by_step l h v c w (Write ts class txn changes) a top e =
-    elim (is_held v c ts.0 changes) as (λ b. act_where h v c (Some (Write ts class txn changes)) (if b then None else Some Processes) ≡ Some a → DueTo l a) [ true ↦ λ p. cc | false ↦ λ p. due_some l _ a tt p ] e
+    elim (is_held v c ts.0 changes) as
+    (λ b. act_where h v c (Some (Write ts class txn changes)) (if b then None else Some Processes) ≡ Some a → DueTo l a) [ true ↦ λ p. cc | false ↦ λ p. due_some l _ a tt p ] e
 by_step l h v c true (Read ts class txn attempt conds uses) a top e =
-    elim (list_all (is_met v) conds) as (λ b. act_where h v c (Some (Read ts class txn attempt conds uses)) (if b then Some Processes else None) ≡ Some a → DueTo l a) [ true ↦ λ p. due_some l _ a tt p | false ↦ λ p. cc ] e
+    elim (list_all (is_met v) conds) as
+    (λ b. act_where h v c (Some (Read ts class txn attempt conds uses)) (if b then Some Processes else None) ≡ Some a → DueTo l a) [ true ↦ λ p. due_some l _ a tt p | false ↦ λ p. cc ] e
 by_step l h v c false (Read ts class txn attempt conds uses) a top e =
     by_judged l h v c ts class txn attempt conds uses (filter (λ d. not (is_met v d)) conds) (spoiler v conds) a top refl e
 by_step l h v c w m a top e = cc
@@ -168,7 +154,8 @@ commit_none s c bases a d j k t e =
     let r = (commit_put_is s c bases a d j (Null k t) e).0 in let z : true ≡ false = ap is_null r in cc
 
 pub sends_null : (s : Setting) (l : Log) (act : Act) → IsStep s l act → SendsNull act
-sends_null s l act i = step_way s l act SendsNull (λ c q at f e. start_none s c l q) (λ c bases a at f. commit_none s c bases a) (λ to m hand f. sent_alone to m hand) i
+sends_null s l act i =
+    step_way s l act SendsNull (λ c q at f e. start_none s c l q) (λ c bases a at f. commit_none s c bases a) (λ to m hand f. sent_alone to m hand) i
 
 pub record WasAskedBy (l : Log) (from : Site) : Type 0 where
   pub class : ClassNo
@@ -225,11 +212,13 @@ next_null s l c x [] o a f p g e = g a e
 next_null s l c x (m ∷ ps) o a f p g e =
     null_some l _ a (not_null l (D (dm_no m.0)) m.1 None x.ts c (asks_next s c l x m f (ap head_of p))) e
 
-over_null : (l : Log) (b : Bool) (cat : Catalogue) (bases : Bases) (c : ℕ) (x : Attempt) (a : Act) → (if b then Some (commit_act cat bases c x) else None) ≡ Some a → NullTo l a
+over_null : (l : Log) (b : Bool) (cat : Catalogue) (bases : Bases) (c : ℕ) (x : Attempt) (a : Act)
+    → (if b then Some (commit_act cat bases c x) else None) ≡ Some a → NullTo l a
 over_null l true cat bases c x a e = null_some l _ a tt e
 over_null l false cat bases c x a e = cc
 
-attempt_null : (s : Setting) (l : Log) (bases : Bases) (c : ℕ) (o : Option Attempt) (a : Act) → active s c l ≡ o → attempt_due s.catalogue bases c o ≡ Some a → NullTo l a
+attempt_null : (s : Setting) (l : Log) (bases : Bases) (c : ℕ) (o : Option Attempt) (a : Act) → active s c l ≡ o → attempt_due s.catalogue bases c o ≡ Some a
+    → NullTo l a
 attempt_null s l bases c None a f e = cc
 attempt_null s l bases c (Some x) a f e =
     next_null s l c x x.exchange.to_send (if is_over x.exchange.phase then Some (commit_act s.catalogue bases c x) else None) a f refl
@@ -243,15 +232,18 @@ start_null : (l : Log) (cat : Catalogue) (v : tm_views.View) (c : ℕ) (o : Opti
 start_null l cat v c None a e = cc
 start_null l cat v c (Some q) a e = null_some l _ a tt e
 
-null_if : (l : Log) (b : Bool) (q : tm_views.Question) (o : Option ℕ) (a : Act) → WasAskedBy l q.from → (if b then tm.null_at q o else None) ≡ Some a → NullTo l a
+null_if : (l : Log) (b : Bool) (q : tm_views.Question) (o : Option ℕ) (a : Act) → WasAskedBy l q.from → (if b then tm.null_at q o else None) ≡ Some a
+    → NullTo l a
 null_if l true q o a w e = ask_null l q o a w e
 null_if l false q o a w e = cc
 
-hold_null : (l : Log) (b : Bool) (to : Site) (time : Ts) (hand : Option ℕ) (a : Act) → (if b then Some (Sends to (Held time) hand) else None) ≡ Some a → NullTo l a
+hold_null : (l : Log) (b : Bool) (to : Site) (time : Ts) (hand : Option ℕ) (a : Act) → (if b then Some (Sends to (Held time) hand) else None) ≡ Some a
+    → NullTo l a
 hold_null l true to time hand a e = null_some l _ a tt e
 hold_null l false to time hand a e = cc
 
-start_if : (l : Log) (cat : Catalogue) (v : tm_views.View) (c : ℕ) (b : Bool) (o : Option Queued) (a : Act) → (if b then tm.start_of cat v c o else None) ≡ Some a → NullTo l a
+start_if : (l : Log) (cat : Catalogue) (v : tm_views.View) (c : ℕ) (b : Bool) (o : Option Queued) (a : Act)
+    → (if b then tm.start_of cat v c o else None) ≡ Some a → NullTo l a
 start_if l cat v c true o a e = start_null l cat v c o a e
 start_if l cat v c false o a e = cc
 
@@ -261,8 +253,10 @@ null_to s l bases act (tm.by_exchange n k p e) =
     attempt_null s l bases i.0 (active s i.0 l) act refl (subst (λ x. tm.exchange_due s.catalogue bases x ≡ Some act) (sym i.2) e)
 null_to s l bases act (tm.by_ask n m k q p r e) =
     null_if l (q.class == k.class) q (tm.null_time (tm_views.view_of s l) k.active q.time) act (asked_from l m q r) e
-null_to s l bases act (tm.by_hold e) = hold_null l (tm_views.on_hold (tm_views.view_of s l) && (list_all tm_views.is_idle (tm_views.view_of s l).classes && nat_lt (tm_views.view_of s l).holds.helds (tm_views.view_of s l).holds.holds)) U (time_at (bound_of (tm_views.view_of s l).clock)) (Some (tm_views.view_of s l).holds.last) act e
-null_to s l bases act (tm.by_start n k p e) = start_if l s.catalogue (tm_views.view_of s l) k.class (not (tm_views.on_hold (tm_views.view_of s l)) && tm_views.is_idle k) (head_of k.queue) act e
+null_to s l bases act (tm.by_hold e) =
+    hold_null l (tm_views.on_hold (tm_views.view_of s l) && (list_all tm_views.is_idle (tm_views.view_of s l).classes && nat_lt (tm_views.view_of s l).holds.helds (tm_views.view_of s l).holds.holds)) U (time_at (bound_of (tm_views.view_of s l).clock)) (Some (tm_views.view_of s l).holds.last) act e
+null_to s l bases act (tm.by_start n k p e) =
+    start_if l s.catalogue (tm_views.view_of s l) k.class (not (tm_views.on_hold (tm_views.view_of s l)) && tm_views.is_idle k) (head_of k.queue) act e
 
 some_if : (l : Log) (b : Bool) (x a : Act) → NullTo l x → (if b then Some x else None) ≡ Some a → NullTo l a
 some_if l true x a h e = null_some l x a h e

@@ -1,33 +1,11 @@
 -- What a committed transaction replies and changes is its effect on the database of its snapshots, as the history gives it.
-use Rattle.std.specs.Prelude.{filter_map}
-use Rattle.std.specs.List.{Contains, flat_map, fold, position_or_len}
-use Rattle.std.specs.Option.{option_eq}
-use Rattle.std.specs.List.Sorted.{IsStrictlySortedBy}
-use Rattle.std.specs.Map.{keys_of}
-use Rattle.std.proofs.Common.{ℕ, suc, zero, ◌++◌, ◌<◌, ◌==◌, ◌∙◌, ◌∷◌, ◌≡◌, Bool, List, None, Option, Some, [], ap, append_assoc, arith, inl, inr, refl, subst, sym, true}
-use Rattle.std.proofs.lemmas.Bool.{eqb-true}
-use Rattle.sdd_invariants.specs.All.{Attempt as Running, Catalogue, Change, D, Database, Did, Does, Effect, Given, History, IsPermitted, IsSound, Item, Log, Rec, Records, RelNo, Row, Txn, ascending, commit_act, dated, dm_no, effect, fragment_at, fragment_of, fragments_in, has_copy, head, history, home, item_cmp, local_of, numbers_to, pipe, reads_at, setting_of, txn_at, txn_no, use_there}
-use Rattle.sdd_invariants.proofs.base.Membership.{Contains-nil}
-use Rattle.sdd_laws.proofs.CopyEntries.{entries_ascend, lies_there}
-use Rattle.sdd_laws.proofs.Gathered.{gathered_from, gathered_sorted, gathered_there}
-use Rattle.sdd_laws.proofs.LookUps.{one_entry, same_members}
-use Rattle.sdd_laws.proofs.Members.{Contains-flat_map, Contains-from_flat_map, each_has}
-use Rattle.sdd_laws.specs.All.{ArePlaced, Attempt, Committed, Eras, IsAnswered, IsCommitted, IsModule, KeepsAnswers, Stands, by_use, is_answer, module_of, reads}
-use Rattle.sdd_invariants.proofs.lang.EffectChanges.{entry_placed}
-use Rattle.sdd_invariants.proofs.lang.SortedEntries.{item_cmp_exact, item_cmp_total, sorted_nil}
-use Rattle.sdd_invariants.specs.site_module.SiteLog.{Log as SiteLog}
-use Rattle.sdd_invariants.specs.logs.Snapshots as log_base
-use Rattle.sdd_laws.specs.Snapshots as laws
-use Rattle.sdd_laws.proofs.Reading.{reads_there}
-use Rattle.sdd_laws.proofs.serial_orders.Before.{answer_passes, is_answered}
-use Rattle.sdd_invariants.proofs.Bools.{same_number, true_or_false}
-use Rattle.sdd_lawful.specs.Given.{AreErasOf, HasSoundData}
+use Rattle.sdd_lawful.proofs.All.{AreErasOf, ArePlaced, Attempt, Bool, Catalogue, Change, Committed, Contains, Contains-flat_map, Contains-from_flat_map, Contains-nil, D, Database, Did, Does, Effect, Eras, Given, HasSoundData, History, IsAnswered, IsCommitted, IsModule, IsPermitted, IsSound, IsStrictlySortedBy, Item, KeepsAnswers, List, Log, None, Option, Rec, Records, RelNo, Row, Running, SiteLog, Some, Stands, Txn, [], answer_passes, ap, append_assoc, arith, ascending, by_use, commit_act, dated, dm_no, each_has, effect, entries_ascend, entry_placed, eqb-true, filter_map, flat_map, fold, fragment_at, fragment_of, fragments_in, from_ascending, gathered_from, gathered_sorted, gathered_there, has_copy, head, history, home, in_ascending, inl, inr, is_answer, is_answered, item_cmp, item_cmp_exact, item_cmp_total, keys_of, lies_there, local_of, module_of, number_member, numbers_to, one_active, one_entry, option_eq, pipe, position_or_len, reads, reads_at, reads_there, refl, same_members, same_number, setting_of, sorted_nil, subst, suc, sym, true, true_or_false, txn_at, txn_no, use_there, zero, ℕ, ◌++◌, ◌<◌, ◌==◌, ◌∙◌, ◌∷◌, ◌≡◌}
 use Rattle.sdd_lawful.proofs.Answered.{IsAnswerIn, answer_in, answer_made, answer_rec}
-use Rattle.sdd_lawful.proofs.Asked.{answer_after, answered, commit_after, in_ascending, one_answer}
-use Rattle.sdd_lawful.proofs.Asks.{from_ascending, number_member, read_there, there_read}
+use Rattle.sdd_lawful.proofs.Asked.{answer_after, answered, commit_after, one_answer}
+use Rattle.sdd_lawful.proofs.Asks.{read_there, there_read}
 use Rattle.sdd_lawful.proofs.Beginnings.{in_numbers}
-use Rattle.sdd_lawful.proofs.Classes.{at_home, home_setting}
-use Rattle.sdd_lawful.proofs.Committed.{IsCommittedIn, committed_in, committed_made, one_active}
+use Rattle.sdd_lawful.proofs.Classes.{at_home, home_setting, text_one as text_same}
+use Rattle.sdd_lawful.proofs.Committed.{IsCommittedIn, committed_in, committed_made}
 use Rattle.sdd_lawful.proofs.Conditions.{member_of}
 use Rattle.sdd_lawful.proofs.Places.{entries_in_order}
 use Rattle.sdd_lawful.proofs.SameCopies.{same_copy}
@@ -35,6 +13,8 @@ use Rattle.sdd_lawful.proofs.Snapshots.{HasSnapshot, IsTheAnswer, snapshot_or, t
 use Rattle.sdd_lawful.proofs.Started.{act_local}
 use Rattle.sdd_lawful.proofs.Starts.{keeps_starts}
 use Rattle.sdd_lawful.proofs.Valid.{AllValidAt, IsValid, all_begin, applies_valid, base_is, commits_valid, dated_valid, home_runs}
+use Rattle.sdd_invariants.specs.logs.Snapshots as log_base
+use Rattle.sdd_laws.specs.Snapshots as laws
 
 -- the place of a record that alone passes a test
 first_place : (p : Rec → Bool) (h : History) (k : ℕ) (r : Rec) → Stands h k r → p r ≡ true
@@ -57,9 +37,6 @@ one_module o d e p q = let r : Some d ≡ Some e = sym p ∙ q in cc
 
 read_by : (o : Option ℕ) (d : ℕ) → o ≡ Some d → option_eq ◌==◌ o (Some d) ≡ true
 read_by o d e = ap (λ p. option_eq ◌==◌ p (Some d)) e ∙ same_number d
-
-text_same : (o : Option Txn) (x y : Txn) → o ≡ Some x → o ≡ Some y → x ≡ y
-text_same o x y e f = let p : Some x ≡ Some y = sym e ∙ f in cc
 
 -- the Answer of a committed attempt at the module where it reads a fragment
 pub record IsSeen (g : Given) (log : Log) (t : Committed) (f d : ℕ) : Type 0 where
@@ -153,14 +130,19 @@ module _ (g : Given) (rows : List (RelNo × Row)) (eras : Eras) (log : Log) (sou
       (elim (snapshot_or s a.ts l) [
         | inl i ↦ (let z = answer_of d i in
             let w = answer_is d z.place z.answered in
-            let here : Contains (log_base.items_of cat (dated s i.before) f) e = subst (λ m. Contains (log_base.items_of cat (dated s m) f) e) (z.local_is w) (subst (λ m. Contains m e) (piece_is f d z.place x z.answered) there) in
-            let f_there : Contains (log_base.frags_asked (head (pipe i.class i.before))) f = subst (λ m. Contains m f) (sym (asked_is d i z)) (number_member (ascending (fragments_in (filter_map (use_there cat a.class d) a.uses))) f (in_ascending (fragments_in (filter_map (use_there cat a.class d) a.uses)) f (read_there cat a.class d f a.uses rd (read_by (reads_at cat a.class f) d x.read)))) in
-            subst (λ m. Contains m e) (sym i.are) (Contains-flat_map (log_base.items_of cat (dated s i.before)) (log_base.frags_asked (head (pipe i.class i.before))) f e f_there here))
+            let here : Contains (log_base.items_of cat (dated s i.before) f) e = subst (λ m. Contains (log_base.items_of cat (dated s m) f) e) (z.local_is w)
+            (subst (λ m. Contains m e) (piece_is f d z.place x z.answered) there) in
+            let f_there : Contains (log_base.frags_asked (head (pipe i.class i.before))) f = subst (λ m. Contains m f) (sym (asked_is d i z))
+            (number_member (ascending (fragments_in (filter_map (use_there cat a.class d) a.uses))) f (in_ascending (fragments_in (filter_map (use_there cat a.class d) a.uses)) f (read_there cat a.class d f a.uses rd (read_by (reads_at cat a.class f) d x.read)))) in
+            subst (λ m. Contains m e) (sym i.are)
+            (Contains-flat_map (log_base.items_of cat (dated s i.before)) (log_base.frags_asked (head (pipe i.class i.before))) f e f_there here))
         | inr i ↦ absurd (let w = answer_is d x.place x.answered in
             let before = entries_in_order log x.place t.place (answer_rec a d) _ (answer_made g log a d x.place w) (committed_made g log t c) x.before in
             let m = act_local g (D (dm_no d)) (Records a.class (answer_rec a d) w.sends) before.between w.before in
-            let is : l ≡ m.0 ++ Did (Records a.class (answer_rec a d) w.sends) ∷ local_of g (D (dm_no d)) w.before = ap (local_of g (D (dm_no d))) before.is ∙ m.1 in
-            let at : log_base.is_at a.ts (head (pipe a.class (local_of g (D (dm_no d)) w.before))) ≡ true = ap (log_base.is_at a.ts) w.read.head_is ∙ same_number a.ts in
+            let is : l ≡ m.0 ++ Did (Records a.class (answer_rec a d) w.sends) ∷ local_of g (D (dm_no d)) w.before = ap (local_of g (D (dm_no d))) before.is
+            ∙ m.1 in
+            let at : log_base.is_at a.ts (head (pipe a.class (local_of g (D (dm_no d)) w.before))) ≡ true = ap (log_base.is_at a.ts) w.read.head_is
+            ∙ same_number a.ts in
             i.none m.0 a.class (txn_no a.txn) a.number (dm_no d) w.sends (local_of g (D (dm_no d)) w.before) is at)
       ])
 
@@ -173,14 +155,17 @@ module _ (g : Given) (rows : List (RelNo × Row)) (eras : Eras) (log : Log) (sou
       elim (snapshot_or s a.ts l) [
         | inl i ↦ (let z = answer_of d i in
             let w = answer_is d z.place z.answered in
-            let q = Contains-from_flat_map (log_base.items_of cat (dated s i.before)) (log_base.frags_asked (head (pipe i.class i.before))) e (subst (λ m. Contains m e) i.are r.2) in
+            let q = Contains-from_flat_map (log_base.items_of cat (dated s i.before)) (log_base.frags_asked (head (pipe i.class i.before))) e
+            (subst (λ m. Contains m e) i.are r.2) in
             let f : ℕ = q.0 in
             let fs = from_ascending (fragments_in (filter_map (use_there cat a.class d) a.uses)) f (subst (λ m. Contains m f) (asked_is d i z) q.1) in
             let rd = there_read cat a.class d f a.uses fs in
             let x = seen f rd.0 in
-            let same : d ≡ module_of cat a.class f = one_module (reads_at cat a.class f) d (module_of cat a.class f) (read_module (reads_at cat a.class f) d rd.1) x.read in
+            let same : d ≡ module_of cat a.class f = one_module (reads_at cat a.class f) d (module_of cat a.class f)
+            (read_module (reads_at cat a.class f) d rd.1) x.read in
             let y : IsSeen g log t f d = subst (IsSeen g log t f) (sym same) x in
-            let here : Contains (log_base.items_of cat (dated s (local_of g (D (dm_no d)) w.before)) f) e = subst (λ m. Contains (log_base.items_of cat (dated s m) f) e) (sym (z.local_is w)) q.2 in
+            let here : Contains (log_base.items_of cat (dated s (local_of g (D (dm_no d)) w.before)) f) e = subst
+            (λ m. Contains (log_base.items_of cat (dated s m) f) e) (sym (z.local_is w)) q.2 in
             (f, rd.0, subst (λ m. Contains m e) (sym (piece_is f d z.place y z.answered)) here))
         | inr i ↦ absurd (Contains-nil e (subst (λ m. Contains m e) i.are r.2))
       ]
@@ -189,7 +174,8 @@ module _ (g : Given) (rows : List (RelNo × Row)) (eras : Eras) (log : Log) (sou
 
   placed : (d : ℕ) (w : Log) → IsPermitted g w → IsModule cat d → ArePlaced cat (dated (setting_of g (D (dm_no d))) (local_of g (D (dm_no d)) w))
   placed d w hw m x k =
-      let all : AllValidAt cat (dated (setting_of g (D (dm_no d))) (local_of g (D (dm_no d)) w)) = dated_valid (setting_of g (D (dm_no d))) (local_of g (D (dm_no d)) w) (all_begin g rows fine d m) (applies_valid g d w hw (commits_valid g rows w sound fine hw)) in
+      let all : AllValidAt cat (dated (setting_of g (D (dm_no d))) (local_of g (D (dm_no d)) w)) = dated_valid (setting_of g (D (dm_no d)))
+      (local_of g (D (dm_no d)) w) (all_begin g rows fine d m) (applies_valid g d w hw (commits_valid g rows w sound fine hw)) in
       let v : IsValid cat x.1 = each_has (λ (y : ℕ × Change). IsValid cat y.1) (dated (setting_of g (D (dm_no d))) (local_of g (D (dm_no d)) w)) x all k in
       let rel : (fragment_at cat x.1.frag.0).rel.0 ≡ v.rel = ap (λ n. (fragment_at cat n).rel.0) v.frag ∙ entry_placed cat sound v.rel x.1.key v.there v.held in
       ap (λ r. fragment_of cat r x.1.key) rel ∙ sym v.frag
@@ -206,8 +192,10 @@ module _ (g : Given) (rows : List (RelNo × Row)) (eras : Eras) (log : Log) (sou
   one_piece x y f n rf rn p q e =
       let same : n ≡ f = sym (lies n y rn q) ∙ ap (λ (i : Item). fragment_of cat i.0 i.1) (sym e) ∙ lies f x rf p in
       let d : ℕ = module_of cat a.class f in
-      let sorted : IsStrictlySortedBy item_cmp (keys_of (piece f)) = entries_ascend cat f (laws.dated_at cat rows (history log) d (laws.answer_place (history log) a d)) in
-      let row : x.1 ≡ y.1 = one_entry item_cmp item_cmp_total item_cmp_exact (piece f) y.0 x.1 y.1 sorted (subst (λ i. Contains (piece f) (i, x.1)) e p) (subst (λ m. Contains (piece m) y) same q) in
+      let sorted : IsStrictlySortedBy item_cmp (keys_of (piece f)) = entries_ascend cat f
+      (laws.dated_at cat rows (history log) d (laws.answer_place (history log) a d)) in
+      let row : x.1 ≡ y.1 = one_entry item_cmp item_cmp_total item_cmp_exact (piece f) y.0 x.1 y.1 sorted (subst (λ i. Contains (piece f) (i, x.1)) e p)
+      (subst (λ m. Contains (piece m) y) same q) in
       λ i. (e i, row i)
 
   in_theirs : (e : Item × Row) → Contains theirs e → (f : ℕ) × (reads a f ≡ true) × Contains (piece f) e
@@ -217,7 +205,8 @@ module _ (g : Given) (rows : List (RelNo × Row)) (eras : Eras) (log : Log) (sou
 
   to_theirs : (e : Item × Row) (f : ℕ) → reads a f ≡ true → Contains (piece f) e → Contains theirs e
   to_theirs e f rd k =
-      Contains-flat_map (λ f. piece f) (ascending (fragments_in a.uses)) f e (number_member (ascending (fragments_in a.uses)) f (in_ascending (fragments_in a.uses) f rd)) k
+      Contains-flat_map (λ f. piece f) (ascending (fragments_in a.uses)) f e
+      (number_member (ascending (fragments_in a.uses)) f (in_ascending (fragments_in a.uses) f rd)) k
 
   forth : (e : Item × Row) → Contains (fold laws.with_item [] theirs) e → Contains (fold log_base.with_item [] ours) e
   forth e k = elim (gathered_from item_cmp item_cmp_total item_cmp_exact [] theirs e (sorted_nil item_cmp) k) [
@@ -249,8 +238,10 @@ module _ (g : Given) (rows : List (RelNo × Row)) (eras : Eras) (log : Log) (sou
       let same : based.0 ≡ c.running = one_active (home_setting g a.class) a.class (at_home g a.class c.before) based.0 c.running based.1 c.active_is in
       let now : Effect = effect cat (log_base.base_of g c.before c.running.ts) c.running.text in
       let reply : t.reply ≡ now.reply = c.reply_is ∙ based.2 ∙ ap (λ (y : Running). (effect cat (log_base.base_of g c.before y.ts) y.text).reply) same in
-      let changes : t.changes ≡ now.changes = c.changes_are ∙ based.3 ∙ ap (λ (y : Running). (effect cat (log_base.base_of g c.before y.ts) y.text).changes) same in
-      ap (λ b. effect cat b txn) same_base ∙ ap (effect cat (log_base.base_of g c.before a.ts)) text ∙ ap (λ ts. effect cat (log_base.base_of g c.before ts) c.running.text) (sym c.ts_is)
+      let changes : t.changes ≡ now.changes = c.changes_are ∙ based.3
+      ∙ ap (λ (y : Running). (effect cat (log_base.base_of g c.before y.ts) y.text).changes) same in
+      ap (λ b. effect cat b txn) same_base ∙ ap (effect cat (log_base.base_of g c.before a.ts)) text
+      ∙ ap (λ ts. effect cat (log_base.base_of g c.before ts) c.running.text) (sym c.ts_is)
       ∙ (λ i. record { reply = sym reply i; changes = sym changes i })
 
 pub keeps_answers : (g : Given) (rows : List (RelNo × Row)) (eras : Eras) (log : Log) → IsSound g.catalogue → HasSoundData g rows → IsPermitted g log

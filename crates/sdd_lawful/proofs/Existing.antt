@@ -1,32 +1,17 @@
 -- What transactions use is there: relations, fragments, the modules that are asked, and what conditions name.
-use Rattle.std.specs.Prelude.{filter_map}
-use Rattle.std.specs.List.{AllByRecursion, list_any}
-use Rattle.std.specs.Option.{option_or}
-use Rattle.std.proofs.Common.{ℕ, suc, ◌&&◌, ◌+◌, ◌==◌, ◌||◌, ◌∷◌, ◌≡◌, ◌≤◌, Bool, List, None, Option, Some, [], ap, arith, false, inl, inr, length, map, refl, slice_get, subst, true}
-use Rattle.std.proofs.lemmas.List.Elements.{All-from_recursion, recursion_from_All}
-use Rattle.sdd_invariants.specs.All.{Catalogue, Cond, Condition, Delete, Diagonal, Edge, FitsStatement, FragNo, Horizontal, IsRelation, IsSound, P2, P3, Protocol, Put, Query, RelNo, Restriction, Stmt, Update, Use, Vertical, ascending, asked_by, asked_in, asked_on, classes_of, cond_for, cond_of, condition_on, conditions_at, contains, frag_no, fragments_for, fragments_in, fragments_of, is_asked, is_read_at, modules_of, numbers_to, part_uses, reads_at, restrictions_of, same_protocol, statement_uses, use_of, uses_from}
-use Rattle.sdd_invariants.proofs.catalog.Sound.{served_read}
-use Rattle.sdd_invariants.proofs.lang.Sets.{IsThere, fragments_there}
+use Rattle.sdd_lawful.proofs.All.{All-from_recursion, AllByRecursion, Bool, Catalogue, Cond, CondExists, Condition, Delete, Diagonal, Edge, FitsStatement, FragNo, Horizontal, IsFragment, IsModule, IsRelation, IsSound, IsThere, List, None, Option, P2, P3, Protocol, Put, Query, RelNo, Restriction, Some, Stmt, Update, Use, UseExists, Vertical, [], all_join, all_numbers, and_left, and_right, ap, arith, ascending, asked_by, asked_in, asked_on, classes_of, cond_for, cond_of, condition_on, conditions_at, contains, contains_at, false, filter_map, frag_no, fragments_for, fragments_in, fragments_of, fragments_there, from_ascending, in_mapped, in_range, inl, inr, is_asked, is_read_at, length, list_any, map, member_at, modules_of, number_member, numbers_to, only_right, option_or, part_uses, reads_at, recursion_from_All, refl, restrictions_of, same_or_not, same_protocol, served_read, slice_get, statement_uses, subst, suc, true, true_or_false, use_of, uses_from, ℕ, ◌&&◌, ◌+◌, ◌==◌, ◌||◌, ◌∷◌, ◌≡◌, ◌≤◌}
+use Rattle.sdd_lawful.proofs.Asks.{contains_either}
+use Rattle.sdd_lawful.proofs.Conditions.{in_filter_mapped}
 use Rattle.sdd_invariants.specs.protocol.declared.entry.Entry as line
-use Rattle.sdd_laws.specs.All.{CondExists, IsFragment, IsModule, UseExists}
-use Rattle.sdd_invariants.proofs.Bools.{and_left, and_right, only_right, same_or_not, true_or_false}
-use Rattle.sdd_invariants.proofs.Lists.{in_mapped, in_range}
-use Rattle.sdd_lawful.proofs.Asked.{contains_at}
-use Rattle.sdd_lawful.proofs.Asks.{contains_either, from_ascending, number_member}
-use Rattle.sdd_lawful.proofs.Conditions.{in_filter_mapped, member_at}
-use Rattle.sdd_lawful.proofs.Valid.{all_join}
 
 -- uses
-
-all_numbers : (P : ℕ → Type 0) (fs : List FragNo) → AllByRecursion P (map (λ (f : FragNo). f.0) fs) → AllByRecursion (λ (f : FragNo). P f.0) fs
-all_numbers P [] h = tt
-all_numbers P (f ∷ fs) h = (h.0, all_numbers P fs h.1)
 
 use_exists : (cat : Catalogue) (n : ℕ) (rel : RelNo) (restrictions : List Restriction) → IsRelation cat rel.0 → UseExists cat (use_of cat n rel restrictions)
 use_exists cat n rel restrictions h =
     (h, All-from_recursion (λ (f : FragNo). IsFragment cat f.0) (fragments_for cat rel.0 restrictions) (all_numbers (IsThere cat) (fragments_for cat rel.0 restrictions) (fragments_there cat rel.0 restrictions)))
 
-parts_exist : (cat : Catalogue) (before : ℕ) (conds : List Condition) (part : ℕ) (rels : List RelNo) → AllByRecursion (λ (rel : RelNo). IsRelation cat rel.0) rels
+parts_exist : (cat : Catalogue) (before : ℕ) (conds : List Condition) (part : ℕ) (rels : List RelNo)
+    → AllByRecursion (λ (rel : RelNo). IsRelation cat rel.0) rels
     → AllByRecursion (UseExists cat) (part_uses cat before conds part rels)
 parts_exist cat before conds part [] h = tt
 parts_exist cat before conds part (rel ∷ rels) h =
@@ -42,11 +27,13 @@ pub uses_exist : (cat : Catalogue) (before : ℕ) (statements : List Stmt) → A
     → AllByRecursion (UseExists cat) (uses_from cat before statements)
 uses_exist cat before [] h = tt
 uses_exist cat before (s ∷ rest) h =
-    all_join (UseExists cat) (statement_uses cat before s) (uses_from cat (before + length (statement_uses cat before s)) rest) (statement_exists cat before s h.0) (uses_exist cat (before + length (statement_uses cat before s)) rest h.1)
+    all_join (UseExists cat) (statement_uses cat before s) (uses_from cat (before + length (statement_uses cat before s)) rest)
+    (statement_exists cat before s h.0) (uses_exist cat (before + length (statement_uses cat before s)) rest h.1)
 
 -- the fragments of uses
 
-each_frag : (cat : Catalogue) (fs : List FragNo) (f : ℕ) → AllByRecursion (λ (g : FragNo). IsFragment cat g.0) fs → contains (map (λ (g : FragNo). g.0) fs) f ≡ true → IsFragment cat f
+each_frag : (cat : Catalogue) (fs : List FragNo) (f : ℕ) → AllByRecursion (λ (g : FragNo). IsFragment cat g.0) fs
+    → contains (map (λ (g : FragNo). g.0) fs) f ≡ true → IsFragment cat f
 each_frag cat [] f h e = cc
 each_frag cat (g ∷ fs) f h e = elim (same_or_not g.0 f) [
   | inl p ↦ subst (IsFragment cat) p h.0
@@ -88,7 +75,8 @@ named [] f e = e
 named (g ∷ frags) f e =
     elim (g == f) as (λ b. (b || list_any (λ (g : FragNo). g.0 == f) (map frag_no frags)) ≡ true → (b || contains frags f) ≡ true) [ true ↦ λ h. refl | false ↦ λ h. named frags f h ] e
 
-by_place : (cat : Catalogue) (fs : List FragNo) → ((k : ℕ) (f : FragNo) → slice_get fs k ≡ Some f → IsFragment cat f.0) → AllByRecursion (λ (f : FragNo). IsFragment cat f.0) fs
+by_place : (cat : Catalogue) (fs : List FragNo) → ((k : ℕ) (f : FragNo) → slice_get fs k ≡ Some f → IsFragment cat f.0)
+    → AllByRecursion (λ (f : FragNo). IsFragment cat f.0) fs
 by_place cat [] h = tt
 by_place cat (f ∷ fs) h = (h 0 f refl, by_place cat fs (λ k g e. h (suc k) g e))
 
@@ -108,7 +96,8 @@ asked_entry protocol p i j e f h = elim (true_or_false (same_protocol e.protocol
   | inr t ↦ (let q : None ≡ Some f = rw t at h in cc)
 ]
 
-pub asked_exist : (cat : Catalogue) (c d : ℕ) (frags : List ℕ) (protocol : Protocol) (table : List line.Entry) (i j : ℕ) → ((f : ℕ) → contains frags f ≡ true → IsFragment cat f)
+pub asked_exist : (cat : Catalogue) (c d : ℕ) (frags : List ℕ) (protocol : Protocol) (table : List line.Entry) (i j : ℕ)
+    → ((f : ℕ) → contains frags f ≡ true → IsFragment cat f)
     → AllByRecursion (λ (f : FragNo). IsFragment cat f.0) (asked_by protocol (is_asked cat c d (map frag_no frags)) table i j)
 asked_exist cat c d frags protocol table i j h =
     by_place cat (asked_by protocol (is_asked cat c d (map frag_no frags)) table i j) (λ k f e.
@@ -128,7 +117,8 @@ either_exists : (cat : Catalogue) (a b : Option Cond) (q : Cond) → ((x : Cond)
 either_exists cat None b q f g e = g q e
 either_exists cat (Some x) b q f g e = f q e
 
-all_numbered : (cat : Catalogue) (ns : List ℕ) → ((k n : ℕ) → slice_get ns k ≡ Some n → IsFragment cat n) → AllByRecursion (λ (f : FragNo). IsFragment cat f.0) (map frag_no ns)
+all_numbered : (cat : Catalogue) (ns : List ℕ) → ((k n : ℕ) → slice_get ns k ≡ Some n → IsFragment cat n)
+    → AllByRecursion (λ (f : FragNo). IsFragment cat f.0) (map frag_no ns)
 all_numbered cat [] h = tt
 all_numbered cat (n ∷ ns) h = (h 0 n refl, all_numbered cat ns (λ k m e. h (suc k) m e))
 
@@ -144,7 +134,8 @@ cond_exists cat table class frags own p2 d k q h e = elim (same_or_not class 0) 
       let r = in_range 1 (length cat.classes) i.0 i.1 i.2 in
       let high = r.1 in
       let within : i.1 ≤ length cat.classes = omega arith in
-      either_exists cat (cond_for i.1 own (asked_by P3 (is_asked cat class d (map frag_no frags)) table class i.1)) (cond_for i.1 p2 (asked_by P2 (is_asked cat class d (map frag_no frags)) table class i.1)) q
+      either_exists cat (cond_for i.1 own (asked_by P3 (is_asked cat class d (map frag_no frags)) table class i.1))
+      (cond_for i.1 p2 (asked_by P2 (is_asked cat class d (map frag_no frags)) table class i.1)) q
       (λ x f. cond_for_exists cat i.1 own _ x within (asked_exist cat class d frags P3 table class i.1 h) f)
       (λ x f. cond_for_exists cat i.1 p2 _ x within (asked_exist cat class d frags P2 table class i.1 h) f) i.3)
 ]

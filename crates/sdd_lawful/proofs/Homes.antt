@@ -1,10 +1,5 @@
 -- The sites that run classes have small numbers, which differ.
-use Rattle.std.proofs.Common.{ℕ, ◌-◌, ◌==◌, ◌∙◌, ◌≡◌, ◌≢◌, ◌≤◌, ◌⊎◌, ap, arith, false, inl, inr, length, refl, subst, sym}
-use Rattle.std.proofs.Math.Decide.{dec_le}
-use Rattle.std.proofs.lemmas.List.{get_or_past}
-use Rattle.sdd_invariants.specs.All.{Catalogue, Class, IsServedClass, IsSound, Site, T, class_at, home, number_of, tm_no}
-use Rattle.sdd_invariants.proofs.catalog.Sound.{at_number, sound_classes, sound_whole}
-use Rattle.sdd_invariants.proofs.Bools.{differ, same_or_not}
+use Rattle.sdd_lawful.proofs.All.{Catalogue, Class, IsServedClass, IsSound, Site, T, ap, arith, at_number, class_at, dec_le, differ, false, get_or_past, home, inl, inr, length, number_of, refl, same_or_not, sound_classes, sound_whole, subst, sym, tm_no, ℕ, ◌-◌, ◌==◌, ◌∙◌, ◌≡◌, ◌≢◌, ◌≤◌, ◌⊎◌}
 
 -- the module of a class is there
 pub served : (cat : Catalogue) → IsSound cat → (c : ℕ) → 1 ≤ c → c ≤ length cat.classes → IsServedClass cat (class_at cat c)

@@ -1,12 +1,7 @@
 -- What the log of a site that runs transactions says of an act in it: of the timestamps, promises, Commits and
 -- submissions.
-use Rattle.std.proofs.Common.{ℕ, suc, ◌&&◌, ◌++◌, ◌<◌, ◌==◌, ◌∷◌, ◌≡◌, ◌≤◌, Bool, List, Option, Some, [], ap, arith, false, if◌then◌else◌, inl, inr, length, refl, slice_get, subst, sym, true, zero}
-use Rattle.std.proofs.lemmas.Bool.{eqb-true}
-use Rattle.sdd_invariants.specs.All.{Act, AllCommitted, AllLe, AllLt, Change, ClassNo, Commit, Did, Handed, Msg, Records, Redeclared, Reply, Sends, Setting, Site, Start, Submits, Ticked, Ts, Txn, TxnNo, Use, commit_more, in_force, is_committed, is_for, promises, stamps, start_more, starts_of, submits_of}
+use Rattle.sdd_lawful.proofs.All.{Act, AllCommitted, AllLe, AllLt, Bool, Change, ClassNo, Commit, Did, Handed, List, Msg, Option, Records, Redeclared, Reply, Sends, Setting, Site, SiteLog as Log, Some, Start, Submits, Ticked, Ts, Txn, TxnNo, Use, [], and_left, and_right, ap, arith, at_seam, both, commit_more, eqb-true, false, if_way, if◌then◌else◌, in_force, in_left, in_right, inl, inr, is_committed, is_for, length, only_right, or_left, or_right, promises, refl, same_number, slice_get, stamps, start_more, starts_of, submits_of, subst, suc, sym, true, true_or_false, zero, ℕ, ◌&&◌, ◌++◌, ◌<◌, ◌==◌, ◌∷◌, ◌≡◌, ◌≤◌}
 use Rattle.sdd_invariants.specs.site_module.SiteLog as site
-use Rattle.sdd_invariants.specs.site_module.SiteLog.{Log}
-use Rattle.sdd_invariants.proofs.Bools.{and_left, and_right, both, if_way, only_right, or_left, or_right, same_number, true_or_false}
-use Rattle.sdd_invariants.proofs.Lists.{at_seam, in_left, in_right}
 
 pub below_at : (k : ℕ) (xs : List ℕ) (i x : ℕ) → AllLt k xs → slice_get xs i ≡ Some x → x < k
 below_at k [] i x h e = cc
@@ -155,5 +150,6 @@ pub starts_grow : (later before : Log) (c : ℕ) (txn : TxnNo) (attempt : ℕ) (
     → starts_of c txn.0 before < starts_of c txn.0 (later ++ Did (Records c (Start txn attempt class ts p2 us) sends) ∷ before)
 starts_grow later before c txn attempt class ts p2 us sends =
     let i = starts_later c txn.0 later (Did (Records c (Start txn attempt class ts p2 us) sends) ∷ before) in
-    let e : starts_of c txn.0 (Did (Records c (Start txn attempt class ts p2 us) sends) ∷ before) ≡ suc (starts_of c txn.0 before) = rw (same_number c, same_number txn.0) refl in
+    let e : starts_of c txn.0 (Did (Records c (Start txn attempt class ts p2 us) sends) ∷ before) ≡ suc (starts_of c txn.0 before) = rw
+    (same_number c, same_number txn.0) refl in
     omega arith

@@ -1,15 +1,7 @@
 -- Which sites make which records: a site that runs transactions makes Starts and Commits of the classes that it runs, a
 -- data module makes the others, each with its own number.
-use Rattle.std.specs.Prelude.{filter}
-use Rattle.std.proofs.Common.{ℕ, ◌∷◌, ◌≡◌, Bool, None, Option, Some, ◌∙◌, List, false, refl, subst, sym, true}
-use Rattle.sdd_invariants.specs.All.{Act, Answer, Apply, Arrive, ClassView, Commit, D, DmNo, Does, Each, Fetch, Given, Home, IsDue, IsFair, IsPermitted, IsStep, Log, Msg, Nothing, Null, Open, Pass, Processes, Read, Rec, Records, Reduce, Refuses, Sends, Setting, Ship, Site, Start, T, U, View, Wait, Waits, Write, act_by, act_where, answer_of, answer_to, by_head, by_open, head, head_of, head_step, home, home_of, is_asked_of, local_of, setting_of, view_of}
-use Rattle.sdd_invariants.specs.history.declared.record.Rec.TheVariants.{Reject as Rejected, Submit}
-use Rattle.sdd_invariants.specs.site_module.SiteLog.{Log as SiteLog}
-use Rattle.sdd_invariants.specs.dm.declared.step.Step.{Step}
-use Rattle.sdd_invariants.proofs.logs.EachLocal.{allowed_act}
-use Rattle.sdd_invariants.proofs.Active.{step_way}
-use Rattle.sdd_invariants.proofs.Fair.{t_fair, u_fair}
-use Rattle.sdd_invariants.proofs.Made.{own_act}
+use Rattle.sdd_lawful.proofs.All.{Act, Answer, Apply, Arrive, Bool, ClassView, Commit, D, DmNo, Does, Each, Fetch, Given, Home, IsDue, IsFair, IsPermitted, IsStep, List, Log, Msg, None, Nothing, Null, Open, Option, Pass, Processes, Read, Rec, Records, Reduce, Refuses, Rejected, Sends, Setting, Ship, Site, SiteLog, Some, Start, Step, T, U, View, Wait, Waits, Write, act_by, act_where, allowed_act, answer_of, answer_to, by_head, by_open, false, filter, head, head_of, head_step, home, home_of, is_asked_of, local_of, own_act, refl, setting_of, step_way, subst, sym, t_fair, true, u_fair, view_of, ℕ, ◌∙◌, ◌∷◌, ◌≡◌}
+use Rattle.sdd_invariants.specs.history.declared.record.Rec.TheVariants.{Submit}
 
 abbrev pub is_of_run : Rec → Bool
 is_of_run (Start txn attempt class ts p2 uses) = true
@@ -82,7 +74,8 @@ act_kind g (D d) act log h =
 act_kind g U act log h =
     step_kind (setting_of g U) (local_of g U log) act (subst (λ l. Each (IsFair (setting_of g U)) l) (own_act g U act log) (u_fair g (Does U act ∷ log) h)).0
 act_kind g (T t) act log h =
-    step_kind (setting_of g (T t)) (local_of g (T t) log) act (subst (λ l. Each (IsFair (setting_of g (T t))) l) (own_act g (T t) act log) (t_fair g t (Does (T t) act ∷ log) h)).0
+    step_kind (setting_of g (T t)) (local_of g (T t) log) act
+    (subst (λ l. Each (IsFair (setting_of g (T t))) l) (own_act g (T t) act log) (t_fair g t (Does (T t) act ∷ log) h)).0
 
 not_of_run : {A : Type 0} (d : DmNo) (r : Rec) → IsOfData d r → is_of_run r ≡ true → A
 not_of_run d (Start txn attempt class ts p2 uses) h e = absurd h

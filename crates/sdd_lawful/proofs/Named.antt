@@ -1,25 +1,8 @@
 -- All that the records of a history name is there.
-use Rattle.std.specs.List.{AllByRecursion}
-use Rattle.std.proofs.Common.{ℕ, suc, ◌++◌, ◌-◌, ◌<◌, ◌∙◌, ◌∷◌, ◌≡◌, ◌≤◌, List, None, Option, Some, [], ap, append_assoc, arith, false, length, refl, slice_get, subst, sym, true}
-use Rattle.std.proofs.lemmas.List.Elements.{All-from_recursion, recursion_from_All}
-use Rattle.sdd_invariants.specs.All.{Act, Answer, Apply, Arrive, Ask, Bases, Catalogue, Change, ClassNo, Commit, Cond, D, DmNo, Does, Entry, Fits, FitsStatement, Given, Hand, History, IsAskBy, IsDueAt, IsPermitted, IsPutAt, IsRead, IsReadStep, IsSound, Log, Mark, Msg, Notes, Nothing, Null, Pass, Read, Rec, Records, RelNo, Row, Sends, Setting, Site, Start, Submit as SubmitEvent, Submitted, Ts, TxnNo, Use, Wait, ascending, contains, dm_no, fragments_in, handed, head, history, home, local_of, marks, modules_asked, modules_of, pipe_at, puts_to, sends_of_act, setting_of, spoils, start_at, start_read, to_site, txn_no, view_of}
-use Rattle.sdd_invariants.specs.history.declared.record.Rec.TheVariants.{Reject as Rejected, Submit}
-use Rattle.sdd_invariants.specs.site_module.SiteLog as site
-use Rattle.sdd_invariants.proofs.logs.EachLocal.{allowed_act}
-use Rattle.sdd_laws.specs.All.{Attempt, ChangeExists, Committed, CondExists, Eras, ExistsIn, IsAttempt, IsClass, IsCommitted, IsFrom1To, IsModule, NamesOneOf, NumbersExist, Stands, TxnsExist, UseExists, p2_time}
-use Rattle.sdd_invariants.proofs.Answered.{put_in_by_d}
-use Rattle.sdd_invariants.proofs.Installed.{class_number, head_put, origin}
-use Rattle.sdd_invariants.proofs.Applied.{in_class}
-use Rattle.sdd_invariants.proofs.InPipe.{put_at_home}
-use Rattle.sdd_invariants.proofs.AreReadSteps.{d_step}
-use Rattle.sdd_invariants.proofs.Bools.{same_number}
-use Rattle.sdd_invariants.proofs.InOrder.{hand_was_put}
-use Rattle.sdd_invariants.proofs.Made.{permitted_before, place_of_hand}
-use Rattle.sdd_lawful.specs.Given.{AreErasOf, AreNumbered, HasSoundData}
+use Rattle.sdd_lawful.proofs.All.{Act, All-from_recursion, AllByRecursion, Answer, Apply, AreErasOf, AreNumbered, Arrive, Ask, Attempt, Catalogue, Change, ChangeExists, ClassNo, Commit, Committed, Cond, CondExists, D, DmNo, Does, Entry, Eras, ExistsIn, Fits, FitsStatement, Given, Hand, HasSoundData, History, IsAskBy, IsAttempt, IsClass, IsCommitted, IsDueAt, IsFrom1To, IsModule, IsPermitted, IsPutAt, IsRead, IsReadStep, IsSound, List, Log, Mark, Msg, NamesOneOf, None, Notes, Nothing, Null, NumbersExist, Option, Pass, Read, Rec, Records, Rejected, RelNo, Row, Sends, Setting, Site, Some, Stands, Start, Submit as SubmitEvent, Submitted, Ts, TxnNo, TxnsExist, Use, UseExists, Wait, [], all_join, allowed_act, ap, append_assoc, arith, ascending, class_number, contains, d_step, dm_no, false, first_of_filter, fragments_in, from_ascending, hand_was_put, handed, head, head_put, history, home, in_class, length, local_of, marks, modules_asked, modules_of, number_member, origin, p2_time, permitted_before, pipe_at, place_of_hand, put_at_home, put_in_by_d, puts_to, record_of, recursion_from_All, refl, same_number, sends_of_act, setting_of, slice_get, spoils, start_at, start_read, subst, suc, sym, to_site, true, txn_no, view_of, ℕ, ◌++◌, ◌-◌, ◌<◌, ◌∙◌, ◌∷◌, ◌≡◌, ◌≤◌}
 use Rattle.sdd_lawful.proofs.Answered.{answer_head, in_reads, read_of_some}
 use Rattle.sdd_lawful.proofs.Applied.{apply_in}
 use Rattle.sdd_lawful.proofs.Applies.{of_commit}
-use Rattle.sdd_lawful.proofs.Asks.{from_ascending, number_member}
 use Rattle.sdd_lawful.proofs.Classes.{at_home, home_setting}
 use Rattle.sdd_lawful.proofs.Committed.{home_step}
 use Rattle.sdd_lawful.proofs.Commits.{Told, begun, begun_as, commit_in, commit_rec}
@@ -27,13 +10,14 @@ use Rattle.sdd_lawful.proofs.Dues.{arrives, home_runs, null_asked, passing, send
 use Rattle.sdd_lawful.proofs.Existing.{cond_exists, fragment_exists, module_exists, uses_exist}
 use Rattle.sdd_lawful.proofs.Makers.{IsOfData, data_home, is_of_run, is_own, none_own}
 use Rattle.sdd_lawful.proofs.Places.{history_step, recorded, stands_there}
-use Rattle.sdd_lawful.proofs.Rejected.{first_of_filter, rejecting}
+use Rattle.sdd_lawful.proofs.Rejected.{rejecting}
 use Rattle.sdd_lawful.proofs.Started.{attempt_from, given_of_attempt, start_in, start_of}
 use Rattle.sdd_lawful.proofs.Starts.{start_within}
 use Rattle.sdd_lawful.proofs.Submissions.{given_at}
 use Rattle.sdd_lawful.proofs.Together.{changes_valid, valid_there}
-use Rattle.sdd_lawful.proofs.Valid.{IsValid, all_join, all_slice}
-use Rattle.sdd_lawful.specs.Made.{record_of}
+use Rattle.sdd_lawful.proofs.Valid.{IsValid, all_slice}
+use Rattle.sdd_invariants.specs.history.declared.record.Rec.TheVariants.{Submit}
+use Rattle.sdd_invariants.specs.site_module.SiteLog as site
 
 each_exists : (cat : Catalogue) → IsSound cat → (changes : List Change) → AllByRecursion (IsValid cat) changes → AllByRecursion (ChangeExists cat) changes
 each_exists cat sound [] h = tt

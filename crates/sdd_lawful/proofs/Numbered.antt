@@ -1,10 +1,5 @@
 -- A lawful log submits only what its events submit.
-use Rattle.std.proofs.Common.{◌+◌, ◌++◌, ◌∷◌, ◌≡◌, ◌≤◌, [], ap, arith, refl, subst}
-use Rattle.std.proofs.lemmas.Bool.{eq-eqb}
-use Rattle.sdd_invariants.specs.All.{Given, IsLawful, Log, Mark, Submit, left, submits_by, submits_in}
-use Rattle.sdd_invariants.specs.logs.Permitted.{one_if}
-use Rattle.sdd_invariants.proofs.logs.NewMarks.{left_is, marked}
-use Rattle.sdd_lawful.specs.Given.{AreNumbered, SubmitGiven}
+use Rattle.sdd_lawful.proofs.All.{AreNumbered, Given, IsLawful, Log, Mark, Submit, SubmitGiven, [], ap, arith, eq-eqb, left, left_is, marked, one_if, refl, submits_by, submits_in, subst, ◌++◌, ◌+◌, ◌∷◌, ◌≡◌, ◌≤◌}
 
 lawful_rest : (g : Given) (later log : Log) → IsLawful g (later ++ log) → IsLawful g log
 lawful_rest g [] log h = h

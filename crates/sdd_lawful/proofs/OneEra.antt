@@ -1,12 +1,6 @@
 -- A log in which no further list of classes was put in force has one era.
-use Rattle.std.specs.Prelude.{slice_index_or}
-use Rattle.std.proofs.Common.{ℕ, suc, ◌++◌, ◌∙◌, ◌∷◌, ◌≡◌, nat_le, ◌-◌, Some, [], ap, arith, cond, false, inl, inr, length, refl, slice_get, subst, sym, true, zero}
-use Rattle.std.proofs.lemmas.Bool.Decides.{nat_tests}
-use Rattle.sdd_invariants.specs.All.{Catalogue, Does, Given, Hand, History, IsForce, Log, Mark, Notes, Redeclares, Round, Submitted, force_at, marks, redeclares}
-use Rattle.sdd_laws.specs.All.{AreEras, Committed, IsEraOf, IsOfEarlierEra, KeepsEras, begun, event_at, in_force}
-use Rattle.sdd_laws.proofs.class_eras.EraSets.{era_of_itself}
-use Rattle.sdd_invariants.proofs.Bools.{true_or_false}
-use Rattle.sdd_lawful.specs.Given.{AreErasOf, one_era}
+use Rattle.sdd_lawful.proofs.All.{AreEras, AreErasOf, Catalogue, Committed, Does, Given, Hand, History, IsEraOf, IsForce, IsOfEarlierEra, KeepsEras, Log, Mark, Notes, Redeclares, Round, Some, Submitted, [], ap, arith, begun, cond, era_of_itself, event_at, false, force_at, inl, inr, length, marks, nat_le, nat_tests, one_era, redeclares, refl, slice_get, slice_index_or, subst, suc, sym, true, true_or_false, zero, ℕ, ◌++◌, ◌-◌, ◌∙◌, ◌∷◌, ◌≡◌}
+use Rattle.sdd_laws.specs.All.{in_force}
 
 each_era : (cat : Catalogue) (k : ℕ) (a : ℕ × Catalogue) → slice_get (one_era cat) k ≡ Some a → IsEraOf cat a.1
 each_era cat zero a e = let p : (0, cat) ≡ a = cc in subst (λ (x : ℕ × Catalogue). IsEraOf cat x.1) p (era_of_itself cat)

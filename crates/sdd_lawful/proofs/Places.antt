@@ -1,12 +1,5 @@
 -- The records of a history are those of the entries of its log, in their order.
-use Rattle.std.proofs.Common.{ℕ, suc, ◌++◌, ◌<◌, ◌∙◌, ◌∷◌, ◌≡◌, List, None, Option, Some, [], ap, append-nil, append_assoc, arith, inl, inr, length, refl, slice_get, subst, sym, take, zero, ◌≤◌}
-use Rattle.std.proofs.Math.Seq.{take-append_seam}
-use Rattle.std.proofs.Math.Decide.{dec_le}
-use Rattle.sdd_invariants.specs.All.{Does, Entry, Hand, History, Log, Mark, Notes, Rec, Records, Redeclares, Round, Sends, Submitted, history, marks}
-use Rattle.sdd_invariants.proofs.Places.{compare}
-use Rattle.sdd_laws.specs.All.{Stands, event_at}
-use Rattle.sdd_invariants.proofs.Lists.{at_seam, in_left, place_within}
-use Rattle.sdd_lawful.specs.Made.{IsBefore, IsMadeAt, record_of}
+use Rattle.sdd_lawful.proofs.All.{Does, Entry, Hand, History, IsBefore, IsMadeAt, List, Log, Mark, None, Notes, Option, Rec, Records, Redeclares, Round, Sends, Some, Stands, Submitted, [], ap, append-nil, append_assoc, arith, at_seam, compare, dec_le, event_at, history, in_left, inl, inr, length, marks, place_within, record_of, refl, slice_get, subst, suc, sym, take, take-append_seam, zero, ℕ, ◌++◌, ◌<◌, ◌∙◌, ◌∷◌, ◌≡◌, ◌≤◌}
 
 abbrev pub recorded : ℕ → Option Rec → History
 recorded event None = []
@@ -35,7 +28,8 @@ dated_there [] e before r m =
     subst (λ h. slice_get h (length (history before)) ≡ Some (dated before r)) (sym (made_now e before r m)) (at_seam (history before) [] (dated before r))
 dated_there (x ∷ later) e before r m =
     let i = dated_there later e before r m in
-    subst (λ h. slice_get h (length (history before)) ≡ Some (dated before r)) (sym (history_step x (later ++ e ∷ before))) (in_left (history (later ++ e ∷ before)) _ (length (history before)) (dated before r) i)
+    subst (λ h. slice_get h (length (history before)) ≡ Some (dated before r)) (sym (history_step x (later ++ e ∷ before)))
+    (in_left (history (later ++ e ∷ before)) _ (length (history before)) (dated before r) i)
 
 get_of_left : {A : Type 0} (xs ys : List A) (k : ℕ) (x : A) → k < length xs → slice_get (xs ++ ys) k ≡ Some x
     → slice_get xs k ≡ Some x

@@ -1,21 +1,8 @@
 -- A Reject of a data module: the condition that was spoilt, and the WRITE that spoilt it.
-use Rattle.std.specs.Prelude.{filter}
-use Rattle.std.specs.List.{list_any}
-use Rattle.std.proofs.Common.{ℕ, ◌++◌, ◌==◌, ◌||◌, ◌∙◌, ◌∷◌, ◌≡◌, ◌≤◌, Bool, List, Some, [], ap, false, map, refl, slice_get, subst, sym, true}
-use Rattle.sdd_invariants.specs.All.{Attempt as Running, Bases, Change, ClassNo, Cond, D, DmNo, Does, FragNo, Given, IsApplied, IsOf, IsOfWrite, IsPermitted, IsReadStep, IsWrite, Log, May, Msg, Read, Rec, Records, Setting, Site, Ts, TxnNo, Use, View, Write, active, by_record, by_wait, changes_at, changes_to, class_puts, commit_act, contains, head, head_of, home, in_passing, is_processing, last_write_for, local_of, or_zero, pipe, results, sends_of_act, setting_of, spoiler, spoils, time_at, to_site, touches, txn_no, view_of, waits}
-use Rattle.sdd_invariants.specs.history.declared.record.Rec.TheVariants.{Reject as Rejected}
-use Rattle.sdd_invariants.specs.site_module.SiteLog as site
-use Rattle.sdd_laws.specs.All.{ChangesOne, Committed}
-use Rattle.sdd_invariants.proofs.Processed.{matched, zip_at}
-use Rattle.sdd_invariants.proofs.Again.{is_spoilt}
-use Rattle.sdd_invariants.proofs.Installed.{class_number, commit_put_is, origin}
-use Rattle.sdd_invariants.proofs.InPipe.{in_pipe}
-use Rattle.sdd_invariants.proofs.Split.{processed_stays}
-use Rattle.sdd_invariants.proofs.Bools.{not_both, same_number}
-use Rattle.sdd_invariants.proofs.Lists.{any_at, in_filtered}
-use Rattle.sdd_invariants.proofs.Fair.{d_fair}
+use Rattle.sdd_lawful.proofs.All.{Bases, Bool, Change, ChangesOne, ClassNo, Committed, Cond, D, DmNo, Does, FragNo, Given, IsApplied, IsOf, IsOfWrite, IsPermitted, IsReadStep, IsWrite, List, Log, May, Msg, Read, Rec, Records, Rejected, Running, Setting, Site, Some, Ts, TxnNo, Use, View, Write, [], active, any_at, ap, by_record, by_wait, changes_at, changes_to, class_number, class_puts, commit_act, commit_put_is, contains, d_fair, false, head, home, in_filtered, in_passing, in_pipe, is_processing, is_spoilt, last_write_for, list_any, local_of, map, matched, not_both, or_zero, origin, pipe, processed_stays, refl, results, same_number, sends_of_act, setting_of, slice_get, spoiler, spoils, subst, sym, time_at, to_site, touches, true, txn_no, view_of, waits, zip_at, ℕ, ◌++◌, ◌==◌, ◌||◌, ◌∙◌, ◌∷◌, ◌≡◌, ◌≤◌}
 use Rattle.sdd_lawful.proofs.Classes.{at_home, home_setting}
 use Rattle.sdd_lawful.proofs.Touched.{any_there}
+use Rattle.sdd_invariants.specs.site_module.SiteLog as site
 
 -- a Reject is of a READ at the head of its pipe, by its first condition that is spoilt
 
@@ -59,15 +46,8 @@ rejecting s l k txn attempt dm by write sends (by_wait j ds r ss lt p w i q e) =
 rejecting s l k txn attempt dm by write sends (by_record j m r ss lt p i may e) =
     let same : Rejected txn attempt dm by write ≡ r = cc in
     let at : k ≡ j = cc in
-    subst (λ y. IsRejecting (view_of s l) l y txn attempt by write) (sym at) (reject_may (view_of s l) l j (waits j l) m r txn attempt dm by write i may (sym same))
-
-first_there : (ds : List Cond) (d : Cond) → head_of ds ≡ Some d → slice_get ds 0 ≡ Some d
-first_there [] d e = cc
-first_there (x ∷ ds) d e = e
-
-pub first_of_filter : (f : Cond → Bool) (ds : List Cond) (d : Cond) → head_of (filter f ds) ≡ Some d
-    → (k : ℕ) × (slice_get ds k ≡ Some d) × (f d ≡ true)
-first_of_filter f ds d e = let i = in_filtered f ds 0 d (first_there (filter f ds) d e) in (i.1, i.2, i.0)
+    subst (λ y. IsRejecting (view_of s l) l y txn attempt by write) (sym at)
+    (reject_may (view_of s l) l j (waits j l) m r txn attempt dm by write i may (sym same))
 
 -- the WRITE that spoilt a condition: its Commit, which changes one of the condition's fragments, and its Apply
 
@@ -96,11 +76,14 @@ spoilt_by g log d q h e =
     let z = is_spoilt (setting_of g (D d)) l q e in
     let m : Msg = Write z.ts z.of z.txn z.changes in
     let p = in_pipe g j d log h in
-    let there : slice_get (class_puts g j d log) z.place ≡ Some m = subst (λ ms. slice_get ms z.place ≡ Some m) (sym p.1) (processed_stays (pipe j l) p.0 z.place m z.there) in
+    let there : slice_get (class_puts g j d log) z.place ≡ Some m = subst (λ ms. slice_get ms z.place ≡ Some m) (sym p.1)
+    (processed_stays (pipe j l) p.0 z.place m z.there) in
     let put = origin g j d log z.place m h there in
     let c : z.of.0 ≡ j = class_number z.of.0 j z.ts.0 put.of_class in
-    let w : IsWrite (home_setting g j) (at_home g j put.before) put.act j z.ts.0 z.txn.0 = subst (λ k. IsWrite (home_setting g j) (at_home g j put.before) put.act k z.ts.0 z.txn.0) c put.by in
-    let sent : slice_get (to_site (D d) (sends_of_act (commit_act g.catalogue w.bases j w.attempt))) put.place ≡ Some m = subst (λ y. slice_get (to_site (D d) (sends_of_act y)) put.place ≡ Some m) w.act_is put.there in
+    let w : IsWrite (home_setting g j) (at_home g j put.before) put.act j z.ts.0 z.txn.0 = subst
+    (λ k. IsWrite (home_setting g j) (at_home g j put.before) put.act k z.ts.0 z.txn.0) c put.by in
+    let sent : slice_get (to_site (D d) (sends_of_act (commit_act g.catalogue w.bases j w.attempt))) put.place ≡ Some m = subst
+    (λ y. slice_get (to_site (D d) (sends_of_act y)) put.place ≡ Some m) w.act_is put.there in
     let of = commit_put_is (home_setting g j) j w.bases w.attempt d put.place m sent in
     let changes : z.changes ≡ changes_to g w.bases w.attempt d = ap changes_in of.0 in
     let r = zip_at IsOf (results j l) (pipe j l).processed z.place m (matched (setting_of g (D d)) j l (d_fair g d log h)).matched z.there in
@@ -133,6 +116,7 @@ touched_one g t xs frags d same e =
     let j = in_filtered _ xs i.0 i.1 i.2 in
     record {
       fragment = i.1.frag.0;
-      changed = subst (λ ys. list_any (λ (c : Change). c.frag.0 == i.1.frag.0) ys ≡ true) (sym same) (any_there (λ (c : Change). c.frag.0 == i.1.frag.0) xs j.1 i.1 j.2 (same_number i.1.frag.0));
+      changed = subst (λ ys. list_any (λ (c : Change). c.frag.0 == i.1.frag.0) ys ≡ true) (sym same)
+          (any_there (λ (c : Change). c.frag.0 == i.1.frag.0) xs j.1 i.1 j.2 (same_number i.1.frag.0));
       named = named_back frags i.1.frag.0 i.3;
     }

@@ -1,15 +1,5 @@
 -- The history of a permitted log keeps the law of rejections.
-use Rattle.std.proofs.Common.{ℕ, suc, ◌++◌, ◌<◌, ◌∙◌, ◌∷◌, ◌≡◌, List, None, Some, [], ap, append_assoc, arith, length, refl, slice_get, subst, sym}
-use Rattle.sdd_invariants.specs.All.{Act, ClassNo, Cond, D, DmNo, Does, Entry, Given, IsPermitted, IsSound, IsStep, IsTable, Log, Msg, Queued, Rec, Records, Setting, Site, Start, Ts, TxnNo, active, bound, commit_act, force_at, head_of, history, home, home_of, local_of, queue, redeclares, setting_of, spoils, txn_no, view_of}
-use Rattle.sdd_invariants.specs.history.declared.record.Rec.TheVariants.{Reject as Rejected}
-use Rattle.sdd_invariants.specs.site_module.SiteLog as site
-use Rattle.sdd_invariants.proofs.logs.EachLocal.{allowed_act}
-use Rattle.sdd_laws.specs.All.{AppliedBefore, Attempt, Eras, IsAgain, IsAttempt, IsConditionOf, KeepsRejections, Stands, conditions_of, event_at, in_force}
-use Rattle.sdd_invariants.proofs.Again.{again}
-use Rattle.sdd_invariants.proofs.Active.{step_way}
-use Rattle.sdd_invariants.proofs.AreReadSteps.{d_step}
-use Rattle.sdd_invariants.proofs.Made.{permitted_before}
-use Rattle.sdd_lawful.specs.Given.{AreErasOf}
+use Rattle.sdd_lawful.proofs.All.{Act, AppliedBefore, AreErasOf, Attempt, ClassNo, Cond, D, DmNo, Does, Entry, Eras, Given, IsAgain, IsAttempt, IsConditionOf, IsPermitted, IsSound, IsStep, IsTable, KeepsRejections, List, Log, Msg, None, Queued, Rec, Records, Rejected, Setting, Site, Some, Stands, Start, Ts, TxnNo, [], active, again, allowed_act, ap, append_assoc, arith, bound, commit_act, conditions_of, d_step, event_at, first_of_filter, force_at, head_of, history, home, home_of, length, local_of, permitted_before, queue, redeclares, refl, setting_of, slice_get, spoils, step_way, subst, suc, sym, txn_no, view_of, ℕ, ◌++◌, ◌<◌, ◌∙◌, ◌∷◌, ◌≡◌}
 use Rattle.sdd_lawful.proofs.Answered.{IsReadIn, read_of_some}
 use Rattle.sdd_lawful.proofs.Applied.{applied_before}
 use Rattle.sdd_lawful.proofs.Classes.{at_home, further_back, home_setting}
@@ -17,9 +7,11 @@ use Rattle.sdd_lawful.proofs.Committed.{commit_of_log, home_step}
 use Rattle.sdd_lawful.proofs.Conditions.{conds_are, member_of, start_event}
 use Rattle.sdd_lawful.proofs.Homes.{home_small}
 use Rattle.sdd_lawful.proofs.Places.{place_rises, stands_there}
-use Rattle.sdd_lawful.proofs.Rejected.{first_of_filter, rejecting, spoilt_by, touched_one}
+use Rattle.sdd_lawful.proofs.Rejected.{rejecting, spoilt_by, touched_one}
 use Rattle.sdd_lawful.proofs.Started.{start_act_of, start_in}
 use Rattle.sdd_lawful.proofs.Starts.{p2_bound}
+use Rattle.sdd_laws.specs.All.{in_force}
+use Rattle.sdd_invariants.specs.site_module.SiteLog as site
 
 -- a Start is of the head of its queue
 pub record IsStartOfHead (s : Setting) (log : site.Log) (k : ℕ) (txn : TxnNo) (attempt : ℕ) : Type 0 where
@@ -44,8 +36,10 @@ pub read_condition : (g : Given) (log : Log) (eras : Eras) (a : Attempt) (d : �
     → IsConditionOf g.catalogue eras (history log) a d q
 read_condition g log eras a d later before e are is x k q there =
     let s = start_event g log later before e a d is x in
-    let cat : in_force g.catalogue eras (event_at (history log) a.place) ≡ (force_at g (redeclares x.start_log)).catalogue = ap (in_force g.catalogue eras) s.2 ∙ are.force_is s.0 x.start_log s.1 in
-    let t : IsTable (in_force g.catalogue eras (event_at (history log) a.place)) (force_at g (redeclares x.start_log)).table = subst (λ c. IsTable c (force_at g (redeclares x.start_log)).table) (sym cat) (are.tabled s.0 x.start_log s.1).table in
+    let cat : in_force g.catalogue eras (event_at (history log) a.place) ≡ (force_at g (redeclares x.start_log)).catalogue = ap (in_force g.catalogue eras) s.2
+    ∙ are.force_is s.0 x.start_log s.1 in
+    let t : IsTable (in_force g.catalogue eras (event_at (history log) a.place)) (force_at g (redeclares x.start_log)).table = subst
+    (λ c. IsTable c (force_at g (redeclares x.start_log)).table) (sym cat) (are.tabled s.0 x.start_log s.1).table in
     let same = conds_are g log eras a d later before e (force_at g (redeclares x.start_log)).table are is x t in
     record {
       table = (force_at g (redeclares x.start_log)).table;
@@ -58,28 +52,34 @@ rejected_there : (g : Given) (log later before : Log) (class : ℕ) (txn : TxnNo
     → attempt ≡ number → Stands (history log) (length (history before)) (Rejected (txn_no n) number d by write)
 rejected_there g log later before class txn attempt d by write sends n number is e f =
     let r : Rec = Rejected txn attempt (home_of (setting_of g (D d))).dm by write in
-    let s : Stands (history log) (length (history before)) r = subst (λ l. Stands (history l) (length (history before)) r) (sym is) (stands_there later (Does (D d) (Records class r sends)) before r refl) in
-    subst (λ j. Stands (history log) (length (history before)) (Rejected (txn_no n) j d by write)) f (subst (λ j. Stands (history log) (length (history before)) (Rejected (txn_no j) attempt d by write)) e s)
+    let s : Stands (history log) (length (history before)) r = subst (λ l. Stands (history l) (length (history before)) r) (sym is)
+    (stands_there later (Does (D d) (Records class r sends)) before r refl) in
+    subst (λ j. Stands (history log) (length (history before)) (Rejected (txn_no n) j d by write)) f
+    (subst (λ j. Stands (history log) (length (history before)) (Rejected (txn_no j) attempt d by write)) e s)
 
 pub again_of : (g : Given) (log : Log) (eras : Eras) → IsSound g.catalogue → IsPermitted g log → AreErasOf g log eras
     → (a : Attempt) → IsAttempt (history log) a → 1 < a.number → IsAgain g.catalogue eras (history log) a
 again_of g log eras sound h are a s more =
     let x = start_in g log a sound h s in
     let act : Act = start_act_of a x.sends in
-    let o : IsStartOfHead (home_setting g a.class) (at_home g a.class x.before) a.class (txn_no a.txn) a.number = of_head (home_setting g a.class) (at_home g a.class x.before) act (home_step g a.class x.before act x.permitted) in
+    let o : IsStartOfHead (home_setting g a.class) (at_home g a.class x.before) a.class (txn_no a.txn) a.number = of_head (home_setting g a.class)
+    (at_home g a.class x.before) act (home_step g a.class x.before act x.permitted) in
     let number = o.number_is in
     let w = again g a.class x.before o.queued x.permitted.1 (λ j. let small = home_small g.catalogue sound j in omega arith) o.idle o.head_is (omega arith) in
     let d : ℕ = w.from.0 in
     let rej : Act = Records a.class (Rejected w.txn w.attempt (home_of (setting_of g (D w.from))).dm w.by w.write) w.sends in
-    let now : IsPermitted g (Does (D w.from) rej ∷ w.before) = permitted_before g w.later (Does (D w.from) rej ∷ w.before) (subst (IsPermitted g) w.is x.permitted.1) in
+    let now : IsPermitted g (Does (D w.from) rej ∷ w.before) = permitted_before g w.later (Does (D w.from) rej ∷ w.before)
+    (subst (IsPermitted g) w.is x.permitted.1) in
     let ds : Setting = setting_of g (D w.from) in
     let l : site.Log = local_of g (D w.from) w.before in
-    let rj = rejecting ds l a.class w.txn w.attempt (home_of ds).dm w.by w.write w.sends (d_step ds l rej (allowed_act g w.before (Does (D w.from) rej) now.0)) in
+    let rj = rejecting ds l a.class w.txn w.attempt (home_of ds).dm w.by w.write w.sends
+    (d_step ds l rej (allowed_act g w.before (Does (D w.from) rej) now.0)) in
     let f = further_back log x.later x.before (Does (home g.catalogue a.class) act) (Does (D w.from) rej) w.later w.before x.is w.is in
     let r = read_of_some g log f.0 w.before (Does (D w.from) rej) a.class w.txn.0 w.attempt d rj.ts rj.class rj.conds rj.uses now.1 f.1 rj.head_is in
     let first = first_of_filter (spoils (view_of ds l)) rj.conds rj.cond_by rj.spoiler_is in
     let z = spoilt_by g w.before w.from rj.cond_by now.1 first.2 in
-    let v = further_back log f.0 w.before (Does (D w.from) rej) (Does (home g.catalogue rj.cond_by.class.0) (commit_act g.catalogue z.bases rj.cond_by.class.0 z.running)) z.later z.before f.1 z.is in
+    let v = further_back log f.0 w.before (Does (D w.from) rej)
+    (Does (home g.catalogue rj.cond_by.class.0) (commit_act g.catalogue z.bases rj.cond_by.class.0 z.running)) z.later z.before f.1 z.is in
     let c = commit_of_log g log v.0 z.before rj.cond_by.class.0 z.bases z.running sound h v.1 z.active_is in
     let front : Log = f.0 ++ Does (D w.from) rej ∷ [] in
     let is : log ≡ front ++ w.before = f.1 ∙ sym (append_assoc f.0 (Does (D w.from) rej ∷ []) w.before) in
@@ -107,7 +107,8 @@ again_of g log eras sound h are a s more =
       rejected = rejected_there g log f.0 w.before a.class w.txn w.attempt w.from w.by w.write w.sends a.txn r.attempt.number f.1 txn (sym r.number_is);
       before = omega arith;
       cond = rj.cond_by;
-      condition = read_condition g log eras r.attempt d f.0 w.before (Does (D w.from) rej) are f.1 r.read first.0 rj.cond_by (subst (λ y. slice_get y first.0 ≡ Some rj.cond_by) (sym r.same_conds) first.1);
+      condition = read_condition g log eras r.attempt d f.0 w.before (Does (D w.from) rej) are f.1 r.read first.0 rj.cond_by
+          (subst (λ y. slice_get y first.0 ≡ Some rj.cond_by) (sym r.same_conds) first.1);
       class_is = sym same_class;
       late = omega arith;
       writer = c.committed;

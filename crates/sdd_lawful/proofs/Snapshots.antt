@@ -1,22 +1,10 @@
 -- What an attempt reads at a module is what the log of the module gives at its Answer.
-use Rattle.std.specs.List.{flat_map}
-use Rattle.std.proofs.Common.{ℕ, ◌++◌, ◌∙◌, ◌∷◌, ◌≡◌, ◌⊎◌, Bool, List, Option, Some, [], ap, append_assoc, false, inl, inr, length, refl, subst, sym, true}
-use Rattle.std.proofs.lemmas.Bool.{eqb-true}
-use Rattle.sdd_invariants.specs.All.{Act, Answer, ClassNo, Cond, D, Did, DmNo, Does, Given, Handed, IsPermitted, IsSound, Log, Msg, Read, Rec, Records, Redeclared, Sends, Setting, Site, Submits, Ticked, Ts, TxnNo, Use, class_no, dated, dm_no, frags_asked, head, history, is_at, items_of, local_of, pipe, setting_of, snapshots, time_at, txn_no}
-use Rattle.sdd_invariants.specs.site_module.SiteLog as site
-use Rattle.sdd_invariants.specs.site_module.SiteLog.{Log as SiteLog}
-use Rattle.sdd_invariants.proofs.logs.EachLocal.{allowed_act}
-use Rattle.sdd_laws.specs.All.{Attempt, Eras, IsAnswered, IsAttempt, Stands}
-use Rattle.sdd_laws.proofs.serial_orders.Places.{same_start}
-use Rattle.sdd_invariants.proofs.AreReadSteps.{d_step}
-use Rattle.sdd_invariants.proofs.Bools.{not_both, true_or_false}
-use Rattle.sdd_invariants.proofs.Made.{permitted_before, place_of_act}
-use Rattle.sdd_lawful.specs.Given.{AreErasOf}
+use Rattle.sdd_lawful.proofs.All.{Act, Answer, AreErasOf, Attempt, Bool, ClassNo, Cond, D, Did, DmNo, Does, Eras, Given, Handed, IsAnswered, IsAttempt, IsMadeAt, IsPermitted, IsSound, List, Log, Msg, Option, Read, Rec, Records, Redeclared, Sends, Setting, Site, SiteLog, Some, Stands, Submits, Ticked, Ts, TxnNo, Use, [], allowed_act, ap, append_assoc, class_no, d_step, dated, dm_no, eqb-true, false, flat_map, frags_asked, head, history, inl, inr, is_at, items_of, length, local_of, not_both, permitted_before, pipe, place_of_act, refl, same_start, setting_of, snapshots, subst, sym, time_at, true, true_or_false, txn_no, ℕ, ◌++◌, ◌∙◌, ◌∷◌, ◌≡◌, ◌⊎◌}
 use Rattle.sdd_lawful.proofs.Answered.{IsAnswerIn, answer_head, answer_made, answer_rec, read_msg, read_of_some}
 use Rattle.sdd_lawful.proofs.Makers.{act_kind}
 use Rattle.sdd_lawful.proofs.Places.{one_entry, stands_there}
 use Rattle.sdd_lawful.proofs.Starts.{one_time}
-use Rattle.sdd_lawful.specs.Made.{IsMadeAt}
+use Rattle.sdd_invariants.specs.site_module.SiteLog as site
 
 -- the newest Answer to a READ with a timestamp, in the log of a module
 
@@ -91,10 +79,13 @@ pub snapshot_or : (s : Setting) (ts : ℕ) (l : SiteLog) → Snapshot s ts l
 snapshot_or s ts [] = inr (record { are = refl; none = none_empty ts })
 snapshot_or s ts (Did (Records k (Answer n i d) ss) ∷ l) = elim (true_or_false (is_at ts (head (pipe k l)))) [
   | inl p ↦ inl (record { later = []; class = k; txn = n; attempt = i; dm = d; sends = ss; before = l; is = refl; at_time = p; are = rw p refl })
-  | inr p ↦ snapshot_more s ts (Did (Records k (Answer n i d) ss)) l (rw p refl) (λ class txn attempt dm sends e h. not_both (is_at ts (head (pipe k l))) (same_answer ts k class (Answer n i d) (Answer txn attempt dm) ss sends l e h) p) (snapshot_or s ts l)
+  | inr p ↦ snapshot_more s ts (Did (Records k (Answer n i d) ss)) l (rw p refl)
+      (λ class txn attempt dm sends e h. not_both (is_at ts (head (pipe k l))) (same_answer ts k class (Answer n i d) (Answer txn attempt dm) ss sends l e h) p)
+      (snapshot_or s ts l)
 ]
 snapshot_or s ts (Did (Records k r ss) ∷ l) =
-    snapshot_more s ts (Did (Records k r ss)) l refl (λ class txn attempt dm sends e h. let q : r ≡ Answer txn attempt dm = cc in let t : false ≡ true = ap is_answer q in cc) (snapshot_or s ts l)
+    snapshot_more s ts (Did (Records k r ss)) l refl
+    (λ class txn attempt dm sends e h. let q : r ≡ Answer txn attempt dm = cc in let t : false ≡ true = ap is_answer q in cc) (snapshot_or s ts l)
 snapshot_or s ts (Did (Sends to m hand) ∷ l) =
     snapshot_more s ts (Did (Sends to m hand)) l refl (λ class txn attempt dm sends e h. let t : false ≡ true = ap is_record e in cc) (snapshot_or s ts l)
 snapshot_or s ts (Handed from m ∷ l) =
@@ -132,7 +123,8 @@ the_answer g log front part eras a d later k n i dm ss l sound h are s is split 
     let act : Act = Records k (Answer n i dm) ss in
     let site_d : Site = D (dm_no d) in
     let p = place_of_act g site_d part later act l split in
-    let whole : log ≡ (front ++ p.later) ++ Does site_d act ∷ p.rest = is ∙ ap (λ y. front ++ y) p.is ∙ sym (append_assoc front p.later (Does site_d act ∷ p.rest)) in
+    let whole : log ≡ (front ++ p.later) ++ Does site_d act ∷ p.rest = is ∙ ap (λ y. front ++ y) p.is
+    ∙ sym (append_assoc front p.later (Does site_d act ∷ p.rest)) in
     let now : IsPermitted g (Does site_d act ∷ p.rest) = permitted_before g (front ++ p.later) (Does site_d act ∷ p.rest) (subst (IsPermitted g) whole h) in
     let st : Setting = setting_of g site_d in
     let top = answer_head st (local_of g site_d p.rest) k n i dm ss (d_step st (local_of g site_d p.rest) act (allowed_act g p.rest (Does site_d act) now.0)) in
@@ -140,17 +132,23 @@ the_answer g log front part eras a d later k n i dm ss l sound h are s is split 
     let at_rest : is_at a.ts (head (pipe k (local_of g site_d p.rest))) ≡ true = subst (λ y. is_at a.ts (head (pipe k y)) ≡ true) (sym p.local_is) at in
     let t1 : top.ts.0 ≡ a.ts = time_of_read a.ts (head (pipe k (local_of g site_d p.rest))) top.ts top.class n i top.conds top.uses top.is at_rest in
     let b : Attempt = r.attempt in
-    let read_b : head (pipe k (local_of g site_d p.rest)) ≡ Some (read_msg b r.read.conds r.read.uses) = subst (λ c. head (pipe c (local_of g site_d p.rest)) ≡ Some (read_msg b r.read.conds r.read.uses)) r.class_is r.read.head_is in
-    let t2 : b.ts ≡ top.ts.0 = same_time (head (pipe k (local_of g site_d p.rest))) (time_at b.ts) top.ts (class_no b.class) top.class (txn_no b.txn) n b.number i r.read.conds top.conds r.read.uses top.uses read_b top.is in
+    let read_b : head (pipe k (local_of g site_d p.rest)) ≡ Some (read_msg b r.read.conds r.read.uses) = subst
+    (λ c. head (pipe c (local_of g site_d p.rest)) ≡ Some (read_msg b r.read.conds r.read.uses)) r.class_is r.read.head_is in
+    let t2 : b.ts ≡ top.ts.0 = same_time (head (pipe k (local_of g site_d p.rest))) (time_at b.ts) top.ts (class_no b.class) top.class
+    (txn_no b.txn) n b.number i r.read.conds top.conds r.read.uses top.uses read_b top.is in
     let place = one_time g log eras sound h are b a r.started s (t2 ∙ t1) in
     let same = same_start (history log) b a r.started s place in
     let module_is : dm ≡ dm_no d = act_kind g site_d act p.rest now in
-    let rec_is : Answer n i dm ≡ answer_rec a d = ap (λ y. Answer (txn_no y) i dm) (sym r.txn_is ∙ same.txn) ∙ ap (λ y. Answer (txn_no a.txn) y dm) (sym r.number_is ∙ same.number) ∙ ap (λ y. Answer (txn_no a.txn) a.number y) module_is in
-    let there : Stands (history log) (length (history p.rest)) (Answer n i dm) = subst (λ y. Stands (history y) (length (history p.rest)) (Answer n i dm)) (sym whole) (stands_there (front ++ p.later) (Does site_d act) p.rest (Answer n i dm) refl) in
-    let made : IsMadeAt log (length (history p.rest)) (Answer n i dm) = record { later = front ++ p.later; entry = Does site_d act; before = p.rest; is = whole; makes = refl; place_is = refl } in
+    let rec_is : Answer n i dm ≡ answer_rec a d = ap (λ y. Answer (txn_no y) i dm) (sym r.txn_is ∙ same.txn)
+    ∙ ap (λ y. Answer (txn_no a.txn) y dm) (sym r.number_is ∙ same.number) ∙ ap (λ y. Answer (txn_no a.txn) a.number y) module_is in
+    let there : Stands (history log) (length (history p.rest)) (Answer n i dm) = subst (λ y. Stands (history y) (length (history p.rest)) (Answer n i dm))
+    (sym whole) (stands_there (front ++ p.later) (Does site_d act) p.rest (Answer n i dm) refl) in
+    let made : IsMadeAt log (length (history p.rest))
+    (Answer n i dm) = record { later = front ++ p.later; entry = Does site_d act; before = p.rest; is = whole; makes = refl; place_is = refl } in
     record {
       place = length (history p.rest);
       answered = subst (Stands (history log) (length (history p.rest))) rec_is there;
       class_is = sym r.class_is ∙ same.class;
-      local_is = λ w. ap (local_of g site_d) (one_entry log (length (history p.rest)) (answer_rec a d) (Answer n i dm) (answer_made g log a d (length (history p.rest)) w) made).0 ∙ p.local_is;
+      local_is = λ w. ap (local_of g site_d)
+          (one_entry log (length (history p.rest)) (answer_rec a d) (Answer n i dm) (answer_made g log a d (length (history p.rest)) w) made).0 ∙ p.local_is;
     }

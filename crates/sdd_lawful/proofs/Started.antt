@@ -1,16 +1,10 @@
 -- The Starts of a history, as acts of the sites that run their classes.
-use Rattle.std.proofs.Common.{ℕ, ◌++◌, ◌∙◌, ◌∷◌, ◌≡◌, List, Option, Some, ap, arith, false, length, refl, subst, sym, true}
-use Rattle.sdd_invariants.specs.All.{Act, AllCommitted, ClassNo, Did, Does, Entry, Given, Hand, IsPermitted, IsSound, IsStartRecord, Log, Mark, Msg, Notes, Rec, Records, Redeclares, Round, Sends, Site, Start, Submitted, Ts, TxnNo, Use, class_no, history, home, in_force, is_for, local_of, setting_of, submits_of, time_at, txn_no}
-use Rattle.sdd_invariants.specs.site_module.SiteLog as site
-use Rattle.sdd_laws.specs.All.{Attempt, IsAttempt, Stands}
-use Rattle.sdd_invariants.proofs.Starting.{says_at}
-use Rattle.sdd_invariants.proofs.Applied.{own_made}
-use Rattle.sdd_invariants.proofs.Made.{local_at, permitted_before, place_of_submit}
-use Rattle.sdd_lawful.specs.Made.{IsMadeAt, record_of}
+use Rattle.sdd_lawful.proofs.All.{Act, AllCommitted, Attempt, ClassNo, Did, Does, Entry, Given, Hand, IsAttempt, IsMadeAt, IsPermitted, IsSound, IsStartRecord, List, Log, Mark, Msg, Notes, Option, Rec, Records, Redeclares, Round, Sends, Site, Some, Stands, Start, Submitted, Ts, TxnNo, Use, ap, arith, class_no, false, history, home, in_force, is_for, length, local_at, local_of, own_made, permitted_before, place_of_submit, record_of, refl, says_at, setting_of, submits_of, subst, sym, time_at, true, txn_no, ℕ, ◌++◌, ◌∙◌, ◌∷◌, ◌≡◌}
 use Rattle.sdd_lawful.proofs.Classes.{IsForClass, IsGivenTo, at_home, class_given, given_in, home_setting, one_class}
 use Rattle.sdd_lawful.proofs.Homes.{home_small}
 use Rattle.sdd_lawful.proofs.Makers.{is_of_run, is_own, run_home}
 use Rattle.sdd_lawful.proofs.Places.{made_at}
+use Rattle.sdd_invariants.specs.site_module.SiteLog as site
 
 -- a record that isn't made by an event is that of an act
 pub record IsActOfRecord (e : Entry) (r : Rec) : Type 0 where

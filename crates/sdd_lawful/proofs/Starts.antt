@@ -1,23 +1,5 @@
 -- The history of a permitted log keeps the law of Starts.
-use Rattle.std.specs.Prelude.{◌%◌, filter, is_some, option_map, unwrap_or}
-use Rattle.std.proofs.Common.{ℕ, ◌++◌, ◌<◌, ◌==◌, ◌∙◌, ◌∷◌, ◌≡◌, ◌≢◌, ◌≤◌, List, None, Option, Some, [], ap, append_assoc, arith, false, if◌then◌else◌, inl, inr, length, not, refl, slice_get, subst, sym, true}
-use Rattle.std.proofs.Math.Decide.{dec_le}
-use Rattle.std.proofs.Math.Nat.{mul-add-mod_self_right}
-use Rattle.std.proofs.lemmas.Bool.{eqb-true}
-use Rattle.sdd_invariants.specs.All.{Act, Catalogue, Did, Does, Force, Given, IsPermitted, IsSound, Log, Msg, Records, Setting, Site, Start, Submits, Submitted, T, TmNo, Ts, Txn, bound, class_at, class_for, class_no, clock, covers, force_at, head_of, history, home, is_committed, is_for, local_of, marks, number_of, numbers_to, p2_of, promises, redeclares, setting_of, stamps, starts_of, submits_of, time_at, tm_no, txn_at, txn_no}
-use Rattle.sdd_invariants.specs.history.declared.record.Rec.TheVariants.{Submit}
-use Rattle.sdd_invariants.specs.site_module.SiteLog as site
-use Rattle.sdd_invariants.specs.logs.Due.{home_of}
-use Rattle.sdd_invariants.proofs.Clocks.{stamps_differ}
-use Rattle.sdd_laws.specs.All.{Attempt, Committed, CommittedBefore, Eras, IsAttempt, IsBound, IsCommitted, IsEraOf, IsOfSubmit, IsSubmitted, KeepsStarts, Stands, event_at, in_force, record_at}
-use Rattle.sdd_laws.proofs.class_eras.EraSets.{covered}
-use Rattle.sdd_laws.proofs.InForce.{force_is}
-use Rattle.sdd_laws.proofs.class_eras.Lists.{first_passes}
-use Rattle.sdd_invariants.proofs.Bools.{and_left, lower_same_higher, or_right, same_number, same_or_not}
-use Rattle.sdd_invariants.proofs.Fair.{home_fair}
-use Rattle.sdd_invariants.proofs.Made.{permitted_before, place_of_act}
-use Rattle.sdd_lawful.specs.Given.{AreErasOf}
-use Rattle.sdd_lawful.specs.Made.{IsMadeAt}
+use Rattle.sdd_lawful.proofs.All.{Act, AreErasOf, Attempt, Catalogue, Committed, CommittedBefore, Did, Does, Eras, Force, Given, IsAttempt, IsBound, IsCommitted, IsEraOf, IsMadeAt, IsOfSubmit, IsPermitted, IsSound, IsSubmitted, KeepsStarts, List, Log, Msg, None, Option, Records, Setting, Site, Some, Stands, Start, Submits, Submitted, T, TmNo, Ts, Txn, [], and_left, ap, append_assoc, arith, bound, class_at, class_for, class_no, clock, covered, covers, dec_le, eqb-true, event_at, false, filter, first_passes, force_at, force_is, head_of, history, home, home_fair, if◌then◌else◌, inl, inr, is_committed, is_for, is_some, length, local_of, lower_same_higher, marks, mul-add-mod_self_right, not, number_of, numbers_to, option_map, or_right, p2_of, permitted_before, place_of_act, promises, record_at, redeclares, refl, same_number, same_or_not, setting_of, slice_get, stamps, stamps_differ, starts_of, submits_of, subst, sym, time_at, tm_no, true, txn_at, txn_no, unwrap_or, ℕ, ◌%◌, ◌++◌, ◌<◌, ◌==◌, ◌∙◌, ◌∷◌, ◌≡◌, ◌≢◌, ◌≤◌}
 use Rattle.sdd_lawful.proofs.Classes.{IsForClass, IsGivenTo, at_home, force_there, further_back, home_by, home_setting, submit_local}
 use Rattle.sdd_lawful.proofs.Commits.{Told, commit_class, commit_in, commit_made, commit_rec, commit_seen, one_commit}
 use Rattle.sdd_lawful.proofs.Counted.{numbered}
@@ -26,6 +8,10 @@ use Rattle.sdd_lawful.proofs.Locals.{all_committed_at, below_at, commit_act_in, 
 use Rattle.sdd_lawful.proofs.Places.{entries_in_order, event_there, place_rises, stands_there}
 use Rattle.sdd_lawful.proofs.Started.{IsStartIn, act_local, given_of_attempt, given_of_start, start_act_of, start_in, start_made, start_of}
 use Rattle.sdd_lawful.proofs.Submissions.{IsSubmitIn, given_at, one_submit, same_submission, submit_in}
+use Rattle.sdd_invariants.specs.history.declared.record.Rec.TheVariants.{Submit}
+use Rattle.sdd_invariants.specs.logs.Due.{home_of}
+use Rattle.sdd_laws.specs.All.{in_force}
+use Rattle.sdd_invariants.specs.site_module.SiteLog as site
 
 -- classes by the eras
 
@@ -50,12 +36,11 @@ given_within g log eras n c text are w =
 
 pub start_within : (g : Given) (log : Log) (eras : Eras) (a : Attempt) → AreErasOf g log eras → IsStartIn g log a
     → a.class ≤ length g.catalogue.classes
-start_within g log eras a are x =
-    given_within g log eras a.txn a.class x.says.text are (given_of_attempt g log a x)
+start_within g log eras a are x = given_within g log eras a.txn a.class x.says.text are (given_of_attempt g log a x)
 
 -- the Submit of a Start
 
-event_of_submit : (g : Given) (log : Log) (eras : Eras) (n : ℕ) (later rest : Log) (at : Site) → AreErasOf g log eras
+pub event_of_submit : (g : Given) (log : Log) (eras : Eras) (n : ℕ) (later rest : Log) (at : Site) → AreErasOf g log eras
     → log ≡ later ++ Submitted at n ∷ rest
     → in_force g.catalogue eras (event_at (history log) (length (history rest))) ≡ (force_at g (redeclares rest)).catalogue
 event_of_submit g log eras n later rest at are is =
@@ -75,7 +60,8 @@ submitted_of g log eras sound h are a s =
     let place = x.place_is in
     record {
       place = length (history w.rest);
-      submitted = subst (λ l. IsSubmitted (history l) a.txn (length (history w.rest))) (sym b.1) (stands_there b.0 (Submitted at a.txn) w.rest (Submit (txn_no a.txn)) refl);
+      submitted = subst (λ l. IsSubmitted (history l) a.txn (length (history w.rest))) (sym b.1)
+          (stands_there b.0 (Submitted at a.txn) w.rest (Submit (txn_no a.txn)) refl);
       before = omega arith;
       txn = x.says.text;
       txn_is = w.text_is;
@@ -160,7 +146,8 @@ earlier_committed g log a x n text later rest w is same t f =
     let m = submit_local g a.class n text later rest t in
     let i = submitted_in (home_setting g a.class) a.class n text m.0 (at_home g a.class rest) f in
     let l : at_home g a.class s.given.rest ≡ m.0 ++ Submits n text ∷ at_home g a.class rest = ap (at_home g a.class) (sym same ∙ is) ∙ m.1 in
-    all_committed_at a.class (at_home g a.class x.before) (submits_of (home_setting g a.class) a.class (at_home g a.class s.given.rest)) i.0 n text s.earlier (in_submits (home_setting g a.class) a.class n text (at_home g a.class s.given.rest) (m.0 ++ Submits n text ∷ at_home g a.class rest) i.0 l i.1)
+    all_committed_at a.class (at_home g a.class x.before) (submits_of (home_setting g a.class) a.class (at_home g a.class s.given.rest)) i.0 n text s.earlier
+    (in_submits (home_setting g a.class) a.class n text (at_home g a.class s.given.rest) (m.0 ++ Submits n text ∷ at_home g a.class rest) i.0 l i.1)
 
 abbrev submit_made_at : (g : Given) (log : Log) (n k : ℕ) → IsSubmitIn g log n k → IsMadeAt log k (Submit (txn_no n))
 submit_made_at g log n k u =
@@ -186,22 +173,27 @@ in_turn g log sound h a b j k s t e l p q = elim (dec_le j k) [
       let u = submit_in g log a.txn j h p in
       let v = submit_in g log b.txn k h q in
       let wb = (given_of_start g log b y).given in
-      let z = entries_in_order log k j (Submit (txn_no b.txn)) (Submit (txn_no a.txn)) (submit_made_at g log b.txn k v) (submit_made_at g log a.txn j u) (omega (arith, r)) in
+      let z = entries_in_order log k j (Submit (txn_no b.txn)) (Submit (txn_no a.txn)) (submit_made_at g log b.txn k v) (submit_made_at g log a.txn j u)
+      (omega (arith, r)) in
       let bs = given_rest g log b y k h v in
       let at_b : v.at ≡ home g.catalogue b.class = (same_submission g b.txn log v.later (given_of_attempt g log b y).later v.rest (given_of_attempt g log b y).rest v.at (home g.catalogue b.class) h v.is (given_of_attempt g log b y).is).1 in
-      let is : u.rest ≡ z.between ++ Submitted (home g.catalogue a.class) b.txn ∷ v.rest = z.is ∙ ap (λ c. z.between ++ Submitted c b.txn ∷ v.rest) (at_b ∙ ap (home g.catalogue) (sym e)) in
-      let f : IsForClass g a.class v.rest y.says.text = subst (λ c. IsForClass g c v.rest y.says.text) (sym e) (subst (λ w. IsForClass g b.class w y.says.text) (sym bs) wb.of_class) in
+      let is : u.rest ≡ z.between ++ Submitted (home g.catalogue a.class) b.txn ∷ v.rest = z.is
+      ∙ ap (λ c. z.between ++ Submitted c b.txn ∷ v.rest) (at_b ∙ ap (home g.catalogue) (sym e)) in
+      let f : IsForClass g a.class v.rest y.says.text = subst (λ c. IsForClass g c v.rest y.says.text) (sym e)
+      (subst (λ w. IsForClass g b.class w y.says.text) (sym bs) wb.of_class) in
       let done = earlier_committed g log a x b.txn y.says.text z.between v.rest u.rest is (given_rest g log a x j h u) wb.text_is f in
       let m = earlier_start g log a b x y (ap (home g.catalogue) e) l in
-      let later : is_committed a.class b.txn (at_home g b.class y.before) ≡ true = subst (λ w. is_committed a.class b.txn w ≡ true) (sym m.1) (committed_past a.class b.txn m.0 (start_act_of a x.sends) (at_home g a.class x.before) done) in
+      let later : is_committed a.class b.txn (at_home g b.class y.before) ≡ true = subst (λ w. is_committed a.class b.txn w ≡ true) (sym m.1)
+      (committed_past a.class b.txn m.0 (start_act_of a x.sends) (at_home g a.class x.before) done) in
       let no : true ≡ false = sym (subst (λ c. is_committed c b.txn (at_home g b.class y.before) ≡ true) e later) ∙ y.says.not_committed in cc)
 ]
 
 -- the site of a class
 
-covers_home : (cat : Catalogue) (txn : Txn) (c : ℕ) → c ≡ class_for cat txn → 1 ≤ c → (class_at cat c).tm.0 ≡ txn.tm.0
+pub covers_home : (cat : Catalogue) (txn : Txn) (c : ℕ) → c ≡ class_for cat txn → 1 ≤ c → (class_at cat c).tm.0 ≡ txn.tm.0
 covers_home cat txn c e l =
-    elim (head_of (filter (covers cat txn) (numbers_to (length cat.classes)))) as (λ o. head_of (filter (covers cat txn) (numbers_to (length cat.classes))) ≡ o → c ≡ unwrap_or o 0 → (class_at cat c).tm.0 ≡ txn.tm.0) [
+    elim (head_of (filter (covers cat txn) (numbers_to (length cat.classes)))) as
+    (λ o. head_of (filter (covers cat txn) (numbers_to (length cat.classes))) ≡ o → c ≡ unwrap_or o 0 → (class_at cat c).tm.0 ≡ txn.tm.0) [
       | None ↦ λ h z. absurd (omega arith)
       | Some x ↦ λ h z.
           let p = first_passes (covers cat txn) (numbers_to (length cat.classes)) x h in
@@ -221,14 +213,16 @@ home_is g era of txn c e = elim (same_or_not c 0) [
       ap (λ k. home_by k txn) e ∙ here ∙ ap (λ n. T (tm_no n)) (sym same) ∙ sym there)
 ]
 
-for_class : (g : Given) (c : ℕ) (rest : Log) (txn : Txn) → class_for (force_at g (redeclares rest)).catalogue txn ≡ c
+pub for_class : (g : Given) (c : ℕ) (rest : Log) (txn : Txn) → class_for (force_at g (redeclares rest)).catalogue txn ≡ c
     → IsForClass g c rest txn
 for_class g c rest txn e = elim (same_or_not c 0) [
   | inl p ↦ subst (λ k. IsForClass g k rest txn) (sym p) refl
   | inr p ↦ (let t_no : TmNo = tm_no (class_at g.catalogue c).tm.0 in
       let here : home g.catalogue c ≡ T t_no = rw p refl in
-      let k : class_for (site.in_force (setting_of g (T t_no)) (local_of g (T t_no) rest)).catalogue txn ≡ c = ap (λ (w : Force). class_for w.catalogue txn) (force_there g t_no rest) ∙ e in
-      let q : is_for c (site.in_force (setting_of g (T t_no)) (local_of g (T t_no) rest)).catalogue txn ≡ true = or_right (c == 0) _ (ap (λ y. y == c) k ∙ same_number c) in
+      let k : class_for (site.in_force (setting_of g (T t_no)) (local_of g (T t_no) rest)).catalogue txn ≡ c = ap (λ (w : Force). class_for w.catalogue txn)
+      (force_there g t_no rest) ∙ e in
+      let q : is_for c (site.in_force (setting_of g (T t_no)) (local_of g (T t_no) rest)).catalogue txn ≡ true = or_right (c == 0) _
+      (ap (λ y. y == c) k ∙ same_number c) in
       subst (λ a. is_for c (site.in_force (setting_of g a) (local_of g a rest)).catalogue txn ≡ true) (sym here) q)
 ]
 
@@ -241,7 +235,8 @@ commit_before g log a x n e =
     let m = commit_act_in a.class n (at_home g a.class x.before) e in
     let t : Told = record { reply = m.reply; changes = m.changes; values = m.values; rows = m.rows } in
     let act : Act = Records a.class (commit_rec n m.attempt t) m.sends in
-    let is : at_home g a.class x.before ≡ m.later ++ Did act ∷ m.before = m.is ∙ ap (λ j. m.later ++ Did (Records a.class (commit_rec j m.attempt t) m.sends) ∷ m.before) m.number_is in
+    let is : at_home g a.class x.before ≡ m.later ++ Did act ∷ m.before = m.is
+    ∙ ap (λ j. m.later ++ Did (Records a.class (commit_rec j m.attempt t) m.sends) ∷ m.before) m.number_is in
     let p = place_of_act g at x.before m.later act m.before is in
     let b = further_back log x.later x.before (Does at (start_act_of a x.sends)) (Does at act) p.later p.rest x.is p.is in
     let rises = place_rises p.later (Does at act) p.rest (commit_rec n m.attempt t) refl in
@@ -273,7 +268,8 @@ after_earlier g log eras sound h are a n j k txn s p q l t c =
     y.at_is ∙ ap (home_of (force_at g (redeclares y.earlier)).catalogue) t ∙ ap (λ i. home_of (force_at g i).catalogue (Some txn)) (sym (ap redeclares y.is))
     ∙ home_is g (force_at g (redeclares v.rest)).catalogue era txn a.class class in
     let is : u.rest ≡ z.between ++ Submitted (home g.catalogue a.class) n ∷ v.rest = z.is ∙ ap (λ i. z.between ++ Submitted i n ∷ v.rest) at in
-    commit_before g log a x n (earlier_committed g log a x n txn z.between v.rest u.rest is (given_rest g log a x k h u) t (for_class g a.class v.rest txn class))
+    commit_before g log a x n
+    (earlier_committed g log a x n txn z.between v.rest u.rest is (given_rest g log a x k h u) t (for_class g a.class v.rest txn class))
 
 -- Commits
 
@@ -288,14 +284,19 @@ by_last g log sound h t a c s e =
       | inl l ↦ (let z = entries_in_order log a.place t.place (start_of a) (commit_rec t.start.txn t.start.number told) (start_made g log a y) (commit_made g log t.start.txn t.start.number t.place told x) l in
           let m = start_behind g a x.class y.sends z.between y.before x.before (ap (home g.catalogue) k) z.is in
           let grow = starts_grow m.0 (at_home g a.class y.before) a.class (txn_no a.txn) a.number (class_no a.class) (time_at a.ts) a.p2 a.uses y.sends in
-          let count : starts_of a.class a.txn (at_home g x.class x.before) ≡ starts_of a.class a.txn (m.0 ++ Did (start_act_of a y.sends) ∷ at_home g a.class y.before) = ap (starts_of a.class a.txn) m.1 in
-          let last : t.start.number ≡ starts_of a.class a.txn (at_home g x.class x.before) = x.says.last_try ∙ ap (λ n. starts_of x.class n (at_home g x.class x.before)) (sym e) ∙ ap (λ i. starts_of i a.txn (at_home g x.class x.before)) (sym k) in
+          let count : starts_of a.class a.txn (at_home g x.class x.before) ≡ starts_of a.class a.txn
+          (m.0 ++ Did (start_act_of a y.sends) ∷ at_home g a.class y.before) = ap (starts_of a.class a.txn) m.1 in
+          let last : t.start.number ≡ starts_of a.class a.txn (at_home g x.class x.before) = x.says.last_try
+          ∙ ap (λ n. starts_of x.class n (at_home g x.class x.before)) (sym e) ∙ ap (λ i. starts_of i a.txn (at_home g x.class x.before)) (sym k) in
           let number = y.says.attempt_is in omega arith)
       | inr l ↦ elim l [
         | inl p ↦ (let q : Some (start_of a) ≡ Some (commit_rec t.start.txn t.start.number told) = sym s ∙ ap (record_at (history log)) p ∙ c.committed in cc)
         | inr l ↦ (let z = entries_in_order log t.place a.place (commit_rec t.start.txn t.start.number told) (start_of a) (commit_made g log t.start.txn t.start.number t.place told x) (start_made g log a y) l in
-            let seen : is_committed x.class t.start.txn (at_home g x.class y.before) ≡ true = subst (λ b. is_committed x.class t.start.txn (at_home g x.class b) ≡ true) (sym z.is) (commit_seen g x.class t.start.txn t.start.number told x.sends z.between x.before) in
-            let there : is_committed a.class a.txn (at_home g a.class y.before) ≡ true = subst (λ i. is_committed i a.txn (at_home g i y.before) ≡ true) (sym k) (subst (λ n. is_committed x.class n (at_home g x.class y.before) ≡ true) (sym e) seen) in
+            let seen : is_committed x.class t.start.txn (at_home g x.class y.before) ≡ true = subst
+            (λ b. is_committed x.class t.start.txn (at_home g x.class b) ≡ true) (sym z.is)
+            (commit_seen g x.class t.start.txn t.start.number told x.sends z.between x.before) in
+            let there : is_committed a.class a.txn (at_home g a.class y.before) ≡ true = subst (λ i. is_committed i a.txn (at_home g i y.before) ≡ true) (sym k)
+            (subst (λ n. is_committed x.class n (at_home g x.class y.before) ≡ true) (sym e) seen) in
             let no : true ≡ false = sym there ∙ y.says.not_committed in cc)
       ]
     ]
@@ -318,7 +319,9 @@ promise_below g log a b x y p2 None f e l k = omega arith
 promise_below g log a b x y p2 (Some t) f e l k =
     let m = earlier_start g log a b x y e l in
     let i = promise_in m.0 (at_home g a.class x.before) a.class (txn_no a.txn) a.number (class_no a.class) (time_at a.ts) t a.uses x.sends in
-    let with_p2 : at_home g b.class y.before ≡ m.0 ++ Did (Records a.class (Start (txn_no a.txn) a.number (class_no a.class) (time_at a.ts) (Some t) a.uses) x.sends) ∷ at_home g a.class x.before = m.1 ∙ ap (λ q. m.0 ++ Did (Records a.class (Start (txn_no a.txn) a.number (class_no a.class) (time_at a.ts) q a.uses) x.sends) ∷ at_home g a.class x.before) f in
+    let with_p2 : at_home g b.class y.before ≡ m.0 ++ Did
+    (Records a.class (Start (txn_no a.txn) a.number (class_no a.class) (time_at a.ts) (Some t) a.uses) x.sends) ∷ at_home g a.class x.before = m.1
+    ∙ ap (λ q. m.0 ++ Did (Records a.class (Start (txn_no a.txn) a.number (class_no a.class) (time_at a.ts) q a.uses) x.sends) ∷ at_home g a.class x.before) f in
     let there : slice_get (promises (at_home g b.class y.before)) i.0 ≡ Some t.0 = subst (λ w. slice_get (promises w) i.0 ≡ Some t.0) (sym with_p2) i.1 in
     let r = most_at _ (promises (at_home g b.class y.before)) i.0 t.0 y.says.p2_above_promises there in
     subst (λ w. t.0 ≤ w) k r

@@ -1,16 +1,9 @@
 -- Submissions: a transaction is given to a site right after the mark that submits it, and once.
-use Rattle.std.proofs.Common.{ℕ, ◌++◌, ◌==◌, ◌∙◌, ◌∷◌, ◌≡◌, Bool, Some, [], ap, false, inl, inr, length, not, refl, subst, sym, true}
-use Rattle.sdd_invariants.specs.All.{Deliver, Does, Down, Entry, Event, Given, Hand, IsAllowed, IsPermitted, Log, Lose, Mark, Notes, Nothing, Records, Redeclare, Redeclares, Repeat, Resend, Round, Sends, Settle, Site, Submit, Submitted, Tick, TxnNo, Up, by_event, by_link, by_mark, by_redeclare, by_round, by_site, due_by, force_at, history, mark_due, note_if, redeclares, txn_at, txn_no, was_marked}
-use Rattle.sdd_invariants.specs.history.declared.record.Rec.TheVariants.{Submit as Submission}
-use Rattle.sdd_invariants.specs.logs.Due.{home_of}
-use Rattle.sdd_invariants.proofs.Places.{compare}
-use Rattle.sdd_laws.specs.All.{IsSubmitted}
-use Rattle.sdd_invariants.proofs.Bools.{or_left, or_right, same_number}
-use Rattle.sdd_invariants.proofs.Fair.{allowed_mark}
-use Rattle.sdd_invariants.proofs.Made.{permitted_before}
-use Rattle.sdd_lawful.specs.Made.{record_of}
+use Rattle.sdd_lawful.proofs.All.{Bool, Deliver, Does, Down, Entry, Event, Given, Hand, IsAllowed, IsPermitted, IsSubmitted, Log, Lose, Mark, Notes, Nothing, Records, Redeclare, Redeclares, Repeat, Resend, Round, Sends, Settle, Site, Some, Submit, Submitted, Tick, TxnNo, Up, [], allowed_mark, ap, by_event, by_link, by_mark, by_redeclare, by_round, by_site, compare, due_by, false, force_at, history, inl, inr, length, mark_due, not, note_if, or_left, permitted_before, record_of, redeclares, refl, same_number, subst, sym, tail_marked, true, txn_at, txn_no, was_marked, ℕ, ◌++◌, ◌==◌, ◌∙◌, ◌∷◌, ◌≡◌}
 use Rattle.sdd_lawful.proofs.Makers.{is_own, none_own}
 use Rattle.sdd_lawful.proofs.Places.{made_at}
+use Rattle.sdd_invariants.specs.history.declared.record.Rec.TheVariants.{Submit as Submission}
+use Rattle.sdd_invariants.specs.logs.Due.{home_of}
 
 -- the mark that made it due
 
@@ -68,24 +61,6 @@ pub given_at : (g : Given) (log : Log) (at : Site) (n : ℕ) → IsPermitted g (
 given_at g log at n h = given_by g log at n (marked g log (Submitted at n) h.0)
 
 -- no transaction is given twice
-
-tail_marked : (n : ℕ) (e : Entry) (log : Log) → was_marked n log ≡ true → was_marked n (e ∷ log) ≡ true
-tail_marked n (Mark (Submit k)) log h = or_right (k.0 == n) (was_marked n log) h
-tail_marked n (Mark (Deliver a b k)) log h = h
-tail_marked n (Mark (Lose a b k)) log h = h
-tail_marked n (Mark (Repeat a b k)) log h = h
-tail_marked n (Mark (Resend a b)) log h = h
-tail_marked n (Mark (Tick t k)) log h = h
-tail_marked n (Mark Settle) log h = h
-tail_marked n (Mark Redeclare) log h = h
-tail_marked n (Mark (Down d)) log h = h
-tail_marked n (Mark (Up d)) log h = h
-tail_marked n (Round es) log h = h
-tail_marked n (Redeclares t) log h = h
-tail_marked n (Hand a b k m) log h = h
-tail_marked n (Submitted a k) log h = h
-tail_marked n Notes log h = h
-tail_marked n (Does a act) log h = h
 
 marked_stays : (n : ℕ) (later log : Log) → was_marked n log ≡ true → was_marked n (later ++ log) ≡ true
 marked_stays n [] log h = h

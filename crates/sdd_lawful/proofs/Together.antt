@@ -1,16 +1,5 @@
 -- The history of a permitted log keeps all laws by which it has a serial order, and by which that gives the replies.
-use Rattle.std.specs.List.{AllZip}
-use Rattle.std.proofs.Common.{ℕ, ◌==◌, ◌≡◌, List, length, subst, sym}
-use Rattle.std.proofs.lemmas.Bool.{eqb-true}
-use Rattle.sdd_invariants.specs.All.{Catalogue, Change, Given, IsPermitted, IsSound, Log, RelNo, Row, TxnNo, history, rows_in_fragment}
-use Rattle.sdd_invariants.proofs.lang.KeyRanges.{fragment_holds, key_in_range}
-use Rattle.sdd_invariants.proofs.lang.StaysDatabase.{rows_make_database}
-use Rattle.sdd_laws.specs.All.{AreAllApplied, AreFew, Committed, Eras, FitTogether, HasNoCycle, IsCommitted, IsFragment, IsOrderable, IsReplyOf, IsSerial, KeepsEras, KeepsLaws, KeepsUndeclared, NumbersExist, TxnsExist, copy_at, items_of, run}
-use Rattle.sdd_laws.proofs.Acyclic.{acyclic, orderable}
-use Rattle.sdd_laws.proofs.Few.{are_few}
-use Rattle.sdd_laws.proofs.Replayed.{gives_replies, leaves_copies}
-use Rattle.sdd_invariants.proofs.Lists.{any_at}
-use Rattle.sdd_lawful.specs.Given.{AreErasOf, HasSoundData}
+use Rattle.sdd_lawful.proofs.All.{AllZip, AreAllApplied, AreErasOf, AreFew, Catalogue, Change, Committed, Eras, FitTogether, Given, HasNoCycle, HasSoundData, IsCommitted, IsFragment, IsOrderable, IsPermitted, IsReplyOf, IsSerial, IsSound, KeepsEras, KeepsLaws, KeepsUndeclared, List, Log, NumbersExist, RelNo, Row, TxnNo, TxnsExist, acyclic, any_at, are_few, copy_at, eqb-true, fragment_holds, gives_replies, history, key_in_range, leaves_copies, length, orderable, rows_in_fragment, rows_make_database, run, subst, sym, ℕ, ◌==◌, ◌≡◌}
 use Rattle.sdd_lawful.proofs.Applies.{keeps_applies}
 use Rattle.sdd_lawful.proofs.Beginnings.{ChangesExist}
 use Rattle.sdd_lawful.proofs.Committed.{committed_in}
@@ -20,6 +9,7 @@ use Rattle.sdd_lawful.proofs.Rejections.{keeps_rejections}
 use Rattle.sdd_lawful.proofs.Starts.{keeps_starts}
 use Rattle.sdd_lawful.proofs.Undeclared.{keeps_undeclared}
 use Rattle.sdd_lawful.proofs.Valid.{AllValid, IsValid, all_slice, commits_valid}
+use Rattle.sdd_laws.specs.All.{items_of}
 
 -- the changes of a committed transaction are of items
 pub changes_valid : (g : Given) (rows : List (RelNo × Row)) (log : Log) → IsSound g.catalogue → HasSoundData g rows → IsPermitted g log
@@ -83,14 +73,16 @@ pub replies : (g : Given) (rows : List (RelNo × Row)) (eras : Eras) (log : Log)
     → AllZip (IsReplyOf (history log)) order (run g.catalogue rows g.txns order).0
 replies g rows eras log order sound fine h are serial =
     gives_replies g.catalogue sound eras are.are_eras rows g.txns (history log) fine.txns_fit fine.txns_held (keeps_starts g log eras sound h are)
-    (keeps_answers g rows eras log sound fine h are) (keeps_applies g log sound h) (rows_make_database g.catalogue rows fine.rows_fit fine.rows_held) order serial
+    (keeps_answers g rows eras log sound fine h are) (keeps_applies g log sound h)
+    (rows_make_database g.catalogue rows fine.rows_fit fine.rows_held) order serial
 
 pub copies : (g : Given) (rows : List (RelNo × Row)) (eras : Eras) (log : Log) (order : List TxnNo) → IsSound g.catalogue → HasSoundData g rows
     → IsPermitted g log → AreErasOf g log eras → IsSerial g.catalogue (history log) order → (f d k : ℕ) → AreAllApplied (history log) f d k
     → rows_in_fragment g.catalogue (run g.catalogue rows g.txns order).1 f ≡ items_of g.catalogue f (copy_at g.catalogue rows (history log) d k f)
 copies g rows eras log order sound fine h are serial =
     leaves_copies g.catalogue sound eras are.are_eras rows g.txns (history log) fine.txns_fit fine.txns_held (keeps_starts g log eras sound h are)
-    (keeps_answers g rows eras log sound fine h are) (keeps_applies g log sound h) (rows_make_database g.catalogue rows fine.rows_fit fine.rows_held) order serial
+    (keeps_answers g rows eras log sound fine h are) (keeps_applies g log sound h)
+    (rows_make_database g.catalogue rows fine.rows_fit fine.rows_held) order serial
 
 pub few : (g : Given) (eras : Eras) (log : Log) → IsSound g.catalogue → IsPermitted g log → AreErasOf g log eras → AreFew (history log)
 few g eras log sound h are = are_few g.catalogue eras g.txns (history log) (keeps_starts g log eras sound h are) (keeps_rejections g log eras sound h are)

@@ -1,16 +1,5 @@
 -- Which modules a committed transaction touches.
-use Rattle.std.specs.Prelude.{filter}
-use Rattle.std.proofs.lemmas.List.Elements.{recursion_from_All}
-use Rattle.std.specs.List.{AllByRecursion, list_any}
-use Rattle.std.proofs.Common.{ℕ, suc, ◌-◌, ◌<◌, ◌==◌, ◌∙◌, ◌∷◌, ◌≡◌, ◌⊎◌, Bool, List, Some, [], ap, arith, cond, false, inl, inr, length, refl, slice_get, subst, sym, true, zero}
-use Rattle.std.proofs.Math.Decide.{dec_le}
-use Rattle.std.proofs.lemmas.Bool.{eqb-true}
-use Rattle.std.proofs.lemmas.List.{get_or_past}
-use Rattle.sdd_invariants.specs.All.{Catalogue, Change, DmNo, Fragment, Given, IsPlaced, IsSound, Log, changes_at, changes_to, dm_no, fragment_at, has_copy}
-use Rattle.sdd_invariants.proofs.catalog.Sound.{at_number, sound_fragments}
-use Rattle.sdd_laws.specs.All.{Committed, GoesTo, IsModule, Touches, by_change, by_no_class}
-use Rattle.sdd_invariants.proofs.Bools.{or_left, or_right, same_number, true_or_false}
-use Rattle.sdd_invariants.proofs.Lists.{any_at}
+use Rattle.sdd_lawful.proofs.All.{AllByRecursion, Bool, Catalogue, Change, Committed, DmNo, Fragment, Given, GoesTo, IsModule, IsPlaced, IsSound, List, Log, Some, Touches, [], any_at, ap, arith, at_number, by_change, by_no_class, changes_at, changes_to, cond, dec_le, dm_no, eqb-true, false, filter, fragment_at, get_or_past, has_copy, inl, inr, length, list_any, or_left, or_right, recursion_from_All, refl, same_number, slice_get, sound_fragments, subst, suc, sym, true, true_or_false, zero, ℕ, ◌-◌, ◌<◌, ◌==◌, ◌∙◌, ◌∷◌, ◌≡◌, ◌⊎◌}
 use Rattle.sdd_lawful.proofs.Committed.{IsCommittedIn}
 
 -- a module with a copy is there
@@ -19,10 +8,12 @@ copies_there : (cat : Catalogue) → IsSound cat → (f : ℕ) → AllByRecursio
 copies_there cat sound f = elim (dec_le (length cat.fragments) (f - 1)) [
   | yes p ↦ subst (λ (x : Fragment). AllByRecursion (λ (d : DmNo). IsModule cat d.0) x.copies) (sym (get_or_past cat.fragments (f - 1) _ p)) tt
   | no p ↦ elim (dec_le 1 f) [
-    | yes q ↦ recursion_from_All _ (fragment_at cat f).copies (at_number (IsPlaced (length cat.relations) cat.dms) cat.fragments f _ (sound_fragments cat sound) q (omega (arith, p))).copies
+    | yes q ↦ recursion_from_All _ (fragment_at cat f).copies
+        (at_number (IsPlaced (length cat.relations) cat.dms) cat.fragments f _ (sound_fragments cat sound) q (omega (arith, p))).copies
     | no q ↦ (let e : f ≡ 0 = omega (arith, q) in
         let same : fragment_at cat f ≡ fragment_at cat 1 = ap (fragment_at cat) e in
-        subst (λ (x : Fragment). AllByRecursion (λ (d : DmNo). IsModule cat d.0) x.copies) (sym same) (recursion_from_All _ (fragment_at cat 1).copies (at_number (IsPlaced (length cat.relations) cat.dms) cat.fragments 1 _ (sound_fragments cat sound) (omega arith) (omega (arith, p))).copies))
+        subst (λ (x : Fragment). AllByRecursion (λ (d : DmNo). IsModule cat d.0) x.copies) (sym same)
+        (recursion_from_All _ (fragment_at cat 1).copies (at_number (IsPlaced (length cat.relations) cat.dms) cat.fragments 1 _ (sound_fragments cat sound) (omega arith) (omega (arith, p))).copies))
   ]
 ]
 
@@ -45,8 +36,7 @@ goes_module cat sound t d (by_no_class e m) = m
 
 pub passing : {A : Type 0} (p : A → Bool) (xs : List A) (k : ℕ) (x : A) → slice_get xs k ≡ Some x → p x ≡ true → 0 < length (filter p xs)
 passing p [] k x e f = cc
-passing {A = A} p (y ∷ xs) zero x e f =
-    let q : ◌≡◌ {A = A} y x = cc in rw (ap p q ∙ f) (omega arith)
+passing {A = A} p (y ∷ xs) zero x e f = let q : ◌≡◌ {A = A} y x = cc in rw (ap p q ∙ f) (omega arith)
 passing p (y ∷ xs) (suc k) x e f =
     let i = passing p xs k x e f in
     elim (p y) as (λ b. 0 < length (cond b (y ∷ filter p xs) (filter p xs))) [ true ↦ omega arith | false ↦ i ]
@@ -87,7 +77,8 @@ some_goes cat t xs d same m h = elim h [
   | inr l ↦ (let i = some_passes (λ (y : Change). has_copy cat d y.frag.0) xs l in
       by_change (record {
         fragment = i.1.frag.0;
-        changed = subst (λ ys. list_any (λ (c : Change). c.frag.0 == i.1.frag.0) ys ≡ true) (sym same) (any_there (λ (c : Change). c.frag.0 == i.1.frag.0) xs i.0 i.1 i.2 (same_number i.1.frag.0));
+        changed = subst (λ ys. list_any (λ (c : Change). c.frag.0 == i.1.frag.0) ys ≡ true) (sym same)
+            (any_there (λ (c : Change). c.frag.0 == i.1.frag.0) xs i.0 i.1 i.2 (same_number i.1.frag.0));
         copied = i.3;
       }))
 ]

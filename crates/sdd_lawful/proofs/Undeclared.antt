@@ -1,17 +1,5 @@
 -- The history of a permitted log keeps the law of undeclared transactions.
-use Rattle.std.proofs.Common.{ℕ, suc, ◌++◌, ◌<◌, ◌==◌, ◌∙◌, ◌∷◌, ◌≡◌, ◌≢◌, ◌≤◌, ◌⊎◌, Some, [], ap, append_assoc, arith, false, inl, inr, length, map, refl, slice_get, subst, sym, true}
-use Rattle.sdd_invariants.specs.All.{Act, Apply, Bases, Catalogue, Cond, D, Does, Done, Entry, Given, HasApply, IsPermitted, IsSound, Log, Queued, Rec, Records, Setting, Site, T, U, bound, class_at, classes_of, commit_act, cond_of, dm_no, frag_no, fragments_of, history, home, home_of, next_stamp, number_of, numbers_to, p2_of, setting_of, start_at, start_u, tm_no, u_stamp, undeclared_conditions, uses_of}
-use Rattle.sdd_invariants.proofs.catalog.Sound.{sound_whole}
-use Rattle.sdd_invariants.specs.site_module.SiteLog as site
-use Rattle.sdd_invariants.proofs.Apart.{low_or_high}
-use Rattle.sdd_invariants.proofs.Dones.{all_applied}
-use Rattle.sdd_invariants.proofs.Undeclared.{commit_t, zero_applied, zero_pair}
-use Rattle.sdd_laws.specs.All.{AppliedBefore, Attempt, Committed, Eras, GoesTo, IsAnswered, IsAttempt, IsCommitted, IsModule, IsWhollyAfter, IsWhollyBefore, KeepsUndeclared, Stands, Touches, by_change, by_no_class}
-use Rattle.sdd_laws.proofs.serial_orders.Places.{commit_of, same_start}
-use Rattle.sdd_invariants.proofs.Bools.{lower_same_higher, same_number, same_or_not}
-use Rattle.sdd_invariants.proofs.Made.{permitted_before}
-use Rattle.sdd_lawful.specs.Given.{AreErasOf}
-use Rattle.sdd_lawful.specs.Made.{IsMadeAt}
+use Rattle.sdd_lawful.proofs.All.{Act, AppliedBefore, Apply, AreErasOf, Attempt, Bases, Catalogue, Committed, Cond, D, Does, Done, Entry, Eras, Given, GoesTo, HasApply, IsAnswered, IsAttempt, IsCommitted, IsMadeAt, IsModule, IsPermitted, IsSound, IsWhollyAfter, IsWhollyBefore, KeepsUndeclared, Log, Queued, Rec, Records, Setting, Site, Some, Stands, T, Touches, U, [], all_applied, ap, append_assoc, arith, bound, by_change, by_no_class, class_at, classes_of, commit_act, commit_of, commit_t, cond_of, dm_no, false, frag_no, fragments_of, history, home, home_of, inl, inr, length, low_or_high, lower_same_higher, map, next_stamp, number_of, numbers_to, p2_of, permitted_before, refl, same_number, same_or_not, same_start, setting_of, slice_get, sound_whole, start_at, start_u, subst, suc, sym, tm_no, true, u_stamp, undeclared_conditions, uses_of, zero_applied, zero_pair, ℕ, ◌++◌, ◌<◌, ◌==◌, ◌∙◌, ◌∷◌, ◌≡◌, ◌≢◌, ◌≤◌, ◌⊎◌}
 use Rattle.sdd_lawful.proofs.Answered.{answer_in, answer_rec, conds_sent}
 use Rattle.sdd_lawful.proofs.Applied.{apply_rec}
 use Rattle.sdd_lawful.proofs.Applies.{of_commit}
@@ -26,6 +14,7 @@ use Rattle.sdd_lawful.proofs.Rejections.{read_condition}
 use Rattle.sdd_lawful.proofs.Started.{start_in, start_of}
 use Rattle.sdd_lawful.proofs.Starts.{one_time, start_within}
 use Rattle.sdd_lawful.proofs.Touched.{goes_module, kept_there}
+use Rattle.sdd_invariants.specs.site_module.SiteLog as site
 
 -- an Apply with the timestamp of an undeclared transaction is its own
 
@@ -34,9 +23,11 @@ own_apply : (g : Given) (log : Log) (eras : Eras) (u : Committed) (d : ℕ) (fro
     → AppliedBefore (history log) u.start.txn d (length (history before))
 own_apply g log eras u d front before sound h are c is x =
     let act : Act = Records 0 (Apply x.txn x.of (home_of (setting_of g (D (dm_no d)))).dm x.ts) ((U, Done x.ts) ∷ []) in
-    let whole : log ≡ (front ++ x.later) ++ Does (D (dm_no d)) act ∷ x.before = is ∙ ap (λ l. front ++ l) x.is ∙ sym (append_assoc front x.later (Does (D (dm_no d)) act ∷ x.before)) in
+    let whole : log ≡ (front ++ x.later) ++ Does (D (dm_no d)) act ∷ x.before = is ∙ ap (λ l. front ++ l) x.is
+    ∙ sym (append_assoc front x.later (Does (D (dm_no d)) act ∷ x.before)) in
     let r : Rec = apply_rec x.txn.0 x.of.0 d x.ts.0 in
-    let there : Stands (history log) (length (history x.before)) r = subst (λ l. Stands (history l) (length (history x.before)) r) (sym whole) (stands_there (front ++ x.later) (Does (D (dm_no d)) act) x.before r refl) in
+    let there : Stands (history log) (length (history x.before)) r = subst (λ l. Stands (history l) (length (history x.before)) r) (sym whole)
+    (stands_there (front ++ x.later) (Does (D (dm_no d)) act) x.before r refl) in
     let o = of_commit g log sound h x.txn.0 x.of.0 d x.ts.0 (length (history x.before)) there in
     let time : o.committed.start.ts ≡ u.start.ts = o.ts_is ∙ x.ts_is in
     let place = one_time g log eras sound h are o.committed.start u.start o.is_committed.started c.started time in
@@ -89,7 +80,8 @@ zero_done g log eras x a sound h are c s e f l =
       applied = λ d m.
           let k = module_there g d m in
           let y = zero_applied g t.0 1 k.0 d q.before z.0 p.before q.queued p.queued t.1 q.permitted z.1 k.1 in
-          subst (λ j. AppliedBefore (history log) x.start.txn d j) q.place_is (own_apply g log eras x d front q.before sound h are c is (subst (HasApply g q.before (dm_no d)) (sym p.ts_is) y));
+          subst (λ j. AppliedBefore (history log) x.start.txn d j) q.place_is
+          (own_apply g log eras x d front q.before sound h are c is (subst (HasApply g q.before (dm_no d)) (sym p.ts_is) y));
     }
 
 -- so it is committed then
@@ -153,8 +145,11 @@ low_seen g log eras u t d k sound h are exist cu ct e ne l within goes s =
     let frags = map frag_no (fragments_of g.catalogue) in
     let q : Cond = cond_of t.start.class u.start.ts frags in
     let w = answer_in g log u.start d k sound h cu.started s in
-    let there : slice_get w.read.conds j.0 ≡ Some q = subst (λ ds. slice_get ds j.0 ≡ Some q) (sym (w.read.conds_are ∙ zero_sent g u.start w.read.start_log d e)) (at_map (λ c. cond_of c u.start.ts frags) (classes_of g.catalogue) j.0 t.start.class j.1) in
-    let cd = read_condition g log eras u.start d w.later w.before (Does (D (dm_no d)) (Records u.start.class (answer_rec u.start d) w.sends)) are w.is w.read j.0 q there in
+    let there : slice_get w.read.conds j.0 ≡ Some q = subst (λ ds. slice_get ds j.0 ≡ Some q)
+    (sym (w.read.conds_are ∙ zero_sent g u.start w.read.start_log d e))
+    (at_map (λ c. cond_of c u.start.ts frags) (classes_of g.catalogue) j.0 t.start.class j.1) in
+    let cd = read_condition g log eras u.start d w.later w.before
+    (Does (D (dm_no d)) (Records u.start.class (answer_rec u.start d) w.sends)) are w.is w.read j.0 q there in
     (met g log eras sound h are u.start d k q t cu.started s cd ct refl (record { fragment = touch.fragment; changed = touch.changed; copied = touch.copied; named = numbered_there (fragments_of g.catalogue) i.0 touch.fragment i.1 })).1 l
 
 -- the Commit that is known to stand before the undeclared one's Start
@@ -166,20 +161,25 @@ committed_low g log t c at bases later before later2 rest e sound h ct is p =
     let told : Told = told_by g bases c.running in
     let f = further_back log later before e (Does at act) later2 rest is p in
     let r : Rec = commit_rec c.running.txn c.running.attempt told in
-    let there : Stands (history log) (length (history rest)) r = subst (λ l. Stands (history l) (length (history rest)) r) (sym f.1) (stands_there f.0 (Does at act) rest r refl) in
-    let named : Stands (history log) (length (history rest)) (commit_rec t.start.txn c.running.attempt told) = subst (λ n. Stands (history log) (length (history rest)) (commit_rec n c.running.attempt told)) c.txn_is there in
-    let same = one_commit g log sound h t.start.txn c.running.attempt t.start.number (length (history rest)) t.place (record { reply = told.reply; changes = told.changes; values = told.values; rows = told.rows; stands = named }) (commit_of (history log) t ct) in
+    let there : Stands (history log) (length (history rest)) r = subst (λ l. Stands (history l) (length (history rest)) r) (sym f.1)
+    (stands_there f.0 (Does at act) rest r refl) in
+    let named : Stands (history log) (length (history rest)) (commit_rec t.start.txn c.running.attempt told) = subst
+    (λ n. Stands (history log) (length (history rest)) (commit_rec n c.running.attempt told)) c.txn_is there in
+    let same = one_commit g log sound h t.start.txn c.running.attempt t.start.number (length (history rest)) t.place
+    (record { reply = told.reply; changes = told.changes; values = told.values; rows = told.rows; stands = named }) (commit_of (history log) t ct) in
     let rises = place_rises later2 (Does at act) rest r refl in
     let size : length (history before) ≡ length (history (later2 ++ Does at act ∷ rest)) = ap (λ l. length (history l)) p in
     omega arith
 
 -- the Start of an attempt, by its timestamp
-start_place : (g : Given) (log : Log) (eras : Eras) (t : Committed) (s : Setting) (l : site.Log) (at : Site) (q : Queued) (later rest : Log) → IsSound g.catalogue → IsPermitted g log
+start_place : (g : Given) (log : Log) (eras : Eras) (t : Committed) (s : Setting) (l : site.Log) (at : Site) (q : Queued) (later rest : Log)
+    → IsSound g.catalogue → IsPermitted g log
     → AreErasOf g log eras → IsCommitted (history log) t → log ≡ later ++ Does at (start_at s t.start.class l q) ∷ rest
     → next_stamp s l ≡ t.start.ts → length (history rest) ≡ t.start.place
 start_place g log eras t s l at q later rest sound h are ct is e =
     let b : Attempt = record { txn = q.number; number = suc q.tries; class = t.start.class; ts = next_stamp s l; p2 = p2_of t.start.class (bound s l); uses = uses_of s.catalogue q.text; place = length (history rest) } in
-    let there : IsAttempt (history log) b = subst (λ y. IsAttempt (history y) b) (sym is) (stands_there later (Does at (start_at s t.start.class l q)) rest (start_of b) refl) in
+    let there : IsAttempt (history log) b = subst (λ y. IsAttempt (history y) b) (sym is)
+    (stands_there later (Does at (start_at s t.start.class l q)) rest (start_of b) refl) in
     one_time g log eras sound h are b t.start there ct.started e
 
 declared_one : (g : Given) (log : Log) (eras : Eras) (u t : Committed) → IsSound g.catalogue → IsPermitted g log → AreErasOf g log eras
@@ -199,29 +199,34 @@ declared_one g log eras u t sound h are exist cu ct e ne =
     let top = s.module_to in
     let i = in_numbers 1 g.catalogue.tms t_no s.module_from (omega arith) in
     let j = in_numbers 1 (length g.catalogue.classes) class from (omega arith) in
-    let run = kept_there (λ k. (class_at g.catalogue k).tm.0 == number_of (T (tm_no t_no))) (numbers_to (length g.catalogue.classes)) j.0 class j.1 (same_number t_no) in
+    let run = kept_there (λ k. (class_at g.catalogue k).tm.0 == number_of (T (tm_no t_no))) (numbers_to (length g.catalogue.classes)) j.0 class j.1
+    (same_number t_no) in
     let cm = commit_t g t_no class log c.later c.before c.bases c.running h hm c.is c.active_is in
     let front : Log = p.later ++ Does U (start_u g p.before p.queued) ∷ [] in
     let ts = c.ts_is in let uts = p.ts_is in
     elim (low_or_high g i.0 t_no class run.0 log p.later p.before p.queued c.running cm i.1 run.1 (omega arith) h p.is) [
       | inl lo ↦ (let below = lo.below in let l : t.start.ts < u.start.ts = omega arith in
-          let place = committed_low g log t c (T (tm_no t_no)) cm.bases p.later p.before lo.commit.later lo.commit.rest (Does U (start_u g p.before p.queued)) sound h ct p.is lo.commit.is in
+          let place = committed_low g log t c (T (tm_no t_no)) cm.bases p.later p.before lo.commit.later lo.commit.rest
+          (Does U (start_u g p.before p.queued)) sound h ct p.is lo.commit.is in
           inl (record {
             time = l;
             committed = subst (λ k. t.place < k) p.place_is place;
             applied = λ d k goes s. low_seen g log eras u t d k sound h are exist cu ct e ne l within goes s;
           }))
       | inr hi ↦ (let above = hi.above in
-          let at = start_place g log eras t (setting_of g (T (tm_no t_no))) cm.start.before (T (tm_no t_no)) cm.start.queued hi.start.later hi.start.rest sound h are ct hi.start.is (sym cm.start.ts_is ∙ c.ts_is) in
+          let at = start_place g log eras t (setting_of g (T (tm_no t_no))) cm.start.before
+          (T (tm_no t_no)) cm.start.queued hi.start.later hi.start.rest sound h are ct hi.start.is (sym cm.start.ts_is ∙ c.ts_is) in
           let to_rest : Log = hi.start.later ++ Does (T (tm_no t_no)) (start_at (setting_of g (T (tm_no t_no))) class cm.start.before cm.start.queued) ∷ [] in
-          let is : log ≡ to_rest ++ hi.start.rest = hi.start.is ∙ sym (append_assoc hi.start.later (Does (T (tm_no t_no)) (start_at (setting_of g (T (tm_no t_no))) class cm.start.before cm.start.queued) ∷ []) hi.start.rest) in
+          let is : log ≡ to_rest ++ hi.start.rest = hi.start.is ∙ sym
+          (append_assoc hi.start.later (Does (T (tm_no t_no)) (start_at (setting_of g (T (tm_no t_no))) class cm.start.before cm.start.queued) ∷ []) hi.start.rest) in
           let hr : IsPermitted g hi.start.rest = permitted_before g to_rest hi.start.rest (subst (IsPermitted g) is h) in
           inr (record {
             time = omega arith;
             applied = λ d m.
                 let k = module_there g d m in
                 let y = all_applied g hi.start.rest (u_stamp g p.before) k.0 d hr hi.dones k.1 in
-                subst (λ n. AppliedBefore (history log) u.start.txn d n) at (own_apply g log eras u d to_rest hi.start.rest sound h are cu is (subst (HasApply g hi.start.rest (dm_no d)) (sym p.ts_is) y));
+                subst (λ n. AppliedBefore (history log) u.start.txn d n) at
+                (own_apply g log eras u d to_rest hi.start.rest sound h are cu is (subst (HasApply g hi.start.rest (dm_no d)) (sym p.ts_is) y));
           }))
     ]
 

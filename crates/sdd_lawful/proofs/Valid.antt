@@ -1,29 +1,9 @@
 -- What committed transactions change are items of the catalogue, and so the database that an attempt reads is one.
-use Rattle.std.specs.Prelude.{filter}
-use Rattle.std.specs.List.{All, AllByRecursion, flat_map, fold, range_with_len}
-use Rattle.std.proofs.Common.{ℕ, ℤ, ◌&&◌, ◌++◌, ◌+◌, ◌-◌, ◌==◌, ◌∙◌, ◌∷◌, ◌≡◌, ◌≤◌, Bool, List, Some, [], ap, append_assoc, arith, cond, false, inl, inr, map, refl, slice_get, subst, suc, sym, true, zero}
-use Rattle.std.proofs.lemmas.Bool.{eqb-true}
-use Rattle.std.proofs.lemmas.List.Elements.{recursion_from_All}
-use Rattle.sdd_invariants.specs.All.{Act, Answer, Apply, Attempt as Running, Bases, Catalogue, Change, D, Database, Did, DmNo, Does, Fits, FitsStatement, Given, Handed, HasRow, IsBased, IsChange, IsEntry, IsPermitted, IsSound, IsWrite, Item, Log, Msg, PutsHeld, Rec, Records, Redeclared, RelNo, Row, Sends, Setting, Site, Submits, T, Ticked, Txn, U, Write, active, applied, base_of, changes_in, changes_to, class_at, commit_act, database_of, dated, dm_no, effect, first_row, first_rows, fragment_at, frags_asked, has_copy, head, head_of, home, is_apply, is_at, item_cmp, items_of, local_of, numbers_to, pipe, queue, rows_of, sends_of_act, setting_of, snapshots, snapshots_at, start_at, tm_no, to_site, txn_at, with_item}
-use Rattle.sdd_laws.proofs.CopyEntries.{held_by}
-use Rattle.sdd_laws.proofs.Members.{all_have, each_has}
-use Rattle.sdd_laws.specs.All.{Dated, IsModule}
-use Rattle.sdd_invariants.proofs.lang.EffectChanges.{entry_placed}
-use Rattle.sdd_invariants.proofs.lang.SortedEntries.{each_inserted, item_cmp_exact}
-use Rattle.sdd_invariants.proofs.lang.StaysDatabase.{effect_changes, rows_make_database}
-use Rattle.sdd_invariants.specs.site_module.SiteLog as site
-use Rattle.sdd_invariants.specs.site_module.SiteLog.{Log as SiteLog}
-use Rattle.sdd_invariants.specs.dm.Copies.{classes_of}
-use Rattle.sdd_invariants.proofs.Recorded.{start_of_active}
-use Rattle.sdd_invariants.proofs.Installed.{apply_of_head, class_number, commit_put_is, head_put}
-use Rattle.sdd_invariants.proofs.Starting.{t_commit, u_commit}
-use Rattle.sdd_invariants.proofs.Bools.{and_left, and_right, if_way, true_or_false}
-use Rattle.sdd_invariants.proofs.Fair.{home_fair}
-use Rattle.sdd_invariants.proofs.Made.{permitted_before, place_of_act}
-use Rattle.sdd_lawful.specs.Given.{HasSoundData}
+use Rattle.sdd_lawful.proofs.All.{Act, All, AllByRecursion, Answer, Apply, Bases, Catalogue, Change, D, Database, Dated, Did, DmNo, Does, Fits, FitsStatement, Given, Handed, HasRow, HasSoundData, IsBased, IsChange, IsEntry, IsModule, IsPermitted, IsSound, IsWrite, Item, List, Log, Msg, PutsHeld, Rec, Records, Redeclared, RelNo, Row, Running, Sends, Setting, Site, SiteLog, Some, Submits, T, Ticked, Txn, U, Write, [], active, all_filtered, all_have, all_join, and_left, and_right, ap, append_assoc, applied, apply_of_head, arith, base_of, changes_in, changes_to, class_at, class_number, commit_act, commit_put_is, database_of, dated, dm_no, each_has, each_inserted, effect, effect_changes, entry_placed, eqb-true, first_row, first_rows, flat_map, fold, fragment_at, frags_asked, has_copy, head, head_of, head_put, held_by, home, home_fair, if_way, inl, inr, is_apply, is_at, item_cmp, item_cmp_exact, items_of, local_of, map, numbers_to, one_active, permitted_before, pipe, place_of_act, queue, range_with_len, recursion_from_All, refl, rows_make_database, rows_of, sends_of_act, setting_of, slice_get, snapshots, snapshots_at, start_at, start_of_active, subst, suc, sym, t_commit, tm_no, to_site, true, true_or_false, txn_at, u_commit, with_item, zero, ℕ, ℤ, ◌&&◌, ◌++◌, ◌+◌, ◌-◌, ◌==◌, ◌∙◌, ◌∷◌, ◌≡◌, ◌≤◌}
 use Rattle.sdd_lawful.proofs.Classes.{at_home, home_setting}
-use Rattle.sdd_lawful.proofs.Committed.{one_active}
 use Rattle.sdd_lawful.proofs.Commits.{text_of_head}
+use Rattle.sdd_invariants.specs.dm.Copies.{classes_of}
+use Rattle.sdd_invariants.specs.site_module.SiteLog as site
 
 abbrev pub IsValid : Catalogue → Change → Type 0
 IsValid cat c = IsChange cat ((c.frag.0, c.key), c.row)
@@ -36,10 +16,6 @@ AllValidAt cat xs = AllByRecursion (λ (x : ℕ × Change). IsValid cat x.1) xs
 
 -- lists
 
-pub all_join : {A : Type 0} (P : A → Type 0) (xs ys : List A) → AllByRecursion P xs → AllByRecursion P ys → AllByRecursion P (xs ++ ys)
-all_join P [] ys h k = k
-all_join P (x ∷ xs) ys h k = (h.0, all_join P xs ys h.1 k)
-
 all_front : {A : Type 0} (P : A → Type 0) (xs ys : List A) → AllByRecursion P (xs ++ ys) → AllByRecursion P xs
 all_front P [] ys h = tt
 all_front P (x ∷ xs) ys h = (h.0, all_front P xs ys h.1)
@@ -47,12 +23,6 @@ all_front P (x ∷ xs) ys h = (h.0, all_front P xs ys h.1)
 all_gathered : {A B : Type 0} (P : B → Type 0) (f : A → List B) (xs : List A) → ((x : A) → AllByRecursion P (f x)) → AllByRecursion P (flat_map f xs)
 all_gathered P f [] h = tt
 all_gathered P f (x ∷ xs) h = all_join P (f x) (flat_map f xs) (h x) (all_gathered P f xs h)
-
-all_filtered : {A : Type 0} (P : A → Type 0) (p : A → Bool) (xs : List A) → AllByRecursion P xs → AllByRecursion P (filter p xs)
-all_filtered P p [] h = tt
-all_filtered P p (x ∷ xs) h =
-    let i = all_filtered P p xs h.1 in
-    elim (p x) as (λ b. AllByRecursion P (cond b (x ∷ filter p xs) (filter p xs))) [ true ↦ (h.0, i) | false ↦ i ]
 
 all_dated : (cat : Catalogue) (t : ℕ) (changes : List Change) → AllValid cat changes → AllValidAt cat (map (λ x. (t, x)) changes)
 all_dated cat t [] h = tt
@@ -125,7 +95,8 @@ snapshots_valid : (s : Setting) → IsSound s.catalogue → (ts : ℕ) (l : Site
 snapshots_valid s sound ts [] first h = tt
 snapshots_valid s sound ts (Did (Records k (Answer txn attempt dm) sends) ∷ l) first h =
     let less = less_valid s.catalogue (Did (Records k (Answer txn attempt dm) sends)) l h in
-    if_way (AllByRecursion (IsEntry s.catalogue)) (is_at ts (head (pipe k l))) (flat_map (items_of s.catalogue (dated s l)) (frags_asked (head (pipe k l)))) (snapshots s ts l)
+    if_way (AllByRecursion (IsEntry s.catalogue)) (is_at ts (head (pipe k l))) (flat_map (items_of s.catalogue (dated s l)) (frags_asked (head (pipe k l))))
+    (snapshots s ts l)
     (all_gathered (IsEntry s.catalogue) (items_of s.catalogue (dated s l)) (frags_asked (head (pipe k l))) (λ f. entries_left s.catalogue sound (dated s l) (dated_valid s l first less) f))
     (snapshots_valid s sound ts l first less)
 snapshots_valid s sound ts (Did (Records k r sends) ∷ l) first h = snapshots_valid s sound ts l first (less_valid s.catalogue (Did (Records k r sends)) l h)
@@ -161,14 +132,17 @@ applies_valid g d log h valid c (Apply txn of dm ts) sends later before is a =
     let m : Msg = Write ts of txn w.0 in
     let put = head_put g c at p.rest m now.1 w.1 in
     let z : of.0 ≡ c = class_number of.0 c ts.0 put.of_class in
-    let r : IsWrite (home_setting g c) (at_home g c put.before) put.act c ts.0 txn.0 = subst (λ j. IsWrite (home_setting g c) (at_home g c put.before) put.act j ts.0 txn.0) z put.by in
+    let r : IsWrite (home_setting g c) (at_home g c put.before) put.act c ts.0 txn.0 = subst
+    (λ j. IsWrite (home_setting g c) (at_home g c put.before) put.act j ts.0 txn.0) z put.by in
     let sent = subst (λ y. slice_get (to_site (D at) (sends_of_act y)) put.place ≡ Some m) r.act_is put.there in
     let same = commit_put_is (home_setting g c) c r.bases r.attempt at put.place m sent in
     let whole : log ≡ (p.later ++ Does (D at) act ∷ put.later) ++ Does (home g.catalogue c) (commit_act g.catalogue r.bases c r.attempt) ∷ put.before =
-    p.is ∙ ap (λ k. p.later ++ Does (D at) act ∷ k) (put.is ∙ ap (λ y. put.later ++ Does (home g.catalogue c) y ∷ put.before) r.act_is) ∙ sym (append_assoc p.later (Does (D at) act ∷ put.later) (Does (home g.catalogue c) (commit_act g.catalogue r.bases c r.attempt) ∷ put.before)) in
+    p.is ∙ ap (λ k. p.later ++ Does (D at) act ∷ k) (put.is ∙ ap (λ y. put.later ++ Does (home g.catalogue c) y ∷ put.before) r.act_is)
+    ∙ sym (append_assoc p.later (Does (D at) act ∷ put.later) (Does (home g.catalogue c) (commit_act g.catalogue r.bases c r.attempt) ∷ put.before)) in
     let v = valid c r.bases r.attempt (p.later ++ Does (D at) act ∷ put.later) put.before whole r.active_is in
     let some = all_filtered (IsValid g.catalogue) (λ x. has_copy g.catalogue d x.frag.0) (effect g.catalogue (r.bases r.attempt.ts) r.attempt.text).changes v in
-    let sent_valid : AllValidAt g.catalogue (changes_in (Some m)) = subst (λ y. AllValidAt g.catalogue (changes_in (Some y))) (sym same.0) (all_dated g.catalogue r.attempt.ts (changes_to g r.bases r.attempt at) some) in
+    let sent_valid : AllValidAt g.catalogue (changes_in (Some m)) = subst (λ y. AllValidAt g.catalogue (changes_in (Some y))) (sym same.0)
+    (all_dated g.catalogue r.attempt.ts (changes_to g r.bases r.attempt at) some) in
     let top : head (pipe c before) ≡ Some m = subst (λ k. head (pipe c k) ≡ Some m) p.local_is w.1 in
     subst (λ o. AllValidAt g.catalogue (changes_in o)) (sym top) sent_valid
 applies_valid g d log h valid c r sends later before is a = cc
@@ -214,10 +188,13 @@ text_of_active : (g : Given) (c : ℕ) (log : Log) (a : Running) → IsPermitted
 text_of_active g c log a h e =
     let st = start_of_active (home_setting g c) c (at_home g c log) a (home_fair g c log h) e in
     let p = place_of_act g (home g.catalogue c) log st.later (start_at (home_setting g c) c st.before st.queued) st.before st.is in
-    let hp = permitted_before g p.later (Does (home g.catalogue c) (start_at (home_setting g c) c st.before st.queued) ∷ p.rest) (subst (IsPermitted g) p.is h) in
-    ap (txn_at g) st.number_is ∙ text_of_head g c p.rest st.queued hp.1 (subst (λ l. head_of (queue (home_setting g c) c l) ≡ Some st.queued) (sym p.local_is) st.head) ∙ ap (λ t. Some t) (sym st.text_is)
+    let hp = permitted_before g p.later (Does (home g.catalogue c) (start_at (home_setting g c) c st.before st.queued) ∷ p.rest)
+    (subst (IsPermitted g) p.is h) in
+    ap (txn_at g) st.number_is ∙ text_of_head g c p.rest st.queued hp.1
+    (subst (λ l. head_of (queue (home_setting g c) c l) ≡ Some st.queued) (sym p.local_is) st.head) ∙ ap (λ t. Some t) (sym st.text_is)
 
-pub base_is : (g : Given) (at : Site) (log : Log) (act : Act) → IsPermitted g (Does at act ∷ log) → IsRunSite at → IsBased (setting_of g at) (base_of g log) (local_of g at log) act
+pub base_is : (g : Given) (at : Site) (log : Log) (act : Act) → IsPermitted g (Does at act ∷ log) → IsRunSite at
+    → IsBased (setting_of g at) (base_of g log) (local_of g at log) act
 base_is g U log act h s = u_commit g log act h
 base_is g (T t) log act h s = t_commit g t log act h
 base_is g (D d) log act h s = absurd s
@@ -228,12 +205,15 @@ commit_valid : (g : Given) (rows : List (RelNo × Row)) (c : ℕ) (bases : Bases
 commit_valid g rows c bases a log sound fine h act valid =
     let based = base_is g (home g.catalogue c) log (commit_act g.catalogue bases c a) h (home_runs g.catalogue c) in
     let same : based.0 ≡ a = one_active (home_setting g c) c (at_home g c log) based.0 a based.1 act in
-    let changes : (effect g.catalogue (bases a.ts) a.text).changes ≡ (effect g.catalogue (base_of g log a.ts) a.text).changes = based.3 ∙ ap (λ (y : Running). (effect g.catalogue (base_of g log y.ts) y.text).changes) same in
+    let changes : (effect g.catalogue (bases a.ts) a.text).changes ≡ (effect g.catalogue (base_of g log a.ts) a.text).changes = based.3
+    ∙ ap (λ (y : Running). (effect g.catalogue (base_of g log y.ts) y.text).changes) same in
     let text : txn_at g a.txn ≡ Some a.text = text_of_active g c log a h.1 act in
     let fits = all_slice (Fits g.catalogue) g.txns (a.txn - 1) a.text (recursion_from_All (Fits g.catalogue) g.txns fine.txns_fit) text in
-    let held = all_slice (λ (t : Txn). All PutsHeld t.statements) g.txns (a.txn - 1) a.text (recursion_from_All (λ (t : Txn). All PutsHeld t.statements) g.txns fine.txns_held) text in
+    let held = all_slice (λ (t : Txn). All PutsHeld t.statements) g.txns (a.txn - 1) a.text
+    (recursion_from_All (λ (t : Txn). All PutsHeld t.statements) g.txns fine.txns_held) text in
     let entries = base_valid g log a.ts sound h.1 (all_begin g rows fine) valid in
-    subst (AllValid g.catalogue) (sym changes) (effect_changes g.catalogue sound (base_of g log a.ts) entries a.text.statements [] [] (recursion_from_All (FitsStatement g.catalogue) a.text.statements fits.statements) (recursion_from_All PutsHeld a.text.statements held) tt)
+    subst (AllValid g.catalogue) (sym changes)
+    (effect_changes g.catalogue sound (base_of g log a.ts) entries a.text.statements [] [] (recursion_from_All (FitsStatement g.catalogue) a.text.statements fits.statements) (recursion_from_All PutsHeld a.text.statements held) tt)
 
 pub commits_valid : (g : Given) (rows : List (RelNo × Row)) (log : Log) → IsSound g.catalogue → HasSoundData g rows → IsPermitted g log → CommitsValid g log
 commits_valid g rows [] sound fine h c bases a [] before is act = cc
@@ -241,7 +221,8 @@ commits_valid g rows [] sound fine h c bases a (x ∷ later) before is act = cc
 commits_valid g rows (e ∷ log) sound fine h c bases a [] before is act =
     let p : e ≡ Does (home g.catalogue c) (commit_act g.catalogue bases c a) = cc in
     let q : log ≡ before = cc in
-    let now : IsPermitted g (Does (home g.catalogue c) (commit_act g.catalogue bases c a) ∷ before) = subst (λ l. IsPermitted g (Does (home g.catalogue c) (commit_act g.catalogue bases c a) ∷ l)) q (subst (λ y. IsPermitted g (y ∷ log)) p h) in
+    let now : IsPermitted g (Does (home g.catalogue c) (commit_act g.catalogue bases c a) ∷ before) = subst
+    (λ l. IsPermitted g (Does (home g.catalogue c) (commit_act g.catalogue bases c a) ∷ l)) q (subst (λ y. IsPermitted g (y ∷ log)) p h) in
     commit_valid g rows c bases a before sound fine now act (subst (CommitsValid g) q (commits_valid g rows log sound fine h.1))
 commits_valid g rows (e ∷ log) sound fine h c bases a (x ∷ later) before is act =
     let q : log ≡ later ++ Does (home g.catalogue c) (commit_act g.catalogue bases c a) ∷ before = cc in

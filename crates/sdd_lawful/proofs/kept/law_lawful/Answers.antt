@@ -1,16 +1,15 @@
-use Rattle.sdd_invariants.specs.All.{Catalogue, history}
-use Rattle.sdd_invariants.proofs.logs.NewMarks.{lawful_permitted}
+use Rattle.sdd_lawful.proofs.All.{Catalogue, history, lawful_permitted, one_era}
 use Rattle.sdd_lawful.proofs.Named.{numbers_exist, txns_exist}
 use Rattle.sdd_lawful.proofs.Numbered.{lawful_numbered}
 use Rattle.sdd_lawful.proofs.OneEra.{keeps_eras, of_one_era}
 use Rattle.sdd_lawful.proofs.Together.{has_order, keeps_laws, no_cycle}
 use Rattle.sdd_lawful.proofs.kept.law_lawful.Goals as goal
-use Rattle.sdd_lawful.specs.Given.{one_era}
 
 pub returns-clause-laws : goal.returns-clause-laws
 returns-clause-laws g = λ given rows log sound fine submits lawful force first none.
     let permitted = lawful_permitted given log submits.once lawful in
-    keeps_laws given rows (one_era given.catalogue) log sound.catalogue fine permitted (of_one_era given log force first none) (keeps_eras given.catalogue (history log))
+    keeps_laws given rows (one_era given.catalogue) log sound.catalogue fine permitted (of_one_era given log force first none)
+    (keeps_eras given.catalogue (history log))
 
 pub returns-clause-acyclic : goal.returns-clause-acyclic
 returns-clause-acyclic g = λ given rows log sound fine submits lawful force first none.

@@ -1,9 +1,8 @@
-use Rattle.sdd_invariants.specs.All.{Catalogue, history}
+use Rattle.sdd_lawful.proofs.All.{Catalogue, history, one_era}
 use Rattle.sdd_lawful.proofs.Named.{numbers_exist, txns_exist}
 use Rattle.sdd_lawful.proofs.OneEra.{keeps_eras, of_one_era}
 use Rattle.sdd_lawful.proofs.Together.{has_order, no_cycle}
 use Rattle.sdd_lawful.proofs.kept.law_one_list.Goals as goal
-use Rattle.sdd_lawful.specs.Given.{one_era}
 
 pub returns-clause-acyclic : goal.returns-clause-acyclic
 returns-clause-acyclic g = λ given rows log sound fine permitted force first none numbered.

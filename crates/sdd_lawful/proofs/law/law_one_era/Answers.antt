@@ -1,4 +1,4 @@
-use Rattle.sdd_invariants.specs.All.{history}
+use Rattle.sdd_lawful.proofs.All.{history}
 use Rattle.sdd_lawful.proofs.OneEra.{keeps_eras, of_one_era}
 use Rattle.sdd_lawful.proofs.law.law_one_era.Goals as goal
 
