@@ -1,21 +1,12 @@
 -- A READ whose conditions are met is answered before the event is over.
-use Rattle.std.specs.List.{list_all}
-use Rattle.std.proofs.Common.{ℕ, ◌++◌, ◌∙◌, ◌∷◌, ◌≡◌, ◌≤◌, ◌⊎◌, List, None, Some, [], ap, arith, false, inl, inr, length, refl, subst, suc, sym, true}
-use Rattle.std.proofs.Math.Decide.{dec_le}
-use Rattle.sdd_invariants.specs.All.{Act, Answer, ClassNo, ClassView, Cond, D, Did, DmNo, Does, Entry, Given, IsClassHere, IsPermitted, IsReadStep, Log, Msg, Pipe, Read, Records, Setting, Site, Ts, TxnNo, Use, by_record, head, is_met, pipe, setting_of, site_due, view_of, waits}
-use Rattle.sdd_invariants.specs.site_module.SiteLog as site
-use Rattle.sdd_invariants.specs.pipe.Pipe.{passed}
-use Rattle.sdd_invariants.proofs.AreReadSteps.{class_in_view, class_not_in_view, d_step}
-use Rattle.sdd_invariants.proofs.Bools.{and_left, and_right, both, not_both, same_or_not}
-use Rattle.sdd_invariants.proofs.Processed.{not_own, passing, read_step_way}
+use Rattle.sdd_waiting.proofs.All.{Act, Answer, ClassNo, ClassView, Cond, D, Did, DmNo, Does, Entry, Given, IsAnsweredIn, IsClassHere, IsPermitted, IsReadStep, IsStuck, List, Log, Msg, None, Pipe, Read, Records, Setting, Site, Some, Ts, TxnNo, Use, [], and_left, and_right, ap, arith, both, by_record, class_in_view, class_not_in_view, d_step, dec_le, false, head, inl, inr, is_met, length, list_all, not_both, not_own, passed, passing, pipe, read_step_way, refl, same_or_not, setting_of, site_due, subst, suc, sym, true, view_of, waits, ℕ, ◌++◌, ◌∙◌, ◌∷◌, ◌≡◌, ◌≤◌, ◌⊎◌}
 use Rattle.sdd_waiting.proofs.AtModule.{IsEntryAt, acting, aside, at_module, entry_at, handed_head, handing, waits_on, waits_other}
 use Rattle.sdd_waiting.proofs.ClassSites.{HasSmallHomes}
 use Rattle.sdd_waiting.proofs.EventOver.{none_at_data}
 use Rattle.sdd_waiting.proofs.Passing.{passed_later}
 use Rattle.sdd_waiting.proofs.Rejected.{waited_answer}
 use Rattle.sdd_waiting.proofs.StuckHeads.{head_stuck}
-use Rattle.sdd_waiting.specs.Answers.{IsAnsweredIn}
-use Rattle.sdd_waiting.specs.Heads.{IsStuck}
+use Rattle.sdd_invariants.specs.site_module.SiteLog as site
 
 -- what is met stays met
 
@@ -27,7 +18,8 @@ met_later g d later log q h small e =
     let c : ℕ = q.class.0 in
     elim (dec_le (suc c) (suc (length s.catalogue.classes))) [
       | yes l ↦ (let was : passed (pipe c (at_module g d log)) q.time.0 ≡ true = subst (λ (k : ClassView). passed k.pipe q.time.0 ≡ true) (class_in_view s (at_module g d log) c l) e in
-          subst (λ (k : ClassView). passed k.pipe q.time.0 ≡ true) (sym (class_in_view s (at_module g d (later ++ log)) c l)) (passed_later g c d q.time.0 later log h (small c) was))
+          subst (λ (k : ClassView). passed k.pipe q.time.0 ≡ true) (sym (class_in_view s (at_module g d (later ++ log)) c l))
+          (passed_later g c d q.time.0 later log h (small c) was))
       | no n ↦ (let none : false ≡ true = subst (λ (k : ClassView). passed k.pipe q.time.0 ≡ true) (class_not_in_view s (at_module g d log) c (omega (arith, n))) e in cc)
     ]
 

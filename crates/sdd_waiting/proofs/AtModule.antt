@@ -1,9 +1,6 @@
 -- What an entry of the log of everything does at a data module.
-use Rattle.std.proofs.Common.{ℕ, ◌++◌, ◌==◌, ◌||◌, ◌∙◌, ◌∷◌, ◌≡◌, Bool, List, None, Option, Some, [], ap, false, if◌then◌else◌, refl, subst, true}
-use Rattle.sdd_invariants.specs.All.{Act, D, Did, DmNo, Does, Entry, Given, Handed, IsDue, IsPermitted, Log, Msg, Pipe, Rec, Records, Redeclared, Setting, Site, Submits, Ticked, goes_through, head, head_of, home_of, is_processing, is_wait, local_of, made, pipe, put, setting_of, view_of, waits, with_made}
+use Rattle.sdd_waiting.proofs.All.{Act, Bool, D, Did, DmNo, Does, Entry, Given, Handed, IsDue, IsPermitted, List, Log, Msg, None, Option, Pipe, Rec, Records, Redeclared, Site, Some, Submits, Ticked, [], allowed_act, ap, false, goes_through, head, head_of, home_of, if◌then◌else◌, is_processing, is_wait, local_of, local_step, made, maker, pipe, put, refl, setting_of, subst, true, view_of, waits, with_made, ℕ, ◌++◌, ◌==◌, ◌||◌, ◌∙◌, ◌∷◌, ◌≡◌}
 use Rattle.sdd_invariants.specs.site_module.SiteLog as site
-use Rattle.sdd_invariants.proofs.logs.EachLocal.{allowed_act}
-use Rattle.sdd_invariants.proofs.Made.{local_step, maker}
 
 abbrev pub at_module : Given → DmNo → Log → site.Log
 at_module g d log = local_of g (D d) log

@@ -1,12 +1,5 @@
 -- The sites that run classes: they are there, and have small numbers.
-use Rattle.std.specs.List.{range_with_len}
-use Rattle.std.proofs.Common.{ℕ, ◌+◌, ◌-◌, ◌<◌, ◌==◌, ◌∙◌, ◌∷◌, ◌≡◌, ◌≤◌, Bool, List, Some, [], ap, arith, cond, false, filter, inl, inr, length, refl, slice_get, subst, suc, sym, true, zero}
-use Rattle.std.proofs.Math.Decide.{dec_le}
-use Rattle.std.proofs.lemmas.List.{get_or_past}
-use Rattle.sdd_invariants.specs.All.{Catalogue, Class, Given, IsServedClass, IsSound, T, class_at, home, number_of, numbers_to, runs, setting_of, tm_no}
-use Rattle.sdd_invariants.proofs.catalog.Sound.{at_number, sound_classes, sound_whole}
-use Rattle.sdd_invariants.specs.graph.Edges.{IsClassOf}
-use Rattle.sdd_invariants.proofs.Bools.{not_zero, same_number, same_or_not}
+use Rattle.sdd_waiting.proofs.All.{Bool, Catalogue, Class, Given, IsClassOf, IsServedClass, IsSound, List, Some, T, [], ap, arith, at_number, class_at, cond, dec_le, false, filter, get_or_past, home, inl, inr, length, not_zero, number_of, numbers_to, range_with_len, refl, runs, same_number, same_or_not, setting_of, slice_get, sound_classes, sound_whole, subst, suc, sym, tm_no, true, zero, ℕ, ◌+◌, ◌-◌, ◌<◌, ◌==◌, ◌∙◌, ◌∷◌, ◌≡◌, ◌≤◌}
 
 -- a number within a range is a member of it
 pub range_there : (a n x : ℕ) → a ≤ x → x < a + n → (k : ℕ) × (slice_get (range_with_len a n) k ≡ Some x)

@@ -1,16 +1,10 @@
 -- No READ waits where each that waits does so because of another one. From one to the next the ticks never rise; where
 -- they stay, a write that is held up to a time of P2 cuts off one more class, which happens no more often than there are
 -- classes; and otherwise the timestamp falls.
-use Rattle.std.proofs.Common.{ℕ, zero, suc, ◌+◌, ◌*◌, ◌<◌, ◌≤◌, Bool, true, false, List, [], ◌∷◌, length, ◌≡◌, refl, sym, ap, subst, arith, inl, inr}
-use Rattle.std.proofs.lemmas.Bool.{cases_Bool}
-use Rattle.sdd_waiting.specs.Theorems.{NoneWaits}
-use Rattle.sdd_waiting.specs.WaitGraph.{WaitDiagonal, WaitGraph, IsDiagonal, Fits, Path}
-use Rattle.sdd_waiting.specs.WaitGraph.Arc.{waits, within, held}
-use Rattle.sdd_waiting.specs.WaitGraph.Path.{stop, go}
-use Rattle.sdd_waiting.specs.WaitingReads.{WaitingRead, IsStamped, IsTimestamp, WaitsOn, wait_time}
-use Rattle.sdd_waiting.specs.WaitingReads.WaitsOn.{reader, holder}
+use Rattle.sdd_waiting.proofs.All.{Bool, Fits, IsDiagonal, IsStamped, IsTimestamp, List, NoneWaits, Path, WaitDiagonal, WaitGraph, WaitingRead, WaitsOn, [], ap, arith, cases_Bool, false, go, held, holder, inl, inr, length, reader, refl, stop, subst, suc, sym, true, wait_time, within, zero, ℕ, ◌*◌, ◌+◌, ◌<◌, ◌∷◌, ◌≡◌, ◌≤◌}
 use Rattle.sdd_waiting.proofs.FewClasses.{AreCutOff, none_cut_off, few_cut_off, path_on, cut_off_on, one_more_cut_off}
 use Rattle.sdd_waiting.proofs.Paths.{no_path}
+use Rattle.sdd_waiting.specs.WaitGraph.Arc.{waits}
 
 -- a timestamp below the time of P2 has fewer ticks
 fewer_ticks : (r : WaitingRead) (t ticks number : ℕ) → IsStamped r → t < r.p2 → t ≡ 64 * ticks + number → ticks < r.ticks
@@ -21,8 +15,7 @@ held_ticks : (own : Bool) (q : WaitingRead) (t : ℕ) → IsStamped q → (i : I
 held_ticks true q t f i h = let a = f.least in let e = i.is in let s = i.small in omega arith
 held_ticks false q t f i h = let a = f.before in let e = i.is in let s = i.small in omega arith
 
-module _
-    (G : WaitGraph) (fits : Fits G) (W : WaitingRead → Type 0)
+module _ (G : WaitGraph) (fits : Fits G) (W : WaitingRead → Type 0)
     (stamped : (r : WaitingRead) → W r → IsStamped r) (waits_on : (r : WaitingRead) → W r → WaitsOn G W r)
   where
     -- arcs lead to the class on which a READ waits up to its own timestamp
@@ -45,8 +38,7 @@ module _
         (go (held m h on (ap G.write (sym writer)) (ap G.read (sym class))) (stop refl))
 
     -- among READs of so many ticks at most, where those of fewer are none, and these classes are cut off
-    module _
-        (v : ℕ) (none_below : (q : WaitingRead) → W q → q.ticks < v → ⊥) (classes : List ℕ)
+    module _ (v : ℕ) (none_below : (q : WaitingRead) → W q → q.ticks < v → ⊥) (classes : List ℕ)
         (with_one_more : (j : ℕ) (q : WaitingRead) → W q → q.ticks ≤ v → AreCutOff G (G.read q.class) (j ∷ classes) → ⊥)
       where
         by_reader : (r q : WaitingRead) → W r → W q → r.ticks ≤ v → AreCutOff G (G.read r.class) classes
@@ -83,7 +75,8 @@ module _
             let f = (stamped r w).most in
             let s = i.is in
             let away : ¬ Path G (G.read q.class) (G.write d.writer) =
-            λ y. no_path G fits m h on u (subst (λ z. Path G (G.read z) (G.write h.writer)) (sym class) (subst (λ z. Path G (G.read q.class) (G.write z)) (sym writer) y)) in
+            λ y. no_path G fits m h on u
+            (subst (λ z. Path G (G.read z) (G.write h.writer)) (sym class) (subst (λ z. Path G (G.read q.class) (G.write z)) (sym writer) y)) in
             with_one_more d.writer q x (omega arith)
             (one_more_cut_off G (G.read r.class) (G.read q.class) d.writer classes cut (out r n d at e own) (to_holder r q n d at e own m h on class writer) (record { class = (fits.diagonal n d at).writer; no_path = away }))
 

@@ -1,16 +1,10 @@
 -- Where an event is over, nothing is due at any site.
-use Rattle.std.specs.List.{range_with_len}
-use Rattle.std.proofs.Common.{◌∙◌, ℕ, ◌≡◌, ◌≤◌, ◌∷◌, Bool, List, None, Option, Some, [], ap, arith, false, map, refl, slice_get, suc, true}
-use Rattle.sdd_invariants.specs.All.{Act, D, Deliver, DmNo, Does, Down, Entry, Event, Given, Hand, IsLawful, IsTheLog, Log, Lose, Mark, Notes, Redeclare, Redeclares, Repeat, Resend, Round, Settle, Site, Submit, Submitted, T, Tick, TmNo, Up, base_of, does_at, due_by, first_some, hand_due, local_of, mark_due, next_at, next_mark, note_if, or_else, setting_of, site_due, sites}
+use Rattle.sdd_waiting.proofs.All.{Act, Bool, D, Deliver, DmNo, Does, Down, Entry, Event, Given, Hand, IsEventOver, IsLawful, IsTheLog, List, Log, Lose, Mark, None, Notes, Option, Redeclare, Redeclares, Repeat, Resend, Round, Settle, Site, Some, Submit, Submitted, T, Tick, TmNo, Up, [], ap, arith, at_map, base_of, begins_event, begins_or_ends, does_at, due_by, false, first_some, hand_due, in_left, in_right, local_of, map, mark_due, next_at, next_mark, no_act, not_both, note_if, or_else, range_with_len, refl, setting_of, site_due, sites, slice_get, suc, true, ℕ, ◌∙◌, ◌∷◌, ◌≡◌, ◌≤◌}
+use Rattle.sdd_waiting.proofs.ClassSites.{range_there}
+use Rattle.sdd_waiting.proofs.StuckHeads.{none_at}
 use Rattle.sdd_invariants.specs.dm.Due as dm
 use Rattle.sdd_invariants.specs.dm.Views as dm_views
 use Rattle.sdd_invariants.specs.tm.Due as tm
-use Rattle.sdd_invariants.proofs.Bools.{not_both}
-use Rattle.sdd_invariants.proofs.Holding.{at_map}
-use Rattle.sdd_invariants.proofs.Lists.{in_left, in_right}
-use Rattle.sdd_waiting.proofs.ClassSites.{range_there}
-use Rattle.sdd_waiting.proofs.StuckHeads.{none_at}
-use Rattle.sdd_waiting.specs.Answers.{IsEventOver, begins_event, begins_or_ends}
 
 -- what is due doesn't begin an event
 
@@ -92,10 +86,6 @@ pub txn_there : (tms dms : ℕ) (t : TmNo) → 1 ≤ t.0 → t.0 ≤ tms → (k 
 txn_there tms dms t l h =
     let r = range_there 1 tms t.0 l (omega arith) in
     (suc r.0, in_left (map (λ n. T (record { 0 = n })) (range_with_len 1 tms)) (map (λ n. D (record { 0 = n })) (range_with_len 1 dms)) r.0 (T t) (at_map (λ n. T (record { 0 = n })) (range_with_len 1 tms) r.0 t.0 r.1))
-
-no_act : (at : Site) (o : Option Act) → does_at at o ≡ None → o ≡ None
-no_act at None e = refl
-no_act at (Some a) e = cc
 
 none_at_site : (g : Given) (log : Log) (at : Site) (k : ℕ) → slice_get (sites g.catalogue.tms g.catalogue.dms) k ≡ Some at
     → site_due g log ≡ None → next_at g log at ≡ None

@@ -1,22 +1,10 @@
 -- What the laws say of the worked logs of specs/Examples: an undeclared query beside a put, and a query that is rejected in
 -- the event in which it comes.
-use Rattle.std.proofs.Common.{ℕ, ◌+◌, ◌++◌, ◌<◌, ◌==◌, ◌∷◌, ◌≡◌, ◌≢◌, ◌≤◌, ◌⊎◌, List, Some, [], arith, inl, inr, lit<, lit≤, refl, subst, take, true}
-use Rattle.sdd_invariants.specs.All.{AreSubmittedOnce, D, Does, IsApplied, IsPermitted, IsSound, Msg, Read, Ready, Records, Reject, Site, T, U, Write, base_of, class_no, dm_no, head, pipe_at, time_at, tm_no, txn_no, u_stamp}
+use Rattle.sdd_waiting.proofs.All.{AreSubmittedOnce, D, Does, EndsAnEvent, IsAnsweredIn, IsApplied, IsLow, IsPermitted, IsRejectedAfter, IsRejectedIn, IsSound, List, Msg, Read, Ready, Records, Reject, Rejected, Site, Some, T, U, Write, [], arith, base_of, changes_of_put, class_no, conds_of_query, conds_of_spoilt, dm_no, extended, given_put_first, given_put_later, given_spoilt, head, holds_back, in_its_event, inl, inr, lawful_permitted, lit<, lit≤, low_applied, low_or_high, one_if, one_writer, pipe_at, put_attempt, put_commits, put_first, put_handed, query_queued, read_handed, refl, same_or_not, subst, take, three_classes, time_at, tm_no, true, txn_no, u_stamp, uses_of_query, uses_of_spoilt, ℕ, ◌++◌, ◌+◌, ◌<◌, ◌==◌, ◌∷◌, ◌≡◌, ◌≤◌, ◌⊎◌}
 use Rattle.sdd_invariants.specs.catalog.Rules.{faults_of}
-use Rattle.sdd_invariants.specs.history.declared.record.Rec.TheVariants.{Reject as Rejected}
-use Rattle.sdd_invariants.specs.dm.Due.{holds_back}
-use Rattle.sdd_invariants.specs.logs.Due.{extended}
-use Rattle.sdd_invariants.specs.logs.Permitted.{one_if}
-use Rattle.sdd_invariants.proofs.logs.NewMarks.{lawful_permitted}
-use Rattle.sdd_invariants.proofs.Apart.{low_or_high}
-use Rattle.sdd_invariants.proofs.Bools.{same_or_not}
-use Rattle.sdd_invariants.proofs.Undeclared.{low_applied}
-use Rattle.sdd_invariants.specs.Barrier.{IsLow}
 use Rattle.sdd_waiting.proofs.OfLawful.{answered_or_rejected}
 use Rattle.sdd_waiting.proofs.UndeclaredReads.{holds_none, not_rejected}
-use Rattle.sdd_waiting.proofs.Worked.{made_lawful, one_at_most}
-use Rattle.sdd_waiting.specs.Answers.{EndsAnEvent, IsAnsweredIn, IsRejectedAfter, IsRejectedIn}
-use Rattle.sdd_waiting.specs.Examples.{changes_of_put, conds_of_query, conds_of_spoilt, given_put_first, given_put_later, given_spoilt, in_its_event, one_writer, put_attempt, put_commits, put_first, put_handed, query_queued, read_handed, three_classes, uses_of_query, uses_of_spoilt}
+use Rattle.sdd_waiting.proofs.Worked.{made_lawful, one_at_most, one_not_zero}
 
 pub writer_is_sound : IsSound one_writer
 unfolding faults_of
@@ -78,9 +66,6 @@ put_is_low =
 
 -- it is applied where the query is answered
 
-one_not_zero : ◌≢◌ {A = ℕ} 1 0
-one_not_zero e = cc
-
 pub put_is_seen : IsApplied given_put_first (put_first 25) (dm_no 1) 1 put_attempt
 put_is_seen =
     (low_applied given_put_first (dm_no 1) 1 0 (take 1 (put_first 27)) (put_first 25) (take 23 (put_first 27)) (put_first 3) (class_no 0)
@@ -103,7 +88,8 @@ put_is_next = refl
 
 pub put_not_held : holds_back 1 65 changes_of_put (Some (Read (time_at 128) (class_no 0) (txn_no 2) 1 conds_of_query uses_of_query)) ≡ true → ⊥
 put_not_held =
-    holds_none given_put_later 1 (dm_no 1) put_handed (time_at 128) (class_no 0) (txn_no 2) 1 conds_of_query uses_of_query (time_at 65) (class_no 1) (txn_no 1) changes_of_put
+    holds_none given_put_later 1 (dm_no 1) put_handed (time_at 128) (class_no 0) (txn_no 2) 1 conds_of_query uses_of_query (time_at 65) (class_no 1)
+    (txn_no 1) changes_of_put
     later_permitted writer_is_sound (record { from = lit≤ tt; to = lit≤ tt }) (lit≤ tt) (lit≤ tt) query_is_next put_is_next
 
 -- the query is rejected in the event in which it comes

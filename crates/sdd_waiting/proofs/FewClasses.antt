@@ -1,11 +1,6 @@
 -- Lists of different classes to whose write nodes no arcs lead: there are no more of these than classes.
-use Rattle.std.proofs.Common.{ℕ, ◌+◌, ◌≤◌, ◌≡◌, eqb, true, false, List, [], ◌∷◌, length, arith, subst, sym, inl, inr}
-use Rattle.std.specs.List.{IsDistinct, AllByRecursion, list_any}
-use Rattle.std.proofs.lemmas.Bool.{cases_Bool, eqb-true, ne_eqb}
-use Rattle.std.proofs.lemmas.Map.Keys.{IsDistinct-cons}
-use Rattle.std.proofs.lemmas.Map.Steps.{length-le_from_distinct_below}
-use Rattle.sdd_waiting.specs.WaitGraph.{WaitGraph, IsClass, Path}
-use Rattle.sdd_waiting.specs.WaitGraph.Path.{stop, go}
+use Rattle.sdd_waiting.proofs.All.{AllByRecursion, IsClass, IsDistinct-cons, List, Path, WaitGraph, [], arith, cases_Bool, eqb, eqb-true, false, go, inl, inr, length, length-le_from_distinct_below, list_any, ne_eqb, stop, subst, sym, true, ℕ, ◌+◌, ◌∷◌, ◌≡◌, ◌≤◌}
+use Rattle.std.specs.List.{IsDistinct}
 
 -- the class is one, and no arcs lead from the node to its write node
 pub record IsCutOff (G : WaitGraph) (x j : ℕ) : Type 0 where
@@ -24,7 +19,7 @@ each_weaker : {P Q : ℕ → Type 0} → ((j : ℕ) → P j → Q j) → (js : L
 each_weaker f [] all = tt
 each_weaker f (j ∷ js) all = (f j all.0, each_weaker f js all.1)
 
-member_is : (P : ℕ → Type 0) (js : List ℕ) (i : ℕ) → AllByRecursion P js → list_any (eqb i) js ≡ true → P i
+pub member_is : (P : ℕ → Type 0) (js : List ℕ) (i : ℕ) → AllByRecursion P js → list_any (eqb i) js ≡ true → P i
 member_is P [] i all e = absurd (cc)
 member_is P (j ∷ js) i all e =
     elim (cases_Bool (eqb i j)) [
@@ -32,8 +27,7 @@ member_is P (j ∷ js) i all e =
       | inr other ↦ member_is P js i all.1 (rw other at e)
     ]
 
-pub few_cut_off : (G : WaitGraph) (x : ℕ) (classes : List ℕ) → AreCutOff G x classes
-    → length classes ≤ G.classes + 1
+pub few_cut_off : (G : WaitGraph) (x : ℕ) (classes : List ℕ) → AreCutOff G x classes → length classes ≤ G.classes + 1
 few_cut_off G x classes cut =
     length-le_from_distinct_below classes (G.classes + 1) cut.differ
     (λ i e. let to = (member_is (IsCutOff G x) classes i cut.each e).class.to in omega arith)

@@ -1,17 +1,6 @@
 -- A class is free exactly where all edges at its nodes have block 0; so no diagonal from it or to it has P2 or P3.
-use Rattle.std.specs.Prelude.{option_map}
-use Rattle.std.proofs.Common.{ℕ, ◌==◌, ◌∙◌, ◌≡◌, List, Some, ap, eq-eqb, refl, slice_get, suc, sym, true, zero, map}
-use Rattle.std.proofs.lemmas.Option.{slice_get-map}
-use Rattle.sdd_invariants.specs.All.{Catalogue, ClassNo, Diagonal, FragNo, IsTable, Protocol}
-use Rattle.sdd_invariants.specs.graph.Graph.{conflict_graph, ends, read_node, write_node}
-use Rattle.sdd_invariants.proofs.protocol.Tables.{all_at}
-use Rattle.sdd_invariants.specs.protocol.Protocols.{diagonal_protocol, protocol_in, vertical_block}
+use Rattle.sdd_waiting.proofs.All.{Catalogue, ClassNo, Diagonal, FragNo, IsDiagonalIn, IsFree, IsInNoBlock, IsTable, List, P1, Protocol, Some, all_at, ap, conflict_graph, diagonal_protocol, ends, ends_at, eq-eqb, in_mapped, is_node_of, map, option_map, or_left, or_right, protocol_in, read_node, refl, slice_get, slice_get-map, suc, sym, true, vertical_block, write_node, zero, ℕ, ◌==◌, ◌∙◌, ◌≡◌}
 use Rattle.sdd_invariants.specs.protocol.declared.entry.Entry as line
-use Rattle.sdd_invariants.specs.protocol.declared.protocol.Protocol.TheVariants.{P1}
-use Rattle.sdd_invariants.proofs.Bools.{or_left, or_right}
-use Rattle.sdd_invariants.proofs.Lists.{in_mapped}
-use Rattle.sdd_waiting.specs.Conditions.{IsDiagonalIn}
-use Rattle.sdd_waiting.specs.Free.{IsFree, IsInNoBlock, ends_at, is_node_of}
 
 block_there : (table : List line.Entry) (k : ℕ) (x : line.Entry) → slice_get table k ≡ Some x
     → slice_get (map (λ (e : line.Entry). e.block) table) k ≡ Some x.block
@@ -29,7 +18,8 @@ zero_or (suc n) f = absurd (f n refl)
 
 pub free_is_in_none : (cat : Catalogue) (table : List line.Entry) (i : ℕ) → IsTable cat table → IsFree cat i → IsInNoBlock table i
 free_is_in_none cat table i t f = record {
-  in_none = λ k x h at. zero_or x.block (λ n e. f.on_none k x.edge (edge_there cat table k x t h) at (t.blocks.some k n (block_there table k x h ∙ ap (λ b. Some b) e)));
+  in_none = λ k x h at. zero_or x.block
+      (λ n e. f.on_none k x.edge (edge_there cat table k x t h) at (t.blocks.some k n (block_there table k x h ∙ ap (λ b. Some b) e)));
 }
 
 pub in_none_is_free : (cat : Catalogue) (table : List line.Entry) (i : ℕ) → IsTable cat table → IsInNoBlock table i → IsFree cat i
@@ -62,12 +52,16 @@ pub none_from : (cat : Catalogue) (table : List line.Entry) (p : Protocol) (i j 
     → IsDiagonalIn table p i j f → p ≡ P1
 none_from cat table p i j f t free d =
     let x : line.Entry = d.entry in
-    let at : ends_at i (ends x.edge) ≡ true = ap (λ e. ends_at i (ends e)) d.edge_is ∙ first_at i (ends (Diagonal d.reader d.writer f)) (ap read_node d.reader_is) in
-    sym d.protocol_is ∙ protocol_is cat table x d.place d.reader d.writer f t d.there d.edge_is ((free_is_in_none cat table i t free).in_none d.place x d.there at)
+    let at : ends_at i (ends x.edge) ≡ true = ap (λ e. ends_at i (ends e)) d.edge_is
+    ∙ first_at i (ends (Diagonal d.reader d.writer f)) (ap read_node d.reader_is) in
+    sym d.protocol_is ∙ protocol_is cat table x d.place d.reader d.writer f t d.there d.edge_is
+    ((free_is_in_none cat table i t free).in_none d.place x d.there at)
 
 pub none_to : (cat : Catalogue) (table : List line.Entry) (p : Protocol) (i j : ℕ) (f : FragNo) → IsTable cat table → IsFree cat j
     → IsDiagonalIn table p i j f → p ≡ P1
 none_to cat table p i j f t free d =
     let x : line.Entry = d.entry in
-    let at : ends_at j (ends x.edge) ≡ true = ap (λ e. ends_at j (ends e)) d.edge_is ∙ second_at j (ends (Diagonal d.reader d.writer f)) (ap write_node d.writer_is) in
-    sym d.protocol_is ∙ protocol_is cat table x d.place d.reader d.writer f t d.there d.edge_is ((free_is_in_none cat table j t free).in_none d.place x d.there at)
+    let at : ends_at j (ends x.edge) ≡ true = ap (λ e. ends_at j (ends e)) d.edge_is
+    ∙ second_at j (ends (Diagonal d.reader d.writer f)) (ap write_node d.writer_is) in
+    sym d.protocol_is ∙ protocol_is cat table x d.place d.reader d.writer f t d.there d.edge_is
+    ((free_is_in_none cat table j t free).in_none d.place x d.there at)

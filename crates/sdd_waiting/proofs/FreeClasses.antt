@@ -1,17 +1,5 @@
 -- Of a free class no attempt waits or is rejected, and what is handed over of it is processed before the event is over.
-use Rattle.std.specs.List.{list_all, list_any}
-use Rattle.std.specs.Prelude.{◌&&◌, not}
-use Rattle.std.proofs.Common.{ℕ, ◌++◌, ◌==◌, ◌∙◌, ◌∷◌, ◌≡◌, ◌≢◌, ◌≤◌, Bool, List, None, Option, Some, [], ap, append_assoc, arith, false, inl, inr, refl, slice_get, subst, sym, true}
-use Rattle.std.proofs.lemmas.Bool.{eqb-true}
-use Rattle.sdd_invariants.specs.All.{Act, Answer, Apply, Change, ClassNo, ClassView, Cond, D, DmNo, Does, Entry, Given, Hand, IsClassHere, IsPermitted, IsSound, Log, May, Msg, Read, Rec, Records, Setting, Site, Ts, TxnNo, Use, View, Write, class_no, goes_through, head, is_met, is_wait, pipe, pipe_at, setting_of, site_due, txn_no, view_of, waits}
-use Rattle.sdd_invariants.specs.history.declared.record.Rec.TheVariants.{Reject as Rejected}
-use Rattle.sdd_invariants.specs.site_module.SiteLog as site
-use Rattle.sdd_invariants.specs.dm.Due.{holds, holds_back}
-use Rattle.sdd_invariants.proofs.logs.EachLocal.{allowed_act}
-use Rattle.sdd_invariants.proofs.AreReadSteps.{class_at_place}
-use Rattle.sdd_invariants.proofs.Bools.{and_left, and_right, not_both, same_number, same_or_not}
-use Rattle.sdd_invariants.proofs.Lists.{any_at}
-use Rattle.sdd_invariants.proofs.Made.{permitted_before}
+use Rattle.sdd_waiting.proofs.All.{Answer, Apply, Bool, Change, ClassNo, ClassView, Cond, D, DmNo, Does, Entry, Given, Hand, IsAnsweredIn, IsAppliedIn, IsClassHere, IsFreeClass, IsPermitted, IsRejectOf, IsSound, IsStuck, IsWaitOf, List, Log, May, Msg, None, Option, Read, Rec, Records, Rejected, Setting, Site, Some, Ts, TxnNo, Use, View, Write, [], allowed_act, and_left, and_right, any_at, ap, append_assoc, arith, class_at_place, class_no, eqb-true, false, goes_through, head, holds, holds_back, inl, inr, is_met, is_wait, lacking, list_all, list_any, not, not_both, permitted_before, pipe, pipe_at, refl, same_number, same_or_not, setting_of, site_due, slice_get, subst, sym, true, txn_no, view_of, waits, ℕ, ◌&&◌, ◌++◌, ◌==◌, ◌∙◌, ◌∷◌, ◌≡◌, ◌≢◌, ◌≤◌}
 use Rattle.sdd_waiting.proofs.AtModule.{at_module}
 use Rattle.sdd_waiting.proofs.EventOver.{none_at_data}
 use Rattle.sdd_waiting.proofs.FreeConditions.{names_none, unconditional}
@@ -21,11 +9,7 @@ use Rattle.sdd_waiting.proofs.Rejected.{rejected, spoiler_there}
 use Rattle.sdd_waiting.proofs.StuckHeads.{head_stuck}
 use Rattle.sdd_waiting.proofs.UndeclaredReads.{holds_none}
 use Rattle.sdd_waiting.proofs.Waited.{wait_due}
-use Rattle.sdd_waiting.specs.Answers.{IsAnsweredIn, IsAppliedIn}
-use Rattle.sdd_waiting.specs.Free.{IsFreeClass}
-use Rattle.sdd_waiting.specs.Heads.{IsStuck}
-use Rattle.sdd_waiting.specs.Rejections.{IsRejectOf}
-use Rattle.sdd_waiting.specs.Waited.{IsWaitOf, lacking}
+use Rattle.sdd_invariants.specs.site_module.SiteLog as site
 
 -- no attempt waits, and none is rejected
 
@@ -36,7 +20,8 @@ pub never_waits : (g : Given) (log : Log) (i : ℕ) (d : DmNo) (r : Rec) (sends 
     → IsPermitted g (Does (D d) (Records i r sends) ∷ log) → is_wait r ≡ true → ⊥
 never_waits g log i d r sends free h w =
     let s : Setting = setting_of g (D d) in
-    let x : IsWaitOf s (at_module g d log) i (Records i r sends) = wait_due s (at_module g d log) i r sends (allowed_act g log (Does (D d) (Records i r sends)) h.0) w in
+    let x : IsWaitOf s (at_module g d log) i (Records i r sends) = wait_due s (at_module g d log) i r sends
+    (allowed_act g log (Does (D d) (Records i r sends)) h.0) w in
     let none = unconditional g log i d _ x.ts x.of x.txn x.attempt x.conds x.uses h.1 free (head_place (pipe_at g i d log) _ x.head_is) in
     nothing_lacks (view_of s (at_module g d log)) x.conds x.first x.more none x.lacks
 
@@ -57,7 +42,8 @@ held_by : (g : Given) (log : Log) (i k : ℕ) (d : DmNo) (w : Ts) (wc : ClassNo)
     → head (pipe_at g i d log) ≡ Some (Write w wc wt changes) → head (pipe_at g k d log) ≡ o → holds_back i w.0 changes o ≡ true → ⊥
 held_by g log i k d w wc wt changes None free h sound lo hi e f b = cc
 held_by g log i k d w wc wt changes (Some (Read ts of txn n ds us)) free h sound lo hi e f b = elim (same_or_not k 0) [
-  | inl z ↦ holds_none g i d log ts of txn n ds us w wc wt changes h sound free.class lo hi (subst (λ j. head (pipe_at g j d log) ≡ Some (Read ts of txn n ds us)) z f) e b
+  | inl z ↦ holds_none g i d log ts of txn n ds us w wc wt changes h sound free.class lo hi
+      (subst (λ j. head (pipe_at g j d log) ≡ Some (Read ts of txn n ds us)) z f) e b
   | inr z ↦ (let a = any_at (holds i w.0 changes) ds b in
       let class : a.1.class.0 ≡ i = eqb-true a.1.class.0 i (and_left _ _ a.3) in
       let zero_not : k ≢ 0 = λ p. let q : (k == 0) ≡ true = ap (λ y. y == 0) p in not_both (k == 0) q z in
@@ -139,7 +125,8 @@ answered_by_end g i d from n later log ts of txn attempt conds uses free sound l
     let m : Msg = Read ts of txn attempt conds uses in
     let handed : Log = Hand from (D d) n m ∷ log in
     let through : goes_through i m ≡ true = ap (λ k. k == i) class ∙ same_number i in
-    let p : IsProcessedIn g handed d i m later = processed_by_end g d i from n m later log h through (none_at_head g (later ++ handed) i d free h sound lo hi none) in
+    let p : IsProcessedIn g handed d i m later = processed_by_end g d i from n m later log h through
+    (none_at_head g (later ++ handed) i d free h sound lo hi none) in
     let hb : IsPermitted g (p.before ++ handed) = permitted_within g later handed p.later (Does (D d) (Records i p.rec p.sends)) p.before h p.is in
     let empty = unconditional g (p.before ++ handed) i d _ ts of txn attempt conds uses hb free (head_place (pipe_at g i d (p.before ++ handed)) m p.head_is) in
     let l : site.Log = at_module g d (p.before ++ handed) in
@@ -154,7 +141,8 @@ applied_by_end g i d from n later log ts of txn changes free sound lo hi class h
     let m : Msg = Write ts of txn changes in
     let handed : Log = Hand from (D d) n m ∷ log in
     let through : goes_through i m ≡ true = ap (λ k. k == i) class ∙ same_number i in
-    let p : IsProcessedIn g handed d i m later = processed_by_end g d i from n m later log h through (none_at_head g (later ++ handed) i d free h sound lo hi none) in
+    let p : IsProcessedIn g handed d i m later = processed_by_end g d i from n m later log h through
+    (none_at_head g (later ++ handed) i d free h sound lo hi none) in
     let l : site.Log = at_module g d (p.before ++ handed) in
     let a = write_applied (view_of (setting_of g (D d)) l) i (waits i l) ts of txn changes p.rec p.may in
     apply_in d i txn ts later p.later p.before p.rec of a.0 p.sends p.is a.1

@@ -1,13 +1,8 @@
 -- A READ of a free class has no conditions, and no condition of another declared class names it.
-use Rattle.std.proofs.Common.{ℕ, ◌∷◌, ◌≡◌, ◌≢◌, List, Some, [], ap, arith, inl, inr, refl, slice_get, subst, suc, zero}
-use Rattle.std.specs.Prelude.{slice_index_or}
-use Rattle.sdd_invariants.specs.All.{ClassNo, Cond, DmNo, Force, FragNo, Given, IsPermitted, Log, P2, P3, Protocol, Read, Ts, TxnNo, Use, all_of, force_at, pipe_at}
-use Rattle.sdd_invariants.specs.protocol.declared.entry.Entry as line
-use Rattle.sdd_invariants.specs.protocol.declared.protocol.Protocol.TheVariants.{P1}
+use Rattle.sdd_waiting.proofs.All.{ClassNo, Cond, DmNo, Force, FragNo, Given, IsDiagonalIn, IsFreeClass, IsFromTable, IsPermitted, List, Log, P1, P2, P3, Protocol, Read, Some, Ts, TxnNo, Use, [], all_of, ap, arith, force_at, inl, inr, pipe_at, refl, slice_get, slice_index_or, subst, suc, zero, ℕ, ◌∷◌, ◌≡◌, ◌≢◌}
 use Rattle.sdd_waiting.proofs.FreeBlocks.{none_from, none_to}
 use Rattle.sdd_waiting.proofs.FromTable.{conditions_of}
-use Rattle.sdd_waiting.specs.Conditions.{IsDiagonalIn, IsFromTable}
-use Rattle.sdd_waiting.specs.Free.{IsFreeClass}
+use Rattle.sdd_invariants.specs.protocol.declared.entry.Entry as line
 
 third_not : {A : Type 0} → P3 ≡ P1 → A
 third_not e = cc

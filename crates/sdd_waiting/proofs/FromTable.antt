@@ -1,19 +1,7 @@
 -- The conditions of a READ of a declared class come from the table that was in force at its Start.
-use Rattle.std.specs.List.{cons_option}
-use Rattle.std.specs.Option.{option_or}
-use Rattle.std.specs.Prelude.{filter_map}
-use Rattle.std.proofs.Common.{ℕ, ◌&&◌, ◌++◌, ◌==◌, ◌∙◌, ◌∷◌, ◌≡◌, ◌≢◌, ◌⊎◌, Bool, List, None, Option, Some, [], ap, cond, false, inl, inr, map, refl, slice_get, subst, suc, sym, true, zero}
-use Rattle.std.proofs.lemmas.Bool.{eqb-true}
-use Rattle.sdd_invariants.specs.All.{Catalogue, ClassNo, Cond, D, Deliver, Diagonal, Did, DmNo, Does, Down, Edge, FragNo, Given, Hand, Handed, Horizontal, IsPermitted, IsPutAt, IsRead, Log, Lose, Mark, Msg, Notes, P2, P3, Protocol, Queued, Read, Redeclare, Redeclares, Repeat, Resend, Round, Setting, Settle, Site, Submit, Submits, Submitted, T, Tick, Ticked, TmNo, Ts, Txn, TxnNo, Up, Use, Vertical, all_of, ascending, asked_by, asked_in, asked_on, bound, class_at, class_puts, classes_of, cond_for, cond_of, condition_on, conditions, conditions_at, force_at, frag_no, fragments_in, home, in_force, is_asked, local_of, next_stamp, pipe_at, redeclares, same_protocol, same_site, sends_of_act, setting_of, start_at, start_read, tm_no, to_site, txn_at, uses_of, with_submit}
+use Rattle.sdd_waiting.proofs.All.{AllDiagonalsIn, AreConditionsOf, Bool, Catalogue, ClassNo, Cond, D, Deliver, Diagonal, Did, DmNo, Does, Down, Edge, FragNo, Given, Hand, Handed, Horizontal, IsFromTable, IsPermitted, IsPutAt, IsRead, List, Log, Lose, Mark, Msg, None, Notes, Option, P1, P2, P3, Protocol, Queued, Read, Redeclare, Redeclares, Repeat, Resend, Round, Setting, Settle, Site, Some, Submit, Submitted, T, Tick, Ticked, TmNo, Ts, Txn, TxnNo, Up, Use, Vertical, [], all_of, and_left, and_right, ap, ascending, asked_by, asked_in, asked_on, bound, class_at, class_number, class_puts, classes_of, cond, cond_for, cond_of, condition_on, conditions, conditions_at, cons_option, eqb-true, false, filter_map, force_at, frag_no, fragments_in, home, if_way, in_force, in_left, in_none, in_one, in_pipe, inl, inr, is_asked, local_of, map, next_stamp, option_or, origin, pipe_at, redeclares, refl, same_or_not, same_protocol, same_site, sends_of_act, setting_of, slice_get, start_at, start_puts, start_read, subst, suc, sym, tm_no, to_site, true, txn_at, uses_of, with_submit, zero, ℕ, ◌&&◌, ◌++◌, ◌==◌, ◌∙◌, ◌∷◌, ◌≡◌, ◌≢◌, ◌⊎◌}
 use Rattle.sdd_invariants.specs.protocol.declared.entry.Entry as line
-use Rattle.sdd_invariants.specs.protocol.declared.protocol.Protocol.TheVariants.{P1}
 use Rattle.sdd_invariants.specs.site_module.SiteLog as site
-use Rattle.sdd_invariants.proofs.Bools.{and_left, and_right, if_way, same_or_not}
-use Rattle.sdd_invariants.proofs.InPipe.{in_pipe}
-use Rattle.sdd_invariants.proofs.Installed.{class_number, origin}
-use Rattle.sdd_invariants.proofs.Lists.{in_left, in_none, in_one}
-use Rattle.sdd_invariants.proofs.ReadsPut.{start_puts}
-use Rattle.sdd_waiting.specs.Conditions.{AllDiagonalsIn, AreConditionsOf, IsFromTable}
 
 -- the classes in force at a transaction module are those of the list that was put in force last
 
@@ -25,7 +13,8 @@ force_there : (g : Given) (t : TmNo) (log : Log) → in_force (setting_of g (T t
 force_there g t [] = refl
 force_there g t (Mark (Tick u n) ∷ log) =
     let l : site.Log = local_of g (T t) log in
-    if_way (λ (x : site.Log). in_force (setting_of g (T t)) x ≡ force_at g (redeclares log)) (same_site (T t) (T u)) (Ticked n ∷ l) l (force_there g t log) (force_there g t log)
+    if_way (λ (x : site.Log). in_force (setting_of g (T t)) x ≡ force_at g (redeclares log)) (same_site (T t) (T u)) (Ticked n ∷ l) l (force_there g t log)
+    (force_there g t log)
 force_there g t (Mark (Submit k) ∷ log) = force_there g t log
 force_there g t (Mark (Deliver a b k) ∷ log) = force_there g t log
 force_there g t (Mark (Lose a b k) ∷ log) = force_there g t log
@@ -39,14 +28,17 @@ force_there g t (Round es ∷ log) = force_there g t log
 force_there g t (Redeclares u ∷ log) = refl
 force_there g t (Hand from to n m ∷ log) =
     let l : site.Log = local_of g (T t) log in
-    if_way (λ (x : site.Log). in_force (setting_of g (T t)) x ≡ force_at g (redeclares log)) (same_site (T t) to) (Handed from m ∷ l) l (force_there g t log) (force_there g t log)
+    if_way (λ (x : site.Log). in_force (setting_of g (T t)) x ≡ force_at g (redeclares log)) (same_site (T t) to) (Handed from m ∷ l) l (force_there g t log)
+    (force_there g t log)
 force_there g t (Submitted to n ∷ log) =
     let l : site.Log = local_of g (T t) log in
-    if_way (λ (x : site.Log). in_force (setting_of g (T t)) x ≡ force_at g (redeclares log)) (same_site (T t) to) (with_submit n (txn_at g n) l) l (after_submit (setting_of g (T t)) n (txn_at g n) l ∙ force_there g t log) (force_there g t log)
+    if_way (λ (x : site.Log). in_force (setting_of g (T t)) x ≡ force_at g (redeclares log)) (same_site (T t) to) (with_submit n (txn_at g n) l) l
+    (after_submit (setting_of g (T t)) n (txn_at g n) l ∙ force_there g t log) (force_there g t log)
 force_there g t (Notes ∷ log) = force_there g t log
 force_there g t (Does by act ∷ log) =
     let l : site.Log = local_of g (T t) log in
-    if_way (λ (x : site.Log). in_force (setting_of g (T t)) x ≡ force_at g (redeclares log)) (same_site (T t) by) (Did act ∷ l) l (force_there g t log) (force_there g t log)
+    if_way (λ (x : site.Log). in_force (setting_of g (T t)) x ≡ force_at g (redeclares log)) (same_site (T t) by) (Did act ∷ l) l (force_there g t log)
+    (force_there g t log)
 
 force_of_class : (g : Given) (c : ℕ) (log : Log) → c ≢ 0
     → in_force (setting_of g (home g.catalogue c)) (local_of g (home g.catalogue c) log) ≡ force_at g (redeclares log)
@@ -184,16 +176,20 @@ conditions_by g log c d ts of txn attempt conds uses n p =
     let l : site.Log = local_of g at p.before in
     let same : of.0 ≡ c = class_number of.0 c ts.0 p.of_class in
     let r : IsRead s l p.act c ts.0 txn.0 attempt = subst (λ j. IsRead s l p.act j ts.0 txn.0 attempt) same p.by in
-    let there : slice_get (to_site (D d) (sends_of_act (start_at s c l r.queued))) p.place ≡ Some (Read ts of txn attempt conds uses) = subst (λ x. slice_get (to_site (D d) (sends_of_act x)) p.place ≡ Some (Read ts of txn attempt conds uses)) r.act_is p.there in
+    let there : slice_get (to_site (D d) (sends_of_act (start_at s c l r.queued))) p.place ≡ Some (Read ts of txn attempt conds uses) = subst
+    (λ x. slice_get (to_site (D d) (sends_of_act x)) p.place ≡ Some (Read ts of txn attempt conds uses)) r.act_is p.there in
     let i = start_conds s (D d) l c r.queued p.place ts of txn attempt conds uses there in
-    let by_stamp : (k : ℕ) (q : Cond) → slice_get conds k ≡ Some q → IsFromTable (in_force s l).table c (next_stamp s l) (bound s l) q = λ k q e. from_table g.catalogue (in_force s l).table c (frags_asked s r.queued) (next_stamp s l) (bound s l) i.0 k q n (subst (λ ds. slice_get ds k ≡ Some q) (sym i.1) e) in
+    let by_stamp : (k : ℕ) (q : Cond) → slice_get conds k ≡ Some q → IsFromTable (in_force s l).table c (next_stamp s l)
+    (bound s l) q = λ k q e. from_table g.catalogue (in_force s l).table c (frags_asked s r.queued) (next_stamp s l) (bound s l) i.0 k q n
+    (subst (λ ds. slice_get ds k ≡ Some q) (sym i.1) e) in
     record {
       later = p.later;
       before = p.before;
       queued = r.queued;
       is = p.is ∙ ap (λ x. p.later ++ Does at x ∷ p.before) r.act_is;
       ts_is = r.time_is;
-      from_table = λ k q e. subst (λ f. IsFromTable f.table c ts.0 (bound s l) q) (force_of_class g c p.before n) (subst (λ t. IsFromTable (in_force s l).table c t (bound s l) q) (sym r.time_is) (by_stamp k q e));
+      from_table = λ k q e. subst (λ f. IsFromTable f.table c ts.0 (bound s l) q) (force_of_class g c p.before n)
+          (subst (λ t. IsFromTable (in_force s l).table c t (bound s l) q) (sym r.time_is) (by_stamp k q e));
     }
 
 -- wherever it stands in a pipe
@@ -203,7 +199,8 @@ pub conditions_of : (g : Given) (log : Log) (c : ℕ) (d : DmNo) (k : ℕ) (ts :
 conditions_of g log c d k ts of txn attempt conds uses h n e =
     let m : Msg = Read ts of txn attempt conds uses in
     let i = in_pipe g c d log h in
-    let there : slice_get (class_puts g c d log) k ≡ Some m = subst (λ ms. slice_get ms k ≡ Some m) (sym i.1) (in_left (all_of (pipe_at g c d log)) i.0 k m e) in
+    let there : slice_get (class_puts g c d log) k ≡ Some m = subst (λ ms. slice_get ms k ≡ Some m) (sym i.1)
+    (in_left (all_of (pipe_at g c d log)) i.0 k m e) in
     conditions_by g log c d ts of txn attempt conds uses n (origin g c d log k m h there)
 
 -- and by the act that put the READ

@@ -1,15 +1,13 @@
 -- Where nothing is due at a transaction module that isn't on hold, an idle class has no queue.
-use Rattle.std.proofs.Common.{ℕ, ◌∷◌, ◌≡◌, List, None, Option, Some, [], false, refl, slice_get, subst, sym}
-use Rattle.sdd_invariants.specs.All.{Bases, Catalogue, Given, IsSound, Queued, Setting, T, TmNo, active, base_of, class_at, class_view, exchange_due, first_some, head_of, home, local_of, on_hold, queue, runs, setting_of, site_due, start_due, start_of, tm_no}
-use Rattle.sdd_invariants.specs.graph.Edges.{IsClassOf}
+use Rattle.sdd_waiting.proofs.All.{Bases, Catalogue, Given, IsClassOf, IsSound, List, None, Option, Queued, Setting, Some, T, TmNo, [], active, at_map, base_of, class_at, exchange_due, false, first_some, head_of, held_due, home, local_of, neither_some, null_due, on_hold, queue, refl, runs, setting_of, site_due, slice_get, start_due, start_of, subst, sym, tm_no, ℕ, ◌∷◌, ◌≡◌}
+use Rattle.sdd_waiting.proofs.EventOver.{none_at_txn}
+use Rattle.sdd_waiting.proofs.StuckHeads.{none_at}
+use Rattle.sdd_waiting.proofs.ClassSites.{class_served, home_of_class, in_runs}
+use Rattle.sdd_invariants.specs.All.{class_view}
 use Rattle.sdd_invariants.specs.site_module.SiteLog.{Log}
-use Rattle.sdd_invariants.specs.tm.Due.{due, held_due, null_due}
+use Rattle.sdd_invariants.specs.tm.Due.{due}
 use Rattle.sdd_invariants.specs.tm.Views.{View, view_of}
 use Rattle.sdd_invariants.specs.logs.Entries as all
-use Rattle.sdd_invariants.proofs.Holding.{at_map}
-use Rattle.sdd_waiting.proofs.EventOver.{none_at_txn}
-use Rattle.sdd_waiting.proofs.StuckHeads.{neither_some, none_at}
-use Rattle.sdd_waiting.proofs.ClassSites.{class_served, home_of_class, in_runs}
 
 no_start : (cat : Catalogue) (v : View) (c : ℕ) (o : Option Queued) → start_of cat v c o ≡ None → o ≡ None
 no_start cat v c None e = refl
@@ -26,7 +24,8 @@ no_queue s bases log c j there e off idle =
     let nulls = (neither_some (first_some (exchange_due s.catalogue bases) v.classes) _ e).1 in
     let helds = (neither_some (first_some (null_due v) v.classes) _ nulls).1 in
     let starts = (neither_some (held_due v) (first_some (start_due s.catalogue v) v.classes) helds).1 in
-    let here : start_due s.catalogue v (class_view s log c) ≡ None = none_at (start_due s.catalogue v) v.classes j (class_view s log c) starts (at_map (class_view s log) (runs s) j c there) in
+    let here : start_due s.catalogue v (class_view s log c) ≡ None = none_at (start_due s.catalogue v) v.classes j (class_view s log c) starts
+    (at_map (class_view s log) (runs s) j c there) in
     let opened : start_of s.catalogue v c (head_of (queue s c log)) ≡ None = rw (off, idle) at here in
     empty_of (queue s c log) (no_start s.catalogue v c (head_of (queue s c log)) opened)
 

@@ -1,13 +1,6 @@
 -- A READ whose conditions are met, that doesn't wait and isn't spoilt, is answered before the event is over, or rejected
 -- after an Apply that spoils it.
-use Rattle.std.specs.List.{list_all}
-use Rattle.std.proofs.Common.{ℕ, ◌++◌, ◌∙◌, ◌∷◌, ◌≡◌, ◌≤◌, ◌⊎◌, Bool, List, None, Some, [], ap, cond, false, filter, inl, inr, not, refl, slice_get, subst, suc, sym, true, zero}
-use Rattle.sdd_invariants.specs.All.{Act, Answer, ClassNo, Cond, D, Did, DmNo, Does, Entry, Given, IsClassHere, IsDue, IsPermitted, IsReadStep, Log, May, Msg, Pipe, Read, Rec, Records, Setting, Site, Ts, TxnNo, Use, View, by_record, head, head_of, home_of, is_met, is_processing, is_wait, pipe, setting_of, site_due, spoiler, spoils, txn_no, view_of, waits}
-use Rattle.sdd_invariants.specs.history.declared.record.Rec.TheVariants.{Reject as Rejected}
-use Rattle.sdd_invariants.specs.site_module.SiteLog as site
-use Rattle.sdd_invariants.proofs.AreReadSteps.{d_step}
-use Rattle.sdd_invariants.proofs.Bools.{and_left, and_right, same_or_not}
-use Rattle.sdd_invariants.proofs.Processed.{not_own, passing, read_step_way}
+use Rattle.sdd_waiting.proofs.All.{Act, Answer, Bool, ClassNo, Cond, D, Did, DmNo, Does, Entry, Given, IsAnsweredIn, IsClassHere, IsDue, IsPermitted, IsReadStep, IsRejectedAfter, IsRejectedIn, IsWaitOf, List, Log, May, Msg, None, Pipe, Read, Rec, Records, Rejected, Setting, Site, Some, Ts, TxnNo, Use, View, [], and_left, and_right, ap, by_record, cond, d_step, false, filter, head, head_of, home_of, inl, inr, is_met, is_processing, is_wait, lacking, list_all, not, not_own, passing, pipe, read_step_way, refl, same_or_not, setting_of, site_due, slice_get, spoiler, spoils, subst, suc, sym, true, txn_no, view_of, waits, zero, ℕ, ◌++◌, ◌∙◌, ◌∷◌, ◌≡◌, ◌≤◌, ◌⊎◌}
 use Rattle.sdd_waiting.proofs.Answered.{Answers, all_met_later, answered_now, answered_on, no_ready_head}
 use Rattle.sdd_waiting.proofs.AtModule.{IsEntryAt, acting, aside, at_module, entry_at, handed_head, handing, waits_other}
 use Rattle.sdd_waiting.proofs.ClassSites.{HasSmallHomes}
@@ -16,8 +9,7 @@ use Rattle.sdd_waiting.proofs.Rejected.{processing_of, spoiler_there}
 use Rattle.sdd_waiting.proofs.Spoilt.{spoilt_in}
 use Rattle.sdd_waiting.proofs.StuckHeads.{head_stuck}
 use Rattle.sdd_waiting.proofs.Waited.{wait_due}
-use Rattle.sdd_waiting.specs.Answers.{IsAnsweredIn, IsRejectedAfter, IsRejectedIn}
-use Rattle.sdd_waiting.specs.Waited.{IsWaitOf, lacking}
+use Rattle.sdd_invariants.specs.site_module.SiteLog as site
 
 abbrev HeadIs : site.Log → ℕ → Msg → Type 0
 HeadIs l c m = (waits c l ≡ false) × (head (pipe c l) ≡ Some m)
@@ -169,7 +161,8 @@ stays_or_done : (g : Given) (d : DmNo) (c : ℕ) (later log : Log) (ts : Ts) (of
 stays_or_done g d c [] log ts of txn attempt conds uses h small clean met w = inl w
 stays_or_done g d c (e ∷ later) log ts of txn attempt conds uses h small clean met w =
     elim (stays_or_done g d c later log ts of txn attempt conds uses h.1 small clean met w) [
-      | inl x ↦ judged_entry g d c e later log ts of txn attempt conds uses h.1 clean (all_met_later g d later log conds h.1 small met) x (entry_at g d (later ++ log) e h)
+      | inl x ↦ judged_entry g d c e later log ts of txn attempt conds uses h.1 clean (all_met_later g d later log conds h.1 small met) x
+          (entry_at g d (later ++ log) e h)
       | inr x ↦ inr (done_on g log d c txn attempt conds e later x)
     ]
 

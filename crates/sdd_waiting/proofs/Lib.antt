@@ -1,3 +1,4 @@
+mod All
 pub mod Answered
 pub mod AtModule
 pub mod ClassSites

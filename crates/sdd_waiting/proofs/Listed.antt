@@ -1,13 +1,6 @@
 -- Each diagonal of P2 and P3 is one of the graph of waits.
-use Rattle.std.proofs.Common.{ℕ, zero, suc, Bool, true, false, List, [], ◌∷◌, ◌≡◌, Option, Some, None, refl, ap, ◌∙◌}
-use Rattle.std.specs.Prelude.{slice_get}
-use Rattle.std.specs.List.{cons_option}
-use Rattle.std.proofs.lemmas.Option.{same_Some}
-use Rattle.sdd_invariants.specs.All.{ClassNo, Diagonal, Edge, FragNo, Protocol}
+use Rattle.sdd_waiting.proofs.All.{Bool, ClassNo, Diagonal, DiagonalsListed, Edge, FragNo, List, None, Option, Protocol, Some, WaitDiagonal, [], ap, cons_option, diagonal_at, diagonals, false, refl, same_Some, slice_get, suc, true, wait_protocol, zero, ℕ, ◌∙◌, ◌∷◌, ◌≡◌}
 use Rattle.sdd_invariants.specs.protocol.declared.entry.Entry.{Entry}
-use Rattle.sdd_waiting.specs.Theorems.{DiagonalsListed}
-use Rattle.sdd_waiting.specs.WaitGraph.{WaitDiagonal}
-use Rattle.sdd_waiting.specs.WaitGraphs.{diagonal_at, diagonals, wait_protocol}
 
 made : ℕ → ℕ → ℕ → Bool → WaitDiagonal
 made reader writer k own = record { reader = reader; writer = writer; edge = k; own = own }

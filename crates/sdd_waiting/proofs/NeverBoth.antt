@@ -1,20 +1,10 @@
 -- An attempt that had a Wait at a module has no Reject there.
-use Rattle.std.proofs.Common.{ℕ, ◌++◌, ◌∙◌, ◌∷◌, ◌≡◌, ◌≤◌, List, Some, ap, append_assoc, inl, inr, refl, subst, sym, true}
-use Rattle.sdd_invariants.specs.All.{Act, Answer, ClassNo, Cond, D, Did, DmNo, Does, Given, IsPermitted, IsReadStep, Log, May, Msg, Null, Pipe, Read, Records, Setting, Site, Ts, TxnNo, Use, View, Wait, Write, head, home, number_of, pipe, setting_of, txn_no, view_of, waits}
-use Rattle.sdd_invariants.specs.history.declared.record.Rec.TheVariants.{Reject as Rejected}
-use Rattle.sdd_invariants.specs.site_module.SiteLog as site
-use Rattle.sdd_invariants.proofs.logs.EachLocal.{allowed_act}
-use Rattle.sdd_invariants.proofs.AreReadSteps.{d_step}
-use Rattle.sdd_invariants.proofs.Bools.{not_both, same_number}
-use Rattle.sdd_invariants.proofs.Made.{own_act, permitted_before}
-use Rattle.sdd_invariants.proofs.Once.{answered_once}
-use Rattle.sdd_invariants.proofs.Processed.{not_own}
+use Rattle.sdd_waiting.proofs.All.{Act, Answer, ClassNo, Cond, D, Did, DmNo, Does, Given, IsPermitted, IsReadStep, IsRejectOf, IsWaitOf, List, Log, May, Msg, Null, Pipe, Read, Records, Rejected, Setting, Site, Some, Ts, TxnNo, Use, View, Wait, Write, allowed_act, answered_once, ap, append_assoc, d_step, head, home, inl, inr, not_both, not_own, number_of, own_act, permitted_before, pipe, refl, same_number, setting_of, subst, sym, true, txn_no, view_of, waits, ℕ, ◌++◌, ◌∙◌, ◌∷◌, ◌≡◌, ◌≤◌}
 use Rattle.sdd_waiting.proofs.Answered.{waits_or_answered}
 use Rattle.sdd_waiting.proofs.AtModule.{at_module}
 use Rattle.sdd_waiting.proofs.Rejected.{IsProcessing, processing_of, rejected}
 use Rattle.sdd_waiting.proofs.Waited.{wait_due}
-use Rattle.sdd_waiting.specs.Rejections.{IsRejectOf}
-use Rattle.sdd_waiting.specs.Waited.{IsWaitOf}
+use Rattle.sdd_invariants.specs.site_module.SiteLog as site
 
 -- the READ that an Answer answers
 
@@ -50,7 +40,8 @@ after_wait : (c : ℕ) (txn : TxnNo) (attempt : ℕ) (dm : DmNo) (conds : List C
     → (waits c k ≡ true) × (head (pipe c k) ≡ Some m)
 after_wait c txn attempt dm conds sends l k m e h =
     let waits_then : waits c (Did (Records c (Wait txn attempt dm conds) sends) ∷ l) ≡ true = rw (same_number c) refl in
-    let head_then : head (pipe c (Did (Records c (Wait txn attempt dm conds) sends) ∷ l)) ≡ Some m = ap (λ (p : Pipe). head p) (not_own c c (Wait txn attempt dm conds) sends l (inr refl)).pipe_same ∙ h in
+    let head_then : head (pipe c (Did (Records c (Wait txn attempt dm conds) sends) ∷ l)) ≡ Some m = ap (λ (p : Pipe). head p)
+    (not_own c c (Wait txn attempt dm conds) sends l (inr refl)).pipe_same ∙ h in
     (subst (λ x. waits c x ≡ true) (sym e) waits_then, subst (λ x. head (pipe c x) ≡ Some m) (sym e) head_then)
 
 txn_waited : Act → TxnNo → TxnNo
@@ -72,7 +63,8 @@ never_both g d c later before txn other attempt another dm dm2 conds by write se
     let l : site.Log = at_module g d before in
     let hw : IsPermitted g log = permitted_before g later log h.1 in
     let x : IsWaitOf s l c act = wait_due s l c (Wait txn attempt dm conds) sends (allowed_act g before (Does (D d) act) hw.0) refl in
-    let w = after_wait c txn attempt dm conds sends l (at_module g d log) (Read x.ts x.of x.txn x.attempt x.conds x.uses) (own_act g (D d) act before) x.head_is in
+    let w = after_wait c txn attempt dm conds sends l (at_module g d log) (Read x.ts x.of x.txn x.attempt x.conds x.uses)
+    (own_act g (D d) act before) x.head_is in
     let r : IsRejectOf g (later ++ log) d c other another by write = rejected g (later ++ log) d c other another dm2 by write more h in
     let txn_is : txn ≡ x.txn = ap (λ a. txn_waited a txn) x.act_is in
     let attempt_is : attempt ≡ x.attempt = ap attempt_waited x.act_is in
@@ -83,8 +75,10 @@ never_both g d c later before txn other attempt another dm dm2 conds by write se
           let whole : later ++ log ≡ y.later ++ Does (D d) ans ∷ part = ap (λ k. k ++ log) y.is ∙ append_assoc y.later (Does (D d) ans ∷ y.before) log in
           let ha : IsPermitted g (y.later ++ Does (D d) ans ∷ part) = subst (IsPermitted g) whole h.1 in
           let hb : IsPermitted g (Does (D d) ans ∷ part) = permitted_before g y.later (Does (D d) ans ∷ part) ha in
-          let q : IsReadAt (at_module g d part) c x.txn x.attempt = read_answered s (at_module g d part) c x.txn x.attempt y.dm y.sends (d_step s (at_module g d part) ans (allowed_act g part (Does (D d) ans) hb.0)) in
-          let last : head (pipe c (at_module g d (y.later ++ Does (D d) ans ∷ part))) ≡ Some (Read r.ts r.of other another r.conds r.uses) = subst (λ k. head (pipe c (at_module g d k)) ≡ Some (Read r.ts r.of other another r.conds r.uses)) whole r.head_is in
+          let q : IsReadAt (at_module g d part) c x.txn x.attempt = read_answered s (at_module g d part) c x.txn x.attempt y.dm y.sends
+          (d_step s (at_module g d part) ans (allowed_act g part (Does (D d) ans) hb.0)) in
+          let last : head (pipe c (at_module g d (y.later ++ Does (D d) ans ∷ part))) ≡ Some (Read r.ts r.of other another r.conds r.uses) = subst
+          (λ k. head (pipe c (at_module g d k)) ≡ Some (Read r.ts r.of other another r.conds r.uses)) whole r.head_is in
           answered_once g c d y.later part y.dm y.sends q.ts r.ts q.of r.of x.txn other x.attempt another q.conds r.conds q.uses r.uses ha small q.head_is last
           (ap (λ (k : TxnNo). k.0) (sym txn_is) ∙ same) (sym attempt_is ∙ again))
     ]

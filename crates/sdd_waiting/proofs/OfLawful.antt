@@ -1,18 +1,12 @@
 -- The laws of answers and of free classes, of lawful logs at whose end an event is over.
-use Rattle.std.specs.List.{list_all}
-use Rattle.std.proofs.Common.{ℕ, ◌++◌, ◌∷◌, ◌≡◌, ◌≤◌, ◌⊎◌, List, None, Some, [], arith, false, length, true}
-use Rattle.sdd_invariants.specs.All.{Change, ClassNo, Cond, D, DmNo, Given, Hand, IsClassHere, IsPermitted, Log, Read, Site, Ts, TxnNo, Use, Write, active, head, home, is_met, local_of, pipe_at, queue, setting_of, spoiler, view_of, waits}
-use Rattle.sdd_invariants.specs.graph.Edges.{IsClassOf}
-use Rattle.sdd_invariants.specs.tm.Views as tm
-use Rattle.sdd_invariants.proofs.logs.NewMarks.{lawful_permitted}
-use Rattle.sdd_waiting.proofs.Answered as ready
+use Rattle.sdd_waiting.proofs.All.{Change, ClassNo, Cond, D, DmNo, EndsAnEvent, Given, Hand, IsAnsweredIn, IsAppliedIn, IsClassHere, IsClassOf, IsFreeClass, IsPermitted, IsRejectedAfter, List, Log, None, Read, Site, Some, Ts, TxnNo, Use, Write, [], active, arith, false, head, home, is_met, lawful_permitted, length, list_all, local_of, pipe_at, queue, setting_of, spoiler, true, view_of, waits, ℕ, ◌++◌, ◌∷◌, ◌≡◌, ◌≤◌, ◌⊎◌}
 use Rattle.sdd_waiting.proofs.ClassSites.{small_homes}
 use Rattle.sdd_waiting.proofs.EventOver.{none_due}
+use Rattle.sdd_invariants.specs.tm.Views as tm
+use Rattle.sdd_waiting.proofs.Answered as ready
 use Rattle.sdd_waiting.proofs.FreeClasses as free
 use Rattle.sdd_waiting.proofs.IdleStarts as starts
 use Rattle.sdd_waiting.proofs.Judged as judged
-use Rattle.sdd_waiting.specs.Answers.{EndsAnEvent, IsAnsweredIn, IsAppliedIn, IsRejectedAfter}
-use Rattle.sdd_waiting.specs.Free.{IsFreeClass}
 
 permitted_to : (g : Given) (log : Log) → EndsAnEvent g log → IsPermitted g log
 permitted_to g log h = lawful_permitted g log h.once h.lawful
@@ -25,7 +19,8 @@ pub answered : (g : Given) (d : DmNo) (c : ℕ) (later log : Log) (ts : Ts) (of 
     → waits c (local_of g (D d) log) ≡ true → head (pipe_at g c d log) ≡ Some (Read ts of txn attempt conds uses)
     → list_all (is_met (view_of (setting_of g (D d)) (local_of g (D d) log))) conds ≡ true → IsAnsweredIn d c txn attempt later
 answered g d c later log ts of txn attempt conds uses h l lo hi w e met =
-    ready.answered g d c later log ts of txn attempt conds uses (permitted_to g (later ++ log) h) (small_homes g h.sound) (class_here g c d l) lo hi w e met (none_due g (later ++ log) h.over)
+    ready.answered g d c later log ts of txn attempt conds uses (permitted_to g (later ++ log) h) (small_homes g h.sound) (class_here g c d l) lo hi w e met
+    (none_due g (later ++ log) h.over)
 
 pub answered_or_rejected : (g : Given) (d : DmNo) (c : ℕ) (later log : Log) (ts : Ts) (of : ClassNo) (txn : TxnNo) (attempt : ℕ) (conds : List Cond) (uses : List Use)
     → EndsAnEvent g (later ++ log) → c ≤ length g.catalogue.classes → 1 ≤ d.0 → d.0 ≤ g.catalogue.dms
@@ -34,7 +29,8 @@ pub answered_or_rejected : (g : Given) (d : DmNo) (c : ℕ) (later log : Log) (t
     → spoiler (view_of (setting_of g (D d)) (local_of g (D d) log)) conds ≡ None
     → IsAnsweredIn d c txn attempt later ⊎ IsRejectedAfter g log d c txn attempt conds later
 answered_or_rejected g d c later log ts of txn attempt conds uses h l lo hi w e met clean =
-    judged.answered_or_rejected g d c later log ts of txn attempt conds uses (permitted_to g (later ++ log) h) (small_homes g h.sound) (class_here g c d l) lo hi w e met clean (none_due g (later ++ log) h.over)
+    judged.answered_or_rejected g d c later log ts of txn attempt conds uses (permitted_to g (later ++ log) h) (small_homes g h.sound)
+    (class_here g c d l) lo hi w e met clean (none_due g (later ++ log) h.over)
 
 pub answered_by_end : (g : Given) (i : ℕ) (d : DmNo) (from : Site) (n : ℕ) (later log : Log) (ts : Ts) (of : ClassNo) (txn : TxnNo) (attempt : ℕ) (conds : List Cond) (uses : List Use)
     → IsFreeClass g i → 1 ≤ d.0 → d.0 ≤ g.catalogue.dms → of.0 ≡ i

@@ -1,20 +1,7 @@
 -- What a pipe has passed it has passed in every log that goes on from this one.
-use Rattle.std.specs.List.{list_any}
-use Rattle.std.proofs.Common.{ℕ, ◌++◌, ◌<◌, ◌∙◌, ◌∷◌, ◌≡◌, ◌≤◌, Bool, List, Some, [], append-nil, append_assoc, ap, arith, false, if◌then◌else◌, length, map, nat_le, refl, slice_get, subst, suc, sym, true, zero}
-use Rattle.std.proofs.Math.Decide.{dec_le}
-use Rattle.std.proofs.lemmas.Bool.Decides.{nat_tests}
-use Rattle.sdd_invariants.specs.All.{AllGe, D, Did, DmNo, Given, Handed, IsPermitted, IsRising, Msg, Pipe, Redeclared, Submits, Ticked, all_of, goes_through, head, head_of, home, local_of, number_of, pipe, pipe_at, time_of}
+use Rattle.sdd_waiting.proofs.All.{AllGe, Bool, D, Did, DmNo, Given, Handed, IsPermitted, IsRising, List, Msg, Pipe, Redeclared, Some, Submits, Ticked, [], all_handed, all_of, all_there, any_at, ap, append-nil, append_assoc, arith, at_seam, class_rises, dec_le, earlier, false, goes_through, head, head_in, head_of, home, if◌then◌else◌, in_left, in_pipe, le_is, length, list_any, local_grows, local_of, map, nat_le, nat_tests, number_of, or_left, or_right, passed, passed_by, pipe, pipe_at, place_within, processed_grows, refl, slice_get, subst, suc, sym, time_of, true, within_left, zero, ℕ, ◌++◌, ◌<◌, ◌∙◌, ◌∷◌, ◌≡◌, ◌≤◌}
 use Rattle.sdd_invariants.specs.site_module.SiteLog.{Log}
-use Rattle.sdd_invariants.specs.pipe.Pipe.{passed, passed_by}
-use Rattle.sdd_invariants.proofs.dm.Prefix.{all_handed, all_there}
 use Rattle.sdd_invariants.specs.logs.Entries as all
-use Rattle.sdd_invariants.proofs.Bools.{or_left, or_right}
-use Rattle.sdd_invariants.proofs.ClassOrder.{class_rises, earlier}
-use Rattle.sdd_invariants.proofs.InPipe.{in_pipe}
-use Rattle.sdd_invariants.proofs.Lists.{any_at, at_seam, in_left, place_within, within_left}
-use Rattle.sdd_invariants.proofs.Made.{local_grows}
-use Rattle.sdd_invariants.proofs.Once.{processed_grows}
-use Rattle.sdd_invariants.proofs.Split.{le_is}
 
 pub is_le : (a b : ℕ) → a ≤ b → nat_le a b ≡ true
 is_le a b l = grind (arith, nat_tests)
@@ -26,10 +13,6 @@ any_here {A = A} f (y ∷ xs) zero x e h = let p : ◌≡◌ {A = A} y x = cc in
 any_here f (y ∷ xs) (suc k) x e h = or_right (f y) (list_any f xs) (any_here f xs k x e h)
 
 -- the head of a pipe stands behind what is processed
-
-head_in : (ps qs : List Msg) (m : Msg) → head_of qs ≡ Some m → slice_get (ps ++ qs) (length ps) ≡ Some m
-head_in ps [] m e = cc
-head_in ps (x ∷ qs) m e = at_seam ps qs x ∙ e
 
 pub head_place : (p : Pipe) (m : Msg) → head p ≡ Some m → slice_get (all_of p) (length p.processed) ≡ Some m
 head_place p m e = head_in p.processed p.unprocessed m e
@@ -129,7 +112,8 @@ pub passed_later : (g : Given) (c : ℕ) (d : DmNo) (t : ℕ) (later log : all.L
     → number_of (home g.catalogue c) ≤ 63 → passed (pipe_at g c d log) t ≡ true → passed (pipe_at g c d (later ++ log)) t ≡ true
 passed_later g c d t later log h small e =
     let i = local_grows g (D d) later log in
-    let rises : IsRising (map time_of (all_of (pipe c (i.0 ++ local_of g (D d) log)))) = subst (λ l. IsRising (map time_of (all_of (pipe c l)))) i.1 (pipe_rises g c d (later ++ log) h small) in
+    let rises : IsRising (map time_of (all_of (pipe c (i.0 ++ local_of g (D d) log)))) = subst (λ l. IsRising (map time_of (all_of (pipe c l)))) i.1
+    (pipe_rises g c d (later ++ log) h small) in
     subst (λ l. passed (pipe c l) t ≡ true) (sym i.1) (passed_lasts c t i.0 (local_of g (D d) log) rises e)
 
 -- what a class that hasn't passed a time says of its head, and of its later messages

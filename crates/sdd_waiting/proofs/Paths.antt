@@ -1,19 +1,6 @@
 -- No arcs lead from the reader of a P2 diagonal to its writer.
-use Rattle.std.proofs.Common.{ℕ, ◌≡◌, ◌≢◌, ◌⊎◌, false, List, [], ◌∷◌, Some, refl, sym, ap, ◌∙◌, subst, arith, inl, inr}
-use Rattle.std.specs.Prelude.{slice_get, slice_index}
-use Rattle.std.proofs.lemmas.Bool.{cases_eq}
-use Rattle.std.proofs.lemmas.Option.{slice_get-get_or}
-use Rattle.sdd_blocks.specs.Graph.{Step, Joins, JoinedWithout}
-use Rattle.sdd_blocks.specs.Blocks.{AreBlocks}
-use Rattle.sdd_blocks.specs.Blocks.Linked.{last}
-use Rattle.sdd_blocks.specs.Neighbours.{Neighbours}
-use Rattle.sdd_blocks.proofs.Classes.{joins_within}
-use Rattle.sdd_blocks.proofs.Cycles.{neighbours_share}
-use Rattle.sdd_blocks.proofs.Walks.{joins_back}
-use Rattle.sdd_waiting.specs.Theorems.{NoPathToWriter}
-use Rattle.sdd_waiting.specs.WaitGraph.{WaitDiagonal, WaitGraph, IsDiagonal, Fits, Arc, Path}
-use Rattle.sdd_waiting.specs.WaitGraph.Arc.{waits, within, held}
-use Rattle.sdd_waiting.specs.WaitGraph.Path.{stop, go}
+use Rattle.sdd_waiting.proofs.All.{Arc, AreBlocks, Fits, IsDiagonal, JoinedWithout, Joins, List, Neighbours, NoPathToWriter, Path, Some, Step, WaitDiagonal, WaitGraph, [], ap, arith, cases_eq, false, go, held, inl, inr, joins_back, joins_within, last, neighbours_share, refl, slice_get, slice_get-get_or, slice_index, stop, subst, sym, within, ℕ, ◌∙◌, ◌∷◌, ◌≡◌, ◌≢◌, ◌⊎◌}
+use Rattle.sdd_waiting.specs.WaitGraph.Arc.{waits}
 
 joins_at : (edges : List (ℕ × ℕ)) (k a b x y : ℕ) → x ≡ a → y ≡ b → Joins edges k a b → Joins edges k x y
 joins_at edges k a b x y e f j = subst (λ u. Joins edges k u y) (sym e) (subst (λ u. Joins edges k a u) (sym f) j)
@@ -24,7 +11,8 @@ one_block : (edges : List (ℕ × ℕ)) (blocks : List ℕ) → AreBlocks edges 
 one_block edges blocks are j k h z =
     let at : (i a b : ℕ) → Joins edges i a b → slice_get blocks i ≡ Some (slice_index blocks i) =
     λ i a b p. slice_get-get_or blocks i 0 (let l = joins_within edges i a b p in omega (arith, l, are.one_each)) in
-    (are.same j k (slice_index blocks j) (slice_index blocks k) (at j h.node h.one h.first) (at k h.node h.other h.second) z).1 (last (neighbours_share edges j k h))
+    (are.same j k (slice_index blocks j) (slice_index blocks k) (at j h.node h.one h.first) (at k h.node h.other h.second) z).1
+    (last (neighbours_share edges j k h))
 
 -- a path goes on from a node for the last time
 pub record Leaves (G : WaitGraph) (a y : ℕ) : Type 0 where

@@ -1,17 +1,9 @@
 -- A message that came to a pipe and is processed later: the record that processes it.
-use Rattle.std.proofs.Common.{ℕ, ◌++◌, ◌<◌, ◌∙◌, ◌∷◌, ◌≡◌, ◌≤◌, Bool, List, None, Some, [], ap, append_assoc, arith, false, if◌then◌else◌, inl, inr, length, length-append, refl, slice_get, subst, suc, sym, true}
-use Rattle.std.proofs.Math.Decide.{dec_le}
-use Rattle.sdd_invariants.specs.All.{Act, D, Did, DmNo, Does, Entry, Given, Hand, Handed, IsPermitted, IsReadStep, Log, May, Msg, Pipe, Rec, Records, Setting, Site, all_of, by_record, goes_through, head, head_of, is_processing, pipe, put, setting_of, view_of, waits}
-use Rattle.sdd_invariants.specs.site_module.SiteLog as site
-use Rattle.sdd_invariants.proofs.AreReadSteps.{d_step}
-use Rattle.sdd_invariants.proofs.Bools.{same_or_not}
-use Rattle.sdd_invariants.proofs.Lists.{at_seam, in_left, place_within}
-use Rattle.sdd_invariants.proofs.Made.{local_grows}
-use Rattle.sdd_invariants.proofs.Processed.{not_own, own_record, passing, processed_handed, processed_more, read_step_way}
-use Rattle.sdd_invariants.proofs.Sites.{site_self}
+use Rattle.sdd_waiting.proofs.All.{Act, Bool, D, Did, DmNo, Does, Entry, Given, Hand, Handed, IsPermitted, IsReadStep, List, Log, May, Msg, None, Pipe, Rec, Records, Setting, Site, Some, [], all_of, ap, append_assoc, arith, at_seam, by_record, d_step, dec_le, false, goes_through, head, head_of, if◌then◌else◌, in_left, inl, inr, is_processing, length, length-append, local_grows, not_own, own_record, passing, pipe, place_within, processed_handed, processed_more, put, read_step_way, refl, same_or_not, setting_of, site_self, slice_get, subst, suc, sym, true, view_of, waits, ℕ, ◌++◌, ◌<◌, ◌∙◌, ◌∷◌, ◌≡◌, ◌≤◌}
 use Rattle.sdd_waiting.proofs.AtModule.{IsEntryAt, acting, aside, at_module, entry_at, handing}
 use Rattle.sdd_waiting.proofs.Passing.{head_place, pipe_later}
 use Rattle.sdd_waiting.proofs.Rejected.{IsProcessing, processing_of}
+use Rattle.sdd_invariants.specs.site_module.SiteLog as site
 
 -- among these entries, which came after the log, is a record that processes this message of class c at module d
 pub record IsProcessedIn (g : Given) (log : Log) (d : DmNo) (c : ℕ) (m : Msg) (entries : Log) : Type 0 where
@@ -38,7 +30,8 @@ own_processes : (s : Setting) (l : site.Log) (c k : ℕ) (m : Msg) (r : Rec) (se
     → k < length (pipe c (Did (Records c r sends) ∷ l)).processed → Processes s l c m (Records c r sends)
 own_processes s l c k m r sends p i there lo hi =
     let x : IsProcessing s l c r = processing_of s l c r sends p i in
-    let grew : (pipe c (Did (Records c r sends) ∷ l)).processed ≡ (pipe c l).processed ++ x.msg ∷ [] = ap (λ (y : Pipe). y.processed) (own_record c r sends l p).0 ∙ processed_more (pipe c l) x.msg x.head_is in
+    let grew : (pipe c (Did (Records c r sends) ∷ l)).processed ≡ (pipe c l).processed ++ x.msg ∷ [] = ap (λ (y : Pipe). y.processed)
+    (own_record c r sends l p).0 ∙ processed_more (pipe c l) x.msg x.head_is in
     let n : length (pipe c (Did (Records c r sends) ∷ l)).processed ≡ length ((pipe c l).processed ++ x.msg ∷ []) = ap length grew in
     let one = length-append (pipe c l).processed (x.msg ∷ []) in
     let at : k ≡ length (pipe c l).processed = omega (arith, lo, hi, n, one) in
@@ -67,8 +60,7 @@ processed_more_on g log d c m e entries i =
 processed_now : (g : Given) (d : DmNo) (c k : ℕ) (m : Msg) (e : Entry) (entries log : Log) → IsEntryAt g d (entries ++ log) e
     → slice_get (all_of (pipe c (at_module g d (entries ++ log)))) k ≡ Some m
     → length (pipe c (at_module g d (entries ++ log))).processed ≤ k
-    → k < length (pipe c (at_module g d (e ∷ (entries ++ log)))).processed
-    → IsProcessedIn g log d c m (e ∷ entries)
+    → k < length (pipe c (at_module g d (e ∷ (entries ++ log)))).processed → IsProcessedIn g log d c m (e ∷ entries)
 processed_now g d c k m e entries log (aside f) there lo hi =
     absurd (count_same c k (at_module g d (entries ++ log)) (at_module g d (e ∷ (entries ++ log))) (ap (λ (x : Pipe). x.processed) (f c).pipe_same) lo hi)
 processed_now g d c k m e entries log (handing from x s) there lo hi =
@@ -91,7 +83,8 @@ processed_in g d c k m (e ∷ entries) log h there lo hi =
       | no n ↦ (let x = local_grows g (D d) entries log in
           let more = pipe_later c x.0 (at_module g d log) in
           let grown : all_of (pipe c l) ≡ all_of (pipe c (at_module g d log)) ++ more.0 = ap (λ y. all_of (pipe c y)) x.1 ∙ more.1 in
-          let now : slice_get (all_of (pipe c l)) k ≡ Some m = ap (λ ms. slice_get ms k) grown ∙ in_left (all_of (pipe c (at_module g d log))) more.0 k m there in
+          let now : slice_get (all_of (pipe c l)) k ≡ Some m = ap (λ ms. slice_get ms k) grown
+          ∙ in_left (all_of (pipe c (at_module g d log))) more.0 k m there in
           processed_now g d c k m e entries log (entry_at g d (entries ++ log) e h) now (omega (arith, n)) hi)
     ]
 
@@ -116,8 +109,7 @@ handed_last g d c from n m log e =
 -- where a pipe has no head, all that came to it is processed
 
 none_unprocessed : (ps qs : List Msg) (k : ℕ) (m : Msg) → head_of qs ≡ None → slice_get (ps ++ qs) k ≡ Some m → k < length ps
-none_unprocessed ps [] k m e f =
-    let w = place_within (ps ++ []) k m f in let n = length-append ps [] in omega arith
+none_unprocessed ps [] k m e f = let w = place_within (ps ++ []) k m f in let n = length-append ps [] in omega arith
 none_unprocessed ps (x ∷ qs) k m e f = cc
 
 pub processed_by_end : (g : Given) (d : DmNo) (c : ℕ) (from : Site) (n : ℕ) (m : Msg) (entries log : Log)
@@ -131,5 +123,6 @@ processed_by_end g d c from n m entries log h e none =
     let x = local_grows g (D d) entries handed in
     let more = pipe_later c x.0 (at_module g d handed) in
     let whole : site.Log = at_module g d (entries ++ handed) in
-    let there : slice_get (all_of (pipe c whole)) place ≡ Some m = ap (λ y. slice_get (all_of (pipe c y)) place) x.1 ∙ ap (λ ms. slice_get ms place) more.1 ∙ in_left (all_of (pipe c (at_module g d handed))) more.0 place m last.0 in
+    let there : slice_get (all_of (pipe c whole)) place ≡ Some m = ap (λ y. slice_get (all_of (pipe c y)) place) x.1 ∙ ap (λ ms. slice_get ms place) more.1
+    ∙ in_left (all_of (pipe c (at_module g d handed))) more.0 place m last.0 in
     processed_in g d c place m entries handed h last.0 last.1 (none_unprocessed (pipe c whole).processed (pipe c whole).unprocessed place m none there)

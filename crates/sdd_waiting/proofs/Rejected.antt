@@ -1,16 +1,7 @@
 -- A Reject names a WRITE that was processed; a READ that waits is never rejected.
-use Rattle.std.proofs.Common.{ℕ, ◌∙◌, ◌∷◌, ◌≡◌, ◌≤◌, List, Some, [], ap, arith, false, filter, refl, slice_get, subst, sym, true}
-use Rattle.sdd_invariants.specs.All.{Act, Answer, Apply, ClassNo, Cond, D, Did, DmNo, Does, Each, Given, IsDueEach, IsPermitted, IsReadStep, Log, May, Msg, Null, Pass, Read, Rec, Records, Setting, Site, Ts, TxnNo, Use, View, Write, by_record, by_wait, head, head_of, in_passing, is_processing, last_write_for, local_of, or_zero, pipe, pipe_at, setting_of, spoiler, spoils, time_at, txn_no, view_of, waits}
-use Rattle.sdd_invariants.specs.history.declared.record.Rec.TheVariants.{Reject as Rejected}
-use Rattle.sdd_invariants.specs.site_module.SiteLog as site
-use Rattle.sdd_invariants.proofs.logs.EachLocal.{allowed_act}
-use Rattle.sdd_invariants.proofs.Again.{is_spoilt, writer_of}
-use Rattle.sdd_invariants.proofs.AreReadSteps.{d_step}
-use Rattle.sdd_invariants.proofs.Bools.{not_both}
-use Rattle.sdd_invariants.proofs.Lists.{in_filtered}
+use Rattle.sdd_waiting.proofs.All.{Act, Answer, Apply, ClassNo, Cond, D, Did, DmNo, Does, Each, Given, IsAnswerOf, IsDueEach, IsPermitted, IsReadStep, IsRejectOf, IsWaitOf, List, Log, May, Msg, Null, Pass, Read, Rec, Records, Rejected, Setting, Site, Some, Ts, TxnNo, Use, View, Write, allowed_act, ap, by_record, by_wait, d_step, false, filter, first_there, head, in_filtered, in_passing, is_processing, is_spoilt, last_write_for, le_by, local_of, not_both, or_zero, pipe, pipe_at, refl, setting_of, slice_get, spoiler, spoils, subst, sym, time_at, true, txn_no, view_of, waits, writer_of, ℕ, ◌∙◌, ◌∷◌, ◌≡◌}
 use Rattle.sdd_waiting.proofs.Waited.{since}
-use Rattle.sdd_waiting.specs.Rejections.{IsAnswerOf, IsRejectOf}
-use Rattle.sdd_waiting.specs.Waited.{IsWaitOf}
+use Rattle.sdd_invariants.specs.site_module.SiteLog as site
 
 -- what processes a head, at one site
 
@@ -79,16 +70,9 @@ rejecting s log c txn attempt dm by write sends i =
     let p = processing_of s log c (Rejected txn attempt dm by write) sends refl i in
     rejecting_by s log c p.msg txn attempt dm by write p.head_is p.may
 
-first_there : (ds : List Cond) (d : Cond) → head_of ds ≡ Some d → slice_get ds 0 ≡ Some d
-first_there [] d e = cc
-first_there (x ∷ ds) d e = e
-
 pub spoiler_there : (v : View) (conds : List Cond) (q : Cond) → spoiler v conds ≡ Some q
     → (spoils v q ≡ true) × (k : ℕ) × (slice_get conds k ≡ Some q)
 spoiler_there v conds q e = in_filtered (spoils v) conds 0 q (first_there (filter (spoils v) conds) q e)
-
-le_by : (a b c : ℕ) → a ≤ b → c ≡ b → a ≤ c
-le_by a b c l e = omega (arith, l, e)
 
 pub rejected : (g : Given) (log : Log) (d : DmNo) (c : ℕ) (txn : TxnNo) (attempt : ℕ) (dm : DmNo) (by : ClassNo) (write : Ts) (sends : List (Site × Msg))
     → IsPermitted g (Does (D d) (Records c (Rejected txn attempt dm by write) sends) ∷ log)
@@ -103,7 +87,9 @@ rejected g log d c txn attempt dm by write sends h =
     let z = is_spoilt s l q f.0 in
     let same_ts : z.ts ≡ write = ap (λ t. time_at t) (z.ts_is ∙ sym r.write_is) in
     let class : q.class.0 ≡ by.0 = ap (λ (k : ClassNo). k.0) (sym r.names) in
-    let there : slice_get (pipe_at g by.0 d log).processed z.place ≡ Some (Write write z.of z.txn z.changes) = subst (λ k. slice_get (pipe_at g k d log).processed z.place ≡ Some (Write write z.of z.txn z.changes)) class (z.there ∙ ap (λ t. Some (Write t z.of z.txn z.changes)) same_ts) in
+    let there : slice_get (pipe_at g by.0 d log).processed z.place ≡ Some (Write write z.of z.txn z.changes) = subst
+    (λ k. slice_get (pipe_at g k d log).processed z.place ≡ Some (Write write z.of z.txn z.changes)) class
+    (z.there ∙ ap (λ t. Some (Write t z.of z.txn z.changes)) same_ts) in
     record {
       ts = r.ts;
       of = r.of;

@@ -1,21 +1,10 @@
 -- Where nothing is due at a data module, the head of each pipe is stuck.
-use Rattle.std.specs.List.{list_all}
-use Rattle.std.proofs.Common.{ℕ, ◌++◌, ◌∙◌, ◌∷◌, ◌≡◌, Bool, List, None, Option, Some, [], ap, false, if◌then◌else◌, refl, slice_get, subst, suc, sym, true, zero, length}
-use Rattle.sdd_invariants.specs.All.{Did, Handed, Home, IsClassHere, Msg, Null, Processes, Read, Redeclared, Setting, Submits, Ticked, View, Write, act_where, first_some, goes_through, head, head_due, home_of, is_held, is_met, open_due, or_else, pipe, step_on, view_of, waits}
-use Rattle.sdd_invariants.specs.site_module.SiteLog.{Log}
-use Rattle.sdd_invariants.proofs.dm.Prefix.{all_handed, all_there}
-use Rattle.sdd_invariants.specs.dm.Due.{due}
-use Rattle.sdd_invariants.specs.dm.Views.{class_view}
-use Rattle.sdd_invariants.specs.dm.declared.step.Step.{Step}
-use Rattle.sdd_invariants.proofs.Waiting.{class_there}
+use Rattle.sdd_waiting.proofs.All.{Bool, Did, Handed, Home, IsClassHere, IsStuck, List, Msg, None, Null, Option, Processes, Read, Redeclared, Setting, Some, Submits, Ticked, View, Write, [], act_where, all_handed, all_there, ap, class_there, class_view, due, false, first_some, goes_through, head, head_due, home_of, if◌then◌else◌, is_held, is_met, length, list_all, neither_some, open_due, pipe, refl, slice_get, step_on, subst, suc, sym, true, view_of, waits, zero, ℕ, ◌++◌, ◌∙◌, ◌∷◌, ◌≡◌}
 use Rattle.sdd_waiting.proofs.Passing.{head_place}
-use Rattle.sdd_waiting.specs.Heads.{IsStuck}
+use Rattle.sdd_invariants.specs.site_module.SiteLog.{Log}
+use Rattle.sdd_invariants.specs.dm.declared.step.Step.{Step}
 
 -- options of which none is there
-
-pub neither_some : {B : Type 0} (a b : Option B) → or_else a b ≡ None → (a ≡ None) × (b ≡ None)
-neither_some None b e = (refl, e)
-neither_some (Some x) b e = cc
 
 pub none_at : {A B : Type 0} (f : A → Option B) (xs : List A) (k : ℕ) (x : A) → first_some f xs ≡ None → slice_get xs k ≡ Some x
     → f x ≡ None

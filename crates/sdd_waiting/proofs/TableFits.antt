@@ -1,23 +1,6 @@
 -- The graph of waits of a protocol table fits its block numbers.
-use Rattle.std.proofs.Common.{ℕ, zero, suc, ◌+◌, ◌-◌, ◌<◌, ◌≤◌, ◌==◌, ◌≡◌, ◌≢◌, Bool, true, false, List, [], ◌∷◌, ◌++◌, length, map, Option, Some, None, refl, sym, ap, ◌∙◌, subst, inl, arith, eq-eqb, length-append}
-use Rattle.std.specs.Prelude.{slice_get, slice_index, option_map}
-use Rattle.std.specs.Bool.{if◌then◌else◌}
-use Rattle.std.specs.List.{cons_option, range_with_len}
-use Rattle.std.proofs.lemmas.Bool.{eqb-true, false≢true}
-use Rattle.std.proofs.lemmas.List.{length-map}
-use Rattle.std.proofs.lemmas.List.FromFn.{length-map-range_with_len}
-use Rattle.std.proofs.lemmas.Option.{slice_get-map, get_or_from_slice_get, same_Some}
-use Rattle.sdd_invariants.specs.All.{Catalogue, ClassNo, Diagonal, Edge, FragNo, IsTable, P2, P3, Protocol, Vertical, class_no}
-use Rattle.sdd_invariants.specs.graph.Edges.{IsClassOf, IsEdgeOf, ReadsFrom}
-use Rattle.sdd_invariants.specs.graph.Graph.{conflict_graph, ends, vertical_edges, horizontal_edges, diagonal_edges, read_node, write_node}
-use Rattle.sdd_invariants.proofs.graph.Known.{edges_known}
-use Rattle.sdd_invariants.specs.protocol.Protocols.{vertical_block, diagonal_protocol, protocol_in, is_vertical_of}
+use Rattle.sdd_waiting.proofs.All.{Bool, Catalogue, ClassNo, Diagonal, Edge, Fits, FitsBlocks, FragNo, IsClass, IsClassOf, IsEdgeOf, IsTable, List, None, Option, P1, P2, P3, Protocol, ReadsFrom, Some, TableFits, Vertical, WaitDiagonal, [], all_at, ap, arith, at_map as some_map, blocks_of, class_no, conflict_graph, cons_option, diagonal_at, diagonal_edges, diagonal_protocol, diagonals, edges_known, ends, eq-eqb, eqb-true, false, false≢true, first_block, first_block-vertical, get_or_from_slice_get, horizontal_edges, if◌then◌else◌, inl, is_vertical_of, length, length-append, length-map, length-map-range_with_len, map, protocol_in, range_with_len, read_node, refl, same_Some, slice_get, slice_index, subst, suc, sym, true, vertical_block, vertical_block-lists, vertical_edges, wait_graph, wait_protocol, write_node, zero, ℕ, ◌++◌, ◌+◌, ◌-◌, ◌<◌, ◌==◌, ◌∙◌, ◌∷◌, ◌≡◌, ◌≢◌, ◌≤◌}
 use Rattle.sdd_invariants.specs.protocol.declared.entry.Entry.{Entry}
-use Rattle.sdd_invariants.specs.protocol.declared.protocol.Protocol.TheVariants.{P1}
-use Rattle.sdd_invariants.proofs.protocol.Tables.{blocks_of, all_at, vertical_block-lists, first_block, first_block-vertical}
-use Rattle.sdd_waiting.specs.Theorems.{TableFits}
-use Rattle.sdd_waiting.specs.WaitGraph.{WaitDiagonal, IsClass, FitsBlocks, Fits}
-use Rattle.sdd_waiting.specs.WaitGraphs.{diagonal_at, diagonals, wait_graph, wait_protocol}
 
 -- the place, protocol and edge of which a diagonal was made
 pub record IsMadeOf (k : ℕ) (protocol : Protocol) (edge : Edge) (d : WaitDiagonal) : Type 0 where
@@ -105,10 +88,6 @@ in_block own b v e =
         | false ↦ λ r q. record { some = differ b 0 p; same = λ o. absurd (false≢true (sym (not_own own q) ∙ o)); other = λ o. differ b v r }
       ] refl
     ] refl e
-
-some_map : {A B : Type 0} (f : A → B) (xs : List A) (k : ℕ) (x : A) → slice_get xs k ≡ Some x
-    → slice_get (map f xs) k ≡ Some (f x)
-some_map f xs k x e = slice_get-map f xs k ∙ ap (option_map f) e
 
 -- the vertical edges stand first
 vertical_at : (n a k : ℕ) (rest : List Edge) → k < n

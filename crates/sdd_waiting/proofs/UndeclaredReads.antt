@@ -1,26 +1,9 @@
 -- The READ of an undeclared transaction is never rejected, and holds no WRITE back: what is put with a later timestamp was
 -- started once that transaction was applied at every module.
-use Rattle.std.proofs.Common.{ℕ, ◌++◌, ◌==◌, ◌∙◌, ◌∷◌, ◌≡◌, ◌≤◌, List, Some, ap, append_assoc, arith, inl, inr, length, nat_le, slice_get, subst, sym, true}
-use Rattle.sdd_invariants.specs.All.{Act, Answer, Attempt, Change, ClassNo, Cond, D, DmNo, Does, Given, HasAnswer, IsApplyOf, IsPermitted, IsSound, Log, Msg, Read, Records, Setting, Site, Ts, TxnNo, Use, Write, class_at, head, home_of, local_of, pipe_at, setting_of, spoils, u_stamp, view_of}
-use Rattle.sdd_invariants.proofs.catalog.Sound.{sound_whole}
-use Rattle.sdd_invariants.specs.graph.Edges.{IsClassOf}
-use Rattle.sdd_invariants.specs.history.declared.record.Rec.TheVariants.{Reject as Rejected}
-use Rattle.sdd_invariants.specs.site_module.SiteLog as site
-use Rattle.sdd_invariants.specs.dm.Due.{holds, holds_back}
-use Rattle.sdd_invariants.proofs.logs.EachLocal.{allowed_act}
-use Rattle.sdd_invariants.proofs.Answered.{read_of}
-use Rattle.sdd_invariants.proofs.Apart.{low_or_high}
-use Rattle.sdd_invariants.proofs.AreReadSteps.{d_step}
-use Rattle.sdd_invariants.proofs.Bools.{and_left, and_right, not_both}
-use Rattle.sdd_invariants.proofs.Dones.{all_applied}
-use Rattle.sdd_invariants.proofs.Installed.{class_number, head_put, write_origin}
-use Rattle.sdd_invariants.proofs.Lists.{any_at, in_range}
-use Rattle.sdd_invariants.proofs.Once.{answered_there}
-use Rattle.sdd_invariants.proofs.Split.{le_is}
-use Rattle.sdd_invariants.proofs.Undeclared.{Part, answered_before, commit_t, has_cond, never_spoilt, part_join, part_of, permitted_part, read_classes}
-use Rattle.sdd_invariants.specs.Barrier.{zero_cond}
+use Rattle.sdd_waiting.proofs.All.{Act, Answer, Attempt, Change, ClassNo, Cond, D, DmNo, Does, Given, HasAnswer, IsApplyOf, IsClassOf, IsPermitted, IsSound, List, Log, Msg, Part, Read, Records, Rejected, Setting, Site, Some, Ts, TxnNo, Use, Write, all_applied, allowed_act, and_left, and_right, answered_before, answered_there, any_at, ap, append_assoc, arith, class_at, class_number, commit_t, d_step, head, head_put, holds, holds_back, home_of, in_range, inl, inr, le_is, length, local_of, low_or_high, nat_le, never_spoilt, not_both, own_time, part_join, part_of, permitted_part, pipe_at, read_classes, read_of, setting_of, slice_get, sound_whole, spoils, subst, sym, true, u_stamp, view_of, write_origin, ℕ, ◌++◌, ◌==◌, ◌∙◌, ◌∷◌, ◌≡◌, ◌≤◌}
 use Rattle.sdd_waiting.proofs.ClassSites.{class_served, home_of_class, in_runs, range_there}
 use Rattle.sdd_waiting.proofs.Rejected.{IsRejecting, rejecting, spoiler_there}
+use Rattle.sdd_invariants.specs.site_module.SiteLog as site
 
 -- the READ of an undeclared transaction that is answered doesn't stand at the head again
 not_again : (g : Given) (d : DmNo) (log : Log) (a : Attempt) (ts : Ts) (k : ClassNo) (txn : TxnNo) (n : ℕ) (ds : List Cond) (us : List Use) (before : Log)
@@ -28,8 +11,11 @@ not_again : (g : Given) (d : DmNo) (log : Log) (a : Attempt) (ts : Ts) (k : Clas
     → a.ts ≡ ts.0 → ⊥
 not_again g d log a ts k txn n ds us before h e p w same =
     let ans : Act = Records 0 (Answer w.txn w.attempt (home_of (setting_of g (D d))).dm) w.sends in
-    let whole : log ≡ (p.0 ++ w.later) ++ Does (D d) ans ∷ w.before = p.1 ∙ ap (λ l. p.0 ++ l) w.is ∙ sym (append_assoc p.0 w.later (Does (D d) ans ∷ w.before)) in
-    answered_there g 0 d (p.0 ++ w.later) w.before (home_of (setting_of g (D d))).dm w.sends w.ts ts w.of k w.txn w.txn txn w.attempt w.attempt n w.conds ds w.uses us (subst (IsPermitted g) whole h) (omega arith)
+    let whole : log ≡ (p.0 ++ w.later) ++ Does (D d) ans ∷ w.before = p.1 ∙ ap (λ l. p.0 ++ l) w.is
+    ∙ sym (append_assoc p.0 w.later (Does (D d) ans ∷ w.before)) in
+    answered_there g 0 d (p.0 ++ w.later) w.before
+    (home_of (setting_of g (D d))).dm w.sends w.ts ts w.of k w.txn w.txn txn w.attempt w.attempt n w.conds ds w.uses us (subst (IsPermitted g) whole h)
+    (omega arith)
     w.head_is (subst (λ l. head (pipe_at g 0 d l) ≡ Some (Read ts k txn n ds us)) whole e) (w.ts_is ∙ same)
 
 -- while it stands there, nothing that is put is of a declared transaction with its timestamp or a later one
@@ -58,15 +44,6 @@ none_later g i num w d log ts of txn n ds us h sound c lo hi e le cm =
           not_again g d log an.0 ts of txn n ds us an.1 h e (part_join log high.start.rest an.1 p1 an.2) an.3 (an.4 ∙ sym r.ts_is))
     ]
 
--- its conditions have its timestamp
-own_time : (g : Given) (d : DmNo) (log : Log) (ts : Ts) (of : ClassNo) (txn : TxnNo) (n : ℕ) (ds : List Cond) (us : List Use) (j : ℕ) (q : Cond)
-    → IsPermitted g log → head (pipe_at g 0 d log) ≡ Some (Read ts of txn n ds us) → slice_get ds j ≡ Some q → q.time.0 ≡ ts.0
-own_time g d log ts of txn n ds us j q h e f =
-    let there = has_cond g d log ts of txn n ds us j q.class.0 h e (read_classes g d log ts of txn n ds us j q h e f) in
-    let same : Some q ≡ Some (zero_cond g ts.0 q.class.0) = sym f ∙ there in
-    let is : q ≡ zero_cond g ts.0 q.class.0 = cc in
-    ap (λ (x : Cond). x.time.0) is
-
 pub holds_none : (g : Given) (i : ℕ) (d : DmNo) (log : Log) (ts : Ts) (of : ClassNo) (txn : TxnNo) (n : ℕ) (ds : List Cond) (us : List Use) (w : Ts) (wc : ClassNo) (wt : TxnNo) (changes : List Change)
     → IsPermitted g log → IsSound g.catalogue → IsClassOf g.catalogue i → 1 ≤ d.0 → d.0 ≤ g.catalogue.dms
     → head (pipe_at g 0 d log) ≡ Some (Read ts of txn n ds us) → head (pipe_at g i d log) ≡ Some (Write w wc wt changes)
@@ -77,7 +54,8 @@ holds_none g i d log ts of txn n ds us w wc wt changes h sound c lo hi e f b =
     let time = own_time g d log ts of txn n ds us a.0 a.1 h e a.2 in
     let put = head_put g i d log (Write w wc wt changes) h f in
     let class : wc.0 ≡ i = class_number wc.0 i w.0 put.of_class in
-    none_later g i wt.0 w.0 d log ts of txn n ds us h sound c lo hi e (subst (λ t. t ≤ w.0) time (le_is a.1.time.0 w.0 late)) (write_origin g log i d w wc wt changes class put)
+    none_later g i wt.0 w.0 d log ts of txn n ds us h sound c lo hi e (subst (λ t. t ≤ w.0) time (le_is a.1.time.0 w.0 late))
+    (write_origin g log i d w wc wt changes class put)
 
 -- and is never rejected
 
@@ -107,5 +85,6 @@ not_rejected g log d txn attempt dm by write sends sound lo hi h =
     let k = range_there 1 g.catalogue.tms t served.module_from (omega arith) in
     let kd = range_there 1 g.catalogue.dms d.0 lo (omega arith) in
     let j = in_runs g q.class.0 class in
-    let clean = never_spoilt g k.0 t j.0 kd.0 f.1 d log r.ts r.of txn attempt r.conds r.uses q h.1 k.1 j.1 (omega arith) (home_of_class g.catalogue q.class.0 class) kd.1 r.head_is f.2 in
+    let clean = never_spoilt g k.0 t j.0 kd.0 f.1 d log r.ts r.of txn attempt r.conds r.uses q h.1 k.1 j.1 (omega arith)
+    (home_of_class g.catalogue q.class.0 class) kd.1 r.head_is f.2 in
     not_both (spoils (view_of s l) q) f.0 clean

@@ -1,12 +1,6 @@
 -- A READ that waits began to by a Wait, since when nothing of its pipe was processed.
-use Rattle.std.specs.List.{list_all}
-use Rattle.std.proofs.Common.{ℕ, ◌++◌, ◌==◌, ◌||◌, ◌∙◌, ◌∷◌, ◌≡◌, ◌⊎◌, Bool, List, None, Option, Some, [], ap, filter, false, if◌then◌else◌, inl, inr, refl, subst, sym, true}
-use Rattle.sdd_invariants.specs.All.{Act, Change, ClassNo, ClassView, Cond, Did, Each, Fetch, Handed, Home, IsClassHere, IsDue, IsDueEach, Msg, Null, Open, Pipe, Processes, Read, Rec, Records, Redeclared, Reduce, Sends, Setting, Ship, Site, Submits, Ticked, Ts, TxnNo, Use, View, Write, act_by, act_where, answer_of, answer_to, by_head, by_open, goes_through, head, head_due, head_of, home_of, is_asked_of, is_held, is_met, is_processing, is_wait, judged, pipe, put, spoiler, step_on, view_of, waits}
+use Rattle.sdd_waiting.proofs.All.{Act, Bool, Change, ClassNo, ClassView, Cond, Did, Each, Fetch, Handed, Home, IsClassHere, IsDue, IsDueEach, IsWaitOf, List, Msg, None, Null, Open, Option, Pipe, Processes, Read, Rec, Records, Redeclared, Reduce, Sends, Setting, Ship, Site, Some, Submits, Ticked, Ts, TxnNo, Use, View, WaitsSince, Write, [], act_by, act_where, answer_of, answer_to, ap, by_head, by_open, class_at_place, false, filter, goes_through, head, head_due, head_of, home_of, if◌then◌else◌, inl, inr, is_asked_of, is_held, is_met, is_processing, is_wait, judged, lacking, list_all, not_both, not_own, pipe, processed_handed, put, refl, same_number, same_or_not, spoiler, step_on, subst, sym, true, view_of, waits, ℕ, ◌++◌, ◌==◌, ◌||◌, ◌∙◌, ◌∷◌, ◌≡◌, ◌⊎◌}
 use Rattle.sdd_invariants.specs.site_module.SiteLog.{Entry, Log}
-use Rattle.sdd_invariants.proofs.AreReadSteps.{class_at_place}
-use Rattle.sdd_invariants.proofs.Bools.{not_both, same_number, same_or_not}
-use Rattle.sdd_invariants.proofs.Processed.{not_own, processed_handed}
-use Rattle.sdd_waiting.specs.Waited.{IsWaitOf, WaitsSince, lacking}
 
 -- what is due and records a Wait is that of a head
 
@@ -36,8 +30,7 @@ act_is : (s : Setting) (log : Log) (c : ℕ) (x a : Act) → IsWaitOf s log c x 
 act_is s log c x a i e = let p : x ≡ a = cc in subst (IsWaitOf s log c) p i
 
 judged_wait : (s : Setting) (log : Log) (c : ℕ) (ts : Ts) (of : ClassNo) (txn : TxnNo) (attempt : ℕ) (conds : List Cond) (uses : List Use) (ds : List Cond) (by : Option Cond) (a : Act)
-    → IsClassHere s c → waits c log ≡ false
-    → head (pipe c log) ≡ Some (Read ts of txn attempt conds uses)
+    → IsClassHere s c → waits c log ≡ false → head (pipe c log) ≡ Some (Read ts of txn attempt conds uses)
     → lacking (view_of s log) conds ≡ ds → spoiler (view_of s log) conds ≡ by
     → Some (act_by (home_of s) (view_of s log) c (Read ts of txn attempt conds uses) (judged (view_of s log) ds by)) ≡ Some a
     → records_wait a ≡ true → IsWaitOf s log c a
@@ -145,7 +138,8 @@ by_class : (s : Setting) (c k : ℕ) (r : Rec) (sends : List (Site × Msg)) (log
 by_class s c k r sends log d i w = elim (same_or_not k c) [
   | inl e ↦ (let own : waits k (Did (Records k r sends) ∷ log) ≡ true = subst (λ z. waits z (Did (Records k r sends) ∷ log) ≡ true) (sym e) w in
       let opened : (if is_processing r then false else (is_wait r || waits k log)) ≡ true = rw (same_number k) at own in
-      subst (λ z. WaitsSince s z (Did (Records k r sends) ∷ log)) e (own_on s k r sends log (is_processing r) (is_wait r) refl refl d opened (subst (λ z. waits z log ≡ true → WaitsSince s z log) (sym e) i)))
+      subst (λ z. WaitsSince s z (Did (Records k r sends) ∷ log)) e
+      (own_on s k r sends log (is_processing r) (is_wait r) refl refl d opened (subst (λ z. waits z log ≡ true → WaitsSince s z log) (sym e) i)))
   | inr n ↦ (let was : waits c log ≡ true = rw n at w in record_on s c k r sends log (inl n) (i was))
 ]
 

@@ -1,33 +1,15 @@
 -- Worked logs that meet what the laws ask. Two classes, each of which reads what the other writes: a query waits until the
 -- other class has passed its time, and is answered then; or it comes behind a later put, and is rejected.
-use Rattle.std.proofs.Common.{ℕ, ◌+◌, ◌++◌, ◌==◌, ◌∷◌, ◌≡◌, ◌≢◌, ◌≤◌, Bool, List, None, Some, [], arith, false, inl, inr, negsuc, pos, refl, subst, suc, take, true, zero, lit≤, lit<}
-use Rattle.sdd_invariants.specs.All.{Act, AreSubmittedOnce, Catalogue, Cond, D, Deliver, Diagonal, Does, Event, Force, Given, IsLawful, IsPermitted, IsSound, Log, P3, Put, Query, Read, Records, Reject, Setting, Submit, T, Txn, Use, Vertical, class_no, dm_no, frag_no, local_of, next, pipe_at, setting_of, time_at, tm_no, txn_no}
-use Rattle.sdd_invariants.specs.base.Numbers.{rel_no}
-use Rattle.sdd_invariants.specs.base.declared.restriction.Op.TheVariants.{Le}
-use Rattle.sdd_invariants.specs.base.declared.value.Value.TheVariants.{Int}
+use Rattle.sdd_waiting.proofs.All.{Act, AreConditionsOf, AreSubmittedOnce, Bool, Catalogue, Cond, Const, D, Deliver, Diagonal, Does, EndsAnEvent, Event, Force, Given, Int, IsAnsweredIn, IsLawful, IsPermitted, IsRejectOf, IsSound, IsStuck, Le, List, Log, None, P1, P3, Put, Query, Read, Records, Reject, Rejected, Setting, Some, Submit, T, Txn, Use, Vertical, WaitsSince, [], arith, class_no, d_fair, dm_no, extended, false, frag_no, inl, inr, lawful_permitted, lit<, lit≤, local_of, negsuc, next, one_if, passed, pipe_at, pos, refl, rel_no, same_or_not, setting_of, subst, suc, take, time_at, tm_no, true, txn_no, zero, ℕ, ◌++◌, ◌+◌, ◌==◌, ◌∷◌, ◌≡◌, ◌≢◌, ◌≤◌}
 use Rattle.sdd_invariants.specs.catalog.Rules.{faults_of}
-use Rattle.sdd_invariants.specs.catalog.declared.parts.Kind.TheVariants as kinds
-use Rattle.sdd_invariants.specs.protocol.declared.protocol.Protocol.TheVariants.{P1}
-use Rattle.sdd_invariants.specs.lang.declared.condition.Condition.TheVariants.{Const}
-use Rattle.sdd_invariants.specs.history.declared.record.Rec.TheVariants.{Reject as Rejected}
-use Rattle.sdd_invariants.specs.site_module.SiteLog as site
-use Rattle.sdd_invariants.specs.pipe.Pipe.{passed}
-use Rattle.sdd_invariants.specs.logs.Due.{extended}
-use Rattle.sdd_invariants.specs.logs.Permitted.{one_if}
-use Rattle.sdd_invariants.proofs.logs.NewMarks.{lawful_permitted}
-use Rattle.sdd_invariants.proofs.Bools.{same_or_not}
-use Rattle.sdd_invariants.proofs.Fair.{d_fair}
 use Rattle.sdd_waiting.proofs.FromTable.{conditions_of}
 use Rattle.sdd_waiting.proofs.OfLawful.{answered}
 use Rattle.sdd_waiting.proofs.Passing.{passed_later}
 use Rattle.sdd_waiting.proofs.Rejected.{rejected}
 use Rattle.sdd_waiting.proofs.StuckHeads.{head_stuck}
 use Rattle.sdd_waiting.proofs.Waited.{since}
-use Rattle.sdd_waiting.specs.Answers.{EndsAnEvent, IsAnsweredIn}
-use Rattle.sdd_waiting.specs.Conditions.{AreConditionsOf}
-use Rattle.sdd_waiting.specs.Heads.{IsStuck}
-use Rattle.sdd_waiting.specs.Rejections.{IsRejectOf}
-use Rattle.sdd_waiting.specs.Waited.{WaitsSince}
+use Rattle.sdd_invariants.specs.catalog.declared.parts.Kind.TheVariants as kinds
+use Rattle.sdd_invariants.specs.site_module.SiteLog as site
 
 -- what is given
 
@@ -57,7 +39,8 @@ in_force = record {
 }
 
 abbrev query : Txn
-query = record { name = []; tm = tm_no 1; statements = Query ((record { part = 1; column = 2 }) ∷ []) (rel_no 1 ∷ []) (Const (record { part = 1; column = 1 }) Le (Int (pos 9)) ∷ []) ∷ [] }
+query =
+    record { name = []; tm = tm_no 1; statements = Query ((record { part = 1; column = 2 }) ∷ []) (rel_no 1 ∷ []) (Const (record { part = 1; column = 1 }) Le (Int (pos 9)) ∷ []) ∷ [] }
 
 abbrev put : Txn
 put = record { name = []; tm = tm_no 2; statements = Put (rel_no 1) (Int (pos 1) ∷ Int (pos 1) ∷ []) ∷ [] }
@@ -93,7 +76,8 @@ up_to_65 = (record { class = class_no 2; time = time_at 65; frags = frag_no 1 �
 -- it waits; the ASK is delivered, and the NULL behind an acknowledgement
 
 abbrev waiting : Given
-waiting = given_by (Submit (txn_no 1) ∷ Deliver (T (tm_no 1)) (D (dm_no 1)) 1 ∷ Deliver (D (dm_no 1)) (T (tm_no 2)) 1 ∷ Deliver (T (tm_no 2)) (D (dm_no 1)) 2 ∷ [])
+waiting =
+    given_by (Submit (txn_no 1) ∷ Deliver (T (tm_no 1)) (D (dm_no 1)) 1 ∷ Deliver (D (dm_no 1)) (T (tm_no 2)) 1 ∷ Deliver (T (tm_no 2)) (D (dm_no 1)) 2 ∷ [])
 
 abbrev null_handed : Log
 null_handed = extended 12 waiting []
@@ -110,14 +94,16 @@ waiting_ends = record { sound = sound; once = waiting_once; lawful = made_lawful
 
 pub worked_answer : IsAnsweredIn (dm_no 1) 1 (txn_no 1) 1 two_more
 worked_answer =
-    answered waiting (dm_no 1) 1 two_more null_handed (time_at 65) (class_no 1) (txn_no 1) 1 up_to_65 of_query waiting_ends (lit≤ tt) (lit≤ tt) (lit≤ tt) refl refl refl
+    answered waiting (dm_no 1) 1 two_more null_handed (time_at 65) (class_no 1) (txn_no 1) 1 up_to_65 of_query waiting_ends (lit≤ tt) (lit≤ tt)
+    (lit≤ tt) refl refl refl
 
-one_not_zero : ◌≢◌ {A = ℕ} 1 0
+pub one_not_zero : ◌≢◌ {A = ℕ} 1 0
 one_not_zero e = cc
 
 pub worked_conditions : AreConditionsOf waiting null_handed 1 65 up_to_65
 worked_conditions =
-    conditions_of waiting null_handed 1 (dm_no 1) 0 (time_at 65) (class_no 1) (txn_no 1) 1 up_to_65 of_query (lawful_permitted waiting null_handed waiting_once (made_lawful 12 waiting [] tt)) one_not_zero refl
+    conditions_of waiting null_handed 1 (dm_no 1) 0 (time_at 65) (class_no 1) (txn_no 1) 1 up_to_65 of_query
+    (lawful_permitted waiting null_handed waiting_once (made_lawful 12 waiting [] tt)) one_not_zero refl
 
 -- while it waits nothing is due, and since then nothing of its pipe was processed; what the other class has passed it has
 -- passed at the end
@@ -155,12 +141,14 @@ rejecting_once n = elim (same_or_not 1 n) [
 ]
 
 abbrev reject_act : Act
-reject_act = Records 1 (Rejected (txn_no 1) 1 (dm_no 1) (class_no 2) (time_at 66)) ((T (tm_no 1), Reject (time_at 65) (class_no 1) (class_no 2) (time_at 66)) ∷ [])
+reject_act =
+    Records 1 (Rejected (txn_no 1) 1 (dm_no 1) (class_no 2) (time_at 66)) ((T (tm_no 1), Reject (time_at 65) (class_no 1) (class_no 2) (time_at 66)) ∷ [])
 
 rejecting_lawful : IsLawful rejecting (Does (D (dm_no 1)) reject_act ∷ put_applied)
 rejecting_lawful = made_lawful 14 rejecting [] tt
 
 pub worked_reject : IsRejectOf rejecting put_applied (dm_no 1) 1 (txn_no 1) 1 (class_no 2) (time_at 66)
 worked_reject =
-    rejected rejecting put_applied (dm_no 1) 1 (txn_no 1) 1 (dm_no 1) (class_no 2) (time_at 66) ((T (tm_no 1), Reject (time_at 65) (class_no 1) (class_no 2) (time_at 66)) ∷ [])
+    rejected rejecting put_applied (dm_no 1) 1 (txn_no 1) 1 (dm_no 1) (class_no 2) (time_at 66)
+    ((T (tm_no 1), Reject (time_at 65) (class_no 1) (class_no 2) (time_at 66)) ∷ [])
     (lawful_permitted rejecting (Does (D (dm_no 1)) reject_act ∷ put_applied) rejecting_once rejecting_lawful)

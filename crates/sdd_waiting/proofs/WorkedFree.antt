@@ -1,21 +1,10 @@
 -- Worked logs of a free class: a query is answered and a put applied before the event is over in which it is handed over.
-use Rattle.std.proofs.Common.{ℕ, ◌++◌, ◌==◌, ◌∷◌, ◌≡◌, ◌⊎◌, List, Some, [], arith, inl, inr, lit≤, negsuc, pos, refl, slice_get, subst, suc, sym, take, zero, ◌∙◌}
-use Rattle.std.proofs.lemmas.List.Elements.{All-from_recursion}
-use Rattle.sdd_invariants.specs.All.{Catalogue, Change, D, Deliver, Force, Given, Hand, IsForce, IsSound, IsTable, Log, Msg, Put, Query, Read, Submit, T, Txn, Use, Vertical, Write, class_no, dm_no, frag_no, local_of, queue, setting_of, time_at, tm_no, txn_no}
-use Rattle.sdd_invariants.specs.base.Numbers.{rel_no}
-use Rattle.sdd_invariants.specs.base.declared.value.Value.TheVariants.{Int}
-use Rattle.sdd_blocks.specs.Blocks.{AreBlocks, OnACycle}
-use Rattle.sdd_blocks.specs.Graph.{IsSimpleCycle, Joins, Step}
+use Rattle.sdd_waiting.proofs.All.{All-from_recursion, AreBlocks, Catalogue, Change, D, Deliver, EndsAnEvent, Force, Given, Hand, Int, IsAnsweredIn, IsAppliedIn, IsForce, IsFree, IsFreeClass, IsRejectedAfter, IsSimpleCycle, IsSound, IsTable, Joins, List, Log, Msg, OnACycle, P1, Put, Query, Read, Some, Step, Submit, T, Txn, Use, Vertical, Write, [], arith, class_no, dm_no, extended, frag_no, inl, inr, lit≤, local_of, negsuc, pos, protocol_in, queue, refl, rel_no, setting_of, slice_get, subst, suc, sym, take, time_at, tm_no, txn_no, zero, ℕ, ◌++◌, ◌==◌, ◌∙◌, ◌∷◌, ◌≡◌, ◌⊎◌}
 use Rattle.sdd_invariants.specs.catalog.Rules.{faults_of}
-use Rattle.sdd_invariants.specs.catalog.declared.parts.Kind.TheVariants as kinds
-use Rattle.sdd_invariants.specs.protocol.Protocols.{protocol_in}
-use Rattle.sdd_invariants.specs.protocol.declared.entry.Entry as line
-use Rattle.sdd_invariants.specs.protocol.declared.protocol.Protocol.TheVariants.{P1}
-use Rattle.sdd_invariants.specs.logs.Due.{extended}
 use Rattle.sdd_waiting.proofs.OfLawful.{answered_by_end, answered_or_rejected, applied_by_end, idle_starts}
 use Rattle.sdd_waiting.proofs.Worked.{made_lawful, one_at_most}
-use Rattle.sdd_waiting.specs.Answers.{EndsAnEvent, IsAnsweredIn, IsAppliedIn, IsRejectedAfter}
-use Rattle.sdd_waiting.specs.Free.{IsFree, IsFreeClass}
+use Rattle.sdd_invariants.specs.catalog.declared.parts.Kind.TheVariants as kinds
+use Rattle.sdd_invariants.specs.protocol.declared.entry.Entry as line
 
 -- what is given: one class, which reads and writes the one fragment
 
@@ -43,7 +32,8 @@ abbrev put : Txn
 put = record { name = []; tm = tm_no 1; statements = Put (rel_no 1) (Int (pos 1) ∷ Int (pos 1) ∷ []) ∷ [] }
 
 abbrev given_by : Txn → Given
-given_by txn = record { catalogue = alone; forces = in_force ∷ []; rows = [] ∷ []; txns = txn ∷ []; events = Submit (txn_no 1) ∷ Deliver (T (tm_no 1)) (D (dm_no 1)) 1 ∷ [] }
+given_by txn =
+    record { catalogue = alone; forces = in_force ∷ []; rows = [] ∷ []; txns = txn ∷ []; events = Submit (txn_no 1) ∷ Deliver (T (tm_no 1)) (D (dm_no 1)) 1 ∷ [] }
 
 sound : IsSound alone
 unfolding faults_of
@@ -125,7 +115,8 @@ query_ends = record { sound = sound; once = λ n. (let h = one_at_most (1 == n) 
 
 pub worked_answer : IsAnsweredIn (dm_no 1) 1 (txn_no 1) 1 (take 2 (extended 7 asked []))
 worked_answer =
-    answered_by_end asked 1 (dm_no 1) (T (tm_no 1)) 1 (take 2 (extended 7 asked [])) (extended 4 asked []) (time_at 65) (class_no 1) (txn_no 1) 1 [] of_query (free query) (lit≤ tt) (lit≤ tt) refl
+    answered_by_end asked 1 (dm_no 1) (T (tm_no 1)) 1 (take 2 (extended 7 asked [])) (extended 4 asked []) (time_at 65) (class_no 1) (txn_no 1) 1 [] of_query
+    (free query) (lit≤ tt) (lit≤ tt) refl
     (ends query (take 2 (extended 7 asked []) ++ Hand (T (tm_no 1)) (D (dm_no 1)) 1 read ∷ extended 4 asked []) refl query_ends)
 
 -- at once, since it doesn't wait and isn't spoilt
@@ -147,7 +138,8 @@ put_ends = record { sound = sound; once = λ n. (let h = one_at_most (1 == n) in
 
 pub worked_apply : IsAppliedIn (dm_no 1) 1 (txn_no 1) (time_at 65) (take 1 (extended 7 putting []))
 worked_apply =
-    applied_by_end putting 1 (dm_no 1) (T (tm_no 1)) 1 (take 1 (extended 7 putting [])) (extended 5 putting []) (time_at 65) (class_no 1) (txn_no 1) row_put (free put) (lit≤ tt) (lit≤ tt) refl
+    applied_by_end putting 1 (dm_no 1) (T (tm_no 1)) 1 (take 1 (extended 7 putting [])) (extended 5 putting []) (time_at 65) (class_no 1) (txn_no 1) row_put
+    (free put) (lit≤ tt) (lit≤ tt) refl
     (ends put (take 1 (extended 7 putting []) ++ Hand (T (tm_no 1)) (D (dm_no 1)) 1 (Write (time_at 65) (class_no 1) (txn_no 1) row_put) ∷ extended 5 putting []) refl put_ends)
 
 -- the class is idle then, and nothing is queued

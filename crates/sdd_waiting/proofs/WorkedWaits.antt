@@ -1,8 +1,5 @@
 -- That the protocols are those of blocks is needed: with others two READs wait on one another.
-use Rattle.std.proofs.Common.{ℕ, ◌*◌, ◌+◌, ◌≡◌, ◌⊎◌, true, false, [], ◌∷◌, refl, sym, subst, arith, inl, inr}
-use Rattle.sdd_waiting.specs.WaitGraph.{WaitDiagonal, WaitGraph}
-use Rattle.sdd_waiting.specs.WaitingReads.{WaitingRead, IsStamped, IsTimestamp, WaitsOn}
-use Rattle.sdd_waiting.specs.WaitingReads.WaitsOn.{reader, holder}
+use Rattle.sdd_waiting.proofs.All.{IsStamped, IsTimestamp, WaitDiagonal, WaitGraph, WaitingRead, WaitsOn, [], arith, false, holder, inl, inr, reader, refl, subst, sym, true, ℕ, ◌*◌, ◌+◌, ◌∷◌, ◌≡◌, ◌⊎◌}
 
 abbrev diagonal : ℕ → ℕ → ℕ → WaitDiagonal
 diagonal i j k = record { reader = i; writer = j; edge = k; own = true }
