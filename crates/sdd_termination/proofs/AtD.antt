@@ -1,16 +1,7 @@
 -- A data module has less left to do after each act.
-use Rattle.std.proofs.Common.{ℕ, suc, ◌+◌, ◌<◌, ◌≤◌, ◌==◌, ◌≡◌, Bool, true, false, not, ◌&&◌, ◌||◌, if◌then◌else◌, List, [], ◌∷◌, length, filter, Option, Some, None, refl, sym, ap, ◌∙◌, subst, arith, slice_get}
-use Rattle.std.specs.List.{list_all}
-use Rattle.std.proofs.lemmas.Option.{same_Some}
-use Rattle.sdd_invariants.specs.All.{Act, Answer, Apply, Arrive, Ask, Change, ClassNo, ClassView, Cond, Did, DmNo, Done, Fetch, Held, Hold, Home, IsDue, Msg, Null, Open, Pass, Processes, Read, Ready, Rec, Records, Reduce, Reduced, Refuses, Reject, Release, Rows, Sends, Setting, Ship, Site, Ts, TxnNo, Use, Values, View, Wait, Waits, Write, act_by, act_where, answer_of, answer_to, answers_hand, by_head, by_open, head, head_due, head_of, head_processed, home_of, is_asked_of, is_held, is_met, is_processing, is_read_of, is_wait, judge, opens, pipe, sends_of_act, step_on, tail_of, view_of, waits}
-use Rattle.sdd_invariants.specs.history.declared.record.Rec.TheVariants.{Reject as Rejected}
-use Rattle.sdd_invariants.specs.site_module.SiteLog.{Log}
-use Rattle.sdd_invariants.specs.dm.Copies.{classes_of}
-use Rattle.sdd_invariants.specs.dm.Views.{class_view}
-use Rattle.sdd_invariants.specs.dm.declared.step.Step.{Step}
-use Rattle.sdd_invariants.proofs.Bools.{both, same_number}
-use Rattle.sdd_invariants.proofs.Lists.{in_filtered, in_mapped}
+use Rattle.sdd_termination.proofs.All.{Act, Answer, Apply, Arrive, Ask, Bool, Change, ClassNo, ClassView, Cond, Did, DmNo, Done, Fetch, Held, Hold, Home, IsDue, List, Msg, None, Null, Open, Option, Pass, Processes, Read, Ready, Rec, Records, Reduce, Reduced, Refuses, Reject, Rejected, Release, Rows, Sends, Setting, Ship, Site, Some, Step, Ts, TxnNo, Use, Values, View, Wait, Waits, Write, [], act_by, act_where, answer_of, answer_to, answers_hand, ap, arith, both, by_head, by_open, class_view, classes_of, false, filter, head, head_due, head_of, head_processed, home_of, if◌then◌else◌, in_filtered, in_mapped, is_asked_of, is_held, is_met, is_processing, is_read_of, is_wait, judge, length, list_all, not, opens, pipe, refl, same_Some, same_number, sends_of_act, slice_get, step_on, subst, suc, sym, tail_of, true, view_of, waits, ℕ, ◌&&◌, ◌+◌, ◌<◌, ◌==◌, ◌||◌, ◌∙◌, ◌∷◌, ◌≡◌, ◌≤◌}
 use Rattle.sdd_termination.proofs.Sums.{by_class, filter_shorter, total, total_less, total_up}
+use Rattle.sdd_invariants.specs.site_module.SiteLog.{Log}
 
 -- a head may wait once, and is then processed
 abbrev pub steps_left : List Msg → Bool → ℕ
@@ -155,8 +146,7 @@ module _ (s : Setting) (log : Log) where
   still c k txn attempt dm = elim (c ==
       k) as (λ b. steps_left (if b && false then head_processed (pipe k log) else pipe k log).unprocessed
       (if b then (if false then false else false || waits k log) else waits k log) ≡ pipe_work log k) [
-        | true ↦
-            refl
+        | true ↦ refl
         | false ↦ refl
       ]
 

@@ -1,17 +1,11 @@
 -- A transaction module has less left to do after each act.
-use Rattle.std.proofs.Common.{ℕ, suc, ◌+◌, ◌-◌, ◌<◌, ◌≤◌, ◌==◌, ◌≡◌, nat_lt, Bool, true, false, not, ◌&&◌, if◌then◌else◌, List, [], ◌∷◌, length, Option, Some, None, is_none, refl, sym, ap, subst, arith, slice_get}
-use Rattle.std.proofs.lemmas.Bool.{ltb-true}
-use Rattle.std.proofs.lemmas.Option.{same_Some}
-use Rattle.sdd_invariants.specs.All.{Act, Attempt, Bases, D, Did, Each, Held, HoldCounts, IsFair, IsNew, IsServed, Msg, Null, Question, Queued, Sends, Setting, Site, U, active, answers_hand, asks, attempt_due, by_ask, by_exchange, by_hold, by_start, class_no, class_view, clock, commit_act, dm_no, first_send, head_of, holds, holds_acted, in_force, is_over, null_at, null_time, null_to, on_hold, or_else, queue, runs, start_act, start_due, start_of, time_at}
+use Rattle.sdd_termination.proofs.All.{Act, Attempt, Bases, Bool, D, Did, Each, Held, HoldCounts, IsFair, IsNew, IsServed, List, Msg, None, Null, Option, Question, Queued, Sends, Setting, Site, Some, U, [], active, and_right, answers_hand, ap, arith, asks, asks_next, attempt_due, by_ask, by_exchange, by_hold, by_start, class_no, clock, commit_act, dm_no, false, filter_short, first_send, head_of, holds, holds_acted, if◌then◌else◌, in_force, in_mapped, is_none, is_over, length, ltb-true, nat_lt, not, null_at, null_time, null_to, on_hold, or_else, queue, queue_is, refl, runs, same_Some, same_number, slice_get, start_act, start_due, start_of, subst, suc, sym, time_at, true, ℕ, ◌&&◌, ◌+◌, ◌-◌, ◌<◌, ◌==◌, ◌∷◌, ◌≡◌, ◌≤◌}
+use Rattle.sdd_termination.proofs.Lines.{class_work, commit_falls, commit_other, send_falls, send_up, start_falls, start_other}
+use Rattle.sdd_termination.proofs.Sums.{by_class, filter_shorter, total, total_less, total_up}
+use Rattle.sdd_invariants.specs.All.{class_view}
 use Rattle.sdd_invariants.specs.site_module.SiteLog.{Log}
 use Rattle.sdd_invariants.specs.tm.Due.{IsDue}
 use Rattle.sdd_invariants.specs.tm.Views.{view_of}
-use Rattle.sdd_invariants.proofs.Bools.{and_right, same_number}
-use Rattle.sdd_invariants.proofs.Exchanges.{asks_next}
-use Rattle.sdd_invariants.proofs.Lists.{in_mapped}
-use Rattle.sdd_invariants.proofs.Queues.{queue_is}
-use Rattle.sdd_termination.proofs.Lines.{class_work, commit_falls, commit_other, send_falls, send_up, start_falls, start_other}
-use Rattle.sdd_termination.proofs.Sums.{by_class, filter_short, filter_shorter, total, total_less, total_up}
 
 abbrev pub helds_left : HoldCounts → ℕ
 helds_left h = h.holds - h.helds

@@ -1,18 +1,10 @@
 -- The module for undeclared transactions has less left to do after each act.
-use Rattle.std.proofs.Common.{ℕ, suc, ◌+◌, ◌-◌, ◌<◌, ◌≤◌, ◌==◌, ◌≡◌, nat_lt, Bool, true, false, ◌&&◌, if◌then◌else◌, List, [], ◌∷◌, length, Option, Some, None, refl, sym, ap, ◌∙◌, subst, inl, inr, arith, slice_get}
-use Rattle.std.proofs.lemmas.Bool.{eq-eqb, eqb-true, ltb-true, ne_eqb}
-use Rattle.std.proofs.lemmas.Option.{same_Some}
-use Rattle.sdd_invariants.specs.All.{Act, Attempt, Bases, D, Did, Each, Hold, IsFair, IsNew, IsServed, Msg, Queued, Release, Sends, Setting, T, TmCounts, Ts, active, attempt_due, by_release, clock, commit_act, counts, dm_no, first_send, head_of, hold_due, hold_to, is_over, last_served, numbers_to, or_else, queue, release_due, start_act, time_at, tm_no}
+use Rattle.sdd_termination.proofs.All.{Act, Attempt, Bases, Bool, D, Did, Each, Hold, IsFair, IsNew, IsServed, List, Msg, None, Option, Queued, Release, Sends, Setting, Some, T, TmCounts, Ts, [], active, ap, arith, asks_next, attempt_due, by_release, clock, commit_act, counts, counts_tm, dm_no, eq-eqb, eqb-true, false, first_send, head_of, hold_due, hold_to, idle_of, if◌then◌else◌, in_mapped, inl, inr, is_over, last_served, length, ltb-true, nat_lt, ne_eqb, numbers_to, or_else, queue, queue_is, refl, release_due, same_Some, same_or_not, slice_get, start_act, subst, suc, sym, time_at, tm_no, true, ℕ, ◌&&◌, ◌+◌, ◌-◌, ◌<◌, ◌==◌, ◌∙◌, ◌∷◌, ◌≡◌, ◌≤◌}
+use Rattle.sdd_termination.proofs.Lines.{class_work, commit_falls, committed_short, send_falls, send_up, start_falls, tried_long}
+use Rattle.sdd_termination.proofs.Sums.{total, total_less, total_up}
 use Rattle.sdd_invariants.specs.site_module.SiteLog.{Log}
 use Rattle.sdd_invariants.specs.umod.Due.{IsDue, by_exchange, by_hold, by_start, start_of}
 use Rattle.sdd_invariants.specs.umod.Views.{view_of}
-use Rattle.sdd_invariants.proofs.Bools.{same_or_not}
-use Rattle.sdd_invariants.proofs.Exchanges.{asks_next}
-use Rattle.sdd_invariants.proofs.Lists.{in_mapped}
-use Rattle.sdd_invariants.proofs.Queues.{queue_is}
-use Rattle.sdd_invariants.proofs.Serving.{counts_tm}
-use Rattle.sdd_termination.proofs.Lines.{class_work, commit_falls, committed_short, send_falls, send_up, start_falls, tried_long}
-use Rattle.sdd_termination.proofs.Sums.{total, total_less, total_up}
 
 -- of one T, where there are so many transactions, served or to be served: two for each RELEASE that it may get, and one
 -- where the next HOLD may go out
@@ -75,15 +67,6 @@ module _ (log : Log) (n t : ℕ) (g : TmCounts → TmCounts) (less : signs_left 
   pub one_told : (ts : List ℕ) (k : ℕ) → slice_get ts k ≡ Some t
       → total (λ u. signs_left n (told u)) ts < total (λ u. signs_left n (counts u log)) ts
   one_told ts k at = total_less (λ u. signs_left n (told u)) (λ u. signs_left n (counts u log)) ts k t at told_up told_less
-
-idle_of : (o : Option Attempt) (qs : List Queued) (q : Queued) → IsServed o qs → head_of qs ≡ Some q → (q.tries == 0) ≡ true → o ≡ None
-idle_of None qs q h e z = refl
-idle_of (Some a) [] q h e z = absurd h
-idle_of (Some a) (x ∷ qs) q h e z =
-    let n : q.tries ≡ a.attempt = ap (λ (y : Queued). y.tries) (sym (same_Some x q e)) ∙ h.2 in
-    let none : q.tries ≡ 0 = eqb-true q.tries 0 z in
-    let l : 0 < a.attempt = h.3 in
-    absurd (omega arith)
 
 module _ (s : Setting) (bases : Bases) (log : Log) (fair : Each (IsFair s) log) (new : Each IsNew log) where
   served : IsServed (active s 0 log) (queue s 0 log)

@@ -1,9 +1,5 @@
 -- A round begins only where the links aren't quiet, and then it has an event.
-use Rattle.std.proofs.Common.{ℕ, ◌<◌, Bool, true, false, List, [], ◌∷◌, length, ◌≡◌, refl, sym, ◌∙◌, subst, Some, arith}
-use Rattle.std.proofs.lemmas.Bool.{false≢true}
-use Rattle.sdd_invariants.specs.All.{AtEach, Call, Deliver, Down, Event, Given, Log, Lose, Redeclare, Repeat, Resend, Round, Settle, Submit, Tick, Up, all_links, calls_of, left, links, mark_from, mark_of, next, quiet, round}
-use Rattle.sdd_invariants.proofs.logs.Rounding.{each_of_round, no_events_quiet}
-use Rattle.sdd_termination.specs.Rounds.{IsOfRound}
+use Rattle.sdd_termination.proofs.All.{AtEach, Bool, Call, Deliver, Down, Event, Given, IsOfRound, List, Log, Lose, Redeclare, Repeat, Resend, Round, Settle, Some, Submit, Tick, Up, [], all_links, arith, calls_of, each_of_round, false, false≢true, left, length, links, mark_from, mark_of, next, no_events_quiet, quiet, refl, round, subst, sym, true, ℕ, ◌<◌, ◌∙◌, ◌∷◌, ◌≡◌}
 use Rattle.sdd_termination.proofs.Marked.{next_is_of_events}
 
 none_or_some : (events : List Event) → (events ≡ [] → ⊥) → 0 < length events

@@ -1,9 +1,5 @@
 -- A lawful log has no more rounds than marks, and one.
-use Rattle.std.proofs.Common.{ℕ, suc, ◌+◌, ◌^◌, ◌<◌, ◌≤◌, List, [], ◌∷◌, length, ◌≡◌, refl, ap, None, arith}
-use Rattle.std.proofs.lemmas.Bool.{ltb-false}
-use Rattle.sdd_invariants.specs.All.{Does, Event, Given, Hand, IsLawful, IsTheLog, IsWithin, Log, MAX_RUN_EVENTS, Mark, Notes, Redeclares, Round, Submitted, after_mark, left, mark_of, marks}
-use Rattle.sdd_invariants.proofs.logs.Completing.{complete_parts}
-use Rattle.sdd_termination.specs.Rounds.{rounds}
+use Rattle.sdd_termination.proofs.All.{Does, Event, Given, Hand, IsLawful, IsTheLog, IsWithin, List, Log, MAX_RUN_EVENTS, Mark, None, Notes, Redeclares, Round, Submitted, [], after_mark, ap, arith, complete_parts, left, length, ltb-false, mark_of, marks, refl, rounds, suc, ℕ, ◌+◌, ◌<◌, ◌^◌, ◌∷◌, ◌≡◌, ◌≤◌}
 use Rattle.sdd_termination.proofs.Beginning.{round_begins}
 
 -- a round in progress counts for one

@@ -1,9 +1,6 @@
 -- Every run ends: there is the log of what is given, or the limit ends it.
-use Rattle.std.proofs.Common.{ℕ, zero, suc, ◌<◌, ◌≤◌, ◌+◌, ◌≡◌, true, false, List, [], ◌∷◌, ◌++◌, Option, Some, None, refl, ap, inl, inr, arith}
-use Rattle.sdd_invariants.specs.All.{AreSubmittedOnce, Entry, Event, Given, IsLawful, IsWithin, Log, Settle, is_past, next, submits_by, submits_in, with_event}
-use Rattle.sdd_invariants.proofs.logs.NewMarks.{lawful_permitted}
+use Rattle.sdd_termination.proofs.All.{AreSubmittedOnce, Ends, Entry, Event, Given, IsLawful, IsWithin, List, Log, None, Option, Settle, Settles, Some, [], ap, arith, false, inl, inr, is_past, lawful_permitted, next, refl, submits_by, submits_in, suc, true, with_event, zero, ℕ, ◌++◌, ◌+◌, ◌<◌, ◌∷◌, ◌≡◌, ◌≤◌}
 use Rattle.sdd_termination.proofs.Settled.{quiet_at_last}
-use Rattle.sdd_termination.specs.Ends.{Ends, Settles}
 use Rattle.sdd_termination.proofs.Falls.{Falls, falls, stage}
 use Rattle.sdd_termination.proofs.Falls.Falls.{in_acts, in_hands, in_stage}
 use Rattle.sdd_termination.proofs.Sites.{acts_left, hands_left}

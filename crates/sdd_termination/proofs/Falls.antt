@@ -1,9 +1,5 @@
 -- Each entry of a log leaves less to come: of marks and rounds, else of messages to be handed over, else of acts.
-use Rattle.std.proofs.Common.{ℕ, suc, ◌+◌, ◌-◌, ◌*◌, ◌<◌, ◌≤◌, ◌≡◌, Bool, true, false, List, [], ◌∷◌, length, Option, Some, None, refl, sym, ap, subst, arith, slice_get}
-use Rattle.std.proofs.lemmas.Bool.{false≢true, ltb-false}
-use Rattle.std.proofs.lemmas.Option.{same_Some}
-use Rattle.sdd_invariants.specs.All.{Act, Deliver, Does, Down, Entry, Event, Given, Hand, IsPermitted, Log, Lose, MAX_RUN_EVENTS, Mark, Notes, Redeclare, Redeclares, Repeat, Resend, Round, Settle, Site, Submit, Submitted, Tick, Up, all_links, calls_of, does_at, due_by, hand_due, hand_on, is_past, left, mark_due, mark_from, mark_of, marks, next, next_at, note_if, quiet, round, site_due, sites}
-use Rattle.sdd_invariants.proofs.site_module.Finding.{found_at, one_of}
+use Rattle.sdd_termination.proofs.All.{Act, Bool, Deliver, Does, Down, Entry, Event, Given, Hand, IsPermitted, List, Log, Lose, MAX_RUN_EVENTS, Mark, None, Notes, Option, Redeclare, Redeclares, Repeat, Resend, Round, Settle, Site, Some, Submit, Submitted, Tick, Up, [], all_links, ap, arith, calls_of, does_at, due_by, false, false≢true, found_at, hand_due, hand_on, is_past, left, length, ltb-false, mark_due, mark_from, mark_of, marks, next, next_at, note_if, one_of, quiet, refl, round, same_Some, site_due, sites, slice_get, subst, suc, sym, true, ℕ, ◌*◌, ◌+◌, ◌-◌, ◌<◌, ◌∷◌, ◌≡◌, ◌≤◌}
 use Rattle.sdd_termination.proofs.Beginning.{round_begins}
 use Rattle.sdd_termination.proofs.Marked.{is_of_events}
 use Rattle.sdd_termination.proofs.Sites.{act_hands, acts_left, does_falls, hand_falls, hands_left, is_hand_on}

@@ -1,3 +1,4 @@
+mod All
 pub mod AtD
 pub mod AtT
 pub mod AtU

@@ -1,11 +1,7 @@
 -- What the line of a class has left to do, once a site acts.
-use Rattle.std.proofs.Common.{ℕ, suc, ◌<◌, ◌≤◌, ◌==◌, ◌≡◌, true, false, not, if◌then◌else◌, List, [], ◌∷◌, length, filter, map, Option, Some, None, refl, sym, ap, subst, arith}
-use Rattle.sdd_invariants.specs.All.{Act, Attempt, Bases, Did, IsServed, Msg, Queued, Sends, Setting, Site, Ticking, active, active_sent, after_send, asks_rows, commit_act, head_of, queue, send_due, sends_of_act, start_act, started, tail_of, ticked, timestamp, tried, work_of}
-use Rattle.sdd_invariants.specs.protocol.declared.entry.Entry as line
+use Rattle.sdd_termination.proofs.All.{Act, Attempt, Bases, Did, IsServed, List, Msg, None, Option, Queued, Sends, Setting, Site, Some, Ticking, [], active, active_sent, after_send, ap, arith, asks_rows, commit_act, false, filter, filter_short, head_of, if◌then◌else◌, length, map, not, queue, refl, same_number, send_due, sends_of_act, start_act, started, subst, suc, sym, tail_of, ticked, timestamp, tried, true, work_of, work_sent, ℕ, ◌<◌, ◌==◌, ◌∷◌, ◌≡◌, ◌≤◌}
 use Rattle.sdd_invariants.specs.site_module.SiteLog.{Log}
-use Rattle.sdd_invariants.proofs.attempt.LineActs.{work_sent}
-use Rattle.sdd_invariants.proofs.Bools.{same_number}
-use Rattle.sdd_termination.proofs.Sums.{filter_short}
+use Rattle.sdd_invariants.specs.protocol.declared.entry.Entry as line
 
 abbrev pub class_work : Setting → Log → ℕ → ℕ
 class_work s log c = work_of (active s c log) (queue s c log)

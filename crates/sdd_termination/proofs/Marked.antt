@@ -1,9 +1,5 @@
 -- Marks, rounds and lists of classes come of the events that are left, and of nothing else.
-use Rattle.std.proofs.Common.{ℕ, Bool, true, false, List, [], ◌∷◌, ◌≡◌, refl, sym, ap, ◌∙◌, Option, Some, None}
-use Rattle.std.specs.Bool.{if◌then◌else◌}
-use Rattle.std.proofs.lemmas.Bool.{false≢true}
-use Rattle.std.proofs.lemmas.Option.{same_Some}
-use Rattle.sdd_invariants.specs.All.{Act, Deliver, Does, Down, Entry, Event, Given, Hand, Log, Lose, Mark, Msg, Notes, Redeclare, Redeclares, Repeat, Resend, Round, Settle, Site, Submit, Submitted, Tick, Up, all_links, delivered, does_at, due_by, first_some, hand_due, hand_number, hand_on, hand_with, handed, link_of, mark_due, message_at, next, next_at, next_mark, next_number, note_if, or_else, site_due, sites, takes_part}
+use Rattle.sdd_termination.proofs.All.{Act, Bool, Deliver, Does, Down, Entry, Event, Given, Hand, List, Log, Lose, Mark, Msg, None, Notes, Option, Redeclare, Redeclares, Repeat, Resend, Round, Settle, Site, Some, Submit, Submitted, Tick, Up, [], all_links, ap, delivered, does_at, due_by, false, false≢true, first_some, hand_due, hand_number, hand_on, hand_with, handed, if◌then◌else◌, link_of, mark_due, message_at, next, next_at, next_mark, next_number, note_if, or_else, refl, same_Some, site_due, sites, sym, takes_part, true, ℕ, ◌∙◌, ◌∷◌, ◌≡◌}
 
 abbrev pub is_of_events : Entry → Bool
 is_of_events (Mark e) = true
@@ -72,7 +68,8 @@ hand_other log l false o = tt
 pub next_is_of_events : (g : Given) (log : Log) (e : Entry) → is_of_events e ≡ true → next g log ≡ Some e → next_mark g log ≡ Some e
 next_is_of_events g log e p q =
     let site = first_other (λ at. does_at at (next_at g log at)) (sites g.catalogue.tms g.catalogue.dms) (λ at. does_other at (next_at g log at)) in
-    let hand = first_other (hand_on log) (all_links g) (λ l. hand_other log l (takes_part l.1 log) (next_number (handed l.0 l.1 log) (delivered (link_of l.0 l.1 log).there))) in
+    let hand = first_other (hand_on log) (all_links g)
+    (λ l. hand_other log l (takes_part l.1 log) (next_number (handed l.0 l.1 log) (delivered (link_of l.0 l.1 log).there))) in
     let a : or_else (site_due g log) (or_else (hand_due g log) (next_mark g log)) ≡ Some e = other_first (mark_due g log) _ e (mark_other g log) p q in
     let b : or_else (hand_due g log) (next_mark g log) ≡ Some e = other_first (site_due g log) _ e site p a in
     other_first (hand_due g log) (next_mark g log) e hand p b

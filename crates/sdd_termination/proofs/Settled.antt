@@ -1,7 +1,5 @@
 -- Where a settle has ended the links are quiet.
-use Rattle.std.proofs.Common.{ℕ, Bool, true, false, List, [], ◌∷◌, ◌++◌, ◌≡◌, refl, sym, ap, ◌∙◌, subst, Some, None}
-use Rattle.sdd_invariants.specs.All.{Deliver, Does, Down, Entry, Event, Given, Hand, IsLawful, Log, Lose, Mark, Notes, Redeclare, Redeclares, Repeat, Resend, Round, Settle, Submit, Submitted, Tick, Up, after_mark, all_links, calls_of, from_event, left, mark_from, mark_of, next, quiet, round, tail_of, with_event}
-use Rattle.sdd_invariants.proofs.logs.Completing.{complete_parts}
+use Rattle.sdd_termination.proofs.All.{Bool, Deliver, Does, Down, Entry, Event, Given, Hand, IsLawful, List, Log, Lose, Mark, None, Notes, Redeclare, Redeclares, Repeat, Resend, Round, Settle, Some, Submit, Submitted, Tick, Up, [], after_mark, all_links, ap, calls_of, complete_parts, false, from_event, left, mark_from, mark_of, next, quiet, refl, round, subst, sym, tail_of, true, with_event, ℕ, ◌++◌, ◌∙◌, ◌∷◌, ◌≡◌}
 use Rattle.sdd_termination.proofs.Marked.{next_is_of_events}
 
 -- an event behind a settle
@@ -105,7 +103,8 @@ first_taken g log q events (Tick t n ∷ ws) x h = takes_first (Tick t n ∷ ws)
 first_taken g log q events (Down d ∷ ws) x h = takes_first (Down d ∷ ws) (Down d) ws x refl
 first_taken g log q events (Up d ∷ ws) x h = takes_first (Up d ∷ ws) (Up d) ws x refl
 
-after_first : (ws : List Event) → (f : Event) × (rest : List Event) × (from_event ws ≡ f ∷ rest) → ends false ws ≡ true → ends false (tail_of (from_event ws)) ≡ true
+after_first : (ws : List Event) → (f : Event) × (rest : List Event) × (from_event ws ≡ f ∷ rest) → ends false ws ≡ true
+    → ends false (tail_of (from_event ws)) ≡ true
 after_first ws t p = subst (λ xs. ends false (tail_of xs) ≡ true) (sym t.2) (ends_on ws t.0 t.1 t.2 p)
 
 mark_taken : (g : Given) (log : Log) (e : Event) (rest : List Event × List Event) → mark_of g log rest ≡ Some (Mark e) → ends false rest.0 ≡ true

@@ -1,23 +1,16 @@
 -- What all sites have left to do, and how many messages are left to be handed over.
-use Rattle.std.proofs.Common.{ℕ, suc, ◌-◌, ◌<◌, ◌≤◌, ◌≡◌, Bool, true, false, ◌&&◌, if◌then◌else◌, ◌∷◌, Option, Some, None, refl, sym, ap, ◌∙◌, subst, inl, inr, arith, slice_get}
-use Rattle.std.proofs.lemmas.Option.{same_Some}
-use Rattle.sdd_invariants.specs.All.{Act, D, Did, Does, Entry, Given, Hand, IsPermitted, Log, Msg, Setting, Site, T, U, all_links, base_of, calls_of, delivered, hand_number, hand_on, hand_with, handed, link_of, local_of, message_at, next_at, next_number, same_site, sends_of_act, setting_of, sites, takes_part}
+use Rattle.sdd_termination.proofs.All.{Act, Bool, D, Did, Does, Entry, Given, Hand, IsPermitted, Log, Msg, None, Option, Setting, Site, Some, T, U, all_links, all_new, and_left, and_right, ap, arith, base_of, calls_of, delivered, delivered_puts, false, hand_number, hand_on, hand_with, handed, if◌then◌else◌, inl, inr, link_of, local_of, message_at, next_at, next_number, number_is, refl, same_Some, same_here, same_is, same_site, sends_of_act, setting_of, sites, slice_get, subst, suc, sym, t_fair, takes_part, true, true_or_false, u_fair, ℕ, ◌&&◌, ◌-◌, ◌<◌, ◌∙◌, ◌∷◌, ◌≡◌, ◌≤◌}
+use Rattle.sdd_termination.proofs.AtD.{d_falls, d_work}
+use Rattle.sdd_termination.proofs.AtT.{t_falls, t_work}
+use Rattle.sdd_termination.proofs.AtU.{u_falls, u_work}
+use Rattle.sdd_termination.proofs.Sums.{total, total_less, total_up}
 use Rattle.sdd_invariants.specs.site_module.SiteLog as site
-use Rattle.sdd_invariants.proofs.net.Directions.{same_here, same_is}
 use Rattle.sdd_invariants.specs.dm.Views as dm_views
 use Rattle.sdd_invariants.specs.tm.Views as tm_views
 use Rattle.sdd_invariants.specs.umod.Views as um_views
 use Rattle.sdd_invariants.proofs.dm.ViewSteps as dm
 use Rattle.sdd_invariants.proofs.tm.ViewSteps as tm
 use Rattle.sdd_invariants.proofs.umod.ViewSteps as um
-use Rattle.sdd_invariants.proofs.logs.Permitted.{number_is}
-use Rattle.sdd_invariants.proofs.logs.Handing.{delivered_puts}
-use Rattle.sdd_invariants.proofs.Bools.{and_left, and_right, true_or_false}
-use Rattle.sdd_invariants.proofs.Fair.{all_new, t_fair, u_fair}
-use Rattle.sdd_termination.proofs.AtD.{d_falls, d_work}
-use Rattle.sdd_termination.proofs.AtT.{t_falls, t_work}
-use Rattle.sdd_termination.proofs.AtU.{u_falls, u_work}
-use Rattle.sdd_termination.proofs.Sums.{total, total_less, total_up}
 
 abbrev pub site_work : Setting → Site → site.Log → ℕ
 site_work s U l = u_work s l

@@ -1,7 +1,5 @@
 -- Sums over lists, and lists that get shorter.
-use Rattle.std.proofs.Common.{ℕ, zero, suc, ◌+◌, ◌<◌, ◌≤◌, Bool, true, false, cond, List, [], ◌∷◌, length, filter, ◌≡◌, ◌==◌, subst, sym, Some, inl, inr, arith, slice_get}
-use Rattle.std.proofs.lemmas.Option.{same_Some}
-use Rattle.sdd_invariants.proofs.Bools.{same_or_not}
+use Rattle.sdd_termination.proofs.All.{Bool, List, Some, [], arith, cond, false, filter, filter_short, inl, inr, length, same_Some, same_or_not, slice_get, subst, suc, sym, true, zero, ℕ, ◌+◌, ◌<◌, ◌==◌, ◌∷◌, ◌≡◌, ◌≤◌}
 
 abbrev pub total : {A : Type 0} → (A → ℕ) → List A → ℕ
 total f [] = 0
@@ -33,12 +31,6 @@ by_class f g k l h c = elim (same_or_not k c) [
   | inl e ↦ let m : f c < g c = subst (λ z. f z < g z) e l in omega (arith, m)
   | inr e ↦ let m = h c e in omega (arith, m)
 ]
-
-pub filter_short : {A : Type 0} (p : A → Bool) (xs : List A) → length (filter p xs) ≤ length xs
-filter_short p [] = omega arith
-filter_short p (x ∷ xs) =
-    let i = filter_short p xs in
-    elim (p x) as (λ b. length (cond b (x ∷ filter p xs) (filter p xs)) ≤ suc (length xs)) [ true ↦ omega (arith, i) | false ↦ omega (arith, i) ]
 
 -- a member that doesn't pass is left out
 pub filter_shorter : {A : Type 0} (p : A → Bool) (xs : List A) (k : ℕ) (x : A) → slice_get xs k ≡ Some x → p x ≡ false

@@ -1,4 +1,4 @@
-use Rattle.sdd_invariants.proofs.net.Directions.{link_back}
+use Rattle.sdd_termination.proofs.All.{link_back}
 use Rattle.sdd_termination.proofs.Beginning.{events_of_round, has_event}
 use Rattle.sdd_termination.proofs.law.law_rounds.Goals as goal
 

@@ -1,0 +1,29 @@
+-- The names of std, of the crates below and of this crate's definitions that its proofs cite. Declares nothing.
+pub use Rattle.sdd_invariants.proofs.AreSteps.{idle_of}
+pub use Rattle.sdd_invariants.proofs.Bools.{and_left, and_right, same_number, same_or_not, true_or_false}
+pub use Rattle.sdd_invariants.proofs.Exchanges.{asks_next}
+pub use Rattle.sdd_invariants.proofs.Fair.{all_new, t_fair, u_fair}
+pub use Rattle.sdd_invariants.proofs.Lists.{in_filtered}
+pub use Rattle.sdd_invariants.proofs.Queues.{queue_is}
+pub use Rattle.sdd_invariants.proofs.attempt.LineActs.{work_sent}
+pub use Rattle.sdd_invariants.proofs.logs.Completing.{complete_parts}
+pub use Rattle.sdd_invariants.proofs.logs.Handing.{delivered_puts}
+pub use Rattle.sdd_invariants.proofs.logs.NewMarks.{lawful_permitted}
+pub use Rattle.sdd_invariants.proofs.logs.Permitted.{number_is}
+pub use Rattle.sdd_invariants.proofs.logs.Rounding.{each_of_round, no_events_quiet}
+pub use Rattle.sdd_invariants.proofs.logs.attempt.Lists.{few_filtered as filter_short}
+pub use Rattle.sdd_invariants.proofs.logs.tm.Lists.{of_map as in_mapped}
+pub use Rattle.sdd_invariants.proofs.logs.umod.Turns.{tm_told as counts_tm}
+pub use Rattle.sdd_invariants.proofs.net.Directions.{link_back, same_here, same_is}
+pub use Rattle.sdd_invariants.proofs.site_module.Finding.{found_at, one_of}
+pub use Rattle.sdd_invariants.specs.All.{Act, Answer, Apply, AreSubmittedOnce, Arrive, Ask, AtEach, Attempt, Bases, Call, Change, ClassNo, ClassView, Cond, D, Deliver, Did, DmNo, Does, Done, Down, Each, Entry, Event, Fetch, Given, Hand, Held, Hold, HoldCounts, Home, IsDue, IsFair, IsLawful, IsNew, IsPermitted, IsServed, IsTheLog, IsWithin, Log, Lose, MAX_RUN_EVENTS, Mark, Msg, Notes, Null, Open, Pass, Processes, Question, Queued, Read, Ready, Rec, Records, Redeclare, Redeclares, Reduce, Reduced, Refuses, Reject, Release, Repeat, Resend, Round, Rows, Sends, Setting, Settle, Ship, Site, Submit, Submitted, T, Tick, Ticking, TmCounts, Ts, TxnNo, U, Up, Use, Values, View, Wait, Waits, Write, act_by, act_where, active, active_sent, after_mark, after_send, all_links, answer_of, answer_to, answers_hand, asks, asks_rows, attempt_due, base_of, by_ask, by_exchange, by_head, by_hold, by_open, by_release, by_start, calls_of, class_no, clock, commit_act, counts, delivered, dm_no, does_at, due_by, first_send, first_some, from_event, hand_due, hand_number, hand_on, hand_with, handed, head, head_due, head_of, head_processed, hold_due, hold_to, holds, holds_acted, home_of, in_force, is_asked_of, is_held, is_met, is_over, is_past, is_processing, is_read_of, is_wait, judge, last_served, left, link_of, links, local_of, mark_due, mark_from, mark_of, marks, message_at, next, next_at, next_mark, next_number, note_if, null_at, null_time, null_to, numbers_to, on_hold, opens, or_else, pipe, queue, quiet, release_due, round, runs, same_site, send_due, sends_of_act, setting_of, site_due, sites, start_act, start_due, start_of, started, step_on, submits_by, submits_in, tail_of, takes_part, ticked, time_at, timestamp, tm_no, tried, view_of, waits, with_event, work_of}
+pub use Rattle.sdd_invariants.specs.dm.Copies.{classes_of}
+pub use Rattle.sdd_invariants.specs.dm.Views.{class_view}
+pub use Rattle.sdd_invariants.specs.dm.declared.step.Step.{Step}
+pub use Rattle.sdd_invariants.specs.history.declared.record.Rec.TheVariants.{Reject as Rejected}
+pub use Rattle.sdd_termination.specs.Ends.{Ends, Settles}
+pub use Rattle.sdd_termination.specs.Rounds.{IsOfRound, rounds}
+pub use Rattle.std.proofs.Common.{Bool, List, None, Option, Some, [], ap, arith, cond, eq-eqb, eqb-true, false, filter, if◌then◌else◌, inl, inr, is_none, length, ltb-false, ltb-true, map, nat_lt, ne_eqb, not, refl, slice_get, subst, suc, sym, true, zero, ℕ, ◌&&◌, ◌*◌, ◌++◌, ◌+◌, ◌-◌, ◌<◌, ◌==◌, ◌^◌, ◌||◌, ◌∙◌, ◌∷◌, ◌≡◌, ◌≤◌}
+pub use Rattle.std.proofs.lemmas.Bool.{and_from as both, false≢true}
+pub use Rattle.std.proofs.lemmas.Option.{same_Some}
+pub use Rattle.std.specs.List.{list_all}
