@@ -1,17 +1,7 @@
 -- While the READ of an undeclared transaction is next at a module, each declared transaction whose WRITE is next there has a
 -- smaller timestamp, so that the READ holds no WRITE back.
-use Rattle.std.proofs.Common.{ℕ, ◌++◌, ◌-◌, ◌<◌, ◌==◌, ◌∙◌, ◌∷◌, ◌≡◌, ◌≤◌, List, Some, ap, append_assoc, arith, false, inl, inr, slice_get, subst, sym}
-use Rattle.sdd_obligations.specs.All.{Act, Answer, Attempt, Change, ClassNo, Cond, D, DmNo, Does, Given, HasAnswer, IsClass, IsCommitT, IsHigh, IsModule, IsPermitted, IsSound, Log, Read, Records, T, Ts, TxnNo, U, Use, Write, head, home, home_of, local_of, number_of, numbers_to, pipe_at, setting_of, start_at, starts, tm_no, u_stamp, zero_cond}
-use Rattle.sdd_obligations.proofs.catalog.Sound.{sound_whole}
-use Rattle.sdd_obligations.proofs.invariants.Answered.{read_of}
-use Rattle.sdd_obligations.proofs.invariants.Apart.{low_or_high}
-use Rattle.sdd_obligations.proofs.invariants.Dones.{all_applied}
-use Rattle.sdd_obligations.proofs.invariants.Installed.{class_number, head_put, write_origin}
-use Rattle.sdd_obligations.proofs.invariants.Once.{answered_there}
-use Rattle.sdd_obligations.proofs.invariants.Undeclared.{Part, answered_before, commit_t, has_cond, part_join, part_of, permitted_part, read_classes}
-use Rattle.sdd_obligations.proofs.HoldsFit.{at_place}
+use Rattle.sdd_progress.proofs.All.{Act, Answer, Attempt, Change, ClassNo, Cond, D, DmNo, Does, Given, HasAnswer, IsClass, IsCommitT, IsHigh, IsModule, IsPermitted, IsSound, List, Log, Part, Read, Records, Some, T, Ts, TxnNo, U, Use, Write, all_applied, answered_before, answered_there, ap, append_assoc, arith, at_place, class_number, commit_t, false, has_cond, head, head_put, home, home_of, home_small, inl, inr, local_of, low_or_high, number_of, numbers_to, part_join, part_of, permitted_part, pipe_at, positive, read_classes, read_of, setting_of, slice_get, sound_whole, start_at, starts, subst, sym, tm_no, u_stamp, write_origin, zero_cond, ℕ, ◌++◌, ◌-◌, ◌<◌, ◌==◌, ◌∙◌, ◌∷◌, ◌≡◌, ◌≤◌}
 use Rattle.sdd_progress.proofs.Still.{run_at, runs_place}
-use Rattle.sdd_lawful.proofs.Homes.{home_small, positive}
 
 -- a READ that is answered doesn't stand at the head again
 not_again : (g : Given) (d : DmNo) (log : Log) (a : Attempt) (ts : Ts) (k : ClassNo) (txn : TxnNo) (n : ℕ) (conds : List Cond) (uses : List Use) (before : Log)

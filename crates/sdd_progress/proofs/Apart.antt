@@ -1,16 +1,11 @@
 -- Of two committed transactions the second was submitted in a later era: a list of classes was put in force between them,
 -- so that the first is committed and applied before the second starts.
-use Rattle.std.proofs.Common.{ℕ, ◌+◌, ◌++◌, ◌<◌, ◌∙◌, ◌∷◌, ◌≡◌, ◌≢◌, ◌≤◌, [], ap, append_assoc, arith, inl, inr, length, refl, subst, sym}
-use Rattle.std.proofs.lemmas.List.{length-append}
-use Rattle.sdd_obligations.specs.All.{AppliedBefore, Committed, Entry, Given, GoesTo, IsAttempt, IsOfEarlierEra, IsSubmitted, Log, Redeclares, Submitted, begun, event_at, history, redeclares, txn_no}
-use Rattle.sdd_obligations.specs.history.declared.record.Rec.TheVariants.{Submit}
-use Rattle.sdd_obligations.specs.serial_orders.Attempts.{Attempt}
-use Rattle.sdd_lawful.proofs.Submissions.{submit_in}
+use Rattle.sdd_progress.proofs.All.{AppliedBefore, Committed, Entry, Given, GoesTo, IsAttempt, IsOfEarlierEra, IsSubmitted, Log, Redeclares, Submit, Submitted, [], ap, append_assoc, arith, begun, eras_of, event_at, history, inl, inr, length, length-append, redeclares, refl, submit_in, subst, sym, txn_no, ℕ, ◌++◌, ◌+◌, ◌<◌, ◌∙◌, ◌∷◌, ◌≡◌, ◌≢◌, ◌≤◌}
 use Rattle.sdd_progress.proofs.SinceRedeclare.{redeclares_back}
-use Rattle.sdd_progress.specs.Eras.{eras_of}
 use Rattle.sdd_progress.proofs.AtRest.{IsRest, applied_by, committed_by, rest}
 use Rattle.sdd_progress.proofs.Fronts.{ends, history_le, redeclare_between, stands_front}
 use Rattle.sdd_progress.proofs.Known.{Known, begun_at}
+use Rattle.sdd_obligations.specs.serial_orders.Attempts.{Attempt}
 
 -- a list was put in force after the Submit at a place and before an upper end
 pub record IsApart (g : Given) (log : Log) (n place : ℕ) (upper : Log) : Type 0 where

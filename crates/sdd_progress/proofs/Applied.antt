@@ -1,14 +1,7 @@
 -- Where nothing goes on and a pipe has nothing unprocessed, every WRITE of its class that touches the module is applied.
-use Rattle.std.proofs.Common.{ℕ, ◌++◌, ◌<◌, ◌==◌, ◌∙◌, ◌∷◌, ◌≡◌, ◌⊎◌, Some, [], ap, append-nil, length, slice_get, subst, sym, true}
-use Rattle.std.proofs.lemmas.List.{take_all}
-use Rattle.sdd_obligations.specs.All.{Attempt, Bases, D, Does, Given, IsApplied, IsClass, IsModule, IsOf, IsSound, Log, Msg, Write, all_of, changes_to, class_in, class_no, class_puts, commit_act, dm_no, handed, home, pipe, puts_to, results, setting_of, time_at, txn_no}
-use Rattle.sdd_obligations.proofs.invariants.Fair.{d_fair}
-use Rattle.sdd_obligations.proofs.invariants.InPipe.{pipe_is}
-use Rattle.sdd_obligations.proofs.invariants.Installed.{commit_put}
-use Rattle.sdd_obligations.proofs.invariants.Processed.{matched, zip_at}
+use Rattle.sdd_progress.proofs.All.{Attempt, Bases, D, Does, Given, IsApplied, IsClass, IsModule, IsOf, IsQuiet, IsSound, Log, Msg, Some, Write, [], all_of, ap, append-nil, at_home, at_module, changes_to, class_in, class_no, class_puts, commit_act, commit_put, d_fair, dm_no, handed, home, length, matched, pipe, pipe_is, puts_to, results, setting_of, slice_get, subst, sym, take_all, time_at, true, txn_no, zip_at, ℕ, ◌++◌, ◌<◌, ◌==◌, ◌∙◌, ◌∷◌, ◌≡◌, ◌⊎◌}
 use Rattle.sdd_progress.proofs.Handed.{none_left}
 use Rattle.sdd_progress.proofs.Still.{home_linked}
-use Rattle.sdd_progress.specs.Quiet.{IsQuiet, at_home, at_module}
 
 -- all that was put for a pipe came to it
 pub pipe_has_all : (g : Given) (log : Log) (c d : ℕ) → IsQuiet g log → IsSound g.catalogue → IsClass g.catalogue c → IsModule g.catalogue d

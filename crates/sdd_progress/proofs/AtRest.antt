@@ -1,23 +1,10 @@
 -- Where a list of classes was put in force: all that was submitted before is committed and applied there.
-use Rattle.std.proofs.Common.{ℕ, ◌++◌, ◌<◌, ◌∙◌, ◌∷◌, ◌≡◌, Some, [], ap, append_assoc, arith, length, refl, subst, sym}
-use Rattle.sdd_obligations.specs.All.{AppliedBefore, Apply, Commit, Committed, Given, GoesTo, HasCommit, History, IsAttempt, IsCommitted, IsLawful, IsSubmitted, Log, Redeclares, Stands, class_no, dm_no, history, next, redeclares, time_at, txn_no}
-use Rattle.sdd_lawful.specs.Given.{AreNumbered}
-use Rattle.sdd_lawful.proofs.Applied.{applied_before}
-use Rattle.sdd_lawful.proofs.Committed.{committed_in}
-use Rattle.sdd_lawful.proofs.Places.{history_grows}
-use Rattle.sdd_lawful.proofs.Started.{start_in}
-use Rattle.sdd_lawful.proofs.Starts.{start_within}
-use Rattle.sdd_lawful.proofs.Touched.{goes_module, goes_some}
+use Rattle.sdd_progress.proofs.All.{AllCommitted, AppliedBefore, Apply, AreNumbered, Commit, Committed, Given, GoesTo, HasCommit, HasSoundLists, History, IsAttempt, IsCommitted, IsIdle, IsLawful, IsQuiet, IsSubmitted, Log, Redeclares, Some, Stands, [], ap, append_assoc, applied_before, arith, class_no, committed_in, dm_no, eras_of, goes_module, goes_some, history, history_grows, length, next, redeclares, refl, start_in, start_within, subst, sym, time_at, txn_no, ℕ, ◌++◌, ◌<◌, ◌∙◌, ◌∷◌, ◌≡◌}
 use Rattle.sdd_progress.proofs.Applied.{all_applied}
 use Rattle.sdd_progress.proofs.Committed.{all_committed}
 use Rattle.sdd_progress.proofs.ErasOf.{are_eras_of}
 use Rattle.sdd_progress.proofs.Finished.{finished}
 use Rattle.sdd_progress.proofs.SinceRedeclare.{redeclares_back}
-use Rattle.sdd_progress.specs.Committed.{AllCommitted}
-use Rattle.sdd_progress.specs.Eras.{eras_of}
-use Rattle.sdd_progress.specs.Finished.{IsIdle}
-use Rattle.sdd_progress.specs.Premises.{HasSoundLists}
-use Rattle.sdd_progress.specs.Quiet.{IsQuiet}
 use Rattle.sdd_progress.proofs.Fronts.{stands_front, stands_more, stands_within}
 use Rattle.sdd_progress.proofs.Known.{Known, started_before}
 

@@ -1,17 +1,8 @@
 -- A history has no more attempts than the square of the number of its transactions: each starts once more than others
 -- commit at most, and each commits once.
-use Rattle.std.proofs.Common.{ℕ, zero, suc, ◌+◌, ◌*◌, ◌<◌, ◌≤◌, ◌==◌, ◌≡◌, ◌≢◌, eqb, nat_le, Bool, true, false, not, cond, List, [], ◌∷◌, length, Option, Some, None, refl, sym, ap, subst, inl, inr, arith}
-use Rattle.std.specs.Prelude.{filter, filter_map}
-use Rattle.std.specs.List.{AllByRecursion, IsDistinct, cons_option, list_any}
-use Rattle.std.proofs.Math.Nat.{suc-mul}
-use Rattle.std.proofs.lemmas.Bool.{cases_Bool, cases_eq, cases_lt, eqb-false, eqb-true, eq-eqb, le-leb, ne_eqb}
-use Rattle.std.proofs.lemmas.Bool.Decides.{nat_tests}
-use Rattle.std.proofs.lemmas.List.Elements.{All-head, All-tail}
-use Rattle.std.proofs.lemmas.Map.Keys.{IsDistinct-cons}
-use Rattle.std.proofs.lemmas.Option.{same_Some}
-use Rattle.std.proofs.lemmas.Map.Steps.{length-le_from_distinct_below}
-use Rattle.sdd_obligations.specs.All.{Answer, Apply, AreFew, Arrive, Commit, HasCommit, History, NamesOneOf, Nothing, Pass, Rec, Reject, Start, TxnsExist, Wait, attempt_of, attempts, commits_of_others, is_commit_of_other, is_start_of, placed, starts_of}
-use Rattle.sdd_obligations.specs.history.declared.record.Rec.TheVariants.{Submit}
+use Rattle.sdd_progress.proofs.All.{All-head, All-tail, AllByRecursion, Answer, Apply, AreFew, Arrive, Bool, Commit, HasCommit, History, IsDistinct-cons, List, NamesOneOf, None, Nothing, Option, Pass, Rec, Reject, Some, Start, Submit, TxnsExist, Wait, [], ap, arith, attempt_of, attempts, cases_eq, cases_lt, commits_of_others, cond, cons_option, eq-eqb, eqb, eqb-false, false, filter, filter_map, inl, inr, is_commit_of_other, is_start_of, le-leb, length, length-le_from_distinct_below, member_is, nat_le, nat_tests, ne_eqb, not, placed, refl, same_Some, starts_of, subst, suc, suc-mul, sym, true, zero, ℕ, ◌*◌, ◌+◌, ◌<◌, ◌==◌, ◌∷◌, ◌≡◌, ◌≢◌, ◌≤◌}
+use Rattle.std.specs.List.{IsDistinct}
+use Rattle.sdd_progress.proofs.Writers.{each_weaker}
 
 -- each transaction has one Commit
 abbrev pub OneCommit : History → Type 0
@@ -82,8 +73,7 @@ commits_here n count (k, Commit txn attempt reply changes values rows) h q named
             from = named.0;
             to = named.1;
             number = attempt;
-            commit =
-                record { reply = reply; changes = changes; values = values; rows = rows; stands = refl };
+            commit = record { reply = reply; changes = changes; values = values; rows = rows; stands = refl };
           })
     ] refl e
 commits_here n count (k, Submit txn) h q named e = absurd (cc)
@@ -95,18 +85,6 @@ commits_here n count (k, Reject txn attempt dm class ts) h q named e = absurd (c
 commits_here n count (k, Apply txn class dm ts) h q named e = absurd (cc)
 commits_here n count (k, Pass class dm time) h q named e = absurd (cc)
 commits_here n count (k, Nothing) h q named e = absurd (cc)
-
-each_weaker : {P Q : ℕ → Type 0} → ((j : ℕ) → P j → Q j) → (js : List ℕ) → AllByRecursion P js → AllByRecursion Q js
-each_weaker f [] all = tt
-each_weaker f (j ∷ js) all = (f j all.0, each_weaker f js all.1)
-
-member_is : (P : ℕ → Type 0) (js : List ℕ) (i : ℕ) → AllByRecursion P js → list_any (eqb i) js ≡ true → P i
-member_is P [] i all e = absurd (cc)
-member_is P (j ∷ js) i all e =
-    elim (cases_Bool (eqb i j)) [
-      | inl same ↦ subst P (sym (eqb-true i j same)) all.0
-      | inr other ↦ member_is P js i all.1 (rw other at e)
-    ]
 
 not_at : (x m : ℕ) → x ≢ suc m → suc m ≤ x → nat_le x (suc m) ≡ false
 not_at x m other high = let l : suc m < x = omega (arith, other) in grind (arith, nat_tests)

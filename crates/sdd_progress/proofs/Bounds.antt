@@ -1,9 +1,5 @@
 -- The time at which a list of classes is put in force is after every clock of a transaction module.
-use Rattle.std.specs.Prelude.{fold, max}
-use Rattle.std.proofs.Common.{ℕ, suc, zero, ◌*◌, ◌+◌, ◌-◌, ◌/◌, ◌<◌, ◌==◌, ◌∷◌, ◌≡◌, ◌≤◌, List, Some, [], ap, arith, false, length, map, refl, slice_get, subst}
-use Rattle.sdd_obligations.specs.All.{Given, IsSound, Log, T, bound_at, class_at, greatest_bound, home, numbers_to, tm_no}
-use Rattle.sdd_obligations.proofs.Sums.{range_at}
-use Rattle.sdd_lawful.proofs.Homes.{positive, served}
+use Rattle.sdd_progress.proofs.All.{Given, IsSound, List, Log, Some, T, [], ap, arith, bound_at, class_at, false, fold, greatest_bound, home, length, map, max, numbers_to, positive, range_at, refl, served, slice_get, subst, suc, tm_no, zero, ℕ, ◌*◌, ◌+◌, ◌-◌, ◌/◌, ◌<◌, ◌==◌, ◌∷◌, ◌≡◌, ◌≤◌}
 
 -- the greatest bound is none below that of a module
 
@@ -29,7 +25,8 @@ bound_within g log n l m =
 pub max_ge : (a b : ℕ) → b ≤ max a b
 max_ge a b = omega arith
 
-pub rise_by : (tb tm gb u ub ts nx us ny : ℕ) → tb + 1 ≤ tm → ts ≡ (tb + 1) * 64 + nx → nx ≤ 16 → tm * 64 + 63 ≤ gb → gb / 64 ≤ u → u ≤ ub → us ≡ (ub + 1) * 64 + ny
+pub rise_by : (tb tm gb u ub ts nx us ny : ℕ) → tb + 1 ≤ tm → ts ≡ (tb + 1) * 64 + nx → nx ≤ 16 → tm * 64 + 63 ≤ gb → gb / 64 ≤ u → u ≤ ub
+    → us ≡ (ub + 1) * 64 + ny
     → ts < us
 rise_by tb tm gb u ub ts nx us ny a b c d e f g = omega (arith, a, b, c, d, e, f, g)
 

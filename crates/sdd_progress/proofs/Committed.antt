@@ -1,31 +1,10 @@
 -- Where all is finished, every transaction that was submitted is committed, and nothing is pending.
-use Rattle.std.specs.List.{cons_option, list_any}
-use Rattle.std.specs.Prelude.{◌⊎◌, filter, filter_map, option_map, unwrap_or}
-use Rattle.std.proofs.Common.{ℕ, suc, zero, ◌++◌, ◌-◌, ◌==◌, ◌∙◌, ◌∷◌, ◌≡◌, ◌≤◌, Bool, List, None, Option, Some, [], ap, arith, false, if◌then◌else◌, inl, inr, length, refl, slice_get, subst, sym, true}
-use Rattle.std.proofs.Math.Decide.{dec_le}
-use Rattle.std.proofs.lemmas.Bool.{eqb-true}
-use Rattle.sdd_obligations.specs.All.{Act, Catalogue, Change, Commit, Did, Does, Force, Given, History, IsClass, IsEraOf, IsPermitted, IsSubmitted, Log, Mark, Queued, Rec, Records, Reply, Site, Stands, Submit as Submitting, Submits, Submitted, T, TmNo, Txn, class_at, class_for, covers, force_at, head_of, history, home, in_force, is_committed, is_for, local_of, numbers_to, queue, queued, redeclares, setting_of, submits_of, tm_no, txn_at, txn_no}
-use Rattle.sdd_obligations.specs.history.declared.record.Rec.TheVariants.{Submit}
-use Rattle.sdd_obligations.proofs.class_eras.EraSets.{covered}
-use Rattle.sdd_obligations.proofs.class_eras.Lists.{first_passes}
-use Rattle.sdd_obligations.specs.logs.Due.{home_of}
-use Rattle.sdd_obligations.proofs.invariants.Bools.{and_left, or_left, or_right, same_number, same_or_not}
-use Rattle.sdd_obligations.proofs.invariants.Fair.{all_new, home_fair}
-use Rattle.sdd_obligations.proofs.invariants.Lists.{member_there}
-use Rattle.sdd_obligations.proofs.invariants.Made.{permitted_before, place_of_act}
-use Rattle.sdd_obligations.proofs.invariants.Queues.{queue_is}
-use Rattle.sdd_obligations.specs.invariants.Steps.{starts_of}
-use Rattle.sdd_lawful.specs.Given.{AreNumbered}
-use Rattle.sdd_lawful.proofs.Classes.{IsForClass, at_home, force_there, further_back, home_by, home_setting, submit_local}
-use Rattle.sdd_lawful.proofs.Commits.{Told, commit_rec}
-use Rattle.sdd_lawful.proofs.Homes.{positive}
-use Rattle.sdd_lawful.proofs.Locals.{commit_act_in, submitted_in}
-use Rattle.sdd_lawful.proofs.Places.{stands_there}
-use Rattle.sdd_lawful.proofs.Submissions.{IsSubmitIn, given_at, submit_in}
+use Rattle.sdd_progress.proofs.All.{Act, AllCommitted, AreNumbered, Bool, Catalogue, Change, Commit, Did, Does, Given, HasSoundLists, History, IsClass, IsEraOf, IsFinished, IsNotLeft, IsPermitted, IsSubmitIn, IsSubmitted, List, Log, Mark, None, Option, Queued, Rec, Records, Reply, Site, Some, Stands, Submit, Submits, Submitted, T, TmNo, Told, Txn, WasCommitted, [], all_new, ap, arith, class_at, class_for, commit_act_in, commit_rec, cons_none, cons_option, covered, covers_home, dec_le, false, filter_map, for_class, force_at, further_back, given_at, history, home, home_by, home_fair, home_setting, if◌then◌else◌, inl, inr, is_committed, length, list_any, member_there, option_map, or_left, or_right, permitted_before, place_of_act, positive, queue, queue_is, queued, redeclares, refl, same_or_not, slice_get, stands_there, submit_in, submit_local, submits_of, submitted_in, subst, suc, sym, tm_no, true, txn_no, zero, ℕ, ◌++◌, ◌-◌, ◌∙◌, ◌∷◌, ◌≡◌, ◌⊎◌}
 use Rattle.sdd_progress.proofs.SinceRedeclare.{redeclares_back}
-use Rattle.sdd_progress.specs.Committed.{AllCommitted, IsNotLeft, WasCommitted}
-use Rattle.sdd_progress.specs.Finished.{IsFinished}
-use Rattle.sdd_progress.specs.Premises.{HasSoundLists}
+use Rattle.sdd_obligations.specs.All.{Submit as Submitting, txn_at}
+use Rattle.sdd_obligations.specs.logs.Due.{home_of}
+use Rattle.sdd_obligations.specs.invariants.Steps.{starts_of}
+use Rattle.sdd_lawful.proofs.Classes.{at_home}
 
 -- the class of a transaction by the list in force is one of the whole catalogue, and run at the transaction's module
 
@@ -34,18 +13,6 @@ class_within cat era h txn = elim (dec_le 1 (class_for era txn)) [
   | yes p ↦ (let to = (covered era txn (class_for era txn) refl p).class.to in let few = h.classes in omega (arith, to, few))
   | no p ↦ omega (arith, p)
 ]
-
-covers_home : (cat : Catalogue) (txn : Txn) (c : ℕ) → c ≡ class_for cat txn → 1 ≤ c → (class_at cat c).tm.0 ≡ txn.tm.0
-covers_home cat txn c e l =
-    elim (head_of (filter (covers cat txn) (numbers_to (length cat.classes)))) as (λ o. head_of
-    (filter (covers cat txn) (numbers_to (length cat.classes))) ≡ o → c ≡ unwrap_or o 0
-    → (class_at cat c).tm.0 ≡ txn.tm.0) [
-      | None ↦ λ h z. absurd (omega arith)
-      | Some x ↦ λ h z.
-          let p = first_passes (covers cat txn) (numbers_to (length cat.classes)) x h in
-          let q : ((class_at cat x).tm.0 == txn.tm.0) ≡ true = and_left _ _ p in
-          ap (λ k. (class_at cat k).tm.0) z ∙ eqb-true (class_at cat x).tm.0 txn.tm.0 q
-    ] refl e
 
 home_is : (cat era : Catalogue) → IsEraOf cat era → (txn : Txn) (c : ℕ) → c ≡ class_for era txn → home_by c txn ≡ home cat c
 home_is cat era h txn c e = elim (same_or_not c 0) [
@@ -59,23 +26,7 @@ home_is cat era h txn c e = elim (same_or_not c 0) [
       here ∙ ap (λ n. T (tm_no n)) (sym whole) ∙ sym there)
 ]
 
-for_class : (g : Given) (c : ℕ) (rest : Log) (txn : Txn) → class_for (force_at g (redeclares rest)).catalogue txn ≡ c → IsForClass g c rest txn
-for_class g c rest txn e = elim (same_or_not c 0) [
-  | inl p ↦ subst (λ k. IsForClass g k rest txn) (sym p) refl
-  | inr p ↦ (let t = tm_no (class_at g.catalogue c).tm.0 in
-      let here : home g.catalogue c ≡ T t = rw p refl in
-      let k : class_for (in_force (setting_of g (T t)) (local_of g (T t) rest)).catalogue txn ≡ c =
-      ap (λ (w : Force). class_for w.catalogue txn) (force_there g t rest) ∙ e in
-      let q : is_for c (in_force (setting_of g (T t)) (local_of g (T t) rest)).catalogue txn ≡ true =
-      or_right (c == 0) _ (ap (λ y. y == c) k ∙ same_number c) in
-      subst (λ a. is_for c (in_force (setting_of g a) (local_of g a rest)).catalogue txn ≡ true) (sym here) q)
-]
-
 -- what is not in the queue is committed
-
-cons_none : {A : Type 0} (o : Option A) (xs : List A) → cons_option o xs ≡ [] → (o ≡ None) × (xs ≡ [])
-cons_none None xs e = (refl, e)
-cons_none (Some x) xs e = cc
 
 none_kept : {A B : Type 0} (f : A → Option B) (xs : List A) (i : ℕ) (x : A) → filter_map f xs ≡ [] → slice_get xs i ≡ Some x → f x ≡ None
 none_kept f [] i x e h = cc

@@ -1,20 +1,8 @@
 -- Where nothing goes on and all is idle, each copy has what a serial run leaves.
-use Rattle.std.proofs.Common.{ℕ, ◌∙◌, ◌≡◌, List, [], ap, inr, length, refl, subst, sym, true}
-use Rattle.sdd_obligations.specs.All.{AppliedBefore, AreAllApplied, D, Given, IsSerial, IsSound, Log, RelNo, Row, TxnNo, contents, dated, dm_no, has_copy, history, items_of, local_of, rows_in_fragment, run, setting_of}
-use Rattle.sdd_lawful.specs.Given.{HasSoundData}
-use Rattle.sdd_lawful.proofs.Applied.{applied_before}
-use Rattle.sdd_lawful.proofs.Committed.{committed_in}
-use Rattle.sdd_lawful.proofs.Started.{start_in}
-use Rattle.sdd_lawful.proofs.Starts.{start_within}
-use Rattle.sdd_lawful.proofs.Together.{copies}
-use Rattle.sdd_lawful.proofs.Touched.{copy_module, touches_some}
+use Rattle.sdd_progress.proofs.All.{AppliedBefore, AreAllApplied, D, Given, HasSoundData, HasSoundLists, IsIdle, IsQuiet, IsSerial, IsSound, List, Log, RelNo, Row, TxnNo, [], ap, applied_before, committed_in, contents, copies, copy_module, dated, dm_no, eras_of, has_copy, history, inr, items_of, length, local_of, refl, rows_in_fragment, run, setting_of, start_in, start_within, subst, sym, touches_some, true, ℕ, ◌∙◌, ◌≡◌}
 use Rattle.sdd_progress.proofs.Applied.{all_applied}
 use Rattle.sdd_progress.proofs.ErasOf.{are_eras_of}
 use Rattle.sdd_progress.proofs.OwnCopies.{own_copy}
-use Rattle.sdd_progress.specs.Eras.{eras_of}
-use Rattle.sdd_progress.specs.Finished.{IsIdle}
-use Rattle.sdd_progress.specs.Premises.{HasSoundLists}
-use Rattle.sdd_progress.specs.Quiet.{IsQuiet}
 
 -- what changes a fragment is applied at each copy
 pub applied_at_copies : (g : Given) (log : Log) (f d : ℕ) → IsSound g.catalogue → IsQuiet g log → HasSoundLists g log → IsIdle g log

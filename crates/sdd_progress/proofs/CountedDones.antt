@@ -1,18 +1,7 @@
 -- The DONEs that were handed to the module for undeclared transactions, against those that it counts for its last Commit.
-use Rattle.std.proofs.Common.{ℕ, ◌+◌, ◌<◌, ◌==◌, ◌∙◌, ◌∷◌, ◌≡◌, ◌≤◌, List, None, Option, Some, [], ap, arith, false, if◌then◌else◌, refl, slice_get, suc, subst, sym, true}
-use Rattle.std.proofs.Math.Decide.{dec_le}
-use Rattle.std.proofs.lemmas.Bool.{eqb-true}
-use Rattle.sdd_obligations.specs.All.{Act, Attempt, Bases, D, Did, Done, Each, Given, Hand, Handed, Hold, IsAllowed, IsFair, IsFairU, IsPermitted, IsStepU, Msg, Queued, Redeclared, Release, Sends, Served, Setting, Site, Submits, T, Ticked, U, active, active_handed, active_sent, after_hand, after_send, asks_rows, bound, commit_act, dm_no, dones_of, handed, head_of, is_done_of, last_served, limit_of, local_of, next_stamp, number_of, numbers_to, puts_to, queue, rejects, sends_of_act, served_handed, setting_of, start_at, started, tm_no, ts_of}
+use Rattle.sdd_progress.proofs.All.{Act, Attempt, Bases, D, Did, Done, Each, Given, Hand, Handed, Hold, IsAllowed, IsFair, IsFairU, IsPermitted, IsStepU, List, Msg, None, Option, Queued, Redeclared, Release, Sends, Served, Setting, Site, Some, Submits, T, Ticked, U, [], active, active_handed, active_sent, after_hand, after_send, ap, arith, asks_rows, bound, bound_below_next, bound_rises, commit_act, dec_le, dm_no, done_fits, dones_of, each_local, eqb-true, false, from_a_d, hand_ts, hand_was_put, handed, head_of, if◌then◌else◌, is_done_of, last_served, limit_le, limit_of, local_of, next_stamp, number_of, numbers_to, one_if, puts_to, queue, refl, rejects, sends_of_act, served_handed, setting_of, slice_get, start_at, started, subst, suc, sym, tm_no, true, ts_of, u_due, u_way, ℕ, ◌+◌, ◌<◌, ◌==◌, ◌∙◌, ◌∷◌, ◌≡◌, ◌≤◌}
 use Rattle.sdd_obligations.specs.site_module.SiteLog.{Entry, Log}
 use Rattle.sdd_obligations.specs.logs.Entries as whole
-use Rattle.sdd_obligations.proofs.logs.EachLocal.{each_local}
-use Rattle.sdd_obligations.proofs.invariants.Answered.{from_a_d}
-use Rattle.sdd_obligations.proofs.invariants.Clocks.{bound_below_next, bound_rises, limit_le}
-use Rattle.sdd_obligations.proofs.invariants.InOrder.{hand_was_put}
-use Rattle.sdd_obligations.proofs.invariants.Serving.{u_due, u_way}
-use Rattle.sdd_obligations.specs.invariants.Turns.{one_if}
-use Rattle.sdd_obligations.proofs.DonesFit.{done_fits}
-use Rattle.sdd_obligations.proofs.SendsLow.{hand_ts}
 
 -- each DONE that is handed is for the last Commit
 
@@ -69,8 +58,7 @@ handed_ts : (c : ℕ) (from : Site) (m : Msg) (o : Option Attempt) (a : Attempt)
 handed_ts c (D d) m None a e = cc
 handed_ts c (D d) m (Some b) a e =
     elim (rejects m b.ts c) as (λ x. (if x then None else Some (record b {
-      exchange =
-          after_hand b.ts c d.0 m b.exchange;
+      exchange = after_hand b.ts c d.0 m b.exchange;
     })) ≡ Some a → (y : Attempt) × (Some b ≡ Some y) × (y.ts ≡ a.ts)) [
       | true ↦ λ p. cc
       | false ↦ λ p. (b, refl, ap ts_of p)
@@ -97,8 +85,7 @@ above_same s log o a h b = subst (λ x. (last_served s log).ts < x) b.2 (h.attem
 done_counts : (m : Msg) (v : Served) → (served_handed m v).dones ≡ one_if (is_done_of v.ts m) + v.dones
 done_counts (Done t) v = elim (t.0 ==
     v.ts) as (λ b. (if b then record v { dones = suc v.dones } else v).dones ≡ one_if b + v.dones) [
-      | true ↦
-          omega arith
+      | true ↦ omega arith
       | false ↦ omega arith
     ]
 done_counts _ v = omega arith

@@ -1,24 +1,11 @@
 -- Where nothing goes on and all WRITEs are applied, the module for undeclared transactions has counted the DONE of each data
 -- module for its last Commit.
-use Rattle.std.proofs.Common.{ℕ, ◌+◌, ◌++◌, ◌<◌, ◌==◌, ◌∙◌, ◌∷◌, ◌≡◌, ◌≤◌, Bool, List, Some, [], ap, arith, false, if◌then◌else◌, inl, inr, refl, slice_get, suc, subst, sym, true, zero}
-use Rattle.sdd_obligations.specs.All.{Act, Apply, Attempt, Bases, ClassNo, D, Did, DmNo, Does, Done, Each, Given, Handed, IsDueEach, IsModule, IsOfWrite, IsSound, Log, Msg, Rec, Records, Redeclared, Setting, Site, Submits, T, Ticked, Ts, TxnNo, U, commit_act, dm_no, done_for, dones_of, hands_from, is_done_of, last_served, local_of, number_of, numbers_to, puts_to, same_site, sends_of_act, setting_of, tally, time_at, to_site}
-use Rattle.sdd_obligations.specs.site_module.SiteLog as site
-use Rattle.sdd_obligations.proofs.invariants.Active.{each_at}
-use Rattle.sdd_obligations.proofs.invariants.Bools.{same_number, same_or_not}
-use Rattle.sdd_obligations.proofs.invariants.Dones.{dones_few}
-use Rattle.sdd_obligations.proofs.invariants.Fair.{d_fair, u_fair}
-use Rattle.sdd_obligations.proofs.invariants.HoldChain.{u_table}
-use Rattle.sdd_obligations.proofs.invariants.Origins.{is_put}
-use Rattle.sdd_obligations.proofs.invariants.Turns.{tally_append}
-use Rattle.sdd_obligations.specs.invariants.Turns.{one_if}
-use Rattle.sdd_obligations.proofs.DataSteps.{IsDataStep, answers_read, applies, arrives, data_step, passes, refuses_read, replies, waits_for}
-use Rattle.sdd_lawful.proofs.Applied.{HasResult, result_in}
+use Rattle.sdd_progress.proofs.All.{Act, Apply, Attempt, Bases, Bool, ClassNo, D, Did, DmNo, Does, Done, Each, Given, Handed, HasResult, IsDataStep, IsDueEach, IsIdle, IsModule, IsOfWrite, IsQuiet, IsSound, List, Log, Msg, Rec, Records, Redeclared, Setting, Site, Some, Submits, T, Ticked, Ts, TxnNo, U, [], answers_read, ap, applies, arith, arrives, at_module, commit_act, d_fair, data_step, dm_no, done_for, dones_few, dones_of, each_at, false, hands_from, if◌then◌else◌, inl, inr, is_done_of, is_put, last_served, local_of, number_of, numbers_to, one_if, passes, puts_to, refl, refuses_read, replies, result_in, same_number, same_or_not, same_site, sends_of_act, setting_of, slice_get, subst, suc, sym, tally, tally_append, time_at, to_site, true, u_fair, u_table, waits_for, zero, ℕ, ◌++◌, ◌+◌, ◌<◌, ◌==◌, ◌∙◌, ◌∷◌, ◌≡◌, ◌≤◌}
 use Rattle.sdd_progress.proofs.Applied.{all_applied}
 use Rattle.sdd_progress.proofs.CountedDones.{all_current, counted_off}
 use Rattle.sdd_progress.proofs.Handed.{all_handed}
 use Rattle.sdd_progress.proofs.Still.{home_linked}
-use Rattle.sdd_progress.specs.Finished.{IsIdle}
-use Rattle.sdd_progress.specs.Quiet.{IsQuiet, at_module}
+use Rattle.sdd_obligations.specs.site_module.SiteLog as site
 
 -- one module's DONEs, and those of n modules from module a on
 

@@ -1,17 +1,6 @@
 -- The eras of a log that puts several lists of classes in force.
-use Rattle.std.specs.Prelude.{filter, slice_index_or}
-use Rattle.std.proofs.Common.{ℕ, suc, zero, ◌++◌, ◌+◌, ◌-◌, ◌<◌, ◌∙◌, ◌∷◌, ◌≡◌, ◌≤◌, ◌⊎◌, List, Option, Some, [], ap, append_assoc, arith, cond, false, inl, inr, length, nat_le, refl, slice_get, subst, sym, true}
-use Rattle.std.proofs.lemmas.Bool.{le-leb}
-use Rattle.std.proofs.lemmas.List.{length-append}
-use Rattle.sdd_obligations.specs.All.{AreEras, Catalogue, Does, Entry, Eras, Given, Hand, IsEraOf, Log, Mark, Notes, Redeclares, Round, Submitted, begun, force_at, marks, redeclares}
-use Rattle.sdd_obligations.specs.laws.Eras.{in_force}
-use Rattle.sdd_obligations.proofs.invariants.Bools.{true_or_false}
-use Rattle.sdd_obligations.proofs.invariants.Lists.{at_seam, in_left, place_within}
-use Rattle.sdd_obligations.proofs.invariants.Split.{le_is}
-use Rattle.sdd_lawful.specs.Given.{AreErasOf}
+use Rattle.sdd_progress.proofs.All.{AreErasOf, Catalogue, Does, Eras, Given, Hand, HasSoundLists, IsEraOf, List, Log, Mark, Notes, Redeclares, Round, Some, Submitted, [], ap, arith, at_seam, begun, cond, eras_of, false, filter, force_at, in_force, in_left, inl, inr, le-leb, le_is, length, length-append, marks, nat_le, place_within, redeclares, refl, slice_get, slice_index_or, subst, suc, sym, true, true_or_false, zero, ℕ, ◌++◌, ◌+◌, ◌-◌, ◌<◌, ◌∙◌, ◌∷◌, ◌≡◌, ◌≤◌, ◌⊎◌}
 use Rattle.sdd_progress.proofs.SinceRedeclare.{redeclares_back}
-use Rattle.sdd_progress.specs.Eras.{eras_of}
-use Rattle.sdd_progress.specs.Premises.{HasSoundLists}
 
 -- a member of a list with one more at its end
 at_snoc : {A : Type 0} (xs : List A) (y : A) (k : ℕ) (m : A) → slice_get (xs ++ y ∷ []) k ≡ Some m
@@ -162,7 +151,7 @@ begun_all g (Submitted at k ∷ log) n l = begun_all g log n l
 begun_all g (Notes ∷ log) n l = begun_all g log n l
 begun_all g (Does at act ∷ log) n l = begun_all g log n l
 
-marks_up : (later log : Log) → marks log ≤ marks (later ++ log)
+pub marks_up : (later log : Log) → marks log ≤ marks (later ++ log)
 marks_up [] log = omega arith
 marks_up (Mark x ∷ later) log = let i = marks_up later log in omega (arith, i)
 marks_up (Redeclares t ∷ later) log = let i = marks_up later log in omega (arith, i)
@@ -190,12 +179,13 @@ begun_later g (Does at act ∷ later) log = begun_later g later log
 pub begun_is : (g : Given) (log later before : Log) → log ≡ later ++ before → begun (eras_of g log) (marks before) ≡ suc (redeclares before)
 begun_is g log later before is = ap (λ l. begun (eras_of g l) (marks before)) is ∙ begun_later g later before ∙ begun_all g before (marks before) (omega arith)
 
-index_or : {A : Type 0} (xs : List A) (k : ℕ) (d m : A) → slice_get xs k ≡ Some m → slice_index_or xs k d ≡ m
+pub index_or : {A : Type 0} (xs : List A) (k : ℕ) (d m : A) → slice_get xs k ≡ Some m → slice_index_or xs k d ≡ m
 index_or [] k d m e = cc
 index_or (x ∷ xs) zero d m e = let p : x ≡ m = cc in p
 index_or (x ∷ xs) (suc k) d m e = index_or xs k d m e
 
-in_force_is : (g : Given) (log later before : Log) → log ≡ later ++ before → in_force g.catalogue (eras_of g log) (marks before) ≡ (force_at g (redeclares before)).catalogue
+in_force_is : (g : Given) (log later before : Log) → log ≡ later ++ before
+    → in_force g.catalogue (eras_of g log) (marks before) ≡ (force_at g (redeclares before)).catalogue
 in_force_is g log later before is =
     let a = last g before in
     let there : slice_get (eras_of g log) (redeclares before) ≡ Some a.0 =

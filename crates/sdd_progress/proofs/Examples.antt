@@ -1,33 +1,8 @@
 -- The worked logs meet what the laws take.
-use Rattle.std.specs.List.{All}
-use Rattle.std.proofs.Common.{ℕ, suc, zero, ◌+◌, ◌-◌, ◌∷◌, ◌≡◌, ◌≤◌, List, None, Some, [], ap, arith, inl, inr, lit≤, refl, slice_get, subst, sym}
-use Rattle.std.proofs.lemmas.List.Elements.{All-from_recursion}
-use Rattle.std.specs.Prelude.{slice_index_or}
-use Rattle.sdd_obligations.specs.All.{Event, FitsStart, FitsText, Given, IsDatabase, IsEntry, IsFrom1To, IsHeld, IsLawful, Le, Log, PutsHeld, RelNo, Row, Submit, Txn, database_of, extended, history, item_cmp, next, one_if, row_of, submits_by, submits_in, txn_no}
-use Rattle.sdd_history_examples.specs.Catalogues.{crossing}
-use Rattle.sdd_history_examples.specs.Texts.{given_to, put_row, query_and_put, values_by}
-use Rattle.sdd_history_examples.proofs.Sound.{sound_crossing}
-use Rattle.sdd_history_examples.proofs.Texts.{one_fits, put_fits, values_fit}
-use Rattle.sdd_history_examples.proofs.WorkedTables.{is_crossing}
-use Rattle.sdd_obligations.specs.lang.Fits.{Fits}
-use Rattle.sdd_obligations.proofs.lang.SortedEntries.{sorted_nil}
-use Rattle.sdd_obligations.proofs.invariants.Bools.{same_or_not}
-use Rattle.sdd_lawful.specs.Given.{HasSoundData, SubmitGiven}
+use Rattle.sdd_progress.proofs.All.{All, All-from_recursion, AllCommitted, Event, Fits, FitsStart, FitsText, HasOneTable, HasSoundData, HasSoundLists, IsAtEnd, IsDatabase, IsEntry, IsFinished, IsFrom1To, IsHeld, IsSettled, Le, List, PutsHeld, RelNo, Row, Some, SubmitGiven, Txn, [], all_lost, ap, arith, crossing, crossing_with, database_of, extended_lawful, given_all_lost, given_late_query, given_to, history, inl, inr, is_crossing, item_cmp, late_query, lit≤, log_of_all_lost, log_of_late_query, one_fits, put_fits, put_row, query_and_put, refl, row_of, same_or_not, slice_get, slice_index_or, sorted_nil, sound_crossing, submits_by, submits_in, subst, suc, sym, txn_no, values_by, values_fit, zero, ℕ, ◌+◌, ◌-◌, ◌∷◌, ◌≡◌, ◌≤◌}
 use Rattle.sdd_progress.proofs.Settled.{settle_ends, settled_is_committed, settled_is_finished}
-use Rattle.sdd_progress.specs.Committed.{AllCommitted}
-use Rattle.sdd_progress.specs.Examples.{all_lost, crossing_with, given_all_lost, given_late_query, late_query, log_of_all_lost, log_of_late_query}
-use Rattle.sdd_progress.specs.Finished.{IsFinished}
 use Rattle.sdd_progress.proofs.OneList.{one_list, up_in_one}
-use Rattle.sdd_progress.specs.Premises.{HasOneTable, HasSoundLists}
-use Rattle.sdd_progress.specs.Settled.{IsAtEnd, IsSettled}
-
-extended_lawful : (n : ℕ) (g : Given) (log : Log) → IsLawful g log → IsLawful g (extended n g log)
-extended_lawful zero g log h = h
-extended_lawful (suc n) g log h =
-    elim (next g log) as (λ o. next g log ≡ o → IsLawful g (elim o [ None ↦ log | Some e ↦ extended n g (e ∷ log) ])) [
-      | None ↦ λ p. h
-      | Some e ↦ λ p. extended_lawful n g (e ∷ log) (p, h)
-    ] refl
+use Rattle.sdd_obligations.specs.All.{Submit, one_if}
 
 pub late_query_ends : IsAtEnd given_late_query log_of_late_query
 late_query_ends = record {
@@ -79,9 +54,7 @@ crossing_table events = record {
   fits = record {
     sound = sound_crossing.whole;
     txns = λ n. text_at (n - 1);
-    rows =
-        λ d. subst (λ rs. IsDatabase crossing (database_of crossing rs)) (sym (rows_at events (d.0 - 1)))
-        no_rows;
+    rows = λ d. subst (λ rs. IsDatabase crossing (database_of crossing rs)) (sym (rows_at events (d.0 - 1))) no_rows;
   };
   table = record { table = is_crossing };
   same = refl;
@@ -123,7 +96,7 @@ crossing_submits events both = record {
   given = λ n l. (let b = both n in (submits_both n).1 (omega (arith, b, l)));
 }
 
-late_query_submits : SubmitGiven given_late_query
+pub late_query_submits : SubmitGiven given_late_query
 late_query_submits = crossing_submits given_late_query.events (λ n. omega arith)
 
 all_lost_submits : SubmitGiven given_all_lost

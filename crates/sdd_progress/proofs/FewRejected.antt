@@ -1,16 +1,9 @@
 -- A transaction's rejected attempts are at most the Commits of other transactions: those before the last have a writer
 -- each, since another attempt started after them; and so has the last, by its Reject.
-use Rattle.std.proofs.Common.{ℕ, zero, suc, ◌≤◌, ◌==◌, ◌≡◌, true, ◌&&◌, List, refl, ap, ◌∙◌, subst, inl, inr, arith}
-use Rattle.std.specs.Prelude.{option_map}
-use Rattle.std.proofs.lemmas.Bool.{and_parts, cases_Bool, eqb-true}
-use Rattle.sdd_obligations.specs.All.{Answer, Apply, Arrive, Catalogue, Commit, Eras, History, IsAttempt, KeepsRejections, KeepsStarts, Nothing, Pass, Rec, Reject, Stands, Start, Txn, Wait, class_no, commits_of_others, dm_no, is_start_of, starts_before, starts_of, time_at, txn_no}
-use Rattle.sdd_obligations.specs.history.declared.record.Rec.TheVariants.{Submit}
-use Rattle.sdd_obligations.specs.serial_orders.Attempts.{Attempt}
-use Rattle.sdd_obligations.proofs.invariants.Lists.{any_at}
-use Rattle.sdd_progress.specs.Few.{AreFewRejected, is_reject_of, is_rejected, is_rejected_start, rejected_of}
-use Rattle.sdd_progress.specs.Rejects.{KeepsRejects}
+use Rattle.sdd_progress.proofs.All.{Answer, Apply, AreFewRejected, Arrive, Catalogue, Commit, Eras, History, IsAttempt, KeepsRejections, KeepsRejects, KeepsStarts, List, Nothing, Pass, Rec, Reject, Stands, Start, Submit, Txn, Wait, and_parts, any_at, ap, arith, cases_Bool, class_no, commits_of_others, dm_no, eqb-true, inl, inr, is_reject_of, is_rejected, is_rejected_start, is_start_of, option_map, refl, rejected_of, starts_before, starts_of, subst, suc, time_at, true, txn_no, zero, ℕ, ◌&&◌, ◌==◌, ◌∙◌, ◌≡◌, ◌≤◌}
 use Rattle.sdd_progress.proofs.Last.{fewer, last_passing, less}
 use Rattle.sdd_progress.proofs.Writers.{WritersBelow, low_of_condition, low_time, one_more, writers, writers_count}
+use Rattle.sdd_obligations.specs.serial_orders.Attempts.{Attempt}
 
 -- a Start at a place is that of an attempt
 pub record IsStartAt (h : History) (n k : ℕ) (r : Rec) : Type 0 where
@@ -81,8 +74,7 @@ reject_at h n number e =
     let i = any_at (λ (x : ℕ × Rec). is_reject_of n number x.1) h e in
     reject_is h n number i.0 i.1.1 (ap (option_map (λ (x : ℕ × Rec). x.1)) i.2) i.3
 
-module _
-    (cat : Catalogue) (eras : Eras) (txns : List Txn) (h : History)
+module _ (cat : Catalogue) (eras : Eras) (txns : List Txn) (h : History)
     (starting : KeepsStarts cat eras txns h) (rejecting : KeepsRejections cat eras h) (rejects : KeepsRejects cat eras h)
   where
     -- as many writers as attempts up to one that is rejected

@@ -1,32 +1,16 @@
 -- Where nothing goes on and all is idle, no transaction module is on hold and no transaction is in a queue.
-use Rattle.std.specs.List.{list_all}
-use Rattle.std.specs.Prelude.{nat_lt}
-use Rattle.std.proofs.Common.{ℕ, ◌&&◌, ◌-◌, ◌<◌, ◌==◌, ◌∙◌, ◌∷◌, ◌≡◌, ◌≤◌, Bool, List, None, Option, Some, [], ap, arith, false, if◌then◌else◌, inl, inr, is_none, length, not, refl, slice_get, subst, suc, sym, true}
-use Rattle.std.proofs.Math.Decide.{dec_le}
-use Rattle.std.proofs.lemmas.Bool.{eq-eqb, eqb-true, le-ltb, lt-ltb}
-use Rattle.sdd_obligations.specs.All.{AllZero, Catalogue, Given, IsClass, IsSound, Log, Queued, T, U, active, class_at, commit_act, counts, hands_from, head_of, holds, home, is_a_held, is_a_hold, is_a_release, is_link, last_served, local_of, numbers_to, puts_to, queue, setting_of, tally, tm_no}
-use Rattle.sdd_obligations.proofs.catalog.Sound.{sound_whole}
-use Rattle.sdd_obligations.specs.site_module.SiteLog as site
-use Rattle.sdd_obligations.specs.tm.Due as tm
-use Rattle.sdd_obligations.specs.tm.Views as tm_views
-use Rattle.sdd_obligations.specs.umod.Due as um
-use Rattle.sdd_obligations.specs.umod.Views as um_views
-use Rattle.sdd_obligations.proofs.invariants.Bools.{both, none_not_some, not_both, not_zero, same_or_not}
-use Rattle.sdd_obligations.proofs.invariants.HoldChain.{from_u, handed_helds, handed_holds, t_table, u_table}
-use Rattle.sdd_obligations.proofs.invariants.Holding.{t_helds}
-use Rattle.sdd_obligations.proofs.invariants.Lists.{in_filtered, in_mapped, in_range}
-use Rattle.sdd_obligations.proofs.invariants.Made.{place_of_act}
-use Rattle.sdd_obligations.proofs.invariants.Serving.{chain}
-use Rattle.sdd_obligations.proofs.HoldsFit.{at_place, chain_at}
-use Rattle.sdd_lawful.proofs.Homes.{positive}
+use Rattle.sdd_progress.proofs.All.{Bool, Catalogue, Given, IsClass, IsFinished, IsIdle, IsQuiet, IsSound, Log, None, Option, Queued, Some, T, U, [], active, ap, arith, at_home, at_place, both, chain, chain_at, class_at, commit_act, counts, dec_le, eq-eqb, eqb-true, false, from_u, handed_helds, handed_holds, hands_from, head_of, holds, home, if◌then◌else◌, in_filtered, in_mapped, in_range, inl, inr, is_a_held, is_a_hold, is_a_release, is_link, is_none, last_served, le-ltb, length, list_all, local_of, lt-ltb, nat_lt, none_not_some, not, not_both, not_zero, numbers_to, place_of_act, positive, puts_to, queue, refl, same_or_not, setting_of, slice_get, sound_whole, subst, suc, sym, t_helds, t_table, tally, tm_no, true, u_table, zero_head, ℕ, ◌&&◌, ◌-◌, ◌<◌, ◌==◌, ◌∙◌, ◌≡◌, ◌≤◌}
 use Rattle.sdd_progress.proofs.Dones.{dones_counted}
 use Rattle.sdd_progress.proofs.Handed.{all_handed}
 use Rattle.sdd_progress.proofs.Holds.{holds_needed, last_commit}
 use Rattle.sdd_progress.proofs.Lists.{all_true, if_none, no_head}
 use Rattle.sdd_progress.proofs.NoRejects.{all_served}
 use Rattle.sdd_progress.proofs.Still.{run_at, runs_place, t_site, t_still, u_still}
-use Rattle.sdd_progress.specs.Finished.{IsFinished, IsIdle}
-use Rattle.sdd_progress.specs.Quiet.{IsQuiet, at_home}
+use Rattle.sdd_obligations.specs.site_module.SiteLog as site
+use Rattle.sdd_obligations.specs.tm.Due as tm
+use Rattle.sdd_obligations.specs.tm.Views as tm_views
+use Rattle.sdd_obligations.specs.umod.Due as um
+use Rattle.sdd_obligations.specs.umod.Views as um_views
 
 -- between U and a T everything was handed over
 
@@ -143,10 +127,6 @@ u_holding g log q h sound idle e t l m =
     let told = held_told g log t h idle l m on in
     let holding : (counts t lu).holds ≡ suc (last_served s lu).commits = omega (arith, ahead, c.one_ahead, released) in
     (holding, omega (arith, holding, told, c.got_hold, v.helds, v.holds_same))
-
-zero_head : (qs : List Queued) (q : Queued) → AllZero qs → head_of qs ≡ Some q → q.tries ≡ 0
-zero_head [] q h e = cc
-zero_head (x ∷ qs) q h e = let p : x ≡ q = cc in ap (λ (y : Queued). y.tries) (sym p) ∙ h.0
 
 u_no_queue : (g : Given) (log : Log) → IsQuiet g log → IsSound g.catalogue → IsIdle g log → (o : Option Queued)
     → head_of (queue (setting_of g U) 0 (local_of g U log)) ≡ o → o ≡ None

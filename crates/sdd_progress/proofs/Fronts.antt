@@ -1,9 +1,6 @@
 -- Fronts of a log and of its history: which entries and records a front has, and where a list of classes was put in force
 -- among the rest.
-use Rattle.std.proofs.Common.{ℕ, suc, zero, ◌++◌, ◌<◌, ◌∙◌, ◌∷◌, ◌≡◌, ◌≤◌, ◌⊎◌, [], ap, append_assoc, arith, inl, inr, length, refl, sym}
-use Rattle.std.proofs.lemmas.List.{length-append}
-use Rattle.sdd_obligations.specs.All.{Entry, History, Log, Rec, Redeclares, Stands, history, redeclares}
-use Rattle.sdd_lawful.proofs.Places.{history_grows}
+use Rattle.sdd_progress.proofs.All.{Entry, History, Log, Rec, Redeclares, Stands, [], ap, append_assoc, arith, history, history_grows, inl, inr, length, length-append, redeclares, refl, suc, sym, zero, ℕ, ◌++◌, ◌<◌, ◌∙◌, ◌∷◌, ◌≡◌, ◌≤◌, ◌⊎◌}
 use Rattle.sdd_progress.proofs.SinceRedeclare.{redeclare_in}
 
 -- records of a front of a history

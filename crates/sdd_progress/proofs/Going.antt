@@ -1,21 +1,8 @@
 -- Every step of the exchange of an active attempt leaves it over, or lacking an answer.
-use Rattle.std.specs.List.{cons_option}
-use Rattle.std.proofs.Common.{ℕ, ◌&&◌, ◌++◌, ◌+◌, ◌==◌, ◌∙◌, ◌∷◌, ◌≡◌, Bool, List, None, Option, Some, [], ap, cond, false, filter, filter_map, if◌then◌else◌, inl, inr, length, map, not, refl, subst, sym, true}
-use Rattle.std.proofs.lemmas.Bool.{eqb-true}
-use Rattle.sdd_obligations.specs.All.{Asking, Attempt, ClassNo, Commit, D, Did, Each, Exchange, Fetch, Fetching, Handed, IsFair, MayAnswer, Move, Msg, Over, Phase, Queued, Read, Reading, Ready, Rec, Records, Redeclared, Reduce, Reduced, Reducing, Replies, Rows, Sends, Setting, Ship, Shipping, Site, Start, Step, Submits, T, Ticked, Ts, Turn, U, Values, active, active_after, active_handed, active_sent, after_hand, after_send, answered, askings, asks_rows, begins, contains, counted, counts_for, dm_no, fetches, fetches_from, first_phase, goes_on, head_of, is_answer, is_empty, is_over, lacking, module_read, move_at, next_move, phase_ends, queue, reduces, rejects, ships, started, turn_at, uses_at, with_use, with_values, without}
-use Rattle.sdd_obligations.specs.site_module.SiteLog.{Log}
-use Rattle.sdd_obligations.proofs.invariants.Bools.{if_way, not_both, or_left, or_right, same_number}
-use Rattle.sdd_obligations.proofs.Asking.{in_turn}
-use Rattle.sdd_obligations.proofs.AtTurn.{StandsAt, awaits}
-use Rattle.sdd_obligations.proofs.FirstSends.{IsFirstEach}
-use Rattle.sdd_obligations.proofs.Hearing.{AtTurn, InTurn, IsTimely, answers_asked, is_awaited}
-use Rattle.sdd_lawful.proofs.Asks.{contains_either}
+use Rattle.sdd_progress.proofs.All.{AllAskParts, Asking, AtTurn, Attempt, Bool, ClassNo, Commit, CountsRead, D, Did, Each, Exchange, Fetch, Fetching, Handed, InTurn, IsCounted, IsFair, IsFirstEach, IsGoing, IsRead, IsTimely, List, MayAnswer, Move, Msg, None, Option, Over, Phase, Queued, Read, Reading, Ready, Rec, Records, Redeclared, Reduce, Reduced, ReducesRead, Reducing, Replies, Rows, Sends, Setting, Ship, Shipping, Site, Some, StandsAt, Start, Step, Submits, T, Ticked, Ts, Turn, U, Values, [], active, active_after, active_handed, active_sent, after_hand, after_send, answered, answers_asked, ap, askings, asks_rows, awaits, begins, cond, cons_option, contains, contains_either, counted, counts_for, dm_no, eqb-true, false, fetches, fetches_from, filter, filter_map, first_phase, goes_on, head_of, if_way, if◌then◌else◌, in_turn, inl, inr, is_answer, is_awaited, is_empty, is_over, lacking, length, map, module_read, move_at, never, next_move, not, or_left, or_right, phase_ends, queue, readers, reduces, refl, rejects, same_number, ships, started, subst, sym, true, turn_at, uses_at, with_use, with_values, without, ℕ, ◌&&◌, ◌++◌, ◌+◌, ◌==◌, ◌∙◌, ◌∷◌, ◌≡◌}
 use Rattle.sdd_progress.proofs.Lists.{either}
 use Rattle.sdd_progress.proofs.Moves.{move_reads}
-use Rattle.sdd_progress.specs.Going.{AllAskParts, CountsRead, IsCounted, IsGoing, IsRead, ReducesRead, readers}
-
-never : {A : Type 0} (b : Bool) → b ≡ true → b ≡ false → A
-never b e f = absurd (not_both b e f)
+use Rattle.sdd_obligations.specs.site_module.SiteLog.{Log}
 
 -- steps from one phase to the next
 
@@ -49,16 +36,13 @@ to_next ts c x (q ∷ rest) done b parts =
     (counts_for x.counts q) done ≡ o
     → IsGoing (elim o as (λ _. Exchange) [
       | None ↦ goes_on ts c x rest []
-      | Some m ↦ fetches ts c
-          (move_at q.before m) (record x { left = q ∷ rest; done = done ++ m.step ∷ [] })
+      | Some m ↦ fetches ts c (move_at q.before m) (record x { left = q ∷ rest; done = done ++ m.step ∷ [] })
     ])) [
       | None ↦ λ e. to_next ts c x rest [] b parts.1
       | Some m ↦ λ e. to_fetch ts c (move_at q.before m) (record x {
         left = q ∷ rest;
-        done =
-            done ++ m.step ∷ [];
-      }) (with_use x (move_at q.before m).source.part) (b.0, b.1, parts)
-          (move_reads x q done m b.1 parts.0 e)
+        done = done ++ m.step ∷ [];
+      }) (with_use x (move_at q.before m).source.part) (b.0, b.1, parts) (move_reads x q done m b.1 parts.0 e)
     ] refl
 
 is_not_over : (x : Exchange) (p : Phase) → IsCounted x → x.phase ≡ p → is_over p ≡ false → IsBetween x
@@ -76,8 +60,7 @@ ended ts c x Over k e = record { counted = k; lacks = λ z. never (is_over x.pha
 
 lacks_now : (ts c : ℕ) (x : Exchange) (ds : List ℕ) → IsCounted x → IsGoing (lacking ts c x ds)
 lacks_now ts c x [] k = ended ts c (record x { lacks = [] }) x.phase (record {
-  modules =
-      k.modules;
+  modules = k.modules;
   reduces = k.reduces;
   counts = k.counts;
   left = k.left;
@@ -187,19 +170,16 @@ hand_goes ts c d (Ready t k counts) x r h =
     record {
       modules = h.counted.modules;
       reduces = h.counted.reduces;
-      counts =
-          counted_read d x.modules counts x.counts (subst (AllRead x.modules) (sym us) all) h.counted.counts;
+      counts = counted_read d x.modules counts x.counts (subst (AllRead x.modules) (sym us) all) h.counted.counts;
       left = h.counted.left;
     }))
 hand_goes ts c d (Values t k u values) x r h =
     answer_if ts c d ((t.0 == ts) && (k.0 == c)) x (record x {
       union = with_values x.union values;
-      values =
-          x.values + length values;
+      values = x.values + length values;
     }) h (λ e. record {
       modules = h.counted.modules;
-      reduces =
-          h.counted.reduces;
+      reduces = h.counted.reduces;
       counts = h.counted.counts;
       left = h.counted.left;
     })
@@ -210,19 +190,16 @@ hand_goes ts c d (Reduced t k u n) x r h =
     record {
       modules = h.counted.modules;
       reduces = h.counted.reduces;
-      counts =
-          counted_read d x.modules ((u, n) ∷ []) x.counts (read, tt) h.counted.counts;
+      counts = counted_read d x.modules ((u, n) ∷ []) x.counts (read, tt) h.counted.counts;
       left = h.counted.left;
     }))
 hand_goes ts c d (Rows t k rows) x r h =
     answer_if ts c d ((t.0 == ts) && (k.0 == c)) x (record x {
       found = x.found ++ rows;
-      rows =
-          x.rows + length rows;
+      rows = x.rows + length rows;
     }) h (λ e. record {
       modules = h.counted.modules;
-      reduces =
-          h.counted.reduces;
+      reduces = h.counted.reduces;
       counts = h.counted.counts;
       left = h.counted.left;
     })
@@ -235,27 +212,22 @@ send_goes x h = record {
 }
 
 begun : (ms : List (ℕ × List ℕ)) (x : Exchange) → x.modules ≡ ms → x.phase ≡ first_phase ms
-    → x.lacks ≡ map (λ (m : ℕ × List ℕ). m.0) ms → x.counts ≡ [] → AllAskParts x.left
-    → IsGoing x
+    → x.lacks ≡ map (λ (m : ℕ × List ℕ). m.0) ms → x.counts ≡ [] → AllAskParts x.left → IsGoing x
 begun [] x m p l e parts = record {
   counted = record {
     modules = λ z. never (is_over x.phase) (ap is_over p) z;
-    reduces =
-        subst (ReducesRead x.modules) (sym p) tt;
+    reduces = subst (ReducesRead x.modules) (sym p) tt;
     counts = subst (CountsRead x.modules) (sym e) tt;
-    left =
-        parts;
+    left = parts;
   };
   lacks = λ z. never (is_over x.phase) (ap is_over p) z;
 }
 begun (a ∷ ms) x m p l e parts = record {
   counted = record {
     modules = λ z. ap is_empty m;
-    reduces =
-        subst (ReducesRead x.modules) (sym p) tt;
+    reduces = subst (ReducesRead x.modules) (sym p) tt;
     counts = subst (CountsRead x.modules) (sym e) tt;
-    left =
-        parts;
+    left = parts;
   };
   lacks = λ z. ap is_empty l;
 }
@@ -274,8 +246,7 @@ started_goes ts sends None = tt
 started_goes ts sends (Some q) = λ parts. begun (filter_map module_read sends) (begins q.text sends) refl refl refl refl parts
 
 handed_goes : (s : Setting) (c : ℕ) (log : Log) (d : ℕ) (m : Msg) (o : Option Attempt) → active s c log ≡ o
-    → InTurn s c log → IsTimely c log (Handed (D (dm_no d)) m)
-    → GoesOf o → GoesOf (active_handed c (D (dm_no d)) m o)
+    → InTurn s c log → IsTimely c log (Handed (D (dm_no d)) m) → GoesOf o → GoesOf (active_handed c (D (dm_no d)) m o)
 handed_goes s c log d m None e i timely h = tt
 handed_goes s c log d m (Some a) e i timely h =
     let at : AtTurn a.ts d (Some a) (turn_at a.ts c d log) = subst (λ o. AtTurn a.ts d o (turn_at a.ts c d log)) e (i.turns a.ts d) in

@@ -1,21 +1,6 @@
 -- Where nothing goes on, all that was put on a link was handed over at its end.
-use Rattle.std.specs.Prelude.{filter_map, flat_map}
-use Rattle.std.specs.List.{cons_option}
-use Rattle.std.proofs.Common.{ℕ, ◌-◌, ◌≤◌, ◌∙◌, ◌∷◌, ◌≡◌, List, None, Option, Some, [], ap, arith, cond, drop, false, length, refl, slice_get, suc, subst, sym, true, zero}
-use Rattle.std.proofs.Math.Decide.{dec_le}
-use Rattle.std.proofs.lemmas.List.{take_all}
-use Rattle.sdd_obligations.specs.All.{D, Given, Log, Site, T, U, all_links, are_linked, calls_of, delivered, flight, hand_on, handed, hands_from, is_down, is_empty, is_link, is_quiet_link, is_site, link, link_of, links, local_of, puts_to, sent, sites, takes_part}
-use Rattle.sdd_obligations.proofs.net.Directions.{link_parts}
-use Rattle.sdd_obligations.proofs.net.Sound.{sound}
-use Rattle.sdd_obligations.proofs.invariants.Bools.{and_left, and_right, none_not_some}
-use Rattle.sdd_obligations.proofs.invariants.InOrder.{in_order}
-use Rattle.sdd_obligations.proofs.invariants.Lists.{all_at, in_left, in_right, member_there}
-use Rattle.sdd_obligations.proofs.invariants.Sent.{sent_is}
-use Rattle.sdd_obligations.proofs.invariants.Split.{le_is}
-use Rattle.sdd_obligations.proofs.OfNext.{IsThere, site_there}
-use Rattle.sdd_obligations.proofs.logs.FirstHand.{one_on}
+use Rattle.sdd_progress.proofs.All.{D, Given, IsQuiet, IsThere, List, Log, None, Option, Site, Some, T, U, [], all_at, all_links, and_left, and_right, ap, are_linked, arith, calls_of, cond, cons_option, dec_le, delivered, drop, false, filter_map, flat_map, flight, hand_on, handed, hands_from, in_left, in_order, in_right, is_down, is_empty, is_link, is_quiet_link, is_site, le_is, length, link, link_of, link_parts, links, local_of, member_there, none_not_some, one_on, puts_to, refl, sent, sent_is, site_there, sites, slice_get, sound, subst, suc, sym, take_all, takes_part, true, zero, ℕ, ◌-◌, ◌∙◌, ◌∷◌, ◌≡◌, ◌≤◌}
 use Rattle.sdd_progress.proofs.Lists.{none_at}
-use Rattle.sdd_progress.specs.Quiet.{IsQuiet}
 
 -- places
 

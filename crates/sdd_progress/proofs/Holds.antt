@@ -1,16 +1,10 @@
 -- A transaction module is told to hold only while a transaction waits at the module for undeclared transactions; and the
 -- Commit of the transaction that this served last.
-use Rattle.std.proofs.Common.{ℕ, ◌++◌, ◌<◌, ◌==◌, ◌∙◌, ◌∷◌, ◌≡◌, ◌≤◌, ◌⊎◌, Bool, List, None, Option, Some, [], ap, arith, false, if◌then◌else◌, inl, inr, map, refl, slice_get, subst, suc, true}
-use Rattle.sdd_obligations.specs.All.{Act, Attempt, Bases, Catalogue, D, Did, Each, Fetch, Handed, Hold, IsChain, IsFairU, IsStepU, Msg, Queued, Redeclared, Reduce, Release, Sends, Setting, Ship, Site, Submits, T, Ticked, TmCounts, Ts, active, asks_rows, attempt_due, by_exchange, by_hold, by_release, by_start, commit_act, counts, counts_acted, dm_no, first_send, head_of, hold_to, in_force, is_for, is_over, last_served, numbers_to, or_else, puts_to, queue, start_at, tm_no, tried, ts_of}
+use Rattle.sdd_progress.proofs.All.{Act, Attempt, Bases, Bool, Catalogue, D, Did, Each, Fetch, Handed, Hold, IsChain, IsFairU, IsStepU, List, Msg, None, Option, Queued, Redeclared, Reduce, Release, Sends, Setting, Ship, Site, Some, Submits, T, Ticked, TmCounts, Ts, [], active, ap, arith, asks_next, asks_rows, attempt_due, balance, by_release, chain, commit_act, counts, counts_acted, dm_no, false, first_send, hand_commits, hand_counts, hand_ts, head_of, hold_to, if_way, if◌then◌else◌, inl, inr, is_for, is_over, last_served, map, numbers_to, one_if_le, or_else, puts_to, queue, refl, slice_get, start_at, subst, suc, tm_no, tried, true, ts_of, u_due, u_way, ℕ, ◌++◌, ◌<◌, ◌==◌, ◌∙◌, ◌∷◌, ◌≡◌, ◌≤◌, ◌⊎◌}
+use Rattle.sdd_obligations.specs.All.{by_exchange, by_hold, by_start, in_force}
 use Rattle.sdd_obligations.specs.site_module.SiteLog.{Entry, Log}
 use Rattle.sdd_obligations.specs.umod.Due.{IsDue, start_of}
 use Rattle.sdd_obligations.specs.umod.Views.{view_of}
-use Rattle.sdd_obligations.proofs.invariants.Bools.{if_way}
-use Rattle.sdd_obligations.proofs.invariants.Exchanges.{asks_next}
-use Rattle.sdd_obligations.proofs.invariants.Serving.{chain, hand_commits, hand_counts, u_due, u_way}
-use Rattle.sdd_obligations.proofs.invariants.Turns.{balance}
-use Rattle.sdd_obligations.specs.invariants.Turns.{one_if}
-use Rattle.sdd_obligations.proofs.SendsLow.{hand_ts}
 
 -- no HOLD without a transaction in the queue
 
@@ -68,8 +62,7 @@ head_mapped : (f : Queued → Queued) (qs : List Queued) (q : Queued) → head_o
 head_mapped f [] q e = cc
 head_mapped f (x ∷ qs) q e = (f x, refl)
 
-needed_on : (s : Setting) (t : ℕ) (e : Entry) (log : Log)
-    → (counts t (e ∷ log)).holds ≡ (counts t log).holds
+needed_on : (s : Setting) (t : ℕ) (e : Entry) (log : Log) → (counts t (e ∷ log)).holds ≡ (counts t log).holds
     → (last_served s (e ∷ log)).commits ≡ (last_served s log).commits
     → ((q : Queued) → head_of (queue s 0 log) ≡ Some q → (x : Queued)
     × (head_of (queue s 0 (e ∷ log)) ≡ Some x)) → HoldsNeeded s t log → HoldsNeeded s t (e ∷ log)
@@ -103,10 +96,6 @@ needed_act s t log act c l step or h =
     (λ n i. λ o. elim o [ inl p ↦ cc | inr p ↦ inr p ])
     step or
 
-one_if_le : (b : Bool) → one_if b ≤ 1
-one_if_le true = omega arith
-one_if_le false = omega arith
-
 one_ahead : (s : Setting) (t : ℕ) (log : Log) → IsChain s t log → (counts t log).holds ≤ suc (counts t log).releases
 one_ahead s t log c =
     let whole = balance false c.state (puts_to (T (tm_no t)) log) c.turns_are in
@@ -132,8 +121,7 @@ holds_needed s k t (Redeclared force n ∷ log) i h = needed_on s t (Redeclared 
 holds_needed s k t (Submits n txn ∷ log) i h =
     needed_on s t (Submits n txn) log refl refl
     (λ q e. submitted_head (is_for 0 (in_force s log).catalogue txn) (queue s 0 log) (record {
-      number =
-          n;
+      number = n;
       text = txn;
       tries = 0;
     }) q e) (holds_needed s k t log i h.1)
@@ -160,8 +148,7 @@ abbrev CommitIfAny : Setting → Log → Type 0
 CommitIfAny s log = 0 < (last_served s log).commits → IsLastCommit s log
 
 any_later : (s : Setting) (e : Entry) (log : Log) → (last_served s (e ∷ log)).ts ≡ (last_served s log).ts
-    → (last_served s (e ∷ log)).commits ≡ (last_served s log).commits
-    → CommitIfAny s log → CommitIfAny s (e ∷ log)
+    → (last_served s (e ∷ log)).commits ≡ (last_served s log).commits → CommitIfAny s log → CommitIfAny s (e ∷ log)
 any_later s e log p q h = λ l. later_entry s e log p (h (subst (λ n. 0 < n) q l))
 
 pub last_commit : (s : Setting) (log : Log) → Each (IsFairU s) log → CommitIfAny s log

@@ -1,13 +1,8 @@
 -- On a lawful log all was idle wherever a further list of classes was put in force, if no module was down there.
-use Rattle.std.proofs.Common.{ℕ, ◌++◌, ◌∷◌, ◌≡◌, ◌≤◌, Bool, List, None, Option, Some, [], ap, arith, false, if◌then◌else◌, refl, subst, sym, true}
-use Rattle.sdd_obligations.specs.All.{Act, AreSubmittedOnce, Deliver, Does, Down, Entry, Event, Given, Hand, IsLawful, IsModule, Log, Lose, Mark, Msg, Notes, Redeclare, Redeclares, Repeat, Resend, Round, Settle, Site, Submit, Submitted, Tick, Up, all_links, calls_of, delivered, does_at, due_by, greatest_bound, hand_due, hand_number, hand_on, hand_with, handed, is_down, left, link_of, mark_due, mark_from, mark_of, message_at, next, next_at, next_mark, next_number, note_if, or_else, quiet, redeclares, round, site_due, sites, takes_part}
-use Rattle.sdd_obligations.proofs.site_module.Finding.{found_at}
-use Rattle.sdd_obligations.proofs.logs.NewMarks.{lawful_permitted}
+use Rattle.sdd_progress.proofs.All.{Act, AreSubmittedOnce, Bool, Deliver, Down, Entry, Event, Given, HasSoundLists, IsIdle, IsIdleAtRedeclares, IsLawful, IsModule, IsQuiet, IsSoundList, IsUpAtRedeclares, List, Log, Lose, Mark, Msg, None, Option, Redeclare, Redeclares, Repeat, Resend, Settle, Site, Some, Tick, Up, [], all_links, ap, arith, calls_of, delivered, does_at, due_by, false, found_at, greatest_bound, hand_due, hand_number, hand_on, hand_with, handed, if◌then◌else◌, is_down, lawful_permitted, left, link_of, mark_due, mark_from, mark_of, message_at, next, next_at, next_mark, next_number, note_if, or_else, quiet, redeclares, refl, round, site_due, sites, subst, sym, takes_part, true, ℕ, ◌++◌, ◌∷◌, ◌≡◌}
 use Rattle.sdd_progress.proofs.NoneWaits.{is_idle}
 use Rattle.sdd_progress.proofs.SinceRedeclare.{redeclares_up}
-use Rattle.sdd_progress.specs.Finished.{IsIdle}
-use Rattle.sdd_progress.specs.Quiet.{IsQuiet}
-use Rattle.sdd_progress.specs.Premises.{IsUpAtRedeclares, IsIdleAtRedeclares, IsSoundList, HasSoundLists}
+use Rattle.sdd_obligations.specs.All.{Submit}
 
 -- a list is put in force neither by a mark, nor at a site, nor on a link
 
@@ -67,7 +62,8 @@ or_other : (P : Type 0) (x y : Option Entry) (e : Entry) → (x ≡ Some e → �
 or_other P None y e n f h = f refl h
 or_other P (Some z) y e n f h = absurd (n h)
 
-by_events : (g : Given) (log : Log) (t : ℕ) (q : Bool) (r ws : List Event) → mark_from g log q r ws ≡ Some (Redeclares t) → (q ≡ true) × (t ≡ greatest_bound g log)
+by_events : (g : Given) (log : Log) (t : ℕ) (q : Bool) (r ws : List Event) → mark_from g log q r ws ≡ Some (Redeclares t)
+    → (q ≡ true) × (t ≡ greatest_bound g log)
 by_events g log t true r [] e = cc
 by_events g log t true r (Settle ∷ ws) e = by_events g log t true r ws e
 by_events g log t true r (Redeclare ∷ ws) e = let p : greatest_bound g log ≡ t = cc in (refl, sym p)

@@ -1,12 +1,6 @@
 -- The history of a lawful log keeps the law of eras, and so all laws; it has a serial order.
-use Rattle.std.proofs.Common.{List}
-use Rattle.sdd_obligations.specs.All.{Given, HasNoCycle, IsLawful, IsOrderable, KeepsEras, KeepsLaws, Log, RelNo, Row, history}
-use Rattle.sdd_lawful.proofs.Named.{numbers_exist, txns_exist}
-use Rattle.sdd_lawful.proofs.Together.{has_order, keeps_laws, no_cycle}
-use Rattle.sdd_lawful.specs.Given.{HasSoundData, IsSoundGiven, SubmitGiven}
+use Rattle.sdd_progress.proofs.All.{Given, HasNoCycle, HasSoundData, HasSoundLists, IsLawful, IsOrderable, IsSoundGiven, IsUpAtRedeclares, KeepsEras, KeepsLaws, List, Log, RelNo, Row, SubmitGiven, eras_of, has_order, history, keeps_laws, no_cycle, numbers_exist, txns_exist}
 use Rattle.sdd_progress.proofs.ErasOf.{are_eras_of}
-use Rattle.sdd_progress.specs.Eras.{eras_of}
-use Rattle.sdd_progress.specs.Premises.{HasSoundLists, IsUpAtRedeclares}
 use Rattle.sdd_progress.proofs.Apart.{applied_first, committed_first}
 use Rattle.sdd_progress.proofs.Known.{Known, known}
 use Rattle.sdd_progress.proofs.OneEra.{one_era}

@@ -1,24 +1,9 @@
 -- What is known of a lawful log, in the order of which the law of eras follows.
-use Rattle.std.specs.Prelude.{filter_map}
-use Rattle.std.proofs.Common.{ℕ, suc, ◌++◌, ◌<◌, ◌∙◌, ◌∷◌, ◌≡◌, List, Some, [], ap, append_assoc, arith, length, sym, true}
-use Rattle.sdd_obligations.specs.All.{Bases, Catalogue, Committed, Did, Effect, Entry, Given, HasCommit, IsCommitted, IsLawful, IsPermitted, IsSound, KeepsApplies, KeepsStarts, KeepsUndeclared, Log, Rec, RelNo, Row, StartedBefore, begun, commit_act, effect, event_at, history, is_committed, marks, numbers_to, redeclares, txn_no, write_to}
-use Rattle.sdd_obligations.specs.site_module.SiteLog as site
-use Rattle.sdd_obligations.specs.attempt.Attempts as attempts
-use Rattle.sdd_obligations.proofs.logs.NewMarks.{lawful_permitted}
-use Rattle.sdd_lawful.specs.Given.{AreNumbered, HasSoundData, IsSoundGiven, SubmitGiven}
-use Rattle.sdd_lawful.specs.Made.{record_of}
-use Rattle.sdd_lawful.proofs.Applies.{keeps_applies}
-use Rattle.sdd_lawful.proofs.Committed.{one_place}
-use Rattle.sdd_lawful.proofs.Effects.{keeps_answers}
-use Rattle.sdd_lawful.proofs.Locals.{committed_here}
-use Rattle.sdd_lawful.proofs.Numbered.{lawful_numbered}
-use Rattle.sdd_lawful.proofs.Places.{event_there}
-use Rattle.sdd_lawful.proofs.Starts.{keeps_starts}
-use Rattle.sdd_lawful.proofs.Together.{undeclared}
+use Rattle.sdd_progress.proofs.All.{AreNumbered, Bases, Catalogue, Committed, Did, Effect, Entry, Given, HasCommit, HasSoundData, HasSoundLists, IsCommitted, IsIdleAtRedeclares, IsLawful, IsPermitted, IsSound, IsSoundGiven, IsUpAtRedeclares, KeepsApplies, KeepsStarts, KeepsUndeclared, List, Log, Rec, RelNo, Row, Some, StartedBefore, SubmitGiven, [], ap, append_assoc, arith, begun, commit_act, committed_here, effect, eras_of, event_at, event_there, filter_map, history, is_committed, keeps_answers, keeps_applies, keeps_starts, lawful_numbered, lawful_permitted, length, marks, numbers_to, one_place, record_of, redeclares, suc, sym, true, txn_no, undeclared, write_to, ℕ, ◌++◌, ◌<◌, ◌∙◌, ◌∷◌, ◌≡◌}
 use Rattle.sdd_progress.proofs.ErasOf.{are_eras_of, begun_is}
 use Rattle.sdd_progress.proofs.IdleAtRedeclares.{idle_at_redeclares}
-use Rattle.sdd_progress.specs.Eras.{eras_of}
-use Rattle.sdd_progress.specs.Premises.{HasSoundLists, IsIdleAtRedeclares, IsUpAtRedeclares}
+use Rattle.sdd_obligations.specs.site_module.SiteLog as site
+use Rattle.sdd_obligations.specs.attempt.Attempts as attempts
 
 pub record Known (g : Given) (log : Log) : Type 0 where
   pub sound : IsSound g.catalogue
@@ -53,7 +38,8 @@ known g rows log sound fine submits lawful lists up =
 -- a committed transaction started before its Commit
 pub started_before : (g : Given) (log : Log) → Known g log → (x : Committed) → IsCommitted (history log) x → x.start.place < x.place
 started_before g log w x c =
-    let b = w.after_start x.start.txn x.start.number x.place (record { reply = x.reply; changes = x.changes; values = x.values; rows = x.rows; stands = c.committed }) in
+    let b = w.after_start x.start.txn x.start.number x.place
+    (record { reply = x.reply; changes = x.changes; values = x.values; rows = x.rows; stands = c.committed }) in
     let same = one_place g log w.sound w.permitted b.attempt x.start b.started c.started b.txn_is b.number_is in
     let l = b.before in omega (arith, same, l)
 
@@ -67,7 +53,8 @@ begun_at g log e r later before place makes is place_is =
     ap (begun (eras_of g log)) event ∙ begun_is g log (later ++ e ∷ []) before (is ∙ sym (append_assoc later (e ∷ []) before))
 
 -- a Commit commits
-pub commit_done : (cat : Catalogue) (bases : Bases) (k : ℕ) (a : attempts.Attempt) (before : site.Log) → is_committed k a.txn (Did (commit_act cat bases k a) ∷ before) ≡ true
+pub commit_done : (cat : Catalogue) (bases : Bases) (k : ℕ) (a : attempts.Attempt) (before : site.Log)
+    → is_committed k a.txn (Did (commit_act cat bases k a) ∷ before) ≡ true
 commit_done cat bases k a before =
     let e : Effect = effect cat (bases a.ts) a.text in
     committed_here k before (txn_no a.txn) a.attempt e.reply e.changes a.exchange.values a.exchange.rows

@@ -1,36 +1,10 @@
 -- Where nothing goes on, an active attempt has a READ that is not processed.
-use Rattle.std.specs.List.{AllByRecursion}
-use Rattle.std.proofs.Common.{ℕ, ◌+◌, ◌==◌, ◌∙◌, ◌∷◌, ◌≡◌, ◌≤◌, Bool, List, None, Option, Some, [], ap, arith, cond, false, filter, if◌then◌else◌, inl, inr, length, map, refl, slice_get, suc, subst, sym, true}
-use Rattle.std.proofs.lemmas.Bool.{eqb-true}
-use Rattle.std.proofs.lemmas.List.Elements.{recursion_from_All}
-use Rattle.sdd_obligations.specs.All.{Asks, Attempt, Catalogue, ClassView, Condition, Const, D, Delete, Exchange, Fetch, FitsCondition, FitsGiven, FitsQuery, FitsStatement, FitsText, Given, Home, IsClass, IsModule, IsPermitted, IsSound, IsStage, Log, Msg, Open, Put, Query, Read, Reduce, RelNo, Same, Ship, Site, Stmt, Turn, Update, View, active, agreed, answer_goes, answer_of, answer_to, answers, askings, asks_rows, attempt_due, base_of, class_asked, contains, dm_no, first_send, first_some, head_of, home, home_of, is_asked_of, is_empty, is_number, is_over, is_question, is_read, open_due, opens, pipe, question_goes, questions, reads_asked, rows_asked, send_due, setting_of, turn_at, turn_with, uses_in, view_of}
-use Rattle.sdd_obligations.proofs.catalog.Sound.{sound_whole}
-use Rattle.sdd_obligations.specs.site_module.SiteLog as site
-use Rattle.sdd_obligations.specs.dm.Copies.{classes_of}
-use Rattle.sdd_obligations.specs.dm.Views.{class_view}
-use Rattle.sdd_obligations.proofs.invariants.Bools.{and_right, not_both, or_left, same_number}
-use Rattle.sdd_obligations.proofs.invariants.Fair.{all_new, home_fair}
-use Rattle.sdd_obligations.proofs.invariants.Holding.{at_map}
-use Rattle.sdd_obligations.proofs.invariants.Lists.{in_filtered}
-use Rattle.sdd_obligations.proofs.AtTurn.{StandsAt, answered_last, apart, awaited, unsent}
-use Rattle.sdd_obligations.proofs.Halves.{data_turns, home_turns}
-use Rattle.sdd_obligations.proofs.Hearing.{AtTurn}
-use Rattle.sdd_obligations.proofs.Modules.{firsts, to_module}
-use Rattle.sdd_obligations.proofs.Near.{HasNear, IsNear, IsNearBy, active_near}
-use Rattle.sdd_obligations.proofs.Replying.{HasTurn, asker, asks_open, from_site}
-use Rattle.sdd_obligations.proofs.Sources.{home_first}
-use Rattle.sdd_obligations.proofs.Spoken.{spoken}
-use Rattle.sdd_obligations.proofs.Starts.{small_home}
-use Rattle.sdd_obligations.proofs.Sums.{range_at}
-use Rattle.sdd_obligations.proofs.Texts.{active_so, submitted_fit}
+use Rattle.sdd_progress.proofs.All.{AllAskParts, AllByRecursion, AllHaveParts, Asks, AtTurn, Attempt, Bool, Catalogue, ClassView, Condition, Const, D, Delete, Exchange, Fetch, FitsCondition, FitsGiven, FitsQuery, FitsStatement, FitsText, Given, HasNear, HasParts, HasTurn, Home, IsClass, IsGoing, IsModule, IsNear, IsNearBy, IsPermitted, IsQuiet, IsSound, IsStage, IsUnanswered, List, Log, Msg, None, Open, Option, Put, Query, Read, Reduce, RelNo, Same, Ship, Site, Some, StandsAt, Stmt, Turn, Update, View, [], active, active_near, active_so, agreed, all_new, and_right, answer_goes, answer_of, answer_to, answered_last, answers, ap, apart, arith, asker, askings, asks_open, asks_rows, at_home, at_map, at_module, attempt_due, awaited, base_of, class_asked, class_view, classes_of, cond, contains, data_turns, dm_no, eqb-true, false, filter, first_send, first_some, firsts, from_site, head_of, home, home_fair, home_first, home_of, home_turns, if◌then◌else◌, in_filtered, inl, inr, is_asked_of, is_empty, is_number, is_over, is_question, is_read, length, map, not_both, open_due, opens, or_left, or_none, pipe, question_goes, questions, range_at, reads_asked, recursion_from_All, refl, rows_asked, same_number, send_due, setting_of, slice_get, small_home, sound_whole, spoken, submitted_fit, subst, suc, sym, to_module, true, turn_at, turn_with, unsent, uses_in, view_of, ℕ, ◌+◌, ◌==◌, ◌∙◌, ◌∷◌, ◌≡◌, ◌≤◌}
 use Rattle.sdd_progress.proofs.Going.{is_going}
 use Rattle.sdd_progress.proofs.Handed.{none_in_flight}
 use Rattle.sdd_progress.proofs.Lists.{either, head_at, no_head, none_at}
 use Rattle.sdd_progress.proofs.Still.{d_still, exchange_none, home_linked}
-use Rattle.sdd_obligations.proofs.logs.Ticking.{or_none}
-use Rattle.sdd_progress.specs.Asked.{IsUnanswered}
-use Rattle.sdd_progress.specs.Going.{AllAskParts, AllHaveParts, HasParts, IsGoing}
-use Rattle.sdd_progress.specs.Quiet.{IsQuiet, at_home, at_module}
+use Rattle.sdd_obligations.specs.site_module.SiteLog as site
 
 -- what fits a catalogue counts its parts from 1
 
@@ -54,7 +28,7 @@ askings_parts cat before (Query out rels conds ∷ rest) h =
 
 -- an attempt that has nothing to send and may not commit
 
-no_sends : (ms : List (ℕ × Msg)) → first_send ms ≡ None → ms ≡ []
+pub no_sends : (ms : List (ℕ × Msg)) → first_send ms ≡ None → ms ≡ []
 no_sends [] e = refl
 no_sends (m ∷ ms) e = cc
 
@@ -84,13 +58,12 @@ record IsAskedAt (d : ℕ) (x : Exchange) (v : Turn) : Type 0 where
   within : contains (firsts x.modules) d ≡ true
 
 asked_at : (d : ℕ) (x : Exchange) (v : Turn) → x.to_send ≡ [] → contains x.lacks d ≡ true → StandsAt d x v → IsAskedAt d x v
-asked_at d x v e l (unsent m q ns a b s t u w f h) =
-    let z : [] ≡ m ∷ [] = sym (ap (to_module d) e) ∙ a in cc
+asked_at d x v e l (unsent m q ns a b s t u w f h) = let z : [] ≡ m ∷ [] = sym (ap (to_module d) e) ∙ a in cc
 asked_at d x v e l (awaited m ns a b s w f h) = record { uses = ns; question = m; is = s; within = h }
 asked_at d x v e l (answered_last q ns a b s t f h) = absurd (not_both (contains x.lacks d) l b)
 asked_at d x v e l (apart a b s h) = absurd (not_both (contains x.lacks d) l b)
 
-near_one : (n d : ℕ) (ms : List (ℕ × List ℕ)) (x : Exchange) → IsNearBy n (record x { modules = ms }) → contains (firsts ms) d ≡ true → IsNear n d
+pub near_one : (n d : ℕ) (ms : List (ℕ × List ℕ)) (x : Exchange) → IsNearBy n (record x { modules = ms }) → contains (firsts ms) d ≡ true → IsNear n d
 near_one n d [] x h e = cc
 near_one n d (m ∷ ms) x h e = elim (either (m.0 == d) (contains (firsts ms) d) e) [
   | inl p ↦ subst (IsNear n) (eqb-true m.0 d p) h.modules.0

@@ -1,9 +1,5 @@
 -- The last record that passes a test; and that fewer pass a narrower one.
-use Rattle.std.proofs.Common.{ℕ, zero, suc, ◌<◌, ◌≤◌, ◌≡◌, Bool, true, false, cond, List, [], ◌∷◌, length, take, refl, ap, ◌∙◌, subst, sym, arith}
-use Rattle.std.specs.Prelude.{filter}
-use Rattle.std.proofs.lemmas.Bool.{false≢true}
-use Rattle.std.proofs.lemmas.Option.{same_Some}
-use Rattle.sdd_obligations.specs.All.{History, Rec, Stands}
+use Rattle.sdd_progress.proofs.All.{Bool, History, List, Rec, Stands, [], ap, arith, cond, false, false≢true, filter, length, refl, same_Some, subst, suc, sym, take, true, zero, ℕ, ◌<◌, ◌∙◌, ◌∷◌, ◌≡◌, ◌≤◌}
 
 abbrev pub passing : (Rec → Bool) → History → ℕ
 passing test h = length (filter (λ e. test e.1) h)

@@ -1,3 +1,4 @@
+mod All
 pub mod Alone
 pub mod Apart
 pub mod Applied

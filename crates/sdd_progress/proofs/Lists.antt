@@ -1,9 +1,5 @@
 -- Small facts on lists, options and tests.
-use Rattle.std.specs.List.{list_all}
-use Rattle.std.proofs.Common.{ℕ, ◌&&◌, ◌||◌, ◌∷◌, ◌≡◌, ◌⊎◌, Bool, List, None, Option, Some, [], cond, false, filter, if◌then◌else◌, inl, inr, refl, slice_get, subst, suc, sym, true, zero}
-use Rattle.sdd_obligations.specs.All.{first_some, head_of}
-use Rattle.sdd_obligations.proofs.invariants.Bools.{both}
-use Rattle.sdd_obligations.proofs.logs.Ticking.{or_none}
+use Rattle.sdd_progress.proofs.All.{Bool, List, None, Option, Some, [], both, cond, false, filter, first_some, head_of, if◌then◌else◌, inl, inr, list_all, or_none, refl, slice_get, subst, suc, sym, true, zero, ℕ, ◌&&◌, ◌||◌, ◌∷◌, ◌≡◌, ◌⊎◌}
 
 pub either : (a b : Bool) → (a || b) ≡ true → (a ≡ true) ⊎ (b ≡ true)
 either true b e = inl refl

@@ -1,11 +1,5 @@
 -- The use that a next move reduces has rows, at a module that reads it.
-use Rattle.std.specs.Prelude.{filter_map, nat_lt, slice_index_or, sum}
-use Rattle.std.specs.List.{range_with_len, flat_map}
-use Rattle.std.proofs.Common.{ℕ, ◌+◌, ◌-◌, ◌<◌, ◌≤◌, ◌==◌, ◌∷◌, ◌≡◌, ◌⊎◌, Bool, List, None, Option, Some, [], ap, arith, cond, false, filter, if◌then◌else◌, inl, inr, map, refl, suc, subst, sym, true, zero}
-use Rattle.std.proofs.lemmas.Bool.{ltb-true}
-use Rattle.sdd_obligations.specs.All.{Asking, Condition, Const, Exchange, Join, Move, Same, Step, better, count_of, counts_for, fewest, is_candidate, joins_from, move_at, moves, moves_by, next_move, rows_at}
-use Rattle.sdd_obligations.proofs.invariants.Bools.{and_right, same_or_not}
-use Rattle.sdd_progress.specs.Going.{AllHaveParts, CountsRead, IsRead}
+use Rattle.sdd_progress.proofs.All.{AllHaveParts, Asking, Bool, Condition, Const, CountsRead, Exchange, IsRead, Join, List, Move, None, Option, Same, Some, Step, [], and_right, ap, arith, chosen, cond, count_of, counts_for, false, fewest, filter, filter_map, flat_map, if◌then◌else◌, inl, inr, is_candidate, joins_from, ltb-true, map, move_at, moves, moves_by, next_move, range_with_len, refl, rows_at, same_or_not, slice_index_or, subst, suc, sum, sym, true, zero, ℕ, ◌+◌, ◌-◌, ◌<◌, ◌==◌, ◌∷◌, ◌≡◌, ◌≤◌, ◌⊎◌}
 
 -- the moves of a query reduce parts that count from 1
 abbrev AllReduceParts : List Move → Type 0
@@ -47,15 +41,6 @@ candidates counts done (m ∷ ms) h =
       | true ↦ λ e. (has_target counts done m h.0 e, candidates counts done ms h.1)
       | false ↦ λ e. candidates counts done ms h.1
     ] refl
-
-chosen : (P : Move → Type 0) (counts : List ℕ) (first : Move) (o : Option Move) (m : Move) → P first → ((y : Move) → o ≡ Some y → P y)
-    → better counts first o ≡ Some m → P m
-chosen P counts first None m p f e = let same : first ≡ m = cc in subst P same p
-chosen P counts first (Some second) m p f e =
-    elim (nat_lt (rows_at counts second.source.part) (rows_at counts first.source.part)) as (λ b. cond b (Some second) (Some first) ≡ Some m → P m) [
-      | true ↦ λ q. (let same : second ≡ m = cc in subst P same (f second refl))
-      | false ↦ λ q. (let same : first ≡ m = cc in subst P same p)
-    ] e
 
 fewest_has : (counts : List ℕ) (ms : List Move) (m : Move) → AllHaveTargets counts ms → fewest counts ms ≡ Some m → HasTarget counts m
 fewest_has counts [] m h e = cc

@@ -1,23 +1,8 @@
 -- An attempt of an undeclared transaction is never rejected, so where none is under way as many are committed as were started.
-use Rattle.std.proofs.Common.{ℕ, ◌<◌, ◌==◌, ◌∙◌, ◌∷◌, ◌≡◌, Bool, List, None, Some, [], ap, if◌then◌else◌, inl, inr, refl, slice_get, subst, true}
-use Rattle.std.proofs.lemmas.Bool.{eqb-true}
-use Rattle.sdd_obligations.specs.All.{AllZero, ClassNo, Cond, D, DmNo, Does, Given, Hand, IsModule, IsPermitted, IsRead, IsRejectBy, IsWhole, Log, Msg, Queued, Read, StartedHead, Ts, TxnNo, U, Use, active, ascending, contains, fragments_in, handed, head, head_of, home, last_served, local_of, modules_asked, pipe_at, puts_to, queue, sends_of_act, setting_of, start_at, start_read, starts, to_site, uses_of}
-use Rattle.sdd_obligations.specs.wire.declared.msg.Msg.TheVariants.{Reject}
-use Rattle.sdd_obligations.proofs.invariants.Answered.{put_in_by_d}
-use Rattle.sdd_obligations.proofs.invariants.Bools.{true_or_false}
-use Rattle.sdd_obligations.proofs.invariants.Fair.{all_new, u_fair}
-use Rattle.sdd_obligations.proofs.invariants.HoldChain.{u_table}
-use Rattle.sdd_obligations.proofs.invariants.InOrder.{hand_was_put}
-use Rattle.sdd_obligations.proofs.invariants.Installed.{class_number, head_put}
-use Rattle.sdd_obligations.proofs.invariants.Lists.{in_none}
-use Rattle.sdd_obligations.proofs.invariants.Made.{permitted_before, place_of_hand}
-use Rattle.sdd_obligations.proofs.invariants.Retried.{was_rejected}
-use Rattle.sdd_obligations.proofs.invariants.Serving.{is_tried}
-use Rattle.sdd_obligations.proofs.Asking.{strict_asked}
-use Rattle.sdd_obligations.proofs.Modules.{sent_to_each}
-use Rattle.sdd_obligations.proofs.Near.{AllNear, IsNear, modules_near}
-use Rattle.sdd_obligations.proofs.NoRejects.{u_not_rejected}
+use Rattle.sdd_progress.proofs.All.{AllNear, AllZero, Bool, ClassNo, Cond, D, DmNo, Does, Given, Hand, IsModule, IsNear, IsPermitted, IsRejectBy, IsWhole, List, Log, Msg, None, Queued, Read, Some, StartedHead, Ts, TxnNo, U, Use, [], active, all_new, ap, ascending, class_number, contains, eqb-true, fragments_in, hand_was_put, handed, head, head_of, head_put, home, if◌then◌else◌, in_none, inl, inr, is_tried, last_served, local_of, modules_asked, modules_near, permitted_before, pipe_at, place_of_hand, put_in_by_d, puts_to, queue, refl, sends_of_act, sent_to_each, setting_of, slice_get, start_at, start_read, starts, strict_asked, subst, to_site, true, true_or_false, u_fair, u_not_rejected, u_table, uses_of, was_rejected, ℕ, ◌<◌, ◌==◌, ◌∙◌, ◌∷◌, ◌≡◌}
 use Rattle.sdd_progress.proofs.Lists.{either}
+use Rattle.sdd_obligations.specs.All.{IsRead}
+use Rattle.sdd_obligations.specs.wire.declared.msg.Msg.TheVariants.{Reject}
 
 -- a module that has a READ exists
 

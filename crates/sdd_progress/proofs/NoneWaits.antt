@@ -1,38 +1,15 @@
 -- Where nothing goes on, no READ waits, so every message is processed and no attempt is under way; if all was idle wherever
 -- a further list of classes was put in force. Then each READ that waits has conditions of the list in force.
-use Rattle.std.specs.List.{list_all}
-use Rattle.std.proofs.Common.{ℕ, ◌+◌, ◌++◌, ◌==◌, ◌∙◌, ◌∷◌, ◌≡◌, ◌≤◌, Bool, List, None, Some, [], ap, arith, false, if◌then◌else◌, inl, inr, length, refl, slice_get, subst, suc, sym, true}
-use Rattle.sdd_obligations.specs.All.{Catalogue, Change, ClassNo, Cond, D, Entry, FragNo, Given, IsClass, IsModule, IsPermitted, IsSound, Log, Msg, P2, P3, Pipe, Protocol, Read, Redeclares, Setting, Ts, TxnNo, Use, Write, active, all_of, bound, clock, dm_no, force_at, head, head_of, home, is_met, local_of, number_of, pipe, redeclares, setting_of, time_at, time_of, view_of}
-use Rattle.sdd_obligations.specs.protocol.declared.entry.Entry as line
-use Rattle.sdd_obligations.specs.site_module.SiteLog as site
-use Rattle.sdd_obligations.proofs.invariants.Again.{stamp_ticks}
-use Rattle.sdd_obligations.proofs.invariants.Bools.{differ, not_zero, same_or_not}
-use Rattle.sdd_obligations.proofs.invariants.Fair.{home_fair}
-use Rattle.sdd_obligations.proofs.invariants.Installed.{class_number, head_put, write_origin}
-use Rattle.sdd_obligations.proofs.invariants.Lists.{at_seam, in_range}
-use Rattle.sdd_obligations.proofs.invariants.Recorded.{start_of_active}
-use Rattle.sdd_obligations.proofs.invariants.Undeclared.{part_of, permitted_part, read_classes}
-use Rattle.sdd_waiting.proofs.Descent.{none_waits}
-use Rattle.sdd_waiting.proofs.Listed.{diagonals_listed}
-use Rattle.sdd_waiting.proofs.TableFits.{table_fits}
-use Rattle.sdd_waiting.specs.WaitGraph.{Fits, WaitGraph}
-use Rattle.sdd_waiting.specs.WaitGraphs.{HasDiagonal, wait_graph, wait_protocol}
-use Rattle.sdd_waiting.specs.WaitingReads.{IsStamped, IsTimestamp, WaitingRead, WaitsOn, holder, reader, wait_time}
-use Rattle.sdd_lawful.proofs.Homes.{home_small}
-use Rattle.sdd_waiting.proofs.FromTable.{conditions_at_put}
-use Rattle.sdd_waiting.proofs.StuckHeads.{head_stuck}
-use Rattle.sdd_waiting.specs.Conditions.{AllDiagonalsIn, AreConditionsOf, IsDiagonalIn, IsFromTable}
-use Rattle.sdd_waiting.specs.Heads.{IsStuck}
+use Rattle.sdd_progress.proofs.All.{AllDiagonalsIn, AreConditionsOf, Bool, Catalogue, Change, ClassNo, Cond, D, Entry, FragNo, Given, HasDiagonal, IsBelow, IsClass, IsDiagonalIn, IsFromTable, IsHolder, IsIdle, IsIdleAtRedeclares, IsModule, IsPermitted, IsQuiet, IsReader, IsSound, IsSoundList, IsStamped, IsStuck, IsTimestamp, List, Log, Msg, None, P2, P3, Protocol, Read, Setting, Some, Ts, TxnNo, Use, WaitGraph, WaitingRead, WaitsOn, Write, [], active, ap, arith, at_home, at_module, bound, class_number, clock, conditions_at_put, diagonals_listed, differ, dm_no, false, force_at, head, head_put, head_stuck, holder, home, home_fair, home_small, if◌then◌else◌, in_range, inl, inr, is_met, length, list_all, local_of, none_waits, not_zero, number_of, part_of, permitted_part, pipe, read_classes, reader, redeclares, refl, same_or_not, setting_of, slice_get, stamp_ticks, start_of_active, subst, suc, sym, table_fits, time_at, time_of, true, view_of, wait_graph, wait_protocol, wait_time, write_origin, ℕ, ◌+◌, ◌==◌, ◌∙◌, ◌∷◌, ◌≡◌}
 use Rattle.sdd_progress.proofs.Alone.{below_read, zero_time}
 use Rattle.sdd_progress.proofs.Lacking.{has_unanswered}
 use Rattle.sdd_progress.proofs.Lists.{not_all, no_head}
 use Rattle.sdd_progress.proofs.Still.{d_still}
 use Rattle.sdd_progress.proofs.WaitedFor.{next_head, next_reader}
-use Rattle.sdd_progress.specs.Finished.{IsIdle}
-use Rattle.sdd_progress.specs.Quiet.{IsQuiet, at_home, at_module}
-use Rattle.sdd_progress.specs.Premises.{IsIdleAtRedeclares, IsSoundList}
 use Rattle.sdd_progress.proofs.SinceRedeclare.{since_redeclare}
-use Rattle.sdd_progress.specs.Waiting.{IsBelow, IsHolder, IsReader}
+use Rattle.sdd_waiting.specs.WaitGraph.{Fits}
+use Rattle.sdd_obligations.specs.protocol.declared.entry.Entry as line
+use Rattle.sdd_obligations.specs.site_module.SiteLog as site
 
 -- a READ that waits has a condition that isn't met
 
@@ -55,13 +32,6 @@ unmet g log c ts conds r h =
     let f = stuck_read s c (at_module g r.d log) (time_at ts) r.of r.txn r.attempt conds r.uses (subst (IsStuck s (at_module g r.d log) c) r.head_is stuck) in
     let n = not_all (is_met (view_of s (at_module g r.d log))) conds f in
     record { place = n.0; cond = n.1; there = n.2; unmet = n.3 }
-
-first_of : (ps us : List Msg) (m : Msg) → head_of us ≡ Some m → slice_get (ps ++ us) (length ps) ≡ Some m
-first_of ps [] m e = cc
-first_of ps (x ∷ us) m e = at_seam ps us x ∙ e
-
-head_there : (p : Pipe) (m : Msg) → head p ≡ Some m → slice_get (all_of p) (length p.processed) ≡ Some m
-head_there p m e = first_of p.processed p.unprocessed m e
 
 -- READs of declared classes, as numbers
 
@@ -123,8 +93,7 @@ diagonal_in cat table p own i j f e d =
       place = x.place;
       diagonal = x.diagonal;
       at = x.at;
-      reader_is =
-          x.reader_is ∙ d.reader_is;
+      reader_is = x.reader_is ∙ d.reader_is;
       writer_is = x.writer_is ∙ d.writer_is;
       own_is = x.own_is;
     }
@@ -163,7 +132,8 @@ cond_along : (g : Given) (log : Log) (c ts : ℕ) (conds : List Cond)
     → IsAlong (graph_of g log) c q.class.0 q.time.0 ts (bound (setting_of g (home g.catalogue c)) (local_of g (home g.catalogue c) from.before))
 cond_along g log c ts conds from k q since e =
     let p2 : ℕ = bound (setting_of g (home g.catalogue c)) (local_of g (home g.catalogue c) from.before) in
-    along (force_at g (redeclares log)).catalogue (force_at g (redeclares log)).table c ts p2 q (subst (λ n. IsFromTable (force_at g n).table c ts p2 q) since (from.from_table k q e))
+    along (force_at g (redeclares log)).catalogue (force_at g (redeclares log)).table c ts p2 q
+    (subst (λ n. IsFromTable (force_at g n).table c ts p2 q) since (from.from_table k q e))
 
 -- a WRITE's time is that of a Start
 
@@ -179,11 +149,9 @@ write_stamp g log j d w of txn changes sound h e =
     let small = home_small g.catalogue sound j in
     record {
       ticks = (clock (home g.catalogue j) st.before).ticks + 1;
-      number =
-          number_of (home g.catalogue j);
+      number = number_of (home g.catalogue j);
       is = omega (arith, o.ts_is, st.ts_is, n);
-      small =
-          omega (arith, small);
+      small = omega (arith, small);
     }
 
 module _ (g : Given) (log : Log) (h : IsQuiet g log) (one : IsSoundList g (redeclares log)) (marks : IsIdleAtRedeclares g log) where
@@ -252,7 +220,8 @@ module _ (g : Given) (log : Log) (h : IsQuiet g log) (one : IsSoundList g (redec
   none_declared : (c ts : ℕ) (conds : List Cond) → (c == 0) ≡ false → ¬ IsReader g log c ts conds
   none_declared c ts conds z r =
       let from = conditions g log c ts conds h one.fits.sound marks z r in
-      none_waits (graph_of g log) fits (IsWaiting g log) (stamped g log one) waits_on (read_number g log c ts conds from.0) (waiting_number g log c ts conds z r from.0 from.1)
+      none_waits (graph_of g log) fits (IsWaiting g log) (stamped g log one) waits_on (read_number g log c ts conds from.0)
+      (waiting_number g log c ts conds z r from.0 from.1)
 
   none_undeclared : (ts : ℕ) (conds : List Cond) → ¬ IsReader g log 0 ts conds
   none_undeclared ts conds r =
@@ -283,8 +252,7 @@ module _ (g : Given) (log : Log) (h : IsQuiet g log) (one : IsSoundList g (redec
         d = d;
         module_is = m;
         class_is = omega arith;
-        waits_there =
-            stuck.0;
+        waits_there = stuck.0;
         of = of;
         txn = txn;
         attempt = attempt;

@@ -1,13 +1,5 @@
 -- What the laws of histories say of permitted logs.
-use Rattle.std.proofs.Common.{◌*◌, ◌^◌, ◌≤◌, List, length, arith}
-use Rattle.std.proofs.lemmas.Nat.{mul-le}
-use Rattle.sdd_obligations.specs.All.{Eras, Given, IsPermitted, IsSound, Log, MAX_TXNS, RelNo, Row, attempts, history}
-use Rattle.sdd_lawful.specs.Given.{AreErasOf, AreNumbered, HasSoundData}
-use Rattle.sdd_lawful.proofs.Named.{txns_exist}
-use Rattle.sdd_lawful.proofs.Rejections.{keeps_rejections}
-use Rattle.sdd_lawful.proofs.Starts.{keeps_starts}
-use Rattle.sdd_lawful.proofs.Together.{few}
-use Rattle.sdd_progress.specs.Few.{AreFewRejected}
+use Rattle.sdd_progress.proofs.All.{AreErasOf, AreFewRejected, AreNumbered, Eras, Given, HasSoundData, IsPermitted, IsSound, List, Log, MAX_TXNS, RelNo, Row, arith, attempts, few, history, keeps_rejections, keeps_starts, length, mul-le, txns_exist, ◌*◌, ◌^◌, ◌≤◌}
 use Rattle.sdd_progress.proofs.AttemptsSquare.{attempts_square}
 use Rattle.sdd_progress.proofs.FewRejected.{are_few_rejected}
 use Rattle.sdd_progress.proofs.Rejects.{keeps_rejects}

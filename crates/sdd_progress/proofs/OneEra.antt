@@ -1,21 +1,12 @@
 -- No list of classes is put in force between the Submit of a transaction and one of its Starts.
-use Rattle.std.proofs.Common.{ℕ, ◌+◌, ◌++◌, ◌<◌, ◌∙◌, ◌∷◌, ◌≡◌, ◌≤◌, [], ap, append_assoc, arith, false, length, refl, subst, sym, true}
-use Rattle.std.proofs.Math.Decide.{dec_le}
-use Rattle.std.proofs.lemmas.List.{length-append}
-use Rattle.sdd_obligations.specs.All.{Commit, Committed, Did, Does, Given, HasCommit, IsAttempt, IsCommitted, IsSubmitted, Log, Stands, Submitted, begun, commit_act, event_at, history, home, is_committed, redeclares, txn_no}
-use Rattle.sdd_obligations.specs.history.declared.record.Rec.TheVariants.{Submit}
-use Rattle.sdd_obligations.specs.serial_orders.Attempts.{Attempt}
-use Rattle.sdd_lawful.proofs.Classes.{at_home}
-use Rattle.sdd_lawful.proofs.Committed.{committed_in}
-use Rattle.sdd_lawful.proofs.Locals.{committed_later}
-use Rattle.sdd_lawful.proofs.Started.{act_local, one_start_class, start_act_of, start_in}
-use Rattle.sdd_lawful.proofs.Submissions.{submit_in}
+use Rattle.sdd_progress.proofs.All.{Commit, Committed, Did, Does, Given, HasCommit, IsAttempt, IsCommitted, IsSubmitted, Log, Stands, Submit, Submitted, [], act_local, ap, append_assoc, arith, begun, commit_act, committed_in, committed_later, dec_le, eras_of, event_at, false, history, home, is_committed, length, length-append, one_start_class, redeclares, refl, start_act_of, start_in, submit_in, subst, sym, true, txn_no, ℕ, ◌++◌, ◌+◌, ◌<◌, ◌∙◌, ◌∷◌, ◌≡◌, ◌≤◌}
 use Rattle.sdd_progress.proofs.SinceRedeclare.{redeclares_back}
-use Rattle.sdd_progress.specs.Eras.{eras_of}
 use Rattle.sdd_progress.proofs.Apart.{apart}
 use Rattle.sdd_progress.proofs.AtRest.{commit_there}
 use Rattle.sdd_progress.proofs.Fronts.{in_longer, longer}
 use Rattle.sdd_progress.proofs.Known.{Known, begun_at, commit_done}
+use Rattle.sdd_obligations.specs.serial_orders.Attempts.{Attempt}
+use Rattle.sdd_lawful.proofs.Classes.{at_home}
 
 module _ (g : Given) (log : Log) (w : Known g log) where
   -- an attempt doesn't start once its transaction is committed
@@ -31,7 +22,8 @@ module _ (g : Given) (log : Log) (w : Known g log) where
             (subst (λ m. Stands (history log) place (Commit (txn_no a.txn) m c.reply c.changes c.values c.rows)) (sym b.number_is) c.stands);
       } in
       let t0 = committed_in g log t w.sound w.permitted ct in
-      let class : a.class ≡ b.attempt.class = one_start_class g log a b.attempt w.permitted (start_in g log a w.sound w.permitted s) (start_in g log b.attempt w.sound w.permitted b.started) (sym b.txn_is) in
+      let class : a.class ≡ b.attempt.class = one_start_class g log a b.attempt w.permitted (start_in g log a w.sound w.permitted s)
+      (start_in g log b.attempt w.sound w.permitted b.started) (sym b.txn_is) in
       let k : ℕ = b.attempt.class in
       let act = commit_act g.catalogue t0.bases k t0.running in
       let one : length (history (Does (home g.catalogue k) act ∷ t0.before)) ≡ length (history t0.before) + 1 = length-append (history t0.before) _ in

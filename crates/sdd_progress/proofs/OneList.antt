@@ -1,9 +1,6 @@
 -- A log that puts no further list of classes in force: the one list is sound, and there is no place where one was put in force.
-use Rattle.std.proofs.Common.{ℕ, ◌++◌, ◌∷◌, ◌≡◌, ◌≤◌, ap, arith, refl, subst, sym}
-use Rattle.sdd_obligations.specs.All.{Given, IsEraOf, Log, Redeclares, force_at, redeclares}
-use Rattle.sdd_lawful.proofs.OneEra.{of_one_era}
+use Rattle.sdd_progress.proofs.All.{Given, HasOneTable, HasSoundLists, IsEraOf, IsIdleAtRedeclares, IsSoundList, IsUpAtRedeclares, Log, Redeclares, ap, arith, of_one_era, redeclares, refl, subst, sym, ℕ, ◌++◌, ◌∷◌, ◌≡◌}
 use Rattle.sdd_progress.proofs.SinceRedeclare.{redeclares_back}
-use Rattle.sdd_progress.specs.Premises.{HasOneTable, HasSoundLists, IsIdleAtRedeclares, IsSoundList, IsUpAtRedeclares}
 
 pub one_list : (g : Given) (log : Log) → HasOneTable g → redeclares log ≡ 0 → HasSoundLists g log
 one_list g log one none k l =

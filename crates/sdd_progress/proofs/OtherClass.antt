@@ -1,15 +1,7 @@
 -- A read condition names another class than the attempt's own.
-use Rattle.std.proofs.Common.{ℕ, ◌≤◌, ◌==◌, ◌≡◌, ◌≢◌, Bool, true, false, cond, ◌&&◌, List, [], ◌∷◌, length, map, Some, None, refl, sym, ap, ◌∙◌, subst, arith}
-use Rattle.std.specs.Prelude.{Contains}
-use Rattle.std.specs.Option.{option_or}
-use Rattle.std.proofs.lemmas.Bool.{and_parts, eqb-true}
-use Rattle.std.proofs.lemmas.List.Elements.{All-contains}
-use Rattle.sdd_obligations.specs.All.{Catalogue, Cond, Diagonal, Edge, FragNo, Horizontal, IsEdgeOf, IsTable, P2, P3, Protocol, ReadsFrom, Vertical, ascending, asked_by, asked_in, asked_on, class_no, classes_of, cond_for, cond_of, condition_on, conditions, conditions_of, conflict_graph, frag_no, fragments_in, fragments_of, is_asked, p2_time, same_protocol, undeclared_conditions}
-use Rattle.sdd_obligations.proofs.base.Membership.{Contains-here}
-use Rattle.sdd_obligations.proofs.graph.Known.{edges_known}
-use Rattle.sdd_obligations.proofs.graph.Tables.{each_to}
+use Rattle.sdd_progress.proofs.All.{All-contains, Bool, Catalogue, Cond, Contains, Contains-from_filter_map, Contains-from_map, Contains-here, Contains-map, Diagonal, Edge, FragNo, Horizontal, IsEdgeOf, IsTable, List, None, P2, P3, Protocol, ReadsFrom, Some, Vertical, [], and_parts, ap, arith, ascending, asked_by, asked_in, asked_on, class_no, cond, cond_for, cond_of, condition_on, conditions, conditions_of, conflict_graph, each_to, edges_known, eqb-true, false, frag_no, fragments_in, fragments_of, is_asked, length, map, option_or, p2_time, refl, same_protocol, subst, sym, true, undeclared_conditions, ℕ, ◌&&◌, ◌==◌, ◌∙◌, ◌∷◌, ◌≡◌, ◌≢◌, ◌≤◌}
+use Rattle.sdd_obligations.specs.All.{classes_of}
 use Rattle.sdd_obligations.specs.protocol.declared.entry.Entry.{Entry}
-use Rattle.sdd_obligations.proofs.serial_orders.Members.{Contains-from_filter_map, Contains-from_map, Contains-map}
 use Rattle.sdd_obligations.specs.serial_orders.Attempts.{Attempt}
 
 -- a diagonal of the table from the one class to the other

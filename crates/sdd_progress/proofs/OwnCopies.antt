@@ -1,18 +1,8 @@
 -- The copy that a data module has at the end of a log is that which the history gives. What is known of copies at records is
 -- said of the record of an event that finds nothing to do behind the log.
-use Rattle.std.specs.List.{cons_option, flat_map, list_any}
-use Rattle.std.specs.Prelude.{filter, filter_map, not}
-use Rattle.std.proofs.Common.{ℕ, suc, ◌++◌, ◌∙◌, ◌∷◌, ◌≡◌, List, None, Option, Some, [], ap, false, length, refl, take, true}
-use Rattle.sdd_obligations.specs.All.{Catalogue, D, Given, History, IsPermitted, IsSound, Log, Mark, Notes, Nothing, Rec, RelNo, Row, Up, attempt_of, attempts, by_event, by_mark, committed, committed_of, contents, dated, dm_no, has_copy, history, is_apply, is_down, local_of, mark_due, marks, note_if, placed, setting_of}
-use Rattle.sdd_obligations.specs.laws.Snapshots as laws
-use Rattle.sdd_lawful.specs.Given.{HasSoundData}
-use Rattle.sdd_lawful.specs.Made.{IsMadeAt}
-use Rattle.sdd_lawful.proofs.SameCopies.{same_copy}
-use Rattle.sdd_lawful.proofs.Touched.{copy_module}
+use Rattle.sdd_progress.proofs.All.{Catalogue, D, Given, HasSoundData, HasSoundLists, History, IsMadeAt, IsPermitted, IsQuiet, IsSound, List, Log, Mark, None, Notes, Nothing, Option, Rec, RelNo, Row, Some, Up, [], ap, attempt_of, attempts, by_event, by_mark, committed, committed_of, cons_option, contents, copy_module, dated, dm_no, eras_of, false, filter, filter_map, flat_map, has_copy, history, is_apply, is_down, length, list_any, local_of, mark_due, marks, not, note_if, placed, refl, same_copy, setting_of, suc, take, true, ℕ, ◌++◌, ◌∙◌, ◌∷◌, ◌≡◌}
 use Rattle.sdd_progress.proofs.ErasOf.{are_eras_of}
-use Rattle.sdd_progress.specs.Eras.{eras_of}
-use Rattle.sdd_progress.specs.Premises.{HasSoundLists}
-use Rattle.sdd_progress.specs.Quiet.{IsQuiet}
+use Rattle.sdd_obligations.specs.laws.Snapshots as laws
 
 -- a record of nothing behind a history tells nothing of transactions
 

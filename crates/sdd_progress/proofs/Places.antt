@@ -1,12 +1,5 @@
 -- Different places at which records pass a test are at most as many as records that pass it.
-use Rattle.std.proofs.Common.{ℕ, zero, suc, ◌+◌, ◌≤◌, ◌≡◌, eqb, Bool, true, false, cond, ◌||◌, List, [], ◌∷◌, length, refl, ap, ◌∙◌, subst, inl, inr, arith}
-use Rattle.std.specs.Prelude.{filter}
-use Rattle.std.specs.List.{IsDistinct, AllByRecursion, list_any}
-use Rattle.std.specs.Cmp.{nat_eq_equiv}
-use Rattle.std.proofs.lemmas.Bool.{cases_Bool, eqb-true, eq-eqb}
-use Rattle.std.proofs.lemmas.Map.Made.{length-le_from_is_member}
-use Rattle.std.proofs.lemmas.Option.{same_Some}
-use Rattle.sdd_obligations.specs.All.{History, Rec, Stands}
+use Rattle.sdd_progress.proofs.All.{AllByRecursion, Bool, History, IsDistinct, List, Rec, Stands, [], ap, arith, cases_Bool, cond, eq-eqb, eqb, eqb-true, false, filter, inl, inr, length, length-le_from_is_member, list_any, nat_eq_equiv, refl, same_Some, subst, suc, true, zero, ℕ, ◌+◌, ◌||◌, ◌∙◌, ◌∷◌, ◌≡◌, ◌≤◌}
 
 -- all such places, the first counted as k
 places : (Rec → Bool) → ℕ → History → List ℕ

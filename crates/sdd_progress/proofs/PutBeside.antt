@@ -1,8 +1,5 @@
 -- What the laws of class 0 say of an undeclared query's READ beside a put's WRITE.
-use Rattle.std.proofs.Common.{ℕ, ◌<◌, ◌≡◌, List, Some, lit≤, refl, slice_get}
-use Rattle.sdd_obligations.specs.All.{Change, ClassNo, Cond, Ts, TxnNo, Write, class_no, dm_no, head, pipe_at, time_at, txn_no}
-use Rattle.sdd_waiting.proofs.Examples.{later_permitted, query_is_next, writer_is_sound}
-use Rattle.sdd_waiting.specs.Examples.{conds_of_query, given_put_later, put_handed, uses_of_query}
+use Rattle.sdd_progress.proofs.All.{Change, ClassNo, Cond, List, Some, Ts, TxnNo, Write, class_no, conds_of_query, dm_no, given_put_later, head, later_permitted, lit≤, pipe_at, put_handed, query_is_next, refl, slice_get, time_at, txn_no, uses_of_query, writer_is_sound, ℕ, ◌<◌, ◌≡◌}
 use Rattle.sdd_progress.proofs.Alone.{below_read, zero_time}
 
 pub put_is_earlier : (write : Ts) (by : ClassNo) (writer : TxnNo) (changes : List Change)
@@ -13,4 +10,5 @@ put_is_earlier write by writer changes e =
 
 pub conds_at_own_time : (place : ℕ) (cond : Cond) → slice_get conds_of_query place ≡ Some cond → cond.time.0 ≡ 128
 conds_at_own_time place cond e =
-    zero_time given_put_later put_handed (dm_no 1) (time_at 128) (class_no 0) (txn_no 2) 1 conds_of_query uses_of_query place cond later_permitted query_is_next e
+    zero_time given_put_later put_handed (dm_no 1) (time_at 128) (class_no 0)
+    (txn_no 2) 1 conds_of_query uses_of_query place cond later_permitted query_is_next e

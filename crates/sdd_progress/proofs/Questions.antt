@@ -1,22 +1,11 @@
 -- An ASK that was handed to a transaction module is open, or a NULL at its time or later was put; and where nothing is due, an
 -- ASK that is open has a class with an active attempt before its time.
-use Rattle.std.specs.List.{AllByRecursion}
-use Rattle.std.specs.Prelude.{max, nat_le}
-use Rattle.std.proofs.Common.{ℕ, ◌*◌, ◌+◌, ◌++◌, ◌/◌, ◌<◌, ◌==◌, ◌∙◌, ◌∷◌, ◌≡◌, ◌≢◌, ◌≤◌, ◌⊎◌, Bool, List, None, Option, Some, [], ap, arith, false, if◌then◌else◌, inl, inr, length, not, refl, slice_get, subst, suc, sym, true, zero}
-use Rattle.std.proofs.lemmas.Bool.{eqb-true, leb-false, leb-true}
-use Rattle.sdd_obligations.specs.All.{Act, AreOpen, Ask, Attempt, Bases, Catalogue, ClassNo, Did, Each, Handed, Held, IsFairT, Msg, Null, Question, Queued, Records, Redeclared, Rise, Sends, Setting, Site, Submits, Ticked, Ts, U, active, answers_hand, asks, asks_acted, asks_handed, attempt_due, bound_of, by_ask, class_no, class_view, clock, commit_act, first_send, first_some, hands, hands_from, head_of, holds, is_over, null_at, null_due, null_time, null_to, or_else, puts_to, runs, same_site, sends_of_act, start_of, time_at, to_site}
-use Rattle.sdd_obligations.specs.site_module.SiteLog as site
-use Rattle.sdd_obligations.specs.site_module.SiteLog.{Log}
-use Rattle.sdd_obligations.proofs.tm.OpenAsks.{open_did, open_handed}
-use Rattle.sdd_obligations.specs.tm.Due.{IsDue, by_exchange, by_hold, by_start}
-use Rattle.sdd_obligations.specs.tm.Views.{View, view_of}
-use Rattle.sdd_obligations.proofs.invariants.Bools.{same_number}
-use Rattle.sdd_obligations.proofs.invariants.Clocks.{clock_rises}
-use Rattle.sdd_obligations.proofs.invariants.Holding.{at_map}
-use Rattle.sdd_obligations.proofs.invariants.Lists.{at_seam, in_either, in_filtered, in_left, in_one, in_right}
-use Rattle.sdd_obligations.proofs.invariants.Sites.{site_is, site_self}
-use Rattle.sdd_obligations.proofs.OfNext.{IsThere}
+use Rattle.sdd_progress.proofs.All.{Act, AllByRecursion, AreOpen, Ask, Attempt, Bases, Bool, Catalogue, ClassNo, Did, Each, Handed, Held, IsDue, IsFairT, IsThere, List, Msg, None, Null, Option, Question, Queued, Records, Redeclared, Rise, Sends, Setting, Site, Some, Submits, Ticked, Ts, U, [], active, answers_hand, ap, arith, asks, asks_acted, asks_handed, at_map, at_seam, attempt_due, bound_of, by_ask, by_exchange, by_hold, by_start, class_no, clock, clock_rises, commit_act, eqb-true, false, first_send, first_some, hands, hands_from, head_of, holds, if◌then◌else◌, in_either, in_filtered, in_left, in_one, in_right, inl, inr, is_over, leb-false, leb-true, length, max, nat_le, not, null_at, null_due, null_time, null_to, open_did, open_handed, or_else, puts_to, refl, runs, same_number, same_site, sends_of_act, site_is, site_self, slice_get, start_of, subst, suc, sym, time_at, to_site, true, zero, ℕ, ◌*◌, ◌++◌, ◌+◌, ◌/◌, ◌<◌, ◌==◌, ◌∙◌, ◌∷◌, ◌≡◌, ◌≢◌, ◌≤◌, ◌⊎◌}
 use Rattle.sdd_progress.proofs.Lists.{kept_there, none_at}
+use Rattle.sdd_obligations.specs.All.{class_view}
+use Rattle.sdd_obligations.specs.site_module.SiteLog.{Log}
+use Rattle.sdd_obligations.specs.tm.Views.{View, view_of}
+use Rattle.sdd_obligations.specs.site_module.SiteLog as site
 
 -- the open ASKs came by different hands
 
@@ -146,8 +135,7 @@ null_if_one log v q true o act h l e = null_one log v q o act h l e
 null_if_one log v q false o act h l e = cc
 
 held_one : (log : Log) (b : Bool) (time : Ts) (act : Act)
-    → (if b then Some (Sends U (Held time) (Some (holds log).last)) else None) ≡ Some act
-    → AnswersOne log act
+    → (if b then Some (Sends U (Held time) (Some (holds log).last)) else None) ≡ Some act → AnswersOne log act
 held_one log true time act e = one_as log _ act (inr (inl refl)) e
 held_one log false time act e = cc
 
@@ -196,11 +184,9 @@ covered_past : (b from : Site) (m : Msg) (log : Log) (c : ClassNo) (t : Ts) → 
 covered_past b from m log c t (inl o) =
     inl (record {
       question = o.question;
-      there =
-          still_asked (suc (hands log)) from m (asks log) o.question o.there;
+      there = still_asked (suc (hands log)) from m (asks log) o.question o.there;
       from = o.from;
-      class =
-          o.class;
+      class = o.class;
       time = o.time;
     })
 covered_past b from m log c t (inr n) = inr (record { place = n.place; time = n.time; put = n.put; late = n.late })
@@ -261,8 +247,7 @@ covered_act b act log c t w (inr n) =
     inr (record {
       place = n.place;
       time = n.time;
-      put =
-          in_left (puts_to b log) (to_site b (sends_of_act act)) n.place (Null c n.time) n.put;
+      put = in_left (puts_to b log) (to_site b (sends_of_act act)) n.place (Null c n.time) n.put;
       late = n.late;
     })
 covered_act b (Sends to m hand) log c t w (inl o) =

@@ -1,22 +1,9 @@
 -- Each Reject of a permitted log is by a write of another transaction.
-use Rattle.std.proofs.Common.{ℕ, ◌++◌, ◌∙◌, ◌∷◌, ◌≡◌, ◌≢◌, Some, [], ap, append_assoc, arith, length, refl, slice_get, subst, sym}
-use Rattle.sdd_obligations.specs.All.{Act, AppliedBefore, ClassNo, Committed, Cond, D, Does, Entry, Eras, Given, IsAttempt, IsCommitted, IsConditionOf, IsPermitted, IsSound, KeepsStarts, Log, Rec, Records, Reject as Rejected, Setting, class_no, commit_act, dm_no, event_at, history, home, local_of, setting_of, spoils, time_at, txn_no, view_of}
-use Rattle.sdd_obligations.specs.site_module.SiteLog as site
-use Rattle.sdd_obligations.proofs.logs.EachLocal.{allowed_act}
-use Rattle.sdd_obligations.specs.laws.Eras.{in_force}
-use Rattle.sdd_obligations.specs.serial_orders.Attempts.{Attempt}
-use Rattle.sdd_obligations.proofs.invariants.AreReadSteps.{d_step}
-use Rattle.sdd_lawful.specs.Given.{AreErasOf}
-use Rattle.sdd_lawful.proofs.Answered.{read_of_some}
-use Rattle.sdd_lawful.proofs.Applied.{IsDataIn, applied_before, data_in}
-use Rattle.sdd_lawful.proofs.Classes.{further_back}
-use Rattle.sdd_lawful.proofs.Committed.{commit_of_log}
-use Rattle.sdd_lawful.proofs.Rejected.{first_of_filter, rejecting, spoilt_by, touched_one}
-use Rattle.sdd_lawful.proofs.Rejections.{read_condition}
-use Rattle.sdd_lawful.proofs.Starts.{keeps_starts}
-use Rattle.sdd_progress.specs.Rejects.{KeepsRejects}
+use Rattle.sdd_progress.proofs.All.{Act, AppliedBefore, AreErasOf, ClassNo, Committed, Cond, D, Does, Entry, Eras, Given, IsAttempt, IsCommitted, IsConditionOf, IsDataIn, IsPermitted, IsSound, KeepsRejects, KeepsStarts, Log, Rec, Records, Reject as Rejected, Setting, Some, [], allowed_act, ap, append_assoc, applied_before, arith, class_no, commit_act, commit_of_log, d_step, data_in, dm_no, event_at, first_of_filter, further_back, history, home, in_force, keeps_starts, length, local_of, read_condition, read_of_some, refl, rejecting, setting_of, slice_get, spoils, spoilt_by, subst, sym, time_at, touched_one, txn_no, view_of, ℕ, ◌++◌, ◌∙◌, ◌∷◌, ◌≡◌, ◌≢◌}
 use Rattle.sdd_progress.proofs.OtherClass.{other_class}
 use Rattle.sdd_progress.proofs.Writers.{one_class}
+use Rattle.sdd_obligations.specs.serial_orders.Attempts.{Attempt}
+use Rattle.sdd_obligations.specs.site_module.SiteLog as site
 
 -- the writer has another class than the attempt, so it is another transaction
 other_txn : (g : Given) (log : Log) (eras : Eras) (a : Attempt) (d : ℕ) (c : Cond) (w : Committed) → KeepsStarts g.catalogue eras g.txns (history log)

@@ -1,21 +1,9 @@
 -- A complete log at whose end the links are quiet is one at which nothing goes on; and it is, where a settle is the last.
-use Rattle.std.proofs.Common.{ℕ, false, true, ◌++◌, ◌∷◌, ◌≡◌, List, [], ap, arith, subst}
-use Rattle.sdd_obligations.specs.All.{AreSubmittedOnce, Event, Given, IsModule, Log, Rests, Settle, all_links, calls_of, history, is_down, quiet, redeclares, with_event}
-use Rattle.sdd_obligations.proofs.logs.NewMarks.{lawful_permitted}
-use Rattle.sdd_termination.proofs.Settled.{quiet_at_last}
-use Rattle.sdd_obligations.proofs.logs.Completing.{complete_parts}
-use Rattle.sdd_obligations.proofs.logs.FirstHand.{none_to_hand}
-use Rattle.sdd_lawful.proofs.Numbered.{lawful_numbered}
-use Rattle.sdd_lawful.specs.Given.{SubmitGiven}
+use Rattle.sdd_progress.proofs.All.{AllCommitted, AreSubmittedOnce, Event, Given, HasSoundLists, IsAtEnd, IsFinished, IsModule, IsQuiet, IsSettled, List, Log, Rests, Settle, SubmitGiven, [], all_links, ap, arith, calls_of, complete_parts, false, history, is_down, lawful_numbered, lawful_permitted, none_to_hand, quiet, quiet_at_last, redeclares, subst, true, with_event, ℕ, ◌++◌, ◌∷◌, ◌≡◌}
 use Rattle.sdd_progress.proofs.Committed.{all_committed}
 use Rattle.sdd_progress.proofs.Finished.{finished}
 use Rattle.sdd_progress.proofs.IdleAtRedeclares.{idle_at_redeclares}
 use Rattle.sdd_progress.proofs.NoneWaits.{is_idle}
-use Rattle.sdd_progress.specs.Committed.{AllCommitted}
-use Rattle.sdd_progress.specs.Finished.{IsFinished}
-use Rattle.sdd_progress.specs.Premises.{HasSoundLists}
-use Rattle.sdd_progress.specs.Quiet.{IsQuiet}
-use Rattle.sdd_progress.specs.Settled.{IsAtEnd, IsSettled}
 
 -- between events
 pub resting_is_quiet : (g : Given) (log : Log) → AreSubmittedOnce g.events → Rests g log → quiet (all_links g) (calls_of log) ≡ true

@@ -1,21 +1,6 @@
 -- A READ that waits is of an attempt that started since the last list of classes was put in force, where all was idle then.
-use Rattle.std.proofs.Common.{ℕ, ◌++◌, ◌==◌, ◌∙◌, ◌∷◌, ◌≡◌, ◌≤◌, ◌⊎◌, List, Some, [], ap, append-nil, append_assoc, arith, inl, inr, length, refl, slice_get, subst, sym, true}
-use Rattle.sdd_obligations.specs.All.{ClassNo, Cond, D, Did, Does, Entry, Given, Hand, IsClass, IsModule, IsPermitted, IsPutAt, IsSound, Log, Mark, Msg, Notes, Read, Redeclares, Round, Site, Submitted, Ts, TxnNo, Use, class_puts, dm_no, head, home, local_of, pipe, puts_to, read_at, redeclares}
-use Rattle.sdd_obligations.proofs.invariants.Applied.{in_class, one_of_key, own_made, reads_strict}
-use Rattle.sdd_obligations.proofs.invariants.Bools.{same_number}
-use Rattle.sdd_obligations.proofs.invariants.ClassOrder.{head_place}
-use Rattle.sdd_obligations.proofs.invariants.InPipe.{in_pipe_later}
-use Rattle.sdd_obligations.proofs.invariants.Installed.{class_number}
-use Rattle.sdd_obligations.proofs.invariants.Lists.{place_within}
-use Rattle.sdd_obligations.proofs.invariants.Made.{local_at, local_grows}
-use Rattle.sdd_obligations.proofs.invariants.Once.{processed_grows}
-use Rattle.sdd_obligations.proofs.invariants.Origins.{is_put}
-use Rattle.sdd_obligations.proofs.invariants.Split.{processed_stays}
-use Rattle.sdd_lawful.proofs.Homes.{home_small}
+use Rattle.sdd_progress.proofs.All.{ClassNo, Cond, D, Did, Does, Entry, Given, Hand, IsClass, IsIdle, IsIdleAtRedeclares, IsModule, IsPermitted, IsPutAt, IsQuiet, IsSound, List, Log, Mark, Msg, Notes, Read, Redeclares, Round, Site, Some, Submitted, Ts, TxnNo, Use, [], ap, append-nil, append_assoc, arith, at_module, class_number, class_puts, dm_no, head, head_place, home, home_small, in_class, in_pipe_later, inl, inr, is_put, length, local_at, local_grows, local_of, one_of_key, own_made, pipe, place_within, processed_grows, processed_stays, puts_to, read_at, reads_strict, redeclares, refl, same_number, slice_get, subst, sym, true, ℕ, ◌++◌, ◌==◌, ◌∙◌, ◌∷◌, ◌≡◌, ◌≤◌, ◌⊎◌}
 use Rattle.sdd_progress.proofs.Applied.{pipe_has_all}
-use Rattle.sdd_progress.specs.Finished.{IsIdle}
-use Rattle.sdd_progress.specs.Quiet.{IsQuiet, at_module}
-use Rattle.sdd_progress.specs.Premises.{IsIdleAtRedeclares}
 
 -- a longer log puts no fewer lists in force
 

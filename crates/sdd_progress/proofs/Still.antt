@@ -1,26 +1,12 @@
 -- Where nothing goes on, nothing is due at any site.
-use Rattle.std.proofs.Common.{ℕ, ◌&&◌, ◌-◌, ◌==◌, ◌≡◌, ◌≤◌, ◌⊎◌, None, Option, Some, ap, false, inl, inr, length, refl, slice_get, subst, sym, true}
-use Rattle.std.specs.Prelude.{nat_le}
-use Rattle.std.proofs.lemmas.Bool.{le-leb}
-use Rattle.sdd_obligations.specs.All.{Act, Catalogue, D, Given, IsClass, IsModule, IsSound, Log, Site, T, U, active, attempt_due, base_of, class_at, dm_no, does_at, first_some, home, is_link, is_site, local_of, next_at, numbers_to, setting_of, sites, tm_no}
+use Rattle.sdd_progress.proofs.All.{Catalogue, D, Given, IsClass, IsModule, IsQuiet, IsSound, Log, None, Site, Some, T, U, active, ap, at_home, at_map, at_module, at_place, attempt_due, base_of, class_at, dm_no, does_at, does_none, false, first_some, home, inl, inr, is_link, is_site, le-leb, length, local_of, nat_le, next_at, numbers_to, or_none, positive, refl, same_number, same_or_not, served, setting_of, site_there, sites, slice_get, subst, sym, tm_no, true, ℕ, ◌&&◌, ◌-◌, ◌==◌, ◌≡◌, ◌≤◌, ◌⊎◌}
+use Rattle.sdd_progress.proofs.Lists.{kept_there, none_at}
 use Rattle.sdd_obligations.specs.dm.Due as dm
 use Rattle.sdd_obligations.specs.dm.Views as dm_views
 use Rattle.sdd_obligations.specs.tm.Due as tm
 use Rattle.sdd_obligations.specs.tm.Views as tm_views
 use Rattle.sdd_obligations.specs.umod.Due as um
 use Rattle.sdd_obligations.specs.umod.Views as um_views
-use Rattle.sdd_obligations.proofs.invariants.Bools.{same_number, same_or_not}
-use Rattle.sdd_obligations.proofs.invariants.Holding.{at_map}
-use Rattle.sdd_obligations.proofs.HoldsFit.{at_place}
-use Rattle.sdd_obligations.proofs.OfNext.{site_there}
-use Rattle.sdd_lawful.proofs.Homes.{positive, served}
-use Rattle.sdd_obligations.proofs.logs.Ticking.{or_none}
-use Rattle.sdd_progress.proofs.Lists.{kept_there, none_at}
-use Rattle.sdd_progress.specs.Quiet.{IsQuiet, at_home, at_module}
-
-does_none : (at : Site) (o : Option Act) → does_at at o ≡ None → o ≡ None
-does_none at None e = refl
-does_none at (Some act) e = cc
 
 pub none_due : (g : Given) (log : Log) (at : Site) → IsQuiet g log → is_site g.catalogue.tms g.catalogue.dms at ≡ true → next_at g log at ≡ None
 none_due g log at h e =

@@ -1,26 +1,20 @@
 -- Where each `redeclare` is given when it may be, a lawful log has no data module down where it puts a list of classes in
 -- force, and puts none in force beyond those that are given.
-use Rattle.std.proofs.Common.{ℕ, ◌++◌, ◌+◌, ◌<◌, ◌≤◌, ◌∙◌, ◌∷◌, ◌≡◌, List, Some, [], ap, append-nil, append_assoc, arith, false, length, refl, subst, sym}
-use Rattle.sdd_obligations.specs.All.{AllFewTicks, Deliver, Down, Event, Given, IsLawful, IsModule, Log, Lose, Redeclare, Redeclares, Repeat, Resend, Settle, Submit, Tick, Up, all_links, calls_of, is_down, is_down_after, left, mark_of, quiet, redeclares, redeclares_in, round}
-use Rattle.sdd_termination.proofs.Marked.{next_is_of_events}
-use Rattle.sdd_progress.specs.Premises.{IsUpAtRedeclares}
-use Rattle.sdd_obligations.proofs.Done.{AreDone, count_join, done, down_join, listed_first, settles_turn}
-use Rattle.sdd_progress.specs.Timely.{AreTimely}
+use Rattle.sdd_progress.proofs.All.{AllFewTicks, AreDone, AreTimely, Deliver, Down, Event, Given, IsLawful, IsModule, IsUpAtRedeclares, List, Log, Lose, Redeclare, Redeclares, Repeat, Resend, Settle, Some, Tick, Up, [], all_links, ap, append-nil, append_assoc, arith, calls_of, count_join, done, down_join, false, is_down, is_down_after, lawful_end, left, length, listed_first, mark_of, next_is_of_events, quiet, redeclares, redeclares_in, refl, round, settles_turn, subst, sym, ℕ, ◌++◌, ◌+◌, ◌<◌, ◌∙◌, ◌∷◌, ◌≡◌, ◌≤◌}
+use Rattle.sdd_obligations.specs.All.{Submit}
 
 -- no data module is down
 
-up_there : (g : Given) (log : Log) (t : ℕ) (s : List Event × List Event) → mark_of g log s ≡ Some (Redeclares t) → AreDone g (λ d. is_down d log) (redeclares log) s
+up_there : (g : Given) (log : Log) (t : ℕ) (s : List Event × List Event) → mark_of g log s ≡ Some (Redeclares t)
+    → AreDone g (λ d. is_down d log) (redeclares log) s
     → AreTimely g → (d : ℕ) → IsModule g.catalogue d → is_down d log ≡ false
 up_there g log t (ws, []) m i timely d here =
     let f = listed_first g log (quiet (all_links g) (calls_of log)) (round (all_links g) (calls_of log)) ws t m in
     let whole : g.events ≡ (i.1.front ++ f.skip) ++ Redeclare ∷ f.rest =
     i.1.is ∙ ap (λ z. i.1.front ++ z) f.is ∙ sym (append_assoc i.1.front f.skip (Redeclare ∷ f.rest)) in
-    i.1.downs d ∙ sym (settles_turn d (is_down_after d i.1.front) f.skip f.settles) ∙ sym (down_join d false i.1.front f.skip) ∙ (timely (i.1.front ++ f.skip) f.rest whole).up d here
+    i.1.downs d ∙ sym (settles_turn d (is_down_after d i.1.front) f.skip f.settles) ∙ sym (down_join d false i.1.front f.skip)
+    ∙ (timely (i.1.front ++ f.skip) f.rest whole).up d here
 up_there g log t (ws, x ∷ r) m i timely d here = absurd (cc)
-
-lawful_end : (g : Given) (later log : Log) → IsLawful g (later ++ log) → IsLawful g log
-lawful_end g [] log h = h
-lawful_end g (e ∷ later) log h = lawful_end g later log h.1
 
 pub up_at_redeclares : (g : Given) (log : Log) → AllFewTicks g.events → IsLawful g log → AreTimely g → IsUpAtRedeclares g log
 up_at_redeclares g log few h timely later before t is d here =

@@ -1,24 +1,13 @@
 -- Of two committed transactions of different eras the first has the smaller timestamp.
-use Rattle.std.proofs.Common.{ℕ, ◌*◌, ◌+◌, ◌++◌, ◌/◌, ◌<◌, ◌==◌, ◌∙◌, ◌∷◌, ◌≡◌, ◌≤◌, [], ap, append_assoc, arith, false, inl, inr, length, refl, subst, sym}
-use Rattle.std.proofs.lemmas.List.{length-append}
-use Rattle.sdd_obligations.specs.All.{Commit, Committed, Did, Does, Entry, Given, HasCommit, IsCommitted, IsOfEarlierEra, Log, Redeclares, Site, Stands, T, clock, greatest_bound, history, home, local_of, number_of, setting_of, tm_no, txn_no}
-use Rattle.sdd_obligations.proofs.catalog.Sound.{sound_whole}
-use Rattle.sdd_obligations.specs.site_module.SiteLog as site
-use Rattle.sdd_obligations.proofs.invariants.Again.{stamp_ticks}
-use Rattle.sdd_obligations.proofs.invariants.Bools.{same_or_not}
-use Rattle.sdd_obligations.proofs.invariants.Clocks.{clock_grows}
-use Rattle.sdd_obligations.proofs.invariants.Made.{local_grows}
-use Rattle.sdd_lawful.proofs.Homes.{home_small}
-use Rattle.sdd_lawful.proofs.Started.{act_local, start_act_of, start_in}
-use Rattle.sdd_lawful.proofs.Starts.{start_within}
+use Rattle.sdd_progress.proofs.All.{Commit, Committed, Did, Does, Entry, Given, HasCommit, IsCommitted, IsOfEarlierEra, Log, Redeclares, Site, Stands, T, [], act_local, ap, append_assoc, arith, clock, clock_grows, eras_of, false, greatest_bound, history, home, home_small, inl, inr, length, length-append, local_grows, local_of, number_of, refl, same_or_not, setting_of, sound_whole, stamp_ticks, start_act_of, start_in, start_within, subst, sym, tm_no, txn_no, ℕ, ◌*◌, ◌++◌, ◌+◌, ◌/◌, ◌<◌, ◌==◌, ◌∙◌, ◌∷◌, ◌≡◌, ◌≤◌}
 use Rattle.sdd_progress.proofs.ErasOf.{are_eras_of}
 use Rattle.sdd_progress.proofs.IdleAtRedeclares.{at_redeclare}
-use Rattle.sdd_progress.specs.Eras.{eras_of}
 use Rattle.sdd_progress.proofs.Apart.{committed_first, earlier, other_txn}
 use Rattle.sdd_progress.proofs.AtRest.{next_at_redeclare}
 use Rattle.sdd_progress.proofs.Bounds.{at_t, bound_within, max_ge, rise_by}
 use Rattle.sdd_progress.proofs.Fronts.{in_longer, longer}
 use Rattle.sdd_progress.proofs.Known.{Known, started_before}
+use Rattle.sdd_obligations.specs.site_module.SiteLog as site
 
 module _ (g : Given) (log : Log) (w : Known g log) where
   -- of two declared transactions: the clocks were pushed by the greatest bound

@@ -1,37 +1,14 @@
 -- Where nothing goes on, a READ that waits does so because of another READ that waits: an earlier one of the class that it
 -- waits for, or one that holds back a WRITE of that class.
-use Rattle.std.specs.List.{list_any}
-use Rattle.std.specs.Prelude.{nat_le}
-use Rattle.std.proofs.Common.{ℕ, ◌&&◌, ◌++◌, ◌<◌, ◌==◌, ◌∙◌, ◌∷◌, ◌≡◌, ◌≤◌, ◌⊎◌, List, None, Option, Some, [], ap, append-nil, append_assoc, arith, false, if◌then◌else◌, inl, inr, map, not, refl, slice_get, subst, suc, sym, true, zero}
-use Rattle.std.proofs.lemmas.Bool.{eqb-true}
-use Rattle.sdd_obligations.specs.All.{AllGe, Ask, Attempt, Change, ClassNo, ClassView, Cond, D, FitsGiven, Given, IsClass, IsModule, IsRising, Log, Msg, Null, Pipe, Read, Setting, Site, T, Ts, TxnNo, View, Write, active, all_of, ask_for, class_in, dm_no, goes_through, hands_from, head, head_of, holds_back, home, home_of, is_met, is_read, local_of, passed, pipe, puts_to, same_site, sends_of_act, setting_of, source_of, time_at, time_of, tm_no, to_site, touches, view_of, waits}
-use Rattle.sdd_obligations.specs.site_module.SiteLog as site
-use Rattle.sdd_obligations.specs.dm.Due.{holds}
-use Rattle.sdd_obligations.proofs.invariants.AreReadSteps.{class_at_place, class_in_view}
-use Rattle.sdd_obligations.proofs.invariants.Bools.{and_left, and_right, not_both, same_number, true_or_false}
-use Rattle.sdd_obligations.proofs.invariants.ClassOrder.{class_rises}
-use Rattle.sdd_obligations.proofs.invariants.Fair.{d_fair}
-use Rattle.sdd_obligations.proofs.invariants.Holding.{at_map}
-use Rattle.sdd_obligations.proofs.invariants.HoldChain.{t_table}
-use Rattle.sdd_obligations.proofs.invariants.Lists.{any_at, place_within}
-use Rattle.sdd_obligations.proofs.invariants.Origins.{is_put}
-use Rattle.sdd_obligations.proofs.invariants.Sites.{site_self}
-use Rattle.sdd_obligations.proofs.invariants.Split.{le_is}
-use Rattle.sdd_obligations.proofs.OfNext.{IsThere}
-use Rattle.sdd_obligations.proofs.Sources.{source_is_home}
-use Rattle.sdd_waiting.proofs.Passing.{head_below, passed_lasts, reached_is_passed}
-use Rattle.sdd_waiting.proofs.StuckHeads.{head_stuck}
-use Rattle.sdd_waiting.proofs.Waited.{since}
-use Rattle.sdd_waiting.specs.Heads.{IsStuck}
-use Rattle.sdd_lawful.proofs.Homes.{home_small, positive}
+use Rattle.sdd_progress.proofs.All.{Ask, Attempt, Change, ClassNo, ClassView, Cond, D, FitsGiven, Given, IsBelow, IsClass, IsEarlierReader, IsHolder, IsModule, IsQuiet, IsReader, IsRising, IsStuck, IsThere, List, Log, Msg, None, Null, Option, Pipe, Read, Setting, Site, Some, T, Ts, TxnNo, View, Write, [], active, all_of, and_left, and_right, any_at, ap, append-nil, append_assoc, arith, ask_for, at_home, at_map, at_module, class_at_place, class_in, class_in_view, class_rises, d_fair, dm_no, eqb-true, false, goes_through, hands_from, head, head_below, head_of, head_stuck, holds_back, home, home_of, home_small, if◌then◌else◌, inl, inr, is_met, is_put, le_is, least_at, list_any, local_of, map, nat_le, not, not_both, passed, passed_lasts, pipe, place_within, positive, puts_to, reached_is_passed, read_time, refl, same_number, same_site, sends_of_act, setting_of, since, site_self, slice_get, source_is_home, source_of, subst, suc, sym, t_table, time_at, time_of, tm_no, to_site, touches, true, true_or_false, view_of, waits, zero, ℕ, ◌&&◌, ◌++◌, ◌<◌, ◌==◌, ◌∙◌, ◌∷◌, ◌≡◌, ◌≤◌, ◌⊎◌}
 use Rattle.sdd_progress.proofs.Applied.{pipe_has_all}
 use Rattle.sdd_progress.proofs.Handed.{all_handed}
 use Rattle.sdd_progress.proofs.Lacking.{has_unanswered}
 use Rattle.sdd_progress.proofs.Lists.{kept_there, no_head}
 use Rattle.sdd_progress.proofs.Questions.{covered, open_is_blocked}
 use Rattle.sdd_progress.proofs.Still.{d_still, home_linked, run_at, runs_place, t_still}
-use Rattle.sdd_progress.specs.Quiet.{IsQuiet, at_home, at_module}
-use Rattle.sdd_progress.specs.Waiting.{IsBelow, IsEarlierReader, IsHolder, IsReader}
+use Rattle.sdd_obligations.specs.dm.Due.{holds}
+use Rattle.sdd_obligations.specs.site_module.SiteLog as site
 
 -- times in pipes
 
@@ -40,11 +17,6 @@ pub pipe_rises : (g : Given) (log : Log) (c d : ℕ) → IsQuiet g log → FitsG
 pipe_rises g log c d h good l m =
     let small = home_small g.catalogue good.sound c in
     subst (λ ms. IsRising (map time_of ms)) (sym (pipe_has_all g log c d h good.sound l m)) (class_rises g c (dm_no d) log h.permitted (omega (arith, small)))
-
-least_at : (t : ℕ) (ms : List Msg) (k : ℕ) (m : Msg) → AllGe t (map time_of ms) → slice_get ms k ≡ Some m → t ≤ time_of m
-least_at t [] k m h e = cc
-least_at t (x ∷ ms) zero m h e = let p : x ≡ m = cc in subst (λ y. t ≤ time_of y) p h.0
-least_at t (x ∷ ms) (suc k) m h e = least_at t ms k m h.1 e
 
 first_le : (ms : List Msg) (k : ℕ) (x m : Msg) → IsRising (map time_of ms) → head_of ms ≡ Some x → slice_get ms k ≡ Some m → time_of x ≤ time_of m
 first_le [] k x m h e f = cc
@@ -63,10 +35,6 @@ rising_right (x ∷ xs) ys h = rising_right xs ys h.1
 some_head : (ms : List Msg) (k : ℕ) (m : Msg) → slice_get ms k ≡ Some m → (x : Msg) × (head_of ms ≡ Some x)
 some_head [] k m e = cc
 some_head (x ∷ ms) k m e = (x, refl)
-
-read_time : (ts c : ℕ) (m : Msg) → is_read ts c m ≡ true → time_of m ≡ ts
-read_time ts c (Read t k txn attempt conds uses) e = eqb-true t.0 ts (and_left (t.0 == ts) (k.0 == c) e)
-read_time ts c _ e = cc
 
 -- an active attempt before t keeps a message before t next at some module
 below_attempt : (g : Given) (log : Log) (c : ℕ) (a : Attempt) (t : ℕ) → IsQuiet g log → FitsGiven g → IsClass g.catalogue c
@@ -131,8 +99,7 @@ asked g log j d n c t h good m z l same put not_yet empty =
           let within = place_within p.processed i.0 (Null c w.time) (subst (λ ms. slice_get ms i.0 ≡ Some (Null c w.time)) all i.1) in
           let now = reached_is_passed p t.0 (pipe_rises g log j d h good l m) (record {
             place = i.0;
-            msg =
-                Null c w.time;
+            msg = Null c w.time;
             there = i.1;
             reaches = w.late;
             up_to_head = omega (arith, within);

@@ -1,19 +1,8 @@
 -- The writers by which the attempts of a transaction are rejected: each has a later timestamp than the ones before.
-use Rattle.std.proofs.Common.{ℕ, zero, suc, ◌<◌, ◌≤◌, ◌≡◌, ◌≢◌, eqb, false, not, List, [], ◌∷◌, length, Option, Some, None, refl, sym, ap, ◌∙◌, subst, ◌⊎◌, inl, inr, arith}
-use Rattle.std.specs.Prelude.{option_map, unwrap_or}
-use Rattle.std.specs.List.{IsDistinct, AllByRecursion}
-use Rattle.std.proofs.lemmas.Bool.{cases_lt, ne_eqb}
-use Rattle.std.proofs.lemmas.Map.Keys.{IsDistinct-cons}
-use Rattle.std.proofs.lemmas.Option.{same_Some}
-use Rattle.sdd_obligations.specs.All.{Catalogue, Commit, Committed, Cond, Eras, History, IsAgain, IsAttempt, IsCommitted, IsConditionOf, KeepsRejections, KeepsStarts, Stands, Ts, Txn, class_for, commits_of_others, event_at, is_commit_of_other, starts_before, txn_no}
-use Rattle.sdd_obligations.specs.history.declared.record.Rec.TheVariants.{Submit}
-use Rattle.sdd_obligations.specs.serial_orders.Attempts.{Attempt}
-use Rattle.sdd_obligations.proofs.serial_orders.Places.{same_commit, same_start}
-use Rattle.sdd_obligations.specs.laws.Deeds.{txn_at}
-use Rattle.sdd_obligations.specs.laws.Eras.{in_force}
-use Rattle.sdd_obligations.proofs.laws.NumberedStarts.{one_start, start_counts}
-use Rattle.sdd_obligations.proofs.laws.Times.{condition_time}
+use Rattle.sdd_progress.proofs.All.{AllByRecursion, Catalogue, Commit, Committed, Cond, Eras, History, IsAgain, IsAttempt, IsCommitted, IsConditionOf, IsDistinct-cons, KeepsRejections, KeepsStarts, List, None, Option, Some, Stands, Submit, Ts, Txn, [], ap, arith, cases_lt, class_for, commits_of_others, condition_time, eqb, event_at, false, in_force, inl, inr, is_commit_of_other, length, ne_eqb, not, one_start, option_map, refl, same_Some, same_commit, same_start, start_counts, starts_before, subst, suc, sym, txn_at, txn_no, unwrap_or, zero, ℕ, ◌<◌, ◌∙◌, ◌∷◌, ◌≡◌, ◌≢◌, ◌≤◌, ◌⊎◌}
+use Rattle.std.specs.List.{IsDistinct}
 use Rattle.sdd_progress.proofs.Places.{Passes, few_places}
+use Rattle.sdd_obligations.specs.serial_orders.Attempts.{Attempt}
 
 -- the lower one of an attempt's two times
 abbrev pub low_time : Attempt → ℕ
@@ -50,7 +39,7 @@ none_below : (h : History) (n bound : ℕ) → WritersBelow h n bound 0
 unfolding IsDistinct
 none_below h n bound = record { places = []; many = refl; differ = tt; each = tt }
 
-each_weaker : {P Q : ℕ → Type 0} → ((k : ℕ) → P k → Q k) → (ks : List ℕ) → AllByRecursion P ks → AllByRecursion Q ks
+pub each_weaker : {P Q : ℕ → Type 0} → ((k : ℕ) → P k → Q k) → (ks : List ℕ) → AllByRecursion P ks → AllByRecursion Q ks
 each_weaker f [] all = tt
 each_weaker f (k ∷ ks) all = (f k all.0, each_weaker f ks all.1)
 

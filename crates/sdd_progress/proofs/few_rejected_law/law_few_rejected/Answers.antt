@@ -1,6 +1,4 @@
-use Rattle.sdd_obligations.proofs.logs.NewMarks.{lawful_permitted}
-use Rattle.sdd_lawful.proofs.OneEra.{of_one_era}
-use Rattle.sdd_lawful.specs.Given.{one_era}
+use Rattle.sdd_progress.proofs.All.{lawful_permitted, of_one_era, one_era}
 use Rattle.sdd_progress.proofs.OfLogs.{few_rejected}
 use Rattle.sdd_progress.proofs.few_rejected_law.law_few_rejected.Goals as goal
 

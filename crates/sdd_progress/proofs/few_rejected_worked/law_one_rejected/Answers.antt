@@ -1,4 +1,4 @@
-use Rattle.std.proofs.Common.{refl}
+use Rattle.sdd_progress.proofs.All.{refl}
 use Rattle.sdd_progress.proofs.LateQuery.{late_query_few, late_query_keeps, late_query_square}
 use Rattle.sdd_progress.proofs.few_rejected_worked.law_one_rejected.Goals as goal
 

@@ -1,5 +1,4 @@
-use Rattle.std.proofs.Common.{arith}
-use Rattle.sdd_obligations.specs.All.{redeclares}
+use Rattle.sdd_progress.proofs.All.{arith, redeclares}
 use Rattle.sdd_progress.proofs.Committed.{all_committed}
 use Rattle.sdd_progress.proofs.Finished.{finished}
 use Rattle.sdd_progress.proofs.NoneWaits.{is_idle}

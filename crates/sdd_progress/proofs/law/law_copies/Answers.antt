@@ -1,5 +1,4 @@
-use Rattle.std.proofs.Common.{arith}
-use Rattle.sdd_obligations.specs.All.{redeclares}
+use Rattle.sdd_progress.proofs.All.{arith, redeclares}
 use Rattle.sdd_progress.proofs.Copies.{applied_at_copies, serial_copies}
 use Rattle.sdd_progress.proofs.NoneWaits.{is_idle}
 use Rattle.sdd_progress.proofs.OwnCopies.{own_copy}

@@ -1,4 +1,4 @@
-use Rattle.sdd_obligations.proofs.invariants.Bools.{not_zero}
+use Rattle.sdd_progress.proofs.All.{not_zero}
 use Rattle.sdd_progress.proofs.Alone.{below_read, zero_time}
 use Rattle.sdd_progress.proofs.parts.law_class_zero.Goals as goal
 

@@ -1,8 +1,6 @@
-use Rattle.sdd_obligations.proofs.logs.NewMarks.{lawful_permitted}
-use Rattle.sdd_lawful.proofs.Numbered.{lawful_numbered}
+use Rattle.sdd_progress.proofs.All.{eras_of, lawful_numbered, lawful_permitted}
 use Rattle.sdd_progress.proofs.OfLogs.{few_in_limit, few_rejected}
 use Rattle.sdd_progress.proofs.ErasOf.{are_eras_of}
-use Rattle.sdd_progress.specs.Eras.{eras_of}
 use Rattle.sdd_progress.proofs.succession_law.law_few_attempts_across_lists.Goals as goal
 
 pub returns-clause-rejected : goal.returns-clause-rejected
