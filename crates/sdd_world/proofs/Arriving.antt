@@ -1,16 +1,9 @@
 -- Messages have come to a site: they are handed over, or kept.
-use Rattle.std.proofs.Common.{ℕ, ◌≡◌, ◌∙◌, ap, sym, subst, true, List, [], ◌∷◌}
-use Rattle.sdd_obligations.specs.All.{D, Deliver, DmNo, Given, IsSiteOf, Log, Mark, Msg, Site, U, from_one, is_down, local_of, setting_of, takes_part}
-use Rattle.sdd_obligations.proofs.logs.Delivering.{delivers_messages}
-use Rattle.sdd_world.specs.declared.world.World.{World}
-use Rattle.sdd_world.specs.Standing.{Arrives, ahead_of, Keeping, HandedOn, Handing, Happened, Spooled}
-use Rattle.sdd_obligations.proofs.net.Directions.{link_parts}
+use Rattle.sdd_world.proofs.All.{Arrives, D, Deliver, DmNo, Given, HandedOn, Handing, Happened, IsSiteOf, Keeping, List, Log, Mark, Msg, Site, Spooled, StandFor, U, World, [], ahead_of, ap, delivers_messages, from_one, is_down, link_parts, local_of, setting_of, subst, sym, takes_part, true, ℕ, ◌∙◌, ◌∷◌, ◌≡◌}
 use Rattle.sdd_world.proofs.Keeping.{keeping_begins, kept_happened}
 use Rattle.sdd_world.proofs.Delivering.{beside, but_for, handed_calm}
-use Rattle.sdd_world.specs.Modules.{StandFor}
 
-module _ (w now : World)
-    (g : Given) (log : Log) (a b : Site) (k : ℕ) (messages : List Msg)
+module _ (w now : World) (g : Given) (log : Log) (a b : Site) (k : ℕ) (messages : List Msg)
     (h : Arrives w now g log a b k messages) where
   site_is : IsSiteOf g b
   site_is = (link_parts g.catalogue.tms g.catalogue.dms a b h.marked.possible.0).to
@@ -50,8 +43,7 @@ module _ (w now : World)
       → Happened w2 g log
   is_over w2 part d = handed_calm w now w2 g log a b k h.marked part h.same d
 
-module _ (w now : World)
-    (g : Given) (log : Log) (a b : Site) (d : DmNo) (k : ℕ) (messages : List Msg)
+module _ (w now : World) (g : Given) (log : Log) (a b : Site) (d : DmNo) (k : ℕ) (messages : List Msg)
     (h : Arrives w now g log a b k messages) (at : b ≡ D d)
     (down : is_down d.0 log ≡ true) where
   here_d : Arrives w now g log a (D d) k messages
@@ -64,8 +56,7 @@ module _ (w now : World)
       (keeping_begins w g log a d.0 k messages here_d.marked down here_d.delivered_are)
 
   pub is_kept : (w2 : World) → w2 ≡ record now { spool = w2.spool }
-      → Keeping g (Mark (Deliver a (D d) k) ∷ log) w2.spool a d.0 []
-      → Happened w2 g log
+      → Keeping g (Mark (Deliver a (D d) k) ∷ log) w2.spool a d.0 [] → Happened w2 g log
   is_kept w2 same kept =
       kept_happened w w2 now.net g log a d.0 k messages here_d.marked down here_d.delivered_are here_d.net
       (same ∙ ap (λ (v : World). record v { spool = w2.spool }) h.same) kept

@@ -1,14 +1,6 @@
 -- A world before its first event, over plain worlds.
-use Rattle.std.proofs.Common.{ℕ, zero, suc, ◌-◌, ◌<◌, ◌≤◌, ◌≡◌, ◌∙◌, ap, sym, subst, refl, true, false, List, [], length, replicate, Option, Some, None, arith}
-use Rattle.std.proofs.lemmas.List.{length-replicate}
-use Rattle.std.specs.Prelude.{slice_index_or}
-use Rattle.sdd_obligations.specs.All.{Given, IsGood, IsSiteOf, Mailbox, Msg, Site, U, beginning, dm_no, empty_mailbox, force_at, kept_from, mailbox_at, place_of, queue_at, setting_of}
-use Rattle.sdd_obligations.proofs.logs.Beginning.{next_at_first, rests_at_first}
-use Rattle.sdd_world.specs.declared.world.World.{World}
-use Rattle.sdd_world.specs.Standing.{IsSound, KeepsFor, Spooled, StandsFor}
+use Rattle.sdd_world.proofs.All.{Carries, Given, IsGood, IsSiteOf, IsSound, KeepsFor, List, Mailbox, Msg, None, Option, Site, Some, Spooled, StandFor, StandsFor, U, World, [], ap, arith, beginning, dm_no, empty_mailbox, false, force_at, get_or as slice_index_or, kept_from, length, length-replicate, mailbox_at, next_at_first, place_of, queue_at, refl, replicate, rests_at_first, setting_of, subst, suc, sym, true, zero, ℕ, ◌-◌, ◌<◌, ◌∙◌, ◌≡◌, ◌≤◌}
 use Rattle.sdd_world.proofs.Keeping.{dm_within}
-use Rattle.sdd_world.specs.Modules.{StandFor}
-use Rattle.sdd_world.specs.Carries.{Carries}
 
 nothing_at : {A : Type 0} (n k : ℕ) → slice_index_or (replicate {A = List A} n []) k [] ≡ []
 nothing_at zero k = refl

@@ -1,10 +1,5 @@
 -- The modules of a system before its first event: each stands for the beginning of its site's log.
-use Rattle.std.proofs.Common.{◌-◌, ◌≡◌, ◌≤◌, List, [], ◌∷◌, Option, Some, None, subst, sym, refl}
-use Rattle.std.proofs.lemmas.Bool.{leb-true}
-use Rattle.std.specs.Prelude.{nat_le, slice_get}
-use Rattle.sdd_obligations.specs.All.{Catalogue, D, Given, IsSiteOf, Kept, Redeclared, Setting, Site, T, Txn, U, beginning, rows_of, setting_of}
-use Rattle.sdd_obligations.specs.protocol.declared.entry.Entry.{Entry}
-use Rattle.sdd_obligations.proofs.lang.Pushdown.{and_parts}
+use Rattle.sdd_world.proofs.All.{AllBegin, At, BeginsD, BeginsT, Catalogue, D, Entry, Given, IsBegun, IsSiteOf, Kept, List, LivesD, LivesT, LivesU, None, Option, Redeclared, Setting, Site, Some, Standing, StandsAt, T, There, Txn, U, [], and_parts, beginning, leb-true, nat_le, refl, rows_of, setting_of, slice_get, subst, sym, ◌-◌, ◌∷◌, ◌≡◌, ◌≤◌}
 use Rattle.sdd_obligations.specs.dm.Stands as dm
 use Rattle.sdd_obligations.specs.dm.State as dm_state
 use Rattle.sdd_obligations.specs.tm.Stands as tm
@@ -12,9 +7,6 @@ use Rattle.sdd_obligations.specs.tm.State as tm_state
 use Rattle.sdd_obligations.specs.umod.Stands as um
 use Rattle.sdd_obligations.specs.umod.State as um_state
 use Rattle.sdd_obligations.specs.site_module.SiteLog as site
-use Rattle.sdd_world.specs.AtSites.{At, Standing, StandsAt}
-use Rattle.sdd_world.specs.Beginnings.{AllBegin, BeginsD, BeginsT, IsBegun, There}
-use Rattle.sdd_world.specs.Modules.{LivesD, LivesT, LivesU}
 
 -- what the one that is found has, as what holds of it at its site
 found_at : {V : Type 0} (P : V → Type 0) (q : Standing V) (o : Option V) (s : Setting) (log : site.Log) → ((v : V) → P v → q v s log) → There P o → At q o s log

@@ -1,16 +1,10 @@
 -- What one module's law says of all sites.
-use Rattle.std.proofs.Common.{ℕ, zero, suc, ◌-◌, ◌≡◌, ◌∙◌, ap, sym, subst, refl, Bool, List, [], ◌∷◌, Option, Some, Result, Ok, Err}
-use Rattle.std.specs.Prelude.{IfOk, IsTrue, slice_get, slice_index_or, slice_set}
-use Rattle.sdd_obligations.specs.All.{Act, AreDue, Bases, D, Did, DmNo, Fitting, FittingSubmit, Handed, Msg, NoMemory, Outcome, Rec, Setting, Site, Submits, T, TmNo, Txn, TxnNo, U, fits_at, fits_submit_at, log_after}
-use Rattle.sdd_obligations.specs.history.declared.record.Rec.TheVariants.{Submit as Submission}
+use Rattle.sdd_world.proofs.All.{Act, AreDue, At, Bases, Bool, D, Did, DmNo, Err, Fitting, FittingSubmit, Handed, IfOk, IsTrue, List, Lives, Msg, NoMemory, Ok, Option, Outcome, Rec, Result, Setting, Site, Some, Standing, StandsAt, Submission, Submits, T, TmNo, Txn, TxnNo, U, [], ap, fits_at, fits_submit_at, get-set_same, get_or as slice_index_or, log_after, next_of, refl, slice_get, slice_set, subst, suc, sym, zero, ℕ, ◌-◌, ◌∙◌, ◌∷◌, ◌≡◌}
 use Rattle.sdd_obligations.specs.site_module.SiteLog.{Does}
 use Rattle.sdd_obligations.specs.site_module.SiteLog as site
 use Rattle.sdd_obligations.specs.dm.Due as dm
 use Rattle.sdd_obligations.specs.tm.Due as tm
 use Rattle.sdd_obligations.specs.umod.Due as um
-use Rattle.sdd_obligations.proofs.net.Lists.{get-set_same}
-use Rattle.sdd_world.specs.AtSites.{Standing, Lives, At, StandsAt}
-use Rattle.sdd_world.specs.DueAt.{next_of}
 
 -- the act that is due next
 abbrev pub Table : Type 0

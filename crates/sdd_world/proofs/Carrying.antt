@@ -1,13 +1,5 @@
 -- Steps of a schedule.
-use Rattle.std.proofs.Common.{◌≡◌, ◌≢◌, ◌∙◌, sym, subst, ap, refl, false, List, [], ◌∷◌, Result, Ok, Err}
-use Rattle.std.specs.Prelude.{IfOk}
-use Rattle.sdd_obligations.specs.All.{Deliver, Down, Event, Given, IsGood, IsPossible, Log, Lose, Redeclare, Repeat, Resend, Settle, Submit, Tick, Up, with_event}
-use Rattle.sdd_obligations.proofs.logs.Grows.{lawful_grows, next_grows}
-use Rattle.sdd_world.specs.Standing.{EndsBy, IsNextList, StandsFor}
-use Rattle.sdd_world.specs.declared.ends.WorldEnd.{WorldEnd}
-use Rattle.sdd_world.specs.declared.world.World.{World}
-use Rattle.sdd_world.specs.Schedules.{AreAllowed, IsAllowed, IsListed, lists_after, takes_rounds, with_events}
-use Rattle.sdd_world.specs.declared.schedule.ClassList.{ClassList}
+use Rattle.sdd_world.proofs.All.{AreAllowed, ClassList, Deliver, Down, EndsBy, Err, Event, Given, IfOk, IsAllowed, IsGood, IsListed, IsNextList, IsPossible, List, Log, Lose, Ok, Redeclare, Repeat, Resend, Result, Settle, StandsFor, Submit, Tick, Up, World, WorldEnd, [], ap, false, lawful_grows, lists_after, next_grows, refl, subst, sym, takes_rounds, with_event, with_events, ◌∙◌, ◌∷◌, ◌≡◌, ◌≢◌}
 
 -- an event that is reached by no rounds
 pub no_rounds : (e : Event) → e ≢ Settle → e ≢ Redeclare → takes_rounds e ≡ false
@@ -60,8 +52,7 @@ first_allowed g events rest e lists after is taken h =
     (p.0, subst (AreAllowed (with_event g e) rest) (sym taken) p.1)
 
 pub first_one : (g : Given) (events rest : List Event) (e : Event) (lists : List ClassList)
-    → events ≡ e ∷ rest → AreAllowed g events lists
-    → IsAllowed g e lists
+    → events ≡ e ∷ rest → AreAllowed g events lists → IsAllowed g e lists
 first_one g events rest e lists is h = (first_allowed g events rest e lists (lists_after e lists) is refl h).0
 
 pub with_first : (g : Given) (events rest : List Event) (e : Event) → events ≡ e ∷ rest → with_events (with_event g e) rest ≡ with_events g events
@@ -80,8 +71,7 @@ abbrev pub EndsIt : World → Event → List ClassList → Type 0
 EndsIt w e lists = (g : Given) (log : Log) → StandsFor w g log → IsAllowed g e lists → EndsBy (with_event g e)
 
 -- a settle is carried out as the event that it is
-pub settle_goes : (w : World) (e : Event) (lists : List ClassList) (res : Result World WorldEnd)
-    → e ≡ Settle
+pub settle_goes : (w : World) (e : Event) (lists : List ClassList) (res : Result World WorldEnd) → e ≡ Settle
     → IfOk res (λ next. (g : Given) (log : Log) → StandsFor w g log → IsGood (with_event g Settle)
     → (more : Log) × StandsFor next (with_event g Settle) more)
     → IfOk res (GoesOn w e lists)
@@ -97,22 +87,19 @@ settle_ends w e lists is law = λ g log s a.
 -- a redeclare puts the first of the lists in force
 
 pub next_list : (g : Given) (lists rest : List ClassList) (first : ClassList) → lists ≡ first ∷ rest
-    → IsAllowed g Redeclare lists
-    → IsNextList g first.catalogue.now first.table.now
+    → IsAllowed g Redeclare lists → IsNextList g first.catalogue.now first.table.now
 next_list g lists rest first is a = subst (IsListed g) is (a.listed refl)
 
 pub some_list : (g : Given) (lists : List ClassList) → lists ≡ [] → IsAllowed g Redeclare lists → ⊥
 some_list g lists none a = subst (IsListed g) none (a.listed refl)
 
-pub redeclare_goes : (w : World) (e : Event) (lists : List ClassList) (res : Result World WorldEnd)
-    → e ≡ Redeclare
+pub redeclare_goes : (w : World) (e : Event) (lists : List ClassList) (res : Result World WorldEnd) → e ≡ Redeclare
     → IfOk res (GoesOn w Redeclare lists) → IfOk res (GoesOn w e lists)
 redeclare_goes w e lists (Ok next) is law = subst (λ x. GoesOn w x lists next) (sym is) law
 redeclare_goes w e lists (Err end) is law = tt
 
 -- any other event is carried out by a step
-pub step_goes : (w : World) (e : Event) (lists : List ClassList) (res : Result World WorldEnd)
-    → takes_rounds e ≡ false
+pub step_goes : (w : World) (e : Event) (lists : List ClassList) (res : Result World WorldEnd) → takes_rounds e ≡ false
     → IfOk res (λ next. (g : Given) (log : Log) → StandsFor w g log → IsPossible g e
     → IsGood (with_event g e) → (more : Log) × StandsFor next (with_event g e) more)
     → IfOk res (GoesOn w e lists)

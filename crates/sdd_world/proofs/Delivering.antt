@@ -1,18 +1,7 @@
 -- A packet arrives: what it brings is handed over, or kept for a module that is down.
-use Rattle.std.proofs.Common.{ℕ, ◌+◌, ◌≡◌, ◌∙◌, ap, sym, subst, refl, Bool, true, false, not, List, [], ◌∷◌, ◌++◌}
-use Rattle.sdd_obligations.specs.All.{Acked, Call, D, Deliver, Delivered, Delivers, Given, IsFirst, IsLinkOf, IsSiteOf, Log, Mailbox, Mark, Messages, Msg, Nothing as Noted, Site, Takes, U, calls_of, delivered, delivery, dm_no, from_one, handed, is_down, link, link_of, local_of, mailbox_at, same_site, setting_of, takes_part}
-use Rattle.sdd_obligations.specs.net.declared.delivered.Delivered.TheVariants.{Nothing}
-use Rattle.sdd_obligations.proofs.logs.Delivering.{ack_same, delivers_ack, delivers_nothing, nothing_same, remain_beside}
-use Rattle.sdd_obligations.proofs.logs.Links.{sent_stays}
-use Rattle.sdd_world.specs.declared.world.World.{World}
+use Rattle.sdd_world.proofs.All.{Acked, Ahead, Arrives, Call, Carries, D, Deliver, Delivered, Delivers, Given, HandedOn, Handing, Happened, IsFirst, IsLinkOf, KeepsFor, List, Log, Mailbox, Mark, Marked, Messages, Msg, NetValue, Noted, Nothing, Site, Spooled, Takes, U, World, [], ack_same, ahead_of, all_handed, and_right, ap, calls_of, delivered, delivers_ack, delivers_nothing, delivery, dm_no, false, first_of_one, from_one, handed, is_down, link, link_of, mailbox_at, none_of_one, nothing_same, refl, remain_beside, same_is, same_site, sent_stays, subst, sym, takes_of_one, takes_part, true, up_of, ℕ, ◌++◌, ◌+◌, ◌∙◌, ◌∷◌, ◌≡◌}
 use Rattle.sdd_world.proofs.Marking.{marked_noted, marked_plain}
-use Rattle.sdd_world.specs.Standing.{Ahead, Arrives, ahead_of, HandedOn, Handing, Happened, KeepsFor, Marked, Spooled}
 use Rattle.sdd_world.proofs.Parting.{spooled_on}
-use Rattle.sdd_obligations.proofs.net.Directions.{same_is}
-use Rattle.sdd_obligations.proofs.logs.Handing.{all_handed, and_right}
-use Rattle.sdd_obligations.proofs.logs.Lowest.{first_of_one, none_of_one, takes_of_one}
-use Rattle.sdd_world.specs.Modules.{StandFor}
-use Rattle.sdd_world.specs.Carries.{Carries, NetValue}
 
 -- the mailboxes after a delivery, but for that of the site to which it goes
 pub beside : (g : Given) (a b : Site) (k : ℕ) (log : Log) (boxes : List (Mailbox Msg)) → Spooled g log boxes b → Spooled g (Mark (Deliver a b k) ∷ log) boxes b
@@ -32,10 +21,6 @@ empty_at g log more d box k e f = record {
   kept = λ p x. (let no : true ≡ false = sym p ∙ f in cc);
   empty = λ p x. k.empty e x;
 }
-
-up_of : (b : Bool) → not b ≡ true → b ≡ false
-up_of true e = cc
-up_of false e = refl
 
 -- with the mailbox of the busy site, all mailboxes stand
 with_busy : (g : Given) (log more : Log) (boxes : List (Mailbox Msg)) (b : Site) → Spooled g log boxes U
@@ -77,8 +62,7 @@ all_beside g a b k log boxes same s =
 
 pub got_nothing : (w w2 : World) (net : NetValue) (g : Given) (log : Log) (a b : Site) (k : ℕ)
     (d : Delivered Msg) → Marked w g log (Deliver a b k) → GivenLaw w.net d a b k
-    → PutLaw w.net net (Delivers a b k)
-    → d ≡ Nothing → w2 ≡ record w { net = net; history = w2.history }
+    → PutLaw w.net net (Delivers a b k) → d ≡ Nothing → w2 ≡ record w { net = net; history = w2.history }
     → w2.history ≡ w.history ++ (w.marks, Noted) ∷ [] → Happened w2 g log
 got_nothing w w2 net g log a b k d m t f e same note =
     let f2 : PutLaw w.net w2.net (Delivers a b k) = subst (λ z. PutLaw w.net z (Delivers a b k)) (sym (ap (λ v. v.net) same)) f in
@@ -92,8 +76,7 @@ got_nothing w w2 net g log a b k d m t f e same note =
     (all_beside g a b k log w.spool (nothing_same a b k log is) m.spooled))
 
 pub got_ack : (w w2 : World) (g : Given) (log : Log) (a b : Site) (k : ℕ) (d : Delivered Msg)
-    → Marked w g log (Deliver a b k) → GivenLaw w.net d a b k
-    → PutLaw w.net w2.net (Delivers a b k)
+    → Marked w g log (Deliver a b k) → GivenLaw w.net d a b k → PutLaw w.net w2.net (Delivers a b k)
     → d ≡ Acked → w2 ≡ record w { net = w2.net } → Happened w2 g log
 got_ack w w2 g log a b k d m t f e same =
     let is : delivery k (link_of a b log) ≡ Acked = sym (t g.catalogue.tms g.catalogue.dms (calls_of log) m.parts.net) ∙ e in
@@ -102,11 +85,6 @@ got_ack w w2 g log a b k d m t f e same =
     (f g.catalogue.tms g.catalogue.dms (calls_of log) m.parts.net)
     (subst (λ x. Spooled g (Mark (Deliver a b k) ∷ log) x U) (sym (ap (λ v. v.spool) same))
     (all_beside g a b k log w.spool (ack_same a b k log is) m.spooled))
-
-sites_delivered : (w : World) (g : Given) (log : Log) (a b : Site) (k : ℕ)
-    → Marked w g log (Deliver a b k) → (x : Site) → IsSiteOf g x
-    → StandFor w.sites x (setting_of g x) (local_of g x (Mark (Deliver a b k) ∷ log))
-sites_delivered w g log a b k m x here = m.parts.sites x here
 
 -- messages have come to a site
 pub arrives : (w now : World) (g : Given) (log : Log) (a b : Site) (k : ℕ) (d : Delivered Msg)
@@ -122,8 +100,7 @@ arrives w now g log a b k d messages m t f e same = record {
 
 -- once they are handed over, the event is done
 pub handed_calm : (w w1 w2 : World) (g : Given) (log : Log) (a b : Site) (k : ℕ)
-    → Marked w g log (Deliver a b k) → takes_part b log ≡ true
-    → w1 ≡ record w { net = w1.net }
+    → Marked w g log (Deliver a b k) → takes_part b log ≡ true → w1 ≡ record w { net = w1.net }
     → HandedOn w2 g b (from_one a []) (ahead_of g (Mark (Deliver a b k) ∷ log))
     w1.spool → Happened w2 g log
 handed_calm w w1 w2 g log a b k m part same d =
@@ -136,11 +113,9 @@ handed_calm w w1 w2 g log a b k m part same d =
         rests = record {
           lawful = h.waits.lawful;
           within = h.waits.within;
-          no_mark =
-              h.waits.no_mark;
+          no_mark = h.waits.no_mark;
           no_site = h.waits.no_site;
-          handed_all =
-              all_handed g d.more b (from_one a []) h.waits (none_of_one a);
+          handed_all = all_handed g d.more b (from_one a []) h.waits (none_of_one a);
         };
         marks_are = h.marks_are;
         spooled = subst (λ x. Spooled g d.more x U) (sym boxes)
@@ -153,8 +128,7 @@ handed_calm w w1 w2 g log a b k m part same d =
 -- one more was handed over
 pub handed_further : (w : World) (g : Given) (b : Site) (kept : Site → List Msg) (first now : Ahead)
     (boxes before : List (Mailbox Msg)) → now ≡ first → before ≡ boxes
-    → HandedOn w g b kept now before
-    → HandedOn w g b kept first boxes
+    → HandedOn w g b kept now before → HandedOn w g b kept first boxes
 handed_further w g b kept first now boxes before e f d = record { more = d.more; handing = d.handing; ahead_is = d.ahead_is ∙ e; spool_is = d.spool_is ∙ f }
 
 -- none is handed over yet
@@ -164,10 +138,8 @@ pub handed_none : (w : World) (g : Given) (log : Log) (from to : Site) (messages
 handed_none w g log from to messages queue e h =
     record {
       more = log;
-      handing =
-          subst (λ q. Handing w g log to (from_one from q)) e h;
-      ahead_is =
-          refl;
+      handing = subst (λ q. Handing w g log to (from_one from q)) e h;
+      ahead_is = refl;
       spool_is = refl;
     }
 

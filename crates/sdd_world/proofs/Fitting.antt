@@ -1,11 +1,5 @@
 -- What is put on the links fits, so what they hand on does.
-use Rattle.std.proofs.Common.{ℕ, zero, suc, Bool, true, false, List, [], ◌∷◌, ◌++◌, take, drop, Option, Some, None}
-use Rattle.std.specs.Bool.{if◌then◌else◌}
-use Rattle.std.specs.Prelude.{◌&&◌}
-use Rattle.std.specs.List.{AllByRecursion}
-use Rattle.sdd_obligations.specs.All.{Ack, Call, Delivers, Link, Loses, Message, Packet, Puts, Repeats, Resends, Site, arrives, deliver, delivered, delivery, given_by, link, lose, newly_delivered, on_link, packet_at, repeat, resend, same_site, turned, with_flight, with_packet, without_packet}
-use Rattle.sdd_obligations.specs.net.Links.{put}
-use Rattle.sdd_world.specs.Carries.{AllPut, AllDelivered}
+use Rattle.sdd_world.proofs.All.{Ack, AllByRecursion, AllDelivered, AllPut, Bool, Call, Delivers, Link, List, Loses, Message, None, Option, Packet, Puts, Repeats, Resends, Site, Some, [], arrives, deliver, delivered, delivery, drop, false, given_by, if◌then◌else◌, link, lose, newly_delivered, on_link, packet_at, put, repeat, resend, same_site, suc, take, true, turned, with_flight, with_packet, without_packet, zero, ℕ, ◌&&◌, ◌++◌, ◌∷◌}
 
 module _ {M : Type 0} (P : M → Type 0) where
   each_append : (xs ys : List M) → AllByRecursion P xs → AllByRecursion P ys → AllByRecursion P (xs ++ ys)

@@ -1,14 +1,6 @@
 -- A list of classes is put in force at all transaction modules, one after the other.
-use Rattle.std.proofs.Common.{ℕ, suc, ◌+◌, ◌-◌, ◌<◌, ◌≤◌, ◌==◌, ◌≡◌, ◌∙◌, ap, sym, subst, refl, true, false, ◌∷◌, map, arith, inl, inr}
-use Rattle.std.proofs.lemmas.Bool.{and_from, cases_lt, le-leb, leb-true, ne_eqb}
-use Rattle.std.specs.List.{fold, range_with_len}
-use Rattle.std.specs.Prelude.{max, nat_le}
-use Rattle.sdd_obligations.specs.All.{D, FitsForce, Force, Given, IsSiteOf, Log, Redeclared, Setting, Site, T, TmNo, U, local_of, number_of, same_site, setting_of, tm_no}
-use Rattle.sdd_obligations.proofs.lang.Pushdown.{and_parts}
+use Rattle.sdd_world.proofs.All.{AllStandFor, AreForced, D, FitsForce, Force, Given, IsSiteOf, Log, Redeclared, Setting, Site, Sites, StandFor, T, TmNo, U, and_from, and_parts, ap, arith, cases_lt, differ, false, fold, inl, inr, le-leb, leb-true, local_of, map, max, nat_le, number_of, range_with_len, refl, same_is, same_site, setting_of, subst, suc, sym, tm_no, true, ℕ, ◌+◌, ◌-◌, ◌<◌, ◌∙◌, ◌∷◌, ◌≡◌, ◌≤◌}
 use Rattle.sdd_obligations.specs.site_module.SiteLog as site
-use Rattle.sdd_obligations.proofs.net.Directions.{same_is}
-use Rattle.sdd_world.specs.Modules.{AllStandFor, AreForced, StandFor}
-use Rattle.sdd_world.specs.declared.sites.Sites.{Sites}
 
 -- the transaction modules before number n stand for logs with the list, all other modules for theirs
 pub record ForcedTo (m : Sites) (g : Given) (log : Log) (force : Force) (t n : ℕ) : Type 0 where
@@ -34,9 +26,6 @@ t_within g t here =
     let p = and_parts (nat_le 1 t.0) (nat_le t.0 g.catalogue.tms) here in
     (leb-true 1 t.0 p.0, leb-true t.0 g.catalogue.tms p.1)
 
-differ : (k n : ℕ) → k < n → (k == n) ≡ false
-differ k n l = ne_eqb k n (λ e. absurd (omega (arith, l, e)))
-
 -- what the module that comes next stands for
 pub t_stands : (m : Sites) (g : Given) (log : Log) (force : Force) (t n : ℕ)
     → ForcedTo m g log force t n → IsSiteOf g (T (tm_no n))
@@ -52,8 +41,7 @@ ForceLaw m m2 force t n = (setting : Setting) (l : site.Log) → StandFor m (T (
 abbrev pub OthersLaw : Sites → Sites → ℕ → Type 0
 OthersLaw m m2 n = (x : Site) (setting : Setting) (l : site.Log) → same_site x (T (tm_no n)) ≡ false → StandFor m x setting l → StandFor m2 x setting l
 
-apart_from : (at : Site) (n : ℕ) → ((k : ℕ) → at ≡ T (tm_no k) → n + 1 ≤ k)
-    → same_site at (T (tm_no n)) ≡ false
+apart_from : (at : Site) (n : ℕ) → ((k : ℕ) → at ≡ T (tm_no k) → n + 1 ≤ k) → same_site at (T (tm_no n)) ≡ false
 apart_from at n later = elim (same_site at (T (tm_no n))) as (λ b. same_site at (T (tm_no n)) ≡ b → b ≡ false) [
   | true ↦ λ p. (let l = later n (same_is at (T (tm_no n)) p) in absurd (omega (arith, l)))
   | false ↦ λ p. refl
@@ -61,8 +49,7 @@ apart_from at n later = elim (same_site at (T (tm_no n))) as (λ b. same_site at
 
 pub one_forced : (m m2 : Sites) (g : Given) (log : Log) (force : Force) (t n : ℕ)
     → ForcedTo m g log force t n → IsSiteOf g (T (tm_no n))
-    → FitsForce g.catalogue force t → ForceLaw m m2 force t n → OthersLaw m m2 n
-    → ForcedTo m2 g log force t (n + 1)
+    → FitsForce g.catalogue force t → ForceLaw m m2 force t n → OthersLaw m m2 n → ForcedTo m2 g log force t (n + 1)
 one_forced m m2 g log force t n f here fits law stay = record {
   forced = λ k low high there. elim (cases_lt k n) [
     | inl l ↦ stay (T (tm_no k)) (setting_of g (T (tm_no k))) (Redeclared force t ∷ local_of g (T (tm_no k)) log) (differ k n l) (f.forced k low l there)
@@ -94,8 +81,7 @@ greatest_next f a n m b new v l is most all =
     ap (λ x. fold max x (map f (range_with_len (n + 1) (m - (n + 1))))) (most ∙ ap (λ x. max a x) is)
     ∙ ap (λ k. fold max a (map f (range_with_len n k))) (sym (one_less n m l)) ∙ all
 
-pub greatest_last : (f : ℕ → ℕ) (a n m v : ℕ) → n ≡ m
-    → fold max a (map f (range_with_len n (m - n))) ≡ v → a ≡ v
+pub greatest_last : (f : ℕ → ℕ) (a n m v : ℕ) → n ≡ m → fold max a (map f (range_with_len n (m - n))) ≡ v → a ≡ v
 greatest_last f a n m v e all =
     let none : m - n ≡ 0 = omega (arith, e) in
     ap (λ k. fold max a (map f (range_with_len n k))) (sym none) ∙ all

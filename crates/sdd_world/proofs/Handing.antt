@@ -1,22 +1,7 @@
 -- A message is handed over, and its module does what is due, over plain worlds.
-use Rattle.std.proofs.Common.{ℕ, suc, ◌≤◌, ◌≡◌, ◌∙◌, ap, sym, subst, refl, true, false, List, [], ◌∷◌, ◌++◌, map, Some}
-use Rattle.std.specs.Prelude.{All}
-use Rattle.sdd_obligations.specs.All.{Act, AllLinked, AreDue, Bases, D, Given, Hand, IsFirst, IsLawful, IsSiteOf, Log, Msg, Outcome, Rec, Setting, Site, T, Takes, U, base_of, calls_of, dm_no, fits, force_at, handed, local_of, log_after, marks, next, next_in, puts, puts_past, records_of, same_site, sends_of, setting_of}
-use Rattle.sdd_obligations.specs.site_module.SiteLog as site
-use Rattle.sdd_obligations.proofs.net.Directions.{link_parts, same_is, same_here}
-use Rattle.sdd_obligations.proofs.logs.Steps.{after_acts}
-use Rattle.sdd_obligations.proofs.logs.Acts.{calls_acts, ends_in_acts, history_acts, linked_acts, marks_acts, other_acts, own_acts}
-use Rattle.sdd_obligations.proofs.logs.Handing.{and_right, first_lawful, first_next, hands_first, remain_other}
-use Rattle.sdd_world.specs.declared.world.World.{World}
-use Rattle.sdd_world.specs.DueAt.{next_of}
-use Rattle.sdd_world.specs.Kinds.{AreLinked}
-use Rattle.sdd_world.specs.Following.{Followed, IsPast, MaySend}
-use Rattle.sdd_world.specs.Standing.{ahead_of, EndsBy, HandedOn, Handing, Spooled}
+use Rattle.sdd_world.proofs.All.{Act, All, AllLinked, AreDue, AreLinked, Bases, Carries, D, EndsBy, Followed, Given, Hand, HandedOn, Handing, IsFirst, IsLawful, IsPast, IsSiteOf, List, Log, MaySend, Msg, Outcome, Rec, Setting, Site, Sites, Some, Spooled, StandFor, T, Takes, U, World, [], after_acts, ahead_of, all_facts, and_right, ap, base_of, calls_acts, calls_of, dm_no, ends_in_acts, false, first_lawful, first_next, fits, force_at, handed, hands_first, history_acts, link_parts, linked_acts, local_of, log_after, map, marks, marks_acts, next, next_in, next_of, other_acts, other_hand, own_acts, puts, puts_past, records_of, refl, remain_other, same_here, same_is, same_site, sends_of, setting_of, subst, suc, sym, true, ℕ, ◌++◌, ◌∙◌, ◌∷◌, ◌≡◌, ◌≤◌}
 use Rattle.sdd_world.proofs.Parting.{ahead_acts, events_before, redeclares_acts, spooled_acts, spooled_on}
-use Rattle.sdd_world.specs.Modules.{StandFor}
-use Rattle.sdd_world.specs.Carries.{Carries}
-use Rattle.sdd_world.specs.declared.sites.Sites.{Sites}
-use Rattle.sdd_obligations.proofs.AllFacts.{all_facts}
+use Rattle.sdd_obligations.specs.site_module.SiteLog as site
 
 pub due_same : (g : Given) (b : Site) (bases : Bases) (l : site.Log) (acts : List Act)
     → AreDue (next_of b (setting_of g b) bases) l acts → AreDue (next_in g b bases) l acts
@@ -37,9 +22,6 @@ at_log P l k e h = subst P (sym e) h
 
 own_hand : (g : Given) (a b : Site) (n : ℕ) (m : Msg) (log : Log) → local_of g b (Hand a b n m ∷ log) ≡ site.Handed a m ∷ local_of g b log
 own_hand g a b n m log = rw (same_here b) refl
-
-other_hand : (g : Given) (x a b : Site) (n : ℕ) (m : Msg) (log : Log) → same_site x b ≡ false → local_of g x (Hand a b n m ∷ log) ≡ local_of g x log
-other_hand g x a b n m log e = rw e refl
 
 module _ (w : World) (g : Given) (log : Log) (a b : Site) (m : Msg) (kept : Site → List Msg) (rest : List Msg)
     (h : Handing w g log b kept) (f : IsFirst g kept a b m rest) where

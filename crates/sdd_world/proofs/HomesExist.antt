@@ -1,16 +1,6 @@
 -- The sites of modules and of transactions exist.
-use Rattle.std.proofs.Common.{ℕ, ◌-◌, ◌<◌, ◌≤◌, ◌≡◌, ◌∙◌, List, length, get_or, refl, sym, ap, subst, Bool, true, false, ◌==◌, Option, Some, None}
-use Rattle.std.specs.Prelude.{◌&&◌, nat_le, if◌then◌else◌, slice_get}
-use Rattle.std.proofs.lemmas.Option.{slice_get-get_or, slice_get_past}
-use Rattle.std.proofs.lemmas.Bool.{le-leb}
-use Rattle.sdd_obligations.specs.All.{Catalogue, D, DmNo, Given, IsSiteOf, Log, T, TmNo, Txn, U, class_for, force_at, is_site, redeclares, txn_at}
-use Rattle.sdd_obligations.specs.lang.Fits.{Fits}
-use Rattle.sdd_obligations.specs.logs.Due.{home_of}
-use Rattle.sdd_world.specs.Standing.{IsSound}
-use Rattle.sdd_world.specs.Pending.{last_home}
-
-pub within : (n most : ℕ) → 1 ≤ n → n ≤ most → (nat_le 1 n && nat_le n most) ≡ true
-within n most low high = rw (le-leb 1 n low) (le-leb n most high)
+use Rattle.sdd_world.proofs.All.{Bool, Catalogue, D, DmNo, Fits, Given, IsSiteOf, IsSound, List, Log, None, Option, Some, T, TmNo, Txn, U, ap, class_for, false, force_at, get_or, home_of, if◌then◌else◌, is_site, last_home, length, redeclares, refl, slice_get, slice_get-get_or, slice_get_past, subst, sym, true, txn_at, ℕ, ◌-◌, ◌<◌, ◌==◌, ◌∙◌, ◌≡◌, ◌≤◌}
+use Rattle.sdd_world.proofs.Turning.{t_site as within}
 
 pub is_dm : (cat : Catalogue) (d : DmNo) → 1 ≤ d.0 → d.0 ≤ cat.dms → is_site cat.tms cat.dms (D d) ≡ true
 is_dm cat d low high = within d.0 cat.dms low high

@@ -1,13 +1,8 @@
 -- What is known of a mail is known of its network, and the other way round.
-use Rattle.std.proofs.Common.{◌≡◌, ℕ, ◌<◌, List, length, ap, ◌∙◌, sym, subst, Bool, true, Result, Ok, Err, Vec, Global}
-use Rattle.std.specs.Prelude.{slice_get, IfOk}
-use Rattle.sdd_obligations.specs.All.{Call, Delivered, Directions, Event, Fits, HasLink, Kept, MAX_LINK_MESSAGES, Msg, NoMemory, Site, StandsFor, delivery, index_of, is_link, link, links, quiet, round, sent_on, spelled}
-use Rattle.sdd_obligations.proofs.net.Deliveries.{acked_le, sent_of}
-use Rattle.sdd_obligations.proofs.net.Sound.{sound}
-use Rattle.sdd_obligations.proofs.logs.SpelledLinks.{link_map, delivery_map}
-use Rattle.sdd_world.specs.Carries.{Carries, Spells, in_bytes}
+use Rattle.sdd_world.proofs.All.{Bool, Call, Carries, Delivered, Directions, Err, Event, Global, HasLink, IfOk, Kept, List, MAX_LINK_MESSAGES, Msg, NoMemory, Ok, Result, Site, Spells, Vec, acked_le, ap, delivery, delivery_map, in_bytes, index_of, is_link, length, link, link_map, links, quiet, round, sent_of, sent_on, slice_get, sound, spelled, subst, sym, true, ℕ, ◌<◌, ◌∙◌, ◌≡◌}
 use Rattle.sdd_world.proofs.Fitting.{sent_fit, delivery_fits}
 use Rattle.sdd_world.proofs.Quietness.{count_same, quiet_same, round_same}
+use Rattle.sdd_obligations.specs.All.{Fits, StandsFor}
 
 -- how many messages a net counts on a link is how many were put on it
 pub count_on : (net : Kept (Directions (List ℕ))) (a b : Site) (calls : List (Call (List ℕ))) → HasLink net a b → StandsFor net calls

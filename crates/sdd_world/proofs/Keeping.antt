@@ -1,20 +1,9 @@
 -- Messages are kept for a module that is down, and handed over when it comes up.
-use Rattle.std.proofs.Common.{ℕ, zero, suc, ◌<◌, ◌≤◌, ◌≡◌, ◌∙◌, ap, sym, subst, refl, true, false, not, List, [], ◌∷◌, ◌++◌, length, arith}
-use Rattle.std.specs.Bool.{if◌then◌else◌}
-use Rattle.std.specs.Prelude.{◌&&◌, nat_le}
-use Rattle.sdd_obligations.specs.All.{D, Deliver, DmNo, Given, IsLinkOf, IsSender, IsSiteOf, IsWithin as IsBelow, Log, Mailbox, Mark, Messages, Msg, OnlyAt, Remain, Site, T, U, calls_of, delivery, dm_no, from_one, is_down, kept_from, link_of, mailbox_at, number_of_t, same_site, takes_part}
-use Rattle.sdd_obligations.specs.net.Mailboxes.{Puts}
-use Rattle.sdd_obligations.proofs.logs.Delivering.{delivers_kept, remain_beside, remain_more}
-use Rattle.sdd_world.specs.declared.world.World.{World}
+use Rattle.sdd_world.proofs.All.{Carries, D, Deliver, DmNo, Given, Happened, IsBelow, IsLinkOf, IsSender, IsSiteOf, Keeping, KeepsFor, List, Log, Mailbox, Mark, Marked, Messages, Msg, NetValue, OnlyAt, Remain, Site, Spooled, T, U, World, [], and_left, and_right, ap, append-nil, append_assoc, arith, calls_of, delivers_kept, delivery, dm_no, eq-eqb, eqb-true, false, from_one, if◌then◌else◌, is_down, kept_from, leb-true, length, link_of, link_parts, mailbox_at, nat_le, no_items, none_of_one as no_more, not, number_of_t, numbered, refl, remain_beside, remain_more, same_is, same_site, subst, suc, sym, takes_part, true, zero, ℕ, ◌++◌, ◌<◌, ◌∙◌, ◌∷◌, ◌≡◌, ◌≢◌, ◌≤◌}
 use Rattle.sdd_world.proofs.Marking.{marked_plain}
-use Rattle.sdd_world.specs.Standing.{Keeping, Happened, KeepsFor, Marked, Spooled}
 use Rattle.sdd_world.proofs.Parting.{spooled_on}
-use Rattle.std.proofs.Common.{append_assoc, append-nil, ◌≢◌}
-use Rattle.std.proofs.lemmas.Bool.{and_parts, eq-eqb, eqb-true, leb-true}
-use Rattle.sdd_obligations.proofs.net.Directions.{link_parts, same_is}
-use Rattle.sdd_obligations.proofs.logs.Handing.{and_left, and_right}
-use Rattle.sdd_obligations.proofs.logs.Lowest.{none_of_one}
-use Rattle.sdd_world.specs.Carries.{Carries, NetValue}
+use Rattle.sdd_obligations.specs.net.Mailboxes.{Puts}
+use Rattle.std.proofs.lemmas.Bool.{and_parts}
 
 -- the numbers of data modules
 
@@ -35,9 +24,6 @@ pub part_of : (g : Given) (log : Log) (boxes : List (Mailbox Msg)) (d : DmNo) �
     → Spooled g log boxes U → (mailbox_at boxes d.0).down ≡ false → takes_part (D d) log ≡ true
 part_of g log boxes d h s e = ap not (sym (down_of g log boxes d h s) ∙ e)
 
-numbered : (n most : ℕ) → (nat_le 1 n && nat_le n most) ≡ true → (1 ≤ n) × (n ≤ most)
-numbered n most h = let p = and_parts (nat_le 1 n) (nat_le n most) h in (leb-true 1 n p.0, leb-true n most p.1)
-
 t_below : (n size most : ℕ) → (1 ≤ n) × (n ≤ most) → size ≡ suc most → IsBelow size (number_of_t n)
 t_below zero size most p e = absurd (let q = p.0 in omega (arith, q))
 t_below (suc n) size most p e = let q = p.1 in omega (arith, q, e)
@@ -49,7 +35,7 @@ sender_of g (T n) d b l e = t_below n.0 (length b.queues) g.catalogue.tms
     (numbered n.0 g.catalogue.tms (link_parts g.catalogue.tms g.catalogue.dms (T n) (D (dm_no d)) l).from) e
 sender_of g (D n) d b l e = let k : false ≡ true = (link_parts g.catalogue.tms g.catalogue.dms (D n) (D (dm_no d)) l).linked in cc
 
-same_dm : (e d : ℕ) → same_site (D (dm_no e)) (D (dm_no d)) ≡ false → e ≢ d
+pub same_dm : (e d : ℕ) → same_site (D (dm_no e)) (D (dm_no d)) ≡ false → e ≢ d
 same_dm e d f = λ p. (let t : same_site (D (dm_no e)) (D (dm_no d)) ≡ true = eq-eqb e d p in let no : true ≡ false = sym t ∙ f in cc)
 
 -- the other mailboxes stay
@@ -68,9 +54,6 @@ moved from x m rest old new f h =
       | true ↦ λ s. sym (append_assoc old (m ∷ []) rest) ∙ ap (λ z. z ++ rest) (sym (f s))
       | false ↦ λ s. ap (λ z. z ++ []) (sym (h s))
     ] refl
-
-no_more : (a x : Site) → from_one a [] x ≡ []
-no_more a x = none_of_one a x
 
 -- a message is put
 pub put_one : (g : Given) (log : Log) (old new : List (Mailbox Msg)) (from : Site) (d : ℕ)
@@ -147,11 +130,9 @@ all_kept g log boxes a d k = record {
 
 pub kept_happened : (w w2 : World) (net : NetValue) (g : Given) (log : Log) (a : Site) (d : ℕ) (k : ℕ)
     (messages : List Msg) → Marked w g log (Deliver a (D (dm_no d)) k)
-    → is_down d log ≡ true
-    → delivery k (link_of a (D (dm_no d)) log) ≡ Messages messages
+    → is_down d log ≡ true → delivery k (link_of a (D (dm_no d)) log) ≡ Messages messages
     → Carries net g.catalogue.tms g.catalogue.dms (calls_of (Mark (Deliver a (D (dm_no d)) k) ∷ log))
-    → w2 ≡ record w { net = net; spool = w2.spool }
-    → Keeping g (Mark (Deliver a (D (dm_no d)) k) ∷ log) w2.spool a d []
+    → w2 ≡ record w { net = net; spool = w2.spool } → Keeping g (Mark (Deliver a (D (dm_no d)) k) ∷ log) w2.spool a d []
     → Happened w2 g log
 kept_happened w w2 net g log a d k messages m down is n same kept =
     marked_plain w w2 g log (Deliver a (D (dm_no d)) k) m tt
@@ -159,10 +140,6 @@ kept_happened w w2 net g log a d k messages m down is n same kept =
     (same ∙ ap (λ z. record w { net = z; spool = w2.spool }) (sym (ap (λ v. v.net) same)))
     (subst (λ z. Carries z g.catalogue.tms g.catalogue.dms (calls_of (Mark (Deliver a (D (dm_no d)) k) ∷ log))) (sym (ap (λ v. v.net) same)) n)
     (all_kept g (Mark (Deliver a (D (dm_no d)) k) ∷ log) w2.spool a d kept)
-
-pub no_items : {A : Type 0} (xs : List A) (n : ℕ) → n ≡ length xs → n ≡ 0 → xs ≡ []
-no_items [] n e f = refl
-no_items (x ∷ xs) n e f = absurd (omega arith)
 
 pub all_put : (g : Given) (log : Log) (boxes : List (Mailbox Msg)) (a : Site) (d : ℕ) (queue : List Msg)
     → Keeping g log boxes a d queue → (n : ℕ) → n ≡ length queue → n ≡ 0 → Keeping g log boxes a d []

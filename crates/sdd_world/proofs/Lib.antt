@@ -1,3 +1,4 @@
+mod All
 pub mod Arriving
 pub mod Beginning
 pub mod Begun

@@ -1,13 +1,5 @@
 -- Lists that grow by what a number or a record adds.
-use Rattle.std.proofs.Common.{ℕ, ◌+◌, ◌-◌, ◌<◌, ◌≤◌, ◌≡◌, ◌∙◌, refl, sym, ap, Bool, true, false, ◌||◌, List, [], ◌∷◌, ◌++◌, length, map, filter, take, get_or, append_assoc, Option, Some, None}
-use Rattle.std.specs.Prelude.{filter_map, cond}
-use Rattle.std.specs.List.{flat_map, list_any}
-use Rattle.std.proofs.Math.Bool.{or-false}
-use Rattle.std.proofs.lemmas.List.{map-append, take_more}
-use Rattle.std.proofs.lemmas.List.Elements.{filter-append, filter_map-append}
-use Rattle.std.proofs.lemmas.List.Folds.{list_any-append}
-use Rattle.sdd_obligations.specs.All.{numbers_to}
-use Rattle.sdd_obligations.proofs.graph.Lists.{up_to, each_more}
+use Rattle.sdd_world.proofs.All.{Bool, List, None, Option, Some, [], ap, append_assoc, cond, each_more, false, filter, filter-append, filter_map, filter_map-append, flat_map, get_or, length, list_any, list_any-append, map, map-append, numbers_to, or-false, refl, sym, take, take_more, true, up_to, ℕ, ◌++◌, ◌+◌, ◌-◌, ◌<◌, ◌||◌, ◌∙◌, ◌∷◌, ◌≡◌, ◌≤◌}
 
 kept-append : {A B : Type 0} (g : A → B) (p : A → Bool) (xs ys : List A) → map g (filter p (xs ++ ys)) ≡ map g (filter p xs) ++ map g (filter p ys)
 kept-append g p xs ys = ap (map g) (filter-append p xs ys) ∙ map-append g (filter p xs) (filter p ys)

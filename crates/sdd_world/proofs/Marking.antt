@@ -1,15 +1,7 @@
 -- Events of which nothing more is due, or that find nothing to do, over plain worlds.
-use Rattle.std.proofs.Common.{ℕ, suc, ◌+◌, ◌≤◌, ◌≡◌, ◌∙◌, ap, sym, subst, refl, Bool, true, false, List, [], ◌∷◌, ◌++◌, length, Option, Some, None, arith}
-use Rattle.std.specs.Prelude.{All, is_none, is_some, nat_lt, slice_get}
-use Rattle.sdd_obligations.specs.All.{Call, D, Deliver, Down, Event, Given, IsSiteOf, Log, Lose, Loses, Mailbox, Mark, Msg, Notes, Nothing as Noted, Packet, Redeclare, Remain, Repeat, Repeats, Resend, Resends, Rests, Settle, Site, Submit, Tick, U, Up, after_mark, calls_of, delivered, dm_no, due_by, force_at, handed, history, is_down, left, link, link_of, local_of, marks, note_if, packet_at, redeclares, setting_of}
-use Rattle.sdd_obligations.proofs.logs.Links.{delivered_lose, delivered_repeat, delivered_resend, sent_stays, unacked_none, unacked_some}
-use Rattle.sdd_obligations.proofs.logs.Marking.{IsNoTick, TurnsNone, handed_still, mark_local, none_by_mark, rests_marked, rests_noted}
-use Rattle.sdd_world.specs.declared.world.World.{World}
-use Rattle.sdd_world.specs.Standing.{Happened, Marked, Spooled}
+use Rattle.sdd_world.proofs.All.{All, Bool, Call, Carries, D, Deliver, Down, Event, Given, Happened, IsNoTick, IsSiteOf, List, Log, Lose, Loses, Mailbox, Mark, Marked, Msg, NetValue, None, Noted, Notes, Option, Packet, Redeclare, Remain, Repeat, Repeats, Resend, Resends, Rests, Settle, Site, Some, Spooled, StandFor, Submit, Tick, TurnsNone, U, Up, World, [], after_mark, ap, arith, calls_of, delivered, delivered_lose, delivered_repeat, delivered_resend, dm_no, due_by, false, force_at, handed, handed_still, history, is_down, is_none, is_some, left, length, link, link_of, local_of, mark_local, marks, nat_lt, none_by_mark, note_if, packet_at, redeclares, refl, rests_marked, rests_noted, sent_stays, setting_of, slice_get, subst, suc, sym, true, unacked_none, unacked_some, ℕ, ◌++◌, ◌+◌, ◌∙◌, ◌∷◌, ◌≡◌, ◌≤◌}
 use Rattle.sdd_world.proofs.Parting.{events_before, later, same_ahead, spooled_on}
 use Rattle.sdd_world.proofs.Handing.{at_log}
-use Rattle.sdd_world.specs.Modules.{StandFor}
-use Rattle.sdd_world.specs.Carries.{Carries, NetValue}
 
 note_some : {M : Type 0} (o : Option (Packet M)) → is_some o ≡ true → note_if (is_none o) ≡ None
 note_some None e = cc
@@ -74,8 +66,7 @@ pub record Results (w2 : World) (g : Given) (log more : Log) : Type 0 where
   pub spooled : Spooled g more w2.spool U
 
 pub happened : (w w2 : World) (g : Given) (log : Log) (e : Event) (more : Log)
-    → Marked w g log e → Stays w w2 → Results w2 g log more
-    → Happened w2 g log
+    → Marked w g log e → Stays w w2 → Results w2 g log more → Happened w2 g log
 happened w w2 g log e more m s r = record {
   more = more;
   calm = record {
@@ -186,13 +177,11 @@ noted w w2 g log e m q d same note =
     (subst (λ b. Spooled g (Mark e ∷ log) b U) (sym (ap (λ v. v.spool) same)) (spool_kept g log e w.spool q.turns_none q.links m.spooled))
 
 pub lose_does : (w w2 : World) (g : Given) (log : Log) (a b : Site) (k : ℕ)
-    → Carries w2.net g.catalogue.tms g.catalogue.dms (Loses a b k ∷ calls_of log)
-    → DoesNothing w w2 g log (Lose a b k)
+    → Carries w2.net g.catalogue.tms g.catalogue.dms (Loses a b k ∷ calls_of log) → DoesNothing w w2 g log (Lose a b k)
 lose_does w w2 g log a b k n = record {
   no_tick = tt;
   turns_none = tt;
-  links =
-      lose_keeps a b k log;
+  links = lose_keeps a b k log;
   same = λ x y. delivered_lose x y a b k (calls_of log);
   net = n;
 }
@@ -203,20 +192,17 @@ pub repeat_does : (w w2 : World) (g : Given) (log : Log) (a b : Site) (k : ℕ)
 repeat_does w w2 g log a b k n = record {
   no_tick = tt;
   turns_none = tt;
-  links =
-      repeat_keeps a b k log;
+  links = repeat_keeps a b k log;
   same = λ x y. delivered_repeat x y a b k (calls_of log);
   net = n;
 }
 
 pub resend_does : (w w2 : World) (g : Given) (log : Log) (a b : Site)
-    → Carries w2.net g.catalogue.tms g.catalogue.dms (Resends a b ∷ calls_of log)
-    → DoesNothing w w2 g log (Resend a b)
+    → Carries w2.net g.catalogue.tms g.catalogue.dms (Resends a b ∷ calls_of log) → DoesNothing w w2 g log (Resend a b)
 resend_does w w2 g log a b n = record {
   no_tick = tt;
   turns_none = tt;
-  links =
-      resend_keeps a b log;
+  links = resend_keeps a b log;
   same = λ x y. delivered_resend x y a b (calls_of log);
   net = n;
 }
@@ -228,8 +214,7 @@ abbrev pub ThereLaw : NetValue → Bool → Site → Site → ℕ → Type 0
 ThereLaw old there a b k = (tms dms : ℕ) (calls : List (Call Msg)) → Carries old tms dms calls → there ≡ is_some (packet_at k (link a b calls))
 
 pub lost : (w w2 : World) (g : Given) (log : Log) (a b : Site) (k : ℕ) (there : Bool)
-    → Marked w g log (Lose a b k) → ThereLaw w.net there a b k
-    → NetLaw w.net w2.net (Loses a b k)
+    → Marked w g log (Lose a b k) → ThereLaw w.net there a b k → NetLaw w.net w2.net (Loses a b k)
     → there ≡ true → w2 ≡ record w { net = w2.net } → Happened w2 g log
 lost w w2 g log a b k there m t f e same =
     did w w2 g log (Lose a b k) m (lose_does w w2 g log a b k (f g.catalogue.tms g.catalogue.dms (calls_of log) m.parts.net))
@@ -237,8 +222,7 @@ lost w w2 g log a b k there m t f e same =
 
 pub lost_nothing : (w w2 : World) (net : NetValue) (g : Given) (log : Log) (a b : Site) (k : ℕ)
     (there : Bool) → Marked w g log (Lose a b k) → ThereLaw w.net there a b k
-    → NetLaw w.net net (Loses a b k)
-    → there ≡ false → w2 ≡ record w { net = net; history = w2.history }
+    → NetLaw w.net net (Loses a b k) → there ≡ false → w2 ≡ record w { net = net; history = w2.history }
     → w2.history ≡ w.history ++ (w.marks, Noted) ∷ [] → Happened w2 g log
 lost_nothing w w2 net g log a b k there m t f e same note =
     let f2 : NetLaw w.net w2.net (Loses a b k) = subst (λ z. NetLaw w.net z (Loses a b k)) (sym (ap (λ v. v.net) same)) f in
@@ -248,8 +232,7 @@ lost_nothing w w2 net g log a b k there m t f e same note =
     (note_none (packet_at k (link_of a b log)) (sym (t g.catalogue.tms g.catalogue.dms (calls_of log) m.parts.net) ∙ e)) same2 note
 
 pub repeated : (w w2 : World) (g : Given) (log : Log) (a b : Site) (k : ℕ) (there : Bool)
-    → Marked w g log (Repeat a b k) → ThereLaw w.net there a b k
-    → NetLaw w.net w2.net (Repeats a b k)
+    → Marked w g log (Repeat a b k) → ThereLaw w.net there a b k → NetLaw w.net w2.net (Repeats a b k)
     → there ≡ true → w2 ≡ record w { net = w2.net } → Happened w2 g log
 repeated w w2 g log a b k there m t f e same =
     did w w2 g log (Repeat a b k) m (repeat_does w w2 g log a b k (f g.catalogue.tms g.catalogue.dms (calls_of log) m.parts.net))
@@ -257,8 +240,7 @@ repeated w w2 g log a b k there m t f e same =
 
 pub repeated_nothing : (w w2 : World) (net : NetValue) (g : Given) (log : Log) (a b : Site) (k : ℕ)
     (there : Bool) → Marked w g log (Repeat a b k) → ThereLaw w.net there a b k
-    → NetLaw w.net net (Repeats a b k)
-    → there ≡ false → w2 ≡ record w { net = net; history = w2.history }
+    → NetLaw w.net net (Repeats a b k) → there ≡ false → w2 ≡ record w { net = net; history = w2.history }
     → w2.history ≡ w.history ++ (w.marks, Noted) ∷ [] → Happened w2 g log
 repeated_nothing w w2 net g log a b k there m t f e same note =
     let f2 : NetLaw w.net w2.net (Repeats a b k) = subst (λ z. NetLaw w.net z (Repeats a b k)) (sym (ap (λ v. v.net) same)) f in
@@ -272,16 +254,14 @@ SomeLaw old some a b = (tms dms : ℕ) (calls : List (Call Msg)) → Carries old
     → some ≡ nat_lt (link a b calls).there.acked (length (link a b calls).there.sent)
 
 pub resent : (w w2 : World) (g : Given) (log : Log) (a b : Site) (some : Bool)
-    → Marked w g log (Resend a b) → SomeLaw w.net some a b
-    → NetLaw w.net w2.net (Resends a b)
+    → Marked w g log (Resend a b) → SomeLaw w.net some a b → NetLaw w.net w2.net (Resends a b)
     → some ≡ true → w2 ≡ record w { net = w2.net } → Happened w2 g log
 resent w w2 g log a b some m t f e same =
     did w w2 g log (Resend a b) m (resend_does w w2 g log a b (f g.catalogue.tms g.catalogue.dms (calls_of log) m.parts.net))
     (ap note_if (unacked_some (link_of a b log).there (sym (t g.catalogue.tms g.catalogue.dms (calls_of log) m.parts.net) ∙ e))) same
 
 pub resent_nothing : (w w2 : World) (net : NetValue) (g : Given) (log : Log) (a b : Site) (some : Bool)
-    → Marked w g log (Resend a b) → SomeLaw w.net some a b
-    → NetLaw w.net net (Resends a b)
+    → Marked w g log (Resend a b) → SomeLaw w.net some a b → NetLaw w.net net (Resends a b)
     → some ≡ false → w2 ≡ record w { net = net; history = w2.history }
     → w2.history ≡ w.history ++ (w.marks, Noted) ∷ [] → Happened w2 g log
 resent_nothing w w2 net g log a b some m t f e same note =

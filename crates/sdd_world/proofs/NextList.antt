@@ -1,17 +1,5 @@
 -- Another list of classes is put in force, once the links are quiet, over plain worlds.
-use Rattle.std.proofs.Common.{ℕ, zero, suc, ◌+◌, ◌≤◌, ◌≡◌, ◌≢◌, ◌∙◌, ap, sym, subst, refl, List, [], ◌∷◌, arith}
-use Rattle.std.proofs.lemmas.Bool.{lt-ltb}
-use Rattle.sdd_obligations.specs.All.{Catalogue, EndsIn, Event, FitsForce, Force, Given, Log, MAX_RUN_EVENTS, Redeclare, Redeclares, U, calls_of, force_at, greatest_bound, left, local_of, marks, redeclares, redeclares_in, setting_of, settles_before, with_event, with_force}
-use Rattle.sdd_obligations.specs.protocol.declared.entry.Entry.{Entry}
-use Rattle.sdd_obligations.proofs.logs.Completing.{none_left, redeclare_next}
-use Rattle.sdd_obligations.proofs.logs.Marking.{rests_redeclared}
-use Rattle.sdd_obligations.proofs.AllFacts.{all_facts}
-use Rattle.sdd_obligations.proofs.Done.{count_join, redeclares_left}
-use Rattle.sdd_world.specs.declared.sites.Sites.{Sites}
-use Rattle.sdd_world.specs.declared.world.World.{World}
-use Rattle.sdd_world.specs.Modules.{AllStandFor, AreForced, StandFor}
-use Rattle.sdd_world.specs.Carries.{Carries}
-use Rattle.sdd_world.specs.Standing.{EndsBy, Forcing, IsNextList, IsSettled, Spooled, StandsFor}
+use Rattle.sdd_world.proofs.All.{AllStandFor, AreForced, Carries, Catalogue, EndsBy, EndsIn, Entry, Event, FitsForce, Force, Forcing, Given, IsNextList, IsSettled, List, Log, MAX_RUN_EVENTS, Redeclare, Redeclares, Sites, Spooled, StandFor, StandsFor, U, World, [], all_facts, ap, arith, calls_of, count_join, force_at, greatest_bound, left, local_of, lt-ltb, marks, none_left, redeclare_next, redeclares, redeclares_in, redeclares_left, refl, rests_redeclared, setting_of, settles_before, subst, suc, sym, with_event, with_force, zero, ℕ, ◌+◌, ◌∙◌, ◌∷◌, ◌≡◌, ◌≢◌, ◌≤◌}
 use Rattle.sdd_world.proofs.Parting.{spooled_on}
 use Rattle.sdd_world.proofs.Rounds.{few, free}
 
@@ -38,12 +26,7 @@ forcing w g cat table next s =
     let sum = count_join g.events (Redeclare ∷ []) in
     let done : redeclares log ≡ redeclares_in g.events = omega (arith, all, one, sum) in (
       log,
-      record {
-        calm = c;
-        next_is = n.0;
-        none_behind = n.1;
-        force_is = ap (λ k. force_at g (suc k)) done ∙ next;
-      },
+      record { calm = c; next_is = n.0; none_behind = n.1; force_is = ap (λ k. force_at g (suc k)) done ∙ next },
     )
 
 module _ (w : World) (g : Given) (log : Log) (force : Force) (f : Forcing w g log force) where
@@ -72,8 +55,7 @@ module _ (w : World) (g : Given) (log : Log) (force : Force) (f : Forcing w g lo
       (subst (λ x. FitsForce g.catalogue (force_at g (suc (redeclares log))) x) (sym e)
       (all_facts.redeclare g f.calm.parts.good log (greatest_bound g log) f.calm.rests.lawful f.calm.rests.within f.next_is))
 
-  sites_forced : (w2 : World) (s : Sites) (t : ℕ) → t ≡ greatest_bound g log
-      → AreForced s g log force t → w2.sites ≡ s
+  sites_forced : (w2 : World) (s : Sites) (t : ℕ) → t ≡ greatest_bound g log → AreForced s g log force t → w2.sites ≡ s
       → AllStandFor w2.sites g (Redeclares (greatest_bound g log) ∷ log)
   sites_forced w2 s t e forced is at here =
       subst (λ z. StandFor z at (setting_of g at) (local_of g at (Redeclares (greatest_bound g log) ∷ log))) (sym is)
@@ -83,8 +65,7 @@ module _ (w : World) (g : Given) (log : Log) (force : Force) (f : Forcing w g lo
   -- it is in force
   pub is_forced : (w2 : World) (s : Sites) (t : ℕ) → t ≡ greatest_bound g log
       → w.marks ≢ MAX_RUN_EVENTS → AreForced s g log force t
-      → w2 ≡ record w { sites = s; marks = w.marks + 1; catalogue = w2.catalogue }
-      → w2.catalogue.now ≡ force.catalogue
+      → w2 ≡ record w { sites = s; marks = w.marks + 1; catalogue = w2.catalogue } → w2.catalogue.now ≡ force.catalogue
       → (more : Log) × StandsFor w2 g more
   is_forced w2 s t e number forced same is =
       let now : ℕ = greatest_bound g log in

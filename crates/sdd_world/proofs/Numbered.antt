@@ -1,14 +1,5 @@
 -- Modules that are made one after the other.
-use Rattle.std.proofs.Common.{◌+◌, ◌-◌, ◌≡◌, ◌<◌, ◌≤◌, ℕ, List, [], ◌∷◌, ◌++◌, length, Some, refl, sym, ap, subst, arith, inl, inr, length-append}
-use Rattle.std.proofs.lemmas.Bool.{cases_lt}
-use Rattle.std.specs.Prelude.{slice_get}
-use Rattle.sdd_obligations.proofs.base.Opened.{slice_get-append}
-use Rattle.sdd_world.specs.Beginnings.{AllBegin, There}
-
--- the new member is the last
-last_member : {V : Type 0} (xs : List V) (x : V) → slice_get (xs ++ x ∷ []) (length xs) ≡ Some x
-last_member [] x = refl
-last_member (y ∷ xs) x = last_member xs x
+use Rattle.sdd_world.proofs.All.{AllBegin, List, There, [], ap, arith, cases_lt, inl, inr, last_member, length, length-append, slice_get, slice_get-append, subst, sym, ℕ, ◌++◌, ◌+◌, ◌-◌, ◌<◌, ◌∷◌, ◌≡◌, ◌≤◌}
 
 -- the modules before number n are made
 pub record MadeTo {V : Type 0} (P : ℕ → V → Type 0) (n : ℕ) (made : List V) : Type 0 where

@@ -1,11 +1,6 @@
 -- Messages that are read from their spellings.
-use Rattle.std.proofs.Common.{◌≡◌, ℕ, zero, suc, ◌+◌, ◌<◌, List, [], ◌∷◌, ◌++◌, length, map, take, get_or, Result, Ok, refl, sym, ap, ◌∙◌, subst, arith}
-use Rattle.std.specs.List.{AllByRecursion}
-use Rattle.std.proofs.lemmas.List.{map-append, take_more}
-use Rattle.sdd_obligations.specs.All.{Acked, Delivered, Fits, Messages, Msg, delivered_as, message_in, spelled}
-use Rattle.sdd_obligations.proofs.wire.MessageLaws.{message_read_back}
-use Rattle.sdd_obligations.specs.net.declared.delivered.Delivered.TheVariants.{Nothing}
-use Rattle.sdd_world.specs.Carries.{AllDelivered, IsSpelling, Spells}
+use Rattle.sdd_world.proofs.All.{Acked, AllByRecursion, AllDelivered, Delivered, IsSpelling, List, Messages, Msg, Nothing, Ok, Result, Spells, [], ap, arith, delivered_as, get_or, length, map, map-append, message_in, message_read_back, refl, spelled, subst, suc, sym, take, take_more, zero, ℕ, ◌++◌, ◌+◌, ◌<◌, ◌∙◌, ◌∷◌, ◌≡◌}
+use Rattle.sdd_obligations.specs.All.{Fits}
 
 -- the only message that has a spelling is read from it
 ok_is : (m n : Msg) → ◌≡◌ {A = Result Msg ℕ} (Ok m) (Ok n) → m ≡ n
@@ -28,8 +23,7 @@ spelling_at P (y ∷ xs) (suc i) x h lt is = spelling_at P xs i x h.1 (omega ari
 
 -- one message more
 pub opened_more : (xs : List (List ℕ)) (i : ℕ) (x : List ℕ) (ms : List Msg) (m : Msg) → i < length xs → x ≡ get_or xs i x
-    → take i xs ≡ map spelled ms → x ≡ spelled m
-    → take (i + 1) xs ≡ map spelled (ms ++ m ∷ [])
+    → take i xs ≡ map spelled ms → x ≡ spelled m → take (i + 1) xs ≡ map spelled (ms ++ m ∷ [])
 opened_more xs i x ms m lt is before e =
     sym (ap (λ y. take i xs ++ y ∷ []) is ∙ sym (take_more xs i x lt)) ∙ ap (λ (l : List (List ℕ)). l ++ x ∷ []) before
     ∙ ap (λ (y : List ℕ). map spelled ms ++ y ∷ []) e ∙ sym (map-append spelled ms (m ∷ []))

@@ -1,22 +1,8 @@
 -- No READ of a class that isn't the catalogue's waits at a data module.
-use Rattle.std.proofs.Common.{ℕ, ◌<◌, ◌≡◌, ◌∙◌, refl, sym, ap, subst, arith, Bool, true, false, [], ◌∷◌, length, Option, Some, None}
-use Rattle.std.specs.Prelude.{◌||◌, filter, if◌then◌else◌, slice_get}
-use Rattle.std.specs.Option.{option_map}
-use Rattle.std.proofs.lemmas.Bool.{ne_eqb}
-use Rattle.sdd_obligations.specs.All.{Act, ClassView, D, Deliver, Did, DmNo, Does, Down, Fetch, Given, Hand, Handed, Home, IsDue, IsLawful, Log, Lose, Mark, Msg, Notes, Null, Open, Processes, Read, Records, Redeclare, Redeclares, Reduce, Repeat, Resend, Round, Sends, Setting, Settle, Ship, Site, Submit, Submitted, Tick, Txn, Up, View, Write, act_by, act_where, answer_of, answer_to, by_head, by_open, dm_no, head, head_of, home_of, is_asked_of, is_processing, is_wait, local_of, numbers_to, pipe, same_site, setting_of, txn_at, view_of, waits, with_submit}
-use Rattle.sdd_obligations.specs.site_module.SiteLog as site
-use Rattle.sdd_obligations.specs.dm.Due.{head_step}
-use Rattle.sdd_obligations.specs.dm.Pipes.{waits_acted}
-use Rattle.sdd_obligations.specs.dm.Waiting.{conds_of, waiting_at}
-use Rattle.sdd_obligations.specs.dm.declared.step.Step.{Step}
-use Rattle.sdd_obligations.specs.dm.declared.step.Step.TheVariants.{Refuses, Waits}
-use Rattle.sdd_obligations.proofs.invariants.AreReadSteps.{class_at_place}
-use Rattle.sdd_obligations.specs.logs.Permitted.{IsDueAt}
-use Rattle.sdd_obligations.proofs.logs.EachLocal.{allowed_act}
-use Rattle.sdd_obligations.proofs.logs.Permitted.{next_allowed}
-use Rattle.sdd_obligations.proofs.logs.Steps.{same_is}
-use Rattle.sdd_world.specs.Pending.{unmet, wait_at, wait_for, waits_of}
+use Rattle.sdd_world.proofs.All.{Act, Bool, ClassView, D, Deliver, Did, DmNo, Does, Down, Fetch, Given, Hand, Handed, Home, IsDue, IsDueAt, IsLawful, Log, Lose, Mark, Msg, None, Notes, Null, Open, Option, Processes, Read, Records, Redeclare, Redeclares, Reduce, Refuses, Repeat, Resend, Round, Sends, Setting, Settle, Ship, Site, Some, Step, Submit, Submitted, Tick, Txn, Up, View, Waits, Write, [], act_by, act_where, allowed_act, answer_of, answer_to, ap, arith, by_head, by_open, class_at_place, conds_of, dm_no, false, filter, head, head_of, head_step, if◌then◌else◌, is_asked_of, is_processing, is_wait, length, local_of, ne_eqb, next_allowed, numbers_to, option_map, pipe, refl, same_is, same_site, setting_of, slice_get, subst, sym, true, txn_at, unmet, view_of, wait_at, wait_for, waiting_at, waits, waits_acted, waits_of, with_submit, ℕ, ◌<◌, ◌||◌, ◌∙◌, ◌∷◌, ◌≡◌}
 use Rattle.sdd_world.proofs.Lists.{none_chosen}
+use Rattle.sdd_obligations.specs.All.{home_of}
+use Rattle.sdd_obligations.specs.site_module.SiteLog as site
 
 -- an act doesn't change whether the head of a class waits
 abbrev Leaves : ℕ → Act → Type 0

@@ -1,12 +1,5 @@
 -- What the parts of a world stand for, as the log goes on.
-use Rattle.std.proofs.Common.{ℕ, suc, ◌≤◌, ◌≡◌, ◌∙◌, sym, refl, false, List, [], ◌∷◌, ◌++◌, map, arith}
-use Rattle.std.specs.Prelude.{All}
-use Rattle.std.proofs.lemmas.List.Elements.{All-nil, All-append, All-cons, All-weaker}
-use Rattle.sdd_obligations.specs.All.{Act, D, Does, Event, Given, Hand, History, Log, Mailbox, Mark, Msg, Notes, Rec, Redeclares, Remain, Round, Site, Submitted, dm_no, history, is_down, kept_from, left, mailbox_at, marks, records_of_act, redeclares, same_site}
-use Rattle.sdd_obligations.proofs.logs.Steps.{after_acts}
-use Rattle.sdd_obligations.proofs.logs.Acts.{is_down_acts, left_acts, marks_acts}
-use Rattle.sdd_obligations.proofs.logs.Handing.{remain_acts}
-use Rattle.sdd_world.specs.Standing.{Ahead, ahead_of, KeepsFor, Spooled}
+use Rattle.sdd_world.proofs.All.{Act, Ahead, All, All-append, All-cons, All-nil, All-weaker, D, Does, Event, Given, Hand, History, KeepsFor, List, Log, Mailbox, Mark, Msg, Notes, Rec, Redeclares, Remain, Round, Site, Spooled, Submitted, [], after_acts, ahead_of, arith, dm_no, false, history, is_down, is_down_acts, kept_from, left, left_acts, mailbox_at, map, marks, marks_acts, records_of_act, redeclares, refl, remain_acts, same_site, suc, sym, ℕ, ◌++◌, ◌∙◌, ◌∷◌, ◌≡◌, ◌≤◌}
 
 -- no record is of a later event than the last
 
@@ -51,7 +44,7 @@ ahead_acts g at acts log = same_ahead (left g.events (after_acts at acts log)) (
 pub record SameDowns (log more : Log) : Type 0 where
   pub downs : (d : ℕ) → is_down d more ≡ is_down d log
 
-keeps_on : (g : Given) (log more : Log) (d : ℕ) (b : Mailbox Msg) → is_down d more ≡ is_down d log
+pub keeps_on : (g : Given) (log more : Log) (d : ℕ) (b : Mailbox Msg) → is_down d more ≡ is_down d log
     → ((x : Site) (rest : List Msg) → Remain log x (D (dm_no d)) rest → Remain more x (D (dm_no d)) rest) → KeepsFor g log d b → KeepsFor g more d b
 keeps_on g log more d b same remains k = record {
   down_is = k.down_is ∙ sym same;

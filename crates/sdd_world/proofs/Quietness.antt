@@ -1,22 +1,9 @@
 -- Whether the network is quiet, and the events of a round, don't depend on how messages are spelled.
-use Rattle.std.proofs.Common.{ℕ, zero, suc, ◌+◌, ◌-◌, Bool, List, [], ◌∷◌, ◌++◌, length, map, ◌≡◌, refl, ap, ◌∙◌, Option, Some, None}
-use Rattle.std.specs.Prelude.{◌&&◌, nat_le, nat_lt, cond, replicate, is_some, slice_get}
-use Rattle.std.specs.List.{list_all, filter_map, flat_map}
-use Rattle.std.proofs.lemmas.List.{length-map}
-use Rattle.sdd_obligations.specs.All.{Call, Deliver, Link, Resend, Site, call_as, in_flight, is_empty, is_quiet_link, link, link_as, packet_as, packet_at, quiet, resends_now, round}
-use Rattle.sdd_obligations.proofs.logs.SpelledLinks.{link_map}
-
-all_same : {A : Type 0} (p q : A → Bool) (xs : List A) → ((x : A) → p x ≡ q x) → list_all p xs ≡ list_all q xs
-all_same p q [] e = refl
-all_same p q (x ∷ xs) e = ap (λ b. b && list_all p xs) (e x) ∙ ap (λ b. q x && b) (all_same p q xs e)
+use Rattle.sdd_world.proofs.All.{Call, Deliver, Link, List, None, Option, Resend, Site, Some, [], all_same, ap, call_as, cond, filter_map, flat_map, in_flight, is_empty, is_quiet_link, is_some, joined_same, length, length-map, link, link_as, link_map, map, nat_le, nat_lt, packet_as, packet_at, quiet, refl, replicate, resends_now, round, slice_get, suc, zero, ℕ, ◌&&◌, ◌++◌, ◌+◌, ◌-◌, ◌∙◌, ◌∷◌, ◌≡◌}
 
 found_same : {A B : Type 0} (p q : A → Option B) (xs : List A) → ((x : A) → p x ≡ q x) → filter_map p xs ≡ filter_map q xs
 found_same p q [] e = refl
 found_same p q (x ∷ xs) e = rw (e x, found_same p q xs e) refl
-
-joined_same : {A B : Type 0} (p q : A → List B) (xs : List A) → ((x : A) → p x ≡ q x) → flat_map p xs ≡ flat_map q xs
-joined_same p q [] e = refl
-joined_same p q (x ∷ xs) e = ap (λ l. l ++ flat_map p xs) (e x) ∙ ap (λ l. q x ++ l) (joined_same p q xs e)
 
 empty_map : {A B : Type 0} (f : A → B) (xs : List A) → is_empty (map f xs) ≡ is_empty xs
 empty_map f [] = refl

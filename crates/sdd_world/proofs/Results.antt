@@ -1,5 +1,5 @@
 -- What a call ensures, handed on.
-use Rattle.std.specs.Prelude.{IfOk, OnOk, Result, Ok, Err}
+use Rattle.sdd_world.proofs.All.{Err, IfOk, Ok, OnOk, Result}
 
 pub after_ok : {T E : Type 0} (r : Result T E) (P Q : Type 0) → OnOk r P → (P → Q) → OnOk r Q
 after_ok (Ok x) P Q h f = f h

@@ -1,19 +1,6 @@
 -- Rounds, settles and single events, over plain worlds.
-use Rattle.std.proofs.Common.{ℕ, suc, ◌+◌, ◌<◌, ◌≤◌, ◌≡◌, ◌∙◌, ap, sym, subst, refl, true, false, List, [], ◌∷◌, ◌++◌, length, Some, arith}
-use Rattle.std.proofs.Common.{◌≢◌}
-use Rattle.std.proofs.lemmas.Bool.{lt-ltb, ltb-false}
-use Rattle.sdd_obligations.specs.All.{AtEach, Call, D, Deliver, Does, Down, Event, Given, Hand, IsGood, IsPossible, Log, Lose, MAX_RUN_EVENTS, Mailbox, Mark, Msg, Notes, Redeclare, Redeclares, Repeat, Resend, Rests, Round, Settle, Site, Submit, Submitted, T, TakesRounds, Tick, U, Up, after_mark, all_links, calls_of, left, links, local_of, marks, next, quiet, round, setting_of, takes_part, with_event}
-use Rattle.sdd_obligations.specs.logs.Lawful.{IsWithin}
-use Rattle.sdd_obligations.proofs.logs.Grows.{lawful_grows}
-use Rattle.sdd_obligations.proofs.logs.Completing.{event_left, in_round, IsFree, IsSingle, none_left, one_more, round_next, settled}
-use Rattle.sdd_obligations.proofs.logs.FirstHand.{none_to_hand}
-use Rattle.sdd_obligations.proofs.logs.Marking.{still_none}
-use Rattle.sdd_obligations.proofs.logs.Rounding.{each_of_round, no_events_quiet}
-use Rattle.sdd_world.specs.declared.world.World.{World}
-use Rattle.sdd_world.specs.Standing.{Before, Calm, EndsBy, Happened, IsSettled, IsSound, Marked, Parts, Rounding, Settling, Spooled, StandsFor}
+use Rattle.sdd_world.proofs.All.{AtEach, Before, Call, Calm, Carries, D, Deliver, Down, EndsBy, Event, Given, Happened, IsFree, IsGood, IsPossible, IsSettled, IsSingle, IsSound, List, Log, Lose, MAX_RUN_EVENTS, Mailbox, Mark, Marked, Msg, Parts, Redeclare, Repeat, Resend, Rests, Round, Rounding, Settle, Settling, Site, Some, Spooled, StandFor, StandsFor, Submit, T, TakesRounds, Tick, U, Up, World, [], after_mark, all_links, ap, arith, calls_of, each_of_round, event_left, false, few_marks, in_round, lawful_grows, left, length, links, local_of, lt-ltb, marks, next, no_events_quiet, none_left, none_to_hand, one_more, quiet, refl, round, round_next, setting_of, settled, still_none, subst, suc, sym, takes_part, true, with_event, ℕ, ◌++◌, ◌+◌, ◌<◌, ◌∙◌, ◌∷◌, ◌≡◌, ◌≢◌, ◌≤◌}
 use Rattle.sdd_world.proofs.Parting.{spooled_on}
-use Rattle.sdd_world.specs.Modules.{StandFor}
-use Rattle.sdd_world.specs.Carries.{Carries}
 
 pub single : (g : Given) (e : Event) → IsPossible g e → IsSingle e
 single g (Submit n) p = tt
@@ -38,21 +25,6 @@ still_possible g x (Down d) p = p
 still_possible g x (Up d) p = p
 still_possible g x Settle p = absurd p
 still_possible g x Redeclare p = absurd p
-
--- a log within its limits has few marks
-few_marks : (log : Log) → IsWithin log → marks log ≤ MAX_RUN_EVENTS
-few_marks [] w = omega arith
-few_marks (Mark e ∷ log) w = let l = ltb-false MAX_RUN_EVENTS (suc (marks log)) w.0 in omega (arith, l)
-few_marks (Redeclares t ∷ log) w = let l = ltb-false MAX_RUN_EVENTS (suc (marks log)) w.0 in omega (arith, l)
-few_marks (Round es ∷ log) w = few_marks log w.1
-few_marks (Hand a b n m ∷ log) w = few_marks log w.1
-few_marks (Submitted a n ∷ log) w = few_marks log w.1
-few_marks (Notes ∷ log) w = few_marks log w.1
-few_marks (Does a act ∷ log) w = few_marks log w.1
-
-pub no_items : {A : Type 0} (xs : List A) (n : ℕ) → n ≡ length xs → n ≡ 0 → xs ≡ []
-no_items [] n e f = refl
-no_items (x ∷ xs) n e f = absurd (omega (arith, e, f))
 
 pub free : (g : Given) (log : Log) → Rests g log → IsFree g log
 free g log r = record { no_mark = r.no_mark; no_site = r.no_site; no_hand = none_to_hand g log r.handed_all }
@@ -83,8 +55,7 @@ spool_more g e log boxes s = record {
   each =
       λ d here apart. (let k = s.each d here apart in record {
         down_is = k.down_is;
-        senders =
-            k.senders;
+        senders = k.senders;
         kept = k.kept;
         empty = k.empty;
       });
@@ -153,8 +124,7 @@ round_before w g log to events e rest r same =
 
 pub round_after : (w w2 : World) (g : Given) (log : Log) (to : Event) (events : List Event) (e : Event)
     (rest : List Event) → Rounding w g log to events → events ≡ e ∷ rest
-    → Happened w2 g log
-    → (more : Log) × Rounding w2 g more to rest
+    → Happened w2 g log → (more : Log) × Rounding w2 g more to rest
 round_after w w2 g log to events e rest r same h =
     let p : AtEach (IsPossible g) (e ∷ rest) = subst (λ es. AtEach (IsPossible g) es) same r.possible in (
       h.more,
@@ -168,13 +138,11 @@ round_after w w2 g log to events e rest r same h =
       },
     )
 
-pub one_mark : (w w2 : World) (g : Given) (log : Log) → Calm w g log
-    → Happened w2 g log → w2.marks ≡ suc w.marks
+pub one_mark : (w w2 : World) (g : Given) (log : Log) → Calm w g log → Happened w2 g log → w2.marks ≡ suc w.marks
 one_mark w w2 g log c h = h.calm.marks_are ∙ ap (λ a. a.number) h.ahead_is ∙ ap (λ n. suc n) (sym c.marks_are)
 
 pub round_ends : (w : World) (g : Given) (log : Log) (e : Event) (events : List Event)
-    → Rounding w g log e events → events ≡ []
-    → Settling w g log e
+    → Rounding w g log e events → events ≡ [] → Settling w g log e
 round_ends w g log e events r same = record {
   calm = r.calm;
   waiting = r.waiting;
@@ -191,8 +159,7 @@ settle_ends w g s =
 
 -- one event more is given
 pub given_more : (w w2 : World) (g : Given) (log : Log) (e : Event) → IsGood (with_event g e)
-    → Calm w g log → w2 ≡ record w { given = w2.given }
-    → w2.given.items ≡ w.given.items ++ e ∷ []
+    → Calm w g log → w2 ≡ record w { given = w2.given } → w2.given.items ≡ w.given.items ++ e ∷ []
     → Calm w2 (with_event g e) log
 given_more w w2 g log e good c same pushed = record {
   parts = record {
@@ -212,8 +179,7 @@ given_more w w2 g log e good c same pushed = record {
 }
 
 pub step_before : (w w2 : World) (g : Given) (log : Log) (e : Event) → IsGood (with_event g e)
-    → StandsFor w g log → IsPossible g e → w2 ≡ record w { given = w2.given }
-    → w2.given.items ≡ w.given.items ++ e ∷ []
+    → StandsFor w g log → IsPossible g e → w2 ≡ record w { given = w2.given } → w2.given.items ≡ w.given.items ++ e ∷ []
     → Before w2 (with_event g e) log e
 step_before w w2 g log e good s p same pushed = record {
   calm = given_more w w2 g log e good s.calm same pushed;
@@ -234,10 +200,8 @@ step_after w w2 g log e s p h = (
   },
 )
 
-pub settle_begins : (w w2 : World) (g : Given) (log : Log) (e : Event) → TakesRounds e
-    → IsGood (with_event g e)
-    → StandsFor w g log → w2 ≡ record w { given = w2.given }
-    → w2.given.items ≡ w.given.items ++ e ∷ []
+pub settle_begins : (w w2 : World) (g : Given) (log : Log) (e : Event) → TakesRounds e → IsGood (with_event g e)
+    → StandsFor w g log → w2 ≡ record w { given = w2.given } → w2.given.items ≡ w.given.items ++ e ∷ []
     → Settling w2 (with_event g e) log e
 settle_begins w w2 g log e rounds good s same pushed =
     let l = event_left g e log s.calm.rests.lawful s.complete in
@@ -262,8 +226,7 @@ marks_end w g log e b last =
 
 -- an event has its number, where one is left
 pub marked_next : (w w2 : World) (g : Given) (log : Log) (e e2 : Event)
-    → Before w g log e → e ≡ e2 → w.marks ≢ MAX_RUN_EVENTS
-    → w2 ≡ record w { marks = w.marks + 1 } → Marked w2 g log e2
+    → Before w g log e → e ≡ e2 → w.marks ≢ MAX_RUN_EVENTS → w2 ≡ record w { marks = w.marks + 1 } → Marked w2 g log e2
 marked_next w w2 g log e e2 b is left same =
     let parts : Parts w g log = b.calm.parts in
     let f : w.marks ≤ MAX_RUN_EVENTS = few w g log b.calm in

@@ -1,27 +1,10 @@
 -- The loop that sends.
-use Rattle.std.proofs.Common.{ℕ, suc, ◌≡◌, ◌≢◌, ◌≤◌, ◌∙◌, ap, arith, sym, Bool, true, false, List, [], ◌∷◌, ◌++◌, append_assoc, append-nil, refl}
-use Rattle.std.specs.Prelude.{◌||◌, nat_lt}
-use Rattle.std.proofs.lemmas.Bool.{le-ltb, lt-ltb}
-use Rattle.sdd_obligations.specs.All.{Call, MAX_LINK_MESSAGES, Msg, Site, is_link, puts, puts_past}
-use Rattle.sdd_world.specs.Carries.{Carries, NetValue}
-use Rattle.sdd_obligations.proofs.logs.Acts.{puts-append, puts_past-append}
-use Rattle.sdd_world.specs.Kinds.{AreLinked}
-use Rattle.sdd_world.specs.Following.{Sending}
+use Rattle.sdd_world.proofs.All.{AreLinked, Call, Carries, List, MAX_LINK_MESSAGES, Msg, NetValue, Sending, Site, [], ap, append-nil, append_assoc, arith, false, is_link, le-ltb, lt-ltb, nat_lt, or_first, or_past, or_second, puts, puts-append, puts_past, puts_past-append, refl, suc, sym, true, ℕ, ◌++◌, ◌||◌, ◌∙◌, ◌∷◌, ◌≡◌, ◌≢◌, ◌≤◌}
 
 linked_at : (tms dms : ℕ) (at : Site) (sent : List (Site × Msg)) (x : Site × Msg) (rest : List (Site × Msg))
     → AreLinked tms dms at (sent ++ x ∷ rest) → is_link tms dms at x.0 ≡ true
 linked_at tms dms at [] x rest h = h.0
 linked_at tms dms at (y ∷ sent) x rest h = linked_at tms dms at sent x rest h.1
-
-or_first : (a b : Bool) → a ≡ false → b ≡ false → (a || b) ≡ false
-or_first a b e f = rw (e, f) refl
-
-or_second : (a b : Bool) → b ≡ true → (a || b) ≡ true
-or_second true b e = refl
-or_second false b e = e
-
-or_past : (a b : Bool) → a ≡ true → (a || b) ≡ true
-or_past a b e = rw e refl
 
 one_linked : (old now : NetValue) (at : Site) (out left rest : List (Site × Msg)) (x : Site × Msg) → (s : Sending old now at out left) → left ≡ x ∷ rest
     → (tms dms : ℕ) → AreLinked tms dms at out → AreLinked tms dms at (x ∷ [])
@@ -37,8 +20,7 @@ can_send old now at out left rest x s e = (
   s.some.1,
   puts at s.sent s.some.2,
   (s.so_far s.some.0 s.some.1 s.some.2 s.some.3 s.some.4).1,
-  one_linked old now at out left rest x s e
-      s.some.0 s.some.1 s.some.4,
+  one_linked old now at out left rest x s e s.some.0 s.some.1 s.some.4,
 )
 
 pub sends_on : (old now new : NetValue) (at : Site) (out left rest : List (Site × Msg)) (x : Site × Msg) → Sending old now at out left → left ≡ x ∷ rest

@@ -1,32 +1,9 @@
 -- A transaction is given to its module, which does what is due, over plain worlds.
-use Rattle.std.proofs.Common.{ℕ, zero, suc, ◌-◌, ◌≤◌, ◌≡◌, ◌∙◌, ap, sym, subst, refl, true, false, List, [], ◌∷◌, ◌++◌, map, Some, append_assoc, arith}
-use Rattle.std.specs.Prelude.{slice_get, All, get_or}
-use Rattle.sdd_obligations.specs.All.{Act, AreDue, Bases, D, Force, Given, IsLawful, IsSiteOf, Log, Mailbox, Mark, Msg, Outcome, Rec, Setting, Site, Submit, Submits, T, Txn, TxnNo, U, base_of, calls_of, class_for, fits_submit, force_at, history, local_of, log_after, marks, next_in, puts, puts_past, records_of, redeclares, same_site, sends_of, setting_of, txn_at}
-use Rattle.sdd_obligations.specs.lang.Fits.{Fits}
-use Rattle.sdd_obligations.proofs.class_eras.EraFits.{fits_in_era}
-use Rattle.sdd_obligations.specs.history.declared.record.Rec.TheVariants.{Submit as Submission}
-use Rattle.sdd_obligations.specs.site_module.SiteLog as site
-use Rattle.sdd_obligations.proofs.net.Directions.{same_is}
-use Rattle.sdd_obligations.specs.logs.Due.{home_of}
-use Rattle.sdd_obligations.proofs.logs.Steps.{after_acts}
-use Rattle.sdd_obligations.proofs.logs.Acts.{calls_acts, ends_in_acts, history_acts, left_acts, linked_acts, marks_acts, other_acts, own_acts}
-use Rattle.sdd_obligations.proofs.logs.FirstHand.{listed}
-use Rattle.sdd_obligations.proofs.logs.Marking.{mark_within}
-use Rattle.sdd_obligations.proofs.logs.Submitting.{home_in, other_local, submits_and_acts, submitted, submitted_local, submitted_within, acts_lawful}
-use Rattle.sdd_world.specs.declared.world.World.{World}
-use Rattle.sdd_world.specs.AtSites.{IsClassAt}
-use Rattle.sdd_world.specs.DueAt.{next_of}
-use Rattle.sdd_world.specs.Kinds.{AreLinked}
-use Rattle.sdd_world.specs.Following.{Followed, IsPast, MaySend}
-use Rattle.sdd_world.specs.Standing.{EndsBy, Happened, Marked, Spooled}
+use Rattle.sdd_world.proofs.All.{Act, All, AreDue, AreLinked, Bases, Carries, D, EndsBy, Fits, Followed, Force, Given, Happened, IsClassAt, IsLawful, IsPast, IsSiteOf, List, Log, Mailbox, Mark, Marked, MaySend, Msg, Outcome, Rec, Setting, Site, Sites, Some, Spooled, StandFor, Submission, Submit, Submits, T, Txn, TxnNo, U, World, [], acts_lawful, after_acts, all_facts, ap, append_assoc, arith, base_of, calls_acts, calls_of, class_for, ends_in_acts, false, fits_in_era, fits_submit, force_at, forced_is, get_or, history, history_acts, home_in, home_of, left_acts, linked_acts, listed, local_of, log_after, map, mark_within, marks, marks_acts, next_in, next_of, other_acts, other_local, own_acts, puts, puts_past, records_of, redeclares, refl, same_is, same_site, sends_of, setting_of, slice_get, submits_and_acts, submitted, submitted_local, submitted_within, subst, suc, sym, true, txn_at, zero, ℕ, ◌++◌, ◌-◌, ◌∙◌, ◌∷◌, ◌≡◌, ◌≤◌}
 use Rattle.sdd_world.proofs.Handing.{are_linked, at_log, due_same, here_at}
 use Rattle.sdd_world.proofs.Marking.{happened}
 use Rattle.sdd_world.proofs.Parting.{events_before, later, redeclares_acts, spooled_acts, spooled_on}
-use Rattle.sdd_world.specs.Modules.{StandFor}
-use Rattle.sdd_world.specs.Carries.{Carries}
-use Rattle.sdd_world.specs.declared.sites.Sites.{Sites}
-use Rattle.sdd_obligations.proofs.AllFacts.{all_facts}
-use Rattle.sdd_obligations.proofs.Submitting.{forced_is}
+use Rattle.sdd_obligations.specs.site_module.SiteLog as site
 
 -- what is read at a place of a list is the member there
 pub read_at : {A : Type 0} (xs : List A) (i : ℕ) (x y : A) → slice_get xs i ≡ Some x → y ≡ get_or xs i y → slice_get xs i ≡ Some y
@@ -38,8 +15,7 @@ spool_submitted : (g : Given) (n : TxnNo) (log : Log) (boxes : List (Mailbox Msg
 spool_submitted g n log boxes s = spooled_on g log (submitted g n log) boxes U (λ d. refl)
     (λ d apart x rest r. record { count = r.count; messages = r.messages }) s
 
-module _ (w : World) (g : Given) (log : Log) (n : TxnNo)
-    (m : Marked w g log (Submit n)) where
+module _ (w : World) (g : Given) (log : Log) (n : TxnNo) (m : Marked w g log (Submit n)) where
   abbrev home : Site
   home = home_in g n log
 

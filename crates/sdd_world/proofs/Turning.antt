@@ -1,50 +1,20 @@
 -- A data module goes down, and comes up: what was kept for it is then handed over.
-use Rattle.std.proofs.Common.{ℕ, zero, suc, ◌<◌, ◌≤◌, ◌≡◌, ◌∙◌, ap, sym, subst, refl, Bool, true, false, not, List, [], ◌∷◌, ◌++◌, length, Some, arith}
-use Rattle.std.specs.Bool.{if◌then◌else◌}
-use Rattle.std.specs.Prelude.{◌&&◌, ◌==◌, nat_le}
-use Rattle.sdd_obligations.specs.All.{AllHanded, D, DmNo, Down, Event, Given, IsBefore, IsFirst, IsLowest, IsSender, IsSiteOf, IsWithin as IsBelow, Log, Mailbox, Mark, Msg, Notes, Nothing as Noted, OnlyAt, Remain, Rests, Site, T, Takes, U, Up, Waits, calls_of, dm_no, is_down, is_site, kept_count, kept_from, local_of, mailbox_at, number_of_t, same_site, setting_of, sites, tm_no}
-use Rattle.sdd_obligations.specs.net.Mailboxes.{Takes as TakesFrom}
-use Rattle.sdd_obligations.proofs.logs.Marking.{IsNoTick}
-use Rattle.sdd_world.specs.declared.world.World.{World}
+use Rattle.sdd_world.proofs.All.{AllHanded, Bool, Carries, Cut, D, DmNo, Down, Event, Given, HandedOn, Handing, Happened, IsBefore, IsBelow, IsFirst, IsLowest, IsNoTick, IsSender, IsSiteOf, KeepsFor, List, Log, Mailbox, Mark, Marked, Msg, Noted, Notes, OnlyAt, Parts, Remain, Rests, Risen, Rising, Site, Some, Spooled, StandFor, T, Takes, TakesFrom, U, Up, World, [], ahead_of, all_handed, and_from, ap, arith, calls_of, comes_up, cut_at_t, dm_no, eq-eqb, eqb-true, false, goes_down, if◌then◌else◌, is_down, is_down_already, is_site, isnt_down, kept_count, kept_from, le-leb, length, local_of, mailbox_at, nat_le, none_remains, not, not_false, number_of_t, refl, same_site, setting_of, sites, subst, suc, sym, tm_no, true, up_of as not_true, zero, ℕ, ◌&&◌, ◌++◌, ◌<◌, ◌==◌, ◌∙◌, ◌∷◌, ◌≡◌, ◌≢◌, ◌≤◌}
 use Rattle.sdd_world.proofs.Marking.{marked_noted, marked_plain}
-use Rattle.sdd_world.proofs.Keeping.{dm_within}
-use Rattle.sdd_world.specs.Standing.{ahead_of, Risen, Rising, HandedOn, Handing, Happened, KeepsFor, Marked, Parts, Spooled}
-use Rattle.std.proofs.Common.{◌≢◌}
-use Rattle.std.proofs.lemmas.Bool.{and_from, eq-eqb, eqb-true, le-leb}
-use Rattle.sdd_obligations.proofs.logs.Handing.{all_handed}
-use Rattle.sdd_obligations.proofs.logs.Delivering.{none_remains}
-use Rattle.sdd_obligations.proofs.logs.Lowest.{Cut, cut_at_t}
-use Rattle.sdd_obligations.proofs.logs.Turning.{comes_up, goes_down, is_down_already, isnt_down}
-use Rattle.sdd_world.specs.Modules.{StandFor}
-use Rattle.sdd_world.specs.Carries.{Carries}
+use Rattle.sdd_world.proofs.Keeping.{dm_within, same_dm as apart_of}
+use Rattle.sdd_world.proofs.Parting.{keeps_on as still_box}
+use Rattle.sdd_obligations.specs.All.{Waits}
 
 -- the mailboxes as a module turns
 
 other_downs : (e d : ℕ) (b down : Bool) → e ≢ d → (if d == e then b else down) ≡ down
 other_downs e d b down n = elim (d == e) as (λ c. (d == e) ≡ c → (if c then b else down) ≡ down) [
-  | true ↦
-      λ p. absurd (n (sym (eqb-true d e p)))
+  | true ↦ λ p. absurd (n (sym (eqb-true d e p)))
   | false ↦ λ p. refl
 ] refl
 
 own_down : (d : ℕ) (log : Log) → is_down d (Mark (Down (dm_no d)) ∷ log) ≡ true
 own_down d log = rw (eq-eqb d d refl) refl
-
-own_up : (d : ℕ) (log : Log) → is_down d (Mark (Up (dm_no d)) ∷ log) ≡ false
-own_up d log = rw (eq-eqb d d refl) refl
-
-apart_of : (e d : ℕ) → same_site (D (dm_no e)) (D (dm_no d)) ≡ false → e ≢ d
-apart_of e d f = λ p. (let t : same_site (D (dm_no e)) (D (dm_no d)) ≡ true = eq-eqb e d p in let no : true ≡ false = sym t ∙ f in cc)
-
-still_box : (g : Given) (log more : Log) (e : ℕ) (b : Mailbox Msg) → is_down e more ≡ is_down e log
-    → ((x : Site) (rest : List Msg) → Remain log x (D (dm_no e)) rest → Remain more x (D (dm_no e)) rest)
-    → KeepsFor g log e b → KeepsFor g more e b
-still_box g log more e b same f k = record {
-  down_is = k.down_is ∙ sym same;
-  senders = k.senders;
-  kept = λ p x. f x (kept_from b x) (k.kept (sym same ∙ p) x);
-  empty = λ p x. k.empty (sym same ∙ p) x;
-}
 
 by_site : (g : Given) (more : Log) (boxes : List (Mailbox Msg)) (d : ℕ)
     → KeepsFor g more d (mailbox_at boxes d) → Spooled g more boxes (D (dm_no d)) → Spooled g more boxes U
@@ -82,8 +52,7 @@ down_spool g log old new d here up all box count only s =
           let none : kept_from (mailbox_at new d.0) x ≡ [] = ap (λ b. kept_from b x) box ∙ k.empty up x in
           subst (λ z. Remain (Mark (Down d) ∷ log) x (D (dm_no d.0)) z) (sym none) (let r =
           none_remains log x (D (dm_no d.0)) (all x (D (dm_no d.0)) (ap not up)) in record {
-            count =
-                r.count;
+            count = r.count;
             messages = r.messages;
           });
       empty = λ p x. (let no : true ≡ false = sym (own_down d.0 log) ∙ p in cc);
@@ -104,41 +73,29 @@ turn_same g log more boxes new d here downs remains box count only s =
 again_down : (e : ℕ) (d : DmNo) (log : Log) → is_down d.0 log ≡ true → is_down e (Mark (Down d) ∷ log) ≡ is_down e log
 again_down e d log p = elim (d.0 == e) as (λ c. (d.0 == e) ≡ c
     → (if c then true else is_down e log) ≡ is_down e log) [
-      | true ↦ λ q. (let s : d.0 ≡ e =
-          eqb-true d.0 e q in sym (subst (λ z. is_down z log ≡ true) s p))
+      | true ↦ λ q. (let s : d.0 ≡ e = eqb-true d.0 e q in sym (subst (λ z. is_down z log ≡ true) s p))
       | false ↦ λ q. refl
     ] refl
 
 again_up : (e : ℕ) (d : DmNo) (log : Log) → is_down d.0 log ≡ false → is_down e (Mark (Up d) ∷ log) ≡ is_down e log
 again_up e d log p = elim (d.0 == e) as (λ c. (d.0 == e) ≡ c
     → (if c then false else is_down e log) ≡ is_down e log) [
-      | true ↦ λ q. (let s : d.0 ≡ e =
-          eqb-true d.0 e q in sym (subst (λ z. is_down z log ≡ false) s p))
+      | true ↦ λ q. (let s : d.0 ≡ e = eqb-true d.0 e q in sym (subst (λ z. is_down z log ≡ false) s p))
       | false ↦ λ q. refl
     ] refl
 
 same_box : (b : Mailbox Msg) (down : Bool) → b.down ≡ down → record b { down = down } ≡ b
 same_box b down e = ap (λ z. record b { down = z }) (sym e)
 
-not_false : (b : Bool) → not b ≡ false → b ≡ true
-not_false true e = refl
-not_false false e = cc
-
-not_true : (b : Bool) → not b ≡ true → b ≡ false
-not_true true e = cc
-not_true false e = refl
-
 abbrev pub SpoolTurns : List (Mailbox Msg) → List (Mailbox Msg) → ℕ → Bool → Type 0
 SpoolTurns old new d down = (mailbox_at new d ≡ record (mailbox_at old d) { down = down }) × (length new ≡ length old) × OnlyAt old new d
 
-box_down : (w : World) (g : Given) (log : Log) (e : Event) (d : DmNo)
-    → Marked w g log e → IsSiteOf g (D d)
+box_down : (w : World) (g : Given) (log : Log) (e : Event) (d : DmNo) → Marked w g log e → IsSiteOf g (D d)
     → (mailbox_at w.spool d.0).down ≡ is_down d.0 log
 box_down w g log e d m here = (m.spooled.each d.0 here refl).down_is
 
 same_note : (w w1 w2 : World) → w1 ≡ record w { spool = w1.spool } → w2 ≡ record w1 {
-  history =
-      w2.history;
+  history = w2.history;
 } → w2 ≡ record w { net = w2.net; history = w2.history; spool = w2.spool }
 same_note w w1 w2 one two =
     two ∙ ap (λ (v : World). record v { history = w2.history }) one
@@ -155,8 +112,7 @@ turned_noted : (w w1 w2 : World) (g : Given) (log : Log) (e : Event) (d : DmNo)
     → mailbox_at w1.spool d.0 ≡ mailbox_at w.spool d.0 → ((x y : Site) (rest : List Msg)
     → Remain log x y rest → Remain (Mark e ∷ log) x y rest) → calls_of (Mark e ∷ log) ≡ calls_of log
     → length w1.spool ≡ length w.spool → OnlyAt w.spool w1.spool d.0 → w1 ≡ record w { spool = w1.spool }
-    → w2 ≡ record w1 { history = w2.history } → w2.history ≡ w1.history ++ (w1.marks, Noted) ∷ []
-    → Happened w2 g log
+    → w2 ≡ record w1 { history = w2.history } → w2.history ≡ w1.history ++ (w1.marks, Noted) ∷ [] → Happened w2 g log
 turned_noted w w1 w2 g log e d m here i r downs box remains calls count only one two note =
     marked_noted w w2 g log e m i r (same_note w w1 w2 one two) (noted_too w w1 w2 one note)
     (subst (λ c. Carries w2.net g.catalogue.tms g.catalogue.dms c) (sym calls)
@@ -166,8 +122,7 @@ turned_noted w w1 w2 g log e d m here i r downs box remains calls count only one
     (turn_same g log (Mark e ∷ log) w.spool w1.spool d here downs (λ k x rest s. remains x (D (dm_no k)) rest s) box count only m.spooled))
 
 pub went_down : (w w2 : World) (g : Given) (log : Log) (d : DmNo) (turned : Bool)
-    → Marked w g log (Down d) → turned ≡ not (mailbox_at w.spool d.0).down
-    → SpoolTurns w.spool w2.spool d.0 true
+    → Marked w g log (Down d) → turned ≡ not (mailbox_at w.spool d.0).down → SpoolTurns w.spool w2.spool d.0 true
     → turned ≡ true → w2 ≡ record w { spool = w2.spool } → Happened w2 g log
 went_down w w2 g log d turned m t s e same =
     let up : is_down d.0 log ≡ false = sym (box_down w g log (Down d) d m m.possible) ∙ not_true (mailbox_at w.spool d.0).down (sym t ∙ e) in
@@ -177,8 +132,7 @@ went_down w w2 g log d turned m t s e same =
     (down_spool g log w.spool w2.spool d m.possible up m.marked.rests.handed_all s.0 s.1 s.2 m.spooled)
 
 pub was_down : (w w1 w2 : World) (g : Given) (log : Log) (d : DmNo) (turned : Bool)
-    → Marked w g log (Down d) → turned ≡ not (mailbox_at w.spool d.0).down
-    → SpoolTurns w.spool w1.spool d.0 true
+    → Marked w g log (Down d) → turned ≡ not (mailbox_at w.spool d.0).down → SpoolTurns w.spool w1.spool d.0 true
     → turned ≡ false → w1 ≡ record w { spool = w1.spool } → w2 ≡ record w1 { history = w2.history }
     → w2.history ≡ w1.history ++ (w1.marks, Noted) ∷ [] → Happened w2 g log
 was_down w w1 w2 g log d turned m t s e one two note =
@@ -189,13 +143,11 @@ was_down w w1 w2 g log d turned m t s e one two note =
     turned_noted w w1 w2 g log (Down d) d m m.possible tt (is_down_already g d log m.marked down)
     (λ k. again_down k d log down) box (λ x y rest q. record {
       count = q.count;
-      messages =
-          q.messages;
+      messages = q.messages;
     }) refl s.1 s.2 one two note
 
 pub wasnt_down : (w w1 w2 : World) (g : Given) (log : Log) (d : DmNo) (turned : Bool)
-    → Marked w g log (Up d) → turned ≡ (mailbox_at w.spool d.0).down
-    → SpoolTurns w.spool w1.spool d.0 false
+    → Marked w g log (Up d) → turned ≡ (mailbox_at w.spool d.0).down → SpoolTurns w.spool w1.spool d.0 false
     → turned ≡ false → w1 ≡ record w { spool = w1.spool } → w2 ≡ record w1 { history = w2.history }
     → w2.history ≡ w1.history ++ (w1.marks, Noted) ∷ [] → Happened w2 g log
 wasnt_down w w1 w2 g log d turned m t s e one two note =
@@ -204,8 +156,7 @@ wasnt_down w w1 w2 g log d turned m t s e one two note =
     turned_noted w w1 w2 g log (Up d) d m m.possible tt (isnt_down g d log m.marked up)
     (λ k. again_up k d log up) box (λ x y rest q. record {
       count = q.count;
-      messages =
-          q.messages;
+      messages = q.messages;
     }) refl s.1 s.2 one two note
 
 pub boxed : (old mid new : List (Mailbox Msg)) (d : ℕ) → new ≡ mid
@@ -228,7 +179,7 @@ t_sender : (n size tms : ℕ) → IsBelow size (number_of_t n) → size ≡ suc 
 t_sender zero size tms h e = absurd h
 t_sender (suc n) size tms h e = (omega arith, omega (arith, h, e))
 
-t_site : (n tms : ℕ) → 1 ≤ n → n ≤ tms → (nat_le 1 n && nat_le n tms) ≡ true
+pub t_site : (n tms : ℕ) → 1 ≤ n → n ≤ tms → (nat_le 1 n && nat_le n tms) ≡ true
 t_site n tms l u = and_from (nat_le 1 n) (nat_le n tms) (le-leb 1 n l) (le-leb n tms u)
 
 t_of : (b : Mailbox Msg) (n : ℕ) → IsLowest b (T (tm_no n)) → (j : ℕ) → 1 ≤ j → j < n → kept_from b (T (tm_no j)) ≡ []
@@ -268,8 +219,7 @@ first_taken g b d (D n) m rest here e s h k = absurd s
 
 -- a module comes up
 pub rises : (w w1 : World) (g : Given) (log : Log) (d : DmNo) (turned : Bool)
-    → Marked w g log (Up d) → turned ≡ (mailbox_at w.spool d.0).down
-    → SpoolTurns w.spool w1.spool d.0 false
+    → Marked w g log (Up d) → turned ≡ (mailbox_at w.spool d.0).down → SpoolTurns w.spool w1.spool d.0 false
     → turned ≡ true → w1 ≡ record w { spool = w1.spool } → Handing w1 g
     (Mark (Up d) ∷ log) (D d) (kept_from (mailbox_at w1.spool d.0)) × Rising g w1.spool d.0
 rises w w1 g log d turned m t s e same =
@@ -293,8 +243,7 @@ rises w w1 g log d turned m t s e same =
         marks_are = ap (λ v. v.marks) same ∙ m.marks_are;
         spooled = turned_others g log (Mark (Up d) ∷ log) w.spool w1.spool d.0
             (λ k n. other_downs k d.0 false (is_down k log) n) (λ k x rest r. record {
-              count =
-                  r.count;
+              count = r.count;
               messages = r.messages;
             }) s.1 s.2 m.spooled;
       },
@@ -308,13 +257,9 @@ rises w w1 g log d turned m t s e same =
 
 -- a message is taken out of the mailbox
 pub taken_out : (w w1 : World) (g : Given) (log : Log) (d : DmNo) (from : Site) (m : Msg)
-    → Handing w g log (D d) (kept_from (mailbox_at w.spool d.0))
-    → Rising g w.spool d.0
+    → Handing w g log (D d) (kept_from (mailbox_at w.spool d.0)) → Rising g w.spool d.0
     → TakesFrom (mailbox_at w.spool d.0) (mailbox_at w1.spool d.0) from m
-    → length w1.spool ≡ length w.spool → OnlyAt w.spool w1.spool d.0 → w1 ≡ record w {
-      spool =
-          w1.spool;
-    }
+    → length w1.spool ≡ length w.spool → OnlyAt w.spool w1.spool d.0 → w1 ≡ record w { spool = w1.spool }
     → Handing w1 g log (D d) (kept_from (mailbox_at w.spool d.0)) × Rising g w1.spool d.0
 taken_out w w1 g log d from m h r t count only same = (
   record {
@@ -360,8 +305,7 @@ pub rising_on : (w : World) (boxes : List (Mailbox Msg)) (w2 : World) (g : Given
     → TakesFrom (mailbox_at w.spool d.0) (mailbox_at boxes d.0) from m
     → IsLowest (mailbox_at w.spool d.0) from → length boxes ≡ length w.spool → OnlyAt w.spool boxes d.0
     → ((h : Given) (l : Log) (kept less : Site → List Msg) (rest : List Msg)
-    → Handing (record w { spool = boxes }) h l (D d) kept
-    → IsFirst h kept from (D d) m rest → Takes kept less from rest
+    → Handing (record w { spool = boxes }) h l (D d) kept → IsFirst h kept from (D d) m rest → Takes kept less from rest
     → HandedOn w2 h (D d) less (ahead_of h l) boxes)
     → (more : Log) × Handing w2 g more (D d)
     (kept_from (mailbox_at w2.spool d.0)) × Rising g w2.spool d.0 × (ahead_of g more ≡ ahead_of g log)
@@ -377,10 +321,7 @@ rising_on w boxes w2 g log d from m h r t l count only hand =
     )
 
 parts_spool : (w : World) (boxes : List (Mailbox Msg)) (g : Given) (log : Log)
-    → Parts w g log → Parts (record w {
-      spool =
-          boxes;
-    }) g log
+    → Parts w g log → Parts (record w { spool = boxes }) g log
 parts_spool w boxes g log p = record {
   good = p.good;
   sound = p.sound;
@@ -396,8 +337,7 @@ parts_spool w boxes g log p = record {
 -- nothing is left to be handed over
 pub none_left : (w : World) (boxes : List (Mailbox Msg)) (g : Given) (log more : Log) (d : DmNo)
     → Handing w g more (D d) (kept_from (mailbox_at w.spool d.0))
-    → Rising g w.spool d.0 → ahead_of g more ≡ ahead_of g log
-    → mailbox_at boxes d.0 ≡ mailbox_at w.spool d.0
+    → Rising g w.spool d.0 → ahead_of g more ≡ ahead_of g log → mailbox_at boxes d.0 ≡ mailbox_at w.spool d.0
     → ((x : Site) → kept_from (mailbox_at w.spool d.0) x ≡ []) → length boxes ≡ length w.spool
     → OnlyAt w.spool boxes d.0 → Risen (record w { spool = boxes }) g log d.0
 none_left w boxes g log more d h r a same none count only = record {
@@ -431,11 +371,9 @@ risen w w2 g log more d m h r e none = record {
     rests = record {
       lawful = h.waits.lawful;
       within = h.waits.within;
-      no_mark =
-          h.waits.no_mark;
+      no_mark = h.waits.no_mark;
       no_site = h.waits.no_site;
-      handed_all =
-          all_handed g more (D d) (kept_from (mailbox_at w2.spool d.0)) h.waits none;
+      handed_all = all_handed g more (D d) (kept_from (mailbox_at w2.spool d.0)) h.waits none;
     };
     marks_are = h.marks_are;
     spooled = by_site g more w2.spool d.0

@@ -1,6 +1,4 @@
-use Rattle.std.specs.BTreeSet.{contains}
-use Rattle.std.specs.Ordering.{nat_cmp}
-use Rattle.sdd_world.specs.Pending.{commits}
+use Rattle.sdd_world.proofs.All.{commits, contains, nat_cmp}
 use Rattle.sdd_world.proofs.Lists.{any_more}
 use Rattle.sdd_world.proofs.commits.committed.Goals as goal
 

@@ -1,8 +1,4 @@
-use Rattle.std.proofs.Common.{◌≡◌, ℕ, take}
-use Rattle.std.specs.BTreeSet.{contains}
-use Rattle.std.specs.List.{list_any}
-use Rattle.std.specs.Ordering.{nat_cmp}
-use Rattle.sdd_world.specs.Pending.{commits}
+use Rattle.sdd_world.proofs.All.{commits, contains, list_any, nat_cmp, take, ℕ, ◌≡◌}
 use Rattle.sdd_world.proofs.commits.committed.Given as goal
 
 abbrev pub invariant-loop-entry : goal.invariant-loop-entry

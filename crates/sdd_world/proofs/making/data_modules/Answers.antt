@@ -1,5 +1,4 @@
-use Rattle.std.proofs.Common.{◌+◌, subst, sym}
-use Rattle.sdd_world.specs.Beginnings.{BeginsD}
+use Rattle.sdd_world.proofs.All.{BeginsD, subst, sym, ◌+◌}
 use Rattle.sdd_world.proofs.Numbered.{MadeTo, one_more}
 use Rattle.sdd_world.proofs.making.data_modules.Goals as goal
 

@@ -1,4 +1,4 @@
-use Rattle.sdd_world.specs.Beginnings.{BeginsD}
+use Rattle.sdd_world.proofs.All.{BeginsD}
 use Rattle.sdd_world.proofs.Numbered.{MadeTo}
 use Rattle.sdd_world.proofs.making.data_modules.Given as goal
 

@@ -1,5 +1,4 @@
-use Rattle.std.proofs.Common.{◌+◌, subst, sym}
-use Rattle.sdd_world.specs.Beginnings.{BeginsT}
+use Rattle.sdd_world.proofs.All.{BeginsT, subst, sym, ◌+◌}
 use Rattle.sdd_world.proofs.Numbered.{MadeTo, one_more}
 use Rattle.sdd_world.proofs.making.txn_modules.Goals as goal
 

@@ -1,4 +1,4 @@
-use Rattle.sdd_world.specs.Beginnings.{BeginsT}
+use Rattle.sdd_world.proofs.All.{BeginsT}
 use Rattle.sdd_world.proofs.Numbered.{MadeTo}
 use Rattle.sdd_world.proofs.making.txn_modules.Given as goal
 

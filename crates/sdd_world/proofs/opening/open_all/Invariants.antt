@@ -1,6 +1,5 @@
-use Rattle.std.proofs.Common.{◌≡◌, map, take}
-use Rattle.std.specs.List.{AllByRecursion}
-use Rattle.sdd_obligations.specs.All.{Fits, spelled}
+use Rattle.sdd_world.proofs.All.{AllByRecursion, map, spelled, take, ◌≡◌}
+use Rattle.sdd_obligations.specs.All.{Fits}
 use Rattle.sdd_world.proofs.opening.open_all.Given as goal
 
 -- so far the messages are those of the spellings so far

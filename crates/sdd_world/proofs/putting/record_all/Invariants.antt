@@ -1,5 +1,4 @@
-use Rattle.std.proofs.Common.{◌≡◌, ◌++◌, ◌≤◌, map}
-use Rattle.std.specs.Prelude.{All}
+use Rattle.sdd_world.proofs.All.{All, map, ◌++◌, ◌≡◌, ◌≤◌}
 use Rattle.sdd_world.proofs.putting.record_all.Given as goal
 
 abbrev pub invariant-loop-rec : goal.invariant-loop-rec

@@ -1,6 +1,6 @@
+use Rattle.sdd_world.proofs.All.{no_items}
 use Rattle.sdd_world.proofs.Sends.{can_send, sends_on, sends_past, sent_all}
 use Rattle.sdd_world.proofs.Failing.{handed_on}
-use Rattle.sdd_world.proofs.Keeping.{no_items}
 use Rattle.sdd_world.proofs.putting.send_all.Goals as goal
 
 pub send_one-requires : goal.send_one-requires

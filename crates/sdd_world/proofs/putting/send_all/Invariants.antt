@@ -1,5 +1,4 @@
-use Rattle.std.proofs.Common.{length}
-use Rattle.sdd_world.specs.Following.{Sending}
+use Rattle.sdd_world.proofs.All.{Sending, length}
 use Rattle.sdd_world.proofs.putting.send_all.Given as goal
 
 abbrev pub invariant-loop-to : goal.invariant-loop-to

@@ -1,4 +1,4 @@
-use Rattle.std.proofs.Common.{arith}
+use Rattle.sdd_world.proofs.All.{arith}
 use Rattle.sdd_world.proofs.Sends.{one_more}
 use Rattle.sdd_world.proofs.putting.send_one.Goals as goal
 

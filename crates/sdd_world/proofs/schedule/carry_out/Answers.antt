@@ -1,8 +1,5 @@
-use Rattle.std.proofs.Common.{◌∙◌, ap, subst, sym}
-use Rattle.sdd_obligations.specs.All.{Given, with_event}
+use Rattle.sdd_world.proofs.All.{AreAllowed, Given, ap, no_items, subst, sym, with_event, with_events, ◌∙◌}
 use Rattle.sdd_world.proofs.Failing.{handed_on}
-use Rattle.sdd_world.proofs.Keeping.{no_items}
-use Rattle.sdd_world.specs.Schedules.{AreAllowed, with_events}
 use Rattle.sdd_world.proofs.Carrying.{carried_all, ends_from, first_allowed, first_one, with_first}
 use Rattle.sdd_world.proofs.schedule.carry_out.Goals as goal
 

@@ -1,7 +1,5 @@
-use Rattle.std.proofs.Common.{◌∙◌, ap, sym, subst}
-use Rattle.sdd_obligations.specs.All.{Redeclare, Settle}
+use Rattle.sdd_world.proofs.All.{IsAllowed, Redeclare, Settle, ap, lists_after, subst, sym, ◌∙◌}
 use Rattle.sdd_world.proofs.Carrying.{EndsIt, lists_stay, no_rounds, redeclare_goes, settle_ends, settle_goes, step_goes}
-use Rattle.sdd_world.specs.Schedules.{IsAllowed, lists_after}
 use Rattle.sdd_world.proofs.schedule.carry_out_one.Goals as goal
 
 pub returns-in-Settle-clause-log : goal.returns-in-Settle-clause-log

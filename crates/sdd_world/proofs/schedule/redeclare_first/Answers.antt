@@ -1,8 +1,6 @@
-use Rattle.std.proofs.Common.{ap, sym}
-use Rattle.sdd_obligations.specs.All.{Redeclare}
+use Rattle.sdd_world.proofs.All.{Redeclare, ap, lists_after, sym}
 use Rattle.sdd_world.proofs.Carrying.{next_list}
-use Rattle.sdd_world.proofs.Failing.{map_ok}
-use Rattle.sdd_world.specs.Schedules.{lists_after}
+use Rattle.sdd_world.proofs.Results.{of_ok as map_ok}
 use Rattle.sdd_world.proofs.schedule.redeclare_first.Goals as goal
 
 pub redeclare-requires : goal.redeclare-requires

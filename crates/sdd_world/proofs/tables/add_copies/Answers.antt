@@ -1,7 +1,4 @@
-use Rattle.std.proofs.Common.{◌≡◌, ◌∙◌, ◌++◌, ◌-◌, ap, arith, filter, length, map, sym}
-use Rattle.std.proofs.lemmas.List.{append-nil}
-use Rattle.sdd_obligations.specs.All.{has_copy, numbers_to}
-use Rattle.sdd_world.specs.Copies.{table_of}
+use Rattle.sdd_world.proofs.All.{ap, append-nil, arith, filter, has_copy, length, map, numbers_to, sym, table_of, ◌++◌, ◌-◌, ◌∙◌, ◌≡◌}
 use Rattle.sdd_world.proofs.Lists.{kept_to}
 use Rattle.sdd_world.proofs.tables.add_copies.Goals as goal
 

@@ -1,7 +1,5 @@
-use Rattle.std.proofs.Common.{◌≡◌, ◌++◌, ◌-◌, map, filter}
-use Rattle.sdd_obligations.specs.All.{StandFor, has_copy, numbers_to}
-use Rattle.sdd_obligations.specs.copy.Contents.{Dated}
-use Rattle.sdd_world.specs.Copies.{table_of}
+use Rattle.sdd_world.proofs.All.{Dated, filter, has_copy, map, numbers_to, table_of, ◌++◌, ◌-◌, ◌≡◌}
+use Rattle.sdd_obligations.specs.All.{StandFor}
 use Rattle.sdd_world.proofs.tables.add_copies.Given as goal
 
 abbrev pub invariant-loop-number : goal.invariant-loop-number

@@ -1,5 +1,4 @@
-use Rattle.std.proofs.Common.{◌∙◌}
-use Rattle.sdd_world.specs.Carries.{in_bytes}
+use Rattle.sdd_world.proofs.All.{in_bytes, ◌∙◌}
 use Rattle.sdd_world.proofs.InBytes.{stands_in, quiet_in}
 use Rattle.sdd_world.proofs.mail.Mail.quiet.Goals as goal
 

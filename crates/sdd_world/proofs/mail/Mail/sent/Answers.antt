@@ -1,6 +1,4 @@
-use Rattle.std.proofs.Common.{◌∙◌}
-use Rattle.sdd_obligations.specs.All.{spelled}
-use Rattle.sdd_world.specs.Carries.{in_bytes}
+use Rattle.sdd_world.proofs.All.{in_bytes, spelled, ◌∙◌}
 use Rattle.sdd_world.proofs.InBytes.{stands_in}
 use Rattle.sdd_world.proofs.Quietness.{count_same}
 use Rattle.sdd_world.proofs.mail.Mail.sent.Goals as goal

@@ -1,7 +1,4 @@
-use Rattle.std.proofs.Common.{◌+◌, ◌≤◌, ap, arith, map, subst}
-use Rattle.std.specs.List.{fold, range_with_len}
-use Rattle.std.specs.Prelude.{max}
-use Rattle.sdd_obligations.specs.All.{T, bound_at, greatest_bound, local_of, setting_of, tm_no}
+use Rattle.sdd_world.proofs.All.{T, ap, arith, bound_at, fold, greatest_bound, local_of, map, max, range_with_len, setting_of, subst, tm_no, ◌+◌, ◌≤◌}
 use Rattle.sdd_world.proofs.Forcing.{greatest_first, greatest_last, greatest_next, t_here}
 use Rattle.sdd_world.proofs.sites.Sites.greatest_bound.Goals as goal
 

@@ -1,8 +1,4 @@
-use Rattle.std.proofs.Common.{◌≡◌, ◌+◌, ◌-◌, map}
-use Rattle.std.specs.List.{fold, range_with_len}
-use Rattle.std.specs.Prelude.{max}
-use Rattle.sdd_obligations.specs.All.{Given, Log, bound_at, greatest_bound}
-use Rattle.sdd_world.specs.Modules.{AllStandFor}
+use Rattle.sdd_world.proofs.All.{AllStandFor, Given, Log, bound_at, fold, greatest_bound, map, max, range_with_len, ◌+◌, ◌-◌, ◌≡◌}
 use Rattle.sdd_world.proofs.sites.Sites.greatest_bound.Given as goal
 
 abbrev pub invariant-loop-number : goal.invariant-loop-number

@@ -1,5 +1,4 @@
-use Rattle.std.proofs.Common.{◌≤◌, arith, subst}
-use Rattle.sdd_obligations.specs.All.{Force, T, local_of, setting_of, tm_no}
+use Rattle.sdd_world.proofs.All.{Force, T, arith, local_of, setting_of, subst, tm_no, ◌≤◌}
 use Rattle.sdd_world.proofs.Forcing.{all_forced, none_forced, one_forced, t_here, t_stands}
 use Rattle.sdd_world.proofs.sites.Sites.put_in_force.Goals as goal
 

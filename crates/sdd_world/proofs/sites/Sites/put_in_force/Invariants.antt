@@ -1,5 +1,4 @@
-use Rattle.sdd_obligations.specs.All.{FitsForce, Given, Log}
-use Rattle.sdd_world.specs.Modules.{AllStandFor}
+use Rattle.sdd_world.proofs.All.{AllStandFor, FitsForce, Given, Log}
 use Rattle.sdd_world.proofs.Forcing.{ForcedTo}
 use Rattle.sdd_world.proofs.sites.Sites.put_in_force.Given as goal
 

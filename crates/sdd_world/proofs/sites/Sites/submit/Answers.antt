@@ -1,4 +1,5 @@
-use Rattle.std.proofs.Common.{refl}
+use Rattle.sdd_world.proofs.All.{Lives, refl}
+use Rattle.sdd_world.proofs.ByTable.{lives_submit, submit_u, submit_t}
 use Rattle.sdd_obligations.specs.dm.Stands as dm_stands
 use Rattle.sdd_obligations.specs.tm.Due as tm
 use Rattle.sdd_obligations.specs.tm.Fits as tm_fits
@@ -6,8 +7,6 @@ use Rattle.sdd_obligations.specs.tm.Stands as tm_stands
 use Rattle.sdd_obligations.specs.umod.Due as um
 use Rattle.sdd_obligations.specs.umod.Fits as um_fits
 use Rattle.sdd_obligations.specs.umod.Stands as um_stands
-use Rattle.sdd_world.specs.AtSites.{Lives}
-use Rattle.sdd_world.proofs.ByTable.{lives_submit, submit_u, submit_t}
 use Rattle.sdd_world.proofs.sites.Sites.submit.Goals as goal
 
 pub returns-in-U-clause-law : goal.returns-in-U-clause-law

@@ -1,4 +1,5 @@
-use Rattle.std.proofs.Common.{refl}
+use Rattle.sdd_world.proofs.All.{Lives, refl}
+use Rattle.sdd_world.proofs.ByTable.{lives_take, take_u, take_t, take_d}
 use Rattle.sdd_obligations.specs.dm.Due as dm
 use Rattle.sdd_obligations.specs.dm.Fits as dm_fits
 use Rattle.sdd_obligations.specs.dm.Stands as dm_stands
@@ -8,8 +9,6 @@ use Rattle.sdd_obligations.specs.tm.Stands as tm_stands
 use Rattle.sdd_obligations.specs.umod.Due as um
 use Rattle.sdd_obligations.specs.umod.Fits as um_fits
 use Rattle.sdd_obligations.specs.umod.Stands as um_stands
-use Rattle.sdd_world.specs.AtSites.{Lives}
-use Rattle.sdd_world.proofs.ByTable.{lives_take, take_u, take_t, take_d}
 use Rattle.sdd_world.proofs.sites.Sites.take.Goals as goal
 
 pub returns-in-U-clause-law : goal.returns-in-U-clause-law

@@ -1,6 +1,4 @@
-use Rattle.std.proofs.Common.{◌∙◌, ◌++◌, ap, sym}
-use Rattle.sdd_obligations.specs.All.{D, dated, has_copy, local_of, setting_of}
-use Rattle.sdd_world.specs.Copies.{tables_in}
+use Rattle.sdd_world.proofs.All.{D, ap, dated, has_copy, local_of, setting_of, sym, tables_in, ◌++◌, ◌∙◌}
 use Rattle.sdd_world.proofs.Results.{after_ok}
 use Rattle.sdd_world.proofs.world.World.add_tables.Goals as goal
 

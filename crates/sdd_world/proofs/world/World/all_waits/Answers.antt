@@ -1,8 +1,4 @@
-use Rattle.std.proofs.Common.{rules, [], ◌≡◌, ◌<◌, ◌≤◌, ◌∙◌, ◌-◌, arith, ap, sym, subst, length}
-use Rattle.std.specs.Prelude.{filter_map}
-use Rattle.sdd_obligations.specs.All.{Catalogue, dm_no, numbers_to}
-use Rattle.sdd_world.specs.Pending.{wait_at}
-use Rattle.sdd_obligations.proofs.attempt.Lists.{picked_to}
+use Rattle.sdd_world.proofs.All.{Catalogue, [], ap, arith, dm_no, filter_map, length, numbers_to, picked_to, rules, subst, sym, wait_at, ◌-◌, ◌<◌, ◌∙◌, ◌≡◌, ◌≤◌}
 use Rattle.sdd_world.proofs.HomesExist.{dm_of}
 use Rattle.sdd_world.proofs.Outsiders.{no_waits}
 use Rattle.sdd_world.proofs.world.World.all_waits.Goals as goal

@@ -1,8 +1,4 @@
-use Rattle.std.proofs.Common.{◌≡◌, ◌-◌}
-use Rattle.std.specs.Prelude.{filter_map}
-use Rattle.sdd_obligations.specs.All.{Given, Log, numbers_to}
-use Rattle.sdd_world.specs.Pending.{wait_at}
-use Rattle.sdd_world.specs.Standing.{StandsFor}
+use Rattle.sdd_world.proofs.All.{Given, Log, StandsFor, filter_map, numbers_to, wait_at, ◌-◌, ◌≡◌}
 use Rattle.sdd_world.proofs.world.World.all_waits.Given as goal
 
 abbrev pub invariant-loop-number : goal.invariant-loop-number

@@ -1,10 +1,8 @@
-use Rattle.std.proofs.Common.{refl}
-use Rattle.sdd_obligations.specs.All.{Mark, Up}
-use Rattle.std.proofs.Common.{◌∷◌}
-use Rattle.sdd_world.proofs.Failing.{map_ok}
+use Rattle.sdd_world.proofs.All.{Mark, Up, refl, ◌∷◌}
 use Rattle.sdd_world.proofs.Marking.{order_of}
 use Rattle.sdd_world.proofs.Keeping.{first_in, last_in}
 use Rattle.sdd_world.proofs.Turning.{came_up, rises, wasnt_down}
+use Rattle.sdd_world.proofs.Results.{of_ok as map_ok}
 use Rattle.sdd_world.proofs.world.World.come_up.Goals as goal
 
 pub up-requires-clause-first : goal.up-requires-clause-first

@@ -1,4 +1,4 @@
-use Rattle.sdd_obligations.specs.All.{D, local_of, setting_of}
+use Rattle.sdd_world.proofs.All.{D, local_of, setting_of}
 use Rattle.sdd_world.proofs.world.World.data_module.Goals as goal
 
 pub data_module-requires : goal.data_module-requires

@@ -1,8 +1,7 @@
-use Rattle.std.proofs.Common.{refl}
-use Rattle.sdd_obligations.specs.All.{Deliver}
-use Rattle.sdd_world.proofs.Failing.{map_ok}
+use Rattle.sdd_world.proofs.All.{Deliver, refl}
 use Rattle.sdd_world.proofs.Marking.{order_of}
 use Rattle.sdd_world.proofs.Delivering.{arrives, got_ack, got_nothing}
+use Rattle.sdd_world.proofs.Results.{of_ok as map_ok}
 use Rattle.sdd_world.proofs.world.World.deliver.Goals as goal
 
 pub note-requires : goal.note-requires
@@ -16,8 +15,7 @@ receive-requires c =
       c.args.self.now,
       c.args.place,
       arrives c.args.self.now (record c.args.self.now {
-        net =
-            c.deliver.new.self;
+        net = c.deliver.new.self;
       }) r.0 r.1 c.args.from c.args.to c.args.place c.in_ok-deliver.field-0
           c.in-Messages.messages r.2 c.in_ok-deliver.ensures.given c.in_ok-deliver.ensures.ok c.in-Messages.is
           refl,

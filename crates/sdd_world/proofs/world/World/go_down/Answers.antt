@@ -1,6 +1,4 @@
-use Rattle.std.proofs.Common.{refl}
-use Rattle.sdd_obligations.specs.All.{Down}
-use Rattle.sdd_world.proofs.Failing.{on_ok}
+use Rattle.sdd_world.proofs.All.{Down, on_ok, refl}
 use Rattle.sdd_world.proofs.Marking.{order_of}
 use Rattle.sdd_world.proofs.Keeping.{first_in, last_in}
 use Rattle.sdd_world.proofs.Turning.{was_down, went_down}

@@ -1,5 +1,5 @@
-use Rattle.sdd_world.proofs.Failing.{map_ok}
 use Rattle.sdd_world.proofs.Handing.{events_order, hand_asks, hand_done, hand_ends, may_send, taken}
+use Rattle.sdd_world.proofs.Results.{of_ok as map_ok}
 use Rattle.sdd_world.proofs.world.World.hand.Goals as goal
 
 pub take-requires : goal.take-requires

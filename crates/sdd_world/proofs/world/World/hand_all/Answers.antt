@@ -1,8 +1,5 @@
-use Rattle.std.proofs.Common.{subst}
-use Rattle.sdd_obligations.specs.All.{from_one}
-use Rattle.sdd_world.specs.Standing.{ahead_of, HandedOn, Handing}
+use Rattle.sdd_world.proofs.All.{HandedOn, Handing, ahead_of, from_one, no_items, subst}
 use Rattle.sdd_world.proofs.Failing.{handed_on}
-use Rattle.sdd_world.proofs.Keeping.{no_items}
 use Rattle.sdd_world.proofs.Delivering.{handed_further, handed_none, handed_whole, one_first, one_takes}
 use Rattle.sdd_world.proofs.world.World.hand_all.Goals as goal
 

@@ -1,6 +1,4 @@
-use Rattle.std.proofs.Common.{length}
-use Rattle.sdd_obligations.specs.All.{Given, IsLinkOf, Log, from_one}
-use Rattle.sdd_world.specs.Standing.{ahead_of, HandedOn, Handing}
+use Rattle.sdd_world.proofs.All.{Given, HandedOn, Handing, IsLinkOf, Log, ahead_of, from_one, length}
 use Rattle.sdd_world.proofs.world.World.hand_all.Given as goal
 
 abbrev pub invariant-loop-msg : goal.invariant-loop-msg

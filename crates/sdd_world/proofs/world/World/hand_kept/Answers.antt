@@ -1,5 +1,4 @@
-use Rattle.std.proofs.Common.{◌∙◌, refl}
-use Rattle.sdd_obligations.specs.All.{kept_from, mailbox_at}
+use Rattle.sdd_world.proofs.All.{kept_from, mailbox_at, refl, ◌∙◌}
 use Rattle.sdd_world.proofs.Failing.{handed_on}
 use Rattle.sdd_world.proofs.Turning.{boxed, first_kept, less_kept, none_left, rising_on, taken_out}
 use Rattle.sdd_world.proofs.world.World.hand_kept.Goals as goal
@@ -14,8 +13,7 @@ hand-requires c =
       i.0,
       i.1,
       kept_from (mailbox_at c.loop-from.self.spool c.args.dm.0),
-      kept_from
-          (mailbox_at c.take.new.self c.args.dm.0) c.in-Some.from,
+      kept_from (mailbox_at c.take.new.self c.args.dm.0) c.in-Some.from,
       t.0,
       first_kept i.0 c.loop-from.self.spool c.take.new.self
           c.args.dm c.in-Some.from c.in-Some.msg i.3 e.message.0 e.message.1,

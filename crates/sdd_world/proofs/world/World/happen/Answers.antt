@@ -1,7 +1,6 @@
-use Rattle.std.proofs.Common.{◌+◌, refl}
-use Rattle.sdd_obligations.specs.All.{Deliver, Submit, Up}
-use Rattle.sdd_world.proofs.Failing.{map_ok}
+use Rattle.sdd_world.proofs.All.{Deliver, Submit, Up, refl, ◌+◌}
 use Rattle.sdd_world.proofs.Rounds.{marked_next, marks_end}
+use Rattle.sdd_world.proofs.Results.{of_ok as map_ok}
 use Rattle.sdd_world.proofs.world.World.happen.Goals as goal
 
 pub returns-in-Deliver-clause-ok : goal.returns-in-Deliver-clause-ok

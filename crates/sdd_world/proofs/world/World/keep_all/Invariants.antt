@@ -1,6 +1,4 @@
-use Rattle.std.proofs.Common.{◌≡◌, length}
-use Rattle.sdd_obligations.specs.All.{Given, Log}
-use Rattle.sdd_world.specs.Standing.{Keeping}
+use Rattle.sdd_world.proofs.All.{Given, Keeping, Log, length, ◌≡◌}
 use Rattle.sdd_world.proofs.world.World.keep_all.Given as goal
 
 abbrev pub invariant-loop-msg : goal.invariant-loop-msg

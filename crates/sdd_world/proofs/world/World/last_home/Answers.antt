@@ -1,8 +1,4 @@
-use Rattle.std.proofs.Common.{◌∙◌, ap, refl, subst, sym, Some}
-use Rattle.sdd_obligations.specs.All.{Catalogue, force_at, redeclares}
-use Rattle.sdd_obligations.proofs.class_eras.EraFits.{fits_in_era}
-use Rattle.sdd_obligations.specs.lang.Fits.{Fits}
-use Rattle.sdd_obligations.specs.logs.Due.{home_of as site_of}
+use Rattle.sdd_world.proofs.All.{Catalogue, Fits, Some, ap, fits_in_era, force_at, home_of as site_of, redeclares, refl, subst, sym, ◌∙◌}
 use Rattle.sdd_world.proofs.HomesExist.{no_txn, txn_read}
 use Rattle.sdd_world.proofs.world.World.last_home.Goals as goal
 

@@ -1,7 +1,5 @@
-use Rattle.std.proofs.Common.{refl}
-use Rattle.sdd_world.proofs.Failing.{on_ok}
+use Rattle.sdd_world.proofs.All.{Lose, on_ok, refl}
 use Rattle.sdd_world.proofs.Marking.{lost, lost_nothing, order_of}
-use Rattle.sdd_obligations.specs.All.{Lose}
 use Rattle.sdd_world.proofs.world.World.lose.Goals as goal
 
 pub returns-then-lose : goal.returns-then-lose

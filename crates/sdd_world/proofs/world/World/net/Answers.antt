@@ -1,6 +1,4 @@
-use Rattle.std.proofs.Common.{subst, sym}
-use Rattle.sdd_obligations.specs.All.{calls_of}
-use Rattle.sdd_world.specs.Carries.{Carries}
+use Rattle.sdd_world.proofs.All.{Carries, calls_of, subst, sym}
 use Rattle.sdd_world.proofs.world.World.net.Goals as goal
 
 pub net-requires : goal.net-requires

@@ -1,6 +1,4 @@
-use Rattle.std.proofs.Common.{◌∙◌, [], ap, refl, subst, sym}
-use Rattle.sdd_obligations.specs.All.{Catalogue, Force}
-use Rattle.sdd_world.specs.Carries.{Carries}
+use Rattle.sdd_world.proofs.All.{Carries, Catalogue, Force, [], ap, refl, subst, sym, ◌∙◌}
 use Rattle.sdd_world.proofs.Beginning.{begins}
 use Rattle.sdd_world.proofs.Begun.{all_begun}
 use Rattle.sdd_world.proofs.world.World.new.Goals as goal

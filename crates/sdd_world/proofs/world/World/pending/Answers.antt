@@ -1,9 +1,6 @@
-use Rattle.std.proofs.Common.{◌∙◌, subst}
-use Rattle.sdd_obligations.specs.All.{history}
-use Rattle.sdd_world.specs.Pending.{AreCommitted, last_home, pending_by}
+use Rattle.sdd_world.proofs.All.{AreCommitted, history, last_home, pending_by, standing_of, subst, ◌∙◌}
 use Rattle.sdd_world.proofs.Lists.{chosen_more}
 use Rattle.sdd_world.proofs.world.World.pending.Goals as goal
-use Rattle.sdd_world.specs.Standings.{standing_of}
 
 pub loop-entry-preserved : goal.loop-entry-preserved
 loop-entry-preserved c = λ given log s.

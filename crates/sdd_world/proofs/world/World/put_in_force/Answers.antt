@@ -1,4 +1,4 @@
-use Rattle.std.proofs.Common.{refl}
+use Rattle.sdd_world.proofs.All.{refl}
 use Rattle.sdd_world.proofs.NextList.{force_ends, force_fits, is_forced, same_tms}
 use Rattle.sdd_world.proofs.world.World.put_in_force.Goals as goal
 

@@ -1,7 +1,6 @@
-use Rattle.std.proofs.Common.{◌∷◌}
-use Rattle.sdd_obligations.specs.All.{D, Deliver, Mark}
-use Rattle.sdd_world.proofs.Failing.{map_ok}
+use Rattle.sdd_world.proofs.All.{D, Deliver, Mark, ◌∷◌}
 use Rattle.sdd_world.proofs.Arriving.{comes_to, is_kept, is_keeping, is_over, to_hand, told}
+use Rattle.sdd_world.proofs.Results.{of_ok as map_ok}
 use Rattle.sdd_world.proofs.world.World.receive.Goals as goal
 
 pub down_module-requires : goal.down_module-requires
@@ -17,8 +16,7 @@ keep_all-requires c =
     let d = c.in-Some.ensures r.0 r.1 t.0 t.1 in (
       r.0,
       Mark (Deliver c.args.from (D c.in-Some.dm) r.3) ∷ r.1,
-      is_keeping r.2 c.args.self.now r.0 r.1 c.args.from
-          c.args.to c.in-Some.dm r.3 c.args.messages r.4 d.0 d.1,
+      is_keeping r.2 c.args.self.now r.0 r.1 c.args.from c.args.to c.in-Some.dm r.3 c.args.messages r.4 d.0 d.1,
     )
 
 pub hand_all-requires : goal.hand_all-requires

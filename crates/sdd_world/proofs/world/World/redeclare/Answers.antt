@@ -1,5 +1,4 @@
-use Rattle.std.proofs.Common.{refl}
-use Rattle.sdd_obligations.specs.All.{Redeclare, with_event}
+use Rattle.sdd_world.proofs.All.{Redeclare, refl, with_event}
 use Rattle.sdd_world.proofs.Failing.{handed_on}
 use Rattle.sdd_world.proofs.NextList.{forcing}
 use Rattle.sdd_world.proofs.Rounds.{settle_begins}

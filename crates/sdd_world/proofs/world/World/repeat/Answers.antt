@@ -1,7 +1,5 @@
-use Rattle.std.proofs.Common.{refl}
-use Rattle.sdd_world.proofs.Failing.{on_ok}
+use Rattle.sdd_world.proofs.All.{Repeat, on_ok, refl}
 use Rattle.sdd_world.proofs.Marking.{repeated, repeated_nothing, order_of}
-use Rattle.sdd_obligations.specs.All.{Repeat}
 use Rattle.sdd_world.proofs.world.World.repeat.Goals as goal
 
 pub returns-then-branch : goal.returns-then-branch

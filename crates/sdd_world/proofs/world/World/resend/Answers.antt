@@ -1,7 +1,5 @@
-use Rattle.std.proofs.Common.{refl}
-use Rattle.sdd_world.proofs.Failing.{on_ok}
+use Rattle.sdd_world.proofs.All.{Resend, on_ok, refl}
 use Rattle.sdd_world.proofs.Marking.{resent, resent_nothing, order_of}
-use Rattle.sdd_obligations.specs.All.{Resend}
 use Rattle.sdd_world.proofs.world.World.resend.Goals as goal
 
 pub returns-then-branch : goal.returns-then-branch

@@ -1,6 +1,6 @@
-use Rattle.std.proofs.Common.{◌∙◌, ap, length, arith, refl}
+use Rattle.sdd_world.proofs.All.{ap, arith, length, no_items, refl, ◌∙◌}
 use Rattle.sdd_world.proofs.Failing.{handed_on}
-use Rattle.sdd_world.proofs.Rounds.{no_items, one_mark, round_after, round_before, round_begins, round_ends, round_some}
+use Rattle.sdd_world.proofs.Rounds.{one_mark, round_after, round_before, round_begins, round_ends, round_some}
 use Rattle.sdd_world.proofs.world.World.round.Goals as goal
 
 pub loop-event-init : goal.loop-event-init

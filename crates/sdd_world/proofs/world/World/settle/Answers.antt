@@ -1,5 +1,4 @@
-use Rattle.std.proofs.Common.{refl}
-use Rattle.sdd_obligations.specs.All.{Settle, with_event}
+use Rattle.sdd_world.proofs.All.{Settle, refl, with_event}
 use Rattle.sdd_world.proofs.Failing.{handed_on}
 use Rattle.sdd_world.proofs.Rounds.{settle_begins, settle_ends}
 use Rattle.sdd_world.proofs.world.World.settle.Goals as goal

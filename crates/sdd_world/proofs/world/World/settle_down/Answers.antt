@@ -1,4 +1,4 @@
-use Rattle.std.proofs.Common.{◌∙◌, sym, arith}
+use Rattle.sdd_world.proofs.All.{arith, sym, ◌∙◌}
 use Rattle.sdd_world.proofs.Failing.{handed_on}
 use Rattle.sdd_world.proofs.Rounds.{few}
 use Rattle.sdd_world.proofs.world.World.settle_down.Goals as goal

@@ -1,6 +1,4 @@
-use Rattle.std.proofs.Common.{◌-◌, ◌^◌}
-use Rattle.sdd_obligations.specs.All.{Event, Given, Log}
-use Rattle.sdd_world.specs.Standing.{Settles, Settling}
+use Rattle.sdd_world.proofs.All.{Event, Given, Log, Settles, Settling, ◌-◌, ◌^◌}
 use Rattle.sdd_world.proofs.world.World.settle_down.Given as goal
 
 abbrev pub invariant-loop-self : goal.invariant-loop-self

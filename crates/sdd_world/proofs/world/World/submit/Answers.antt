@@ -1,6 +1,6 @@
-use Rattle.std.proofs.Common.{◌∙◌, ◌-◌, ap, get_or}
-use Rattle.sdd_world.proofs.Failing.{map_ok}
+use Rattle.sdd_world.proofs.All.{ap, get_or, ◌-◌, ◌∙◌}
 use Rattle.sdd_world.proofs.Submitting.{events_order, home_is, may_send, submit_asks, submit_done, submit_ends, taken, txn_fits, txn_read}
+use Rattle.sdd_world.proofs.Results.{of_ok as map_ok}
 use Rattle.sdd_world.proofs.world.World.submit.Goals as goal
 
 pub class_for-class-requires : goal.class_for-class-requires
@@ -42,9 +42,7 @@ follow-requires-clause-sends c =
     c.in_ok-outcome.outcome here c.in_ok-outcome.ensures.law)
 
 pub follow-requires-clause-order : goal.follow-requires-clause-order
-follow-requires-clause-order c = let r =
-    c.requires in events_order c.args.self.now r.0
-    r.1 c.args.number r.2
+follow-requires-clause-order c = let r = c.requires in events_order c.args.self.now r.0 r.1 c.args.number r.2
 
 pub returns-clause-ok : goal.returns-clause-ok
 returns-clause-ok c = map_ok c.follow.result _ _ c.follow.ensures.ok (λ x f given log m.

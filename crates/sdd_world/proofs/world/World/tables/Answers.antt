@@ -1,7 +1,4 @@
-use Rattle.std.proofs.Common.{◌≡◌, ◌∙◌, ◌-◌, ap, arith, sym}
-use Rattle.std.specs.List.{flat_map}
-use Rattle.sdd_obligations.specs.All.{Catalogue, dm_no, numbers_to}
-use Rattle.sdd_world.specs.Copies.{tables_at}
+use Rattle.sdd_world.proofs.All.{Catalogue, ap, arith, dm_no, flat_map, numbers_to, sym, tables_at, ◌-◌, ◌∙◌, ◌≡◌}
 use Rattle.sdd_world.proofs.HomesExist.{dm_of}
 use Rattle.sdd_world.proofs.Lists.{each_to}
 use Rattle.sdd_world.proofs.world.World.tables.Goals as goal

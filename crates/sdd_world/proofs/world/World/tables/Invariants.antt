@@ -1,8 +1,4 @@
-use Rattle.std.proofs.Common.{◌≡◌, ◌-◌}
-use Rattle.std.specs.List.{flat_map}
-use Rattle.sdd_obligations.specs.All.{Given, Log, numbers_to}
-use Rattle.sdd_world.specs.Copies.{tables_at}
-use Rattle.sdd_world.specs.Standing.{StandsFor}
+use Rattle.sdd_world.proofs.All.{Given, Log, StandsFor, flat_map, numbers_to, tables_at, ◌-◌, ◌≡◌}
 use Rattle.sdd_world.proofs.world.World.tables.Given as goal
 
 abbrev pub invariant-loop-number : goal.invariant-loop-number

@@ -1,4 +1,4 @@
-use Rattle.sdd_obligations.specs.All.{T, local_of, setting_of}
+use Rattle.sdd_world.proofs.All.{T, local_of, setting_of}
 use Rattle.sdd_world.proofs.world.World.txn_module.Goals as goal
 
 pub txn_module-requires : goal.txn_module-requires

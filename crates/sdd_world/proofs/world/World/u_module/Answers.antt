@@ -1,5 +1,4 @@
-use Rattle.std.proofs.Common.{refl}
-use Rattle.sdd_obligations.specs.All.{U}
+use Rattle.sdd_world.proofs.All.{U, refl}
 use Rattle.sdd_world.proofs.world.World.u_module.Goals as goal
 
 pub returns : goal.returns

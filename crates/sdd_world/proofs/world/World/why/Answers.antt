@@ -1,10 +1,7 @@
-use Rattle.std.proofs.Common.{◌∙◌, ap, subst, sym}
-use Rattle.sdd_obligations.specs.All.{IsSiteOf}
-use Rattle.sdd_world.specs.Pending.{stands_at, why_of}
+use Rattle.sdd_world.proofs.All.{IsSiteOf, ap, standing_of, stands_at, subst, sym, why_of, ◌∙◌}
 use Rattle.sdd_world.proofs.HomesExist.{last_home_there}
 use Rattle.sdd_world.proofs.Results.{of_ok}
 use Rattle.sdd_world.proofs.world.World.why.Goals as goal
-use Rattle.sdd_world.specs.Standings.{standing_of}
 
 pub standing-standing-requires : goal.standing-standing-requires
 standing-standing-requires c =

@@ -1,0 +1,84 @@
+-- The names of std, of the crates below and of this crate's definitions that its proofs cite. Declares nothing.
+pub use Rattle.sdd_obligations.proofs.AllFacts.{all_facts}
+pub use Rattle.sdd_obligations.proofs.Done.{count_join, redeclares_left}
+pub use Rattle.sdd_obligations.proofs.Limits.{marks_few as few_marks}
+pub use Rattle.sdd_obligations.proofs.Modules.{below_not as differ}
+pub use Rattle.sdd_obligations.proofs.Submitting.{forced_is}
+pub use Rattle.sdd_obligations.proofs.attempt.Lists.{picked_to}
+pub use Rattle.sdd_obligations.proofs.base.Opened.{slice_get-append}
+pub use Rattle.sdd_obligations.proofs.class_eras.EraFits.{fits_in_era}
+pub use Rattle.sdd_obligations.proofs.graph.Lists.{each_more, up_to}
+pub use Rattle.sdd_obligations.proofs.invariants.AreReadSteps.{class_at_place}
+pub use Rattle.sdd_obligations.proofs.invariants.logs.Steps.{other_local_hand as other_hand}
+pub use Rattle.sdd_obligations.proofs.invariants.logs.attempt.exec.Sieves.{not_true as up_of}
+pub use Rattle.sdd_obligations.proofs.invariants.logs.attempt.exec.Steps.{flat_map_same as joined_same}
+pub use Rattle.sdd_obligations.proofs.invariants.logs.dm.ByClass.{all_same}
+pub use Rattle.sdd_obligations.proofs.invariants.logs.net.Directions.{within as numbered}
+pub use Rattle.sdd_obligations.proofs.invariants.logs.net.Lists.{get-last as last_member}
+pub use Rattle.sdd_obligations.proofs.invariants.logs.net.Matching.{on_both as on_ok}
+pub use Rattle.sdd_obligations.proofs.invariants.logs.net.Queues.{no_items}
+pub use Rattle.sdd_obligations.proofs.lang.Pushdown.{and_parts}
+pub use Rattle.sdd_obligations.proofs.laws.lang.catalog.Validity.{not_false}
+pub use Rattle.sdd_obligations.proofs.logs.Acts.{calls_acts, ends_in_acts, history_acts, is_down_acts, left_acts, linked_acts, marks_acts, other_acts, own_acts, puts-append, puts_past-append}
+pub use Rattle.sdd_obligations.proofs.logs.Beginning.{next_at_first, rests_at_first}
+pub use Rattle.sdd_obligations.proofs.logs.Completing.{IsFree, IsSingle, event_left, in_round, none_left, one_more, redeclare_next, round_next, settled}
+pub use Rattle.sdd_obligations.proofs.logs.Delivering.{ack_same, delivers_ack, delivers_kept, delivers_messages, delivers_nothing, none_remains, nothing_same, remain_beside, remain_more}
+pub use Rattle.sdd_obligations.proofs.logs.EachLocal.{allowed_act}
+pub use Rattle.sdd_obligations.proofs.logs.FirstHand.{listed, none_to_hand}
+pub use Rattle.sdd_obligations.proofs.logs.Grows.{lawful_grows, next_grows}
+pub use Rattle.sdd_obligations.proofs.logs.Handing.{all_handed, first_lawful, first_next, hands_first, remain_acts, remain_other}
+pub use Rattle.sdd_obligations.proofs.logs.Links.{delivered_lose, delivered_repeat, delivered_resend, sent_stays, unacked_none, unacked_some}
+pub use Rattle.sdd_obligations.proofs.logs.Lowest.{Cut, cut_at_t, first_of_one, none_of_one, takes_of_one}
+pub use Rattle.sdd_obligations.proofs.logs.Marking.{IsNoTick, TurnsNone, handed_still, mark_local, mark_within, none_by_mark, rests_marked, rests_noted, rests_redeclared, still_none, ticked_none}
+pub use Rattle.sdd_obligations.proofs.logs.Permitted.{next_allowed}
+pub use Rattle.sdd_obligations.proofs.logs.Rounding.{each_of_round, no_events_quiet}
+pub use Rattle.sdd_obligations.proofs.logs.SpelledLinks.{delivery_map, link_map}
+pub use Rattle.sdd_obligations.proofs.logs.Steps.{after_acts}
+pub use Rattle.sdd_obligations.proofs.logs.Submitting.{acts_lawful, home_in, other_local, submits_and_acts, submitted, submitted_local, submitted_within}
+pub use Rattle.sdd_obligations.proofs.logs.Turning.{comes_up, goes_down, is_down_already, isnt_down}
+pub use Rattle.sdd_obligations.proofs.net.Deliveries.{acked_le, sent_of}
+pub use Rattle.sdd_obligations.proofs.net.Directions.{link_parts, same_here, same_is}
+pub use Rattle.sdd_obligations.proofs.net.Lists.{get-set_other, get-set_same}
+pub use Rattle.sdd_obligations.proofs.net.Sound.{sound}
+pub use Rattle.sdd_obligations.proofs.wire.MessageLaws.{message_read_back}
+pub use Rattle.sdd_obligations.specs.All.{Ack, Acked, Act, AllHanded, AllLinked, AreDue, AtEach, Bases, Call, Catalogue, ClassView, D, Deliver, Delivered, Delivers, Did, Directions, DmNo, Does, Down, EndsIn, Event, Fetch, FitsForce, Fitting, FittingSubmit, Force, Given, Hand, Handed, HasLink, History, Home, IsBefore, IsDue, IsFirst, IsGood, IsLawful, IsLinkOf, IsLowest, IsPossible, IsSender, IsSiteOf, IsWithin as IsBelow, Kept, Link, Log, Lose, Loses, MAX_LINK_MESSAGES, MAX_RUN_EVENTS, Mailbox, Mark, Message, Messages, Msg, NoMemory, Notes, Nothing as Noted, Null, OnlyAt, Open, Outcome, Packet, Processes, Puts, Read, Rec, Records, Redeclare, Redeclared, Redeclares, Reduce, Remain, Repeat, Repeats, Resend, Resends, Rests, Round, Sends, Setting, Settle, Ship, Site, Submit, Submits, Submitted, T, Takes, TakesRounds, Tick, Ticked, TmNo, Txn, TxnNo, U, Up, View, Write, act_by, act_where, after_mark, all_links, answer_of, answer_to, arrives, base_of, beginning, bound_at, by_head, by_open, call_as, calls_of, class_for, dated, deliver, delivered, delivered_as, delivery, dm_no, due_by, empty_mailbox, fits, fits_at, fits_submit, fits_submit_at, fits_tick, force_at, from_one, given_by, greatest_bound, handed, has_copy, head, head_of, history, in_flight, index_of, is_asked_of, is_down, is_empty, is_link, is_processing, is_quiet_link, is_site, is_wait, kept_count, kept_from, left, link, link_as, link_of, links, local_of, log_after, lose, mailbox_at, marks, message_in, newly_delivered, next, next_in, note_if, number_of, number_of_t, numbers_to, on_link, packet_as, packet_at, pipe, place_of, puts, puts_past, queue_at, quiet, records_of, records_of_act, redeclares, redeclares_in, repeat, resend, resends_now, round, rows_of, same_site, sends_of, sent_on, setting_of, settles_before, sites, spelled, takes_part, tm_no, turned, txn_at, view_of, waits, with_event, with_flight, with_force, with_packet, with_submit, without_packet}
+pub use Rattle.sdd_obligations.specs.copy.Contents.{Dated}
+pub use Rattle.sdd_obligations.specs.dm.Due.{head_step}
+pub use Rattle.sdd_obligations.specs.dm.Pipes.{waits_acted}
+pub use Rattle.sdd_obligations.specs.dm.Waiting.{conds_of, waiting_at}
+pub use Rattle.sdd_obligations.specs.dm.declared.step.Step.{Step}
+pub use Rattle.sdd_obligations.specs.dm.declared.step.Step.TheVariants.{Refuses, Waits}
+pub use Rattle.sdd_obligations.specs.history.declared.record.Rec.TheVariants.{Submit as Submission}
+pub use Rattle.sdd_obligations.specs.lang.Fits.{Fits}
+pub use Rattle.sdd_obligations.specs.logs.Due.{home_of}
+pub use Rattle.sdd_obligations.specs.logs.Permitted.{IsDueAt}
+pub use Rattle.sdd_obligations.specs.net.Links.{put}
+pub use Rattle.sdd_obligations.specs.net.Mailboxes.{Takes as TakesFrom}
+pub use Rattle.sdd_obligations.specs.net.declared.delivered.Delivered.TheVariants.{Nothing}
+pub use Rattle.sdd_obligations.specs.protocol.declared.entry.Entry.{Entry}
+pub use Rattle.sdd_world.specs.AtSites.{At, IsClassAt, Lives, Standing, StandsAt}
+pub use Rattle.sdd_world.specs.Beginnings.{AllBegin, BeginsD, BeginsT, IsBegun, There}
+pub use Rattle.sdd_world.specs.Carries.{AllDelivered, AllPut, Carries, IsSpelling, NetValue, Spells, in_bytes}
+pub use Rattle.sdd_world.specs.Copies.{table_of, tables_at, tables_in}
+pub use Rattle.sdd_world.specs.DueAt.{next_of}
+pub use Rattle.sdd_world.specs.Following.{Followed, IsPast, MaySend, Sending}
+pub use Rattle.sdd_world.specs.Kinds.{AreLinked}
+pub use Rattle.sdd_world.specs.Modules.{AllStandFor, AreForced, LivesD, LivesT, LivesU, StandFor}
+pub use Rattle.sdd_world.specs.Pending.{AreCommitted, commits, last_home, pending_by, stands_at, unmet, wait_at, wait_for, waits_of, why_of}
+pub use Rattle.sdd_world.specs.Schedules.{AreAllowed, IsAllowed, IsListed, lists_after, takes_rounds, with_events}
+pub use Rattle.sdd_world.specs.Standing.{Ahead, Arrives, Before, Calm, EndsBy, Forcing, HandedOn, Handing, Happened, IsNextList, IsSettled, IsSound, Keeping, KeepsFor, Marked, Parts, Risen, Rising, Rounding, Settles, Settling, Spooled, StandsFor, ahead_of}
+pub use Rattle.sdd_world.specs.Standings.{standing_of}
+pub use Rattle.sdd_world.specs.declared.ends.WorldEnd.{WorldEnd}
+pub use Rattle.sdd_world.specs.declared.ends.WorldEnd.TheVariants.{Limit}
+pub use Rattle.sdd_world.specs.declared.schedule.ClassList.{ClassList}
+pub use Rattle.sdd_world.specs.declared.sites.Sites.{Sites}
+pub use Rattle.sdd_world.specs.declared.world.World.{World}
+pub use Rattle.std.proofs.Common.{All, Bool, Err, Global, IfOk, IsErrAnd, IsErrOf, IsTrue, List, None, Ok, OnOk, Option, Result, Some, Vec, [], ap, append-nil, append_assoc, arith, cond, drop, eq-eqb, eqb-true, false, filter, filter_map, flat_map, fold, if◌then◌else◌, inl, inr, is_none, is_some, le-leb, le-ltb, leb-true, length, length-append, lt-ltb, map, max, nat_cmp, nat_le, nat_lt, ne_eqb, not, option_map, refl, replicate, rules, slice_get, slice_index_or as get_or, slice_set, subst, suc, sym, take, true, zero, ℕ, ◌&&◌, ◌++◌, ◌+◌, ◌-◌, ◌<◌, ◌==◌, ◌^◌, ◌||◌, ◌∙◌, ◌∷◌, ◌≡◌, ◌≢◌, ◌≤◌}
+pub use Rattle.std.proofs.Math.Bool.{or-false}
+pub use Rattle.std.proofs.lemmas.Bool.{and_from, and_left, and_right, cases_lt, or_from as or_first, or_left as or_past, or_right as or_second}
+pub use Rattle.std.proofs.lemmas.List.{length-map, length-replicate, map-append, take_more}
+pub use Rattle.std.proofs.lemmas.List.Elements.{All-append, All-cons, All-nil, All-weaker, filter-append, filter_map-append}
+pub use Rattle.std.proofs.lemmas.List.Folds.{list_any-append}
+pub use Rattle.std.proofs.lemmas.Option.{slice_get-get_or, slice_get_past}
+pub use Rattle.std.specs.BTreeSet.{contains}
+pub use Rattle.std.specs.List.{AllByRecursion, list_any, range_with_len}
