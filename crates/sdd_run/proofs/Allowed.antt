@@ -1,15 +1,5 @@
 -- The events of a valid workload are allowed.
-use Rattle.std.proofs.Common.{ℕ, zero, suc, ◌-◌, ◌<◌, ◌≡◌, ◌∙◌, refl, ap, arith, drop, get_or, map, subst, sym, true, false, List, [], ◌∷◌, ◌++◌, length, append_assoc, Some}
-use Rattle.std.specs.Prelude.{slice_get, ◌&&◌}
-use Rattle.std.specs.List.{All}
-use Rattle.std.proofs.lemmas.List.Elements.{All-head, All-tail}
-use Rattle.sdd_obligations.specs.All.{Catalogue, D, Deliver, Down, Event, Force, Given, IsGood, IsPossible, Lose, Redeclare, Repeat, Resend, Settle, Site, Submit, T, Tick, U, Up, are_linked, is_link, is_site, redeclares_in, with_event}
-use Rattle.sdd_script.specs.All.{IsLink, IsSite, IsValidEvent}
-use Rattle.sdd_obligations.proofs.Done.{count_join}
-use Rattle.sdd_world.specs.Schedules.{AreAllowed, lists_after, takes_rounds}
-use Rattle.sdd_world.specs.declared.schedule.ClassList.{ClassList}
-use Rattle.sdd_run.specs.Lent.{force_in}
-use Rattle.sdd_world.proofs.HomesExist.{within}
+use Rattle.sdd_run.proofs.All.{All, All-head, All-tail, AreAllowed, Catalogue, ClassList, D, Deliver, Down, Event, Force, Given, IsGood, IsLink, IsPossible, IsSite, IsValidEvent, List, Lose, Redeclare, Repeat, Resend, Settle, Site, Some, Submit, T, Tick, U, Up, [], ap, append_assoc, are_linked, arith, count_join, drop, false, force_in, get_or, is_link, is_site, length, lists_after, map, redeclares_in, refl, slice_get, subst, suc, sym, takes_rounds, true, with_event, within, zero, ℕ, ◌&&◌, ◌++◌, ◌-◌, ◌<◌, ◌∙◌, ◌∷◌, ◌≡◌}
 
 member : {A : Type 0} (xs : List A) (i : ℕ) → i < length xs → (x : A) × (slice_get xs i ≡ Some x)
 member [] i l = absurd (omega arith)
@@ -123,7 +113,8 @@ module _ (all : List Event) where
   allowed [] g lists = λ e valid left has good. tt
   allowed (Redeclare ∷ es) g lists = next_list g es lists (allowed es (with_event g Redeclare))
   allowed (Submit n ∷ es) g lists =
-      other_event g (Submit n) es lists (record { no_redeclare = λ is. cc; none_taken = refl; none_counted = refl }) (allowed es (with_event g (Submit n)) lists)
+      other_event g (Submit n) es lists (record { no_redeclare = λ is. cc; none_taken = refl; none_counted = refl })
+      (allowed es (with_event g (Submit n)) lists)
   allowed (Deliver a b k ∷ es) g lists =
       other_event g (Deliver a b k) es lists (record { no_redeclare = λ is. cc; none_taken = refl; none_counted = refl })
       (allowed es (with_event g (Deliver a b k)) lists)

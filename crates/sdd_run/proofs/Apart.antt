@@ -1,11 +1,5 @@
 -- No run is told of and ended by the limit.
-use Rattle.std.proofs.Common.{ℕ, List, subst}
-use Rattle.sdd_obligations.specs.All.{Catalogue, IsTheLog, Log}
-use Rattle.sdd_obligations.specs.protocol.declared.entry.Entry.{Entry}
-use Rattle.sdd_script.specs.declared.workload.Workload.{Workload}
-use Rattle.sdd_obligations.proofs.logs.One.{limit_or_complete}
-use Rattle.sdd_lists.specs.InForce.{eras_in}
-use Rattle.sdd_run.specs.Runs.{AreTables, EndsAtLimit, IsReportOn, IsSummaryOn, given_of}
+use Rattle.sdd_run.proofs.All.{AreTables, Catalogue, EndsAtLimit, Entry, IsReportOn, IsSummaryOn, IsTheLog, List, Log, Workload, eras_in, given_of, limit_or_complete, subst, ℕ}
 use Rattle.sdd_run.proofs.OneReport.{one_list_of_tables}
 
 log_or_limit : (cat : Catalogue) (work : Workload) (tables : List (List Entry)) (log : Log) → AreTables cat work tables

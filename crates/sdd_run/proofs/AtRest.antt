@@ -1,17 +1,7 @@
 -- Where a settle or a redeclare is the last of the events, the links are quiet at the end.
-use Rattle.std.proofs.Common.{ℕ, suc, ◌++◌, ◌≡◌, ◌∙◌, ◌∷◌, Bool, List, None, Option, Some, [], ap, false, if◌then◌else◌, inl, inr, refl, subst, sym, true}
-use Rattle.std.specs.Prelude.{◌⊎◌}
-use Rattle.sdd_obligations.specs.All.{Act, Bases, D, Deliver, Does, Down, Entry, Event, Force, Given, Hand, IsLawful, Log, Lose, Mark, Notes, Redeclare, Redeclares, Repeat, Resend, Round, Settle, Site, Submit, Submitted, T, Tick, U, Up, after_mark, all_links, base_of, calls_of, delivered, does_at, force_at, hand_due, hand_number, hand_on, handed, left, link_of, local_of, mark_from, mark_of, next, next_at, next_in, next_number, quiet, redeclares, round, setting_of, site_due, sites, takes_part, with_event, with_force}
-use Rattle.sdd_obligations.specs.base.Words.{tail_of}
+use Rattle.sdd_run.proofs.All.{Act, Bool, Deliver, Does, Down, Event, Given, Hand, IsAtRest, IsLawful, List, Log, Lose, Mark, None, Notes, Option, Redeclare, Redeclares, Repeat, Resend, Round, Settle, Site, Some, Submit, Submitted, Tick, Up, [], after_mark, all_links, ap, at_redeclare, base_of, calls_of, complete_parts, delivered, does_at, false, first_none, force_at, forced_none, from_event, hand_due, hand_number, hand_on, handed, if◌then◌else◌, inl, inr, left, link_of, local_of, mark_from, mark_of, next, next_at, next_is_of_events, next_number, none_any_base, none_left, quiet, quiet_at_last, redeclares, refl, round, same_part, site_due, sites, subst, suc, sym, tail_of, true, with_event, ℕ, ◌++◌, ◌∙◌, ◌∷◌, ◌≡◌, ◌⊎◌}
+use Rattle.sdd_obligations.specs.All.{Entry}
 use Rattle.sdd_obligations.specs.site_module.SiteLog as site
-use Rattle.sdd_obligations.specs.logs.Marks.{from_event}
-use Rattle.sdd_obligations.proofs.logs.Steps.{none_any_base}
-use Rattle.sdd_obligations.proofs.logs.Completing.{complete_parts, none_left}
-use Rattle.sdd_obligations.proofs.logs.Ticking.{first_none, none_by_redeclare}
-use Rattle.sdd_progress.proofs.termination.Marked.{next_is_of_events}
-use Rattle.sdd_progress.proofs.termination.Settled.{quiet_at_last}
-use Rattle.sdd_progress.proofs.IdleAtRedeclares.{at_redeclare}
-use Rattle.sdd_run.specs.Settled.{IsAtRest}
 
 -- whether the last of the events is a redeclare, where it is told what holds of none
 
@@ -89,23 +79,12 @@ not_due : (at : Site) (o p : Option Act) → (o ≡ None → p ≡ None) → doe
 not_due at None p k e = ap (does_at at) (k refl)
 not_due at (Some act) p k e = absurd (cc)
 
-forced_none : (g : Given) (x : Site) (bases : Bases) (force : Force) (t : ℕ) (l : site.Log) → next_in g x bases l ≡ None
-    → next_in g x bases (with_force x force t l) ≡ None
-forced_none g U bases force t l k = k
-forced_none g (T n) bases force t l k = none_by_redeclare (setting_of g (T n)) bases l force t k
-forced_none g (D d) bases force t l k = k
-
 none_at_site : (g : Given) (t : ℕ) (log : Log) → site_due g log ≡ None → site_due g (Redeclares t ∷ log) ≡ None
 none_at_site g t log =
     first_none (λ x. does_at x (next_at g log x)) (λ x. does_at x (next_at g (Redeclares t ∷ log) x)) (sites g.catalogue.tms g.catalogue.dms)
     (λ x. not_due x (next_at g log x) (next_at g (Redeclares t ∷ log) x) (λ i.
     forced_none g x (base_of g (Redeclares t ∷ log)) (force_at g (suc (redeclares log))) t (local_of g x log)
     (none_any_base g x (base_of g log) (base_of g (Redeclares t ∷ log)) (local_of g x log) i)))
-
-same_part : (x : Site) (t : ℕ) (log : Log) → takes_part x (Redeclares t ∷ log) ≡ takes_part x log
-same_part U t log = refl
-same_part (T n) t log = refl
-same_part (D d) t log = refl
 
 same_hand : (t : ℕ) (log : Log) (l : Site × Site) → hand_on (Redeclares t ∷ log) l ≡ hand_on log l
 same_hand t log l =

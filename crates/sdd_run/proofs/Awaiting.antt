@@ -1,9 +1,6 @@
 -- What a data module tells of a READ that waits is what the run's log says.
-use Rattle.std.proofs.Common.{ℕ, ◌≡◌, ◌∙◌, ap, Option, Some, None}
-use Rattle.sdd_obligations.specs.All.{Cond, IsAwaited, Setting}
-use Rattle.sdd_obligations.specs.dm.Waiting.{waiting_at}
+use Rattle.sdd_run.proofs.All.{Cond, IsAwaited, None, Option, Setting, Some, ap, unmet, waiting_at, ℕ, ◌∙◌, ◌≡◌}
 use Rattle.sdd_obligations.specs.site_module.SiteLog.{Log}
-use Rattle.sdd_world.specs.Pending.{unmet}
 
 pub awaited_is : (s : Setting) (log : Log) (c t : ℕ) (o : Option Cond) → IsAwaited s log c t o → unmet s log (waiting_at c t log) ≡ o
 awaited_is s log c t None h = ap (unmet s log) h

@@ -1,17 +1,7 @@
 -- What a run begins with.
-use Rattle.std.proofs.Common.{ℕ, ◌-◌, ◌≤◌, ◌≡◌, ◌∙◌, sym, ap, arith, List, [], ◌∷◌, ◌++◌, append_assoc}
-use Rattle.std.proofs.lemmas.List.{append-nil}
-use Rattle.std.proofs.lemmas.List.FromFn.{get_or-map-range_with_len}
-use Rattle.sdd_obligations.specs.All.{Catalogue, D, Event, Given, MAX_DMS, MAX_TMS, dm_no, rows_of, with_event}
-use Rattle.sdd_obligations.proofs.net.Lists.{All-at}
-use Rattle.sdd_obligations.specs.protocol.declared.entry.Entry.{Entry}
-use Rattle.sdd_script.specs.All.{IsValid, IsValidTxn}
-use Rattle.sdd_script.specs.declared.workload.Workload.{Workload}
-use Rattle.sdd_world.specs.Schedules.{with_events}
-use Rattle.sdd_world.specs.Standing.{IsSound}
-use Rattle.sdd_lists.specs.InForce.{whole_in}
-use Rattle.sdd_run.specs.Runs.{begun, given_of}
+use Rattle.sdd_run.proofs.All.{All-at, Catalogue, D, Entry, Event, Given, IsValid, IsValidTxn, List, MAX_DMS, MAX_TMS, Workload, [], ap, append-nil, append_assoc, arith, begun, dm_no, get_or-map-range_with_len, given_of, rows_of, sym, whole_in, with_event, with_events, ℕ, ◌++◌, ◌-◌, ◌∙◌, ◌∷◌, ◌≡◌, ◌≤◌}
 use Rattle.sdd_run.proofs.Whole.{same_dms, txns_valid}
+use Rattle.sdd_world.specs.Standing.{IsSound}
 
 -- what is given with the events of a schedule has them behind its own
 pub with_events_is : (g : Given) (es : List Event) → with_events g es ≡ record g { events = g.events ++ es }

@@ -1,19 +1,5 @@
 -- The lists of classes of a workload as they are given: each is an era of the whole catalogue, and has its protocol table.
-use Rattle.std.proofs.Common.{ℕ, zero, suc, ◌≤◌, ◌≡◌, ◌∙◌, List, [], ◌∷◌, Some, ap, arith, inl, inr, length, refl, slice_get, subst, sym}
-use Rattle.std.specs.List.{AllZip}
-use Rattle.std.proofs.lemmas.Bool.{cases_lt}
-use Rattle.std.proofs.lemmas.List.{get_or_past}
-use Rattle.std.proofs.lemmas.Option.{slice_get-get_or}
-use Rattle.std.proofs.lemmas.Slice.Zip.{AllZip-long}
-use Rattle.sdd_obligations.specs.All.{Catalogue, Class, Force, IsEraOf, IsForce, IsTable, force_at}
-use Rattle.sdd_obligations.specs.catalog.Eras.{eras, extended, retired}
-use Rattle.sdd_obligations.proofs.class_eras.EraOfWhole.{era_of_whole}
-use Rattle.sdd_obligations.proofs.class_eras.EraSets.{era_of_itself}
-use Rattle.sdd_lists.specs.InForce.{classes_in, eras_in, whole_in}
-use Rattle.sdd_obligations.specs.protocol.declared.entry.Entry.{Entry}
-use Rattle.sdd_script.specs.declared.workload.Workload.{Workload}
-use Rattle.sdd_obligations.specs.Reading.{HasEras}
-use Rattle.sdd_run.specs.Runs.{AreTables, forces_of, given_of}
+use Rattle.sdd_run.proofs.All.{AllZip, AllZip-long, AreTables, Catalogue, Class, Entry, Force, HasEras, IsEraOf, IsForce, IsTable, List, Some, Workload, [], ap, arith, cases_lt, classes_in, era_of_itself, era_of_whole, eras, eras_in, extended, force_at, forces_of, get_or_past, given_of, inl, inr, length, refl, retired, slice_get, slice_get-get_or, subst, suc, sym, whole_in, zero, ℕ, ◌∙◌, ◌∷◌, ◌≡◌, ◌≤◌}
 
 -- as many as catalogues, that is one more than lists
 

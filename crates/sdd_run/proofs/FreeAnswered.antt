@@ -1,16 +1,6 @@
 -- A READ of a free class is answered in the event in which it is handed over.
-use Rattle.std.proofs.Common.{ℕ, ◌++◌, ◌≡◌, ◌≤◌, ◌∙◌, ◌∷◌, List, [], ap, append_assoc, arith, false, inl, inr, length, refl, subst, sym, true}
-use Rattle.std.specs.Prelude.{◌⊎◌}
-use Rattle.sdd_obligations.specs.All.{Answer, AreSubmittedOnce, ClassNo, Cond, D, DmNo, Does, Entry, Given, Hand, IsLawful, IsPermitted, IsSound, IsTheLog, Log, Mark, Msg, Notes, Read, Rec, Records, Redeclares, Round, Site, Stands, Submitted, Ts, TxnNo, Use, event_at, history, marks}
-use Rattle.sdd_obligations.proofs.logs.NewMarks.{lawful_permitted}
-use Rattle.sdd_obligations.proofs.invariants.Made.{permitted_before}
-use Rattle.sdd_progress.proofs.lawful.Makers.{act_kind}
-use Rattle.sdd_progress.proofs.lawful.Places.{event_there, stands_there}
-use Rattle.sdd_progress.proofs.read_waits.EventOver.{over_at_end, over_before}
-use Rattle.sdd_progress.proofs.read_waits.OfLawful.{answered_by_end}
-use Rattle.sdd_progress.specs.read_waits.Answers.{EndsAnEvent, IsAnsweredIn, IsEventOver, begins_event}
-use Rattle.sdd_progress.specs.read_waits.Free.{IsFreeClass}
-use Rattle.sdd_run.specs.Free.{IsAnsweredWithin}
+use Rattle.sdd_run.proofs.All.{Answer, AreSubmittedOnce, ClassNo, Cond, D, DmNo, Does, EndsAnEvent, Given, Hand, IsAnsweredIn, IsAnsweredWithin, IsEventOver, IsFreeClass, IsLawful, IsPermitted, IsSound, IsTheLog, List, Log, Mark, Msg, Notes, Read, Rec, Records, Redeclares, Round, Site, Stands, Submitted, Ts, TxnNo, Use, [], act_kind, answered_by_end, ap, append_assoc, arith, begins_event, event_at, event_there, false, history, inl, inr, lawful_end, lawful_permitted, length, marks, marks_later, over_at_end, over_before, permitted_before, refl, stands_there, subst, sym, true, ℕ, ◌++◌, ◌∙◌, ◌∷◌, ◌≡◌, ◌≤◌, ◌⊎◌}
+use Rattle.sdd_obligations.specs.All.{Entry}
 
 -- the entries behind a place, till the event there is over
 
@@ -48,20 +38,6 @@ till_over g after rest h over = elim (till g after rest h) [
   | inl same ↦ record { front = []; within = after; is = refl; over = over; same = same }
   | inr x ↦ x
 ]
-
-pub lawful_end : (g : Given) (front log : Log) → IsLawful g (front ++ log) → IsLawful g log
-lawful_end g [] log h = h
-lawful_end g (e ∷ front) log h = lawful_end g front log h.1
-
-marks_later : (later log : Log) → marks log ≤ marks (later ++ log)
-marks_later [] log = omega arith
-marks_later (Mark e ∷ later) log = let h = marks_later later log in omega (arith, h)
-marks_later (Round es ∷ later) log = marks_later later log
-marks_later (Redeclares t ∷ later) log = let h = marks_later later log in omega (arith, h)
-marks_later (Hand a b k m ∷ later) log = marks_later later log
-marks_later (Submitted a k ∷ later) log = marks_later later log
-marks_later (Notes ∷ later) log = marks_later later log
-marks_later (Does a act ∷ later) log = marks_later later log
 
 -- an Answer of a permitted log is one of the module where it stands
 answer_at : (g : Given) (c : ℕ) (d dm : DmNo) (txn : TxnNo) (attempt : ℕ) (sends : List (Site × Msg)) (log : Log)

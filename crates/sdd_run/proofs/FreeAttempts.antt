@@ -1,19 +1,7 @@
 -- An attempt of a free class neither waits nor is rejected.
-use Rattle.std.proofs.Common.{ℕ, ◌++◌, ◌≡◌, ◌∙◌, ◌∷◌, List, Some, ap, refl, subst, sym}
-use Rattle.sdd_obligations.specs.All.{Act, ClassNo, Cond, D, DmNo, Does, Entry, Eras, Given, IsAttempt, IsPermitted, KeepsStarts, Log, Msg, Read, Rec, Records, Reject, Setting, Site, Stands, Ts, TxnNo, Use, Wait, class_no, dm_no, head, history, local_of, pipe_at, setting_of, time_at, txn_no}
+use Rattle.sdd_run.proofs.All.{Act, Attempt, ClassNo, Cond, D, DmNo, Does, Eras, Given, IsAttempt, IsDataIn, IsFreeClass, IsPermitted, IsRejectOf, IsUndisturbed, IsWaitOf, KeepsStarts, List, Log, Msg, Read, Rec, Records, Reject, Setting, Site, Some, Stands, Ts, TxnNo, Use, Wait, allowed_act, ap, class_no, data_in, dm_no, head, history, local_of, never_rejected, never_waits, one_class, pipe_at, read_of_some, refl, rejected, setting_of, subst, sym, time_at, txn_no, wait_due, ℕ, ◌++◌, ◌∙◌, ◌∷◌, ◌≡◌}
+use Rattle.sdd_obligations.specs.All.{Entry}
 use Rattle.sdd_obligations.specs.site_module.SiteLog as site
-use Rattle.sdd_obligations.proofs.logs.EachLocal.{allowed_act}
-use Rattle.sdd_obligations.specs.serial_orders.Attempts.{Attempt}
-use Rattle.sdd_progress.proofs.Writers.{one_class}
-use Rattle.sdd_progress.proofs.lawful.Answered.{read_of_some}
-use Rattle.sdd_progress.proofs.lawful.Applied.{IsDataIn, data_in}
-use Rattle.sdd_progress.proofs.read_waits.FreeClasses.{never_rejected, never_waits}
-use Rattle.sdd_progress.proofs.read_waits.Rejected.{rejected}
-use Rattle.sdd_progress.proofs.read_waits.Waited.{wait_due}
-use Rattle.sdd_progress.specs.read_waits.Free.{IsFreeClass}
-use Rattle.sdd_progress.specs.read_waits.Rejections.{IsRejectOf}
-use Rattle.sdd_progress.specs.read_waits.Waited.{IsWaitOf}
-use Rattle.sdd_run.specs.Free.{IsUndisturbed}
 
 wait_names : (c k : ℕ) (n m : TxnNo) (i j : ℕ) (d e : DmNo) (qs rs : List Cond) (s t : List (Site × Msg))
     → Records c (Wait n i d qs) s ≡ Records k (Wait m j e rs) t → (n ≡ m) × (i ≡ j)

@@ -1,25 +1,10 @@
 -- What is given by a valid workload is what the modules' facts ask for, with each part of its schedule.
-use Rattle.std.proofs.Common.{ℕ, zero, suc, pos, negsuc, ◌-◌, ◌^◌, ◌≤◌, ◌≡◌, ◌⊎◌, inl, inr, true, List, [], ◌∷◌, ◌++◌, length, map, refl, sym, subst, arith, le-leb}
-use Rattle.std.specs.Prelude.{nat_le, slice_index_or}
-use Rattle.std.specs.List.{All}
-use Rattle.std.proofs.lemmas.List.Elements.{All-cons, All-head, All-nil, All-tail, All-weaker}
-use Rattle.sdd_obligations.specs.All.{AllFewTicks, Catalogue, Delete, Deliver, Down, Event, FitsGiven, FitsStart, IsDatabase, IsGood, IsHeld, IsSound, Lose, Put, PutsHeld, Query, Redeclare, RelNo, Repeat, Resend, Row, Settle, Stmt, Submit, Tick, Up, Update, database_of, numbers_to}
-use Rattle.sdd_obligations.specs.base.declared.limits.TheConstants.{MAX_TICKS}
-use Rattle.sdd_obligations.specs.base.declared.value.Value.{Value}
-use Rattle.sdd_obligations.specs.base.declared.value.Value.TheVariants as values
-use Rattle.std.proofs.lemmas.Bool.{and_from as and_both}
-use Rattle.sdd_obligations.proofs.lang.StaysDatabase.{no_database, rows_make_database}
-use Rattle.sdd_obligations.proofs.net.Lists.{All-at}
-use Rattle.sdd_obligations.specs.protocol.declared.entry.Entry.{Entry}
-use Rattle.sdd_script.specs.All.{HoldsValues, IsValid, IsValidEvent, IsValidRow, IsValidTxn, IsValue}
-use Rattle.sdd_script.specs.declared.workload.Workload.{Workload}
-use Rattle.sdd_obligations.specs.Heights.{ticks_of}
-use Rattle.sdd_lists.specs.InForce.{whole_in}
-use Rattle.sdd_run.specs.Runs.{AreTables, begun}
+use Rattle.sdd_run.proofs.All.{All, All-at, All-cons, All-head, All-nil, All-tail, All-weaker, AllFewTicks, AreTables, Catalogue, Delete, Deliver, Down, Entry, Event, FitsGiven, FitsStart, HoldsValues, IsDatabase, IsGood, IsHeld, IsSound, IsValid, IsValidEvent, IsValidRow, IsValidTxn, IsValue, List, Lose, MAX_TICKS, Put, PutsHeld, Query, Redeclare, RelNo, Repeat, Resend, Row, Settle, Stmt, Submit, Tick, Up, Update, Value, Workload, [], arith, begun, both as and_both, database_of, get_or as slice_index_or, inl, inr, le-leb, length, map, nat_le, negsuc, no_database, numbers_to, pos, refl, rows_make_database, subst, suc, sym, ticks_of, true, whole_in, zero, ℕ, ◌++◌, ◌-◌, ◌^◌, ◌∷◌, ◌≡◌, ◌≤◌, ◌⊎◌}
 use Rattle.sdd_run.proofs.Allowed.{IsGoodAlong}
 use Rattle.sdd_run.proofs.Forces.{has_eras}
 use Rattle.sdd_run.proofs.Submissions.{once, once_before}
 use Rattle.sdd_run.proofs.Whole.{events_valid, rows_valid, txns_valid}
+use Rattle.sdd_obligations.specs.base.declared.value.Value.TheVariants as values
 
 -- values are numbers of 64 bits, or texts
 pub held : (v : Value) → IsValue v → IsHeld v
@@ -60,8 +45,7 @@ pub few_ticks : (cat : Catalogue) (count : ℕ) (es : List Event) → All (IsVal
 few_ticks cat count [] h = tt
 few_ticks cat count (e ∷ es) h = (
   one_tick cat count e (All-head (IsValidEvent cat count) e es h),
-  few_ticks
-      cat count es (All-tail (IsValidEvent cat count) e es h),
+  few_ticks cat count es (All-tail (IsValidEvent cat count) e es h),
 )
 
 fronts : (cat : Catalogue) (count : ℕ) (xs ys : List Event) → All (IsValidEvent cat count) (xs ++ ys) → All (IsValidEvent cat count) xs

@@ -1,13 +1,5 @@
 -- Of two committed transactions of one class the one that was submitted first stands first in a serial order.
-use Rattle.std.proofs.Common.{◌<◌, ◌≡◌, ◌≢◌, ◌∙◌, ◌&&◌, ◌||◌, inl, inr, true, List, [], ◌∷◌, ap, arith, sym, subst}
-use Rattle.std.specs.Prelude.{Contains, nat_lt, not}
-use Rattle.std.proofs.lemmas.Bool.{cases_eq, cases_lt, eq-eqb, false≢true, lt-ltb, ne_eqb}
-use Rattle.sdd_obligations.specs.All.{Catalogue, Committed, Eras, History, IsCommitted, IsSerial, IsSubmitted, KeepsStarts, Txn, TxnNo, txn_no}
-use Rattle.sdd_obligations.proofs.base.Membership.{Contains-cases, Contains-nil}
-use Rattle.sdd_obligations.specs.serial_orders.Orders.{IsAlong}
-use Rattle.sdd_obligations.specs.serial_orders.Precedence.{is_earlier, is_overwritten, is_read_by, misses, precedes}
-use Rattle.sdd_obligations.proofs.serial_orders.Places.{same_start}
-use Rattle.sdd_run.specs.Standing.{IsSubmittedBefore, StandsBefore}
+use Rattle.sdd_run.proofs.All.{Catalogue, Committed, Contains, Contains-cases, Contains-nil, Eras, History, IsAlong, IsCommitted, IsSerial, IsSubmitted, IsSubmittedBefore, KeepsStarts, List, StandsBefore, Txn, TxnNo, [], ap, arith, cases_eq, cases_lt, eq-eqb, false≢true, inl, inr, is_earlier, is_overwritten, is_read_by, lt-ltb, misses, nat_lt, ne_eqb, not, precedes, same_start, subst, sym, true, txn_no, ◌&&◌, ◌<◌, ◌||◌, ◌∙◌, ◌∷◌, ◌≡◌, ◌≢◌}
 
 -- one that precedes another stands before it
 module _ (cat : Catalogue) (h : History) (x y : Committed) (first : IsCommitted h x) (second : IsCommitted h y) (precedes_it : precedes cat h x y ≡ true)

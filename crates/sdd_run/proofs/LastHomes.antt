@@ -1,22 +1,8 @@
 -- A transaction that is pending when a run ends was submitted under the list of classes that is in force then: all that
 -- was submitted under an earlier one is committed. So it is looked for at the site of its class by that list.
-use Rattle.std.proofs.Common.{ℕ, suc, ◌+◌, ◌==◌, ◌++◌, ◌≡◌, ◌∙◌, ◌∷◌, Bool, false, true, if◌then◌else◌, inl, inr, List, [], Option, Some, None, ap, append_assoc, arith, length, refl, slice_get, subst, sym}
-use Rattle.std.specs.Prelude.{filter_map, option_map}
-use Rattle.std.specs.List.{cons_option, list_any}
-use Rattle.std.proofs.lemmas.Bool.{eqb-true}
-use Rattle.std.proofs.lemmas.List.{length-append}
-use Rattle.sdd_obligations.specs.All.{Answer, Apply, Arrive, Commit, Does, Given, Hand, IsPermitted, IsSubmitted, Log, Mark, Notes, Nothing, Pass, Rec, Redeclares, Reject, Round, Site, Start, Submitted, TxnNo, Wait, force_at, history, redeclares, txn_at, txn_no}
-use Rattle.sdd_obligations.specs.history.declared.record.Rec.TheVariants.{Submit}
-use Rattle.sdd_obligations.proofs.invariants.Bools.{not_both, same_number}
-use Rattle.sdd_obligations.proofs.invariants.Made.{permitted_before}
-use Rattle.sdd_obligations.specs.logs.Due.{home_of}
-use Rattle.sdd_progress.proofs.lawful.Places.{stands_there}
-use Rattle.sdd_progress.proofs.lawful.Submissions.{given_at, one_submit, submit_in}
-use Rattle.sdd_progress.proofs.AtRest.{commit_there, rest}
-use Rattle.sdd_progress.proofs.Fronts.{history_le, redeclare_between, stands_front}
-use Rattle.sdd_progress.proofs.Known.{Known}
-use Rattle.sdd_world.specs.Pending.{AreAtLastHomes, Homes, Telling, commits, last_home, pending_as, pending_at, pending_by, pending_of, reason_of, stands_at, submitted_at, why_of}
+use Rattle.sdd_run.proofs.All.{Answer, Apply, AreAtLastHomes, Arrive, Bool, Commit, Does, Given, Hand, Homes, IsPermitted, IsSubmitted, Known, List, Log, Mark, None, Notes, Nothing, Option, Pass, Rec, Redeclares, Reject, Round, Site, Some, Start, Submitted, Telling, TxnNo, Wait, [], ap, append_assoc, arith, commit_there, commits, cons_option, eqb-true, false, filter_map, force_at, given_at, history, history_le, home_of, if◌then◌else◌, inl, inr, last_home, length, length-append, list_any, not_both, one_submit, option_map, pending_as, pending_at, pending_by, pending_of, permitted_before, reason_of, redeclare_between, redeclares, refl, rest, same_number, slice_get, stands_at, stands_front, stands_there, submit_in, submitted_at, subst, suc, sym, true, txn_at, txn_no, why_of, ℕ, ◌++◌, ◌+◌, ◌==◌, ◌∙◌, ◌∷◌, ◌≡◌}
 use Rattle.sdd_run.proofs.Lossless.{commits_it}
+use Rattle.sdd_obligations.specs.history.declared.record.Rec.TheVariants.{Submit}
 
 -- the site that a log tells is that of the one place where it submits the transaction
 
@@ -42,7 +28,8 @@ at_submit (Notes ∷ later) rest at n none =
 at_submit (Does by act ∷ later) rest at n none =
     at_submit later rest at n (λ front after other is. none (Does by act ∷ front) after other (ap (λ l. Does by act ∷ l) is))
 
-pub submitted_there : (g : Given) (log later rest : Log) (at : Site) (n : ℕ) → IsPermitted g log → log ≡ later ++ Submitted at n ∷ rest → submitted_at log n ≡ at
+pub submitted_there : (g : Given) (log later rest : Log) (at : Site) (n : ℕ) → IsPermitted g log → log ≡ later ++ Submitted at n ∷ rest
+    → submitted_at log n ≡ at
 submitted_there g log later rest at n h is =
     let here : IsSubmitted (history log) n (length (history rest)) =
     subst (λ l. IsSubmitted (history l) n (length (history rest))) (sym is) (stands_there later (Submitted at n) rest (Submit (txn_no n)) refl) in

@@ -1,27 +1,6 @@
 -- A copy at which all is applied that changed its fragment has the rows that one plain database is left with.
-use Rattle.std.proofs.Common.{ℕ, suc, ◌-◌, ◌≡◌, ◌∙◌, true, List, [], ◌∷◌, ◌++◌, Option, Some, None, ap, arith, filter, filter_map, length, map, refl, subst, sym, take}
-use Rattle.std.specs.Prelude.{Contains, is_none}
-use Rattle.std.specs.List.{cons_option, flat_map, list_any}
-use Rattle.std.proofs.Math.Seq.{take-append_seam}
-use Rattle.std.proofs.lemmas.List.{take_all}
-use Rattle.std.proofs.lemmas.Option.{slice_get_past}
-use Rattle.sdd_obligations.specs.All.{AreAllApplied, Catalogue, Committed, D, Event, FragNo, Given, History, IsPermitted, IsSerial, IsSound, Log, Lose, Mark, Notes, Nothing, Rec, RelNo, Row, TxnNo, U, attempt_of, attempts, by_event, by_mark, committed, committed_of, contents, dated, dm_no, due_by, has_copy, history, is_apply, link_of, local_of, note_if, numbers_to, placed, run, setting_of}
-use Rattle.sdd_obligations.proofs.catalog.Found.{map-map}
-use Rattle.sdd_obligations.proofs.laws.Members.{Contains-from_filter, Contains-from_flat_map, Contains-from_map}
-use Rattle.sdd_obligations.specs.copy.Contents.{Dated}
-use Rattle.sdd_obligations.specs.lang.Database.{Item}
-use Rattle.sdd_obligations.specs.laws.Copied.{AreAppliedAlike}
-use Rattle.sdd_obligations.proofs.laws.SameCopies.{equal_copies}
+use Rattle.sdd_run.proofs.All.{AreAllApplied, AreAppliedAlike, Catalogue, Committed, Contains, Contains-from_filter, Contains-from_flat_map, Contains-from_map, CopyTable, D, Dated, Event, FragNo, Given, HasSoundData, HasSoundLists, History, IsMadeAt, IsPermitted, IsSerial, IsSound, Item, List, Log, Lose, Mark, None, Notes, Nothing, Option, Rec, RelNo, Row, Some, TxnNo, U, [], ap, are_eras_of, arith, attempt_of, attempts, by_event, by_mark, committed, committed_of, cons_option, contents, dated, dm_no, due_by, equal_copies, eras_of, filter, filter_map, flat_map, has_copy, history, is_apply, is_none, left_in_copies, length, link_of, list_any, local_of, map, map-map, note_if, numbers_to, placed, refl, rows_left, run, same_copy, setting_of, slice_get_past, subst, suc, sym, table_of, tables_at, tables_of, take, take-append_seam, take_all, true, ℕ, ◌++◌, ◌-◌, ◌∙◌, ◌∷◌, ◌≡◌}
 use Rattle.sdd_obligations.specs.laws.Snapshots as laws
-use Rattle.sdd_report.specs.declared.copies.CopyTable.{CopyTable}
-use Rattle.sdd_progress.specs.lawful.Given.{HasSoundData}
-use Rattle.sdd_progress.specs.lawful.Made.{IsMadeAt}
-use Rattle.sdd_progress.proofs.lawful.SameCopies.{same_copy}
-use Rattle.sdd_progress.proofs.lawful.Together.{copies as left_in_copies}
-use Rattle.sdd_progress.proofs.ErasOf.{are_eras_of}
-use Rattle.sdd_progress.specs.Eras.{eras_of}
-use Rattle.sdd_progress.specs.Premises.{HasSoundLists}
-use Rattle.sdd_world.specs.Copies.{rows_left, table_of, tables_at, tables_of}
 
 -- The copies at the end of a log are those before a record behind it: that of an event which finds nothing to do, as one
 -- that loses a packet which isn't there.

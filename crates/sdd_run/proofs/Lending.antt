@@ -1,13 +1,5 @@
 -- The lists of classes as they are lent to a world: one more, and all of them.
-use Rattle.std.proofs.Common.{ℕ, suc, zero, ◌+◌, ◌-◌, ◌++◌, ◌<◌, ◌≤◌, ◌≡◌, ◌∙◌, ◌∷◌, List, Some, [], ap, arith, get_or, length, map, refl, slice_get, subst, sym, take}
-use Rattle.std.specs.List.{AllZip}
-use Rattle.std.proofs.lemmas.List.{map-append, take_all, take_more}
-use Rattle.sdd_obligations.specs.base.Words.{tail_of}
-use Rattle.sdd_obligations.specs.All.{Catalogue, Force, IsTable}
-use Rattle.sdd_obligations.specs.protocol.declared.entry.Entry.{Entry}
-use Rattle.sdd_world.specs.declared.schedule.ClassList.{ClassList}
-use Rattle.sdd_run.specs.Lent.{force_in}
-use Rattle.sdd_run.specs.Runs.{forces_of}
+use Rattle.sdd_run.proofs.All.{AllZip, Catalogue, ClassList, Entry, Force, IsTable, List, Some, [], ap, arith, force_in, forces_of, get_or, length, map, map-append, refl, slice_get, subst, suc, sym, tail_of, take, take_all, take_more, zero, ℕ, ◌++◌, ◌+◌, ◌-◌, ◌<◌, ◌∙◌, ◌∷◌, ◌≡◌, ◌≤◌}
 
 -- one protocol table more
 

@@ -1,3 +1,4 @@
+mod All
 pub mod Allowed
 pub mod AtRest
 pub mod Forces

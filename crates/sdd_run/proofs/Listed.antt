@@ -1,35 +1,11 @@
 -- Each transaction that was submitted and isn't committed is listed as pending.
-use Rattle.std.proofs.Common.{ℕ, suc, zero, ◌-◌, ◌==◌, ◌∙◌, ◌∷◌, ◌≡◌, Bool, List, None, Option, Some, [], ap, false, if◌then◌else◌, inl, inr, map, not, refl, slice_get, subst, sym, true}
-use Rattle.std.specs.Prelude.{◌⊎◌, filter_map, is_some, position}
-use Rattle.std.specs.List.{cons_option, list_any}
-use Rattle.std.proofs.lemmas.Bool.{eqb-true}
-use Rattle.sdd_obligations.specs.All.{Answer, Apply, Arrive, Attempt, ClassState, Commit, Given, History, IsClass, IsClassOf, IsPermitted, IsSubmitted, Log, Nothing, Pass, Queued, Rec, Reject, Site, Standing, Stands, Start, T, U, Wait, active, class_at, history, home, local_of, queue, runs, setting_of, standing_among, standing_in, tm_no, txn_no}
-use Rattle.sdd_obligations.specs.history.declared.record.Rec.TheVariants.{Submit}
-use Rattle.sdd_script.proofs.WordCuts.{NonePasses}
-use Rattle.sdd_script.proofs.NamePlaces.{none_found}
-use Rattle.sdd_obligations.specs.attempt.Lines.{Line}
-use Rattle.sdd_obligations.specs.attempt.Standings.{or_standing, queued_at, standing_by, standing_of, underway, waiting}
-use Rattle.sdd_obligations.specs.attempt.declared.standing.Standing.TheVariants as standings
-use Rattle.sdd_obligations.specs.tm.State.{class_of}
-use Rattle.sdd_obligations.specs.umod.Standing.{first_underway, is_awaiting_helds, lacking_site}
-use Rattle.sdd_obligations.specs.umod.State as um
-use Rattle.sdd_obligations.proofs.invariants.Bools.{same_number, same_or_not}
-use Rattle.sdd_world.specs.AtSites.{standing_at}
-use Rattle.sdd_world.specs.Standings.{standing_at_t, standing_at_u}
-use Rattle.sdd_progress.specs.lawful.Given.{AreNumbered}
-use Rattle.sdd_progress.proofs.lawful.Beginnings.{at_map}
-use Rattle.sdd_progress.proofs.lawful.Classes.{at_home, home_setting}
-use Rattle.sdd_progress.proofs.lawful.Homes.{positive}
-use Rattle.sdd_progress.proofs.read_waits.ClassSites.{in_runs}
-use Rattle.sdd_progress.proofs.Committed.{IsQueued, committed_or_queued}
-use Rattle.sdd_progress.proofs.Lists.{either, kept_there}
-use Rattle.sdd_progress.specs.Committed.{WasCommitted}
-use Rattle.sdd_progress.specs.Premises.{HasSoundLists}
-use Rattle.sdd_report.specs.declared.pending.Pending.{Pending}
-use Rattle.sdd_report.specs.declared.pending.Why.{Why}
-use Rattle.sdd_report.specs.declared.pending.Why.TheVariants as reasons
-use Rattle.sdd_world.specs.Pending.{IsListed, commits, pending_as, pending_by, pending_of, reason_of, submitted_at, why_of}
+use Rattle.sdd_run.proofs.All.{Answer, Apply, AreNumbered, Arrive, Bool, ClassState, Commit, Given, HasSoundLists, History, IsClass, IsClassOf, IsListed, IsPermitted, IsQueued, IsSubmitted, Line, List, Log, None, NonePasses, Nothing, Option, Pass, Pending, Queued, Rec, Reject, Site, Some, Standing, Stands, Start, T, U, Wait, WasCommitted, Why, [], active, ap, at_home, at_map, class_at, class_of, commits, committed_or_queued, cons_option, either, eqb-true, false, filter_map, first_underway, history, home, home_setting, if◌then◌else◌, in_runs, inl, inr, is_awaiting_helds, is_some, kept_there, lacking_site, list_any, local_of, map, none_found, not, or_standing, pending_as, pending_by, pending_of, position, positive, queue, queued_at, reason_of, refl, runs, same_number, same_or_not, setting_of, slice_get, standing_among, standing_at, standing_at_t, standing_at_u, standing_by, standing_in, standing_of, submitted_at, subst, suc, sym, tm_no, true, txn_no, underway, waiting, why_of, zero, ℕ, ◌-◌, ◌==◌, ◌∙◌, ◌∷◌, ◌≡◌, ◌⊎◌}
 use Rattle.sdd_run.proofs.LastHomes.{submitted_there}
+use Rattle.sdd_obligations.specs.All.{Attempt}
+use Rattle.sdd_obligations.specs.history.declared.record.Rec.TheVariants.{Submit}
+use Rattle.sdd_obligations.specs.attempt.declared.standing.Standing.TheVariants as standings
+use Rattle.sdd_obligations.specs.umod.State as um
+use Rattle.sdd_report.specs.declared.pending.Why.TheVariants as reasons
 
 -- what a queue has stands at some place of it
 
@@ -131,7 +107,8 @@ here_t g log c n j q class there is =
     among_here (map (λ (k : ClassState). k.line) (map (class_of s l) (runs s))) n r.0 (class_of s l c).line there_line
     (line_here c (queue s c l) (active s c l) n j q there is)
 
-here_at : (g : Given) (log : Log) (c n j : ℕ) (q : Queued) → IsClass g.catalogue c → slice_get (queue (home_setting g c) c (at_home g c log)) j ≡ Some q → q.number ≡ n
+here_at : (g : Given) (log : Log) (c n j : ℕ) (q : Queued) → IsClass g.catalogue c → slice_get (queue (home_setting g c) c (at_home g c log)) j ≡ Some q
+    → q.number ≡ n
     → IsHere (standing_at standing_at_u standing_at_t (home g.catalogue c) (home_setting g c) (at_home g c log) n)
 here_at g log c n j q within there is =
     elim (c == 0)
@@ -189,7 +166,8 @@ was_committed ((event, Apply txn class dm ts) ∷ h) n e = later_commit (event, 
 was_committed ((event, Pass class dm time) ∷ h) n e = later_commit (event, Pass class dm time) h n (was_committed h n e)
 was_committed ((event, Nothing) ∷ h) n e = later_commit (event, Nothing) h n (was_committed h n e)
 
-listed_at : (f : ℕ × Rec → Option Pending) (h : History) (n k : ℕ) (one : Pending) → Stands h k (Submit (txn_no n)) → ((event : ℕ) → f (event, Submit (txn_no n)) ≡ Some one)
+listed_at : (f : ℕ × Rec → Option Pending) (h : History) (n k : ℕ) (one : Pending) → Stands h k (Submit (txn_no n))
+    → ((event : ℕ) → f (event, Submit (txn_no n)) ≡ Some one)
     → (j : ℕ) × (slice_get (filter_map f h) j ≡ Some one)
 listed_at f [] n k one e h = cc
 listed_at f ((event, r) ∷ rest) n zero one e h =
@@ -211,9 +189,11 @@ each_listed g log permitted lists numbered n k submitted =
             let w = reason_here g log n permitted x in
             let left : Pending = record { txn = txn_no n; why = w.0 } in
             let reason = w.1 in
-            let is : (event : ℕ) → pending_by (standing_at standing_at_u standing_at_t) (submitted_at log) g log (history log) (event, Submit (txn_no n)) ≡ Some left =
+            let is : (event : ℕ) → pending_by (standing_at standing_at_u standing_at_t) (submitted_at log) g log (history log)
+            (event, Submit (txn_no n)) ≡ Some left =
             λ event. rw e (ap (pending_as (txn_no n)) reason) in
-            let i = listed_at (pending_by (standing_at standing_at_u standing_at_t) (submitted_at log) g log (history log)) (history log) n k left submitted is in
+            let i = listed_at (pending_by (standing_at standing_at_u standing_at_t) (submitted_at log) g log (history log))
+            (history log) n k left submitted is in
             inr (record { place = i.0; one = left; there = i.1; txn_is = refl })
       ]
     ] refl

@@ -1,18 +1,7 @@
 -- Each transaction that was submitted stands in the order once, or is listed as pending once.
-use Rattle.std.proofs.Common.{ℕ, suc, zero, ◌+◌, ◌≡◌, ◌≢◌, ◌∙◌, ◌∷◌, List, None, Option, Some, [], ap, arith, cond, false, if◌then◌else◌, inl, inr, map, refl, slice_get, subst, sym, true}
-use Rattle.std.specs.Prelude.{◌⊎◌, filter_map, option_map}
-use Rattle.std.specs.List.{cons_option, list_any}
-use Rattle.std.proofs.lemmas.Bool.{eq-eqb, ne_eqb}
-use Rattle.sdd_obligations.specs.All.{Answer, Apply, Arrive, Catalogue, Commit, Committed, Given, History, IsCommitted, IsSerial, IsSubmitted, Log, Nothing, Pass, Rec, Reject, Stands, Start, TxnNo, Wait, history, txn_no}
-use Rattle.sdd_obligations.specs.history.declared.record.Rec.TheVariants.{Submit}
-use Rattle.sdd_obligations.proofs.invariants.Bools.{not_both, same_number}
-use Rattle.sdd_report.specs.declared.pending.Pending.{Pending}
-use Rattle.sdd_report.specs.declared.pending.Why.{Why}
-use Rattle.sdd_progress.proofs.Committed.{any_commit}
-use Rattle.sdd_progress.specs.Committed.{WasCommitted}
-use Rattle.sdd_world.specs.Pending.{Homes, IsListed, Telling, commits, pending_as, pending_by, pending_of, reason_of, submitted_at}
-use Rattle.sdd_run.specs.Standing.{times_in, times_pending}
+use Rattle.sdd_run.proofs.All.{Answer, Apply, Arrive, Catalogue, Commit, Committed, Given, History, Homes, IsCommitted, IsListed, IsSerial, IsSubmitted, List, Log, None, Nothing, Option, Pass, Pending, Rec, Reject, Some, Stands, Start, Telling, TxnNo, Wait, WasCommitted, Why, [], any_commit, ap, arith, commits, cond, cons_option, eq-eqb, false, filter_map, history, if◌then◌else◌, inl, inr, list_any, map, ne_eqb, not_both, option_map, pending_as, pending_by, pending_of, reason_of, refl, same_number, slice_get, submitted_at, subst, suc, sym, times_in, times_pending, true, txn_no, zero, ℕ, ◌+◌, ◌∙◌, ◌∷◌, ◌≡◌, ◌≢◌, ◌⊎◌}
 use Rattle.sdd_run.proofs.Once.{none_there, times_more}
+use Rattle.sdd_obligations.specs.history.declared.record.Rec.TheVariants.{Submit}
 
 -- how often what is chosen of a history names a transaction
 
@@ -161,8 +150,7 @@ module _ (tell : Telling) (g : Given) (log : Log) where
       → ((n j k : ℕ) → IsSubmitted (history log) n j → IsSubmitted (history log) n k → j ≡ k)
       → (n : ℕ) → WasCommitted (history log) n ⊎ IsListed (pending_of tell g log) n
       → times_in n order + times_pending n (pending_of tell g log) ≡ 1
-  in_one cat order serial in_order one n (inl w) =
-      let a = in_order n w in let b = not_listed n w in omega (arith, a, b)
+  in_one cat order serial in_order one n (inl w) = let a = in_order n w in let b = not_listed n w in omega (arith, a, b)
   in_one cat order serial in_order one n (inr x) =
       let l = listed_once one n x in
       let a : times_in n order ≡ 0 =

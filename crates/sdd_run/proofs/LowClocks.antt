@@ -1,24 +1,8 @@
 -- The clocks of a run stay low: its events are few, and so are its attempts.
-use Rattle.std.proofs.Common.{List, subst}
-use Rattle.sdd_obligations.proofs.catalog.Sound.{sound_whole}
-use Rattle.sdd_obligations.specs.All.{Catalogue, Given, IsLawful, IsSound, Log}
-use Rattle.sdd_obligations.proofs.LowClocks.{clock_low}
-use Rattle.sdd_obligations.specs.Bounds.{IsSmall}
-use Rattle.sdd_lists.specs.InForce.{whole_in}
-use Rattle.sdd_obligations.proofs.logs.NewMarks.{lawful_permitted}
-use Rattle.sdd_obligations.specs.protocol.declared.entry.Entry.{Entry}
-use Rattle.sdd_progress.proofs.OfLogs.{few_in_limit}
-use Rattle.sdd_progress.proofs.ErasOf.{are_eras_of}
-use Rattle.sdd_progress.specs.Eras.{eras_of}
-use Rattle.sdd_run.proofs.FreeAnswered.{lawful_end}
+use Rattle.sdd_run.proofs.All.{AreTables, Catalogue, Entry, Given, HasLowClocks, IsLawful, IsSmall, IsSound, IsValid, List, Log, Workload, are_eras_of, clock_low, eras_of, few_in_limit, given_of, lawful_end, lawful_numbered, lawful_permitted, sound_whole, subst, whole_in}
 use Rattle.sdd_run.proofs.Goods.{few_ticks}
 use Rattle.sdd_run.proofs.RunOf.{fine, lawful_lists, submit_given}
 use Rattle.sdd_run.proofs.Whole.{events_valid}
-use Rattle.sdd_run.specs.Clocks.{HasLowClocks}
-use Rattle.sdd_run.specs.Runs.{AreTables, given_of}
-use Rattle.sdd_script.specs.All.{IsValid}
-use Rattle.sdd_script.specs.declared.workload.Workload.{Workload}
-use Rattle.sdd_progress.proofs.lawful.Numbered.{lawful_numbered}
 
 pub low_clocks : (cat : Catalogue) (tables : List (List Entry)) (work : Workload) → IsSound (whole_in cat work) → IsValid cat work
     → AreTables cat work tables → (log : Log) → IsLawful (given_of cat tables work) log → HasLowClocks (given_of cat tables work) log

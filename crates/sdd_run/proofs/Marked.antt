@@ -1,13 +1,5 @@
 -- The marks of a lawful log submit transactions that the schedule names.
-use Rattle.std.proofs.Common.{ℕ, ◌+◌, ◌≤◌, ◌≡◌, ◌==◌, Bool, true, false, List, [], ◌∷◌, ◌++◌, length, refl, sym, ap, subst, arith}
-use Rattle.std.specs.List.{All}
-use Rattle.std.proofs.lemmas.Bool.{eq-eqb, eqb-true}
-use Rattle.std.proofs.lemmas.List.Elements.{All-head, All-tail}
-use Rattle.sdd_obligations.specs.All.{Catalogue, Deliver, Does, Down, Event, Given, Hand, IsLawful, Log, Lose, Mark, Notes, Redeclare, Redeclares, Repeat, Resend, Round, Settle, Submit, Submitted, Tick, TxnNo, Up, one_if, submits_in}
-use Rattle.sdd_obligations.specs.lang.Fits.{IsFrom1To}
-use Rattle.sdd_script.specs.All.{IsValidEvent}
-use Rattle.sdd_obligations.proofs.logs.NewMarks.{left_is, marked}
-use Rattle.sdd_progress.specs.lawful.Given.{AreNumbered}
+use Rattle.sdd_run.proofs.All.{All, All-head, All-tail, AreNumbered, Bool, Catalogue, Deliver, Does, Down, Event, Given, Hand, IsFrom1To, IsLawful, IsValidEvent, List, Log, Lose, Mark, Notes, Redeclare, Redeclares, Repeat, Resend, Round, Settle, Submit, Submitted, Tick, TxnNo, Up, [], ap, arith, eq-eqb, eqb-true, false, left_is, length, marked, one_if, refl, submits_in, subst, sym, true, ℕ, ◌++◌, ◌+◌, ◌==◌, ◌∷◌, ◌≡◌, ◌≤◌}
 
 -- a mark that stands in a log counts
 marked_there : (n : TxnNo) (later before : Log) → 1 ≤ marked n.0 (later ++ Mark (Submit n) ∷ before)

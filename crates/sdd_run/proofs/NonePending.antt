@@ -1,11 +1,7 @@
 -- Where every transaction that was submitted is committed, none is pending.
-use Rattle.std.proofs.Common.{ℕ, ◌≡◌, None, [], refl}
-use Rattle.sdd_obligations.specs.All.{Answer, Apply, Arrive, Commit, Given, History, Log, Nothing, Pass, Rec, Reject, Start, Wait, history}
+use Rattle.sdd_run.proofs.All.{AllCommitted, Answer, Apply, Arrive, Commit, Given, History, IsNotLeft, Log, None, Nothing, Pass, Rec, Reject, Start, Telling, Wait, [], any_commit, commits, history, pending_by, pending_of, refl, same_number, submitted_at, ℕ, ◌≡◌}
 use Rattle.sdd_obligations.specs.history.declared.record.Rec.TheVariants.{Submit}
-use Rattle.sdd_obligations.proofs.invariants.Bools.{same_number}
-use Rattle.sdd_progress.proofs.Committed.{any_commit, none_left}
-use Rattle.sdd_progress.specs.Committed.{AllCommitted, IsNotLeft}
-use Rattle.sdd_world.specs.Pending.{Telling, commits, pending_by, pending_of, submitted_at}
+use Rattle.sdd_progress.proofs.Committed.{none_left}
 
 not_pending : (tell : Telling) (g : Given) (log : Log) (all : History) (x : ℕ × Rec) → IsNotLeft all x → pending_by tell (submitted_at log) g log all x ≡ None
 not_pending tell g log all (event, Submit n) h = rw (any_commit all (commits n.0) n.0 (λ e attempt reply changes values rows. same_number n.0) h) refl

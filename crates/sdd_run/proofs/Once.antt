@@ -1,12 +1,5 @@
 -- In a serial order each committed transaction stands once.
-use Rattle.std.proofs.Common.{ℕ, ◌+◌, ◌==◌, ◌≡◌, ◌≢◌, ◌∙◌, inl, inr, cond, List, [], ◌∷◌, ap, arith, refl, sym}
-use Rattle.std.specs.Prelude.{Contains}
-use Rattle.std.proofs.lemmas.Bool.{cases_eq, eq-eqb, ne_eqb}
-use Rattle.std.proofs.lemmas.List.Sums.{sum_by-cons}
-use Rattle.sdd_obligations.specs.All.{Catalogue, Committed, History, IsCommitted, IsSerial, TxnNo, txn_no}
-use Rattle.sdd_obligations.proofs.base.Membership.{Contains-cases, Contains-here, Contains-later, Contains-nil}
-use Rattle.sdd_obligations.specs.serial_orders.Orders.{IsAlong}
-use Rattle.sdd_run.specs.Standing.{times_in}
+use Rattle.sdd_run.proofs.All.{Catalogue, Committed, Contains, Contains-cases, Contains-here, Contains-later, Contains-nil, History, IsAlong, IsCommitted, IsSerial, List, TxnNo, [], ap, arith, cases_eq, cond, eq-eqb, inl, inr, ne_eqb, refl, sum_by-cons, sym, times_in, txn_no, ℕ, ◌+◌, ◌==◌, ◌∙◌, ◌∷◌, ◌≡◌, ◌≢◌}
 
 pub times_more : (m : TxnNo) (rest : List TxnNo) (n : ℕ) → times_in n (m ∷ rest) ≡ cond (m.0 == n) 1 0 + times_in n rest
 times_more m rest n = sum_by-cons (λ (k : TxnNo). cond (k.0 == n) 1 0) m rest

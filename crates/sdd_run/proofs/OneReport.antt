@@ -1,16 +1,5 @@
 -- A run has one report, and one summary.
-use Rattle.std.proofs.Common.{ℕ, ◌≡◌, ◌∙◌, List, [], ◌∷◌, ap, length, refl, subst, sym}
-use Rattle.std.specs.List.{AllZip}
-use Rattle.sdd_obligations.specs.All.{Catalogue, IsTable, IsTheLog, Log, history, marks}
-use Rattle.sdd_obligations.specs.protocol.declared.entry.Entry.{Entry}
-use Rattle.sdd_obligations.proofs.protocol.Laws.{one_table}
-use Rattle.sdd_script.specs.declared.workload.Workload.{Workload}
-use Rattle.sdd_make.specs.Summary.{summary_of, summary_text}
-use Rattle.sdd_obligations.proofs.logs.One.{one_log}
-use Rattle.sdd_report.specs.Report.{report_text}
-use Rattle.sdd_run.specs.Reports.{report_of}
-use Rattle.sdd_lists.specs.InForce.{eras_in}
-use Rattle.sdd_run.specs.Runs.{AreTables, IsReportOn, IsSummaryOn, given_of}
+use Rattle.sdd_run.proofs.All.{AllZip, AreTables, Catalogue, Entry, IsReportOn, IsSummaryOn, IsTable, IsTheLog, List, Log, Workload, [], ap, eras_in, given_of, history, length, marks, one_log, one_table, refl, report_of, report_text, subst, summary_of, summary_text, sym, ℕ, ◌∙◌, ◌∷◌, ◌≡◌}
 
 -- the protocol tables of catalogues are one list
 pub one_list_of_tables : (cats : List Catalogue) (a b : List (List Entry)) → AllZip IsTable cats a → AllZip IsTable cats b → a ≡ b

@@ -1,31 +1,10 @@
 -- The history of a run has a serial order, along which one plain database gives its replies.
-use Rattle.std.proofs.Common.{ℕ, ◌≡◌, List, length}
-use Rattle.std.specs.Prelude.{Contains}
-use Rattle.std.specs.List.{AllZip}
-use Rattle.sdd_obligations.specs.All.{AreAllApplied, Catalogue, IsAttempt, IsClassOf, IsOrderable, IsSerial, IsSound, IsTheLog, KeepsStarts, Log, history}
-use Rattle.sdd_obligations.specs.protocol.declared.entry.Entry.{Entry}
-use Rattle.sdd_script.specs.All.{IsValid}
-use Rattle.sdd_script.specs.declared.workload.Workload.{Workload}
-use Rattle.sdd_lists.specs.InForce.{eras_in, whole_in}
-use Rattle.sdd_obligations.proofs.net.Lists.{All-at}
-use Rattle.sdd_obligations.specs.serial_orders.Attempts.{Attempt}
-use Rattle.sdd_obligations.proofs.serial_orders.Serial.{serial_order_is}
-use Rattle.sdd_obligations.specs.laws.Copied.{AreAppliedAlike}
-use Rattle.sdd_obligations.specs.laws.Replay.{IsReplyOf}
-use Rattle.sdd_progress.proofs.lawful.Together.{replies}
-use Rattle.sdd_report.specs.declared.copies.CopyTable.{CopyTable}
-use Rattle.sdd_progress.specs.Few.{AreFewRejected}
-use Rattle.sdd_progress.proofs.OfLogs.{few_rejected}
-use Rattle.sdd_progress.specs.Eras.{eras_of}
-use Rattle.sdd_progress.proofs.KeptEras as succession
-use Rattle.sdd_progress.specs.read_waits.Free.{IsFree, IsFreeClass}
-use Rattle.sdd_world.specs.Copies.{rows_left, tables_of}
-use Rattle.sdd_run.specs.Free.{IsUndisturbed}
-use Rattle.sdd_run.specs.Runs.{AreTables, IsFreeInEach, given_of, order_of, plain_run}
+use Rattle.sdd_run.proofs.All.{All-at, AllZip, AreAllApplied, AreAppliedAlike, AreFewRejected, AreTables, Attempt, Catalogue, Contains, CopyTable, Entry, IsAttempt, IsClassOf, IsFree, IsFreeClass, IsFreeInEach, IsOrderable, IsReplyOf, IsSerial, IsSound, IsTheLog, IsUndisturbed, IsValid, KeepsStarts, List, Log, Workload, eras_in, eras_of, few_rejected, given_of, history, length, order_of, plain_run, replies, rows_left, serial_order_is, tables_of, whole_in, ℕ, ◌≡◌}
 use Rattle.sdd_run.proofs.Forces.{of_list}
 use Rattle.sdd_run.proofs.FreeAttempts.{undisturbed}
 use Rattle.sdd_run.proofs.Left.{alike_in, left_in}
 use Rattle.sdd_run.proofs.RunOf.{eras_are, fine, known_of, lists, permitted, submit_given, up}
+use Rattle.sdd_progress.proofs.KeptEras as succession
 
 module _ (cat : Catalogue) (tables : List (List Entry)) (work : Workload) (sound : IsSound (whole_in cat work)) (valid : IsValid cat work)
     (tabled : AreTables cat work tables) (log : Log) (the_log : IsTheLog (given_of cat tables work) log) where

@@ -1,23 +1,9 @@
 -- Each pending transaction is told to wait for something that is there, and never for a message of U.
-use Rattle.std.proofs.Common.{ℕ, suc, ◌≡◌, ◌∷◌, Bool, List, None, Option, Some, [], arith, cond, false, if◌then◌else◌, refl, slice_get, subst, true}
-use Rattle.std.specs.List.{best_of, cons_option, list_any}
-use Rattle.std.specs.Option.{option_map}
-use Rattle.std.specs.Prelude.{Contains, filter_map}
-use Rattle.sdd_obligations.specs.All.{Catalogue, Cond, FitsGiven, Given, History, IsModule, IsPermitted, Log, Rec, Site, Standing, TxnNo, history, numbers_to, site_due}
-use Rattle.sdd_obligations.specs.history.declared.record.Rec.TheVariants.{Submit}
-use Rattle.sdd_obligations.proofs.laws.Members.{Contains-from_filter_map}
-use Rattle.sdd_obligations.specs.attempt.declared.standing.Standing.TheVariants as standings
-use Rattle.sdd_obligations.proofs.invariants.Lists.{in_range}
-use Rattle.sdd_report.specs.Pending.{is_lower, under_way}
-use Rattle.sdd_report.specs.declared.pending.Pending.{Pending}
-use Rattle.sdd_report.specs.declared.pending.Waiting.{Waiting}
-use Rattle.sdd_report.specs.declared.pending.Why.{Why}
-use Rattle.sdd_report.specs.declared.pending.Why.TheVariants as reasons
-use Rattle.sdd_world.specs.AtSites.{standing_at}
-use Rattle.sdd_world.specs.Standings.{standing_at_t, standing_at_u}
-use Rattle.sdd_world.specs.Pending.{commits, pending_as, pending_by, pending_of, reason_of, submitted_at, wait_at, wait_for, waits_of, why_of}
-use Rattle.sdd_run.specs.Reasons.{IsNumberedSite, IsReason, IsStanding}
+use Rattle.sdd_run.proofs.All.{Bool, Catalogue, Cond, Contains, Contains-from_filter_map, FitsGiven, Given, History, IsModule, IsNumberedSite, IsPermitted, IsReason, IsStanding, List, Log, None, Option, Pending, Rec, Site, Some, Standing, TxnNo, Waiting, Why, [], arith, best_of, commits, cond, cons_option, false, filter_map, history, if◌then◌else◌, in_range, is_lower, list_any, numbers_to, option_map, pending_as, pending_by, pending_of, reason_of, refl, site_due, slice_get, standing_at, standing_at_t, standing_at_u, submitted_at, subst, suc, true, under_way, wait_at, wait_for, waits_of, why_of, ℕ, ◌∷◌, ◌≡◌}
 use Rattle.sdd_run.proofs.Standings.{each_stands}
+use Rattle.sdd_obligations.specs.history.declared.record.Rec.TheVariants.{Submit}
+use Rattle.sdd_obligations.specs.attempt.declared.standing.Standing.TheVariants as standings
+use Rattle.sdd_report.specs.declared.pending.Why.TheVariants as reasons
 
 -- READs that wait are at data modules
 

@@ -1,22 +1,5 @@
 -- What is told of a world that has carried out all events of a workload is told of its run.
-use Rattle.std.proofs.Common.{ℕ, ◌≡◌, ◌∙◌, List, length, Result, Ok, Err, ap, refl, subst}
-use Rattle.std.specs.Prelude.{IfOk}
-use Rattle.sdd_obligations.specs.All.{Catalogue, EndsByLimit, Event, History, IsSound, IsTheLog, Log, Txn, history, marks}
-use Rattle.sdd_obligations.specs.protocol.declared.entry.Entry.{Entry}
-use Rattle.sdd_report.specs.Report.{report_text}
-use Rattle.sdd_script.specs.All.{IsValid}
-use Rattle.sdd_script.specs.declared.workload.Workload.{Workload}
-use Rattle.sdd_make.specs.Summary.{summary_of, summary_text}
-use Rattle.sdd_make.specs.declared.summary.Summary.{Summary}
-use Rattle.sdd_world.specs.Schedules.{with_events}
-use Rattle.sdd_world.specs.Standing.{EndsBy, StandsFor}
-use Rattle.sdd_world.specs.declared.world.World.{World}
-use Rattle.sdd_run.specs.Reports.{report_of}
-use Rattle.sdd_lists.specs.InForce.{whole_in}
-use Rattle.sdd_progress.specs.Eras.{eras_of}
-use Rattle.sdd_world.specs.Pending.{AreAtLastHomes}
-use Rattle.sdd_run.specs.Runs.{AreTables, EndsAtLimit, IsReportOn, IsSummaryOn, begun, given_of, order_of}
-use Rattle.sdd_run.specs.Worlds.{IsRunOf}
+use Rattle.sdd_run.proofs.All.{AreAtLastHomes, AreTables, Catalogue, EndsAtLimit, EndsBy, EndsByLimit, Entry, Err, Event, History, IfOk, IsReportOn, IsRunOf, IsSound, IsSummaryOn, IsTheLog, IsValid, List, Log, Ok, Result, StandsFor, Summary, Txn, Workload, World, ap, begun, eras_of, given_of, history, length, marks, none_due, order_of, over_at_end, report_of, report_text, subst, summary_of, summary_text, whole_in, with_events, ℕ, ◌∙◌, ◌≡◌}
 use Rattle.sdd_run.proofs.Beginning.{all_given}
 use Rattle.sdd_run.proofs.Goods.{fits_given}
 use Rattle.sdd_run.proofs.InTurn.{in_turn}
@@ -27,7 +10,6 @@ use Rattle.sdd_run.proofs.Ordered.{alike, few, free_undisturbed, left, orderable
 use Rattle.sdd_run.proofs.Reasons.{reasons_are}
 use Rattle.sdd_run.proofs.Retold.{retold}
 use Rattle.sdd_run.proofs.RunOf.{known_of, permitted}
-use Rattle.sdd_progress.proofs.read_waits.EventOver.{none_due, over_at_end}
 use Rattle.sdd_run.proofs.Settled.{applied, nothing_lost, quiet_behind, settled}
 
 pub if_ok : {A E : Type 0} (res : Result A E) (P Q : A → Type 0) → ((x : A) → P x → Q x) → IfOk res P → IfOk res Q
@@ -41,8 +23,7 @@ given_all : (cat : Catalogue) (tables : List (List Entry)) (work : Workload) (ev
 given_all cat tables work events same = ap (with_events (begun cat tables work)) same ∙ all_given cat tables work
 
 pub run_of : (cat : Catalogue) (tables : List (List Entry)) (work : Workload) (events : List Event) → events ≡ work.events
-    → (w : World) (log : Log)
-    → StandsFor w (with_events (begun cat tables work) events) log → IsRunOf cat tables work w
+    → (w : World) (log : Log) → StandsFor w (with_events (begun cat tables work) events) log → IsRunOf cat tables work w
 run_of cat tables work events same w log stands =
     let s = subst (λ g. StandsFor w g log) (given_all cat tables work events same) stands in
     record {

@@ -1,19 +1,5 @@
 -- The replies in a report are those that one plain database gives along its order.
-use Rattle.std.proofs.Common.{ℕ, zero, suc, ◌≡◌, ◌∙◌, inl, inr, true, false, List, [], ◌∷◌, ◌++◌, Option, Some, None, ap, append_assoc, arith, flat_map, refl, slice_get, sym}
-use Rattle.std.specs.Prelude.{codes, filter_map, find}
-use Rattle.std.specs.List.{AllZip, cons_option}
-use Rattle.std.specs.Option.{option_map, option_map_or}
-use Rattle.std.proofs.lemmas.Bool.{cases_Bool, eq-eqb, eqb-true}
-use Rattle.sdd_obligations.specs.All.{Commit, Committed, HasCommit, History, IsCommitted, Rec, Reply, Txn, TxnNo, txn_no}
-use Rattle.sdd_obligations.specs.laws.Replay.{IsReplyOf}
-use Rattle.sdd_obligations.specs.serial_orders.Places.{record_at}
-use Rattle.sdd_report.specs.Committed.{Told, is_of, names_of, order_line, reply_of, shipped_of, told_in, told_of}
-use Rattle.sdd_report.specs.Copies.{copies_lines}
-use Rattle.sdd_report.specs.Names.{txn_name}
-use Rattle.sdd_report.specs.Pending.{pending_lines}
-use Rattle.sdd_report.specs.Replies.{replies_along, reply_lines}
-use Rattle.sdd_report.specs.Report.{Report, after_replies, report_text}
-use Rattle.sdd_report.specs.Trace.{trace}
+use Rattle.sdd_run.proofs.All.{AllZip, Commit, Committed, HasCommit, History, IsCommitted, IsReplyOf, List, None, Option, Rec, Reply, Report, Some, Told, Txn, TxnNo, [], after_replies, ap, append_assoc, arith, cases_Bool, codes, cons_option, copies_lines, eq-eqb, eqb-true, false, filter_map, find, flat_map, inl, inr, is_of, names_of, option_map, option_map_or, order_line, pending_lines, record_at, refl, replies_along, reply_lines, reply_of, report_text, shipped_of, slice_get, suc, sym, told_in, told_of, trace, true, txn_name, txn_no, zero, ℕ, ◌++◌, ◌∙◌, ◌∷◌, ◌≡◌}
 
 -- what the first Commit of transaction n tells, where the first record tells this
 abbrev first_of : ℕ → Option Told → History → Option Told
@@ -82,8 +68,7 @@ module _ (h : History) (one_commit : (n i j k l : ℕ) → HasCommit h n i k →
       let commit : Rec = Commit (txn_no t.start.txn) t.start.number t.reply t.changes t.values t.rows in
       let own : HasCommit h t.start.txn t.start.number t.place = record {
         reply = t.reply;
-        changes =
-            t.changes;
+        changes = t.changes;
         values = t.values;
         rows = t.rows;
         stands = is.committed;

@@ -1,21 +1,5 @@
 -- What is known of the run of a valid workload, whatever lists of classes it puts in force.
-use Rattle.std.proofs.Common.{◌≤◌, List, arith, length}
-use Rattle.std.specs.List.{All}
-use Rattle.std.proofs.lemmas.List.Elements.{All-weaker}
-use Rattle.sdd_obligations.specs.All.{Catalogue, FitsStart, IsHeld, IsLawful, IsPermitted, IsSound, IsTheLog, Log, PutsHeld, RelNo, Row, Txn, redeclares}
-use Rattle.sdd_obligations.specs.lang.Fits.{Fits}
-use Rattle.sdd_lists.specs.InForce.{classes_in, whole_in}
-use Rattle.sdd_obligations.specs.protocol.declared.entry.Entry.{Entry}
-use Rattle.sdd_script.specs.All.{HoldsValues, IsValid, IsValidRow, IsValidTxn, IsValue}
-use Rattle.sdd_script.specs.declared.workload.Workload.{Workload}
-use Rattle.sdd_obligations.proofs.logs.NewMarks.{lawful_permitted}
-use Rattle.sdd_progress.specs.lawful.Given.{AreErasOf, HasSoundData, SubmitGiven}
-use Rattle.sdd_progress.proofs.ErasOf.{are_eras_of}
-use Rattle.sdd_progress.specs.Eras.{eras_of}
-use Rattle.sdd_progress.specs.Premises.{HasSoundLists, IsUpAtRedeclares}
-use Rattle.sdd_progress.proofs.Known.{Known, known}
-use Rattle.sdd_progress.proofs.Timely.{few_redeclares, up_at_redeclares}
-use Rattle.sdd_run.specs.Runs.{AreTables, given_of}
+use Rattle.sdd_run.proofs.All.{All, All-weaker, AreErasOf, AreTables, Catalogue, Entry, Fits, FitsStart, HasSoundData, HasSoundLists, HoldsValues, IsHeld, IsLawful, IsPermitted, IsSound, IsTheLog, IsUpAtRedeclares, IsValid, IsValidRow, IsValidTxn, IsValue, Known, List, Log, PutsHeld, RelNo, Row, SubmitGiven, Txn, Workload, are_eras_of, arith, classes_in, eras_of, few_redeclares, given_of, known, lawful_permitted, length, redeclares, up_at_redeclares, whole_in, ◌≤◌}
 use Rattle.sdd_run.proofs.Beginning.{rows_given}
 use Rattle.sdd_run.proofs.Forces.{era_at, how_many, list_at}
 use Rattle.sdd_run.proofs.Goods.{few_ticks, fits_given, held, puts_held}

@@ -1,13 +1,5 @@
 -- A report that is made of equal parts is the report on the log.
-use Rattle.std.proofs.Common.{◌≡◌, ◌∙◌, List, sym, ap}
-use Rattle.sdd_obligations.specs.All.{Catalogue, Given, History, Log, Txn, TxnNo, history}
-use Rattle.sdd_obligations.specs.serial_orders.SerialOrder.{serial_order}
-use Rattle.sdd_report.specs.Report.{Report}
-use Rattle.sdd_report.specs.declared.copies.CopyTable.{CopyTable}
-use Rattle.sdd_report.specs.declared.pending.Pending.{Pending}
-use Rattle.sdd_world.specs.Copies.{tables_of}
-use Rattle.sdd_world.specs.Pending.{AreAtLastHomes, Telling, last_home, pending_at, pending_of}
-use Rattle.sdd_run.specs.Reports.{report_by}
+use Rattle.sdd_run.proofs.All.{AreAtLastHomes, Catalogue, CopyTable, Given, History, List, Log, Pending, Report, Telling, Txn, TxnNo, ap, history, last_home, pending_at, pending_of, report_by, serial_order, sym, tables_of, ◌∙◌, ◌≡◌}
 use Rattle.sdd_run.proofs.LastHomes.{pending_alike}
 
 abbrev pub made : Catalogue → List Txn → History → List TxnNo → List Pending → List CopyTable → Report

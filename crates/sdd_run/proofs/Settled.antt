@@ -1,32 +1,7 @@
 -- A run that a settle or a redeclare ends leaves nothing undone, where no data module is down at its end.
-use Rattle.std.proofs.Common.{ℕ, ◌≡◌, List, None, ap, length, subst, sym}
-use Rattle.std.specs.Prelude.{◌⊎◌, Contains}
-use Rattle.sdd_obligations.specs.All.{AreAllApplied, Catalogue, Commit, Committed, D, Given, HasCommit, History, IsAttempt, IsCommitted, IsLawful, IsOrderable, IsSerial, IsSound, IsSubmitted, IsTheLog, Log, Stands, TxnNo, dated, dm_no, has_copy, history, local_of, next, numbers_to, setting_of, txn_no, with_event}
-use Rattle.sdd_obligations.proofs.laws.Members.{Contains-from_filter, Contains-from_flat_map, Contains-from_map}
-use Rattle.sdd_obligations.proofs.logs.NewMarks.{lawful_permitted}
-use Rattle.sdd_obligations.specs.serial_orders.Attempts.{Attempt}
-use Rattle.sdd_obligations.specs.protocol.declared.entry.Entry.{Entry}
-use Rattle.sdd_script.specs.All.{IsValid}
-use Rattle.sdd_script.specs.declared.workload.Workload.{Workload}
-use Rattle.sdd_world.specs.AtSites.{standing_at}
-use Rattle.sdd_world.specs.Standings.{standing_at_t, standing_at_u}
-use Rattle.sdd_progress.specs.lawful.Given.{SubmitGiven}
-use Rattle.sdd_progress.proofs.lawful.Numbered.{lawful_numbered}
-use Rattle.sdd_report.specs.declared.copies.CopyTable.{CopyTable}
-use Rattle.sdd_progress.proofs.Copies.{applied_at_copies}
-use Rattle.sdd_progress.proofs.Settled.{settled_is_committed, settled_is_finished, settled_is_quiet}
-use Rattle.sdd_progress.specs.Committed.{AllCommitted, WasCommitted}
-use Rattle.sdd_progress.specs.Premises.{HasSoundLists}
-use Rattle.sdd_progress.specs.Settled.{IsAtEnd, IsSettled}
-use Rattle.sdd_world.specs.Copies.{table_of, tables_at, tables_of}
-use Rattle.sdd_run.specs.Reports.{report_of}
-use Rattle.sdd_lists.specs.InForce.{whole_in}
-use Rattle.sdd_run.specs.Runs.{AreTables, given_of, order_of}
+use Rattle.sdd_run.proofs.All.{AllCommitted, AreAllApplied, AreTables, Attempt, Catalogue, Commit, Committed, Contains, Contains-from_filter, Contains-from_flat_map, Contains-from_map, CopyTable, D, EndsAtRest, EndsQuiet, Entry, Given, HasCommit, HasSoundLists, History, IsAtEnd, IsAttempt, IsCommitted, IsLawful, IsListed, IsOrderable, IsSerial, IsSettled, IsSound, IsSubmitted, IsTheLog, IsValid, List, Log, LosesNothing, None, NoneIsDown, Stands, SubmitGiven, TellsAllCommitted, TxnNo, WasCommitted, Workload, ap, applied_at_copies, dated, dm_no, given_of, has_copy, history, lawful_numbered, lawful_permitted, length, local_of, next, numbers_to, order_of, report_of, setting_of, settled_is_committed, settled_is_finished, settled_is_quiet, standing_at, standing_at_t, standing_at_u, subst, sym, table_of, tables_at, tables_of, times_in, txn_no, whole_in, with_event, ℕ, ◌≡◌, ◌⊎◌}
 use Rattle.sdd_run.proofs.AtRest.{quiet_at_rest}
 use Rattle.sdd_run.proofs.RunOf.{lists, submit_given, up}
-use Rattle.sdd_run.specs.Settled.{EndsAtRest, EndsQuiet, LosesNothing, NoneIsDown, TellsAllCommitted}
-use Rattle.sdd_run.specs.Standing.{times_in}
-use Rattle.sdd_world.specs.Pending.{IsListed}
 use Rattle.sdd_run.proofs.Listed.{each_listed}
 use Rattle.sdd_run.proofs.Lossless.{in_one}
 use Rattle.sdd_run.proofs.NonePending.{none_pending}

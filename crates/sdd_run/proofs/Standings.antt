@@ -1,14 +1,9 @@
 -- Between calls no attempt waits for a message of U: it lacks the answer of a data module; and an undeclared transaction
 -- whose attempt hasn't begun waits for a transaction module.
-use Rattle.std.proofs.Common.{ℕ, suc, zero, ◌==◌, ◌-◌, ◌≡◌, ◌≤◌, ◌∷◌, ◌⊎◌, ◌∙◌, Bool, List, None, Option, Some, [], ap, arith, false, if◌then◌else◌, inl, inr, is_none, length, map, min, not, refl, slice_get, subst, sym, true}
-use Rattle.std.specs.List.{find, fold, list_all}
-use Rattle.std.specs.Prelude.{option_map, position}
-use Rattle.std.proofs.Math.Decide.{dec_le}
-use Rattle.std.proofs.lemmas.Bool.{eq-eqb, eqb-true}
-use Rattle.sdd_obligations.specs.All.{Act, AllZero, Attempt, Catalogue, ClassNo, D, Exchange, FitsGiven, Given, IsClass, IsFrom1To, IsModule, IsPermitted, IsSound, Log, Msg, Queued, Site, Standing, T, TmCounts, Turn, U, active, attempt_due, base_of, class_at, contains, counts, does_at, first_send, head_of, home, is_empty, is_over, is_site, last_served, local_of, next_at, numbers_to, queue, send_due, setting_of, site_due, sites, standing_among, tm_no, turn_at}
-use Rattle.sdd_obligations.proofs.catalog.Sound.{sound_whole}
-use Rattle.sdd_obligations.specs.attempt.Lines.{Line}
-use Rattle.sdd_obligations.specs.attempt.Standings.{lower, lowest, or_standing, queued_at, site_of, standing_by, standing_of, underway, waiting}
+use Rattle.sdd_run.proofs.All.{AtTurn, Bool, Catalogue, ClassNo, D, Exchange, FitsGiven, Given, HasNear, IsClass, IsModule, IsNearBy, IsNumberedSite, IsPermitted, IsSound, IsStanding, Line, List, Log, None, Option, Queued, Site, Some, Standing, StandsAt, T, TmCounts, Turn, U, [], active, active_near, all_served, all_true, and_left, answered_last, ap, apart, arith, attempt_due, awaited, base_of, both, chain_at, class_at, contains, counts, counts_tm, dec_le, does_at, eq-eqb, eqb-true, false, find, firsts, fold, goes_on, head_of, home, home_fair, home_turns, if_none, if◌then◌else◌, in_filtered, in_mapped, in_range, inl, inr, is_empty, is_over, is_site, last_served, length, list_all, local_of, lower, lowest, map, min, near_one, next_at, no_act, no_active, no_sends, none_at, not_both, not_false, not_zero, numbers_to, option_map, or_left, or_none, or_right, or_standing, position, positive, queue, queued_at, refl, run_at, runs_place, same_or_not, send_due, setting_of, site_due, site_of, site_there, sites, slice_get, small_home, sound_whole, spoken, standing_among, standing_at, standing_at_t, standing_at_u, standing_by, standing_of, subst, suc, sym, t_site, tm_no, tm_of, true, turn_at, underway, unsent, waiting, zero, zero_head, ℕ, ◌-◌, ◌==◌, ◌∙◌, ◌∷◌, ◌≡◌, ◌≤◌, ◌⊎◌}
+use Rattle.sdd_obligations.specs.All.{Attempt, IsFrom1To}
+use Rattle.sdd_progress.specs.Quiet.{at_home}
+use Rattle.sdd_obligations.proofs.invariants.logs.tm.Lists.{get_map as at_map}
 use Rattle.sdd_obligations.specs.attempt.declared.standing.Standing.TheVariants as standings
 use Rattle.sdd_obligations.specs.tm.Due as tm
 use Rattle.sdd_obligations.specs.tm.State as tm_states
@@ -16,32 +11,7 @@ use Rattle.sdd_obligations.specs.tm.Views as tm_views
 use Rattle.sdd_obligations.specs.umod.Due as um
 use Rattle.sdd_obligations.specs.umod.Standing as u_standing
 use Rattle.sdd_obligations.specs.umod.State as um_states
-use Rattle.sdd_obligations.specs.umod.Steps.{tm_of}
 use Rattle.sdd_obligations.specs.umod.Views as um_views
-use Rattle.sdd_obligations.proofs.invariants.Bools.{and_left, both, not_both, not_zero, or_left, or_right, same_or_not}
-use Rattle.sdd_obligations.proofs.invariants.Fair.{home_fair}
-use Rattle.sdd_obligations.proofs.invariants.Holding.{at_map}
-use Rattle.sdd_obligations.proofs.invariants.Lists.{in_filtered, in_mapped, in_range}
-use Rattle.sdd_obligations.proofs.invariants.Serving.{counts_tm}
-use Rattle.sdd_obligations.proofs.AtTurn.{StandsAt, answered_last, apart, awaited, unsent}
-use Rattle.sdd_obligations.proofs.Halves.{home_turns}
-use Rattle.sdd_obligations.proofs.Hearing.{AtTurn}
-use Rattle.sdd_obligations.proofs.HoldsFit.{chain_at}
-use Rattle.sdd_obligations.proofs.Modules.{firsts}
-use Rattle.sdd_obligations.proofs.Near.{HasNear, IsNear, IsNearBy, active_near}
-use Rattle.sdd_obligations.proofs.OfNext.{site_there}
-use Rattle.sdd_obligations.proofs.Spoken.{spoken}
-use Rattle.sdd_obligations.proofs.Starts.{small_home}
-use Rattle.sdd_progress.proofs.Lacking.{goes_on}
-use Rattle.sdd_progress.proofs.Lists.{all_true, either, if_none, none_at}
-use Rattle.sdd_progress.proofs.NoRejects.{all_served}
-use Rattle.sdd_progress.proofs.Still.{run_at, runs_place, t_site}
-use Rattle.sdd_progress.specs.Quiet.{at_home}
-use Rattle.sdd_obligations.proofs.logs.Ticking.{or_none}
-use Rattle.sdd_progress.proofs.lawful.Homes.{positive}
-use Rattle.sdd_world.specs.AtSites.{standing_at}
-use Rattle.sdd_world.specs.Standings.{standing_at_t, standing_at_u}
-use Rattle.sdd_run.specs.Reasons.{IsNumberedSite, IsStanding}
 
 -- the lowest of some numbers is one of them
 
@@ -102,10 +72,6 @@ found_or_none {A = A} p (y ∷ xs) =
 
 -- nothing is due at a site
 
-no_act : (at : Site) (o : Option Act) → does_at at o ≡ None → o ≡ None
-no_act at None e = refl
-no_act at (Some act) e = cc
-
 module _ (g : Given) (log : Log) (idle : site_due g log ≡ None) where
   none_next : (at : Site) → is_site g.catalogue.tms g.catalogue.dms at ≡ true → next_at g log at ≡ None
   none_next at e =
@@ -150,22 +116,11 @@ module _ (g : Given) (log : Log) (idle : site_due g log ≡ None) where
 
 -- an attempt that has nothing to send and isn't over lacks the answer of a data module
 
-no_sends : (ms : List (ℕ × Msg)) → first_send ms ≡ None → ms ≡ []
-no_sends [] e = refl
-no_sends (m ∷ ms) e = cc
-
 asked_there : (d : ℕ) (x : Exchange) (v : Turn) → x.to_send ≡ [] → contains x.lacks d ≡ true → StandsAt d x v → contains (firsts x.modules) d ≡ true
 asked_there d x v e l (unsent m q ns a b s t u w f h) = h
 asked_there d x v e l (awaited m ns a b s w f h) = h
 asked_there d x v e l (answered_last q ns a b s t f h) = h
 asked_there d x v e l (apart a b s h) = absurd (not_both (contains x.lacks d) l b)
-
-near_one : (n d : ℕ) (ms : List (ℕ × List ℕ)) (x : Exchange) → IsNearBy n (record x { modules = ms }) → contains (firsts ms) d ≡ true → IsNear n d
-near_one n d [] x h e = cc
-near_one n d (m ∷ ms) x h e = elim (either (m.0 == d) (contains (firsts ms) d) e) [
-  | inl p ↦ subst (IsNear n) (eqb-true m.0 d p) h.modules.0
-  | inr p ↦ near_one n d ms x (record { modules = h.modules.1; sends = h.sends }) p
-]
 
 module _ (g : Given) (log : Log) (permitted : IsPermitted g log) (good : FitsGiven g) (idle : site_due g log ≡ None) where
   lacks_answer : (c : ℕ) (a : Attempt) → IsClass g.catalogue c → active (setting_of g (home g.catalogue c)) c (at_home g c log) ≡ Some a
@@ -226,22 +181,10 @@ run_here g t j c e =
 
 -- at U, before an attempt begins
 
-zero_head : (qs : List Queued) (q : Queued) → AllZero qs → head_of qs ≡ Some q → q.tries ≡ 0
-zero_head [] q h e = cc
-zero_head (x ∷ qs) q h e = let p : x ≡ q = cc in ap (λ (y : Queued). y.tries) (sym p) ∙ h.0
-
-no_active : (o : Option Attempt) → is_none o ≡ true → o ≡ None
-no_active None e = refl
-no_active (Some a) e = cc
-
 has_head : (c : ℕ) (qs : List Queued) (n : ℕ) (class : ClassNo) (place : ℕ) → standing_by c qs None n ≡ standings.Queued class place
     → (q : Queued) × (head_of qs ≡ Some q)
 has_head c [] n class place e = cc
 has_head c (q ∷ qs) n class place e = (q, refl)
-
-not_false : (b : Bool) → not b ≡ false → b ≡ true
-not_false true e = refl
-not_false false e = cc
 
 one_less : (place : ℕ) → 1 ≤ place → (place == 1) ≡ false → 1 ≤ place - 1
 one_less zero l e = omega (arith, l)

@@ -1,27 +1,11 @@
 -- A new world of a workload stands for the empty log of what is given before its first event.
-use Rattle.std.proofs.Common.{◌-◌, ◌≡◌, ◌∙◌, ◌∷◌, ◌≤◌, List, Some, [], ap, drop, get_or, map, refl, sym, subst}
-use Rattle.std.specs.Prelude.{slice_get}
-use Rattle.sdd_obligations.specs.All.{Catalogue, Class, D, Event, Force, Given, IsGood, IsSound, Kept, MAX_DMS, MAX_TMS, RelNo, Row, Txn, dm_no, rows_of}
-use Rattle.sdd_obligations.specs.protocol.declared.entry.Entry.{Entry}
-use Rattle.sdd_script.specs.All.{IsValid}
-use Rattle.sdd_script.specs.declared.workload.Workload.{Workload}
-use Rattle.sdd_obligations.specs.dm.State.{State}
-use Rattle.sdd_world.specs.Beginnings.{AllBegin, BeginsD, IsBegun, There}
-use Rattle.sdd_world.specs.Schedules.{AreAllowed}
-use Rattle.sdd_world.specs.Standing as standing
-use Rattle.sdd_world.specs.Standing.{StandsFor}
-use Rattle.sdd_world.specs.declared.world.World.{World}
-use Rattle.sdd_obligations.specs.base.Words.{tail_of}
-use Rattle.sdd_obligations.specs.catalog.Eras.{eras}
-use Rattle.sdd_lists.specs.InForce.{classes_in, eras_in, whole_in}
-use Rattle.sdd_world.specs.declared.schedule.ClassList.{ClassList}
-use Rattle.sdd_run.specs.Lent.{force_in}
-use Rattle.sdd_run.specs.Runs.{AreTables, begun, forces_of}
+use Rattle.sdd_run.proofs.All.{AllBegin, AreAllowed, AreTables, BeginsD, Catalogue, Class, ClassList, D, Entry, Event, Force, Given, IsBegun, IsGood, IsSound, IsValid, Kept, List, MAX_DMS, MAX_TMS, RelNo, Row, Some, StandsFor, State, There, Txn, Workload, World, [], ap, begun, classes_in, dm_no, drop, eras, eras_in, force_in, forces_of, get_or, map, refl, rows_of, slice_get, subst, sym, tail_of, whole_in, ◌-◌, ◌∙◌, ◌∷◌, ◌≡◌, ◌≤◌}
 use Rattle.sdd_run.proofs.Allowed.{HasLists, allowed}
 use Rattle.sdd_run.proofs.Beginning.{begins_sound, rows_given}
 use Rattle.sdd_run.proofs.Goods.{good_along, good_begun}
 use Rattle.sdd_run.proofs.Timely.{timely}
 use Rattle.sdd_run.proofs.Whole.{events_valid}
+use Rattle.sdd_world.specs.Standing as standing
 
 abbrev with_table : Catalogue → List Entry → Force
 with_table cat table = record { catalogue = cat; table = table }

@@ -1,9 +1,5 @@
 -- Each transaction is submitted at most once, also by a part of a schedule.
-use Rattle.std.proofs.Common.{ℕ, suc, ◌+◌, ◌<◌, ◌≤◌, ◌≡◌, ◌∙◌, refl, sym, ap, subst, arith, false, ◌==◌, inl, inr, List, [], ◌∷◌, ◌++◌, length, filter_map}
-use Rattle.std.specs.Prelude.{slice_index_or}
-use Rattle.std.proofs.lemmas.Bool.{cases_eq, eq-eqb, ne_eqb}
-use Rattle.sdd_obligations.specs.All.{AreSubmittedOnce, Deliver, Down, Event, Lose, Redeclare, Repeat, Resend, Settle, Submit, Tick, Up, one_if, submits_in}
-use Rattle.sdd_script.specs.All.{AreDistinct, submitted_by}
+use Rattle.sdd_run.proofs.All.{AreDistinct, AreSubmittedOnce, Deliver, Down, Event, List, Lose, Redeclare, Repeat, Resend, Settle, Submit, Tick, Up, [], ap, arith, cases_eq, eq-eqb, false, filter_map, get_or as slice_index_or, inl, inr, length, ne_eqb, one_if, refl, submits_in, submitted_by, subst, suc, sym, ℕ, ◌++◌, ◌+◌, ◌<◌, ◌==◌, ◌∙◌, ◌∷◌, ◌≡◌, ◌≤◌}
 
 abbrev numbers : List Event → List ℕ
 numbers es = filter_map submitted_by es

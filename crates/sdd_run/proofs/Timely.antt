@@ -1,23 +1,8 @@
 -- In a valid workload each redeclare stands where it may: a list is left, and no data module is down.
-use Rattle.std.proofs.Common.{ℕ, ◌+◌, ◌≤◌, ◌≡◌, ◌∙◌, Bool, false, cond, List, [], ◌∷◌, Some, ap, arith, length, refl, slice_get, subst, sym, take}
-use Rattle.std.specs.Prelude.{count_by}
-use Rattle.std.specs.List.{fold}
-use Rattle.std.proofs.Math.Seq.{take-append_seam}
-use Rattle.std.proofs.lemmas.List.Sums.{sum_by-cons}
-use Rattle.std.proofs.lemmas.List.{length-map}
-use Rattle.sdd_obligations.specs.All.{Catalogue, Deliver, Down, Event, Lose, Redeclare, Repeat, Resend, Settle, Submit, Tick, Up, redeclares_in}
-use Rattle.sdd_obligations.proofs.invariants.Lists.{at_seam}
-use Rattle.sdd_obligations.specs.logs.Traffic.{turned_by}
-use Rattle.sdd_obligations.specs.AfterEvents.{down_from}
-use Rattle.sdd_lists.specs.InForce.{classes_in}
-use Rattle.sdd_obligations.specs.protocol.declared.entry.Entry.{Entry}
-use Rattle.sdd_script.specs.Redeclaring as script
-use Rattle.sdd_script.specs.All.{IsValid}
-use Rattle.sdd_script.specs.declared.workload.Workload.{Workload}
-use Rattle.sdd_progress.specs.Timely.{AreTimely}
-use Rattle.sdd_run.specs.Runs.{AreTables, given_of}
+use Rattle.sdd_run.proofs.All.{AreTables, AreTimely, Bool, Catalogue, Deliver, Down, Entry, Event, IsValid, List, Lose, Redeclare, Repeat, Resend, Settle, Some, Submit, Tick, Up, Workload, [], ap, arith, at_seam, classes_in, cond, count_by, down_from, false, fold, given_of, length, length-map, redeclares_in, refl, slice_get, subst, sum_by-cons, sym, take, take-append_seam, turned_by, ℕ, ◌+◌, ◌∙◌, ◌∷◌, ◌≡◌, ◌≤◌}
 use Rattle.sdd_run.proofs.Forces.{how_many}
 use Rattle.sdd_run.proofs.Whole.{same_dms}
+use Rattle.sdd_script.specs.Redeclaring as script
 
 -- what a workload's events tell, and what the log's definitions count of them
 
@@ -53,16 +38,17 @@ turned_alike d (Up m) b = refl
 
 down_alike : (d : ℕ) (b : Bool) (es : List Event) → down_from d b es ≡ fold (λ down e. script.turned_by d e down) b es
 down_alike d b [] = refl
-down_alike d b (e ∷ es) =
-    ap (λ c. down_from d c es) (turned_alike d e b) ∙ down_alike d (script.turned_by d e b) es
+down_alike d b (e ∷ es) = ap (λ c. down_from d c es) (turned_alike d e b) ∙ down_alike d (script.turned_by d e b) es
 
-pub timely : (cat : Catalogue) (tables : List (List Entry)) (work : Workload) → IsValid cat work → AreTables cat work tables → AreTimely (given_of cat tables work)
+pub timely : (cat : Catalogue) (tables : List (List Entry)) (work : Workload) → IsValid cat work → AreTables cat work tables
+    → AreTimely (given_of cat tables work)
 timely cat tables work valid tabled front rest is =
     let there : slice_get work.events (length front) ≡ Some Redeclare = ap (λ es. slice_get es (length front)) is ∙ at_seam front rest Redeclare in
     let may = valid.timely (length front) there in
     let before : take (length front) work.events ≡ front = ap (take (length front)) is ∙ take-append_seam front (Redeclare ∷ rest) in
     let few = may.left in
-    let same : count_by script.is_redeclare (take (length front) work.events) ≡ count_by script.is_redeclare front = ap (λ es. count_by script.is_redeclare es) before in
+    let same : count_by script.is_redeclare (take (length front) work.events) ≡ count_by script.is_redeclare front = ap
+    (λ es. count_by script.is_redeclare es) before in
     let all = how_many cat tables work tabled in
     let lists : length (classes_in cat work) ≡ length work.lists = length-map work.lists _ in
     let done = counted front in

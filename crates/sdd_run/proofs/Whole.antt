@@ -1,16 +1,6 @@
 -- The catalogue with the classes of all lists of a workload differs from the catalogue in its classes alone. So what fits
 -- the catalogue fits the whole one.
-use Rattle.std.proofs.Common.{ℕ, ◌≡◌, List, [], ◌∷◌, ap, length, refl, subst, sym}
-use Rattle.std.specs.List.{All}
-use Rattle.std.proofs.lemmas.List.Elements.{All-weaker}
-use Rattle.sdd_obligations.specs.All.{Catalogue, Class, Condition, Const, D, Delete, Deliver, Down, Event, FitsCondition, FitsStart, FitsStatement, Lose, Put, Query, Redeclare, RelNo, Repeat, Resend, Row, Same, Settle, Site, Stmt, Submit, T, Tick, Txn, U, Up, Update}
-use Rattle.sdd_obligations.specs.catalog.Eras.{extended, whole}
-use Rattle.sdd_obligations.specs.lang.Fits.{Fits, FitsAssign, FitsConditions}
-use Rattle.sdd_obligations.specs.lang.declared.assign.Assign.{Assign}
-use Rattle.sdd_obligations.specs.lang.declared.assign.Assign.TheVariants.{To, Add}
-use Rattle.sdd_script.specs.All.{IsSite, IsValid, IsValidEvent, IsValidRow, IsValidTxn}
-use Rattle.sdd_script.specs.declared.workload.Workload.{Workload}
-use Rattle.sdd_lists.specs.InForce.{classes_in, whole_in}
+use Rattle.sdd_run.proofs.All.{Add, All, All-weaker, Assign, Catalogue, Class, Condition, Const, D, Delete, Deliver, Down, Event, Fits, FitsAssign, FitsCondition, FitsConditions, FitsStart, FitsStatement, IsSite, IsValid, IsValidEvent, IsValidRow, IsValidTxn, List, Lose, Put, Query, Redeclare, RelNo, Repeat, Resend, Row, Same, Settle, Site, Stmt, Submit, T, Tick, To, Txn, U, Up, Update, Workload, [], ap, classes_in, extended, length, refl, subst, sym, whole, whole_in, ℕ, ◌∷◌, ◌≡◌}
 
 -- other classes
 abbrev pub with_classes : Catalogue → List Class → Catalogue

@@ -1,5 +1,4 @@
-use Rattle.std.proofs.Common.{arith}
-use Rattle.sdd_run.specs.Runs.{forces_of}
+use Rattle.sdd_run.proofs.All.{arith, forces_of}
 use Rattle.sdd_run.proofs.Lending.{all_lent, as_many, lent_more}
 use Rattle.sdd_run.proofs.in_force.further.Goals as goal
 

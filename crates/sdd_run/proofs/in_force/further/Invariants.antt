@@ -1,7 +1,4 @@
-use Rattle.std.proofs.Common.{◌-◌, ◌≡◌, map, take}
-use Rattle.sdd_obligations.specs.base.Words.{tail_of}
-use Rattle.sdd_run.specs.Lent.{force_in}
-use Rattle.sdd_run.specs.Runs.{forces_of}
+use Rattle.sdd_run.proofs.All.{force_in, forces_of, map, tail_of, take, ◌-◌, ◌≡◌}
 use Rattle.sdd_run.proofs.in_force.further.Given as goal
 
 -- so far

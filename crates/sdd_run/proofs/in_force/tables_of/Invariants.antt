@@ -1,6 +1,4 @@
-use Rattle.std.proofs.Common.{take}
-use Rattle.std.specs.List.{AllZip}
-use Rattle.sdd_obligations.specs.All.{IsTable}
+use Rattle.sdd_run.proofs.All.{AllZip, IsTable, take}
 use Rattle.sdd_run.proofs.in_force.tables_of.Given as goal
 
 -- so far

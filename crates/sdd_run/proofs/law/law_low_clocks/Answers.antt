@@ -1,4 +1,4 @@
-use Rattle.sdd_lists.proofs.WholeSound.{whole_sound}
+use Rattle.sdd_run.proofs.All.{whole_sound}
 use Rattle.sdd_run.proofs.LowClocks.{low_clocks}
 use Rattle.sdd_run.proofs.law.law_low_clocks.Goals as goal
 

@@ -1,8 +1,4 @@
-use Rattle.std.proofs.Common.{◌∙◌, subst, sym}
-use Rattle.std.specs.List.{AllZip}
-use Rattle.sdd_obligations.specs.All.{IsSound, IsTable}
-use Rattle.sdd_lists.specs.InForce.{eras_in}
-use Rattle.sdd_run.specs.Runs.{given_of}
+use Rattle.sdd_run.proofs.All.{AllZip, IsSound, IsTable, eras_in, given_of, subst, sym, ◌∙◌}
 use Rattle.sdd_run.proofs.Ordered.{orderable}
 use Rattle.sdd_run.proofs.Reported.{last_homes, reported}
 use Rattle.sdd_run.proofs.run.run_report.Goals as goal

@@ -1,16 +1,9 @@
-use Rattle.std.proofs.Common.{[], ◌≤◌, ◌∙◌, ap, arith, length, refl, subst, sym}
-use Rattle.std.specs.List.{All}
-use Rattle.sdd_obligations.specs.base.Words.{tail_of}
-use Rattle.sdd_obligations.specs.All.{Catalogue, FitsStart, Given, IsEraOf, IsGood, IsSound, MAX_DMS, MAX_TMS}
-use Rattle.sdd_lists.specs.InForce.{whole_in}
-use Rattle.sdd_world.specs.Beginnings.{AllBegin, BeginsD, IsBegun}
-use Rattle.sdd_world.specs.Standing as standing
-use Rattle.sdd_world.specs.Standing.{StandsFor}
-use Rattle.sdd_run.specs.Runs.{begun, forces_of}
+use Rattle.sdd_run.proofs.All.{All, AllBegin, BeginsD, Catalogue, FitsStart, Given, IsBegun, IsEraOf, IsGood, IsSound, MAX_DMS, MAX_TMS, StandsFor, [], ap, arith, begun, forces_of, length, refl, subst, sym, tail_of, whole_in, ◌∙◌, ◌≤◌}
 use Rattle.sdd_run.proofs.Forces.{first_era, some_table, tables_are}
 use Rattle.sdd_run.proofs.Reported.{ended, if_ok, run_of}
 use Rattle.sdd_run.proofs.Starting.{all_allowed, starts}
 use Rattle.sdd_run.proofs.Whole.{rows_start}
+use Rattle.sdd_world.specs.Standing as standing
 use Rattle.sdd_run.proofs.running.finished.Goals as goal
 
 pub further-requires : goal.further-requires

@@ -1,9 +1,6 @@
-use Rattle.std.proofs.Common.{◌∙◌, ap, subst, sym}
-use Rattle.sdd_obligations.specs.All.{IsOrderable}
-use Rattle.sdd_report.specs.Report.{report_text as text_of}
-use Rattle.sdd_world.specs.Standings.{standing_of}
-use Rattle.sdd_world.proofs.Results.{of_ok}
+use Rattle.sdd_run.proofs.All.{IsOrderable, ap, of_ok, report_text as text_of, subst, sym, ◌∙◌}
 use Rattle.sdd_run.proofs.SameReport.{report_is}
+use Rattle.sdd_world.specs.Standings.{standing_of}
 use Rattle.sdd_run.proofs.telling.report_on.Goals as goal
 
 pub serial_order-requires : goal.serial_order-requires

@@ -1,0 +1,169 @@
+-- The names of std, of the crates below and of this crate's definitions that its proofs cite. Declares nothing.
+pub use Rattle.sdd_lists.proofs.WholeSound.{whole_sound}
+pub use Rattle.sdd_lists.specs.InForce.{classes_in, eras_in, whole_in}
+pub use Rattle.sdd_make.specs.Summary.{summary_of, summary_text}
+pub use Rattle.sdd_make.specs.declared.summary.Summary.{Summary}
+pub use Rattle.sdd_obligations.proofs.AtTurn.{StandsAt, answered_last, apart, awaited, unsent}
+pub use Rattle.sdd_obligations.proofs.Done.{count_join}
+pub use Rattle.sdd_obligations.proofs.Halves.{home_turns}
+pub use Rattle.sdd_obligations.proofs.Hearing.{AtTurn}
+pub use Rattle.sdd_obligations.proofs.HoldsFit.{chain_at}
+pub use Rattle.sdd_obligations.proofs.Linking.{lawful_part as lawful_end}
+pub use Rattle.sdd_obligations.proofs.LowClocks.{clock_low}
+pub use Rattle.sdd_obligations.proofs.Modules.{firsts}
+pub use Rattle.sdd_obligations.proofs.Near.{HasNear, IsNearBy, active_near}
+pub use Rattle.sdd_obligations.proofs.OfNext.{site_there}
+pub use Rattle.sdd_obligations.proofs.Spoken.{spoken}
+pub use Rattle.sdd_obligations.proofs.Starts.{small_home}
+pub use Rattle.sdd_obligations.proofs.base.Membership.{Contains-cases, Contains-here, Contains-later, Contains-nil}
+pub use Rattle.sdd_obligations.proofs.catalog.Found.{map-map}
+pub use Rattle.sdd_obligations.proofs.catalog.Sound.{sound_whole}
+pub use Rattle.sdd_obligations.proofs.class_eras.EraOfWhole.{era_of_whole}
+pub use Rattle.sdd_obligations.proofs.class_eras.EraSets.{era_of_itself}
+pub use Rattle.sdd_obligations.proofs.invariants.Bools.{and_left, not_both, not_zero, same_number, same_or_not}
+pub use Rattle.sdd_obligations.proofs.invariants.Fair.{home_fair}
+pub use Rattle.sdd_obligations.proofs.invariants.Holding.{none_of as no_active}
+pub use Rattle.sdd_obligations.proofs.invariants.Lists.{at_seam, in_filtered, in_range}
+pub use Rattle.sdd_obligations.proofs.invariants.Made.{permitted_before}
+pub use Rattle.sdd_obligations.proofs.invariants.Serving.{zero_head}
+pub use Rattle.sdd_obligations.proofs.invariants.logs.Marking.{forced_none, part_redeclared as same_part}
+pub use Rattle.sdd_obligations.proofs.invariants.logs.Steps.{none_does as no_act}
+pub use Rattle.sdd_obligations.proofs.invariants.logs.tm.Lists.{of_map as in_mapped}
+pub use Rattle.sdd_obligations.proofs.invariants.logs.umod.Lists.{or_nothing as or_none}
+pub use Rattle.sdd_obligations.proofs.invariants.logs.umod.Turns.{tm_told as counts_tm}
+pub use Rattle.sdd_obligations.proofs.lang.StaysDatabase.{no_database, rows_make_database}
+pub use Rattle.sdd_obligations.proofs.laws.Members.{Contains-from_filter, Contains-from_filter_map, Contains-from_flat_map, Contains-from_map}
+pub use Rattle.sdd_obligations.proofs.laws.SameCopies.{equal_copies}
+pub use Rattle.sdd_obligations.proofs.logs.Completing.{complete_parts, none_left}
+pub use Rattle.sdd_obligations.proofs.logs.EachLocal.{allowed_act}
+pub use Rattle.sdd_obligations.proofs.logs.NewMarks.{lawful_permitted, left_is, marked}
+pub use Rattle.sdd_obligations.proofs.logs.One.{limit_or_complete, one_log}
+pub use Rattle.sdd_obligations.proofs.logs.Steps.{none_any_base}
+pub use Rattle.sdd_obligations.proofs.logs.Ticking.{first_none}
+pub use Rattle.sdd_obligations.proofs.net.Lists.{All-at}
+pub use Rattle.sdd_obligations.proofs.protocol.Laws.{one_table}
+pub use Rattle.sdd_obligations.proofs.serial_orders.Places.{same_start}
+pub use Rattle.sdd_obligations.proofs.serial_orders.Serial.{serial_order_is}
+pub use Rattle.sdd_obligations.specs.AfterEvents.{down_from}
+pub use Rattle.sdd_obligations.specs.All.{Act, AllFewTicks, Answer, Apply, AreAllApplied, AreSubmittedOnce, Arrive, Catalogue, Class, ClassNo, ClassState, Commit, Committed, Cond, Condition, Const, D, Delete, Deliver, DmNo, Does, Down, EndsByLimit, Eras, Event, Exchange, FitsCondition, FitsGiven, FitsStart, FitsStatement, Force, FragNo, Given, Hand, HasCommit, History, IsAttempt, IsAwaited, IsClass, IsClassOf, IsCommitted, IsDatabase, IsEraOf, IsForce, IsGood, IsHeld, IsLawful, IsModule, IsOrderable, IsPermitted, IsPossible, IsSerial, IsSound, IsSubmitted, IsTable, IsTheLog, KeepsStarts, Kept, Log, Lose, MAX_DMS, MAX_TMS, Mark, Msg, Notes, Nothing, Pass, Put, PutsHeld, Query, Queued, Read, Rec, Records, Redeclare, Redeclares, Reject, RelNo, Repeat, Reply, Resend, Round, Row, Same, Setting, Settle, Site, Standing, Stands, Start, Stmt, Submit, Submitted, T, Tick, TmCounts, Ts, Turn, Txn, TxnNo, U, Up, Update, Use, Wait, active, after_mark, all_links, are_linked, attempt_due, attempt_of, attempts, base_of, by_event, by_mark, calls_of, class_at, class_no, committed, committed_of, contains, contents, counts, database_of, dated, delivered, dm_no, does_at, due_by, event_at, force_at, hand_due, hand_number, hand_on, handed, has_copy, head, head_of, history, home, is_apply, is_empty, is_link, is_over, is_site, last_served, left, link_of, local_of, mark_from, mark_of, marks, next, next_at, next_number, note_if, numbers_to, one_if, pipe_at, placed, queue, quiet, redeclares, redeclares_in, round, rows_of, run, runs, send_due, setting_of, site_due, sites, standing_among, standing_in, submits_in, time_at, tm_no, turn_at, txn_at, txn_no, with_event}
+pub use Rattle.sdd_obligations.specs.Bounds.{IsSmall}
+pub use Rattle.sdd_obligations.specs.Heights.{ticks_of}
+pub use Rattle.sdd_obligations.specs.Reading.{HasEras}
+pub use Rattle.sdd_obligations.specs.attempt.Lines.{Line}
+pub use Rattle.sdd_obligations.specs.attempt.Standings.{lower, lowest, or_standing, queued_at, site_of, standing_by, standing_of, underway, waiting}
+pub use Rattle.sdd_obligations.specs.base.declared.limits.TheConstants.{MAX_TICKS}
+pub use Rattle.sdd_obligations.specs.copy.Contents.{Dated}
+pub use Rattle.sdd_obligations.specs.dm.State.{State}
+pub use Rattle.sdd_obligations.specs.dm.Waiting.{waiting_at}
+pub use Rattle.sdd_obligations.specs.lang.Database.{Item}
+pub use Rattle.sdd_obligations.specs.lang.Fits.{FitsConditions}
+pub use Rattle.sdd_obligations.specs.lang.declared.assign.Assign.{Assign}
+pub use Rattle.sdd_obligations.specs.lang.declared.assign.Assign.TheVariants.{To}
+pub use Rattle.sdd_obligations.specs.laws.Copied.{AreAppliedAlike}
+pub use Rattle.sdd_obligations.specs.laws.Replay.{IsReplyOf}
+pub use Rattle.sdd_obligations.specs.logs.Due.{home_of}
+pub use Rattle.sdd_obligations.specs.logs.Marks.{from_event}
+pub use Rattle.sdd_obligations.specs.logs.Traffic.{turned_by}
+pub use Rattle.sdd_obligations.specs.protocol.declared.entry.Entry.{Entry}
+pub use Rattle.sdd_obligations.specs.serial_orders.Attempts.{Attempt}
+pub use Rattle.sdd_obligations.specs.serial_orders.Orders.{IsAlong}
+pub use Rattle.sdd_obligations.specs.serial_orders.Places.{record_at}
+pub use Rattle.sdd_obligations.specs.serial_orders.Precedence.{is_earlier, is_overwritten, is_read_by, misses, precedes}
+pub use Rattle.sdd_obligations.specs.serial_orders.SerialOrder.{serial_order}
+pub use Rattle.sdd_obligations.specs.tm.State.{class_of}
+pub use Rattle.sdd_obligations.specs.umod.Standing.{first_underway, is_awaiting_helds, lacking_site}
+pub use Rattle.sdd_obligations.specs.umod.Steps.{tm_of}
+pub use Rattle.sdd_progress.proofs.AtRest.{commit_there, rest}
+pub use Rattle.sdd_progress.proofs.Committed.{IsQueued, any_commit, committed_or_queued}
+pub use Rattle.sdd_progress.proofs.Copies.{applied_at_copies}
+pub use Rattle.sdd_progress.proofs.ErasOf.{are_eras_of, marks_up as marks_later}
+pub use Rattle.sdd_progress.proofs.Fronts.{history_le, redeclare_between, stands_front}
+pub use Rattle.sdd_progress.proofs.IdleAtRedeclares.{at_redeclare}
+pub use Rattle.sdd_progress.proofs.Known.{Known, known}
+pub use Rattle.sdd_progress.proofs.Lacking.{goes_on, near_one, no_sends}
+pub use Rattle.sdd_progress.proofs.Lists.{all_true, either, if_none, kept_there, none_at}
+pub use Rattle.sdd_progress.proofs.NoRejects.{all_served}
+pub use Rattle.sdd_progress.proofs.OfLogs.{few_in_limit, few_rejected}
+pub use Rattle.sdd_progress.proofs.Settled.{settled_is_committed, settled_is_finished, settled_is_quiet}
+pub use Rattle.sdd_progress.proofs.Still.{run_at, runs_place, t_site}
+pub use Rattle.sdd_progress.proofs.Timely.{few_redeclares, up_at_redeclares}
+pub use Rattle.sdd_progress.proofs.Writers.{one_class}
+pub use Rattle.sdd_progress.proofs.lawful.Answered.{read_of_some}
+pub use Rattle.sdd_progress.proofs.lawful.Applied.{IsDataIn, data_in}
+pub use Rattle.sdd_progress.proofs.lawful.Beginnings.{at_map}
+pub use Rattle.sdd_progress.proofs.lawful.Classes.{at_home, home_setting}
+pub use Rattle.sdd_progress.proofs.lawful.Homes.{positive}
+pub use Rattle.sdd_progress.proofs.lawful.Makers.{act_kind}
+pub use Rattle.sdd_progress.proofs.lawful.Numbered.{lawful_numbered}
+pub use Rattle.sdd_progress.proofs.lawful.Places.{event_there, stands_there}
+pub use Rattle.sdd_progress.proofs.lawful.SameCopies.{same_copy}
+pub use Rattle.sdd_progress.proofs.lawful.Submissions.{given_at, one_submit, submit_in}
+pub use Rattle.sdd_progress.proofs.lawful.Together.{copies as left_in_copies, replies}
+pub use Rattle.sdd_progress.proofs.read_waits.ClassSites.{in_runs}
+pub use Rattle.sdd_progress.proofs.read_waits.EventOver.{none_due, over_at_end, over_before}
+pub use Rattle.sdd_progress.proofs.read_waits.FreeClasses.{never_rejected, never_waits}
+pub use Rattle.sdd_progress.proofs.read_waits.OfLawful.{answered_by_end}
+pub use Rattle.sdd_progress.proofs.read_waits.Rejected.{rejected}
+pub use Rattle.sdd_progress.proofs.read_waits.Waited.{wait_due}
+pub use Rattle.sdd_progress.proofs.termination.Marked.{next_is_of_events}
+pub use Rattle.sdd_progress.proofs.termination.Settled.{quiet_at_last}
+pub use Rattle.sdd_progress.specs.Committed.{AllCommitted, IsNotLeft, WasCommitted}
+pub use Rattle.sdd_progress.specs.Eras.{eras_of}
+pub use Rattle.sdd_progress.specs.Few.{AreFewRejected}
+pub use Rattle.sdd_progress.specs.Premises.{HasSoundLists, IsUpAtRedeclares}
+pub use Rattle.sdd_progress.specs.Settled.{IsAtEnd, IsSettled}
+pub use Rattle.sdd_progress.specs.Timely.{AreTimely}
+pub use Rattle.sdd_progress.specs.lawful.Given.{AreErasOf, AreNumbered, HasSoundData, SubmitGiven}
+pub use Rattle.sdd_progress.specs.lawful.Made.{IsMadeAt}
+pub use Rattle.sdd_progress.specs.read_waits.Answers.{EndsAnEvent, IsAnsweredIn, IsEventOver, begins_event}
+pub use Rattle.sdd_progress.specs.read_waits.Free.{IsFree, IsFreeClass}
+pub use Rattle.sdd_progress.specs.read_waits.Rejections.{IsRejectOf}
+pub use Rattle.sdd_progress.specs.read_waits.Waited.{IsWaitOf}
+pub use Rattle.sdd_report.specs.Committed.{Told, is_of, names_of, order_line, reply_of, shipped_of, told_in, told_of}
+pub use Rattle.sdd_report.specs.Copies.{copies_lines}
+pub use Rattle.sdd_report.specs.Names.{txn_name}
+pub use Rattle.sdd_report.specs.Pending.{is_lower, pending_lines, under_way}
+pub use Rattle.sdd_report.specs.Replies.{replies_along, reply_lines}
+pub use Rattle.sdd_report.specs.Report.{Report, after_replies, report_text}
+pub use Rattle.sdd_report.specs.Trace.{trace}
+pub use Rattle.sdd_report.specs.declared.copies.CopyTable.{CopyTable}
+pub use Rattle.sdd_report.specs.declared.pending.Pending.{Pending}
+pub use Rattle.sdd_report.specs.declared.pending.Waiting.{Waiting}
+pub use Rattle.sdd_report.specs.declared.pending.Why.{Why}
+pub use Rattle.sdd_run.specs.Clocks.{HasLowClocks}
+pub use Rattle.sdd_run.specs.Free.{IsAnsweredWithin, IsUndisturbed}
+pub use Rattle.sdd_run.specs.Lent.{force_in}
+pub use Rattle.sdd_run.specs.Reasons.{IsNumberedSite, IsReason, IsStanding}
+pub use Rattle.sdd_run.specs.Reports.{report_by, report_of}
+pub use Rattle.sdd_run.specs.Runs.{AreTables, EndsAtLimit, IsFreeInEach, IsReportOn, IsSummaryOn, begun, forces_of, given_of, order_of, plain_run}
+pub use Rattle.sdd_run.specs.Settled.{EndsAtRest, EndsQuiet, IsAtRest, LosesNothing, NoneIsDown, TellsAllCommitted}
+pub use Rattle.sdd_run.specs.Standing.{IsSubmittedBefore, StandsBefore, times_in, times_pending}
+pub use Rattle.sdd_run.specs.Worlds.{IsRunOf}
+pub use Rattle.sdd_script.proofs.NamePlaces.{none_found}
+pub use Rattle.sdd_script.proofs.WordCuts.{NonePasses}
+pub use Rattle.sdd_script.proofs.lang.catalog.Validity.{not_false}
+pub use Rattle.sdd_script.specs.All.{Add, AreDistinct, Fits, FitsAssign, HoldsValues, IsFrom1To, IsLink, IsSite, IsValid, IsValidEvent, IsValidRow, IsValidTxn, IsValue, Value, eras, extended, retired, submitted_by, tail_of, whole}
+pub use Rattle.sdd_script.specs.declared.workload.Workload.{Workload}
+pub use Rattle.sdd_world.proofs.Results.{of_ok}
+pub use Rattle.sdd_world.proofs.Turning.{t_site as within}
+pub use Rattle.sdd_world.specs.AtSites.{standing_at}
+pub use Rattle.sdd_world.specs.Beginnings.{AllBegin, BeginsD, IsBegun, There}
+pub use Rattle.sdd_world.specs.Copies.{rows_left, table_of, tables_at, tables_of}
+pub use Rattle.sdd_world.specs.Pending.{AreAtLastHomes, Homes, IsListed, Telling, commits, last_home, pending_as, pending_at, pending_by, pending_of, reason_of, stands_at, submitted_at, unmet, wait_at, wait_for, waits_of, why_of}
+pub use Rattle.sdd_world.specs.Schedules.{AreAllowed, lists_after, takes_rounds, with_events}
+pub use Rattle.sdd_world.specs.Standing.{EndsBy, StandsFor}
+pub use Rattle.sdd_world.specs.Standings.{standing_at_t, standing_at_u}
+pub use Rattle.sdd_world.specs.declared.schedule.ClassList.{ClassList}
+pub use Rattle.sdd_world.specs.declared.world.World.{World}
+pub use Rattle.std.proofs.Common.{All, Bool, Contains, Err, IfOk, List, None, Ok, Option, Result, Some, [], ap, append-nil, append_assoc, arith, codes, cond, count_by, drop, eq-eqb, eqb-true, false, filter, filter_map, find, flat_map, fold, if◌then◌else◌, inl, inr, is_none, is_some, le-leb, length, length-append, lt-ltb, map, min, nat_le, nat_lt, ne_eqb, negsuc, not, option_map, pos, position, refl, slice_get, slice_index_or as get_or, subst, suc, sym, take, take_all, true, zero, ℕ, ◌&&◌, ◌++◌, ◌+◌, ◌-◌, ◌<◌, ◌==◌, ◌^◌, ◌||◌, ◌∙◌, ◌∷◌, ◌≡◌, ◌≢◌, ◌≤◌, ◌⊎◌}
+pub use Rattle.std.proofs.Math.Decide.{dec_le}
+pub use Rattle.std.proofs.Math.Seq.{take-append_seam}
+pub use Rattle.std.proofs.lemmas.Bool.{and_from as both, cases_Bool, cases_eq, cases_lt, false≢true, or_left, or_right}
+pub use Rattle.std.proofs.lemmas.List.{get_or_past, length-map, map-append, take_more}
+pub use Rattle.std.proofs.lemmas.List.Elements.{All-cons, All-head, All-nil, All-tail, All-weaker}
+pub use Rattle.std.proofs.lemmas.List.FromFn.{get_or-map-range_with_len}
+pub use Rattle.std.proofs.lemmas.List.Sums.{sum_by-cons}
+pub use Rattle.std.proofs.lemmas.Option.{slice_get-get_or, slice_get_past}
+pub use Rattle.std.proofs.lemmas.Slice.Zip.{AllZip-long}
+pub use Rattle.std.specs.List.{AllZip, best_of, cons_option, list_all, list_any}
+pub use Rattle.std.specs.Option.{option_map_or}
