@@ -1,23 +1,10 @@
 -- Where a run leaves nothing undone, its summary tells as many committed as there are transactions.
-use Rattle.std.proofs.Common.{ℕ, ◌≡◌, ◌≤◌, List, false, length, refl, subst}
-use Rattle.sdd_obligations.specs.All.{Catalogue, Given, HasCommit, IsFrom1To, IsOrderable, IsSerial, IsSound, KeepsStarts, history, marks, submits_in}
-use Rattle.sdd_run.specs.make.Summary.{summary_of}
-use Rattle.sdd_run.specs.progress.Committed.{AllCommitted}
-use Rattle.sdd_run.specs.progress.Eras.{eras_of}
-use Rattle.sdd_run.specs.Runs.{IsSummaryOn, given_of, order_of}
-use Rattle.sdd_run.specs.Settled.{EndsQuiet, NoneIsDown}
-use Rattle.sdd_run.proofs.Marked.{named}
-use Rattle.sdd_run.proofs.Ordered.{orderable, serial, starts}
-use Rattle.sdd_run.proofs.Settled.{quiet_behind, settled}
-use Rattle.sdd_run.proofs.Submissions.{once}
-use Rattle.sdd_run.specs.script.Valid.{IsValid}
-use Rattle.sdd_run.specs.script.declared.workload.Workload.{Workload}
-use Rattle.sdd_verified.specs.Summaries.{SettleAll, TellsAllDone}
+use Rattle.sdd_verified.proofs.All.{AllCommitted, Catalogue, EndsQuiet, HasCommit, IsFrom1To, IsOrderable, IsSerial, IsSound, IsSummaryOn, IsValid, KeepsStarts, List, NoneIsDown, SettleAll, TellsAllDone, Workload, eras_of, given_of, history, length, marks, named_by_events as named, once, order_of, orderable, quiet_behind, refl, settled, starts, submits_in, subst, summary_of, whole_in, ℕ, ◌≤◌}
 use Rattle.sdd_verified.proofs.AllCounted.{all_counted}
 use Rattle.sdd_verified.proofs.EachMarked.{each_submitted}
 use Rattle.sdd_verified.proofs.NoneDown.{are_up, none_down}
 use Rattle.sdd_verified.proofs.Submitting.{is_in_schedule}
-use Rattle.sdd_run.specs.class_lists.InForce.{whole_in}
+use Rattle.sdd_run.proofs.Ordered.{serial}
 
 module _ (cat : Catalogue) (work : Workload) (text : List ℕ) (sound : IsSound (whole_in cat work)) (valid : IsValid cat work)
     (all : SettleAll (length work.txns) work.events) (r : IsSummaryOn cat work text) where

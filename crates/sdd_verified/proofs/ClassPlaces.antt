@@ -1,16 +1,8 @@
 -- The class of a submitted transaction, by its place in the order of submission: it is by the catalogue that is in force
 -- behind the `redeclare`s before the event that submits it.
-use Rattle.std.proofs.Common.{◌≡◌, ℕ, zero, suc, ◌+◌, ◌-◌, ◌≤◌, ◌==◌, List, [], ◌∷◌, ◌++◌, length, slice_get, true, false, cond, Option, Some, None, refl, sym, ap, ◌∙◌, subst, arith, eq-eqb, inl, inr}
-use Rattle.std.specs.Prelude.{slice_index_or}
-use Rattle.std.specs.List.{All}
-use Rattle.std.proofs.lemmas.Bool.{cases_eq, ne_eqb}
-use Rattle.std.proofs.lemmas.List.Elements.{All-head, All-tail}
-use Rattle.sdd_obligations.specs.All.{Catalogue, Deliver, Down, Event, Lose, Redeclare, Repeat, Resend, Settle, Submit, Tick, Txn, Up, class_for, one_if, redeclares_in, submits_by, submits_in}
-use Rattle.sdd_run.specs.script.Valid as scripts
-use Rattle.sdd_run.specs.script.Valid.{IsValidEvent}
-use Rattle.sdd_verify.specs.Classes.{class_if, classes_from, redeclared}
-use Rattle.sdd_verify.specs.Submitted.{submitted_by}
+use Rattle.sdd_verified.proofs.All.{All, All-head, All-tail, Catalogue, Deliver, Down, Event, IsValidEvent, List, Lose, None, Option, Redeclare, Repeat, Resend, Settle, Some, Submit, Tick, Txn, Up, [], ap, arith, cases_eq, class_for, class_if, classes_from, cond, eq-eqb, false, inl, inr, length, ne_eqb, one_if, redeclared, redeclares_in, refl, slice_get, slice_index_or, some_is, submits_in, submitted_by, suc, sym, true, zero, ℕ, ◌++◌, ◌+◌, ◌-◌, ◌==◌, ◌∙◌, ◌∷◌, ◌≡◌, ◌≤◌}
 use Rattle.sdd_verified.proofs.Numbered.{Submits, counted, counted_by, number_by, number_in, some_place, submits}
+use Rattle.sdd_run.specs.script.Valid as scripts
 
 -- how many `redeclare`s stand before the event that submits transaction n, where so many stand before the events
 
@@ -23,9 +15,6 @@ redeclared_at n k [] = k
 redeclared_at n k (e ∷ events) = at_event (scripts.submitted_by e) n k (redeclared_at n (redeclared e k) events)
 
 -- the class at the transaction's place
-
-some_is : {A : Type 0} (x y : A) → Some x ≡ Some y → x ≡ y
-some_is x y e = cc
 
 module _ (era : ℕ → Catalogue) (txns : List Txn) (n : ℕ) (t : Txn) (there : slice_get txns (n - 1) ≡ Some t) where
   abbrev ClassAt : List Event → ℕ → ℕ → ℕ
@@ -43,8 +32,7 @@ module _ (era : ℕ → Catalogue) (txns : List Txn) (n : ℕ) (t : Txn) (there 
       → scripts.submitted_by e ≡ number → submitted_by txns e ≡ text → Submits txns number text
       → (1 ≤ submits_in n events → ClassAt events (redeclared e k) (number_in events n)
       ≡ class_for (era (redeclared_at n (redeclared e k) events)) t)
-      → 1 ≤ counted_by number n + submits_in n events
-      → ClassAt (e ∷ events) k (number_by number n (number_in events n))
+      → 1 ≤ counted_by number n + submits_in n events → ClassAt (e ∷ events) k (number_by number n (number_in events n))
       ≡ class_for (era (at_event number n k (redeclared_at n (redeclared e k) events))) t
   class_by k e events None None a b h later some =
       let rest : List ℕ = classes_from era txns (redeclared e k) events in

@@ -1,33 +1,7 @@
 -- What holds of all numbers of 64 bits, and of each value of the rows and transactions that are given, holds of the values in every
 -- copy that a log leaves.
-use Rattle.std.proofs.Common.{ℕ, ◌++◌, ◌==◌, ◌≡◌, ◌∷◌, ℤ, List, None, Option, Some, [], cond, false, if◌then◌else◌, map, nat_lt, refl, true}
-use Rattle.std.specs.Prelude.{Contains, filter, filter_map, flat_map, unwrap_or}
-use Rattle.std.specs.List.{AllByRecursion, cons_option}
-use Rattle.std.specs.Ordering.{int_cmp, is_eq}
-use Rattle.std.proofs.lemmas.List.Elements.{All-contains, All-from_recursion}
-use Rattle.sdd_obligations.proofs.base.Membership.{Contains-here, Contains-later}
-use Rattle.sdd_obligations.specs.All.{Catalogue, Change, Committed, Eras, Given, Int, IsPermitted, IsSerial, IsSound, Log, RelNo, Row, Txn, TxnNo, committed, contents, copy_at, database_of, history, tm_no}
-use Rattle.sdd_obligations.specs.base.declared.value.Value.{Value}
-use Rattle.sdd_obligations.proofs.laws.Members.{Contains-from_filter}
-use Rattle.sdd_obligations.specs.copy.Contents.{Dated, keys_in, latest, newer, of_fragment, row_left, row_with}
-use Rattle.sdd_obligations.proofs.lang.StaysDatabase.{rows_make_database}
-use Rattle.sdd_obligations.specs.lang.Database.{Database}
-use Rattle.sdd_obligations.specs.lang.Update.{in_range}
-use Rattle.sdd_obligations.proofs.laws.Orders.{agrees, listed}
-use Rattle.sdd_obligations.proofs.laws.Recorded.{are_recorded, ledger}
-use Rattle.sdd_obligations.specs.laws.Deeds.{txn_at}
-use Rattle.sdd_obligations.specs.laws.Snapshots.{dated, dated_at, first_row, first_rows, is_applied}
-use Rattle.sdd_obligations.proofs.laws.Run.{replayed}
-use Rattle.sdd_obligations.specs.laws.Replayed.{IsReplayed}
-use Rattle.sdd_lawful.proofs.Applies.{keeps_applies}
-use Rattle.sdd_lawful.proofs.Effects.{keeps_answers}
-use Rattle.sdd_lawful.proofs.Starts.{keeps_starts}
-use Rattle.sdd_lawful.specs.Given.{AreErasOf, HasSoundData}
+use Rattle.sdd_verified.proofs.All.{AllByRecursion, AreErasOf, Catalogue, Change, Committed, Contains, Contains-from_filter, Contains-here, Contains-later, Database, Dated, Eras, Given, HasSoundData, Int, IsPermitted, IsReplayed, IsSerial, IsSound, List, Log, None, Option, RelNo, Row, Some, Txn, TxnNo, Value, [], agrees, are_recorded, at_each, committed, cond, cons_option, contents, copy_at, database_of, dated, dated_at, false, filter, filter_map, first_row, first_rows, flat_map, history, if◌then◌else◌, in_range, int_cmp, is_applied, is_eq, keeps_answers, keeps_applies, keeps_starts, keys_in, latest, ledger, listed, map, nat_lt, newer, of_fragment, refl, replayed, row_left, row_with, rows_make_database, tm_no, true, txn_at, unwrap_or, ℕ, ℤ, ◌++◌, ◌==◌, ◌∷◌, ◌≡◌}
 use Rattle.sdd_verified.proofs.ValuesKept.{Changes, Hold, Holds, Leaves, Stored, WritesAll, first_holds, given_changes}
-
--- where all of a list have it
-at_each : {A : Type 0} (P : A → Type 0) (xs : List A) → AllByRecursion P xs → (x : A) → Contains xs x → P x
-at_each P xs h x there = All-contains P xs x (All-from_recursion P xs h) there
 
 module _ (P : Value → Type 0) (ints : (n : ℤ) → in_range n ≡ true → P (Int n)) where
   -- what dated changes leave

@@ -1,19 +1,5 @@
 -- No word of a report holds a newline, where no value does.
-use Rattle.std.proofs.Common.{ℕ, suc, ◌-◌, ◌++◌, ◌≡◌, ◌∷◌, ℤ, pos, negsuc, List, [], arith, refl, rules, slice_get, true}
-use Rattle.std.specs.Prelude.{codes, flat_map}
-use Rattle.std.specs.List.{All, AllByRecursion}
-use Rattle.sdd_obligations.specs.base.Name.{IsName}
-use Rattle.sdd_obligations.specs.All.{Catalogue, Class, D, Fragment, Int, Row, Site, T, Txn, TxnNo, U}
-use Rattle.sdd_obligations.specs.base.declared.value.Value.{Value}
-use Rattle.sdd_obligations.specs.lang.Update.{in_range}
-use Rattle.sdd_run.specs.report.Committed.{names_of}
-use Rattle.sdd_run.specs.report.Names.{class_time, fragment_name, module_word, site_word, spaced}
-use Rattle.sdd_run.specs.report.Pending.{why_words}
-use Rattle.sdd_run.specs.report.Replies.{value_bytes}
-use Rattle.sdd_run.specs.report.declared.pending.Why.{Why}
-use Rattle.sdd_run.specs.report.declared.pending.Why.TheVariants.{Queued, Waits, Underway}
-use Rattle.sdd_run.proofs.script.WordLooks.{no_newline-append}
-use Rattle.sdd_words.specs.Lines.{HasNoNewline}
+use Rattle.sdd_verified.proofs.All.{All, AllByRecursion, Catalogue, Class, D, Fragment, HasNoNewline, Int, IsName, List, Queued, Row, Site, T, Txn, TxnNo, U, Underway, Value, Waits, Why, [], arith, class_time, codes, flat_map, fragment_name, in_range, module_word, names_of, negsuc, no_newline-append, pos, refl, rules, site_word, slice_get, spaced, suc, true, value_bytes, why_words, ℕ, ℤ, ◌++◌, ◌-◌, ◌∷◌, ◌≡◌}
 use Rattle.sdd_verified.proofs.ReportLines.{class_time_line, module_line, named_by, number_line, spaced_line, txn_line}
 use Rattle.sdd_verified.proofs.ValuesKept.{Holds}
 
@@ -31,8 +17,7 @@ values_line [] h = tt
 values_line (v ∷ row) h =
     no_newline-append (32 ∷ value_bytes v) (flat_map (λ v. 32 ∷ value_bytes v) row) (spaced_line (value_bytes v) h.0) (values_line row h.1)
 
-module _ (cat : Catalogue) (txns : List Txn)
-    (classes_named : All (λ (k : Class). IsName k.name) cat.classes)
+module _ (cat : Catalogue) (txns : List Txn) (classes_named : All (λ (k : Class). IsName k.name) cat.classes)
     (fragments_named : All (λ (f : Fragment). IsName f.name) cat.fragments)
     (txns_named : All (λ (t : Txn). IsName t.name) txns) where
   -- names

@@ -1,13 +1,6 @@
 -- In a complete log each transaction that its events submit is submitted.
-use Rattle.std.proofs.Common.{ℕ, ◌+◌, ◌++◌, ◌==◌, ◌≡◌, ◌≤◌, ◌∙◌, ◌∷◌, Bool, List, None, Option, Some, [], ap, arith, false, inl, inr, length, refl, subst, sym, true}
-use Rattle.std.specs.Prelude.{◌⊎◌}
-use Rattle.std.proofs.lemmas.Bool.{eqb-true}
-use Rattle.sdd_obligations.specs.All.{Deliver, Does, Down, Entry, Event, Given, Hand, IsLawful, IsSubmitted, Log, Lose, Mark, Notes, Redeclare, Redeclares, Repeat, Resend, Round, Settle, Site, Submit, Submitted, Tick, TxnNo, Up, all_links, calls_of, due_by, force_at, hand_due, history, left, mark_due, mark_from, mark_of, next, next_mark, note_if, one_if, or_else, quiet, redeclares, round, site_due, submits_by, submits_in, txn_at, txn_no}
-use Rattle.sdd_obligations.specs.history.declared.record.Rec.TheVariants.{Submit as Submission}
-use Rattle.sdd_obligations.specs.logs.Due.{home_of}
-use Rattle.sdd_obligations.specs.logs.Marks.{from_event}
-use Rattle.sdd_obligations.proofs.logs.NewMarks.{left_is, marked}
-use Rattle.sdd_lawful.proofs.Places.{stands_there}
+use Rattle.sdd_verified.proofs.All.{Bool, Deliver, Does, Down, Entry, Event, Given, Hand, IsLawful, IsSubmitted, List, Log, Lose, Mark, None, Notes, Option, Redeclare, Redeclares, Repeat, Resend, Round, Settle, Site, Some, Submission, Submit, Submitted, Tick, TxnNo, Up, [], all_links, ap, arith, calls_of, due_by, eqb-true, false, force_at, from_event, hand_due, history, home_of, inl, inr, left, left_is, length, mark_due, mark_from, mark_of, marked, next, next_mark, note_if, one_if, or_else, quiet, redeclares, refl, round, site_due, stands_there, submits_by, submits_in, subst, sym, true, txn_no, ℕ, ◌++◌, ◌+◌, ◌==◌, ◌∙◌, ◌∷◌, ◌≡◌, ◌≤◌, ◌⊎◌}
+use Rattle.sdd_obligations.specs.All.{txn_at}
 
 -- of what a complete log leaves no event has a mark
 

@@ -1,9 +1,5 @@
 -- What follows the replies of a report: its first line is of no reply.
-use Rattle.std.proofs.Common.{◌≡◌, ℕ, List, [], ◌∷◌, ◌++◌, false, sym, ap, ◌∙◌, subst, append_assoc}
-use Rattle.std.specs.Prelude.{codes}
-use Rattle.sdd_words.specs.Lines.{AreLines, HasNoNewline, spelled_lines}
-use Rattle.sdd_verify.specs.Lines.{lines_of, tells_reply}
-use Rattle.sdd_verify.proofs.LineCuts.{IsWhole, cut_are_lines, whole_empty, whole_ended, whole_is}
+use Rattle.sdd_verified.proofs.All.{AreLines, HasNoNewline, IsWhole, List, [], ap, append_assoc, codes, cut_are_lines, false, lines_of, spelled_lines, subst, sym, tells_reply, whole_empty, whole_ended, whole_is, ℕ, ◌++◌, ◌∙◌, ◌∷◌, ◌≡◌}
 use Rattle.sdd_verified.proofs.ReportLines.{Begins}
 
 pub record FirstLine (text : List ℕ) : Type 0 where

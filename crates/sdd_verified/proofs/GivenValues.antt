@@ -1,29 +1,9 @@
 -- What holds of all numbers of 64 bits, and of each value that a workload allows, holds of the values in the replies and in
 -- the copies that a report on its run tells.
-use Rattle.std.proofs.Common.{ℕ, ◌-◌, ◌≡◌, ◌∷◌, ℤ, List, None, Option, Some, [], false, length, refl, subst, sym, true}
-use Rattle.std.specs.Prelude.{Contains}
-use Rattle.std.specs.List.{All, AllByRecursion, cons_option}
-use Rattle.std.proofs.lemmas.List.Elements.{All-head, All-tail, recursion_from_All}
-use Rattle.sdd_obligations.specs.All.{Catalogue, Delete, Given, Int, IsSound, Put, Query, RelNo, Row, Stmt, Txn, TxnNo, Update, database_of, history, run}
-use Rattle.sdd_obligations.specs.base.declared.value.Value.{Value}
-use Rattle.sdd_obligations.specs.lang.Update.{in_range}
-use Rattle.sdd_obligations.specs.lang.declared.assign.Assign.{Assign}
-use Rattle.sdd_obligations.specs.lang.declared.assign.Assign.TheVariants.{To, Add}
-use Rattle.sdd_obligations.specs.laws.Deeds.{txn_at}
-use Rattle.sdd_obligations.specs.laws.Replay.{texts_of}
-use Rattle.sdd_obligations.proofs.net.Lists.{All-at}
-use Rattle.sdd_obligations.specs.serial_orders.SerialOrder.{serial_order}
-use Rattle.sdd_run.specs.report.declared.copies.CopyTable.{CopyTable}
-use Rattle.sdd_run.specs.world.Copies.{tables_of}
-use Rattle.sdd_run.specs.Runs.{IsReportOn, given_of}
-use Rattle.sdd_run.proofs.Left.{told_rows}
-use Rattle.sdd_run.proofs.RunOf.{eras_are, fine, lists, permitted}
-use Rattle.sdd_run.specs.progress.Eras.{eras_of}
-use Rattle.sdd_run.specs.script.Valid.{AssignsValue, HoldsValues, IsValid, IsValidRow, IsValidTxn, IsValue}
-use Rattle.sdd_run.specs.script.declared.workload.Workload.{Workload}
+use Rattle.sdd_verified.proofs.All.{Add, All, All-at, All-head, All-tail, AllByRecursion, Assign, AssignsValue, Catalogue, Contains, CopyTable, Delete, Given, HoldsValues, Int, IsReportOn, IsSound, IsValid, IsValidRow, IsValidTxn, IsValue, List, None, Option, Put, Query, RelNo, Row, Some, Stmt, To, Txn, TxnNo, Update, Value, Workload, [], cons_option, database_of, eras_are, eras_of, fine, given_of, history, in_range, length, lists, permitted, recursion_from_All, refl, run, serial_order, subst, sym, tables_of, told_rows, true, txn_at, whole_in, ℕ, ℤ, ◌-◌, ◌∷◌, ◌≡◌}
 use Rattle.sdd_verified.proofs.CleanCopies.{copy_holds}
 use Rattle.sdd_verified.proofs.ValuesKept.{Assigns, Answers, Hold, Holds, Writes, WritesAll, first_holds, serial_answers}
-use Rattle.sdd_run.specs.class_lists.InForce.{whole_in}
+use Rattle.sdd_obligations.specs.laws.Replay.{texts_of}
 
 module _ (P : Value → Type 0) (ints : (n : ℤ) → in_range n ≡ true → P (Int n)) (given : (v : Value) → IsValue v → P v) where
   row_given : (row : Row) → AllByRecursion IsValue row → Holds P ints row

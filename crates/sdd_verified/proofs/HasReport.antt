@@ -1,20 +1,6 @@
 -- The run of a workload has a report, or the limit ends it.
-use Rattle.std.proofs.Common.{ℕ, List, [], ◌∷◌, inl, inr, refl}
-use Rattle.std.specs.List.{AllZip}
-use Rattle.std.specs.Prelude.{◌⊎◌}
-use Rattle.sdd_acyclic.proofs.EachTable.{each_table}
-use Rattle.sdd_obligations.specs.All.{Catalogue, IsSound, IsTable}
-use Rattle.sdd_termination.proofs.Ends.{run_ends}
+use Rattle.sdd_verified.proofs.All.{AllZip, Catalogue, EndsAtLimit, IsReportOn, IsSound, IsTable, IsValid, List, Workload, [], each_table, eras_in, given_of, inl, inr, once, refl, report_of, report_text, reported, run_ends, whole_sound, ℕ, ◌∷◌, ◌⊎◌}
 use Rattle.sdd_obligations.specs.protocol.declared.entry.Entry.{Entry}
-use Rattle.sdd_run.specs.report.Report.{report_text}
-use Rattle.sdd_run.specs.Reports.{report_of}
-use Rattle.sdd_run.specs.Runs.{EndsAtLimit, IsReportOn, given_of}
-use Rattle.sdd_run.proofs.Reported.{reported}
-use Rattle.sdd_run.proofs.Submissions.{once}
-use Rattle.sdd_run.specs.script.Valid.{IsValid}
-use Rattle.sdd_run.specs.script.declared.workload.Workload.{Workload}
-use Rattle.sdd_run.specs.class_lists.InForce.{eras_in}
-use Rattle.sdd_run.proofs.class_lists.WholeSound.{whole_sound}
 
 -- each catalogue has its protocol table
 tabled : (cats : List Catalogue) → (tables : List (List Entry)) × AllZip IsTable cats tables

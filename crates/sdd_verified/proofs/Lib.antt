@@ -1,3 +1,4 @@
+mod All
 pub mod AllCounted
 pub mod AllSummed
 pub mod ClassPlaces

@@ -1,37 +1,8 @@
 -- Which list of classes is in force where a transaction is submitted: that which the `redeclare`s before its event put in
 -- force.
-use Rattle.std.proofs.Common.{◌≡◌, ℕ, zero, suc, Some, refl, slice_get, ◌+◌, ◌≤◌, ◌==◌, List, [], ◌∷◌, ◌++◌, length, sym, ap, ◌∙◌, subst, arith, append_assoc, inl, inr}
-use Rattle.std.specs.Prelude.{slice_index_or}
-use Rattle.sdd_obligations.specs.All.{AllFewTicks, AreSubmittedOnce, Does, Eras, Event, Given, Hand, IsLawful, IsPermitted, IsSubmitted, Log, Mark, Notes, Redeclares, Round, Site, Submit, Submitted, event_at, force_at, history, left, marks, one_if, redeclares, redeclares_in, submits_by, submits_in, txn_no}
-use Rattle.sdd_obligations.proofs.Done.{count_join, done}
-use Rattle.sdd_obligations.proofs.invariants.Made.{permitted_before}
-use Rattle.sdd_obligations.specs.laws.Eras.{in_force}
-use Rattle.sdd_obligations.specs.history.declared.record.Rec.TheVariants.{Submit as Submission}
-use Rattle.sdd_obligations.proofs.logs.NewMarks.{lawful_permitted, left_is, marked}
-use Rattle.sdd_lawful.specs.Given.{AreErasOf}
-use Rattle.sdd_lawful.proofs.Places.{event_there}
-use Rattle.sdd_lawful.proofs.Submissions.{given_at, submit_in}
+use Rattle.sdd_verified.proofs.All.{AllFewTicks, AreSubmittedOnce, Does, Event, Given, Hand, IsLawful, IsPermitted, IsSubmitted, List, Log, Mark, Notes, Redeclares, Round, Site, Submit, Submitted, [], ap, append_assoc, arith, count_join, done, given_at, history, inl, inr, lawful_before, lawful_permitted, left, left_is, length, one_if, permitted_before, redeclares, redeclares_in, submit_in, submits_by, submits_in, subst, sym, ℕ, ◌++◌, ◌+◌, ◌==◌, ◌∙◌, ◌∷◌, ◌≡◌, ◌≤◌}
 use Rattle.sdd_verified.proofs.ClassPlaces.{before_any, behind_front, redeclared_at}
-use Rattle.sdd_verified.proofs.Submitting.{lawful_before, own_mark, submits_append, two_fronts}
-
-index_is : {A : Type 0} (x y : A) → Some x ≡ Some y → x ≡ y
-index_is x y e = cc
-
-pub index_or : {A : Type 0} (xs : List A) (k : ℕ) (d m : A) → slice_get xs k ≡ Some m → slice_index_or xs k d ≡ m
-index_or [] k d m e = absurd cc
-index_or (x ∷ xs) zero d m e = index_is x m e
-index_or (x ∷ xs) (suc k) d m e = index_or xs k d m e
-
--- the catalogue in force at the event of a Submit, by the eras of the log
-pub event_of_submit : (g : Given) (log : Log) (eras : Eras) (n : ℕ) (later rest : Log) (at : Site) → AreErasOf g log eras
-    → log ≡ later ++ Submitted at n ∷ rest
-    → in_force g.catalogue eras (event_at (history log) (length (history rest))) ≡ (force_at g (redeclares rest)).catalogue
-event_of_submit g log eras n later rest at are is =
-    let event : event_at (history log) (length (history rest)) ≡ marks rest =
-    ap (λ (l : Log). event_at (history l) (length (history rest))) is
-    ∙ event_there later (Submitted at n) rest (Submission (txn_no n)) refl in
-    ap (in_force g.catalogue eras) event
-    ∙ are.force_is (later ++ Submitted at n ∷ []) rest (is ∙ sym (append_assoc later (Submitted at n ∷ []) rest))
+use Rattle.sdd_verified.proofs.Submitting.{own_mark, submits_append, two_fronts}
 
 -- earlier there are no more
 pub redeclares_before : (later before : Log) → redeclares before ≤ redeclares (later ++ before)

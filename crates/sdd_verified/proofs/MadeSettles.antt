@@ -1,24 +1,9 @@
 -- Made input leaves nothing undone: it submits each of its transactions, takes no module down, and ends with a settle.
-use Rattle.std.proofs.Common.{ℕ, zero, suc, ◌+◌, ◌++◌, ◌/◌, ◌%◌, ◌<◌, ◌==◌, ◌≡◌, ◌≤◌, ◌∷◌, List, [], ap, arith, false, inl, inr, length, refl, subst, sym, append_assoc}
-use Rattle.std.specs.Prelude.{nat_lt}
-use Rattle.std.specs.List.{list_any}
-use Rattle.std.proofs.lemmas.Bool.{cases_eq, eq-eqb}
-use Rattle.sdd_obligations.specs.All.{D, Event, IsSound, MAX_TXNS, Settle, T, dm_no, one_if, submits_in, tm_no}
+use Rattle.sdd_verified.proofs.All.{D, Event, IsSound, IsSummaryOn, List, MAX_TXNS, Settle, SettleAll, T, TellsAllDone, [], ap, append_assoc, arith, arrival, bank, cases_eq, choose, deliveries, delivery, dm_no, draw, drawn_events, drawn_txn, eq-eqb, events_of, false, inl, inr, length, list_any, nat_lt, one_if, refl, shown, submits_in, subst, suc, sym, takes_down, tm_no, turn, turns, turns_of, txns_count, txns_of, whole_sound, workload_of, workload_valid, zero, ℕ, ◌%◌, ◌++◌, ◌+◌, ◌/◌, ◌<◌, ◌==◌, ◌∷◌, ◌≡◌, ◌≤◌}
 use Rattle.sdd_obligations.specs.catalog.Rules.{faults_of}
-use Rattle.sdd_run.specs.make.Bank.{bank}
-use Rattle.sdd_run.specs.make.Draws.{draw, next, shown}
-use Rattle.sdd_run.specs.make.Turns.{arrival, deliveries, delivery, drawn_events, drawn_txn, events_of, turn, turns, turns_of, txns_of, workload_of}
-use Rattle.sdd_run.proofs.make.ValidEvents.{txns_count}
-use Rattle.sdd_run.proofs.make.ValidTxns.{choose}
-use Rattle.sdd_run.proofs.make.ValidWorkloads.{workload_valid}
-use Rattle.sdd_run.specs.Runs.{IsSummaryOn}
-use Rattle.sdd_verified.specs.Summaries.{SettleAll, TellsAllDone, takes_down}
 use Rattle.sdd_verified.proofs.AllSummed.{all_summed}
-use Rattle.sdd_run.proofs.class_lists.WholeSound.{whole_sound}
-
-submits_both : (n : ℕ) (xs ys : List Event) → submits_in n (xs ++ ys) ≡ submits_in n xs + submits_in n ys
-submits_both n [] ys = omega arith
-submits_both n (e ∷ xs) ys = let more = submits_both n xs ys in omega (arith, more)
+use Rattle.sdd_verified.proofs.Submitting.{submits_append as submits_both}
+use Rattle.sdd_run.specs.make.Draws.{next}
 
 -- each transaction is submitted in its turn
 submits_own : (n k rest : ℕ) → k ≡ n → 1 ≤ one_if (k == n) + rest

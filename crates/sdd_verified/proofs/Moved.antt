@@ -1,19 +1,5 @@
 -- An order of a workload's transactions, by their places in the order of submission.
-use Rattle.std.proofs.Common.{◌≡◌, ◌≢◌, ℕ, zero, suc, ◌<◌, ◌≤◌, List, [], ◌∷◌, ◌++◌, length, map, Option, Some, None, refl, sym, ap, ◌∙◌, subst, arith}
-use Rattle.std.specs.Prelude.{codes}
-use Rattle.std.specs.List.{All}
-use Rattle.std.specs.Option.{option_map_or}
-use Rattle.std.proofs.lemmas.List.Elements.{All-cons, All-head, All-nil, All-tail}
-use Rattle.std.proofs.lemmas.List.Folds.{flat_map-map}
-use Rattle.sdd_obligations.specs.All.{Catalogue, Txn, TxnNo, submits_in, txn_no}
-use Rattle.sdd_run.specs.report.Committed.{order_line}
-use Rattle.sdd_run.specs.script.Valid.{IsValid}
-use Rattle.sdd_run.specs.script.declared.workload.Workload.{Workload}
-use Rattle.sdd_verify.specs.Classes.{class_of, classes_submitted}
-use Rattle.sdd_verify.specs.Submitted.{submitted, texts_of, txn_of}
-use Rattle.sdd_verify.specs.Verified.{IsInTurn, at}
-use Rattle.sdd_verify.proofs.NamesTold.{IsThere, name_in}
-use Rattle.sdd_verify.proofs.OrderWords.{behind_spaces}
+use Rattle.sdd_verified.proofs.All.{All, All-cons, All-head, All-nil, All-tail, Catalogue, IsInTurn, IsThere, IsValid, List, None, Option, Some, Txn, TxnNo, Workload, [], ap, arith, at, behind_spaces, class_of, classes_submitted, codes, flat_map-map, length, map, name_in, option_map_or, order_line, refl, submits_in, submitted, subst, suc, sym, texts_of, txn_no, txn_of, zero, ℕ, ◌++◌, ◌<◌, ◌∙◌, ◌∷◌, ◌≡◌, ◌≢◌, ◌≤◌}
 use Rattle.sdd_verified.proofs.Numbered.{PlaceOf, number_in, place_of}
 
 module _ (cat : Catalogue) (work : Workload) (valid : IsValid cat work) where

@@ -1,14 +1,5 @@
 -- Where no event takes a data module down, none is down at any time.
-use Rattle.std.proofs.Common.{ℕ, zero, suc, ◌++◌, ◌==◌, ◌≡◌, ◌∷◌, Bool, List, None, Some, [], cond, false, refl, subst, true}
-use Rattle.std.specs.Prelude.{filter_map, flat_map, if◌then◌else◌, replicate}
-use Rattle.std.specs.List.{cons_option, list_any}
-use Rattle.sdd_obligations.specs.base.Words.{tail_of}
-use Rattle.sdd_obligations.specs.All.{Call, Deliver, Does, Down, Event, Given, Hand, IsLawful, Log, Lose, Mark, Msg, Notes, Redeclare, Redeclares, Repeat, Resend, Round, Settle, Site, Submit, Submitted, Tick, Up, after_mark, all_links, calls_of, in_flight, is_down, left, link, mark_from, mark_of, quiet, resends_now, round}
-use Rattle.sdd_obligations.proofs.invariants.Bools.{neither_left, neither_right}
-use Rattle.sdd_obligations.specs.logs.Marks.{from_event}
-use Rattle.sdd_obligations.specs.logs.Traffic.{turned_by}
-use Rattle.sdd_termination.proofs.Marked.{next_is_of_events}
-use Rattle.sdd_verified.specs.Summaries.{takes_down}
+use Rattle.sdd_verified.proofs.All.{Bool, Call, Deliver, Does, Down, Event, Given, Hand, IsLawful, List, Log, Lose, Mark, Msg, None, Notes, Redeclare, Redeclares, Repeat, Resend, Round, Settle, Site, Some, Submit, Submitted, Tick, Up, [], after_mark, all_links, calls_of, cond, cons_option, false, filter_map, flat_map, from_event, if◌then◌else◌, in_flight, is_down, left, link, list_any, mark_from, mark_of, neither_left, neither_right, next_is_of_events, quiet, refl, replicate, resends_now, round, round_from, subst, suc, tail_of, takes_down, true, turned_by, zero, ℕ, ◌++◌, ◌==◌, ◌∷◌, ◌≡◌}
 
 -- events of which none takes a module down
 abbrev AreUp : List Event → Type 0
@@ -76,21 +67,6 @@ from_up (Up d ∷ events) h = h
 marked_up : (s : List Event × List Event) → AreLeftUp s → AreLeftUp (after_mark s)
 marked_up (events, []) h = record { events = tail_up (from_event events) (from_up events h.events); of_round = tt }
 marked_up (events, e ∷ of_round) h = record { events = h.events; of_round = h.of_round.1 }
-
-round_from : (g : Given) (log : Log) (q : Bool) (r ws es : List Event) → mark_from g log q r ws ≡ Some (Round es) → r ≡ es
-round_from g log q r [] es h = cc
-round_from g log true r (Settle ∷ ws) es h = round_from g log true r ws es h
-round_from g log false r (Settle ∷ ws) es h = cc
-round_from g log true r (Redeclare ∷ ws) es h = cc
-round_from g log false r (Redeclare ∷ ws) es h = cc
-round_from g log q r (Submit n ∷ ws) es h = cc
-round_from g log q r (Deliver a b k ∷ ws) es h = cc
-round_from g log q r (Lose a b k ∷ ws) es h = cc
-round_from g log q r (Repeat a b k ∷ ws) es h = cc
-round_from g log q r (Resend a b ∷ ws) es h = cc
-round_from g log q r (Tick t k ∷ ws) es h = cc
-round_from g log q r (Down d ∷ ws) es h = cc
-round_from g log q r (Up d ∷ ws) es h = cc
 
 begun_up : (g : Given) (log : Log) (es : List Event) (s : List Event × List Event) → mark_of g log s ≡ Some (Round es) → AreUp es
 begun_up g log es (ws, []) h =

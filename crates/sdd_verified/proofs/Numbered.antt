@@ -1,14 +1,6 @@
 -- The submitted transactions of a schedule, by their places in the order of submission, counted from 1.
-use Rattle.std.proofs.Common.{◌≡◌, ℕ, zero, suc, ◌+◌, ◌-◌, ◌<◌, ◌≤◌, ◌==◌, List, [], ◌∷◌, ◌++◌, length, slice_get, true, false, cond, Option, Some, None, refl, sym, ap, ◌∙◌, subst, arith, eq-eqb, inl, inr}
-use Rattle.std.specs.Prelude.{MatchOption}
-use Rattle.std.specs.List.{All, filter_map}
-use Rattle.std.proofs.lemmas.Bool.{cases_eq, ne_eqb}
-use Rattle.std.proofs.lemmas.List.Elements.{All-head, All-tail}
-use Rattle.sdd_obligations.specs.All.{Catalogue, Deliver, Down, Event, Lose, Redeclare, Repeat, Resend, Settle, Submit, Tick, Txn, Up, one_if, submits_by, submits_in}
+use Rattle.sdd_verified.proofs.All.{All, All-head, All-tail, Catalogue, Deliver, Down, Event, IsValidEvent, List, Lose, MatchOption, None, Option, Redeclare, Repeat, Resend, Settle, Some, Submit, Tick, Txn, Up, [], ap, arith, cases_eq, cond, eq-eqb, false, filter_map, inl, inr, length, member_at, ne_eqb, one_if, refl, slice_get, submits_by, submits_in, submitted_by, subst, suc, sym, true, zero, ℕ, ◌++◌, ◌+◌, ◌-◌, ◌<◌, ◌==◌, ◌∙◌, ◌∷◌, ◌≡◌, ◌≤◌}
 use Rattle.sdd_run.specs.script.Valid as scripts
-use Rattle.sdd_run.specs.script.Valid.{IsValidEvent}
-use Rattle.sdd_verify.specs.Submitted.{submitted_by}
-use Rattle.sdd_verify.proofs.NamesTold.{member_at}
 
 -- the place of transaction n, by what an event submits and its place behind the event
 abbrev pub number_by : Option ℕ → ℕ → ℕ → ℕ
@@ -183,8 +175,7 @@ more_front e events m n none s =
       front = e ∷ s.front;
       rest = s.rest;
       is = ap (λ (l : List Event). e ∷ l) s.is;
-      first =
-          omega (arith, first);
+      first = omega (arith, first);
       not_yet = omega (arith, none, not_yet);
     }
 

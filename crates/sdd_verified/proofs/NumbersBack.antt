@@ -1,36 +1,10 @@
 -- Names that don't meet give back the transactions, so two reports on the same transactions that have one text tell of the
 -- same ones.
-use Rattle.std.proofs.Common.{ℕ, zero, suc, ◌-◌, ◌<◌, ◌≡◌, ◌∙◌, ◌∷◌, List, Some, [], ap, arith, false, get_or, length, map, refl, subst, sym}
-use Rattle.std.specs.Prelude.{slice_get}
-use Rattle.std.specs.List.{AllByRecursion, position}
-use Rattle.std.specs.Option.{option_map_or}
-use Rattle.std.specs.Str.{bytes_eq}
-use Rattle.std.proofs.lemmas.List.{length-map}
-use Rattle.std.proofs.lemmas.Option.{same_Some}
-use Rattle.sdd_obligations.specs.All.{Catalogue, Given, IsFrom1To, IsSound, Txn, TxnNo, txn_no}
-use Rattle.sdd_obligations.specs.catalog.Naming.{AreNamed}
-use Rattle.sdd_obligations.specs.catalog.Rules.{repeats}
-use Rattle.sdd_run.specs.report.Committed.{names_of}
-use Rattle.sdd_run.specs.report.Names.{txn_name}
-use Rattle.sdd_run.specs.report.declared.pending.Pending.{Pending}
-use Rattle.sdd_run.proofs.Lossless.{listed_submits}
-use Rattle.sdd_run.proofs.Marked.{named as named_by_events}
-use Rattle.sdd_run.proofs.Submissions.{once}
-use Rattle.sdd_run.specs.Reports.{report_of}
-use Rattle.sdd_run.specs.Runs.{IsReportOn, given_of, order_of}
-use Rattle.sdd_run.proofs.script.NamePlaces.{place_of_name}
-use Rattle.sdd_run.specs.script.Valid.{IsValid}
-use Rattle.sdd_run.specs.script.declared.workload.Workload.{Workload}
-use Rattle.sdd_run.specs.world.AtSites.{standing_at}
-use Rattle.sdd_run.specs.world.Standings.{standing_at_t, standing_at_u}
+use Rattle.sdd_verified.proofs.All.{AllByRecursion, AreNamed, Catalogue, Given, IsFrom1To, IsReportOn, IsSound, IsValid, List, Pending, Some, TellOfTheSame, Txn, TxnNo, Workload, [], all_by_member, ap, arith, bytes_eq, false, given_of, length, length-map, listed_submits, map, named_by_events, names_of, once, option_map_or, order_of, pending_names, pending_numbers, place_of_name, position, refl, repeats, report_of, same_Some, slice_get, slice_index_or as get_or, standing_at, standing_at_t, standing_at_u, subst, suc, sym, txn_name, txn_no, whole_in, whole_named, whole_sound, zero, ℕ, ◌-◌, ◌<◌, ◌∙◌, ◌∷◌, ◌≡◌}
 use Rattle.sdd_verified.proofs.OneText.{one_text}
 use Rattle.sdd_verified.proofs.PartsBack.{same_first}
-use Rattle.sdd_verified.proofs.ReportParts.{all_by_member}
 use Rattle.sdd_verified.proofs.Reported.{one_given}
 use Rattle.sdd_verified.proofs.Submitting.{is_in_schedule}
-use Rattle.sdd_verified.specs.Tellings.{TellOfTheSame, pending_names, pending_numbers}
-use Rattle.sdd_run.specs.class_lists.InForce.{whole_in}
-use Rattle.sdd_run.proofs.class_lists.WholeSound.{whole_named, whole_sound}
 
 abbrev named : List Txn → List (List ℕ)
 named txns = map (λ (t : Txn). t.name) txns

@@ -1,37 +1,11 @@
 -- Two reports that have one text tell the same.
-use Rattle.std.proofs.Common.{ℕ, ◌-◌, ◌++◌, ◌≡◌, ◌∙◌, ◌∷◌, List, None, Option, Some, [], ap, false, length, refl, sym}
-use Rattle.std.specs.Prelude.{codes, slice_get}
-use Rattle.std.specs.List.{All, AllByRecursion}
-use Rattle.std.specs.Option.{option_map_or}
-use Rattle.std.proofs.lemmas.List.{append_cancel_right}
-use Rattle.sdd_obligations.specs.base.Name.{IsName}
-use Rattle.sdd_obligations.specs.All.{Catalogue, IsSound, Reply, Txn, TxnNo, history}
-use Rattle.sdd_obligations.specs.catalog.Naming.{AreNamed}
-use Rattle.sdd_run.specs.class_lists.InForce.{classes_in, whole_in}
-use Rattle.sdd_run.proofs.class_lists.OtherClasses.{whole_over}
-use Rattle.sdd_run.proofs.class_lists.WholeSound.{whole_named, whole_sound}
-use Rattle.sdd_run.specs.report.Committed.{names_of}
-use Rattle.sdd_run.specs.report.Names.{txn_name}
-use Rattle.sdd_run.specs.report.Report.{Report}
-use Rattle.sdd_run.specs.report.declared.copies.CopyTable.{CopyTable}
-use Rattle.sdd_run.specs.Runs.{IsReportOn, order_of}
-use Rattle.sdd_run.proofs.script.WordLooks.{name_fine}
-use Rattle.sdd_run.specs.script.Valid.{IsValid}
-use Rattle.sdd_run.specs.script.declared.workload.Workload.{Workload}
-use Rattle.sdd_verify.proofs.Submissions.{found_member}
-use Rattle.sdd_words.specs.Words.{HasNoSpace, IsPlain}
+use Rattle.sdd_verified.proofs.All.{All, AllByRecursion, AreNamed, Catalogue, CopyTable, HasNoSpace, IsName, IsReportOn, IsSound, IsValid, List, None, Option, Reply, Report, Some, TellAlike, Txn, TxnNo, Workload, [], ap, append_cancel_right, classes_in, codes, copies_words, found_member, history, length, name_fine, names_of, option_map_or, order_of, order_words, plain_spaceless, refl, replies_words, slice_get, sym, txn_name, whole_in, whole_named, whole_over, whole_sound, ℕ, ◌++◌, ◌-◌, ◌∙◌, ◌∷◌, ◌≡◌}
 use Rattle.sdd_verified.proofs.PartsBack.{copies_back, is_pending, is_reply, is_shipped, order_back, parted, pending_back, replies_back, same_first}
 use Rattle.sdd_verified.proofs.PassingLines.{pending_pass, replies_pass, shipped_pass}
 use Rattle.sdd_verified.proofs.ReportParts.{answers_told, behind_pending, behind_replies, behind_shipped, copies_values, happened, is_numbered, kept, lines_are, names, replies, replies_long, shipped, tells, trace_passes, waiting}
 use Rattle.sdd_verified.proofs.Reported.{names_of_txns}
-use Rattle.sdd_verified.specs.Parts.{copies_words, order_words, replies_words}
-use Rattle.sdd_verified.specs.Tellings.{TellAlike}
 
 -- names
-
-plain_spaceless : (bytes : List ℕ) → IsPlain bytes → HasNoSpace bytes
-plain_spaceless [] h = absurd h
-plain_spaceless (c ∷ cs) h = (h.1, h.2)
 
 spaceless_by : (txns : List Txn) (i : ℕ) (o : Option Txn) → slice_get txns i ≡ o → All (λ (t : Txn). IsName t.name) txns
     → HasNoSpace (option_map_or (λ (t : Txn). t.name) o [])
@@ -50,8 +24,7 @@ copies_of_whole : (cat : Catalogue) (work : Workload) (copies : List CopyTable) 
 copies_of_whole cat work copies = ap (λ (c : Catalogue). copies_words c copies) (whole_over cat cat.classes (classes_in cat work))
 
 pub one_text : (cat : Catalogue) (work other : Workload) (text : List ℕ) → IsSound cat → AreNamed cat → IsValid cat work → IsValid cat other
-    → (one : IsReportOn cat work text) → (two : IsReportOn cat other text)
-    → TellAlike cat work other text one two
+    → (one : IsReportOn cat work text) → (two : IsReportOn cat other text) → TellAlike cat work other text one two
 one_text cat work other text sound named valid fine one two =
     let sound1 = whole_sound cat work sound valid in
     let sound2 = whole_sound cat other sound fine in

@@ -1,33 +1,9 @@
 -- The lines of a report give back what they tell.
-use Rattle.std.proofs.Common.{ℕ, zero, suc, ◌+◌, ◌-◌, ◌*◌, ◌/◌, ◌%◌, ◌^◌, ◌++◌, ◌≤◌, ◌==◌, ◌≡◌, ◌∙◌, ◌∷◌, ℤ, pos, negsuc, Bool, List, Some, [], ap, append_assoc, arith, cond, false, length, map, refl, subst, sym, true}
-use Rattle.std.specs.Prelude.{◌||◌, codes, flat_map, nat_le}
-use Rattle.std.specs.Fmt.{decimal, digit_glyph, digits, digits_onto, signed_decimal}
-use Rattle.std.specs.Int.Signed.{mag}
-use Rattle.std.specs.List.{AllByRecursion}
-use Rattle.std.proofs.lemmas.Fmt.{decimal_injective}
-use Rattle.std.proofs.lemmas.Bool.{leb-true}
-use Rattle.std.proofs.lemmas.List.{append_cancel_left, append_cancel_right}
-use Rattle.sdd_obligations.specs.All.{Catalogue, Int, Reply, Row, Txn}
-use Rattle.sdd_obligations.specs.base.declared.reply.Reply.TheVariants.{Rows, Overflow, TooMany}
-use Rattle.sdd_obligations.specs.base.declared.value.Value.{Value}
-use Rattle.sdd_obligations.specs.base.declared.value.Value.TheVariants.{Text}
-use Rattle.sdd_obligations.proofs.invariants.Bools.{and_left}
-use Rattle.sdd_obligations.specs.lang.Update.{in_range}
-use Rattle.sdd_run.specs.report.Copies.{place_words}
-use Rattle.sdd_run.specs.report.Names.{spaced, txn_name}
-use Rattle.sdd_run.specs.report.Pending.{why_words}
-use Rattle.sdd_run.specs.report.Replies.{value_bytes}
-use Rattle.sdd_run.specs.report.declared.copies.CopyTable.{CopyTable}
-use Rattle.sdd_run.specs.report.declared.pending.Pending.{Pending}
-use Rattle.sdd_words.proofs.Splits.{scan_again}
-use Rattle.sdd_words.specs.Scan.{scan}
-use Rattle.sdd_words.specs.declared.split.Mode.TheVariants.{Start}
-use Rattle.sdd_words.specs.Values.{value_word}
-use Rattle.sdd_words.specs.Words.{AllWords, HasNoSpace, IsPlain, line_bytes, more_bytes, word_bytes, Word, Plain}
+use Rattle.sdd_verified.proofs.All.{AllByRecursion, AllWords, Bool, Catalogue, CopyTable, HasNoSpace, Int, IsPlain, List, Overflow, Pending, Plain, Reply, Row, Rows, Some, Text, TooMany, Txn, Value, Word, [], all_pending_words, and_left, answers_words, ap, append_assoc, append_cancel_left, append_cancel_right, arith, codes, cond, copies_told, copies_words, copy_words, decimal, decimal_injective, digit_glyph, digits_onto, false, flat_map, in_range, leb-true, length, line_bytes, mag, map, more_bytes, nat_le, negsuc, order_words, outcome_words, pending_names, pending_words, place_words, pos, queries_words, query_words, refl, replies_words, row_words, rows_words, scan, scan_again, signed_decimal, spaced, subst, suc, sym, true, txn_name, value_bytes, value_word, why_words, word_bytes, zero, ℕ, ℤ, ◌%◌, ◌*◌, ◌++◌, ◌+◌, ◌-◌, ◌/◌, ◌==◌, ◌^◌, ◌||◌, ◌∙◌, ◌∷◌, ◌≡◌, ◌≤◌}
+use Rattle.std.specs.Fmt.{digits}
 use Rattle.sdd_verified.proofs.ReportLines.{decimal_is, glyph_apart}
 use Rattle.sdd_verified.proofs.ValuesKept.{Answers, Hold, Holds}
-use Rattle.sdd_verified.specs.Parts.{all_pending_words, answers_words, copies_words, copy_words, order_words, outcome_words, pending_words, queries_words, query_words, replies_words, row_words, rows_words}
-use Rattle.sdd_verified.specs.Tellings.{copies_told, pending_names}
+use Rattle.sdd_words.specs.declared.split.Mode.TheVariants.{Start}
 
 -- lists
 
@@ -181,7 +157,8 @@ row_is_line row = ap (λ (l : List ℕ). codes "row" ++ l) (values_are row)
 row_scanned : (row : Row) → AreValues row → scan Start [] (row_words row) ≡ Some (Plain (codes "row") ∷ map value_word row)
 row_scanned row h =
     ap (λ (l : List ℕ). scan Start [] l) (row_is_line row)
-    ∙ scan_again (Plain (codes "row") ∷ map value_word row) (((λ e. omega (arith, e)), (λ e. omega (arith, e)), ((λ e. omega (arith, e)), ((λ e. omega (arith, e)), tt))), words_fine row h)
+    ∙ scan_again (Plain (codes "row") ∷ map value_word row)
+    (((λ e. omega (arith, e)), (λ e. omega (arith, e)), ((λ e. omega (arith, e)), ((λ e. omega (arith, e)), tt))), words_fine row h)
 
 some_words : (xs ys : List Word) → Some xs ≡ Some ys → xs ≡ ys
 some_words xs ys e = cc
@@ -267,9 +244,11 @@ replies_back (name ∷ names) [] others m n h k e = absurd (omega (arith, m))
 replies_back (name ∷ names) (r ∷ replies) [] m n h k e = absurd (omega (arith, n))
 replies_back (name ∷ names) (r ∷ replies) (o ∷ others) m n h k e =
     let first : List ℕ = codes "reply " ++ name in
-    let s = same_first (first ++ outcome_words r) (first ++ outcome_words o) (answers_words r ++ replies_words names replies) (answers_words o ++ replies_words names others) e in
+    let s = same_first (first ++ outcome_words r) (first ++ outcome_words o) (answers_words r ++ replies_words names replies)
+    (answers_words o ++ replies_words names others) e in
     let outcome = append_cancel_left first (outcome_words r) (outcome_words o) s.0 in
-    let a = answers_back r o (replies_words names replies) (replies_words names others) h.0 k.0 (replies_end names replies) (replies_end names others) outcome s.1 in
+    let a = answers_back r o (replies_words names replies) (replies_words names others) h.0 k.0 (replies_end names replies)
+    (replies_end names others) outcome s.1 in
     ap (λ x. x ∷ replies) a.0
     ∙ ap (λ l. o ∷ l) (replies_back names replies others (omega (arith, m)) (omega (arith, n)) h.1 k.1 a.1)
 

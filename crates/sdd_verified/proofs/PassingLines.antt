@@ -1,13 +1,6 @@
 -- Tests that all lines of a part of a report pass, or that the first of them fails.
-use Rattle.std.proofs.Common.{ℕ, ◌+◌, ◌++◌, ◌≡◌, ◌∷◌, Bool, List, None, Option, Some, [], append_assoc, false, subst, sym, true}
-use Rattle.std.specs.Prelude.{codes}
-use Rattle.sdd_obligations.specs.All.{Catalogue, Rec, Reply, Row, Txn, TxnNo}
-use Rattle.sdd_obligations.specs.base.declared.reply.Reply.TheVariants.{Rows, Overflow, TooMany}
-use Rattle.sdd_run.specs.report.Committed.{Told, told_of}
-use Rattle.sdd_run.specs.report.declared.copies.CopyTable.{CopyTable}
-use Rattle.sdd_run.specs.report.declared.pending.Pending.{Pending}
+use Rattle.sdd_verified.proofs.All.{Bool, Catalogue, CopyTable, List, None, Option, Overflow, Pending, Rec, Reply, Row, Rows, Some, Told, TooMany, Txn, TxnNo, [], all_pending_words, all_shipped_words, append_assoc, codes, copies_words, copy_words, false, queries_words, query_words, replies_words, rows_words, shipped_words, subst, sym, told_of, true, ℕ, ◌++◌, ◌+◌, ◌∷◌, ◌≡◌}
 use Rattle.sdd_verified.proofs.PartsBack.{AllPass, FirstFails}
-use Rattle.sdd_verified.specs.Parts.{all_pending_words, all_shipped_words, copies_words, copy_words, queries_words, query_words, replies_words, rows_words, shipped_words}
 
 module _ (p : List ℕ → Bool) where
   -- rows, and queries with their rows

@@ -1,25 +1,8 @@
 -- A report has as many lines of pending transactions as transactions are pending.
-use Rattle.std.proofs.Common.{ℕ, ◌==◌, cond, ◌+◌, ◌++◌, ◌≡◌, ◌∙◌, ◌∷◌, Bool, List, [], ap, arith, false, inl, inr, length, refl, subst, sym, true}
-use Rattle.std.specs.Prelude.{not, Contains, codes, count_by}
-use Rattle.std.proofs.lemmas.Bool.{ltb-true, ne_eqb}
-use Rattle.std.proofs.lemmas.List.{length-map}
-use Rattle.std.proofs.lemmas.List.Sums.{sum_by-cons}
-use Rattle.sdd_obligations.proofs.base.Membership.{Contains-cases, Contains-nil}
-use Rattle.sdd_obligations.specs.All.{Catalogue, IsSound, TxnNo, history}
-use Rattle.sdd_obligations.specs.catalog.Naming.{AreNamed}
-use Rattle.sdd_obligations.specs.serial_orders.SerialOrder.{serial_order}
-use Rattle.sdd_run.specs.report.declared.pending.Pending.{Pending}
-use Rattle.sdd_run.specs.Reports.{report_of}
-use Rattle.sdd_run.specs.Runs.{IsReportOn, given_of}
-use Rattle.sdd_run.specs.script.Valid.{IsValid}
-use Rattle.sdd_run.specs.script.declared.workload.Workload.{Workload}
-use Rattle.sdd_verify.specs.Lines.{lines_of}
+use Rattle.sdd_verified.proofs.All.{AreNamed, Bool, Catalogue, Contains, Contains-cases, Contains-nil, IsReportOn, IsSound, IsValid, List, Pending, TxnNo, Workload, [], ap, arith, codes, cond, count_by, false, given_of, history, inl, inr, length, length-map, lines_of, ltb-true, ne_eqb, not, order_words, pending_words, refl, replies_words, report_of, serial_order, subst, sum_by-cons, sym, tells_pending, true, whole_in, ℕ, ◌++◌, ◌+◌, ◌==◌, ◌∙◌, ◌∷◌, ◌≡◌}
 use Rattle.sdd_verified.proofs.PartsBack.{AllPass}
 use Rattle.sdd_verified.proofs.PassingLines.{copies_pass, pending_pass, replies_pass, shipped_pass}
 use Rattle.sdd_verified.proofs.ReportParts.{happened, is_numbered, kept, lines_are, names, replies, shipped, trace_passes, waiting}
-use Rattle.sdd_verified.specs.Parts.{order_words, pending_words, replies_words}
-use Rattle.sdd_verified.specs.Lines.{tells_pending}
-use Rattle.sdd_run.specs.class_lists.InForce.{whole_in}
 
 -- one for a line that tells of one
 abbrev counts : Bool → ℕ

@@ -1,19 +1,5 @@
 -- Members of an order by their places, where none stands twice.
-use Rattle.std.proofs.Common.{◌≡◌, ◌≢◌, ℕ, zero, suc, ◌+◌, ◌<◌, List, [], ◌∷◌, ◌++◌, length, get_or, refl, sym, ap, ◌∙◌, arith, inl, inr}
-use Rattle.std.specs.Prelude.{Contains}
-use Rattle.std.specs.List.{All}
-use Rattle.std.proofs.lemmas.Bool.{cases_lt}
-use Rattle.std.proofs.lemmas.List.Elements.{All-cons, All-nil}
-use Rattle.sdd_obligations.specs.All.{Catalogue, History, TxnNo, txn_no}
-use Rattle.sdd_obligations.proofs.base.Membership.{Contains-here, Contains-later}
-use Rattle.sdd_obligations.specs.serial_orders.Orders.{IsAlong}
-use Rattle.sdd_run.specs.Standing.{StandsBefore}
-use Rattle.sdd_verify.specs.Verified.{at}
-
--- what holds of each member holds of all
-pub all_members : {A : Type 0} (P : A → Type 0) (xs : List A) → ((x : A) → Contains xs x → P x) → All P xs
-all_members P [] h = All-nil P
-all_members P (x ∷ xs) h = All-cons P x xs (h x (Contains-here x xs)) (all_members P xs (λ y there. h y (Contains-later x xs y there)))
+use Rattle.sdd_verified.proofs.All.{Catalogue, Contains, Contains-here, Contains-later, History, IsAlong, List, StandsBefore, TxnNo, [], ap, arith, at, cases_lt, inl, inr, length, refl, slice_index_or as get_or, suc, sym, txn_no, zero, ℕ, ◌++◌, ◌+◌, ◌<◌, ◌∙◌, ◌∷◌, ◌≡◌, ◌≢◌}
 
 pub member : (order : List TxnNo) (i : ℕ) → i < length order → Contains order (at order i)
 member [] i lt = absurd (omega arith)

@@ -1,28 +1,7 @@
 -- The lines of a report: none of its trace tells an order, and what follows the replies begins with a line of no reply.
-use Rattle.std.proofs.Common.{◌≡◌, ◌≢◌, ℕ, zero, suc, ◌+◌, ◌-◌, ◌/◌, ◌%◌, ◌<◌, ◌≤◌, ◌==◌, List, [], ◌∷◌, ◌++◌, slice_get, true, false, cond, Option, Some, None, refl, sym, ap, ◌∙◌, subst, arith, append_assoc, rules}
-use Rattle.std.specs.Prelude.{codes}
-use Rattle.std.specs.Fmt.{decimal, digit_glyph, digits, digits_onto}
-use Rattle.std.specs.List.{All, flat_map}
-use Rattle.std.specs.Option.{option_map_or}
-use Rattle.std.proofs.lemmas.Bool.{ne_eqb}
-use Rattle.std.proofs.lemmas.Bool.Decides.{nat_tests}
-use Rattle.std.proofs.lemmas.List.Elements.{All-cons, All-nil}
-use Rattle.sdd_obligations.specs.base.Name.{IsName}
-use Rattle.sdd_obligations.specs.All.{Catalogue, Class, Cond, Rec, Ts, Txn, TxnNo}
+use Rattle.sdd_verified.proofs.All.{All, All-cons, All-nil, AreLines, Catalogue, Class, Cond, CopyTable, HasNoNewline, IsName, IsOther, List, None, Option, Pending, Rec, Some, Told, Ts, Txn, TxnNo, [], ap, append_assoc, arith, attempt_word, class_name, class_time, class_word, codes, cond, cond_words, copies_lines, copy_lines, decimal, digit_glyph, digits_onto, false, flat_map, found_member, is_order_line, module_word, name_line, nat_tests, ne_eqb, no_newline-append, of_attempt, of_visit, option_map_or, pending_line, pending_lines, record_words, refl, rules, shipped_line, shipped_of, slice_get, spaced, spelled_lines, subst, suc, sym, tells_reply, time_word, told_of, trace, trace_line, true, txn_name, zero, ℕ, ◌%◌, ◌++◌, ◌+◌, ◌-◌, ◌/◌, ◌<◌, ◌==◌, ◌∙◌, ◌∷◌, ◌≡◌, ◌≢◌, ◌≤◌}
+use Rattle.std.specs.Fmt.{digits}
 use Rattle.sdd_obligations.specs.history.declared.record.Rec.TheVariants as records
-use Rattle.sdd_run.specs.report.Committed.{Told, shipped_line, shipped_of, told_of}
-use Rattle.sdd_run.specs.report.Copies.{copies_lines, copy_lines}
-use Rattle.sdd_run.specs.report.Names.{attempt_word, class_name, class_time, class_word, module_word, spaced, txn_name}
-use Rattle.sdd_run.specs.report.Pending.{pending_line, pending_lines}
-use Rattle.sdd_run.specs.report.Trace.{cond_words, of_attempt, of_visit, record_words, time_word, trace, trace_line}
-use Rattle.sdd_run.specs.report.declared.copies.CopyTable.{CopyTable}
-use Rattle.sdd_run.specs.report.declared.pending.Pending.{Pending}
-use Rattle.sdd_run.proofs.script.WordLooks.{no_newline-append}
-use Rattle.sdd_words.specs.Lines.{AreLines, HasNoNewline, spelled_lines}
-use Rattle.sdd_verify.specs.Lines.{is_order_line, tells_reply}
-use Rattle.sdd_verify.proofs.LinesFound.{IsOther}
-use Rattle.sdd_verify.proofs.Submissions.{found_member}
-use Rattle.sdd_verify.proofs.VerifiedReports.{name_line}
 
 -- numbers
 
@@ -49,8 +28,7 @@ digit_first n acc h =
       first = digit_glyph false (n % 10);
       rest = acc;
       is = refl;
-      most =
-          omega (arith, glyph, small);
+      most = omega (arith, glyph, small);
       least = omega (arith, glyph);
       line = (λ e. omega (arith, glyph, e), h);
     }
@@ -85,8 +63,7 @@ pub named_by : {A : Type 0} (name : A → List ℕ) (members : List A) (i : ℕ)
 named_by name members i None is named = tt
 named_by {A} name members i (Some m) is named = name_line (name m) (found_member (λ (k : A). IsName (name k)) members i m named is)
 
-module _ (cat : Catalogue) (txns : List Txn)
-    (classes_named : All (λ (k : Class). IsName k.name) cat.classes)
+module _ (cat : Catalogue) (txns : List Txn) (classes_named : All (λ (k : Class). IsName k.name) cat.classes)
     (txns_named : All (λ (t : Txn). IsName t.name) txns) where
   pub txn_line : (n : ℕ) → HasNoNewline (txn_name txns n)
   txn_line n = named_by (λ (t : Txn). t.name) txns (n - 1) (slice_get txns (n - 1)) refl txns_named

@@ -1,32 +1,5 @@
 -- A report, by its lines.
-use Rattle.std.proofs.Common.{ℕ, suc, ◌++◌, ◌≤◌, ◌≡◌, ◌∙◌, ◌∷◌, Bool, List, [], ap, arith, false, length, nat_lt, refl, subst, sym, true}
-use Rattle.std.specs.Prelude.{Contains, codes}
-use Rattle.std.specs.List.{All, AllByRecursion, AllZip}
-use Rattle.std.proofs.lemmas.Bool.{lt-ltb}
-use Rattle.std.proofs.lemmas.List.{length-map}
-use Rattle.sdd_obligations.proofs.base.Membership.{Contains-here, Contains-later}
-use Rattle.sdd_obligations.specs.base.Name.{IsName}
-use Rattle.sdd_obligations.specs.All.{Catalogue, Int, IsSound, Rec, Reply, Txn, TxnNo, history, run}
-use Rattle.sdd_obligations.specs.base.declared.value.Value.{Value}
-use Rattle.sdd_obligations.specs.base.declared.value.Value.TheVariants.{Text}
-use Rattle.sdd_obligations.specs.catalog.Naming.{AreNamed}
-use Rattle.sdd_obligations.specs.laws.Replay.{IsReplyOf}
-use Rattle.sdd_obligations.specs.serial_orders.SerialOrder.{serial_order}
-use Rattle.sdd_run.specs.report.Committed.{names_of, order_line}
-use Rattle.sdd_run.specs.report.Copies.{copies_lines}
-use Rattle.sdd_run.specs.report.Names.{spaced, txn_name}
-use Rattle.sdd_run.specs.report.Pending.{pending_lines}
-use Rattle.sdd_run.specs.report.Replies.{replies_along}
-use Rattle.sdd_run.specs.report.Report.{Report}
-use Rattle.sdd_run.specs.report.Trace.{record_words, trace}
-use Rattle.sdd_run.specs.report.declared.copies.CopyTable.{CopyTable}
-use Rattle.sdd_run.specs.Reports.{report_of}
-use Rattle.sdd_run.specs.Runs.{IsReportOn, given_of}
-use Rattle.sdd_run.proofs.script.WordLooks.{value_fine}
-use Rattle.sdd_run.specs.script.Valid.{IsValid, IsValue}
-use Rattle.sdd_run.specs.script.declared.workload.Workload.{Workload}
-use Rattle.sdd_words.proofs.Spelled.{cut_again}
-use Rattle.sdd_words.specs.Lines.{cut_lines}
+use Rattle.sdd_verified.proofs.All.{All, AllByRecursion, AllZip, AreNamed, Bool, Catalogue, CopyTable, Int, IsName, IsReplyOf, IsReportOn, IsSound, IsValid, IsValue, List, Rec, Reply, Report, Text, Txn, TxnNo, Value, Workload, [], all_by_member, all_pending_words, all_shipped_words, ap, arith, codes, copies_lines, copies_words, copy_words, cut_again, cut_lines, false, given_of, history, length, length-map, lt-ltb, names_of, nat_lt, order_line, order_words, pending_lines, record_words, refl, replies_along, replies_words, report_of, run, serial_order, spaced, subst, suc, sym, trace, true, txn_name, value_fine, whole_in, ℕ, ◌++◌, ◌∙◌, ◌∷◌, ◌≡◌, ◌≤◌}
 use Rattle.sdd_verified.proofs.GivenValues.{answers_given, copied_given}
 use Rattle.sdd_verified.proofs.PartsBack.{AllPass, AreAllValues, AreAnswers, FirstFails, IsTold, fails_on, ints_told, is_pending, is_reply, is_shipped}
 use Rattle.sdd_verified.proofs.PassingLines.{first_copy, first_pending, first_shipped}
@@ -35,8 +8,6 @@ use Rattle.sdd_verified.proofs.Reported.{names_of_txns}
 use Rattle.sdd_verified.proofs.SpelledParts.{Spells, all_pending_spell, all_shipped_spell, copies_spell, end_spells, order_spells, replies_spell, spells_both, trace_spells}
 use Rattle.sdd_verified.proofs.CleanWords.{IsClean, ints_clean, names_are}
 use Rattle.sdd_verified.proofs.ValuesKept.{Hold}
-use Rattle.sdd_verified.specs.Parts.{all_pending_words, all_shipped_words, copies_words, copy_words, order_words, replies_words}
-use Rattle.sdd_run.specs.class_lists.InForce.{whole_in}
 
 -- a value of a workload holds no newline
 clean : (v : Value) → IsValue v → IsClean v
@@ -46,11 +17,6 @@ clean v h = (value_fine v h).line
 told : (v : Value) → IsValue v → IsTold v
 told (Int n) h = omega (arith, h)
 told (Text t) h = tt
-
--- where all members have it
-pub all_by_member : {A : Type 0} (P : A → Type 0) (xs : List A) → ((x : A) → Contains xs x → P x) → AllByRecursion P xs
-all_by_member P [] h = tt
-all_by_member P (x ∷ xs) h = (h x (Contains-here x xs), all_by_member P xs (λ y there. h y (Contains-later x xs y there)))
 
 -- a line that begins with a digit
 abbrev pub is_numbered : List ℕ → Bool
@@ -115,9 +81,11 @@ module _ (cat : Catalogue) (work : Workload) (text : List ℕ) (sound : IsSound 
       let answered = spells_both (replies_words names replies) (shipped ++ (waiting ++ (kept ++ codes "end" ∷ []))) (replies_along names replies) _
       (replies_spell names replies (names_are whole work.txns c f txns_named order)
       (answers_given IsClean ints_clean clean cat work text sound valid r)) behind in
-      let ordered = spells_both (order_words names ∷ []) (replies_words names replies ++ (shipped ++ (waiting ++ (kept ++ codes "end" ∷ [])))) (order_line work.txns order) _
+      let ordered = spells_both (order_words names ∷ []) (replies_words names replies ++ (shipped ++ (waiting ++ (kept ++ codes "end" ∷ []))))
+      (order_line work.txns order) _
       (order_spells whole work.txns c f txns_named order) answered in
-      let everything = spells_both happened (order_words names ∷ (replies_words names replies ++ (shipped ++ (waiting ++ (kept ++ codes "end" ∷ []))))) (trace whole work.txns (history r.log)) _
+      let everything = spells_both happened (order_words names ∷ (replies_words names replies ++ (shipped ++ (waiting ++ (kept ++ codes "end" ∷ [])))))
+      (trace whole work.txns (history r.log)) _
       (trace_spells whole work.txns c f txns_named (history r.log)) ordered in
       subst (Spells all_lines) (sym r.told) everything
 

@@ -1,48 +1,11 @@
 -- The report on a run is verified.
-use Rattle.std.proofs.Common.{◌≡◌, ◌≢◌, ℕ, zero, suc, ◌-◌, ◌<◌, ◌≤◌, List, [], ◌∷◌, ◌++◌, length, map, slice_get, Option, Some, refl, sym, ap, ◌∙◌, subst, arith, inl, inr}
-use Rattle.std.specs.Prelude.{Contains, slice_index_or}
-use Rattle.std.specs.List.{All, flat_map}
-use Rattle.std.specs.Option.{option_map_or}
-use Rattle.std.proofs.lemmas.Bool.{cases_lt}
-use Rattle.std.proofs.lemmas.List.Elements.{All-cons, All-head, All-nil, All-tail}
-use Rattle.sdd_obligations.specs.base.Name.{IsName}
-use Rattle.sdd_obligations.specs.All.{AllFewTicks, AreSubmittedOnce, Catalogue, Committed, Given, History, IsCommitted, IsFrom1To, IsSound, IsSubmitted, KeepsStarts, Reply, Txn, TxnNo, class_for, database_of, event_at, force_at, history, redeclares, run, submits_in}
-use Rattle.sdd_obligations.specs.catalog.Naming.{AreNamed}
-use Rattle.sdd_obligations.specs.lang.Serial.{serial}
-use Rattle.sdd_obligations.specs.laws.Eras.{in_force}
-use Rattle.sdd_obligations.specs.laws.Starts.{IsOfSubmit}
-use Rattle.sdd_run.specs.progress.Eras.{eras_of}
-use Rattle.sdd_obligations.specs.serial_orders.SerialOrder.{serial_order}
-use Rattle.sdd_run.specs.report.Committed.{names_of, order_line, shipped_of}
-use Rattle.sdd_run.specs.report.Copies.{copies_lines}
-use Rattle.sdd_run.specs.report.Pending.{pending_lines}
-use Rattle.sdd_run.specs.report.Replies.{replies_along, reply_lines}
-use Rattle.sdd_run.specs.report.Report.{Report, after_replies}
-use Rattle.sdd_run.specs.Reports.{report_of}
-use Rattle.sdd_run.specs.Runs.{IsReportOn, given_of}
-use Rattle.sdd_run.specs.Standing.{IsSubmittedBefore, StandsBefore}
-use Rattle.sdd_run.proofs.Marked.{named as named_by_events}
-use Rattle.sdd_run.proofs.Forces.{list_at as list_at_number}
-use Rattle.sdd_run.proofs.Goods.{few_ticks}
-use Rattle.sdd_run.proofs.Ordered.{starts}
-use Rattle.sdd_run.proofs.RunOf.{eras_are, few_lists}
-use Rattle.sdd_run.proofs.Submissions.{once}
-use Rattle.sdd_run.specs.script.Valid.{IsValid, IsValidTxn}
-use Rattle.sdd_run.specs.script.declared.workload.Workload.{Workload}
-use Rattle.sdd_words.specs.Lines.{spelled_lines}
-use Rattle.sdd_verify.specs.Replies.{replies, serial_replies}
-use Rattle.sdd_verify.specs.Classes.{class_of, classes_submitted, era_at}
-use Rattle.sdd_verify.specs.Submitted.{submitted, texts_of, txn_of}
-use Rattle.sdd_verify.specs.Verified.{IsVerified, at}
-use Rattle.sdd_verify.specs.declared.limits.TheConstants.{MAX_REPORT_BYTES}
-use Rattle.sdd_run.specs.class_lists.InForce.{classes_in, eras_in, whole_in}
-use Rattle.sdd_run.proofs.class_lists.OtherClasses.{whole_over}
+use Rattle.sdd_verified.proofs.All.{All, All-cons, All-head, All-nil, All-tail, AllFewTicks, AreNamed, AreSubmittedOnce, Catalogue, Committed, Contains, Given, History, IsCommitted, IsFrom1To, IsName, IsOfSubmit, IsReportOn, IsSound, IsSubmitted, IsSubmittedBefore, IsValid, IsValidTxn, IsVerified, KeepsStarts, List, MAX_REPORT_BYTES, Reply, Report, Some, StandsBefore, Txn, TxnNo, Workload, [], after_replies, all_members, ap, arith, at, cases_lt, class_for, class_of, classes_in, classes_submitted, copies_lines, database_of, era_at, eras_are, eras_in, eras_of, event_at, event_of_submit, few_lists, few_ticks, flat_map, force_at, given_of, history, in_force, index_or, inl, inr, length, list_at_number, map, named_by_events, names_of, once, order_line, pending_lines, redeclares, refl, replies, replies_along, reply_lines, report_of, run, serial, serial_order, serial_replies, shipped_of, slice_get, spelled_lines, starts, submits_in, submitted, subst, sym, texts_of, txn_of, whole_in, whole_over, ℕ, ◌++◌, ◌-◌, ◌<◌, ◌∙◌, ◌∷◌, ◌≡◌, ◌≢◌, ◌≤◌}
 use Rattle.sdd_verified.proofs.ClassPlaces.{class_at, redeclared_at}
-use Rattle.sdd_verified.proofs.ListAt.{event_of_submit, index_or, list_at}
+use Rattle.sdd_verified.proofs.ListAt.{list_at}
 use Rattle.sdd_verified.proofs.FirstLines.{FirstLine, first_line, whole_end}
 use Rattle.sdd_verified.proofs.Moved.{IsSubmittedOne, StandInTurn, moved, moved_line, moved_texts, moved_there, moved_turn}
 use Rattle.sdd_verified.proofs.Numbered.{one_place, separates}
-use Rattle.sdd_verified.proofs.Positions.{AreDifferent, all_members, different, member, not_before}
+use Rattle.sdd_verified.proofs.Positions.{AreDifferent, different, member, not_before}
 use Rattle.sdd_verified.proofs.ReportLines.{lines_in, rest_begins, trace_is, trace_lines, trace_others}
 use Rattle.sdd_verified.proofs.Submitting.{is_in_schedule, submitted_first}
 

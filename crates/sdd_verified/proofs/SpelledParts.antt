@@ -1,26 +1,8 @@
 -- The parts of a report's text are their lines.
-use Rattle.std.proofs.Common.{ℕ, ◌+◌, ◌++◌, ◌≡◌, ◌∙◌, ◌∷◌, List, None, Option, Some, [], ap, append_assoc, length, refl, rules, subst}
-use Rattle.std.specs.Prelude.{codes, flat_map}
-use Rattle.std.specs.Fmt.{decimal}
-use Rattle.std.specs.List.{All, AllByRecursion}
-use Rattle.std.specs.Option.{option_map_or}
-use Rattle.sdd_obligations.specs.base.Name.{IsName}
-use Rattle.sdd_obligations.specs.All.{Catalogue, Class, Fragment, Rec, Reply, Row, Txn, TxnNo}
-use Rattle.sdd_obligations.specs.base.declared.reply.Reply.TheVariants.{Rows, Overflow, TooMany}
-use Rattle.sdd_run.specs.report.Committed.{Told, order_line, names_of, shipped_line, shipped_of, told_of}
-use Rattle.sdd_run.specs.report.Copies.{copies_lines, copy_lines, place_words}
-use Rattle.sdd_run.specs.report.Names.{fragment_name, module_word, spaced, txn_name}
-use Rattle.sdd_run.specs.report.Pending.{pending_line, pending_lines, why_words}
-use Rattle.sdd_run.specs.report.Replies.{queries_from, query_lines, replies_along, reply_lines, row_line, value_bytes}
-use Rattle.sdd_run.specs.report.Trace.{trace}
-use Rattle.sdd_run.specs.report.declared.copies.CopyTable.{CopyTable}
-use Rattle.sdd_run.specs.report.declared.pending.Pending.{Pending}
-use Rattle.sdd_run.proofs.script.WordLooks.{no_newline-append}
-use Rattle.sdd_words.specs.Lines.{AreLines, HasNoNewline, spelled_lines}
+use Rattle.sdd_verified.proofs.All.{All, AllByRecursion, AreLines, Catalogue, Class, CopyTable, Fragment, HasNoNewline, IsName, List, None, Option, Overflow, Pending, Rec, Reply, Row, Rows, Some, Told, TooMany, Txn, TxnNo, [], all_pending_words, all_shipped_words, ap, append_assoc, codes, copies_lines, copies_words, copy_lines, copy_words, decimal, flat_map, fragment_name, length, module_word, names_of, no_newline-append, option_map_or, order_line, order_words, pending_line, pending_lines, pending_words, place_words, queries_from, queries_words, query_lines, query_words, refl, replies_along, replies_words, reply_lines, reply_words, row_line, row_words, rows_words, rules, shipped_line, shipped_of, shipped_words, spaced, spelled_lines, subst, told_of, trace, txn_name, value_bytes, why_words, ℕ, ◌++◌, ◌+◌, ◌∙◌, ◌∷◌, ◌≡◌}
 use Rattle.sdd_verified.proofs.ReportLines.{lines_in, module_line, number_line, spaced_line, trace_is, trace_lines, txn_line}
 use Rattle.sdd_verified.proofs.CleanWords.{IsClean, fragment_line, ints_clean, names_are, spaced_names, values_line, why_line}
 use Rattle.sdd_verified.proofs.ValuesKept.{Answers, Hold, Holds}
-use Rattle.sdd_verified.specs.Parts.{all_pending_words, all_shipped_words, copies_words, copy_words, order_words, pending_words, queries_words, query_words, replies_words, reply_words, row_words, rows_words, shipped_words}
 
 are_both : (xs ys : List (List ℕ)) → AreLines xs → AreLines ys → AreLines (xs ++ ys)
 are_both [] ys h k = k
@@ -82,7 +64,8 @@ queries_spell number (rows ∷ answers) h =
     spells_both (query_words number rows ∷ rows_words rows) (queries_words (number + 1) answers) (query_lines number rows) (queries_from (number + 1) answers)
     (query_spells number rows h.0) (queries_spell (number + 1) answers h.1)
 
-replied : (name word : List ℕ) → HasNoNewline name → HasNoNewline word → Spells (((codes "reply " ++ name) ++ word) ∷ []) ((codes "reply " ++ name) ++ (word ++ 10 ∷ []))
+replied : (name word : List ℕ) → HasNoNewline name → HasNoNewline word
+    → Spells (((codes "reply " ++ name) ++ word) ∷ []) ((codes "reply " ++ name) ++ (word ++ 10 ∷ []))
 replied name word h k = spells_parts (codes "reply " ++ name) word (no_newline-append (codes "reply ") name (search rules) h) k
 
 reply_spells : (name : List ℕ) (reply : Reply) → HasNoNewline name → Answers IsClean ints_clean reply → Spells (reply_words name reply) (reply_lines name reply)
@@ -102,8 +85,7 @@ replies_spell (name ∷ names) (reply ∷ replies) h k =
     spells_both (reply_words name reply) (replies_words names replies) (reply_lines name reply) (replies_along names replies)
     (reply_spells name reply h.0 k.0) (replies_spell names replies h.1 k.1)
 
-module _ (cat : Catalogue) (txns : List Txn)
-    (classes_named : All (λ (k : Class). IsName k.name) cat.classes)
+module _ (cat : Catalogue) (txns : List Txn) (classes_named : All (λ (k : Class). IsName k.name) cat.classes)
     (fragments_named : All (λ (f : Fragment). IsName f.name) cat.fragments)
     (txns_named : All (λ (t : Txn). IsName t.name) txns) where
   pub trace_spells : (history : List (ℕ × Rec)) → Spells (lines_in cat txns classes_named txns_named history) (trace cat txns history)

@@ -1,15 +1,5 @@
 -- In the history of a run transactions are submitted in the order of its schedule.
-use Rattle.std.proofs.Common.{◌≡◌, ◌≢◌, ℕ, ◌+◌, ◌<◌, ◌≤◌, ◌==◌, List, [], ◌∷◌, ◌++◌, length, refl, sym, ap, ◌∙◌, subst, arith, eq-eqb, ◌⊎◌, inl, inr, append_assoc}
-use Rattle.std.proofs.lemmas.Bool.{ne_eqb}
-use Rattle.sdd_obligations.specs.All.{AreSubmittedOnce, Deliver, Does, Down, Event, Given, Hand, IsLawful, IsPermitted, IsSubmitted, Log, Lose, Mark, Notes, Redeclare, Redeclares, Repeat, Resend, Round, Settle, Site, Submit, Submitted, Tick, TxnNo, Up, after_mark, history, left, one_if, submits_by, submits_in, txn_no}
-use Rattle.sdd_obligations.specs.base.Words.{tail_of}
-use Rattle.sdd_obligations.specs.history.declared.record.Rec.TheVariants.{Submit as Submission}
-use Rattle.sdd_obligations.specs.logs.Marks.{from_event}
-use Rattle.sdd_obligations.proofs.logs.NewMarks.{lawful_permitted, left_is, marked}
-use Rattle.sdd_obligations.proofs.invariants.Made.{permitted_before}
-use Rattle.sdd_obligations.proofs.invariants.Places.{compare}
-use Rattle.sdd_lawful.proofs.Places.{place_rises}
-use Rattle.sdd_lawful.proofs.Submissions.{given_at, submit_in}
+use Rattle.sdd_verified.proofs.All.{AreSubmittedOnce, Deliver, Does, Down, Event, Given, Hand, IsLawful, IsPermitted, IsSubmitted, List, Log, Lose, Mark, Notes, Redeclare, Redeclares, Repeat, Resend, Round, Settle, Site, Submission, Submit, Submitted, Tick, TxnNo, Up, [], after_mark, ap, append_assoc, arith, compare, eq-eqb, from_event, given_at, history, inl, inr, lawful_before, lawful_permitted, left, left_is, length, marked, ne_eqb, one_if, permitted_before, place_rises, refl, submit_in, submits_by, submits_in, subst, sym, tail_of, txn_no, ℕ, ◌++◌, ◌+◌, ◌<◌, ◌==◌, ◌∙◌, ◌∷◌, ◌≡◌, ◌≢◌, ◌≤◌, ◌⊎◌}
 use Rattle.sdd_verified.proofs.Numbered.{Separates}
 
 -- what is left of the events is their end
@@ -76,10 +66,6 @@ two_fronts (x ∷ xs) ys (f ∷ fs) ss e =
       | inl p ↦ inl (p.0, rw same (ap (λ (l : List Event). f ∷ l) p.1))
       | inr p ↦ inr (p.0, rw same (ap (λ (l : List Event). f ∷ l) p.1))
     ]
-
-pub lawful_before : (g : Given) (later log : Log) → IsLawful g (later ++ log) → IsLawful g log
-lawful_before g [] log h = h
-lawful_before g (e ∷ later) log h = lawful_before g later log h.1
 
 -- where the submission of m comes behind that of n, its mark does too
 again : (m n : ℕ) (a b : Site) (between rest_m rest_n : Log) (k l : TxnNo) (earlier_m earlier_n : Log)

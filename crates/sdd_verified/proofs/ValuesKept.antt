@@ -1,39 +1,10 @@
 -- What holds of all numbers of 64 bits, and of each value of the rows and statements that are given, holds of the values that a plain
 -- database answers, changes and is left with.
-use Rattle.std.proofs.Common.{ℕ, zero, suc, ◌+◌, ◌++◌, ◌-◌, ◌&&◌, ◌==◌, ◌≡◌, ◌∷◌, ℤ, pos, ◌+ℤ◌, Bool, List, None, Option, Some, [], cond, false, if◌then◌else◌, length, map, nat_lt, refl, slice_index_or, slice_set, subst, true}
-use Rattle.std.specs.Prelude.{filter, flat_map, fold}
-use Rattle.std.specs.BTreeMap.{is_at}
-use Rattle.std.specs.BTreeSet.{insert_key}
-use Rattle.std.specs.List.{AllByRecursion, cons_option}
-use Rattle.std.specs.Ordering.{match_ordering}
-use Rattle.std.specs.declared.cmp.Ordering.TheVariants.{Less, Equal, Greater}
-use Rattle.sdd_obligations.specs.base.Order.{column, row_cmp}
-use Rattle.sdd_obligations.specs.All.{Catalogue, Change, Condition, Delete, Effect, Int, Put, Query, RelNo, Reply, Row, Stmt, Txn, Update, database_of, effect, item_cmp}
-use Rattle.sdd_obligations.specs.base.declared.reply.Reply.TheVariants.{Rows, Overflow, TooMany}
-use Rattle.sdd_obligations.specs.base.declared.value.Value.{Value}
-use Rattle.sdd_obligations.specs.base.declared.value.Value.TheVariants.{Text}
-use Rattle.sdd_obligations.specs.catalog.Catalogue.{fragment_of}
-use Rattle.sdd_obligations.specs.lang.declared.assign.Assign.{Assign}
-use Rattle.sdd_obligations.specs.lang.declared.assign.Assign.TheVariants.{To, Add}
-use Rattle.sdd_obligations.specs.lang.declared.condition.Ref.{Ref}
-use Rattle.sdd_obligations.specs.lang.Condition.{Tuple, meets_all, part_of, value_at}
-use Rattle.sdd_obligations.specs.lang.Database.{Database, Item, key_in, rows_of, with_row}
-use Rattle.sdd_obligations.specs.lang.Effect.{Changed, change_of, effect_from, failed, rows_in, with_change, with_deletes, with_updates}
-use Rattle.sdd_obligations.specs.lang.Query.{answer, product, projection, selection}
-use Rattle.sdd_obligations.specs.lang.Serial.{after_changes, changed_by, item_of, serial, set_to}
-use Rattle.sdd_obligations.specs.lang.Update.{added, assigned, assigned_all, chosen, in_range, replaced}
-use Rattle.sdd_obligations.proofs.lang.SortedEntries.{each_inserted, each_left, item_cmp_exact}
-use Rattle.sdd_obligations.specs.laws.Ledger.{Ledger, changes}
-use Rattle.sdd_obligations.specs.laws.Replayed.{Gives}
+use Rattle.sdd_verified.proofs.All.{Add, AllByRecursion, Assign, Catalogue, Change, Changed, Condition, Database, Delete, Effect, Equal, Gives, Greater, Int, Item, Ledger, Less, List, None, Option, Overflow, Put, Query, Ref, RelNo, Reply, Row, Rows, Some, Stmt, Text, To, TooMany, Tuple, Txn, Update, Value, [], added, after_changes, answer, assigned, assigned_all, change_of, changed_by, changes, chosen, column, cond, cons_option, database_of, each_inserted, each_left, effect, effect_from, failed, false, flat_map, fold, fragment_of, if◌then◌else◌, in_range, insert_key, is_at, item_cmp, item_cmp_exact, item_of, kept_hold, key_in, length, map, match_ordering, meets_all, nat_lt, part_of, pos, product, projection, refl, replaced, row_cmp, rows_in, rows_of, selection, serial, set_to, slice_index_or, slice_set, subst, suc, true, value_at, with_change, with_deletes, with_row, with_updates, zero, ℕ, ℤ, ◌&&◌, ◌++◌, ◌+ℤ◌, ◌+◌, ◌-◌, ◌==◌, ◌∷◌, ◌≡◌}
 
 pub both_hold : {A : Type 0} (P : A → Type 0) (xs ys : List A) → AllByRecursion P xs → AllByRecursion P ys → AllByRecursion P (xs ++ ys)
 both_hold P [] ys h k = k
 both_hold P (x ∷ xs) ys h k = (h.0, both_hold P xs ys h.1 k)
-
-kept_hold : {A : Type 0} (P : A → Type 0) (p : A → Bool) (xs : List A) → AllByRecursion P xs → AllByRecursion P (filter p xs)
-kept_hold P p [] h = tt
-kept_hold P p (x ∷ xs) h =
-    elim (p x) as (λ b. AllByRecursion P (cond b (x ∷ filter p xs) (filter p xs))) [ true ↦ (h.0, kept_hold P p xs h.1) | false ↦ kept_hold P p xs h.1 ]
 
 module _ (P : Value → Type 0) (ints : (n : ℤ) → in_range n ≡ true → P (Int n)) where
   abbrev pub Holds : Row → Type 0

@@ -1,5 +1,4 @@
-use Rattle.sdd_run.proofs.class_lists.WholeSound.{whole_named, whole_sound}
-use Rattle.sdd_verify.proofs.VerifiedReports.{verified_yes}
+use Rattle.sdd_verified.proofs.All.{verified_yes, whole_named, whole_sound}
 use Rattle.sdd_verified.proofs.Reported.{verified}
 use Rattle.sdd_verified.proofs.law.law_verified.Goals as goal
 

@@ -1,4 +1,4 @@
-use Rattle.sdd_run.proofs.class_lists.WholeSound.{whole_named, whole_sound}
+use Rattle.sdd_verified.proofs.All.{whole_named, whole_sound}
 use Rattle.sdd_verified.proofs.PendingLines.{as_many_lines, no_line}
 use Rattle.sdd_verified.proofs.pending_law.law_pending_lines.Goals as goal
 

@@ -1,4 +1,4 @@
-use Rattle.sdd_run.proofs.class_lists.WholeSound.{whole_sound}
+use Rattle.sdd_verified.proofs.All.{whole_sound}
 use Rattle.sdd_verified.proofs.AllSummed.{all_summed}
 use Rattle.sdd_verified.proofs.summary_law.law_all_committed.Goals as goal
 
