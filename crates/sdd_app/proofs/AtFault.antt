@@ -1,16 +1,6 @@
 -- What a status that tells of a fault says of the files that were read.
-use Rattle.std.proofs.Common.{◌≡◌, Option, Result, Ok, Err, subst}
-use Rattle.std.specs.Prelude.{IfErr, MatchResult}
-use Rattle.sdd_lang.specs.All.{CatFault, Catalogue}
-use Rattle.sdd_control.specs.declared.script.ControlScript.{ControlScript}
-use Rattle.sdd_verified.specs.script.declared.fault.WorkFault.{WorkFault}
-use Rattle.sdd_verified.specs.script.declared.workload.Workload.{Workload}
-use Rattle.sdd_verified.specs.world.declared.ends.WorldEnd.{WorldEnd}
+use Rattle.sdd_app.proofs.All.{AtFault, BadCatalogue, BadWorkload, BlamesCatalogue, BlamesScript, BlamesWorkload, CatFault, Catalogue, ControlScript, Done, Err, Explains, IfErr, Limit, MatchResult, NoMemory, Ok, Option, ReadFault, Result, Status, Usage, WorkFault, Workload, WorldEnd, WriteFault, status_of_end, subst, ◌≡◌}
 use Rattle.sdd_verified.specs.world.declared.ends.WorldEnd.TheVariants as ends
-use Rattle.sdd_app.specs.Answer.{BlamesCatalogue, BlamesScript, BlamesWorkload}
-use Rattle.sdd_app.specs.Verdict.{AtFault, Explains, status_of_end}
-use Rattle.sdd_app.specs.declared.status.Status.{Status}
-use Rattle.sdd_app.specs.declared.status.Status.TheVariants.{Done, Usage, BadCatalogue, BadWorkload, ReadFault, WriteFault, NoMemory, Limit}
 
 -- what follows from what is said of a fault
 pub at_more : {A B C D : Type 0} (s : Status) → AtFault A B s → (A → C) → (B → D) → AtFault C D s

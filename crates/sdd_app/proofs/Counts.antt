@@ -1,12 +1,5 @@
 -- Counts by their decimal spelling.
-use Rattle.std.proofs.Common.{◌≡◌, ℕ, ◌^◌, ◌<◌, ◌&&◌, cond, List, Bool, true, false, Some, None, refl, sym, ◌∙◌}
-use Rattle.std.specs.Prelude.{nat_lt}
-use Rattle.std.specs.Fmt.{decimal}
-use Rattle.std.specs.Str.{bytes_eq}
-use Rattle.std.specs.Str.Parse.{digits_value}
-use Rattle.std.proofs.lemmas.Bool.{lt-ltb, ltb-true}
-use Rattle.std.proofs.lemmas.Fmt.{decimal_is_IsNumeral}
-use Rattle.std.proofs.lemmas.Slice.Eq.{bytes_eq-Decides}
+use Rattle.sdd_app.proofs.All.{Bool, List, None, Some, bytes_eq, bytes_eq-Decides, cond, decimal, decimal_is_IsNumeral, digits_value, false, lt-ltb, ltb-true, nat_lt, refl, sym, true, ℕ, ◌&&◌, ◌<◌, ◌^◌, ◌∙◌, ◌≡◌}
 use Rattle.sdd_app.specs.Command.{count_in}
 
 by_tests : (bound : ℕ) (bytes : List ℕ) (n : ℕ) (x y : Bool) → n ≡ digits_value 10 bytes → bytes_eq bytes (decimal n) ≡ x → nat_lt n bound ≡ y

@@ -1,13 +1,5 @@
 -- The entries of a table are edges of its catalogue.
-use Rattle.std.proofs.Common.{List, [], ◌∷◌, map, sym, subst}
-use Rattle.std.specs.Prelude.{All}
-use Rattle.std.proofs.lemmas.List.Elements.{All-nil, All-cons, All-head, All-tail}
-use Rattle.sdd_lang.specs.All.{Catalogue}
-use Rattle.sdd_graph.specs.Edges.{IsEdgeOf}
-use Rattle.sdd_graph.specs.declared.edge.Edge.{Edge}
-use Rattle.sdd_graph.proofs.Known.{edges_known}
-use Rattle.sdd_protocol.specs.Protocols.{IsTable}
-use Rattle.sdd_protocol.specs.declared.entry.Entry.{Entry}
+use Rattle.sdd_app.proofs.All.{All, All-cons, All-head, All-nil, All-tail, Catalogue, Edge, Entry, IsEdgeOf, IsTable, List, [], edges_known, map, subst, sym, ◌∷◌}
 
 -- what holds of each edge of the entries holds of each entry
 all_of_edges : (P : Edge → Type 0) (entries : List Entry) → All P (map (λ (e : Entry). e.edge) entries) → All (λ (e : Entry). P e.edge) entries

@@ -1,30 +1,7 @@
 -- What reading a file says of what is in it.
-use Rattle.std.proofs.Common.{◌≡◌, ℕ, ◌<◌, ◌≤◌, List, [], false, length, Option, Some, None, Result, Ok, Err, refl, ap, sym, subst, ◌∙◌, arith, inl, inr}
-use Rattle.std.proofs.lemmas.Bool.{cases_lt, lt-leb, lt-ltb}
-use Rattle.std.specs.Prelude.{IsSome, IfSome, IfErr, IsErrOf, OnOk, MatchResult, take, drop, ◌+◌, nat_le, nat_lt, true}
-use Rattle.std.specs.Option.{option_map}
-use Rattle.sdd_lang.specs.All.{Catalogue, MAX_WORKLOAD_BYTES}
-use Rattle.sdd_lang.specs.base.declared.limits.TheConstants.{MAX_CATALOGUE_BYTES}
-use Rattle.sdd_lang.specs.base.Outside.{HasRead, Opened, ReadsTo, find_file}
-use Rattle.sdd_lang.specs.base.declared.files.ShelfFile.{ShelfFile}
-use Rattle.sdd_control.specs.Walk.{control_script, most_bytes}
-use Rattle.sdd_control.specs.declared.script.ControlScript.{ControlScript}
-use Rattle.sdd_app.specs.Answer.{BlamesScript, script_named, BlamesCatalogue, BlamesWorkload, catalogue_named, workload_named}
-use Rattle.sdd_app.specs.Answer.{judged_as}
-use Rattle.sdd_app.specs.Endings.{IsRead, IsReadTo, ToItsEnd, ToItsLimit}
-use Rattle.sdd_app.specs.Judging.{verdict_line}
-use Rattle.sdd_app.specs.Verdict.{Prints, ComesOfFiles, Explains}
-use Rattle.sdd_verified.specs.verify.declared.limits.TheConstants.{MAX_REPORT_BYTES}
-use Rattle.sdd_verified.specs.verify.declared.verdict.Verdict.TheVariants.{No}
-use Rattle.sdd_app.specs.declared.status.Status.{Status}
-use Rattle.sdd_app.specs.declared.status.Status.TheVariants.{Usage}
-use Rattle.sdd_lang.specs.catalog.declared.fault.CatRule.TheVariants.{TooLong}
-use Rattle.sdd_catread.specs.Faults.{broken}
-use Rattle.sdd_catread.specs.Form.{top}
+use Rattle.sdd_app.proofs.All.{BlamesCatalogue, BlamesScript, BlamesWorkload, Catalogue, ComesOfFiles, ControlScript, Err, Explains, HasRead, IfErr, IfSome, IsErrOf, IsRead, IsReadTo, IsSome, List, MAX_CATALOGUE_BYTES, MAX_REPORT_BYTES, MAX_WORKLOAD_BYTES, MatchResult, No, None, Ok, OnOk, Opened, Option, Prints, ReadsTo, Result, ShelfFile, Some, Status, ToItsEnd, ToItsLimit, TooLong, Usage, Workload, [], ap, arith, broken, cases_lt, catalogue_named, control_script, drop, false, find_file, inl, inr, judged_as, length, lt-leb, lt-ltb, most_bytes, nat_le, nat_lt, option_map, refl, script_named, subst, sym, take, top, true, verdict_line, workload, workload_named, ℕ, ◌+◌, ◌<◌, ◌∙◌, ◌≡◌, ◌≤◌}
 use Rattle.sdd_catread.specs.Reading.{catalogue_in, parts_in}
-use Rattle.sdd_verified.specs.script.Walk.{workload}
 use Rattle.sdd_verified.specs.script.declared.fault.WorkRule.TheVariants as work_rules
-use Rattle.sdd_verified.specs.script.declared.workload.Workload.{Workload}
 
 -- more than 1 MiB are too long
 pub too_long : (bytes : List ℕ) → MAX_CATALOGUE_BYTES < length bytes → catalogue_in bytes ≡ Err (broken top TooLong)

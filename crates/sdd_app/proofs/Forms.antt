@@ -1,10 +1,6 @@
 -- The form that words have, and the words of a form.
-use Rattle.std.proofs.Common.{◌≡◌, ℕ, ◌^◌, cond, List, [], ◌∷◌, Bool, true, false, Option, Some, None, refl, ap, sym, ◌∙◌, subst, arith}
-use Rattle.std.specs.Prelude.{codes}
-use Rattle.std.specs.Fmt.{decimal}
-use Rattle.std.specs.Str.{bytes_eq}
-use Rattle.std.proofs.lemmas.Slice.Eq.{bytes_eq-Decides}
-use Rattle.sdd_app.specs.Command.{Form, Check, Graph, Table, Run, Plain, Control, Make, Verify, Advise, IsForm, IsNoForm, words_of, count_in, made, form_in}
+use Rattle.sdd_app.proofs.All.{Advise, Bool, Check, Control, Form, Graph, IsForm, IsNoForm, List, Make, None, Option, Plain, Run, Some, Table, Verify, [], ap, arith, bytes_eq, bytes_eq-Decides, codes, cond, count_in, decimal, false, made, refl, subst, sym, true, words_of, ℕ, ◌^◌, ◌∙◌, ◌∷◌, ◌≡◌}
+use Rattle.sdd_app.specs.Command.{form_in}
 use Rattle.sdd_app.proofs.Counts.{counted, spelled}
 
 -- the words of a form have it

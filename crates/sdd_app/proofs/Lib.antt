@@ -1,3 +1,4 @@
+mod All
 pub mod AtFault
 pub mod Counts
 pub mod Entries

@@ -1,12 +1,5 @@
 -- The summary of a made input tells that all of its transactions are committed.
-use Rattle.std.proofs.Common.{ℕ, ◌≤◌, List, Result, Ok, Err}
-use Rattle.sdd_lang.specs.All.{MAX_TXNS}
-use Rattle.sdd_verified.specs.make.Bank.{bank}
-use Rattle.sdd_verified.specs.make.Turns.{workload_of}
-use Rattle.sdd_verified.proofs.MadeSettles.{made_summed}
-use Rattle.sdd_app.specs.Answer.{ComesToMade, ComesToSummary}
-use Rattle.sdd_app.specs.Verdict.{Answers}
-use Rattle.sdd_app.specs.declared.status.Status.{Status}
+use Rattle.sdd_app.proofs.All.{Answers, ComesToMade, ComesToSummary, Err, List, MAX_TXNS, Ok, Result, Status, bank, made_summed, workload_of, ℕ, ◌≤◌}
 use Rattle.sdd_app.specs.declared.status.Status.TheVariants as statuses
 
 pub all_made : {A : Type 0} (seed count : ℕ) → count ≤ MAX_TXNS → (r : Result A Status) (text : A → List ℕ)

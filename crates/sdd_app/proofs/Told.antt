@@ -1,12 +1,5 @@
 -- What is told of a sink and of files, by cases.
-use Rattle.std.proofs.Common.{◌≡◌, ℕ, zero, suc, flat_map, slice_index_or, ◌∷◌, [], ◌++◌, drop, None, refl, ap, append_assoc, append-nil, length-append, ◌+◌, ◌-◌, ◌<◌, ◌≤◌, List, length, take, Option, Some, sym, ◌∙◌, arith, subst, inl, inr}
-use Rattle.std.proofs.lemmas.Bool.{cases_lt}
-use Rattle.std.specs.Prelude.{IfSome}
-use Rattle.std.proofs.lemmas.Grind.{flat_map-append}
-use Rattle.std.proofs.lemmas.List.{take_all, take_more, take-append-drop}
-use Rattle.std.proofs.Math.Seq.{take-append_seam}
-use Rattle.sdd_lang.specs.base.Outside.{ReadsTo, Rose, with_end}
-use Rattle.sdd_app.specs.Taking.{TakesOrFaults}
+use Rattle.sdd_app.proofs.All.{IfSome, List, None, Option, ReadsTo, Rose, Some, TakesOrFaults, [], ap, append-nil, append_assoc, arith, cases_lt, drop, flat_map, flat_map-append, inl, inr, length, length-append, refl, slice_index_or, subst, suc, sym, take, take-append-drop, take-append_seam, take_all, take_more, with_end, zero, ℕ, ◌++◌, ◌+◌, ◌-◌, ◌<◌, ◌∙◌, ◌∷◌, ◌≡◌, ◌≤◌}
 
 -- what a sink took grows by nothing, and by one text after another
 pub end_nothing : (told : Option (List ℕ)) → told ≡ with_end told []
@@ -22,14 +15,8 @@ pub took_all : (sure : ℕ → Type 0) (before now : Option (List ℕ)) (f g : �
     → ((room : ℕ) → sure room → length text ≤ room → g ≡ f) → TakesOrFaults sure before now f g text
 took_all sure before now f g text done later still = record {
   later = later;
-  still =
-      still;
-  front = (
-    length text,
-    rw (take_all (length text) text (omega arith)) done,
-    λ lt. absurd
-        (omega arith),
-  );
+  still = still;
+  front = (length text, rw (take_all (length text) text (omega arith)) done, λ lt. absurd (omega arith));
 }
 
 rose_since : (f g h : ℕ) → f ≤ g → Rose g h → Rose f h
@@ -63,11 +50,9 @@ took_front sure before middle now f g h text front piece rest n e taken later mo
     length (front ++ take n piece),
     rw (
       seam text front piece rest n e,
-      sym (end_more before front
-          (take n piece)),
+      sym (end_more before front (take n piece)),
     ) (more ∙ ap (λ (t : Option (List ℕ)). with_end t (take n piece)) taken),
-    λ lt.
-        rose_since f g h later rose,
+    λ lt. rose_since f g h later rose,
   );
 }
 
@@ -107,8 +92,7 @@ flat_next f xs i d lt =
     ∙ ap (λ l. flat_map f (take i xs) ++ l) (append-nil (f (slice_index_or xs i d)))
 
 pub more_taken : (before middle now : Option (List ℕ)) (front piece next : List ℕ)
-    → middle ≡ with_end before front → now ≡ with_end middle piece → next ≡ front ++ piece
-    → now ≡ with_end before next
+    → middle ≡ with_end before front → now ≡ with_end middle piece → next ≡ front ++ piece → now ≡ with_end before next
 more_taken before middle now front piece next taken more e =
     more ∙ ap (λ (t : Option (List ℕ)). with_end t piece) taken ∙ end_more before front piece ∙ ap (λ (l : List ℕ). with_end before l) (sym e)
 

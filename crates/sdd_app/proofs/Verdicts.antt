@@ -1,33 +1,7 @@
 -- What a call comes to, from what was read of its files; that it comes to one status.
-use Rattle.std.proofs.Common.{◌≡◌, ℕ, List, [], ◌∷◌, Option, Some, None, Result, Ok, Err, refl, ap, sym, ◌∙◌, subst, ◌⊎◌, inl, inr}
-use Rattle.std.specs.Prelude.{IsSome, MatchOption, MatchResult, OnOk}
-use Rattle.std.specs.Option.{option_map}
-use Rattle.sdd_lang.specs.base.declared.files.ShelfFile.{ShelfFile}
-use Rattle.sdd_lang.specs.base.Outside.{KeepsOpen, Opened, find_file}
-use Rattle.sdd_lang.specs.All.{CatFault, Catalogue}
-use Rattle.sdd_catread.specs.Reading.{catalogue_in}
-use Rattle.sdd_verified.specs.script.Walk.{workload}
-use Rattle.sdd_verified.specs.script.declared.fault.WorkFault.{WorkFault}
-use Rattle.sdd_verified.specs.script.declared.workload.Workload.{Workload}
-use Rattle.sdd_verified.specs.world.declared.ends.WorldEnd.{WorldEnd}
+use Rattle.sdd_app.proofs.All.{Advise, Answers, BadCatalogue, BadWorkload, BlamesCatalogue, BlamesScript, BlamesWorkload, CatFault, Catalogue, Check, ComesTo, ComesToControl, ComesToListing, ComesToMade, ComesToPlain, ComesToReport, ComesToRun, ComesToVerdict, ComesToVerify, Command, Control, ControlScript, Done, Ending, EndsAtLimit, Err, Explains, FaultyCatalogue, FaultyWorkload, FilesAreThere, FilesOf, FilesRead, Form, FormComesTo, FormHasRoom, FormIsOver, Graph, IsMadeSummary, IsRead, IsRefusal, IsReportOn, IsSome, KeepsOpen, Limit, List, Listing, Make, MatchOption, MatchResult, NoForm, NoMemory, None, Ok, OnOk, Opened, Option, OverCatalogue, PastLimit, Plain, Prints, ReadFault, Result, Run, ShelfFile, Some, Status, Table, TellsOfRun, ToItsEnd, ToItsLimit, Usage, Verdict, Verify, WorkFault, Workload, WorldEnd, WriteFault, [], ap, bank, catalogue_in, catalogue_named, control_script, control_verdict, find_file, form_in, form_of, inl, inr, judged_as, option_map, plain_verdict, refl, report, report_or_limit, script_named, serial_text, status_of, status_of_end, subst, summary_or_limit, sym, workload, workload_named, workload_of, ℕ, ◌∙◌, ◌∷◌, ◌≡◌, ◌⊎◌}
 use Rattle.sdd_verified.specs.world.declared.ends.WorldEnd.TheVariants as ends
-use Rattle.sdd_verified.specs.make.Bank.{bank}
-use Rattle.sdd_verified.specs.make.Turns.{workload_of}
-use Rattle.sdd_verified.specs.run.Runs.{EndsAtLimit, IsReportOn}
-use Rattle.sdd_verified.proofs.run.Apart.{report_or_limit, summary_or_limit}
-use Rattle.sdd_control.specs.Report.{report}
-use Rattle.sdd_control.specs.Walk.{control_script}
-use Rattle.sdd_control.specs.declared.script.ControlScript.{ControlScript}
-use Rattle.sdd_app.specs.Answer.{script_named, control_verdict, ComesToControl, BlamesScript, catalogue_named, workload_named, OverCatalogue, ComesToListing, plain_verdict, ComesToPlain, ComesToReport, ComesToRun, ComesToMade, IsMadeSummary, ComesToVerdict, ComesToVerify, TellsOfRun, judged_as, FormComesTo, ComesTo, FilesOf, FilesAreThere, BlamesCatalogue, BlamesWorkload}
-use Rattle.sdd_app.specs.Command.{Form, Check, Graph, Table, Run, Plain, Control, Make, Verify, Advise, form_of, form_in}
-use Rattle.sdd_app.specs.declared.command.Command.{Command}
-use Rattle.sdd_app.specs.Endings.{Ending, FilesRead, FormHasRoom, FormIsOver, IsRead, ToItsEnd, ToItsLimit}
-use Rattle.sdd_app.specs.Serially.{serial_text}
-use Rattle.sdd_app.specs.Verdict.{Verdict, NoForm, Prints, FaultyCatalogue, FaultyWorkload, PastLimit, status_of, status_of_end, IsRefusal, Explains, Answers}
-use Rattle.sdd_app.specs.declared.listing.Listing.{Listing}
 use Rattle.sdd_app.specs.declared.listing.Listing.TheVariants as listings
-use Rattle.sdd_app.specs.declared.status.Status.{Status}
-use Rattle.sdd_app.specs.declared.status.Status.TheVariants.{Done, Usage, BadCatalogue, BadWorkload, ReadFault, WriteFault, NoMemory, Limit}
 
 -- a status tells what follows from what it tells
 pub explains_more : (s : Status) (P Q : Verdict → Type 0) → ((v : Verdict) → P v → Q v) → Explains s P → Explains s Q
@@ -93,13 +67,11 @@ blamed_verify fs work report cat v e = blamed_work (workload_named fs cat work) 
 
 -- over a workload that was read
 pub replies_plain : (fs : List ShelfFile) (work : List ℕ) (cat : Catalogue) (w : Workload) (text : List ℕ)
-    → workload_named fs cat work ≡ Some (Ok w) → text ≡ serial_text cat w
-    → ComesToPlain fs work cat (Prints text)
+    → workload_named fs cat work ≡ Some (Ok w) → text ≡ serial_text cat w → ComesToPlain fs work cat (Prints text)
 replies_plain fs work cat w text e is = ap (λ r. option_map (plain_verdict cat) r) e ∙ ap (λ t. Some (Prints t)) (sym is)
 
 pub reports_run : (fs : List ShelfFile) (work : List ℕ) (cat : Catalogue) (w : Workload) (v : Verdict)
-    → workload_named fs cat work ≡ Some (Ok w) → ComesToReport cat w v
-    → ComesToRun fs work cat v
+    → workload_named fs cat work ≡ Some (Ok w) → ComesToReport cat w v → ComesToRun fs work cat v
 reports_run fs work cat w v e p = subst (λ r. OverWork r (ComesToReport cat) v) (sym e) p
 
 pub judges_report : (fs : List ShelfFile) (work report : List ℕ) (cat : Catalogue) (w : Workload) (v : Verdict) → workload_named fs cat work ≡ Some (Ok w)
@@ -115,8 +87,7 @@ blamed_control fs name (FaultyCatalogue f) e = absurd e
 blamed_control fs name PastLimit e = absurd e
 
 pub reports_control : (fs : List ShelfFile) (name : List ℕ) (script : ControlScript) (text : List ℕ)
-    → script_named fs name ≡ Some (Ok script) → text ≡ report script
-    → ComesToControl fs name (Prints text)
+    → script_named fs name ≡ Some (Ok script) → text ≡ report script → ComesToControl fs name (Prints text)
 reports_control fs name script text e is = ap (λ r. option_map control_verdict r) e ∙ ap (λ t. Some (Prints t)) (sym is)
 
 -- what a command tells, the call of its words tells
@@ -205,8 +176,7 @@ one_run : (fs : List ShelfFile) (work : List ℕ) (cat : Catalogue) (v w : Verdi
 one_run fs work cat v w p q = one_over_work (workload_named fs cat work) (ComesToReport cat) v w (λ k a b. one_report cat k v w a b) p q
 
 one_judged : (fs : List ShelfFile) (work report : List ℕ) (cat : Catalogue) (v w : Verdict)
-    → ComesToVerify fs work report cat v → ComesToVerify fs work report cat w
-    → status_of v ≡ status_of w
+    → ComesToVerify fs work report cat v → ComesToVerify fs work report cat w → status_of v ≡ status_of w
 one_judged fs work report cat v w p q =
     one_over_work (workload_named fs cat work) (ComesToVerdict fs report cat) v w
     (λ k a b. ap status_of (one_verdict (option_map (judged_as cat k) (find_file fs report)) v w a b)) p q

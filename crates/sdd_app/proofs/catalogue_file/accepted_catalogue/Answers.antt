@@ -1,12 +1,6 @@
-use Rattle.std.proofs.Common.{◌≡◌, Ok, Some}
-use Rattle.std.proofs.lemmas.Result.{err_from_is_err_and}
-use Rattle.sdd_catread.specs.Reading.{catalogue_in}
-use Rattle.sdd_app.specs.Answer.{BlamesCatalogue, catalogue_named}
-use Rattle.sdd_app.specs.Verdict.{Explains}
-use Rattle.sdd_app.specs.declared.status.Status.TheVariants.{ReadFault}
+use Rattle.sdd_app.proofs.All.{BlamesCatalogue, Explains, MAX_CATALOGUE_BYTES, Ok, ReadFault, Some, catalogue_in, catalogue_named, err_from_is_err_and, ◌≡◌}
 use Rattle.sdd_app.proofs.FileReads.{catalogue_gives, accepted_small, on_ok_by, if_err_more, read_to_end, read_to_limit}
 use Rattle.sdd_app.proofs.Verdicts.{explains_more}
-use Rattle.sdd_lang.specs.base.declared.limits.TheConstants.{MAX_CATALOGUE_BYTES}
 use Rattle.sdd_app.proofs.AtFault.{catalogue_at, err_by, silent_at}
 use Rattle.sdd_app.proofs.catalogue_file.accepted_catalogue.Goals as goal
 

@@ -1,4 +1,4 @@
-use Rattle.sdd_app.specs.Check.{module_counts, part_counts, class_count}
+use Rattle.sdd_app.proofs.All.{class_count, module_counts, part_counts}
 use Rattle.sdd_app.proofs.TextPieces.{three_pieces}
 use Rattle.sdd_app.proofs.check.counts.Goals as goal
 

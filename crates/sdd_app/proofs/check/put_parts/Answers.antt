@@ -1,6 +1,5 @@
-use Rattle.std.specs.Prelude.{codes}
-use Rattle.std.specs.Fmt.{decimal}
-use Rattle.sdd_app.proofs.TextPieces.{four_pieces, on_ok_then}
+use Rattle.sdd_app.proofs.All.{codes, decimal, on_ok_then}
+use Rattle.sdd_app.proofs.TextPieces.{four_pieces}
 use Rattle.sdd_app.proofs.check.put_parts.Goals as goal
 
 pub returns : goal.returns

@@ -1,5 +1,4 @@
-use Rattle.std.proofs.Common.{◌≡◌, ◌∙◌, sym, arith}
-use Rattle.std.proofs.lemmas.Fmt.{decimal_injective}
+use Rattle.sdd_app.proofs.All.{arith, decimal_injective, sym, ◌∙◌, ◌≡◌}
 use Rattle.sdd_app.proofs.command.make_of.Goals as goal
 
 pub returns-then-seed-clause-none : goal.returns-then-seed-clause-none

@@ -1,12 +1,6 @@
-use Rattle.std.proofs.Common.{◌≡◌, Ok, Some}
-use Rattle.std.proofs.lemmas.Result.{err_from_is_err_and}
-use Rattle.sdd_control.specs.Walk.{control_script}
-use Rattle.sdd_app.specs.Answer.{BlamesScript, script_named}
-use Rattle.sdd_app.specs.Verdict.{Explains}
-use Rattle.sdd_app.specs.declared.status.Status.TheVariants.{ReadFault}
+use Rattle.sdd_app.proofs.All.{BlamesScript, Explains, MAX_WORKLOAD_BYTES, Ok, ReadFault, Some, control_script, err_from_is_err_and, script_named, ◌≡◌}
 use Rattle.sdd_app.proofs.FileReads.{script_gives, accepted_script_short, on_ok_by, if_err_more, read_to_end, read_to_limit}
 use Rattle.sdd_app.proofs.Verdicts.{explains_more}
-use Rattle.sdd_lang.specs.All.{MAX_WORKLOAD_BYTES}
 use Rattle.sdd_app.proofs.AtFault.{script_at, err_by, silent_at}
 use Rattle.sdd_app.proofs.control_file.accepted_script.Goals as goal
 

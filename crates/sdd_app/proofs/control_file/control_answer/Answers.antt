@@ -1,5 +1,4 @@
-use Rattle.std.proofs.lemmas.Result.{err_from_is_err_and}
-use Rattle.sdd_app.specs.Answer.{BlamesScript, ComesToControl, script_named}
+use Rattle.sdd_app.proofs.All.{BlamesScript, ComesToControl, err_from_is_err_and, script_named}
 use Rattle.sdd_app.proofs.Verdicts.{explains_more, blamed_control, reports_control, one_ended}
 use Rattle.sdd_app.proofs.AtFault.{at_more}
 use Rattle.sdd_app.proofs.control_file.control_answer.Goals as goal

@@ -1,5 +1,4 @@
-use Rattle.std.proofs.Common.{◌≡◌, ◌++◌, take}
-use Rattle.sdd_app.specs.Edges.{table_text}
+use Rattle.sdd_app.proofs.All.{table_text, take, ◌++◌, ◌≡◌}
 use Rattle.sdd_app.proofs.edges.put_diagonal_lines.Given as goal
 
 -- so far the text holds the lines of the entries so far

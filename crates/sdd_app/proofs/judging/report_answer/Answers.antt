@@ -1,9 +1,4 @@
-use Rattle.std.proofs.Common.{Some, ap, sym, ◌∙◌}
-use Rattle.std.proofs.lemmas.Result.{err_from_is_err_and}
-use Rattle.sdd_lang.specs.base.Outside.{find_file}
-use Rattle.sdd_verified.specs.verify.declared.limits.TheConstants.{MAX_REPORT_BYTES}
-use Rattle.sdd_app.specs.Answer.{ComesToVerdict, judged_as}
-use Rattle.sdd_app.specs.Verdict.{Prints}
+use Rattle.sdd_app.proofs.All.{ComesToVerdict, MAX_REPORT_BYTES, Prints, Some, ap, err_from_is_err_and, find_file, judged_as, sym, ◌∙◌}
 use Rattle.sdd_app.proofs.FileReads.{long_reports, read_gives, read_to_limit}
 use Rattle.sdd_app.proofs.Verdicts.{explains_more}
 use Rattle.sdd_app.proofs.AtFault.{silent_at}

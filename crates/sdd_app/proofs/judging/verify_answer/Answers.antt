@@ -1,8 +1,4 @@
-use Rattle.std.proofs.Common.{◌+◌, ◌∙◌}
-use Rattle.std.proofs.lemmas.Result.{err_from_is_err_and}
-use Rattle.sdd_verified.specs.verify.declared.limits.TheConstants.{MAX_REPORT_BYTES}
-use Rattle.sdd_app.specs.Answer.{BlamesCatalogue, BlamesWorkload, ComesToVerdict, ComesToVerify, OverCatalogue, catalogue_named, workload_named}
-use Rattle.sdd_app.specs.Verdict.{Prints}
+use Rattle.sdd_app.proofs.All.{BlamesCatalogue, BlamesWorkload, ComesToVerdict, ComesToVerify, MAX_REPORT_BYTES, OverCatalogue, Prints, catalogue_named, err_from_is_err_and, workload_named, ◌+◌, ◌∙◌}
 use Rattle.sdd_app.proofs.Verdicts.{explains_more, blamed, goes_on, blamed_verify, judges_report, three_ended, one_ended, two_ended}
 use Rattle.sdd_app.proofs.AtFault.{at_more}
 use Rattle.sdd_app.proofs.judging.verify_answer.Goals as goal
@@ -58,7 +54,8 @@ returns-clause-ended g c =
     let first = c.in_ok-catalogue.ensures in
     let second = c.in_ok-work.ensures in
     let third = c.in_ok-text.ensures in
-    three_ended _ _ _ _ _ _ _ _ _ _ _ MAX_REPORT_BYTES c.args.catalogue.now c.args.workload.now c.args.report.now first.ended.0 second.ended.0 third.ended.0 (second.files ∙ first.files)
+    three_ended _ _ _ _ _ _ _ _ _ _ _ MAX_REPORT_BYTES c.args.catalogue.now c.args.workload.now c.args.report.now first.ended.0 second.ended.0 third.ended.0
+    (second.files ∙ first.files)
     first.ended.1 first.others second.ended.1 second.others third.ended.1 third.others
 
 pub returns-in_err-catalogue-clause-surely : goal.returns-in_err-catalogue-clause-surely

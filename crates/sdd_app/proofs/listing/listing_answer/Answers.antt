@@ -1,6 +1,4 @@
-use Rattle.std.proofs.lemmas.Result.{err_from_is_err_and}
-use Rattle.sdd_app.specs.Answer.{BlamesCatalogue, ComesToListing, OverCatalogue, catalogue_named}
-use Rattle.sdd_app.specs.Verdict.{Prints}
+use Rattle.sdd_app.proofs.All.{BlamesCatalogue, ComesToListing, OverCatalogue, Prints, catalogue_named, err_from_is_err_and}
 use Rattle.sdd_app.proofs.Verdicts.{explains_more, blamed, goes_on, one_ended}
 use Rattle.sdd_app.proofs.AtFault.{at_more}
 use Rattle.sdd_app.proofs.listing.listing_answer.Goals as goal

@@ -1,9 +1,4 @@
-use Rattle.std.proofs.Common.{◌≡◌, sym, subst}
-use Rattle.sdd_verified.specs.make.Bank.{bank}
-use Rattle.sdd_verified.specs.make.Turns.{workload_of}
-use Rattle.sdd_verified.specs.script.Valid.{IsValid}
-use Rattle.sdd_app.specs.Answer.{ComesToSummary}
-use Rattle.sdd_app.specs.Verdict.{Answers}
+use Rattle.sdd_app.proofs.All.{Answers, ComesToSummary, IsValid, bank, subst, sym, workload_of, ◌≡◌}
 use Rattle.sdd_app.proofs.MadeSummary.{all_made}
 use Rattle.sdd_app.proofs.made_input.make_answer.Goals as goal
 

@@ -1,6 +1,4 @@
-use Rattle.std.proofs.Common.{map, string_bytes, subst, refl}
-use Rattle.sdd_app.specs.Command.{form_of}
-use Rattle.sdd_app.specs.Verdict.{ComesOfFiles}
+use Rattle.sdd_app.proofs.All.{ComesOfFiles, form_of, map, refl, string_bytes, subst}
 use Rattle.sdd_app.proofs.FileReads.{if_err_more, not_usage}
 use Rattle.sdd_app.proofs.Forms.{no_form, found_form}
 use Rattle.sdd_app.proofs.Verdicts.{words_answer}

@@ -1,5 +1,4 @@
-use Rattle.std.proofs.Common.{◌≡◌, ℕ, ◌+◌, refl, subst, arith}
-use Rattle.sdd_app.specs.Command.{IsForm, form_of}
+use Rattle.sdd_app.proofs.All.{IsForm, arith, form_of, refl, subst, ℕ, ◌+◌, ◌≡◌}
 use Rattle.sdd_app.proofs.Verdicts.{answers_so, surely_so, none_read}
 use Rattle.sdd_app.proofs.AtFault.{at_more}
 use Rattle.sdd_app.proofs.FileReads.{if_err_more}

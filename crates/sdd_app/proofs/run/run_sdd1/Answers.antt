@@ -1,6 +1,4 @@
-use Rattle.std.proofs.Common.{map, string_bytes, subst}
-use Rattle.sdd_app.specs.Answer.{ComesTo}
-use Rattle.sdd_app.specs.Verdict.{Prints, Explains}
+use Rattle.sdd_app.proofs.All.{ComesTo, Explains, Prints, map, string_bytes, subst}
 use Rattle.sdd_app.proofs.Verdicts.{told_status, files_there, prints_or_refuses}
 use Rattle.sdd_app.proofs.AtFault.{of_catalogue, of_workload}
 use Rattle.sdd_app.proofs.run.run_sdd1.Goals as goal

@@ -1,6 +1,4 @@
-use Rattle.std.proofs.Common.{◌≡◌, ◌++◌, take, map, flat_map}
-use Rattle.sdd_verified.specs.report.Names.{spaced}
-use Rattle.sdd_app.specs.Serially.{names_of}
+use Rattle.sdd_app.proofs.All.{flat_map, map, names_of, spaced, take, ◌++◌, ◌≡◌}
 use Rattle.sdd_app.proofs.serially.put_names.Given as goal
 
 -- the names of the transactions so far are written

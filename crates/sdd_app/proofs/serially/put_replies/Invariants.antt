@@ -1,7 +1,4 @@
-use Rattle.std.proofs.Common.{◌≡◌, ◌++◌, drop, map}
-use Rattle.std.specs.Prelude.{IsTrue}
-use Rattle.sdd_lang.specs.All.{database_of}
-use Rattle.sdd_app.specs.Serially.{replies_of}
+use Rattle.sdd_app.proofs.All.{IsTrue, database_of, drop, map, replies_of, ◌++◌, ◌≡◌}
 use Rattle.sdd_app.proofs.serially.put_replies.Given as goal
 
 -- what is written, and the replies of the transactions that are left, are all replies

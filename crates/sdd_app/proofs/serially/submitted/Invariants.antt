@@ -1,6 +1,4 @@
-use Rattle.std.proofs.Common.{◌≡◌, take, map}
-use Rattle.std.specs.List.{filter_map}
-use Rattle.sdd_app.specs.Serially.{submitted_by}
+use Rattle.sdd_app.proofs.All.{filter_map, map, submitted_by, take, ◌≡◌}
 use Rattle.sdd_app.proofs.serially.submitted.Given as goal
 
 -- the transactions of the events so far

@@ -1,5 +1,4 @@
-use Rattle.std.proofs.Common.{◌≡◌, ℕ, ◌≤◌, ◌-◌, length, take, flat_map}
-use Rattle.sdd_lang.specs.base.Outside.{with_end}
+use Rattle.sdd_app.proofs.All.{flat_map, length, take, with_end, ℕ, ◌-◌, ◌≡◌, ◌≤◌}
 use Rattle.sdd_app.proofs.telling.tell_pieces.Given as goal
 
 -- the pieces so far were taken, without a fault where the sink was sure to take them all

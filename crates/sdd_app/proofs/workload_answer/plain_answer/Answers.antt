@@ -1,7 +1,4 @@
-use Rattle.std.proofs.Common.{◌+◌, ◌∙◌}
-use Rattle.std.proofs.lemmas.Result.{err_from_is_err_and}
-use Rattle.sdd_app.specs.Answer.{BlamesCatalogue, BlamesWorkload, ComesToPlain, OverCatalogue, catalogue_named, workload_named}
-use Rattle.sdd_app.specs.Verdict.{Prints}
+use Rattle.sdd_app.proofs.All.{BlamesCatalogue, BlamesWorkload, ComesToPlain, OverCatalogue, Prints, catalogue_named, err_from_is_err_and, workload_named, ◌+◌, ◌∙◌}
 use Rattle.sdd_app.proofs.Verdicts.{explains_more, blamed, goes_on, blamed_plain, replies_plain, two_ended, one_ended}
 use Rattle.sdd_app.proofs.AtFault.{at_more}
 use Rattle.sdd_app.proofs.workload_answer.plain_answer.Goals as goal

@@ -1,12 +1,6 @@
-use Rattle.std.proofs.Common.{◌≡◌, Ok, Some}
-use Rattle.std.proofs.lemmas.Result.{err_from_is_err_and}
-use Rattle.sdd_verified.specs.script.Walk.{workload}
-use Rattle.sdd_app.specs.Answer.{BlamesWorkload, workload_named}
-use Rattle.sdd_app.specs.Verdict.{Explains}
-use Rattle.sdd_app.specs.declared.status.Status.TheVariants.{ReadFault}
+use Rattle.sdd_app.proofs.All.{BlamesWorkload, Explains, MAX_WORKLOAD_BYTES, Ok, ReadFault, Some, err_from_is_err_and, workload, workload_named, ◌≡◌}
 use Rattle.sdd_app.proofs.FileReads.{workload_gives, accepted_short, on_ok_by, if_err_more, read_to_end, read_to_limit}
 use Rattle.sdd_app.proofs.Verdicts.{explains_more}
-use Rattle.sdd_lang.specs.All.{MAX_WORKLOAD_BYTES}
 use Rattle.sdd_app.proofs.AtFault.{workload_at, err_by, silent_at}
 use Rattle.sdd_app.proofs.workload_file.accepted_workload.Goals as goal
 
