@@ -1,12 +1,13 @@
 -- For what the READ at the head of a pipe waits.
-use Rattle.std.specs.Prelude.{ℕ, ◌≡◌, ◌==◌, Bool, not, if◌then◌else◌, List, find, Option, Some, None, MatchOption}
-use Rattle.sdd_module.specs.All.{Cond, Log, Msg, Read, Setting}
+use Rattle.std.specs.Prelude.{ℕ, ◌≡◌, ◌==◌, Bool, not, if◌then◌else◌, List, filter_map, find, length, Option, Some, None, MatchOption}
+use Rattle.std.specs.List.{range_with_len}
+use Rattle.sdd_module.specs.All.{Change, ClassNo, Cond, Log, Msg, Read, Setting, Write, class_no}
 use Rattle.sdd_pipe.specs.Pipe.{head}
 use Rattle.sdd_pipe.specs.Digest.{Digest}
 use Rattle.sdd_dm.specs.Pipes.{pipe, waits}
 use Rattle.sdd_dm.specs.Views.{view_of}
 use Rattle.sdd_dm.specs.Due.{is_met}
-use Rattle.sdd_dm.specs.Heads.{head_at, waits_at, is_met_in}
+use Rattle.sdd_dm.specs.Heads.{head_at, holds_in, is_met_in, unmet, waits_at}
 
 -- the conditions of a READ with this timestamp
 abbrev pub conds_of : ℕ → Option Msg → Option (List Cond)
@@ -27,6 +28,28 @@ IsAwaited s log c t answer =
 
 abbrev pub waiting_in : List Digest → List Bool → ℕ → ℕ → Option (List Cond)
 waiting_in pipes flags c t = if waits_at flags c then conds_of t (head_at pipes c) else None
+
+-- of the READ of class c that waits, the conditions that aren't met
+
+abbrev pub lacking_of : List Digest → Option Msg → Option (List Cond)
+lacking_of pipes (Some (Read ts class txn attempt conds uses)) = Some (unmet pipes conds)
+lacking_of pipes _ = None
+
+abbrev pub lacking_in : List Digest → List Bool → ℕ → Option (List Cond)
+lacking_in pipes flags c = if waits_at flags c then lacking_of pipes (head_at pipes c) else None
+
+-- for the WRITE at the head of class c, the classes whose READ waits and must not see it
+
+abbrev pub holder_at : List Digest → List Bool → ℕ → ℕ → List Change → ℕ → Option ClassNo
+holder_at pipes flags j w changes reader = if holds_in pipes flags j w changes reader then Some (class_no reader) else None
+
+abbrev pub holders_of : List Digest → List Bool → ℕ → Option Msg → Option (List ClassNo)
+holders_of pipes flags c (Some (Write ts class txn changes)) =
+    Some (filter_map (holder_at pipes flags c ts.0 changes) (range_with_len 0 (length pipes)))
+holders_of pipes flags c _ = None
+
+abbrev pub holders_in : List Digest → List Bool → ℕ → Option (List ClassNo)
+holders_in pipes flags c = holders_of pipes flags c (head_at pipes c)
 
 abbrev pub first_unmet : List Digest → Option (List Cond) → Option Cond
 first_unmet pipes None = None

@@ -18,7 +18,7 @@ fn is_met(pipes: &Pipes, cond: &Cond) -> bool
 }
 
 /// The conditions whose classes haven't passed their times.
-fn unmet(alloc: Global, pipes: &Pipes, conds: &[Cond]) -> Result<Conds, NoMemory>
+pub fn unmet(alloc: Global, pipes: &Pipes, conds: &[Cond]) -> Result<Conds, NoMemory>
     ensures { IfOk result (λ lacking. lacking ≡ unmet pipes.now.value conds.now) }
 {
     let mut lacking = Vec::new(alloc);

@@ -1,5 +1,5 @@
 ghost use Rattle.std.specs.Prelude.{◌≡◌, ◌≤◌, ℕ, [], IfOk, OnErr, IsTrue, length, true};
-ghost use Rattle.std.specs.Option.{option_copied};
+ghost use Rattle.std.specs.Option.{option_copied, option_map};
 ghost use Rattle.std.specs.List.{All};
 ghost use Rattle.sdd_module.specs.All.{D, Does, FitsStart, Handed, Log, Setting, has_copy, number_of};
 ghost use Rattle.sdd_copy.specs.Copies.{is_here, StandFor};
@@ -7,12 +7,15 @@ ghost use Rattle.sdd_dm.specs.Copies.{dated};
 ghost use Rattle.sdd_dm.specs.Due.{next};
 ghost use Rattle.sdd_dm.specs.Fits.{fits};
 ghost use Rattle.sdd_dm.specs.Stands.{Stands};
-ghost use Rattle.sdd_dm.specs.Waiting.{IsAwaited};
+ghost use Rattle.sdd_dm.specs.Waiting.{IsAwaited, holders_in, lacking_in};
+ghost use Rattle.sdd_pipe.specs.Digest.{passed_to};
+ghost use Rattle.sdd_pipe.specs.Pipes.{pipe_at};
 
+use crate::holding::ClassNos;
 use crate::parts::Parts;
 use sdd_copy::Copies;
 use sdd_module::Module;
-use sdd_module::sdd_base::{ClassNo, Cond, DmNo, NoMemory, RelNo, Row, Site, Ts};
+use sdd_module::sdd_base::{ClassNo, Cond, Conds, DmNo, NoMemory, RelNo, Row, Site, Ts};
 use sdd_module::sdd_catalog::Catalogue;
 use sdd_module::sdd_wire::{Msg, Outcome};
 use std::alloc::Global;
@@ -75,6 +78,47 @@ impl DataModule {
             → is_here result.now.value f ≡ true }
     {
         &self.parts.copies
+    }
+
+    /// How many pipes there are: one for class 0 and for each class after it. Takes no memory.
+    pub fn pipe_count(&self) -> u32
+        ensures { result ≡ length self.now.value.pipes }
+    {
+        self.parts.pipes.count()
+    }
+
+    /// How many messages in the pipe of a class aren't processed. O(1), and takes no memory.
+    pub fn unprocessed(&self, class: ClassNo) -> usize
+        ensures { result ≡ length (pipe_at self.now.value.pipes class.0).unprocessed }
+    {
+        self.parts.pipes.len(class)
+    }
+
+    /// The greatest time that a class has passed: None exactly where it has passed none. O(1), and
+    /// takes no memory.
+    pub fn passed_to(&self, class: ClassNo) -> Option<Ts>
+        ensures { option_map (λ ts. ts.0) result ≡ passed_to (pipe_at self.now.value.pipes class.0) }
+    {
+        self.parts.pipes.passed_to(class)
+    }
+
+    /// Of the READ of a class, where it waits, the conditions whose classes haven't passed their
+    /// times; None exactly where none waits. Costs copies of these.
+    pub fn lacking(&self, class: ClassNo) -> Result<Option<Conds>, NoMemory>
+        ensures { IfOk result (λ conds. conds
+            ≡ lacking_in self.now.value.pipes self.now.value.waits class.0) }
+    {
+        self.parts.lacking(class)
+    }
+
+    /// For the WRITE at the head of the pipe of a class, the classes whose READ waits and must not
+    /// see it; None exactly where no WRITE is there. Costs the conditions of all READs that wait
+    /// times the changes.
+    pub fn holders(&self, class: ClassNo) -> Result<Option<ClassNos>, NoMemory>
+        ensures { IfOk result (λ classes. classes
+            ≡ holders_in self.now.value.pipes self.now.value.waits class.0) }
+    {
+        self.parts.holders(class)
     }
 
     /// Of the READ of a class with this timestamp, where it waits, the first condition whose class

@@ -1,14 +1,19 @@
 //! WRITEs that READs hold back.
-ghost use Rattle.std.specs.Prelude.{◌≡◌, IsTrue, length, is_some, true};
+ghost use Rattle.std.specs.Prelude.{◌≡◌, IfOk, IsTrue, filter_map, length, is_some, true};
 ghost use Rattle.std.specs.List.{list_any, range_with_len};
 ghost use Rattle.sdd_dm.specs.Due.{holds};
 ghost use Rattle.sdd_dm.specs.Heads.{holds_in, is_held_in, waits_at};
+ghost use Rattle.sdd_dm.specs.Waiting.{holder_at, holders_in};
 
 use crate::hints::Hints;
 use crate::slots::waits_at;
-use sdd_module::sdd_base::{Change, ClassNo, Cond, Ts};
+use sdd_module::sdd_base::{Change, ClassNo, Cond, Listed, NoMemory, Ts};
 use sdd_module::sdd_wire::Msg;
 use sdd_pipe::{Pipes, touches};
+use std::alloc::Global;
+
+/// Numbers of classes.
+pub type ClassNos = Listed<ClassNo>;
 
 /// Whether a condition of a waiting READ holds back a WRITE of the class with this timestamp and
 /// these changes: it is on that class, up to the WRITE's timestamp or to a time before, for a
@@ -92,6 +97,63 @@ fn holds_still(
         return false;
     }
     reader_holds(pipes, waits, reader, class, write, changes)
+}
+
+/// For the WRITE at the head of the pipe of a class, the classes whose READ waits and holds it back.
+pub fn holders(
+    alloc: Global,
+    pipes: &Pipes,
+    waits: &[bool],
+    class: ClassNo,
+) -> Result<Option<ClassNos>, NoMemory>
+    ensures { IfOk result (λ classes. classes ≡ holders_in pipes.now.value waits.now class.0) }
+{
+    match pipes.head(class) {
+        Some(Msg::Write { ts, changes, .. }) => {
+            let changes = changes.as_slice();
+            let readers = all_holders(alloc, pipes, waits, class, *ts, changes)?;
+            Ok(Some(ClassNos::from_vec(readers)))
+        }
+        _ => Ok(None),
+    }
+}
+
+/// All classes whose READ waits and holds back a WRITE of another.
+fn all_holders(
+    alloc: Global,
+    pipes: &Pipes,
+    waits: &[bool],
+    class: ClassNo,
+    write: Ts,
+    changes: &[Change],
+) -> Result<Vec<ClassNo>, NoMemory>
+    ensures { IfOk result (λ classes. classes.items
+        ≡ filter_map (holder_at pipes.now.value waits.now class.0 write.0 changes.now)
+        (range_with_len 0 (length pipes.now.value))) }
+{
+    Ok(
+        (0..pipes.count())
+            .filter_map(|reader| holder_at(pipes, waits, class, write, changes, reader))
+            .collect(alloc)?,
+    )
+}
+
+/// The class of a number, where its READ waits and holds back a WRITE of another.
+fn holder_at(
+    pipes: &Pipes,
+    waits: &[bool],
+    class: ClassNo,
+    write: Ts,
+    changes: &[Change],
+    reader: u32,
+) -> Option<ClassNo>
+    ensures { result ≡ holder_at pipes.now.value waits.now class.0 write.0 changes.now reader }
+{
+    if reader_holds(pipes, waits, ClassNo(reader), class, write, changes) {
+        Some(ClassNo(reader))
+    } else {
+        None
+    }
 }
 
 /// The first class whose READ waits and holds back a WRITE of another.

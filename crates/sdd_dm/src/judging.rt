@@ -3,14 +3,14 @@ ghost use Rattle.std.specs.Prelude.{◌≡◌, IfOk};
 ghost use Rattle.std.specs.List.{list_all};
 ghost use Rattle.std.specs.Option.{option_copied};
 ghost use Rattle.sdd_dm.specs.Heads.{is_met_in, step_at, first_step};
-ghost use Rattle.sdd_dm.specs.Waiting.{waiting_in, first_unmet};
+ghost use Rattle.sdd_dm.specs.Waiting.{waiting_in, first_unmet, lacking_in};
 
-use crate::conditions::{all_met, first_unmet, judge, lacks_at, place_unmet};
+use crate::conditions::{all_met, first_unmet, judge, lacks_at, place_unmet, unmet};
 use crate::hints::Hints;
 use crate::holding::is_held;
 use crate::slots::waits_at;
 use crate::step::Step;
-use sdd_module::sdd_base::{ClassNo, Cond, NoMemory, Ts};
+use sdd_module::sdd_base::{ClassNo, Cond, Conds, NoMemory, Ts};
 use sdd_module::sdd_wire::Msg;
 use sdd_pipe::Pipes;
 use std::alloc::Global;
@@ -82,6 +82,24 @@ fn may_answer(pipes: &Pipes, hints: &mut Hints, class: ClassNo, conds: &[Cond]) 
     }
     hints.set(class, place_unmet(pipes, conds));
     false
+}
+
+/// Of the READ of a class, where it waits, the conditions that aren't met.
+pub fn lacking(
+    alloc: Global,
+    pipes: &Pipes,
+    waits: &[bool],
+    class: ClassNo,
+) -> Result<Option<Conds>, NoMemory>
+    ensures { IfOk result (λ conds. conds ≡ lacking_in pipes.now.value waits.now class.0) }
+{
+    if !waits_at(waits, class) {
+        return Ok(None);
+    }
+    match pipes.head(class) {
+        Some(Msg::Read { conds, .. }) => Ok(Some(unmet(alloc, pipes, conds.as_slice())?)),
+        _ => Ok(None),
+    }
 }
 
 /// Of the READ of a class with this timestamp, where it waits, the first condition that isn't met.

@@ -22,7 +22,7 @@ mod step;
 mod stepping;
 
 pub use data_module::DataModule;
-pub use holding::holds;
+pub use holding::{ClassNos, holds};
 pub use law::{law_lowest_class_is_named, law_lowest_rank_is_next};
 pub use rank::rank_of;
 pub use step::Step;

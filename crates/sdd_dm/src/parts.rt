@@ -7,15 +7,16 @@ ghost use Rattle.sdd_dm.specs.Heads.{first_step};
 ghost use Rattle.sdd_dm.specs.Stands.{Shows, Worked};
 ghost use Rattle.sdd_dm.specs.State.{class_piped};
 ghost use Rattle.sdd_dm.specs.Views.{source_of};
-ghost use Rattle.sdd_dm.specs.Waiting.{waiting_in, first_unmet};
+ghost use Rattle.sdd_dm.specs.Waiting.{waiting_in, first_unmet, holders_in, lacking_in};
 
 use crate::hints::Hints;
-use crate::judging::{awaited, first_step};
+use crate::holding::{ClassNos, holders};
+use crate::judging::{awaited, first_step, lacking};
 use crate::starting::{first_copies, no_spaces, no_waits, sources};
 use crate::step::Step;
 use sdd_copy::{Copies, Space};
 use sdd_module::Draft;
-use sdd_module::sdd_base::{ClassNo, Cond, DmNo, NoMemory, RelNo, Row, Site, Ts};
+use sdd_module::sdd_base::{ClassNo, Cond, Conds, DmNo, NoMemory, RelNo, Row, Site, Ts};
 use sdd_module::sdd_catalog::Catalogue;
 use sdd_module::sdd_lang::law_rows_make_database;
 use sdd_module::sdd_wire::Msg;
@@ -125,6 +126,20 @@ impl Parts {
             self.waits.as_slice(),
             &mut self.hints,
         )
+    }
+
+    /// Of the READ of a class, where it waits, the conditions that aren't met.
+    pub fn lacking(&self, class: ClassNo) -> Result<Option<Conds>, NoMemory>
+        ensures { IfOk result (λ conds. conds ≡ lacking_in self.now.pipes self.now.waits class.0) }
+    {
+        lacking(self.alloc, &self.pipes, self.waits.as_slice(), class)
+    }
+
+    /// For the WRITE at the head of a class, the classes whose READ holds it back.
+    pub fn holders(&self, class: ClassNo) -> Result<Option<ClassNos>, NoMemory>
+        ensures { IfOk result (λ classes. classes ≡ holders_in self.now.pipes self.now.waits class.0) }
+    {
+        holders(self.alloc, &self.pipes, self.waits.as_slice(), class)
     }
 
     /// Of the READ of a class with this timestamp, where it waits, the first condition that isn't
