@@ -20,6 +20,9 @@ is_awaiting_helds state = is_none state.line.active && list_any (is_told (turn s
 abbrev pub lacks_held : ℕ → TmCounts → Bool
 lacks_held n k = not (k.helds == n)
 
+abbrev pub unheld_by : ℕ → TmCounts → Option TmNo
+unheld_by n k = if lacks_held n k then Some (tm_of k) else None
+
 -- The first such T. Where no HELD is missing, the transaction starts within the call in which the last one came.
 abbrev pub site_of : Option TmNo → Site
 site_of None = U

@@ -1,12 +1,13 @@
-ghost use Rattle.std.specs.Prelude.{◌≡◌, ◌<◌, ◌+◌, ◌^◌, ◌++◌, ◌∷◌, [], ℕ, map, option_map, IfOk, OnOk, IsTrue, Some, None};
-ghost use Rattle.sdd_attempt.specs.All.{AreTried, Bases, IsDatabase, Log, ServesAt, Setting, T, commit_next, noted, nothing_noted, numbers_to, time_at};
+ghost use Rattle.std.specs.Prelude.{◌≡◌, ◌<◌, ◌+◌, ◌^◌, ◌++◌, ◌∷◌, [], ℕ, filter_map, map, option_map, IfOk, OnOk, IsTrue, Some, None};
+ghost use Rattle.std.specs.List.{list_any};
+ghost use Rattle.sdd_attempt.specs.All.{AreTried, Bases, IsDatabase, Log, ServesAt, Setting, T, bound_of, commit_next, noted, nothing_noted, numbers_to, time_at};
 ghost use Rattle.sdd_attempt.specs.wire.declared.msg.Msg.TheVariants as messages;
 ghost use Rattle.sdd_attempt.specs.declared.standing.Standing.TheVariants.{Queued};
 ghost use Rattle.sdd_umod.specs.Fits.{fits, FitsSubmit};
 ghost use Rattle.sdd_umod.specs.Handing.{IsEarly, heeded, held_from, state_handed, state_given};
 ghost use Rattle.sdd_umod.specs.Stands.{IsKept, IsAmid};
-ghost use Rattle.sdd_umod.specs.Standing.{first_underway, is_awaiting_helds, lacking_site, standing_in};
-ghost use Rattle.sdd_umod.specs.Steps.{act_of, counted, hold_step, may_start, release_step, state_done, step_of};
+ghost use Rattle.sdd_umod.specs.Standing.{first_underway, is_awaiting_helds, lacking_site, unheld_by, standing_in};
+ghost use Rattle.sdd_umod.specs.Steps.{act_of, counted, hold_step, is_kept_on_hold, may_start, release_step, state_done, step_of, turn};
 ghost use Rattle.sdd_umod.specs.Works.{first_state, no_counts, HaveRoom, Works};
 ghost use Rattle.sdd_umod.specs.declared.step.Step.TheVariants.{Commit, Hold, Release, Start};
 ghost use Rattle.sdd_umod.specs.declared.tm_count.Sign.TheVariants as signs;
@@ -14,7 +15,8 @@ ghost use Rattle.sdd_umod.specs.declared.tm_count.Sign.TheVariants as signs;
 use crate::serving::Serving;
 use crate::step::Step;
 use crate::tm_count::{
-    Sign, TmCount, all_hold, any_told, count, first_free, first_lacking, first_on_hold,
+    Sign, TmCount, all_hold, all_lacking, any_on_hold, any_told, count, first_free, first_lacking,
+    first_on_hold,
 };
 use sdd_attempt::sdd_base::{ClassNo, Clock, NoMemory, Site, TmNo, Ts, TxnNo};
 use sdd_attempt::sdd_catalog::Catalogue;
@@ -70,6 +72,42 @@ impl<'a> Parts<'a> {
         Draft::new(self.alloc)
     }
 
+    /// The line of class 0.
+    pub(crate) fn line(&self) -> &Line<'a>
+        ensures { result.now ≡ self.now.line }
+    {
+        &self.line
+    }
+
+    /// The bound of the clock.
+    pub(crate) fn bound(&self) -> Ts
+        ensures { result.0 ≡ bound_of self.now.clock }
+    {
+        self.clock.bound()
+    }
+
+    /// The timestamp of the last Commit.
+    pub(crate) fn last_commit(&self) -> Ts
+        ensures { result.0 ≡ self.now.served.ts }
+    {
+        self.serving.ts()
+    }
+
+    /// Whether a RELEASE for the last Commit is still to be sent.
+    pub(crate) fn is_releasing(&self) -> bool
+        ensures { result ≡ list_any (is_kept_on_hold self.now.served.commits) self.now.counts }
+    {
+        any_on_hold(self.counts.as_slice(), self.serving.commits())
+    }
+
+    /// The transaction modules whose HELD for the next transaction is missing.
+    pub(crate) fn lacking(&self) -> Result<Vec<TmNo>, NoMemory>
+        ensures { IfOk result (λ tms. tms.items
+            ≡ filter_map (unheld_by (turn self.now.served)) self.now.counts) }
+    {
+        all_lacking(self.alloc, self.counts.as_slice(), self.serving.turn())
+    }
+
     /// How the module has a transaction.
     pub(crate) fn standing(&self, number: TxnNo) -> Standing
         ensures { result ≡ standing_in self.now number.0 }
@@ -95,7 +133,7 @@ impl<'a> Parts<'a> {
     }
 
     /// Whether the next transaction is being served and hasn't started.
-    fn is_awaiting_helds(&self) -> bool
+    pub(crate) fn is_awaiting_helds(&self) -> bool
         ensures { result ≡ is_awaiting_helds self.now }
     {
         self.line.is_idle() && any_told(self.counts.as_slice(), self.serving.turn())

@@ -1,10 +1,11 @@
-ghost use Rattle.std.specs.Prelude.{◌≡◌, find, map, option_map};
+ghost use Rattle.std.specs.Prelude.{◌≡◌, filter_map, find, map, option_map, IfOk};
 ghost use Rattle.std.specs.List.{list_all, list_any};
 ghost use Rattle.sdd_umod.specs.Steps.{counted, is_free, is_holding, is_kept_on_hold, tm_of};
-ghost use Rattle.sdd_umod.specs.Standing.{is_told, lacks_held};
+ghost use Rattle.sdd_umod.specs.Standing.{is_told, lacks_held, unheld_by};
 ghost use Rattle.sdd_umod.specs.Works.{no_counts, HasRoom, HaveRoom};
 
-use sdd_attempt::sdd_base::TmNo;
+use sdd_attempt::sdd_base::{NoMemory, TmNo};
+use std::alloc::Global;
 use std::marker::Model;
 
 /// A message between the module and a transaction module.
@@ -72,6 +73,17 @@ impl TmCount {
         ensures { result ≡ lacks_held turn self.now }
     {
         self.helds != turn
+    }
+
+    /// The transaction module, where its HELD for the transaction of this number is missing.
+    fn lacking(&self, turn: u64) -> Option<TmNo>
+        ensures { result ≡ unheld_by turn self.now }
+    {
+        if self.lacks_held(turn) {
+            Some(self.tm)
+        } else {
+            None
+        }
     }
 
     /// Whether it holds for the transaction of this number, and has said so.
@@ -144,11 +156,34 @@ pub(crate) fn first_lacking(counts: &[TmCount], turn: u64) -> Option<TmNo>
     }
 }
 
+/// The transaction modules whose HELD for the transaction of this number is missing.
+pub(crate) fn all_lacking(
+    alloc: Global,
+    counts: &[TmCount],
+    turn: u64,
+) -> Result<Vec<TmNo>, NoMemory>
+    ensures { IfOk result (λ tms. tms.items ≡ filter_map (unheld_by turn) counts.now) }
+{
+    Ok(
+        counts
+            .iter()
+            .filter_map(|one| one.lacking(turn))
+            .collect(alloc)?,
+    )
+}
+
 /// Whether all hold for the transaction of this number, and have said so.
 pub(crate) fn all_hold(counts: &[TmCount], turn: u64) -> bool
     ensures { result ≡ list_all (is_holding turn) counts.now }
 {
     counts.iter().all(|one| one.is_holding(turn))
+}
+
+/// Whether a RELEASE for one of so many Commits is still to be sent to one.
+pub(crate) fn any_on_hold(counts: &[TmCount], commits: u64) -> bool
+    ensures { result ≡ list_any (is_kept_on_hold commits) counts.now }
+{
+    counts.iter().any(|one| one.is_kept_on_hold(commits))
 }
 
 /// Whether one was told to hold for the transaction of this number.

@@ -1,19 +1,21 @@
-ghost use Rattle.std.specs.Prelude.{◌≡◌, ◌∷◌, [], List, IfOk, OnErr, IsTrue};
-ghost use Rattle.sdd_attempt.specs.All.{Bases, Does, Log, Rec as Record, Setting, Submits, U};
+ghost use Rattle.std.specs.Prelude.{◌≡◌, ◌∷◌, [], List, filter_map, IfOk, OnErr, IsTrue};
+ghost use Rattle.std.specs.List.{list_any};
+ghost use Rattle.sdd_attempt.specs.All.{Bases, Does, Log, Rec as Record, Setting, Submits, U, bound_of};
 ghost use Rattle.sdd_attempt.specs.history.declared.record.Rec.TheVariants.{Submit};
 ghost use Rattle.sdd_umod.specs.Due.{next};
 ghost use Rattle.sdd_umod.specs.Fits.{fits, FitsSubmit};
-ghost use Rattle.sdd_umod.specs.Standing.{standing_in};
+ghost use Rattle.sdd_umod.specs.Standing.{is_awaiting_helds, standing_in, unheld_by};
 ghost use Rattle.sdd_umod.specs.Stands.{Stands};
+ghost use Rattle.sdd_umod.specs.Steps.{is_kept_on_hold, turn};
 
 use crate::parts::Parts;
-use sdd_attempt::Standing;
-use sdd_attempt::sdd_base::{NoMemory, Site, TxnNo};
+use sdd_attempt::sdd_base::{NoMemory, Site, TmNo, Ts, TxnNo};
 use sdd_attempt::sdd_catalog::Catalogue;
 use sdd_attempt::sdd_history::Rec;
 use sdd_attempt::sdd_lang::Txn;
 use sdd_attempt::sdd_module::Module;
 use sdd_attempt::sdd_wire::{Msg, Outcome};
+use sdd_attempt::{Line, Standing};
 use std::alloc::Global;
 use std::marker::Model;
 
@@ -45,6 +47,52 @@ impl<'a> UModule<'a> {
             parts: Parts::new(alloc, catalogue)?,
             live: true,
         })
+    }
+
+    /// The line of undeclared transactions, lent. Takes no memory.
+    pub fn line(&self) -> &Line<'a>
+        ensures { result.now ≡ self.now.value.line }
+    {
+        self.parts.line()
+    }
+
+    /// The bound of its clock.
+    pub fn bound(&self) -> Ts
+        ensures { result.0 ≡ bound_of self.now.value.clock }
+    {
+        self.parts.bound()
+    }
+
+    /// The timestamp of the last attempt that committed, 0 before the first.
+    pub fn last_commit(&self) -> Ts
+        ensures { result.0 ≡ self.now.value.served.ts }
+    {
+        self.parts.last_commit()
+    }
+
+    /// Whether a RELEASE for the last Commit is still to be sent. Costs a look at each transaction
+    /// module; takes no memory.
+    pub fn is_releasing(&self) -> bool
+        ensures { result
+            ≡ list_any (is_kept_on_hold self.now.value.served.commits) self.now.value.counts }
+    {
+        self.parts.is_releasing()
+    }
+
+    /// Whether the next transaction is being served and hasn't started. Costs a look at each
+    /// transaction module; takes no memory.
+    pub fn is_awaiting_helds(&self) -> bool
+        ensures { result ≡ is_awaiting_helds self.now.value }
+    {
+        self.parts.is_awaiting_helds()
+    }
+
+    /// The transaction modules whose HELD for the next transaction is missing.
+    pub fn lacking(&self) -> Result<Vec<TmNo>, NoMemory>
+        ensures { IfOk result (λ tms. tms.items
+            ≡ filter_map (unheld_by (turn self.now.value.served)) self.now.value.counts) }
+    {
+        self.parts.lacking()
     }
 
     /// How the module has a transaction. Costs a look at each transaction that waits and at each
