@@ -22,7 +22,7 @@ use std::marker::Model;
 /// One class of a transaction module: the line of its transactions, and the open ASKs for it in
 /// the order in which they came.
 #[derive(Drop)]
-pub(crate) struct ClassRun<'a> {
+pub struct ClassRun<'a> {
     line: Line<'a>,
     asks: VecDeque<Asked>,
 }
@@ -45,6 +45,20 @@ impl<'a> ClassRun<'a> {
             line: Line::new(alloc, catalogue, class),
             asks: VecDeque::new(alloc),
         }
+    }
+
+    /// The line of its transactions, lent.
+    pub fn line(&self) -> &Line<'a>
+        ensures { result.now ≡ self.now.line }
+    {
+        &self.line
+    }
+
+    /// The open ASKs for it, in the order in which they came.
+    pub fn asks(&self) -> &VecDeque<Asked>
+        ensures { result.now.items ≡ self.now.asks }
+    {
+        &self.asks
     }
 
     /// The class's number.

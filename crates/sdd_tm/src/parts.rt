@@ -80,6 +80,27 @@ impl<'a> Parts<'a> {
         Draft::new(self.alloc)
     }
 
+    /// Whether the module is on hold.
+    pub(crate) fn is_on_hold(&self) -> bool
+        ensures { result ≡ self.now.on_hold }
+    {
+        self.on_hold
+    }
+
+    /// Whether it owes a HELD for that.
+    pub(crate) fn owes_held(&self) -> bool
+        ensures { result ≡ self.now.owes_held }
+    {
+        self.owes_held
+    }
+
+    /// Its classes, ascending.
+    pub(crate) fn classes(&self) -> &[ClassRun<'a>]
+        ensures { result.now ≡ self.now.classes }
+    {
+        self.classes.as_slice()
+    }
+
     /// How the module has a transaction.
     pub(crate) fn standing(&self, number: TxnNo) -> Standing
         ensures { result

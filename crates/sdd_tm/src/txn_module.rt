@@ -7,6 +7,7 @@ ghost use Rattle.sdd_tm.specs.Fits.{fits, FitsSubmit};
 ghost use Rattle.sdd_tm.specs.State.{ClassState};
 ghost use Rattle.sdd_tm.specs.Stands.{Stands};
 
+use crate::class_run::ClassRun;
 use crate::parts::Parts;
 use sdd_attempt::Standing;
 use sdd_attempt::sdd_base::{ClassNo, NoMemory, Site, TmNo, Ts, TxnNo};
@@ -56,6 +57,27 @@ impl<'a> TxnModule<'a> {
             parts: Parts::new(alloc, whole, catalogue, table, tm)?,
             live: true,
         })
+    }
+
+    /// Whether an undeclared transaction keeps it from starting others. Takes no memory.
+    pub fn is_on_hold(&self) -> bool
+        ensures { result ≡ self.now.value.on_hold }
+    {
+        self.parts.is_on_hold()
+    }
+
+    /// Whether it hasn't answered a HOLD yet. Takes no memory.
+    pub fn owes_held(&self) -> bool
+        ensures { result ≡ self.now.value.owes_held }
+    {
+        self.parts.owes_held()
+    }
+
+    /// Its classes, ascending, lent. Takes no memory.
+    pub fn classes(&self) -> &[ClassRun<'a>]
+        ensures { result.now ≡ self.now.value.classes }
+    {
+        self.parts.classes()
     }
 
     /// How the module has a transaction. Costs a look at each transaction that waits; takes no
