@@ -43,6 +43,7 @@ pub use Rattle.sdd_lang.specs.Fits.{Fits, FitsAssign, FitsCondition, FitsRow, Fi
 pub use Rattle.sdd_lang.specs.FragSets.{has, members, put_all}
 pub use Rattle.sdd_lang.specs.Narrowing.{keys_left}
 pub use Rattle.sdd_lang.specs.Query.{answer, distinct, product, projection, selection}
+pub use Rattle.sdd_lang.specs.Rising.{by_item, changed_item, put_each, to_last_item}
 pub use Rattle.sdd_lang.specs.Run.{effect_after}
 pub use Rattle.sdd_lang.specs.Serial.{after_changes, changed_by, item_of, set_to}
 pub use Rattle.sdd_lang.specs.Sound.{IsDatabase, IsEntry, IsHeld, PutsHeld}
@@ -59,19 +60,20 @@ pub use Rattle.sdd_lang.specs.declared.effect.Effect.{Effect}
 pub use Rattle.sdd_lang.specs.declared.statement.Stmt.{Stmt}
 pub use Rattle.sdd_lang.specs.declared.statement.Stmt.TheVariants.{Delete, Put, Query, Update}
 pub use Rattle.sdd_lang.specs.declared.transaction.Txn.{Txn}
-pub use Rattle.std.proofs.Common.{All, Bool, Contains, Equal, Greater, Less, List, None, Option, Ordering, SFits as FitsSigned, Some, [], add-zero, ap, append-nil, append_assoc, arith, cond, drop, false, filter, flat_map, fold, get_or-set_other, get_or-set_same, if◌then◌else◌, inl, inr, int_cmp, int_le, is_some, length, length-append, map, nat_cmp, nat_lt, not, pos, refl, replicate, rules, slice_index_or as get_or, slice_set, subst, suc, sym, take, take_all, to_z-of_z, true, unwrap_or, w64, zero, ℕ, ℤ, ◌&&◌, ◌*◌, ◌++◌, ◌+ℤ◌, ◌+◌, ◌-ℤ◌, ◌-◌, ◌<ℤ◌, ◌<◌, ◌==◌, ◌||◌, ◌∙◌, ◌∷◌, ◌≡◌, ◌≢◌, ◌≤ℤ◌, ◌≤◌, ◌⊎◌}
+pub use Rattle.std.proofs.Common.{All, Bool, Contains, Equal, Greater, Less, List, None, Option, Ordering, SFits as FitsSigned, Some, [], add-zero, ap, append-nil, append_assoc, arith, cond, drop, false, filter, flat_map, fold, get_or-set_other, get_or-set_same, if◌then◌else◌, inl, inr, int_cmp, int_le, is_some, length, length-append, map, nat_cmp, nat_lt, not, pos, refl, replicate, rules, slice_get, slice_index_or as get_or, slice_set, subst, suc, sym, take, take_all, to_z-of_z, true, unwrap_or, w64, zero, ℕ, ℤ, ◌&&◌, ◌*◌, ◌++◌, ◌+ℤ◌, ◌+◌, ◌-ℤ◌, ◌-◌, ◌<ℤ◌, ◌<◌, ◌==◌, ◌||◌, ◌∙◌, ◌∷◌, ◌≡◌, ◌≢◌, ◌≤ℤ◌, ◌≤◌, ◌⊎◌}
 pub use Rattle.std.proofs.lemmas.Bool.{and_from as and_both, cases_lt, or_right as or_holds}
 pub use Rattle.std.proofs.lemmas.Bool.Decides.{Decides-eqb}
 pub use Rattle.std.proofs.lemmas.Cmp.{int_cmp_total, int_ranked, nat_cmp_total, on_total, then_total, tied_itself}
 pub use Rattle.std.proofs.lemmas.Grind.{common_steps}
 pub use Rattle.std.proofs.lemmas.Int.{ints}
-pub use Rattle.std.proofs.lemmas.List.{at_drop_more, get_or-map, get_or-replicate, get_or_default, get_or_past, length-replicate, map-append, take_more}
+pub use Rattle.std.proofs.lemmas.List.{at_drop_more, get_or-map, get_or-replicate, get_or_default, get_or_past, length-map, length-replicate, map-append, nil_from_length, take_more}
 pub use Rattle.std.proofs.lemmas.List.Concat.{flat_map-append}
 pub use Rattle.std.proofs.lemmas.List.Elements.{All-from_recursion, All-more, All-nil, filter-append, filter_map-append, recursion_from_All}
 pub use Rattle.std.proofs.lemmas.List.Sums.{fold-append}
 pub use Rattle.std.proofs.lemmas.Map.Keys.{sorted_head, sorted_tail}
 pub use Rattle.std.proofs.lemmas.Map.Lookups.{CmpEqualImpliesEq, exact_pairs, exact_signed, exact_unsigned}
 pub use Rattle.std.proofs.lemmas.Map.Views.{All-insert_key}
+pub use Rattle.std.proofs.lemmas.Option.{slice_get-get_or}
 pub use Rattle.std.specs.BTreeMap.{insert_entry, is_at}
 pub use Rattle.std.specs.BTreeSet.{insert_key}
 pub use Rattle.std.specs.Cmp.{IsTotalOrder, nat_cmp_is}

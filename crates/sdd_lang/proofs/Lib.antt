@@ -7,6 +7,7 @@ pub mod KeyRanges
 pub mod Numbering
 pub mod Pushdown
 pub mod ReadSetDecides
+pub mod Rising
 pub mod Running
 pub mod Sets
 pub mod SoFar

@@ -71,7 +71,7 @@ impl Plain {
     {
         self.live = false;
         let Effect { reply, changes } = effect_over(self.alloc, cat, txn, &*self)?;
-        self.rows.apply(cat, changes.as_slice())?;
+        self.rows.apply(cat, changes)?;
         self.live = true;
         Ok(reply)
     }

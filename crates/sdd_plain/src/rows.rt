@@ -6,7 +6,7 @@ ghost use Rattle.sdd_plain.specs.Parts.{standing};
 
 use crate::narrowing::keys_of_part;
 use sdd_exec::Parts;
-use sdd_lang::sdd_base::{Change, FragNo, NoMemory, Parcel, RelNo, Row, Value};
+use sdd_lang::sdd_base::{Change, Changes, FragNo, NoMemory, Parcel, RelNo, Row, Value};
 use sdd_lang::sdd_catalog::Catalogue;
 use sdd_lang::{Condition, Entries, Entry, Keys, key_of, may_stand, meets_all, value_in};
 use std::alloc::Global;
@@ -64,13 +64,14 @@ impl Rows {
         self.rows.remove(&item);
     }
 
-    /// Makes the change. Costs O(log n), and time in the row.
-    pub(crate) fn change(&mut self, cat: &Catalogue, change: &Change) -> Result<(), NoMemory>
-        ensures { OnOk result (self.new ≡ changed_by cat.now self.old change.now) }
+    /// Makes the change. Costs O(log n); the row is moved.
+    pub(crate) fn change(&mut self, cat: &Catalogue, change: Change) -> Result<(), NoMemory>
+        ensures { OnOk result (self.new ≡ changed_by cat.now self.old change) }
     {
-        let item = (relation_of(cat, change.frag), change.key);
-        match &change.row {
-            Some(row) => self.put(item, row.copy()?),
+        let Change { frag, key, row } = change;
+        let item = (relation_of(cat, frag), key);
+        match row {
+            Some(row) => self.put(item, row),
             None => {
                 self.remove(item);
                 Ok(())
@@ -177,11 +178,11 @@ impl Rows {
         Ok(parts)
     }
 
-    /// Makes the changes, in order.
-    pub(crate) fn apply(&mut self, cat: &Catalogue, changes: &[Change]) -> Result<(), NoMemory>
-        ensures { OnOk result (self.new ≡ after_changes cat.now self.old changes.now) }
+    /// Makes the changes, in order; the rows are moved.
+    pub(crate) fn apply(&mut self, cat: &Catalogue, changes: Changes) -> Result<(), NoMemory>
+        ensures { OnOk result (self.new ≡ after_changes cat.now self.old changes) }
     {
-        'changes: for change in changes {
+        'changes: for change in changes.into_vec() {
             self.change(cat, change)?;
         }
         Ok(())

@@ -1,4 +1,6 @@
-use sdd_base::{Changes, ClassNo, Conds, Listed, NoMemory, Parcel, Row, Ts, TxnNo, Uses, Value};
+use sdd_base::{
+    Changes, ClassNo, Conds, Listed, NoMemory, Page, Parcel, Row, Ts, TxnNo, Uses, Value,
+};
 
 /// How many rows are held for each use, by the uses' numbers.
 pub type UseCounts = Listed<(u32, u64)>;
@@ -9,8 +11,8 @@ pub type ValueList = Listed<Value>;
 /// Rows, each with the number of the use that it is held for: by use, and then by key.
 pub type UseRows = Listed<(u32, Row)>;
 
-/// The bytes that spell one message.
-pub type Spelling = Listed<u8>;
+/// The bytes that spell one message. Copies share them.
+pub type Spelling = Page;
 
 /// A message from one site to another. `ts` is the timestamp of the attempt that it concerns, and
 /// `class` the class of that attempt. READ, WRITE and NULL go through the pipe of their class at

@@ -1,5 +1,5 @@
 use Rattle.sdd_lang.proofs.All.{change_of, map, ◌≡◌}
-use Rattle.sdd_lang.proofs.pending.Pending.into_changes.Given as goal
+use Rattle.sdd_lang.proofs.pending.listed.Given as goal
 
 -- the changes so far
 abbrev pub invariant-changes : goal.invariant-changes
