@@ -166,10 +166,7 @@ fn to_last(changes: &[Change], change: &Change) -> Ordering
 }
 
 /// Puts a change into a map.
-fn put_in(
-    map: &mut BTreeMap<(u32, i64), Option<Row>>,
-    change: Change,
-) -> Result<(), NoMemory>
+fn put_in(map: &mut BTreeMap<(u32, i64), Option<Row>>, change: Change) -> Result<(), NoMemory>
     ensures { OnOk result (map.new.entries ≡ insert_entry item_cmp map.old.entries (changed_item change) change.row) }
 {
     let Change { frag, key, row } = change;
@@ -207,10 +204,7 @@ fn map_with(
 }
 
 /// The changes of a map.
-fn listed(
-    alloc: Global,
-    entries: BTreeMap<(u32, i64), Option<Row>>,
-) -> Result<Changes, NoMemory>
+fn listed(alloc: Global, entries: BTreeMap<(u32, i64), Option<Row>>) -> Result<Changes, NoMemory>
     ensures { IfOk result (λ changes. changes ≡ map change_of entries.entries) }
 {
     let mut changes = Vec::with_capacity(alloc, entries.len())?;
