@@ -7,8 +7,7 @@ use Rattle.sdd_attempt.proofs.Stamps.{no_read}
 
 module_went : (modules : List ℕ) (to : Site) (d : DmNo) → same_site to (D d) ≡ true → IsModuleOf modules to → contains modules d.0 ≡ true
 module_went modules (D e) d same h = subst (λ n. contains modules n ≡ true) (eqb-true e.0 d.0 same) h
-module_went modules U d same h = absurd h
-module_went modules (T t) d same h = absurd h
+module_went modules _ d same h = absurd h
 
 -- to a module to which a READ went
 went : (ts c : ℕ) (modules : List ℕ) (d : DmNo) (ms : List (Site × Msg)) → ReadsWent ts c modules ms → list_any (at_site (D d) (is_read ts c)) ms ≡ true

@@ -107,11 +107,10 @@ goes_grows ts c x (q ∷ rest) steps =
     (by_grows ts c x q rest steps (next_move q.conds (counts_for x.counts q) steps) (goes_grows ts c x rest []))
 
 ends_grows : (ts c : ℕ) (x : Exchange) (p : Phase) → x.values ≤ (phase_ends ts c x p).values
-ends_grows ts c x Reading = goes_grows ts c x x.left x.done
 ends_grows ts c x (Fetching m) = reduces_grows ts c m x
-ends_grows ts c x (Reducing m) = goes_grows ts c x x.left x.done
 ends_grows ts c x Shipping = omega arith
 ends_grows ts c x Over = omega arith
+ends_grows ts c x _ = goes_grows ts c x x.left x.done
 
 lacking_grows : (ts c : ℕ) (x : Exchange) (ds : List ℕ) → x.values ≤ (lacking ts c x ds).values
 lacking_grows ts c x [] = ends_grows ts c (record x { lacks = [] }) x.phase

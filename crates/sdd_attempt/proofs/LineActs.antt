@@ -36,9 +36,8 @@ starts_committed a (q ∷ rest) h = let less =
     omega arith
 
 pub left_is_few : (o : Option Attempt) (queue : List Queued) → starts_left o queue ≤ length queue
-left_is_few None queue = omega arith
-left_is_few (Some a) [] = omega arith
 left_is_few (Some a) (q ∷ queue) = omega arith
+left_is_few _ _ = omega arith
 
 -- what is left to do
 

@@ -14,8 +14,7 @@ sends_by (m ∷ ms) p e = (Sends (D (dm_no m.0)) m.1 None, refl)
 
 commits_by : (ms : List (ℕ × Msg)) (p : Phase) → step_by ms p ≡ Some ToCommit → (is_over p ≡ true) × (first_send ms ≡ None)
 commits_by [] Over e = (refl, refl)
-commits_by [] _ e = absurd cc
-commits_by (m ∷ ms) p e = absurd cc
+commits_by _ _ e = absurd cc
 
 resting_by : (ms : List (ℕ × Msg)) (p : Phase) → step_by ms p ≡ None → is_over p ≡ false
 resting_by [] Over e = absurd cc

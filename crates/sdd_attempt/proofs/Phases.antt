@@ -32,10 +32,8 @@ goes_modules ts c x qs done = goes_keep (λ y. y.modules ≡ x.modules) ts c x (
 
 pub ends_modules : (ts c : ℕ) (x : Exchange) (p : Phase) → (phase_ends ts c x p).modules ≡ x.modules
 ends_modules ts c x Reading = goes_modules ts c x x.left x.done
-ends_modules ts c x (Fetching m) = refl
 ends_modules ts c x (Reducing m) = goes_modules ts c x x.left x.done
-ends_modules ts c x Shipping = refl
-ends_modules ts c x Over = refl
+ends_modules ts c x _ = refl
 
 pub lacking_modules : (ts c : ℕ) (x : Exchange) (ds : List ℕ) → (lacking ts c x ds).modules ≡ x.modules
 lacking_modules ts c x [] = ends_modules ts c (record x { lacks = [] }) x.phase
@@ -109,11 +107,10 @@ goes_ask ts c x qs done =
     goes_keep (λ y. AllAsk ts c y.to_send) ts c x (λ m y e. reduces_ask ts c m y) (λ m y d ds e. fetches_ask ts c m y d ds) (ships_ask ts c x) qs done
 
 ends_ask : (ts c : ℕ) (x : Exchange) → AllAsk ts c x.to_send → (p : Phase) → AllAsk ts c (phase_ends ts c x p).to_send
-ends_ask ts c x h Reading = goes_ask ts c x x.left x.done
 ends_ask ts c x h (Fetching m) = reduces_ask ts c m x
-ends_ask ts c x h (Reducing m) = goes_ask ts c x x.left x.done
 ends_ask ts c x h Shipping = h
 ends_ask ts c x h Over = h
+ends_ask ts c x h _ = goes_ask ts c x x.left x.done
 
 lacking_ask : (ts c : ℕ) (x : Exchange) → AllAsk ts c x.to_send → (ds : List ℕ) → AllAsk ts c (lacking ts c x ds).to_send
 lacking_ask ts c x h [] = ends_ask ts c (record x { lacks = [] }) h x.phase
@@ -132,17 +129,11 @@ goes_not_over ts c x qs done = goes_keep (λ y. is_over y.phase ≡ false) ts c 
 
 ready_ends : (ts c : ℕ) (x : Exchange) (p : Phase) → is_reading p ≡ true → is_over (phase_ends ts c x p).phase ≡ false
 ready_ends ts c x Reading e = goes_not_over ts c x x.left x.done
-ready_ends ts c x (Fetching m) e = absurd (false≢true e)
-ready_ends ts c x (Reducing m) e = absurd (false≢true e)
-ready_ends ts c x Shipping e = absurd (false≢true e)
-ready_ends ts c x Over e = absurd (false≢true e)
+ready_ends ts c x _ e = absurd (false≢true e)
 
 reading_not_over : (p : Phase) → is_reading p ≡ true → is_over p ≡ false
-reading_not_over Reading e = refl
-reading_not_over (Fetching m) e = refl
-reading_not_over (Reducing m) e = refl
-reading_not_over Shipping e = refl
 reading_not_over Over e = absurd (false≢true e)
+reading_not_over _ e = refl
 
 pub ready_not_over : (ts c : ℕ) (x : Exchange) (ds : List ℕ) → is_reading x.phase ≡ true → is_over (lacking ts c x ds).phase ≡ false
 ready_not_over ts c x [] e = ready_ends ts c (record x { lacks = [] }) x.phase e
@@ -150,17 +141,11 @@ ready_not_over ts c x (d ∷ ds) e = reading_not_over x.phase e
 
 values_end : (ts c u : ℕ) (x : Exchange) (p : Phase) → fetches_use u p ≡ true → is_over (phase_ends ts c x p).phase ≡ false
 values_end ts c u x (Fetching m) e = refl
-values_end ts c u x Reading e = absurd (false≢true e)
-values_end ts c u x (Reducing m) e = absurd (false≢true e)
-values_end ts c u x Shipping e = absurd (false≢true e)
-values_end ts c u x Over e = absurd (false≢true e)
+values_end ts c u x _ e = absurd (false≢true e)
 
 fetching_not_over : (u : ℕ) (p : Phase) → fetches_use u p ≡ true → is_over p ≡ false
-fetching_not_over u (Fetching m) e = refl
-fetching_not_over u Reading e = refl
-fetching_not_over u (Reducing m) e = refl
-fetching_not_over u Shipping e = refl
 fetching_not_over u Over e = absurd (false≢true e)
+fetching_not_over u _ e = refl
 
 pub values_not_over : (ts c u : ℕ) (x : Exchange) (ds : List ℕ) → fetches_use u x.phase ≡ true → is_over (lacking ts c x ds).phase ≡ false
 values_not_over ts c u x [] e = values_end ts c u (record x { lacks = [] }) x.phase e
@@ -168,17 +153,11 @@ values_not_over ts c u x (d ∷ ds) e = fetching_not_over u x.phase e
 
 reduced_ends : (ts c u : ℕ) (x : Exchange) (p : Phase) → reduces_use u p ≡ true → is_over (phase_ends ts c x p).phase ≡ false
 reduced_ends ts c u x (Reducing m) e = goes_not_over ts c x x.left x.done
-reduced_ends ts c u x Reading e = absurd (false≢true e)
-reduced_ends ts c u x (Fetching m) e = absurd (false≢true e)
-reduced_ends ts c u x Shipping e = absurd (false≢true e)
-reduced_ends ts c u x Over e = absurd (false≢true e)
+reduced_ends ts c u x _ e = absurd (false≢true e)
 
 reducing_not_over : (u : ℕ) (p : Phase) → reduces_use u p ≡ true → is_over p ≡ false
-reducing_not_over u (Reducing m) e = refl
-reducing_not_over u Reading e = refl
-reducing_not_over u (Fetching m) e = refl
-reducing_not_over u Shipping e = refl
 reducing_not_over u Over e = absurd (false≢true e)
+reducing_not_over u _ e = refl
 
 pub reduced_not_over : (ts c u : ℕ) (x : Exchange) (ds : List ℕ) → reduces_use u x.phase ≡ true → is_over (lacking ts c x ds).phase ≡ false
 reduced_not_over ts c u x [] e = reduced_ends ts c u (record x { lacks = [] }) x.phase e
@@ -187,25 +166,16 @@ reduced_not_over ts c u x (d ∷ ds) e = reducing_not_over u x.phase e
 -- such an answer comes where no READY is awaited
 
 pub fetching_not_reading : (u : ℕ) (p : Phase) → fetches_use u p ≡ true → is_reading p ≡ false
-fetching_not_reading u (Fetching m) e = refl
 fetching_not_reading u Reading e = absurd (false≢true e)
-fetching_not_reading u (Reducing m) e = refl
-fetching_not_reading u Shipping e = refl
-fetching_not_reading u Over e = refl
+fetching_not_reading u _ e = refl
 
 pub reducing_not_reading : (u : ℕ) (p : Phase) → reduces_use u p ≡ true → is_reading p ≡ false
-reducing_not_reading u (Reducing m) e = refl
 reducing_not_reading u Reading e = absurd (false≢true e)
-reducing_not_reading u (Fetching m) e = refl
-reducing_not_reading u Shipping e = refl
-reducing_not_reading u Over e = refl
+reducing_not_reading u _ e = refl
 
 pub shipping_not_reading : (p : Phase) → is_shipping p ≡ true → is_reading p ≡ false
-shipping_not_reading Shipping e = refl
 shipping_not_reading Reading e = absurd (false≢true e)
-shipping_not_reading (Fetching m) e = refl
-shipping_not_reading (Reducing m) e = refl
-shipping_not_reading Over e = refl
+shipping_not_reading _ e = refl
 
 -- after the READY of module d that of another module is awaited as before
 

@@ -64,9 +64,8 @@ submitted_line cat c queue more r q line fits fresh e =
 
 -- the view of a line with one transaction more
 pub submitted_active : (queue : List Queued) (q : Queued) (r : Option Running) (c : ℕ) → RunsFirst c queue r → active_of (queue ++ q ∷ []) r ≡ active_of queue r
-submitted_active [] q None c h = refl
 submitted_active [] q (Some r) c h = absurd h
-submitted_active (x ∷ queue) q r c h = refl
+submitted_active _ q _ c h = refl
 
 -- send
 
@@ -103,13 +102,12 @@ sent_view cat c (q ∷ queue) r line = sends_by cat c q queue r.ts r.exchange r.
 
 handed_runs : (c : ℕ) (q : Queued) (queue : List Queued) (from : Site) (m : Msg) (r : Running) → IsRunning c q r → AreAwaitedFrom c from m r → CarriesFew m
     → RunsFirst c (q ∷ queue) (handed_by c from m r)
-handed_runs c q queue U m r is awaited few = is
-handed_runs c q queue (T t) m r is awaited few = is
 handed_runs c q queue (D d) m r is awaited few =
     elim (rejects m r.ts c) as (λ b. RunsFirst c (q ∷ queue) (if b then None else Some (record r { exchange = after_hand r.ts c d.0 m r.exchange }))) [
       | true ↦ tt
       | false ↦ record { started = is.started; room = handed_room r.ts c d.0 m r.exchange is.room awaited few; asks = asks_stay r.ts c d.0 m r.exchange is.asks }
     ]
+handed_runs c q queue _ m r is awaited few = is
 
 pub handed_line : (cat : Catalogue) (c : ℕ) (queue : List Queued) (from : Site) (m : Msg) (r : Running) → IsLine cat c queue (Some r)
     → AreAwaitedFrom c from m r → CarriesFew m → IsLine cat c queue (handed_by c from m r)
@@ -119,14 +117,13 @@ handed_line cat c (q ∷ queue) from m r line awaited few =
 
 handed_active : (c : ℕ) (q : Queued) (from : Site) (m : Msg) (r : Running)
     → option_map (attempt_of q) (handed_by c from m r) ≡ active_handed c from m (Some (attempt_of q r))
-handed_active c q U m r = refl
-handed_active c q (T t) m r = refl
 handed_active c q (D d) m r =
     elim (rejects m r.ts c) as
     (λ b. option_map (attempt_of q) (if b then None else Some (record r { exchange = after_hand r.ts c d.0 m r.exchange })) ≡ (if b then None else Some (record (attempt_of q r) { exchange = after_hand r.ts c d.0 m r.exchange }))) [
       | true ↦ refl
       | false ↦ refl
     ]
+handed_active c q _ m r = refl
 
 pub handed_view : (cat : Catalogue) (c : ℕ) (queue : List Queued) (from : Site) (m : Msg) (r : Running) → IsLine cat c queue (Some r)
     → line_of cat c queue (handed_by c from m r) ≡ record (line_of cat c queue (Some r)) { active = active_handed c from m (active_of queue (Some r)) }
@@ -135,18 +132,13 @@ handed_view cat c (q ∷ queue) from m r line = ap (λ a. record (line_of cat c 
 
 fetches_is : (u : ℕ) (p : Phase) → fetches_use u p ≡ true → is_fetching p ≡ true
 fetches_is u (Fetching m) e = refl
-fetches_is u Reading e = cc
-fetches_is u (Reducing m) e = cc
-fetches_is u Shipping e = cc
-fetches_is u Over e = cc
+fetches_is u _ e = cc
 
 -- values that the attempt awaits, it awaits from that module
 awaited_by : (c : ℕ) (q : Queued) (from : Site) (m : Msg) (r : Running) → IsAwaited c from m (Some (attempt_of q r)) → AreAwaitedFrom c from m r
-awaited_by c q U m r h = tt
-awaited_by c q (T t) m r h = tt
 awaited_by c q (D d) (msgs.Values t k u vs) r h =
     λ own. let fits = h (eqb-true k.0 c (second_so (t.0 == r.ts) (k.0 == c) own)) in (fetches_is u r.exchange.phase fits.phase, fits.lacks)
-awaited_by c q (D d) _ r h = tt
+awaited_by c q _ m r h = tt
 
 pub awaited_line : (cat : Catalogue) (c : ℕ) (queue : List Queued) (from : Site) (m : Msg) (r : Running) → IsLine cat c queue (Some r)
     → IsAwaited c from m (active_of queue (Some r)) → AreAwaitedFrom c from m r
@@ -177,8 +169,7 @@ begun_by : (cat : Catalogue) (c : ℕ) (table : List line.Entry) (clock : Tickin
           (record { txn = q.number; attempt = suc q.tries; ts = timestamp (ticked clock 1); text = q.text; exchange = begins q.text (sends_of_act (start_act cat table c clock q)) }) else None;
     }
 begun_by cat c table clock q queue true true e f same = rw same refl
-begun_by cat c table clock q queue true false e f same = cc
-begun_by cat c table clock q queue false mine e f same = cc
+begun_by cat c table clock q queue _ _ e f same = cc
 
 pub begun_view : (cat : Catalogue) (c : ℕ) (table : List line.Entry) (clock : Ticking) (q : Queued) (queue : List Queued)
     → AreDistinct (map number_of (q ∷ queue))
@@ -228,8 +219,7 @@ ended_by : (cat : Catalogue) (c : ℕ) (q : Queued) (queue : List Queued) (a : O
       active = if own then None else a;
     }
 ended_by cat c q queue a true true e f same = rw same (ap (λ o. record { catalogue = cat; class = c; queue = queue; active = o }) (none_active queue))
-ended_by cat c q queue a true false e f same = cc
-ended_by cat c q queue a false mine e f same = cc
+ended_by cat c q queue a _ _ e f same = cc
 
 pub ended_view : (cat : Catalogue) (c : ℕ) (q : Queued) (queue : List Queued) (r : Running) (bases : Bases) → AreDistinct (map number_of (q ∷ queue))
     → line_of cat c queue None ≡ line_done (commit_next bases (line_of cat c (q ∷ queue) (Some r))) (line_of cat c (q ∷ queue) (Some r))

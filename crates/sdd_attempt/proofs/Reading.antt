@@ -9,9 +9,8 @@ by_msg d (msgs.Read ts c txn attempt conds uses) = refl
 by_msg d _ = refl
 
 same_module : (r : Site × Msg) → option_map numbered (module_of r) ≡ module_read r
-same_module (U, m) = refl
-same_module (T t, m) = refl
 same_module (D d, m) = by_msg d m
+same_module (_, m) = refl
 
 pub modules_read : (reads : List (Site × Msg)) → map numbered (filter_map module_of reads) ≡ filter_map module_read reads
 modules_read reads = map-filter_map_all numbered module_of module_read same_module reads

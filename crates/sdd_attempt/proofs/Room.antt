@@ -22,9 +22,8 @@ fewer_without (n ∷ ns) d e =
 
 put_by : (o : Ordering) (v x : Value) (xs ys : List Value) → length ys ≤ suc (length xs)
     → length (match_ordering o (v ∷ x ∷ xs) (x ∷ xs) (x ∷ ys)) ≤ suc (suc (length xs))
-put_by Less v x xs ys h = omega arith
-put_by Equal v x xs ys h = omega arith
 put_by Greater v x xs ys h = omega (arith, h)
+put_by _ v x xs ys h = omega arith
 
 inserted_few : (vs : List Value) (v : Value) → length (insert_key value_cmp vs v) ≤ suc (length vs)
 inserted_few [] v = omega arith
@@ -96,16 +95,15 @@ goes_room ts c x (q ∷ rest) steps small rows values =
 
 -- the end of a phase
 ends_room : (ts c : ℕ) (x : Exchange) (p : Phase) → x.phase ≡ p → HasRoom x → HasRoom (phase_ends ts c x p)
-ends_room ts c x Reading e room = goes_room ts c x x.left x.done room.small room.rows (omega (arith, room.values))
 ends_room ts c x (Fetching m) e room =
     let values : x.values + for_phase (length x.lacks) (length x.modules) (Fetching m) + moves_left x.left x.done * for_move (length x.modules) < 2 ^ 128 =
     subst (λ p. x.values + for_phase (length x.lacks) (length x.modules) p + moves_left x.left x.done * for_move (length x.modules) < 2 ^ 128) e room.values in
     let union : HasUnion (length x.union) (length x.lacks) (length x.modules) (Fetching m) = subst
     (HasUnion (length x.union) (length x.lacks) (length x.modules)) e room.union in
     reduces_room ts c m x (record { small = room.small; values = omega (arith, values); union = omega (arith, union); rows = room.rows })
-ends_room ts c x (Reducing m) e room = goes_room ts c x x.left x.done room.small room.rows (omega (arith, room.values))
 ends_room ts c x Shipping e room = record { small = room.small; values = omega (arith, room.values); union = tt; rows = room.rows }
 ends_room ts c x Over e room = room
+ends_room ts c x _ e room = goes_room ts c x x.left x.done room.small room.rows (omega (arith, room.values))
 
 lacking_room : (ts c : ℕ) (x : Exchange) (ds : List ℕ) → HasRoom (record x { lacks = ds }) → HasRoom (lacking ts c x ds)
 lacking_room ts c x [] room = ends_room ts c (record x { lacks = [] }) x.phase refl room
@@ -115,18 +113,12 @@ lacking_room ts c x (d ∷ ds) room = room
 
 -- where fewer answers lack there is as much room
 phase_fewer : (few lacks modules : ℕ) (p : Phase) → few ≤ lacks → for_phase few modules p ≤ for_phase lacks modules p
-phase_fewer few lacks modules Reading le = omega arith
 phase_fewer few lacks modules (Fetching m) le = omega (arith, le)
-phase_fewer few lacks modules (Reducing m) le = omega arith
-phase_fewer few lacks modules Shipping le = omega arith
-phase_fewer few lacks modules Over le = omega arith
+phase_fewer few lacks modules _ le = omega arith
 
 union_fewer : (union few lacks modules : ℕ) (p : Phase) → few ≤ lacks → HasUnion union lacks modules p → HasUnion union few modules p
-union_fewer union few lacks modules Reading le h = tt
 union_fewer union few lacks modules (Fetching m) le h = omega (arith, le, h)
-union_fewer union few lacks modules (Reducing m) le h = tt
-union_fewer union few lacks modules Shipping le h = tt
-union_fewer union few lacks modules Over le h = tt
+union_fewer union few lacks modules _ le h = tt
 
 answered_room : (ts c d : ℕ) (x : Exchange) → HasRoom x → HasRoom (answered ts c d x)
 answered_room ts c d x room =
@@ -142,19 +134,13 @@ answered_room ts c d x room =
 -- the values that come have the room of the answer that lacked
 values_by : (values few lacks modules : ℕ) (p : Phase) → is_fetching p ≡ true → few < lacks → values < 2 ^ 64
     → values + for_phase few modules p ≤ for_phase lacks modules p
-values_by values few lacks modules Reading e less small = cc
 values_by values few lacks modules (Fetching m) e less small = omega (arith, less, small)
-values_by values few lacks modules (Reducing m) e less small = cc
-values_by values few lacks modules Shipping e less small = cc
-values_by values few lacks modules Over e less small = cc
+values_by values few lacks modules _ e less small = cc
 
 united_by : (union all values few lacks modules : ℕ) (p : Phase) → is_fetching p ≡ true → few < lacks → values < 2 ^ 64 → all ≤ union + values
     → HasUnion union lacks modules p → HasUnion all few modules p
-united_by union all values few lacks modules Reading e less small le h = cc
 united_by union all values few lacks modules (Fetching m) e less small le h = omega (arith, less, small, le, h)
-united_by union all values few lacks modules (Reducing m) e less small le h = cc
-united_by union all values few lacks modules Shipping e less small le h = cc
-united_by union all values few lacks modules Over e less small le h = cc
+united_by union all values few lacks modules _ e less small le h = cc
 
 values_room : (ts c d : ℕ) (vs : List Value) (x : Exchange) → HasRoom x → is_fetching x.phase ≡ true → contains x.lacks d ≡ true → length vs < 2 ^ 64
     → HasRoom (answered ts c d (record x { union = with_values x.union vs; values = x.values + length vs }))
@@ -203,19 +189,15 @@ joins_within before low (Const left op value) h = tt
 joins_within before low (Same left right) h = (omega (arith, low, h.0), omega (arith, low, h.1))
 
 asking_small : (before : ℕ) (s : Stmt) → before + uses_in s ≤ 192 → before ≤ 186 → IsSmallStatement s → AreSmall (asking_of before s)
-asking_small before (Put rel row) few low small = All-nil IsSmallQuery
 asking_small before (Query out rels conds) few low small =
     All-cons IsSmallQuery (record { before = before; uses = length rels; conds = conds }) []
     (record { uses = few; conds = small.1; joins = All-weaker (JoinsWithin 0 6) (JoinsWithin before 192) (joins_within before low) conds small.2 })
     (All-nil IsSmallQuery)
-asking_small before (Update rel sets conds) few low small = All-nil IsSmallQuery
-asking_small before (Delete rel conds) few low small = All-nil IsSmallQuery
+asking_small before _ few low small = All-nil IsSmallQuery
 
 few_uses : (s : Stmt) → IsSmallStatement s → uses_in s ≤ 6
-few_uses (Put rel row) small = omega arith
 few_uses (Query out rels conds) small = small.0
-few_uses (Update rel sets conds) small = omega arith
-few_uses (Delete rel conds) small = omega arith
+few_uses _ small = omega arith
 
 askings_small : (before : ℕ) (sts : List Stmt) → before + 6 * length sts ≤ 192 → All IsSmallStatement sts → AreSmall (askings before sts)
 askings_small before [] few all = All-nil IsSmallQuery
@@ -227,10 +209,8 @@ askings_small before (s ∷ rest) few all =
     (askings_small (before + uses_in s) rest (omega (arith, few, uses)) (All-tail IsSmallStatement s rest all))
 
 first_moves : (before : ℕ) (s : Stmt) (rest : List Asking) → IsSmallStatement s → moves_left (asking_of before s ++ rest) [] ≤ 32 + moves_left rest []
-first_moves before (Put rel row) rest small = omega arith
 first_moves before (Query out rels conds) rest small = omega (arith, few_undone conds [], small.1)
-first_moves before (Update rel sets conds) rest small = omega arith
-first_moves before (Delete rel conds) rest small = omega arith
+first_moves before _ rest small = omega arith
 
 few_moves : (before : ℕ) (sts : List Stmt) → All IsSmallStatement sts → moves_left (askings before sts) [] ≤ 32 * length sts
 few_moves before [] all = omega arith

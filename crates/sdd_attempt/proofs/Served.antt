@@ -17,17 +17,11 @@ not_over cat txn db false x y never h over = h over
 shipping_ends : (cat : Catalogue) (txn : Txn) (db : Database) (ts c : ℕ) (y : Exchange) (p : Phase) → is_shipping p ≡ true → Serves cat txn y.found db
     → ServesOver cat txn db (phase_ends ts c y p)
 shipping_ends cat txn db ts c y Shipping e h over = h
-shipping_ends cat txn db ts c y Reading e h over = absurd (false≢true e)
-shipping_ends cat txn db ts c y (Fetching m) e h over = absurd (false≢true e)
-shipping_ends cat txn db ts c y (Reducing m) e h over = absurd (false≢true e)
-shipping_ends cat txn db ts c y Over e h over = absurd (false≢true e)
+shipping_ends cat txn db ts c y _ e h over = absurd (false≢true e)
 
 shipping_not_over : (p : Phase) → is_shipping p ≡ true → is_over p ≡ false
-shipping_not_over Shipping e = refl
-shipping_not_over Reading e = refl
-shipping_not_over (Fetching m) e = refl
-shipping_not_over (Reducing m) e = refl
 shipping_not_over Over e = absurd (false≢true e)
+shipping_not_over _ e = refl
 
 last_rows : (s : Setting) (bases : Bases) (a : Attempt) (rows : List (ℕ × Row)) (c : ℕ) (y : Exchange) → y.found ≡ a.exchange.found ++ rows
     → is_shipping y.phase ≡ true → (ds : List ℕ) → ServesIfLast s bases a rows ds
@@ -89,8 +83,7 @@ served_from : (s : Setting) (bases : Bases) (log : Log) (c : ℕ) (from : Site) 
 served_from s bases log c (D d) m (Some a) is f asks h =
     served_if s bases a (after_hand a.ts c d.0 m a.exchange) (served_now s bases log c d m a is f asks h) (rejects m a.ts c)
 served_from s bases log c (D d) m None is f asks h = tt
-served_from s bases log c U m o is f asks h = h
-served_from s bases log c (T t) m o is f asks h = h
+served_from s bases log c _ m o is f asks h = h
 
 pub served_handed : (s : Setting) (bases : Bases) (log : Log) (c : ℕ) (from : Site) (m : Msg) → FitsAnswer s bases log from m
     → IsAskingAt c (sent log) (handed log) (active s c log)

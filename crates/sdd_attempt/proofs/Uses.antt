@@ -98,9 +98,8 @@ few_in_statements cat before (s ∷ rest) small all =
 
 put_few : (o : Ordering) (k x : ℕ) (xs ys : List ℕ) → length ys ≤ suc (length xs)
     → length (match_ordering o (k ∷ x ∷ xs) (x ∷ xs) (x ∷ ys)) ≤ suc (suc (length xs))
-put_few Less k x xs ys h = omega arith
-put_few Equal k x xs ys h = omega arith
 put_few Greater k x xs ys h = omega (arith, h)
+put_few _ k x xs ys h = omega arith
 
 inserted_few : (ks : List ℕ) (k : ℕ) → length (insert_key nat_cmp ks k) ≤ suc (length ks)
 inserted_few [] k = omega arith
@@ -123,12 +122,10 @@ small_join cat rels few (Same left right) fits =
     let l : left.part ≤ length rels = fits.0.0.1 in let r : right.part ≤ length rels = fits.1.0.1 in (omega arith, omega arith)
 
 small_statement : (cat : Catalogue) (s : Stmt) → FitsStatement cat s → IsSmallStatement s
-small_statement cat (Put rel row) fits = tt
 small_statement cat (Query out rels conds) fits =
     let few : length rels ≤ 6 = fits.0.1 in
     (few, fits.4.0, All-weaker (FitsCondition cat rels) (JoinsWithin 0 6) (small_join cat rels few) conds fits.4.1)
-small_statement cat (Update rel sets conds) fits = tt
-small_statement cat (Delete rel conds) fits = tt
+small_statement cat _ fits = tt
 
 pub small_text : (cat : Catalogue) (txn : Txn) → Fits cat txn → IsSmallText txn
 small_text cat txn fits =

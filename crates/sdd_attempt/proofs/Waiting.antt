@@ -107,8 +107,7 @@ head_handed c queue (D d) m (Some a) h =
     let b : Attempt = record a { exchange = after_hand a.ts c d.0 m a.exchange } in
     reject_head queue a b (rejects m a.ts c) (head_if queue a b refl refl refl h)
 head_handed c queue (D d) m None h = tt
-head_handed c queue U m o h = h
-head_handed c queue (T t) m o h = h
+head_handed c queue _ m o h = h
 
 head_push : (qs : List Queued) (q r : Queued) → head_of qs ≡ Some q → head_of (qs ++ r ∷ []) ≡ Some q
 head_push [] q r h = absurd cc
