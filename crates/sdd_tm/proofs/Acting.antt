@@ -205,10 +205,8 @@ pub record MayStart (on : Bool) (o : Option Attempt) (qs : List Queued) : Type 0
 
 pub may_start : (on : Bool) (o : Option Attempt) (qs : List Queued)
     → (not on && (is_none o && not (is_empty qs))) ≡ true → MayStart on o qs
-may_start true o qs e = absurd (false≢true e)
-may_start false (Some a) qs e = absurd (false≢true e)
-may_start false None [] e = absurd (false≢true e)
 may_start false None (q ∷ rest) e = record { first = q; rest = rest; off = refl; idle = refl; queue_is = refl }
+may_start _ _ _ e = absurd (false≢true e)
 
 makes_start : (s : Setting) (bases : Bases) (log : Log) (place end c : ℕ) → IsAmid s bases (state_of s log) log
     → IsCalm place end (state_of s log) → slice_get (runs s) place ≡ Some c → line_step (active s c log) ≡ None

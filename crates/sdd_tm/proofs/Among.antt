@@ -23,8 +23,7 @@ standing_passed x next e = rw e refl
 
 pub standing_found : (x next : Standing) → x ≢ Absent → or_standing x next ≡ x
 standing_found Absent next h = absurd (h refl)
-standing_found (Queued c place) next h = refl
-standing_found (Underway c ts site) next h = refl
+standing_found _ next h = refl
 
 pub standing_past : (runs : List ClassState) (i n : ℕ) → length runs ≤ i → standing_from runs i n ≡ Absent
 standing_past [] zero n past = refl

@@ -71,17 +71,14 @@ module _ (s : Setting) (bases : Bases) (log : Log) where
 
   start_none_if : (b w : Bool) (o : Option Act) → (if not b && w then Some Start else None) ≡ None
       → (if not b && w then o else None) ≡ None
-  start_none_if true w o e = refl
   start_none_if false true o e = absurd cc
-  start_none_if false false o e = refl
+  start_none_if _ _ o e = refl
 
   start_of_none : (c : ℕ) (b : Bool) (a : Option Attempt) (qs : List Queued)
       → (if not b && (is_none a && not (is_empty qs)) then Some Start else None) ≡ None
       → (if not b && is_none a then start_of cat v c (head_of qs) else None) ≡ None
-  start_of_none c true a qs e = refl
-  start_of_none c false (Some a) qs e = refl
-  start_of_none c false None [] e = refl
   start_of_none c false None (q ∷ qs) e = absurd cc
+  start_of_none c _ _ _ e = refl
 
   pub start_none : (c : ℕ) → start_step (on_hold v) (class_of s log c) ≡ None → start_due cat v (class_view s log c) ≡ None
   start_none c e = start_of_none c (on_hold v) (active s c log) (queue s c log) e

@@ -26,9 +26,7 @@ rejects_other _ ts c h = refl
 
 active_other : (c : ℕ) (from : Site) (m : Msg) (o : Option Attempt) → Apart m c → active_handed c from m o ≡ o
 active_other c (D d) m (Some a) h = rw (rejects_other m a.ts c h, exchange_other m a.ts c d.0 a.exchange h) refl
-active_other c (D d) m None h = refl
-active_other c U m o h = refl
-active_other c (T t) m o h = refl
+active_other c _ m _ h = refl
 
 ask_other : (c : ℕ) (from : Site) (m : Msg) (qs : List Asked) → Apart m c → ask_handed c from m qs ≡ qs
 ask_other c from (Ask k time) qs h = rw (ne_eqb k.0 c (h k refl)) refl

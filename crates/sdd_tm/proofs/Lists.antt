@@ -31,11 +31,9 @@ get_set_here (z ∷ xs) (suc i) x new y e f = get_set_here xs i x new y e f
 
 pub get_set_other : {A : Type 0} (xs : List A) (i j : ℕ) (new y : A) → j ≢ i
     → slice_get (slice_set xs i new) j ≡ Some y → slice_get xs j ≡ Some y
-get_set_other [] i j new y apart e = e
 get_set_other (z ∷ xs) zero zero new y apart e = absurd (apart refl)
-get_set_other (z ∷ xs) zero (suc j) new y apart e = e
-get_set_other (z ∷ xs) (suc i) zero new y apart e = e
 get_set_other (z ∷ xs) (suc i) (suc j) new y apart e = get_set_other xs i j new y (λ q. apart (ap suc q)) e
+get_set_other _ _ _ new y apart e = e
 
 -- the first of which something is made
 

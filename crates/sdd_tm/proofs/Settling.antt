@@ -127,9 +127,8 @@ NotesDone now place step notes new = (bases : Bases) (k : ClassState) → slice_
     → new ≡ noted (act_of bases now.force.table now.clock k step) notes
 
 length_set : {A : Type 0} (xs : List A) (i : ℕ) (x : A) → length (slice_set xs i x) ≡ length xs
-length_set [] i x = refl
-length_set (y ∷ xs) zero x = refl
 length_set (y ∷ xs) (suc i) x = ap suc (length_set xs i x)
+length_set _ _ x = refl
 
 pub goes_on : (before now after : State) (place end : ℕ) (step : Step) (old notes new : Notes) → Bases
     → Going before now place end old notes → place < end → Some step ≡ step_at now.on_hold (slice_get now.classes place)

@@ -137,8 +137,7 @@ paid_off state = off state.on_hold (list_all is_idle state.classes) (Sends U (He
   where
     off : (a b : Bool) (x : Act) → (if a && (b && false) then Some x else None) ≡ None
     off true true x = refl
-    off true false x = refl
-    off false b x = refl
+    off _ _ x = refl
 
 told_off : (state : State) (o : Option Act) → held_of state ≡ o → held_of (told_by state o) ≡ None
 told_off state None e = e

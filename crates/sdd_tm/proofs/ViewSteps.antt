@@ -4,10 +4,7 @@ use Rattle.sdd_tm.proofs.All.{Act, Bases, Catalogue, Did, Entry, Handed, IsDue, 
 class_step : (s : Setting) (e : Entry) (log : Log) (c : ℕ)
     → class_view s (e ∷ log) c ≡ class_after e (view_of s log) (class_view s log c)
 class_step s (Handed from m) log c = refl
-class_step s (Submits n txn) log c = refl
-class_step s (Ticked n) log c = refl
-class_step s (Redeclared force t) log c = refl
-class_step s (Did act) log c = refl
+class_step s _ log c = refl
 
 classes_step : (s : Setting) (e : Entry) (log : Log)
     → map (class_view s (e ∷ log)) (runs s) ≡ map (class_after e (view_of s log)) (map (class_view s log) (runs s))
@@ -20,9 +17,8 @@ view_step s (Handed from m) log =
     ap (λ ks. record (view_of s (Handed from m ∷ log)) { classes = ks }) (classes_step s (Handed from m) log)
 view_step s (Submits n txn) log =
     ap (λ ks. record (view_of s (Submits n txn ∷ log)) { classes = ks }) (classes_step s (Submits n txn) log)
-view_step s (Ticked n) log = refl
-view_step s (Redeclared force t) log = refl
 view_step s (Did act) log = ap (λ ks. record (view_of s (Did act ∷ log)) { classes = ks }) (classes_step s (Did act) log)
+view_step s _ log = refl
 
 pub next_is_due : (cat : Catalogue) (bases : Bases) (v : View) (a : Act) → due cat bases v ≡ Some a → IsDue cat bases v a
 next_is_due cat bases v a e =
