@@ -80,9 +80,8 @@ none_on_hold (n ∷ ns) = none_on_hold ns
 
 release_none : (b : Bool) (o : Option TmCounts) → o ≡ None
     → or_else (if b then option_map Release (option_map tm_of o) else None) None ≡ None
-release_none true None e = refl
 release_none true (Some k) e = absurd cc
-release_none false o e = refl
+release_none _ _ e = refl
 
 first_settled : (cat : Catalogue) → step_of (first_state cat) ≡ None
 first_settled cat =

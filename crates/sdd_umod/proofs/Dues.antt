@@ -29,9 +29,8 @@ line_none (Some ToCommit) e = absurd cc
 release_is : (state : State) (step : Step) (b : Bool) (o : Option TmCounts) → line_step state.line.active ≡ None
     → is_applied state.line.catalogue.dms state.served ≡ b → find (is_kept_on_hold state.served.commits) state.counts ≡ o
     → release_step state ≡ Some step → (if b then option_map Release (option_map tm_of o) else None) ≡ Some step → IsStep state step
-release_is state step true None none e f g h = absurd cc
-release_is state step false o none e f g h = absurd cc
 release_is state step true (Some k) none e f g h = subst (IsStep state) (some_is h) (releases k none f (g ∙ sym h))
+release_is state step _ _ none e f g h = absurd cc
 
 start_is : (state : State) (step : Step) (b : Bool) → line_step state.line.active ≡ None → release_step state ≡ None
     → may_start state ≡ b → (if b then Some Start else None) ≡ Some step → IsStep state step
@@ -41,9 +40,8 @@ start_is state step false none r e f = absurd cc
 hold_is : (state : State) (step : Step) (b : Bool) (o : Option TmCounts) → line_step state.line.active ≡ None → release_step state ≡ None
     → start_step state ≡ None → is_empty state.line.queue ≡ b → find is_free state.counts ≡ o → hold_step state ≡ Some step
     → (if b then None else option_map Hold (option_map tm_of o)) ≡ Some step → IsStep state step
-hold_is state step true o none r s e f g h = absurd cc
-hold_is state step false None none r s e f g h = absurd cc
 hold_is state step false (Some k) none r s e f g h = subst (IsStep state) (some_is h) (holds k none r s f e (g ∙ sym h))
+hold_is state step _ _ none r s e f g h = absurd cc
 
 pub step_is : (state : State) (step : Step) → step_of state ≡ Some step → IsStep state step
 step_is state step e =
@@ -84,8 +82,7 @@ module _ (s : Setting) (bases : Bases) (log : Log) where
   made_if : (b : Bool) (o : Option TmCounts)
       → (if b then option_map release_to o else None) ≡ made (if b then option_map Release (option_map tm_of o) else None)
   made_if true None = refl
-  made_if true (Some k) = refl
-  made_if false o = refl
+  made_if _ _ = refl
 
   pub releases_are : IsWhole cat → first_some (release_due cat v) v.counts ≡ made (release_step st)
   releases_are whole =

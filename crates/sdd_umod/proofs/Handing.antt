@@ -11,7 +11,6 @@ use Rattle.sdd_umod.specs.declared.tm_count.Sign.TheVariants as signs
 
 pub clock_kept : (s : Setting) (bases : Bases) (log : Log) (from : Site) (m : Msg) → fits_kind s bases log from m
     → (k : Ticking) → pushed_by m k ≡ clock_heeded m k
-clock_kept s bases log from (Held time) f k = refl
 clock_kept s bases log from (Ask class time) f k = absurd f
 clock_kept s bases log from (Reject ts class by write) f k = absurd f
 clock_kept s bases log from (Release ts) f k = absurd f
@@ -87,9 +86,7 @@ running_if false o = omega arith
 
 running_handed : (from : Site) (m : Msg) (o : Option Attempt) → running (active_handed 0 from m o) ≤ running o
 running_handed (D d) m (Some a) = running_if (rejects m a.ts 0) (Some (record a { exchange = after_hand a.ts 0 d.0 m a.exchange }))
-running_handed (D d) m None = omega arith
-running_handed U m o = omega arith
-running_handed (T t) m o = omega arith
+running_handed _ m _ = omega arith
 
 pub sound_handed : (s : Setting) (bases : Bases) (log : Log) (from : Site) (m : Msg) → fits_kind s bases log from m
     → IsSound s log → IsSound s (Handed from m ∷ log)

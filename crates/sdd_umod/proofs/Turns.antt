@@ -12,25 +12,18 @@ tm_counted signs.Release n k = elim (n == k.tm) as (λ b. (if b then record k { 
 
 pub tm_handed : (from : Site) (m : Msg) (k : TmCounts) → (counts_handed from m k).tm ≡ k.tm
 tm_handed (T n) (Held time) k = tm_counted signs.Held n.0 k
-tm_handed (T n) _ k = refl
-tm_handed U m k = refl
-tm_handed (D n) m k = refl
+tm_handed _ _ k = refl
 
 tm_sent : (to : Site) (m : Msg) (hand : Option ℕ) (k : TmCounts) → (counts_acted (Sends to m hand) k).tm ≡ k.tm
 tm_sent (T n) Hold hand k = tm_counted signs.Hold n.0 k
 tm_sent (T n) (Release ts) hand k = tm_counted signs.Release n.0 k
-tm_sent (T n) _ hand k = refl
-tm_sent U m hand k = refl
-tm_sent (D n) m hand k = refl
+tm_sent _ _ hand k = refl
 
 pub tm_told : (t : ℕ) (log : Log) → (counts t log).tm ≡ t
 tm_told t [] = refl
 tm_told t (Handed from m ∷ log) = tm_handed from m (counts t log) ∙ tm_told t log
 tm_told t (Did (Sends to m hand) ∷ log) = tm_sent to m hand (counts t log) ∙ tm_told t log
-tm_told t (Did (Records c r sends) ∷ log) = tm_told t log
-tm_told t (Ticked n ∷ log) = tm_told t log
-tm_told t (Submits n txn ∷ log) = tm_told t log
-tm_told t (Redeclared force u ∷ log) = tm_told t log
+tm_told t (_ ∷ log) = tm_told t log
 
 -- one message more, of the T that has so many
 
