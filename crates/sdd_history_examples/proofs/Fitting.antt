@@ -64,7 +64,6 @@ module _ (cat : Catalogue) where
       (from_1_to cat.dms d both.0, leb-true c (length cat.classes) both.1)
 
   pub exists : (r : Rec) → exists_in r ≡ true → ExistsIn cat r
-  exists (Submit txn) e = tt
   exists (Start txn attempt class ts p2 uses) e =
       let both = and_parts (nat_le class.0 (length cat.classes)) (list_all is_use uses) e in
       (leb-true class.0 (length cat.classes) both.0, all_by (UseExists cat) is_use use_exists uses both.1)
@@ -78,7 +77,7 @@ module _ (cat : Catalogue) where
       all_by (ChangeExists cat) is_change (λ c t. from_1_to (length cat.fragments) c.frag.0 t) changes e
   exists (Apply txn class dm ts) e = module_and_class dm.0 class.0 e
   exists (Pass class dm time) e = module_and_class dm.0 class.0 e
-  exists Nothing e = tt
+  exists _ e = tt
 
 abbrev pub names_one_of : ℕ → Rec → Bool
 names_one_of count (Submit txn) = is_from_1_to count txn.0
@@ -101,8 +100,7 @@ names count (Answer txn attempt dm) e = from_1_to count txn.0 e
 names count (Reject txn attempt dm class ts) e = from_1_to count txn.0 e
 names count (Commit txn attempt reply changes values rows) e = from_1_to count txn.0 e
 names count (Apply txn class dm ts) e = from_1_to count txn.0 e
-names count (Pass class dm time) e = tt
-names count Nothing e = tt
+names count _ e = tt
 
 -- one catalogue from the beginning
 

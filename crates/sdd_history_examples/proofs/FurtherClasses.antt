@@ -12,30 +12,26 @@ use Rattle.sdd_history_examples.proofs.WorkedTables.{is_one_class, is_further_cl
 -- the lists of classes are those of one catalogue
 
 first_home : (c : ℕ) → 1 ≤ c → c ≤ 1 → (class_at one_class c).tm ≡ (class_at both_classes c).tm
-first_home zero from to = absurd (omega arith)
 first_home (suc zero) from to = refl
-first_home (suc (suc c)) from to = absurd (omega arith)
+first_home _ from to = absurd (omega arith)
 
 first_sets : (c : ℕ) → 1 ≤ c → c ≤ 1 → HasSets (class_at both_classes c) (class_at one_class c)
-first_sets zero from to = absurd (omega arith)
 first_sets (suc zero) from to = inl (refl, refl)
-first_sets (suc (suc c)) from to = absurd (omega arith)
+first_sets _ from to = absurd (omega arith)
 
 first_is : IsEraOf both_classes one_class
 first_is =
     record { tms = refl; dms = refl; relations = refl; fragments = refl; classes = lit≤ tt; home = first_home; sets = first_sets }
 
 second_home : (c : ℕ) → 1 ≤ c → c ≤ 2 → (class_at further_classes c).tm ≡ (class_at both_classes c).tm
-second_home zero from to = absurd (omega arith)
 second_home (suc zero) from to = refl
 second_home (suc (suc zero)) from to = refl
-second_home (suc (suc (suc c))) from to = absurd (omega arith)
+second_home _ from to = absurd (omega arith)
 
 second_sets : (c : ℕ) → 1 ≤ c → c ≤ 2 → HasSets (class_at both_classes c) (class_at further_classes c)
-second_sets zero from to = absurd (omega arith)
 second_sets (suc zero) from to = inr (refl, refl)
 second_sets (suc (suc zero)) from to = inl (refl, refl)
-second_sets (suc (suc (suc c))) from to = absurd (omega arith)
+second_sets _ from to = absurd (omega arith)
 
 second_is : IsEraOf both_classes further_classes
 second_is =
