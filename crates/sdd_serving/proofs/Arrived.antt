@@ -11,8 +11,7 @@ module _ (few many : Shipped) (go : (s : ℕ × Row) → Has few s → Has many 
   enough db before (Put rel row) h = tt
   enough db before (Query out rels conds) h =
       λ tuple there meets part range. moved (before + part) (part_of tuple part) (h tuple there meets part range)
-  enough db before (Update rel sets conds) h = λ row is. moved (before + 1) row (h row is)
-  enough db before (Delete rel conds) h = λ row is. moved (before + 1) row (h row is)
+  enough db before _ h = λ row is. moved (before + 1) row (h row is)
 
   enough_along : (db : Database) (before : ℕ) (statements : List Stmt) → AreEnoughAlong db few before statements
       → AreEnoughAlong db many before statements

@@ -23,11 +23,9 @@ each_fits cat rels (c ∷ conds) left right fits (inl same) =
 each_fits cat rels (c ∷ conds) left right fits (inr there) = each_fits cat rels conds left right fits.1 there
 
 has_parts : (cat : Catalogue) (s : Stmt) → FitsStatement cat s → HasParts s
-has_parts cat (Put rel row) fits = tt
 has_parts cat (Query out rels conds) fits =
     λ left right h. each_fits cat rels conds left right (recursion_from_All (FitsCondition cat rels) conds fits.4.1) h
-has_parts cat (Update rel sets conds) fits = tt
-has_parts cat (Delete rel conds) fits = tt
+has_parts cat _ fits = tt
 
 all_have : (cat : Catalogue) (statements : List Stmt) → AllByRecursion (FitsStatement cat) statements
     → AllByRecursion HasParts statements
@@ -56,8 +54,7 @@ module _ (cat : Catalogue) (db : Database) (ds : List ℕ) (first : Space) where
       (parts_meet conds tuple part meet) in
       subst (λ z. IsHeldAt ds first z (part_of tuple part)) p.number_is
       (h p.usage p.there (part_of tuple part) (p.row_there, met))
-  first_enough before (Update rel sets conds) h = λ row is. h _ (inl refl) row is
-  first_enough before (Delete rel conds) h = λ row is. h _ (inl refl) row is
+  first_enough before _ h = λ row is. h _ (inl refl) row is
 
   first_enough_along : (before : ℕ) (statements : List Stmt) → Holds (uses_from cat before statements)
       → HoldEnoughAlong db ds first before statements
@@ -86,9 +83,7 @@ shipped_enough db ds last before (Query out rels conds) h =
     λ tuple there meet part range.
     row_of_use (all_held ds last) (before + part) (part_of tuple part)
     (held_shipped ds last (before + part) (part_of tuple part) (h tuple there meet part range))
-shipped_enough db ds last before (Update rel sets conds) h =
-    λ row is. row_of_use (all_held ds last) (before + 1) row (held_shipped ds last (before + 1) row (h row is))
-shipped_enough db ds last before (Delete rel conds) h =
+shipped_enough db ds last before _ h =
     λ row is. row_of_use (all_held ds last) (before + 1) row (held_shipped ds last (before + 1) row (h row is))
 
 shipped_along : (db : Database) (ds : List ℕ) (last : Space) (before : ℕ) (statements : List Stmt)

@@ -91,9 +91,7 @@ module _ (ds : List ℕ) (m : Move) (before after : Space) (r : Reduces ds m bef
       (λ e.
       let from = range.0 in let to = range.1 in elim o [ inl a ↦ omega (arith, from) | inr b ↦ omega (arith, to) ])
       (h tuple there meets part range)
-  other_stays db k (Update rel sets conds) o h =
-      λ row is. other_held (k + 1) row (λ e. elim o [ inl a ↦ omega arith | inr b ↦ omega arith ]) (h row is)
-  other_stays db k (Delete rel conds) o h =
+  other_stays db k _ o h =
       λ row is. other_held (k + 1) row (λ e. elim o [ inl a ↦ omega arith | inr b ↦ omega arith ]) (h row is)
 
   others_stay : (db : Database) (k : ℕ) (statements : List Stmt) → m.target.part ≤ k
@@ -123,9 +121,6 @@ module _ (ds : List ℕ) (m : Move) (before after : Space) (r : Reduces ds m bef
 
   query_stays : (db : Database) (k : ℕ) (s : Stmt) → HasParts s → IsMoveOf k s m → HoldEnough db ds before k s
       → HoldEnough db ds after k s
-  query_stays db k (Put rel row) parts q h = absurd q
-  query_stays db k (Update rel sets conds) parts q h = absurd q
-  query_stays db k (Delete rel conds) parts q h = absurd q
   query_stays db k (Query out rels conds) parts q h =
       λ tuple there meets part range.
       let j : IsJoined conds q.move = joined conds q.move q.there in
@@ -150,19 +145,18 @@ module _ (ds : List ℕ) (m : Move) (before after : Space) (r : Reduces ds m bef
       (sym (ap (λ (z : Ref). z.column) target_is))
       (subst (λ z. is_among r.values (column (part_of tuple z) q.move.target.column) ≡ true) same at_target) in
       still_held (k + part) (part_of tuple part) (h tuple there meets part range) passes
+  query_stays db k _ parts q h = absurd q
 
   -- where the target of a move stands
   target_after : (k : ℕ) (s : Stmt) → HasParts s → IsMoveOf k s m
       → (k < m.target.part) × (m.target.part ≤ k + uses_in s)
-  target_after k (Put rel row) parts q = absurd q
-  target_after k (Update rel sets conds) parts q = absurd q
-  target_after k (Delete rel conds) parts q = absurd q
   target_after k (Query out rels conds) parts q =
       let w = sides conds (length rels) q.move parts (joined conds q.move q.there) in
       let number : m.target.part ≡ k + q.move.target.part = ap (λ (z : Move). z.target.part) q.is in
       let from = w.target.0 in
       let to = w.target.1 in
       (omega (arith, from), omega (arith, to))
+  target_after k _ parts q = absurd q
 
   target_behind : (k : ℕ) (statements : List Stmt) → AllByRecursion HasParts statements → IsMoveAlong k statements m
       → k < m.target.part
