@@ -95,6 +95,5 @@ is_down_acts d at [] log = refl
 is_down_acts d at (a ∷ acts) log = is_down_acts d at acts (Does at a ∷ log)
 
 pub takes_part_acts : (b at : Site) (acts : List Act) (log : Log) → takes_part b (after_acts at acts log) ≡ takes_part b log
-takes_part_acts U at acts log = refl
-takes_part_acts (T t) at acts log = refl
 takes_part_acts (D d) at acts log = rw (is_down_acts d.0 at acts log) refl
+takes_part_acts _ at acts log = refl

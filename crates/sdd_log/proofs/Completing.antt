@@ -34,53 +34,21 @@ IsSingle _ = Unit {0}
 -- an event more behind events of which nothing is left
 more_marked : (g : Given) (log : Log) (q : Bool) (r ws : List Event) (e : Event) → IsSingle e → mark_from g log q r ws ≡ None
     → mark_from (with_event g e) log q r (ws ++ e ∷ []) ≡ Some (Mark e)
-more_marked g log q r [] (Submit n) i h = refl
-more_marked g log q r [] (Deliver a b k) i h = refl
-more_marked g log q r [] (Lose a b k) i h = refl
-more_marked g log q r [] (Repeat a b k) i h = refl
-more_marked g log q r [] (Resend a b) i h = refl
-more_marked g log q r [] (Tick t n) i h = refl
-more_marked g log q r [] (Down d) i h = refl
-more_marked g log q r [] (Up d) i h = refl
 more_marked g log q r [] Settle i h = absurd i
 more_marked g log q r [] Redeclare i h = absurd i
 more_marked g log true r (Settle ∷ ws) e i h = more_marked g log true r ws e i h
 more_marked g log false r (Settle ∷ ws) e i h = cc
-more_marked g log true r (Redeclare ∷ ws) e i h = cc
-more_marked g log false r (Redeclare ∷ ws) e i h = cc
-more_marked g log q r (Submit n ∷ ws) e i h = cc
-more_marked g log q r (Deliver a b k ∷ ws) e i h = cc
-more_marked g log q r (Lose a b k ∷ ws) e i h = cc
-more_marked g log q r (Repeat a b k ∷ ws) e i h = cc
-more_marked g log q r (Resend a b ∷ ws) e i h = cc
-more_marked g log q r (Tick t n ∷ ws) e i h = cc
-more_marked g log q r (Down d ∷ ws) e i h = cc
-more_marked g log q r (Up d ∷ ws) e i h = cc
+more_marked g log _ r (_ ∷ ws) e i h = cc
+more_marked g log q r [] _ i h = refl
 
 more_taken : (g : Given) (log : Log) (q : Bool) (r ws : List Event) (e : Event) → IsSingle e → mark_from g log q r ws ≡ None
     → tail_of (from_event (ws ++ e ∷ [])) ≡ []
-more_taken g log q r [] (Submit n) i h = refl
-more_taken g log q r [] (Deliver a b k) i h = refl
-more_taken g log q r [] (Lose a b k) i h = refl
-more_taken g log q r [] (Repeat a b k) i h = refl
-more_taken g log q r [] (Resend a b) i h = refl
-more_taken g log q r [] (Tick t n) i h = refl
-more_taken g log q r [] (Down d) i h = refl
-more_taken g log q r [] (Up d) i h = refl
 more_taken g log q r [] Settle i h = absurd i
 more_taken g log q r [] Redeclare i h = absurd i
 more_taken g log true r (Settle ∷ ws) e i h = more_taken g log true r ws e i h
 more_taken g log false r (Settle ∷ ws) e i h = cc
-more_taken g log true r (Redeclare ∷ ws) e i h = cc
-more_taken g log false r (Redeclare ∷ ws) e i h = cc
-more_taken g log q r (Submit n ∷ ws) e i h = cc
-more_taken g log q r (Deliver a b k ∷ ws) e i h = cc
-more_taken g log q r (Lose a b k ∷ ws) e i h = cc
-more_taken g log q r (Repeat a b k ∷ ws) e i h = cc
-more_taken g log q r (Resend a b ∷ ws) e i h = cc
-more_taken g log q r (Tick t n ∷ ws) e i h = cc
-more_taken g log q r (Down d ∷ ws) e i h = cc
-more_taken g log q r (Up d ∷ ws) e i h = cc
+more_taken g log _ r (_ ∷ ws) e i h = cc
+more_taken g log q r [] _ i h = refl
 
 by_left : (g : Given) (e : Event) (log : Log) (s : List Event × List Event) → IsSingle e → mark_of g log s ≡ None
     → (mark_of (with_event g e) log (with_end e s) ≡ Some (Mark e)) × (after_mark (with_end e s) ≡ ([], []))
@@ -113,16 +81,7 @@ more_rounds : (g : Given) (log : Log) (q : Bool) (r ws : List Event) (e : Event)
 more_rounds g log q r [] e h = (0, refl)
 more_rounds g log true r (Settle ∷ ws) e h = let i = more_rounds g log true r ws e h in (suc i.0, ap (λ xs. Settle ∷ xs) i.1)
 more_rounds g log false r (Settle ∷ ws) e h = cc
-more_rounds g log true r (Redeclare ∷ ws) e h = cc
-more_rounds g log false r (Redeclare ∷ ws) e h = cc
-more_rounds g log q r (Submit n ∷ ws) e h = cc
-more_rounds g log q r (Deliver a b k ∷ ws) e h = cc
-more_rounds g log q r (Lose a b k ∷ ws) e h = cc
-more_rounds g log q r (Repeat a b k ∷ ws) e h = cc
-more_rounds g log q r (Resend a b ∷ ws) e h = cc
-more_rounds g log q r (Tick t n ∷ ws) e h = cc
-more_rounds g log q r (Down d ∷ ws) e h = cc
-more_rounds g log q r (Up d ∷ ws) e h = cc
+more_rounds g log _ r (_ ∷ ws) e h = cc
 
 by_end : (g : Given) (e : Event) (log : Log) (s : List Event × List Event) → mark_of g log s ≡ None
     → (ws : List Event) × (with_end e s ≡ (ws, [])) × EndsIn e ws
@@ -141,15 +100,8 @@ round_from : (g : Given) (log : Log) (r : List Event) (e : Event) (n : ℕ) → 
     → mark_from g log false r (settles_before n e) ≡ Some (Round r)
 round_from g log r Settle zero h = refl
 round_from g log r Redeclare zero h = refl
-round_from g log r (Submit k) zero h = absurd h
-round_from g log r (Deliver a b k) zero h = absurd h
-round_from g log r (Lose a b k) zero h = absurd h
-round_from g log r (Repeat a b k) zero h = absurd h
-round_from g log r (Resend a b) zero h = absurd h
-round_from g log r (Tick t k) zero h = absurd h
-round_from g log r (Down d) zero h = absurd h
-round_from g log r (Up d) zero h = absurd h
 round_from g log r e (suc n) h = refl
+round_from g log r _ zero h = absurd h
 
 settled_from : (g : Given) (log : Log) (r : List Event) (n : ℕ)
     → mark_from g log true r (settles_before n Settle) ≡ None

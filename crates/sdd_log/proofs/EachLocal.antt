@@ -19,20 +19,14 @@ note_noted false = tt
 
 due_by_noted : (g : Given) (e : Event) (log : Log) → AreNotes (due_by g e log)
 due_by_noted g (Submit n) log = refl
-due_by_noted g (Deliver a b k) log = note_noted _
-due_by_noted g (Lose a b k) log = note_noted _
-due_by_noted g (Repeat a b k) log = note_noted _
-due_by_noted g (Resend a b) log = note_noted _
 due_by_noted g (Tick t n) log = tt
 due_by_noted g Settle log = tt
 due_by_noted g Redeclare log = tt
-due_by_noted g (Down d) log = note_noted _
-due_by_noted g (Up d) log = note_noted _
+due_by_noted g _ log = note_noted _
 
 mark_noted : (g : Given) (log : Log) → AreNotes (mark_due g log)
-mark_noted g [] = tt
 mark_noted g (Mark e ∷ log) = due_by_noted g e log
-mark_noted g (_ ∷ log) = tt
+mark_noted g _ = tt
 
 is_noted : (o : Option Entry) (e : Entry) → AreNotes o → o ≡ Some e → is_note e ≡ true
 is_noted None e h p = cc
@@ -74,31 +68,18 @@ each_submit P n None l f h = h
 each_submit P n (Some t) l f h = (f t refl, h)
 
 each_beginning : (g : Given) (at : Site) (P : site.Log → site.Entry → Type 0) → ((l : site.Log) (k t : ℕ) → Each P l → P l (Redeclared (force_at g k) t)) → Each P (beginning g at)
-each_beginning g U P f = tt
 each_beginning g (T t) P f = (f [] 0 0 tt, tt)
-each_beginning g (D d) P f = tt
+each_beginning g _ P f = tt
 
 each_force : (at : Site) (P : site.Log → site.Entry → Type 0) (force : Force) (t : ℕ) (l : site.Log) → P l (Redeclared force t) → Each P l → Each P (with_force at force t l)
-each_force U P force t l f h = h
 each_force (T n) P force t l f h = (f, h)
-each_force (D d) P force t l f h = h
+each_force _ P force t l f h = h
 
 pub each_local : (g : Given) (at : Site) (P : site.Log → site.Entry → Type 0) → HoldsOfEach g at P → (log : Log) → IsPermitted g log → Each P (local_of g at log)
 each_local g at P c [] h = each_beginning g at P c.redeclared
-each_local g at P c (Mark (Submit n) ∷ log) h = each_local g at P c log h.1
-each_local g at P c (Mark (Deliver a b k) ∷ log) h = each_local g at P c log h.1
-each_local g at P c (Mark (Lose a b k) ∷ log) h = each_local g at P c log h.1
-each_local g at P c (Mark (Repeat a b k) ∷ log) h = each_local g at P c log h.1
-each_local g at P c (Mark (Resend a b) ∷ log) h = each_local g at P c log h.1
-each_local g at P c (Mark Settle ∷ log) h = each_local g at P c log h.1
-each_local g at P c (Mark Redeclare ∷ log) h = each_local g at P c log h.1
-each_local g at P c (Mark (Down d) ∷ log) h = each_local g at P c log h.1
-each_local g at P c (Mark (Up d) ∷ log) h = each_local g at P c log h.1
 each_local g at P c (Mark (Tick t n) ∷ log) h =
     let i = each_local g at P c log h.1 in
     each_if P (same_site at (T t)) (Ticked n ∷ local_of g at log) (local_of g at log) (λ e. (c.ticked log h.1 n i, i)) i
-each_local g at P c (Round es ∷ log) h = each_local g at P c log h.1
-each_local g at P c (Notes ∷ log) h = each_local g at P c log h.1
 each_local g at P c (Redeclares t ∷ log) h =
     let i = each_local g at P c log h.1 in
     each_force at P (force_at g (suc (redeclares log))) t (local_of g at log) (c.redeclared (local_of g at log) (suc (redeclares log)) t i) i
@@ -115,6 +96,7 @@ each_local g at P c (Does by act ∷ log) h =
     let i = each_local g at P c log h.1 in
     each_if P (same_site at by) (Did act ∷ local_of g at log) (local_of g at log)
     (λ e. (c.did log act h.1 (subst (λ s. IsDueAt g log s act) (sym (same_is at by e)) (allowed_act g log (Does by act) h.0)) i, i)) i
+each_local g at P c (_ ∷ log) h = each_local g at P c log h.1
 
 -- and so of the log that a lawful log gives the site
 pub each_of_lawful : (g : Given) (at : Site) (P : site.Log → site.Entry → Type 0) → HoldsOfEach g at P → AreSubmittedOnce g.events → (log : Log) → IsLawful g log → Each P (local_of g at log)

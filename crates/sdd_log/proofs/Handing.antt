@@ -75,8 +75,7 @@ none_earlier g log b kept w x e y =
 
 part_handed : (y a b : Site) (n : ℕ) (m : Msg) (log : Log) → takes_part y (Hand a b n m ∷ log) ≡ takes_part y log
 part_handed U a b n m log = refl
-part_handed (T t) a b n m log = refl
-part_handed (D d) a b n m log = refl
+part_handed _ a b n m log = refl
 
 module _ (g : Given) (log : Log) (b : Site) (kept : Site → List Msg) (w : Waits g log b kept) (a : Site) (m : Msg) (rest : List Msg) (f : IsFirst g kept a b m rest) where
   first_remains : Remain log a b (m ∷ rest)

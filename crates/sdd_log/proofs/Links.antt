@@ -47,9 +47,8 @@ module _ {M : Type 0} where
   -- a delivery on one link leaves what is delivered on every other
 
   back_arrives : (o : Option (Packet M)) (place : ℕ) (l : Link M) → (with_packet o (λ p. arrives p (without_packet place l)) l).back.arrived ≡ l.back.arrived
-  back_arrives None place l = refl
-  back_arrives (Some (Message n m)) place l = refl
   back_arrives (Some (Ack k)) place l = refl
+  back_arrives _ place l = refl
 
   other_way : (c d : Bool) (place : ℕ) (l : Link M) → c ≡ false → (if c then deliver place l else if d then turned (deliver place (turned l)) else l).there.arrived ≡ l.there.arrived
   other_way true d place l e = cc
@@ -91,22 +90,19 @@ module _ {M : Type 0} where
 
   pub by_acked : (o : Option (Packet M)) (place : ℕ) (l : Link M) (ms : List M) → given_by o ms ≡ Acked
       → (delivered (with_packet o (λ p. arrives p (without_packet place l)) l).there ≡ delivered l.there) × (is_none o ≡ false)
-  by_acked None place l ms e = cc
-  by_acked (Some (Message n m)) place l ms e = cc
   by_acked (Some (Ack k)) place l ms e = (refl, refl)
+  by_acked _ place l ms e = cc
 
   pub by_messages : (o : Option (Packet M)) (ms given : List M) → given_by o ms ≡ Messages given → (given ≡ ms) × (is_none o ≡ false)
-  by_messages None ms given e = cc
   by_messages (Some (Message n m)) ms given e = (cc, refl)
-  by_messages (Some (Ack k)) ms given e = cc
+  by_messages _ ms given e = cc
 
   -- the messages of a delivery are those from `delivered` on
 
   get_take : (n : ℕ) (xs : List M) (i : ℕ) (x : M) → slice_get (take n xs) i ≡ Some x → slice_get xs i ≡ Some x
   get_take zero xs i x e = cc
-  get_take (suc n) [] i x e = e
-  get_take (suc n) (y ∷ xs) zero x e = e
   get_take (suc n) (y ∷ xs) (suc i) x e = get_take n xs i x e
+  get_take (suc n) _ _ x e = e
 
   get_drop : (k : ℕ) (xs : List M) (i : ℕ) (x : M) → slice_get (drop k xs) i ≡ Some x → slice_get xs (k + i) ≡ Some x
   get_drop zero xs i x e = let z : 0 + i ≡ i = omega arith in rw z e

@@ -48,16 +48,8 @@ IsNoTick (Tick t n) = ⊥
 IsNoTick _ = Unit {0}
 
 pub mark_local : (g : Given) (e : Event) (log : Log) (x : Site) → IsNoTick e → local_of g x (Mark e ∷ log) ≡ local_of g x log
-mark_local g (Submit n) log x h = refl
-mark_local g (Deliver a b k) log x h = refl
-mark_local g (Lose a b k) log x h = refl
-mark_local g (Repeat a b k) log x h = refl
-mark_local g (Resend a b) log x h = refl
 mark_local g (Tick t n) log x h = absurd h
-mark_local g Settle log x h = refl
-mark_local g Redeclare log x h = refl
-mark_local g (Down d) log x h = refl
-mark_local g (Up d) log x h = refl
+mark_local g _ log x h = refl
 
 pub none_by_mark : (g : Given) (log : Log) (e : Event) → IsNoTick e → site_due g log ≡ None → site_due g (Mark e ∷ log) ≡ None
 none_by_mark g log e h n = still_none g log (Mark e ∷ log) (λ x. mark_local g e log x h) n
@@ -79,8 +71,7 @@ rests_marked g log e k s d h = record {
 -- takes_part of a noted log is that of the log before the note
 pub part_noted : (x : Site) (log : Log) → takes_part x (Notes ∷ log) ≡ takes_part x log
 part_noted U log = refl
-part_noted (T t) log = refl
-part_noted (D d) log = refl
+part_noted _ log = refl
 
 -- an event that finds nothing to do
 pub rests_noted : (g : Given) (log : Log) (e : Event) → IsMarked g log e → IsNoTick e → due_by g e log ≡ Some Notes → AllHanded (Mark e ∷ log)
@@ -102,18 +93,9 @@ TurnsNone (Up d) = ⊥
 TurnsNone _ = Unit {0}
 
 pub part_marked : (x : Site) (e : Event) (log : Log) → TurnsNone e → takes_part x (Mark e ∷ log) ≡ takes_part x log
-part_marked U e log h = refl
-part_marked (T t) e log h = refl
-part_marked (D d) (Submit n) log h = refl
-part_marked (D d) (Deliver a b k) log h = refl
-part_marked (D d) (Lose a b k) log h = refl
-part_marked (D d) (Repeat a b k) log h = refl
-part_marked (D d) (Resend a b) log h = refl
-part_marked (D d) (Tick t n) log h = refl
-part_marked (D d) Settle log h = refl
-part_marked (D d) Redeclare log h = refl
 part_marked (D d) (Down k) log h = absurd h
 part_marked (D d) (Up k) log h = absurd h
+part_marked _ _ log h = refl
 
 -- where an event delivers nothing, all stays handed over
 pub handed_still : (log : Log) (e : Event) → TurnsNone e → ((a b : Site) → delivered (link_of a b (Mark e ∷ log)).there ≡ delivered (link_of a b log).there)
@@ -124,9 +106,8 @@ handed_still log e t same h a b part = h a b (sym (part_marked b e log t) ∙ pa
 
 pub forced_none : (g : Given) (x : Site) (bases : Bases) (force : Force) (t : ℕ) (l : site.Log)
     → next_in g x bases l ≡ None → next_in g x bases (with_force x force t l) ≡ None
-forced_none g U bases force t l k = k
 forced_none g (T n) bases force t l k = none_by_redeclare (setting_of g (T n)) bases l force t k
-forced_none g (D d) bases force t l k = k
+forced_none g _ bases force t l k = k
 
 redeclared_none : (g : Given) (log : Log) (t : ℕ) → site_due g log ≡ None → site_due g (Redeclares t ∷ log) ≡ None
 redeclared_none g log t k =
@@ -138,8 +119,7 @@ redeclared_none g log t k =
 
 pub part_redeclared : (x : Site) (t : ℕ) (log : Log) → takes_part x (Redeclares t ∷ log) ≡ takes_part x log
 part_redeclared U t log = refl
-part_redeclared (T n) t log = refl
-part_redeclared (D d) t log = refl
+part_redeclared _ t log = refl
 
 -- after it the log is at rest
 pub rests_redeclared : (g : Given) (log : Log) (t : ℕ) → Rests g log

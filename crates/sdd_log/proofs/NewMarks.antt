@@ -63,20 +63,14 @@ no_note false = tt
 
 no_due_by : (g : Given) (e : Event) (log : Log) → NotFrom (due_by g e log)
 no_due_by g (Submit n) log = refl
-no_due_by g (Deliver a b k) log = no_note _
-no_due_by g (Lose a b k) log = no_note _
-no_due_by g (Repeat a b k) log = no_note _
-no_due_by g (Resend a b) log = no_note _
 no_due_by g (Tick t n) log = tt
 no_due_by g Settle log = tt
 no_due_by g Redeclare log = tt
-no_due_by g (Down d) log = no_note _
-no_due_by g (Up d) log = no_note _
+no_due_by g _ log = no_note _
 
 no_mark_due : (g : Given) (log : Log) → NotFrom (mark_due g log)
-no_mark_due g [] = tt
 no_mark_due g (Mark e ∷ log) = no_due_by g e log
-no_mark_due g (_ ∷ log) = tt
+no_mark_due g _ = tt
 
 no_does : (at : Site) (o : Option Act) → NotFrom (does_at at o)
 no_does at None = tt
@@ -117,26 +111,13 @@ pub record IsLeft (n : ℕ) (events : List Event) (s : List Event × List Event)
   pub round_none : submits_in n s.1 ≡ 0
 
 from_event_same : (n : ℕ) (ws : List Event) → submits_in n (from_event ws) ≡ submits_in n ws
-from_event_same n [] = refl
 from_event_same n (Settle ∷ ws) = let i = from_event_same n ws in omega arith
-from_event_same n (Submit k ∷ ws) = refl
-from_event_same n (Deliver a b k ∷ ws) = refl
-from_event_same n (Lose a b k ∷ ws) = refl
-from_event_same n (Repeat a b k ∷ ws) = refl
-from_event_same n (Resend a b ∷ ws) = refl
-from_event_same n (Tick t k ∷ ws) = refl
-from_event_same n (Redeclare ∷ ws) = refl
-from_event_same n (Down d ∷ ws) = refl
-from_event_same n (Up d ∷ ws) = refl
+from_event_same n _ = refl
 
 -- the event that is marked is the first of those left
 pub marks_first : (g : Given) (log : Log) (q : Bool) (r ws : List Event) (e : Event) → mark_from g log q r ws ≡ Some (Mark e)
     → (rest : List Event) × (from_event ws ≡ e ∷ rest)
-marks_first g log q r [] e h = cc
 marks_first g log true r (Settle ∷ ws) e h = marks_first g log true r ws e h
-marks_first g log false r (Settle ∷ ws) e h = cc
-marks_first g log true r (Redeclare ∷ ws) e h = cc
-marks_first g log false r (Redeclare ∷ ws) e h = cc
 marks_first g log q r (Submit k ∷ ws) e h = let p : Submit k ≡ e = cc in (ws, ap (λ x. x ∷ ws) p)
 marks_first g log q r (Deliver a b k ∷ ws) e h = let p : Deliver a b k ≡ e = cc in (ws, ap (λ x. x ∷ ws) p)
 marks_first g log q r (Lose a b k ∷ ws) e h = let p : Lose a b k ≡ e = cc in (ws, ap (λ x. x ∷ ws) p)
@@ -145,38 +126,20 @@ marks_first g log q r (Resend a b ∷ ws) e h = let p : Resend a b ≡ e = cc in
 marks_first g log q r (Tick t k ∷ ws) e h = let p : Tick t k ≡ e = cc in (ws, ap (λ x. x ∷ ws) p)
 marks_first g log q r (Down d ∷ ws) e h = let p : Down d ≡ e = cc in (ws, ap (λ x. x ∷ ws) p)
 marks_first g log q r (Up d ∷ ws) e h = let p : Up d ≡ e = cc in (ws, ap (λ x. x ∷ ws) p)
+marks_first g log _ r _ e h = cc
 
 -- and so is the `redeclare` that is carried out
 pub redeclares_first : (g : Given) (log : Log) (q : Bool) (r ws : List Event) (t : ℕ) → mark_from g log q r ws ≡ Some (Redeclares t)
     → (rest : List Event) × (from_event ws ≡ Redeclare ∷ rest)
-redeclares_first g log q r [] t h = cc
 redeclares_first g log true r (Settle ∷ ws) t h = redeclares_first g log true r ws t h
-redeclares_first g log false r (Settle ∷ ws) t h = cc
 redeclares_first g log true r (Redeclare ∷ ws) t h = (ws, refl)
-redeclares_first g log false r (Redeclare ∷ ws) t h = cc
-redeclares_first g log q r (Submit k ∷ ws) t h = cc
-redeclares_first g log q r (Deliver a b k ∷ ws) t h = cc
-redeclares_first g log q r (Lose a b k ∷ ws) t h = cc
-redeclares_first g log q r (Repeat a b k ∷ ws) t h = cc
-redeclares_first g log q r (Resend a b ∷ ws) t h = cc
-redeclares_first g log q r (Tick u k ∷ ws) t h = cc
-redeclares_first g log q r (Down d ∷ ws) t h = cc
 redeclares_first g log q r (Up d ∷ ws) t h = cc
+redeclares_first g log _ r _ t h = cc
 
 pub marks_round : (g : Given) (log : Log) (q : Bool) (r ws es : List Event) → mark_from g log q r ws ≡ Some (Round es) → r ≡ es
-marks_round g log q r [] es h = cc
 marks_round g log true r (Settle ∷ ws) es h = marks_round g log true r ws es h
-marks_round g log false r (Settle ∷ ws) es h = cc
-marks_round g log true r (Redeclare ∷ ws) es h = cc
-marks_round g log false r (Redeclare ∷ ws) es h = cc
-marks_round g log q r (Submit k ∷ ws) es h = cc
-marks_round g log q r (Deliver a b k ∷ ws) es h = cc
-marks_round g log q r (Lose a b k ∷ ws) es h = cc
-marks_round g log q r (Repeat a b k ∷ ws) es h = cc
-marks_round g log q r (Resend a b ∷ ws) es h = cc
-marks_round g log q r (Tick t k ∷ ws) es h = cc
-marks_round g log q r (Down d ∷ ws) es h = cc
 marks_round g log q r (Up d ∷ ws) es h = cc
+marks_round g log _ r _ es h = cc
 
 mark_step : (g : Given) (log : Log) (n m : ℕ) (e : Event) (s : List Event × List Event) → mark_of g log s ≡ Some (Mark e) → IsLeft n g.events s m
     → IsLeft n g.events (after_mark s) (submits_by n e + m)
@@ -212,30 +175,14 @@ left_is g n [] h = record { all = omega arith; round_none = refl }
 left_is g n (Mark e ∷ log) h = mark_step g log n (marked n log) e (left g.events log) (from_left g log (Mark e) h.0) (left_is g n log h.1)
 left_is g n (Round es ∷ log) h = round_step g log n (marked n log) es (left g.events log) (from_left g log (Round es) h.0) (left_is g n log h.1)
 left_is g n (Redeclares t ∷ log) h = redeclare_step g log n (marked n log) t (left g.events log) (from_left g log (Redeclares t) h.0) (left_is g n log h.1)
-left_is g n (Hand a b k m ∷ log) h = left_is g n log h.1
-left_is g n (Submitted a k ∷ log) h = left_is g n log h.1
-left_is g n (Notes ∷ log) h = left_is g n log h.1
-left_is g n (Does a act ∷ log) h = left_is g n log h.1
+left_is g n (_ ∷ log) h = left_is g n log h.1
 
 counts_mark : (n : ℕ) (log : Log) → was_marked n log ≡ true → 1 ≤ marked n log
 counts_mark n [] h = cc
 counts_mark n (Mark (Submit k) ∷ log) h =
     elim (k.0 == n) as (λ b. (b || was_marked n log) ≡ true → 1 ≤ one_if b + marked n log) [ true ↦ λ p. omega arith | false ↦ λ p. let i = counts_mark n log p in omega arith ] h
-counts_mark n (Mark (Deliver a b k) ∷ log) h = let i = counts_mark n log h in omega arith
-counts_mark n (Mark (Lose a b k) ∷ log) h = let i = counts_mark n log h in omega arith
-counts_mark n (Mark (Repeat a b k) ∷ log) h = let i = counts_mark n log h in omega arith
-counts_mark n (Mark (Resend a b) ∷ log) h = let i = counts_mark n log h in omega arith
-counts_mark n (Mark (Tick t k) ∷ log) h = let i = counts_mark n log h in omega arith
-counts_mark n (Mark Redeclare ∷ log) h = let i = counts_mark n log h in omega arith
-counts_mark n (Mark (Down d) ∷ log) h = let i = counts_mark n log h in omega arith
-counts_mark n (Mark (Up d) ∷ log) h = let i = counts_mark n log h in omega arith
-counts_mark n (Mark Settle ∷ log) h = let i = counts_mark n log h in omega arith
-counts_mark n (Round es ∷ log) h = counts_mark n log h
-counts_mark n (Redeclares t ∷ log) h = counts_mark n log h
-counts_mark n (Hand a b k m ∷ log) h = counts_mark n log h
-counts_mark n (Submitted a k ∷ log) h = counts_mark n log h
-counts_mark n (Notes ∷ log) h = counts_mark n log h
-counts_mark n (Does a act ∷ log) h = counts_mark n log h
+counts_mark n (Mark _ ∷ log) h = let i = counts_mark n log h in omega arith
+counts_mark n (_ ∷ log) h = counts_mark n log h
 
 new_event : (g : Given) (log : Log) (e : Event) → AreSubmittedOnce g.events → IsLawful g (Mark e ∷ log) → is_new_mark e log ≡ true
 new_event g log (Submit k) once h =
@@ -247,25 +194,12 @@ new_event g log (Submit k) once h =
       | true ↦ λ p. (let l : 1 ≤ marked k.0 log = counts_mark k.0 log p in absurd (omega arith))
       | false ↦ λ p. refl
     ] refl
-new_event g log (Deliver a b k) once h = refl
-new_event g log (Lose a b k) once h = refl
-new_event g log (Repeat a b k) once h = refl
-new_event g log (Resend a b) once h = refl
-new_event g log (Tick t k) once h = refl
-new_event g log Settle once h = refl
-new_event g log Redeclare once h = refl
-new_event g log (Down d) once h = refl
-new_event g log (Up d) once h = refl
+new_event g log _ once h = refl
 
 pub new_marks : (g : Given) (log : Log) → AreSubmittedOnce g.events → IsLawful g log → HasNewMarks log
 new_marks g [] once h = tt
 new_marks g (Mark e ∷ log) once h = (new_event g log e once h, new_marks g log once h.1)
-new_marks g (Round es ∷ log) once h = (tt, new_marks g log once h.1)
-new_marks g (Redeclares t ∷ log) once h = (tt, new_marks g log once h.1)
-new_marks g (Hand a b k m ∷ log) once h = (tt, new_marks g log once h.1)
-new_marks g (Submitted a k ∷ log) once h = (tt, new_marks g log once h.1)
-new_marks g (Notes ∷ log) once h = (tt, new_marks g log once h.1)
-new_marks g (Does a act ∷ log) once h = (tt, new_marks g log once h.1)
+new_marks g (_ ∷ log) once h = (tt, new_marks g log once h.1)
 
 -- every lawful log is permitted
 pub lawful_permitted : (g : Given) (log : Log) → AreSubmittedOnce g.events → IsLawful g log → IsPermitted g log

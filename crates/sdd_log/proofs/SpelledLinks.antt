@@ -7,19 +7,16 @@ module _ {A B : Type 0} (f : A → B) where
   map_option h (Some x) = Some (h x)
 
   get_map : {X Y : Type 0} (h : X → Y) (xs : List X) (i : ℕ) → slice_get (map h xs) i ≡ map_option h (slice_get xs i)
-  get_map h [] i = refl
-  get_map h (x ∷ xs) zero = refl
   get_map h (x ∷ xs) (suc i) = get_map h xs i
+  get_map h _ _ = refl
 
   take_map : {X Y : Type 0} (h : X → Y) (n : ℕ) (xs : List X) → take n (map h xs) ≡ map h (take n xs)
-  take_map h zero xs = refl
-  take_map h (suc n) [] = refl
   take_map h (suc n) (x ∷ xs) = ap (λ l. h x ∷ l) (take_map h n xs)
+  take_map h _ _ = refl
 
   drop_map : {X Y : Type 0} (h : X → Y) (n : ℕ) (xs : List X) → drop n (map h xs) ≡ map h (drop n xs)
-  drop_map h zero xs = refl
-  drop_map h (suc n) [] = refl
   drop_map h (suc n) (x ∷ xs) = drop_map h n xs
+  drop_map h _ _ = refl
 
   without_map : {X Y : Type 0} (h : X → Y) (xs : List X) (k : ℕ) → without_at (map h xs) k ≡ map h (without_at xs k)
   without_map h xs k = rw (take_map h k xs, drop_map h (k + 1) xs) (sym (map-append h (take k xs) (drop (k + 1) xs)))
@@ -96,9 +93,8 @@ module _ {A B : Type 0} (f : A → B) where
   link_map a b (Resends from to ∷ calls) = step_map a b from to resend resend (link a b (map (call_as f) calls)) (link a b calls) (link_map a b calls) resend_map
 
   given_map : (o : Option (Packet A)) (ms : List A) → given_by (map_option (packet_as f) o) (map f ms) ≡ delivered_as f (given_by o ms)
-  given_map None ms = refl
-  given_map (Some (Message n m)) ms = refl
   given_map (Some (Ack k)) ms = refl
+  given_map _ ms = refl
 
   newly_map : (old new : Way A) → newly_delivered (way_as f old) (way_as f new) ≡ map f (newly_delivered old new)
   newly_map old new = ap (λ xs. drop (delivered old) xs) (take_map f (delivered new) new.sent) ∙ drop_map f (delivered old) (take (delivered new) new.sent)

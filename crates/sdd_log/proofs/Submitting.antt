@@ -25,8 +25,7 @@ submitted g n log = Submitted (home_in g n log) n.0 ∷ Mark (Submit n) ∷ log
 
 part_submitted : (g : Given) (n : TxnNo) (log : Log) (b : Site) → takes_part b (submitted g n log) ≡ takes_part b log
 part_submitted g n log U = refl
-part_submitted g n log (T t) = refl
-part_submitted g n log (D d) = refl
+part_submitted g n log _ = refl
 
 module _ (g : Given) (n : TxnNo) (log : Log) (k : IsMarked g log (Submit n)) where
   pub submitted_lawful : IsLawful g (submitted g n log)

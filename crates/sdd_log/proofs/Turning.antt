@@ -8,9 +8,8 @@ down_if false down e = e
 
 -- a module that takes part after a `down` took part before it
 part_down : (y : Site) (d : DmNo) (log : Log) → takes_part y (Mark (Down d) ∷ log) ≡ true → takes_part y log ≡ true
-part_down U d log e = refl
-part_down (T t) d log e = refl
 part_down (D n) d log e = down_if (d.0 == n.0) (is_down n.0 log) e
+part_down _ d log e = refl
 
 pub goes_down : (g : Given) (d : DmNo) (log : Log) → IsMarked g log (Down d) → is_down d.0 log ≡ false → Rests g (Mark (Down d) ∷ log)
 goes_down g d log m e =
@@ -25,22 +24,20 @@ up_if false down n e = e
 
 -- another module that takes part after an `up` took part before it
 part_up : (y : Site) (d : DmNo) (log : Log) → same_site y (D d) ≡ false → takes_part y (Mark (Up d) ∷ log) ≡ true → takes_part y log ≡ true
-part_up U d log n e = refl
-part_up (T t) d log n e = refl
 part_up (D k) d log n e = up_if (d.0 == k.0) (is_down k.0 log) (flip_same k.0 d.0 n) e
+part_up _ d log n e = refl
 
 up_here : (d : DmNo) (log : Log) → takes_part (D d) (Mark (Up d) ∷ log) ≡ true
 up_here d log = rw (eq-eqb d.0 d.0 refl) refl
 
 -- of a module that wasn't down all is handed over
 up_part : (y : Site) (d : DmNo) (log : Log) → is_down d.0 log ≡ false → takes_part y (Mark (Up d) ∷ log) ≡ true → takes_part y log ≡ true
-up_part U d log n e = refl
-up_part (T t) d log n e = refl
 up_part (D k) d log n e =
     elim (d.0 == k.0) as (λ c. (d.0 == k.0) ≡ c → not (if c then false else is_down k.0 log) ≡ true → not (is_down k.0 log) ≡ true) [
       | true ↦ λ p q. let s : d.0 ≡ k.0 = eqb-true d.0 k.0 p in let f : is_down k.0 log ≡ false = subst (λ z. is_down z log ≡ false) s n in ap not f
       | false ↦ λ p q. q
     ] refl e
+up_part _ d log n e = refl
 
 pub isnt_down : (g : Given) (d : DmNo) (log : Log) → IsMarked g log (Up d) → is_down d.0 log ≡ false → Rests g (Notes ∷ Mark (Up d) ∷ log)
 isnt_down g d log m e = rests_noted g log (Up d) m tt (ap (λ c. note_if (not c)) e) (λ a b p. m.rests.handed_all a b (up_part b d log e p))
