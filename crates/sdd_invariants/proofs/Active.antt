@@ -4,11 +4,9 @@ use Rattle.sdd_invariants.proofs.Bools.{if_way}
 
 pub handed_way : (P : Option Attempt → Type 0) (c : ℕ) (from : Site) (m : Msg) (o : Option Attempt) → P None
     → ((a : Attempt) (x : Exchange) → o ≡ Some a → P (Some (record a { exchange = x }))) → P o → P (active_handed c from m o)
-handed_way P c (D d) m None n f h = h
 handed_way P c (D d) m (Some a) n f h =
     if_way P (rejects m a.ts c) None (Some (record a { exchange = after_hand a.ts c d.0 m a.exchange })) n (f a (after_hand a.ts c d.0 m a.exchange) refl)
-handed_way P c U m o n f h = h
-handed_way P c (T t) m o n f h = h
+handed_way P c _ m _ n f h = h
 
 pub sent_way : (P : Option Attempt → Type 0) (c : ℕ) (m : Msg) (o : Option Attempt)
     → ((a : Attempt) (x : Exchange) → o ≡ Some a → P (Some (record a { exchange = x }))) → P o → P (active_sent c m o)

@@ -116,12 +116,9 @@ any_sent f b (p ∷ sends) k m e g = elim (same_site b p.0) as (λ c. slice_get 
 
 asked_more : (ts c : ℕ) (later l : site.Log) → was_asked ts c l ≡ true → was_asked ts c (later ++ l) ≡ true
 asked_more ts c [] l e = e
-asked_more ts c (Handed from m ∷ later) l e = asked_more ts c later l e
-asked_more ts c (Ticked n ∷ later) l e = asked_more ts c later l e
-asked_more ts c (Redeclared force t ∷ later) l e = asked_more ts c later l e
-asked_more ts c (Submits n txn ∷ later) l e = asked_more ts c later l e
 asked_more ts c (Did act ∷ later) l e =
     or_right (asks_in ts c (sends_of_act act)) (was_asked ts c (later ++ l)) (asked_more ts c later l e)
+asked_more ts c (_ ∷ later) l e = asked_more ts c later l e
 
 asked_of_put : (ts c : ℕ) (b : Site) (l : site.Log) (k : ℕ) (m : Msg) → slice_get (puts_to b l) k ≡ Some m
     → asks_rows ts c m ≡ true → was_asked ts c l ≡ true

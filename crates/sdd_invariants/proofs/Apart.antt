@@ -49,13 +49,10 @@ times_length (m ∷ ms) =
 
 pub drawn_grow : (later log : site.Log) → (more : List ℕ) × (drawn_so_far (later ++ log) ≡ drawn_so_far log ++ more)
 drawn_grow [] log = ([], sym (append-nil (drawn_so_far log)))
-drawn_grow (Handed from m ∷ later) log = drawn_grow later log
-drawn_grow (Ticked n ∷ later) log = drawn_grow later log
-drawn_grow (Redeclared force t ∷ later) log = drawn_grow later log
-drawn_grow (Submits n txn ∷ later) log = drawn_grow later log
 drawn_grow (Did act ∷ later) log =
     let i = drawn_grow later log in
     (i.0 ++ stamp_of act, ap (λ xs. xs ++ stamp_of act) i.1 ∙ append_assoc (drawn_so_far log) i.0 (stamp_of act))
+drawn_grow (_ ∷ later) log = drawn_grow later log
 
 -- what was handed has pushed the clock
 pub up_le : (a b c : ℕ) → a ≤ b → b ≤ c → a ≤ c
@@ -70,10 +67,7 @@ push _ = 0
 
 push_is : (m : Msg) (k : Ticking) → (k.ticks ≤ (pushed_by m k).ticks) × (push m / 64 ≤ (pushed_by m k).ticks)
 push_is (Ask class time) k = (omega arith, omega arith)
-push_is (Reject ts class by write) k = (omega arith, omega arith)
-push_is (Release ts) k = (omega arith, omega arith)
-push_is (Held time) k = (omega arith, omega arith)
-push_is m k = (omega arith, omega arith)
+push_is _ k = (omega arith, omega arith)
 
 pushed_if : (b : Bool) (xs : List Msg) (x m : Msg) (i n k : ℕ) → n ≤ k → push x / 64 ≤ k
     → ((j : ℕ) → slice_get xs j ≡ Some m → push m / 64 ≤ n) → slice_get (if b then xs ++ x ∷ [] else xs) i ≡ Some m

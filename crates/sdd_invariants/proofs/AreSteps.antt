@@ -91,8 +91,7 @@ start_if : (s : Setting) (log : Log) (c : ℕ) (b : Bool) (o : Option Attempt) (
     → (if b && is_none o then tm.start_of s.catalogue (tm_views.view_of s log) c (head_of (queue s c log)) else None) ≡ Some act
     → IsStep s log act
 start_if s log c true None act at i e = start_of_head s log c (head_of (queue s c log)) act at i refl e
-start_if s log c true (Some a) act at i e = cc
-start_if s log c false o act at i e = cc
+start_if s log c _ _ act at i e = cc
 
 pub t_step : (s : Setting) (t : TmNo) (bases : Bases) (log : Log) (act : Act) → s.site ≡ T t
     → tm.IsDue s.catalogue bases (tm_views.view_of s log) act → IsStep s log act
@@ -126,8 +125,7 @@ u_start_if : (s : Setting) (log : Log) (q : Queued) (z b : Bool) (act : Act) →
     → (if z && b then Some (start_at s 0 log q) else None) ≡ Some act → IsStep s log act
 u_start_if s log q true true act at i p z e =
     let r : act ≡ start_at s 0 log q = cc in by_start 0 q at (idle_of (active s 0 log) (queue s 0 log) q i p z) p r
-u_start_if s log q true false act at i p z e = cc
-u_start_if s log q false b act at i p z e = cc
+u_start_if s log q _ _ act at i p z e = cc
 
 u_start : (s : Setting) (log : Log) (o : Option Queued) (act : Act) → home s.catalogue 0 ≡ s.site
     → IsServed (active s 0 log) (queue s 0 log) → head_of (queue s 0 log) ≡ o

@@ -30,10 +30,9 @@ attempt_based s bases log c (Some a) act i e = send_based s bases log c a a.exch
 
 null_based : (s : Setting) (bases : Bases) (log : site.Log) (q : tm_views.Question) (b : Bool) (o : Option ℕ) (act : Act)
     → (if b then tm.null_at q o else None) ≡ Some act → IsBased s bases log act
-null_based s bases log q true None act e = cc
 null_based s bases log q true (Some t) act e =
     based_is s bases log (Sends q.from (Null (class_no q.class) (time_at t)) (Some q.hand)) act tt e
-null_based s bases log q false o act e = cc
+null_based s bases log q _ _ act e = cc
 
 held_based : (s : Setting) (bases : Bases) (log : site.Log) (b : Bool) (t : Ts) (hand : Option ℕ) (act : Act)
     → (if b then Some (Sends U (Held t) hand) else None) ≡ Some act → IsBased s bases log act
@@ -42,9 +41,8 @@ held_based s bases log false t hand act e = cc
 
 start_based : (s : Setting) (bases : Bases) (log : site.Log) (b : Bool) (v : tm_views.View) (c : ℕ) (o : Option Queued) (act : Act)
     → (if b then tm.start_of s.catalogue v c o else None) ≡ Some act → IsBased s bases log act
-start_based s bases log true v c None act e = cc
 start_based s bases log true v c (Some q) act e = based_is s bases log (start_act s.catalogue v.force.table c v.clock q) act tt e
-start_based s bases log false v c o act e = cc
+start_based s bases log _ v c _ act e = cc
 
 pub t_based : (s : Setting) (bases : Bases) (log : site.Log) (act : Act) → tm.IsDue s.catalogue bases (tm_views.view_of s log) act
     → IsBased s bases log act

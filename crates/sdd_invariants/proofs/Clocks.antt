@@ -8,16 +8,10 @@ use Rattle.sdd_invariants.proofs.Lists.{le_join, le_up, lt_above}
 
 pushed_number : (m : Msg) (k : Ticking) → (pushed_by m k).number ≡ k.number
 pushed_number (Ask class time) k = refl
-pushed_number (Reject ts class by write) k = refl
-pushed_number (Release ts) k = refl
-pushed_number (Held time) k = refl
 pushed_number _ k = refl
 
 pushed_rises : (m : Msg) (k : Ticking) → k.ticks ≤ (pushed_by m k).ticks
 pushed_rises (Ask class time) k = omega arith
-pushed_rises (Reject ts class by write) k = omega arith
-pushed_rises (Release ts) k = omega arith
-pushed_rises (Held time) k = omega arith
 pushed_rises _ k = omega arith
 
 ticked_number : (act : Act) (k : Ticking) → (ticked_by act k).number ≡ k.number
@@ -31,17 +25,13 @@ ticked_rises _ k = omega arith
 pub clock_number : (at : Site) (log : Log) → (clock at log).number ≡ number_of at
 clock_number at [] = refl
 clock_number at (Handed from m ∷ log) = pushed_number m (clock at log) ∙ clock_number at log
-clock_number at (Ticked n ∷ log) = clock_number at log
-clock_number at (Submits n txn ∷ log) = clock_number at log
-clock_number at (Redeclared force t ∷ log) = clock_number at log
 clock_number at (Did act ∷ log) = ticked_number act (clock at log) ∙ clock_number at log
+clock_number at (_ ∷ log) = clock_number at log
 
 pub clock_rises : (at : Site) (e : Entry) (log : Log) → (clock at log).ticks ≤ (clock at (e ∷ log)).ticks
 clock_rises at (Handed from m) log = pushed_rises m (clock at log)
-clock_rises at (Ticked n) log = omega arith
-clock_rises at (Submits n txn) log = omega arith
-clock_rises at (Redeclared force t) log = omega arith
 clock_rises at (Did act) log = ticked_rises act (clock at log)
+clock_rises at _ log = omega arith
 
 pub clock_grows : (at : Site) (later log : Log) → (clock at log).ticks ≤ (clock at (later ++ log)).ticks
 clock_grows at [] log = omega arith
@@ -98,8 +88,6 @@ clock_start s c log q h =
 -- what an exchange sends carries no promise
 ask_promises_not : (ts c : ℕ) (to : Site) (m : Msg) (hand : Option ℕ) → asks_rows ts c m ≡ true
     → promise_of (Sends to m hand) ≡ []
-ask_promises_not ts c to (Null k t) hand e = cc
-ask_promises_not ts c to (Held t) hand e = cc
 ask_promises_not ts c to (Fetch a b t u) hand e = refl
 ask_promises_not ts c to (Reduce a b t u v) hand e = refl
 ask_promises_not ts c to (Ship a b) hand e = refl
@@ -189,11 +177,8 @@ of_act s log act i h =
 
 pub of_site : (s : Setting) (log : Log) → Each (IsFair s) log → AllOf (number_of s.site) (stamps log)
 of_site s [] h = tt
-of_site s (Handed from m ∷ log) h = of_site s log h.1
-of_site s (Ticked n ∷ log) h = of_site s log h.1
-of_site s (Submits n txn ∷ log) h = of_site s log h.1
-of_site s (Redeclared force t ∷ log) h = of_site s log h.1
 of_site s (Did act ∷ log) h = of_act s log act h.0 (of_site s log h.1)
+of_site s (_ ∷ log) h = of_site s log h.1
 
 other_stamp : (j k m n : ℕ) → m ≤ 63 → n ≤ 63 → m ≢ n → suc j * 64 + m ≢ suc k * 64 + n
 other_stamp j k m n a b d e = d (omega arith)

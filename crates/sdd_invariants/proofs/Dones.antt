@@ -138,10 +138,8 @@ once s x [] h k = record { le = omega arith; was = λ l. absurd (omega arith) }
 once s x (Handed from m ∷ log) h k =
     let i = once s x log h.1 k.1 in
     record { le = i.le; was = λ l. (let w = i.was l in (w.0, w.1, subst (λ ms. slice_get ms w.0 ≡ Some w.1) (sym (processed_handed 0 from m log)) w.2, w.3)) }
-once s x (Ticked n ∷ log) h k = let i = once s x log h.1 k.1 in record { le = i.le; was = i.was }
-once s x (Redeclared force t ∷ log) h k = let i = once s x log h.1 k.1 in record { le = i.le; was = i.was }
-once s x (Submits n txn ∷ log) h k = let i = once s x log h.1 k.1 in record { le = i.le; was = i.was }
 once s x (Did act ∷ log) h k = once_did s x act log h.0 k.0 (once s x log h.1 k.1)
+once s x (_ ∷ log) h k = let i = once s x log h.1 k.1 in record { le = i.le; was = i.was }
 
 -- sums over the modules
 abbrev sum_of : (ℕ → ℕ) → List ℕ → ℕ
@@ -216,10 +214,7 @@ dones_within n x (Handed from m ∷ l) h =
           omega arith)
       | false ↦ λ p. (let j = sum_up (from_d x l) (from_d x (Handed from m ∷ l)) (numbers_to n) up in omega arith)
     ] refl
-dones_within n x (Ticked k ∷ l) h = dones_within n x l h.1
-dones_within n x (Submits k txn ∷ l) h = dones_within n x l h.1
-dones_within n x (Redeclared force u ∷ l) h = dones_within n x l h.1
-dones_within n x (Did act ∷ l) h = dones_within n x l h.1
+dones_within n x (_ ∷ l) h = dones_within n x l h.1
 
 write_range : (g : Given) (d : DmNo) (bases : Bases) (a : Attempt) (k : ℕ) (m : Msg)
     → slice_get (to_site (D d) (sends_of_act (commit_act g.catalogue bases 0 a))) k ≡ Some m

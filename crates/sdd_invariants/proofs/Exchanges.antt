@@ -78,11 +78,10 @@ reads_no_more ts c x (q ∷ rest) done =
     ]
 
 phase_goes : (ts c : ℕ) (x : Exchange) (p : Phase) → GoesOn ts c x (phase_ends ts c x p)
-phase_goes ts c x Reading = going_on ts c x x.left x.done
 phase_goes ts c x (Fetching m) = reducing ts c m x
-phase_goes ts c x (Reducing m) = going_on ts c x x.left x.done
 phase_goes ts c x Shipping = to_later ts c x (record x { phase = Over }) refl refl (λ h. h)
 phase_goes ts c x Over = same_phase ts c x x refl refl refl
+phase_goes ts c x _ = going_on ts c x x.left x.done
 
 lacking_goes : (ts c : ℕ) (x : Exchange) (ds : List ℕ) → GoesOn ts c x (lacking ts c x ds)
 lacking_goes ts c x [] =
@@ -135,8 +134,7 @@ kept_hand Q c (D d) m None k h = tt
 kept_hand Q c (D d) m (Some a) k h =
     if_way (Has Q) (rejects m a.ts c) None (Some (record a { exchange = after_hand a.ts c d.0 m a.exchange })) tt
     (k.goes a (after_hand a.ts c d.0 m a.exchange) (hand_goes a.ts c d.0 m a.exchange) h)
-kept_hand Q c U m o k h = h
-kept_hand Q c (T t) m o k h = h
+kept_hand Q c _ m o k h = h
 
 kept_sent : (Q : Attempt → Type 0) (c : ℕ) (m : Msg) (o : Option Attempt) → IsKept c Q → Has Q o → Has Q (active_sent c m o)
 kept_sent Q c m None k h = tt
@@ -159,11 +157,9 @@ kept_record Q c k _ sends qs o i h = h
 pub kept : (Q : Attempt → Type 0) (s : Setting) (c : ℕ) (log : Log) → IsKept c Q → Has Q (active s c log)
 kept Q s c [] k = tt
 kept Q s c (Handed from m ∷ log) k = kept_hand Q c from m (active s c log) k (kept Q s c log k)
-kept Q s c (Ticked n ∷ log) k = kept Q s c log k
-kept Q s c (Submits n txn ∷ log) k = kept Q s c log k
-kept Q s c (Redeclared force t ∷ log) k = kept Q s c log k
 kept Q s c (Did (Records j r sends) ∷ log) k = kept_record Q c j r sends (queue s c log) (active s c log) k (kept Q s c log k)
 kept Q s c (Did (Sends to m hand) ∷ log) k = kept_sent Q c m (active s c log) k (kept Q s c log k)
+kept Q s c (_ ∷ log) k = kept Q s c log k
 
 abbrev QuietOf : Attempt → Type 0
 QuietOf a = IsQuiet a.exchange

@@ -30,18 +30,14 @@ note_of_mark g log true = tt
 note_of_mark g log false = tt
 
 of_mark : (g : Given) (log : Log) → AreOfMark g log (mark_due g log)
-of_mark g [] = tt
 of_mark g (Mark (Submit k) ∷ log) = refl
 of_mark g (Mark (Deliver a b k) ∷ log) = note_of_mark g (Mark (Deliver a b k) ∷ log) _
 of_mark g (Mark (Lose a b k) ∷ log) = note_of_mark g (Mark (Lose a b k) ∷ log) _
 of_mark g (Mark (Repeat a b k) ∷ log) = note_of_mark g (Mark (Repeat a b k) ∷ log) _
 of_mark g (Mark (Resend a b) ∷ log) = note_of_mark g (Mark (Resend a b) ∷ log) _
-of_mark g (Mark (Tick t k) ∷ log) = tt
-of_mark g (Mark Settle ∷ log) = tt
-of_mark g (Mark Redeclare ∷ log) = tt
 of_mark g (Mark (Down d) ∷ log) = note_of_mark g (Mark (Down d) ∷ log) _
 of_mark g (Mark (Up d) ∷ log) = note_of_mark g (Mark (Up d) ∷ log) _
-of_mark g (_ ∷ log) = tt
+of_mark g _ = tt
 
 mark_entry : (g : Given) (log : Log) (e : Entry) → AreOfMark g log (Some e) → IsMarkEntry log e
 mark_entry g log (Submitted to n) h = h
@@ -58,21 +54,7 @@ allowed_mark g log e (by_link a b n m p q r f) = tt
 
 pub tail_marked : (n : ℕ) (e : Entry) (log : Log) → was_marked n log ≡ true → was_marked n (e ∷ log) ≡ true
 tail_marked n (Mark (Submit k)) log h = or_right (k.0 == n) (was_marked n log) h
-tail_marked n (Mark (Deliver a b k)) log h = h
-tail_marked n (Mark (Lose a b k)) log h = h
-tail_marked n (Mark (Repeat a b k)) log h = h
-tail_marked n (Mark (Resend a b)) log h = h
-tail_marked n (Mark (Tick t k)) log h = h
-tail_marked n (Mark Settle) log h = h
-tail_marked n (Mark Redeclare) log h = h
-tail_marked n (Mark (Down d)) log h = h
-tail_marked n (Mark (Up d)) log h = h
-tail_marked n (Round es) log h = h
-tail_marked n (Redeclares t) log h = h
-tail_marked n (Hand a b k m) log h = h
-tail_marked n (Submitted a k) log h = h
-tail_marked n Notes log h = h
-tail_marked n (Does a act) log h = h
+tail_marked n _ log h = h
 
 marked_after : (n k : ℕ) (log : Log) → IsAfterMark k log → (k == n) ≡ true → was_marked n log ≡ true
 marked_after n k (Mark (Submit j) ∷ log) h e = let p : (j.0 == n) ≡ true = ap (λ x. x == n) h ∙ e in rw p refl
@@ -87,22 +69,17 @@ either_marked n k b log a f h =
 seen_of : (g : Given) (at : Site) (n : ℕ) (e : Entry) (log : Log) (o : Option site.Entry) → made g at log e ≡ o
     → IsAllowed g log e → (contains (submits (local_of g at log)) n ≡ true → was_marked n log ≡ true)
     → contains (submits (with_made o (local_of g at log))) n ≡ true → was_marked n log ≡ true
-seen_of g at n e log None m a f h = f h
 seen_of g at n e log (Some (Submits k t)) m a f h =
     let q = maker g at log e (Submits k t) m in
     either_marked n k (contains (submits (local_of g at log)) n) log (subst (IsMarkEntry log) q.0 (allowed_mark g log e a)) f h
-seen_of g at n e log (Some (Handed from x)) m a f h = f h
-seen_of g at n e log (Some (Ticked k)) m a f h = f h
-seen_of g at n e log (Some (Redeclared force t)) m a f h = f h
-seen_of g at n e log (Some (Did act)) m a f h = f h
+seen_of g at n e log _ m a f h = f h
 
 seen_marked : (g : Given) (at : Site) (n : ℕ) (log : Log) → IsPermitted g log → contains (submits (local_of g at log)) n ≡ true
     → was_marked n log ≡ true
 seen_marked g U n [] h p = p
-seen_marked g (T t) n [] h p = p
-seen_marked g (D d) n [] h p = p
 seen_marked g at n (e ∷ log) h p =
     tail_marked n e log (seen_of g at n e log (made g at log e) refl h.0 (seen_marked g at n log h.1) (subst (λ l. contains (submits l) n ≡ true) (local_step g at e log) p))
+seen_marked g _ n [] h p = p
 
 both_ways : (b : Bool) → b ≡ true → not b ≡ true → ⊥
 both_ways true e f = cc

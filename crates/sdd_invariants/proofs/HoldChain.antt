@@ -77,7 +77,6 @@ tally_push f false xs m = omega arith
 hand_holds : (n : ℕ) (m : Msg) (h : HoldCounts)
     → ((holds_handed n m h).holds ≡ h.holds + one_if (is_a_hold m)) × ((holds_handed n m h).releases ≡ h.releases + one_if (is_a_release m))
 hand_holds n Hold h = (omega arith, omega arith)
-hand_holds n (Release ts) h = (omega arith, omega arith)
 hand_holds n _ h = (omega arith, omega arith)
 
 seen_one : (a b : Bool) → (a ≡ true → b ≡ true) → (if b then one_if a else 0) ≡ one_if a
@@ -104,10 +103,8 @@ handed_holds (Handed from m ∷ l) h =
     let c = seen_one (is_a_hold m) (same_site U from) (λ p. is_u from (h.0 (or_left (is_a_hold m) (is_a_release m) p))) in
     let d = seen_one (is_a_release m) (same_site U from) (λ p. is_u from (h.0 (or_right (is_a_hold m) (is_a_release m) p))) in
     (omega arith, omega arith)
-handed_holds (Ticked n ∷ l) h = handed_holds l h.1
-handed_holds (Submits n txn ∷ l) h = handed_holds l h.1
-handed_holds (Redeclared force u ∷ l) h = handed_holds l h.1
 handed_holds (Did act ∷ l) h = let i = handed_holds l h.1 in let k = act_holds act (holds l) in (k.0 ∙ i.0, k.1 ∙ i.1)
+handed_holds (_ ∷ l) h = handed_holds l h.1
 
 -- the HELDs that U was handed from one T
 count_if : (b : Bool) (k : TmCounts) → (if b then record k { helds = suc k.helds } else k).helds ≡ k.helds + one_if b
@@ -139,23 +136,8 @@ hand_helds : (t : ℕ) (from : Site) (m : Msg) (k : TmCounts) → k.tm ≡ t
     → (counts_handed from m k).helds ≡ k.helds + (if same_site (T (tm_no t)) from then one_if (is_a_held m) else 0)
 hand_helds t (T n) (Held x) k e =
     count_if (n.0 == k.tm) k ∙ ap (λ b. k.helds + one_if b) (ap (λ y. n.0 == y) e ∙ same_turned n.0 t) ∙ ap (λ y. k.helds + y) (if_one (t == n.0))
-hand_helds t U m k e = omega arith
-hand_helds t (D d) m k e = omega arith
-hand_helds t (T n) (Read a b c d f g) k e = none_more (t == n.0) k.helds
-hand_helds t (T n) (Ready a b c) k e = none_more (t == n.0) k.helds
-hand_helds t (T n) (Reject a b c d) k e = none_more (t == n.0) k.helds
-hand_helds t (T n) (Fetch a b c d) k e = none_more (t == n.0) k.helds
-hand_helds t (T n) (Values a b c d) k e = none_more (t == n.0) k.helds
-hand_helds t (T n) (Reduce a b c d f) k e = none_more (t == n.0) k.helds
-hand_helds t (T n) (Reduced a b c d) k e = none_more (t == n.0) k.helds
-hand_helds t (T n) (Ship a b) k e = none_more (t == n.0) k.helds
-hand_helds t (T n) (Rows a b c) k e = none_more (t == n.0) k.helds
-hand_helds t (T n) (Write a b c d) k e = none_more (t == n.0) k.helds
-hand_helds t (T n) (Null a b) k e = none_more (t == n.0) k.helds
-hand_helds t (T n) (Ask a b) k e = none_more (t == n.0) k.helds
-hand_helds t (T n) Hold k e = none_more (t == n.0) k.helds
-hand_helds t (T n) (Done a) k e = none_more (t == n.0) k.helds
-hand_helds t (T n) (Release a) k e = none_more (t == n.0) k.helds
+hand_helds t (T n) _ k e = none_more (t == n.0) k.helds
+hand_helds t _ m k e = omega arith
 
 pub handed_helds : (t : ℕ) (l : site.Log) → (counts t l).helds ≡ tally is_a_held (hands_from (T (tm_no t)) l)
 handed_helds t [] = refl
@@ -163,10 +145,8 @@ handed_helds t (Handed from m ∷ l) =
     let i = handed_helds t l in
     let k = hand_helds t from m (counts t l) (counts_tm t l) in
     let a = tally_push is_a_held (same_site (T (tm_no t)) from) (hands_from (T (tm_no t)) l) m in omega arith
-handed_helds t (Ticked n ∷ l) = handed_helds t l
-handed_helds t (Submits n txn ∷ l) = handed_helds t l
-handed_helds t (Redeclared force u ∷ l) = handed_helds t l
 handed_helds t (Did act ∷ l) = more_of act (counts t l) ∙ handed_helds t l
+handed_helds t (_ ∷ l) = handed_helds t l
 
 pub hold_chain : (g : Given) (k t : ℕ) (log : Log) → slice_get (numbers_to g.catalogue.tms) k ≡ Some t → IsPermitted g log
     → IsHoldChain g t log

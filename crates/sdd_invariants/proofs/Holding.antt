@@ -63,9 +63,8 @@ attempt_rule s log bases c (Some a) act i e = send_rule s log bases c a a.exchan
 
 null_rule : (s : Setting) (log : Log) (q : Question) (b : Bool) (o : Option ℕ) (act : Act)
     → (if b then null_at q o else None) ≡ Some act → HoldRule s log act
-null_rule s log q true None act e = cc
 null_rule s log q true (Some t) act e = rule_is s log (Sends q.from (Null (class_no q.class) (time_at t)) (Some q.hand)) act tt e
-null_rule s log q false o act e = cc
+null_rule s log q _ _ act e = cc
 
 pub none_of : (o : Option Attempt) → is_none o ≡ true → o ≡ None
 none_of None e = refl
@@ -82,17 +81,13 @@ held_rule : (s : Setting) (log : Log) (a b c : Bool) (hand : Option ℕ) (act : 
     → (if a && (b && c) then Some (Sends U (Held (time_at (bound s log))) hand) else None) ≡ Some act → HoldRule s log act
 held_rule s log true true true hand act f g e =
     rule_is s log (Sends U (Held (time_at (bound s log))) hand) act (g refl, f refl, refl) e
-held_rule s log true true false hand act f g e = cc
-held_rule s log true false c hand act f g e = cc
-held_rule s log false b c hand act f g e = cc
+held_rule s log _ _ _ hand act f g e = cc
 
 start_rule : (s : Setting) (log : Log) (a b : Bool) (c : ℕ) (o : Option Queued) (act : Act)
     → (a ≡ false → (holds log).holds ≤ (holds log).releases)
     → (if not a && b then start_of s.catalogue (view_of s log) c o else None) ≡ Some act → HoldRule s log act
-start_rule s log false true c None act f e = cc
 start_rule s log false true c (Some q) act f e = rule_is s log (start_at s c log q) act (f refl, quiet_start s c log q) e
-start_rule s log false false c o act f e = cc
-start_rule s log true b c o act f e = cc
+start_rule s log _ _ c _ act f e = cc
 
 pub hold_rule : (s : Setting) (bases : Bases) (log : Log) (act : Act) → IsDue s.catalogue bases (view_of s log) act
     → HoldRule s log act
@@ -116,7 +111,6 @@ hand_still s from m log r l e h =
 pub hold_same : (n : ℕ) (m : Msg) (h : HoldCounts)
     → (h.releases ≤ (holds_handed n m h).releases) × (h.holds ≤ (holds_handed n m h).holds) × ((holds_handed n m h).helds ≡ h.helds)
 hold_same n Hold h = (omega arith, omega arith, refl)
-hold_same n (Release ts) h = (omega arith, omega arith, refl)
 hold_same n _ h = (omega arith, omega arith, refl)
 
 send_still : (s : Setting) (to : Site) (m : Msg) (hand : Option ℕ) (log : Log) → SendRule s log to m → IsStill s log
@@ -136,10 +130,8 @@ pub still : (s : Setting) (log : Log) → Each (IsFairT s) log → IsStill s log
 still s [] h = record { owed = omega arith; idle = λ p. absurd (omega arith) }
 still s (Handed from m ∷ log) h =
     let q = hold_same (suc (hands log)) m (holds log) in hand_still s from m log q.0 q.1 q.2 (still s log h.1)
-still s (Ticked n ∷ log) h = let i = still s log h.1 in record { owed = i.owed; idle = i.idle }
-still s (Redeclared force t ∷ log) h = let i = still s log h.1 in record { owed = i.owed; idle = i.idle }
-still s (Submits n txn ∷ log) h = let i = still s log h.1 in record { owed = i.owed; idle = i.idle }
 still s (Did act ∷ log) h = act_still s act log (hold_rule s h.0.0 log act h.0.1) (still s log h.1)
+still s (_ ∷ log) h = let i = still s log h.1 in record { owed = i.owed; idle = i.idle }
 
 -- a T puts no HOLD and no RELEASE, and its HELDs go to U
 send_none : (s : Setting) (log : Log) (to b : Site) (m : Msg) (hand : Option ℕ) → SendRule s log to m
@@ -155,12 +147,9 @@ act_none s log b (Records k _ sends) h = h.0 b
 
 pub t_none : (s : Setting) (b : Site) (log : Log) → Each (IsFairT s) log → NoneHold (puts_to b log)
 t_none s b [] h = tt
-t_none s b (Handed from m ∷ log) h = t_none s b log h.1
-t_none s b (Ticked n ∷ log) h = t_none s b log h.1
-t_none s b (Redeclared force t ∷ log) h = t_none s b log h.1
-t_none s b (Submits n txn ∷ log) h = t_none s b log h.1
 t_none s b (Did act ∷ log) h =
     none_hold_join (puts_to b log) (to_site b (sends_of_act act)) (t_none s b log h.1) (act_none s log b act (hold_rule s h.0.0 log act h.0.1))
+t_none s b (_ ∷ log) h = t_none s b log h.1
 
 pub hand_helds : (n : ℕ) (m : Msg) (h : HoldCounts) → (holds_handed n m h).helds ≡ h.helds
 hand_helds n m h = (hold_same n m h).2
@@ -199,7 +188,5 @@ act_helds s log (Records k r sends) h e = quiet_records s log k r sends (rule_qu
 pub t_helds : (s : Setting) (log : Log) → Each (IsFairT s) log → (holds log).helds ≡ tally is_a_held (puts_to U log)
 t_helds s [] h = refl
 t_helds s (Handed from m ∷ log) h = hand_helds (suc (hands log)) m (holds log) ∙ t_helds s log h.1
-t_helds s (Ticked n ∷ log) h = t_helds s log h.1
-t_helds s (Redeclared force t ∷ log) h = t_helds s log h.1
-t_helds s (Submits n txn ∷ log) h = t_helds s log h.1
 t_helds s (Did act ∷ log) h = act_helds s log act (hold_rule s h.0.0 log act h.0.1) (t_helds s log h.1)
+t_helds s (_ ∷ log) h = t_helds s log h.1

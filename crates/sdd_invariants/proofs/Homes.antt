@@ -26,8 +26,6 @@ homed_piped cat at k t b (p ∷ ps) e h = homed_if cat at (same_site b p.0) p.1 
 
 asks_homed : (cat : Catalogue) (at : Site) (ts k : ℕ) (m : Msg) → asks_rows ts k m ≡ true → IsHomed cat at m
 asks_homed cat at ts k (Fetch a b t u) e c x f = cc
-asks_homed cat at ts k (Reduce a b t u v) e c x f = cc
-asks_homed cat at ts k (Ship a b) e c x f = cc
 asks_homed cat at ts k _ e c x f = cc
 
 send_homed : (s : Setting) (log : Log) (m : Msg) → IsSend s log m → IsHomed s.catalogue s.site m
@@ -48,9 +46,6 @@ act_homed s b log act i = step_way s log act (λ x. AllHomed s.catalogue s.site 
 
 pub homed : (s : Setting) (b : Site) (log : Log) → Each (IsFair s) log → AllHomed s.catalogue s.site (puts_to b log)
 homed s b [] h = tt
-homed s b (Handed from m ∷ log) h = homed s b log h.1
-homed s b (Ticked n ∷ log) h = homed s b log h.1
-homed s b (Redeclared force t ∷ log) h = homed s b log h.1
-homed s b (Submits n txn ∷ log) h = homed s b log h.1
 homed s b (Did act ∷ log) h =
     homed_join s.catalogue s.site (puts_to b log) (to_site b (sends_of_act act)) (homed s b log h.1) (act_homed s b log act h.0)
+homed s b (_ ∷ log) h = homed s b log h.1

@@ -25,20 +25,14 @@ no_note false = tt
 
 no_due_by : (g : Given) (e : Event) (log : Log) → NoHand (due_by g e log)
 no_due_by g (Submit n) log = refl
-no_due_by g (Deliver a b k) log = no_note _
-no_due_by g (Lose a b k) log = no_note _
-no_due_by g (Repeat a b k) log = no_note _
-no_due_by g (Resend a b) log = no_note _
 no_due_by g (Tick t n) log = tt
 no_due_by g Settle log = tt
 no_due_by g Redeclare log = tt
-no_due_by g (Down d) log = no_note _
-no_due_by g (Up d) log = no_note _
+no_due_by g _ log = no_note _
 
 no_mark_due : (g : Given) (log : Log) → NoHand (mark_due g log)
-no_mark_due g [] = tt
 no_mark_due g (Mark e ∷ log) = no_due_by g e log
-no_mark_due g (_ ∷ log) = tt
+no_mark_due g _ = tt
 
 is_not_hand : (o : Option Entry) (e : Entry) → NoHand o → o ≡ Some e → is_hand e ≡ false
 is_not_hand None e h p = cc
@@ -77,16 +71,11 @@ at_link P a b from to e x =
 
 delivered_mark : (e : Event) (a b : Site) (log : Log)
     → delivered (link_of a b log).there ≤ delivered (link_of a b (Mark e ∷ log)).there
-delivered_mark (Submit n) a b log = omega arith
 delivered_mark (Deliver x y k) a b log = rises a b (Delivers x y k) (calls_of log)
 delivered_mark (Lose x y k) a b log = rises a b (Loses x y k) (calls_of log)
 delivered_mark (Repeat x y k) a b log = rises a b (Repeats x y k) (calls_of log)
 delivered_mark (Resend x y) a b log = rises a b (Resends x y) (calls_of log)
-delivered_mark (Tick t n) a b log = omega arith
-delivered_mark Settle a b log = omega arith
-delivered_mark Redeclare a b log = omega arith
-delivered_mark (Down d) a b log = omega arith
-delivered_mark (Up d) a b log = omega arith
+delivered_mark _ a b log = omega arith
 
 delivered_puts : (a b at : Site) (sends : List (Site × Msg)) (calls : List (Call Msg))
     → delivered (link a b calls).there ≤ delivered (link a b (puts at sends calls)).there
@@ -103,10 +92,7 @@ handed_le g (Hand from to n m ∷ log) a b h =
     within_if (same_site a from && same_site b to) n (handed a b log) (delivered (link_of a b log).there)
     (λ e. at_link (λ x y. n ≤ delivered (link_of x y log).there) a b from to e (allowed_hand g log (Hand from to n m) h.0).delivered_is)
     (handed_le g log a b h.1)
-handed_le g (Round es ∷ log) a b h = handed_le g log a b h.1
-handed_le g (Redeclares t ∷ log) a b h = handed_le g log a b h.1
-handed_le g (Submitted s n ∷ log) a b h = handed_le g log a b h.1
-handed_le g (Notes ∷ log) a b h = handed_le g log a b h.1
+handed_le g (_ ∷ log) a b h = handed_le g log a b h.1
 
 pub delivered_within : (a b : Site) (log : Log) → delivered (link_of a b log).there ≤ length (sent a b log)
 delivered_within a b log =
@@ -125,12 +111,8 @@ if_more true xs m = refl
 if_more false xs m = sym (append-nil _)
 
 pub hands_step : (a : Site) (o : Option site.Entry) (l : site.Log) → hands_from a (with_made o l) ≡ hands_from a l ++ handed_by a o
-hands_step a None l = sym (append-nil _)
 hands_step a (Some (Handed from m)) l = if_more (same_site a from) (hands_from a l) m
-hands_step a (Some (Did act)) l = sym (append-nil _)
-hands_step a (Some (Ticked n)) l = sym (append-nil _)
-hands_step a (Some (Submits n t)) l = sym (append-nil _)
-hands_step a (Some (Redeclared force t)) l = sym (append-nil _)
+hands_step a _ l = sym (append-nil _)
 
 pub hands_grow : (g : Given) (a b : Site) (e : Entry) (log : Log)
     → hands_from a (local_of g b (e ∷ log)) ≡ hands_from a (local_of g b log) ++ handed_by a (made g b log e)
@@ -146,8 +128,7 @@ none_given a n (Some t) = refl
 
 none_forced : (a at : Site) (force : Force) (t : ℕ) → handed_by a (forced at force t) ≡ []
 none_forced a U force t = refl
-none_forced a (T n) force t = refl
-none_forced a (D d) force t = refl
+none_forced a _ force t = refl
 
 abbrev AreFirst : Given → Site → Site → Log → Type 0
 AreFirst g a b log = hands_from a (local_of g b log) ≡ take (handed a b log) (sent a b log)
@@ -178,8 +159,6 @@ there log a b n m h =
 
 hands_are : (g : Given) (log : Log) (a b : Site) → IsPermitted g log → AreFirst g a b log
 hands_are g [] a U h = refl
-hands_are g [] a (T t) h = refl
-hands_are g [] a (D d) h = refl
 hands_are g (Mark (Tick t n) ∷ log) a b h =
     none_more g a b (Mark (Tick t n)) log refl (none_if a (same_site b (T t)) (Some (Ticked n)) refl) h.1 (hands_are g log a b h.1)
 hands_are g (Mark (Submit n) ∷ log) a b h = none_more g a b (Mark (Submit n)) log refl refl h.1 (hands_are g log a b h.1)
@@ -204,6 +183,7 @@ hands_are g (Hand from to n m ∷ log) a b h =
     hands_grow g a b (Hand from to n m) log
     ∙ one_seen a from (same_site a from) (same_site b to) (handed a b log) n (sent a b log) (hands_from a (local_of g b log)) m refl
     (λ e. there log a b n m (at_link (λ x y. IsNextHand log x y n m) a b from to e (allowed_hand g log (Hand from to n m) h.0))) (hands_are g log a b h.1)
+hands_are g [] a _ h = refl
 
 -- the messages handed from a at b are the first of those that a put on its link to b
 pub in_order : (g : Given) (log : Log) (a b : Site) → IsPermitted g log

@@ -79,10 +79,7 @@ handed_from cat c [] h = refl
 handed_from cat c (Handed from m ∷ l) h =
     hand_in c (goes_through c m) (same_site (home cat c) from) (all_handed c l) (hands_from (home cat c) l) m
     (λ e. let r = class_and_time c (piped m) e in let q : home cat c ≡ from = h.0 c r.0 r.1 in subst (λ x. same_site (home cat c) x ≡ true) q (site_self (home cat c))) (handed_from cat c l h.1) refl
-handed_from cat c (Ticked n ∷ l) h = handed_from cat c l h.1
-handed_from cat c (Submits n txn ∷ l) h = handed_from cat c l h.1
-handed_from cat c (Redeclared force t ∷ l) h = handed_from cat c l h.1
-handed_from cat c (Did act ∷ l) h = handed_from cat c l h.1
+handed_from cat c (_ ∷ l) h = handed_from cat c l h.1
 
 pub pipe_is : (g : Given) (c : ℕ) (d : DmNo) (log : Log) → IsPermitted g log
     → all_of (pipe_at g c d log) ≡ class_in c (take (handed (home g.catalogue c) (D d) log) (puts_to (D d) (local_of g (home g.catalogue c) log)))

@@ -18,8 +18,7 @@ in_right (x ∷ xs) ys k m e = let i = in_right xs ys k m e in (suc i.0, i.1)
 pub in_if : {A : Type 0} (c : Bool) (x : A) (k : ℕ) (m : A) → slice_get (if c then x ∷ [] else []) k ≡ Some m
     → (c ≡ true) × (x ≡ m)
 in_if true x zero m e = (refl, cc)
-in_if true x (suc k) m e = cc
-in_if false x k m e = cc
+in_if _ x _ m e = cc
 
 pub in_one : {A : Type 0} (ms : List A) (x : A) (k : ℕ) (m : A) → ms ≡ x ∷ [] → slice_get ms k ≡ Some m → x ≡ m
 in_one ms x zero m e f = let g : slice_get (x ∷ []) zero ≡ Some m = subst (λ l. slice_get l zero ≡ Some m) e f in cc

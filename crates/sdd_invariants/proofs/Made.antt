@@ -12,8 +12,7 @@ submit_step n (Some t) l = refl
 
 force_step : (at : Site) (force : Force) (t : ℕ) (l : site.Log) → with_force at force t l ≡ with_made (forced at force t) l
 force_step U force t l = refl
-force_step (T n) force t l = refl
-force_step (D d) force t l = refl
+force_step _ force t l = refl
 
 if_step : (b : Bool) (o : Option site.Entry) (k l : site.Log) → k ≡ with_made o l
     → (if b then k else l) ≡ with_made (if b then o else None) l
@@ -24,15 +23,6 @@ pub local_step : (g : Given) (at : Site) (e : Entry) (log : Log)
     → local_of g at (e ∷ log) ≡ with_made (made g at log e) (local_of g at log)
 local_step g at (Mark (Tick t n)) log =
     if_step (same_site at (T t)) (Some (Ticked n)) (Ticked n ∷ local_of g at log) (local_of g at log) refl
-local_step g at (Mark (Submit n)) log = refl
-local_step g at (Mark (Deliver a b k)) log = refl
-local_step g at (Mark (Lose a b k)) log = refl
-local_step g at (Mark (Repeat a b k)) log = refl
-local_step g at (Mark (Resend a b)) log = refl
-local_step g at (Mark Settle) log = refl
-local_step g at (Mark Redeclare) log = refl
-local_step g at (Mark (Down d)) log = refl
-local_step g at (Mark (Up d)) log = refl
 local_step g at (Redeclares t) log = force_step at (force_at g (suc (redeclares log))) t (local_of g at log)
 local_step g at (Hand from to n m) log =
     if_step (same_site at to) (Some (Handed from m)) (Handed from m ∷ local_of g at log) (local_of g at log) refl
@@ -41,8 +31,7 @@ local_step g at (Submitted to n) log =
     (submit_step n (txn_at g n) (local_of g at log))
 local_step g at (Does by act) log =
     if_step (same_site at by) (Some (Did act)) (Did act ∷ local_of g at log) (local_of g at log) refl
-local_step g at (Round es) log = refl
-local_step g at Notes log = refl
+local_step g at _ log = refl
 
 -- what an entry that makes an act, a hand or a submission is
 
@@ -69,22 +58,12 @@ maker_given g at to n (Some t) x f p e =
 
 maker_forced : (g : Given) (at s : Site) (force : Force) (t u : ℕ) (x : site.Entry) → forced at force t ≡ Some x
     → IsMakerOf s x g (Redeclares u)
-maker_forced g U s force t u x e = cc
 maker_forced g (T n) s force t u x e = let q : Redeclared force t ≡ x = cc in subst (λ y. IsMakerOf s y g (Redeclares u)) q tt
-maker_forced g (D d) s force t u x e = cc
+maker_forced g _ s force t u x e = cc
 
 pub maker : (g : Given) (at : Site) (log : Log) (e : Entry) (x : site.Entry) → made g at log e ≡ Some x → IsMakerOf at x g e
 maker g at log (Mark (Tick t n)) x h =
     let r = some_if (same_site at (T t)) (Ticked n) x h in subst (λ y. IsMakerOf at y g (Mark (Tick t n))) r.1 tt
-maker g at log (Mark (Submit n)) x h = cc
-maker g at log (Mark (Deliver a b k)) x h = cc
-maker g at log (Mark (Lose a b k)) x h = cc
-maker g at log (Mark (Repeat a b k)) x h = cc
-maker g at log (Mark (Resend a b)) x h = cc
-maker g at log (Mark Settle) x h = cc
-maker g at log (Mark Redeclare) x h = cc
-maker g at log (Mark (Down d)) x h = cc
-maker g at log (Mark (Up d)) x h = cc
 maker g at log (Redeclares t) x h = maker_forced g at at (force_at g (suc (redeclares log))) t t x h
 maker g at log (Hand from to n m) x h =
     let r = some_if (same_site at to) (Handed from m) x h in
@@ -95,8 +74,7 @@ maker g at log (Submitted to n) x h =
 maker g at log (Does by act) x h =
     let r = some_if (same_site at by) (Did act) x h in
     subst (λ y. IsMakerOf at y g (Does by act)) r.1 (ap (λ s. Does s act) (sym (site_is at by r.0)))
-maker g at log (Round es) x h = cc
-maker g at log Notes x h = cc
+maker g at log _ x h = cc
 
 -- the place of an entry; the list of classes with which a transaction module begins has none
 
@@ -135,11 +113,10 @@ place_in g at e log (Some y) (z ∷ later) x before m i q =
 
 place : (g : Given) (at : Site) (log : Log) (later : site.Log) (x : site.Entry) (before : site.Log) → is_forced x ≡ false
     → local_of g at log ≡ later ++ x ∷ before → IsAt g at log x before
-place g U [] later x before f q = no_place later before x q
 place g (T t) [] later x before f q = at_beginning (force_at g 0) later before x f q
-place g (D d) [] later x before f q = no_place later before x q
 place g at (e ∷ log) later x before f q =
     place_in g at e log (made g at log e) later x before refl (λ k p. place g at log k x before f p) (sym (local_step g at e log) ∙ q)
+place g _ [] later x before f q = no_place later before x q
 
 pub place_of_act : (g : Given) (at : Site) (log : Log) (later : site.Log) (act : Act) (before : site.Log)
     → local_of g at log ≡ later ++ Did act ∷ before → IsActAt g at log act before

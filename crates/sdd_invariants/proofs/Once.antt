@@ -16,17 +16,13 @@ use Rattle.sdd_log.specs.site_module.SiteLog as site
 more_up : (c n : ℕ) (act : Act) (x : ℕ) → x ≤ start_more c n act x
 more_up c n (Records k (Start txn attempt cl ts p2 us) sends) x =
     if_way (λ y. x ≤ y) ((k == c) && (n == txn.0)) (suc x) x (omega arith) (omega arith)
-more_up c n (Records k _ sends) x = omega arith
-more_up c n (Sends to m hand) x = omega arith
+more_up c n _ x = omega arith
 
 starts_grow : (c n : ℕ) (later log : site.Log) → starts_of c n log ≤ starts_of c n (later ++ log)
 starts_grow c n [] log = omega arith
-starts_grow c n (Handed from m ∷ later) log = starts_grow c n later log
-starts_grow c n (Ticked k ∷ later) log = starts_grow c n later log
-starts_grow c n (Redeclared force t ∷ later) log = starts_grow c n later log
-starts_grow c n (Submits k txn ∷ later) log = starts_grow c n later log
 starts_grow c n (Did act ∷ later) log =
     let i = starts_grow c n later log in let j = more_up c n act (starts_of c n (later ++ log)) in omega arith
+starts_grow c n (_ ∷ later) log = starts_grow c n later log
 
 -- so no two Starts of a class have one transaction and one attempt
 later_try : (s : Setting) (c : ℕ) (z b1 b2 : site.Log) (q1 q2 : Queued) → Each (IsFair s) b1 → Each IsNew b1 → Each (IsFair s) b2
@@ -70,11 +66,9 @@ processed_grows c (Handed from m ∷ later) log =
     let j : length (pipe c (Handed from m ∷ (later ++ log))).processed ≡ length (pipe c (later ++ log)).processed = ap length
     (processed_handed c from m (later ++ log)) in
     omega arith
-processed_grows c (Ticked n ∷ later) log = processed_grows c later log
-processed_grows c (Submits n txn ∷ later) log = processed_grows c later log
-processed_grows c (Redeclared force t ∷ later) log = processed_grows c later log
 processed_grows c (Did act ∷ later) log =
     let i = processed_grows c later log in let j = processed_act c act (pipe c (later ++ log)) in omega arith
+processed_grows c (_ ∷ later) log = processed_grows c later log
 
 read_own : (c : ℕ) (ts : Ts) (k : ClassNo) (txn : TxnNo) (n : ℕ) (ds : List Cond) (us : List Use) (t : ℕ) → k.0 ≡ c → ts.0 ≡ t
     → read_at c (Read ts k txn n ds us) ≡ Some t

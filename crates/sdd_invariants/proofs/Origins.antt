@@ -20,11 +20,8 @@ was_put b (Did act ∷ log) k m e = elim (in_either (puts_to b log) (to_site b (
 
 still_put : (b : Site) (e : Entry) (log : Log) (k : ℕ) (m : Msg) → slice_get (puts_to b log) k ≡ Some m
     → slice_get (puts_to b (e ∷ log)) k ≡ Some m
-still_put b (Handed from x) log k m h = h
-still_put b (Ticked n) log k m h = h
-still_put b (Submits n txn) log k m h = h
-still_put b (Redeclared force t) log k m h = h
 still_put b (Did act) log k m h = in_left (puts_to b log) (to_site b (sends_of_act act)) k m h
+still_put b _ log k m h = h
 
 pub is_put : (b : Site) (later : Log) (act : Act) (before : Log) (k : ℕ) (m : Msg)
     → slice_get (to_site b (sends_of_act act)) k ≡ Some m

@@ -40,8 +40,7 @@ other_record c k _ sends qs a e = refl
 
 pub none_handed : (c : ℕ) (from : Site) (m : Msg) (o : Option Attempt) → o ≡ None → active_handed c from m o ≡ None
 none_handed c (D d) m o e = rw e refl
-none_handed c U m o e = e
-none_handed c (T t) m o e = e
+none_handed c _ m o e = e
 
 pub none_sent : (c : ℕ) (m : Msg) (o : Option Attempt) → o ≡ None → active_sent c m o ≡ None
 none_sent c m o e = rw e refl
@@ -50,13 +49,11 @@ pub idle_stays : (s : Setting) (c : ℕ) (later log : Log) → NoRecord c later 
     → active s c (later ++ log) ≡ None
 idle_stays s c [] log h e = e
 idle_stays s c (Handed from m ∷ later) log h e = none_handed c from m (active s c (later ++ log)) (idle_stays s c later log h.1 e)
-idle_stays s c (Ticked n ∷ later) log h e = idle_stays s c later log h.1 e
-idle_stays s c (Redeclared force t ∷ later) log h e = idle_stays s c later log h.1 e
-idle_stays s c (Submits n txn ∷ later) log h e = idle_stays s c later log h.1 e
 idle_stays s c (Did (Records k r sends) ∷ later) log h e =
     other_record c k r sends (queue s c (later ++ log)) (active s c (later ++ log)) h.0 ∙ idle_stays s c later log h.1 e
 idle_stays s c (Did (Sends to m hand) ∷ later) log h e =
     none_sent c m (active s c (later ++ log)) (idle_stays s c later log h.1 e)
+idle_stays s c (_ ∷ later) log h e = idle_stays s c later log h.1 e
 
 none_in : (c : ℕ) (z : Log) (y : Entry) (w : Log) → NoRecord c (z ++ y ∷ w) → NoRecord c z × (is_recorded c y ≡ false)
 none_in c [] y w h = (tt, h.0)

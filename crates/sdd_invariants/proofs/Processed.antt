@@ -58,9 +58,8 @@ processed_handed c from m log = processed_if (goes_through c m) m (pipe c log)
 zip_push : {A B : Type 0} (R : A → B → Type 0) (xs : List A) (ys : List B) (x : A) (y : B) → AllZip R xs ys → R x y
     → AllZip R (xs ++ x ∷ []) (ys ++ y ∷ [])
 zip_push R [] [] x y h r = (r, tt)
-zip_push R [] (b ∷ ys) x y h r = absurd h
-zip_push R (a ∷ xs) [] x y h r = absurd h
 zip_push R (a ∷ xs) (b ∷ ys) x y h r = (h.0, zip_push R xs ys x y h.1 r)
+zip_push R _ _ x y h r = absurd h
 
 may_is : (v : View) (c : ℕ) (w : Bool) (m : Msg) (r : Rec) → May v c w m r → IsOf r m
 may_is v c w (Read ts k txn attempt conds uses) (Answer t a dm) h = (h.0, h.1)
@@ -108,15 +107,13 @@ matched s c (Did act ∷ log) h =
 pub zip_at : {A B : Type 0} (R : A → B → Type 0) (xs : List A) (ys : List B) (k : ℕ) (y : B) → AllZip R xs ys
     → slice_get ys k ≡ Some y → (x : A) × (slice_get xs k ≡ Some x) × R x y
 zip_at R [] [] k y h e = cc
-zip_at R [] (b ∷ ys) k y h e = absurd h
-zip_at R (a ∷ xs) [] k y h e = absurd h
 zip_at R (a ∷ xs) (b ∷ ys) zero y h e = (a, refl, (let p : b ≡ y = cc in subst (R a) p h.0))
 zip_at R (a ∷ xs) (b ∷ ys) (suc k) y h e = zip_at R xs ys k y h.1 e
+zip_at R _ _ k y h e = absurd h
 
 pub zip_back : {A B : Type 0} (R : A → B → Type 0) (xs : List A) (ys : List B) (k : ℕ) (x : A) → AllZip R xs ys
     → slice_get xs k ≡ Some x → (y : B) × (slice_get ys k ≡ Some y) × R x y
 zip_back R [] [] k x h e = cc
-zip_back R [] (b ∷ ys) k x h e = absurd h
-zip_back R (a ∷ xs) [] k x h e = absurd h
 zip_back R (a ∷ xs) (b ∷ ys) zero x h e = (b, refl, (let p : a ≡ x = cc in subst (λ z. R z b) p h.0))
 zip_back R (a ∷ xs) (b ∷ ys) (suc k) x h e = zip_back R xs ys k x h.1 e
+zip_back R _ _ k x h e = absurd h

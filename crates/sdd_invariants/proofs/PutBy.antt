@@ -158,8 +158,7 @@ by_on s log c true (Read ts class txn attempt conds uses) a l i h e =
     by_waited s log c (list_all (is_met (view_of s log)) conds) ts class txn attempt conds uses a l h e
 by_on s log c false (Read ts class txn attempt conds uses) a l i h e =
     by_judged s log c ts class txn attempt conds uses _ _ a l i h refl refl e
-by_on s log c true _ a l i h e = cc
-by_on s log c false _ a l i h e = cc
+by_on s log c _ _ a l i h e = cc
 
 by_head_of : (s : Setting) (log : Log) (c : ℕ) (o : Option Msg) (a : Act) → IsClassHere s c → head (pipe c log) ≡ o
     → act_where (home_of s) (view_of s log) c o (step_on (view_of s log) c (waits c log) o) ≡ Some a → PutsBy s log a
@@ -189,9 +188,6 @@ none_at xs ys f g k m e = elim (in_either xs ys k m e) [ inl p ↦ f k m p | inr
 pub d_pipes_none : (s : Setting) (b : Site) (log : Log) → Each (IsDueEach s) log → (k : ℕ) (m : Msg)
     → slice_get (puts_to b log) k ≡ Some m → piped m ≡ None
 d_pipes_none s b [] h k m e = cc
-d_pipes_none s b (Handed from x ∷ log) h k m e = d_pipes_none s b log h.1 k m e
-d_pipes_none s b (Ticked n ∷ log) h k m e = d_pipes_none s b log h.1 k m e
-d_pipes_none s b (Submits n txn ∷ log) h k m e = d_pipes_none s b log h.1 k m e
-d_pipes_none s b (Redeclared force t ∷ log) h k m e = d_pipes_none s b log h.1 k m e
 d_pipes_none s b (Did act ∷ log) h k m e =
     none_at (puts_to b log) (to_site b (sends_of_act act)) (d_pipes_none s b log h.1) (λ j x p. not_piped s log b act x (put_by_d s log act h.0 b j x p)) k m e
+d_pipes_none s b (_ ∷ log) h k m e = d_pipes_none s b log h.1 k m e

@@ -231,12 +231,11 @@ readied_hand s c (D d) m log (Some a) honest h =
     let g = hand_goes a.ts c d.0 m a.exchange in
     if_way (AllReadied s c (Handed (D d) m ∷ log)) (rejects m a.ts c) None (Some (record a { exchange = after_hand a.ts c d.0 m a.exchange })) tt
     (record { modules_are = ap firsts g.modules_same ∙ h.modules_are; ready = ready_hand a.ts c d m log a.exchange honest h.unasked h.ready; unasked = λ p. h.unasked (reads_back a.ts c a.exchange (after_hand a.ts c d.0 m a.exchange) g p) })
-readied_hand s c U m log None honest h = tt
 readied_hand s c U m log (Some a) honest h =
     record { modules_are = h.modules_are; ready = ready_more a.ts c (Handed U m) log a.exchange (handed_more a.ts c U m log) h.ready; unasked = h.unasked }
-readied_hand s c (T t) m log None honest h = tt
 readied_hand s c (T t) m log (Some a) honest h =
     record { modules_are = h.modules_are; ready = ready_more a.ts c (Handed (T t) m) log a.exchange (handed_more a.ts c (T t) m log) h.ready; unasked = h.unasked }
+readied_hand s c _ m log None honest h = tt
 
 -- a Start
 starts_with : (s : Setting) (k : ℕ) (log : Log) (q : Queued) (ds : List ℕ)

@@ -6,16 +6,14 @@ use Rattle.sdd_invariants.proofs.Active.{handed_way, sent_way}
 use Rattle.sdd_invariants.proofs.Bools.{if_way, same_number, same_or_not}
 
 last_push : (xs : List ℕ) (x : ℕ) → last_of (xs ++ x ∷ []) ≡ Some x
-last_push [] x = refl
-last_push (y ∷ []) x = refl
 last_push (y ∷ z ∷ ys) x = last_push (z ∷ ys) x
+last_push _ x = refl
 
 last_split : (xs : List ℕ) (r x : ℕ) → length xs ≡ suc r → last_of xs ≡ Some x → xs ≡ take r xs ++ x ∷ []
 last_split [] r x e f = cc
 last_split (y ∷ []) zero x e f = let p : y ≡ x = cc in ap (λ z. z ∷ []) p
-last_split (y ∷ []) (suc r) x e f = absurd (omega (arith, e))
-last_split (y ∷ z ∷ ys) zero x e f = absurd (omega (arith, e))
 last_split (y ∷ z ∷ ys) (suc r) x e f = ap (λ l. y ∷ l) (last_split (z ∷ ys) r x (omega (arith, e)) f)
+last_split (y ∷ _) _ x e f = absurd (omega (arith, e))
 
 take_all : (xs : List ℕ) (r : ℕ) → length xs ≤ r → take r xs ≡ xs
 take_all [] zero l = refl

@@ -32,10 +32,8 @@ pub helds_grow : (later log : Log) → (holds log).helds ≤ (holds (later ++ lo
 helds_grow [] log = omega arith
 helds_grow (Handed from m ∷ later) log =
     let i = helds_grow later log in let j = hand_helds (suc (hands (later ++ log))) m (holds (later ++ log)) in omega arith
-helds_grow (Ticked n ∷ later) log = helds_grow later log
-helds_grow (Redeclared force t ∷ later) log = helds_grow later log
-helds_grow (Submits n txn ∷ later) log = helds_grow later log
 helds_grow (Did act ∷ later) log = let i = helds_grow later log in let j = helds_by act (holds (later ++ log)) in omega arith
+helds_grow (_ ∷ later) log = helds_grow later log
 
 -- a HELD promises the bound
 abbrev HeldSays : Setting → Log → Act → Type 0

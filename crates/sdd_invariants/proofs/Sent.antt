@@ -50,9 +50,8 @@ by_resends a b from to calls = on_link_same a b from to resend (link a b calls) 
 
 put_way : (c d : Bool) (m : Msg) (l : Link Msg)
     → (if c then put m l else if d then turned (put m (turned l)) else l).there.sent ≡ (if c then l.there.sent ++ m ∷ [] else l.there.sent)
-put_way true d m l = refl
-put_way false true m l = refl
 put_way false false m l = refl
+put_way _ _ m l = refl
 
 by_puts : (a b from to : Site) (m : Msg) (calls : List (Call Msg))
     → (link a b (Puts from to m ∷ calls)).there.sent ≡ (if same_site a from && same_site b to then (link a b calls).there.sent ++ m ∷ [] else (link a b calls).there.sent)
@@ -61,8 +60,7 @@ by_puts a b from to m calls = put_way (same_site a from && same_site b to) (same
 one_more : (c d : Bool) (xs rest : List Msg) (m : Msg)
     → (if c && d then xs ++ m ∷ [] else xs) ++ (if c then rest else []) ≡ xs ++ (if c then (if d then m ∷ rest else rest) else [])
 one_more true true xs rest m = append_assoc xs (m ∷ []) rest
-one_more true false xs rest m = refl
-one_more false d xs rest m = refl
+one_more _ _ xs rest m = refl
 
 by_act : (a b at : Site) (sends : List (Site × Msg)) (calls : List (Call Msg))
     → (link a b (puts at sends calls)).there.sent ≡ (link a b calls).there.sent ++ (if same_site a at then to_site b sends else [])
@@ -90,8 +88,7 @@ given_puts b n (Some t) = refl
 
 force_puts : (b at : Site) (force : Force) (t : ℕ) → put_by b (forced at force t) ≡ []
 force_puts b U force t = refl
-force_puts b (T n) force t = refl
-force_puts b (D d) force t = refl
+force_puts b _ force t = refl
 
 nothing_more : (xs ys zs : List Msg) → zs ≡ xs → ys ≡ [] → zs ≡ xs ++ ys
 nothing_more xs ys zs e f = e ∙ sym (append-nil xs) ∙ ap (λ l. xs ++ l) (sym f)
@@ -101,30 +98,20 @@ sent_grows g a b (Mark (Deliver x y k)) log = nothing_more (sent a b log) [] _ (
 sent_grows g a b (Mark (Lose x y k)) log = nothing_more (sent a b log) [] _ (by_loses a b x y k (calls_of log)) refl
 sent_grows g a b (Mark (Repeat x y k)) log = nothing_more (sent a b log) [] _ (by_repeats a b x y k (calls_of log)) refl
 sent_grows g a b (Mark (Resend x y)) log = nothing_more (sent a b log) [] _ (by_resends a b x y (calls_of log)) refl
-sent_grows g a b (Mark (Submit n)) log = nothing_more (sent a b log) [] _ refl refl
 sent_grows g a b (Mark (Tick t n)) log =
     nothing_more (sent a b log) _ _ refl (no_put b (same_site a (T t)) (Some (Ticked n)) refl)
-sent_grows g a b (Mark Settle) log = nothing_more (sent a b log) [] _ refl refl
-sent_grows g a b (Mark Redeclare) log = nothing_more (sent a b log) [] _ refl refl
-sent_grows g a b (Mark (Down d)) log = nothing_more (sent a b log) [] _ refl refl
-sent_grows g a b (Mark (Up d)) log = nothing_more (sent a b log) [] _ refl refl
-sent_grows g a b (Round es) log = nothing_more (sent a b log) [] _ refl refl
 sent_grows g a b (Redeclares t) log = nothing_more (sent a b log) _ _ refl (force_puts b a (force_at g (suc (redeclares log))) t)
 sent_grows g a b (Submitted s n) log =
     nothing_more (sent a b log) _ _ refl (no_put b (same_site a s) (given_to n (txn_at g n)) (given_puts b n (txn_at g n)))
-sent_grows g a b Notes log = nothing_more (sent a b log) [] _ refl refl
 sent_grows g a b (Does at act) log =
     by_act a b at (sends_of_act act) (calls_of log) ∙ ap (λ xs. sent a b log ++ xs) (put_if (same_site a at) b act)
 sent_grows g a b (Hand from to n m) log =
     nothing_more (sent a b log) _ _ refl (no_put b (same_site a to) (Some (Handed from m)) refl)
+sent_grows g a b _ log = nothing_more (sent a b log) [] _ refl refl
 
 puts_step : (b : Site) (o : Option site.Entry) (l : site.Log) → puts_to b (with_made o l) ≡ puts_to b l ++ put_by b o
-puts_step b None l = sym (append-nil _)
 puts_step b (Some (Did act)) l = refl
-puts_step b (Some (Handed from m)) l = sym (append-nil _)
-puts_step b (Some (Ticked n)) l = sym (append-nil _)
-puts_step b (Some (Submits n t)) l = sym (append-nil _)
-puts_step b (Some (Redeclared force t)) l = sym (append-nil _)
+puts_step b _ l = sym (append-nil _)
 
 pub puts_grow : (g : Given) (a b : Site) (e : Entry) (log : Log)
     → puts_to b (local_of g a (e ∷ log)) ≡ puts_to b (local_of g a log) ++ put_by b (made g a log e)
@@ -133,10 +120,9 @@ puts_grow g a b e log = ap (puts_to b) (local_step g a e log) ∙ puts_step b (m
 -- what was put on a link is what its first site's log says
 pub sent_is : (g : Given) (a b : Site) (log : Log) → sent a b log ≡ puts_to b (local_of g a log)
 sent_is g U b [] = refl
-sent_is g (T t) b [] = refl
-sent_is g (D d) b [] = refl
 sent_is g a b (e ∷ log) =
     sent_grows g a b e log ∙ ap (λ xs. xs ++ put_by b (made g a log e)) (sent_is g a b log) ∙ sym (puts_grow g a b e log)
+sent_is g _ b [] = refl
 
 -- what was put stays, and more comes behind it
 pub puts_more : (g : Given) (a b : Site) (later log : Log)

@@ -39,8 +39,7 @@ release_u : (s : Setting) (log : Log) (t : ℕ) (a b : Bool) (n : ℕ) (ts : Ts)
     → (if a && b then Some (Sends (T (tm_no n)) (Release ts) None) else None) ≡ Some act → IsStepU s log act
 release_u s log t true true n ts act p f g e =
     step_is s log (Sends (T (tm_no n)) (Release ts) None) act (u_release t ts (f refl) (g refl) (ap (λ x. Sends (T (tm_no x)) (Release ts) None) p)) e
-release_u s log t true false n ts act p f g e = cc
-release_u s log t false b n ts act p f g e = cc
+release_u s log t _ _ n ts act p f g e = cc
 
 hold_if : (s : Setting) (log : Log) (t n : ℕ) (b : Bool) (act : Act) → n ≡ t
     → (b ≡ true → (counts t log).releases ≡ (counts t log).holds)
@@ -65,8 +64,7 @@ start_if : (s : Setting) (log : Log) (q : Queued) (z b : Bool) (act : Act) → h
     → (if z && b then Some (start_at s 0 log q) else None) ≡ Some act → IsStepU s log act
 start_if s log q true true act p z r e = step_is s log (start_at s 0 log q) act (u_start q p (eqb-true q.tries 0 z)
     (λ k t i. ready_is (counts t log).holds (counts t log).helds (suc (last_served s log).commits) (all_at (is_holding (view_of s log)) (view_of s log).counts k (counts t log) r (at_map (λ t. counts t log) (numbers_to s.catalogue.tms) k t i))) refl) e
-start_if s log q true false act p z r e = cc
-start_if s log q false b act p z r e = cc
+start_if s log q _ _ act p z r e = cc
 
 start_u : (s : Setting) (log : Log) (o : Option Queued) (act : Act) → head_of (queue s 0 log) ≡ o
     → start_of s.catalogue (view_of s log) o ≡ Some act → IsStepU s log act

@@ -5,14 +5,9 @@ use Rattle.sdd_invariants.proofs.Lists.{in_if}
 
 pub site_is : (a b : Site) → same_site a b ≡ true → a ≡ b
 site_is U U e = refl
-site_is U (T t) e = cc
-site_is U (D t) e = cc
-site_is (T a) U e = cc
 site_is (T a) (T b) e = ap (λ n. T (tm_no n)) (eqb-true a.0 b.0 e)
-site_is (T a) (D b) e = cc
-site_is (D a) U e = cc
-site_is (D a) (T b) e = cc
 site_is (D a) (D b) e = ap (λ n. D (dm_no n)) (eqb-true a.0 b.0 e)
+site_is _ _ e = cc
 
 pub site_self : (a : Site) → same_site a a ≡ true
 site_self U = refl
@@ -26,12 +21,11 @@ the_one b to x k m e = let i = in_if (same_site b to) x k m e in (site_is b to i
 -- one message to each of some modules
 
 pub other_module : (b : Site) (a d : ℕ) → same_site b (D (dm_no a)) ≡ true → a < d → same_site b (D (dm_no d)) ≡ false
-other_module U a d e l = refl
-other_module (T t) a d e l = refl
 other_module (D x) a d e l = elim (same_or_not x.0 d) [
   | inl p ↦ (let q : x.0 ≡ a = eqb-true x.0 a e in absurd (omega arith))
   | inr p ↦ p
 ]
+other_module _ a d e l = refl
 
 none_of : (f : ℕ → Msg) (b : Site) (a : ℕ) (ds : List ℕ) → same_site b (D (dm_no a)) ≡ true → AllGt a ds
     → to_site b (map (λ d. (D (dm_no d), f d)) ds) ≡ []

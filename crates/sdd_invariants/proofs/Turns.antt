@@ -7,9 +7,8 @@ tally_append f (x ∷ xs) ys = let i = tally_append f xs ys in omega arith
 
 pub turns_append : (o : Option Bool) (xs ys : List Msg) → turns o (xs ++ ys) ≡ turns (turns o xs) ys
 turns_append None [] ys = refl
-turns_append None (x ∷ xs) ys = refl
-turns_append (Some b) [] ys = refl
 turns_append (Some b) (x ∷ xs) ys = turns_append (turn b x) xs ys
+turns_append _ _ ys = refl
 
 turns_none : (ms : List Msg) (c : Bool) → turns None ms ≡ Some c → ⊥
 turns_none [] c e = cc
@@ -27,16 +26,14 @@ balance b c (m ∷ ms) e = let i = balance b c ms e in omega arith
 
 -- of a first part
 pub tally_take : (f : Msg → Bool) (n : ℕ) (ms : List Msg) → tally f (take n ms) ≤ tally f ms
-tally_take f zero ms = omega arith
-tally_take f (suc n) [] = omega arith
 tally_take f (suc n) (m ∷ ms) = let i = tally_take f n ms in omega arith
+tally_take f _ _ = omega arith
 
 turns_take_at : (n : ℕ) (o : Option Bool) (ms : List Msg) (c : Bool) → turns o ms ≡ Some c
     → (d : Bool) × (turns o (take n ms) ≡ Some d)
 turns_take_at n None ms c e = absurd (turns_none ms c e)
-turns_take_at zero (Some b) ms c e = (b, refl)
-turns_take_at (suc n) (Some b) [] c e = (b, refl)
 turns_take_at (suc n) (Some b) (m ∷ ms) c e = turns_take_at n (turn b m) ms c e
+turns_take_at _ (Some b) _ c e = (b, refl)
 
 pub turns_take : (n : ℕ) (ms : List Msg) (c : Bool) → turns (Some false) ms ≡ Some c
     → (d : Bool) × (turns (Some false) (take n ms) ≡ Some d)

@@ -158,8 +158,7 @@ safe_other k m (d ∷ ds) f = (rw (f d) (never_and (d.class.0 == k)), safe_other
 
 same_test : (a b : Bool) (w t : ℕ) → (a && (nat_le t w && b)) ≡ false → (a && is_at_least t (cond b (Some w) None)) ≡ false
 same_test true true w t e = elim (nat_le t w) as (λ x. (x && true) ≡ false → x ≡ false) [ true ↦ λ q. q | false ↦ λ q. refl ] e
-same_test true false w t e = refl
-same_test false b w t e = refl
+same_test _ _ w t e = refl
 
 safe_write : (k : ℕ) (ts : Ts) (class : ClassNo) (txn : TxnNo) (changes : List Change) (ds : List Cond)
     → list_any (holds k ts.0 changes) ds ≡ false → IsSafe k (Write ts class txn changes) ds
@@ -173,14 +172,12 @@ IsReadSafe k m _ = Unit {0}
 
 read_safe : (k : ℕ) (ts : Ts) (class : ClassNo) (txn : TxnNo) (changes : List Change) (o : Option Msg)
     → holds_back k ts.0 changes o ≡ false → IsReadSafe k (Write ts class txn changes) o
-read_safe k ts class txn changes None e = tt
 read_safe k ts class txn changes (Some (Read t c x attempt conds uses)) e = safe_write k ts class txn changes conds e
-read_safe k ts class txn changes (Some _) e = tt
+read_safe k ts class txn changes _ e = tt
 
 read_safe_other : (k : ℕ) (m : Msg) (o : Option Msg) → ((d : Cond) → spoiling d m ≡ false) → IsReadSafe k m o
-read_safe_other k m None f = tt
 read_safe_other k m (Some (Read t c x attempt conds uses)) f = safe_other k m conds f
-read_safe_other k m (Some _) f = tt
+read_safe_other k m _ f = tt
 
 unheld : (k : ℕ) (x : Bool) → (k ≢ 0) → (not (k == 0) && x) ≡ false → x ≡ false
 unheld k x n e = let z : (k == 0) ≡ false = elim (same_or_not k 0) [ inl p ↦ absurd (n p) | inr p ↦ p ] in rw z at e
