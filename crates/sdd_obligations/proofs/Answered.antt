@@ -13,41 +13,26 @@ use Rattle.sdd_invariants.specs.logs.Entries as all
 
 fetching : (p : Phase) (w col : ℕ) (t : Ts) (k : ClassNo) (u : ℕ) → awaits p (Fetch t k w col) ≡ true → u ≡ w → fetches_use u p ≡ true
 fetching (Fetching m) w col t k u e z = subst (λ n. (m.source.part == n) ≡ true) (sym z) e
-fetching Reading w col t k u e z = cc
-fetching (Reducing m) w col t k u e z = cc
-fetching Shipping w col t k u e z = cc
-fetching Over w col t k u e z = cc
+fetching _ w col t k u e z = cc
 
 reducing : (p : Phase) (w col : ℕ) (t : Ts) (k : ClassNo) (xs : List Value) (u : ℕ) → awaits p (Reduce t k w col xs) ≡ true → u ≡ w
     → reduces_use u p ≡ true
 reducing (Reducing m) w col t k xs u e z = subst (λ n. (m.target.part == n) ≡ true) (sym z) e
-reducing Reading w col t k xs u e z = cc
-reducing (Fetching m) w col t k xs u e z = cc
-reducing Shipping w col t k xs u e z = cc
-reducing Over w col t k xs u e z = cc
+reducing _ w col t k xs u e z = cc
 
 shipping : (p : Phase) (t : Ts) (k : ClassNo) → awaits p (Ship t k) ≡ true → is_shipping p ≡ true
 shipping Shipping t k e = refl
-shipping Reading t k e = cc
-shipping (Fetching m) t k e = cc
-shipping (Reducing m) t k e = cc
-shipping Over t k e = cc
+shipping _ t k e = cc
 
 fetch_phase : (p : Phase) (q : Msg) (u : ℕ) (ns : List ℕ) (t : Ts) (k : ClassNo) (vs : List Value) → awaits p q ≡ true
     → Replies ns q (Values t k u vs) → fetches_use u p ≡ true
 fetch_phase p (Fetch t2 k2 w col) u ns t k vs e h = fetching p w col t2 k2 u e h
-fetch_phase p (Read t2 k2 txn attempt conds uses) u ns t k vs e h = absurd h
-fetch_phase p (Reduce t2 k2 w col xs) u ns t k vs e h = absurd h
-fetch_phase p (Ship t2 k2) u ns t k vs e h = absurd h
-fetch_phase p q u ns t k vs e h = absurd h
+fetch_phase p _ u ns t k vs e h = absurd h
 
 reduce_phase : (p : Phase) (q : Msg) (u n : ℕ) (ns : List ℕ) (t : Ts) (k : ClassNo) → awaits p q ≡ true
     → Replies ns q (Reduced t k u n) → reduces_use u p ≡ true
 reduce_phase p (Reduce t2 k2 w col xs) u n ns t k e h = reducing p w col t2 k2 xs u e h
-reduce_phase p (Read t2 k2 txn attempt conds uses) u n ns t k e h = absurd h
-reduce_phase p (Fetch t2 k2 w col) u n ns t k e h = absurd h
-reduce_phase p (Ship t2 k2) u n ns t k e h = absurd h
-reduce_phase p q u n ns t k e h = absurd h
+reduce_phase p _ u n ns t k e h = absurd h
 
 record IsShipPhase (p : Phase) (ns : List ℕ) (rows : List (ℕ × Row)) : Type 0 where
   is : is_shipping p ≡ true
@@ -56,10 +41,7 @@ record IsShipPhase (p : Phase) (ns : List ℕ) (rows : List (ℕ × Row)) : Type
 ship_phase : (p : Phase) (q : Msg) (rows : List (ℕ × Row)) (ns : List ℕ) (t : Ts) (k : ClassNo) → awaits p q ≡ true
     → Replies ns q (Rows t k rows) → IsShipPhase p ns rows
 ship_phase p (Ship t2 k2) rows ns t k e h = record { is = shipping p t2 k2 e; named = h }
-ship_phase p (Read t2 k2 txn attempt conds uses) rows ns t k e h = absurd h
-ship_phase p (Fetch t2 k2 w col) rows ns t k e h = absurd h
-ship_phase p (Reduce t2 k2 w col xs) rows ns t k e h = absurd h
-ship_phase p q rows ns t k e h = absurd h
+ship_phase p _ rows ns t k e h = absurd h
 
 -- the active attempt of a class awaits the answer to a question of rows
 record IsActive (g : Given) (ts c d : ℕ) (log : all.Log) (ns : List ℕ) (q : Msg) : Type 0 where

@@ -37,18 +37,14 @@ pub sent_of_act : (b : Site) (f : Msg → Bool) (later : site.Log) (act : Act) (
 sent_of_act b f [] act before k m e h = any_left (at_site b f) (sends_of_act act) (sent before) (any_sent b f (sends_of_act act) k m e h)
 sent_of_act b f (Did x ∷ later) act before k m e h =
     any_right (at_site b f) (sends_of_act x) (sent (later ++ Did act ∷ before)) (sent_of_act b f later act before k m e h)
-sent_of_act b f (Handed from x ∷ later) act before k m e h = sent_of_act b f later act before k m e h
-sent_of_act b f (Ticked n ∷ later) act before k m e h = sent_of_act b f later act before k m e h
-sent_of_act b f (Submits n txn ∷ later) act before k m e h = sent_of_act b f later act before k m e h
-sent_of_act b f (Redeclared force t ∷ later) act before k m e h = sent_of_act b f later act before k m e h
+sent_of_act b f (_ ∷ later) act before k m e h = sent_of_act b f later act before k m e h
 
 -- what was handed is counted
 
 push_one : (f : Msg → Bool) (c d : Bool) (xs : List Msg) (m : Msg) → f m ≡ d → (c && d) ≡ true
     → 0 < tally f (if c then xs ++ m ∷ [] else xs)
 push_one f true true xs m p e = let a = tally_append f xs (m ∷ []) in let o : one_if (f m) ≡ 1 = ap one_if p in omega (arith, a, o)
-push_one f true false xs m p e = cc
-push_one f false d xs m p e = cc
+push_one f _ _ xs m p e = cc
 
 turned : (a from : Site) (d : Bool) → (same_site from a && d) ≡ true → (same_site a from && d) ≡ true
 turned a from d e =
@@ -63,10 +59,7 @@ counted_hand a f (Handed from m ∷ l) e = elim (true_or_false (same_site from a
       (list_any (at_site a f) (all_handed l)) p e) in let u =
       push_more f (same_site a from) (hands_from a l) m in omega (arith, i, u))
 ]
-counted_hand a f (Ticked n ∷ l) e = counted_hand a f l e
-counted_hand a f (Submits n txn ∷ l) e = counted_hand a f l e
-counted_hand a f (Redeclared force t ∷ l) e = counted_hand a f l e
-counted_hand a f (Did act ∷ l) e = counted_hand a f l e
+counted_hand a f (_ ∷ l) e = counted_hand a f l e
 
 -- where at most one of a kind is put on the link, and the next message is of it, none was handed before
 pub none_before : (g : Given) (a b : Site) (log : Log) (f : Msg → Bool) (m : Msg) → IsPermitted g log

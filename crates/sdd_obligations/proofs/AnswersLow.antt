@@ -35,10 +35,8 @@ pub pipe_low : (h c : ℕ) (log : Log) → HandsLow h log → IsPipeLow h (pipe 
 pipe_low h c [] i = record { done = tt; left = tt }
 pipe_low h c (Handed from m ∷ log) i =
     if_way (IsPipeLow h) (goes_through c m) (put m (pipe c log)) (pipe c log) (put_low h m (pipe c log) i.0 (pipe_low h c log i.1)) (pipe_low h c log i.1)
-pipe_low h c (Ticked n ∷ log) i = pipe_low h c log i
-pipe_low h c (Submits n txn ∷ log) i = pipe_low h c log i
-pipe_low h c (Redeclared force t ∷ log) i = pipe_low h c log i
 pipe_low h c (Did act ∷ log) i = acted_low h c act (pipe c log) (pipe_low h c log i)
+pipe_low h c (_ ∷ log) i = pipe_low h c log i
 
 view_low : (h : ℕ) (s : Setting) (log : Log) (c : ℕ) → HandsLow h log → IsPipeLow h (at_class (view_of s log) c).pipe
 view_low h s log c i = elim (dec_le (suc c) (suc (length s.catalogue.classes))) [

@@ -321,8 +321,7 @@ questions_one ts c true m =
 one_in_turn : (v : Turn) (ms : List Msg) (b x : Bool) (m : Msg) → ms ≡ (if b && x then m ∷ [] else []) → (b ≡ true → x ≡ true → MayAsk v m)
     → IsInTurn v ms
 one_in_turn v ms true true m e f = inr (m, e, f refl refl)
-one_in_turn v ms true false m e f = inl e
-one_in_turn v ms false x m e f = inl e
+one_in_turn v ms _ _ m e f = inl e
 
 may_start : (v : Turn) (s : Setting) (k : ℕ) (log : Log) (q : Queued) (d : ℕ) → v ≡ Silent → MayAsk v (start_read s k log q d)
 may_start v s k log q d e = subst (λ w. MayAsk w (start_read s k log q d)) (sym e) refl

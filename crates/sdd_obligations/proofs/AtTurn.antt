@@ -151,8 +151,7 @@ ship_is_last : (p : Phase) (m : Msg) → awaits p m ≡ true → (is_a_ship m �
 ship_is_last Reading m e = inl (read_no_ship m e)
 ship_is_last (Fetching v) m e = inl (fetch_no_ship v.source.part m e)
 ship_is_last (Reducing v) m e = inl (reduce_no_ship v.target.part m e)
-ship_is_last Shipping m e = inr refl
-ship_is_last Over m e = inr refl
+ship_is_last _ m e = inr refl
 
 pub told_not_asks : {A : Type 0} (v : Turn) (ns ms : List ℕ) (q m : Msg) → v ≡ Told ns q → v ≡ Asks ms m → A
 told_not_asks v ns ms q m e f = let p : Told ns q ≡ Asks ms m = sym e ∙ f in cc
@@ -206,8 +205,7 @@ hand_at ts c n d x v w (Reduced t k u y) h e f r i =
     answered_if ts c n d ((t.0 == ts) && (k.0 == c)) x (record x { counts = counted n ((u, y) ∷ []) x.counts }) v w e h r i
 hand_at ts c n d x v w (Rows t k rows) h e f r i =
     answered_if ts c n d ((t.0 == ts) && (k.0 == c)) x (record x { found = x.found ++ rows; rows = x.rows + length rows }) v w e h r i
-hand_at ts c n d x v w (Reject t k by write) h e f r i = cc
-hand_at ts c n d x v w m h e f r i = cc
+hand_at ts c n d x v w _ h e f r i = cc
 
 not_if : {A : Type 0} (b : Bool) (x y : A) → b ≡ false → (if b then y else x) ≡ x
 not_if true x y e = cc

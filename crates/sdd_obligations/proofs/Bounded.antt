@@ -14,12 +14,8 @@ act_starts (Records c (Start txn attempt class ts p2 uses) sends) n = omega arit
 act_starts act n = omega arith
 
 starts_rise : (o : Option site.Entry) (l : site.Log) → starts l ≤ starts (with_made o l)
-starts_rise None l = omega arith
-starts_rise (Some (Handed from m)) l = omega arith
-starts_rise (Some (Ticked n)) l = omega arith
-starts_rise (Some (Submits n t)) l = omega arith
-starts_rise (Some (Redeclared force t)) l = omega arith
 starts_rise (Some (Did act)) l = let e = act_starts act (starts l) in omega (arith, e)
+starts_rise _ l = omega arith
 
 starts_up : (g : Given) (e : Entry) (log : Log) (at : Site) → starts (local_of g at log) ≤ starts (local_of g at (e ∷ log))
 starts_up g e log at = subst (λ l. starts (local_of g at log) ≤ starts l) (sym (local_step g at e log)) (starts_rise (made g at log e) (local_of g at log))
@@ -114,12 +110,9 @@ StartsNot l (Redeclared force t) = Unit {0}
 
 none_started : (l : site.Log) → Each StartsNot l → starts l ≡ 0
 none_started [] h = refl
-none_started (Handed from m ∷ l) h = none_started l h.1
-none_started (Ticked n ∷ l) h = none_started l h.1
-none_started (Submits n t ∷ l) h = none_started l h.1
-none_started (Redeclared force t ∷ l) h = none_started l h.1
 none_started (Did act ∷ l) h =
     let i = none_started l h.1 in let e = act_starts act (starts l) in let z = h.0 in omega (arith, i, e, z)
+none_started (_ ∷ l) h = none_started l h.1
 
 site_bound : (g : Given) (at : Site) (log : Log) → IsSmall g → IsLawful g log → IsPermitted g log → IsWithin log
     → IsThere (all_sites g) at → starts (local_of g at log) ≤ most_starts

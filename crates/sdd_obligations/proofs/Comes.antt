@@ -23,9 +23,8 @@ record IsRowsTurn (w : Turn) (m : Msg) : Type 0 where
 
 rows_turn : (w : Turn) (m : Msg) → MayAsk w m → is_a_read m ≡ false → IsRowsTurn w m
 rows_turn Silent m h e = never (is_a_read m) h e
-rows_turn (Asks ns q) m h e = absurd h
 rows_turn (Told ns q) m h e = record { uses = ns; last = q; is = refl; not_shipped = h.0; named = h.1 }
-rows_turn Refused m h e = absurd h
+rows_turn _ m h e = absurd h
 
 held_for : (ts : ℕ) (ns : List ℕ) (f : Option Frozen) → AreHeldFor ts ns f → AreFor ts f
 held_for ts ns None h = h

@@ -16,9 +16,8 @@ busy_started ts sends None q e = cc
 busy_started ts sends (Some x) q e = refl
 
 busy_served : (o : Option Attempt) (qs : List Queued) → IsServed o qs → busy o ≤ length qs
-busy_served None qs h = omega arith
 busy_served (Some a) [] h = absurd h
-busy_served (Some a) (q ∷ qs) h = omega arith
+busy_served _ _ h = omega arith
 
 -- the Starts of the class and what waits in its queue
 abbrev IsCounted : Setting → ℕ → Log → Type 0
@@ -110,14 +109,13 @@ counted s c (Handed from m ∷ log) f n =
     hand_count (class_starts c log) (length (queue s c log)) (length (submits log)) (hands log)
     (busy (active s c log)) (busy (active_handed c from m (active s c log))) (busy_le (active s c log))
     (counted s c log f.1 n.1)
-counted s c (Ticked k ∷ log) f n = counted s c log f.1 n.1
-counted s c (Redeclared force t ∷ log) f n = counted s c log f.1 n.1
 counted s c (Submits k txn ∷ log) f n =
     submit_count (class_starts c log) (length (queue s c log))
     (length (submitted c (in_force s log).catalogue k txn (queue s c log))) (length (submits log))
     (hands log) (busy (active s c log))
     (submit_longer (is_for c (in_force s log).catalogue txn) (record { number = k; text = txn; tries = 0 }) (queue s c log)) (counted s c log f.1 n.1)
 counted s c (Did act ∷ log) f n = count_act s c log act f.0 (queue_is s c log f.1 n.1).served (counted s c log f.1 n.1)
+counted s c (_ ∷ log) f n = counted s c log f.1 n.1
 
 pub class_few : (s : Setting) (c : ℕ) (log : Log) → Each (IsFair s) log → Each IsNew log
     → class_starts c log ≤ length (submits log) + hands log
@@ -139,9 +137,8 @@ no_class_past cat c t e l z = elim (dec_le c (length cat.classes)) [
 
 of_tm : (cat : Catalogue) (c : ℕ) (at : Site) → IsNumbered at → T (tm_no (class_at cat c).tm.0) ≡ at → (c == 0) ≡ false
     → c ≤ length cat.classes
-of_tm cat c U l q z = cc
 of_tm cat c (T t) l q z = let n : (class_at cat c).tm.0 ≡ t.0 = cc in no_class_past cat c t.0 n l z
-of_tm cat c (D d) l q z = cc
+of_tm cat c _ l q z = cc
 
 pub class_here : (cat : Catalogue) (c : ℕ) (at : Site) → IsNumbered at → home cat c ≡ at → c ≤ length cat.classes
 class_here cat c at l e = elim (same_or_not c 0) [ inl p ↦ omega (arith, p) | inr p ↦ of_tm cat c at l (rw p at e) p ]
@@ -174,11 +171,8 @@ start_total s log act l i h =
 by_classes : (s : Setting) (log : Log) → IsNumbered s.site → Each (IsFair s) log
     → starts log ≤ total (λ c. class_starts c log) (classes_of s)
 by_classes s [] l f = omega arith
-by_classes s (Handed from m ∷ log) l f = by_classes s log l f.1
-by_classes s (Ticked n ∷ log) l f = by_classes s log l f.1
-by_classes s (Submits n txn ∷ log) l f = by_classes s log l f.1
-by_classes s (Redeclared force t ∷ log) l f = by_classes s log l f.1
 by_classes s (Did act ∷ log) l f = start_total s log act l f.0 (by_classes s log l f.1)
+by_classes s (_ ∷ log) l f = by_classes s log l f.1
 
 pub site_few : (s : Setting) (log : Log) → IsNumbered s.site → Each (IsFair s) log → Each IsNew log
     → starts log ≤ suc (length s.catalogue.classes) * (length (submits log) + hands log)

@@ -25,11 +25,8 @@ forces_are g eras at = each_local g at (ForceIs g.catalogue) (record {
 in_force_is : (s : Setting) (log : Log) → Each (ForceIs s.catalogue) log
     → IsEraOf s.catalogue (in_force s log).catalogue
 in_force_is s [] h = era_of_itself s.catalogue
-in_force_is s (Handed from m ∷ log) h = in_force_is s log h.1
-in_force_is s (Ticked n ∷ log) h = in_force_is s log h.1
-in_force_is s (Submits n txn ∷ log) h = in_force_is s log h.1
 in_force_is s (Redeclared force t ∷ log) h = h.0
-in_force_is s (Did act ∷ log) h = in_force_is s log h.1
+in_force_is s (_ ∷ log) h = in_force_is s log h.1
 
 -- class 0, or a class that covers the transaction
 abbrev pub Covers : Catalogue → ℕ → Txn → Type 0

@@ -90,8 +90,7 @@ head_step s log c true (Read ts class txn attempt conds uses) a l h e =
     waited_step s log c (list_all (is_met (view_of s log)) conds) ts class txn attempt conds uses a l h e
 head_step s log c false (Read ts class txn attempt conds uses) a l h e =
     judged_step s log c ts class txn attempt conds uses _ _ a l h e
-head_step s log c true _ a l h e = cc
-head_step s log c false _ a l h e = cc
+head_step s log c _ _ a l h e = cc
 
 at_head : (s : Setting) (log : Log) (c : ℕ) (o : Option Msg) (a : Act) → IsClassHere s c → head (pipe c log) ≡ o
     → act_where (home_of s) (view_of s log) c o (step_on (view_of s log) c (waits c log) o) ≡ Some a → IsDataStep s log a

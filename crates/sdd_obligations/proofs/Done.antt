@@ -10,15 +10,7 @@ down_join d b (x ∷ xs) ys = down_join d (turned_by d x b) xs ys
 
 count_in : (e : Event) (es : List Event) → redeclares_in (e ∷ es) ≡ redeclares_in (e ∷ []) + redeclares_in es
 count_in (Submit n) es = omega arith
-count_in (Deliver a b k) es = omega arith
-count_in (Lose a b k) es = omega arith
-count_in (Repeat a b k) es = omega arith
-count_in (Resend a b) es = omega arith
-count_in (Tick t n) es = omega arith
-count_in Settle es = omega arith
-count_in Redeclare es = omega arith
-count_in (Down d) es = omega arith
-count_in (Up d) es = omega arith
+count_in _ es = omega arith
 
 pub count_join : (xs ys : List Event) → redeclares_in (xs ++ ys) ≡ redeclares_in xs + redeclares_in ys
 count_join [] ys = omega arith
@@ -35,28 +27,12 @@ OnlySettles (_ ∷ es) = ⊥
 pub settles_turn : (d : ℕ) (b : Bool) (es : List Event) → OnlySettles es → down_from d b es ≡ b
 settles_turn d b [] h = refl
 settles_turn d b (Settle ∷ es) h = settles_turn d b es h
-settles_turn d b (Submit n ∷ es) h = absurd h
-settles_turn d b (Deliver x y k ∷ es) h = absurd h
-settles_turn d b (Lose x y k ∷ es) h = absurd h
-settles_turn d b (Repeat x y k ∷ es) h = absurd h
-settles_turn d b (Resend x y ∷ es) h = absurd h
-settles_turn d b (Tick t n ∷ es) h = absurd h
-settles_turn d b (Redeclare ∷ es) h = absurd h
-settles_turn d b (Down m ∷ es) h = absurd h
-settles_turn d b (Up m ∷ es) h = absurd h
+settles_turn d b (_ ∷ es) h = absurd h
 
 settles_count : (es : List Event) → OnlySettles es → redeclares_in es ≡ 0
 settles_count [] h = refl
 settles_count (Settle ∷ es) h = settles_count es h
-settles_count (Submit n ∷ es) h = absurd h
-settles_count (Deliver x y k ∷ es) h = absurd h
-settles_count (Lose x y k ∷ es) h = absurd h
-settles_count (Repeat x y k ∷ es) h = absurd h
-settles_count (Resend x y ∷ es) h = absurd h
-settles_count (Tick t n ∷ es) h = absurd h
-settles_count (Redeclare ∷ es) h = absurd h
-settles_count (Down m ∷ es) h = absurd h
-settles_count (Up m ∷ es) h = absurd h
+settles_count (_ ∷ es) h = absurd h
 
 pub record IsSplit (ws : List Event) (e : Event) : Type 0 where
   pub skip : List Event
@@ -77,11 +53,7 @@ by_mark ws x e h n s = let p : x ≡ e = cc in (subst (IsSplit ws) p s, subst (�
 
 marked_first : (g : Given) (log : Log) (q : Bool) (r ws : List Event) (e : Event) → mark_from g log q r ws ≡ Some (Mark e)
     → IsSplit ws e × (redeclares_in (e ∷ []) ≡ 0)
-marked_first g log q r [] e h = absurd (cc)
 marked_first g log true r (Settle ∷ ws) e h = let i = marked_first g log true r ws e h in (behind_settle e ws i.0, i.1)
-marked_first g log false r (Settle ∷ ws) e h = absurd (cc)
-marked_first g log true r (Redeclare ∷ ws) e h = absurd (cc)
-marked_first g log false r (Redeclare ∷ ws) e h = absurd (cc)
 marked_first g log q r (Submit n ∷ ws) e h = by_mark (Submit n ∷ ws) (Submit n) e h refl (at_once (Submit n) ws refl)
 marked_first g log q r (Deliver a b k ∷ ws) e h = by_mark (Deliver a b k ∷ ws) (Deliver a b k) e h refl (at_once (Deliver a b k) ws refl)
 marked_first g log q r (Lose a b k ∷ ws) e h = by_mark (Lose a b k ∷ ws) (Lose a b k) e h refl (at_once (Lose a b k) ws refl)
@@ -90,20 +62,12 @@ marked_first g log q r (Resend a b ∷ ws) e h = by_mark (Resend a b ∷ ws) (Re
 marked_first g log q r (Tick t n ∷ ws) e h = by_mark (Tick t n ∷ ws) (Tick t n) e h refl (at_once (Tick t n) ws refl)
 marked_first g log q r (Down d ∷ ws) e h = by_mark (Down d ∷ ws) (Down d) e h refl (at_once (Down d) ws refl)
 marked_first g log q r (Up d ∷ ws) e h = by_mark (Up d ∷ ws) (Up d) e h refl (at_once (Up d) ws refl)
+marked_first g log _ r _ e h = absurd (cc)
 
 pub listed_first : (g : Given) (log : Log) (q : Bool) (r ws : List Event) (t : ℕ) → mark_from g log q r ws ≡ Some (Redeclares t) → IsSplit ws Redeclare
-listed_first g log q r [] t h = absurd (cc)
 listed_first g log true r (Settle ∷ ws) t h = behind_settle Redeclare ws (listed_first g log true r ws t h)
-listed_first g log false r (Settle ∷ ws) t h = absurd (cc)
 listed_first g log q r (Redeclare ∷ ws) t h = at_once Redeclare ws refl
-listed_first g log q r (Submit n ∷ ws) t h = absurd (cc)
-listed_first g log q r (Deliver a b k ∷ ws) t h = absurd (cc)
-listed_first g log q r (Lose a b k ∷ ws) t h = absurd (cc)
-listed_first g log q r (Repeat a b k ∷ ws) t h = absurd (cc)
-listed_first g log q r (Resend a b ∷ ws) t h = absurd (cc)
-listed_first g log q r (Tick u n ∷ ws) t h = absurd (cc)
-listed_first g log q r (Down d ∷ ws) t h = absurd (cc)
-listed_first g log q r (Up d ∷ ws) t h = absurd (cc)
+listed_first g log _ r _ t h = absurd (cc)
 
 -- what is done
 
@@ -134,16 +98,9 @@ one_more g down lists more total ws e s i n sum =
 -- an event that turns no module
 
 turned_same : (d : ℕ) (e : Event) (b : Bool) → TurnsNone e → turned_by d e b ≡ b
-turned_same d (Submit n) b h = refl
-turned_same d (Deliver x y k) b h = refl
-turned_same d (Lose x y k) b h = refl
-turned_same d (Repeat x y k) b h = refl
-turned_same d (Resend x y) b h = refl
-turned_same d (Tick t n) b h = refl
-turned_same d Settle b h = refl
-turned_same d Redeclare b h = refl
 turned_same d (Down m) b h = absurd h
 turned_same d (Up m) b h = absurd h
+turned_same d _ b h = refl
 
 abbrev pub AreDone : Given → (ℕ → Bool) → ℕ → List Event × List Event → Type 0
 AreDone g down lists s = AtEach TurnsNone s.1 × IsDoneAs g down lists s.0
@@ -186,10 +143,7 @@ done g (Redeclares t ∷ log) few h = list_done g log t (left g.events log) (mar
 done g (Round es ∷ log) few h =
     let e : es ≡ round (all_links g) (calls_of log) = of_next g log (Round es) few h.1 h.0 in
     (subst (AtEach TurnsNone) (sym e) (each_of_round TurnsNone g.catalogue.tms g.catalogue.dms (calls_of log) (λ a b l. (tt, tt))), (done g log few h.1).1)
-done g (Hand a b n m ∷ log) few h = done g log few h.1
-done g (Submitted at n ∷ log) few h = done g log few h.1
-done g (Notes ∷ log) few h = done g log few h.1
-done g (Does at act ∷ log) few h = done g log few h.1
+done g (_ ∷ log) few h = done g log few h.1
 
 -- what is done of the lists, and what is left, is what was given
 pub redeclares_left : (g : Given) (log : Log) → AllFewTicks g.events → IsLawful g log

@@ -107,10 +107,7 @@ start_between s y b l a front c r f e is =
 dones_up : (x : ℕ) (later l : site.Log) → dones_of x l ≤ dones_of x (later ++ l)
 dones_up x [] l = omega arith
 dones_up x (Handed from m ∷ later) l = let i = dones_up x later l in omega (arith, i)
-dones_up x (Ticked n ∷ later) l = dones_up x later l
-dones_up x (Submits n txn ∷ later) l = dones_up x later l
-dones_up x (Redeclared force t ∷ later) l = dones_up x later l
-dones_up x (Did act ∷ later) l = dones_up x later l
+dones_up x (_ ∷ later) l = dones_up x later l
 
 -- at such a Start every module's DONE for the Commit before it was handed
 all_done : (g : Given) (k t : ℕ) (log : Log) (y : Act) (b : site.Log) (a : Attempt) → slice_get (numbers_to g.catalogue.tms) k ≡ Some t

@@ -40,10 +40,8 @@ acted_fits cat d c (Sends to m hand) p all = all
 pipe_fits : (cat : Catalogue) (d c : ℕ) (log : Log) → Each (HandFits cat d) log → AreFit cat d (pipe c log).unprocessed
 pipe_fits cat d c [] h = tt
 pipe_fits cat d c (Handed from m ∷ log) h = put_fits cat d m (goes_through c m) (pipe c log) h.0 (pipe_fits cat d c log h.1)
-pipe_fits cat d c (Ticked n ∷ log) h = pipe_fits cat d c log h.1
-pipe_fits cat d c (Submits n txn ∷ log) h = pipe_fits cat d c log h.1
-pipe_fits cat d c (Redeclared force t ∷ log) h = pipe_fits cat d c log h.1
 pipe_fits cat d c (Did act ∷ log) h = acted_fits cat d c act (pipe c log) (pipe_fits cat d c log h.1)
+pipe_fits cat d c (_ ∷ log) h = pipe_fits cat d c log h.1
 
 -- the changes that are applied
 
@@ -70,11 +68,8 @@ act_items cat d c (Sends to m hand) p xs all h = h
 
 applied_items : (cat : Catalogue) (d c : ℕ) (log : Log) → Each (HandFits cat d) log → AreItems cat (applied c log)
 applied_items cat d c [] h = tt
-applied_items cat d c (Handed from m ∷ log) h = applied_items cat d c log h.1
-applied_items cat d c (Ticked n ∷ log) h = applied_items cat d c log h.1
-applied_items cat d c (Submits n txn ∷ log) h = applied_items cat d c log h.1
-applied_items cat d c (Redeclared force t ∷ log) h = applied_items cat d c log h.1
 applied_items cat d c (Did act ∷ log) h = act_items cat d c act (pipe c log) (applied c log) (pipe_fits cat d c log h.1) (applied_items cat d c log h.1)
+applied_items cat d c (_ ∷ log) h = applied_items cat d c log h.1
 
 module _ (s : Setting) (sound : IsSound s.catalogue) (first : IsDatabase s.catalogue (database_of s.catalogue s.rows)) (d : ℕ) where
   -- all changes that make the copies are of items
@@ -96,12 +91,7 @@ module _ (s : Setting) (sound : IsSound s.catalogue) (first : IsDatabase s.catal
 
   pub snapshot_entries : (ts : ℕ) (log : Log) → Each (HandFits s.catalogue d) log → AllByRecursion (IsEntry s.catalogue) (snapshots s ts log)
   snapshot_entries ts [] h = tt
-  snapshot_entries ts (Handed from m ∷ log) h = snapshot_entries ts log h.1
-  snapshot_entries ts (Ticked n ∷ log) h = snapshot_entries ts log h.1
-  snapshot_entries ts (Submits n txn ∷ log) h = snapshot_entries ts log h.1
-  snapshot_entries ts (Redeclared force t ∷ log) h = snapshot_entries ts log h.1
   snapshot_entries ts (Did (Records k (Answer txn attempt dm) sends) ∷ log) h =
       answer_entries ts (is_at ts (head (pipe k log))) (head (pipe k log)) log h.1
       (snapshot_entries ts log h.1)
-  snapshot_entries ts (Did (Records k _ sends) ∷ log) h = snapshot_entries ts log h.1
-  snapshot_entries ts (Did (Sends to m hand) ∷ log) h = snapshot_entries ts log h.1
+  snapshot_entries ts (_ ∷ log) h = snapshot_entries ts log h.1

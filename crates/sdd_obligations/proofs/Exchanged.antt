@@ -72,8 +72,7 @@ rows_served g log (D d) b n ts of rows w good eras h route (Some x) e =
     subst (λ b. IsPermitted g (Hand (D d) b n (Rows ts of rows) ∷ log) → active (setting_of g b) of.0 (local_of g b log) ≡ Some x
     → ServesIfLast (setting_of g b) (base_of g (Hand (D d) b n (Rows ts of rows) ∷ log)) x rows (without x.exchange.lacks d.0)) at
     (λ h e. rows_serve g good eras of.0 log x d n ts of rows h e (sym r.awaited.same) refl) h e
-rows_served g log (T t) b n ts of rows w good eras h route (Some x) e = absurd route.0
-rows_served g log U b n ts of rows w good eras h route (Some x) e = absurd route.0
+rows_served g log _ b n ts of rows w good eras h route (Some x) e = absurd route.0
 
 pub served_here : (g : Given) (log : Log) (a b : Site) (n : ℕ) (m : Msg) → IsWhole g.catalogue → FitsGiven g → HasEras g
     → IsPermitted g (Hand a b n m ∷ log) → IsRouted a b m → IsServedAt (setting_of g b) (base_of g (Hand a b n m ∷ log)) (local_of g b log) a m

@@ -11,19 +11,14 @@ is_a_fetch (Fetch t k u col) = true
 is_a_fetch _ = false
 
 no_values : (p : Phase) (q : Msg) → awaits p q ≡ true → is_a_fetch q ≡ false → AwaitsNoValues p
-no_values Reading q a e = tt
-no_values (Reducing v) q a e = tt
-no_values Shipping q a e = tt
-no_values Over q a e = tt
 no_values (Fetching v) (Fetch t k u col) a e = cc
 no_values (Fetching v) q a e = cc
+no_values _ q a e = tt
 
 not_shipping : (p : Phase) (q : Msg) → awaits p q ≡ true → is_a_ship q ≡ false → is_shipped p ≡ false
-not_shipping Reading q a e = refl
-not_shipping (Fetching v) q a e = refl
-not_shipping (Reducing v) q a e = refl
 not_shipping Shipping q a e = never (is_a_ship q) a e
 not_shipping Over q a e = cc
+not_shipping _ q a e = refl
 
 pub shipping_is : (p : Phase) (q : Msg) → awaits p q ≡ true → is_a_ship q ≡ true → p ≡ Shipping
 shipping_is Shipping q a e = refl
@@ -65,11 +60,10 @@ next_ships ts c x (q ∷ rest) done =
     ]
 
 end_ships : (ts c : ℕ) (x : Exchange) (p : Phase) → x.phase ≡ p → is_shipped p ≡ false → ShipsAll (phase_ends ts c x p)
-end_ships ts c x Reading e f = next_ships ts c x x.left x.done
 end_ships ts c x (Fetching m) e f = λ s. cc
-end_ships ts c x (Reducing m) e f = next_ships ts c x x.left x.done
 end_ships ts c x Shipping e f = cc
 end_ships ts c x Over e f = cc
+end_ships ts c x _ e f = next_ships ts c x x.left x.done
 
 lack_ships : (ts c : ℕ) (x : Exchange) (ds : List ℕ) → is_shipped x.phase ≡ false → ShipsAll (lacking ts c x ds)
 lack_ships ts c x [] f = end_ships ts c (record x { lacks = [] }) x.phase refl f
@@ -94,10 +88,8 @@ next_found ts c x (q ∷ rest) done =
 
 end_found : (ts c : ℕ) (x : Exchange) (p : Phase) → (phase_ends ts c x p).found ≡ x.found
 end_found ts c x Reading = next_found ts c x x.left x.done
-end_found ts c x (Fetching m) = refl
 end_found ts c x (Reducing m) = next_found ts c x x.left x.done
-end_found ts c x Shipping = refl
-end_found ts c x Over = refl
+end_found ts c x _ = refl
 
 lack_found : (ts c : ℕ) (x : Exchange) (ds : List ℕ) → (lacking ts c x ds).found ≡ x.found
 lack_found ts c x [] = end_found ts c (record x { lacks = [] }) x.phase
@@ -173,31 +165,19 @@ module _ (ds : List ℕ) (statements : List Stmt) (asked : ℕ → ℕ → Bool)
 ready_kind : (ns : List ℕ) (q : Msg) (t : Ts) (k : ClassNo) (counts : List (ℕ × ℕ))
     → Replies ns q (Ready t k counts) → (is_a_fetch q ≡ false) × (is_a_ship q ≡ false)
 ready_kind ns (Read a b txn attempt conds uses) t k counts h = (refl, refl)
-ready_kind ns (Fetch a b u col) t k counts h = absurd h
-ready_kind ns (Reduce a b u col vs) t k counts h = absurd h
-ready_kind ns (Ship a b) t k counts h = absurd h
 ready_kind ns _ t k counts h = absurd h
 
 reduced_kind : (ns : List ℕ) (q : Msg) (t : Ts) (k : ClassNo) (u y : ℕ) → Replies ns q (Reduced t k u y) → (is_a_fetch q ≡ false) × (is_a_ship q ≡ false)
-reduced_kind ns (Read a b txn attempt conds uses) t k u y h = absurd h
-reduced_kind ns (Fetch a b v col) t k u y h = absurd h
 reduced_kind ns (Reduce a b v col vs) t k u y h = (refl, refl)
-reduced_kind ns (Ship a b) t k u y h = absurd h
 reduced_kind ns _ t k u y h = absurd h
 
 values_kind : (ns : List ℕ) (q : Msg) (t : Ts) (k : ClassNo) (u : ℕ) (vs : List Value)
     → Replies ns q (Values t k u vs) → (is_a_fetch q ≡ true) × (is_a_ship q ≡ false) × (is_a_read q ≡ false)
-values_kind ns (Read a b txn attempt conds uses) t k u vs h = absurd h
 values_kind ns (Fetch a b v col) t k u vs h = (refl, refl, refl)
-values_kind ns (Reduce a b v col ws) t k u vs h = absurd h
-values_kind ns (Ship a b) t k u vs h = absurd h
 values_kind ns _ t k u vs h = absurd h
 
 pub rows_kind : (ns : List ℕ) (q : Msg) (t : Ts) (k : ClassNo) (rows : List (ℕ × Row))
     → Replies ns q (Rows t k rows) → (is_a_ship q ≡ true) × (is_a_read q ≡ false)
-rows_kind ns (Read a b txn attempt conds uses) t k rows h = absurd h
-rows_kind ns (Fetch a b v col) t k rows h = absurd h
-rows_kind ns (Reduce a b v col ws) t k rows h = absurd h
 rows_kind ns (Ship a b) t k rows h = (refl, refl)
 rows_kind ns _ t k rows h = absurd h
 
@@ -277,8 +257,7 @@ module _ (ds : List ℕ) (statements : List Stmt) (asked : ℕ → ℕ → Bool)
         (Rows t k rows) h.follows (λ e. subst AwaitsNoValues (sym p) tt))
         (λ f. more_found ds statements asked first ts c n space there x rows (x.rows + length rows) p
         (told_rows ts c x r.question t k rows (space n) p (r.content q.1) (r.tells q.1)) h f)
-    hand_serves x (Reject t k b write) own kind r once within h = cc
-    hand_serves x m own kind r once within h = cc
+    hand_serves x _ own kind r once within h = cc
 
   -- a send leaves all that matters
   pub send_serves : (space : Space) (x : Exchange) → Serves space x → Serves space (after_send x)

@@ -66,10 +66,9 @@ attempt_first s log bases c (Some a) act l i e = send_first s log bases c a a.ex
 
 null_first : (s : Setting) (log : Log) (q : tm_views.Question) (b : Bool) (o : Option ℕ) (act : Act)
     → (if b then tm.null_at q o else None) ≡ Some act → IsFirstSend s log act
-null_first s log q true None act e = cc
 null_first s log q true (Some t) act e =
     send_is s log (Sends q.from (Null (class_no q.class) (time_at t)) (Some q.hand)) act (λ ts c f. cc) e
-null_first s log q false o act e = cc
+null_first s log q _ _ act e = cc
 
 held_first : (s : Setting) (log : Log) (b : Bool) (t : Ts) (hand : Option ℕ) (act : Act)
     → (if b then Some (Sends U (Held t) hand) else None) ≡ Some act → IsFirstSend s log act
@@ -78,9 +77,8 @@ held_first s log false t hand act e = cc
 
 start_first : (s : Setting) (log : Log) (b : Bool) (v : tm_views.View) (c : ℕ) (o : Option Queued) (act : Act)
     → c ≤ length s.catalogue.classes → (if b then tm.start_of s.catalogue v c o else None) ≡ Some act → IsFirstSend s log act
-start_first s log true v c None act l e = cc
 start_first s log true v c (Some q) act l e = send_is s log (start_act s.catalogue v.force.table c v.clock q) act l e
-start_first s log false v c o act l e = cc
+start_first s log _ v c _ act l e = cc
 
 -- the classes that a transaction module runs are of the catalogue
 run_here : (s : Setting) (k c : ℕ) → slice_get (tm_views.runs s) k ≡ Some c → c ≤ length s.catalogue.classes

@@ -34,15 +34,13 @@ t_is_u t e = cc
 t_ready : (g : Given) (log : Log) (a : Site) (t : TmNo) (n ts c : ℕ) (m : Msg) → IsSmall g → IsHanded g log a (T t) n m → IsD a → is_verdict ts c m ≡ true
     → AnswersRead (local_of g (T t) log) a ts c
 t_ready g log (D d) t n ts c m s h r e = answers_at g log d (T t) n ts c m h (tm_small g log (D d) t n m s h) e
-t_ready g log U t n ts c m s h r e = absurd r
-t_ready g log (T x) t n ts c m s h r e = absurd r
+t_ready g log _ t n ts c m s h r e = absurd r
 
 t_ask : (g : Given) (log : Log) (a : Site) (t : TmNo) (n : ℕ) (k : ClassNo) (time : Ts) → IsHanded g log a (T t) n (Ask k time) → IsD a
     → tm.FitsAsk (setting_of g (T t)) k.0 time.0
 t_ask g log (D d) t n k time h r =
     record { runs_it = asked_class g d t log (handed (D d) (T t) log) k time h.permitted.1 h.place; early = late time.0 h.times.0 }
-t_ask g log U t n k time h r = absurd r
-t_ask g log (T x) t n k time h r = absurd r
+t_ask g log _ t n k time h r = absurd r
 
 t_hold : (g : Given) (log : Log) (a : Site) (t : TmNo) (n : ℕ) → IsHanded g log a (T t) n Hold → a ≡ U
     → tm.FitsHold (setting_of g (T t)) (local_of g (T t) log) a
@@ -70,47 +68,37 @@ t_fits g log a t n (Rows ts class rows) bases s h u = u
 t_fits g log a t n (Ask class time) bases s h u = t_ask g log a t n class time h h.route.0
 t_fits g log a t n Hold bases s h u = t_hold g log a t n h h.route.0
 t_fits g log a t n (Release ts) bases s h u = t_release g log a t n ts h h.route.0
-t_fits g log a t n (Read ts class txn attempt conds uses) bases s h u = absurd h.route.1
-t_fits g log a t n (Write ts class txn changes) bases s h u = absurd h.route.1
-t_fits g log a t n (Null class time) bases s h u = absurd h.route.1
-t_fits g log a t n (Fetch ts class k col) bases s h u = absurd h.route.1
-t_fits g log a t n (Reduce ts class k col values) bases s h u = absurd h.route.1
-t_fits g log a t n (Ship ts class) bases s h u = absurd h.route.1
 t_fits g log a t n (Held time) bases s h u = t_is_u t h.route.1
 t_fits g log a t n (Done ts) bases s h u = t_is_u t h.route.1
+t_fits g log a t n _ bases s h u = absurd h.route.1
 
 -- at U
 
 u_ready : (g : Given) (log : Log) (a : Site) (n ts c : ℕ) (m : Msg) → IsHanded g log a U n m → IsD a → is_verdict ts c m ≡ true
     → AnswersRead (local_of g U log) a ts c
 u_ready g log (D d) n ts c m h r e = answers_at g log d U n ts c m h (omega arith) e
-u_ready g log U n ts c m h r e = absurd r
-u_ready g log (T x) n ts c m h r e = absurd r
+u_ready g log _ n ts c m h r e = absurd r
 
 u_reject : {A : Type 0} (g : Given) (log : Log) (a : Site) (n : ℕ) (ts : Ts) (k by : ClassNo) (write : Ts) → IsWhole g.catalogue
     → IsHanded g log a U n (Reject ts k by write) → IsD a → A
 u_reject g log (D d) n ts k by write w h r =
     let i = d_of_sites g.catalogue.tms g.catalogue.dms d h.from_there in
     absurd (u_not_rejected g d log (handed (D d) U log) ts k by write w i.0 i.1 h.permitted.1 h.place)
-u_reject g log U n ts k by write w h r = absurd r
-u_reject g log (T x) n ts k by write w h r = absurd r
+u_reject g log _ n ts k by write w h r = absurd r
 
 u_ask : {A : Type 0} (g : Given) (log : Log) (a : Site) (n : ℕ) (k : ClassNo) (time : Ts) → IsHanded g log a U n (Ask k time) → IsD a → A
 u_ask g log (D d) n k time h r = absurd (asks_not_u g d log (handed (D d) U log) k time h.permitted.1 h.place)
-u_ask g log U n k time h r = absurd r
-u_ask g log (T x) n k time h r = absurd r
+u_ask g log _ n k time h r = absurd r
 
 u_held : (g : Given) (log : Log) (a : Site) (n : ℕ) (time : Ts) → IsHanded g log a U n (Held time) → IsT a → um.FitsHeld (local_of g U log) a time.0
 u_held g log (T t) n time h r =
     let i = t_of_sites g.catalogue.tms g.catalogue.dms t h.from_there in held_fits g t n time log i.0 i.1 (late time.0 h.times.0) h.permitted
-u_held g log U n time h r = absurd r
-u_held g log (D d) n time h r = absurd r
+u_held g log _ n time h r = absurd r
 
 u_done : (g : Given) (log : Log) (a : Site) (n : ℕ) (ts : Ts) → IsWhole g.catalogue → IsHanded g log a U n (Done ts) → IsD a
     → um.FitsDone (setting_of g U) (local_of g U log) a ts.0
 u_done g log (D d) n ts w h r = done_fits g (1 - 1) 1 log d n ts (at_place g.catalogue.tms 1 (omega arith) w.some_tm) h.permitted h.place
-u_done g log U n ts w h r = absurd r
-u_done g log (T x) n ts w h r = absurd r
+u_done g log _ n ts w h r = absurd r
 
 pub u_fits : (g : Given) (log : Log) (a : Site) (n : ℕ) (m : Msg) (bases : Bases) → IsWhole g.catalogue → IsHanded g log a U n m
     → IsUpheldR (setting_of g U) bases (local_of g U log) a m → um.fits_kind (setting_of g U) bases (local_of g U log) a m
@@ -123,11 +111,4 @@ u_fits g log a n (Held time) bases w h u = u_held g log a n time h h.route.0
 u_fits g log a n (Done ts) bases w h u = u_done g log a n ts w h h.route.0
 u_fits g log a n (Reject ts class by write) bases w h u = u_reject g log a n ts class by write w h h.route.0
 u_fits g log a n (Ask class time) bases w h u = u_ask g log a n class time h h.route.0
-u_fits g log a n (Read ts class txn attempt conds uses) bases w h u = absurd h.route.1
-u_fits g log a n (Write ts class txn changes) bases w h u = absurd h.route.1
-u_fits g log a n (Null class time) bases w h u = absurd h.route.1
-u_fits g log a n (Fetch ts class k col) bases w h u = absurd h.route.1
-u_fits g log a n (Reduce ts class k col values) bases w h u = absurd h.route.1
-u_fits g log a n (Ship ts class) bases w h u = absurd h.route.1
-u_fits g log a n Hold bases w h u = absurd h.route.1
-u_fits g log a n (Release ts) bases w h u = absurd h.route.1
+u_fits g log a n _ bases w h u = absurd h.route.1

@@ -80,13 +80,11 @@ turn_with_step g ts c at b e log =
 
 pub silent_first : (g : Given) (ts c d : ℕ) (at : Site) → turn_at ts c d (local_of g at []) ≡ Silent
 silent_first g ts c d U = refl
-silent_first g ts c d (T t) = refl
-silent_first g ts c d (D x) = refl
+silent_first g ts c d _ = refl
 
 pub nothing_put : (g : Given) (at b : Site) → puts_to b (local_of g at []) ≡ []
 nothing_put g U b = refl
-nothing_put g (T t) b = refl
-nothing_put g (D x) b = refl
+nothing_put g _ b = refl
 
 -- entries that put nothing and hand nothing over
 
@@ -108,27 +106,16 @@ quiet_given n (Some t) b = (refl, refl)
 
 quiet_forced : (at : Site) (force : Force) (t : ℕ) → IsQuietMade (forced at force t)
 quiet_forced U force t b = (refl, refl)
-quiet_forced (T n) force t b = (refl, refl)
-quiet_forced (D d) force t b = (refl, refl)
+quiet_forced _ force t b = (refl, refl)
 
 pub quiet_made : (g : Given) (at : Site) (log : Log) (e : Entry) → is_plain e ≡ true → (b : Site)
     → (put_by b (made g at log e) ≡ []) × (handed_by b (made g at log e) ≡ [])
 quiet_made g at log (Mark (Tick t n)) p = quiet_if (same_site at (T t)) (Some (Ticked n)) (λ b. (refl, refl))
-quiet_made g at log (Mark (Submit n)) p = λ b. (refl, refl)
-quiet_made g at log (Mark (Deliver x y k)) p = λ b. (refl, refl)
-quiet_made g at log (Mark (Lose x y k)) p = λ b. (refl, refl)
-quiet_made g at log (Mark (Repeat x y k)) p = λ b. (refl, refl)
-quiet_made g at log (Mark (Resend x y)) p = λ b. (refl, refl)
-quiet_made g at log (Mark Settle) p = λ b. (refl, refl)
-quiet_made g at log (Mark Redeclare) p = λ b. (refl, refl)
-quiet_made g at log (Mark (Down d)) p = λ b. (refl, refl)
-quiet_made g at log (Mark (Up d)) p = λ b. (refl, refl)
-quiet_made g at log (Round es) p = λ b. (refl, refl)
 quiet_made g at log (Redeclares t) p = quiet_forced at (force_at g (suc (redeclares log))) t
 quiet_made g at log (Submitted s n) p = quiet_if (same_site at s) (given_to n (txn_at g n)) (quiet_given n (txn_at g n))
-quiet_made g at log Notes p = λ b. (refl, refl)
 quiet_made g at log (Hand from to n m) p = cc
 quiet_made g at log (Does by act) p = cc
+quiet_made g at log _ p = λ b. (refl, refl)
 
 -- what an act puts, and what a hand hands over
 

@@ -76,8 +76,7 @@ same_numbers U (T t) i j e = (let n = j.numbered in absurd (omega (arith, e, n))
 same_numbers (T t) U i j e = (let n = i.numbered in absurd (omega (arith, e, n)))
 same_numbers (T a) (T b) i j e = ap (λ n. T (tm_no n)) e
 same_numbers (D d) b i j e = absurd i.runs
-same_numbers U (D d) i j e = absurd j.runs
-same_numbers (T a) (D d) i j e = absurd j.runs
+same_numbers _ (D d) i j e = absurd j.runs
 
 numbers_by : (x y n m t : ℕ) → t ≡ (x + 1) * 64 + n → t ≡ (y + 1) * 64 + m → n ≤ 63 → m ≤ 63 → n ≡ m
 numbers_by x y n m t e f a b = omega (arith, e, f, a, b)
@@ -161,10 +160,7 @@ in_handed c [] from m before e = (length (all_handed c before), rw e (at_seam (a
 in_handed c (Handed a x ∷ later) from m before e =
     let i = in_handed c later from m before e in
     (i.0, in_more (goes_through c x) (all_handed c (later ++ Handed from m ∷ before)) x m i.0 i.1)
-in_handed c (Ticked n ∷ later) from m before e = in_handed c later from m before e
-in_handed c (Submits n txn ∷ later) from m before e = in_handed c later from m before e
-in_handed c (Redeclared force u ∷ later) from m before e = in_handed c later from m before e
-in_handed c (Did act ∷ later) from m before e = in_handed c later from m before e
+in_handed c (_ ∷ later) from m before e = in_handed c later from m before e
 
 in_its_pipe : (c : ℕ) (l later : site.Log) (from : Site) (m : Msg) (before : site.Log) → l ≡ later ++ Handed from m ∷ before
     → goes_through c m ≡ true → (k : ℕ) × (slice_get (all_of (pipe c l)) k ≡ Some m)

@@ -134,11 +134,10 @@ was_asked_of (Did act ∷ log) k q e =
 
 null_goes : (log : Log) (q : Question) (b : Bool) (o : Option ℕ) (act : Act) → WasAsked log q.from IsAnAsk
     → (if b then null_at q o else None) ≡ Some act → Goes log act
-null_goes log q true None act w e = cc
 null_goes log q true (Some t) act w e =
     goes_some log (Sends q.from (Null (class_no q.class) (time_at t)) (Some q.hand)) act
     (goes_one log q.from (Null (class_no q.class) (time_at t)) (Some q.hand) w) e
-null_goes log q false o act w e = cc
+null_goes log q _ _ act w e = cc
 
 held_goes : (s : Setting) (log : Log) (b : Bool) (hand : Option ℕ) (act : Act)
     → (if b then Some (Sends U (Held (time_at (bound s log))) hand) else None) ≡ Some act → Goes log act
@@ -148,9 +147,8 @@ held_goes s log false hand act e = cc
 
 start_if : (s : Setting) (log : Log) (b : Bool) (c : ℕ) (o : Option Queued) (act : Act)
     → (if b then start_of s.catalogue (view_of s log) c o else None) ≡ Some act → Goes log act
-start_if s log true c None act e = cc
 start_if s log true c (Some q) act e = goes_some log (start_at s c log q) act (start_goes s log c q) e
-start_if s log false c o act e = cc
+start_if s log _ c _ act e = cc
 
 pub t_goes : (s : Setting) (bases : Bases) (log : Log) (act : Act) → IsDue s.catalogue bases (view_of s log) act → Goes log act
 t_goes s bases log act (by_exchange k c p e) =

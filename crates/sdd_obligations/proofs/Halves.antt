@@ -49,16 +49,12 @@ data_turns g ts c d log h i =
 -- an attempt that exchanges rows is the active one
 
 told_quiet : (v : Turn) (x : Msg) → MayAnswer v x → is_exchanging (told x v) ≡ false
-told_quiet Silent x h = absurd h
 told_quiet (Asks ns q) x h = if_way (λ w. is_exchanging w ≡ false) (is_a_refusal x) Refused (Told ns q) refl refl
-told_quiet (Told ns q) x h = absurd h
-told_quiet Refused x h = absurd h
+told_quiet _ x h = absurd h
 
 may_ask_quiet : {A : Type 0} (w : Turn) (m : Msg) → MayAsk w m → is_exchanging w ≡ true → A
-may_ask_quiet Silent m h e = cc
 may_ask_quiet (Asks ns q) m h e = absurd h
-may_ask_quiet (Told ns q) m h e = cc
-may_ask_quiet Refused m h e = cc
+may_ask_quiet _ m h e = cc
 
 exchanging_home : (v w : Turn) (qs xs : List Msg) → IsStage v w qs xs → is_exchanging w ≡ true → is_exchanging v ≡ true
 exchanging_home v w qs xs (agreed s q x) e = ap is_exchanging s ∙ e
@@ -127,10 +123,8 @@ not_read_held true ns e = cc
 not_read_held false ns e = refl
 
 held_if_exchanging : (v : Turn) → is_exchanging v ≡ true → (ns : List ℕ) × (uses_held v ≡ Some ns)
-held_if_exchanging Silent e = cc
 held_if_exchanging (Asks ns m) e = (ns, not_read_held (is_a_read m) ns e)
-held_if_exchanging (Told ns m) e = cc
-held_if_exchanging Refused e = cc
+held_if_exchanging _ e = cc
 
 -- the READ of a class with this time, at the head of its pipe
 is_read_at : (ts c : ℕ) (m : Msg) → is_a_read m ≡ true → goes_through c m ≡ true → time_of m ≡ ts → is_read ts c m ≡ true

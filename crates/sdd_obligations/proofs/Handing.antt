@@ -17,9 +17,8 @@ pub record IsHanded (g : Given) (log : Log) (a b : Site) (n : ℕ) (m : Msg) : T
   pub times : AllLt (2 ^ 60) (times_of m)
 
 numbered_there : (tms dms : ℕ) (a : Site) → IsThere (sites tms dms) a → IsNumbered a
-numbered_there tms dms U k = tt
 numbered_there tms dms (T t) k = (t_of_sites tms dms t k).0
-numbered_there tms dms (D d) k = tt
+numbered_there tms dms _ k = tt
 
 small_there : (tms dms : ℕ) (a : Site) → tms ≤ 63 → IsThere (sites tms dms) a → IsRunner a → number_of a ≤ 63
 small_there tms dms U l k r = omega arith

@@ -50,19 +50,15 @@ pub record IsAskedBy (v : Turn) (m : Msg) : Type 0 where
   pub replies : Replies uses question m
 
 pub answers_asked : (v : Turn) (m : Msg) → MayAnswer v m → IsAskedBy v m
-answers_asked Silent m h = absurd h
 answers_asked (Asks ns q) m h = record { uses = ns; question = q; is = refl; replies = h }
-answers_asked (Told ns q) m h = absurd h
-answers_asked Refused m h = absurd h
+answers_asked _ m h = absurd h
 
 pub told_is : (v : Turn) (ns : List ℕ) (q m : Msg) → v ≡ Asks ns q → is_a_refusal m ≡ false → told m v ≡ Told ns q
 told_is v ns q m e f = ap (told m) e ∙ ap (λ (b : Bool). if b then Refused else Told ns q) f
 
 pub quiet_told : (m : Msg) (v : Turn) → is_exchanging v ≡ false → is_exchanging (told m v) ≡ false
-quiet_told m Silent e = refl
 quiet_told m (Asks ns q) e = if_way (λ w. is_exchanging w ≡ false) (is_a_refusal m) Refused (Told ns q) refl refl
-quiet_told m (Told ns q) e = refl
-quiet_told m Refused e = refl
+quiet_told m _ e = refl
 
 quiet_if : (b : Bool) (m : Msg) (v : Turn) → is_exchanging v ≡ false → is_exchanging (if b then told m v else v) ≡ false
 quiet_if b m v e = if_way (λ w. is_exchanging w ≡ false) b (told m v) v (quiet_told m v e) e

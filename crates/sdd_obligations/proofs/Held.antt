@@ -25,8 +25,7 @@ answers_one ts c true m =
 one_told : (v : Turn) (ms : List Msg) (b x : Bool) (m : Msg) → ms ≡ (if b && x then m ∷ [] else []) → (x ≡ true → MayAnswer v m)
     → IsToldInTurn v ms
 one_told v ms true true m e f = inr (m, e, f refl)
-one_told v ms true false m e f = inl e
-one_told v ms false x m e f = inl e
+one_told v ms _ _ m e f = inl e
 
 -- rows of the uses that are held
 
@@ -166,13 +165,12 @@ handed_held ts c ns m f h = h
 held_back : (v : Turn) (m : Msg) (ns : List ℕ) → MayAsk v m → uses_held (asked m v) ≡ Some ns → uses_held v ≡ Some ns
 held_back Silent (Read t k txn attempt conds uses) ns h e = cc
 held_back Silent m ns h e = cc
-held_back (Asks ms q) m ns h e = absurd h
 held_back (Told ms q) (Read t k txn attempt conds uses) ns h e = absurd h.1
 held_back (Told ms q) (Fetch t k u col) ns h e = ap (λ (b : Bool). if b then None else Some ms) h.0 ∙ e
 held_back (Told ms q) (Reduce t k u col vs) ns h e = ap (λ (b : Bool). if b then None else Some ms) h.0 ∙ e
 held_back (Told ms q) (Ship t k) ns h e = ap (λ (b : Bool). if b then None else Some ms) h.0 ∙ e
 held_back (Told ms q) m ns h e = absurd h.1
-held_back Refused m ns h e = absurd h
+held_back _ m ns h e = absurd h
 
 abbrev pub IsHeldAt : Setting → ℕ → ℕ → Site → Log → Type 0
 IsHeldAt s ts c at log = (ns : List ℕ) → uses_held (turn_with ts c at log) ≡ Some ns → AreHeldFor ts ns (frozen s c log)
@@ -232,10 +230,8 @@ told_asks q ms ns true f e = cc
 told_asks q ms ns false f e = ap (λ (b : Bool). if b then None else Some ms) f ∙ not_ship (is_a_ship q) ms ns e
 
 told_back : (v : Turn) (m : Msg) (ns : List ℕ) → asks_a_read v ≡ false → uses_held (told m v) ≡ Some ns → uses_held v ≡ Some ns
-told_back Silent m ns f e = e
 told_back (Asks ms q) m ns f e = told_asks q ms ns (is_a_refusal m) f e
-told_back (Told ms q) m ns f e = e
-told_back Refused m ns f e = e
+told_back _ m ns f e = e
 
 -- what is known of all attempts of the class at the module: but for this one none has a FETCH, REDUCE or SHIP without an
 -- answer, and no READ of another is next while rows are held for it

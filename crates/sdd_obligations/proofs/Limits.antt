@@ -12,11 +12,7 @@ pub marks_few : (log : Log) → IsWithin log → marks log ≤ MAX_RUN_EVENTS
 marks_few [] h = omega arith
 marks_few (Mark e ∷ log) h = not_past MAX_RUN_EVENTS (suc (marks log)) h.0
 marks_few (Redeclares t ∷ log) h = not_past MAX_RUN_EVENTS (suc (marks log)) h.0
-marks_few (Round es ∷ log) h = marks_few log h.1
-marks_few (Hand a b n m ∷ log) h = marks_few log h.1
-marks_few (Submitted at n ∷ log) h = marks_few log h.1
-marks_few (Notes ∷ log) h = marks_few log h.1
-marks_few (Does at act ∷ log) h = marks_few log h.1
+marks_few (_ ∷ log) h = marks_few log h.1
 
 abbrev AllWithin : List (Call Msg) → Type 0
 AllWithin calls = (a b : Site) → length (link a b calls).there.sent ≤ MAX_LINK_MESSAGES
@@ -54,12 +50,8 @@ pub sent_few : (g : Given) (log : Log) → IsWithin log → (a b : Site) → len
 sent_few g [] h a b = omega arith
 sent_few g (Mark e ∷ log) h a b =
     as_before MAX_LINK_MESSAGES (sent a b log) _ _ (sent_grows g a b (Mark e) log) (nothing_marked a b e) (sent_few g log h.1 a b)
-sent_few g (Round es ∷ log) h a b = sent_few g log h.1 a b
-sent_few g (Redeclares t ∷ log) h a b = sent_few g log h.1 a b
-sent_few g (Hand x y n m ∷ log) h a b = sent_few g log h.1 a b
-sent_few g (Submitted at n ∷ log) h a b = sent_few g log h.1 a b
-sent_few g (Notes ∷ log) h a b = sent_few g log h.1 a b
 sent_few g (Does at act ∷ log) h a b = puts_within at (sends_of_act act) (calls_of log) (λ x y. sent_few g log h.1 x y) h.0 a b
+sent_few g (_ ∷ log) h a b = sent_few g log h.1 a b
 
 pub handed_few : (g : Given) (log : Log) → IsPermitted g log → IsWithin log → (a b : Site) → handed a b log ≤ MAX_LINK_MESSAGES
 handed_few g log p h a b =
@@ -73,12 +65,8 @@ hands_by (Some (Handed from m)) = 1
 hands_by (Some _) = 0
 
 hands_more : (o : Option site.Entry) (l : site.Log) → hands (with_made o l) ≡ hands_by o + hands l
-hands_more None l = omega arith
-hands_more (Some (Handed from m)) l = omega arith
-hands_more (Some (Ticked n)) l = omega arith
-hands_more (Some (Submits n t)) l = omega arith
-hands_more (Some (Redeclared force t)) l = omega arith
 hands_more (Some (Did act)) l = omega arith
+hands_more _ l = omega arith
 
 abbrev submits_by : Option site.Entry → ℕ
 submits_by None = 0
@@ -86,12 +74,8 @@ submits_by (Some (Submits n t)) = 1
 submits_by (Some _) = 0
 
 submits_more : (o : Option site.Entry) (l : site.Log) → length (submits (with_made o l)) ≡ submits_by o + length (submits l)
-submits_more None l = omega arith
-submits_more (Some (Handed from m)) l = omega arith
-submits_more (Some (Ticked n)) l = omega arith
-submits_more (Some (Submits n t)) l = omega arith
-submits_more (Some (Redeclared force t)) l = omega arith
 submits_more (Some (Did act)) l = omega arith
+submits_more _ l = omega arith
 
 -- an entry counts where it is of its kind
 abbrev None2 : Option site.Entry → Type 0
@@ -106,8 +90,7 @@ none_marked at _ = (refl, refl)
 
 none_forced : (at : Site) (force : Force) (t : ℕ) → None2 (forced at force t)
 none_forced U force t = (refl, refl)
-none_forced (T n) force t = (refl, refl)
-none_forced (D d) force t = (refl, refl)
+none_forced _ force t = (refl, refl)
 
 given_one : (n : ℕ) (o : Option Txn) → (hands_by (given_to n o) ≡ 0) × (submits_by (given_to n o) ≤ 1)
 given_one n None = (refl, omega arith)
@@ -138,8 +121,6 @@ submits_step g at e log k n l h =
 
 submits_marks : (g : Given) (at : Site) (log : Log) → IsPermitted g log → length (submits (local_of g at log)) + pending log ≤ marks log
 submits_marks g U [] p = omega arith
-submits_marks g (T t) [] p = omega arith
-submits_marks g (D d) [] p = omega arith
 submits_marks g at (Mark e ∷ log) p =
     let i = submits_marks g at log p.1 in let z = (none_marked at e).1 in
     let j = submits_step g at (Mark e) log 0 (marks log) (omega (arith, z)) (omega (arith, i)) in omega (arith, j)
@@ -163,6 +144,7 @@ submits_marks g at (Does by act ∷ log) p =
     let i = submits_marks g at log p.1 in
     let z = if_way (λ o. submits_by o ≡ 0) (same_site at by) (Some (Did act)) None refl refl in
     let j = submits_step g at (Does by act) log 0 (marks log) (omega (arith, z)) (omega (arith, i)) in omega (arith, j)
+submits_marks g _ [] p = omega arith
 
 pub submits_few : (g : Given) (at : Site) (log : Log) → IsPermitted g log → length (submits (local_of g at log)) ≤ marks log
 submits_few g at log p = let i = submits_marks g at log p in omega (arith, i)
@@ -182,8 +164,7 @@ hands_step g at e log n z h =
 -- a hand to the site
 hand_raises : (c d : Bool) (n k : ℕ) → ((c && d) ≡ true → n ≡ suc k) → k ≤ (if c && d then n else k)
 hand_raises true true n k f = let e = f refl in omega (arith, e)
-hand_raises true false n k f = omega arith
-hand_raises false d n k f = omega arith
+hand_raises _ _ n k f = omega arith
 
 numbered : (g : Given) (log : Log) (a b from to : Site) (n : ℕ) (m : Msg) → IsAllowed g log (Hand from to n m)
     → (same_site a from && same_site b to) ≡ true → n ≡ suc (handed a b log)
@@ -217,16 +198,14 @@ hand_step g at from to n m log false h k e i =
 pub hands_few : (g : Given) (at : Site) (log : Log) → AllFewTicks g.events → IsLawful g log → IsPermitted g log
     → hands (local_of g at log) ≤ hands_sum g at log
 hands_few g U [] f l p = omega arith
-hands_few g (T t) [] f l p = omega arith
-hands_few g (D d) [] f l p = omega arith
 hands_few g at (Mark e ∷ log) f l p = hands_step g at (Mark e) log _ (none_marked at e).0 (hands_few g at log f l.1 p.1)
-hands_few g at (Round es ∷ log) f l p = hands_few g at log f l.1 p.1
 hands_few g at (Redeclares t ∷ log) f l p =
     hands_step g at (Redeclares t) log _ (none_forced at (force_at g (suc (redeclares log))) t).0 (hands_few g at log f l.1 p.1)
 hands_few g at (Hand from to n m ∷ log) f l p =
     hand_step g at from to n m log (same_site at to) p.0 (from_there g from to (of_next g log (Hand from to n m) f l.1 l.0)) refl (hands_few g at log f l.1 p.1)
 hands_few g at (Submitted to n ∷ log) f l p =
     hands_step g at (Submitted to n) log _ (given_if (same_site at to) n (txn_at g n)).0 (hands_few g at log f l.1 p.1)
-hands_few g at (Notes ∷ log) f l p = hands_few g at log f l.1 p.1
 hands_few g at (Does by act ∷ log) f l p =
     hands_step g at (Does by act) log _ (if_way (λ o. hands_by o ≡ 0) (same_site at by) (Some (Did act)) None refl refl) (hands_few g at log f l.1 p.1)
+hands_few g _ [] f l p = omega arith
+hands_few g at (_ ∷ log) f l p = hands_few g at log f l.1 p.1

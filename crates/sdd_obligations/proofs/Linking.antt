@@ -111,11 +111,10 @@ attempt_linked g at c bases log (Some a) act f h e = send_linked g at c bases a 
 
 null_linked : (g : Given) (at : Site) (q : tm_views.Question) (b : Bool) (o : Option ℕ) (act : Act) → Links g at q.from
     → (if b then tm.null_at q o else None) ≡ Some act → ActLinked g at act
-null_linked g at q true None act l e = cc
 null_linked g at q true (Some t) act l e =
     linked_some g at (Sends q.from (Null (class_no q.class) (time_at t)) (Some q.hand)) act
     (one_linked g at q.from (Null (class_no q.class) (time_at t)) (Some q.hand) l) e
-null_linked g at q false o act l e = cc
+null_linked g at q _ _ act l e = cc
 
 held_linked : (g : Given) (at : Site) (b : Bool) (m : Msg) (hand : Option ℕ) (act : Act) → Links g at U
     → (if b then Some (Sends U m hand) else None) ≡ Some act → ActLinked g at act
@@ -124,10 +123,9 @@ held_linked g at false m hand act l e = cc
 
 begin_linked : (g : Given) (t : TmNo) (log : site.Log) (b : Bool) (c : ℕ) (o : Option Queued) (act : Act) → IsWhole g.catalogue → ToModules g (T t)
     → (if b then tm.start_of g.catalogue (tm_views.view_of (setting_of g (T t)) log) c o else None) ≡ Some act → ActLinked g (T t) act
-begin_linked g t log true c None act w f e = cc
 begin_linked g t log true c (Some q) act w f e =
     linked_some g (T t) (start_at (setting_of g (T t)) c log q) act (start_linked g (T t) c log q w f) e
-begin_linked g t log false c o act w f e = cc
+begin_linked g t log _ c _ act w f e = cc
 
 t_linked : (g : Given) (t : TmNo) (log : Log) (bases : Bases) (act : Act) → IsWhole g.catalogue → AllFewTicks g.events → IsLawful g log
     → IsPermitted g log → Here g (T t) → tm.IsDue g.catalogue bases (tm_views.view_of (setting_of g (T t)) (local_of g (T t) log)) act
@@ -239,9 +237,8 @@ step_linked g d v c m step w here = (link_of g (D d) U here refl refl, tt)
 
 head_linked : (g : Given) (d : DmNo) (v : View) (c : ℕ) (o : Option Msg) (s : Option Step) (act : Act) → IsWhole g.catalogue → Here g (D d)
     → dm.act_where (home_of (setting_of g (D d))) v c o s ≡ Some act → ActLinked g (D d) act
-head_linked g d v c None s act w here e = cc
-head_linked g d v c (Some m) None act w here e = cc
 head_linked g d v c (Some m) (Some step) act w here e = linked_some g (D d) _ act (step_linked g d v c m step w here) e
+head_linked g d v c _ _ act w here e = cc
 
 d_linked : (g : Given) (d : DmNo) (log : Log) (act : Act) → IsWhole g.catalogue → AllFewTicks g.events → IsLawful g log → Here g (D d)
     → dm.IsDue (home_of (setting_of g (D d))) (view_of (setting_of g (D d)) (local_of g (D d) log)) act → ActLinked g (D d) act

@@ -51,28 +51,15 @@ round_none calls ls = none_join _ _ (resends_none calls ls) (delivers_none calls
 -- what a mark takes from the events that are left
 
 drop_ticks : (ws : List Event) → all_ticks (tail_of (from_event ws)) ≤ all_ticks ws
-drop_ticks [] = omega arith
 drop_ticks (Settle ∷ ws) = let i = drop_ticks ws in omega (arith, i)
-drop_ticks (Submit n ∷ ws) = omega arith
-drop_ticks (Deliver a b k ∷ ws) = omega arith
-drop_ticks (Lose a b k ∷ ws) = omega arith
-drop_ticks (Repeat a b k ∷ ws) = omega arith
-drop_ticks (Resend a b ∷ ws) = omega arith
-drop_ticks (Tick t n ∷ ws) = omega arith
-drop_ticks (Redeclare ∷ ws) = omega arith
-drop_ticks (Down d ∷ ws) = omega arith
-drop_ticks (Up d ∷ ws) = omega arith
+drop_ticks _ = omega arith
 
 same_mark : (x e : Event) (n : ℕ) → Some (Mark x) ≡ Some (Mark e) → ticks_of e + n ≤ ticks_of x + n
 same_mark x e n p = let s : x ≡ e = cc in subst (λ (y : Event). ticks_of y + n ≤ ticks_of x + n) s (omega arith)
 
 mark_ticks : (g : Given) (log : Log) (q : Bool) (r ws : List Event) (e : Event) → mark_from g log q r ws ≡ Some (Mark e)
     → ticks_of e + all_ticks (tail_of (from_event ws)) ≤ all_ticks ws
-mark_ticks g log q r [] e p = cc
 mark_ticks g log true r (Settle ∷ ws) e p = let i = mark_ticks g log true r ws e p in omega (arith, i)
-mark_ticks g log false r (Settle ∷ ws) e p = cc
-mark_ticks g log true r (Redeclare ∷ ws) e p = cc
-mark_ticks g log false r (Redeclare ∷ ws) e p = cc
 mark_ticks g log q r (Submit n ∷ ws) e p = same_mark (Submit n) e (all_ticks ws) p
 mark_ticks g log q r (Deliver a b k ∷ ws) e p = same_mark (Deliver a b k) e (all_ticks ws) p
 mark_ticks g log q r (Lose a b k ∷ ws) e p = same_mark (Lose a b k) e (all_ticks ws) p
@@ -81,6 +68,7 @@ mark_ticks g log q r (Resend a b ∷ ws) e p = same_mark (Resend a b) e (all_tic
 mark_ticks g log q r (Tick t n ∷ ws) e p = same_mark (Tick t n) e (all_ticks ws) p
 mark_ticks g log q r (Down d ∷ ws) e p = same_mark (Down d) e (all_ticks ws) p
 mark_ticks g log q r (Up d ∷ ws) e p = same_mark (Up d) e (all_ticks ws) p
+mark_ticks g log _ r _ e p = cc
 
 -- n ticks are done, those of the events that are left come besides, and those of a round are none
 abbrev AreLeft : ℕ → List Event × List Event → ℕ → Type 0
@@ -114,10 +102,7 @@ ticks_left g (Round es ∷ log) f h =
     let i = ticks_left g log f h.1 in
     let e : es ≡ round (all_links g) (calls_of log) = of_next g log (Round es) f h.1 h.0 in
     (i.0, ap all_ticks e ∙ round_none (calls_of log) (all_links g))
-ticks_left g (Hand a b n m ∷ log) f h = ticks_left g log f h.1
-ticks_left g (Submitted at n ∷ log) f h = ticks_left g log f h.1
-ticks_left g (Notes ∷ log) f h = ticks_left g log f h.1
-ticks_left g (Does at act ∷ log) f h = ticks_left g log f h.1
+ticks_left g (_ ∷ log) f h = ticks_left g log f h.1
 
 -- each Start of the log is an attempt of its history
 
@@ -130,11 +115,7 @@ height_is : (log : Log) → height log ≡ log_ticks log + log_starts log
 height_is [] = refl
 height_is (Mark e ∷ log) = let i = height_is log in omega (arith, i)
 height_is (Does at act ∷ log) = let i = height_is log in omega (arith, i)
-height_is (Redeclares t ∷ log) = height_is log
-height_is (Round es ∷ log) = height_is log
-height_is (Hand a b n m ∷ log) = height_is log
-height_is (Submitted at n ∷ log) = height_is log
-height_is (Notes ∷ log) = height_is log
+height_is (_ ∷ log) = height_is log
 
 abbrev start_of : Rec → ℕ
 start_of (Start txn attempt class ts p2 uses) = 1
@@ -176,10 +157,7 @@ starts_are (Notes ∷ log) =
 starts_are (Does at act ∷ log) =
     more_starts _ (starts_in (history log)) (log_starts log) _ (starts_by act)
     (starts_join (history log) (map (λ r. (marks log, r)) (records_of_act act))) (act_starts (marks log) act) (starts_are log)
-starts_are (Mark e ∷ log) = starts_are log
-starts_are (Redeclares t ∷ log) = starts_are log
-starts_are (Round es ∷ log) = starts_are log
-starts_are (Hand a b n m ∷ log) = starts_are log
+starts_are (_ ∷ log) = starts_are log
 
 -- so both are few
 

@@ -74,11 +74,10 @@ on_near n ts c x (q ∷ rest) done h =
     ]
 
 ends_near : (n ts c : ℕ) (x : Exchange) (p : Phase) → IsNearBy n x → IsNearBy n (phase_ends ts c x p)
-ends_near n ts c x Reading h = on_near n ts c x x.left x.done h
 ends_near n ts c x (Fetching m) h = reduces_near n ts c m x h
-ends_near n ts c x (Reducing m) h = on_near n ts c x x.left x.done h
 ends_near n ts c x Shipping h = record { modules = h.modules; sends = h.sends }
 ends_near n ts c x Over h = h
+ends_near n ts c x _ h = on_near n ts c x x.left x.done h
 
 lacking_near : (n ts c : ℕ) (x : Exchange) (ds : List ℕ) → IsNearBy n x → IsNearBy n (lacking ts c x ds)
 lacking_near n ts c x [] h = ends_near n ts c (record x { lacks = [] }) x.phase (record { modules = h.modules; sends = h.sends })
@@ -194,8 +193,7 @@ handed_near : (n c : ℕ) (from : Site) (m : Msg) (o : Option Attempt) → HasNe
 handed_near n c (D d) m None h = tt
 handed_near n c (D d) m (Some a) h =
     if_way (HasNear n) (rejects m a.ts c) None (Some (record a { exchange = after_hand a.ts c d.0 m a.exchange })) tt (hand_near n a.ts c d.0 m a.exchange h)
-handed_near n c U m o h = h
-handed_near n c (T t) m o h = h
+handed_near n c _ m o h = h
 
 send_near : (n c : ℕ) (m : Msg) (o : Option Attempt) → HasNear n o → HasNear n (active_sent c m o)
 send_near n c m None h = tt
@@ -217,7 +215,5 @@ act_near s c log act w i h = step_way s log act (λ x. HasNear s.catalogue.dms (
 pub active_near : (s : Setting) (c : ℕ) (log : Log) → IsWhole s.catalogue → Each (IsFair s) log → HasNear s.catalogue.dms (active s c log)
 active_near s c [] w f = tt
 active_near s c (Handed from m ∷ log) w f = handed_near s.catalogue.dms c from m (active s c log) (active_near s c log w f.1)
-active_near s c (Ticked n ∷ log) w f = active_near s c log w f.1
-active_near s c (Submits n txn ∷ log) w f = active_near s c log w f.1
-active_near s c (Redeclared force t ∷ log) w f = active_near s c log w f.1
 active_near s c (Did act ∷ log) w f = act_near s c log act w f.0 (active_near s c log w f.1)
+active_near s c (_ ∷ log) w f = active_near s c log w f.1

@@ -25,9 +25,8 @@ by_step h v c (Read ts class txn attempt conds uses) (Waits ds) = refl
 by_step h v c m step = refl
 
 by_where : (h : Home) (v : View) (c : ℕ) (o : Option Msg) (s : Option Step) (a : Act) → act_where h v c o s ≡ Some a → starts_by a ≡ 0
-by_where h v c None s a e = cc
-by_where h v c (Some m) None a e = cc
 by_where h v c (Some m) (Some step) a e = no_start (act_by h v c m step) a (by_step h v c m step) e
+by_where h v c _ _ a e = cc
 
 pub d_starts_not : (h : Home) (v : View) (a : Act) → IsDue h v a → starts_by a ≡ 0
 d_starts_not h v a (by_open n k p e) = by_asked h k (head_of (filter (is_asked_of k.class) v.opens)) a e

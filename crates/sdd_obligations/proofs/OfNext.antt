@@ -23,21 +23,17 @@ of_note g log false e p = cc
 
 of_event : (g : Given) (x : Event) (log : Log) (e : Entry) → due_by g x log ≡ Some e → OfNext g (Mark x ∷ log) e
 of_event g (Submit n) log (Submitted at k) p = p
-of_event g (Submit n) log e p = cc
 of_event g (Deliver a b k) log e p = of_note g (Mark (Deliver a b k) ∷ log) _ e p
 of_event g (Lose a b k) log e p = of_note g (Mark (Lose a b k) ∷ log) _ e p
 of_event g (Repeat a b k) log e p = of_note g (Mark (Repeat a b k) ∷ log) _ e p
 of_event g (Resend a b) log e p = of_note g (Mark (Resend a b) ∷ log) _ e p
-of_event g (Tick t n) log e p = cc
-of_event g Settle log e p = cc
-of_event g Redeclare log e p = cc
 of_event g (Down d) log e p = of_note g (Mark (Down d) ∷ log) _ e p
 of_event g (Up d) log e p = of_note g (Mark (Up d) ∷ log) _ e p
+of_event g _ log e p = cc
 
 of_mark : (g : Given) (log : Log) (e : Entry) → mark_due g log ≡ Some e → OfNext g log e
-of_mark g [] e p = cc
 of_mark g (Mark x ∷ log) e p = of_event g x log e p
-of_mark g (_ ∷ log) e p = cc
+of_mark g _ e p = cc
 
 -- at a site, on a link
 
@@ -53,9 +49,8 @@ of_message g log a b n (Some m) e k p = let s : Hand a b n m ≡ e = cc in subst
 
 of_link : (g : Given) (log : Log) (a b : Site) (c : Bool) (o : Option ℕ) (e : Entry) → IsThere (all_links g) (a, b)
     → (if c then hand_number log (a, b) o else None) ≡ Some e → OfNext g log e
-of_link g log a b true None e k p = cc
 of_link g log a b true (Some n) e k p = of_message g log a b n (message_at a b n log) e k p
-of_link g log a b false o e k p = cc
+of_link g log a b _ _ e k p = cc
 
 -- the next mark
 
@@ -66,12 +61,8 @@ of_events : (g : Given) (log : Log) (q : Bool) (ws : List Event) (e : Entry) →
     → mark_from g log q (round (all_links g) (calls_of log)) ws ≡ Some e → OfNext g log e
 of_events g log q [] e f p = cc
 of_events g log true (Settle ∷ ws) e f p = of_events g log true ws e f.1 p
-of_events g log false (Settle ∷ ws) e f p =
-    let s : Round (round (all_links g) (calls_of log)) ≡ e = cc in subst (OfNext g log) s refl
 of_events g log true (Redeclare ∷ ws) e f p =
     let s : Redeclares (greatest_bound g log) ≡ e = cc in subst (OfNext g log) s refl
-of_events g log false (Redeclare ∷ ws) e f p =
-    let s : Round (round (all_links g) (calls_of log)) ≡ e = cc in subst (OfNext g log) s refl
 of_events g log q (Submit n ∷ ws) e f p = some_mark g log (Submit n) e f.0 p
 of_events g log q (Deliver a b k ∷ ws) e f p = some_mark g log (Deliver a b k) e f.0 p
 of_events g log q (Lose a b k ∷ ws) e f p = some_mark g log (Lose a b k) e f.0 p
@@ -80,6 +71,8 @@ of_events g log q (Resend a b ∷ ws) e f p = some_mark g log (Resend a b) e f.0
 of_events g log q (Tick t n ∷ ws) e f p = some_mark g log (Tick t n) e f.0 p
 of_events g log q (Down d ∷ ws) e f p = some_mark g log (Down d) e f.0 p
 of_events g log q (Up d ∷ ws) e f p = some_mark g log (Up d) e f.0 p
+of_events g log false (_ ∷ ws) e f p =
+    let s : Round (round (all_links g) (calls_of log)) ≡ e = cc in subst (OfNext g log) s refl
 
 -- the events that are left tick few times
 
@@ -93,15 +86,7 @@ of_left g log (ws, x ∷ r) e f p = some_mark g log x e f.1.0 p
 few_from : (es : List Event) → AllFewTicks es → AllFewTicks (from_event es)
 few_from [] f = tt
 few_from (Settle ∷ es) f = few_from es f.1
-few_from (Submit n ∷ es) f = f
-few_from (Deliver a b k ∷ es) f = f
-few_from (Lose a b k ∷ es) f = f
-few_from (Repeat a b k ∷ es) f = f
-few_from (Resend a b ∷ es) f = f
-few_from (Tick t n ∷ es) f = f
-few_from (Redeclare ∷ es) f = f
-few_from (Down d ∷ es) f = f
-few_from (Up d ∷ es) f = f
+few_from (_ ∷ es) f = f
 
 few_tail : (es : List Event) → AllFewTicks es → AllFewTicks (tail_of es)
 few_tail [] f = tt
@@ -156,10 +141,7 @@ few_left g (Round es ∷ log) f h =
     let i = few_left g log f h.1 in
     let e : es ≡ round (all_links g) (calls_of log) = next_is g log (Round es) i h.0 in
     (i.0, subst AllFewTicks (sym e) (round_few (calls_of log) (all_links g)))
-few_left g (Hand a b n m ∷ log) f h = few_left g log f h.1
-few_left g (Submitted at n ∷ log) f h = few_left g log f h.1
-few_left g (Notes ∷ log) f h = few_left g log f h.1
-few_left g (Does at act ∷ log) f h = few_left g log f h.1
+few_left g (_ ∷ log) f h = few_left g log f h.1
 
 pub of_next : (g : Given) (log : Log) (e : Entry) → AllFewTicks g.events → IsLawful g log → next g log ≡ Some e → OfNext g log e
 of_next g log e f h p = next_is g log e (few_left g log f h) p

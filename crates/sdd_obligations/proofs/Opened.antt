@@ -57,13 +57,11 @@ are_apart (Handed from m ∷ log) =
     let i = are_apart log in
     let r = apart_if (is_some (class_asked m)) (hands log) from m (opens log) i.strict i.within in
     record { strict = r.0; within = r.1 }
-are_apart (Ticked n ∷ log) = let i = are_apart log in record { strict = i.strict; within = i.within }
-are_apart (Submits n txn ∷ log) = let i = are_apart log in record { strict = i.strict; within = i.within }
-are_apart (Redeclared force t ∷ log) = let i = are_apart log in record { strict = i.strict; within = i.within }
 are_apart (Did act ∷ log) =
     let i = are_apart log in
     let r = apart_acted act (hands log) (opens log) i.strict i.within in
     record { strict = r.0; within = r.1 }
+are_apart (_ ∷ log) = let i = are_apart log in record { strict = i.strict; within = i.within }
 
 gt_at : (k : ℕ) (os : List Open) (j : ℕ) (p : Open) → AllGt k (hands_in os) → slice_get os j ≡ Some p → k < p.hand
 gt_at k [] j p h e = cc

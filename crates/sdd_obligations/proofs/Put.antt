@@ -94,10 +94,7 @@ made_fits g d e log (Some (Handed from x)) fit a m all =
     let k = maker g (D d) log e (Handed from x) m in
     let next = allowed_hand g log (Hand from (D d) k.0 x) (subst (IsAllowed g log) k.1 a) in
     (message_fits g log fit from d k.0 x next.there, all)
-made_fits g d e log (Some (Ticked n)) fit a m all = (tt, all)
-made_fits g d e log (Some (Submits n txn)) fit a m all = (tt, all)
-made_fits g d e log (Some (Redeclared force t)) fit a m all = (tt, all)
-made_fits g d e log (Some (Did act)) fit a m all = (tt, all)
+made_fits g d e log (Some _) fit a m all = (tt, all)
 
 pub hands_fit : (g : Given) (d : DmNo) (log : Log) → IsPermitted g log → ActsFit g log → Each (HandFits g.catalogue d.0) (local_of g (D d) log)
 hands_fit g d [] h fit = tt

@@ -37,11 +37,10 @@ sends_next ts c x (q ∷ rest) done =
     ]
 
 sends_end : (ts c : ℕ) (x : Exchange) (p : Phase) → x.phase ≡ p → SendsPhase ts c x → SendsPhase ts c (phase_ends ts c x p)
-sends_end ts c x Reading e h = sends_next ts c x x.left x.done
 sends_end ts c x (Fetching m) e h = sends_reduces ts c m x
-sends_end ts c x (Reducing m) e h = sends_next ts c x x.left x.done
 sends_end ts c x Shipping e h = subst (λ p. AllByRecursion (λ (s : ℕ × Msg). s.1 ≡ question ts c p x.union) x.to_send) e h
 sends_end ts c x Over e h = h
+sends_end ts c x _ e h = sends_next ts c x x.left x.done
 
 -- an answer of module n
 
@@ -50,14 +49,12 @@ abbrev pub after_answer : ℕ → Msg → (ℕ → Turn) → ℕ → Turn
 after_answer n m v d = if d == n then told m (v d) else v d
 
 told_no_asks : {A : Type 0} (m q : Msg) (ns : List ℕ) (v : Turn) → told m v ≡ Asks ns q → A
-told_no_asks m q ns Silent e = cc
 told_no_asks m q ns (Asks ms r) e = either (is_a_refusal m) e
   where
     either : {A : Type 0} (b : Bool) → (if b then Refused else Told ms r) ≡ Asks ns q → A
     either true e = cc
     either false e = cc
-told_no_asks m q ns (Told ms r) e = cc
-told_no_asks m q ns Refused e = cc
+told_no_asks m q ns _ e = cc
 
 -- what is asked still was asked before, of another module
 still_asked : (n d : ℕ) (m q : Msg) (ns : List ℕ) (v : ℕ → Turn) → after_answer n m v d ≡ Asks ns q → (v d ≡ Asks ns q) × ((d == n) ≡ false)
@@ -101,10 +98,7 @@ module _ (ts c n : ℕ) (m : Msg) (v : ℕ → Turn) where
       by (Reducing mv) (Reduce t k u col values) a r = absurd r
       by (Reducing mv) (Ship t k) a r = absurd r
       by (Reducing mv) _ a r = cc
-      by Reading q a r = refl
-      by (Fetching mv) q a r = refl
-      by Shipping q a r = refl
-      by Over q a r = refl
+      by _ q a r = refl
 
   answered_if : (b : Bool) (x y : Exchange) → b ≡ true → AsksPhase ts c (answered ts c n y) w → AsksPhase ts c (if b then answered ts c n y else x) w
   answered_if true x y e h = h

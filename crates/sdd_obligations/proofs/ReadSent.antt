@@ -27,14 +27,9 @@ was_answered ts c d log = list_any (at_site (D (dm_no d)) (is_verdict ts c)) (fi
 
 pub site_sym : (a b : Site) → same_site a b ≡ same_site b a
 site_sym U U = refl
-site_sym U (T t) = refl
-site_sym U (D d) = refl
-site_sym (T a) U = refl
 site_sym (T a) (T b) = same_sym a.0 b.0
-site_sym (T a) (D b) = refl
-site_sym (D a) U = refl
-site_sym (D a) (T b) = refl
 site_sym (D a) (D b) = same_sym a.0 b.0
+site_sym _ _ = refl
 
 -- of these sends the messages of a kind to one module
 
@@ -97,9 +92,8 @@ last_asked ts c d Silent m ms reads b e h q i = λ r. (
   i.1,
   uses_twice m [],
 )
-last_asked ts c d (Asks ns x) m ms reads b e h q i = absurd h
 last_asked ts c d (Told ns x) m ms reads b e h q i = λ r. no_use_read ns m h.1 r
-last_asked ts c d Refused m ms reads b e h q i = absurd h
+last_asked ts c d _ m ms reads b e h q i = absurd h
 
 last_act : (ts c d : ℕ) (act : Act) (log : Log) → IsInTurn (turn_at ts c d log) (questions ts c (to_site (D (dm_no d)) (sends_of_act act)))
     → IsLastRead d (turn_at ts c d log) (reads_sent ts c d log) (was_answered ts c d log)
@@ -124,10 +118,8 @@ verdict_answer ts c (Reject t k by w) e = e
 verdict_answer ts c m e = cc
 
 after_told : (d : ℕ) (v : Turn) (m : Msg) (reads : List (Site × Msg)) (b : Bool) → MayAnswer v m → IsLastRead d (told m v) reads b
-after_told d Silent m reads b h = absurd h
 after_told d (Asks ns q) m reads b h = if_way (λ w. IsLastRead d w reads b) (is_a_refusal m) Refused (Told ns q) tt tt
-after_told d (Told ns q) m reads b h = absurd h
-after_told d Refused m reads b h = absurd h
+after_told d _ m reads b h = absurd h
 
 last_hand : (ts c d : ℕ) (from : Site) (m : Msg) (log : Log) → IsTimely c log (Handed from m)
     → IsLastRead d (turn_at ts c d log) (reads_sent ts c d log) (was_answered ts c d log)
@@ -155,12 +147,10 @@ pub last_read : (s : Setting) (ts c d : ℕ) (log : Log) → Each (IsFair s) log
 last_read s ts c d [] fair first timely = (refl, refl)
 last_read s ts c d (Handed from m ∷ log) fair first timely =
     last_hand ts c d from m log timely.0 (last_read s ts c d log fair.1 first.1 timely.1)
-last_read s ts c d (Ticked n ∷ log) fair first timely = last_read s ts c d log fair.1 first.1 timely.1
-last_read s ts c d (Redeclared force t ∷ log) fair first timely = last_read s ts c d log fair.1 first.1 timely.1
-last_read s ts c d (Submits n txn ∷ log) fair first timely = last_read s ts c d log fair.1 first.1 timely.1
 last_read s ts c d (Did act ∷ log) fair first timely =
     last_act ts c d act log (asks_in_turn s c log act ts d fair.0 first.0
     (in_turn s c log fair.1 first.1 timely.1)) (last_read s ts c d log fair.1 first.1 timely.1)
+last_read s ts c d (_ ∷ log) fair first timely = last_read s ts c d log fair.1 first.1 timely.1
 
 pub numbers_are : (m : Msg) (ns : List ℕ) → is_a_read m ≡ true → uses_by m ns ≡ numbers_of m
 numbers_are (Read t k txn attempt conds uses) ns e = refl

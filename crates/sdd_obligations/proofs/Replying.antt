@@ -135,16 +135,14 @@ reads_handed ts c m p =
 
 -- before a question nothing is still to be answered
 calm_rows : (ts c : ℕ) (v : Turn) (m : Msg) → MayAsk v m → rows_asked ts c v ≡ []
-calm_rows ts c Silent m h = refl
 calm_rows ts c (Asks ns q) m h = absurd h
-calm_rows ts c (Told ns q) m h = refl
 calm_rows ts c Refused m h = absurd h
+calm_rows ts c _ m h = refl
 
 calm_reads : (ts c : ℕ) (v : Turn) (m : Msg) → MayAsk v m → reads_asked ts c v ≡ []
-calm_reads ts c Silent m h = refl
 calm_reads ts c (Asks ns q) m h = absurd h
-calm_reads ts c (Told ns q) m h = refl
 calm_reads ts c Refused m h = absurd h
+calm_reads ts c _ m h = refl
 
 pairs_if : (b : Bool) (at from : Site) (m : Msg) → from ≡ at → (if b then (from, m) ∷ [] else []) ≡ map (from_site at) (if b then m ∷ [] else [])
 pairs_if true at from m e = ap (λ s. (s, m) ∷ []) e
@@ -154,9 +152,8 @@ pairs_if false at from m e = refl
 held_before : (v : Turn) (m : Msg) (ns : List ℕ) → MayAsk v m → uses_held (asked m v) ≡ Some ns → uses_held v ≡ Some (uses_in v)
 held_before Silent (Read t k txn attempt conds uses) ns h e = cc
 held_before Silent m ns h e = cc
-held_before (Asks ms q) m ns h e = absurd h
 held_before (Told ms q) m ns h e = ap (λ (b : Bool). if b then None else Some ms) h.0
-held_before Refused m ns h e = absurd h
+held_before _ m ns h e = absurd h
 
 same_processed : (ts c : ℕ) (p q : Pipe) → q.processed ≡ p.processed → IsProcessed ts c p → IsProcessed ts c q
 same_processed ts c p q e h =
@@ -281,20 +278,12 @@ get_map (x ∷ os) zero o e = let q : x ≡ o = cc in ap (λ (y : Open). Some (a
 get_map (x ∷ os) (suc i) o e = get_map os i o e
 
 one_open : (os : List Open) (p : Site × Msg) (i : ℕ) (o : Open) → map asker os ≡ p ∷ [] → slice_get os i ≡ Some o → os ≡ o ∷ []
-one_open [] p i o e f = cc
 one_open (x ∷ []) p zero o e f = let q : x ≡ o = cc in ap (λ y. y ∷ []) q
-one_open (x ∷ []) p (suc i) o e f = cc
-one_open (x ∷ y ∷ os) p i o e f = cc
+one_open _ p _ o e f = cc
 
 asked_rows_of : (ts c : ℕ) (at : Site) (os : List Open) (v : Turn) (i : ℕ) (o : Open)
     → map asker (filter (asks_open ts c) os) ≡ map (from_site at) (rows_asked ts c v)
     → slice_get (filter (asks_open ts c) os) i ≡ Some o → IsAskedRows ts c at os v o
-asked_rows_of ts c at os Silent i o e f =
-    let g : slice_get [] i ≡ Some (asker o) = subst (λ l. slice_get l i ≡ Some (asker o)) e (get_map (filter (asks_open ts c) os) i o f) in cc
-asked_rows_of ts c at os (Told ns m) i o e f =
-    let g : slice_get [] i ≡ Some (asker o) = subst (λ l. slice_get l i ≡ Some (asker o)) e (get_map (filter (asks_open ts c) os) i o f) in cc
-asked_rows_of ts c at os Refused i o e f =
-    let g : slice_get [] i ≡ Some (asker o) = subst (λ l. slice_get l i ≡ Some (asker o)) e (get_map (filter (asks_open ts c) os) i o f) in cc
 asked_rows_of ts c at os (Asks ns m) i o e f =
     elim (asks_rows ts c m) as (λ b. map asker (filter (asks_open ts c) os) ≡ map (from_site at)
     (if b then m ∷ [] else []) → IsAskedRows ts c at os (Asks ns m) o) [
@@ -304,6 +293,8 @@ asked_rows_of ts c at os (Asks ns m) i o e f =
           record { uses = ns; is = ap (λ x. Asks ns x) p.1; from_is = sym p.0; alone = one_open (filter (asks_open ts c) os) (from_site at m) i o g f }
       | false ↦ λ g. let x : slice_get [] i ≡ Some (asker o) = subst (λ l. slice_get l i ≡ Some (asker o)) g (get_map (filter (asks_open ts c) os) i o f) in cc
     ] e
+asked_rows_of ts c at os _ i o e f =
+    let g : slice_get [] i ≡ Some (asker o) = subst (λ l. slice_get l i ≡ Some (asker o)) e (get_map (filter (asks_open ts c) os) i o f) in cc
 
 -- an open message that asks for rows of the attempt is the one that the turn says
 pub asked_rows : (ts c : ℕ) (at : Site) (log : Log) (v : Turn) (k : ℕ) (o : Open) → HasTurn ts c at (opens log) (pipe c log) v

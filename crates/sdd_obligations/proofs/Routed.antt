@@ -41,17 +41,15 @@ not_put_by_d s l b act (Ship ts class) a h = h
 not_put_by_d s l b act m a h = absurd a
 
 runner_from : (g : Given) (at from : Site) (m : Msg) → AsksRows m → WasPut g from at m → IsRunner from
-runner_from g at U m a p = tt
-runner_from g at (T t) m a p = tt
 runner_from g at (D d) m a p =
     let q = put_in_by_d g p.log d at p.place m p.permitted p.there in
     not_put_by_d (setting_of g (D d)) (local_of g (D d) q.before) at q.act m a q.by
+runner_from g at _ m a p = tt
 
 -- the site that runs a class is no data module
 runner_of : (ks : List Class) (i : ℕ) → IsRunner (slice_index_or (map (λ k. T k.tm) ks) i U)
-runner_of [] i = tt
-runner_of (k ∷ ks) zero = tt
 runner_of (k ∷ ks) (suc i) = runner_of ks i
+runner_of _ _ = tt
 
 pub source_runs : (s : Setting) (c : ℕ) → IsRunner (source_of (home_of s) c)
 source_runs s zero = tt

@@ -120,8 +120,7 @@ module _ (g : Given) (good : FitsGiven g) (eras : HasEras g) (c : ℕ)
       → IsPermitted g (Hand from at n m ∷ log) → AllServed log (active s c (mine log))
       → AllServed log (active_handed c from m (active s c (mine log)))
   handed_home log (D d) n m h hand served = handed_from_d log (active s c (mine log)) d n m h refl hand served
-  handed_home log U n m h hand served = served
-  handed_home log (T t) n m h hand served = served
+  handed_home log _ n m h hand served = served
 
   -- an entry of the site itself leaves what modules keep
   home_hand : (log : Log) (from : Site) (n : ℕ) (m : Msg) (ts d : ℕ) → kept_at g c ts d (Hand from at n m ∷ log) ≡ kept_at g c ts d log

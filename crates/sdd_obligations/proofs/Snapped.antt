@@ -112,11 +112,6 @@ snapped s ts log h = subst (IsSnapped s ts) (sym h.is) (snapped_behind s ts h.cl
 -- what holds along a log holds along that before an Answer
 pub each_before_answer : (P : Log → Entry → Type 0) (ts : ℕ) (log : Log) → Each P log → Each P (before_answer ts log)
 each_before_answer P ts [] h = h
-each_before_answer P ts (Handed from m ∷ log) h = each_before_answer P ts log h.1
-each_before_answer P ts (Ticked n ∷ log) h = each_before_answer P ts log h.1
-each_before_answer P ts (Submits n txn ∷ log) h = each_before_answer P ts log h.1
-each_before_answer P ts (Redeclared force t ∷ log) h = each_before_answer P ts log h.1
 each_before_answer P ts (Did (Records k (Answer txn attempt dm) sends) ∷ log) h =
     elim (is_at ts (head (pipe k log))) as (λ b. Each P (if b then log else before_answer ts log)) [ true ↦ h.1 | false ↦ each_before_answer P ts log h.1 ]
-each_before_answer P ts (Did (Records k _ sends) ∷ log) h = each_before_answer P ts log h.1
-each_before_answer P ts (Did (Sends to m hand) ∷ log) h = each_before_answer P ts log h.1
+each_before_answer P ts (_ ∷ log) h = each_before_answer P ts log h.1

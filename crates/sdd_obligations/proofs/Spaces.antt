@@ -20,16 +20,12 @@ still_kept s c ts None l h = refl
 still_kept s c ts (Some (Ticked n)) l h = kept_same s c ts (Ticked n) l refl
 still_kept s c ts (Some (Submits n txn)) l h = kept_same s c ts (Submits n txn) l refl
 still_kept s c ts (Some (Redeclared force t)) l h = kept_same s c ts (Redeclared force t) l refl
-still_kept s c ts (Some (Handed from m)) l h = absurd h
-still_kept s c ts (Some (Did act)) l h = absurd h
+still_kept s c ts (Some _) l h = absurd h
 
 pub still_active : (s : Setting) (c : ℕ) (o : Option site.Entry) (l : site.Log) → IsStill o → active s c (with_made o l) ≡ active s c l
-still_active s c None l h = refl
-still_active s c (Some (Ticked n)) l h = refl
-still_active s c (Some (Submits n txn)) l h = refl
-still_active s c (Some (Redeclared force t)) l h = refl
 still_active s c (Some (Handed from m)) l h = absurd h
 still_active s c (Some (Did act)) l h = absurd h
+still_active s c _ l h = refl
 
 given_still : (n : ℕ) (o : Option Txn) → IsStill (given_to n o)
 given_still n None = tt
@@ -37,8 +33,7 @@ given_still n (Some txn) = tt
 
 forced_still : (at : Site) (force : Force) (t : ℕ) → IsStill (forced at force t)
 forced_still U force t = tt
-forced_still (T n) force t = tt
-forced_still (D d) force t = tt
+forced_still _ force t = tt
 
 -- of the log of everything only hands and acts do more
 abbrev pub IsStillEntry : Entry → Type 0
@@ -48,21 +43,11 @@ IsStillEntry _ = Unit {0}
 
 pub made_still : (g : Given) (at : Site) (log : Log) (e : Entry) → IsStillEntry e → IsStill (made g at log e)
 made_still g at log (Mark (Tick t n)) h = if_way IsStill (same_site at (T t)) (Some (Ticked n)) None tt tt
-made_still g at log (Mark (Submit n)) h = tt
-made_still g at log (Mark (Deliver a b k)) h = tt
-made_still g at log (Mark (Lose a b k)) h = tt
-made_still g at log (Mark (Repeat a b k)) h = tt
-made_still g at log (Mark (Resend a b)) h = tt
-made_still g at log (Mark Settle) h = tt
-made_still g at log (Mark Redeclare) h = tt
-made_still g at log (Mark (Down d)) h = tt
-made_still g at log (Mark (Up d)) h = tt
-made_still g at log (Round es) h = tt
 made_still g at log (Redeclares t) h = forced_still at (force_at g (suc (redeclares log))) t
 made_still g at log (Hand from to n m) h = absurd h
 made_still g at log (Submitted to n) h = if_way IsStill (same_site at to) (given_to n (txn_at g n)) None (given_still n (txn_at g n)) tt
-made_still g at log Notes h = tt
 made_still g at log (Does by act) h = absurd h
+made_still g at log _ h = tt
 
 -- the spaces of modules
 

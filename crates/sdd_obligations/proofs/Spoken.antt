@@ -204,10 +204,7 @@ timely_made : (g : Given) (c : ℕ) (log : Log) (e : Entry) (x : site.Entry) →
 timely_made g c log e (Handed from m) h i p = λ ts d f q.
     (let k = maker g (home g.catalogue c) log e (Handed from m) p in
     answer_in_turn g c log d k.0 m ts i (subst (λ s. IsAllowed g log (Hand s (home g.catalogue c) k.0 m)) f (subst (IsAllowed g log) k.1 h.0)) q)
-timely_made g c log e (Ticked n) h i p = tt
-timely_made g c log e (Submits n t) h i p = tt
-timely_made g c log e (Redeclared force t) h i p = tt
-timely_made g c log e (Did act) h i p = tt
+timely_made g c log e _ h i p = tt
 
 asked_made : (g : Given) (c d : ℕ) (log : Log) (e : Entry) (x : site.Entry) → IsPermitted g (e ∷ log) → IsSpoken g c log
     → made g (D (dm_no d)) log e ≡ Some x → IsAskedInTurn c (home g.catalogue c) (data_log g d log) x
@@ -218,10 +215,7 @@ asked_made g c d log e (Handed from m) h i p = λ ts q.
     question_home g from (D (dm_no d)) log (handed from (D (dm_no d)) log) m ts c h.1
     (hand_was_put g log from (D (dm_no d)) k.0 m a).1 q in
     (sym f, question_in_turn g c log d k.0 m ts i (subst (λ s. IsAllowed g log (Hand s (D (dm_no d)) k.0 m)) (sym f) a) q))
-asked_made g c d log e (Ticked n) h i p = tt
-asked_made g c d log e (Submits n t) h i p = tt
-asked_made g c d log e (Redeclared force t) h i p = tt
-asked_made g c d log e (Did act) h i p = tt
+asked_made g c d log e _ h i p = tt
 
 each_made : (P : site.Log → site.Entry → Type 0) (o : Option site.Entry) (l : site.Log) → ((x : site.Entry) → o ≡ Some x → P l x)
     → Each P l → Each P (with_made o l)
@@ -248,24 +242,20 @@ last_before g ts c d e log h =
 held_made : (g : Given) (ts c d : ℕ) (log : Log) (e : Entry) (o : Option site.Entry) → IsPermitted g (e ∷ log) → number_of (home g.catalogue c) ≤ 63
     → IsSpoken g c log → IsLast g ts c d log → made g (D (dm_no d)) log e ≡ o
     → IsHeldAt (setting_of g (D (dm_no d))) ts c (home g.catalogue c) (with_made o (data_log g d log))
-held_made g ts c d log e None h small i last p = i.held ts d last
 held_made g ts c d log e (Some (Handed from m)) h small i last p =
     held_hand (setting_of g (D (dm_no d))) ts c (home g.catalogue c) (data_log g d log) from m
     (λ q. (asked_made g c d log e (Handed from m) h i p ts q).1) (i.held ts d last)
-held_made g ts c d log e (Some (Ticked n)) h small i last p = i.held ts d last
-held_made g ts c d log e (Some (Submits n t)) h small i last p = i.held ts d last
-held_made g ts c d log e (Some (Redeclared force t)) h small i last p = i.held ts d last
 held_made g ts c d log e (Some (Did act)) h small i last p =
     let k : e ≡ Does (D (dm_no d)) act = maker g (D (dm_no d)) log e (Did act) p in
     let due = data_act g d log act (subst (λ x. IsPermitted g (x ∷ log)) k h) in
     held_act (setting_of g (D (dm_no d))) ts c (home g.catalogue c) (data_log g d log) act
     (home_source g c d) (data_step (setting_of g (D (dm_no d))) (data_log g d log) act due)
     (alone g ts c d log h.1 small i last) (i.held ts d last)
+held_made g ts c d log e _ h small i last p = i.held ts d last
 
 first_timely : (g : Given) (c : ℕ) (at : Site) → Each (IsTimely c) (local_of g at [])
-first_timely g c U = tt
 first_timely g c (T t) = (tt, tt)
-first_timely g c (D d) = tt
+first_timely g c _ = tt
 
 -- on every permitted log
 pub spoken : (g : Given) (c : ℕ) (log : Log) → IsPermitted g log → number_of (home g.catalogue c) ≤ 63 → IsSpoken g c log

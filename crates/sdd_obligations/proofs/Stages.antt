@@ -17,20 +17,16 @@ move_as v w a1 a2 a3 a4 b1 b2 b3 b4 e1 e2 e3 e4 h =
     (subst (λ a. IsMove v w b1 b2 a a4) (sym e3) (subst (λ a. IsMove v w b1 b2 b3 a) (sym e4) h)))
 
 ask_or_answer : {A : Type 0} (v : Turn) (m x : Msg) → MayAsk v m → MayAnswer v x → A
-ask_or_answer Silent m x h k = absurd k
 ask_or_answer (Asks ns q) m x h k = absurd h
-ask_or_answer (Told ns q) m x h k = absurd k
-ask_or_answer Refused m x h k = absurd k
+ask_or_answer _ m x h k = absurd k
 
 no_second_if : {A : Type 0} (b : Bool) (ns : List ℕ) (q x : Msg) → MayAnswer (if b then Refused else Told ns q) x → A
 no_second_if true ns q x h = absurd h
 no_second_if false ns q x h = absurd h
 
 no_second : {A : Type 0} (v : Turn) (x y : Msg) → MayAnswer v y → MayAnswer (told y v) x → A
-no_second Silent x y h k = absurd h
 no_second (Asks ns q) x y h k = no_second_if (is_a_refusal y) ns q x k
-no_second (Told ns q) x y h k = absurd h
-no_second Refused x y h k = absurd h
+no_second _ x y h k = absurd h
 
 pub nothing : {A : Type 0} (m : Msg) (ms : List Msg) → m ∷ ms ≡ [] → A
 nothing m ms e = cc

@@ -50,8 +50,7 @@ told_quiet s c ts at (Some (Submits n txn)) l h k = told_still s c ts at l (Subm
 told_quiet s c ts at (Some (Redeclared force t)) l h k =
     told_still s c ts at l (Redeclared force t ∷ l) refl (kept_same s c ts (Redeclared force t) l refl) refl
     k
-told_quiet s c ts at (Some (Handed from m)) l h k = absurd h
-told_quiet s c ts at (Some (Did act)) l h k = absurd h
+told_quiet s c ts at (Some _) l h k = absurd h
 
 module _ (g : Given) (c : ℕ) (small : number_of (home g.catalogue c) ≤ 63) where
   abbrev at : Site

@@ -29,7 +29,6 @@ note_home g log true e p = let q : Notes ≡ e = cc in subst (HomeEntry g log) q
 note_home g log false e p = cc
 
 mark_home : (g : Given) (log : Log) (e : Entry) → mark_due g log ≡ Some e → HomeEntry g log e
-mark_home g [] e p = cc
 mark_home g (Mark (Submit k) ∷ log) e p =
     let q : Submitted (home_of (force_at g (redeclares log)).catalogue (txn_at g k.0)) k.0 ≡ e = cc in
     subst (HomeEntry g (Mark (Submit k) ∷ log)) q refl
@@ -37,12 +36,9 @@ mark_home g (Mark (Deliver a b k) ∷ log) e p = note_home g (Mark (Deliver a b 
 mark_home g (Mark (Lose a b k) ∷ log) e p = note_home g (Mark (Lose a b k) ∷ log) _ e p
 mark_home g (Mark (Repeat a b k) ∷ log) e p = note_home g (Mark (Repeat a b k) ∷ log) _ e p
 mark_home g (Mark (Resend a b) ∷ log) e p = note_home g (Mark (Resend a b) ∷ log) _ e p
-mark_home g (Mark (Tick t k) ∷ log) e p = cc
-mark_home g (Mark Settle ∷ log) e p = cc
-mark_home g (Mark Redeclare ∷ log) e p = cc
 mark_home g (Mark (Down d) ∷ log) e p = note_home g (Mark (Down d) ∷ log) _ e p
 mark_home g (Mark (Up d) ∷ log) e p = note_home g (Mark (Up d) ∷ log) _ e p
-mark_home g (_ ∷ log) e p = cc
+mark_home g _ e p = cc
 
 pub at_home : (g : Given) (log : Log) (at : Site) (n : ℕ) → IsSmall g → IsLawful g log → next g log ≡ Some (Submitted at n) → IsAtHome g log at n
 at_home g log at n s l e = mark_home g log (Submitted at n) (of_next g log (Submitted at n) s.few_ticks l e)
@@ -61,9 +57,7 @@ tick_forced g k t (Tick u n) l h = if_way (IsForced g k t) (same_site (T t) (T u
 tick_forced g k t _ l h = h
 
 pub forced_is : (g : Given) (t : TmNo) (log : Log) → IsForced g (redeclares log) t (local_of g (T t) log)
-forced_is g t [] = refl
 forced_is g t (Mark e ∷ log) = tick_forced g (redeclares log) t e (local_of g (T t) log) (forced_is g t log)
-forced_is g t (Redeclares u ∷ log) = refl
 forced_is g t (Hand a b n m ∷ log) =
     if_way (IsForced g (redeclares log) t) (same_site (T t) b) (Handed a m ∷ local_of g (T t) log)
     (local_of g (T t) log) (forced_is g t log) (forced_is g t log)
@@ -76,6 +70,7 @@ forced_is g t (Does by act ∷ log) =
     if_way (IsForced g (redeclares log) t) (same_site (T t) by) (Did act ∷ local_of g (T t) log) (local_of g (T t) log) (forced_is g t log) (forced_is g t log)
 forced_is g t (Round es ∷ log) = forced_is g t log
 forced_is g t (Notes ∷ log) = forced_is g t log
+forced_is g t _ = refl
 
 -- of a declared class it goes to its own module
 

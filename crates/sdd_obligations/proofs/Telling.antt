@@ -39,14 +39,12 @@ read_class ts c k m e f = cc
 
 reads_one : (ts c : ℕ) (v : Turn) (m : Msg) (rest : List Msg) → m ∷ rest ≡ reads_asked ts c v
     → (ns : List ℕ) × (v ≡ Asks ns m) × (rest ≡ [])
-reads_one ts c Silent m rest e = cc
-reads_one ts c (Told ns q) m rest e = cc
-reads_one ts c Refused m rest e = cc
 reads_one ts c (Asks ns q) m rest e = elim (is_read ts c q) as (λ b. m ∷ rest ≡ (if b then q ∷ [] else [])
     → (ms : List ℕ) × (Asks ns q ≡ Asks ms m) × (rest ≡ [])) [
       | true ↦ λ f. (let p : m ≡ q = cc in let r : rest ≡ [] = cc in (ns, ap (λ x. Asks ns x) (sym p), r))
       | false ↦ λ f. cc
     ] e
+reads_one ts c _ m rest e = cc
 
 -- the READ of the attempt at a head
 pub record IsReadNext (ts c : ℕ) (log : Log) (k : ℕ) (v : Turn) (m : Msg) : Type 0 where
@@ -157,10 +155,8 @@ through_acted c (Sends to m hand) p h = h
 through : (c : ℕ) (log : Log) → AllThrough c (pipe c log).unprocessed
 through c [] = tt
 through c (Handed from m ∷ log) = through_put c (goes_through c m) m (pipe c log) refl (through c log)
-through c (Ticked n ∷ log) = through c log
-through c (Submits n txn ∷ log) = through c log
-through c (Redeclared force t ∷ log) = through c log
 through c (Did act ∷ log) = through_acted c act (pipe c log) (through c log)
+through c (_ ∷ log) = through c log
 
 through_first : (c : ℕ) (ms : List Msg) (m : Msg) → AllThrough c ms → head_of ms ≡ Some m → goes_through c m ≡ true
 through_first c [] m h e = cc
@@ -202,11 +198,7 @@ pub has_turn : (s : Setting) (ts c : ℕ) (at : Site) (log : Log) → IsHomeOf s
 has_turn s ts c at [] home due timely = record { own = tt; rows_are = refl; reads_are = refl; was_read = λ ns e. cc }
 has_turn s ts c at (Handed from m ∷ log) home due timely =
     turn_hand ts c at log from m timely.0 (has_turn s ts c at log home due.1 timely.1)
-has_turn s ts c at (Ticked n ∷ log) home due timely =
-    let i = has_turn s ts c at log home due.1 timely.1 in record { own = i.own; rows_are = i.rows_are; reads_are = i.reads_are; was_read = i.was_read }
-has_turn s ts c at (Submits n txn ∷ log) home due timely =
-    let i = has_turn s ts c at log home due.1 timely.1 in record { own = i.own; rows_are = i.rows_are; reads_are = i.reads_are; was_read = i.was_read }
-has_turn s ts c at (Redeclared force t ∷ log) home due timely =
-    let i = has_turn s ts c at log home due.1 timely.1 in record { own = i.own; rows_are = i.rows_are; reads_are = i.reads_are; was_read = i.was_read }
 has_turn s ts c at (Did act ∷ log) home due timely =
     turn_act s ts c at log act home (data_step s log act due.0) (has_turn s ts c at log home due.1 timely.1)
+has_turn s ts c at (_ ∷ log) home due timely =
+    let i = has_turn s ts c at log home due.1 timely.1 in record { own = i.own; rows_are = i.rows_are; reads_are = i.reads_are; was_read = i.was_read }

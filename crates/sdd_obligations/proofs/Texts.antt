@@ -25,11 +25,8 @@ module _ (P : Txn → Type 0) where
 
   submits_so : (s : Setting) (c : ℕ) (log : Log) → Each (SubmitHas P s c) log → AreSo (submits_of s c log)
   submits_so s c [] h = tt
-  submits_so s c (Handed from m ∷ log) h = submits_so s c log h.1
-  submits_so s c (Ticked n ∷ log) h = submits_so s c log h.1
   submits_so s c (Submits n txn ∷ log) h = one_more (is_for c (in_force s log).catalogue txn) (submits_of s c log) n txn h.0 (submits_so s c log h.1)
-  submits_so s c (Redeclared force t ∷ log) h = submits_so s c log h.1
-  submits_so s c (Did act ∷ log) h = submits_so s c log h.1
+  submits_so s c (_ ∷ log) h = submits_so s c log h.1
 
   abbrev TextsAre : List Queued → Type 0
   TextsAre qs = AllByRecursion (λ (q : Queued). P q.text) qs

@@ -74,12 +74,11 @@ module _ (s : Setting) (c ts : ℕ) (at : Site) (log : Log) where
   one_sent to m e = elim (same_site at to) as (λ b. answers ts c (if b then m ∷ [] else []) ≡ []) [ true ↦ ap (λ b. cond b (m ∷ []) []) e | false ↦ refl ]
 
   asked_class : (k : ℕ) (o : Option ℕ) (m : Msg) → is_number k o ≡ true → class_asked m ≡ o → asks_rows ts c m ≡ true → k ≡ c
-  asked_class k None m n e a = cc
   asked_class k (Some j) (Fetch t f u col) n e a = let p : f.0 ≡ j = cc in sym (eqb-true j k n) ∙ sym p ∙ eqb-true f.0 c (and_right (t.0 == ts) (f.0 == c) a)
   asked_class k (Some j) (Reduce t f u col vs) n e a = let p : f.0 ≡ j = cc in sym (eqb-true j k n) ∙ sym p
       ∙ eqb-true f.0 c (and_right (t.0 == ts) (f.0 == c) a)
   asked_class k (Some j) (Ship t f) n e a = let p : f.0 ≡ j = cc in sym (eqb-true j k n) ∙ sym p ∙ eqb-true f.0 c (and_right (t.0 == ts) (f.0 == c) a)
-  asked_class k (Some j) m n e a = cc
+  asked_class k _ m n e a = cc
 
   reply_tells : (f : Frozen) (q m : Msg) → reply (Some f) q ≡ Some m → Tells q m f
   reply_tells f (Fetch t k u col) m e = let p : Values t k u (values_in (rows_of u f) col) ≡ m = cc in sym p

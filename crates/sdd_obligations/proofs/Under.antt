@@ -39,38 +39,26 @@ started_le h k act c l m = omega (arith, l, m)
 
 clock_le : (at : Site) (h k : ℕ) (o : Option site.Entry) (l : site.Log) → h ≤ k → (clock at l).ticks ≤ h → MayGrow h k o
     → (clock at (with_made o l)).ticks ≤ k
-clock_le at h k None l u c m = omega (arith, u, c)
 clock_le at h k (Some (Handed from x)) l u c m = let p = pushed_le h x (clock at l) c m in omega (arith, u, p)
 clock_le at h k (Some (Ticked n)) l u c m = omega (arith, c, m)
-clock_le at h k (Some (Submits n txn)) l u c m = omega (arith, u, c)
 clock_le at h k (Some (Redeclared force t)) l u c m = let p = push_le (clock at l).ticks t h c m in omega (arith, u, p)
 clock_le at h k (Some (Did act)) l u c m = started_le h k act (clock at l) c m.0
+clock_le at h k _ l u c m = omega (arith, u, c)
 
 -- what is handed, and what is put
 
 hands_up : (h k : ℕ) (l : site.Log) → h ≤ k → HandsLow h l → HandsLow k l
 hands_up h k [] u i = tt
 hands_up h k (Handed from m ∷ l) u i = (low_up h k m u i.0, hands_up h k l u i.1)
-hands_up h k (Ticked n ∷ l) u i = hands_up h k l u i
-hands_up h k (Submits n txn ∷ l) u i = hands_up h k l u i
-hands_up h k (Redeclared force t ∷ l) u i = hands_up h k l u i
-hands_up h k (Did act ∷ l) u i = hands_up h k l u i
+hands_up h k (_ ∷ l) u i = hands_up h k l u i
 
 hands_low : (h k : ℕ) (o : Option site.Entry) (l : site.Log) → h ≤ k → HandsLow h l → MayGrow h k o → HandsLow k (with_made o l)
-hands_low h k None l u i m = hands_up h k l u i
 hands_low h k (Some (Handed from x)) l u i m = (low_up h k x u m, hands_up h k l u i)
-hands_low h k (Some (Ticked n)) l u i m = hands_up h k l u i
-hands_low h k (Some (Submits n txn)) l u i m = hands_up h k l u i
-hands_low h k (Some (Redeclared force t)) l u i m = hands_up h k l u i
-hands_low h k (Some (Did act)) l u i m = hands_up h k l u i
+hands_low h k _ l u i m = hands_up h k l u i
 
 put_low : (h k : ℕ) (b : Site) (o : Option site.Entry) → MayGrow h k o → AllLow k (put_by b o)
-put_low h k b None m = tt
-put_low h k b (Some (Handed from x)) m = tt
-put_low h k b (Some (Ticked n)) m = tt
-put_low h k b (Some (Submits n txn)) m = tt
-put_low h k b (Some (Redeclared force t)) m = tt
 put_low h k b (Some (Did act)) m = m.1 b
+put_low h k b _ m = tt
 
 under_more : (g : Given) (h k : ℕ) (e : Entry) (log : Log) → h ≤ k → IsUnder g h log → ((at : Site) → MayGrow h k (made g at log e))
     → IsUnder g k (e ∷ log)
@@ -90,9 +78,8 @@ by_mark h at (Tick t n) = if_way (MayGrow h (n + h)) (same_site at (T t)) (Some 
 by_mark h at _ = tt
 
 by_force : (h : ℕ) (at : Site) (force : Force) (t : ℕ) → t ≤ top h → MayGrow h h (forced at force t)
-by_force h U force t l = tt
 by_force h (T n) force t l = l
-by_force h (D d) force t l = tt
+by_force h _ force t l = tt
 
 by_submit : (h n : ℕ) (o : Option Txn) → MayGrow h h (given_to n o)
 by_submit h n None = tt
@@ -131,8 +118,7 @@ IsEmptyOf l = ((at : Site) → (clock at l).ticks ≤ 0) × ((b : Site) → puts
 
 beginning_low : (g : Given) (at : Site) → IsEmptyOf (beginning g at)
 beginning_low g U = ((λ b. omega arith), (λ b. refl), tt)
-beginning_low g (T t) = ((λ b. omega arith), (λ b. refl), tt)
-beginning_low g (D d) = ((λ b. omega arith), (λ b. refl), tt)
+beginning_low g _ = ((λ b. omega arith), (λ b. refl), tt)
 
 pub under : (g : Given) (log : Log) → g.catalogue.tms ≤ 63 → AllFewTicks g.events → IsLawful g log → IsPermitted g log
     → IsUnder g (height log) log

@@ -171,10 +171,8 @@ once s c ts b [] h k = record { le = omega arith; was = λ l. absurd (omega (ari
 once s c ts b (Handed from m ∷ log) h k =
     let i = once s c ts b log h.1 k.1 in
     record { le = i.le; was = λ l. (let w = i.was l in (w.0, w.1, subst (λ ms. slice_get ms w.0 ≡ Some w.1) (sym (processed_handed c from m log)) w.2, w.3)) }
-once s c ts b (Ticked n ∷ log) h k = let i = once s c ts b log h.1 k.1 in record { le = i.le; was = i.was }
-once s c ts b (Redeclared force t ∷ log) h k = let i = once s c ts b log h.1 k.1 in record { le = i.le; was = i.was }
-once s c ts b (Submits n txn ∷ log) h k = let i = once s c ts b log h.1 k.1 in record { le = i.le; was = i.was }
 once s c ts b (Did act ∷ log) h k = once_did s c ts b act log h.0 k.0 (once s c ts b log h.1 k.1)
+once s c ts b (_ ∷ log) h k = let i = once s c ts b log h.1 k.1 in record { le = i.le; was = i.was }
 
 pub one_verdict : (g : Given) (c ts : ℕ) (d : DmNo) (b : Site) (log : Log) → number_of (home g.catalogue c) ≤ 63 → IsPermitted g log
     → tally (is_verdict ts c) (puts_to b (local_of g (D d) log)) ≤ 1
