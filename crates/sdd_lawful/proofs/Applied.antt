@@ -151,11 +151,7 @@ result_of c [] before r sends p = (length (results c before), rw (same_number c,
 result_of c (Did (Records k q ss) ∷ later) before r sends p =
     let i = result_of c later before r sends p in
     (i.0, result_if ((k == c) && is_processing q) (results c (later ++ Did (Records c r sends) ∷ before)) q r i.0 i.1)
-result_of c (Did (Sends to m hand) ∷ later) before r sends p = result_of c later before r sends p
-result_of c (Handed from m ∷ later) before r sends p = result_of c later before r sends p
-result_of c (Ticked k ∷ later) before r sends p = result_of c later before r sends p
-result_of c (Submits k text ∷ later) before r sends p = result_of c later before r sends p
-result_of c (Redeclared force t ∷ later) before r sends p = result_of c later before r sends p
+result_of c (_ ∷ later) before r sends p = result_of c later before r sends p
 
 -- what a module has applied stands in the history before
 

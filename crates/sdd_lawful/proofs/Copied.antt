@@ -90,11 +90,7 @@ applied_has c [] before r sends x a h =
 applied_has c (Did (Records k q ss) ∷ later) before r sends x a h =
     applied_if ((k == c) && is_apply q) (applied c (later ++ Did (Records c r sends) ∷ before))
     (changes_in (head (pipe c (later ++ Did (Records c r sends) ∷ before)))) x (applied_has c later before r sends x a h)
-applied_has c (Did (Sends to m hand) ∷ later) before r sends x a h = applied_has c later before r sends x a h
-applied_has c (Handed from m ∷ later) before r sends x a h = applied_has c later before r sends x a h
-applied_has c (Ticked n ∷ later) before r sends x a h = applied_has c later before r sends x a h
-applied_has c (Submits n text ∷ later) before r sends x a h = applied_has c later before r sends x a h
-applied_has c (Redeclared force t ∷ later) before r sends x a h = applied_has c later before r sends x a h
+applied_has c (_ ∷ later) before r sends x a h = applied_has c later before r sends x a h
 
 -- in the history: a change of a committed transaction that is applied before the place
 pub record IsChangeOf (g : Given) (log : Log) (d k : ℕ) (x : ℕ × Change) : Type 0 where

@@ -52,13 +52,11 @@ count_submit c n x k (Some t) l e = e
 
 count_force : (c n x : ℕ) (at : Site) (force : Force) (t : ℕ) (l : SiteLog) → starts_of c n l ≡ x → starts_of c n (with_force at force t l) ≡ x
 count_force c n x U force t l e = e
-count_force c n x (T k) force t l e = e
-count_force c n x (D d) force t l e = e
+count_force c n x _ force t l e = e
 
 count_first : (g : Given) (c n : ℕ) (at : Site) → starts_of c n (local_of g at []) ≡ 0
 count_first g c n U = refl
-count_first g c n (T t) = refl
-count_first g c n (D d) = refl
+count_first g c n _ = refl
 
 -- a Start of the transaction, which is of the class; of another transaction it counts for neither
 abbrev IsOwnStart : Given → ℕ → ℕ → Site → ℕ → Rec → Type 0
@@ -96,26 +94,16 @@ count_entry : (g : Given) (c n x : ℕ) (e : Entry) (log : Log) → IsOwnEntry g
     → starts_of c n (at_home g c (e ∷ log)) ≡ x + one_by n (record_of e)
 count_entry g c n x (Mark (Tick t k)) log own e =
     count_if c n x (same_site (home g.catalogue c) (T t)) (Ticked k) (at_home g c log) refl e
-count_entry g c n x (Mark (Submit k)) log own e = plus_none _ x e
-count_entry g c n x (Mark (Deliver a b k)) log own e = plus_none _ x e
-count_entry g c n x (Mark (Lose a b k)) log own e = plus_none _ x e
-count_entry g c n x (Mark (Repeat a b k)) log own e = plus_none _ x e
-count_entry g c n x (Mark (Resend a b)) log own e = plus_none _ x e
-count_entry g c n x (Mark Settle) log own e = plus_none _ x e
-count_entry g c n x (Mark Redeclare) log own e = plus_none _ x e
-count_entry g c n x (Mark (Down d)) log own e = plus_none _ x e
-count_entry g c n x (Mark (Up d)) log own e = plus_none _ x e
-count_entry g c n x (Round es) log own e = plus_none _ x e
 count_entry g c n x (Redeclares t) log own e =
     plus_none _ x (count_force c n x (home g.catalogue c) (force_at g (suc (redeclares log))) t (at_home g c log) e)
 count_entry g c n x (Hand from to k m) log own e =
     count_if c n x (same_site (home g.catalogue c) to) (Handed from m) (at_home g c log) refl e
 count_entry g c n x (Submitted to k) log own e =
     plus_none _ x (if_way (HasCount c n x) (same_site (home g.catalogue c) to) (with_submit k (txn_at g k) (at_home g c log)) (at_home g c log) (count_submit c n x k (txn_at g k) (at_home g c log) e) e)
-count_entry g c n x Notes log own e = plus_none _ x e
 count_entry g c n x (Does at (Records k r sends)) log own e = count_act g c n x at k r sends (at_home g c log) own e
 count_entry g c n x (Does at (Sends to m hand)) log own e =
     count_if c n x (same_site (home g.catalogue c) at) (Did (Sends to m hand)) (at_home g c log) refl e
+count_entry g c n x _ log own e = plus_none _ x e
 
 abbrev AllOwn : Given → ℕ → ℕ → Log → Type 0
 AllOwn g c n [] = Unit {0}
@@ -144,8 +132,7 @@ own_entry : (g : Given) (full : Log) (c n : ℕ) (text : Txn) (later : Log) (e :
     → IsPermitted g full → IsGivenTo g full n c text → full ≡ later ++ e ∷ before → IsOwnEntry g c n e
 own_entry g full c n text later (Does at (Records k r sends)) before sound h given is =
     own_record g full c n text later at k r sends before sound h given is
-own_entry g full c n text later (Does at (Sends to m hand)) before sound h given is = tt
-own_entry g full c n text later e before sound h given is = tt
+own_entry g full c n text later _ before sound h given is = tt
 
 all_own : (g : Given) (full : Log) (c n : ℕ) (text : Txn) (later log : Log) → IsSound g.catalogue → IsPermitted g full
     → IsGivenTo g full n c text → full ≡ later ++ log → AllOwn g c n log

@@ -20,37 +20,26 @@ pub stamp_in : (later before : Log) (k : ℕ) (txn : TxnNo) (attempt : ℕ) (c :
 stamp_in [] before k txn attempt c ts p2 us sends = (0, refl)
 stamp_in (Did act ∷ later) before k txn attempt c ts p2 us sends =
     let i = stamp_in later before k txn attempt c ts p2 us sends in in_right _ _ i.0 ts.0 i.1
-stamp_in (Handed from m ∷ later) before k txn attempt c ts p2 us sends = stamp_in later before k txn attempt c ts p2 us sends
-stamp_in (Ticked n ∷ later) before k txn attempt c ts p2 us sends = stamp_in later before k txn attempt c ts p2 us sends
-stamp_in (Submits n text ∷ later) before k txn attempt c ts p2 us sends = stamp_in later before k txn attempt c ts p2 us sends
-stamp_in (Redeclared force t ∷ later) before k txn attempt c ts p2 us sends = stamp_in later before k txn attempt c ts p2 us sends
+stamp_in (_ ∷ later) before k txn attempt c ts p2 us sends = stamp_in later before k txn attempt c ts p2 us sends
 
 pub promise_in : (later before : Log) (k : ℕ) (txn : TxnNo) (attempt : ℕ) (c : ClassNo) (ts : Ts) (p2 : Ts) (us : List Use) (sends : List (Site × Msg))
     → (i : ℕ) × (slice_get (promises (later ++ Did (Records k (Start txn attempt c ts (Some p2) us) sends) ∷ before)) i ≡ Some p2.0)
 promise_in [] before k txn attempt c ts p2 us sends = (0, refl)
 promise_in (Did act ∷ later) before k txn attempt c ts p2 us sends =
     let i = promise_in later before k txn attempt c ts p2 us sends in in_right _ _ i.0 p2.0 i.1
-promise_in (Handed from m ∷ later) before k txn attempt c ts p2 us sends = promise_in later before k txn attempt c ts p2 us sends
-promise_in (Ticked n ∷ later) before k txn attempt c ts p2 us sends = promise_in later before k txn attempt c ts p2 us sends
-promise_in (Submits n text ∷ later) before k txn attempt c ts p2 us sends = promise_in later before k txn attempt c ts p2 us sends
-promise_in (Redeclared force t ∷ later) before k txn attempt c ts p2 us sends = promise_in later before k txn attempt c ts p2 us sends
+promise_in (_ ∷ later) before k txn attempt c ts p2 us sends = promise_in later before k txn attempt c ts p2 us sends
 
 -- Commits
 
 commit_stays : (c n : ℕ) (act : Act) (x : Bool) → x ≡ true → commit_more c n act x ≡ true
 commit_stays c n (Records k (Commit txn attempt reply changes values rows) sends) x h = or_right ((k == c) && (n == txn.0)) x h
-commit_stays c n (Records k (Start txn attempt class ts p2 uses) sends) x h = h
-commit_stays c n (Records k _ sends) x h = h
-commit_stays c n (Sends to m hand) x h = h
+commit_stays c n _ x h = h
 
 pub committed_later : (c n : ℕ) (later log : Log) → is_committed c n log ≡ true → is_committed c n (later ++ log) ≡ true
 committed_later c n [] log h = h
 committed_later c n (Did act ∷ later) log h =
     commit_stays c n act (is_committed c n (later ++ log)) (committed_later c n later log h)
-committed_later c n (Handed from m ∷ later) log h = committed_later c n later log h
-committed_later c n (Ticked k ∷ later) log h = committed_later c n later log h
-committed_later c n (Submits k text ∷ later) log h = committed_later c n later log h
-committed_later c n (Redeclared force t ∷ later) log h = committed_later c n later log h
+committed_later c n (_ ∷ later) log h = committed_later c n later log h
 
 pub committed_here : (c : ℕ) (before : Log) (txn : TxnNo) (attempt : ℕ) (reply : Reply) (changes : List Change) (values rows : ℕ) (sends : List (Site × Msg))
     → is_committed c txn.0 (Did (Records c (Commit txn attempt reply changes values rows) sends) ∷ before) ≡ true
@@ -118,10 +107,7 @@ submitted_in s c n text [] before h =
 submitted_in s c n text (Submits k other ∷ later) before h =
     let i = submitted_in s c n text later before h in
     (i.0, submits_if (is_for c (in_force s (later ++ Submits n text ∷ before)).catalogue other) (submits_of s c (later ++ Submits n text ∷ before)) (pair k other) (pair n text) i.0 i.1)
-submitted_in s c n text (Did act ∷ later) before h = submitted_in s c n text later before h
-submitted_in s c n text (Handed from m ∷ later) before h = submitted_in s c n text later before h
-submitted_in s c n text (Ticked k ∷ later) before h = submitted_in s c n text later before h
-submitted_in s c n text (Redeclared force t ∷ later) before h = submitted_in s c n text later before h
+submitted_in s c n text (_ ∷ later) before h = submitted_in s c n text later before h
 
 pub all_committed_at : (c : ℕ) (log : Log) (xs : List (ℕ × Txn)) (i : ℕ) (n : ℕ) (text : Txn) → AllCommitted c log xs
     → slice_get xs i ≡ Some (pair n text) → is_committed c n log ≡ true
@@ -135,16 +121,12 @@ all_committed_at c log (x ∷ xs) (suc i) n text h e = all_committed_at c log xs
 start_more_le : (c n : ℕ) (act : Act) (x y : ℕ) → y ≤ x → y ≤ start_more c n act x
 start_more_le c n (Records k (Start txn attempt class ts p2 uses) sends) x y h =
     if_way (λ z. y ≤ z) ((k == c) && (n == txn.0)) (suc x) x (omega arith) h
-start_more_le c n (Records k r sends) x y h = h
-start_more_le c n (Sends to m hand) x y h = h
+start_more_le c n _ x y h = h
 
 starts_later : (c n : ℕ) (later log : Log) → starts_of c n log ≤ starts_of c n (later ++ log)
 starts_later c n [] log = omega arith
 starts_later c n (Did act ∷ later) log = start_more_le c n act (starts_of c n (later ++ log)) (starts_of c n log) (starts_later c n later log)
-starts_later c n (Handed from m ∷ later) log = starts_later c n later log
-starts_later c n (Ticked k ∷ later) log = starts_later c n later log
-starts_later c n (Submits k text ∷ later) log = starts_later c n later log
-starts_later c n (Redeclared force t ∷ later) log = starts_later c n later log
+starts_later c n (_ ∷ later) log = starts_later c n later log
 
 pub starts_grow : (later before : Log) (c : ℕ) (txn : TxnNo) (attempt : ℕ) (class : ClassNo) (ts : Ts) (p2 : Option Ts) (us : List Use) (sends : List (Site × Msg))
     → starts_of c txn.0 before < starts_of c txn.0 (later ++ Did (Records c (Start txn attempt class ts p2 us) sends) ∷ before)

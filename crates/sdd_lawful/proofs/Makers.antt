@@ -55,9 +55,8 @@ by_kind h v c m step = tt
 
 head_kind : (h : Home) (v : View) (c : ℕ) (m : Option Msg) (step : Option Step) (a : Act) → act_where h v c m step ≡ Some a
     → IsDataAct h.dm a
-head_kind h v c None step a e = cc
-head_kind h v c (Some m) None a e = cc
 head_kind h v c (Some m) (Some step) a e = data_some h.dm _ a (by_kind h v c m step) e
+head_kind h v c _ _ a e = cc
 
 due_kind : (h : Home) (v : View) (a : Act) → IsDue h v a → IsDataAct h.dm a
 due_kind h v a (by_open n k p e) = open_kind h k (head_of (filter (is_asked_of k.class) v.opens)) a e

@@ -18,13 +18,8 @@ in_one cat event =
 
 none_before : (later before : Log) → redeclares (later ++ before) ≡ 0 → redeclares before ≡ 0
 none_before [] before e = e
-none_before (Mark x ∷ later) before e = none_before later before e
-none_before (Round es ∷ later) before e = none_before later before e
 none_before (Redeclares t ∷ later) before e = absurd (omega arith)
-none_before (Hand a b n m ∷ later) before e = none_before later before e
-none_before (Submitted at n ∷ later) before e = none_before later before e
-none_before (Notes ∷ later) before e = none_before later before e
-none_before (Does at act ∷ later) before e = none_before later before e
+none_before (_ ∷ later) before e = none_before later before e
 
 pub of_one_era : (g : Given) (log : Log) → IsForce (force_at g 0) → (force_at g 0).catalogue ≡ g.catalogue → redeclares log ≡ 0
     → AreErasOf g log (one_era g.catalogue)

@@ -6,14 +6,11 @@ recorded event None = []
 recorded event (Some r) = (event, r) ∷ []
 
 pub history_step : (e : Entry) (log : Log) → history (e ∷ log) ≡ history log ++ recorded (marks log) (record_of e)
-history_step (Mark e) log = sym (append-nil _)
-history_step (Round es) log = sym (append-nil _)
-history_step (Redeclares t) log = sym (append-nil _)
-history_step (Hand a b n m) log = sym (append-nil _)
 history_step (Submitted at n) log = refl
 history_step Notes log = refl
 history_step (Does at (Records c r sends)) log = refl
 history_step (Does at (Sends to m hand)) log = refl
+history_step _ log = sym (append-nil _)
 
 abbrev dated : Log → Rec → ℕ × Rec
 dated log r = (marks log, r)

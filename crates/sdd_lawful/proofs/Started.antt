@@ -21,11 +21,7 @@ act_of_record (Submitted at n) r p f = not_own _ r p refl f
 act_of_record Notes r p f = not_own _ r p refl f
 act_of_record (Does at (Records c q sends)) r p f =
     let s : q ≡ r = cc in record { at = at; class = c; sends = sends; is = ap (λ x. Does at (Records c x sends)) s }
-act_of_record (Does at (Sends to m hand)) r p f = cc
-act_of_record (Mark e) r p f = cc
-act_of_record (Round es) r p f = cc
-act_of_record (Redeclares t) r p f = cc
-act_of_record (Hand a b k m) r p f = cc
+act_of_record _ r p f = cc
 
 -- the record of a Start or a Commit, as an act of the site that runs its class
 pub record IsRunIn (g : Given) (log : Log) (k : ℕ) (r : Rec) : Type 0 where

@@ -42,20 +42,14 @@ due_submit g (Submit k) log at n p =
     let r : home_of (force_at g (redeclares log)).catalogue (txn_at g k.0) ≡ at = cc in
     let w : k.0 ≡ n = cc in
     record { earlier = log; number = k; is = refl; number_is = w; at_is = sym r ∙ ap (λ x. home_of (force_at g (redeclares log)).catalogue (txn_at g x)) w }
-due_submit g (Deliver a b k) log at n p = no_note _ at n p
-due_submit g (Lose a b k) log at n p = no_note _ at n p
-due_submit g (Repeat a b k) log at n p = no_note _ at n p
-due_submit g (Resend a b) log at n p = no_note _ at n p
 due_submit g (Tick t k) log at n p = cc
 due_submit g Settle log at n p = cc
 due_submit g Redeclare log at n p = cc
-due_submit g (Down d) log at n p = no_note _ at n p
-due_submit g (Up d) log at n p = no_note _ at n p
+due_submit g _ log at n p = no_note _ at n p
 
 given_by : (g : Given) (log : Log) (at : Site) (n : ℕ) → mark_due g log ≡ Some (Submitted at n) → IsGivenAt g log at n
-given_by g [] at n p = cc
 given_by g (Mark e ∷ log) at n p = due_submit g e log at n p
-given_by g (_ ∷ log) at n p = cc
+given_by g _ at n p = cc
 
 pub given_at : (g : Given) (log : Log) (at : Site) (n : ℕ) → IsPermitted g (Submitted at n ∷ log) → IsGivenAt g log at n
 given_at g log at n h = given_by g log at n (marked g log (Submitted at n) h.0)
@@ -114,11 +108,7 @@ submit_entry g Notes log n h p = let q : Nothing ≡ Submission (txn_no n) = cc 
 submit_entry g (Does at (Records c r sends)) log n h p =
     let q : r ≡ Submission (txn_no n) = cc in
     let f : true ≡ false = sym (ap is_own q) ∙ none_own g at c r sends log h in cc
-submit_entry g (Does at (Sends to m hand)) log n h p = cc
-submit_entry g (Mark e) log n h p = cc
-submit_entry g (Round es) log n h p = cc
-submit_entry g (Redeclares t) log n h p = cc
-submit_entry g (Hand a b k m) log n h p = cc
+submit_entry g _ log n h p = cc
 
 pub submit_in : (g : Given) (log : Log) (n k : ℕ) → IsPermitted g log → IsSubmitted (history log) n k → IsSubmitIn g log n k
 submit_in g log n k h s =
