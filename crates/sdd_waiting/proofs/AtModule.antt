@@ -63,8 +63,7 @@ waits_other c k r sends l e = rw e refl
 still_waits : (b : Bool) (p y w : Bool) → p ≡ false → w ≡ true → (if b then (if p then false else (y || w)) else w) ≡ true
 still_waits true true y w p h = cc
 still_waits true false true w p h = refl
-still_waits true false false w p h = h
-still_waits false x y w p h = h
+still_waits _ _ _ w p h = h
 
 pub waits_on : (c k : ℕ) (r : Rec) (sends : List (Site × Msg)) (l : site.Log) → is_processing r ≡ false → waits c l ≡ true
     → waits c (Did (Records k r sends) ∷ l) ≡ true

@@ -18,25 +18,14 @@ note_of_event false = tt
 
 due_of_event : (g : Given) (e : Event) (log : Log) → IsOfEvent (due_by g e log)
 due_of_event g (Submit n) log = refl
-due_of_event g (Deliver a b k) log = note_of_event _
-due_of_event g (Lose a b k) log = note_of_event _
-due_of_event g (Repeat a b k) log = note_of_event _
-due_of_event g (Resend a b) log = note_of_event _
 due_of_event g (Tick t n) log = tt
 due_of_event g Settle log = tt
 due_of_event g Redeclare log = tt
-due_of_event g (Down d) log = note_of_event _
-due_of_event g (Up d) log = note_of_event _
+due_of_event g _ log = note_of_event _
 
 mark_of_event : (g : Given) (log : Log) → IsOfEvent (mark_due g log)
-mark_of_event g [] = tt
 mark_of_event g (Mark e ∷ log) = due_of_event g e log
-mark_of_event g (Round es ∷ log) = tt
-mark_of_event g (Redeclares t ∷ log) = tt
-mark_of_event g (Hand a b n m ∷ log) = tt
-mark_of_event g (Submitted a n ∷ log) = tt
-mark_of_event g (Notes ∷ log) = tt
-mark_of_event g (Does a act ∷ log) = tt
+mark_of_event g _ = tt
 
 does_of_event : (at : Site) (o : Option Act) → IsOfEvent (does_at at o)
 does_of_event at None = tt

@@ -40,7 +40,6 @@ never_rejected g log i d txn attempt dm by write sends free h =
 held_by : (g : Given) (log : Log) (i k : ℕ) (d : DmNo) (w : Ts) (wc : ClassNo) (wt : TxnNo) (changes : List Change) (o : Option Msg)
     → IsFreeClass g i → IsPermitted g log → IsSound g.catalogue → 1 ≤ d.0 → d.0 ≤ g.catalogue.dms
     → head (pipe_at g i d log) ≡ Some (Write w wc wt changes) → head (pipe_at g k d log) ≡ o → holds_back i w.0 changes o ≡ true → ⊥
-held_by g log i k d w wc wt changes None free h sound lo hi e f b = cc
 held_by g log i k d w wc wt changes (Some (Read ts of txn n ds us)) free h sound lo hi e f b = elim (same_or_not k 0) [
   | inl z ↦ holds_none g i d log ts of txn n ds us w wc wt changes h sound free.class lo hi
       (subst (λ j. head (pipe_at g j d log) ≡ Some (Read ts of txn n ds us)) z f) e b
@@ -49,7 +48,7 @@ held_by g log i k d w wc wt changes (Some (Read ts of txn n ds us)) free h sound
       let zero_not : k ≢ 0 = λ p. let q : (k == 0) ≡ true = ap (λ y. y == 0) p in not_both (k == 0) q z in
       names_none g log i k d _ ts of txn n ds us a.0 a.1 h free zero_not (head_place (pipe_at g k d log) _ f) a.2 class)
 ]
-held_by g log i k d w wc wt changes (Some _) free h sound lo hi e f b = cc
+held_by g log i k d w wc wt changes _ free h sound lo hi e f b = cc
 
 -- so where nothing is due, its pipe has no head
 

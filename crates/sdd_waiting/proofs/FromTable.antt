@@ -15,16 +15,6 @@ force_there g t (Mark (Tick u n) ∷ log) =
     let l : site.Log = local_of g (T t) log in
     if_way (λ (x : site.Log). in_force (setting_of g (T t)) x ≡ force_at g (redeclares log)) (same_site (T t) (T u)) (Ticked n ∷ l) l (force_there g t log)
     (force_there g t log)
-force_there g t (Mark (Submit k) ∷ log) = force_there g t log
-force_there g t (Mark (Deliver a b k) ∷ log) = force_there g t log
-force_there g t (Mark (Lose a b k) ∷ log) = force_there g t log
-force_there g t (Mark (Repeat a b k) ∷ log) = force_there g t log
-force_there g t (Mark (Resend a b) ∷ log) = force_there g t log
-force_there g t (Mark Settle ∷ log) = force_there g t log
-force_there g t (Mark Redeclare ∷ log) = force_there g t log
-force_there g t (Mark (Down d) ∷ log) = force_there g t log
-force_there g t (Mark (Up d) ∷ log) = force_there g t log
-force_there g t (Round es ∷ log) = force_there g t log
 force_there g t (Redeclares u ∷ log) = refl
 force_there g t (Hand from to n m ∷ log) =
     let l : site.Log = local_of g (T t) log in
@@ -34,11 +24,11 @@ force_there g t (Submitted to n ∷ log) =
     let l : site.Log = local_of g (T t) log in
     if_way (λ (x : site.Log). in_force (setting_of g (T t)) x ≡ force_at g (redeclares log)) (same_site (T t) to) (with_submit n (txn_at g n) l) l
     (after_submit (setting_of g (T t)) n (txn_at g n) l ∙ force_there g t log) (force_there g t log)
-force_there g t (Notes ∷ log) = force_there g t log
 force_there g t (Does by act ∷ log) =
     let l : site.Log = local_of g (T t) log in
     if_way (λ (x : site.Log). in_force (setting_of g (T t)) x ≡ force_at g (redeclares log)) (same_site (T t) by) (Did act ∷ l) l (force_there g t log)
     (force_there g t log)
+force_there g t (_ ∷ log) = force_there g t log
 
 force_of_class : (g : Given) (c : ℕ) (log : Log) → c ≢ 0
     → in_force (setting_of g (home g.catalogue c)) (local_of g (home g.catalogue c) log) ≡ force_at g (redeclares log)
@@ -52,14 +42,9 @@ force_of_class g c log n =
 
 protocol_same : (p q : Protocol) → same_protocol p q ≡ true → p ≡ q
 protocol_same P1 P1 e = refl
-protocol_same P1 P2 e = cc
-protocol_same P1 P3 e = cc
-protocol_same P2 P1 e = cc
 protocol_same P2 P2 e = refl
-protocol_same P2 P3 e = cc
-protocol_same P3 P1 e = cc
-protocol_same P3 P2 e = cc
 protocol_same P3 P3 e = refl
+protocol_same _ _ e = cc
 
 cond_some : (b : Bool) (o : Option FragNo) (f : FragNo) → cond b o None ≡ Some f → (b ≡ true) × (o ≡ Some f)
 cond_some true o f e = (refl, e)

@@ -24,8 +24,6 @@ answered_read v l c (Read ts of n a conds uses) txn attempt dm h m = record {
   uses = uses;
   head_is = h ∙ ap (λ k. Some (Read ts of (txn_no k) a conds uses)) (sym m.0) ∙ ap (λ k. Some (Read ts of txn k conds uses)) (sym m.1);
 }
-answered_read v l c (Write ts of n changes) txn attempt dm h m = absurd m
-answered_read v l c (Null of t) txn attempt dm h m = absurd m
 answered_read v l c _ txn attempt dm h m = absurd m
 
 read_answered : (s : Setting) (l : site.Log) (c : ℕ) (txn : TxnNo) (attempt : ℕ) (dm : DmNo) (sends : List (Site × Msg))

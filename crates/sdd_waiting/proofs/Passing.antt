@@ -82,10 +82,7 @@ all_handed_later c (Handed from m ∷ later) log =
     let i = all_handed_later c later log in
     let k = handed_more (goes_through c m) (all_handed c (later ++ log)) m in
     (i.0 ++ k.0, k.1 ∙ ap (λ xs. xs ++ k.0) i.1 ∙ append_assoc (all_handed c log) i.0 k.0)
-all_handed_later c (Ticked n ∷ later) log = all_handed_later c later log
-all_handed_later c (Submits n txn ∷ later) log = all_handed_later c later log
-all_handed_later c (Redeclared force t ∷ later) log = all_handed_later c later log
-all_handed_later c (Did act ∷ later) log = all_handed_later c later log
+all_handed_later c (_ ∷ later) log = all_handed_later c later log
 
 pub pipe_later : (c : ℕ) (later log : Log)
     → (more : List Msg) × (all_of (pipe c (later ++ log)) ≡ all_of (pipe c log) ++ more)

@@ -60,8 +60,6 @@ rejecting_by s log c (Read ts of n a conds uses) txn attempt dm by write h m =
       names = m.5;
       write_is = m.6;
     }
-rejecting_by s log c (Write ts of n changes) txn attempt dm by write h m = absurd m
-rejecting_by s log c (Null of t) txn attempt dm by write h m = absurd m
 rejecting_by s log c _ txn attempt dm by write h m = absurd m
 
 pub rejecting : (s : Setting) (log : site.Log) (c : ℕ) (txn : TxnNo) (attempt : ℕ) (dm : DmNo) (by : ClassNo) (write : Ts) (sends : List (Site × Msg))

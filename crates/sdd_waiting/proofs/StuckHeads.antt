@@ -26,10 +26,7 @@ pushed_through c true (y ∷ xs) m e f (suc k) x g = pushed_through c true xs m 
 all_through : (c : ℕ) (log : Log) (k : ℕ) (x : Msg) → slice_get (all_handed c log) k ≡ Some x → goes_through c x ≡ true
 all_through c [] k x e = cc
 all_through c (Handed from m ∷ log) k x e = pushed_through c (goes_through c m) (all_handed c log) m refl (all_through c log) k x e
-all_through c (Ticked n ∷ log) k x e = all_through c log k x e
-all_through c (Submits n txn ∷ log) k x e = all_through c log k x e
-all_through c (Redeclared force t ∷ log) k x e = all_through c log k x e
-all_through c (Did act ∷ log) k x e = all_through c log k x e
+all_through c (_ ∷ log) k x e = all_through c log k x e
 
 pub head_through : (c : ℕ) (log : Log) (m : Msg) → head (pipe c log) ≡ Some m → goes_through c m ≡ true
 head_through c log m e =
@@ -52,14 +49,10 @@ unless_none false x e = cc
 
 stuck : (s : Setting) (log : Log) (c : ℕ) (b : Bool) (m : Msg) → waits c log ≡ b → goes_through c m ≡ true
     → step_on (view_of s log) c b (Some m) ≡ None → IsStuck s log c (Some m)
-stuck s log c true (Null of time) w i e = cc
-stuck s log c false (Null of time) w i e = cc
 stuck s log c true (Write ts of txn changes) w i e = unless_none (is_held (view_of s log) c ts.0 changes) Processes e
 stuck s log c false (Write ts of txn changes) w i e = unless_none (is_held (view_of s log) c ts.0 changes) Processes e
 stuck s log c true (Read ts of txn attempt conds uses) w i e = (w, if_none (list_all (is_met (view_of s log)) conds) Processes e)
-stuck s log c false (Read ts of txn attempt conds uses) w i e = cc
-stuck s log c true _ w i e = cc
-stuck s log c false _ w i e = cc
+stuck s log c _ _ w i e = cc
 
 stuck_at : (s : Setting) (log : Log) (c : ℕ) (o : Option Msg) → head (pipe c log) ≡ o
     → act_where (home_of s) (view_of s log) c o (step_on (view_of s log) c (waits c log) o) ≡ None → IsStuck s log c o

@@ -69,8 +69,7 @@ head_wait s log c true (Read ts of txn attempt conds uses) a l n h e w =
     waited_not (home_of s) (view_of s log) c ts of txn attempt conds uses (list_all (is_met (view_of s log)) conds) a e w
 head_wait s log c false (Read ts of txn attempt conds uses) a l n h e w =
     judged_wait s log c ts of txn attempt conds uses (lacking (view_of s log) conds) (spoiler (view_of s log) conds) a l n h refl refl e w
-head_wait s log c true _ a l n h e w = cc
-head_wait s log c false _ a l n h e w = cc
+head_wait s log c _ _ a l n h e w = cc
 
 at_head : (s : Setting) (log : Log) (c : ℕ) (o : Option Msg) (a : Act) → IsClassHere s c → head (pipe c log) ≡ o
     → act_where (home_of s) (view_of s log) c o (step_on (view_of s log) c (waits c log) o) ≡ Some a

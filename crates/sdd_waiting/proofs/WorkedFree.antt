@@ -53,10 +53,9 @@ only_edge k a b (inl e) = first_edge k a b e
 only_edge k a b (inr e) = first_edge k b a e
 
 no_simple_cycle : (start : ℕ) (steps : List Step) → IsSimpleCycle one_edge start steps → ⊥
-no_simple_cycle start [] c = let l = c.long in omega arith
-no_simple_cycle start (s ∷ []) c = let l = c.long in omega arith
 no_simple_cycle start (s ∷ t ∷ steps) c =
     c.edges_differ.0 (inl (only_edge t.edge s.to t.to c.closed.1.0 ∙ sym (only_edge s.edge start s.to c.closed.0)))
+no_simple_cycle start _ c = let l = c.long in omega arith
 
 no_cycle : (k : ℕ) → OnACycle one_edge k → ⊥
 no_cycle k c = no_simple_cycle c.start c.steps c.cycle
