@@ -112,26 +112,13 @@ module _ (s : Setting) (log : Log) where
 
   head_falls : (h : Home) (v : View) (c n : ℕ) (w : Bool) (o : Option Msg) (act : Act) → slice_get (classes_of s) n ≡ Some c → head (pipe c log) ≡ o
       → waits c log ≡ w → act_where h v c o (step_on v c w o) ≡ Some act → d_work s (Did act ∷ log) < d_work s log
-  head_falls h v c n w None act at top is e = absurd (cc)
   head_falls h v c n w (Some (Null class time)) act at top is e =
       subst (λ x. d_work s (Did x ∷ log) < d_work s log) (same_Some (act_by h v c (Null class time) Processes) act e)
       (processing c n (Pass class h.dm time) [] (Null class time) at top refl refl)
   head_falls h v c n w (Some (Write ts class txn changes)) act at top is e =
       applied_falls h v c n ts class txn changes (is_held v c ts.0 changes) act at top e
   head_falls h v c n w (Some (Read ts class txn attempt conds uses)) act at top is e = read_falls h v c n ts class txn attempt conds uses w act at top is e
-  head_falls h v c n w (Some (Ready a b d)) act at top is e = absurd (cc)
-  head_falls h v c n w (Some (Reject a b d f)) act at top is e = absurd (cc)
-  head_falls h v c n w (Some (Fetch a b d f)) act at top is e = absurd (cc)
-  head_falls h v c n w (Some (Values a b d f)) act at top is e = absurd (cc)
-  head_falls h v c n w (Some (Reduce a b d f j)) act at top is e = absurd (cc)
-  head_falls h v c n w (Some (Reduced a b d f)) act at top is e = absurd (cc)
-  head_falls h v c n w (Some (Ship a b)) act at top is e = absurd (cc)
-  head_falls h v c n w (Some (Rows a b d)) act at top is e = absurd (cc)
-  head_falls h v c n w (Some (Ask a b)) act at top is e = absurd (cc)
-  head_falls h v c n w (Some Hold) act at top is e = absurd (cc)
-  head_falls h v c n w (Some (Held a)) act at top is e = absurd (cc)
-  head_falls h v c n w (Some (Release a)) act at top is e = absurd (cc)
-  head_falls h v c n w (Some (Done a)) act at top is e = absurd (cc)
+  head_falls h v c n w _ act at top is e = absurd (cc)
 
   -- what answers a message that asks
 

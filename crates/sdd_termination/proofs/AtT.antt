@@ -113,8 +113,7 @@ module _ (s : Setting) (bases : Bases) (log : Log) (fair : Each (IsFair s) log) 
       → (if b && is_none o then start_of s.catalogue (view_of s log) c (head_of (queue s c log)) else None) ≡ Some act
       → t_work s (Did act ∷ log) < t_work s log
   start_if_falls n c true None act at is e = start_at_falls n c (head_of (queue s c log)) act at is refl e
-  start_if_falls n c true (Some a) act at is e = absurd (cc)
-  start_if_falls n c false o act at is e = absurd (cc)
+  start_if_falls n c _ _ act at is e = absurd (cc)
 
   more_holds : (a b : Bool) (x y : ℕ) → (a && (b && nat_lt x y)) ≡ true → x < y
   more_holds a b x y e = ltb-true x y (and_right b (nat_lt x y) (and_right a (b && nat_lt x y) e))

@@ -104,8 +104,6 @@ module _ (s : Setting) (bases : Bases) (log : Log) (fair : Each (IsFair s) log) 
 
   started_falls : (q : Queued) (z b : Bool) (act : Act) → head_of (queue s 0 log) ≡ Some q → (q.tries == 0) ≡ z
       → (if z && b then Some (start_act s.catalogue [] 0 (clock s.site log) q) else None) ≡ Some act → u_work s (Did act ∷ log) < u_work s log
-  started_falls q false b act head z e = absurd (cc)
-  started_falls q true false act head z e = absurd (cc)
   started_falls q true true act head z e =
       let start : Act = start_act s.catalogue [] 0 (clock s.site log) q in
       subst (λ x. u_work s (Did x ∷ log) < u_work s log) (same_Some start act e)
@@ -116,6 +114,7 @@ module _ (s : Setting) (bases : Bases) (log : Log) (fair : Each (IsFair s) log) 
       (λ t. signs_left (txns_in s log) (counts t log)) (numbers_to s.catalogue.tms)
       (λ t. signs_fewer _ _ (counts t log) fewer) in
       omega (arith, own, up))
+  started_falls q _ _ act head z e = absurd (cc)
 
   start_falls_of : (o : Option Queued) (act : Act) → head_of (queue s 0 log) ≡ o → start_of s.catalogue (view_of s log) o ≡ Some act
       → u_work s (Did act ∷ log) < u_work s log
@@ -127,8 +126,6 @@ module _ (s : Setting) (bases : Bases) (log : Log) (fair : Each (IsFair s) log) 
   released_falls : (k t : ℕ) (b c : Bool) (ts : Ts) (act : Act) → slice_get (numbers_to s.catalogue.tms) k ≡ Some t
       → (b ≡ true → (counts t log).releases < (last_served s log).commits)
       → (if b && c then Some (Sends (T (tm_no t)) (Release ts) None) else None) ≡ Some act → u_work s (Did act ∷ log) < u_work s log
-  released_falls k t false c ts act at f e = absurd (cc)
-  released_falls k t true false ts act at f e = absurd (cc)
   released_falls k t true true ts act at f e =
       subst (λ x. u_work s (Did x ∷ log) < u_work s log) (same_Some (Sends (T (tm_no t)) (Release ts) None) act e)
       (let own = send_up s 0 log (T (tm_no t)) (Release ts) None in
@@ -136,6 +133,7 @@ module _ (s : Setting) (bases : Bases) (log : Log) (fair : Each (IsFair s) log) 
       let less = released_less (txns_in s log) (counts t log).releases (counts t log).holds (omega (arith, l)) in
       let all = one_told log (txns_in s log) t (λ k. record k { releases = suc k.releases }) less (numbers_to s.catalogue.tms) k at in
       omega (arith, own, all))
+  released_falls k t _ _ ts act at f e = absurd (cc)
 
   held_falls : (k t : ℕ) (b : Bool) (act : Act) → slice_get (numbers_to s.catalogue.tms) k ≡ Some t → ((counts t log).releases == (counts t log).holds) ≡ b
       → (if b then Some (Sends (T (tm_no t)) Hold None) else None) ≡ Some act → u_work s (Did act ∷ log) < u_work s log

@@ -18,19 +18,10 @@ events_of_round tms dms calls = each_of_round (IsOfRound tms dms) tms dms calls 
 
 round_from : (g : Given) (log : Log) (q : Bool) (events ws es : List Event) → mark_from g log q events ws ≡ Some (Round es)
     → (q ≡ false) × (events ≡ es)
-round_from g log q events [] es h = absurd (cc)
 round_from g log true events (Settle ∷ ws) es h = round_from g log true events ws es h
 round_from g log false events (Settle ∷ ws) es h = (refl, cc)
-round_from g log true events (Redeclare ∷ ws) es h = absurd (cc)
 round_from g log false events (Redeclare ∷ ws) es h = (refl, cc)
-round_from g log q events (Submit n ∷ ws) es h = absurd (cc)
-round_from g log q events (Deliver a b k ∷ ws) es h = absurd (cc)
-round_from g log q events (Lose a b k ∷ ws) es h = absurd (cc)
-round_from g log q events (Repeat a b k ∷ ws) es h = absurd (cc)
-round_from g log q events (Resend a b ∷ ws) es h = absurd (cc)
-round_from g log q events (Tick t n ∷ ws) es h = absurd (cc)
-round_from g log q events (Down d ∷ ws) es h = absurd (cc)
-round_from g log q events (Up d ∷ ws) es h = absurd (cc)
+round_from g log _ events _ es h = absurd (cc)
 
 abbrev pub Begins : Given → Log → List Event → List Event × List Event → Type 0
 Begins g log es rest = (rest.1 ≡ []) × (quiet (all_links g) (calls_of log) ≡ false) × (0 < length es)

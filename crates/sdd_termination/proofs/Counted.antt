@@ -17,9 +17,8 @@ one_where_some (e ∷ events) l = refl
 
 -- a mark ends a round, if it is the last of its events
 after_one : (rest : List Event × List Event) (r m : ℕ) → r ≤ m + in_progress rest.1 → r ≤ suc m + in_progress (after_mark rest).1
-after_one (ws, []) r m h = omega arith
-after_one (ws, e ∷ []) r m h = omega arith
 after_one (ws, e ∷ f ∷ events) r m h = omega arith
+after_one (ws, _) r m h = omega arith
 
 counted : (g : Given) (log : Log) → IsLawful g log → rounds log ≤ marks log + in_progress (left g.events log).1
 counted g [] h = omega arith
@@ -31,10 +30,7 @@ counted g (Round es ∷ log) h =
     let none : in_progress (left g.events log).1 ≡ 0 = ap in_progress r.0 in
     let one = one_where_some es r.2 in
     omega arith
-counted g (Hand a b n m ∷ log) h = counted g log h.1
-counted g (Submitted at n ∷ log) h = counted g log h.1
-counted g (Notes ∷ log) h = counted g log h.1
-counted g (Does at act ∷ log) h = counted g log h.1
+counted g (_ ∷ log) h = counted g log h.1
 
 pub few_rounds : (g : Given) (log : Log) → IsLawful g log → rounds log ≤ suc (marks log)
 few_rounds g log h =
@@ -47,11 +43,7 @@ few_marks : (log : Log) → IsWithin log → marks log ≤ MAX_RUN_EVENTS
 few_marks [] w = omega arith
 few_marks (Mark e ∷ log) w = let l = ltb-false MAX_RUN_EVENTS (suc (marks log)) w.0 in omega (arith, l)
 few_marks (Redeclares t ∷ log) w = let l = ltb-false MAX_RUN_EVENTS (suc (marks log)) w.0 in omega (arith, l)
-few_marks (Round es ∷ log) w = few_marks log w.1
-few_marks (Hand a b n m ∷ log) w = few_marks log w.1
-few_marks (Submitted at n ∷ log) w = few_marks log w.1
-few_marks (Notes ∷ log) w = few_marks log w.1
-few_marks (Does at act ∷ log) w = few_marks log w.1
+few_marks (_ ∷ log) w = few_marks log w.1
 
 pub few_within : (g : Given) (log : Log) → IsLawful g log → IsWithin log → rounds log ≤ 2 ^ 32
 few_within g log h w =

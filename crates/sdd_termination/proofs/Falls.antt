@@ -35,19 +35,11 @@ after_event g (Repeat a b k) log e h = noted g (Repeat a b k) log _ e h
 after_event g (Resend a b) log e h = noted g (Resend a b) log _ e h
 after_event g (Down d) log e h = noted g (Down d) log _ e h
 after_event g (Up d) log e h = noted g (Up d) log _ e h
-after_event g (Tick t n) log e h = absurd (cc)
-after_event g Settle log e h = absurd (cc)
-after_event g Redeclare log e h = absurd (cc)
+after_event g _ log e h = absurd (cc)
 
 by_mark : (g : Given) (log : Log) (e : Entry) → mark_due g log ≡ Some e → Falls g (e ∷ log) log
-by_mark g [] e h = absurd (cc)
 by_mark g (Mark ev ∷ log) e h = after_event g ev log e h
-by_mark g (Round events ∷ log) e h = absurd (cc)
-by_mark g (Redeclares t ∷ log) e h = absurd (cc)
-by_mark g (Hand a b n m ∷ log) e h = absurd (cc)
-by_mark g (Submitted at n ∷ log) e h = absurd (cc)
-by_mark g (Notes ∷ log) e h = absurd (cc)
-by_mark g (Does at act ∷ log) e h = absurd (cc)
+by_mark g _ e h = absurd (cc)
 
 -- an act, and a message that is handed over
 
@@ -71,16 +63,7 @@ of_events : (g : Given) (log : Log) (q : Bool) (events ws : List Event) (e : Ent
 of_events g log q events [] e h = absurd (cc)
 of_events g log true events (Settle ∷ ws) e h = of_events g log true events ws e h
 of_events g log false events (Settle ∷ ws) e h = sym (ap is_of_events (same_Some _ e h))
-of_events g log true events (Redeclare ∷ ws) e h = sym (ap is_of_events (same_Some _ e h))
-of_events g log false events (Redeclare ∷ ws) e h = sym (ap is_of_events (same_Some _ e h))
-of_events g log q events (Submit n ∷ ws) e h = sym (ap is_of_events (same_Some _ e h))
-of_events g log q events (Deliver a b k ∷ ws) e h = sym (ap is_of_events (same_Some _ e h))
-of_events g log q events (Lose a b k ∷ ws) e h = sym (ap is_of_events (same_Some _ e h))
-of_events g log q events (Repeat a b k ∷ ws) e h = sym (ap is_of_events (same_Some _ e h))
-of_events g log q events (Resend a b ∷ ws) e h = sym (ap is_of_events (same_Some _ e h))
-of_events g log q events (Tick t n ∷ ws) e h = sym (ap is_of_events (same_Some _ e h))
-of_events g log q events (Down d ∷ ws) e h = sym (ap is_of_events (same_Some _ e h))
-of_events g log q events (Up d ∷ ws) e h = sym (ap is_of_events (same_Some _ e h))
+of_events g log _ events (_ ∷ ws) e h = sym (ap is_of_events (same_Some _ e h))
 
 mark_of_events : (g : Given) (log : Log) (rest : List Event × List Event) (e : Entry) → mark_of g log rest ≡ Some e → is_of_events e ≡ true
 mark_of_events g log (ws, []) e h = of_events g log (quiet (all_links g) (calls_of log)) (round (all_links g) (calls_of log)) ws e h
@@ -108,10 +91,7 @@ by_event g log (Round es) h k p =
     let before : between_rounds (left g.events log).1 ≡ 1 = ap between_rounds r.0 in
     let now : between_rounds es ≡ 0 = none_between es r.2 in
     in_stage (omega (arith, before, now))
-by_event g log (Hand a b n m) h k p = absurd (false≢true k)
-by_event g log (Submitted at n) h k p = absurd (false≢true k)
-by_event g log Notes h k p = absurd (false≢true k)
-by_event g log (Does at act) h k p = absurd (false≢true k)
+by_event g log _ h k p = absurd (false≢true k)
 
 pub falls : (g : Given) (log : Log) (e : Entry) → IsPermitted g log → next g log ≡ Some e → is_past log e ≡ false → Falls g (e ∷ log) log
 falls g log e h is p =

@@ -29,25 +29,14 @@ note_other false = tt
 
 due_other : (g : Given) (e : Event) (log : Log) → IsOther (due_by g e log)
 due_other g (Submit n) log = refl
-due_other g (Deliver a b k) log = note_other _
-due_other g (Lose a b k) log = note_other _
-due_other g (Repeat a b k) log = note_other _
-due_other g (Resend a b) log = note_other _
-due_other g (Down d) log = note_other _
-due_other g (Up d) log = note_other _
 due_other g (Tick t n) log = tt
 due_other g Settle log = tt
 due_other g Redeclare log = tt
+due_other g _ log = note_other _
 
 mark_other : (g : Given) (log : Log) → IsOther (mark_due g log)
-mark_other g [] = tt
 mark_other g (Mark e ∷ log) = due_other g e log
-mark_other g (Round events ∷ log) = tt
-mark_other g (Redeclares t ∷ log) = tt
-mark_other g (Hand a b n m ∷ log) = tt
-mark_other g (Submitted at n ∷ log) = tt
-mark_other g (Notes ∷ log) = tt
-mark_other g (Does at act ∷ log) = tt
+mark_other g _ = tt
 
 does_other : (at : Site) (o : Option Act) → IsOther (does_at at o)
 does_other at None = tt

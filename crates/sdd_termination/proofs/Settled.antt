@@ -64,29 +64,17 @@ TakesFirst _ ws = Unit {0}
 takes_first : (ws : List Event) (e : Event) (rest : List Event) (x : Entry) → from_event ws ≡ e ∷ rest → TakesFirst x ws
 takes_first ws e rest (Mark f) h = (e, rest, h)
 takes_first ws e rest (Redeclares t) h = (e, rest, h)
-takes_first ws e rest (Round es) h = tt
-takes_first ws e rest (Hand a b n m) h = tt
-takes_first ws e rest (Submitted at n) h = tt
-takes_first ws e rest Notes h = tt
-takes_first ws e rest (Does at act) h = tt
+takes_first ws e rest _ h = tt
 
 settle_first : (x : Entry) (ws : List Event) → TakesFirst x ws → TakesFirst x (Settle ∷ ws)
 settle_first (Mark f) ws h = h
 settle_first (Redeclares t) ws h = h
-settle_first (Round es) ws h = tt
-settle_first (Hand a b n m) ws h = tt
-settle_first (Submitted at n) ws h = tt
-settle_first Notes ws h = tt
-settle_first (Does at act) ws h = tt
+settle_first _ ws h = tt
 
 round_first : (events ws : List Event) (x : Entry) → Some (Round events) ≡ Some x → TakesFirst x ws
-round_first events ws (Round es) h = tt
 round_first events ws (Mark f) h = absurd (cc)
 round_first events ws (Redeclares t) h = absurd (cc)
-round_first events ws (Hand a b n m) h = tt
-round_first events ws (Submitted at n) h = tt
-round_first events ws Notes h = tt
-round_first events ws (Does at act) h = tt
+round_first events ws _ h = tt
 
 first_taken : (g : Given) (log : Log) (q : Bool) (events ws : List Event) (x : Entry) → mark_from g log q events ws ≡ Some x → TakesFirst x ws
 first_taken g log q events [] x h = absurd (cc)
@@ -123,29 +111,16 @@ still_ends : (g : Given) (log : Log) → IsLawful g log → ends false g.events 
 still_ends g [] h p = p
 still_ends g (Mark e ∷ log) h p = mark_taken g log e (left g.events log) (next_is_of_events g log (Mark e) refl h.0) (still_ends g log h.1 p)
 still_ends g (Redeclares t ∷ log) h p = redeclare_taken g log t (left g.events log) (next_is_of_events g log (Redeclares t) refl h.0) (still_ends g log h.1 p)
-still_ends g (Round es ∷ log) h p = still_ends g log h.1 p
-still_ends g (Hand a b n m ∷ log) h p = still_ends g log h.1 p
-still_ends g (Submitted at n ∷ log) h p = still_ends g log h.1 p
-still_ends g (Notes ∷ log) h p = still_ends g log h.1 p
-still_ends g (Does at act ∷ log) h p = still_ends g log h.1 p
+still_ends g (_ ∷ log) h p = still_ends g log h.1 p
 
 -- so nothing is next only where the links are quiet
 
 none_next : (g : Given) (log : Log) (q : Bool) (events ws : List Event) → mark_from g log q events ws ≡ None → ends false ws ≡ true → q ≡ true
 unfolding ends
-none_next g log q events [] h p = absurd (cc)
 none_next g log true events (Settle ∷ ws) h p = refl
-none_next g log false events (Settle ∷ ws) h p = absurd (cc)
 none_next g log true events (Redeclare ∷ ws) h p = refl
-none_next g log false events (Redeclare ∷ ws) h p = absurd (cc)
-none_next g log q events (Submit n ∷ ws) h p = absurd (cc)
-none_next g log q events (Deliver a b k ∷ ws) h p = absurd (cc)
-none_next g log q events (Lose a b k ∷ ws) h p = absurd (cc)
-none_next g log q events (Repeat a b k ∷ ws) h p = absurd (cc)
-none_next g log q events (Resend a b ∷ ws) h p = absurd (cc)
-none_next g log q events (Tick t n ∷ ws) h p = absurd (cc)
-none_next g log q events (Down d ∷ ws) h p = absurd (cc)
 none_next g log q events (Up d ∷ ws) h p = absurd (cc)
+none_next g log _ events _ h p = absurd (cc)
 
 none_left : (g : Given) (log : Log) (rest : List Event × List Event) → mark_of g log rest ≡ None → ends false rest.0 ≡ true
     → quiet (all_links g) (calls_of log) ≡ true

@@ -107,11 +107,10 @@ message_on log a b n (Some m) e next there h =
 number_on : (log : Log) (a b : Site) (c : Bool) (o : Option ℕ) (e : Entry)
     → next_number (handed a b log) (delivered (link_of a b log).there) ≡ o
     → (if c then hand_number log (a, b) o else None) ≡ Some e → IsHandOn log a b e
-number_on log a b false o e is h = absurd (cc)
-number_on log a b true None e is h = absurd (cc)
 number_on log a b true (Some n) e is h =
     let k = number_is (handed a b log) (delivered (link_of a b log).there) n is in
     message_on log a b n (message_at a b n log) e k.0 k.1 h
+number_on log a b _ _ e is h = absurd (cc)
 
 pub is_hand_on : (log : Log) (a b : Site) (e : Entry) → hand_on log (a, b) ≡ Some e → IsHandOn log a b e
 is_hand_on log a b e h = number_on log a b (takes_part b log) (next_number (handed a b log) (delivered (link_of a b log).there)) e refl h
