@@ -28,15 +28,7 @@ unfolding committer committers
 as_many n [] = refl
 as_many n ((k, Commit txn attempt reply changes values rows) ∷ h) =
     one_each (txn.0 == n) txn.0 (k, Commit txn attempt reply changes values rows) (committers n h) (filter (λ d. is_commit_of_other n d.1) h) (as_many n h)
-as_many n ((k, Submit txn) ∷ h) = as_many n h
-as_many n ((k, Start txn attempt class ts p2 uses) ∷ h) = as_many n h
-as_many n ((k, Arrive txn attempt dm) ∷ h) = as_many n h
-as_many n ((k, Wait txn attempt dm conds) ∷ h) = as_many n h
-as_many n ((k, Answer txn attempt dm) ∷ h) = as_many n h
-as_many n ((k, Reject txn attempt dm class ts) ∷ h) = as_many n h
-as_many n ((k, Apply txn class dm ts) ∷ h) = as_many n h
-as_many n ((k, Pass class dm time) ∷ h) = as_many n h
-as_many n ((k, Nothing) ∷ h) = as_many n h
+as_many n ((k, _) ∷ h) = as_many n h
 
 -- each commits at some place, is another one than n, and is one of so many
 
@@ -76,15 +68,7 @@ commits_here n count (k, Commit txn attempt reply changes values rows) h q named
             commit = record { reply = reply; changes = changes; values = values; rows = rows; stands = refl };
           })
     ] refl e
-commits_here n count (k, Submit txn) h q named e = absurd (cc)
-commits_here n count (k, Start txn attempt class ts p2 uses) h q named e = absurd (cc)
-commits_here n count (k, Arrive txn attempt dm) h q named e = absurd (cc)
-commits_here n count (k, Wait txn attempt dm conds) h q named e = absurd (cc)
-commits_here n count (k, Answer txn attempt dm) h q named e = absurd (cc)
-commits_here n count (k, Reject txn attempt dm class ts) h q named e = absurd (cc)
-commits_here n count (k, Apply txn class dm ts) h q named e = absurd (cc)
-commits_here n count (k, Pass class dm time) h q named e = absurd (cc)
-commits_here n count (k, Nothing) h q named e = absurd (cc)
+commits_here n count (k, _) h q named e = absurd (cc)
 
 not_at : (x m : ℕ) → x ≢ suc m → suc m ≤ x → nat_le x (suc m) ≡ false
 not_at x m other high = let l : suc m < x = omega (arith, other) in grind (arith, nat_tests)
@@ -179,15 +163,7 @@ step [] m = omega arith
 step ((k, Start txn attempt class ts p2 uses) ∷ h) m =
     one_more txn.0 m (k, Start txn attempt class ts p2 uses) (filter (λ e. start_to (suc m) e.1) h)
     (filter (λ e. start_to m e.1) h) (filter (λ e. is_start_of (suc m) e.1) h) (step h m)
-step ((k, Submit txn) ∷ h) m = step h m
-step ((k, Arrive txn attempt dm) ∷ h) m = step h m
-step ((k, Wait txn attempt dm conds) ∷ h) m = step h m
-step ((k, Answer txn attempt dm) ∷ h) m = step h m
-step ((k, Reject txn attempt dm class ts) ∷ h) m = step h m
-step ((k, Commit txn attempt reply changes values rows) ∷ h) m = step h m
-step ((k, Apply txn class dm ts) ∷ h) m = step h m
-step ((k, Pass class dm time) ∷ h) m = step h m
-step ((k, Nothing) ∷ h) m = step h m
+step ((k, _) ∷ h) m = step h m
 
 none_from : {A : Type 0} (x : ℕ) (e : A) (xs : List A) → 1 ≤ x → length xs ≡ 0 → length (cond (nat_le x 0) (e ∷ xs) xs) ≡ 0
 none_from x e xs l z = let no : nat_le x 0 ≡ false = grind (arith, nat_tests) in rw no z

@@ -63,10 +63,8 @@ handed_ts c (D d) m (Some b) a e =
       | true ↦ λ p. cc
       | false ↦ λ p. (b, refl, ap ts_of p)
     ] e
-handed_ts c U m None a e = cc
-handed_ts c U m (Some b) a e = (b, refl, ap ts_of e)
-handed_ts c (T t) m None a e = cc
-handed_ts c (T t) m (Some b) a e = (b, refl, ap ts_of e)
+handed_ts c _ m None a e = cc
+handed_ts c _ m (Some b) a e = (b, refl, ap ts_of e)
 
 sent_ts : (c : ℕ) (m : Msg) (o : Option Attempt) (a : Attempt) → active_sent c m o ≡ Some a → (b : Attempt) × (o ≡ Some b) × (b.ts ≡ a.ts)
 sent_ts c m None a e = cc

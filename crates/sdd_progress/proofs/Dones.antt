@@ -37,9 +37,8 @@ hand_adds f true ms m = let a = tally_append f ms (m ∷ []) in omega (arith, a)
 hand_adds f false ms m = omega arith
 
 other_site : (from : Site) (d : ℕ) → (d == number_of from) ≡ false → same_site (D (dm_no d)) from ≡ false
-other_site U d e = refl
-other_site (T t) d e = refl
 other_site (D c) d e = e
+other_site _ d e = refl
 
 none_added : (f : Msg → Bool) (b : Bool) (ms : List Msg) (m : Msg) → b ≡ false → tally f (if b then ms ++ m ∷ [] else ms) ≡ tally f ms
 none_added f true ms m e = cc
@@ -57,10 +56,7 @@ dones_of_modules x n a (Handed from m ∷ l) =
     (λ d e. none_added (is_done_of x) (same_site (D (dm_no d)) from) (hands_from (D (dm_no d)) l) m (other_site from d e))
     (hand_adds (is_done_of x) (same_site (D (dm_no (number_of from))) from) (hands_from (D (dm_no (number_of from))) l) m) in
     omega (arith, i, j)
-dones_of_modules x n a (Ticked k ∷ l) = dones_of_modules x n a l
-dones_of_modules x n a (Submits k txn ∷ l) = dones_of_modules x n a l
-dones_of_modules x n a (Redeclared force t ∷ l) = dones_of_modules x n a l
-dones_of_modules x n a (Did act ∷ l) = dones_of_modules x n a l
+dones_of_modules x n a (_ ∷ l) = dones_of_modules x n a l
 
 one_each : (f : ℕ → ℕ) (n a : ℕ) → ((d : ℕ) → a ≤ d → d < a + n → 1 ≤ f d) → n ≤ sum_from f n a
 one_each f zero a h = omega arith

@@ -22,12 +22,7 @@ len g [] = refl
 len g (Redeclares t ∷ log) =
     let i = len g log in
     let j = length-append (eras_of g log) ((suc (marks log), (force_at g (suc (redeclares log))).catalogue) ∷ []) in omega (arith, i, j)
-len g (Mark e ∷ log) = len g log
-len g (Round es ∷ log) = len g log
-len g (Hand a b n m ∷ log) = len g log
-len g (Submitted at n ∷ log) = len g log
-len g (Notes ∷ log) = len g log
-len g (Does at act ∷ log) = len g log
+len g (_ ∷ log) = len g log
 
 later_mark : (g : Given) (log : Log) → IsNumbered g log → (k : ℕ) (a : ℕ × Catalogue) → slice_get (eras_of g log) k ≡ Some a
     → (a.1 ≡ (force_at g k).catalogue) × (a.0 ≤ suc (marks log))
@@ -46,11 +41,7 @@ numbered g (Redeclares t ∷ log) k a e =
           (ap (λ (x : ℕ × Catalogue). x.1) (sym p.1) ∙ ap (λ i. (force_at g i).catalogue) (sym n), omega (arith, q)))
     ]
 numbered g (Mark x ∷ log) k a e = later_mark g log (numbered g log) k a e
-numbered g (Round es ∷ log) k a e = numbered g log k a e
-numbered g (Hand b c n m ∷ log) k a e = numbered g log k a e
-numbered g (Submitted at n ∷ log) k a e = numbered g log k a e
-numbered g (Notes ∷ log) k a e = numbered g log k a e
-numbered g (Does at act ∷ log) k a e = numbered g log k a e
+numbered g (_ ∷ log) k a e = numbered g log k a e
 
 rises : (g : Given) (log : Log) (k : ℕ) (a b : ℕ × Catalogue) → slice_get (eras_of g log) k ≡ Some a → slice_get (eras_of g log) (suc k) ≡ Some b → a.0 < b.0
 rises g [] k a b e f = cc
@@ -67,33 +58,18 @@ rises g (Redeclares t ∷ log) k a b e f =
         | inr q ↦ (let n = q.0 in let m = p.0 in absurd (omega (arith, n, m)))
       ]
     ]
-rises g (Mark x ∷ log) k a b e f = rises g log k a b e f
-rises g (Round es ∷ log) k a b e f = rises g log k a b e f
-rises g (Hand c d n m ∷ log) k a b e f = rises g log k a b e f
-rises g (Submitted at n ∷ log) k a b e f = rises g log k a b e f
-rises g (Notes ∷ log) k a b e f = rises g log k a b e f
-rises g (Does at act ∷ log) k a b e f = rises g log k a b e f
+rises g (_ ∷ log) k a b e f = rises g log k a b e f
 
 first : (g : Given) (log : Log) → slice_get (eras_of g log) 0 ≡ Some (0, (force_at g 0).catalogue)
 first g [] = refl
 first g (Redeclares t ∷ log) = in_left (eras_of g log) _ 0 (0, (force_at g 0).catalogue) (first g log)
-first g (Mark x ∷ log) = first g log
-first g (Round es ∷ log) = first g log
-first g (Hand c d n m ∷ log) = first g log
-first g (Submitted at n ∷ log) = first g log
-first g (Notes ∷ log) = first g log
-first g (Does at act ∷ log) = first g log
+first g (_ ∷ log) = first g log
 
 -- those of a log go on in a longer one
 stays : (g : Given) (later log : Log) (k : ℕ) (a : ℕ × Catalogue) → slice_get (eras_of g log) k ≡ Some a → slice_get (eras_of g (later ++ log)) k ≡ Some a
 stays g [] log k a e = e
 stays g (Redeclares t ∷ later) log k a e = in_left (eras_of g (later ++ log)) _ k a (stays g later log k a e)
-stays g (Mark x ∷ later) log k a e = stays g later log k a e
-stays g (Round es ∷ later) log k a e = stays g later log k a e
-stays g (Hand c d n m ∷ later) log k a e = stays g later log k a e
-stays g (Submitted at n ∷ later) log k a e = stays g later log k a e
-stays g (Notes ∷ later) log k a e = stays g later log k a e
-stays g (Does at act ∷ later) log k a e = stays g later log k a e
+stays g (_ ∷ later) log k a e = stays g later log k a e
 
 -- the last one
 last : (g : Given) (log : Log) → (a : ℕ × Catalogue) × (slice_get (eras_of g log) (redeclares log) ≡ Some a) × (a.1 ≡ (force_at g (redeclares log)).catalogue)
@@ -101,12 +77,7 @@ last g [] = ((0, (force_at g 0).catalogue), refl, refl)
 last g (Redeclares t ∷ log) =
     let y : ℕ × Catalogue = (suc (marks log), (force_at g (suc (redeclares log))).catalogue) in
     (y, ap (slice_get (eras_of g log ++ y ∷ [])) (sym (len g log)) ∙ at_seam (eras_of g log) [] y, refl)
-last g (Mark x ∷ log) = last g log
-last g (Round es ∷ log) = last g log
-last g (Hand c d n m ∷ log) = last g log
-last g (Submitted at n ∷ log) = last g log
-last g (Notes ∷ log) = last g log
-last g (Does at act ∷ log) = last g log
+last g (_ ∷ log) = last g log
 
 -- how many have begun
 
@@ -145,21 +116,13 @@ begun_all g (Redeclares t ∷ log) n l =
     let low : suc (marks log) ≤ n = l in
     sum_one _ _ _ _ (begun_more (eras_of g log) y n) (begun_all g log n (omega (arith, low))) (one_begun (suc (marks log)) n y low)
 begun_all g (Mark x ∷ log) n l = let low : suc (marks log) ≤ n = l in begun_all g log n (omega (arith, low))
-begun_all g (Round es ∷ log) n l = begun_all g log n l
-begun_all g (Hand c d k m ∷ log) n l = begun_all g log n l
-begun_all g (Submitted at k ∷ log) n l = begun_all g log n l
-begun_all g (Notes ∷ log) n l = begun_all g log n l
-begun_all g (Does at act ∷ log) n l = begun_all g log n l
+begun_all g (_ ∷ log) n l = begun_all g log n l
 
 pub marks_up : (later log : Log) → marks log ≤ marks (later ++ log)
 marks_up [] log = omega arith
 marks_up (Mark x ∷ later) log = let i = marks_up later log in omega (arith, i)
 marks_up (Redeclares t ∷ later) log = let i = marks_up later log in omega (arith, i)
-marks_up (Round es ∷ later) log = marks_up later log
-marks_up (Hand c d k m ∷ later) log = marks_up later log
-marks_up (Submitted at k ∷ later) log = marks_up later log
-marks_up (Notes ∷ later) log = marks_up later log
-marks_up (Does at act ∷ later) log = marks_up later log
+marks_up (_ ∷ later) log = marks_up later log
 
 -- those that a longer log has more begin later
 begun_later : (g : Given) (later log : Log) → begun (eras_of g (later ++ log)) (marks log) ≡ begun (eras_of g log) (marks log)
@@ -169,12 +132,7 @@ begun_later g (Redeclares t ∷ later) log =
     let up = marks_up later log in
     sum_none _ _ _ _ (begun_more (eras_of g (later ++ log)) y (marks log)) (begun_later g later log)
     (none_begun (suc (marks (later ++ log))) (marks log) y (omega (arith, up)))
-begun_later g (Mark x ∷ later) log = begun_later g later log
-begun_later g (Round es ∷ later) log = begun_later g later log
-begun_later g (Hand c d k m ∷ later) log = begun_later g later log
-begun_later g (Submitted at k ∷ later) log = begun_later g later log
-begun_later g (Notes ∷ later) log = begun_later g later log
-begun_later g (Does at act ∷ later) log = begun_later g later log
+begun_later g (_ ∷ later) log = begun_later g later log
 
 pub begun_is : (g : Given) (log later before : Log) → log ≡ later ++ before → begun (eras_of g log) (marks before) ≡ suc (redeclares before)
 begun_is g log later before is = ap (λ l. begun (eras_of g l) (marks before)) is ∙ begun_later g later before ∙ begun_all g before (marks before) (omega arith)

@@ -22,27 +22,11 @@ start_at h n k (Start txn attempt class ts p2 uses) s t =
       place_is = refl;
       rejected_is = ap (λ b. b && is_rejected h n attempt) t;
     }
-start_at h n k (Submit txn) s t = absurd (cc)
-start_at h n k (Arrive txn attempt dm) s t = absurd (cc)
-start_at h n k (Wait txn attempt dm conds) s t = absurd (cc)
-start_at h n k (Answer txn attempt dm) s t = absurd (cc)
-start_at h n k (Reject txn attempt dm class ts) s t = absurd (cc)
-start_at h n k (Commit txn attempt reply changes values rows) s t = absurd (cc)
-start_at h n k (Apply txn class dm ts) s t = absurd (cc)
-start_at h n k (Pass class dm time) s t = absurd (cc)
-start_at h n k Nothing s t = absurd (cc)
+start_at h n k _ s t = absurd (cc)
 
 within : (h : History) (n : ℕ) (r : Rec) → is_rejected_start h n r ≡ true → is_start_of n r ≡ true
 within h n (Start txn attempt class ts p2 uses) t = (and_parts (txn.0 == n) (is_rejected h n attempt) t).0
-within h n (Submit txn) t = absurd (cc)
-within h n (Arrive txn attempt dm) t = absurd (cc)
-within h n (Wait txn attempt dm conds) t = absurd (cc)
-within h n (Answer txn attempt dm) t = absurd (cc)
-within h n (Reject txn attempt dm class ts) t = absurd (cc)
-within h n (Commit txn attempt reply changes values rows) t = absurd (cc)
-within h n (Apply txn class dm ts) t = absurd (cc)
-within h n (Pass class dm time) t = absurd (cc)
-within h n Nothing t = absurd (cc)
+within h n _ t = absurd (cc)
 
 -- a Reject of an attempt
 pub record IsRejectAt (h : History) (n number : ℕ) : Type 0 where
@@ -59,15 +43,7 @@ reject_is h n number k (Reject txn attempt dm class ts) s t =
     ap (λ z. Reject (txn_no z) attempt dm class ts) (eqb-true txn.0 n both.0)
     ∙ ap (λ z. Reject (txn_no n) z dm class ts) (eqb-true attempt number both.1) in
     record { place = k; dm = dm.0; class = class.0; write = ts.0; stands = subst (Stands h k) named s }
-reject_is h n number k (Submit txn) s t = absurd (cc)
-reject_is h n number k (Start txn attempt class ts p2 uses) s t = absurd (cc)
-reject_is h n number k (Arrive txn attempt dm) s t = absurd (cc)
-reject_is h n number k (Wait txn attempt dm conds) s t = absurd (cc)
-reject_is h n number k (Answer txn attempt dm) s t = absurd (cc)
-reject_is h n number k (Commit txn attempt reply changes values rows) s t = absurd (cc)
-reject_is h n number k (Apply txn class dm ts) s t = absurd (cc)
-reject_is h n number k (Pass class dm time) s t = absurd (cc)
-reject_is h n number k Nothing s t = absurd (cc)
+reject_is h n number k _ s t = absurd (cc)
 
 reject_at : (h : History) (n number : ℕ) → is_rejected h n number ≡ true → IsRejectAt h n number
 reject_at h n number e =

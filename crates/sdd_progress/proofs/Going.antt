@@ -128,9 +128,6 @@ all_read ms d (u ∷ us) f =
 
 ready_uses : (ns : List ℕ) (q : Msg) (t : Ts) (k : ClassNo) (counts : List (ℕ × ℕ)) → Replies ns q (Ready t k counts) → map (λ (n : ℕ × ℕ). n.0) counts ≡ ns
 ready_uses ns (Read a b txn attempt conds uses) t k counts h = h
-ready_uses ns (Fetch a b u col) t k counts h = absurd h
-ready_uses ns (Reduce a b u col vs) t k counts h = absurd h
-ready_uses ns (Ship a b) t k counts h = absurd h
 ready_uses ns _ t k counts h = absurd h
 
 -- REDUCED is of the use that is reduced
@@ -269,13 +266,9 @@ goes_on_log : (s : Setting) (c : ℕ) (log : Log) → Each (IsFair s) log → Ea
 goes_on_log s c [] f first t = tt
 goes_on_log s c (Handed (D d) m ∷ log) f first t =
     handed_goes s c log d.0 m (active s c log) refl (in_turn s c log f.1 first.1 t.1) t.0 (goes_on_log s c log f.1 first.1 t.1)
-goes_on_log s c (Handed U m ∷ log) f first t = goes_on_log s c log f.1 first.1 t.1
-goes_on_log s c (Handed (T n) m ∷ log) f first t = goes_on_log s c log f.1 first.1 t.1
-goes_on_log s c (Ticked n ∷ log) f first t = goes_on_log s c log f.1 first.1 t.1
-goes_on_log s c (Submits n txn ∷ log) f first t = goes_on_log s c log f.1 first.1 t.1
-goes_on_log s c (Redeclared force n ∷ log) f first t = goes_on_log s c log f.1 first.1 t.1
 goes_on_log s c (Did (Records k r sends) ∷ log) f first t = record_goes c k r sends (queue s c log) (active s c log) (goes_on_log s c log f.1 first.1 t.1)
 goes_on_log s c (Did (Sends to m hand) ∷ log) f first t = sent_goes c m (active s c log) (goes_on_log s c log f.1 first.1 t.1)
+goes_on_log s c (_ ∷ log) f first t = goes_on_log s c log f.1 first.1 t.1
 
 -- the exchange of the active attempt lacks an answer, or is over
 pub is_going : (s : Setting) (c : ℕ) (log : Log) (a : Attempt) → Each (IsFair s) log → Each (IsFirstEach s) log → Each (IsTimely c) log

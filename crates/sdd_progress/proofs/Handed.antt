@@ -37,10 +37,9 @@ link_there tms dms a b e =
     in_flat (links_from tms dms) (sites tms dms) i.0 a (a, b) i.1 (in_filter_map (link_if a) (sites tms dms) j.0 b (a, b) j.1 linked)
 
 takes_part_in : (g : Given) (log : Log) (tms : ℕ) (b : Site) → IsQuiet g log → is_site tms g.catalogue.dms b ≡ true → takes_part b log ≡ true
-takes_part_in g log tms U h e = refl
-takes_part_in g log tms (T t) h e = refl
 takes_part_in g log tms (D d) h e =
     let up : is_down d.0 log ≡ false = h.up d.0 (le_is 1 d.0 (and_left _ _ e), le_is d.0 g.catalogue.dms (and_right _ _ e)) in rw up refl
+takes_part_in g log tms _ h e = refl
 
 -- nothing is left on the way
 pub none_left : (g : Given) (log : Log) (a b : Site) → IsQuiet g log → is_link g.catalogue.tms g.catalogue.dms a b ≡ true

@@ -12,20 +12,14 @@ not_note false t e = cc
 
 not_event : (g : Given) (x : Event) (log : Log) (t : ℕ) → due_by g x log ≡ Some (Redeclares t) → ⊥
 not_event g (Submit n) log t e = cc
-not_event g (Deliver a b k) log t e = not_note _ t e
-not_event g (Lose a b k) log t e = not_note _ t e
-not_event g (Repeat a b k) log t e = not_note _ t e
-not_event g (Resend a b) log t e = not_note _ t e
 not_event g (Tick n k) log t e = cc
 not_event g Settle log t e = cc
 not_event g Redeclare log t e = cc
-not_event g (Down d) log t e = not_note _ t e
-not_event g (Up d) log t e = not_note _ t e
+not_event g _ log t e = not_note _ t e
 
 not_by_mark : (g : Given) (log : Log) (t : ℕ) → mark_due g log ≡ Some (Redeclares t) → ⊥
-not_by_mark g [] t e = cc
 not_by_mark g (Mark x ∷ log) t e = not_event g x log t e
-not_by_mark g (_ ∷ log) t e = cc
+not_by_mark g _ t e = cc
 
 not_act : (at : Site) (o : Option Act) (t : ℕ) → does_at at o ≡ Some (Redeclares t) → ⊥
 not_act at None t e = cc
@@ -41,9 +35,8 @@ not_message l n None t e = cc
 not_message l n (Some m) t e = cc
 
 not_hand : (log : Log) (a b : Site) (c : Bool) (o : Option ℕ) (t : ℕ) → (if c then hand_number log (a, b) o else None) ≡ Some (Redeclares t) → ⊥
-not_hand log a b true None t e = cc
 not_hand log a b true (Some n) t e = not_message (a, b) n (message_at a b n log) t e
-not_hand log a b false o t e = cc
+not_hand log a b _ _ t e = cc
 
 not_on_link : (g : Given) (log : Log) (t : ℕ) → hand_due g log ≡ Some (Redeclares t) → ⊥
 not_on_link g log t e =
@@ -64,28 +57,10 @@ or_other P (Some z) y e n f h = absurd (n h)
 
 by_events : (g : Given) (log : Log) (t : ℕ) (q : Bool) (r ws : List Event) → mark_from g log q r ws ≡ Some (Redeclares t)
     → (q ≡ true) × (t ≡ greatest_bound g log)
-by_events g log t true r [] e = cc
 by_events g log t true r (Settle ∷ ws) e = by_events g log t true r ws e
 by_events g log t true r (Redeclare ∷ ws) e = let p : greatest_bound g log ≡ t = cc in (refl, sym p)
-by_events g log t true r (Submit n ∷ ws) e = cc
-by_events g log t true r (Deliver a b k ∷ ws) e = cc
-by_events g log t true r (Lose a b k ∷ ws) e = cc
-by_events g log t true r (Repeat a b k ∷ ws) e = cc
-by_events g log t true r (Resend a b ∷ ws) e = cc
-by_events g log t true r (Tick n k ∷ ws) e = cc
-by_events g log t true r (Down d ∷ ws) e = cc
-by_events g log t true r (Up d ∷ ws) e = cc
-by_events g log t false r [] e = cc
-by_events g log t false r (Settle ∷ ws) e = cc
-by_events g log t false r (Redeclare ∷ ws) e = cc
-by_events g log t false r (Submit n ∷ ws) e = cc
-by_events g log t false r (Deliver a b k ∷ ws) e = cc
-by_events g log t false r (Lose a b k ∷ ws) e = cc
-by_events g log t false r (Repeat a b k ∷ ws) e = cc
-by_events g log t false r (Resend a b ∷ ws) e = cc
-by_events g log t false r (Tick n k ∷ ws) e = cc
-by_events g log t false r (Down d ∷ ws) e = cc
 by_events g log t false r (Up d ∷ ws) e = cc
+by_events g log t _ r _ e = cc
 
 by_left : (g : Given) (log : Log) (t : ℕ) (s : List Event × List Event) → mark_of g log s ≡ Some (Redeclares t)
     → (quiet (all_links g) (calls_of log) ≡ true) × (t ≡ greatest_bound g log)

@@ -95,9 +95,6 @@ asks_class ts c _ e = cc
 
 answer_there : {A : Type 0} (h : Home) (k : ClassView) (o : Open) (m : Msg) (c : ℕ) → is_number c (class_asked m) ≡ true → answer_to h k o m ≡ None → A
 answer_there h k o (Read ts class txn attempt conds uses) c e f = cc
-answer_there h k o (Fetch ts class u col) c e f = cc
-answer_there h k o (Reduce ts class u col values) c e f = cc
-answer_there h k o (Ship ts class) c e f = cc
 answer_there h k o _ c e f = cc
 
 none_asked : (h : Home) (k : ClassView) (os : List Open) (o : Option Open) → head_of (filter (is_asked_of k.class) os) ≡ o → answer_of h k o ≡ None

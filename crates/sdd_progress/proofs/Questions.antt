@@ -12,10 +12,8 @@ use Rattle.sdd_obligations.specs.site_module.SiteLog as site
 are_open : (log : Log) → AreOpen log
 are_open [] = record { rise = omega arith; last = omega arith; apart = tt }
 are_open (Handed from m ∷ log) = open_handed log from m (are_open log)
-are_open (Ticked n ∷ log) = let i = are_open log in record { rise = i.rise; last = i.last; apart = i.apart }
-are_open (Submits n txn ∷ log) = let i = are_open log in record { rise = i.rise; last = i.last; apart = i.apart }
-are_open (Redeclared force t ∷ log) = let i = are_open log in record { rise = i.rise; last = i.last; apart = i.apart }
 are_open (Did act ∷ log) = open_did log act (are_open log)
+are_open (_ ∷ log) = let i = are_open log in record { rise = i.rise; last = i.last; apart = i.apart }
 
 risen : (low high : ℕ) (qs : List Question) (k : ℕ) (q : Question) → Rise low high qs → slice_get qs k ≡ Some q → low < q.hand
 risen low high [] k q h e = cc
@@ -141,9 +139,8 @@ held_one log false time act e = cc
 
 start_one : (log : Log) (cat : Catalogue) (v : View) (c : ℕ) (b : Bool) (o : Option Queued) (act : Act)
     → (if b then start_of cat v c o else None) ≡ Some act → AnswersOne log act
-start_one log cat v c true None act e = cc
 start_one log cat v c true (Some q) act e = one_as log _ act tt e
-start_one log cat v c false o act e = cc
+start_one log cat v c _ _ act e = cc
 
 answers_one : (s : Setting) (bases : Bases) (log : Log) (act : Act) → IsDue s.catalogue bases (view_of s log) act → AnswersOne log act
 answers_one s bases log act (by_exchange n k p e) = attempt_one log s.catalogue bases k.class k.active act e

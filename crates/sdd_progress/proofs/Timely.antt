@@ -26,15 +26,7 @@ up_at_redeclares g log few h timely later before t is d here =
 one_event : (g : Given) → AreTimely g → (e : Event) (before rest : List Event) → g.events ≡ before ++ e ∷ rest → redeclares_in before < length g.forces
     → redeclares_in before + redeclares_in (e ∷ []) < length g.forces
 one_event g timely Redeclare before rest is l = let m = (timely before rest is).left in omega (arith, m)
-one_event g timely (Submit n) before rest is l = omega (arith, l)
-one_event g timely (Deliver a b k) before rest is l = omega (arith, l)
-one_event g timely (Lose a b k) before rest is l = omega (arith, l)
-one_event g timely (Repeat a b k) before rest is l = omega (arith, l)
-one_event g timely (Resend a b) before rest is l = omega (arith, l)
-one_event g timely (Tick t n) before rest is l = omega (arith, l)
-one_event g timely Settle before rest is l = omega (arith, l)
-one_event g timely (Down d) before rest is l = omega (arith, l)
-one_event g timely (Up d) before rest is l = omega (arith, l)
+one_event g timely _ before rest is l = omega (arith, l)
 
 each_event : (g : Given) → AreTimely g → (before events rest : List Event) → g.events ≡ (before ++ events) ++ rest → redeclares_in before < length g.forces
     → redeclares_in (before ++ events) < length g.forces

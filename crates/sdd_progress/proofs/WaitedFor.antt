@@ -189,7 +189,6 @@ held_by : (g : Given) (log : Log) (j t d c : ℕ) (w : Ts) (of : ClassNo) (txn :
     (changes : List Change) (o : Option Msg) → IsModule g.catalogue d → IsClass g.catalogue c
     → head (pipe j (at_module g d log)) ≡ Some (Write w of txn changes) → w.0 < t → waits c (at_module g d log) ≡ true
     → head (pipe c (at_module g d log)) ≡ o → holds_back j w.0 changes o ≡ true → IsHolder g log j t
-held_by g log j t d c w of txn changes None m l e b waiting at f = cc
 held_by g log j t d c w of txn changes (Some (Read ts k n attempt conds uses)) m l e b waiting at f =
     let q = any_at (holds j w.0 changes) conds f in
     let both_of = and_right (q.1.class.0 == j) (nat_le q.1.time.0 w.0 && touches q.1.frags changes) q.3 in
@@ -210,7 +209,7 @@ held_by g log j t d c w of txn changes (Some (Read ts k n attempt conds uses)) m
       held = le_is q.1.time.0 w.0 (and_left (nat_le q.1.time.0 w.0) (touches q.1.frags changes) both_of);
       below = b;
     }
-held_by g log j t d c w of txn changes (Some m) p l e b waiting at f = cc
+held_by g log j t d c w of txn changes _ m l e b waiting at f = cc
 
 by_head : (g : Given) (log : Log) (j t d : ℕ) (m : Msg) → IsClass g.catalogue j → IsModule g.catalogue d
     → head (pipe j (at_module g d log)) ≡ Some m → time_of m < t
