@@ -3,9 +3,8 @@ use Rattle.sdd_world.proofs.All.{Carries, Given, IsGood, IsSiteOf, IsSound, Keep
 use Rattle.sdd_world.proofs.Keeping.{dm_within}
 
 nothing_at : {A : Type 0} (n k : ℕ) → slice_index_or (replicate {A = List A} n []) k [] ≡ []
-nothing_at zero k = refl
-nothing_at (suc n) zero = refl
 nothing_at (suc n) (suc k) = nothing_at n k
+nothing_at _ _ = refl
 
 none_queued : {A : Type 0} (n : ℕ) (o : Option ℕ) → queue_at (replicate {A = List A} n []) o ≡ []
 none_queued n None = refl

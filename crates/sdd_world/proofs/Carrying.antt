@@ -5,26 +5,11 @@ use Rattle.sdd_world.proofs.All.{AreAllowed, ClassList, Deliver, Down, EndsBy, E
 pub no_rounds : (e : Event) → e ≢ Settle → e ≢ Redeclare → takes_rounds e ≡ false
 no_rounds Settle h k = absurd (h refl)
 no_rounds Redeclare h k = absurd (k refl)
-no_rounds (Submit n) h k = refl
-no_rounds (Deliver a b k) h r = refl
-no_rounds (Lose a b k) h r = refl
-no_rounds (Repeat a b k) h r = refl
-no_rounds (Resend a b) h k = refl
-no_rounds (Tick t n) h k = refl
-no_rounds (Down d) h k = refl
-no_rounds (Up d) h k = refl
+no_rounds _ h k = refl
 
 pub lists_stay : (e : Event) (lists : List ClassList) → e ≢ Redeclare → lists ≡ lists_after e lists
 lists_stay Redeclare lists h = absurd (h refl)
-lists_stay Settle lists h = refl
-lists_stay (Submit n) lists h = refl
-lists_stay (Deliver a b k) lists h = refl
-lists_stay (Lose a b k) lists h = refl
-lists_stay (Repeat a b k) lists h = refl
-lists_stay (Resend a b) lists h = refl
-lists_stay (Tick t n) lists h = refl
-lists_stay (Down d) lists h = refl
-lists_stay (Up d) lists h = refl
+lists_stay _ lists h = refl
 
 -- a log that the limit ends, it ends with further events too
 pub ends_with_one : (g : Given) (e : Event) → EndsBy g → EndsBy (with_event g e)

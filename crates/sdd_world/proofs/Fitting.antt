@@ -7,9 +7,8 @@ module _ {M : Type 0} (P : M → Type 0) where
   each_append (x ∷ xs) ys h k = (h.0, each_append xs ys h.1 k)
 
   each_take : (n : ℕ) (xs : List M) → AllByRecursion P xs → AllByRecursion P (take n xs)
-  each_take zero xs h = tt
-  each_take (suc n) [] h = tt
   each_take (suc n) (x ∷ xs) h = (h.0, each_take n xs h.1)
+  each_take _ _ h = tt
 
   each_drop : (n : ℕ) (xs : List M) → AllByRecursion P xs → AllByRecursion P (drop n xs)
   each_drop zero xs h = h
@@ -60,9 +59,8 @@ module _ {M : Type 0} (P : M → Type 0) where
   sent_fit a b (Resends from to ∷ calls) h = call_keeps a b from to resend (link a b calls) (λ k i. i) (sent_fit a b calls h)
 
   given_fit : (o : Option (Packet M)) (ms : List M) → AllByRecursion P ms → AllDelivered P (given_by o ms)
-  given_fit None ms h = tt
   given_fit (Some (Message n m)) ms h = h
-  given_fit (Some (Ack k)) ms h = tt
+  given_fit _ ms h = tt
 
   pub delivery_fits : (k : ℕ) (l : Link M) → AllSent l → AllDelivered P (delivery k l)
   delivery_fits k l h =

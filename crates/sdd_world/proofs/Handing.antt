@@ -6,8 +6,7 @@ use Rattle.sdd_obligations.specs.site_module.SiteLog as site
 pub due_same : (g : Given) (b : Site) (bases : Bases) (l : site.Log) (acts : List Act)
     → AreDue (next_of b (setting_of g b) bases) l acts → AreDue (next_in g b bases) l acts
 due_same g U bases l acts h = h
-due_same g (T t) bases l acts h = h
-due_same g (D d) bases l acts h = h
+due_same g _ bases l acts h = h
 
 pub are_linked : (g : Given) (at : Site) (sends : List (Site × Msg)) → AllLinked g at sends → AreLinked g.catalogue.tms g.catalogue.dms at sends
 are_linked g at [] h = tt

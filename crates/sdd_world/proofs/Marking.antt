@@ -13,16 +13,9 @@ note_none (Some p) e = cc
 
 -- an event that turns no module leaves the downs
 pub same_downs : (d : ℕ) (e : Event) (log : Log) → TurnsNone e → is_down d (Mark e ∷ log) ≡ is_down d log
-same_downs d (Submit n) log h = refl
-same_downs d (Deliver a b k) log h = refl
-same_downs d (Lose a b k) log h = refl
-same_downs d (Repeat a b k) log h = refl
-same_downs d (Resend a b) log h = refl
-same_downs d (Tick t n) log h = refl
-same_downs d Settle log h = refl
-same_downs d Redeclare log h = refl
 same_downs d (Down k) log h = absurd h
 same_downs d (Up k) log h = absurd h
+same_downs d _ log h = refl
 
 -- what remains on a link stays, where an event delivers nothing on it and puts nothing away
 abbrev pub KeepsLinks : Event → Log → Type 0

@@ -11,9 +11,8 @@ same_message m n fm fn e = ok_is m n (sym (message_read_back m fm) ∙ ap messag
 
 pub same_messages : (ms ns : List Msg) → AllByRecursion Fits ms → AllByRecursion Fits ns → map spelled ms ≡ map spelled ns → ms ≡ ns
 same_messages [] [] h k e = refl
-same_messages [] (n ∷ ns) h k e = absurd cc
-same_messages (m ∷ ms) [] h k e = absurd cc
 same_messages (m ∷ ms) (n ∷ ns) h k e = rw (same_message m n h.0 k.0 cc, same_messages ms ns h.1 k.1 cc) refl
+same_messages _ _ h k e = absurd cc
 
 -- of each spelling at its place
 pub spelling_at : (P : List ℕ → Type 0) (xs : List (List ℕ)) (i : ℕ) (x : List ℕ) → AllByRecursion P xs → i < length xs → x ≡ get_or xs i x → P x
@@ -38,10 +37,9 @@ each_spells (m ∷ ms) h = ((m, h.0, refl), each_spells ms h.1)
 
 -- what spells something handed on
 pub given_spells : (given : Delivered (List ℕ)) (found : Delivered Msg) → Spells given found → AllDelivered IsSpelling given
-given_spells given Nothing h = subst (λ (d : Delivered (List ℕ)). AllDelivered IsSpelling d) (sym h.spelled_so) tt
-given_spells given Acked h = subst (λ (d : Delivered (List ℕ)). AllDelivered IsSpelling d) (sym h.spelled_so) tt
 given_spells given (Messages ms) h =
     subst (λ (d : Delivered (List ℕ)). AllDelivered IsSpelling d) (sym h.spelled_so) (each_spells ms h.fit)
+given_spells given _ h = subst (λ (d : Delivered (List ℕ)). AllDelivered IsSpelling d) (sym h.spelled_so) tt
 
 spellings_at : (P : List ℕ → Type 0) (given : Delivered (List ℕ)) (xs : List (List ℕ)) → given ≡ Messages xs → AllDelivered P given → AllByRecursion P xs
 spellings_at P given xs is h = subst (λ (d : Delivered (List ℕ)). AllDelivered P d) is h
@@ -57,14 +55,9 @@ messages_are ms ns e = cc
 one_found : (found other : Delivered Msg) → AllDelivered Fits found → AllDelivered Fits other
     → delivered_as spelled found ≡ delivered_as spelled other → found ≡ other
 one_found Nothing Nothing h k e = refl
-one_found Nothing Acked h k e = absurd cc
-one_found Nothing (Messages ns) h k e = absurd cc
-one_found Acked Nothing h k e = absurd cc
 one_found Acked Acked h k e = refl
-one_found Acked (Messages ns) h k e = absurd cc
-one_found (Messages ms) Nothing h k e = absurd cc
-one_found (Messages ms) Acked h k e = absurd cc
 one_found (Messages ms) (Messages ns) h k e = ap (λ l. Messages l) (same_messages ms ns h k (messages_are (map spelled ms) (map spelled ns) e))
+one_found _ _ h k e = absurd cc
 
 pub same_found : (given : Delivered (List ℕ)) (found other : Delivered Msg) → Spells given found → Spells given other → found ≡ other
 same_found given found other h k = one_found found other h.fit k.fit (sym h.spelled_so ∙ k.spelled_so)

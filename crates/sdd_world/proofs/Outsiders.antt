@@ -46,9 +46,8 @@ acting h v k (Read ts class txn attempt conds uses) (Waits ds) = refl
 acting h v k _ step = tt
 
 head_is : (h : Home) (v : View) (k : ℕ) (m : Option Msg) (step : Option Step) (a : Act) → act_where h v k m step ≡ Some a → IsOf k a
-head_is h v k None step a e = cc
-head_is h v k (Some m) None a e = cc
 head_is h v k (Some m) (Some step) a e = it_is k _ a (acting h v k m step) e
+head_is h v k _ _ a e = cc
 
 class_below : (s : Setting) (log : site.Log) (c n : ℕ) (k : ClassView) → length s.catalogue.classes < c
     → slice_get (view_of s log).classes n ≡ Some k → k.class < c
@@ -79,18 +78,6 @@ module _ (g : Given) (d : DmNo) (c : ℕ) (far : length g.catalogue.classes < c)
   pub none_waits : (log : Log) → IsLawful g log → waits c (local_of g (D d) log) ≡ false
   none_waits [] h = refl
   none_waits (Mark (Submit n) ∷ log) h = none_waits log h.1
-  none_waits (Mark (Deliver a b k) ∷ log) h = none_waits log h.1
-  none_waits (Mark (Lose a b k) ∷ log) h = none_waits log h.1
-  none_waits (Mark (Repeat a b k) ∷ log) h = none_waits log h.1
-  none_waits (Mark (Resend a b) ∷ log) h = none_waits log h.1
-  none_waits (Mark Settle ∷ log) h = none_waits log h.1
-  none_waits (Mark Redeclare ∷ log) h = none_waits log h.1
-  none_waits (Mark (Down n) ∷ log) h = none_waits log h.1
-  none_waits (Mark (Up n) ∷ log) h = none_waits log h.1
-  none_waits (Mark (Tick t n) ∷ log) h = none_waits log h.1
-  none_waits (Round es ∷ log) h = none_waits log h.1
-  none_waits (Notes ∷ log) h = none_waits log h.1
-  none_waits (Redeclares t ∷ log) h = none_waits log h.1
   none_waits (Submitted to n ∷ log) h =
       let i = none_waits log h.1 in
       waits_if c (same_site (D d) to) (with_submit n (txn_at g n) (local_of g (D d) log)) (local_of g (D d) log)
@@ -104,6 +91,7 @@ module _ (g : Given) (d : DmNo) (c : ℕ) (far : length g.catalogue.classes < c)
       waits_if c (same_site (D d) by) (Did act ∷ local_of g (D d) log) (local_of g (D d) log)
       (λ e. (let here : IsDueAt g log (D d) act = subst (λ z. IsDueAt g log z act) (sym (same_is (D d) by e)) due in
       due_leaves (setting_of g (D d)) (local_of g (D d) log) c act far here (waits c (local_of g (D d) log)) ∙ i)) i
+  none_waits (_ ∷ log) h = none_waits log h.1
 
 -- and nothing is lacking of it
 pub none_lacks : (g : Given) (c t d : ℕ) → length g.catalogue.classes < c → (log : Log) → IsLawful g log → wait_at g log c t d ≡ None

@@ -19,13 +19,10 @@ events_before (Mark e ∷ log) = later (marks log) (suc (marks log)) (history lo
 events_before (Redeclares t ∷ log) = later (marks log) (suc (marks log)) (history log) (omega arith) (events_before log)
 events_before (Round es ∷ log) = events_before log
 events_before (Hand a b n m ∷ log) = events_before log
-events_before (Submitted a n ∷ log) = All-append {X = ℕ × Rec} (λ e. e.0 ≤ marks log) (history log) _
-    (events_before log) (All-cons {X = ℕ × Rec} (λ e. e.0 ≤ marks log) _ [] (omega arith) (All-nil {X =
-    ℕ × Rec} (λ e. e.0 ≤ marks log)))
-events_before (Notes ∷ log) = All-append {X = ℕ × Rec} (λ e. e.0 ≤ marks log) (history log) _
-    (events_before log) (All-cons {X = ℕ × Rec} (λ e. e.0 ≤ marks log) _ [] (omega arith) (All-nil {X =
-    ℕ × Rec} (λ e. e.0 ≤ marks log)))
 events_before (Does a act ∷ log) = events_append (marks log) (history log) (records_of_act act) (events_before log)
+events_before (_ ∷ log) = All-append {X = ℕ × Rec} (λ e. e.0 ≤ marks log) (history log) _
+    (events_before log) (All-cons {X = ℕ × Rec} (λ e. e.0 ≤ marks log) _ [] (omega arith) (All-nil {X =
+    ℕ × Rec} (λ e. e.0 ≤ marks log)))
 
 -- acts put no classes in force
 pub redeclares_acts : (at : Site) (acts : List Act) (log : Log) → redeclares (after_acts at acts log) ≡ redeclares log

@@ -61,9 +61,8 @@ module _ {A B : Type 0} (f : A → B) where
       ∙ ap (λ ys. filter_map (λ l. cond (resends_now (link l.0 l.1 calls)) (Some (Resend l.0 l.1)) None) ls ++ ys) deliveries
 
 some_map : {A B : Type 0} (f : A → B) (xs : List A) (i : ℕ) → is_some (slice_get (map f xs) i) ≡ is_some (slice_get xs i)
-some_map f [] i = refl
-some_map f (x ∷ xs) zero = refl
 some_map f (x ∷ xs) (suc i) = some_map f xs i
+some_map f _ _ = refl
 
 -- a packet is there where its spelling is
 pub packet_same : {A B : Type 0} (f : A → B) (a b : Site) (k : ℕ) (calls : List (Call A))

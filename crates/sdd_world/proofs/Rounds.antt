@@ -3,36 +3,21 @@ use Rattle.sdd_world.proofs.All.{AtEach, Before, Call, Calm, Carries, D, Deliver
 use Rattle.sdd_world.proofs.Parting.{spooled_on}
 
 pub single : (g : Given) (e : Event) → IsPossible g e → IsSingle e
-single g (Submit n) p = tt
-single g (Deliver a b k) p = tt
-single g (Lose a b k) p = tt
-single g (Repeat a b k) p = tt
-single g (Resend a b) p = tt
-single g (Tick t n) p = tt
-single g (Down d) p = tt
-single g (Up d) p = tt
 single g Settle p = absurd p
 single g Redeclare p = absurd p
+single g _ p = tt
 
 still_possible : (g : Given) (x e : Event) → IsPossible g e → IsPossible (with_event g x) e
-still_possible g x (Submit n) p = p
-still_possible g x (Deliver a b k) p = p
-still_possible g x (Lose a b k) p = p
-still_possible g x (Repeat a b k) p = p
-still_possible g x (Resend a b) p = p
-still_possible g x (Tick t n) p = p
-still_possible g x (Down d) p = p
-still_possible g x (Up d) p = p
 still_possible g x Settle p = absurd p
 still_possible g x Redeclare p = absurd p
+still_possible g x _ p = p
 
 pub free : (g : Given) (log : Log) → Rests g log → IsFree g log
 free g log r = record { no_mark = r.no_mark; no_site = r.no_site; no_hand = none_to_hand g log r.handed_all }
 
 part_round : (b : Site) (es : List Event) (log : Log) → takes_part b (Round es ∷ log) ≡ takes_part b log
 part_round U es log = refl
-part_round (T t) es log = refl
-part_round (D d) es log = refl
+part_round _ es log = refl
 
 rests_round : (g : Given) (log : Log) (es : List Event) → Rests g log → next g log ≡ Some (Round es) → Rests g (Round es ∷ log)
 rests_round g log es r n = record {

@@ -56,9 +56,8 @@ module _ (w : World) (g : Given) (log : Log) (n : TxnNo) (m : Marked w g log (Su
     -- the list in force at a transaction module is that of the world
     class_at : (at : Site) (class : ℕ) → class ≡ class_for (w.catalogue.now) txn
         → IsClassAt at (setting_of g at) (local_of g at log) class txn
-    class_at U class e = tt
     class_at (T t) class e = e ∙ ap (λ c. class_for c txn) m.parts.catalogue_is ∙ sym (ap (λ (f : Force). class_for f.catalogue txn) (forced_is g t log))
-    class_at (D d) class e = tt
+    class_at _ class e = tt
 
     pub submit_asks : (at : Site) (class : ℕ) → at ≡ home → class ≡ class_for (w.catalogue.now) txn
         → (setting : Setting) × (bases : Bases) × (l : site.Log)

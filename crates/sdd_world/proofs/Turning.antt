@@ -167,9 +167,8 @@ boxed old mid new d e f = let s : kept_count (mailbox_at new d) ≡ kept_count (
 -- the sender whose message is taken is the lowest of those of whom one is kept
 
 before : (j n : ℕ) → 1 ≤ j → j < n → IsBefore (number_of_t j) (number_of_t n)
-before zero n l u = absurd (omega arith)
-before (suc j) zero l u = absurd (omega arith)
 before (suc j) (suc n) l u = u
+before _ _ l u = absurd (omega arith)
 
 first : (n : ℕ) → 1 ≤ n → IsBefore (Some 0) (number_of_t n)
 first zero l = absurd (omega arith)
