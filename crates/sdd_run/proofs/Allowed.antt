@@ -24,10 +24,9 @@ possible g (Lose a b k) h s = (link_is g.catalogue a b h.0, h.1.0)
 possible g (Repeat a b k) h s = (link_is g.catalogue a b h.0, h.1.0)
 possible g (Resend a b) h s = link_is g.catalogue a b h
 possible g (Tick t n) h s = (within t.0 g.catalogue.tms h.0.0 h.0.1, h.1.1)
-possible g Settle h s = absurd cc
-possible g Redeclare h s = absurd cc
 possible g (Down d) h s = within d.0 g.catalogue.dms h.0 h.1
 possible g (Up d) h s = within d.0 g.catalogue.dms h.0 h.1
+possible g _ h s = absurd cc
 
 -- what is given is good with each part of the schedule that it begins with
 abbrev pub IsGoodAlong : (Given → Type 0) → Given → List Event → Type 0

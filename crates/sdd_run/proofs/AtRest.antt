@@ -27,14 +27,7 @@ mark_on g log true r (Settle ∷ ws) e h p = mark_on g log true r ws e h p
 mark_on g log false r (Settle ∷ ws) e h p = absurd (cc)
 mark_on g log true r (Redeclare ∷ ws) e h p = absurd (cc)
 mark_on g log false r (Redeclare ∷ ws) e h p = absurd (cc)
-mark_on g log q r (Submit n ∷ ws) e h p = p
-mark_on g log q r (Deliver a b k ∷ ws) e h p = p
-mark_on g log q r (Lose a b k ∷ ws) e h p = p
-mark_on g log q r (Repeat a b k ∷ ws) e h p = p
-mark_on g log q r (Resend a b ∷ ws) e h p = p
-mark_on g log q r (Tick t n ∷ ws) e h p = p
-mark_on g log q r (Down d ∷ ws) e h p = p
-mark_on g log q r (Up d ∷ ws) e h p = p
+mark_on g log q r (_ ∷ ws) e h p = p
 
 mark_taken : (g : Given) (log : Log) (e : Event) (s : List Event × List Event) → mark_of g log s ≡ Some (Mark e) → ends false s.0 ≡ true
     → ends false (after_mark s).0 ≡ true
@@ -51,18 +44,9 @@ last_or_not (x ∷ ws) p = inl p
 list_on : (g : Given) (log : Log) (q : Bool) (r ws : List Event) (t : ℕ) → mark_from g log q r ws ≡ Some (Redeclares t) → ends false ws ≡ true
     → (ends false (tail_of (from_event ws)) ≡ true) ⊎ (tail_of (from_event ws) ≡ [])
 unfolding ends is_redeclare
-list_on g log q r [] t h p = absurd (cc)
 list_on g log true r (Settle ∷ ws) t h p = list_on g log true r ws t h p
-list_on g log false r (Settle ∷ ws) t h p = absurd (cc)
 list_on g log q r (Redeclare ∷ ws) t h p = last_or_not ws p
-list_on g log q r (Submit n ∷ ws) t h p = absurd (cc)
-list_on g log q r (Deliver a b k ∷ ws) t h p = absurd (cc)
-list_on g log q r (Lose a b k ∷ ws) t h p = absurd (cc)
-list_on g log q r (Repeat a b k ∷ ws) t h p = absurd (cc)
-list_on g log q r (Resend a b ∷ ws) t h p = absurd (cc)
-list_on g log q r (Tick u n ∷ ws) t h p = absurd (cc)
-list_on g log q r (Down d ∷ ws) t h p = absurd (cc)
-list_on g log q r (Up d ∷ ws) t h p = absurd (cc)
+list_on g log _ r _ t h p = absurd (cc)
 
 list_taken : (g : Given) (log : Log) (t : ℕ) (s : List Event × List Event) → mark_of g log s ≡ Some (Redeclares t) → ends false s.0 ≡ true
     → (ends false (after_mark s).0 ≡ true) ⊎ (after_mark s ≡ ([], []))
@@ -152,19 +136,9 @@ is_last g (Does at act ∷ log) h p = inl (to_come g log (Does at act) h (is_las
 
 none_next : (g : Given) (log : Log) (q : Bool) (r ws : List Event) → mark_from g log q r ws ≡ None → ends false ws ≡ true → ⊥
 unfolding ends is_redeclare
-none_next g log q r [] h p = absurd (cc)
 none_next g log true r (Settle ∷ ws) h p = none_next g log true r ws h p
-none_next g log false r (Settle ∷ ws) h p = absurd (cc)
-none_next g log true r (Redeclare ∷ ws) h p = absurd (cc)
-none_next g log false r (Redeclare ∷ ws) h p = absurd (cc)
-none_next g log q r (Submit n ∷ ws) h p = absurd (cc)
-none_next g log q r (Deliver a b k ∷ ws) h p = absurd (cc)
-none_next g log q r (Lose a b k ∷ ws) h p = absurd (cc)
-none_next g log q r (Repeat a b k ∷ ws) h p = absurd (cc)
-none_next g log q r (Resend a b ∷ ws) h p = absurd (cc)
-none_next g log q r (Tick t n ∷ ws) h p = absurd (cc)
-none_next g log q r (Down d ∷ ws) h p = absurd (cc)
 none_next g log q r (Up d ∷ ws) h p = absurd (cc)
+none_next g log _ r _ h p = absurd (cc)
 
 none_to_come : (g : Given) (log : Log) (s : List Event × List Event) → mark_of g log s ≡ None → ends false s.0 ≡ true → ⊥
 none_to_come g log (ws, []) h p = none_next g log (quiet (all_links g) (calls_of log)) (round (all_links g) (calls_of log)) ws h p
@@ -183,11 +157,4 @@ pub quiet_at_rest : (g : Given) (last : Event) → IsAtRest last → (log : Log)
 quiet_at_rest g Settle at log h n = quiet_at_last g log h n
 quiet_at_rest g Redeclare at log h n =
     quiet_where (with_event g Redeclare) log h n (is_last (with_event g Redeclare) log h (ends_so false g.events))
-quiet_at_rest g (Submit k) at log h n = absurd at
-quiet_at_rest g (Deliver a b k) at log h n = absurd at
-quiet_at_rest g (Lose a b k) at log h n = absurd at
-quiet_at_rest g (Repeat a b k) at log h n = absurd at
-quiet_at_rest g (Resend a b) at log h n = absurd at
-quiet_at_rest g (Tick t k) at log h n = absurd at
-quiet_at_rest g (Down d) at log h n = absurd at
-quiet_at_rest g (Up d) at log h n = absurd at
+quiet_at_rest g _ at log h n = absurd at

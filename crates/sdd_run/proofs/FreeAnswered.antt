@@ -13,12 +13,8 @@ record IsTillOver (g : Given) (after rest : Log) : Type 0 where
 
 no_mark : (e : Entry) (log : Log) → begins_event e ≡ false → marks (e ∷ log) ≡ marks log
 no_mark (Mark e) log h = cc
-no_mark (Round es) log h = refl
 no_mark (Redeclares t) log h = cc
-no_mark (Hand a b k m) log h = refl
-no_mark (Submitted a k) log h = refl
-no_mark Notes log h = refl
-no_mark (Does a act) log h = refl
+no_mark _ log h = refl
 
 till : (g : Given) (after rest : Log) → IsLawful g (after ++ rest) → (marks (after ++ rest) ≡ marks rest) ⊎ IsTillOver g after rest
 till g [] rest h = inl refl

@@ -14,9 +14,7 @@ held (values.Text t) h = tt
 
 pub puts_held : (s : Stmt) → HoldsValues s → PutsHeld s
 puts_held (Put rel row) h = All-weaker IsValue IsHeld held row h
-puts_held (Query out rels conds) h = tt
-puts_held (Update rel sets conds) h = tt
-puts_held (Delete rel conds) h = tt
+puts_held _ h = tt
 
 -- the rows with which a data module begins: those of the workload, or none where there is no such module
 one_of_all : (r : List (RelNo × Row)) (ds : List ℕ) (k : ℕ) → (slice_index_or (map (λ d. r) ds) k [] ≡ r) ⊎ (slice_index_or (map (λ d. r) ds) k [] ≡ [])
@@ -30,16 +28,8 @@ rows_database cat rows valid =
     (All-weaker (IsValidRow cat) (λ (r : RelNo × Row). All IsHeld r.1) (λ r v. All-weaker IsValue IsHeld held r.1 v.values) rows valid)
 
 one_tick : (cat : Catalogue) (count : ℕ) (e : Event) → IsValidEvent cat count e → ticks_of e ≤ MAX_TICKS
-one_tick cat count (Submit n) h = omega arith
-one_tick cat count (Deliver a b k) h = omega arith
-one_tick cat count (Lose a b k) h = omega arith
-one_tick cat count (Repeat a b k) h = omega arith
-one_tick cat count (Resend a b) h = omega arith
 one_tick cat count (Tick t k) h = h.1.1
-one_tick cat count Settle h = omega arith
-one_tick cat count Redeclare h = omega arith
-one_tick cat count (Down d) h = omega arith
-one_tick cat count (Up d) h = omega arith
+one_tick cat count _ h = omega arith
 
 pub few_ticks : (cat : Catalogue) (count : ℕ) (es : List Event) → All (IsValidEvent cat count) es → AllFewTicks es
 few_ticks cat count [] h = tt

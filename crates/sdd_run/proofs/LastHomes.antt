@@ -89,15 +89,7 @@ same_one : (tell : Telling) (g : Given) (log : Log) → AreAtLastHomes g log →
 same_one tell g log h k (event, Submit n) e =
     same_if tell g log (last_home g log) (submitted_at log) n (list_any (commits n.0) (history log))
     (λ unmade. sym (h.same n.0 k (ap (option_map (λ (x : ℕ × Rec). x.1)) e) unmade))
-same_one tell g log h k (event, Start txn attempt class ts p2 uses) e = refl
-same_one tell g log h k (event, Arrive txn attempt dm) e = refl
-same_one tell g log h k (event, Wait txn attempt dm conds) e = refl
-same_one tell g log h k (event, Answer txn attempt dm) e = refl
-same_one tell g log h k (event, Reject txn attempt dm class ts) e = refl
-same_one tell g log h k (event, Commit txn attempt reply changes values rows) e = refl
-same_one tell g log h k (event, Apply txn class dm ts) e = refl
-same_one tell g log h k (event, Pass class dm time) e = refl
-same_one tell g log h k (event, Nothing) e = refl
+same_one tell g log h k (event, _) e = refl
 
 pub pending_alike : (tell : Telling) (g : Given) (log : Log) → AreAtLastHomes g log → pending_at tell (last_home g log) g log ≡ pending_of tell g log
 pending_alike tell g log h =

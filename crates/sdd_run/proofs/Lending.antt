@@ -6,9 +6,8 @@ use Rattle.sdd_run.proofs.All.{AllZip, Catalogue, ClassList, Entry, Force, IsTab
 zip_more : (cats : List Catalogue) (tables : List (List Entry)) (cat : Catalogue) (table : List Entry) → AllZip IsTable cats tables → IsTable cat table
     → AllZip IsTable (cats ++ cat ∷ []) (tables ++ table ∷ [])
 zip_more [] [] cat table h k = (k, tt)
-zip_more [] (t ∷ tables) cat table h k = absurd h
-zip_more (c ∷ cats) [] cat table h k = absurd h
 zip_more (c ∷ cats) (t ∷ tables) cat table h k = (h.0, zip_more cats tables cat table h.1 k)
+zip_more _ _ cat table h k = absurd h
 
 pub tabled_more : (cats : List Catalogue) (i : ℕ) (cat : Catalogue) (tables : List (List Entry)) (table : List Entry)
     → i < length cats → cat ≡ get_or cats i cat → AllZip IsTable (take i cats) tables → IsTable cat table
@@ -21,8 +20,6 @@ tabled_more cats i cat tables table l is h k =
 
 at_place : (cats : List Catalogue) (tables : List (List Entry)) (k : ℕ) (cat : Catalogue) (table : List Entry)
     → slice_get cats k ≡ Some cat → slice_get tables k ≡ Some table → slice_get (forces_of cats tables) k ≡ Some (record { catalogue = cat; table = table })
-at_place [] tables k cat table e f = absurd (cc)
-at_place (c ∷ cats) [] k cat table e f = absurd (cc)
 at_place (c ∷ cats) (t ∷ tables) zero cat table e f =
     let p : c ≡ cat = cc in
     let q : t ≡ table = cc in
@@ -31,6 +28,7 @@ at_place (c ∷ cats) (t ∷ tables) zero cat table e f =
     let same : first ≡ other = (λ i. record { catalogue = p i; table = q i }) in
     ap (λ x. Some x) same
 at_place (c ∷ cats) (t ∷ tables) (suc k) cat table e f = at_place cats tables k cat table e f
+at_place _ _ k cat table e f = absurd (cc)
 
 pub list_there : (cats : List Catalogue) (tables : List (List Entry)) (k : ℕ) (cat : Catalogue) (table : List Entry)
     → k < length cats → k < length tables → cat ≡ get_or cats k cat → table ≡ get_or tables k table

@@ -55,13 +55,11 @@ line_here c qs (Some a) n j q there is =
 
 here_first : (s next : Standing) → IsHere s → IsHere (or_standing s next)
 here_first standings.Absent next h = absurd h
-here_first (standings.Queued class place) next h = tt
-here_first (standings.Underway class ts at) next h = tt
+here_first _ next h = tt
 
 here_next : (s next : Standing) → IsHere next → IsHere (or_standing s next)
 here_next standings.Absent next h = h
-here_next (standings.Queued class place) next h = tt
-here_next (standings.Underway class ts at) next h = tt
+here_next _ next h = tt
 
 among_here : (ls : List Line) (n j : ℕ) (l : Line) → slice_get ls j ≡ Some l → IsHere (standing_of l n) → IsHere (standing_among ls n)
 among_here [] n j l e h = cc

@@ -88,15 +88,7 @@ of_submit tell homes g log all (event, Submit n) p e =
           (let s = named_so n (reason_of tell homes g log n.0) p r in
           (ap (λ m. Submit m) s, subst (λ (m : TxnNo). list_any (commits m.0) all ≡ false) s q))
     ] refl e
-of_submit tell homes g log all (event, Start txn attempt class ts p2 uses) p e = cc
-of_submit tell homes g log all (event, Arrive txn attempt dm) p e = cc
-of_submit tell homes g log all (event, Wait txn attempt dm conds) p e = cc
-of_submit tell homes g log all (event, Answer txn attempt dm) p e = cc
-of_submit tell homes g log all (event, Reject txn attempt dm class ts) p e = cc
-of_submit tell homes g log all (event, Commit txn attempt reply changes values rows) p e = cc
-of_submit tell homes g log all (event, Apply txn class dm ts) p e = cc
-of_submit tell homes g log all (event, Pass class dm time) p e = cc
-of_submit tell homes g log all (event, Nothing) p e = cc
+of_submit tell homes g log all (event, _) p e = cc
 
 pub commits_it : (all : History) (n : ℕ) → WasCommitted all n → list_any (commits n) all ≡ true
 commits_it all n w = any_commit all (commits n) n (λ e attempt reply changes values rows. same_number n) w

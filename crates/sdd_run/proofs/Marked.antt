@@ -5,12 +5,7 @@ use Rattle.sdd_run.proofs.All.{All, All-head, All-tail, AreNumbered, Bool, Catal
 marked_there : (n : TxnNo) (later before : Log) → 1 ≤ marked n.0 (later ++ Mark (Submit n) ∷ before)
 marked_there n [] before = let e : one_if (n.0 == n.0) ≡ 1 = ap one_if (eq-eqb n.0 n.0 refl) in omega (arith, e)
 marked_there n (Mark e ∷ later) before = let h = marked_there n later before in omega (arith, h)
-marked_there n (Round es ∷ later) before = marked_there n later before
-marked_there n (Redeclares t ∷ later) before = marked_there n later before
-marked_there n (Hand a b k m ∷ later) before = marked_there n later before
-marked_there n (Submitted at k ∷ later) before = marked_there n later before
-marked_there n (Notes ∷ later) before = marked_there n later before
-marked_there n (Does at act ∷ later) before = marked_there n later before
+marked_there n (_ ∷ later) before = marked_there n later before
 
 -- a number that valid events submit is one of a transaction
 named_by : (cat : Catalogue) (count n m : ℕ) (rest : ℕ) (b : Bool) → (m == n) ≡ b → IsFrom1To count m

@@ -5,15 +5,7 @@ use Rattle.sdd_progress.proofs.Committed.{none_left}
 
 not_pending : (tell : Telling) (g : Given) (log : Log) (all : History) (x : ℕ × Rec) → IsNotLeft all x → pending_by tell (submitted_at log) g log all x ≡ None
 not_pending tell g log all (event, Submit n) h = rw (any_commit all (commits n.0) n.0 (λ e attempt reply changes values rows. same_number n.0) h) refl
-not_pending tell g log all (event, Start txn attempt class ts p2 uses) h = refl
-not_pending tell g log all (event, Arrive txn attempt dm) h = refl
-not_pending tell g log all (event, Wait txn attempt dm conds) h = refl
-not_pending tell g log all (event, Answer txn attempt dm) h = refl
-not_pending tell g log all (event, Reject txn attempt dm class ts) h = refl
-not_pending tell g log all (event, Commit txn attempt reply changes values rows) h = refl
-not_pending tell g log all (event, Apply txn class dm ts) h = refl
-not_pending tell g log all (event, Pass class dm time) h = refl
-not_pending tell g log all (event, Nothing) h = refl
+not_pending tell g log all (event, _) h = refl
 
 pub none_pending : (tell : Telling) (g : Given) (log : Log) → AllCommitted (history log) → pending_of tell g log ≡ []
 none_pending tell g log all = none_left (history log) (pending_by tell (submitted_at log) g log (history log)) all (not_pending tell g log (history log))

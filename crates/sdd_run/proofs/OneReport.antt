@@ -4,12 +4,11 @@ use Rattle.sdd_run.proofs.All.{AllZip, AreTables, Catalogue, Entry, IsReportOn, 
 -- the protocol tables of catalogues are one list
 pub one_list_of_tables : (cats : List Catalogue) (a b : List (List Entry)) → AllZip IsTable cats a → AllZip IsTable cats b → a ≡ b
 one_list_of_tables [] [] [] x y = refl
-one_list_of_tables [] (t ∷ ts) b x y = absurd x
 one_list_of_tables [] [] (t ∷ ts) x y = absurd y
-one_list_of_tables (cat ∷ cats) [] b x y = absurd x
 one_list_of_tables (cat ∷ cats) (s ∷ a) [] x y = absurd y
 one_list_of_tables (cat ∷ cats) (s ∷ a) (t ∷ b) x y =
     ap (λ z. z ∷ a) (one_table cat s t x.0 y.0) ∙ ap (λ zs. t ∷ zs) (one_list_of_tables cats a b x.1 y.1)
+one_list_of_tables _ _ b x y = absurd x
 
 -- what is made of the log of a run by its tables is one thing
 one_made : {A : Type 0} (cat : Catalogue) (work : Workload) (make : List (List Entry) → Log → A) (a b : List (List Entry)) (l m : Log)

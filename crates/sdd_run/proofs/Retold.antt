@@ -88,11 +88,10 @@ module _ (h : History) (one_commit : (n i j k l : ℕ) → HasCommit h n i k →
   replies_are : (txns : List Txn) (order : List TxnNo) (replies : List Reply) → AllZip (IsReplyOf h) order replies
       → flat_map (reply_of txns h) order ≡ replies_along (names_of txns order) replies
   replies_are txns [] [] each = refl
-  replies_are txns [] (reply ∷ replies) each = absurd each
-  replies_are txns (n ∷ order) [] each = absurd each
   replies_are txns (n ∷ order) (reply ∷ replies) each =
       ap (λ lines. lines ++ flat_map (reply_of txns h) order) (reply_is txns n reply each.0)
       ∙ ap (λ lines. reply_lines (txn_name txns n.0) reply ++ lines) (replies_are txns order replies each.1)
+  replies_are txns _ _ each = absurd each
 
 regrouped : (order replies shipped rest : List ℕ) → (order ++ (replies ++ shipped)) ++ rest ≡ order ++ (replies ++ (shipped ++ rest))
 regrouped order replies shipped rest = append_assoc order (replies ++ shipped) rest ∙ ap (λ l. order ++ l) (append_assoc replies shipped rest)

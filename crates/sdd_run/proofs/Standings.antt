@@ -160,8 +160,7 @@ line_stands cat c qs (Some a) n l f =
 
 first_stands : (cat : Catalogue) (s next : Standing) → IsStanding cat s → IsStanding cat next → IsStanding cat (or_standing s next)
 first_stands cat standings.Absent next h i = i
-first_stands cat (standings.Queued class place) next h i = h
-first_stands cat (standings.Underway class ts at) next h i = h
+first_stands cat _ next h i = h
 
 among_stands : (cat : Catalogue) (ls : List Line) (n : ℕ) → ((j : ℕ) (l : Line) → slice_get ls j ≡ Some l → IsStanding cat (standing_of l n))
     → IsStanding cat (standing_among ls n)

@@ -18,15 +18,7 @@ never : (n : ℕ) (es : List Event) → IsNew n (numbers es) → submits_in n es
 never n [] h = refl
 never n (Submit m ∷ es) h = ap (λ b. one_if b + submits_in n es) (not_first n m.0 (numbers es) h) ∙ (let e =
     never n es (not_later n m.0 (numbers es) h) in omega arith)
-never n (Deliver a b k ∷ es) h = let e = never n es h in omega arith
-never n (Lose a b k ∷ es) h = let e = never n es h in omega arith
-never n (Repeat a b k ∷ es) h = let e = never n es h in omega arith
-never n (Resend a b ∷ es) h = let e = never n es h in omega arith
-never n (Tick t k ∷ es) h = let e = never n es h in omega arith
-never n (Settle ∷ es) h = let e = never n es h in omega arith
-never n (Redeclare ∷ es) h = let e = never n es h in omega arith
-never n (Down d ∷ es) h = let e = never n es h in omega arith
-never n (Up d ∷ es) h = let e = never n es h in omega arith
+never n (_ ∷ es) h = let e = never n es h in omega arith
 
 others_distinct : (m : ℕ) (xs : List ℕ) → AreDistinct (m ∷ xs) → AreDistinct xs
 others_distinct m xs h i k less l d e = h (suc i) (suc k) (omega arith) (omega arith) d e
@@ -47,15 +39,7 @@ one_more n m es fresh few =
 pub once : (es : List Event) → AreDistinct (numbers es) → AreSubmittedOnce es
 once [] h n = omega arith
 once (Submit m ∷ es) h n = one_more n m.0 es (first_new m.0 (numbers es) h) (once es (others_distinct m.0 (numbers es) h) n)
-once (Deliver a b k ∷ es) h n = let e = once es h n in omega arith
-once (Lose a b k ∷ es) h n = let e = once es h n in omega arith
-once (Repeat a b k ∷ es) h n = let e = once es h n in omega arith
-once (Resend a b ∷ es) h n = let e = once es h n in omega arith
-once (Tick t k ∷ es) h n = let e = once es h n in omega arith
-once (Settle ∷ es) h n = let e = once es h n in omega arith
-once (Redeclare ∷ es) h n = let e = once es h n in omega arith
-once (Down d ∷ es) h n = let e = once es h n in omega arith
-once (Up d ∷ es) h n = let e = once es h n in omega arith
+once (_ ∷ es) h n = let e = once es h n in omega arith
 
 -- a part submits no more often than all
 

@@ -8,15 +8,7 @@ use Rattle.sdd_script.specs.Redeclaring as script
 
 counted_one : (e : Event) (es : List Event) → redeclares_in (e ∷ es) ≡ cond (script.is_redeclare e) 1 0 + redeclares_in es
 counted_one (Submit n) es = omega arith
-counted_one (Deliver a b k) es = omega arith
-counted_one (Lose a b k) es = omega arith
-counted_one (Repeat a b k) es = omega arith
-counted_one (Resend a b) es = omega arith
-counted_one (Tick t n) es = omega arith
-counted_one Settle es = omega arith
-counted_one Redeclare es = omega arith
-counted_one (Down d) es = omega arith
-counted_one (Up d) es = omega arith
+counted_one _ es = omega arith
 
 pub counted : (es : List Event) → redeclares_in es ≡ count_by script.is_redeclare es
 counted [] = refl
@@ -26,15 +18,7 @@ counted (e ∷ es) =
 
 turned_alike : (d : ℕ) (e : Event) (b : Bool) → turned_by d e b ≡ script.turned_by d e b
 turned_alike d (Submit n) b = refl
-turned_alike d (Deliver x y k) b = refl
-turned_alike d (Lose x y k) b = refl
-turned_alike d (Repeat x y k) b = refl
-turned_alike d (Resend x y) b = refl
-turned_alike d (Tick t n) b = refl
-turned_alike d Settle b = refl
-turned_alike d Redeclare b = refl
-turned_alike d (Down m) b = refl
-turned_alike d (Up m) b = refl
+turned_alike d _ b = refl
 
 down_alike : (d : ℕ) (b : Bool) (es : List Event) → down_from d b es ≡ fold (λ down e. script.turned_by d e down) b es
 down_alike d b [] = refl

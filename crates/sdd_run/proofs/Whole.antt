@@ -49,20 +49,14 @@ module _ (cat : Catalogue) (classes : List Class) where
 
   site : (at : Site) → IsSite cat at → IsSite other at
   site U h = h
-  site (T t) h = h
-  site (D d) h = h
+  site _ h = h
 
   valid_event : (count : ℕ) (e : Event) → IsValidEvent cat count e → IsValidEvent other count e
-  valid_event count (Submit n) h = h
   valid_event count (Deliver a b k) h = ((site a h.0.0, site b h.0.1, h.0.2), h.1)
   valid_event count (Lose a b k) h = ((site a h.0.0, site b h.0.1, h.0.2), h.1)
   valid_event count (Repeat a b k) h = ((site a h.0.0, site b h.0.1, h.0.2), h.1)
   valid_event count (Resend a b) h = (site a h.0, site b h.1, h.2)
-  valid_event count (Tick t n) h = h
-  valid_event count Settle h = h
-  valid_event count Redeclare h = h
-  valid_event count (Down d) h = h
-  valid_event count (Up d) h = h
+  valid_event count _ h = h
 
 -- of a valid workload
 
