@@ -69,15 +69,7 @@ module _ (era : ℕ → Catalogue) (txns : List Txn) (n : ℕ) (t : Txn) (there 
 
 gone_more : (e : Event) (events : List Event) (k : ℕ) → redeclares_in events + redeclared e k ≡ redeclares_in (e ∷ events) + k
 gone_more Redeclare events k = omega arith
-gone_more (Submit n) events k = refl
-gone_more (Deliver a b m) events k = refl
-gone_more (Lose a b m) events k = refl
-gone_more (Repeat a b m) events k = refl
-gone_more (Resend a b) events k = refl
-gone_more (Tick t m) events k = refl
-gone_more Settle events k = refl
-gone_more (Down d) events k = refl
-gone_more (Up d) events k = refl
+gone_more _ events k = refl
 
 not_here : (number : Option ℕ) (n k later : ℕ) → counted_by number n ≡ 0 → at_event number n k later ≡ later
 not_here None n k later none = refl
@@ -102,15 +94,7 @@ behind_front n k (e ∷ front) rest none =
 
 none_here : (e : Event) (events : List Event) (k : ℕ) → redeclares_in (e ∷ events) ≡ 0 → (redeclared e k ≡ k) × (redeclares_in events ≡ 0)
 none_here Redeclare events k none = absurd (omega (arith, none))
-none_here (Submit n) events k none = (refl, none)
-none_here (Deliver a b m) events k none = (refl, none)
-none_here (Lose a b m) events k none = (refl, none)
-none_here (Repeat a b m) events k none = (refl, none)
-none_here (Resend a b) events k none = (refl, none)
-none_here (Tick t m) events k none = (refl, none)
-none_here Settle events k none = (refl, none)
-none_here (Down d) events k none = (refl, none)
-none_here (Up d) events k none = (refl, none)
+none_here _ events k none = (refl, none)
 
 here_or_later : (number : Option ℕ) (n k later count : ℕ) → 1 ≤ counted_by number n + count → (1 ≤ count → later ≡ k) → at_event number n k later ≡ k
 here_or_later None n k later count some e = e (omega (arith, some))

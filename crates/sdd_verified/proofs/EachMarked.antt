@@ -23,29 +23,12 @@ none_from : (g : Given) (log : Log) (q : Bool) (r ws : List Event) → mark_from
 none_from g log q r [] h = refl
 none_from g log true r (Settle ∷ ws) h = none_from g log true r ws h
 none_from g log false r (Settle ∷ ws) h = cc
-none_from g log true r (Redeclare ∷ ws) h = cc
-none_from g log false r (Redeclare ∷ ws) h = cc
-none_from g log q r (Submit k ∷ ws) h = cc
-none_from g log q r (Deliver a b k ∷ ws) h = cc
-none_from g log q r (Lose a b k ∷ ws) h = cc
-none_from g log q r (Repeat a b k ∷ ws) h = cc
-none_from g log q r (Resend a b ∷ ws) h = cc
-none_from g log q r (Tick t k ∷ ws) h = cc
-none_from g log q r (Down d ∷ ws) h = cc
-none_from g log q r (Up d ∷ ws) h = cc
+none_from g log _ r (_ ∷ ws) h = cc
 
 settles_submit_none : (n : ℕ) (ws : List Event) → from_event ws ≡ [] → submits_in n ws ≡ 0
 settles_submit_none n [] h = refl
 settles_submit_none n (Settle ∷ ws) h = let i = settles_submit_none n ws h in omega (arith, i)
-settles_submit_none n (Submit k ∷ ws) h = cc
-settles_submit_none n (Deliver a b k ∷ ws) h = cc
-settles_submit_none n (Lose a b k ∷ ws) h = cc
-settles_submit_none n (Repeat a b k ∷ ws) h = cc
-settles_submit_none n (Resend a b ∷ ws) h = cc
-settles_submit_none n (Tick t k ∷ ws) h = cc
-settles_submit_none n (Redeclare ∷ ws) h = cc
-settles_submit_none n (Down d ∷ ws) h = cc
-settles_submit_none n (Up d ∷ ws) h = cc
+settles_submit_none n (_ ∷ ws) h = cc
 
 none_left : (g : Given) (log : Log) (n : ℕ) (s : List Event × List Event) → mark_of g log s ≡ None → submits_in n s.0 ≡ 0
 none_left g log n (ws, []) h =
@@ -63,34 +46,13 @@ all_marked g log n lawful complete =
 
 sorted : (e : Event) → ((k : TxnNo) × (e ≡ Submit k)) ⊎ ((n : ℕ) → submits_by n e ≡ 0)
 sorted (Submit n) = inl (n, refl)
-sorted (Deliver a b k) = inr (λ n. refl)
-sorted (Lose a b k) = inr (λ n. refl)
-sorted (Repeat a b k) = inr (λ n. refl)
-sorted (Resend a b) = inr (λ n. refl)
-sorted (Tick t k) = inr (λ n. refl)
-sorted Settle = inr (λ n. refl)
-sorted Redeclare = inr (λ n. refl)
-sorted (Down d) = inr (λ n. refl)
-sorted (Up d) = inr (λ n. refl)
+sorted _ = inr (λ n. refl)
 
 -- where no `submit` is the last entry, that entry marks none
 not_last : (g : Given) (n : ℕ) (e : Entry) (log : Log) → mark_due g (e ∷ log) ≡ None → marked n (e ∷ log) ≡ marked n log
 not_last g n (Mark (Submit k)) log h = cc
-not_last g n (Mark (Deliver a b k)) log h = omega arith
-not_last g n (Mark (Lose a b k)) log h = omega arith
-not_last g n (Mark (Repeat a b k)) log h = omega arith
-not_last g n (Mark (Resend a b)) log h = omega arith
-not_last g n (Mark (Tick t k)) log h = omega arith
-not_last g n (Mark Settle) log h = omega arith
-not_last g n (Mark Redeclare) log h = omega arith
-not_last g n (Mark (Down d)) log h = omega arith
-not_last g n (Mark (Up d)) log h = omega arith
-not_last g n (Round es) log h = refl
-not_last g n (Redeclares t) log h = refl
-not_last g n (Hand a b k m) log h = refl
-not_last g n (Submitted a k) log h = refl
-not_last g n Notes log h = refl
-not_last g n (Does a act) log h = refl
+not_last g n (Mark _) log h = omega arith
+not_last g n _ log h = refl
 
 -- what is due by an event is no mark
 
@@ -100,25 +62,14 @@ no_note false x h = cc
 
 no_mark_by : (g : Given) (e x : Event) (log : Log) → due_by g e log ≡ Some (Mark x) → ⊥
 no_mark_by g (Submit n) x log h = cc
-no_mark_by g (Deliver a b k) x log h = no_note _ x h
-no_mark_by g (Lose a b k) x log h = no_note _ x h
-no_mark_by g (Repeat a b k) x log h = no_note _ x h
-no_mark_by g (Resend a b) x log h = no_note _ x h
 no_mark_by g (Tick t k) x log h = cc
 no_mark_by g Settle x log h = cc
 no_mark_by g Redeclare x log h = cc
-no_mark_by g (Down d) x log h = no_note _ x h
-no_mark_by g (Up d) x log h = no_note _ x h
+no_mark_by g _ x log h = no_note _ x h
 
 no_mark_due : (g : Given) (x : Event) (log : Log) → mark_due g log ≡ Some (Mark x) → ⊥
-no_mark_due g x [] h = cc
 no_mark_due g x (Mark e ∷ log) h = no_mark_by g e x log h
-no_mark_due g x (Round es ∷ log) h = cc
-no_mark_due g x (Redeclares t ∷ log) h = cc
-no_mark_due g x (Hand a b k m ∷ log) h = cc
-no_mark_due g x (Submitted a k ∷ log) h = cc
-no_mark_due g x (Notes ∷ log) h = cc
-no_mark_due g x (Does a act ∷ log) h = cc
+no_mark_due g x _ h = cc
 
 first_none : (a b : Option Entry) (x : Entry) → (a ≡ Some x → ⊥) → or_else a b ≡ Some x → a ≡ None
 first_none None b x h e = refl

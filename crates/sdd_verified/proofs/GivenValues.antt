@@ -18,9 +18,8 @@ module _ (P : Value → Type 0) (ints : (n : ℤ) → in_range n ≡ true → P 
   writes_given : (statements : List Stmt) → AllByRecursion HoldsValues statements → AllByRecursion (Writes P ints) statements
   writes_given [] h = tt
   writes_given (Put rel row ∷ rest) h = (row_given row (recursion_from_All IsValue row h.0), writes_given rest h.1)
-  writes_given (Query out rels conds ∷ rest) h = (tt, writes_given rest h.1)
   writes_given (Update rel sets conds ∷ rest) h = (sets_given sets (recursion_from_All AssignsValue sets h.0.0), writes_given rest h.1)
-  writes_given (Delete rel conds ∷ rest) h = (tt, writes_given rest h.1)
+  writes_given (_ ∷ rest) h = (tt, writes_given rest h.1)
 
   rows_given : (cat : Catalogue) (rows : List (RelNo × Row)) → All (IsValidRow cat) rows → AllByRecursion (λ (r : RelNo × Row). Holds P ints r.1) rows
   rows_given cat [] v = tt

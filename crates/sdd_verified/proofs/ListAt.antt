@@ -8,12 +8,7 @@ use Rattle.sdd_verified.proofs.Submitting.{own_mark, submits_append, two_fronts}
 pub redeclares_before : (later before : Log) → redeclares before ≤ redeclares (later ++ before)
 redeclares_before [] before = omega arith
 redeclares_before (Redeclares t ∷ later) before = let h = redeclares_before later before in omega (arith, h)
-redeclares_before (Mark e ∷ later) before = redeclares_before later before
-redeclares_before (Round es ∷ later) before = redeclares_before later before
-redeclares_before (Hand a b k m ∷ later) before = redeclares_before later before
-redeclares_before (Submitted a k ∷ later) before = redeclares_before later before
-redeclares_before (Notes ∷ later) before = redeclares_before later before
-redeclares_before (Does a act ∷ later) before = redeclares_before later before
+redeclares_before (_ ∷ later) before = redeclares_before later before
 
 -- the entry at which transaction n is submitted, with the list in force there
 pub record IsSubmittedWith (g : Given) (log : Log) (n place : ℕ) : Type 0 where

@@ -54,15 +54,7 @@ tail_up (e ∷ events) h = h.1
 from_up : (events : List Event) → AreUp events → AreUp (from_event events)
 from_up [] h = tt
 from_up (Settle ∷ events) h = from_up events h.1
-from_up (Submit n ∷ events) h = h
-from_up (Deliver a b k ∷ events) h = h
-from_up (Lose a b k ∷ events) h = h
-from_up (Repeat a b k ∷ events) h = h
-from_up (Resend a b ∷ events) h = h
-from_up (Tick t k ∷ events) h = h
-from_up (Redeclare ∷ events) h = h
-from_up (Down d ∷ events) h = h
-from_up (Up d ∷ events) h = h
+from_up (_ ∷ events) h = h
 
 marked_up : (s : List Event × List Event) → AreLeftUp s → AreLeftUp (after_mark s)
 marked_up (events, []) h = record { events = tail_up (from_event events) (from_up events h.events); of_round = tt }
@@ -76,11 +68,7 @@ begun_up g log es (ws, e ∷ r) h = cc
 
 mark_from_up : (g : Given) (log : Log) (q : Bool) (r ws : List Event) (e : Event) → mark_from g log q r ws ≡ Some (Mark e) → AreUp ws
     → takes_down e ≡ false
-mark_from_up g log q r [] e h u = cc
 mark_from_up g log true r (Settle ∷ ws) e h u = mark_from_up g log true r ws e h u.1
-mark_from_up g log false r (Settle ∷ ws) e h u = cc
-mark_from_up g log true r (Redeclare ∷ ws) e h u = cc
-mark_from_up g log false r (Redeclare ∷ ws) e h u = cc
 mark_from_up g log q r (Submit n ∷ ws) e h u = let p : Submit n ≡ e = cc in subst (λ x. takes_down x ≡ false) p refl
 mark_from_up g log q r (Deliver a b k ∷ ws) e h u = let p : Deliver a b k ≡ e = cc in subst (λ x. takes_down x ≡ false) p refl
 mark_from_up g log q r (Lose a b k ∷ ws) e h u = let p : Lose a b k ≡ e = cc in subst (λ x. takes_down x ≡ false) p refl
@@ -89,6 +77,7 @@ mark_from_up g log q r (Resend a b ∷ ws) e h u = let p : Resend a b ≡ e = cc
 mark_from_up g log q r (Tick t k ∷ ws) e h u = let p : Tick t k ≡ e = cc in subst (λ x. takes_down x ≡ false) p refl
 mark_from_up g log q r (Down d ∷ ws) e h u = let p : Down d ≡ e = cc in subst (λ x. takes_down x ≡ false) p u.0
 mark_from_up g log q r (Up d ∷ ws) e h u = let p : Up d ≡ e = cc in subst (λ x. takes_down x ≡ false) p refl
+mark_from_up g log _ r _ e h u = cc
 
 mark_of_up : (g : Given) (log : Log) (s : List Event × List Event) (e : Event) → mark_of g log s ≡ Some (Mark e) → AreLeftUp s
     → takes_down e ≡ false
@@ -104,22 +93,12 @@ left_up g (Round es ∷ log) u h =
       events = (left_up g log u h.1).events;
       of_round = begun_up g log es (left g.events log) (next_is_of_events g log (Round es) refl h.0);
     }
-left_up g (Hand a b k m ∷ log) u h = left_up g log u h.1
-left_up g (Submitted a k ∷ log) u h = left_up g log u h.1
-left_up g (Notes ∷ log) u h = left_up g log u h.1
-left_up g (Does a act ∷ log) u h = left_up g log u h.1
+left_up g (_ ∷ log) u h = left_up g log u h.1
 
 stays_up : (d : ℕ) (e : Event) (b : Bool) → takes_down e ≡ false → b ≡ false → turned_by d e b ≡ false
 stays_up d (Down m) b u h = cc
 stays_up d (Up m) b u h = elim (m.0 == d) as (λ x. (if x then false else b) ≡ false) [ true ↦ refl | false ↦ h ]
-stays_up d (Submit n) b u h = h
-stays_up d (Deliver x y k) b u h = h
-stays_up d (Lose x y k) b u h = h
-stays_up d (Repeat x y k) b u h = h
-stays_up d (Resend x y) b u h = h
-stays_up d (Tick t k) b u h = h
-stays_up d Settle b u h = h
-stays_up d Redeclare b u h = h
+stays_up d _ b u h = h
 
 pub none_down : (g : Given) (log : Log) (d : ℕ) → AreUp g.events → IsLawful g log → is_down d log ≡ false
 none_down g [] d u h = refl
@@ -127,9 +106,4 @@ none_down g (Mark e ∷ log) d u h =
     stays_up d e (is_down d log)
     (mark_of_up g log (left g.events log) e (next_is_of_events g log (Mark e) refl h.0) (left_up g log u h.1))
     (none_down g log d u h.1)
-none_down g (Round es ∷ log) d u h = none_down g log d u h.1
-none_down g (Redeclares t ∷ log) d u h = none_down g log d u h.1
-none_down g (Hand a b k m ∷ log) d u h = none_down g log d u h.1
-none_down g (Submitted a k ∷ log) d u h = none_down g log d u h.1
-none_down g (Notes ∷ log) d u h = none_down g log d u h.1
-none_down g (Does a act ∷ log) d u h = none_down g log d u h.1
+none_down g (_ ∷ log) d u h = none_down g log d u h.1

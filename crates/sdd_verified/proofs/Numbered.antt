@@ -18,15 +18,7 @@ counted_by (Some k) n = one_if (k == n)
 
 pub counted : (e : Event) (n : ℕ) → submits_by n e ≡ counted_by (scripts.submitted_by e) n
 counted (Submit k) n = refl
-counted (Deliver from to place) n = refl
-counted (Lose from to place) n = refl
-counted (Repeat from to place) n = refl
-counted (Resend from to) n = refl
-counted (Tick tm k) n = refl
-counted Settle n = refl
-counted Redeclare n = refl
-counted (Down dm) n = refl
-counted (Up dm) n = refl
+counted _ n = refl
 
 -- and its text
 pub record Reads (txns : List Txn) (k : ℕ) (text : Option Txn) : Type 0 where
@@ -43,15 +35,7 @@ submits cat txns (Submit number) v =
     let within = v.1 in
     let member = member_at txns (number.0 - 1) (omega (arith, from, within)) in
     record { is = refl; txn = member.0; there = member.1 }
-submits cat txns (Deliver from to place) v = refl
-submits cat txns (Lose from to place) v = refl
-submits cat txns (Repeat from to place) v = refl
-submits cat txns (Resend from to) v = refl
-submits cat txns (Tick tm n) v = refl
-submits cat txns Settle v = refl
-submits cat txns Redeclare v = refl
-submits cat txns (Down dm) v = refl
-submits cat txns (Up dm) v = refl
+submits cat txns _ v = refl
 
 -- a transaction that is submitted has a place
 

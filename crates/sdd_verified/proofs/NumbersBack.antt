@@ -11,9 +11,8 @@ named txns = map (λ (t : Txn). t.name) txns
 
 -- the name at a place
 name_at : (txns : List Txn) (i : ℕ) → option_map_or (λ (t : Txn). t.name) (slice_get txns i) [] ≡ get_or (named txns) i []
-name_at [] i = refl
-name_at (t ∷ txns) zero = refl
 name_at (t ∷ txns) (suc i) = name_at txns i
+name_at _ _ = refl
 
 -- a name has one place
 one_place : (txns : List Txn) → repeats (named txns) ≡ false → (i j : ℕ) → i < length txns → j < length txns
@@ -41,12 +40,11 @@ AreThere txns numbers = AllByRecursion (λ (n : TxnNo). IsFrom1To (length txns) 
 numbers_back : (txns : List Txn) → repeats (named txns) ≡ false → (xs ys : List TxnNo) → AreThere txns xs → AreThere txns ys
     → names_of txns xs ≡ names_of txns ys → xs ≡ ys
 numbers_back txns differ [] [] h k e = refl
-numbers_back txns differ [] (y ∷ ys) h k e = cc
-numbers_back txns differ (x ∷ xs) [] h k e = cc
 numbers_back txns differ (x ∷ xs) (y ∷ ys) h k e =
     let s = same_first (txn_name txns x.0) (txn_name txns y.0) (names_of txns xs) (names_of txns ys) e in
     let n = number_back txns differ x.0 y.0 h.0 k.0 s.0 in
     ap (λ m. txn_no m ∷ xs) n ∙ ap (λ l. y ∷ l) (numbers_back txns differ xs ys h.1 k.1 s.1)
+numbers_back txns differ _ _ h k e = cc
 
 names_by_numbers : (txns : List Txn) (left : List Pending) → pending_names txns left ≡ names_of txns (pending_numbers left)
 names_by_numbers txns [] = refl

@@ -130,17 +130,15 @@ plain_is a b e = cc
 
 value_back : (v w : Value) → IsTold v → IsTold w → value_word v ≡ value_word w → v ≡ w
 value_back (Int a) (Int b) h k e = ap (λ n. Int n) (number_back a b h k (plain_is (signed_decimal a) (signed_decimal b) e))
-value_back (Int a) (Text t) h k e = cc
-value_back (Text s) (Int b) h k e = cc
 value_back (Text s) (Text t) h k e = cc
+value_back _ _ h k e = cc
 
 values_back : (row other : Row) → AreValues row → AreValues other → map value_word row ≡ map value_word other → row ≡ other
 values_back [] [] h k e = refl
-values_back [] (w ∷ other) h k e = cc
-values_back (v ∷ row) [] h k e = cc
 values_back (v ∷ row) (w ∷ other) h k e =
     let s = same_first (value_word v) (value_word w) (map value_word row) (map value_word other) e in
     ap (λ x. x ∷ row) (value_back v w h.0 k.0 s.0) ∙ ap (λ l. w ∷ l) (values_back row other h.1 k.1 s.1)
+values_back _ _ h k e = cc
 
 values_are : (row : Row) → flat_map (λ v. 32 ∷ value_bytes v) row ≡ more_bytes (map value_word row)
 values_are [] = refl
@@ -171,11 +169,10 @@ row_back row other h k e =
 
 rows_back : (rows others : List Row) → AreAllValues rows → AreAllValues others → rows_words rows ≡ rows_words others → rows ≡ others
 rows_back [] [] h k e = refl
-rows_back [] (o ∷ others) h k e = cc
-rows_back (r ∷ rows) [] h k e = cc
 rows_back (r ∷ rows) (o ∷ others) h k e =
     let s = same_first (row_words r) (row_words o) (rows_words rows) (rows_words others) e in
     ap (λ x. x ∷ rows) (row_back r o h.0 k.0 s.0) ∙ ap (λ l. o ∷ l) (rows_back rows others h.1 k.1 s.1)
+rows_back _ _ h k e = cc
 
 pub rows_pass : (rows : List Row) → AllPass is_row (rows_words rows)
 rows_pass [] = tt
@@ -221,27 +218,23 @@ queries_back number (a ∷ answers) (o ∷ others) xs ys h k f g e =
 answers_back : (one two : Reply) (xs ys : List (List ℕ)) → AreAnswers one → AreAnswers two → EndsAnswers xs → EndsAnswers ys
     → outcome_words one ≡ outcome_words two → answers_words one ++ xs ≡ answers_words two ++ ys → (one ≡ two) × (xs ≡ ys)
 answers_back (Rows a) (Rows b) xs ys h k f g o e = let r = queries_back 1 a b xs ys h k f g e in (ap Rows r.0, r.1)
-answers_back Overflow Overflow xs ys h k f g o e = (refl, e)
-answers_back TooMany TooMany xs ys h k f g o e = (refl, e)
 answers_back (Rows a) Overflow xs ys h k f g o e = let n : 3 ≡ 9 = ap length o in absurd (omega (arith, n))
 answers_back (Rows a) TooMany xs ys h k f g o e = let n : 3 ≡ 8 = ap length o in absurd (omega (arith, n))
 answers_back Overflow (Rows b) xs ys h k f g o e = let n : 9 ≡ 3 = ap length o in absurd (omega (arith, n))
 answers_back Overflow TooMany xs ys h k f g o e = let n : 9 ≡ 8 = ap length o in absurd (omega (arith, n))
 answers_back TooMany (Rows b) xs ys h k f g o e = let n : 8 ≡ 3 = ap length o in absurd (omega (arith, n))
 answers_back TooMany Overflow xs ys h k f g o e = let n : 8 ≡ 9 = ap length o in absurd (omega (arith, n))
+answers_back _ _ xs ys h k f g o e = (refl, e)
 
 replies_end : (names : List (List ℕ)) (replies : List Reply) → EndsAnswers (replies_words names replies)
-replies_end [] replies = (tt, tt)
-replies_end (name ∷ names) [] = (tt, tt)
 replies_end (name ∷ names) (reply ∷ replies) = (refl, refl)
+replies_end _ _ = (tt, tt)
 
 pub replies_back : (names : List (List ℕ)) (replies others : List Reply) → length names ≡ length replies → length names ≡ length others
     → AllByRecursion AreAnswers replies → AllByRecursion AreAnswers others → replies_words names replies ≡ replies_words names others → replies ≡ others
 replies_back [] [] [] m n h k e = refl
-replies_back [] [] (o ∷ others) m n h k e = absurd (omega (arith, n))
 replies_back [] (r ∷ replies) others m n h k e = absurd (omega (arith, m))
 replies_back (name ∷ names) [] others m n h k e = absurd (omega (arith, m))
-replies_back (name ∷ names) (r ∷ replies) [] m n h k e = absurd (omega (arith, n))
 replies_back (name ∷ names) (r ∷ replies) (o ∷ others) m n h k e =
     let first : List ℕ = codes "reply " ++ name in
     let s = same_first (first ++ outcome_words r) (first ++ outcome_words o) (answers_words r ++ replies_words names replies)
@@ -251,6 +244,7 @@ replies_back (name ∷ names) (r ∷ replies) (o ∷ others) m n h k e =
     (replies_end names others) outcome s.1 in
     ap (λ x. x ∷ replies) a.0
     ∙ ap (λ l. o ∷ l) (replies_back names replies others (omega (arith, m)) (omega (arith, n)) h.1 k.1 a.1)
+replies_back _ _ _ m n h k e = absurd (omega (arith, n))
 
 -- words up to a space
 
@@ -274,12 +268,11 @@ names_end (name ∷ names) = refl
 names_back : (names others : List (List ℕ)) → AllByRecursion HasNoSpace names → AllByRecursion HasNoSpace others
     → flat_map spaced names ≡ flat_map spaced others → names ≡ others
 names_back [] [] h k e = refl
-names_back [] (o ∷ others) h k e = cc
-names_back (n ∷ names) [] h k e = cc
 names_back (n ∷ names) (o ∷ others) h k e =
     let s = same_first 32 32 (n ++ flat_map spaced names) (o ++ flat_map spaced others) e in
     let w = word_back n o (flat_map spaced names) (flat_map spaced others) h.0 k.0 (names_end names) (names_end others) s.1 in
     ap (λ x. x ∷ names) w.0 ∙ ap (λ l. o ∷ l) (names_back names others h.1 k.1 w.1)
+names_back _ _ h k e = cc
 
 pub order_back : (names others : List (List ℕ)) → AllByRecursion HasNoSpace names → AllByRecursion HasNoSpace others
     → order_words names ≡ order_words others → names ≡ others
@@ -291,8 +284,6 @@ pub pending_back : (cat other : Catalogue) (mine theirs : List Txn) → ((n : �
     → (left others : List Pending) → all_pending_words cat mine left ≡ all_pending_words other theirs others
     → pending_names mine left ≡ pending_names theirs others
 pending_back cat other mine theirs h k [] [] e = refl
-pending_back cat other mine theirs h k [] (o ∷ others) e = cc
-pending_back cat other mine theirs h k (p ∷ left) [] e = cc
 pending_back cat other mine theirs h k (p ∷ left) (o ∷ others) e =
     let s = same_first (pending_words cat mine p) (pending_words other theirs o) (all_pending_words cat mine left) (all_pending_words other theirs others) e in
     let one : List ℕ = spaced (why_words cat p.why) in
@@ -301,6 +292,7 @@ pending_back cat other mine theirs h k (p ∷ left) (o ∷ others) e =
     let u = same_first 32 32 (txn_name mine p.txn.0 ++ one) (txn_name theirs o.txn.0 ++ two) t in
     let w = word_back (txn_name mine p.txn.0) (txn_name theirs o.txn.0) one two (h p.txn.0) (k o.txn.0) refl refl u.1 in
     ap (λ x. x ∷ pending_names mine left) w.0 ∙ ap (λ l. txn_name theirs o.txn.0 ∷ l) (pending_back cat other mine theirs h k left others s.1)
+pending_back cat other mine theirs h k _ _ e = cc
 
 -- copies
 
@@ -312,8 +304,6 @@ pub copies_back : (cat : Catalogue) (copies others : List CopyTable) → AllByRe
     → AllByRecursion (λ (t : CopyTable). AreAllValues t.rows) others → copies_words cat copies ≡ copies_words cat others
     → copies_told cat copies ≡ copies_told cat others
 copies_back cat [] [] h k e = refl
-copies_back cat [] (o ∷ others) h k e = cc
-copies_back cat (t ∷ copies) [] h k e = cc
 copies_back cat (t ∷ copies) (o ∷ others) h k e =
     let s = same_first (copy_words cat t) (copy_words cat o) (rows_words t.rows ++ copies_words cat copies) (rows_words o.rows ++ copies_words cat others) e in
     let r = behind_rows t.rows o.rows (copies_words cat copies) (copies_words cat others) h.0 k.0 (copies_end cat copies) (copies_end cat others) s.1 in
@@ -323,3 +313,4 @@ copies_back cat (t ∷ copies) (o ∷ others) h k e =
     ap (λ x. (x, t.rows) ∷ copies_told cat copies) place
     ∙ ap (λ rows. (place_words cat o.dm.0 o.frag.0, rows) ∷ copies_told cat copies) r.0
     ∙ ap (λ l. (place_words cat o.dm.0 o.frag.0, o.rows) ∷ l) (copies_back cat copies others h.1 k.1 r.1)
+copies_back cat _ _ h k e = cc

@@ -22,12 +22,11 @@ module _ (p : List ℕ → Bool) where
   pub replies_pass : ((line : List ℕ) → p (codes "row" ++ line) ≡ true) → ((number : ℕ) (rows : List Row) → p (query_words number rows) ≡ true)
       → ((name word : List ℕ) → p ((codes "reply " ++ name) ++ word) ≡ true) → (names : List (List ℕ)) (replies : List Reply)
       → AllPass p (replies_words names replies)
-  replies_pass f g k [] replies = tt
-  replies_pass f g k (name ∷ names) [] = tt
   replies_pass f g k (name ∷ names) (Rows answers ∷ replies) =
       (k name (codes " ok"), queries_pass f g 1 answers (replies_words names replies) (replies_pass f g k names replies))
   replies_pass f g k (name ∷ names) (Overflow ∷ replies) = (k name (codes " overflow"), replies_pass f g k names replies)
   replies_pass f g k (name ∷ names) (TooMany ∷ replies) = (k name (codes " toomany"), replies_pass f g k names replies)
+  replies_pass f g k _ _ = tt
 
   -- what was shipped
 

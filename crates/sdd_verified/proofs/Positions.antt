@@ -11,10 +11,9 @@ AreDifferent order = (i k : ℕ) → i < k → k < length order → (at order i)
 
 -- no member of an order along precedence stands twice
 pub different : (cat : Catalogue) (h : History) (order : List TxnNo) → IsAlong cat h order → AreDifferent order
-different cat h [] along i k less within = absurd (omega arith)
-different cat h (n ∷ order) along i zero less within = absurd (omega arith)
 different cat h (n ∷ order) along zero (suc k) less within = λ same. along.0.other (at order k) (member order k (omega arith)) (sym same)
 different cat h (n ∷ order) along (suc i) (suc k) less within = different cat h order along.1 i k (omega arith) (omega arith)
+different cat h _ along i _ less within = absurd (omega arith)
 
 -- so its place is known
 one_place : (order : List TxnNo) (i k : ℕ) → AreDifferent order → i < length order → k < length order → (at order i).0 ≡ (at order k).0 → i ≡ k

@@ -79,11 +79,10 @@ reply_spells name TooMany h k = replied name (codes " toomany") h (search rules)
 
 pub replies_spell : (names : List (List ℕ)) (replies : List Reply) → AllByRecursion HasNoNewline names
     → AllByRecursion (Answers IsClean ints_clean) replies → Spells (replies_words names replies) (replies_along names replies)
-replies_spell [] replies h k = spells_none
-replies_spell (name ∷ names) [] h k = spells_none
 replies_spell (name ∷ names) (reply ∷ replies) h k =
     spells_both (reply_words name reply) (replies_words names replies) (reply_lines name reply) (replies_along names replies)
     (reply_spells name reply h.0 k.0) (replies_spell names replies h.1 k.1)
+replies_spell _ _ h k = spells_none
 
 module _ (cat : Catalogue) (txns : List Txn) (classes_named : All (λ (k : Class). IsName k.name) cat.classes)
     (fragments_named : All (λ (f : Fragment). IsName f.name) cat.fragments)

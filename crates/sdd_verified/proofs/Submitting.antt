@@ -13,17 +13,8 @@ end_tail events [] h = h
 end_tail events (e ∷ rest) h = record { front = h.front ++ e ∷ []; is = h.is ∙ sym (append_assoc h.front (e ∷ []) rest) }
 
 end_from : (events rest : List Event) → EndOf events rest → EndOf events (from_event rest)
-end_from events [] h = h
 end_from events (Settle ∷ rest) h = end_from events rest (end_tail events (Settle ∷ rest) h)
-end_from events (Submit k ∷ rest) h = h
-end_from events (Deliver a b k ∷ rest) h = h
-end_from events (Lose a b k ∷ rest) h = h
-end_from events (Repeat a b k ∷ rest) h = h
-end_from events (Resend a b ∷ rest) h = h
-end_from events (Tick t k ∷ rest) h = h
-end_from events (Redeclare ∷ rest) h = h
-end_from events (Down d ∷ rest) h = h
-end_from events (Up d ∷ rest) h = h
+end_from events _ h = h
 
 end_mark : (events : List Event) (s : List Event × List Event) → EndOf events s.0 → EndOf events (after_mark s).0
 end_mark events (rest, []) h = end_tail events (from_event rest) (end_from events rest h)
@@ -33,11 +24,7 @@ pub end_left : (events : List Event) (log : Log) → EndOf events (left events l
 end_left events [] = record { front = []; is = refl }
 end_left events (Mark e ∷ log) = end_mark events (left events log) (end_left events log)
 end_left events (Redeclares t ∷ log) = end_mark events (left events log) (end_left events log)
-end_left events (Round es ∷ log) = end_left events log
-end_left events (Hand a b k m ∷ log) = end_left events log
-end_left events (Submitted a k ∷ log) = end_left events log
-end_left events (Notes ∷ log) = end_left events log
-end_left events (Does a act ∷ log) = end_left events log
+end_left events (_ ∷ log) = end_left events log
 
 -- counts of two parts, and of marks
 
@@ -48,12 +35,7 @@ submits_append n (e ∷ xs) ys = let more = submits_append n xs ys in omega (ari
 marked_later : (n : ℕ) (later log : Log) → marked n log ≤ marked n (later ++ log)
 marked_later n [] log = omega arith
 marked_later n (Mark e ∷ later) log = let h = marked_later n later log in omega (arith, h)
-marked_later n (Round es ∷ later) log = marked_later n later log
-marked_later n (Redeclares t ∷ later) log = marked_later n later log
-marked_later n (Hand a b k m ∷ later) log = marked_later n later log
-marked_later n (Submitted a k ∷ later) log = marked_later n later log
-marked_later n (Notes ∷ later) log = marked_later n later log
-marked_later n (Does a act ∷ later) log = marked_later n later log
+marked_later n (_ ∷ later) log = marked_later n later log
 
 -- of two ways to part a list the front of one is a front of the other
 pub two_fronts : (xs ys fs ss : List Event) → xs ++ ys ≡ fs ++ ss → ((zs : List Event) × (fs ≡ xs ++ zs)) ⊎ ((zs : List Event) × (xs ≡ fs ++ zs))
