@@ -6,59 +6,34 @@ use Rattle.sdd_verified.specs.world.declared.ends.WorldEnd.TheVariants as ends
 pub at_more : {A B C D : Type 0} (s : Status) → AtFault A B s → (A → C) → (B → D) → AtFault C D s
 at_more (BadCatalogue x) h f g = f h
 at_more (BadWorkload x) h f g = g h
-at_more Done h f g = tt
-at_more Usage h f g = tt
-at_more ReadFault h f g = tt
-at_more WriteFault h f g = tt
-at_more NoMemory h f g = tt
-at_more Limit h f g = tt
+at_more _ h f g = tt
 
 -- a status that tells of no fault
 pub silent_at : (A B : Type 0) (s : Status) → Explains s (λ _. ⊥) → AtFault A B s
 silent_at A B (BadCatalogue x) e = absurd e
 silent_at A B (BadWorkload x) e = absurd e
-silent_at A B Done e = tt
-silent_at A B Usage e = tt
-silent_at A B ReadFault e = tt
-silent_at A B WriteFault e = tt
-silent_at A B NoMemory e = tt
-silent_at A B Limit e = tt
+silent_at A B _ e = tt
 
 -- one that blames a catalogue
 pub catalogue_at : (A : Type 0) (reading : Option (Result Catalogue CatFault)) (s : Status) → A
     → Explains s (BlamesCatalogue reading) → AtFault A ⊥ s
 catalogue_at A reading (BadCatalogue x) a e = a
 catalogue_at A reading (BadWorkload x) a e = e
-catalogue_at A reading Done a e = tt
-catalogue_at A reading Usage a e = tt
-catalogue_at A reading ReadFault a e = tt
-catalogue_at A reading WriteFault a e = tt
-catalogue_at A reading NoMemory a e = tt
-catalogue_at A reading Limit a e = tt
+catalogue_at A reading _ a e = tt
 
 -- a workload
 pub workload_at : (B : Type 0) (reading : Option (Result Workload WorkFault)) (s : Status) → B
     → Explains s (BlamesWorkload reading) → AtFault ⊥ B s
 workload_at B reading (BadCatalogue x) b e = e
 workload_at B reading (BadWorkload x) b e = b
-workload_at B reading Done b e = tt
-workload_at B reading Usage b e = tt
-workload_at B reading ReadFault b e = tt
-workload_at B reading WriteFault b e = tt
-workload_at B reading NoMemory b e = tt
-workload_at B reading Limit b e = tt
+workload_at B reading _ b e = tt
 
 -- a script
 pub script_at : (B : Type 0) (reading : Option (Result ControlScript WorkFault)) (s : Status) → B
     → Explains s (BlamesScript reading) → AtFault ⊥ B s
 script_at B reading (BadCatalogue x) b e = e
 script_at B reading (BadWorkload x) b e = b
-script_at B reading Done b e = tt
-script_at B reading Usage b e = tt
-script_at B reading ReadFault b e = tt
-script_at B reading WriteFault b e = tt
-script_at B reading NoMemory b e = tt
-script_at B reading Limit b e = tt
+script_at B reading _ b e = tt
 
 -- a status in place of a report
 pub end_at : (A B : Type 0) (end : WorldEnd) → AtFault A B (status_of_end end)

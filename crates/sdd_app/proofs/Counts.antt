@@ -20,8 +20,7 @@ found_if : (bytes : List ℕ) (bound m n : ℕ) (x y : Bool) → bytes_eq bytes 
 found_if bytes bound m n true true p q e =
     let same : m ≡ n = some_is m n e in
     (rw (← same) ((bytes_eq-Decides bytes (decimal m)).0 p), rw (← same) (ltb-true m bound q))
-found_if bytes bound m n true false p q e = absurd cc
-found_if bytes bound m n false y p q e = absurd cc
+found_if bytes bound m n _ _ p q e = absurd cc
 
 -- and what is counted is spelled so
 pub spelled : (bound : ℕ) (bytes : List ℕ) (n : ℕ) → count_in bound bytes ≡ Some n → (bytes ≡ decimal n) × (n < bound)

@@ -6,16 +6,9 @@ use Rattle.sdd_app.proofs.Counts.{counted, spelled}
 -- the words of a form have it
 pub form_found : (form : Form) → IsForm form → form_in (words_of form) ≡ Some form
 unfolding form_in
-form_found (Check cat) is = refl
-form_found (Graph cat) is = refl
-form_found (Table cat) is = refl
-form_found (Run cat work) is = refl
-form_found (Plain cat work) is = refl
-form_found (Control file) is = refl
-form_found (Verify cat work report) is = refl
-form_found (Advise cat) is = refl
 form_found (Make seed count) is =
     rw (counted (2 ^ 31) seed is.0 (omega (arith, is.0)), counted 2049 count (omega (arith, is.1)) (omega (arith, is.1))) refl
+form_found _ is = refl
 
 -- words that have a form are its words
 record Has (ws : List (List ℕ)) (form : Form) : Type 0 where
@@ -41,8 +34,7 @@ made_so first second (Some s) (Some n) form p q e =
     has_so (codes "make" ∷ first ∷ second ∷ []) (Make s n) form (seed.1, omega (arith, count.1))
     (ap (λ w. codes "make" ∷ w ∷ second ∷ []) seed.0
     ∙ ap (λ w. codes "make" ∷ decimal s ∷ w ∷ []) count.0) e
-made_so first second (Some s) None form p q e = absurd cc
-made_so first second None count form p q e = absurd cc
+made_so first second _ _ form p q e = absurd cc
 
 two_so : (name cat : List ℕ) (form : Form) (x y z u v : Bool) → bytes_eq name (codes "check") ≡ x
     → bytes_eq name (codes "graph") ≡ y → bytes_eq name (codes "table") ≡ z
@@ -84,8 +76,6 @@ four_so name cat work report form false p e = absurd cc
 
 form_has : (ws : List (List ℕ)) (form : Form) → form_in ws ≡ Some form → Has ws form
 unfolding form_in
-form_has [] form e = absurd cc
-form_has (name ∷ []) form e = absurd cc
 form_has (name ∷ cat ∷ []) form e =
     two_so name cat form (bytes_eq name (codes "check")) (bytes_eq name (codes "graph"))
     (bytes_eq name (codes "table")) (bytes_eq name (codes "control")) (bytes_eq name (codes "advise")) refl
@@ -93,7 +83,7 @@ form_has (name ∷ cat ∷ []) form e =
 form_has (name ∷ first ∷ second ∷ []) form e = three_so name first second form (bytes_eq name (codes "run"))
     (bytes_eq name (codes "plain")) (bytes_eq name (codes "make")) refl refl refl e
 form_has (name ∷ cat ∷ work ∷ report ∷ []) form e = four_so name cat work report form (bytes_eq name (codes "verify")) refl e
-form_has (name ∷ first ∷ second ∷ third ∷ fourth ∷ rest) form e = absurd cc
+form_has _ form e = absurd cc
 
 pub form_spelled : (ws : List (List ℕ)) (form : Form) → form_in ws ≡ Some form → IsForm form × (ws ≡ words_of form)
 form_spelled ws form e = let h = form_has ws form e in (h.is, h.words)

@@ -6,10 +6,4 @@ pub all_made : {A : Type 0} (seed count : ℕ) → count ≤ MAX_TXNS → (r : R
     → Answers r text (ComesToSummary bank (workload_of seed count)) → Answers r text (ComesToMade seed count)
 all_made seed count few (Ok made) text told = record { summary = told; all_committed = made_summed seed count (text made) few told }
 all_made seed count few (Err statuses.Usage) text told = told
-all_made seed count few (Err (statuses.BadCatalogue fault)) text told = told
-all_made seed count few (Err (statuses.BadWorkload fault)) text told = told
-all_made seed count few (Err statuses.Limit) text told = told
-all_made seed count few (Err statuses.ReadFault) text told = told
-all_made seed count few (Err statuses.NoMemory) text told = told
-all_made seed count few (Err statuses.Done) text told = told
-all_made seed count few (Err statuses.WriteFault) text told = told
+all_made seed count few (Err _) text told = told

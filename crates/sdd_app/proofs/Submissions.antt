@@ -9,15 +9,7 @@ submitted_more txns events i d within = rw (take_more events i d within, filter_
 
 event_fits : (cat : Catalogue) (txns : List Txn) (e : Event) (t : Txn) → All (IsValidTxn cat) txns → submitted_by txns e ≡ Some t → Fits cat t
 event_fits cat txns (Submit number) t all is = (found_member (IsValidTxn cat) txns (number.0 - 1) t all is).fits
-event_fits cat txns (Deliver from to place) t all is = absurd cc
-event_fits cat txns (Lose from to place) t all is = absurd cc
-event_fits cat txns (Repeat from to place) t all is = absurd cc
-event_fits cat txns (Resend from to) t all is = absurd cc
-event_fits cat txns (Tick tm n) t all is = absurd cc
-event_fits cat txns Settle t all is = absurd cc
-event_fits cat txns Redeclare t all is = absurd cc
-event_fits cat txns (Down dm) t all is = absurd cc
-event_fits cat txns (Up dm) t all is = absurd cc
+event_fits cat txns _ t all is = absurd cc
 
 fits_given : (cat : Catalogue) (txns : List Txn) (e : Event) (events : List Event) (given : Option Txn)
     → All (IsValidTxn cat) txns → submitted_by txns e ≡ given

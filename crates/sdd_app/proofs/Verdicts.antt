@@ -5,14 +5,13 @@ use Rattle.sdd_app.specs.declared.listing.Listing.TheVariants as listings
 
 -- a status tells what follows from what it tells
 pub explains_more : (s : Status) (P Q : Verdict → Type 0) → ((v : Verdict) → P v → Q v) → Explains s P → Explains s Q
-explains_more Done P Q more e = e
 explains_more Usage P Q more e = more NoForm e
 explains_more (BadCatalogue f) P Q more e = more (FaultyCatalogue f) e
 explains_more (BadWorkload f) P Q more e = more (FaultyWorkload f) e
 explains_more ReadFault P Q more e = tt
-explains_more WriteFault P Q more e = e
 explains_more NoMemory P Q more e = tt
 explains_more Limit P Q more e = more PastLimit e
+explains_more _ P Q more e = e
 
 -- what is read of the catalogue's file is what the command comes to
 
@@ -21,10 +20,7 @@ Over reading GoesOn verdict = MatchOption reading ⊥ (λ r. MatchResult r (λ c
 
 blamed_at : (reading : Option (Result Catalogue CatFault)) (G : Catalogue → Verdict → Type 0) (v : Verdict) → BlamesCatalogue reading v → Over reading G v
 blamed_at reading G (FaultyCatalogue f) e = subst (λ r. Over r G (FaultyCatalogue f)) (sym e) refl
-blamed_at reading G NoForm e = absurd e
-blamed_at reading G (Prints text) e = absurd e
-blamed_at reading G (FaultyWorkload f) e = absurd e
-blamed_at reading G PastLimit e = absurd e
+blamed_at reading G _ e = absurd e
 
 pub blamed : (fs : List ShelfFile) (name : List ℕ) (G : Catalogue → Verdict → Type 0) (v : Verdict)
     → BlamesCatalogue (catalogue_named fs name) v → OverCatalogue fs name G v
@@ -42,20 +38,14 @@ over_at reading G cat v over e = subst (λ r. Over r G v) e over
 pub blamed_plain : (fs : List ShelfFile) (work : List ℕ) (cat : Catalogue) (v : Verdict)
     → BlamesWorkload (workload_named fs cat work) v → ComesToPlain fs work cat v
 blamed_plain fs work cat (FaultyWorkload f) e = ap (λ r. option_map (plain_verdict cat) r) e
-blamed_plain fs work cat NoForm e = absurd e
-blamed_plain fs work cat (Prints text) e = absurd e
-blamed_plain fs work cat (FaultyCatalogue f) e = absurd e
-blamed_plain fs work cat PastLimit e = absurd e
+blamed_plain fs work cat _ e = absurd e
 
 abbrev OverWork : Option (Result Workload WorkFault) → (Workload → Verdict → Type 0) → Verdict → Type 0
 OverWork reading GoesOn verdict = MatchOption reading ⊥ (λ r. MatchResult r (λ work. GoesOn work verdict) (λ fault. verdict ≡ FaultyWorkload fault))
 
 blamed_work : (reading : Option (Result Workload WorkFault)) (G : Workload → Verdict → Type 0) (v : Verdict) → BlamesWorkload reading v → OverWork reading G v
 blamed_work reading G (FaultyWorkload f) e = subst (λ r. OverWork r G (FaultyWorkload f)) (sym e) refl
-blamed_work reading G NoForm e = absurd e
-blamed_work reading G (Prints text) e = absurd e
-blamed_work reading G (FaultyCatalogue f) e = absurd e
-blamed_work reading G PastLimit e = absurd e
+blamed_work reading G _ e = absurd e
 
 pub blamed_run : (fs : List ShelfFile) (work : List ℕ) (cat : Catalogue) (v : Verdict)
     → BlamesWorkload (workload_named fs cat work) v → ComesToRun fs work cat v
@@ -81,10 +71,7 @@ judges_report fs work report cat w v e p = subst (λ r. OverWork r (ComesToVerdi
 -- a faulty script is what `control` comes to, and so is what a sound one gives
 pub blamed_control : (fs : List ShelfFile) (name : List ℕ) (v : Verdict) → BlamesScript (script_named fs name) v → ComesToControl fs name v
 blamed_control fs name (FaultyWorkload f) e = ap (λ r. option_map control_verdict r) e
-blamed_control fs name NoForm e = absurd e
-blamed_control fs name (Prints text) e = absurd e
-blamed_control fs name (FaultyCatalogue f) e = absurd e
-blamed_control fs name PastLimit e = absurd e
+blamed_control fs name _ e = absurd e
 
 pub reports_control : (fs : List ShelfFile) (name : List ℕ) (script : ControlScript) (text : List ℕ)
     → script_named fs name ≡ Some (Ok script) → text ≡ report script → ComesToControl fs name (Prints text)
@@ -126,14 +113,8 @@ one_verdict told v w p q = cc
 
 one_listing : (listing : Listing) (cat : Catalogue) (v w : Verdict) → ComesToListing listing cat v → ComesToListing listing cat w → status_of v ≡ status_of w
 one_listing listing cat (Prints a) (Prints b) p q = refl
-one_listing listing cat (Prints a) NoForm p q = absurd q
-one_listing listing cat (Prints a) (FaultyCatalogue f) p q = absurd q
-one_listing listing cat (Prints a) (FaultyWorkload f) p q = absurd q
-one_listing listing cat (Prints a) PastLimit p q = absurd q
-one_listing listing cat NoForm w p q = absurd p
-one_listing listing cat (FaultyCatalogue f) w p q = absurd p
-one_listing listing cat (FaultyWorkload f) w p q = absurd p
-one_listing listing cat PastLimit w p q = absurd p
+one_listing listing cat (Prints a) _ p q = absurd q
+one_listing listing cat _ w p q = absurd p
 
 one_plain : (fs : List ShelfFile) (work : List ℕ) (cat : Catalogue) (v w : Verdict)
     → ComesToPlain fs work cat v → ComesToPlain fs work cat w → status_of v ≡ status_of w
@@ -144,17 +125,12 @@ one_of_run : (IsSuch : List ℕ → Type 0) (cat : Catalogue) (work : Workload) 
     → TellsOfRun IsSuch cat work v → TellsOfRun IsSuch cat work w → status_of v ≡ status_of w
 one_of_run S cat work apart (Prints a) (Prints b) p q = refl
 one_of_run S cat work apart (Prints a) PastLimit p q = absurd (apart a p q)
-one_of_run S cat work apart (Prints a) NoForm p q = absurd q
-one_of_run S cat work apart (Prints a) (FaultyCatalogue f) p q = absurd q
-one_of_run S cat work apart (Prints a) (FaultyWorkload f) p q = absurd q
 one_of_run S cat work apart PastLimit (Prints b) p q = absurd (apart b q p)
 one_of_run S cat work apart PastLimit PastLimit p q = refl
-one_of_run S cat work apart PastLimit NoForm p q = absurd q
-one_of_run S cat work apart PastLimit (FaultyCatalogue f) p q = absurd q
-one_of_run S cat work apart PastLimit (FaultyWorkload f) p q = absurd q
 one_of_run S cat work apart NoForm w p q = absurd p
 one_of_run S cat work apart (FaultyCatalogue f) w p q = absurd p
 one_of_run S cat work apart (FaultyWorkload f) w p q = absurd p
+one_of_run S cat work apart _ _ p q = absurd q
 
 one_report : (cat : Catalogue) (work : Workload) (v w : Verdict) → ComesToReport cat work v → ComesToReport cat work w → status_of v ≡ status_of w
 one_report cat work v w p q = one_of_run (IsReportOn cat work) cat work (report_or_limit cat work) v w p q
@@ -215,25 +191,21 @@ one_status fs ws v w p q = one_of_words fs (form_in ws) v w p q
 by_status : (s : Status) (P : Verdict → Type 0) (v : Verdict)
     → ((w : Verdict) → P w → status_of w ≡ status_of v) → Explains s P → (s ≡ ReadFault → ⊥)
     → (s ≡ status_of v) ⊎ (s ≡ NoMemory)
-by_status Done P v one e read = absurd e
 by_status Usage P v one e read = inl (one NoForm e)
 by_status (BadCatalogue f) P v one e read = inl (one (FaultyCatalogue f) e)
 by_status (BadWorkload f) P v one e read = inl (one (FaultyWorkload f) e)
 by_status ReadFault P v one e read = absurd (read refl)
-by_status WriteFault P v one e read = absurd e
 by_status NoMemory P v one e read = inr refl
 by_status Limit P v one e read = inl (one PastLimit e)
+by_status _ P v one e read = absurd e
 
 pub told_status : (s : Status) (fs : List ShelfFile) (ws : List (List ℕ)) (v : Verdict) → ComesTo fs ws v
     → Explains s (ComesTo fs ws) → (s ≡ ReadFault → ⊥) → (s ≡ status_of v) ⊎ (s ≡ NoMemory)
 told_status s fs ws v comes e read = by_status s (ComesTo fs ws) v (λ w p. one_status fs ws w v p comes) e read
 
 done_refuses : (v : Verdict) → IsRefusal v → Done ≡ status_of v → ⊥
-done_refuses NoForm r e = absurd cc
 done_refuses (Prints text) r e = r
-done_refuses (FaultyCatalogue f) r e = absurd cc
-done_refuses (FaultyWorkload f) r e = absurd cc
-done_refuses PastLimit r e = absurd cc
+done_refuses _ r e = absurd cc
 
 -- a call that prints isn't refused
 pub prints_or_refuses : (fs : List ShelfFile) (ws : List (List ℕ)) (text : List ℕ) (v : Verdict)
