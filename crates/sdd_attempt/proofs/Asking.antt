@@ -40,8 +40,7 @@ by_now ts c h handed x all e there w =
 
 -- an answer in a later phase: no READY was awaited
 later_answered : (ts c d : ℕ) (h : Site × Msg) (handed : List (Site × Msg)) (b : Bool) (x y : Exchange) → (cond b (answered ts c d y) x).modules ≡ x.modules
-    → (b ≡ true → is_reading x.phase ≡ false)
-    → AllAnswered ts c handed x → AllAnswered ts c (h ∷ handed) (cond b (answered ts c d y) x)
+    → (b ≡ true → is_reading x.phase ≡ false) → AllAnswered ts c handed x → AllAnswered ts c (h ∷ handed) (cond b (answered ts c d y) x)
 later_answered ts c d h handed true x y same phase all e there w =
     let before : contains (modules_in x) e ≡ true = subst (λ (ms : List (ℕ × List ℕ)). contains (map (λ m. m.0) ms) e ≡ true) same there in
     let not_awaited : awaits_ready x e ≡ false = rw (phase refl) refl in
@@ -114,16 +113,14 @@ asking_still c sent handed h None k = tt
 asking_still c sent handed h (Some a) k = record { asks = k.asks; reads = k.reads; answered = by_now a.ts c h handed a.exchange k.answered }
 
 asking_from : (s : Setting) (bases : Bases) (log : Log) (c : ℕ) (from : Site) (m : Msg) (o : Option Attempt) → active s c log ≡ o
-    → FitsAnswer s bases log from m → IsAskingAt c (sent log) (handed log) o
-    → IsAskingAt c (sent log) ((from, m) ∷ handed log) (active_handed c from m o)
+    → FitsAnswer s bases log from m → IsAskingAt c (sent log) (handed log) o → IsAskingAt c (sent log) ((from, m) ∷ handed log) (active_handed c from m o)
 asking_from s bases log c (D d) m (Some a) is f h = asking_now s bases log c d m a is f h (rejects m a.ts c)
 asking_from s bases log c (D d) m None is f h = tt
 asking_from s bases log c U m o is f h = asking_still c (sent log) (handed log) (U, m) o h
 asking_from s bases log c (T t) m o is f h = asking_still c (sent log) (handed log) (T t, m) o h
 
 pub asking_handed : (s : Setting) (bases : Bases) (log : Log) (c : ℕ) (from : Site) (m : Msg) → FitsAnswer s bases log from m
-    → IsAskingAt c (sent log) (handed log) (active s c log)
-    → IsAskingAt c (sent log) ((from, m) ∷ handed log) (active_handed c from m (active s c log))
+    → IsAskingAt c (sent log) (handed log) (active s c log) → IsAskingAt c (sent log) ((from, m) ∷ handed log) (active_handed c from m (active s c log))
 asking_handed s bases log c from m f h = asking_from s bases log c from m (active s c log) refl f h
 
 -- what is sent

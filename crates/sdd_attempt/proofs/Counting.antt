@@ -26,9 +26,7 @@ count_more es i e u rows all within is h =
 
 -- a count is put in the place of an earlier one
 pub count_put : (old kept new : List ((ℕ × DmNo) × ℕ)) (counts : List ((ℕ × ℕ) × ℕ)) (dm : DmNo) (u n : ℕ) → map numbered old ≡ counts
-    → kept ≡ filter (is_other dm.0 u) old → new ≡ kept ++ ((u, dm), n) ∷ []
-    → map numbered new ≡ counted dm.0 ((u, n) ∷ []) counts
+    → kept ≡ filter (is_other dm.0 u) old → new ≡ kept ++ ((u, dm), n) ∷ [] → map numbered new ≡ counted dm.0 ((u, n) ∷ []) counts
 count_put old kept new counts dm u n e f g =
-    ap (map numbered) g ∙ map-append numbered kept (((u, dm), n) ∷ [])
-    ∙ ap (λ l. l ++ ((u, dm.0), n) ∷ [])
+    ap (map numbered) g ∙ map-append numbered kept (((u, dm), n) ∷ []) ∙ ap (λ l. l ++ ((u, dm.0), n) ∷ [])
     (ap (map numbered) f ∙ map-filter numbered (λ c. not ((c.0.0 == u) && (c.0.1 == dm.0))) old ∙ ap (filter (λ c. not ((c.0.0 == u) && (c.0.1 == dm.0)))) e)

@@ -1,5 +1,5 @@
 -- The moves of an exchange: which comes next, and that what is counted only grows.
-use Rattle.sdd_attempt.proofs.All.{All-tail, AreSmall, Asking, Bool, ClassNo, Exchange, Fetching, IsSmallQuery, List, Move, None, Option, Over, Phase, Reading, Reducing, Reduction, Shipping, Some, Step, Ts, Value, Values, [], after_hand, answered, ap, arith, counts_for, drop, fetches, fetches_from, get_or, goes_on, if◌then◌else◌, lacking, length, move_at, move_of, next_move, option_map, phase_ends, reduces, refl, subst, sym, true, with_use, with_values, without, ℕ, ◌&&◌, ◌++◌, ◌+◌, ◌<◌, ◌==◌, ◌∙◌, ◌∷◌, ◌≡◌, ◌≤◌}
+use Rattle.sdd_attempt.proofs.All.{All-tail, AreSmall, Asking, Bool, ClassNo, Exchange, Fetching, IsSmallQuery, List, Move, None, Option, Over, Phase, Reduction, Shipping, Some, Step, Ts, Value, Values, [], after_hand, answered, ap, arith, counts_for, drop, fetches, fetches_from, get_or, goes_on, if◌then◌else◌, lacking, length, move_at, move_of, next_move, option_map, phase_ends, reduces, refl, subst, sym, true, with_use, with_values, without, ℕ, ◌&&◌, ◌++◌, ◌+◌, ◌<◌, ◌==◌, ◌∙◌, ◌∷◌, ◌≡◌, ◌≤◌}
 use Rattle.sdd_attempt.proofs.LineActs.{some_is}
 
 no_move : {A B : Type 0} (f : A → B) (o : Option A) → None ≡ option_map f o → o ≡ None
@@ -57,8 +57,7 @@ small_rest (q ∷ left) all = All-tail IsSmallQuery q left all
 pub past_first : (ts c : ℕ) (x z : Exchange) (q : Asking) (counts : List ℕ) (steps none_done : List Step) (rest : List Asking) (next : Option Reduction) → x ≡ z
     → 0 < length x.left → q ≡ get_or x.left 0 q
     → counts ≡ counts_for x.counts q → steps ≡ x.done → next ≡ None → option_map move_of next ≡ option_map (move_at q.before) (next_move q.conds counts steps)
-    → rest ≡ drop 1 x.left → none_done ≡ []
-    → goes_on ts c (record x { left = rest; done = none_done }) rest none_done ≡ goes_on ts c z z.left z.done
+    → rest ≡ drop 1 x.left → none_done ≡ [] → goes_on ts c (record x { left = rest; done = none_done }) rest none_done ≡ goes_on ts c z z.left z.done
 past_first ts c x z q counts steps none_done rest next same some first e f none asked g h =
     let asks : None ≡ option_map (move_at q.before) (next_move q.conds (counts_for x.counts q) x.done) =
     sym (ap (option_map move_of) none) ∙ asked ∙ ap (λ ns. option_map (move_at q.before) (next_move q.conds ns steps)) e
@@ -69,8 +68,7 @@ past_first ts c x z q counts steps none_done rest next same some first e f none 
     ∙ ap (λ l. goes_on ts c x l x.done) (sym (first_of x.left q some first)) ∙ ap (λ y. goes_on ts c y y.left y.done) same
 
 pub to_first : (ts c : ℕ) (x z : Exchange) (q : Asking) (counts : List ℕ) (steps more : List Step) (one : Reduction) (next : Option Reduction) → x ≡ z
-    → 0 < length x.left → q ≡ get_or x.left 0 q
-    → counts ≡ counts_for x.counts q → steps ≡ x.done → next ≡ Some one
+    → 0 < length x.left → q ≡ get_or x.left 0 q → counts ≡ counts_for x.counts q → steps ≡ x.done → next ≡ Some one
     → option_map move_of next ≡ option_map (move_at q.before) (next_move q.conds counts steps) → more ≡ x.done ++ one.step ∷ []
     → fetches ts c (move_of one) (record x { done = more }) ≡ goes_on ts c z z.left z.done
 to_first ts c x z q counts steps more one next same some first e f has asked g =

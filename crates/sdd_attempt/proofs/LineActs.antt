@@ -10,8 +10,7 @@ some_is e = cc
 -- what may start
 
 -- a message of an exchange
-pub starts_sent : (c : ℕ) (m : Msg) (o : Option Attempt) (queue : List Queued)
-    → starts_left (active_sent c m o) queue ≡ starts_left o queue
+pub starts_sent : (c : ℕ) (m : Msg) (o : Option Attempt) (queue : List Queued) → starts_left (active_sent c m o) queue ≡ starts_left o queue
 starts_sent c m None queue = refl
 starts_sent c m (Some a) queue =
     elim (asks_rows a.ts c m)
@@ -62,8 +61,7 @@ no_read_asked t ts c _ e = tt
 
 up_of_no_read : (t ts c : ℕ) (m : Msg) → ((ts c : ℕ) → is_read ts c m ≡ false) → IsUpTo t m
 up_of_no_read t ts c (Read r class txn attempt conds uses) h =
-    absurd (false≢true (sym (h r.0 class.0) ∙ and_from (r.0 == r.0) (class.0 == class.0) (eq-eqb r.0 r.0 refl)
-    (eq-eqb class.0 class.0 refl)))
+    absurd (false≢true (sym (h r.0 class.0) ∙ and_from (r.0 == r.0) (class.0 == class.0) (eq-eqb r.0 r.0 refl) (eq-eqb class.0 class.0 refl)))
 up_of_no_read t ts c _ h = tt
 
 pub all_up_of : (t : ℕ) (ms : List (Site × Msg)) → ((ts c : ℕ) → NoReads ts c ms) → AllUpTo t ms
@@ -75,14 +73,12 @@ abbrev pub record_in : Act → Rec
 record_in (Records c r messages) = r
 record_in (Sends to m hand) = Nothing
 
-pub asking_of : (s : Setting) (log : Log) (c : ℕ) (a : Attempt) → IsLineOf s c log → active s c log ≡ Some a
-    → IsAsking c (sent log) (handed log) a
+pub asking_of : (s : Setting) (log : Log) (c : ℕ) (a : Attempt) → IsLineOf s c log → active s c log ≡ Some a → IsAsking c (sent log) (handed log) a
 asking_of s log c a h is = subst (IsAskingAt c (sent log) (handed log)) is h.asking
 
 -- rows that serve
 
-pub served_sent : (cat : Catalogue) (bases : Bases) (c : ℕ) (m : Msg) (o : Option Attempt) → IsServed cat bases o
-    → IsServed cat bases (active_sent c m o)
+pub served_sent : (cat : Catalogue) (bases : Bases) (c : ℕ) (m : Msg) (o : Option Attempt) → IsServed cat bases o → IsServed cat bases (active_sent c m o)
 served_sent cat bases c m None h = tt
 served_sent cat bases c m (Some a) h =
     elim (asks_rows a.ts c m)
@@ -102,8 +98,7 @@ served_of cat bases (Some b) a e over h = h (subst (λ (x : Attempt). is_over x.
 
 -- a number that is new isn't in a queue
 
-not_among : (cat : Catalogue) (c n : ℕ) (given : List ℕ) (qs : List Queued)
-    → AllByRecursion (IsWaiting cat c given) qs → contains given n ≡ false
+not_among : (cat : Catalogue) (c n : ℕ) (given : List ℕ) (qs : List Queued) → AllByRecursion (IsWaiting cat c given) qs → contains given n ≡ false
     → contains (map (λ (q : Queued). q.number) qs) n ≡ false
 not_among cat c n given [] h fresh = refl
 not_among cat c n given (q ∷ qs) h fresh =

@@ -1,8 +1,7 @@
 -- What an attempt makes due, by what its line does next.
 use Rattle.sdd_attempt.proofs.All.{Act, Attempt, Bases, Catalogue, D, List, Msg, None, Option, Over, Phase, Sends, Some, ToCommit, ToSend, [], ap, attempt_due, commit_act, dm_no, false, first_send, if◌then◌else◌, is_over, line_step, or_else, refl, send_due, step_by, true, ℕ, ◌∷◌, ◌≡◌}
 
-none_by : (ms : List (ℕ × Msg)) (p : Phase) (x : Act) → step_by ms p ≡ None
-    → or_else (first_send ms) (if is_over p then Some x else None) ≡ None
+none_by : (ms : List (ℕ × Msg)) (p : Phase) (x : Act) → step_by ms p ≡ None → or_else (first_send ms) (if is_over p then Some x else None) ≡ None
 none_by [] Over x e = absurd cc
 none_by [] _ x e = refl
 none_by (m ∷ ms) p x e = absurd cc
@@ -21,8 +20,7 @@ resting_by [] Over e = absurd cc
 resting_by [] _ e = refl
 resting_by (m ∷ ms) p e = absurd cc
 
-pub none_due : (cat : Catalogue) (bases : Bases) (c : ℕ) (o : Option Attempt) → line_step o ≡ None
-    → attempt_due cat bases c o ≡ None
+pub none_due : (cat : Catalogue) (bases : Bases) (c : ℕ) (o : Option Attempt) → line_step o ≡ None → attempt_due cat bases c o ≡ None
 none_due cat bases c None e = refl
 none_due cat bases c (Some a) e = none_by a.exchange.to_send a.exchange.phase (commit_act cat bases c a) e
 
@@ -43,8 +41,7 @@ has_to_send (Some a) e =
       act = s.0;
       active = refl;
       send = s.1;
-      due = λ cat bases c. ap (λ o. or_else o (if is_over a.exchange.phase then Some (commit_act cat bases c a)
-          else None)) s.1;
+      due = λ cat bases c. ap (λ o. or_else o (if is_over a.exchange.phase then Some (commit_act cat bases c a) else None)) s.1;
     }
 
 -- one that commits

@@ -36,8 +36,7 @@ begun_noted cat table c q clock now own p2 b rec old mid new e f g h i j k =
     ∙ ap (λ x. with_act (Records c (record_of (beginning_of cat table c q (timestamp (ticked clock 1)) (bound_of clock))) (reads_of x)) old) is
 
 pub begun_running : (cat : Catalogue) (table : List line.Entry) (c : ℕ) (q : Queued) (clock now : Ticking) (own p2 : ℕ) (b : Beginning) (x : Exchange)
-    → now ≡ ticked clock 1 → own ≡ timestamp now → p2 ≡ bound_of clock
-    → b ≡ beginning_of cat table c q own p2 → x ≡ begins q.text (reads_of b)
+    → now ≡ ticked clock 1 → own ≡ timestamp now → p2 ≡ bound_of clock → b ≡ beginning_of cat table c q own p2 → x ≡ begins q.text (reads_of b)
     → running_of own x ≡ running_of (timestamp (ticked clock 1)) (begins q.text (sends_of_act (start_act cat table c clock q)))
 begun_running cat table c q clock now own p2 b x e f g h i =
     ap (λ n. running_of n x) (f ∙ ap timestamp e) ∙ ap (running_of (timestamp (ticked clock 1)))
@@ -72,8 +71,7 @@ pub sent_to : (f : ℕ → Option (Site × Msg)) (n : ℕ) (first old new : Note
 sent_to f n first old new some e g =
     let more : filter_map f (numbers_to (n - 1)) ++ filter_map f (n ∷ []) ≡ filter_map f (numbers_to (n + 1 - 1)) = picked_to f n
     (filter_map f (numbers_to (n - 1))) (filter_map f (numbers_to (n - 1)) ++ filter_map f (n ∷ [])) some refl refl in
-    g ∙ ap (λ (m : Notes). record m { out = m.out ++ filter_map f (n ∷ []) }) e
-    ∙ ap (λ out. record first { out = out })
+    g ∙ ap (λ (m : Notes). record m { out = m.out ++ filter_map f (n ∷ []) }) e ∙ ap (λ out. record first { out = out })
     (append_assoc first.out (filter_map f (numbers_to (n - 1))) (filter_map f (n ∷ [])) ∙ ap (λ sends. first.out ++ sends) more)
 
 -- what holds in any case holds where a call succeeds

@@ -11,8 +11,7 @@ reaches k n = not (nat_lt n.0 k)
 -- the module behind which the rest stands
 
 first_of_more : (p : DmNo → Bool) (x : DmNo) (xs : List DmNo) → position p (x ∷ xs) ≡ cond (p x) (Some 0) (option_map suc (position p xs))
-first_of_more p x xs =
-    position_from-zero p (x ∷ xs) ∙ ap (cond (p x) (Some 0)) (later p 0 xs ∙ ap (option_map suc) (sym (position_from-zero p xs)))
+first_of_more p x xs = position_from-zero p (x ∷ xs) ∙ ap (cond (p x) (Some 0)) (later p 0 xs ∙ ap (option_map suc) (sym (position_from-zero p xs)))
 
 -- a comparison by two tests
 
@@ -63,8 +62,7 @@ zero_is i e = cc
 at_or_further : (z x d : DmNo) (xs : List DmNo) (i : ℕ) (t : Bool) (o : Option ℕ) → nat_lt x.0 d.0 ≡ t → cond (not t) (Some 0) (option_map suc o) ≡ Some i
     → ((j : ℕ) → o ≡ Some j → insert_key nat_cmp (map number xs) d.0 ≡ map number (put_at z xs j d))
     → insert_key nat_cmp (map number (x ∷ xs)) d.0 ≡ map number (put_at z (x ∷ xs) i d)
-at_or_further z x d xs i false o t e h =
-    at_first x d xs (x.0 == d.0) refl t ∙ ap (λ k. map number (put_at z (x ∷ xs) k d)) (zero_is i e)
+at_or_further z x d xs i false o t e h = at_first x d xs (x.0 == d.0) refl t ∙ ap (λ k. map number (put_at z (x ∷ xs) k d)) (zero_is i e)
 at_or_further z x d xs i true None t e h = cc
 at_or_further z x d xs i true (Some j) t e h =
     rw (greater d.0 x.0 t)

@@ -1,5 +1,5 @@
 -- The line of a class after each step: what it keeps, and that it is what the act makes of it.
-use Rattle.sdd_attempt.proofs.All.{All-append, All-cons, All-head, All-nil, All-tail, AllByRecursion, AreAwaitedFrom, AreDistinct, Attempt, Bases, Bool, CarriesFew, Catalogue, D, Exchange, Fetching, Fits, IsAwaited, IsLine, IsRunning, IsWhole, List, Msg, None, Option, Over, Phase, Queued, Reading, Reducing, Running, RunsFirst, Shipping, Site, Some, T, Ticking, U, [], active_handed, active_of, after_hand, after_send, ap, arith, ascending, asks_rows, attempt_of, begins, bound_of, commit_next, cond, contains, drop, eqb-true, false, fetches_use, filter, fragments_in, get_or, handed_by, if◌then◌else◌, is_fetching, length, line_done, line_of, map, map-append, modules_of, nat_tests, neither, not, option_map, read_to, refl, rejects, rules, second_so, send_next, sends_of_act, slice_set, start_act, start_next, subst, suc, sym, tail_of, ticked, timestamp, tried, true, uses_of, ℕ, ◌++◌, ◌<◌, ◌==◌, ◌∙◌, ◌∷◌, ◌≡◌}
+use Rattle.sdd_attempt.proofs.All.{All-append, All-cons, All-head, All-nil, All-tail, AllByRecursion, AreAwaitedFrom, AreDistinct, Attempt, Bases, Bool, CarriesFew, Catalogue, D, Exchange, Fetching, Fits, IsAwaited, IsLine, IsRunning, IsWhole, List, Msg, None, Option, Phase, Queued, Running, RunsFirst, Site, Some, Ticking, [], active_handed, active_of, after_hand, after_send, ap, arith, ascending, asks_rows, attempt_of, begins, bound_of, commit_next, cond, contains, drop, eqb-true, false, fetches_use, filter, fragments_in, get_or, handed_by, if◌then◌else◌, is_fetching, length, line_done, line_of, map, map-append, modules_of, nat_tests, neither, not, option_map, read_to, refl, rejects, rules, second_so, send_next, sends_of_act, slice_set, start_act, start_next, subst, suc, sym, tail_of, ticked, timestamp, tried, true, uses_of, ℕ, ◌++◌, ◌<◌, ◌==◌, ◌∙◌, ◌∷◌, ◌≡◌}
 use Rattle.sdd_attempt.proofs.Phases.{asks_stay}
 use Rattle.sdd_attempt.proofs.Uses.{few_modules, same_length, small_text}
 use Rattle.sdd_attempt.proofs.Room.{begins_room, handed_room, sent_room}
@@ -51,8 +51,7 @@ runs_more c [] q (Some r) h = absurd h
 runs_more c (x ∷ queue) q (Some r) h = h
 
 pub submitted_line : (cat : Catalogue) (c : ℕ) (queue more : List Queued) (r : Option Running) (q : Queued) → IsLine cat c queue r → Fits cat q.text
-    → contains (map number_of queue) q.number ≡ false
-    → more ≡ queue ++ q ∷ [] → IsLine cat c more r
+    → contains (map number_of queue) q.number ≡ false → more ≡ queue ++ q ∷ [] → IsLine cat c more r
 submitted_line cat c queue more r q line fits fresh e =
     subst (λ qs. IsLine cat c qs r) (sym e) (record {
       class = line.class;
@@ -86,8 +85,7 @@ sent_line cat c [] r line = absurd line.runs
 sent_line cat c (q ∷ queue) r line = record { class = line.class; distinct = line.distinct; fits = line.fits; runs = sent_running c q r line.runs }
 
 sends_by : (cat : Catalogue) (c : ℕ) (q : Queued) (queue : List Queued) (ts : ℕ) (x : Exchange) (ms : List (ℕ × Msg))
-    → AllByRecursion (λ m. asks_rows ts c m.1 ≡ true) ms
-    → line_of cat c (q ∷ queue) (Some (record { ts = ts; exchange = record x { to_send = tail_of ms } }))
+    → AllByRecursion (λ m. asks_rows ts c m.1 ≡ true) ms → line_of cat c (q ∷ queue) (Some (record { ts = ts; exchange = record x { to_send = tail_of ms } }))
     ≡ line_done (send_next (Some (attempt_of q (record { ts = ts; exchange = record x { to_send = ms } }))))
     (line_of cat c (q ∷ queue) (Some (record { ts = ts; exchange = record x { to_send = ms } })))
 sends_by cat c q queue ts x [] all = refl
@@ -159,8 +157,7 @@ abbrev pub one_try : Queued → Queued
 one_try q = record q { tries = suc q.tries }
 
 begun_by : (cat : Catalogue) (c : ℕ) (table : List line.Entry) (clock : Ticking) (q : Queued) (queue : List Queued) (own mine : Bool) → own ≡ true → mine ≡ true
-    → map (tried q.number) queue ≡ queue
-    → line_of cat c (one_try q ∷ queue) (Some (start_of cat c table clock q))
+    → map (tried q.number) queue ≡ queue → line_of cat c (one_try q ∷ queue) (Some (start_of cat c table clock q))
     ≡ record {
       catalogue = cat;
       class = c;
@@ -210,8 +207,7 @@ none_active [] = refl
 none_active (q ∷ queue) = refl
 
 ended_by : (cat : Catalogue) (c : ℕ) (q : Queued) (queue : List Queued) (a : Option Attempt) (own mine : Bool) → own ≡ true → mine ≡ true
-    → filter (λ x. not (x.number == q.number)) queue ≡ queue
-    → line_of cat c queue None
+    → filter (λ x. not (x.number == q.number)) queue ≡ queue → line_of cat c queue None
     ≡ record {
       catalogue = cat;
       class = c;
@@ -242,8 +238,7 @@ pub begun_seen : (cat : Catalogue) (c : ℕ) (table : List line.Entry) (clock : 
 begun_seen cat c table clock [] q new before r line some first e f idle = absurd (omega arith)
 begun_seen cat c table clock (x ∷ queue) q new before r line some first e f idle =
     ap (λ y. line_of cat c (new ∷ queue) (Some y)) (f ∙ ap (start_of cat c table clock) first)
-    ∙ ap (λ y. line_of cat c (y ∷ queue) (Some (start_of cat c table clock x))) (e ∙ ap one_try first)
-    ∙ begun_view cat c table clock x queue line.distinct
+    ∙ ap (λ y. line_of cat c (y ∷ queue) (Some (start_of cat c table clock x))) (e ∙ ap one_try first) ∙ begun_view cat c table clock x queue line.distinct
     ∙ ap (λ a. line_done (start_next table clock (record (line_of cat c (x ∷ queue) None) { active = a })) (record (line_of cat c (x ∷ queue) None) { active = a })) (sym idle)
 
 pub ended_at : (cat : Catalogue) (c : ℕ) (queue rest : List Queued) (r : Option Running) → IsLine cat c queue r → rest ≡ drop 1 queue → IsLine cat c rest None

@@ -1,5 +1,5 @@
 -- The modules of READs, in both forms.
-use Rattle.sdd_attempt.proofs.All.{Beginning, Bool, D, DmNo, List, Msg, None, Notes, Site, Some, T, U, [], ap, append_assoc, cond, contains, false, filter_map, filter_map-append, get_or, length, map, map-append, module_of, module_read, option_map, read_to, reading, reads_to, refl, sym, take, take_more, true, ℕ, ◌++◌, ◌+◌, ◌<◌, ◌∙◌, ◌∷◌, ◌≡◌}
+use Rattle.sdd_attempt.proofs.All.{Beginning, Bool, D, DmNo, List, Msg, None, Notes, Site, Some, [], ap, append_assoc, cond, contains, false, filter_map, filter_map-append, get_or, length, map, map-append, module_of, module_read, option_map, read_to, reading, reads_to, refl, sym, take, take_more, true, ℕ, ◌++◌, ◌+◌, ◌<◌, ◌∙◌, ◌∷◌, ◌≡◌}
 use Rattle.sdd_attempt.proofs.Lists.{map_both, map-filter_map, map-filter_map_all}
 use Rattle.sdd_attempt.specs.Modules.{numbered, with_use}
 use Rattle.sdd_module.specs.wire.declared.msg.Msg.TheVariants as msgs
@@ -41,17 +41,14 @@ read_more b ds i d read l e =
     ∙ map-append (read_by b) (map (λ (n : DmNo). n.0) (take i ds)) ((get_or ds i d).0 ∷ []) ∙ ap (λ x. reads_till b ds i ++ x ∷ []) (sym e)
 
 pub sent_more : (b : Beginning) (ds : List DmNo) (i : ℕ) (d : DmNo) (read : Site × Msg) (first old new : Notes) → i < length ds
-    → read ≡ read_by b (get_or ds i d).0
-    → old ≡ record first { out = first.out ++ reads_till b ds i } → new ≡ record old { out = old.out ++ read ∷ [] }
+    → read ≡ read_by b (get_or ds i d).0 → old ≡ record first { out = first.out ++ reads_till b ds i } → new ≡ record old { out = old.out ++ read ∷ [] }
     → new ≡ record first { out = first.out ++ reads_till b ds (i + 1) }
 sent_more b ds i d read first old new l e f g =
-    g ∙ ap (λ (m : Notes). record m { out = m.out ++ read ∷ [] }) f
-    ∙ ap (λ out. record first { out = out })
+    g ∙ ap (λ (m : Notes). record m { out = m.out ++ read ∷ [] }) f ∙ ap (λ out. record first { out = out })
     (append_assoc first.out (reads_till b ds i) (read ∷ []) ∙ ap (λ reads. first.out ++ reads) (sym (read_more b ds i d read l e)))
 
 pub module_more : (b : Beginning) (ds : List DmNo) (i : ℕ) (d : DmNo) (read : Site × Msg) (old new : List (ℕ × List ℕ)) → i < length ds
-    → read ≡ read_by b (get_or ds i d).0
-    → old ≡ filter_map module_read (reads_till b ds i) → new ≡ old ++ filter_map module_read (read ∷ [])
+    → read ≡ read_by b (get_or ds i d).0 → old ≡ filter_map module_read (reads_till b ds i) → new ≡ old ++ filter_map module_read (read ∷ [])
     → new ≡ filter_map module_read (reads_till b ds (i + 1))
 module_more b ds i d read old new l e f g =
     g ∙ ap (λ ms. ms ++ filter_map module_read (read ∷ [])) f ∙ sym (filter_map-append module_read (reads_till b ds i) (read ∷ []))

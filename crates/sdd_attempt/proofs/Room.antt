@@ -1,5 +1,5 @@
 -- An exchange has room from its beginning to its end.
-use Rattle.sdd_attempt.proofs.All.{All, All-append, All-cons, All-head, All-nil, All-tail, All-weaker, AreAwaited, AreSmall, Asking, Bool, CarriesFew, Condition, Const, Delete, Equal, Exchange, Fetching, Greater, HasRoom, HasUnion, IsSmallQuery, IsSmallStatement, IsSmallText, JoinsWithin, Less, List, Move, Msg, None, Option, Ordering, Over, Phase, Put, Query, Reading, Reducing, Row, Same, Shipping, Site, Some, Step, Stmt, Txn, Update, Value, [], after_hand, after_send, answered, arith, asking_of, askings, begins, cond, contains, counted, counts_for, false, fetches, fetches_from, few_undone, fewer_left, filter_map, first_phase, for_move, for_phase, for_reduce, goes_on, if◌then◌else◌, insert_key, is_fetching, lacking, length, length-append, match_ordering, module_read, most_values, move_at, moves_left, mul-le, mul-le-mul_right, next_move, not, phase_ends, reduces, refl, subst, suc, suc-mul, sym, true, uses_in, value_cmp, with_use, with_values, without, ℕ, ◌&&◌, ◌*◌, ◌++◌, ◌+◌, ◌<◌, ◌==◌, ◌^◌, ◌||◌, ◌∷◌, ◌≡◌, ◌≤◌}
+use Rattle.sdd_attempt.proofs.All.{All, All-append, All-cons, All-head, All-nil, All-tail, All-weaker, AreAwaited, AreSmall, Asking, Bool, CarriesFew, Condition, Const, Exchange, Fetching, Greater, HasRoom, HasUnion, IsSmallQuery, IsSmallStatement, IsSmallText, JoinsWithin, List, Move, Msg, None, Option, Ordering, Over, Phase, Query, Row, Same, Shipping, Site, Some, Step, Stmt, Txn, Value, [], after_hand, after_send, answered, arith, asking_of, askings, begins, cond, contains, counted, counts_for, false, fetches, fetches_from, few_undone, fewer_left, filter_map, first_phase, for_move, for_phase, for_reduce, goes_on, if◌then◌else◌, insert_key, is_fetching, lacking, length, length-append, match_ordering, module_read, most_values, move_at, moves_left, mul-le, mul-le-mul_right, next_move, not, phase_ends, reduces, refl, subst, suc, suc-mul, sym, true, uses_in, value_cmp, with_use, with_values, without, ℕ, ◌&&◌, ◌*◌, ◌++◌, ◌+◌, ◌<◌, ◌==◌, ◌^◌, ◌||◌, ◌∷◌, ◌≡◌, ◌≤◌}
 use Rattle.sdd_attempt.proofs.Going.{goes_by, goes_split}
 use Rattle.sdd_attempt.proofs.Lists.{few_filtered, few_picked}
 use Rattle.sdd_module.specs.wire.declared.msg.Msg.TheVariants as msgs

@@ -1,5 +1,5 @@
 -- An attempt that may commit has rows that serve its database: only the last ROWS makes it so, or it has no module.
-use Rattle.sdd_attempt.proofs.All.{AnswersRead, Attempt, Bases, Bool, Catalogue, D, Database, DmNo, Exchange, Fetching, FitsAnswer, FitsRows, FitsRowsOf, IsAsking, IsAskingAt, IsServed, List, Log, Msg, None, Option, Over, Phase, Reading, Ready, Reduced, Reducing, Row, Rows, Serves, ServesIfLast, Setting, Shipping, Site, Some, T, Txn, U, Values, [], active, active_handed, after_hand, and_parts, answered, cond, counted, eqb-true, false, false≢true, fetches_use, handed, if◌then◌else◌, is_over, is_reading, is_shipping, lacking, length, phase_ends, reduces_use, refl, rejects, sent, subst, sym, true, with_values, without, ℕ, ◌&&◌, ◌++◌, ◌+◌, ◌==◌, ◌∙◌, ◌∷◌, ◌≡◌}
+use Rattle.sdd_attempt.proofs.All.{AnswersRead, Attempt, Bases, Bool, Catalogue, D, Database, DmNo, Exchange, FitsAnswer, FitsRows, FitsRowsOf, IsAsking, IsAskingAt, IsServed, List, Log, Msg, None, Option, Over, Phase, Ready, Reduced, Row, Rows, Serves, ServesIfLast, Setting, Shipping, Site, Some, Txn, Values, [], active, active_handed, after_hand, and_parts, answered, cond, counted, eqb-true, false, false≢true, fetches_use, handed, if◌then◌else◌, is_over, is_reading, is_shipping, lacking, length, phase_ends, reduces_use, refl, rejects, sent, subst, sym, true, with_values, without, ℕ, ◌&&◌, ◌++◌, ◌+◌, ◌==◌, ◌∙◌, ◌∷◌, ◌≡◌}
 use Rattle.sdd_attempt.proofs.Phases.{with_counts, with_union, with_rows, ready_not_over, values_not_over, reduced_not_over}
 use Rattle.sdd_attempt.proofs.Asking.{ready_awaited, of_class}
 
@@ -24,8 +24,7 @@ shipping_not_over Over e = absurd (false≢true e)
 shipping_not_over _ e = refl
 
 last_rows : (s : Setting) (bases : Bases) (a : Attempt) (rows : List (ℕ × Row)) (c : ℕ) (y : Exchange) → y.found ≡ a.exchange.found ++ rows
-    → is_shipping y.phase ≡ true → (ds : List ℕ) → ServesIfLast s bases a rows ds
-    → ServesOver s.catalogue a.text (bases a.ts) (lacking a.ts c y ds)
+    → is_shipping y.phase ≡ true → (ds : List ℕ) → ServesIfLast s bases a rows ds → ServesOver s.catalogue a.text (bases a.ts) (lacking a.ts c y ds)
 last_rows s bases a rows c y found e [] h =
     shipping_ends s.catalogue a.text (bases a.ts) a.ts c (record y { lacks = [] }) y.phase e (subst (λ f. Serves s.catalogue a.text f (bases a.ts)) (sym found) h)
 last_rows s bases a rows c y found e (d ∷ ds) h = λ over. absurd (false≢true (sym (shipping_not_over y.phase e) ∙ over))

@@ -225,8 +225,7 @@ start_asking cat table c k q sent handed early =
     (subst (AreReads reads) (sym (modules_read cat table c q uses own (bound_of k) ds)) (are_reads cat table c q uses own (bound_of k) ds ds (each_in ds)))
 
 pub line_started : (s : Setting) (table : List line.Entry) (c : ℕ) (log : Log) (q : Queued) (rest : List Queued) → queue s c log ≡ q ∷ rest → AreStamped s log
-    → IsLineOf s c log
-    → IsLineOf s c (Did (start_act s.catalogue table c (clock s.site log) q) ∷ log)
+    → IsLineOf s c log → IsLineOf s c (Did (start_act s.catalogue table c (clock s.site log) q) ∷ log)
 line_started s table c log q rest is stamped h =
     let act : Act = start_act s.catalogue table c (clock s.site log) q in
     let own : ℕ = timestamp (ticked (clock s.site log) 1) in

@@ -1,5 +1,5 @@
 -- The clock of a site only goes on, so no READ that it sent has a time that is still to come.
-use Rattle.sdd_attempt.proofs.All.{Act, AllUpTo, AreStamped, Ask, Did, Entry, Handed, Held, IsUpTo, List, Log, Msg, Read, Rec, Records, Redeclared, Reject, Release, Sends, Setting, Site, Start, Submits, Ticked, Ticking, [], and_left, arith, clock, false, is_read, ne_eqb, pushed, pushed_by, refl, sends_of_act, sent, subst, sym, ticked_by, timestamp, ℕ, ◌++◌, ◌<◌, ◌==◌, ◌∷◌, ◌≡◌, ◌≤◌}
+use Rattle.sdd_attempt.proofs.All.{Act, AllUpTo, AreStamped, Ask, Did, Entry, Handed, Held, IsUpTo, List, Log, Msg, Read, Rec, Records, Redeclared, Reject, Release, Sends, Setting, Site, Start, Ticking, [], and_left, arith, clock, false, is_read, ne_eqb, pushed, pushed_by, refl, sends_of_act, sent, subst, sym, ticked_by, timestamp, ℕ, ◌++◌, ◌<◌, ◌==◌, ◌∷◌, ◌≡◌, ◌≤◌}
 
 -- the clock
 

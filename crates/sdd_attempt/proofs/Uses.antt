@@ -1,5 +1,5 @@
 -- The uses of a transaction and their fragments: each is there, and they are few.
-use Rattle.sdd_attempt.proofs.All.{All, All-append, All-cons, All-from_recursion, All-head, All-nil, All-tail, All-weaker, AllByRecursion, AreThere, Bool, Catalogue, Condition, Const, Delete, Equal, Fits, FitsCondition, FitsStatement, FragNo, Greater, IsClassOf, IsSmallStatement, IsSmallText, IsThere, IsWhole, JoinsWithin, Less, List, Ordering, Put, Query, RelNo, Restriction, Same, Stmt, Txn, Update, Use, [], allowed_keys, ap, arith, ascending, conditions, conditions_at, false, filter, filter_map, flat_map-append, fold, frag_no, fragments_for, fragments_in, fragments_there, if◌then◌else◌, insert_key, key_column, length, length-append, length-range_with_len, map, match_ordering, meets_keys, modules_of, nat_cmp, nat_tests, numbers_to, part_uses, reads_at, refl, restrictions_of, statement_uses, suc, sym, true, undeclared_conditions, uses_from, uses_of, ℕ, ◌*◌, ◌+◌, ◌==◌, ◌∙◌, ◌∷◌, ◌≡◌, ◌≤◌}
+use Rattle.sdd_attempt.proofs.All.{All, All-append, All-cons, All-from_recursion, All-head, All-nil, All-tail, All-weaker, AllByRecursion, AreThere, Bool, Catalogue, Condition, Const, Delete, Fits, FitsCondition, FitsStatement, FragNo, Greater, IsClassOf, IsSmallStatement, IsSmallText, IsThere, IsWhole, JoinsWithin, List, Ordering, Put, Query, RelNo, Restriction, Same, Stmt, Txn, Update, Use, [], allowed_keys, ap, arith, ascending, conditions, conditions_at, false, filter, filter_map, flat_map-append, fold, frag_no, fragments_for, fragments_in, fragments_there, if◌then◌else◌, insert_key, key_column, length, length-append, length-range_with_len, map, match_ordering, meets_keys, modules_of, nat_cmp, nat_tests, numbers_to, part_uses, reads_at, refl, restrictions_of, statement_uses, suc, sym, true, undeclared_conditions, uses_from, uses_of, ℕ, ◌*◌, ◌+◌, ◌==◌, ◌∙◌, ◌∷◌, ◌≡◌, ◌≤◌}
 use Rattle.sdd_attempt.proofs.Lists.{few_filtered, few_picked}
 use Rattle.sdd_module.specs.protocol.declared.entry.Entry as line
 
@@ -23,8 +23,7 @@ parts_there cat before conds part [] = All-nil (λ (u : Use). AreThere cat u.fra
 parts_there cat before conds part (rel ∷ rels) =
     All-cons (λ (u : Use). AreThere cat u.frags)
     (record { number = before + part; rel = rel; frags = fragments_for cat rel.0 (restrictions_of part conds); restrictions = restrictions_of part conds })
-    (part_uses cat before conds (part + 1) rels)
-    (use_there cat rel.0 (restrictions_of part conds)) (parts_there cat before conds (part + 1) rels)
+    (part_uses cat before conds (part + 1) rels) (use_there cat rel.0 (restrictions_of part conds)) (parts_there cat before conds (part + 1) rels)
 
 statement_there : (cat : Catalogue) (before : ℕ) (s : Stmt) → UsesThere cat (statement_uses cat before s)
 statement_there cat before (Put rel row) = All-nil (λ (u : Use). AreThere cat u.frags)
@@ -51,8 +50,7 @@ not_zero : (c : ℕ) → 1 ≤ c → (c == 0) ≡ false
 not_zero c some = grind (arith, nat_tests)
 
 pub declared_at : (cat : Catalogue) (table : List line.Entry) (c : ℕ) (frags : List ℕ) (fs : List FragNo) (own p2 d : ℕ) → IsClassOf cat c
-    → map (λ (f : FragNo). f.0) fs ≡ frags
-    → conditions cat table c d fs own p2 ≡ conditions_at cat table c frags own p2 d
+    → map (λ (f : FragNo). f.0) fs ≡ frags → conditions cat table c d fs own p2 ≡ conditions_at cat table c frags own p2 d
 declared_at cat table c frags fs own p2 d class e =
     ap (λ l. conditions cat table c d l own p2) (sym (frags_back fs) ∙ ap (map frag_no) e)
     ∙ sym (ap (λ (b : Bool). if b then undeclared_conditions cat own else conditions cat table c d (map frag_no frags) own p2) (not_zero c class.from))

@@ -19,7 +19,4 @@ loop-query-preserved c =
     let small : AreSmall c.self.inside.left.items = subst (λ (y : Exchange). AreSmall y.left) (sym c.self.view_is) c.loop-query.invariant.small in
     let next = past_first c.args.ts.0 c.args.class.0 _ c.loop-query.self c.in-Some.query.now _ _ c.clear.new.self.items c.pop_front.new.self.items _ c.self.view_is c.in-Some.ensures.item.3.0 c.in-Some.ensures.lookup
     (c.deref.ensures.value ∙ c.in_ok-counts.ensures) c.deref-in-Some.ensures.value c.in-None.is c.next_reduction.ensures c.pop_front.ensures.rest c.clear.ensures.items in
-    record {
-      small = subst AreSmall (sym c.pop_front.ensures.rest) (small_rest c.self.inside.left.items small);
-      goes = next ∙ c.loop-query.invariant.goes;
-    }
+    record { small = subst AreSmall (sym c.pop_front.ensures.rest) (small_rest c.self.inside.left.items small); goes = next ∙ c.loop-query.invariant.goes }
