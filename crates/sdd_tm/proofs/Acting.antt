@@ -1,5 +1,5 @@
 -- A class that has a step makes the act that is due, and the module keeps what follows from the log.
-use Rattle.sdd_tm.proofs.All.{Act, AllByRecursion, AllUpTo, Answer, Attempt, Bases, Bool, ClassState, Commit, D, Did, InTurn, IsAmid, IsCalm, IsLineOf, IsOfHead, IsRequest, IsServed, IsSound, IsWaiting, List, Log, Msg, NoReads, None, Notes, Null, Option, Queued, Send, Sends, Setting, Some, Start, State, Step, Ticking, ToCommit, ToSend, [], act_of, active, active_after, active_apart, all_starts, all_up_of, answer_time, answer_to, ap, arith, asking_of, asks, asks_apart, asks_done, asks_of, begins, can_answer, class_no, class_of, class_step, class_view, clock, commit_act, commit_next, commit_no_reads, commits, dm_no, false, false≢true, filter, find, handed, hands, has_to_send, head_of, holds, holds_acted, in_force, is_empty, is_none, line_after, line_apart, line_committed, line_elsewhere, line_sent, line_started, line_step, list_any, map, next, no_read_asked, not, noted, on_hold, option_map, own_record, queue, queue_after, record_in, refl, request_of, runs, send_due, send_next, sends_of_act, sent, served_sent, slice_get, slice_set, stamped_did, start_act, start_due, start_is_up, start_next, start_no_reads, started, starts_committed, starts_left, starts_sent, starts_started, state_done, state_of, submits, subst, suc, sym, ticked, ticked_by, time_at, timestamp, tried, true, view_of, with_act, ℕ, ◌&&◌, ◌+◌, ◌<◌, ◌==◌, ◌^◌, ◌∙◌, ◌∷◌, ◌≡◌, ◌≢◌, ◌≤◌}
+use Rattle.sdd_tm.proofs.All.{Act, AllByRecursion, AllUpTo, Answer, Attempt, Bases, Bool, ClassState, Commit, D, Did, InTurn, IsAmid, IsCalm, IsLineOf, IsOfHead, IsRequest, IsServed, IsSound, IsWaiting, List, Log, Msg, NoReads, None, Notes, Null, Option, Queued, Send, Sends, Setting, Some, Start, State, Step, Ticking, ToCommit, ToSend, act_of, active, active_after, active_apart, all_starts, all_up_of, answer_time, answer_to, ap, arith, asking_of, asks, asks_apart, asks_done, asks_of, begins, can_answer, class_no, class_of, class_step, class_view, clock, commit_act, commit_next, commit_no_reads, commits, dm_no, false, false≢true, filter, find, handed, hands, has_to_send, head_of, holds, holds_acted, in_force, is_empty, is_none, line_after, line_apart, line_committed, line_elsewhere, line_sent, line_started, line_step, list_any, map, next, no_read_asked, not, noted, on_hold, option_map, own_record, queue, queue_after, record_in, refl, request_of, runs, send_due, send_next, sends_of_act, sent, served_sent, slice_get, slice_set, stamped_did, start_act, start_due, start_is_up, start_next, start_no_reads, started, starts_committed, starts_left, starts_sent, starts_started, state_done, state_of, submits, subst, suc, sym, ticked, ticked_by, time_at, timestamp, tried, true, view_of, with_act, ℕ, ◌&&◌, ◌+◌, ◌<◌, ◌==◌, ◌^◌, ◌∙◌, ◌∷◌, ◌≡◌, ◌≢◌, ◌≤◌}
 use Rattle.sdd_tm.proofs.Lists.{some_is, get_map, of_map, by_order}
 use Rattle.sdd_tm.proofs.ClassNumbers.{runs_apart, runs_class}
 use Rattle.sdd_tm.proofs.OpenAsks.{open_did, first_answered}
@@ -14,13 +14,11 @@ use Rattle.sdd_attempt.specs.protocol.declared.entry.Entry as line
 each_class : (s : Setting) (P : ℕ → Type 0) (place c : ℕ) → slice_get (runs s) place ≡ Some c → P c
     → ((i d : ℕ) → slice_get (runs s) i ≡ Some d → i ≢ place → P d) → (i d : ℕ) → slice_get (runs s) i ≡ Some d → P d
 each_class s P place c e own others i d f =
-    by_order (P d) i place (λ l. others i d f (λ q. absurd (omega arith)))
-    (λ same. subst P (some_is (sym e ∙ ap (slice_get (runs s)) (sym same) ∙ f)) own)
+    by_order (P d) i place (λ l. others i d f (λ q. absurd (omega arith))) (λ same. subst P (some_is (sym e ∙ ap (slice_get (runs s)) (sym same) ∙ f)) own)
     (λ l. others i d f (λ q. absurd (omega arith)))
 
 -- The act that a class makes by its step is the one that is due, and then the module keeps what follows from the log.
-pub record Makes (s : Setting) (bases : Bases) (log : Log) (place : ℕ) (k : ClassState) (step : Step)
-    (state : State) : Type 0 where
+pub record Makes (s : Setting) (bases : Bases) (log : Log) (place : ℕ) (k : ClassState) (step : Step) (state : State) : Type 0 where
   pub act : Act
   pub is_due : next s bases log ≡ Some act
   pub notes : (n : Notes) → noted (act_of bases state.force.table state.clock k step) n ≡ with_act act n
@@ -32,8 +30,7 @@ class_made step act k = record { line = line_after act k.line; asks = asks_done 
 abbrev with_class : ℕ → Ticking → ClassState → State → State
 with_class place clock new state = record state { clock = clock; classes = slice_set state.classes place new }
 
-done_is : (bases : Bases) (place : ℕ) (k : ClassState) (step : Step) (state : State) (act : Act)
-    → act_of bases state.force.table state.clock k step ≡ Some act
+done_is : (bases : Bases) (place : ℕ) (k : ClassState) (step : Step) (state : State) (act : Act) → act_of bases state.force.table state.clock k step ≡ Some act
     → with_class place (ticked_by act state.clock) (class_made step act k) state ≡ state_done bases place k step state
 done_is bases place k step state act e = rw e refl
 
@@ -51,11 +48,9 @@ amid_after : (s : Setting) (bases : Bases) (log : Log) (place c : ℕ) (step : S
     → act_of bases (state_of s log).force.table (state_of s log).clock (class_of s log c) step ≡ Some made
     → state_of s (Did act ∷ log) ≡ with_class place (ticked_by made (clock s.site log))
     (class_made step made (class_of s log c)) (state_of s log)
-    → IsSound s (Did act ∷ log)
-    → ((i d : ℕ) → slice_get (runs s) i ≡ Some d → IsServed s.catalogue bases (active s d (Did act ∷ log)))
+    → IsSound s (Did act ∷ log) → ((i d : ℕ) → slice_get (runs s) i ≡ Some d → IsServed s.catalogue bases (active s d (Did act ∷ log)))
     → (ticked_by made (clock s.site log)).ticks + starts_left (line_after made (class_of s log c).line).active
-    (line_after made (class_of s log c).line).queue ≤ (clock s.site log).ticks + starts_left (active s c log)
-    (queue s c log)
+    (line_after made (class_of s log c).line).queue ≤ (clock s.site log).ticks + starts_left (active s c log) (queue s c log)
     → IsAmid s bases (state_done bases place (class_of s log c) step (state_of s log)) (Did act ∷ log)
 amid_after s bases log place c step act made amid e makes after sound served less =
     let k : ClassState = class_of s log c in
@@ -74,20 +69,17 @@ amid_after s bases log place c step act made amid e makes after sound served les
 -- a message of an exchange
 
 sends_sound : (s : Setting) (log : Log) (place c : ℕ) (a : Attempt) (act : Act) → IsSound s log
-    → slice_get (runs s) place ≡ Some c → active s c log ≡ Some a → send_due a.exchange ≡ Some act
-    → IsRequest c a act → IsSound s (Did act ∷ log)
+    → slice_get (runs s) place ≡ Some c → active s c log ≡ Some a → send_due a.exchange ≡ Some act → IsRequest c a act → IsSound s (Did act ∷ log)
 sends_sound s log place c a act sound e is send request =
     let others : (i d : ℕ) → slice_get (runs s) i ≡ Some d → i ≢ place → IsLineOf s d (Did act ∷ log) = λ i d f apart.
     rw request.act_is (line_apart s d log (D (dm_no request.to)) request.msg None
-    (asks_apart a.ts c d request.msg request.asks (runs_apart s place i c d e f (λ q. apart (sym q))))
-    (sound.lines i d f)) in
+    (asks_apart a.ts c d request.msg request.asks (runs_apart s place i c d e f (λ q. apart (sym q)))) (sound.lines i d f)) in
     let up : (t : ℕ) → AllUpTo t (sends_of_act act) =
     λ t. rw request.act_is (no_read_asked t a.ts c request.msg request.asks, tt) in
     let same : holds_acted act (holds log) ≡ holds log =
     rw request.act_is (no_held a.ts c (D (dm_no request.to)) request.msg (holds log) request.asks) in
     record {
-      lines = each_class s (λ d. IsLineOf s d (Did act ∷ log)) place c e
-          (line_sent s c log act a is send (sound.lines place c e)) others;
+      lines = each_class s (λ d. IsLineOf s d (Did act ∷ log)) place c e (line_sent s c log act a is send (sound.lines place c e)) others;
       stamped = stamped_did s log act sound.stamped (up _);
       unanswered = open_did log act sound.unanswered;
       turns = subst InTurn (sym same) sound.turns;
@@ -98,8 +90,7 @@ makes_send : (s : Setting) (bases : Bases) (log : Log) (place end c : ℕ) → I
     → line_step (active s c log) ≡ Some ToSend → Makes s bases log place (class_of s log c) Send (state_of s log)
 makes_send s bases log place end c amid calm e h =
     let r = has_to_send (active s c log) h in
-    let request = request_of c (sent log) (handed log) r.attempt r.act
-    (asking_of s log c r.attempt (amid.sound.lines place c e) r.active) r.send in
+    let request = request_of c (sent log) (handed log) r.attempt r.act (asking_of s log c r.attempt (amid.sound.lines place c e) r.active) r.send in
     let made_by : send_next (active s c log) ≡ Some r.act = ap send_next r.active ∙ r.send in
     let ticks : ticked_by r.act (clock s.site log) ≡ clock s.site log = rw request.act_is refl in
     let after = after_request s log place c r.attempt r.act e request in
@@ -135,18 +126,15 @@ makes_commit s bases log place end c amid calm e h =
     let less = starts_committed a (queue s c log) head in
     let before : starts_left (active s c log) (queue s c log) ≡ starts_left (Some a) (queue s c log) =
     ap (λ o. starts_left o (queue s c log)) r.active in
-    let after : starts_left (active_after c act (queue s c log) (active s c log))
-    (queue_after c act (queue s c log)) ≡ starts_left None
+    let after : starts_left (active_after c act (queue s c log) (active s c log)) (queue_after c act (queue s c log)) ≡ starts_left None
     (filter (λ q. not (q.number == a.txn)) (queue s c log)) = rw (none, left) refl in
     record {
       act = act;
       is_due = attempt_is_due s bases log place end calm c act e (r.due s.catalogue bases c);
       notes = λ n. ap (λ o. noted o n) made_by;
-      amid = amid_after s bases log place c Commit act act amid e made_by
-          (after_record s log place c (record_in act) (sends_of_act act) e)
+      amid = amid_after s bases log place c Commit act act amid e made_by (after_record s log place c (record_in act) (sends_of_act act) e)
           (record {
-            lines = each_class s (λ d. IsLineOf s d (Did act ∷ log)) place c e
-                (line_committed s bases c log a (amid.sound.lines place c e))
+            lines = each_class s (λ d. IsLineOf s d (Did act ∷ log)) place c e (line_committed s bases c log a (amid.sound.lines place c e))
                 (λ i d f apart. line_elsewhere s d c log (record_in act) (sends_of_act act)
                 (runs_apart s place i c d e f (λ q. apart (sym q))) (λ ts. no_reads ts d) (amid.sound.lines i d f));
             stamped = stamped_did s log act amid.sound.stamped (all_up_of _ (sends_of_act act) no_reads);
@@ -157,39 +145,33 @@ makes_commit s bases log place end c amid calm e h =
           (subst (IsServed s.catalogue bases) (sym none) tt)
           (λ i d f apart. subst (IsServed s.catalogue bases)
           (sym (active_apart d c (record_in act) (sends_of_act act) (queue s d log) (active s d log)
-          (runs_apart s place i c d e f (λ q. apart (sym q))))) (amid.served i d f)))
-          (omega arith);
+          (runs_apart s place i c d e f (λ q. apart (sym q))))) (amid.served i d f))) (omega arith);
     }
 
 -- a NULL
 
 makes_answer : (s : Setting) (bases : Bases) (log : Log) (place end c : ℕ) → IsAmid s bases (state_of s log) log
     → IsCalm place end (state_of s log) → slice_get (runs s) place ≡ Some c → line_step (active s c log) ≡ None
-    → list_any (can_answer (active s c log)) (asks_of c (asks log)) ≡ true
-    → Makes s bases log place (class_of s log c) Answer (state_of s log)
+    → list_any (can_answer (active s c log)) (asks_of c (asks log)) ≡ true → Makes s bases log place (class_of s log c) Answer (state_of s log)
 makes_answer s bases log place end c amid calm e h can =
     let first = first_answered (view_of s log) (class_view s log c) 0 (hands log) (asks log) amid.sound.unanswered.rise can in
     let time : ℕ = answer_time (clock s.site log) (active s c log) in
     let m : Msg = Null (class_no c) (time_at time) in
     let act : Act = Sends first.question.from m (Some first.question.hand) in
     let made : Act = Sends first.question.from m None in
-    let made_by : answer_to (clock s.site log) (class_of s log c).line
-    (find (can_answer (active s c log)) (asks_of c (asks log))) ≡ Some made =
+    let made_by : answer_to (clock s.site log) (class_of s log c).line (find (can_answer (active s c log)) (asks_of c (asks log))) ≡ Some made =
     ap (answer_to (clock s.site log) (class_of s log c).line) first.found in
     record {
       act = act;
       is_due = null_is_due s bases log place end calm c act e h first.due;
       notes = λ n. ap (λ o. noted o n) made_by;
-      amid = amid_after s bases log place c Answer act made amid e made_by
-          (after_null s log place c e first time)
+      amid = amid_after s bases log place c Answer act made amid e made_by (after_null s log place c e first time)
           (record {
-            lines = λ i d f. line_apart s d log first.question.from m (Some first.question.hand)
-                (null_apart c d time) (amid.sound.lines i d f);
+            lines = λ i d f. line_apart s d log first.question.from m (Some first.question.hand) (null_apart c d time) (amid.sound.lines i d f);
             stamped = stamped_did s log act amid.sound.stamped (tt, tt);
             unanswered = open_did log act amid.sound.unanswered;
             turns = amid.sound.turns;
-          })
-          (λ i d f. served_sent s.catalogue bases d m (active s d log) (amid.served i d f))
+          }) (λ i d f. served_sent s.catalogue bases d m (active s d log) (amid.served i d f))
           (let same = starts_sent c m (active s c log) (queue s c log) in omega arith);
     }
 
@@ -203,16 +185,14 @@ pub record MayStart (on : Bool) (o : Option Attempt) (qs : List Queued) : Type 0
   pub idle : o ≡ None
   pub queue_is : qs ≡ first ∷ rest
 
-pub may_start : (on : Bool) (o : Option Attempt) (qs : List Queued)
-    → (not on && (is_none o && not (is_empty qs))) ≡ true → MayStart on o qs
+pub may_start : (on : Bool) (o : Option Attempt) (qs : List Queued) → (not on && (is_none o && not (is_empty qs))) ≡ true → MayStart on o qs
 may_start false None (q ∷ rest) e = record { first = q; rest = rest; off = refl; idle = refl; queue_is = refl }
 may_start _ _ _ e = absurd (false≢true e)
 
 makes_start : (s : Setting) (bases : Bases) (log : Log) (place end c : ℕ) → IsAmid s bases (state_of s log) log
     → IsCalm place end (state_of s log) → slice_get (runs s) place ≡ Some c → line_step (active s c log) ≡ None
     → list_any (can_answer (active s c log)) (asks_of c (asks log)) ≡ false → (q : Queued) (rest : List Queued)
-    → on_hold (view_of s log) ≡ false → active s c log ≡ None → queue s c log ≡ q ∷ rest
-    → Makes s bases log place (class_of s log c) Start (state_of s log)
+    → on_hold (view_of s log) ≡ false → active s c log ≡ None → queue s c log ≡ q ∷ rest → Makes s bases log place (class_of s log c) Start (state_of s log)
 makes_start s bases log place end c amid calm e h cannot q rest off idle is =
     let k : Ticking = clock s.site log in
     let table : List line.Entry = (in_force s log).table in
@@ -225,8 +205,7 @@ makes_start s bases log place end c amid calm e h cannot q rest off idle is =
     let waiting : IsWaiting s.catalogue c (submits log) q =
     (subst (λ qs. AllByRecursion (IsWaiting s.catalogue c (submits log)) qs) is own_line.in_queue.waiting).0 in
     let begun : active_after c act (queue s c log) (active s c log) ≡ started own (sends_of_act act) (Some q) =
-    own_record c (started own (sends_of_act act) (head_of (queue s c log))) (active s c log)
-    ∙ ap (λ qs. started own (sends_of_act act) (head_of qs)) is in
+    own_record c (started own (sends_of_act act) (head_of (queue s c log))) (active s c log) ∙ ap (λ qs. started own (sends_of_act act) (head_of qs)) is in
     let left : queue_after c act (queue s c log) ≡ map (tried q.number) (q ∷ rest) =
     own_record c (map (tried q.number) (queue s c log)) (queue s c log) ∙ ap (map (tried q.number)) is in
     let before : starts_left (active s c log) (queue s c log) ≡ starts_left None (q ∷ rest) = rw (idle, is) refl in
@@ -244,15 +223,12 @@ makes_start s bases log place end c amid calm e h cannot q rest off idle is =
       act = act;
       is_due = start_is_due s bases log place end calm c act e h cannot off due;
       notes = λ n. ap (λ o. noted o n) made_by;
-      amid = amid_after s bases log place c Start act act amid e made_by
-          (after_record s log place c (record_in act) (sends_of_act act) e)
+      amid = amid_after s bases log place c Start act act amid e made_by (after_record s log place c (record_in act) (sends_of_act act) e)
           (record {
-            lines = each_class s (λ d. IsLineOf s d (Did act ∷ log)) place c e
-                (line_started s table c log q rest is amid.sound.stamped own_line)
+            lines = each_class s (λ d. IsLineOf s d (Did act ∷ log)) place c e (line_started s table c log q rest is amid.sound.stamped own_line)
                 (λ i d f apart. line_elsewhere s d c log (record_in act) (sends_of_act act)
                 (runs_apart s place i c d e f (λ r. apart (sym r)))
-                (λ ts. start_no_reads s.catalogue table c k q ts d
-                (runs_apart s place i c d e f (λ r. apart (sym r)))) (amid.sound.lines i d f));
+                (λ ts. start_no_reads s.catalogue table c k q ts d (runs_apart s place i c d e f (λ r. apart (sym r)))) (amid.sound.lines i d f));
             stamped = stamped_did s log act amid.sound.stamped (start_is_up s.catalogue table c k q);
             unanswered = open_did log act amid.sound.unanswered;
             turns = amid.sound.turns;
@@ -262,8 +238,7 @@ makes_start s bases log place end c amid calm e h cannot q rest off idle is =
           amid.setting.valid amid.databases (runs_class s place c e).0 waiting))
           (λ i d f apart. subst (IsServed s.catalogue bases)
           (sym (active_apart d c (record_in act) (sends_of_act act) (queue s d log) (active s d log)
-          (runs_apart s place i c d e f (λ r. apart (sym r))))) (amid.served i d f)))
-          (omega arith);
+          (runs_apart s place i c d e f (λ r. apart (sym r))))) (amid.served i d f))) (omega arith);
     }
 
 -- a step
@@ -284,13 +259,11 @@ pub makes : (s : Setting) (bases : Bases) (state : State) (log : Log) (place end
     → class_step state.on_hold k ≡ Some step → Makes s bases log place k step state
 makes s bases state log place end k step amid calm here steps =
     let is : state_of s log ≡ state = amid.state_is in
-    let r = of_map (class_of s log) (runs s) place k (subst (λ (st : State). slice_get st.classes place ≡ Some k)
-    (sym is) here) in
+    let r = of_map (class_of s log) (runs s) place k (subst (λ (st : State). slice_get st.classes place ≡ Some k) (sym is) here) in
     let whole : class_step (on_hold (view_of s log)) (class_of s log r.0) ≡ Some step =
     subst (λ x. class_step (on_hold (view_of s log)) x ≡ Some step) (sym r.2)
     (subst (λ (st : State). class_step st.on_hold k ≡ Some step) (sym is) steps) in
     let m = makes_step s bases log place end r.0 step (subst (λ st. IsAmid s bases st log) (sym is) amid)
     (subst (IsCalm place end) (sym is) calm) r.1 (step_is (on_hold (view_of s log)) (class_of s log r.0) step
     whole) in
-    subst (λ x. Makes s bases log place x step state) r.2
-    (subst (λ st. Makes s bases log place (class_of s log r.0) step st) is m)
+    subst (λ x. Makes s bases log place x step state) r.2 (subst (λ st. Makes s bases log place (class_of s log r.0) step st) is m)

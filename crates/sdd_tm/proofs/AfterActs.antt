@@ -6,34 +6,29 @@ use Rattle.sdd_tm.proofs.OpenAsks.{IsFirst}
 
 -- the other classes are kept as they were
 abbrev pub OthersStay : Setting → Log → Act → ℕ → Type 0
-OthersStay s log act place = (i c : ℕ) → slice_get (runs s) i ≡ Some c → i ≢ place
-    → class_of s (Did act ∷ log) c ≡ class_of s log c
+OthersStay s log act place = (i c : ℕ) → slice_get (runs s) i ≡ Some c → i ≢ place → class_of s (Did act ∷ log) c ≡ class_of s log c
 
 abbrev with_class : ℕ → Ticking → ClassState → State → State
 with_class place clock new state = record state { clock = clock; classes = slice_set state.classes place new }
 
 state_did : (s : Setting) (log : Log) (act : Act) (place c : ℕ) → slice_get (runs s) place ≡ Some c
-    → holds_acted act (holds log) ≡ holds log → OthersStay s log act place
-    → state_of s (Did act ∷ log) ≡ with_class place (ticked_by act (clock s.site log))
+    → holds_acted act (holds log) ≡ holds log → OthersStay s log act place → state_of s (Did act ∷ log) ≡ with_class place (ticked_by act (clock s.site log))
     (class_of s (Did act ∷ log) c) (state_of s log)
 state_did s log act place c e same others =
-    let classes : map (class_of s (Did act ∷ log)) (runs s) ≡ slice_set (map (class_of s log) (runs s)) place
-    (class_of s (Did act ∷ log) c) =
+    let classes : map (class_of s (Did act ∷ log)) (runs s) ≡ slice_set (map (class_of s log) (runs s)) place (class_of s (Did act ∷ log) c) =
     map_is_set (class_of s (Did act ∷ log)) (class_of s log) (runs s) place c (class_of s (Did act ∷ log) c) e refl others in
     rw (same, classes) refl
 
 -- a class after an act, by its parts
 abbrev class_by : Setting → ℕ → List Queued → Option Attempt → List Asked → ClassState
-class_by s c queue active asks =
-    record { line = record { catalogue = s.catalogue; class = c; queue = queue; active = active }; asks = asks }
+class_by s c queue active asks = record { line = record { catalogue = s.catalogue; class = c; queue = queue; active = active }; asks = asks }
 
 class_stays : (s : Setting) (log : Log) (act : Act) (c : ℕ) → queue_after c act (queue s c log) ≡ queue s c log
     → active_after c act (queue s c log) (active s c log) ≡ active s c log
     → asks_of c (asks_acted act (asks log)) ≡ asks_of c (asks log) → class_of s (Did act ∷ log) c ≡ class_of s log c
 class_stays s log act c e f g =
     ap (λ q. class_by s c q (active_after c act (queue s c log) (active s c log)) (asks_of c (asks_acted act (asks log)))) e
-    ∙ ap (λ a. class_by s c (queue s c log) a (asks_of c (asks_acted act (asks log)))) f
-    ∙ ap (class_by s c (queue s c log) (active s c log)) g
+    ∙ ap (λ a. class_by s c (queue s c log) a (asks_of c (asks_acted act (asks log)))) f ∙ ap (class_by s c (queue s c log) (active s c log)) g
 
 -- a message that answers no hand leaves the ASKs
 
@@ -51,20 +46,14 @@ request_others : (s : Setting) (log : Log) (ts place c : ℕ) (to : Site) (m : M
     → slice_get (runs s) place ≡ Some c → asks_rows ts c m ≡ true → OthersStay s log (Sends to m None) place
 request_others s log ts place c to m e asks_for i d f apart =
     class_stays s log (Sends to m None) d refl
-    (sent_apart d m (active s d log)
-    (asks_apart ts c d m asks_for (runs_apart s place i c d e f (λ q. apart (sym q)))))
+    (sent_apart d m (active s d log) (asks_apart ts c d m asks_for (runs_apart s place i c d e f (λ q. apart (sym q)))))
     (ap (asks_of d) (all_there (asks log)))
 
 request_own : (s : Setting) (log : Log) (c : ℕ) (to : Site) (m : Msg)
-    → class_of s (Did (Sends to m None) ∷ log) c ≡ record {
-      line = line_after (Sends to m None) (class_of s log c).line;
-      asks = asks_of c (asks log);
-    }
-request_own s log c to m =
-    ap (λ qs. class_by s c (queue s c log) (active_sent c m (active s c log)) (asks_of c qs)) (all_there (asks log))
+    → class_of s (Did (Sends to m None) ∷ log) c ≡ record { line = line_after (Sends to m None) (class_of s log c).line; asks = asks_of c (asks log) }
+request_own s log c to m = ap (λ qs. class_by s c (queue s c log) (active_sent c m (active s c log)) (asks_of c qs)) (all_there (asks log))
 
-pub after_request : (s : Setting) (log : Log) (place c : ℕ) (a : Attempt) (act : Act)
-    → slice_get (runs s) place ≡ Some c → IsRequest c a act
+pub after_request : (s : Setting) (log : Log) (place c : ℕ) (a : Attempt) (act : Act) → slice_get (runs s) place ≡ Some c → IsRequest c a act
     → state_of s (Did act ∷ log) ≡ with_class place (clock s.site log)
     (record { line = line_after act (class_of s log c).line; asks = asks_of c (asks log) }) (state_of s log)
 after_request s log place c a act e is =
@@ -86,10 +75,8 @@ records_others s log place c r sends e i d f apart =
 pub after_record : (s : Setting) (log : Log) (place c : ℕ) (r : Rec) (sends : List (Site × Msg))
     → slice_get (runs s) place ≡ Some c → state_of s (Did (Records c r sends) ∷ log)
     ≡ with_class place (ticked_by (Records c r sends) (clock s.site log))
-    (record { line = line_after (Records c r sends) (class_of s log c).line; asks = asks_of c (asks log) })
-    (state_of s log)
-after_record s log place c r sends e =
-    state_did s log (Records c r sends) place c e refl (records_others s log place c r sends e)
+    (record { line = line_after (Records c r sends) (class_of s log c).line; asks = asks_of c (asks log) }) (state_of s log)
+after_record s log place c r sends e = state_did s log (Records c r sends) place c e refl (records_others s log place c r sends e)
 
 -- a NULL
 
@@ -103,8 +90,7 @@ pub after_null : (s : Setting) (log : Log) (place c : ℕ) → slice_get (runs s
     (record {
       line = line_after (Sends first.question.from (Null (class_no c) (time_at time)) None) (class_of s log c).line;
       asks = without_first (can_answer (active s c log)) (asks_of c (asks log));
-    })
-    (state_of s log)
+    }) (state_of s log)
 after_null s log place c e first time =
     let m : Msg = Null (class_no c) (time_at time) in
     let act : Act = Sends first.question.from m (Some first.question.hand) in

@@ -1,6 +1,5 @@
 -- How several classes have a transaction: the first that has it tells.
-use Rattle.sdd_tm.proofs.All.{Absent, ClassState, List, Standing, Underway, [], add-one, ap, arith, drop, length, map, or_standing, refl, slice_index_or, standing_among, standing_of, suc, sym, zero, ℕ, ◌+◌, ◌<◌, ◌∷◌, ◌≡◌, ◌≢◌, ◌≤◌}
-use Rattle.sdd_attempt.specs.declared.standing.Standing.TheVariants.{Queued}
+use Rattle.sdd_tm.proofs.All.{Absent, ClassState, List, Standing, [], add-one, ap, arith, drop, length, map, or_standing, refl, slice_index_or, standing_among, standing_of, suc, sym, zero, ℕ, ◌+◌, ◌<◌, ◌∷◌, ◌≡◌, ◌≢◌, ◌≤◌}
 
 -- those from a place on
 abbrev pub standing_from : List ClassState → ℕ → ℕ → Standing
@@ -10,8 +9,7 @@ standing_next : (runs : List ClassState) (i n : ℕ) (run : ClassState) → run 
     → standing_from runs i n ≡ or_standing (standing_of run.line n) (standing_from runs (suc i) n)
 standing_next [] i n run e within = absurd (omega arith)
 standing_next (x ∷ runs) zero n run e within =
-    ap (λ (k : ClassState). or_standing (standing_of k.line n)
-    (standing_among (map (λ (k : ClassState). k.line) runs) n)) (sym e)
+    ap (λ (k : ClassState). or_standing (standing_of k.line n) (standing_among (map (λ (k : ClassState). k.line) runs) n)) (sym e)
 standing_next (x ∷ runs) (suc i) n run e within = standing_next runs i n run e (omega arith)
 
 pub standing_here : (runs : List ClassState) (i n : ℕ) (run : ClassState) → run ≡ slice_index_or runs i run → i < length runs

@@ -18,32 +18,22 @@ pub record Called (taken now : State) (old notes new : Notes) : Type 0 where
   pub noted_is : new ≡ noted (held_of settled_state) notes
 
 called_works : (taken now : State) (old notes new : Notes) → Called taken now old notes new → Works taken now old new
-called_works taken now old notes new c =
-    rw (c.told_is, c.noted_is) (works_told taken c.settled_state old notes c.works c.settled)
+called_works taken now old notes new c = rw (c.told_is, c.noted_is) (works_told taken c.settled_state old notes c.works c.settled)
 
 stands_now : (new : Kept State) (s : Setting) (bases : Bases) (log : Log) → IsTrue new.live → AreSettled new.value
     → held_of new.value ≡ None → IsAmid s bases new.value log → Stands new s log
 stands_now new s bases log live settled none amid =
-    record {
-      live = live;
-      setting = amid.setting;
-      sound = amid.sound;
-      state_is = amid.state_is;
-      settled = settled;
-      told = none;
-    }
+    record { live = live; setting = amid.setting; sound = amid.sound; state_is = amid.state_is; settled = settled; told = none }
 
 call_does : (taken : State) (new : Kept State) (old notes all : Notes) (s : Setting) (bases : Bases) (start : Log)
-    → IsTrue new.live → Called taken new.value old notes all → IsAmid s bases taken start
-    → DoesMore (next s bases) start old all (Stands new s)
+    → IsTrue new.live → Called taken new.value old notes all → IsAmid s bases taken start → DoesMore (next s bases) start old all (Stands new s)
 call_does taken new old notes all s bases start live c amid =
     let r = called_works taken new.value old notes all c s bases start amid in
     let settled : AreSettled new.value = rw c.told_is (told_settled c.settled_state c.settled) in
     let none : held_of new.value ≡ None = rw c.told_is (told_once c.settled_state) in
     let stands = stands_now new s bases r.view live settled none r.shown in
     does_from (λ l. l) (next s bases) (λ e l. e ∷ l) (λ e log. refl) start start r.view old all refl r.made
-    (nothing_due s bases new.value r.view r.shown.state_is settled none) (Stands new s)
-    (λ log e. subst (Stands new s) (sym e) stands)
+    (nothing_due s bases new.value r.view r.shown.state_is settled none) (Stands new s) (λ log e. subst (Stands new s) (sym e) stands)
 
 amid_of_state : (s : Setting) (bases : Bases) (log : Log) (f : State → State) (old : State) (taken : State)
     (e : Entry) → state_of s log ≡ old → taken ≡ f old → IsAmid s bases (f (state_of s log)) (e ∷ log)
@@ -63,27 +53,22 @@ few_handed k s log from m taken st t =
     omega arith
 
 pub calm_for : (k : Kept State) (s : Setting) (log : Log) (from : Site) (m : Msg) (taken : State) (places : Places)
-    → Stands k s log → taken ≡ state_handed from m k.value → places ≡ touched k.value.classes m
-    → IsCalm places.from places.end taken
-calm_for k s log from m taken places st t e =
-    rw (t, e) (calm_handed k.value from m st.settled (apart_kept s log k.value (kept_of k s log st)))
+    → Stands k s log → taken ≡ state_handed from m k.value → places ≡ touched k.value.classes m → IsCalm places.from places.end taken
+calm_for k s log from m taken places st t e = rw (t, e) (calm_handed k.value from m st.settled (apart_kept s log k.value (kept_of k s log st)))
 
 pub amid_for : (k : Kept State) (s : Setting) (bases : Bases) (log : Log) (from : Site) (m : Msg) (taken : State)
-    → Stands k s log → fits s bases log from m → taken ≡ state_handed from m k.value
-    → IsAmid s bases taken (Handed from m ∷ log)
+    → Stands k s log → fits s bases log from m → taken ≡ state_handed from m k.value → IsAmid s bases taken (Handed from m ∷ log)
 amid_for k s bases log from m taken st fit t =
     amid_of_state s bases log (state_handed from m) k.value taken (Handed from m) st.state_is t
     (amid_handed s bases log from m st.setting st.sound (subst AreSettled (sym st.state_is) st.settled) fit)
 
 pub take_does : (from : Site) (m : Msg) (old new : Kept State) (taken : State) (notes all : Notes)
     (records : List Rec) (sends : List (Site × Msg)) → IsTrue new.live → taken ≡ state_handed from m old.value
-    → Called taken new.value nothing_noted notes all
-    → records ≡ all.recs → sends ≡ all.out → (s : Setting) (bases : Bases) (log : Log) → Stands old s log
+    → Called taken new.value nothing_noted notes all → records ≡ all.recs → sends ≡ all.out → (s : Setting) (bases : Bases) (log : Log) → Stands old s log
     → fits s bases log from m → Does (next s bases) (Handed from m ∷ log) records sends (Stands new s)
 take_does from m old new taken notes all records sends live t c e f s bases log st fit =
     all_noted (next s bases) (Handed from m ∷ log) all records sends (Stands new s)
-    (call_does taken new nothing_noted notes all s bases (Handed from m ∷ log) live c
-    (amid_for old s bases log from m taken st fit t)) e f
+    (call_does taken new nothing_noted notes all s bases (Handed from m ∷ log) live c (amid_for old s bases log from m taken st fit t)) e f
 
 -- a transaction
 
@@ -112,21 +97,16 @@ pub few_given : (k : Kept State) (s : Setting) (log : Log) (n : ℕ) (txn : Txn)
     → taken ≡ given_to k n txn → length taken.classes < 2 ^ 32
 few_given k s log n txn taken st t =
     let few = few_kept s log k.value (kept_of k s log st) in
-    let same = ap (λ (x : State). length x.classes) t
-    ∙ length-map k.value.classes (class_given (class_for k.value.force.catalogue txn) n txn) in
+    let same = ap (λ (x : State). length x.classes) t ∙ length-map k.value.classes (class_given (class_for k.value.force.catalogue txn) n txn) in
     omega arith
 
-pub calm_after : (k : Kept State) (s : Setting) (log : Log) (n : ℕ) (txn : Txn) (taken : State) (places : Places)
-    → Stands k s log → taken ≡ given_to k n txn
-    → places ≡ one_place (place_of k.value.classes (class_for k.value.force.catalogue txn))
-    → IsCalm places.from places.end taken
+pub calm_after : (k : Kept State) (s : Setting) (log : Log) (n : ℕ) (txn : Txn) (taken : State) (places : Places) → Stands k s log → taken ≡ given_to k n txn
+    → places ≡ one_place (place_of k.value.classes (class_for k.value.force.catalogue txn)) → IsCalm places.from places.end taken
 calm_after k s log n txn taken places st t e =
-    rw (t, e) (calm_given k.value (class_for k.value.force.catalogue txn) n txn st.settled
-    (apart_kept s log k.value (kept_of k s log st)))
+    rw (t, e) (calm_given k.value (class_for k.value.force.catalogue txn) n txn st.settled (apart_kept s log k.value (kept_of k s log st)))
 
 pub amid_after : (k : Kept State) (s : Setting) (bases : Bases) (log : Log) (n : ℕ) (txn : Txn) (taken : State)
-    → n < 2 ^ 32 → Stands k s log → FitsSubmit s bases log n txn → taken ≡ given_to k n txn
-    → IsAmid s bases taken (Submits n txn ∷ log)
+    → n < 2 ^ 32 → Stands k s log → FitsSubmit s bases log n txn → taken ≡ given_to k n txn → IsAmid s bases taken (Submits n txn ∷ log)
 amid_after k s bases log n txn taken small st fit t =
     let here : (in_force s log) ≡ k.value.force = ap (λ (x : State). x.force) st.state_is in
     let given = λ (x : State). state_given (class_for (in_force s log).catalogue txn) n txn x in
@@ -144,8 +124,7 @@ submit_does n txn old new taken notes all records sends small live t c e f s bas
     (amid_after old s bases log n.0 txn taken small st fit t) in (
       records_of d.acts,
       e ∙ d.recs_are,
-      subst (λ xs. Does (next s bases) (Submits n.0 txn ∷ log) (records_of d.acts) xs (Stands new s))
-          (sym (f ∙ d.out_is)) d.does,
+      subst (λ xs. Does (next s bases) (Submits n.0 txn ∷ log) (records_of d.acts) xs (Stands new s)) (sym (f ∙ d.out_is)) d.does,
     )
 
 -- a tick
@@ -160,11 +139,7 @@ tick_stands old new n e s log st =
       sound = record {
         lines = λ i c f. line_ticked s c log n (st.sound.lines i c f);
         stamped = stamped_still s log (Ticked n) refl st.sound.stamped;
-        unanswered = record {
-          rise = st.sound.unanswered.rise;
-          last = st.sound.unanswered.last;
-          apart = st.sound.unanswered.apart;
-        };
+        unanswered = record { rise = st.sound.unanswered.rise; last = st.sound.unanswered.last; apart = st.sound.unanswered.apart };
         turns = st.sound.turns;
       };
       state_is = ap (λ (x : State). record x { clock = ticked x.clock n }) st.state_is;
@@ -177,8 +152,7 @@ tick_stands old new n e s log st =
 first_line : (s : Setting) (force : Force) (c : ℕ) → IsLineOf s c (Redeclared force 0 ∷ [])
 first_line s force c = record { in_queue = record { differ = tt; waiting = tt }; of_head = tt; asking = tt }
 
-first_classes : (s : Setting) (force : Force) (cs : List ℕ)
-    → map (class_of s (Redeclared force 0 ∷ [])) cs ≡ map (first_class s.catalogue) cs
+first_classes : (s : Setting) (force : Force) (cs : List ℕ) → map (class_of s (Redeclared force 0 ∷ [])) cs ≡ map (first_class s.catalogue) cs
 first_classes s force [] = refl
 first_classes s force (c ∷ cs) = ap (λ rest. first_class s.catalogue c ∷ rest) (first_classes s force cs)
 
@@ -195,8 +169,7 @@ first_is : (s : Setting) (whole : Catalogue) (force : Force) (tm : TmNo) → s.c
     → state_of s (Redeclared force 0 ∷ []) ≡ first_state whole force tm.0
 first_is s whole force tm e f =
     let is : s ≡ setting_of whole tm s.rows =
-    ap (λ x. record s { catalogue = x }) e
-    ∙ ap (λ x. record { catalogue = whole; site = x; rows = s.rows }) f in
+    ap (λ x. record s { catalogue = x }) e ∙ ap (λ x. record { catalogue = whole; site = x; rows = s.rows }) f in
     ap (λ x. state_of x (Redeclared force 0 ∷ [])) is ∙ first_at whole force tm s.rows
 
 pub new_stands : (k : Kept State) (whole : Catalogue) (force : Force) (tm : TmNo) → IsTrue k.live
@@ -219,8 +192,7 @@ new_stands k whole force tm live is valid counts era s e f =
       told = rw is refl;
     }
   where
-    none_yet : (cs : List ℕ) (i : ℕ) (x : ClassState) → slice_get (map (first_class whole) cs) i ≡ Some x
-        → class_step false x ≡ None
+    none_yet : (cs : List ℕ) (i : ℕ) (x : ClassState) → slice_get (map (first_class whole) cs) i ≡ Some x → class_step false x ≡ None
     none_yet [] i x g = absurd cc
     none_yet (c ∷ cs) zero x g = subst (λ (y : ClassState). class_step false y ≡ None) (some_is g) refl
     none_yet (c ∷ cs) (suc i) x g = none_yet cs i x g
@@ -237,11 +209,7 @@ redeclared_stands old new force t e s log st era =
       sound = record {
         lines = λ i c f. line_redeclared s c log force t (st.sound.lines i c f);
         stamped = stamped_still s log (Redeclared force t) refl st.sound.stamped;
-        unanswered = record {
-          rise = st.sound.unanswered.rise;
-          last = st.sound.unanswered.last;
-          apart = st.sound.unanswered.apart;
-        };
+        unanswered = record { rise = st.sound.unanswered.rise; last = st.sound.unanswered.last; apart = st.sound.unanswered.apart };
         turns = st.sound.turns;
       };
       state_is = ap (λ (x : State). record x { force = force; clock = pushed x.clock t }) st.state_is;
@@ -250,6 +218,5 @@ redeclared_stands old new force t e s log st era =
     })
 
 -- the bound of the clock
-pub bound_is : (k : Kept State) (s : Setting) (log : Log) (n : ℕ) → n ≡ bound_of k.value.clock → Stands k s log
-    → n ≡ bound_of (clock s.site log)
+pub bound_is : (k : Kept State) (s : Setting) (log : Log) (n : ℕ) → n ≡ bound_of k.value.clock → Stands k s log → n ≡ bound_of (clock s.site log)
 bound_is k s log n e st = e ∙ ap (λ (x : State). bound_of x.clock) (sym st.state_is)

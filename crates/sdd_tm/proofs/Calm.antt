@@ -10,28 +10,22 @@ calm_done bases state place end k step less calm =
     let new : ClassState = class_done bases state.force.table state.clock step k in
     record {
       own = λ j x e apart. by_order (own_step x ≡ None) j place
-          (λ l. calm.own j x (get_set_other state.classes place j new x (λ q. absurd (omega arith)) e)
-          (λ q. absurd (omega arith)))
+          (λ l. calm.own j x (get_set_other state.classes place j new x (λ q. absurd (omega arith)) e) (λ q. absurd (omega arith)))
           (λ same. absurd (let f : end ≤ place = apart same in omega arith))
-          (λ l. calm.own j x (get_set_other state.classes place j new x (λ q. absurd (omega arith)) e)
-          (λ q. absurd (omega arith)));
+          (λ l. calm.own j x (get_set_other state.classes place j new x (λ q. absurd (omega arith)) e) (λ q. absurd (omega arith)));
       before = λ j x e l. calm.before j x (get_set_other state.classes place j new x (λ q. absurd (omega arith)) e) l;
       behind = λ j x e l. calm.behind j x (get_set_other state.classes place j new x (λ q. absurd (omega arith)) e) l;
     }
 
 -- it has none: the next one
 pub calm_next : (state : State) (place end : ℕ) → place < end → IsCalm place end state
-    → ((k : ClassState) → slice_get state.classes place ≡ Some k → class_step state.on_hold k ≡ None)
-    → IsCalm (place + 1) end state
+    → ((k : ClassState) → slice_get state.classes place ≡ Some k → class_step state.on_hold k ≡ None) → IsCalm (place + 1) end state
 calm_next state place end less calm none = record {
-  own = λ j x e apart. by_order (own_step x ≡ None) j place
-      (λ l. calm.own j x e (λ q. absurd (omega arith)))
+  own = λ j x e apart. by_order (own_step x ≡ None) j place (λ l. calm.own j x e (λ q. absurd (omega arith)))
       (λ same. (none_parts state.on_hold x (none x (subst (λ i. slice_get state.classes i ≡ Some x) same e))).0)
       (λ l. calm.own j x e (λ q. absurd (omega arith)));
-  before = λ j x e l. by_order (start_step state.on_hold x ≡ None) j place
-      (λ m. calm.before j x e m)
-      (λ same. (none_parts state.on_hold x (none x (subst (λ i. slice_get state.classes i ≡ Some x) same e))).1)
-      (λ m. absurd (omega arith));
+  before = λ j x e l. by_order (start_step state.on_hold x ≡ None) j place (λ m. calm.before j x e m)
+      (λ same. (none_parts state.on_hold x (none x (subst (λ i. slice_get state.classes i ≡ Some x) same e))).1) (λ m. absurd (omega arith));
   behind = calm.behind;
 }
 

@@ -30,26 +30,21 @@ kept_climbs p low high (x ∷ xs) h =
 
 at_climb : (low high : ℕ) (xs : List ℕ) (i x : ℕ) → Climb low high xs → slice_get xs i ≡ Some x → (low ≤ x) × (x < high)
 at_climb low high [] i x h e = absurd cc
-at_climb low high (y ∷ xs) zero x h e = let same : y ≡ x = some_is e in let a : low ≤ y = h.0 in let b : y < high =
-    h.1 in (omega arith, omega arith)
-at_climb low high (y ∷ xs) (suc i) x h e = let r = at_climb (suc y) high xs i x h.2 e in let a : low ≤ y = h.0 in
-    let b : suc y ≤ x = r.0 in (omega arith, r.1)
+at_climb low high (y ∷ xs) zero x h e = let same : y ≡ x = some_is e in let a : low ≤ y = h.0 in let b : y < high = h.1 in (omega arith, omega arith)
+at_climb low high (y ∷ xs) (suc i) x h e = let r = at_climb (suc y) high xs i x h.2 e in let a : low ≤ y = h.0 in let b : suc y ≤ x = r.0 in (omega arith, r.1)
 
-climb_apart : (low high : ℕ) (xs : List ℕ) (i j x y : ℕ) → Climb low high xs → slice_get xs i ≡ Some x
-    → slice_get xs j ≡ Some y → i ≢ j → x ≢ y
+climb_apart : (low high : ℕ) (xs : List ℕ) (i j x y : ℕ) → Climb low high xs → slice_get xs i ≡ Some x → slice_get xs j ≡ Some y → i ≢ j → x ≢ y
 climb_apart low high [] i j x y h e f apart = absurd cc
 climb_apart low high (z ∷ xs) zero zero x y h e f apart = absurd (apart refl)
 climb_apart low high (z ∷ xs) zero (suc j) x y h e f apart = λ same. let r = at_climb (suc z) high xs j y h.2 f in
     let a : suc z ≤ y = r.0 in let b : z ≡ x = some_is e in absurd (omega arith)
 climb_apart low high (z ∷ xs) (suc i) zero x y h e f apart = λ same. let r = at_climb (suc z) high xs i x h.2 e in
     let a : suc z ≤ x = r.0 in let b : z ≡ y = some_is f in absurd (omega arith)
-climb_apart low high (z ∷ xs) (suc i) (suc j) x y h e f apart =
-    climb_apart (suc z) high xs i j x y h.2 e f (λ q. apart (ap suc q))
+climb_apart low high (z ∷ xs) (suc i) (suc j) x y h e f apart = climb_apart (suc z) high xs i j x y h.2 e f (λ q. apart (ap suc q))
 
 runs_climb : (s : Setting) → Climb 1 (suc (length s.catalogue.classes)) (runs s)
 runs_climb s =
-    kept_climbs (λ c. (class_at s.catalogue c).tm.0 == number_of s.site) 1 (suc (length s.catalogue.classes))
-    (numbers_to (length s.catalogue.classes))
+    kept_climbs (λ c. (class_at s.catalogue c).tm.0 == number_of s.site) 1 (suc (length s.catalogue.classes)) (numbers_to (length s.catalogue.classes))
     (range_climbs 1 (length s.catalogue.classes) (suc (length s.catalogue.classes)) (omega arith))
 
 -- a class at another place has another number

@@ -1,5 +1,5 @@
 -- What is due by a log, where at most one class has a step of its own: that class's step.
-use Rattle.sdd_tm.proofs.All.{Act, Answer, Attempt, Bases, Bool, Catalogue, ClassState, ClassView, Commit, IsCalm, LineStep, List, Log, None, Option, Queued, Send, Setting, Some, Start, Step, ToCommit, ToSend, View, [], active, asks, asks_of, attempt_due, can_answer, class_of, class_step, class_view, exchange_due, false, first_some, head_of, held_due, if◌then◌else◌, is_empty, is_none, line_step, list_any, next, none_due, not, null_due, of_line, on_hold, or_else, own_step, queue, refl, runs, slice_get, start_due, start_of, start_step, state_of, subst, true, view_of, ℕ, ◌&&◌, ◌∙◌, ◌∷◌, ◌≡◌, ◌≢◌}
+use Rattle.sdd_tm.proofs.All.{Act, Answer, Attempt, Bases, Bool, Catalogue, ClassState, ClassView, Commit, IsCalm, LineStep, List, Log, None, Option, Queued, Send, Setting, Some, Start, Step, ToCommit, ToSend, View, active, asks, asks_of, attempt_due, can_answer, class_of, class_step, class_view, exchange_due, false, first_some, head_of, held_due, if◌then◌else◌, is_empty, is_none, line_step, list_any, next, none_due, not, null_due, of_line, on_hold, or_else, own_step, queue, refl, runs, slice_get, start_due, start_of, start_step, state_of, subst, true, view_of, ℕ, ◌&&◌, ◌∙◌, ◌∷◌, ◌≡◌, ◌≢◌}
 use Rattle.sdd_tm.proofs.Lists.{some_is, get_map, of_map, none_first, only_first, first_at}
 use Rattle.sdd_tm.proofs.OpenAsks.{none_answered}
 
@@ -9,15 +9,13 @@ no_answer_if : (b : Bool) → (if b then Some Answer else None) ≡ None → b �
 no_answer_if true e = absurd cc
 no_answer_if false e = refl
 
-own_parts : (l : Option LineStep) (b : Bool) → or_else (of_line l) (if b then Some Answer else None) ≡ None
-    → (l ≡ None) × (b ≡ false)
+own_parts : (l : Option LineStep) (b : Bool) → or_else (of_line l) (if b then Some Answer else None) ≡ None → (l ≡ None) × (b ≡ false)
 own_parts None b e = (refl, no_answer_if b e)
 own_parts (Some ToSend) b e = absurd cc
 own_parts (Some ToCommit) b e = absurd cc
 
 -- a class without a step of its own: its attempt does nothing, and no ASK can be answered
-pub own_none : (k : ClassState) → own_step k ≡ None
-    → (line_step k.line.active ≡ None) × (list_any (can_answer k.line.active) k.asks ≡ false)
+pub own_none : (k : ClassState) → own_step k ≡ None → (line_step k.line.active ≡ None) × (list_any (can_answer k.line.active) k.asks ≡ false)
 own_none k e = own_parts (line_step k.line.active) (list_any (can_answer k.line.active) k.asks) e
 
 pub class_none : (on : Bool) (k : ClassState) → own_step k ≡ None → start_step on k ≡ None → class_step on k ≡ None
@@ -38,8 +36,7 @@ pub data IsStep (on : Bool) (k : ClassState) : Step → Type 0 where
       → (not on && (is_none k.line.active && not (is_empty k.line.queue))) ≡ true → IsStep on k Start
 
 step_by : (on : Bool) (k : ClassState) (l : Option LineStep) (b w : Bool) (s : Step) → line_step k.line.active ≡ l
-    → list_any (can_answer k.line.active) k.asks ≡ b
-    → (not on && (is_none k.line.active && not (is_empty k.line.queue))) ≡ w
+    → list_any (can_answer k.line.active) k.asks ≡ b → (not on && (is_none k.line.active && not (is_empty k.line.queue))) ≡ w
     → or_else (or_else (of_line l) (if b then Some Answer else None)) (if w then Some Start else None) ≡ Some s → IsStep on k s
 step_by on k (Some ToSend) b w s e f g h = subst (IsStep on k) (some_is h) (sends e)
 step_by on k (Some ToCommit) b w s e f g h = subst (IsStep on k) (some_is h) (commits_now e)
@@ -65,17 +62,14 @@ module _ (s : Setting) (bases : Bases) (log : Log) where
       → (place : ℕ) (k : ClassView) → slice_get v.classes place ≡ Some k → P k
   at_class P h place k e = let r = of_map (class_view s log) (runs s) place k e in subst P r.2 (h place r.0 r.1)
 
-  pub null_none : (c : ℕ) → list_any (can_answer (active s c log)) (asks_of c (asks log)) ≡ false
-      → null_due v (class_view s log c) ≡ None
+  pub null_none : (c : ℕ) → list_any (can_answer (active s c log)) (asks_of c (asks log)) ≡ false → null_due v (class_view s log c) ≡ None
   null_none c e = none_answered v (class_view s log c) (asks log) e
 
-  start_none_if : (b w : Bool) (o : Option Act) → (if not b && w then Some Start else None) ≡ None
-      → (if not b && w then o else None) ≡ None
+  start_none_if : (b w : Bool) (o : Option Act) → (if not b && w then Some Start else None) ≡ None → (if not b && w then o else None) ≡ None
   start_none_if false true o e = absurd cc
   start_none_if _ _ o e = refl
 
-  start_of_none : (c : ℕ) (b : Bool) (a : Option Attempt) (qs : List Queued)
-      → (if not b && (is_none a && not (is_empty qs)) then Some Start else None) ≡ None
+  start_of_none : (c : ℕ) (b : Bool) (a : Option Attempt) (qs : List Queued) → (if not b && (is_none a && not (is_empty qs)) then Some Start else None) ≡ None
       → (if not b && is_none a then start_of cat v c (head_of qs) else None) ≡ None
   start_of_none c false None (q ∷ qs) e = absurd cc
   start_of_none c _ _ _ e = refl
@@ -87,20 +81,15 @@ module _ (s : Setting) (bases : Bases) (log : Log) where
     others_own : (i c : ℕ) → slice_get (runs s) i ≡ Some c → i ≢ place
         → (line_step (active s c log) ≡ None) × (list_any (can_answer (active s c log))
         (asks_of c (asks log)) ≡ false)
-    others_own i c e apart =
-        own_none (class_of s log c) (calm.own i (class_of s log c) (get_map (class_of s log) (runs s) i c e)
-        (λ q. absurd (apart q)))
+    others_own i c e apart = own_none (class_of s log c) (calm.own i (class_of s log c) (get_map (class_of s log) (runs s) i c e) (λ q. absurd (apart q)))
 
-    only_exchange : (c : ℕ) → slice_get (runs s) place ≡ Some c
-        → first_some (exchange_due cat bases) v.classes ≡ attempt_due cat bases c (active s c log)
+    only_exchange : (c : ℕ) → slice_get (runs s) place ≡ Some c → first_some (exchange_due cat bases) v.classes ≡ attempt_due cat bases c (active s c log)
     only_exchange c e =
         only_first (exchange_due cat bases) v.classes place (class_view s log c) (get_map (class_view s log) (runs s) place c e)
         (λ i k g apart. let r = of_map (class_view s log) (runs s) i k g in
-        subst (λ (x : ClassView). exchange_due cat bases x ≡ None) r.2
-        (none_due cat bases r.0 (active s r.0 log) (others_own i r.0 r.1 apart).0))
+        subst (λ (x : ClassView). exchange_due cat bases x ≡ None) r.2 (none_due cat bases r.0 (active s r.0 log) (others_own i r.0 r.1 apart).0))
 
-    only_null : (c : ℕ) → slice_get (runs s) place ≡ Some c → first_some (null_due v) v.classes ≡ null_due v
-        (class_view s log c)
+    only_null : (c : ℕ) → slice_get (runs s) place ≡ Some c → first_some (null_due v) v.classes ≡ null_due v (class_view s log c)
     only_null c e =
         only_first (null_due v) v.classes place (class_view s log c) (get_map (class_view s log) (runs s) place c e)
         (λ i k g apart. let r = of_map (class_view s log) (runs s) i k g in
@@ -109,8 +98,7 @@ module _ (s : Setting) (bases : Bases) (log : Log) where
     -- an act of an attempt
     pub attempt_is_due : (c : ℕ) (act : Act) → slice_get (runs s) place ≡ Some c
         → attempt_due cat bases c (active s c log) ≡ Some act → next s bases log ≡ Some act
-    attempt_is_due c act e f = let first : first_some (exchange_due cat bases) v.classes ≡ Some act =
-        only_exchange c e ∙ f in rw first refl
+    attempt_is_due c act e f = let first : first_some (exchange_due cat bases) v.classes ≡ Some act = only_exchange c e ∙ f in rw first refl
 
     -- a NULL
     pub null_is_due : (c : ℕ) (act : Act) → slice_get (runs s) place ≡ Some c → line_step (active s c log) ≡ None
@@ -139,8 +127,7 @@ module _ (s : Setting) (bases : Bases) (log : Log) where
         rw (first, second, third, fourth) refl
 
   -- no class has a step: only a HELD can be due
-  pub held_is_due : ((i : ℕ) (k : ClassState) → slice_get (state_of s log).classes i ≡ Some k
-      → class_step (on_hold v) k ≡ None) → next s bases log ≡ held_due v
+  pub held_is_due : ((i : ℕ) (k : ClassState) → slice_get (state_of s log).classes i ≡ Some k → class_step (on_hold v) k ≡ None) → next s bases log ≡ held_due v
   held_is_due settled =
       let parts = λ (i c : ℕ) (e : slice_get (runs s) i ≡ Some c). none_parts (on_hold v) (class_of s log c)
       (settled i (class_of s log c) (get_map (class_of s log) (runs s) i c e)) in
@@ -148,12 +135,9 @@ module _ (s : Setting) (bases : Bases) (log : Log) where
       none_first (exchange_due cat bases) v.classes (at_class (λ k. exchange_due cat bases k ≡ None)
       (λ i c e. none_due cat bases c (active s c log) (own_none (class_of s log c) (parts i c e).0).0)) in
       let second : first_some (null_due v) v.classes ≡ None =
-      none_first (null_due v) v.classes
-      (at_class (λ k. null_due v k ≡ None)
-      (λ i c e. null_none c (own_none (class_of s log c) (parts i c e).0).1)) in
+      none_first (null_due v) v.classes (at_class (λ k. null_due v k ≡ None) (λ i c e. null_none c (own_none (class_of s log c) (parts i c e).0).1)) in
       let fourth : first_some (start_due cat v) v.classes ≡ None =
-      none_first (start_due cat v) v.classes
-      (at_class (λ k. start_due cat v k ≡ None) (λ i c e. start_none c (parts i c e).1)) in
+      none_first (start_due cat v) v.classes (at_class (λ k. start_due cat v k ≡ None) (λ i c e. start_none c (parts i c e).1)) in
       rw (first, second, fourth) (or_nothing (held_due v))
     where
       or_nothing : (o : Option Act) → or_else o None ≡ o

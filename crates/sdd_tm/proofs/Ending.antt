@@ -6,8 +6,7 @@ use Rattle.sdd_tm.proofs.Telling.{tells}
 -- the loop
 
 works_none : (state : State) (notes : Notes) → Works state state notes notes
-works_none state notes s bases log amid =
-    record { view = log; shown = amid; made = made_nothing (next s bases) (λ e l. e ∷ l) log log notes notes refl refl }
+works_none state notes s bases log amid = record { view = log; shown = amid; made = made_nothing (next s bases) (λ e l. e ∷ l) log log notes notes refl refl }
 
 -- one act more, which each log makes due
 works_more : (before now after : State) (old notes new : Notes) → Works before now old notes
@@ -29,8 +28,7 @@ works_begin = works_none
 -- a class makes its step
 pub works_on : (before now : State) (place end : ℕ) (k : ClassState) (step : Step) (after : State)
     (old notes new : Notes) → Works before now old notes → IsCalm place end now
-    → slice_get now.classes place ≡ Some k → class_step now.on_hold k ≡ Some step
-    → ((bases : Bases) → after ≡ state_done bases place k step now)
+    → slice_get now.classes place ≡ Some k → class_step now.on_hold k ≡ Some step → ((bases : Bases) → after ≡ state_done bases place k step now)
     → ((s : Setting) (bases : Bases) (log : Log) → IsAmid s bases now log
     → new ≡ noted (act_of bases now.force.table now.clock k step) notes) → Works before after old new
 works_on before now place end k step after old notes new works calm here steps is noted_is =

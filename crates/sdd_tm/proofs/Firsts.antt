@@ -11,8 +11,7 @@ nowhere_from p n [] e = record { not_found = refl; all_left = refl }
 nowhere_from p n (x ∷ xs) e =
     elim (p x) as (λ b. p x ≡ b → cond b (Some n) (position_from p (n + 1) xs) ≡ None → IsNowhere p (x ∷ xs)) [
       | true ↦ λ g h. absurd cc
-      | false ↦ λ g h. let r = nowhere_from p (n + 1) xs h in
-          record { not_found = rw g r.not_found; all_left = rw g (ap (λ rest. x ∷ rest) r.all_left) }
+      | false ↦ λ g h. let r = nowhere_from p (n + 1) xs h in record { not_found = rw g r.not_found; all_left = rw g (ap (λ rest. x ∷ rest) r.all_left) }
     ] refl e
 
 pub is_nowhere : {A : Type 0} (p : A → Bool) (xs : List A) → position p xs ≡ None → IsNowhere p xs
@@ -28,18 +27,13 @@ record IsFirstFrom {A : Type 0} (p : A → Bool) (n place : ℕ) (xs : List A) :
   place_is : place ≡ n + at
   first : IsFirstAt p xs at
 
-first_from : {A : Type 0} (p : A → Bool) (n place : ℕ) (xs : List A) → position_from p n xs ≡ Some place
-    → IsFirstFrom p n place xs
+first_from : {A : Type 0} (p : A → Bool) (n place : ℕ) (xs : List A) → position_from p n xs ≡ Some place → IsFirstFrom p n place xs
 first_from p n place [] e = absurd cc
 first_from p n place (x ∷ xs) e =
     elim (p x) as (λ b. p x ≡ b → cond b (Some n) (position_from p (n + 1) xs) ≡ Some place → IsFirstFrom p n place (x ∷ xs)) [
       | true ↦ λ g h.
           let same : n ≡ place = some_is h in
-          record {
-            at = 0;
-            place_is = omega arith;
-            first = record { within = omega arith; found = λ d. rw g refl; left = rw g refl };
-          }
+          record { at = 0; place_is = omega arith; first = record { within = omega arith; found = λ d. rw g refl; left = rw g refl } }
       | false ↦ λ g h.
           let r = first_from p (n + 1) place xs h in
           let is : place ≡ n + 1 + r.at = r.place_is in
@@ -47,11 +41,7 @@ first_from p n place (x ∷ xs) e =
           record {
             at = suc r.at;
             place_is = omega arith;
-            first = record {
-              within = omega arith;
-              found = λ d. rw g (r.first.found d);
-              left = rw g (ap (λ rest. x ∷ rest) r.first.left);
-            };
+            first = record { within = omega arith; found = λ d. rw g (r.first.found d); left = rw g (ap (λ rest. x ∷ rest) r.first.left) };
           }
     ] refl e
 

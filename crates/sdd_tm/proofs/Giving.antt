@@ -7,8 +7,7 @@ use Rattle.sdd_eras.proofs.EraSets as eras
 
 -- the class of a transaction covers it
 
-first_covers : (cat : Catalogue) (txn : Txn) (ns : List ℕ) (c : ℕ) → 1 ≤ c
-    → unwrap_or (head_of (filter (covers cat txn) ns)) 0 ≡ c → covers cat txn c ≡ true
+first_covers : (cat : Catalogue) (txn : Txn) (ns : List ℕ) (c : ℕ) → 1 ≤ c → unwrap_or (head_of (filter (covers cat txn) ns)) 0 ≡ c → covers cat txn c ≡ true
 first_covers cat txn [] c low e = absurd (omega arith)
 first_covers cat txn (n ∷ ns) c low e =
     elim (covers cat txn n) as (λ b. covers cat txn n ≡ b
@@ -18,20 +17,16 @@ first_covers cat txn (n ∷ ns) c low e =
       | false ↦ λ h g. first_covers cat txn ns c low g
     ] refl e
 
-covered : (cat : Catalogue) (txn : Txn) (c : ℕ) → 1 ≤ c → class_for cat txn ≡ c
-    → list_all (λ f. is_some (reads_at cat c f)) (read_set cat txn) ≡ true
+covered : (cat : Catalogue) (txn : Txn) (c : ℕ) → 1 ≤ c → class_for cat txn ≡ c → list_all (λ f. is_some (reads_at cat c f)) (read_set cat txn) ≡ true
 covered cat txn c low e =
     let all = first_covers cat txn (numbers_to (length cat.classes)) c low e in
     let both = and_parts ((class_at cat c).tm.0 == txn.tm.0)
-    (list_all (λ f. is_some (reads_at cat c f)) (read_set cat txn) && list_all (writes cat c)
-    (write_set cat txn)) all in
-    (and_parts (list_all (λ f. is_some (reads_at cat c f)) (read_set cat txn))
-    (list_all (writes cat c) (write_set cat txn)) both.1).0
+    (list_all (λ f. is_some (reads_at cat c f)) (read_set cat txn) && list_all (writes cat c) (write_set cat txn)) all in
+    (and_parts (list_all (λ f. is_some (reads_at cat c f)) (read_set cat txn)) (list_all (writes cat c) (write_set cat txn)) both.1).0
 
 all_more : (p q : ℕ → Bool) (xs : List ℕ) → ((x : ℕ) → p x ≡ true → q x ≡ true) → list_all p xs ≡ true → list_all q xs ≡ true
 all_more p q [] h e = refl
-all_more p q (x ∷ xs) h e =
-    let both = and_parts (p x) (list_all p xs) e in rw (h x both.0, all_more p q xs h both.1) refl
+all_more p q (x ∷ xs) h e = let both = and_parts (p x) (list_all p xs) e in rw (h x both.0, all_more p q xs h both.1) refl
 
 is_of_class : (c k : ℕ) → 1 ≤ c → (c == 0 || k == c) ≡ true → k ≡ c
 is_of_class c k low e = eqb-true k c (subst (λ b. (b || k == c) ≡ true) (ne_eqb c 0 (λ q. absurd (omega arith))) e)
@@ -47,8 +42,7 @@ class_covers s log txn c setting low e =
     ap (λ uses. ascending (fragments_in uses)) (uses_in_era s.catalogue era setting.era txn) in
     subst (λ fs. list_all (λ f. is_some (reads_at s.catalogue c f)) fs ≡ true) same
     (all_more (λ f. is_some (reads_at era c f)) (λ f. is_some (reads_at s.catalogue c f)) (read_set era txn)
-    (λ f r. ap is_some (sym (read_in_era s.catalogue era setting.era c f here.class r)) ∙ r)
-    (covered era txn c low is))
+    (λ f r. ap is_some (sym (read_in_era s.catalogue era setting.era c f here.class r)) ∙ r) (covered era txn c low is))
 
 -- what is kept of the log
 
@@ -67,9 +61,7 @@ class_kept s log n txn c low =
     by : (b : Bool) → is_for c (in_force s log).catalogue txn ≡ b
         → class_of s (Submits n txn ∷ log)
         c ≡ (if b then record (class_of s log c) {
-          line = record (class_of s log c).line {
-            queue = queue s c log ++ record { number = n; text = txn; tries = 0 } ∷ [];
-          };
+          line = record (class_of s log c).line { queue = queue s c log ++ record { number = n; text = txn; tries = 0 } ∷ [] };
         } else class_of s log c)
     by true e = rw e refl
     by false e = rw e refl
@@ -81,8 +73,7 @@ state_given_kept s log n txn =
     let k : ℕ = class_for (in_force s log).catalogue txn in
     let classes : map (class_of s (Submits n txn ∷ log)) (runs s) ≡ map (class_given k n txn) (map (class_of s log) (runs s)) =
     map_same (class_of s (Submits n txn ∷ log)) (λ c. class_given k n txn (class_of s log c)) (runs s)
-    (λ i c e. class_kept s log n txn c (runs_class s i c e).0)
-    ∙ sym (map_map (class_given k n txn) (class_of s log) (runs s)) in
+    (λ i c e. class_kept s log n txn c (runs_class s i c e).0) ∙ sym (map_map (class_given k n txn) (class_of s log) (runs s)) in
     rw classes refl
 
 -- what holds of the log
@@ -90,8 +81,7 @@ state_given_kept s log n txn =
 pub sound_given : (s : Setting) (bases : Bases) (log : Log) (n : ℕ) (txn : Txn) → n < 2 ^ 32 → IsSettingOf s log
     → FitsSubmit s bases log n txn → IsSound s log → IsSound s (Submits n txn ∷ log)
 sound_given s bases log n txn small setting f sound = record {
-  lines = λ i c e. line_submitted s c log n txn f.fresh small f.fitting
-      (class_covers s log txn c setting (runs_class s i c e).0) (sound.lines i c e);
+  lines = λ i c e. line_submitted s c log n txn f.fresh small f.fitting (class_covers s log txn c setting (runs_class s i c e).0) (sound.lines i c e);
   stamped = stamped_still s log (Submits n txn) refl sound.stamped;
   unanswered = record { rise = sound.unanswered.rise; last = sound.unanswered.last; apart = sound.unanswered.apart };
   turns = sound.turns;
@@ -111,6 +101,5 @@ amid_given s bases log n txn small setting sound settled f =
       state_is = is;
       databases = f.site.databases;
       served = λ i c e. resting s.catalogue bases (active s c log) (settled_of s log settled i c e);
-      room = subst (λ (st : State). st.clock.ticks + all_starts st.classes + 1 < 2 ^ 57) is
-          (has_room s (Submits n txn ∷ log) same now f.site.time);
+      room = subst (λ (st : State). st.clock.ticks + all_starts st.classes + 1 < 2 ^ 57) is (has_room s (Submits n txn ∷ log) same now f.site.time);
     }

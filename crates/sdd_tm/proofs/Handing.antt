@@ -1,5 +1,5 @@
 -- A message that is handed: the module keeps what follows from the log, and only what the message touches may have a step.
-use Rattle.sdd_tm.proofs.All.{AreSettled, Ask, Asked, Attempt, AwaitsAt, Bases, Bool, ClassNo, ClassState, D, Exchange, FitsAnswer, Handed, Held, Hold, HoldCounts, InTurn, IsAmid, IsAwaited, IsSettingOf, IsSound, List, Log, MAX_CLASSES, Msg, None, Option, Phase, Question, Ready, Reduced, Reject, Release, Rows, Setting, Site, Some, State, T, U, Values, [], active, active_handed, after_hand, all_starts, and_right, ap, arith, ask_handed, asked, asks, asks_handed, asks_of, class_at, class_handed, class_named, class_of, clock, cond, false, fetches_use, filter, fits, fits_kind, hands, hold_handed, holds, holds_handed, if◌then◌else◌, le-ltb, length, length_range, line_handed, line_step, lt-ltb, ltb-false, ltb-true, map, map_map, nat_lt, ne_eqb, number_of, numbers_to, on_hold, owed_handed, pushed_by, refl, rejects, resting, runs, served_handed, shorter, slice_get, stamped_still, state_handed, state_of, subst, suc, sym, true, view_of, ℕ, ◌&&◌, ◌++◌, ◌+◌, ◌<◌, ◌==◌, ◌^◌, ◌∙◌, ◌∷◌, ◌≡◌, ◌≢◌, ◌≤◌}
+use Rattle.sdd_tm.proofs.All.{AreSettled, Ask, Asked, Attempt, AwaitsAt, Bases, Bool, ClassNo, ClassState, D, Exchange, FitsAnswer, Handed, Held, Hold, HoldCounts, InTurn, IsAmid, IsAwaited, IsSettingOf, IsSound, List, Log, MAX_CLASSES, Msg, None, Option, Phase, Question, Ready, Reduced, Reject, Release, Rows, Setting, Site, Some, State, Values, [], active, active_handed, after_hand, all_starts, and_right, ap, arith, ask_handed, asked, asks, asks_handed, asks_of, class_at, class_handed, class_named, class_of, clock, cond, false, fetches_use, filter, fits, fits_kind, hands, hold_handed, holds, holds_handed, if◌then◌else◌, le-ltb, length, length_range, line_handed, line_step, lt-ltb, ltb-false, ltb-true, map, map_map, nat_lt, ne_eqb, number_of, numbers_to, on_hold, owed_handed, pushed_by, refl, rejects, resting, runs, served_handed, shorter, slice_get, stamped_still, state_handed, state_of, subst, suc, sym, true, view_of, ℕ, ◌&&◌, ◌++◌, ◌+◌, ◌<◌, ◌==◌, ◌^◌, ◌∙◌, ◌∷◌, ◌≡◌, ◌≢◌, ◌≤◌}
 use Rattle.sdd_tm.proofs.Lists.{get_map, map_same}
 use Rattle.sdd_tm.proofs.OpenAsks.{open_handed}
 use Rattle.sdd_tm.proofs.Dues.{own_none, none_parts}
@@ -37,18 +37,15 @@ handed_other from m k h = rw (active_other k.line.class from m k.line.active h, 
 
 -- what is kept of the log
 
-push_if : (qs : List Question) (q : Question) (c : ℕ)
-    → asks_of c (qs ++ q ∷ []) ≡ (if q.class == c then asks_of c qs ++ asked q ∷ [] else asks_of c qs)
-push_if [] q c = elim (q.class == c) as (λ b. map asked (cond b (q ∷ []) []) ≡ (if b then asked q ∷ [] else []))
-    [ true ↦ refl | false ↦ refl ]
+push_if : (qs : List Question) (q : Question) (c : ℕ) → asks_of c (qs ++ q ∷ []) ≡ (if q.class == c then asks_of c qs ++ asked q ∷ [] else asks_of c qs)
+push_if [] q c = elim (q.class == c) as (λ b. map asked (cond b (q ∷ []) []) ≡ (if b then asked q ∷ [] else [])) [ true ↦ refl | false ↦ refl ]
 push_if (x ∷ qs) q c =
     elim (x.class == c) as (λ b. map asked (cond b (x ∷ filter (λ r. r.class == c) (qs ++ q ∷ []))
     (filter (λ r. r.class == c) (qs ++ q ∷ [])))
     ≡ (if q.class == c then map asked
     (cond b (x ∷ filter (λ r. r.class == c) qs) (filter (λ r. r.class == c) qs)) ++ asked q ∷ [] else map asked
     (cond b (x ∷ filter (λ r. r.class == c) qs) (filter (λ r. r.class == c) qs)))) [
-      | true ↦ ap (λ rest. asked x ∷ rest) (push_if qs q c)
-          ∙ out (q.class == c) (asked x) (asks_of c qs ++ asked q ∷ []) (asks_of c qs)
+      | true ↦ ap (λ rest. asked x ∷ rest) (push_if qs q c) ∙ out (q.class == c) (asked x) (asks_of c qs ++ asked q ∷ []) (asks_of c qs)
       | false ↦ push_if qs q c
     ]
   where
@@ -56,16 +53,12 @@ push_if (x ∷ qs) q c =
     out true y us vs = refl
     out false y us vs = refl
 
-asks_kept : (n c : ℕ) (from : Site) (m : Msg) (qs : List Question)
-    → asks_of c (asks_handed n from m qs) ≡ ask_handed c from m (asks_of c qs)
+asks_kept : (n c : ℕ) (from : Site) (m : Msg) (qs : List Question) → asks_of c (asks_handed n from m qs) ≡ ask_handed c from m (asks_of c qs)
 asks_kept n c from (Ask class time) qs = push_if qs (record { hand = n; from = from; class = class.0; time = time.0 }) c
 asks_kept n c from _ qs = refl
 
-class_kept : (s : Setting) (log : Log) (from : Site) (m : Msg) (c : ℕ)
-    → class_of s (Handed from m ∷ log) c ≡ class_handed from m (class_of s log c)
-class_kept s log from m c =
-    ap (λ qs. record (class_handed from m (class_of s log c)) { asks = qs })
-    (asks_kept (suc (hands log)) c from m (asks log))
+class_kept : (s : Setting) (log : Log) (from : Site) (m : Msg) (c : ℕ) → class_of s (Handed from m ∷ log) c ≡ class_handed from m (class_of s log c)
+class_kept s log from m c = ap (λ qs. record (class_handed from m (class_of s log c)) { asks = qs }) (asks_kept (suc (hands log)) c from m (asks log))
 
 hold_kept : (n : ℕ) (m : Msg) (h : HoldCounts) → InTurn h
     → nat_lt (holds_handed n m h).releases (holds_handed n m h).holds ≡ hold_handed m (nat_lt h.releases h.holds)
@@ -88,8 +81,7 @@ state_kept s log from m turns =
 
 -- what holds of the log
 
-pub answer_fits : (s : Setting) (bases : Bases) (log : Log) (from : Site) (m : Msg) → fits_kind s bases log from m
-    → FitsAnswer s bases log from m
+pub answer_fits : (s : Setting) (bases : Bases) (log : Log) (from : Site) (m : Msg) → fits_kind s bases log from m → FitsAnswer s bases log from m
 answer_fits s bases log from (Ready ts class counts) f = f.answers
 answer_fits s bases log from (Reject ts class by write) f = f.answers
 answer_fits s bases log from (Values ts class u values) f = f
@@ -122,16 +114,14 @@ sound_handed s bases log from m f sound = record {
   turns = turns_kept s bases log from m f sound.turns;
 }
 
-pub settled_of : (s : Setting) (log : Log) → AreSettled (state_of s log) → (i c : ℕ) → slice_get (runs s) i ≡ Some c
-    → line_step (active s c log) ≡ None
+pub settled_of : (s : Setting) (log : Log) → AreSettled (state_of s log) → (i c : ℕ) → slice_get (runs s) i ≡ Some c → line_step (active s c log) ≡ None
 settled_of s log settled i c e =
     (own_none (class_of s log c) (none_parts (on_hold (view_of s log)) (class_of s log c)
     (settled i (class_of s log c) (get_map (class_of s log) (runs s) i c e))).0).0
 
 -- the clock
 
-pub early : (s : Setting) (bases : Bases) (log : Log) (from : Site) (m : Msg) → fits s bases log from m
-    → (pushed_by m (clock s.site log)).ticks < 2 ^ 56
+pub early : (s : Setting) (bases : Bases) (log : Log) (from : Site) (m : Msg) → fits s bases log from m → (pushed_by m (clock s.site log)).ticks < 2 ^ 56
 early s bases log from (Ask class time) f = let t = f.0.time in let l = f.1.early in omega arith
 early s bases log from (Reject ts class by write) f = let t = f.0.time in let l = f.1.early in omega arith
 early s bases log from (Release ts) f = let t = f.0.time in let l = f.1.early in omega arith
@@ -155,8 +145,7 @@ has_room s log setting sound low =
 -- the module within the call
 
 pub amid_handed : (s : Setting) (bases : Bases) (log : Log) (from : Site) (m : Msg) → IsSettingOf s log
-    → IsSound s log → AreSettled (state_of s log) → fits s bases log from m
-    → IsAmid s bases (state_handed from m (state_of s log)) (Handed from m ∷ log)
+    → IsSound s log → AreSettled (state_of s log) → fits s bases log from m → IsAmid s bases (state_handed from m (state_of s log)) (Handed from m ∷ log)
 amid_handed s bases log from m setting sound settled f =
     let now : IsSound s (Handed from m ∷ log) = sound_handed s bases log from m f.1 sound in
     let is = state_kept s log from m sound.turns in
@@ -168,11 +157,7 @@ amid_handed s bases log from m setting sound settled f =
       served = λ i c e. served_handed s bases log c from m (answer_fits s bases log from m f.1)
           (sound.lines i c e).asking (resting s.catalogue bases (active s c log) (settled_of s log settled i c e));
       room = subst (λ (st : State). st.clock.ticks + all_starts st.classes + 1 < 2 ^ 57) is
-          (has_room s (Handed from m ∷ log) (record {
-            valid = setting.valid;
-            whole = setting.whole;
-            era = setting.era;
-          }) now (early s bases log from m f));
+          (has_room s (Handed from m ∷ log) (record { valid = setting.valid; whole = setting.whole; era = setting.era }) now (early s bases log from m f));
     }
 
 -- what the message touches
@@ -182,7 +167,6 @@ awaited_class : (s : Setting) (log : Log) (f : Phase → Bool) (from : Site) (ts
 awaited_class s log f from ts k c h e = subst (λ n. AwaitsAt f (active s n log) from ts) e h
 
 -- an answer is one that its class awaits
-pub is_awaited : (s : Setting) (bases : Bases) (log : Log) (from : Site) (m : Msg) (c : ℕ)
-    → fits_kind s bases log from m → IsAwaited c from m (active s c log)
+pub is_awaited : (s : Setting) (bases : Bases) (log : Log) (from : Site) (m : Msg) (c : ℕ) → fits_kind s bases log from m → IsAwaited c from m (active s c log)
 is_awaited s bases log from (Values ts class u values) c f = λ e. awaited_class s log (fetches_use u) from ts.0 class.0 c f e
 is_awaited s bases log from _ c f = tt

@@ -7,13 +7,7 @@ use Rattle.sdd_attempt.specs.protocol.declared.entry.Entry as line
 -- the parts of a module
 abbrev pub parts : Catalogue → List line.Entry → Ticking → Bool → Bool → List ClassState → State
 parts cat table clock on_hold owes_held classes =
-    record {
-      force = record { catalogue = cat; table = table };
-      clock = clock;
-      on_hold = on_hold;
-      owes_held = owes_held;
-      classes = classes;
-    }
+    record { force = record { catalogue = cat; table = table }; clock = clock; on_hold = on_hold; owes_held = owes_held; classes = classes }
 
 pub lent_is : {A : Type 0} (xs : List A) (i : ℕ) (x y : A) → slice_get xs i ≡ Some x → y ≡ slice_index_or xs i y → y ≡ x
 lent_is [] i x y e f = absurd cc

@@ -11,34 +11,29 @@ get_within [] i x e = absurd cc
 get_within (y ∷ xs) zero x e = omega arith
 get_within (y ∷ xs) (suc i) x e = let rest = get_within xs i x e in omega arith
 
-pub get_map : {A B : Type 0} (f : A → B) (xs : List A) (i : ℕ) (x : A) → slice_get xs i ≡ Some x
-    → slice_get (map f xs) i ≡ Some (f x)
+pub get_map : {A B : Type 0} (f : A → B) (xs : List A) (i : ℕ) (x : A) → slice_get xs i ≡ Some x → slice_get (map f xs) i ≡ Some (f x)
 get_map f [] i x e = absurd cc
 get_map f (y ∷ xs) zero x e = ap (λ z. Some (f z)) (some_is e)
 get_map f (y ∷ xs) (suc i) x e = get_map f xs i x e
 
-pub of_map : {A B : Type 0} (f : A → B) (xs : List A) (i : ℕ) (y : B) → slice_get (map f xs) i ≡ Some y
-    → (x : A) × (slice_get xs i ≡ Some x) × (f x ≡ y)
+pub of_map : {A B : Type 0} (f : A → B) (xs : List A) (i : ℕ) (y : B) → slice_get (map f xs) i ≡ Some y → (x : A) × (slice_get xs i ≡ Some x) × (f x ≡ y)
 of_map f [] i y e = absurd cc
 of_map f (x ∷ xs) zero y e = (x, refl, some_is e)
 of_map f (x ∷ xs) (suc i) y e = of_map f xs i y e
 
-pub get_set_here : {A : Type 0} (xs : List A) (i : ℕ) (x new y : A) → slice_get xs i ≡ Some x
-    → slice_get (slice_set xs i new) i ≡ Some y → new ≡ y
+pub get_set_here : {A : Type 0} (xs : List A) (i : ℕ) (x new y : A) → slice_get xs i ≡ Some x → slice_get (slice_set xs i new) i ≡ Some y → new ≡ y
 get_set_here [] i x new y e f = absurd cc
 get_set_here (z ∷ xs) zero x new y e f = some_is f
 get_set_here (z ∷ xs) (suc i) x new y e f = get_set_here xs i x new y e f
 
-pub get_set_other : {A : Type 0} (xs : List A) (i j : ℕ) (new y : A) → j ≢ i
-    → slice_get (slice_set xs i new) j ≡ Some y → slice_get xs j ≡ Some y
+pub get_set_other : {A : Type 0} (xs : List A) (i j : ℕ) (new y : A) → j ≢ i → slice_get (slice_set xs i new) j ≡ Some y → slice_get xs j ≡ Some y
 get_set_other (z ∷ xs) zero zero new y apart e = absurd (apart refl)
 get_set_other (z ∷ xs) (suc i) (suc j) new y apart e = get_set_other xs i j new y (λ q. apart (ap suc q)) e
 get_set_other _ _ _ new y apart e = e
 
 -- the first of which something is made
 
-pub none_first : {A B : Type 0} (f : A → Option B) (xs : List A)
-    → ((i : ℕ) (x : A) → slice_get xs i ≡ Some x → f x ≡ None) → first_some f xs ≡ None
+pub none_first : {A B : Type 0} (f : A → Option B) (xs : List A) → ((i : ℕ) (x : A) → slice_get xs i ≡ Some x → f x ≡ None) → first_some f xs ≡ None
 none_first f [] h = refl
 none_first f (x ∷ xs) h = rw (h 0 x refl, none_first f xs (λ i y e. h (suc i) y e)) refl
 
@@ -68,23 +63,18 @@ first_at f (y ∷ xs) (suc k) x b e g h =
 
 -- a member changes alone
 
-pub map_same : {A B : Type 0} (f g : A → B) (xs : List A) → ((i : ℕ) (y : A) → slice_get xs i ≡ Some y → f y ≡ g y)
-    → map f xs ≡ map g xs
+pub map_same : {A B : Type 0} (f g : A → B) (xs : List A) → ((i : ℕ) (y : A) → slice_get xs i ≡ Some y → f y ≡ g y) → map f xs ≡ map g xs
 map_same f g [] h = refl
 map_same f g (x ∷ xs) h = rw (h 0 x refl, map_same f g xs (λ i y e. h (suc i) y e)) refl
 
 pub map_is_set : {A B : Type 0} (f g : A → B) (xs : List A) (k : ℕ) (x : A) (new : B) → slice_get xs k ≡ Some x
-    → f x ≡ new → ((i : ℕ) (y : A) → slice_get xs i ≡ Some y → i ≢ k → f y ≡ g y)
-    → map f xs ≡ slice_set (map g xs) k new
+    → f x ≡ new → ((i : ℕ) (y : A) → slice_get xs i ≡ Some y → i ≢ k → f y ≡ g y) → map f xs ≡ slice_set (map g xs) k new
 map_is_set f g [] k x new e is h = absurd cc
 map_is_set f g (y ∷ xs) zero x new e is h =
     let here : f y ≡ new = ap f (some_is e) ∙ is in
     rw (here, map_same f g xs (λ i z q. h (suc i) z q (λ r. absurd (omega arith)))) refl
 map_is_set f g (y ∷ xs) (suc k) x new e is h =
-    rw (
-      h 0 y refl (λ q. absurd (omega arith)),
-      map_is_set f g xs k x new e is (λ i z q r. h (suc i) z q (λ t. r (omega arith))),
-    ) refl
+    rw (h 0 y refl (λ q. absurd (omega arith)), map_is_set f g xs k x new e is (λ i z q r. h (suc i) z q (λ t. r (omega arith)))) refl
 
 -- whichever order two numbers have
 pub by_order : (P : Type 0) (a b : ℕ) → (a < b → P) → (a ≡ b → P) → (b < a → P) → P

@@ -5,8 +5,7 @@ use Rattle.sdd_attempt.specs.protocol.declared.entry.Entry as line
 
 -- no row of the database
 
-entry_of : (db : Database) (rel : ℕ) (row : Row) → Has (rows_of db rel) row
-    → (e : Item × Row) × Has db e × ((e.0.0 == rel) ≡ true) × (e.1 ≡ row)
+entry_of : (db : Database) (rel : ℕ) (row : Row) → Has (rows_of db rel) row → (e : Item × Row) × Has db e × ((e.0.0 == rel) ≡ true) × (e.1 ≡ row)
 entry_of db rel row h =
     let m = Has-filter_map_from (λ (e : Item × Row). cond (e.0.0 == rel) (Some e.1) None) db row h in
     let e : Item × Row = m.0 in
@@ -19,14 +18,12 @@ entry_of db rel row h =
 no_row : (cat : Catalogue) → IsSound cat → (db : Database) → IsDatabase cat db
     → (rels : List RelNo) (part : ℕ) (conds : List Condition) (rel : ℕ) → rel_of rels part ≡ rel
     → IsRelation cat rel → AllByRecursion (FitsCondition cat rels) conds
-    → fragments_for cat rel (restrictions_of part conds) ≡ [] → (row : Row) → Has (rows_of db rel) row
-    → meets_restrictions conds part row ≡ true → ⊥
+    → fragments_for cat rel (restrictions_of part conds) ≡ [] → (row : Row) → Has (rows_of db rel) row → meets_restrictions conds part row ≡ true → ⊥
 no_row cat sound db is rels part conds rel of there fits none row h met =
     let o = entry_of db rel row h in
     let e : Item × Row = o.0 in
     let entry : IsEntry cat e = each_has (IsEntry cat) db e (recursion_from_All (IsEntry cat) db is.entries) o.1 in
-    let lies = lies_in_use cat sound rels part conds rel of there fits e entry o.2
-    (subst (λ r. meets_restrictions conds part r ≡ true) (sym o.3) met) in
+    let lies = lies_in_use cat sound rels part conds rel of there fits e entry o.2 (subst (λ r. meets_restrictions conds part r ≡ true) (sym o.3) met) in
     false≢true (subst (λ (fs : List FragNo). contains (map (λ f. f.0) fs) (fragment_of cat e.0.0 e.0.1) ≡ true) none lies)
 
 -- statements whose uses lie in no fragment
@@ -34,8 +31,7 @@ no_row cat sound db is rels part conds rel of there fits none row h met =
 abbrev NoFragments : List Use → Type 0
 NoFragments uses = AllByRecursion (λ (u : Use). u.frags ≡ []) uses
 
-first_of_product : (rows : List Row) (rest : List (List Row)) (tuple : Tuple) → Has (product (rows ∷ rest)) tuple
-    → Has rows (part_of tuple 1)
+first_of_product : (rows : List Row) (rest : List (List Row)) (tuple : Tuple) → Has (product (rows ∷ rest)) tuple → Has rows (part_of tuple 1)
 first_of_product rows rest tuple h =
     let m = Has-flat_map_from (λ (row : Row). map (λ (t : Tuple). row ∷ t) (product rest)) rows tuple h in
     let n = Has-map_from (λ (t : Tuple). m.0 ∷ t) (product rest) tuple m.2 in
@@ -50,8 +46,7 @@ enough cat sound db is before (Query out (rel ∷ rels) conds) fits none = λ tu
     let row = first_of_product (rows_of db rel.0) (map (λ (r : RelNo). rows_of db r.0) rels) tuple h in
     let there = recursion_from_All (λ (r : RelNo). IsRelation cat r.0) (rel ∷ rels) fits.1 in
     absurd (no_row cat sound db is (rel ∷ rels) 1 conds rel.0 refl there.0
-    (recursion_from_All (FitsCondition cat (rel ∷ rels)) conds fits.4.1) none.0 (part_of tuple 1) row
-    (parts_meet conds tuple 1 met))
+    (recursion_from_All (FitsCondition cat (rel ∷ rels)) conds fits.4.1) none.0 (part_of tuple 1) row (parts_meet conds tuple 1 met))
 enough cat sound db is before (Update rel sets conds) fits none = λ row of.
     absurd (no_row cat sound db is (rel ∷ []) 1 conds rel.0 refl fits.0
     (recursion_from_All (FitsCondition cat (rel ∷ [])) conds fits.3.1) none.0 row of.0 of.1)
@@ -75,14 +70,12 @@ nothing_serves : (cat : Catalogue) → IsSound cat → (txn : Txn) → Fits cat 
 nothing_serves cat sound txn fits db is none = record {
   named = λ s h. absurd h;
   held = λ u h row r. absurd r;
-  enough = enough_along cat sound db is 0 txn.statements (recursion_from_All (FitsStatement cat) txn.statements
-      fits.statements) none;
+  enough = enough_along cat sound db is 0 txn.statements (recursion_from_All (FitsStatement cat) txn.statements fits.statements) none;
 }
 
 -- a class reads all of its transactions' fragments somewhere: where it has no module, there are none
 
-nothing_kept : (cat : Catalogue) (c : ℕ) (fs : List ℕ) → list_all (λ f. is_some (reads_at cat c f)) fs ≡ true
-    → filter_map (reads_at cat c) fs ≡ [] → fs ≡ []
+nothing_kept : (cat : Catalogue) (c : ℕ) (fs : List ℕ) → list_all (λ f. is_some (reads_at cat c f)) fs ≡ true → filter_map (reads_at cat c) fs ≡ [] → fs ≡ []
 nothing_kept cat c [] h e = refl
 nothing_kept cat c (f ∷ fs) h e =
     there (reads_at cat c f) (and_parts (is_some (reads_at cat c f)) (list_all (λ f. is_some (reads_at cat c f)) fs)
@@ -99,8 +92,7 @@ not_empty xs e = by xs (ascending_back (λ n. ⊥) xs (subst (AllByRecursion (λ
     by [] h = refl
     by (y ∷ ys) h = absurd h.0
 
-first_is_empty : (u : Use) (fs : List FragNo) (more : List ℕ) → u.frags ≡ fs
-    → map (λ (f : FragNo). f.0) fs ++ more ≡ [] → (u.frags ≡ []) × (more ≡ [])
+first_is_empty : (u : Use) (fs : List FragNo) (more : List ℕ) → u.frags ≡ fs → map (λ (f : FragNo). f.0) fs ++ more ≡ [] → (u.frags ≡ []) × (more ≡ [])
 first_is_empty u [] more f g = (f, g)
 first_is_empty u (x ∷ fs) more f g = absurd cc
 
@@ -108,8 +100,7 @@ no_fragments : (uses : List Use) → fragments_in uses ≡ [] → NoFragments us
 no_fragments [] e = tt
 no_fragments (u ∷ uses) e = let p = first_is_empty u u.frags (fragments_in uses) refl e in (p.0, no_fragments uses p.1)
 
-pub no_modules : (cat : Catalogue) (c : ℕ) (txn : Txn) → 1 ≤ c
-    → list_all (λ f. is_some (reads_at cat c f)) (read_set cat txn) ≡ true
+pub no_modules : (cat : Catalogue) (c : ℕ) (txn : Txn) → 1 ≤ c → list_all (λ f. is_some (reads_at cat c f)) (read_set cat txn) ≡ true
     → modules_of cat c (ascending (fragments_in (uses_of cat txn))) ≡ [] → NoFragments (uses_of cat txn)
 no_modules cat c txn low covered e =
     let declared : (c == 0) ≡ false = ne_eqb c 0 (λ q. absurd (omega arith)) in
@@ -129,8 +120,7 @@ over_without (m ∷ ms) e = absurd (false≢true e)
 
 pub start_served : (cat : Catalogue) (table : List line.Entry) (bases : Bases) (c : ℕ) (given : List ℕ)
     (k : Ticking) (q : Queued) → IsSound cat → ((ts : ℕ) → IsDatabase cat (bases ts)) → 1 ≤ c
-    → IsWaiting cat c given q
-    → IsServed cat bases (started (timestamp (ticked k 1)) (sends_of_act (start_act cat table c k q)) (Some q))
+    → IsWaiting cat c given q → IsServed cat bases (started (timestamp (ticked k 1)) (sends_of_act (start_act cat table c k q)) (Some q))
 start_served cat table bases c given k q sound databases low waiting = λ over.
     let sends : List (Site × Msg) = sends_of_act (start_act cat table c k q) in
     let none : modules_of cat c (ascending (fragments_in (uses_of cat q.text))) ≡ [] =

@@ -20,8 +20,7 @@ rise_kept p low high (q ∷ qs) h =
       | false ↦ rise_lower low q.hand high (filter p qs) (omega arith) (rise_kept p q.hand high qs h.1)
     ]
 
-rise_pushed : (low high : ℕ) (qs : List Question) (q : Question) → q.hand ≡ suc high → Rise low high qs
-    → Rise low (suc high) (qs ++ q ∷ [])
+rise_pushed : (low high : ℕ) (qs : List Question) (q : Question) → q.hand ≡ suc high → Rise low high qs → Rise low (suc high) (qs ++ q ∷ [])
 rise_pushed low high [] q is h = (omega arith, omega arith)
 rise_pushed low high (x ∷ qs) q is h = (h.0, rise_pushed x.hand high qs q is h.1)
 
@@ -34,13 +33,11 @@ all_below low high n (q ∷ qs) l h =
     up low high [] h = h
     up low high (q ∷ qs) h = let m : low < q.hand = h.0 in let r = up q.hand high qs h.1 in omega arith
 
-all_pushed : (P : Question → Type 0) (qs : List Question) (q : Question) → AllByRecursion P qs → P q
-    → AllByRecursion P (qs ++ q ∷ [])
+all_pushed : (P : Question → Type 0) (qs : List Question) (q : Question) → AllByRecursion P qs → P q → AllByRecursion P (qs ++ q ∷ [])
 all_pushed P [] q h k = (k, tt)
 all_pushed P (x ∷ qs) q h k = (h.0, all_pushed P qs q h.1 k)
 
-all_kept : (P : Question → Type 0) (p : Question → Bool) (qs : List Question) → AllByRecursion P qs
-    → AllByRecursion P (filter p qs)
+all_kept : (P : Question → Type 0) (p : Question → Bool) (qs : List Question) → AllByRecursion P qs → AllByRecursion P (filter p qs)
 all_kept P p [] h = tt
 all_kept P p (q ∷ qs) h =
     elim (p q) as (λ b. AllByRecursion P (cond b (q ∷ filter p qs) (filter p qs)))
@@ -101,8 +98,7 @@ all_later n low high (q ∷ qs) l h =
     let apart : (n == q.hand) ≡ false = ne_eqb n q.hand (λ e. absurd (omega arith)) in
     rw apart (ap (λ rest. q ∷ rest) (all_later n q.hand high qs (omega arith) h.1))
 
-not_yet : (v : View) (a : Option Attempt) (q : Question) → can_answer a (asked q) ≡ false
-    → null_at q (null_time v a q.time) ≡ None
+not_yet : (v : View) (a : Option Attempt) (q : Question) → can_answer a (asked q) ≡ false → null_at q (null_time v a q.time) ≡ None
 not_yet v None q e = absurd (false≢true (sym e))
 not_yet v (Some a) q e = rw e refl
 
@@ -126,8 +122,7 @@ none_answered v k (q ∷ qs) h =
 -- the first of a class that can be answered
 pub record IsFirst (v : View) (k : ClassView) (low : ℕ) (qs : List Question) : Type 0 where
   pub question : Question
-  pub due : first_some (null_to v k) qs ≡ Some
-      (Sends question.from (Null (class_no k.class) (time_at (answer_time v.clock k.active))) (Some question.hand))
+  pub due : first_some (null_to v k) qs ≡ Some (Sends question.from (Null (class_no k.class) (time_at (answer_time v.clock k.active))) (Some question.hand))
   pub found : find (can_answer k.active) (asks_of k.class qs) ≡ Some (asked question)
   pub later : low < question.hand
   pub gone : asks_of k.class (without_hand question.hand qs) ≡ without_first (can_answer k.active) (asks_of k.class qs)
@@ -145,8 +140,7 @@ answered_now v k q same e = by k.active e
     by (Some a) f = rw f (ap (λ c. Some (Sends q.from (Null (class_no c) (time_at a.ts)) (Some q.hand))) same)
 
 -- one ASK more before them: of another class, or not yet to be answered
-skips : (v : View) (k : ClassView) (low high : ℕ) (q : Question) (qs : List Question) → Rise low high (q ∷ qs)
-    → null_to v k q ≡ None
+skips : (v : View) (k : ClassView) (low high : ℕ) (q : Question) (qs : List Question) → Rise low high (q ∷ qs) → null_to v k q ≡ None
     → (q.class ≡ k.class → can_answer k.active (asked q) ≡ false) → IsFirst v k q.hand qs → IsFirst v k low (q ∷ qs)
 skips v k low high q qs h none not_yet first =
     let m : low < q.hand = h.0 in
@@ -164,8 +158,7 @@ skips v k low high q qs h none not_yet first =
   where
     find_on : (b : Bool) → (b ≡ true → can_answer k.active (asked q) ≡ false)
         → find (can_answer k.active) (asks_of k.class qs) ≡ Some (asked first.question) → find (can_answer k.active)
-        (map asked (cond b (q ∷ filter (λ r. r.class == k.class) qs) (filter (λ r. r.class == k.class) qs))) ≡ Some
-        (asked first.question)
+        (map asked (cond b (q ∷ filter (λ r. r.class == k.class) qs) (filter (λ r. r.class == k.class) qs))) ≡ Some (asked first.question)
     find_on true f g = rw (f refl) g
     find_on false f g = g
 
@@ -174,8 +167,7 @@ skips v k low high q qs h none not_yet first =
         (asks_of k.class qs)
         → map asked (cond b (q ∷ filter (λ r. r.class == k.class) (without_hand first.question.hand qs))
         (filter (λ r. r.class == k.class) (without_hand first.question.hand qs)))
-        ≡ without_first (can_answer k.active)
-        (map asked (cond b (q ∷ filter (λ r. r.class == k.class) qs) (filter (λ r. r.class == k.class) qs)))
+        ≡ without_first (can_answer k.active) (map asked (cond b (q ∷ filter (λ r. r.class == k.class) qs) (filter (λ r. r.class == k.class) qs)))
     gone_on true f g = rw (f refl) (ap (λ rest. asked q ∷ rest) g)
     gone_on false f g = g
 
@@ -200,17 +192,14 @@ first_here v k low high q qs h own yes_now =
     record {
       question = q;
       due = ap (λ o. or_else o (first_some (null_to v k) qs)) to;
-      found = ap (find (can_answer k.active)) here
-          ∙ ap (λ b. cond b (Some (asked q)) (find (can_answer k.active) (asks_of k.class qs))) yes_now;
+      found = ap (find (can_answer k.active)) here ∙ ap (λ b. cond b (Some (asked q)) (find (can_answer k.active) (asks_of k.class qs))) yes_now;
       later = h.0;
       gone = ap (asks_of k.class) gone
           ∙ sym (ap (without_first (can_answer k.active)) here
-          ∙ ap (λ b. cond b (asks_of k.class qs)
-          (asked q ∷ without_first (can_answer k.active) (asks_of k.class qs))) yes_now);
+          ∙ ap (λ b. cond b (asks_of k.class qs) (asked q ∷ without_first (can_answer k.active) (asks_of k.class qs))) yes_now);
       others = λ c apart.
           let other : (q.class == c) ≡ false = ne_eqb q.class c (λ e. apart (sym same ∙ e)) in
-          ap (asks_of c) gone ∙ sym (ap (λ b. map asked
-          (cond b (q ∷ filter (λ r. r.class == c) qs) (filter (λ r. r.class == c) qs))) other);
+          ap (asks_of c) gone ∙ sym (ap (λ b. map asked (cond b (q ∷ filter (λ r. r.class == c) qs) (filter (λ r. r.class == c) qs))) other);
     }
 
 skips_none : (v : View) (k : ClassView) (q : Question) (b : Bool) → (q.class == k.class) ≡ b
@@ -230,11 +219,9 @@ first_answered v k low high (q ∷ qs) h e =
           elim (can_answer k.active (asked q)) as (λ b. can_answer k.active (asked q) ≡ b
           → (b || list_any (can_answer k.active) (asks_of k.class qs)) ≡ true → IsFirst v k low (q ∷ qs)) [
             | true ↦ λ yes_now f. first_here v k low high q qs h own yes_now
-            | false ↦ λ not_now f. skips v k low high q qs h (skips_none v k q true own (λ r. not_now))
-                (λ r. not_now) (first_answered v k q.hand high qs h.1 f)
+            | false ↦ λ not_now f. skips v k low high q qs h (skips_none v k q true own (λ r. not_now)) (λ r. not_now) (first_answered v k q.hand high qs h.1 f)
           ] refl g
       | false ↦ λ other g.
           skips v k low high q qs h (skips_none v k q false other (λ r. absurd (false≢true r)))
-          (λ r. absurd (false≢true (sym other ∙ eq-eqb q.class k.class r)))
-          (first_answered v k q.hand high qs h.1 g)
+          (λ r. absurd (false≢true (sym other ∙ eq-eqb q.class k.class r))) (first_answered v k q.hand high qs h.1 g)
     ] refl e

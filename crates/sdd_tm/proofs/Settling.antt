@@ -1,5 +1,5 @@
 -- The loop over the classes of a module: what each step asks for, and what it leaves.
-use Rattle.sdd_tm.proofs.All.{Answer, AreTried, Bases, Bool, ClassState, Commit, IsAmid, IsCalm, IsDatabase, IsServed, List, Log, None, Notes, Option, Send, ServesAt, Setting, Some, Start, State, Step, ToCommit, Works, [], act_of, ap, arith, class_of, class_step, clock, commits, length, line_step, noted, refl, runs, served_of, slice_get, slice_set, state_done, step_at, subst, suc, sym, tries_told, work, zero, ℕ, ◌+◌, ◌<◌, ◌∙◌, ◌∷◌, ◌≡◌, ◌≤◌}
+use Rattle.sdd_tm.proofs.All.{Answer, AreTried, Bases, Bool, ClassState, Commit, IsAmid, IsCalm, IsDatabase, IsServed, List, Log, None, Notes, Option, Send, ServesAt, Setting, Some, Start, State, Step, ToCommit, Works, act_of, ap, arith, class_of, class_step, clock, commits, length, line_step, noted, refl, runs, served_of, slice_get, slice_set, state_done, step_at, subst, suc, sym, tries_told, work, ℕ, ◌+◌, ◌<◌, ◌∙◌, ◌∷◌, ◌≡◌, ◌≤◌}
 use Rattle.sdd_tm.proofs.Lists.{of_map}
 use Rattle.sdd_tm.proofs.ClassNumbers.{runs_class}
 use Rattle.sdd_tm.proofs.Dues.{IsStep, commits_now, starts, step_is}
@@ -14,12 +14,10 @@ pub record HasStep (state : State) (place : ℕ) (step : Step) : Type 0 where
   pub there : slice_get state.classes place ≡ Some class
   pub steps : class_step state.on_hold class ≡ Some step
 
-pub has_step : (state : State) (place : ℕ) (step : Step)
-    → Some step ≡ step_at state.on_hold (slice_get state.classes place) → HasStep state place step
+pub has_step : (state : State) (place : ℕ) (step : Step) → Some step ≡ step_at state.on_hold (slice_get state.classes place) → HasStep state place step
 has_step state place step e = by (slice_get state.classes place) refl (sym e)
   where
-    by : (o : Option ClassState) → slice_get state.classes place ≡ o → step_at state.on_hold o ≡ Some step
-        → HasStep state place step
+    by : (o : Option ClassState) → slice_get state.classes place ≡ o → step_at state.on_hold o ≡ Some step → HasStep state place step
     by None f g = absurd cc
     by (Some k) f g = record { class = k; there = f; steps = g }
 
@@ -37,8 +35,7 @@ pub record OfLog (s : Setting) (log : Log) (state : State) (place : ℕ) (k : Cl
 pub of_log : (s : Setting) (bases : Bases) (state : State) (log : Log) (place : ℕ) (k : ClassState)
     → IsAmid s bases state log → slice_get state.classes place ≡ Some k → OfLog s log state place k
 of_log s bases state log place k amid e =
-    let r = of_map (class_of s log) (runs s) place k (subst (λ (st : State). slice_get st.classes place ≡ Some k)
-    (sym amid.state_is) e) in
+    let r = of_map (class_of s log) (runs s) place k (subst (λ (st : State). slice_get st.classes place ≡ Some k) (sym amid.state_is) e) in
     record { number = r.0; runs_it = r.1; is = r.2 }
 
 pub declared_class : (s : Setting) (bases : Bases) (state : State) (log : Log) (place : ℕ) (k : ClassState)
@@ -52,17 +49,14 @@ pub tried_class : (s : Setting) (bases : Bases) (state : State) (log : Log) (pla
 tried_class s bases state log place k amid e =
     let o = of_log s bases state log place k amid e in
     subst (λ (st : State). AreTried st.clock.ticks k.line.queue) amid.state_is
-    (subst (λ (x : ClassState). AreTried (clock s.site log).ticks x.line.queue) o.is
-    (tries_told s o.number log))
+    (subst (λ (x : ClassState). AreTried (clock s.site log).ticks x.line.queue) o.is (tries_told s o.number log))
 
 pub catalogue_class : (s : Setting) (bases : Bases) (state : State) (log : Log) (place : ℕ) (k : ClassState)
     → IsAmid s bases state log → slice_get state.classes place ≡ Some k → s.catalogue ≡ k.line.catalogue
-catalogue_class s bases state log place k amid e =
-    ap (λ (x : ClassState). x.line.catalogue) (of_log s bases state log place k amid e).is
+catalogue_class s bases state log place k amid e = ap (λ (x : ClassState). x.line.catalogue) (of_log s bases state log place k amid e).is
 
 pub idle_class : (state : State) (place : ℕ) (k : ClassState) (step : Step)
-    → Some step ≡ step_at state.on_hold (slice_get state.classes place) → slice_get state.classes place ≡ Some k
-    → step ≡ Start → k.line.active ≡ None
+    → Some step ≡ step_at state.on_hold (slice_get state.classes place) → slice_get state.classes place ≡ Some k → step ≡ Start → k.line.active ≡ None
 idle_class state place k step e f g =
     let steps : class_step state.on_hold k ≡ Some step = sym (ap (step_at state.on_hold) f) ∙ sym e in
     by step (step_is state.on_hold k step steps) g
@@ -75,8 +69,7 @@ idle_class state place k step e f g =
 
 -- one that commits has the rows
 
-commit_line : (on : Bool) (k : ClassState) (step : Step) → IsStep on k step → step ≡ Commit
-    → line_step k.line.active ≡ Some ToCommit
+commit_line : (on : Bool) (k : ClassState) (step : Step) → IsStep on k step → step ≡ Commit → line_step k.line.active ≡ Some ToCommit
 commit_line on k Commit (commits_now e) h = e
 commit_line on k Send i h = absurd cc
 commit_line on k Answer i h = absurd cc
@@ -90,8 +83,7 @@ commit_served s bases state log place k step amid e steps is =
     let line = commit_line state.on_hold k step (step_is state.on_hold k step steps) is in
     let c = commits k.line.active line in
     let served : IsServed s.catalogue bases k.line.active =
-    subst (λ (x : ClassState). IsServed s.catalogue bases x.line.active) o.is
-    (amid.served place o.number o.runs_it) in
+    subst (λ (x : ClassState). IsServed s.catalogue bases x.line.active) o.is (amid.served place o.number o.runs_it) in
     subst (λ cat. ServesAt cat bases k.line.active) (catalogue_class s bases state log place k amid e)
     (served_of s.catalogue bases k.line.active c.attempt c.active c.over served)
 
@@ -117,13 +109,11 @@ still before now place end old notes s bases log amid going = let r = going.work
 -- what the class did, as its clauses say it
 
 abbrev pub StateDone : State → ℕ → Step → State → Type 0
-StateDone now place step after = (bases : Bases) (k : ClassState) → slice_get now.classes place ≡ Some k
-    → after ≡ state_done bases place k step now
+StateDone now place step after = (bases : Bases) (k : ClassState) → slice_get now.classes place ≡ Some k → after ≡ state_done bases place k step now
 
 abbrev pub NotesDone : State → ℕ → Step → Notes → Notes → Type 0
 NotesDone now place step notes new = (bases : Bases) (k : ClassState) → slice_get now.classes place ≡ Some k
-    → ((ts : ℕ) → IsDatabase k.line.catalogue (bases ts))
-    → (step ≡ Commit → ServesAt k.line.catalogue bases k.line.active)
+    → ((ts : ℕ) → IsDatabase k.line.catalogue (bases ts)) → (step ≡ Commit → ServesAt k.line.catalogue bases k.line.active)
     → new ≡ noted (act_of bases now.force.table now.clock k step) notes
 
 length_set : {A : Type 0} (xs : List A) (i : ℕ) (x : A) → length (slice_set xs i x) ≡ length xs
@@ -138,8 +128,7 @@ goes_on before now after place end step old notes new bases going less e state d
     let k : ClassState = h.class in
     record {
       few = ap (λ (st : State). length st.classes) (state bases k h.there) ∙ length_set now.classes place _ ∙ going.few;
-      works = works_on before now place end k step after old notes new going.works going.calm h.there h.steps
-          (λ b. state b k h.there)
+      works = works_on before now place end k step after old notes new going.works going.calm h.there h.steps (λ b. state b k h.there)
           (λ s b log amid. draft b k h.there
           (λ ts. subst (λ cat. IsDatabase cat (b ts)) (catalogue_class s b now log place k amid h.there)
           (amid.databases ts)) (commit_served s b now log place k step amid h.there h.steps));
@@ -147,8 +136,7 @@ goes_on before now after place end step old notes new bases going less e state d
     }
 
 pub less_work : (now after : State) (place : ℕ) (step : Step) → Somewhere now
-    → Some step ≡ step_at now.on_hold (slice_get now.classes place) → StateDone now place step after
-    → work after.classes < work now.classes
+    → Some step ≡ step_at now.on_hold (slice_get now.classes place) → StateDone now place step after → work after.classes < work now.classes
 less_work now after place step at e state =
     let h = has_step now place step e in
     let same = ap (λ (st : State). work st.classes) (state at.bases h.class h.there) in
@@ -156,11 +144,6 @@ less_work now after place step at e state =
     omega arith
 
 pub goes_past : (before now : State) (place end : ℕ) (old notes : Notes) → Going before now place end old notes
-    → place < end → None ≡ step_at now.on_hold (slice_get now.classes place)
-    → Going before now (place + 1) end old notes
+    → place < end → None ≡ step_at now.on_hold (slice_get now.classes place) → Going before now (place + 1) end old notes
 goes_past before now place end old notes going less e =
-    record {
-      few = going.few;
-      works = going.works;
-      calm = calm_next now place end less going.calm (none_there now place e);
-    }
+    record { few = going.few; works = going.works; calm = calm_next now place end less going.calm (none_there now place e) }

@@ -22,13 +22,11 @@ pub awaited_kept : (s : Setting) (bases : Bases) (log : Log) (state : State) (fr
     → IsKept s log state → fits_kind s bases log from m → (place : ℕ) (k : ClassState)
     → slice_get state.classes place ≡ Some k → IsAwaited k.line.class from m k.line.active
 awaited_kept s bases log state from m kept f place k e =
-    let r = of_map (class_of s log) (runs s) place k (subst (λ (st : State). slice_get st.classes place ≡ Some k)
-    (sym kept.state_is) e) in
+    let r = of_map (class_of s log) (runs s) place k (subst (λ (st : State). slice_get st.classes place ≡ Some k) (sym kept.state_is) e) in
     subst (λ (x : ClassState). IsAwaited x.line.class from m x.line.active) r.2 (is_awaited s bases log from m r.0 f)
 
 -- a push that the clock has room for
-pub push_early : (s : Setting) (bases : Bases) (log : Log) (from : Site) (m : Msg) → fits_kind s bases log from m
-    → push_of m / 64 < 2 ^ 57
+pub push_early : (s : Setting) (bases : Bases) (log : Log) (from : Site) (m : Msg) → fits_kind s bases log from m → push_of m / 64 < 2 ^ 57
 push_early s bases log from (Ask class time) f = let l = f.early in omega arith
 push_early s bases log from (Reject ts class by write) f = let l = f.early in omega arith
 push_early s bases log from (Release ts) f = let l = f.early in omega arith
@@ -37,16 +35,13 @@ push_early s bases log from _ f = omega arith
 
 -- a message for a class
 
-others_handed : (from : Site) (m : Msg) (class : ClassNo) → class_named m ≡ Some class → (x : ClassState)
-    → x.line.class ≢ class.0 → class_handed from m x ≡ x
-others_handed from m class named x other =
-    handed_other from m x (λ d f same. other (sym same ∙ ap (λ (k : ClassNo). k.0) (some_is (sym f ∙ named))))
+others_handed : (from : Site) (m : Msg) (class : ClassNo) → class_named m ≡ Some class → (x : ClassState) → x.line.class ≢ class.0 → class_handed from m x ≡ x
+others_handed from m class named x other = handed_other from m x (λ d f same. other (sym same ∙ ap (λ (k : ClassNo). k.0) (some_is (sym f ∙ named))))
 
 pub handed_nowhere : (st : State) (from : Site) (m : Msg) (class : ClassNo) → class_named m ≡ Some class
     → None ≡ place_of st.classes class.0 → st ≡ record st { classes = map (class_handed from m) st.classes }
 handed_nowhere st from m class named e =
-    ap (λ cs. record st { classes = cs })
-    (sym (named_nowhere (class_handed from m) st.classes class.0 (others_handed from m class named) (sym e)))
+    ap (λ cs. record st { classes = cs }) (sym (named_nowhere (class_handed from m) st.classes class.0 (others_handed from m class named) (sym e)))
 
 pub handed_somewhere : (st : State) (from : Site) (m : Msg) (class : ClassNo) (place : ℕ) (run new : ClassState)
     → class_named m ≡ Some class → Some place ≡ place_of st.classes class.0 → AreApart st.classes
@@ -59,12 +54,10 @@ handed_somewhere st from m class place run new named e apart lent is =
     apart (others_handed from m class named) at.there at.is (ap (class_handed from m) (sym same) ∙ sym is))
 
 -- a message for none
-pub handed_unnamed : (st new : State) (from : Site) (m : Msg) → new ≡ heeded m st → None ≡ class_named m
-    → new ≡ state_handed from m st
+pub handed_unnamed : (st new : State) (from : Site) (m : Msg) → new ≡ heeded m st → None ≡ class_named m → new ≡ state_handed from m st
 handed_unnamed st new from m e none =
     e ∙ ap (λ cs. record (heeded m st) { classes = cs })
-    (sym (map_same (class_handed from m) (λ k. k) st.classes (λ i k g. unnamed from m k (sym none))
-    ∙ all_same st.classes))
+    (sym (map_same (class_handed from m) (λ k. k) st.classes (λ i k g. unnamed from m k (sym none)) ∙ all_same st.classes))
   where
     all_same : (xs : List ClassState) → map (λ k. k) xs ≡ xs
     all_same [] = refl
@@ -73,13 +66,10 @@ handed_unnamed st new from m e none =
 -- a transaction
 
 pub given_nowhere : (st : State) (c n : ℕ) (txn : Txn) → None ≡ place_of st.classes c → st ≡ state_given c n txn st
-given_nowhere st c n txn e =
-    ap (λ cs. record st { classes = cs })
-    (sym (named_nowhere (class_given c n txn) st.classes c (given_other c n txn) (sym e)))
+given_nowhere st c n txn e = ap (λ cs. record st { classes = cs }) (sym (named_nowhere (class_given c n txn) st.classes c (given_other c n txn) (sym e)))
 
 abbrev with_given : ℕ → Txn → ClassState → ClassState
-with_given n txn k = record k
-    { line = record k.line { queue = k.line.queue ++ record { number = n; text = txn; tries = 0 } ∷ [] } }
+with_given n txn k = record k { line = record k.line { queue = k.line.queue ++ record { number = n; text = txn; tries = 0 } ∷ [] } }
 
 given_own : (c n : ℕ) (txn : Txn) (k : ClassState) → k.line.class ≡ c → class_given c n txn k ≡ with_given n txn k
 given_own c n txn k e = rw (eq-eqb k.line.class c e) refl
@@ -91,15 +81,13 @@ given_somewhere st c n txn place run new e apart lent is =
     let at = somewhere st.classes c place (sym e) in
     let same : run ≡ at.class = lent_is st.classes place at.class run at.there lent in
     ap (λ cs. record st { classes = cs }) (named_alone (class_given c n txn) st.classes c place at.class new apart
-    (given_other c n txn) at.there at.is (given_own c n txn at.class at.is ∙ ap (with_given n txn) (sym same)
-    ∙ sym is))
+    (given_other c n txn) at.there at.is (given_own c n txn at.class at.is ∙ ap (with_given n txn) (sym same) ∙ sym is))
 
 -- it fits the class that is lent, and is new there
 
 pub given_fits : (s : Setting) (bases : Bases) (log : Log) (state : State) (c n : ℕ) (txn : Txn) (place : ℕ)
     (run : ClassState) → IsKept s log state → FitsSubmit s bases log n txn → Some place ≡ place_of state.classes c
-    → run ≡ slice_index_or state.classes place run
-    → Fits run.line.catalogue txn × (contains (map (λ (q : Queued). q.number) run.line.queue) n ≡ false)
+    → run ≡ slice_index_or state.classes place run → Fits run.line.catalogue txn × (contains (map (λ (q : Queued). q.number) run.line.queue) n ≡ false)
 given_fits s bases log state c n txn place run kept f e lent =
     let at = somewhere state.classes c place (sym e) in
     let same : run ≡ at.class = lent_is state.classes place at.class run at.there lent in
@@ -112,8 +100,7 @@ given_fits s bases log state c n txn place run kept f e lent =
     )
 
 pub given_there : (state : State) (c place : ℕ) → Some place ≡ place_of state.classes c → place < length state.classes
-given_there state c place e = let at = somewhere state.classes c place (sym e) in
-    get_within state.classes place at.class at.there
+given_there state c place e = let at = somewhere state.classes c place (sym e) in get_within state.classes place at.class at.there
 
 -- a transaction that fits the setting's catalogue fits that in force
 pub fits_in_force : (s : Setting) (bases : Bases) (log : Log) (state : State) (n : ℕ) (txn : Txn)

@@ -6,16 +6,14 @@ use Rattle.sdd_tm.proofs.Dues.{held_is_due}
 use Rattle.sdd_tm.specs.Views as views
 
 -- whether all classes are idle, of the log and of what is kept of it
-idle_alike : (s : Setting) (log : Log) (cs : List ℕ) → list_all views.is_idle (map (class_view s log) cs) ≡ list_all
-    is_idle (map (class_of s log) cs)
+idle_alike : (s : Setting) (log : Log) (cs : List ℕ) → list_all views.is_idle (map (class_view s log) cs) ≡ list_all is_idle (map (class_of s log) cs)
 idle_alike s log [] = refl
 idle_alike s log (c ∷ cs) = ap (λ b. is_none (active s c log) && b) (idle_alike s log cs)
 
 -- an ASK isn't taken for a HOLD
 asks_stay : (n : ℕ) (qs : List Question) → AllByRecursion (λ q. q.hand ≢ n) qs → without_hand n qs ≡ qs
 asks_stay n [] h = refl
-asks_stay n (q ∷ qs) h = let apart : (n == q.hand) ≡ false = ne_eqb n q.hand (λ e. h.0 (sym e)) in
-    rw apart (ap (λ rest. q ∷ rest) (asks_stay n qs h.1))
+asks_stay n (q ∷ qs) h = let apart : (n == q.hand) ≡ false = ne_eqb n q.hand (λ e. h.0 (sym e)) in rw apart (ap (λ rest. q ∷ rest) (asks_stay n qs h.1))
 
 held_apart : (c t : ℕ) → IsApart c (Held (time_at t))
 held_apart c t = record { reads = λ ts. refl; asks = λ ts. refl }
@@ -31,8 +29,7 @@ class_stays s log c apart =
     ap (λ a. record {
       line = record { catalogue = s.catalogue; class = c; queue = queue s c log; active = a };
       asks = asks_of c (asks_acted (held_act s log) (asks log));
-    })
-    (sent_apart c (Held (time_at t)) (active s c log) (held_apart c t))
+    }) (sent_apart c (Held (time_at t)) (active s c log) (held_apart c t))
     ∙ ap (λ qs. record (class_of s log c) { asks = asks_of c qs }) (asks_stay (holds log).last (asks log) apart)
 
 -- once it is sent
@@ -51,11 +48,9 @@ told_amid s bases log amid h =
     let owed : (holds log).helds < (holds log).holds =
     ltb-true (holds log).helds (holds log).holds (and_parts (list_all is_idle (state_of s log).classes)
     (nat_lt (holds log).helds (holds log).holds)
-    (and_parts (on_hold (view_of s log)) (list_all is_idle (state_of s log).classes && nat_lt
-    (holds log).helds (holds log).holds) h).1).1 in
+    (and_parts (on_hold (view_of s log)) (list_all is_idle (state_of s log).classes && nat_lt (holds log).helds (holds log).holds) h).1).1 in
     let classes : map (class_of s (Did act ∷ log)) (runs s) ≡ map (class_of s log) (runs s) =
-    map_same (class_of s (Did act ∷ log)) (class_of s log) (runs s)
-    (λ i c e. class_stays s log c amid.sound.unanswered.apart) in
+    map_same (class_of s (Did act ∷ log)) (class_of s log) (runs s) (λ i c e. class_stays s log c amid.sound.unanswered.apart) in
     let paid : nat_lt (suc (holds log).helds) (holds log).holds ≡ false =
     le-ltb (suc (holds log).helds) (holds log).holds (omega arith) in
     record {
@@ -77,8 +72,7 @@ pub record Tells (s : Setting) (bases : Bases) (log : Log) (state : State) (act 
   pub hand : ℕ
   pub is_due : next s bases log ≡ Some (Sends U (Held (time_at (bound_of state.clock))) (Some hand))
   pub notes : (n : Notes) → noted (Some act) n ≡ with_act (Sends U (Held (time_at (bound_of state.clock))) (Some hand)) n
-  pub amid : IsAmid s bases (record state { owes_held = false })
-      (Did (Sends U (Held (time_at (bound_of state.clock))) (Some hand)) ∷ log)
+  pub amid : IsAmid s bases (record state { owes_held = false }) (Did (Sends U (Held (time_at (bound_of state.clock))) (Some hand)) ∷ log)
 
 held_if : (b : Bool) (x act : Act) → (if b then Some x else None) ≡ Some act → (b ≡ true) × (x ≡ act)
 held_if true x act e = (refl, some_is e)
@@ -117,8 +111,7 @@ tells s bases state log act amid settled e =
     (tells_of s bases log act (subst (λ st. IsAmid s bases st log) (sym is) amid)
     (subst AreSettled (sym is) settled) (subst (λ (st : State). held_of st ≡ Some act) (sym is) e))
 
-nothing_of : (s : Setting) (bases : Bases) (log : Log) → AreSettled (state_of s log)
-    → held_of (state_of s log) ≡ None → next s bases log ≡ None
+nothing_of : (s : Setting) (bases : Bases) (log : Log) → AreSettled (state_of s log) → held_of (state_of s log) ≡ None → next s bases log ≡ None
 nothing_of s bases log settled e =
     held_is_due s bases log settled ∙ held_same s log
     ∙ no_held_if (on_hold (view_of s log) && (list_all is_idle (state_of s log).classes && nat_lt (holds log).helds
@@ -126,9 +119,7 @@ nothing_of s bases log settled e =
 
 pub nothing_due : (s : Setting) (bases : Bases) (state : State) (log : Log) → state_of s log ≡ state
     → AreSettled state → held_of state ≡ None → next s bases log ≡ None
-nothing_due s bases state log is settled e =
-    nothing_of s bases log (subst AreSettled (sym is) settled) (subst (λ (st : State). held_of st ≡ None) (sym is)
-    e)
+nothing_due s bases state log is settled e = nothing_of s bases log (subst AreSettled (sym is) settled) (subst (λ (st : State). held_of st ≡ None) (sym is) e)
 
 -- and then it isn't due again
 

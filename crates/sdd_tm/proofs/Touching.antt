@@ -8,12 +8,10 @@ use Rattle.sdd_tm.proofs.Handing.{handed_other}
 
 -- the classes that f leaves as they are
 kept_by : (f : ClassState → ClassState) (classes : List ClassState) (j : ℕ) (x : ClassState)
-    → ((y : ClassState) → slice_get classes j ≡ Some y → f y ≡ y) → slice_get (map f classes) j ≡ Some x
-    → slice_get classes j ≡ Some x
+    → ((y : ClassState) → slice_get classes j ≡ Some y → f y ≡ y) → slice_get (map f classes) j ≡ Some x → slice_get classes j ≡ Some x
 kept_by f classes j x same e = let r = of_map f classes j x e in r.1 ∙ ap Some (sym (same r.0 r.1) ∙ r.2)
 
-starts_none : (old : State) → AreSettled old → (j : ℕ) (x : ClassState) → slice_get old.classes j ≡ Some x
-    → start_step old.on_hold x ≡ None
+starts_none : (old : State) → AreSettled old → (j : ℕ) (x : ClassState) → slice_get old.classes j ≡ Some x → start_step old.on_hold x ≡ None
 starts_none old settled j x e = (none_parts old.on_hold x (settled j x e)).1
 
 -- one class may be changed, and the hold stays
@@ -22,17 +20,14 @@ calm_one : (old new : State) (f : ClassState → ClassState) (c : ℕ) → AreSe
     → (o : Option ℕ) → place_of old.classes c ≡ o → IsCalm (one_place o).from (one_place o).end new
 calm_one old new f c settled apart is hold others None e =
     calm_kept old new 0 0 settled (omega arith)
-    (λ j x g h. kept_by f old.classes j x (λ y k. others y (nowhere old.classes c e j y k))
-    (subst (λ cs. slice_get cs j ≡ Some x) is g))
+    (λ j x g h. kept_by f old.classes j x (λ y k. others y (nowhere old.classes c e j y k)) (subst (λ cs. slice_get cs j ≡ Some x) is g))
     (λ j x g. (λ l. rw hold (starts_none old settled j x g), λ l. rw hold (starts_none old settled j x g)))
 calm_one old new f c settled apart is hold others (Some p) e =
     let at = somewhere old.classes c p e in
     calm_kept old new p (p + 1) settled (omega arith)
     (λ j x g h. kept_by f old.classes j x
-    (λ y k. others y (λ q. apart j p y at.class k at.there
-    (λ same. absurd (let l : p + 1 ≤ p = h same in omega arith)) (q ∙ sym at.is)))
-    (subst (λ cs. slice_get cs j ≡ Some x) is g))
-    (λ j x g. (λ l. rw hold (starts_none old settled j x g), λ l. rw hold (starts_none old settled j x g)))
+    (λ y k. others y (λ q. apart j p y at.class k at.there (λ same. absurd (let l : p + 1 ≤ p = h same in omega arith)) (q ∙ sym at.is)))
+    (subst (λ cs. slice_get cs j ≡ Some x) is g)) (λ j x g. (λ l. rw hold (starts_none old settled j x g), λ l. rw hold (starts_none old settled j x g)))
 
 -- a message
 
@@ -58,25 +53,21 @@ calm_rest : (old : State) (from : Site) (m : Msg) → AreSettled old → class_n
     → IsCalm (all_places (length old.classes) m).from (all_places (length old.classes) m).end
     (state_handed from m old)
 calm_rest old from (Release ts) settled e =
-    calm_kept old (state_handed from (Release ts) old) 0 (length old.classes) settled (omega arith)
-    (λ j x g h. none_changed old from (Release ts) e j x g)
+    calm_kept old (state_handed from (Release ts) old) 0 (length old.classes) settled (omega arith) (λ j x g h. none_changed old from (Release ts) e j x g)
     (λ j x g. (λ l. absurd (omega arith), λ l. absurd (let w = get_within old.classes j x g in omega arith)))
 calm_rest old from Hold settled e =
-    calm_kept old (state_handed from Hold old) 0 0 settled (omega arith)
-    (λ j x g h. none_changed old from Hold e j x g) (λ j x g. (λ l. refl, λ l. refl))
+    calm_kept old (state_handed from Hold old) 0 0 settled (omega arith) (λ j x g h. none_changed old from Hold e j x g) (λ j x g. (λ l. refl, λ l. refl))
 calm_rest old from m settled e = calm_same old from m settled e refl
 
 pub calm_handed : (old : State) (from : Site) (m : Msg) → AreSettled old → AreApart old.classes
     → IsCalm (touched old.classes m).from (touched old.classes m).end (state_handed from m old)
 calm_handed old from m settled apart = by (class_named m) refl
   where
-    by : (o : Option ClassNo) → class_named m ≡ o
-        → IsCalm (touched_by old.classes m o).from (touched_by old.classes m o).end (state_handed from m old)
+    by : (o : Option ClassNo) → class_named m ≡ o → IsCalm (touched_by old.classes m o).from (touched_by old.classes m o).end (state_handed from m old)
     by None e = calm_rest old from m settled e
     by (Some d) e =
         calm_one old (state_handed from m old) (class_handed from m) d.0 settled apart refl (hold_stays m d old.on_hold e)
-        (λ x other. handed_other from m x
-        (λ c f same. other (sym same ∙ ap (λ (k : ClassNo). k.0) (some_is (sym f ∙ e))))) (place_of old.classes d.0)
+        (λ x other. handed_other from m x (λ c f same. other (sym same ∙ ap (λ (k : ClassNo). k.0) (some_is (sym f ∙ e))))) (place_of old.classes d.0)
         refl
 
 -- a transaction
@@ -88,15 +79,13 @@ pub calm_given : (old : State) (c n : ℕ) (txn : Txn) → AreSettled old → Ar
     → IsCalm (one_place (place_of old.classes c)).from (one_place (place_of old.classes c)).end
     (state_given c n txn old)
 calm_given old c n txn settled apart =
-    calm_one old (state_given c n txn old) (class_given c n txn) c settled apart refl refl (given_other c n txn)
-    (place_of old.classes c) refl
+    calm_one old (state_given c n txn old) (class_given c n txn) c settled apart refl refl (given_other c n txn) (place_of old.classes c) refl
 
 -- the places are there
 
 one_within : (classes : List ClassState) (c : ℕ) (o : Option ℕ) → place_of classes c ≡ o → (one_place o).end ≤ length classes
 one_within classes c None e = omega arith
-one_within classes c (Some p) e = let at = somewhere classes c p e in let l =
-    get_within classes p at.class at.there in omega arith
+one_within classes c (Some p) e = let at = somewhere classes c p e in let l = get_within classes p at.class at.there in omega arith
 
 pub place_within : (classes : List ClassState) (c : ℕ) → (one_place (place_of classes c)).end ≤ length classes
 place_within classes c = one_within classes c (place_of classes c) refl

@@ -1,22 +1,17 @@
 -- The view after an entry is a function of the view before it, and what is next is due.
-use Rattle.sdd_tm.proofs.All.{Act, Bases, Catalogue, Did, Entry, Handed, IsDue, Log, Redeclared, Setting, Some, Submits, Ticked, View, after, ap, by_ask, by_exchange, by_hold, by_start, class_after, class_view, due, exchange_due, first_some, found_at, held_due, map, map_twice, null_due, null_to, one_of, refl, runs, start_due, view_of, ℕ, ◌∷◌, ◌≡◌}
+use Rattle.sdd_tm.proofs.All.{Act, Bases, Catalogue, Did, Entry, Handed, IsDue, Log, Setting, Some, Submits, View, after, ap, by_ask, by_exchange, by_hold, by_start, class_after, class_view, due, exchange_due, first_some, found_at, held_due, map, map_twice, null_due, null_to, one_of, refl, runs, start_due, view_of, ℕ, ◌∷◌, ◌≡◌}
 
-class_step : (s : Setting) (e : Entry) (log : Log) (c : ℕ)
-    → class_view s (e ∷ log) c ≡ class_after e (view_of s log) (class_view s log c)
+class_step : (s : Setting) (e : Entry) (log : Log) (c : ℕ) → class_view s (e ∷ log) c ≡ class_after e (view_of s log) (class_view s log c)
 class_step s (Handed from m) log c = refl
 class_step s _ log c = refl
 
 classes_step : (s : Setting) (e : Entry) (log : Log)
     → map (class_view s (e ∷ log)) (runs s) ≡ map (class_after e (view_of s log)) (map (class_view s log) (runs s))
-classes_step s e log =
-    map_twice (class_view s log) (class_view s (e ∷ log)) (class_after e (view_of s log)) (runs s)
-    (class_step s e log)
+classes_step s e log = map_twice (class_view s log) (class_view s (e ∷ log)) (class_after e (view_of s log)) (runs s) (class_step s e log)
 
 pub view_step : (s : Setting) (e : Entry) (log : Log) → view_of s (e ∷ log) ≡ after e (view_of s log)
-view_step s (Handed from m) log =
-    ap (λ ks. record (view_of s (Handed from m ∷ log)) { classes = ks }) (classes_step s (Handed from m) log)
-view_step s (Submits n txn) log =
-    ap (λ ks. record (view_of s (Submits n txn ∷ log)) { classes = ks }) (classes_step s (Submits n txn) log)
+view_step s (Handed from m) log = ap (λ ks. record (view_of s (Handed from m ∷ log)) { classes = ks }) (classes_step s (Handed from m) log)
+view_step s (Submits n txn) log = ap (λ ks. record (view_of s (Submits n txn ∷ log)) { classes = ks }) (classes_step s (Submits n txn) log)
 view_step s (Did act) log = ap (λ ks. record (view_of s (Did act ∷ log)) { classes = ks }) (classes_step s (Did act) log)
 view_step s _ log = refl
 

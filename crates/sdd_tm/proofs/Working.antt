@@ -38,18 +38,15 @@ answer_is l k (Some ask) act e = (ask.from, sym (some_is e))
 
 -- a step of the class c
 
-step_falls : (s : Setting) (bases : Bases) (log : Log) (place c : ℕ) (step : Step)
-    → IsAmid s bases (state_of s log) log → slice_get (runs s) place ≡ Some c
+step_falls : (s : Setting) (bases : Bases) (log : Log) (place c : ℕ) (step : Step) → IsAmid s bases (state_of s log) log → slice_get (runs s) place ≡ Some c
     → IsStep (on_hold (view_of s log)) (class_of s log c) step
     → work_in (class_done bases (in_force s log).table (clock s.site log) step (class_of s log c)) < work_in (class_of s log c)
 step_falls s bases log place c Send amid e (sends h) =
     let r = has_to_send (active s c log) h in
-    let request = request_of c (sent log) (handed log) r.attempt r.act
-    (asking_of s log c r.attempt (amid.sound.lines place c e) r.active) r.send in
+    let request = request_of c (sent log) (handed log) r.attempt r.act (asking_of s log c r.attempt (amid.sound.lines place c e) r.active) r.send in
     let to_do : send_next (active s c log) ≡ Some r.act = ap send_next r.active ∙ r.send in
     let less = work_sent c request.msg r.attempt r.act (queue s c log) request.asks r.send in
-    let now : work_of (active_sent c request.msg (active s c log)) (queue s c log) ≡ work_of
-    (active_sent c request.msg (Some r.attempt)) (queue s c log) =
+    let now : work_of (active_sent c request.msg (active s c log)) (queue s c log) ≡ work_of (active_sent c request.msg (Some r.attempt)) (queue s c log) =
     ap (λ o. work_of (active_sent c request.msg o) (queue s c log)) r.active in
     let before : work_of (active s c log) (queue s c log) ≡ work_of (Some r.attempt) (queue s c log) =
     ap (λ o. work_of o (queue s c log)) r.active in
@@ -75,8 +72,7 @@ step_falls s bases log place c Commit amid e (commits_now h) =
 step_falls s bases log place c Answer amid e (answers h can) =
     let l : Line = (class_of s log c).line in
     let o : Option Act = act_of bases (in_force s log).table (clock s.site log) (class_of s log c) Answer in
-    let same = null_work c l (answer_time (clock s.site log) (active s c log)) o
-    (λ act f. answer_is l (clock s.site log) _ act f) in
+    let same = null_work c l (answer_time (clock s.site log) (active s c log)) o (λ act f. answer_is l (clock s.site log) _ act f) in
     let less = fewer_asks (can_answer (active s c log)) (asks_of c (asks log)) can in
     omega arith
 step_falls s bases log place c Start amid e (starts h cannot may) =
@@ -92,11 +88,9 @@ step_falls s bases log place c Start amid e (starts h cannot may) =
         let to_do : start_next (in_force s log).table (clock s.site log) (class_of s log c).line ≡ Some act =
         ap (λ qs. option_map (start_act s.catalogue (in_force s log).table c (clock s.site log)) (head_of qs))
         is in
-        let begun : active_after c act (queue s c log) (active s c log) ≡ started
-        (timestamp (ticked (clock s.site log) 1)) sent_now (Some q) =
+        let begun : active_after c act (queue s c log) (active s c log) ≡ started (timestamp (ticked (clock s.site log) 1)) sent_now (Some q) =
         own_record c (started (timestamp (ticked (clock s.site log) 1)) sent_now (head_of (queue s c log)))
-        (active s c log) ∙ ap (λ qs. started (timestamp (ticked (clock s.site log) 1)) sent_now
-        (head_of qs)) is in
+        (active s c log) ∙ ap (λ qs. started (timestamp (ticked (clock s.site log) 1)) sent_now (head_of qs)) is in
         let left : queue_after c act (queue s c log) ≡ map (tried q.number) (q ∷ rest) =
         own_record c (map (tried q.number) (queue s c log)) (queue s c log) ∙ ap (map (tried q.number)) is in
         let fewer = starts_started q.number (record {
@@ -119,8 +113,7 @@ pub work_falls : (s : Setting) (bases : Bases) (state : State) (log : Log) (plac
     → class_step state.on_hold k ≡ Some step → work (state_done bases place k step state).classes < work state.classes
 work_falls s bases state log place k step amid here steps =
     let is : state_of s log ≡ state = amid.state_is in
-    let r = of_map (class_of s log) (runs s) place k (subst (λ (st : State). slice_get st.classes place ≡ Some k)
-    (sym is) here) in
+    let r = of_map (class_of s log) (runs s) place k (subst (λ (st : State). slice_get st.classes place ≡ Some k) (sym is) here) in
     let whole : class_step (on_hold (view_of s log)) (class_of s log r.0) ≡ Some step =
     subst (λ x. class_step (on_hold (view_of s log)) x ≡ Some step) (sym r.2)
     (subst (λ (st : State). class_step st.on_hold k ≡ Some step) (sym is) steps) in

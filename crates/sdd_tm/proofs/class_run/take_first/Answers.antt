@@ -4,27 +4,21 @@ use Rattle.sdd_tm.proofs.Firsts.{is_nowhere, is_first_at, removed_found, removed
 use Rattle.sdd_tm.proofs.class_run.take_first.Goals as goal
 
 pub returns-in-None-clause-taken : goal.returns-in-None-clause-taken
-returns-in-None-clause-taken c =
-    sym (is_nowhere (answers (option_map (λ t. t.0) c.args.active)) c.args.asks.now.items
-    (sym c.in-None.ensures)).not_found
+returns-in-None-clause-taken c = sym (is_nowhere (answers (option_map (λ t. t.0) c.args.active)) c.args.asks.now.items (sym c.in-None.ensures)).not_found
 
 pub returns-in-None-clause-left : goal.returns-in-None-clause-left
-returns-in-None-clause-left c =
-    sym (is_nowhere (answers (option_map (λ t. t.0) c.args.active)) c.args.asks.now.items
-    (sym c.in-None.ensures)).all_left
+returns-in-None-clause-left c = sym (is_nowhere (answers (option_map (λ t. t.0) c.args.active)) c.args.asks.now.items (sym c.in-None.ensures)).all_left
 
 pub returns-in-Some-clause-taken : goal.returns-in-Some-clause-taken
 returns-in-Some-clause-taken c =
-    let first = is_first_at (answers (option_map (λ t. t.0) c.args.active)) c.args.asks.now.items c.in-Some.place
-    (sym c.in-Some.ensures) in
+    let first = is_first_at (answers (option_map (λ t. t.0) c.args.active)) c.args.asks.now.items c.in-Some.place (sym c.in-Some.ensures) in
     removed_found (answers (option_map (λ t. t.0) c.args.active)) c.args.asks.now.items c.in-Some.place
     c.remove.result first (let l = first.within in c.remove.ensures.variant.1 (omega arith))
     c.remove.ensures.value
 
 pub returns-in-Some-clause-left : goal.returns-in-Some-clause-left
 returns-in-Some-clause-left c =
-    let first = is_first_at (answers (option_map (λ t. t.0) c.args.active)) c.args.asks.now.items c.in-Some.place
-    (sym c.in-Some.ensures) in
+    let first = is_first_at (answers (option_map (λ t. t.0) c.args.active)) c.args.asks.now.items c.in-Some.place (sym c.in-Some.ensures) in
     removed_left (answers (option_map (λ t. t.0) c.args.active)) c.args.asks.now.items _ c.in-Some.place
     c.remove.result first (let l = first.within in c.remove.ensures.variant.1 (omega arith))
     c.remove.ensures.items

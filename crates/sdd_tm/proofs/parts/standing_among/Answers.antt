@@ -24,5 +24,4 @@ loop-run-preserved c =
     ∙ standing_passed _ (standing_from runs (i + 1) n) (sym c.in-Absent.ensures)
 
 pub returns : goal.returns
-returns c = sym (c.loop-run.invariant ∙ standing_past c.args.runs.now c.loop-run.run-index c.args.number.0
-    c.loop-run-test.false)
+returns c = sym (c.loop-run.invariant ∙ standing_past c.args.runs.now c.loop-run.run-index c.args.number.0 c.loop-run-test.false)

@@ -29,5 +29,4 @@ hand_class-requires-clause-awaited c =
     (awaited_kept r.0 r.1 r.2 c.args.self.now c.args.from c.args.msg r.3 r.4.1)
 
 pub returns-in-None-clause-state : goal.returns-in-None-clause-state
-returns-in-None-clause-state c =
-    handed_unnamed c.args.self.now c.heed.new.self c.args.from c.args.msg c.heed.ensures c.in-None.ensures
+returns-in-None-clause-state c = handed_unnamed c.args.self.now c.heed.new.self c.args.from c.args.msg c.heed.ensures c.in-None.ensures

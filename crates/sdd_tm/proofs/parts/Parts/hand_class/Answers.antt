@@ -4,8 +4,7 @@ use Rattle.sdd_tm.proofs.Taking.{handed_nowhere, handed_somewhere}
 use Rattle.sdd_tm.proofs.parts.Parts.hand_class.Goals as goal
 
 pub returns-in-None-clause-state : goal.returns-in-None-clause-state
-returns-in-None-clause-state c =
-    handed_nowhere c.args.self.now c.args.from c.args.msg c.args.class c.requires.named c.in-None.ensures
+returns-in-None-clause-state c = handed_nowhere c.args.self.now c.args.from c.args.msg c.args.class c.requires.named c.in-None.ensures
 
 pub returns-in_ok-hand-in-Some-clause-state : goal.returns-in_ok-hand-in-Some-clause-state
 returns-in_ok-hand-in-Some-clause-state c =

@@ -30,8 +30,7 @@ overflow_add-result c =
     omega arith
 
 pub returns-in-None-clause-state : goal.returns-in-None-clause-state
-returns-in-None-clause-state c =
-    given_nowhere c.args.self.now c.args.class.0 c.args.number.0 c.args.txn.now c.in-None.ensures
+returns-in-None-clause-state c = given_nowhere c.args.self.now c.args.class.0 c.args.number.0 c.args.txn.now c.in-None.ensures
 
 pub returns-in-None-clause-places : goal.returns-in-None-clause-places
 returns-in-None-clause-places c = ap one_place c.in-None.ensures

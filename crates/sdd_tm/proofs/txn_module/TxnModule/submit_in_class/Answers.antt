@@ -8,8 +8,7 @@ taken_is c =
     let r = c.requires.stands in
     let now = c.args.self.now in
     let class = class_here now r.0 r.2 c.args.txn.now c.args.class.0 r.3 r.5 in
-    c.in_ok-places.ensures.state
-    ∙ ap (λ (k : Kept State). state_given c.args.class.0 c.args.number.0 c.args.txn.now k.value) c.self.view_is
+    c.in_ok-places.ensures.state ∙ ap (λ (k : Kept State). state_given c.args.class.0 c.args.number.0 c.args.txn.now k.value) c.self.view_is
     ∙ ap (λ k. state_given k c.args.number.0 c.args.txn.now now.value) class
 
 pub settle-requires-clause-few : goal.settle-requires-clause-few
@@ -33,8 +32,7 @@ settle-requires-clause-amid c =
       r.0,
       r.1,
       Submits c.args.number.0 c.args.txn.now ∷ r.2,
-      amid_after c.args.self.now r.0 r.1 r.2 c.args.number.0
-          c.args.txn.now c.submit.new.self (omega arith) r.3 r.4 (taken_is c),
+      amid_after c.args.self.now r.0 r.1 r.2 c.args.number.0 c.args.txn.now c.submit.new.self (omega arith) r.3 r.4 (taken_is c),
     )
 
 pub returns-clause-law : goal.returns-clause-law
@@ -44,8 +42,7 @@ returns-clause-law c =
     let txn = c.args.txn.now in
     let old = c.args.self.now in
     let class = class_here old r.0 r.2 txn c.args.class.0 r.3 r.5 in
-    let taken = c.in_ok-places.ensures.state
-    ∙ ap (λ (k : Kept State). state_given c.args.class.0 number.0 txn k.value) c.self.view_is
+    let taken = c.in_ok-places.ensures.state ∙ ap (λ (k : Kept State). state_given c.args.class.0 number.0 txn k.value) c.self.view_is
     ∙ ap (λ k. state_given k number.0 txn old.value) class in
     let begun = c.in_ok-record.ensures ∙ ap (λ (n : Notes). record n { recs = n.recs ++ Submit number ∷ [] })
     c.draft-draft.ensures in
