@@ -16,8 +16,7 @@ pub record Makes (s : Setting) (bases : Bases) (log : Log) (step : Step) (state 
 -- the parts of what holds after an act
 
 amid_after : (s : Setting) (bases : Bases) (log : Log) (step : Step) (act : Act) → IsAmid s bases (state_of s log) log
-    → IsSound s (Did act ∷ log) → state_of s (Did act ∷ log) ≡ state_done bases step (state_of s log)
-    → IsServed s.catalogue bases (active s 0 (Did act ∷ log))
+    → IsSound s (Did act ∷ log) → state_of s (Did act ∷ log) ≡ state_done bases step (state_of s log) → IsServed s.catalogue bases (active s 0 (Did act ∷ log))
     → (clock s.site (Did act ∷ log)).ticks + starts_left (active s 0 (Did act ∷ log)) (queue s 0 (Did act ∷ log))
     ≤ (clock s.site log).ticks + starts_left (active s 0 log) (queue s 0 log)
     → IsAmid s bases (state_done bases step (state_of s log)) (Did act ∷ log)
@@ -51,8 +50,7 @@ makes_send : (s : Setting) (bases : Bases) (log : Log) → IsAmid s bases (state
     → line_step (active s 0 log) ≡ Some ToSend → Makes s bases log Send (state_of s log)
 makes_send s bases log amid h =
     let r = has_to_send (active s 0 log) h in
-    let request = request_of 0 (sent log) (handed log) r.attempt r.act
-    (asking_of s log 0 r.attempt amid.sound.line r.active) r.send in
+    let request = request_of 0 (sent log) (handed log) r.attempt r.act (asking_of s log 0 r.attempt amid.sound.line r.active) r.send in
     let made_by : send_next (active s 0 log) ≡ Some r.act = ap send_next r.active ∙ r.send in
     let up : (t : ℕ) → AllUpTo t (sends_of_act r.act) =
     λ t. rw request.act_is (no_read_asked t r.attempt.ts 0 request.msg request.asks, tt) in
@@ -66,8 +64,7 @@ makes_send s bases log amid h =
             stamped = stamped_did s log r.act amid.sound.stamped (up _);
             turns = λ t. rw request.act_is (amid.sound.turns t);
             started = rw request.act_is (record { few = started_sent s log request.msg amid.sound.started });
-          })
-          (after_request s bases log r.attempt r.act request made_by)
+          }) (after_request s bases log r.attempt r.act request made_by)
           (rw request.act_is (served_sent s.catalogue bases 0 request.msg (active s 0 log) amid.served))
           (rw request.act_is (let same = starts_sent 0 request.msg (active s 0 log) (queue s 0 log) in omega arith));
     }
@@ -101,10 +98,8 @@ makes_commit s bases log amid h =
             stamped = stamped_did s log act amid.sound.stamped (all_up_of _ (sends_of_act act) no_reads);
             turns = λ t. turn_commit (last_served s log).commits (counts t log) (amid.sound.turns t);
             started = record { few = omega arith };
-          })
-          (after_commit s bases log a made_by)
-          tt
-          (omega arith);
+          }) (after_commit s bases log a made_by)
+          tt (omega arith);
     }
 
 -- a RELEASE
@@ -129,9 +124,7 @@ makes_release s bases log k amid none found e =
             turns = λ t. turn_release n k.tm (counts t log) (amid.sound.turns t)
                 (λ same. subst (λ (x : TmCounts). x.releases < n) (sym (own_counts log r.0 t k r.1 same)) low);
             started = record { few = started_sent s log (messages.Release (time_at ts)) amid.sound.started };
-          })
-          (after_release s bases log (tm_of k) ts)
-          (served_sent s.catalogue bases 0 (messages.Release (time_at ts)) (active s 0 log) amid.served)
+          }) (after_release s bases log (tm_of k) ts) (served_sent s.catalogue bases 0 (messages.Release (time_at ts)) (active s 0 log) amid.served)
           (let same = starts_sent 0 (messages.Release (time_at ts)) (active s 0 log) (queue s 0 log) in omega arith);
     }
 
@@ -139,8 +132,7 @@ makes_release s bases log k amid none found e =
 
 makes_hold : (s : Setting) (bases : Bases) (log : Log) (k : TmCounts) → IsAmid s bases (state_of s log) log
     → line_step (active s 0 log) ≡ None → release_step (state_of s log) ≡ None → start_step (state_of s log) ≡ None
-    → find is_free (state_of s log).counts ≡ Some k → hold_step (state_of s log) ≡ Some (Hold (tm_of k))
-    → Makes s bases log (Hold (tm_of k)) (state_of s log)
+    → find is_free (state_of s log).counts ≡ Some k → hold_step (state_of s log) ≡ Some (Hold (tm_of k)) → Makes s bases log (Hold (tm_of k)) (state_of s log)
 makes_hold s bases log k amid none no_release no_start found e =
     let n : ℕ = (last_served s log).commits in
     let act : Act = Sends (T (tm_of k)) messages.Hold None in
@@ -157,9 +149,7 @@ makes_hold s bases log k amid none no_release no_start found e =
             turns = λ t. turn_hold n k.tm (counts t log) (amid.sound.turns t)
                 (λ same. subst (λ (x : TmCounts). x.releases ≡ x.holds) (sym (own_counts log r.0 t k r.1 same)) free);
             started = record { few = started_sent s log messages.Hold amid.sound.started };
-          })
-          (after_hold s bases log (tm_of k))
-          (served_sent s.catalogue bases 0 messages.Hold (active s 0 log) amid.served)
+          }) (after_hold s bases log (tm_of k)) (served_sent s.catalogue bases 0 messages.Hold (active s 0 log) amid.served)
           (let same = starts_sent 0 messages.Hold (active s 0 log) (queue s 0 log) in omega arith);
     }
 
@@ -221,9 +211,7 @@ makes_start s bases log q rest amid none no_release starting idle is =
             stamped = stamped_did s log act amid.sound.stamped (start_is_up s.catalogue [] 0 k q);
             turns = λ t. amid.sound.turns t;
             started = record { few = omega arith };
-          })
-          (after_start s bases log q made_by)
-          (subst (IsServed s.catalogue bases) (sym begun) (start_served s bases k q amid.setting.whole))
+          }) (after_start s bases log q made_by) (subst (IsServed s.catalogue bases) (sym begun) (start_served s bases k q amid.setting.whole))
           (omega arith);
     }
 

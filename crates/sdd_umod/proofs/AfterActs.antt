@@ -14,24 +14,16 @@ after_request s bases log a act is e =
     by act o f e = rw (e, f) refl
 
 -- a Commit
-pub after_commit : (s : Setting) (bases : Bases) (log : Log) (a : Attempt)
-    → commit_next bases (line_of s log) ≡ Some (commit_act s.catalogue bases 0 a)
+pub after_commit : (s : Setting) (bases : Bases) (log : Log) (a : Attempt) → commit_next bases (line_of s log) ≡ Some (commit_act s.catalogue bases 0 a)
     → state_of s (Did (commit_act s.catalogue bases 0 a) ∷ log) ≡ state_done bases Commit (state_of s log)
 after_commit s bases log a e =
-    sym (ap (λ o. record (state_of s log) {
-      line = line_done o (line_of s log);
-      served = committed (ts_of (active s 0 log)) (state_of s log).served;
-    }) e)
+    sym (ap (λ o. record (state_of s log) { line = line_done o (line_of s log); served = committed (ts_of (active s 0 log)) (state_of s log).served }) e)
 
 -- a Start
 pub after_start : (s : Setting) (bases : Bases) (log : Log) (q : Queued)
     → start_next [] (clock s.site log) (line_of s log) ≡ Some (start_act s.catalogue [] 0 (clock s.site log) q)
     → state_of s (Did (start_act s.catalogue [] 0 (clock s.site log) q) ∷ log) ≡ state_done bases Start (state_of s log)
-after_start s bases log q e =
-    sym (ap (λ o. record (state_of s log) {
-      line = line_done o (line_of s log);
-      clock = clock_done o (clock s.site log);
-    }) e)
+after_start s bases log q e = sym (ap (λ o. record (state_of s log) { line = line_done o (line_of s log); clock = clock_done o (clock s.site log) }) e)
 
 -- a message to a T
 
@@ -50,8 +42,7 @@ after_release s bases log tm ts =
     let ns : List ℕ = numbers_to s.catalogue.tms in
     let act : Act = Sends (T tm) (messages.Release (time_at ts)) None in
     ap (λ o. with_parts (state_of s log) o (map (λ t. counts t (Did act ∷ log)) ns))
-    (sent_apart 0 (messages.Release (time_at ts)) (active s 0 log) (release_apart ts))
-    ∙ ap (with_parts (state_of s log) (active s 0 log))
+    (sent_apart 0 (messages.Release (time_at ts)) (active s 0 log) (release_apart ts)) ∙ ap (with_parts (state_of s log) (active s 0 log))
     (map_twice (λ t. counts t log) (λ t. counts t (Did act ∷ log)) (counted signs.Release tm.0) ns (λ t. refl))
 
 pub after_hold : (s : Setting) (bases : Bases) (log : Log) (tm : TmNo)
@@ -59,7 +50,6 @@ pub after_hold : (s : Setting) (bases : Bases) (log : Log) (tm : TmNo)
 after_hold s bases log tm =
     let ns : List ℕ = numbers_to s.catalogue.tms in
     let act : Act = Sends (T tm) messages.Hold None in
-    ap (λ o. with_parts (state_of s log) o (map (λ t. counts t (Did act ∷ log)) ns))
-    (sent_apart 0 messages.Hold (active s 0 log) hold_apart)
+    ap (λ o. with_parts (state_of s log) o (map (λ t. counts t (Did act ∷ log)) ns)) (sent_apart 0 messages.Hold (active s 0 log) hold_apart)
     ∙ ap (with_parts (state_of s log) (active s 0 log))
     (map_twice (λ t. counts t log) (λ t. counts t (Did act ∷ log)) (counted signs.Hold tm.0) ns (λ t. refl))

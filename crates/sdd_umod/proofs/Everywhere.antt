@@ -7,8 +7,7 @@ use Rattle.sdd_attempt.specs.All.{IsSound}
 abbrev IsCopied : Fragment → Type 0
 IsCopied f = (length f.copies == 0) ≡ false
 
-copied_part : (parts : Parts) (before : List FragmentPart) (f : FragmentPart) → fragment_rules parts before f ≡ []
-    → (length f.copies == 0) ≡ false
+copied_part : (parts : Parts) (before : List FragmentPart) (f : FragmentPart) → fragment_rules parts before f ≡ [] → (length f.copies == 0) ≡ false
 copied_part parts before f e =
     let a = both_empty _ _ e in
     let b = both_empty _ _ a.0 in
@@ -56,13 +55,10 @@ somewhere cat f sound there =
     found_of cat f (fragment_at cat f).copies refl copied
     (recursion_from_All (λ (d : DmNo). (1 ≤ d.0) × (d.0 ≤ cat.dms)) (fragment_at cat f).copies placed.copies)
 
-all_somewhere : (cat : Catalogue) (fs : List ℕ) → IsSound cat → AllByRecursion (IsThere cat) fs
-    → list_all (λ f. is_some (reads_at cat 0 f)) fs ≡ true
+all_somewhere : (cat : Catalogue) (fs : List ℕ) → IsSound cat → AllByRecursion (IsThere cat) fs → list_all (λ f. is_some (reads_at cat 0 f)) fs ≡ true
 all_somewhere cat [] sound all = refl
 all_somewhere cat (f ∷ fs) sound all =
-    and_from (is_some (lowest_copy cat f)) (list_all (λ f. is_some (reads_at cat 0 f)) fs) (somewhere cat f sound all.0)
-    (all_somewhere cat fs sound all.1)
+    and_from (is_some (lowest_copy cat f)) (list_all (λ f. is_some (reads_at cat 0 f)) fs) (somewhere cat f sound all.0) (all_somewhere cat fs sound all.1)
 
 pub reads_all : (cat : Catalogue) (txn : Txn) → IsSound cat → list_all (λ f. is_some (reads_at cat 0 f)) (read_set cat txn) ≡ true
-reads_all cat txn sound =
-    all_somewhere cat (read_set cat txn) sound (recursion_from_All (IsThere cat) (read_set cat txn) (read_set_there cat txn))
+reads_all cat txn sound = all_somewhere cat (read_set cat txn) sound (recursion_from_All (IsThere cat) (read_set cat txn) (read_set_there cat txn))

@@ -3,8 +3,7 @@ use Rattle.sdd_umod.proofs.All.{Bases, Fits, FitsSubmit, IsAmid, IsKept, IsSetti
 use Rattle.sdd_umod.proofs.Everywhere.{reads_all}
 use Rattle.sdd_umod.proofs.Handing.{has_room, settled_line}
 
-state_given_kept : (s : Setting) (log : Log) (n : ℕ) (txn : Txn)
-    → state_of s (Submits n txn ∷ log) ≡ state_given n txn (state_of s log)
+state_given_kept : (s : Setting) (log : Log) (n : ℕ) (txn : Txn) → state_of s (Submits n txn ∷ log) ≡ state_given n txn (state_of s log)
 state_given_kept s log n txn = refl
 
 sound_given : (s : Setting) (bases : Bases) (log : Log) (n : ℕ) (txn : Txn) → n < 2 ^ 32 → IsSetting s
@@ -17,8 +16,7 @@ sound_given s bases log n txn small setting f sound = record {
 }
 
 pub amid_given : (s : Setting) (bases : Bases) (log : Log) (n : ℕ) (txn : Txn) → n < 2 ^ 32 → IsSetting s
-    → IsSound s log → step_of (state_of s log) ≡ None → FitsSubmit s bases log n txn
-    → IsAmid s bases (state_given n txn (state_of s log)) (Submits n txn ∷ log)
+    → IsSound s log → step_of (state_of s log) ≡ None → FitsSubmit s bases log n txn → IsAmid s bases (state_given n txn (state_of s log)) (Submits n txn ∷ log)
 amid_given s bases log n txn small setting sound settled f =
     let now : IsSound s (Submits n txn ∷ log) = sound_given s bases log n txn small setting f sound in
     record {
@@ -31,11 +29,9 @@ amid_given s bases log n txn small setting sound settled f =
     }
 
 -- it fits the line, and is new there
-pub fits_kept : (s : Setting) (bases : Bases) (log : Log) (state : State) (n : ℕ) (txn : Txn)
-    → IsKept s log state → FitsSubmit s bases log n txn
+pub fits_kept : (s : Setting) (bases : Bases) (log : Log) (state : State) (n : ℕ) (txn : Txn) → IsKept s log state → FitsSubmit s bases log n txn
     → Fits state.line.catalogue txn × (contains (map (λ (q : Queued). q.number) state.line.queue) n ≡ false)
 fits_kept s bases log state n txn kept f = (
   subst (λ (st : State). Fits st.line.catalogue txn) kept.state_is f.fitting,
-  subst (λ (st : State). contains (map (λ (q : Queued). q.number) st.line.queue) n ≡ false) kept.state_is
-      (new_in_queue s log 0 n kept.sound.line f.fresh),
+  subst (λ (st : State). contains (map (λ (q : Queued). q.number) st.line.queue) n ≡ false) kept.state_is (new_in_queue s log 0 n kept.sound.line f.fresh),
 )

@@ -32,8 +32,7 @@ counts_kept : (s : Setting) (log : Log) (from : Site) (m : Msg)
     → map (λ t. counts t (Handed from m ∷ log)) (numbers_to s.catalogue.tms)
     ≡ counts_heeded from m (map (λ t. counts t log) (numbers_to s.catalogue.tms))
 counts_kept s log (T n) (Held time) =
-    map_twice (λ t. counts t log) (λ t. counts t (Handed (T n) (Held time) ∷ log)) (counted signs.Held n.0)
-    (numbers_to s.catalogue.tms) (λ t. refl)
+    map_twice (λ t. counts t log) (λ t. counts t (Handed (T n) (Held time) ∷ log)) (counted signs.Held n.0) (numbers_to s.catalogue.tms) (λ t. refl)
 counts_kept s log U (Held time) = refl
 counts_kept s log (D n) (Held time) = refl
 counts_kept s log (T n) _ = refl
@@ -50,14 +49,12 @@ state_kept s bases log from m f =
     ap (λ k. made line k (served_of (last_served s (Handed from m ∷ log))) (map (λ t. counts t (Handed from m ∷ log)) (numbers_to s.catalogue.tms)))
     (clock_kept s bases log from m f (clock s.site log))
     ∙ ap (λ v. made line (clock_heeded m (clock s.site log)) v (map (λ t. counts t (Handed from m ∷ log)) (numbers_to s.catalogue.tms)))
-    (served_kept m (last_served s log))
-    ∙ ap (made line (clock_heeded m (clock s.site log)) (served_heeded m (served_of (last_served s log))))
+    (served_kept m (last_served s log)) ∙ ap (made line (clock_heeded m (clock s.site log)) (served_heeded m (served_of (last_served s log))))
     (counts_kept s log from m)
 
 -- what holds of the log
 
-answer_fits : (s : Setting) (bases : Bases) (log : Log) (from : Site) (m : Msg) → fits_kind s bases log from m
-    → FitsAnswer s bases log from m
+answer_fits : (s : Setting) (bases : Bases) (log : Log) (from : Site) (m : Msg) → fits_kind s bases log from m → FitsAnswer s bases log from m
 answer_fits s bases log from (Ready ts class counts) f = f.answers
 answer_fits s bases log from (Reject ts class by write) f = absurd f
 answer_fits s bases log from (Values ts class u values) f = f
@@ -72,8 +69,7 @@ commits_same _ v = refl
 turn_told : (s : Setting) (bases : Bases) (log : Log) (from : Site) (m : Msg) (n t : ℕ) → fits_kind s bases log from m
     → InTurn n (counts t log) → InTurn n (counts_handed from m (counts t log))
 turn_told s bases log (T tm) (Held time) n t f turn =
-    turn_held n tm.0 (counts t log) turn
-    (λ e. subst (λ k. (counts k log).helds < (counts k log).holds) (e ∙ tm_told t log) f.awaited)
+    turn_held n tm.0 (counts t log) turn (λ e. subst (λ k. (counts k log).helds < (counts k log).holds) (e ∙ tm_told t log) f.awaited)
 turn_told s bases log U (Held time) n t f turn = turn
 turn_told s bases log (D d) (Held time) n t f turn = turn
 turn_told s bases log (T tm) _ n t f turn = turn
@@ -109,8 +105,7 @@ settled_line state e = line_none _ (or_nothing (of_line (line_step state.line.ac
 
 -- the clock
 
-early : (s : Setting) (bases : Bases) (log : Log) (from : Site) (m : Msg) → fits s bases log from m
-    → (pushed_by m (clock s.site log)).ticks < 2 ^ 56
+early : (s : Setting) (bases : Bases) (log : Log) (from : Site) (m : Msg) → fits s bases log from m → (pushed_by m (clock s.site log)).ticks < 2 ^ 56
 early s bases log (T tm) (Held time) f = let t = f.0.time in let l = f.1.early in omega arith
 early s bases log U (Held time) f = absurd f.1
 early s bases log (D d) (Held time) f = absurd f.1
@@ -150,8 +145,7 @@ kept_room s log state kept low = subst (λ (st : State). HaveRoom st.counts) kep
 -- the module within the call
 
 pub amid_handed : (s : Setting) (bases : Bases) (log : Log) (from : Site) (m : Msg) → IsSetting s → IsSound s log
-    → step_of (state_of s log) ≡ None → fits s bases log from m
-    → IsAmid s bases (state_handed from m (state_of s log)) (Handed from m ∷ log)
+    → step_of (state_of s log) ≡ None → fits s bases log from m → IsAmid s bases (state_handed from m (state_of s log)) (Handed from m ∷ log)
 amid_handed s bases log from m setting sound settled f =
     let now : IsSound s (Handed from m ∷ log) = sound_handed s bases log from m f.1 sound in
     let is = state_kept s bases log from m f.1 in
@@ -172,8 +166,7 @@ awaited_class : (s : Setting) (log : Log) (f : Phase → Bool) (from : Site) (ts
     → AwaitsAt f (active s k log) from ts → k ≡ c → AwaitsAt f (active s c log) from ts
 awaited_class s log f from ts k c h e = subst (λ n. AwaitsAt f (active s n log) from ts) e h
 
-is_awaited : (s : Setting) (bases : Bases) (log : Log) (from : Site) (m : Msg) → fits_kind s bases log from m
-    → IsAwaited 0 from m (active s 0 log)
+is_awaited : (s : Setting) (bases : Bases) (log : Log) (from : Site) (m : Msg) → fits_kind s bases log from m → IsAwaited 0 from m (active s 0 log)
 is_awaited s bases log from (Values ts class u values) f = λ e. awaited_class s log (fetches_use u) from ts.0 class.0 0 f e
 is_awaited s bases log from _ f = tt
 

@@ -5,8 +5,7 @@ pub some_is : {A : Type 0} {x y : A} → Some x ≡ Some y → x ≡ y
 some_is e = cc
 
 -- of two options the first that is there
-pub or_by : {A : Type 0} (P : Type 0) (a b : Option A) (x : A) → or_else a b ≡ Some x → (a ≡ Some x → P)
-    → (a ≡ None → b ≡ Some x → P) → P
+pub or_by : {A : Type 0} (P : Type 0) (a b : Option A) (x : A) → or_else a b ≡ Some x → (a ≡ Some x → P) → (a ≡ None → b ≡ Some x → P) → P
 or_by P None b x e f g = g refl e
 or_by P (Some y) b x e f g = f e
 
@@ -15,8 +14,7 @@ or_nothing None b e = (refl, e)
 or_nothing (Some x) b e = absurd cc
 
 -- the first of which something is made, where that is of each that passes
-pub first_found : {A B : Type 0} (p : A → Bool) (g : A → B) (xs : List A)
-    → first_some (λ x. if p x then Some (g x) else None) xs ≡ option_map g (find p xs)
+pub first_found : {A B : Type 0} (p : A → Bool) (g : A → B) (xs : List A) → first_some (λ x. if p x then Some (g x) else None) xs ≡ option_map g (find p xs)
 first_found p g [] = refl
 first_found {A = A} {B = B} p g (x ∷ xs) =
     elim (p x) as (λ b. or_else (if b then Some (g x) else None) (first_some (λ y. if p y then Some (g y) else None) xs)
@@ -49,8 +47,7 @@ none_made g h None e = refl
 none_made g h (Some x) e = absurd cc
 
 -- what is found in a list that is made of another
-pub found_in_map : {A B : Type 0} (f : A → B) (p : B → Bool) (xs : List A) (y : B) → find p (map f xs) ≡ Some y
-    → (x : A) × (f x ≡ y) × (p y ≡ true)
+pub found_in_map : {A B : Type 0} (f : A → B) (p : B → Bool) (xs : List A) (y : B) → find p (map f xs) ≡ Some y → (x : A) × (f x ≡ y) × (p y ≡ true)
 found_in_map f p [] y e = absurd cc
 found_in_map {A = A} f p (x ∷ xs) y e =
     elim (p (f x)) as (λ b. p (f x) ≡ b → cond b (Some (f x)) (find p (map f xs)) ≡ Some y → (x : A) × (f x ≡ y) × (p y ≡ true)) [
@@ -59,8 +56,7 @@ found_in_map {A = A} f p (x ∷ xs) y e =
     ] refl e
 
 -- a member of a list that is made of another
-pub get_map_of : {A B : Type 0} (f : A → B) (xs : List A) (i : ℕ) (y : B) → slice_get (map f xs) i ≡ Some y
-    → (x : A) × (f x ≡ y)
+pub get_map_of : {A B : Type 0} (f : A → B) (xs : List A) (i : ℕ) (y : B) → slice_get (map f xs) i ≡ Some y → (x : A) × (f x ≡ y)
 get_map_of f [] i y e = absurd cc
 get_map_of f (x ∷ xs) zero y e = (x, some_is e)
 get_map_of f (x ∷ xs) (suc i) y e = get_map_of f xs i y e
@@ -77,8 +73,7 @@ still_there f xs ys i x l e g = at f xs i x l (g ∙ ap (λ zs. slice_index_or z
     at f (y ∷ xs) (suc i) x l e = at f xs i x (omega arith) e
 
 pub changed_more : {A : Type 0} (f : A → A) (xs ys : List A) (i : ℕ) (x new : A) → i < length xs
-    → ys ≡ map f (take i xs) ++ drop i xs → x ≡ slice_index_or ys i x → new ≡ f x
-    → slice_set ys i new ≡ map f (take (i + 1) xs) ++ drop (i + 1) xs
+    → ys ≡ map f (take i xs) ++ drop i xs → x ≡ slice_index_or ys i x → new ≡ f x → slice_set ys i new ≡ map f (take (i + 1) xs) ++ drop (i + 1) xs
 changed_more f xs ys i x new h e g n = rw n (map_over_more f xs ys i x h e g)
 
 pub changed_all : {A : Type 0} (f : A → A) (i : ℕ) (xs : List A) → length xs ≤ i → map f (take i xs) ++ drop i xs ≡ map f xs

@@ -14,8 +14,7 @@ pub record Somewhere (now : State) : Type 0 where
 
 pub still : (before now : State) (old notes : Notes) → (s : Setting) (bases : Bases) (log : Log) → IsAmid s bases before log
     → Works before now old notes → Somewhere now
-still before now old notes s bases log amid works =
-    let r = works s bases log amid in record { setting = s; bases = bases; log = r.view; amid = r.shown }
+still before now old notes s bases log amid works = let r = works s bases log amid in record { setting = s; bases = bases; log = r.view; amid = r.shown }
 
 -- what a step asks for
 
@@ -23,8 +22,7 @@ pub of_class : (now : State) → Somewhere now → now.line.class ≡ 0
 of_class now at = sym (ap (λ (st : State). st.line.class) at.amid.state_is)
 
 pub are_tried : (now : State) → Somewhere now → AreTried now.clock.ticks now.line.queue
-are_tried now at =
-    subst (λ (st : State). AreTried st.clock.ticks st.line.queue) at.amid.state_is (tries_told at.setting 0 at.log)
+are_tried now at = subst (λ (st : State). AreTried st.clock.ticks st.line.queue) at.amid.state_is (tries_told at.setting 0 at.log)
 
 ticks_low : (now : State) (at : Somewhere now) → (clock at.setting.site at.log).ticks + 1 < 2 ^ 57
 ticks_low now at =
@@ -78,12 +76,10 @@ NotesDone now step notes new = (bases : Bases) → ((ts : ℕ) → IsDatabase no
 -- the loop
 
 pub works_none : (state : State) (notes : Notes) → Works state state notes notes
-works_none state notes s bases log amid =
-    record { view = log; shown = amid; made = made_nothing (next s bases) (λ e l. e ∷ l) log log notes notes refl refl }
+works_none state notes s bases log amid = record { view = log; shown = amid; made = made_nothing (next s bases) (λ e l. e ∷ l) log log notes notes refl refl }
 
 pub works_on : (before now after : State) (step : Step) (old notes new : Notes) → Works before now old notes
-    → step_of now ≡ Some step → (step ≡ Start → now.line.active ≡ None) → StateDone now step after
-    → NotesDone now step notes new → Works before after old new
+    → step_of now ≡ Some step → (step ≡ Start → now.line.active ≡ None) → StateDone now step after → NotesDone now step notes new → Works before after old new
 works_on before now after step old notes new works steps idle state draft s bases log amid =
     let r = works s bases log amid in
     let m = makes s bases now r.view step r.shown steps idle in

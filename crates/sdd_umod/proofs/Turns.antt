@@ -1,5 +1,5 @@
 -- HOLDs, HELDs and RELEASEs of each T stay in turn, and a Commit had its Start.
-use Rattle.sdd_umod.proofs.All.{D, Did, Handed, Held, InTurn, Log, Msg, Option, Records, Redeclared, Sends, Sign, Site, Submits, T, Ticked, TmCounts, U, [], ap, arith, counted, counts, counts_acted, counts_handed, eqb-true, false, if◌then◌else◌, refl, suc, sym, true, ℕ, ◌<◌, ◌==◌, ◌∙◌, ◌∷◌, ◌≡◌}
+use Rattle.sdd_umod.proofs.All.{Did, Handed, Held, InTurn, Log, Msg, Option, Sends, Sign, Site, T, TmCounts, [], ap, arith, counted, counts, counts_acted, counts_handed, eqb-true, false, if◌then◌else◌, refl, suc, sym, true, ℕ, ◌<◌, ◌==◌, ◌∙◌, ◌∷◌, ◌≡◌}
 use Rattle.sdd_attempt.specs.All.{Hold, Release}
 use Rattle.sdd_umod.specs.declared.tm_count.Sign.TheVariants as signs
 
@@ -52,10 +52,8 @@ turn_hold commits n k turn h =
 
 -- one Commit more
 pub turn_commit : (commits : ℕ) (k : TmCounts) → InTurn commits k → InTurn (suc commits) k
-turn_commit commits k turn =
-    let low = turn.committed in record { committed = omega arith; released = turn.released; answered = turn.answered }
+turn_commit commits k turn = let low = turn.committed in record { committed = omega arith; released = turn.released; answered = turn.answered }
 
 -- the counts of a T that is found among all have its number
 pub own_counts : (log : Log) (t u : ℕ) (k : TmCounts) → counts t log ≡ k → k.tm ≡ (counts u log).tm → counts u log ≡ k
-own_counts log t u k is same =
-    ap (λ n. counts n log) (sym (tm_told u log) ∙ sym same ∙ ap (λ (x : TmCounts). x.tm) (sym is) ∙ tm_told t log) ∙ is
+own_counts log t u k is same = ap (λ n. counts n log) (sym (tm_told u log) ∙ sym same ∙ ap (λ (x : TmCounts). x.tm) (sym is) ∙ tm_told t log) ∙ is

@@ -1,5 +1,5 @@
 -- The view after an entry is a function of the view before it, and what is next is due.
-use Rattle.sdd_umod.proofs.All.{Act, Bases, Catalogue, Did, Entry, Handed, IsDue, Log, Redeclared, Setting, Some, Submits, Ticked, View, after, ap, attempt_due, by_exchange, by_hold, by_release, by_start, counts, counts_acted, counts_handed, due, first_some, found_at, hold_due, map_twice, numbers_to, one_of, refl, release_due, start_due, view_of, ◌∷◌, ◌≡◌}
+use Rattle.sdd_umod.proofs.All.{Act, Bases, Catalogue, Did, Entry, Handed, IsDue, Log, Setting, Some, View, after, ap, attempt_due, by_exchange, by_hold, by_release, by_start, counts, counts_acted, counts_handed, due, first_some, found_at, hold_due, map_twice, numbers_to, one_of, refl, release_due, start_due, view_of, ◌∷◌, ◌≡◌}
 
 pub view_step : (s : Setting) (e : Entry) (log : Log) → view_of s (e ∷ log) ≡ after e (view_of s log)
 view_step s (Handed from m) log =

@@ -60,12 +60,10 @@ send_falls : (s : Setting) (bases : Bases) (log : Log) → IsAmid s bases (state
     → line_step (active s 0 log) ≡ Some ToSend → work (state_done bases Send (state_of s log)) < work (state_of s log)
 send_falls s bases log amid h =
     let r = has_to_send (active s 0 log) h in
-    let request = request_of 0 (sent log) (handed log) r.attempt r.act
-    (asking_of s log 0 r.attempt amid.sound.line r.active) r.send in
+    let request = request_of 0 (sent log) (handed log) r.attempt r.act (asking_of s log 0 r.attempt amid.sound.line r.active) r.send in
     let to_do : send_next (active s 0 log) ≡ Some r.act = ap send_next r.active ∙ r.send in
     let less = work_sent 0 request.msg r.attempt r.act (queue s 0 log) request.asks r.send in
-    let now : work_of (active_sent 0 request.msg (active s 0 log)) (queue s 0 log) ≡ work_of
-    (active_sent 0 request.msg (Some r.attempt)) (queue s 0 log) =
+    let now : work_of (active_sent 0 request.msg (active s 0 log)) (queue s 0 log) ≡ work_of (active_sent 0 request.msg (Some r.attempt)) (queue s 0 log) =
     ap (λ o. work_of (active_sent 0 request.msg o) (queue s 0 log)) r.active in
     let before : work_of (active s 0 log) (queue s 0 log) ≡ work_of (Some r.attempt) (queue s 0 log) =
     ap (λ o. work_of o (queue s 0 log)) r.active in
@@ -114,8 +112,7 @@ start_falls s bases log q rest idle is =
     let before : by_parts (active s 0 log) (queue s 0 log) n ks ≡ by_parts None (q ∷ rest) n ks = rw (idle, is) refl in
     rw to_do (omega arith)
 
-release_falls : (s : Setting) (bases : Bases) (log : Log) (k : TmCounts)
-    → find (is_kept_on_hold (last_served s log).commits) (state_of s log).counts ≡ Some k
+release_falls : (s : Setting) (bases : Bases) (log : Log) (k : TmCounts) → find (is_kept_on_hold (last_served s log).commits) (state_of s log).counts ≡ Some k
     → work (state_done bases (Release (record { 0 = k.tm })) (state_of s log)) < work (state_of s log)
 release_falls s bases log k e =
     let n : ℕ = (last_served s log).commits in
@@ -126,8 +123,7 @@ release_falls s bases log k e =
     (released_no_more txns k.tm) e (released_fewer txns k (omega arith)) in
     omega arith
 
-hold_falls : (s : Setting) (bases : Bases) (log : Log) (k : TmCounts) → IsAmid s bases (state_of s log) log
-    → find is_free (state_of s log).counts ≡ Some k
+hold_falls : (s : Setting) (bases : Bases) (log : Log) (k : TmCounts) → IsAmid s bases (state_of s log) log → find is_free (state_of s log).counts ≡ Some k
     → work (state_done bases (Hold (record { 0 = k.tm })) (state_of s log)) < work (state_of s log)
 hold_falls s bases log k amid e =
     let n : ℕ = (last_served s log).commits in
@@ -136,18 +132,15 @@ hold_falls s bases log k amid e =
     let free : k.releases ≡ k.holds = eqb-true k.releases k.holds r.2 in
     let turn : InTurn n k = subst (InTurn n) r.1 (amid.sound.turns r.0) in
     let low = turn.committed in
-    let less = fewer_where txns (counted signs.Hold k.tm) is_free (state_of s log).counts k
-    (held_no_more txns k.tm) e (held_fewer txns k (omega arith)) in
+    let less = fewer_where txns (counted signs.Hold k.tm) is_free (state_of s log).counts k (held_no_more txns k.tm) e (held_fewer txns k (omega arith)) in
     omega arith
 
 step_falls : (s : Setting) (bases : Bases) (log : Log) (step : Step) → IsAmid s bases (state_of s log) log
-    → IsStep (state_of s log) step → (step ≡ Start → active s 0 log ≡ None)
-    → work (state_done bases step (state_of s log)) < work (state_of s log)
+    → IsStep (state_of s log) step → (step ≡ Start → active s 0 log ≡ None) → work (state_done bases step (state_of s log)) < work (state_of s log)
 step_falls s bases log Send amid (sends h) idle = send_falls s bases log amid h
 step_falls s bases log Commit amid (commits_now h) idle = commit_falls s bases log amid h
 step_falls s bases log (Release tm) amid (releases k none found e) idle = release_falls s bases log k found
-step_falls s bases log Start amid (starts none r may) idle =
-    let w = first_of (queue s 0 log) _ may in start_falls s bases log w.0 w.1 (idle refl) w.2
+step_falls s bases log Start amid (starts none r may) idle = let w = first_of (queue s 0 log) _ may in start_falls s bases log w.0 w.1 (idle refl) w.2
 step_falls s bases log (Hold tm) amid (holds k none r t found some e) idle = hold_falls s bases log k amid found
 
 pub work_falls : (s : Setting) (bases : Bases) (state : State) (log : Log) (step : Step) → IsAmid s bases state log

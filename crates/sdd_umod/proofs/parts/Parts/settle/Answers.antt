@@ -6,8 +6,7 @@ use Rattle.sdd_umod.proofs.parts.Parts.settle.Goals as goal
 pub perform-requires-clause-class : goal.perform-requires-clause-class
 perform-requires-clause-class c =
     let r = c.requires in
-    of_class c.loop-step.self
-    (still c.args.self.now c.loop-step.self c.args.draft.now c.loop-step.draft r.0 r.1 r.2 r.3 c.loop-step.invariant)
+    of_class c.loop-step.self (still c.args.self.now c.loop-step.self c.args.draft.now c.loop-step.draft r.0 r.1 r.2 r.3 c.loop-step.invariant)
 
 pub perform-requires-clause-time : goal.perform-requires-clause-time
 perform-requires-clause-time c =
@@ -19,20 +18,17 @@ perform-requires-clause-time c =
 pub perform-requires-clause-tries : goal.perform-requires-clause-tries
 perform-requires-clause-tries c =
     let r = c.requires in
-    are_tried c.loop-step.self
-    (still c.args.self.now c.loop-step.self c.args.draft.now c.loop-step.draft r.0 r.1 r.2 r.3 c.loop-step.invariant)
+    are_tried c.loop-step.self (still c.args.self.now c.loop-step.self c.args.draft.now c.loop-step.draft r.0 r.1 r.2 r.3 c.loop-step.invariant)
 
 pub perform-requires-clause-commits : goal.perform-requires-clause-commits
 perform-requires-clause-commits c =
     let r = c.requires in
-    commits_few c.loop-step.self
-    (still c.args.self.now c.loop-step.self c.args.draft.now c.loop-step.draft r.0 r.1 r.2 r.3 c.loop-step.invariant)
+    commits_few c.loop-step.self (still c.args.self.now c.loop-step.self c.args.draft.now c.loop-step.draft r.0 r.1 r.2 r.3 c.loop-step.invariant)
 
 pub perform-requires-clause-counts : goal.perform-requires-clause-counts
 perform-requires-clause-counts c =
     let r = c.requires in
-    have_room c.loop-step.self
-    (still c.args.self.now c.loop-step.self c.args.draft.now c.loop-step.draft r.0 r.1 r.2 r.3 c.loop-step.invariant)
+    have_room c.loop-step.self (still c.args.self.now c.loop-step.self c.args.draft.now c.loop-step.draft r.0 r.1 r.2 r.3 c.loop-step.invariant)
 
 pub loop-step-smaller : goal.loop-step-smaller
 loop-step-smaller c =
