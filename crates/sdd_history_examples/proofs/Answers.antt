@@ -77,6 +77,5 @@ module _ (cat : Catalogue) (rows : List (RelNo × Row)) (txns : List Txn) (h : H
               started_before h n number k
               (each (λ (x : CommitAt). is_started h x.txn x.number x.place) (commits h) _ pass.commit_after (in_commits h n number k c));
           answered = answered;
-          effect_is = λ t txn c e.
-              tells cat rows txns h t txn e (each_has (TellsEffect cat rows txns h) (committed h) t pass.effects (there t c));
+          effect_is = λ t txn c e. tells cat rows txns h t txn e (each_has (TellsEffect cat rows txns h) (committed h) t pass.effects (there t c));
         }

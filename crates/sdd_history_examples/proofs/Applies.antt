@@ -13,9 +13,7 @@ abbrev pub goes : Catalogue → Committed → ℕ → Bool
 goes cat t d = touches cat t d || ((t.start.class == 0) && is_from_1_to cat.dms d)
 
 abbrev is_of : Catalogue → ApplyAt → Committed → Bool
-is_of cat x t =
-    (t.start.txn == x.txn)
-    && ((t.start.class == x.class) && ((t.start.ts == x.ts) && (nat_lt t.place x.place && goes cat t x.dm)))
+is_of cat x t = (t.start.txn == x.txn) && ((t.start.class == x.class) && ((t.start.ts == x.ts) && (nat_lt t.place x.place && goes cat t x.dm)))
 
 abbrev same_apply : ApplyAt → ApplyAt → Bool
 same_apply x y = if_so (x.txn == y.txn) (if_so (x.dm == y.dm) (x.place == y.place))
@@ -61,8 +59,7 @@ pub record PassApplies (cat : Catalogue) (h : History) : Type 0 where
 touches_is : (cat : Catalogue) (x : Committed) (d : ℕ) → Touches cat x d → touches cat x d ≡ true
 touches_is cat x d t =
     let m = member_passes (λ (c : Change). c.frag.0 == t.fragment) x.changes t.changed in
-    passes_member (λ (c : Change). has_copy cat d c.frag.0) x.changes m.0 m.1
-    (ap (has_copy cat d) (eqb-true m.0.frag.0 t.fragment m.2) ∙ t.copied)
+    passes_member (λ (c : Change). has_copy cat d c.frag.0) x.changes m.0 m.1 (ap (has_copy cat d) (eqb-true m.0.frag.0 t.fragment m.2) ∙ t.copied)
 
 goes_to : (cat : Catalogue) (t : Committed) (d : ℕ) → goes cat t d ≡ true → GoesTo cat t d
 goes_to cat t d e =
@@ -76,8 +73,7 @@ goes_to cat t d e =
     ]
 
 pub goes_is : (cat : Catalogue) (t : Committed) (d : ℕ) → GoesTo cat t d → goes cat t d ≡ true
-goes_is cat t d (by_change c) =
-    or_left (touches cat t d) ((t.start.class == 0) && is_from_1_to cat.dms d) (touches_is cat t d c)
+goes_is cat t d (by_change c) = or_left (touches cat t d) ((t.start.class == 0) && is_from_1_to cat.dms d) (touches_is cat t d c)
 goes_is cat t d (by_no_class z m) =
     or_right (touches cat t d) ((t.start.class == 0) && is_from_1_to cat.dms d)
     (and_from (t.start.class == 0) (is_from_1_to cat.dms d) (eq-eqb t.start.class 0 z)

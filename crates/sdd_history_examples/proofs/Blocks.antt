@@ -20,15 +20,13 @@ same_side true b e = sym e
 same_side false true e = absurd (cc)
 same_side false false e = refl
 
-each_stays : (side : ℕ → Bool) (edges : List (ℕ × ℕ)) (j c d : ℕ) → all_stay side edges ≡ true
-    → slice_get edges j ≡ Some (c, d) → side c ≡ side d
+each_stays : (side : ℕ → Bool) (edges : List (ℕ × ℕ)) (j c d : ℕ) → all_stay side edges ≡ true → slice_get edges j ≡ Some (c, d) → side c ≡ side d
 each_stays side [] j c d e g = absurd (cc)
 each_stays side (x ∷ edges) zero c d e g =
     let both = and_parts (stays side x) (all_stay side edges) e in
     let same = some_pair_parts x.0 c x.1 d g in
     ap side (sym same.0) ∙ same_side (side x.0) (side x.1) both.0 ∙ ap side same.1
-each_stays side (x ∷ edges) (suc j) c d e g =
-    each_stays side edges j c d (and_parts (stays side x) (all_stay side edges) e).1 g
+each_stays side (x ∷ edges) (suc j) c d e g = each_stays side edges j c d (and_parts (stays side x) (all_stay side edges) e).1 g
 
 each_other : (side : ℕ → Bool) (k : ℕ) (edges : List (ℕ × ℕ)) (j c d : ℕ) → others_stay side k edges ≡ true → j ≢ k
     → slice_get edges j ≡ Some (c, d) → side c ≡ side d
@@ -50,8 +48,7 @@ walk_stays side k edges e from (s ∷ steps) to w n =
     elim w.0 [
       | inl g ↦ each_other side k edges s.edge from s.to e (λ p. n (inl p)) g
       | inr g ↦ sym (each_other side k edges s.edge s.to from e (λ p. n (inl p)) g)
-    ]
-    ∙ walk_stays side k edges e s.to steps to w.1 (λ m. n (inr m))
+    ] ∙ walk_stays side k edges e s.to steps to w.1 (λ m. n (inr m))
 
 -- so that one, which crosses, lies on no cycle
 pub crosses_alone : (side : ℕ → Bool) (edges : List (ℕ × ℕ)) (k a b : ℕ) → others_stay side k edges ≡ true
@@ -78,8 +75,7 @@ IsNumbered edges steps k b = ((b ≡ 0) × (¬ OnACycle edges k)) ⊎ ((b ≡ 1)
 
 -- where all edges on cycles lie on one these have the number 1
 pub one_block : (edges : List (ℕ × ℕ)) (blocks : List ℕ) (start : ℕ) (steps : List Step) → IsSimpleCycle edges start steps
-    → length blocks ≡ length edges → ((k b : ℕ) → slice_get blocks k ≡ Some b → IsNumbered edges steps k b)
-    → AreBlocks edges blocks
+    → length blocks ≡ length edges → ((k b : ℕ) → slice_get blocks k ≡ Some b → IsNumbered edges steps k b) → AreBlocks edges blocks
 one_block edges blocks start steps cycle long each =
     let share : (j k : ℕ) → Has (edges_of steps) j → Has (edges_of steps) k → ShareACycle edges j k =
     λ j k p q. record { start = start; steps = steps; cycle = cycle; first = p; second = q } in

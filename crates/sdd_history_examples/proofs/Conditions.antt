@@ -9,8 +9,7 @@ touches_one cat x d frags = list_any (λ c. has_copy cat d c.frag.0 && contains 
 -- whether a transaction of the class that the condition names is applied exactly where it is before the time
 abbrev is_split : Catalogue → History → AnswerAt → Cond → Committed → Bool
 is_split cat h z c x =
-    if_so (x.start.class == c.class.0)
-    (if_so (touches_one cat x z.dm c.frags) (same (is_applied h z.dm z.place x.start.txn) (nat_lt x.start.ts c.time.0)))
+    if_so (x.start.class == c.class.0) (if_so (touches_one cat x z.dm c.frags) (same (is_applied h z.dm z.place x.start.txn) (nat_lt x.start.ts c.time.0)))
 
 abbrev is_met : Catalogue → (ℕ → List Entry) → History → Attempt → AnswerAt → Bool
 is_met cat table h a z =

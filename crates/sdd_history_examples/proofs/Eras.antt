@@ -5,8 +5,7 @@ use Rattle.sdd_history_examples.proofs.Listed.{submits, in_submits}
 
 -- whether the first of two transactions is submitted in an earlier era
 abbrev is_earlier : Eras → History → Committed → Committed → ℕ × ℕ → ℕ × ℕ → Bool
-is_earlier eras h x y p q =
-    (p.0 == x.start.txn) && ((q.0 == y.start.txn) && nat_lt (begun eras (event_at h p.1)) (begun eras (event_at h q.1)))
+is_earlier eras h x y p q = (p.0 == x.start.txn) && ((q.0 == y.start.txn) && nat_lt (begun eras (event_at h p.1)) (begun eras (event_at h q.1)))
 
 -- whether a transaction is applied before a place wherever it is to be
 
@@ -74,8 +73,7 @@ module _ (cat : Catalogue) (eras : Eras) (h : History) (there : (t : Committed) 
         times_rise = λ x y e.
             ltb-true x.start.ts y.start.ts (and_parts (nat_lt x.start.ts y.start.ts) (list_all (is_done cat h x y) (attempts h)) (of_pair x y e)).0;
         committed = λ x y a e p is. (done x y a e p is).0;
-        applied = λ x y a d e p is g.
-            applied_before h x.start.txn d a.place (applied_everywhere cat h x a.place d (done x y a e p is).1 g);
+        applied = λ x y a d e p is g. applied_before h x.start.txn d a.place (applied_everywhere cat h x a.place d (done x y a e p is).1 g);
         one_era = λ a k p s.
             let n = begun eras (event_at h k) in
             let m = begun eras (event_at h a.place) in

@@ -4,15 +4,13 @@ use Rattle.sdd_laws.specs.All.{IsFrom1To}
 
 -- what a test tells of each member
 
-each_by : {A : Type 0} (P : A → Type 0) (p : A → Bool) → ((x : A) → p x ≡ true → P x) → (xs : List A) → list_all p xs ≡ true
-    → AllByRecursion P xs
+each_by : {A : Type 0} (P : A → Type 0) (p : A → Bool) → ((x : A) → p x ≡ true → P x) → (xs : List A) → list_all p xs ≡ true → AllByRecursion P xs
 each_by P p tells [] e = tt
 each_by P p tells (x ∷ xs) e =
     let both = and_parts (p x) (list_all p xs) e in
     (tells x both.0, each_by P p tells xs both.1)
 
-pub all_by : {A : Type 0} (P : A → Type 0) (p : A → Bool) → ((x : A) → p x ≡ true → P x) → (xs : List A) → list_all p xs ≡ true
-    → All P xs
+pub all_by : {A : Type 0} (P : A → Type 0) (p : A → Bool) → ((x : A) → p x ≡ true → P x) → (xs : List A) → list_all p xs ≡ true → All P xs
 all_by P p tells xs e = All-from_recursion P xs (each_by P p tells xs e)
 
 pub from_1_to : (most n : ℕ) → is_from_1_to most n ≡ true → IsFrom1To most n
@@ -73,8 +71,7 @@ module _ (cat : Catalogue) where
       (from_1_to cat.dms dm.0 both.0, all_by (CondExists cat) is_cond cond_exists conds both.1)
   exists (Answer txn attempt dm) e = from_1_to cat.dms dm.0 e
   exists (Reject txn attempt dm class ts) e = module_and_class dm.0 class.0 e
-  exists (Commit txn attempt reply changes values rows) e =
-      all_by (ChangeExists cat) is_change (λ c t. from_1_to (length cat.fragments) c.frag.0 t) changes e
+  exists (Commit txn attempt reply changes values rows) e = all_by (ChangeExists cat) is_change (λ c t. from_1_to (length cat.fragments) c.frag.0 t) changes e
   exists (Apply txn class dm ts) e = module_and_class dm.0 class.0 e
   exists (Pass class dm time) e = module_and_class dm.0 class.0 e
   exists _ e = tt

@@ -20,8 +20,7 @@ first_sets (suc zero) from to = inl (refl, refl)
 first_sets _ from to = absurd (omega arith)
 
 first_is : IsEraOf both_classes one_class
-first_is =
-    record { tms = refl; dms = refl; relations = refl; fragments = refl; classes = lit≤ tt; home = first_home; sets = first_sets }
+first_is = record { tms = refl; dms = refl; relations = refl; fragments = refl; classes = lit≤ tt; home = first_home; sets = first_sets }
 
 second_home : (c : ℕ) → 1 ≤ c → c ≤ 2 → (class_at further_classes c).tm ≡ (class_at both_classes c).tm
 second_home (suc zero) from to = refl
@@ -34,8 +33,7 @@ second_sets (suc (suc zero)) from to = inl (refl, refl)
 second_sets _ from to = absurd (omega arith)
 
 second_is : IsEraOf both_classes further_classes
-second_is =
-    record { tms = refl; dms = refl; relations = refl; fragments = refl; classes = lit≤ tt; home = second_home; sets = second_sets }
+second_is = record { tms = refl; dms = refl; relations = refl; fragments = refl; classes = lit≤ tt; home = second_home; sets = second_sets }
 
 eras_rise : (k : ℕ) (a b : ℕ × Catalogue) → slice_get two_eras k ≡ Some a → slice_get two_eras (suc k) ≡ Some b → a.0 < b.0
 eras_rise zero a b p q =
@@ -86,15 +84,7 @@ starts =
     }
 
 answers : PassAnswers both_classes [] put_then_query redeclares
-answers =
-    record {
-      one_answer = refl;
-      answer_after = refl;
-      commit_after = refl;
-      answered_everywhere = refl;
-      answered = refl;
-      effects = (refl, (refl, tt));
-    }
+answers = record { one_answer = refl; answer_after = refl; commit_after = refl; answered_everywhere = refl; answered = refl; effects = (refl, (refl, tt)) }
 
 applies : PassApplies both_classes redeclares
 applies = record { of_commit = refl; one_apply = refl; rise = refl; none_left_out = refl; after_earlier = refl; has_earlier = refl; before_later = refl }

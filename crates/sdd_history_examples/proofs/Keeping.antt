@@ -19,8 +19,7 @@ pub record Passes (cat : Catalogue) (eras : Eras) (rows : List (RelNo × Row)) (
   pub lists : PassEras cat eras h
 
 -- where no transaction starts again there are no rejections to speak of
-pub no_rejections : (cat : Catalogue) (eras : Eras) (h : History) → list_all (λ a. not (nat_lt 1 a.number)) (attempts h) ≡ true
-    → KeepsRejections cat eras h
+pub no_rejections : (cat : Catalogue) (eras : Eras) (h : History) → list_all (λ a. not (nat_lt 1 a.number)) (attempts h) ≡ true → KeepsRejections cat eras h
 no_rejections cat eras h e =
     record {
       again = λ a p l.

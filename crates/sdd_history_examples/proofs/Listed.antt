@@ -10,8 +10,7 @@ abbrev pub submits : History → List (ℕ × ℕ)
 submits h = filter_map submit_of (placed 0 h)
 
 pub in_submits : (h : History) (n k : ℕ) → IsSubmitted h n k → Contains (submits h) (n, k)
-in_submits h n k s =
-    Contains-filter_map submit_of (placed 0 h) (k, Submit (txn_no n)) (n, k) (at_place h k (Submit (txn_no n)) s) refl
+in_submits h n k s = Contains-filter_map submit_of (placed 0 h) (k, Submit (txn_no n)) (n, k) (at_place h k (Submit (txn_no n)) s) refl
 
 -- an attempt, and the place of its Commit
 pub record CommitAt : Type 0 where
@@ -26,12 +25,10 @@ commit_in _ = None
 abbrev pub commits : History → List CommitAt
 commits h = filter_map commit_in (placed 0 h)
 
-pub in_commits : (h : History) (n number k : ℕ) → HasCommit h n number k
-    → Contains (commits h) (record { txn = n; number = number; place = k })
+pub in_commits : (h : History) (n number k : ℕ) → HasCommit h n number k → Contains (commits h) (record { txn = n; number = number; place = k })
 in_commits h n number k c =
     let r : Rec = Commit (txn_no n) number c.reply c.changes c.values c.rows in
-    Contains-filter_map commit_in (placed 0 h) (k, r) (record { txn = n; number = number; place = k })
-    (at_place h k r c.stands) refl
+    Contains-filter_map commit_in (placed 0 h) (k, r) (record { txn = n; number = number; place = k }) (at_place h k r c.stands) refl
 
 -- an attempt, and the module and place of its Answer
 pub record AnswerAt : Type 0 where
@@ -51,8 +48,7 @@ pub in_answers : (h : History) (n number d k : ℕ) → Stands h k (Answer (txn_
     → Contains (answers h) (record { txn = n; number = number; dm = d; place = k })
 in_answers h n number d k s =
     let r : Rec = Answer (txn_no n) number (dm_no d) in
-    Contains-filter_map answer_in (placed 0 h) (k, r) (record { txn = n; number = number; dm = d; place = k })
-    (at_place h k r s) refl
+    Contains-filter_map answer_in (placed 0 h) (k, r) (record { txn = n; number = number; dm = d; place = k }) (at_place h k r s) refl
 
 -- a transaction with its class and timestamp, and the module and place of its Apply
 pub record ApplyAt : Type 0 where
@@ -73,8 +69,7 @@ pub in_applies : (h : History) (n class d ts k : ℕ) → Stands h k (Apply (txn
     → Contains (applies h) (record { txn = n; class = class; dm = d; ts = ts; place = k })
 in_applies h n class d ts k s =
     let r : Rec = Apply (txn_no n) (class_no class) (dm_no d) (time_at ts) in
-    Contains-filter_map apply_in (placed 0 h) (k, r) (record { txn = n; class = class; dm = d; ts = ts; place = k })
-    (at_place h k r s) refl
+    Contains-filter_map apply_in (placed 0 h) (k, r) (record { txn = n; class = class; dm = d; ts = ts; place = k }) (at_place h k r s) refl
 
 -- whether an attempt starts, and a transaction is committed, before a place
 

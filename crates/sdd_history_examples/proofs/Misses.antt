@@ -44,15 +44,7 @@ starts =
     }
 
 answers : PassAnswers crossing [] two_of_both misses_both
-answers =
-    record {
-      one_answer = refl;
-      answer_after = refl;
-      commit_after = refl;
-      answered_everywhere = refl;
-      answered = refl;
-      effects = (refl, (refl, tt));
-    }
+answers = record { one_answer = refl; answer_after = refl; commit_after = refl; answered_everywhere = refl; answered = refl; effects = (refl, (refl, tt)) }
 
 applies : PassApplies crossing misses_both
 applies = record { of_commit = refl; one_apply = refl; rise = refl; none_left_out = refl; after_earlier = refl; has_earlier = refl; before_later = refl }

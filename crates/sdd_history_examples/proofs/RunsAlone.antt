@@ -51,14 +51,7 @@ starts =
 
 answers : PassAnswers one_writer [] undeclared_between runs_alone
 answers =
-    record {
-      one_answer = refl;
-      answer_after = refl;
-      commit_after = refl;
-      answered_everywhere = refl;
-      answered = refl;
-      effects = (refl, (refl, (refl, tt)));
-    }
+    record { one_answer = refl; answer_after = refl; commit_after = refl; answered_everywhere = refl; answered = refl; effects = (refl, (refl, (refl, tt))) }
 
 applies : PassApplies one_writer runs_alone
 applies = record { of_commit = refl; one_apply = refl; rise = refl; none_left_out = refl; after_earlier = refl; has_earlier = refl; before_later = refl }

@@ -51,7 +51,4 @@ sound_one_writer = one_sound one_writer one_writer_is
 
 pub sound_both_classes : AreSound both_classes two_eras
 sound_both_classes =
-    record {
-      whole = both_classes_are;
-      each = All-from_recursion (λ (e : ℕ × Catalogue). IsSound e.1) two_eras (one_class_is, (further_classes_are, tt));
-    }
+    record { whole = both_classes_are; each = All-from_recursion (λ (e : ℕ × Catalogue). IsSound e.1) two_eras (one_class_is, (further_classes_are, tt)) }

@@ -5,8 +5,7 @@ use Rattle.sdd_history_examples.proofs.Listed.{CommitAt, submits, in_submits, co
 
 -- the class that covers a transaction with a number where it is submitted
 abbrev pub class_of_text : Catalogue → Eras → List Txn → History → ℕ × ℕ → ℕ
-class_of_text cat eras txns h x =
-    unwrap_or (option_map (class_for (in_force cat eras (event_at h x.1))) (txn_at txns x.0)) 0
+class_of_text cat eras txns h x = unwrap_or (option_map (class_for (in_force cat eras (event_at h x.1))) (txn_at txns x.0)) 0
 
 -- the first attempt's timestamp and bound are not above this bound
 abbrev is_bound_over : ℕ → Attempt → Bool
@@ -22,9 +21,7 @@ is_bound all a =
 -- a transaction that was submitted before another, and would have its class, is committed before that one starts
 abbrev waits_for : Catalogue → Eras → List Txn → History → Attempt → ℕ × ℕ → ℕ × ℕ → Bool
 waits_for cat eras txns h a own other =
-    if_so (own.0 == a.txn)
-    (if_so (nat_lt other.1 own.1)
-    (if_so (class_of_text cat eras txns h other == a.class) (is_committed h other.0 a.place)))
+    if_so (own.0 == a.txn) (if_so (nat_lt other.1 own.1) (if_so (class_of_text cat eras txns h other == a.class) (is_committed h other.0 a.place)))
 
 pub record PassStarts (cat : Catalogue) (eras : Eras) (txns : List Txn) (h : History) : Type 0 where
   pub submitted : AllByRecursion (IsOfSubmit cat eras txns h) (attempts h)
@@ -110,8 +107,7 @@ module _ (cat : Catalogue) (eras : Eras) (txns : List Txn) (h : History) (pass :
   by_last t a c p e =
       let u = each_pair (λ (t : Committed) (a : Attempt). if_so (a.txn == t.start.txn) (not (nat_lt t.start.number a.number))) (committed h)
       (attempts h) t a pass.by_last (there t c) (in_attempts h a p) in
-      not_below t.start.number a.number
-      (so (a.txn == t.start.txn) (not (nat_lt t.start.number a.number)) u (eq-eqb a.txn t.start.txn e))
+      not_below t.start.number a.number (so (a.txn == t.start.txn) (not (nat_lt t.start.number a.number)) u (eq-eqb a.txn t.start.txn e))
 
   bound : (a : Attempt) (p2 : Ts) → IsAttempt h a → a.p2 ≡ Some p2 → IsBound h a p2.0
   bound a p2 p e =

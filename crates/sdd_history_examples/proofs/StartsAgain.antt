@@ -46,15 +46,7 @@ starts =
     }
 
 answers : PassAnswers crossing [] query_and_put starts_again
-answers =
-    record {
-      one_answer = refl;
-      answer_after = refl;
-      commit_after = refl;
-      answered_everywhere = refl;
-      answered = refl;
-      effects = (refl, (refl, tt));
-    }
+answers = record { one_answer = refl; answer_after = refl; commit_after = refl; answered_everywhere = refl; answered = refl; effects = (refl, (refl, tt)) }
 
 applies : PassApplies crossing starts_again
 applies = record { of_commit = refl; one_apply = refl; rise = refl; none_left_out = refl; after_earlier = refl; has_earlier = refl; before_later = refl }
@@ -118,8 +110,7 @@ rejections =
     record {
       again = λ a p.
           each_has (λ a. 1 < a.number → IsAgain crossing (one_era crossing) starts_again a) (attempts starts_again) a
-          ((λ l. absurd (omega (arith, l))), ((λ l. absurd (omega (arith, l))), ((λ l. starts_since), tt)))
-          (in_attempts starts_again a p);
+          ((λ l. absurd (omega (arith, l))), ((λ l. absurd (omega (arith, l))), ((λ l. starts_since), tt))) (in_attempts starts_again a p);
     }
 
 pub starts_again_keeps : KeepsAll crossing (one_era crossing) [] query_and_put starts_again

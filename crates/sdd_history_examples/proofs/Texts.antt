@@ -29,11 +29,7 @@ module _ (high : ℕ) (classes : List Class) where
   -- a transaction of one statement, and of two
   pub one_fits : (t : ℕ) → IsFrom1To 2 t → (s : Stmt) → FitsStatement (named (with_classes high classes)) s → Fits (named (with_classes high classes)) (given_to t (s ∷ []))
   one_fits t m s p =
-      record {
-        module_is_there = m;
-        few = lit≤ tt;
-        statements = All-from_recursion (FitsStatement (named (with_classes high classes))) (s ∷ []) (p, tt);
-      }
+      record { module_is_there = m; few = lit≤ tt; statements = All-from_recursion (FitsStatement (named (with_classes high classes))) (s ∷ []) (p, tt) }
 
   pub two_fit : (t : ℕ) → IsFrom1To 2 t → (r s : Stmt) → FitsStatement (named (with_classes high classes)) r → FitsStatement (named (with_classes high classes)) s
       → Fits (named (with_classes high classes)) (given_to t (r ∷ s ∷ []))

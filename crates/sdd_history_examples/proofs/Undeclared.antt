@@ -10,17 +10,14 @@ abbrev is_had : Catalogue → History → Committed → Committed → AnswerAt �
 is_had cat h t u z = if_so (is_answer_of u.start z) (if_so (goes cat t z.dm) (is_applied h z.dm z.place t.start.txn))
 
 abbrev is_before : Catalogue → History → Committed → Committed → Bool
-is_before cat h t u =
-    nat_lt t.start.ts u.start.ts && (nat_lt t.place u.start.place && list_all (is_had cat h t u) (answers h))
+is_before cat h t u = nat_lt t.start.ts u.start.ts && (nat_lt t.place u.start.place && list_all (is_had cat h t u) (answers h))
 
 -- or wholly after it
 abbrev is_after : Catalogue → History → Committed → Committed → Bool
-is_after cat h t u =
-    nat_lt u.start.ts t.start.ts && list_all (λ d. is_applied h d t.start.place u.start.txn) (numbers_to cat.dms)
+is_after cat h t u = nat_lt u.start.ts t.start.ts && list_all (λ d. is_applied h d t.start.place u.start.txn) (numbers_to cat.dms)
 
 abbrev is_apart : Catalogue → History → Committed → Committed → Bool
-is_apart cat h u t =
-    if_so (u.start.class == 0) (if_so (not (u.start.txn == t.start.txn)) (is_before cat h t u || is_after cat h t u))
+is_apart cat h u t = if_so (u.start.class == 0) (if_so (not (u.start.txn == t.start.txn)) (is_before cat h t u || is_after cat h t u))
 
 abbrev pub run_alone : Catalogue → History → Bool
 run_alone cat h = all_pairs (is_apart cat h) (committed h) (committed h)

@@ -43,15 +43,7 @@ starts =
     }
 
 answers : PassAnswers one_reader rows_of_two two_puts_and_query waits_at_two
-answers =
-    record {
-      one_answer = refl;
-      answer_after = refl;
-      commit_after = refl;
-      answered_everywhere = refl;
-      answered = refl;
-      effects = (refl, (refl, tt));
-    }
+answers = record { one_answer = refl; answer_after = refl; commit_after = refl; answered_everywhere = refl; answered = refl; effects = (refl, (refl, tt)) }
 
 applies : PassApplies one_reader waits_at_two
 applies = record { of_commit = refl; one_apply = refl; rise = refl; none_left_out = refl; after_earlier = refl; has_earlier = refl; before_later = refl }

@@ -24,9 +24,7 @@ is_bridge =
     record {
       edges = refl;
       blocks = no_blocks path (0 ∷ 0 ∷ 0 ∷ []) refl path_number;
-      protocols =
-          All-from_recursion (λ (e : Entry). e.protocol ≡ protocol_in table_of_bridge e.edge e.block) table_of_bridge
-          (refl, (refl, (refl, tt)));
+      protocols = All-from_recursion (λ (e : Entry). e.protocol ≡ protocol_in table_of_bridge e.edge e.block) table_of_bridge (refl, (refl, (refl, tt)));
     }
 
 -- Two parallel edges between two others.
@@ -149,7 +147,5 @@ is_further_classes =
     record {
       edges = refl;
       blocks = no_blocks apart (0 ∷ 0 ∷ []) refl apart_number;
-      protocols =
-          All-from_recursion (λ (e : Entry). e.protocol ≡ protocol_in table_of_two e.edge e.block) table_of_two
-          (refl, (refl, tt));
+      protocols = All-from_recursion (λ (e : Entry). e.protocol ≡ protocol_in table_of_two e.edge e.block) table_of_two (refl, (refl, tt));
     }
