@@ -1,5 +1,5 @@
 -- In which order the rows arrive doesn't matter.
-use Rattle.sdd_serving.proofs.All.{AreEnough, AreEnoughAlong, Catalogue, Database, Delete, Has, List, Put, Query, Row, Serves, Shipped, Stmt, Txn, Update, [], part_of, uses_in, ℕ, ◌+◌, ◌∷◌}
+use Rattle.sdd_serving.proofs.All.{AreEnough, AreEnoughAlong, Catalogue, Database, Has, List, Put, Query, Row, Serves, Shipped, Stmt, Txn, [], part_of, uses_in, ℕ, ◌+◌, ◌∷◌}
 use Rattle.sdd_serving.proofs.Held.{use_row, row_of_use}
 use Rattle.sdd_attempt.specs.All.{rows_for}
 
@@ -9,19 +9,16 @@ module _ (few many : Shipped) (go : (s : ℕ × Row) → Has few s → Has many 
 
   enough : (db : Database) (before : ℕ) (s : Stmt) → AreEnough db few before s → AreEnough db many before s
   enough db before (Put rel row) h = tt
-  enough db before (Query out rels conds) h =
-      λ tuple there meets part range. moved (before + part) (part_of tuple part) (h tuple there meets part range)
+  enough db before (Query out rels conds) h = λ tuple there meets part range. moved (before + part) (part_of tuple part) (h tuple there meets part range)
   enough db before _ h = λ row is. moved (before + 1) row (h row is)
 
-  enough_along : (db : Database) (before : ℕ) (statements : List Stmt) → AreEnoughAlong db few before statements
-      → AreEnoughAlong db many before statements
+  enough_along : (db : Database) (before : ℕ) (statements : List Stmt) → AreEnoughAlong db few before statements → AreEnoughAlong db many before statements
   enough_along db before [] h = tt
   enough_along db before (s ∷ rest) h = (enough db before s h.0, enough_along db (before + uses_in s) rest h.1)
 
 -- rows with the same members serve the same databases
 pub serves_by_members : (cat : Catalogue) (txn : Txn) (db : Database) (few many : Shipped)
-    → ((s : ℕ × Row) → Has few s → Has many s) → ((s : ℕ × Row) → Has many s → Has few s) → Serves cat txn few db
-    → Serves cat txn many db
+    → ((s : ℕ × Row) → Has few s → Has many s) → ((s : ℕ × Row) → Has many s → Has few s) → Serves cat txn few db → Serves cat txn many db
 serves_by_members cat txn db few many go come s =
     record {
       named = λ r h. s.named r (come r h);

@@ -1,5 +1,5 @@
 -- What is shipped after any number of reductions serves the database.
-use Rattle.sdd_serving.proofs.All.{AllByRecursion, AreEnough, AreEnoughAlong, Catalogue, Condition, Database, Delete, Fits, FitsCondition, FitsStatement, Has, Has-left, Has-right, IsFrom1To, IsHeldAt, IsRowOf, List, Put, Query, Ref, RelNo, Row, Same, Serves, Space, Stmt, Txn, Update, Use, [], all_held, all_rows, arith, inl, inr, length, length-statement_uses, list_all, meets, part_of, part_uses, parts_meet, recursion_from_All, refl, statement_uses, subst, sym, true, uses_from, uses_in, uses_of, ℕ, ◌+◌, ◌-◌, ◌∷◌, ◌≡◌}
+use Rattle.sdd_serving.proofs.All.{AllByRecursion, AreEnough, AreEnoughAlong, Catalogue, Condition, Database, Fits, FitsCondition, FitsStatement, Has, Has-left, Has-right, IsFrom1To, IsHeldAt, IsRowOf, List, Put, Query, Ref, RelNo, Row, Same, Serves, Space, Stmt, Txn, Use, [], all_held, all_rows, arith, inl, inr, length, length-statement_uses, list_all, meets, part_of, part_uses, parts_meet, recursion_from_All, refl, statement_uses, subst, sym, true, uses_from, uses_in, uses_of, ℕ, ◌+◌, ◌-◌, ◌∷◌, ◌≡◌}
 use Rattle.sdd_serving.proofs.Held.{shipped_held, held_shipped, use_row, row_of_use}
 use Rattle.sdd_serving.proofs.Keeps.{Leads, HoldEnough, HoldEnoughAlong, HasParts, all_keep, all_were}
 use Rattle.sdd_serving.proofs.Uses.{one_use, HasPart, parts_there}
@@ -8,14 +8,12 @@ use Rattle.sdd_serving.proofs.Uses.{one_use, HasPart, parts_there}
 pub record Begins (cat : Catalogue) (txn : Txn) (db : Database) (ds : List ℕ) (first : Space) : Type 0 where
   pub of : (d n : ℕ) (row : Row) → Has (all_rows (first d)) (n, row)
       → (u : Use) × Has (uses_of cat txn) u × (u.number ≡ n) × IsRowOf db u.rel.0 u.restrictions row
-  pub there : (u : Use) → Has (uses_of cat txn) u → (row : Row) → IsRowOf db u.rel.0 u.restrictions row
-      → IsHeldAt ds first u.number row
+  pub there : (u : Use) → Has (uses_of cat txn) u → (row : Row) → IsRowOf db u.rel.0 u.restrictions row → IsHeldAt ds first u.number row
 
 -- parts of a statement that fits
 
 each_fits : (cat : Catalogue) (rels : List RelNo) (conds : List Condition) (left right : Ref)
-    → AllByRecursion (FitsCondition cat rels) conds → Has conds (Same left right)
-    → IsFrom1To (length rels) left.part × IsFrom1To (length rels) right.part
+    → AllByRecursion (FitsCondition cat rels) conds → Has conds (Same left right) → IsFrom1To (length rels) left.part × IsFrom1To (length rels) right.part
 each_fits cat rels [] left right fits h = absurd h
 each_fits cat rels (c ∷ conds) left right fits (inl same) =
     let here : FitsCondition cat rels (Same left right) = subst (FitsCondition cat rels) same fits.0 in
@@ -23,12 +21,10 @@ each_fits cat rels (c ∷ conds) left right fits (inl same) =
 each_fits cat rels (c ∷ conds) left right fits (inr there) = each_fits cat rels conds left right fits.1 there
 
 has_parts : (cat : Catalogue) (s : Stmt) → FitsStatement cat s → HasParts s
-has_parts cat (Query out rels conds) fits =
-    λ left right h. each_fits cat rels conds left right (recursion_from_All (FitsCondition cat rels) conds fits.4.1) h
+has_parts cat (Query out rels conds) fits = λ left right h. each_fits cat rels conds left right (recursion_from_All (FitsCondition cat rels) conds fits.4.1) h
 has_parts cat _ fits = tt
 
-all_have : (cat : Catalogue) (statements : List Stmt) → AllByRecursion (FitsStatement cat) statements
-    → AllByRecursion HasParts statements
+all_have : (cat : Catalogue) (statements : List Stmt) → AllByRecursion (FitsStatement cat) statements → AllByRecursion HasParts statements
 all_have cat [] fits = tt
 all_have cat (s ∷ rest) fits = (has_parts cat s fits.0, all_have cat rest fits.1)
 
@@ -36,8 +32,7 @@ all_have cat (s ∷ rest) fits = (has_parts cat s fits.0, all_have cat rest fits
 
 module _ (cat : Catalogue) (db : Database) (ds : List ℕ) (first : Space) where
   abbrev Holds : List Use → Type 0
-  Holds uses =
-      (u : Use) → Has uses u → (row : Row) → IsRowOf db u.rel.0 u.restrictions row → IsHeldAt ds first u.number row
+  Holds uses = (u : Use) → Has uses u → (row : Row) → IsRowOf db u.rel.0 u.restrictions row → IsHeldAt ds first u.number row
 
   first_enough : (before : ℕ) (s : Stmt) → Holds (statement_uses cat before s) → HoldEnough db ds first before s
   first_enough before (Put rel row) h = tt
@@ -50,14 +45,11 @@ module _ (cat : Catalogue) (db : Database) (ds : List ℕ) (first : Space) where
       subst (λ z. HasPart cat db conds (part_uses cat before conds 1 rels) (before + z) z (part_of tuple part)) e
       (parts_there cat db before conds 1 rels tuple there (part - 1) (omega (arith, from, to))) in
       let met : list_all (meets (part_of tuple part)) p.usage.restrictions ≡ true =
-      subst (λ z. list_all (meets (part_of tuple part)) z ≡ true) (sym p.restricted)
-      (parts_meet conds tuple part meet) in
-      subst (λ z. IsHeldAt ds first z (part_of tuple part)) p.number_is
-      (h p.usage p.there (part_of tuple part) (p.row_there, met))
+      subst (λ z. list_all (meets (part_of tuple part)) z ≡ true) (sym p.restricted) (parts_meet conds tuple part meet) in
+      subst (λ z. IsHeldAt ds first z (part_of tuple part)) p.number_is (h p.usage p.there (part_of tuple part) (p.row_there, met))
   first_enough before _ h = λ row is. h _ (inl refl) row is
 
-  first_enough_along : (before : ℕ) (statements : List Stmt) → Holds (uses_from cat before statements)
-      → HoldEnoughAlong db ds first before statements
+  first_enough_along : (before : ℕ) (statements : List Stmt) → Holds (uses_from cat before statements) → HoldEnoughAlong db ds first before statements
   first_enough_along before [] h = tt
   first_enough_along before (s ∷ rest) h = (
     first_enough before s
@@ -83,14 +75,12 @@ shipped_enough db ds last before (Query out rels conds) h =
     λ tuple there meet part range.
     row_of_use (all_held ds last) (before + part) (part_of tuple part)
     (held_shipped ds last (before + part) (part_of tuple part) (h tuple there meet part range))
-shipped_enough db ds last before _ h =
-    λ row is. row_of_use (all_held ds last) (before + 1) row (held_shipped ds last (before + 1) row (h row is))
+shipped_enough db ds last before _ h = λ row is. row_of_use (all_held ds last) (before + 1) row (held_shipped ds last (before + 1) row (h row is))
 
 shipped_along : (db : Database) (ds : List ℕ) (last : Space) (before : ℕ) (statements : List Stmt)
     → HoldEnoughAlong db ds last before statements → AreEnoughAlong db (all_held ds last) before statements
 shipped_along db ds last before [] h = tt
-shipped_along db ds last before (s ∷ rest) h =
-    (shipped_enough db ds last before s h.0, shipped_along db ds last (before + uses_in s) rest h.1)
+shipped_along db ds last before (s ∷ rest) h = (shipped_enough db ds last before s h.0, shipped_along db ds last (before + uses_in s) rest h.1)
 
 -- the rows that are shipped serve the database
 pub serves : (cat : Catalogue) (txn : Txn) (db : Database) (ds : List ℕ) (first last : Space) → Fits cat txn
@@ -107,8 +97,7 @@ serves cat txn db ds first last fits begins leads =
           (first_enough_along cat db ds first 0 txn.statements (λ u k row is. begins.there u k row is)));
     }
   where
-    origin : (s : ℕ × Row) → Has (all_held ds last) s
-        → (u : Use) × Has (uses_of cat txn) u × (u.number ≡ s.0) × IsRowOf db u.rel.0 u.restrictions s.1
+    origin : (s : ℕ × Row) → Has (all_held ds last) s → (u : Use) × Has (uses_of cat txn) u × (u.number ≡ s.0) × IsRowOf db u.rel.0 u.restrictions s.1
     origin s h =
         let k = shipped_held ds last s h in
         begins.of k.at s.0 s.1 (all_were ds txn.statements first last leads k.at s.0 s.1 k.held)

@@ -17,8 +17,7 @@ fewest_there counts (a ∷ ms) m e = by (fewest counts ms) (λ n q. fewest_there
           | false ↦ λ q. let same : a ≡ m = cc in inl same
         ] e
 
-pub next_move_there : (conds : List Condition) (counts : List ℕ) (done : List Step) (m : Move)
-    → next_move conds counts done ≡ Some m → Has (moves conds) m
+pub next_move_there : (conds : List Condition) (counts : List ℕ) (done : List Step) (m : Move) → next_move conds counts done ≡ Some m → Has (moves conds) m
 next_move_there conds counts done m e =
     (Has-filter_from (is_candidate counts done) (moves conds) m (fewest_there counts (filter (is_candidate counts done) (moves conds)) m e)).0
 
@@ -47,8 +46,7 @@ names_contained : (us : List Use) (n : ℕ) → names_use us n ≡ contains (map
 names_contained [] n = refl
 names_contained (u ∷ us) n = ap (λ b. (u.number == n) || b) (names_contained us n)
 
-begins_resting : (ms : List (ℕ × List ℕ)) (lacks : List ℕ) (union : List Value)
-    → stage_with (first_phase ms) lacks union ≡ Resting
+begins_resting : (ms : List (ℕ × List ℕ)) (lacks : List ℕ) (union : List Value) → stage_with (first_phase ms) lacks union ≡ Resting
 begins_resting [] lacks union = refl
 begins_resting (m ∷ ms) lacks union = refl
 
@@ -63,8 +61,7 @@ follows_start cat table c q own p2 ds first =
           (sym (begins_resting (begins q.text sends).modules (begins q.text sends).lacks [])) run_begins;
       left = λ a h. h;
       modules = λ d u there asked.
-          Has-filter_map (λ (m : ℕ × List ℕ). cond (contains m.1 u) (Some m.0) None) (filter_map module_read sends)
-          (read_at d) d
+          Has-filter_map (λ (m : ℕ × List ℕ). cond (contains m.1 u) (Some m.0) None) (filter_map module_read sends) (read_at d) d
           (Has-filter_map module_read sends (read_to cat table c q (uses_of cat q.text) own p2 d) (read_at d)
           (Has-map (read_to cat table c q (uses_of cat q.text) own p2) ds d there) refl)
           (ap (λ b. cond b (Some d) None) (sym (names_contained (uses_at cat c q.text d) u) ∙ asked));
@@ -91,13 +88,9 @@ module _ (ds : List ℕ) (statements : List Stmt) (asked : ℕ → ℕ → Bool)
       record {
         runs =
             subst (λ z. At space (stage_with z y.lacks y.union)) (sym p)
-            (subst (λ z. At space (stage_with x.phase z y.union)) (sym l)
-            (subst (λ z. At space (stage_with x.phase x.lacks z)) (sym u) f.runs));
+            (subst (λ z. At space (stage_with x.phase z y.union)) (sym l) (subst (λ z. At space (stage_with x.phase x.lacks z)) (sym u) f.runs));
         left = λ a h. f.left a (subst (λ z. Has z a) q h);
-        modules =
-            λ d n h a.
-            subst (λ z. Has (filter_map (λ (m : ℕ × List ℕ). cond (contains m.1 n) (Some m.0) None) z) d) (sym ms)
-            (f.modules d n h a);
+        modules = λ d n h a. subst (λ z. Has (filter_map (λ (m : ℕ × List ℕ). cond (contains m.1 n) (Some m.0) None) z) d) (sym ms) (f.modules d n h a);
       }
 
   -- the next move
@@ -108,13 +101,11 @@ module _ (ds : List ℕ) (statements : List Stmt) (asked : ℕ → ℕ → Bool)
         → ((d u : ℕ) → Has ds d → asked d u ≡ true → Has (with_use x u) d) → Along space (fetches ts c m x)
     asked_next space x m r q left modules = by (with_use x m.source.part) (λ d h a. modules d m.source.part h a)
       where
-        by : (lacks : List ℕ) → ((d : ℕ) → Has ds d → asked d m.source.part ≡ true → Has lacks d)
-            → Along space (fetches_from ts c m x lacks)
+        by : (lacks : List ℕ) → ((d : ℕ) → Has ds d → asked d m.source.part ≡ true → Has lacks d) → Along space (fetches_from ts c m x lacks)
         by [] all = record { runs = run_sends m [] [] (run_asks r m q [] all) refl; left = left; modules = modules }
         by (d ∷ lacks) all = record { runs = run_asks r m q (d ∷ lacks) all; left = left; modules = modules }
 
-    went_on : (space : Space) (x : Exchange) (qs : List Asking) (done : List Step) → At space Resting
-        → ((q : Asking) → Has qs q → Has (askings 0 statements) q)
+    went_on : (space : Space) (x : Exchange) (qs : List Asking) (done : List Step) → At space Resting → ((q : Asking) → Has qs q → Has (askings 0 statements) q)
         → ((d u : ℕ) → Has ds d → asked d u ≡ true → Has (with_use x u) d) → Along space (goes_on ts c x qs done)
     went_on space x [] done r left modules = record { runs = r; left = λ q h. absurd h; modules = modules }
     went_on space x (q ∷ qs) done r left modules =
@@ -126,17 +117,14 @@ module _ (ds : List ℕ) (statements : List Stmt) (asked : ℕ → ℕ → Bool)
           | None ↦ λ h. went_on space x qs [] r (λ p k. left p (inr k)) modules
           | Some m ↦ λ h.
               asked_next space (record x { left = q ∷ qs; done = done ++ m.step ∷ [] }) (move_at q.before m) r
-              (asking_moves 0 statements q m (left q (inl refl))
-              (next_move_there q.conds (counts_for x.counts q) done m h))
+              (asking_moves 0 statements q m (left q (inl refl)) (next_move_there q.conds (counts_for x.counts q) done m h))
               left modules
         ] refl
 
     -- all answers of a phase came
 
-    ended : (space : Space) (x : Exchange) (phase : Phase) → Along space x → x.phase ≡ phase → x.lacks ≡ []
-        → Along space (phase_ends ts c x phase)
-    ended space x Reading f p l =
-        went_on space x x.left x.done (subst (λ z. At space (stage_with z x.lacks x.union)) p f.runs) f.left f.modules
+    ended : (space : Space) (x : Exchange) (phase : Phase) → Along space x → x.phase ≡ phase → x.lacks ≡ [] → Along space (phase_ends ts c x phase)
+    ended space x Reading f p l = went_on space x x.left x.done (subst (λ z. At space (stage_with z x.lacks x.union)) p f.runs) f.left f.modules
     ended space x (Fetching m) f p l =
         let r : At space (Telling m x.lacks x.union) =
         subst (λ z. At space (stage_with z x.lacks x.union)) p f.runs in
@@ -145,50 +133,41 @@ module _ (ds : List ℕ) (statements : List Stmt) (asked : ℕ → ℕ → Bool)
     ended space x (Cutting m) f p l =
         let r : At space (Reducing m x.union) = subst (λ z. At space (stage_with z x.lacks x.union)) p f.runs in
         went_on space x x.left x.done (run_rests m x.union r) f.left f.modules
-    ended space x Shipping f p l =
-        record
-        { runs = subst (λ z. At space (stage_with z x.lacks x.union)) p f.runs; left = f.left; modules = f.modules }
+    ended space x Shipping f p l = record { runs = subst (λ z. At space (stage_with z x.lacks x.union)) p f.runs; left = f.left; modules = f.modules }
     ended space x Over f p l = f
 
-    lacked : (space : Space) (x : Exchange) (lacks : List ℕ) → Along space (record x { lacks = lacks })
-        → Along space (lacking ts c x lacks)
+    lacked : (space : Space) (x : Exchange) (lacks : List ℕ) → Along space (record x { lacks = lacks }) → Along space (lacking ts c x lacks)
     lacked space x [] f = ended space (record x { lacks = [] }) x.phase f refl refl
     lacked space x (d ∷ lacks) f = f
 
     -- an answer came
 
-    any_lack : (phase : Phase) → AwaitsNoValues phase → (old new : List ℕ) (union : List Value)
-        → stage_with phase old union ≡ stage_with phase new union
+    any_lack : (phase : Phase) → AwaitsNoValues phase → (old new : List ℕ) (union : List Value) → stage_with phase old union ≡ stage_with phase new union
     any_lack Reading none old new union = refl
     any_lack (Fetching m) none old new union = absurd none
     any_lack (Cutting m) none old new union = refl
     any_lack Shipping none old new union = refl
     any_lack Over none old new union = refl
 
-    other_answered : (space : Space) (x : Exchange) (d : ℕ) → AwaitsNoValues x.phase → Along space x
-        → Along space (answered ts c d x)
+    other_answered : (space : Space) (x : Exchange) (d : ℕ) → AwaitsNoValues x.phase → Along space x → Along space (answered ts c d x)
     other_answered space x d none f =
         lacked space x (without x.lacks d)
         (record
         { runs = subst (At space) (any_lack x.phase none x.lacks (without x.lacks d) x.union) f.runs; left = f.left; modules = f.modules })
 
     told : (space : Space) (x : Exchange) (d : ℕ) (values : List Value) (sent : ℕ) (m : Move) → x.phase ≡ Fetching m
-        → TellsAll (space d) m.source values → Along space x
-        → Along space (answered ts c d (record x { union = with_values x.union values; values = sent }))
+        → TellsAll (space d) m.source values → Along space x → Along space (answered ts c d (record x { union = with_values x.union values; values = sent }))
     told space x d values sent m is tells f =
         let r : At space (Telling m x.lacks x.union) =
         subst (λ z. At space (stage_with z x.lacks x.union)) is f.runs in
         lacked space (record x { union = with_values x.union values; values = sent }) (without x.lacks d) (record {
-          runs =
-              subst (λ z. At space (stage_with z (without x.lacks d) (with_values x.union values))) (sym is)
-              (run_tells m x.lacks x.union r d values tells);
+          runs = subst (λ z. At space (stage_with z (without x.lacks d) (with_values x.union values))) (sym is) (run_tells m x.lacks x.union r d values tells);
           left = f.left;
           modules = f.modules;
         })
 
     -- where it is one to this attempt
-    if_own : (space : Space) (x new : Exchange) (b : Bool) → Along space x → (b ≡ true → Along space new)
-        → Along space (if b then new else x)
+    if_own : (space : Space) (x new : Exchange) (b : Bool) → Along space x → (b ≡ true → Along space new) → Along space (if b then new else x)
     if_own space x new true f h = h refl
     if_own space x new false f h = f
 
@@ -200,8 +179,7 @@ module _ (ds : List ℕ) (statements : List Stmt) (asked : ℕ → ℕ → Bool)
         other_answered space (record x { counts = counted d counts x.counts }) d (suits own)
         (moved space x (record x { counts = counted d counts x.counts }) f refl refl refl refl refl))
     follows_hand space x d (Values t k u values) f suits =
-        if_own space x _ ((t.0 == ts) && (k.0 == c)) f
-        (λ own. let s = suits own in told space x d values (x.values + length values) s.0 s.1 s.2 f)
+        if_own space x _ ((t.0 == ts) && (k.0 == c)) f (λ own. let s = suits own in told space x d values (x.values + length values) s.0 s.1 s.2 f)
     follows_hand space x d (Reduced t k u n) f suits =
         if_own space x _ ((t.0 == ts) && (k.0 == c)) f
         (λ own.
@@ -214,13 +192,11 @@ module _ (ds : List ℕ) (statements : List Stmt) (asked : ℕ → ℕ → Bool)
         (moved space x (record x { found = x.found ++ rows; rows = x.rows + length rows }) f refl refl refl refl refl))
     follows_hand space x d _ f suits = f
 
-  pub follows_send : (space : Space) (x : Exchange) → Follows ds statements asked first space x
-      → Follows ds statements asked first space (after_send x)
+  pub follows_send : (space : Space) (x : Exchange) → Follows ds statements asked first space x → Follows ds statements asked first space (after_send x)
   follows_send space x f = moved space x (after_send x) f refl refl refl refl refl
 
   -- a REDUCE that is handed to a module has the values of the move
-  pub follows_reduce : (space after : Space) (x : Exchange) (m : Move) (d : ℕ)
-      → Follows ds statements asked first space x → x.phase ≡ Cutting m
+  pub follows_reduce : (space after : Space) (x : Exchange) (m : Move) (d : ℕ) → Follows ds statements asked first space x → x.phase ≡ Cutting m
       → after d ≡ reduced m.target.part m.target.column x.union (space d) → ((b : ℕ) → b ≢ d → after b ≡ space b) →
       Follows ds statements asked first after x
   follows_reduce space after x m d f p here elsewhere =

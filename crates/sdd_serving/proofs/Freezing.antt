@@ -11,36 +11,30 @@ use Rattle.sdd_laws.specs.lang.Database as databases
 abbrev OfRelation : Catalogue → Use → Type 0
 OfRelation cat u = (f : FragNo) → Has u.frags f → (fragment_at cat f.0).rel.0 ≡ u.rel.0
 
-for_relation : (cat : Catalogue) (rel : ℕ) (u : Use) → u.frags ≡ fragments_for cat rel u.restrictions → u.rel.0 ≡ rel
-    → OfRelation cat u
+for_relation : (cat : Catalogue) (rel : ℕ) (u : Use) → u.frags ≡ fragments_for cat rel u.restrictions → u.rel.0 ≡ rel → OfRelation cat u
 for_relation cat rel u e r f h =
     let keys = allowed_keys (key_column cat rel) u.restrictions in
     let m =
-    Has-map_from frag_no (filter (meets_keys cat rel keys) (numbers_to (length cat.fragments))) f
-    (subst (λ z. Has z f) e h) in
+    Has-map_from frag_no (filter (meets_keys cat rel keys) (numbers_to (length cat.fragments))) f (subst (λ z. Has z f) e h) in
     let n : ℕ = m.0 in
     let k = Has-filter_from (meets_keys cat rel keys) (numbers_to (length cat.fragments)) n m.1 in
     let both = and_parts ((fragment_at cat n).rel.0 == rel) _ k.1 in
-    ap (λ (z : FragNo). (fragment_at cat z.0).rel.0) (sym m.2) ∙ (Decides-eqb (fragment_at cat n).rel.0 rel).0 both.0
-    ∙ sym r
+    ap (λ (z : FragNo). (fragment_at cat z.0).rel.0) (sym m.2) ∙ (Decides-eqb (fragment_at cat n).rel.0 rel).0 both.0 ∙ sym r
 
 part_of_relation : (cat : Catalogue) (before : ℕ) (conds : List Condition) (k : ℕ) (rels : List RelNo) (u : Use)
     → Has (part_uses cat before conds k rels) u → OfRelation cat u
 part_of_relation cat before conds k [] u h = absurd h
 part_of_relation cat before conds k (rel ∷ rels) u (inl same) =
-    subst (OfRelation cat) same
-    (for_relation cat rel.0 (use_of cat (before + k) rel (restrictions_of k conds)) refl refl)
+    subst (OfRelation cat) same (for_relation cat rel.0 (use_of cat (before + k) rel (restrictions_of k conds)) refl refl)
 part_of_relation cat before conds k (rel ∷ rels) u (inr there) = part_of_relation cat before conds (k + 1) rels u there
 
-statement_of_relation : (cat : Catalogue) (before : ℕ) (s : Stmt) (u : Use) → Has (statement_uses cat before s) u
-    → OfRelation cat u
+statement_of_relation : (cat : Catalogue) (before : ℕ) (s : Stmt) (u : Use) → Has (statement_uses cat before s) u → OfRelation cat u
 statement_of_relation cat before (Put rel row) u h = absurd h
 statement_of_relation cat before (Query out rels conds) u h = part_of_relation cat before conds 1 rels u h
 statement_of_relation cat before (Update rel sets conds) u h = part_of_relation cat before conds 1 (rel ∷ []) u h
 statement_of_relation cat before (Delete rel conds) u h = part_of_relation cat before conds 1 (rel ∷ []) u h
 
-uses_of_relation : (cat : Catalogue) (before : ℕ) (statements : List Stmt) (u : Use)
-    → Has (uses_from cat before statements) u → OfRelation cat u
+uses_of_relation : (cat : Catalogue) (before : ℕ) (statements : List Stmt) (u : Use) → Has (uses_from cat before statements) u → OfRelation cat u
 uses_of_relation cat before [] u h = absurd h
 uses_of_relation cat before (s ∷ rest) u h =
     elim (Has-append (statement_uses cat before s) (uses_from cat (before + length (statement_uses cat before s)) rest) u h) [
@@ -57,11 +51,9 @@ pub record IsThere (cat : Catalogue) (c d : ℕ) (u v : Use) : Type 0 where
 
 pub there_is : (cat : Catalogue) (c d : ℕ) (u v : Use) → use_there cat c d u ≡ Some v → IsThere cat c d u v
 there_is cat c d u v e =
-    by (filter (λ f. is_read_at cat c d f.0) u.frags)
-    (λ f h. Has-filter_from (λ f. is_read_at cat c d f.0) u.frags f h) e
+    by (filter (λ f. is_read_at cat c d f.0) u.frags) (λ f h. Has-filter_from (λ f. is_read_at cat c d f.0) u.frags f h) e
   where
-    by : (fs : List FragNo) → ((f : FragNo) → Has fs f → Has u.frags f × (is_read_at cat c d f.0 ≡ true))
-        → with_frags u fs ≡ Some v → IsThere cat c d u v
+    by : (fs : List FragNo) → ((f : FragNo) → Has fs f → Has u.frags f × (is_read_at cat c d f.0 ≡ true)) → with_frags u fs ≡ Some v → IsThere cat c d u v
     by [] h e = cc
     by (f ∷ fs) h e =
         let same : ◌≡◌ {A = Use} (record u { frags = f ∷ fs }) v = cc in
@@ -87,8 +79,7 @@ among (f ∷ fs) n h =
 
 -- rows of a relation
 
-entry_of : (db : Database) (rel : ℕ) (row : Row) → Has (databases.rows_of db rel) row
-    → (e : Item × Row) × Contains db e × (e.0.0 ≡ rel) × (e.1 ≡ row)
+entry_of : (db : Database) (rel : ℕ) (row : Row) → Has (databases.rows_of db rel) row → (e : Item × Row) × Contains db e × (e.0.0 ≡ rel) × (e.1 ≡ row)
 entry_of db rel row h =
     let m = Has-filter_map_from (λ (e : Item × Row). cond (e.0.0 == rel) (Some e.1) None) db row h in
     let e : Item × Row = m.0 in
@@ -100,8 +91,7 @@ entry_of db rel row h =
 row_of : (db : Database) (rel : ℕ) (e : Item × Row) → Contains db e → e.0.0 ≡ rel → Has (databases.rows_of db rel) e.1
 row_of db rel e h r =
     let t : (e.0.0 == rel) ≡ true = (Decides-eqb e.0.0 rel).1 r in
-    Has-filter_map (λ (e : Item × Row). cond (e.0.0 == rel) (Some e.1) None) db e e.1 (to_has db e h)
-    (ap (λ b. cond b (Some e.1) None) t)
+    Has-filter_map (λ (e : Item × Row). cond (e.0.0 == rel) (Some e.1) None) db e e.1 (to_has db e h) (ap (λ b. cond b (Some e.1) None) t)
 
 abbrev entry : Catalogue → ℕ → ℤ × Row → Item × Row
 entry cat f e = (((fragment_at cat f).rel.0, e.0), e.1)
@@ -109,8 +99,7 @@ entry cat f e = (((fragment_at cat f).rel.0, e.0), e.1)
 module _ (cat : Catalogue) (sound : IsSound cat) (c : ℕ) (txn : Txn) (fits : Fits cat txn) (ds : List ℕ)
     (copies : ℕ → CopyRows) (db : Database) (ok : HasCopies cat c txn ds copies db) where
   -- a row of a copy is one of the database
-  copied : (d f : ℕ) (e : ℤ × Row) → rows_in_fragment cat db f ≡ entries_of cat f (copies d f)
-      → Contains (copies d f) e → Contains db (entry cat f e)
+  copied : (d f : ℕ) (e : ℤ × Row) → rows_in_fragment cat db f ≡ entries_of cat f (copies d f) → Contains (copies d f) e → Contains db (entry cat f e)
   copied d f e t h =
       (Contains-from_filter (λ (e : Item × Row). fragment_of cat e.0.0 e.0.1 == f) db (entry cat f e) (subst (λ z. Contains z (entry cat f e)) (sym t) (Contains-map (entry cat f) (copies d f) e h))).0
 
@@ -119,8 +108,7 @@ module _ (cat : Catalogue) (sound : IsSound cat) (c : ℕ) (txn : Txn) (fits : F
       → fragment_of cat e.0.0 e.0.1 ≡ f → Contains (copies d f) (e.0.1, e.1)
   in_copy d f e t h at =
       let there : Contains (rows_in_fragment cat db f) e =
-      Contains-filter (λ (e : Item × Row). fragment_of cat e.0.0 e.0.1 == f) db e h
-      ((Decides-eqb (fragment_of cat e.0.0 e.0.1) f).1 at) in
+      Contains-filter (λ (e : Item × Row). fragment_of cat e.0.0 e.0.1 == f) db e h ((Decides-eqb (fragment_of cat e.0.0 e.0.1) f).1 at) in
       let m = Contains-from_map (entry cat f) (copies d f) e (subst (λ z. Contains z e) t there) in
       subst (Contains (copies d f)) (ap (λ (z : Item × Row). (z.0.1, z.1)) (sym m.2)) m.1
 
@@ -147,8 +135,7 @@ module _ (cat : Catalogue) (sound : IsSound cat) (c : ℕ) (txn : Txn) (fits : F
   one_row d u v e x h is i k same =
       let rows : x.1 ≡ e.1 =
       one_entry item_cmp item_cmp_total item_cmp_exact db (u.rel.0, e.0) x.1 e.1 ok.is.ascends
-      (subst (λ z. Contains {X = Item × Row} db ((u.rel.0, z), x.1)) same (of_use d u v x h is k).0)
-      (of_use d u v e h is i).0 in
+      (subst (λ z. Contains {X = Item × Row} db ((u.rel.0, z), x.1)) same (of_use d u v x h is k).0) (of_use d u v e h is i).0 in
       ap (λ z. (z, x.1)) same ∙ ap (λ z. (e.0, z)) rows
 
   first_of : (ts d n : ℕ) (row : Row) → Has (all_rows (frozen_space cat c txn ts copies d)) (n, row)
@@ -161,8 +148,7 @@ module _ (cat : Catalogue) (sound : IsSound cat) (c : ℕ) (txn : Txn) (fits : F
       let u : Use = p.0 in
       let is : IsThere cat c d u v = there_is cat c d u v p.2 in
       let q =
-      Has-map_from (λ (e : ℤ × Row). e.1) (fold with_keyed [] (found d v)) row
-      (subst (λ (z : ℕ × List Row). Has z.1 row) (sym w.2) k.has) in
+      Has-map_from (λ (e : ℤ × Row). e.1) (fold with_keyed [] (found d v)) row (subst (λ (z : ℕ × List Row). Has z.1 row) (sym w.2) k.has) in
       let e : ℤ × Row = q.0 in
       let there : Contains (found d v) e =
       elim (gathered_from int_cmp int_cmp_total exact_signed [] (found d v) e (sorted_nil int_cmp) (of_has (fold with_keyed [] (found d v)) e q.1)) [ inl nothing ↦ absurd (Contains-nil e nothing) | inr t ↦ t ] in
@@ -170,14 +156,12 @@ module _ (cat : Catalogue) (sound : IsSound cat) (c : ℕ) (txn : Txn) (fits : F
       let in_db : Has (databases.rows_of db u.rel.0) e.1 = row_of db u.rel.0 ((u.rel.0, e.0), e.1) o.0 refl in
       let number : u.number ≡ n = sym is.number ∙ ap (λ (z : ℕ × List Row). z.0) w.2 ∙ k.number in
       let met : list_all (meets row) u.restrictions ≡ true =
-      subst (λ z. list_all (meets row) z ≡ true) is.restrictions
-      (subst (λ z. list_all (meets z) v.restrictions ≡ true) q.2 o.1) in
+      subst (λ z. list_all (meets row) z ≡ true) is.restrictions (subst (λ z. list_all (meets z) v.restrictions ≡ true) q.2 o.1) in
       (u, p.1, number, (subst (Has (databases.rows_of db u.rel.0)) q.2 in_db, met))
 
   -- an entry that a use wants is chosen for it at the module where its fragment is read
   in_found : (d : ℕ) (u v : Use) (f : FragNo) (e : Item × Row) → Has (uses_of cat txn) u → IsThere cat c d u v
-      → Has u.frags f → is_read_at cat c d f.0 ≡ true → Has v.frags f → Contains db e
-      → fragment_of cat e.0.0 e.0.1 ≡ f.0
+      → Has u.frags f → is_read_at cat c d f.0 ≡ true → Has v.frags f → Contains db e → fragment_of cat e.0.0 e.0.1 ≡ f.0
       → list_all (meets e.1) u.restrictions ≡ true → Contains (found d v) (e.0.1, e.1)
   in_found d u v f e h is of t k there at met =
       let x : ℤ × Row = (e.0.1, e.1) in
@@ -188,23 +172,17 @@ module _ (cat : Catalogue) (sound : IsSound cat) (c : ℕ) (txn : Txn) (fits : F
       of_has (found d v) x (Has-flat_map (λ (f : FragNo). chosen v.restrictions (copies d f.0)) v.frags f x k here)
 
   -- and what is chosen for a use is frozen
-  chosen_frozen : (ts d : ℕ) (u v : Use) (e : ℤ × Row) → Has (uses_of cat txn) u → use_there cat c d u ≡ Some v
-      → IsThere cat c d u v → Contains (found d v) e
+  chosen_frozen : (ts d : ℕ) (u v : Use) (e : ℤ × Row) → Has (uses_of cat txn) u → use_there cat c d u ≡ Some v → IsThere cat c d u v → Contains (found d v) e
       → Has (all_rows (frozen_space cat c txn ts copies d)) (u.number, e.1)
   chosen_frozen ts d u v e h w is k =
       let folded : Contains (fold with_keyed [] (found d v)) e =
-      gathered_there int_cmp int_cmp_total exact_signed [] (found d v) e (sorted_nil int_cmp)
-      (λ y i same. one_row d u v e y h is k i same) k in
+      gathered_there int_cmp int_cmp_total exact_signed [] (found d v) e (sorted_nil int_cmp) (λ y i same. one_row d u v e y h is k i same) k in
       row_there (frozen_space cat c txn ts copies d) u.number e.1
       (record {
         entry = (v.number, rows_for (copies d) v);
-        there =
-            Has-map (λ (u : Use). (u.number, rows_for (copies d) u)) (uses_at cat c txn d) v
-            (Has-filter_map (use_there cat c d) (uses_of cat txn) u v h w);
+        there = Has-map (λ (u : Use). (u.number, rows_for (copies d) u)) (uses_at cat c txn d) v (Has-filter_map (use_there cat c d) (uses_of cat txn) u v h w);
         number = is.number;
-        has =
-            Has-map (λ (e : ℤ × Row). e.1) (fold with_keyed [] (found d v)) e
-            (to_has (fold with_keyed [] (found d v)) e folded);
+        has = Has-map (λ (e : ℤ × Row). e.1) (fold with_keyed [] (found d v)) e (to_has (fold with_keyed [] (found d v)) e folded);
       })
 
   entry_there : (ts : ℕ) (u : Use) → Has (uses_of cat txn) u → (e : Item × Row) → Contains db e → e.0.0 ≡ u.rel.0

@@ -27,8 +27,7 @@ has_row f u row h =
 pub row_there : (f : Frozen) (u : ℕ) (row : Row) → HasRow f u row → Has (all_rows f) (u, row)
 row_there f u row h =
     Has-flat_map numbered f.uses h.entry (u, row) h.there
-    (subst (λ n. Has {X = ℕ × Row} (numbered h.entry) (n, row)) h.number
-    (Has-map (λ (row : Row). ((h.entry).0, row)) (h.entry).1 row h.has))
+    (subst (λ n. Has {X = ℕ × Row} (numbered h.entry) (n, row)) h.number (Has-map (λ (row : Row). ((h.entry).0, row)) (h.entry).1 row h.has))
 
 module _ (n col : ℕ) (values : List Value) where
   abbrev stays : Row → Bool
@@ -40,8 +39,7 @@ module _ (n col : ℕ) (values : List Value) where
   -- of an entry
 
   pub same_number : (e : Kept) → (lessened e).0 ≡ e.0
-  same_number e =
-      elim (e.0 == n) as (λ b. (if b then (e.0, filter stays e.1) else e).0 ≡ e.0) [ true ↦ refl | false ↦ refl ]
+  same_number e = elim (e.0 == n) as (λ b. (if b then (e.0, filter stays e.1) else e).0 ≡ e.0) [ true ↦ refl | false ↦ refl ]
 
   in_lessened : (e : Kept) (row : Row) → Has (lessened e).1 row → Has e.1 row × (e.0 ≡ n → stays row ≡ true)
   in_lessened e row h =
@@ -69,8 +67,7 @@ module _ (n col : ℕ) (values : List Value) where
       (row_there f u row (record { entry = e; there = m.1; number = number; has = r.0 }), λ same. r.1 (number ∙ same))
 
   -- and the other way round
-  pub stays_held : (f : Frozen) (u : ℕ) (row : Row) → Has (all_rows f) (u, row) → (u ≡ n → stays row ≡ true)
-      → Has (all_rows (reduced n col values f)) (u, row)
+  pub stays_held : (f : Frozen) (u : ℕ) (row : Row) → Has (all_rows f) (u, row) → (u ≡ n → stays row ≡ true) → Has (all_rows (reduced n col values f)) (u, row)
   stays_held f u row h passes =
       let k = has_row f u row h in
       let e : Kept = k.entry in
@@ -85,11 +82,9 @@ module _ (n col : ℕ) (values : List Value) where
 -- shipped
 
 pub shipped_held : (ds : List ℕ) (space : Space) (s : ℕ × Row) → Has (all_held ds space) s → IsHeldAt ds space s.0 s.1
-shipped_held ds space s h =
-    let m = Has-flat_map_from (λ d. all_rows (space d)) ds s h in record { at = m.0; there = m.1; held = m.2 }
+shipped_held ds space s h = let m = Has-flat_map_from (λ d. all_rows (space d)) ds s h in record { at = m.0; there = m.1; held = m.2 }
 
-pub held_shipped : (ds : List ℕ) (space : Space) (u : ℕ) (row : Row) → IsHeldAt ds space u row
-    → Has (all_held ds space) (u, row)
+pub held_shipped : (ds : List ℕ) (space : Space) (u : ℕ) (row : Row) → IsHeldAt ds space u row → Has (all_held ds space) (u, row)
 held_shipped ds space u row h = Has-flat_map (λ d. all_rows (space d)) ds h.at (u, row) h.there h.held
 
 pub use_row : (shipped : List (ℕ × Row)) (u : ℕ) (row : Row) → Has (rows_for shipped u) row → Has shipped (u, row)
@@ -108,5 +103,4 @@ use_row shipped u row h =
 pub row_of_use : (shipped : List (ℕ × Row)) (u : ℕ) (row : Row) → Has shipped (u, row) → Has (rows_for shipped u) row
 row_of_use shipped u row h =
     let own : (u == u) ≡ true = (Decides-eqb u u).1 refl in
-    Has-filter_map (λ (s : ℕ × Row). cond (s.0 == u) (Some s.1) None) shipped (u, row) row h
-    (ap (λ b. cond b (Some row) None) own)
+    Has-filter_map (λ (s : ℕ × Row). cond (s.0 == u) (Some s.1) None) shipped (u, row) row h (ap (λ b. cond b (Some row) None) own)

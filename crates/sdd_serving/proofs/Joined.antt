@@ -14,8 +14,7 @@ join_there k [] j h = absurd h
 join_there k (Const left op value ∷ rest) j h = inr (join_there (k + 1) rest j h)
 join_there k (Same left right ∷ rest) j h =
     elim (left.part == right.part) as (λ b.
-    Has
-    (if b then joins_from (k + 1) rest else record { number = k; left = left; right = right } ∷ joins_from (k + 1) rest)
+    Has (if b then joins_from (k + 1) rest else record { number = k; left = left; right = right } ∷ joins_from (k + 1) rest)
     j
     → Has (Same left right ∷ rest) (Same j.left j.right)) [
       | true ↦ λ i. inr (join_there (k + 1) rest j i)
@@ -42,8 +41,7 @@ joined conds m h =
       ]
     ]
 
-meets_each : (tuple : Tuple) (conds : List Condition) (c : Condition) → meets_all conds tuple ≡ true → Has conds c
-    → meets tuple c ≡ true
+meets_each : (tuple : Tuple) (conds : List Condition) (c : Condition) → meets_all conds tuple ≡ true → Has conds c → meets tuple c ≡ true
 meets_each tuple [] c e h = absurd h
 meets_each tuple (d ∷ conds) c e h =
     let both = and_parts (meets tuple d) (meets_all conds tuple) e in
@@ -54,8 +52,7 @@ pub one_value : (conds : List Condition) (m : Move) (tuple : Tuple) → IsJoined
     → value_at tuple m.source ≡ value_at tuple m.target
 one_value conds m tuple j e =
     let same : value_at tuple j.left ≡ value_at tuple j.right =
-    (value_decides (value_at tuple j.left) (value_at tuple j.right)).0
-    (meets_each tuple conds (Same j.left j.right) e j.there) in
+    (value_decides (value_at tuple j.left) (value_at tuple j.right)).0 (meets_each tuple conds (Same j.left j.right) e j.there) in
     elim j.sides [
       | inl s ↦ ap (value_at tuple) s.0 ∙ sym same ∙ ap (value_at tuple) (sym s.1)
       | inr s ↦ ap (value_at tuple) s.0 ∙ same ∙ ap (value_at tuple) (sym s.1)

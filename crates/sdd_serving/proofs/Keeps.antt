@@ -25,22 +25,17 @@ HoldEnough db ds space before (Query out rels conds) =
     (tuple : Tuple) → Has (product (map (λ rel. databases.rows_of db rel.0) rels)) tuple → meets_all conds tuple ≡
     true
     → (part : ℕ) → IsFrom1To (length rels) part → IsHeldAt ds space (before + part) (part_of tuple part)
-HoldEnough db ds space before (Update rel sets conds) =
-    (row : Row) → IsRowOf db rel.0 (restrictions_of 1 conds) row → IsHeldAt ds space (before + 1) row
-HoldEnough db ds space before (Delete rel conds) =
-    (row : Row) → IsRowOf db rel.0 (restrictions_of 1 conds) row → IsHeldAt ds space (before + 1) row
+HoldEnough db ds space before (Update rel sets conds) = (row : Row) → IsRowOf db rel.0 (restrictions_of 1 conds) row → IsHeldAt ds space (before + 1) row
+HoldEnough db ds space before (Delete rel conds) = (row : Row) → IsRowOf db rel.0 (restrictions_of 1 conds) row → IsHeldAt ds space (before + 1) row
 
 abbrev pub HoldEnoughAlong : Database → List ℕ → Space → ℕ → List Stmt → Type 0
 HoldEnoughAlong db ds space before [] = Unit {0}
-HoldEnoughAlong db ds space before (s ∷ rest) =
-    HoldEnough db ds space before s × HoldEnoughAlong db ds space (before + uses_in s) rest
+HoldEnoughAlong db ds space before (s ∷ rest) = HoldEnough db ds space before s × HoldEnoughAlong db ds space (before + uses_in s) rest
 
 -- equalities name parts of their query
 abbrev pub HasParts : Stmt → Type 0
 HasParts (Put rel row) = Unit {0}
-HasParts (Query out rels conds) =
-    (left right : Ref) → Has conds (Same left right) → IsFrom1To (length rels) left.part × IsFrom1To (length rels)
-    right.part
+HasParts (Query out rels conds) = (left right : Ref) → Has conds (Same left right) → IsFrom1To (length rels) left.part × IsFrom1To (length rels) right.part
 HasParts (Update rel sets conds) = Unit {0}
 HasParts (Delete rel conds) = Unit {0}
 
@@ -89,24 +84,20 @@ module _ (ds : List ℕ) (m : Move) (before after : Space) (r : Reduces ds m bef
       λ tuple there meets part range.
       other_held (k + part) (part_of tuple part)
       (λ e.
-      let from = range.0 in let to = range.1 in elim o [ inl a ↦ omega (arith, from) | inr b ↦ omega (arith, to) ])
-      (h tuple there meets part range)
-  other_stays db k _ o h =
-      λ row is. other_held (k + 1) row (λ e. elim o [ inl a ↦ omega arith | inr b ↦ omega arith ]) (h row is)
+      let from = range.0 in let to = range.1 in elim o [ inl a ↦ omega (arith, from) | inr b ↦ omega (arith, to) ]) (h tuple there meets part range)
+  other_stays db k _ o h = λ row is. other_held (k + 1) row (λ e. elim o [ inl a ↦ omega arith | inr b ↦ omega arith ]) (h row is)
 
   others_stay : (db : Database) (k : ℕ) (statements : List Stmt) → m.target.part ≤ k
       → HoldEnoughAlong db ds before k statements → HoldEnoughAlong db ds after k statements
   others_stay db k [] le h = tt
-  others_stay db k (s ∷ rest) le h =
-      (other_stays db k s (inl le) h.0, others_stay db (k + uses_in s) rest (omega arith) h.1)
+  others_stay db k (s ∷ rest) le h = (other_stays db k s (inl le) h.0, others_stay db (k + uses_in s) rest (omega arith) h.1)
 
   -- the query whose move it is
   record Sides (k n : ℕ) (move : Move) : Type 0 where
     source : IsFrom1To n move.source.part
     target : IsFrom1To n move.target.part
 
-  sides : (conds : List Condition) (n : ℕ) (move : Move)
-      → ((left right : Ref) → Has conds (Same left right) → IsFrom1To n left.part × IsFrom1To n right.part)
+  sides : (conds : List Condition) (n : ℕ) (move : Move) → ((left right : Ref) → Has conds (Same left right) → IsFrom1To n left.part × IsFrom1To n right.part)
       → IsJoined conds move → Sides 0 n move
   sides conds n move range j =
       let both = range j.left j.right j.there in
@@ -119,8 +110,7 @@ module _ (ds : List ℕ) (m : Move) (before after : Space) (r : Reduces ds m bef
             { source = subst (λ (z : Ref). IsFrom1To n z.part) (sym s.0) both.0; target = subst (λ (z : Ref). IsFrom1To n z.part) (sym s.1) both.1 }
       ]
 
-  query_stays : (db : Database) (k : ℕ) (s : Stmt) → HasParts s → IsMoveOf k s m → HoldEnough db ds before k s
-      → HoldEnough db ds after k s
+  query_stays : (db : Database) (k : ℕ) (s : Stmt) → HasParts s → IsMoveOf k s m → HoldEnough db ds before k s → HoldEnough db ds after k s
   query_stays db k (Query out rels conds) parts q h =
       λ tuple there meets part range.
       let j : IsJoined conds q.move = joined conds q.move q.there in
@@ -141,15 +131,13 @@ module _ (ds : List ℕ) (m : Move) (before after : Space) (r : Reduces ds m bef
       λ e.
       let number : m.target.part ≡ k + q.move.target.part = ap (λ (z : Ref). z.part) target_is in
       let same : q.move.target.part ≡ part = omega arith in
-      subst (λ c. is_among r.values (column (part_of tuple part) c) ≡ true)
-      (sym (ap (λ (z : Ref). z.column) target_is))
+      subst (λ c. is_among r.values (column (part_of tuple part) c) ≡ true) (sym (ap (λ (z : Ref). z.column) target_is))
       (subst (λ z. is_among r.values (column (part_of tuple z) q.move.target.column) ≡ true) same at_target) in
       still_held (k + part) (part_of tuple part) (h tuple there meets part range) passes
   query_stays db k _ parts q h = absurd q
 
   -- where the target of a move stands
-  target_after : (k : ℕ) (s : Stmt) → HasParts s → IsMoveOf k s m
-      → (k < m.target.part) × (m.target.part ≤ k + uses_in s)
+  target_after : (k : ℕ) (s : Stmt) → HasParts s → IsMoveOf k s m → (k < m.target.part) × (m.target.part ≤ k + uses_in s)
   target_after k (Query out rels conds) parts q =
       let w = sides conds (length rels) q.move parts (joined conds q.move q.there) in
       let number : m.target.part ≡ k + q.move.target.part = ap (λ (z : Move). z.target.part) q.is in
@@ -158,16 +146,13 @@ module _ (ds : List ℕ) (m : Move) (before after : Space) (r : Reduces ds m bef
       (omega (arith, from), omega (arith, to))
   target_after k _ parts q = absurd q
 
-  target_behind : (k : ℕ) (statements : List Stmt) → AllByRecursion HasParts statements → IsMoveAlong k statements m
-      → k < m.target.part
+  target_behind : (k : ℕ) (statements : List Stmt) → AllByRecursion HasParts statements → IsMoveAlong k statements m → k < m.target.part
   target_behind k [] parts q = absurd q
   target_behind k (s ∷ rest) parts (inl here) = (target_after k s parts.0 here).0
-  target_behind k (s ∷ rest) parts (inr there) =
-      let l = target_behind (k + uses_in s) rest parts.1 there in omega (arith, l)
+  target_behind k (s ∷ rest) parts (inr there) = let l = target_behind (k + uses_in s) rest parts.1 there in omega (arith, l)
 
   pub step_keeps : (db : Database) (k : ℕ) (statements : List Stmt) → AllByRecursion HasParts statements
-      → IsMoveAlong k statements m → HoldEnoughAlong db ds before k statements
-      → HoldEnoughAlong db ds after k statements
+      → IsMoveAlong k statements m → HoldEnoughAlong db ds before k statements → HoldEnoughAlong db ds after k statements
   step_keeps db k [] parts q h = absurd q
   step_keeps db k (s ∷ rest) parts (inl here) h =
       (query_stays db k s parts.0 here h.0, others_stay db (k + uses_in s) rest (target_after k s parts.0 here).1 h.1)
@@ -176,8 +161,7 @@ module _ (ds : List ℕ) (m : Move) (before after : Space) (r : Reduces ds m bef
 
 -- after any number of reductions
 pub all_keep : (db : Database) (ds : List ℕ) (statements : List Stmt) → AllByRecursion HasParts statements
-    → (first last : Space) → Leads ds statements first last → HoldEnoughAlong db ds first 0 statements
-    → HoldEnoughAlong db ds last 0 statements
+    → (first last : Space) → Leads ds statements first last → HoldEnoughAlong db ds first 0 statements → HoldEnoughAlong db ds last 0 statements
 all_keep db ds statements parts first last none h = h
 all_keep db ds statements parts first last (more {before} {after} l m q r) h =
     step_keeps ds m before after r db 0 statements parts q (all_keep db ds statements parts first before l h)

@@ -14,8 +14,7 @@ Knows ds space Resting = Unit {0}
 Knows ds space (Telling m lacks union) =
     (row : Row) → (h : IsHeldAt ds space m.source.part row) → Has lacks h.at ⊎
     (is_among union (column row m.source.column) ≡ true)
-Knows ds space (Reducing m union) =
-    (row : Row) → IsHeldAt ds space m.source.part row → is_among union (column row m.source.column) ≡ true
+Knows ds space (Reducing m union) = (row : Row) → IsHeldAt ds space m.source.part row → is_among union (column row m.source.column) ≡ true
 
 -- its move is one of the statements'
 abbrev pub IsOf : List Stmt → Stage → Type 0
@@ -30,8 +29,7 @@ pub record State (ds : List ℕ) (statements : List Stmt) (first space : Space) 
 
 module _ (ds : List ℕ) (statements : List Stmt) (asked : ℕ → ℕ → Bool) (first : Space)
     (held_where_asked : (d u : ℕ) (row : Row) → Has (all_rows (first d)) (u, row) → asked d u ≡ true) where
-  pub runs_lead : (space : Space) (stage : Stage) → Runs ds statements asked first space stage
-      → State ds statements first space stage
+  pub runs_lead : (space : Space) (stage : Stage) → Runs ds statements asked first space stage → State ds statements first space stage
   runs_lead space stage begins = record { leads = none; knows = tt; move = tt }
   runs_lead space stage (asks r m q lacks all) =
       let s = runs_lead space Resting r in
@@ -39,10 +37,7 @@ module _ (ds : List ℕ) (statements : List Stmt) (asked : ℕ → ℕ → Bool)
         leads = s.leads;
         knows =
             λ row h.
-            inl
-            (all h.at h.there
-            (held_where_asked h.at m.source.part row
-            (all_were ds statements first space s.leads h.at m.source.part row h.held)));
+            inl (all h.at h.there (held_where_asked h.at m.source.part row (all_were ds statements first space s.leads h.at m.source.part row h.held)));
         move = q;
       }
   runs_lead space stage (tells m lacks union r d values all) =
@@ -54,9 +49,7 @@ module _ (ds : List ℕ) (statements : List Stmt) (asked : ℕ → ℕ → Bool)
           | inl lacking ↦ elim (cases_Bool (h.at == d)) [
             | inl same ↦
                 let e : h.at ≡ d = (Decides-eqb h.at d).0 same in
-                inr
-                (new_among union values (column row m.source.column)
-                (all row (subst (λ z. Has (all_rows (space z)) (m.source.part, row)) e h.held)))
+                inr (new_among union values (column row m.source.column) (all row (subst (λ z. Has (all_rows (space z)) (m.source.part, row)) e h.held)))
             | inr other ↦ inl (Has-filter (λ x. not (x == d)) lacks h.at lacking (ap not other))
           ]
         ];
@@ -66,9 +59,7 @@ module _ (ds : List ℕ) (statements : List Stmt) (asked : ℕ → ℕ → Bool)
       let s = runs_lead space (Telling m lacks union) r in
       record {
         leads = s.leads;
-        knows =
-            λ row h.
-            elim (s.knows row h) [ inl lacking ↦ absurd (none_has lacks none_lacks h.at lacking) | inr old ↦ old ];
+        knows = λ row h. elim (s.knows row h) [ inl lacking ↦ absurd (none_has lacks none_lacks h.at lacking) | inr old ↦ old ];
         move = s.move;
       }
   runs_lead space stage (reduces {space = before} m union r at here elsewhere) =
@@ -77,12 +68,7 @@ module _ (ds : List ℕ) (statements : List Stmt) (asked : ℕ → ℕ → Bool)
       record { at = at; values = union; covers = s.knows; here = here; elsewhere = elsewhere } in
       record {
         leads = more s.leads m s.move step;
-        knows =
-            λ row h.
-            s.knows row
-            (record
-            { at = h.at; there = h.there; held = was_held ds m before space step h.at m.source.part row h.held });
+        knows = λ row h. s.knows row (record { at = h.at; there = h.there; held = was_held ds m before space step h.at m.source.part row h.held });
         move = s.move;
       }
-  runs_lead space stage (rests m union r) =
-      let s = runs_lead space (Reducing m union) r in record { leads = s.leads; knows = tt; move = tt }
+  runs_lead space stage (rests m union r) = let s = runs_lead space (Reducing m union) r in record { leads = s.leads; knows = tt; move = tt }

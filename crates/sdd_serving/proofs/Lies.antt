@@ -4,12 +4,9 @@ use Rattle.sdd_serving.proofs.Uses.{uses_split}
 
 module _ (cat : Catalogue) (sound : IsSound cat) (e : Item × Row) (entry : IsEntry cat e) where
   abbrev pub Lies : Use → Type 0
-  Lies u =
-      e.0.0 ≡ u.rel.0 → list_all (meets e.1) u.restrictions ≡ true → contains (map (λ f. f.0) u.frags)
-      (fragment_of cat e.0.0 e.0.1) ≡ true
+  Lies u = e.0.0 ≡ u.rel.0 → list_all (meets e.1) u.restrictions ≡ true → contains (map (λ f. f.0) u.frags) (fragment_of cat e.0.0 e.0.1) ≡ true
 
-  part_lies : (all : List RelNo) (conds : List Condition) → AllByRecursion (FitsCondition cat all) conds
-      → (before part : ℕ) (rels : List RelNo)
+  part_lies : (all : List RelNo) (conds : List Condition) → AllByRecursion (FitsCondition cat all) conds → (before part : ℕ) (rels : List RelNo)
       → ((n : ℕ) (d : RelNo) → n < length rels → rel_of all (part + n) ≡ (get_or rels n d).0)
       → AllByRecursion (λ (rel : RelNo). IsRelation cat rel.0) rels → (u : Use) → Has
       (part_uses cat before conds part rels) u → Lies u
@@ -30,12 +27,9 @@ module _ (cat : Catalogue) (sound : IsSound cat) (e : Item × Row) (entry : IsEn
   numbered : (rels : List RelNo) (n : ℕ) (d : RelNo) → n < length rels → rel_of rels (1 + n) ≡ (get_or rels n d).0
   numbered rels n d within =
       let e : n ≡ 1 + n - 1 = omega arith in
-      ap (λ (r : RelNo). r.0)
-      (subst (λ k. get_or rels k (record { 0 = 0 }) ≡ get_or rels n d) e
-      (get_or_default rels n (record { 0 = 0 }) d within))
+      ap (λ (r : RelNo). r.0) (subst (λ k. get_or rels k (record { 0 = 0 }) ≡ get_or rels n d) e (get_or_default rels n (record { 0 = 0 }) d within))
 
-  statement_lies : (before : ℕ) (s : Stmt) → FitsStatement cat s → (u : Use) → Has (statement_uses cat before s) u
-      → Lies u
+  statement_lies : (before : ℕ) (s : Stmt) → FitsStatement cat s → (u : Use) → Has (statement_uses cat before s) u → Lies u
   statement_lies before (Put rel row) fits u h = absurd h
   statement_lies before (Query out rels conds) fits u h =
       part_lies rels conds (recursion_from_All (FitsCondition cat rels) conds fits.4.1) before 1 rels (numbered rels)
@@ -54,5 +48,4 @@ module _ (cat : Catalogue) (sound : IsSound cat) (e : Item × Row) (entry : IsEn
       elim (uses_split cat before s rest u h) [ inl here ↦ statement_lies before s fits.0 u here | inr there ↦ statements_lie (before + uses_in s) rest fits.1 u there ]
 
   pub lies_in_fragment : (txn : Txn) → Fits cat txn → (u : Use) → Has (uses_of cat txn) u → Lies u
-  lies_in_fragment txn fits u h =
-      statements_lie 0 txn.statements (recursion_from_All (FitsStatement cat) txn.statements fits.statements) u h
+  lies_in_fragment txn fits u h = statements_lie 0 txn.statements (recursion_from_All (FitsStatement cat) txn.statements fits.statements) u h

@@ -7,8 +7,7 @@ use Rattle.sdd_serving.proofs.Leading.{runs_lead}
 
 some_number : (us : List Use) (u : Use) (n : ℕ) → Has us u → u.number ≡ n → names_use us n ≡ true
 some_number [] u n h e = absurd h
-some_number (v ∷ us) u n (inl same) e =
-    ap (λ b. b || names_use us n) ((Decides-eqb v.number n).1 (ap (λ (z : Use). z.number) same ∙ e))
+some_number (v ∷ us) u n (inl same) e = ap (λ b. b || names_use us n) ((Decides-eqb v.number n).1 (ap (λ (z : Use). z.number) same ∙ e))
 some_number (v ∷ us) u n (inr h) e =
     let rest = some_number us u n h e in
     elim (v.number == n) as (λ b. (b || names_use us n) ≡ true) [ true ↦ refl | false ↦ rest ]
@@ -28,8 +27,7 @@ module _ (cat : Catalogue) (sound : IsSound cat) (c : ℕ) (txn : Txn) (fits : F
   -- whatever moves were made, and however far the last one is, the rows that are held serve the database
   pub exchange_serves : Serves cat txn (all_held ds space) db
   exchange_serves =
-      serves cat txn db ds (frozen_space cat c txn ts copies) space fits
-      (begins cat sound c txn fits ds copies db ok ts)
+      serves cat txn db ds (frozen_space cat c txn ts copies) space fits (begins cat sound c txn fits ds copies db ok ts)
       (runs_lead ds txn.statements (asked_at cat c txn) (frozen_space cat c txn ts copies) (λ d n row h. frozen_asked cat c txn ts copies d n row h) space stage runs).leads
 
   -- so what is computed from them is the effect on it

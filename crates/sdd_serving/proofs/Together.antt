@@ -23,15 +23,13 @@ read_where : (o : Option ℕ) (d : ℕ) → option_eq ◌==◌ o (Some d) ≡ tr
 read_where None d e = cc
 read_where (Some m) d e = ap (λ z. Some z) ((Decides-eqb m d).0 e)
 
-module _ (cat : Catalogue) (c : ℕ) (txn : Txn) (ds : List ℕ) (dated : ℕ → Dated)
-    (placed : (d : ℕ) → ArePlaced cat (dated d)) where
+module _ (cat : Catalogue) (c : ℕ) (txn : Txn) (ds : List ℕ) (dated : ℕ → Dated) (placed : (d : ℕ) → ArePlaced cat (dated d)) where
   -- the copy of a fragment where the class reads it
   abbrev copy_where : ℕ → Option ℕ → Database
   copy_where f None = []
   copy_where f (Some d) = entries_of cat f (contents f (dated d))
 
-  copy_there : (d f : ℕ) → is_read_at cat c d f ≡ true
-      → copy_where f (reads_at cat c f) ≡ entries_of cat f (contents f (dated d))
+  copy_there : (d f : ℕ) → is_read_at cat c d f ≡ true → copy_where f (reads_at cat c f) ≡ entries_of cat f (contents f (dated d))
   copy_there d f read = ap (copy_where f) (read_where (reads_at cat c f) d read)
 
   ascends : (f : ℕ) (o : Option ℕ) → IsStrictlySortedBy item_cmp (keys_of (copy_where f o))
@@ -42,8 +40,7 @@ module _ (cat : Catalogue) (c : ℕ) (txn : Txn) (ds : List ℕ) (dated : ℕ �
   lies f None e h = absurd (Contains-nil e h)
   lies f (Some d) e h = lies_there cat f (dated d) e (placed d) h
 
-  module _ (place : (u : Use) (f : FragNo) → Has (uses_of cat txn) u → Has u.frags f
-      → (d : ℕ) × Has ds d × (is_read_at cat c d f.0 ≡ true))
+  module _ (place : (u : Use) (f : FragNo) → Has (uses_of cat txn) u → Has u.frags f → (d : ℕ) × Has ds d × (is_read_at cat c d f.0 ≡ true))
       -- the pieces are the entries of these copies
       (pieces : List (Item × Row)) (each : (e : Item × Row) → IsPiece cat c txn dated e → Contains pieces e)
       (of : (e : Item × Row) → Contains pieces e → IsPiece cat c txn dated e) where
@@ -52,29 +49,25 @@ module _ (cat : Catalogue) (c : ℕ) (txn : Txn) (ds : List ℕ) (dated : ℕ �
         let p = place used.usage used.frag used.there used.among in
         (p.0, subst (λ n. is_read_at cat c p.0 n ≡ true) used.number p.2)
 
-    each_piece : (f : ℕ) (e : Item × Row) → IsUsed cat txn f → Contains (copy_where f (reads_at cat c f)) e
-        → Contains pieces e
+    each_piece : (f : ℕ) (e : Item × Row) → IsUsed cat txn f → Contains (copy_where f (reads_at cat c f)) e → Contains pieces e
     each_piece f e used h =
         let r = read_there f used in
         let there : Contains (entries_of cat f (contents f (dated r.0))) e =
         subst (λ z. Contains z e) (copy_there r.0 f r.1) h in
         each e (record { frag = f; module_no = r.0; used = used; read = r.1; there = there })
 
-    of_piece : (e : Item × Row) → Contains pieces e
-        → (f : ℕ) × IsUsed cat txn f × Contains (copy_where f (reads_at cat c f)) e
+    of_piece : (e : Item × Row) → Contains pieces e → (f : ℕ) × IsUsed cat txn f × Contains (copy_where f (reads_at cat c f)) e
     of_piece e h =
         let p = of e h in
         (p.frag, p.used, subst (λ z. Contains z e) (sym (copy_there p.module_no p.frag p.read)) p.there)
 
-    pub has_copies : IsDatabase cat (together pieces)
-        → HasCopies cat c txn ds (λ d f. contents f (dated d)) (together pieces)
+    pub has_copies : IsDatabase cat (together pieces) → HasCopies cat c txn ds (λ d f. contents f (dated d)) (together pieces)
     has_copies is =
         record {
           is = is;
           rows = λ d u f there among read.
               has_copy cat (IsUsed cat txn) (λ n. copy_where n (reads_at cat c n)) pieces each_piece of_piece
               (λ n e h. lies n (reads_at cat c n) e h) (λ n. ascends n (reads_at cat c n)) f.0
-              (record { usage = u; frag = f; there = there; among = among; number = refl })
-              ∙ copy_there d f.0 read;
+              (record { usage = u; frag = f; there = there; among = among; number = refl }) ∙ copy_there d f.0 read;
           place = place;
         }

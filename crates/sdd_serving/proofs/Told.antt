@@ -52,38 +52,33 @@ new_among vs (w ∷ ws) v h =
     same [] w v e h = cc
     same (x ∷ vs) w v e h =
         let swap : value_cmp x v ≡ value_cmp x w =
-        value_cmp_total.antisymm x v ∙ ap ordering_reverse (sym (value_cmp_total.congr w v x e))
-        ∙ sym (value_cmp_total.antisymm x w) in
+        value_cmp_total.antisymm x v ∙ ap ordering_reverse (sym (value_cmp_total.congr w v x e)) ∙ sym (value_cmp_total.antisymm x w) in
         elim (is_eq (value_cmp x w)) as (λ b. is_eq (value_cmp x w) ≡ b → (b || is_among vs w) ≡ true → is_among (x ∷ vs) v ≡ true) [
           | true ↦ λ p q. ap (λ b. b || is_among vs v) (ap is_eq swap ∙ p)
           | false ↦ λ p q. either (is_eq (value_cmp x v)) (is_among vs v) (same vs w v e q)
         ] refl h
 
-    one_among : (vs : List Value) (w v : Value) → is_eq (value_cmp w v) ≡ true
-        → is_among (insert_key value_cmp vs w) v ≡ true
+    one_among : (vs : List Value) (w v : Value) → is_eq (value_cmp w v) ≡ true → is_among (insert_key value_cmp vs w) v ≡ true
     one_among vs w v e = same (insert_key value_cmp vs w) w v (of_equal (value_cmp w v) e) (key_among vs w)
 
 -- the values of rows have that of each
 abbrev map_values : List Row → ℕ → List Value
 map_values rows col = map (λ row. column row col) rows
 
-value_there : (rows : List Row) (col : ℕ) (row : Row) → Has rows row
-    → is_among (map_values rows col) (column row col) ≡ true
+value_there : (rows : List Row) (col : ℕ) (row : Row) → Has rows row → is_among (map_values rows col) (column row col) ≡ true
 value_there [] col row h = absurd h
 value_there (r ∷ rows) col row (inl e) =
     ap (λ b. b || is_among (map_values rows col) (column row col))
     (ap (λ z. is_eq (value_cmp (column z col) (column row col))) e ∙ among_self (column row col))
 value_there (r ∷ rows) col row (inr h) =
-    either (is_eq (value_cmp (column r col) (column row col))) (is_among (map_values rows col) (column row col))
-    (value_there rows col row h)
+    either (is_eq (value_cmp (column r col) (column row col))) (is_among (map_values rows col) (column row col)) (value_there rows col row h)
 
 -- a module keeps the rows of a use once
 
 abbrev pub KeepsOnce : Frozen → Type 0
 KeepsOnce f = (d e : Kept) → Has f.uses d → Has f.uses e → d.0 ≡ e.0 → d ≡ e
 
-pub frozen_once : (cat : Catalogue) (c : ℕ) (txn : Txn) (ts : ℕ) (copies : ℕ → CopyRows) (d : ℕ)
-    → KeepsOnce (frozen_space cat c txn ts copies d)
+pub frozen_once : (cat : Catalogue) (c : ℕ) (txn : Txn) (ts : ℕ) (copies : ℕ → CopyRows) (d : ℕ) → KeepsOnce (frozen_space cat c txn ts copies d)
 frozen_once cat c txn ts copies d a b h k same =
     let kept : Use → Kept = λ (u : Use). (u.number, rows_for (copies d) u) in
     let x = Has-map_from kept (uses_at cat c txn d) a h in
@@ -104,8 +99,7 @@ reduced_once n col values f once a b h k same =
     let x = Has-map_from (lessened n col values) f.uses a h in
     let y = Has-map_from (lessened n col values) f.uses b k in
     let number : (x.0).0 ≡ (y.0).0 =
-    sym (same_number n col values x.0) ∙ ap (λ (z : Kept). z.0) x.2 ∙ same ∙ ap (λ (z : Kept). z.0) (sym y.2)
-    ∙ same_number n col values y.0 in
+    sym (same_number n col values x.0) ∙ ap (λ (z : Kept). z.0) x.2 ∙ same ∙ ap (λ (z : Kept). z.0) (sym y.2) ∙ same_number n col values y.0 in
     sym x.2 ∙ ap (lessened n col values) (once x.0 y.0 x.1 y.1 number) ∙ y.2
 
 -- so the rows that are told of a use are all of it
@@ -124,13 +118,11 @@ rows_told (x ∷ es) e once h =
     ] refl
 
 -- what a module tells has the value of each row that it holds
-pub tells_all : (f : Frozen) → KeepsOnce f → (source : Ref)
-    → TellsAll f source (values_in (rows_of source.part f) source.column)
+pub tells_all : (f : Frozen) → KeepsOnce f → (source : Ref) → TellsAll f source (values_in (rows_of source.part f) source.column)
 tells_all f once source row h =
     let k = has_row f source.part row h in
     let rows : rows_of source.part f ≡ (k.entry).1 =
-    ap (λ n. rows_of n f) (sym k.number)
-    ∙ rows_told f.uses k.entry (λ d there same. once d k.entry there k.there same) k.there in
+    ap (λ n. rows_of n f) (sym k.number) ∙ rows_told f.uses k.entry (λ d there same. once d k.entry there k.there same) k.there in
     new_among [] (map_values (rows_of source.part f) source.column) (column row source.column)
     (value_there (rows_of source.part f) source.column row (subst (λ rs. Has rs row) (sym rows) k.has))
 

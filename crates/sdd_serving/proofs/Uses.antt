@@ -5,26 +5,22 @@ use Rattle.sdd_laws.specs.lang.Database as databases
 part_range : (cat : Catalogue) (before : ℕ) (conds : List Condition) (k : ℕ) (rels : List RelNo) (u : Use)
     → Has (part_uses cat before conds k rels) u → (before + k ≤ u.number) × (u.number < before + k + length rels)
 part_range cat before conds k [] u h = absurd h
-part_range cat before conds k (rel ∷ rels) u (inl same) =
-    let e : before + k ≡ u.number = ap (λ (z : Use). z.number) same in (omega arith, omega arith)
+part_range cat before conds k (rel ∷ rels) u (inl same) = let e : before + k ≡ u.number = ap (λ (z : Use). z.number) same in (omega arith, omega arith)
 part_range cat before conds k (rel ∷ rels) u (inr there) =
     let r =
     part_range cat before conds (k + 1) rels u there in let a = r.0 in let b = r.1 in
     (omega (arith, a), omega (arith, b))
 
 one_part : (cat : Catalogue) (before : ℕ) (conds : List Condition) (k : ℕ) (rels : List RelNo) (u v : Use)
-    → Has (part_uses cat before conds k rels) u → Has (part_uses cat before conds k rels) v → u.number ≡ v.number
-    → u ≡ v
+    → Has (part_uses cat before conds k rels) u → Has (part_uses cat before conds k rels) v → u.number ≡ v.number → u ≡ v
 one_part cat before conds k [] u v h i e = absurd h
 one_part cat before conds k (rel ∷ rels) u v (inl a) (inl b) e = sym a ∙ b
 one_part cat before conds k (rel ∷ rels) u v (inl a) (inr b) e =
     let n : before + k ≡ u.number =
-    ap (λ (z : Use). z.number) a in let r = (part_range cat before conds (k + 1) rels v b).0 in absurd
-    (omega (arith, r))
+    ap (λ (z : Use). z.number) a in let r = (part_range cat before conds (k + 1) rels v b).0 in absurd (omega (arith, r))
 one_part cat before conds k (rel ∷ rels) u v (inr a) (inl b) e =
     let n : before + k ≡ v.number =
-    ap (λ (z : Use). z.number) b in let r = (part_range cat before conds (k + 1) rels u a).0 in absurd
-    (omega (arith, r))
+    ap (λ (z : Use). z.number) b in let r = (part_range cat before conds (k + 1) rels u a).0 in absurd (omega (arith, r))
 one_part cat before conds k (rel ∷ rels) u v (inr a) (inr b) e = one_part cat before conds (k + 1) rels u v a b e
 
 statement_range : (cat : Catalogue) (before : ℕ) (s : Stmt) (u : Use) → Has (statement_uses cat before s) u
@@ -48,18 +44,15 @@ one_in_statement cat before (Update rel sets conds) u v h i e = one_part cat bef
 one_in_statement cat before (Delete rel conds) u v h i e = one_part cat before conds 1 (rel ∷ []) u v h i e
 
 -- the uses of the first statement, and the others
-pub uses_split : (cat : Catalogue) (before : ℕ) (s : Stmt) (rest : List Stmt) (u : Use)
-    → Has (uses_from cat before (s ∷ rest)) u
+pub uses_split : (cat : Catalogue) (before : ℕ) (s : Stmt) (rest : List Stmt) (u : Use) → Has (uses_from cat before (s ∷ rest)) u
     → Has (statement_uses cat before s) u ⊎ Has (uses_from cat (before + uses_in s) rest) u
 uses_split cat before s rest u h =
     elim (Has-append (statement_uses cat before s) (uses_from cat (before + length (statement_uses cat before s)) rest) u h) [
       | inl here ↦ inl here
-      | inr there ↦
-          inr (subst (λ n. Has (uses_from cat (before + n) rest) u) (length-statement_uses cat before s) there)
+      | inr there ↦ inr (subst (λ n. Has (uses_from cat (before + n) rest) u) (length-statement_uses cat before s) there)
     ]
 
-use_behind : (cat : Catalogue) (before : ℕ) (statements : List Stmt) (u : Use)
-    → Has (uses_from cat before statements) u → before < u.number
+use_behind : (cat : Catalogue) (before : ℕ) (statements : List Stmt) (u : Use) → Has (uses_from cat before statements) u → before < u.number
 use_behind cat before [] u h = absurd h
 use_behind cat before (s ∷ rest) u h =
     elim (uses_split cat before s rest u h) [
@@ -72,8 +65,7 @@ pub one_use : (cat : Catalogue) (before : ℕ) (statements : List Stmt) (u v : U
     → Has (uses_from cat before statements) u → Has (uses_from cat before statements) v → u.number ≡ v.number → u ≡ v
 one_use cat before [] u v h i e = absurd h
 one_use cat before (s ∷ rest) u v h i e =
-    by (λ a b. one_use cat (before + uses_in s) rest u v a b e) (uses_split cat before s rest u h)
-    (uses_split cat before s rest v i)
+    by (λ a b. one_use cat (before + uses_in s) rest u v a b e) (uses_split cat before s rest u h) (uses_split cat before s rest v i)
   where
     by : (Has (uses_from cat (before + uses_in s) rest) u → Has (uses_from cat (before + uses_in s) rest) v → u ≡ v)
         → Has (statement_uses cat before s) u ⊎ Has (uses_from cat (before + uses_in s) rest) u
@@ -88,8 +80,7 @@ one_use cat before (s ∷ rest) u v h i e =
     by rec (inr a) (inr b) = rec a b
 
 -- a tuple has of each part a row of its relation, and the part has a use
-pub record HasPart (cat : Catalogue) (db : Database) (conds : List Condition) (uses : List Use) (number part : ℕ)
-    (row : Row) : Type 0 where
+pub record HasPart (cat : Catalogue) (db : Database) (conds : List Condition) (uses : List Use) (number part : ℕ) (row : Row) : Type 0 where
   pub usage : Use
   pub there : Has uses usage
   pub number_is : usage.number ≡ number
@@ -104,23 +95,19 @@ parts_there cat db before conds k (rel ∷ rels) tuple h i within =
     let f =
     Has-flat_map_from
     (λ (row : Row).
-    map (λ (tuple : Tuple). row ∷ tuple) (product (map (λ (rel : RelNo). databases.rows_of db rel.0) rels)))
-    (databases.rows_of db rel.0) tuple h in
+    map (λ (tuple : Tuple). row ∷ tuple) (product (map (λ (rel : RelNo). databases.rows_of db rel.0) rels))) (databases.rows_of db rel.0) tuple h in
     let row : Row = f.0 in
     let g =
     Has-map_from (λ (tuple : Tuple). row ∷ tuple) (product (map (λ (rel : RelNo). databases.rows_of db rel.0) rels))
     tuple f.2 in
     subst
     (λ z.
-    HasPart cat db conds (part_uses cat before conds k (rel ∷ rels)) (before + (k + i)) (k + i)
-    (slice_index_or z i []))
+    HasPart cat db conds (part_uses cat before conds k (rel ∷ rels)) (before + (k + i)) (k + i) (slice_index_or z i []))
     g.2 (at (λ rest t i l. parts_there cat db before conds (k + 1) rels rest t i l) row g.0 f.1 g.1 i within)
   where
     at :
         ((rest : Tuple) → Has (product (map (λ (rel : RelNo). databases.rows_of db rel.0) rels)) rest → (i : ℕ) → i <
-        length rels → HasPart cat db conds (part_uses cat before conds (k + 1) rels) (before + (k + 1 + i))
-        (k + 1 + i)
-        (slice_index_or rest i []))
+        length rels → HasPart cat db conds (part_uses cat before conds (k + 1) rels) (before + (k + 1 + i)) (k + 1 + i) (slice_index_or rest i []))
         → (row : Row) (rest : Tuple) → Has (databases.rows_of db rel.0) row → Has
         (product (map (λ (rel : RelNo). databases.rows_of db rel.0) rels)) rest → (i : ℕ) → i < suc (length rels)
         → HasPart cat db conds (part_uses cat before conds k (rel ∷ rels)) (before + (k + i)) (k + i)

@@ -24,9 +24,7 @@ db = ((1, pos 5), five) ∷ ((1, pos 6), six) ∷ []
 db_is : IsDatabase accounts db
 db_is =
     record {
-      ascends =
-          sorted_cons item_cmp (1, pos 5) ((1, pos 6) ∷ []) (refl, tt)
-          (sorted_cons item_cmp (1, pos 6) [] tt (sorted_nil item_cmp));
+      ascends = sorted_cons item_cmp (1, pos 5) ((1, pos 6) ∷ []) (refl, tt) (sorted_cons item_cmp (1, pos 6) [] tt (sorted_nil item_cmp));
       entries = All-from_recursion (IsEntry accounts) db
           (record { relation = (lit≤ tt, lit≤ tt); row = refl; key = refl; key_held = refl }, (record { relation = (lit≤ tt, lit≤ tt); row = refl; key = refl; key_held = refl }, tt));
     }
@@ -49,13 +47,8 @@ pub has_copies : HasCopies accounts 1 query (1 ∷ []) copies db
 has_copies =
     record {
       is = db_is;
-      rows =
-          λ d u f there of t.
-          subst (λ n. rows_in_fragment accounts db n ≡ entries_of accounts n (copies d n))
-          (sym (one_fragment u f there of)) refl;
-      place =
-          λ u f there of.
-          (1, inl refl, subst (λ n. is_read_at accounts 1 1 n ≡ true) (sym (one_fragment u f there of)) refl);
+      rows = λ d u f there of t. subst (λ n. rows_in_fragment accounts db n ≡ entries_of accounts n (copies d n)) (sym (one_fragment u f there of)) refl;
+      place = λ u f there of. (1, inl refl, subst (λ n. is_read_at accounts 1 1 n ≡ true) (sym (one_fragment u f there of)) refl);
     }
 
 abbrev move : Move
