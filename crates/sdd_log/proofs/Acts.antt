@@ -1,5 +1,5 @@
 -- What a site's acts, one after the other, do to the log's recursions.
-use Rattle.sdd_log.proofs.All.{Act, AllLinked, Call, D, Did, Does, EndsByLimit, Event, Given, IsLawful, IsWithin, List, Log, MAX_LINK_MESSAGES, Msg, Puts, Site, Some, T, U, [], ap, append-nil, append_assoc, calls_of, false, handed, history, is_down, left, length, link, local_of, log_after, map, map-append, marks, nat_lt, next, or_assoc, or_false, puts, puts_past, records_of, records_of_act, refl, same_here, same_site, sends_of, sends_of_act, suc, sym, takes_part, true, ℕ, ◌++◌, ◌||◌, ◌∙◌, ◌∷◌, ◌≡◌}
+use Rattle.sdd_log.proofs.All.{Act, AllLinked, Call, D, Did, Does, EndsByLimit, Event, Given, IsLawful, IsWithin, List, Log, MAX_LINK_MESSAGES, Msg, Puts, Site, Some, [], ap, append-nil, append_assoc, calls_of, false, handed, history, is_down, left, length, link, local_of, log_after, map, map-append, marks, nat_lt, next, or_assoc, or_false, puts, puts_past, records_of, records_of_act, refl, same_here, same_site, sends_of, sends_of_act, suc, sym, takes_part, true, ℕ, ◌++◌, ◌||◌, ◌∙◌, ◌∷◌, ◌≡◌}
 use Rattle.sdd_log.proofs.Steps.{after_acts}
 
 pub puts-append : (at : Site) (xs ys : List (Site × Msg)) (calls : List (Call Msg)) → puts at (xs ++ ys) calls ≡ puts at ys (puts at xs calls)

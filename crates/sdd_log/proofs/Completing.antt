@@ -1,5 +1,5 @@
 -- The complete log of what was given, with one event more; rounds, and when they end.
-use Rattle.sdd_log.proofs.All.{Bool, Deliver, Down, EndsIn, Entry, Event, Given, IsLawful, List, Log, Lose, Mark, None, Option, Redeclare, Redeclares, Repeat, Resend, Round, Settle, Some, Submit, TakesRounds, Tick, Up, [], after_mark, all_links, ap, calls_of, false, from_event, greatest_bound, hand_due, left, mark_due, mark_from, mark_of, next, next_mark, or_else, or_none, quiet, refl, round, settles_before, site_due, suc, tail_of, true, with_event, zero, ℕ, ◌++◌, ◌∙◌, ◌∷◌, ◌≡◌}
+use Rattle.sdd_log.proofs.All.{Bool, EndsIn, Entry, Event, Given, IsLawful, List, Log, Mark, None, Option, Redeclare, Redeclares, Round, Settle, Some, TakesRounds, [], after_mark, all_links, ap, calls_of, false, from_event, greatest_bound, hand_due, left, mark_due, mark_from, mark_of, next, next_mark, or_else, or_none, quiet, refl, round, settles_before, site_due, suc, tail_of, true, with_event, zero, ℕ, ◌++◌, ◌∙◌, ◌∷◌, ◌≡◌}
 use Rattle.sdd_log.proofs.Grows.{grows, with_end}
 
 -- nothing is due at all
@@ -76,8 +76,7 @@ none_left g log f e = next_is_mark g log None f (ap (mark_of g log) e)
 
 -- an event more that is reached by rounds
 
-more_rounds : (g : Given) (log : Log) (q : Bool) (r ws : List Event) (e : Event)
-    → mark_from g log q r ws ≡ None → EndsIn e (ws ++ e ∷ [])
+more_rounds : (g : Given) (log : Log) (q : Bool) (r ws : List Event) (e : Event) → mark_from g log q r ws ≡ None → EndsIn e (ws ++ e ∷ [])
 more_rounds g log q r [] e h = (0, refl)
 more_rounds g log true r (Settle ∷ ws) e h = let i = more_rounds g log true r ws e h in (suc i.0, ap (λ xs. Settle ∷ xs) i.1)
 more_rounds g log false r (Settle ∷ ws) e h = cc
@@ -96,20 +95,17 @@ event_left g e log l h =
     let w = by_end g e log (left g.events log) n.no_next in
     (w.0, grows g e log l ∙ w.1, w.2)
 
-round_from : (g : Given) (log : Log) (r : List Event) (e : Event) (n : ℕ) → TakesRounds e
-    → mark_from g log false r (settles_before n e) ≡ Some (Round r)
+round_from : (g : Given) (log : Log) (r : List Event) (e : Event) (n : ℕ) → TakesRounds e → mark_from g log false r (settles_before n e) ≡ Some (Round r)
 round_from g log r Settle zero h = refl
 round_from g log r Redeclare zero h = refl
 round_from g log r e (suc n) h = refl
 round_from g log r _ zero h = absurd h
 
-settled_from : (g : Given) (log : Log) (r : List Event) (n : ℕ)
-    → mark_from g log true r (settles_before n Settle) ≡ None
+settled_from : (g : Given) (log : Log) (r : List Event) (n : ℕ) → mark_from g log true r (settles_before n Settle) ≡ None
 settled_from g log r zero = refl
 settled_from g log r (suc n) = settled_from g log r n
 
-listed_from : (g : Given) (log : Log) (r : List Event) (n : ℕ)
-    → mark_from g log true r (settles_before n Redeclare) ≡ Some (Redeclares (greatest_bound g log))
+listed_from : (g : Given) (log : Log) (r : List Event) (n : ℕ) → mark_from g log true r (settles_before n Redeclare) ≡ Some (Redeclares (greatest_bound g log))
 listed_from g log r zero = refl
 listed_from g log r (suc n) = listed_from g log r n
 
@@ -118,8 +114,7 @@ none_behind zero = refl
 none_behind (suc n) = none_behind n
 
 -- the next mark, where these events are left and the links are quiet or not
-mark_at : (g : Given) (log : Log) (q : Bool) (ws : List Event) (o : Option Entry)
-    → left g.events log ≡ (ws, []) → quiet (all_links g) (calls_of log) ≡ q
+mark_at : (g : Given) (log : Log) (q : Bool) (ws : List Event) (o : Option Entry) → left g.events log ≡ (ws, []) → quiet (all_links g) (calls_of log) ≡ q
     → mark_from g log q (round (all_links g) (calls_of log)) ws ≡ o → next_mark g log ≡ o
 mark_at g log q ws o e s h = ap (mark_of g log) e ∙ ap (λ b. mark_from g log b (round (all_links g) (calls_of log)) ws) s ∙ h
 

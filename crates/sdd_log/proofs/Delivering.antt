@@ -41,8 +41,7 @@ module _ (g : Given) (a b : Site) (k : ℕ) (log : Log) (m : IsMarked g log (Del
 
 -- what holds of the members of two lists, by their places, holds of the two together
 in_both : {A : Type 0} (P : ℕ → A → Type 0) (xs ys : List A) → ((j : ℕ) (y : A) → slice_get xs j ≡ Some y → P j y)
-    → ((j : ℕ) (y : A) → slice_get ys j ≡ Some y → P (length xs + j) y)
-    → (i : ℕ) (x : A) → slice_get (xs ++ ys) i ≡ Some x → P i x
+    → ((j : ℕ) (y : A) → slice_get ys j ≡ Some y → P (length xs + j) y) → (i : ℕ) (x : A) → slice_get (xs ++ ys) i ≡ Some x → P i x
 in_both P [] ys f h i x e = let z : 0 + i ≡ i = omega arith in subst (λ n. P n x) z (h i x e)
 in_both P (z ∷ xs) ys f h zero x e = f 0 x e
 in_both P (z ∷ xs) ys f h (suc i) x e =
@@ -96,8 +95,7 @@ none_remains log a b e = record { count = omega (arith, e); messages = λ i m p.
 
 -- messages for a module that isn't down are to be handed over
 pub delivers_messages : (g : Given) (a b : Site) (k : ℕ) (log : Log) (messages : List Msg) → IsMarked g log (Deliver a b k) → takes_part b log ≡ true
-    → delivery k (link_of a b log) ≡ Messages messages
-    → Waits g (Mark (Deliver a b k) ∷ log) b (from_one a messages)
+    → delivery k (link_of a b log) ≡ Messages messages → Waits g (Mark (Deliver a b k) ∷ log) b (from_one a messages)
 delivers_messages g a b k log messages m part e =
     let more : Log = Mark (Deliver a b k) ∷ log in
     let t = by_messages (packet_at k (link_of a b log)) (newly_delivered (link_of a b log).there (deliver k (link_of a b log)).there) messages e in
@@ -120,8 +118,7 @@ delivers_messages g a b k log messages m part e =
 
 -- messages for a module that is down are kept, and the event is over
 pub delivers_kept : (g : Given) (a b : Site) (k : ℕ) (log : Log) (messages : List Msg) → IsMarked g log (Deliver a b k) → takes_part b log ≡ false
-    → delivery k (link_of a b log) ≡ Messages messages
-    → Rests g (Mark (Deliver a b k) ∷ log)
+    → delivery k (link_of a b log) ≡ Messages messages → Rests g (Mark (Deliver a b k) ∷ log)
 delivers_kept g a b k log messages m part e =
     let t = by_messages (packet_at k (link_of a b log)) (newly_delivered (link_of a b log).there (deliver k (link_of a b log)).there) messages e in
     rests_marked g log (Deliver a b k) m (none_by_mark g log (Deliver a b k) tt m.rests.no_site) (ap note_if t.1)

@@ -1,5 +1,5 @@
 -- What holds of each entry of a site's log, wherever it may come, holds of the log that a permitted log gives the site.
-use Rattle.sdd_log.proofs.All.{Act, AreSubmittedOnce, Bool, D, Deliver, Did, Does, Down, Each, Entry, Event, Force, Given, Hand, Handed, IsAllowed, IsDueAt, IsLawful, IsPermitted, Log, Lose, Mark, Msg, None, Notes, Option, Redeclare, Redeclared, Redeclares, Repeat, Resend, Round, Settle, Site, Some, Submit, Submits, Submitted, T, Tick, Ticked, Txn, U, Up, [], beginning, by_event, by_link, by_mark, by_redeclare, by_round, by_site, due_by, false, force_at, if◌then◌else◌, local_of, mark_due, note_if, redeclares, refl, same_is, same_site, subst, suc, sym, true, txn_at, with_force, with_submit, ℕ, ◌∷◌, ◌≡◌}
+use Rattle.sdd_log.proofs.All.{Act, AreSubmittedOnce, Bool, Did, Does, Each, Entry, Event, Force, Given, Hand, Handed, IsAllowed, IsDueAt, IsLawful, IsPermitted, Log, Mark, Msg, None, Notes, Option, Redeclare, Redeclared, Redeclares, Settle, Site, Some, Submit, Submits, Submitted, T, Tick, Ticked, Txn, [], beginning, by_event, by_link, by_mark, by_redeclare, by_round, by_site, due_by, false, force_at, if◌then◌else◌, local_of, mark_due, note_if, redeclares, refl, same_is, same_site, subst, suc, sym, true, txn_at, with_force, with_submit, ℕ, ◌∷◌, ◌≡◌}
 use Rattle.sdd_log.proofs.NewMarks.{lawful_permitted}
 use Rattle.sdd_attempt.specs.site_module.SiteLog as site
 

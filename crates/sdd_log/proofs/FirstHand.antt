@@ -137,12 +137,10 @@ one_to f all a b e here linked p aside =
 -- of the links from a, and from the sites before it, the one to b alone has something
 pub first_link : {B : Type 0} (f : Site × Site → Option B) (tms dms : ℕ) (before after : List Site) (a b : Site) (e : B)
     → sites tms dms ≡ before ++ a ∷ after → is_link tms dms a b ≡ true → f (a, b) ≡ Some e
-    → AtEach (λ x. (y : Site) → f (x, y) ≡ None) before → ((y : Site) → same_site y b ≡ false → f (a, y) ≡ None)
-    → first_some f (links tms dms) ≡ Some e
+    → AtEach (λ x. (y : Site) → f (x, y) ≡ None) before → ((y : Site) → same_site y b ≡ false → f (a, y) ≡ None) → first_some f (links tms dms) ≡ Some e
 first_link f tms dms before after a b e parts l p earlier aside =
     let k = link_parts tms dms a b l in
-    first_flat f (from_site (sites tms dms)) (sites tms dms)
-    ∙ ap (λ xs. first_some (λ x. first_some f (from_site (sites tms dms) x)) xs) parts
+    first_flat f (from_site (sites tms dms)) (sites tms dms) ∙ ap (λ xs. first_some (λ x. first_some f (from_site (sites tms dms) x)) xs) parts
     ∙ first_here (λ x. first_some f (from_site (sites tms dms) x)) before after a e
     (each_weaker (λ x. (y : Site) → f (x, y) ≡ None) (λ x. first_some f (from_site (sites tms dms) x) ≡ None) before (λ x h. none_from f (sites tms dms) x h) earlier)
     (one_to f (sites tms dms) a b e (listed tms dms b k.to) k.linked p aside)
@@ -170,8 +168,7 @@ none_to_hand g log h = first_nowhere (hand_on log) (all_links g) (λ l. none_on 
 
 -- the next message, where one is left
 pub one_on : (log : Log) (a b : Site) (m : Msg) → takes_part b log ≡ true → handed a b log < delivered (link_of a b log).there
-    → message_at a b (suc (handed a b log)) log ≡ Some m
-    → hand_on log (a, b) ≡ Some (Hand a b (suc (handed a b log)) m)
+    → message_at a b (suc (handed a b log)) log ≡ Some m → hand_on log (a, b) ≡ Some (Hand a b (suc (handed a b log)) m)
 one_on log a b m part less is = rw (part, lt-ltb (handed a b log) (delivered (link_of a b log).there) less, is) refl
 
 -- all is handed over on the links from the sites before a, and on the other links from a: the next message from a to b is

@@ -1,5 +1,5 @@
 -- What the mark of an event leaves, where nothing else was due.
-use Rattle.sdd_log.proofs.All.{Act, AllHanded, Bases, Bool, D, Deliver, Down, Event, Force, Given, IsMarked, List, Log, Lose, MAX_RUN_EVENTS, Mark, None, Notes, Option, Redeclare, Redeclares, Repeat, Resend, Rests, Settle, Site, Some, Submit, T, Tick, Ticked, TmNo, U, Up, [], base_of, delivered, does_at, due_by, false, first_some, force_at, if◌then◌else◌, is_past, le-ltb, link_of, local_of, marks, next, next_at, next_in, redeclares, refl, same_is, same_site, setting_of, site_due, sites, subst, suc, sym, takes_part, true, with_force, ℕ, ◌∙◌, ◌∷◌, ◌≡◌, ◌≤◌}
+use Rattle.sdd_log.proofs.All.{Act, AllHanded, Bases, Bool, D, Down, Event, Force, Given, IsMarked, List, Log, MAX_RUN_EVENTS, Mark, None, Notes, Option, Redeclares, Rests, Site, Some, T, Tick, Ticked, TmNo, U, Up, [], base_of, delivered, does_at, due_by, false, first_some, force_at, if◌then◌else◌, is_past, le-ltb, link_of, local_of, marks, next, next_at, next_in, redeclares, refl, same_is, same_site, setting_of, site_due, sites, subst, suc, sym, takes_part, true, with_force, ℕ, ◌∙◌, ◌∷◌, ◌≡◌, ◌≤◌}
 use Rattle.sdd_log.proofs.Steps.{AllNone, all_none, none_any_base}
 use Rattle.sdd_log.proofs.Ticking.{none_by_redeclare, none_by_tick}
 use Rattle.sdd_attempt.specs.site_module.SiteLog as site
@@ -24,8 +24,7 @@ ticked_here g x t bases n l e k h =
     subst (λ y. next_in g y bases (Ticked n ∷ l) ≡ None) (sym e) (h back)
 
 ticked_if : (g : Given) (x : Site) (bases : Bases) (n : ℕ) (c : Bool) (l : site.Log) → (c ≡ true → next_in g x bases (Ticked n ∷ l) ≡ None)
-    → next_in g x bases l ≡ None
-    → next_in g x bases (if c then Ticked n ∷ l else l) ≡ None
+    → next_in g x bases l ≡ None → next_in g x bases (if c then Ticked n ∷ l else l) ≡ None
 ticked_if g x bases n true l h k = h refl
 ticked_if g x bases n false l h k = k
 
@@ -114,8 +113,7 @@ redeclared_none g log t k =
     let more : Log = Redeclares t ∷ log in
     none_at_all (next_at g log) (next_at g more) (sites g.catalogue.tms g.catalogue.dms) (λ x i.
     forced_none g x (base_of g more) (force_at g (suc (redeclares log))) t (local_of g x log)
-    (none_any_base g x (base_of g log) (base_of g more) (local_of g x log) i))
-    (all_none (next_at g log) (sites g.catalogue.tms g.catalogue.dms) k)
+    (none_any_base g x (base_of g log) (base_of g more) (local_of g x log) i)) (all_none (next_at g log) (sites g.catalogue.tms g.catalogue.dms) k)
 
 pub part_redeclared : (x : Site) (t : ℕ) (log : Log) → takes_part x (Redeclares t ∷ log) ≡ takes_part x log
 part_redeclared U t log = refl

@@ -1,6 +1,6 @@
 -- Where the events submit each transaction at most once, the marks of a lawful log submit no number twice, so it is
 -- permitted.
-use Rattle.sdd_log.proofs.All.{Act, AreSubmittedOnce, Bool, Call, Deliver, Does, Down, Entry, Event, Given, Hand, IsLawful, IsPermitted, List, Log, Lose, Mark, Msg, None, Notes, Option, Redeclare, Redeclares, Repeat, Resend, Round, Settle, Site, Some, Submit, Submitted, Tick, Up, [], after_mark, all_links, ap, arith, calls_of, cond, cons_option, delivered, does_at, due_by, eq-eqb, false, filter_map, flat_map, found_at, from_event, hand_due, hand_number, hand_on, hand_with, handed, if◌then◌else◌, in_flight, is_new_mark, left, link, link_of, mark_due, mark_from, mark_of, message_at, next, next_at, next_mark, next_number, not, note_if, one_if, one_of, quiet, refl, replicate, resends_now, round, site_due, sites, submits_by, submits_in, subst, suc, sym, tail_of, takes_part, true, was_marked, zero, ℕ, ◌++◌, ◌+◌, ◌==◌, ◌||◌, ◌∙◌, ◌∷◌, ◌≡◌, ◌≤◌}
+use Rattle.sdd_log.proofs.All.{Act, AreSubmittedOnce, Bool, Call, Deliver, Down, Entry, Event, Given, IsLawful, IsPermitted, List, Log, Lose, Mark, Msg, None, Option, Redeclare, Redeclares, Repeat, Resend, Round, Settle, Site, Some, Submit, Tick, Up, [], after_mark, all_links, ap, arith, calls_of, cond, cons_option, delivered, does_at, due_by, eq-eqb, false, filter_map, flat_map, found_at, from_event, hand_due, hand_number, hand_on, hand_with, handed, if◌then◌else◌, in_flight, is_new_mark, left, link, link_of, mark_due, mark_from, mark_of, message_at, next, next_at, next_mark, next_number, not, note_if, one_if, one_of, quiet, refl, replicate, resends_now, round, site_due, sites, submits_by, submits_in, subst, suc, sym, tail_of, takes_part, true, was_marked, zero, ℕ, ◌++◌, ◌+◌, ◌==◌, ◌||◌, ◌∙◌, ◌∷◌, ◌≡◌, ◌≤◌}
 use Rattle.sdd_log.proofs.Permitted.{HasNewMarks, permitted_if_new}
 
 -- how often transaction n is submitted by marks

@@ -1,5 +1,5 @@
 -- One map over the calls is the same map over the links, and over what their deliveries hand on.
-use Rattle.sdd_log.proofs.All.{Ack, Bool, Call, Delivers, Link, List, Loses, Message, None, Option, Packet, Puts, Repeats, Resends, Site, Some, Way, [], ap, arrives, call_as, deliver, delivered, delivered_as, delivery, drop, false, given_by, if◌then◌else◌, length, length-map, link, link_as, lose, map, map-append, newly_delivered, numbered, on_link, packet_as, packet_at, put, refl, repeat, resend, same_site, slice_get, suc, sym, take, true, turned, unacked, way_as, with_flight, with_packet, without_at, without_packet, zero, ℕ, ◌&&◌, ◌++◌, ◌+◌, ◌-◌, ◌∙◌, ◌∷◌, ◌≡◌}
+use Rattle.sdd_log.proofs.All.{Ack, Bool, Call, Delivers, Link, List, Loses, Message, None, Option, Packet, Puts, Repeats, Resends, Site, Some, Way, [], ap, arrives, call_as, deliver, delivered, delivered_as, delivery, drop, false, given_by, if◌then◌else◌, length, length-map, link, link_as, lose, map, map-append, newly_delivered, numbered, on_link, packet_as, packet_at, put, refl, repeat, resend, same_site, slice_get, suc, sym, take, true, turned, unacked, way_as, with_flight, with_packet, without_at, without_packet, ℕ, ◌&&◌, ◌++◌, ◌+◌, ◌-◌, ◌∙◌, ◌∷◌, ◌≡◌}
 
 module _ {A B : Type 0} (f : A → B) where
   abbrev map_option : {X Y : Type 0} → (X → Y) → Option X → Option Y

@@ -1,5 +1,5 @@
 -- A transaction is given to its module, and the module does what is due.
-use Rattle.sdd_log.proofs.All.{Act, AreDue, D, Given, IsLawful, IsMarked, IsWithin, List, Log, Mark, None, Rests, Site, Some, Submit, Submits, Submitted, T, Txn, TxnNo, U, [], base_of, calls_of, false, force_at, home_of, local_of, next_at, next_in, puts_past, redeclares, refl, same_here, same_site, sends_of, site_due, sites, sym, takes_part, true, txn_at, ℕ, ◌∙◌, ◌∷◌, ◌≡◌}
+use Rattle.sdd_log.proofs.All.{Act, AreDue, Given, IsLawful, IsMarked, IsWithin, List, Log, Mark, None, Rests, Site, Some, Submit, Submits, Submitted, Txn, TxnNo, U, [], base_of, calls_of, false, force_at, home_of, local_of, next_at, next_in, puts_past, redeclares, refl, same_here, same_site, sends_of, site_due, sites, sym, takes_part, true, txn_at, ℕ, ◌∙◌, ◌∷◌, ◌≡◌}
 use Rattle.sdd_log.proofs.Steps.{after_acts, AllNone, Settled, all_none, has_site, none_any_base, nothing_due, steps}
 use Rattle.sdd_log.proofs.Acts.{handed_acts, takes_part_acts, within_acts}
 use Rattle.sdd_log.proofs.Handing.{delivered_acts, no_mark_acts}
@@ -51,8 +51,7 @@ module _ (g : Given) (n : TxnNo) (log : Log) (k : IsMarked g log (Submit n)) whe
   -- what the module does then are the next entries, and after them nothing is due
   pub submits_and_acts : (txn : Txn) (acts : List Act) → txn_at g n.0 ≡ Some txn → has_site (home_in g n log) (sites g.catalogue.tms g.catalogue.dms) ≡ true
       → AreDue (next_in g (home_in g n log) (base_of g (submitted g n log))) (Submits n.0 txn ∷ local_of g (home_in g n log) log) acts
-      → puts_past (calls_of log) (home_in g n log) (sends_of acts) ≡ false
-      → Rests g (after_acts (home_in g n log) acts (submitted g n log))
+      → puts_past (calls_of log) (home_in g n log) (sends_of acts) ≡ false → Rests g (after_acts (home_in g n log) acts (submitted g n log))
   submits_and_acts txn acts is here due few =
       let at : Site = home_in g n log in
       let left : AreDue (next_in g at (base_of g (submitted g n log))) (local_of g at (submitted g n log)) acts = rw (submitted_local txn is) due in

@@ -43,16 +43,14 @@ start_none : (cat : Catalogue) (v : views.View) (k : Ticking) (f : Force) (c : v
     → tm.start_due cat v c ≡ None → tm.start_due cat (with_both v k f) c ≡ None
 start_none cat v k f c e =
     none_if (not (views.on_hold v) && views.is_idle c) (tm.start_of cat v c.class (head_of c.queue))
-    (tm.start_of cat (with_both v k f) c.class (head_of c.queue))
-    (start_of_none cat v k f c.class (head_of c.queue)) e
+    (tm.start_of cat (with_both v k f) c.class (head_of c.queue)) (start_of_none cat v k f c.class (head_of c.queue)) e
 
 held_none : (v : views.View) (k : Ticking) (f : Force) → tm.held_due v ≡ None → tm.held_due (with_both v k f) ≡ None
 held_none v k f e =
     none_instead (views.on_hold v && (list_all views.is_idle v.classes && nat_lt v.holds.helds v.holds.holds))
     (Sends U (Held (time_at (bound_of v.clock))) (Some v.holds.last)) (Sends U (Held (time_at (bound_of k))) (Some v.holds.last)) e
 
-due_none : (cat : Catalogue) (bases : Bases) (v : views.View) (k : Ticking) (f : Force)
-    → tm.due cat bases v ≡ None → tm.due cat bases (with_both v k f) ≡ None
+due_none : (cat : Catalogue) (bases : Bases) (v : views.View) (k : Ticking) (f : Force) → tm.due cat bases v ≡ None → tm.due cat bases (with_both v k f) ≡ None
 due_none cat bases v k f e =
     let p = or_none (first_some (tm.exchange_due cat bases) v.classes) _ e in
     let q = or_none (first_some (tm.null_due v) v.classes) _ p.1 in

@@ -1,5 +1,5 @@
 -- A data module goes down, and comes up again: what was kept for it is then handed over.
-use Rattle.sdd_log.proofs.All.{Bool, D, DmNo, Down, Given, IsMarked, List, Log, Mark, Msg, Notes, Remain, Rests, Site, T, U, Up, Waits, ap, eq-eqb, eqb-true, false, flip_same, if◌then◌else◌, is_down, not, note_if, refl, same_site, subst, takes_part, true, ◌==◌, ◌∷◌, ◌≡◌}
+use Rattle.sdd_log.proofs.All.{Bool, D, DmNo, Down, Given, IsMarked, List, Log, Mark, Msg, Notes, Remain, Rests, Site, Up, Waits, ap, eq-eqb, eqb-true, false, flip_same, if◌then◌else◌, is_down, not, note_if, refl, same_site, subst, takes_part, true, ◌==◌, ◌∷◌, ◌≡◌}
 use Rattle.sdd_log.proofs.Marking.{mark_within, none_by_mark, rests_marked, rests_noted}
 
 down_if : (c down : Bool) → not (if c then true else down) ≡ true → not down ≡ true
