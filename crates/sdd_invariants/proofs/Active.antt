@@ -1,5 +1,5 @@
 -- How the active attempt changes: it ends, or keeps all but its exchange. And what holds of each kind of step.
-use Rattle.sdd_invariants.proofs.All.{Act, Attempt, Bases, D, Each, Entry, Exchange, IsSend, IsStep, Log, Msg, None, Option, Queued, Sends, Setting, Site, Some, T, U, [], active, active_handed, active_sent, after_hand, after_send, asks_rows, by_commit, by_send, by_start, commit_act, head_of, home, is_over, queue, refl, rejects, start_at, subst, sym, true, ℕ, ◌++◌, ◌∷◌, ◌≡◌}
+use Rattle.sdd_invariants.proofs.All.{Act, Attempt, Bases, D, Each, Entry, Exchange, IsSend, IsStep, Log, Msg, None, Option, Queued, Sends, Setting, Site, Some, [], active, active_handed, active_sent, after_hand, after_send, asks_rows, by_commit, by_send, by_start, commit_act, head_of, home, is_over, queue, refl, rejects, start_at, subst, sym, true, ℕ, ◌++◌, ◌∷◌, ◌≡◌}
 use Rattle.sdd_invariants.proofs.Bools.{if_way}
 
 pub handed_way : (P : Option Attempt → Type 0) (c : ℕ) (from : Site) (m : Msg) (o : Option Attempt) → P None
@@ -11,8 +11,7 @@ handed_way P c _ m _ n f h = h
 pub sent_way : (P : Option Attempt → Type 0) (c : ℕ) (m : Msg) (o : Option Attempt)
     → ((a : Attempt) (x : Exchange) → o ≡ Some a → P (Some (record a { exchange = x }))) → P o → P (active_sent c m o)
 sent_way P c m None f h = h
-sent_way P c m (Some a) f h =
-    if_way P (asks_rows a.ts c m) (Some (record a { exchange = after_send a.exchange })) (Some a) (f a (after_send a.exchange) refl) h
+sent_way P c m (Some a) f h = if_way P (asks_rows a.ts c m) (Some (record a { exchange = after_send a.exchange })) (Some a) (f a (after_send a.exchange) refl) h
 
 -- what holds of each kind of step holds of an act that is one
 pub step_way : (s : Setting) (log : Log) (act : Act) (P : Act → Type 0)
@@ -33,8 +32,7 @@ step_way_over s log act P f g h (by_commit c bases a at i o e) = subst P (sym e)
 step_way_over s log act P f g h (by_send to m hand i e) = subst P (sym e) (h to m hand i)
 
 -- what holds of each entry holds of one in the middle
-pub each_at : (P : Log → Entry → Type 0) (later : Log) (e : Entry) (before : Log) → Each P (later ++ e ∷ before)
-    → P before e × Each P before
+pub each_at : (P : Log → Entry → Type 0) (later : Log) (e : Entry) (before : Log) → Each P (later ++ e ∷ before) → P before e × Each P before
 each_at P [] e before h = (h.0, h.1)
 each_at P (x ∷ later) e before h = each_at P later e before h.1
 

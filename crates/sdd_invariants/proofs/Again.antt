@@ -26,8 +26,7 @@ raised_is (Some u) x w e =
     let r : max u x ≡ w = cc in
     elim (dec_le u x) [ yes l ↦ inr (omega arith) | no l ↦ (let z : u ≡ w = omega (arith, l) in inl (ap (λ y. Some y) z)) ]
 
-greatest_from : (o : Option ℕ) (xs : List ℕ) (w : ℕ) → fold raised o xs ≡ Some w
-    → (o ≡ Some w) ⊎ ((k : ℕ) × (slice_get xs k ≡ Some w))
+greatest_from : (o : Option ℕ) (xs : List ℕ) (w : ℕ) → fold raised o xs ≡ Some w → (o ≡ Some w) ⊎ ((k : ℕ) × (slice_get xs k ≡ Some w))
 greatest_from o [] w e = inl e
 greatest_from o (x ∷ xs) w e = elim (greatest_from (raised o x) xs w e) [
   | inl p ↦ elim (raised_is o x w p) [ inl q ↦ inl q | inr q ↦ inr (0, ap (λ y. Some y) q) ]
@@ -58,16 +57,14 @@ cond_is false t w e = cc
 
 time_is : (frags : List FragNo) (m : Msg) (w : ℕ) → write_time frags m ≡ Some w
     → (ts : Ts) × (k : ClassNo) × (txn : TxnNo) × (changes : List Change) × (m ≡ Write ts k txn changes) × (ts.0 ≡ w) × (touches frags changes ≡ true)
-time_is frags (Write ts k txn changes) w e =
-    let p = cond_is (touches frags changes) ts.0 w e in (ts, k, txn, changes, refl, p.1, p.0)
+time_is frags (Write ts k txn changes) w e = let p = cond_is (touches frags changes) ts.0 w e in (ts, k, txn, changes, refl, p.1, p.0)
 time_is frags _ w e = cc
 
 pub first_there : (ds : List Cond) (d : Cond) → head_of ds ≡ Some d → slice_get ds 0 ≡ Some d
 first_there [] d e = cc
 first_there (x ∷ ds) d e = e
 
-pub first_of_filter : (f : Cond → Bool) (ds : List Cond) (d : Cond) → head_of (filter f ds) ≡ Some d
-    → (k : ℕ) × (slice_get ds k ≡ Some d) × (f d ≡ true)
+pub first_of_filter : (f : Cond → Bool) (ds : List Cond) (d : Cond) → head_of (filter f ds) ≡ Some d → (k : ℕ) × (slice_get ds k ≡ Some d) × (f d ≡ true)
 first_of_filter f ds d e = let i = in_filtered f ds 0 d (first_there (filter f ds) d e) in (i.1, i.2, i.0)
 
 -- a condition that is spoilt: by the WRITE that is named
@@ -97,8 +94,7 @@ spoilt_in log d p e f =
     let t = time_is d.frags m.1 w m.3 in
     record { at_least = i.1; place = m.0; ts = t.0; of = t.1; txn = t.2; changes = t.3; there = subst (λ ms. slice_get ms m.0 ≡ Some (Write t.0 t.1 t.2 t.3)) e (m.2 ∙ ap (λ y. Some y) t.4); ts_is = t.5; touching = t.6 }
 
-pub is_spoilt : (s : Setting) (log : site.Log) (d : Cond) → spoils (view_of s log) d ≡ true
-    → IsSpoilt log d (or_zero (last_write_for (view_of s log) d))
+pub is_spoilt : (s : Setting) (log : site.Log) (d : Cond) → spoils (view_of s log) d ≡ true → IsSpoilt log d (or_zero (last_write_for (view_of s log) d))
 is_spoilt s log d e = elim (dec_le (suc d.class.0) (suc (length s.catalogue.classes))) [
   | yes l ↦ spoilt_in log d (at_class (view_of s log) d.class.0).pipe (processed_in_is s log d.class.0 l) e
   | no n ↦ (let q : is_at_least d.time.0 (last_write d.frags empty_pipe) ≡ true = subst (λ (k : ClassView). is_at_least d.time.0 (last_write d.frags k.pipe) ≡ true) (class_not_in_view s log d.class.0 (omega (arith, n))) e in cc)
@@ -137,8 +133,7 @@ le_as a b c l e = omega (arith, l, e)
 
 pub again : (g : Given) (c : ℕ) (log : Log) (q : Queued) → IsPermitted g log → ((j : ℕ) → number_of (home g.catalogue j) ≤ 62)
     → active (setting_of g (home g.catalogue c)) c (local_of g (home g.catalogue c) log) ≡ None
-    → head_of (queue (setting_of g (home g.catalogue c)) c (local_of g (home g.catalogue c) log)) ≡ Some q → 0 < q.tries
-    → IsAgain g log c q
+    → head_of (queue (setting_of g (home g.catalogue c)) c (local_of g (home g.catalogue c) log)) ≡ Some q → 0 < q.tries → IsAgain g log c q
 again g c log q h small idle e tried_once =
     let at : Site = home g.catalogue c in
     let s : Setting = setting_of g at in

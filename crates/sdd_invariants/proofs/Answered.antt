@@ -32,8 +32,7 @@ is_from_d _ = false
 
 -- what T and U put is of other kinds
 
-of_one : (f : Msg → Bool) (ms : List Msg) (x : Msg) (k : ℕ) (m : Msg) → ms ≡ x ∷ [] → f x ≡ false → slice_get ms k ≡ Some m
-    → f m ≡ false
+of_one : (f : Msg → Bool) (ms : List Msg) (x : Msg) (k : ℕ) (m : Msg) → ms ≡ x ∷ [] → f x ≡ false → slice_get ms k ≡ Some m → f m ≡ false
 of_one f ms x k m e g h = subst (λ y. f y ≡ false) (in_one ms x k m e h) g
 
 asks_not_d : (ts c : ℕ) (m : Msg) → asks_rows ts c m ≡ true → is_from_d m ≡ false
@@ -59,8 +58,7 @@ step_not_d s b log act k m i = step_way s log act (λ x. slice_get (to_site b (s
     (λ c bases a at f. λ there. elim (commit_puts s c bases b a) [
       | inl p ↦ in_none _ k m p there
       | inr p ↦ of_one is_from_d _ _ k m p.1 refl there
-    ])
-    (λ to x hand f. λ there. subst (λ y. is_from_d y ≡ false) (the_one b to x k m there).1 (send_not_d s log x f)) i
+    ]) (λ to x hand f. λ there. subst (λ y. is_from_d y ≡ false) (the_one b to x k m there).1 (send_not_d s log x f)) i
 
 -- the act that put a message, in the log of everything
 pub record IsPutIn (g : Given) (log : Log) (from at : Site) (m : Msg) (P : site.Log → Act → Type 0) : Type 0 where
@@ -71,8 +69,7 @@ pub record IsPutIn (g : Given) (log : Log) (from at : Site) (m : Msg) (P : site.
   pub by : P (local_of g from before) act
 
 put_in : (g : Given) (log : Log) (from at : Site) (k : ℕ) (m : Msg) (P : site.Log → Act → Type 0) (Q : site.Log → site.Entry → Type 0)
-    → Each Q (local_of g from log)
-    → ((l : site.Log) (act : Act) (j : ℕ) → Q l (Did act) → slice_get (to_site at (sends_of_act act)) j ≡ Some m → P l act)
+    → Each Q (local_of g from log) → ((l : site.Log) (act : Act) (j : ℕ) → Q l (Did act) → slice_get (to_site at (sends_of_act act)) j ≡ Some m → P l act)
     → slice_get (puts_to at (local_of g from log)) k ≡ Some m → IsPutIn g log from at m P
 put_in g log from at k m P Q h f e =
     let p = was_put at (local_of g from log) k m e in
@@ -81,8 +78,7 @@ put_in g log from at k m P Q h f e =
     record { later = l.later; act = p.act; before = l.rest; is = l.is; by = subst (λ b. P b p.act) (sym l.local_is) (f p.before p.act p.place q.0 p.there) }
 
 pub put_in_by_d : (g : Given) (log : Log) (d : DmNo) (at : Site) (k : ℕ) (m : Msg) → IsPermitted g log
-    → slice_get (puts_to at (local_of g (D d) log)) k ≡ Some m
-    → IsPutIn g log (D d) at m (λ l act. IsPutByD (setting_of g (D d)) l at act m)
+    → slice_get (puts_to at (local_of g (D d) log)) k ≡ Some m → IsPutIn g log (D d) at m (λ l act. IsPutByD (setting_of g (D d)) l at act m)
 put_in_by_d g log d at k m h e =
     put_in g log (D d) at k m (λ l act. IsPutByD (setting_of g (D d)) l at act m) (IsDueEach (setting_of g (D d))) (d_fair g d log h)
     (λ l act j q there. put_by_d (setting_of g (D d)) l act q at j m there) e
@@ -116,20 +112,17 @@ any_sent f b (p ∷ sends) k m e g = elim (same_site b p.0) as (λ c. slice_get 
 
 asked_more : (ts c : ℕ) (later l : site.Log) → was_asked ts c l ≡ true → was_asked ts c (later ++ l) ≡ true
 asked_more ts c [] l e = e
-asked_more ts c (Did act ∷ later) l e =
-    or_right (asks_in ts c (sends_of_act act)) (was_asked ts c (later ++ l)) (asked_more ts c later l e)
+asked_more ts c (Did act ∷ later) l e = or_right (asks_in ts c (sends_of_act act)) (was_asked ts c (later ++ l)) (asked_more ts c later l e)
 asked_more ts c (_ ∷ later) l e = asked_more ts c later l e
 
-asked_of_put : (ts c : ℕ) (b : Site) (l : site.Log) (k : ℕ) (m : Msg) → slice_get (puts_to b l) k ≡ Some m
-    → asks_rows ts c m ≡ true → was_asked ts c l ≡ true
+asked_of_put : (ts c : ℕ) (b : Site) (l : site.Log) (k : ℕ) (m : Msg) → slice_get (puts_to b l) k ≡ Some m → asks_rows ts c m ≡ true → was_asked ts c l ≡ true
 asked_of_put ts c b l k m e f =
     let p = was_put b l k m e in
     subst (λ x. was_asked ts c x ≡ true) (sym p.is)
     (asked_more ts c p.later (Did p.act ∷ p.before) (or_left (asks_in ts c (sends_of_act p.act)) (was_asked ts c p.before) (any_sent (asks_rows ts c) b (sends_of_act p.act) p.place m p.there f)))
 
 asked_then : (g : Given) (log : Log) (at : Site) (d : DmNo) (ts c : ℕ) (later log2 : Log) (P : Msg → Type 0) → IsPermitted g log
-    → log ≡ later ++ log2 → WasAsked (local_of g (D d) log2) at P → ((m : Msg) → P m → asks_rows ts c m ≡ true)
-    → was_asked ts c (local_of g at log) ≡ true
+    → log ≡ later ++ log2 → WasAsked (local_of g (D d) log2) at P → ((m : Msg) → P m → asks_rows ts c m ≡ true) → was_asked ts c (local_of g at log) ≡ true
 asked_then g log at d ts c later log2 P h e w f =
     let i = place_of_hand g (D d) log2 w.later at w.asked w.before w.is in
     let h2 : IsPermitted g (Hand at (D d) i.number w.asked ∷ i.rest) = permitted_before g i.later (Hand at (D d) i.number w.asked ∷ i.rest)
@@ -145,8 +138,7 @@ asked_then g log at d ts c later log2 P h e w f =
     (subst (λ l. was_asked ts c l ≡ true) (sym y.1) (asked_more ts c y.0 (local_of g at log2) here))
 
 honest_d : (g : Given) (log : Log) (at : Site) (d : DmNo) (m : Msg) (ts c : ℕ) (later before : Log) (act : Act)
-    → IsPermitted g log → log ≡ later ++ Does (D d) act ∷ before
-    → IsPutByD (setting_of g (D d)) (local_of g (D d) before) at act m → is_answer ts c m ≡ true
+    → IsPermitted g log → log ≡ later ++ Does (D d) act ∷ before → IsPutByD (setting_of g (D d)) (local_of g (D d) before) at act m → is_answer ts c m ≡ true
     → was_asked ts c (local_of g at log) ≡ true
 honest_d g log at d (Values t k u vs) ts c later before act h e w f =
     asked_then g log at d ts c (later ++ Does (D d) act ∷ []) before (IsFetch t k u) h (e ∙ sym (append_assoc later (Does (D d) act ∷ []) before)) w
@@ -166,8 +158,7 @@ answer_d ts c (Rows t k rows) e = refl
 answer_d ts c m e = cc
 
 honest_hand : (g : Given) (log : Log) (from at : Site) (k : ℕ) (m : Msg) (ts c : ℕ) → IsPermitted g log
-    → slice_get (puts_to at (local_of g from log)) k ≡ Some m → is_answer ts c m ≡ true
-    → was_asked ts c (local_of g at log) ≡ true
+    → slice_get (puts_to at (local_of g from log)) k ≡ Some m → is_answer ts c m ≡ true → was_asked ts c (local_of g at log) ≡ true
 honest_hand g log from at k m ts c h e f =
     let d = from_a_d g log from at k m h e (answer_d ts c m f) in
     let p = put_in_by_d g log d.0 at k m h (subst (λ x. slice_get (puts_to at (local_of g x log)) k ≡ Some m) d.1 e) in
@@ -185,8 +176,7 @@ honest g at = each_local g at IsHonest (record {
 -- the READ at a head was put by the Start of its attempt
 
 pub read_of : (g : Given) (c : ℕ) (d : DmNo) (log : Log) (ts : Ts) (k : ClassNo) (txn : TxnNo) (attempt : ℕ) (conds : List Cond) (uses : List Use)
-    → IsPermitted g log → head (pipe_at g c d log) ≡ Some (Read ts k txn attempt conds uses)
-    → (k.0 ≡ c) × IsReadOf g log c txn.0 attempt ts.0
+    → IsPermitted g log → head (pipe_at g c d log) ≡ Some (Read ts k txn attempt conds uses) → (k.0 ≡ c) × IsReadOf g log c txn.0 attempt ts.0
 read_of g c d log ts k txn attempt conds uses h e =
     let at : Site = home g.catalogue c in
     let p = head_put g c d log (Read ts k txn attempt conds uses) h e in
@@ -197,8 +187,7 @@ read_of g c d log ts k txn attempt conds uses h e =
 
 -- one timestamp, one Start
 
-did_at : (s : Setting) (c : ℕ) (l1 b1 b2 : site.Log) (q2 : Queued) → next_stamp s b1 ≡ next_stamp s b2
-    → b1 ≡ l1 ++ Did (start_at s c b2 q2) ∷ b2 → ⊥
+did_at : (s : Setting) (c : ℕ) (l1 b1 b2 : site.Log) (q2 : Queued) → next_stamp s b1 ≡ next_stamp s b2 → b1 ≡ l1 ++ Did (start_at s c b2 q2) ∷ b2 → ⊥
 did_at s c l1 b1 b2 q2 e f =
     let g = clock_grows s.site l1 (Did (start_at s c b2 q2) ∷ b2) in
     let n1 = clock_number s.site b1 in let n2 = clock_number s.site b2 in
@@ -208,10 +197,8 @@ did_at s c l1 b1 b2 q2 e f =
 pub one_start : (s : Setting) (c : ℕ) (l1 l2 b1 b2 : site.Log) (q1 q2 : Queued) → next_stamp s b1 ≡ next_stamp s b2
     → l1 ++ Did (start_at s c b1 q1) ∷ b1 ≡ l2 ++ Did (start_at s c b2 q2) ∷ b2 → b1 ≡ b2
 one_start s c [] [] b1 b2 q1 q2 e f = cc
-one_start s c [] (y ∷ l2) b1 b2 q1 q2 e f =
-    let p : b1 ≡ l2 ++ Did (start_at s c b2 q2) ∷ b2 = cc in absurd (did_at s c l2 b1 b2 q2 e p)
-one_start s c (x ∷ l1) [] b1 b2 q1 q2 e f =
-    let p : b2 ≡ l1 ++ Did (start_at s c b1 q1) ∷ b1 = cc in absurd (did_at s c l1 b2 b1 q1 (sym e) p)
+one_start s c [] (y ∷ l2) b1 b2 q1 q2 e f = let p : b1 ≡ l2 ++ Did (start_at s c b2 q2) ∷ b2 = cc in absurd (did_at s c l2 b1 b2 q2 e p)
+one_start s c (x ∷ l1) [] b1 b2 q1 q2 e f = let p : b2 ≡ l1 ++ Did (start_at s c b1 q1) ∷ b1 = cc in absurd (did_at s c l1 b2 b1 q1 (sym e) p)
 one_start s c (x ∷ l1) (y ∷ l2) b1 b2 q1 q2 e f =
     let p : l1 ++ Did (start_at s c b1 q1) ∷ b1 ≡ l2 ++ Did (start_at s c b2 q2) ∷ b2 = cc in one_start s c l1 l2 b1 b2 q1 q2 e p
 
@@ -252,8 +239,7 @@ more_ready : (e : site.Entry) (log : site.Log) (d : Site) (ts c : ℕ) → WasRe
 more_ready e log d ts c h =
     record { later = e ∷ h.later; before = h.before; t = h.t; k = h.k; counts = h.counts; is = ap (λ l. e ∷ l) h.is; ts_is = h.ts_is; class_is = h.class_is }
 
-ready_msg : (ts c : ℕ) (from d : Site) (m : Msg) (log : site.Log) → from ≡ d → is_ready ts c m ≡ true
-    → WasReady (Handed from m ∷ log) d ts c
+ready_msg : (ts c : ℕ) (from d : Site) (m : Msg) (log : site.Log) → from ≡ d → is_ready ts c m ≡ true → WasReady (Handed from m ∷ log) d ts c
 ready_msg ts c from d (Ready t k counts) log p e =
     record { later = []; before = log; t = t; k = k; counts = counts; is = ap (λ x. Handed x (Ready t k counts) ∷ log) p; ts_is = eqb-true t.0 ts (and_left (t.0 == ts) (k.0 == c) e); class_is = eqb-true k.0 c (and_right (t.0 == ts) (k.0 == c) e) }
 ready_msg ts c from d m log p e = cc
@@ -314,8 +300,7 @@ answer_there g c d log a h e w =
 
 -- where the attempt awaits no READY, as at its Commit, there is an Answer of it at each of its modules
 pub answered_all : (g : Given) (c : ℕ) (log : Log) (a : Attempt) (d : DmNo) → IsPermitted g log
-    → active (setting_of g (home g.catalogue c)) c (local_of g (home g.catalogue c) log) ≡ Some a
-    → is_over a.exchange.phase ≡ true
+    → active (setting_of g (home g.catalogue c)) c (local_of g (home g.catalogue c) log) ≡ Some a → is_over a.exchange.phase ≡ true
     → contains (modules_asked (setting_of g (home g.catalogue c)) c a.text) d.0 ≡ true → HasAnswer g log d c a
 answered_all g c log a d h e o p =
     answer_there g c d log a h e

@@ -21,8 +21,7 @@ use Rattle.sdd_log.specs.site_module.SiteLog as site
 in_first : (f : Msg → Bool) (n : ℕ) (ms : List Msg) (i : ℕ) (m : Msg) → tally f (take n ms) ≡ tally f ms → slice_get ms i ≡ Some m
     → f m ≡ true → slice_get (take n ms) i ≡ Some m
 in_first f n [] i m e g h = cc
-in_first f zero (x ∷ ms) zero m e g h =
-    let p : x ≡ m = cc in let q : one_if (f x) ≡ 1 = ap one_if (ap f p ∙ h) in absurd (omega (arith, e, q))
+in_first f zero (x ∷ ms) zero m e g h = let p : x ≡ m = cc in let q : one_if (f x) ≡ 1 = ap one_if (ap f p ∙ h) in absurd (omega (arith, e, q))
 in_first f zero (x ∷ ms) (suc i) m e g h = let r = in_first f zero ms i m (omega (arith, e)) g h in cc
 in_first f (suc n) (x ∷ ms) zero m e g h = g
 in_first f (suc n) (x ∷ ms) (suc i) m e g h = in_first f n ms i m (omega (arith, e)) g h
@@ -33,8 +32,7 @@ end_at [] (suc r) x e = cc
 end_at (y ∷ xs) zero x e = absurd (omega (arith, e))
 end_at (y ∷ xs) (suc r) x e = end_at xs r x (omega (arith, e))
 
-one_length : (o : Option ℕ) (n m : ℕ) (xs : List ℕ) → length xs ≡ m
-    → length (cons_option o xs) ≡ (elim o as (λ _. ℕ) [ None ↦ 0 | Some x ↦ 1 ]) + m
+one_length : (o : Option ℕ) (n m : ℕ) (xs : List ℕ) → length xs ≡ m → length (cons_option o xs) ≡ (elim o as (λ _. ℕ) [ None ↦ 0 | Some x ↦ 1 ]) + m
 one_length None n m xs e = omega (arith, e)
 one_length (Some x) n m xs e = omega (arith, e)
 
@@ -70,16 +68,14 @@ push_is (Ask class time) k = (omega arith, omega arith)
 push_is _ k = (omega arith, omega arith)
 
 pushed_if : (b : Bool) (xs : List Msg) (x m : Msg) (i n k : ℕ) → n ≤ k → push x / 64 ≤ k
-    → ((j : ℕ) → slice_get xs j ≡ Some m → push m / 64 ≤ n) → slice_get (if b then xs ++ x ∷ [] else xs) i ≡ Some m
-    → push m / 64 ≤ k
+    → ((j : ℕ) → slice_get xs j ≡ Some m → push m / 64 ≤ n) → slice_get (if b then xs ++ x ∷ [] else xs) i ≡ Some m → push m / 64 ≤ k
 pushed_if false xs x m i n k up p f e = up_le _ _ _ (f i e) up
 pushed_if true [] x m zero n k up p f e = let q : x ≡ m = cc in subst (λ y. push y / 64 ≤ k) q p
 pushed_if true [] x m (suc i) n k up p f e = cc
 pushed_if true (y ∷ xs) x m zero n k up p f e = up_le _ _ _ (f 0 e) up
 pushed_if true (y ∷ xs) x m (suc i) n k up p f e = pushed_if true xs x m i n k up p (λ j q. f (suc j) q) e
 
-pub has_pushed : (at a : Site) (l : site.Log) (i : ℕ) (m : Msg) → slice_get (hands_from a l) i ≡ Some m
-    → push m / 64 ≤ (clock at l).ticks
+pub has_pushed : (at a : Site) (l : site.Log) (i : ℕ) (m : Msg) → slice_get (hands_from a l) i ≡ Some m → push m / 64 ≤ (clock at l).ticks
 has_pushed at a [] i m e = cc
 has_pushed at a (Handed from x ∷ l) i m e =
     let p = push_is x (clock at l) in
@@ -103,15 +99,13 @@ at_start g k t log q i h =
     let j = r.1 k t i in
     record { started = refl; committed = sym r.0; got = j ∙ ap suc (sym r.0); sent = omega (arith, r.0, j, c.put_held, c.got_hold, c.one_open, c.released, c.committed) }
 
-below_ts : (b s0 u x own ts us : ℕ) → s0 + 1 ≤ b → ts ≡ (s0 + 1) * 64 + own → own ≤ 63 → x ≡ b * 64 + 63 → x / 64 ≤ u
-    → us ≡ (u + 1) * 64 + 0 → ts < us
+below_ts : (b s0 u x own ts us : ℕ) → s0 + 1 ≤ b → ts ≡ (s0 + 1) * 64 + own → own ≤ 63 → x ≡ b * 64 + 63 → x / 64 ≤ u → us ≡ (u + 1) * 64 + 0 → ts < us
 below_ts b s0 u x own ts us l e w p q r = omega arith
 
 low : (g : Given) (k t c j : ℕ) (full later log : Log) (q : Queued) (a : Attempt) (cm : IsCommitT g t c full a) (x : IsHeldAt (local_of g (T (tm_no t)) log) (starts (local_of g U log))) (front : site.Log)
     → slice_get (numbers_to g.catalogue.tms) k ≡ Some t → slice_get (runs (setting_of g (T (tm_no t)))) j ≡ Some c
     → number_of (T (tm_no t)) ≤ 63 → IsPermitted g (Does U (start_u g log q) ∷ log)
-    → local_of g (T (tm_no t)) full ≡ (front ++ x.later) ++ Did (Sends x.to (Held x.time) x.hand) ∷ x.before
-    → (between : site.Log)
+    → local_of g (T (tm_no t)) full ≡ (front ++ x.later) ++ Did (Sends x.to (Held x.time) x.hand) ∷ x.before → (between : site.Log)
     → x.before ≡ between ++ Did (start_at (setting_of g (T (tm_no t))) c cm.start.before cm.start.queued) ∷ cm.start.before
     → IsLow g t c full log a cm (u_stamp g log)
 low g k t c j full later log q a cm x front i run small h e between p =

@@ -14,8 +14,7 @@ use Rattle.sdd_invariants.proofs.Made.{local_at, permitted_before}
 use Rattle.sdd_log.specs.All.{Log}
 use Rattle.sdd_log.specs.site_module.SiteLog as site
 
-pub in_class : (c : ℕ) (ms : List Msg) (k : ℕ) (m : Msg) → slice_get ms k ≡ Some m → goes_through c m ≡ true
-    → (j : ℕ) × (slice_get (class_in c ms) j ≡ Some m)
+pub in_class : (c : ℕ) (ms : List Msg) (k : ℕ) (m : Msg) → slice_get ms k ≡ Some m → goes_through c m ≡ true → (j : ℕ) × (slice_get (class_in c ms) j ≡ Some m)
 in_class c [] k m e f = cc
 in_class c (x ∷ ms) zero m e f = let p : x ≡ m = cc in let q : goes_through c x ≡ true = ap (goes_through c) p ∙ f in (0, rw q e)
 in_class c (x ∷ ms) (suc k) m e f =
@@ -24,22 +23,17 @@ in_class c (x ∷ ms) (suc k) m e f =
 
 -- one message of a kind for each key, where keys rise
 
-gt_key : (f : Msg → Option ℕ) (k : ℕ) (ms : List Msg) (b : ℕ) (y : Msg) (t : ℕ) → AllGt k (filter_map f ms)
-    → slice_get ms b ≡ Some y → f y ≡ Some t → k < t
+gt_key : (f : Msg → Option ℕ) (k : ℕ) (ms : List Msg) (b : ℕ) (y : Msg) (t : ℕ) → AllGt k (filter_map f ms) → slice_get ms b ≡ Some y → f y ≡ Some t → k < t
 gt_key f k [] b y t h e p = cc
-gt_key f k (m ∷ ms) zero y t h e p =
-    let q : m ≡ y = cc in (subst (λ o. AllGt k (cons_option o (filter_map f ms)) → k < t) (sym (ap f q ∙ p)) (λ z. z.0)) h
+gt_key f k (m ∷ ms) zero y t h e p = let q : m ≡ y = cc in (subst (λ o. AllGt k (cons_option o (filter_map f ms)) → k < t) (sym (ap f q ∙ p)) (λ z. z.0)) h
 gt_key f k (m ∷ ms) (suc b) y t h e p =
     elim (f m) as (λ o. AllGt k (cons_option o (filter_map f ms)) → k < t) [ None ↦ λ z. gt_key f k ms b y t z e p | Some u ↦ λ z. gt_key f k ms b y t z.1 e p ] h
 
 strict_tail : (f : Msg → Option ℕ) (m : Msg) (ms : List Msg) → IsStrict (filter_map f (m ∷ ms)) → IsStrict (filter_map f ms)
-strict_tail f m ms h =
-    elim (f m) as (λ o. IsStrict (cons_option o (filter_map f ms)) → IsStrict (filter_map f ms)) [ None ↦ λ z. z | Some u ↦ λ z. z.1 ] h
+strict_tail f m ms h = elim (f m) as (λ o. IsStrict (cons_option o (filter_map f ms)) → IsStrict (filter_map f ms)) [ None ↦ λ z. z | Some u ↦ λ z. z.1 ] h
 
-strict_head : (f : Msg → Option ℕ) (m : Msg) (ms : List Msg) (t : ℕ) → f m ≡ Some t → IsStrict (filter_map f (m ∷ ms))
-    → AllGt t (filter_map f ms)
-strict_head f m ms t e h =
-    (subst (λ o. IsStrict (cons_option o (filter_map f ms)) → AllGt t (filter_map f ms)) (sym e) (λ z. z.0)) h
+strict_head : (f : Msg → Option ℕ) (m : Msg) (ms : List Msg) (t : ℕ) → f m ≡ Some t → IsStrict (filter_map f (m ∷ ms)) → AllGt t (filter_map f ms)
+strict_head f m ms t e h = (subst (λ o. IsStrict (cons_option o (filter_map f ms)) → AllGt t (filter_map f ms)) (sym e) (λ z. z.0)) h
 
 pub one_of_key : (f : Msg → Option ℕ) (ms : List Msg) (a b : ℕ) (x y : Msg) (t : ℕ) → IsStrict (filter_map f ms)
     → slice_get ms a ≡ Some x → slice_get ms b ≡ Some y → f x ≡ Some t → f y ≡ Some t → a ≡ b
@@ -55,15 +49,13 @@ pub key_rises : (f : Msg → Option ℕ) (ms : List Msg) (a b : ℕ) (x y : Msg)
     → slice_get ms a ≡ Some x → slice_get ms b ≡ Some y → f x ≡ Some t → f y ≡ Some u → a < b → t < u
 key_rises f [] a b x y t u h e i p q l = cc
 key_rises f (m ∷ ms) zero zero x y t u h e i p q l = absurd (omega arith)
-key_rises f (m ∷ ms) zero (suc b) x y t u h e i p q l =
-    let s : m ≡ x = cc in gt_key f t ms b y u (strict_head f m ms t (ap f s ∙ p) h) i q
+key_rises f (m ∷ ms) zero (suc b) x y t u h e i p q l = let s : m ≡ x = cc in gt_key f t ms b y u (strict_head f m ms t (ap f s ∙ p) h) i q
 key_rises f (m ∷ ms) (suc a) zero x y t u h e i p q l = absurd (omega arith)
 key_rises f (m ∷ ms) (suc a) (suc b) x y t u h e i p q l = key_rises f ms a b x y t u (strict_tail f m ms h) e i p q (omega arith)
 
 -- what has a key of a class goes through its pipe
 
-same_keys : (c : ℕ) (f : Msg → Option ℕ) (ms : List Msg) → ((m : Msg) → goes_through c m ≡ false → f m ≡ None)
-    → filter_map f (class_in c ms) ≡ filter_map f ms
+same_keys : (c : ℕ) (f : Msg → Option ℕ) (ms : List Msg) → ((m : Msg) → goes_through c m ≡ false → f m ≡ None) → filter_map f (class_in c ms) ≡ filter_map f ms
 same_keys c f [] k = refl
 same_keys c f (x ∷ ms) k = elim (goes_through c x) as (λ b. goes_through c x ≡ b → filter_map f (cond b (x ∷ class_in c ms) (class_in c ms)) ≡ filter_map f (x ∷ ms)) [
   | true ↦ λ e. ap (λ l. cons_option (f x) l) (same_keys c f ms k)
@@ -144,8 +136,7 @@ applied_processed g d j later log a i n xs h small there x =
     (writes_strict g j d (later ++ log) h small) at there (of_write (time_at a.ts) j a.txn x.rec z.0 x.is z.2) (write_own j a.ts n xs) in
     subst (λ y. y < length (pipe j l).processed) k (place_within (pipe j l).processed x.place z.0 z.1)
 
-pub processed_applied : (g : Given) (d : DmNo) (j : ℕ) (later log : Log) (a : Attempt) (i : ℕ) (xs : List Change)
-    → IsPermitted g (later ++ log)
+pub processed_applied : (g : Given) (d : DmNo) (j : ℕ) (later log : Log) (a : Attempt) (i : ℕ) (xs : List Change) → IsPermitted g (later ++ log)
     → slice_get (class_puts g j d (later ++ log)) i ≡ Some (Write (time_at a.ts) (class_no j) (txn_no a.txn) xs)
     → i < length (pipe_at g j d log).processed → IsApplied g log d j a
 processed_applied g d j later log a i xs h there lt =
@@ -163,8 +154,7 @@ pub split_applied : (g : Given) (d : DmNo) (q : Cond) (act : Act) (later log lat
     → IsPermitted g (later ++ Does (D d) act ∷ log) → number_of (home g.catalogue q.class.0) ≤ 63 → 1 ≤ d.0
     → d.0 ≤ g.catalogue.dms → IsAnswerWith g log d q act → q.class.0 ≢ 0
     → later ++ Does (D d) act ∷ log ≡ later2 ++ Does (home g.catalogue q.class.0) (commit_act g.catalogue bases q.class.0 a) ∷ log2
-    → touches q.frags (changes_to g bases a d) ≡ true
-    → (IsApplied g log d q.class.0 a → a.ts < q.time.0) × (a.ts < q.time.0 → IsApplied g log d q.class.0 a)
+    → touches q.frags (changes_to g bases a d) ≡ true → (IsApplied g log d q.class.0 a → a.ts < q.time.0) × (a.ts < q.time.0 → IsApplied g log d q.class.0 a)
 split_applied g d q act later log later2 log2 bases a h small lo hi r declared same t =
     let j : ℕ = q.class.0 in
     let xs : List Change = changes_to g bases a d in

@@ -7,11 +7,9 @@ no_class = record { class = 0; pipe = empty_pipe; waits = false; applied = []; f
 
 -- the view of a class is that of the log, or of no class
 pub class_in_view : (s : Setting) (log : Log) (c : ℕ) → IsClassHere s c → at_class (view_of s log) c ≡ class_view s log c
-class_in_view s log c h =
-    get_or-map-range_with_len (class_view s log) 0 (suc (length s.catalogue.classes)) c c no_class h (omega arith)
+class_in_view s log c h = get_or-map-range_with_len (class_view s log) 0 (suc (length s.catalogue.classes)) c c no_class h (omega arith)
 
-pub class_not_in_view : (s : Setting) (log : Log) (c : ℕ) → suc (length s.catalogue.classes) ≤ c
-    → at_class (view_of s log) c ≡ no_class
+pub class_not_in_view : (s : Setting) (log : Log) (c : ℕ) → suc (length s.catalogue.classes) ≤ c → at_class (view_of s log) c ≡ no_class
 class_not_in_view s log c h =
     let l : length (map (class_view s log) (classes_of s)) ≡ suc (length s.catalogue.classes) = length-map-range_with_len (class_view s log) 0
     (suc (length s.catalogue.classes)) in
@@ -28,16 +26,14 @@ class_at_place s log n k e =
 step_is : (s : Setting) (log : Log) (x a : Act) → IsReadStep s log x → Some x ≡ Some a → IsReadStep s log a
 step_is s log x a h e = let p : x ≡ a = cc in subst (IsReadStep s log) p h
 
-open_step : (s : Setting) (log : Log) (h : Home) (k : ClassView) (o : Open) (m : Msg) (a : Act) → answer_to h k o m ≡ Some a
-    → IsReadStep s log a
+open_step : (s : Setting) (log : Log) (h : Home) (k : ClassView) (o : Open) (m : Msg) (a : Act) → answer_to h k o m ≡ Some a → IsReadStep s log a
 open_step s log h k o (Read ts class txn attempt conds uses) a e = step_is s log _ a (in_passing refl) e
 open_step s log h k o (Fetch ts class u col) a e = step_is s log _ a (in_passing refl) e
 open_step s log h k o (Reduce ts class u col vs) a e = step_is s log _ a (in_passing refl) e
 open_step s log h k o (Ship ts class) a e = step_is s log _ a (in_passing refl) e
 open_step s log h k o _ a e = cc
 
-asked_step : (s : Setting) (log : Log) (h : Home) (k : ClassView) (o : Option Open) (a : Act) → answer_of h k o ≡ Some a
-    → IsReadStep s log a
+asked_step : (s : Setting) (log : Log) (h : Home) (k : ClassView) (o : Option Open) (a : Act) → answer_of h k o ≡ Some a → IsReadStep s log a
 asked_step s log h k None a e = cc
 asked_step s log h k (Some o) a e = open_step s log h k o o.msg a e
 
@@ -45,8 +41,7 @@ asked_step s log h k (Some o) a e = open_step s log h k o o.msg a e
 judged_step : (s : Setting) (log : Log) (c : ℕ) (ts : Ts) (class : ClassNo) (txn : TxnNo) (attempt : ℕ) (conds : List Cond) (uses : List Use) (lacking : List Cond) (by : Option Cond) (a : Act)
     → IsClassHere s c → waits c log ≡ false → head (pipe c log) ≡ Some (Read ts class txn attempt conds uses)
     → (lacking ≡ [] → list_all (is_met (view_of s log)) conds ≡ true) → spoiler (view_of s log) conds ≡ by
-    → Some (act_by (home_of s) (view_of s log) c (Read ts class txn attempt conds uses) (judged (view_of s log) lacking by)) ≡ Some a
-    → IsReadStep s log a
+    → Some (act_by (home_of s) (view_of s log) c (Read ts class txn attempt conds uses) (judged (view_of s log) lacking by)) ≡ Some a → IsReadStep s log a
 judged_step s log c ts class txn attempt conds uses lacking (Some d) a l w h f b e =
     step_is s log _ a (by_record c (Read ts class txn attempt conds uses) _ _ l refl h (refl, refl, w, d, b, refl, refl) refl) e
 judged_step s log c ts class txn attempt conds uses [] None a l w h f b e =
@@ -57,32 +52,23 @@ judged_step s log c ts class txn attempt conds uses (d ∷ ds) None a l w h f b 
 
 write_step : (s : Setting) (log : Log) (c : ℕ) (ts : Ts) (class : ClassNo) (txn : TxnNo) (changes : List Change) (held : Bool) (a : Act)
     → IsClassHere s c → head (pipe c log) ≡ Some (Write ts class txn changes) → is_held (view_of s log) c ts.0 changes ≡ held
-    → act_where (home_of s) (view_of s log) c (Some (Write ts class txn changes)) (if held then None else Some Processes) ≡ Some a
-    → IsReadStep s log a
+    → act_where (home_of s) (view_of s log) c (Some (Write ts class txn changes)) (if held then None else Some Processes) ≡ Some a → IsReadStep s log a
 write_step s log c ts class txn changes true a l h p e = cc
-write_step s log c ts class txn changes false a l h p e =
-    step_is s log _ a (by_record c (Write ts class txn changes) _ _ l refl h (refl, refl, refl, p) refl) e
+write_step s log c ts class txn changes false a l h p e = step_is s log _ a (by_record c (Write ts class txn changes) _ _ l refl h (refl, refl, refl, p) refl) e
 
 waited_step : (s : Setting) (log : Log) (c : ℕ) (ts : Ts) (class : ClassNo) (txn : TxnNo) (attempt : ℕ) (conds : List Cond) (uses : List Use) (met : Bool) (a : Act)
-    → IsClassHere s c → waits c log ≡ true → head (pipe c log) ≡ Some (Read ts class txn attempt conds uses)
-    → list_all (is_met (view_of s log)) conds ≡ met
-    → act_where (home_of s) (view_of s log) c (Some (Read ts class txn attempt conds uses)) (if met then Some Processes else None) ≡ Some a
-    → IsReadStep s log a
+    → IsClassHere s c → waits c log ≡ true → head (pipe c log) ≡ Some (Read ts class txn attempt conds uses) → list_all (is_met (view_of s log)) conds ≡ met
+    → act_where (home_of s) (view_of s log) c (Some (Read ts class txn attempt conds uses)) (if met then Some Processes else None) ≡ Some a → IsReadStep s log a
 waited_step s log c ts class txn attempt conds uses true a l w h p e =
     step_is s log _ a (by_record c (Read ts class txn attempt conds uses) _ _ l refl h (refl, refl, p, inl w) refl) e
 waited_step s log c ts class txn attempt conds uses false a l w h p e = cc
 
-head_step : (s : Setting) (log : Log) (c : ℕ) (b : Bool) (m : Msg) (a : Act) → IsClassHere s c → waits c log ≡ b
-    → head (pipe c log) ≡ Some m
+head_step : (s : Setting) (log : Log) (c : ℕ) (b : Bool) (m : Msg) (a : Act) → IsClassHere s c → waits c log ≡ b → head (pipe c log) ≡ Some m
     → act_where (home_of s) (view_of s log) c (Some m) (step_on (view_of s log) c b (Some m)) ≡ Some a → IsReadStep s log a
-head_step s log c true (Null class time) a l w h e =
-    step_is s log _ a (by_record c (Null class time) _ _ l refl h (refl, refl) refl) e
-head_step s log c false (Null class time) a l w h e =
-    step_is s log _ a (by_record c (Null class time) _ _ l refl h (refl, refl) refl) e
-head_step s log c true (Write ts class txn changes) a l w h e =
-    write_step s log c ts class txn changes (is_held (view_of s log) c ts.0 changes) a l h refl e
-head_step s log c false (Write ts class txn changes) a l w h e =
-    write_step s log c ts class txn changes (is_held (view_of s log) c ts.0 changes) a l h refl e
+head_step s log c true (Null class time) a l w h e = step_is s log _ a (by_record c (Null class time) _ _ l refl h (refl, refl) refl) e
+head_step s log c false (Null class time) a l w h e = step_is s log _ a (by_record c (Null class time) _ _ l refl h (refl, refl) refl) e
+head_step s log c true (Write ts class txn changes) a l w h e = write_step s log c ts class txn changes (is_held (view_of s log) c ts.0 changes) a l h refl e
+head_step s log c false (Write ts class txn changes) a l w h e = write_step s log c ts class txn changes (is_held (view_of s log) c ts.0 changes) a l h refl e
 head_step s log c true (Read ts class txn attempt conds uses) a l w h e =
     waited_step s log c ts class txn attempt conds uses (list_all (is_met (view_of s log)) conds) a l w h refl e
 head_step s log c false (Read ts class txn attempt conds uses) a l w h e =
@@ -95,8 +81,7 @@ at_head s log c None a l h e = cc
 at_head s log c (Some m) a l h e = head_step s log c (waits c log) m a l refl h e
 
 pub d_step : (s : Setting) (log : Log) (a : Act) → IsDue (home_of s) (view_of s log) a → IsReadStep s log a
-d_step s log a (by_open n k p e) =
-    asked_step s log (home_of s) k (head_of (filter (is_asked_of k.class) (view_of s log).opens)) a e
+d_step s log a (by_open n k p e) = asked_step s log (home_of s) k (head_of (filter (is_asked_of k.class) (view_of s log).opens)) a e
 d_step s log a (by_head n k p e) =
     let r = class_at_place s log n k p in
     at_head s log r.0 (head (pipe r.0 log)) a r.1 refl (subst (λ x. head_due (home_of s) (view_of s log) x ≡ Some a) (sym r.2) e)

@@ -9,8 +9,7 @@ use Rattle.sdd_log.specs.umod.Due as um
 use Rattle.sdd_log.specs.umod.Views as um_views
 
 -- the classes that a transaction module runs are those whose home it is
-home_of_run : (s : Setting) (t : TmNo) (k c : ℕ) → s.site ≡ T t → slice_get (tm_views.runs s) k ≡ Some c
-    → home s.catalogue c ≡ s.site
+home_of_run : (s : Setting) (t : TmNo) (k c : ℕ) → s.site ≡ T t → slice_get (tm_views.runs s) k ≡ Some c → home s.catalogue c ≡ s.site
 home_of_run s t k c at e =
     let i = in_filtered (λ c. (class_at s.catalogue c).tm.0 == number_of s.site) (numbers_to (length s.catalogue.classes)) k c e in
     let n : (class_at s.catalogue c).tm.0 ≡ number_of s.site = eqb-true _ _ i.0 in
@@ -18,23 +17,19 @@ home_of_run s t k c at e =
     rw (z, n, at) refl
 
 class_of_view : (s : Setting) (t : TmNo) (log : Log) (k : ℕ) (c : tm_views.ClassView) → s.site ≡ T t
-    → slice_get (map (tm_views.class_view s log) (tm_views.runs s)) k ≡ Some c
-    → (n : ℕ) × (home s.catalogue n ≡ s.site) × (tm_views.class_view s log n ≡ c)
-class_of_view s t log k c at e =
-    let r = in_mapped (tm_views.class_view s log) (tm_views.runs s) k c e in (r.0, home_of_run s t k r.0 at r.1, r.2)
+    → slice_get (map (tm_views.class_view s log) (tm_views.runs s)) k ≡ Some c → (n : ℕ) × (home s.catalogue n ≡ s.site) × (tm_views.class_view s log n ≡ c)
+class_of_view s t log k c at e = let r = in_mapped (tm_views.class_view s log) (tm_views.runs s) k c e in (r.0, home_of_run s t k r.0 at r.1, r.2)
 
 -- the attempt's next send, or its Commit
 
 over_step : (s : Setting) (log : Log) (bases : Bases) (c : ℕ) (a : Attempt) (b : Bool) (act : Act) → home s.catalogue c ≡ s.site
-    → active s c log ≡ Some a → is_over a.exchange.phase ≡ b
-    → (if b then Some (commit_act s.catalogue bases c a) else None) ≡ Some act → IsStep s log act
+    → active s c log ≡ Some a → is_over a.exchange.phase ≡ b → (if b then Some (commit_act s.catalogue bases c a) else None) ≡ Some act → IsStep s log act
 over_step s log bases c a true act at i o e = let r : act ≡ commit_act s.catalogue bases c a = cc in by_commit c bases a at i o r
 over_step s log bases c a false act at i o e = cc
 
 send_step : (s : Setting) (log : Log) (bases : Bases) (c : ℕ) (a : Attempt) (ms : List (ℕ × Msg)) (act : Act)
     → home s.catalogue c ≡ s.site → active s c log ≡ Some a → a.exchange.to_send ≡ ms
-    → or_else (first_send ms) (if is_over a.exchange.phase then Some (commit_act s.catalogue bases c a) else None) ≡ Some act
-    → IsStep s log act
+    → or_else (first_send ms) (if is_over a.exchange.phase then Some (commit_act s.catalogue bases c a) else None) ≡ Some act → IsStep s log act
 send_step s log bases c a [] act at i p e = over_step s log bases c a (is_over a.exchange.phase) act at i refl e
 send_step s log bases c a (m ∷ rest) act at i p e =
     let r : act ≡ Sends (D (dm_no m.0)) m.1 None = cc in
@@ -54,8 +49,7 @@ null_at_time s log q t act at i e =
     by_send q.from (Null (class_no q.class) (time_at t)) (Some q.hand) (a_null q.class at (ap (λ x. Null (class_no q.class) (time_at x)) i)) r
 
 null_if : (s : Setting) (log : Log) (q : tm_views.Question) (a : Attempt) (b : Bool) (act : Act)
-    → home s.catalogue q.class ≡ s.site → active s q.class log ≡ Some a → tm.null_at q (if b then Some a.ts else None) ≡ Some act
-    → IsStep s log act
+    → home s.catalogue q.class ≡ s.site → active s q.class log ≡ Some a → tm.null_at q (if b then Some a.ts else None) ≡ Some act → IsStep s log act
 null_if s log q a true act at i e = null_at_time s log q a.ts act at (ap (limit_of (bound s log)) (sym i)) e
 null_if s log q a false act at i e = cc
 
@@ -64,10 +58,8 @@ null_step : (s : Setting) (log : Log) (q : tm_views.Question) (o : Option Attemp
 null_step s log q None act at i e = null_at_time s log q (bound s log) act at (ap (limit_of (bound s log)) (sym i)) e
 null_step s log q (Some a) act at i e = null_if s log q a (nat_le q.time a.ts) act at i e
 
-asked_step : (s : Setting) (log : Log) (n : ℕ) (q : tm_views.Question) (b : Bool) (act : Act) → (q.class == n) ≡ b
-    → home s.catalogue n ≡ s.site
-    → (if b then tm.null_at q (tm.null_time (tm_views.view_of s log) (active s n log) q.time) else None) ≡ Some act
-    → IsStep s log act
+asked_step : (s : Setting) (log : Log) (n : ℕ) (q : tm_views.Question) (b : Bool) (act : Act) → (q.class == n) ≡ b → home s.catalogue n ≡ s.site
+    → (if b then tm.null_at q (tm.null_time (tm_views.view_of s log) (active s n log) q.time) else None) ≡ Some act → IsStep s log act
 asked_step s log n q true act p at e =
     let c : q.class ≡ n = eqb-true q.class n p in
     null_step s log q (active s n log) act (ap (home s.catalogue) c ∙ at) (ap (λ k. active s k log) c) e
@@ -81,15 +73,12 @@ held_if s log true hand act e =
 held_if s log false hand act e = cc
 
 start_of_head : (s : Setting) (log : Log) (c : ℕ) (o : Option Queued) (act : Act) → home s.catalogue c ≡ s.site
-    → active s c log ≡ None → head_of (queue s c log) ≡ o → tm.start_of s.catalogue (tm_views.view_of s log) c o ≡ Some act
-    → IsStep s log act
+    → active s c log ≡ None → head_of (queue s c log) ≡ o → tm.start_of s.catalogue (tm_views.view_of s log) c o ≡ Some act → IsStep s log act
 start_of_head s log c None act at i p e = cc
 start_of_head s log c (Some q) act at i p e = let r : act ≡ start_at s c log q = cc in by_start c q at i p r
 
-start_if : (s : Setting) (log : Log) (c : ℕ) (b : Bool) (o : Option Attempt) (act : Act) → home s.catalogue c ≡ s.site
-    → active s c log ≡ o
-    → (if b && is_none o then tm.start_of s.catalogue (tm_views.view_of s log) c (head_of (queue s c log)) else None) ≡ Some act
-    → IsStep s log act
+start_if : (s : Setting) (log : Log) (c : ℕ) (b : Bool) (o : Option Attempt) (act : Act) → home s.catalogue c ≡ s.site → active s c log ≡ o
+    → (if b && is_none o then tm.start_of s.catalogue (tm_views.view_of s log) c (head_of (queue s c log)) else None) ≡ Some act → IsStep s log act
 start_if s log c true None act at i e = start_of_head s log c (head_of (queue s c log)) act at i refl e
 start_if s log c _ _ act at i e = cc
 
@@ -109,8 +98,7 @@ t_step s t bases log act at (tm.by_start k c p e) =
 
 -- U: there a Start is due where the queue's head has none, so class 0 is idle
 
-pub idle_of : (o : Option Attempt) (qs : List Queued) (q : Queued) → IsServed o qs → head_of qs ≡ Some q → (q.tries == 0) ≡ true
-    → o ≡ None
+pub idle_of : (o : Option Attempt) (qs : List Queued) (q : Queued) → IsServed o qs → head_of qs ≡ Some q → (q.tries == 0) ≡ true → o ≡ None
 idle_of None qs q h e z = refl
 idle_of (Some a) [] q h e z = absurd h
 idle_of (Some a) (x ∷ qs) q h e z =
@@ -123,29 +111,24 @@ idle_of (Some a) (x ∷ qs) q h e z =
 u_start_if : (s : Setting) (log : Log) (q : Queued) (z b : Bool) (act : Act) → home s.catalogue 0 ≡ s.site
     → IsServed (active s 0 log) (queue s 0 log) → head_of (queue s 0 log) ≡ Some q → (q.tries == 0) ≡ z
     → (if z && b then Some (start_at s 0 log q) else None) ≡ Some act → IsStep s log act
-u_start_if s log q true true act at i p z e =
-    let r : act ≡ start_at s 0 log q = cc in by_start 0 q at (idle_of (active s 0 log) (queue s 0 log) q i p z) p r
+u_start_if s log q true true act at i p z e = let r : act ≡ start_at s 0 log q = cc in by_start 0 q at (idle_of (active s 0 log) (queue s 0 log) q i p z) p r
 u_start_if s log q _ _ act at i p z e = cc
 
 u_start : (s : Setting) (log : Log) (o : Option Queued) (act : Act) → home s.catalogue 0 ≡ s.site
-    → IsServed (active s 0 log) (queue s 0 log) → head_of (queue s 0 log) ≡ o
-    → um.start_of s.catalogue (um_views.view_of s log) o ≡ Some act → IsStep s log act
+    → IsServed (active s 0 log) (queue s 0 log) → head_of (queue s 0 log) ≡ o → um.start_of s.catalogue (um_views.view_of s log) o ≡ Some act → IsStep s log act
 u_start s log None act at i p e = cc
 u_start s log (Some q) act at i p e = u_start_if s log q (q.tries == 0) _ act at i p refl e
 
 release_if : (s : Setting) (log : Log) (b : Bool) (to : Site) (ts : Ts) (act : Act)
     → (if b then Some (Sends to (Release ts) None) else None) ≡ Some act → IsStep s log act
-release_if s log true to ts act e =
-    let r : act ≡ Sends to (Release ts) None = cc in by_send to (Release ts) None (a_release ts refl) r
+release_if s log true to ts act e = let r : act ≡ Sends to (Release ts) None = cc in by_send to (Release ts) None (a_release ts refl) r
 release_if s log false to ts act e = cc
 
-hold_if : (s : Setting) (log : Log) (b : Bool) (to : Site) (act : Act)
-    → (if b then Some (Sends to Hold None) else None) ≡ Some act → IsStep s log act
+hold_if : (s : Setting) (log : Log) (b : Bool) (to : Site) (act : Act) → (if b then Some (Sends to Hold None) else None) ≡ Some act → IsStep s log act
 hold_if s log true to act e = let r : act ≡ Sends to Hold None = cc in by_send to Hold None (a_hold refl) r
 hold_if s log false to act e = cc
 
-hold_of : (s : Setting) (log : Log) (k : um_views.TmCounts) (o : Option Queued) (act : Act) → um.hold_to k o ≡ Some act
-    → IsStep s log act
+hold_of : (s : Setting) (log : Log) (k : um_views.TmCounts) (o : Option Queued) (act : Act) → um.hold_to k o ≡ Some act → IsStep s log act
 hold_of s log k None act e = cc
 hold_of s log k (Some q) act e = hold_if s log _ _ act e
 

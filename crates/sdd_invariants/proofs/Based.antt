@@ -6,20 +6,16 @@ use Rattle.sdd_log.specs.tm.Views as tm_views
 use Rattle.sdd_log.specs.umod.Due as um
 use Rattle.sdd_log.specs.umod.Views as um_views
 
-based_is : (s : Setting) (bases : Bases) (log : site.Log) (x a : Act) → IsBased s bases log x → Some x ≡ Some a
-    → IsBased s bases log a
+based_is : (s : Setting) (bases : Bases) (log : site.Log) (x a : Act) → IsBased s bases log x → Some x ≡ Some a → IsBased s bases log a
 based_is s bases log x a h e = let p : x ≡ a = cc in subst (IsBased s bases log) p h
 
 over_based : (s : Setting) (bases : Bases) (log : site.Log) (c : ℕ) (a : Attempt) (b : Bool) (act : Act) → active s c log ≡ Some a
     → (if b then Some (commit_act s.catalogue bases c a) else None) ≡ Some act → IsBased s bases log act
-over_based s bases log c a true act i e =
-    based_is s bases log (commit_act s.catalogue bases c a) act (a, i, refl, refl, refl, refl) e
+over_based s bases log c a true act i e = based_is s bases log (commit_act s.catalogue bases c a) act (a, i, refl, refl, refl, refl) e
 over_based s bases log c a false act i e = cc
 
-send_based : (s : Setting) (bases : Bases) (log : site.Log) (c : ℕ) (a : Attempt) (ms : List (ℕ × Msg)) (act : Act)
-    → active s c log ≡ Some a
-    → or_else (first_send ms) (if is_over a.exchange.phase then Some (commit_act s.catalogue bases c a) else None) ≡ Some act
-    → IsBased s bases log act
+send_based : (s : Setting) (bases : Bases) (log : site.Log) (c : ℕ) (a : Attempt) (ms : List (ℕ × Msg)) (act : Act) → active s c log ≡ Some a
+    → or_else (first_send ms) (if is_over a.exchange.phase then Some (commit_act s.catalogue bases c a) else None) ≡ Some act → IsBased s bases log act
 send_based s bases log c a [] act i e = over_based s bases log c a (is_over a.exchange.phase) act i e
 send_based s bases log c a (m ∷ rest) act i e = based_is s bases log (Sends (D (dm_no m.0)) m.1 None) act tt e
 
@@ -30,8 +26,7 @@ attempt_based s bases log c (Some a) act i e = send_based s bases log c a a.exch
 
 null_based : (s : Setting) (bases : Bases) (log : site.Log) (q : tm_views.Question) (b : Bool) (o : Option ℕ) (act : Act)
     → (if b then tm.null_at q o else None) ≡ Some act → IsBased s bases log act
-null_based s bases log q true (Some t) act e =
-    based_is s bases log (Sends q.from (Null (class_no q.class) (time_at t)) (Some q.hand)) act tt e
+null_based s bases log q true (Some t) act e = based_is s bases log (Sends q.from (Null (class_no q.class) (time_at t)) (Some q.hand)) act tt e
 null_based s bases log q _ _ act e = cc
 
 held_based : (s : Setting) (bases : Bases) (log : site.Log) (b : Bool) (t : Ts) (hand : Option ℕ) (act : Act)
@@ -44,8 +39,7 @@ start_based : (s : Setting) (bases : Bases) (log : site.Log) (b : Bool) (v : tm_
 start_based s bases log true v c (Some q) act e = based_is s bases log (start_act s.catalogue v.force.table c v.clock q) act tt e
 start_based s bases log _ v c _ act e = cc
 
-pub t_based : (s : Setting) (bases : Bases) (log : site.Log) (act : Act) → tm.IsDue s.catalogue bases (tm_views.view_of s log) act
-    → IsBased s bases log act
+pub t_based : (s : Setting) (bases : Bases) (log : site.Log) (act : Act) → tm.IsDue s.catalogue bases (tm_views.view_of s log) act → IsBased s bases log act
 t_based s bases log act (tm.by_exchange k c p e) =
     let r = in_mapped (tm_views.class_view s log) (tm_views.runs s) k c p in
     attempt_based s bases log r.0 (active s r.0 log) act refl (subst (λ v. tm.exchange_due s.catalogue bases v ≡ Some act) (sym r.2) e)
@@ -79,8 +73,7 @@ hold_based : (s : Setting) (bases : Bases) (log : site.Log) (k : um_views.TmCoun
 hold_based s bases log k None act e = cc
 hold_based s bases log k (Some q) act e = hold_if s bases log _ _ act e
 
-pub u_based : (s : Setting) (bases : Bases) (log : site.Log) (act : Act) → um.IsDue s.catalogue bases (um_views.view_of s log) act
-    → IsBased s bases log act
+pub u_based : (s : Setting) (bases : Bases) (log : site.Log) (act : Act) → um.IsDue s.catalogue bases (um_views.view_of s log) act → IsBased s bases log act
 u_based s bases log act (um.by_exchange e) = attempt_based s bases log 0 (active s 0 log) act refl e
 u_based s bases log act (um.by_release t k p e) = release_based s bases log _ _ _ act e
 u_based s bases log act (um.by_start e) = u_start_based s bases log (um_views.view_of s log) (head_of (queue s 0 log)) act e

@@ -39,8 +39,7 @@ not_both false e f = cc
 
 -- of two numbers
 pub same_or_not : (k c : ℕ) → (k ≡ c) ⊎ ((k == c) ≡ false)
-same_or_not k c =
-    elim (k == c) as (λ b. (k == c) ≡ b → (k ≡ c) ⊎ (b ≡ false)) [ true ↦ λ e. inl (eqb-true k c e) | false ↦ λ e. inr refl ] refl
+same_or_not k c = elim (k == c) as (λ b. (k == c) ≡ b → (k ≡ c) ⊎ (b ≡ false)) [ true ↦ λ e. inl (eqb-true k c e) | false ↦ λ e. inr refl ] refl
 
 pub same_number : (c : ℕ) → (c == c) ≡ true
 same_number c = eq-eqb c c refl

@@ -16,8 +16,7 @@ rising_at : (ms : List Msg) (a b : ℕ) (x y : Msg) → IsRising (map time_of ms
     → a ≤ b → time_of x ≤ time_of y
 rising_at [] a b x y h e f l = cc
 rising_at (m ∷ ms) zero zero x y h e f l = let p : x ≡ y = cc in subst (λ z. time_of x ≤ time_of z) p (omega arith)
-rising_at (m ∷ ms) zero (suc b) x y h e f l =
-    let p : m ≡ x = cc in ge_at (time_of x) ms b y (subst (λ z. AllGe (time_of z) (map time_of ms)) p h.0) f
+rising_at (m ∷ ms) zero (suc b) x y h e f l = let p : m ≡ x = cc in ge_at (time_of x) ms b y (subst (λ z. AllGe (time_of z) (map time_of ms)) p h.0) f
 rising_at (m ∷ ms) (suc a) zero x y h e f l = absurd (omega arith)
 rising_at (m ∷ ms) (suc a) (suc b) x y h e f l = rising_at ms a b x y h.1 e f (omega arith)
 
@@ -38,16 +37,13 @@ class_rises g c d log h small =
 pub in_class_order : (g : Given) (c : ℕ) (d : DmNo) (log : Log) (a b : ℕ) (x y : Msg) → IsPermitted g log
     → number_of (home g.catalogue c) ≤ 63 → slice_get (class_puts g c d log) a ≡ Some x
     → slice_get (class_puts g c d log) b ≡ Some y → time_of x < time_of y → a < b
-in_class_order g c d log a b x y h small e f l =
-    earlier (class_puts g c d log) a b (time_of y) x y (class_rises g c d log h small) e f l (omega arith)
+in_class_order g c d log a b x y h small e f l = earlier (class_puts g c d log) a b (time_of y) x y (class_rises g c d log h small) e f l (omega arith)
 
 -- none is left out: where a message is processed, so is each of its class with a smaller time that is ever put
 pub none_left_out : (g : Given) (c : ℕ) (d : DmNo) (later log : Log) (a b : ℕ) (x y : Msg) → IsPermitted g (later ++ log)
-    → number_of (home g.catalogue c) ≤ 63 → slice_get (class_puts g c d (later ++ log)) a ≡ Some x
-    → slice_get (class_puts g c d (later ++ log)) b ≡ Some y
+    → number_of (home g.catalogue c) ≤ 63 → slice_get (class_puts g c d (later ++ log)) a ≡ Some x → slice_get (class_puts g c d (later ++ log)) b ≡ Some y
     → time_of x < time_of y → b < length (pipe_at g c d log).processed → a < length (pipe_at g c d log).processed
-none_left_out g c d later log a b x y h small e f l p =
-    let i = in_class_order g c d (later ++ log) a b x y h small e f l in omega arith
+none_left_out g c d later log a b x y h small e f l p = let i = in_class_order g c d (later ++ log) a b x y h small e f l in omega arith
 
 head_at : (ps qs more : List Msg) (m : Msg) → head_of qs ≡ Some m → slice_get ((ps ++ qs) ++ more) (length ps) ≡ Some m
 head_at ps [] more m e = cc
@@ -56,8 +52,7 @@ head_at ps (x ∷ qs) more m e =
     in_left (ps ++ x ∷ qs) more (length ps) m (subst (λ y. slice_get (ps ++ x ∷ qs) (length ps) ≡ Some y) p (at_seam ps qs x))
 
 -- the head of a pipe stands behind the processed ones, in every later log
-pub head_place : (g : Given) (c : ℕ) (d : DmNo) (later log : Log) (m : Msg) → IsPermitted g log
-    → head (pipe_at g c d log) ≡ Some m
+pub head_place : (g : Given) (c : ℕ) (d : DmNo) (later log : Log) (m : Msg) → IsPermitted g log → head (pipe_at g c d log) ≡ Some m
     → slice_get (class_puts g c d (later ++ log)) (length (pipe_at g c d log).processed) ≡ Some m
 head_place g c d later log m h e =
     let i = in_pipe_later g c d later log h in
@@ -66,8 +61,7 @@ head_place g c d later log m h e =
 
 -- at a head: of its class the messages with smaller times are processed, those with greater ones are not
 pub around_head : (g : Given) (c : ℕ) (d : DmNo) (later log : Log) (a : ℕ) (x m : Msg) → IsPermitted g (later ++ log)
-    → number_of (home g.catalogue c) ≤ 63 → head (pipe_at g c d log) ≡ Some m
-    → slice_get (class_puts g c d (later ++ log)) a ≡ Some x
+    → number_of (home g.catalogue c) ≤ 63 → head (pipe_at g c d log) ≡ Some m → slice_get (class_puts g c d (later ++ log)) a ≡ Some x
     → (time_of x < time_of m → a < length (pipe_at g c d log).processed) × (time_of m < time_of x → length (pipe_at g c d log).processed < a)
 around_head g c d later log a x m h small e f =
     let at = head_place g c d later log m (permitted_before g later log h) e in (

@@ -1,5 +1,5 @@
 -- Starts draw timestamps that rise and lie above all that was promised before.
-use Rattle.sdd_invariants.proofs.All.{Act, AllLe, AllOf, Ask, Attempt, Bool, Did, Each, Entry, Fetch, Handed, Held, IsClocked, IsFair, IsSend, IsStep, List, Log, Msg, None, Null, Option, Queued, Records, Redeclared, Reduce, Reject, Release, Sends, Setting, Ship, Site, Some, Start, Submits, Ticked, Ticking, [], a_held, a_hold, a_null, a_release, active, arith, asks_rows, bound, clock, false, head_of, if◌then◌else◌, last_stamp, limit, limit_of, next_stamp, number_of, of_exchange, promise_of, promises, pushed_by, queue, refl, sends_of_act, slice_get, stamp_or, stamps, start_at, started, subst, suc, sym, ticked_by, time_at, time_if_some, true, zero, ℕ, ◌*◌, ◌++◌, ◌+◌, ◌<◌, ◌==◌, ◌∙◌, ◌∷◌, ◌≡◌, ◌≢◌, ◌≤◌}
+use Rattle.sdd_invariants.proofs.All.{Act, AllLe, AllOf, Ask, Attempt, Bool, Did, Each, Entry, Fetch, Handed, IsClocked, IsFair, IsSend, IsStep, List, Log, Msg, None, Option, Queued, Records, Redeclared, Reduce, Sends, Setting, Ship, Site, Some, Start, Submits, Ticked, Ticking, [], a_held, a_hold, a_null, a_release, active, arith, asks_rows, bound, clock, false, head_of, if◌then◌else◌, last_stamp, limit, limit_of, next_stamp, number_of, of_exchange, promise_of, promises, pushed_by, queue, refl, sends_of_act, slice_get, stamp_or, stamps, start_at, started, subst, suc, sym, ticked_by, time_at, time_if_some, true, zero, ℕ, ◌*◌, ◌++◌, ◌+◌, ◌<◌, ◌==◌, ◌∙◌, ◌∷◌, ◌≡◌, ◌≢◌, ◌≤◌}
 use Rattle.sdd_invariants.proofs.Active.{handed_way, sent_way, step_way}
 use Rattle.sdd_invariants.proofs.Bools.{if_way}
 use Rattle.sdd_invariants.proofs.Lists.{le_join, le_up, lt_above}
@@ -44,8 +44,7 @@ pub bound_grows : (s : Setting) (later log : Log) → bound s log ≤ bound s (l
 bound_grows s later log = let r = clock_grows s.site later log in omega arith
 
 pub stamp_rises : (s : Setting) (e : Entry) (log : Log) → last_stamp s log ≤ last_stamp s (e ∷ log)
-stamp_rises s e log =
-    let r = clock_rises s.site e log in let n = clock_number s.site log in let m = clock_number s.site (e ∷ log) in omega arith
+stamp_rises s e log = let r = clock_rises s.site e log in let n = clock_number s.site log in let m = clock_number s.site (e ∷ log) in omega arith
 
 pub stamp_below_bound : (s : Setting) (log : Log) → number_of s.site ≤ 63 → last_stamp s log ≤ bound s log
 stamp_below_bound s log w = let n = clock_number s.site log in omega arith
@@ -57,21 +56,18 @@ pub stamp_below_next : (s : Setting) (log : Log) → last_stamp s log < next_sta
 stamp_below_next s log = omega arith
 
 -- a Start draws what the clock then stands at
-pub next_is_last : (s : Setting) (c : ℕ) (log : Log) (q : Queued)
-    → last_stamp s (Did (start_at s c log q) ∷ log) ≡ next_stamp s log
+pub next_is_last : (s : Setting) (c : ℕ) (log : Log) (q : Queued) → last_stamp s (Did (start_at s c log q) ∷ log) ≡ next_stamp s log
 next_is_last s c log q = refl
 
 -- a clock that rises, and no new time
-clock_on : (s : Setting) (log : Log) (e : Entry) → stamps (e ∷ log) ≡ stamps log → promises (e ∷ log) ≡ promises log
-    → IsClocked s log → IsClocked s (e ∷ log)
+clock_on : (s : Setting) (log : Log) (e : Entry) → stamps (e ∷ log) ≡ stamps log → promises (e ∷ log) ≡ promises log → IsClocked s log → IsClocked s (e ∷ log)
 clock_on s log e p q h = record {
   drawn_le = rw p (le_up (last_stamp s log) (last_stamp s (e ∷ log)) (stamps log) (stamp_rises s e log) h.drawn_le);
   falls = rw p h.falls;
   promised_le = rw q (le_up (bound s log) (bound s (e ∷ log)) (promises log) (bound_rises s e log) h.promised_le);
 }
 
-one_time : (b : Bool) (k t : ℕ) (xs : List ℕ) → t ≤ k → AllLe k xs
-    → AllLe k (time_if_some (if b then None else Some (time_at t)) ++ xs)
+one_time : (b : Bool) (k t : ℕ) (xs : List ℕ) → t ≤ k → AllLe k xs → AllLe k (time_if_some (if b then None else Some (time_at t)) ++ xs)
 one_time true k t xs l h = h
 one_time false k t xs l h = (l, h)
 
@@ -86,8 +82,7 @@ clock_start s c log q h =
     }
 
 -- what an exchange sends carries no promise
-ask_promises_not : (ts c : ℕ) (to : Site) (m : Msg) (hand : Option ℕ) → asks_rows ts c m ≡ true
-    → promise_of (Sends to m hand) ≡ []
+ask_promises_not : (ts c : ℕ) (to : Site) (m : Msg) (hand : Option ℕ) → asks_rows ts c m ≡ true → promise_of (Sends to m hand) ≡ []
 ask_promises_not ts c to (Fetch a b t u) hand e = refl
 ask_promises_not ts c to (Reduce a b t u v) hand e = refl
 ask_promises_not ts c to (Ship a b) hand e = refl
@@ -101,8 +96,7 @@ stamp_started : (ts : ℕ) (sends : List (Site × Msg)) (o : Option Queued) → 
 stamp_started ts sends None = omega arith
 stamp_started ts sends (Some q) = omega arith
 
-drawn_sends : (s : Setting) (log : Log) (to : Site) (m : Msg) (hand : Option ℕ) → IsDrawn s log
-    → IsDrawn s (Did (Sends to m hand) ∷ log)
+drawn_sends : (s : Setting) (log : Log) (to : Site) (m : Msg) (hand : Option ℕ) → IsDrawn s log → IsDrawn s (Did (Sends to m hand) ∷ log)
 drawn_sends s log to m hand h c = sent_way (λ o. stamp_or o ≤ last_stamp s log) c m (active s c log)
     (λ a x e. subst (λ o. stamp_or o ≤ last_stamp s log) e (h c)) (h c)
 
@@ -115,8 +109,7 @@ drawn_act s log act i h = step_way s log act (λ x. IsDrawn s (Did x ∷ log))
     let old : stamp_or (active s c log) ≤ last_stamp s log = h c in
     let new = stamp_started (next_stamp s log) (sends_of_act (start_at s k log q)) (head_of (queue s k log)) in
     stamp_if (k == c) (next_stamp s log) _ (active s c log) (stamp_started (next_stamp s log) (sends_of_act (start_at s k log q)) (head_of (queue s c log)))
-    (omega arith))
-    (λ k bases a at f. λ c. stamp_if (k == c) (last_stamp s log) None (active s c log) (omega arith) (h c))
+    (omega arith)) (λ k bases a at f. λ c. stamp_if (k == c) (last_stamp s log) None (active s c log) (omega arith) (h c))
     (λ to m hand f. drawn_sends s log to m hand h) i
 
 pub drawn : (s : Setting) (log : Log) → Each (IsFair s) log → IsDrawn s log
@@ -128,12 +121,10 @@ drawn s (Handed from m ∷ log) h c =
     (λ a x e. let p : stamp_or (Some a) ≤ last_stamp s log = subst (λ o. stamp_or o ≤ last_stamp s log) e old in omega arith) (omega arith)
 drawn s (Ticked n ∷ log) h c = let old = drawn s log h.1 c in omega arith
 drawn s (Submits n txn ∷ log) h c = drawn s log h.1 c
-drawn s (Redeclared force t ∷ log) h c =
-    let old = drawn s log h.1 c in let up = stamp_rises s (Redeclared force t) log in omega arith
+drawn s (Redeclared force t ∷ log) h c = let old = drawn s log h.1 c in let up = stamp_rises s (Redeclared force t) log in omega arith
 drawn s (Did act ∷ log) h c = drawn_act s log act h.0 (drawn s log h.1) c
 
-pub drawn_at : (s : Setting) (c : ℕ) (log : Log) (a : Attempt) → Each (IsFair s) log → active s c log ≡ Some a
-    → a.ts ≤ last_stamp s log
+pub drawn_at : (s : Setting) (c : ℕ) (log : Log) (a : Attempt) → Each (IsFair s) log → active s c log ≡ Some a → a.ts ≤ last_stamp s log
 drawn_at s c log a h e = subst (λ o. stamp_or o ≤ last_stamp s log) e (drawn s log h c)
 
 limit_le_of : (b k : ℕ) (o : Option Attempt) → stamp_or o ≤ k → k ≤ b → limit_of b o ≤ b
@@ -151,10 +142,8 @@ promised s log to m hand l (a_held e) = rw e (omega arith, tt)
 promised s log to m hand l (a_hold e) = rw e tt
 promised s log to m hand l (a_release ts e) = rw e tt
 
-clock_act : (s : Setting) (log : Log) (act : Act) → ((c : ℕ) → limit s c log ≤ bound s log) → IsStep s log act → IsClocked s log
-    → IsClocked s (Did act ∷ log)
-clock_act s log act l i h = step_way s log act (λ x. IsClocked s (Did x ∷ log))
-    (λ c q at f e. clock_start s c log q h)
+clock_act : (s : Setting) (log : Log) (act : Act) → ((c : ℕ) → limit s c log ≤ bound s log) → IsStep s log act → IsClocked s log → IsClocked s (Did act ∷ log)
+clock_act s log act l i h = step_way s log act (λ x. IsClocked s (Did x ∷ log)) (λ c q at f e. clock_start s c log q h)
     (λ c bases a at f. record { drawn_le = h.drawn_le; falls = h.falls; promised_le = h.promised_le })
     (λ to m hand f. record { drawn_le = h.drawn_le; falls = h.falls; promised_le = le_join (bound s log) (promise_of (Sends to m hand)) (promises log) (promised s log to m hand l f) h.promised_le }) i
 
@@ -169,8 +158,7 @@ clocked s (Did act ∷ log) w h = clock_act s log act (λ c. limit_le s log c w 
 stamp_is : (s : Setting) (log : Log) → next_stamp s log ≡ suc (clock s.site log).ticks * 64 + number_of s.site
 stamp_is s log = let n = clock_number s.site log in omega arith
 
-of_act : (s : Setting) (log : Log) (act : Act) → IsStep s log act → AllOf (number_of s.site) (stamps log)
-    → AllOf (number_of s.site) (stamps (Did act ∷ log))
+of_act : (s : Setting) (log : Log) (act : Act) → IsStep s log act → AllOf (number_of s.site) (stamps log) → AllOf (number_of s.site) (stamps (Did act ∷ log))
 of_act s log act i h =
     step_way s log act (λ x. AllOf (number_of s.site) (stamps (Did x ∷ log))) (λ c q at f e. (((clock s.site log).ticks, stamp_is s log), h))
     (λ c bases a at f. h) (λ to m hand f. h) i

@@ -43,8 +43,7 @@ strict_pipe g c d log small h =
     (subst IsStrict (ap (writes_in c) p.1 ∙ filter_map-append (write_at c) l p.0) (writes_strict g c d log h small))
 
 abbrev IsStrictHere : site.Log → site.Entry → Type 0
-IsStrictHere log (Did act) =
-    IsStrict (writes_in 0 (all_of (pipe 0 log))) × ((m : Msg) → head (pipe 0 log) ≡ Some m → goes_through 0 m ≡ true)
+IsStrictHere log (Did act) = IsStrict (writes_in 0 (all_of (pipe 0 log))) × ((m : Msg) → head (pipe 0 log) ≡ Some m → goes_through 0 m ≡ true)
 IsStrictHere log (Handed from m) = Unit {0}
 IsStrictHere log (Ticked n) = Unit {0}
 IsStrictHere log (Submits n txn) = Unit {0}
@@ -62,17 +61,14 @@ stricts g d = each_local g (D d) IsStrictHere (record {
 -- at most one DONE with a timestamp, and behind its WRITE
 record IsOnce (x : ℕ) (log : site.Log) : Type 0 where
   pub le : tally (is_done_of x) (puts_to U log) ≤ 1
-  pub was : 0 < tally (is_done_of x) (puts_to U log)
-      → (k : ℕ) × (m : Msg) × (slice_get (pipe 0 log).processed k ≡ Some m) × (write_at 0 m ≡ Some x)
+  pub was : 0 < tally (is_done_of x) (puts_to U log) → (k : ℕ) × (m : Msg) × (slice_get (pipe 0 log).processed k ≡ Some m) × (write_at 0 m ≡ Some x)
 
-stays_processed : (act : Act) (p : Pipe) (k : ℕ) (m : Msg) → slice_get p.processed k ≡ Some m
-    → slice_get (pipe_acted 0 act p).processed k ≡ Some m
+stays_processed : (act : Act) (p : Pipe) (k : ℕ) (m : Msg) → slice_get p.processed k ≡ Some m → slice_get (pipe_acted 0 act p).processed k ≡ Some m
 stays_processed (Records c r sends) p k m e =
     if_way (λ (q : Pipe). slice_get q.processed k ≡ Some m) _ (head_processed p) p (in_left p.processed (one_or_none (head p)) k m e) e
 stays_processed (Sends to x hand) p k m e = e
 
-quiet_did : (x : ℕ) (act : Act) (log : site.Log) → tally (is_done_of x) (to_site U (sends_of_act act)) ≡ 0 → IsOnce x log
-    → IsOnce x (Did act ∷ log)
+quiet_did : (x : ℕ) (act : Act) (log : site.Log) → tally (is_done_of x) (to_site U (sends_of_act act)) ≡ 0 → IsOnce x log → IsOnce x (Did act ∷ log)
 quiet_did x act log e h =
     let a = tally_append (is_done_of x) (puts_to U log) (to_site U (sends_of_act act)) in
     record {
@@ -123,8 +119,7 @@ own_did s x act log t tx strict b h =
       was = λ l. (length p.processed, w, subst (λ ms. slice_get ms (length p.processed) ≡ Some w) (sym pr) (at_seam p.processed [] w), own);
     }
 
-once_did : (s : Setting) (x : ℕ) (act : Act) (log : site.Log) → IsDueEach s log (Did act) → IsStrictHere log (Did act)
-    → IsOnce x log → IsOnce x (Did act ∷ log)
+once_did : (s : Setting) (x : ℕ) (act : Act) (log : site.Log) → IsDueEach s log (Did act) → IsStrictHere log (Did act) → IsOnce x log → IsOnce x (Did act ∷ log)
 once_did s x act log f strict h = elim (dec_le 1 (tally (is_done_of x) (to_site U (sends_of_act act)))) [
   | yes l ↦ (let w = tally_at (is_done_of x) (to_site U (sends_of_act act)) l in
       let d = done_is x w.1 w.3 in
@@ -159,8 +154,7 @@ sum_up : (f g : ℕ → ℕ) (ds : List ℕ) → ((d : ℕ) → f d ≤ g d) →
 sum_up f g [] h = omega arith
 sum_up f g (d ∷ ds) h = let i = sum_up f g ds h in let j = h d in omega arith
 
-sum_more : (f g : ℕ → ℕ) (ds : List ℕ) (k d : ℕ) → ((d : ℕ) → f d ≤ g d) → suc (f d) ≤ g d → slice_get ds k ≡ Some d
-    → suc (sum_of f ds) ≤ sum_of g ds
+sum_more : (f g : ℕ → ℕ) (ds : List ℕ) (k d : ℕ) → ((d : ℕ) → f d ≤ g d) → suc (f d) ≤ g d → slice_get ds k ≡ Some d → suc (sum_of f ds) ≤ sum_of g ds
 sum_more f g [] k d h l e = cc
 sum_more f g (x ∷ ds) zero d h l e =
     let p : x ≡ d = cc in
@@ -169,8 +163,7 @@ sum_more f g (x ∷ ds) (suc k) d h l e = let i = sum_more f g ds k d h l e in l
 
 -- each DONE comes from a data module of the catalogue
 abbrev IsFromModule : ℕ → site.Log → site.Entry → Type 0
-IsFromModule n l (Handed from m) =
-    (x : ℕ) → is_done_of x m ≡ true → (k : ℕ) × (d : ℕ) × (from ≡ D (dm_no d)) × (slice_get (numbers_to n) k ≡ Some d)
+IsFromModule n l (Handed from m) = (x : ℕ) → is_done_of x m ≡ true → (k : ℕ) × (d : ℕ) × (from ≡ D (dm_no d)) × (slice_get (numbers_to n) k ≡ Some d)
 IsFromModule n l (Ticked k) = Unit {0}
 IsFromModule n l (Submits k txn) = Unit {0}
 IsFromModule n l (Redeclared force u) = Unit {0}
@@ -179,8 +172,7 @@ IsFromModule n l (Did act) = Unit {0}
 abbrev from_d : ℕ → site.Log → ℕ → ℕ
 from_d x l d = tally (is_done_of x) (hands_from (D (dm_no d)) l)
 
-to_range : (f : ℕ → Option (Site × Msg)) (x a n k : ℕ) (m : Msg) → GoesTo f
-    → slice_get (to_site (D (dm_no x)) (filter_map f (range_with_len a n))) k ≡ Some m
+to_range : (f : ℕ → Option (Site × Msg)) (x a n k : ℕ) (m : Msg) → GoesTo f → slice_get (to_site (D (dm_no x)) (filter_map f (range_with_len a n))) k ≡ Some m
     → (j : ℕ) × (slice_get (range_with_len a n) j ≡ Some x)
 to_range f x a zero k m g e = cc
 to_range f x a (suc n) k m g e = elim (g a) [
@@ -195,8 +187,7 @@ pub hand_more : (f : Msg → Bool) (b : Bool) (xs : List Msg) (m : Msg) → tall
 hand_more f true xs m = let a = tally_append f xs (m ∷ []) in omega arith
 hand_more f false xs m = omega arith
 
-hand_one : (f : Msg → Bool) (b : Bool) (xs : List Msg) (m : Msg) → b ≡ true → f m ≡ true
-    → suc (tally f xs) ≤ tally f (if b then xs ++ m ∷ [] else xs)
+hand_one : (f : Msg → Bool) (b : Bool) (xs : List Msg) (m : Msg) → b ≡ true → f m ≡ true → suc (tally f xs) ≤ tally f (if b then xs ++ m ∷ [] else xs)
 hand_one f true xs m p q = let a = tally_append f xs (m ∷ []) in let o : one_if (f m) ≡ 1 = ap one_if q in omega arith
 hand_one f false xs m p q = cc
 
@@ -217,8 +208,7 @@ dones_within n x (Handed from m ∷ l) h =
 dones_within n x (_ ∷ l) h = dones_within n x l h.1
 
 write_range : (g : Given) (d : DmNo) (bases : Bases) (a : Attempt) (k : ℕ) (m : Msg)
-    → slice_get (to_site (D d) (sends_of_act (commit_act g.catalogue bases 0 a))) k ≡ Some m
-    → (j : ℕ) × (slice_get (numbers_to g.catalogue.dms) j ≡ Some d.0)
+    → slice_get (to_site (D d) (sends_of_act (commit_act g.catalogue bases 0 a))) k ≡ Some m → (j : ℕ) × (slice_get (numbers_to g.catalogue.dms) j ≡ Some d.0)
 write_range g d bases a k m e =
     let xs : List Change = (effect g.catalogue (bases a.ts) a.text).changes in
     to_range (write_to g.catalogue 0 a xs) d.0 1 g.catalogue.dms k m (goes_write g.catalogue 0 a xs) e
@@ -287,8 +277,7 @@ all_applied g log x k d h l e =
     record { later = p.later; before = p.before; txn = b.txn; of = b.class; ts = t.0; changes = b.changes; is = p.is ∙ ap (λ y. p.later ++ Does (D at) y ∷ p.before) b.act_is; head_is = b.head_is; ts_is = t.2 }
 
 -- a data module puts at most one DONE with a timestamp, and U is handed no more than there are modules
-pub put_once : (g : Given) (log : Log) (x : ℕ) (d : DmNo) → IsPermitted g log
-    → tally (is_done_of x) (puts_to U (local_of g (D d) log)) ≤ 1
+pub put_once : (g : Given) (log : Log) (x : ℕ) (d : DmNo) → IsPermitted g log → tally (is_done_of x) (puts_to U (local_of g (D d) log)) ≤ 1
 put_once g log x d h = (once (setting_of g (D d)) x (local_of g (D d) log) (d_fair g d log h) (stricts g d log h)).le
 
 pub dones_few : (g : Given) (log : Log) (x : ℕ) → IsPermitted g log → dones_of x (local_of g U log) ≤ g.catalogue.dms

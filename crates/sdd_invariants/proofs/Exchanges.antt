@@ -1,6 +1,6 @@
 -- What every step of an exchange keeps: its modules stay; once the READs are answered they are no more awaited; while
 -- they are awaited nothing is sent; and what it still has to send are its own FETCHes, REDUCEs and SHIPs.
-use Rattle.sdd_invariants.proofs.All.{Asking, Attempt, Bool, Commit, D, Did, Exchange, Fetching, Handed, List, Log, Move, Msg, None, Option, Over, Phase, Queued, Reading, Ready, Rec, Records, Redeclared, Reduced, Reducing, Rows, Sends, Setting, Shipping, Site, Some, Start, Step, Submits, T, Ticked, U, Values, [], active, active_after, active_handed, active_sent, after_hand, after_send, answered, ap, asks_rows, counted, counts, counts_for, false, fetches, fetches_from, goes_on, head_of, if◌then◌else◌, is_reading, lacking, length, map, move_at, next_move, own, phase_ends, queue, reduces, refl, rejects, ships, started, subst, sym, tail_of, to_all, true, with_use, with_values, without, ℕ, ◌++◌, ◌+◌, ◌∙◌, ◌∷◌, ◌≡◌}
+use Rattle.sdd_invariants.proofs.All.{Asking, Attempt, Bool, Commit, D, Did, Exchange, Fetching, Handed, List, Log, Move, Msg, None, Option, Over, Phase, Queued, Ready, Rec, Records, Reduced, Rows, Sends, Setting, Shipping, Site, Some, Start, Step, Values, [], active, active_after, active_handed, active_sent, after_hand, after_send, answered, ap, asks_rows, counted, counts, counts_for, false, fetches, fetches_from, goes_on, head_of, if◌then◌else◌, is_reading, lacking, length, map, move_at, next_move, own, phase_ends, queue, reduces, refl, rejects, ships, started, subst, sym, tail_of, to_all, true, with_use, with_values, without, ℕ, ◌++◌, ◌+◌, ◌∙◌, ◌∷◌, ◌≡◌}
 use Rattle.sdd_invariants.proofs.Bools.{if_way, not_both}
 
 abbrev pub IsQuiet : Exchange → Type 0
@@ -21,8 +21,7 @@ pub never : {A : Type 0} (b : Bool) → b ≡ true → b ≡ false → A
 never b e f = absurd (not_both b e f)
 
 -- a step to a phase that awaits no READY
-to_later : (ts c : ℕ) (x y : Exchange) → y.modules ≡ x.modules → is_reading y.phase ≡ false
-    → (AllAsk ts c x.to_send → AllAsk ts c y.to_send) → GoesOn ts c x y
+to_later : (ts c : ℕ) (x y : Exchange) → y.modules ≡ x.modules → is_reading y.phase ≡ false → (AllAsk ts c x.to_send → AllAsk ts c y.to_send) → GoesOn ts c x y
 to_later ts c x y e f g = record { modules_same = e; no_more = λ p. f; quiet = λ h p. never (is_reading y.phase) p f; asks = g }
 
 -- a step that leaves the phase and what is to be sent
@@ -66,8 +65,7 @@ fetching_no_more ts c m x [] = refl
 fetching_no_more ts c m x (d ∷ ds) = refl
 
 -- after the READs something else is awaited, or nothing
-pub reads_no_more : (ts c : ℕ) (x : Exchange) (qs : List Asking) (done : List Step)
-    → is_reading (goes_on ts c x qs done).phase ≡ false
+pub reads_no_more : (ts c : ℕ) (x : Exchange) (qs : List Asking) (done : List Step) → is_reading (goes_on ts c x qs done).phase ≡ false
 reads_no_more ts c x [] done = refl
 reads_no_more ts c x (q ∷ rest) done =
     elim (next_move q.conds (counts_for x.counts q) done) as
@@ -103,12 +101,9 @@ answered_with ts c d b x y e f g =
 
 pub hand_goes : (ts c d : ℕ) (m : Msg) (x : Exchange) → GoesOn ts c x (after_hand ts c d m x)
 hand_goes ts c d (Ready t k counts) x = answered_with ts c d _ x (record x { counts = counted d counts x.counts }) refl refl refl
-hand_goes ts c d (Values t k u vs) x =
-    answered_with ts c d _ x (record x { union = with_values x.union vs; values = x.values + length vs }) refl refl refl
-hand_goes ts c d (Reduced t k u n) x =
-    answered_with ts c d _ x (record x { counts = counted d ((u, n) ∷ []) x.counts }) refl refl refl
-hand_goes ts c d (Rows t k found) x =
-    answered_with ts c d _ x (record x { found = x.found ++ found; rows = x.rows + length found }) refl refl refl
+hand_goes ts c d (Values t k u vs) x = answered_with ts c d _ x (record x { union = with_values x.union vs; values = x.values + length vs }) refl refl refl
+hand_goes ts c d (Reduced t k u n) x = answered_with ts c d _ x (record x { counts = counted d ((u, n) ∷ []) x.counts }) refl refl refl
+hand_goes ts c d (Rows t k found) x = answered_with ts c d _ x (record x { found = x.found ++ found; rows = x.rows + length found }) refl refl refl
 hand_goes ts c d _ x = same_phase ts c x x refl refl refl
 
 ask_tail : (ts c : ℕ) (ps : List (ℕ × Msg)) → AllAsk ts c ps → AllAsk ts c (tail_of ps)
@@ -116,8 +111,7 @@ ask_tail ts c [] h = tt
 ask_tail ts c (p ∷ ps) h = h.1
 
 pub send_goes : (ts c : ℕ) (x : Exchange) → GoesOn ts c x (after_send x)
-send_goes ts c x =
-    record { modules_same = refl; no_more = λ p. p; quiet = λ h p. ap tail_of (h p); asks = ask_tail ts c x.to_send }
+send_goes ts c x = record { modules_same = refl; no_more = λ p. p; quiet = λ h p. ap tail_of (h p); asks = ask_tail ts c x.to_send }
 
 -- what every start of an attempt of the class has, and every step of its exchange keeps, the class's active attempt has
 pub record IsKept (c : ℕ) (Q : Attempt → Type 0) : Type 0 where
@@ -128,8 +122,7 @@ abbrev pub Has : (Attempt → Type 0) → Option Attempt → Type 0
 Has Q None = Unit {0}
 Has Q (Some a) = Q a
 
-kept_hand : (Q : Attempt → Type 0) (c : ℕ) (from : Site) (m : Msg) (o : Option Attempt) → IsKept c Q → Has Q o
-    → Has Q (active_handed c from m o)
+kept_hand : (Q : Attempt → Type 0) (c : ℕ) (from : Site) (m : Msg) (o : Option Attempt) → IsKept c Q → Has Q o → Has Q (active_handed c from m o)
 kept_hand Q c (D d) m None k h = tt
 kept_hand Q c (D d) m (Some a) k h =
     if_way (Has Q) (rejects m a.ts c) None (Some (record a { exchange = after_hand a.ts c d.0 m a.exchange })) tt
@@ -142,8 +135,7 @@ kept_sent Q c m (Some a) k h =
     if_way (Has Q) (asks_rows a.ts c m) (Some (record a { exchange = after_send a.exchange })) (Some a)
     (k.goes a (after_send a.exchange) (send_goes a.ts c a.exchange) h) h
 
-kept_started : (Q : Attempt → Type 0) (c ts : ℕ) (sends : List (Site × Msg)) (o : Option Queued) → IsKept c Q
-    → Has Q (started ts sends o)
+kept_started : (Q : Attempt → Type 0) (c ts : ℕ) (sends : List (Site × Msg)) (o : Option Queued) → IsKept c Q → Has Q (started ts sends o)
 kept_started Q c ts sends None k = tt
 kept_started Q c ts sends (Some q) k = k.starts ts sends q _ refl
 
@@ -177,14 +169,12 @@ not_empty ps p false e f = refl
 -- an exchange that has something to send awaits no READY
 pub not_reading : (s : Setting) (c : ℕ) (log : Log) (a : Attempt) (p : ℕ × Msg) → active s c log ≡ Some a
     → head_of a.exchange.to_send ≡ Some p → is_reading a.exchange.phase ≡ false
-not_reading s c log a p e f =
-    not_empty a.exchange.to_send p (is_reading a.exchange.phase) f (subst (Has QuietOf) e (kept QuietOf s c log (quiet_kept c)))
+not_reading s c log a p e f = not_empty a.exchange.to_send p (is_reading a.exchange.phase) f (subst (Has QuietOf) e (kept QuietOf s c log (quiet_kept c)))
 
 abbrev AskingOf : ℕ → Attempt → Type 0
 AskingOf c a = AllAsk a.ts c a.exchange.to_send
 
-asking_started : (c ts : ℕ) (sends : List (Site × Msg)) (q : Queued) (a : Attempt) → started ts sends (Some q) ≡ Some a
-    → AskingOf c a
+asking_started : (c ts : ℕ) (sends : List (Site × Msg)) (q : Queued) (a : Attempt) → started ts sends (Some q) ≡ Some a → AskingOf c a
 asking_started c ts sends q a e = subst (Has (AskingOf c)) e tt
 
 asking_kept : (c : ℕ) → IsKept c (AskingOf c)
@@ -197,5 +187,4 @@ asks_head ts c (x ∷ ps) p h e = let q : ◌≡◌ {A = ℕ × Msg} x p = cc in
 -- what the exchange of the active attempt sends next is one of its own
 pub asks_next : (s : Setting) (c : ℕ) (log : Log) (a : Attempt) (p : ℕ × Msg) → active s c log ≡ Some a
     → head_of a.exchange.to_send ≡ Some p → asks_rows a.ts c p.1 ≡ true
-asks_next s c log a p e f =
-    asks_head a.ts c a.exchange.to_send p (subst (Has (AskingOf c)) e (kept (AskingOf c) s c log (asking_kept c))) f
+asks_next s c log a p e f = asks_head a.ts c a.exchange.to_send p (subst (Has (AskingOf c)) e (kept (AskingOf c) s c log (asking_kept c))) f

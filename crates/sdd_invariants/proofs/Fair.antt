@@ -1,5 +1,5 @@
 -- On a permitted log each site's own log is made of steps, and submits no number twice.
-use Rattle.sdd_invariants.proofs.All.{Bool, D, Deliver, Did, DmNo, Does, Down, Each, Given, Hand, Handed, IsAllowed, IsDueEach, IsFair, IsNew, IsPermitted, Lose, Mark, None, Notes, Option, Redeclare, Redeclared, Redeclares, Repeat, Resend, Round, Settle, Site, Some, Submit, Submits, Submitted, T, Tick, Ticked, TmNo, U, Up, [], ap, base_of, by_event, by_link, by_mark, by_redeclare, by_round, by_site, class_at, contains, each_local, false, home, inl, inr, is_new_mark, local_of, made, mark_due, not, note_if, or_right, refl, setting_of, submits, subst, tm_no, true, was_marked, with_made, ℕ, ◌==◌, ◌||◌, ◌∙◌, ◌∷◌, ◌≡◌}
+use Rattle.sdd_invariants.proofs.All.{Bool, D, Deliver, DmNo, Down, Each, Given, IsAllowed, IsDueEach, IsFair, IsNew, IsPermitted, Lose, Mark, None, Notes, Option, Repeat, Resend, Site, Some, Submit, Submits, Submitted, T, TmNo, U, Up, [], ap, base_of, by_event, by_link, by_mark, by_redeclare, by_round, by_site, class_at, contains, each_local, false, home, inl, inr, is_new_mark, local_of, made, mark_due, not, note_if, or_right, refl, setting_of, submits, subst, tm_no, true, was_marked, with_made, ℕ, ◌==◌, ◌||◌, ◌∙◌, ◌∷◌, ◌≡◌}
 use Rattle.sdd_invariants.proofs.Queues.{queue_is}
 use Rattle.sdd_invariants.proofs.AreSteps.{t_step, u_step}
 use Rattle.sdd_invariants.proofs.Bools.{if_way, only_right, true_or_false}
@@ -60,10 +60,8 @@ marked_after : (n k : ℕ) (log : Log) → IsAfterMark k log → (k == n) ≡ tr
 marked_after n k (Mark (Submit j) ∷ log) h e = let p : (j.0 == n) ≡ true = ap (λ x. x == n) h ∙ e in rw p refl
 marked_after n k log h e = absurd h
 
-either_marked : (n k : ℕ) (b : Bool) (log : Log) → IsAfterMark k log → (b ≡ true → was_marked n log ≡ true)
-    → ((k == n) || b) ≡ true → was_marked n log ≡ true
-either_marked n k b log a f h =
-    elim (true_or_false (k == n)) [ inl p ↦ marked_after n k log a p | inr p ↦ f (only_right (k == n) b p h) ]
+either_marked : (n k : ℕ) (b : Bool) (log : Log) → IsAfterMark k log → (b ≡ true → was_marked n log ≡ true) → ((k == n) || b) ≡ true → was_marked n log ≡ true
+either_marked n k b log a f h = elim (true_or_false (k == n)) [ inl p ↦ marked_after n k log a p | inr p ↦ f (only_right (k == n) b p h) ]
 
 -- what was given to the site was marked before
 seen_of : (g : Given) (at : Site) (n : ℕ) (e : Entry) (log : Log) (o : Option site.Entry) → made g at log e ≡ o
@@ -74,8 +72,7 @@ seen_of g at n e log (Some (Submits k t)) m a f h =
     either_marked n k (contains (submits (local_of g at log)) n) log (subst (IsMarkEntry log) q.0 (allowed_mark g log e a)) f h
 seen_of g at n e log _ m a f h = f h
 
-seen_marked : (g : Given) (at : Site) (n : ℕ) (log : Log) → IsPermitted g log → contains (submits (local_of g at log)) n ≡ true
-    → was_marked n log ≡ true
+seen_marked : (g : Given) (at : Site) (n : ℕ) (log : Log) → IsPermitted g log → contains (submits (local_of g at log)) n ≡ true → was_marked n log ≡ true
 seen_marked g U n [] h p = p
 seen_marked g at n (e ∷ log) h p =
     tail_marked n e log (seen_of g at n e log (made g at log e) refl h.0 (seen_marked g at n log h.1) (subst (λ l. contains (submits l) n ≡ true) (local_step g at e log) p))
@@ -85,8 +82,7 @@ both_ways : (b : Bool) → b ≡ true → not b ≡ true → ⊥
 both_ways true e f = cc
 both_ways false e f = cc
 
-new_after : (g : Given) (at : Site) (n : ℕ) (log : Log) → IsPermitted g log → IsAfterMark n log
-    → contains (submits (local_of g at log)) n ≡ false
+new_after : (g : Given) (at : Site) (n : ℕ) (log : Log) → IsPermitted g log → IsAfterMark n log → contains (submits (local_of g at log)) n ≡ false
 new_after g at n (Mark (Submit k) ∷ log) h a =
     let fresh : not (was_marked k.0 log) ≡ true = allowed_mark g log (Mark (Submit k)) h.0 in
     elim (true_or_false (contains (submits (local_of g at log)) n)) [
@@ -144,7 +140,6 @@ pub u_fair : (g : Given) (log : Log) → IsPermitted g log → Each (IsFair (set
 u_fair g log h = all_fair g (local_of g U log) (u_if_new g log h) (all_new g U log h)
 
 -- of the site that runs a class
-pub home_fair : (g : Given) (c : ℕ) (log : Log) → IsPermitted g log
-    → Each (IsFair (setting_of g (home g.catalogue c))) (local_of g (home g.catalogue c) log)
+pub home_fair : (g : Given) (c : ℕ) (log : Log) → IsPermitted g log → Each (IsFair (setting_of g (home g.catalogue c))) (local_of g (home g.catalogue c) log)
 home_fair g c log h =
     if_way (λ x. Each (IsFair (setting_of g x)) (local_of g x log)) (c == 0) U (T (tm_no (class_at g.catalogue c).tm.0)) (u_fair g log h) (t_fair g _ log h)

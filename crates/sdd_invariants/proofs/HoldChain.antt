@@ -1,5 +1,5 @@
 -- Between U and one T: the counts of HOLDs, RELEASEs, HELDs, Starts and Commits of class 0 stand in one chain.
-use Rattle.sdd_invariants.proofs.All.{Act, AllIdle, Ask, Bool, D, Did, Done, Each, Fetch, Given, Handed, Held, Hold, HoldCounts, IsFairT, IsFairU, IsHoldChain, IsPermitted, IsPutByD, List, Msg, NoneHold, Null, Read, Ready, Redeclared, Reduce, Reduced, Reject, Release, Rows, Sends, Setting, Ship, Site, Some, Submits, T, Ticked, TmCounts, TmNo, U, Values, Write, [], ap, arith, base_of, counts, counts_acted, counts_handed, counts_tm, each_local, false, handed, hands, hands_from, holds, holds_acted, holds_handed, if◌then◌else◌, inl, inr, is_a_held, is_a_hold, is_a_release, local_of, numbers_to, one_if, or_left, or_right, puts_to, refl, same_site, setting_of, slice_get, subst, suc, sym, take, tally, tm_no, true, zero, ℕ, ◌++◌, ◌+◌, ◌<◌, ◌==◌, ◌||◌, ◌∙◌, ◌∷◌, ◌≡◌}
+use Rattle.sdd_invariants.proofs.All.{Act, AllIdle, Bool, D, Did, Each, Given, Handed, Held, Hold, HoldCounts, IsFairT, IsFairU, IsHoldChain, IsPermitted, IsPutByD, List, Msg, NoneHold, Redeclared, Release, Sends, Setting, Site, Some, Submits, T, Ticked, TmCounts, TmNo, U, [], ap, arith, base_of, counts, counts_acted, counts_handed, counts_tm, each_local, false, handed, hands, hands_from, holds, holds_acted, holds_handed, if◌then◌else◌, inl, inr, is_a_held, is_a_hold, is_a_release, local_of, numbers_to, one_if, or_left, or_right, puts_to, refl, same_site, setting_of, slice_get, subst, suc, sym, take, tally, tm_no, true, zero, ℕ, ◌++◌, ◌+◌, ◌<◌, ◌==◌, ◌||◌, ◌∙◌, ◌∷◌, ◌≡◌}
 use Rattle.sdd_invariants.proofs.Holding.{still, t_helds, t_none}
 use Rattle.sdd_invariants.proofs.Serving.{chain, flip as turned}
 use Rattle.sdd_invariants.proofs.Turns.{balance, tally_append, tally_take, turns_take}
@@ -69,8 +69,7 @@ from_u g at = each_local g at IsFromU (record {
   did = λ log act p due i. tt;
 })
 
-tally_push : (f : Msg → Bool) (b : Bool) (xs : List Msg) (m : Msg)
-    → tally f (if b then xs ++ m ∷ [] else xs) ≡ tally f xs + (if b then one_if (f m) else 0)
+tally_push : (f : Msg → Bool) (b : Bool) (xs : List Msg) (m : Msg) → tally f (if b then xs ++ m ∷ [] else xs) ≡ tally f xs + (if b then one_if (f m) else 0)
 tally_push f true xs m = let i = tally_append f xs (m ∷ []) in omega arith
 tally_push f false xs m = omega arith
 
@@ -126,10 +125,8 @@ none_more true n = omega arith
 none_more false n = omega arith
 
 more_of : (act : Act) (k : TmCounts) → (counts_acted act k).helds ≡ k.helds
-more_of (Sends (T n) Hold hand) k =
-    if_way (λ (x : TmCounts). x.helds ≡ k.helds) (n.0 == k.tm) (record k { holds = suc k.holds }) k refl refl
-more_of (Sends (T n) (Release ts) hand) k =
-    if_way (λ (x : TmCounts). x.helds ≡ k.helds) (n.0 == k.tm) (record k { releases = suc k.releases }) k refl refl
+more_of (Sends (T n) Hold hand) k = if_way (λ (x : TmCounts). x.helds ≡ k.helds) (n.0 == k.tm) (record k { holds = suc k.holds }) k refl refl
+more_of (Sends (T n) (Release ts) hand) k = if_way (λ (x : TmCounts). x.helds ≡ k.helds) (n.0 == k.tm) (record k { releases = suc k.releases }) k refl refl
 more_of act k = refl
 
 hand_helds : (t : ℕ) (from : Site) (m : Msg) (k : TmCounts) → k.tm ≡ t
@@ -148,8 +145,7 @@ handed_helds t (Handed from m ∷ l) =
 handed_helds t (Did act ∷ l) = more_of act (counts t l) ∙ handed_helds t l
 handed_helds t (_ ∷ l) = handed_helds t l
 
-pub hold_chain : (g : Given) (k t : ℕ) (log : Log) → slice_get (numbers_to g.catalogue.tms) k ≡ Some t → IsPermitted g log
-    → IsHoldChain g t log
+pub hold_chain : (g : Given) (k t : ℕ) (log : Log) → slice_get (numbers_to g.catalogue.tms) k ≡ Some t → IsPermitted g log → IsHoldChain g t log
 hold_chain g k t log i h =
     let at : Site = T (tm_no t) in
     let lu : site.Log = local_of g U log in
@@ -185,7 +181,6 @@ hold_chain g k t log i h =
     }
 
 -- between a HELD and its RELEASE every class of the T is idle
-pub idle_between : (g : Given) (t : TmNo) (log : Log) → IsPermitted g log
-    → (holds (local_of g (T t) log)).releases < (holds (local_of g (T t) log)).helds
+pub idle_between : (g : Given) (t : TmNo) (log : Log) → IsPermitted g log → (holds (local_of g (T t) log)).releases < (holds (local_of g (T t) log)).helds
     → AllIdle (setting_of g (T t)) (local_of g (T t) log)
 idle_between g t log h = (still (setting_of g (T t)) (local_of g (T t) log) (t_table g t log h)).idle

@@ -1,5 +1,5 @@
 -- At a T no more HELDs are sent than HOLDs were handed, and between a HELD and its RELEASE every class is idle.
-use Rattle.sdd_invariants.proofs.All.{Act, AllIdle, Attempt, Bases, Bool, Commit, D, Did, Each, Fetch, Handed, Held, Hold, HoldCounts, HoldRule, IsFairT, IsStill, List, Log, Msg, None, NoneHold, Null, Option, Question, Queued, QuietSends, Rec, Records, Redeclared, Reduce, Release, SendRule, Sends, Setting, Ship, Site, Some, Start, Submits, Ticked, U, [], active, ap, append-nil, arith, asks_rows, at_map, attempt_due, bound, by_ask, by_exchange, by_hold, class_no, commit_act, dm_no, effect, exchange_due, false, first_send, hands, head_of, holds, holds_handed, if◌then◌else◌, in_mapped, inl, inr, is_a_held, is_a_hold, is_a_release, is_idle, is_none, is_over, list_all, map, modules_asked, nat_lt, nat_tests, not, null_at, on_hold, one_if, or_else, puts_to, refl, runs, same_site, sends_of_act, start_at, start_of, start_read, subst, suc, sym, tally, time_at, to_site, true, write_to, ℕ, ◌&&◌, ◌++◌, ◌+◌, ◌<◌, ◌==◌, ◌∙◌, ◌∷◌, ◌≡◌, ◌≤◌}
+use Rattle.sdd_invariants.proofs.All.{Act, AllIdle, Attempt, Bases, Bool, Commit, D, Did, Each, Fetch, Handed, Held, Hold, HoldCounts, HoldRule, IsFairT, IsStill, List, Log, Msg, None, NoneHold, Null, Option, Question, Queued, QuietSends, Rec, Records, Reduce, Release, SendRule, Sends, Setting, Ship, Site, Some, Start, U, [], active, ap, append-nil, arith, asks_rows, at_map, attempt_due, bound, by_ask, by_exchange, by_hold, class_no, commit_act, dm_no, effect, exchange_due, false, first_send, hands, head_of, holds, holds_handed, if◌then◌else◌, in_mapped, inl, inr, is_a_held, is_a_hold, is_a_release, is_idle, is_none, is_over, list_all, map, modules_asked, nat_lt, nat_tests, not, null_at, on_hold, one_if, or_else, puts_to, refl, runs, same_site, sends_of_act, start_at, start_of, start_read, subst, suc, sym, tally, time_at, to_site, true, write_to, ℕ, ◌&&◌, ◌++◌, ◌+◌, ◌<◌, ◌==◌, ◌∙◌, ◌∷◌, ◌≡◌, ◌≤◌}
 use Rattle.sdd_invariants.proofs.Turns.{none_hold_join, tally_append}
 use Rattle.sdd_invariants.proofs.ReadsPut.{start_puts}
 use Rattle.sdd_invariants.proofs.WritesPut.{commit_puts, goes_write}
@@ -50,8 +50,7 @@ over_rule s log bases c a false act e = cc
 
 send_rule : (s : Setting) (log : Log) (bases : Bases) (c : ℕ) (a : Attempt) (ms : List (ℕ × Msg)) (act : Act)
     → active s c log ≡ Some a → a.exchange.to_send ≡ ms
-    → or_else (first_send ms) (if is_over a.exchange.phase then Some (commit_act s.catalogue bases c a) else None) ≡ Some act
-    → HoldRule s log act
+    → or_else (first_send ms) (if is_over a.exchange.phase then Some (commit_act s.catalogue bases c a) else None) ≡ Some act → HoldRule s log act
 send_rule s log bases c a [] act i p e = over_rule s log bases c a (is_over a.exchange.phase) act e
 send_rule s log bases c a (m ∷ rest) act i p e =
     rule_is s log (Sends (D (dm_no m.0)) m.1 None) act (asks_rule s log (D (dm_no m.0)) a.ts c m.1 (asks_next s c log a m i (ap head_of p))) e
@@ -61,8 +60,7 @@ attempt_rule : (s : Setting) (log : Log) (bases : Bases) (c : ℕ) (o : Option A
 attempt_rule s log bases c None act i e = cc
 attempt_rule s log bases c (Some a) act i e = send_rule s log bases c a a.exchange.to_send act i refl e
 
-null_rule : (s : Setting) (log : Log) (q : Question) (b : Bool) (o : Option ℕ) (act : Act)
-    → (if b then null_at q o else None) ≡ Some act → HoldRule s log act
+null_rule : (s : Setting) (log : Log) (q : Question) (b : Bool) (o : Option ℕ) (act : Act) → (if b then null_at q o else None) ≡ Some act → HoldRule s log act
 null_rule s log q true (Some t) act e = rule_is s log (Sends q.from (Null (class_no q.class) (time_at t)) (Some q.hand)) act tt e
 null_rule s log q _ _ act e = cc
 
@@ -79,18 +77,15 @@ not_lt_is a b e = grind (arith, nat_tests)
 held_rule : (s : Setting) (log : Log) (a b c : Bool) (hand : Option ℕ) (act : Act) → (b ≡ true → AllIdle s log)
     → (c ≡ true → (holds log).helds < (holds log).holds)
     → (if a && (b && c) then Some (Sends U (Held (time_at (bound s log))) hand) else None) ≡ Some act → HoldRule s log act
-held_rule s log true true true hand act f g e =
-    rule_is s log (Sends U (Held (time_at (bound s log))) hand) act (g refl, f refl, refl) e
+held_rule s log true true true hand act f g e = rule_is s log (Sends U (Held (time_at (bound s log))) hand) act (g refl, f refl, refl) e
 held_rule s log _ _ _ hand act f g e = cc
 
-start_rule : (s : Setting) (log : Log) (a b : Bool) (c : ℕ) (o : Option Queued) (act : Act)
-    → (a ≡ false → (holds log).holds ≤ (holds log).releases)
+start_rule : (s : Setting) (log : Log) (a b : Bool) (c : ℕ) (o : Option Queued) (act : Act) → (a ≡ false → (holds log).holds ≤ (holds log).releases)
     → (if not a && b then start_of s.catalogue (view_of s log) c o else None) ≡ Some act → HoldRule s log act
 start_rule s log false true c (Some q) act f e = rule_is s log (start_at s c log q) act (f refl, quiet_start s c log q) e
 start_rule s log _ _ c _ act f e = cc
 
-pub hold_rule : (s : Setting) (bases : Bases) (log : Log) (act : Act) → IsDue s.catalogue bases (view_of s log) act
-    → HoldRule s log act
+pub hold_rule : (s : Setting) (bases : Bases) (log : Log) (act : Act) → IsDue s.catalogue bases (view_of s log) act → HoldRule s log act
 hold_rule s bases log act (by_exchange k c p e) =
     let r = in_mapped (class_view s log) (runs s) k c p in
     attempt_rule s log bases r.0 (active s r.0 log) act refl (subst (λ v. exchange_due s.catalogue bases v ≡ Some act) (sym r.2) e)
@@ -99,43 +94,37 @@ hold_rule s bases log act (by_hold e) =
     held_rule s log (on_hold (view_of s log)) (list_all is_idle (view_of s log).classes) (nat_lt (holds log).helds (holds log).holds) _ act
     (λ i k c p. none_of (active s c log) (all_at is_idle (view_of s log).classes k (class_view s log c) i (at_map (class_view s log) (runs s) k c p)))
     (λ l. lt_is _ _ l) e
-hold_rule s bases log act (by_start k c p e) =
-    start_rule s log (on_hold (view_of s log)) (is_idle c) c.class (head_of c.queue) act (λ l. not_lt_is _ _ l) e
+hold_rule s bases log act (by_start k c p e) = start_rule s log (on_hold (view_of s log)) (is_idle c) c.class (head_of c.queue) act (λ l. not_lt_is _ _ l) e
 
 hand_still : (s : Setting) (from : Site) (m : Msg) (log : Log) → (holds log).releases ≤ (holds (Handed from m ∷ log)).releases
     → (holds log).holds ≤ (holds (Handed from m ∷ log)).holds → (holds (Handed from m ∷ log)).helds ≡ (holds log).helds
     → IsStill s log → IsStill s (Handed from m ∷ log)
-hand_still s from m log r l e h =
-    record { owed = omega (arith, h.owed); idle = λ p k c q. none_handed c from m (active s c log) (h.idle (omega arith) k c q) }
+hand_still s from m log r l e h = record { owed = omega (arith, h.owed); idle = λ p k c q. none_handed c from m (active s c log) (h.idle (omega arith) k c q) }
 
 pub hold_same : (n : ℕ) (m : Msg) (h : HoldCounts)
     → (h.releases ≤ (holds_handed n m h).releases) × (h.holds ≤ (holds_handed n m h).holds) × ((holds_handed n m h).helds ≡ h.helds)
 hold_same n Hold h = (omega arith, omega arith, refl)
 hold_same n _ h = (omega arith, omega arith, refl)
 
-send_still : (s : Setting) (to : Site) (m : Msg) (hand : Option ℕ) (log : Log) → SendRule s log to m → IsStill s log
-    → IsStill s (Did (Sends to m hand) ∷ log)
+send_still : (s : Setting) (to : Site) (m : Msg) (hand : Option ℕ) (log : Log) → SendRule s log to m → IsStill s log → IsStill s (Did (Sends to m hand) ∷ log)
 send_still s to (Held t) hand log r h = record { owed = r.0; idle = λ p k c q. none_sent c (Held t) (active s c log) (r.1 k c q) }
 send_still s to m hand log r h = record { owed = h.owed; idle = λ p k c q. none_sent c m (active s c log) (h.idle p k c q) }
 
 act_still : (s : Setting) (act : Act) (log : Log) → HoldRule s log act → IsStill s log → IsStill s (Did act ∷ log)
 act_still s (Sends to m hand) log r h = send_still s to m hand log r h
-act_still s (Records k (Start txn attempt cl ts p2 us) sends) log r h =
-    record { owed = h.owed; idle = λ p. absurd (omega (arith, h.owed, r.0)) }
+act_still s (Records k (Start txn attempt cl ts p2 us) sends) log r h = record { owed = h.owed; idle = λ p. absurd (omega (arith, h.owed, r.0)) }
 act_still s (Records k (Commit txn attempt reply changes values rows) sends) log r h =
     record { owed = h.owed; idle = λ p j c q. if_way (λ o. o ≡ None) (k == c) None (active s c log) refl (h.idle p j c q) }
 act_still s (Records k _ sends) log r h = record { owed = h.owed; idle = h.idle }
 
 pub still : (s : Setting) (log : Log) → Each (IsFairT s) log → IsStill s log
 still s [] h = record { owed = omega arith; idle = λ p. absurd (omega arith) }
-still s (Handed from m ∷ log) h =
-    let q = hold_same (suc (hands log)) m (holds log) in hand_still s from m log q.0 q.1 q.2 (still s log h.1)
+still s (Handed from m ∷ log) h = let q = hold_same (suc (hands log)) m (holds log) in hand_still s from m log q.0 q.1 q.2 (still s log h.1)
 still s (Did act ∷ log) h = act_still s act log (hold_rule s h.0.0 log act h.0.1) (still s log h.1)
 still s (_ ∷ log) h = let i = still s log h.1 in record { owed = i.owed; idle = i.idle }
 
 -- a T puts no HOLD and no RELEASE, and its HELDs go to U
-send_none : (s : Setting) (log : Log) (to b : Site) (m : Msg) (hand : Option ℕ) → SendRule s log to m
-    → NoneHold (to_site b ((to, m) ∷ []))
+send_none : (s : Setting) (log : Log) (to b : Site) (m : Msg) (hand : Option ℕ) → SendRule s log to m → NoneHold (to_site b ((to, m) ∷ []))
 send_none s log to b Hold hand h = absurd h
 send_none s log to b (Release ts) hand h = absurd h
 send_none s log to b m hand h = if_way NoneHold (same_site b to) (m ∷ []) [] (refl, refl, tt) tt
@@ -161,8 +150,7 @@ quiet_if false m n k f e = omega (arith, e)
 quiet_send : (to : Site) (m : Msg) (n k : ℕ) → is_a_held m ≡ false → n ≡ k → n ≡ k + tally is_a_held (to_site U ((to, m) ∷ []))
 quiet_send to m n k f e = quiet_if (same_site U to) m n k f e
 
-send_helds : (s : Setting) (log : Log) (to : Site) (m : Msg) (hand : Option ℕ) → SendRule s log to m
-    → (holds log).helds ≡ tally is_a_held (puts_to U log)
+send_helds : (s : Setting) (log : Log) (to : Site) (m : Msg) (hand : Option ℕ) → SendRule s log to m → (holds log).helds ≡ tally is_a_held (puts_to U log)
     → (holds (Did (Sends to m hand) ∷ log)).helds ≡ tally is_a_held (puts_to U log) + tally is_a_held (to_site U ((to, m) ∷ []))
 send_helds s log to (Held t) hand h e = rw h.2 (omega (arith, e))
 send_helds s log to Hold hand h e = absurd h
@@ -174,15 +162,13 @@ quiet_records : (s : Setting) (log : Log) (k : ℕ) (r : Rec) (sends : List (Sit
     → (holds (Did (Records k r sends) ∷ log)).helds ≡ tally is_a_held (puts_to U (Did (Records k r sends) ∷ log))
 quiet_records s log k r sends e h = h ∙ ap (tally is_a_held) (sym (ap (λ xs. puts_to U log ++ xs) e ∙ append-nil _))
 
-rule_quiet : (s : Setting) (log : Log) (k : ℕ) (r : Rec) (sends : List (Site × Msg)) → HoldRule s log (Records k r sends)
-    → QuietSends sends
+rule_quiet : (s : Setting) (log : Log) (k : ℕ) (r : Rec) (sends : List (Site × Msg)) → HoldRule s log (Records k r sends) → QuietSends sends
 rule_quiet s log k (Start txn attempt c ts p2 us) sends h = h.1
 rule_quiet s log k _ sends h = h
 
 act_helds : (s : Setting) (log : Log) (act : Act) → HoldRule s log act → (holds log).helds ≡ tally is_a_held (puts_to U log)
     → (holds (Did act ∷ log)).helds ≡ tally is_a_held (puts_to U (Did act ∷ log))
-act_helds s log (Sends to m hand) h e =
-    send_helds s log to m hand h e ∙ sym (tally_append is_a_held (puts_to U log) (to_site U ((to, m) ∷ [])))
+act_helds s log (Sends to m hand) h e = send_helds s log to m hand h e ∙ sym (tally_append is_a_held (puts_to U log) (to_site U ((to, m) ∷ [])))
 act_helds s log (Records k r sends) h e = quiet_records s log k r sends (rule_quiet s log k r sends h).1 e
 
 pub t_helds : (s : Setting) (log : Log) → Each (IsFairT s) log → (holds log).helds ≡ tally is_a_held (puts_to U log)

@@ -1,10 +1,9 @@
 -- What goes through a class's pipes is put by the site that runs the class.
-use Rattle.sdd_invariants.proofs.All.{Act, AllHomed, AllPiped, Bool, Catalogue, Did, Each, Fetch, Handed, IsFair, IsHomed, IsSend, IsStep, List, Log, Msg, None, Option, Redeclared, Reduce, Setting, Ship, Site, Some, Submits, Ticked, [], a_held, a_hold, a_null, a_release, ap, asks_rows, commit_act, false, home, if◌then◌else◌, next_stamp, of_exchange, piped, puts_to, same_site, sends_of_act, start_at, subst, sym, to_site, true, ℕ, ◌++◌, ◌∙◌, ◌∷◌, ◌≡◌}
+use Rattle.sdd_invariants.proofs.All.{Act, AllHomed, AllPiped, Bool, Catalogue, Did, Each, Fetch, IsFair, IsHomed, IsSend, IsStep, List, Log, Msg, None, Option, Setting, Site, Some, [], a_held, a_hold, a_null, a_release, ap, asks_rows, commit_act, false, home, if◌then◌else◌, next_stamp, of_exchange, piped, puts_to, same_site, sends_of_act, start_at, subst, sym, to_site, true, ℕ, ◌++◌, ◌∙◌, ◌∷◌, ◌≡◌}
 use Rattle.sdd_invariants.proofs.Times.{piped_commit, piped_start}
 use Rattle.sdd_invariants.proofs.Active.{step_way}
 
-pub homed_join : (cat : Catalogue) (at : Site) (xs ys : List Msg) → AllHomed cat at xs → AllHomed cat at ys
-    → AllHomed cat at (xs ++ ys)
+pub homed_join : (cat : Catalogue) (at : Site) (xs ys : List Msg) → AllHomed cat at xs → AllHomed cat at ys → AllHomed cat at (xs ++ ys)
 homed_join cat at [] ys h k = k
 homed_join cat at (x ∷ xs) ys h k = (h.0, homed_join cat at xs ys h.1 k)
 
@@ -17,8 +16,7 @@ class_of : Option (ℕ × ℕ) → ℕ
 class_of None = 0
 class_of (Some p) = p.0
 
-homed_piped : (cat : Catalogue) (at : Site) (k t : ℕ) (b : Site) (ps : List (Site × Msg)) → home cat k ≡ at → AllPiped k t ps
-    → AllHomed cat at (to_site b ps)
+homed_piped : (cat : Catalogue) (at : Site) (k t : ℕ) (b : Site) (ps : List (Site × Msg)) → home cat k ≡ at → AllPiped k t ps → AllHomed cat at (to_site b ps)
 unfolding class_of
 homed_piped cat at k t b [] e h = tt
 homed_piped cat at k t b (p ∷ ps) e h = homed_if cat at (same_site b p.0) p.1 (to_site b ps)
@@ -31,14 +29,12 @@ asks_homed cat at ts k _ e c x f = cc
 send_homed : (s : Setting) (log : Log) (m : Msg) → IsSend s log m → IsHomed s.catalogue s.site m
 unfolding class_of
 send_homed s log m (of_exchange k a at i e w) = asks_homed s.catalogue s.site a.ts k m e
-send_homed s log m (a_null k at e) =
-    λ c t f. let q : k ≡ c = ap class_of (ap piped (sym e) ∙ f) in subst (λ j. home s.catalogue j ≡ s.site) q at
+send_homed s log m (a_null k at e) = λ c t f. let q : k ≡ c = ap class_of (ap piped (sym e) ∙ f) in subst (λ j. home s.catalogue j ≡ s.site) q at
 send_homed s log m (a_held e) = λ c t f. (let q : ◌≡◌ {A = Option (ℕ × ℕ)} None (Some (c, t)) = ap piped (sym e) ∙ f in cc)
 send_homed s log m (a_hold e) = λ c t f. (let q : ◌≡◌ {A = Option (ℕ × ℕ)} None (Some (c, t)) = ap piped (sym e) ∙ f in cc)
 send_homed s log m (a_release ts e) = λ c t f. (let q : ◌≡◌ {A = Option (ℕ × ℕ)} None (Some (c, t)) = ap piped (sym e) ∙ f in cc)
 
-pub act_homed : (s : Setting) (b : Site) (log : Log) (act : Act) → IsStep s log act
-    → AllHomed s.catalogue s.site (to_site b (sends_of_act act))
+pub act_homed : (s : Setting) (b : Site) (log : Log) (act : Act) → IsStep s log act → AllHomed s.catalogue s.site (to_site b (sends_of_act act))
 act_homed s b log act i = step_way s log act (λ x. AllHomed s.catalogue s.site (to_site b (sends_of_act x)))
     (λ c q at f e. homed_piped s.catalogue s.site c (next_stamp s log) b (sends_of_act (start_at s c log q)) at (piped_start s c log q))
     (λ c bases a at f. homed_piped s.catalogue s.site c a.ts b (sends_of_act (commit_act s.catalogue bases c a)) at (piped_commit s c bases a))
@@ -46,6 +42,5 @@ act_homed s b log act i = step_way s log act (λ x. AllHomed s.catalogue s.site 
 
 pub homed : (s : Setting) (b : Site) (log : Log) → Each (IsFair s) log → AllHomed s.catalogue s.site (puts_to b log)
 homed s b [] h = tt
-homed s b (Did act ∷ log) h =
-    homed_join s.catalogue s.site (puts_to b log) (to_site b (sends_of_act act)) (homed s b log h.1) (act_homed s b log act h.0)
+homed s b (Did act ∷ log) h = homed_join s.catalogue s.site (puts_to b log) (to_site b (sends_of_act act)) (homed s b log h.1) (act_homed s b log act h.0)
 homed s b (_ ∷ log) h = homed s b log h.1

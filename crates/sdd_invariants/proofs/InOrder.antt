@@ -1,5 +1,5 @@
 -- The messages that were handed over on a link are, in order, the first of those that were put on it.
-use Rattle.sdd_invariants.proofs.All.{Bool, Call, D, Deliver, Delivers, Did, Does, Down, Event, Force, Given, Hand, Handed, IsAllowed, IsPermitted, List, Lose, Loses, Mark, Msg, None, Notes, Option, Puts, Redeclare, Redeclared, Redeclares, Repeat, Repeats, Resend, Resends, Round, Settle, Site, Some, Submit, Submits, Submitted, T, Tick, Ticked, Txn, U, Up, [], ap, append-nil, arith, by_event, by_link, by_mark, by_redeclare, by_round, by_site, calls_of, delivered, delivered_le, due_by, false, force_at, forced, given_to, handed, handed_by, hands_from, if◌then◌else◌, length, link, link_of, local_of, made, mark_due, message_at, note_if, put_by, puts, puts_to, redeclares, refl, rises, same_site, sends_of_act, sent, slice_get, sound, subst, suc, sym, take, take-append-le, takes_part, true, txn_at, with_made, ℕ, ◌&&◌, ◌++◌, ◌-◌, ◌∙◌, ◌∷◌, ◌≡◌, ◌≤◌}
+use Rattle.sdd_invariants.proofs.All.{Bool, Call, Deliver, Delivers, Did, Does, Down, Event, Force, Given, Hand, Handed, IsAllowed, IsPermitted, List, Lose, Loses, Mark, Msg, None, Notes, Option, Puts, Redeclare, Redeclares, Repeat, Repeats, Resend, Resends, Round, Settle, Site, Some, Submit, Submitted, T, Tick, Ticked, Txn, U, Up, [], ap, append-nil, arith, by_event, by_link, by_mark, by_redeclare, by_round, by_site, calls_of, delivered, delivered_le, due_by, false, force_at, forced, given_to, handed, handed_by, hands_from, if◌then◌else◌, length, link, link_of, local_of, made, mark_due, message_at, note_if, put_by, puts, puts_to, redeclares, refl, rises, same_site, sends_of_act, sent, slice_get, sound, subst, suc, sym, take, take-append-le, takes_part, true, txn_at, with_made, ℕ, ◌&&◌, ◌++◌, ◌-◌, ◌∙◌, ◌∷◌, ◌≡◌, ◌≤◌}
 use Rattle.sdd_invariants.proofs.Bools.{and_left, and_right}
 use Rattle.sdd_invariants.proofs.Lists.{take_one_more}
 use Rattle.sdd_invariants.proofs.Sites.{site_is}
@@ -66,11 +66,9 @@ within_if true n k d f l = f refl
 within_if false n k d f l = l
 
 pub at_link : (P : Site → Site → Type 0) (a b from to : Site) → (same_site a from && same_site b to) ≡ true → P from to → P a b
-at_link P a b from to e x =
-    subst (λ f. P f b) (sym (site_is a from (and_left _ _ e))) (subst (λ t. P from t) (sym (site_is b to (and_right _ _ e))) x)
+at_link P a b from to e x = subst (λ f. P f b) (sym (site_is a from (and_left _ _ e))) (subst (λ t. P from t) (sym (site_is b to (and_right _ _ e))) x)
 
-delivered_mark : (e : Event) (a b : Site) (log : Log)
-    → delivered (link_of a b log).there ≤ delivered (link_of a b (Mark e ∷ log)).there
+delivered_mark : (e : Event) (a b : Site) (log : Log) → delivered (link_of a b log).there ≤ delivered (link_of a b (Mark e ∷ log)).there
 delivered_mark (Deliver x y k) a b log = rises a b (Delivers x y k) (calls_of log)
 delivered_mark (Lose x y k) a b log = rises a b (Loses x y k) (calls_of log)
 delivered_mark (Repeat x y k) a b log = rises a b (Repeats x y k) (calls_of log)
@@ -86,8 +84,7 @@ delivered_puts a b at (s ∷ sends) calls =
 pub handed_le : (g : Given) (log : Log) (a b : Site) → IsPermitted g log → handed a b log ≤ delivered (link_of a b log).there
 handed_le g [] a b h = omega arith
 handed_le g (Mark e ∷ log) a b h = let i = handed_le g log a b h.1 in let j = delivered_mark e a b log in omega arith
-handed_le g (Does at act ∷ log) a b h =
-    let i = handed_le g log a b h.1 in let j = delivered_puts a b at (sends_of_act act) (calls_of log) in omega arith
+handed_le g (Does at act ∷ log) a b h = let i = handed_le g log a b h.1 in let j = delivered_puts a b at (sends_of_act act) (calls_of log) in omega arith
 handed_le g (Hand from to n m ∷ log) a b h =
     within_if (same_site a from && same_site b to) n (handed a b log) (delivered (link_of a b log).there)
     (λ e. at_link (λ x y. n ≤ delivered (link_of x y log).there) a b from to e (allowed_hand g log (Hand from to n m) h.0).delivered_is)
@@ -95,11 +92,9 @@ handed_le g (Hand from to n m ∷ log) a b h =
 handed_le g (_ ∷ log) a b h = handed_le g log a b h.1
 
 pub delivered_within : (a b : Site) (log : Log) → delivered (link_of a b log).there ≤ length (sent a b log)
-delivered_within a b log =
-    delivered_le (link_of a b log).there (delivered (link_of a b log).back) (sound a b (calls_of log)).there
+delivered_within a b log = delivered_le (link_of a b log).there (delivered (link_of a b log).back) (sound a b (calls_of log)).there
 
-pub handed_within : (g : Given) (log : Log) (a b : Site) → IsPermitted g log
-    → handed a b log ≤ length (puts_to b (local_of g a log))
+pub handed_within : (g : Given) (log : Log) (a b : Site) → IsPermitted g log → handed a b log ≤ length (puts_to b (local_of g a log))
 handed_within g log a b h =
     let i = handed_le g log a b h in let j = delivered_within a b log in
     subst (λ xs. handed a b log ≤ length xs) (sent_is g a b log) (omega arith)
@@ -152,18 +147,15 @@ one_seen a from false true k n xs ys m p f e = rw p (append-nil _ ∙ e)
 one_seen a from true false k n xs ys m p f e = append-nil _ ∙ e
 one_seen a from false false k n xs ys m p f e = append-nil _ ∙ e
 
-there : (log : Log) (a b : Site) (n : ℕ) (m : Msg) → IsNextHand log a b n m
-    → (n ≡ suc (handed a b log)) × (slice_get (sent a b log) (handed a b log) ≡ Some m)
-there log a b n m h =
-    let z : n - 1 ≡ handed a b log = omega (arith, h.next) in (h.next, subst (λ k. slice_get (sent a b log) k ≡ Some m) z h.there)
+there : (log : Log) (a b : Site) (n : ℕ) (m : Msg) → IsNextHand log a b n m → (n ≡ suc (handed a b log)) × (slice_get (sent a b log) (handed a b log) ≡ Some m)
+there log a b n m h = let z : n - 1 ≡ handed a b log = omega (arith, h.next) in (h.next, subst (λ k. slice_get (sent a b log) k ≡ Some m) z h.there)
 
 hands_are : (g : Given) (log : Log) (a b : Site) → IsPermitted g log → AreFirst g a b log
 hands_are g [] a U h = refl
 hands_are g (Mark (Tick t n) ∷ log) a b h =
     none_more g a b (Mark (Tick t n)) log refl (none_if a (same_site b (T t)) (Some (Ticked n)) refl) h.1 (hands_are g log a b h.1)
 hands_are g (Mark (Submit n) ∷ log) a b h = none_more g a b (Mark (Submit n)) log refl refl h.1 (hands_are g log a b h.1)
-hands_are g (Mark (Deliver x y k) ∷ log) a b h =
-    none_more g a b (Mark (Deliver x y k)) log refl refl h.1 (hands_are g log a b h.1)
+hands_are g (Mark (Deliver x y k) ∷ log) a b h = none_more g a b (Mark (Deliver x y k)) log refl refl h.1 (hands_are g log a b h.1)
 hands_are g (Mark (Lose x y k) ∷ log) a b h = none_more g a b (Mark (Lose x y k)) log refl refl h.1 (hands_are g log a b h.1)
 hands_are g (Mark (Repeat x y k) ∷ log) a b h = none_more g a b (Mark (Repeat x y k)) log refl refl h.1 (hands_are g log a b h.1)
 hands_are g (Mark (Resend x y) ∷ log) a b h = none_more g a b (Mark (Resend x y)) log refl refl h.1 (hands_are g log a b h.1)
@@ -177,8 +169,7 @@ hands_are g (Redeclares t ∷ log) a b h =
 hands_are g (Submitted s n ∷ log) a b h =
     none_more g a b (Submitted s n) log refl (none_if a (same_site b s) (given_to n (txn_at g n)) (none_given a n (txn_at g n))) h.1 (hands_are g log a b h.1)
 hands_are g (Notes ∷ log) a b h = none_more g a b Notes log refl refl h.1 (hands_are g log a b h.1)
-hands_are g (Does at act ∷ log) a b h =
-    none_more g a b (Does at act) log refl (none_if a (same_site b at) (Some (Did act)) refl) h.1 (hands_are g log a b h.1)
+hands_are g (Does at act ∷ log) a b h = none_more g a b (Does at act) log refl (none_if a (same_site b at) (Some (Did act)) refl) h.1 (hands_are g log a b h.1)
 hands_are g (Hand from to n m ∷ log) a b h =
     hands_grow g a b (Hand from to n m) log
     ∙ one_seen a from (same_site a from) (same_site b to) (handed a b log) n (sent a b log) (hands_from a (local_of g b log)) m refl
@@ -186,8 +177,7 @@ hands_are g (Hand from to n m ∷ log) a b h =
 hands_are g [] a _ h = refl
 
 -- the messages handed from a at b are the first of those that a put on its link to b
-pub in_order : (g : Given) (log : Log) (a b : Site) → IsPermitted g log
-    → hands_from a (local_of g b log) ≡ take (handed a b log) (puts_to b (local_of g a log))
+pub in_order : (g : Given) (log : Log) (a b : Site) → IsPermitted g log → hands_from a (local_of g b log) ≡ take (handed a b log) (puts_to b (local_of g a log))
 in_order g log a b h = hands_are g log a b h ∙ ap (take (handed a b log)) (sent_is g a b log)
 
 -- the message of a hand stands at its place among those that its site put on the link

@@ -19,8 +19,7 @@ times_are c (m ∷ ms) = elim (goes_through c m) as (λ b. (if b then time_of m 
 
 -- what a site puts through pipes is of the classes that it runs
 
-homed_at : (cat : Catalogue) (at : Site) (ms : List Msg) (k : ℕ) (m : Msg) → AllHomed cat at ms → slice_get ms k ≡ Some m
-    → IsHomed cat at m
+homed_at : (cat : Catalogue) (at : Site) (ms : List Msg) (k : ℕ) (m : Msg) → AllHomed cat at ms → slice_get ms k ≡ Some m → IsHomed cat at m
 homed_at cat at [] k m h e = cc
 homed_at cat at (x ∷ ms) zero m h e = let p : x ≡ m = cc in subst (IsHomed cat at) p h.0
 homed_at cat at (x ∷ ms) (suc k) m h e = homed_at cat at ms k m h.1 e
@@ -30,12 +29,10 @@ none_homed cat at m p c t e = let q : ◌≡◌ {A = Option (ℕ × ℕ)} None (
 
 pub put_at_home : (g : Given) (from b : Site) (log : Log) (k : ℕ) (m : Msg) → IsPermitted g log
     → slice_get (puts_to b (local_of g from log)) k ≡ Some m → IsHomed g.catalogue from m
-put_at_home g U b log k m h e =
-    homed_at g.catalogue U (puts_to b (local_of g U log)) k m (homed (setting_of g U) b (local_of g U log) (u_fair g log h)) e
+put_at_home g U b log k m h e = homed_at g.catalogue U (puts_to b (local_of g U log)) k m (homed (setting_of g U) b (local_of g U log) (u_fair g log h)) e
 put_at_home g (T t) b log k m h e =
     homed_at g.catalogue (T t) (puts_to b (local_of g (T t) log)) k m (homed (setting_of g (T t)) b (local_of g (T t) log) (t_fair g t log h)) e
-put_at_home g (D d) b log k m h e =
-    none_homed g.catalogue (D d) m (d_pipes_none (setting_of g (D d)) b (local_of g (D d) log) (d_fair g d log h) k m e)
+put_at_home g (D d) b log k m h e = none_homed g.catalogue (D d) m (d_pipes_none (setting_of g (D d)) b (local_of g (D d) log) (d_fair g d log h) k m e)
 
 -- so what is handed comes from the site that runs its class
 abbrev IsHomeHand : Catalogue → site.Log → site.Entry → Type 0
@@ -54,8 +51,7 @@ home_hands g at = each_local g at (IsHomeHand g.catalogue) (record {
   did = λ log act p due i. tt;
 })
 
-one_more : (c : ℕ) (xs : List Msg) (m : Msg)
-    → class_in c (xs ++ m ∷ []) ≡ (if goes_through c m then class_in c xs ++ m ∷ [] else class_in c xs)
+one_more : (c : ℕ) (xs : List Msg) (m : Msg) → class_in c (xs ++ m ∷ []) ≡ (if goes_through c m then class_in c xs ++ m ∷ [] else class_in c xs)
 one_more c xs m =
     filter-append (goes_through c) xs (m ∷ []) ∙
     (elim (goes_through c m) as (λ b. class_in c xs ++ cond b (m ∷ []) [] ≡ (if b then class_in c xs ++ m ∷ [] else class_in c xs)) [ true ↦ refl | false ↦ append-nil _ ])
@@ -66,15 +62,12 @@ class_and_time c (Some p) e = (p.1, ap (λ k. Some (k, p.1)) (eqb-true p.0 c e))
 
 hand_in : (c : ℕ) (b d : Bool) (xs ys : List Msg) (m : Msg) → (b ≡ true → d ≡ true) → xs ≡ class_in c ys → b ≡ goes_through c m
     → (if b then xs ++ m ∷ [] else xs) ≡ class_in c (if d then ys ++ m ∷ [] else ys)
-hand_in c true true xs ys m f e g =
-    rw e (sym (one_more c ys m ∙ ap (λ b. if b then class_in c ys ++ m ∷ [] else class_in c ys) (sym g)))
+hand_in c true true xs ys m f e g = rw e (sym (one_more c ys m ∙ ap (λ b. if b then class_in c ys ++ m ∷ [] else class_in c ys) (sym g)))
 hand_in c true false xs ys m f e g = absurd (not_both false (f refl) refl)
-hand_in c false true xs ys m f e g =
-    e ∙ sym (one_more c ys m ∙ ap (λ b. if b then class_in c ys ++ m ∷ [] else class_in c ys) (sym g))
+hand_in c false true xs ys m f e g = e ∙ sym (one_more c ys m ∙ ap (λ b. if b then class_in c ys ++ m ∷ [] else class_in c ys) (sym g))
 hand_in c false false xs ys m f e g = e
 
-handed_from : (cat : Catalogue) (c : ℕ) (l : site.Log) → Each (IsHomeHand cat) l
-    → all_handed c l ≡ class_in c (hands_from (home cat c) l)
+handed_from : (cat : Catalogue) (c : ℕ) (l : site.Log) → Each (IsHomeHand cat) l → all_handed c l ≡ class_in c (hands_from (home cat c) l)
 handed_from cat c [] h = refl
 handed_from cat c (Handed from m ∷ l) h =
     hand_in c (goes_through c m) (same_site (home cat c) from) (all_handed c l) (hands_from (home cat c) l) m
@@ -87,8 +80,7 @@ pipe_is g c d log h =
     all_there c (local_of g (D d) log) ∙ handed_from g.catalogue c (local_of g (D d) log) (home_hands g (D d) log h)
     ∙ ap (class_in c) (in_order g log (home g.catalogue c) (D d) h)
 
-pub in_pipe : (g : Given) (c : ℕ) (d : DmNo) (log : Log) → IsPermitted g log
-    → (more : List Msg) × (class_puts g c d log ≡ all_of (pipe_at g c d log) ++ more)
+pub in_pipe : (g : Given) (c : ℕ) (d : DmNo) (log : Log) → IsPermitted g log → (more : List Msg) × (class_puts g c d log ≡ all_of (pipe_at g c d log) ++ more)
 in_pipe g c d log h =
     let n : ℕ = handed (home g.catalogue c) (D d) log in
     let ps : List Msg = puts_to (D d) (local_of g (home g.catalogue c) log) in

@@ -26,8 +26,7 @@ out_cons : (c : ℕ) (x : Msg) (ms : List Msg) (k : ℕ) (m : Msg) → goes_thro
 out_cons c x ms zero m p f e = let q : x ≡ m = cc in (0, e, subst (λ y. goes_through c y ≡ true) q p)
 out_cons c x ms (suc k) m p f e = let i = f k e in (suc i.0, i.1, i.2)
 
-out_class : (c : ℕ) (ms : List Msg) (k : ℕ) (m : Msg) → slice_get (class_in c ms) k ≡ Some m
-    → (i : ℕ) × (slice_get ms i ≡ Some m) × (goes_through c m ≡ true)
+out_class : (c : ℕ) (ms : List Msg) (k : ℕ) (m : Msg) → slice_get (class_in c ms) k ≡ Some m → (i : ℕ) × (slice_get ms i ≡ Some m) × (goes_through c m ≡ true)
 out_class c [] k m e = cc
 out_class c (x ∷ ms) k m e =
     elim (goes_through c x) as
@@ -48,8 +47,7 @@ origin g c d log k m h e =
     record { later = l.later; act = p.act; before = l.rest; is = l.is; place = p.place; there = p.there; by = subst (λ b. IsPutBy (setting_of g at) b p.act m) (sym l.local_is) by; of_class = o.2 }
 
 -- what stands at the head of a pipe
-pub head_put : (g : Given) (c : ℕ) (d : DmNo) (log : Log) (m : Msg) → IsPermitted g log → head (pipe_at g c d log) ≡ Some m
-    → IsPutAt g log c d m
+pub head_put : (g : Given) (c : ℕ) (d : DmNo) (log : Log) (m : Msg) → IsPermitted g log → head (pipe_at g c d log) ≡ Some m → IsPutAt g log c d m
 head_put g c d log m h e = origin g c d log (length (pipe_at g c d log).processed) m h (head_place g c d [] log m h e)
 
 -- a WRITE goes where a changed fragment has a copy, and of class 0 everywhere
@@ -59,8 +57,7 @@ to_module d m = Some (D (dm_no d), m)
 
 in_here : (f : ℕ → Option (Site × Msg)) (x a : ℕ) (ms : List Msg) (k : ℕ) (m y : Msg) → x ≡ a → f a ≡ to_module a y
     → ((j : ℕ) → slice_get ms j ≡ Some m → f x ≡ to_module x m) → slice_get (y ∷ ms) k ≡ Some m → f x ≡ to_module x m
-in_here f x a ms zero m y q p g e =
-    let r : y ≡ m = cc in subst (λ n. f n ≡ to_module n m) (sym q) (subst (λ z. f a ≡ to_module a z) r p)
+in_here f x a ms zero m y q p g e = let r : y ≡ m = cc in subst (λ n. f n ≡ to_module n m) (sym q) (subst (λ z. f a ≡ to_module a z) r p)
 in_here f x a ms (suc k) m y q p g e = g k e
 
 in_to : (f : ℕ → Option (Site × Msg)) (x a n k : ℕ) (m : Msg) → GoesTo f
@@ -122,8 +119,7 @@ apply_may s l k w m (Apply x j dm2 u) txn of dm ts h q = absurd h
 apply_may s l k w m r txn of dm ts h q = cc
 
 pub apply_head : (s : Setting) (l : site.Log) (k : ℕ) (txn : TxnNo) (of : ClassNo) (dm : DmNo) (ts : Ts) (sends : List (Site × Msg))
-    → IsReadStep s l (Records k (Apply txn of dm ts) sends)
-    → (changes : List Change) × (head (pipe k l) ≡ Some (Write ts of txn changes))
+    → IsReadStep s l (Records k (Apply txn of dm ts) sends) → (changes : List Change) × (head (pipe k l) ≡ Some (Write ts of txn changes))
 apply_head s l k txn of dm ts sends (in_passing e) = cc
 apply_head s l k txn of dm ts sends (by_wait j ds r ss lt p w i q e) =
     let same : Apply txn of dm ts ≡ r = cc in
@@ -156,8 +152,7 @@ apply_follows g log d k txn of dm ts sends h =
 -- of a class the Applies at a module rise: what was applied has a smaller timestamp than the WRITE at the head; so an
 -- Apply is the only one of its transaction there
 pub applied_below : (g : Given) (log : Log) (d : DmNo) (k : ℕ) (ts : Ts) (of : ClassNo) (txn : TxnNo) (changes : List Change) (a : Attempt)
-    → IsPermitted g log → number_of (home g.catalogue k) ≤ 63 → head (pipe_at g k d log) ≡ Some (Write ts of txn changes)
-    → IsApplied g log d k a → a.ts < ts.0
+    → IsPermitted g log → number_of (home g.catalogue k) ≤ 63 → head (pipe_at g k d log) ≡ Some (Write ts of txn changes) → IsApplied g log d k a → a.ts < ts.0
 applied_below g log d k ts of txn changes a h small e x =
     let l : site.Log = local_of g (D d) log in
     let m = matched (setting_of g (D d)) k l (d_fair g d log h) in
@@ -192,10 +187,8 @@ commit_put g c d later log bases a lo hi t =
 -- at a head m of class c, a transaction of c that is committed anywhere in the log and touches the module: it is applied
 -- where its timestamp is smaller than the time of m, and isn't where it is greater
 pub around_applied : (g : Given) (c : ℕ) (d : DmNo) (later log later2 log2 : Log) (m : Msg) (bases : Bases) (a : Attempt)
-    → IsPermitted g (later ++ log) → number_of (home g.catalogue c) ≤ 63 → 1 ≤ d.0 → d.0 ≤ g.catalogue.dms
-    → head (pipe_at g c d log) ≡ Some m
-    → later ++ log ≡ later2 ++ Does (home g.catalogue c) (commit_act g.catalogue bases c a) ∷ log2
-    → ((c == 0) ≡ true) ⊎ (0 < length (changes_to g bases a d))
+    → IsPermitted g (later ++ log) → number_of (home g.catalogue c) ≤ 63 → 1 ≤ d.0 → d.0 ≤ g.catalogue.dms → head (pipe_at g c d log) ≡ Some m
+    → later ++ log ≡ later2 ++ Does (home g.catalogue c) (commit_act g.catalogue bases c a) ∷ log2 → ((c == 0) ≡ true) ⊎ (0 < length (changes_to g bases a d))
     → (a.ts < time_of m → IsApplied g log d c a) × (time_of m < a.ts → IsApplied g log d c a → ⊥)
 around_applied g c d later log later2 log2 m bases a h small lo hi e same t =
     let w : Msg = Write (time_at a.ts) (class_no c) (txn_no a.txn) (changes_to g bases a d) in

@@ -10,13 +10,11 @@ in_either [] ys k m e = inr (k, e)
 in_either (x ∷ xs) ys zero m e = inl e
 in_either (x ∷ xs) ys (suc k) m e = in_either xs ys k m e
 
-pub in_right : {A : Type 0} (xs ys : List A) (k : ℕ) (m : A) → slice_get ys k ≡ Some m
-    → (j : ℕ) × (slice_get (xs ++ ys) j ≡ Some m)
+pub in_right : {A : Type 0} (xs ys : List A) (k : ℕ) (m : A) → slice_get ys k ≡ Some m → (j : ℕ) × (slice_get (xs ++ ys) j ≡ Some m)
 in_right [] ys k m e = (k, e)
 in_right (x ∷ xs) ys k m e = let i = in_right xs ys k m e in (suc i.0, i.1)
 
-pub in_if : {A : Type 0} (c : Bool) (x : A) (k : ℕ) (m : A) → slice_get (if c then x ∷ [] else []) k ≡ Some m
-    → (c ≡ true) × (x ≡ m)
+pub in_if : {A : Type 0} (c : Bool) (x : A) (k : ℕ) (m : A) → slice_get (if c then x ∷ [] else []) k ≡ Some m → (c ≡ true) × (x ≡ m)
 in_if true x zero m e = (refl, cc)
 in_if _ x _ m e = cc
 
@@ -54,8 +52,7 @@ take_one_more n [] m e = cc
 take_one_more {A = A} zero (x ∷ xs) m e = let p : ◌≡◌ {A = A} x m = cc in ap (λ y. y ∷ []) p
 take_one_more (suc n) (x ∷ xs) m e = ap (λ l. x ∷ l) (take_one_more n xs m e)
 
-pub in_taken : {A : Type 0} (xs : List A) (n k : ℕ) (x : A) → slice_get (take n xs) k ≡ Some x
-    → (slice_get xs k ≡ Some x) × (k < n)
+pub in_taken : {A : Type 0} (xs : List A) (n k : ℕ) (x : A) → slice_get (take n xs) k ≡ Some x → (slice_get xs k ≡ Some x) × (k < n)
 in_taken xs zero k x e = cc
 in_taken [] (suc n) k x e = cc
 in_taken (y ∷ xs) (suc n) zero x e = (e, omega arith)

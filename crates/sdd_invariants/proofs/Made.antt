@@ -1,5 +1,5 @@
 -- The log of a site after an entry, and the place of each of its entries in the log of everything.
-use Rattle.sdd_invariants.proofs.All.{Act, Bool, D, Deliver, Did, Does, Down, Force, Given, Hand, Handed, IsActAt, IsAt, IsHandAt, IsPermitted, IsSubmitAt, Lose, Mark, Msg, None, Notes, Option, Redeclare, Redeclared, Redeclares, Repeat, Resend, Round, Settle, Site, Some, Submit, Submits, Submitted, T, Tick, Ticked, Txn, U, Up, [], ap, false, force_at, forced, given_to, if◌then◌else◌, local_of, made, redeclares, refl, same_site, subst, suc, sym, true, txn_at, with_force, with_made, with_submit, ℕ, ◌++◌, ◌∙◌, ◌∷◌, ◌≡◌}
+use Rattle.sdd_invariants.proofs.All.{Act, Bool, Did, Does, Force, Given, Hand, Handed, IsActAt, IsAt, IsHandAt, IsPermitted, IsSubmitAt, Mark, Msg, None, Option, Redeclared, Redeclares, Site, Some, Submits, Submitted, T, Tick, Ticked, Txn, U, [], ap, false, force_at, forced, given_to, if◌then◌else◌, local_of, made, redeclares, refl, same_site, subst, suc, sym, true, txn_at, with_force, with_made, with_submit, ℕ, ◌++◌, ◌∙◌, ◌∷◌, ◌≡◌}
 use Rattle.sdd_invariants.proofs.Bools.{not_both}
 use Rattle.sdd_invariants.proofs.Sites.{site_is, site_self}
 use Rattle.sdd_log.specs.All.{Log}
@@ -14,23 +14,18 @@ force_step : (at : Site) (force : Force) (t : ℕ) (l : site.Log) → with_force
 force_step U force t l = refl
 force_step _ force t l = refl
 
-if_step : (b : Bool) (o : Option site.Entry) (k l : site.Log) → k ≡ with_made o l
-    → (if b then k else l) ≡ with_made (if b then o else None) l
+if_step : (b : Bool) (o : Option site.Entry) (k l : site.Log) → k ≡ with_made o l → (if b then k else l) ≡ with_made (if b then o else None) l
 if_step true o k l e = e
 if_step false o k l e = refl
 
-pub local_step : (g : Given) (at : Site) (e : Entry) (log : Log)
-    → local_of g at (e ∷ log) ≡ with_made (made g at log e) (local_of g at log)
-local_step g at (Mark (Tick t n)) log =
-    if_step (same_site at (T t)) (Some (Ticked n)) (Ticked n ∷ local_of g at log) (local_of g at log) refl
+pub local_step : (g : Given) (at : Site) (e : Entry) (log : Log) → local_of g at (e ∷ log) ≡ with_made (made g at log e) (local_of g at log)
+local_step g at (Mark (Tick t n)) log = if_step (same_site at (T t)) (Some (Ticked n)) (Ticked n ∷ local_of g at log) (local_of g at log) refl
 local_step g at (Redeclares t) log = force_step at (force_at g (suc (redeclares log))) t (local_of g at log)
-local_step g at (Hand from to n m) log =
-    if_step (same_site at to) (Some (Handed from m)) (Handed from m ∷ local_of g at log) (local_of g at log) refl
+local_step g at (Hand from to n m) log = if_step (same_site at to) (Some (Handed from m)) (Handed from m ∷ local_of g at log) (local_of g at log) refl
 local_step g at (Submitted to n) log =
     if_step (same_site at to) (given_to n (txn_at g n)) (with_submit n (txn_at g n) (local_of g at log)) (local_of g at log)
     (submit_step n (txn_at g n) (local_of g at log))
-local_step g at (Does by act) log =
-    if_step (same_site at by) (Some (Did act)) (Did act ∷ local_of g at log) (local_of g at log) refl
+local_step g at (Does by act) log = if_step (same_site at by) (Some (Did act)) (Did act ∷ local_of g at log) (local_of g at log) refl
 local_step g at _ log = refl
 
 -- what an entry that makes an act, a hand or a submission is
@@ -53,17 +48,14 @@ IsMakerOf at (Redeclared force t) g e = Unit {0}
 maker_given : (g : Given) (at to : Site) (n : ℕ) (o : Option Txn) (x : site.Entry) → txn_at g n ≡ o → to ≡ at
     → given_to n o ≡ Some x → IsMakerOf at x g (Submitted to n)
 maker_given g at to n None x f p e = cc
-maker_given g at to n (Some t) x f p e =
-    let q : Submits n t ≡ x = cc in subst (λ y. IsMakerOf at y g (Submitted to n)) q (ap (λ s. Submitted s n) p, f)
+maker_given g at to n (Some t) x f p e = let q : Submits n t ≡ x = cc in subst (λ y. IsMakerOf at y g (Submitted to n)) q (ap (λ s. Submitted s n) p, f)
 
-maker_forced : (g : Given) (at s : Site) (force : Force) (t u : ℕ) (x : site.Entry) → forced at force t ≡ Some x
-    → IsMakerOf s x g (Redeclares u)
+maker_forced : (g : Given) (at s : Site) (force : Force) (t u : ℕ) (x : site.Entry) → forced at force t ≡ Some x → IsMakerOf s x g (Redeclares u)
 maker_forced g (T n) s force t u x e = let q : Redeclared force t ≡ x = cc in subst (λ y. IsMakerOf s y g (Redeclares u)) q tt
 maker_forced g _ s force t u x e = cc
 
 pub maker : (g : Given) (at : Site) (log : Log) (e : Entry) (x : site.Entry) → made g at log e ≡ Some x → IsMakerOf at x g e
-maker g at log (Mark (Tick t n)) x h =
-    let r = some_if (same_site at (T t)) (Ticked n) x h in subst (λ y. IsMakerOf at y g (Mark (Tick t n))) r.1 tt
+maker g at log (Mark (Tick t n)) x h = let r = some_if (same_site at (T t)) (Ticked n) x h in subst (λ y. IsMakerOf at y g (Mark (Tick t n))) r.1 tt
 maker g at log (Redeclares t) x h = maker_forced g at at (force_at g (suc (redeclares log))) t t x h
 maker g at log (Hand from to n m) x h =
     let r = some_if (same_site at to) (Handed from m) x h in
@@ -89,13 +81,11 @@ no_place (y ∷ l) k x e = cc
 not_forced : {A : Type 0} (x y : site.Entry) → y ≡ x → is_forced y ≡ true → is_forced x ≡ false → A
 not_forced x y e f h = absurd (not_both (is_forced y) f (ap is_forced e ∙ h))
 
-at_beginning : {A : Type 0} (force : Force) (later before : site.Log) (x : site.Entry) → is_forced x ≡ false
-    → Redeclared force 0 ∷ [] ≡ later ++ x ∷ before → A
+at_beginning : {A : Type 0} (force : Force) (later before : site.Log) (x : site.Entry) → is_forced x ≡ false → Redeclared force 0 ∷ [] ≡ later ++ x ∷ before → A
 at_beginning force [] before x f e = let p : Redeclared force 0 ≡ x = cc in not_forced x (Redeclared force 0) p refl f
 at_beginning force (y ∷ later) before x f e = let t : [] ≡ later ++ x ∷ before = cc in no_place later before x t
 
-at_more : (g : Given) (at : Site) (e : Entry) (log : Log) (x : site.Entry) (before : site.Log) → IsAt g at log x before
-    → IsAt g at (e ∷ log) x before
+at_more : (g : Given) (at : Site) (e : Entry) (log : Log) (x : site.Entry) (before : site.Log) → IsAt g at log x before → IsAt g at (e ∷ log) x before
 at_more g at e log x before h =
     record { later = e ∷ h.later; entry = h.entry; rest = h.rest; is = ap (λ l. e ∷ l) h.is; local_is = h.local_is; makes = h.makes }
 
@@ -139,8 +129,7 @@ place_of_submit g at log later n text before e =
     let d = maker g at i.rest i.entry (Submits n text) i.makes in
     record { later = i.later; rest = i.rest; is = i.is ∙ ap (λ x. i.later ++ x ∷ i.rest) d.0; local_is = i.local_is; text_is = d.1 }
 
-more_at : (o : Option site.Entry) (more l k all : site.Log) → all ≡ with_made o l → l ≡ more ++ k
-    → (m : site.Log) × (all ≡ m ++ k)
+more_at : (o : Option site.Entry) (more l k all : site.Log) → all ≡ with_made o l → l ≡ more ++ k → (m : site.Log) × (all ≡ m ++ k)
 more_at None more l k all e f = (more, e ∙ f)
 more_at (Some y) more l k all e f = (y ∷ more, e ∙ ap (λ z. y ∷ z) f)
 
@@ -154,8 +143,7 @@ local_at g at (y ∷ later) rest e x m =
     (local_step g at y (later ++ e ∷ rest)) i.1
 
 -- a later log's local log goes on from an earlier one's
-pub local_grows : (g : Given) (at : Site) (later log : Log)
-    → (more : site.Log) × (local_of g at (later ++ log) ≡ more ++ local_of g at log)
+pub local_grows : (g : Given) (at : Site) (later log : Log) → (more : site.Log) × (local_of g at (later ++ log) ≡ more ++ local_of g at log)
 local_grows g at [] log = ([], refl)
 local_grows g at (y ∷ later) log =
     let i = local_grows g at later log in

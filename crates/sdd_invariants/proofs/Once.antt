@@ -1,5 +1,5 @@
 -- An attempt has at most one Answer at a module.
-use Rattle.sdd_invariants.proofs.All.{Act, Answer, Bool, ClassNo, Cond, D, Did, DmNo, Does, Each, Given, Handed, IsFair, IsNew, IsPermitted, List, Msg, Pipe, Queued, Read, Records, Redeclared, Sends, Setting, Site, Some, Start, Submits, Ticked, Ts, TxnNo, Use, [], ap, append_assoc, arith, class_puts, false, head, head_of, head_processed, home, if◌then◌else◌, inl, inr, length, length-append, local_of, next_stamp, number_of, one_or_none, pipe, pipe_acted, pipe_at, queue, read_at, refl, setting_of, slice_get, start_at, start_more, starts_of, subst, suc, sym, true, ℕ, ◌&&◌, ◌++◌, ◌==◌, ◌∙◌, ◌∷◌, ◌≡◌, ◌≤◌}
+use Rattle.sdd_invariants.proofs.All.{Act, Answer, Bool, ClassNo, Cond, D, Did, DmNo, Does, Each, Given, Handed, IsFair, IsNew, IsPermitted, List, Msg, Pipe, Queued, Read, Records, Sends, Setting, Site, Some, Start, Ts, TxnNo, Use, [], ap, append_assoc, arith, class_puts, false, head, head_of, head_processed, home, if◌then◌else◌, inl, inr, length, length-append, local_of, next_stamp, number_of, one_or_none, pipe, pipe_acted, pipe_at, queue, read_at, refl, setting_of, slice_get, start_at, start_more, starts_of, subst, suc, sym, true, ℕ, ◌&&◌, ◌++◌, ◌==◌, ◌∙◌, ◌∷◌, ◌≡◌, ◌≤◌}
 use Rattle.sdd_invariants.proofs.Places.{compare}
 use Rattle.sdd_invariants.proofs.Recorded.{head_left}
 use Rattle.sdd_invariants.proofs.Processed.{own_record, processed_handed, processed_more}
@@ -14,14 +14,12 @@ use Rattle.sdd_log.specs.site_module.SiteLog as site
 
 -- how often a transaction was started only grows
 more_up : (c n : ℕ) (act : Act) (x : ℕ) → x ≤ start_more c n act x
-more_up c n (Records k (Start txn attempt cl ts p2 us) sends) x =
-    if_way (λ y. x ≤ y) ((k == c) && (n == txn.0)) (suc x) x (omega arith) (omega arith)
+more_up c n (Records k (Start txn attempt cl ts p2 us) sends) x = if_way (λ y. x ≤ y) ((k == c) && (n == txn.0)) (suc x) x (omega arith) (omega arith)
 more_up c n _ x = omega arith
 
 starts_grow : (c n : ℕ) (later log : site.Log) → starts_of c n log ≤ starts_of c n (later ++ log)
 starts_grow c n [] log = omega arith
-starts_grow c n (Did act ∷ later) log =
-    let i = starts_grow c n later log in let j = more_up c n act (starts_of c n (later ++ log)) in omega arith
+starts_grow c n (Did act ∷ later) log = let i = starts_grow c n later log in let j = more_up c n act (starts_of c n (later ++ log)) in omega arith
 starts_grow c n (_ ∷ later) log = starts_grow c n later log
 
 -- so no two Starts of a class have one transaction and one attempt
@@ -38,8 +36,7 @@ later_try s c z b1 b2 q1 q2 f1 n1 f2 n2 e1 e2 n t p =
     omega arith
 
 same_try : (s : Setting) (c : ℕ) (l1 l2 b1 b2 : site.Log) (q1 q2 : Queued) → Each (IsFair s) b1 → Each IsNew b1
-    → Each (IsFair s) b2 → Each IsNew b2 → head_of (queue s c b1) ≡ Some q1 → head_of (queue s c b2) ≡ Some q2
-    → q1.number ≡ q2.number → q1.tries ≡ q2.tries
+    → Each (IsFair s) b2 → Each IsNew b2 → head_of (queue s c b1) ≡ Some q1 → head_of (queue s c b2) ≡ Some q2 → q1.number ≡ q2.number → q1.tries ≡ q2.tries
     → l1 ++ Did (start_at s c b1 q1) ∷ b1 ≡ l2 ++ Did (start_at s c b2 q2) ∷ b2 → b1 ≡ b2
 same_try s c l1 l2 b1 b2 q1 q2 f1 n1 f2 n2 e1 e2 n t p = elim (compare l1 l2 (Did (start_at s c b1 q1)) (Did (start_at s c b2 q2)) b1 b2 p) [
   | inl r ↦ r.0
@@ -66,8 +63,7 @@ processed_grows c (Handed from m ∷ later) log =
     let j : length (pipe c (Handed from m ∷ (later ++ log))).processed ≡ length (pipe c (later ++ log)).processed = ap length
     (processed_handed c from m (later ++ log)) in
     omega arith
-processed_grows c (Did act ∷ later) log =
-    let i = processed_grows c later log in let j = processed_act c act (pipe c (later ++ log)) in omega arith
+processed_grows c (Did act ∷ later) log = let i = processed_grows c later log in let j = processed_act c act (pipe c (later ++ log)) in omega arith
 processed_grows c (_ ∷ later) log = processed_grows c later log
 
 read_own : (c : ℕ) (ts : Ts) (k : ClassNo) (txn : TxnNo) (n : ℕ) (ds : List Cond) (us : List Use) (t : ℕ) → k.0 ≡ c → ts.0 ≡ t
@@ -78,8 +74,7 @@ read_own c ts k txn n ds us t e f = let q : (k.0 == c) ≡ true = ap (λ y. y ==
 pub answered_there : (g : Given) (c : ℕ) (d : DmNo) (later before : Log) (dm : DmNo) (sends : List (Site × Msg)) (ts1 ts2 : Ts) (k1 k2 : ClassNo) (txn txn1 txn2 : TxnNo) (n n1 n2 : ℕ) (ds1 ds2 : List Cond) (us1 us2 : List Use)
     → IsPermitted g (later ++ Does (D d) (Records c (Answer txn n dm) sends) ∷ before) → number_of (home g.catalogue c) ≤ 63
     → head (pipe_at g c d before) ≡ Some (Read ts1 k1 txn1 n1 ds1 us1)
-    → head (pipe_at g c d (later ++ Does (D d) (Records c (Answer txn n dm) sends) ∷ before)) ≡ Some (Read ts2 k2 txn2 n2 ds2 us2)
-    → ts1.0 ≡ ts2.0 → ⊥
+    → head (pipe_at g c d (later ++ Does (D d) (Records c (Answer txn n dm) sends) ∷ before)) ≡ Some (Read ts2 k2 txn2 n2 ds2 us2) → ts1.0 ≡ ts2.0 → ⊥
 answered_there g c d later before dm sends ts1 ts2 k1 k2 txn txn1 txn2 n n1 n2 ds1 ds2 us1 us2 h small e1 e2 ts =
     let ans : Act = Records c (Answer txn n dm) sends in
     let log : Log = later ++ Does (D d) ans ∷ before in

@@ -4,8 +4,7 @@ use Rattle.sdd_invariants.proofs.Lists.{in_either, in_right}
 use Rattle.sdd_invariants.proofs.Sites.{some_to}
 
 more_put : (b : Site) (e : Entry) (log : Log) (m : Msg) → IsPut b log m → IsPut b (e ∷ log) m
-more_put b e log m h =
-    record { later = e ∷ h.later; act = h.act; before = h.before; is = ap (λ l. e ∷ l) h.is; place = h.place; there = h.there }
+more_put b e log m h = record { later = e ∷ h.later; act = h.act; before = h.before; is = ap (λ l. e ∷ l) h.is; place = h.place; there = h.there }
 
 pub was_put : (b : Site) (log : Log) (k : ℕ) (m : Msg) → slice_get (puts_to b log) k ≡ Some m → IsPut b log m
 was_put b [] k m e = cc
@@ -18,17 +17,14 @@ was_put b (Did act ∷ log) k m e = elim (in_either (puts_to b log) (to_site b (
   | inr p ↦ record { later = []; act = act; before = log; is = refl; place = p.0; there = p.1 }
 ]
 
-still_put : (b : Site) (e : Entry) (log : Log) (k : ℕ) (m : Msg) → slice_get (puts_to b log) k ≡ Some m
-    → slice_get (puts_to b (e ∷ log)) k ≡ Some m
+still_put : (b : Site) (e : Entry) (log : Log) (k : ℕ) (m : Msg) → slice_get (puts_to b log) k ≡ Some m → slice_get (puts_to b (e ∷ log)) k ≡ Some m
 still_put b (Did act) log k m h = in_left (puts_to b log) (to_site b (sends_of_act act)) k m h
 still_put b _ log k m h = h
 
-pub is_put : (b : Site) (later : Log) (act : Act) (before : Log) (k : ℕ) (m : Msg)
-    → slice_get (to_site b (sends_of_act act)) k ≡ Some m
+pub is_put : (b : Site) (later : Log) (act : Act) (before : Log) (k : ℕ) (m : Msg) → slice_get (to_site b (sends_of_act act)) k ≡ Some m
     → (j : ℕ) × (slice_get (puts_to b (later ++ Did act ∷ before)) j ≡ Some m)
 is_put b [] act before k m e = in_right (puts_to b before) (to_site b (sends_of_act act)) k m e
-is_put b (x ∷ later) act before k m e =
-    let i = is_put b later act before k m e in (i.0, still_put b x (later ++ Did act ∷ before) i.0 m i.1)
+is_put b (x ∷ later) act before k m e = let i = is_put b later act before k m e in (i.0, still_put b x (later ++ Did act ∷ before) i.0 m i.1)
 
 -- a Commit's WRITE to a module with a copy
 

@@ -1,5 +1,5 @@
 -- Two places of one log; and a class that is idle stays so until it records something.
-use Rattle.sdd_invariants.proofs.All.{Attempt, Commit, D, Did, Entry, Handed, List, Log, Msg, NoRecord, None, Option, Queued, Rec, Records, Redeclared, Sends, Setting, Site, Some, Start, Submits, T, Ticked, U, [], active, active_after, active_handed, active_sent, ap, arith, false, inl, inr, is_recorded, length, length-append, queue, refl, subst, sym, ℕ, ◌++◌, ◌<◌, ◌==◌, ◌∙◌, ◌∷◌, ◌≡◌, ◌⊎◌}
+use Rattle.sdd_invariants.proofs.All.{Attempt, Commit, D, Did, Entry, Handed, List, Log, Msg, NoRecord, None, Option, Queued, Rec, Records, Sends, Setting, Site, Some, Start, [], active, active_after, active_handed, active_sent, ap, arith, false, inl, inr, is_recorded, length, length-append, queue, refl, subst, sym, ℕ, ◌++◌, ◌<◌, ◌==◌, ◌∙◌, ◌∷◌, ◌≡◌, ◌⊎◌}
 
 abbrev pub AreSame : {A : Type 0} → A → A → List A → List A → Type 0
 AreSame x y b1 b2 = (b1 ≡ b2) × (x ≡ y)
@@ -45,14 +45,12 @@ none_handed c _ m o e = e
 pub none_sent : (c : ℕ) (m : Msg) (o : Option Attempt) → o ≡ None → active_sent c m o ≡ None
 none_sent c m o e = rw e refl
 
-pub idle_stays : (s : Setting) (c : ℕ) (later log : Log) → NoRecord c later → active s c log ≡ None
-    → active s c (later ++ log) ≡ None
+pub idle_stays : (s : Setting) (c : ℕ) (later log : Log) → NoRecord c later → active s c log ≡ None → active s c (later ++ log) ≡ None
 idle_stays s c [] log h e = e
 idle_stays s c (Handed from m ∷ later) log h e = none_handed c from m (active s c (later ++ log)) (idle_stays s c later log h.1 e)
 idle_stays s c (Did (Records k r sends) ∷ later) log h e =
     other_record c k r sends (queue s c (later ++ log)) (active s c (later ++ log)) h.0 ∙ idle_stays s c later log h.1 e
-idle_stays s c (Did (Sends to m hand) ∷ later) log h e =
-    none_sent c m (active s c (later ++ log)) (idle_stays s c later log h.1 e)
+idle_stays s c (Did (Sends to m hand) ∷ later) log h e = none_sent c m (active s c (later ++ log)) (idle_stays s c later log h.1 e)
 idle_stays s c (_ ∷ later) log h e = idle_stays s c later log h.1 e
 
 none_in : (c : ℕ) (z : Log) (y : Entry) (w : Log) → NoRecord c (z ++ y ∷ w) → NoRecord c z × (is_recorded c y ≡ false)

@@ -30,8 +30,7 @@ pub not_own : (c k : ℕ) (r : Rec) (sends : List (Site × Msg)) (log : Log) →
 not_own c k r sends log (inl e) = same_of c k true r sends log (rw e refl)
 not_own c k r sends log (inr e) = same_of c k true r sends log (rw e (and_false (k == c)))
 
-pub passing : (c : ℕ) (act : Act) (log : Log) → is_moving act ≡ false
-    → IsSame c log (Did act ∷ log) × (waits c (Did act ∷ log) ≡ waits c log)
+pub passing : (c : ℕ) (act : Act) (log : Log) → is_moving act ≡ false → IsSame c log (Did act ∷ log) × (waits c (Did act ∷ log) ≡ waits c log)
 passing c (Sends to m hand) log e = (record { pipe_same = refl; results_same = refl }, refl)
 passing c (Records k r sends) log e =
     let p : is_processing r ≡ false = neither_left (is_processing r) (is_wait r) e in
@@ -51,12 +50,10 @@ processed_if : (b : Bool) (m : Msg) (p : Pipe) → (if b then put m p else p).pr
 processed_if true m p = refl
 processed_if false m p = refl
 
-pub processed_handed : (c : ℕ) (from : Site) (m : Msg) (log : Log)
-    → (pipe c (Handed from m ∷ log)).processed ≡ (pipe c log).processed
+pub processed_handed : (c : ℕ) (from : Site) (m : Msg) (log : Log) → (pipe c (Handed from m ∷ log)).processed ≡ (pipe c log).processed
 processed_handed c from m log = processed_if (goes_through c m) m (pipe c log)
 
-zip_push : {A B : Type 0} (R : A → B → Type 0) (xs : List A) (ys : List B) (x : A) (y : B) → AllZip R xs ys → R x y
-    → AllZip R (xs ++ x ∷ []) (ys ++ y ∷ [])
+zip_push : {A B : Type 0} (R : A → B → Type 0) (xs : List A) (ys : List B) (x : A) (y : B) → AllZip R xs ys → R x y → AllZip R (xs ++ x ∷ []) (ys ++ y ∷ [])
 zip_push R [] [] x y h r = (r, tt)
 zip_push R (a ∷ xs) (b ∷ ys) x y h r = (h.0, zip_push R xs ys x y h.1 r)
 zip_push R _ _ x y h r = absurd h
@@ -68,8 +65,7 @@ may_is v c w (Write ts k txn changes) (Apply t j dm x) h = (h.0, h.1, h.2)
 may_is v c w (Null k time) (Pass j dm t) h = h
 may_is v c w m r h = absurd h
 
-matched_as : (c : ℕ) (log more : Log) → results c more ≡ results c log → (pipe c more).processed ≡ (pipe c log).processed
-    → IsMatched c log → IsMatched c more
+matched_as : (c : ℕ) (log more : Log) → results c more ≡ results c log → (pipe c more).processed ≡ (pipe c log).processed → IsMatched c log → IsMatched c more
 matched_as c log more r q h =
     record { matched = subst (λ rs. AllZip IsOf rs (pipe c more).processed) (sym r) (subst (AllZip IsOf (results c log)) (sym q) h.matched) }
 
@@ -77,8 +73,7 @@ matched_same : (c : ℕ) (log more : Log) → IsSame c log more → IsMatched c 
 matched_same c log more q h = matched_as c log more q.results_same (ap (λ p. p.processed) q.pipe_same) h
 
 matched_own : (s : Setting) (c : ℕ) (m : Msg) (r : Rec) (sends : List (Site × Msg)) (log : Log) → is_processing r ≡ true
-    → head (pipe c log) ≡ Some m → May (view_of s log) c (waits c log) m r → IsMatched c log
-    → IsMatched c (Did (Records c r sends) ∷ log)
+    → head (pipe c log) ≡ Some m → May (view_of s log) c (waits c log) m r → IsMatched c log → IsMatched c (Did (Records c r sends) ∷ log)
 matched_own s c m r sends log p e i h =
     let o = own_record c r sends log p in
     let d : (pipe c (Did (Records c r sends) ∷ log)).processed ≡ (pipe c log).processed ++ m ∷ [] = ap (λ q. q.processed) o.0
@@ -87,15 +82,13 @@ matched_own s c m r sends log p e i h =
 
 pub matched : (s : Setting) (c : ℕ) (log : Log) → Each (IsDueEach s) log → IsMatched c log
 matched s c [] h = record { matched = tt }
-matched s c (Handed from m ∷ log) h =
-    matched_as c log (Handed from m ∷ log) refl (processed_handed c from m log) (matched s c log h.1)
+matched s c (Handed from m ∷ log) h = matched_as c log (Handed from m ∷ log) refl (processed_handed c from m log) (matched s c log h.1)
 matched s c (Ticked n ∷ log) h = matched_as c log (Ticked n ∷ log) refl refl (matched s c log h.1)
 matched s c (Submits n txn ∷ log) h = matched_as c log (Submits n txn ∷ log) refl refl (matched s c log h.1)
 matched s c (Redeclared force t ∷ log) h = matched_as c log (Redeclared force t ∷ log) refl refl (matched s c log h.1)
 matched s c (Did act ∷ log) h =
     let i = matched s c log h.1 in
-    read_step_way s log act (λ x. IsMatched c (Did x ∷ log))
-    (λ e. matched_same c log (Did act ∷ log) (passing c act log e).0 i)
+    read_step_way s log act (λ x. IsMatched c (Did x ∷ log)) (λ e. matched_same c log (Did act ∷ log) (passing c act log e).0 i)
     (λ k conds r sends l p w a b. matched_same c log (Did (Records k r sends) ∷ log) (not_own c k r sends log (inr p)) i)
     (λ k m r sends l p e j. elim (same_or_not k c) [
       | inl q ↦ subst (λ x. IsMatched c (Did (Records x r sends) ∷ log)) (sym q)

@@ -13,14 +13,12 @@ puts_some s log x a h e = let p : x ≡ a = cc in subst (PutsBy s log) p h
 -- what is open was handed
 
 more_asked : (log : Log) (e : Entry) (b : Site) (P : Msg → Type 0) → WasAsked log b P → WasAsked (e ∷ log) b P
-more_asked log e b P h =
-    record { asked = h.asked; later = e ∷ h.later; before = h.before; is = ap (λ l. e ∷ l) h.is; fits = h.fits }
+more_asked log e b P h = record { asked = h.asked; later = e ∷ h.later; before = h.before; is = ap (λ l. e ∷ l) h.is; fits = h.fits }
 
 abbrev open_of : ℕ → Site → Msg → Open
 open_of n from m = record { hand = n; from = from; msg = m }
 
-open_in : (n : ℕ) (from : Site) (m : Msg) (b : Bool) (os : List Open) (k : ℕ) (o : Open)
-    → slice_get (if b then os ++ open_of n from m ∷ [] else os) k ≡ Some o
+open_in : (n : ℕ) (from : Site) (m : Msg) (b : Bool) (os : List Open) (k : ℕ) (o : Open) → slice_get (if b then os ++ open_of n from m ∷ [] else os) k ≡ Some o
     → ((j : ℕ) × (slice_get os j ≡ Some o)) ⊎ ((from ≡ o.from) × (m ≡ o.msg))
 open_in n from m false os k o e = inl (k, e)
 open_in n from m true os k o e = elim (in_either os (open_of n from m ∷ []) k o e) [
@@ -28,8 +26,7 @@ open_in n from m true os k o e = elim (in_either os (open_of n from m ∷ []) k 
   | inr p ↦ (let q : open_of n from m ≡ o = in_one (open_of n from m ∷ []) (open_of n from m) p.0 o refl p.1 in inr (ap (λ (x : Open). x.from) q, ap (λ (x : Open). x.msg) q))
 ]
 
-acted_in : (act : Act) (os : List Open) (k : ℕ) (o : Open) → slice_get (opens_acted act os) k ≡ Some o
-    → (j : ℕ) × (slice_get os j ≡ Some o)
+acted_in : (act : Act) (os : List Open) (k : ℕ) (o : Open) → slice_get (opens_acted act os) k ≡ Some o → (j : ℕ) × (slice_get os j ≡ Some o)
 acted_in (Records c (Arrive txn attempt dm) sends) os k o e = let i = in_filtered _ os k o e in (i.1, i.2)
 acted_in (Sends to m hand) os k o e = let i = in_filtered _ os k o e in (i.1, i.2)
 acted_in (Records c _ sends) os k o e = (k, e)
@@ -46,11 +43,9 @@ was_handed (Handed from m ∷ log) k o e = elim (open_in (suc (hands log)) from 
 was_handed (Ticked n ∷ log) k o e = more_asked log (Ticked n) o.from (IsMsg o.msg) (was_handed log k o e)
 was_handed (Submits n txn ∷ log) k o e = more_asked log (Submits n txn) o.from (IsMsg o.msg) (was_handed log k o e)
 was_handed (Redeclared force t ∷ log) k o e = more_asked log (Redeclared force t) o.from (IsMsg o.msg) (was_handed log k o e)
-was_handed (Did act ∷ log) k o e =
-    let i = acted_in act (opens log) k o e in more_asked log (Did act) o.from (IsMsg o.msg) (was_handed log i.0 o i.1)
+was_handed (Did act ∷ log) k o e = let i = acted_in act (opens log) k o e in more_asked log (Did act) o.from (IsMsg o.msg) (was_handed log i.0 o i.1)
 
-asked_at : (log : Log) (b from : Site) (P : Msg → Type 0) (m : Msg) → b ≡ from → WasAsked log from (IsMsg m) → P m
-    → WasAsked log b P
+asked_at : (log : Log) (b from : Site) (P : Msg → Type 0) (m : Msg) → b ≡ from → WasAsked log from (IsMsg m) → P m → WasAsked log b P
 asked_at log b from P m e h p =
     record { asked = h.asked; later = h.later; before = h.before; is = subst (λ x. log ≡ h.later ++ Handed x h.asked ∷ h.before) (sym e) h.is; fits = subst P (sym h.fits) p }
 
@@ -96,8 +91,7 @@ in_map f b (d ∷ ds) k m e = elim (same_site b (f d).0) as (λ x. same_site b (
 
 ask_by : (s : Setting) (log : Log) (c : ℕ) (ts : Ts) (class : ClassNo) (txn : TxnNo) (attempt : ℕ) (conds : List Cond) (uses : List Use) (lacking : List Cond) (b : Site) (x : Msg) (i : ℕ) (d : Cond) (act : Act)
     → IsClassHere s c → head (pipe c log) ≡ Some (Read ts class txn attempt conds uses)
-    → lacking ≡ filter (λ d. not (is_met (view_of s log) d)) conds → slice_get lacking i ≡ Some d → ask_for (home_of s) d ≡ (b, x)
-    → IsPutByD s log b act x
+    → lacking ≡ filter (λ d. not (is_met (view_of s log) d)) conds → slice_get lacking i ≡ Some d → ask_for (home_of s) d ≡ (b, x) → IsPutByD s log b act x
 ask_by s log c ts class txn attempt conds uses lacking b x i d act l h f e p =
     let r = in_filtered (λ d. not (is_met (view_of s log) d)) conds i d (subst (λ ds. slice_get ds i ≡ Some d) f e) in
     subst (IsPutByD s log b act) (ap (λ (z : Site × Msg). z.1) p)
@@ -106,8 +100,7 @@ ask_by s log c ts class txn attempt conds uses lacking b x i d act l h f e p =
 by_judged : (s : Setting) (log : Log) (c : ℕ) (ts : Ts) (class : ClassNo) (txn : TxnNo) (attempt : ℕ) (conds : List Cond) (uses : List Use) (lacking : List Cond) (by : Option Cond) (a : Act)
     → IsClassHere s c → waits c log ≡ false → head (pipe c log) ≡ Some (Read ts class txn attempt conds uses)
     → spoiler (view_of s log) conds ≡ by → lacking ≡ filter (λ d. not (is_met (view_of s log) d)) conds
-    → Some (act_by (home_of s) (view_of s log) c (Read ts class txn attempt conds uses) (judged (view_of s log) lacking by)) ≡ Some a
-    → PutsBy s log a
+    → Some (act_by (home_of s) (view_of s log) c (Read ts class txn attempt conds uses) (judged (view_of s log) lacking by)) ≡ Some a → PutsBy s log a
 by_judged s log c ts class txn attempt conds uses lacking (Some d) a l w h q f e = puts_some s log _ a
     (λ b j x r. let i = the_one b _ _ j x r in subst (IsPutByD s log b _) i.1
     (record { class = c; txn = txn; attempt = attempt; conds = conds; uses = uses; here = l; head_is = h; waits_not = w; cond_by = d; spoiler_is = q; by_is = refl; write_is = refl; act_is = refl; to_is = i.0 })) e
@@ -131,33 +124,27 @@ by_done s log c false ts class txn changes z h b j x r = cc
 
 by_write : (s : Setting) (log : Log) (c : ℕ) (held : Bool) (ts : Ts) (class : ClassNo) (txn : TxnNo) (changes : List Change) (a : Act)
     → head (pipe c log) ≡ Some (Write ts class txn changes)
-    → act_where (home_of s) (view_of s log) c (Some (Write ts class txn changes)) (if held then None else Some Processes) ≡ Some a
-    → PutsBy s log a
+    → act_where (home_of s) (view_of s log) c (Some (Write ts class txn changes)) (if held then None else Some Processes) ≡ Some a → PutsBy s log a
 by_write s log c true ts class txn changes a h e = cc
 by_write s log c false ts class txn changes a h e = puts_some s log _ a (by_done s log c (c == 0) ts class txn changes refl h) e
 
 by_waited : (s : Setting) (log : Log) (c : ℕ) (met : Bool) (ts : Ts) (class : ClassNo) (txn : TxnNo) (attempt : ℕ) (conds : List Cond) (uses : List Use) (a : Act)
     → IsClassHere s c → head (pipe c log) ≡ Some (Read ts class txn attempt conds uses)
-    → act_where (home_of s) (view_of s log) c (Some (Read ts class txn attempt conds uses)) (if met then Some Processes else None) ≡ Some a
-    → PutsBy s log a
+    → act_where (home_of s) (view_of s log) c (Some (Read ts class txn attempt conds uses)) (if met then Some Processes else None) ≡ Some a → PutsBy s log a
 by_waited s log c true ts class txn attempt conds uses a l h e = puts_some s log _ a
     (λ b j x r. let i = the_one b _ _ j x r in subst (IsPutByD s log b _) i.1
     (record { class = c; txn = txn; attempt = attempt; conds = conds; uses = uses; here = l; head_is = h; act_is = refl; to_is = i.0; counts_are = refl })) e
 by_waited s log c false ts class txn attempt conds uses a l h e = cc
 
-by_on : (s : Setting) (log : Log) (c : ℕ) (w : Bool) (m : Msg) (a : Act) → IsClassHere s c → waits c log ≡ w
-    → head (pipe c log) ≡ Some m
+by_on : (s : Setting) (log : Log) (c : ℕ) (w : Bool) (m : Msg) (a : Act) → IsClassHere s c → waits c log ≡ w → head (pipe c log) ≡ Some m
     → act_where (home_of s) (view_of s log) c (Some m) (step_on (view_of s log) c w (Some m)) ≡ Some a → PutsBy s log a
 by_on s log c true (Null class time) a l i h e = puts_some s log _ a (λ b j x q. cc) e
 by_on s log c false (Null class time) a l i h e = puts_some s log _ a (λ b j x q. cc) e
-by_on s log c true (Write ts class txn changes) a l i h e =
-    by_write s log c (is_held (view_of s log) c ts.0 changes) ts class txn changes a h e
-by_on s log c false (Write ts class txn changes) a l i h e =
-    by_write s log c (is_held (view_of s log) c ts.0 changes) ts class txn changes a h e
+by_on s log c true (Write ts class txn changes) a l i h e = by_write s log c (is_held (view_of s log) c ts.0 changes) ts class txn changes a h e
+by_on s log c false (Write ts class txn changes) a l i h e = by_write s log c (is_held (view_of s log) c ts.0 changes) ts class txn changes a h e
 by_on s log c true (Read ts class txn attempt conds uses) a l i h e =
     by_waited s log c (list_all (is_met (view_of s log)) conds) ts class txn attempt conds uses a l h e
-by_on s log c false (Read ts class txn attempt conds uses) a l i h e =
-    by_judged s log c ts class txn attempt conds uses _ _ a l i h refl refl e
+by_on s log c false (Read ts class txn attempt conds uses) a l i h e = by_judged s log c ts class txn attempt conds uses _ _ a l i h refl refl e
 by_on s log c _ _ a l i h e = cc
 
 by_head_of : (s : Setting) (log : Log) (c : ℕ) (o : Option Msg) (a : Act) → IsClassHere s c → head (pipe c log) ≡ o
@@ -167,8 +154,7 @@ by_head_of s log c (Some m) a l h e = by_on s log c (waits c log) m a l refl h e
 
 pub put_by_d : (s : Setting) (log : Log) (act : Act) → IsDue (home_of s) (view_of s log) act → (b : Site) (k : ℕ) (m : Msg)
     → slice_get (to_site b (sends_of_act act)) k ≡ Some m → IsPutByD s log b act m
-put_by_d s log act (by_open n k p e) =
-    by_asked s log (home_of s) k (head_of (filter (is_asked_of k.class) (opens log))) act refl e
+put_by_d s log act (by_open n k p e) = by_asked s log (home_of s) k (head_of (filter (is_asked_of k.class) (opens log))) act refl e
 put_by_d s log act (by_head n k p e) =
     let r = class_at_place s log n k p in
     by_head_of s log r.0 (head (pipe r.0 log)) act r.1 refl (subst (λ x. head_due (home_of s) (view_of s log) x ≡ Some act) (sym r.2) e)
@@ -181,12 +167,10 @@ not_piped s log b act (Null k t) h = absurd h
 not_piped s log b act _ h = refl
 
 none_at : (xs ys : List Msg) → ((k : ℕ) (m : Msg) → slice_get xs k ≡ Some m → piped m ≡ None)
-    → ((k : ℕ) (m : Msg) → slice_get ys k ≡ Some m → piped m ≡ None) → (k : ℕ) (m : Msg) → slice_get (xs ++ ys) k ≡ Some m
-    → piped m ≡ None
+    → ((k : ℕ) (m : Msg) → slice_get ys k ≡ Some m → piped m ≡ None) → (k : ℕ) (m : Msg) → slice_get (xs ++ ys) k ≡ Some m → piped m ≡ None
 none_at xs ys f g k m e = elim (in_either xs ys k m e) [ inl p ↦ f k m p | inr p ↦ g p.0 m p.1 ]
 
-pub d_pipes_none : (s : Setting) (b : Site) (log : Log) → Each (IsDueEach s) log → (k : ℕ) (m : Msg)
-    → slice_get (puts_to b log) k ≡ Some m → piped m ≡ None
+pub d_pipes_none : (s : Setting) (b : Site) (log : Log) → Each (IsDueEach s) log → (k : ℕ) (m : Msg) → slice_get (puts_to b log) k ≡ Some m → piped m ≡ None
 d_pipes_none s b [] h k m e = cc
 d_pipes_none s b (Did act ∷ log) h k m e =
     none_at (puts_to b log) (to_site b (sends_of_act act)) (d_pipes_none s b log h.1) (λ j x p. not_piped s log b act x (put_by_d s log act h.0 b j x p)) k m e

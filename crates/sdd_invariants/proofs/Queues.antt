@@ -10,14 +10,12 @@ known_more : (log more : Log) (xs : List (ℕ × Txn))
 known_more log more [] f h = tt
 known_more log more (x ∷ xs) f h = (f x.0 h.0, known_more log more xs f h.1)
 
-known_push : (log : Log) (xs : List (ℕ × Txn)) (x : ℕ × Txn) → AllKnown log xs → contains (submits log) x.0 ≡ true
-    → AllKnown log (xs ++ x ∷ [])
+known_push : (log : Log) (xs : List (ℕ × Txn)) (x : ℕ × Txn) → AllKnown log xs → contains (submits log) x.0 ≡ true → AllKnown log (xs ++ x ∷ [])
 known_push log [] x h e = (e, tt)
 known_push log (y ∷ xs) x h e = (h.0, known_push log xs x h.1 e)
 
 map_each : (f g : ℕ × Txn → Option Queued) (h : Queued → Queued) (xs : List (ℕ × Txn))
-    → ((x : ℕ × Txn) → (f x ≡ None) × (g x ≡ None) ⊎ ((q : Queued) × (f x ≡ Some q) × (g x ≡ Some (h q))))
-    → filter_map g xs ≡ map h (filter_map f xs)
+    → ((x : ℕ × Txn) → (f x ≡ None) × (g x ≡ None) ⊎ ((q : Queued) × (f x ≡ Some q) × (g x ≡ Some (h q)))) → filter_map g xs ≡ map h (filter_map f xs)
 map_each f g h [] k = refl
 map_each f g h (x ∷ xs) k = elim (k x) [
   | inl p ↦ rw (p.0, p.1) (map_each f g h xs k)
@@ -89,8 +87,7 @@ other_number n m log e f = elim (same_or_not n m) [
   | inr p ↦ p
 ]
 
-queue_start : (s : Setting) (c : ℕ) (log : Log) (q : Queued) → head_of (queue s c log) ≡ Some q → IsQueue s c log
-    → IsQueue s c (Did (start_at s c log q) ∷ log)
+queue_start : (s : Setting) (c : ℕ) (log : Log) (q : Queued) → head_of (queue s c log) ≡ Some q → IsQueue s c log → IsQueue s c (Did (start_at s c log q) ∷ log)
 queue_start s c log q e h =
     let act : Act = start_at s c log q in
     let starts : (m : ℕ) → starts_of c m (Did act ∷ log) ≡ (if m == q.number then suc (starts_of c m log) else starts_of c m log) = λ m. rw
@@ -104,8 +101,7 @@ queue_start s c log q e h =
       served = rw (same_number c) (serve_start (next_stamp s log) (sends_of_act act) (queue s c log) q e);
     }
 
-commit_each : (c : ℕ) (log : Log) (act : Act) (n : ℕ) (x : ℕ × Txn)
-    → ((m : ℕ) → starts_of c m (Did act ∷ log) ≡ starts_of c m log)
+commit_each : (c : ℕ) (log : Log) (act : Act) (n : ℕ) (x : ℕ × Txn) → ((m : ℕ) → starts_of c m (Did act ∷ log) ≡ starts_of c m log)
     → ((m : ℕ) → is_committed c m (Did act ∷ log) ≡ ((m == n) || is_committed c m log))
     → (queued c log x ≡ None) × (queued c (Did act ∷ log) x ≡ None) ⊎ ((q : Queued) × (queued c log x ≡ Some q) × (((not (q.number == n) ≡ true) × (queued c (Did act ∷ log) x ≡ Some q)) ⊎ ((not (q.number == n) ≡ false) × (queued c (Did act ∷ log) x ≡ None))))
 commit_each c log act n x f g =
@@ -130,13 +126,11 @@ same_queued : (c : ℕ) (log : Log) (e : Entry) (x : ℕ × Txn) → ((n : ℕ) 
     → ((n : ℕ) → is_committed c n (e ∷ log) ≡ is_committed c n log) → queued c log x ≡ queued c (e ∷ log) x
 same_queued c log e x f g = rw (g x.0, f x.0) refl
 
-exchanged : (a : Attempt) (x : Exchange) (qs : List Queued) → IsServed (Some a) qs
-    → IsServed (Some (record a { exchange = x })) qs
+exchanged : (a : Attempt) (x : Exchange) (qs : List Queued) → IsServed (Some a) qs → IsServed (Some (record a { exchange = x })) qs
 exchanged a x [] h = absurd h
 exchanged a x (q ∷ qs) h = h
 
-queue_submit : (s : Setting) (c : ℕ) (log : Log) (k : ℕ) (txn : Txn) → contains (submits log) k ≡ false → IsQueue s c log
-    → IsQueue s c (Submits k txn ∷ log)
+queue_submit : (s : Setting) (c : ℕ) (log : Log) (k : ℕ) (txn : Txn) → contains (submits log) k ≡ false → IsQueue s c log → IsQueue s c (Submits k txn ∷ log)
 queue_submit s c log k txn new h =
     let more : AllKnown (Submits k txn ∷ log) (submits_of s c log) = known_more log (Submits k txn ∷ log) (submits_of s c log)
     (λ n p. or_right (k == n) (contains (submits log) n) p) h.known in
@@ -185,10 +179,8 @@ queue_same s c log e a b f g w i h = record {
   served = subst (IsServed (active s c (e ∷ log))) (sym a) i;
 }
 
-queue_other_start : (s : Setting) (k c : ℕ) (log : Log) (q : Queued) → (k == c) ≡ false → IsQueue s c log
-    → IsQueue s c (Did (start_at s k log q) ∷ log)
-queue_other_start s k c log q e h =
-    queue_same s c log (Did (start_at s k log q)) (rw e refl) refl (λ n. rw e refl) (λ n. refl) (λ n. refl) (rw e h.served) h
+queue_other_start : (s : Setting) (k c : ℕ) (log : Log) (q : Queued) → (k == c) ≡ false → IsQueue s c log → IsQueue s c (Did (start_at s k log q) ∷ log)
+queue_other_start s k c log q e h = queue_same s c log (Did (start_at s k log q)) (rw e refl) refl (λ n. rw e refl) (λ n. refl) (λ n. refl) (rw e h.served) h
 
 queue_other_commit : (s : Setting) (k c : ℕ) (bases : Bases) (log : Log) (a : Attempt) → (k == c) ≡ false → IsQueue s c log
     → IsQueue s c (Did (commit_act s.catalogue bases k a) ∷ log)
@@ -214,8 +206,7 @@ queue_is s c (Handed from m ∷ log) h n =
     let i = queue_is s c log h.1 n.1 in
     queue_same s c log (Handed from m) refl refl (λ n. refl) (λ n. refl) (λ n. refl)
     (handed_way (λ o. IsServed o (queue s c log)) c from m (active s c log) tt (λ a x e. exchanged a x (queue s c log) (subst (λ o. IsServed o (queue s c log)) e i.served)) i.served) i
-queue_is s c (Ticked k ∷ log) h n =
-    let i = queue_is s c log h.1 n.1 in queue_same s c log (Ticked k) refl refl (λ n. refl) (λ n. refl) (λ n. refl) i.served i
+queue_is s c (Ticked k ∷ log) h n = let i = queue_is s c log h.1 n.1 in queue_same s c log (Ticked k) refl refl (λ n. refl) (λ n. refl) (λ n. refl) i.served i
 queue_is s c (Redeclared force t ∷ log) h n =
     let i = queue_is s c log h.1 n.1 in
     queue_same s c log (Redeclared force t) refl refl (λ n. refl) (λ n. refl) (λ n. refl) i.served i

@@ -22,8 +22,7 @@ asks_whose t k ts c (Ship a b) e f =
 asks_whose t k ts c _ e f = cc
 
 -- what a Start and a Commit put is no question
-start_asks : (ts c : ℕ) (f : ℕ → Site × Msg) (ds : List ℕ) → ((d : ℕ) → asks_rows ts c (f d).1 ≡ false)
-    → asks_in ts c (map f ds) ≡ false
+start_asks : (ts c : ℕ) (f : ℕ → Site × Msg) (ds : List ℕ) → ((d : ℕ) → asks_rows ts c (f d).1 ≡ false) → asks_in ts c (map f ds) ≡ false
 start_asks ts c f [] h = refl
 start_asks ts c f (d ∷ ds) h = neither (asks_rows ts c (f d).1) _ (h d) (start_asks ts c f ds h)
 
@@ -37,8 +36,7 @@ commit_asks ts c f (d ∷ ds) h = elim (f d) as (λ o. f d ≡ o → asks_in ts 
 
 cond_asks : (ts k : ℕ) (b : Bool) (to : Site) (m : Msg) (p : Site × Msg) → asks_rows ts k m ≡ false
     → cond b (Some (to, m)) None ≡ Some p → asks_rows ts k p.1 ≡ false
-cond_asks ts k true to m p f e =
-    let q : ◌≡◌ {A = Site × Msg} (to, m) p = cc in subst (λ (x : Site × Msg). asks_rows ts k x.1 ≡ false) q f
+cond_asks ts k true to m p f e = let q : ◌≡◌ {A = Site × Msg} (to, m) p = cc in subst (λ (x : Site × Msg). asks_rows ts k x.1 ≡ false) q f
 cond_asks ts k false to m p f e = cc
 
 write_asks : (ts k : ℕ) (cat : Catalogue) (c : ℕ) (a : Attempt) (xs : List Change) (d : ℕ) (p : Site × Msg)
@@ -50,8 +48,7 @@ write_asks ts k cat c a xs d p e =
 asks_start : (s : Setting) (ts c k : ℕ) (log : Log) (q : Queued) → asks_in ts c (sends_of_act (start_at s k log q)) ≡ false
 asks_start s ts c k log q = start_asks ts c (λ d. (D (dm_no d), start_read s k log q d)) (modules_asked s k q.text) (λ d. refl)
 
-asks_commit : (s : Setting) (ts c k : ℕ) (bases : Bases) (a : Attempt)
-    → asks_in ts c (sends_of_act (commit_act s.catalogue bases k a)) ≡ false
+asks_commit : (s : Setting) (ts c k : ℕ) (bases : Bases) (a : Attempt) → asks_in ts c (sends_of_act (commit_act s.catalogue bases k a)) ≡ false
 asks_commit s ts c k bases a =
     let xs : List Change = (effect s.catalogue (bases a.ts) a.text).changes in
     commit_asks ts c (write_to s.catalogue k a xs) (numbers_to s.catalogue.dms) (λ d p e. write_asks ts c s.catalogue k a xs d p e)
@@ -87,8 +84,7 @@ asked_send s ts c log to m hand fair i h true q w =
 asked_send s ts c log to m hand fair i h false q w = h w
 
 asked_act : (s : Setting) (ts c : ℕ) (log : Log) (act : Act) → Each (IsFair s) log → IsStep s log act
-    → (was_asked ts c log ≡ true → ts ≤ last_stamp s log) → was_asked ts c (Did act ∷ log) ≡ true
-    → ts ≤ last_stamp s (Did act ∷ log)
+    → (was_asked ts c log ≡ true → ts ≤ last_stamp s log) → was_asked ts c (Did act ∷ log) ≡ true → ts ≤ last_stamp s (Did act ∷ log)
 asked_act s ts c log act fair i h =
     step_way s log act (λ x. was_asked ts c (Did x ∷ log) ≡ true → ts ≤ last_stamp s (Did x ∷ log))
     (λ k q at f e. λ w. let p : was_asked ts c log ≡ true = only_right (asks_in ts c (sends_of_act (start_at s k log q))) (was_asked ts c log) (asks_start s ts c k log q) w in let l = h p in omega arith)
@@ -97,11 +93,9 @@ asked_act s ts c log act fair i h =
 
 asked_le : (s : Setting) (ts c : ℕ) (log : Log) → Each (IsFair s) log → was_asked ts c log ≡ true → ts ≤ last_stamp s log
 asked_le s ts c [] h e = cc
-asked_le s ts c (Handed from m ∷ log) h e =
-    let l = asked_le s ts c log h.1 e in let r = stamp_rises s (Handed from m) log in omega arith
+asked_le s ts c (Handed from m ∷ log) h e = let l = asked_le s ts c log h.1 e in let r = stamp_rises s (Handed from m) log in omega arith
 asked_le s ts c (Ticked n ∷ log) h e = let l = asked_le s ts c log h.1 e in let r = stamp_rises s (Ticked n) log in omega arith
-asked_le s ts c (Redeclared force t ∷ log) h e =
-    let l = asked_le s ts c log h.1 e in let r = stamp_rises s (Redeclared force t) log in omega arith
+asked_le s ts c (Redeclared force t ∷ log) h e = let l = asked_le s ts c log h.1 e in let r = stamp_rises s (Redeclared force t) log in omega arith
 asked_le s ts c (Submits n txn ∷ log) h e = asked_le s ts c log h.1 e
 asked_le s ts c (Did act ∷ log) h e = asked_act s ts c log act h.1 h.0 (asked_le s ts c log h.1) e
 
@@ -148,30 +142,25 @@ ready_less ts c d log x ds h w z n p = elim (h n p) [
 ]
 
 ready_lacking : (ts c d : ℕ) (log : Log) (x : Exchange) (ds : List ℕ) → without x.lacks d ≡ ds
-    → (lacking ts c x ds).modules ≡ x.modules → AreReady ts c log x → was_ready ts c (site_d d) log ≡ true
-    → AreReady ts c log (lacking ts c x ds)
+    → (lacking ts c x ds).modules ≡ x.modules → AreReady ts c log x → was_ready ts c (site_d d) log ≡ true → AreReady ts c log (lacking ts c x ds)
 ready_lacking ts c d log x [] z e h w = ready_ends ts c d log x (phase_ends ts c (record x { lacks = [] }) x.phase) e h w z
 ready_lacking ts c d log x (y ∷ rest) z e h w = ready_less ts c d log x (y ∷ rest) h w z
 
-ready_answered : (ts c d : ℕ) (log : Log) (x : Exchange) → AreReady ts c log x → was_ready ts c (site_d d) log ≡ true
-    → AreReady ts c log (answered ts c d x)
+ready_answered : (ts c d : ℕ) (log : Log) (x : Exchange) → AreReady ts c log x → was_ready ts c (site_d d) log ≡ true → AreReady ts c log (answered ts c d x)
 ready_answered ts c d log x h w = ready_lacking ts c d log x (without x.lacks d) refl (answered_goes ts c d x).modules_same h w
 
 -- once it reads no more, all are ready, and stay so
-ready_past : (ts c : ℕ) (log : Log) (x y : Exchange) → y.modules ≡ x.modules → is_reading x.phase ≡ false → AreReady ts c log x
-    → AreReady ts c log y
+ready_past : (ts c : ℕ) (log : Log) (x y : Exchange) → y.modules ≡ x.modules → is_reading x.phase ≡ false → AreReady ts c log x → AreReady ts c log y
 ready_past ts c log x y e f h n p = elim (h n (subst (λ ms. contains (firsts ms) n ≡ true) e p)) [
   | inl r ↦ never (is_reading x.phase) r.1 f
   | inr r ↦ inr r
 ]
 
 ready_more : (ts c : ℕ) (e : Entry) (log : Log) (x : Exchange)
-    → ((d : Site) → was_ready ts c d log ≡ true → was_ready ts c d (e ∷ log) ≡ true) → AreReady ts c log x
-    → AreReady ts c (e ∷ log) x
+    → ((d : Site) → was_ready ts c d log ≡ true → was_ready ts c d (e ∷ log) ≡ true) → AreReady ts c log x → AreReady ts c (e ∷ log) x
 ready_more ts c e log x f h n p = elim (h n p) [ inl r ↦ inl r | inr r ↦ inr (f (site_d n) r) ]
 
-handed_more : (ts c : ℕ) (from : Site) (m : Msg) (log : Log) (d : Site) → was_ready ts c d log ≡ true
-    → was_ready ts c d (Handed from m ∷ log) ≡ true
+handed_more : (ts c : ℕ) (from : Site) (m : Msg) (log : Log) (d : Site) → was_ready ts c d log ≡ true → was_ready ts c d (Handed from m ∷ log) ≡ true
 handed_more ts c from m log d p = or_right (same_site d from && is_ready ts c m) (was_ready ts c d log) p
 
 -- a hand from a module
@@ -182,12 +171,10 @@ is_past ts c log x f e =
 
 past_if : (ts c d : ℕ) (log : Log) (b : Bool) (x z : Exchange) → z.modules ≡ x.modules → (b ≡ true → is_reading x.phase ≡ false)
     → AreReady ts c log x → AreReady ts c log (if b then answered ts c d z else x)
-past_if ts c d log true x z e f h =
-    ready_past ts c log x (answered ts c d z) ((answered_goes ts c d z).modules_same ∙ e) (f refl) h
+past_if ts c d log true x z e f h = ready_past ts c log x (answered ts c d z) ((answered_goes ts c d z).modules_same ∙ e) (f refl) h
 past_if ts c d log false x z e f h = h
 
-got_if : (ts c d : ℕ) (log : Log) (b : Bool) (x z : Exchange) → AreReady ts c log z
-    → (b ≡ true → was_ready ts c (site_d d) log ≡ true) → AreReady ts c log x
+got_if : (ts c d : ℕ) (log : Log) (b : Bool) (x z : Exchange) → AreReady ts c log z → (b ≡ true → was_ready ts c (site_d d) log ≡ true) → AreReady ts c log x
     → AreReady ts c log (if b then answered ts c d z else x)
 got_if ts c d log true x z h f k = ready_answered ts c d log z h (f refl)
 got_if ts c d log false x z h f k = k
@@ -199,8 +186,7 @@ got_ready ts c d t k counts log e =
     (both (same_site (D d) (D d)) (is_ready ts c (Ready t k counts)) (site_self (D d)) e)
 
 ready_hand : (ts c : ℕ) (d : DmNo) (m : Msg) (log : Log) (x : Exchange) → IsHonest log (Handed (D d) m)
-    → (is_reading x.phase ≡ true → was_asked ts c log ≡ false) → AreReady ts c log x
-    → AreReady ts c (Handed (D d) m ∷ log) (after_hand ts c d.0 m x)
+    → (is_reading x.phase ≡ true → was_asked ts c log ≡ false) → AreReady ts c log x → AreReady ts c (Handed (D d) m ∷ log) (after_hand ts c d.0 m x)
 ready_hand ts c d (Ready t k counts) log x honest f h =
     let more = ready_more ts c (Handed (D d) (Ready t k counts)) log x (handed_more ts c (D d) (Ready t k counts) log) h in
     got_if ts c d.0 (Handed (D d) (Ready t k counts) ∷ log) ((t.0 == ts) && (k.0 == c)) x (record x { counts = counted d.0 counts x.counts }) more
@@ -298,8 +284,7 @@ readied_send s c log to m hand None e i h = tt
 readied_send s c log to m hand (Some a) e i h =
     let f = unasked_send s c log to m hand a e i h.unasked in
     if_way (AllReadied s c (Did (Sends to m hand) ∷ log)) (asks_rows a.ts c m) (Some (record a { exchange = after_send a.exchange })) (Some a)
-    (record { modules_are = h.modules_are; ready = h.ready; unasked = f })
-    (record { modules_are = h.modules_are; ready = h.ready; unasked = f })
+    (record { modules_are = h.modules_are; ready = h.ready; unasked = f }) (record { modules_are = h.modules_are; ready = h.ready; unasked = f })
 
 readied_act : (s : Setting) (c : ℕ) (log : Log) (act : Act) → Each (IsFair s) log → IsStep s log act
     → AllReadied s c log (active s c log) → AllReadied s c (Did act ∷ log) (active s c (Did act ∷ log))
@@ -313,13 +298,10 @@ readied_act s c log act fair i h = step_way s log act (λ x. AllReadied s c (Did
       | inl p ↦ subst (λ j. AllReadied s j (Did (commit_act s.catalogue bases k a) ∷ log) (active s j (Did (commit_act s.catalogue bases k a) ∷ log))) p
           (rw (same_number k) tt)
       | inr p ↦ rw p (readied_on s c log (commit_act s.catalogue bases k a) (active s c log) (λ ts. asks_commit s ts c k bases a) h)
-    ])
-    (λ to m hand f. readied_send s c log to m hand (active s c log) refl f h) i
+    ]) (λ to m hand f. readied_send s c log to m hand (active s c log) refl f h) i
 
-same_readied : (s : Setting) (c : ℕ) (e : Entry) (log : Log) (o : Option Attempt)
-    → ((ts : ℕ) → was_asked ts c (e ∷ log) ≡ was_asked ts c log)
-    → ((ts : ℕ) (d : Site) → was_ready ts c d (e ∷ log) ≡ was_ready ts c d log) → AllReadied s c log o
-    → AllReadied s c (e ∷ log) o
+same_readied : (s : Setting) (c : ℕ) (e : Entry) (log : Log) (o : Option Attempt) → ((ts : ℕ) → was_asked ts c (e ∷ log) ≡ was_asked ts c log)
+    → ((ts : ℕ) (d : Site) → was_ready ts c d (e ∷ log) ≡ was_ready ts c d log) → AllReadied s c log o → AllReadied s c (e ∷ log) o
 same_readied s c e log None f g h = tt
 same_readied s c e log (Some a) f g h =
     record { modules_are = h.modules_are; ready = ready_more a.ts c e log a.exchange (λ d p. g a.ts d ∙ p) h.ready; unasked = λ p. f a.ts ∙ h.unasked p }
@@ -327,12 +309,9 @@ same_readied s c e log (Some a) f g h =
 pub readied : (s : Setting) (c : ℕ) (log : Log) → Each (IsFair s) log → Each IsHonest log → AllReadied s c log (active s c log)
 readied s c [] h n = tt
 readied s c (Handed from m ∷ log) h n = readied_hand s c from m log (active s c log) n.0 (readied s c log h.1 n.1)
-readied s c (Ticked k ∷ log) h n =
-    same_readied s c (Ticked k) log (active s c log) (λ ts. refl) (λ ts d. refl) (readied s c log h.1 n.1)
-readied s c (Redeclared force t ∷ log) h n =
-    same_readied s c (Redeclared force t) log (active s c log) (λ ts. refl) (λ ts d. refl) (readied s c log h.1 n.1)
-readied s c (Submits k txn ∷ log) h n =
-    same_readied s c (Submits k txn) log (active s c log) (λ ts. refl) (λ ts d. refl) (readied s c log h.1 n.1)
+readied s c (Ticked k ∷ log) h n = same_readied s c (Ticked k) log (active s c log) (λ ts. refl) (λ ts d. refl) (readied s c log h.1 n.1)
+readied s c (Redeclared force t ∷ log) h n = same_readied s c (Redeclared force t) log (active s c log) (λ ts. refl) (λ ts d. refl) (readied s c log h.1 n.1)
+readied s c (Submits k txn ∷ log) h n = same_readied s c (Submits k txn) log (active s c log) (λ ts. refl) (λ ts d. refl) (readied s c log h.1 n.1)
 readied s c (Did act ∷ log) h n = readied_act s c log act h.1 h.0 (readied s c log h.1 n.1)
 
 -- of an attempt that reads no more
@@ -344,8 +323,7 @@ pub over_reads : (x : Exchange) → is_over x.phase ≡ true → is_reading x.ph
 over_reads x e = over_not x.phase e
 
 pub all_ready : (s : Setting) (c : ℕ) (log : Log) (a : Attempt) (d : ℕ) → Each (IsFair s) log → Each IsHonest log
-    → active s c log ≡ Some a → is_reading a.exchange.phase ≡ false → contains (modules_asked s c a.text) d ≡ true
-    → was_ready a.ts c (site_d d) log ≡ true
+    → active s c log ≡ Some a → is_reading a.exchange.phase ≡ false → contains (modules_asked s c a.text) d ≡ true → was_ready a.ts c (site_d d) log ≡ true
 all_ready s c log a d h n e f p =
     let i = subst (AllReadied s c log) e (readied s c log h n) in
     elim (i.ready d (subst (λ l. contains l d ≡ true) (sym i.modules_are) p)) [ inl r ↦ never (is_reading a.exchange.phase) r.1 f | inr r ↦ r ]

@@ -16,8 +16,7 @@ pub record OpensRead (s : Setting) (c : ℕ) (b : Site) (log : Log) (act : Act) 
   pub rises : bound s log ≤ bound s (Did act ∷ log)
   pub puts : (reads_in c (to_site b (sends_of_act act)) ≡ []) ⊎ ((t : ℕ) × (bound s log < t) × (t ≤ bound s (Did act ∷ log)) × (reads_in c (to_site b (sends_of_act act)) ≡ t ∷ []))
 
-read_one : (c k t : ℕ) (m : Msg) → read_at c m ≡ cond (k == c) (Some t) None
-    → (reads_in c (m ∷ []) ≡ []) ⊎ (reads_in c (m ∷ []) ≡ t ∷ [])
+read_one : (c k t : ℕ) (m : Msg) → read_at c m ≡ cond (k == c) (Some t) None → (reads_in c (m ∷ []) ≡ []) ⊎ (reads_in c (m ∷ []) ≡ t ∷ [])
 read_one c k t m e =
     elim (k == c) as (λ b. read_at c m ≡ cond b (Some t) None → (reads_in c (m ∷ []) ≡ []) ⊎ (reads_in c (m ∷ []) ≡ t ∷ [])) [ true ↦ λ p. inr (rw p refl) | false ↦ λ p. inl (rw p refl) ] e
 
@@ -27,8 +26,7 @@ pub start_puts : (s : Setting) (c : ℕ) (b : Site) (log : Log) (q : Queued)
 start_puts s c b log q =
     one_of_each (start_read s c log q) b (modules_asked s c q.text) (strict_modules s.catalogue c (ascending (fragments_in (uses_of s.catalogue q.text))))
 
-start_reads : (s : Setting) (k c : ℕ) (b : Site) (log : Log) (q : Queued) → number_of s.site ≤ 63
-    → OpensRead s c b log (start_at s k log q)
+start_reads : (s : Setting) (k c : ℕ) (b : Site) (log : Log) (q : Queued) → number_of s.site ≤ 63 → OpensRead s c b log (start_at s k log q)
 start_reads s k c b log q w =
     let n = clock_number s.site log in
     record {
@@ -57,10 +55,8 @@ send_not_read s c log m (a_held e) = ap (read_at c) e
 send_not_read s c log m (a_hold e) = ap (read_at c) e
 send_not_read s c log m (a_release ts e) = ap (read_at c) e
 
-pub opens_read : (s : Setting) (c : ℕ) (b : Site) (log : Log) (act : Act) → number_of s.site ≤ 63 → IsStep s log act
-    → OpensRead s c b log act
-opens_read s c b log act w i = step_way s log act (OpensRead s c b log)
-    (λ k q at f e. start_reads s k c b log q w)
+pub opens_read : (s : Setting) (c : ℕ) (b : Site) (log : Log) (act : Act) → number_of s.site ≤ 63 → IsStep s log act → OpensRead s c b log act
+opens_read s c b log act w i = step_way s log act (OpensRead s c b log) (λ k q at f e. start_reads s k c b log q w)
     (λ k bases a at f. record { rises = omega arith; puts = inl (elim (commit_puts s k bases b a) [ inl e ↦ ap (reads_in c) e | inr p ↦ ap (reads_in c) p.1 ]) })
     (λ to m hand f. record { rises = omega arith; puts = inl (no_reads_if c (same_site b to) m (send_not_read s c log m f)) }) i
 
@@ -75,10 +71,8 @@ read_on s c b log e l p h =
 
 pub read_once : (s : Setting) (c : ℕ) (b : Site) (log : Log) → number_of s.site ≤ 63 → Each (IsFair s) log → IsReadOnce s c b log
 read_once s c b [] w h = record { strict = tt; closed = tt }
-read_once s c b (Handed from m ∷ log) w h =
-    read_on s c b log (Handed from m) (bound_rises s (Handed from m) log) refl (read_once s c b log w h.1)
-read_once s c b (Ticked n ∷ log) w h =
-    read_on s c b log (Ticked n) (bound_rises s (Ticked n) log) refl (read_once s c b log w h.1)
+read_once s c b (Handed from m ∷ log) w h = read_on s c b log (Handed from m) (bound_rises s (Handed from m) log) refl (read_once s c b log w h.1)
+read_once s c b (Ticked n ∷ log) w h = read_on s c b log (Ticked n) (bound_rises s (Ticked n) log) refl (read_once s c b log w h.1)
 read_once s c b (Redeclared force t ∷ log) w h =
     read_on s c b log (Redeclared force t) (bound_rises s (Redeclared force t) log) refl (read_once s c b log w h.1)
 read_once s c b (Submits n txn ∷ log) w h = read_on s c b log (Submits n txn) (omega arith) refl (read_once s c b log w h.1)
@@ -119,5 +113,4 @@ put_by s b log act k m i = step_way s log act (λ x. slice_get (to_site b (sends
     (λ c bases a at f. λ there. elim (commit_puts s c bases b a) [
       | inl p ↦ in_none _ k m p there
       | inr p ↦ subst (IsPutBy s log (commit_act s.catalogue bases c a)) (in_one _ _ k m p.1 there) (record { at_home = at; attempt = a; active_is = f; bases = bases; act_is = refl; time_is = refl; number_is = refl })
-    ])
-    (λ to x hand f. λ there. subst (IsPutBy s log (Sends to x hand)) (in_if (same_site b to) x k m there).1 (send_by s log (Sends to x hand) x f)) i
+    ]) (λ to x hand f. λ there. subst (IsPutBy s log (Sends to x hand)) (in_if (same_site b to) x k m there).1 (send_by s log (Sends to x hand) x f)) i

@@ -7,17 +7,14 @@ use Rattle.sdd_invariants.proofs.Bools.{same_number, same_or_not}
 use Rattle.sdd_invariants.proofs.Lists.{le_up, lt_above}
 
 pub recorded : (s : Setting) (log : Log) (act : Act) → IsStep s log act → IsRecord s log act
-recorded s log act i = step_way s log act (IsRecord s log)
-    (λ c q at f e. record { at_home = at; idle = f; queued = q; head = e; act_is = refl })
-    (λ c bases a at f. record { at_home = at; attempt = a; active_is = f; bases = bases; act_is = refl })
-    (λ to m hand f. tt) i
+recorded s log act i = step_way s log act (IsRecord s log) (λ c q at f e. record { at_home = at; idle = f; queued = q; head = e; act_is = refl })
+    (λ c bases a at f. record { at_home = at; attempt = a; active_is = f; bases = bases; act_is = refl }) (λ to m hand f. tt) i
 
 abbrev pub IsStarted : Setting → ℕ → Log → Option Attempt → Type 0
 IsStarted s c log None = Unit {0}
 IsStarted s c log (Some a) = HasStart s c log a.txn a.attempt a.ts a.text
 
-started_more : (s : Setting) (c : ℕ) (e : Entry) (log : Log) (o : Option Attempt) → is_recorded c e ≡ false → IsStarted s c log o
-    → IsStarted s c (e ∷ log) o
+started_more : (s : Setting) (c : ℕ) (e : Entry) (log : Log) (o : Option Attempt) → is_recorded c e ≡ false → IsStarted s c log o → IsStarted s c (e ∷ log) o
 started_more s c e log None p h = tt
 started_more s c e log (Some a) p h = record {
   later = e ∷ h.later;
@@ -34,8 +31,7 @@ started_more s c e log (Some a) p h = record {
   ts_is = h.ts_is;
 }
 
-started_now : (s : Setting) (c : ℕ) (log : Log) (q : Queued) → home s.catalogue c ≡ s.site → active s c log ≡ None
-    → head_of (queue s c log) ≡ Some q
+started_now : (s : Setting) (c : ℕ) (log : Log) (q : Queued) → home s.catalogue c ≡ s.site → active s c log ≡ None → head_of (queue s c log) ≡ Some q
     → IsStarted s c (Did (start_at s c log q) ∷ log) (started (next_stamp s log) (sends_of_act (start_at s c log q)) (Some q))
 started_now s c log q at f e =
     record { later = []; before = log; queued = q; is = refl; none_since = tt; at_home = at; idle = f; head = e; number_is = refl; try_is = refl; text_is = refl; ts_is = refl }
@@ -62,8 +58,7 @@ started_is s c (Handed from m ∷ log) h =
     let j = started_more s c (Handed from m) log (active s c log) refl (started_is s c log h.1) in
     handed_way (IsStarted s c (Handed from m ∷ log)) c from m (active s c log) tt (λ a x e. subst (IsStarted s c (Handed from m ∷ log)) e j) j
 started_is s c (Ticked n ∷ log) h = started_more s c (Ticked n) log (active s c log) refl (started_is s c log h.1)
-started_is s c (Redeclared force t ∷ log) h =
-    started_more s c (Redeclared force t) log (active s c log) refl (started_is s c log h.1)
+started_is s c (Redeclared force t ∷ log) h = started_more s c (Redeclared force t) log (active s c log) refl (started_is s c log h.1)
 started_is s c (Submits n txn ∷ log) h = started_more s c (Submits n txn) log (active s c log) refl (started_is s c log h.1)
 started_is s c (Did act ∷ log) h = started_act s c log act h.0 (started_is s c log h.1)
 
@@ -78,8 +73,7 @@ stands n txn t = record { number = n; text = txn; tries = t }
 abbrev pair : ℕ → Txn → ℕ × Txn
 pair n t = (n, t)
 
-first_left : (c : ℕ) (log : Log) (xs : List (ℕ × Txn)) (q : Queued) → head_of (filter_map (queued c log) xs) ≡ Some q
-    → IsFirstLeft c log xs q
+first_left : (c : ℕ) (log : Log) (xs : List (ℕ × Txn)) (q : Queued) → head_of (filter_map (queued c log) xs) ≡ Some q → IsFirstLeft c log xs q
 first_left c log [] q e = cc
 first_left c log (x ∷ xs) q e =
     elim (is_committed c x.0 log) as (λ b. is_committed c x.0 log ≡ b → IsFirstLeft c log (x ∷ xs) q) [
@@ -106,31 +100,26 @@ pub head_left : (s : Setting) (c : ℕ) (log : Log) (q : Queued) → Each (IsFai
     → head_of (queue s c log) ≡ Some q → IsFirstLeft c log (submits_of s c log) q
 head_left s c log q h n e = first_left c log (submits_of s c log) q (ap head_of (sym (queue_is s c log h n).is) ∙ e)
 
-get_left : {A : Type 0} (xs : List A) (y : A) (k : ℕ) (m : A) → k < length xs → slice_get (xs ++ y ∷ []) k ≡ Some m
-    → slice_get xs k ≡ Some m
+get_left : {A : Type 0} (xs : List A) (y : A) (k : ℕ) (m : A) → k < length xs → slice_get (xs ++ y ∷ []) k ≡ Some m → slice_get xs k ≡ Some m
 get_left [] y k m l e = absurd (omega arith)
 get_left (x ∷ xs) y zero m l e = e
 get_left (x ∷ xs) y (suc k) m l e = get_left xs y k m (omega arith) e
 
-get_end : {A : Type 0} (xs : List A) (y : A) (k : ℕ) (m : A) → length xs ≤ k → slice_get (xs ++ y ∷ []) k ≡ Some m
-    → (k ≡ length xs) × (y ≡ m)
+get_end : {A : Type 0} (xs : List A) (y : A) (k : ℕ) (m : A) → length xs ≤ k → slice_get (xs ++ y ∷ []) k ≡ Some m → (k ≡ length xs) × (y ≡ m)
 get_end [] y zero m l e = (refl, cc)
 get_end [] y (suc k) m l e = cc
 get_end (x ∷ xs) y zero m l e = absurd (omega arith)
 get_end (x ∷ xs) y (suc k) m l e = let i = get_end xs y k m (omega arith) e in (omega (arith, i.0), i.1)
 
 submitted_more : (s : Setting) (c : ℕ) (e : Entry) (log : Log) (k n : ℕ) (t : Txn)
-    → take k (submits_of s c (e ∷ log)) ≡ take k (submits_of s c log) → WasSubmitted s c log k n t
-    → WasSubmitted s c (e ∷ log) k n t
+    → take k (submits_of s c (e ∷ log)) ≡ take k (submits_of s c log) → WasSubmitted s c log k n t → WasSubmitted s c (e ∷ log) k n t
 submitted_more s c e log k n t f h =
     record { later = e ∷ h.later; before = h.before; is = ap (λ l. e ∷ l) h.is; of_class = h.of_class; earlier = h.earlier ∙ sym f }
 
-submit_found : (s : Setting) (c : ℕ) (log : Log) (n : ℕ) (txn : Txn) (b : Bool) (k m : ℕ) (t : Txn)
-    → is_for c (in_force s log).catalogue txn ≡ b
+submit_found : (s : Setting) (c : ℕ) (log : Log) (n : ℕ) (txn : Txn) (b : Bool) (k m : ℕ) (t : Txn) → is_for c (in_force s log).catalogue txn ≡ b
     → submits_of s c (Submits n txn ∷ log) ≡ (if b then submits_of s c log ++ (n, txn) ∷ [] else submits_of s c log)
     → ((j : ℕ) → slice_get (submits_of s c log) j ≡ Some (pair m t) → WasSubmitted s c log j m t)
-    → slice_get (if b then submits_of s c log ++ (n, txn) ∷ [] else submits_of s c log) k ≡ Some (pair m t)
-    → WasSubmitted s c (Submits n txn ∷ log) k m t
+    → slice_get (if b then submits_of s c log ++ (n, txn) ∷ [] else submits_of s c log) k ≡ Some (pair m t) → WasSubmitted s c (Submits n txn ∷ log) k m t
 submit_found s c log n txn false k m t f g i e = submitted_more s c (Submits n txn) log k m t (ap (take k) g) (i k e)
 submit_found s c log n txn true k m t f g i e = elim (dec_le (suc k) (length (submits_of s c log))) [
   | yes l ↦ submitted_more s c (Submits n txn) log k m t (ap (take k) g ∙ take-append-le k (submits_of s c log) ((n, txn) ∷ []) (omega arith))
@@ -145,16 +134,13 @@ submit_found s c log n txn true k m t f g i e = elim (dec_le (suc k) (length (su
       })
 ]
 
-pub was_submitted : (s : Setting) (c : ℕ) (log : Log) (k m : ℕ) (t : Txn) → slice_get (submits_of s c log) k ≡ Some (pair m t)
-    → WasSubmitted s c log k m t
+pub was_submitted : (s : Setting) (c : ℕ) (log : Log) (k m : ℕ) (t : Txn) → slice_get (submits_of s c log) k ≡ Some (pair m t) → WasSubmitted s c log k m t
 was_submitted s c [] k m t e = cc
 was_submitted s c (Submits n txn ∷ log) k m t e =
     submit_found s c log n txn (is_for c (in_force s log).catalogue txn) k m t refl refl (λ j p. was_submitted s c log j m t p) e
-was_submitted s c (Handed from x ∷ log) k m t e =
-    submitted_more s c (Handed from x) log k m t refl (was_submitted s c log k m t e)
+was_submitted s c (Handed from x ∷ log) k m t e = submitted_more s c (Handed from x) log k m t refl (was_submitted s c log k m t e)
 was_submitted s c (Ticked n ∷ log) k m t e = submitted_more s c (Ticked n) log k m t refl (was_submitted s c log k m t e)
-was_submitted s c (Redeclared force u ∷ log) k m t e =
-    submitted_more s c (Redeclared force u) log k m t refl (was_submitted s c log k m t e)
+was_submitted s c (Redeclared force u ∷ log) k m t e = submitted_more s c (Redeclared force u) log k m t refl (was_submitted s c log k m t e)
 was_submitted s c (Did act ∷ log) k m t e = submitted_more s c (Did act) log k m t refl (was_submitted s c log k m t e)
 
 start_says : (s : Setting) (c : ℕ) (log : Log) (q : Queued) → number_of s.site ≤ 63 → Each (IsFair s) log → Each IsNew log
@@ -201,7 +187,6 @@ commit_says s c bases log a h n at e =
       last_try = sym r.4 ∙ l.tries_are ∙ ap (λ k. starts_of c k log) r.2;
     }
 
-pub says : (s : Setting) (log : Log) (act : Act) → number_of s.site ≤ 63 → Each (IsFair s) log → Each IsNew log → IsStep s log act
-    → Says s log act
+pub says : (s : Setting) (log : Log) (act : Act) → number_of s.site ≤ 63 → Each (IsFair s) log → Each IsNew log → IsStep s log act → Says s log act
 says s log act w h n i = step_way s log act (Says s log)
     (λ c q at f e. start_says s c log q w h n at e) (λ c bases a at f. commit_says s c bases log a h n at f) (λ to m hand f. tt) i

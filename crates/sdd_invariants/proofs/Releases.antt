@@ -85,8 +85,7 @@ serving_on s t log e a b c d f g l h = record {
 }
 
 serving_start : (s : Setting) (t : ℕ) (log : Log) (q : Queued) → head_of (queue s 0 log) ≡ Some q
-    → (counts t log).releases ≤ starts log → (last_served s log).commits ≤ starts log → IsServing s t log
-    → IsServing s t (Did (start_at s 0 log q) ∷ log)
+    → (counts t log).releases ≤ starts log → (last_served s log).commits ≤ starts log → IsServing s t log → IsServing s t (Did (start_at s 0 log q) ∷ log)
 serving_start s t log q e r c h =
     let ts : ℕ = next_stamp s log in
     let act : Act = start_at s 0 log q in
@@ -125,8 +124,7 @@ release_push ms ts = filter_map-append release_time ms (Release ts ∷ [])
 
 serving_release : (s : Setting) (t : ℕ) (ts : Ts) (log : Log) → (counts t log).releases < (last_served s log).commits
     → (ts.0 ≡ (last_served s log).ts) × ((last_served s log).dones ≡ s.catalogue.dms) → (last_served s log).commits ≤ starts log
-    → starts log ≤ suc (counts t log).releases
-    → IsServing s t log → IsServing s t (Did (Sends (T (tm_no t)) (Release ts) None) ∷ log)
+    → starts log ≤ suc (counts t log).releases → IsServing s t log → IsServing s t (Did (Sends (T (tm_no t)) (Release ts) None) ∷ log)
 serving_release s t ts log l v c u h =
     let e : Entry = Did (Sends (T (tm_no t)) (Release ts) None) in
     let r : ℕ = (counts t log).releases in
@@ -181,15 +179,13 @@ ahead s t log c =
     let b = balance false c.state (puts_to (T (tm_no t)) log) c.turns_are in
     let o = one_if_le c.state in omega (arith, b, o, c.holds_are, c.releases_are, c.started_hold)
 
-serving_send : (s : Setting) (t : ℕ) (log : Log) (to : Site) (m : Msg)
-    → (counts t (Did (Sends to m None) ∷ log)).releases ≡ (counts t log).releases
+serving_send : (s : Setting) (t : ℕ) (log : Log) (to : Site) (m : Msg) → (counts t (Did (Sends to m None) ∷ log)).releases ≡ (counts t log).releases
     → release_times (puts_to (T (tm_no t)) (Did (Sends to m None) ∷ log)) ≡ release_times (puts_to (T (tm_no t)) log)
     → IsServing s t log → IsServing s t (Did (Sends to m None) ∷ log)
 serving_send s t log to m a b h = serving_on s t log (Did (Sends to m None)) (append-nil _) refl refl (λ x. refl) a b
     (sent_way (LastIs (drawn_so_far log)) 0 m (active s 0 log) (λ a x f. h.active_last a f) (last_is (drawn_so_far log) (active s 0 log) h.active_last)) h
 
-pub serving : (s : Setting) (k t : ℕ) (log : Log) → slice_get (numbers_to s.catalogue.tms) k ≡ Some t → Each (IsFairU s) log
-    → IsServing s t log
+pub serving : (s : Setting) (k t : ℕ) (log : Log) → slice_get (numbers_to s.catalogue.tms) k ≡ Some t → Each (IsFairU s) log → IsServing s t log
 serving s k t [] i h =
     record { counted = refl; active_last = λ a e. cc; served_last = λ e l. absurd (omega arith); dones_le = omega arith; released = refl; done = λ j x l e. cc }
 serving s k t (Handed from m ∷ log) i h = serving_hand s t from m log (serving s k t log i h.1)
@@ -205,8 +201,7 @@ serving s k t (Submits n txn ∷ log) i h =
 serving s k t (Did act ∷ log) i h =
     let j = serving s k t log i h.1 in
     let c = chain s k t log i h.1 in
-    u_way s log act (λ x. IsServing s t (Did x ∷ log))
-    (λ q e z r. serving_start s t log q e (omega (arith, c.released, c.committed)) c.committed j)
+    u_way s log act (λ x. IsServing s t (Did x ∷ log)) (λ q e z r. serving_start s t log q e (omega (arith, c.released, c.committed)) c.committed j)
     (λ bases a e. serving_commit s t log bases a e j)
     (λ d m a e. serving_send s t log (D (dm_no d)) m refl (ap release_times (append-nil (puts_to (T (tm_no t)) log))) j)
     (λ n ts l v. elim (same_or_not t n) [
@@ -215,8 +210,7 @@ serving s k t (Did act ∷ log) i h =
       | inr p ↦ serving_send s t log (T (tm_no n)) (Release ts)
           (ap (λ x. (if x then record (counts t log) { releases = suc (counts t log).releases } else counts t log).releases) (sent_count t n log ∙ flip t n p))
           (ap release_times (puts_else t n (Release ts) log p)) j
-    ])
-    (λ n e. serving_send s t log (T (tm_no n)) Hold (hold_releases t n log) (hold_times t n log) j) (u_due s h.0.0.0 log act h.0.0.1)
+    ]) (λ n e. serving_send s t log (T (tm_no n)) Hold (hold_releases t n log) (hold_times t n log) j) (u_due s h.0.0.0 log act h.0.0.1)
 
 -- at a Start of class 0 each T sent and was sent as many as it takes
 abbrev ReadyIf : Setting → Log → Act → Type 0
@@ -225,12 +219,10 @@ ReadyIf s log (Records k (Start txn attempt c ts p2 us) sends) =
     ((j t : ℕ) → slice_get (numbers_to s.catalogue.tms) j ≡ Some t → (counts t log).helds ≡ suc (last_served s log).commits)
 ReadyIf s log act = Unit {0}
 
-starts_are : (s : Setting) (log : Log) (q : Queued) → head_of (queue s 0 log) ≡ Some q → q.tries ≡ 0 → IsTried s log
-    → starts log ≡ (last_served s log).commits
+starts_are : (s : Setting) (log : Log) (q : Queued) → head_of (queue s 0 log) ≡ Some q → q.tries ≡ 0 → IsTried s log → starts log ≡ (last_served s log).commits
 starts_are s log q e z h = elim h [ inl p ↦ p.0 | inr p ↦ absurd (not_started p.0 (queue s 0 log) q p.2 e z) ]
 
 pub start_ready : (s : Setting) (log : Log) (q : Queued) → Each (IsFairU s) log → IsStepU s log (start_at s 0 log q)
     → (starts log ≡ (last_served s log).commits) × ((j t : ℕ) → slice_get (numbers_to s.catalogue.tms) j ≡ Some t → (counts t log).helds ≡ suc (last_served s log).commits)
-start_ready s log q h i = u_way s log (start_at s 0 log q) (ReadyIf s log)
-    (λ p e z r. (starts_are s log p e z (is_tried s log h), λ j t x. (r j t x).1))
+start_ready s log q h i = u_way s log (start_at s 0 log q) (ReadyIf s log) (λ p e z r. (starts_are s log p e z (is_tried s log h), λ j t x. (r j t x).1))
     (λ bases a e. tt) (λ d m a e. tt) (λ t ts l v. tt) (λ t e. tt) i

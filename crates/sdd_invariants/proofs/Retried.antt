@@ -27,8 +27,7 @@ pub record IsTriedHead (s : Setting) (c : ℕ) (log : Log) (qs : List Queued) (o
 abbrev pub IsTriedAt : Setting → ℕ → Log → List Queued → Option Attempt → Type 0
 IsTriedAt s c log qs o = AllZero qs ⊎ IsTriedHead s c log qs o
 
-rejected_more : (s : Setting) (c : ℕ) (e : Entry) (log : Log) (n k : ℕ) → is_recorded c e ≡ false → IsRejected s c log n k
-    → IsRejected s c (e ∷ log) n k
+rejected_more : (s : Setting) (c : ℕ) (e : Entry) (log : Log) (n k : ℕ) → is_recorded c e ≡ false → IsRejected s c log n k → IsRejected s c (e ∷ log) n k
 rejected_more s c e log n k p h = record {
   later = e ∷ h.later;
   before = h.before;
@@ -93,8 +92,7 @@ is_head (x ∷ qs) q e = let p : x ≡ q = cc in (ap (λ (y : Queued). y.number)
 
 head_is : (n k : ℕ) (qs : List Queued) (q : Queued) → IsHead n k qs → head_of qs ≡ Some q → (q.number ≡ n) × (q.tries ≡ k)
 head_is n k [] q h e = absurd h
-head_is n k (x ∷ qs) q h e =
-    let p : x ≡ q = cc in (ap (λ (y : Queued). y.number) (sym p) ∙ h.0, ap (λ (y : Queued). y.tries) (sym p) ∙ h.1)
+head_is n k (x ∷ qs) q h e = let p : x ≡ q = cc in (ap (λ (y : Queued). y.number) (sym p) ∙ h.0, ap (λ (y : Queued). y.tries) (sym p) ∙ h.1)
 
 zero_head : (qs : List Queued) (q : Queued) → AllZero qs → head_of qs ≡ Some q → q.tries ≡ 0
 zero_head [] q h e = cc
@@ -113,8 +111,7 @@ head_served a [] n k h i = absurd h
 head_served a (q ∷ qs) n k h i = (sym h.0 ∙ i.0, sym h.2 ∙ i.1)
 
 -- a hand that ends it is a REJECT
-reject_by : (m : Msg) (ts c : ℕ) → rejects m ts c ≡ true
-    → (t : Ts) × (k : ClassNo) × (by : ClassNo) × (w : Ts) × (m ≡ Reject t k by w) × (t.0 ≡ ts) × (k.0 ≡ c)
+reject_by : (m : Msg) (ts c : ℕ) → rejects m ts c ≡ true → (t : Ts) × (k : ClassNo) × (by : ClassNo) × (w : Ts) × (m ≡ Reject t k by w) × (t.0 ≡ ts) × (k.0 ≡ c)
 reject_by (Reject t k by w) ts c e = elim (t.0 == ts) as (λ b. (t.0 == ts) ≡ b → (b && (k.0 == c)) ≡ true → (t2 : Ts) × (k2 : ClassNo) × (by2 : ClassNo) × (w2 : Ts) × (Reject t k by w ≡ Reject t2 k2 by2 w2) × (t2.0 ≡ ts) × (k2.0 ≡ c)) [
   | true ↦ λ p q. (t, k, by, w, refl, eqb-true t.0 ts p, eqb-true k.0 c q)
   | false ↦ λ p q. cc
@@ -141,18 +138,15 @@ ended s c log U m o n k e v h f g = rejected_more s c (Handed U m) log n k refl 
 ended s c log (T t) m o n k e v h f g = rejected_more s c (Handed (T t) m) log n k refl (f g)
 
 tried_hand : (s : Setting) (c : ℕ) (log : Log) (from : Site) (m : Msg) → IsServed (active s c log) (queue s c log)
-    → IsTriedAt s c log (queue s c log) (active s c log)
-    → IsTriedAt s c (Handed from m ∷ log) (queue s c log) (active_handed c from m (active s c log))
+    → IsTriedAt s c log (queue s c log) (active s c log) → IsTriedAt s c (Handed from m ∷ log) (queue s c log) (active_handed c from m (active s c log))
 tried_hand s c log from m v h = elim h [
   | inl z ↦ inl z
   | inr t ↦ inr (record { number = t.number; tries = t.tries; head = t.head; others = t.others; rejected = λ x. ended s c log from m (active s c log) t.number t.tries refl v t.head t.rejected x })
 ]
 
-tried_submit : (s : Setting) (c : ℕ) (log : Log) (k : ℕ) (txn : Txn) (b : Bool)
-    → IsTriedAt s c log (queue s c log) (active s c log)
+tried_submit : (s : Setting) (c : ℕ) (log : Log) (k : ℕ) (txn : Txn) (b : Bool) → IsTriedAt s c log (queue s c log) (active s c log)
     → IsTriedAt s c (Submits k txn ∷ log) (if b then queue s c log ++ record { number = k; text = txn; tries = 0 } ∷ [] else queue s c log) (active s c log)
-tried_submit s c log k txn false h =
-    tried_more s c (Submits k txn) log (queue s c log) (active s c log) (active s c log) refl (λ x. x) h
+tried_submit s c log k txn false h = tried_more s c (Submits k txn) log (queue s c log) (active s c log) (active s c log) refl (λ x. x) h
 tried_submit s c log k txn true h = elim h [
   | inl z ↦ inl (zero_push (queue s c log) (record { number = k; text = txn; tries = 0 }) z refl)
   | inr t ↦ inr (record {
@@ -168,8 +162,7 @@ started_not : (ts : ℕ) (sends : List (Site × Msg)) (o : Option Queued) (q : Q
 started_not ts sends None q e f = cc
 started_not ts sends (Some x) q e f = cc
 
-tried_start : (s : Setting) (c : ℕ) (log : Log) (q : Queued) → head_of (queue s c log) ≡ Some q
-    → IsTriedAt s c log (queue s c log) (active s c log)
+tried_start : (s : Setting) (c : ℕ) (log : Log) (q : Queued) → head_of (queue s c log) ≡ Some q → IsTriedAt s c log (queue s c log) (active s c log)
     → IsTriedAt s c (Did (start_at s c log q) ∷ log) (map (tried q.number) (queue s c log)) (started (next_stamp s log) (sends_of_act (start_at s c log q)) (head_of (queue s c log)))
 tried_start s c log q e h =
     let but : ZeroBut q.number
@@ -199,8 +192,7 @@ sent_none c m None e = refl
 sent_none c m (Some a) e = sent_way (λ p. p ≡ None → Some a ≡ None) c m (Some a) (λ b x f g. cc) (λ g. cc) e
 
 tried_act : (s : Setting) (c : ℕ) (log : Log) (act : Act) → IsStep s log act → IsServed (active s c log) (queue s c log)
-    → IsTriedAt s c log (queue s c log) (active s c log)
-    → IsTriedAt s c (Did act ∷ log) (queue s c (Did act ∷ log)) (active s c (Did act ∷ log))
+    → IsTriedAt s c log (queue s c log) (active s c log) → IsTriedAt s c (Did act ∷ log) (queue s c (Did act ∷ log)) (active s c (Did act ∷ log))
 tried_act s c log act i v h =
     step_way s log act (λ x. IsTriedAt s c (Did x ∷ log) (queue s c (Did x ∷ log)) (active s c (Did x ∷ log)))
     (λ k q at f e. elim (same_or_not k c) [
@@ -213,16 +205,13 @@ tried_act s c log act i v h =
     ])
     (λ to m hand f. tried_more s c (Did (Sends to m hand)) log (queue s c log) (active s c log) (active_sent c m (active s c log)) refl (sent_none c m (active s c log)) h) i
 
-pub tried_at : (s : Setting) (c : ℕ) (log : Log) → Each (IsFair s) log → Each IsNew log
-    → IsTriedAt s c log (queue s c log) (active s c log)
+pub tried_at : (s : Setting) (c : ℕ) (log : Log) → Each (IsFair s) log → Each IsNew log → IsTriedAt s c log (queue s c log) (active s c log)
 tried_at s c [] h n = inl tt
 tried_at s c (Handed from m ∷ log) h n = tried_hand s c log from m (queue_is s c log h.1 n.1).served (tried_at s c log h.1 n.1)
-tried_at s c (Ticked k ∷ log) h n =
-    tried_more s c (Ticked k) log (queue s c log) (active s c log) (active s c log) refl (λ x. x) (tried_at s c log h.1 n.1)
+tried_at s c (Ticked k ∷ log) h n = tried_more s c (Ticked k) log (queue s c log) (active s c log) (active s c log) refl (λ x. x) (tried_at s c log h.1 n.1)
 tried_at s c (Redeclared force t ∷ log) h n =
     tried_more s c (Redeclared force t) log (queue s c log) (active s c log) (active s c log) refl (λ x. x) (tried_at s c log h.1 n.1)
-tried_at s c (Submits k txn ∷ log) h n =
-    tried_submit s c log k txn (is_for c (in_force s log).catalogue txn) (tried_at s c log h.1 n.1)
+tried_at s c (Submits k txn ∷ log) h n = tried_submit s c log k txn (is_for c (in_force s log).catalogue txn) (tried_at s c log h.1 n.1)
 tried_at s c (Did act ∷ log) h n = tried_act s c log act h.0 (queue_is s c log h.1 n.1).served (tried_at s c log h.1 n.1)
 
 -- the head of an idle class that was started before: its last attempt was rejected

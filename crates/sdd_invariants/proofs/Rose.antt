@@ -6,19 +6,15 @@ use Rattle.sdd_log.specs.tm.Due.{IsDue}
 use Rattle.sdd_log.specs.tm.Views.{view_of}
 
 held_more : (e : Entry) (log : Log) (n : ℕ) → IsHeldAt log n → IsHeldAt (e ∷ log) n
-held_more e log n h =
-    record { later = e ∷ h.later; before = h.before; to = h.to; time = h.time; hand = h.hand; is = ap (λ l. e ∷ l) h.is; count = h.count }
+held_more e log n h = record { later = e ∷ h.later; before = h.before; to = h.to; time = h.time; hand = h.hand; is = ap (λ l. e ∷ l) h.is; count = h.count }
 
-held_by : (act : Act) (log : Log) (n : ℕ) → ((holds log).helds ≡ suc n → IsHeldAt log n) → (holds (Did act ∷ log)).helds ≡ suc n
-    → IsHeldAt (Did act ∷ log) n
-held_by (Sends to (Held t) hand) log n f e =
-    record { later = []; before = log; to = to; time = t; hand = hand; is = refl; count = omega (arith, e) }
+held_by : (act : Act) (log : Log) (n : ℕ) → ((holds log).helds ≡ suc n → IsHeldAt log n) → (holds (Did act ∷ log)).helds ≡ suc n → IsHeldAt (Did act ∷ log) n
+held_by (Sends to (Held t) hand) log n f e = record { later = []; before = log; to = to; time = t; hand = hand; is = refl; count = omega (arith, e) }
 held_by act log n f e = held_more (Did act) log n (f e)
 
 pub held_rose : (log : Log) (n : ℕ) → (holds log).helds ≡ suc n → IsHeldAt log n
 held_rose [] n e = cc
-held_rose (Handed from m ∷ log) n e =
-    held_more (Handed from m) log n (held_rose log n (sym (hand_helds (suc (hands log)) m (holds log)) ∙ e))
+held_rose (Handed from m ∷ log) n e = held_more (Handed from m) log n (held_rose log n (sym (hand_helds (suc (hands log)) m (holds log)) ∙ e))
 held_rose (Ticked k ∷ log) n e = held_more (Ticked k) log n (held_rose log n e)
 held_rose (Redeclared force t ∷ log) n e = held_more (Redeclared force t) log n (held_rose log n e)
 held_rose (Submits k txn ∷ log) n e = held_more (Submits k txn) log n (held_rose log n e)
@@ -30,8 +26,7 @@ helds_by act h = omega arith
 
 pub helds_grow : (later log : Log) → (holds log).helds ≤ (holds (later ++ log)).helds
 helds_grow [] log = omega arith
-helds_grow (Handed from m ∷ later) log =
-    let i = helds_grow later log in let j = hand_helds (suc (hands (later ++ log))) m (holds (later ++ log)) in omega arith
+helds_grow (Handed from m ∷ later) log = let i = helds_grow later log in let j = hand_helds (suc (hands (later ++ log))) m (holds (later ++ log)) in omega arith
 helds_grow (Did act ∷ later) log = let i = helds_grow later log in let j = helds_by act (holds (later ++ log)) in omega arith
 helds_grow (_ ∷ later) log = helds_grow later log
 
@@ -40,8 +35,7 @@ abbrev HeldSays : Setting → Log → Act → Type 0
 HeldSays s log (Sends to (Held t) hand) = t.0 ≡ bound s log
 HeldSays s log act = Unit {0}
 
-held_asks : (s : Setting) (ts c : ℕ) (log : Log) (to : Site) (m : Msg) (hand : Option ℕ) → asks_rows ts c m ≡ true
-    → HeldSays s log (Sends to m hand)
+held_asks : (s : Setting) (ts c : ℕ) (log : Log) (to : Site) (m : Msg) (hand : Option ℕ) → asks_rows ts c m ≡ true → HeldSays s log (Sends to m hand)
 held_asks s ts c log to (Held t) hand e = cc
 held_asks s ts c log to m hand e = tt
 
@@ -52,8 +46,7 @@ held_send s log to m hand (a_held e) = subst (λ x. HeldSays s log (Sends to x h
 held_send s log to m hand (a_hold e) = subst (λ x. HeldSays s log (Sends to x hand)) (sym e) tt
 held_send s log to m hand (a_release t e) = subst (λ x. HeldSays s log (Sends to x hand)) (sym e) tt
 
-pub held_time : (s : Setting) (log : Log) (to : Site) (t : Ts) (hand : Option ℕ) → IsStep s log (Sends to (Held t) hand)
-    → t.0 ≡ bound s log
+pub held_time : (s : Setting) (log : Log) (to : Site) (t : Ts) (hand : Option ℕ) → IsStep s log (Sends to (Held t) hand) → t.0 ≡ bound s log
 held_time s log to t hand i =
     step_way s log (Sends to (Held t) hand) (HeldSays s log) (λ c q at f e. tt) (λ c bases a at f. tt) (λ to m hand f. held_send s log to m hand f) i
 

@@ -1,5 +1,5 @@
 -- Only what is put changes the list of messages that were put on a link.
-use Rattle.sdd_invariants.proofs.All.{Ack, Act, Bool, Call, D, Deliver, Delivers, Did, Does, Down, Force, Given, Hand, Handed, Link, List, Lose, Loses, Mark, Message, Msg, None, Notes, Option, Packet, Puts, Redeclare, Redeclared, Redeclares, Repeat, Repeats, Resend, Resends, Round, Settle, Site, Some, Submit, Submits, Submitted, T, Tick, Ticked, Txn, U, Up, [], ap, append-nil, append_assoc, arrives, calls_of, deliver, false, force_at, forced, given_to, if◌then◌else◌, link, local_of, lose, made, on_link, packet_at, put_by, puts, puts_to, redeclares, refl, repeat, resend, same_site, sends_of_act, sent, suc, sym, to_site, true, turned, txn_at, with_made, with_packet, without_packet, ℕ, ◌&&◌, ◌++◌, ◌∙◌, ◌∷◌, ◌≡◌}
+use Rattle.sdd_invariants.proofs.All.{Ack, Act, Bool, Call, Deliver, Delivers, Did, Does, Force, Given, Hand, Handed, Link, List, Lose, Loses, Mark, Message, Msg, None, Option, Packet, Puts, Redeclares, Repeat, Repeats, Resend, Resends, Site, Some, Submitted, T, Tick, Ticked, Txn, U, [], ap, append-nil, append_assoc, arrives, calls_of, deliver, false, force_at, forced, given_to, if◌then◌else◌, link, local_of, lose, made, on_link, packet_at, put_by, puts, puts_to, redeclares, refl, repeat, resend, same_site, sends_of_act, sent, suc, sym, to_site, true, turned, txn_at, with_made, with_packet, without_packet, ℕ, ◌&&◌, ◌++◌, ◌∙◌, ◌∷◌, ◌≡◌}
 use Rattle.sdd_invariants.proofs.Bools.{if_way}
 use Rattle.sdd_invariants.proofs.Made.{local_step}
 use Rattle.sdd_log.specs.All.{Log}
@@ -14,8 +14,7 @@ by_arrives : {M : Type 0} (p : Packet M) (l : Link M) → Same l (arrives p l)
 by_arrives (Message n m) l = (refl, refl)
 by_arrives (Ack k) l = (refl, refl)
 
-by_packet : {M : Type 0} (o : Option (Packet M)) (f : Packet M → Link M) (l : Link M) → ((p : Packet M) → Same l (f p))
-    → Same l (with_packet o f l)
+by_packet : {M : Type 0} (o : Option (Packet M)) (f : Packet M → Link M) (l : Link M) → ((p : Packet M) → Same l (f p)) → Same l (with_packet o f l)
 by_packet None f l h = (refl, refl)
 by_packet (Some p) f l h = h p
 
@@ -29,23 +28,17 @@ on_link_same : {M : Type 0} (a b from to : Site) (f : Link M → Link M) (l : Li
     → (on_link a b from to f l).there.sent ≡ l.there.sent
 on_link_same a b from to f l h = (by_way (same_site a from && same_site b to) (same_site a to && same_site b from) f l h).0
 
-by_delivers : (a b from to : Site) (k : ℕ) (calls : List (Call Msg))
-    → (link a b (Delivers from to k ∷ calls)).there.sent ≡ (link a b calls).there.sent
+by_delivers : (a b from to : Site) (k : ℕ) (calls : List (Call Msg)) → (link a b (Delivers from to k ∷ calls)).there.sent ≡ (link a b calls).there.sent
 by_delivers a b from to k calls =
     on_link_same a b from to (deliver k) (link a b calls) (λ l. by_packet (packet_at k l) _ l (λ p. by_arrives p (without_packet k l)))
 
-by_loses : (a b from to : Site) (k : ℕ) (calls : List (Call Msg))
-    → (link a b (Loses from to k ∷ calls)).there.sent ≡ (link a b calls).there.sent
-by_loses a b from to k calls =
-    on_link_same a b from to (lose k) (link a b calls) (λ l. by_packet (packet_at k l) _ l (λ p. (refl, refl)))
+by_loses : (a b from to : Site) (k : ℕ) (calls : List (Call Msg)) → (link a b (Loses from to k ∷ calls)).there.sent ≡ (link a b calls).there.sent
+by_loses a b from to k calls = on_link_same a b from to (lose k) (link a b calls) (λ l. by_packet (packet_at k l) _ l (λ p. (refl, refl)))
 
-by_repeats : (a b from to : Site) (k : ℕ) (calls : List (Call Msg))
-    → (link a b (Repeats from to k ∷ calls)).there.sent ≡ (link a b calls).there.sent
-by_repeats a b from to k calls =
-    on_link_same a b from to (repeat k) (link a b calls) (λ l. by_packet (packet_at k l) _ l (λ p. (refl, refl)))
+by_repeats : (a b from to : Site) (k : ℕ) (calls : List (Call Msg)) → (link a b (Repeats from to k ∷ calls)).there.sent ≡ (link a b calls).there.sent
+by_repeats a b from to k calls = on_link_same a b from to (repeat k) (link a b calls) (λ l. by_packet (packet_at k l) _ l (λ p. (refl, refl)))
 
-by_resends : (a b from to : Site) (calls : List (Call Msg))
-    → (link a b (Resends from to ∷ calls)).there.sent ≡ (link a b calls).there.sent
+by_resends : (a b from to : Site) (calls : List (Call Msg)) → (link a b (Resends from to ∷ calls)).there.sent ≡ (link a b calls).there.sent
 by_resends a b from to calls = on_link_same a b from to resend (link a b calls) (λ k. (refl, refl))
 
 put_way : (c d : Bool) (m : Msg) (l : Link Msg)
@@ -67,14 +60,12 @@ by_act : (a b at : Site) (sends : List (Site × Msg)) (calls : List (Call Msg))
 by_act a b at [] calls =
     if_way (λ xs. (link a b calls).there.sent ≡ (link a b calls).there.sent ++ xs) (same_site a at) [] [] (sym (append-nil _)) (sym (append-nil _))
 by_act a b at (s ∷ sends) calls =
-    by_act a b at sends (Puts at s.0 s.1 ∷ calls)
-    ∙ ap (λ xs. xs ++ (if same_site a at then to_site b sends else [])) (by_puts a b at s.0 s.1 calls)
+    by_act a b at sends (Puts at s.0 s.1 ∷ calls) ∙ ap (λ xs. xs ++ (if same_site a at then to_site b sends else [])) (by_puts a b at s.0 s.1 calls)
     ∙ one_more (same_site a at) (same_site b s.0) (link a b calls).there.sent (to_site b sends) s.1
 
 -- what an entry of the log of everything puts on the link
 
-put_if : (c : Bool) (b : Site) (act : Act)
-    → (if c then to_site b (sends_of_act act) else []) ≡ put_by b (if c then Some (Did act) else None)
+put_if : (c : Bool) (b : Site) (act : Act) → (if c then to_site b (sends_of_act act) else []) ≡ put_by b (if c then Some (Did act) else None)
 put_if true b act = refl
 put_if false b act = refl
 
@@ -98,15 +89,11 @@ sent_grows g a b (Mark (Deliver x y k)) log = nothing_more (sent a b log) [] _ (
 sent_grows g a b (Mark (Lose x y k)) log = nothing_more (sent a b log) [] _ (by_loses a b x y k (calls_of log)) refl
 sent_grows g a b (Mark (Repeat x y k)) log = nothing_more (sent a b log) [] _ (by_repeats a b x y k (calls_of log)) refl
 sent_grows g a b (Mark (Resend x y)) log = nothing_more (sent a b log) [] _ (by_resends a b x y (calls_of log)) refl
-sent_grows g a b (Mark (Tick t n)) log =
-    nothing_more (sent a b log) _ _ refl (no_put b (same_site a (T t)) (Some (Ticked n)) refl)
+sent_grows g a b (Mark (Tick t n)) log = nothing_more (sent a b log) _ _ refl (no_put b (same_site a (T t)) (Some (Ticked n)) refl)
 sent_grows g a b (Redeclares t) log = nothing_more (sent a b log) _ _ refl (force_puts b a (force_at g (suc (redeclares log))) t)
-sent_grows g a b (Submitted s n) log =
-    nothing_more (sent a b log) _ _ refl (no_put b (same_site a s) (given_to n (txn_at g n)) (given_puts b n (txn_at g n)))
-sent_grows g a b (Does at act) log =
-    by_act a b at (sends_of_act act) (calls_of log) ∙ ap (λ xs. sent a b log ++ xs) (put_if (same_site a at) b act)
-sent_grows g a b (Hand from to n m) log =
-    nothing_more (sent a b log) _ _ refl (no_put b (same_site a to) (Some (Handed from m)) refl)
+sent_grows g a b (Submitted s n) log = nothing_more (sent a b log) _ _ refl (no_put b (same_site a s) (given_to n (txn_at g n)) (given_puts b n (txn_at g n)))
+sent_grows g a b (Does at act) log = by_act a b at (sends_of_act act) (calls_of log) ∙ ap (λ xs. sent a b log ++ xs) (put_if (same_site a at) b act)
+sent_grows g a b (Hand from to n m) log = nothing_more (sent a b log) _ _ refl (no_put b (same_site a to) (Some (Handed from m)) refl)
 sent_grows g a b _ log = nothing_more (sent a b log) [] _ refl refl
 
 puts_step : (b : Site) (o : Option site.Entry) (l : site.Log) → puts_to b (with_made o l) ≡ puts_to b l ++ put_by b o
@@ -120,8 +107,7 @@ puts_grow g a b e log = ap (puts_to b) (local_step g a e log) ∙ puts_step b (m
 -- what was put on a link is what its first site's log says
 pub sent_is : (g : Given) (a b : Site) (log : Log) → sent a b log ≡ puts_to b (local_of g a log)
 sent_is g U b [] = refl
-sent_is g a b (e ∷ log) =
-    sent_grows g a b e log ∙ ap (λ xs. xs ++ put_by b (made g a log e)) (sent_is g a b log) ∙ sym (puts_grow g a b e log)
+sent_is g a b (e ∷ log) = sent_grows g a b e log ∙ ap (λ xs. xs ++ put_by b (made g a log e)) (sent_is g a b log) ∙ sym (puts_grow g a b e log)
 sent_is g _ b [] = refl
 
 -- what was put stays, and more comes behind it

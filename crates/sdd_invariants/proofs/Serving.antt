@@ -20,10 +20,8 @@ over_u : (s : Setting) (log : Log) (bases : Bases) (a : Attempt) (b : Bool) (act
 over_u s log bases a true act i e = step_is s log (commit_act s.catalogue bases 0 a) act (u_commit bases a i refl) e
 over_u s log bases a false act i e = cc
 
-send_u : (s : Setting) (log : Log) (bases : Bases) (a : Attempt) (ms : List (ℕ × Msg)) (act : Act) → active s 0 log ≡ Some a
-    → a.exchange.to_send ≡ ms
-    → or_else (first_send ms) (if is_over a.exchange.phase then Some (commit_act s.catalogue bases 0 a) else None) ≡ Some act
-    → IsStepU s log act
+send_u : (s : Setting) (log : Log) (bases : Bases) (a : Attempt) (ms : List (ℕ × Msg)) (act : Act) → active s 0 log ≡ Some a → a.exchange.to_send ≡ ms
+    → or_else (first_send ms) (if is_over a.exchange.phase then Some (commit_act s.catalogue bases 0 a) else None) ≡ Some act → IsStepU s log act
 send_u s log bases a [] act i p e = over_u s log bases a (is_over a.exchange.phase) act i e
 send_u s log bases a (m ∷ rest) act i p e =
     step_is s log (Sends (D (dm_no m.0)) m.1 None) act (u_exchange m.0 m.1 a (asks_next s 0 log a m i (ap head_of p)) refl) e
@@ -41,11 +39,9 @@ release_u s log t true true n ts act p f g e =
     step_is s log (Sends (T (tm_no n)) (Release ts) None) act (u_release t ts (f refl) (g refl) (ap (λ x. Sends (T (tm_no x)) (Release ts) None) p)) e
 release_u s log t _ _ n ts act p f g e = cc
 
-hold_if : (s : Setting) (log : Log) (t n : ℕ) (b : Bool) (act : Act) → n ≡ t
-    → (b ≡ true → (counts t log).releases ≡ (counts t log).holds)
+hold_if : (s : Setting) (log : Log) (t n : ℕ) (b : Bool) (act : Act) → n ≡ t → (b ≡ true → (counts t log).releases ≡ (counts t log).holds)
     → (if b then Some (Sends (T (tm_no n)) Hold None) else None) ≡ Some act → IsStepU s log act
-hold_if s log t n true act p f e =
-    step_is s log (Sends (T (tm_no n)) Hold None) act (u_hold t (f refl) (ap (λ x. Sends (T (tm_no x)) Hold None) p)) e
+hold_if s log t n true act p f e = step_is s log (Sends (T (tm_no n)) Hold None) act (u_hold t (f refl) (ap (λ x. Sends (T (tm_no x)) Hold None) p)) e
 hold_if s log t n false act p f e = cc
 
 hold_u : (s : Setting) (log : Log) (t : ℕ) (k : TmCounts) (o : Option Queued) (act : Act) → k ≡ counts t log → k.tm ≡ t
@@ -60,8 +56,7 @@ ready_is a b c e =
     elim (a == c) as (λ x. (a == c) ≡ x → (x && (b == c)) ≡ true → (a ≡ c) × (b ≡ c)) [ true ↦ λ p q. (eqb-true a c p, eqb-true b c q) | false ↦ λ p q. cc ] refl e
 
 start_if : (s : Setting) (log : Log) (q : Queued) (z b : Bool) (act : Act) → head_of (queue s 0 log) ≡ Some q → (q.tries == 0) ≡ z
-    → list_all (is_holding (view_of s log)) (view_of s log).counts ≡ b
-    → (if z && b then Some (start_at s 0 log q) else None) ≡ Some act → IsStepU s log act
+    → list_all (is_holding (view_of s log)) (view_of s log).counts ≡ b → (if z && b then Some (start_at s 0 log q) else None) ≡ Some act → IsStepU s log act
 start_if s log q true true act p z r e = step_is s log (start_at s 0 log q) act (u_start q p (eqb-true q.tries 0 z)
     (λ k t i. ready_is (counts t log).holds (counts t log).helds (suc (last_served s log).commits) (all_at (is_holding (view_of s log)) (view_of s log).counts k (counts t log) r (at_map (λ t. counts t log) (numbers_to s.catalogue.tms) k t i))) refl) e
 start_if s log q _ _ act p z r e = cc
@@ -69,11 +64,9 @@ start_if s log q _ _ act p z r e = cc
 start_u : (s : Setting) (log : Log) (o : Option Queued) (act : Act) → head_of (queue s 0 log) ≡ o
     → start_of s.catalogue (view_of s log) o ≡ Some act → IsStepU s log act
 start_u s log None act p e = cc
-start_u s log (Some q) act p e =
-    start_if s log q (q.tries == 0) (list_all (is_holding (view_of s log)) (view_of s log).counts) act p refl refl e
+start_u s log (Some q) act p e = start_if s log q (q.tries == 0) (list_all (is_holding (view_of s log)) (view_of s log).counts) act p refl refl e
 
-pub u_due : (s : Setting) (bases : Bases) (log : Log) (act : Act) → IsDue s.catalogue bases (view_of s log) act
-    → IsStepU s log act
+pub u_due : (s : Setting) (bases : Bases) (log : Log) (act : Act) → IsDue s.catalogue bases (view_of s log) act → IsStepU s log act
 u_due s bases log act (by_exchange e) = attempt_u s log bases (active s 0 log) act refl e
 u_due s bases log act (by_release j k p e) =
     let r = in_mapped (λ t. counts t log) (numbers_to s.catalogue.tms) j k p in
@@ -90,8 +83,7 @@ pub u_way : (s : Setting) (log : Log) (act : Act) (P : Act → Type 0)
     → ((bases : Bases) (a : Attempt) → active s 0 log ≡ Some a → P (commit_act s.catalogue bases 0 a))
     → ((d : ℕ) (m : Msg) (a : Attempt) → asks_rows a.ts 0 m ≡ true → P (Sends (D (dm_no d)) m None))
     → ((t : ℕ) (ts : Ts) → (counts t log).releases < (last_served s log).commits → (ts.0 ≡ (last_served s log).ts) × ((last_served s log).dones ≡ s.catalogue.dms) → P (Sends (T (tm_no t)) (Release ts) None))
-    → ((t : ℕ) → (counts t log).releases ≡ (counts t log).holds → P (Sends (T (tm_no t)) Hold None))
-    → IsStepU s log act → P act
+    → ((t : ℕ) → (counts t log).releases ≡ (counts t log).holds → P (Sends (T (tm_no t)) Hold None)) → IsStepU s log act → P act
 u_way s log act P a b c d e (u_start q i z r x) = subst P (sym x) (a q i z r)
 u_way s log act P a b c d e (u_commit bases w i x) = subst P (sym x) (b bases w i)
 u_way s log act P a b c d e (u_exchange k m w i x) = subst P (sym x) (c k m w i)
@@ -137,8 +129,7 @@ zero_left n (q ∷ qs) h = elim (q.number == n) as (λ b. (q.number == n) ≡ b 
 
 pub not_started : (n : ℕ) (qs : List Queued) (q : Queued) → StartedHead n qs → head_of qs ≡ Some q → q.tries ≡ 0 → ⊥
 not_started n [] q h e z = h
-not_started n (x ∷ qs) q h e z =
-    let p : x ≡ q = cc in let t : x.tries ≡ 0 = ap (λ (y : Queued). y.tries) p ∙ z in omega (arith, h.1)
+not_started n (x ∷ qs) q h e z = let p : x ≡ q = cc in let t : x.tries ≡ 0 = ap (λ (y : Queued). y.tries) p ∙ z in omega (arith, h.1)
 
 pub zero_head : (qs : List Queued) (q : Queued) → AllZero qs → head_of qs ≡ Some q → q.tries ≡ 0
 zero_head [] q h e = cc
@@ -149,8 +140,7 @@ number_head n [] q h e = absurd h
 number_head n (x ∷ qs) q h e = let p : x ≡ q = cc in ap (λ (y : Queued). y.number) (sym p) ∙ h.0
 
 tried_on : (s : Setting) (log : Log) (e : Entry) → starts (e ∷ log) ≡ starts log
-    → (last_served s (e ∷ log)).commits ≡ (last_served s log).commits → queue s 0 (e ∷ log) ≡ queue s 0 log → IsTried s log
-    → IsTried s (e ∷ log)
+    → (last_served s (e ∷ log)).commits ≡ (last_served s log).commits → queue s 0 (e ∷ log) ≡ queue s 0 log → IsTried s log → IsTried s (e ∷ log)
 tried_on s log e a b c h = elim h [
   | inl p ↦ inl (a ∙ p.0 ∙ sym b, subst AllZero (sym c) p.1)
   | inr p ↦ inr (p.0, a ∙ p.1 ∙ ap suc (sym b), subst (StartedHead p.0) (sym c) p.2, subst (ZeroBut p.0) (sym c) p.3)
@@ -188,16 +178,14 @@ tried_submit s log k txn false h qs e = elim h [
 
 pub is_tried : (s : Setting) (log : Log) → Each (IsFairU s) log → IsTried s log
 is_tried s [] h = inl (refl, tt)
-is_tried s (Handed from m ∷ log) h =
-    tried_on s log (Handed from m) refl (hand_commits m (last_served s log)) refl (is_tried s log h.1)
+is_tried s (Handed from m ∷ log) h = tried_on s log (Handed from m) refl (hand_commits m (last_served s log)) refl (is_tried s log h.1)
 is_tried s (Ticked n ∷ log) h = tried_on s log (Ticked n) refl refl refl (is_tried s log h.1)
 is_tried s (Redeclared force u ∷ log) h = tried_on s log (Redeclared force u) refl refl refl (is_tried s log h.1)
 is_tried s (Submits n txn ∷ log) h =
     tried_submit s log n txn (is_for 0 (in_force s log).catalogue txn) (is_tried s log h.1) (queue s 0 (Submits n txn ∷ log)) refl
 is_tried s (Did act ∷ log) h =
     let i = is_tried s log h.1 in
-    u_way s log act (λ x. IsTried s (Did x ∷ log))
-    (λ q e z r. tried_start s log q e z i) (λ bases a e. tried_commit s log bases a e h.0.1 i)
+    u_way s log act (λ x. IsTried s (Did x ∷ log)) (λ q e z r. tried_start s log q e z i) (λ bases a e. tried_commit s log bases a e h.0.1 i)
     (λ d m a e. tried_on s log (Did (Sends (D (dm_no d)) m None)) refl refl refl i)
     (λ t ts l v. tried_on s log (Did (Sends (T (tm_no t)) (Release ts) None)) refl refl refl i)
     (λ t e. tried_on s log (Did (Sends (T (tm_no t)) Hold None)) refl refl refl i) (u_due s h.0.0.0 log act h.0.0.1)
@@ -217,8 +205,7 @@ commits_le s log h = elim h [ inl p ↦ omega (arith, p.0) | inr p ↦ omega (ar
 
 chain_on : (s : Setting) (t : ℕ) (log : Log) (e : Entry) → counts t (e ∷ log) ≡ counts t log
     → (last_served s log).commits ≤ (last_served s (e ∷ log)).commits → (last_served s (e ∷ log)).commits ≤ starts (e ∷ log)
-    → starts (e ∷ log) ≡ starts log → puts_to (T (tm_no t)) (e ∷ log) ≡ puts_to (T (tm_no t)) log → IsChain s t log
-    → IsChain s t (e ∷ log)
+    → starts (e ∷ log) ≡ starts log → puts_to (T (tm_no t)) (e ∷ log) ≡ puts_to (T (tm_no t)) log → IsChain s t log → IsChain s t (e ∷ log)
 chain_on s t log e k c d n p h = record {
   released = rw k (omega (arith, h.released));
   committed = d;
@@ -252,8 +239,7 @@ chain_start s t log q e z r i h =
       releases_are = rw same h.releases_are;
     }
 
-pub no_puts : (s : Setting) (t : TmNo) (bases : Bases) (a : Attempt)
-    → to_site (T t) (sends_of_act (commit_act s.catalogue bases 0 a)) ≡ []
+pub no_puts : (s : Setting) (t : TmNo) (bases : Bases) (a : Attempt) → to_site (T t) (sends_of_act (commit_act s.catalogue bases 0 a)) ≡ []
 no_puts s t bases a =
     none_to (write_to s.catalogue 0 a (effect s.catalogue (bases a.ts) a.text).changes) (T t) 1 s.catalogue.dms
     (goes_write s.catalogue 0 a (effect s.catalogue (bases a.ts) a.text).changes) (λ d l. refl)
@@ -261,8 +247,7 @@ no_puts s t bases a =
 pub sent_count : (t n : ℕ) (log : Log) → (n == (counts t log).tm) ≡ (n == t)
 sent_count t n log = ap (λ x. n == x) (counts_tm t log)
 
-turned_release : (o : Option Bool) (ms : List Msg) (ts : Ts) → turns (Some false) ms ≡ Some true
-    → turns (Some false) (ms ++ Release ts ∷ []) ≡ Some false
+turned_release : (o : Option Bool) (ms : List Msg) (ts : Ts) → turns (Some false) ms ≡ Some true → turns (Some false) (ms ++ Release ts ∷ []) ≡ Some false
 turned_release o ms ts e = turns_append (Some false) ms (Release ts ∷ []) ∙ ap (λ x. turns x (Release ts ∷ [])) e
 
 turned_hold : (ms : List Msg) → turns (Some false) ms ≡ Some false → turns (Some false) (ms ++ Hold ∷ []) ≡ Some true
@@ -323,8 +308,7 @@ chain_hold s t log l h =
     }
 
 -- a send to another T
-pub puts_else : (t n : ℕ) (m : Msg) (log : Log) → (t == n) ≡ false
-    → puts_to (T (tm_no t)) (Did (Sends (T (tm_no n)) m None) ∷ log) ≡ puts_to (T (tm_no t)) log
+pub puts_else : (t n : ℕ) (m : Msg) (log : Log) → (t == n) ≡ false → puts_to (T (tm_no t)) (Did (Sends (T (tm_no n)) m None) ∷ log) ≡ puts_to (T (tm_no t)) log
 puts_else t n m log e = ap (λ x. puts_to (T (tm_no t)) log ++ (if x then m ∷ [] else [])) e ∙ append-nil _
 
 pub flip : (t n : ℕ) → (t == n) ≡ false → (n == t) ≡ false
@@ -348,23 +332,18 @@ chain_hand s t from m log h =
       releases_are = k.0 ∙ h.releases_are;
     }
 
-pub chain : (s : Setting) (k t : ℕ) (log : Log) → slice_get (numbers_to s.catalogue.tms) k ≡ Some t → Each (IsFairU s) log
-    → IsChain s t log
+pub chain : (s : Setting) (k t : ℕ) (log : Log) → slice_get (numbers_to s.catalogue.tms) k ≡ Some t → Each (IsFairU s) log → IsChain s t log
 chain s k t [] e h =
     record { released = omega arith; committed = omega arith; started_held = omega arith; started_hold = omega arith; state = false; turns_are = refl; holds_are = refl; releases_are = refl }
 chain s k t (Handed from m ∷ log) e h = chain_hand s t from m log (chain s k t log e h.1)
-chain s k t (Ticked n ∷ log) e h =
-    let i = chain s k t log e h.1 in chain_on s t log (Ticked n) refl (omega arith) i.committed refl refl i
-chain s k t (Redeclared force u ∷ log) e h =
-    let i = chain s k t log e h.1 in chain_on s t log (Redeclared force u) refl (omega arith) i.committed refl refl i
-chain s k t (Submits n txn ∷ log) e h =
-    let i = chain s k t log e h.1 in chain_on s t log (Submits n txn) refl (omega arith) i.committed refl refl i
+chain s k t (Ticked n ∷ log) e h = let i = chain s k t log e h.1 in chain_on s t log (Ticked n) refl (omega arith) i.committed refl refl i
+chain s k t (Redeclared force u ∷ log) e h = let i = chain s k t log e h.1 in chain_on s t log (Redeclared force u) refl (omega arith) i.committed refl refl i
+chain s k t (Submits n txn ∷ log) e h = let i = chain s k t log e h.1 in chain_on s t log (Submits n txn) refl (omega arith) i.committed refl refl i
 chain s k t (Did act ∷ log) e h =
     let i = chain s k t log e h.1 in
     let now = is_tried s log h.1 in
     let then_tried = is_tried s (Did act ∷ log) h in
-    u_way s log act (λ x. IsTried s (Did x ∷ log) → IsChain s t (Did x ∷ log))
-    (λ q f z r. λ w. chain_start s t log q f z (r k t e) now i)
+    u_way s log act (λ x. IsTried s (Did x ∷ log) → IsChain s t (Did x ∷ log)) (λ q f z r. λ w. chain_start s t log q f z (r k t e) now i)
     (λ bases a f. λ w. chain_on s t log (Did (commit_act s.catalogue bases 0 a)) refl (omega arith) (commits_le s (Did (commit_act s.catalogue bases 0 a) ∷ log) w) refl (ap (λ xs. puts_to (T (tm_no t)) log ++ xs) (no_puts s (tm_no t) bases a) ∙ append-nil _) i)
     (λ d m a f. λ w. chain_on s t log (Did (Sends (D (dm_no d)) m None)) refl (omega arith) i.committed refl (append-nil _) i)
     (λ n ts l v. λ w. elim (same_or_not t n) [

@@ -27,8 +27,7 @@ other_module (D x) a d e l = elim (same_or_not x.0 d) [
 ]
 other_module _ a d e l = refl
 
-none_of : (f : ℕ → Msg) (b : Site) (a : ℕ) (ds : List ℕ) → same_site b (D (dm_no a)) ≡ true → AllGt a ds
-    → to_site b (map (λ d. (D (dm_no d), f d)) ds) ≡ []
+none_of : (f : ℕ → Msg) (b : Site) (a : ℕ) (ds : List ℕ) → same_site b (D (dm_no a)) ≡ true → AllGt a ds → to_site b (map (λ d. (D (dm_no d), f d)) ds) ≡ []
 none_of f b a [] e h = refl
 none_of f b a (d ∷ ds) e h = rw (other_module b a d e h.0) (none_of f b a ds e h.1)
 
@@ -76,8 +75,7 @@ pub some_to : (f : ℕ → Option (Site × Msg)) (a n d : ℕ) (m : Msg) → a �
     → (k : ℕ) × (slice_get (to_site (D (dm_no d)) (filter_map f (range_with_len a n))) k ≡ Some m)
 some_to f a zero d m l h e = absurd (omega arith)
 some_to f a (suc n) d m l h e = elim (same_or_not a d) [
-  | inl p ↦ (let q : f a ≡ Some (D (dm_no d), m) = subst (λ x. f x ≡ Some (D (dm_no d), m)) (sym p) e in
-      (0, rw (q, same_number d) refl))
+  | inl p ↦ (let q : f a ≡ Some (D (dm_no d), m) = subst (λ x. f x ≡ Some (D (dm_no d), m)) (sym p) e in (0, rw (q, same_number d) refl))
   | inr p ↦ (let ne : (a ≡ d → ⊥) = λ q. differ a d p q in
       let i = some_to f (a + 1) n d m (omega arith) (omega arith) e in
       elim (f a) as (λ o. (k : ℕ) × (slice_get (to_site (D (dm_no d)) (cons_option o (filter_map f (range_with_len (a + 1) n)))) k ≡ Some m)) [

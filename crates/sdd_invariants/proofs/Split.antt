@@ -38,13 +38,11 @@ has_passed p more t i m h e l q = passed_at p.processed p.unprocessed more t i m
 unspoilt_at : (s : Setting) (log : site.Log) (ds : List Cond) (n : ℕ) (d : Cond) → AllUnspoilt s log ds → slice_get ds n ≡ Some d
     → (d.class.0 ≡ 0) ⊎ (spoils (view_of s log) d ≡ false)
 unspoilt_at s log [] n d h e = cc
-unspoilt_at s log (x ∷ ds) zero d h e =
-    let p : x ≡ d = cc in subst (λ y. (y.class.0 ≡ 0) ⊎ (spoils (view_of s log) y ≡ false)) p h.0
+unspoilt_at s log (x ∷ ds) zero d h e = let p : x ≡ d = cc in subst (λ y. (y.class.0 ≡ 0) ⊎ (spoils (view_of s log) y ≡ false)) p h.0
 unspoilt_at s log (x ∷ ds) (suc n) d h e = unspoilt_at s log ds n d h.1 e
 
 pub answered_if : (s : Setting) (log : site.Log) (c : ℕ) (txn : TxnNo) (attempt : ℕ) (module_no : DmNo) (sends : List (Site × Msg)) (ts : Ts) (k : ClassNo) (t : TxnNo) (a : ℕ) (conds : List Cond) (uses : List Use)
-    → Each (IsDueEach s) log → IsReadStep s log (Records c (Answer txn attempt module_no) sends)
-    → head (pipe c log) ≡ Some (Read ts k t a conds uses)
+    → Each (IsDueEach s) log → IsReadStep s log (Records c (Answer txn attempt module_no) sends) → head (pipe c log) ≡ Some (Read ts k t a conds uses)
     → (list_all (is_met (view_of s log)) conds ≡ true) × AllUnspoilt s log conds
 answered_if s log c txn attempt module_no sends ts k t a conds uses h (in_passing e) f = cc
 answered_if s log c txn attempt module_no sends ts k t a conds uses h (by_wait j ds r ss l p w i q e) f =
@@ -75,15 +73,13 @@ processed_there p more i m e l =
     let n : length (all_of p) ≡ length p.processed + length p.unprocessed = length-append p.processed p.unprocessed in
     within_left p.processed p.unprocessed i m (within_left (all_of p) more i m e (omega arith)) l
 
-pub processed_stays : (p : Pipe) (more : List Msg) (i : ℕ) (m : Msg) → slice_get p.processed i ≡ Some m
-    → slice_get (all_of p ++ more) i ≡ Some m
+pub processed_stays : (p : Pipe) (more : List Msg) (i : ℕ) (m : Msg) → slice_get p.processed i ≡ Some m → slice_get (all_of p ++ more) i ≡ Some m
 processed_stays p more i m e = in_left (all_of p) more i m (in_left p.processed p.unprocessed i m e)
 
 -- the split
 
 pub split : (g : Given) (later log : Log) (d : DmNo) (q : Cond) (r : ℕ) (txn : TxnNo) (attempt : ℕ) (module_no : DmNo) (sends : List (Site × Msg)) (ts : Ts) (k : ClassNo) (t : TxnNo) (a : ℕ) (conds : List Cond) (uses : List Use) (n : ℕ) (i : ℕ) (w : Ts) (j : ClassNo) (x : TxnNo) (changes : List Change)
-    → IsPermitted g (later ++ Does (D d) (Records r (Answer txn attempt module_no) sends) ∷ log)
-    → number_of (home g.catalogue q.class.0) ≤ 63
+    → IsPermitted g (later ++ Does (D d) (Records r (Answer txn attempt module_no) sends) ∷ log) → number_of (home g.catalogue q.class.0) ≤ 63
     → head (pipe_at g r d log) ≡ Some (Read ts k t a conds uses) → slice_get conds n ≡ Some q → q.class.0 ≢ 0
     → slice_get (class_puts g q.class.0 d (later ++ Does (D d) (Records r (Answer txn attempt module_no) sends) ∷ log)) i ≡ Some (Write w j x changes)
     → touches q.frags changes ≡ true

@@ -23,8 +23,7 @@ says_at g c log act h small =
 
 -- at a Commit its attempt's exchange is over
 abbrev IsOverAt : Setting → site.Log → Act → Type 0
-IsOverAt s log (Records k (Commit txn attempt reply changes values rows) sends) =
-    (a : Attempt) → active s k log ≡ Some a → is_over a.exchange.phase ≡ true
+IsOverAt s log (Records k (Commit txn attempt reply changes values rows) sends) = (a : Attempt) → active s k log ≡ Some a → is_over a.exchange.phase ≡ true
 IsOverAt s log act = Unit {0}
 
 pub one_active : (s : Setting) (c : ℕ) (log : site.Log) (a b : Attempt) → active s c log ≡ Some a → active s c log ≡ Some b → a ≡ b
@@ -51,9 +50,7 @@ commit_answered g c log bases a d h e p =
 -- its reply and changes are those of the effect on the database of the attempt's snapshots
 pub t_commit : (g : Given) (t : TmNo) (log : Log) (act : Act) → IsPermitted g (Does (T t) act ∷ log)
     → IsBased (setting_of g (T t)) (base_of g log) (local_of g (T t) log) act
-t_commit g t log act h =
-    t_based (setting_of g (T t)) (base_of g log) (local_of g (T t) log) act (allowed_act g log (Does (T t) act) h.0)
+t_commit g t log act h = t_based (setting_of g (T t)) (base_of g log) (local_of g (T t) log) act (allowed_act g log (Does (T t) act) h.0)
 
-pub u_commit : (g : Given) (log : Log) (act : Act) → IsPermitted g (Does U act ∷ log)
-    → IsBased (setting_of g U) (base_of g log) (local_of g U log) act
+pub u_commit : (g : Given) (log : Log) (act : Act) → IsPermitted g (Does U act ∷ log) → IsBased (setting_of g U) (base_of g log) (local_of g U log) act
 u_commit g log act h = u_based (setting_of g U) (base_of g log) (local_of g U log) act (allowed_act g log (Does U act) h.0)

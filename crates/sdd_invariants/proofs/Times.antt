@@ -64,16 +64,13 @@ piped_at : (c t : ℕ) (b : Site) (ps : List (Site × Msg)) → AllPiped c t ps 
 piped_at c t b [] h = tt
 piped_at c t b (p ∷ ps) h = times_if c t (same_site b p.0) p.1 (to_site b ps) (time_piped c t p.1 h.0) (piped_at c t b ps h.1)
 
-times_none : (c : ℕ) (b : Bool) (m : Msg) (ms : List Msg) → goes_through c m ≡ false → times_in c ms ≡ []
-    → times_in c (if b then m ∷ ms else ms) ≡ []
+times_none : (c : ℕ) (b : Bool) (m : Msg) (ms : List Msg) → goes_through c m ≡ false → times_in c ms ≡ [] → times_in c (if b then m ∷ ms else ms) ≡ []
 times_none c false m ms h i = i
 times_none c true m ms h i = rw h i
 
-piped_other : (k c t : ℕ) (b : Site) (ps : List (Site × Msg)) → (k == c) ≡ false → AllPiped k t ps
-    → times_in c (to_site b ps) ≡ []
+piped_other : (k c t : ℕ) (b : Site) (ps : List (Site × Msg)) → (k == c) ≡ false → AllPiped k t ps → times_in c (to_site b ps) ≡ []
 piped_other k c t b [] e h = refl
-piped_other k c t b (p ∷ ps) e h =
-    times_none c (same_site b p.0) p.1 (to_site b ps) (ap (class_is c) h.0 ∙ e) (piped_other k c t b ps e h.1)
+piped_other k c t b (p ∷ ps) e h = times_none c (same_site b p.0) p.1 (to_site b ps) (ap (class_is c) h.0 ∙ e) (piped_other k c t b ps e h.1)
 
 piped_map : (k t : ℕ) (f : ℕ → Site × Msg) (ds : List ℕ) → ((d : ℕ) → piped (f d).1 ≡ Some (k, t)) → AllPiped k t (map f ds)
 piped_map k t f [] h = tt
@@ -84,22 +81,18 @@ piped_cond : (k t : ℕ) (b : Bool) (p : Site × Msg) (f : ℕ → Option (Site 
 piped_cond k t true p f ds e h d g = rw g (e, h)
 piped_cond k t false p f ds e h d g = rw g h
 
-piped_writes : (cat : Catalogue) (c : ℕ) (a : Attempt) (changes : List Change) (ds : List ℕ)
-    → AllPiped c a.ts (filter_map (write_to cat c a changes) ds)
+piped_writes : (cat : Catalogue) (c : ℕ) (a : Attempt) (changes : List Change) (ds : List ℕ) → AllPiped c a.ts (filter_map (write_to cat c a changes) ds)
 piped_writes cat c a changes [] = tt
 piped_writes cat c a changes (d ∷ ds) =
     piped_cond c a.ts (not (is_empty (changes_at cat d changes)) || (c == 0))
     (D (dm_no d), Write (time_at a.ts) (class_no c) (txn_no a.txn) (changes_at cat d changes))
     (write_to cat c a changes) ds refl (piped_writes cat c a changes ds) d refl
 
-pub piped_start : (s : Setting) (c : ℕ) (log : Log) (q : Queued)
-    → AllPiped c (next_stamp s log) (sends_of_act (start_at s c log q))
+pub piped_start : (s : Setting) (c : ℕ) (log : Log) (q : Queued) → AllPiped c (next_stamp s log) (sends_of_act (start_at s c log q))
 piped_start s c log q = piped_map c _ _ _ (λ d. refl)
 
-pub piped_commit : (s : Setting) (c : ℕ) (bases : Bases) (a : Attempt)
-    → AllPiped c a.ts (sends_of_act (commit_act s.catalogue bases c a))
-piped_commit s c bases a =
-    piped_writes s.catalogue c a (effect s.catalogue (bases a.ts) a.text).changes (numbers_to s.catalogue.dms)
+pub piped_commit : (s : Setting) (c : ℕ) (bases : Bases) (a : Attempt) → AllPiped c a.ts (sends_of_act (commit_act s.catalogue bases c a))
+piped_commit s c bases a = piped_writes s.catalogue c a (effect s.catalogue (bases a.ts) a.text).changes (numbers_to s.catalogue.dms)
 
 -- the three kinds of steps
 start_own : (s : Setting) (c : ℕ) (b : Site) (log : Log) (q : Queued) → number_of s.site ≤ 63 → active s c log ≡ None
@@ -135,10 +128,8 @@ commit_other s k c bases b log a e =
     quiet_act s c b log (commit_act s.catalogue bases k a) (rw e (omega arith))
     (piped_other k c a.ts b (sends_of_act (commit_act s.catalogue bases k a)) e (piped_commit s k bases a))
 
-limit_sent : (s : Setting) (c : ℕ) (log : Log) (to : Site) (m : Msg) (hand : Option ℕ)
-    → limit s c log ≡ limit s c (Did (Sends to m hand) ∷ log)
-limit_sent s c log to m hand =
-    sent_way (λ o. limit s c log ≡ limit_of (bound s log) o) c m (active s c log) (λ a x e. ap (limit_of (bound s log)) e) refl
+limit_sent : (s : Setting) (c : ℕ) (log : Log) (to : Site) (m : Msg) (hand : Option ℕ) → limit s c log ≡ limit s c (Did (Sends to m hand) ∷ log)
+limit_sent s c log to m hand = sent_way (λ o. limit s c log ≡ limit_of (bound s log) o) c m (active s c log) (λ a x e. ap (limit_of (bound s log)) e) refl
 
 asks_not_piped : (ts k c : ℕ) (m : Msg) → asks_rows ts k m ≡ true → goes_through c m ≡ false
 asks_not_piped ts k c (Fetch a b t u) e = refl
@@ -146,8 +137,7 @@ asks_not_piped ts k c (Reduce a b t u v) e = refl
 asks_not_piped ts k c (Ship a b) e = refl
 asks_not_piped ts k c _ e = cc
 
-send_quiet : (s : Setting) (c : ℕ) (b : Site) (log : Log) (to : Site) (m : Msg) (hand : Option ℕ) → goes_through c m ≡ false
-    → Goes s c b log (Sends to m hand)
+send_quiet : (s : Setting) (c : ℕ) (b : Site) (log : Log) (to : Site) (m : Msg) (hand : Option ℕ) → goes_through c m ≡ false → Goes s c b log (Sends to m hand)
 send_quiet s c b log to m hand e =
     quiet_act s c b log (Sends to m hand) (let l = limit_sent s c log to m hand in omega arith) (times_none c (same_site b to) m [] e refl)
 
@@ -161,8 +151,7 @@ null_own s c b log to hand = record {
       (time_piped c (limit s c log) (Null (class_no c) (time_at (limit s c log))) refl) tt;
 }
 
-send_goes : (s : Setting) (c : ℕ) (b : Site) (log : Log) (to : Site) (m : Msg) (hand : Option ℕ) → IsSend s log m
-    → Goes s c b log (Sends to m hand)
+send_goes : (s : Setting) (c : ℕ) (b : Site) (log : Log) (to : Site) (m : Msg) (hand : Option ℕ) → IsSend s log m → Goes s c b log (Sends to m hand)
 send_goes s c b log to m hand (of_exchange k a at i e w) = send_quiet s c b log to m hand (asks_not_piped a.ts k c m e)
 send_goes s c b log to m hand (a_null k at e) = elim (same_or_not k c) [
   | inl p ↦ subst (λ x. Goes s c b log (Sends to x hand)) (sym (e ∙ ap (λ j. Null (class_no j) (time_at (limit s j log))) p)) (null_own s c b log to hand)
@@ -182,16 +171,14 @@ goes s c b log act w l i = step_way s log act (Goes s c b log)
     (λ k bases a at f. elim (same_or_not k c) [
       | inl p ↦ subst (λ j. Goes s c b log (commit_act s.catalogue bases j a)) (sym p) (commit_own s c bases b log a l (rw p at f))
       | inr p ↦ commit_other s k c bases b log a p
-    ])
-    (λ to m hand f. send_goes s c b log to m hand f) i
+    ]) (λ to m hand f. send_goes s c b log to m hand f) i
 
 timed_on : (s : Setting) (c : ℕ) (b : Site) (log : Log) (e : Entry) → limit s c log ≤ limit s c (e ∷ log)
     → puts_to b (e ∷ log) ≡ puts_to b log → IsTimed s c b log → IsTimed s c b (e ∷ log)
 timed_on s c b log e l p h =
     record { rises = rw p h.rises; within = rw p (le_up (limit s c log) (limit s c (e ∷ log)) (times_in c (puts_to b log)) l h.within) }
 
-limit_handed : (s : Setting) (c : ℕ) (from : Site) (m : Msg) (log : Log) → limit s c log ≤ bound s log
-    → limit s c log ≤ limit s c (Handed from m ∷ log)
+limit_handed : (s : Setting) (c : ℕ) (from : Site) (m : Msg) (log : Log) → limit s c log ≤ bound s log → limit s c log ≤ limit s c (Handed from m ∷ log)
 limit_handed s c from m log l =
     let up = bound_rises s (Handed from m) log in
     handed_way (λ o. limit s c log ≤ limit_of (bound s (Handed from m ∷ log)) o) c from m (active s c log) (omega arith)
@@ -200,8 +187,7 @@ limit_handed s c from m log l =
 
 pub timed : (s : Setting) (c : ℕ) (b : Site) (log : Log) → number_of s.site ≤ 63 → Each (IsFair s) log → IsTimed s c b log
 timed s c b [] w h = record { rises = tt; within = tt }
-timed s c b (Handed from m ∷ log) w h =
-    timed_on s c b log (Handed from m) (limit_handed s c from m log (limit_le s log c w h.1)) refl (timed s c b log w h.1)
+timed s c b (Handed from m ∷ log) w h = timed_on s c b log (Handed from m) (limit_handed s c from m log (limit_le s log c w h.1)) refl (timed s c b log w h.1)
 timed s c b (Ticked n ∷ log) w h =
     timed_on s c b log (Ticked n) (limit_on (bound s log) (bound s (Ticked n ∷ log)) (active s c log) (bound_rises s (Ticked n) log)) refl
     (timed s c b log w h.1)

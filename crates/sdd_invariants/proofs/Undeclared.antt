@@ -38,8 +38,7 @@ permitted_part g a b h p = permitted_before g p.0 b (subst (IsPermitted g) p.1 h
 -- an Apply of an undeclared transaction follows its Answer at the module
 pub has_number : (ns : List ℕ) (k d : ℕ) → slice_get ns k ≡ Some d → contains ns d ≡ true
 has_number [] k d e = cc
-has_number (x ∷ ns) zero d e =
-    let p : x ≡ d = cc in let q : (x == d) ≡ true = ap (λ y. x == y) (sym p) ∙ same_number x in or_left (x == d) (contains ns d) q
+has_number (x ∷ ns) zero d e = let p : x ≡ d = cc in let q : (x == d) ≡ true = ap (λ y. x == y) (sym p) ∙ same_number x in or_left (x == d) (contains ns d) q
 has_number (x ∷ ns) (suc k) d e = or_right (x == d) (contains ns d) (has_number ns k d e)
 
 pub answered_before : (g : Given) (k : ℕ) (d : DmNo) (log : Log) (x : ℕ) → IsPermitted g log
@@ -59,8 +58,7 @@ answered_before g k d log x h i p =
 
 -- so its READ doesn't stand at the head again
 not_again : (g : Given) (d : DmNo) (log : Log) (a : Attempt) (ts : Ts) (k : ClassNo) (txn : TxnNo) (n : ℕ) (ds : List Cond) (us : List Use) (before : Log)
-    → IsPermitted g log → head (pipe_at g 0 d log) ≡ Some (Read ts k txn n ds us) → Part log before → HasAnswer g before d 0 a
-    → a.ts ≡ ts.0 → ⊥
+    → IsPermitted g log → head (pipe_at g 0 d log) ≡ Some (Read ts k txn n ds us) → Part log before → HasAnswer g before d 0 a → a.ts ≡ ts.0 → ⊥
 not_again g d log a ts k txn n ds us before h e p w same =
     let ans : Act = Records 0 (Answer w.txn w.attempt (home_of (setting_of g (D d))).dm) w.sends in
     let whole : log ≡ (p.0 ++ w.later) ++ Does (D d) ans ∷ w.before = p.1 ∙ ap (λ l. p.0 ++ l) w.is
@@ -175,11 +173,9 @@ never_spoilt g k t j kd m d log ts of txn n ds us q h i run small hm id e f =
 -- H5, the low case: at each Answer of the undeclared transaction the declared one is applied where it touches the module
 pub low_applied : (g : Given) (d : DmNo) (c j : ℕ) (later log later2 log2 : Log) (k : ClassNo) (txn reader : TxnNo) (attempt tries : ℕ) (no_of : DmNo) (sends : List (Site × Msg)) (ts : Ts) (ds : List Cond) (us : List Use) (bases : Bases) (a : Attempt)
     → IsPermitted g (later ++ Does (D d) (Records 0 (Answer txn attempt no_of) sends) ∷ log) → number_of (home g.catalogue c) ≤ 63
-    → 1 ≤ d.0 → d.0 ≤ g.catalogue.dms → c ≢ 0
-    → head (pipe_at g 0 d log) ≡ Some (Read ts k reader tries ds us) → slice_get (classes_of g.catalogue) j ≡ Some c
+    → 1 ≤ d.0 → d.0 ≤ g.catalogue.dms → c ≢ 0 → head (pipe_at g 0 d log) ≡ Some (Read ts k reader tries ds us) → slice_get (classes_of g.catalogue) j ≡ Some c
     → later ++ Does (D d) (Records 0 (Answer txn attempt no_of) sends) ∷ log ≡ later2 ++ Does (home g.catalogue c) (commit_act g.catalogue bases c a) ∷ log2
-    → touches (zero_cond g ts.0 c).frags (changes_to g bases a d) ≡ true
-    → (IsApplied g log d c a → a.ts < ts.0) × (a.ts < ts.0 → IsApplied g log d c a)
+    → touches (zero_cond g ts.0 c).frags (changes_to g bases a d) ≡ true → (IsApplied g log d c a → a.ts < ts.0) × (a.ts < ts.0 → IsApplied g log d c a)
 low_applied g d c j later log later2 log2 k txn reader attempt tries no_of sends ts ds us bases a h small lo hi declared e i same t =
     let act : Act = Records 0 (Answer txn attempt no_of) sends in
     let hl : IsPermitted g log = (permitted_before g later (Does (D d) act ∷ log) h).1 in
@@ -220,7 +216,5 @@ zero_pair g k t log later log2 q q2 i h e =
 
 pub zero_applied : (g : Given) (k t kd d : ℕ) (log later log2 : Log) (q q2 : Queued)
     → slice_get (numbers_to g.catalogue.tms) k ≡ Some t → IsPermitted g (Does U (start_u g log q) ∷ log)
-    → log ≡ later ++ Does U (start_u g log2 q2) ∷ log2 → slice_get (numbers_to g.catalogue.dms) kd ≡ Some d
-    → HasApply g log (dm_no d) (u_stamp g log2)
-zero_applied g k t kd d log later log2 q q2 i h e f =
-    all_applied g log (u_stamp g log2) kd d h.1 (zero_pair g k t log later log2 q q2 i h e).0 f
+    → log ≡ later ++ Does U (start_u g log2 q2) ∷ log2 → slice_get (numbers_to g.catalogue.dms) kd ≡ Some d → HasApply g log (dm_no d) (u_stamp g log2)
+zero_applied g k t kd d log later log2 q q2 i h e f = all_applied g log (u_stamp g log2) kd d h.1 (zero_pair g k t log later log2 q q2 i h e).0 f

@@ -18,25 +18,21 @@ or_nothing : (b : Bool) → b ≡ (b || false)
 or_nothing true = refl
 or_nothing false = refl
 
-greatest_test : (t : ℕ) (o : Option ℕ) (xs : List ℕ)
-    → is_at_least t (fold raised o xs) ≡ (is_at_least t o || list_any (nat_le t) xs)
+greatest_test : (t : ℕ) (o : Option ℕ) (xs : List ℕ) → is_at_least t (fold raised o xs) ≡ (is_at_least t o || list_any (nat_le t) xs)
 greatest_test t o [] = or_nothing (is_at_least t o)
 greatest_test t o (x ∷ xs) =
     greatest_test t (raised o x) xs ∙ ap (λ b. b || list_any (nat_le t) xs) (raised_test t o x)
     ∙ or_assoc (is_at_least t o) (nat_le t x) (list_any (nat_le t) xs)
 
-any_of_some : (t : ℕ) (o : Option ℕ) (xs : List ℕ)
-    → list_any (nat_le t) (cons_option o xs) ≡ (is_at_least t o || list_any (nat_le t) xs)
+any_of_some : (t : ℕ) (o : Option ℕ) (xs : List ℕ) → list_any (nat_le t) (cons_option o xs) ≡ (is_at_least t o || list_any (nat_le t) xs)
 any_of_some t None xs = refl
 any_of_some t (Some w) xs = refl
 
-any_of_times : (t : ℕ) (f : Msg → Option ℕ) (ms : List Msg)
-    → list_any (nat_le t) (filter_map f ms) ≡ list_any (λ m. is_at_least t (f m)) ms
+any_of_times : (t : ℕ) (f : Msg → Option ℕ) (ms : List Msg) → list_any (nat_le t) (filter_map f ms) ≡ list_any (λ m. is_at_least t (f m)) ms
 any_of_times t f [] = refl
 any_of_times t f (m ∷ ms) = any_of_some t (f m) (filter_map f ms) ∙ ap (λ b. is_at_least t (f m) || b) (any_of_times t f ms)
 
-spoils_any : (d : Cond) (ms : List Msg)
-    → is_at_least d.time.0 (greatest (filter_map (write_time d.frags) ms)) ≡ list_any (spoiling d) ms
+spoils_any : (d : Cond) (ms : List Msg) → is_at_least d.time.0 (greatest (filter_map (write_time d.frags) ms)) ≡ list_any (spoiling d) ms
 spoils_any d ms = greatest_test d.time.0 None (filter_map (write_time d.frags) ms) ∙ any_of_times d.time.0 (write_time d.frags) ms
 
 any_append : {A : Type 0} (f : A → Bool) (xs ys : List A) → list_any f (xs ++ ys) ≡ (list_any f xs || list_any f ys)
@@ -46,19 +42,16 @@ any_append f (x ∷ xs) ys = ap (λ b. f x || b) (any_append f xs ys) ∙ sym (o
 both_false : (a b : Bool) → a ≡ false → b ≡ false → (a || (b || false)) ≡ false
 both_false a b e f = rw (e, f) refl
 
-pub any_false_at : {A : Type 0} (f : A → Bool) (xs : List A) (k : ℕ) (x : A) → list_any f xs ≡ false → slice_get xs k ≡ Some x
-    → f x ≡ false
+pub any_false_at : {A : Type 0} (f : A → Bool) (xs : List A) (k : ℕ) (x : A) → list_any f xs ≡ false → slice_get xs k ≡ Some x → f x ≡ false
 any_false_at f [] k x e g = cc
-any_false_at {A = A} f (y ∷ xs) zero x e g =
-    let p : ◌≡◌ {A = A} y x = cc in subst (λ z. f z ≡ false) p (neither_left (f y) (list_any f xs) e)
+any_false_at {A = A} f (y ∷ xs) zero x e g = let p : ◌≡◌ {A = A} y x = cc in subst (λ z. f z ≡ false) p (neither_left (f y) (list_any f xs) e)
 any_false_at f (y ∷ xs) (suc k) x e g = any_false_at f xs k x (neither_right (f y) (list_any f xs) e) g
 
 -- what is processed of a class, as the table sees it
 abbrev pub processed_in : Setting → Log → ℕ → List Msg
 processed_in s log j = (at_class (view_of s log) j).pipe.processed
 
-pub spoils_is : (s : Setting) (log : Log) (d : Cond)
-    → spoils (view_of s log) d ≡ list_any (spoiling d) (processed_in s log d.class.0)
+pub spoils_is : (s : Setting) (log : Log) (d : Cond) → spoils (view_of s log) d ≡ list_any (spoiling d) (processed_in s log d.class.0)
 spoils_is s log d = spoils_any d (processed_in s log d.class.0)
 
 pub processed_in_is : (s : Setting) (log : Log) (j : ℕ) → IsClassHere s j → processed_in s log j ≡ (pipe j log).processed
@@ -100,8 +93,7 @@ head_stays : (s : Setting) (log : Log) (xs ys : List Msg) → IsUnspoilt s log (
 head_stays s log [] ys h = absurd h
 head_stays s log (x ∷ xs) ys h = refl
 
-head_handed : (s : Setting) (log : Log) (b : Bool) (p : Pipe) (m : Msg) → IsUnspoilt s log (head p)
-    → head (if b then put m p else p) ≡ head p
+head_handed : (s : Setting) (log : Log) (b : Bool) (p : Pipe) (m : Msg) → IsUnspoilt s log (head p) → head (if b then put m p else p) ≡ head p
 head_handed s log true p m h = head_stays s log p.unprocessed (m ∷ []) h
 head_handed s log false p m h = refl
 
@@ -116,15 +108,13 @@ no_spoiler s log (d ∷ ds) e =
       | false ↦ λ p q. (inr p, no_spoiler s log ds q)
     ] refl e
 
-read_unspoilt : (s : Setting) (log : Log) (conds : List Cond) (o : Option Msg) → IsReadWith conds o → AllUnspoilt s log conds
-    → IsUnspoilt s log o
+read_unspoilt : (s : Setting) (log : Log) (conds : List Cond) (o : Option Msg) → IsReadWith conds o → AllUnspoilt s log conds → IsUnspoilt s log o
 read_unspoilt s log conds None r h = r
 read_unspoilt s log conds (Some (Read ts k txn attempt ds uses)) r h = subst (AllUnspoilt s log) (sym r) h
 read_unspoilt s log conds (Some _) r h = absurd r
 
 wait_own : (s : Setting) (c : ℕ) (conds : List Cond) (r : Rec) (sends : List (Site × Msg)) (log : Log) → IsClassHere s c
-    → is_processing r ≡ false → IsReadWith conds (head (pipe c log)) → spoiler (view_of s log) conds ≡ None
-    → IsWaiting s c (Did (Records c r sends) ∷ log)
+    → is_processing r ≡ false → IsReadWith conds (head (pipe c log)) → spoiler (view_of s log) conds ≡ None → IsWaiting s c (Did (Records c r sends) ∷ log)
 wait_own s c conds r sends log l p w e = λ q.
     let same : (j : ℕ) → pipe j (Did (Records c r sends) ∷ log) ≡ pipe j log = λ j. (not_own j c r sends log (inr p)).pipe_same in (
       l,
@@ -134,12 +124,10 @@ wait_own s c conds r sends log l p w e = λ q.
 
 -- a record that processes the head of class k
 
-waits_other : (c k : ℕ) (r : Rec) (sends : List (Site × Msg)) (log : Log) → (k == c) ≡ false
-    → waits c (Did (Records k r sends) ∷ log) ≡ waits c log
+waits_other : (c k : ℕ) (r : Rec) (sends : List (Site × Msg)) (log : Log) → (k == c) ≡ false → waits c (Did (Records k r sends) ∷ log) ≡ waits c log
 waits_other c k r sends log e = rw e refl
 
-pub class_there : (s : Setting) (log : Log) (c : ℕ) → IsClassHere s c
-    → slice_get (view_of s log).classes c ≡ Some (class_view s log c)
+pub class_there : (s : Setting) (log : Log) (c : ℕ) → IsClassHere s c → slice_get (view_of s log).classes c ≡ Some (class_view s log c)
 class_there s log c l =
     let n : length (view_of s log).classes ≡ suc (length s.catalogue.classes) = length-map-range_with_len (class_view s log) 0
     (suc (length s.catalogue.classes)) in
@@ -189,30 +177,25 @@ may_safe s log k c (Write ts class txn changes) (Apply t j dm w) n l q h =
     let f : (waits c log && holds_back k ts.0 changes (head (pipe c log))) ≡ false = any_false_at
     (λ (v : ClassView). v.waits && holds_back k ts.0 changes (head v.pipe)) (view_of s log).classes c (class_view s log c) e (class_there s log c l) in
     read_safe k ts class txn changes (head (pipe c log)) (rw q at f)
-may_safe s log k c (Read ts class txn attempt conds uses) r n l q h =
-    read_safe_other k (Read ts class txn attempt conds uses) (head (pipe c log)) (λ d. refl)
+may_safe s log k c (Read ts class txn attempt conds uses) r n l q h = read_safe_other k (Read ts class txn attempt conds uses) (head (pipe c log)) (λ d. refl)
 may_safe s log k c (Null class t) r n l q h = read_safe_other k (Null class t) (head (pipe c log)) (λ d. refl)
 may_safe s log k c m r n l q h = absurd h
 
 processed_own : (s : Setting) (k : ℕ) (m : Msg) (r : Rec) (sends : List (Site × Msg)) (log : Log) → IsClassHere s k
-    → is_processing r ≡ true → head (pipe k log) ≡ Some m
-    → processed_in s (Did (Records k r sends) ∷ log) k ≡ processed_in s log k ++ m ∷ []
+    → is_processing r ≡ true → head (pipe k log) ≡ Some m → processed_in s (Did (Records k r sends) ∷ log) k ≡ processed_in s log k ++ m ∷ []
 processed_own s k m r sends log l p e =
-    processed_in_is s (Did (Records k r sends) ∷ log) k l
-    ∙ ap (λ (x : Pipe). x.processed) (own_record k r sends log p).0 ∙ processed_more (pipe k log) m e
+    processed_in_is s (Did (Records k r sends) ∷ log) k l ∙ ap (λ (x : Pipe). x.processed) (own_record k r sends log p).0 ∙ processed_more (pipe k log) m e
     ∙ ap (λ xs. xs ++ m ∷ []) (sym (processed_in_is s log k l))
 
 processed_else : (s : Setting) (j k : ℕ) (r : Rec) (sends : List (Site × Msg)) (log : Log) → (k == j) ≡ false
     → processed_in s (Did (Records k r sends) ∷ log) j ≡ processed_in s log j
-processed_else s j k r sends log e =
-    processed_by s (Did (Records k r sends)) log j (ap (λ (x : Pipe). x.processed) (not_own j k r sends log (inl e)).pipe_same)
+processed_else s j k r sends log e = processed_by s (Did (Records k r sends)) log j (ap (λ (x : Pipe). x.processed) (not_own j k r sends log (inl e)).pipe_same)
 
 zero_not : (n : ℕ) → (n == 0) ≡ false → n ≢ 0
 zero_not n e p = let q : (n == 0) ≡ true = ap (λ k. k == 0) p in cc
 
 still : (s : Setting) (k : ℕ) (m : Msg) (r : Rec) (sends : List (Site × Msg)) (log : Log) (ds : List Cond) → IsClassHere s k
-    → is_processing r ≡ true → head (pipe k log) ≡ Some m → (k ≢ 0 → IsSafe k m ds) → AllUnspoilt s log ds
-    → AllUnspoilt s (Did (Records k r sends) ∷ log) ds
+    → is_processing r ≡ true → head (pipe k log) ≡ Some m → (k ≢ 0 → IsSafe k m ds) → AllUnspoilt s log ds → AllUnspoilt s (Did (Records k r sends) ∷ log) ds
 still s k m r sends log [] l p e f h = tt
 still s k m r sends log (d ∷ ds) l p e f h = (
   elim h.0 [
@@ -234,8 +217,7 @@ still s k m r sends log (d ∷ ds) l p e f h = (
 )
 
 is_still : (s : Setting) (k : ℕ) (m : Msg) (r : Rec) (sends : List (Site × Msg)) (log : Log) (o : Option Msg) → IsClassHere s k
-    → is_processing r ≡ true → head (pipe k log) ≡ Some m → (k ≢ 0 → IsReadSafe k m o) → IsUnspoilt s log o
-    → IsUnspoilt s (Did (Records k r sends) ∷ log) o
+    → is_processing r ≡ true → head (pipe k log) ≡ Some m → (k ≢ 0 → IsReadSafe k m o) → IsUnspoilt s log o → IsUnspoilt s (Did (Records k r sends) ∷ log) o
 is_still s k m r sends log None l p e f h = h
 is_still s k m r sends log (Some (Read ts class txn attempt conds uses)) l p e f h = still s k m r sends log conds l p e f h
 is_still s k m r sends log (Some _) l p e f h = absurd h
@@ -251,8 +233,7 @@ record_other s c k m r sends log o l p e j h = λ q.
           (is_still s k m r sends log (head (pipe c log)) l p e (λ n. may_safe s log k c m r n i.0 was j) i.1),
     )
 
-record_own : (s : Setting) (c : ℕ) (r : Rec) (sends : List (Site × Msg)) (log : Log) → is_processing r ≡ true
-    → IsWaiting s c (Did (Records c r sends) ∷ log)
+record_own : (s : Setting) (c : ℕ) (r : Rec) (sends : List (Site × Msg)) (log : Log) → is_processing r ≡ true → IsWaiting s c (Did (Records c r sends) ∷ log)
 record_own s c r sends log p = λ q. let w : waits c (Did (Records c r sends) ∷ log) ≡ false = waits_own c r sends log p in cc
 
 pub waiting : (s : Setting) (log : Log) → Each (IsDueEach s) log → (c : ℕ) → IsWaiting s c log
@@ -261,8 +242,7 @@ waiting s (Handed from m ∷ log) h c = waiting_on s c (Handed from m) log
     (λ j. processed_handed j from m log) refl (head_handed s log (goes_through c m) (pipe c log) m) (waiting s log h.1 c)
 waiting s (Ticked n ∷ log) h c = waiting_on s c (Ticked n) log (λ j. refl) refl (λ i. refl) (waiting s log h.1 c)
 waiting s (Submits n txn ∷ log) h c = waiting_on s c (Submits n txn) log (λ j. refl) refl (λ i. refl) (waiting s log h.1 c)
-waiting s (Redeclared force t ∷ log) h c =
-    waiting_on s c (Redeclared force t) log (λ j. refl) refl (λ i. refl) (waiting s log h.1 c)
+waiting s (Redeclared force t ∷ log) h c = waiting_on s c (Redeclared force t) log (λ j. refl) refl (λ i. refl) (waiting s log h.1 c)
 waiting s (Did act ∷ log) h c =
     let i = waiting s log h.1 c in
     read_step_way s log act (λ x. IsWaiting s c (Did x ∷ log))

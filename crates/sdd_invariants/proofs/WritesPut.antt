@@ -27,16 +27,13 @@ open_bound : (b d : ℕ) (o : Option Attempt) → stamp_or o ≤ b → b ≤ d �
 open_bound b d None h l = omega arith
 open_bound b d (Some a) h l = omega arith
 
-no_writes_if : (c : ℕ) (b : Bool) (m : Msg) (ms : List Msg) → write_at c m ≡ None → writes_in c ms ≡ []
-    → writes_in c (if b then m ∷ ms else ms) ≡ []
+no_writes_if : (c : ℕ) (b : Bool) (m : Msg) (ms : List Msg) → write_at c m ≡ None → writes_in c ms ≡ [] → writes_in c (if b then m ∷ ms else ms) ≡ []
 no_writes_if c true m ms e h = rw e h
 no_writes_if c false m ms e h = h
 
-start_writes : (c : ℕ) (b : Site) (f : ℕ → Site × Msg) (ds : List ℕ) → ((d : ℕ) → write_at c (f d).1 ≡ None)
-    → writes_in c (to_site b (map f ds)) ≡ []
+start_writes : (c : ℕ) (b : Site) (f : ℕ → Site × Msg) (ds : List ℕ) → ((d : ℕ) → write_at c (f d).1 ≡ None) → writes_in c (to_site b (map f ds)) ≡ []
 start_writes c b f [] h = refl
-start_writes c b f (d ∷ ds) h =
-    no_writes_if c (same_site b (f d).0) (f d).1 (to_site b (map f ds)) (h d) (start_writes c b f ds h)
+start_writes c b f (d ∷ ds) h = no_writes_if c (same_site b (f d).0) (f d).1 (to_site b (map f ds)) (h d) (start_writes c b f ds h)
 
 open_started : (s : Setting) (k c : ℕ) (log : Log) (q : Queued) → number_of s.site ≤ 63 → active s k log ≡ None
     → head_of (queue s k log) ≡ Some q → open_from s c log ≤ open_from s c (Did (start_at s k log q) ∷ log)
@@ -52,8 +49,7 @@ opens_start s k c b log q w i e = record { rises = open_started s k c log q w i 
 abbrev sent_to : ℕ → Msg → Option (Site × Msg)
 sent_to d m = Some (D (dm_no d), m)
 
-goes_cond : (b : Bool) (d : ℕ) (m : Msg)
-    → (cond b (sent_to d m) None ≡ None) ⊎ ((x : Msg) × (cond b (sent_to d m) None ≡ sent_to d x))
+goes_cond : (b : Bool) (d : ℕ) (m : Msg) → (cond b (sent_to d m) None ≡ None) ⊎ ((x : Msg) × (cond b (sent_to d m) None ≡ sent_to d x))
 goes_cond true d m = inr (m, refl)
 goes_cond false d m = inl refl
 
@@ -64,8 +60,7 @@ pub cond_is : (b : Bool) (x y : Site × Msg) → cond b (Some x) None ≡ Some y
 cond_is true x y e = cc
 cond_is false x y e = cc
 
-pub write_is : (cat : Catalogue) (c : ℕ) (a : Attempt) (changes : List Change) (d : ℕ) (m : Msg)
-    → write_to cat c a changes d ≡ Some (D (dm_no d), m)
+pub write_is : (cat : Catalogue) (c : ℕ) (a : Attempt) (changes : List Change) (d : ℕ) (m : Msg) → write_to cat c a changes d ≡ Some (D (dm_no d), m)
     → m ≡ Write (time_at a.ts) (class_no c) (txn_no a.txn) (changes_at cat d changes)
 write_is cat c a changes d m e =
     sym (ap (λ (p : Site × Msg). p.1) (cond_is (not (is_empty (changes_at cat d changes)) || (c == 0)) (D (dm_no d), Write (time_at a.ts) (class_no c) (txn_no a.txn) (changes_at cat d changes)) (D (dm_no d), m) e))
@@ -96,10 +91,8 @@ opens_commit_other s k c bases b log a e = record {
   puts = inl (elim (commit_puts s k bases b a) [ inl p ↦ rw p refl | inr p ↦ ap (writes_in c) p.1 ∙ (rw e refl) ]);
 }
 
-open_sent : (s : Setting) (c : ℕ) (log : Log) (to : Site) (m : Msg) (hand : Option ℕ)
-    → open_from s c log ≡ open_from s c (Did (Sends to m hand) ∷ log)
-open_sent s c log to m hand =
-    sent_way (λ o. open_from s c log ≡ open_of (bound s log) o) c m (active s c log) (λ a x e. ap (open_of (bound s log)) e) refl
+open_sent : (s : Setting) (c : ℕ) (log : Log) (to : Site) (m : Msg) (hand : Option ℕ) → open_from s c log ≡ open_from s c (Did (Sends to m hand) ∷ log)
+open_sent s c log to m hand = sent_way (λ o. open_from s c log ≡ open_of (bound s log) o) c m (active s c log) (λ a x e. ap (open_of (bound s log)) e) refl
 
 asks_not_write : (ts k c : ℕ) (m : Msg) → asks_rows ts k m ≡ true → write_at c m ≡ None
 asks_not_write ts k c (Write a b t u) e = cc
@@ -114,8 +107,7 @@ send_not_write s c log m (a_release ts e) = ap (write_at c) e
 
 pub opens : (s : Setting) (c : ℕ) (b : Site) (log : Log) (act : Act) → number_of s.site ≤ 63
     → ((k : ℕ) → stamp_or (active s k log) ≤ last_stamp s log) → IsStep s log act → Opens s c b log act
-opens s c b log act w l i = step_way s log act (Opens s c b log)
-    (λ k q at f e. opens_start s k c b log q w f e)
+opens s c b log act w l i = step_way s log act (Opens s c b log) (λ k q at f e. opens_start s k c b log q w f e)
     (λ k bases a at f. elim (same_or_not k c) [
       | inl p ↦ subst (λ j. Opens s c b log (commit_act s.catalogue bases j a)) (sym p) (opens_commit_own s c bases b log a (rw p at f)
           (let m : stamp_or (Some a) ≤ last_stamp s log = subst (λ o. stamp_or o ≤ last_stamp s log) f (l k) in let z = stamp_below_bound s log w in omega arith))
@@ -142,8 +134,7 @@ open_handed s c from m log w l =
 
 pub written : (s : Setting) (c : ℕ) (b : Site) (log : Log) → number_of s.site ≤ 63 → Each (IsFair s) log → IsWritten s c b log
 written s c b [] w h = record { strict = tt; closed = tt }
-written s c b (Handed from m ∷ log) w h =
-    written_on s c b log (Handed from m) (open_handed s c from m log w (drawn s log h.1 c)) refl (written s c b log w h.1)
+written s c b (Handed from m ∷ log) w h = written_on s c b log (Handed from m) (open_handed s c from m log w (drawn s log h.1 c)) refl (written s c b log w h.1)
 written s c b (Ticked n ∷ log) w h =
     written_on s c b log (Ticked n) (open_le (bound s log) (bound s (Ticked n ∷ log)) (active s c log) (bound_rises s (Ticked n) log)) refl (written s c b log w h.1)
 written s c b (Redeclared force t ∷ log) w h =
