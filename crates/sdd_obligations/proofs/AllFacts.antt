@@ -41,8 +41,7 @@ hand_fits g good log a (D d) n m l w e =
 hand_fits g good log a (T t) n m l w e =
     let h = is_handed g log a (T t) n m (fit_of g good).small l w e in (
       site_fits g log (T t) (Hand a (T t) n m) good l w e,
-      t_fits g log a t n m
-          (base_of g (Hand a (T t) n m ∷ log)) (fit_of g good).small h
+      t_fits g log a t n m (base_of g (Hand a (T t) n m ∷ log)) (fit_of g good).small h
           (upheld_r g log a (T t) n m (base_of g (Hand a (T t) n m ∷ log)) (fit_of g good).whole h.permitted
           (served_here g log a (T t) n m (fit_of g good).whole good.given good.eras h.permitted h.route)),
     )
@@ -78,8 +77,7 @@ submit_fits g good log (T t) n txn l w e f =
     }
 submit_fits g good log (D d) n txn l w e f =
     let h : D d ≡ home_of (force_at g (redeclares log)).catalogue (Some txn) =
-    subst (λ o. D d ≡ home_of (force_at g (redeclares log)).catalogue o) f
-    (at_home g log (D d) n (fit_of g good).small l e) in
+    subst (λ o. D d ≡ home_of (force_at g (redeclares log)).catalogue o) f (at_home g log (D d) n (fit_of g good).small l e) in
     not_d (class_for (force_at g (redeclares log)).catalogue txn == 0) txn.tm d h
 
 early_time : (h t : ℕ) → h < 2 ^ 53 → t ≤ top h → t / 64 < 2 ^ 57

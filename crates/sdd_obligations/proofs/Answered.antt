@@ -1,5 +1,5 @@
 -- An answer that is next to be handed over is awaited by its site.
-use Rattle.sdd_obligations.proofs.All.{AnswersRead, Asks, Attempt, AwaitsAt, AwaitsRows, Bool, ClassNo, D, DmNo, Fetch, Fetching, Given, Hand, IsAllowed, IsAwaited, IsPermitted, List, Msg, None, Option, Over, Phase, Read, Reading, Ready, Reduce, Reduced, Reducing, Reject, Replies, RepliesToFetch, RepliesToRead, RepliesToReduce, RepliesToShip, Row, Rows, Setting, Ship, Shipping, Site, Some, Ts, Turn, Value, Values, active, ap, both, contains, dm_no, false, fetches_use, hand_was_put, handed, head_of, home, home_fair, is_a_read, is_answer, is_exchanging, is_shipping, list_any, local_of, not, number_of, numbers_of, reduces_use, refl, same_number, setting_of, subst, sym, true, turn_at, uses_at, uses_read, ℕ, ◌&&◌, ◌==◌, ◌∙◌, ◌∷◌, ◌≡◌, ◌≤◌}
+use Rattle.sdd_obligations.proofs.All.{AnswersRead, Asks, Attempt, AwaitsAt, AwaitsRows, Bool, ClassNo, D, DmNo, Fetch, Fetching, Given, Hand, IsAllowed, IsAwaited, IsPermitted, List, Msg, None, Option, Phase, Read, Ready, Reduce, Reduced, Reducing, Reject, Replies, RepliesToFetch, RepliesToRead, RepliesToReduce, RepliesToShip, Row, Rows, Setting, Ship, Shipping, Site, Some, Ts, Turn, Value, Values, active, ap, both, contains, dm_no, false, fetches_use, hand_was_put, handed, head_of, home, home_fair, is_a_read, is_answer, is_exchanging, is_shipping, list_any, local_of, not, number_of, numbers_of, reduces_use, refl, same_number, setting_of, subst, sym, true, turn_at, uses_at, uses_read, ℕ, ◌&&◌, ◌==◌, ◌∙◌, ◌∷◌, ◌≡◌, ◌≤◌}
 use Rattle.sdd_obligations.proofs.Hearing.{AtTurn, answers_asked, is_awaited}
 use Rattle.sdd_obligations.proofs.AtTurn.{awaits}
 use Rattle.sdd_obligations.proofs.ReadSent.{IsLastRead, last_read, numbers_are, reads_sent, was_answered, was_sent}
@@ -15,8 +15,7 @@ fetching : (p : Phase) (w col : ℕ) (t : Ts) (k : ClassNo) (u : ℕ) → awaits
 fetching (Fetching m) w col t k u e z = subst (λ n. (m.source.part == n) ≡ true) (sym z) e
 fetching _ w col t k u e z = cc
 
-reducing : (p : Phase) (w col : ℕ) (t : Ts) (k : ClassNo) (xs : List Value) (u : ℕ) → awaits p (Reduce t k w col xs) ≡ true → u ≡ w
-    → reduces_use u p ≡ true
+reducing : (p : Phase) (w col : ℕ) (t : Ts) (k : ClassNo) (xs : List Value) (u : ℕ) → awaits p (Reduce t k w col xs) ≡ true → u ≡ w → reduces_use u p ≡ true
 reducing (Reducing m) w col t k xs u e z = subst (λ n. (m.target.part == n) ≡ true) (sym z) e
 reducing _ w col t k xs u e z = cc
 
@@ -86,17 +85,14 @@ record IsAnswerTo (g : Given) (ts c d : ℕ) (log : all.Log) (x : Msg) : Type 0 
   active_now : IsActive g ts c d log uses question
 
 rows_answered : (g : Given) (ts c d n : ℕ) (log : all.Log) (x : Msg) → IsPermitted g log → IsSpoken g c log
-    → IsAllowed g log (Hand (D (dm_no d)) (home g.catalogue c) n x) → is_answer ts c x ≡ true → is_of_rows x ≡ true
-    → IsAnswerTo g ts c d log x
+    → IsAllowed g log (Hand (D (dm_no d)) (home g.catalogue c) n x) → is_answer ts c x ≡ true → is_of_rows x ≡ true → IsAnswerTo g ts c d log x
 rows_answered g ts c d n log x h i a e f =
     let by = answers_asked (turn_at ts c d (home_log g c log)) x (answer_in_turn g c log d n x ts i a e) in
     record {
       uses = by.uses;
       question = by.question;
       replies = by.replies;
-      active_now =
-          asked_active g ts c d log by.uses by.question h i by.is
-          (no_read_rows by.uses by.question x by.replies f);
+      active_now = asked_active g ts c d log by.uses by.question h i by.is (no_read_rows by.uses by.question x by.replies f);
     }
 
 pub own : (t : Ts) (k : ClassNo) → ((t.0 == t.0) && (k.0 == k.0)) ≡ true
@@ -141,8 +137,7 @@ read_replies ns (Read t k txn attempt conds uses) x e h = h
 read_replies ns q x e h = cc
 
 read_answered : (g : Given) (ts c d n : ℕ) (log : all.Log) (x : Msg) → IsPermitted g log → IsSpoken g c log
-    → IsAllowed g log (Hand (D (dm_no d)) (home g.catalogue c) n x) → is_answer ts c x ≡ true → is_of_rows x ≡ false
-    → IsReadAnswer ts c d (home_log g c log) x
+    → IsAllowed g log (Hand (D (dm_no d)) (home g.catalogue c) n x) → is_answer ts c x ≡ true → is_of_rows x ≡ false → IsReadAnswer ts c d (home_log g c log) x
 read_answered g ts c d n log x h i a e f =
     let v : Turn = turn_at ts c d (home_log g c log) in
     let by = answers_asked v x (answer_in_turn g c log d n x ts i a e) in
@@ -163,8 +158,7 @@ answers_read_of ts c d log x h = record { asked = was_sent ts c d log h.read h.l
 
 awaited_by : (g : Given) (log : all.Log) (d n : ℕ) (m : Msg) → IsPermitted g log → ((c : ℕ) → number_of (home g.catalogue c) ≤ 63)
     → ((ts c : ℕ) → is_answer ts c m ≡ true → IsAllowed g log (Hand (D (dm_no d)) (home g.catalogue c) n m))
-    → (b : Site) → ((ts c : ℕ) → is_answer ts c m ≡ true → home g.catalogue c ≡ b)
-    → IsAwaited (setting_of g b) (local_of g b log) (D (dm_no d)) m
+    → (b : Site) → ((ts c : ℕ) → is_answer ts c m ≡ true → home g.catalogue c ≡ b) → IsAwaited (setting_of g b) (local_of g b log) (D (dm_no d)) m
 awaited_by g log d n (Ready t k counts) h few a b home_is =
     subst (λ x. IsAwaited (setting_of g x) (local_of g x log) (D (dm_no d)) (Ready t k counts)) (home_is t.0 k.0 (own t k))
     (let r = read_answered g t.0 k.0 d n log (Ready t k counts) h (spoken g k.0 log h (few k.0)) (a t.0 k.0 (own t k)) (own t k) refl in
@@ -232,8 +226,7 @@ no_answer s log from (Rows t k rows) e = cc
 no_answer s log from m e = tt
 
 awaited_from : (g : Given) (log : all.Log) (a b : Site) (d : DmNo) (n : ℕ) (m : Msg) → a ≡ D d
-    → IsPermitted g log → ((c : ℕ) → number_of (home g.catalogue c) ≤ 63)
-    → IsAllowed g log (Hand a b n m) → IsAwaited (setting_of g b) (local_of g b log) a m
+    → IsPermitted g log → ((c : ℕ) → number_of (home g.catalogue c) ≤ 63) → IsAllowed g log (Hand a b n m) → IsAwaited (setting_of g b) (local_of g b log) a m
 awaited_from g log a b d n m e h few i =
     let home_is : (ts c : ℕ) → is_answer ts c m ≡ true → home g.catalogue c ≡ b =
     λ ts c f. (answer_source g a b log (handed a b log) m ts c h (hand_was_put g log a b n m i).1 f).2 in

@@ -1,5 +1,5 @@
 -- A READY or REJECT that is next to be handed over answers a READ of the site, and is the first that does.
-use Rattle.sdd_obligations.proofs.All.{Act, AnswersRead, Bool, D, Did, DmNo, Does, Given, Handed, IsPermitted, List, Log, Msg, Read, Redeclared, Site, Some, Submits, Ticked, [], all_handed, and_left, and_right, ap, append_assoc, arith, at_site, both, false, handed, hands_from, head_put, home, if◌then◌else◌, in_order, inl, inr, is_read, is_verdict, list_any, local_grows, local_of, number_of, one_if, only_right, or_left, or_right, own_act, permitted_before, push_more, put_in_by_d, puts_to, refl, same_number, same_site, sends_of_act, setting_of, site_is, site_self, slice_get, subst, suc, sym, take, take_one_more, tally, tally_append, tally_take, to_site, true, true_or_false, zero, ℕ, ◌&&◌, ◌++◌, ◌+◌, ◌<◌, ◌==◌, ◌∙◌, ◌∷◌, ◌≡◌, ◌≤◌}
+use Rattle.sdd_obligations.proofs.All.{Act, AnswersRead, Bool, D, Did, DmNo, Does, Given, Handed, IsPermitted, List, Log, Msg, Read, Site, Some, [], all_handed, and_left, and_right, ap, append_assoc, arith, at_site, both, false, handed, hands_from, head_put, home, if◌then◌else◌, in_order, inl, inr, is_read, is_verdict, list_any, local_grows, local_of, number_of, one_if, only_right, or_left, or_right, own_act, permitted_before, push_more, put_in_by_d, puts_to, refl, same_number, same_site, sends_of_act, setting_of, site_is, site_self, slice_get, subst, suc, sym, take, take_one_more, tally, tally_append, tally_take, to_site, true, true_or_false, zero, ℕ, ◌&&◌, ◌++◌, ◌+◌, ◌<◌, ◌==◌, ◌∙◌, ◌∷◌, ◌≡◌, ◌≤◌}
 use Rattle.sdd_obligations.proofs.Verdicts.{in_class, one_verdict, verdict_by}
 use Rattle.sdd_invariants.specs.attempt.Fits.{sent}
 use Rattle.sdd_invariants.specs.site_module.SiteLog as site
@@ -41,8 +41,7 @@ sent_of_act b f (_ ∷ later) act before k m e h = sent_of_act b f later act bef
 
 -- what was handed is counted
 
-push_one : (f : Msg → Bool) (c d : Bool) (xs : List Msg) (m : Msg) → f m ≡ d → (c && d) ≡ true
-    → 0 < tally f (if c then xs ++ m ∷ [] else xs)
+push_one : (f : Msg → Bool) (c d : Bool) (xs : List Msg) (m : Msg) → f m ≡ d → (c && d) ≡ true → 0 < tally f (if c then xs ++ m ∷ [] else xs)
 push_one f true true xs m p e = let a = tally_append f xs (m ∷ []) in let o : one_if (f m) ≡ 1 = ap one_if p in omega (arith, a, o)
 push_one f _ _ xs m p e = cc
 
@@ -70,8 +69,7 @@ none_before g a b log f m h e p l = elim (true_or_false (list_any (at_site a f) 
       let i = counted_hand a f (local_of g b log) q in
       let z : tally f (hands_from a (local_of g b log)) ≡ tally f (take (handed a b log) ps) = ap (tally f) (in_order g log a b h) in
       let more : tally f (take (suc (handed a b log)) ps) ≡ tally f (take (handed a b log) ps) + tally f
-      (m ∷ []) = ap (tally f) (take_one_more (handed a b log) ps m e)
-      ∙ tally_append f (take (handed a b log) ps) (m ∷ []) in
+      (m ∷ []) = ap (tally f) (take_one_more (handed a b log) ps m e) ∙ tally_append f (take (handed a b log) ps) (m ∷ []) in
       let less = tally_take f (suc (handed a b log)) ps in
       let one : one_if (f m) ≡ 1 = ap one_if p in
       absurd (omega (arith, i, z, more, less, one, l)))
@@ -94,8 +92,7 @@ verdict_asked g d log k ts c m b h e f =
     let at : Site = home g.catalogue c in
     let x = local_grows g at (p.later ++ Does (D d) p.act ∷ o.later) (Does at o.act ∷ o.before) in
     let whole : log ≡ (p.later ++ Does (D d) p.act ∷ o.later) ++ Does at o.act ∷ o.before =
-    p.is ∙ ap (λ l. p.later ++ Does (D d) p.act ∷ l) o.is
-    ∙ sym (append_assoc p.later (Does (D d) p.act ∷ o.later) (Does at o.act ∷ o.before)) in
+    p.is ∙ ap (λ l. p.later ++ Does (D d) p.act ∷ l) o.is ∙ sym (append_assoc p.later (Does (D d) p.act ∷ o.later) (Does at o.act ∷ o.before)) in
     let here : local_of g at log ≡ x.0 ++ Did o.act ∷ local_of g at o.before =
     ap (local_of g at) whole ∙ x.1 ∙ ap (λ l. x.0 ++ l) (own_act g at o.act o.before) in
     subst (λ l. list_any (at_site (D d) (is_read ts c)) (sent l) ≡ true) (sym here)

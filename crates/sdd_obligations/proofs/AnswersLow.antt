@@ -1,5 +1,5 @@
 -- What a data module sends lies below what was handed to it.
-use Rattle.sdd_obligations.proofs.All.{Act, AllLow, Ask, ClassNo, ClassView, Did, Done, Handed, HandsLow, IsAskBy, IsDue, IsLow, IsPutByD, IsRejectBy, List, Msg, None, Option, Pipe, Read, Ready, Records, Redeclared, Reduced, Reject, Rows, Sends, Setting, Site, Some, Submits, Ticked, Ts, Values, [], arith, at_class, class_in_view, class_not_in_view, dec_le, filter_map, goes_through, head, head_processed, home_of, if_way, is_processing, length, one_or_none, pipe, pipe_acted, put, put_by_d, sends_of_act, starts_by, subst, suc, sym, tail_of, to_site, top, view_of, write_time, ℕ, ◌&&◌, ◌+◌, ◌==◌, ◌∷◌, ◌≡◌, ◌≤◌}
+use Rattle.sdd_obligations.proofs.All.{Act, AllLow, Ask, ClassNo, ClassView, Did, Done, Handed, HandsLow, IsAskBy, IsDue, IsLow, IsPutByD, IsRejectBy, List, Msg, None, Option, Pipe, Read, Ready, Records, Reduced, Reject, Rows, Sends, Setting, Site, Some, Ts, Values, [], arith, at_class, class_in_view, class_not_in_view, dec_le, filter_map, goes_through, head, head_processed, home_of, if_way, is_processing, length, one_or_none, pipe, pipe_acted, put, put_by_d, sends_of_act, starts_by, subst, suc, sym, tail_of, to_site, top, view_of, write_time, ℕ, ◌&&◌, ◌+◌, ◌==◌, ◌∷◌, ◌≡◌, ◌≤◌}
 use Rattle.sdd_obligations.proofs.LowLists.{all_low_join, all_low_of, all_low_up, cond_le_at, greatest_le, write_times_le}
 use Rattle.sdd_obligations.proofs.SendsLow.{PutsLow}
 use Rattle.sdd_invariants.specs.site_module.SiteLog.{Log}
@@ -69,8 +69,7 @@ reject_low h s log b act ts k by write i r =
     (at_class (view_of s log) r.cond_by.class.0).pipe.processed p.done) in
     (subst (λ t. t ≤ top h) (sym r.write_is) l, tt)
 
-ask_low : (h : ℕ) (s : Setting) (log : Log) (b : Site) (k : ClassNo) (time : Ts) → HandsLow h log → IsAskBy s log b k time
-    → IsLow h (Ask k time)
+ask_low : (h : ℕ) (s : Setting) (log : Log) (b : Site) (k : ClassNo) (time : Ts) → HandsLow h log → IsAskBy s log b k time → IsLow h (Ask k time)
 ask_low h s log b k time i r =
     let m = head_is_low h r.class log (Read r.ts r.of r.txn r.attempt r.conds r.uses) i r.head_is in
     let l = cond_le_at (top h) r.conds r.place r.cond_at m.1 r.there in

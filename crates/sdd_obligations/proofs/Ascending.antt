@@ -12,12 +12,10 @@ either_class : (o p : Option Cond) (j : ℕ) (q : Cond) → ((x : Cond) → o �
 either_class None p j q f g e = g q e
 either_class (Some x) p j q f g e = let r : x ≡ q = cc in subst (λ (y : Cond). y.class.0 ≡ j) r (f x refl)
 
-pub condition_class : (f : ℕ → Bool) (entries : List line.Entry) (i own p2 j : ℕ) (q : Cond) → condition_on f entries i own p2 j ≡ Some q
-    → q.class.0 ≡ j
+pub condition_class : (f : ℕ → Bool) (entries : List line.Entry) (i own p2 j : ℕ) (q : Cond) → condition_on f entries i own p2 j ≡ Some q → q.class.0 ≡ j
 condition_class f entries i own p2 j q e =
     either_class (cond_for j own (asked_by P3 f entries i j)) (cond_for j p2 (asked_by P2 f entries i j)) j
-    q (λ x. cond_class j own (asked_by P3 f entries i j) x)
-    (λ x. cond_class j p2 (asked_by P2 f entries i j) x) e
+    q (λ x. cond_class j own (asked_by P3 f entries i j) x) (λ x. cond_class j p2 (asked_by P2 f entries i j) x) e
 
 -- conditions made for ascending classes
 
@@ -34,8 +32,7 @@ made_above f k a (suc n) g l =
       | Some q ↦ λ e. (let c = g a q e in omega (arith, l, c), i)
     ] refl
 
-made_strict : (f : ℕ → Option Cond) (a n : ℕ) → ((j : ℕ) (q : Cond) → f j ≡ Some q → q.class.0 ≡ j)
-    → IsStrict (classes_in (filter_map f (range_with_len a n)))
+made_strict : (f : ℕ → Option Cond) (a n : ℕ) → ((j : ℕ) (q : Cond) → f j ≡ Some q → q.class.0 ≡ j) → IsStrict (classes_in (filter_map f (range_with_len a n)))
 made_strict f a zero g = tt
 made_strict f a (suc n) g =
     let i = made_strict f (a + 1) n g in

@@ -44,8 +44,7 @@ hand_phase s c log n m (Some a) e turns timely h =
             subst (AsksPhase a.ts c (after_hand a.ts c n.0 m a.exchange)) (λ i d. sym (now d) i)
             (hand_asks a.ts c n.0 m v a.exchange own (not_refusal a.ts c m own r) (stands_of s c log a turns e) (timely a.ts n.0 refl own) h)
         | false ↦ λ own.
-            let now : (d : ℕ) → w d ≡ v d = λ d. told_one a.ts c (d == n.0) m (v d)
-            ∙ ap (λ b. if (d == n.0) && b then told m (v d) else v d) own
+            let now : (d : ℕ) → w d ≡ v d = λ d. told_one a.ts c (d == n.0) m (v d) ∙ ap (λ b. if (d == n.0) && b then told m (v d) else v d) own
             ∙ ap (λ b. if b then told m (v d) else v d) (and_no (d == n.0)) in
             subst (AsksPhase a.ts c (after_hand a.ts c n.0 m a.exchange)) (λ i d. sym (now d) i)
             (subst (λ x. AsksPhase a.ts c x v) (sym (hand_not a.ts c n.0 a.exchange m own)) h)
@@ -101,11 +100,9 @@ start_phase s k c log q e turns h = elim (same_or_not k c) [
   | inl p ↦ subst (λ j. head_of (queue s j log) ≡ Some q → AllAskPhase c (Did (start_at s j log q) ∷ log) (active s c (Did (start_at s j log q) ∷ log))) (sym p)
       (λ f. subst (AllAskPhase c (Did (start_at s c log q) ∷ log)) (sym (now f)) (start_own s c log q turns)) e
   | inr p ↦ subst (AllAskPhase c (Did (start_at s k log q) ∷ log))
-      (ap (λ b. if b then started (next_stamp s log) (sends_of_act (start_at s k log q))
-      (head_of (queue s c log)) else active s c log) (sym p))
+      (ap (λ b. if b then started (next_stamp s log) (sends_of_act (start_at s k log q)) (head_of (queue s c log)) else active s c log) (sym p))
       (same_turns c log (Did (start_at s k log q) ∷ log) (active s c log)
-      (λ ts d a i t. asked_none ts c (to_site (D (dm_no d)) (sends_of_act (start_at s k log q)))
-      (turn_at ts c d log) (other_reads s k c ts log q d p)) h)
+      (λ ts d a i t. asked_none ts c (to_site (D (dm_no d)) (sends_of_act (start_at s k log q))) (turn_at ts c d log) (other_reads s k c ts log q d p)) h)
 ]
   where
     now : head_of (queue s c log) ≡ Some q → active s c (Did (start_at s c log q) ∷ log) ≡ started
@@ -136,8 +133,7 @@ send_turn : (s : Setting) (c ts d : ℕ) (log : Log) (to : Site) (m : Msg) (hand
 send_turn s c ts d log to m hand = asked_one ts c (same_site (D (dm_no d)) to) m (turn_at ts c d log)
 
 sent_phase : (s : Setting) (c : ℕ) (log : Log) (to : Site) (m : Msg) (hand : Option ℕ) (o : Option Attempt)
-    → active s c log ≡ o → IsFirstSend s log (Sends to m hand)
-    → ((ts : ℕ) → is_question ts c m ≡ asks_rows ts c m) → AllAskPhase c log o
+    → active s c log ≡ o → IsFirstSend s log (Sends to m hand) → ((ts : ℕ) → is_question ts c m ≡ asks_rows ts c m) → AllAskPhase c log o
     → AllAskPhase c (Did (Sends to m hand) ∷ log) (active_sent c m o)
 sent_phase s c log to m hand None e first same h = tt
 sent_phase s c log to m hand (Some a) e first same h =
@@ -149,8 +145,7 @@ sent_phase s c log to m hand (Some a) e first same h =
           let f = first a.ts c q in
           let one : f.attempt ≡ a = one_active s c log a f.attempt e f.active_is in
           let sends : a.exchange.to_send ≡ (f.module_no, m) ∷ f.rest = subst (λ (y : Attempt). y.exchange.to_send ≡ (f.module_no, m) ∷ f.rest) one f.first in
-          let all : AllByRecursion (λ (p : ℕ × Msg). p.1 ≡ question_of a.ts c a.exchange)
-          ((f.module_no, m) ∷ f.rest) = subst
+          let all : AllByRecursion (λ (p : ℕ × Msg). p.1 ≡ question_of a.ts c a.exchange) ((f.module_no, m) ∷ f.rest) = subst
           (AllByRecursion (λ (p : ℕ × Msg). p.1 ≡ question_of a.ts c a.exchange)) sends h.sends in
           record {
             sends = subst (AllByRecursion (λ (p : ℕ × Msg). p.1 ≡ question_of a.ts c a.exchange)) (sym (ap tail_of sends)) all.1;
@@ -173,30 +168,22 @@ act_phase : (s : Setting) (c : ℕ) (log : Log) (act : Act) → IsStep s log act
     (active s c (Did act ∷ log))
 act_phase s c log act step first turns h =
     step_way s log act (λ x. IsFirstSend s log x → AllAskPhase c (Did x ∷ log) (active s c (Did x ∷ log)))
-    (λ k q here idle e f. start_phase s k c log q e turns h)
-    (λ k bases a here e. λ f. commit_phase s k c bases a log h)
+    (λ k q here idle e f. start_phase s k c log q e turns h) (λ k bases a here e. λ f. commit_phase s k c bases a log h)
     (λ to m hand i. λ f. sent_phase s c log to m hand (active s c log) refl f (λ ts. send_is_question s log ts c m i) h) step first
 
 pub asks_phase : (s : Setting) (c : ℕ) (log : Log) → Each (IsFair s) log → Each (IsFirstEach s) log → Each (IsTimely c) log → AllAskPhase c log (active s c log)
 asks_phase s c [] fair first timely = tt
 asks_phase s c (Handed (D n) m ∷ log) fair first timely =
-    hand_phase s c log n m (active s c log) refl (in_turn s c log fair.1 first.1 timely.1) timely.0
-    (asks_phase s c log fair.1 first.1 timely.1)
+    hand_phase s c log n m (active s c log) refl (in_turn s c log fair.1 first.1 timely.1) timely.0 (asks_phase s c log fair.1 first.1 timely.1)
 asks_phase s c (Handed U m ∷ log) fair first timely =
-    same_turns c log (Handed U m ∷ log) (active s c log) (λ ts d a i t. refl)
-    (asks_phase s c log fair.1 first.1 timely.1)
+    same_turns c log (Handed U m ∷ log) (active s c log) (λ ts d a i t. refl) (asks_phase s c log fair.1 first.1 timely.1)
 asks_phase s c (Handed (T k) m ∷ log) fair first timely =
-    same_turns c log (Handed (T k) m ∷ log) (active s c log) (λ ts d a i t. refl)
-    (asks_phase s c log fair.1 first.1 timely.1)
+    same_turns c log (Handed (T k) m ∷ log) (active s c log) (λ ts d a i t. refl) (asks_phase s c log fair.1 first.1 timely.1)
 asks_phase s c (Ticked n ∷ log) fair first timely =
-    same_turns c log (Ticked n ∷ log) (active s c log) (λ ts d a i t. refl)
-    (asks_phase s c log fair.1 first.1 timely.1)
+    same_turns c log (Ticked n ∷ log) (active s c log) (λ ts d a i t. refl) (asks_phase s c log fair.1 first.1 timely.1)
 asks_phase s c (Submits n txn ∷ log) fair first timely =
-    same_turns c log (Submits n txn ∷ log) (active s c log) (λ ts d a i t. refl)
-    (asks_phase s c log fair.1 first.1 timely.1)
+    same_turns c log (Submits n txn ∷ log) (active s c log) (λ ts d a i t. refl) (asks_phase s c log fair.1 first.1 timely.1)
 asks_phase s c (Redeclared force k ∷ log) fair first timely =
-    same_turns c log (Redeclared force k ∷ log) (active s c log) (λ ts d a i t. refl)
-    (asks_phase s c log fair.1 first.1 timely.1)
+    same_turns c log (Redeclared force k ∷ log) (active s c log) (λ ts d a i t. refl) (asks_phase s c log fair.1 first.1 timely.1)
 asks_phase s c (Did act ∷ log) fair first timely =
-    act_phase s c log act fair.0 first.0 (in_turn s c log fair.1 first.1 timely.1)
-    (asks_phase s c log fair.1 first.1 timely.1)
+    act_phase s c log act fair.0 first.0 (in_turn s c log fair.1 first.1 timely.1) (asks_phase s c log fair.1 first.1 timely.1)

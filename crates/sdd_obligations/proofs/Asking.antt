@@ -53,8 +53,7 @@ sent_at n d m rest ms p lacks v false r z (awaited q ns a i e w f g) =
     awaited q ns (subst (λ (b : Bool). (if b then m ∷ to_module d rest else to_module d rest) ≡ []) z a) i e w f g
 sent_at n d m rest ms p lacks v false r z (answered_last q ns a i e s f g) =
     answered_last q ns (subst (λ (b : Bool). (if b then m ∷ to_module d rest else to_module d rest) ≡ []) z a) i e s f g
-sent_at n d m rest ms p lacks v false r z (apart a i e g) =
-    apart (subst (λ (b : Bool). (if b then m ∷ to_module d rest else to_module d rest) ≡ []) z a) i e g
+sent_at n d m rest ms p lacks v false r z (apart a i e g) = apart (subst (λ (b : Bool). (if b then m ∷ to_module d rest else to_module d rest) ≡ []) z a) i e g
 
 -- where no question is sent
 not_asked_turn : (c : ℕ) (to : Site) (m : Msg) (v : Turns) (ts d : ℕ) → asks_rows ts c m ≡ false → after_question c to m v ts d ≡ v ts d
@@ -92,8 +91,7 @@ asked_own s c log to m hand a v ts d first e h q =
     (subst (λ w. IsAt d a.exchange.modules a.exchange.phase f.rest a.exchange.lacks w) turn_is now)
 
 sent_turns : (s : Setting) (c : ℕ) (log : Log) (to : Site) (m : Msg) (hand : Option ℕ) (o : Option Attempt) (v : Turns)
-    → IsFirstSend s log (Sends to m hand) → active s c log ≡ o → AllAtTurn o v
-    → AllAtTurn (active_sent c m o) (after_question c to m v)
+    → IsFirstSend s log (Sends to m hand) → active s c log ≡ o → AllAtTurn o v → AllAtTurn (active_sent c m o) (after_question c to m v)
 sent_turns s c log to m hand None v first i h = λ ts d.
     (let q : asks_rows ts c m ≡ false = asks_not (asks_rows ts c m) (λ e. let f = first ts c e in none_attempt s c log f.attempt i f.active_is) in
     subst (λ w. is_exchanging w ≡ false) (sym (not_asked_turn c to m v ts d q)) (h ts d))
@@ -117,8 +115,7 @@ sent_turns s c log to m hand (Some a) v first i h =
 
 sent_strict : (c : ℕ) (m : Msg) (o : Option Attempt) → IsStrictOf o → IsStrictOf (active_sent c m o)
 sent_strict c m None h = tt
-sent_strict c m (Some a) h =
-    if_way IsStrictOf (asks_rows a.ts c m) (Some (record a { exchange = after_send a.exchange })) (Some a) h h
+sent_strict c m (Some a) h = if_way IsStrictOf (asks_rows a.ts c m) (Some (record a { exchange = after_send a.exchange })) (Some a) h h
 
 -- what a send asks of module d
 send_turn : (s : Setting) (c : ℕ) (log : Log) (to : Site) (m : Msg) (hand : Option ℕ) (ts d : ℕ) → IsSend s log m
@@ -140,8 +137,7 @@ in_turn_send s c log to m hand fair first i h = record {
   turns = turns_now (active_sent c m (active s c log)) (after_question c to m (λ ts d. turn_at ts c d log))
       (λ ts d. turn_at ts c d (Did (Sends to m hand) ∷ log))
       (λ ts d. send_turn s c log to m hand ts d i) (sent_turns s c log to m hand (active s c log) (λ ts d. turn_at ts c d log) first refl h.turns);
-  fresh = λ ts d l. send_turn s c log to m hand ts d i
-      ∙ not_asked_turn c to m (λ ts d. turn_at ts c d log) ts d
+  fresh = λ ts d l. send_turn s c log to m hand ts d i ∙ not_asked_turn c to m (λ ts d. turn_at ts c d log) ts d
       (drawn_question s c log to m hand ts fair first (omega (arith, l))) ∙ h.fresh ts d (omega (arith, l));
   strict = sent_strict c m (active s c log) h.strict;
 }
@@ -195,8 +191,7 @@ start_stands s k log q d v e =
           apart refl here (own ∙ ap (λ (x : Bool). if x then asked (f d) (v n d) else v n d) b ∙ e) here
     ] refl
 
-start_turns : (s : Setting) (k : ℕ) (log : Log) (q : Queued) (v : Turns) → ((d : ℕ) → v (next_stamp s log) d ≡ Silent)
-    → AllAtTurn None v
+start_turns : (s : Setting) (k : ℕ) (log : Log) (q : Queued) (v : Turns) → ((d : ℕ) → v (next_stamp s log) d ≡ Silent) → AllAtTurn None v
     → AllAtTurn (started (next_stamp s log) (sends_of_act (start_at s k log q)) (Some q)) (after_start s k log q k v)
 start_turns s k log q v e h ts d = (
   λ p. subst (λ t. StandsAt d (begins q.text (sends_of_act (start_at s k log q))) (after_start s k log q k v t d)) p (start_stands s k log q d v (e d)),
@@ -204,8 +199,7 @@ start_turns s k log q v e h ts d = (
       subst (λ w. is_exchanging w ≡ false) (sym (not_started_turn s k log q k ts d v r)) (h ts d)),
 )
 
-start_strict : (s : Setting) (k : ℕ) (log : Log) (q : Queued)
-    → IsStrictOf (started (next_stamp s log) (sends_of_act (start_at s k log q)) (Some q))
+start_strict : (s : Setting) (k : ℕ) (log : Log) (q : Queued) → IsStrictOf (started (next_stamp s log) (sends_of_act (start_at s k log q)) (Some q))
 start_strict s k log q =
     subst IsStrict (sym (read_firsts (start_read s k log q) (start_numbers s k log q) (modules_asked s k q.text) (λ x. refl))) (strict_asked s k q)
 
@@ -225,19 +219,16 @@ in_turn_start : (s : Setting) (k : ℕ) (log : Log) (q : Queued) → active s k 
 in_turn_start s k log q f e h = record {
   turns = subst (λ o. AllAtTurn o (λ ts d. turn_at ts k d (Did (start_at s k log q) ∷ log))) (sym (active_started s k log q e))
       (turns_now (started (next_stamp s log) (sends_of_act (start_at s k log q)) (Some q))
-      (after_start s k log q k (λ ts d. turn_at ts k d log))
-      (λ ts d. turn_at ts k d (Did (start_at s k log q) ∷ log))
+      (after_start s k log q k (λ ts d. turn_at ts k d log)) (λ ts d. turn_at ts k d (Did (start_at s k log q) ∷ log))
       (λ ts d. start_turn s k log q k ts d) (start_turns s k log q (λ ts d. turn_at ts k d log)
-      (λ d. h.fresh (next_stamp s log) d (stamp_below_next s log))
-      (subst (λ o. AllAtTurn o (λ ts d. turn_at ts k d log)) f h.turns)));
+      (λ d. h.fresh (next_stamp s log) d (stamp_below_next s log)) (subst (λ o. AllAtTurn o (λ ts d. turn_at ts k d log)) f h.turns)));
   fresh = λ ts d l. start_fresh s k log q k ts d h l;
   strict = subst IsStrictOf (sym (active_started s k log q e)) (start_strict s k log q);
 }
 
 -- an act of another class
 
-in_turn_other : (s : Setting) (k c : ℕ) (log : Log) (q : Queued) → (k == c) ≡ false → InTurn s c log
-    → InTurn s c (Did (start_at s k log q) ∷ log)
+in_turn_other : (s : Setting) (k c : ℕ) (log : Log) (q : Queued) → (k == c) ≡ false → InTurn s c log → InTurn s c (Did (start_at s k log q) ∷ log)
 in_turn_other s k c log q p h =
     let same : active s c (Did (start_at s k log q) ∷ log) ≡ active s c log = rw p refl in
     let r : (ts : ℕ) → ((next_stamp s log == ts) && (k == c)) ≡ false = λ ts. ap (λ b. (next_stamp s log == ts) && b) p ∙ and_no (next_stamp s log == ts) in
@@ -265,8 +256,7 @@ commit_of : (s : Setting) (k c : ℕ) (bases : Bases) (a : Attempt) (log : Log) 
 commit_of s k c bases a log o e h strict fresh = record {
   turns = subst (λ o. AllAtTurn o (λ ts d. turn_at ts c d (Did (commit_act s.catalogue bases k a) ∷ log))) (sym e)
       (turns_now o (λ ts d. turn_at ts c d log)
-      (λ ts d. turn_at ts c d (Did (commit_act s.catalogue bases k a) ∷ log))
-      (λ ts d. commit_turn s k bases a log ts c d) h);
+      (λ ts d. turn_at ts c d (Did (commit_act s.catalogue bases k a) ∷ log)) (λ ts d. commit_turn s k bases a log ts c d) h);
   fresh = λ ts d l. commit_turn s k bases a log ts c d ∙ fresh ts d (omega (arith, l));
   strict = subst IsStrictOf (sym e) strict;
 }
@@ -285,17 +275,13 @@ in_turn_act s c log act fair i first h = step_way_over s log act (λ x. IsFirstS
       | inl p ↦ subst (λ j. InTurn s j (Did (commit_act s.catalogue bases k a) ∷ log)) p
           (let own : InTurn s k log = subst (λ j. InTurn s j log) (sym p) h in
           commit_of s k k bases a log None (rw (same_number k) refl)
-          (over_turns a (λ ts d. turn_at ts k d log) o
-          (subst (λ o. AllAtTurn o (λ ts d. turn_at ts k d log)) f own.turns)) tt own.fresh)
+          (over_turns a (λ ts d. turn_at ts k d log) o (subst (λ o. AllAtTurn o (λ ts d. turn_at ts k d log)) f own.turns)) tt own.fresh)
       | inr p ↦ commit_of s k c bases a log (active s c log) (rw p refl) h.turns h.strict h.fresh
-    ])
-    (λ to m hand f. λ first. in_turn_send s c log to m hand fair first f h) i first
+    ]) (λ to m hand f. λ first. in_turn_send s c log to m hand fair first f h) i first
 
-pub in_turn : (s : Setting) (c : ℕ) (log : Log) → Each (IsFair s) log → Each (IsFirstEach s) log → Each (IsTimely c) log
-    → InTurn s c log
+pub in_turn : (s : Setting) (c : ℕ) (log : Log) → Each (IsFair s) log → Each (IsFirstEach s) log → Each (IsTimely c) log → InTurn s c log
 in_turn s c [] fair first timely = record { turns = λ ts d. refl; fresh = λ ts d l. refl; strict = tt }
-in_turn s c (Handed from m ∷ log) fair first timely =
-    in_turn_hand s c log from m timely.0 (in_turn s c log fair.1 first.1 timely.1)
+in_turn s c (Handed from m ∷ log) fair first timely = in_turn_hand s c log from m timely.0 (in_turn s c log fair.1 first.1 timely.1)
 in_turn s c (Ticked n ∷ log) fair first timely =
     let i = in_turn s c log fair.1 first.1 timely.1 in
     record { turns = i.turns; fresh = λ ts d l. i.fresh ts d (let r = stamp_rises s (Ticked n) log in omega (arith, l, r)); strict = i.strict }
@@ -305,8 +291,7 @@ in_turn s c (Redeclared force t ∷ log) fair first timely =
 in_turn s c (Submits n txn ∷ log) fair first timely =
     let i = in_turn s c log fair.1 first.1 timely.1 in
     record { turns = i.turns; fresh = λ ts d l. i.fresh ts d (let r = stamp_rises s (Submits n txn) log in omega (arith, l, r)); strict = i.strict }
-in_turn s c (Did act ∷ log) fair first timely =
-    in_turn_act s c log act fair.1 fair.0 first.0 (in_turn s c log fair.1 first.1 timely.1)
+in_turn s c (Did act ∷ log) fair first timely = in_turn_act s c log act fair.1 fair.0 first.0 (in_turn s c log fair.1 first.1 timely.1)
 
 -- what the site puts is asked in turn
 
@@ -315,11 +300,9 @@ IsInTurn v ms = (ms ≡ []) ⊎ ((m : Msg) × (ms ≡ m ∷ []) × MayAsk v m)
 
 questions_one : (ts c : ℕ) (b : Bool) (m : Msg) → questions ts c (if b then m ∷ [] else []) ≡ (if b && is_question ts c m then m ∷ [] else [])
 questions_one ts c false m = refl
-questions_one ts c true m =
-    elim (is_question ts c m) as (λ x. cond x (m ∷ []) [] ≡ (if x then m ∷ [] else [])) [ true ↦ refl | false ↦ refl ]
+questions_one ts c true m = elim (is_question ts c m) as (λ x. cond x (m ∷ []) [] ≡ (if x then m ∷ [] else [])) [ true ↦ refl | false ↦ refl ]
 
-one_in_turn : (v : Turn) (ms : List Msg) (b x : Bool) (m : Msg) → ms ≡ (if b && x then m ∷ [] else []) → (b ≡ true → x ≡ true → MayAsk v m)
-    → IsInTurn v ms
+one_in_turn : (v : Turn) (ms : List Msg) (b x : Bool) (m : Msg) → ms ≡ (if b && x then m ∷ [] else []) → (b ≡ true → x ≡ true → MayAsk v m) → IsInTurn v ms
 one_in_turn v ms true true m e f = inr (m, e, f refl refl)
 one_in_turn v ms _ _ m e f = inl e
 
@@ -356,8 +339,7 @@ asks_in_turn s c log act ts d i first h =
     (λ k q at f e. λ first. one_in_turn (turn_at ts c d log) _ (contains (modules_asked s k q.text) d)
     ((next_stamp s log == ts) && (k == c)) (start_read s k log q d)
     (ap (questions ts c) (sent_to_each (start_read s k log q) (modules_asked s k q.text) d
-    (strict_asked s k q)) ∙ questions_one ts c (contains (modules_asked s k q.text) d)
-    (start_read s k log q d))
+    (strict_asked s k q)) ∙ questions_one ts c (contains (modules_asked s k q.text) d) (start_read s k log q d))
     (λ b x. may_start (turn_at ts c d log) s k log q d (h.fresh ts d (let n =
     eqb-true (next_stamp s log) ts (and_left (next_stamp s log == ts) (k == c) x) in let l =
     stamp_below_next s log in omega (arith, n, l)))))

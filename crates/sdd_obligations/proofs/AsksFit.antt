@@ -40,8 +40,7 @@ runs_it g t c l m e =
     subst (λ x. slice_get (range_with_len 1 (length g.catalogue.classes)) (c - 1) ≡ Some x) n
     (range_at 1 (length g.catalogue.classes) (c - 1) (omega (arith, l, m))) in
     contains_kept (λ k. (class_at g.catalogue k).tm.0 == t.0) (numbers_to (length g.catalogue.classes))
-    (c - 1) c there (subst (λ x. ((class_at g.catalogue c).tm.0 == x) ≡ true) e
-    (same_number (class_at g.catalogue c).tm.0))
+    (c - 1) c there (subst (λ x. ((class_at g.catalogue c).tm.0 == x) ≡ true) e (same_number (class_at g.catalogue c).tm.0))
 
 pub asked_class : (g : Given) (d : DmNo) (t : TmNo) (log : Log) (n : ℕ) (k : ClassNo) (time : Ts) → IsPermitted g log
     → slice_get (puts_to (T t) (local_of g (D d) log)) n ≡ Some (Ask k time) → contains (runs (setting_of g (T t))) k.0 ≡ true

@@ -1,5 +1,5 @@
 -- How an exchange stands with one of the data modules, by the turn, and that each of its steps keeps that.
-use Rattle.sdd_obligations.proofs.All.{Asking, Asks, Bool, Exchange, Fetch, Fetching, IsOfUses, IsStrict, List, Move, Msg, None, Over, Phase, Reading, Ready, Reduce, Reduced, Reducing, Reject, Rows, Ship, Shipping, Silent, Some, Step, Told, Turn, Values, [], after_hand, answered, ap, class_no, contains, counted, counts_for, false, fetches, fetches_from, goes_on, if◌then◌else◌, inl, inr, is_a_read, is_a_refusal, is_a_ship, is_answer, lacking, length, move_at, next_move, phase_ends, reduces, refl, same_number, ships, subst, sym, time_at, to_all, true, uses_at, with_use, with_values, without, ℕ, ◌&&◌, ◌++◌, ◌+◌, ◌==◌, ◌∙◌, ◌∷◌, ◌≡◌, ◌⊎◌}
+use Rattle.sdd_obligations.proofs.All.{Asking, Asks, Bool, Exchange, Fetch, Fetching, IsOfUses, IsStrict, List, Move, Msg, None, Over, Phase, Reading, Ready, Reduce, Reduced, Reducing, Rows, Ship, Shipping, Silent, Some, Step, Told, Turn, Values, [], after_hand, answered, ap, class_no, contains, counted, counts_for, false, fetches, fetches_from, goes_on, if◌then◌else◌, inl, inr, is_a_read, is_a_refusal, is_a_ship, is_answer, lacking, length, move_at, next_move, phase_ends, reduces, refl, same_number, ships, subst, sym, time_at, to_all, true, uses_at, with_use, with_values, without, ℕ, ◌&&◌, ◌++◌, ◌+◌, ◌==◌, ◌∙◌, ◌∷◌, ◌≡◌, ◌⊎◌}
 use Rattle.sdd_obligations.proofs.Modules.{firsts, one_to_each, reading_ascends, reading_reads, to_module, without_other, without_own}
 use Rattle.sdd_obligations.proofs.Opened.{never}
 
@@ -61,8 +61,7 @@ idle_of d ms p sends lacks v z l (apart a b e g) = unread e g
 
 -- a question goes to some of the modules
 ask_all : (d : ℕ) (ms : List (ℕ × List ℕ)) (p : Phase) (m : Msg) (ds : List ℕ) (v : Turn) → IsStrict ds → awaits p m ≡ true
-    → (contains ds d ≡ true → (contains (firsts ms) d ≡ true) × IsOfUses (uses_at ms d) m) → IsIdle d ms v
-    → IsAt d ms p (to_all m ds) ds v
+    → (contains ds d ≡ true → (contains (firsts ms) d ≡ true) × IsOfUses (uses_at ms d) m) → IsIdle d ms v → IsAt d ms p (to_all m ds) ds v
 ask_all d ms p m ds v h w f (heard q ns e s u g) =
     elim (contains ds d) as (λ b. contains ds d ≡ b → IsAt d ms p (to_all m ds) ds v) [
       | true ↦ λ b. unsent m q ns (one_to_each m ds d h ∙ ap (λ (c : Bool). if c then m ∷ [] else []) b) b e s (subst (λ l. IsOfUses l m) u (f b).1) w u g
@@ -76,8 +75,7 @@ ask_all d ms p m ds v h w f (unread e g) =
 
 -- the next phase
 
-to_reduce : (ts c d : ℕ) (m : Move) (x : Exchange) (v : Turn) → IsStrict (firsts x.modules) → IsIdle d x.modules v
-    → StandsAt d (reduces ts c m x) v
+to_reduce : (ts c d : ℕ) (m : Move) (x : Exchange) (v : Turn) → IsStrict (firsts x.modules) → IsIdle d x.modules v → StandsAt d (reduces ts c m x) v
 to_reduce ts c d m x v h i =
     ask_all d x.modules (Reducing m) (Reduce (time_at ts) (class_no c) m.target.part m.target.column x.union) (with_use x m.target.part) v
     (reading_ascends x.modules m.target.part h) (same_number m.target.part) (λ e. reading_reads x.modules m.target.part d e) i
@@ -90,10 +88,8 @@ to_fetch_from ts c d m x (y ∷ ds) v e h i =
     (subst IsStrict e (reading_ascends x.modules m.source.part h)) (same_number m.source.part)
     (λ b. reading_reads x.modules m.source.part d (subst (λ l. contains l d ≡ true) (sym e) b)) i
 
-to_ship : (ts c d : ℕ) (x : Exchange) (v : Turn) → IsStrict (firsts x.modules) → IsIdle d x.modules v
-    → StandsAt d (ships ts c x) v
-to_ship ts c d x v h i =
-    ask_all d x.modules Shipping (Ship (time_at ts) (class_no c)) (firsts x.modules) v h refl (λ e. (e, tt)) i
+to_ship : (ts c d : ℕ) (x : Exchange) (v : Turn) → IsStrict (firsts x.modules) → IsIdle d x.modules v → StandsAt d (ships ts c x) v
+to_ship ts c d x v h i = ask_all d x.modules Shipping (Ship (time_at ts) (class_no c)) (firsts x.modules) v h refl (λ e. (e, tt)) i
 
 to_next : (ts c d : ℕ) (x : Exchange) (qs : List Asking) (done : List Step) (v : Turn) → IsStrict (firsts x.modules)
     → IsIdle d x.modules v → StandsAt d (goes_on ts c x qs done) v
@@ -120,12 +116,9 @@ over_at d ms sends lacks v z (apart a b e g) = apart a b e g
 
 ended_at : (ts c d : ℕ) (x : Exchange) (p : Phase) (v : Turn) → IsStrict (firsts x.modules) → x.lacks ≡ []
     → IsAt d x.modules p x.to_send x.lacks v → x.phase ≡ p → StandsAt d (phase_ends ts c x p) v
-ended_at ts c d x Reading v h z i e =
-    to_next ts c d x x.left x.done v h (idle_of d x.modules Reading x.to_send x.lacks v z refl i)
-ended_at ts c d x (Fetching m) v h z i e =
-    to_reduce ts c d m x v h (idle_of d x.modules (Fetching m) x.to_send x.lacks v z refl i)
-ended_at ts c d x (Reducing m) v h z i e =
-    to_next ts c d x x.left x.done v h (idle_of d x.modules (Reducing m) x.to_send x.lacks v z refl i)
+ended_at ts c d x Reading v h z i e = to_next ts c d x x.left x.done v h (idle_of d x.modules Reading x.to_send x.lacks v z refl i)
+ended_at ts c d x (Fetching m) v h z i e = to_reduce ts c d m x v h (idle_of d x.modules (Fetching m) x.to_send x.lacks v z refl i)
+ended_at ts c d x (Reducing m) v h z i e = to_next ts c d x x.left x.done v h (idle_of d x.modules (Reducing m) x.to_send x.lacks v z refl i)
 ended_at ts c d x Shipping v h z i e = over_at d x.modules x.to_send x.lacks v z i
 ended_at ts c d x Over v h z i e = subst (λ p. IsAt d x.modules p x.to_send x.lacks v) (sym e) i
 
@@ -167,16 +160,12 @@ less_at n d ms p sends lacks v w (inl r) (awaited m ns a b e x f g) =
     let same_uses : ns ≡ r.1 = cc in
     let same_question : m ≡ r.2 = cc in
     answered_last r.2 r.1 a (subst (λ k. contains (without lacks n) k ≡ false) (sym r.0)
-    (without_own lacks n)) r.4 (ship_is_last p r.2 (subst (λ y. awaits p y ≡ true) same_question x))
-    (f ∙ same_uses) g
+    (without_own lacks n)) r.4 (ship_is_last p r.2 (subst (λ y. awaits p y ≡ true) same_question x)) (f ∙ same_uses) g
 less_at n d ms p sends lacks v w (inl r) (answered_last q ns a b e s f g) = told_not_asks v ns r.1 q r.2 e r.3
 less_at n d ms p sends lacks v w (inl r) (apart a b e g) = silent_not_asks v r.1 r.2 e r.3
-less_at n d ms p sends lacks v w (inr r) (unsent m q ns a b e s u x f g) =
-    unsent m q ns a (without_other lacks n d r.0 ∙ b) (r.1 ∙ e) s u x f g
-less_at n d ms p sends lacks v w (inr r) (awaited m ns a b e x f g) =
-    awaited m ns a (without_other lacks n d r.0 ∙ b) (r.1 ∙ e) x f g
-less_at n d ms p sends lacks v w (inr r) (answered_last q ns a b e s f g) =
-    answered_last q ns a (without_other lacks n d r.0 ∙ b) (r.1 ∙ e) s f g
+less_at n d ms p sends lacks v w (inr r) (unsent m q ns a b e s u x f g) = unsent m q ns a (without_other lacks n d r.0 ∙ b) (r.1 ∙ e) s u x f g
+less_at n d ms p sends lacks v w (inr r) (awaited m ns a b e x f g) = awaited m ns a (without_other lacks n d r.0 ∙ b) (r.1 ∙ e) x f g
+less_at n d ms p sends lacks v w (inr r) (answered_last q ns a b e s f g) = answered_last q ns a (without_other lacks n d r.0 ∙ b) (r.1 ∙ e) s f g
 less_at n d ms p sends lacks v w (inr r) (apart a b e g) = apart a (without_other lacks n d r.0 ∙ b) (r.1 ∙ e) g
 
 lacking_at : (ts c d : ℕ) (x : Exchange) (ds : List ℕ) (w : Turn) → IsStrict (firsts x.modules)
@@ -184,10 +173,8 @@ lacking_at : (ts c d : ℕ) (x : Exchange) (ds : List ℕ) (w : Turn) → IsStri
 lacking_at ts c d x [] w h i = ended_at ts c d (record x { lacks = [] }) x.phase w h refl i refl
 lacking_at ts c d x (y ∷ ds) w h i = i
 
-answered_at : (ts c n d : ℕ) (x : Exchange) (v w : Turn) → IsStrict (firsts x.modules) → IsNext n d v w → StandsAt d x v
-    → StandsAt d (answered ts c n x) w
-answered_at ts c n d x v w h r i =
-    lacking_at ts c d x (without x.lacks n) w h (less_at n d x.modules x.phase x.to_send x.lacks v w r i)
+answered_at : (ts c n d : ℕ) (x : Exchange) (v w : Turn) → IsStrict (firsts x.modules) → IsNext n d v w → StandsAt d x v → StandsAt d (answered ts c n x) w
+answered_at ts c n d x v w h r i = lacking_at ts c d x (without x.lacks n) w h (less_at n d x.modules x.phase x.to_send x.lacks v w r i)
 
 answered_if : (ts c n d : ℕ) (b : Bool) (x y : Exchange) (v w : Turn) → b ≡ true → IsStrict (firsts y.modules) → IsNext n d v w
     → StandsAt d y v → StandsAt d (if b then answered ts c n y else x) w

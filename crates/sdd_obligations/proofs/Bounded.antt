@@ -1,5 +1,5 @@
 -- Within the limits of a run no log is higher than the greatest height.
-use Rattle.sdd_obligations.proofs.All.{Act, AllFewTicks, D, Did, Does, Each, Entry, Given, Hand, Handed, IsFair, IsLawful, IsNumbered, IsPermitted, IsSmall, IsWithin, List, Log, MAX_LINK_MESSAGES, MAX_RUN_EVENTS, MAX_TICKS, Mark, None, Notes, Option, Records, Redeclared, Redeclares, Round, Site, Some, Start, Submits, Submitted, T, Ticked, U, [], all_new, ap, arith, dm_no, each_local, greatest_height, handed, hands, height, home_of, lawful_permitted, length, length-append, length-map, length-range_with_len, local_of, local_step, made, map, marks, most_classes, most_sites, mul-le-mul, mul-le-mul_right, own_act, range_with_len, refl, setting_of, sites, starts, starts_by, starts_more, submits, subst, suc, suc-mul, sym, t_fair, ticks_of, tm_no, trans_le, u_fair, view_of, with_made, ℕ, ◌*◌, ◌+◌, ◌<◌, ◌^◌, ◌∙◌, ◌∷◌, ◌≡◌, ◌≤◌}
+use Rattle.sdd_obligations.proofs.All.{Act, AllFewTicks, D, Did, Does, Each, Entry, Given, Hand, Handed, IsFair, IsLawful, IsNumbered, IsPermitted, IsSmall, IsWithin, List, Log, MAX_LINK_MESSAGES, MAX_RUN_EVENTS, MAX_TICKS, Mark, Notes, Option, Records, Redeclared, Redeclares, Round, Site, Some, Start, Submits, Submitted, T, Ticked, U, [], all_new, ap, arith, dm_no, each_local, greatest_height, handed, hands, height, home_of, lawful_permitted, length, length-append, length-map, length-range_with_len, local_of, local_step, made, map, marks, most_classes, most_sites, mul-le-mul, mul-le-mul_right, own_act, range_with_len, refl, setting_of, sites, starts, starts_by, starts_more, submits, subst, suc, suc-mul, sym, t_fair, ticks_of, tm_no, trans_le, u_fair, view_of, with_made, ℕ, ◌*◌, ◌+◌, ◌<◌, ◌^◌, ◌∙◌, ◌∷◌, ◌≡◌, ◌≤◌}
 use Rattle.sdd_obligations.proofs.Counting.{site_few}
 use Rattle.sdd_obligations.proofs.Limits.{handed_few, hands_few, marks_few, submits_few}
 use Rattle.sdd_obligations.proofs.NoStarts.{d_starts_not}
@@ -29,8 +29,7 @@ all_starts g log = total (λ at. starts (local_of g at log)) (all_sites g)
 sum_up : (g : Given) (e : Entry) (log : Log) → all_starts g log ≤ all_starts g (e ∷ log)
 sum_up g e log = total_up (λ at. starts (local_of g at log)) (λ at. starts (local_of g at (e ∷ log))) (all_sites g) (starts_up g e log)
 
-sum_act : (g : Given) (at : Site) (act : Act) (log : Log) → IsThere (all_sites g) at
-    → starts_by act + all_starts g log ≤ all_starts g (Does at act ∷ log)
+sum_act : (g : Given) (at : Site) (act : Act) (log : Log) → IsThere (all_sites g) at → starts_by act + all_starts g log ≤ all_starts g (Does at act ∷ log)
 sum_act g at act log k =
     let own : starts (local_of g at (Does at act ∷ log)) ≡ starts_by act + starts (local_of g at log) =
     ap starts (own_act g at act log) ∙ act_starts act (starts (local_of g at log)) in
@@ -53,8 +52,7 @@ height_le : (g : Given) (log : Log) → AllFewTicks g.events → IsLawful g log 
 height_le g [] f l = omega arith
 height_le g (Mark e ∷ log) f l =
     mark_sum (ticks_of e) (marks log) MAX_TICKS (height log) (all_starts g log)
-    (all_starts g (Mark e ∷ log)) (of_next g log (Mark e) f l.1 l.0) (height_le g log f l.1)
-    (sum_up g (Mark e) log)
+    (all_starts g (Mark e ∷ log)) (of_next g log (Mark e) f l.1 l.0) (height_le g log f l.1) (sum_up g (Mark e) log)
 height_le g (Round es ∷ log) f l = same_sum (marks log) MAX_TICKS (height log) (all_starts g log) _ (height_le g log f l.1) (sum_up g (Round es) log)
 height_le g (Redeclares t ∷ log) f l = later_sum (marks log) MAX_TICKS (height log) (all_starts g log) _ (height_le g log f l.1) (sum_up g (Redeclares t) log)
 height_le g (Hand a b n m ∷ log) f l = same_sum (marks log) MAX_TICKS (height log) (all_starts g log) _ (height_le g log f l.1) (sum_up g (Hand a b n m) log)
@@ -110,15 +108,13 @@ StartsNot l (Redeclared force t) = Unit {0}
 
 none_started : (l : site.Log) → Each StartsNot l → starts l ≡ 0
 none_started [] h = refl
-none_started (Did act ∷ l) h =
-    let i = none_started l h.1 in let e = act_starts act (starts l) in let z = h.0 in omega (arith, i, e, z)
+none_started (Did act ∷ l) h = let i = none_started l h.1 in let e = act_starts act (starts l) in let z = h.0 in omega (arith, i, e, z)
 none_started (_ ∷ l) h = none_started l h.1
 
 site_bound : (g : Given) (at : Site) (log : Log) → IsSmall g → IsLawful g log → IsPermitted g log → IsWithin log
     → IsThere (all_sites g) at → starts (local_of g at log) ≤ most_starts
 site_bound g U log s l p w k = of_classes g U log s l p w tt (u_fair g log p)
-site_bound g (T t) log s l p w k =
-    of_classes g (T t) log s l p w (t_of_sites g.catalogue.tms g.catalogue.dms t k).0 (t_fair g t log p)
+site_bound g (T t) log s l p w k = of_classes g (T t) log s l p w (t_of_sites g.catalogue.tms g.catalogue.dms t k).0 (t_fair g t log p)
 site_bound g (D d) log s l p w k =
     let e = none_started (local_of g (D d) log) (each_local g (D d) StartsNot (record {
       handed = λ log p from n m a i. tt;

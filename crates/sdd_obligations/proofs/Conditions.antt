@@ -54,8 +54,7 @@ conditions_within cat table c frags own p2 d =
     if_way (AllWithin n) (c == 0) _ _ (mapped_within n (λ j. cond_of j own (map frag_no (fragments_of cat))) (classes_of cat) (λ j l. l) all)
     (made_within n (condition_on (is_asked cat c d (map frag_no frags)) table c own p2) (classes_of cat)
     (λ j l. either_within n (cond_for j own (asked_by P3 (is_asked cat c d (map frag_no frags)) table c j))
-    (cond_for j p2 (asked_by P2 (is_asked cat c d (map frag_no frags)) table c j))
-    (for_within n j own _ l) (for_within n j p2 _ l)) all)
+    (cond_for j p2 (asked_by P2 (is_asked cat c d (map frag_no frags)) table c j)) (for_within n j own _ l) (for_within n j p2 _ l)) all)
 
 -- of a READ that was put
 
@@ -84,8 +83,7 @@ act_within s b log act k ts class txn attempt conds uses by e =
     by.act_is e)
 
 pub read_within : (s : Setting) (b : Site) (log : Log) (k : ℕ) (ts : Ts) (class : ClassNo) (txn : TxnNo) (attempt : ℕ) (conds : List Cond) (uses : List Use)
-    → Each (IsFair s) log → slice_get (puts_to b log) k ≡ Some (Read ts class txn attempt conds uses)
-    → AllWithin (length s.catalogue.classes) conds
+    → Each (IsFair s) log → slice_get (puts_to b log) k ≡ Some (Read ts class txn attempt conds uses) → AllWithin (length s.catalogue.classes) conds
 read_within s b log k ts class txn attempt conds uses f e =
     let p = was_put b log k (Read ts class txn attempt conds uses) e in
     let q = each_at (IsFair s) p.later _ p.before (subst (Each (IsFair s)) p.is f) in
@@ -100,8 +98,7 @@ late t l = omega (arith, l)
 pub conds_fit : (s : Setting) (ds : List Cond) → AllWithin (length s.catalogue.classes) ds → AllLt (2 ^ 60) (map (λ (d : Cond). d.time.0) ds)
     → All (FitsCond s) ds
 conds_fit s [] h l = All-nil (FitsCond s)
-conds_fit s (d ∷ ds) h l =
-    All-cons (FitsCond s) d ds (record { is_class = h.0.1; early = late d.time.0 l.0 }) (conds_fit s ds h.1 l.1)
+conds_fit s (d ∷ ds) h l = All-cons (FitsCond s) d ds (record { is_class = h.0.1; early = late d.time.0 l.0 }) (conds_fit s ds h.1 l.1)
 
 -- and so one of them
 pub one_within : (n : ℕ) (ds : List Cond) (k : ℕ) (d : Cond) → AllWithin n ds → slice_get ds k ≡ Some d → IsFrom1 n d.class.0

@@ -36,13 +36,11 @@ reads_somewhere cat sound c txn (inl z) u f h k =
     let there = frag_there cat txn u f h k in
     subst (λ j. (d : ℕ) × (reads_at cat j f.0 ≡ Some d)) (sym z) (some_copy cat sound f.0 there.0 there.1)
 reads_somewhere cat sound c txn (inr cov) u f h k =
-    some_is (reads_at cat c f.0) (cov.reads f.0 (has_contains (fragments_in (uses_of cat txn)) f.0
-    (frag_among (uses_of cat txn) u f h k)))
+    some_is (reads_at cat c f.0) (cov.reads f.0 (has_contains (fragments_in (uses_of cat txn)) f.0 (frag_among (uses_of cat txn) u f h k)))
 
 -- the module is there, and is asked
 pub module_there : (cat : Catalogue) → IsSound cat → (c : ℕ) (txn : Txn) → Covers cat c txn
-    → (u : Use) (f : FragNo) (d : ℕ) → Has (uses_of cat txn) u → Has u.frags f → reads_at cat c f.0 ≡ Some d
-    → (1 ≤ d) × (d ≤ cat.dms)
+    → (u : Use) (f : FragNo) (d : ℕ) → Has (uses_of cat txn) u → Has u.frags f → reads_at cat c f.0 ≡ Some d → (1 ≤ d) × (d ≤ cat.dms)
 module_there cat sound c txn cov u f d h k e =
     let there = frag_there cat txn u f h k in
     let s = served_read cat c f.0 d sound (class_within cat c txn cov) there.0 there.1 e in
@@ -160,14 +158,12 @@ module _ (g : Given) (good : FitsGiven g) (eras : HasEras g) (c : ℕ) (log : Lo
       let to = answer_to g good.sound c (class_within cat c a.text cover) log a (dm_no d) h is s.answer in
       let frag : Has (ascending (fragments_in (uses_at cat c a.text d))) p.frag =
       subst (Has (ascending (fragments_in (uses_at cat c a.text d)))) u.number
-      (asked_frag cat c d a.text u.usage u.frag u.there u.among
-      (is_read (reads_at cat c u.frag.0) d reads)) in
+      (asked_frag cat c d a.text u.usage u.frag u.there u.among (is_read (reads_at cat c u.frag.0) d reads)) in
       let first : Has (frags_asked (head (pipe s.answer.class s.answer.before))) p.frag =
       subst (λ fs. Has fs p.frag) (ap (λ us. ascending (fragments_in us)) (sym to.uses_are)
       ∙ sym (frags_are (head (pipe s.answer.class s.answer.before)))) frag in
       let there : Has (items_of cat (dated (set d) s.answer.before) p.frag) e =
-      subst (λ l. Has (items_of cat (dated (set d) l) p.frag) e) s.before_is
-      (to_has (items_of cat (made_of d) p.frag) e p.there) in
+      subst (λ l. Has (items_of cat (dated (set d) l) p.frag) e) s.before_is (to_has (items_of cat (made_of d) p.frag) e p.there) in
       let read : Has (snapshots_at g log a.ts d) e =
       subst (λ es. Has es e) (sym s.is) (Has-flat_map (items_of cat (dated (set d) s.answer.before))
       (frags_asked (head (pipe s.answer.class s.answer.before))) p.frag e first there) in
@@ -183,8 +179,7 @@ module _ (g : Given) (good : FitsGiven g) (eras : HasEras g) (c : ℕ) (log : Lo
       let q = Has-flat_map_from (items_of cat (dated (set d) s.answer.before))
       (frags_asked (head (pipe s.answer.class s.answer.before))) e (subst (λ es. Has es e) s.is there) in
       let f = frag_asked cat c d a.text q.0
-      (subst (λ fs. Has fs q.0) (frags_are (head (pipe s.answer.class s.answer.before))
-      ∙ ap (λ us. ascending (fragments_in us)) to.uses_are) q.1) in
+      (subst (λ fs. Has fs q.0) (frags_are (head (pipe s.answer.class s.answer.before)) ∙ ap (λ us. ascending (fragments_in us)) to.uses_are) q.1) in
       record {
         frag = q.0;
         module_no = d;

@@ -1,5 +1,5 @@
 -- A class starts no more attempts than transactions were given to its site and messages handed to it.
-use Rattle.sdd_obligations.proofs.All.{Act, Attempt, Bases, Bool, Catalogue, Class, D, Did, Each, Handed, IsFair, IsNew, IsNumbered, IsServed, IsStep, List, Msg, None, Option, Queued, Redeclared, Sends, Setting, Site, Some, Submits, T, Ticked, U, [], active, active_handed, active_sent, ap, arith, class_at, class_starts, classes_of, commit_act, dec_le, false, filter, filter_shorter, get_or_past, hands, head_of, home, if◌then◌else◌, in_force, inl, inr, is_for, length, length-append, length-map, length-range_with_len, map, next_stamp, not, queue, queue_is, refl, same_number, same_or_not, sends_of_act, sent_way, slice_get, start_at, start_of_class, started, starts, step_way, submits, submitted, subst, suc, sym, tm_no, tried, true, ℕ, ◌*◌, ◌++◌, ◌+◌, ◌-◌, ◌==◌, ◌∷◌, ◌≡◌, ◌≤◌}
+use Rattle.sdd_obligations.proofs.All.{Act, Attempt, Bases, Bool, Catalogue, Class, Did, Each, Handed, IsFair, IsNew, IsNumbered, IsServed, IsStep, List, Msg, None, Option, Queued, Sends, Setting, Site, Some, Submits, T, [], active, active_handed, active_sent, ap, arith, class_at, class_starts, classes_of, commit_act, dec_le, false, filter, filter_shorter, get_or_past, hands, head_of, home, if◌then◌else◌, in_force, inl, inr, is_for, length, length-append, length-map, length-range_with_len, map, next_stamp, not, queue, queue_is, refl, same_number, same_or_not, sends_of_act, sent_way, slice_get, start_at, start_of_class, started, starts, step_way, submits, submitted, subst, suc, sym, tm_no, tried, true, ℕ, ◌*◌, ◌++◌, ◌+◌, ◌-◌, ◌==◌, ◌∷◌, ◌≡◌, ◌≤◌}
 use Rattle.sdd_obligations.proofs.Sums.{range_at, total, total_le, total_raise, total_up}
 use Rattle.sdd_invariants.specs.site_module.SiteLog.{Log}
 
@@ -32,16 +32,14 @@ count_start s c log q i e h =
     rw (same_number c)
     (start_count (class_starts c log) (length (queue s c log))
     (length (map (tried q.number) (queue s c log))) (length (submits log)) (hands log)
-    (busy (active s c log)) (busy (started (next_stamp s log) (sends_of_act (start_at s c log q))
-    (head_of (queue s c log))))
+    (busy (active s c log)) (busy (started (next_stamp s log) (sends_of_act (start_at s c log q)) (head_of (queue s c log))))
     (length-map (queue s c log) (tried q.number)) (ap busy i) (busy_started (next_stamp s log)
     (sends_of_act (start_at s c log q)) (head_of (queue s c log)) q e) h)
 
 same_count : (cs qs all : ℕ) → cs + qs ≤ all → 0 + cs + qs ≤ all
 same_count cs qs all l = omega (arith, l)
 
-count_other_start : (s : Setting) (k c : ℕ) (log : Log) (q : Queued) → (k == c) ≡ false → IsCounted s c log
-    → IsCounted s c (Did (start_at s k log q) ∷ log)
+count_other_start : (s : Setting) (k c : ℕ) (log : Log) (q : Queued) → (k == c) ≡ false → IsCounted s c log → IsCounted s c (Did (start_at s k log q) ∷ log)
 count_other_start s k c log q e h = rw e (same_count (class_starts c log) (length (queue s c log)) _ h)
 
 head_taken : (a : Attempt) (qs : List Queued) → IsServed (Some a) qs → suc (length (filter (λ q. not (q.number == a.txn)) qs)) ≤ length qs
@@ -59,8 +57,7 @@ count_commit : (s : Setting) (c : ℕ) (bases : Bases) (log : Log) (a : Attempt)
 count_commit s c bases log a e v h =
     rw (same_number c)
     (commit_count (class_starts c log) (length (queue s c log))
-    (length (filter (λ q. not (q.number == a.txn)) (queue s c log))) (length (submits log)) (hands log)
-    (busy (active s c log))
+    (length (filter (λ q. not (q.number == a.txn)) (queue s c log))) (length (submits log)) (hands log) (busy (active s c log))
     (head_taken a (queue s c log) (subst (λ o. IsServed o (queue s c log)) e v)) (busy_le (active s c log)) h)
 
 count_other_commit : (s : Setting) (k c : ℕ) (bases : Bases) (log : Log) (a : Attempt) → (k == c) ≡ false → IsCounted s c log
@@ -68,14 +65,12 @@ count_other_commit : (s : Setting) (k c : ℕ) (bases : Bases) (log : Log) (a : 
 count_other_commit s k c bases log a e h = rw e (same_count (class_starts c log) (length (queue s c log)) _ h)
 
 sent_busy : (s : Setting) (c : ℕ) (log : Log) (m : Msg) → busy (active s c log) ≤ busy (active_sent c m (active s c log))
-sent_busy s c log m =
-    sent_way (λ o. busy (active s c log) ≤ busy o) c m (active s c log) (λ a x e. busy_le (active s c log)) (omega arith)
+sent_busy s c log m = sent_way (λ o. busy (active s c log) ≤ busy o) c m (active s c log) (λ a x e. busy_le (active s c log)) (omega arith)
 
 send_count : (cs qs all b d : ℕ) → b ≤ d → cs + qs ≤ all + b → 0 + cs + qs ≤ all + d
 send_count cs qs all b d l h = omega (arith, l, h)
 
-count_send : (s : Setting) (c : ℕ) (log : Log) (to : Site) (m : Msg) (hand : Option ℕ) → IsCounted s c log
-    → IsCounted s c (Did (Sends to m hand) ∷ log)
+count_send : (s : Setting) (c : ℕ) (log : Log) (to : Site) (m : Msg) (hand : Option ℕ) → IsCounted s c log → IsCounted s c (Did (Sends to m hand) ∷ log)
 count_send s c log to m hand h =
     send_count (class_starts c log) (length (queue s c log)) (length (submits log) + hands log)
     (busy (active s c log)) (busy (active_sent c m (active s c log))) (sent_busy s c log m) h
@@ -90,8 +85,7 @@ count_act s c log act i v h = step_way s log act (λ x. IsCounted s c (Did x ∷
     (λ k bases a at f. elim (same_or_not k c) [
       | inl p ↦ subst (λ j. IsCounted s c (Did (commit_act s.catalogue bases j a) ∷ log)) (sym p) (count_commit s c bases log a (rw p at f) v h)
       | inr p ↦ count_other_commit s k c bases log a p h
-    ])
-    (λ to m hand f. count_send s c log to m hand h) i
+    ]) (λ to m hand f. count_send s c log to m hand h) i
 
 submit_longer : (b : Bool) (q : Queued) (qs : List Queued) → length (if b then qs ++ q ∷ [] else qs) ≤ suc (length qs)
 submit_longer true q qs = let e = length-append qs (q ∷ []) in omega (arith, e)
@@ -107,18 +101,15 @@ counted : (s : Setting) (c : ℕ) (log : Log) → Each (IsFair s) log → Each I
 counted s c [] f n = omega arith
 counted s c (Handed from m ∷ log) f n =
     hand_count (class_starts c log) (length (queue s c log)) (length (submits log)) (hands log)
-    (busy (active s c log)) (busy (active_handed c from m (active s c log))) (busy_le (active s c log))
-    (counted s c log f.1 n.1)
+    (busy (active s c log)) (busy (active_handed c from m (active s c log))) (busy_le (active s c log)) (counted s c log f.1 n.1)
 counted s c (Submits k txn ∷ log) f n =
     submit_count (class_starts c log) (length (queue s c log))
-    (length (submitted c (in_force s log).catalogue k txn (queue s c log))) (length (submits log))
-    (hands log) (busy (active s c log))
+    (length (submitted c (in_force s log).catalogue k txn (queue s c log))) (length (submits log)) (hands log) (busy (active s c log))
     (submit_longer (is_for c (in_force s log).catalogue txn) (record { number = k; text = txn; tries = 0 }) (queue s c log)) (counted s c log f.1 n.1)
 counted s c (Did act ∷ log) f n = count_act s c log act f.0 (queue_is s c log f.1 n.1).served (counted s c log f.1 n.1)
 counted s c (_ ∷ log) f n = counted s c log f.1 n.1
 
-pub class_few : (s : Setting) (c : ℕ) (log : Log) → Each (IsFair s) log → Each IsNew log
-    → class_starts c log ≤ length (submits log) + hands log
+pub class_few : (s : Setting) (c : ℕ) (log : Log) → Each (IsFair s) log → Each IsNew log → class_starts c log ≤ length (submits log) + hands log
 class_few s c log f n =
     let i = counted s c log f n in
     let b = busy_served (active s c log) (queue s c log) (queue_is s c log f n).served in
@@ -130,13 +121,11 @@ no_class_past : (cat : Catalogue) (c t : ℕ) → (class_at cat c).tm.0 ≡ t �
 no_class_past cat c t e l z = elim (dec_le c (length cat.classes)) [
   | yes p ↦ p
   | no p ↦ (let past : class_at cat c ≡ record { name = []; tm = tm_no 0; reads = []; writes = [] } =
-      get_or_past cat.classes (c - 1) (record { name = []; tm = tm_no 0; reads = []; writes = [] })
-      (omega (arith, p)) in
+      get_or_past cat.classes (c - 1) (record { name = []; tm = tm_no 0; reads = []; writes = [] }) (omega (arith, p)) in
       let none : (class_at cat c).tm.0 ≡ 0 = ap (λ (k : Class). k.tm.0) past in absurd (omega (arith, none, e, l)))
 ]
 
-of_tm : (cat : Catalogue) (c : ℕ) (at : Site) → IsNumbered at → T (tm_no (class_at cat c).tm.0) ≡ at → (c == 0) ≡ false
-    → c ≤ length cat.classes
+of_tm : (cat : Catalogue) (c : ℕ) (at : Site) → IsNumbered at → T (tm_no (class_at cat c).tm.0) ≡ at → (c == 0) ≡ false → c ≤ length cat.classes
 of_tm cat c (T t) l q z = let n : (class_at cat c).tm.0 ≡ t.0 = cc in no_class_past cat c t.0 n l z
 of_tm cat c _ l q z = cc
 
@@ -150,26 +139,20 @@ class_more : (s : Setting) (k : ℕ) (log : Log) (act : Act) (n : ℕ) → k ≤
 class_more s k log act n l e =
     let z : 0 + k ≡ k = omega arith in
     let there : slice_get (classes_of s) k ≡ Some k =
-    subst (λ x. slice_get (classes_of s) k ≡ Some x) z (range_at 0 (suc (length s.catalogue.classes)) k
-    (omega (arith, l))) in
-    total_raise (λ c. class_starts c log) (λ c. class_starts c (Did act ∷ log)) n (classes_of s) k k there
-    (λ c. omega arith) (omega (arith, e))
+    subst (λ x. slice_get (classes_of s) k ≡ Some x) z (range_at 0 (suc (length s.catalogue.classes)) k (omega (arith, l))) in
+    total_raise (λ c. class_starts c log) (λ c. class_starts c (Did act ∷ log)) n (classes_of s) k k there (λ c. omega arith) (omega (arith, e))
 
-start_total : (s : Setting) (log : Log) (act : Act) → IsNumbered s.site → IsStep s log act
-    → starts log ≤ total (λ c. class_starts c log) (classes_of s)
+start_total : (s : Setting) (log : Log) (act : Act) → IsNumbered s.site → IsStep s log act → starts log ≤ total (λ c. class_starts c log) (classes_of s)
     → starts (Did act ∷ log) ≤ total (λ c. class_starts c (Did act ∷ log)) (classes_of s)
 start_total s log act l i h =
     step_way s log act (λ x. starts (Did x ∷ log) ≤ total (λ c. class_starts c (Did x ∷ log)) (classes_of s))
     (λ k q at f e. let m = class_more s k log (start_at s k log q) 1 (class_here s.catalogue k s.site l at) (rw (same_number k) refl) in omega (arith, m, h))
     (λ k bases a at f. let m = total_up (λ c. class_starts c log)
-    (λ c. class_starts c (Did (commit_act s.catalogue bases k a) ∷ log)) (classes_of s)
-    (λ c. omega arith) in omega (arith, m, h))
+    (λ c. class_starts c (Did (commit_act s.catalogue bases k a) ∷ log)) (classes_of s) (λ c. omega arith) in omega (arith, m, h))
     (λ to m hand f. let n = total_up (λ c. class_starts c log)
-    (λ c. class_starts c (Did (Sends to m hand) ∷ log)) (classes_of s) (λ c. omega arith) in omega
-    (arith, n, h)) i
+    (λ c. class_starts c (Did (Sends to m hand) ∷ log)) (classes_of s) (λ c. omega arith) in omega (arith, n, h)) i
 
-by_classes : (s : Setting) (log : Log) → IsNumbered s.site → Each (IsFair s) log
-    → starts log ≤ total (λ c. class_starts c log) (classes_of s)
+by_classes : (s : Setting) (log : Log) → IsNumbered s.site → Each (IsFair s) log → starts log ≤ total (λ c. class_starts c log) (classes_of s)
 by_classes s [] l f = omega arith
 by_classes s (Did act ∷ log) l f = start_total s log act l f.0 (by_classes s log l f.1)
 by_classes s (_ ∷ log) l f = by_classes s log l f.1

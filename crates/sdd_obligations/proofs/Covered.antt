@@ -12,8 +12,7 @@ ForceIs cat log (Submits n txn) = Unit {0}
 ForceIs cat log (Redeclared force t) = IsEraOf cat force.catalogue
 ForceIs cat log (Did act) = Unit {0}
 
-forces_are : (g : Given) → HasEras g → (at : Site) (log : whole.Log) → IsPermitted g log
-    → Each (ForceIs g.catalogue) (local_of g at log)
+forces_are : (g : Given) → HasEras g → (at : Site) (log : whole.Log) → IsPermitted g log → Each (ForceIs g.catalogue) (local_of g at log)
 forces_are g eras at = each_local g at (ForceIs g.catalogue) (record {
   handed = λ log p from n m a i. tt;
   ticked = λ log p n i. tt;
@@ -22,8 +21,7 @@ forces_are g eras at = each_local g at (ForceIs g.catalogue) (record {
   did = λ log act p due i. tt;
 })
 
-in_force_is : (s : Setting) (log : Log) → Each (ForceIs s.catalogue) log
-    → IsEraOf s.catalogue (in_force s log).catalogue
+in_force_is : (s : Setting) (log : Log) → Each (ForceIs s.catalogue) log → IsEraOf s.catalogue (in_force s log).catalogue
 in_force_is s [] h = era_of_itself s.catalogue
 in_force_is s (Redeclared force t ∷ log) h = h.0
 in_force_is s (_ ∷ log) h = in_force_is s log h.1

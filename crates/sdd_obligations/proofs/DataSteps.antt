@@ -19,18 +19,15 @@ pub data IsDataStep (s : Setting) (log : Log) (act : Act) : Type 0 where
       → act ≡ Sends o.from m (Some o.hand) → IsDataStep s log act
   answers_read : (c : ℕ) (ts : Ts) (k : ClassNo) (txn : TxnNo) (attempt : ℕ) (conds : List Cond) (uses : List Use) → IsClassHere s c
       → head (pipe c log) ≡ Some (Read ts k txn attempt conds uses)
-      → act ≡ Records c (Answer txn attempt (home_of s).dm) ((source_of (home_of s) c, Ready ts k (counts_told s log ts.0 uses)) ∷ [])
-      → IsDataStep s log act
+      → act ≡ Records c (Answer txn attempt (home_of s).dm) ((source_of (home_of s) c, Ready ts k (counts_told s log ts.0 uses)) ∷ []) → IsDataStep s log act
   refuses_read : (c : ℕ) (ts : Ts) (k : ClassNo) (txn : TxnNo) (attempt : ℕ) (conds : List Cond) (uses : List Use) (by : ClassNo) (write : Ts)
       → IsClassHere s c → head (pipe c log) ≡ Some (Read ts k txn attempt conds uses)
-      → act ≡ Records c (Rejected txn attempt (home_of s).dm by write) ((source_of (home_of s) c, Reject ts k by write) ∷ [])
-      → IsDataStep s log act
+      → act ≡ Records c (Rejected txn attempt (home_of s).dm by write) ((source_of (home_of s) c, Reject ts k by write) ∷ []) → IsDataStep s log act
   waits_for : (c : ℕ) (txn : TxnNo) (attempt : ℕ) (ds : List Cond) → act ≡ Records c (Wait txn attempt (home_of s).dm ds) (map (ask_for (home_of s)) ds)
       → IsDataStep s log act
   applies : (c : ℕ) (ts : Ts) (k : ClassNo) (txn : TxnNo) (changes : List Change) → head (pipe c log) ≡ Some (Write ts k txn changes)
       → act ≡ Records c (Apply txn k (home_of s).dm ts) (done_for c (Done ts)) → IsDataStep s log act
-  passes : (c : ℕ) (k : ClassNo) (time : Ts) → head (pipe c log) ≡ Some (Null k time) → act ≡ Records c (Pass k (home_of s).dm time) []
-      → IsDataStep s log act
+  passes : (c : ℕ) (k : ClassNo) (time : Ts) → head (pipe c log) ≡ Some (Null k time) → act ≡ Records c (Pass k (home_of s).dm time) [] → IsDataStep s log act
 
 some_act : (s : Setting) (log : Log) (x a : Act) → IsDataStep s log x → Some x ≡ Some a → IsDataStep s log a
 some_act s log x a h e = let p : x ≡ a = cc in subst (IsDataStep s log) p h
@@ -54,42 +51,32 @@ asked_step s log c (Some o) a p e = open_step s log c o o.msg a p refl e
 judged_step : (s : Setting) (log : Log) (c : ℕ) (ts : Ts) (k : ClassNo) (txn : TxnNo) (attempt : ℕ)
     (conds : List Cond) (uses : List Use) (lacking : List Cond) (by : Option Cond) (a : Act)
     → IsClassHere s c → head (pipe c log) ≡ Some (Read ts k txn attempt conds uses)
-    → Some (act_by (home_of s) (view_of s log) c (Read ts k txn attempt conds uses) (judged (view_of s log) lacking by)) ≡ Some a
-    → IsDataStep s log a
-judged_step s log c ts k txn attempt conds uses lacking (Some d) a l h e =
-    some_act s log _ a (refuses_read c ts k txn attempt conds uses _ _ l h refl) e
-judged_step s log c ts k txn attempt conds uses [] None a l h e =
-    some_act s log _ a (answers_read c ts k txn attempt conds uses l h refl) e
-judged_step s log c ts k txn attempt conds uses (d ∷ ds) None a l h e =
-    some_act s log _ a (waits_for c txn attempt (d ∷ ds) refl) e
+    → Some (act_by (home_of s) (view_of s log) c (Read ts k txn attempt conds uses) (judged (view_of s log) lacking by)) ≡ Some a → IsDataStep s log a
+judged_step s log c ts k txn attempt conds uses lacking (Some d) a l h e = some_act s log _ a (refuses_read c ts k txn attempt conds uses _ _ l h refl) e
+judged_step s log c ts k txn attempt conds uses [] None a l h e = some_act s log _ a (answers_read c ts k txn attempt conds uses l h refl) e
+judged_step s log c ts k txn attempt conds uses (d ∷ ds) None a l h e = some_act s log _ a (waits_for c txn attempt (d ∷ ds) refl) e
 
 write_step : (s : Setting) (log : Log) (c : ℕ) (held : Bool) (ts : Ts) (k : ClassNo) (txn : TxnNo) (changes : List Change) (a : Act)
     → head (pipe c log) ≡ Some (Write ts k txn changes)
-    → act_where (home_of s) (view_of s log) c (Some (Write ts k txn changes)) (if held then None else Some Processes) ≡ Some a
-    → IsDataStep s log a
+    → act_where (home_of s) (view_of s log) c (Some (Write ts k txn changes)) (if held then None else Some Processes) ≡ Some a → IsDataStep s log a
 write_step s log c true ts k txn changes a h e = cc
 write_step s log c false ts k txn changes a h e = some_act s log _ a (applies c ts k txn changes h refl) e
 
 waited_step : (s : Setting) (log : Log) (c : ℕ) (met : Bool) (ts : Ts) (k : ClassNo) (txn : TxnNo) (attempt : ℕ) (conds : List Cond) (uses : List Use) (a : Act)
     → IsClassHere s c → head (pipe c log) ≡ Some (Read ts k txn attempt conds uses)
-    → act_where (home_of s) (view_of s log) c (Some (Read ts k txn attempt conds uses)) (if met then Some Processes else None) ≡ Some a
-    → IsDataStep s log a
-waited_step s log c true ts k txn attempt conds uses a l h e =
-    some_act s log _ a (answers_read c ts k txn attempt conds uses l h refl) e
+    → act_where (home_of s) (view_of s log) c (Some (Read ts k txn attempt conds uses)) (if met then Some Processes else None) ≡ Some a → IsDataStep s log a
+waited_step s log c true ts k txn attempt conds uses a l h e = some_act s log _ a (answers_read c ts k txn attempt conds uses l h refl) e
 waited_step s log c false ts k txn attempt conds uses a l h e = cc
 
 head_step : (s : Setting) (log : Log) (c : ℕ) (w : Bool) (m : Msg) (a : Act) → IsClassHere s c → head (pipe c log) ≡ Some m
     → act_where (home_of s) (view_of s log) c (Some m) (step_on (view_of s log) c w (Some m)) ≡ Some a → IsDataStep s log a
 head_step s log c true (Null class time) a l h e = some_act s log _ a (passes c class time h refl) e
 head_step s log c false (Null class time) a l h e = some_act s log _ a (passes c class time h refl) e
-head_step s log c true (Write ts class txn changes) a l h e =
-    write_step s log c (is_held (view_of s log) c ts.0 changes) ts class txn changes a h e
-head_step s log c false (Write ts class txn changes) a l h e =
-    write_step s log c (is_held (view_of s log) c ts.0 changes) ts class txn changes a h e
+head_step s log c true (Write ts class txn changes) a l h e = write_step s log c (is_held (view_of s log) c ts.0 changes) ts class txn changes a h e
+head_step s log c false (Write ts class txn changes) a l h e = write_step s log c (is_held (view_of s log) c ts.0 changes) ts class txn changes a h e
 head_step s log c true (Read ts class txn attempt conds uses) a l h e =
     waited_step s log c (list_all (is_met (view_of s log)) conds) ts class txn attempt conds uses a l h e
-head_step s log c false (Read ts class txn attempt conds uses) a l h e =
-    judged_step s log c ts class txn attempt conds uses _ _ a l h e
+head_step s log c false (Read ts class txn attempt conds uses) a l h e = judged_step s log c ts class txn attempt conds uses _ _ a l h e
 head_step s log c _ _ a l h e = cc
 
 at_head : (s : Setting) (log : Log) (c : ℕ) (o : Option Msg) (a : Act) → IsClassHere s c → head (pipe c log) ≡ o
@@ -125,8 +112,7 @@ pub data_step_way : (s : Setting) (log : Log) (act : Act) (P : Act → Type 0)
     → IsDataStep s log act → P act
 data_step_way s log act P f1 f2 f3 f4 f5 f6 f7 (arrives k txn attempt e) = subst P (sym e) (f1 k txn attempt)
 data_step_way s log act P f1 f2 f3 f4 f5 f6 f7 (replies k o m h r e) = subst P (sym e) (f2 k o m h r)
-data_step_way s log act P f1 f2 f3 f4 f5 f6 f7 (answers_read c ts k txn attempt conds uses l h e) =
-    subst P (sym e) (f3 c ts k txn attempt conds uses l h)
+data_step_way s log act P f1 f2 f3 f4 f5 f6 f7 (answers_read c ts k txn attempt conds uses l h e) = subst P (sym e) (f3 c ts k txn attempt conds uses l h)
 data_step_way s log act P f1 f2 f3 f4 f5 f6 f7 (refuses_read c ts k txn attempt conds uses by write l h e) =
     subst P (sym e) (f4 c ts k txn attempt conds uses by write l h)
 data_step_way s log act P f1 f2 f3 f4 f5 f6 f7 (waits_for c txn attempt ds e) = subst P (sym e) (f5 c txn attempt ds)

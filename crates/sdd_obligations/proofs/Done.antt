@@ -1,5 +1,5 @@
 -- What is done of the events, as a lawful log tells it: which modules are down then, and how many lists were put in force.
-use Rattle.sdd_obligations.proofs.All.{AllFewTicks, AtEach, Bool, Deliver, Does, Down, Event, Given, Hand, IsLawful, List, Log, Lose, Mark, Notes, Redeclare, Redeclares, Repeat, Resend, Round, Settle, Some, Submit, Submitted, Tick, TurnsNone, Up, [], after_mark, all_links, ap, append_assoc, arith, calls_of, down_from, each_of_round, false, from_event, is_down, is_down_after, left, mark_from, mark_is_next, mark_of, quiet, redeclares, redeclares_in, refl, round, subst, suc, sym, tail_of, true, turned_by, ℕ, ◌++◌, ◌+◌, ◌∙◌, ◌∷◌, ◌≡◌}
+use Rattle.sdd_obligations.proofs.All.{AllFewTicks, AtEach, Bool, Deliver, Down, Event, Given, IsLawful, List, Log, Lose, Mark, Redeclare, Redeclares, Repeat, Resend, Round, Settle, Some, Submit, Tick, TurnsNone, Up, [], after_mark, all_links, ap, append_assoc, arith, calls_of, down_from, each_of_round, false, from_event, is_down, is_down_after, left, mark_from, mark_is_next, mark_of, quiet, redeclares, redeclares_in, refl, round, subst, suc, sym, tail_of, true, turned_by, ℕ, ◌++◌, ◌+◌, ◌∙◌, ◌∷◌, ◌≡◌}
 use Rattle.sdd_obligations.proofs.OfNext.{of_next}
 
 -- parts of lists of events
@@ -14,8 +14,7 @@ count_in _ es = omega arith
 
 pub count_join : (xs ys : List Event) → redeclares_in (xs ++ ys) ≡ redeclares_in xs + redeclares_in ys
 count_join [] ys = omega arith
-count_join (x ∷ xs) ys =
-    let i = count_join xs ys in let a = count_in x (xs ++ ys) in let b = count_in x xs in omega (arith, i, a, b)
+count_join (x ∷ xs) ys = let i = count_join xs ys in let a = count_in x (xs ++ ys) in let b = count_in x xs in omega (arith, i, a, b)
 
 -- only settles stand before the first event that has a mark
 
@@ -106,8 +105,7 @@ abbrev pub AreDone : Given → (ℕ → Bool) → ℕ → List Event × List Eve
 AreDone g down lists s = AtEach TurnsNone s.1 × IsDoneAs g down lists s.0
 
 mark_done : (g : Given) (log : Log) (e : Event) (s : List Event × List Event) → mark_of g log s ≡ Some (Mark e)
-    → AreDone g (λ d. is_down d log) (redeclares log) s
-    → AreDone g (λ d. turned_by d e (is_down d log)) (redeclares log) (after_mark s)
+    → AreDone g (λ d. is_down d log) (redeclares log) s → AreDone g (λ d. turned_by d e (is_down d log)) (redeclares log) (after_mark s)
 mark_done g log e (ws, []) m i =
     let f = marked_first g log (quiet (all_links g) (calls_of log)) (round (all_links g) (calls_of log)) ws e m in (
       tt,
@@ -126,8 +124,7 @@ mark_done g log e (ws, x ∷ r) m i =
     )
 
 list_done : (g : Given) (log : Log) (t : ℕ) (s : List Event × List Event) → mark_of g log s ≡ Some (Redeclares t)
-    → AreDone g (λ d. is_down d log) (redeclares log) s
-    → AreDone g (λ d. is_down d log) (suc (redeclares log)) (after_mark s)
+    → AreDone g (λ d. is_down d log) (redeclares log) s → AreDone g (λ d. is_down d log) (suc (redeclares log)) (after_mark s)
 list_done g log t (ws, []) m i =
     let f = listed_first g log (quiet (all_links g) (calls_of log)) (round (all_links g) (calls_of log)) ws t m in (
       tt,

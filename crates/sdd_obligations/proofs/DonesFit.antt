@@ -64,12 +64,7 @@ abbrev IsOfActive : Setting → site.Log → Act → Type 0
 IsOfActive s l act = is_commit act ≡ true → (a : Attempt) × (active s 0 l ≡ Some a)
 
 commit_active : (s : Setting) (l : site.Log) (act : Act) → IsStepU s l act → IsOfActive s l act
-commit_active s l act = u_way s l act (IsOfActive s l)
-    (λ q i z r e. cc)
-    (λ bases a i e. (a, i))
-    (λ d m a i e. cc)
-    (λ t ts i p e. cc)
-    (λ t i e. cc)
+commit_active s l act = u_way s l act (IsOfActive s l) (λ q i z r e. cc) (λ bases a i e. (a, i)) (λ d m a i e. cc) (λ t ts i p e. cc) (λ t i e. cc)
 
 no_record_at : (c : ℕ) (z : site.Log) (e : Entry) (w : site.Log) → NoRecord c (z ++ e ∷ w) → is_recorded c e ≡ false
 no_record_at c [] e w h = h.0
@@ -83,8 +78,7 @@ record HasStartIn (s : Setting) (y : Act) (b l : site.Log) : Type 0 where
   pub is : l ≡ later ++ Did (start_at s 0 (between ++ Did y ∷ b) queued) ∷ (between ++ Did y ∷ b)
 
 start_not : (s : Setting) (l : site.Log) (q : Queued) (y : Act) → is_commit y ≡ true → ◌≡◌ {A = Entry} (Did y) (Did (start_at s 0 l q)) → ⊥
-start_not s l q y c e =
-    let p : y ≡ start_at s 0 l q = cc in let f : is_commit (start_at s 0 l q) ≡ true = subst (λ a. is_commit a ≡ true) p c in cc
+start_not s l q y c e = let p : y ≡ start_at s 0 l q = cc in let f : is_commit (start_at s 0 l q) ≡ true = subst (λ a. is_commit a ≡ true) p c in cc
 
 start_between : (s : Setting) (y : Act) (b l : site.Log) (a : Attempt) (front : site.Log) → is_commit y ≡ true → is_recorded 0 (Did y) ≡ true
     → Each (IsFair s) l → active s 0 l ≡ Some a → l ≡ front ++ Did y ∷ b → HasStartIn s y b l
@@ -125,20 +119,16 @@ all_done g k t log y b a i h w fair e =
     let start : start_at s 0 (w.between ++ Did y ∷ b) w.queued ≡ start_u g p.rest w.queued = ap (λ x. start_at s 0 x w.queued) (sym p.local_is) in
     let first : start_at s 0 st.before st.queued ≡ start_u g q.rest st.queued = ap (λ x. start_at s 0 x st.queued) (sym q.local_is) in
     let hp : IsPermitted g (Does U (start_at s 0 (w.between ++ Did y ∷ b) w.queued) ∷ p.rest) =
-    permitted_before g p.later (Does U (start_at s 0 (w.between ++ Did y ∷ b) w.queued) ∷ p.rest)
-    (subst (IsPermitted g) p.is h) in
+    permitted_before g p.later (Does U (start_at s 0 (w.between ++ Did y ∷ b) w.queued) ∷ p.rest) (subst (IsPermitted g) p.is h) in
     let z = zero_pair g k t p.rest q.later q.rest w.queued st.queued i
-    (subst (λ x. IsPermitted g (Does U x ∷ p.rest)) start hp) (q.is
-    ∙ ap (λ x. q.later ++ Does U x ∷ q.rest) first) in
+    (subst (λ x. IsPermitted g (Does U x ∷ p.rest)) start hp) (q.is ∙ ap (λ x. q.later ++ Does U x ∷ q.rest) first) in
     let stamp : next_stamp s (local_of g U q.rest) ≡ a.ts = ap (next_stamp s) q.local_is ∙ sym st.ts_is in
     let got : g.catalogue.dms ≤ dones_of a.ts (local_of g U p.rest) = subst (λ x. g.catalogue.dms ≤ dones_of x (local_of g U p.rest)) stamp z.0 in
     let x = local_grows g U (p.later ++ Does U (start_at s 0 (w.between ++ Did y ∷ b) w.queued) ∷ []) p.rest in
     let whole : local_of g U log ≡ x.0 ++ local_of g U p.rest =
-    ap (local_of g U) (p.is ∙ sym (append_assoc p.later
-    (Does U (start_at s 0 (w.between ++ Did y ∷ b) w.queued) ∷ []) p.rest)) ∙ x.1 in
+    ap (local_of g U) (p.is ∙ sym (append_assoc p.later (Does U (start_at s 0 (w.between ++ Did y ∷ b) w.queued) ∷ []) p.rest)) ∙ x.1 in
     let up : dones_of a.ts (local_of g U p.rest) ≤ dones_of a.ts (local_of g U log) =
-    subst (λ l. dones_of a.ts (local_of g U p.rest) ≤ dones_of a.ts l) (sym whole)
-    (dones_up a.ts x.0 (local_of g U p.rest)) in
+    subst (λ l. dones_of a.ts (local_of g U p.rest) ≤ dones_of a.ts l) (sym whole) (dones_up a.ts x.0 (local_of g U p.rest)) in
     omega (arith, got, up)
 
 -- so no other Commit stands behind that of a DONE that is still to come
@@ -165,8 +155,7 @@ commit_last g k t log bases a x b i h e act less =
             queued = w.queued;
             is =
                 whole ∙ ap (λ l. q.later ++ Did q.act ∷ l) w.is
-                ∙ sym (append_assoc q.later (Did q.act ∷ w.later)
-                (Did (start_at s 0 (w.between ++ Did y ∷ b) w.queued) ∷ (w.between ++ Did y ∷ b)));
+                ∙ sym (append_assoc q.later (Did q.act ∷ w.later) (Did (start_at s 0 (w.between ++ Did y ∷ b) w.queued) ∷ (w.between ++ Did y ∷ b)));
           } in
           let d = all_done g k t log y b a i h again (each_at (IsFair s) q.between (Did y) b v.1).1 act in
           absurd (omega (arith, d, less)))
@@ -196,7 +185,4 @@ done_fits g k t log d n ts i h e =
     in
     let c = commit_last g k t log o.bases o.attempt x.0 (local_of g U o.before) i h.1 here o.active_is less in
     let le = put_once g log ts.0 d h.1 in let same = same_tally ts.0 (puts_to U (local_of g (D d) log)) in
-    record {
-      current = c ∙ sym o.ts_is;
-      first = none_before g (D d) U log (is_done ts.0) (Done ts) h.1 e (same_number ts.0) (omega (arith, le, same));
-    }
+    record { current = c ∙ sym o.ts_is; first = none_before g (D d) U log (is_done ts.0) (Done ts) h.1 e (same_number ts.0) (omega (arith, le, same)) }

@@ -20,8 +20,7 @@ is_under g log s l = under g log (let t = s.few_tms in omega (arith, t)) s.few_t
 pub height_below : (g : Given) (log : Log) → IsSmall g → IsLawful g log → IsWithin log → height log < 2 ^ 53
 height_below g log s l w = below (height log) greatest_height (2 ^ 53) (height_few g log s l w) greatest_below
 
-pub clock_below : (g : Given) (log : Log) (at : Site) → IsSmall g → IsLawful g log → IsWithin log
-    → (clock at (local_of g at log)).ticks < 2 ^ 53
+pub clock_below : (g : Given) (log : Log) (at : Site) → IsSmall g → IsLawful g log → IsWithin log → (clock at (local_of g at log)).ticks < 2 ^ 53
 clock_below g log at s l w = below (clock at (local_of g at log)).ticks (height log) (2 ^ 53) ((is_under g log s l).clocks at) (height_below g log s l w)
 
 pub times_below : (g : Given) (log : Log) (a b : Site) (k : ℕ) (m : Msg) → IsSmall g → IsLawful g log → IsWithin log

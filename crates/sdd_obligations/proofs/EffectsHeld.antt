@@ -75,8 +75,7 @@ module _ (s : Setting) (sound : IsSound s.catalogue) (first : IsDatabase s.catal
   -- all changes that make the copies are of items
   pub all_items : (log : Log) → Each (HandFits s.catalogue d) log → AreItems s.catalogue (dated s log)
   all_items log h =
-      all_joined (λ (x : ℕ × Change). IsItemChange s.catalogue x.1) _
-      (flat_map (λ c. applied c log) (classes_of s))
+      all_joined (λ (x : ℕ × Change). IsItemChange s.catalogue x.1) _ (flat_map (λ c. applied c log) (classes_of s))
       (first_are_items s.catalogue (database_of s.catalogue s.rows) first)
       (all_gathered (λ (x : ℕ × Change). IsItemChange s.catalogue x.1) (λ c. applied c log) (classes_of s) (λ c. applied_items s.catalogue d c log h))
 
@@ -92,6 +91,5 @@ module _ (s : Setting) (sound : IsSound s.catalogue) (first : IsDatabase s.catal
   pub snapshot_entries : (ts : ℕ) (log : Log) → Each (HandFits s.catalogue d) log → AllByRecursion (IsEntry s.catalogue) (snapshots s ts log)
   snapshot_entries ts [] h = tt
   snapshot_entries ts (Did (Records k (Answer txn attempt dm) sends) ∷ log) h =
-      answer_entries ts (is_at ts (head (pipe k log))) (head (pipe k log)) log h.1
-      (snapshot_entries ts log h.1)
+      answer_entries ts (is_at ts (head (pipe k log))) (head (pipe k log)) log h.1 (snapshot_entries ts log h.1)
   snapshot_entries ts (_ ∷ log) h = snapshot_entries ts log h.1

@@ -63,8 +63,7 @@ row_is_entry cat sound f k x row stands e =
 
 one_more : (cat : Catalogue) → IsSound cat → (f : ℕ) (k : ℤ) (o : Option (ℕ × Change))
     (rest : List (ℤ × Row)) → ((x : ℕ × Change) → o ≡ Some x → Stands cat f k x)
-    → AllByRecursion (IsEntry cat) (map (entry_at cat f) rest)
-    → AllByRecursion (IsEntry cat) (map (entry_at cat f) (cons_option (row_left k o) rest))
+    → AllByRecursion (IsEntry cat) (map (entry_at cat f) rest) → AllByRecursion (IsEntry cat) (map (entry_at cat f) (cons_option (row_left k o) rest))
 one_more cat sound f k None rest h all = all
 one_more cat sound f k (Some x) rest h all =
     elim x.1.row as (λ r. x.1.row ≡ r → AllByRecursion (IsEntry cat) (map (entry_at cat f) (cons_option (row_with k r) rest))) [

@@ -47,8 +47,7 @@ rows_fit s bases None from ts rows h k = h
 rows_fit s bases (Some a) from ts rows h k = record { awaited = h.awaited; named = h.named; served = k }
 
 pub upheld_r : (g : Given) (log : Log) (a b : Site) (n : ℕ) (m : Msg) (bases : Bases) → IsWhole g.catalogue
-    → IsPermitted g (Hand a b n m ∷ log) → IsServedAt (setting_of g b) bases (local_of g b log) a m
-    → IsUpheldR (setting_of g b) bases (local_of g b log) a m
+    → IsPermitted g (Hand a b n m ∷ log) → IsServedAt (setting_of g b) bases (local_of g b log) a m → IsUpheldR (setting_of g b) bases (local_of g b log) a m
 upheld_r g log a b n (Ready ts class counts) bases w h k = (answers_are_awaited g log a b n (Ready ts class counts) h (few_homes g w)).counts_are
 upheld_r g log a b n (Values ts class u values) bases w h k = answers_are_awaited g log a b n (Values ts class u values) h (few_homes g w)
 upheld_r g log a b n (Reduced ts class u c) bases w h k = answers_are_awaited g log a b n (Reduced ts class u c) h (few_homes g w)
@@ -66,8 +65,7 @@ rows_served : (g : Given) (log : Log) (a b : Site) (n : ℕ) (ts : Ts) (of : Cla
 rows_served g log a b n ts of rows w good eras h route None e = tt
 rows_served g log (D d) b n ts of rows w good eras h route (Some x) e =
     let r : AwaitsRows (Some x) (D d) ts.0 rows =
-    subst (λ o. AwaitsRows o (D d) ts.0 rows) e (answers_are_awaited g log (D d) b n (Rows ts of rows) h
-    (few_homes g w)) in
+    subst (λ o. AwaitsRows o (D d) ts.0 rows) e (answers_are_awaited g log (D d) b n (Rows ts of rows) h (few_homes g w)) in
     let at : home g.catalogue of.0 ≡ b = (start_of_active (setting_of g b) of.0 (local_of g b log) x (fair_of g b log h.1 route.1) e).at_home in
     subst (λ b. IsPermitted g (Hand (D d) b n (Rows ts of rows) ∷ log) → active (setting_of g b) of.0 (local_of g b log) ≡ Some x
     → ServesIfLast (setting_of g b) (base_of g (Hand (D d) b n (Rows ts of rows) ∷ log)) x rows (without x.exchange.lacks d.0)) at

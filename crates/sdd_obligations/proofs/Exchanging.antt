@@ -1,5 +1,5 @@
 -- The rows that came to an exchange are those that the modules hold.
-use Rattle.sdd_obligations.proofs.All.{Asking, AwaitsNoValues, Bool, ClassNo, Exchange, Fetch, Fetching, Follows, Frozen, Has, Has-append, Has-left, Has-right, KeepsOnce, List, Move, Msg, None, Over, Phase, Read, Reading, Ready, Reduce, Reduced, Reducing, Reject, Replies, Row, Rows, Ship, Shipping, Some, Space, Step, Stmt, Tells, TellsAll, Ts, Value, Values, [], after_hand, after_send, all_rows, answered, ap, contains, counted, counts_for, eqb-true, false, fetches, fetches_from, follows_hand, follows_send, goes_on, if◌then◌else◌, inl, inr, is_a_read, is_a_refusal, is_a_ship, is_answer, is_shipped, lack_modules, lacking, length, move_at, next_move, phase_ends, question, question_of, refl, rows_of, subst, sym, tells_all, true, true_or_false, values_in, with_use, with_values, without, ℕ, ◌&&◌, ◌++◌, ◌+◌, ◌==◌, ◌∙◌, ◌∷◌, ◌≡◌}
+use Rattle.sdd_obligations.proofs.All.{Asking, AwaitsNoValues, Bool, ClassNo, Exchange, Fetch, Fetching, Follows, Frozen, Has, Has-append, Has-left, Has-right, KeepsOnce, List, Move, Msg, None, Over, Phase, Read, Reading, Ready, Reduce, Reduced, Reducing, Replies, Row, Rows, Ship, Shipping, Some, Space, Step, Stmt, Tells, TellsAll, Ts, Value, Values, [], after_hand, after_send, all_rows, answered, ap, contains, counted, counts_for, eqb-true, false, fetches, fetches_from, follows_hand, follows_send, goes_on, if◌then◌else◌, inl, inr, is_a_read, is_a_refusal, is_a_ship, is_answer, is_shipped, lack_modules, lacking, length, move_at, next_move, phase_ends, question, question_of, refl, rows_of, subst, sym, tells_all, true, true_or_false, values_in, with_use, with_values, without, ℕ, ◌&&◌, ◌++◌, ◌+◌, ◌==◌, ◌∙◌, ◌∷◌, ◌≡◌}
 use Rattle.sdd_obligations.proofs.AtTurn.{awaits}
 use Rattle.sdd_obligations.proofs.Modules.{firsts, without_other}
 use Rattle.sdd_obligations.proofs.InStep.{never}
@@ -117,8 +117,7 @@ module _ (ds : List ℕ) (statements : List Stmt) (asked : ℕ → ℕ → Bool)
           all = λ e d k l s i.
               (let ships : (answered ts c n y).lacks ≡ firsts (answered ts c n y).modules = lack_ships ts c y (without y.lacks n) (ap is_shipped p ∙ idle) e in
               let lacks : contains (answered ts c n y).lacks d ≡ true =
-              ap (λ ls. contains ls d) (ships ∙ ap firsts (lack_modules ts c y (without y.lacks n)))
-              ∙ within d k in
+              ap (λ ls. contains ls d) (ships ∙ ap firsts (lack_modules ts c y (without y.lacks n))) ∙ within d k in
               never (contains (answered ts c n y).lacks d) lacks l);
         }
 
@@ -223,10 +222,8 @@ module _ (ds : List ℕ) (statements : List Stmt) (asked : ℕ → ℕ → Bool)
     if_own true x y e f h = h f
     if_own false x y e f h = cc
 
-    pub hand_serves : (x : Exchange) (m : Msg) → is_answer ts c m ≡ true → is_a_refusal m ≡ false
-        → IsReply ts c n space x m → KeepsOnce (space n)
-        → ((d : ℕ) → Has ds d → contains (firsts x.modules) d ≡ true) → Serves space x
-        → Serves space (after_hand ts c n m x)
+    pub hand_serves : (x : Exchange) (m : Msg) → is_answer ts c m ≡ true → is_a_refusal m ≡ false → IsReply ts c n space x m → KeepsOnce (space n)
+        → ((d : ℕ) → Has ds d → contains (firsts x.modules) d ≡ true) → Serves space x → Serves space (after_hand ts c n m x)
     hand_serves x (Ready t k counts) own kind r once within h =
         let q = ready_kind r.uses r.question t k counts r.replies in
         let y : Exchange = record x { counts = counted n counts x.counts } in

@@ -53,11 +53,9 @@ over_first s log bases c a false act l e = cc
 
 send_first : (s : Setting) (log : Log) (bases : Bases) (c : ℕ) (a : Attempt) (ms : List (ℕ × Msg)) (act : Act)
     → c ≤ length s.catalogue.classes → active s c log ≡ Some a → a.exchange.to_send ≡ ms
-    → or_else (first_send ms) (if is_over a.exchange.phase then Some (commit_act s.catalogue bases c a) else None) ≡ Some act
-    → IsFirstSend s log act
+    → or_else (first_send ms) (if is_over a.exchange.phase then Some (commit_act s.catalogue bases c a) else None) ≡ Some act → IsFirstSend s log act
 send_first s log bases c a [] act l i p e = over_first s log bases c a (is_over a.exchange.phase) act l e
-send_first s log bases c a (m ∷ rest) act l i p e =
-    send_is s log (Sends (D (dm_no m.0)) m.1 None) act (first_of s log c a m rest l i p) e
+send_first s log bases c a (m ∷ rest) act l i p e = send_is s log (Sends (D (dm_no m.0)) m.1 None) act (first_of s log c a m rest l i p) e
 
 attempt_first : (s : Setting) (log : Log) (bases : Bases) (c : ℕ) (o : Option Attempt) (act : Act) → c ≤ length s.catalogue.classes
     → active s c log ≡ o → attempt_due s.catalogue bases c o ≡ Some act → IsFirstSend s log act
@@ -66,8 +64,7 @@ attempt_first s log bases c (Some a) act l i e = send_first s log bases c a a.ex
 
 null_first : (s : Setting) (log : Log) (q : tm_views.Question) (b : Bool) (o : Option ℕ) (act : Act)
     → (if b then tm.null_at q o else None) ≡ Some act → IsFirstSend s log act
-null_first s log q true (Some t) act e =
-    send_is s log (Sends q.from (Null (class_no q.class) (time_at t)) (Some q.hand)) act (λ ts c f. cc) e
+null_first s log q true (Some t) act e = send_is s log (Sends q.from (Null (class_no q.class) (time_at t)) (Some q.hand)) act (λ ts c f. cc) e
 null_first s log q _ _ act e = cc
 
 held_first : (s : Setting) (log : Log) (b : Bool) (t : Ts) (hand : Option ℕ) (act : Act)
@@ -87,8 +84,7 @@ run_here s k c e =
     let l = in_range 1 (length s.catalogue.classes) i.1 c i.2 in
     omega (arith, l.1)
 
-pub t_first : (s : Setting) (bases : Bases) (log : Log) (act : Act) → tm.IsDue s.catalogue bases (tm_views.view_of s log) act
-    → IsFirstSend s log act
+pub t_first : (s : Setting) (bases : Bases) (log : Log) (act : Act) → tm.IsDue s.catalogue bases (tm_views.view_of s log) act → IsFirstSend s log act
 t_first s bases log act (tm.by_exchange k c p e) =
     let r = in_mapped (tm_views.class_view s log) (tm_views.runs s) k c p in
     attempt_first s log bases r.0 (active s r.0 log) act (run_here s k r.0 r.1) refl (subst (λ v. tm.exchange_due s.catalogue bases v ≡ Some act) (sym r.2) e)
@@ -109,23 +105,19 @@ u_start_if : (s : Setting) (log : Log) (b : Bool) (clock_at : Ticking) (q : Queu
 u_start_if s log true clock_at q act e = send_is s log (start_act s.catalogue [] 0 clock_at q) act (omega arith) e
 u_start_if s log false clock_at q act e = cc
 
-u_start_first : (s : Setting) (log : Log) (v : um_views.View) (o : Option Queued) (act : Act)
-    → um.start_of s.catalogue v o ≡ Some act → IsFirstSend s log act
+u_start_first : (s : Setting) (log : Log) (v : um_views.View) (o : Option Queued) (act : Act) → um.start_of s.catalogue v o ≡ Some act → IsFirstSend s log act
 u_start_first s log v None act e = cc
 u_start_first s log v (Some q) act e = u_start_if s log _ v.clock q act e
 
-hold_if : (s : Setting) (log : Log) (b : Bool) (to : Site) (act : Act)
-    → (if b then Some (Sends to Hold None) else None) ≡ Some act → IsFirstSend s log act
+hold_if : (s : Setting) (log : Log) (b : Bool) (to : Site) (act : Act) → (if b then Some (Sends to Hold None) else None) ≡ Some act → IsFirstSend s log act
 hold_if s log true to act e = send_is s log (Sends to Hold None) act (λ t c f. cc) e
 hold_if s log false to act e = cc
 
-hold_first : (s : Setting) (log : Log) (k : um_views.TmCounts) (o : Option Queued) (act : Act)
-    → um.hold_to k o ≡ Some act → IsFirstSend s log act
+hold_first : (s : Setting) (log : Log) (k : um_views.TmCounts) (o : Option Queued) (act : Act) → um.hold_to k o ≡ Some act → IsFirstSend s log act
 hold_first s log k None act e = cc
 hold_first s log k (Some q) act e = hold_if s log _ _ act e
 
-pub u_first : (s : Setting) (bases : Bases) (log : Log) (act : Act) → um.IsDue s.catalogue bases (um_views.view_of s log) act
-    → IsFirstSend s log act
+pub u_first : (s : Setting) (bases : Bases) (log : Log) (act : Act) → um.IsDue s.catalogue bases (um_views.view_of s log) act → IsFirstSend s log act
 u_first s bases log act (um.by_exchange e) = attempt_first s log bases 0 (active s 0 log) act (omega arith) refl e
 u_first s bases log act (um.by_release t k p e) = release_first s log _ _ _ act e
 u_first s bases log act (um.by_start e) = u_start_first s log (um_views.view_of s log) (head_of (queue s 0 log)) act e

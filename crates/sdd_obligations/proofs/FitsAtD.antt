@@ -1,5 +1,5 @@
 -- What is next to be handed to a data module fits there.
-use Rattle.sdd_obligations.proofs.All.{Ask, Bases, D, DmNo, Done, Each, Fetch, Given, Hand, Held, Hold, IsFair, IsLawful, IsPermitted, IsRunner, IsSmall, IsUpheldD, Log, Msg, Null, Read, Ready, Reduce, Reduced, Reject, Release, Rows, Ship, Site, Some, T, U, Values, Write, fits, handed, local_of, next, refl, setting_of, t_fair, u_fair, ℕ, ◌≡◌}
+use Rattle.sdd_obligations.proofs.All.{Bases, D, DmNo, Done, Each, Fetch, Given, Hand, Held, IsFair, IsLawful, IsPermitted, IsRunner, IsSmall, IsUpheldD, Log, Msg, Null, Read, Reduce, Ship, Site, Some, T, U, Write, fits, handed, local_of, next, refl, setting_of, t_fair, u_fair, ℕ, ◌≡◌}
 use Rattle.sdd_obligations.proofs.Conditions.{conds_fit, late, read_within}
 use Rattle.sdd_obligations.proofs.Fresh.{is_above, is_fresh}
 use Rattle.sdd_obligations.proofs.Handing.{IsHanded}

@@ -1,5 +1,5 @@
 -- What is next to be handed to a transaction module, or to U, fits there.
-use Rattle.sdd_obligations.proofs.All.{AnswersRead, Ask, Bases, ClassNo, D, DmNo, Done, Fetch, Given, Hand, Held, Hold, IsD, IsPermitted, IsSmall, IsT, IsUpheldR, IsWhole, Log, Msg, Null, Read, Ready, Reduce, Reduced, Reject, Release, Rows, Ship, Site, T, TmNo, Ts, U, Values, Write, arith, both, handed, is_verdict, local_of, number_of, same_number, setting_of, subst, sym, true, ℕ, ◌&&◌, ◌-◌, ◌==◌, ◌∷◌, ◌≡◌, ◌≤◌}
+use Rattle.sdd_obligations.proofs.All.{AnswersRead, Ask, Bases, ClassNo, D, DmNo, Done, Given, Hand, Held, Hold, IsD, IsPermitted, IsSmall, IsT, IsUpheldR, IsWhole, Log, Msg, Ready, Reduced, Reject, Release, Rows, Site, T, TmNo, Ts, U, Values, arith, both, handed, is_verdict, local_of, number_of, same_number, setting_of, subst, sym, true, ℕ, ◌&&◌, ◌-◌, ◌==◌, ◌∷◌, ◌≡◌, ◌≤◌}
 use Rattle.sdd_obligations.proofs.OfNext.{d_of_sites, t_of_sites}
 use Rattle.sdd_obligations.proofs.Answering.{answers_read}
 use Rattle.sdd_obligations.proofs.AsksFit.{asked_class, asks_not_u}
@@ -23,8 +23,7 @@ pub own : (ts c : ℕ) → ((ts == ts) && (c == c)) ≡ true
 own ts c = both (ts == ts) (c == c) (same_number ts) (same_number c)
 
 tm_small : (g : Given) (log : Log) (a : Site) (t : TmNo) (n : ℕ) (m : Msg) → IsSmall g → IsHanded g log a (T t) n m → number_of (T t) ≤ 63
-tm_small g log a t n m s h =
-    let r = t_of_sites g.catalogue.tms g.catalogue.dms t h.to_there in let k = s.few_tms in omega (arith, r.1, k)
+tm_small g log a t n m s h = let r = t_of_sites g.catalogue.tms g.catalogue.dms t h.to_there in let k = s.few_tms in omega (arith, r.1, k)
 
 t_is_u : {A : Type 0} (t : TmNo) → T t ≡ U → A
 t_is_u t e = cc

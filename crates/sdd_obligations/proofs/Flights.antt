@@ -1,9 +1,8 @@
 -- What is put on a link and not handed over yet, and how an entry changes it; and what an entry adds to the turns.
-use Rattle.sdd_obligations.proofs.All.{Act, Bool, D, Deliver, Did, Does, Down, Entry, Force, Given, Hand, Handed, IsAllowed, IsPermitted, List, Log, Lose, Mark, Msg, None, Notes, Option, Redeclare, Redeclares, Repeat, Resend, Round, Settle, Silent, Site, Some, Submit, Submitted, T, Tick, Ticked, Txn, U, Up, [], answers, ap, append_assoc, asked_by, dm_no, drop, false, filter-append, flight, force_at, forced, given_to, hand_was_put, handed, handed_by, hands_from, hands_grow, if◌then◌else◌, in_order, is_answer, is_question, local_of, local_step, made, put_by, puts_grow, puts_to, questions, redeclares, refl, same_site, sends_of_act, slice_get, suc, sym, take-append-drop, to_site, told_by, true, turn_at, turn_with, txn_at, with_made, zero, ℕ, ◌&&◌, ◌++◌, ◌∙◌, ◌∷◌, ◌≡◌}
+use Rattle.sdd_obligations.proofs.All.{Act, Bool, D, Did, Does, Entry, Force, Given, Hand, Handed, IsAllowed, IsPermitted, List, Log, Mark, Msg, None, Option, Redeclares, Silent, Site, Some, Submitted, T, Tick, Ticked, Txn, U, [], answers, ap, append_assoc, asked_by, dm_no, drop, false, filter-append, flight, force_at, forced, given_to, hand_was_put, handed, handed_by, hands_from, hands_grow, if◌then◌else◌, in_order, is_answer, is_question, local_of, local_step, made, put_by, puts_grow, puts_to, questions, redeclares, refl, same_site, sends_of_act, slice_get, suc, sym, take-append-drop, to_site, told_by, true, turn_at, turn_with, txn_at, with_made, zero, ℕ, ◌&&◌, ◌++◌, ◌∙◌, ◌∷◌, ◌≡◌}
 use Rattle.sdd_invariants.specs.site_module.SiteLog as site
 
-flight_splits : (g : Given) (a b : Site) (log : Log) → IsPermitted g log
-    → puts_to b (local_of g a log) ≡ hands_from a (local_of g b log) ++ flight g a b log
+flight_splits : (g : Given) (a b : Site) (log : Log) → IsPermitted g log → puts_to b (local_of g a log) ≡ hands_from a (local_of g b log) ++ flight g a b log
 flight_splits g a b log h =
     sym (take-append-drop (handed a b log) (puts_to b (local_of g a log))) ∙ ap (λ l. l ++ flight g a b log) (sym (in_order g log a b h))
 
@@ -28,16 +27,14 @@ pub questions_step : (g : Given) (ts c : ℕ) (a b : Site) (e : Entry) (log : Lo
     ts c (flight g a b log) ++ questions ts c (put_by b (made g a log e))
 questions_step g ts c a b e log h =
     sym (filter-append (is_question ts c) (handed_by a (made g b log e)) (flight g a b (e ∷ log)))
-    ∙ ap (questions ts c) (flight_step g a b e log h) ∙ filter-append (is_question ts c)
-    (flight g a b log) (put_by b (made g a log e))
+    ∙ ap (questions ts c) (flight_step g a b e log h) ∙ filter-append (is_question ts c) (flight g a b log) (put_by b (made g a log e))
 
 pub answers_step : (g : Given) (ts c : ℕ) (a b : Site) (e : Entry) (log : Log) → IsPermitted g (e ∷ log)
     → answers ts c (handed_by a (made g b log e)) ++ answers ts c (flight g a b (e ∷ log)) ≡ answers ts c
     (flight g a b log) ++ answers ts c (put_by b (made g a log e))
 answers_step g ts c a b e log h =
     sym (filter-append (is_answer ts c) (handed_by a (made g b log e)) (flight g a b (e ∷ log)))
-    ∙ ap (answers ts c) (flight_step g a b e log h) ∙ filter-append (is_answer ts c) (flight g a b log)
-    (put_by b (made g a log e))
+    ∙ ap (answers ts c) (flight_step g a b e log h) ∙ filter-append (is_answer ts c) (flight g a b log) (put_by b (made g a log e))
 
 -- a message that may be handed over next is the first in flight
 
@@ -62,10 +59,8 @@ at_made ts c d (Some x) l = refl
 pub turn_at_step : (g : Given) (ts c d : ℕ) (at : Site) (e : Entry) (log : Log)
     → turn_at ts c d (local_of g at (e ∷ log)) ≡ told_by
     (answers ts c (handed_by (D (dm_no d)) (made g at log e)))
-    (asked_by (questions ts c (put_by (D (dm_no d)) (made g at log e)))
-    (turn_at ts c d (local_of g at log)))
-turn_at_step g ts c d at e log =
-    ap (turn_at ts c d) (local_step g at e log) ∙ at_made ts c d (made g at log e) (local_of g at log)
+    (asked_by (questions ts c (put_by (D (dm_no d)) (made g at log e))) (turn_at ts c d (local_of g at log)))
+turn_at_step g ts c d at e log = ap (turn_at ts c d) (local_step g at e log) ∙ at_made ts c d (made g at log e) (local_of g at log)
 
 with_made_turn : (ts c : ℕ) (at : Site) (o : Option site.Entry) (l : site.Log)
     → turn_with ts c at (with_made o l) ≡ told_by (answers ts c (put_by at o)) (asked_by (questions ts c (handed_by at o)) (turn_with ts c at l))
@@ -75,8 +70,7 @@ with_made_turn ts c at (Some x) l = refl
 pub turn_with_step : (g : Given) (ts c : ℕ) (at b : Site) (e : Entry) (log : Log)
     → turn_with ts c at (local_of g b (e ∷ log)) ≡ told_by (answers ts c (put_by at (made g b log e)))
     (asked_by (questions ts c (handed_by at (made g b log e))) (turn_with ts c at (local_of g b log)))
-turn_with_step g ts c at b e log =
-    ap (turn_with ts c at) (local_step g b e log) ∙ with_made_turn ts c at (made g b log e) (local_of g b log)
+turn_with_step g ts c at b e log = ap (turn_with ts c at) (local_step g b e log) ∙ with_made_turn ts c at (made g b log e) (local_of g b log)
 
 pub silent_first : (g : Given) (ts c d : ℕ) (at : Site) → turn_at ts c d (local_of g at []) ≡ Silent
 silent_first g ts c d U = refl
@@ -131,7 +125,6 @@ pub put_hand : (x : Bool) (b from : Site) (m : Msg) → put_by b (if x then Some
 put_hand true b from m = refl
 put_hand false b from m = refl
 
-pub handed_hand : (x : Bool) (b from : Site) (m : Msg)
-    → handed_by b (if x then Some (Handed from m) else None) ≡ (if x && same_site b from then m ∷ [] else [])
+pub handed_hand : (x : Bool) (b from : Site) (m : Msg) → handed_by b (if x then Some (Handed from m) else None) ≡ (if x && same_site b from then m ∷ [] else [])
 handed_hand true b from m = refl
 handed_hand false b from m = refl

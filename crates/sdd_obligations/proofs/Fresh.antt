@@ -61,8 +61,7 @@ home_runs : (b : Bool) (t : TmNo) → IsRunner (if b then U else T t)
 home_runs true t = tt
 home_runs false t = tt
 
-act_of_network : (g : Given) (log : Log) (d : DmNo) (c n t : ℕ) → IsSmall g → IsLawful g log → IsApplyOf g log d c n t
-    → IsOfNetwork (home g.catalogue c)
+act_of_network : (g : Given) (log : Log) (d : DmNo) (c n t : ℕ) → IsSmall g → IsLawful g log → IsApplyOf g log d c n t → IsOfNetwork (home g.catalogue c)
 act_of_network g log d c n t s l a =
     let at : Site = home g.catalogue c in
     let act : Act = commit_act g.catalogue a.bases c a.attempt in
@@ -184,18 +183,15 @@ not_twice g log a n d ts k txn xs s l h w =
     let is : class_puts g c d now ≡ (all_of (pipe_at g c d log) ++ m ∷ []) ++ i.0 = i.1 ∙ ap (λ x. x ++ i.0) (pipe_with g c d a n m log (same_number k.0)) in
     let place : slice_get (class_puts g c d now) (length (all_of (pipe_at g c d log))) ≡ Some m =
     subst (λ x. slice_get x (length (all_of (pipe_at g c d log))) ≡ Some m) (sym is)
-    (in_left (all_of (pipe_at g c d log) ++ m ∷ []) i.0 (length (all_of (pipe_at g c d log))) m
-    (at_seam (all_of (pipe_at g c d log)) [] m)) in
+    (in_left (all_of (pipe_at g c d log) ++ m ∷ []) i.0 (length (all_of (pipe_at g c d log))) m (at_seam (all_of (pipe_at g c d log)) [] m)) in
     let new = write_origin g now c d ts k txn xs refl (origin g c d now (length (all_of (pipe_at g c d log))) m h place) in
     let p = in_its_pipe j (local_of g (D d) log) w.later w.from old w.before w.is (same_number w.class.0) in
     let r = in_pipe g j d log h.1 in
     let there : slice_get (class_puts g j d log) p.0 ≡ Some old =
-    subst (λ x. slice_get x p.0 ≡ Some old) (sym r.1)
-    (in_left (all_of (pipe_at g j d log)) r.0 p.0 old p.1) in
+    subst (λ x. slice_get x p.0 ≡ Some old) (sym r.1) (in_left (all_of (pipe_at g j d log)) r.0 p.0 old p.1) in
     let was = write_origin g log j d w.ts w.class w.txn w.changes refl (origin g j d log p.0 old h.1 there) in
     let x = local_grows g (home g.catalogue j) (Hand a (D d) n m ∷ []) log in
-    let first = started_on (setting_of g (home g.catalogue j)) j w.ts.0 x.0
-    (local_of g (home g.catalogue j) log) (local_of g (home g.catalogue j) now) x.1
+    let first = started_on (setting_of g (home g.catalogue j)) j w.ts.0 x.0 (local_of g (home g.catalogue j) log) (local_of g (home g.catalogue j) now) x.1
     (started_of g log d j w.txn.0 w.ts.0 h.1 was) in
     let mine = started_of g now d c txn.0 ts.0 h new in
     let at_c = act_of_network g now d c txn.0 ts.0 s l new in
@@ -206,11 +202,9 @@ not_twice g log a n d ts k txn xs s l h w =
     let q : slice_get (all_of (pipe_at g c d log)) p.0 ≡ Some old = subst (λ y. slice_get (all_of (pipe_at g y d log)) p.0 ≡ Some old) (sym same) p.1 in
     let before : slice_get (class_puts g c d now) p.0 ≡ Some old =
     subst (λ y. slice_get y p.0 ≡ Some old) (sym is)
-    (in_left (all_of (pipe_at g c d log) ++ m ∷ []) i.0 p.0 old (in_left (all_of (pipe_at g c d log))
-    (m ∷ []) p.0 old q)) in
+    (in_left (all_of (pipe_at g c d log) ++ m ∷ []) i.0 p.0 old (in_left (all_of (pipe_at g c d log)) (m ∷ []) p.0 old q)) in
     let one = one_of_key (write_at c) (class_puts g c d now) p.0 (length (all_of (pipe_at g c d log))) old m
-    ts.0 (writes_strict g c d now h at_c.small) before place
-    (write_key c ts.0 w.ts w.class w.txn w.changes (sym same) w.ts_is)
+    ts.0 (writes_strict g c d now h at_c.small) before place (write_key c ts.0 w.ts w.class w.txn w.changes (sym same) w.ts_is)
     (write_key c ts.0 ts k txn xs refl refl) in
     let less = place_within (all_of (pipe_at g c d log)) p.0 old q in
     omega (arith, one, less)
@@ -234,8 +228,7 @@ is_above g log a n d ts k txn xs h =
     let is : class_puts g c d now ≡ (all_of (pipe_at g c d log) ++ m ∷ []) ++ i.0 = i.1 ∙ ap (λ x. x ++ i.0) (pipe_with g c d a n m log (same_number k.0)) in
     let place : slice_get (class_puts g c d now) (length (all_of (pipe_at g c d log))) ≡ Some m =
     subst (λ x. slice_get x (length (all_of (pipe_at g c d log))) ≡ Some m) (sym is)
-    (in_left (all_of (pipe_at g c d log) ++ m ∷ []) i.0 (length (all_of (pipe_at g c d log))) m
-    (at_seam (all_of (pipe_at g c d log)) [] m)) in
+    (in_left (all_of (pipe_at g c d log) ++ m ∷ []) i.0 (length (all_of (pipe_at g c d log))) m (at_seam (all_of (pipe_at g c d log)) [] m)) in
     let new = write_origin g now c d ts k txn xs refl (origin g c d now (length (all_of (pipe_at g c d log))) m h place) in
     let w = started_of g now d c txn.0 ts.0 h new in
     let e = stamp_ticks (setting_of g (home g.catalogue c)) w.before in let t = w.ts_is in

@@ -16,8 +16,7 @@ at_cons x b zero m ps true p f e =
 at_cons x b (suc k) m ps true p f e = let i = f k e in (suc i.0, i.1)
 at_cons x b k m ps false p f e = let i = f k e in (suc i.0, i.1)
 
-pub sent_to : (b : Site) (ps : List (Site × Msg)) (k : ℕ) (m : Msg) → slice_get (to_site b ps) k ≡ Some m
-    → (i : ℕ) × (slice_get ps i ≡ Some (b, m))
+pub sent_to : (b : Site) (ps : List (Site × Msg)) (k : ℕ) (m : Msg) → slice_get (to_site b ps) k ≡ Some m → (i : ℕ) × (slice_get ps i ≡ Some (b, m))
 sent_to b [] k m e = cc
 sent_to b (x ∷ ps) k m e = at_cons x b k m ps (same_site b x.0) refl (λ j p. sent_to b ps j m p) e
 
@@ -43,8 +42,7 @@ goes_some : (log : Log) (x a : Act) → Goes log x → Some x ≡ Some a → Goe
 goes_some log x a h e = let p : x ≡ a = cc in subst (Goes log) p h
 
 goes_one : (log : Log) (to : Site) (x : Msg) (hand : Option ℕ) → GoesTo log to x → Goes log (Sends to x hand)
-goes_one log to x hand h b k m e =
-    let i = the_one b to x k m e in subst (GoesTo log b) i.1 (subst (λ s. GoesTo log s x) (sym i.0) h)
+goes_one log to x hand h b k m e = let i = the_one b to x k m e in subst (GoesTo log b) i.1 (subst (λ s. GoesTo log s x) (sym i.0) h)
 
 pair_of : (log : Log) (a : Site) (x : Msg) (b : Site) (m : Msg) → ◌≡◌ {A = Site × Msg} (a, x) (b, m) → GoesTo log a x → GoesTo log b m
 pair_of log a x b m e h = let p : a ≡ b = ap (λ (z : Site × Msg). z.0) e in let q : x ≡ m =
@@ -83,8 +81,7 @@ over_goes s log bases c a false act e = cc
 
 send_goes : (s : Setting) (log : Log) (bases : Bases) (c : ℕ) (a : Attempt) (ms : List (ℕ × Msg)) (act : Act)
     → active s c log ≡ Some a → a.exchange.to_send ≡ ms
-    → or_else (first_send ms) (if is_over a.exchange.phase then Some (commit_act s.catalogue bases c a) else None) ≡ Some act
-    → Goes log act
+    → or_else (first_send ms) (if is_over a.exchange.phase then Some (commit_act s.catalogue bases c a) else None) ≡ Some act → Goes log act
 send_goes s log bases c a [] act i p e = over_goes s log bases c a (is_over a.exchange.phase) act e
 send_goes s log bases c a (m ∷ rest) act i p e =
     goes_some log (Sends (D (dm_no m.0)) m.1 None) act (goes_one log (D (dm_no m.0)) m.1 None
@@ -98,8 +95,7 @@ attempt_goes s log bases c (Some a) act i e = send_goes s log bases c a a.exchan
 -- an ASK that lacks its NULL was handed
 
 more_asked : (log : Log) (e : Entry) (b : Site) → WasAsked log b IsAnAsk → WasAsked (e ∷ log) b IsAnAsk
-more_asked log e b h =
-    record { asked = h.asked; later = e ∷ h.later; before = h.before; is = ap (λ l. e ∷ l) h.is; fits = h.fits }
+more_asked log e b h = record { asked = h.asked; later = e ∷ h.later; before = h.before; is = ap (λ l. e ∷ l) h.is; fits = h.fits }
 
 asks_in : (n : ℕ) (from : Site) (m : Msg) (log : Log) (qs : List Question) (k : ℕ) (q : Question)
     → ((j : ℕ) → slice_get qs j ≡ Some q → WasAsked log q.from IsAnAsk) → slice_get (asks_handed n from m qs) k ≡ Some q
@@ -118,8 +114,7 @@ asks_in n from (Ask class time) log qs k q f e = elim (in_either qs (record { ha
 ]
 asks_in n from m log qs k q f e = more_asked log (Handed from m) q.from (f k e)
 
-asks_left : (act : Act) (qs : List Question) (k : ℕ) (q : Question) → slice_get (asks_acted act qs) k ≡ Some q
-    → (j : ℕ) × (slice_get qs j ≡ Some q)
+asks_left : (act : Act) (qs : List Question) (k : ℕ) (q : Question) → slice_get (asks_acted act qs) k ≡ Some q → (j : ℕ) × (slice_get qs j ≡ Some q)
 asks_left (Sends to m hand) qs k q e = let i = in_filtered _ qs k q e in (i.1, i.2)
 asks_left (Records c r sends) qs k q e = (k, e)
 
@@ -129,8 +124,7 @@ was_asked_of (Handed from m ∷ log) k q e = asks_in (suc (hands log)) from m lo
 was_asked_of (Ticked n ∷ log) k q e = more_asked log (Ticked n) q.from (was_asked_of log k q e)
 was_asked_of (Submits n txn ∷ log) k q e = more_asked log (Submits n txn) q.from (was_asked_of log k q e)
 was_asked_of (Redeclared force t ∷ log) k q e = more_asked log (Redeclared force t) q.from (was_asked_of log k q e)
-was_asked_of (Did act ∷ log) k q e =
-    let i = asks_left act (asks log) k q e in more_asked log (Did act) q.from (was_asked_of log i.0 q i.1)
+was_asked_of (Did act ∷ log) k q e = let i = asks_left act (asks log) k q e in more_asked log (Did act) q.from (was_asked_of log i.0 q i.1)
 
 null_goes : (log : Log) (q : Question) (b : Bool) (o : Option ℕ) (act : Act) → WasAsked log q.from IsAnAsk
     → (if b then null_at q o else None) ≡ Some act → Goes log act
@@ -141,8 +135,7 @@ null_goes log q _ _ act w e = cc
 
 held_goes : (s : Setting) (log : Log) (b : Bool) (hand : Option ℕ) (act : Act)
     → (if b then Some (Sends U (Held (time_at (bound s log))) hand) else None) ≡ Some act → Goes log act
-held_goes s log true hand act e =
-    goes_some log (Sends U (Held (time_at (bound s log))) hand) act (goes_one log U (Held (time_at (bound s log))) hand refl) e
+held_goes s log true hand act e = goes_some log (Sends U (Held (time_at (bound s log))) hand) act (goes_one log U (Held (time_at (bound s log))) hand refl) e
 held_goes s log false hand act e = cc
 
 start_if : (s : Setting) (log : Log) (b : Bool) (c : ℕ) (o : Option Queued) (act : Act)
@@ -159,9 +152,6 @@ t_goes s bases log act (by_hold e) = held_goes s log _ _ act e
 t_goes s bases log act (by_start k c p e) = start_if s log _ c.class (head_of c.queue) act e
 
 pub u_goes : (s : Setting) (log : Log) (act : Act) → IsStepU s log act → Goes log act
-u_goes s log act = u_way s log act (Goes log)
-    (λ q i z r. start_goes s log 0 q)
-    (λ b a i. commit_goes s log 0 b a)
-    (λ d m a e. goes_one log (D (dm_no d)) m None (asks_to_d log a.ts 0 d m e))
-    (λ t ts i p. goes_one log (T (tm_no t)) (Release ts) None tt)
+u_goes s log act = u_way s log act (Goes log) (λ q i z r. start_goes s log 0 q) (λ b a i. commit_goes s log 0 b a)
+    (λ d m a e. goes_one log (D (dm_no d)) m None (asks_to_d log a.ts 0 d m e)) (λ t ts i p. goes_one log (T (tm_no t)) (Release ts) None tt)
     (λ t e. goes_one log (T (tm_no t)) Hold None tt)

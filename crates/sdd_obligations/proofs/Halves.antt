@@ -1,5 +1,5 @@
 -- An exchange in lockstep, by the turns of both sides; and what each side keeps of it.
-use Rattle.sdd_obligations.proofs.All.{AllLe, Asks, Attempt, Bool, D, Each, Given, IsPermitted, IsStage, List, Log, MayAnswer, MayAsk, Msg, None, Option, Read, Refused, Silent, Some, Told, Turn, [], active, agreed, all_of, and_left, answer_goes, answers, ap, arith, both, class_puts, d_fair, dec_le, dm_no, eqb-true, false, flight, goes_through, head_in, home, home_fair, if_way, if◌then◌else◌, in_class_order, in_left, in_pipe, inl, inr, is_a_read, is_a_refusal, is_exchanging, is_read, length, limit_of, local_of, map, not, number_of, pipe, pipe_at, place_within, processed_stays, puts_to, question_goes, questions, refl, same_number, same_or_not, setting_of, slice_get, subst, suc, sym, time_of, timed, times_are, times_in, told, true, turn_at, turn_with, uses_held, zero, ℕ, ◌<◌, ◌==◌, ◌∙◌, ◌∷◌, ◌≡◌, ◌≤◌}
+use Rattle.sdd_obligations.proofs.All.{AllLe, Asks, Attempt, Bool, D, Each, Given, IsPermitted, IsStage, List, Log, MayAnswer, MayAsk, Msg, None, Option, Read, Refused, Some, Told, Turn, [], active, agreed, all_of, and_left, answer_goes, answers, ap, arith, both, class_puts, d_fair, dec_le, dm_no, eqb-true, false, flight, goes_through, head_in, home, home_fair, if_way, if◌then◌else◌, in_class_order, in_left, in_pipe, inl, inr, is_a_read, is_a_refusal, is_exchanging, is_read, length, limit_of, local_of, map, not, number_of, pipe, pipe_at, place_within, processed_stays, puts_to, question_goes, questions, refl, same_number, same_or_not, setting_of, slice_get, subst, suc, sym, time_of, timed, times_are, times_in, told, true, turn_at, turn_with, uses_held, zero, ℕ, ◌<◌, ◌==◌, ◌∙◌, ◌∷◌, ◌≡◌, ◌≤◌}
 use Rattle.sdd_obligations.proofs.Asking.{in_turn}
 use Rattle.sdd_obligations.proofs.Hearing.{AtTurn, InTurn, IsTimely}
 use Rattle.sdd_obligations.proofs.Held.{IsAlone, IsHeldAt}
@@ -22,8 +22,7 @@ IsLast g ts c d log = AllLe ts (times_in c (puts_to (D (dm_no d)) (home_log g c 
 abbrev pub StageAt : Given → ℕ → ℕ → ℕ → Log → Type 0
 StageAt g ts c d log =
     IsStage (turn_at ts c d (home_log g c log)) (turn_with ts c (home g.catalogue c) (data_log g d log))
-    (questions ts c (flight g (home g.catalogue c) (D (dm_no d)) log))
-    (answers ts c (flight g (D (dm_no d)) (home g.catalogue c) log))
+    (questions ts c (flight g (home g.catalogue c) (D (dm_no d)) log)) (answers ts c (flight g (D (dm_no d)) (home g.catalogue c) log))
 
 pub record IsSpoken (g : Given) (c : ℕ) (log : Log) : Type 0 where
   pub stages : (ts d : ℕ) → StageAt g ts c d log
@@ -33,16 +32,13 @@ pub record IsSpoken (g : Given) (c : ℕ) (log : Log) : Type 0 where
 
 -- each side's half
 
-pub home_turns : (g : Given) (c : ℕ) (log : Log) → IsPermitted g log → IsSpoken g c log
-    → InTurn (setting_of g (home g.catalogue c)) c (home_log g c log)
-home_turns g c log h i =
-    in_turn (setting_of g (home g.catalogue c)) c (home_log g c log) (home_fair g c log h) (home_first g c log h) i.timely_at
+pub home_turns : (g : Given) (c : ℕ) (log : Log) → IsPermitted g log → IsSpoken g c log → InTurn (setting_of g (home g.catalogue c)) c (home_log g c log)
+home_turns g c log h i = in_turn (setting_of g (home g.catalogue c)) c (home_log g c log) (home_fair g c log h) (home_first g c log h) i.timely_at
 
 pub home_source : (g : Given) (c d : ℕ) → IsHomeOf (setting_of g (D (dm_no d))) c (home g.catalogue c)
 home_source g c d = source_is_home (setting_of g (D (dm_no d))) c
 
-pub data_turns : (g : Given) (ts c d : ℕ) (log : Log) → IsPermitted g log → IsSpoken g c log
-    → HasTurnAt ts c (home g.catalogue c) (data_log g d log)
+pub data_turns : (g : Given) (ts c d : ℕ) (log : Log) → IsPermitted g log → IsSpoken g c log → HasTurnAt ts c (home g.catalogue c) (data_log g d log)
 data_turns g ts c d log h i =
     has_turn (setting_of g (D (dm_no d))) ts c (home g.catalogue c) (data_log g d log) (home_source g c d) (d_fair g (dm_no d) log h) (i.timely_with d)
 
@@ -61,8 +57,7 @@ exchanging_home v w qs xs (agreed s q x) e = ap is_exchanging s ∙ e
 exchanging_home v w qs xs (question_goes m q x s a) e = may_ask_quiet w m a e
 exchanging_home v w qs xs (answer_goes y q x s a) e = never (is_exchanging w) e (ap is_exchanging s ∙ told_quiet v y a)
 
-pub active_of : (ts d : ℕ) (o : Option Attempt) (v : Turn) → AtTurn ts d o v → is_exchanging v ≡ true
-    → (a : Attempt) × (o ≡ Some a) × (a.ts ≡ ts)
+pub active_of : (ts d : ℕ) (o : Option Attempt) (v : Turn) → AtTurn ts d o v → is_exchanging v ≡ true → (a : Attempt) × (o ≡ Some a) × (a.ts ≡ ts)
 active_of ts d None v h e = never (is_exchanging v) e h
 active_of ts d (Some a) v h e = elim (same_or_not a.ts ts) [ inl p ↦ (a, refl, p) | inr p ↦ never (is_exchanging v) e (h.1 p) ]
 
@@ -78,18 +73,15 @@ pub active_last : (g : Given) (c d : ℕ) (log : Log) (a : Attempt) → IsPermit
     → active (setting_of g (home g.catalogue c)) c (home_log g c log) ≡ Some a → IsLast g a.ts c d log
 active_last g c d log a h small e =
     subst (λ k. AllLe k (times_in c (puts_to (D (dm_no d)) (home_log g c log)))) (ap (limit_of _) e)
-    (timed (setting_of g (home g.catalogue c)) c (D (dm_no d)) (home_log g c log) small
-    (home_fair g c log h)).within
+    (timed (setting_of g (home g.catalogue c)) c (D (dm_no d)) (home_log g c log) small (home_fair g c log h)).within
 
 le_at : (k : ℕ) (ms : List Msg) (j : ℕ) (m : Msg) → AllLe k (map time_of ms) → slice_get ms j ≡ Some m → time_of m ≤ k
 le_at k [] j m h e = cc
 le_at k (x ∷ ms) zero m h e = let p : x ≡ m = cc in subst (λ y. time_of y ≤ k) p h.0
 le_at k (x ∷ ms) (suc j) m h e = le_at k ms j m h.1 e
 
-last_at : (g : Given) (ts c d : ℕ) (log : Log) (j : ℕ) (m : Msg) → IsLast g ts c d log → slice_get (class_puts g c (dm_no d) log) j ≡ Some m
-    → time_of m ≤ ts
-last_at g ts c d log j m h e =
-    le_at ts (class_puts g c (dm_no d) log) j m (subst (AllLe ts) (times_are c (puts_to (D (dm_no d)) (home_log g c log))) h) e
+last_at : (g : Given) (ts c d : ℕ) (log : Log) (j : ℕ) (m : Msg) → IsLast g ts c d log → slice_get (class_puts g c (dm_no d) log) j ≡ Some m → time_of m ≤ ts
+last_at g ts c d log j m h e = le_at ts (class_puts g c (dm_no d) log) j m (subst (AllLe ts) (times_are c (puts_to (D (dm_no d)) (home_log g c log))) h) e
 
 pub read_time : (ts c : ℕ) (m : Msg) → is_read ts c m ≡ true → time_of m ≡ ts
 read_time ts c (Read t k txn attempt conds uses) e = eqb-true t.0 ts (and_left (t.0 == ts) (k.0 == c) e)
@@ -111,9 +103,7 @@ was_put_for g ts c d log ns h i e =
     record {
       place = r.place;
       read = r.read;
-      there =
-          subst (λ l. slice_get l r.place ≡ Some r.read) (sym p.1)
-          (processed_stays (pipe_at g c (dm_no d) log) p.0 r.place r.read r.there);
+      there = subst (λ l. slice_get l r.place ≡ Some r.read) (sym p.1) (processed_stays (pipe_at g c (dm_no d) log) p.0 r.place r.read r.there);
       is = r.is;
       processed = place_within (pipe c (data_log g d log)).processed r.place r.read r.there;
     }
@@ -128,8 +118,7 @@ held_if_exchanging _ e = cc
 
 -- the READ of a class with this time, at the head of its pipe
 is_read_at : (ts c : ℕ) (m : Msg) → is_a_read m ≡ true → goes_through c m ≡ true → time_of m ≡ ts → is_read ts c m ≡ true
-is_read_at ts c (Read t k txn attempt conds uses) e f z =
-    both (t.0 == ts) (k.0 == c) (subst (λ n. (t.0 == n) ≡ true) z (same_number t.0)) f
+is_read_at ts c (Read t k txn attempt conds uses) e f z = both (t.0 == ts) (k.0 == c) (subst (λ n. (t.0 == n) ≡ true) z (same_number t.0)) f
 is_read_at ts c m e f z = cc
 
 pub alone : (g : Given) (ts c d : ℕ) (log : Log) → IsPermitted g log → number_of (home g.catalogue c) ≤ 63 → IsSpoken g c log

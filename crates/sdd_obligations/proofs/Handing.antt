@@ -38,8 +38,7 @@ is_handed g log a b n m s l w e =
       linked = link_of_links g.catalogue.tms g.catalogue.dms a b k;
       from_there = from_there g a b k;
       to_there = site_there g.catalogue.tms g.catalogue.dms b
-          (link_parts g.catalogue.tms g.catalogue.dms a b
-          (link_of_links g.catalogue.tms g.catalogue.dms a b k)).to;
+          (link_parts g.catalogue.tms g.catalogue.dms a b (link_of_links g.catalogue.tms g.catalogue.dms a b k)).to;
       from_number = numbered_there g.catalogue.tms g.catalogue.dms a (from_there g a b k);
       from_small = small_there g.catalogue.tms g.catalogue.dms a (let t = s.few_tms in omega (arith, t)) (from_there g a b k);
       times = times_below g log a b (handed a b log) m s l w put;

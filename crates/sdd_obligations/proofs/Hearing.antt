@@ -21,8 +21,7 @@ pub record InTurn (s : Setting) (c : ℕ) (log : Log) : Type 0 where
 
 -- an answer that is handed is one that may come next
 abbrev pub IsTimely : ℕ → Log → Entry → Type 0
-IsTimely c log (Handed from m) =
-    (ts d : ℕ) → from ≡ D (dm_no d) → is_answer ts c m ≡ true → MayAnswer (turn_at ts c d log) m
+IsTimely c log (Handed from m) = (ts d : ℕ) → from ≡ D (dm_no d) → is_answer ts c m ≡ true → MayAnswer (turn_at ts c d log) m
 IsTimely c log (Ticked n) = Unit {0}
 IsTimely c log (Submits n txn) = Unit {0}
 IsTimely c log (Redeclared force t) = Unit {0}
@@ -33,14 +32,12 @@ IsTimely c log (Did act) = Unit {0}
 pub told_one : (ts c : ℕ) (b : Bool) (m : Msg) (v : Turn)
     → told_by (answers ts c (if b then m ∷ [] else [])) v ≡ (if b && is_answer ts c m then told m v else v)
 told_one ts c false m v = refl
-told_one ts c true m v =
-    elim (is_answer ts c m) as (λ x. told_by (cond x (m ∷ []) []) v ≡ (if x then told m v else v)) [ true ↦ refl | false ↦ refl ]
+told_one ts c true m v = elim (is_answer ts c m) as (λ x. told_by (cond x (m ∷ []) []) v ≡ (if x then told m v else v)) [ true ↦ refl | false ↦ refl ]
 
 pub asked_one : (ts c : ℕ) (b : Bool) (m : Msg) (v : Turn)
     → asked_by (questions ts c (if b then m ∷ [] else [])) v ≡ (if b && is_question ts c m then asked m v else v)
 asked_one ts c false m v = refl
-asked_one ts c true m v =
-    elim (is_question ts c m) as (λ x. asked_by (cond x (m ∷ []) []) v ≡ (if x then asked m v else v)) [ true ↦ refl | false ↦ refl ]
+asked_one ts c true m v = elim (is_question ts c m) as (λ x. asked_by (cond x (m ∷ []) []) v ≡ (if x then asked m v else v)) [ true ↦ refl | false ↦ refl ]
 
 -- an answer may come only to a question
 pub record IsAskedBy (v : Turn) (m : Msg) : Type 0 where
@@ -193,12 +190,10 @@ stands_on c n d m a v strict h e timely = elim (is_answer a.ts c m) as (λ b. is
       | false ↦ λ f. subst (λ x. StandsAt d x (after_answer c n m v a.ts d)) (sym (hand_not a.ts c n a.exchange m f))
           (subst (λ (w : Turn). StandsAt d a.exchange w)
           (sym (ap (λ (b : Bool). if (d == n) && b then told m (v a.ts d) else v a.ts d) f
-          ∙ ap (λ (b : Bool). if b then told m (v a.ts d) else v a.ts d) (and_no (d == n))))
-          ((h a.ts d).0 refl))
+          ∙ ap (λ (b : Bool). if b then told m (v a.ts d) else v a.ts d) (and_no (d == n)))) ((h a.ts d).0 refl))
     ] refl
 
-handed_turns : (c n : ℕ) (m : Msg) (o : Option Attempt) (v : Turns) → IsStrictOf o → AllAtTurn o v
-    → ((ts : ℕ) → is_answer ts c m ≡ true → MayAnswer (v ts n) m)
+handed_turns : (c n : ℕ) (m : Msg) (o : Option Attempt) (v : Turns) → IsStrictOf o → AllAtTurn o v → ((ts : ℕ) → is_answer ts c m ≡ true → MayAnswer (v ts n) m)
     → AllAtTurn (active_handed c (D (dm_no n)) m o) (after_answer c n m v)
 handed_turns c n m None v strict h timely = λ ts d. quiet_if ((d == n) && is_answer ts c m) m (v ts d) (h ts d)
 handed_turns c n m (Some a) v strict h timely =

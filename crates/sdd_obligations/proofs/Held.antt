@@ -19,11 +19,9 @@ IsToldInTurn v ms = (ms ≡ []) ⊎ ((x : Msg) × (ms ≡ x ∷ []) × MayAnswer
 
 answers_one : (ts c : ℕ) (b : Bool) (m : Msg) → answers ts c (if b then m ∷ [] else []) ≡ (if b && is_answer ts c m then m ∷ [] else [])
 answers_one ts c false m = refl
-answers_one ts c true m =
-    elim (is_answer ts c m) as (λ x. cond x (m ∷ []) [] ≡ (if x then m ∷ [] else [])) [ true ↦ refl | false ↦ refl ]
+answers_one ts c true m = elim (is_answer ts c m) as (λ x. cond x (m ∷ []) [] ≡ (if x then m ∷ [] else [])) [ true ↦ refl | false ↦ refl ]
 
-one_told : (v : Turn) (ms : List Msg) (b x : Bool) (m : Msg) → ms ≡ (if b && x then m ∷ [] else []) → (x ≡ true → MayAnswer v m)
-    → IsToldInTurn v ms
+one_told : (v : Turn) (ms : List Msg) (b x : Bool) (m : Msg) → ms ≡ (if b && x then m ∷ [] else []) → (x ≡ true → MayAnswer v m) → IsToldInTurn v ms
 one_told v ms true true m e f = inr (m, e, f refl)
 one_told v ms _ _ m e f = inl e
 
@@ -43,8 +41,7 @@ any_append : {A : Type 0} (f : A → Bool) (xs ys : List A) → list_any f xs �
 any_append f [] ys e g = g
 any_append f (x ∷ xs) ys e g = none_of (f x) (list_any f xs) (list_any f (xs ++ ys)) e (λ h. any_append f xs ys h g)
 
-all_named_in : (ns : List ℕ) (us : List (ℕ × List (List Value)))
-    → ((n : ℕ) → contains (map (λ e. e.0) us) n ≡ true → contains ns n ≡ true)
+all_named_in : (ns : List ℕ) (us : List (ℕ × List (List Value))) → ((n : ℕ) → contains (map (λ e. e.0) us) n ≡ true → contains ns n ≡ true)
     → list_any (λ (r : ℕ × List Value). not (contains ns r.0)) (flat_map (λ (e : ℕ × List (List Value)). map (λ row. (e.0, row)) e.1) us) ≡ false
 all_named_in ns [] f = refl
 all_named_in ns (u ∷ us) f =
@@ -53,8 +50,7 @@ all_named_in ns (u ∷ us) f =
     (row_named ns u.0 u.1 (f u.0 (or_left (u.0 == u.0) (contains (map (λ e. e.0) us) u.0) (same_number u.0))))
     (all_named_in ns us (λ n e. f n (or_right (u.0 == n) (contains (map (λ e. e.0) us) n) e)))
 
-held_named : (ts : ℕ) (ns : List ℕ) (f : Option Frozen) → AreHeldFor ts ns f
-    → list_any (λ (r : ℕ × List Value). not (contains ns r.0)) (all_held f) ≡ false
+held_named : (ts : ℕ) (ns : List ℕ) (f : Option Frozen) → AreHeldFor ts ns f → list_any (λ (r : ℕ × List Value). not (contains ns r.0)) (all_held f) ≡ false
 held_named ts ns None h = absurd h
 held_named ts ns (Some f) h = all_named_in ns f.uses (λ n e. subst (λ l. contains l n ≡ true) h.1 e)
 
@@ -71,14 +67,11 @@ uses_named c [] = refl
 uses_named c (u ∷ uses) = ap (λ l. u.number ∷ l) (uses_named c uses)
 
 -- an answer to rows is of the question
-may_reply : (ts : ℕ) (ns : List ℕ) (f : Option Frozen) (q m : Msg) → reply f q ≡ Some m → (is_a_ship q ≡ true → AreHeldFor ts ns f)
-    → Replies ns q m
-may_reply ts ns f (Fetch t k u col) m e h =
-    let p : Values t k u (values_in (rows_held u f) col) ≡ m = cc in subst (λ x. Replies ns (Fetch t k u col) x) p refl
+may_reply : (ts : ℕ) (ns : List ℕ) (f : Option Frozen) (q m : Msg) → reply f q ≡ Some m → (is_a_ship q ≡ true → AreHeldFor ts ns f) → Replies ns q m
+may_reply ts ns f (Fetch t k u col) m e h = let p : Values t k u (values_in (rows_held u f) col) ≡ m = cc in subst (λ x. Replies ns (Fetch t k u col) x) p refl
 may_reply ts ns f (Reduce t k u col vs) m e h =
     let p : Reduced t k u (length (rows_held u f)) ≡ m = cc in subst (λ x. Replies ns (Reduce t k u col vs) x) p refl
-may_reply ts ns f (Ship t k) m e h =
-    let p : Rows t k (all_held f) ≡ m = cc in subst (λ x. Replies ns (Ship t k) x) p (held_named ts ns f (h refl))
+may_reply ts ns f (Ship t k) m e h = let p : Rows t k (all_held f) ≡ m = cc in subst (λ x. Replies ns (Ship t k) x) p (held_named ts ns f (h refl))
 may_reply ts ns f q m e h = cc
 
 own_uses : (ts c : ℕ) (v : Turn) (ns : List ℕ) (m : Msg) → v ≡ Asks ns m → IsOwn ts c v → uses_by m ns ≡ ns
@@ -96,8 +89,7 @@ class_of_asked ts c k m e f = cc
 asked_class : (ts c k : ℕ) (o : Open) → asks_rows ts c o.msg ≡ true → is_asked_of k o ≡ true → k ≡ c
 asked_class ts c k o e f = class_of_asked ts c k o.msg e f
 
-pub tells_in_turn : (s : Setting) (ts c : ℕ) (at : Site) (log : Log) (act : Act) → IsHomeOf s c at → IsDataStep s log act
-    → HasTurnAt ts c at log
+pub tells_in_turn : (s : Setting) (ts c : ℕ) (at : Site) (log : Log) (act : Act) → IsHomeOf s c at → IsDataStep s log act → HasTurnAt ts c at log
     → ((ns : List ℕ) → is_exchanging (turn_with ts c at log) ≡ true → uses_held (turn_with ts c at log) ≡ Some ns → AreHeldFor ts ns (frozen s c log))
     → IsToldInTurn (turn_with ts c at log) (answers ts c (to_site at (sends_of_act act)))
 tells_in_turn s ts c at log act home i h held = data_step_way s log act (λ x. IsToldInTurn (turn_with ts c at log) (answers ts c (to_site at (sends_of_act x))))
@@ -111,11 +103,9 @@ tells_in_turn s ts c at log act home i h held = data_step_way s log act (λ x. I
     let no_read : is_a_read o.msg ≡ false = asks_no_a_read ts c o.msg q in
     subst (λ v. MayAnswer v m) (sym w.is) (may_reply ts w.uses (frozen s k log) o.msg m r
     (λ z. subst (λ j. AreHeldFor ts w.uses (frozen s j log)) (sym same)
-    (held w.uses (exchanging (turn_with ts c at log) w.uses o.msg w.is no_read)
-    (held_now (turn_with ts c at log) w.uses o.msg w.is no_read))))))
+    (held w.uses (exchanging (turn_with ts c at log) w.uses o.msg w.is no_read) (held_now (turn_with ts c at log) w.uses o.msg w.is no_read))))))
     (λ k t j txn attempt conds uses l e. one_told (turn_with ts c at log) _
-    (same_site at (source_of (home_of s) k)) (is_answer ts c (Ready t j (counts_told s log t.0 uses)))
-    (Ready t j (counts_told s log t.0 uses))
+    (same_site at (source_of (home_of s) k)) (is_answer ts c (Ready t j (counts_told s log t.0 uses))) (Ready t j (counts_told s log t.0 uses))
     (answers_one ts c (same_site at (source_of (home_of s) k)) (Ready t j (counts_told s log t.0 uses)))
     (λ x.
     let w = read_next ts c at log k (turn_with ts c at log) (Read t j txn attempt conds uses) h e (head_through k log _ e) x in
@@ -126,10 +116,8 @@ tells_in_turn s ts c at log act home i h held = data_step_way s log act (λ x. I
     (answers_one ts c (same_site at (source_of (home_of s) k)) (Reject t j by write))
     (λ x.
     let w = read_next ts c at log k (turn_with ts c at log) (Read t j txn attempt conds uses) h e (head_through k log _ e) x in
-    subst (λ v. MayAnswer v (Reject t j by write)) (sym w.is) tt))
-    (λ k txn attempt ds. inl (asks_no_answer ts c at (ask_for (home_of s)) ds (λ d. refl)))
-    (λ k t j txn changes e. inl (done_no_answer ts c at k t))
-    (λ k j time e. inl refl) i
+    subst (λ v. MayAnswer v (Reject t j by write)) (sym w.is) tt)) (λ k txn attempt ds. inl (asks_no_answer ts c at (ask_for (home_of s)) ds (λ d. refl)))
+    (λ k t j txn changes e. inl (done_no_answer ts c at k t)) (λ k j time e. inl refl) i
 
 -- rows stay held
 
@@ -138,8 +126,7 @@ kept_rows e col vs = (e.0, filter (λ row. is_among vs (column row col)) e.1)
 
 reduced_uses : (n col : ℕ) (vs : List Value) (us : List (ℕ × List (List Value)))
     → map (λ (e : ℕ × List (List Value)). e.0) (map (λ (e : ℕ × List (List Value)). if e.0 ==
-    n then (e.0, filter (λ row. is_among vs (column row col)) e.1) else e) us) ≡ map
-    (λ (e : ℕ × List (List Value)). e.0) us
+    n then (e.0, filter (λ row. is_among vs (column row col)) e.1) else e) us) ≡ map (λ (e : ℕ × List (List Value)). e.0) us
 reduced_uses n col vs [] = refl
 reduced_uses n col vs (u ∷ us) =
     elim (u.0 == n) as (λ b. (if b then kept_rows u col vs else u).0 ∷ map (λ (e : ℕ × List (List Value)).
@@ -150,15 +137,13 @@ reduced_uses n col vs (u ∷ us) =
       | false ↦ ap (λ l. u.0 ∷ l) (reduced_uses n col vs us)
     ]
 
-reduced_held : (ts t u col : ℕ) (vs : List Value) (ns : List ℕ) (f : Option Frozen) → AreHeldFor ts ns f
-    → AreHeldFor ts ns (reduced_at t u col vs f)
+reduced_held : (ts t u col : ℕ) (vs : List Value) (ns : List ℕ) (f : Option Frozen) → AreHeldFor ts ns f → AreHeldFor ts ns (reduced_at t u col vs f)
 reduced_held ts t u col vs ns None h = absurd h
 reduced_held ts t u col vs ns (Some f) h =
     if_way (AreHeldFor ts ns) (f.ts == t) (Some (reduced u col vs f)) (Some f) (h.0, reduced_uses u col vs f.uses ∙ h.1) h
 
 handed_held : (ts c : ℕ) (ns : List ℕ) (m : Msg) (f : Option Frozen) → AreHeldFor ts ns f → AreHeldFor ts ns (frozen_handed c m f)
-handed_held ts c ns (Reduce t k u col vs) f h =
-    if_way (AreHeldFor ts ns) (k.0 == c) (reduced_at t.0 u col vs f) f (reduced_held ts t.0 u col vs ns f h) h
+handed_held ts c ns (Reduce t k u col vs) f h = if_way (AreHeldFor ts ns) (k.0 == c) (reduced_at t.0 u col vs f) f (reduced_held ts t.0 u col vs ns f h) h
 handed_held ts c ns m f h = h
 
 -- where they are held at a question, they were before
@@ -272,8 +257,7 @@ held_replies s ts c at log k o m alone e r h ns z =
           let here : same_site at o.from ≡ true = subst (λ x. same_site at x ≡ true) (sym u.from_is) (site_self at) in
           let told_now : uses_held (told m v) ≡ Some ns =
           subst (λ (b : Bool). uses_held (if b then told m v else v) ≡ Some ns)
-          (both (same_site at o.from) (is_answer ts c m) here
-          (reply_answers ts c (frozen s k log) o.msg m r ∙ q)) now in
+          (both (same_site at o.from) (is_answer ts c m) here (reply_answers ts c (frozen s k log) o.msg m r ∙ q)) now in
           absurd (ship_told v u.uses ns o.msg m u.is y.2 (reply_no_refusal (frozen s k log) o.msg m r) told_now))
       | false ↦ λ g. subst (AreHeldFor ts ns) (sym (given_is c m (frozen s c log) ∙ ap (λ (b : Bool). if b then None else frozen s c log) g)) (h ns before)
     ] refl
@@ -286,8 +270,7 @@ same_frozen s c k log r sends e =
 
 other_frozen : (s : Setting) (c k : ℕ) (log : Log) (r : Rec) (sends : List (Site × Msg)) → (k == c) ≡ false
     → frozen s c (Did (Records k r sends) ∷ log) ≡ frozen s c log
-other_frozen s c k log r sends e =
-    ap (λ (b : Bool). if b && is_answer_record r then frozen_at (dated s log) (head (pipe c log)) else frozen s c log) e
+other_frozen s c k log r sends e = ap (λ (b : Bool). if b && is_answer_record r then frozen_at (dated s log) (head (pipe c log)) else frozen s c log) e
 
 own_frozen : (s : Setting) (k : ℕ) (log : Log) (r : Rec) (sends : List (Site × Msg)) (m : Msg) → is_answer_record r ≡ true
     → head (pipe k log) ≡ Some m → frozen s k (Did (Records k r sends) ∷ log) ≡ frozen_at (dated s log) (Some m)
@@ -316,8 +299,7 @@ held_answers s ts c at log k t j txn attempt conds uses home alone l e h ns z =
           let there : src ≡ at = subst (λ n. source_of (home_of s) n ≡ at) (sym w.class_is) (home (subst (IsClassHere s) w.class_is l)) in
           let here : same_site at src ≡ true = subst (λ y. same_site at y ≡ true) (sym there) (site_self at) in
           let told_now : uses_held (told x v) ≡ Some ns =
-          subst (λ (b : Bool). uses_held (if b then told x v else v) ≡ Some ns)
-          (both (same_site at src) (is_read ts c m) here q) now in
+          subst (λ (b : Bool). uses_held (if b then told x v else v) ≡ Some ns) (both (same_site at src) (is_read ts c m) here q) now in
           let same : w.uses ≡ ns = some_is w.uses ns (sym (ap uses_held (told_is v w.uses m x w.is refl)) ∙ told_now) in
           let own : uses_by m w.uses ≡ w.uses = own_uses ts c v w.uses m w.is (alone.has ts).own in
           let rows : frozen s c (Did act ∷ log) ≡ frozen_at (dated s log) (Some m) =
@@ -326,8 +308,7 @@ held_answers s ts c at log k t j txn attempt conds uses home alone l e h ns z =
           subst (AreHeldFor ts ns) (sym rows) (eqb-true t.0 ts (and_left (t.0 == ts) (j.0 == c) q), uses_named (copies (dated s log)) uses ∙ own ∙ same))
       | false ↦ λ q.
           (let before : uses_held v ≡ Some ns =
-          subst (λ (b : Bool). uses_held (if b then told x v else v) ≡ Some ns)
-          (ap (λ b. same_site at src && b) q ∙ and_no (same_site at src)) now in
+          subst (λ (b : Bool). uses_held (if b then told x v else v) ≡ Some ns) (ap (λ b. same_site at src && b) q ∙ and_no (same_site at src)) now in
           elim (same_or_not k c) [
             | inl p ↦ never (is_read ts c m) (alone.no_read ns before m (subst (λ n. head (pipe n log) ≡ Some m) p e) refl) q
             | inr p ↦ subst (AreHeldFor ts ns) (sym (other_frozen s c k log (Answer txn attempt (home_of s).dm) ((src, x) ∷ []) p)) (h ns before)
@@ -353,13 +334,11 @@ held_refuses s ts c at log k t j txn attempt conds uses by write home alone l e 
           let there : src ≡ at = subst (λ n. source_of (home_of s) n ≡ at) (sym w.class_is) (home (subst (IsClassHere s) w.class_is l)) in
           let here : same_site at src ≡ true = subst (λ y. same_site at y ≡ true) (sym there) (site_self at) in
           let told_now : uses_held (told x v) ≡ Some ns =
-          subst (λ (b : Bool). uses_held (if b then told x v else v) ≡ Some ns)
-          (both (same_site at src) (is_read ts c m) here q) now in
+          subst (λ (b : Bool). uses_held (if b then told x v else v) ≡ Some ns) (both (same_site at src) (is_read ts c m) here q) now in
           let none : ◌≡◌ {A = Option (List ℕ)} None (Some ns) = sym (ap (λ y. uses_held (told x y)) w.is) ∙ told_now in cc)
       | false ↦ λ q.
           (let before : uses_held v ≡ Some ns =
-          subst (λ (b : Bool). uses_held (if b then told x v else v) ≡ Some ns)
-          (ap (λ b. same_site at src && b) q ∙ and_no (same_site at src)) now in
+          subst (λ (b : Bool). uses_held (if b then told x v else v) ≡ Some ns) (ap (λ b. same_site at src && b) q ∙ and_no (same_site at src)) now in
           subst (AreHeldFor ts ns) (sym (same_frozen s c k log (Rejected txn attempt (home_of s).dm by write) ((src, x) ∷ []) refl)) (h ns before))
     ] refl
 
@@ -367,14 +346,12 @@ pub held_act : (s : Setting) (ts c : ℕ) (at : Site) (log : Log) (act : Act) �
     → IsHeldAt s ts c at log → IsHeldAt s ts c at (Did act ∷ log)
 held_act s ts c at log act home i alone h = data_step_way s log act (λ x. IsHeldAt s ts c at (Did x ∷ log))
     (λ k txn attempt. held_still s ts c at log (Records k (Arrive txn attempt (home_of s).dm) []) refl
-    (same_frozen s c k log (Arrive txn attempt (home_of s).dm) [] refl) h)
-    (λ k o m e r. held_replies s ts c at log k o m alone e r h)
+    (same_frozen s c k log (Arrive txn attempt (home_of s).dm) [] refl) h) (λ k o m e r. held_replies s ts c at log k o m alone e r h)
     (λ k t j txn attempt conds uses l e. held_answers s ts c at log k t j txn attempt conds uses home alone l e h)
     (λ k t j txn attempt conds uses by write l e. held_refuses s ts c at log k t j txn attempt conds uses by write home alone l e h)
     (λ k txn attempt ds. held_still s ts c at log (Records k (Wait txn attempt (home_of s).dm ds) (map (ask_for (home_of s)) ds))
     (ap (λ l. told_by l (turn_with ts c at log)) (asks_no_answer ts c at (ask_for (home_of s)) ds
-    (λ d. refl))) (same_frozen s c k log (Wait txn attempt (home_of s).dm ds)
-    (map (ask_for (home_of s)) ds) refl) h)
+    (λ d. refl))) (same_frozen s c k log (Wait txn attempt (home_of s).dm ds) (map (ask_for (home_of s)) ds) refl) h)
     (λ k t j txn changes e. held_still s ts c at log (Records k (Apply txn j (home_of s).dm t) (done_for k (Done t)))
     (ap (λ l. told_by l (turn_with ts c at log)) (done_no_answer ts c at k t))
     (same_frozen s c k log (Apply txn j (home_of s).dm t) (done_for k (Done t)) refl) h)

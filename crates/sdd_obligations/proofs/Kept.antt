@@ -61,15 +61,13 @@ reduce_keeps s c ts from t k u col vs log o false e f =
     inl (kept_same s c ts (Handed from (Reduce t k u col vs)) log (ap (λ b. if b then reduced_at t.0 u col vs (frozen s c log) else frozen s c log) f))
 reduce_keeps s c ts from t k u col vs log None true e f =
     inl (kept_none s c ts (Handed from (Reduce t k u col vs)) log
-    (ap (λ b. if b then reduced_at t.0 u col vs (frozen s c log) else frozen s c log) f
-    ∙ ap (reduced_at t.0 u col vs) e))
+    (ap (λ b. if b then reduced_at t.0 u col vs (frozen s c log) else frozen s c log) f ∙ ap (reduced_at t.0 u col vs) e))
 reduce_keeps s c ts from t k u col vs log (Some r) true e f =
     let now : frozen s c (Handed from (Reduce t k u col vs) ∷ log) ≡ (if r.ts == t.0 then Some (reduced u col vs r) else Some r) =
     ap (λ b. if b then reduced_at t.0 u col vs (frozen s c log) else frozen s c log) f ∙ ap (reduced_at t.0 u col vs) e in
     elim (same_or_not r.ts t.0) [
       | inl own ↦ (let z : frozen s c (Handed from (Reduce t k u col vs) ∷ log) ≡ Some
-          (reduced u col vs r) = now ∙ ap (λ b. if b then Some (reduced u col vs r) else Some r)
-          (ap (λ n. r.ts == n) (sym own) ∙ same_number r.ts) in
+          (reduced u col vs r) = now ∙ ap (λ b. if b then Some (reduced u col vs r) else Some r) (ap (λ n. r.ts == n) (sym own) ∙ same_number r.ts) in
           elim (same_or_not r.ts ts) [
             | inl mine ↦ inr (record {
               t = t;
@@ -183,8 +181,7 @@ kept_answered s c ts (Handed from m ∷ log) f e = elim (hand_keeps s c ts from 
 kept_answered s c ts (Ticked n ∷ log) f e = for_more s c ts (Ticked n) log f (kept_same s c ts (Ticked n) log refl) (kept_answered s c ts log) e
 kept_answered s c ts (Submits n txn ∷ log) f e = for_more s c ts (Submits n txn) log f (kept_same s c ts (Submits n txn) log refl) (kept_answered s c ts log) e
 kept_answered s c ts (Redeclared force t ∷ log) f e =
-    for_more s c ts (Redeclared force t) log f (kept_same s c ts (Redeclared force t) log refl)
-    (kept_answered s c ts log) e
+    for_more s c ts (Redeclared force t) log f (kept_same s c ts (Redeclared force t) log refl) (kept_answered s c ts log) e
 kept_answered s c ts (Did act ∷ log) f e = elim (act_keeps s c ts act log) [
   | inl same ↦ for_more s c ts (Did act) log f same (kept_answered s c ts log) e
   | inr r ↦ r.answer
@@ -199,8 +196,7 @@ pub other_answer_keeps : (s : Setting) (c ts k : ℕ) (txn : TxnNo) (attempt : �
 other_answer_keeps s c ts k txn attempt dm sends log t of tx n conds uses e other = elim (same_or_not k c) [
   | inl own ↦ (let now : frozen s c (Did (Records k (Answer txn attempt dm) sends) ∷ log) ≡ Some (frozen_for (copies (dated s log)) t.0 uses) =
       ap (λ b. if b && true then frozen_at (dated s log) (head (pipe c log)) else frozen s c log)
-      (ap (λ j. j == c) own ∙ same_number c) ∙ ap (λ j. frozen_at (dated s log) (head (pipe j log)))
-      (sym own) ∙ ap (frozen_at (dated s log)) e in
+      (ap (λ j. j == c) own ∙ same_number c) ∙ ap (λ j. frozen_at (dated s log) (head (pipe j log))) (sym own) ∙ ap (frozen_at (dated s log)) e in
       ap (λ x. held_for ts x (kept s c ts log)) now ∙ other_first ts (frozen_for (copies (dated s log)) t.0 uses) (kept s c ts log) (other own))
   | inr not_own ↦ kept_same s c ts (Did (Records k (Answer txn attempt dm) sends)) log
       (ap (λ b. if b && true then frozen_at (dated s log) (head (pipe c log)) else frozen s c log) not_own)

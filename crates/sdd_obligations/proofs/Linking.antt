@@ -71,11 +71,9 @@ start_linked : (g : Given) (at : Site) (c : ℕ) (log : site.Log) (q : Queued) �
     → ActLinked g at (start_at (setting_of g at) c log q)
 start_linked g at c log q w f =
     all_linked g at (sends_of_act (start_at (setting_of g at) c log q)) (λ k p e. let r =
-    in_mapped (λ d. (D (dm_no d), start_read (setting_of g at) c log q d))
-    (modules_asked (setting_of g at) c q.text) k p e in
+    in_mapped (λ d. (D (dm_no d), start_read (setting_of g at) c log q d)) (modules_asked (setting_of g at) c q.text) k p e in
     subst (λ (x : Site × Msg). Links g at x.0) r.2
-    (f r.0 (near_at g.catalogue.dms (modules_asked (setting_of g at) c q.text) k r.0
-    (modules_near g.catalogue c _ w) r.1)))
+    (f r.0 (near_at g.catalogue.dms (modules_asked (setting_of g at) c q.text) k r.0 (modules_near g.catalogue c _ w) r.1)))
 
 write_linked : (g : Given) (at : Site) (b : Bool) (d : ℕ) (m : Msg) (p : Site × Msg) → Links g at (D (dm_no d))
     → cond {A = Option (Site × Msg)} b (Some (D (dm_no d), m)) None ≡ Some p → Links g at p.0
@@ -95,12 +93,10 @@ over_linked : (g : Given) (at : Site) (c : ℕ) (bases : Bases) (a : Attempt) (b
 over_linked g at c bases a true act f e = linked_some g at (commit_act g.catalogue bases c a) act (commit_linked g at c bases a f) e
 over_linked g at c bases a false act f e = cc
 
-send_linked : (g : Given) (at : Site) (c : ℕ) (bases : Bases) (a : Attempt) (ms : List (ℕ × Msg)) (act : Act) → ToModules g at
-    → SendsNear g.catalogue.dms ms
+send_linked : (g : Given) (at : Site) (c : ℕ) (bases : Bases) (a : Attempt) (ms : List (ℕ × Msg)) (act : Act) → ToModules g at → SendsNear g.catalogue.dms ms
     → or_else (first_send ms) (if is_over a.exchange.phase then Some (commit_act g.catalogue bases c a) else None) ≡ Some act → ActLinked g at act
 send_linked g at c bases a [] act f h e = over_linked g at c bases a (is_over a.exchange.phase) act f e
-send_linked g at c bases a (m ∷ rest) act f h e =
-    linked_some g at (Sends (D (dm_no m.0)) m.1 None) act (one_linked g at (D (dm_no m.0)) m.1 None (f m.0 h.0)) e
+send_linked g at c bases a (m ∷ rest) act f h e = linked_some g at (Sends (D (dm_no m.0)) m.1 None) act (one_linked g at (D (dm_no m.0)) m.1 None (f m.0 h.0)) e
 
 attempt_linked : (g : Given) (at : Site) (c : ℕ) (bases : Bases) (log : site.Log) (o : Option Attempt) (act : Act) → ToModules g at
     → HasNear g.catalogue.dms o → attempt_due g.catalogue bases c o ≡ Some act → ActLinked g at act
@@ -123,19 +119,16 @@ held_linked g at false m hand act l e = cc
 
 begin_linked : (g : Given) (t : TmNo) (log : site.Log) (b : Bool) (c : ℕ) (o : Option Queued) (act : Act) → IsWhole g.catalogue → ToModules g (T t)
     → (if b then tm.start_of g.catalogue (tm_views.view_of (setting_of g (T t)) log) c o else None) ≡ Some act → ActLinked g (T t) act
-begin_linked g t log true c (Some q) act w f e =
-    linked_some g (T t) (start_at (setting_of g (T t)) c log q) act (start_linked g (T t) c log q w f) e
+begin_linked g t log true c (Some q) act w f e = linked_some g (T t) (start_at (setting_of g (T t)) c log q) act (start_linked g (T t) c log q w f) e
 begin_linked g t log _ c _ act w f e = cc
 
 t_linked : (g : Given) (t : TmNo) (log : Log) (bases : Bases) (act : Act) → IsWhole g.catalogue → AllFewTicks g.events → IsLawful g log
-    → IsPermitted g log → Here g (T t) → tm.IsDue g.catalogue bases (tm_views.view_of (setting_of g (T t)) (local_of g (T t) log)) act
-    → ActLinked g (T t) act
+    → IsPermitted g log → Here g (T t) → tm.IsDue g.catalogue bases (tm_views.view_of (setting_of g (T t)) (local_of g (T t) log)) act → ActLinked g (T t) act
 t_linked g t log bases act w f h p here (tm.by_exchange k c i e) =
     let s : Setting = setting_of g (T t) in let l : site.Log = local_of g (T t) log in
     let r = in_mapped (tm_views.class_view s l) (tm_views.runs s) k c i in
     attempt_linked g (T t) r.0 bases l (active s r.0 l) act (λ d n. link_of g (T t) (D (dm_no d)) here
-    (near_here g d n) refl) (active_near s r.0 l w (t_fair g t log p))
-    (subst (λ v. tm.exchange_due g.catalogue bases v ≡ Some act) (sym r.2) e)
+    (near_here g d n) refl) (active_near s r.0 l w (t_fair g t log p)) (subst (λ v. tm.exchange_due g.catalogue bases v ≡ Some act) (sym r.2) e)
 t_linked g t log bases act w f h p here (tm.by_ask k n c q i r e) =
     null_linked g (T t) q (q.class == c.class) _ act (asked_linked g (T t) log q.from IsAnAsk f h (was_asked_of (local_of g (T t) log) n q r)) e
 t_linked g t log bases act w f h p here (tm.by_hold e) = held_linked g (T t) _ _ _ act (link_of g (T t) U here refl refl) e
@@ -149,8 +142,7 @@ tm_linked : (g : Given) (b : Bool) (t : ℕ) (m : Msg) (act : Act) → Links g U
 tm_linked g true t m act l e = linked_some g U (Sends (T (tm_no t)) m None) act (one_linked g U (T (tm_no t)) m None l) e
 tm_linked g false t m act l e = cc
 
-hold_linked : (g : Given) (k : um_views.TmCounts) (o : Option Queued) (act : Act) → Links g U (T (tm_no k.tm)) → um.hold_to k o ≡ Some act
-    → ActLinked g U act
+hold_linked : (g : Given) (k : um_views.TmCounts) (o : Option Queued) (act : Act) → Links g U (T (tm_no k.tm)) → um.hold_to k o ≡ Some act → ActLinked g U act
 hold_linked g k None act l e = cc
 hold_linked g k (Some q) act l e = tm_linked g (k.releases == k.holds) k.tm Hold act l e
 
@@ -176,8 +168,7 @@ u_linked : (g : Given) (log : Log) (bases : Bases) (act : Act) → IsWhole g.cat
     → um.IsDue g.catalogue bases (um_views.view_of (setting_of g U) (local_of g U log)) act → ActLinked g U act
 u_linked g log bases act w p (um.by_exchange e) =
     attempt_linked g U 0 bases (local_of g U log) (active (setting_of g U) 0 (local_of g U log)) act
-    (λ d n. link_of g U (D (dm_no d)) refl (near_here g d n) refl) (active_near (setting_of g U) 0
-    (local_of g U log) w (u_fair g log p)) e
+    (λ d n. link_of g U (D (dm_no d)) refl (near_here g d n) refl) (active_near (setting_of g U) 0 (local_of g U log) w (u_fair g log p)) e
 u_linked g log bases act w p (um.by_release j k i e) = tm_linked g _ k.tm _ act (count_linked g (local_of g U log) j k i) e
 u_linked g log bases act w p (um.by_start e) =
     u_begin_linked g (local_of g U log) (head_of (queue (setting_of g U) 0 (local_of g U log))) act w
@@ -257,6 +248,5 @@ site_here tms dms (D d) k = let r = d_of_sites tms dms d k in both (nat_le 1 d.0
 pub act_linked : (g : Given) (log : Log) (at : Site) (act : Act) → IsWhole g.catalogue → AllFewTicks g.events → IsLawful g log → IsPermitted g log
     → OfNext g log (Does at act) → IsDueAt g log at act → AllLinked g at (sends_of_act act)
 act_linked g log U act w f l p o due = u_linked g log (base_of g log) act w p due
-act_linked g log (T t) act w f l p o due =
-    t_linked g t log (base_of g log) act w f l p (site_here g.catalogue.tms g.catalogue.dms (T t) o.0) due
+act_linked g log (T t) act w f l p o due = t_linked g t log (base_of g log) act w f l p (site_here g.catalogue.tms g.catalogue.dms (T t) o.0) due
 act_linked g log (D d) act w f l p o due = d_linked g d log act w f l (site_here g.catalogue.tms g.catalogue.dms (D d) o.0) due

@@ -1,6 +1,6 @@
 -- The clocks of a run whose schedule has few events, and that has few attempts: ticks come from the schedule alone, and each
 -- Start is an attempt.
-use Rattle.sdd_obligations.proofs.All.{Act, AllFewTicks, Bool, Call, Deliver, Does, Down, Event, Given, Hand, History, IsLawful, IsSmall, List, Log, Lose, MAX_EVENTS, MAX_TICKS, Mark, Msg, None, Notes, Nothing, Rec, Records, Redeclare, Redeclares, Repeat, Resend, Round, Settle, Site, Some, Start, Submission, Submit, Submitted, Tick, Up, [], after_mark, all_links, ap, arith, attempt_of, attempts, calls_of, clock, cond, cons_option, false, filter_map, flat_map, from_event, height, history, in_flight, left, length, link, local_of, map, mark_from, mark_is_next, mark_of, marks, mul-le-mul_right, placed, quiet, records_of_act, refl, replicate, resends_now, round, starts_by, subst, suc, suc-mul, tail_of, ticks_of, trans_le, true, txn_no, zero, ℕ, ◌*◌, ◌++◌, ◌+◌, ◌<◌, ◌^◌, ◌∙◌, ◌∷◌, ◌≡◌, ◌≤◌}
+use Rattle.sdd_obligations.proofs.All.{Act, AllFewTicks, Bool, Call, Deliver, Does, Down, Event, Given, History, IsLawful, IsSmall, List, Log, Lose, MAX_EVENTS, MAX_TICKS, Mark, Msg, None, Notes, Nothing, Rec, Records, Redeclares, Repeat, Resend, Round, Settle, Site, Some, Start, Submission, Submit, Submitted, Tick, Up, [], after_mark, all_links, ap, arith, attempt_of, attempts, calls_of, clock, cond, cons_option, false, filter_map, flat_map, from_event, height, history, in_flight, left, length, link, local_of, map, mark_from, mark_is_next, mark_of, marks, mul-le-mul_right, placed, quiet, records_of_act, refl, replicate, resends_now, round, starts_by, subst, suc, suc-mul, tail_of, ticks_of, trans_le, true, txn_no, zero, ℕ, ◌*◌, ◌++◌, ◌+◌, ◌<◌, ◌^◌, ◌∙◌, ◌∷◌, ◌≡◌, ◌≤◌}
 use Rattle.sdd_obligations.proofs.Early.{is_under}
 use Rattle.sdd_obligations.proofs.OfNext.{of_next}
 use Rattle.sdd_laws.specs.All.{Attempt}
@@ -131,8 +131,7 @@ one_attempt k r found = omega arith
 
 attempts_count : (k : ℕ) (h : History) → length (filter_map attempt_of (placed k h)) ≡ starts_in h
 attempts_count k [] = refl
-attempts_count k (e ∷ h) =
-    one_attempt k e.1 (filter_map attempt_of (placed (suc k) h)) ∙ ap (λ n. start_of e.1 + n) (attempts_count (suc k) h)
+attempts_count k (e ∷ h) = one_attempt k e.1 (filter_map attempt_of (placed (suc k) h)) ∙ ap (λ n. start_of e.1 + n) (attempts_count (suc k) h)
 
 starts_join : (h more : History) → starts_in (h ++ more) ≡ starts_in h + starts_in more
 starts_join [] more = omega arith
@@ -152,8 +151,7 @@ starts_are : (log : Log) → starts_in (history log) ≡ log_starts log
 starts_are [] = refl
 starts_are (Submitted at n ∷ log) =
     no_more _ (starts_in (history log)) (log_starts log) (starts_join (history log) ((marks log, Submission (txn_no n)) ∷ [])) (starts_are log)
-starts_are (Notes ∷ log) =
-    no_more _ (starts_in (history log)) (log_starts log) (starts_join (history log) ((marks log, Nothing) ∷ [])) (starts_are log)
+starts_are (Notes ∷ log) = no_more _ (starts_in (history log)) (log_starts log) (starts_join (history log) ((marks log, Nothing) ∷ [])) (starts_are log)
 starts_are (Does at act ∷ log) =
     more_starts _ (starts_in (history log)) (log_starts log) _ (starts_by act)
     (starts_join (history log) (map (λ r. (marks log, r)) (records_of_act act))) (act_starts (marks log) act) (starts_are log)
@@ -170,5 +168,4 @@ clock_low g log at s l events few =
     let ticks = trans_le (all_ticks g.events) _ _ (ticks_few g.events s.few_ticks) (mul-le-mul_right MAX_TICKS events) in
     let starts = attempts_count 0 (history log) ∙ starts_are log in
     low (clock at (local_of g at log)).ticks (height log) (log_ticks log) (log_starts log) (all_ticks (left g.events log).0) (all_ticks g.events)
-    ((is_under g log s l).clocks at) (height_is log) (ticks_left g log s.few_ticks l).0 ticks
-    (subst (λ n. n ≤ 2 ^ 22) starts few)
+    ((is_under g log s l).clocks at) (height_is log) (ticks_left g log s.few_ticks l).0 ticks (subst (λ n. n ≤ 2 ^ 22) starts few)

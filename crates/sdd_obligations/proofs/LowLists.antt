@@ -36,18 +36,15 @@ cons_cond : (k : ℕ) (o : Option Cond) (ds : List Cond) → IsEarlyCond k o →
 cons_cond k None ds i h = h
 cons_cond k (Some d) ds i h = (i, h)
 
-pub conds_le : (k : ℕ) (f : ℕ → Option Cond) (cs : List ℕ) → ((c : ℕ) → IsEarlyCond k (f c))
-    → AllLe k (map (λ (d : Cond). d.time.0) (filter_map f cs))
+pub conds_le : (k : ℕ) (f : ℕ → Option Cond) (cs : List ℕ) → ((c : ℕ) → IsEarlyCond k (f c)) → AllLe k (map (λ (d : Cond). d.time.0) (filter_map f cs))
 conds_le k f [] h = tt
 conds_le k f (c ∷ cs) h = cons_cond k (f c) (filter_map f cs) (h c) (conds_le k f cs h)
 
-pub conds_all_le : (k : ℕ) (f : ℕ → Cond) (cs : List ℕ) → ((c : ℕ) → (f c).time.0 ≤ k)
-    → AllLe k (map (λ (d : Cond). d.time.0) (map f cs))
+pub conds_all_le : (k : ℕ) (f : ℕ → Cond) (cs : List ℕ) → ((c : ℕ) → (f c).time.0 ≤ k) → AllLe k (map (λ (d : Cond). d.time.0) (map f cs))
 conds_all_le k f [] h = tt
 conds_all_le k f (c ∷ cs) h = (h c, conds_all_le k f cs h)
 
-pub cond_le_at : (k : ℕ) (ds : List Cond) (n : ℕ) (d : Cond) → AllLe k (map (λ (d : Cond). d.time.0) ds) → slice_get ds n ≡ Some d
-    → d.time.0 ≤ k
+pub cond_le_at : (k : ℕ) (ds : List Cond) (n : ℕ) (d : Cond) → AllLe k (map (λ (d : Cond). d.time.0) ds) → slice_get ds n ≡ Some d → d.time.0 ≤ k
 cond_le_at k [] n d h e = cc
 cond_le_at k (x ∷ ds) zero d h e = let p : x ≡ d = cc in subst (λ (y : Cond). y.time.0 ≤ k) p h.0
 cond_le_at k (x ∷ ds) (suc n) d h e = cond_le_at k ds n d h.1 e

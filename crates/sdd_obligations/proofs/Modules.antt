@@ -44,8 +44,7 @@ none_above : (m : Msg) (d : ℕ) (ds : List ℕ) → AllGt d ds → to_module d 
 none_above m d [] h = refl
 none_above m d (x ∷ ds) h = rw (below_not d x h.0) (none_above m d ds h.1)
 
-pub one_to_each : (m : Msg) (ds : List ℕ) (d : ℕ) → IsStrict ds
-    → to_module d (to_all m ds) ≡ (if contains ds d then m ∷ [] else [])
+pub one_to_each : (m : Msg) (ds : List ℕ) (d : ℕ) → IsStrict ds → to_module d (to_all m ds) ≡ (if contains ds d then m ∷ [] else [])
 one_to_each m [] d h = refl
 one_to_each m (x ∷ ds) d h = elim (same_or_not d x) [
   | inl p ↦ subst (λ y. to_module y (to_all m (x ∷ ds)) ≡ (if contains (x ∷ ds) y then m ∷ [] else []))
@@ -53,8 +52,7 @@ one_to_each m (x ∷ ds) d h = elim (same_or_not d x) [
   | inr p ↦ rw (p, not_same d x p) (one_to_each m ds d h.1)
 ]
 
-none_sent_above : (f : ℕ → Msg) (d : ℕ) (ds : List ℕ) → AllGt d ds
-    → to_site (D (dm_no d)) (map (λ d. (D (dm_no d), f d)) ds) ≡ []
+none_sent_above : (f : ℕ → Msg) (d : ℕ) (ds : List ℕ) → AllGt d ds → to_site (D (dm_no d)) (map (λ d. (D (dm_no d), f d)) ds) ≡ []
 none_sent_above f d [] h = refl
 none_sent_above f d (x ∷ ds) h = rw (below_not d x h.0) (none_sent_above f d ds h.1)
 
@@ -62,8 +60,7 @@ pub sent_to_each : (f : ℕ → Msg) (ds : List ℕ) (d : ℕ) → IsStrict ds
     → to_site (D (dm_no d)) (map (λ d. (D (dm_no d), f d)) ds) ≡ (if contains ds d then f d ∷ [] else [])
 sent_to_each f [] d h = refl
 sent_to_each f (x ∷ ds) d h = elim (same_or_not d x) [
-  | inl p ↦ subst (λ y. to_site (D (dm_no y)) (map (λ d. (D (dm_no d), f d)) (x ∷ ds)) ≡ (if contains
-      (x ∷ ds) y then f y ∷ [] else [])) (sym p)
+  | inl p ↦ subst (λ y. to_site (D (dm_no y)) (map (λ d. (D (dm_no d), f d)) (x ∷ ds)) ≡ (if contains (x ∷ ds) y then f y ∷ [] else [])) (sym p)
       (rw (same_number x) (ap (λ l. f x ∷ l) (none_sent_above f x ds h.0)))
   | inr p ↦ rw (p, not_same d x p) (sent_to_each f ds d h.1)
 ]
@@ -100,13 +97,11 @@ kept_none true ns e = cc
 kept_none false [] e = refl
 kept_none false (n ∷ ns) e = kept_none false ns refl
 
-reads_here : (d u : ℕ) (m : ℕ × List ℕ) → (m.0 == d) ≡ true → contains m.1 u ≡ true
-    → contains (filter (λ (u : ℕ). m.0 == d) m.1) u ≡ true
+reads_here : (d u : ℕ) (m : ℕ × List ℕ) → (m.0 == d) ≡ true → contains m.1 u ≡ true → contains (filter (λ (u : ℕ). m.0 == d) m.1) u ≡ true
 reads_here d u m e f = subst (λ l. contains l u ≡ true) (sym (kept_all (m.0 == d) m.1 e)) f
 
 -- a module that reads a use is one of them, and the use is one of those that are read there
-pub reading_reads : (ms : List (ℕ × List ℕ)) (u d : ℕ) → contains (reading ms u) d ≡ true
-    → (contains (firsts ms) d ≡ true) × (contains (uses_at ms d) u ≡ true)
+pub reading_reads : (ms : List (ℕ × List ℕ)) (u d : ℕ) → contains (reading ms u) d ≡ true → (contains (firsts ms) d ≡ true) × (contains (uses_at ms d) u ≡ true)
 reading_reads [] u d e = cc
 reading_reads (m ∷ ms) u d e =
     elim (contains m.1 u) as (λ b. contains m.1 u ≡ b
@@ -137,8 +132,7 @@ pub read_firsts : (f : ℕ → Msg) (nums : ℕ → List ℕ) (ds : List ℕ) �
 read_firsts f nums [] g = refl
 read_firsts f nums (d ∷ ds) g = rw (g d) (ap (λ l. d ∷ l) (read_firsts f nums ds g))
 
-none_read_above : (f : ℕ → Msg) (nums : ℕ → List ℕ) (d : ℕ) (ds : List ℕ) → TellsUses f nums → AllGt d ds
-    → uses_at (read_modules f ds) d ≡ []
+none_read_above : (f : ℕ → Msg) (nums : ℕ → List ℕ) (d : ℕ) (ds : List ℕ) → TellsUses f nums → AllGt d ds → uses_at (read_modules f ds) d ≡ []
 none_read_above f nums d [] g h = refl
 none_read_above f nums d (x ∷ ds) g h =
     rw (g x) (ap (λ l. l ++ uses_at (read_modules f ds) d) (kept_none (x == d) (nums x) (not_same d x (below_not d x h.0))) ∙ none_read_above f nums d ds g h.1)

@@ -1,5 +1,5 @@
 -- An attempt sends to data modules of the catalogue alone.
-use Rattle.sdd_obligations.proofs.All.{Act, All, All-get_or, All-nil, Asking, Attempt, Bool, Catalogue, Class, D, Did, Each, Equal, Exchange, Fetching, Greater, Handed, IsFair, IsServedClass, IsStep, IsWhole, Less, List, Move, Msg, None, Option, Over, Phase, Queued, ReadPlace, Reading, Ready, Redeclared, Reduced, Reducing, Rows, Setting, Shipping, Site, Some, Step, Submits, T, Ticked, U, Values, [], active, active_handed, active_sent, after_hand, after_send, answered, arith, ascending, asks_rows, class_at, cond, cons_option, contains, counted, counts_for, dec_le, dm_no, false, fetches, fetches_from, filter_map, find, fold, found_in_all, get_or_past, goes_on, head_of, if_way, if◌then◌else◌, inl, inr, insert_key, lacking, length, lower_same_higher, map, module_read, modules_asked, modules_of, move_at, nat_cmp, nat_cmp_is, next_move, next_stamp, numbers_to, option_map, phase_ends, queue, range_with_len, reads_at, reduces, refl, rejects, sends_of_act, ships, start_at, start_read, started, step_way, subst, suc, sym, tail_of, tm_no, to_all, true, with_use, with_values, without, zero, ℕ, ◌&&◌, ◌++◌, ◌+◌, ◌-◌, ◌==◌, ◌∷◌, ◌≡◌, ◌≤◌}
+use Rattle.sdd_obligations.proofs.All.{Act, All, All-get_or, All-nil, Asking, Attempt, Bool, Catalogue, Class, D, Did, Each, Equal, Exchange, Fetching, Greater, Handed, IsFair, IsServedClass, IsStep, IsWhole, Less, List, Move, Msg, None, Option, Over, Phase, Queued, ReadPlace, Ready, Reduced, Rows, Setting, Shipping, Site, Some, Step, Values, [], active, active_handed, active_sent, after_hand, after_send, answered, arith, ascending, asks_rows, class_at, cond, cons_option, contains, counted, counts_for, dec_le, dm_no, false, fetches, fetches_from, filter_map, find, fold, found_in_all, get_or_past, goes_on, head_of, if_way, if◌then◌else◌, inl, inr, insert_key, lacking, length, lower_same_higher, map, module_read, modules_asked, modules_of, move_at, nat_cmp, nat_cmp_is, next_move, next_stamp, numbers_to, option_map, phase_ends, queue, range_with_len, reads_at, reduces, refl, rejects, sends_of_act, ships, start_at, start_read, started, step_way, subst, suc, sym, tail_of, tm_no, to_all, true, with_use, with_values, without, zero, ℕ, ◌&&◌, ◌++◌, ◌+◌, ◌-◌, ◌==◌, ◌∷◌, ◌≡◌, ◌≤◌}
 use Rattle.sdd_invariants.specs.catalog.Numbers.{IsServed}
 use Rattle.sdd_invariants.specs.site_module.SiteLog.{Log}
 
@@ -44,8 +44,7 @@ firsts_near n [] h = tt
 firsts_near n (m ∷ ms) h = (h.0, firsts_near n ms h.1)
 
 reduces_near : (n ts c : ℕ) (m : Move) (x : Exchange) → IsNearBy n x → IsNearBy n (reduces ts c m x)
-reduces_near n ts c m x h =
-    record { modules = h.modules; sends = to_near n _ (with_use x m.target.part) (use_near n m.target.part x.modules h.modules) }
+reduces_near n ts c m x h = record { modules = h.modules; sends = to_near n _ (with_use x m.target.part) (use_near n m.target.part x.modules h.modules) }
 
 fetches_near : (n ts c : ℕ) (m : Move) (x : Exchange) (ds : List ℕ) → AllNear n ds → IsNearBy n x → IsNearBy n (fetches_from ts c m x ds)
 fetches_near n ts c m x [] k h = reduces_near n ts c m (record x { union = [] }) (record { modules = h.modules; sends = h.sends })
@@ -67,10 +66,7 @@ on_near n ts c x (q ∷ rest) done h =
         left = q ∷ rest;
         done = done ++ m.step ∷ [];
       }) (with_use x (move_at q.before m).source.part)
-          (use_near n (move_at q.before m).source.part x.modules h.modules) (record {
-            modules = h.modules;
-            sends = h.sends;
-          })
+          (use_near n (move_at q.before m).source.part x.modules h.modules) (record { modules = h.modules; sends = h.sends })
     ]
 
 ends_near : (n ts c : ℕ) (x : Exchange) (p : Phase) → IsNearBy n x → IsNearBy n (phase_ends ts c x p)
@@ -92,10 +88,7 @@ hand_near n ts c d (Ready t k counts) x h =
     answered_near n ts c d ((t.0 == ts) && (k.0 == c)) x (record x { counts = counted d counts x.counts }) h
     (record { modules = h.modules; sends = h.sends })
 hand_near n ts c d (Values t k u vs) x h =
-    answered_near n ts c d ((t.0 == ts) && (k.0 == c)) x (record x {
-      union = with_values x.union vs;
-      values = x.values + length vs;
-    }) h (record {
+    answered_near n ts c d ((t.0 == ts) && (k.0 == c)) x (record x { union = with_values x.union vs; values = x.values + length vs }) h (record {
       modules = h.modules;
       sends = h.sends;
     })
@@ -204,11 +197,9 @@ act_near : (s : Setting) (c : ℕ) (log : Log) (act : Act) → IsWhole s.catalog
     → HasNear s.catalogue.dms (active s c (Did act ∷ log))
 act_near s c log act w i h = step_way s log act (λ x. HasNear s.catalogue.dms (active s c (Did x ∷ log)))
     (λ k q at f e. if_way (HasNear s.catalogue.dms) (k ==
-    c) (started (next_stamp s log) (sends_of_act (start_at s k log q)) (head_of (queue s c log)))
-    (active s c log)
+    c) (started (next_stamp s log) (sends_of_act (start_at s k log q)) (head_of (queue s c log))) (active s c log)
     (started_near s.catalogue.dms (next_stamp s log) (sends_of_act (start_at s k log q))
-    (head_of (queue s c log)) (reads_near s.catalogue.dms s k log q (modules_asked s k q.text)
-    (modules_near s.catalogue k _ w))) h)
+    (head_of (queue s c log)) (reads_near s.catalogue.dms s k log q (modules_asked s k q.text) (modules_near s.catalogue k _ w))) h)
     (λ k bases a at f. if_way (HasNear s.catalogue.dms) (k == c) None (active s c log) tt h)
     (λ to m hand f. send_near s.catalogue.dms c m (active s c log) h) i
 

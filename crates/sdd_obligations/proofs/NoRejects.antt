@@ -40,8 +40,7 @@ zero_source s j l e = home_zero s.catalogue j (e ∙ source_is_home s j (omega (
 
 kept_place : (f : ℕ → Bool) (xs : List ℕ) (i x : ℕ) → slice_get xs i ≡ Some x → f x ≡ true → (j : ℕ) × (slice_get (filter f xs) j ≡ Some x)
 kept_place f [] i x e h = cc
-kept_place f (y ∷ xs) zero x e h =
-    let p : y ≡ x = cc in let q : f y ≡ true = subst (λ z. f z ≡ true) (sym p) h in (0, rw q e)
+kept_place f (y ∷ xs) zero x e h = let p : y ≡ x = cc in let q : f y ≡ true = subst (λ z. f z ≡ true) (sym p) h in (0, rw q e)
 kept_place f (y ∷ xs) (suc i) x e h =
     let k = kept_place f xs i x e h in
     elim (f y) as (λ b. (j : ℕ) × (slice_get (cond b (y ∷ filter f xs) (filter f xs)) j ≡ Some x)) [ true ↦ (suc k.0, k.1) | false ↦ k ]
@@ -50,8 +49,7 @@ runs_place : (g : Given) (c : ℕ) → 1 ≤ c → c ≤ length g.catalogue.clas
     → (j : ℕ) × (slice_get (runs (setting_of g (T (tm_no (class_at g.catalogue c).tm.0)))) j ≡ Some c)
 runs_place g c l m =
     kept_place (λ k. (class_at g.catalogue k).tm.0 == (class_at g.catalogue c).tm.0)
-    (numbers_to (length g.catalogue.classes)) (c - 1) c (at_place (length g.catalogue.classes) c l m)
-    (same_number (class_at g.catalogue c).tm.0)
+    (numbers_to (length g.catalogue.classes)) (c - 1) c (at_place (length g.catalogue.classes) c l m) (same_number (class_at g.catalogue c).tm.0)
 
 class_served : (cat : Catalogue) (c : ℕ) → IsWhole cat → 1 ≤ c → c ≤ length cat.classes → IsServedClass cat (class_at cat c)
 class_served cat c w l m = All-get_or (IsServedClass cat) cat.classes (c - 1) (record {
@@ -78,8 +76,7 @@ not_spoilt g d log ts k txn n ds us q w l m h e f =
     let hm : home g.catalogue q.class.0 ≡ T (tm_no t) = rw (not_zero q.class.0 c.0) refl in
     let a = s.module_to in let b = w.few_tms in
     let no = never_spoilt g (t - 1) t p.0 (d.0 - 1) i.1 d log ts k txn n ds us q h
-    (at_place g.catalogue.tms t s.module_from s.module_to) p.1 (omega (arith, a, b)) hm
-    (at_place g.catalogue.dms d.0 l m) e i.2 in
+    (at_place g.catalogue.tms t s.module_from s.module_to) p.1 (omega (arith, a, b)) hm (at_place g.catalogue.dms d.0 l m) e i.2 in
     not_both (spoils v q) i.0 no
 
 pub u_not_rejected : (g : Given) (d : DmNo) (log : Log) (n : ℕ) (ts : Ts) (k by_class : ClassNo) (write : Ts) → IsWhole g.catalogue → 1 ≤ d.0

@@ -61,8 +61,7 @@ of_events : (g : Given) (log : Log) (q : Bool) (ws : List Event) (e : Entry) →
     → mark_from g log q (round (all_links g) (calls_of log)) ws ≡ Some e → OfNext g log e
 of_events g log q [] e f p = cc
 of_events g log true (Settle ∷ ws) e f p = of_events g log true ws e f.1 p
-of_events g log true (Redeclare ∷ ws) e f p =
-    let s : Redeclares (greatest_bound g log) ≡ e = cc in subst (OfNext g log) s refl
+of_events g log true (Redeclare ∷ ws) e f p = let s : Redeclares (greatest_bound g log) ≡ e = cc in subst (OfNext g log) s refl
 of_events g log q (Submit n ∷ ws) e f p = some_mark g log (Submit n) e f.0 p
 of_events g log q (Deliver a b k ∷ ws) e f p = some_mark g log (Deliver a b k) e f.0 p
 of_events g log q (Lose a b k ∷ ws) e f p = some_mark g log (Lose a b k) e f.0 p
@@ -71,8 +70,7 @@ of_events g log q (Resend a b ∷ ws) e f p = some_mark g log (Resend a b) e f.0
 of_events g log q (Tick t n ∷ ws) e f p = some_mark g log (Tick t n) e f.0 p
 of_events g log q (Down d ∷ ws) e f p = some_mark g log (Down d) e f.0 p
 of_events g log q (Up d ∷ ws) e f p = some_mark g log (Up d) e f.0 p
-of_events g log false (_ ∷ ws) e f p =
-    let s : Round (round (all_links g) (calls_of log)) ≡ e = cc in subst (OfNext g log) s refl
+of_events g log false (_ ∷ ws) e f p = let s : Round (round (all_links g) (calls_of log)) ≡ e = cc in subst (OfNext g log) s refl
 
 -- the events that are left tick few times
 
@@ -129,8 +127,7 @@ next_is g log e f p =
     g log r.1 (next_at g log r.1) e (r.0, r.2) refl r.3)
     (one_of (OfNext g log e) (hand_due g log) _ e
     (λ q. let r = found_at (hand_on log) (all_links g) e q in of_link g log r.1.0 r.1.1
-    (takes_part r.1.1 log) (next_number (handed r.1.0 r.1.1 log)
-    (delivered (link_of r.1.0 r.1.1 log).there)) e (r.0, r.2) r.3)
+    (takes_part r.1.1 log) (next_number (handed r.1.0 r.1.1 log) (delivered (link_of r.1.0 r.1.1 log).there)) e (r.0, r.2) r.3)
     (λ q. of_left g log (left g.events log) e f q))) p
 
 few_left : (g : Given) (log : Log) → AllFewTicks g.events → IsLawful g log → AreFewLeft (left g.events log)
@@ -178,14 +175,12 @@ pub site_there : (tms dms : ℕ) (at : Site) → is_site tms dms at ≡ true →
 site_there tms dms U e = (0, refl)
 site_there tms dms (T t) e =
     let i = there_in tms t.0 e in
-    let p = in_left (map (λ n. T (tm_no n)) (range_with_len 1 tms))
-    (map (λ n. D (dm_no n)) (range_with_len 1 dms)) i.0 (T t)
+    let p = in_left (map (λ n. T (tm_no n)) (range_with_len 1 tms)) (map (λ n. D (dm_no n)) (range_with_len 1 dms)) i.0 (T t)
     (at_map (λ n. T (tm_no n)) (range_with_len 1 tms) i.0 t.0 i.1) in
     (suc i.0, p)
 site_there tms dms (D d) e =
     let i = there_in dms d.0 e in
-    let p = in_right (map (λ n. T (tm_no n)) (range_with_len 1 tms))
-    (map (λ n. D (dm_no n)) (range_with_len 1 dms)) i.0 (D d)
+    let p = in_right (map (λ n. T (tm_no n)) (range_with_len 1 tms)) (map (λ n. D (dm_no n)) (range_with_len 1 dms)) i.0 (D d)
     (at_map (λ n. D (dm_no n)) (range_with_len 1 dms) i.0 d.0 i.1) in
     (suc p.0, p.1)
 

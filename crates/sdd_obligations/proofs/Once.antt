@@ -12,8 +12,7 @@ module _ (ds : List ℕ) (statements : List Stmt) (asked : ℕ → ℕ → Bool)
   runs_once space stage (reduces {space = before} m union r at here elsewhere) = λ d.
       elim (same_or_not d at) [
         | inl p ↦ subst (λ n. KeepsOnce (space n)) (sym p)
-            (subst KeepsOnce (sym here) (reduced_once m.target.part m.target.column union (before at)
-            (runs_once before (Reducing m union) r at)))
+            (subst KeepsOnce (sym here) (reduced_once m.target.part m.target.column union (before at) (runs_once before (Reducing m union) r at)))
         | inr p ↦ subst KeepsOnce (sym (elsewhere d (λ e. differ d at p e))) (runs_once before (Reducing m union) r d)
       ]
   runs_once space stage (rests m union r) = runs_once space (Reducing m union) r

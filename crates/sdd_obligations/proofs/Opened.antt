@@ -1,5 +1,5 @@
 -- The messages that a data module has still to answer came by different hands; and lists of them.
-use Rattle.sdd_obligations.proofs.All.{Act, AllGt, AllLe, Arrive, Bool, Did, Handed, IsStrict, List, Msg, Open, Option, Records, Redeclared, Sends, Site, Some, Submits, Ticked, [], ap, arith, class_asked, cond, false, filter, hands, if◌then◌else◌, is_some, le_join, le_up, lt_above, map, not_both, opens, opens_acted, refl, slice_get, strict_push, subst, suc, sym, true, zero, ℕ, ◌++◌, ◌<◌, ◌∙◌, ◌∷◌, ◌≡◌}
+use Rattle.sdd_obligations.proofs.All.{Act, AllGt, AllLe, Arrive, Bool, Did, Handed, IsStrict, List, Msg, Open, Option, Records, Sends, Site, Some, [], ap, arith, class_asked, cond, false, filter, hands, if◌then◌else◌, is_some, le_join, le_up, lt_above, map, not_both, opens, opens_acted, refl, slice_get, strict_push, subst, suc, sym, true, zero, ℕ, ◌++◌, ◌<◌, ◌∙◌, ◌∷◌, ◌≡◌}
 use Rattle.sdd_invariants.specs.site_module.SiteLog.{Log}
 
 abbrev pub hands_in : List Open → List ℕ
@@ -69,8 +69,7 @@ gt_at k (x ∷ os) zero p h e = let q : x ≡ p = cc in subst (λ (y : Open). k 
 gt_at k (x ∷ os) (suc j) p h e = gt_at k os j p h.1 e
 
 -- one hand, one message
-pub one_hand : (os : List Open) (i j : ℕ) (o p : Open) → IsStrict (hands_in os) → slice_get os i ≡ Some o → slice_get os j ≡ Some p
-    → o.hand ≡ p.hand → o ≡ p
+pub one_hand : (os : List Open) (i j : ℕ) (o p : Open) → IsStrict (hands_in os) → slice_get os i ≡ Some o → slice_get os j ≡ Some p → o.hand ≡ p.hand → o ≡ p
 one_hand [] i j o p h e f g = cc
 one_hand (x ∷ os) zero zero o p h e f g = let q : ◌≡◌ {A = Option Open} (Some o) (Some p) = sym e ∙ f in cc
 one_hand (x ∷ os) zero (suc j) o p h e f g =
@@ -119,8 +118,7 @@ sift_swap p q (x ∷ xs) =
       ] refl
     ] refl
 
-pub sift_has : {A : Type 0} (p : A → Bool) (xs : List A) (j : ℕ) (x : A) → slice_get xs j ≡ Some x → p x ≡ true
-    → (i : ℕ) × (slice_get (filter p xs) i ≡ Some x)
+pub sift_has : {A : Type 0} (p : A → Bool) (xs : List A) (j : ℕ) (x : A) → slice_get xs j ≡ Some x → p x ≡ true → (i : ℕ) × (slice_get (filter p xs) i ≡ Some x)
 sift_has p [] j x e f = cc
 sift_has {A = A} p (y ∷ xs) zero x e f =
     let q : ◌≡◌ {A = A} y x = cc in

@@ -19,8 +19,7 @@ source_is_home s (suc c) l =
     let e : suc c - 1 ≡ c = omega arith in
     rw (z, e) (source_at s.catalogue.classes c (omega (arith, l)))
 
-class_fits : (g : Given) (d : DmNo) (from : Site) (c : ℕ) → home g.catalogue c ≡ from → c ≤ length g.catalogue.classes
-    → FitsClass (setting_of g (D d)) from c
+class_fits : (g : Given) (d : DmNo) (from : Site) (c : ℕ) → home g.catalogue c ≡ from → c ≤ length g.catalogue.classes → FitsClass (setting_of g (D d)) from c
 class_fits g d from c e l = record { is_class = l; home = sym e ∙ sym (source_is_home (setting_of g (D d)) c l) }
 
 -- no time before it is later

@@ -83,8 +83,7 @@ twice g sound d log ts h y z b k txn attempt dm sends e at =
     let r = read_at_head ts (head (pipe y.class y.before)) y.at in
     let hd1 : head (pipe_at g k d px.rest) ≡ Some (Read x.t x.of x.txn x.attempt x.conds x.uses) = ap (λ l. head (pipe k l)) px.local_is ∙ x.is in
     let hd2 : head (pipe_at g y.class d whole) ≡ Some (Read r.t r.of r.txn r.attempt r.conds r.uses) =
-    ap (λ l. head (pipe_at g y.class d l)) (sym px.is) ∙ ap (λ l. head (pipe y.class l)) py.local_is
-    ∙ r.is in
+    ap (λ l. head (pipe_at g y.class d l)) (sym px.is) ∙ ap (λ l. head (pipe y.class l)) py.local_is ∙ r.is in
     let o1 = (read_of g k d px.rest x.t x.of x.txn x.attempt x.conds x.uses hx hd1).1 in
     let o2 = (read_of g y.class d whole r.t r.of r.txn r.attempt r.conds r.uses hw hd2).1 in
     let n1 : k ≤ length g.catalogue.classes = class_here g d py.rest z b k txn attempt dm sends hy (py.local_is ∙ e) in
@@ -92,16 +91,14 @@ twice g sound d log ts h y z b k txn attempt dm sends e at =
     let whole_is : front ++ px.rest ≡ whole = append_assoc px.later (Does (D d) first ∷ []) px.rest in
     let s1 : IsReadOf g whole k x.txn.0 x.attempt ts =
     subst (λ t. IsReadOf g whole k x.txn.0 x.attempt t) x.ts_is
-    (subst (λ l. IsReadOf g l k x.txn.0 x.attempt x.t.0) whole_is
-    (read_later g k front px.rest x.txn.0 x.attempt x.t.0 o1)) in
+    (subst (λ l. IsReadOf g l k x.txn.0 x.attempt x.t.0) whole_is (read_later g k front px.rest x.txn.0 x.attempt x.t.0 o1)) in
     let s2 : IsReadOf g whole y.class r.txn.0 r.attempt ts = subst (λ t. IsReadOf g whole y.class r.txn.0 r.attempt t) r.ts_is o2 in
     let same : k ≡ y.class = (one_start g sound k y.class whole ts s1.queued s2.queued n1 n2
     (start_here g k whole x.txn.0 x.attempt ts s1) (start_here g y.class whole r.txn.0 r.attempt ts s2)).0
     in
     let hd3 : head (pipe_at g k d whole) ≡ Some (Read r.t r.of r.txn r.attempt r.conds r.uses) = ap (λ j. head (pipe_at g j d whole)) same ∙ hd2 in
     answered_there g k d px.later px.rest dm sends x.t r.t x.of r.of txn x.txn r.txn attempt x.attempt
-    r.attempt x.conds r.conds x.uses r.uses hw (small_home g.catalogue sound k n1) hd1 hd3 (x.ts_is
-    ∙ sym r.ts_is)
+    r.attempt x.conds r.conds x.uses r.uses hw (small_home g.catalogue sound k n1) hd1 hd3 (x.ts_is ∙ sym r.ts_is)
 
 pub one_answer : (g : Given) → IsSound g.catalogue → (d : DmNo) (log : Log) (ts : ℕ) → IsPermitted g log
     → (x y : IsAnswerAt ts (local_of g (D d) log)) → (x.before ≡ y.before) × (x.class ≡ y.class)

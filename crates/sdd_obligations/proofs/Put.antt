@@ -1,6 +1,6 @@
 -- The WRITEs that are put on links have changes of items, and the databases of snapshots are databases: each of these
 -- follows from the other one, a step of the log earlier.
-use Rattle.sdd_obligations.proofs.All.{Act, AreWritten, Attempt, Bases, Change, D, Did, DmNo, Does, Each, Entry, FitsGiven, FitsText, Given, Hand, Handed, IsAllowed, IsBased, IsDatabase, IsEntry, IsFair, IsNew, IsPermitted, IsPutBy, IsPutByD, IsSound, IsStep, IsWrite, List, Log, Msg, None, Option, Redeclared, Setting, Site, Some, Submits, T, Ticked, U, Write, [], all_new, allowed_act, allowed_hand, ap, base_of, changes_at, commit_act, commit_put_is, dm_no, effect, flat_map, local_of, local_step, made, maker, message_at, numbers_to, own_act, place_of_act, put_by_d, refl, sends_of_act, sent_is, setting_of, slice_get, snapshots_at, subst, sym, t_commit, t_fair, to_site, u_commit, u_fair, was_put, with_made, ℕ, ◌++◌, ◌-◌, ◌∙◌, ◌∷◌, ◌≡◌}
+use Rattle.sdd_obligations.proofs.All.{Act, AreWritten, Attempt, Bases, Change, D, DmNo, Does, Each, Entry, FitsGiven, FitsText, Given, Hand, Handed, IsAllowed, IsBased, IsDatabase, IsEntry, IsFair, IsNew, IsPermitted, IsPutBy, IsPutByD, IsSound, IsStep, IsWrite, List, Log, Msg, None, Option, Setting, Site, Some, T, U, Write, [], all_new, allowed_act, allowed_hand, ap, base_of, changes_at, commit_act, commit_put_is, dm_no, effect, flat_map, local_of, local_step, made, maker, message_at, numbers_to, own_act, place_of_act, put_by_d, refl, sends_of_act, sent_is, setting_of, slice_get, snapshots_at, subst, sym, t_commit, t_fair, to_site, u_commit, u_fair, was_put, with_made, ℕ, ◌++◌, ◌-◌, ◌∙◌, ◌∷◌, ◌≡◌}
 use Rattle.sdd_obligations.proofs.Changes.{effect_written}
 use Rattle.sdd_obligations.proofs.Entries.{all_gathered, entries_make_one}
 use Rattle.sdd_obligations.proofs.EffectsHeld.{FitsMsg, HandFits, snapshot_entries}
@@ -63,12 +63,10 @@ act_fits g good log U act h are =
 act_fits g good log (T t) act h are =
     let step = (subst (λ l. Each (IsFair (setting_of g (T t))) l) (own_act g (T t) act log) (t_fair g t (Does (T t) act ∷ log) h)).0 in
     step_fits (setting_of g (T t)) good.sound (base_of g log) are (local_of g (T t) log)
-    (t_fair g t log h.1) (all_new g (T t) log h.1) (λ c. submitted_fit g good (T t) c log h.1) act step
-    (t_commit g t log act h)
+    (t_fair g t log h.1) (all_new g (T t) log h.1) (λ c. submitted_fit g good (T t) c log h.1) act step (t_commit g t log act h)
 act_fits g good log (D b) act h are = λ d k m e.
     not_by_d (setting_of g (D b)) (local_of g (D b) log) (D d) act d.0 m
-    (put_by_d (setting_of g (D b)) (local_of g (D b) log) act (allowed_act g log (Does (D b) act) h.0)
-    (D d) k m e)
+    (put_by_d (setting_of g (D b)) (local_of g (D b) log) act (allowed_act g log (Does (D b) act) h.0) (D d) k m e)
 
 -- what is handed over was put
 

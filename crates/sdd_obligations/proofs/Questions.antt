@@ -1,5 +1,5 @@
 -- The questions that an exchange puts are those of its phase.
-use Rattle.sdd_obligations.proofs.All.{AllByRecursion, Asking, Asks, AsksPhase, Bool, Exchange, Fetch, Fetching, List, MayAnswer, Move, Msg, None, Over, Phase, Read, Reading, Ready, Reduce, Reduced, Reducing, Refused, Reject, Replies, Rows, Ship, Shipping, Silent, Some, Step, Told, Turn, Value, Values, [], after_hand, answered, ap, contains, counted, counts_for, false, fetches, fetches_from, goes_on, if◌then◌else◌, is_a_refusal, is_answer, lacking, length, map, move_at, next_move, phase_ends, question, question_of, reduces, refl, subst, sym, to_all, told, true, with_use, with_values, without, ℕ, ◌&&◌, ◌++◌, ◌+◌, ◌==◌, ◌∙◌, ◌∷◌, ◌≡◌}
+use Rattle.sdd_obligations.proofs.All.{AllByRecursion, Asking, Asks, AsksPhase, Bool, Exchange, Fetch, Fetching, List, MayAnswer, Move, Msg, None, Over, Phase, Read, Ready, Reduce, Reduced, Reducing, Refused, Reject, Replies, Rows, Ship, Shipping, Some, Step, Told, Turn, Value, Values, [], after_hand, answered, ap, contains, counted, counts_for, false, fetches, fetches_from, goes_on, if◌then◌else◌, is_a_refusal, is_answer, lacking, length, map, move_at, next_move, phase_ends, question, question_of, reduces, refl, subst, sym, to_all, told, true, with_use, with_values, without, ℕ, ◌&&◌, ◌++◌, ◌+◌, ◌==◌, ◌∙◌, ◌∷◌, ◌≡◌}
 use Rattle.sdd_obligations.proofs.AtTurn.{StandsAt, awaits}
 use Rattle.sdd_obligations.proofs.Hearing.{answers_asked, is_awaited}
 use Rattle.sdd_obligations.proofs.Modules.{without_other}
@@ -88,8 +88,7 @@ module _ (ts c n : ℕ) (m : Msg) (v : ℕ → Turn) where
 
   -- values come while they are fetched
   fetched : (x : Exchange) (ns : List ℕ) (q : Msg) (u : ℕ) (vs : List Value) (t : _) (k : _)
-      → awaits x.phase q ≡ true → Replies ns q (Values t k u vs) → (z : List Value)
-      → question ts c x.phase x.union ≡ question ts c x.phase z
+      → awaits x.phase q ≡ true → Replies ns q (Values t k u vs) → (z : List Value) → question ts c x.phase x.union ≡ question ts c x.phase z
   fetched x ns q u vs t k a r z = by x.phase q a r
     where
       by : (p : Phase) (q : Msg) → awaits p q ≡ true → Replies ns q (Values t k u vs) → question ts c p x.union ≡ question ts c p z
@@ -105,8 +104,7 @@ module _ (ts c n : ℕ) (m : Msg) (v : ℕ → Turn) where
   answered_if false x y e h = cc
 
   -- an answer to the attempt, other than a rejection
-  pub hand_asks : (x : Exchange) → is_answer ts c m ≡ true → is_a_refusal m ≡ false
-      → ((d : ℕ) → StandsAt d x (v d)) → MayAnswer (v n) m → AsksPhase ts c x v
+  pub hand_asks : (x : Exchange) → is_answer ts c m ≡ true → is_a_refusal m ≡ false → ((d : ℕ) → StandsAt d x (v d)) → MayAnswer (v n) m → AsksPhase ts c x v
       → AsksPhase ts c (after_hand ts c n m x) w
   hand_asks x own kind stands may h = by m refl own
     where
@@ -118,18 +116,14 @@ module _ (ts c n : ℕ) (m : Msg) (v : ℕ → Turn) where
           let a = answers_asked (v n) m may in
           let q = is_awaited n x (v n) a.uses a.question (stands n) a.is in
           let same : question ts c x.phase x.union ≡ question ts c x.phase (with_values x.union vs) =
-          fetched x a.uses a.question u vs t k q.phase (subst (Replies a.uses a.question) e a.replies)
-          (with_values x.union vs) in
+          fetched x a.uses a.question u vs t k q.phase (subst (Replies a.uses a.question) e a.replies) (with_values x.union vs) in
           answered_if ((t.0 == ts) && (k.0 == c)) x (record x { union = with_values x.union vs; values = x.values + length vs }) i
           (answer_asks x (record x { union = with_values x.union vs; values = x.values + length vs }) stands
           refl same (subst (λ z. AllByRecursion (λ (p : ℕ × Msg). p.1 ≡ z) x.to_send) same h.sends) h)
       by (Reduced t k u y) e i = answered_if ((t.0 == ts) && (k.0 == c)) x (record x {
         counts = counted n ((u, y) ∷ []) x.counts;
       }) i (answer_asks x (record x { counts = counted n ((u, y) ∷ []) x.counts }) stands refl refl h.sends h)
-      by (Rows t k rows) e i = answered_if ((t.0 == ts) && (k.0 == c)) x (record x {
-        found = x.found ++ rows;
-        rows = x.rows + length rows;
-      }) i
+      by (Rows t k rows) e i = answered_if ((t.0 == ts) && (k.0 == c)) x (record x { found = x.found ++ rows; rows = x.rows + length rows }) i
           (answer_asks x (record x { found = x.found ++ rows; rows = x.rows + length rows }) stands refl refl
           h.sends h)
       by (Reject t k b write) e i = let r : true ≡ false = sym (ap is_a_refusal e) ∙ kind in absurd cc

@@ -1,6 +1,6 @@
 -- The READ whose answer lacks is the last of its attempt that was sent to its module, and no READY or REJECT of it was
 -- handed.
-use Rattle.sdd_obligations.proofs.All.{Act, Asks, Bool, D, Did, Each, Handed, IsFair, IsOfUses, List, MayAnswer, MayAsk, Msg, Read, Ready, Redeclared, Refused, Reject, Setting, Silent, Site, Some, Submits, T, Ticked, Told, Turn, U, [], and_left, and_right, ap, asked, asked_by, at_site, both, cond, dm_no, false, filter, filter-append, head_of, if_way, if◌then◌else◌, in_filtered, inl, inr, is_a_read, is_a_refusal, is_answer, is_question, is_read, is_verdict, list_any, map, not_both, not_true, numbers_of, questions, refl, same_site, same_sym, sends_of_act, site_is, slice_get, subst, sym, to_site, told, true, turn_at, uses_by, ℕ, ◌&&◌, ◌++◌, ◌||◌, ◌∙◌, ◌∷◌, ◌≡◌}
+use Rattle.sdd_obligations.proofs.All.{Act, Asks, Bool, D, Did, Each, Handed, IsFair, IsOfUses, List, MayAnswer, MayAsk, Msg, Read, Ready, Refused, Reject, Setting, Silent, Site, Some, T, Told, Turn, U, [], and_left, and_right, ap, asked, asked_by, at_site, both, cond, dm_no, false, filter, filter-append, head_of, if_way, if◌then◌else◌, in_filtered, inl, inr, is_a_read, is_a_refusal, is_answer, is_question, is_read, is_verdict, list_any, map, not_both, not_true, numbers_of, questions, refl, same_site, same_sym, sends_of_act, site_is, slice_get, subst, sym, to_site, told, true, turn_at, uses_by, ℕ, ◌&&◌, ◌++◌, ◌||◌, ◌∙◌, ◌∷◌, ◌≡◌}
 use Rattle.sdd_obligations.proofs.Asking.{IsInTurn, asks_in_turn, in_turn}
 use Rattle.sdd_obligations.proofs.Hearing.{IsTimely, told_one}
 use Rattle.sdd_obligations.proofs.FirstSends.{IsFirstEach}
@@ -12,8 +12,7 @@ use Rattle.sdd_invariants.specs.attempt.Fits as fits
 -- of the READs of the attempt that were sent to module d, newest first, and whether one was answered
 abbrev pub IsLastRead : ℕ → Turn → List (Site × Msg) → Bool → Type 0
 IsLastRead d Silent reads answered = (reads ≡ []) × (answered ≡ false)
-IsLastRead d (Asks ns m) reads answered =
-    is_a_read m ≡ true → (head_of reads ≡ Some (D (dm_no d), m)) × (answered ≡ false) × (uses_by m ns ≡ ns)
+IsLastRead d (Asks ns m) reads answered = is_a_read m ≡ true → (head_of reads ≡ Some (D (dm_no d), m)) × (answered ≡ false) × (uses_by m ns ≡ ns)
 IsLastRead d (Told ns m) reads answered = Unit {0}
 IsLastRead d Refused reads answered = Unit {0}
 
@@ -101,14 +100,12 @@ last_act : (ts c d : ℕ) (act : Act) (log : Log) → IsInTurn (turn_at ts c d l
 last_act ts c d act log (inl e) h =
     subst (λ v. IsLastRead d v (reads_sent ts c d (Did act ∷ log)) (was_answered ts c d log)) (sym (ap (λ l. asked_by l (turn_at ts c d log)) e))
     (subst (λ l. IsLastRead d (turn_at ts c d log) l (was_answered ts c d log))
-    (sym (reads_of_act ts c d act log
-    ∙ ap (λ l. map (to_d d) (filter (is_read ts c) l) ++ reads_sent ts c d log) e)) h)
+    (sym (reads_of_act ts c d act log ∙ ap (λ l. map (to_d d) (filter (is_read ts c) l) ++ reads_sent ts c d log) e)) h)
 last_act ts c d act log (inr p) h =
     subst (λ v. IsLastRead d v (reads_sent ts c d (Did act ∷ log)) (was_answered ts c d log)) (sym (ap (λ l. asked_by l (turn_at ts c d log)) p.1))
     (subst (λ l. IsLastRead d (asked p.0 (turn_at ts c d log)) l (was_answered ts c d log)) (sym (reads_of_act ts c d act log))
     (last_asked ts c d (turn_at ts c d log) p.0 (questions ts c (to_site (D (dm_no d)) (sends_of_act act)))
-    (reads_sent ts c d log) (was_answered ts c d log) p.1 p.2
-    (of_questions ts c (to_site (D (dm_no d)) (sends_of_act act)) p.0 p.1) h))
+    (reads_sent ts c d log) (was_answered ts c d log) p.1 p.2 (of_questions ts c (to_site (D (dm_no d)) (sends_of_act act)) p.0 p.1) h))
 
 -- a hand
 
@@ -132,8 +129,7 @@ last_hand ts c d from m log timely h =
     → IsLastRead d (if b then told m v else v) (reads_sent ts c d log)
     (was_answered ts c d (Handed from m ∷ log))) [
       | true ↦ λ e. after_told d v m (reads_sent ts c d log) (was_answered ts c d (Handed from m ∷ log))
-          (timely ts d (sym (site_is (D (dm_no d)) from (and_left here (is_answer ts c m) e)))
-          (and_right here (is_answer ts c m) e))
+          (timely ts d (sym (site_is (D (dm_no d)) from (and_left here (is_answer ts c m) e))) (and_right here (is_answer ts c m) e))
       | false ↦ λ e.
           (let none : (same_site from (D (dm_no d)) && is_verdict ts c m) ≡ false = not_true (same_site from (D (dm_no d)) && is_verdict ts c m) (λ f.
           not_both (here && is_answer ts c m) (both here (is_answer ts c m) (site_sym (D (dm_no d)) from
@@ -145,8 +141,7 @@ last_hand ts c d from m log timely h =
 pub last_read : (s : Setting) (ts c d : ℕ) (log : Log) → Each (IsFair s) log → Each (IsFirstEach s) log → Each (IsTimely c) log
     → IsLastRead d (turn_at ts c d log) (reads_sent ts c d log) (was_answered ts c d log)
 last_read s ts c d [] fair first timely = (refl, refl)
-last_read s ts c d (Handed from m ∷ log) fair first timely =
-    last_hand ts c d from m log timely.0 (last_read s ts c d log fair.1 first.1 timely.1)
+last_read s ts c d (Handed from m ∷ log) fair first timely = last_hand ts c d from m log timely.0 (last_read s ts c d log fair.1 first.1 timely.1)
 last_read s ts c d (Did act ∷ log) fair first timely =
     last_act ts c d act log (asks_in_turn s c log act ts d fair.0 first.0
     (in_turn s c log fair.1 first.1 timely.1)) (last_read s ts c d log fair.1 first.1 timely.1)

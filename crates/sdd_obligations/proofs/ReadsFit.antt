@@ -39,8 +39,7 @@ conditions_here cat table c frags own p2 d =
     if_way (AllByRecursion (IsOn (length cat.classes))) (c == 0) (undeclared_conditions cat own) (conditions cat table c d (map frag_no frags) own p2)
     (undeclared_in_range own (map frag_no (fragments_of cat)) 1 (length cat.classes) (length cat.classes) (omega arith))
     (conds_in_range (condition_on (is_asked cat c d (map frag_no frags)) table c own p2) 1
-    (length cat.classes) (length cat.classes)
-    (condition_class (is_asked cat c d (map frag_no frags)) table c own p2) (omega arith))
+    (length cat.classes) (length cat.classes) (condition_class (is_asked cat c d (map frag_no frags)) table c own p2) (omega arith))
 
 -- uses are numbered upwards
 
@@ -52,8 +51,7 @@ part_above : (cat : Catalogue) (before k : ℕ) (conds : List Condition) (part :
 part_above cat before k conds part [] l = tt
 part_above cat before k conds part (r ∷ rels) l = (l, part_above cat before k conds (part + 1) rels (omega (arith, l)))
 
-part_strict : (cat : Catalogue) (before : ℕ) (conds : List Condition) (part : ℕ) (rels : List RelNo)
-    → IsStrict (numbers (part_uses cat before conds part rels))
+part_strict : (cat : Catalogue) (before : ℕ) (conds : List Condition) (part : ℕ) (rels : List RelNo) → IsStrict (numbers (part_uses cat before conds part rels))
 part_strict cat before conds part [] = tt
 part_strict cat before conds part (r ∷ rels) =
     (part_above cat before (before + part) conds (part + 1) rels (omega arith), part_strict cat before conds (part + 1) rels)
@@ -93,8 +91,7 @@ numbers_append : (us vs : List Use) → numbers (us ++ vs) ≡ numbers us ++ num
 numbers_append [] vs = refl
 numbers_append (u ∷ us) vs = ap (λ l. u.number ∷ l) (numbers_append us vs)
 
-all_numbered : (cat : Catalogue) (before : ℕ) (ss : List Stmt)
-    → AllGt before (numbers (uses_from cat before ss)) × IsStrict (numbers (uses_from cat before ss))
+all_numbered : (cat : Catalogue) (before : ℕ) (ss : List Stmt) → AllGt before (numbers (uses_from cat before ss)) × IsStrict (numbers (uses_from cat before ss))
 all_numbered cat before [] = (tt, tt)
 all_numbered cat before (s ∷ rest) =
     let found : List Use = statement_uses cat before s in
@@ -166,8 +163,7 @@ join_placed cat (u ∷ us) vs h i = (h.0, join_placed cat us vs h.1 i)
 all_placed : (cat : Catalogue) (before : ℕ) (ss : List Stmt) → AllByRecursion (AreFragments cat) (uses_from cat before ss)
 all_placed cat before [] = tt
 all_placed cat before (s ∷ rest) =
-    join_placed cat (statement_uses cat before s)
-    (uses_from cat (before + length (statement_uses cat before s)) rest) (statement_placed cat before s)
+    join_placed cat (statement_uses cat before s) (uses_from cat (before + length (statement_uses cat before s)) rest) (statement_placed cat before s)
     (all_placed cat (before + length (statement_uses cat before s)) rest)
 
 pub same_option : (o : Option ℕ) (d : ℕ) → option_eq ◌==◌ o (Some d) ≡ true → o ≡ Some d
@@ -189,8 +185,7 @@ copies_there cat c d (f ∷ fs) sound l h =
 
 uses_here : (s : Setting) (cat : Catalogue) (c d : ℕ) (us : List Use)
     → ((u : Use) → AllByRecursion (λ (f : FragNo). has_copy cat d f.0 ≡ true) u.frags → IsHere s u)
-    → catalogues.IsSound cat → c ≤ length cat.classes → AllByRecursion (AreFragments cat) us
-    → AllByRecursion (IsHere s) (filter_map (use_there cat c d) us)
+    → catalogues.IsSound cat → c ≤ length cat.classes → AllByRecursion (AreFragments cat) us → AllByRecursion (IsHere s) (filter_map (use_there cat c d) us)
 uses_here s cat c d [] g sound l h = tt
 uses_here s cat c d (u ∷ us) g sound l h =
     let i = uses_here s cat c d us g sound l h.1 in
@@ -243,24 +238,19 @@ start_fits g at d log class q sound l = record {
   is_class = l;
   conditions = All-from_recursion (IsOn (length g.catalogue.classes)) _
       (conditions_here g.catalogue (in_force (setting_of g at) log).table class
-      (ascending (fragments_in (uses_of g.catalogue q.text))) (next_stamp (setting_of g at) log)
-      (bound (setting_of g at) log) d.0);
+      (ascending (fragments_in (uses_of g.catalogue q.text))) (next_stamp (setting_of g at) log) (bound (setting_of g at) log) d.0);
   classes_ascend = strict_ascends _ (conditions_strict g.catalogue (in_force (setting_of g at) log).table class
-      (ascending (fragments_in (uses_of g.catalogue q.text))) (next_stamp (setting_of g at) log)
-      (bound (setting_of g at) log) d.0);
+      (ascending (fragments_in (uses_of g.catalogue q.text))) (next_stamp (setting_of g at) log) (bound (setting_of g at) log) d.0);
   uses_ascend = strict_ascends (numbers (filter_map (use_there g.catalogue class d.0)
-      (uses_of g.catalogue q.text))) (there_strict g.catalogue class d.0 (uses_of g.catalogue q.text)
-      (all_numbered g.catalogue 0 q.text.statements).1);
+      (uses_of g.catalogue q.text))) (there_strict g.catalogue class d.0 (uses_of g.catalogue q.text) (all_numbered g.catalogue 0 q.text.statements).1);
   here = All-from_recursion (IsHere (setting_of g (D d))) _
       (uses_here (setting_of g (D d)) g.catalogue class d.0 (uses_of g.catalogue q.text)
-      (λ u h. All-from_recursion (λ (f : FragNo). has_copy g.catalogue d.0 f.0 ≡ true) u.frags h) sound l
-      (all_placed g.catalogue 0 q.text.statements));
+      (λ u h. All-from_recursion (λ (f : FragNo). has_copy g.catalogue d.0 f.0 ≡ true) u.frags h) sound l (all_placed g.catalogue 0 q.text.statements));
 }
 
 read_at : (g : Given) (at : Site) (d : DmNo) (log : Log) (m : Msg) → catalogues.IsSound g.catalogue → IsReadOf (setting_of g at) log d.0 m
     → IsReadable (setting_of g (D d)) m
-read_at g at d log m sound r =
-    subst (IsReadable (setting_of g (D d))) r.is (start_fits g at d log r.class r.queued sound r.here)
+read_at g at d log m sound r = subst (IsReadable (setting_of g (D d))) r.is (start_fits g at d log r.class r.queued sound r.here)
 
 -- a READ that is next to be handed over
 pub reads_are_readable : (g : Given) (log : all.Log) (a : Site) (d : DmNo) (n : ℕ) (m : Msg) → IsPermitted g (Hand a (D d) n m ∷ log)
@@ -274,8 +264,7 @@ reads_are_readable g log a d n (Read t k txn attempt conds uses) h sound =
     let s : Setting = setting_of g at in
     let l : Log = local_of g at log in
     let there : slice_get (puts_to (D d) l) (handed a (D d) log) ≡ Some m =
-    subst (λ x. slice_get (puts_to (D d) (local_of g x log)) (handed a (D d) log) ≡ Some m)
-    (sym from) put in
+    subst (λ x. slice_get (puts_to (D d) (local_of g x log)) (handed a (D d) log) ≡ Some m) (sym from) put in
     let p = was_put (D d) l (handed a (D d) log) m there in
     let q = each_at (IsFair s) p.later (Did p.act) p.before (subst (Each (IsFair s)) p.is (home_fair g k.0 log h.1)) in
     let r = each_at (IsFirstEach s) p.later (Did p.act) p.before (subst (Each (IsFirstEach s)) p.is (home_first g k.0 log h.1)) in

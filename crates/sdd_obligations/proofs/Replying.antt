@@ -9,8 +9,7 @@ use Rattle.sdd_invariants.specs.site_module.SiteLog.{Entry, Log}
 
 -- a question that is handed comes from the site that runs the class, and may come next
 abbrev pub IsAskedInTurn : ℕ → Site → Log → Entry → Type 0
-IsAskedInTurn c at log (Handed from m) =
-    (ts : ℕ) → is_question ts c m ≡ true → (from ≡ at) × MayAsk (turn_with ts c at log) m
+IsAskedInTurn c at log (Handed from m) = (ts : ℕ) → is_question ts c m ≡ true → (from ≡ at) × MayAsk (turn_with ts c at log) m
 IsAskedInTurn c at log (Ticked n) = Unit {0}
 IsAskedInTurn c at log (Submits n txn) = Unit {0}
 IsAskedInTurn c at log (Redeclared force t) = Unit {0}
@@ -156,8 +155,7 @@ held_before (Told ms q) m ns h e = ap (λ (b : Bool). if b then None else Some m
 held_before _ m ns h e = absurd h
 
 same_processed : (ts c : ℕ) (p q : Pipe) → q.processed ≡ p.processed → IsProcessed ts c p → IsProcessed ts c q
-same_processed ts c p q e h =
-    record { place = h.place; read = h.read; there = subst (λ l. slice_get l h.place ≡ Some h.read) (sym e) h.there; is = h.is }
+same_processed ts c p q e h = record { place = h.place; read = h.read; there = subst (λ l. slice_get l h.place ≡ Some h.read) (sym e) h.there; is = h.is }
 
 pub asked_turn : (ts c : ℕ) (at from : Site) (m : Msg) (log : Log)
     → turn_with ts c at (Handed from m ∷ log) ≡ (if same_site at from && is_question ts c m then asked m (turn_with ts c at log) else turn_with ts c at log)
@@ -181,8 +179,7 @@ turn_hand ts c at log from m timely h =
           (record {
             own = (q, uses_twice m (uses_in v));
             rows_are = rows ∙ ap (λ l. l ++ (if asks_rows ts c m then (from, m) ∷ [] else [])) (h.rows_are
-                ∙ ap (map (from_site at)) (calm_rows ts c v m t.1))
-                ∙ pairs_if (asks_rows ts c m) at from m t.0;
+                ∙ ap (map (from_site at)) (calm_rows ts c v m t.1)) ∙ pairs_if (asks_rows ts c m) at from m t.0;
             reads_are = reads ∙ ap (λ l. l ++ (if is_read ts c m then m ∷ [] else [])) (h.reads_are ∙ calm_reads ts c v m t.1);
             was_read = λ ns e. same_processed ts c (pipe c log) (pipe c (Handed from m ∷ log)) kept (h.was_read (uses_in v) (held_before v m ns t.1 e));
           }))
@@ -191,14 +188,10 @@ turn_hand ts c at log from m timely h =
           w) (sym (ap (λ (b : Bool). if b then asked m v else v) (and_no (same_site at from))))
           (record {
             own = h.own;
-            rows_are = rows ∙ ap (λ (b : Bool). map asker
-                (filter (asks_open ts c) (opens log)) ++ (if b then (from, m) ∷ [] else []))
-                (none_implied (asks_rows ts c m) (is_question ts c m) (asks_question ts c m) q) ∙ append-nil _
-                ∙ h.rows_are;
-            reads_are = reads ∙ ap (λ (b : Bool). filter (is_read ts c)
-                (pipe c log).unprocessed ++ (if b then m ∷ [] else []))
-                (none_implied (is_read ts c m) (is_question ts c m) (read_question ts c m) q) ∙ append-nil _
-                ∙ h.reads_are;
+            rows_are = rows ∙ ap (λ (b : Bool). map asker (filter (asks_open ts c) (opens log)) ++ (if b then (from, m) ∷ [] else []))
+                (none_implied (asks_rows ts c m) (is_question ts c m) (asks_question ts c m) q) ∙ append-nil _ ∙ h.rows_are;
+            reads_are = reads ∙ ap (λ (b : Bool). filter (is_read ts c) (pipe c log).unprocessed ++ (if b then m ∷ [] else []))
+                (none_implied (is_read ts c m) (is_question ts c m) (read_question ts c m) q) ∙ append-nil _ ∙ h.reads_are;
             was_read = λ ns e. same_processed ts c (pipe c log) (pipe c (Handed from m ∷ log)) kept (h.was_read ns e);
           })
     ] refl)
@@ -321,8 +314,7 @@ turn_replies ts c at log f k o m e r h =
     let v : Turn = turn_with ts c at log in
     let os : List Open = opens (Did (Sends o.from m (Some o.hand)) ∷ log) in
     subst (λ w. HasTurn ts c at os (pipe c log) w) (sym (told_turn ts c at o.from m (Some o.hand) log
-    ∙ ap (λ (b : Bool). if same_site at o.from && b then told m v else v)
-    (reply_answers ts c f o.msg m r)))
+    ∙ ap (λ (b : Bool). if same_site at o.from && b then told m v else v) (reply_answers ts c f o.msg m r)))
     (elim (asks_rows ts c o.msg) as (λ b. asks_rows ts c o.msg ≡ b → HasTurn ts c at os (pipe c log) (if same_site at o.from && b then told m v else v)) [
       | true ↦ λ q.
           (let w = asked_rows ts c at log v k o h e q in

@@ -24,8 +24,7 @@ is_d : (b : Site) (d : DmNo) → b ≡ D d → IsD b
 is_d b d e = subst IsD (sym e) tt
 
 ask_from : (g : Given) (at from : Site) (m : Msg) → IsAnAsk m → WasPut g from at m → IsD from
-ask_from g at from (Ask class time) a p =
-    let d = from_a_d g p.log from at p.place (Ask class time) p.permitted p.there refl in is_d from d.0 d.1
+ask_from g at from (Ask class time) a p = let d = from_a_d g p.log from at p.place (Ask class time) p.permitted p.there refl in is_d from d.0 d.1
 ask_from g at from m a p = absurd a
 
 abbrev pub AsksRows : Msg → Type 0
@@ -69,12 +68,9 @@ d_routed : (g : Given) (d : DmNo) (log : Log) (b : Site) (act : Act) (m : Msg) �
 d_routed g d log b act (Ready ts k counts) h p = (tt, runs_to (setting_of g (D d)) p.class b p.to_is)
 d_routed g d log b act (Reject ts k by write) h p = (tt, runs_to (setting_of g (D d)) p.class b p.to_is)
 d_routed g d log b act (Done ts) h p = (tt, p.to_is)
-d_routed g d log b act (Values ts k u vs) h p =
-    (tt, asked_by g d log b (IsFetch ts k u) h (λ m e. subst AsksRows (sym e.1) tt) p)
-d_routed g d log b act (Reduced ts k u n) h p =
-    (tt, asked_by g d log b (IsReduce ts k u) h (λ m e. subst AsksRows (sym e.2) tt) p)
-d_routed g d log b act (Rows ts k rows) h p =
-    (tt, asked_by g d log b (IsShip ts k) h (λ m e. subst AsksRows (sym e) tt) p)
+d_routed g d log b act (Values ts k u vs) h p = (tt, asked_by g d log b (IsFetch ts k u) h (λ m e. subst AsksRows (sym e.1) tt) p)
+d_routed g d log b act (Reduced ts k u n) h p = (tt, asked_by g d log b (IsReduce ts k u) h (λ m e. subst AsksRows (sym e.2) tt) p)
+d_routed g d log b act (Rows ts k rows) h p = (tt, asked_by g d log b (IsShip ts k) h (λ m e. subst AsksRows (sym e) tt) p)
 d_routed g d log b act (Ask k t) h p = (tt, runs_to (setting_of g (D d)) k.0 b p.to_is)
 d_routed g d log b act _ h p = absurd p
 
@@ -138,12 +134,10 @@ u_no_held : (s : Setting) (log : site.Log) (act : Act) → IsStepU s log act →
 u_no_held s log act = u_way s log act NoHeld
     (λ q i z r. λ b k m e. elim (start_puts s 0 b log q) [ inl p ↦ in_none _ k m p e | inr p ↦ one_not _ (start_read s 0 log q p.0) k m p.1 refl e ])
     (λ bases a i. λ b k m e. elim (commit_puts s 0 bases b a) [ inl p ↦ in_none _ k m p e | inr p ↦ one_not _ _ k m p.1 refl e ])
-    (λ d m a e. send_no_held (D (dm_no d)) m None (asks_not_held a.ts 0 m e))
-    (λ t ts i p. send_no_held _ (Release ts) None refl)
+    (λ d m a e. send_no_held (D (dm_no d)) m None (asks_not_held a.ts 0 m e)) (λ t ts i p. send_no_held _ (Release ts) None refl)
     (λ t e. send_no_held _ Hold None refl)
 
-pub routed : (g : Given) (log : Log) (a b : Site) (k : ℕ) (m : Msg) → IsPermitted g log
-    → slice_get (puts_to b (local_of g a log)) k ≡ Some m → IsRouted a b m
+pub routed : (g : Given) (log : Log) (a b : Site) (k : ℕ) (m : Msg) → IsPermitted g log → slice_get (puts_to b (local_of g a log)) k ≡ Some m → IsRouted a b m
 routed g log (D d) b k m h e =
     let p = put_in_by_d g log d b k m h e in
     let hb = (permitted_before g p.later (Does (D d) p.act ∷ p.before) (subst (IsPermitted g) p.is h)).1 in
@@ -164,6 +158,5 @@ routed g log U b k m h e =
     let q = each_at (IsFairU (setting_of g U)) p.later (Did p.act) p.before (subst (Each (IsFairU (setting_of g U))) p.is fair) in
     let step = u_due (setting_of g U) q.0.0.0 p.before p.act q.0.0.1 in
     u_of b m p.before (λ w. let v =
-    asked_on l p.later p.before p.act b p.is w in ask_from g U b v.asked v.fits
-    (hand_put g U log v.later b v.asked v.before h v.is))
+    asked_on l p.later p.before p.act b p.is w in ask_from g U b v.asked v.fits (hand_put g U log v.later b v.asked v.before h v.is))
     (u_no_held (setting_of g U) p.before p.act step b p.place m p.there) (u_goes (setting_of g U) p.before p.act step b p.place m p.there)

@@ -21,8 +21,7 @@ condition_le : (k : ℕ) (asked : ℕ → Bool) (entries : List line.Entry) (i o
     → IsEarlyCond k (condition_on asked entries i own p2 j)
 condition_le k asked entries i own p2 j l m =
     either_le k (cond_for j own (asked_by P3 asked entries i j))
-    (cond_for j p2 (asked_by P2 asked entries i j)) (for_le k j own (asked_by P3 asked entries i j) l)
-    (for_le k j p2 (asked_by P2 asked entries i j) m)
+    (cond_for j p2 (asked_by P2 asked entries i j)) (for_le k j own (asked_by P3 asked entries i j) l) (for_le k j p2 (asked_by P2 asked entries i j) m)
 
 abbrev AreEarly : ℕ → List Cond → Type 0
 AreEarly k ds = AllLe k (map (λ (d : Cond). d.time.0) ds)
@@ -61,8 +60,7 @@ one_low h ms m i e = rw e (i, tt)
 none_low : (h : ℕ) (ms : List Msg) → ms ≡ [] → AllLow h ms
 none_low h ms e = rw e tt
 
-start_low : (h : ℕ) (s : Setting) (c : ℕ) (log : Log) (q : Queued) → number_of s.site ≤ 63 → (clock s.site log).ticks ≤ h
-    → PutsLow h (start_at s c log q)
+start_low : (h : ℕ) (s : Setting) (c : ℕ) (log : Log) (q : Queued) → number_of s.site ≤ 63 → (clock s.site log).ticks ≤ h → PutsLow h (start_at s c log q)
 start_low h s c log q w l b = elim (start_puts s c b log q) [
   | inl e ↦ none_low (starts_by (start_at s c log q) + h) _ e
   | inr p ↦ low_one_more (starts_by (start_at s c log q)) h _ refl (one_low (suc h) _ (start_read s c log q p.0) (read_low h s c log q p.0 w l) p.1)
@@ -96,8 +94,7 @@ released_not : (h : ℕ) (s : Setting) (log : Log) (to : Site) (m : Msg) (hand :
 released_not h s log to m hand ts e r = absurd (subst (λ x. HoldRule s log (Sends to x hand)) e r)
 
 t_send : (h : ℕ) (s : Setting) (log : Log) (to : Site) (m : Msg) (hand : Option ℕ) → number_of s.site ≤ 63
-    → (clock s.site log).ticks ≤ h → Each (IsFair s) log → IsSend s log m → HoldRule s log (Sends to m hand)
-    → PutsLow h (Sends to m hand)
+    → (clock s.site log).ticks ≤ h → Each (IsFair s) log → IsSend s log m → HoldRule s log (Sends to m hand) → PutsLow h (Sends to m hand)
 t_send h s log to m hand w l f (of_exchange c a at i e p) r = send_low h to m hand (asks_low h a.ts c m e)
 t_send h s log to m hand w l f (a_null c at e) r =
     let k = limit_le s log c w f in let n = bound_low h s log l in
@@ -107,10 +104,8 @@ t_send h s log to m hand w l f (a_hold e) r = send_low h to m hand (subst (IsLow
 t_send h s log to m hand w l f (a_release ts e) r = released_not h s log to m hand ts e r
 
 pub t_low : (h : ℕ) (s : Setting) (t : TmNo) (bases : Bases) (log : Log) (act : Act) → s.site ≡ T t → number_of s.site ≤ 63
-    → (clock s.site log).ticks ≤ h → Each (IsFair s) log → tm.IsDue s.catalogue bases (tm_views.view_of s log) act
-    → PutsLow h act
-t_low h s t bases log act at w l f d = step_way s log act (λ x. HoldRule s log x → PutsLow h x)
-    (λ c q p i e r. start_low h s c log q w l)
+    → (clock s.site log).ticks ≤ h → Each (IsFair s) log → tm.IsDue s.catalogue bases (tm_views.view_of s log) act → PutsLow h act
+t_low h s t bases log act at w l f d = step_way s log act (λ x. HoldRule s log x → PutsLow h x) (λ c q p i e r. start_low h s c log q w l)
     (λ c b a p i r. let k = drawn_at s c log a f i in let n = stamp_low h s log w l in commit_low h s c b a (omega (arith, k, n)))
     (λ to m hand i r. t_send h s log to m hand w l f i r) (t_step s t bases log act at d) (hold_rule s bases log act d)
 
@@ -131,18 +126,15 @@ served_low s (Handed from m ∷ log) f =
     rw (hand_ts m (last_served s log)) (omega (arith, i, r))
 served_low s (Ticked n ∷ log) f = let i = served_low s log f.1 in let r = stamp_rises s (Ticked n) log in omega (arith, i, r)
 served_low s (Submits n txn ∷ log) f = served_low s log f.1
-served_low s (Redeclared force t ∷ log) f =
-    let i = served_low s log f.1 in let r = stamp_rises s (Redeclared force t) log in omega (arith, i, r)
+served_low s (Redeclared force t ∷ log) f = let i = served_low s log f.1 in let r = stamp_rises s (Redeclared force t) log in omega (arith, i, r)
 served_low s (Did act ∷ log) f =
     let i = served_low s log f.1 in let d = drawn s log f.1 0 in let r = stamp_rises s (Did act) log in
     act_ts act (active s 0 log) (last_served s log) (last_stamp s (Did act ∷ log)) (omega (arith, d, r)) (omega (arith, i, r))
 
 pub u_low : (h : ℕ) (s : Setting) (log : Log) (act : Act) → number_of s.site ≤ 63 → (clock s.site log).ticks ≤ h
     → Each (IsFair s) log → IsStepU s log act → PutsLow h act
-u_low h s log act w l f = u_way s log act (PutsLow h)
-    (λ q i z r. start_low h s 0 log q w l)
+u_low h s log act w l f = u_way s log act (PutsLow h) (λ q i z r. start_low h s 0 log q w l)
     (λ b a i. let k = drawn_at s 0 log a f i in let n = stamp_low h s log w l in commit_low h s 0 b a (omega (arith, k, n)))
     (λ d m a e. send_low h (D (dm_no d)) m None (asks_low h a.ts 0 m e))
     (λ t ts i p. let k = served_low s log f in let n = stamp_low h s log w l in let e : ts.0 ≡ (last_served s log).ts = p.0 in
-    send_low h (T (tm_no t)) (Release ts) None (omega (arith, k, n, e), tt))
-    (λ t e. send_low h (T (tm_no t)) Hold None tt)
+    send_low h (T (tm_no t)) (Release ts) None (omega (arith, k, n, e), tt)) (λ t e. send_low h (T (tm_no t)) Hold None tt)

@@ -69,8 +69,7 @@ module _ (g : Given) (good : FitsGiven g) (eras : HasEras g) (c : ℕ) where
       (λ x k. let m = r.of x k in Has-flat_map (λ d. all_rows (space d)) ds m.0 x m.1 m.2) all
 
   last_serves : (log : Log) (a : Attempt) (d : DmNo) (n : ℕ) (t : Ts) (k : ClassNo) (rows : List (ℕ × Row))
-      → IsPermitted g (Hand (D d) at n (Rows t k rows) ∷ log) → active s c (mine log) ≡ Some a → t.0 ≡ a.ts
-      → k.0 ≡ c → without a.exchange.lacks d.0 ≡ []
+      → IsPermitted g (Hand (D d) at n (Rows t k rows) ∷ log) → active s c (mine log) ≡ Some a → t.0 ≡ a.ts → k.0 ≡ c → without a.exchange.lacks d.0 ≡ []
       → Serves cat a.text (a.exchange.found ++ rows) (base_of g (Hand (D d) at n (Rows t k rows) ∷ log) a.ts)
   last_serves log a d n t k rows h e own_ts of none =
       let m : Msg = Rows t k rows in
@@ -83,18 +82,15 @@ module _ (g : Given) (good : FitsGiven g) (eras : HasEras g) (c : ℕ) where
       let b : Attempt = record a { exchange = over } in
       let after : after_hand a.ts c d.0 m a.exchange ≡ over = last_rows a.ts c d.0 a.exchange t k rows own_ts of ships none in
       let here : mine (Hand (D d) at n m ∷ log) ≡ Handed (D d) m ∷ mine log =
-      local_step g at (Hand (D d) at n m) log
-      ∙ ap (λ x. with_made (if x then Some (Handed (D d) m) else None) (mine log)) (site_self at) in
+      local_step g at (Hand (D d) at n m) log ∙ ap (λ x. with_made (if x then Some (Handed (D d) m) else None) (mine log)) (site_self at) in
       let now : active s c (mine (Hand (D d) at n m ∷ log)) ≡ Some b =
-      ap (active s c) here ∙ ap (λ o. active_handed c (D d) m o) e
-      ∙ ap (λ x. Some (record a { exchange = x })) after in
+      ap (active s c) here ∙ ap (λ o. active_handed c (D d) m o) e ∙ ap (λ x. Some (record a { exchange = x })) after in
       over_serves (Hand (D d) at n m ∷ log) b h now refl refl
 
   -- as the site asks it of ROWS
   serves_if : (log : Log) (a : Attempt) (d : DmNo) (n : ℕ) (t : Ts) (k : ClassNo) (rows : List (ℕ × Row))
       → IsPermitted g (Hand (D d) at n (Rows t k rows) ∷ log) → active s c (mine log) ≡ Some a → t.0 ≡ a.ts
-      → k.0 ≡ c → (left : List ℕ) → without a.exchange.lacks d.0 ≡ left
-      → ServesIfLast s (base_of g (Hand (D d) at n (Rows t k rows) ∷ log)) a rows left
+      → k.0 ≡ c → (left : List ℕ) → without a.exchange.lacks d.0 ≡ left → ServesIfLast s (base_of g (Hand (D d) at n (Rows t k rows) ∷ log)) a rows left
   serves_if log a d n t k rows h e own_ts of [] none = last_serves log a d n t k rows h e own_ts of none
   serves_if log a d n t k rows h e own_ts of (l ∷ left) some = tt
 

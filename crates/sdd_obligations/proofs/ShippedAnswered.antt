@@ -7,13 +7,11 @@ use Rattle.sdd_serving.specs.Freezing.{uses_at}
 -- of messages that go one to each module, one that goes to a module is its
 
 one_each : (f : ℕ → Msg) (x d : ℕ) (ds : List ℕ) (ms : List Msg) (k : ℕ) (m : Msg) → x ≡ d
-    → ((j : ℕ) → slice_get ms j ≡ Some m → (contains ds x ≡ true) × (m ≡ f x))
-    → slice_get (f d ∷ ms) k ≡ Some m → (contains (d ∷ ds) x ≡ true) × (m ≡ f x)
+    → ((j : ℕ) → slice_get ms j ≡ Some m → (contains ds x ≡ true) × (m ≡ f x)) → slice_get (f d ∷ ms) k ≡ Some m → (contains (d ∷ ds) x ≡ true) × (m ≡ f x)
 one_each f x d ds ms zero m q g e = let p : f d ≡ m = cc in (or_left (d == x) (contains ds x) (ap (λ y. y == x) (sym q) ∙ same_number x), sym p ∙ ap f (sym q))
 one_each f x d ds ms (suc k) m q g e = let r = g k e in (or_right (d == x) (contains ds x) r.0, r.1)
 
-pub in_each : (f : ℕ → Msg) (x : ℕ) (ds : List ℕ) (k : ℕ) (m : Msg)
-    → slice_get (to_site (D (dm_no x)) (map (λ d. (D (dm_no d), f d)) ds)) k ≡ Some m
+pub in_each : (f : ℕ → Msg) (x : ℕ) (ds : List ℕ) (k : ℕ) (m : Msg) → slice_get (to_site (D (dm_no x)) (map (λ d. (D (dm_no d), f d)) ds)) k ≡ Some m
     → (contains ds x ≡ true) × (m ≡ f x)
 in_each f x [] k m e = cc
 in_each f x (d ∷ ds) k m e =
@@ -90,8 +88,7 @@ read_started g log ts d h x =
     record {
       queued = by.queued;
       start = subst (λ t. StartAt g x.class log at t by.queued) r.ts_is
-          (subst (λ l. StartAt g x.class l at r.t.0 by.queued) log_is
-          (start_here g x.class (front ++ p.rest) r.txn.0 r.attempt r.t.0 whole));
+          (subst (λ l. StartAt g x.class l at r.t.0 by.queued) log_is (start_here g x.class (front ++ p.rest) r.txn.0 r.attempt r.t.0 whole));
       within = class_here g d log x.later x.before x.class x.txn x.attempt x.dm x.sends h x.is;
       asked = there.0;
       uses_are = ap uses_at_head r.is ∙ ap uses_in_read there.1;

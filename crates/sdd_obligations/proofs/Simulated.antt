@@ -15,8 +15,7 @@ use Rattle.sdd_obligations.proofs.InStep.{InStep, again, awaited_there, col_of, 
 use Rattle.sdd_serving.specs.Freezing.{uses_at}
 use Rattle.sdd_invariants.specs.site_module.SiteLog as site
 
-module _ (g : Given) (good : FitsGiven g) (eras : HasEras g) (c : ℕ)
-    (in_step : (log : Log) → IsPermitted g log → (a : Attempt)
+module _ (g : Given) (good : FitsGiven g) (eras : HasEras g) (c : ℕ) (in_step : (log : Log) → IsPermitted g log → (a : Attempt)
     → active (setting_of g (home g.catalogue c)) c (local_of g (home g.catalogue c) log) ≡ Some a
     → InStep g c log a) where
   abbrev cat : Catalogue
@@ -52,8 +51,7 @@ module _ (g : Given) (good : FitsGiven g) (eras : HasEras g) (c : ℕ)
       → ((ts d : ℕ) → kept_at g c ts d (e ∷ log) ≡ kept_at g c ts d log) → AllServed log o → AllServed (e ∷ log) o
   still_served e log None k h = tt
   still_served e log (Some a) k h = λ copies agree.
-      subst (λ space. Serves a copies space a.exchange)
-      (sym (space_same g c a.ts (first_of a copies) e log (k a.ts)))
+      subst (λ space. Serves a copies space a.exchange) (sym (space_same g c a.ts (first_of a copies) e log (k a.ts)))
       (h copies (agrees_before g a.ts copies e log agree))
 
   -- the modules that are asked are those of the exchange
@@ -63,8 +61,7 @@ module _ (g : Given) (good : FitsGiven g) (eras : HasEras g) (c : ℕ)
   -- rows of a use are kept once
   once_at : (log : Log) (a : Attempt) (copies : ℕ → CopyRows) → IsServed log a copies → (d : ℕ) → KeepsOnce (space_at g c a.ts (first_of a copies) log d)
   once_at log a copies h = runs_once (asked_of a) (a.text).statements (asked_at cat c a.text)
-      (first_of a copies) (λ d. frozen_once cat c a.text a.ts copies d)
-      (space_at g c a.ts (first_of a copies) log) _ h.follows.runs
+      (first_of a copies) (λ d. frozen_once cat c a.text a.ts copies d) (space_at g c a.ts (first_of a copies) log) _ h.follows.runs
 
   -- a hand to the site
 
@@ -96,18 +93,15 @@ module _ (g : Given) (good : FitsGiven g) (eras : HasEras g) (c : ℕ)
   taken log a copies d n m h e hand kind true own served =
       let r = reply_of log a copies d n m (in_step log h a e) hand own in
       let are = modules_are log a h e in
-      hand_serves (asked_of a) (a.text).statements (asked_at cat c a.text) (first_of a copies) a.ts c d.0
-      (space_at g c a.ts (first_of a copies) log)
+      hand_serves (asked_of a) (a.text).statements (asked_at cat c a.text) (first_of a copies) a.ts c d.0 (space_at g c a.ts (first_of a copies) log)
       (contains_has (asked_of a) d.0 (subst (λ ms. contains ms d.0 ≡ true) are r.1))
       a.exchange m own (not_refusal a m own kind) r.0 (once_at log a copies served d.0)
       (λ k there. ap (λ ms. contains ms k) are ∙ has_contains (asked_of a) k there) served
   taken log a copies d n m h e hand kind false own served =
-      subst (Serves a copies (space_at g c a.ts (first_of a copies) log))
-      (sym (hand_not a.ts c d.0 a.exchange m own)) served
+      subst (Serves a copies (space_at g c a.ts (first_of a copies) log)) (sym (hand_not a.ts c d.0 a.exchange m own)) served
 
   handed_from_d : (log : Log) (o : Option Attempt) (d : DmNo) (n : ℕ) (m : Msg) → IsPermitted g log
-      → active s c (mine log) ≡ o → IsPermitted g (Hand (D d) at n m ∷ log) → AllServed log o
-      → AllServed log (active_handed c (D d) m o)
+      → active s c (mine log) ≡ o → IsPermitted g (Hand (D d) at n m ∷ log) → AllServed log o → AllServed log (active_handed c (D d) m o)
   handed_from_d log None d n m h e hand served = tt
   handed_from_d log (Some a) d n m h e hand served =
       elim (rejects m a.ts c) as (λ b. rejects m a.ts c ≡ b
@@ -116,8 +110,7 @@ module _ (g : Given) (good : FitsGiven g) (eras : HasEras g) (c : ℕ)
         | false ↦ λ kind copies agree. taken log a copies d n m h e hand kind (is_answer a.ts c m) refl (served copies agree)
       ] refl
 
-  handed_home : (log : Log) (from : Site) (n : ℕ) (m : Msg) → IsPermitted g log
-      → IsPermitted g (Hand from at n m ∷ log) → AllServed log (active s c (mine log))
+  handed_home : (log : Log) (from : Site) (n : ℕ) (m : Msg) → IsPermitted g log → IsPermitted g (Hand from at n m ∷ log) → AllServed log (active s c (mine log))
       → AllServed log (active_handed c from m (active s c (mine log)))
   handed_home log (D d) n m h hand served = handed_from_d log (active s c (mine log)) d n m h refl hand served
   handed_home log _ n m h hand served = served
@@ -137,8 +130,7 @@ module _ (g : Given) (good : FitsGiven g) (eras : HasEras g) (c : ℕ)
       → IsPermitted g (Hand from (D d) n m ∷ log)
       → IsReduced (set g d.0) c a.ts from m (own g d.0 log) → ((k : ℕ) → (k == d.0) ≡ false
       → kept_at g c a.ts k (Hand from (D d) n m ∷ log) ≡ kept_at g c a.ts k log)
-      → own g d.0 (Hand from (D d) n m ∷ log) ≡ Handed from m ∷ own g d.0 log
-      → IsServed log a copies → IsServed (Hand from (D d) n m ∷ log) a copies
+      → own g d.0 (Hand from (D d) n m ∷ log) ≡ Handed from m ∷ own g d.0 log → IsServed log a copies → IsServed (Hand from (D d) n m ∷ log) a copies
   reduced_space log a copies from d n m h e hand r others here served =
       let step = in_step log h a e in
       let q : Msg = Reduce r.t r.of r.number r.col r.values in
@@ -160,8 +152,7 @@ module _ (g : Given) (good : FitsGiven g) (eras : HasEras g) (c : ℕ)
       let was : old d.0 ≡ r.rows = ap (λ o. or_first o (first d.0)) r.before in
       let is : new d.0 ≡ reduced r.number r.col r.values r.rows = ap (λ o. or_first o (first d.0)) (ap (kept (set g d.0) c a.ts) here ∙ r.after) in
       let at_d : new d.0 ≡ reduced v.0.target.part v.0.target.column a.exchange.union (old d.0) =
-      is ∙ ap (λ u. reduced u r.col r.values r.rows) number
-      ∙ ap (λ k. reduced v.0.target.part k r.values r.rows) col
+      is ∙ ap (λ u. reduced u r.col r.values r.rows) number ∙ ap (λ k. reduced v.0.target.part k r.values r.rows) col
       ∙ ap (λ vs. reduced v.0.target.part v.0.target.column vs r.rows) values
       ∙ ap (reduced v.0.target.part v.0.target.column a.exchange.union) (sym was) in
       let elsewhere : (k : ℕ) → k ≢ d.0 → new k ≡ old k =
@@ -178,8 +169,7 @@ module _ (g : Given) (good : FitsGiven g) (eras : HasEras g) (c : ℕ)
       }
 
   handed_module : (log : Log) (from : Site) (d : DmNo) (n : ℕ) (m : Msg) (o : Option Attempt)
-      → IsPermitted g log → active s c (mine log) ≡ o → IsPermitted g (Hand from (D d) n m ∷ log)
-      → AllServed log o → AllServed (Hand from (D d) n m ∷ log) o
+      → IsPermitted g log → active s c (mine log) ≡ o → IsPermitted g (Hand from (D d) n m ∷ log) → AllServed log o → AllServed (Hand from (D d) n m ∷ log) o
   handed_module log from d n m None h e hand served = tt
   handed_module log from d n m (Some a) h e hand served =
       let entry : Entry = Hand from (D d) n m in
@@ -187,8 +177,7 @@ module _ (g : Given) (good : FitsGiven g) (eras : HasEras g) (c : ℕ)
       log = λ k p. kept_apart g c a.ts k entry log (ap (λ b. if b then Some (Handed from m) else None) p)
       in
       let here : own g d.0 (entry ∷ log) ≡ Handed from m ∷ own g d.0 log = local_step g (D d) entry log
-      ∙ ap (λ b. with_made (if b then Some (Handed from m) else None) (own g d.0 log))
-      (same_number d.0) in
+      ∙ ap (λ b. with_made (if b then Some (Handed from m) else None) (own g d.0 log)) (same_number d.0) in
       λ copies agree. elim (hand_keeps (set g d.0) c a.ts from m (own g d.0 log)) [
         | inl same ↦
             subst (λ space. Serves a copies space a.exchange)
@@ -217,19 +206,15 @@ module _ (g : Given) (good : FitsGiven g) (eras : HasEras g) (c : ℕ)
       (Does (D d) act ∷ log) a d h e x.0 in
       let copied : copies d.0 ≡ (λ f. contents f (dated (set g d.0) r.answer.before)) = agree d.0 x.0 ∙ ap (λ l. λ f. contents f (dated (set g d.0) l)) x.1 in
       let uses : uses_at_head (head (pipe r.answer.class r.answer.before)) ≡ uses_at cat c a.text d.0 =
-      ap (λ l. uses_at_head (head (pipe r.answer.class l))) (sym x.1)
-      ∙ ap (λ j. uses_at_head (head (pipe j x.0.before))) (sym x.2) ∙ to.uses_are in
+      ap (λ l. uses_at_head (head (pipe r.answer.class l))) (sym x.1) ∙ ap (λ j. uses_at_head (head (pipe j x.0.before))) (sym x.2) ∙ to.uses_are in
       let now : kept_at g c a.ts d.0 (Does (D d) act ∷ log) ≡ Some
       (frozen_for (λ f. contents f (dated (set g d.0) r.answer.before)) a.ts
-      (uses_at_head (head (pipe r.answer.class r.answer.before)))) = ap (kept (set g d.0) c a.ts) here
-      ∙ r.after in
-      ap (λ o. or_first o (first_of a copies d.0)) now
-      ∙ ap (λ cs. frozen_for cs a.ts (uses_at_head (head (pipe r.answer.class r.answer.before))))
+      (uses_at_head (head (pipe r.answer.class r.answer.before)))) = ap (kept (set g d.0) c a.ts) here ∙ r.after in
+      ap (λ o. or_first o (first_of a copies d.0)) now ∙ ap (λ cs. frozen_for cs a.ts (uses_at_head (head (pipe r.answer.class r.answer.before))))
       (sym copied) ∙ ap (frozen_for (copies d.0) a.ts) uses
 
   acted_module : (log : Log) (d : DmNo) (act : Act) (o : Option Attempt)
-      → IsPermitted g (Does (D d) act ∷ log) → active s c (mine (Does (D d) act ∷ log)) ≡ o → AllServed log o
-      → AllServed (Does (D d) act ∷ log) o
+      → IsPermitted g (Does (D d) act ∷ log) → active s c (mine (Does (D d) act ∷ log)) ≡ o → AllServed log o → AllServed (Does (D d) act ∷ log) o
   acted_module log d act None h e served = tt
   acted_module log d act (Some a) h e served =
       let entry : Entry = Does (D d) act in
@@ -257,8 +242,7 @@ module _ (g : Given) (good : FitsGiven g) (eras : HasEras g) (c : ℕ)
     | Some f ↦ λ e. absurd (not_before g good.sound c within log (dm_no d) h (kept_answered (set g d) c (next_stamp s (mine log)) (own g d log) f e))
   ] refl
 
-  begun : (log : Log) (q : Queued) → IsPermitted g log
-      → IsPermitted g (Does at (start_at s c (mine log) q) ∷ log) → head_of (queue s c (mine log)) ≡ Some q
+  begun : (log : Log) (q : Queued) → IsPermitted g log → IsPermitted g (Does at (start_at s c (mine log) q) ∷ log) → head_of (queue s c (mine log)) ≡ Some q
       → AllServed (Does at (start_at s c (mine log) q) ∷ log)
       (active s c (Did (start_at s c (mine log) q) ∷ mine log))
   begun log q h hand e =
@@ -288,16 +272,13 @@ module _ (g : Given) (good : FitsGiven g) (eras : HasEras g) (c : ℕ)
         all = λ ships d k l x i. none_read ms (asked_of a) d are ships k;
       }))
 
-  started_by : (log : Log) (k : ℕ) (q : Queued) → IsPermitted g log
-      → head_of (queue s k (mine log)) ≡ Some q → AllServed log (active s c (mine log))
+  started_by : (log : Log) (k : ℕ) (q : Queued) → IsPermitted g log → head_of (queue s k (mine log)) ≡ Some q → AllServed log (active s c (mine log))
       → IsPermitted g (Does at (start_at s k (mine log) q) ∷ log)
       → AllServed (Does at (start_at s k (mine log) q) ∷ log) (active s c (Did (start_at s k (mine log) q) ∷ mine log))
   started_by log k q h e served = elim (same_or_not k c) [
     | inl p ↦ subst (λ j. head_of (queue s j (mine log)) ≡ Some q
-        → IsPermitted g (Does at (start_at s j (mine log) q) ∷ log)
-        → AllServed (Does at (start_at s j (mine log) q) ∷ log)
-        (active s c (Did (start_at s j (mine log) q) ∷ mine log))) (sym p)
-        (λ f hand. begun log q h hand f) e
+        → IsPermitted g (Does at (start_at s j (mine log) q) ∷ log) → AllServed (Does at (start_at s j (mine log) q) ∷ log)
+        (active s c (Did (start_at s j (mine log) q) ∷ mine log))) (sym p) (λ f hand. begun log q h hand f) e
     | inr p ↦ λ hand.
         subst (AllServed (Does at (start_at s k (mine log) q) ∷ log))
         (ap (λ b. if b then started (next_stamp s (mine log)) (sends_of_act (start_at s k (mine log) q))
@@ -322,11 +303,9 @@ module _ (g : Given) (good : FitsGiven g) (eras : HasEras g) (c : ℕ)
       (if b then Some (record a { exchange = after_send a.exchange }) else Some a)) [
         | true ↦ λ copies agree.
             subst (λ space. Serves a copies space (after_send a.exchange))
-            (sym (space_same g c a.ts (first_of a copies) (Does at (Sends to m hand)) log
-            (home_act log (Sends to m hand) a.ts)))
+            (sym (space_same g c a.ts (first_of a copies) (Does at (Sends to m hand)) log (home_act log (Sends to m hand) a.ts)))
             (send_serves (asked_of a) (a.text).statements (asked_at cat c a.text) (first_of a copies)
-            (space_at g c a.ts (first_of a copies) log) a.exchange
-            (served copies (agrees_before g a.ts copies (Does at (Sends to m hand)) log agree)))
+            (space_at g c a.ts (first_of a copies) log) a.exchange (served copies (agrees_before g a.ts copies (Does at (Sends to m hand)) log agree)))
         | false ↦ still_served (Does at (Sends to m hand)) log (Some a) (home_act log (Sends to m hand)) served
       ]
 
@@ -336,8 +315,7 @@ module _ (g : Given) (good : FitsGiven g) (eras : HasEras g) (c : ℕ)
   acted_home log act h hand served =
       let step = (subst (λ l. Each (IsFair s) l) (own_act g at act log) (home_fair g c (Does at act ∷ log) hand)).0 in
       step_way s (mine log) act (λ x. IsPermitted g (Does at x ∷ log) → AllServed (Does at x ∷ log) (active s c (Did x ∷ mine log)))
-      (λ k q here idle e. started_by log k q h e served)
-      (λ k bases a here e. λ hand. committed_by log k bases a served)
+      (λ k q here idle e. started_by log k q h e served) (λ k bases a here e. λ hand. committed_by log k bases a served)
       (λ to m hand i. λ p. sent_by log to m hand (active s c (mine log)) served) step hand
 
   -- all entries
@@ -351,8 +329,7 @@ module _ (g : Given) (good : FitsGiven g) (eras : HasEras g) (c : ℕ)
   by_hand log from to n m h served hand true e =
       let P : Site → Type 0 = λ x. IsPermitted g (Hand from x n m ∷ log) → AllServed (Hand from x n m ∷ log) (active s c (mine (Hand from x n m ∷ log))) in
       let here : mine (Hand from at n m ∷ log) ≡ Handed from m ∷ mine log =
-      local_step g at (Hand from at n m) log
-      ∙ ap (λ b. with_made (if b then Some (Handed from m) else None) (mine log)) (site_self at) in
+      local_step g at (Hand from at n m) log ∙ ap (λ b. with_made (if b then Some (Handed from m) else None) (mine log)) (site_self at) in
       subst P (site_is at to e)
       (λ own_hand.
       subst (λ l. AllServed (Hand from at n m ∷ log) (active s c l)) (sym here)
@@ -397,8 +374,7 @@ module _ (g : Given) (good : FitsGiven g) (eras : HasEras g) (c : ℕ)
   by_still : (log : Log) (e : Entry) → IsStillEntry e → AllServed log (active s c (mine log)) → AllServed (e ∷ log) (active s c (mine (e ∷ log)))
   by_still log e still served =
       let same : active s c (mine (e ∷ log)) ≡ active s c (mine log) =
-      ap (active s c) (local_step g at e log) ∙ still_active s c (made g at log e) (mine log)
-      (made_still g at log e still) in
+      ap (active s c) (local_step g at e log) ∙ still_active s c (made g at log e) (mine log) (made_still g at log e still) in
       subst (AllServed (e ∷ log)) (sym same) (still_served e log (active s c (mine log)) (λ ts d. kept_still g c ts d e log still) served)
 
   none_first : active s c (mine []) ≡ None

@@ -38,17 +38,7 @@ snap_answer : (s : Setting) (ts k : ℕ) (txn : TxnNo) (attempt : ℕ) (dm : DmN
     → MaySnap s ts (Did (Records k (Answer txn attempt dm) sends) ∷ log)
 snap_answer s ts k txn attempt dm sends log true e h =
     inr (record {
-      answer = record {
-        later = [];
-        class = k;
-        txn = txn;
-        attempt = attempt;
-        dm = dm;
-        sends = sends;
-        before = log;
-        is = refl;
-        at = e;
-      };
+      answer = record { later = []; class = k; txn = txn; attempt = attempt; dm = dm; sends = sends; before = log; is = refl; at = e };
       is = rw e refl;
       before_is = rw e refl;
     })
@@ -75,17 +65,7 @@ snap_there : (s : Setting) (ts k : ℕ) (txn : TxnNo) (attempt : ℕ) (dm : DmNo
     → IsSnapped s ts (Did (Records k (Answer txn attempt dm) sends) ∷ log)
 snap_there s ts k txn attempt dm sends log true e h =
     record {
-      answer = record {
-        later = [];
-        class = k;
-        txn = txn;
-        attempt = attempt;
-        dm = dm;
-        sends = sends;
-        before = log;
-        is = refl;
-        at = e;
-      };
+      answer = record { later = []; class = k; txn = txn; attempt = attempt; dm = dm; sends = sends; before = log; is = refl; at = e };
       is = rw e refl;
       before_is = rw e refl;
     }
@@ -100,8 +80,7 @@ module _ (s : Setting) (ts : ℕ) (k : ℕ) (txn : TxnNo) (attempt : ℕ) (dm : 
   snapped_behind (Submits n t ∷ later) = snap_behind s ts (Submits n t) _ refl refl (snapped_behind later)
   snapped_behind (Redeclared force t ∷ later) = snap_behind s ts (Redeclared force t) _ refl refl (snapped_behind later)
   snapped_behind (Did (Records c (Answer t a m) ss) ∷ later) =
-      snap_there s ts c t a m ss _ (is_at ts
-      (head (pipe c (later ++ Did (Records k (Answer txn attempt dm) sends) ∷ before)))) refl
+      snap_there s ts c t a m ss _ (is_at ts (head (pipe c (later ++ Did (Records k (Answer txn attempt dm) sends) ∷ before)))) refl
       (λ no. snapped_behind later)
   snapped_behind (Did (Records c _ ss) ∷ later) = snap_behind s ts _ _ refl refl (snapped_behind later)
   snapped_behind (Did (Sends to m hand) ∷ later) = snap_behind s ts (Did (Sends to m hand)) _ refl refl (snapped_behind later)

@@ -22,12 +22,10 @@ pub source_is_home : (s : Setting) (c : ℕ) → IsClassHere s c → source_of (
 source_is_home s zero l = refl
 source_is_home s (suc n) l =
     let z : suc n - 1 ≡ n = omega arith in
-    let e : T (tm_no (class_at s.catalogue (suc n)).tm.0) ≡ T
-    (tm_no (slice_index_or s.catalogue.classes n no_class).tm.0) =
+    let e : T (tm_no (class_at s.catalogue (suc n)).tm.0) ≡ T (tm_no (slice_index_or s.catalogue.classes n no_class).tm.0) =
     ap (λ k. T (tm_no (slice_index_or s.catalogue.classes k no_class).tm.0)) z in
     class_there s.catalogue.classes n no_class (omega (arith, l))
-    ∙ sym (ap (λ (b : Bool). if b then U else T (tm_no (class_at s.catalogue (suc n)).tm.0))
-    (suc_no_zero n) ∙ e)
+    ∙ sym (ap (λ (b : Bool). if b then U else T (tm_no (class_at s.catalogue (suc n)).tm.0)) (suc_no_zero n) ∙ e)
 
 pub home_apart : (cat : Catalogue) (c d : ℕ) → same_site (home cat c) (D (dm_no d)) ≡ false
 home_apart cat c d = if_way (λ x. same_site x (D (dm_no d)) ≡ false) (c == 0) U (T (tm_no (class_at cat c).tm.0)) refl refl
@@ -68,8 +66,7 @@ asks_class s ts k t c m at e f = subst (λ j. home s.catalogue j ≡ s.site) (as
 none_asks : {A : Type 0} (ts c : ℕ) (m x : Msg) → m ≡ x → asks_rows ts c x ≡ false → asks_rows ts c m ≡ true → A
 none_asks ts c m x e f g = never (asks_rows ts c m) g (ap (asks_rows ts c) e ∙ f)
 
-send_class : (s : Setting) (log : site.Log) (ts c : ℕ) (m : Msg) → IsSend s log m → asks_rows ts c m ≡ true
-    → home s.catalogue c ≡ s.site
+send_class : (s : Setting) (log : site.Log) (ts c : ℕ) (m : Msg) → IsSend s log m → asks_rows ts c m ≡ true → home s.catalogue c ≡ s.site
 send_class s log ts c m (of_exchange k a at i e w) f = asks_class s a.ts k ts c m at e f
 send_class s log ts c m (a_null k at e) f = none_asks ts c m _ e refl f
 send_class s log ts c m (a_held e) f = none_asks ts c m _ e refl f
@@ -94,8 +91,7 @@ step_question s b log act place m ts c i =
     (λ to x hand f. λ there own. (let is : x ≡ m = (the_one b to x place m there).1 in
     send_class s log ts c x f (sym (send_is_question s log ts c x f) ∙ ap (is_question ts c) is ∙ own))) i
 
-data_question : {A : Type 0} (s : Setting) (log : site.Log) (b : Site) (act : Act) (m : Msg) (ts c : ℕ) → IsPutByD s log b act m
-    → is_question ts c m ≡ true → A
+data_question : {A : Type 0} (s : Setting) (log : site.Log) (b : Site) (act : Act) (m : Msg) (ts c : ℕ) → IsPutByD s log b act m → is_question ts c m ≡ true → A
 data_question s log b act (Read t k txn attempt conds uses) ts c h e = absurd h
 data_question s log b act (Fetch t k u col) ts c h e = absurd h
 data_question s log b act (Reduce t k u col vs) ts c h e = absurd h
@@ -119,10 +115,8 @@ data_asks_none s b log place m ts c h e f =
 pub question_home : (g : Given) (from b : Site) (log : Log) (place : ℕ) (m : Msg) (ts c : ℕ) → IsPermitted g log
     → slice_get (puts_to b (local_of g from log)) place ≡ Some m → is_question ts c m ≡ true → home g.catalogue c ≡ from
 question_home g U b log place m ts c h e f = asked_at_home (setting_of g U) b (local_of g U log) place m ts c (u_fair g log h) e f
-question_home g (T t) b log place m ts c h e f =
-    asked_at_home (setting_of g (T t)) b (local_of g (T t) log) place m ts c (t_fair g t log h) e f
-question_home g (D d) b log place m ts c h e f =
-    data_asks_none (setting_of g (D d)) b (local_of g (D d) log) place m ts c (d_fair g d log h) e f
+question_home g (T t) b log place m ts c h e f = asked_at_home (setting_of g (T t)) b (local_of g (T t) log) place m ts c (t_fair g t log h) e f
+question_home g (D d) b log place m ts c h e f = data_asks_none (setting_of g (D d)) b (local_of g (D d) log) place m ts c (d_fair g d log h) e f
 
 -- a FETCH, REDUCE or SHIP is of a class of the catalogue
 
@@ -140,12 +134,10 @@ act_here s log act i = step_way s log act (AsksHere s log)
     (λ k bases a at f. λ first b place ts c m there own. elim (commit_puts s k bases b a) [
       | inl p ↦ in_none _ place m p there
       | inr p ↦ never (asks_rows ts c m) own (sym (ap (asks_rows ts c) (in_one _ _ place m p.1 there)))
-    ])
-    (λ to x hand f. λ first b place ts c m there own. (first ts c (ap (asks_rows ts c) (the_one b to x place m there).1 ∙ own)).here) i
+    ]) (λ to x hand f. λ first b place ts c m there own. (first ts c (ap (asks_rows ts c) (the_one b to x place m there).1 ∙ own)).here) i
 
 pub asked_here : (g : Given) (c : ℕ) (b : Site) (log : Log) (place : ℕ) (m : Msg) (ts : ℕ) → IsPermitted g log
-    → slice_get (puts_to b (local_of g (home g.catalogue c) log)) place ≡ Some m → asks_rows ts c m ≡ true
-    → c ≤ length g.catalogue.classes
+    → slice_get (puts_to b (local_of g (home g.catalogue c) log)) place ≡ Some m → asks_rows ts c m ≡ true → c ≤ length g.catalogue.classes
 asked_here g c b log place m ts h e f =
     let s : Setting = setting_of g (home g.catalogue c) in
     let l : site.Log = local_of g (home g.catalogue c) log in
@@ -179,8 +171,7 @@ step_no_answer s b log act place m ts c i = step_way s log act (λ x. slice_get 
     (λ k bases a at f. λ there. elim (commit_puts s k bases b a) [
       | inl p ↦ in_none _ place m p there
       | inr p ↦ sym (ap (is_answer ts c) (in_one _ _ place m p.1 there))
-    ])
-    (λ to x hand f. λ there. sym (ap (is_answer ts c) (the_one b to x place m there).1) ∙ send_no_answer s log ts c x f) i
+    ]) (λ to x hand f. λ there. sym (ap (is_answer ts c) (the_one b to x place m there).1) ∙ send_no_answer s log ts c x f) i
 
 told_no_answer : (s : Setting) (b : Site) (log : site.Log) (place : ℕ) (m : Msg) (ts c : ℕ) → Each (IsFair s) log
     → slice_get (puts_to b log) place ≡ Some m → is_answer ts c m ≡ false
@@ -195,8 +186,7 @@ asked_from : (g : Given) (d : DmNo) (log : Log) (b : Site) (later : site.Log) (a
     → home g.catalogue c ≡ b
 asked_from g d log b later act before ts c P h e w f =
     let all : local_of g (D d) log ≡ (later ++ Did act ∷ w.later) ++ Handed b w.asked ∷ w.before =
-    e ∙ ap (λ l. later ++ Did act ∷ l) w.is
-    ∙ sym (append_assoc later (Did act ∷ w.later) (Handed b w.asked ∷ w.before)) in
+    e ∙ ap (λ l. later ++ Did act ∷ l) w.is ∙ sym (append_assoc later (Did act ∷ w.later) (Handed b w.asked ∷ w.before)) in
     let i = place_of_hand g (D d) log (later ++ Did act ∷ w.later) b w.asked w.before all in
     let p : IsPermitted g (Hand b (D d) i.number w.asked ∷ i.rest) =
     permitted_before g i.later (Hand b (D d) i.number w.asked ∷ i.rest) (subst (IsPermitted g) i.is h) in
@@ -231,8 +221,7 @@ data_answer g d log b later act before m ts c h e p f = cc
 -- an answer comes from a data module, and goes to the site that runs its class
 pub answer_source : (g : Given) (a b : Site) (log : Log) (place : ℕ) (m : Msg) (ts c : ℕ) → IsPermitted g log
     → slice_get (puts_to b (local_of g a log)) place ≡ Some m → is_answer ts c m ≡ true → (d : DmNo) × (a ≡ D d) × (home g.catalogue c ≡ b)
-answer_source g U b log place m ts c h e f =
-    never (is_answer ts c m) f (told_no_answer (setting_of g U) b (local_of g U log) place m ts c (u_fair g log h) e)
+answer_source g U b log place m ts c h e f = never (is_answer ts c m) f (told_no_answer (setting_of g U) b (local_of g U log) place m ts c (u_fair g log h) e)
 answer_source g (T t) b log place m ts c h e f =
     never (is_answer ts c m) f (told_no_answer (setting_of g (T t)) b (local_of g (T t) log) place m ts c (t_fair g t log h) e)
 answer_source g (D d) b log place m ts c h e f =

@@ -1,5 +1,5 @@
 -- What the modules keep for an attempt, as the log of everything goes on.
-use Rattle.sdd_obligations.proofs.All.{Catalogue, CopyRows, D, Deliver, Did, DmNo, Does, Down, Entry, Force, Frozen, Given, Hand, Handed, Log, Lose, Mark, None, Notes, Option, Redeclare, Redeclared, Redeclares, Repeat, Resend, Round, Setting, Settle, Site, Some, Space, Submit, Submits, Submitted, T, Tick, Ticked, Txn, U, Up, active, ap, class_at, contents, dated, dm_no, false, force_at, forced, given_to, home, if_way, kept, local_of, local_step, made, redeclares, refl, same_site, setting_of, subst, suc, sym, tm_no, txn_at, with_made, ℕ, ◌==◌, ◌∙◌, ◌∷◌, ◌≡◌}
+use Rattle.sdd_obligations.proofs.All.{Catalogue, CopyRows, D, Did, DmNo, Does, Entry, Force, Frozen, Given, Hand, Handed, Log, Mark, None, Option, Redeclared, Redeclares, Setting, Site, Some, Space, Submits, Submitted, T, Tick, Ticked, Txn, U, active, ap, class_at, contents, dated, dm_no, false, force_at, forced, given_to, home, if_way, kept, local_of, local_step, made, redeclares, refl, same_site, setting_of, subst, suc, sym, tm_no, txn_at, with_made, ℕ, ◌==◌, ◌∙◌, ◌∷◌, ◌≡◌}
 use Rattle.sdd_obligations.proofs.Places.{IsAnswerAt}
 use Rattle.sdd_obligations.proofs.Snapped.{answer_more}
 use Rattle.sdd_obligations.proofs.Kept.{kept_same}
@@ -84,8 +84,7 @@ agrees_before g ts copies e log h d x =
     let y = subst (AnswerWith ts x.before) (sym (local_step g (D (dm_no d)) e log)) (answer_made ts (made g (D (dm_no d)) log e) (own g d log) x) in
     h d y.0 ∙ ap (λ l. λ f. contents f (dated (set g d) l)) y.1
 
-pub space_same : (g : Given) (c ts : ℕ) (first : Space) (e : Entry) (log : Log)
-    → ((d : ℕ) → kept_at g c ts d (e ∷ log) ≡ kept_at g c ts d log)
+pub space_same : (g : Given) (c ts : ℕ) (first : Space) (e : Entry) (log : Log) → ((d : ℕ) → kept_at g c ts d (e ∷ log) ≡ kept_at g c ts d log)
     → space_at g c ts first (e ∷ log) ≡ space_at g c ts first log
 space_same g c ts first e log k = λ i d. or_first (k d i) (first d)
 
@@ -95,8 +94,7 @@ kept_apart g c ts d e log m = ap (kept (set g d) c ts) (local_step g (D (dm_no d
 
 pub kept_still : (g : Given) (c ts d : ℕ) (e : Entry) (log : Log) → IsStillEntry e → kept_at g c ts d (e ∷ log) ≡ kept_at g c ts d log
 kept_still g c ts d e log h = ap (kept (set g d) c ts) (local_step g (D (dm_no d)) e log)
-    ∙ still_kept (set g d) c ts (made g (D (dm_no d)) log e) (own g d log)
-    (made_still g (D (dm_no d)) log e h)
+    ∙ still_kept (set g d) c ts (made g (D (dm_no d)) log e) (own g d log) (made_still g (D (dm_no d)) log e h)
 
 -- the site of a class is no data module
 pub home_apart : (cat : Catalogue) (c d : ℕ) → same_site (D (dm_no d)) (home cat c) ≡ false

@@ -1,5 +1,5 @@
 -- On a permitted log the exchanges of a class with the data modules go by turns.
-use Rattle.sdd_obligations.proofs.All.{Act, AllLe, Bool, D, Did, Does, Each, Entry, Given, Hand, Handed, IsAllowed, IsDueEach, IsFair, IsPermitted, IsStage, IsStep, List, Log, MayAnswer, MayAsk, Msg, None, Option, Redeclared, Site, Some, Submits, T, Ticked, Turn, U, [], agreed, answers, ap, asked_by, cond, d_fair, dm_no, drop, false, filter, flight, frozen, goes_through, hand_was_put, handed, handed_by, home, home_fair, if◌then◌else◌, inl, inr, is_answer, is_exchanging, is_question, local_of, local_step, made, maker, number_of, own_act, put_by, puts_grow, puts_to, questions, refl, same_site, sends_of_act, setting_of, site_is, site_self, subst, sym, time_of, times_in, to_site, told_by, true, turn_at, turn_with, uses_held, with_made, ℕ, ◌&&◌, ◌++◌, ◌∙◌, ◌∷◌, ◌≡◌, ◌≤◌, ◌⊎◌}
+use Rattle.sdd_obligations.proofs.All.{Act, AllLe, Bool, D, Did, Does, Each, Entry, Given, Hand, Handed, IsAllowed, IsDueEach, IsFair, IsPermitted, IsStage, IsStep, List, Log, MayAnswer, MayAsk, Msg, None, Option, Site, Some, T, Turn, [], agreed, answers, ap, asked_by, cond, d_fair, dm_no, drop, false, filter, flight, frozen, goes_through, hand_was_put, handed, handed_by, home, home_fair, if◌then◌else◌, inl, inr, is_answer, is_exchanging, is_question, local_of, local_step, made, maker, number_of, own_act, put_by, puts_grow, puts_to, questions, refl, same_site, sends_of_act, setting_of, site_is, site_self, subst, sym, time_of, times_in, to_site, told_by, true, turn_at, turn_with, uses_held, with_made, ℕ, ◌&&◌, ◌++◌, ◌∙◌, ◌∷◌, ◌≡◌, ◌≤◌, ◌⊎◌}
 use Rattle.sdd_obligations.proofs.Asking.{asks_in_turn}
 use Rattle.sdd_obligations.proofs.Hearing.{IsTimely}
 use Rattle.sdd_obligations.proofs.DataSteps.{data_step}
@@ -40,8 +40,7 @@ MoveAt g ts c d e log =
 
 held_exchanging : (g : Given) (ts c d : ℕ) (log : Log) → IsPermitted g log → number_of (home g.catalogue c) ≤ 63 → IsSpoken g c log
     → (ns : List ℕ) → is_exchanging (turn_with ts c (home g.catalogue c) (data_log g d log)) ≡ true
-    → uses_held (turn_with ts c (home g.catalogue c) (data_log g d log)) ≡ Some ns
-    → AreHeldFor ts ns (frozen (setting_of g (D (dm_no d))) c (data_log g d log))
+    → uses_held (turn_with ts c (home g.catalogue c) (data_log g d log)) ≡ Some ns → AreHeldFor ts ns (frozen (setting_of g (D (dm_no d))) c (data_log g d log))
 held_exchanging g ts c d log h small i ns e f =
     let a = exchanging_active g ts c d log h i e in
     i.held ts d (subst (λ t. IsLast g t c d log) a.2 (active_last g c d log a.0 h small a.1)) ns f
@@ -54,12 +53,10 @@ move_home g ts c d log act h i =
     let w : Turn = turn_with ts c at (data_log g d log) in
     let s = home_act g c log act h in
     let pq : put_by (D (dm_no d)) (made g at log (Does at act)) ≡ to_site (D (dm_no d)) (sends_of_act act) =
-    put_did (same_site at at) (D (dm_no d)) act
-    ∙ ap (λ (b : Bool). if b then to_site (D (dm_no d)) (sends_of_act act) else []) (site_self at) in
+    put_did (same_site at at) (D (dm_no d)) act ∙ ap (λ (b : Bool). if b then to_site (D (dm_no d)) (sends_of_act act) else []) (site_self at) in
     let hq : handed_by at (made g (D (dm_no d)) log (Does at act)) ≡ [] = handed_did (same_site (D (dm_no d)) at) at act in
     let pa : put_by at (made g (D (dm_no d)) log (Does at act)) ≡ [] =
-    put_did (same_site (D (dm_no d)) at) at act
-    ∙ ap (λ (b : Bool). if b then to_site at (sends_of_act act) else []) (apart_from_home g.catalogue c d)
+    put_did (same_site (D (dm_no d)) at) at act ∙ ap (λ (b : Bool). if b then to_site at (sends_of_act act) else []) (apart_from_home g.catalogue c d)
     in
     let ha : handed_by (D (dm_no d)) (made g at log (Does at act)) ≡ [] = handed_did (same_site at at) (D (dm_no d)) act in
     elim (asks_in_turn (setting_of g at) c (home_log g c log) act ts d s.0 s.1 (home_turns g c log h.1 i)) [
@@ -79,8 +76,7 @@ move_data g ts c d log act h small i =
     ∙ ap (λ (b : Bool). if b then to_site from (sends_of_act act) else []) (home_apart g.catalogue c d) in
     let hq : handed_by at (made g from log (Does from act)) ≡ [] = handed_did (same_site from from) at act in
     let pa : put_by at (made g from log (Does from act)) ≡ to_site at (sends_of_act act) =
-    put_did (same_site from from) at act
-    ∙ ap (λ (b : Bool). if b then to_site at (sends_of_act act) else []) (site_self from) in
+    put_did (same_site from from) at act ∙ ap (λ (b : Bool). if b then to_site at (sends_of_act act) else []) (site_self from) in
     let ha : handed_by from (made g at log (Does from act)) ≡ [] = handed_did (same_site at from) from act in
     elim (tells_in_turn (setting_of g from) ts c at (data_log g d log) act (home_source g c d)
     (data_step (setting_of g from) (data_log g d log) act (data_act g d log act h))
@@ -113,13 +109,11 @@ move_act g ts c d log by act h small i =
 
 questions_if : (ts c : ℕ) (b : Bool) (m : Msg) → (questions ts c (if b then m ∷ [] else []) ≡ []) ⊎ (questions ts c (if b then m ∷ [] else []) ≡ m ∷ [])
 questions_if ts c false m = inl refl
-questions_if ts c true m =
-    elim (is_question ts c m) as (λ x. (cond x (m ∷ []) [] ≡ []) ⊎ (cond x (m ∷ []) [] ≡ m ∷ [])) [ true ↦ inr refl | false ↦ inl refl ]
+questions_if ts c true m = elim (is_question ts c m) as (λ x. (cond x (m ∷ []) [] ≡ []) ⊎ (cond x (m ∷ []) [] ≡ m ∷ [])) [ true ↦ inr refl | false ↦ inl refl ]
 
 answers_if : (ts c : ℕ) (b : Bool) (m : Msg) → (answers ts c (if b then m ∷ [] else []) ≡ []) ⊎ (answers ts c (if b then m ∷ [] else []) ≡ m ∷ [])
 answers_if ts c false m = inl refl
-answers_if ts c true m =
-    elim (is_answer ts c m) as (λ x. (cond x (m ∷ []) [] ≡ []) ⊎ (cond x (m ∷ []) [] ≡ m ∷ [])) [ true ↦ inr refl | false ↦ inl refl ]
+answers_if ts c true m = elim (is_answer ts c m) as (λ x. (cond x (m ∷ []) [] ≡ []) ⊎ (cond x (m ∷ []) [] ≡ m ∷ [])) [ true ↦ inr refl | false ↦ inl refl ]
 
 move_hand : (g : Given) (ts c d : ℕ) (log : Log) (from to : Site) (n : ℕ) (m : Msg) → MoveAt g ts c d (Hand from to n m) log
 move_hand g ts c d log from to n m =
@@ -133,8 +127,7 @@ move_hand g ts c d log from to n m =
     elim (same_site at to) as (λ b. same_site at to ≡ b → MoveAt g ts c d (Hand from to n m) log) [
       | true ↦ λ e.
           (let other : same_site (D (dm_no d)) to ≡ false =
-          subst (λ x. same_site (D (dm_no d)) x ≡ false) (site_is at to e)
-          (apart_from_home g.catalogue c d) in
+          subst (λ x. same_site (D (dm_no d)) x ≡ false) (site_is at to e) (apart_from_home g.catalogue c d) in
           let none = hq ∙ ap (λ (b : Bool). questions ts c (if b && same_site at from then m ∷ [] else [])) other in
           elim (answers_if ts c (same_site at to && same_site (D (dm_no d)) from) m) [
             | inl f ↦ move_as v w _ _ _ _ [] [] [] [] pq none pa (ha ∙ f) still
@@ -154,8 +147,7 @@ move_plain g ts c d log e p =
     let q = quiet_made g at log e p (D (dm_no d)) in
     let r = quiet_made g (D (dm_no d)) log e p at in
     move_as (turn_at ts c d (home_log g c log)) (turn_with ts c at (data_log g d log)) _ _ _ _ [] [] [] []
-    (ap (questions ts c) q.0) (ap (questions ts c) r.1) (ap (answers ts c) r.0)
-    (ap (answers ts c) q.1) still
+    (ap (questions ts c) q.0) (ap (questions ts c) r.1) (ap (answers ts c) r.0) (ap (answers ts c) q.1) still
 
 move_at : (g : Given) (ts c d : ℕ) (log : Log) (e : Entry) → IsPermitted g (e ∷ log) → number_of (home g.catalogue c) ≤ 63
     → IsSpoken g c log → MoveAt g ts c d e log
@@ -170,15 +162,12 @@ stage_step g ts c d log e h small i =
     let m : Site = D (dm_no d) in
     let now = moved (turn_at ts c d (home_log g c log)) (turn_with ts c at (data_log g d log)) _ _ _ _ _ _
     (questions ts c (flight g at m (e ∷ log))) (answers ts c (flight g m at (e ∷ log)))
-    (move_at g ts c d log e h small i) (questions_step g ts c at m e log h)
-    (answers_step g ts c m at e log h) (i.stages ts d) in
-    subst (λ v. IsStage v (turn_with ts c at (data_log g d (e ∷ log)))
-    (questions ts c (flight g at m (e ∷ log))) (answers ts c (flight g m at (e ∷ log))))
+    (move_at g ts c d log e h small i) (questions_step g ts c at m e log h) (answers_step g ts c m at e log h) (i.stages ts d) in
+    subst (λ v. IsStage v (turn_with ts c at (data_log g d (e ∷ log))) (questions ts c (flight g at m (e ∷ log))) (answers ts c (flight g m at (e ∷ log))))
     (sym (turn_at_step g ts c d at e log))
     (subst (λ w. IsStage (told_by (answers ts c (handed_by m (made g at log e)))
     (asked_by (questions ts c (put_by m (made g at log e))) (turn_at ts c d (home_log g c log)))) w
-    (questions ts c (flight g at m (e ∷ log))) (answers ts c (flight g m at (e ∷ log))))
-    (sym (turn_with_step g ts c at m e log)) now)
+    (questions ts c (flight g at m (e ∷ log))) (answers ts c (flight g m at (e ∷ log)))) (sym (turn_with_step g ts c at m e log)) now)
 
 -- what is handed over comes in turn
 
@@ -212,8 +201,7 @@ asked_made g c d log e (Handed from m) h i p = λ ts q.
     (let k = maker g (D (dm_no d)) log e (Handed from m) p in
     let a : IsAllowed g log (Hand from (D (dm_no d)) k.0 m) = subst (IsAllowed g log) k.1 h.0 in
     let f : home g.catalogue c ≡ from =
-    question_home g from (D (dm_no d)) log (handed from (D (dm_no d)) log) m ts c h.1
-    (hand_was_put g log from (D (dm_no d)) k.0 m a).1 q in
+    question_home g from (D (dm_no d)) log (handed from (D (dm_no d)) log) m ts c h.1 (hand_was_put g log from (D (dm_no d)) k.0 m a).1 q in
     (sym f, question_in_turn g c log d k.0 m ts i (subst (λ s. IsAllowed g log (Hand s (D (dm_no d)) k.0 m)) (sym f) a) q))
 asked_made g c d log e _ h i p = tt
 
@@ -231,8 +219,7 @@ last_if c ts false m xs ys f h = f h
 
 last_left : (c ts : ℕ) (ms more : List Msg) → AllLe ts (times_in c (ms ++ more)) → AllLe ts (times_in c ms)
 last_left c ts [] more h = tt
-last_left c ts (m ∷ ms) more h =
-    last_if c ts (goes_through c m) m (times_in c (ms ++ more)) (times_in c ms) (λ k. last_left c ts ms more k) h
+last_left c ts (m ∷ ms) more h = last_if c ts (goes_through c m) m (times_in c (ms ++ more)) (times_in c ms) (λ k. last_left c ts ms more k) h
 
 last_before : (g : Given) (ts c d : ℕ) (e : Entry) (log : Log) → IsLast g ts c d (e ∷ log) → IsLast g ts c d log
 last_before g ts c d e log h =
@@ -249,8 +236,7 @@ held_made g ts c d log e (Some (Did act)) h small i last p =
     let k : e ≡ Does (D (dm_no d)) act = maker g (D (dm_no d)) log e (Did act) p in
     let due = data_act g d log act (subst (λ x. IsPermitted g (x ∷ log)) k h) in
     held_act (setting_of g (D (dm_no d))) ts c (home g.catalogue c) (data_log g d log) act
-    (home_source g c d) (data_step (setting_of g (D (dm_no d))) (data_log g d log) act due)
-    (alone g ts c d log h.1 small i last) (i.held ts d last)
+    (home_source g c d) (data_step (setting_of g (D (dm_no d))) (data_log g d log) act due) (alone g ts c d log h.1 small i last) (i.held ts d last)
 held_made g ts c d log e _ h small i last p = i.held ts d last
 
 first_timely : (g : Given) (c : ℕ) (at : Site) → Each (IsTimely c) (local_of g at [])
@@ -271,14 +257,11 @@ spoken g c (e ∷ log) h small =
     record {
       stages = λ ts d. stage_step g ts c d log e h small i;
       timely_at = subst (Each (IsTimely c)) (sym (local_step g (home g.catalogue c) e log))
-          (each_made (IsTimely c) (made g (home g.catalogue c) log e) (home_log g c log)
-          (λ x p. timely_made g c log e x h i p) i.timely_at);
+          (each_made (IsTimely c) (made g (home g.catalogue c) log e) (home_log g c log) (λ x p. timely_made g c log e x h i p) i.timely_at);
       timely_with = λ d. subst (Each (IsAskedInTurn c (home g.catalogue c)))
           (sym (local_step g (D (dm_no d)) e log)) (each_made (IsAskedInTurn c (home g.catalogue c))
-          (made g (D (dm_no d)) log e) (data_log g d log) (λ x p. asked_made g c d log e x h i p)
-          (i.timely_with d));
-      held = λ ts d l. subst (λ k. IsHeldAt (setting_of g (D (dm_no d))) ts c (home g.catalogue c) k)
-          (sym (local_step g (D (dm_no d)) e log))
+          (made g (D (dm_no d)) log e) (data_log g d log) (λ x p. asked_made g c d log e x h i p) (i.timely_with d));
+      held = λ ts d l. subst (λ k. IsHeldAt (setting_of g (D (dm_no d))) ts c (home g.catalogue c) k) (sym (local_step g (D (dm_no d)) e log))
           (held_made g ts c d log e (made g (D (dm_no d)) log e) h small i (last_before g ts c d e log l)
           refl);
     }

@@ -1,5 +1,5 @@
 -- Each entry keeps an exchange in lockstep.
-use Rattle.sdd_obligations.proofs.All.{Asks, Bool, IsStage, List, MayAnswer, MayAsk, Msg, Refused, Silent, Told, Turn, [], agreed, answer_goes, ap, append-nil, asked, asked_by, false, if◌then◌else◌, is_a_refusal, question_goes, subst, sym, told, told_by, true, ℕ, ◌++◌, ◌∙◌, ◌∷◌, ◌≡◌}
+use Rattle.sdd_obligations.proofs.All.{Asks, Bool, IsStage, List, MayAnswer, MayAsk, Msg, Refused, Told, Turn, [], agreed, answer_goes, ap, append-nil, asked, asked_by, false, if◌then◌else◌, is_a_refusal, question_goes, subst, sym, told, told_by, true, ℕ, ◌++◌, ◌∙◌, ◌∷◌, ◌≡◌}
 
 -- what one entry adds: questions that are put, questions that are handed over, answers that are put, answers that are
 -- handed over
@@ -10,8 +10,7 @@ pub data IsMove (v w : Turn) : List Msg → List Msg → List Msg → List Msg �
   answer_put : (x : Msg) → MayAnswer w x → IsMove v w [] [] (x ∷ []) []
   answer_got : (x : Msg) → IsMove v w [] [] [] (x ∷ [])
 
-pub move_as : (v w : Turn) (a1 a2 a3 a4 b1 b2 b3 b4 : List Msg) → a1 ≡ b1 → a2 ≡ b2 → a3 ≡ b3 → a4 ≡ b4 → IsMove v w b1 b2 b3 b4
-    → IsMove v w a1 a2 a3 a4
+pub move_as : (v w : Turn) (a1 a2 a3 a4 b1 b2 b3 b4 : List Msg) → a1 ≡ b1 → a2 ≡ b2 → a3 ≡ b3 → a4 ≡ b4 → IsMove v w b1 b2 b3 b4 → IsMove v w a1 a2 a3 a4
 move_as v w a1 a2 a3 a4 b1 b2 b3 b4 e1 e2 e3 e4 h =
     subst (λ a. IsMove v w a a2 a3 a4) (sym e1) (subst (λ a. IsMove v w b1 a a3 a4) (sym e2)
     (subst (λ a. IsMove v w b1 b2 a a4) (sym e3) (subst (λ a. IsMove v w b1 b2 b3 a) (sym e4) h)))
@@ -39,16 +38,13 @@ same_stage v w qs xs qs2 xs2 e f h = subst (λ q. IsStage v w q xs2) (sym e) (su
 
 put_question : (v w : Turn) (qs xs qs2 xs2 : List Msg) (m : Msg) → MayAsk v m → qs2 ≡ qs ++ m ∷ [] → xs2 ≡ xs → IsStage v w qs xs
     → IsStage (asked m v) w qs2 xs2
-put_question v w qs xs qs2 xs2 m h e f (agreed s q x) =
-    question_goes m (e ∙ ap (λ l. l ++ m ∷ []) q) (f ∙ x) (ap (asked m) s) (subst (λ y. MayAsk y m) s h)
+put_question v w qs xs qs2 xs2 m h e f (agreed s q x) = question_goes m (e ∙ ap (λ l. l ++ m ∷ []) q) (f ∙ x) (ap (asked m) s) (subst (λ y. MayAsk y m) s h)
 put_question v w qs xs qs2 xs2 m h e f (question_goes n q x s a) = absurd (subst (λ y. MayAsk y m) s h)
 put_question v w qs xs qs2 xs2 m h e f (answer_goes y q x s a) = ask_or_answer v m y h a
 
-get_question : (v w : Turn) (qs xs qs2 xs2 : List Msg) (m : Msg) → m ∷ qs2 ≡ qs → xs2 ≡ xs → IsStage v w qs xs
-    → IsStage v (asked m w) qs2 xs2
+get_question : (v w : Turn) (qs xs qs2 xs2 : List Msg) (m : Msg) → m ∷ qs2 ≡ qs → xs2 ≡ xs → IsStage v w qs xs → IsStage v (asked m w) qs2 xs2
 get_question v w qs xs qs2 xs2 m e f (agreed s q x) = nothing m qs2 (e ∙ q)
-get_question v w qs xs qs2 xs2 m e f (question_goes n q x s a) =
-    let o = one_only m n qs2 (e ∙ q) in agreed (s ∙ ap (λ y. asked y w) (sym o.0)) o.1 (f ∙ x)
+get_question v w qs xs qs2 xs2 m e f (question_goes n q x s a) = let o = one_only m n qs2 (e ∙ q) in agreed (s ∙ ap (λ y. asked y w) (sym o.0)) o.1 (f ∙ x)
 get_question v w qs xs qs2 xs2 m e f (answer_goes y q x s a) = nothing m qs2 (e ∙ q)
 
 put_answer : (v w : Turn) (qs xs qs2 xs2 : List Msg) (y : Msg) → MayAnswer w y → qs2 ≡ qs → xs2 ≡ xs ++ y ∷ [] → IsStage v w qs xs
@@ -58,23 +54,19 @@ put_answer v w qs xs qs2 xs2 y h e f (agreed s q x) =
 put_answer v w qs xs qs2 xs2 y h e f (question_goes m q x s a) = ask_or_answer w m y a h
 put_answer v w qs xs qs2 xs2 y h e f (answer_goes z q x s a) = no_second v y z a (subst (λ u. MayAnswer u y) s h)
 
-get_answer : (v w : Turn) (qs xs qs2 xs2 : List Msg) (y : Msg) → qs2 ≡ qs → y ∷ xs2 ≡ xs → IsStage v w qs xs
-    → IsStage (told y v) w qs2 xs2
+get_answer : (v w : Turn) (qs xs qs2 xs2 : List Msg) (y : Msg) → qs2 ≡ qs → y ∷ xs2 ≡ xs → IsStage v w qs xs → IsStage (told y v) w qs2 xs2
 get_answer v w qs xs qs2 xs2 y e f (agreed s q x) = nothing y xs2 (f ∙ x)
 get_answer v w qs xs qs2 xs2 y e f (question_goes m q x s a) = nothing y xs2 (f ∙ x)
-get_answer v w qs xs qs2 xs2 y e f (answer_goes z q x s a) =
-    let o = one_only y z xs2 (f ∙ x) in agreed (ap (λ u. told u v) o.0 ∙ sym s) (e ∙ q) o.1
+get_answer v w qs xs qs2 xs2 y e f (answer_goes z q x s a) = let o = one_only y z xs2 (f ∙ x) in agreed (ap (λ u. told u v) o.0 ∙ sym s) (e ∙ q) o.1
 
 -- each entry keeps the stage
 pub moved : (v w : Turn) (pq hq pa ha qs xs qs2 xs2 : List Msg) → IsMove v w pq hq pa ha → hq ++ qs2 ≡ qs ++ pq → ha ++ xs2 ≡ xs ++ pa
     → IsStage v w qs xs → IsStage (told_by ha (asked_by pq v)) (told_by pa (asked_by hq w)) qs2 xs2
 moved v w pq hq pa ha qs xs qs2 xs2 still e f h = same_stage v w qs xs qs2 xs2 (e ∙ append-nil _) (f ∙ append-nil _) h
 moved v w pq hq pa ha qs xs qs2 xs2 (question_put m a) e f h = put_question v w qs xs qs2 xs2 m a e (f ∙ append-nil _) h
-moved v w pq hq pa ha qs xs qs2 xs2 (question_got m) e f h =
-    get_question v w qs xs qs2 xs2 m (e ∙ append-nil _) (f ∙ append-nil _) h
+moved v w pq hq pa ha qs xs qs2 xs2 (question_got m) e f h = get_question v w qs xs qs2 xs2 m (e ∙ append-nil _) (f ∙ append-nil _) h
 moved v w pq hq pa ha qs xs qs2 xs2 (answer_put y a) e f h = put_answer v w qs xs qs2 xs2 y a (e ∙ append-nil _) f h
-moved v w pq hq pa ha qs xs qs2 xs2 (answer_got y) e f h =
-    get_answer v w qs xs qs2 xs2 y (e ∙ append-nil _) (f ∙ append-nil _) h
+moved v w pq hq pa ha qs xs qs2 xs2 (answer_got y) e f h = get_answer v w qs xs qs2 xs2 y (e ∙ append-nil _) (f ∙ append-nil _) h
 
 -- a question or an answer that is the first under way comes in turn
 
@@ -92,13 +84,10 @@ answer_comes v w qs xs y rest e (answer_goes z q x s a) = subst (MayAnswer v) (s
 
 pub question_flies : (v w : Turn) (qs xs : List Msg) (m : Msg) (rest : List Msg) → qs ≡ m ∷ rest → IsStage v w qs xs → v ≡ asked m w
 question_flies v w qs xs m rest e (agreed s q x) = nothing m rest (sym e ∙ q)
-question_flies v w qs xs m rest e (question_goes n q x s a) =
-    s ∙ ap (λ y. asked y w) (sym (one_only m n rest (sym e ∙ q)).0)
+question_flies v w qs xs m rest e (question_goes n q x s a) = s ∙ ap (λ y. asked y w) (sym (one_only m n rest (sym e ∙ q)).0)
 question_flies v w qs xs m rest e (answer_goes y q x s a) = nothing m rest (sym e ∙ q)
 
-pub answer_flies : (v w : Turn) (qs xs : List Msg) (y : Msg) (rest : List Msg) → xs ≡ y ∷ rest → IsStage v w qs xs
-    → (w ≡ told y v) × (rest ≡ [])
+pub answer_flies : (v w : Turn) (qs xs : List Msg) (y : Msg) (rest : List Msg) → xs ≡ y ∷ rest → IsStage v w qs xs → (w ≡ told y v) × (rest ≡ [])
 answer_flies v w qs xs y rest e (agreed s q x) = nothing y rest (sym e ∙ x)
 answer_flies v w qs xs y rest e (question_goes m q x s a) = nothing y rest (sym e ∙ x)
-answer_flies v w qs xs y rest e (answer_goes z q x s a) =
-    let o = one_only y z rest (sym e ∙ x) in (s ∙ ap (λ u. told u v) (sym o.0), o.1)
+answer_flies v w qs xs y rest e (answer_goes z q x s a) = let o = one_only y z rest (sym e ∙ x) in (s ∙ ap (λ u. told u v) (sym o.0), o.1)

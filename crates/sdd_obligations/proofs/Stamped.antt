@@ -7,15 +7,13 @@ stamp_above s log = omega arith
 
 -- the timestamp of an active attempt was drawn
 pub active_above : (s : Setting) (c : ℕ) (log : Log) (a : Attempt) → Each (IsFair s) log → active s c log ≡ Some a → 0 < a.ts
-active_above s c log a f e =
-    let h = start_of_active s c log a f e in subst (λ t. 0 < t) (sym h.ts_is) (stamp_above s h.before)
+active_above s c log a f e = let h = start_of_active s c log a f e in subst (λ t. 0 < t) (sym h.ts_is) (stamp_above s h.before)
 
 pub stamp_ticks : (s : Setting) (log : Log) → next_stamp s log ≡ ((clock s.site log).ticks + 1) * 64 + number_of s.site
 stamp_ticks s log = let n = clock_number s.site log in omega (arith, n)
 
 -- of two Starts of a site the later one draws a greater timestamp
-later_start : (s : Setting) (c k : ℕ) (z b1 b2 : Log) (q1 : Queued) → b2 ≡ z ++ Did (start_at s c b1 q1) ∷ b1
-    → next_stamp s b1 < next_stamp s b2
+later_start : (s : Setting) (c k : ℕ) (z b1 b2 : Log) (q1 : Queued) → b2 ≡ z ++ Did (start_at s c b1 q1) ∷ b1 → next_stamp s b1 < next_stamp s b2
 later_start s c k z b1 b2 q1 e =
     let g = clock_grows s.site z (Did (start_at s c b1 q1) ∷ b1) in
     let n1 = clock_number s.site b1 in let n2 = clock_number s.site b2 in

@@ -117,8 +117,7 @@ one_start g sound c k log t q1 q2 lc lk x y =
     let s : Setting = setting_of g at in
     let alike : number_of at ≡ number_of (home g.catalogue k) =
     numbers_alike (clock at x.before).ticks (clock (home g.catalogue k) y.before).ticks (number_of at)
-    (number_of (home g.catalogue k)) (small_home g.catalogue sound c lc)
-    (small_home g.catalogue sound k lk)
+    (number_of (home g.catalogue k)) (small_home g.catalogue sound c lc) (small_home g.catalogue sound k lk)
     (sym (stamp_is s x.before) ∙ sym x.ts_is ∙ y.ts_is ∙ stamp_is (setting_of g (home g.catalogue k)) y.before) in
     let z : StartAt g k log at t q2 = subst (λ a. StartAt g k log a t q2) (sym (same_home g.catalogue sound c k lc lk alike)) y in
     let r = one_start_of_all s c k x.later z.later x.before z.before q1 q2 (sym x.ts_is ∙ z.ts_is) (sym x.is ∙ z.is) in
@@ -132,10 +131,8 @@ drawn_already g sound c k log q lc lk y =
     let s : Setting = setting_of g at in
     let alike : number_of at ≡ number_of (home g.catalogue k) =
     numbers_alike (clock at (local_of g at log)).ticks (clock (home g.catalogue k) y.before).ticks
-    (number_of at) (number_of (home g.catalogue k)) (small_home g.catalogue sound c lc)
-    (small_home g.catalogue sound k lk)
+    (number_of at) (number_of (home g.catalogue k)) (small_home g.catalogue sound c lc) (small_home g.catalogue sound k lk)
     (sym (stamp_is s (local_of g at log)) ∙ y.ts_is ∙ stamp_is (setting_of g (home g.catalogue k)) y.before) in
     let z : StartAt g k log at (next_stamp s (local_of g at log)) q =
-    subst (λ a. StartAt g k log a (next_stamp s (local_of g at log)) q)
-    (sym (same_home g.catalogue sound c k lc lk alike)) y in
+    subst (λ a. StartAt g k log a (next_stamp s (local_of g at log)) q) (sym (same_home g.catalogue sound c k lc lk alike)) y in
     behind s k z.later z.before (local_of g at log) q (sym z.ts_is) z.is

@@ -91,8 +91,7 @@ module _ (g : Given) (c : ℕ) (small : number_of (home g.catalogue c) ≤ 63) w
   question_from log from d n m ts h q =
       let entry : Entry = Hand from (D d) n m in
       let here : own g d.0 (entry ∷ log) ≡ Handed from m ∷ own g d.0 log = local_step g (D d) entry log
-      ∙ ap (λ b. with_made (if b then Some (Handed from m) else None) (own g d.0 log))
-      (same_number d.0) in
+      ∙ ap (λ b. with_made (if b then Some (Handed from m) else None) (own g d.0 log)) (same_number d.0) in
       let t = subst (Each (IsAskedInTurn c at)) here ((spoken g c (entry ∷ log) h small).timely_with d.0) in
       (t.0 ts q).0
 
@@ -100,8 +99,7 @@ module _ (g : Given) (c : ℕ) (small : number_of (home g.catalogue c) ≤ 63) w
       → IsPermitted g (Hand from (D d) n m ∷ log) → (k : ℕ) → Knows ts k log → Knows ts k (Hand from (D d) n m ∷ log)
   module_hand log from d n m ts h k knows = elim (same_or_not k d.0) [
     | inl p ↦ (let here : own g d.0 (Hand from (D d) n m ∷ log) ≡ Handed from m ∷ own g d.0 log =
-        local_step g (D d) (Hand from (D d) n m) log
-        ∙ ap (λ b. with_made (if b then Some (Handed from m) else None) (own g d.0 log)) (same_number d.0) in
+        local_step g (D d) (Hand from (D d) n m) log ∙ ap (λ b. with_made (if b then Some (Handed from m) else None) (own g d.0 log)) (same_number d.0) in
         subst (λ j. Knows ts j log → Knows ts j (Hand from (D d) n m ∷ log)) (sym p)
         (λ i. subst (KnowsTold (set g d.0) c ts at) (sym here)
         (told_hand (set g d.0) c ts at (own g d.0 log) from m (λ q. question_from log from d n m ts h q)
@@ -114,8 +112,7 @@ module _ (g : Given) (c : ℕ) (small : number_of (home g.catalogue c) ≤ 63) w
       → active s c (mine log) ≡ Some a → (k : ℕ) → Knows a.ts k log → Knows a.ts k (Does (D d) act ∷ log)
   module_act log d act a h e k knows = elim (same_or_not k d.0) [
     | inl p ↦ (let here : own g d.0 (Does (D d) act ∷ log) ≡ Did act ∷ own g d.0 log =
-        local_step g (D d) (Does (D d) act) log ∙ ap (λ b. with_made (if b then Some (Did act) else None)
-        (own g d.0 log)) (same_number d.0) in
+        local_step g (D d) (Does (D d) act) log ∙ ap (λ b. with_made (if b then Some (Did act) else None) (own g d.0 log)) (same_number d.0) in
         let sp = spoken g c log h.1 small in
         subst (λ j. Knows a.ts j log → Knows a.ts j (Does (D d) act ∷ log)) (sym p)
         (λ i. subst (KnowsTold (set g d.0) c a.ts at) (sym here)
@@ -144,8 +141,7 @@ module _ (g : Given) (c : ℕ) (small : number_of (home g.catalogue c) ≤ 63) w
       (Some q) = rw (same_number c) (ap (started (next_stamp s (mine log)) (sends_of_act act)) e) in
       subst (AllTold (Does at act ∷ log)) (sym is) (λ d. home_act log act (next_stamp s (mine log)) d (fresh log h d))
 
-  started_by : (log : Log) (k : ℕ) (q : Queued) → IsPermitted g log
-      → head_of (queue s k (mine log)) ≡ Some q → AllTold log (active s c (mine log))
+  started_by : (log : Log) (k : ℕ) (q : Queued) → IsPermitted g log → head_of (queue s k (mine log)) ≡ Some q → AllTold log (active s c (mine log))
       → AllTold (Does at (start_at s k (mine log) q) ∷ log)
       (active s c (Did (start_at s k (mine log) q) ∷ mine log))
   started_by log k q h e told = elim (same_or_not k c) [
@@ -174,8 +170,7 @@ module _ (g : Given) (c : ℕ) (small : number_of (home g.catalogue c) ≤ 63) w
       → AllTold log (active s c (mine log)) → AllTold (Does at act ∷ log) (active s c (Did act ∷ mine log))
   acted_home log act h told =
       let step = (subst (λ l. Each (IsFair s) l) (own_act g at act log) (home_fair g c (Does at act ∷ log) h)).0 in
-      step_way s (mine log) act (λ x. AllTold (Does at x ∷ log) (active s c (Did x ∷ mine log)))
-      (λ k q here idle e. started_by log k q h.1 e told)
+      step_way s (mine log) act (λ x. AllTold (Does at x ∷ log) (active s c (Did x ∷ mine log))) (λ k q here idle e. started_by log k q h.1 e told)
       (λ k bases a here e. committed_by log k bases a told)
       (λ to m hand i. told_on (Does at (Sends to m hand)) log (active_sent c m (active s c (mine log))) (λ a e d. home_act log (Sends to m hand) a.ts d)
       (sent_way (AllTold log) c m (active s c (mine log)) (λ a x e. subst (AllTold log) e told) told)) step
@@ -190,27 +185,20 @@ module _ (g : Given) (c : ℕ) (small : number_of (home g.catalogue c) ≤ 63) w
       → AllTold (Hand from to n m ∷ log) (active s c (mine (Hand from to n m ∷ log)))
   by_hand log from to n m told hand true e =
       let here : mine (Hand from at n m ∷ log) ≡ Handed from m ∷ mine log =
-      local_step g at (Hand from at n m) log
-      ∙ ap (λ b. with_made (if b then Some (Handed from m) else None) (mine log)) (site_self at) in
+      local_step g at (Hand from at n m) log ∙ ap (λ b. with_made (if b then Some (Handed from m) else None) (mine log)) (site_self at) in
       subst (λ x. AllTold (Hand from x n m ∷ log) (active s c (mine (Hand from x n m ∷ log)))) (site_is at to e)
       (subst (λ l. AllTold (Hand from at n m ∷ log) (active s c l)) (sym here)
       (told_on (Hand from at n m) log (active_handed c from m (active s c (mine log))) (λ a i d. home_hand log from n m a.ts d)
       (handed_way (AllTold log) c from m (active s c (mine log)) tt (λ a x i. subst (AllTold log) i told) told)))
   by_hand log from (D d) n m told hand false e =
-      subst (AllTold (Hand from (D d) n m ∷ log))
-      (sym (home_same (Hand from (D d) n m) log (ap (λ b. if b then Some (Handed from m) else None) e)))
-      (told_on (Hand from (D d) n m) log (active s c (mine log))
-      (λ a i k. module_hand log from d n m a.ts hand k) told)
+      subst (AllTold (Hand from (D d) n m ∷ log)) (sym (home_same (Hand from (D d) n m) log (ap (λ b. if b then Some (Handed from m) else None) e)))
+      (told_on (Hand from (D d) n m) log (active s c (mine log)) (λ a i k. module_hand log from d n m a.ts hand k) told)
   by_hand log from U n m told hand false e =
-      subst (AllTold (Hand from U n m ∷ log))
-      (sym (home_same (Hand from U n m) log (ap (λ b. if b then Some (Handed from m) else None) e)))
-      (told_on (Hand from U n m) log (active s c (mine log))
-      (λ a i k. apart (Hand from U n m) log a.ts k refl) told)
+      subst (AllTold (Hand from U n m ∷ log)) (sym (home_same (Hand from U n m) log (ap (λ b. if b then Some (Handed from m) else None) e)))
+      (told_on (Hand from U n m) log (active s c (mine log)) (λ a i k. apart (Hand from U n m) log a.ts k refl) told)
   by_hand log from (T t) n m told hand false e =
-      subst (AllTold (Hand from (T t) n m ∷ log))
-      (sym (home_same (Hand from (T t) n m) log (ap (λ b. if b then Some (Handed from m) else None) e)))
-      (told_on (Hand from (T t) n m) log (active s c (mine log))
-      (λ a i k. apart (Hand from (T t) n m) log a.ts k refl) told)
+      subst (AllTold (Hand from (T t) n m ∷ log)) (sym (home_same (Hand from (T t) n m) log (ap (λ b. if b then Some (Handed from m) else None) e)))
+      (told_on (Hand from (T t) n m) log (active s c (mine log)) (λ a i k. apart (Hand from (T t) n m) log a.ts k refl) told)
 
   by_act : (log : Log) (by : Site) (act : Act) → AllTold log (active s c (mine log))
       → IsPermitted g (Does by act ∷ log) → (b : Bool) → same_site at by ≡ b → AllTold (Does by act ∷ log)
@@ -219,26 +207,21 @@ module _ (g : Given) (c : ℕ) (small : number_of (home g.catalogue c) ≤ 63) w
       let P : Site → Type 0 = λ x. IsPermitted g (Does x act ∷ log) → AllTold (Does x act ∷ log) (active s c (mine (Does x act ∷ log))) in
       subst P (site_is at by e) (λ h. subst (λ l. AllTold (Does at act ∷ log) (active s c l)) (sym (own_act g at act log)) (acted_home log act h told)) hand
   by_act log (D d) act told hand false e =
-      subst (AllTold (Does (D d) act ∷ log))
-      (sym (home_same (Does (D d) act) log (ap (λ b. if b then Some (Did act) else None) e)))
+      subst (AllTold (Does (D d) act ∷ log)) (sym (home_same (Does (D d) act) log (ap (λ b. if b then Some (Did act) else None) e)))
       (told_on (Does (D d) act) log (active s c (mine log)) (λ a i k. module_act log d act a hand i k)
       told)
   by_act log U act told hand false e =
-      subst (AllTold (Does U act ∷ log))
-      (sym (home_same (Does U act) log (ap (λ b. if b then Some (Did act) else None) e)))
+      subst (AllTold (Does U act ∷ log)) (sym (home_same (Does U act) log (ap (λ b. if b then Some (Did act) else None) e)))
       (told_on (Does U act) log (active s c (mine log)) (λ a i k. apart (Does U act) log a.ts k refl)
       told)
   by_act log (T t) act told hand false e =
-      subst (AllTold (Does (T t) act ∷ log))
-      (sym (home_same (Does (T t) act) log (ap (λ b. if b then Some (Did act) else None) e)))
-      (told_on (Does (T t) act) log (active s c (mine log))
-      (λ a i k. apart (Does (T t) act) log a.ts k refl) told)
+      subst (AllTold (Does (T t) act ∷ log)) (sym (home_same (Does (T t) act) log (ap (λ b. if b then Some (Did act) else None) e)))
+      (told_on (Does (T t) act) log (active s c (mine log)) (λ a i k. apart (Does (T t) act) log a.ts k refl) told)
 
   by_still : (log : Log) (e : Entry) → IsStillEntry e → AllTold log (active s c (mine log)) → AllTold (e ∷ log) (active s c (mine (e ∷ log)))
   by_still log e still told =
       let same : active s c (mine (e ∷ log)) ≡ active s c (mine log) =
-      ap (active s c) (local_step g at e log) ∙ still_active s c (made g at log e) (mine log)
-      (made_still g at log e still) in
+      ap (active s c) (local_step g at e log) ∙ still_active s c (made g at log e) (mine log) (made_still g at log e still) in
       subst (AllTold (e ∷ log)) (sym same)
       (told_on e log (active s c (mine log)) (λ a i d k. subst (KnowsTold (set g d) c a.ts at)
       (sym (local_step g (D (dm_no d)) e log)) (told_quiet (set g d) c a.ts at
@@ -264,8 +247,7 @@ module _ (g : Given) (c : ℕ) (small : number_of (home g.catalogue c) ≤ 63) w
   answers_put ts d log m e =
       let ms : List Msg = puts_to at (own g d.0 log) in
       ap (answers ts c) (sym (take-append-drop (handed (D d) at log) ms)) ∙ filter-append (is_answer ts c)
-      (take (handed (D d) at log) ms) (drop (handed (D d) at log) ms)
-      ∙ ap (λ l. answers ts c (take (handed (D d) at log) ms) ++ l) e
+      (take (handed (D d) at log) ms) (drop (handed (D d) at log) ms) ∙ ap (λ l. answers ts c (take (handed (D d) at log) ms) ++ l) e
 
   answered : (log : Log) (a : Attempt) → IsPermitted g log → active s c (mine log) ≡ Some a
       → (d : DmNo) (n : ℕ) (m : Msg) → IsPermitted g (Hand (D d) at n m ∷ log) → is_answer a.ts c m ≡ true
@@ -279,11 +261,9 @@ module _ (g : Given) (c : ℕ) (small : number_of (home g.catalogue c) ≤ 63) w
         replies = st.replies;
         tells = λ r.
             let turn : turn_with a.ts c at (own g d.0 log) ≡ Told st.uses st.question =
-            st.tells ∙ told_is (Asks st.uses st.question) st.uses st.question m refl
-            (no_refusal st.uses st.question m r st.replies) in
+            st.tells ∙ told_is (Asks st.uses st.question) st.uses st.question m refl (no_refusal st.uses st.question m r st.replies) in
             let k = subst (AllTold log) e (told_all log h) d.0 st.uses st.question turn r in
-            let same : k.answer ≡ m = last_same k.front
-            (answers a.ts c (take (handed (D d) at log) (puts_to at (own g d.0 log)))) k.answer m
+            let same : k.answer ≡ m = last_same k.front (answers a.ts c (take (handed (D d) at log) (puts_to at (own g d.0 log)))) k.answer m
             (sym k.last ∙ answers_put a.ts d log m st.alone) in
             (k.rows, k.kept_is, subst (λ x. Tells st.question x k.rows) same k.tells);
       }

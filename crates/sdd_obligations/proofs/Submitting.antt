@@ -1,5 +1,5 @@
 -- A transaction that is next to be given to a module is new there, fits, and is of the module.
-use Rattle.sdd_obligations.proofs.All.{Bool, Deliver, Did, Does, Down, Each, Entry, Event, Fits, Force, Given, Hand, Handed, IsLawful, IsNew, IsSmall, Log, Lose, Mark, None, Notes, Option, Redeclare, Redeclares, Repeat, Resend, Round, Settle, Site, Some, Submit, Submits, Submitted, T, Tick, Ticked, TmNo, Txn, U, Up, [], all_new, ap, arith, both, class_for, contains, differ, false, force_at, if_way, if◌then◌else◌, in_force, is_site, lawful_permitted, local_of, mark_due, nat_le, nat_tests, next, note_if, redeclares, refl, same_site, setting_of, site_self, submits, subst, sym, true, txn_at, with_submit, with_tick, ℕ, ◌==◌, ◌∙◌, ◌∷◌, ◌≡◌, ◌≢◌, ◌≤◌}
+use Rattle.sdd_obligations.proofs.All.{Bool, Deliver, Did, Does, Down, Each, Entry, Event, Fits, Force, Given, Hand, Handed, IsLawful, IsNew, IsSmall, Log, Lose, Mark, None, Notes, Option, Repeat, Resend, Round, Site, Some, Submit, Submits, Submitted, T, Tick, Ticked, TmNo, Txn, U, Up, all_new, ap, arith, both, class_for, contains, differ, false, force_at, if_way, if◌then◌else◌, in_force, is_site, lawful_permitted, local_of, mark_due, nat_le, nat_tests, next, note_if, redeclares, refl, same_site, setting_of, site_self, submits, subst, sym, true, txn_at, with_submit, with_tick, ℕ, ◌==◌, ◌∙◌, ◌∷◌, ◌≡◌, ◌≢◌, ◌≤◌}
 use Rattle.sdd_obligations.proofs.OfNext.{of_next}
 use Rattle.sdd_invariants.specs.logs.Due.{home_of}
 use Rattle.sdd_invariants.specs.site_module.SiteLog as site
@@ -62,10 +62,8 @@ forced_is g t (Hand a b n m ∷ log) =
     if_way (IsForced g (redeclares log) t) (same_site (T t) b) (Handed a m ∷ local_of g (T t) log)
     (local_of g (T t) log) (forced_is g t log) (forced_is g t log)
 forced_is g t (Submitted at n ∷ log) =
-    if_way (IsForced g (redeclares log) t) (same_site (T t) at)
-    (with_submit n (txn_at g n) (local_of g (T t) log)) (local_of g (T t) log)
-    (submit_forced g (redeclares log) t n (txn_at g n) (local_of g (T t) log) (forced_is g t log))
-    (forced_is g t log)
+    if_way (IsForced g (redeclares log) t) (same_site (T t) at) (with_submit n (txn_at g n) (local_of g (T t) log)) (local_of g (T t) log)
+    (submit_forced g (redeclares log) t n (txn_at g n) (local_of g (T t) log) (forced_is g t log)) (forced_is g t log)
 forced_is g t (Does by act ∷ log) =
     if_way (IsForced g (redeclares log) t) (same_site (T t) by) (Did act ∷ local_of g (T t) log) (local_of g (T t) log) (forced_is g t log) (forced_is g t log)
 forced_is g t (Round es ∷ log) = forced_is g t log
@@ -104,5 +102,4 @@ home_of_some g log at (Some txn) f e =
 
 pub home_exists : (g : Given) (log : Log) (at : Site) (n : ℕ) → IsSmall g → IsLawful g log → next g log ≡ Some (Submitted at n)
     → ((k : ℕ) (txn : Txn) → txn_at g k ≡ Some txn → Fits g.catalogue txn) → is_site g.catalogue.tms g.catalogue.dms at ≡ true
-home_exists g log at n s l e fit =
-    home_of_some g log at (txn_at g n) (λ txn p. let i = (fit n txn p).module_is_there in (i.0, i.1)) (at_home g log at n s l e)
+home_exists g log at n s l e fit = home_of_some g log at (txn_at g n) (λ txn p. let i = (fit n txn p).module_is_there in (i.0, i.1)) (at_home g log at n s l e)

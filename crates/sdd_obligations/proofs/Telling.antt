@@ -1,5 +1,5 @@
 -- A data module answers in turn, where each question that is handed to it comes in turn.
-use Rattle.sdd_obligations.proofs.All.{Act, Answer, Apply, Asks, Bool, Cond, Did, Done, Each, Handed, IsClassHere, IsDueEach, List, Msg, Null, Open, Pass, Pipe, Read, Ready, Rec, Records, Redeclared, Refused, Reject, Rejected, Sends, Setting, Silent, Site, Some, Submits, Ticked, Told, Ts, Turn, U, Wait, Write, [], and_right as and_right_of, answers, ap, ask_for, at_seam, cond, done_for, eqb-true, false, filter, frozen, goes_through, head, head_of, head_processed, home_of, if_way, if◌then◌else◌, inl, inr, is_a_refusal, is_answer, is_processing, is_read, length, map, not_own, opens, own_record, pipe, pipe_acted, processed_more, put, reads_asked, refl, rows_asked, same_or_not, same_site, site_self, slice_get, source_of, subst, sym, tail_of, to_site, told, told_by, true, turn_with, ℕ, ◌&&◌, ◌++◌, ◌==◌, ◌∙◌, ◌∷◌, ◌≡◌}
+use Rattle.sdd_obligations.proofs.All.{Act, Answer, Apply, Asks, Bool, Cond, Did, Done, Each, Handed, IsClassHere, IsDueEach, List, Msg, Null, Open, Pass, Pipe, Read, Ready, Rec, Records, Refused, Reject, Rejected, Sends, Setting, Site, Some, Told, Ts, Turn, U, Wait, Write, [], and_right as and_right_of, answers, ap, ask_for, at_seam, cond, done_for, eqb-true, false, filter, frozen, goes_through, head, head_of, head_processed, home_of, if_way, if◌then◌else◌, inl, inr, is_a_refusal, is_answer, is_processing, is_read, length, map, not_own, opens, own_record, pipe, pipe_acted, processed_more, put, reads_asked, refl, rows_asked, same_or_not, same_site, site_self, slice_get, source_of, subst, sym, tail_of, to_site, told, told_by, true, turn_with, ℕ, ◌&&◌, ◌++◌, ◌==◌, ◌∙◌, ◌∷◌, ◌≡◌}
 use Rattle.sdd_obligations.proofs.Hearing.{told_one}
 use Rattle.sdd_obligations.proofs.DataSteps.{IsDataStep, counts_told, data_step, data_step_way}
 use Rattle.sdd_obligations.proofs.Replying.{HasTurn, HasTurnAt, IsAskedInTurn, IsProcessed, and_no, asker, asks_open, from_site, read_asks_none, read_is_a_read, turn_arrives, turn_hand, turn_replies, turn_still}
@@ -27,18 +27,15 @@ reads_left : (ts c k : ℕ) (r : Rec) (sends : List (Site × Msg)) (log : Log) (
 reads_left ts c k r sends log m p h e = elim (same_or_not k c) [
   | inl q ↦ subst (λ j. filter (is_read ts c) (pipe j (Did (Records k r sends) ∷ log)).unprocessed ≡ filter (is_read ts c) (pipe j log).unprocessed) q
       (ap (filter (is_read ts c)) (own_taken k r sends log p)
-      ∙ sym (ap (filter (is_read ts c)) (head_rest_of (pipe k log).unprocessed m h)
-      ∙ not_first (is_read ts c) m (tail_of (pipe k log).unprocessed) e))
+      ∙ sym (ap (filter (is_read ts c)) (head_rest_of (pipe k log).unprocessed m h) ∙ not_first (is_read ts c) m (tail_of (pipe k log).unprocessed) e))
   | inr q ↦ ap (λ (x : Pipe). filter (is_read ts c) x.unprocessed) (not_own c k r sends log (inl q)).pipe_same
 ]
 
 pub read_class : (ts c k : ℕ) (m : Msg) → is_read ts c m ≡ true → goes_through k m ≡ true → k ≡ c
-read_class ts c k (Read t j txn attempt conds uses) e f =
-    sym (eqb-true j.0 k f) ∙ eqb-true j.0 c (and_right_of (t.0 == ts) (j.0 == c) e)
+read_class ts c k (Read t j txn attempt conds uses) e f = sym (eqb-true j.0 k f) ∙ eqb-true j.0 c (and_right_of (t.0 == ts) (j.0 == c) e)
 read_class ts c k m e f = cc
 
-reads_one : (ts c : ℕ) (v : Turn) (m : Msg) (rest : List Msg) → m ∷ rest ≡ reads_asked ts c v
-    → (ns : List ℕ) × (v ≡ Asks ns m) × (rest ≡ [])
+reads_one : (ts c : ℕ) (v : Turn) (m : Msg) (rest : List Msg) → m ∷ rest ≡ reads_asked ts c v → (ns : List ℕ) × (v ≡ Asks ns m) × (rest ≡ [])
 reads_one ts c (Asks ns q) m rest e = elim (is_read ts c q) as (λ b. m ∷ rest ≡ (if b then q ∷ [] else [])
     → (ms : List ℕ) × (Asks ns q ≡ Asks ms m) × (rest ≡ [])) [
       | true ↦ λ f. (let p : m ≡ q = cc in let r : rest ≡ [] = cc in (ns, ap (λ x. Asks ns x) (sym p), r))
@@ -71,8 +68,7 @@ ended_turn ts c at os p false ns m e f h = record { own = tt; rows_are = e; read
 -- the READY or REJECT that answers the READ at a head
 turn_read : (ts c : ℕ) (at : Site) (log : Log) (k : ℕ) (r : Rec) (m x : Msg) (src : Site) → is_processing r ≡ true
     → opens (Did (Records k r ((src, x) ∷ [])) ∷ log) ≡ opens log → head (pipe k log) ≡ Some m → goes_through k m ≡ true
-    → is_answer ts c x ≡ is_read ts c m → (k ≡ c → src ≡ at) → HasTurnAt ts c at log
-    → HasTurnAt ts c at (Did (Records k r ((src, x) ∷ [])) ∷ log)
+    → is_answer ts c x ≡ is_read ts c m → (k ≡ c → src ≡ at) → HasTurnAt ts c at log → HasTurnAt ts c at (Did (Records k r ((src, x) ∷ [])) ∷ log)
 turn_read ts c at log k r m x src p same e through f home h =
     let v : Turn = turn_with ts c at log in
     let act : Act = Records k r ((src, x) ∷ []) in
@@ -86,24 +82,19 @@ turn_read ts c at log k r m x src p same e through f home h =
           turn_is ∙ ap (λ (b : Bool). if same_site at src && b then told x v else v) q
           ∙ ap (λ (b : Bool). if b && true then told x v else v) here ∙ ap (told x) w.is in
           let taken : pipe c (Did act ∷ log) ≡ head_processed (pipe c log) =
-          subst (λ j. pipe j (Did act ∷ log) ≡ head_processed (pipe j log)) w.class_is
-          (own_record k r ((src, x) ∷ []) log p).0 in
+          subst (λ j. pipe j (Did act ∷ log) ≡ head_processed (pipe j log)) w.class_is (own_record k r ((src, x) ∷ []) log p).0 in
           let at_head : head (pipe c log) ≡ Some m = subst (λ j. head (pipe j log) ≡ Some m) w.class_is e in
           let done : (pipe c (Did act ∷ log)).processed ≡ (pipe c log).processed ++ m ∷ [] =
           ap (λ (y : Pipe). y.processed) taken ∙ processed_more (pipe c log) m at_head in
           subst (λ y. HasTurn ts c at (opens (Did act ∷ log)) (pipe c (Did act ∷ log)) y) (sym now)
           (ended_turn ts c at (opens (Did act ∷ log)) (pipe c (Did act ∷ log)) (is_a_refusal x) w.uses m
           (ap (λ l. map asker (filter (asks_open ts c) l)) same ∙ h.rows_are
-          ∙ ap (λ y. map (from_site at) (rows_asked ts c y)) w.is
-          ∙ ap (λ (b : Bool). map (from_site at) (if b then m ∷ [] else []))
-          (read_asks_none ts c m (read_is_a_read ts c m q)))
-          (ap (λ (y : Pipe). filter (is_read ts c) y.unprocessed) taken ∙ w.last)
+          ∙ ap (λ y. map (from_site at) (rows_asked ts c y)) w.is ∙ ap (λ (b : Bool). map (from_site at) (if b then m ∷ [] else []))
+          (read_asks_none ts c m (read_is_a_read ts c m q))) (ap (λ (y : Pipe). filter (is_read ts c) y.unprocessed) taken ∙ w.last)
           (record {
             place = length (pipe c log).processed;
             read = m;
-            there =
-                subst (λ l. slice_get l (length (pipe c log).processed) ≡ Some m) (sym done)
-                (at_seam (pipe c log).processed [] m);
+            there = subst (λ l. slice_get l (length (pipe c log).processed) ≡ Some m) (sym done) (at_seam (pipe c log).processed [] m);
             is = q;
           })))
       | false ↦ λ q. turn_still ts c at log act
@@ -120,8 +111,7 @@ asks_no_answer ts c at f [] h = refl
 asks_no_answer ts c at f (d ∷ ds) h =
     if_way (λ l. answers ts c l ≡ []) (same_site at (f d).0) ((f d).1 ∷ to_site at (map f ds)) (to_site at (map f ds))
     (ap (λ (b : Bool). cond b ((f d).1 ∷ answers ts c (to_site at (map f ds)))
-    (answers ts c (to_site at (map f ds)))) (h d) ∙ asks_no_answer ts c at f ds h)
-    (asks_no_answer ts c at f ds h)
+    (answers ts c (to_site at (map f ds)))) (h d) ∙ asks_no_answer ts c at f ds h) (asks_no_answer ts c at f ds h)
 
 pub done_no_answer : (ts c : ℕ) (at : Site) (k : ℕ) (t : Ts) → answers ts c (to_site at (done_for k (Done t))) ≡ []
 done_no_answer ts c at k t =
@@ -142,8 +132,7 @@ through_tail : (c : ℕ) (ms : List Msg) → AllThrough c ms → AllThrough c (t
 through_tail c [] h = tt
 through_tail c (x ∷ ms) h = h.1
 
-through_put : (c : ℕ) (b : Bool) (m : Msg) (p : Pipe) → goes_through c m ≡ b → AllThrough c p.unprocessed
-    → AllThrough c (if b then put m p else p).unprocessed
+through_put : (c : ℕ) (b : Bool) (m : Msg) (p : Pipe) → goes_through c m ≡ b → AllThrough c p.unprocessed → AllThrough c (if b then put m p else p).unprocessed
 through_put c true m p e h = through_push c p.unprocessed m h e
 through_put c false m p e h = h
 
@@ -172,11 +161,9 @@ IsHomeOf s c at = IsClassHere s c → source_of (home_of s) c ≡ at
 turn_act : (s : Setting) (ts c : ℕ) (at : Site) (log : Log) (act : Act) → IsHomeOf s c at → IsDataStep s log act → HasTurnAt ts c at log
     → HasTurnAt ts c at (Did act ∷ log)
 turn_act s ts c at log act home i h = data_step_way s log act (λ x. HasTurnAt ts c at (Did x ∷ log))
-    (λ k txn attempt. turn_arrives ts c at log k txn attempt (home_of s).dm h)
-    (λ k o m e r. turn_replies ts c at log (frozen s k log) k o m e r h)
+    (λ k txn attempt. turn_arrives ts c at log k txn attempt (home_of s).dm h) (λ k o m e r. turn_replies ts c at log (frozen s k log) k o m e r h)
     (λ k t j txn attempt conds uses l e. turn_read ts c at log k (Answer txn attempt (home_of s).dm)
-    (Read t j txn attempt conds uses) (Ready t j (counts_told s log t.0 uses))
-    (source_of (home_of s) k) refl refl e (head_through k log _ e) refl
+    (Read t j txn attempt conds uses) (Ready t j (counts_told s log t.0 uses)) (source_of (home_of s) k) refl refl e (head_through k log _ e) refl
     (λ q. subst (λ n. source_of (home_of s) n ≡ at) (sym q) (home (subst (IsClassHere s) q l))) h)
     (λ k t j txn attempt conds uses by write l e. turn_read ts c at log k
     (Rejected txn attempt (home_of s).dm by write) (Read t j txn attempt conds uses) (Reject t j by write)
@@ -185,8 +172,7 @@ turn_act s ts c at log act home i h = data_step_way s log act (λ x. HasTurnAt t
     (λ k txn attempt ds. turn_still ts c at log (Records k (Wait txn attempt (home_of s).dm ds) (map (ask_for (home_of s)) ds))
     (ap (λ l. told_by l (turn_with ts c at log)) (asks_no_answer ts c at (ask_for (home_of s)) ds (λ d. refl))) refl
     (ap (λ (p : Pipe). filter (is_read ts c) p.unprocessed)
-    (not_own c k (Wait txn attempt (home_of s).dm ds) (map (ask_for (home_of s)) ds) log
-    (inr refl)).pipe_same) h)
+    (not_own c k (Wait txn attempt (home_of s).dm ds) (map (ask_for (home_of s)) ds) log (inr refl)).pipe_same) h)
     (λ k t j txn changes e. turn_still ts c at log (Records k (Apply txn j (home_of s).dm t) (done_for k (Done t)))
     (ap (λ l. told_by l (turn_with ts c at log)) (done_no_answer ts c at k t)) refl
     (reads_left ts c k (Apply txn j (home_of s).dm t) (done_for k (Done t)) log (Write t j txn changes) refl e refl) h)
@@ -196,9 +182,7 @@ turn_act s ts c at log act home i h = data_step_way s log act (λ x. HasTurnAt t
 pub has_turn : (s : Setting) (ts c : ℕ) (at : Site) (log : Log) → IsHomeOf s c at → Each (IsDueEach s) log → Each (IsAskedInTurn c at) log
     → HasTurnAt ts c at log
 has_turn s ts c at [] home due timely = record { own = tt; rows_are = refl; reads_are = refl; was_read = λ ns e. cc }
-has_turn s ts c at (Handed from m ∷ log) home due timely =
-    turn_hand ts c at log from m timely.0 (has_turn s ts c at log home due.1 timely.1)
-has_turn s ts c at (Did act ∷ log) home due timely =
-    turn_act s ts c at log act home (data_step s log act due.0) (has_turn s ts c at log home due.1 timely.1)
+has_turn s ts c at (Handed from m ∷ log) home due timely = turn_hand ts c at log from m timely.0 (has_turn s ts c at log home due.1 timely.1)
+has_turn s ts c at (Did act ∷ log) home due timely = turn_act s ts c at log act home (data_step s log act due.0) (has_turn s ts c at log home due.1 timely.1)
 has_turn s ts c at (_ ∷ log) home due timely =
     let i = has_turn s ts c at log home due.1 timely.1 in record { own = i.own; rows_are = i.rows_are; reads_are = i.reads_are; was_read = i.was_read }

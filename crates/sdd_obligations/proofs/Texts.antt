@@ -35,11 +35,7 @@ module _ (P : Txn → Type 0) where
   queued_so c log [] all = tt
   queued_so c log (x ∷ xs) all =
       elim (is_committed c x.0 log) as (λ b. TextsAre
-      (cons_option (if b then None else Some (record {
-        number = x.0;
-        text = x.1;
-        tries = starts_of c x.0 log;
-      })) (filter_map (queued c log) xs))) [
+      (cons_option (if b then None else Some (record { number = x.0; text = x.1; tries = starts_of c x.0 log })) (filter_map (queued c log) xs))) [
         | true ↦ queued_so c log xs all.1
         | false ↦ (all.0, queued_so c log xs all.1)
       ]

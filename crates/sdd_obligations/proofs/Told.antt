@@ -22,10 +22,8 @@ abbrev pub KnowsTold : Setting → ℕ → ℕ → Site → Log → Type 0
 KnowsTold s c ts at log = (ns : List ℕ) (q : Msg) → turn_with ts c at log ≡ Told ns q → is_a_read q ≡ false → IsTold s c ts at log q
 
 -- what leaves the turn, the rows and the answers leaves that
-pub told_still : (s : Setting) (c ts : ℕ) (at : Site) (log more : Log)
-    → turn_with ts c at more ≡ turn_with ts c at log → kept s c ts more ≡ kept s c ts log
-    → answers ts c (puts_to at more) ≡ answers ts c (puts_to at log)
-    → KnowsTold s c ts at log → KnowsTold s c ts at more
+pub told_still : (s : Setting) (c ts : ℕ) (at : Site) (log more : Log) → turn_with ts c at more ≡ turn_with ts c at log → kept s c ts more ≡ kept s c ts log
+    → answers ts c (puts_to at more) ≡ answers ts c (puts_to at log) → KnowsTold s c ts at log → KnowsTold s c ts at more
 told_still s c ts at log more t k p h ns q e r =
     let i = h ns q (sym t ∙ e) r in
     record { rows = i.rows; kept_is = k ∙ i.kept_is; answer = i.answer; front = i.front; last = p ∙ i.last; tells = i.tells }
@@ -48,8 +46,7 @@ module _ (s : Setting) (c ts : ℕ) (at : Site) (log : Log) where
         asks_told m q v ns (sym now ∙ e)
     | false ↦ λ own.
         let now : turn_with ts c at (Handed from m ∷ log) ≡ v = asked_turn ts c at from m log
-        ∙ ap (λ b. if same_site at from && b then asked m v else v) own
-        ∙ ap (λ b. if b then asked m v else v) (and_no (same_site at from)) in
+        ∙ ap (λ b. if same_site at from && b then asked m v else v) own ∙ ap (λ b. if b then asked m v else v) (and_no (same_site at from)) in
         let keeps : kept s c ts (Handed from m ∷ log) ≡ kept s c ts log = elim (hand_keeps s c ts from m log) [
           | inl same ↦ same
           | inr r ↦ never (is_question ts c m) (ap (is_question ts c) r.is ∙ both (r.t.0 == ts) (r.of.0 ==
@@ -113,8 +110,7 @@ module _ (s : Setting) (c ts : ℕ) (at : Site) (log : Log) where
         let here : same_site at o.from ≡ true = ap (same_site at) a.from_is ∙ site_self at in
         let now : turn_with ts c at (Did (Sends o.from m (Some o.hand)) ∷ log) ≡ Told a.uses o.msg =
         told_turn ts c at o.from m (Some o.hand) log ∙ ap (λ b. if b then told m v else v)
-        (both (same_site at o.from) (is_answer ts c m) here own) ∙ told_is v a.uses o.msg m a.is
-        (reply_no_refusal (frozen s k log) o.msg m r) in
+        (both (same_site at o.from) (is_answer ts c m) here own) ∙ told_is v a.uses o.msg m a.is (reply_no_refusal (frozen s k log) o.msg m r) in
         let same : o.msg ≡ q = told_same a.uses ns o.msg q (sym now ∙ t) in
         let uses : uses_held v ≡ Some a.uses = ap uses_held a.is ∙ ap (λ b. if b then None else Some a.uses) (asks_no_a_read ts c o.msg asks) in
         let f = held_rows a.uses (frozen s c log) (held a.uses uses) in
@@ -138,8 +134,7 @@ module _ (s : Setting) (c ts : ℕ) (at : Site) (log : Log) where
       (uses : List Use) → IsHomeOf s c at → HasTurnAt ts c at log → IsClassHere s k → head (pipe k log) ≡ Some
       (Read t of txn attempt conds uses)
       → KnowsTold s c ts at log → KnowsTold s c ts at
-      (Did (Records k (Answer txn attempt (home_of s).dm)
-      ((source_of (home_of s) k, Ready t of (counts_told s log t.0 uses)) ∷ [])) ∷ log)
+      (Did (Records k (Answer txn attempt (home_of s).dm) ((source_of (home_of s) k, Ready t of (counts_told s log t.0 uses)) ∷ [])) ∷ log)
   read_answered k t of txn attempt conds uses home has here e h =
       let read : Msg = Read t of txn attempt conds uses in
       let m : Msg = Ready t of (counts_told s log t.0 uses) in
@@ -165,10 +160,8 @@ module _ (s : Setting) (c ts : ℕ) (at : Site) (log : Log) where
 
   read_refused : (k : ℕ) (t : Ts) (of : ClassNo) (txn : TxnNo) (attempt : ℕ) (conds : List Cond)
       (uses : List Use) (by : ClassNo) (write : Ts) → IsHomeOf s c at → HasTurnAt ts c at log
-      → IsClassHere s k → head (pipe k log) ≡ Some (Read t of txn attempt conds uses)
-      → KnowsTold s c ts at log → KnowsTold s c ts at
-      (Did (Records k (Rejected txn attempt (home_of s).dm by write)
-      ((source_of (home_of s) k, Reject t of by write) ∷ [])) ∷ log)
+      → IsClassHere s k → head (pipe k log) ≡ Some (Read t of txn attempt conds uses) → KnowsTold s c ts at log → KnowsTold s c ts at
+      (Did (Records k (Rejected txn attempt (home_of s).dm by write) ((source_of (home_of s) k, Reject t of by write) ∷ [])) ∷ log)
   read_refused k t of txn attempt conds uses by write home has here e h =
       let read : Msg = Read t of txn attempt conds uses in
       let m : Msg = Reject t of by write in
@@ -179,20 +172,17 @@ module _ (s : Setting) (c ts : ℕ) (at : Site) (log : Log) where
             let to : source_of (home_of s) k ≡ at = ap (source_of (home_of s)) n.class_is ∙ home (subst (IsClassHere s) n.class_is here) in
             let now : turn_with ts c at (Did act ∷ log) ≡ Refused =
             one_turn (source_of (home_of s) k) m ∙ ap (λ b. if b then told m v else v)
-            (both (same_site at (source_of (home_of s) k)) (is_answer ts c m) (ap (same_site at) to
-            ∙ site_self at) own) ∙ ap (told m) n.is in
+            (both (same_site at (source_of (home_of s) k)) (is_answer ts c m) (ap (same_site at) to ∙ site_self at) own) ∙ ap (told m) n.is in
             (let x : Refused ≡ Told ns q = sym now ∙ z in cc)
         | false ↦ λ other. quiet_act act (one_sent (source_of (home_of s) k) m other)
-            (record_keeps s c ts k (Rejected txn attempt (home_of s).dm by write)
-            ((source_of (home_of s) k, m) ∷ []) log refl) h
+            (record_keeps s c ts k (Rejected txn attempt (home_of s).dm by write) ((source_of (home_of s) k, m) ∷ []) log refl) h
       ] refl
 
   pub told_act : (act : Act) → IsHomeOf s c at → IsDataStep s log act → HasTurnAt ts c at log
       → IsHeldAt s ts c at log → KnowsTold s c ts at log → KnowsTold s c ts at (Did act ∷ log)
   told_act act home step has held h = data_step_way s log act (λ x. KnowsTold s c ts at (Did x ∷ log))
       (λ k txn attempt. quiet_act (Records k (Arrive txn attempt (home_of s).dm) []) refl
-      (record_keeps s c ts k (Arrive txn attempt (home_of s).dm) [] log refl) h)
-      (λ k o m e r. replied k o m has held e r h)
+      (record_keeps s c ts k (Arrive txn attempt (home_of s).dm) [] log refl) h) (λ k o m e r. replied k o m has held e r h)
       (λ k t of txn attempt conds uses here e. read_answered k t of txn attempt conds uses home has here e h)
       (λ k t of txn attempt conds uses by write here e. read_refused k t of txn attempt conds uses by write home has here e h)
       (λ k txn attempt ds. quiet_act (Records k (Wait txn attempt (home_of s).dm ds)
@@ -200,6 +190,5 @@ module _ (s : Setting) (c ts : ℕ) (at : Site) (log : Log) where
       (record_keeps s c ts k (Wait txn attempt (home_of s).dm ds) (map (ask_for (home_of s)) ds) log refl)
       h)
       (λ k t of txn changes e. quiet_act (Records k (Apply txn of (home_of s).dm t) (done_for k (Done t)))
-      (done_no_answer ts c at k t) (record_keeps s c ts k (Apply txn of (home_of s).dm t)
-      (done_for k (Done t)) log refl) h)
+      (done_no_answer ts c at k t) (record_keeps s c ts k (Apply txn of (home_of s).dm t) (done_for k (Done t)) log refl) h)
       (λ k of time e. quiet_act (Records k (Pass of (home_of s).dm time) []) refl (record_keeps s c ts k (Pass of (home_of s).dm time) [] log refl) h) step

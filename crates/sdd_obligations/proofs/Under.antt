@@ -37,8 +37,7 @@ started_le : (h k : ℕ) (act : Act) (c : Ticking) → c.ticks ≤ h → starts_
 started_le h k (Records j (Start txn attempt class ts p2 uses) sends) c l m = omega (arith, l, m)
 started_le h k act c l m = omega (arith, l, m)
 
-clock_le : (at : Site) (h k : ℕ) (o : Option site.Entry) (l : site.Log) → h ≤ k → (clock at l).ticks ≤ h → MayGrow h k o
-    → (clock at (with_made o l)).ticks ≤ k
+clock_le : (at : Site) (h k : ℕ) (o : Option site.Entry) (l : site.Log) → h ≤ k → (clock at l).ticks ≤ h → MayGrow h k o → (clock at (with_made o l)).ticks ≤ k
 clock_le at h k (Some (Handed from x)) l u c m = let p = pushed_le h x (clock at l) c m in omega (arith, u, p)
 clock_le at h k (Some (Ticked n)) l u c m = omega (arith, c, m)
 clock_le at h k (Some (Redeclared force t)) l u c m = let p = push_le (clock at l).ticks t h c m in omega (arith, u, p)
@@ -60,8 +59,7 @@ put_low : (h k : ℕ) (b : Site) (o : Option site.Entry) → MayGrow h k o → A
 put_low h k b (Some (Did act)) m = m.1 b
 put_low h k b _ m = tt
 
-under_more : (g : Given) (h k : ℕ) (e : Entry) (log : Log) → h ≤ k → IsUnder g h log → ((at : Site) → MayGrow h k (made g at log e))
-    → IsUnder g k (e ∷ log)
+under_more : (g : Given) (h k : ℕ) (e : Entry) (log : Log) → h ≤ k → IsUnder g h log → ((at : Site) → MayGrow h k (made g at log e)) → IsUnder g k (e ∷ log)
 under_more g h k e log u i m = record {
   clocks = λ at. subst (λ l. (clock at l).ticks ≤ k) (sym (local_step g at e log))
       (clock_le at h k (made g at log e) (local_of g at log) u (i.clocks at) (m at));
@@ -120,8 +118,7 @@ beginning_low : (g : Given) (at : Site) → IsEmptyOf (beginning g at)
 beginning_low g U = ((λ b. omega arith), (λ b. refl), tt)
 beginning_low g _ = ((λ b. omega arith), (λ b. refl), tt)
 
-pub under : (g : Given) (log : Log) → g.catalogue.tms ≤ 63 → AllFewTicks g.events → IsLawful g log → IsPermitted g log
-    → IsUnder g (height log) log
+pub under : (g : Given) (log : Log) → g.catalogue.tms ≤ 63 → AllFewTicks g.events → IsLawful g log → IsPermitted g log → IsUnder g (height log) log
 under g [] w f h p = record {
   clocks = λ at. (beginning_low g at).0 at;
   puts = λ a b. subst (AllLow 0) (sym ((beginning_low g a).1 b)) tt;
@@ -129,8 +126,7 @@ under g [] w f h p = record {
 }
 under g (Mark e ∷ log) w f h p =
     under_more g (height log) (ticks_of e + height log) (Mark e) log (omega arith) (under g log w f h.1 p.1) (λ at. by_mark (height log) at e)
-under g (Round es ∷ log) w f h p =
-    under_more g (height log) (height log) (Round es) log (omega arith) (under g log w f h.1 p.1) (λ at. tt)
+under g (Round es ∷ log) w f h p = under_more g (height log) (height log) (Round es) log (omega arith) (under g log w f h.1 p.1) (λ at. tt)
 under g (Redeclares t ∷ log) w f h p =
     let i = under g log w f h.1 p.1 in
     let e : t ≡ greatest_bound g log = of_next g log (Redeclares t) f h.1 h.0 in
@@ -144,8 +140,7 @@ under g (Hand from to n m ∷ log) w f h p =
 under g (Submitted to n ∷ log) w f h p =
     under_more g (height log) (height log) (Submitted to n) log (omega arith) (under g log w f h.1 p.1)
     (λ at. if_way (MayGrow (height log) (height log)) (same_site at to) (given_to n (txn_at g n)) None (by_submit (height log) n (txn_at g n)) tt)
-under g (Notes ∷ log) w f h p =
-    under_more g (height log) (height log) Notes log (omega arith) (under g log w f h.1 p.1) (λ at. tt)
+under g (Notes ∷ log) w f h p = under_more g (height log) (height log) Notes log (omega arith) (under g log w f h.1 p.1) (λ at. tt)
 under g (Does by act ∷ log) w f h p =
     let i = under g log w f h.1 p.1 in
     let low = act_low g (height log) log by act w p.1 i (of_next g log (Does by act) f h.1 h.0) (allowed_act g log (Does by act) p.0) in

@@ -21,8 +21,7 @@ pub hand_t : (g : Given) (log : Log) (a : Site) (t : TmNo) (n : ℕ) (m : Msg) (
 hand_t g log a t n m bases f l w e u = t_fits g log a t n m bases f.small (is_handed g log a (T t) n m f.small l w e) u
 
 pub hand_u : (g : Given) (log : Log) (a : Site) (n : ℕ) (m : Msg) (bases : Bases) → IsFit g → IsLawful g log → IsWithin log
-    → next g log ≡ Some (Hand a U n m) → IsUpheldR (setting_of g U) bases (local_of g U log) a m
-    → um.fits_kind (setting_of g U) bases (local_of g U log) a m
+    → next g log ≡ Some (Hand a U n m) → IsUpheldR (setting_of g U) bases (local_of g U log) a m → um.fits_kind (setting_of g U) bases (local_of g U log) a m
 hand_u g log a n m bases f l w e u = u_fits g log a n m bases f.whole (is_handed g log a U n m f.small l w e) u
 
 pub submit_new : (g : Given) (log : Log) (at : Site) (n : ℕ) (txn : Txn) → IsFit g → IsLawful g log → next g log ≡ Some (Submitted at n)

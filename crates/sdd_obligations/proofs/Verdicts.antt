@@ -21,8 +21,7 @@ IsStrictAt c log (Ticked n) = Unit {0}
 IsStrictAt c log (Submits n txn) = Unit {0}
 IsStrictAt c log (Redeclared force t) = Unit {0}
 
-stricts : (g : Given) (c : ℕ) (d : DmNo) (log : Log) → number_of (home g.catalogue c) ≤ 63 → IsPermitted g log
-    → Each (IsStrictAt c) (local_of g (D d) log)
+stricts : (g : Given) (c : ℕ) (d : DmNo) (log : Log) → number_of (home g.catalogue c) ≤ 63 → IsPermitted g log → Each (IsStrictAt c) (local_of g (D d) log)
 stricts g c d log small = each_local g (D d) (IsStrictAt c) (record {
   handed = λ log p from n m a i. tt;
   ticked = λ log p n i. tt;
@@ -100,11 +99,9 @@ verdict_by s c ts b log act m i e h = cc
 
 record IsOnce (c ts : ℕ) (b : Site) (log : site.Log) : Type 0 where
   pub le : tally (is_verdict ts c) (puts_to b log) ≤ 1
-  pub was : 0 < tally (is_verdict ts c) (puts_to b log)
-      → (k : ℕ) × (m : Msg) × (slice_get (pipe c log).processed k ≡ Some m) × (read_at c m ≡ Some ts)
+  pub was : 0 < tally (is_verdict ts c) (puts_to b log) → (k : ℕ) × (m : Msg) × (slice_get (pipe c log).processed k ≡ Some m) × (read_at c m ≡ Some ts)
 
-stays_processed : (c : ℕ) (act : Act) (p : Pipe) (k : ℕ) (m : Msg) → slice_get p.processed k ≡ Some m
-    → slice_get (pipe_acted c act p).processed k ≡ Some m
+stays_processed : (c : ℕ) (act : Act) (p : Pipe) (k : ℕ) (m : Msg) → slice_get p.processed k ≡ Some m → slice_get (pipe_acted c act p).processed k ≡ Some m
 stays_processed c (Records j r sends) p k m e =
     if_way (λ (q : Pipe). slice_get q.processed k ≡ Some m) _ (head_processed p) p (in_left p.processed (one_or_none (head p)) k m e) e
 stays_processed c (Sends to x hand) p k m e = e
@@ -140,19 +137,16 @@ own_did c ts b act log strict v h =
     let none : tally (is_verdict ts c) (puts_to b log) ≤ 0 = elim (dec_le 1 (tally (is_verdict ts c) (puts_to b log))) [
       | yes l ↦ (let u = h.was l in
           let less = key_rises (read_at c) (all_of p) u.0 (length p.processed) u.1 w ts ts strict
-          (in_left p.processed p.unprocessed u.0 u.1 u.2) at u.3 own
-          (place_within p.processed u.0 u.1 u.2) in
+          (in_left p.processed p.unprocessed u.0 u.1 u.2) at u.3 own (place_within p.processed u.0 u.1 u.2) in
           absurd (omega (arith, less)))
       | no n ↦ omega (arith, n)
     ] in
     let a = tally_append (is_verdict ts c) (puts_to b log) (to_site b (sends_of_act act)) in
     let one : tally (is_verdict ts c) (to_site b (sends_of_act act)) ≤ 1 =
-    subst (λ y. tally (is_verdict ts c) (to_site b (sends_of_act y)) ≤ 1) (sym v.act_is)
-    (one_at_most (is_verdict ts c) (same_site b v.to) v.msg) in
+    subst (λ y. tally (is_verdict ts c) (to_site b (sends_of_act y)) ≤ 1) (sym v.act_is) (one_at_most (is_verdict ts c) (same_site b v.to) v.msg) in
     let r = own_record c v.rec ((v.to, v.msg) ∷ []) log v.processes in
     let pr : (pipe c (Did act ∷ log)).processed ≡ p.processed ++ w ∷ [] =
-    ap (λ y. (pipe c (Did y ∷ log)).processed) v.act_is ∙ ap (λ (q : Pipe). q.processed) r.0
-    ∙ processed_more p w v.head_is in
+    ap (λ y. (pipe c (Did y ∷ log)).processed) v.act_is ∙ ap (λ (q : Pipe). q.processed) r.0 ∙ processed_more p w v.head_is in
     record {
       le = omega (arith, a, none, one);
       was = λ l. (length p.processed, w, subst (λ ms. slice_get ms (length p.processed) ≡ Some w) (sym pr) (at_seam p.processed [] w), own);
