@@ -54,8 +54,7 @@ reads_to f ds = map (λ d. (D (dm_no d), f d)) ds
 read_here : (f : ℕ → Msg) (x d : ℕ) (ds : List ℕ) (k : ℕ) (m : Msg) → x ≡ d
     → ((j : ℕ) → slice_get (to_site (D (dm_no x)) (reads_to f ds)) j ≡ Some m → (contains ds x ≡ true) × (f x ≡ m))
     → slice_get (f d ∷ to_site (D (dm_no x)) (reads_to f ds)) k ≡ Some m → (contains (d ∷ ds) x ≡ true) × (f x ≡ m)
-read_here f x d ds zero m p i e =
-    let q : f d ≡ m = cc in (or_left (d == x) (contains ds x) (ap (λ y. y == x) (sym p) ∙ same_number x), ap f p ∙ q)
+read_here f x d ds zero m p i e = let q : f d ≡ m = cc in (or_left (d == x) (contains ds x) (ap (λ y. y == x) (sym p) ∙ same_number x), ap f p ∙ q)
 read_here f x d ds (suc k) m p i e = let r = i k e in (or_right (d == x) (contains ds x) r.0, r.1)
 
 pub in_reads : (f : ℕ → Msg) (x : ℕ) (ds : List ℕ) (k : ℕ) (m : Msg) → slice_get (to_site (D (dm_no x)) (reads_to f ds)) k ≡ Some m
@@ -176,8 +175,7 @@ pub record IsAnswerOfSome (g : Given) (log : Log) (n number d k : ℕ) : Type 0 
   pub answer : IsAnswerIn g log attempt d k
 
 answer_as : (g : Given) (log later : Log) (sends : List (Site × Msg)) (before : Log) (b : Attempt) (c n number d k : ℕ) → b.class ≡ c → b.txn ≡ n
-    → b.number ≡ number
-    → log ≡ later ++ Does (D (dm_no d)) (Records c (Answer (txn_no n) number (dm_no d)) sends) ∷ before → length (history before) ≡ k
+    → b.number ≡ number → log ≡ later ++ Does (D (dm_no d)) (Records c (Answer (txn_no n) number (dm_no d)) sends) ∷ before → length (history before) ≡ k
     → IsPermitted g (Does (D (dm_no d)) (Records c (Answer (txn_no n) number (dm_no d)) sends) ∷ before) → IsReadIn g before b d → IsAnswerIn g log b d k
 answer_as g log later sends before b c n number d k p q r is place h read =
     let named : Records b.class (answer_rec b d) sends ≡ Records c (Answer (txn_no n) number (dm_no d)) sends =

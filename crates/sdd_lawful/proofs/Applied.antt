@@ -140,8 +140,7 @@ result_in c (Ticked k ∷ log) i r e = result_past c (Ticked k) log r (result_in
 result_in c (Submits k text ∷ log) i r e = result_past c (Submits k text) log r (result_in c log i r e)
 result_in c (Redeclared force t ∷ log) i r e = result_past c (Redeclared force t) log r (result_in c log i r e)
 
-result_if : (b : Bool) (xs : List Rec) (y x : Rec) (i : ℕ) → slice_get xs i ≡ Some x
-    → slice_get (if b then xs ++ y ∷ [] else xs) i ≡ Some x
+result_if : (b : Bool) (xs : List Rec) (y x : Rec) (i : ℕ) → slice_get xs i ≡ Some x → slice_get (if b then xs ++ y ∷ [] else xs) i ≡ Some x
 result_if true xs y x i e = in_left xs (y ∷ []) i x e
 result_if false xs y x i e = e
 
@@ -186,8 +185,7 @@ applied_before g full front log d c a is h x =
 -- and the other way round
 
 pub applied_there : (g : Given) (log later before : Log) (d : ℕ) (class : ℕ) (a : Running) (sends : List (Site × Msg))
-    → log ≡ later ++ Does (D (dm_no d)) (Records class (apply_rec a.txn class d a.ts) sends) ∷ before
-    → IsApplied g log (dm_no d) class a
+    → log ≡ later ++ Does (D (dm_no d)) (Records class (apply_rec a.txn class d a.ts) sends) ∷ before → IsApplied g log (dm_no d) class a
 applied_there g log later before d class a sends is =
     let act : Act = Records class (apply_rec a.txn class d a.ts) sends in
     let m = act_local g (D (dm_no d)) act later before in

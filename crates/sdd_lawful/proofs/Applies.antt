@@ -53,8 +53,7 @@ apply_of_committed g log t d k sound h c a =
 
 -- what is applied before a place of the history is applied in the log up to there
 pub seen_applied : (g : Given) (full : Log) (t : Committed) (c : IsCommittedIn g full t) (d j k : ℕ) (r : Rec) (m : IsMadeAt full k r)
-    → IsApplyIn g full t.start.txn t.start.class d t.start.ts j → j < k
-    → IsApplied g m.before (dm_no d) t.start.class c.running
+    → IsApplyIn g full t.start.txn t.start.class d t.start.ts j → j < k → IsApplied g m.before (dm_no d) t.start.class c.running
 seen_applied g full t c d j k r m x l =
     let z = entries_in_order full j k (apply_rec t.start.txn t.start.class d t.start.ts) r (apply_made g full t.start.txn t.start.class d t.start.ts j x) m l in
     let named : apply_rec t.start.txn t.start.class d t.start.ts ≡ apply_rec c.running.txn t.start.class d c.running.ts = ap

@@ -16,8 +16,7 @@ pub in_numbers : (a n x : ℕ) → a ≤ x → x < a + n → (k : ℕ) × (slice
 in_numbers a zero x lo hi = absurd (omega arith)
 in_numbers a (suc n) x lo hi = elim (same_or_not a x) [
   | inl p ↦ (0, ap (λ y. Some y) p)
-  | inr p ↦ (let ne : (a ≡ x → ⊥) = λ q. differ a x p q in
-      let i = in_numbers (a + 1) n x (above a x lo ne) (omega arith) in (suc i.0, i.1))
+  | inr p ↦ (let ne : (a ≡ x → ⊥) = λ q. differ a x p q in let i = in_numbers (a + 1) n x (above a x lo ne) (omega arith) in (suc i.0, i.1))
 ]
 
 pub numbered_there : (ns : List ℕ) (k f : ℕ) → slice_get ns k ≡ Some f → contains (map (λ (g : FragNo). g.0) (map frag_no ns)) f ≡ true

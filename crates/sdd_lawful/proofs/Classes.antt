@@ -1,5 +1,5 @@
 -- The class of a transaction: that of the list of classes in force when it was given, at the site that runs the class.
-use Rattle.sdd_lawful.proofs.All.{Deliver, Did, Does, Down, Entry, Force, Given, Hand, Handed, IsPermitted, Log, Lose, Mark, None, Notes, Option, Redeclare, Redeclares, Repeat, Resend, Round, Setting, Settle, Site, Some, Submit, Submits, Submitted, T, Tick, Ticked, TmNo, Txn, U, Up, [], ap, append_assoc, class_at, class_for, eqb-true, force_at, given_to, home, if_way, if◌then◌else◌, in_force, inl, inr, is_for, local_at, local_of, only_right, redeclares, refl, same_or_not, same_site, setting_of, site_self, subst, sym, tm_no, true, txn_at, with_submit, ℕ, ◌++◌, ◌==◌, ◌∙◌, ◌∷◌, ◌≡◌}
+use Rattle.sdd_lawful.proofs.All.{Did, Does, Entry, Force, Given, Hand, Handed, IsPermitted, Log, Mark, None, Option, Redeclares, Setting, Site, Some, Submits, Submitted, T, Tick, Ticked, TmNo, Txn, U, [], ap, append_assoc, class_at, class_for, eqb-true, force_at, given_to, home, if_way, if◌then◌else◌, in_force, inl, inr, is_for, local_at, local_of, only_right, redeclares, refl, same_or_not, same_site, setting_of, site_self, subst, sym, tm_no, true, txn_at, with_submit, ℕ, ◌++◌, ◌==◌, ◌∙◌, ◌∷◌, ◌≡◌}
 use Rattle.sdd_lawful.proofs.Submissions.{given_at, same_submission}
 use Rattle.sdd_invariants.specs.logs.Due.{home_of}
 use Rattle.sdd_invariants.specs.site_module.SiteLog as site
@@ -10,8 +10,7 @@ after_submit : (s : Setting) (n : ℕ) (o : Option Txn) (l : site.Log) → in_fo
 after_submit s n None l = refl
 after_submit s n (Some txn) l = refl
 
-pub force_there : (g : Given) (t : TmNo) (log : Log)
-    → in_force (setting_of g (T t)) (local_of g (T t) log) ≡ force_at g (redeclares log)
+pub force_there : (g : Given) (t : TmNo) (log : Log) → in_force (setting_of g (T t)) (local_of g (T t) log) ≡ force_at g (redeclares log)
 force_there g t [] = refl
 force_there g t (Mark (Tick u n) ∷ log) =
     let l : site.Log = local_of g (T t) log in
@@ -84,22 +83,19 @@ pub text_one : (o : Option Txn) (x y : Txn) → o ≡ Some x → o ≡ Some y �
 text_one o x y e f = let p : Some x ≡ Some y = sym e ∙ f in cc
 
 -- so a transaction has one class
-pub one_class : (g : Given) (log : Log) (n c d : ℕ) (t u : Txn) → IsPermitted g log → IsGivenTo g log n c t → IsGivenTo g log n d u
-    → c ≡ d
+pub one_class : (g : Given) (log : Log) (n c d : ℕ) (t u : Txn) → IsPermitted g log → IsGivenTo g log n c t → IsGivenTo g log n d u → c ≡ d
 one_class g log n c d t u h x y =
     let r = (same_submission g n log x.later y.later x.rest y.rest (home g.catalogue c) (home g.catalogue d) h x.is y.is).0 in
     let e : t ≡ u = text_one (txn_at g n) t u x.text_is y.text_is in
     x.class_is ∙ ap (λ k. class_for (force_at g (redeclares k)).catalogue t) r ∙ ap (class_for (force_at g (redeclares y.rest)).catalogue) e ∙ sym y.class_is
 
-submit_made : (at : Site) (n : ℕ) (o : Option Txn) (text : Txn) → o ≡ Some text
-    → (if same_site at at then given_to n o else None) ≡ Some (Submits n text)
+submit_made : (at : Site) (n : ℕ) (o : Option Txn) (text : Txn) → o ≡ Some text → (if same_site at at then given_to n o else None) ≡ Some (Submits n text)
 submit_made at n o text e = rw (site_self at) (ap (given_to n) e)
 
 -- of two entries of a log, one behind the other, the one further back
 pub further_back : (log later before : Log) (e f : Entry) (later2 rest : Log) → log ≡ later ++ e ∷ before → before ≡ later2 ++ f ∷ rest
     → (all : Log) × (log ≡ all ++ f ∷ rest)
-further_back log later before e f later2 rest p q =
-    (later ++ e ∷ later2, p ∙ ap (λ l. later ++ e ∷ l) q ∙ sym (append_assoc later (e ∷ later2) (f ∷ rest)))
+further_back log later before e f later2 rest p q = (later ++ e ∷ later2, p ∙ ap (λ l. later ++ e ∷ l) q ∙ sym (append_assoc later (e ∷ later2) (f ∷ rest)))
 
 pub given_in : (g : Given) (log later before : Log) (e : Entry) (n c : ℕ) (text : Txn) → log ≡ later ++ e ∷ before
     → IsGivenTo g before n c text → IsGivenTo g log n c text

@@ -14,14 +14,12 @@ one_place g log sound h a b s t e f = one_start (history log) (numbered g log so
 
 pub same_attempt : (g : Given) (log : Log) → IsSound g.catalogue → IsPermitted g log → (a b : Attempt) → IsAttempt (history log) a
     → IsAttempt (history log) b → a.txn ≡ b.txn → a.number ≡ b.number → a ≡ b
-same_attempt g log sound h a b s t e f =
-    one_attempt a b (same_start (history log) a b s t (one_place g log sound h a b s t e f))
+same_attempt g log sound h a b s t e f = one_attempt a b (same_start (history log) a b s t (one_place g log sound h a b s t e f))
 
 -- of one transaction one is committed
 pub same_committed : (g : Given) (log : Log) → IsSound g.catalogue → IsPermitted g log → (t u : Committed)
     → IsCommitted (history log) t → IsCommitted (history log) u → t.start.txn ≡ u.start.txn → t ≡ u
-same_committed g log sound h t u c d e =
-    one_of_txn (history log) (one_commit g log sound h) (one_place g log sound h) t u c d e
+same_committed g log sound h t u c d e = one_of_txn (history log) (one_commit g log sound h) (one_place g log sound h) t u c d e
 
 -- the act of a Commit
 pub record IsOfRunning (s : Setting) (log : site.Log) (k : ℕ) (txn : TxnNo) (attempt : ℕ) (reply : Reply) (changes : List Change) (act : Act) : Type 0 where
@@ -92,8 +90,7 @@ committed_as g log t k later before bases running e is place h active_is n i ts 
   changes_are = changes;
 }
 
-pub committed_in : (g : Given) (log : Log) (t : Committed) → IsSound g.catalogue → IsPermitted g log → IsCommitted (history log) t
-    → IsCommittedIn g log t
+pub committed_in : (g : Given) (log : Log) (t : Committed) → IsSound g.catalogue → IsPermitted g log → IsCommitted (history log) t → IsCommittedIn g log t
 committed_in g log t sound h c =
     let told : Told = record { reply = t.reply; changes = t.changes; values = t.values; rows = t.rows } in
     let x = commit_in g log t.start.txn t.start.number t.place told sound h c.committed in

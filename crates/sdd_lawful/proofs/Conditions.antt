@@ -108,8 +108,7 @@ named_there (g ∷ frags) f e =
     elim (g.0 == f) as (λ b. (b || contains (map (λ g. g.0) frags) f) ≡ true → (b || list_any (λ (g : FragNo). g.0 == f) frags) ≡ true) [ true ↦ λ h. refl | false ↦ λ h. named_there frags f h ] e
 
 pub touching : (cat : Catalogue) (xs : List Change) (frags : List FragNo) (f d : ℕ) → list_any (λ (c : Change). c.frag.0 == f) xs ≡ true
-    → has_copy cat d f ≡ true → contains (map (λ g. g.0) frags) f ≡ true
-    → touches frags (filter (λ (x : Change). has_copy cat d x.frag.0) xs) ≡ true
+    → has_copy cat d f ≡ true → contains (map (λ g. g.0) frags) f ≡ true → touches frags (filter (λ (x : Change). has_copy cat d x.frag.0) xs) ≡ true
 touching cat xs frags f d e c n =
     let i = any_at (λ (x : Change). x.frag.0 == f) xs e in
     let p : i.1.frag.0 ≡ f = eqb-true i.1.frag.0 f i.3 in
@@ -121,13 +120,11 @@ touching cat xs frags f d e c n =
 
 of_class : (g : Given) (log : Log) (x : Committed) (c : IsCommittedIn g log x) (j : ℕ) → x.start.class ≡ j
     → log ≡ c.later ++ Does (home g.catalogue j) (commit_act g.catalogue c.bases j c.running) ∷ c.before
-of_class g log x c j e =
-    subst (λ k. log ≡ c.later ++ Does (home g.catalogue k) (commit_act g.catalogue c.bases k c.running) ∷ c.before) e c.is
+of_class g log x c j e = subst (λ k. log ≡ c.later ++ Does (home g.catalogue k) (commit_act g.catalogue c.bases k c.running) ∷ c.before) e c.is
 
 pub met : (g : Given) (log : Log) (eras : Eras) → IsSound g.catalogue → IsPermitted g log → AreErasOf g log eras
     → (a : Attempt) (d k : ℕ) (q : Cond) (x : Committed) → IsAttempt (history log) a → IsAnswered (history log) a d k
-    → IsConditionOf g.catalogue eras (history log) a d q → IsCommitted (history log) x → x.start.class ≡ q.class.0
-    → TouchesOne g.catalogue x d q.frags
+    → IsConditionOf g.catalogue eras (history log) a d q → IsCommitted (history log) x → x.start.class ≡ q.class.0 → TouchesOne g.catalogue x d q.frags
     → (AppliedBefore (history log) x.start.txn d k → x.start.ts < q.time.0) × (x.start.ts < q.time.0 → AppliedBefore (history log) x.start.txn d k)
 met g log eras sound h are a d k q x s t cd cx class touch =
     let w = answer_in g log a d k sound h s t in

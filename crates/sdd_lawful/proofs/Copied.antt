@@ -28,8 +28,7 @@ written (Write ts class txn changes) = changes
 written m = []
 
 pub head_commit : (g : Given) (log front rest : Log) (c : ℕ) (d : ℕ) (ts : Ts) (of : ClassNo) (txn : TxnNo) (changes : List Change) → IsSound g.catalogue
-    → IsPermitted g log → log ≡ front ++ rest → head (pipe_at g c (dm_no d) rest) ≡ Some (Write ts of txn changes)
-    → IsWriteOf g log c txn.0 ts.0 d changes
+    → IsPermitted g log → log ≡ front ++ rest → head (pipe_at g c (dm_no d) rest) ≡ Some (Write ts of txn changes) → IsWriteOf g log c txn.0 ts.0 d changes
 head_commit g log front rest c d ts of txn changes sound h is top =
     let m : Msg = Write ts of txn changes in
     let hr = permitted_before g front rest (subst (IsPermitted g) is h) in
@@ -85,8 +84,7 @@ applied_from c (Redeclared force t ∷ l) x h = applied_past c (Redeclared force
 
 applied_has : (c : ℕ) (later before : SiteLog) (r : Rec) (sends : List (Site × Msg)) (x : ℕ × Change) → is_apply r ≡ true
     → Contains (changes_in (head (pipe c before))) x → Contains (applied c (later ++ Did (Records c r sends) ∷ before)) x
-applied_has c [] before r sends x a h =
-    rw (same_number c, a) (Contains-append_right (applied c before) (changes_in (head (pipe c before))) x h)
+applied_has c [] before r sends x a h = rw (same_number c, a) (Contains-append_right (applied c before) (changes_in (head (pipe c before))) x h)
 applied_has c (Did (Records k q ss) ∷ later) before r sends x a h =
     applied_if ((k == c) && is_apply q) (applied c (later ++ Did (Records c r sends) ∷ before))
     (changes_in (head (pipe c (later ++ Did (Records c r sends) ∷ before)))) x (applied_has c later before r sends x a h)

@@ -1,5 +1,5 @@
 -- How many Starts of a transaction a history has is how often the site that runs its class started it.
-use Rattle.sdd_lawful.proofs.All.{Attempt, Bool, Commit, D, Deliver, Did, Does, Down, Entry, Force, Given, Hand, Handed, History, IsAttempt, IsPermitted, IsSound, List, Log, Lose, Mark, Msg, None, Notes, Option, Rec, Records, Redeclare, Redeclares, Repeat, Resend, Round, Sends, Settle, Site, SiteLog, Some, Start, Submit, Submitted, T, Tick, Ticked, Txn, TxnNo, U, Up, [], ap, append_assoc, arith, cond, eqb-true, false, filter, filter-append, force_at, history, home, if_way, if◌then◌else◌, inl, inr, is_start_of, length, length-append, local_of, marks, record_of, redeclares, refl, same_number, same_or_not, same_site, site_self, starts_before, starts_of, subst, suc, sym, take, true, txn_at, with_force, with_submit, ℕ, ◌&&◌, ◌++◌, ◌+◌, ◌==◌, ◌∙◌, ◌∷◌, ◌≡◌}
+use Rattle.sdd_lawful.proofs.All.{Attempt, Bool, Commit, Did, Does, Entry, Force, Given, Hand, Handed, History, IsAttempt, IsPermitted, IsSound, List, Log, Mark, Msg, None, Option, Rec, Records, Redeclares, Sends, Site, SiteLog, Some, Start, Submitted, T, Tick, Ticked, Txn, TxnNo, U, [], ap, append_assoc, arith, cond, eqb-true, false, filter, filter-append, force_at, history, home, if_way, if◌then◌else◌, inl, inr, is_start_of, length, length-append, local_of, marks, record_of, redeclares, refl, same_number, same_or_not, same_site, site_self, starts_before, starts_of, subst, suc, sym, take, true, txn_at, with_force, with_submit, ℕ, ◌&&◌, ◌++◌, ◌+◌, ◌==◌, ◌∙◌, ◌∷◌, ◌≡◌}
 use Rattle.sdd_lawful.proofs.Classes.{IsGivenTo, at_home, one_class}
 use Rattle.sdd_lawful.proofs.Places.{history_before, history_step, recorded}
 use Rattle.sdd_lawful.proofs.Started.{attempt_from, given_of_attempt, start_act_of, start_at_entry, start_in}
@@ -70,8 +70,7 @@ count_other c n k x txn e =
     ] in
     elim (k == c) as (λ b. (b && (n == txn.0)) ≡ false) [ true ↦ f | false ↦ refl ]
 
-count_act : (g : Given) (c n x : ℕ) (at : Site) (k : ℕ) (r : Rec) (sends : List (Site × Msg)) (l : SiteLog)
-    → IsOwnStart g c n at k r → starts_of c n l ≡ x
+count_act : (g : Given) (c n x : ℕ) (at : Site) (k : ℕ) (r : Rec) (sends : List (Site × Msg)) (l : SiteLog) → IsOwnStart g c n at k r → starts_of c n l ≡ x
     → starts_of c n (if same_site (home g.catalogue c) at then Did (Records k r sends) ∷ l else l) ≡ x + one_of (is_start_of n r)
 count_act g c n x at k (Start txn attempt class ts p2 uses) sends l own e = elim (same_or_not txn.0 n) [
   | inl p ↦ (let q : (txn.0 == n) ≡ true = ap (λ y. y == n) p ∙ same_number n in
@@ -92,17 +91,13 @@ IsOwnEntry g c n _ = Unit {0}
 
 count_entry : (g : Given) (c n x : ℕ) (e : Entry) (log : Log) → IsOwnEntry g c n e → starts_of c n (at_home g c log) ≡ x
     → starts_of c n (at_home g c (e ∷ log)) ≡ x + one_by n (record_of e)
-count_entry g c n x (Mark (Tick t k)) log own e =
-    count_if c n x (same_site (home g.catalogue c) (T t)) (Ticked k) (at_home g c log) refl e
-count_entry g c n x (Redeclares t) log own e =
-    plus_none _ x (count_force c n x (home g.catalogue c) (force_at g (suc (redeclares log))) t (at_home g c log) e)
-count_entry g c n x (Hand from to k m) log own e =
-    count_if c n x (same_site (home g.catalogue c) to) (Handed from m) (at_home g c log) refl e
+count_entry g c n x (Mark (Tick t k)) log own e = count_if c n x (same_site (home g.catalogue c) (T t)) (Ticked k) (at_home g c log) refl e
+count_entry g c n x (Redeclares t) log own e = plus_none _ x (count_force c n x (home g.catalogue c) (force_at g (suc (redeclares log))) t (at_home g c log) e)
+count_entry g c n x (Hand from to k m) log own e = count_if c n x (same_site (home g.catalogue c) to) (Handed from m) (at_home g c log) refl e
 count_entry g c n x (Submitted to k) log own e =
     plus_none _ x (if_way (HasCount c n x) (same_site (home g.catalogue c) to) (with_submit k (txn_at g k) (at_home g c log)) (at_home g c log) (count_submit c n x k (txn_at g k) (at_home g c log) e) e)
 count_entry g c n x (Does at (Records k r sends)) log own e = count_act g c n x at k r sends (at_home g c log) own e
-count_entry g c n x (Does at (Sends to m hand)) log own e =
-    count_if c n x (same_site (home g.catalogue c) at) (Did (Sends to m hand)) (at_home g c log) refl e
+count_entry g c n x (Does at (Sends to m hand)) log own e = count_if c n x (same_site (home g.catalogue c) at) (Did (Sends to m hand)) (at_home g c log) refl e
 count_entry g c n x _ log own e = plus_none _ x e
 
 abbrev AllOwn : Given → ℕ → ℕ → Log → Type 0
@@ -118,8 +113,7 @@ counted g c n (e ∷ log) own =
 -- every Start of a transaction in the log is of its class
 
 own_record : (g : Given) (full : Log) (c n : ℕ) (text : Txn) (later : Log) (at : Site) (k : ℕ) (r : Rec) (sends : List (Site × Msg)) (before : Log)
-    → IsSound g.catalogue → IsPermitted g full → IsGivenTo g full n c text
-    → full ≡ later ++ Does at (Records k r sends) ∷ before → IsOwnStart g c n at k r
+    → IsSound g.catalogue → IsPermitted g full → IsGivenTo g full n c text → full ≡ later ++ Does at (Records k r sends) ∷ before → IsOwnStart g c n at k r
 own_record g full c n text later at k (Start txn attempt class ts p2 uses) sends before sound h given is q =
     let s = start_at_entry g full later at k txn attempt class ts p2 uses sends before sound h is in
     let e : txn.0 ≡ n = eqb-true txn.0 n q in
@@ -130,8 +124,7 @@ own_record g full c n text later at k r sends before sound h given is q = cc
 
 own_entry : (g : Given) (full : Log) (c n : ℕ) (text : Txn) (later : Log) (e : Entry) (before : Log) → IsSound g.catalogue
     → IsPermitted g full → IsGivenTo g full n c text → full ≡ later ++ e ∷ before → IsOwnEntry g c n e
-own_entry g full c n text later (Does at (Records k r sends)) before sound h given is =
-    own_record g full c n text later at k r sends before sound h given is
+own_entry g full c n text later (Does at (Records k r sends)) before sound h given is = own_record g full c n text later at k r sends before sound h given is
 own_entry g full c n text later _ before sound h given is = tt
 
 all_own : (g : Given) (full : Log) (c n : ℕ) (text : Txn) (later log : Log) → IsSound g.catalogue → IsPermitted g full

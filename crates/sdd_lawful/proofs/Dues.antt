@@ -150,8 +150,7 @@ start_none s c l q d j k t e = elim (start_puts s c (D d) l q) [
 ]
 
 commit_none : (s : Setting) (c : ℕ) (bases : Bases) (a : Attempt) → SendsNull (commit_act s.catalogue bases c a)
-commit_none s c bases a d j k t e =
-    let r = (commit_put_is s c bases a d j (Null k t) e).0 in let z : true ≡ false = ap is_null r in cc
+commit_none s c bases a d j k t e = let r = (commit_put_is s c bases a d j (Null k t) e).0 in let z : true ≡ false = ap is_null r in cc
 
 pub sends_null : (s : Setting) (l : Log) (act : Act) → IsStep s l act → SendsNull act
 sends_null s l act i =
@@ -165,14 +164,12 @@ pub record WasAskedBy (l : Log) (from : Site) : Type 0 where
   pub is : l ≡ later ++ Handed from (Ask class time) ∷ before
 
 asked_past : (e : Entry) (l : Log) (from : Site) → WasAskedBy l from → WasAskedBy (e ∷ l) from
-asked_past e l from h =
-    record { class = h.class; time = h.time; later = e ∷ h.later; before = h.before; is = ap (λ k. e ∷ k) h.is }
+asked_past e l from h = record { class = h.class; time = h.time; later = e ∷ h.later; before = h.before; is = ap (λ k. e ∷ k) h.is }
 
 abbrev question : ℕ → Site → ClassNo → Ts → tm_views.Question
 question n from class time = record { hand = n; from = from; class = class.0; time = time.0 }
 
-asks_in : (n : ℕ) (from : Site) (m : Msg) (l : Log) (k : ℕ) (q : tm_views.Question)
-    → ((j : ℕ) → slice_get (tm_views.asks l) j ≡ Some q → WasAskedBy l q.from)
+asks_in : (n : ℕ) (from : Site) (m : Msg) (l : Log) (k : ℕ) (q : tm_views.Question) → ((j : ℕ) → slice_get (tm_views.asks l) j ≡ Some q → WasAskedBy l q.from)
     → slice_get (tm_views.asks_handed n from m (tm_views.asks l)) k ≡ Some q → WasAskedBy (Handed from m ∷ l) q.from
 asks_in n from (Ask class time) l k q f e = elim (in_either (tm_views.asks l) (question n from class time ∷ []) k q e) [
   | inl i ↦ asked_past (Handed from (Ask class time)) l q.from (f k i)
@@ -209,8 +206,7 @@ not_null l to m hand ts c e = tt
 next_null : (s : Setting) (l : Log) (c : ℕ) (x : Attempt) (ps : List (ℕ × Msg)) (o : Option Act) (a : Act) → active s c l ≡ Some x → x.exchange.to_send ≡ ps
     → ((z : Act) → o ≡ Some z → NullTo l z) → or_else (first_send ps) o ≡ Some a → NullTo l a
 next_null s l c x [] o a f p g e = g a e
-next_null s l c x (m ∷ ps) o a f p g e =
-    null_some l _ a (not_null l (D (dm_no m.0)) m.1 None x.ts c (asks_next s c l x m f (ap head_of p))) e
+next_null s l c x (m ∷ ps) o a f p g e = null_some l _ a (not_null l (D (dm_no m.0)) m.1 None x.ts c (asks_next s c l x m f (ap head_of p))) e
 
 over_null : (l : Log) (b : Bool) (cat : Catalogue) (bases : Bases) (c : ℕ) (x : Attempt) (a : Act)
     → (if b then Some (commit_act cat bases c x) else None) ≡ Some a → NullTo l a

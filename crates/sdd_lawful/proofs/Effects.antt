@@ -113,10 +113,8 @@ module _ (g : Given) (rows : List (RelNo × Row)) (eras : Eras) (log : Log) (sou
       → log_base.frags_asked (head (pipe i.class i.before)) ≡ ascending (fragments_in (filter_map (use_there cat a.class d) a.uses))
   asked_is d i z =
       let w = answer_is d z.place z.answered in
-      ap (λ k. log_base.frags_asked (head (pipe k i.before))) z.class_is
-      ∙ ap (λ l. log_base.frags_asked (head (pipe a.class l))) (sym (z.local_is w))
-      ∙ ap log_base.frags_asked w.read.head_is
-      ∙ ap (λ us. ascending (fragments_in us)) w.read.uses_are
+      ap (λ k. log_base.frags_asked (head (pipe k i.before))) z.class_is ∙ ap (λ l. log_base.frags_asked (head (pipe a.class l))) (sym (z.local_is w))
+      ∙ ap log_base.frags_asked w.read.head_is ∙ ap (λ us. ascending (fragments_in us)) w.read.uses_are
 
   to_ours : (e : Item × Row) (f : ℕ) → reads a f ≡ true → Contains (piece f) e → Contains ours e
   to_ours e f rd there =

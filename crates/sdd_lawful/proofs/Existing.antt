@@ -11,8 +11,7 @@ use_exists cat n rel restrictions h =
     (h, All-from_recursion (λ (f : FragNo). IsFragment cat f.0) (fragments_for cat rel.0 restrictions) (all_numbers (IsThere cat) (fragments_for cat rel.0 restrictions) (fragments_there cat rel.0 restrictions)))
 
 parts_exist : (cat : Catalogue) (before : ℕ) (conds : List Condition) (part : ℕ) (rels : List RelNo)
-    → AllByRecursion (λ (rel : RelNo). IsRelation cat rel.0) rels
-    → AllByRecursion (UseExists cat) (part_uses cat before conds part rels)
+    → AllByRecursion (λ (rel : RelNo). IsRelation cat rel.0) rels → AllByRecursion (UseExists cat) (part_uses cat before conds part rels)
 parts_exist cat before conds part [] h = tt
 parts_exist cat before conds part (rel ∷ rels) h =
     (use_exists cat (before + part) rel (restrictions_of part conds) h.0, parts_exist cat before conds (part + 1) rels h.1)

@@ -35,8 +35,7 @@ positive c p = elim (dec_le 1 c) [ yes q ↦ q | no q ↦ absurd (differ c 0 p (
 abbrev pub DifferOrSame : Site → Site → Type 0
 DifferOrSame a b = (a ≡ b) ⊎ (number_of a ≢ number_of b)
 
-pub homes_differ : (cat : Catalogue) → IsSound cat → (c d : ℕ) → c ≤ length cat.classes → d ≤ length cat.classes
-    → DifferOrSame (home cat c) (home cat d)
+pub homes_differ : (cat : Catalogue) → IsSound cat → (c d : ℕ) → c ≤ length cat.classes → d ≤ length cat.classes → DifferOrSame (home cat c) (home cat d)
 homes_differ cat sound c d hc hd = elim (same_or_not c 0) [
   | inl p ↦ elim (same_or_not d 0) [
     | inl q ↦ inl (ap (home cat) (p ∙ sym q))

@@ -18,15 +18,13 @@ most_at k (y ∷ xs) (suc i) x h e = most_at k xs i x h.1 e
 pub stamp_in : (later before : Log) (k : ℕ) (txn : TxnNo) (attempt : ℕ) (c : ClassNo) (ts : Ts) (p2 : Option Ts) (us : List Use) (sends : List (Site × Msg))
     → (i : ℕ) × (slice_get (stamps (later ++ Did (Records k (Start txn attempt c ts p2 us) sends) ∷ before)) i ≡ Some ts.0)
 stamp_in [] before k txn attempt c ts p2 us sends = (0, refl)
-stamp_in (Did act ∷ later) before k txn attempt c ts p2 us sends =
-    let i = stamp_in later before k txn attempt c ts p2 us sends in in_right _ _ i.0 ts.0 i.1
+stamp_in (Did act ∷ later) before k txn attempt c ts p2 us sends = let i = stamp_in later before k txn attempt c ts p2 us sends in in_right _ _ i.0 ts.0 i.1
 stamp_in (_ ∷ later) before k txn attempt c ts p2 us sends = stamp_in later before k txn attempt c ts p2 us sends
 
 pub promise_in : (later before : Log) (k : ℕ) (txn : TxnNo) (attempt : ℕ) (c : ClassNo) (ts : Ts) (p2 : Ts) (us : List Use) (sends : List (Site × Msg))
     → (i : ℕ) × (slice_get (promises (later ++ Did (Records k (Start txn attempt c ts (Some p2) us) sends) ∷ before)) i ≡ Some p2.0)
 promise_in [] before k txn attempt c ts p2 us sends = (0, refl)
-promise_in (Did act ∷ later) before k txn attempt c ts p2 us sends =
-    let i = promise_in later before k txn attempt c ts p2 us sends in in_right _ _ i.0 p2.0 i.1
+promise_in (Did act ∷ later) before k txn attempt c ts p2 us sends = let i = promise_in later before k txn attempt c ts p2 us sends in in_right _ _ i.0 p2.0 i.1
 promise_in (_ ∷ later) before k txn attempt c ts p2 us sends = promise_in later before k txn attempt c ts p2 us sends
 
 -- Commits
@@ -37,8 +35,7 @@ commit_stays c n _ x h = h
 
 pub committed_later : (c n : ℕ) (later log : Log) → is_committed c n log ≡ true → is_committed c n (later ++ log) ≡ true
 committed_later c n [] log h = h
-committed_later c n (Did act ∷ later) log h =
-    commit_stays c n act (is_committed c n (later ++ log)) (committed_later c n later log h)
+committed_later c n (Did act ∷ later) log h = commit_stays c n act (is_committed c n (later ++ log)) (committed_later c n later log h)
 committed_later c n (_ ∷ later) log h = committed_later c n later log h
 
 pub committed_here : (c : ℕ) (before : Log) (txn : TxnNo) (attempt : ℕ) (reply : Reply) (changes : List Change) (values rows : ℕ) (sends : List (Site × Msg))
@@ -95,15 +92,13 @@ commit_act_in c n (Redeclared force t ∷ log) h = commit_past c n (Redeclared f
 abbrev pair : ℕ → Txn → ℕ × Txn
 pair n text = (n, text)
 
-submits_if : (b : Bool) (xs : List (ℕ × Txn)) (y x : ℕ × Txn) (i : ℕ) → slice_get xs i ≡ Some x
-    → slice_get (if b then xs ++ y ∷ [] else xs) i ≡ Some x
+submits_if : (b : Bool) (xs : List (ℕ × Txn)) (y x : ℕ × Txn) (i : ℕ) → slice_get xs i ≡ Some x → slice_get (if b then xs ++ y ∷ [] else xs) i ≡ Some x
 submits_if true xs y x i e = in_left xs (y ∷ []) i x e
 submits_if false xs y x i e = e
 
 pub submitted_in : (s : Setting) (c n : ℕ) (text : Txn) (later before : Log) → is_for c (in_force s before).catalogue text ≡ true
     → (i : ℕ) × (slice_get (submits_of s c (later ++ Submits n text ∷ before)) i ≡ Some (pair n text))
-submitted_in s c n text [] before h =
-    (length (submits_of s c before), rw h (at_seam (submits_of s c before) [] (pair n text)))
+submitted_in s c n text [] before h = (length (submits_of s c before), rw h (at_seam (submits_of s c before) [] (pair n text)))
 submitted_in s c n text (Submits k other ∷ later) before h =
     let i = submitted_in s c n text later before h in
     (i.0, submits_if (is_for c (in_force s (later ++ Submits n text ∷ before)).catalogue other) (submits_of s c (later ++ Submits n text ∷ before)) (pair k other) (pair n text) i.0 i.1)
@@ -112,15 +107,13 @@ submitted_in s c n text (_ ∷ later) before h = submitted_in s c n text later b
 pub all_committed_at : (c : ℕ) (log : Log) (xs : List (ℕ × Txn)) (i : ℕ) (n : ℕ) (text : Txn) → AllCommitted c log xs
     → slice_get xs i ≡ Some (pair n text) → is_committed c n log ≡ true
 all_committed_at c log [] i n text h e = cc
-all_committed_at c log (x ∷ xs) zero n text h e =
-    let p : x ≡ pair n text = cc in subst (λ (y : ℕ × Txn). is_committed c y.0 log ≡ true) p h.0
+all_committed_at c log (x ∷ xs) zero n text h e = let p : x ≡ pair n text = cc in subst (λ (y : ℕ × Txn). is_committed c y.0 log ≡ true) p h.0
 all_committed_at c log (x ∷ xs) (suc i) n text h e = all_committed_at c log xs i n text h.1 e
 
 -- how often a transaction was started
 
 start_more_le : (c n : ℕ) (act : Act) (x y : ℕ) → y ≤ x → y ≤ start_more c n act x
-start_more_le c n (Records k (Start txn attempt class ts p2 uses) sends) x y h =
-    if_way (λ z. y ≤ z) ((k == c) && (n == txn.0)) (suc x) x (omega arith) h
+start_more_le c n (Records k (Start txn attempt class ts p2 uses) sends) x y h = if_way (λ z. y ≤ z) ((k == c) && (n == txn.0)) (suc x) x (omega arith) h
 start_more_le c n _ x y h = h
 
 starts_later : (c n : ℕ) (later log : Log) → starts_of c n log ≤ starts_of c n (later ++ log)

@@ -1,7 +1,6 @@
 -- Which sites make which records: a site that runs transactions makes Starts and Commits of the classes that it runs, a
 -- data module makes the others, each with its own number.
-use Rattle.sdd_lawful.proofs.All.{Act, Answer, Apply, Arrive, Bool, ClassView, Commit, D, DmNo, Does, Each, Fetch, Given, Home, IsDue, IsFair, IsPermitted, IsStep, List, Log, Msg, None, Nothing, Null, Open, Option, Pass, Processes, Read, Rec, Records, Reduce, Refuses, Rejected, Sends, Setting, Ship, Site, SiteLog, Some, Start, Step, T, U, View, Wait, Waits, Write, act_by, act_where, allowed_act, answer_of, answer_to, by_head, by_open, false, filter, head, head_of, head_step, home, home_of, is_asked_of, local_of, own_act, refl, setting_of, step_way, subst, sym, t_fair, true, u_fair, view_of, ℕ, ◌∙◌, ◌∷◌, ◌≡◌}
-use Rattle.sdd_invariants.specs.history.declared.record.Rec.TheVariants.{Submit}
+use Rattle.sdd_lawful.proofs.All.{Act, Answer, Apply, Arrive, Bool, ClassView, Commit, D, DmNo, Does, Each, Fetch, Given, Home, IsDue, IsFair, IsPermitted, IsStep, List, Log, Msg, None, Nothing, Null, Open, Option, Pass, Processes, Read, Rec, Records, Reduce, Refuses, Rejected, Sends, Setting, Ship, Site, SiteLog, Some, Start, Step, Submit, T, U, View, Wait, Waits, Write, act_by, act_where, allowed_act, answer_of, answer_to, by_head, by_open, false, filter, head, head_of, head_step, home, home_of, is_asked_of, local_of, own_act, refl, setting_of, step_way, subst, sym, t_fair, true, u_fair, view_of, ℕ, ◌∙◌, ◌∷◌, ◌≡◌}
 
 abbrev pub is_of_run : Rec → Bool
 is_of_run (Start txn attempt class ts p2 uses) = true
@@ -53,8 +52,7 @@ by_kind h v c (Read ts class txn attempt conds uses) (Refuses by write) = refl
 by_kind h v c (Read ts class txn attempt conds uses) (Waits ds) = refl
 by_kind h v c m step = tt
 
-head_kind : (h : Home) (v : View) (c : ℕ) (m : Option Msg) (step : Option Step) (a : Act) → act_where h v c m step ≡ Some a
-    → IsDataAct h.dm a
+head_kind : (h : Home) (v : View) (c : ℕ) (m : Option Msg) (step : Option Step) (a : Act) → act_where h v c m step ≡ Some a → IsDataAct h.dm a
 head_kind h v c (Some m) (Some step) a e = data_some h.dm _ a (by_kind h v c m step) e
 head_kind h v c _ _ a e = cc
 

@@ -1,5 +1,6 @@
 -- A lawful log submits only what its events submit.
-use Rattle.sdd_lawful.proofs.All.{AreNumbered, Given, IsLawful, Log, Mark, Submit, SubmitGiven, [], ap, arith, eq-eqb, left, left_is, marked, one_if, refl, submits_by, submits_in, subst, ◌++◌, ◌+◌, ◌∷◌, ◌≡◌, ◌≤◌}
+use Rattle.sdd_lawful.proofs.All.{AreNumbered, Given, IsLawful, Log, Mark, SubmitGiven, [], ap, arith, eq-eqb, left, left_is, marked, one_if, refl, submits_by, submits_in, subst, ◌++◌, ◌+◌, ◌∷◌, ◌≡◌, ◌≤◌}
+use Rattle.sdd_invariants.specs.All.{Submit}
 
 lawful_rest : (g : Given) (later log : Log) → IsLawful g (later ++ log) → IsLawful g log
 lawful_rest g [] log h = h

@@ -1,5 +1,5 @@
 -- A log in which no further list of classes was put in force has one era.
-use Rattle.sdd_lawful.proofs.All.{AreEras, AreErasOf, Catalogue, Committed, Does, Given, Hand, History, IsEraOf, IsForce, IsOfEarlierEra, KeepsEras, Log, Mark, Notes, Redeclares, Round, Some, Submitted, [], ap, arith, begun, cond, era_of_itself, event_at, false, force_at, inl, inr, length, marks, nat_le, nat_tests, one_era, redeclares, refl, slice_get, slice_index_or, subst, suc, sym, true, true_or_false, zero, ℕ, ◌++◌, ◌-◌, ◌∙◌, ◌∷◌, ◌≡◌}
+use Rattle.sdd_lawful.proofs.All.{AreEras, AreErasOf, Catalogue, Committed, Given, History, IsEraOf, IsForce, IsOfEarlierEra, KeepsEras, Log, Redeclares, Some, [], ap, arith, begun, cond, era_of_itself, event_at, false, force_at, inl, inr, length, marks, nat_le, nat_tests, one_era, redeclares, refl, slice_get, slice_index_or, subst, suc, sym, true, true_or_false, zero, ℕ, ◌++◌, ◌-◌, ◌∙◌, ◌∷◌, ◌≡◌}
 use Rattle.sdd_laws.specs.All.{in_force}
 
 each_era : (cat : Catalogue) (k : ℕ) (a : ℕ × Catalogue) → slice_get (one_era cat) k ≡ Some a → IsEraOf cat a.1

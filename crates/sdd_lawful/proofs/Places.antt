@@ -1,5 +1,5 @@
 -- The records of a history are those of the entries of its log, in their order.
-use Rattle.sdd_lawful.proofs.All.{Does, Entry, Hand, History, IsBefore, IsMadeAt, List, Log, Mark, None, Notes, Option, Rec, Records, Redeclares, Round, Sends, Some, Stands, Submitted, [], ap, append-nil, append_assoc, arith, at_seam, compare, dec_le, event_at, history, in_left, inl, inr, length, marks, place_within, record_of, refl, slice_get, subst, suc, sym, take, take-append_seam, zero, ℕ, ◌++◌, ◌<◌, ◌∙◌, ◌∷◌, ◌≡◌, ◌≤◌}
+use Rattle.sdd_lawful.proofs.All.{Does, Entry, History, IsBefore, IsMadeAt, List, Log, None, Notes, Option, Rec, Records, Sends, Some, Stands, Submitted, [], ap, append-nil, append_assoc, arith, at_seam, compare, dec_le, event_at, history, in_left, inl, inr, length, marks, place_within, record_of, refl, slice_get, subst, suc, sym, take, take-append_seam, zero, ℕ, ◌++◌, ◌<◌, ◌∙◌, ◌∷◌, ◌≡◌, ◌≤◌}
 
 abbrev pub recorded : ℕ → Option Rec → History
 recorded event None = []
@@ -28,25 +28,21 @@ dated_there (x ∷ later) e before r m =
     subst (λ h. slice_get h (length (history before)) ≡ Some (dated before r)) (sym (history_step x (later ++ e ∷ before)))
     (in_left (history (later ++ e ∷ before)) _ (length (history before)) (dated before r) i)
 
-get_of_left : {A : Type 0} (xs ys : List A) (k : ℕ) (x : A) → k < length xs → slice_get (xs ++ ys) k ≡ Some x
-    → slice_get xs k ≡ Some x
+get_of_left : {A : Type 0} (xs ys : List A) (k : ℕ) (x : A) → k < length xs → slice_get (xs ++ ys) k ≡ Some x → slice_get xs k ≡ Some x
 get_of_left [] ys k x l e = absurd (omega arith)
 get_of_left (y ∷ xs) ys zero x l e = e
 get_of_left (y ∷ xs) ys (suc k) x l e = get_of_left xs ys k x (omega arith) e
 
-get_of_end : {A : Type 0} (xs : List A) (y : A) (k : ℕ) (x : A) → length xs ≤ k → slice_get (xs ++ y ∷ []) k ≡ Some x
-    → (length xs ≡ k) × (y ≡ x)
+get_of_end : {A : Type 0} (xs : List A) (y : A) (k : ℕ) (x : A) → length xs ≤ k → slice_get (xs ++ y ∷ []) k ≡ Some x → (length xs ≡ k) × (y ≡ x)
 get_of_end [] y zero x l e = (refl, cc)
 get_of_end [] y (suc k) x l e = cc
 get_of_end (z ∷ xs) y zero x l e = absurd (omega arith)
 get_of_end (z ∷ xs) y (suc k) x l e = let i = get_of_end xs y k x (omega arith) e in (omega (arith, i.0), i.1)
 
 made_more : (x : Entry) (log : Log) (k : ℕ) (r : Rec) → IsMadeAt log k r → IsMadeAt (x ∷ log) k r
-made_more x log k r m =
-    record { later = x ∷ m.later; entry = m.entry; before = m.before; is = ap (λ l. x ∷ l) m.is; makes = m.makes; place_is = m.place_is }
+made_more x log k r m = record { later = x ∷ m.later; entry = m.entry; before = m.before; is = ap (λ l. x ∷ l) m.is; makes = m.makes; place_is = m.place_is }
 
-made_in : (e : Entry) (log : Log) (o : Option Rec) (k : ℕ) (p : ℕ × Rec) → record_of e ≡ o
-    → (slice_get (history log) k ≡ Some p → IsMadeAt log k p.1)
+made_in : (e : Entry) (log : Log) (o : Option Rec) (k : ℕ) (p : ℕ × Rec) → record_of e ≡ o → (slice_get (history log) k ≡ Some p → IsMadeAt log k p.1)
     → slice_get (history log ++ recorded (marks log) o) k ≡ Some p → IsMadeAt (e ∷ log) k p.1
 made_in e log None k p m i q = made_more e log k p.1 (i (subst (λ h. slice_get h k ≡ Some p) (append-nil (history log)) q))
 made_in e log (Some r) k p m i q = elim (dec_le (suc k) (length (history log))) [
@@ -57,11 +53,9 @@ made_in e log (Some r) k p m i q = elim (dec_le (suc k) (length (history log))) 
 
 made_at_pair : (log : Log) (k : ℕ) (p : ℕ × Rec) → slice_get (history log) k ≡ Some p → IsMadeAt log k p.1
 made_at_pair [] k p q = cc
-made_at_pair (e ∷ log) k p q =
-    made_in e log (record_of e) k p refl (λ s. made_at_pair log k p s) (subst (λ h. slice_get h k ≡ Some p) (history_step e log) q)
+made_at_pair (e ∷ log) k p q = made_in e log (record_of e) k p refl (λ s. made_at_pair log k p s) (subst (λ h. slice_get h k ≡ Some p) (history_step e log) q)
 
-stands_pair : (o : Option (ℕ × Rec)) (r : Rec) (h : History) (k : ℕ) → slice_get h k ≡ o → Stands h k r
-    → (p : ℕ × Rec) × (slice_get h k ≡ Some p) × (p.1 ≡ r)
+stands_pair : (o : Option (ℕ × Rec)) (r : Rec) (h : History) (k : ℕ) → slice_get h k ≡ o → Stands h k r → (p : ℕ × Rec) × (slice_get h k ≡ Some p) × (p.1 ≡ r)
 stands_pair None r h k q s = let t : ◌≡◌ {A = Option Rec} None (Some r) = subst (λ (y : Option (ℕ × Rec)). elim y as (λ _. Option Rec) [ None ↦ None | Some z ↦ Some z.1 ] ≡ Some r) q s in cc
 stands_pair (Some p) r h k q s =
     let t : Some p.1 ≡ Some r = subst (λ (y : Option (ℕ × Rec)). elim y as (λ _. Option Rec) [ None ↦ None | Some z ↦ Some z.1 ] ≡ Some r) q s in
@@ -100,12 +94,10 @@ history_before log later before is =
 -- an entry further back has its record further back
 pub place_rises : (between : Log) (e : Entry) (before : Log) (r : Rec) → record_of e ≡ Some r
     → length (history before) < length (history (between ++ e ∷ before))
-place_rises between e before r m =
-    place_within (history (between ++ e ∷ before)) (length (history before)) (dated before r) (dated_there between e before r m)
+place_rises between e before r m = place_within (history (between ++ e ∷ before)) (length (history before)) (dated before r) (dated_there between e before r m)
 
 -- of two places the entries are in the same order
-pub entries_in_order : (log : Log) (j k : ℕ) (q r : Rec) (a : IsMadeAt log j q) (b : IsMadeAt log k r) → j < k
-    → IsBefore a.entry a.before b.before
+pub entries_in_order : (log : Log) (j k : ℕ) (q r : Rec) (a : IsMadeAt log j q) (b : IsMadeAt log k r) → j < k → IsBefore a.entry a.before b.before
 entries_in_order log j k q r a b l =
     let pa = a.place_is in let pb = b.place_is in
     elim (compare a.later b.later a.entry b.entry a.before b.before (sym a.is ∙ b.is)) [
@@ -118,8 +110,7 @@ entries_in_order log j k q r a b l =
     ]
 
 -- at one place there is one entry
-pub one_entry : (log : Log) (k : ℕ) (q r : Rec) (a : IsMadeAt log k q) (b : IsMadeAt log k r)
-    → (a.before ≡ b.before) × (a.entry ≡ b.entry)
+pub one_entry : (log : Log) (k : ℕ) (q r : Rec) (a : IsMadeAt log k q) (b : IsMadeAt log k r) → (a.before ≡ b.before) × (a.entry ≡ b.entry)
 one_entry log k q r a b =
     let pa = a.place_is in let pb = b.place_is in
     elim (compare a.later b.later a.entry b.entry a.before b.before (sym a.is ∙ b.is)) [

@@ -67,8 +67,7 @@ abbrev changes_in : Msg → List Change
 changes_in (Write ts class txn changes) = changes
 changes_in m = []
 
-pub spoilt_by : (g : Given) (log : Log) (d : DmNo) (q : Cond) → IsPermitted g log
-    → spoils (view_of (setting_of g (D d)) (local_of g (D d) log)) q ≡ true
+pub spoilt_by : (g : Given) (log : Log) (d : DmNo) (q : Cond) → IsPermitted g log → spoils (view_of (setting_of g (D d)) (local_of g (D d) log)) q ≡ true
     → IsSpoiler g log d q (or_zero (last_write_for (view_of (setting_of g (D d)) (local_of g (D d) log)) q))
 spoilt_by g log d q h e =
     let j : ℕ = q.class.0 in

@@ -26,8 +26,7 @@ OfHead s log (Records k (Start txn attempt class ts p2 uses) sends) = IsStartOfH
 OfHead s log act = Unit {0}
 
 of_head : (s : Setting) (log : site.Log) (act : Act) → IsStep s log act → OfHead s log act
-of_head s log act i = step_way s log act (OfHead s log)
-    (λ c q at f e. record { queued = q; idle = f; head_is = e; txn_is = refl; number_is = refl })
+of_head s log act i = step_way s log act (OfHead s log) (λ c q at f e. record { queued = q; idle = f; head_is = e; txn_is = refl; number_is = refl })
     (λ c bases a at f. tt) (λ to m hand f. tt) i
 
 -- a condition of a READ is one of its attempt

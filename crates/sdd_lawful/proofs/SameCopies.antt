@@ -14,8 +14,7 @@ use Rattle.sdd_laws.specs.Snapshots as laws
 abbrev entry_with : Item → Option Row → Item × Option Row
 entry_with i row = (i, row)
 
-one_change : (changes : List Change) → AreMade changes → (c e : Change) → Contains changes c → Contains changes e → c.frag.0 ≡ e.frag.0
-    → c.key ≡ e.key → c ≡ e
+one_change : (changes : List Change) → AreMade changes → (c e : Change) → Contains changes c → Contains changes e → c.frag.0 ≡ e.frag.0 → c.key ≡ e.key → c ≡ e
 one_change changes made c e h k f g =
     let x = Contains-from_map change_of made.changed c (subst (λ l. Contains l c) made.are h) in
     let y = Contains-from_map change_of made.changed e (subst (λ l. Contains l e) made.are k) in
@@ -127,14 +126,12 @@ module _ (g : Given) (rows : List (RelNo × Row)) (eras : Eras) (log : Log) (sou
       u.2 ∙ (λ i. first_row cat (item i, row i)) ∙ sym v.2
 
   later_date : (x : ℕ × Change) → IsChangeOf g log d k x → 1 ≤ x.0
-  later_date x i =
-      let s = start_in g log i.writer.start sound h i.is_committed.started in let p = s.says.p2_below in let e = i.date_is in omega arith
+  later_date x i = let s = start_in g log i.writer.start sound h i.is_committed.started in let p = s.says.p2_below in let e = i.date_is in omega arith
 
   first_date : (x : ℕ × Change) → Contains (map (first_row cat) begins) x → x.0 ≡ 0
   first_date x a = ap (λ (z : ℕ × Change). z.0) (Contains-from_map (first_row cat) begins x a).2
 
-  both_later : (x y : ℕ × Change) → IsChangeOf g log d k x → IsChangeOf g log d k y → x.1.frag.0 ≡ y.1.frag.0 → x.1.key ≡ y.1.key → x.0 ≡ y.0
-      → x ≡ y
+  both_later : (x y : ℕ × Change) → IsChangeOf g log d k x → IsChangeOf g log d k y → x.1.frag.0 ≡ y.1.frag.0 → x.1.key ≡ y.1.key → x.0 ≡ y.0 → x ≡ y
   both_later x y i j e kk t =
       let ts : i.writer.start.ts ≡ j.writer.start.ts = sym i.date_is ∙ t ∙ j.date_is in
       let place = one_time g log eras sound h are i.writer.start j.writer.start i.is_committed.started j.is_committed.started ts in

@@ -117,8 +117,7 @@ same_time o t u of of2 txn txn2 i i2 ds ds2 us us2 e f =
 
 pub the_answer : (g : Given) (log front part : Log) (eras : Eras) (a : Attempt) (d : ℕ) (later : SiteLog) (k : ℕ) (n : TxnNo) (i : ℕ) (dm : DmNo) (ss : List (Site × Msg)) (l : SiteLog)
     → IsSound g.catalogue → IsPermitted g log → AreErasOf g log eras → IsAttempt (history log) a → log ≡ front ++ part
-    → local_of g (D (dm_no d)) part ≡ later ++ Did (Records k (Answer n i dm) ss) ∷ l → is_at a.ts (head (pipe k l)) ≡ true
-    → IsTheAnswer g log a d k l
+    → local_of g (D (dm_no d)) part ≡ later ++ Did (Records k (Answer n i dm) ss) ∷ l → is_at a.ts (head (pipe k l)) ≡ true → IsTheAnswer g log a d k l
 the_answer g log front part eras a d later k n i dm ss l sound h are s is split at =
     let act : Act = Records k (Answer n i dm) ss in
     let site_d : Site = D (dm_no d) in

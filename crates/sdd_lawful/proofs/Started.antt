@@ -1,5 +1,5 @@
 -- The Starts of a history, as acts of the sites that run their classes.
-use Rattle.sdd_lawful.proofs.All.{Act, AllCommitted, Attempt, ClassNo, Did, Does, Entry, Given, Hand, IsAttempt, IsMadeAt, IsPermitted, IsSound, IsStartRecord, List, Log, Mark, Msg, Notes, Option, Rec, Records, Redeclares, Round, Sends, Site, Some, Stands, Start, Submitted, Ts, TxnNo, Use, ap, arith, class_no, false, history, home, in_force, is_for, length, local_at, local_of, own_made, permitted_before, place_of_submit, record_of, refl, says_at, setting_of, submits_of, subst, sym, time_at, true, txn_no, ℕ, ◌++◌, ◌∙◌, ◌∷◌, ◌≡◌}
+use Rattle.sdd_lawful.proofs.All.{Act, AllCommitted, Attempt, ClassNo, Did, Does, Entry, Given, IsAttempt, IsMadeAt, IsPermitted, IsSound, IsStartRecord, List, Log, Msg, Notes, Option, Rec, Records, Site, Some, Stands, Start, Submitted, Ts, TxnNo, Use, ap, arith, class_no, false, history, home, in_force, is_for, length, local_at, local_of, own_made, permitted_before, place_of_submit, record_of, refl, says_at, setting_of, submits_of, subst, sym, time_at, true, txn_no, ℕ, ◌++◌, ◌∙◌, ◌∷◌, ◌≡◌}
 use Rattle.sdd_lawful.proofs.Classes.{IsForClass, IsGivenTo, at_home, class_given, given_in, home_setting, one_class}
 use Rattle.sdd_lawful.proofs.Homes.{home_small}
 use Rattle.sdd_lawful.proofs.Makers.{is_of_run, is_own, run_home}
@@ -85,8 +85,7 @@ start_with g log a k later sends before e is place h says =
       says = subst (StartsAs g before a) e says;
     }
 
-pub start_in : (g : Given) (log : Log) (a : Attempt) → IsSound g.catalogue → IsPermitted g log → IsAttempt (history log) a
-    → IsStartIn g log a
+pub start_in : (g : Given) (log : Log) (a : Attempt) → IsSound g.catalogue → IsPermitted g log → IsAttempt (history log) a → IsStartIn g log a
 start_in g log a sound h s =
     let m = run_in g log a.place (start_of a) h refl refl s in
     let small = home_small g.catalogue sound m.class in
@@ -94,13 +93,11 @@ start_in g log a sound h s =
     start_with g log a m.class m.later m.sends m.before (sym says.class_is) m.is m.place_is m.permitted says
 
 abbrev pub attempt_from : TxnNo → ℕ → ClassNo → Ts → Option Ts → List Use → ℕ → Attempt
-attempt_from txn number class ts p2 uses place =
-    record { txn = txn.0; number = number; class = class.0; ts = ts.0; p2 = p2; uses = uses; place = place }
+attempt_from txn number class ts p2 uses place = record { txn = txn.0; number = number; class = class.0; ts = ts.0; p2 = p2; uses = uses; place = place }
 
 -- an entry that makes a Start
 pub start_at_entry : (g : Given) (log later : Log) (at : Site) (k : ℕ) (txn : TxnNo) (number : ℕ) (class : ClassNo) (ts : Ts) (p2 : Option Ts) (uses : List Use) (sends : List (Site × Msg)) (before : Log)
-    → IsSound g.catalogue → IsPermitted g log
-    → log ≡ later ++ Does at (Records k (Start txn number class ts p2 uses) sends) ∷ before
+    → IsSound g.catalogue → IsPermitted g log → log ≡ later ++ Does at (Records k (Start txn number class ts p2 uses) sends) ∷ before
     → IsStartIn g log (attempt_from txn number class ts p2 uses (length (history before))) × (k ≡ class.0) × (at ≡ home g.catalogue k)
 start_at_entry g log later at k txn number class ts p2 uses sends before sound h is =
     let a : Attempt = attempt_from txn number class ts p2 uses (length (history before)) in
@@ -143,8 +140,7 @@ given_of_attempt g log a x =
     given_in g log x.later x.before (Does (home g.catalogue a.class) (start_act_of a x.sends)) a.txn a.class x.says.text x.is (given_of_start g log a x).given
 
 -- attempts of one transaction have one class
-pub one_start_class : (g : Given) (log : Log) (a b : Attempt) → IsPermitted g log → IsStartIn g log a → IsStartIn g log b
-    → a.txn ≡ b.txn → a.class ≡ b.class
+pub one_start_class : (g : Given) (log : Log) (a b : Attempt) → IsPermitted g log → IsStartIn g log a → IsStartIn g log b → a.txn ≡ b.txn → a.class ≡ b.class
 one_start_class g log a b h x y e =
     one_class g log b.txn a.class b.class x.says.text y.says.text h (subst (λ n. IsGivenTo g log n a.class x.says.text) e (given_of_attempt g log a x)) (given_of_attempt g log b y)
 

@@ -1,5 +1,5 @@
 -- The history of a permitted log keeps the law of Starts.
-use Rattle.sdd_lawful.proofs.All.{Act, AreErasOf, Attempt, Catalogue, Committed, CommittedBefore, Did, Does, Eras, Force, Given, IsAttempt, IsBound, IsCommitted, IsEraOf, IsMadeAt, IsOfSubmit, IsPermitted, IsSound, IsSubmitted, KeepsStarts, List, Log, Msg, None, Option, Records, Setting, Site, Some, Stands, Start, Submits, Submitted, T, TmNo, Ts, Txn, [], and_left, ap, append_assoc, arith, bound, class_at, class_for, class_no, clock, covered, covers, dec_le, eqb-true, event_at, false, filter, first_passes, force_at, force_is, head_of, history, home, home_fair, if◌then◌else◌, inl, inr, is_committed, is_for, is_some, length, local_of, lower_same_higher, marks, mul-add-mod_self_right, not, number_of, numbers_to, option_map, or_right, p2_of, permitted_before, place_of_act, promises, record_at, redeclares, refl, same_number, same_or_not, setting_of, slice_get, stamps, stamps_differ, starts_of, submits_of, subst, sym, time_at, tm_no, true, txn_at, txn_no, unwrap_or, ℕ, ◌%◌, ◌++◌, ◌<◌, ◌==◌, ◌∙◌, ◌∷◌, ◌≡◌, ◌≢◌, ◌≤◌}
+use Rattle.sdd_lawful.proofs.All.{Act, AreErasOf, Attempt, Catalogue, Committed, CommittedBefore, Did, Does, Eras, Force, Given, IsAttempt, IsBound, IsCommitted, IsEraOf, IsMadeAt, IsOfSubmit, IsPermitted, IsSound, IsSubmitted, KeepsStarts, List, Log, Msg, None, Option, Records, Setting, Site, Some, Stands, Start, Submit, Submits, Submitted, T, TmNo, Ts, Txn, [], and_left, ap, append_assoc, arith, bound, class_at, class_for, class_no, clock, covered, covers, dec_le, eqb-true, event_at, false, filter, first_passes, force_at, force_is, head_of, history, home, home_fair, if◌then◌else◌, inl, inr, is_committed, is_for, is_some, length, local_of, lower_same_higher, marks, mul-add-mod_self_right, not, number_of, numbers_to, option_map, or_right, p2_of, permitted_before, place_of_act, promises, record_at, redeclares, refl, same_number, same_or_not, setting_of, slice_get, stamps, stamps_differ, starts_of, submits_of, subst, sym, time_at, tm_no, true, txn_at, txn_no, unwrap_or, ℕ, ◌%◌, ◌++◌, ◌<◌, ◌==◌, ◌∙◌, ◌∷◌, ◌≡◌, ◌≢◌, ◌≤◌}
 use Rattle.sdd_lawful.proofs.Classes.{IsForClass, IsGivenTo, at_home, force_there, further_back, home_by, home_setting, submit_local}
 use Rattle.sdd_lawful.proofs.Commits.{Told, commit_class, commit_in, commit_made, commit_rec, commit_seen, one_commit}
 use Rattle.sdd_lawful.proofs.Counted.{numbered}
@@ -8,7 +8,6 @@ use Rattle.sdd_lawful.proofs.Locals.{all_committed_at, below_at, commit_act_in, 
 use Rattle.sdd_lawful.proofs.Places.{entries_in_order, event_there, place_rises, stands_there}
 use Rattle.sdd_lawful.proofs.Started.{IsStartIn, act_local, given_of_attempt, given_of_start, start_act_of, start_in, start_made, start_of}
 use Rattle.sdd_lawful.proofs.Submissions.{IsSubmitIn, given_at, one_submit, same_submission, submit_in}
-use Rattle.sdd_invariants.specs.history.declared.record.Rec.TheVariants.{Submit}
 use Rattle.sdd_invariants.specs.logs.Due.{home_of}
 use Rattle.sdd_laws.specs.All.{in_force}
 use Rattle.sdd_invariants.specs.site_module.SiteLog as site
@@ -17,8 +16,7 @@ use Rattle.sdd_invariants.specs.site_module.SiteLog as site
 
 era_at : (g : Given) (log : Log) (eras : Eras) → AreErasOf g log eras → (later before : Log) → log ≡ later ++ before
     → IsEraOf g.catalogue (force_at g (redeclares before)).catalogue
-era_at g log eras are later before is =
-    subst (IsEraOf g.catalogue) (are.force_is later before is) (force_is g.catalogue eras are.are_eras (marks before))
+era_at g log eras are later before is = subst (IsEraOf g.catalogue) (are.force_is later before is) (force_is g.catalogue eras are.are_eras (marks before))
 
 class_within : (cat : Catalogue) (txn : Txn) → class_for cat txn ≤ length cat.classes
 class_within cat txn = elim (dec_le 1 (class_for cat txn)) [
@@ -27,21 +25,18 @@ class_within cat txn = elim (dec_le 1 (class_for cat txn)) [
 ]
 
 -- the class of what is given is there
-given_within : (g : Given) (log : Log) (eras : Eras) (n c : ℕ) (text : Txn) → AreErasOf g log eras → IsGivenTo g log n c text
-    → c ≤ length g.catalogue.classes
+given_within : (g : Given) (log : Log) (eras : Eras) (n c : ℕ) (text : Txn) → AreErasOf g log eras → IsGivenTo g log n c text → c ≤ length g.catalogue.classes
 given_within g log eras n c text are w =
     let era = (era_at g log eras are (w.later ++ Submitted (home g.catalogue c) n ∷ []) w.rest (w.is ∙ sym (append_assoc w.later (Submitted (home g.catalogue c) n ∷ []) w.rest))).classes in
     let at = class_within (force_at g (redeclares w.rest)).catalogue text in
     let e = w.class_is in omega arith
 
-pub start_within : (g : Given) (log : Log) (eras : Eras) (a : Attempt) → AreErasOf g log eras → IsStartIn g log a
-    → a.class ≤ length g.catalogue.classes
+pub start_within : (g : Given) (log : Log) (eras : Eras) (a : Attempt) → AreErasOf g log eras → IsStartIn g log a → a.class ≤ length g.catalogue.classes
 start_within g log eras a are x = given_within g log eras a.txn a.class x.says.text are (given_of_attempt g log a x)
 
 -- the Submit of a Start
 
-pub event_of_submit : (g : Given) (log : Log) (eras : Eras) (n : ℕ) (later rest : Log) (at : Site) → AreErasOf g log eras
-    → log ≡ later ++ Submitted at n ∷ rest
+pub event_of_submit : (g : Given) (log : Log) (eras : Eras) (n : ℕ) (later rest : Log) (at : Site) → AreErasOf g log eras → log ≡ later ++ Submitted at n ∷ rest
     → in_force g.catalogue eras (event_at (history log) (length (history rest))) ≡ (force_at g (redeclares rest)).catalogue
 event_of_submit g log eras n later rest at are is =
     let e : event_at (history log) (length (history rest)) ≡ marks rest =
@@ -95,8 +90,7 @@ stamp_below g log a b x y e l =
 
 -- one Start at a timestamp
 
-stamp_there : (g : Given) (log : Log) (a : Attempt) (x : IsStartIn g log a)
-    → (i : ℕ) × (slice_get (stamps (at_home g a.class log)) i ≡ Some a.ts)
+stamp_there : (g : Given) (log : Log) (a : Attempt) (x : IsStartIn g log a) → (i : ℕ) × (slice_get (stamps (at_home g a.class log)) i ≡ Some a.ts)
 stamp_there g log a x =
     let m = act_local g (home g.catalogue a.class) (start_act_of a x.sends) x.later x.before in
     let i = stamp_in m.0 (at_home g a.class x.before) a.class (txn_no a.txn) a.number (class_no a.class) (time_at a.ts) a.p2 a.uses x.sends in
@@ -150,8 +144,7 @@ earlier_committed g log a x n text later rest w is same t f =
     (in_submits (home_setting g a.class) a.class n text (at_home g a.class s.given.rest) (m.0 ++ Submits n text ∷ at_home g a.class rest) i.0 l i.1)
 
 abbrev submit_made_at : (g : Given) (log : Log) (n k : ℕ) → IsSubmitIn g log n k → IsMadeAt log k (Submit (txn_no n))
-submit_made_at g log n k u =
-    record { later = u.later; entry = Submitted u.at n; before = u.rest; is = u.is; makes = refl; place_is = u.place_is }
+submit_made_at g log n k u = record { later = u.later; entry = Submitted u.at n; before = u.rest; is = u.is; makes = refl; place_is = u.place_is }
 
 -- the submission of a started transaction is that of its Submit
 given_rest : (g : Given) (log : Log) (a : Attempt) (x : IsStartIn g log a) (k : ℕ) → IsPermitted g log → (u : IsSubmitIn g log a.txn k)
@@ -213,8 +206,7 @@ home_is g era of txn c e = elim (same_or_not c 0) [
       ap (λ k. home_by k txn) e ∙ here ∙ ap (λ n. T (tm_no n)) (sym same) ∙ sym there)
 ]
 
-pub for_class : (g : Given) (c : ℕ) (rest : Log) (txn : Txn) → class_for (force_at g (redeclares rest)).catalogue txn ≡ c
-    → IsForClass g c rest txn
+pub for_class : (g : Given) (c : ℕ) (rest : Log) (txn : Txn) → class_for (force_at g (redeclares rest)).catalogue txn ≡ c → IsForClass g c rest txn
 for_class g c rest txn e = elim (same_or_not c 0) [
   | inl p ↦ subst (λ k. IsForClass g k rest txn) (sym p) refl
   | inr p ↦ (let t_no : TmNo = tm_no (class_at g.catalogue c).tm.0 in

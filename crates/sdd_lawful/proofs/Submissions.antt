@@ -1,8 +1,8 @@
 -- Submissions: a transaction is given to a site right after the mark that submits it, and once.
-use Rattle.sdd_lawful.proofs.All.{Bool, Deliver, Does, Down, Entry, Event, Given, Hand, IsAllowed, IsPermitted, IsSubmitted, Log, Lose, Mark, Notes, Nothing, Records, Redeclare, Redeclares, Repeat, Resend, Round, Sends, Settle, Site, Some, Submit, Submitted, Tick, TxnNo, Up, [], allowed_mark, ap, by_event, by_link, by_mark, by_redeclare, by_round, by_site, compare, due_by, false, force_at, history, inl, inr, length, mark_due, not, note_if, or_left, permitted_before, record_of, redeclares, refl, same_number, subst, sym, tail_marked, true, txn_at, txn_no, was_marked, ℕ, ◌++◌, ◌==◌, ◌∙◌, ◌∷◌, ◌≡◌}
+use Rattle.sdd_lawful.proofs.All.{Bool, Does, Entry, Event, Given, IsAllowed, IsPermitted, IsSubmitted, Log, Mark, Notes, Nothing, Records, Redeclare, Settle, Site, Some, Submit as Submission, Submitted, Tick, TxnNo, [], allowed_mark, ap, by_event, by_link, by_mark, by_redeclare, by_round, by_site, compare, due_by, false, force_at, history, inl, inr, length, mark_due, not, note_if, or_left, permitted_before, record_of, redeclares, refl, same_number, subst, sym, tail_marked, true, txn_at, txn_no, was_marked, ℕ, ◌++◌, ◌==◌, ◌∙◌, ◌∷◌, ◌≡◌}
 use Rattle.sdd_lawful.proofs.Makers.{is_own, none_own}
 use Rattle.sdd_lawful.proofs.Places.{made_at}
-use Rattle.sdd_invariants.specs.history.declared.record.Rec.TheVariants.{Submit as Submission}
+use Rattle.sdd_invariants.specs.All.{Submit}
 use Rattle.sdd_invariants.specs.logs.Due.{home_of}
 
 -- the mark that made it due
@@ -35,8 +35,7 @@ no_note : {A : Type 0} (b : Bool) (at : Site) (n : ℕ) → note_if b ≡ Some (
 no_note true at n p = let q : Notes ≡ Submitted at n = cc in cc
 no_note false at n p = cc
 
-due_submit : (g : Given) (e : Event) (log : Log) (at : Site) (n : ℕ) → due_by g e log ≡ Some (Submitted at n)
-    → IsGivenAt g (Mark e ∷ log) at n
+due_submit : (g : Given) (e : Event) (log : Log) (at : Site) (n : ℕ) → due_by g e log ≡ Some (Submitted at n) → IsGivenAt g (Mark e ∷ log) at n
 due_submit g (Submit k) log at n p =
     let q : Submitted (home_of (force_at g (redeclares log)).catalogue (txn_at g k.0)) k.0 ≡ Submitted at n = cc in
     let r : home_of (force_at g (redeclares log)).catalogue (txn_at g k.0) ≡ at = cc in
@@ -70,8 +69,7 @@ both_ways true e f = cc
 both_ways false e f = cc
 
 again_in : {A : Type 0} (g : Given) (n : ℕ) (b : Site) (between before earlier : Log) (k : TxnNo)
-    → IsPermitted g (Mark (Submit k) ∷ earlier) → k.0 ≡ n → was_marked n before ≡ true
-    → between ++ Submitted b n ∷ before ≡ Mark (Submit k) ∷ earlier → A
+    → IsPermitted g (Mark (Submit k) ∷ earlier) → k.0 ≡ n → was_marked n before ≡ true → between ++ Submitted b n ∷ before ≡ Mark (Submit k) ∷ earlier → A
 again_in g n b [] before earlier k h e m p = let q : Submitted b n ≡ Mark (Submit k) = cc in cc
 again_in g n b (x ∷ between) before earlier k h e m p =
     let q : between ++ Submitted b n ∷ before ≡ earlier = cc in
@@ -128,8 +126,7 @@ same_submission g n log later1 later2 rest1 rest2 a b h p q =
       ]
     ]
 
-pub one_submit : (g : Given) (log : Log) (n j k : ℕ) → IsPermitted g log → IsSubmitted (history log) n j
-    → IsSubmitted (history log) n k → j ≡ k
+pub one_submit : (g : Given) (log : Log) (n j k : ℕ) → IsPermitted g log → IsSubmitted (history log) n j → IsSubmitted (history log) n k → j ≡ k
 one_submit g log n j k h s t =
     let x = submit_in g log n j h s in
     let y = submit_in g log n k h t in

@@ -54,8 +54,7 @@ abbrev u_record : Given → Log → Queued → Rec
 u_record g before q = start_of (begun_as g 0 (at_home g 0 before) q (length (history before)))
 
 abbrev u_made : (g : Given) (log : Log) (a : Attempt) (p : IsStartedAtU g log a) → IsMadeAt log a.place (u_record g p.before p.queued)
-u_made g log a p =
-    record { later = p.later; entry = Does U (start_u g p.before p.queued); before = p.before; is = p.is; makes = refl; place_is = p.place_is }
+u_made g log a p = record { later = p.later; entry = Does U (start_u g p.before p.queued); before = p.before; is = p.is; makes = refl; place_is = p.place_is }
 
 u_behind : (g : Given) (log : Log) (a b : Attempt) (p : IsStartedAtU g log a) (q : IsStartedAtU g log b) → a.place < b.place
     → (between : Log) × (q.before ≡ between ++ Does U (start_u g p.before p.queued) ∷ p.before)
@@ -116,8 +115,7 @@ zero_zero g log eras u t sound h are cu ct eu et ne = elim (lower_same_higher t.
       }))
   | inr r ↦ elim r [
     | inl e ↦ absurd (ne (sym (same_start (history log) t.start u.start ct.started cu.started e).txn))
-    | inr l ↦ (let done = zero_done g log eras u t.start sound h are cu ct.started eu et l in
-        inr (record { time = done.time; applied = done.applied }))
+    | inr l ↦ (let done = zero_done g log eras u t.start sound h are cu ct.started eu et l in inr (record { time = done.time; applied = done.applied }))
   ]
 ]
 

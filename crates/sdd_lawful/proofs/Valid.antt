@@ -79,8 +79,7 @@ applied_valid cat c (Redeclared force t ∷ l) h = applied_valid cat c l (less_v
 
 first_valid : (cat : Catalogue) (es : Database) → AllByRecursion (IsEntry cat) es → AllValidAt cat (map (first_row cat) es)
 first_valid cat [] h = tt
-first_valid cat (e ∷ es) h =
-    (record { rel = e.0.0; there = h.0.relation; held = h.0.key_held; frag = refl; row = (h.0.row, h.0.key) }, first_valid cat es h.1)
+first_valid cat (e ∷ es) h = (record { rel = e.0.0; there = h.0.relation; held = h.0.key_held; frag = refl; row = (h.0.row, h.0.key) }, first_valid cat es h.1)
 
 pub dated_valid : (s : Setting) (l : SiteLog) → AllByRecursion (IsEntry s.catalogue) (database_of s.catalogue s.rows) → AppliesValid s.catalogue l
     → AllValidAt s.catalogue (dated s l)
