@@ -11,8 +11,7 @@ use Rattle.sdd_invariants.specs.site_module.SiteLog as site
 -- what is met stays met
 
 met_later : (g : Given) (d : DmNo) (later log : Log) (q : Cond) → IsPermitted g (later ++ log) → HasSmallHomes g
-    → is_met (view_of (setting_of g (D d)) (at_module g d log)) q ≡ true
-    → is_met (view_of (setting_of g (D d)) (at_module g d (later ++ log))) q ≡ true
+    → is_met (view_of (setting_of g (D d)) (at_module g d log)) q ≡ true → is_met (view_of (setting_of g (D d)) (at_module g d (later ++ log))) q ≡ true
 met_later g d later log q h small e =
     let s : Setting = setting_of g (D d) in
     let c : ℕ = q.class.0 in
@@ -53,8 +52,7 @@ act_waits s l c ts of txn attempt conds uses act w i =
 
 pub answered_on : (d : DmNo) (c : ℕ) (txn : TxnNo) (attempt : ℕ) (e : Entry) (entries : Log) → IsAnsweredIn d c txn attempt entries
     → IsAnsweredIn d c txn attempt (e ∷ entries)
-answered_on d c txn attempt e entries i =
-    record { later = e ∷ i.later; before = i.before; dm = i.dm; sends = i.sends; is = ap (λ l. e ∷ l) i.is }
+answered_on d c txn attempt e entries i = record { later = e ∷ i.later; before = i.before; dm = i.dm; sends = i.sends; is = ap (λ l. e ∷ l) i.is }
 
 pub answered_now : (d : DmNo) (c : ℕ) (txn : TxnNo) (attempt : ℕ) (e : Entry) (act : Act) (entries : Log) → e ≡ Does (D d) act
     → Answers c txn attempt act → IsAnsweredIn d c txn attempt (e ∷ entries)
@@ -64,8 +62,7 @@ answered_now d c txn attempt e act entries is a =
 waits_entry : (g : Given) (d : DmNo) (c : ℕ) (e : Entry) (entries log : Log) (ts : Ts) (of : ClassNo) (txn : TxnNo) (attempt : ℕ) (conds : List Cond) (uses : List Use)
     → HeadWaits (at_module g d (entries ++ log)) c (Read ts of txn attempt conds uses) → IsEntryAt g d (entries ++ log) e
     → HeadWaits (at_module g d (e ∷ (entries ++ log))) c (Read ts of txn attempt conds uses) ⊎ IsAnsweredIn d c txn attempt (e ∷ entries)
-waits_entry g d c e entries log ts of txn attempt conds uses w (aside f) =
-    inl ((f c).waits_same ∙ w.0, ap (λ (x : Pipe). head x) (f c).pipe_same ∙ w.1)
+waits_entry g d c e entries log ts of txn attempt conds uses w (aside f) = inl ((f c).waits_same ∙ w.0, ap (λ (x : Pipe). head x) (f c).pipe_same ∙ w.1)
 waits_entry g d c e entries log ts of txn attempt conds uses w (handing from m s) =
     inl (subst (λ l. HeadWaits l c (Read ts of txn attempt conds uses)) (sym s) (w.0, handed_head c from m (Read ts of txn attempt conds uses) (at_module g d (entries ++ log)) w.1))
 waits_entry g d c e entries log ts of txn attempt conds uses w (acting act is s due) =
@@ -88,8 +85,7 @@ waits_or_answered g d c (e ∷ later) log ts of txn attempt conds uses h w =
 -- where nothing is due, no READ whose conditions are met stands at a head
 
 pub no_ready_head : (s : Setting) (l : site.Log) (c : ℕ) (ts : Ts) (of : ClassNo) (txn : TxnNo) (attempt : ℕ) (conds : List Cond) (uses : List Use)
-    → list_all (is_met (view_of s l)) conds ≡ true → head (pipe c l) ≡ Some (Read ts of txn attempt conds uses)
-    → IsStuck s l c (head (pipe c l)) → ⊥
+    → list_all (is_met (view_of s l)) conds ≡ true → head (pipe c l) ≡ Some (Read ts of txn attempt conds uses) → IsStuck s l c (head (pipe c l)) → ⊥
 no_ready_head s l c ts of txn attempt conds uses e h k =
     let x : IsStuck s l c (Some (Read ts of txn attempt conds uses)) = subst (IsStuck s l c) h k in
     not_both (list_all (is_met (view_of s l)) conds) e x.1
@@ -97,8 +93,7 @@ no_ready_head s l c ts of txn attempt conds uses e h k =
 pub answered : (g : Given) (d : DmNo) (c : ℕ) (later log : Log) (ts : Ts) (of : ClassNo) (txn : TxnNo) (attempt : ℕ) (conds : List Cond) (uses : List Use)
     → IsPermitted g (later ++ log) → HasSmallHomes g → IsClassHere (setting_of g (D d)) c → 1 ≤ d.0 → d.0 ≤ g.catalogue.dms
     → waits c (at_module g d log) ≡ true → head (pipe c (at_module g d log)) ≡ Some (Read ts of txn attempt conds uses)
-    → list_all (is_met (view_of (setting_of g (D d)) (at_module g d log))) conds ≡ true → site_due g (later ++ log) ≡ None
-    → IsAnsweredIn d c txn attempt later
+    → list_all (is_met (view_of (setting_of g (D d)) (at_module g d log))) conds ≡ true → site_due g (later ++ log) ≡ None → IsAnsweredIn d c txn attempt later
 answered g d c later log ts of txn attempt conds uses h small here from to w e met none =
     let s : Setting = setting_of g (D d) in
     let l : site.Log = at_module g d (later ++ log) in

@@ -20,8 +20,7 @@ pub data IsEntryAt (g : Given) (d : DmNo) (log : Log) (e : Entry) : Type 0 where
 leaves : (l k : site.Log) (c : ℕ) → k ≡ l → LeavesPipe l k c
 leaves l k c e = record { pipe_same = ap (pipe c) e; waits_same = ap (waits c) e }
 
-leaves_as : (l k : site.Log) (x : site.Entry) (c : ℕ) → k ≡ x ∷ l → pipe c (x ∷ l) ≡ pipe c l → waits c (x ∷ l) ≡ waits c l
-    → LeavesPipe l k c
+leaves_as : (l k : site.Log) (x : site.Entry) (c : ℕ) → k ≡ x ∷ l → pipe c (x ∷ l) ≡ pipe c l → waits c (x ∷ l) ≡ waits c l → LeavesPipe l k c
 leaves_as l k x c e p w = record { pipe_same = ap (pipe c) e ∙ p; waits_same = ap (waits c) e ∙ w }
 
 by_made : (g : Given) (d : DmNo) (log : Log) (e : Entry) (o : Option site.Entry) → IsPermitted g (e ∷ log)
@@ -32,10 +31,8 @@ by_made g d log e (Some (Did act)) h m s =
     let is = maker g (D d) log e (Did act) m in
     acting act is s (allowed_act g log (Does (D d) act) (subst (λ x. IsPermitted g (x ∷ log)) is h).0)
 by_made g d log e (Some (Ticked n)) h m s = aside (λ c. leaves_as (at_module g d log) (at_module g d (e ∷ log)) (Ticked n) c s refl refl)
-by_made g d log e (Some (Submits n txn)) h m s =
-    aside (λ c. leaves_as (at_module g d log) (at_module g d (e ∷ log)) (Submits n txn) c s refl refl)
-by_made g d log e (Some (Redeclared force t)) h m s =
-    aside (λ c. leaves_as (at_module g d log) (at_module g d (e ∷ log)) (Redeclared force t) c s refl refl)
+by_made g d log e (Some (Submits n txn)) h m s = aside (λ c. leaves_as (at_module g d log) (at_module g d (e ∷ log)) (Submits n txn) c s refl refl)
+by_made g d log e (Some (Redeclared force t)) h m s = aside (λ c. leaves_as (at_module g d log) (at_module g d (e ∷ log)) (Redeclared force t) c s refl refl)
 
 pub entry_at : (g : Given) (d : DmNo) (log : Log) (e : Entry) → IsPermitted g (e ∷ log) → IsEntryAt g d log e
 entry_at g d log e h = by_made g d log e (made g (D d) log e) h refl (local_step g (D d) e log)
@@ -50,14 +47,12 @@ put_head : (b : Bool) (p : Pipe) (m x : Msg) → head p ≡ Some x → head (if 
 put_head true p m x e = kept_head p.unprocessed m x e
 put_head false p m x e = e
 
-pub handed_head : (c : ℕ) (from : Site) (m x : Msg) (l : site.Log) → head (pipe c l) ≡ Some x
-    → head (pipe c (Handed from m ∷ l)) ≡ Some x
+pub handed_head : (c : ℕ) (from : Site) (m x : Msg) (l : site.Log) → head (pipe c l) ≡ Some x → head (pipe c (Handed from m ∷ l)) ≡ Some x
 handed_head c from m x l e = put_head (goes_through c m) (pipe c l) m x e
 
 -- a record of another class leaves whether the head waits; and so does one that processes nothing, where it waits
 
-pub waits_other : (c k : ℕ) (r : Rec) (sends : List (Site × Msg)) (l : site.Log) → (k == c) ≡ false
-    → waits c (Did (Records k r sends) ∷ l) ≡ waits c l
+pub waits_other : (c k : ℕ) (r : Rec) (sends : List (Site × Msg)) (l : site.Log) → (k == c) ≡ false → waits c (Did (Records k r sends) ∷ l) ≡ waits c l
 waits_other c k r sends l e = rw e refl
 
 still_waits : (b : Bool) (p y w : Bool) → p ≡ false → w ≡ true → (if b then (if p then false else (y || w)) else w) ≡ true

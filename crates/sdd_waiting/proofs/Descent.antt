@@ -19,8 +19,7 @@ module _ (G : WaitGraph) (fits : Fits G) (W : WaitingRead → Type 0)
     (stamped : (r : WaitingRead) → W r → IsStamped r) (waits_on : (r : WaitingRead) → W r → WaitsOn G W r)
   where
     -- arcs lead to the class on which a READ waits up to its own timestamp
-    out : (r : WaitingRead) (n : ℕ) (d : WaitDiagonal) → IsDiagonal G n d → d.reader ≡ r.class → d.own ≡ true
-        → Path G (G.read r.class) (G.write d.writer)
+    out : (r : WaitingRead) (n : ℕ) (d : WaitDiagonal) → IsDiagonal G n d → d.reader ≡ r.class → d.own ≡ true → Path G (G.read r.class) (G.write d.writer)
     out r n d at e own = go (waits n d at own (ap G.read (sym e)) refl) (stop refl)
 
     -- and on to a READ of that class, or to one that holds back a write of it
@@ -31,8 +30,7 @@ module _ (G : WaitGraph) (fits : Fits G) (W : WaitingRead → Type 0)
         (go (within d.writer (fits.diagonal n d at).writer refl (ap G.read class)) (stop refl))
 
     to_holder : (r q : WaitingRead) (n : ℕ) (d : WaitDiagonal) → IsDiagonal G n d → d.reader ≡ r.class → d.own ≡ true
-        → (m : ℕ) (h : WaitDiagonal) → IsDiagonal G m h → h.reader ≡ q.class → h.writer ≡ d.writer
-        → Path G (G.read r.class) (G.read q.class)
+        → (m : ℕ) (h : WaitDiagonal) → IsDiagonal G m h → h.reader ≡ q.class → h.writer ≡ d.writer → Path G (G.read r.class) (G.read q.class)
     to_holder r q n d at e own m h on class writer =
         path_on G (G.read r.class) (G.write d.writer) (G.read q.class) (out r n d at e own)
         (go (held m h on (ap G.write (sym writer)) (ap G.read (sym class))) (stop refl))
@@ -43,8 +41,7 @@ module _ (G : WaitGraph) (fits : Fits G) (W : WaitingRead → Type 0)
       where
         by_reader : (r q : WaitingRead) → W r → W q → r.ticks ≤ v → AreCutOff G (G.read r.class) classes
             → (q.ts < r.ts → q.ticks ≤ v → AreCutOff G (G.read q.class) classes → ⊥)
-            → (n : ℕ) (d : WaitDiagonal) → IsDiagonal G n d → d.reader ≡ r.class → q.class ≡ d.writer
-            → (own : Bool) → d.own ≡ own → q.ts < wait_time own r → ⊥
+            → (n : ℕ) (d : WaitDiagonal) → IsDiagonal G n d → d.reader ≡ r.class → q.class ≡ d.writer → (own : Bool) → d.own ≡ own → q.ts < wait_time own r → ⊥
         by_reader r q w x l cut next n d at e class true own h =
             let f = (stamped r w).most in
             let k = (stamped q x).least in
@@ -55,11 +52,9 @@ module _ (G : WaitGraph) (fits : Fits G) (W : WaitingRead → Type 0)
             none_below q x (omega arith)
 
         by_holder : (r q : WaitingRead) → W r → W q → r.ticks ≤ v → AreCutOff G (G.read r.class) classes
-            → (q.ts < r.ts → q.ticks ≤ v → AreCutOff G (G.read q.class) classes → ⊥)
-            → (n : ℕ) (d : WaitDiagonal) → IsDiagonal G n d → d.reader ≡ r.class
+            → (q.ts < r.ts → q.ticks ≤ v → AreCutOff G (G.read q.class) classes → ⊥) → (n : ℕ) (d : WaitDiagonal) → IsDiagonal G n d → d.reader ≡ r.class
             → (m : ℕ) (h : WaitDiagonal) → IsDiagonal G m h → h.reader ≡ q.class → h.writer ≡ d.writer
-            → (t : ℕ) → IsTimestamp t → (own other : Bool) → d.own ≡ own → h.own ≡ other
-            → wait_time other q ≤ t → t < wait_time own r → ⊥
+            → (t : ℕ) → IsTimestamp t → (own other : Bool) → d.own ≡ own → h.own ≡ other → wait_time other q ≤ t → t < wait_time own r → ⊥
         by_holder r q w x l cut next n d at e m h on class writer t i false other own u low high =
             let a : q.ticks ≤ i.ticks = held_ticks other q t (stamped q x) i low in
             let b : i.ticks < r.ticks = fewer_ticks r t i.ticks i.number (stamped r w) high i.is in
@@ -68,8 +63,7 @@ module _ (G : WaitGraph) (fits : Fits G) (W : WaitingRead → Type 0)
             let a : q.ticks ≤ i.ticks = held_ticks true q t (stamped q x) i low in
             let f = (stamped r w).most in
             let s = i.is in
-            next (omega arith) (omega arith)
-            (cut_off_on G (G.read r.class) (G.read q.class) classes (to_holder r q n d at e own m h on class writer) cut)
+            next (omega arith) (omega arith) (cut_off_on G (G.read r.class) (G.read q.class) classes (to_holder r q n d at e own m h on class writer) cut)
         by_holder r q w x l cut next n d at e m h on class writer t i true false own u low high =
             let a : q.ticks ≤ i.ticks = held_ticks false q t (stamped q x) i low in
             let f = (stamped r w).most in
@@ -84,24 +78,20 @@ module _ (G : WaitGraph) (fits : Fits G) (W : WaitingRead → Type 0)
         by_time zero r w l k cut = absurd (omega arith)
         by_time (suc n) r w l k cut =
             elim (waits_on r w) [
-              | reader m d at e q x class high ↦
-                  by_reader r q w x k cut (λ a b c. by_time n q x (omega arith) b c) m d at e class d.own refl high
+              | reader m d at e q x class high ↦ by_reader r q w x k cut (λ a b c. by_time n q x (omega arith) b c) m d at e class d.own refl high
               | holder m d at e q x p h on class writer t i low high ↦
                   by_holder r q w x k cut (λ a b c. by_time n q x (omega arith) b c) m d at e p h on class writer t i d.own h.own refl refl low high
             ]
 
-    by_classes : (v : ℕ) → ((q : WaitingRead) → W q → q.ticks < v → ⊥) → (n : ℕ) (classes : List ℕ)
-        → G.classes + 1 < n + length classes
+    by_classes : (v : ℕ) → ((q : WaitingRead) → W q → q.ticks < v → ⊥) → (n : ℕ) (classes : List ℕ) → G.classes + 1 < n + length classes
         → (r : WaitingRead) → W r → r.ticks ≤ v → AreCutOff G (G.read r.class) classes → ⊥
-    by_classes v none_below zero classes l r w k cut =
-        let few = few_cut_off G (G.read r.class) classes cut in absurd (omega arith)
+    by_classes v none_below zero classes l r w k cut = let few = few_cut_off G (G.read r.class) classes cut in absurd (omega arith)
     by_classes v none_below (suc n) classes l r w k cut =
         by_time v none_below classes (λ j q x y z. by_classes v none_below n (j ∷ classes) (omega arith) q x y z) (suc r.ts) r w (omega arith) k cut
 
     by_ticks : (v : ℕ) (r : WaitingRead) → W r → r.ticks < v → ⊥
     by_ticks zero r w l = absurd (omega arith)
-    by_ticks (suc v) r w l =
-        by_classes v (by_ticks v) (suc (suc G.classes)) [] (omega arith) r w (omega arith) (none_cut_off G (G.read r.class))
+    by_ticks (suc v) r w l = by_classes v (by_ticks v) (suc (suc G.classes)) [] (omega arith) r w (omega arith) (none_cut_off G (G.read r.class))
 
     pub none_waits : (r : WaitingRead) → ¬ W r
     none_waits r w = by_ticks (suc r.ticks) r w (omega arith)

@@ -1,5 +1,5 @@
 -- Where an event is over, nothing is due at any site.
-use Rattle.sdd_waiting.proofs.All.{Act, Bool, D, Deliver, DmNo, Does, Down, Entry, Event, Given, Hand, IsEventOver, IsLawful, IsTheLog, List, Log, Lose, Mark, None, Notes, Option, Redeclare, Redeclares, Repeat, Resend, Round, Settle, Site, Some, Submit, Submitted, T, Tick, TmNo, Up, [], ap, arith, at_map, base_of, begins_event, begins_or_ends, does_at, due_by, false, first_some, hand_due, in_left, in_right, local_of, map, mark_due, next_at, next_mark, no_act, not_both, note_if, or_else, range_with_len, refl, setting_of, site_due, sites, slice_get, suc, true, ℕ, ◌∙◌, ◌∷◌, ◌≡◌, ◌≤◌}
+use Rattle.sdd_waiting.proofs.All.{Act, Bool, D, DmNo, Entry, Event, Given, IsEventOver, IsLawful, IsTheLog, List, Log, Mark, None, Option, Redeclare, Settle, Site, Some, Submit, T, Tick, TmNo, [], ap, arith, at_map, base_of, begins_event, begins_or_ends, does_at, due_by, false, first_some, hand_due, in_left, in_right, local_of, map, mark_due, next_at, next_mark, no_act, not_both, note_if, or_else, range_with_len, refl, setting_of, site_due, sites, slice_get, suc, true, ℕ, ◌∙◌, ◌∷◌, ◌≡◌, ◌≤◌}
 use Rattle.sdd_waiting.proofs.ClassSites.{range_there}
 use Rattle.sdd_waiting.proofs.StuckHeads.{none_at}
 use Rattle.sdd_invariants.specs.dm.Due as dm
@@ -78,15 +78,12 @@ txn_there tms dms t l h =
 
 none_at_site : (g : Given) (log : Log) (at : Site) (k : ℕ) → slice_get (sites g.catalogue.tms g.catalogue.dms) k ≡ Some at
     → site_due g log ≡ None → next_at g log at ≡ None
-none_at_site g log at k there e =
-    no_act at (next_at g log at) (none_at (λ x. does_at x (next_at g log x)) (sites g.catalogue.tms g.catalogue.dms) k at e there)
+none_at_site g log at k there e = no_act at (next_at g log at) (none_at (λ x. does_at x (next_at g log x)) (sites g.catalogue.tms g.catalogue.dms) k at e there)
 
 pub none_at_data : (g : Given) (log : Log) (d : DmNo) → 1 ≤ d.0 → d.0 ≤ g.catalogue.dms → site_due g log ≡ None
     → dm.due (dm_views.home_of (setting_of g (D d))) (dm_views.view_of (setting_of g (D d)) (local_of g (D d) log)) ≡ None
-none_at_data g log d l h e =
-    let i = data_there g.catalogue.tms g.catalogue.dms d l h in none_at_site g log (D d) i.0 i.1 e
+none_at_data g log d l h e = let i = data_there g.catalogue.tms g.catalogue.dms d l h in none_at_site g log (D d) i.0 i.1 e
 
 pub none_at_txn : (g : Given) (log : Log) (t : TmNo) → 1 ≤ t.0 → t.0 ≤ g.catalogue.tms → site_due g log ≡ None
     → tm.next (setting_of g (T t)) (base_of g log) (local_of g (T t) log) ≡ None
-none_at_txn g log t l h e =
-    let i = txn_there g.catalogue.tms g.catalogue.dms t l h in none_at_site g log (T t) i.0 i.1 e
+none_at_txn g log t l h e = let i = txn_there g.catalogue.tms g.catalogue.dms t l h in none_at_site g log (T t) i.0 i.1 e

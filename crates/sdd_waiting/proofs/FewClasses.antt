@@ -37,8 +37,7 @@ path_on G x y z (stop e) p = subst (λ u. Path G u z) (sym e) p
 path_on G x y z (go {y = u} a p) q = go a (path_on G u y z p q)
 
 -- they stay cut off further on
-pub cut_off_on : (G : WaitGraph) (x y : ℕ) (classes : List ℕ) → Path G x y → AreCutOff G x classes
-    → AreCutOff G y classes
+pub cut_off_on : (G : WaitGraph) (x y : ℕ) (classes : List ℕ) → Path G x y → AreCutOff G x classes → AreCutOff G y classes
 cut_off_on G x y classes p cut =
     record {
       differ = cut.differ;

@@ -4,8 +4,7 @@ use Rattle.sdd_invariants.specs.protocol.declared.entry.Entry as line
 
 block_there : (table : List line.Entry) (k : ℕ) (x : line.Entry) → slice_get table k ≡ Some x
     → slice_get (map (λ (e : line.Entry). e.block) table) k ≡ Some x.block
-block_there table k x h =
-    slice_get-map (λ (e : line.Entry). e.block) table k ∙ ap (λ o. option_map (λ (e : line.Entry). e.block) o) h
+block_there table k x h = slice_get-map (λ (e : line.Entry). e.block) table k ∙ ap (λ o. option_map (λ (e : line.Entry). e.block) o) h
 
 edge_there : (cat : Catalogue) (table : List line.Entry) (k : ℕ) (x : line.Entry) → IsTable cat table → slice_get table k ≡ Some x
     → slice_get (conflict_graph cat) k ≡ Some x.edge
@@ -44,8 +43,7 @@ outside_is_first block vertical e = ap (λ b. diagonal_protocol b vertical) e
 protocol_is : (cat : Catalogue) (table : List line.Entry) (x : line.Entry) (k : ℕ) (reader writer : ClassNo) (f : FragNo)
     → IsTable cat table → slice_get table k ≡ Some x → x.edge ≡ Diagonal reader writer f → x.block ≡ 0 → x.protocol ≡ P1
 protocol_is cat table x k reader writer f t h e b =
-    all_at (λ (y : line.Entry). y.protocol ≡ protocol_in table y.edge y.block) table k x t.protocols h
-    ∙ ap (λ y. protocol_in table y x.block) e
+    all_at (λ (y : line.Entry). y.protocol ≡ protocol_in table y.edge y.block) table k x t.protocols h ∙ ap (λ y. protocol_in table y x.block) e
     ∙ outside_is_first x.block (vertical_block table reader.0) b
 
 pub none_from : (cat : Catalogue) (table : List line.Entry) (p : Protocol) (i j : ℕ) (f : FragNo) → IsTable cat table → IsFree cat i

@@ -87,10 +87,8 @@ none_at_head g log i d free h sound lo hi none =
 
 read_answered : (v : View) (c : ℕ) (w : Bool) (ts : Ts) (of : ClassNo) (txn : TxnNo) (attempt : ℕ) (conds : List Cond) (uses : List Use) (r : Rec)
     → conds ≡ [] → May v c w (Read ts of txn attempt conds uses) r → (dm : DmNo) × (r ≡ Answer txn attempt dm)
-read_answered v c w ts of txn attempt conds uses (Answer n a dm) e m =
-    (dm, ap (λ k. Answer (txn_no k) a dm) m.0 ∙ ap (λ k. Answer txn k dm) m.1)
-read_answered v c w ts of txn attempt conds uses (Rejected n a dm by x) e m =
-    let f = spoiler_there v conds m.3 m.4 in none_there conds f.1 m.3 e f.2
+read_answered v c w ts of txn attempt conds uses (Answer n a dm) e m = (dm, ap (λ k. Answer (txn_no k) a dm) m.0 ∙ ap (λ k. Answer txn k dm) m.1)
+read_answered v c w ts of txn attempt conds uses (Rejected n a dm by x) e m = let f = spoiler_there v conds m.3 m.4 in none_there conds f.1 m.3 e f.2
 read_answered v c w ts of txn attempt conds uses r e m = absurd m
 
 write_applied : (v : View) (c : ℕ) (w : Bool) (ts : Ts) (of : ClassNo) (txn : TxnNo) (changes : List Change) (r : Rec)
@@ -118,8 +116,7 @@ apply_in d i txn ts entries later before r of dm sends is e =
 pub answered_by_end : (g : Given) (i : ℕ) (d : DmNo) (from : Site) (n : ℕ) (later log : Log) (ts : Ts) (of : ClassNo) (txn : TxnNo) (attempt : ℕ) (conds : List Cond) (uses : List Use)
     → IsFreeClass g i → IsSound g.catalogue → 1 ≤ d.0 → d.0 ≤ g.catalogue.dms → of.0 ≡ i
     → IsPermitted g (later ++ Hand from (D d) n (Read ts of txn attempt conds uses) ∷ log)
-    → site_due g (later ++ Hand from (D d) n (Read ts of txn attempt conds uses) ∷ log) ≡ None
-    → IsAnsweredIn d i txn attempt later
+    → site_due g (later ++ Hand from (D d) n (Read ts of txn attempt conds uses) ∷ log) ≡ None → IsAnsweredIn d i txn attempt later
 answered_by_end g i d from n later log ts of txn attempt conds uses free sound lo hi class h none =
     let m : Msg = Read ts of txn attempt conds uses in
     let handed : Log = Hand from (D d) n m ∷ log in

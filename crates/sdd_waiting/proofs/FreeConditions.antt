@@ -31,16 +31,12 @@ listed g k = listed_in g g.forces k (record { catalogue = g.catalogue; table = [
 none_in : {A : Type 0} (table : List line.Entry) (p : Protocol) (i j : ℕ) (f : FragNo) → table ≡ [] → IsDiagonalIn table p i j f → A
 none_in table p i j f e d = let h : slice_get [] d.place ≡ Some d.entry = subst (λ t. slice_get t d.place ≡ Some d.entry) e d.there in cc
 
-no_diagonal_from : (g : Given) (i : ℕ) (x : Force) (p : Protocol) (j : ℕ) (f : FragNo) → IsFreeClass g i → IsListed g x
-    → IsDiagonalIn x.table p i j f → p ≡ P1
-no_diagonal_from g i x p j f free (given k h) d =
-    none_from x.catalogue x.table p i j f (free.tabled k x h).table (free.free k x h) d
+no_diagonal_from : (g : Given) (i : ℕ) (x : Force) (p : Protocol) (j : ℕ) (f : FragNo) → IsFreeClass g i → IsListed g x → IsDiagonalIn x.table p i j f → p ≡ P1
+no_diagonal_from g i x p j f free (given k h) d = none_from x.catalogue x.table p i j f (free.tabled k x h).table (free.free k x h) d
 no_diagonal_from g i x p j f free (no_table e) d = none_in x.table p i j f e d
 
-no_diagonal_to : (g : Given) (i : ℕ) (x : Force) (p : Protocol) (c : ℕ) (f : FragNo) → IsFreeClass g i → IsListed g x
-    → IsDiagonalIn x.table p c i f → p ≡ P1
-no_diagonal_to g i x p c f free (given k h) d =
-    none_to x.catalogue x.table p c i f (free.tabled k x h).table (free.free k x h) d
+no_diagonal_to : (g : Given) (i : ℕ) (x : Force) (p : Protocol) (c : ℕ) (f : FragNo) → IsFreeClass g i → IsListed g x → IsDiagonalIn x.table p c i f → p ≡ P1
+no_diagonal_to g i x p c f free (given k h) d = none_to x.catalogue x.table p c i f (free.tabled k x h).table (free.free k x h) d
 no_diagonal_to g i x p c f free (no_table e) d = none_in x.table p c i f e d
 
 none_by : (g : Given) (i : ℕ) (x : Force) (own p2 : ℕ) (q : Cond) → IsFreeClass g i → IsListed g x → IsFromTable x.table i own p2 q → ⊥
@@ -51,8 +47,7 @@ none_by g i x own p2 q free l t =
       | inr b ↦ second_not (no_diagonal_from g i x P2 q.class.0 t.first free l (b.1 0 t.first h))
     ]
 
-none_on : (g : Given) (i : ℕ) (x : Force) (c own p2 : ℕ) (q : Cond) → IsFreeClass g i → IsListed g x → IsFromTable x.table c own p2 q
-    → q.class.0 ≡ i → ⊥
+none_on : (g : Given) (i : ℕ) (x : Force) (c own p2 : ℕ) (q : Cond) → IsFreeClass g i → IsListed g x → IsFromTable x.table c own p2 q → q.class.0 ≡ i → ⊥
 none_on g i x c own p2 q free l t e =
     let h = first_frag q t.first t.more t.names in
     elim t.by [
@@ -69,8 +64,7 @@ declared g i free z = let l = free.class.from in omega arith
 
 -- a READ of the class
 pub unconditional : (g : Given) (log : Log) (i : ℕ) (d : DmNo) (k : ℕ) (ts : Ts) (of : ClassNo) (txn : TxnNo) (attempt : ℕ) (conds : List Cond) (uses : List Use)
-    → IsPermitted g log → IsFreeClass g i → slice_get (all_of (pipe_at g i d log)) k ≡ Some (Read ts of txn attempt conds uses)
-    → conds ≡ []
+    → IsPermitted g log → IsFreeClass g i → slice_get (all_of (pipe_at g i d log)) k ≡ Some (Read ts of txn attempt conds uses) → conds ≡ []
 unconditional g log i d k ts of txn attempt conds uses h free e =
     let a = conditions_of g log i d k ts of txn attempt conds uses h (declared g i free) e in
     no_members conds (λ n q m. none_by g i (force_at g _) ts.0 _ q free (listed g _) (a.from_table n q m))

@@ -1,5 +1,5 @@
 -- The conditions of a READ of a declared class come from the table that was in force at its Start.
-use Rattle.sdd_waiting.proofs.All.{AllDiagonalsIn, AreConditionsOf, Bool, Catalogue, ClassNo, Cond, D, Deliver, Diagonal, Did, DmNo, Does, Down, Edge, FragNo, Given, Hand, Handed, Horizontal, IsFromTable, IsPermitted, IsPutAt, IsRead, List, Log, Lose, Mark, Msg, None, Notes, Option, P1, P2, P3, Protocol, Queued, Read, Redeclare, Redeclares, Repeat, Resend, Round, Setting, Settle, Site, Some, Submit, Submitted, T, Tick, Ticked, TmNo, Ts, Txn, TxnNo, Up, Use, Vertical, [], all_of, and_left, and_right, ap, ascending, asked_by, asked_in, asked_on, bound, class_at, class_number, class_puts, classes_of, cond, cond_for, cond_of, condition_on, conditions, conditions_at, cons_option, eqb-true, false, filter_map, force_at, frag_no, fragments_in, home, if_way, in_force, in_left, in_none, in_one, in_pipe, inl, inr, is_asked, local_of, map, next_stamp, option_or, origin, pipe_at, redeclares, refl, same_or_not, same_protocol, same_site, sends_of_act, setting_of, slice_get, start_at, start_puts, start_read, subst, suc, sym, tm_no, to_site, true, txn_at, uses_of, with_submit, zero, ℕ, ◌&&◌, ◌++◌, ◌==◌, ◌∙◌, ◌∷◌, ◌≡◌, ◌≢◌, ◌⊎◌}
+use Rattle.sdd_waiting.proofs.All.{AllDiagonalsIn, AreConditionsOf, Bool, Catalogue, ClassNo, Cond, D, Diagonal, Did, DmNo, Does, Edge, FragNo, Given, Hand, Handed, Horizontal, IsFromTable, IsPermitted, IsPutAt, IsRead, List, Log, Mark, Msg, None, Option, P1, P2, P3, Protocol, Queued, Read, Redeclares, Setting, Site, Some, Submitted, T, Tick, Ticked, TmNo, Ts, Txn, TxnNo, Use, Vertical, [], all_of, and_left, and_right, ap, ascending, asked_by, asked_in, asked_on, bound, class_at, class_number, class_puts, classes_of, cond, cond_for, cond_of, condition_on, conditions, conditions_at, cons_option, eqb-true, false, filter_map, force_at, frag_no, fragments_in, home, if_way, in_force, in_left, in_none, in_one, in_pipe, inl, inr, is_asked, local_of, map, next_stamp, option_or, origin, pipe_at, redeclares, refl, same_or_not, same_protocol, same_site, sends_of_act, setting_of, slice_get, start_at, start_puts, start_read, subst, suc, sym, tm_no, to_site, true, txn_at, uses_of, with_submit, zero, ℕ, ◌&&◌, ◌++◌, ◌==◌, ◌∙◌, ◌∷◌, ◌≡◌, ◌≢◌, ◌⊎◌}
 use Rattle.sdd_invariants.specs.protocol.declared.entry.Entry as line
 use Rattle.sdd_invariants.specs.site_module.SiteLog as site
 
@@ -77,8 +77,7 @@ in_filter_mapped {A = A} {B = B} f (x ∷ xs) k y e =
       ] q
     ] refl e
 
-diagonals : (table : List line.Entry) (protocol : Protocol) (test : ℕ → Bool) (i j : ℕ)
-    → AllDiagonalsIn table protocol i j (asked_by protocol test table i j)
+diagonals : (table : List line.Entry) (protocol : Protocol) (test : ℕ → Bool) (i j : ℕ) → AllDiagonalsIn table protocol i j (asked_by protocol test table i j)
 diagonals table protocol test i j k f e =
     let m = in_filter_mapped (asked_in protocol test i j) table k f e in
     let p = cond_some (same_protocol m.1.protocol protocol) (asked_on test i j m.1.edge) f m.3 in
@@ -107,11 +106,9 @@ either_some (Some x) b q e = inl e
 
 all_as : (table : List line.Entry) (p : Protocol) (i j : ℕ) (q : Cond) (frags : List FragNo) → q.class.0 ≡ j → q.frags ≡ frags
     → AllDiagonalsIn table p i j frags → AllDiagonalsIn table p i q.class.0 q.frags
-all_as table p i j q frags c f h =
-    subst (λ k. AllDiagonalsIn table p i k q.frags) (sym c) (subst (AllDiagonalsIn table p i j) (sym f) h)
+all_as table p i j q frags c f h = subst (λ k. AllDiagonalsIn table p i k q.frags) (sym c) (subst (AllDiagonalsIn table p i j) (sym f) h)
 
-on_class : (table : List line.Entry) (test : ℕ → Bool) (i own p2 j : ℕ) (q : Cond) → condition_on test table i own p2 j ≡ Some q
-    → IsFromTable table i own p2 q
+on_class : (table : List line.Entry) (test : ℕ → Bool) (i own p2 j : ℕ) (q : Cond) → condition_on test table i own p2 j ≡ Some q → IsFromTable table i own p2 q
 on_class table test i own p2 j q e =
     let thirds : List FragNo = asked_by P3 test table i j in
     let seconds : List FragNo = asked_by P2 test table i j in
@@ -179,8 +176,7 @@ conditions_by g log c d ts of txn attempt conds uses n p =
 
 -- wherever it stands in a pipe
 pub conditions_of : (g : Given) (log : Log) (c : ℕ) (d : DmNo) (k : ℕ) (ts : Ts) (of : ClassNo) (txn : TxnNo) (attempt : ℕ) (conds : List Cond) (uses : List Use)
-    → IsPermitted g log → c ≢ 0 → slice_get (all_of (pipe_at g c d log)) k ≡ Some (Read ts of txn attempt conds uses)
-    → AreConditionsOf g log c ts.0 conds
+    → IsPermitted g log → c ≢ 0 → slice_get (all_of (pipe_at g c d log)) k ≡ Some (Read ts of txn attempt conds uses) → AreConditionsOf g log c ts.0 conds
 conditions_of g log c d k ts of txn attempt conds uses h n e =
     let m : Msg = Read ts of txn attempt conds uses in
     let i = in_pipe g c d log h in

@@ -40,6 +40,5 @@ idle_starts g i log sound c none off idle =
     let j = in_runs g i c in
     subst (λ at. queue (setting_of g at) i (local_of g at log) ≡ []) (sym here)
     (no_queue (setting_of g (T t)) (base_of g log) (local_of g (T t) log) i j.0 j.1
-    (none_at_txn g log t served.module_from served.module_to none)
-    (subst (λ at. on_hold (view_of (setting_of g at) (local_of g at log)) ≡ false) here off)
+    (none_at_txn g log t served.module_from served.module_to none) (subst (λ at. on_hold (view_of (setting_of g at) (local_of g at log)) ≡ false) here off)
     (subst (λ at. active (setting_of g at) i (local_of g at log) ≡ None) here idle))

@@ -43,8 +43,7 @@ Rejects v c txn attempt conds act =
     × (spoiler v conds ≡ Some q) × (by ≡ q.class)
 
 judged_by : (v : View) (c : ℕ) (w : Bool) (ts : Ts) (of : ClassNo) (txn : TxnNo) (attempt : ℕ) (conds : List Cond) (uses : List Use) (r : Rec) (sends : List (Site × Msg))
-    → May v c w (Read ts of txn attempt conds uses) r
-    → Answers c txn attempt (Records c r sends) ⊎ Rejects v c txn attempt conds (Records c r sends)
+    → May v c w (Read ts of txn attempt conds uses) r → Answers c txn attempt (Records c r sends) ⊎ Rejects v c txn attempt conds (Records c r sends)
 judged_by v c w ts of txn attempt conds uses (Answer n a dm) sends m =
     inl (dm, sends, ap (λ k. Records c (Answer (txn_no k) a dm) sends) m.0 ∙ ap (λ k. Records c (Answer txn k dm) sends) m.1)
 judged_by v c w ts of txn attempt conds uses (Rejected n a dm by x) sends m =
@@ -52,8 +51,7 @@ judged_by v c w ts of txn attempt conds uses (Rejected n a dm by x) sends m =
 judged_by v c w ts of txn attempt conds uses r sends m = absurd m
 
 pub processed_read : (s : Setting) (l : site.Log) (c : ℕ) (ts : Ts) (of : ClassNo) (txn : TxnNo) (attempt : ℕ) (conds : List Cond) (uses : List Use) (r : Rec) (sends : List (Site × Msg))
-    → head (pipe c l) ≡ Some (Read ts of txn attempt conds uses) → is_processing r ≡ true
-    → IsReadStep s l (Records c r sends)
+    → head (pipe c l) ≡ Some (Read ts of txn attempt conds uses) → is_processing r ≡ true → IsReadStep s l (Records c r sends)
     → Answers c txn attempt (Records c r sends) ⊎ Rejects (view_of s l) c txn attempt conds (Records c r sends)
 processed_read s l c ts of txn attempt conds uses r sends h p i =
     let x = processing_of s l c r sends p i in
@@ -99,8 +97,7 @@ abbrev IsDone : Given → Log → DmNo → ℕ → TxnNo → ℕ → List Cond �
 IsDone g log d c txn attempt conds entries = IsAnsweredIn d c txn attempt entries ⊎ IsRejectedAfter g log d c txn attempt conds entries
 
 rejected_now : (g : Given) (d : DmNo) (c : ℕ) (txn : TxnNo) (attempt : ℕ) (conds : List Cond) (e : Entry) (entries log : Log) (act : Act)
-    → IsPermitted g (entries ++ log) → spoiler (view_of (setting_of g (D d)) (at_module g d log)) conds ≡ None
-    → e ≡ Does (D d) act
+    → IsPermitted g (entries ++ log) → spoiler (view_of (setting_of g (D d)) (at_module g d log)) conds ≡ None → e ≡ Does (D d) act
     → Rejects (view_of (setting_of g (D d)) (at_module g d (entries ++ log))) c txn attempt conds act
     → IsRejectedAfter g log d c txn attempt conds (e ∷ entries)
 rejected_now g d c txn attempt conds e entries log act h clean is r =
@@ -153,10 +150,8 @@ done_on g log d c txn attempt conds e entries (inl a) = inl (answered_on d c txn
 done_on g log d c txn attempt conds e entries (inr r) = inr (rejected_on g log d c txn attempt conds e entries r)
 
 stays_or_done : (g : Given) (d : DmNo) (c : ℕ) (later log : Log) (ts : Ts) (of : ClassNo) (txn : TxnNo) (attempt : ℕ) (conds : List Cond) (uses : List Use)
-    → IsPermitted g (later ++ log) → HasSmallHomes g
-    → spoiler (view_of (setting_of g (D d)) (at_module g d log)) conds ≡ None
-    → list_all (is_met (view_of (setting_of g (D d)) (at_module g d log))) conds ≡ true
-    → HeadIs (at_module g d log) c (Read ts of txn attempt conds uses)
+    → IsPermitted g (later ++ log) → HasSmallHomes g → spoiler (view_of (setting_of g (D d)) (at_module g d log)) conds ≡ None
+    → list_all (is_met (view_of (setting_of g (D d)) (at_module g d log))) conds ≡ true → HeadIs (at_module g d log) c (Read ts of txn attempt conds uses)
     → HeadIs (at_module g d (later ++ log)) c (Read ts of txn attempt conds uses) ⊎ IsDone g log d c txn attempt conds later
 stays_or_done g d c [] log ts of txn attempt conds uses h small clean met w = inl w
 stays_or_done g d c (e ∷ later) log ts of txn attempt conds uses h small clean met w =

@@ -1,5 +1,5 @@
 -- An attempt that had a Wait at a module has no Reject there.
-use Rattle.sdd_waiting.proofs.All.{Act, Answer, ClassNo, Cond, D, Did, DmNo, Does, Given, IsPermitted, IsReadStep, IsRejectOf, IsWaitOf, List, Log, May, Msg, Null, Pipe, Read, Records, Rejected, Setting, Site, Some, Ts, TxnNo, Use, View, Wait, Write, allowed_act, answered_once, ap, append_assoc, d_step, head, home, inl, inr, not_both, not_own, number_of, own_act, permitted_before, pipe, refl, same_number, setting_of, subst, sym, true, txn_no, view_of, waits, ℕ, ◌++◌, ◌∙◌, ◌∷◌, ◌≡◌, ◌≤◌}
+use Rattle.sdd_waiting.proofs.All.{Act, Answer, ClassNo, Cond, D, Did, DmNo, Does, Given, IsPermitted, IsReadStep, IsRejectOf, IsWaitOf, List, Log, May, Msg, Pipe, Read, Records, Rejected, Setting, Site, Some, Ts, TxnNo, Use, View, Wait, allowed_act, answered_once, ap, append_assoc, d_step, head, home, inl, inr, not_both, not_own, number_of, own_act, permitted_before, pipe, refl, same_number, setting_of, subst, sym, true, txn_no, view_of, waits, ℕ, ◌++◌, ◌∙◌, ◌∷◌, ◌≡◌, ◌≤◌}
 use Rattle.sdd_waiting.proofs.Answered.{waits_or_answered}
 use Rattle.sdd_waiting.proofs.AtModule.{at_module}
 use Rattle.sdd_waiting.proofs.Rejected.{IsProcessing, processing_of, rejected}
@@ -34,8 +34,7 @@ read_answered s l c txn attempt dm sends i =
 
 -- a Wait leaves its READ at the head, and that waits
 after_wait : (c : ℕ) (txn : TxnNo) (attempt : ℕ) (dm : DmNo) (conds : List Cond) (sends : List (Site × Msg)) (l k : site.Log) (m : Msg)
-    → k ≡ Did (Records c (Wait txn attempt dm conds) sends) ∷ l → head (pipe c l) ≡ Some m
-    → (waits c k ≡ true) × (head (pipe c k) ≡ Some m)
+    → k ≡ Did (Records c (Wait txn attempt dm conds) sends) ∷ l → head (pipe c l) ≡ Some m → (waits c k ≡ true) × (head (pipe c k) ≡ Some m)
 after_wait c txn attempt dm conds sends l k m e h =
     let waits_then : waits c (Did (Records c (Wait txn attempt dm conds) sends) ∷ l) ≡ true = rw (same_number c) refl in
     let head_then : head (pipe c (Did (Records c (Wait txn attempt dm conds) sends) ∷ l)) ≡ Some m = ap (λ (p : Pipe). head p)

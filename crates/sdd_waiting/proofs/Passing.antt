@@ -1,5 +1,5 @@
 -- What a pipe has passed it has passed in every log that goes on from this one.
-use Rattle.sdd_waiting.proofs.All.{AllGe, Bool, D, Did, DmNo, Given, Handed, IsPermitted, IsRising, List, Msg, Pipe, Redeclared, Some, Submits, Ticked, [], all_handed, all_of, all_there, any_at, ap, append-nil, append_assoc, arith, at_seam, class_rises, dec_le, earlier, false, goes_through, head, head_in, head_of, home, if◌then◌else◌, in_left, in_pipe, le_is, length, list_any, local_grows, local_of, map, nat_le, nat_tests, number_of, or_left, or_right, passed, passed_by, pipe, pipe_at, place_within, processed_grows, refl, slice_get, subst, suc, sym, time_of, true, within_left, zero, ℕ, ◌++◌, ◌<◌, ◌∙◌, ◌∷◌, ◌≡◌, ◌≤◌}
+use Rattle.sdd_waiting.proofs.All.{AllGe, Bool, D, DmNo, Given, Handed, IsPermitted, IsRising, List, Msg, Pipe, Some, [], all_handed, all_of, all_there, any_at, ap, append-nil, append_assoc, arith, at_seam, class_rises, dec_le, earlier, false, goes_through, head, head_in, head_of, home, if◌then◌else◌, in_left, in_pipe, le_is, length, list_any, local_grows, local_of, map, nat_le, nat_tests, number_of, or_left, or_right, passed, passed_by, pipe, pipe_at, place_within, processed_grows, refl, slice_get, subst, suc, sym, time_of, true, within_left, zero, ℕ, ◌++◌, ◌<◌, ◌∙◌, ◌∷◌, ◌≡◌, ◌≤◌}
 use Rattle.sdd_invariants.specs.site_module.SiteLog.{Log}
 use Rattle.sdd_invariants.specs.logs.Entries as all
 
@@ -84,8 +84,7 @@ all_handed_later c (Handed from m ∷ later) log =
     (i.0 ++ k.0, k.1 ∙ ap (λ xs. xs ++ k.0) i.1 ∙ append_assoc (all_handed c log) i.0 k.0)
 all_handed_later c (_ ∷ later) log = all_handed_later c later log
 
-pub pipe_later : (c : ℕ) (later log : Log)
-    → (more : List Msg) × (all_of (pipe c (later ++ log)) ≡ all_of (pipe c log) ++ more)
+pub pipe_later : (c : ℕ) (later log : Log) → (more : List Msg) × (all_of (pipe c (later ++ log)) ≡ all_of (pipe c log) ++ more)
 pipe_later c later log =
     let i = all_handed_later c later log in
     (i.0, all_there c (later ++ log) ∙ i.1 ∙ ap (λ xs. xs ++ i.0) (sym (all_there c log)))

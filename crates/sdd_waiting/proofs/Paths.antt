@@ -23,8 +23,7 @@ pub record Leaves (G : WaitGraph) (a y : ℕ) : Type 0 where
 module _ (G : WaitGraph) (fits : Fits G) where
   -- an arc lies along an edge
   along : (x y : ℕ) → Arc G x y → (k : ℕ) × Joins G.edges k x y
-  along x y (waits n d at own e f) =
-      (d.edge, joins_at G.edges d.edge (G.read d.reader) (G.write d.writer) x y e f (fits.diagonal n d at).joins)
+  along x y (waits n d at own e f) = (d.edge, joins_at G.edges d.edge (G.read d.reader) (G.write d.writer) x y e f (fits.diagonal n d at).joins)
   along x y (within j class e f) =
       (G.vertical j, joins_at G.edges (G.vertical j) (G.write j) (G.read j) x y e f (joins_back G.edges (G.vertical j) (G.read j) (G.write j) (fits.upright j class)))
   along x y (held n d at e f) =
@@ -32,8 +31,7 @@ module _ (G : WaitGraph) (fits : Fits G) where
 
   -- a path from x to y avoids a node, or leaves it for the last time
   leaves : (a x y : ℕ) → Path G x y → a ≢ y → JoinedWithout G.edges a x y ⊎ Leaves G a y
-  leaves a x y (stop e) apart =
-      inl (record { steps = []; walk = e; avoids = λ h. elim h [ inl p ↦ apart (sym p ∙ e) | inr q ↦ q ] })
+  leaves a x y (stop e) apart = inl (record { steps = []; walk = e; avoids = λ h. elim h [ inl p ↦ apart (sym p ∙ e) | inr q ↦ q ] })
   leaves a x y (go {y = z} arc rest) apart =
       elim (leaves a z y rest apart) [
         | inr l ↦ inr l
@@ -73,8 +71,7 @@ module _ (G : WaitGraph) (fits : Fits G) where
   not_by n d at other y (within i class a b) j = fits.apart d.reader i (fits.diagonal n d at).reader class a
   not_by n d at other y (held m e on a b) j = fits.apart d.reader e.writer (fits.diagonal n d at).reader (fits.diagonal m e on).writer a
 
-  pub no_path : (n : ℕ) (d : WaitDiagonal) → IsDiagonal G n d → d.own ≡ false
-      → ¬ Path G (G.read d.reader) (G.write d.writer)
+  pub no_path : (n : ℕ) (d : WaitDiagonal) → IsDiagonal G n d → d.own ≡ false → ¬ Path G (G.read d.reader) (G.write d.writer)
   no_path n d at other p =
       let f = fits.diagonal n d at in
       elim (leaves (G.read d.reader) (G.read d.reader) (G.write d.writer) p (fits.apart d.reader d.writer f.reader f.writer)) [

@@ -18,11 +18,9 @@ pub record IsProcessedIn (g : Given) (log : Log) (d : DmNo) (c : ℕ) (m : Msg) 
 -- an act that takes the count of what is processed past a place processes what stands there
 
 abbrev Processes : Setting → site.Log → ℕ → Msg → Act → Type 0
-Processes s l c m act =
-    (r : Rec) × (sends : List (Site × Msg)) × (act ≡ Records c r sends) × (head (pipe c l) ≡ Some m) × May (view_of s l) c (waits c l) m r
+Processes s l c m act = (r : Rec) × (sends : List (Site × Msg)) × (act ≡ Records c r sends) × (head (pipe c l) ≡ Some m) × May (view_of s l) c (waits c l) m r
 
-count_same : (c k : ℕ) (l h : site.Log) → (pipe c h).processed ≡ (pipe c l).processed → length (pipe c l).processed ≤ k
-    → k < length (pipe c h).processed → ⊥
+count_same : (c k : ℕ) (l h : site.Log) → (pipe c h).processed ≡ (pipe c l).processed → length (pipe c l).processed ≤ k → k < length (pipe c h).processed → ⊥
 count_same c k l h e lo hi = let n : length (pipe c h).processed ≡ length (pipe c l).processed = ap length e in omega arith
 
 own_processes : (s : Setting) (l : site.Log) (c k : ℕ) (m : Msg) (r : Rec) (sends : List (Site × Msg)) → is_processing r ≡ true
@@ -40,8 +38,7 @@ own_processes s l c k m r sends p i there lo hi =
     (r, sends, refl, x.head_is ∙ same, subst (λ y. May (view_of s l) c (waits c l) y r) is x.may)
 
 act_processes : (s : Setting) (l : site.Log) (c k : ℕ) (m : Msg) (act : Act) → IsReadStep s l act
-    → slice_get (all_of (pipe c l)) k ≡ Some m → length (pipe c l).processed ≤ k → k < length (pipe c (Did act ∷ l)).processed
-    → Processes s l c m act
+    → slice_get (all_of (pipe c l)) k ≡ Some m → length (pipe c l).processed ≤ k → k < length (pipe c (Did act ∷ l)).processed → Processes s l c m act
 act_processes s l c k m act i there lo hi =
     read_step_way s l act (λ a. k < length (pipe c (Did a ∷ l)).processed → Processes s l c m a)
     (λ e x. absurd (count_same c k l (Did act ∷ l) (ap (λ (y : Pipe). y.processed) (passing c act l e).0.pipe_same) lo x))
@@ -58,8 +55,7 @@ processed_more_on g log d c m e entries i =
     record { later = e ∷ i.later; before = i.before; rec = i.rec; sends = i.sends; is = ap (λ l. e ∷ l) i.is; head_is = i.head_is; may = i.may }
 
 processed_now : (g : Given) (d : DmNo) (c k : ℕ) (m : Msg) (e : Entry) (entries log : Log) → IsEntryAt g d (entries ++ log) e
-    → slice_get (all_of (pipe c (at_module g d (entries ++ log)))) k ≡ Some m
-    → length (pipe c (at_module g d (entries ++ log))).processed ≤ k
+    → slice_get (all_of (pipe c (at_module g d (entries ++ log)))) k ≡ Some m → length (pipe c (at_module g d (entries ++ log))).processed ≤ k
     → k < length (pipe c (at_module g d (e ∷ (entries ++ log)))).processed → IsProcessedIn g log d c m (e ∷ entries)
 processed_now g d c k m e entries log (aside f) there lo hi =
     absurd (count_same c k (at_module g d (entries ++ log)) (at_module g d (e ∷ (entries ++ log))) (ap (λ (x : Pipe). x.processed) (f c).pipe_same) lo hi)
@@ -114,8 +110,7 @@ none_unprocessed ps (x ∷ qs) k m e f = cc
 
 pub processed_by_end : (g : Given) (d : DmNo) (c : ℕ) (from : Site) (n : ℕ) (m : Msg) (entries log : Log)
     → IsPermitted g (entries ++ Hand from (D d) n m ∷ log) → goes_through c m ≡ true
-    → head (pipe c (at_module g d (entries ++ Hand from (D d) n m ∷ log))) ≡ None
-    → IsProcessedIn g (Hand from (D d) n m ∷ log) d c m entries
+    → head (pipe c (at_module g d (entries ++ Hand from (D d) n m ∷ log))) ≡ None → IsProcessedIn g (Hand from (D d) n m ∷ log) d c m entries
 processed_by_end g d c from n m entries log h e none =
     let handed : Log = Hand from (D d) n m ∷ log in
     let place : ℕ = length (all_of (pipe c (at_module g d log))) in

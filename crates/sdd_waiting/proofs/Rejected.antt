@@ -1,5 +1,5 @@
 -- A Reject names a WRITE that was processed; a READ that waits is never rejected.
-use Rattle.sdd_waiting.proofs.All.{Act, Answer, Apply, ClassNo, Cond, D, Did, DmNo, Does, Each, Given, IsAnswerOf, IsDueEach, IsPermitted, IsReadStep, IsRejectOf, IsWaitOf, List, Log, May, Msg, Null, Pass, Read, Rec, Records, Rejected, Setting, Site, Some, Ts, TxnNo, Use, View, Write, allowed_act, ap, by_record, by_wait, d_step, false, filter, first_there, head, in_filtered, in_passing, is_processing, is_spoilt, last_write_for, le_by, local_of, not_both, or_zero, pipe, pipe_at, refl, setting_of, slice_get, spoiler, spoils, subst, sym, time_at, true, txn_no, view_of, waits, writer_of, ℕ, ◌∙◌, ◌∷◌, ◌≡◌}
+use Rattle.sdd_waiting.proofs.All.{Act, Answer, Apply, ClassNo, Cond, D, Did, DmNo, Does, Each, Given, IsAnswerOf, IsDueEach, IsPermitted, IsReadStep, IsRejectOf, IsWaitOf, List, Log, May, Msg, Pass, Read, Rec, Records, Rejected, Setting, Site, Some, Ts, TxnNo, Use, View, Write, allowed_act, ap, by_record, by_wait, d_step, false, filter, first_there, head, in_filtered, in_passing, is_processing, is_spoilt, last_write_for, le_by, local_of, not_both, or_zero, pipe, pipe_at, refl, setting_of, slice_get, spoiler, spoils, subst, sym, time_at, true, txn_no, view_of, waits, writer_of, ℕ, ◌∙◌, ◌∷◌, ◌≡◌}
 use Rattle.sdd_waiting.proofs.Waited.{since}
 use Rattle.sdd_invariants.specs.site_module.SiteLog as site
 
@@ -43,8 +43,7 @@ pub record IsRejecting (s : Setting) (log : site.Log) (c : ℕ) (txn : TxnNo) (a
   pub write_is : write.0 ≡ or_zero (last_write_for (view_of s log) cond_by)
 
 rejecting_by : (s : Setting) (log : site.Log) (c : ℕ) (m : Msg) (txn : TxnNo) (attempt : ℕ) (dm : DmNo) (by : ClassNo) (write : Ts)
-    → head (pipe c log) ≡ Some m → May (view_of s log) c (waits c log) m (Rejected txn attempt dm by write)
-    → IsRejecting s log c txn attempt by write
+    → head (pipe c log) ≡ Some m → May (view_of s log) c (waits c log) m (Rejected txn attempt dm by write) → IsRejecting s log c txn attempt by write
 rejecting_by s log c (Read ts of n a conds uses) txn attempt dm by write h m =
     let same_txn : n ≡ txn = ap (λ k. txn_no k) (sym m.0) in
     let same_attempt : a ≡ attempt = sym m.1 in
@@ -68,13 +67,11 @@ rejecting s log c txn attempt dm by write sends i =
     let p = processing_of s log c (Rejected txn attempt dm by write) sends refl i in
     rejecting_by s log c p.msg txn attempt dm by write p.head_is p.may
 
-pub spoiler_there : (v : View) (conds : List Cond) (q : Cond) → spoiler v conds ≡ Some q
-    → (spoils v q ≡ true) × (k : ℕ) × (slice_get conds k ≡ Some q)
+pub spoiler_there : (v : View) (conds : List Cond) (q : Cond) → spoiler v conds ≡ Some q → (spoils v q ≡ true) × (k : ℕ) × (slice_get conds k ≡ Some q)
 spoiler_there v conds q e = in_filtered (spoils v) conds 0 q (first_there (filter (spoils v) conds) q e)
 
 pub rejected : (g : Given) (log : Log) (d : DmNo) (c : ℕ) (txn : TxnNo) (attempt : ℕ) (dm : DmNo) (by : ClassNo) (write : Ts) (sends : List (Site × Msg))
-    → IsPermitted g (Does (D d) (Records c (Rejected txn attempt dm by write) sends) ∷ log)
-    → IsRejectOf g log d c txn attempt by write
+    → IsPermitted g (Does (D d) (Records c (Rejected txn attempt dm by write) sends) ∷ log) → IsRejectOf g log d c txn attempt by write
 rejected g log d c txn attempt dm by write sends h =
     let s : Setting = setting_of g (D d) in
     let l : site.Log = local_of g (D d) log in
@@ -112,10 +109,8 @@ rejected g log d c txn attempt dm by write sends h =
 -- what processes a READ that waits is its Answer
 
 answer_by : (s : Setting) (log : site.Log) (c : ℕ) (ts : Ts) (of : ClassNo) (txn : TxnNo) (attempt : ℕ) (conds : List Cond) (uses : List Use) (r : Rec)
-    → waits c log ≡ true → May (view_of s log) c (waits c log) (Read ts of txn attempt conds uses) r
-    → (dm : DmNo) × (r ≡ Answer txn attempt dm)
-answer_by s log c ts of txn attempt conds uses (Answer n a dm) w m =
-    (dm, ap (λ k. Answer (txn_no k) a dm) m.0 ∙ ap (λ k. Answer txn k dm) m.1)
+    → waits c log ≡ true → May (view_of s log) c (waits c log) (Read ts of txn attempt conds uses) r → (dm : DmNo) × (r ≡ Answer txn attempt dm)
+answer_by s log c ts of txn attempt conds uses (Answer n a dm) w m = (dm, ap (λ k. Answer (txn_no k) a dm) m.0 ∙ ap (λ k. Answer txn k dm) m.1)
 answer_by s log c ts of txn attempt conds uses (Rejected n a dm by x) w m = absurd (not_both (waits c log) w m.2)
 answer_by s log c ts of txn attempt conds uses r w m = absurd m
 

@@ -23,8 +23,7 @@ any_last f [] x e h = only_one (f x) h
 any_last f (y ∷ xs) x e h =
     any_last f xs x (neither_right (f y) (list_any f xs) e) (only_right (f y) (list_any f (xs ++ x ∷ [])) (neither_left (f y) (list_any f xs) e) h)
 
-write_spoils : (q : Cond) (ts : Ts) (touching : Bool) → is_at_least q.time.0 (cond touching (Some ts.0) None) ≡ true
-    → (touching ≡ true) × (q.time.0 ≤ ts.0)
+write_spoils : (q : Cond) (ts : Ts) (touching : Bool) → is_at_least q.time.0 (cond touching (Some ts.0) None) ≡ true → (touching ≡ true) × (q.time.0 ≤ ts.0)
 write_spoils q ts true e = (refl, le_is q.time.0 ts.0 e)
 write_spoils q ts false e = cc
 
@@ -37,8 +36,7 @@ IsSpoiledBy s l q act =
     × (head (pipe q.class.0 l) ≡ Some (Write ts of txn changes)) × (q.time.0 ≤ ts.0) × (touches q.frags changes ≡ true)
 
 applied_by : (s : Setting) (l : site.Log) (q : Cond) (w : Bool) (m : Msg) (r : Rec) (sends : List (Site × Msg))
-    → head (pipe q.class.0 l) ≡ Some m → May (view_of s l) q.class.0 w m r → spoiling q m ≡ true
-    → IsSpoiledBy s l q (Records q.class.0 r sends)
+    → head (pipe q.class.0 l) ≡ Some m → May (view_of s l) q.class.0 w m r → spoiling q m ≡ true → IsSpoiledBy s l q (Records q.class.0 r sends)
 applied_by s l q w (Write ts of n changes) (Apply t j dm u) sends h m e =
     let x = write_spoils q ts (touches q.frags changes) e in
     let a : Apply t j dm u ≡ Apply n of dm ts = ap (λ k. Apply (txn_no k) j dm u) m.0 ∙ ap (λ k. Apply n (class_no k) dm u) m.2
@@ -49,8 +47,7 @@ applied_by s l q w m r sends h k e = cc
 
 spoiled_by : (s : Setting) (l : site.Log) (q : Cond) (m : Msg) (r : Rec) (sends : List (Site × Msg)) → IsClassHere s q.class.0
     → is_processing r ≡ true → head (pipe q.class.0 l) ≡ Some m → May (view_of s l) q.class.0 (waits q.class.0 l) m r
-    → spoils (view_of s l) q ≡ false → spoils (view_of s (Did (Records q.class.0 r sends) ∷ l)) q ≡ true
-    → IsSpoiledBy s l q (Records q.class.0 r sends)
+    → spoils (view_of s l) q ≡ false → spoils (view_of s (Did (Records q.class.0 r sends) ∷ l)) q ≡ true → IsSpoiledBy s l q (Records q.class.0 r sends)
 spoiled_by s l q m r sends here p h may before after =
     let c : ℕ = q.class.0 in
     let k : site.Log = Did (Records c r sends) ∷ l in
@@ -64,8 +61,7 @@ spoiled_by s l q m r sends here p h may before after =
 
 spoiled_as : (s : Setting) (l : site.Log) (q : Cond) (k : ℕ) (m : Msg) (r : Rec) (sends : List (Site × Msg)) → k ≡ q.class.0
     → IsClassHere s k → is_processing r ≡ true → head (pipe k l) ≡ Some m → May (view_of s l) k (waits k l) m r
-    → spoils (view_of s l) q ≡ false → spoils (view_of s (Did (Records k r sends) ∷ l)) q ≡ true
-    → IsSpoiledBy s l q (Records k r sends)
+    → spoils (view_of s l) q ≡ false → spoils (view_of s (Did (Records k r sends) ∷ l)) q ≡ true → IsSpoiledBy s l q (Records k r sends)
 spoiled_as s l q k m r sends e here p h may before after =
     let c : ℕ = q.class.0 in
     subst (λ z. IsSpoiledBy s l q (Records z r sends)) (sym e)
@@ -84,8 +80,7 @@ act_spoils s l q act i before after =
       | inr e ↦ absurd (none (Records k r sends) (ap (λ (x : Pipe). x.processed) (not_own q.class.0 k r sends l (inl e)).pipe_same) t)
     ]) i after
 
-spoilt_more : (g : Given) (d : DmNo) (q : Cond) (e : Entry) (entries log : Log) → IsSpoiltIn g log d q entries
-    → IsSpoiltIn g log d q (e ∷ entries)
+spoilt_more : (g : Given) (d : DmNo) (q : Cond) (e : Entry) (entries log : Log) → IsSpoiltIn g log d q entries → IsSpoiltIn g log d q (e ∷ entries)
 spoilt_more g d q e entries log i = record {
   later = e ∷ i.later;
   before = i.before;
@@ -103,8 +98,7 @@ spoilt_more g d q e entries log i = record {
 
 spoilt_now : (g : Given) (d : DmNo) (q : Cond) (e : Entry) (entries log : Log) → IsEntryAt g d (entries ++ log) e
     → spoils (view_of (setting_of g (D d)) (at_module g d (entries ++ log))) q ≡ false
-    → spoils (view_of (setting_of g (D d)) (at_module g d (e ∷ (entries ++ log)))) q ≡ true
-    → IsSpoiltIn g log d q (e ∷ entries)
+    → spoils (view_of (setting_of g (D d)) (at_module g d (e ∷ (entries ++ log)))) q ≡ true → IsSpoiltIn g log d q (e ∷ entries)
 spoilt_now g d q e entries log (aside f) before after =
     absurd (not_both _ after (spoils_same (setting_of g (D d)) (at_module g d (entries ++ log)) (at_module g d (e ∷ (entries ++ log))) q (ap (λ (x : Pipe). x.processed) (f q.class.0).pipe_same) ∙ before))
 spoilt_now g d q e entries log (handing from m s) before after =

@@ -1,13 +1,12 @@
 -- Where nothing is due at a data module, the head of each pipe is stuck.
-use Rattle.sdd_waiting.proofs.All.{Bool, Did, Handed, Home, IsClassHere, IsStuck, List, Msg, None, Null, Option, Processes, Read, Redeclared, Setting, Some, Submits, Ticked, View, Write, [], act_where, all_handed, all_there, ap, class_there, class_view, due, false, first_some, goes_through, head, head_due, home_of, if◌then◌else◌, is_held, is_met, length, list_all, neither_some, open_due, pipe, refl, slice_get, step_on, subst, suc, sym, true, view_of, waits, zero, ℕ, ◌++◌, ◌∙◌, ◌∷◌, ◌≡◌}
+use Rattle.sdd_waiting.proofs.All.{Bool, Handed, Home, IsClassHere, IsStuck, List, Msg, None, Option, Processes, Read, Setting, Some, View, Write, [], act_where, all_handed, all_there, ap, class_there, class_view, due, false, first_some, goes_through, head, head_due, home_of, if◌then◌else◌, is_held, is_met, length, list_all, neither_some, open_due, pipe, refl, slice_get, step_on, subst, suc, sym, true, view_of, waits, zero, ℕ, ◌++◌, ◌∙◌, ◌∷◌, ◌≡◌}
 use Rattle.sdd_waiting.proofs.Passing.{head_place}
 use Rattle.sdd_invariants.specs.site_module.SiteLog.{Log}
 use Rattle.sdd_invariants.specs.dm.declared.step.Step.{Step}
 
 -- options of which none is there
 
-pub none_at : {A B : Type 0} (f : A → Option B) (xs : List A) (k : ℕ) (x : A) → first_some f xs ≡ None → slice_get xs k ≡ Some x
-    → f x ≡ None
+pub none_at : {A B : Type 0} (f : A → Option B) (xs : List A) (k : ℕ) (x : A) → first_some f xs ≡ None → slice_get xs k ≡ Some x → f x ≡ None
 none_at f [] k x e g = cc
 none_at {A = A} f (y ∷ xs) zero x e g = let p : ◌≡◌ {A = A} y x = cc in ap f (sym p) ∙ (neither_some (f y) (first_some f xs) e).0
 none_at f (y ∷ xs) (suc k) x e g = none_at f xs k x (neither_some (f y) (first_some f xs) e).1 g
@@ -60,8 +59,7 @@ stuck_at s log c None h e = tt
 stuck_at s log c (Some m) h e =
     stuck s log c (waits c log) m refl (head_through c log m h) (no_act (home_of s) (view_of s log) c m (step_on (view_of s log) c (waits c log) (Some m)) e)
 
-pub head_stuck : (s : Setting) (log : Log) (c : ℕ) → IsClassHere s c → due (home_of s) (view_of s log) ≡ None
-    → IsStuck s log c (head (pipe c log))
+pub head_stuck : (s : Setting) (log : Log) (c : ℕ) → IsClassHere s c → due (home_of s) (view_of s log) ≡ None → IsStuck s log c (head (pipe c log))
 head_stuck s log c l e =
     let v : View = view_of s log in
     let none = (neither_some (first_some (open_due (home_of s) v) v.classes) (first_some (head_due (home_of s) v) v.classes) e).1 in

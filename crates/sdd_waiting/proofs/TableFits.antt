@@ -31,14 +31,12 @@ pub record IsFrom (entries : List Entry) (k : ℕ) (d : WaitDiagonal) : Type 0 w
   pub at : slice_get entries place ≡ Some entry
   pub made : IsMadeOf (k + place) entry.protocol entry.edge d
 
-from_first : (k : ℕ) (e : Entry) (entries : List Entry) (d : WaitDiagonal) → diagonal_at k e.protocol e.edge ≡ Some d
-    → IsFrom (e ∷ entries) k d
+from_first : (k : ℕ) (e : Entry) (entries : List Entry) (d : WaitDiagonal) → diagonal_at k e.protocol e.edge ≡ Some d → IsFrom (e ∷ entries) k d
 from_first k e entries d h =
     let z : k ≡ k + 0 = omega arith in
     record { place = 0; entry = e; at = refl; made = subst (λ q. IsMadeOf q e.protocol e.edge d) z (made_of k e.protocol e.edge d h) }
 
-from_rest : (k : ℕ) (e : Entry) (entries : List Entry) (d : WaitDiagonal) → IsFrom entries (suc k) d
-    → IsFrom (e ∷ entries) k d
+from_rest : (k : ℕ) (e : Entry) (entries : List Entry) (d : WaitDiagonal) → IsFrom entries (suc k) d → IsFrom (e ∷ entries) k d
 from_rest k e entries d f =
     let z : suc k + f.place ≡ k + suc f.place = omega arith in
     record { place = suc f.place; entry = f.entry; at = f.at; made = subst (λ q. IsMadeOf q f.entry.protocol f.entry.edge d) z f.made }
@@ -49,12 +47,10 @@ first_or_rest P None ds n d e f g = g n e
 first_or_rest P (Some x) ds zero d e f g = f e
 first_or_rest P (Some x) ds (suc n) d e f g = g n e
 
-is_from : (k : ℕ) (entries : List Entry) (n : ℕ) (d : WaitDiagonal) → slice_get (diagonals k entries) n ≡ Some d
-    → IsFrom entries k d
+is_from : (k : ℕ) (entries : List Entry) (n : ℕ) (d : WaitDiagonal) → slice_get (diagonals k entries) n ≡ Some d → IsFrom entries k d
 is_from k [] n d h = absurd (cc)
 is_from k (e ∷ entries) n d h =
-    first_or_rest (IsFrom (e ∷ entries) k d) (diagonal_at k e.protocol e.edge) (diagonals (suc k) entries) n d h
-    (λ p. from_first k e entries d p)
+    first_or_rest (IsFrom (e ∷ entries) k d) (diagonal_at k e.protocol e.edge) (diagonals (suc k) entries) n d h (λ p. from_first k e entries d p)
     (λ m p. from_rest k e entries d (is_from (suc k) entries m d p))
 
 -- what the protocol tells of the block, and of that of the reader's vertical edge
@@ -78,8 +74,7 @@ is_own : (own : Bool) → P3 ≡ wait_protocol own → own ≡ true
 is_own true e = refl
 is_own false e = absurd (cc)
 
-in_block : (own : Bool) (block vertical : ℕ) → diagonal_protocol block vertical ≡ wait_protocol own
-    → InBlock own block vertical
+in_block : (own : Bool) (block vertical : ℕ) → diagonal_protocol block vertical ≡ wait_protocol own → InBlock own block vertical
 in_block own b v e =
     elim (b == 0) as (λ x. (b == 0) ≡ x → (if x then P1 else (if b == v then P3 else P2)) ≡ wait_protocol own → InBlock own b v) [
       | true ↦ λ p q. absurd (not_first own q)
@@ -109,8 +104,7 @@ module _ (cat : Catalogue) (entries : List Entry) (table : IsTable cat entries) 
       omega (arith, length-append (vertical_edges cat) rest, length-map-range_with_len (λ z. Vertical (class_no z)) 1 (length cat.classes)) in
       let long : length (blocks_of entries) ≡ length (conflict_graph cat) =
       table.blocks.one_each ∙ length-map (conflict_graph cat) ends in
-      vertical_block-lists entries i
-      ∙ ap (λ z. first_block (is_vertical_of i) z (blocks_of entries)) table.edges
+      vertical_block-lists entries i ∙ ap (λ z. first_block (is_vertical_of i) z (blocks_of entries)) table.edges
       ∙ first_block-vertical (length cat.classes) 1 (i - 1) i rest (blocks_of entries) (omega arith) (omega arith) (omega arith)
 
   class_of : (i j : ℕ) → i ≡ j → IsClassOf cat j → IsClass (wait_graph cat entries) i
@@ -125,10 +119,7 @@ module _ (cat : Catalogue) (entries : List Entry) (table : IsTable cat entries) 
     place = let e = h.made.place_is in omega arith
 
     in_graph : slice_get (conflict_graph cat) h.place ≡ Some edge
-    in_graph =
-        sym (ap (λ z. slice_get z h.place) table.edges)
-        ∙ some_map (λ (e : Entry). e.edge) entries h.place h.entry h.at
-        ∙ ap (λ z. Some z) h.made.edge_is
+    in_graph = sym (ap (λ z. slice_get z h.place) table.edges) ∙ some_map (λ (e : Entry). e.edge) entries h.place h.entry h.at ∙ ap (λ z. Some z) h.made.edge_is
 
     reads : ReadsFrom cat h.made.reader.0 h.made.writer.0 h.made.fragment.0
     reads = all_at (IsEdgeOf cat) (conflict_graph cat) h.place edge (edges_known cat) in_graph
@@ -141,24 +132,19 @@ module _ (cat : Catalogue) (entries : List Entry) (table : IsTable cat entries) 
     protocol : diagonal_protocol h.entry.block (vertical_block entries h.made.reader.0) ≡ wait_protocol d.own
     protocol =
         sym (ap (λ z. protocol_in entries z h.entry.block) h.made.edge_is)
-        ∙ sym (all_at (λ w. w.protocol ≡ protocol_in entries w.edge w.block) entries h.place h.entry table.protocols h.at)
-        ∙ h.made.protocol_is
+        ∙ sym (all_at (λ w. w.protocol ≡ protocol_in entries w.edge w.block) entries h.place h.entry table.protocols h.at) ∙ h.made.protocol_is
 
     vertical : vertical_block entries h.made.reader.0 ≡ slice_index (blocks_of entries) (d.reader - 1)
-    vertical =
-        vertical_is h.made.reader.0 reads.reader
-        ∙ ap (λ i. slice_index (blocks_of entries) (i - 1)) (sym h.made.reader_is)
+    vertical = vertical_is h.made.reader.0 reads.reader ∙ ap (λ i. slice_index (blocks_of entries) (i - 1)) (sym h.made.reader_is)
 
     lies : InBlock d.own (slice_index (blocks_of entries) d.edge) (slice_index (blocks_of entries) (d.reader - 1))
     lies =
         in_block d.own _ _ (ap (λ z. diagonal_protocol z (slice_index (blocks_of entries) (d.reader - 1))) block
-        ∙ ap (diagonal_protocol h.entry.block) (sym vertical)
-        ∙ protocol)
+        ∙ ap (diagonal_protocol h.entry.block) (sym vertical) ∙ protocol)
 
     joined : slice_get (map ends (conflict_graph cat)) d.edge ≡ Some (read_node d.reader, write_node d.writer)
     joined =
-        ap (slice_get (map ends (conflict_graph cat))) place
-        ∙ some_map ends (conflict_graph cat) h.place edge in_graph
+        ap (slice_get (map ends (conflict_graph cat))) place ∙ some_map ends (conflict_graph cat) h.place edge in_graph
         ∙ ap (λ z. Some (read_node z, write_node h.made.writer.0)) (sym h.made.reader_is)
         ∙ ap (λ z. Some (read_node d.reader, write_node z)) (sym h.made.writer_is)
 
@@ -173,15 +159,13 @@ module _ (cat : Catalogue) (entries : List Entry) (table : IsTable cat entries) 
           other = lies.other;
         }
 
-  upright : (i : ℕ) → IsClass (wait_graph cat entries) i
-      → slice_get (map ends (conflict_graph cat)) (i - 1) ≡ Some (read_node i, write_node i)
+  upright : (i : ℕ) → IsClass (wait_graph cat entries) i → slice_get (map ends (conflict_graph cat)) (i - 1) ≡ Some (read_node i, write_node i)
   upright i c =
       let from = c.from in
       let to = c.to in
       let z : 1 + (i - 1) ≡ i = omega arith in
       some_map ends (conflict_graph cat) (i - 1) (Vertical (class_no i))
-      (vertical_at (length cat.classes) 1 (i - 1) (horizontal_edges cat ++ diagonal_edges cat) (omega arith)
-      ∙ ap (λ w. Some (Vertical (class_no w))) z)
+      (vertical_at (length cat.classes) 1 (i - 1) (horizontal_edges cat ++ diagonal_edges cat) (omega arith) ∙ ap (λ w. Some (Vertical (class_no w))) z)
 
   wait_graph_fits : Fits (wait_graph cat entries)
   wait_graph_fits =

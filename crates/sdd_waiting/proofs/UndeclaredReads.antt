@@ -7,8 +7,7 @@ use Rattle.sdd_invariants.specs.site_module.SiteLog as site
 
 -- the READ of an undeclared transaction that is answered doesn't stand at the head again
 not_again : (g : Given) (d : DmNo) (log : Log) (a : Attempt) (ts : Ts) (k : ClassNo) (txn : TxnNo) (n : ℕ) (ds : List Cond) (us : List Use) (before : Log)
-    → IsPermitted g log → head (pipe_at g 0 d log) ≡ Some (Read ts k txn n ds us) → Part log before → HasAnswer g before d 0 a
-    → a.ts ≡ ts.0 → ⊥
+    → IsPermitted g log → head (pipe_at g 0 d log) ≡ Some (Read ts k txn n ds us) → Part log before → HasAnswer g before d 0 a → a.ts ≡ ts.0 → ⊥
 not_again g d log a ts k txn n ds us before h e p w same =
     let ans : Act = Records 0 (Answer w.txn w.attempt (home_of (setting_of g (D d))).dm) w.sends in
     let whole : log ≡ (p.0 ++ w.later) ++ Does (D d) ans ∷ w.before = p.1 ∙ ap (λ l. p.0 ++ l) w.is
@@ -60,15 +59,13 @@ holds_none g i d log ts of txn n ds us w wc wt changes h sound c lo hi e f b =
 -- and is never rejected
 
 class_of_cond : (g : Given) (d : DmNo) (log : Log) (ts : Ts) (of : ClassNo) (txn : TxnNo) (n : ℕ) (ds : List Cond) (us : List Use) (j : ℕ) (q : Cond)
-    → IsPermitted g log → head (pipe_at g 0 d log) ≡ Some (Read ts of txn n ds us) → slice_get ds j ≡ Some q
-    → IsClassOf g.catalogue q.class.0
+    → IsPermitted g log → head (pipe_at g 0 d log) ≡ Some (Read ts of txn n ds us) → slice_get ds j ≡ Some q → IsClassOf g.catalogue q.class.0
 class_of_cond g d log ts of txn n ds us j q h e f =
     let r = in_range 1 (length g.catalogue.classes) j q.class.0 (read_classes g d log ts of txn n ds us j q h e f) in
     record { from = r.0; to = (let l = r.1 in omega arith) }
 
 pub not_rejected : (g : Given) (log : Log) (d : DmNo) (txn : TxnNo) (attempt : ℕ) (dm : DmNo) (by : ClassNo) (write : Ts) (sends : List (Site × Msg))
-    → IsSound g.catalogue → 1 ≤ d.0 → d.0 ≤ g.catalogue.dms
-    → IsPermitted g (Does (D d) (Records 0 (Rejected txn attempt dm by write) sends) ∷ log) → ⊥
+    → IsSound g.catalogue → 1 ≤ d.0 → d.0 ≤ g.catalogue.dms → IsPermitted g (Does (D d) (Records 0 (Rejected txn attempt dm by write) sends) ∷ log) → ⊥
 not_rejected g log d txn attempt dm by write sends sound lo hi h =
     let s : Setting = setting_of g (D d) in
     let l : site.Log = local_of g (D d) log in

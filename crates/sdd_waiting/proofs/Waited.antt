@@ -12,8 +12,7 @@ not_a_wait : {A : Type 0} (x a : Act) → Some x ≡ Some a → records_wait x �
 unfolding records_wait
 not_a_wait x a e f g = let p : x ≡ a = cc in absurd (not_both (records_wait a) g (ap records_wait (sym p) ∙ f))
 
-open_not : {A : Type 0} (h : Home) (k : ClassView) (o : Open) (m : Msg) (a : Act) → answer_to h k o m ≡ Some a
-    → records_wait a ≡ true → A
+open_not : {A : Type 0} (h : Home) (k : ClassView) (o : Open) (m : Msg) (a : Act) → answer_to h k o m ≡ Some a → records_wait a ≡ true → A
 unfolding records_wait
 open_not h k o (Read ts of txn attempt conds uses) a e w = not_a_wait _ a e refl w
 open_not h k o (Fetch ts of u col) a e w = not_a_wait _ a e refl w
@@ -21,8 +20,7 @@ open_not h k o (Reduce ts of u col vs) a e w = not_a_wait _ a e refl w
 open_not h k o (Ship ts of) a e w = not_a_wait _ a e refl w
 open_not h k o _ a e w = cc
 
-asked_not : {A : Type 0} (h : Home) (k : ClassView) (o : Option Open) (a : Act) → answer_of h k o ≡ Some a
-    → records_wait a ≡ true → A
+asked_not : {A : Type 0} (h : Home) (k : ClassView) (o : Option Open) (a : Act) → answer_of h k o ≡ Some a → records_wait a ≡ true → A
 asked_not h k None a e w = cc
 asked_not h k (Some o) a e w = open_not h k o o.msg a e w
 
@@ -41,23 +39,19 @@ judged_wait s log c ts of txn attempt conds uses (d ∷ ds) None a l n h p q e w
     act_is s log c _ a (record { ts = ts; of = of; txn = txn; attempt = attempt; conds = conds; uses = uses; here = l; head_is = h; waits_not = n; unspoilt = q; first = d; more = ds; lacks = p; act_is = refl }) e
 
 write_not : {A : Type 0} (h : Home) (v : View) (c : ℕ) (ts : Ts) (of : ClassNo) (txn : TxnNo) (changes : List Change) (held : Bool) (a : Act)
-    → act_where h v c (Some (Write ts of txn changes)) (if held then None else Some Processes) ≡ Some a
-    → records_wait a ≡ true → A
+    → act_where h v c (Some (Write ts of txn changes)) (if held then None else Some Processes) ≡ Some a → records_wait a ≡ true → A
 unfolding records_wait
 write_not h v c ts of txn changes true a e w = cc
 write_not h v c ts of txn changes false a e w = not_a_wait _ a e refl w
 
 waited_not : {A : Type 0} (h : Home) (v : View) (c : ℕ) (ts : Ts) (of : ClassNo) (txn : TxnNo) (attempt : ℕ) (conds : List Cond) (uses : List Use) (met : Bool) (a : Act)
-    → act_where h v c (Some (Read ts of txn attempt conds uses)) (if met then Some Processes else None) ≡ Some a
-    → records_wait a ≡ true → A
+    → act_where h v c (Some (Read ts of txn attempt conds uses)) (if met then Some Processes else None) ≡ Some a → records_wait a ≡ true → A
 unfolding records_wait
 waited_not h v c ts of txn attempt conds uses true a e w = not_a_wait _ a e refl w
 waited_not h v c ts of txn attempt conds uses false a e w = cc
 
-head_wait : (s : Setting) (log : Log) (c : ℕ) (b : Bool) (m : Msg) (a : Act) → IsClassHere s c → waits c log ≡ b
-    → head (pipe c log) ≡ Some m
-    → act_where (home_of s) (view_of s log) c (Some m) (step_on (view_of s log) c b (Some m)) ≡ Some a
-    → records_wait a ≡ true → IsWaitOf s log c a
+head_wait : (s : Setting) (log : Log) (c : ℕ) (b : Bool) (m : Msg) (a : Act) → IsClassHere s c → waits c log ≡ b → head (pipe c log) ≡ Some m
+    → act_where (home_of s) (view_of s log) c (Some m) (step_on (view_of s log) c b (Some m)) ≡ Some a → records_wait a ≡ true → IsWaitOf s log c a
 unfolding records_wait
 head_wait s log c true (Null of time) a l n h e w = not_a_wait _ a e refl w
 head_wait s log c false (Null of time) a l n h e w = not_a_wait _ a e refl w
@@ -72,16 +66,13 @@ head_wait s log c false (Read ts of txn attempt conds uses) a l n h e w =
 head_wait s log c _ _ a l n h e w = cc
 
 at_head : (s : Setting) (log : Log) (c : ℕ) (o : Option Msg) (a : Act) → IsClassHere s c → head (pipe c log) ≡ o
-    → act_where (home_of s) (view_of s log) c o (step_on (view_of s log) c (waits c log) o) ≡ Some a
-    → records_wait a ≡ true → IsWaitOf s log c a
+    → act_where (home_of s) (view_of s log) c o (step_on (view_of s log) c (waits c log) o) ≡ Some a → records_wait a ≡ true → IsWaitOf s log c a
 at_head s log c None a l h e w = cc
 at_head s log c (Some m) a l h e w = head_wait s log c (waits c log) m a l refl h e w
 
 -- of some class
-due_wait : (s : Setting) (log : Log) (a : Act) → IsDue (home_of s) (view_of s log) a → records_wait a ≡ true
-    → (c : ℕ) × IsWaitOf s log c a
-due_wait s log a (by_open n k p e) w =
-    asked_not (home_of s) k (head_of (filter (is_asked_of k.class) (view_of s log).opens)) a e w
+due_wait : (s : Setting) (log : Log) (a : Act) → IsDue (home_of s) (view_of s log) a → records_wait a ≡ true → (c : ℕ) × IsWaitOf s log c a
+due_wait s log a (by_open n k p e) w = asked_not (home_of s) k (head_of (filter (is_asked_of k.class) (view_of s log).opens)) a e w
 due_wait s log a (by_head n k p e) w =
     let r = class_at_place s log n k p in
     (r.0, at_head s log r.0 (head (pipe r.0 log)) a r.1 refl (subst (λ x. head_due (home_of s) (view_of s log) x ≡ Some a) (sym r.2) e) w)
@@ -109,8 +100,7 @@ handed_same true p m x e = kept_head p.unprocessed m x e
 handed_same false p m x e = refl
 
 since_on : (s : Setting) (c : ℕ) (e : Entry) (log : Log) → (pipe c (e ∷ log)).processed ≡ (pipe c log).processed
-    → ((m : Msg) → head (pipe c log) ≡ Some m → head (pipe c (e ∷ log)) ≡ head (pipe c log)) → WaitsSince s c log
-    → WaitsSince s c (e ∷ log)
+    → ((m : Msg) → head (pipe c log) ≡ Some m → head (pipe c (e ∷ log)) ≡ head (pipe c log)) → WaitsSince s c log → WaitsSince s c (e ∷ log)
 since_on s c e log p q i =
     let h : head (pipe c log) ≡ Some (Read i.wait.ts i.wait.of i.wait.txn i.wait.attempt i.wait.conds i.wait.uses) = i.same_head ∙ i.wait.head_is in
     record { later = e ∷ i.later; act = i.act; before = i.before; is = ap (λ l. e ∷ l) i.is; wait = i.wait; same_processed = p ∙ i.same_processed; same_head = q _ h ∙ i.same_head }
@@ -123,8 +113,7 @@ record_on s c k r sends log n i =
 
 own_on : (s : Setting) (c : ℕ) (r : Rec) (sends : List (Site × Msg)) (log : Log) (x y : Bool) → is_processing r ≡ x
     → is_wait r ≡ y → IsDue (home_of s) (view_of s log) (Records c r sends)
-    → (if x then false else (y || waits c log)) ≡ true → (waits c log ≡ true → WaitsSince s c log)
-    → WaitsSince s c (Did (Records c r sends) ∷ log)
+    → (if x then false else (y || waits c log)) ≡ true → (waits c log ≡ true → WaitsSince s c log) → WaitsSince s c (Did (Records c r sends) ∷ log)
 own_on s c r sends log true y p q d w i = cc
 own_on s c r sends log false true p q d w i =
     let same : pipe c (Did (Records c r sends) ∷ log) ≡ pipe c log = (not_own c c r sends log (inr p)).pipe_same in

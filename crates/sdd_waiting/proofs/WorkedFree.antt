@@ -53,8 +53,7 @@ only_edge k a b (inl e) = first_edge k a b e
 only_edge k a b (inr e) = first_edge k b a e
 
 no_simple_cycle : (start : ℕ) (steps : List Step) → IsSimpleCycle one_edge start steps → ⊥
-no_simple_cycle start (s ∷ t ∷ steps) c =
-    c.edges_differ.0 (inl (only_edge t.edge s.to t.to c.closed.1.0 ∙ sym (only_edge s.edge start s.to c.closed.0)))
+no_simple_cycle start (s ∷ t ∷ steps) c = c.edges_differ.0 (inl (only_edge t.edge s.to t.to c.closed.1.0 ∙ sym (only_edge s.edge start s.to c.closed.0)))
 no_simple_cycle start _ c = let l = c.long in omega arith
 
 no_cycle : (k : ℕ) → OnACycle one_edge k → ⊥
@@ -94,8 +93,7 @@ free txn = record {
   free = λ k f e. the_force (λ x. IsFree x.catalogue 1) k f e free_alone;
 }
 
-ends : (txn : Txn) (log : Log) → log ≡ extended 7 (given_by txn) [] → EndsAnEvent (given_by txn) (extended 7 (given_by txn) [])
-    → EndsAnEvent (given_by txn) log
+ends : (txn : Txn) (log : Log) → log ≡ extended 7 (given_by txn) [] → EndsAnEvent (given_by txn) (extended 7 (given_by txn) []) → EndsAnEvent (given_by txn) log
 ends txn log e h = subst (EndsAnEvent (given_by txn)) (sym e) h
 
 -- the query

@@ -37,5 +37,4 @@ both_stamped r (inr e) = subst IsStamped (sym e) (record { least = omega arith; 
 pub each_on_other : (r : WaitingRead) → Either r → WaitsOn graph Either r
 each_on_other r (inl e) =
     subst (WaitsOn graph Either) (sym e) (holder 0 (diagonal 1 2 0) refl refl last (inr refl) 1 _ refl refl refl 65 write (omega arith) (omega arith))
-each_on_other r (inr e) =
-    subst (WaitsOn graph Either) (sym e) (reader 2 (diagonal 3 1 2) refl refl first (inl refl) refl (omega arith))
+each_on_other r (inr e) = subst (WaitsOn graph Either) (sym e) (reader 2 (diagonal 3 1 2) refl refl first (inl refl) refl (omega arith))
