@@ -1,5 +1,5 @@
 -- A data module has less left to do after each act.
-use Rattle.sdd_termination.proofs.All.{Act, Answer, Apply, Arrive, Ask, Bool, Change, ClassNo, ClassView, Cond, Did, DmNo, Done, Fetch, Held, Hold, Home, IsDue, List, Msg, None, Null, Open, Option, Pass, Processes, Read, Ready, Rec, Records, Reduce, Reduced, Refuses, Reject, Rejected, Release, Rows, Sends, Setting, Ship, Site, Some, Step, Ts, TxnNo, Use, Values, View, Wait, Waits, Write, [], act_by, act_where, answer_of, answer_to, answers_hand, ap, arith, both, by_head, by_open, class_view, classes_of, false, filter, head, head_due, head_of, head_processed, home_of, if◌then◌else◌, in_filtered, in_mapped, is_asked_of, is_held, is_met, is_processing, is_read_of, is_wait, judge, length, list_all, not, opens, pipe, refl, same_Some, same_number, sends_of_act, slice_get, step_on, subst, suc, sym, tail_of, true, view_of, waits, ℕ, ◌&&◌, ◌+◌, ◌<◌, ◌==◌, ◌||◌, ◌∙◌, ◌∷◌, ◌≡◌, ◌≤◌}
+use Rattle.sdd_termination.proofs.All.{Act, Answer, Apply, Arrive, Bool, Change, ClassNo, ClassView, Cond, Did, DmNo, Fetch, Home, IsDue, List, Msg, None, Null, Open, Option, Pass, Processes, Read, Rec, Records, Reduce, Refuses, Rejected, Sends, Setting, Ship, Site, Some, Step, Ts, TxnNo, Use, View, Wait, Waits, Write, [], act_by, act_where, answer_of, answer_to, answers_hand, ap, arith, both, by_head, by_open, class_view, classes_of, false, filter, head, head_due, head_of, head_processed, home_of, if◌then◌else◌, in_filtered, in_mapped, is_asked_of, is_held, is_met, is_processing, is_read_of, is_wait, judge, length, list_all, not, opens, pipe, refl, same_Some, same_number, sends_of_act, slice_get, step_on, subst, suc, sym, tail_of, true, view_of, waits, ℕ, ◌&&◌, ◌+◌, ◌<◌, ◌==◌, ◌||◌, ◌∙◌, ◌∷◌, ◌≡◌, ◌≤◌}
 use Rattle.sdd_termination.proofs.Sums.{by_class, filter_shorter, total, total_less, total_up}
 use Rattle.sdd_invariants.specs.site_module.SiteLog.{Log}
 
@@ -115,8 +115,7 @@ module _ (s : Setting) (log : Log) where
   head_falls h v c n w (Some (Null class time)) act at top is e =
       subst (λ x. d_work s (Did x ∷ log) < d_work s log) (same_Some (act_by h v c (Null class time) Processes) act e)
       (processing c n (Pass class h.dm time) [] (Null class time) at top refl refl)
-  head_falls h v c n w (Some (Write ts class txn changes)) act at top is e =
-      applied_falls h v c n ts class txn changes (is_held v c ts.0 changes) act at top e
+  head_falls h v c n w (Some (Write ts class txn changes)) act at top is e = applied_falls h v c n ts class txn changes (is_held v c ts.0 changes) act at top e
   head_falls h v c n w (Some (Read ts class txn attempt conds uses)) act at top is e = read_falls h v c n ts class txn attempt conds uses w act at top is e
   head_falls h v c n w _ act at top is e = absurd (cc)
 

@@ -44,8 +44,7 @@ module _ (s : Setting) (bases : Bases) (log : Log) (fair : Each (IsFair s) log) 
       (by_class _ _ c own (λ k f. commit_other s bases c k log a f)) own in
       omega (arith, all))
 
-  sends_falls : (n c : ℕ) (a : Attempt) (ms : List (ℕ × Msg)) (act : Act) → slice_get (runs s) n ≡ Some c → active s c log ≡ Some a
-      → a.exchange.to_send ≡ ms
+  sends_falls : (n c : ℕ) (a : Attempt) (ms : List (ℕ × Msg)) (act : Act) → slice_get (runs s) n ≡ Some c → active s c log ≡ Some a → a.exchange.to_send ≡ ms
       → or_else (first_send ms) (if is_over a.exchange.phase then Some (commit_act s.catalogue bases c a) else None) ≡ Some act
       → t_work s (Did act ∷ log) < t_work s log
   sends_falls n c a [] act at is p e = over_falls n c a (is_over a.exchange.phase) act at is e
@@ -84,8 +83,7 @@ module _ (s : Setting) (bases : Bases) (log : Log) (fair : Each (IsFair s) log) 
   -- a HELD
 
   held_falls : (b : Bool) (t : ℕ) (act : Act) → (b ≡ true → (holds log).helds < (holds log).holds)
-      → (if b then Some (Sends U (Held (time_at t)) (Some (holds log).last)) else None) ≡ Some act
-      → t_work s (Did act ∷ log) < t_work s log
+      → (if b then Some (Sends U (Held (time_at t)) (Some (holds log).last)) else None) ≡ Some act → t_work s (Did act ∷ log) < t_work s log
   held_falls false t act more e = absurd (cc)
   held_falls true t act more e =
       let hand : Option ℕ = Some (holds log).last in
@@ -110,8 +108,7 @@ module _ (s : Setting) (bases : Bases) (log : Log) (fair : Each (IsFair s) log) 
       omega (arith, all))
 
   start_if_falls : (n c : ℕ) (b : Bool) (o : Option Attempt) (act : Act) → slice_get (runs s) n ≡ Some c → active s c log ≡ o
-      → (if b && is_none o then start_of s.catalogue (view_of s log) c (head_of (queue s c log)) else None) ≡ Some act
-      → t_work s (Did act ∷ log) < t_work s log
+      → (if b && is_none o then start_of s.catalogue (view_of s log) c (head_of (queue s c log)) else None) ≡ Some act → t_work s (Did act ∷ log) < t_work s log
   start_if_falls n c true None act at is e = start_at_falls n c (head_of (queue s c log)) act at is refl e
   start_if_falls n c _ _ act at is e = absurd (cc)
 

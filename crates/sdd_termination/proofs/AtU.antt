@@ -64,8 +64,7 @@ module _ (log : Log) (n t : ℕ) (g : TmCounts → TmCounts) (less : signs_left 
       let test : (t == (counts t log).tm) ≡ true = eq-eqb t (counts t log).tm (sym (counts_tm t log)) in
       rw test less
 
-  pub one_told : (ts : List ℕ) (k : ℕ) → slice_get ts k ≡ Some t
-      → total (λ u. signs_left n (told u)) ts < total (λ u. signs_left n (counts u log)) ts
+  pub one_told : (ts : List ℕ) (k : ℕ) → slice_get ts k ≡ Some t → total (λ u. signs_left n (told u)) ts < total (λ u. signs_left n (counts u log)) ts
   one_told ts k at = total_less (λ u. signs_left n (told u)) (λ u. signs_left n (counts u log)) ts k t at told_up told_less
 
 module _ (s : Setting) (bases : Bases) (log : Log) (fair : Each (IsFair s) log) (new : Each IsNew log) where
@@ -83,8 +82,7 @@ module _ (s : Setting) (bases : Bases) (log : Log) (fair : Each (IsFair s) log) 
       let short = committed_short a (queue s 0 log) (subst (λ o. IsServed o (queue s 0 log)) is served) in
       let fewer : txns_in s (Did (commit_act s.catalogue bases 0 a) ∷ log) ≤ txns_in s log = omega (arith, short) in
       let up = total_up (λ t. signs_left (txns_in s (Did (commit_act s.catalogue bases 0 a) ∷ log))
-      (counts t log)) (λ t. signs_left (txns_in s log) (counts t log)) (numbers_to s.catalogue.tms)
-      (λ t. signs_fewer _ _ (counts t log) fewer) in
+      (counts t log)) (λ t. signs_left (txns_in s log) (counts t log)) (numbers_to s.catalogue.tms) (λ t. signs_fewer _ _ (counts t log) fewer) in
       omega (arith, own, up))
 
   sends_falls : (a : Attempt) (ms : List (ℕ × Msg)) (act : Act) → active s 0 log ≡ Some a → a.exchange.to_send ≡ ms
@@ -111,8 +109,7 @@ module _ (s : Setting) (bases : Bases) (log : Log) (fair : Each (IsFair s) log) 
       let long = tried_long q.number (queue s 0 log) in
       let fewer : txns_in s (Did start ∷ log) ≤ txns_in s log = omega (arith, long) in
       let up = total_up (λ t. signs_left (txns_in s (Did start ∷ log)) (counts t log))
-      (λ t. signs_left (txns_in s log) (counts t log)) (numbers_to s.catalogue.tms)
-      (λ t. signs_fewer _ _ (counts t log) fewer) in
+      (λ t. signs_left (txns_in s log) (counts t log)) (numbers_to s.catalogue.tms) (λ t. signs_fewer _ _ (counts t log) fewer) in
       omega (arith, own, up))
   started_falls q _ _ act head z e = absurd (cc)
 

@@ -1,5 +1,5 @@
 -- A lawful log has no more rounds than marks, and one.
-use Rattle.sdd_termination.proofs.All.{Does, Event, Given, Hand, IsLawful, IsTheLog, IsWithin, List, Log, MAX_RUN_EVENTS, Mark, None, Notes, Redeclares, Round, Submitted, [], after_mark, ap, arith, complete_parts, left, length, ltb-false, mark_of, marks, refl, rounds, suc, ℕ, ◌+◌, ◌<◌, ◌^◌, ◌∷◌, ◌≡◌, ◌≤◌}
+use Rattle.sdd_termination.proofs.All.{Event, Given, IsLawful, IsTheLog, IsWithin, List, Log, MAX_RUN_EVENTS, Mark, None, Redeclares, Round, [], after_mark, ap, arith, complete_parts, left, length, ltb-false, mark_of, marks, refl, rounds, suc, ℕ, ◌+◌, ◌<◌, ◌^◌, ◌∷◌, ◌≡◌, ◌≤◌}
 use Rattle.sdd_termination.proofs.Beginning.{round_begins}
 
 -- a round in progress counts for one

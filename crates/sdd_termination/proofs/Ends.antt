@@ -9,8 +9,7 @@ module _ (g : Given) (once : AreSubmittedOnce g.events) where
   abbrev Sound : Log → Type 0
   Sound log = IsLawful g log × IsWithin log
 
-  by_entry : (log : Log) → Sound log → (o : Option Entry) → next g log ≡ o
-      → ((e : Entry) → Sound (e ∷ log) → Falls g (e ∷ log) log → Ends g) → Ends g
+  by_entry : (log : Log) → Sound log → (o : Option Entry) → next g log ≡ o → ((e : Entry) → Sound (e ∷ log) → Falls g (e ∷ log) log → Ends g) → Ends g
   by_entry log h None is f = (log, inl (record { lawful = h.0; within = h.1; complete = is }))
   by_entry log h (Some e) is f =
       elim (is_past log e) as (λ b. is_past log e ≡ b → Ends g) [

@@ -1,5 +1,5 @@
 -- Each entry of a log leaves less to come: of marks and rounds, else of messages to be handed over, else of acts.
-use Rattle.sdd_termination.proofs.All.{Act, Bool, Deliver, Does, Down, Entry, Event, Given, Hand, IsPermitted, List, Log, Lose, MAX_RUN_EVENTS, Mark, None, Notes, Option, Redeclare, Redeclares, Repeat, Resend, Round, Settle, Site, Some, Submit, Submitted, Tick, Up, [], all_links, ap, arith, calls_of, does_at, due_by, false, false≢true, found_at, hand_due, hand_on, is_past, left, length, ltb-false, mark_due, mark_from, mark_of, marks, next, next_at, note_if, one_of, quiet, refl, round, same_Some, site_due, sites, slice_get, subst, suc, sym, true, ℕ, ◌*◌, ◌+◌, ◌-◌, ◌<◌, ◌∷◌, ◌≡◌, ◌≤◌}
+use Rattle.sdd_termination.proofs.All.{Act, Bool, Deliver, Does, Down, Entry, Event, Given, IsPermitted, List, Log, Lose, MAX_RUN_EVENTS, Mark, None, Notes, Option, Redeclares, Repeat, Resend, Round, Settle, Site, Some, Submit, Up, [], all_links, ap, arith, calls_of, does_at, due_by, false, false≢true, found_at, hand_due, hand_on, is_past, left, length, ltb-false, mark_due, mark_from, mark_of, marks, next, next_at, note_if, one_of, quiet, refl, round, same_Some, site_due, sites, slice_get, subst, suc, sym, true, ℕ, ◌*◌, ◌+◌, ◌-◌, ◌<◌, ◌∷◌, ◌≡◌, ◌≤◌}
 use Rattle.sdd_termination.proofs.Beginning.{round_begins}
 use Rattle.sdd_termination.proofs.Marked.{is_of_events}
 use Rattle.sdd_termination.proofs.Sites.{act_hands, acts_left, does_falls, hand_falls, hands_left, is_hand_on}
@@ -50,12 +50,10 @@ by_act g log k at (Some act) e h there due is =
     subst (λ x. Falls g (x ∷ log) log) (same_Some (Does at act) e is)
     (in_acts (omega arith) (act_hands g log at act) (does_falls g log at act h due k there))
 
-by_hand : (g : Given) (log : Log) (k : ℕ) (l : Site × Site) (e : Entry) → slice_get (all_links g) k ≡ Some l → hand_on log l ≡ Some e
-    → Falls g (e ∷ log) log
+by_hand : (g : Given) (log : Log) (k : ℕ) (l : Site × Site) (e : Entry) → slice_get (all_links g) k ≡ Some l → hand_on log l ≡ Some e → Falls g (e ∷ log) log
 by_hand g log k (a, b) e there h =
     let i = is_hand_on log a b e h in
-    subst (λ x. Falls g (x ∷ log) log) (sym i.is)
-    (in_hands (omega arith) (hand_falls log a b i.number i.msg i.next i.there g k there))
+    subst (λ x. Falls g (x ∷ log) log) (sym i.is) (in_hands (omega arith) (hand_falls log a b i.number i.msg i.next i.there g k there))
 
 -- a mark, a round, a list of classes
 

@@ -21,13 +21,11 @@ sent_work c m (Some a) qs =
       | false ↦ omega arith
     ]
 
-pub send_up : (s : Setting) (c : ℕ) (log : Log) (to : Site) (m : Msg) (hand : Option ℕ)
-    → class_work s (Did (Sends to m hand) ∷ log) c ≤ class_work s log c
+pub send_up : (s : Setting) (c : ℕ) (log : Log) (to : Site) (m : Msg) (hand : Option ℕ) → class_work s (Did (Sends to m hand) ∷ log) c ≤ class_work s log c
 send_up s c log to m hand = sent_work c m (active s c log) (queue s c log)
 
 pub send_falls : (s : Setting) (c : ℕ) (log : Log) (a : Attempt) (act : Act) (to : Site) (m : Msg) (hand : Option ℕ)
-    → active s c log ≡ Some a → asks_rows a.ts c m ≡ true → send_due a.exchange ≡ Some act
-    → class_work s (Did (Sends to m hand) ∷ log) c < class_work s log c
+    → active s c log ≡ Some a → asks_rows a.ts c m ≡ true → send_due a.exchange ≡ Some act → class_work s (Did (Sends to m hand) ∷ log) c < class_work s log c
 send_falls s c log a act to m hand is asks due =
     subst (λ o. work_of (active_sent c m o) (queue s c log) < work_of o (queue s c log)) (sym is) (work_sent c m a act (queue s c log) asks due)
 
@@ -43,8 +41,7 @@ started_less n ts sends [] q e = absurd (cc)
 started_less n ts sends (x ∷ qs) q e = let l = tried_long n qs in omega arith
 
 pub start_falls : (s : Setting) (table : List line.Entry) (clock : Ticking) (c : ℕ) (log : Log) (q : Queued)
-    → active s c log ≡ None → head_of (queue s c log) ≡ Some q
-    → class_work s (Did (start_act s.catalogue table c clock q) ∷ log) c < class_work s log c
+    → active s c log ≡ None → head_of (queue s c log) ≡ Some q → class_work s (Did (start_act s.catalogue table c clock q) ∷ log) c < class_work s log c
 start_falls s table clock c log q idle head =
     let act : Act = start_act s.catalogue table c clock q in
     let ts : ℕ = timestamp (ticked clock 1) in
@@ -65,13 +62,11 @@ committed_short a (q ∷ qs) h =
     let i = filter_short (λ q. not (q.number == a.txn)) qs in
     rw e (omega (arith, i))
 
-committed_less : (a : Attempt) (qs : List Queued) → IsServed (Some a) qs
-    → work_of None (filter (λ q. not (q.number == a.txn)) qs) < work_of (Some a) qs
+committed_less : (a : Attempt) (qs : List Queued) → IsServed (Some a) qs → work_of None (filter (λ q. not (q.number == a.txn)) qs) < work_of (Some a) qs
 committed_less a [] h = absurd h
 committed_less a (q ∷ qs) h = let l = committed_short a (q ∷ qs) h in omega (arith, l)
 
-pub commit_falls : (s : Setting) (bases : Bases) (c : ℕ) (log : Log) (a : Attempt) → active s c log ≡ Some a
-    → IsServed (active s c log) (queue s c log)
+pub commit_falls : (s : Setting) (bases : Bases) (c : ℕ) (log : Log) (a : Attempt) → active s c log ≡ Some a → IsServed (active s c log) (queue s c log)
     → class_work s (Did (commit_act s.catalogue bases c a) ∷ log) c < class_work s log c
 commit_falls s bases c log a is served =
     let less = committed_less a (queue s c log) (subst (λ o. IsServed o (queue s c log)) is served) in

@@ -1,5 +1,5 @@
 -- Where a settle has ended the links are quiet.
-use Rattle.sdd_termination.proofs.All.{Bool, Deliver, Does, Down, Entry, Event, Given, Hand, IsLawful, List, Log, Lose, Mark, None, Notes, Redeclare, Redeclares, Repeat, Resend, Round, Settle, Some, Submit, Submitted, Tick, Up, [], after_mark, all_links, ap, calls_of, complete_parts, false, from_event, left, mark_from, mark_of, next, quiet, refl, round, subst, sym, tail_of, true, with_event, ℕ, ◌++◌, ◌∙◌, ◌∷◌, ◌≡◌}
+use Rattle.sdd_termination.proofs.All.{Bool, Deliver, Down, Entry, Event, Given, IsLawful, List, Log, Lose, Mark, None, Redeclare, Redeclares, Repeat, Resend, Round, Settle, Some, Submit, Tick, Up, [], after_mark, all_links, ap, calls_of, complete_parts, false, from_event, left, mark_from, mark_of, next, quiet, refl, round, subst, sym, tail_of, true, with_event, ℕ, ◌++◌, ◌∙◌, ◌∷◌, ◌≡◌}
 use Rattle.sdd_termination.proofs.Marked.{next_is_of_events}
 
 -- an event behind a settle
@@ -97,8 +97,7 @@ after_first ws t p = subst (λ xs. ends false (tail_of xs) ≡ true) (sym t.2) (
 
 mark_taken : (g : Given) (log : Log) (e : Event) (rest : List Event × List Event) → mark_of g log rest ≡ Some (Mark e) → ends false rest.0 ≡ true
     → ends false (after_mark rest).0 ≡ true
-mark_taken g log e (ws, []) h p =
-    after_first ws (first_taken g log (quiet (all_links g) (calls_of log)) (round (all_links g) (calls_of log)) ws (Mark e) h) p
+mark_taken g log e (ws, []) h p = after_first ws (first_taken g log (quiet (all_links g) (calls_of log)) (round (all_links g) (calls_of log)) ws (Mark e) h) p
 mark_taken g log e (ws, x ∷ events) h p = p
 
 redeclare_taken : (g : Given) (log : Log) (t : ℕ) (rest : List Event × List Event) → mark_of g log rest ≡ Some (Redeclares t) → ends false rest.0 ≡ true

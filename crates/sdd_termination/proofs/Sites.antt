@@ -1,5 +1,5 @@
 -- What all sites have left to do, and how many messages are left to be handed over.
-use Rattle.sdd_termination.proofs.All.{Act, Bool, D, Did, Does, Entry, Given, Hand, IsPermitted, Log, Msg, None, Option, Setting, Site, Some, T, U, all_links, all_new, and_left, and_right, ap, arith, base_of, calls_of, delivered, delivered_puts, false, hand_number, hand_on, hand_with, handed, if◌then◌else◌, inl, inr, link_of, local_of, message_at, next_at, next_number, number_is, refl, same_Some, same_here, same_is, same_site, sends_of_act, setting_of, sites, slice_get, subst, suc, sym, t_fair, takes_part, true, true_or_false, u_fair, ℕ, ◌&&◌, ◌-◌, ◌<◌, ◌∙◌, ◌∷◌, ◌≡◌, ◌≤◌}
+use Rattle.sdd_termination.proofs.All.{Act, Bool, D, Did, Does, Entry, Given, Hand, IsPermitted, Log, Msg, None, Option, Setting, Site, Some, T, U, all_links, all_new, and_left, and_right, ap, arith, base_of, calls_of, delivered, delivered_puts, hand_number, hand_on, hand_with, handed, if◌then◌else◌, inl, inr, link_of, local_of, message_at, next_at, next_number, number_is, refl, same_Some, same_here, same_is, same_site, sends_of_act, setting_of, sites, slice_get, subst, suc, sym, t_fair, takes_part, true, true_or_false, u_fair, ℕ, ◌&&◌, ◌-◌, ◌<◌, ◌∙◌, ◌∷◌, ◌≡◌, ◌≤◌}
 use Rattle.sdd_termination.proofs.AtD.{d_falls, d_work}
 use Rattle.sdd_termination.proofs.AtT.{t_falls, t_work}
 use Rattle.sdd_termination.proofs.AtU.{u_falls, u_work}
@@ -44,13 +44,11 @@ module _ (g : Given) (log : Log) (at : Site) (act : Act) (h : IsPermitted g log)
   none_rises : (x : Site) → work_at g (Does at act ∷ log) x ≤ work_at g log x
   none_rises x = elim (true_or_false (same_site x at)) [
     | inl e ↦ let l : work_at g (Does at act ∷ log) x < work_at g log x =
-        subst (λ y. work_at g (Does at act ∷ log) y < work_at g log y)
-        (sym (same_is x at e)) own_falls in omega (arith, l)
+        subst (λ y. work_at g (Does at act ∷ log) y < work_at g log y) (sym (same_is x at e)) own_falls in omega (arith, l)
     | inr e ↦ rw e (omega arith)
   ]
 
-  pub does_falls : (k : ℕ) → slice_get (sites g.catalogue.tms g.catalogue.dms) k ≡ Some at
-      → acts_left g (Does at act ∷ log) < acts_left g log
+  pub does_falls : (k : ℕ) → slice_get (sites g.catalogue.tms g.catalogue.dms) k ≡ Some at → acts_left g (Does at act ∷ log) < acts_left g log
   does_falls k there = total_less (work_at g (Does at act ∷ log)) (work_at g log) (sites g.catalogue.tms g.catalogue.dms) k at there none_rises own_falls
 
 -- messages that are delivered and not handed over
@@ -81,8 +79,7 @@ module _ (log : Log) (a b : Site) (n : ℕ) (m : Msg) (next : n ≡ suc (handed 
   none_more : (l : Site × Site) → hands_on (Hand a b n m ∷ log) l ≤ hands_on log l
   none_more (x, y) = elim (true_or_false (same_site x a && same_site y b)) [
     | inl e ↦ let l : hands_on (Hand a b n m ∷ log) (x, y) < hands_on log (x, y) =
-        subst (λ z. hands_on (Hand a b n m ∷ log) z < hands_on log z) (same_link x y e) one_less in omega
-        (arith, l)
+        subst (λ z. hands_on (Hand a b n m ∷ log) z < hands_on log z) (same_link x y e) one_less in omega (arith, l)
     | inr e ↦ rw e (omega arith)
   ]
 
@@ -101,11 +98,9 @@ pub record IsHandOn (log : Log) (a b : Site) (e : Entry) : Type 0 where
 message_on : (log : Log) (a b : Site) (n : ℕ) (o : Option Msg) (e : Entry) → n ≡ suc (handed a b log)
     → n ≤ delivered (link_of a b log).there → hand_with (a, b) n o ≡ Some e → IsHandOn log a b e
 message_on log a b n None e next there h = absurd (cc)
-message_on log a b n (Some m) e next there h =
-    record { number = n; msg = m; is = sym (same_Some (Hand a b n m) e h); next = next; there = there }
+message_on log a b n (Some m) e next there h = record { number = n; msg = m; is = sym (same_Some (Hand a b n m) e h); next = next; there = there }
 
-number_on : (log : Log) (a b : Site) (c : Bool) (o : Option ℕ) (e : Entry)
-    → next_number (handed a b log) (delivered (link_of a b log).there) ≡ o
+number_on : (log : Log) (a b : Site) (c : Bool) (o : Option ℕ) (e : Entry) → next_number (handed a b log) (delivered (link_of a b log).there) ≡ o
     → (if c then hand_number log (a, b) o else None) ≡ Some e → IsHandOn log a b e
 number_on log a b true (Some n) e is h =
     let k = number_is (handed a b log) (delivered (link_of a b log).there) n is in

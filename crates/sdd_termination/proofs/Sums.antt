@@ -33,8 +33,7 @@ by_class f g k l h c = elim (same_or_not k c) [
 ]
 
 -- a member that doesn't pass is left out
-pub filter_shorter : {A : Type 0} (p : A → Bool) (xs : List A) (k : ℕ) (x : A) → slice_get xs k ≡ Some x → p x ≡ false
-    → length (filter p xs) < length xs
+pub filter_shorter : {A : Type 0} (p : A → Bool) (xs : List A) (k : ℕ) (x : A) → slice_get xs k ≡ Some x → p x ≡ false → length (filter p xs) < length xs
 filter_shorter p [] k x e f = absurd (cc)
 filter_shorter p (y ∷ xs) zero x e f =
     let i = filter_short p xs in
