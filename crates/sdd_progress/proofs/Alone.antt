@@ -12,8 +12,7 @@ not_again g d log a ts k txn n conds uses before h e p w served same own =
     let whole : log ≡ (p.0 ++ w.later) ++ Does (D d) answer ∷ w.before = p.1 ∙ ap (λ l. p.0 ++ l) w.is
     ∙ sym (append_assoc p.0 w.later (Does (D d) answer ∷ w.before)) in
     answered_there g 0 d (p.0 ++ w.later) w.before (home_of (setting_of g (D d))).dm w.sends w.ts ts w.of k
-    w.txn w.txn txn w.attempt w.attempt n w.conds conds w.uses uses (subst (IsPermitted g) whole h)
-    (omega arith)
+    w.txn w.txn txn w.attempt w.attempt n w.conds conds w.uses uses (subst (IsPermitted g) whole h) (omega arith)
     w.head_is (subst (λ l. head (pipe_at g 0 d l) ≡ Some (Read ts k txn n conds uses)) whole e) (w.ts_is ∙ same ∙ sym own)
 
 -- where a declared transaction starts after the undeclared one was served

@@ -9,8 +9,7 @@ pub pipe_has_all : (g : Given) (log : Log) (c d : ℕ) → IsQuiet g log → IsS
 pipe_has_all g log c d h sound l m =
     pipe_is g c (dm_no d) log h.permitted
     ∙ ap (class_in c) (take_all (handed (home g.catalogue c) (D (dm_no d)) log)
-    (puts_to (D (dm_no d)) (at_home g c log)) (none_left g log (home g.catalogue c) (D (dm_no d)) h
-    (home_linked g.catalogue c d sound l m).0))
+    (puts_to (D (dm_no d)) (at_home g c log)) (none_left g log (home g.catalogue c) (D (dm_no d)) h (home_linked g.catalogue c d sound l m).0))
 
 pub all_applied : (g : Given) (log : Log) (c d : ℕ) (later before : Log) (bases : Bases) (a : Attempt)
     → IsQuiet g log → IsSound g.catalogue → IsClass g.catalogue c → IsModule g.catalogue d
@@ -25,6 +24,5 @@ all_applied g log c d later before bases a h sound l m none is touches =
     ∙ ap (λ ms. p.processed ++ ms) none ∙ append-nil p.processed in
     let processed : slice_get p.processed put.0 ≡ Some w = subst (λ ms. slice_get ms put.0 ≡ Some w) all there in
     let z = zip_at IsOf (results c (at_module g d log)) p.processed put.0 w
-    (matched (setting_of g (D (dm_no d))) c (at_module g d log)
-    (d_fair g (dm_no d) log h.permitted)).matched processed in
+    (matched (setting_of g (D (dm_no d))) c (at_module g d log) (d_fair g (dm_no d) log h.permitted)).matched processed in
     record { place = put.0; rec = z.0; there = z.1; is = z.2 }

@@ -42,16 +42,14 @@ pub record IsCommitter (n count : ℕ) (h : History) (q place : ℕ) : Type 0 wh
 abbrev Commits : ℕ → ℕ → History → ℕ → Type 0
 Commits n count h q = (place : ℕ) × IsCommitter n count h q place
 
-commit_later : (e : ℕ × Rec) (h : History) (q number place : ℕ) → HasCommit h q number place
-    → HasCommit (e ∷ h) q number (suc place)
+commit_later : (e : ℕ × Rec) (h : History) (q number place : ℕ) → HasCommit h q number place → HasCommit (e ∷ h) q number (suc place)
 commit_later e h q number place m = record { reply = m.reply; changes = m.changes; values = m.values; rows = m.rows; stands = m.stands }
 
 commits_later : (n count : ℕ) (e : ℕ × Rec) (h : History) (q : ℕ) → Commits n count h q → Commits n count (e ∷ h) q
 commits_later n count e h q c =
     (suc c.0, record { other = c.1.other; from = c.1.from; to = c.1.to; number = c.1.number; commit = commit_later e h q c.1.number c.0 c.1.commit })
 
-commits_here : (n count : ℕ) (e : ℕ × Rec) (h : History) (q : ℕ) → NamesOneOf count e.1 → committer n e.1 ≡ Some q
-    → IsCommitter n count (e ∷ h) q 0
+commits_here : (n count : ℕ) (e : ℕ × Rec) (h : History) (q : ℕ) → NamesOneOf count e.1 → committer n e.1 ≡ Some q → IsCommitter n count (e ∷ h) q 0
 unfolding committer
 commits_here n count (k, Commit txn attempt reply changes values rows) h q named e =
     elim (txn.0 == n) as (λ b. (txn.0 == n) ≡ b → cond b None (Some txn.0) ≡ Some q
@@ -83,10 +81,8 @@ unfolding IsDistinct
 no_committers n count = record { differ = tt; each = tt }
 
 with_committer : (n count : ℕ) (e : ℕ × Rec) (h : History) (o : Option ℕ) (qs : List ℕ) → OneCommit (e ∷ h)
-    → ((q : ℕ) → o ≡ Some q → IsCommitter n count (e ∷ h) q 0) → AreCommitters n count h qs
-    → AreCommitters n count (e ∷ h) (cons_option o qs)
-with_committer n count e h None qs one here rest =
-    record { differ = rest.differ; each = each_weaker (λ q c. commits_later n count e h q c) qs rest.each }
+    → ((q : ℕ) → o ≡ Some q → IsCommitter n count (e ∷ h) q 0) → AreCommitters n count h qs → AreCommitters n count (e ∷ h) (cons_option o qs)
+with_committer n count e h None qs one here rest = record { differ = rest.differ; each = each_weaker (λ q c. commits_later n count e h q c) qs rest.each }
 with_committer n count e h (Some q) qs one here rest =
     let first = here q refl in
     let later = each_weaker (λ z c. commits_later n count e h z c) qs rest.each in
@@ -99,8 +95,7 @@ with_committer n count e h (Some q) qs one here rest =
     record { differ = IsDistinct-cons eqb q qs (each_weaker apart qs rest.each) rest.differ; each = ((0, first), later) }
 
 one_later : (e : ℕ × Rec) (h : History) → OneCommit (e ∷ h) → OneCommit h
-one_later e h one n i j k l a b =
-    let same = one n i j (suc k) (suc l) (commit_later e h n i k a) (commit_later e h n j l b) in omega arith
+one_later e h one n i j k l a b = let same = one n i j (suc k) (suc l) (commit_later e h n i k a) (commit_later e h n j l b) in omega arith
 
 all_committers : (n count : ℕ) (h : History) → OneCommit h → TxnsExist count h → AreCommitters n count h (committers n h)
 unfolding committers
@@ -111,8 +106,7 @@ all_committers n count (e ∷ h) one exist =
     (all_committers n count h (one_later e h one) (All-tail (λ d. NamesOneOf count d.1) e h exist))
 
 -- with 0 and n itself they are different numbers up to the count
-pub commits_few : (n count : ℕ) (h : History) → OneCommit h → TxnsExist count h → 1 ≤ n → n ≤ count
-    → suc (commits_of_others h n) ≤ count
+pub commits_few : (n count : ℕ) (h : History) → OneCommit h → TxnsExist count h → 1 ≤ n → n ≤ count → suc (commits_of_others h n) ≤ count
 commits_few n count h one exist low high =
     let all = all_committers n count h one exist in
     let qs = committers n h in
@@ -183,8 +177,7 @@ none_to_zero count ((k, Answer txn attempt dm) ∷ h) exist = none_to_zero count
 none_to_zero count ((k, Reject txn attempt dm class ts) ∷ h) exist =
     none_to_zero count h (All-tail (λ d. NamesOneOf count d.1) (k, Reject txn attempt dm class ts) h exist)
 none_to_zero count ((k, Commit txn attempt reply changes values rows) ∷ h) exist =
-    none_to_zero count h (All-tail (λ d. NamesOneOf count d.1)
-    (k, Commit txn attempt reply changes values rows) h exist)
+    none_to_zero count h (All-tail (λ d. NamesOneOf count d.1) (k, Commit txn attempt reply changes values rows) h exist)
 none_to_zero count ((k, Apply txn class dm ts) ∷ h) exist = none_to_zero count h (All-tail (λ d. NamesOneOf count d.1) (k, Apply txn class dm ts) h exist)
 none_to_zero count ((k, Pass class dm time) ∷ h) exist = none_to_zero count h (All-tail (λ d. NamesOneOf count d.1) (k, Pass class dm time) h exist)
 none_to_zero count ((k, Nothing) ∷ h) exist = none_to_zero count h (All-tail (λ d. NamesOneOf count d.1) (k, Nothing) h exist)
@@ -213,8 +206,7 @@ all_to_count count k ((i, Reject txn attempt dm class ts) ∷ h) exist =
     all_to_count count (suc k) h (All-tail (λ d. NamesOneOf count d.1) (i, Reject txn attempt dm class ts) h
     exist)
 all_to_count count k ((i, Commit txn attempt reply changes values rows) ∷ h) exist =
-    all_to_count count (suc k) h (All-tail (λ d. NamesOneOf count d.1)
-    (i, Commit txn attempt reply changes values rows) h exist)
+    all_to_count count (suc k) h (All-tail (λ d. NamesOneOf count d.1) (i, Commit txn attempt reply changes values rows) h exist)
 all_to_count count k ((i, Apply txn class dm ts) ∷ h) exist =
     all_to_count count (suc k) h (All-tail (λ d. NamesOneOf count d.1) (i, Apply txn class dm ts) h exist)
 all_to_count count k ((i, Pass class dm time) ∷ h) exist = all_to_count count (suc k) h (All-tail (λ d. NamesOneOf count d.1) (i, Pass class dm time) h exist)

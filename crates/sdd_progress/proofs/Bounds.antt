@@ -26,8 +26,7 @@ pub max_ge : (a b : ℕ) → b ≤ max a b
 max_ge a b = omega arith
 
 pub rise_by : (tb tm gb u ub ts nx us ny : ℕ) → tb + 1 ≤ tm → ts ≡ (tb + 1) * 64 + nx → nx ≤ 16 → tm * 64 + 63 ≤ gb → gb / 64 ≤ u → u ≤ ub
-    → us ≡ (ub + 1) * 64 + ny
-    → ts < us
+    → us ≡ (ub + 1) * 64 + ny → ts < us
 rise_by tb tm gb u ub ts nx us ny a b c d e f g = omega (arith, a, b, c, d, e, f, g)
 
 -- a declared class is run at a module that is there

@@ -99,8 +99,7 @@ submitted_at_home g log h lists numbered n k submitted =
     let c : ℕ = class_for era t.text in
     let at : s.at ≡ home g.catalogue c =
     x.at_is ∙ ap (home_of (force_at g (redeclares x.earlier)).catalogue) t.is
-    ∙ ap (λ i. home_of (force_at g i).catalogue (Some t.text)) (sym (ap redeclares x.is))
-    ∙ home_is g.catalogue era of t.text c refl in
+    ∙ ap (λ i. home_of (force_at g i).catalogue (Some t.text)) (sym (ap redeclares x.is)) ∙ home_is g.catalogue era of t.text c refl in
     let is : log ≡ s.later ++ Submitted (home g.catalogue c) n ∷ s.rest = s.is ∙ ap (λ a. s.later ++ Submitted a n ∷ s.rest) at in
     let m = submit_local g c n t.text s.later s.rest t.is in
     let local : at_home g c log ≡ m.0 ++ Submits n t.text ∷ at_home g c s.rest = ap (at_home g c) is ∙ m.1 in
@@ -131,8 +130,7 @@ all_committed g log h lists numbered done n k submitted =
 some_kept : {A B : Type 0} (f : A → Option B) (xs : List A) (i : ℕ) (x : A) (y : B) → slice_get xs i ≡ Some x → f x ≡ Some y
     → (j : ℕ) × (slice_get (filter_map f xs) j ≡ Some y)
 some_kept f [] i x y h e = cc
-some_kept f (z ∷ xs) zero x y h e =
-    let q : z ≡ x = cc in let r : f z ≡ Some y = subst (λ w. f w ≡ Some y) (sym q) e in (0, rw r refl)
+some_kept f (z ∷ xs) zero x y h e = let q : z ≡ x = cc in let r : f z ≡ Some y = subst (λ w. f w ≡ Some y) (sym q) e in (0, rw r refl)
 some_kept f (z ∷ xs) (suc i) x y h e =
     let r = some_kept f xs i x y h e in
     elim (f z) as (λ o. (j : ℕ) × (slice_get (cons_option o (filter_map f xs)) j ≡ Some y)) [ None ↦ r | Some w ↦ (suc r.0, r.1) ]
@@ -177,8 +175,7 @@ committed_or_queued g log permitted lists numbered n k submitted =
 
 any_at : (p : ℕ × Rec → Bool) (h : History) (k : ℕ) (r : Rec) → ((event : ℕ) → p (event, r) ≡ true) → Stands h k r → list_any p h ≡ true
 any_at p [] k r f e = cc
-any_at p ((event, x) ∷ h) zero r f e =
-    let q : x ≡ r = cc in or_left (p (event, x)) (list_any p h) (subst (λ y. p (event, y) ≡ true) (sym q) (f event))
+any_at p ((event, x) ∷ h) zero r f e = let q : x ≡ r = cc in or_left (p (event, x)) (list_any p h) (subst (λ y. p (event, y) ≡ true) (sym q) (f event))
 any_at p (x ∷ h) (suc k) r f e = or_right (p x) (list_any p h) (any_at p h k r f e)
 
 -- a test that each Commit of a committed transaction passes

@@ -25,5 +25,4 @@ pub serial_copies : (g : Given) (rows : List (RelNo × Row)) (log : Log) (order 
     (contents f (dated (setting_of g (D (dm_no d))) (local_of g (D (dm_no d)) log)))
 serial_copies g rows log order f d sound h lists idle fine serial copied =
     copies g rows (eras_of g log) log order sound fine h.permitted (are_eras_of g log lists) serial f d (length (history log))
-    (applied_at_copies g log f d sound h lists idle copied)
-    ∙ ap (items_of g.catalogue f) (sym (own_copy g rows log f d sound h lists fine copied))
+    (applied_at_copies g log f d sound h lists idle copied) ∙ ap (items_of g.catalogue f) (sym (own_copy g rows log f d sound h lists fine copied))

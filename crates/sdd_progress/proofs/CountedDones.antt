@@ -111,12 +111,10 @@ counted_start s log q h =
     let l = h.low in
     let b = bound_below_next s log in
     same_counts s (Did (start_at s 0 log q)) log refl (λ x. refl) (λ a p. started_above (next_stamp s log)
-    (last_served s log).ts (sends_of_act (start_at s 0 log q)) (head_of (queue s 0 log)) a
-    (omega (arith, l, b)) p) h
+    (last_served s log).ts (sends_of_act (start_at s 0 log q)) (head_of (queue s 0 log)) a (omega (arith, l, b)) p) h
 
 counted_commit : (s : Setting) (log : Log) (bases : Bases) (a : Attempt) → number_of s.site ≤ 63
-    → Each (IsFair s) log → active s 0 log ≡ Some a → IsCountedOff s log
-    → IsCountedOff s (Did (commit_act s.catalogue bases 0 a) ∷ log)
+    → Each (IsFair s) log → active s 0 log ≡ Some a → IsCountedOff s log → IsCountedOff s (Did (commit_act s.catalogue bases 0 a) ∷ log)
 counted_commit s log bases a small fair e h =
     let act : Act = commit_act s.catalogue bases 0 a in
     let ts : (last_served s (Did act ∷ log)).ts ≡ a.ts = ap (λ o. ts_of o) e in
@@ -136,9 +134,7 @@ counted_commit s log bases a small fair e h =
 counted_act : (s : Setting) (log : Log) (act : Act) → number_of s.site ≤ 63 → Each (IsFair s) log
     → IsStepU s log act → IsCountedOff s log → IsCountedOff s (Did act ∷ log)
 counted_act s log act small fair step h =
-    u_way s log act (λ x. IsCountedOff s (Did x ∷ log))
-    (λ q i z r. counted_start s log q h)
-    (λ bases a i. counted_commit s log bases a small fair i h)
+    u_way s log act (λ x. IsCountedOff s (Did x ∷ log)) (λ q i z r. counted_start s log q h) (λ bases a i. counted_commit s log bases a small fair i h)
     (λ d m a i. same_counts s (Did (Sends (D (dm_no d)) m None)) log refl (λ x. refl)
     (λ b p. above_same s log (active s 0 log) b h (sent_ts 0 m (active s 0 log) b p)) h)
     (λ t ts i p. same_counts s (Did (Sends (T (tm_no t)) (Release ts) None)) log refl (λ x. refl)

@@ -1,6 +1,6 @@
 -- Where nothing goes on and all WRITEs are applied, the module for undeclared transactions has counted the DONE of each data
 -- module for its last Commit.
-use Rattle.sdd_progress.proofs.All.{Act, Apply, Attempt, Bases, Bool, ClassNo, D, Did, DmNo, Does, Done, Each, Given, Handed, HasResult, IsDataStep, IsDueEach, IsIdle, IsModule, IsOfWrite, IsQuiet, IsSound, List, Log, Msg, Rec, Records, Redeclared, Setting, Site, Some, Submits, T, Ticked, Ts, TxnNo, U, [], answers_read, ap, applies, arith, arrives, at_module, commit_act, d_fair, data_step, dm_no, done_for, dones_few, dones_of, each_at, false, hands_from, if◌then◌else◌, inl, inr, is_done_of, is_put, last_served, local_of, number_of, numbers_to, one_if, passes, puts_to, refl, refuses_read, replies, result_in, same_number, same_or_not, same_site, sends_of_act, setting_of, slice_get, subst, suc, sym, tally, tally_append, time_at, to_site, true, u_fair, u_table, waits_for, zero, ℕ, ◌++◌, ◌+◌, ◌<◌, ◌==◌, ◌∙◌, ◌∷◌, ◌≡◌, ◌≤◌}
+use Rattle.sdd_progress.proofs.All.{Act, Apply, Attempt, Bases, Bool, ClassNo, D, Did, DmNo, Does, Done, Each, Given, Handed, HasResult, IsDataStep, IsDueEach, IsIdle, IsModule, IsOfWrite, IsQuiet, IsSound, List, Log, Msg, Rec, Records, Setting, Site, Some, Ts, TxnNo, U, [], answers_read, ap, applies, arith, arrives, at_module, commit_act, d_fair, data_step, dm_no, done_for, dones_few, dones_of, each_at, false, hands_from, if◌then◌else◌, inl, inr, is_done_of, is_put, last_served, local_of, number_of, numbers_to, one_if, passes, puts_to, refl, refuses_read, replies, result_in, same_number, same_or_not, same_site, sends_of_act, setting_of, slice_get, subst, suc, sym, tally, tally_append, time_at, to_site, true, u_fair, u_table, waits_for, zero, ℕ, ◌++◌, ◌+◌, ◌<◌, ◌==◌, ◌∙◌, ◌∷◌, ◌≡◌, ◌≤◌}
 use Rattle.sdd_progress.proofs.Applied.{all_applied}
 use Rattle.sdd_progress.proofs.CountedDones.{all_current, counted_off}
 use Rattle.sdd_progress.proofs.Handed.{all_handed}
@@ -21,8 +21,7 @@ above_not d e l = elim (same_or_not d e) [ inl p ↦ absurd (omega (arith, l, p)
 
 sum_same : (f h : ℕ → ℕ) (n a : ℕ) → ((d : ℕ) → a ≤ d → h d ≡ f d) → sum_from h n a ≡ sum_from f n a
 sum_same f h zero a e = refl
-sum_same f h (suc n) a e =
-    let i = sum_same f h n (a + 1) (λ d l. e d (omega (arith, l))) in let j = e a (omega arith) in omega (arith, i, j)
+sum_same f h (suc n) a e = let i = sum_same f h n (a + 1) (λ d l. e d (omega (arith, l))) in let j = e a (omega arith) in omega (arith, i, j)
 
 sum_one_more : (f h : ℕ → ℕ) (e more n a : ℕ) → ((d : ℕ) → (d == e) ≡ false → h d ≡ f d) → h e ≤ f e + more → sum_from h n a ≤ sum_from f n a + more
 sum_one_more f h e more zero a same up = omega arith
@@ -93,8 +92,7 @@ done_put g log d n ts (Apply txn j dm t) h of x =
     let act : Act = Records 0 (Apply txn j dm t) x.sends in
     let due = (each_at (IsDueEach s) x.later (Did act) x.before (subst (Each (IsDueEach s)) x.is (d_fair g (dm_no d) log h.permitted))).0 in
     let sends : x.sends ≡ (U, Done (time_at ts)) ∷ [] =
-    sends_done s x.before t j txn dm x.sends (data_step s x.before act due)
-    ∙ ap (λ y. (U, Done y) ∷ []) of.1 in
+    sends_done s x.before t j txn dm x.sends (data_step s x.before act due) ∙ ap (λ y. (U, Done y) ∷ []) of.1 in
     let one : slice_get (to_site U (sends_of_act act)) 0 ≡ Some (Done (time_at ts)) = ap (λ y. slice_get (to_site U y) 0) sends in
     let p = is_put U x.later act x.before 0 (Done (time_at ts)) one in
     (p.0, subst (λ l. slice_get (puts_to U l) p.0 ≡ Some (Done (time_at ts))) (sym x.is) p.1)

@@ -1,10 +1,9 @@
 -- The eras of a log that puts several lists of classes in force.
-use Rattle.sdd_progress.proofs.All.{AreErasOf, Catalogue, Does, Eras, Given, Hand, HasSoundLists, IsEraOf, List, Log, Mark, Notes, Redeclares, Round, Some, Submitted, [], ap, arith, at_seam, begun, cond, eras_of, false, filter, force_at, in_force, in_left, inl, inr, le-leb, le_is, length, length-append, marks, nat_le, place_within, redeclares, refl, slice_get, slice_index_or, subst, suc, sym, true, true_or_false, zero, ℕ, ◌++◌, ◌+◌, ◌-◌, ◌<◌, ◌∙◌, ◌∷◌, ◌≡◌, ◌≤◌, ◌⊎◌}
+use Rattle.sdd_progress.proofs.All.{AreErasOf, Catalogue, Eras, Given, HasSoundLists, IsEraOf, List, Log, Mark, Redeclares, Some, [], ap, arith, at_seam, begun, cond, eras_of, false, filter, force_at, in_force, in_left, inl, inr, le-leb, le_is, length, length-append, marks, nat_le, place_within, redeclares, refl, slice_get, slice_index_or, subst, suc, sym, true, true_or_false, zero, ℕ, ◌++◌, ◌+◌, ◌-◌, ◌<◌, ◌∙◌, ◌∷◌, ◌≡◌, ◌≤◌, ◌⊎◌}
 use Rattle.sdd_progress.proofs.SinceRedeclare.{redeclares_back}
 
 -- a member of a list with one more at its end
-at_snoc : {A : Type 0} (xs : List A) (y : A) (k : ℕ) (m : A) → slice_get (xs ++ y ∷ []) k ≡ Some m
-    → (slice_get xs k ≡ Some m) ⊎ ((k ≡ length xs) × (y ≡ m))
+at_snoc : {A : Type 0} (xs : List A) (y : A) (k : ℕ) (m : A) → slice_get (xs ++ y ∷ []) k ≡ Some m → (slice_get xs k ≡ Some m) ⊎ ((k ≡ length xs) × (y ≡ m))
 at_snoc [] y zero m e = let p : y ≡ m = cc in inr (refl, p)
 at_snoc [] y (suc k) m e = cc
 at_snoc (x ∷ xs) y zero m e = inl e
@@ -53,8 +52,7 @@ rises g (Redeclares t ∷ log) k a b e f =
         | inr q ↦ (let l = place_within (eras_of g log) (suc k) b p in let n = q.0 in absurd (omega (arith, l, n)))
       ]
       | inr p ↦ elim (at_snoc (eras_of g log) y k a e) [
-        | inl q ↦ (let l = (numbered g log k a q).1 in
-            let n : suc (marks log) ≡ b.0 = ap (λ (x : ℕ × Catalogue). x.0) p.1 in omega (arith, l, n))
+        | inl q ↦ (let l = (numbered g log k a q).1 in let n : suc (marks log) ≡ b.0 = ap (λ (x : ℕ × Catalogue). x.0) p.1 in omega (arith, l, n))
         | inr q ↦ (let n = q.0 in let m = p.0 in absurd (omega (arith, n, m)))
       ]
     ]

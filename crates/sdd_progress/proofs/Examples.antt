@@ -78,12 +78,10 @@ submits_both : (n : ℕ) → (submits_by n (Submit (txn_no 1)) + submits_by n (S
     × (1 ≤ submits_by n (Submit (txn_no 1)) + submits_by n (Submit (txn_no 2)) → IsFrom1To 2 n)
 submits_both n = elim (same_or_not 1 n) [
   | inl p ↦ subst (λ k. (submits_by k (Submit (txn_no 1)) + submits_by k (Submit (txn_no 2)) ≤ 1)
-      × (1 ≤ submits_by k (Submit (txn_no 1)) + submits_by k (Submit (txn_no 2)) → IsFrom1To 2 k)) p
-      (omega arith, λ l. (omega arith, omega arith))
+      × (1 ≤ submits_by k (Submit (txn_no 1)) + submits_by k (Submit (txn_no 2)) → IsFrom1To 2 k)) p (omega arith, λ l. (omega arith, omega arith))
   | inr p ↦ elim (same_or_not 2 n) [
     | inl q ↦ subst (λ k. (submits_by k (Submit (txn_no 1)) + submits_by k (Submit (txn_no 2)) ≤ 1)
-        × (1 ≤ submits_by k (Submit (txn_no 1)) + submits_by k (Submit (txn_no 2)) → IsFrom1To 2 k)) q
-        (omega arith, λ l. (omega arith, omega arith))
+        × (1 ≤ submits_by k (Submit (txn_no 1)) + submits_by k (Submit (txn_no 2)) → IsFrom1To 2 k)) q (omega arith, λ l. (omega arith, omega arith))
     | inr q ↦ (let a : submits_by n (Submit (txn_no 1)) ≡ 0 = ap one_if p in
         let b : submits_by n (Submit (txn_no 2)) ≡ 0 = ap one_if q in
         (omega (arith, a, b), λ l. absurd (omega (arith, a, b, l))))

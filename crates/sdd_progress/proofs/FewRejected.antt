@@ -1,6 +1,6 @@
 -- A transaction's rejected attempts are at most the Commits of other transactions: those before the last have a writer
 -- each, since another attempt started after them; and so has the last, by its Reject.
-use Rattle.sdd_progress.proofs.All.{Answer, Apply, AreFewRejected, Arrive, Catalogue, Commit, Eras, History, IsAttempt, KeepsRejections, KeepsRejects, KeepsStarts, List, Nothing, Pass, Rec, Reject, Stands, Start, Submit, Txn, Wait, and_parts, any_at, ap, arith, cases_Bool, class_no, commits_of_others, dm_no, eqb-true, inl, inr, is_reject_of, is_rejected, is_rejected_start, is_start_of, option_map, refl, rejected_of, starts_before, starts_of, subst, suc, time_at, true, txn_no, zero, ℕ, ◌&&◌, ◌==◌, ◌∙◌, ◌≡◌, ◌≤◌}
+use Rattle.sdd_progress.proofs.All.{AreFewRejected, Catalogue, Eras, History, IsAttempt, KeepsRejections, KeepsRejects, KeepsStarts, List, Rec, Reject, Stands, Start, Txn, and_parts, any_at, ap, arith, cases_Bool, class_no, commits_of_others, dm_no, eqb-true, inl, inr, is_reject_of, is_rejected, is_rejected_start, is_start_of, option_map, refl, rejected_of, starts_before, starts_of, subst, suc, time_at, true, txn_no, zero, ℕ, ◌&&◌, ◌==◌, ◌∙◌, ◌≡◌, ◌≤◌}
 use Rattle.sdd_progress.proofs.Last.{fewer, last_passing, less}
 use Rattle.sdd_progress.proofs.Writers.{WritersBelow, low_of_condition, low_time, one_more, writers, writers_count}
 use Rattle.sdd_obligations.specs.serial_orders.Attempts.{Attempt}

@@ -102,8 +102,7 @@ AreHolding g log =
     (t : ℕ) → 1 ≤ t → t ≤ g.catalogue.tms
     → ((counts t (local_of g U log)).holds ≡ suc
     (last_served (setting_of g U) (local_of g U log)).commits)
-    × ((counts t (local_of g U log)).helds ≡ suc
-    (last_served (setting_of g U) (local_of g U log)).commits)
+    × ((counts t (local_of g U log)).helds ≡ suc (last_served (setting_of g U) (local_of g U log)).commits)
 
 u_holding : (g : Given) (log : Log) (q : Queued) → IsQuiet g log → IsSound g.catalogue → IsIdle g log
     → head_of (queue (setting_of g U) 0 (local_of g U log)) ≡ Some q → AreHolding g log
@@ -114,13 +113,11 @@ u_holding g log q h sound idle e t l m =
     let v = level g log t h l m in
     let released = all_released g log t h sound idle l m in
     let due : um.hold_to (counts t lu) (Some q) ≡ None =
-    subst (λ o. um.hold_to (counts t lu) o ≡ None) e ((u_still g log h).holds (t - 1) t
-    (at_place g.catalogue.tms t l m)) in
+    subst (λ o. um.hold_to (counts t lu) o ≡ None) e ((u_still g log h).holds (t - 1) t (at_place g.catalogue.tms t l m)) in
     let apart : ((counts t lu).releases == (counts t lu).holds) ≡ false = if_none _ _ due in
     let ahead : (counts t lu).releases < (counts t lu).holds = elim (dec_le (counts t lu).holds (counts t lu).releases) [
       | yes p ↦ (let same : (counts t lu).releases ≡ (counts t lu).holds =
-          omega (arith, p, c.committed, c.started, c.got_held, c.put_held, c.got_hold, c.put_hold) in absurd
-          (not_both _ (eq-eqb _ _ same) apart))
+          omega (arith, p, c.committed, c.started, c.got_held, c.put_held, c.got_hold, c.put_hold) in absurd (not_both _ (eq-eqb _ _ same) apart))
       | no p ↦ omega (arith, p)
     ] in
     let on : (holds (local_of g (T (tm_no t)) log)).releases < (holds (local_of g (T (tm_no t)) log)).holds = omega (arith, ahead, v.holds_same, v.releases) in

@@ -34,8 +34,7 @@ history_le later log =
 
 -- an entry that stands before a longer history than its own is one of the longer log
 pub in_longer : (log later before other mid : Log) (e : Entry) → log ≡ later ++ e ∷ before → log ≡ other ++ mid
-    → length (history before) < length (history mid) → length (history (e ∷ before)) ≤ suc (length (history before))
-    → (p : Log) × (mid ≡ p ++ e ∷ before)
+    → length (history before) < length (history mid) → length (history (e ∷ before)) ≤ suc (length (history before)) → (p : Log) × (mid ≡ p ++ e ∷ before)
 in_longer log later before other mid e is at l few = elim (ends later other (e ∷ before) mid (sym is ∙ at)) [
   | inr q ↦ q
   | inl q ↦ (let up = history_le q.0 mid in
@@ -50,8 +49,7 @@ in_longer log later before other mid e is at l few = elim (ends later other (e �
 ]
 
 -- a log that isn't shorter in its history holds the other one, where that ends with another entry
-pub longer : (log a before b mid : Log) → log ≡ a ++ before → log ≡ b ++ mid → length (history mid) < length (history before)
-    → (p : Log) × (before ≡ p ++ mid)
+pub longer : (log a before b mid : Log) → log ≡ a ++ before → log ≡ b ++ mid → length (history mid) < length (history before) → (p : Log) × (before ≡ p ++ mid)
 longer log a before b mid is at l = elim (ends a b before mid (sym is ∙ at)) [
   | inl q ↦ q
   | inr q ↦ (let up = history_le q.0 before in

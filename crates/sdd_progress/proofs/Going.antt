@@ -1,5 +1,5 @@
 -- Every step of the exchange of an active attempt leaves it over, or lacking an answer.
-use Rattle.sdd_progress.proofs.All.{AllAskParts, Asking, AtTurn, Attempt, Bool, ClassNo, Commit, CountsRead, D, Did, Each, Exchange, Fetch, Fetching, Handed, InTurn, IsCounted, IsFair, IsFirstEach, IsGoing, IsRead, IsTimely, List, MayAnswer, Move, Msg, None, Option, Over, Phase, Queued, Read, Reading, Ready, Rec, Records, Redeclared, Reduce, Reduced, ReducesRead, Reducing, Replies, Rows, Sends, Setting, Ship, Shipping, Site, Some, StandsAt, Start, Step, Submits, T, Ticked, Ts, Turn, U, Values, [], active, active_after, active_handed, active_sent, after_hand, after_send, answered, answers_asked, ap, askings, asks_rows, awaits, begins, cond, cons_option, contains, contains_either, counted, counts_for, dm_no, eqb-true, false, fetches, fetches_from, filter, filter_map, first_phase, goes_on, head_of, if_way, if◌then◌else◌, in_turn, inl, inr, is_answer, is_awaited, is_empty, is_over, lacking, length, map, module_read, move_at, never, next_move, not, or_left, or_right, phase_ends, queue, readers, reduces, refl, rejects, same_number, ships, started, subst, sym, true, turn_at, uses_at, with_use, with_values, without, ℕ, ◌&&◌, ◌++◌, ◌+◌, ◌==◌, ◌∙◌, ◌∷◌, ◌≡◌}
+use Rattle.sdd_progress.proofs.All.{AllAskParts, Asking, AtTurn, Attempt, Bool, ClassNo, Commit, CountsRead, D, Did, Each, Exchange, Fetch, Fetching, Handed, InTurn, IsCounted, IsFair, IsFirstEach, IsGoing, IsRead, IsTimely, List, MayAnswer, Move, Msg, None, Option, Over, Phase, Queued, Read, Reading, Ready, Rec, Records, Reduce, Reduced, ReducesRead, Reducing, Replies, Rows, Sends, Setting, Ship, Shipping, Site, Some, StandsAt, Start, Step, Ts, Turn, Values, [], active, active_after, active_handed, active_sent, after_hand, after_send, answered, answers_asked, ap, askings, asks_rows, awaits, begins, cond, cons_option, contains, contains_either, counted, counts_for, dm_no, eqb-true, false, fetches, fetches_from, filter, filter_map, first_phase, goes_on, head_of, if_way, if◌then◌else◌, in_turn, inl, inr, is_answer, is_awaited, is_empty, is_over, lacking, length, map, module_read, move_at, never, next_move, not, or_left, or_right, phase_ends, queue, readers, reduces, refl, rejects, same_number, ships, started, subst, sym, true, turn_at, uses_at, with_use, with_values, without, ℕ, ◌&&◌, ◌++◌, ◌+◌, ◌==◌, ◌∙◌, ◌∷◌, ◌≡◌}
 use Rattle.sdd_progress.proofs.Lists.{either}
 use Rattle.sdd_progress.proofs.Moves.{move_reads}
 use Rattle.sdd_obligations.specs.site_module.SiteLog.{Log}
@@ -15,19 +15,14 @@ firsts_there [] e = cc
 firsts_there (m ∷ ms) e = refl
 
 to_reduce : (ts c : ℕ) (m : Move) (x : Exchange) → IsBetween x → IsRead x.modules m.target.part → IsGoing (reduces ts c m x)
-to_reduce ts c m x b r =
-    record { counted = record { modules = λ e. b.0; reduces = r; counts = b.1; left = b.2 }; lacks = λ e. r }
+to_reduce ts c m x b r = record { counted = record { modules = λ e. b.0; reduces = r; counts = b.1; left = b.2 }; lacks = λ e. r }
 
 to_fetch : (ts c : ℕ) (m : Move) (x : Exchange) (ds : List ℕ) → IsBetween x → IsRead x.modules m.target.part → IsGoing (fetches_from ts c m x ds)
 to_fetch ts c m x [] b r = to_reduce ts c m (record x { union = [] }) b r
-to_fetch ts c m x (d ∷ ds) b r =
-    record { counted = record { modules = λ e. b.0; reduces = r; counts = b.1; left = b.2 }; lacks = λ e. refl }
+to_fetch ts c m x (d ∷ ds) b r = record { counted = record { modules = λ e. b.0; reduces = r; counts = b.1; left = b.2 }; lacks = λ e. refl }
 
 to_ship : (ts c : ℕ) (x : Exchange) → IsBetween x → IsGoing (ships ts c x)
-to_ship ts c x b = record {
-  counted = record { modules = λ e. b.0; reduces = tt; counts = b.1; left = tt };
-  lacks = λ e. firsts_there x.modules b.0;
-}
+to_ship ts c x b = record { counted = record { modules = λ e. b.0; reduces = tt; counts = b.1; left = tt }; lacks = λ e. firsts_there x.modules b.0 }
 
 to_next : (ts c : ℕ) (x : Exchange) (qs : List Asking) (done : List Step) → IsBetween x → AllAskParts qs → IsGoing (goes_on ts c x qs done)
 to_next ts c x [] done b parts = to_ship ts c x b
@@ -52,10 +47,7 @@ ended : (ts c : ℕ) (x : Exchange) (p : Phase) → IsCounted x → x.phase ≡ 
 ended ts c x Reading k e = to_next ts c x x.left x.done (is_not_over x Reading k e refl) k.left
 ended ts c x (Fetching m) k e = to_reduce ts c m x (is_not_over x (Fetching m) k e refl) (subst (ReducesRead x.modules) e k.reduces)
 ended ts c x (Reducing m) k e = to_next ts c x x.left x.done (is_not_over x (Reducing m) k e refl) k.left
-ended ts c x Shipping k e = record {
-  counted = record { modules = λ z. cc; reduces = tt; counts = k.counts; left = k.left };
-  lacks = λ z. cc;
-}
+ended ts c x Shipping k e = record { counted = record { modules = λ z. cc; reduces = tt; counts = k.counts; left = k.left }; lacks = λ z. cc }
 ended ts c x Over k e = record { counted = k; lacks = λ z. never (is_over x.phase) (ap is_over e) z }
 
 lacks_now : (ts c : ℕ) (x : Exchange) (ds : List ℕ) → IsCounted x → IsGoing (lacking ts c x ds)
@@ -65,8 +57,7 @@ lacks_now ts c x [] k = ended ts c (record x { lacks = [] }) x.phase (record {
   counts = k.counts;
   left = k.left;
 }) refl
-lacks_now ts c x (d ∷ ds) k =
-    record { counted = record { modules = k.modules; reduces = k.reduces; counts = k.counts; left = k.left }; lacks = λ e. refl }
+lacks_now ts c x (d ∷ ds) k = record { counted = record { modules = k.modules; reduces = k.reduces; counts = k.counts; left = k.left }; lacks = λ e. refl }
 
 answer_if : (ts c d : ℕ) (b : Bool) (x y : Exchange) → IsGoing x → (b ≡ true → IsCounted y) → IsGoing (if b then answered ts c d y else x)
 answer_if ts c d true x y h k = lacks_now ts c y (without y.lacks d) (k refl)
@@ -171,10 +162,7 @@ hand_goes ts c d (Ready t k counts) x r h =
       left = h.counted.left;
     }))
 hand_goes ts c d (Values t k u values) x r h =
-    answer_if ts c d ((t.0 == ts) && (k.0 == c)) x (record x {
-      union = with_values x.union values;
-      values = x.values + length values;
-    }) h (λ e. record {
+    answer_if ts c d ((t.0 == ts) && (k.0 == c)) x (record x { union = with_values x.union values; values = x.values + length values }) h (λ e. record {
       modules = h.counted.modules;
       reduces = h.counted.reduces;
       counts = h.counted.counts;
@@ -191,10 +179,7 @@ hand_goes ts c d (Reduced t k u n) x r h =
       left = h.counted.left;
     }))
 hand_goes ts c d (Rows t k rows) x r h =
-    answer_if ts c d ((t.0 == ts) && (k.0 == c)) x (record x {
-      found = x.found ++ rows;
-      rows = x.rows + length rows;
-    }) h (λ e. record {
+    answer_if ts c d ((t.0 == ts) && (k.0 == c)) x (record x { found = x.found ++ rows; rows = x.rows + length rows }) h (λ e. record {
       modules = h.counted.modules;
       reduces = h.counted.reduces;
       counts = h.counted.counts;

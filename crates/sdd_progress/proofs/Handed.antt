@@ -1,13 +1,12 @@
 -- Where nothing goes on, all that was put on a link was handed over at its end.
-use Rattle.sdd_progress.proofs.All.{D, Given, IsQuiet, IsThere, List, Log, None, Option, Site, Some, T, U, [], all_at, all_links, and_left, and_right, ap, are_linked, arith, calls_of, cond, cons_option, dec_le, delivered, drop, false, filter_map, flat_map, flight, hand_on, handed, hands_from, in_left, in_order, in_right, is_down, is_empty, is_link, is_quiet_link, is_site, le_is, length, link, link_of, link_parts, links, local_of, member_there, none_not_some, one_on, puts_to, refl, sent, sent_is, site_there, sites, slice_get, sound, subst, suc, sym, take_all, takes_part, true, zero, ℕ, ◌-◌, ◌∙◌, ◌∷◌, ◌≡◌, ◌≤◌}
+use Rattle.sdd_progress.proofs.All.{D, Given, IsQuiet, IsThere, List, Log, None, Option, Site, Some, [], all_at, all_links, and_left, and_right, ap, are_linked, arith, calls_of, cond, cons_option, dec_le, delivered, drop, false, filter_map, flat_map, flight, hand_on, handed, hands_from, in_left, in_order, in_right, is_down, is_empty, is_link, is_quiet_link, is_site, le_is, length, link, link_of, link_parts, links, local_of, member_there, none_not_some, one_on, puts_to, refl, sent, sent_is, site_there, sites, slice_get, sound, subst, suc, sym, take_all, takes_part, true, zero, ℕ, ◌-◌, ◌∙◌, ◌∷◌, ◌≡◌, ◌≤◌}
 use Rattle.sdd_progress.proofs.Lists.{none_at}
 
 -- places
 
 in_filter_map : {A B : Type 0} (f : A → Option B) (xs : List A) (k : ℕ) (x : A) (y : B) → slice_get xs k ≡ Some x → f x ≡ Some y → IsThere (filter_map f xs) y
 in_filter_map f [] k x y e h = cc
-in_filter_map f (z ∷ xs) zero x y e h =
-    let p : z ≡ x = cc in let q : f z ≡ Some y = subst (λ w. f w ≡ Some y) (sym p) h in (0, rw q refl)
+in_filter_map f (z ∷ xs) zero x y e h = let p : z ≡ x = cc in let q : f z ≡ Some y = subst (λ w. f w ≡ Some y) (sym p) h in (0, rw q refl)
 in_filter_map {B = B} f (z ∷ xs) (suc k) x y e h =
     let i = in_filter_map f xs k x y e h in
     elim (f z) as (λ o. IsThere (cons_option o (filter_map f xs)) y) [ None ↦ i | Some w ↦ (suc i.0, i.1) ]
@@ -47,8 +46,7 @@ pub none_left : (g : Given) (log : Log) (a b : Site) → IsQuiet g log → is_li
 none_left g log a b h e =
     let k = link_there g.catalogue.tms g.catalogue.dms a b e in
     let q : is_quiet_link (link a b (calls_of log)) ≡ true =
-    all_at (λ (l : Site × Site). is_quiet_link (link l.0 l.1 (calls_of log))) (all_links g) k.0
-    (a, b) h.links k.1 in
+    all_at (λ (l : Site × Site). is_quiet_link (link l.0 l.1 (calls_of log))) (all_links g) k.0 (a, b) h.links k.1 in
     let acked : length (sent a b log) ≤ (link_of a b log).there.acked = le_is _ _ (and_right (is_empty (link_of a b log).there.flight) _ q) in
     let arrived : (link_of a b log).there.acked ≤ delivered (link_of a b log).there = (sound a b (calls_of log)).there.acked in
     let none : hand_on log (a, b) ≡ None = none_at (hand_on log) (all_links g) k.0 (a, b) h.no_hand k.1 in
@@ -64,8 +62,7 @@ none_left g log a b h e =
 
 pub all_handed : (g : Given) (log : Log) (a b : Site) → IsQuiet g log → is_link g.catalogue.tms g.catalogue.dms a b ≡ true
     → hands_from a (local_of g b log) ≡ puts_to b (local_of g a log)
-all_handed g log a b h e =
-    in_order g log a b h.permitted ∙ take_all (handed a b log) (puts_to b (local_of g a log)) (none_left g log a b h e)
+all_handed g log a b h e = in_order g log a b h.permitted ∙ take_all (handed a b log) (puts_to b (local_of g a log)) (none_left g log a b h e)
 
 drop_past : {A : Type 0} (n : ℕ) (xs : List A) → length xs ≤ n → drop n xs ≡ []
 drop_past zero [] l = refl

@@ -103,8 +103,7 @@ one_ahead s t log c =
     omega (arith, whole, p, c.holds_are, c.releases_are)
 
 hold_or_head : (s : Setting) (log : Log) (bases : Bases) (act : Act) (o : Option Queued)
-    → head_of (queue s 0 log) ≡ o → IsDue s.catalogue bases (view_of s log) act
-    → is_hold act ≡ false ⊎ ((q : Queued) × (head_of (queue s 0 log) ≡ Some q))
+    → head_of (queue s 0 log) ≡ o → IsDue s.catalogue bases (view_of s log) act → is_hold act ≡ false ⊎ ((q : Queued) × (head_of (queue s 0 log) ≡ Some q))
 hold_or_head s log bases act None e h = inl (no_hold s log bases act e h)
 hold_or_head s log bases act (Some q) e h = inr (q, e)
 
@@ -160,10 +159,8 @@ last_commit s (Redeclared force n ∷ log) h = any_later s (Redeclared force n) 
 last_commit s (Submits n txn ∷ log) h = any_later s (Submits n txn) log refl refl (last_commit s log h.1)
 last_commit s (Did act ∷ log) h =
     let i = last_commit s log h.1 in
-    u_way s log act (λ x. CommitIfAny s (Did x ∷ log))
-    (λ q e z r. any_later s (Did (start_at s 0 log q)) log refl refl i)
+    u_way s log act (λ x. CommitIfAny s (Did x ∷ log)) (λ q e z r. any_later s (Did (start_at s 0 log q)) log refl refl i)
     (λ bases a e. λ l. record { later = []; bases = bases; attempt = a; before = log; is = refl; ts_is = ap ts_of e })
     (λ d m a e. any_later s (Did (Sends (D (dm_no d)) m None)) log refl refl i)
     (λ t ts l w. any_later s (Did (Sends (T (tm_no t)) (Release ts) None)) log refl refl i)
-    (λ t e. any_later s (Did (Sends (T (tm_no t)) Hold None)) log refl refl i)
-    (u_due s h.0.0.0 log act h.0.0.1)
+    (λ t e. any_later s (Did (Sends (T (tm_no t)) Hold None)) log refl refl i) (u_due s h.0.0.0 log act h.0.0.1)

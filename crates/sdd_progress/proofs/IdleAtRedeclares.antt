@@ -1,5 +1,5 @@
 -- On a lawful log all was idle wherever a further list of classes was put in force, if no module was down there.
-use Rattle.sdd_progress.proofs.All.{Act, AreSubmittedOnce, Bool, Deliver, Down, Entry, Event, Given, HasSoundLists, IsIdle, IsIdleAtRedeclares, IsLawful, IsModule, IsQuiet, IsSoundList, IsUpAtRedeclares, List, Log, Lose, Mark, Msg, None, Option, Redeclare, Redeclares, Repeat, Resend, Settle, Site, Some, Tick, Up, [], all_links, ap, arith, calls_of, delivered, does_at, due_by, false, found_at, greatest_bound, hand_due, hand_number, hand_on, hand_with, handed, if◌then◌else◌, is_down, lawful_permitted, left, link_of, mark_due, mark_from, mark_of, message_at, next, next_at, next_mark, next_number, note_if, or_else, quiet, redeclares, refl, round, site_due, sites, subst, sym, takes_part, true, ℕ, ◌++◌, ◌∷◌, ◌≡◌}
+use Rattle.sdd_progress.proofs.All.{Act, AreSubmittedOnce, Bool, Entry, Event, Given, HasSoundLists, IsIdle, IsIdleAtRedeclares, IsLawful, IsModule, IsQuiet, IsSoundList, IsUpAtRedeclares, List, Log, Mark, Msg, None, Option, Redeclare, Redeclares, Settle, Site, Some, Tick, Up, [], all_links, ap, arith, calls_of, delivered, does_at, due_by, false, found_at, greatest_bound, hand_due, hand_number, hand_on, hand_with, handed, if◌then◌else◌, is_down, lawful_permitted, left, link_of, mark_due, mark_from, mark_of, message_at, next, next_at, next_mark, next_number, note_if, or_else, quiet, redeclares, refl, round, site_due, sites, subst, sym, takes_part, true, ℕ, ◌++◌, ◌∷◌, ◌≡◌}
 use Rattle.sdd_progress.proofs.NoneWaits.{is_idle}
 use Rattle.sdd_progress.proofs.SinceRedeclare.{redeclares_up}
 use Rattle.sdd_obligations.specs.All.{Submit}
@@ -77,8 +77,7 @@ at_redeclare g log t e =
 -- so nothing goes on there, and all is idle, since all was idle where the earlier lists were put in force
 
 idle_at_redeclare : (g : Given) (log : Log) (t : ℕ) → AreSubmittedOnce g.events → IsLawful g log → next g log ≡ Some (Redeclares t)
-    → IsSoundList g (redeclares log) → IsIdleAtRedeclares g log → ((d : ℕ) → IsModule g.catalogue d → is_down d log ≡ false)
-    → IsQuiet g log × IsIdle g log
+    → IsSoundList g (redeclares log) → IsIdleAtRedeclares g log → ((d : ℕ) → IsModule g.catalogue d → is_down d log ≡ false) → IsQuiet g log × IsIdle g log
 idle_at_redeclare g log t once h e one marks up =
     let m = at_redeclare g log t e in
     let q : IsQuiet g log = record { permitted = lawful_permitted g log once h; links = m.links; up = up; no_act = m.no_site; no_hand = m.no_hand } in

@@ -48,8 +48,7 @@ pub begun_at : (g : Given) (log : Log) (e : Entry) (r : Rec) (later before : Log
     → length (history before) ≡ place → begun (eras_of g log) (event_at (history log) place) ≡ suc (redeclares before)
 begun_at g log e r later before place makes is place_is =
     let event : event_at (history log) place ≡ marks before =
-    ap (event_at (history log)) (sym place_is)
-    ∙ ap (λ l. event_at (history l) (length (history before))) is ∙ event_there later e before r makes in
+    ap (event_at (history log)) (sym place_is) ∙ ap (λ l. event_at (history l) (length (history before))) is ∙ event_there later e before r makes in
     ap (begun (eras_of g log)) event ∙ begun_is g log (later ++ e ∷ []) before (is ∙ sym (append_assoc later (e ∷ []) before))
 
 -- a Commit commits

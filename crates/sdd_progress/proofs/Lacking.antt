@@ -100,8 +100,7 @@ answer_there h k o _ c e f = cc
 none_asked : (h : Home) (k : ClassView) (os : List Open) (o : Option Open) → head_of (filter (is_asked_of k.class) os) ≡ o → answer_of h k o ≡ None
     → filter (is_asked_of k.class) os ≡ []
 none_asked h k os None e f = no_head (filter (is_asked_of k.class) os) e
-none_asked h k os (Some o) e f =
-    let i = in_filtered (is_asked_of k.class) os 0 o (head_at _ o e) in answer_there h k o o.msg k.class i.0 f
+none_asked h k os (Some o) e f = let i = in_filtered (is_asked_of k.class) os 0 o (head_at _ o e) in answer_there h k o o.msg k.class i.0 f
 
 class_there : (s : site.Setting) (log : site.Log) (c : ℕ) → c ≤ length s.catalogue.classes → slice_get (view_of s log).classes c ≡ Some (class_view s log c)
 class_there s log c l =
@@ -116,8 +115,7 @@ none_open g log c d h l m =
     let v : View = view_of s (at_module g d log) in
     let p = or_none (first_some (open_due (home_of s) v) v.classes) _ (d_still g log d h m) in
     let none : open_due (home_of s) v (class_view s (at_module g d log) c) ≡ None =
-    none_at (open_due (home_of s) v) v.classes c (class_view s (at_module g d log) c) p.0
-    (class_there s (at_module g d log) c l) in
+    none_at (open_due (home_of s) v) v.classes c (class_view s (at_module g d log) c) p.0 (class_there s (at_module g d log) c l) in
     none_asked (home_of s) (class_view s (at_module g d log) c) (opens (at_module g d log)) _ refl none
 
 tail_none : {A : Type 0} (b : Bool) (x : A) (xs : List A) → cond b (x ∷ xs) xs ≡ [] → xs ≡ []
@@ -135,8 +133,7 @@ less_left f g (x ∷ xs) i e =
 -- the question that stands is a READ
 
 not_rows : (ts c : ℕ) (at : Site) (os : List Open) (ns : List ℕ) (m : Msg) → filter (asks_open ts c) os ≡ []
-    → map asker (filter (asks_open ts c) os) ≡ map (from_site at) (rows_asked ts c (Asks ns m))
-    → asks_rows ts c m ≡ false
+    → map asker (filter (asks_open ts c) os) ≡ map (from_site at) (rows_asked ts c (Asks ns m)) → asks_rows ts c m ≡ false
 not_rows ts c at os ns m e f =
     elim (asks_rows ts c m) as (λ b. [] ≡ map (from_site at) (if b then m ∷ [] else []) → b ≡ false) [
       | true ↦ λ z. cc
@@ -151,8 +148,7 @@ read_it_is ts c (Ship t k) e f = absurd (not_both _ e f)
 read_it_is ts c _ e f = cc
 
 read_there : (ts c : ℕ) (ns : List ℕ) (m : Msg) (unprocessed : List Msg) → is_read ts c m ≡ true
-    → filter (is_read ts c) unprocessed ≡ reads_asked ts c (Asks ns m)
-    → slice_get (filter (is_read ts c) unprocessed) 0 ≡ Some m
+    → filter (is_read ts c) unprocessed ≡ reads_asked ts c (Asks ns m) → slice_get (filter (is_read ts c) unprocessed) 0 ≡ Some m
 read_there ts c ns m unprocessed e f = rw (f, e) refl
 
 pub goes_on : (g : Given) (log : Log) (c : ℕ) (a : Attempt) → IsPermitted g log → FitsGiven g → IsClass g.catalogue c
@@ -164,8 +160,7 @@ goes_on g log c a h good l e =
     let text : FitsText g.catalogue a.text = active_so (FitsText g.catalogue) s c (at_home g c log) a
     (home_fair g c log h) (all_new g at log h) (submitted_fit g good at c log h) e in
     let parts : AllAskParts (askings 0 a.text.statements) =
-    askings_parts g.catalogue 0 a.text.statements
-    (recursion_from_All (FitsStatement g.catalogue) a.text.statements text.fits.statements) in
+    askings_parts g.catalogue 0 a.text.statements (recursion_from_All (FitsStatement g.catalogue) a.text.statements text.fits.statements) in
     is_going s c (at_home g c log) a (home_fair g c log h) (home_first g c log h) sp.timely_at e parts
 
 pub has_unanswered : (g : Given) (log : Log) (c : ℕ) (a : Attempt) → IsQuiet g log → FitsGiven g → IsClass g.catalogue c
@@ -177,24 +172,21 @@ has_unanswered g log c a h good l e =
     let turns = home_turns g c log h.permitted sp in
     let going = goes_on g log c a h.permitted good l e in
     let waits = waits_for g.catalogue (base_of g log) c a
-    (subst (λ o. attempt_due g.catalogue (base_of g log) c o ≡ None) e
-    (exchange_none g log c h good.sound l)) in
+    (subst (λ o. attempt_due g.catalogue (base_of g log) c o ≡ None) e (exchange_none g log c h good.sound l)) in
     let lack = lacking_one a.exchange.lacks (going.lacks waits.not_over) in
     let d : ℕ = lack.0 in
     let stands : AtTurn a.ts d (Some a) (turn_at a.ts c d (at_home g c log)) =
     subst (λ o. AtTurn a.ts d o (turn_at a.ts c d (at_home g c log))) e (turns.turns a.ts d) in
     let q = asked_at d a.exchange (turn_at a.ts c d (at_home g c log)) waits.nothing_to_send lack.1 (stands.0 refl) in
     let near : IsNearBy g.catalogue.dms a.exchange =
-    subst (HasNear g.catalogue.dms) e (active_near s c (at_home g c log)
-    (sound_whole g.catalogue good.sound) (home_fair g c log h.permitted)) in
+    subst (HasNear g.catalogue.dms) e (active_near s c (at_home g c log) (sound_whole g.catalogue good.sound) (home_fair g c log h.permitted)) in
     let m : IsModule g.catalogue d = near_one g.catalogue.dms d a.exchange.modules a.exchange near q.within in
     let there : turn_with a.ts c at (at_module g d log) ≡ Asks q.uses q.question = sym (same_turn g log c d a.ts h good.sound l m) ∙ q.is in
     let has : HasTurn a.ts c at (opens (at_module g d log)) (pipe c (at_module g d log))
     (Asks q.uses q.question) = subst (HasTurn a.ts c at (opens (at_module g d log))
     (pipe c (at_module g d log))) there (data_turns g a.ts c d log h.permitted sp) in
     let none : filter (asks_open a.ts c) (opens (at_module g d log)) ≡ [] =
-    less_left (asks_open a.ts c) (is_asked_of c) (opens (at_module g d log))
-    (λ o f. asks_class a.ts c o.msg f) (none_open g log c d h l m) in
+    less_left (asks_open a.ts c) (is_asked_of c) (opens (at_module g d log)) (λ o f. asks_class a.ts c o.msg f) (none_open g log c d h l m) in
     let no_rows = not_rows a.ts c at (opens (at_module g d log)) q.uses q.question none has.rows_are in
     let read = read_it_is a.ts c q.question has.own.0 no_rows in
     let i = in_filtered (is_read a.ts c) (pipe c (at_module g d log)).unprocessed 0 q.question

@@ -42,15 +42,13 @@ last_passing test (x ∷ h) n e =
 abbrev counted : {A : Type 0} → Bool → A → List A → ℕ
 counted b x xs = length (cond b (x ∷ xs) xs)
 
-counted_fewer : {A : Type 0} (b c : Bool) (x : A) (xs ys : List A) → (b ≡ true → c ≡ true) → length xs ≤ length ys
-    → counted b x xs ≤ counted c x ys
+counted_fewer : {A : Type 0} (b c : Bool) (x : A) (xs ys : List A) → (b ≡ true → c ≡ true) → length xs ≤ length ys → counted b x xs ≤ counted c x ys
 counted_fewer true true x xs ys f l = omega (arith, l)
 counted_fewer true false x xs ys f l = absurd (false≢true (f refl))
 counted_fewer false true x xs ys f l = omega (arith, l)
 counted_fewer false false x xs ys f l = l
 
-counted_less : {A : Type 0} (b c : Bool) (x : A) (xs ys : List A) → (b ≡ true → c ≡ true) → length xs < length ys
-    → counted b x xs < counted c x ys
+counted_less : {A : Type 0} (b c : Bool) (x : A) (xs ys : List A) → (b ≡ true → c ≡ true) → length xs < length ys → counted b x xs < counted c x ys
 counted_less true true x xs ys f l = omega (arith, l)
 counted_less true false x xs ys f l = absurd (false≢true (f refl))
 counted_less false true x xs ys f l = omega (arith, l)
@@ -62,8 +60,7 @@ module _ (narrow test : Rec → Bool) (within : (r : Rec) → narrow r ≡ true 
   fewer (e ∷ h) = counted_fewer (narrow e.1) (test e.1) e (filter (λ d. narrow d.1) h) (filter (λ d. test d.1) h) (within e.1) (fewer h)
 
   -- and less where one passes the wider test alone
-  pub less : (h : History) (k : ℕ) (r : Rec) → Stands h k r → test r ≡ true → narrow r ≡ false
-      → passing narrow h < passing test h
+  pub less : (h : History) (k : ℕ) (r : Rec) → Stands h k r → test r ≡ true → narrow r ≡ false → passing narrow h < passing test h
   less [] k r s t n = absurd (cc)
   less (e ∷ h) zero r s t n =
       let same = same_Some e.1 r s in
@@ -72,5 +69,4 @@ module _ (narrow test : Rec → Bool) (within : (r : Rec) → narrow r ≡ true 
       let b : test e.1 ≡ true = ap test same ∙ t in
       subst (λ z. counted z e (filter (λ d. narrow d.1) h) < passing test (e ∷ h)) (sym a)
       (subst (λ z. counted false e (filter (λ d. narrow d.1) h) < counted z e (filter (λ d. test d.1) h)) (sym b) (omega (arith, few)))
-  less (e ∷ h) (suc k) r s t n =
-      counted_less (narrow e.1) (test e.1) e (filter (λ d. narrow d.1) h) (filter (λ d. test d.1) h) (within e.1) (less h k r s t n)
+  less (e ∷ h) (suc k) r s t n = counted_less (narrow e.1) (test e.1) e (filter (λ d. narrow d.1) h) (filter (λ d. test d.1) h) (within e.1) (less h k r s t n)

@@ -15,8 +15,7 @@ none_at f (y ∷ xs) (suc k) x e h = none_at f xs k x (or_none (f y) (first_some
 pub kept_there : {A : Type 0} (f : A → Bool) (xs : List A) (i : ℕ) (x : A) → slice_get xs i ≡ Some x → f x ≡ true
     → (j : ℕ) × (slice_get (filter f xs) j ≡ Some x)
 kept_there f [] i x e h = cc
-kept_there f (y ∷ xs) zero x e h =
-    let p : y ≡ x = cc in let q : f y ≡ true = subst (λ z. f z ≡ true) (sym p) h in (0, rw q e)
+kept_there f (y ∷ xs) zero x e h = let p : y ≡ x = cc in let q : f y ≡ true = subst (λ z. f z ≡ true) (sym p) h in (0, rw q e)
 kept_there f (y ∷ xs) (suc i) x e h =
     let k = kept_there f xs i x e h in
     elim (f y) as (λ b. (j : ℕ) × (slice_get (cond b (y ∷ filter f xs) (filter f xs)) j ≡ Some x)) [ true ↦ (suc k.0, k.1) | false ↦ k ]

@@ -50,11 +50,9 @@ fewest_has counts (x ∷ ms) m h e = chosen (HasTarget counts) counts x (fewest 
 index_at : (f : ℕ → ℕ) (a n k : ℕ) → 0 < slice_index_or (map f (range_with_len a n)) k 0 → 0 < f (a + k)
 index_at f a zero k l = absurd (omega (arith, l))
 index_at f a (suc n) zero l = let z : a + 0 ≡ a = omega arith in subst (λ x. 0 < f x) (sym z) l
-index_at f a (suc n) (suc k) l =
-    let i = index_at f (a + 1) n k l in let z : a + 1 + k ≡ a + suc k = omega arith in subst (λ x. 0 < f x) z i
+index_at f a (suc n) (suc k) l = let i = index_at f (a + 1) n k l in let z : a + 1 + k ≡ a + suc k = omega arith in subst (λ x. 0 < f x) z i
 
-rows_counted : (counts : List ((ℕ × ℕ) × ℕ)) (q : Asking) (part : ℕ) → 1 ≤ part → 0 < rows_at (counts_for counts q) part
-    → 0 < count_of counts (q.before + part)
+rows_counted : (counts : List ((ℕ × ℕ) × ℕ)) (q : Asking) (part : ℕ) → 1 ≤ part → 0 < rows_at (counts_for counts q) part → 0 < count_of counts (q.before + part)
 rows_counted counts q part l r =
     let i = index_at (λ p. count_of counts (q.before + p)) 1 q.uses (part - 1) r in
     let z : 1 + (part - 1) ≡ part = omega (arith, l) in
@@ -72,8 +70,7 @@ none_or_read modules (e ∷ counts) u h = elim (same_or_not e.0.0 u) [
   | inr p ↦ elim (none_or_read modules counts u h.1) [ inl q ↦ inl (rw p q) | inr q ↦ inr q ]
 ]
 
-count_read : (modules : List (ℕ × List ℕ)) (counts : List ((ℕ × ℕ) × ℕ)) (u : ℕ) → CountsRead modules counts → 0 < count_of counts u
-    → IsRead modules u
+count_read : (modules : List (ℕ × List ℕ)) (counts : List ((ℕ × ℕ) × ℕ)) (u : ℕ) → CountsRead modules counts → 0 < count_of counts u → IsRead modules u
 count_read modules counts u h l = elim (none_or_read modules counts u h) [
   | inl p ↦ (let z : count_of counts u ≡ 0 = ap sum p in absurd (omega (arith, z, l)))
   | inr p ↦ p
@@ -83,6 +80,5 @@ pub move_reads : (x : Exchange) (q : Asking) (done : List Step) (m : Move) → C
     → next_move q.conds (counts_for x.counts q) done ≡ Some m → IsRead x.modules (move_at q.before m).target.part
 move_reads x q done m h parts e =
     let t = fewest_has (counts_for x.counts q) (filter (is_candidate (counts_for x.counts q) done)
-    (moves q.conds)) m (candidates (counts_for x.counts q) done (moves q.conds)
-    (moves_parts 1 q.conds parts)) e in
+    (moves q.conds)) m (candidates (counts_for x.counts q) done (moves q.conds) (moves_parts 1 q.conds parts)) e in
     count_read x.modules x.counts (q.before + m.target.part) h (rows_counted x.counts q m.target.part t.0 t.1)

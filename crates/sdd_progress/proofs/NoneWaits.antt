@@ -107,14 +107,12 @@ along : (cat : Catalogue) (table : List line.Entry) (i own p2 : ℕ) (q : Cond) 
 along cat table i own p2 q t = elim t.by [
   | inl a ↦ record {
     by_own = true;
-    diagonal = diagonal_in cat table P3 true i q.class.0 t.first refl
-        (first_diagonal table P3 i q.class.0 q.frags t.more t.first t.names a.1);
+    diagonal = diagonal_in cat table P3 true i q.class.0 t.first refl (first_diagonal table P3 i q.class.0 q.frags t.more t.first t.names a.1);
     time_is = a.0;
   }
   | inr a ↦ record {
     by_own = false;
-    diagonal = diagonal_in cat table P2 false i q.class.0 t.first refl
-        (first_diagonal table P2 i q.class.0 q.frags t.more t.first t.names a.1);
+    diagonal = diagonal_in cat table P2 false i q.class.0 t.first refl (first_diagonal table P2 i q.class.0 q.frags t.more t.first t.names a.1);
     time_is = a.0;
   }
 ]
@@ -160,10 +158,8 @@ module _ (g : Given) (log : Log) (h : IsQuiet g log) (one : IsSoundList g (redec
   holder_declared j t z l k = elim (same_or_not k.class 0) [
     | inr p ↦ p
     | inl p ↦ (let r = k.reader in
-        let at_zero : head (pipe 0 (at_module g r.d log)) ≡ Some
-        (Read (time_at k.ts) r.of r.txn r.attempt k.conds r.uses) =
-        subst (λ c. head (pipe c (at_module g r.d log)) ≡ Some
-        (Read (time_at k.ts) r.of r.txn r.attempt k.conds r.uses)) p r.head_is in
+        let at_zero : head (pipe 0 (at_module g r.d log)) ≡ Some (Read (time_at k.ts) r.of r.txn r.attempt k.conds r.uses) =
+        subst (λ c. head (pipe c (at_module g r.d log)) ≡ Some (Read (time_at k.ts) r.of r.txn r.attempt k.conds r.uses)) p r.head_is in
         let below = below_read g log j (dm_no r.d) (time_at k.ts) r.of r.txn r.attempt k.conds r.uses
         (time_at k.write) k.of k.txn k.changes one.fits.sound h.permitted z l r.module_is at_zero
         k.write_is in
@@ -199,8 +195,7 @@ module _ (g : Given) (log : Log) (h : IsQuiet g log) (one : IsSoundList g (redec
         | inl e ↦ (let from = conditions g log x.class.0 e.ts e.conds h one.fits.sound marks c.0 e.reader in
             let l = e.below in
             reader d.place d.diagonal d.at d.reader_is (read_number g log x.class.0 e.ts e.conds from.0)
-            (waiting_number g log x.class.0 e.ts e.conds c.0 e.reader from.0 from.1) (sym d.writer_is)
-            (omega (arith, l, time)))
+            (waiting_number g log x.class.0 e.ts e.conds c.0 e.reader from.0 from.1) (sym d.writer_is) (omega (arith, l, time)))
         | inr k ↦ (let z = holder_declared x.class.0 x.time.0 c.0 c.1 k in
             let from = conditions g log k.class k.ts k.conds h one.fits.sound marks z k.reader in
             let q : WaitingRead = read_number g log k.class k.ts k.conds from.0 in
@@ -210,8 +205,7 @@ module _ (g : Given) (log : Log) (h : IsQuiet g log) (one : IsSoundList g (redec
             let o = b.diagonal in
             let low = k.held in
             let high = k.below in
-            holder d.place d.diagonal d.at d.reader_is q
-            (waiting_number g log k.class k.ts k.conds z k.reader from.0 from.1) o.place o.diagonal o.at
+            holder d.place d.diagonal d.at d.reader_is q (waiting_number g log k.class k.ts k.conds z k.reader from.0 from.1) o.place o.diagonal o.at
             o.reader_is (o.writer_is ∙ k.names ∙ sym d.writer_is)
             k.write (write_stamp g log x.class.0 k.reader.d k.write k.of k.txn k.changes one.fits.sound
             h.permitted k.write_is) (omega (arith, low, held_time)) (omega (arith, high, time)))

@@ -22,8 +22,7 @@ asked_edge test i j (Diagonal reader writer g) f h =
           let r = and_parts (reader.0 == i) ((writer.0 == j) && test g.0) p in
           let w = and_parts (writer.0 == j) (test g.0) r.1 in
           let frag : g ≡ f = cc in
-          ap (λ z. Diagonal (class_no z) writer g) (eqb-true reader.0 i r.0)
-          ∙ ap (λ z. Diagonal (class_no i) (class_no z) g) (eqb-true writer.0 j w.0)
+          ap (λ z. Diagonal (class_no z) writer g) (eqb-true reader.0 i r.0) ∙ ap (λ z. Diagonal (class_no i) (class_no z) g) (eqb-true writer.0 j w.0)
           ∙ ap (λ z. Diagonal (class_no i) (class_no j) z) frag
       | false ↦ λ p q. absurd (cc)
     ] refl h
@@ -72,8 +71,7 @@ two_classes cat entries i j table d =
     let edge : Edge = Diagonal (class_no i) (class_no j) d.fragment in
     let mapped : Contains (map (λ (e : Entry). e.edge) entries) d.entry.edge = Contains-map (λ (e : Entry). e.edge) entries d.entry d.there in
     let in_graph : Contains (conflict_graph cat) edge =
-    subst (Contains (conflict_graph cat)) d.edge_is
-    (subst (λ xs. Contains xs d.entry.edge) table.edges mapped) in
+    subst (Contains (conflict_graph cat)) d.edge_is (subst (λ xs. Contains xs d.entry.edge) table.edges mapped) in
     let reads : ReadsFrom cat i j d.fragment.0 = All-contains (IsEdgeOf cat) (conflict_graph cat) edge (edges_known cat) in_graph in
     reads.others
 

@@ -24,10 +24,8 @@ copy_same : (cat : Catalogue) (rows : List (RelNo × Row)) (h : History) (event 
     → laws.copy_at cat rows (h ++ (event, Nothing) ∷ []) d (length h) f ≡ laws.copy_at cat rows h d (length h) f
 copy_same cat rows h event d f =
     ap (λ cs. contents f (laws.first_rows cat rows ++ flat_map laws.dated
-    (filter (λ t. list_any (λ e. is_apply t.start.txn d e.1)
-    (take (length h) (h ++ (event, Nothing) ∷ []))) cs))) (committed_same h event)
-    ∙ ap (λ es. contents f (laws.first_rows cat rows ++ flat_map laws.dated
-    (filter (λ t. list_any (λ e. is_apply t.start.txn d e.1) es) (committed h))))
+    (filter (λ t. list_any (λ e. is_apply t.start.txn d e.1) (take (length h) (h ++ (event, Nothing) ∷ []))) cs))) (committed_same h event)
+    ∙ ap (λ es. contents f (laws.first_rows cat rows ++ flat_map laws.dated (filter (λ t. list_any (λ e. is_apply t.start.txn d e.1) es) (committed h))))
     (take_same h ((event, Nothing) ∷ []))
 
 -- the event
@@ -49,6 +47,5 @@ pub own_copy : (g : Given) (rows : List (RelNo × Row)) (log : Log) (f d : ℕ) 
 own_copy g rows log f d sound h lists fine copied =
     let up : is_down d log ≡ false = h.up d (copy_module g.catalogue sound d f copied) in
     same_copy g rows (eras_of g log) (noted d log) sound fine (noted_permitted g log d up h.permitted)
-    (are_eras_of g (noted d log) lists) d (length (history log)) Nothing
-    (noted_made log d) f copied
+    (are_eras_of g (noted d log) lists) d (length (history log)) Nothing (noted_made log d) f copied
     ∙ copy_same g.catalogue rows (history log) (suc (marks log)) d f

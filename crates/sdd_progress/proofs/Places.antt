@@ -16,8 +16,7 @@ as_many test k (e ∷ h) =
       | false ↦ as_many test (suc k) h
     ]
 
-there : (test : Rec → Bool) (k : ℕ) (h : History) (j : ℕ) (r : Rec) → Stands h j r → test r ≡ true
-    → list_any (eqb (k + j)) (places test k h) ≡ true
+there : (test : Rec → Bool) (k : ℕ) (h : History) (j : ℕ) (r : Rec) → Stands h j r → test r ≡ true → list_any (eqb (k + j)) (places test k h) ≡ true
 unfolding places
 there test k [] j r s t = absurd (cc)
 there test k (e ∷ h) zero r s t =

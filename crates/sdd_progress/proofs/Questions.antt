@@ -126,8 +126,7 @@ null_one log v q None act h l e = cc
 null_one log v q (Some u) act h l e =
     one_as log _ act (inr (inr (record { question = q; there = h; to_is = refl; hand_is = refl; time = u; message_is = refl; late = l u refl }))) e
 
-null_if_one : (log : Log) (v : View) (q : Question) (b : Bool) (o : Option ℕ) (act : Act)
-    → IsThere (asks log) q → ((u : ℕ) → o ≡ Some u → q.time ≤ u)
+null_if_one : (log : Log) (v : View) (q : Question) (b : Bool) (o : Option ℕ) (act : Act) → IsThere (asks log) q → ((u : ℕ) → o ≡ Some u → q.time ≤ u)
     → (if b then null_at q o else None) ≡ Some act → AnswersOne log act
 null_if_one log v q true o act h l e = null_one log v q o act h l e
 null_if_one log v q false o act h l e = cc
@@ -201,8 +200,7 @@ covered_new b from m log c t e f = inl (record {
 
 covered_hand : (b from : Site) (m : Msg) (log : Log) → ((k : ℕ) (c : ClassNo) (t : Ts) → slice_get (hands_from b log) k ≡ Some (Ask c t) → IsCovered b c t log)
     → (x : Bool) → same_site b from ≡ x → (k : ℕ) (c : ClassNo) (t : Ts)
-    → slice_get (if x then hands_from b log ++ m ∷ [] else hands_from b log) k ≡ Some (Ask c t)
-    → IsCovered b c t (Handed from m ∷ log)
+    → slice_get (if x then hands_from b log ++ m ∷ [] else hands_from b log) k ≡ Some (Ask c t) → IsCovered b c t (Handed from m ∷ log)
 covered_hand b from m log i false same k c t e = covered_past b from m log c t (i k c t e)
 covered_hand b from m log i true same k c t e = elim (in_either (hands_from b log) (m ∷ []) k (Ask c t) e) [
   | inl f ↦ covered_past b from m log c t (i k c t f)
@@ -241,19 +239,12 @@ closes b to m hand c t log o (inr (inr w)) p =
 covered_act : (b : Site) (act : Act) (log : Log) (c : ClassNo) (t : Ts) → AnswersOne log act → IsCovered b c t log → IsCovered b c t (Did act ∷ log)
 covered_act b (Records k r sends) log c t w (inl o) = inl (record { question = o.question; there = o.there; from = o.from; class = o.class; time = o.time })
 covered_act b act log c t w (inr n) =
-    inr (record {
-      place = n.place;
-      time = n.time;
-      put = in_left (puts_to b log) (to_site b (sends_of_act act)) n.place (Null c n.time) n.put;
-      late = n.late;
-    })
+    inr (record { place = n.place; time = n.time; put = in_left (puts_to b log) (to_site b (sends_of_act act)) n.place (Null c n.time) n.put; late = n.late })
 covered_act b (Sends to m hand) log c t w (inl o) =
     elim (answers_hand hand o.question.hand) as (λ x. answers_hand hand o.question.hand ≡ x → IsCovered b c t (Did (Sends to m hand) ∷ log)) [
       | false ↦ λ p. inl (record {
         question = o.question;
-        there =
-            kept_there (λ (x : Question). not (answers_hand hand x.hand)) (asks log) o.there.0 o.question
-            o.there.1 (ap not p);
+        there = kept_there (λ (x : Question). not (answers_hand hand x.hand)) (asks log) o.there.0 o.question o.there.1 (ap not p);
         from = o.from;
         class = o.class;
         time = o.time;
@@ -299,8 +290,7 @@ no_null q None e = refl
 no_null q (Some t) e = cc
 
 pub open_is_blocked : (s : Setting) (log : Log) (j c : ℕ) (q : Question) → slice_get (runs s) j ≡ Some c
-    → first_some (null_due (view_of s log)) (view_of s log).classes ≡ None
-    → IsThere (asks log) q → q.class ≡ c → IsEarlier (active s c log) q.time
+    → first_some (null_due (view_of s log)) (view_of s log).classes ≡ None → IsThere (asks log) q → q.class ≡ c → IsEarlier (active s c log) q.time
 open_is_blocked s log j c q i e h at =
     let v = view_of s log in
     let none : null_due v (class_view s log c) ≡ None = none_at (null_due v) v.classes j (class_view s log c) e (at_map (class_view s log) (runs s) j c i) in

@@ -54,8 +54,7 @@ keeps_rejects g log eras sound h are n number d class write k s =
       writer = c.committed;
       committed = c.is_committed;
       other = λ e. other_txn g log eras r.attempt d rj.cond_by c.committed
-          (keeps_starts g log eras sound h are) r.started condition c.is_committed c.class_is
-          (e ∙ sym r.txn_is);
+          (keeps_starts g log eras sound h are) r.started condition c.is_committed c.class_is (e ∙ sym r.txn_is);
       writer_class = c.class_is ∙ sym same_class;
       writer_time = c.ts_is ∙ sym same_write;
       changes = touched_one g c.committed _ rj.cond_by.frags d c.changes_are z.touching;

@@ -43,10 +43,8 @@ read_key c ts of txn attempt conds uses e = let q : (of.0 == c) ≡ true = ap (�
 -- the READ at the head of a pipe wasn't put before nothing went on and all was idle
 not_put_by : (g : Given) (log later mid between : Log) (c d : ℕ) (ts : Ts) (of : ClassNo) (txn : TxnNo) (attempt : ℕ) (conds : List Cond) (uses : List Use)
     → IsPermitted g log → IsSound g.catalogue → IsClass g.catalogue c → IsModule g.catalogue d
-    → head (pipe c (at_module g d log)) ≡ Some (Read ts of txn attempt conds uses)
-    → (p : IsPutAt g log c (dm_no d) (Read ts of txn attempt conds uses))
-    → log ≡ later ++ mid → IsQuiet g mid → IsIdle g mid
-    → mid ≡ between ++ Does (home g.catalogue c) p.act ∷ p.before → ⊥
+    → head (pipe c (at_module g d log)) ≡ Some (Read ts of txn attempt conds uses) → (p : IsPutAt g log c (dm_no d) (Read ts of txn attempt conds uses))
+    → log ≡ later ++ mid → IsQuiet g mid → IsIdle g mid → mid ≡ between ++ Does (home g.catalogue c) p.act ∷ p.before → ⊥
 not_put_by g log later mid between c d ts of txn attempt conds uses h sound l m e p is quiet idle at =
     let here : Site = home g.catalogue c in
     let x : Msg = Read ts of txn attempt conds uses in

@@ -75,15 +75,13 @@ runs_place g c t l m e =
 
 pub record IsStillT (g : Given) (log : Log) (t : ℕ) : Type 0 where
   pub nulls : first_some (tm.null_due (tm_views.view_of (setting_of g (T (tm_no t)))
-      (local_of g (T (tm_no t)) log))) (tm_views.view_of (setting_of g (T (tm_no t)))
-      (local_of g (T (tm_no t)) log)).classes ≡ None
+      (local_of g (T (tm_no t)) log))) (tm_views.view_of (setting_of g (T (tm_no t))) (local_of g (T (tm_no t)) log)).classes ≡ None
   pub exchanges : (j c : ℕ) → slice_get (tm_views.runs (setting_of g (T (tm_no t)))) j ≡ Some c
       → attempt_due g.catalogue (base_of g log) c (active (setting_of g (T (tm_no t))) c (local_of g (T (tm_no t)) log)) ≡ None
   pub held : tm.held_due (tm_views.view_of (setting_of g (T (tm_no t))) (local_of g (T (tm_no t)) log)) ≡ None
   pub starts : (j c : ℕ) → slice_get (tm_views.runs (setting_of g (T (tm_no t)))) j ≡ Some c
       → tm.start_due g.catalogue (tm_views.view_of (setting_of g (T (tm_no t)))
-      (local_of g (T (tm_no t)) log)) (tm_views.class_view (setting_of g (T (tm_no t)))
-      (local_of g (T (tm_no t)) log) c) ≡ None
+      (local_of g (T (tm_no t)) log)) (tm_views.class_view (setting_of g (T (tm_no t))) (local_of g (T (tm_no t)) log) c) ≡ None
 
 pub t_still : (g : Given) (log : Log) (t : ℕ) → IsQuiet g log → 1 ≤ t → t ≤ g.catalogue.tms → IsStillT g log t
 t_still g log t h l m =
@@ -134,13 +132,11 @@ u_still g log h =
 pub exchange_none : (g : Given) (log : Log) (c : ℕ) → IsQuiet g log → IsSound g.catalogue → IsClass g.catalogue c
     → attempt_due g.catalogue (base_of g log) c (active (setting_of g (home g.catalogue c)) c (at_home g c log)) ≡ None
 exchange_none g log c h sound l = elim (same_or_not c 0) [
-  | inl p ↦ subst (λ k. attempt_due g.catalogue (base_of g log) k
-      (active (setting_of g (home g.catalogue k)) k (at_home g k log)) ≡ None) (sym p)
+  | inl p ↦ subst (λ k. attempt_due g.catalogue (base_of g log) k (active (setting_of g (home g.catalogue k)) k (at_home g k log)) ≡ None) (sym p)
       (u_still g log h).exchange
   | inr p ↦ (let r = run_at g.catalogue c sound p l in
       let j = runs_place g c r.t (positive c p) l r.number_is in
-      subst (λ x. attempt_due g.catalogue (base_of g log) c
-      (active (setting_of g x) c (local_of g x log)) ≡ None) (sym r.home_is)
+      subst (λ x. attempt_due g.catalogue (base_of g log) c (active (setting_of g x) c (local_of g x log)) ≡ None) (sym r.home_is)
       ((t_still g log r.t h r.from r.to).exchanges j.0 c j.1))
 ]
 

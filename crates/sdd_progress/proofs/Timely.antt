@@ -1,13 +1,11 @@
 -- Where each `redeclare` is given when it may be, a lawful log has no data module down where it puts a list of classes in
 -- force, and puts none in force beyond those that are given.
-use Rattle.sdd_progress.proofs.All.{AllFewTicks, AreDone, AreTimely, Deliver, Down, Event, Given, IsLawful, IsModule, IsUpAtRedeclares, List, Log, Lose, Redeclare, Redeclares, Repeat, Resend, Settle, Some, Tick, Up, [], all_links, ap, append-nil, append_assoc, arith, calls_of, count_join, done, down_join, false, is_down, is_down_after, lawful_end, left, length, listed_first, mark_of, next_is_of_events, quiet, redeclares, redeclares_in, refl, round, settles_turn, subst, sym, ℕ, ◌++◌, ◌+◌, ◌<◌, ◌∙◌, ◌∷◌, ◌≡◌, ◌≤◌}
-use Rattle.sdd_obligations.specs.All.{Submit}
+use Rattle.sdd_progress.proofs.All.{AllFewTicks, AreDone, AreTimely, Event, Given, IsLawful, IsModule, IsUpAtRedeclares, List, Log, Redeclare, Redeclares, Some, [], all_links, ap, append-nil, append_assoc, arith, calls_of, count_join, done, down_join, false, is_down, is_down_after, lawful_end, left, length, listed_first, mark_of, next_is_of_events, quiet, redeclares, redeclares_in, refl, round, settles_turn, subst, sym, ℕ, ◌++◌, ◌+◌, ◌<◌, ◌∙◌, ◌∷◌, ◌≡◌, ◌≤◌}
 
 -- no data module is down
 
 up_there : (g : Given) (log : Log) (t : ℕ) (s : List Event × List Event) → mark_of g log s ≡ Some (Redeclares t)
-    → AreDone g (λ d. is_down d log) (redeclares log) s
-    → AreTimely g → (d : ℕ) → IsModule g.catalogue d → is_down d log ≡ false
+    → AreDone g (λ d. is_down d log) (redeclares log) s → AreTimely g → (d : ℕ) → IsModule g.catalogue d → is_down d log ≡ false
 up_there g log t (ws, []) m i timely d here =
     let f = listed_first g log (quiet (all_links g) (calls_of log)) (round (all_links g) (calls_of log)) ws t m in
     let whole : g.events ≡ (i.1.front ++ f.skip) ++ Redeclare ∷ f.rest =

@@ -20,8 +20,7 @@ pipe_rises g log c d h good l m =
 
 first_le : (ms : List Msg) (k : ℕ) (x m : Msg) → IsRising (map time_of ms) → head_of ms ≡ Some x → slice_get ms k ≡ Some m → time_of x ≤ time_of m
 first_le [] k x m h e f = cc
-first_le (y ∷ ms) zero x m h e f =
-    let p : y ≡ x = cc in let q : y ≡ m = cc in let same : time_of x ≡ time_of m = ap time_of (sym p ∙ q) in omega (arith, same)
+first_le (y ∷ ms) zero x m h e f = let p : y ≡ x = cc in let q : y ≡ m = cc in let same : time_of x ≡ time_of m = ap time_of (sym p ∙ q) in omega (arith, same)
 first_le (y ∷ ms) (suc k) x m h e f =
     let p : y ≡ x = cc in
     let l = least_at (time_of y) ms k m h.0 f in
@@ -83,8 +82,7 @@ asked g log j d n c t h good m z l same put not_yet empty =
       | inl o ↦ (
           let e = open_is_blocked (setting_of g at) lt place.0 j o.question place.1 (t_still g log run.t h run.from run.to).nulls o.there (o.class ∙ same) in
           let mine : active (setting_of g (home g.catalogue j)) j (at_home g j log) ≡ Some e.attempt =
-          subst (λ x. active (setting_of g x) j (local_of g x log) ≡ Some e.attempt)
-          (sym run.home_is) e.active_is in
+          subst (λ x. active (setting_of g x) j (local_of g x log) ≡ Some e.attempt) (sym run.home_is) e.active_is in
           let b = e.below in
           let time = o.time in
           below_attempt g log j e.attempt t.0 h good l mine (omega (arith, b, time)))
@@ -126,8 +124,7 @@ conds_of _ = []
 
 -- what a READ that waits lacks now it lacked when it began to wait
 ask_put : (g : Given) (log : Log) (c ts : ℕ) (conds : List Cond) (r : IsReader g log c ts conds) (n : ℕ) (x : Cond) → IsQuiet g log → FitsGiven g
-    → slice_get conds n ≡ Some x → IsClass g.catalogue x.class.0
-    → passed (pipe x.class.0 (at_module g r.d log)) x.time.0 ≡ false
+    → slice_get conds n ≡ Some x → IsClass g.catalogue x.class.0 → passed (pipe x.class.0 (at_module g r.d log)) x.time.0 ≡ false
     → (k : ℕ) × (slice_get (puts_to (home g.catalogue x.class.0) (at_module g r.d log)) k ≡ Some (Ask x.class x.time))
 ask_put g log c ts conds r n x h good e l not_yet =
     let s : Setting = setting_of g (D (dm_no r.d)) in
@@ -142,8 +139,7 @@ ask_put g log c ts conds r n x h good e l not_yet =
     let unmet : is_met v x ≡ false = elim (true_or_false (is_met v x)) [
       | inr q ↦ q
       | inl q ↦ (let before : passed (pipe x.class.0 i.before) x.time.0 ≡ true =
-          subst (λ (k : ClassView). passed k.pipe x.time.0 ≡ true) (class_in_view s i.before x.class.0
-          (omega (arith, l))) q in
+          subst (λ (k : ClassView). passed k.pipe x.time.0 ≡ true) (class_in_view s i.before x.class.0 (omega (arith, l))) q in
           let whole : (i.later ++ site.Did i.act ∷ []) ++ i.before ≡ lm = append_assoc i.later (site.Did i.act ∷ []) i.before ∙ sym i.is in
           let rises = subst (λ z. IsRising (map time_of (all_of (pipe x.class.0 z)))) (sym whole) (pipe_rises g log x.class.0 r.d h good l r.module_is) in
           let now : passed (pipe x.class.0 lm) x.time.0 ≡ true =
@@ -154,14 +150,10 @@ ask_put g log c ts conds r n x h good e l not_yet =
     let lacks = kept_there (λ (y : Cond). not (is_met v y)) w.conds n x there (ap not unmet) in
     let listed : slice_get (w.first ∷ w.more) lacks.0 ≡ Some x = subst (λ ds. slice_get ds lacks.0 ≡ Some x) w.lacks lacks.1 in
     let to : source_of (home_of s) x.class.0 ≡ home g.catalogue x.class.0 = source_is_home s x.class.0 (omega (arith, l)) in
-    let sent : slice_get (map (ask_for (home_of s)) (w.first ∷ w.more)) lacks.0 ≡ Some
-    (home g.catalogue x.class.0, Ask x.class x.time) =
-    at_map (ask_for (home_of s)) (w.first ∷ w.more) lacks.0 x listed
-    ∙ ap (λ b. Some (b, Ask x.class x.time)) to in
-    let by : slice_get (sends_of_act i.act) lacks.0 ≡ Some
-    (home g.catalogue x.class.0, Ask x.class x.time) =
-    subst (λ a. slice_get (sends_of_act a) lacks.0 ≡ Some
-    (home g.catalogue x.class.0, Ask x.class x.time)) (sym w.act_is) sent in
+    let sent : slice_get (map (ask_for (home_of s)) (w.first ∷ w.more)) lacks.0 ≡ Some (home g.catalogue x.class.0, Ask x.class x.time) =
+    at_map (ask_for (home_of s)) (w.first ∷ w.more) lacks.0 x listed ∙ ap (λ b. Some (b, Ask x.class x.time)) to in
+    let by : slice_get (sends_of_act i.act) lacks.0 ≡ Some (home g.catalogue x.class.0, Ask x.class x.time) =
+    subst (λ a. slice_get (sends_of_act a) lacks.0 ≡ Some (home g.catalogue x.class.0, Ask x.class x.time)) (sym w.act_is) sent in
     let out = sent_to (home g.catalogue x.class.0) (sends_of_act i.act) lacks.0 (Ask x.class x.time) by in
     let put = is_put (home g.catalogue x.class.0) i.later i.act i.before out.0 (Ask x.class x.time) out.1 in
     (put.0, subst (λ z. slice_get (puts_to (home g.catalogue x.class.0) z) put.0 ≡ Some (Ask x.class x.time)) (sym i.is) put.1)
@@ -224,11 +216,9 @@ by_head g log j t d (Write w of txn changes) l p e b stuck =
     let s : Setting = setting_of g (D (dm_no d)) in
     let v : View = view_of s (at_module g d log) in
     let a = any_at (λ (k : ClassView). k.waits && holds_back j w.0 changes (head k.pipe)) v.classes
-    (and_right (not (j == 0)) (list_any (λ (k : ClassView). k.waits && holds_back j w.0 changes
-    (head k.pipe)) v.classes) stuck) in
+    (and_right (not (j == 0)) (list_any (λ (k : ClassView). k.waits && holds_back j w.0 changes (head k.pipe)) v.classes) stuck) in
     let c = class_at_place s (at_module g d log) a.0 a.1 a.2 in
-    let f : (waits c.0 (at_module g d log) && holds_back j w.0 changes
-    (head (pipe c.0 (at_module g d log)))) ≡ true =
+    let f : (waits c.0 (at_module g d log) && holds_back j w.0 changes (head (pipe c.0 (at_module g d log)))) ≡ true =
     subst (λ (k : ClassView). (k.waits && holds_back j w.0 changes (head k.pipe)) ≡ true) (sym c.2) a.3 in
     let here = c.1 in
     inr (held_by g log j t d c.0 w of txn changes (head (pipe c.0 (at_module g d log))) p (omega (arith, here)) e b (and_left _ _ f) refl (and_right _ _ f))

@@ -8,8 +8,7 @@ use Rattle.sdd_obligations.specs.serial_orders.Attempts.{Attempt}
 abbrev pub low_time : Attempt → ℕ
 low_time a = unwrap_or (option_map (λ t. t.0) a.p2) a.ts
 
-below_low : (o : Option Ts) (ts write : ℕ) → write < ts → ((p2 : Ts) → o ≡ Some p2 → write < p2.0)
-    → write < unwrap_or (option_map (λ (t : Ts). t.0) o) ts
+below_low : (o : Option Ts) (ts write : ℕ) → write < ts → ((p2 : Ts) → o ≡ Some p2 → write < p2.0) → write < unwrap_or (option_map (λ (t : Ts). t.0) o) ts
 below_low None ts write l f = l
 below_low (Some p2) ts write l f = f p2 refl
 
@@ -44,8 +43,7 @@ each_weaker f [] all = tt
 each_weaker f (k ∷ ks) all = (f k all.0, each_weaker f ks all.1)
 
 writer_up : (h : History) (n bound most place : ℕ) → bound ≤ most → IsWriterBelow h n bound place → IsWriterBelow h n most place
-writer_up h n bound most place l w =
-    record { txn = w.txn; committed = w.committed; at = w.at; other = w.other; below = let b = w.below in omega arith }
+writer_up h n bound most place l w = record { txn = w.txn; committed = w.committed; at = w.at; other = w.other; below = let b = w.below in omega arith }
 
 writers_up : (h : History) (n bound most count : ℕ) → bound ≤ most → WritersBelow h n bound count → WritersBelow h n most count
 writers_up h n bound most count l w =
@@ -75,9 +73,7 @@ module _ (cat : Catalogue) (eras : Eras) (txns : List Txn) (h : History) (starti
       let at : s.place ≡ t.place =
       starting.one_submit b.txn s.place t.place (subst (λ n. Stands h s.place (Submit (txn_no n))) e s.submitted) t.submitted in
       let text : s.txn ≡ t.txn = same_Some s.txn t.txn (sym s.txn_is ∙ ap (txn_at txns) e ∙ t.txn_is) in
-      s.class_is
-      ∙ ap (λ k. class_for (in_force cat eras (event_at h k)) s.txn) at
-      ∙ ap (class_for (in_force cat eras (event_at h t.place))) text
+      s.class_is ∙ ap (λ k. class_for (in_force cat eras (event_at h k)) s.txn) at ∙ ap (class_for (in_force cat eras (event_at h t.place))) text
       ∙ sym t.class_is
 
   -- a later attempt has a greater timestamp

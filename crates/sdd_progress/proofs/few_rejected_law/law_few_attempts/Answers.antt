@@ -3,8 +3,7 @@ use Rattle.sdd_progress.proofs.OfLogs.{few_attempts, few_in_limit}
 use Rattle.sdd_progress.proofs.few_rejected_law.law_few_attempts.Goals as goal
 
 pub returns-clause-square : goal.returns-clause-square
-returns-clause-square c = λ given rows log eras sound fine permitted are numbered.
-    few_attempts given rows log eras sound.catalogue fine permitted are numbered
+returns-clause-square c = λ given rows log eras sound fine permitted are numbered. few_attempts given rows log eras sound.catalogue fine permitted are numbered
 
 pub returns-clause-limit : goal.returns-clause-limit
 returns-clause-limit c = λ given rows log eras sound fine permitted are numbered few.
