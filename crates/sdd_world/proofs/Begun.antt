@@ -15,8 +15,7 @@ found_at P q (Some v) s log f h = f v h
 
 pub all_begun : (whole cat : Catalogue) (table : List Entry) (txns : List Txn) (u : Kept um_state.State)
     (tms : List (Kept tm_state.State)) (dms : List (Kept dm_state.State))
-    → ((s : Setting) → s.catalogue ≡ whole → s.site ≡ U → um.Stands u s [])
-    → AllBegin (BeginsT whole cat table) whole.tms tms
+    → ((s : Setting) → s.catalogue ≡ whole → s.site ≡ U → um.Stands u s []) → AllBegin (BeginsT whole cat table) whole.tms tms
     → (g : Given) → IsBegun g whole cat table txns dms → (at : Site) → IsSiteOf g at
     → StandsAt LivesU LivesT LivesD u tms dms at (setting_of g at) (beginning g at)
 all_begun whole cat table txns u tms dms at_u at_t g made U here =

@@ -42,8 +42,7 @@ module _ {V : Type 0} (stands : Standing V) (next : Table) where
   abbrev pub Given : FittingSubmit → V → V → TxnNo → Txn → Outcome → Type 0
   Given fits v v2 n txn o =
       (setting : Setting) (bases : Bases) (log : site.Log) → stands v setting log → fits setting bases log n.0 txn
-      → (recs : List Rec) × (o.recs ≡ Submission n ∷ recs)
-      × Does (next setting bases) (Submits n.0 txn ∷ log) recs o.out (stands v2 setting)
+      → (recs : List Rec) × (o.recs ≡ Submission n ∷ recs) × Does (next setting bases) (Submits n.0 txn ∷ log) recs o.out (stands v2 setting)
 
 -- what stands for a log in a wider sense does in the narrower, and after a call does again
 record Widens {V W : Type 0} (stands : Standing V) (wide : Standing W) (v v2 : V) (w w2 : W) : Type 0 where
@@ -69,21 +68,16 @@ module _ {V W : Type 0} (stands : Standing V) (wide : Standing W) (next table : 
 -- a module that is live after the call
 module _ {V : Type 0} (is_live : V → Bool) (stands : Standing V) (next : Table) (v v2 : V) where
   lives : IsTrue (is_live v2) → Widens stands (Lives is_live stands) v v2 v v2
-  lives live = record {
-    narrow = λ setting log x. x.stands_for;
-    widen = λ setting log more x y. record { live = live; stands_for = y };
-  }
+  lives live = record { narrow = λ setting log x. x.stands_for; widen = λ setting log more x y. record { live = live; stands_for = y } }
 
   pub lives_take : (fits : Fitting) (from : Site) (msg : Msg) (res : Result Outcome NoMemory) → IfOk res (Takes stands next fits v v2 from msg)
       → IfOk res (λ o. IsTrue (is_live v2)) → IfOk res (Takes (Lives is_live stands) next fits v v2 from msg)
-  lives_take fits from msg (Ok o) law live =
-      takes_so stands (Lives is_live stands) next next (λ s b l. refl) v v2 v v2 (lives live) fits from msg o law
+  lives_take fits from msg (Ok o) law live = takes_so stands (Lives is_live stands) next next (λ s b l. refl) v v2 v v2 (lives live) fits from msg o law
   lives_take fits from msg (Err e) law live = tt
 
   pub lives_submit : (fits : FittingSubmit) (n : TxnNo) (txn : Txn) (res : Result Outcome NoMemory) → IfOk res (Given stands next fits v v2 n txn)
       → IfOk res (λ o. IsTrue (is_live v2)) → IfOk res (Given (Lives is_live stands) next fits v v2 n txn)
-  lives_submit fits n txn (Ok o) law live =
-      given_so stands (Lives is_live stands) next next (λ s b l. refl) v v2 v v2 (lives live) fits n txn o law
+  lives_submit fits n txn (Ok o) law live = given_so stands (Lives is_live stands) next next (λ s b l. refl) v v2 v v2 (lives live) fits n txn o law
   lives_submit fits n txn (Err e) law live = tt
 
 -- an element of a list is read, and written anew

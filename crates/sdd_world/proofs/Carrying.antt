@@ -1,5 +1,5 @@
 -- Steps of a schedule.
-use Rattle.sdd_world.proofs.All.{AreAllowed, ClassList, Deliver, Down, EndsBy, Err, Event, Given, IfOk, IsAllowed, IsGood, IsListed, IsNextList, IsPossible, List, Log, Lose, Ok, Redeclare, Repeat, Resend, Result, Settle, StandsFor, Submit, Tick, Up, World, WorldEnd, [], ap, false, lawful_grows, lists_after, next_grows, refl, subst, sym, takes_rounds, with_event, with_events, ◌∙◌, ◌∷◌, ◌≡◌, ◌≢◌}
+use Rattle.sdd_world.proofs.All.{AreAllowed, ClassList, EndsBy, Err, Event, Given, IfOk, IsAllowed, IsGood, IsListed, IsNextList, IsPossible, List, Log, Ok, Redeclare, Result, Settle, StandsFor, World, WorldEnd, [], ap, false, lawful_grows, lists_after, next_grows, refl, subst, sym, takes_rounds, with_event, with_events, ◌∙◌, ◌∷◌, ◌≡◌, ◌≢◌}
 
 -- an event that is reached by no rounds
 pub no_rounds : (e : Event) → e ≢ Settle → e ≢ Redeclare → takes_rounds e ≡ false
@@ -30,8 +30,7 @@ ends_with_all g (e ∷ events) h = ends_with_all (with_event g e) events (ends_w
 
 -- the first event of a schedule that is left, and the others
 pub first_allowed : (g : Given) (events rest : List Event) (e : Event) (lists after : List ClassList) → events ≡ e ∷ rest
-    → after ≡ lists_after e lists → AreAllowed g events lists
-    → IsAllowed g e lists × AreAllowed (with_event g e) rest after
+    → after ≡ lists_after e lists → AreAllowed g events lists → IsAllowed g e lists × AreAllowed (with_event g e) rest after
 first_allowed g events rest e lists after is taken h =
     let p : IsAllowed g e lists × AreAllowed (with_event g e) rest (lists_after e lists) = subst (λ es. AreAllowed g es lists) is h in
     (p.0, subst (AreAllowed (with_event g e) rest) (sym taken) p.1)
@@ -66,8 +65,7 @@ settle_goes w e lists (Err end) is law = tt
 
 pub settle_ends : (w : World) (e : Event) (lists : List ClassList) → e ≡ Settle
     → ((g : Given) (log : Log) → StandsFor w g log → IsGood (with_event g Settle) → EndsBy (with_event g Settle)) → EndsIt w e lists
-settle_ends w e lists is law = λ g log s a.
-    subst (λ x. EndsBy (with_event g x)) (sym is) (law g log s (subst (λ x. IsGood (with_event g x)) is a.good))
+settle_ends w e lists is law = λ g log s a. subst (λ x. EndsBy (with_event g x)) (sym is) (law g log s (subst (λ x. IsGood (with_event g x)) is a.good))
 
 -- a redeclare puts the first of the lists in force
 
@@ -94,5 +92,4 @@ step_goes w e lists (Err end) is law = tt
 -- all events are carried out
 pub carried_all : (w : World) (g now : Given) (log : Log) (events : List Event) (all : Given) → StandsFor w now log → events ≡ []
     → with_events now events ≡ all → (more : Log) × StandsFor w all more
-carried_all w g now log events all s none is =
-    let same : now ≡ all = sym (ap (with_events now) none) ∙ is in (log, subst (λ x. StandsFor w x log) same s)
+carried_all w g now log events all s none is = let same : now ≡ all = sym (ap (with_events now) none) ∙ is in (log, subst (λ x. StandsFor w x log) same s)

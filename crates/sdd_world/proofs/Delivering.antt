@@ -81,8 +81,7 @@ pub got_ack : (w w2 : World) (g : Given) (log : Log) (a b : Site) (k : ℕ) (d :
 got_ack w w2 g log a b k d m t f e same =
     let is : delivery k (link_of a b log) ≡ Acked = sym (t g.catalogue.tms g.catalogue.dms (calls_of log) m.parts.net) ∙ e in
     marked_plain w w2 g log (Deliver a b k) m tt (delivers_ack g a b k log m.marked is)
-    (same ∙ ap (λ x. record w { net = w2.net; spool = x }) (sym (ap (λ v. v.spool) same)))
-    (f g.catalogue.tms g.catalogue.dms (calls_of log) m.parts.net)
+    (same ∙ ap (λ x. record w { net = w2.net; spool = x }) (sym (ap (λ v. v.spool) same))) (f g.catalogue.tms g.catalogue.dms (calls_of log) m.parts.net)
     (subst (λ x. Spooled g (Mark (Deliver a b k) ∷ log) x U) (sym (ap (λ v. v.spool) same))
     (all_beside g a b k log w.spool (ack_same a b k log is) m.spooled))
 
@@ -119,8 +118,7 @@ handed_calm w w1 w2 g log a b k m part same d =
         };
         marks_are = h.marks_are;
         spooled = subst (λ x. Spooled g d.more x U) (sym boxes)
-            (with_busy g log d.more w.spool b m.spooled part h.waits.part
-            (subst (λ x. Spooled g d.more x b) boxes h.spooled));
+            (with_busy g log d.more w.spool b m.spooled part h.waits.part (subst (λ x. Spooled g d.more x b) boxes h.spooled));
       };
       ahead_is = d.ahead_is;
     }
@@ -133,15 +131,9 @@ handed_further w g b kept first now boxes before e f d = record { more = d.more;
 
 -- none is handed over yet
 pub handed_none : (w : World) (g : Given) (log : Log) (from to : Site) (messages queue : List Msg)
-    → messages ≡ queue → Handing w g log to (from_one from messages)
-    → HandedOn w g to (from_one from queue) (ahead_of g log) w.spool
+    → messages ≡ queue → Handing w g log to (from_one from messages) → HandedOn w g to (from_one from queue) (ahead_of g log) w.spool
 handed_none w g log from to messages queue e h =
-    record {
-      more = log;
-      handing = subst (λ q. Handing w g log to (from_one from q)) e h;
-      ahead_is = refl;
-      spool_is = refl;
-    }
+    record { more = log; handing = subst (λ q. Handing w g log to (from_one from q)) e h; ahead_is = refl; spool_is = refl }
 
 pub handed_whole : {A : Type 0} (messages queue : List A) {items : List A} → items ≡ messages → queue ≡ items → messages ≡ queue
 handed_whole messages queue e f = sym (f ∙ e)

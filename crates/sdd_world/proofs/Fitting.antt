@@ -23,8 +23,7 @@ module _ {M : Type 0} (P : M → Type 0) where
   arrives_keeps (Message n m) l h = h
   arrives_keeps (Ack k) l h = h
 
-  packet_keeps : (o : Option (Packet M)) (f : Packet M → Link M) (l : Link M) → ((p : Packet M) → AllSent (f p))
-      → AllSent l → AllSent (with_packet o f l)
+  packet_keeps : (o : Option (Packet M)) (f : Packet M → Link M) (l : Link M) → ((p : Packet M) → AllSent (f p)) → AllSent l → AllSent (with_packet o f l)
   packet_keeps None f l k h = h
   packet_keeps (Some p) f l k h = k p
 

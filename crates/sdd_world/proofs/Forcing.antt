@@ -6,15 +6,10 @@ use Rattle.sdd_obligations.specs.site_module.SiteLog as site
 pub record ForcedTo (m : Sites) (g : Given) (log : Log) (force : Force) (t n : ℕ) : Type 0 where
   pub forced : (k : ℕ) → 1 ≤ k → k < n → IsSiteOf g (T (tm_no k))
       → StandFor m (T (tm_no k)) (setting_of g (T (tm_no k))) (Redeclared force t ∷ local_of g (T (tm_no k)) log)
-  pub others : (at : Site) → ((k : ℕ) → at ≡ T (tm_no k) → n ≤ k) → IsSiteOf g at
-      → StandFor m at (setting_of g at) (local_of g at log)
+  pub others : (at : Site) → ((k : ℕ) → at ≡ T (tm_no k) → n ≤ k) → IsSiteOf g at → StandFor m at (setting_of g at) (local_of g at log)
 
-pub none_forced : (m : Sites) (g : Given) (log : Log) (force : Force) (t : ℕ) → AllStandFor m g log
-    → ForcedTo m g log force t 1
-none_forced m g log force t all = record {
-  forced = λ k low high here. absurd (omega arith);
-  others = λ at later here. all at here;
-}
+pub none_forced : (m : Sites) (g : Given) (log : Log) (force : Force) (t : ℕ) → AllStandFor m g log → ForcedTo m g log force t 1
+none_forced m g log force t all = record { forced = λ k low high here. absurd (omega arith); others = λ at later here. all at here }
 
 -- transaction modules within the network
 
@@ -27,8 +22,7 @@ t_within g t here =
     (leb-true 1 t.0 p.0, leb-true t.0 g.catalogue.tms p.1)
 
 -- what the module that comes next stands for
-pub t_stands : (m : Sites) (g : Given) (log : Log) (force : Force) (t n : ℕ)
-    → ForcedTo m g log force t n → IsSiteOf g (T (tm_no n))
+pub t_stands : (m : Sites) (g : Given) (log : Log) (force : Force) (t n : ℕ) → ForcedTo m g log force t n → IsSiteOf g (T (tm_no n))
     → StandFor m (T (tm_no n)) (setting_of g (T (tm_no n))) (local_of g (T (tm_no n)) log)
 t_stands m g log force t n f here = f.others (T (tm_no n)) (λ k e. (let same : n ≡ k = ap number_of e in omega (arith, same))) here
 
@@ -47,8 +41,7 @@ apart_from at n later = elim (same_site at (T (tm_no n))) as (λ b. same_site at
   | false ↦ λ p. refl
 ] refl
 
-pub one_forced : (m m2 : Sites) (g : Given) (log : Log) (force : Force) (t n : ℕ)
-    → ForcedTo m g log force t n → IsSiteOf g (T (tm_no n))
+pub one_forced : (m m2 : Sites) (g : Given) (log : Log) (force : Force) (t n : ℕ) → ForcedTo m g log force t n → IsSiteOf g (T (tm_no n))
     → FitsForce g.catalogue force t → ForceLaw m m2 force t n → OthersLaw m m2 n → ForcedTo m2 g log force t (n + 1)
 one_forced m m2 g log force t n f here fits law stay = record {
   forced = λ k low high there. elim (cases_lt k n) [
@@ -74,8 +67,7 @@ all_forced m g log force t n e f (D d) here = f.others (D d) (λ k q. cc) here
 one_less : (n m : ℕ) → n < m → m - n ≡ suc (m - (n + 1))
 one_less n m l = omega (arith, l)
 
-pub greatest_next : (f : ℕ → ℕ) (a n m b new v : ℕ) → n < m → b ≡ f n → new ≡ max a b
-    → fold max a (map f (range_with_len n (m - n))) ≡ v
+pub greatest_next : (f : ℕ → ℕ) (a n m b new v : ℕ) → n < m → b ≡ f n → new ≡ max a b → fold max a (map f (range_with_len n (m - n))) ≡ v
     → fold max new (map f (range_with_len (n + 1) (m - (n + 1)))) ≡ v
 greatest_next f a n m b new v l is most all =
     ap (λ x. fold max x (map f (range_with_len (n + 1) (m - (n + 1))))) (most ∙ ap (λ x. max a x) is)
@@ -89,6 +81,5 @@ greatest_last f a n m v e all =
 first_left : (m : ℕ) → m + 1 - 1 ≡ m
 first_left m = omega arith
 
-pub greatest_first : (f : ℕ → ℕ) (m v : ℕ) → fold max 0 (map f (range_with_len 1 m)) ≡ v
-    → fold max 0 (map f (range_with_len 1 (m + 1 - 1))) ≡ v
+pub greatest_first : (f : ℕ → ℕ) (m v : ℕ) → fold max 0 (map f (range_with_len 1 m)) ≡ v → fold max 0 (map f (range_with_len 1 (m + 1 - 1))) ≡ v
 greatest_first f m v e = ap (λ k. fold max 0 (map f (range_with_len 1 k))) (first_left m) ∙ e

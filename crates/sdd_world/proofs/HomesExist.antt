@@ -30,5 +30,4 @@ txn_read g n i txns xs txn same is at l e =
     subst (λ k. slice_get g.txns k ≡ Some txn) at (subst (λ ys. slice_get ys i ≡ Some txn) (is ∙ same) (slice_get-get_or xs i txn l ∙ ap (λ x. Some x) (sym e)))
 
 pub no_txn : (g : Given) (n i : ℕ) (txns xs : List Txn) → txns ≡ g.txns → xs ≡ txns → i ≡ n - 1 → length xs ≤ i → txn_at g n ≡ None
-no_txn g n i txns xs same is at l =
-    subst (λ k. slice_get g.txns k ≡ None) at (subst (λ ys. slice_get ys i ≡ None) (is ∙ same) (slice_get_past xs i l))
+no_txn g n i txns xs same is at l = subst (λ k. slice_get g.txns k ≡ None) at (subst (λ ys. slice_get ys i ≡ None) (is ∙ same) (slice_get_past xs i l))

@@ -46,8 +46,7 @@ others_stay g log old new d count only s = record {
   each = λ e here apart. subst (λ b. KeepsFor g log e b) (sym (only e (dm_within g (dm_no e) here).0 (same_dm e d apart))) (s.each e here apart);
 }
 
-moved : (from x : Site) (m : Msg) (rest old new : List Msg)
-    → (same_site x from ≡ true → new ≡ old ++ m ∷ []) → (same_site x from ≡ false → new ≡ old)
+moved : (from x : Site) (m : Msg) (rest old new : List Msg) → (same_site x from ≡ true → new ≡ old ++ m ∷ []) → (same_site x from ≡ false → new ≡ old)
     → old ++ from_one from (m ∷ rest) x ≡ new ++ from_one from rest x
 moved from x m rest old new f h =
     elim (same_site x from) as (λ c. same_site x from ≡ c → old ++ (if c then m ∷ rest else []) ≡ new ++ (if c then rest else [])) [
@@ -67,8 +66,7 @@ put_one g log old new from d q rest m e k p count only = record {
   senders = p.count ∙ k.senders;
   kept = λ x.
       let before : Remain log x (D (dm_no d)) (kept_from (mailbox_at old d) x ++ from_one from
-      (m ∷ rest) x) = subst (λ z. Remain log x (D (dm_no d))
-      (kept_from (mailbox_at old d) x ++ from_one from z x)) e (k.kept x) in
+      (m ∷ rest) x) = subst (λ z. Remain log x (D (dm_no d)) (kept_from (mailbox_at old d) x ++ from_one from z x)) e (k.kept x) in
       subst (λ z. Remain log x (D (dm_no d)) z)
       (moved from x m rest (kept_from (mailbox_at old d) x) (kept_from (mailbox_at new d) x)
       (λ s. subst (λ z. kept_from (mailbox_at new d) z ≡ kept_from (mailbox_at old d) z ++ m ∷ [])
@@ -132,11 +130,9 @@ pub kept_happened : (w w2 : World) (net : NetValue) (g : Given) (log : Log) (a :
     (messages : List Msg) → Marked w g log (Deliver a (D (dm_no d)) k)
     → is_down d log ≡ true → delivery k (link_of a (D (dm_no d)) log) ≡ Messages messages
     → Carries net g.catalogue.tms g.catalogue.dms (calls_of (Mark (Deliver a (D (dm_no d)) k) ∷ log))
-    → w2 ≡ record w { net = net; spool = w2.spool } → Keeping g (Mark (Deliver a (D (dm_no d)) k) ∷ log) w2.spool a d []
-    → Happened w2 g log
+    → w2 ≡ record w { net = net; spool = w2.spool } → Keeping g (Mark (Deliver a (D (dm_no d)) k) ∷ log) w2.spool a d [] → Happened w2 g log
 kept_happened w w2 net g log a d k messages m down is n same kept =
-    marked_plain w w2 g log (Deliver a (D (dm_no d)) k) m tt
-    (delivers_kept g a (D (dm_no d)) k log messages m.marked (ap not down) is)
+    marked_plain w w2 g log (Deliver a (D (dm_no d)) k) m tt (delivers_kept g a (D (dm_no d)) k log messages m.marked (ap not down) is)
     (same ∙ ap (λ z. record w { net = z; spool = w2.spool }) (sym (ap (λ v. v.net) same)))
     (subst (λ z. Carries z g.catalogue.tms g.catalogue.dms (calls_of (Mark (Deliver a (D (dm_no d)) k) ∷ log))) (sym (ap (λ v. v.net) same)) n)
     (all_kept g (Mark (Deliver a (D (dm_no d)) k) ∷ log) w2.spool a d kept)
@@ -145,6 +141,5 @@ pub all_put : (g : Given) (log : Log) (boxes : List (Mailbox Msg)) (a : Site) (d
     → Keeping g log boxes a d queue → (n : ℕ) → n ≡ length queue → n ≡ 0 → Keeping g log boxes a d []
 all_put g log boxes a d queue k n e f = subst (λ q. Keeping g log boxes a d q) (no_items queue n e f) k
 
-pub same_again : (w now : World) (boxes : List (Mailbox Msg)) → now ≡ record w { spool = now.spool }
-    → record now { spool = boxes } ≡ record w { spool = boxes }
+pub same_again : (w now : World) (boxes : List (Mailbox Msg)) → now ≡ record w { spool = now.spool } → record now { spool = boxes } ≡ record w { spool = boxes }
 same_again w now boxes e = ap (λ (v : World). record v { spool = boxes }) e

@@ -6,8 +6,7 @@ kept-append g p xs ys = ap (map g) (filter-append p xs ys) ∙ map-append g (fil
 
 -- images of the numbers that pass: one number more
 pub kept_to : {B : Type 0} (g : ℕ → B) (p : ℕ → Bool) (n : ℕ) (start old more : List B) → 1 ≤ n
-    → more ≡ old ++ map g (filter p (n ∷ [])) → old ≡ start ++ map g (filter p (numbers_to (n - 1)))
-    → more ≡ start ++ map g (filter p (numbers_to (n + 1 - 1)))
+    → more ≡ old ++ map g (filter p (n ∷ [])) → old ≡ start ++ map g (filter p (numbers_to (n - 1))) → more ≡ start ++ map g (filter p (numbers_to (n + 1 - 1)))
 kept_to g p n start old more some e before =
     e ∙ ap (λ l. l ++ map g (filter p (n ∷ []))) before ∙ append_assoc start (map g (filter p (numbers_to (n - 1)))) (map g (filter p (n ∷ [])))
     ∙ ap (λ l. start ++ l) (sym (ap (λ ns. map g (filter p ns)) (up_to n some) ∙ kept-append g p (numbers_to (n - 1)) (n ∷ [])))

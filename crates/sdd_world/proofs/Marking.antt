@@ -1,5 +1,5 @@
 -- Events of which nothing more is due, or that find nothing to do, over plain worlds.
-use Rattle.sdd_world.proofs.All.{All, Bool, Call, Carries, D, Deliver, Down, Event, Given, Happened, IsNoTick, IsSiteOf, List, Log, Lose, Loses, Mailbox, Mark, Marked, Msg, NetValue, None, Noted, Notes, Option, Packet, Redeclare, Remain, Repeat, Repeats, Resend, Resends, Rests, Settle, Site, Some, Spooled, StandFor, Submit, Tick, TurnsNone, U, Up, World, [], after_mark, ap, arith, calls_of, delivered, delivered_lose, delivered_repeat, delivered_resend, dm_no, due_by, false, force_at, handed, handed_still, history, is_down, is_none, is_some, left, length, link, link_of, local_of, mark_local, marks, nat_lt, none_by_mark, note_if, packet_at, redeclares, refl, rests_marked, rests_noted, sent_stays, setting_of, slice_get, subst, suc, sym, true, unacked_none, unacked_some, ℕ, ◌++◌, ◌+◌, ◌∙◌, ◌∷◌, ◌≡◌, ◌≤◌}
+use Rattle.sdd_world.proofs.All.{All, Bool, Call, Carries, D, Down, Event, Given, Happened, IsNoTick, IsSiteOf, List, Log, Lose, Loses, Mailbox, Mark, Marked, Msg, NetValue, None, Noted, Notes, Option, Packet, Remain, Repeat, Repeats, Resend, Resends, Rests, Site, Some, Spooled, StandFor, TurnsNone, U, Up, World, [], after_mark, ap, arith, calls_of, delivered, delivered_lose, delivered_repeat, delivered_resend, dm_no, due_by, false, force_at, handed, handed_still, history, is_down, is_none, is_some, left, length, link, link_of, local_of, mark_local, marks, nat_lt, none_by_mark, note_if, packet_at, redeclares, refl, rests_marked, rests_noted, sent_stays, setting_of, slice_get, subst, suc, sym, true, unacked_none, unacked_some, ℕ, ◌++◌, ◌+◌, ◌∙◌, ◌∷◌, ◌≡◌, ◌≤◌}
 use Rattle.sdd_world.proofs.Parting.{events_before, later, same_ahead, spooled_on}
 use Rattle.sdd_world.proofs.Handing.{at_log}
 
@@ -58,8 +58,7 @@ pub record Results (w2 : World) (g : Given) (log more : Log) : Type 0 where
   pub net : Carries w2.net g.catalogue.tms g.catalogue.dms (calls_of more)
   pub spooled : Spooled g more w2.spool U
 
-pub happened : (w w2 : World) (g : Given) (log : Log) (e : Event) (more : Log)
-    → Marked w g log e → Stays w w2 → Results w2 g log more → Happened w2 g log
+pub happened : (w w2 : World) (g : Given) (log : Log) (e : Event) (more : Log) → Marked w g log e → Stays w w2 → Results w2 g log more → Happened w2 g log
 happened w w2 g log e more m s r = record {
   more = more;
   calm = record {
@@ -81,16 +80,13 @@ happened w w2 g log e more m s r = record {
   ahead_is = same_ahead (left g.events more) (after_mark (left g.events log)) (marks more) (suc (marks log)) r.left_is r.marks_is;
 }
 
-sites_marked : (w : World) (g : Given) (log : Log) (e : Event)
-    → Marked w g log e → IsNoTick e → (x : Site) → IsSiteOf g x
+sites_marked : (w : World) (g : Given) (log : Log) (e : Event) → Marked w g log e → IsNoTick e → (x : Site) → IsSiteOf g x
     → StandFor w.sites x (setting_of g x) (local_of g x (Mark e ∷ log))
 sites_marked w g log e m i x here =
-    at_log (StandFor w.sites x (setting_of g x)) (local_of g x (Mark e ∷ log)) (local_of g x log)
-    (mark_local g e log x i) (m.parts.sites x here)
+    at_log (StandFor w.sites x (setting_of g x)) (local_of g x (Mark e ∷ log)) (local_of g x log) (mark_local g e log x i) (m.parts.sites x here)
 
 -- an event of which nothing more is due
-pub marked_plain : (w w2 : World) (g : Given) (log : Log) (e : Event)
-    → Marked w g log e → IsNoTick e → Rests g (Mark e ∷ log)
+pub marked_plain : (w w2 : World) (g : Given) (log : Log) (e : Event) → Marked w g log e → IsNoTick e → Rests g (Mark e ∷ log)
     → w2 ≡ record w { net = w2.net; spool = w2.spool } → Carries w2.net g.catalogue.tms g.catalogue.dms
     (calls_of (Mark e ∷ log)) → Spooled g (Mark e ∷ log) w2.spool U
     → Happened w2 g log
@@ -113,11 +109,9 @@ noted_spool : (g : Given) (log : Log) (boxes : List (Mailbox Msg)) → Spooled g
 noted_spool g log boxes s = spooled_on g log (Notes ∷ log) boxes U (λ d. refl) (λ d apart x rest r. record { count = r.count; messages = r.messages }) s
 
 -- an event that finds nothing to do, and is noted
-pub marked_noted : (w w2 : World) (g : Given) (log : Log) (e : Event)
-    → Marked w g log e → IsNoTick e → Rests g (Notes ∷ Mark e ∷ log)
+pub marked_noted : (w w2 : World) (g : Given) (log : Log) (e : Event) → Marked w g log e → IsNoTick e → Rests g (Notes ∷ Mark e ∷ log)
     → w2 ≡ record w { net = w2.net; history = w2.history; spool = w2.spool } → w2.history ≡ w.history ++ (w.marks, Noted) ∷ []
-    → Carries w2.net g.catalogue.tms g.catalogue.dms (calls_of (Mark e ∷ log))
-    → Spooled g (Mark e ∷ log) w2.spool U → Happened w2 g log
+    → Carries w2.net g.catalogue.tms g.catalogue.dms (calls_of (Mark e ∷ log)) → Spooled g (Mark e ∷ log) w2.spool U → Happened w2 g log
 marked_noted w w2 g log e m i r same noted n s =
     happened w w2 g log e (Notes ∷ Mark e ∷ log) m
     (record { whole = ap (λ v. v.whole.now) same; catalogue = ap (λ v. v.catalogue.now) same; txns = ap (λ v. v.txns) same; given = ap (λ v. v.given) same; marks = ap (λ v. v.marks) same })
@@ -133,8 +127,7 @@ marked_noted w w2 g log e m i r same noted n s =
       spooled = noted_spool g (Mark e ∷ log) w2.spool s;
     })
 
-pub order_of : (w : World) (g : Given) (log : Log) (e : Event)
-    → Marked w g log e → All {X = ℕ × _} (λ x. x.0 ≤ w.marks) w.history
+pub order_of : (w : World) (g : Given) (log : Log) (e : Event) → Marked w g log e → All {X = ℕ × _} (λ x. x.0 ≤ w.marks) w.history
 order_of w g log e m = rw (m.marks_are, m.parts.history_is) (later (marks log) (suc (marks log)) (history log) (omega arith) (events_before log))
 
 -- losing, repeating and resending
@@ -150,8 +143,7 @@ pub record DoesNothing (w w2 : World) (g : Given) (log : Log) (e : Event) : Type
   pub same : (a b : Site) → delivered (link_of a b (Mark e ∷ log)).there ≡ delivered (link_of a b log).there
   pub net : Carries w2.net g.catalogue.tms g.catalogue.dms (calls_of (Mark e ∷ log))
 
-pub did : (w w2 : World) (g : Given) (log : Log) (e : Event)
-    → Marked w g log e → DoesNothing w w2 g log e → due_by g e log ≡ None
+pub did : (w w2 : World) (g : Given) (log : Log) (e : Event) → Marked w g log e → DoesNothing w w2 g log e → due_by g e log ≡ None
     → w2 ≡ record w { net = w2.net } → Happened w2 g log
 did w w2 g log e m q d same =
     marked_plain w w2 g log e m q.no_tick
@@ -160,12 +152,10 @@ did w w2 g log e m q d same =
     (same ∙ ap (λ b. record w { net = w2.net; spool = b }) (sym (ap (λ v. v.spool) same))) q.net
     (subst (λ b. Spooled g (Mark e ∷ log) b U) (sym (ap (λ v. v.spool) same)) (spool_kept g log e w.spool q.turns_none q.links m.spooled))
 
-pub noted : (w w2 : World) (g : Given) (log : Log) (e : Event)
-    → Marked w g log e → DoesNothing w w2 g log e → due_by g e log ≡ Some Notes
+pub noted : (w w2 : World) (g : Given) (log : Log) (e : Event) → Marked w g log e → DoesNothing w w2 g log e → due_by g e log ≡ Some Notes
     → w2 ≡ record w { net = w2.net; history = w2.history } → w2.history ≡ w.history ++ (w.marks, Noted) ∷ [] → Happened w2 g log
 noted w w2 g log e m q d same note =
-    marked_noted w w2 g log e m q.no_tick
-    (rests_noted g log e m.marked q.no_tick d (handed_still log e q.turns_none q.same m.marked.rests.handed_all))
+    marked_noted w w2 g log e m q.no_tick (rests_noted g log e m.marked q.no_tick d (handed_still log e q.turns_none q.same m.marked.rests.handed_all))
     (same ∙ ap (λ b. record w { net = w2.net; history = w2.history; spool = b }) (sym (ap (λ v. v.spool) same))) note q.net
     (subst (λ b. Spooled g (Mark e ∷ log) b U) (sym (ap (λ v. v.spool) same)) (spool_kept g log e w.spool q.turns_none q.links m.spooled))
 
@@ -179,8 +169,7 @@ lose_does w w2 g log a b k n = record {
   net = n;
 }
 
-pub repeat_does : (w w2 : World) (g : Given) (log : Log) (a b : Site) (k : ℕ)
-    → Carries w2.net g.catalogue.tms g.catalogue.dms (Repeats a b k ∷ calls_of log)
+pub repeat_does : (w w2 : World) (g : Given) (log : Log) (a b : Site) (k : ℕ) → Carries w2.net g.catalogue.tms g.catalogue.dms (Repeats a b k ∷ calls_of log)
     → DoesNothing w w2 g log (Repeat a b k)
 repeat_does w w2 g log a b k n = record {
   no_tick = tt;
@@ -254,8 +243,7 @@ resent w w2 g log a b some m t f e same =
     (ap note_if (unacked_some (link_of a b log).there (sym (t g.catalogue.tms g.catalogue.dms (calls_of log) m.parts.net) ∙ e))) same
 
 pub resent_nothing : (w w2 : World) (net : NetValue) (g : Given) (log : Log) (a b : Site) (some : Bool)
-    → Marked w g log (Resend a b) → SomeLaw w.net some a b → NetLaw w.net net (Resends a b)
-    → some ≡ false → w2 ≡ record w { net = net; history = w2.history }
+    → Marked w g log (Resend a b) → SomeLaw w.net some a b → NetLaw w.net net (Resends a b) → some ≡ false → w2 ≡ record w { net = net; history = w2.history }
     → w2.history ≡ w.history ++ (w.marks, Noted) ∷ [] → Happened w2 g log
 resent_nothing w w2 net g log a b some m t f e same note =
     let f2 : NetLaw w.net w2.net (Resends a b) = subst (λ z. NetLaw w.net z (Resends a b)) (sym (ap (λ v. v.net) same)) f in

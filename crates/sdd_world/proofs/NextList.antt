@@ -12,8 +12,7 @@ one_in (suc n) = one_in n
 one_left : (events : List Event) → EndsIn Redeclare events → redeclares_in events ≡ 1
 one_left events e = ap redeclares_in e.1 ∙ one_in e.0
 
-pub forcing : (w : World) (g : Given) (cat : Catalogue) (table : List Entry)
-    → IsNextList g cat table → IsSettled w (with_event g Redeclare) Redeclare
+pub forcing : (w : World) (g : Given) (cat : Catalogue) (table : List Entry) → IsNextList g cat table → IsSettled w (with_event g Redeclare) Redeclare
     → (log : Log) × Forcing w (with_event g Redeclare) log (record { catalogue = cat; table = table })
 forcing w g cat table next s =
     let given : Given = with_event g Redeclare in
@@ -63,10 +62,8 @@ module _ (w : World) (g : Given) (log : Log) (force : Force) (f : Forcing w g lo
       (subst (λ x. StandFor s at (setting_of g at) (with_force at force x (local_of g at log))) e (forced at here)))
 
   -- it is in force
-  pub is_forced : (w2 : World) (s : Sites) (t : ℕ) → t ≡ greatest_bound g log
-      → w.marks ≢ MAX_RUN_EVENTS → AreForced s g log force t
-      → w2 ≡ record w { sites = s; marks = w.marks + 1; catalogue = w2.catalogue } → w2.catalogue.now ≡ force.catalogue
-      → (more : Log) × StandsFor w2 g more
+  pub is_forced : (w2 : World) (s : Sites) (t : ℕ) → t ≡ greatest_bound g log → w.marks ≢ MAX_RUN_EVENTS → AreForced s g log force t
+      → w2 ≡ record w { sites = s; marks = w.marks + 1; catalogue = w2.catalogue } → w2.catalogue.now ≡ force.catalogue → (more : Log) × StandsFor w2 g more
   is_forced w2 s t e number forced same is =
       let now : ℕ = greatest_bound g log in
       let more : Log = Redeclares now ∷ log in

@@ -21,13 +21,9 @@ module _ {V : Type 0} (P : ℕ → V → Type 0) where
           | inr h ↦
               (let same : n ≡ k = omega (arith, h, high) in
               let place : length made ≡ k - 1 = omega (arith, m.count_is, same) in
-              subst (λ i. There (P k) (slice_get (made ++ v ∷ []) i)) place
-              (subst (There (P k)) (sym (last_member made v)) (subst (λ i. P i v) same p)))
+              subst (λ i. There (P k) (slice_get (made ++ v ∷ []) i)) place (subst (There (P k)) (sym (last_member made v)) (subst (λ i. P i v) same p)))
         ];
   }
 
   pub all_made : (n count : ℕ) (made : List V) → n ≡ count + 1 → MadeTo P n made → AllBegin P count made
-  all_made n count made e m = record {
-    count_is = omega (arith, m.count_is, e);
-    each = λ k low high. m.each k low (omega (arith, e, high));
-  }
+  all_made n count made e m = record { count_is = omega (arith, m.count_is, e); each = λ k low high. m.each k low (omega (arith, e, high)) }

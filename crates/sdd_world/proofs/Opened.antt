@@ -37,8 +37,7 @@ each_spells (m ∷ ms) h = ((m, h.0, refl), each_spells ms h.1)
 
 -- what spells something handed on
 pub given_spells : (given : Delivered (List ℕ)) (found : Delivered Msg) → Spells given found → AllDelivered IsSpelling given
-given_spells given (Messages ms) h =
-    subst (λ (d : Delivered (List ℕ)). AllDelivered IsSpelling d) (sym h.spelled_so) (each_spells ms h.fit)
+given_spells given (Messages ms) h = subst (λ (d : Delivered (List ℕ)). AllDelivered IsSpelling d) (sym h.spelled_so) (each_spells ms h.fit)
 given_spells given _ h = subst (λ (d : Delivered (List ℕ)). AllDelivered IsSpelling d) (sym h.spelled_so) tt
 
 spellings_at : (P : List ℕ → Type 0) (given : Delivered (List ℕ)) (xs : List (List ℕ)) → given ≡ Messages xs → AllDelivered P given → AllByRecursion P xs

@@ -1,5 +1,5 @@
 -- No READ of a class that isn't the catalogue's waits at a data module.
-use Rattle.sdd_world.proofs.All.{Act, Bool, ClassView, D, Deliver, Did, DmNo, Does, Down, Fetch, Given, Hand, Handed, Home, IsDue, IsDueAt, IsLawful, Log, Lose, Mark, Msg, None, Notes, Null, Open, Option, Processes, Read, Records, Redeclare, Redeclares, Reduce, Refuses, Repeat, Resend, Round, Sends, Setting, Settle, Ship, Site, Some, Step, Submit, Submitted, Tick, Txn, Up, View, Waits, Write, [], act_by, act_where, allowed_act, answer_of, answer_to, ap, arith, by_head, by_open, class_at_place, conds_of, dm_no, false, filter, head, head_of, head_step, if◌then◌else◌, is_asked_of, is_processing, is_wait, length, local_of, ne_eqb, next_allowed, numbers_to, option_map, pipe, refl, same_is, same_site, setting_of, slice_get, subst, sym, true, txn_at, unmet, view_of, wait_at, wait_for, waiting_at, waits, waits_acted, waits_of, with_submit, ℕ, ◌<◌, ◌||◌, ◌∙◌, ◌∷◌, ◌≡◌}
+use Rattle.sdd_world.proofs.All.{Act, Bool, ClassView, D, Did, DmNo, Does, Fetch, Given, Hand, Handed, Home, IsDue, IsDueAt, IsLawful, Log, Mark, Msg, None, Null, Open, Option, Processes, Read, Records, Reduce, Refuses, Sends, Setting, Ship, Site, Some, Step, Submit, Submitted, Txn, View, Waits, Write, [], act_by, act_where, allowed_act, answer_of, answer_to, ap, arith, by_head, by_open, class_at_place, conds_of, dm_no, false, filter, head, head_of, head_step, if◌then◌else◌, is_asked_of, is_processing, is_wait, length, local_of, ne_eqb, next_allowed, numbers_to, option_map, pipe, refl, same_is, same_site, setting_of, slice_get, subst, sym, true, txn_at, unmet, view_of, wait_at, wait_for, waiting_at, waits, waits_acted, waits_of, with_submit, ℕ, ◌<◌, ◌||◌, ◌∙◌, ◌∷◌, ◌≡◌}
 use Rattle.sdd_world.proofs.Lists.{none_chosen}
 use Rattle.sdd_obligations.specs.All.{home_of}
 use Rattle.sdd_obligations.specs.site_module.SiteLog as site
@@ -58,11 +58,9 @@ class_below s log c n k l e =
 
 due_leaves : (s : Setting) (log : site.Log) (c : ℕ) (a : Act) → length s.catalogue.classes < c → IsDue (home_of s) (view_of s log) a → Leaves c a
 due_leaves s log c a l (by_open n k e f) =
-    leaves c k.class a (class_below s log c n k l e)
-    (open_is (home_of s) k (head_of (filter (is_asked_of k.class) (view_of s log).opens)) a f)
+    leaves c k.class a (class_below s log c n k l e) (open_is (home_of s) k (head_of (filter (is_asked_of k.class) (view_of s log).opens)) a f)
 due_leaves s log c a l (by_head n k e f) =
-    leaves c k.class a (class_below s log c n k l e) (head_is (home_of s) (view_of s log) k.class
-    (head k.pipe) (head_step (view_of s log) k) a f)
+    leaves c k.class a (class_below s log c n k l e) (head_is (home_of s) (view_of s log) k.class (head k.pipe) (head_step (view_of s log) k) a f)
 
 -- so no head of a further class ever waits
 
@@ -98,8 +96,7 @@ pub none_lacks : (g : Given) (c t d : ℕ) → length g.catalogue.classes < c �
 none_lacks g c t d far log h =
     let at : Site = D (dm_no d) in
     let asleep : waiting_at c t (local_of g at log) ≡ None =
-    ap (λ b. if b then conds_of t (head (pipe c (local_of g at log))) else None)
-    (none_waits g (dm_no d) c far log h) in
+    ap (λ b. if b then conds_of t (head (pipe c (local_of g at log))) else None) (none_waits g (dm_no d) c far log h) in
     ap (λ o. option_map (wait_for d) (unmet (setting_of g at) (local_of g at log) o)) asleep
 
 pub no_waits : (g : Given) (c t : ℕ) → length g.catalogue.classes < c → (log : Log) → IsLawful g log → waits_of g log c t ≡ []

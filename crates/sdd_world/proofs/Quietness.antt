@@ -1,5 +1,5 @@
 -- Whether the network is quiet, and the events of a round, don't depend on how messages are spelled.
-use Rattle.sdd_world.proofs.All.{Call, Deliver, Link, List, None, Option, Resend, Site, Some, [], all_same, ap, call_as, cond, filter_map, flat_map, in_flight, is_empty, is_quiet_link, is_some, joined_same, length, length-map, link, link_as, link_map, map, nat_le, nat_lt, packet_as, packet_at, quiet, refl, replicate, resends_now, round, slice_get, suc, zero, ℕ, ◌&&◌, ◌++◌, ◌+◌, ◌-◌, ◌∙◌, ◌∷◌, ◌≡◌}
+use Rattle.sdd_world.proofs.All.{Call, Deliver, Link, List, None, Option, Resend, Site, Some, [], all_same, ap, call_as, cond, filter_map, flat_map, in_flight, is_empty, is_quiet_link, is_some, joined_same, length, length-map, link, link_as, link_map, map, nat_le, nat_lt, packet_as, packet_at, quiet, refl, replicate, resends_now, round, slice_get, suc, ℕ, ◌&&◌, ◌++◌, ◌+◌, ◌-◌, ◌∙◌, ◌∷◌, ◌≡◌}
 
 found_same : {A B : Type 0} (p q : A → Option B) (xs : List A) → ((x : A) → p x ≡ q x) → filter_map p xs ≡ filter_map q xs
 found_same p q [] e = refl

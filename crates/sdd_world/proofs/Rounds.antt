@@ -1,5 +1,5 @@
 -- Rounds, settles and single events, over plain worlds.
-use Rattle.sdd_world.proofs.All.{AtEach, Before, Call, Calm, Carries, D, Deliver, Down, EndsBy, Event, Given, Happened, IsFree, IsGood, IsPossible, IsSettled, IsSingle, IsSound, List, Log, Lose, MAX_RUN_EVENTS, Mailbox, Mark, Marked, Msg, Parts, Redeclare, Repeat, Resend, Rests, Round, Rounding, Settle, Settling, Site, Some, Spooled, StandFor, StandsFor, Submit, T, TakesRounds, Tick, U, Up, World, [], after_mark, all_links, ap, arith, calls_of, each_of_round, event_left, false, few_marks, in_round, lawful_grows, left, length, links, local_of, lt-ltb, marks, next, no_events_quiet, none_left, none_to_hand, one_more, quiet, refl, round, round_next, setting_of, settled, still_none, subst, suc, sym, takes_part, true, with_event, ℕ, ◌++◌, ◌+◌, ◌<◌, ◌∙◌, ◌∷◌, ◌≡◌, ◌≢◌, ◌≤◌}
+use Rattle.sdd_world.proofs.All.{AtEach, Before, Call, Calm, Carries, EndsBy, Event, Given, Happened, IsFree, IsGood, IsPossible, IsSettled, IsSingle, IsSound, List, Log, MAX_RUN_EVENTS, Mailbox, Mark, Marked, Msg, Parts, Redeclare, Rests, Round, Rounding, Settle, Settling, Site, Some, Spooled, StandFor, StandsFor, TakesRounds, U, World, [], after_mark, all_links, ap, arith, calls_of, each_of_round, event_left, false, few_marks, in_round, lawful_grows, left, length, links, local_of, lt-ltb, marks, next, no_events_quiet, none_left, none_to_hand, one_more, quiet, refl, round, round_next, setting_of, settled, still_none, subst, suc, sym, takes_part, true, with_event, ℕ, ◌++◌, ◌+◌, ◌<◌, ◌∙◌, ◌∷◌, ◌≡◌, ◌≢◌, ◌≤◌}
 use Rattle.sdd_world.proofs.Parting.{spooled_on}
 
 pub single : (g : Given) (e : Event) → IsPossible g e → IsSingle e
@@ -37,21 +37,14 @@ spool_round g es log boxes s = spooled_on g log (Round es ∷ log) boxes U (λ d
 spool_more : (g : Given) (e : Event) (log : Log) (boxes : List (Mailbox Msg)) → Spooled g log boxes U → Spooled (with_event g e) log boxes U
 spool_more g e log boxes s = record {
   count = s.count;
-  each =
-      λ d here apart. (let k = s.each d here apart in record {
-        down_is = k.down_is;
-        senders = k.senders;
-        kept = k.kept;
-        empty = k.empty;
-      });
+  each = λ d here apart. (let k = s.each d here apart in record { down_is = k.down_is; senders = k.senders; kept = k.kept; empty = k.empty });
 }
 
 sound_more : (g : Given) (e : Event) → IsSound g → IsSound (with_event g e)
 sound_more g e s = record { few_tms = s.few_tms; few_dms = s.few_dms; txns_fit = s.txns_fit }
 
 -- a round begins with its events
-pub round_begins : (w : World) (g : Given) (log : Log) (e : Event) (events : List Event)
-    → Settling w g log e → quiet (all_links g) (calls_of log) ≡ false
+pub round_begins : (w : World) (g : Given) (log : Log) (e : Event) (events : List Event) → Settling w g log e → quiet (all_links g) (calls_of log) ≡ false
     → ((tms dms : ℕ) (calls : List (Call Msg)) → Carries w.net tms dms calls
     → events ≡ round (links tms dms) calls) → (more : Log)
     × Rounding w g more e events
@@ -83,13 +76,11 @@ round_begins w g log to events s q f =
         rounds = s.rounds;
         ends = s.ends;
         possible = subst (λ es. AtEach (IsPossible g) es) (sym e)
-            (each_of_round (IsPossible g) g.catalogue.tms g.catalogue.dms (calls_of log)
-            (λ a b l. (l, (l, omega arith))));
+            (each_of_round (IsPossible g) g.catalogue.tms g.catalogue.dms (calls_of log) (λ a b l. (l, (l, omega arith))));
       },
     )
 
-pub round_some : (w : World) (g : Given) (log : Log) (e : Event) (events : List Event)
-    → Settling w g log e → quiet (all_links g) (calls_of log) ≡ false
+pub round_some : (w : World) (g : Given) (log : Log) (e : Event) (events : List Event) → Settling w g log e → quiet (all_links g) (calls_of log) ≡ false
     → ((tms dms : ℕ) (calls : List (Call Msg)) → Carries w.net tms dms calls → events ≡ round (links tms dms) calls) → 0 < length events
 round_some w g log to [] s q f =
     let e : round (links g.catalogue.tms g.catalogue.dms) (calls_of log) ≡ [] = sym (f g.catalogue.tms g.catalogue.dms (calls_of log) s.calm.parts.net) in
@@ -101,11 +92,7 @@ pub round_before : (w : World) (g : Given) (log : Log) (to : Event) (events : Li
     → Before w g log e
 round_before w g log to events e rest r same =
     let p : AtEach (IsPossible g) (e ∷ rest) = subst (λ es. AtEach (IsPossible g) es) same r.possible in
-    record {
-      calm = r.calm;
-      next_is = in_round g log r.waiting e rest (free g log r.calm.rests) (r.left_is ∙ ap (λ es. (r.waiting, es)) same);
-      possible = p.0;
-    }
+    record { calm = r.calm; next_is = in_round g log r.waiting e rest (free g log r.calm.rests) (r.left_is ∙ ap (λ es. (r.waiting, es)) same); possible = p.0 }
 
 pub round_after : (w w2 : World) (g : Given) (log : Log) (to : Event) (events : List Event) (e : Event)
     (rest : List Event) → Rounding w g log to events → events ≡ e ∷ rest
@@ -126,8 +113,7 @@ round_after w w2 g log to events e rest r same h =
 pub one_mark : (w w2 : World) (g : Given) (log : Log) → Calm w g log → Happened w2 g log → w2.marks ≡ suc w.marks
 one_mark w w2 g log c h = h.calm.marks_are ∙ ap (λ a. a.number) h.ahead_is ∙ ap (λ n. suc n) (sym c.marks_are)
 
-pub round_ends : (w : World) (g : Given) (log : Log) (e : Event) (events : List Event)
-    → Rounding w g log e events → events ≡ [] → Settling w g log e
+pub round_ends : (w : World) (g : Given) (log : Log) (e : Event) (events : List Event) → Rounding w g log e events → events ≡ [] → Settling w g log e
 round_ends w g log e events r same = record {
   calm = r.calm;
   waiting = r.waiting;
@@ -144,8 +130,7 @@ settle_ends w g s =
 
 -- one event more is given
 pub given_more : (w w2 : World) (g : Given) (log : Log) (e : Event) → IsGood (with_event g e)
-    → Calm w g log → w2 ≡ record w { given = w2.given } → w2.given.items ≡ w.given.items ++ e ∷ []
-    → Calm w2 (with_event g e) log
+    → Calm w g log → w2 ≡ record w { given = w2.given } → w2.given.items ≡ w.given.items ++ e ∷ [] → Calm w2 (with_event g e) log
 given_more w w2 g log e good c same pushed = record {
   parts = record {
     good = good;
@@ -164,8 +149,7 @@ given_more w w2 g log e good c same pushed = record {
 }
 
 pub step_before : (w w2 : World) (g : Given) (log : Log) (e : Event) → IsGood (with_event g e)
-    → StandsFor w g log → IsPossible g e → w2 ≡ record w { given = w2.given } → w2.given.items ≡ w.given.items ++ e ∷ []
-    → Before w2 (with_event g e) log e
+    → StandsFor w g log → IsPossible g e → w2 ≡ record w { given = w2.given } → w2.given.items ≡ w.given.items ++ e ∷ [] → Before w2 (with_event g e) log e
 step_before w w2 g log e good s p same pushed = record {
   calm = given_more w w2 g log e good s.calm same pushed;
   next_is = (one_more g e log (single g e p) s.calm.rests.lawful s.complete).0;
@@ -186,8 +170,7 @@ step_after w w2 g log e s p h = (
 )
 
 pub settle_begins : (w w2 : World) (g : Given) (log : Log) (e : Event) → TakesRounds e → IsGood (with_event g e)
-    → StandsFor w g log → w2 ≡ record w { given = w2.given } → w2.given.items ≡ w.given.items ++ e ∷ []
-    → Settling w2 (with_event g e) log e
+    → StandsFor w g log → w2 ≡ record w { given = w2.given } → w2.given.items ≡ w.given.items ++ e ∷ [] → Settling w2 (with_event g e) log e
 settle_begins w w2 g log e rounds good s same pushed =
     let l = event_left g e log s.calm.rests.lawful s.complete in
     record { calm = given_more w w2 g log e good s.calm same pushed; waiting = l.0; left_is = l.1; rounds = rounds; ends = l.2 }

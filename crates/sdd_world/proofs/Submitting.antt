@@ -1,5 +1,5 @@
 -- A transaction is given to its module, which does what is due, over plain worlds.
-use Rattle.sdd_world.proofs.All.{Act, All, AreDue, AreLinked, Bases, Carries, D, EndsBy, Fits, Followed, Force, Given, Happened, IsClassAt, IsLawful, IsPast, IsSiteOf, List, Log, Mailbox, Mark, Marked, MaySend, Msg, Outcome, Rec, Setting, Site, Sites, Some, Spooled, StandFor, Submission, Submit, Submits, T, Txn, TxnNo, U, World, [], acts_lawful, after_acts, all_facts, ap, append_assoc, arith, base_of, calls_acts, calls_of, class_for, ends_in_acts, false, fits_in_era, fits_submit, force_at, forced_is, get_or, history, history_acts, home_in, home_of, left_acts, linked_acts, listed, local_of, log_after, map, mark_within, marks, marks_acts, next_in, next_of, other_acts, other_local, own_acts, puts, puts_past, records_of, redeclares, refl, same_is, same_site, sends_of, setting_of, slice_get, submits_and_acts, submitted, submitted_local, submitted_within, subst, suc, sym, true, txn_at, zero, ℕ, ◌++◌, ◌-◌, ◌∙◌, ◌∷◌, ◌≡◌, ◌≤◌}
+use Rattle.sdd_world.proofs.All.{Act, All, AreDue, AreLinked, Bases, Carries, EndsBy, Fits, Followed, Force, Given, Happened, IsClassAt, IsLawful, IsPast, IsSiteOf, List, Log, Mailbox, Mark, Marked, MaySend, Msg, Outcome, Rec, Setting, Site, Sites, Some, Spooled, StandFor, Submission, Submit, Submits, T, Txn, TxnNo, U, World, [], acts_lawful, after_acts, all_facts, ap, append_assoc, arith, base_of, calls_acts, calls_of, class_for, ends_in_acts, false, fits_in_era, fits_submit, force_at, forced_is, get_or, history, history_acts, home_in, home_of, left_acts, linked_acts, listed, local_of, log_after, map, mark_within, marks, marks_acts, next_in, next_of, other_acts, other_local, own_acts, puts, puts_past, records_of, redeclares, refl, same_is, same_site, sends_of, setting_of, slice_get, submits_and_acts, submitted, submitted_local, submitted_within, subst, suc, sym, true, txn_at, zero, ℕ, ◌++◌, ◌-◌, ◌∙◌, ◌∷◌, ◌≡◌, ◌≤◌}
 use Rattle.sdd_world.proofs.Handing.{are_linked, at_log, due_same, here_at}
 use Rattle.sdd_world.proofs.Marking.{happened}
 use Rattle.sdd_world.proofs.Parting.{events_before, later, redeclares_acts, spooled_acts, spooled_on}
@@ -42,9 +42,7 @@ module _ (w : World) (g : Given) (log : Log) (n : TxnNo) (m : Marked w g log (Su
 
   module _ (txn : Txn) (is : txn_at g n.0 ≡ Some txn) where
     pub home_is : (at : Site) → at ≡ home_of (w.catalogue.now) (Some txn) → at ≡ home
-    home_is at e =
-        e ∙ ap (λ c. home_of c (Some txn)) m.parts.catalogue_is
-        ∙ ap (λ o. home_of (force_at g (redeclares log)).catalogue o) (sym is)
+    home_is at e = e ∙ ap (λ c. home_of c (Some txn)) m.parts.catalogue_is ∙ ap (λ o. home_of (force_at g (redeclares log)).catalogue o) (sym is)
 
     submit_fits : fits_submit home (setting_of g home) (base_of g submitted_log) (local_of g home log) n.0 txn
     submit_fits = all_facts.submit g m.parts.good (Mark (Submit n) ∷ log) home n.0 txn lawful_here
@@ -54,13 +52,11 @@ module _ (w : World) (g : Given) (log : Log) (n : TxnNo) (m : Marked w g log (Su
     submit_stands = m.parts.sites home home_here
 
     -- the list in force at a transaction module is that of the world
-    class_at : (at : Site) (class : ℕ) → class ≡ class_for (w.catalogue.now) txn
-        → IsClassAt at (setting_of g at) (local_of g at log) class txn
+    class_at : (at : Site) (class : ℕ) → class ≡ class_for (w.catalogue.now) txn → IsClassAt at (setting_of g at) (local_of g at log) class txn
     class_at (T t) class e = e ∙ ap (λ c. class_for c txn) m.parts.catalogue_is ∙ sym (ap (λ (f : Force). class_for f.catalogue txn) (forced_is g t log))
     class_at _ class e = tt
 
-    pub submit_asks : (at : Site) (class : ℕ) → at ≡ home → class ≡ class_for (w.catalogue.now) txn
-        → (setting : Setting) × (bases : Bases) × (l : site.Log)
+    pub submit_asks : (at : Site) (class : ℕ) → at ≡ home → class ≡ class_for (w.catalogue.now) txn → (setting : Setting) × (bases : Bases) × (l : site.Log)
         × StandFor w.sites at setting l × fits_submit at setting bases l n.0 txn × IsClassAt at setting l class txn
     submit_asks at class e is =
         subst (λ z. (setting : Setting) × (bases : Bases) × (l : site.Log) × StandFor w.sites z setting l
@@ -116,8 +112,7 @@ module _ (w : World) (g : Given) (log : Log) (n : TxnNo) (m : Marked w g log (Su
         ends_in_acts g home t.acts submitted_log
         (ap (λ o. puts_past (calls_of log) home o) (sym t.sends_are)
         ∙ subst (λ z. IsPast (record w { sites = s }) z outcome) e past g.catalogue.tms
-        g.catalogue.dms (calls_of log) m.parts.net (linked_out s outcome t))
-        (submitted_within g n log m.marked) (acts_lawful_here s outcome t)
+        g.catalogue.dms (calls_of log) m.parts.net (linked_out s outcome t)) (submitted_within g n log m.marked) (acts_lawful_here s outcome t)
 
     done_sites : (s : Sites) (outcome : Outcome) → (t : Taken s outcome)
         → ((x : Site) (setting : Setting) (l : site.Log) → same_site x home ≡ false → StandFor w.sites x setting l → StandFor s x setting l)
@@ -126,8 +121,7 @@ module _ (w : World) (g : Given) (log : Log) (n : TxnNo) (m : Marked w g log (Su
         elim (same_site x home) as (λ c. same_site x home ≡ c → StandFor s x (setting_of g x) (local_of g x (after_acts home t.acts submitted_log))) [
           | true ↦ λ p. here_at x home (same_is x home p) (λ z. StandFor s z (setting_of g z) (local_of g z (after_acts home t.acts submitted_log)))
               (at_log (StandFor s home (setting_of g home))
-              (local_of g home (after_acts home t.acts submitted_log))
-              (log_after t.acts (Submits n.0 txn ∷ local_of g home log))
+              (local_of g home (after_acts home t.acts submitted_log)) (log_after t.acts (Submits n.0 txn ∷ local_of g home log))
               (own_acts g home t.acts submitted_log ∙ ap (λ l. log_after t.acts l) (submitted_local g n log m.marked txn is)) t.after)
           | false ↦ λ p. at_log (StandFor s x (setting_of g x)) (local_of g x (after_acts home t.acts submitted_log)) (local_of g x log)
               (other_acts g x home t.acts submitted_log p ∙ other_local g x home n.0 (Mark (Submit n) ∷ log) p)
@@ -150,8 +144,7 @@ module _ (w : World) (g : Given) (log : Log) (n : TxnNo) (m : Marked w g log (Su
         happened w w2 g log (Submit n) (after_acts home t.acts submitted_log) m
         (record { whole = f.whole; catalogue = f.catalogue; txns = f.txns; given = f.given; marks = f.marks })
         (record {
-          rests = submits_and_acts g n log m.marked txn t.acts is
-              (listed g.catalogue.tms g.catalogue.dms home home_here) t.due
+          rests = submits_and_acts g n log m.marked txn t.acts is (listed g.catalogue.tms g.catalogue.dms home home_here) t.due
               (ap (λ o. puts_past (calls_of log) home o) (sym t.sends_are) ∙ sent_all.0);
           marks_is = marks_acts home t.acts submitted_log;
           left_is = left_acts g.events home t.acts submitted_log;
@@ -161,8 +154,7 @@ module _ (w : World) (g : Given) (log : Log) (n : TxnNo) (m : Marked w g log (Su
               ∙ ap (λ xs. xs ++ map (λ x. (suc (marks log), x)) (Submission n ∷ records_of t.acts)) m.parts.history_is
               ∙ sym (append_assoc (history log) ((suc (marks log), Submission n) ∷ []) (map (λ x. (suc (marks log), x)) (records_of t.acts)))
               ∙ sym (history_acts home t.acts submitted_log);
-          sites = λ x here. subst (λ z. StandFor z x (setting_of g x)
-              (local_of g x (after_acts home t.acts submitted_log))) (sym f.sites)
+          sites = λ x here. subst (λ z. StandFor z x (setting_of g x) (local_of g x (after_acts home t.acts submitted_log))) (sym f.sites)
               (done_sites s outcome t others x here);
           net = subst (λ c. Carries w2.net g.catalogue.tms g.catalogue.dms c) (sym calls) sent_all.1;
           spooled = subst (λ boxes. Spooled g (after_acts home t.acts submitted_log) boxes U) (sym f.spool)

@@ -51,10 +51,7 @@ down_spool g log old new d here up all box count only s =
       kept = λ p x.
           let none : kept_from (mailbox_at new d.0) x ≡ [] = ap (λ b. kept_from b x) box ∙ k.empty up x in
           subst (λ z. Remain (Mark (Down d) ∷ log) x (D (dm_no d.0)) z) (sym none) (let r =
-          none_remains log x (D (dm_no d.0)) (all x (D (dm_no d.0)) (ap not up)) in record {
-            count = r.count;
-            messages = r.messages;
-          });
+          none_remains log x (D (dm_no d.0)) (all x (D (dm_no d.0)) (ap not up)) in record { count = r.count; messages = r.messages });
       empty = λ p x. (let no : true ≡ false = sym (own_down d.0 log) ∙ p in cc);
     })
     (turned_others g log (Mark (Down d) ∷ log) old new d.0 (λ e n. other_downs e d.0 true (is_down e log) n)
@@ -66,8 +63,7 @@ turn_same : (g : Given) (log more : Log) (boxes new : List (Mailbox Msg)) (d : D
     → mailbox_at new d.0 ≡ mailbox_at boxes d.0 → length new ≡ length boxes → OnlyAt boxes new d.0 → Spooled g log boxes U → Spooled g more new U
 turn_same g log more boxes new d here downs remains box count only s =
     by_site g more new d.0 (subst (λ b. KeepsFor g more d.0 b) (sym box)
-    (still_box g log more d.0 (mailbox_at boxes d.0) (downs d.0) (λ x rest r. remains d.0 x rest r)
-    (s.each d.0 here refl)))
+    (still_box g log more d.0 (mailbox_at boxes d.0) (downs d.0) (λ x rest r. remains d.0 x rest r) (s.each d.0 here refl)))
     (turned_others g log more boxes new d.0 (λ e n. downs e) remains count only s)
 
 again_down : (e : ℕ) (d : DmNo) (log : Log) → is_down d.0 log ≡ true → is_down e (Mark (Down d) ∷ log) ≡ is_down e log
@@ -90,8 +86,7 @@ same_box b down e = ap (λ z. record b { down = z }) (sym e)
 abbrev pub SpoolTurns : List (Mailbox Msg) → List (Mailbox Msg) → ℕ → Bool → Type 0
 SpoolTurns old new d down = (mailbox_at new d ≡ record (mailbox_at old d) { down = down }) × (length new ≡ length old) × OnlyAt old new d
 
-box_down : (w : World) (g : Given) (log : Log) (e : Event) (d : DmNo) → Marked w g log e → IsSiteOf g (D d)
-    → (mailbox_at w.spool d.0).down ≡ is_down d.0 log
+box_down : (w : World) (g : Given) (log : Log) (e : Event) (d : DmNo) → Marked w g log e → IsSiteOf g (D d) → (mailbox_at w.spool d.0).down ≡ is_down d.0 log
 box_down w g log e d m here = (m.spooled.each d.0 here refl).down_is
 
 same_note : (w w1 w2 : World) → w1 ≡ record w { spool = w1.spool } → w2 ≡ record w1 {
@@ -106,8 +101,7 @@ pub noted_too : (w w1 w2 : World) → w1 ≡ record w { spool = w1.spool }
     → w2.history ≡ w1.history ++ (w1.marks, Noted) ∷ [] → w2.history ≡ w.history ++ (w.marks, Noted) ∷ []
 noted_too w w1 w2 one note = note ∙ ap (λ v. v.history ++ (v.marks, Noted) ∷ []) one
 
-turned_noted : (w w1 w2 : World) (g : Given) (log : Log) (e : Event) (d : DmNo)
-    → Marked w g log e → IsSiteOf g (D d) → IsNoTick e
+turned_noted : (w w1 w2 : World) (g : Given) (log : Log) (e : Event) (d : DmNo) → Marked w g log e → IsSiteOf g (D d) → IsNoTick e
     → Rests g (Notes ∷ Mark e ∷ log) → ((k : ℕ) → is_down k (Mark e ∷ log) ≡ is_down k log)
     → mailbox_at w1.spool d.0 ≡ mailbox_at w.spool d.0 → ((x y : Site) (rest : List Msg)
     → Remain log x y rest → Remain (Mark e ∷ log) x y rest) → calls_of (Mark e ∷ log) ≡ calls_of log
@@ -116,8 +110,7 @@ turned_noted : (w w1 w2 : World) (g : Given) (log : Log) (e : Event) (d : DmNo)
 turned_noted w w1 w2 g log e d m here i r downs box remains calls count only one two note =
     marked_noted w w2 g log e m i r (same_note w w1 w2 one two) (noted_too w w1 w2 one note)
     (subst (λ c. Carries w2.net g.catalogue.tms g.catalogue.dms c) (sym calls)
-    (subst (λ z. Carries z g.catalogue.tms g.catalogue.dms (calls_of log))
-    (sym (ap (λ v. v.net) two ∙ ap (λ v. v.net) one)) m.parts.net))
+    (subst (λ z. Carries z g.catalogue.tms g.catalogue.dms (calls_of log)) (sym (ap (λ v. v.net) two ∙ ap (λ v. v.net) one)) m.parts.net))
     (subst (λ z. Spooled g (Mark e ∷ log) z U) (sym (ap (λ v. v.spool) two))
     (turn_same g log (Mark e ∷ log) w.spool w1.spool d here downs (λ k x rest s. remains x (D (dm_no k)) rest s) box count only m.spooled))
 
@@ -141,10 +134,7 @@ was_down w w1 w2 g log d turned m t s e one two note =
     s.0 ∙ same_box (mailbox_at w.spool d.0) true (not_false (mailbox_at w.spool d.0).down (sym t ∙ e))
     in
     turned_noted w w1 w2 g log (Down d) d m m.possible tt (is_down_already g d log m.marked down)
-    (λ k. again_down k d log down) box (λ x y rest q. record {
-      count = q.count;
-      messages = q.messages;
-    }) refl s.1 s.2 one two note
+    (λ k. again_down k d log down) box (λ x y rest q. record { count = q.count; messages = q.messages }) refl s.1 s.2 one two note
 
 pub wasnt_down : (w w1 w2 : World) (g : Given) (log : Log) (d : DmNo) (turned : Bool)
     → Marked w g log (Up d) → turned ≡ (mailbox_at w.spool d.0).down → SpoolTurns w.spool w1.spool d.0 false
@@ -154,13 +144,9 @@ wasnt_down w w1 w2 g log d turned m t s e one two note =
     let up : is_down d.0 log ≡ false = sym (box_down w g log (Up d) d m m.possible) ∙ sym t ∙ e in
     let box : mailbox_at w1.spool d.0 ≡ mailbox_at w.spool d.0 = s.0 ∙ same_box (mailbox_at w.spool d.0) false (sym t ∙ e) in
     turned_noted w w1 w2 g log (Up d) d m m.possible tt (isnt_down g d log m.marked up)
-    (λ k. again_up k d log up) box (λ x y rest q. record {
-      count = q.count;
-      messages = q.messages;
-    }) refl s.1 s.2 one two note
+    (λ k. again_up k d log up) box (λ x y rest q. record { count = q.count; messages = q.messages }) refl s.1 s.2 one two note
 
-pub boxed : (old mid new : List (Mailbox Msg)) (d : ℕ) → new ≡ mid
-    → suc (kept_count (mailbox_at mid d)) ≡ kept_count (mailbox_at old d)
+pub boxed : (old mid new : List (Mailbox Msg)) (d : ℕ) → new ≡ mid → suc (kept_count (mailbox_at mid d)) ≡ kept_count (mailbox_at old d)
     → kept_count (mailbox_at new d) < kept_count (mailbox_at old d)
 boxed old mid new d e f = let s : kept_count (mailbox_at new d) ≡ kept_count (mailbox_at mid d) = ap (λ b. kept_count (mailbox_at b d)) e in omega (arith, s, f)
 
@@ -202,8 +188,7 @@ first_taken g b d U m rest here e s h k = record {
 first_taken g b d (T n) m rest here e s h k =
     let r = t_sender n.0 (length b.queues) g.catalogue.tms s e in
     let c : Cut (sites g.catalogue.tms g.catalogue.dms) (T (tm_no n.0)) (λ x. kept_from b x ≡ []) =
-    cut_at_t (λ x. kept_from b x ≡ []) g.catalogue.tms g.catalogue.dms n.0 r.0 r.1 (u_of b n.0 r.0 h)
-    (t_of b n.0 h) in
+    cut_at_t (λ x. kept_from b x ≡ []) g.catalogue.tms g.catalogue.dms n.0 r.0 r.1 (u_of b n.0 r.0 h) (t_of b n.0 h) in
     record {
       linked = and_from (is_site g.catalogue.tms g.catalogue.dms (T n))
           (is_site g.catalogue.tms g.catalogue.dms (D (dm_no d)) && true) (t_site n.0 g.catalogue.tms r.0 r.1)
@@ -241,23 +226,14 @@ rises w w1 g log d turned m t s e same =
             (λ x. subst (λ z. Remain log x (D (dm_no d.0)) z) (sym (kept x)) (box.kept down x));
         marks_are = ap (λ v. v.marks) same ∙ m.marks_are;
         spooled = turned_others g log (Mark (Up d) ∷ log) w.spool w1.spool d.0
-            (λ k n. other_downs k d.0 false (is_down k log) n) (λ k x rest r. record {
-              count = r.count;
-              messages = r.messages;
-            }) s.1 s.2 m.spooled;
+            (λ k n. other_downs k d.0 false (is_down k log) n) (λ k x rest r. record { count = r.count; messages = r.messages }) s.1 s.2 m.spooled;
       },
-      record {
-        here = m.possible;
-        count = s.1 ∙ m.spooled.count;
-        box_up = ap (λ b. b.down) s.0;
-        senders = ap (λ b. length b.queues) s.0 ∙ box.senders;
-      },
+      record { here = m.possible; count = s.1 ∙ m.spooled.count; box_up = ap (λ b. b.down) s.0; senders = ap (λ b. length b.queues) s.0 ∙ box.senders },
     )
 
 -- a message is taken out of the mailbox
 pub taken_out : (w w1 : World) (g : Given) (log : Log) (d : DmNo) (from : Site) (m : Msg)
-    → Handing w g log (D d) (kept_from (mailbox_at w.spool d.0)) → Rising g w.spool d.0
-    → TakesFrom (mailbox_at w.spool d.0) (mailbox_at w1.spool d.0) from m
+    → Handing w g log (D d) (kept_from (mailbox_at w.spool d.0)) → Rising g w.spool d.0 → TakesFrom (mailbox_at w.spool d.0) (mailbox_at w1.spool d.0) from m
     → length w1.spool ≡ length w.spool → OnlyAt w.spool w1.spool d.0 → w1 ≡ record w { spool = w1.spool }
     → Handing w1 g log (D d) (kept_from (mailbox_at w.spool d.0)) × Rising g w1.spool d.0
 taken_out w w1 g log d from m h r t count only same = (
@@ -277,9 +253,7 @@ taken_out w w1 g log d from m h r t count only same = (
     marks_are = ap (λ v. v.marks) same ∙ h.marks_are;
     spooled = record {
       count = count ∙ h.spooled.count;
-      each = λ e here apart. subst (λ b. KeepsFor g log e b)
-          (sym (only e (dm_within g (dm_no e) here).0 (apart_of e d.0 apart)))
-          (h.spooled.each e here apart);
+      each = λ e here apart. subst (λ b. KeepsFor g log e b) (sym (only e (dm_within g (dm_no e) here).0 (apart_of e d.0 apart))) (h.spooled.each e here apart);
     };
   },
   record { here = r.here; count = count ∙ r.count; box_up = t.down ∙ r.box_up; senders = t.count ∙ r.senders },
@@ -289,9 +263,7 @@ pub first_kept : (g : Given) (boxes : List (Mailbox Msg)) (new : List (Mailbox M
     (from : Site) (m : Msg) → Rising g boxes d.0 → TakesFrom (mailbox_at boxes d.0)
     (mailbox_at new d.0) from m → IsLowest (mailbox_at boxes d.0) from
     → IsFirst g (kept_from (mailbox_at boxes d.0)) from (D d) m (kept_from (mailbox_at new d.0) from)
-first_kept g boxes new d from m r t l =
-    first_taken g (mailbox_at boxes d.0) d.0 from m (kept_from (mailbox_at new d.0) from) r.here r.senders
-    t.sender l t.here
+first_kept g boxes new d from m r t l = first_taken g (mailbox_at boxes d.0) d.0 from m (kept_from (mailbox_at new d.0) from) r.here r.senders t.sender l t.here
 
 pub less_kept : (boxes new : List (Mailbox Msg)) (d : DmNo) (from : Site) (m : Msg) → TakesFrom (mailbox_at boxes d.0) (mailbox_at new d.0) from m
     → Takes (kept_from (mailbox_at boxes d.0)) (kept_from (mailbox_at new d.0)) from (kept_from (mailbox_at new d.0) from)
@@ -319,8 +291,7 @@ rising_on w boxes w2 g log d from m h r t l count only hand =
       k.ahead_is,
     )
 
-parts_spool : (w : World) (boxes : List (Mailbox Msg)) (g : Given) (log : Log)
-    → Parts w g log → Parts (record w { spool = boxes }) g log
+parts_spool : (w : World) (boxes : List (Mailbox Msg)) (g : Given) (log : Log) → Parts w g log → Parts (record w { spool = boxes }) g log
 parts_spool w boxes g log p = record {
   good = p.good;
   sound = p.sound;
@@ -334,8 +305,7 @@ parts_spool w boxes g log p = record {
 }
 
 -- nothing is left to be handed over
-pub none_left : (w : World) (boxes : List (Mailbox Msg)) (g : Given) (log more : Log) (d : DmNo)
-    → Handing w g more (D d) (kept_from (mailbox_at w.spool d.0))
+pub none_left : (w : World) (boxes : List (Mailbox Msg)) (g : Given) (log more : Log) (d : DmNo) → Handing w g more (D d) (kept_from (mailbox_at w.spool d.0))
     → Rising g w.spool d.0 → ahead_of g more ≡ ahead_of g log → mailbox_at boxes d.0 ≡ mailbox_at w.spool d.0
     → ((x : Site) → kept_from (mailbox_at w.spool d.0) x ≡ []) → length boxes ≡ length w.spool
     → OnlyAt w.spool boxes d.0 → Risen (record w { spool = boxes }) g log d.0
@@ -347,8 +317,7 @@ none_left w boxes g log more d h r a same none count only = record {
     marks_are = h.marks_are;
     spooled = record {
       count = count ∙ h.spooled.count;
-      each = λ e here apart. subst (λ b. KeepsFor g more e b)
-          (sym (only e (dm_within g (dm_no e) here).0 (apart_of e d.0 apart)))
+      each = λ e here apart. subst (λ b. KeepsFor g more e b) (sym (only e (dm_within g (dm_no e) here).0 (apart_of e d.0 apart)))
           (h.spooled.each e here apart);
     };
   };
@@ -360,8 +329,7 @@ none_left w boxes g log more d h r a same none count only = record {
 -- once none is kept, the event is done
 pub risen : (w w2 : World) (g : Given) (log more : Log) (d : DmNo)
     → Marked w g log (Up d) → Handing w2 g more (D d)
-    (kept_from (mailbox_at w2.spool d.0)) → Rising g w2.spool d.0 → ahead_of g more ≡ ahead_of g
-    (Mark (Up d) ∷ log)
+    (kept_from (mailbox_at w2.spool d.0)) → Rising g w2.spool d.0 → ahead_of g more ≡ ahead_of g (Mark (Up d) ∷ log)
     → ((x : Site) → kept_from (mailbox_at w2.spool d.0) x ≡ []) → Happened w2 g log
 risen w w2 g log more d m h r e none = record {
   more = more;
@@ -383,7 +351,5 @@ risen w w2 g log more d m h r e none = record {
   ahead_is = e;
 }
 
-pub came_up : (w w1 w2 : World) (g : Given) (log : Log) (d : DmNo)
-    → Marked w g log (Up d) → Risen w2 g
-    (Mark (Up d) ∷ log) d.0 → Happened w2 g log
+pub came_up : (w w1 w2 : World) (g : Given) (log : Log) (d : DmNo) → Marked w g log (Up d) → Risen w2 g (Mark (Up d) ∷ log) d.0 → Happened w2 g log
 came_up w w1 w2 g log d m r = risen w w2 g log r.more d m r.handing r.rising r.ahead_is r.none

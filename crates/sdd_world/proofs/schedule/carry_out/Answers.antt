@@ -11,10 +11,7 @@ loop-event-init c =
     let begun : (g : Given) → AreAllowed g c.args.events.items c.args.lists.items
     → AreAllowed g c.from_vec-left.result.items c.from_vec-further.result.items = λ g a.
     subst (λ es. AreAllowed g es c.from_vec-further.result.items) (sym events) (subst (AreAllowed g c.args.events.items) (sym lists) a) in
-    record {
-      some = (r.0, r.1, r.2, begun r.0 r.3);
-      so_far = λ given log s a. (given, log, s, begun given a, ap (with_events given) events);
-    }
+    record { some = (r.0, r.1, r.2, begun r.0 r.3); so_far = λ given log s a. (given, log, s, begun given a, ap (with_events given) events) }
 
 pub carry_out_one-requires : goal.carry_out_one-requires
 carry_out_one-requires c =

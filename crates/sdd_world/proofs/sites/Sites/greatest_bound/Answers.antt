@@ -4,8 +4,7 @@ use Rattle.sdd_world.proofs.sites.Sites.greatest_bound.Goals as goal
 
 pub loop-number-init : goal.loop-number-init
 loop-number-init c = λ g log is all.
-    greatest_first (bound_at g log) c.args.catalogue.now.tms (greatest_bound g log)
-    (ap (λ k. fold max 0 (map (bound_at g log) (range_with_len 1 k))) is)
+    greatest_first (bound_at g log) c.args.catalogue.now.tms (greatest_bound g log) (ap (λ k. fold max 0 (map (bound_at g log) (range_with_len 1 k))) is)
 
 pub bound-requires : goal.bound-requires
 bound-requires c =
@@ -22,10 +21,8 @@ loop-number-preserved c = λ g log is all.
     let high : n ≤ c.args.catalogue.now.tms = omega arith in
     greatest_next (bound_at g log) c.loop-number.greatest n (c.args.catalogue.now.tms + 1)
     c.bound.result.0 c.max-greatest.result (greatest_bound g log) (omega arith)
-    (c.bound.ensures (setting_of g at) (local_of g at log)
-    (all at (t_here g n (omega arith) (subst (λ k. n ≤ k) is high))))
-    c.max-greatest.ensures
-    (c.loop-number.invariant g log is all)
+    (c.bound.ensures (setting_of g at) (local_of g at log) (all at (t_here g n (omega arith) (subst (λ k. n ≤ k) is high))))
+    c.max-greatest.ensures (c.loop-number.invariant g log is all)
 
 pub returns : goal.returns
 returns c = λ g log is all.

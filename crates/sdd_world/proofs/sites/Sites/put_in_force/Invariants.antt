@@ -6,7 +6,6 @@ abbrev pub invariant-loop-number : goal.invariant-loop-number
 invariant-loop-number l = record {
   some : (g : Given) × (log : Log) × FitsForce g.catalogue (record { catalogue = l.catalogue; table = l.table }) l.t.0
       × ForcedTo l.self g log (record { catalogue = l.catalogue; table = l.table }) l.t.0 l.number;
-  so_far : (g : Given) (log : Log) → AllStandFor l.fn.self g log
-      → FitsForce g.catalogue (record { catalogue = l.catalogue; table = l.table }) l.t.0
+  so_far : (g : Given) (log : Log) → AllStandFor l.fn.self g log → FitsForce g.catalogue (record { catalogue = l.catalogue; table = l.table }) l.t.0
       → ForcedTo l.self g log (record { catalogue = l.catalogue; table = l.table }) l.t.0 l.number;
 }

@@ -11,8 +11,7 @@ use Rattle.sdd_world.proofs.sites.Sites.submit.Goals as goal
 
 pub returns-in-U-clause-law : goal.returns-in-U-clause-law
 returns-in-U-clause-law c =
-    submit_u (Lives (λ k. k.live) um_stands.Stands) (Lives (λ k. k.live) tm_stands.Stands)
-    (Lives (λ k. k.live) dm_stands.Stands)
+    submit_u (Lives (λ k. k.live) um_stands.Stands) (Lives (λ k. k.live) tm_stands.Stands) (Lives (λ k. k.live) dm_stands.Stands)
     um_fits.FitsSubmit tm_fits.FitsSubmit c.args.number c.args.txn.now
     c.submit.result um.next c.args.self.now.u c.submit.new.self c.args.self.now.tms.items c.args.self.now.dms.items
     c.args.at c.in-U.is (λ s b l. refl)
@@ -21,8 +20,7 @@ returns-in-U-clause-law c =
 
 pub returns-in-T-clause-law : goal.returns-in-T-clause-law
 returns-in-T-clause-law c =
-    submit_t (Lives (λ k. k.live) um_stands.Stands) (Lives (λ k. k.live) tm_stands.Stands)
-    (Lives (λ k. k.live) dm_stands.Stands)
+    submit_t (Lives (λ k. k.live) um_stands.Stands) (Lives (λ k. k.live) tm_stands.Stands) (Lives (λ k. k.live) dm_stands.Stands)
     um_fits.FitsSubmit tm_fits.FitsSubmit c.args.number c.args.txn.now
     c.submit_in.result tm.next c.args.self.now.u c.args.self.now.tms.items c.submit_in.new.modules.items c.args.self.now.dms.items c.args.at c.in-T.n
     c.in-T.is (λ s b l. refl) c.submit_in.ensures.law

@@ -8,8 +8,7 @@ add_wait-requires c =
     let r = c.requires in (
       r.0,
       r.1,
-      dm_of r.0 c.args.self.now.whole.now (dm_no c.loop-number.number) (sym r.2.calm.parts.whole_is)
-          c.loop-number.auto.number (omega arith),
+      dm_of r.0 c.args.self.now.whole.now (dm_no c.loop-number.number) (sym r.2.calm.parts.whole_is) c.loop-number.auto.number (omega arith),
       r.2,
     )
 
@@ -19,8 +18,7 @@ loop-number-preserved c = λ given log s.
     let declared : c.args.class.0 ≤ length c.args.self.now.whole.now.classes = omega arith in
     picked_to (wait_at given log c.args.class.0 c.args.ts.0) c.loop-number.number c.loop-number.found.items c.add_wait.new.found.items
     c.loop-number.auto.number (c.in_ok-add_wait.ensures given log here s
-    (subst (λ (k : Catalogue). c.args.class.0 ≤ length k.classes) s.calm.parts.whole_is declared))
-    (c.loop-number.invariant given log s)
+    (subst (λ (k : Catalogue). c.args.class.0 ≤ length k.classes) s.calm.parts.whole_is declared)) (c.loop-number.invariant given log s)
 
 pub returns-then-class-classes : goal.returns-then-class-classes
 returns-then-class-classes c = λ given log s.

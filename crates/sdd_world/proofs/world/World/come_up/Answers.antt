@@ -17,33 +17,28 @@ note-requires c = let r = c.requires in order_of c.args.self.now r.0 r.1 (Up c.a
 pub hand_kept-requires : goal.hand_kept-requires
 hand_kept-requires c =
     let r = c.requires in
-    let k = rises c.args.self.now
-    (record c.args.self.now { spool = c.up.new.self }) r.0 r.1 c.args.dm c.up.result r.2
+    let k = rises c.args.self.now (record c.args.self.now { spool = c.up.new.self }) r.0 r.1 c.args.dm c.up.result r.2
     c.up.ensures.turned (c.up.ensures.mailbox, c.up.ensures.count, c.up.ensures.others) c.if-not-up.false
     refl in
     (r.0, Mark (Up c.args.dm) ∷ r.1, k.0, k.1)
 
 pub returns-then-not-up-clause-ok : goal.returns-then-not-up-clause-ok
 returns-then-not-up-clause-ok c = λ given log m.
-    wasnt_down c.args.self.now
-    (record c.args.self.now { spool = c.up.new.self }) c.note.new.self given log c.args.dm c.up.result m
+    wasnt_down c.args.self.now (record c.args.self.now { spool = c.up.new.self }) c.note.new.self given log c.args.dm c.up.result m
     c.up.ensures.turned (c.up.ensures.mailbox, c.up.ensures.count, c.up.ensures.others) c.if-not-up.true
     refl c.in_ok-note.ensures.same c.in_ok-note.ensures.history
 
 pub returns-clause-ok : goal.returns-clause-ok
 returns-clause-ok c = map_ok c.hand_kept.result _ _ c.hand_kept.ensures.ok (λ x f given log m.
-    let k = rises c.args.self.now
-    (record c.args.self.now { spool = c.up.new.self }) given log c.args.dm c.up.result m
+    let k = rises c.args.self.now (record c.args.self.now { spool = c.up.new.self }) given log c.args.dm c.up.result m
     c.up.ensures.turned (c.up.ensures.mailbox, c.up.ensures.count, c.up.ensures.others) c.if-not-up.false
     refl in
-    came_up c.args.self.now
-    (record c.args.self.now { spool = c.up.new.self }) c.hand_kept.new.self given log c.args.dm m
+    came_up c.args.self.now (record c.args.self.now { spool = c.up.new.self }) c.hand_kept.new.self given log c.args.dm m
     (f given (Mark (Up c.args.dm) ∷ log) k.0 k.1))
 
 pub returns-clause-limit : goal.returns-clause-limit
 returns-clause-limit c = λ e given log m.
-    let k = rises c.args.self.now
-    (record c.args.self.now { spool = c.up.new.self }) given log c.args.dm c.up.result m
+    let k = rises c.args.self.now (record c.args.self.now { spool = c.up.new.self }) given log c.args.dm c.up.result m
     c.up.ensures.turned (c.up.ensures.mailbox, c.up.ensures.count, c.up.ensures.others) c.if-not-up.false
     refl in
     c.hand_kept.ensures.limit e given (Mark (Up c.args.dm) ∷ log) k.0 k.1

@@ -6,15 +6,12 @@ copies-requires c = let r = c.requires in let at = D c.args.dm in (setting_of r.
 
 pub returns-clause-live : goal.returns-clause-live
 returns-clause-live c = λ given log here s. let at =
-    D c.args.dm in c.copies.ensures.live (setting_of given at) (local_of given at log)
-    (s.calm.parts.sites at here)
+    D c.args.dm in c.copies.ensures.live (setting_of given at) (local_of given at log) (s.calm.parts.sites at here)
 
 pub returns-clause-stand : goal.returns-clause-stand
 returns-clause-stand c = λ given log here s. let at =
-    D c.args.dm in c.copies.ensures.stand (setting_of given at) (local_of given at log)
-    (s.calm.parts.sites at here)
+    D c.args.dm in c.copies.ensures.stand (setting_of given at) (local_of given at log) (s.calm.parts.sites at here)
 
 pub returns-clause-here : goal.returns-clause-here
 returns-clause-here c = λ given log here s. let at =
-    D c.args.dm in c.copies.ensures.here (setting_of given at) (local_of given at log)
-    (s.calm.parts.sites at here)
+    D c.args.dm in c.copies.ensures.here (setting_of given at) (local_of given at log) (s.calm.parts.sites at here)

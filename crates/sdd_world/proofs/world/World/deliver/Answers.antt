@@ -14,9 +14,7 @@ receive-requires c =
       r.1,
       c.args.self.now,
       c.args.place,
-      arrives c.args.self.now (record c.args.self.now {
-        net = c.deliver.new.self;
-      }) r.0 r.1 c.args.from c.args.to c.args.place c.in_ok-deliver.field-0
+      arrives c.args.self.now (record c.args.self.now { net = c.deliver.new.self }) r.0 r.1 c.args.from c.args.to c.args.place c.in_ok-deliver.field-0
           c.in-Messages.messages r.2 c.in_ok-deliver.ensures.given c.in_ok-deliver.ensures.ok c.in-Messages.is
           refl,
     )
@@ -30,8 +28,7 @@ returns-in_ok-note-in-Nothing-clause-ok c = λ given log m.
 
 pub returns-in-Acked-clause-ok : goal.returns-in-Acked-clause-ok
 returns-in-Acked-clause-ok c = λ given log m.
-    got_ack c.args.self.now
-    (record c.args.self.now { net = c.deliver.new.self }) given log c.args.from c.args.to c.args.place
+    got_ack c.args.self.now (record c.args.self.now { net = c.deliver.new.self }) given log c.args.from c.args.to c.args.place
     c.in_ok-deliver.field-0 m c.in_ok-deliver.ensures.given c.in_ok-deliver.ensures.ok c.in-Acked.is refl
 
 pub returns-in-Messages-clause-ok : goal.returns-in-Messages-clause-ok

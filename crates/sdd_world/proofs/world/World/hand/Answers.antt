@@ -15,9 +15,7 @@ follow-requires-clause-sends c =
     c.in_ok-outcome.ensures.law)
 
 pub follow-requires-clause-order : goal.follow-requires-clause-order
-follow-requires-clause-order c = let r =
-    c.requires in events_order c.args.self.now r.0
-    r.1 c.args.from c.args.to c.args.msg r.2 r.3 r.4 r.5
+follow-requires-clause-order c = let r = c.requires in events_order c.args.self.now r.0 r.1 c.args.from c.args.to c.args.msg r.2 r.3 r.4 r.5
 
 pub returns-clause-ok : goal.returns-clause-ok
 returns-clause-ok c = map_ok c.follow.result _ _ c.follow.ensures.ok (λ x f given log kept less rest h first k.
@@ -35,5 +33,4 @@ returns-clause-limit c = λ e given log kept rest h first.
     c.args.from c.args.to c.args.msg kept rest h first c.take.new.self c.in_ok-outcome.outcome
     (taken c.args.self.now given log
     c.args.from c.args.to c.args.msg kept rest h first c.take.new.self c.in_ok-outcome.outcome
-    c.in_ok-outcome.ensures.law)
-    (c.follow.ensures.limit e)
+    c.in_ok-outcome.ensures.law) (c.follow.ensures.limit e)

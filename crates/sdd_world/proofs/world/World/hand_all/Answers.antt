@@ -28,8 +28,7 @@ hand-requires c =
       from_one c.args.from c.loop-msg.queue.items,
       c.pop_front.new.self.items,
       i.3,
-      one_first i.0 c.args.from c.args.to
-          c.loop-msg.queue.items c.pop_front.new.self.items c.in-Some.msg c.in-Some.ensures.items i.2,
+      one_first i.0 c.args.from c.args.to c.loop-msg.queue.items c.pop_front.new.self.items c.in-Some.msg c.in-Some.ensures.items i.2,
     )
 
 pub loop-msg-preserved : goal.loop-msg-preserved

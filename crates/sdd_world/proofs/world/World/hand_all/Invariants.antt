@@ -3,9 +3,7 @@ use Rattle.sdd_world.proofs.world.World.hand_all.Given as goal
 
 abbrev pub invariant-loop-msg : goal.invariant-loop-msg
 invariant-loop-msg l = record {
-  some : (given : Given) × (log : Log) × IsLinkOf given l.from l.to
-      × Handing l.self given log
-      l.to (from_one l.from l.queue.items);
+  some : (given : Given) × (log : Log) × IsLinkOf given l.from l.to × Handing l.self given log l.to (from_one l.from l.queue.items);
   so_far : (given : Given) (log : Log) → IsLinkOf given l.from l.to
       → Handing l.fn.self given log
       l.to (from_one l.from l.fn.messages)

@@ -15,8 +15,7 @@ hand-requires c =
       kept_from (mailbox_at c.loop-from.self.spool c.args.dm.0),
       kept_from (mailbox_at c.take.new.self c.args.dm.0) c.in-Some.from,
       t.0,
-      first_kept i.0 c.loop-from.self.spool c.take.new.self
-          c.args.dm c.in-Some.from c.in-Some.msg i.3 e.message.0 e.message.1,
+      first_kept i.0 c.loop-from.self.spool c.take.new.self c.args.dm c.in-Some.from c.in-Some.msg i.3 e.message.0 e.message.1,
     )
 
 pub loop-from-smaller : goal.loop-from-smaller
@@ -27,8 +26,7 @@ loop-from-smaller c =
     c.loop-from.self (record c.loop-from.self { spool = c.take.new.self }) i.0 i.1 c.args.dm
     c.in-Some.from c.in-Some.msg i.2 i.3 e.message.0 e.count e.others refl in
     let d = c.in_ok-hand.ensures.ok i.0 i.1 (kept_from (mailbox_at c.loop-from.self.spool c.args.dm.0))
-    (kept_from (mailbox_at c.take.new.self c.args.dm.0))
-    (kept_from (mailbox_at c.take.new.self c.args.dm.0) c.in-Some.from) t.0
+    (kept_from (mailbox_at c.take.new.self c.args.dm.0)) (kept_from (mailbox_at c.take.new.self c.args.dm.0) c.in-Some.from) t.0
     (first_kept i.0
     c.loop-from.self.spool c.take.new.self c.args.dm c.in-Some.from c.in-Some.msg i.3 e.message.0
     e.message.1) (less_kept

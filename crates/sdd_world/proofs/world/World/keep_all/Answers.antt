@@ -15,8 +15,7 @@ loop-msg-preserved c =
             e.mailbox e.count e.others,
       );
       so_far = λ given log k. put_one given log c.loop-msg.self.spool c.put.new.self c.args.from c.args.dm.0
-          c.loop-msg.queue.items c.pop_front.new.self.items c.in-Some.msg c.in-Some.ensures.items
-          (i.so_far given log k) e.mailbox e.count e.others;
+          c.loop-msg.queue.items c.pop_front.new.self.items c.in-Some.msg c.in-Some.ensures.items (i.so_far given log k) e.mailbox e.count e.others;
     }
 
 pub returns-clause-kept : goal.returns-clause-kept

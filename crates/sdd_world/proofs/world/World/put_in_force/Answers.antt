@@ -15,8 +15,7 @@ put_in_force-requires c =
       r.0,
       r.1,
       sites,
-      force_fits c.args.self.now r.0 r.1 _ r.2 c.greatest_bound-t.result.0
-          (c.greatest_bound-t.ensures r.0 r.1 (same_tms c.args.self.now r.0 r.1 _ r.2) sites),
+      force_fits c.args.self.now r.0 r.1 _ r.2 c.greatest_bound-t.result.0 (c.greatest_bound-t.ensures r.0 r.1 (same_tms c.args.self.now r.0 r.1 _ r.2) sites),
     )
 
 pub returns-clause-ok : goal.returns-clause-ok

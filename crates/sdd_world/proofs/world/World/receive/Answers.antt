@@ -4,9 +4,7 @@ use Rattle.sdd_world.proofs.Results.{of_ok as map_ok}
 use Rattle.sdd_world.proofs.world.World.receive.Goals as goal
 
 pub down_module-requires : goal.down_module-requires
-down_module-requires c = let r =
-    c.requires in comes_to r.2
-    c.args.self.now r.0 r.1 c.args.from c.args.to r.3 c.args.messages r.4
+down_module-requires c = let r = c.requires in comes_to r.2 c.args.self.now r.0 r.1 c.args.from c.args.to r.3 c.args.messages r.4
 
 pub keep_all-requires : goal.keep_all-requires
 keep_all-requires c =
@@ -27,8 +25,7 @@ hand_all-requires c =
       r.0,
       Mark (Deliver c.args.from c.args.to r.3) ∷ r.1,
       r.4.marked.possible.0,
-      to_hand r.2 c.args.self.now r.0 r.1 c.args.from
-          c.args.to r.3 c.args.messages r.4 (c.in-None.ensures r.0 r.1 t.0 t.1),
+      to_hand r.2 c.args.self.now r.0 r.1 c.args.from c.args.to r.3 c.args.messages r.4 (c.in-None.ensures r.0 r.1 t.0 t.1),
     )
 
 pub returns-in_ok-keep_all-in-Some-clause-ok : goal.returns-in_ok-keep_all-in-Some-clause-ok

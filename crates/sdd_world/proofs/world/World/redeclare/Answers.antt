@@ -10,8 +10,7 @@ settle_down-requires c =
       with_event r.0 Redeclare,
       r.1,
       Redeclare,
-      settle_begins c.args.self (record c.args.self { given = c.push.new.self }) r.0 r.1 Redeclare tt r.3 r.2 refl
-          c.in_ok-push.ensures.items,
+      settle_begins c.args.self (record c.args.self { given = c.push.new.self }) r.0 r.1 Redeclare tt r.3 r.2 refl c.in_ok-push.ensures.items,
     )
 
 pub put_in_force-requires : goal.put_in_force-requires
@@ -27,8 +26,7 @@ pub returns-in_err-settle_down-clause-limit : goal.returns-in_err-settle_down-cl
 returns-in_err-settle_down-clause-limit c = λ e given log s good next.
     c.in_err-settle_down.ensures.limit
     (handed_on c.from_residual-in_err-settle_down.result c.in_err-settle_down.field-0.0
-    c.from_residual-in_err-settle_down.ensures.1 e)
-    (with_event given Redeclare) log Redeclare
+    c.from_residual-in_err-settle_down.ensures.1 e) (with_event given Redeclare) log Redeclare
     (settle_begins c.args.self (record c.args.self { given = c.push.new.self }) given log Redeclare tt good s refl
     c.in_ok-push.ensures.items)
 
@@ -40,8 +38,7 @@ returns-in_err-put_in_force-clause-limit c = λ e given log s good next.
     c.in_ok-push.ensures.items)) in
     c.in_err-put_in_force.ensures.limit
     (handed_on c.from_residual-in_err-put_in_force.result c.in_err-put_in_force.field-0.0
-    c.from_residual-in_err-put_in_force.ensures.1 e)
-    (with_event given Redeclare) f.0 f.1
+    c.from_residual-in_err-put_in_force.ensures.1 e) (with_event given Redeclare) f.0 f.1
 
 pub returns-clause-log : goal.returns-clause-log
 returns-clause-log c = λ given log s good next.

@@ -14,8 +14,7 @@ loop-event-init c =
       so_far = λ given log to s q. round_begins c.args.self.now given log to c.from_vec-events.result.items s q
           (λ tms dms calls h. c.from_vec-events.ensures.items ∙ c.in_ok-round.ensures tms dms calls h);
       count = refl;
-      began = round_some
-          c.args.self.now r.0 r.1 r.2 c.from_vec-events.result.items r.3 r.4
+      began = round_some c.args.self.now r.0 r.1 r.2 c.from_vec-events.result.items r.3 r.4
           (λ tms dms calls h. c.from_vec-events.ensures.items ∙ c.in_ok-round.ensures tms dms calls h);
     }
 
@@ -23,9 +22,7 @@ pub happen-requires : goal.happen-requires
 happen-requires c = let i = c.loop-event.invariant.some in (
   i.0,
   i.1,
-  (round_before
-      c.loop-event.self i.0 i.1 i.2 c.loop-event.events.items c.in-Some.event c.pop_front.new.self.items i.3
-      c.in-Some.ensures.items),
+  (round_before c.loop-event.self i.0 i.1 i.2 c.loop-event.events.items c.in-Some.event c.pop_front.new.self.items i.3 c.in-Some.ensures.items),
 )
 
 pub loop-event-preserved : goal.loop-event-preserved
@@ -68,8 +65,7 @@ pub returns-clause-ok : goal.returns-clause-ok
 returns-clause-ok c = λ given log to s q.
     let k = c.loop-event.invariant.so_far given log to s q in (
       k.0,
-      round_ends
-          c.loop-event.self given k.0 to c.loop-event.events.items k.1
+      round_ends c.loop-event.self given k.0 to c.loop-event.events.items k.1
           (no_items c.loop-event.events.items c.loop-event.events.len c.loop-event.events.ok.0
           c.in_default.ensures.cases.0),
     )

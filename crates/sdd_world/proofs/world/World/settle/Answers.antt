@@ -9,16 +9,14 @@ settle_down-requires c =
       with_event r.0 Settle,
       r.1,
       Settle,
-      settle_begins c.args.self (record c.args.self { given = c.push.new.self }) r.0 r.1 Settle tt r.3 r.2 refl
-          c.in_ok-push.ensures.items,
+      settle_begins c.args.self (record c.args.self { given = c.push.new.self }) r.0 r.1 Settle tt r.3 r.2 refl c.in_ok-push.ensures.items,
     )
 
 pub returns-in_err-settle_down-clause-limit : goal.returns-in_err-settle_down-clause-limit
 returns-in_err-settle_down-clause-limit c = λ e given log s good.
     c.in_err-settle_down.ensures.limit
     (handed_on c.from_residual-in_err-settle_down.result c.in_err-settle_down.field-0.0
-    c.from_residual-in_err-settle_down.ensures.1 e)
-    (with_event given Settle) log Settle
+    c.from_residual-in_err-settle_down.ensures.1 e) (with_event given Settle) log Settle
     (settle_begins c.args.self (record c.args.self { given = c.push.new.self }) given log Settle tt good s refl
     c.in_ok-push.ensures.items)
 
@@ -26,5 +24,4 @@ pub returns-clause-log : goal.returns-clause-log
 returns-clause-log c = λ given log s good.
     settle_ends c.settle_down.new.self (with_event given Settle)
     (c.in_ok-settle_down.ensures.ok (with_event given Settle) log Settle
-    (settle_begins c.args.self
-    (record c.args.self { given = c.push.new.self }) given log Settle tt good s refl c.in_ok-push.ensures.items))
+    (settle_begins c.args.self (record c.args.self { given = c.push.new.self }) given log Settle tt good s refl c.in_ok-push.ensures.items))

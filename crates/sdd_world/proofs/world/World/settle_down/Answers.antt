@@ -25,14 +25,9 @@ pub returns-in_err-round-clause-limit : goal.returns-in_err-round-clause-limit
 returns-in_err-round-clause-limit c = λ e given log event s.
     let k = c.loop-self.invariant.so_far given log event s in
     c.in_err-round.ensures.limit (handed_on c.from_residual.result c.in_err-round.field-0.0
-    c.from_residual.ensures.1 e) given k.0 event k.1 (sym (c.quiet.ensures given k.0 k.1.calm.parts.net)
-    ∙ c.loop-self-test.true)
+    c.from_residual.ensures.1 e) given k.0 event k.1 (sym (c.quiet.ensures given k.0 k.1.calm.parts.net) ∙ c.loop-self-test.true)
 
 pub returns-clause-ok : goal.returns-clause-ok
 returns-clause-ok c = λ given log event s.
     let k = c.loop-self.invariant.so_far given log event s in
-    record {
-      more = k.0;
-      settling = k.1;
-      is_quiet = sym (c.quiet.ensures given k.0 k.1.calm.parts.net) ∙ c.loop-self-test.false;
-    }
+    record { more = k.0; settling = k.1; is_quiet = sym (c.quiet.ensures given k.0 k.1.calm.parts.net) ∙ c.loop-self-test.false }

@@ -8,8 +8,7 @@ happen-requires c =
     let r = c.requires in (
       with_event r.0 c.args.event.now,
       r.1,
-      step_before c.args.self (record c.args.self { given = c.push.new.self }) r.0
-          r.1 c.args.event.now r.4 r.2 r.3 refl c.in_ok-push.ensures.items,
+      step_before c.args.self (record c.args.self { given = c.push.new.self }) r.0 r.1 c.args.event.now r.4 r.2 r.3 refl c.in_ok-push.ensures.items,
     )
 
 pub returns-in_err-happen-clause-limit : goal.returns-in_err-happen-clause-limit

@@ -73,5 +73,4 @@ returns-clause-limit c = λ e given log m.
     c.in_ok-outcome.outcome here
     (taken c.args.self.now given log
     c.args.number m c.index-as_slice-number.result is c.submit.new.self c.home_in-at.result
-    c.in_ok-outcome.outcome here c.in_ok-outcome.ensures.law)
-    (c.follow.ensures.limit e)
+    c.in_ok-outcome.outcome here c.in_ok-outcome.ensures.law) (c.follow.ensures.limit e)

@@ -12,8 +12,7 @@ pub loop-number-preserved : goal.loop-number-preserved
 loop-number-preserved c = λ given log s.
     each_to (tables_at given log) c.loop-number.number c.loop-number.tables.items c.add_tables.new.tables.items
     c.loop-number.auto.number (c.in_ok-add_tables.ensures given log (dm_of given c.args.self.now.whole.now
-    (dm_no c.loop-number.number) (sym s.calm.parts.whole_is) c.loop-number.auto.number (omega arith)) s)
-    (c.loop-number.invariant given log s)
+    (dm_no c.loop-number.number) (sym s.calm.parts.whole_is) c.loop-number.auto.number (omega arith)) s) (c.loop-number.invariant given log s)
 
 pub returns : goal.returns
 returns c = λ given log s.
