@@ -1,5 +1,6 @@
 -- The events of a valid workload are allowed.
-use Rattle.sdd_run.proofs.All.{All, All-head, All-tail, AreAllowed, Catalogue, ClassList, D, Deliver, Down, Event, Force, Given, IsGood, IsLink, IsPossible, IsSite, IsValidEvent, List, Lose, Redeclare, Repeat, Resend, Settle, Site, Some, Submit, T, Tick, U, Up, [], ap, append_assoc, are_linked, arith, count_join, drop, false, force_in, get_or, is_link, is_site, length, lists_after, map, redeclares_in, refl, slice_get, subst, suc, sym, takes_rounds, true, with_event, within, zero, ℕ, ◌&&◌, ◌++◌, ◌-◌, ◌<◌, ◌∙◌, ◌∷◌, ◌≡◌}
+use Rattle.sdd_run.proofs.All.{All, All-head, All-tail, AreAllowed, Catalogue, ClassList, D, Deliver, Down, Event, Force, Given, IsGood, IsLink, IsPossible, IsSite, IsValidEvent, List, Lose, Redeclare, Repeat, Resend, Settle, Site, Some, T, Tick, U, Up, [], ap, append_assoc, are_linked, arith, count_join, drop, false, force_in, get_or, is_link, is_site, length, lists_after, map, redeclares_in, refl, slice_get, subst, suc, sym, takes_rounds, true, with_event, within, zero, ℕ, ◌&&◌, ◌++◌, ◌-◌, ◌<◌, ◌∙◌, ◌∷◌, ◌≡◌}
+use Rattle.sdd_obligations.specs.All.{Submit}
 
 member : {A : Type 0} (xs : List A) (i : ℕ) → i < length xs → (x : A) × (slice_get xs i ≡ Some x)
 member [] i l = absurd (omega arith)
@@ -12,9 +13,7 @@ site_is cat (T t) h = within t.0 cat.tms h.0 h.1
 site_is cat (D d) h = within d.0 cat.dms h.0 h.1
 
 link_is : (cat : Catalogue) (a b : Site) → IsLink cat a b → is_link cat.tms cat.dms a b ≡ true
-link_is cat a b h =
-    ap (λ x. x && (is_site cat.tms cat.dms b && are_linked a b)) (site_is cat a h.0)
-    ∙ ap (λ x. x && are_linked a b) (site_is cat b h.1) ∙ h.2
+link_is cat a b h = ap (λ x. x && (is_site cat.tms cat.dms b && are_linked a b)) (site_is cat a h.0) ∙ ap (λ x. x && are_linked a b) (site_is cat b h.1) ∙ h.2
 
 -- what a valid event names exists
 pub possible : (g : Given) (e : Event) → IsValidEvent g.catalogue (length g.txns) e → takes_rounds e ≡ false → IsPossible g e
@@ -86,8 +85,7 @@ module _ (all : List Event) where
           good = good (g.events ++ x ∷ []) es further;
         },
         subst (AreAllowed (with_event g x) es) (sym o.none_taken)
-            (later further (All-tail (IsValidEvent g.catalogue (length g.txns)) x es valid)
-            (left ∙ ap (λ n. drop (suc n) g.forces) (sym same)) has good),
+            (later further (All-tail (IsValidEvent g.catalogue (length g.txns)) x es valid) (left ∙ ap (λ n. drop (suc n) g.forces) (sym same)) has good),
       )
 
   next_list : (g : Given) (es : List Event) (lists : List ClassList) → ((others : List ClassList) → Goes (with_event g Redeclare) es others)

@@ -1,5 +1,5 @@
 -- Where a settle or a redeclare is the last of the events, the links are quiet at the end.
-use Rattle.sdd_run.proofs.All.{Act, Bool, Deliver, Does, Down, Event, Given, Hand, IsAtRest, IsLawful, List, Log, Lose, Mark, None, Notes, Option, Redeclare, Redeclares, Repeat, Resend, Round, Settle, Site, Some, Submit, Submitted, Tick, Up, [], after_mark, all_links, ap, at_redeclare, base_of, calls_of, complete_parts, delivered, does_at, false, first_none, force_at, forced_none, from_event, hand_due, hand_number, hand_on, handed, if◌then◌else◌, inl, inr, left, link_of, local_of, mark_from, mark_of, next, next_at, next_is_of_events, next_number, none_any_base, none_left, quiet, quiet_at_last, redeclares, refl, round, same_part, site_due, sites, subst, suc, sym, tail_of, true, with_event, ℕ, ◌++◌, ◌∙◌, ◌∷◌, ◌≡◌, ◌⊎◌}
+use Rattle.sdd_run.proofs.All.{Act, Bool, Does, Event, Given, Hand, IsAtRest, IsLawful, List, Log, Mark, None, Notes, Option, Redeclare, Redeclares, Round, Settle, Site, Some, Submitted, Up, [], after_mark, all_links, ap, at_redeclare, base_of, calls_of, complete_parts, delivered, does_at, false, first_none, force_at, forced_none, from_event, hand_due, hand_number, hand_on, handed, if◌then◌else◌, inl, inr, left, link_of, local_of, mark_from, mark_of, next, next_at, next_is_of_events, next_number, none_any_base, none_left, quiet, quiet_at_last, redeclares, refl, round, same_part, site_due, sites, subst, suc, sym, tail_of, true, with_event, ℕ, ◌++◌, ◌∙◌, ◌∷◌, ◌≡◌, ◌⊎◌}
 use Rattle.sdd_obligations.specs.All.{Entry}
 use Rattle.sdd_obligations.specs.site_module.SiteLog as site
 
@@ -88,11 +88,7 @@ done_is_over : (g : Given) (t : ℕ) (before : Log) → next g before ≡ Some (
 done_is_over g t before h e =
     let m = at_redeclare g before t h in
     none_left g (Redeclares t ∷ before)
-    (record {
-      no_mark = refl;
-      no_site = none_at_site g t before m.no_site;
-      no_hand = none_to_hand g t before m.no_hand;
-    })
+    (record { no_mark = refl; no_site = none_at_site g t before m.no_site; no_hand = none_to_hand g t before m.no_hand })
     e
 
 over : (g : Given) (log : Log) (x : Entry) → IsLawful g log → next g log ≡ Some x → IsDone g log → ⊥
@@ -155,6 +151,5 @@ quiet_where g log h n (inr d) =
 pub quiet_at_rest : (g : Given) (last : Event) → IsAtRest last → (log : Log) → IsLawful (with_event g last) log → next (with_event g last) log ≡ None
     → quiet (all_links g) (calls_of log) ≡ true
 quiet_at_rest g Settle at log h n = quiet_at_last g log h n
-quiet_at_rest g Redeclare at log h n =
-    quiet_where (with_event g Redeclare) log h n (is_last (with_event g Redeclare) log h (ends_so false g.events))
+quiet_at_rest g Redeclare at log h n = quiet_where (with_event g Redeclare) log h n (is_last (with_event g Redeclare) log h (ends_so false g.events))
 quiet_at_rest g _ at log h n = absurd at

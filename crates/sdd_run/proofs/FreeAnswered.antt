@@ -1,5 +1,5 @@
 -- A READ of a free class is answered in the event in which it is handed over.
-use Rattle.sdd_run.proofs.All.{Answer, AreSubmittedOnce, ClassNo, Cond, D, DmNo, Does, EndsAnEvent, Given, Hand, IsAnsweredIn, IsAnsweredWithin, IsEventOver, IsFreeClass, IsLawful, IsPermitted, IsSound, IsTheLog, List, Log, Mark, Msg, Notes, Read, Rec, Records, Redeclares, Round, Site, Stands, Submitted, Ts, TxnNo, Use, [], act_kind, answered_by_end, ap, append_assoc, arith, begins_event, event_at, event_there, false, history, inl, inr, lawful_end, lawful_permitted, length, marks, marks_later, over_at_end, over_before, permitted_before, refl, stands_there, subst, sym, true, ℕ, ◌++◌, ◌∙◌, ◌∷◌, ◌≡◌, ◌≤◌, ◌⊎◌}
+use Rattle.sdd_run.proofs.All.{Answer, AreSubmittedOnce, ClassNo, Cond, D, DmNo, Does, EndsAnEvent, Given, Hand, IsAnsweredIn, IsAnsweredWithin, IsEventOver, IsFreeClass, IsLawful, IsPermitted, IsSound, IsTheLog, List, Log, Mark, Msg, Read, Rec, Records, Redeclares, Site, Stands, Ts, TxnNo, Use, [], act_kind, answered_by_end, ap, append_assoc, arith, begins_event, event_at, event_there, false, history, inl, inr, lawful_end, lawful_permitted, length, marks, marks_later, over_at_end, over_before, permitted_before, refl, stands_there, subst, sym, true, ℕ, ◌++◌, ◌∙◌, ◌∷◌, ◌≡◌, ◌≤◌, ◌⊎◌}
 use Rattle.sdd_obligations.specs.All.{Entry}
 
 -- the entries behind a place, till the event there is over
@@ -42,8 +42,7 @@ answer_at g c d dm txn attempt sends log h = act_kind g (D d) (Records c (Answer
 
 -- where an Answer stands between a hand and the end of its event, it has the number of that event
 answered_there : (g : Given) (log front later before entry_log rest : Log) (c : ℕ) (d dm : DmNo) (txn : TxnNo) (attempt : ℕ) (sends : List (Site × Msg))
-    → log ≡ front ++ (entry_log ++ rest)
-    → entry_log ≡ later ++ Does (D d) (Records c (Answer txn attempt dm) sends) ∷ before
+    → log ≡ front ++ (entry_log ++ rest) → entry_log ≡ later ++ Does (D d) (Records c (Answer txn attempt dm) sends) ∷ before
     → marks (entry_log ++ rest) ≡ marks rest → IsPermitted g log → IsAnsweredWithin (history log) d txn attempt (marks rest)
 answered_there g log front later before entry_log rest c d dm txn attempt sends whole is same h =
     let rec : Rec = Answer txn attempt dm in

@@ -11,8 +11,7 @@ module _ (g : Given) (log : Log) (eras : Eras) (h : IsPermitted g log) (starting
     (a : Attempt) (started : IsAttempt (history log) a) (free : IsFreeClass g a.class) where
   -- the pipe at whose head the READ of the attempt stands is that of its class
   of_its_class : (later before : Log) (e : Entry) (c d : ℕ) (ts : Ts) (of : ClassNo) (ds : List Cond) (us : List Use)
-      → IsPermitted g before → log ≡ later ++ e ∷ before
-      → head (pipe_at g c (dm_no d) before) ≡ Some (Read ts of (txn_no a.txn) a.number ds us) → a.class ≡ c
+      → IsPermitted g before → log ≡ later ++ e ∷ before → head (pipe_at g c (dm_no d) before) ≡ Some (Read ts of (txn_no a.txn) a.number ds us) → a.class ≡ c
   of_its_class later before e c d ts of ds us now is top =
       let r = read_of_some g log later before e c a.txn a.number d ts of ds us now is top in
       sym (one_class g.catalogue eras g.txns (history log) starting r.attempt a r.started started r.txn_is) ∙ r.class_is

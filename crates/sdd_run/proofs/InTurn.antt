@@ -33,8 +33,7 @@ precedes_later : (cat : Catalogue) (h : History) (x y : Committed) → x.start.t
     → precedes cat h x y ≡ true
 precedes_later cat h x y other class time =
     let earlier : is_earlier x y ≡ true =
-    ap (λ b. b && nat_lt x.start.ts y.start.ts) (eq-eqb x.start.class y.start.class class)
-    ∙ lt-ltb x.start.ts y.start.ts time in
+    ap (λ b. b && nat_lt x.start.ts y.start.ts) (eq-eqb x.start.class y.start.class class) ∙ lt-ltb x.start.ts y.start.ts time in
     ap (λ b. not b && ((is_earlier x y || is_overwritten x y) || (misses cat h x y || is_read_by cat h x y))) (ne_eqb x.start.txn y.start.txn other)
     ∙ ap (λ b. (b || is_overwritten x y) || (misses cat h x y || is_read_by cat h x y)) earlier
 

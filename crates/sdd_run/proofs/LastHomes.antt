@@ -1,13 +1,11 @@
 -- A transaction that is pending when a run ends was submitted under the list of classes that is in force then: all that
 -- was submitted under an earlier one is committed. So it is looked for at the site of its class by that list.
-use Rattle.sdd_run.proofs.All.{Answer, Apply, AreAtLastHomes, Arrive, Bool, Commit, Does, Given, Hand, Homes, IsPermitted, IsSubmitted, Known, List, Log, Mark, None, Notes, Nothing, Option, Pass, Rec, Redeclares, Reject, Round, Site, Some, Start, Submitted, Telling, TxnNo, Wait, [], ap, append_assoc, arith, commit_there, commits, cons_option, eqb-true, false, filter_map, force_at, given_at, history, history_le, home_of, if◌then◌else◌, inl, inr, last_home, length, length-append, list_any, not_both, one_submit, option_map, pending_as, pending_at, pending_by, pending_of, permitted_before, reason_of, redeclare_between, redeclares, refl, rest, same_number, slice_get, stands_at, stands_front, stands_there, submit_in, submitted_at, subst, suc, sym, true, txn_at, txn_no, why_of, ℕ, ◌++◌, ◌+◌, ◌==◌, ◌∙◌, ◌∷◌, ◌≡◌}
+use Rattle.sdd_run.proofs.All.{AreAtLastHomes, Bool, Does, Given, Hand, Homes, IsPermitted, IsSubmitted, Known, List, Log, Mark, None, Notes, Option, Rec, Redeclares, Round, Site, Some, Submit, Submitted, Telling, TxnNo, [], ap, append_assoc, arith, commit_there, commits, cons_option, eqb-true, false, filter_map, force_at, given_at, history, history_le, home_of, if◌then◌else◌, inl, inr, last_home, length, length-append, list_any, not_both, one_submit, option_map, pending_as, pending_at, pending_by, pending_of, permitted_before, reason_of, redeclare_between, redeclares, refl, rest, same_number, slice_get, stands_at, stands_front, stands_there, submit_in, submitted_at, subst, suc, sym, true, txn_at, txn_no, why_of, ℕ, ◌++◌, ◌+◌, ◌==◌, ◌∙◌, ◌∷◌, ◌≡◌}
 use Rattle.sdd_run.proofs.Lossless.{commits_it}
-use Rattle.sdd_obligations.specs.history.declared.record.Rec.TheVariants.{Submit}
 
 -- the site that a log tells is that of the one place where it submits the transaction
 
-at_submit : (later rest : Log) (at : Site) (n : ℕ)
-    → ((front after : Log) (other : Site) → later ≡ front ++ Submitted other n ∷ after → ⊥)
+at_submit : (later rest : Log) (at : Site) (n : ℕ) → ((front after : Log) (other : Site) → later ≡ front ++ Submitted other n ∷ after → ⊥)
     → submitted_at (later ++ Submitted at n ∷ rest) n ≡ at
 at_submit [] rest at n none = rw (same_number n) refl
 at_submit (Submitted b m ∷ later) rest at n none =
@@ -15,16 +13,14 @@ at_submit (Submitted b m ∷ later) rest at n none =
       | true ↦ λ e. absurd (none [] later b (ap (λ k. Submitted b k ∷ later) (eqb-true m n e)))
       | false ↦ λ e. at_submit later rest at n (λ front after other is. none (Submitted b m ∷ front) after other (ap (λ l. Submitted b m ∷ l) is))
     ] refl
-at_submit (Mark e ∷ later) rest at n none =
-    at_submit later rest at n (λ front after other is. none (Mark e ∷ front) after other (ap (λ l. Mark e ∷ l) is))
+at_submit (Mark e ∷ later) rest at n none = at_submit later rest at n (λ front after other is. none (Mark e ∷ front) after other (ap (λ l. Mark e ∷ l) is))
 at_submit (Round es ∷ later) rest at n none =
     at_submit later rest at n (λ front after other is. none (Round es ∷ front) after other (ap (λ l. Round es ∷ l) is))
 at_submit (Redeclares t ∷ later) rest at n none =
     at_submit later rest at n (λ front after other is. none (Redeclares t ∷ front) after other (ap (λ l. Redeclares t ∷ l) is))
 at_submit (Hand a b k m ∷ later) rest at n none =
     at_submit later rest at n (λ front after other is. none (Hand a b k m ∷ front) after other (ap (λ l. Hand a b k m ∷ l) is))
-at_submit (Notes ∷ later) rest at n none =
-    at_submit later rest at n (λ front after other is. none (Notes ∷ front) after other (ap (λ l. Notes ∷ l) is))
+at_submit (Notes ∷ later) rest at n none = at_submit later rest at n (λ front after other is. none (Notes ∷ front) after other (ap (λ l. Notes ∷ l) is))
 at_submit (Does by act ∷ later) rest at n none =
     at_submit later rest at n (λ front after other is. none (Does by act ∷ front) after other (ap (λ l. Does by act ∷ l) is))
 
@@ -73,11 +69,9 @@ at_last_homes g log w = record { same = last_home_is g log w }
 
 -- so looking there comes to the same
 
-chosen_alike : {A B : Type 0} (f g : A → Option B) (xs : List A) → ((k : ℕ) (x : A) → slice_get xs k ≡ Some x → f x ≡ g x)
-    → filter_map f xs ≡ filter_map g xs
+chosen_alike : {A B : Type 0} (f g : A → Option B) (xs : List A) → ((k : ℕ) (x : A) → slice_get xs k ≡ Some x → f x ≡ g x) → filter_map f xs ≡ filter_map g xs
 chosen_alike f g [] h = refl
-chosen_alike f g (x ∷ xs) h =
-    ap (λ o. cons_option o (filter_map f xs)) (h 0 x refl) ∙ ap (cons_option (g x)) (chosen_alike f g xs (λ k y e. h (suc k) y e))
+chosen_alike f g (x ∷ xs) h = ap (λ o. cons_option o (filter_map f xs)) (h 0 x refl) ∙ ap (cons_option (g x)) (chosen_alike f g xs (λ k y e. h (suc k) y e))
 
 same_if : (tell : Telling) (g : Given) (log : Log) (homes others : Homes) (n : TxnNo) (b : Bool) → (b ≡ false → homes n.0 ≡ others n.0)
     → (if b then None else pending_as n (reason_of tell homes g log n.0)) ≡ (if b then None else pending_as n (reason_of tell others g log n.0))

@@ -60,8 +60,7 @@ module _ (g : Given) (rows : List (RelNo × Row)) (log : Log) (sound : IsSound g
       → contents f (dated (setting_of g (D (dm_no d))) (local_of g (D (dm_no d)) log)) ≡ laws.copy_at g.catalogue rows (history log) d (length (history log)) f
   contents_are d f copied =
       same_copy g rows (eras_of g log) (noted log) sound fine (still_permitted g log permitted)
-      (are_eras_of g (noted log) lists) d (length (history log)) Nothing
-      (at_the_end log) f copied
+      (are_eras_of g (noted log) lists) d (length (history log)) Nothing (at_the_end log) f copied
       ∙ ap (contents f) (same_dated g.catalogue rows (history log) _ d)
 
   -- a copy that is told of has what the history gives
@@ -77,14 +76,11 @@ module _ (g : Given) (rows : List (RelNo × Row)) (log : Log) (sound : IsSound g
 
   -- two copies of a fragment at which the same is applied that changes it are equal
   pub alike_in : (one two : CopyTable) → Contains (tables_of g log) one → Contains (tables_of g log) two → one.frag ≡ two.frag
-      → AreAppliedAlike (history log) one.frag.0 one.dm.0 (length (history log)) two.dm.0 (length (history log))
-      → one.rows ≡ two.rows
+      → AreAppliedAlike (history log) one.frag.0 one.dm.0 (length (history log)) two.dm.0 (length (history log)) → one.rows ≡ two.rows
   alike_in one two here there same alike =
       let h = history log in
-      told_rows one here
-      ∙ ap (λ l. map (λ e. e.1) l) (equal_copies g.catalogue rows h one.frag.0 one.dm.0 (length h) two.dm.0 (length h) alike)
-      ∙ ap (λ (f : FragNo). map (λ e. e.1) (laws.copy_at g.catalogue rows h two.dm.0 (length h) f.0)) same
-      ∙ sym (told_rows two there)
+      told_rows one here ∙ ap (λ l. map (λ e. e.1) l) (equal_copies g.catalogue rows h one.frag.0 one.dm.0 (length h) two.dm.0 (length h) alike)
+      ∙ ap (λ (f : FragNo). map (λ e. e.1) (laws.copy_at g.catalogue rows h two.dm.0 (length h) f.0)) same ∙ sym (told_rows two there)
 
   module _ (order : List TxnNo) (serial : IsSerial g.catalogue (history log) order) where
     left_at : (d f : ℕ) → has_copy g.catalogue d f ≡ true → AreAllApplied (history log) f d (length (history log))
@@ -92,11 +88,9 @@ module _ (g : Given) (rows : List (RelNo × Row)) (log : Log) (sound : IsSound g
         (local_of g (D (dm_no d)) log))) ≡ rows_left g.catalogue (run g.catalogue rows g.txns order).1 f
     left_at d f copied all =
         let copy = laws.copy_at g.catalogue rows (history log) d (length (history log)) f in
-        ap (λ l. map (λ e. e.1) l) (contents_are d f copied)
-        ∙ sym (map-map (λ (e : Item × Row). e.1) _ copy)
+        ap (λ l. map (λ e. e.1) l) (contents_are d f copied) ∙ sym (map-map (λ (e : Item × Row). e.1) _ copy)
         ∙ sym (ap (map (λ (e : Item × Row). e.1))
-        (left_in_copies g rows (eras_of g log) log order sound fine permitted
-        (are_eras_of g log lists) serial f d (length (history log)) all))
+        (left_in_copies g rows (eras_of g log) log order sound fine permitted (are_eras_of g log lists) serial f d (length (history log)) all))
 
     -- each copy that is told of
     pub left_in : (copy : CopyTable) → Contains (tables_of g log) copy → AreAllApplied (history log) copy.frag.0 copy.dm.0 (length (history log))

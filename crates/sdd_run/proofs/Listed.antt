@@ -1,8 +1,7 @@
 -- Each transaction that was submitted and isn't committed is listed as pending.
-use Rattle.sdd_run.proofs.All.{Answer, Apply, AreNumbered, Arrive, Bool, ClassState, Commit, Given, HasSoundLists, History, IsClass, IsClassOf, IsListed, IsPermitted, IsQueued, IsSubmitted, Line, List, Log, None, NonePasses, Nothing, Option, Pass, Pending, Queued, Rec, Reject, Site, Some, Standing, Stands, Start, T, U, Wait, WasCommitted, Why, [], active, ap, at_home, at_map, class_at, class_of, commits, committed_or_queued, cons_option, either, eqb-true, false, filter_map, first_underway, history, home, home_setting, if◌then◌else◌, in_runs, inl, inr, is_awaiting_helds, is_some, kept_there, lacking_site, list_any, local_of, map, none_found, not, or_standing, pending_as, pending_by, pending_of, position, positive, queue, queued_at, reason_of, refl, runs, same_number, same_or_not, setting_of, slice_get, standing_among, standing_at, standing_at_t, standing_at_u, standing_by, standing_in, standing_of, submitted_at, subst, suc, sym, tm_no, true, txn_no, underway, waiting, why_of, zero, ℕ, ◌-◌, ◌==◌, ◌∙◌, ◌∷◌, ◌≡◌, ◌⊎◌}
+use Rattle.sdd_run.proofs.All.{Answer, Apply, AreNumbered, Arrive, Bool, ClassState, Commit, Given, HasSoundLists, History, IsClass, IsClassOf, IsListed, IsPermitted, IsQueued, IsSubmitted, Line, List, Log, None, NonePasses, Nothing, Option, Pass, Pending, Queued, Rec, Reject, Site, Some, Standing, Stands, Start, Submit, T, U, Wait, WasCommitted, Why, [], active, ap, at_home, at_map, class_at, class_of, commits, committed_or_queued, cons_option, either, eqb-true, false, filter_map, first_underway, history, home, home_setting, if◌then◌else◌, in_runs, inl, inr, is_awaiting_helds, is_some, kept_there, lacking_site, list_any, local_of, map, none_found, not, or_standing, pending_as, pending_by, pending_of, position, positive, queue, queued_at, reason_of, refl, runs, same_number, same_or_not, setting_of, slice_get, standing_among, standing_at, standing_at_t, standing_at_u, standing_by, standing_in, standing_of, submitted_at, subst, suc, sym, tm_no, true, txn_no, underway, waiting, why_of, zero, ℕ, ◌-◌, ◌==◌, ◌∙◌, ◌∷◌, ◌≡◌, ◌⊎◌}
 use Rattle.sdd_run.proofs.LastHomes.{submitted_there}
 use Rattle.sdd_obligations.specs.All.{Attempt}
-use Rattle.sdd_obligations.specs.history.declared.record.Rec.TheVariants.{Submit}
 use Rattle.sdd_obligations.specs.attempt.declared.standing.Standing.TheVariants as standings
 use Rattle.sdd_obligations.specs.umod.State as um
 use Rattle.sdd_report.specs.declared.pending.Why.TheVariants as reasons
@@ -11,8 +10,7 @@ use Rattle.sdd_report.specs.declared.pending.Why.TheVariants as reasons
 
 passes_none : {A : Type 0} (p : A → Bool) (xs : List A) (j : ℕ) (x : A) → NonePasses p xs → slice_get xs j ≡ Some x → p x ≡ true → ⊥
 passes_none p [] j x none e h = cc
-passes_none p (y ∷ xs) zero x none e h =
-    let q : y ≡ x = cc in let a : p y ≡ true = subst (λ z. p z ≡ true) (sym q) h in let b : p y ≡ false = none.0 in cc
+passes_none p (y ∷ xs) zero x none e h = let q : y ≡ x = cc in let a : p y ≡ true = subst (λ z. p z ≡ true) (sym q) h in let b : p y ≡ false = none.0 in cc
 passes_none p (y ∷ xs) (suc j) x none e h = passes_none p xs j x none.1 e h
 
 position_there : {A : Type 0} (p : A → Bool) (xs : List A) (j : ℕ) (x : A) → slice_get xs j ≡ Some x → p x ≡ true → (k : ℕ) × (position p xs ≡ Some k)
@@ -63,8 +61,7 @@ here_next _ next h = tt
 
 among_here : (ls : List Line) (n j : ℕ) (l : Line) → slice_get ls j ≡ Some l → IsHere (standing_of l n) → IsHere (standing_among ls n)
 among_here [] n j l e h = cc
-among_here (x ∷ ls) n zero l e h =
-    let q : x ≡ l = cc in here_first (standing_of x n) (standing_among ls n) (subst (λ y. IsHere (standing_of y n)) (sym q) h)
+among_here (x ∷ ls) n zero l e h = let q : x ≡ l = cc in here_first (standing_of x n) (standing_among ls n) (subst (λ y. IsHere (standing_of y n)) (sym q) h)
 among_here (x ∷ ls) n (suc j) l e h = here_next (standing_of x n) (standing_among ls n) (among_here ls n j l e h)
 
 first_here : (site : Site) (s : Standing) → IsHere s → IsHere (first_underway site s)
@@ -81,14 +78,12 @@ at_u_here state n h =
       | false ↦ h
     ]
 
-here_u : (g : Given) (log : Log) (c n j : ℕ) (q : Queued) → c ≡ 0
-    → slice_get (queue (setting_of g U) c (local_of g U log)) j ≡ Some q → q.number ≡ n
+here_u : (g : Given) (log : Log) (c n j : ℕ) (q : Queued) → c ≡ 0 → slice_get (queue (setting_of g U) c (local_of g U log)) j ≡ Some q → q.number ≡ n
     → IsHere (standing_at standing_at_u standing_at_t U (setting_of g U) (local_of g U log) n)
 here_u g log c n j q zero_is there is =
     let s = setting_of g U in
     let l = local_of g U log in
-    at_u_here (um.state_of s l) n
-    (line_here 0 (queue s 0 l) (active s 0 l) n j q (subst (λ k. slice_get (queue s k l) j ≡ Some q) zero_is there) is)
+    at_u_here (um.state_of s l) n (line_here 0 (queue s 0 l) (active s 0 l) n j q (subst (λ k. slice_get (queue s k l) j ≡ Some q) zero_is there) is)
 
 here_t : (g : Given) (log : Log) (c n j : ℕ) (q : Queued) → IsClassOf g.catalogue c
     → slice_get (queue (setting_of g (T (tm_no (class_at g.catalogue c).tm.0))) c (local_of g (T (tm_no (class_at g.catalogue c).tm.0)) log)) j ≡ Some q
@@ -106,8 +101,7 @@ here_t g log c n j q class there is =
     (line_here c (queue s c l) (active s c l) n j q there is)
 
 here_at : (g : Given) (log : Log) (c n j : ℕ) (q : Queued) → IsClass g.catalogue c → slice_get (queue (home_setting g c) c (at_home g c log)) j ≡ Some q
-    → q.number ≡ n
-    → IsHere (standing_at standing_at_u standing_at_t (home g.catalogue c) (home_setting g c) (at_home g c log) n)
+    → q.number ≡ n → IsHere (standing_at standing_at_u standing_at_t (home g.catalogue c) (home_setting g c) (at_home g c log) n)
 here_at g log c n j q within there is =
     elim (c == 0)
     as (λ b. (c == 0) ≡ b
@@ -165,8 +159,7 @@ was_committed ((event, Pass class dm time) ∷ h) n e = later_commit (event, Pas
 was_committed ((event, Nothing) ∷ h) n e = later_commit (event, Nothing) h n (was_committed h n e)
 
 listed_at : (f : ℕ × Rec → Option Pending) (h : History) (n k : ℕ) (one : Pending) → Stands h k (Submit (txn_no n))
-    → ((event : ℕ) → f (event, Submit (txn_no n)) ≡ Some one)
-    → (j : ℕ) × (slice_get (filter_map f h) j ≡ Some one)
+    → ((event : ℕ) → f (event, Submit (txn_no n)) ≡ Some one) → (j : ℕ) × (slice_get (filter_map f h) j ≡ Some one)
 listed_at f [] n k one e h = cc
 listed_at f ((event, r) ∷ rest) n zero one e h =
     let q : r ≡ Submit (txn_no n) = cc in let p : f (event, r) ≡ Some one = subst (λ x. f (event, x) ≡ Some one) (sym q) (h event) in (0, rw p refl)
@@ -174,8 +167,7 @@ listed_at f (x ∷ rest) n (suc k) one e h =
     let i = listed_at f rest n k one e h in
     elim (f x) as (λ o. (j : ℕ) × (slice_get (cons_option o (filter_map f rest)) j ≡ Some one)) [ None ↦ i | Some y ↦ (suc i.0, i.1) ]
 
-pub each_listed : (g : Given) (log : Log) → IsPermitted g log → HasSoundLists g log → AreNumbered g log
-    → (n k : ℕ) → IsSubmitted (history log) n k
+pub each_listed : (g : Given) (log : Log) → IsPermitted g log → HasSoundLists g log → AreNumbered g log → (n k : ℕ) → IsSubmitted (history log) n k
     → WasCommitted (history log) n ⊎ IsListed (pending_of (standing_at standing_at_u standing_at_t) g log) n
 each_listed g log permitted lists numbered n k submitted =
     elim (list_any (commits n) (history log)) as (λ b. list_any (commits n) (history log) ≡ b

@@ -1,15 +1,13 @@
 -- Each transaction that was submitted stands in the order once, or is listed as pending once.
-use Rattle.sdd_run.proofs.All.{Answer, Apply, Arrive, Catalogue, Commit, Committed, Given, History, Homes, IsCommitted, IsListed, IsSerial, IsSubmitted, List, Log, None, Nothing, Option, Pass, Pending, Rec, Reject, Some, Stands, Start, Telling, TxnNo, Wait, WasCommitted, Why, [], any_commit, ap, arith, commits, cond, cons_option, eq-eqb, false, filter_map, history, if◌then◌else◌, inl, inr, list_any, map, ne_eqb, not_both, option_map, pending_as, pending_by, pending_of, reason_of, refl, same_number, slice_get, submitted_at, subst, suc, sym, times_in, times_pending, true, txn_no, zero, ℕ, ◌+◌, ◌∙◌, ◌∷◌, ◌≡◌, ◌≢◌, ◌⊎◌}
+use Rattle.sdd_run.proofs.All.{Catalogue, Committed, Given, History, Homes, IsCommitted, IsListed, IsSerial, IsSubmitted, List, Log, None, Option, Pending, Rec, Some, Stands, Submit, Telling, TxnNo, WasCommitted, Why, [], any_commit, ap, arith, commits, cond, cons_option, eq-eqb, false, filter_map, history, if◌then◌else◌, inl, inr, list_any, map, ne_eqb, not_both, option_map, pending_as, pending_by, pending_of, reason_of, refl, same_number, slice_get, submitted_at, subst, suc, sym, times_in, times_pending, true, txn_no, zero, ℕ, ◌+◌, ◌∙◌, ◌∷◌, ◌≡◌, ◌≢◌, ◌⊎◌}
 use Rattle.sdd_run.proofs.Once.{none_there, times_more}
-use Rattle.sdd_obligations.specs.history.declared.record.Rec.TheVariants.{Submit}
 
 -- how often what is chosen of a history names a transaction
 
 abbrev named_in : List Pending → List TxnNo
 named_in ps = map (λ (p : Pending). p.txn) ps
 
-count_none : (f : ℕ × Rec → Option Pending) (h : History) (n : ℕ)
-    → ((k : ℕ) (e : ℕ × Rec) (p : Pending) → slice_get h k ≡ Some e → f e ≡ Some p → p.txn.0 ≢ n)
+count_none : (f : ℕ × Rec → Option Pending) (h : History) (n : ℕ) → ((k : ℕ) (e : ℕ × Rec) (p : Pending) → slice_get h k ≡ Some e → f e ≡ Some p → p.txn.0 ≢ n)
     → times_pending n (filter_map f h) ≡ 0
 count_none f [] n other = refl
 count_none f (e ∷ h) n other =
@@ -17,15 +15,12 @@ count_none f (e ∷ h) n other =
     elim (f e) as (λ o. f e ≡ o → times_pending n (cons_option o (filter_map f h)) ≡ 0) [
       | None ↦ λ q. rest
       | Some p ↦ λ q.
-          times_more p.txn (named_in (filter_map f h)) n
-          ∙ ap (λ b. cond b 1 0 + times_pending n (filter_map f h)) (ne_eqb p.txn.0 n (other 0 e p refl q))
+          times_more p.txn (named_in (filter_map f h)) n ∙ ap (λ b. cond b 1 0 + times_pending n (filter_map f h)) (ne_eqb p.txn.0 n (other 0 e p refl q))
           ∙ (omega (arith, rest))
     ] refl
 
-count_one : (f : ℕ × Rec → Option Pending) (h : History) (n k : ℕ) (e : ℕ × Rec) (p : Pending)
-    → slice_get h k ≡ Some e → f e ≡ Some p → p.txn.0 ≡ n
-    → ((j : ℕ) (x : ℕ × Rec) (q : Pending) → slice_get h j ≡ Some x → f x ≡ Some q → q.txn.0 ≡ n → j ≡ k)
-    → times_pending n (filter_map f h) ≡ 1
+count_one : (f : ℕ × Rec → Option Pending) (h : History) (n k : ℕ) (e : ℕ × Rec) (p : Pending) → slice_get h k ≡ Some e → f e ≡ Some p → p.txn.0 ≡ n
+    → ((j : ℕ) (x : ℕ × Rec) (q : Pending) → slice_get h j ≡ Some x → f x ≡ Some q → q.txn.0 ≡ n → j ≡ k) → times_pending n (filter_map f h) ≡ 1
 count_one f [] n k e p there gives named one = cc
 count_one f (x ∷ h) n zero e p there gives named one =
     let q : x ≡ e = cc in
@@ -33,8 +28,7 @@ count_one f (x ∷ h) n zero e p there gives named one =
     let rest = count_none f h n (λ j y r at is same. (let s = one (suc j) y r at is same in omega (arith, s))) in
     subst (λ o. times_pending n (cons_option o (filter_map f h)) ≡ 1) (sym here)
     (times_more p.txn (named_in (filter_map f h)) n
-    ∙ ap (λ b. cond b 1 0 + times_pending n (filter_map f h)) (eq-eqb p.txn.0 n named)
-    ∙ (omega (arith, rest)))
+    ∙ ap (λ b. cond b 1 0 + times_pending n (filter_map f h)) (eq-eqb p.txn.0 n named) ∙ (omega (arith, rest)))
 count_one f (x ∷ h) n (suc k) e p there gives named one =
     let rest = count_one f h n k e p there gives named (λ j y r at is same. (let s = one (suc j) y r at is same in omega (arith, s))) in
     elim (f x) as (λ o. f x ≡ o → times_pending n (cons_option o (filter_map f h)) ≡ 1) [
@@ -56,8 +50,7 @@ later_chosen f e h p x = record { place = suc x.place; entry = x.entry; there = 
 
 chosen_here : (f : ℕ × Rec → Option Pending) (x : ℕ × Rec) (h : History) (j : ℕ) (y p : Pending) → f x ≡ Some y
     → ((i : ℕ) → slice_get (filter_map f h) i ≡ Some p → IsChosen f h p) → slice_get (y ∷ filter_map f h) j ≡ Some p → IsChosen f (x ∷ h) p
-chosen_here f x h zero y p q rest e =
-    let s : y ≡ p = cc in record { place = 0; entry = x; there = refl; gives = q ∙ ap (λ z. Some z) s }
+chosen_here f x h zero y p q rest e = let s : y ≡ p = cc in record { place = 0; entry = x; there = refl; gives = q ∙ ap (λ z. Some z) s }
 chosen_here f x h (suc j) y p q rest e = later_chosen f x h p (rest j e)
 
 chosen_from : (f : ℕ × Rec → Option Pending) (h : History) (j : ℕ) (p : Pending) → slice_get (filter_map f h) j ≡ Some p → IsChosen f h p
@@ -137,11 +130,9 @@ module _ (tell : Telling) (g : Given) (log : Log) where
   })
 
   -- so each transaction that was submitted stands in the order or in the list, and in one of them once
-  pub in_one : (cat : Catalogue) (order : List TxnNo) → IsSerial cat (history log) order
-      → ((n : ℕ) → WasCommitted (history log) n → times_in n order ≡ 1)
+  pub in_one : (cat : Catalogue) (order : List TxnNo) → IsSerial cat (history log) order → ((n : ℕ) → WasCommitted (history log) n → times_in n order ≡ 1)
       → ((n j k : ℕ) → IsSubmitted (history log) n j → IsSubmitted (history log) n k → j ≡ k)
-      → (n : ℕ) → WasCommitted (history log) n ⊎ IsListed (pending_of tell g log) n
-      → times_in n order + times_pending n (pending_of tell g log) ≡ 1
+      → (n : ℕ) → WasCommitted (history log) n ⊎ IsListed (pending_of tell g log) n → times_in n order + times_pending n (pending_of tell g log) ≡ 1
   in_one cat order serial in_order one n (inl w) = let a = in_order n w in let b = not_listed n w in omega (arith, a, b)
   in_one cat order serial in_order one n (inr x) =
       let l = listed_once one n x in

@@ -20,6 +20,5 @@ low_clocks cat tables work sound valid tabled log lawful later before at is =
     } in
     clock_low g before at small now valid.few_events
     (few_in_limit g work.rows before (eras_of g before) sound (fine cat tables work sound valid tabled)
-    (lawful_permitted g before submits.once now)
-    (are_eras_of g before (lawful_lists cat tables work sound valid tabled before now))
+    (lawful_permitted g before submits.once now) (are_eras_of g before (lawful_lists cat tables work sound valid tabled before now))
     (lawful_numbered g before submits now) valid.few_txns)

@@ -1,5 +1,6 @@
 -- The marks of a lawful log submit transactions that the schedule names.
-use Rattle.sdd_run.proofs.All.{All, All-head, All-tail, AreNumbered, Bool, Catalogue, Deliver, Does, Down, Event, Given, Hand, IsFrom1To, IsLawful, IsValidEvent, List, Log, Lose, Mark, Notes, Redeclare, Redeclares, Repeat, Resend, Round, Settle, Submit, Submitted, Tick, TxnNo, Up, [], ap, arith, eq-eqb, eqb-true, false, left_is, length, marked, one_if, refl, submits_in, subst, sym, true, ℕ, ◌++◌, ◌+◌, ◌==◌, ◌∷◌, ◌≡◌, ◌≤◌}
+use Rattle.sdd_run.proofs.All.{All, All-head, All-tail, AreNumbered, Bool, Catalogue, Deliver, Down, Event, Given, IsFrom1To, IsLawful, IsValidEvent, List, Log, Lose, Mark, Redeclare, Repeat, Resend, Settle, Tick, TxnNo, Up, [], ap, arith, eq-eqb, eqb-true, false, left_is, length, marked, one_if, refl, submits_in, subst, sym, true, ℕ, ◌++◌, ◌+◌, ◌==◌, ◌∷◌, ◌≡◌, ◌≤◌}
+use Rattle.sdd_obligations.specs.All.{Submit}
 
 -- a mark that stands in a log counts
 marked_there : (n : TxnNo) (later before : Log) → 1 ≤ marked n.0 (later ++ Mark (Submit n) ∷ before)

@@ -1,6 +1,5 @@
 -- Where every transaction that was submitted is committed, none is pending.
-use Rattle.sdd_run.proofs.All.{AllCommitted, Answer, Apply, Arrive, Commit, Given, History, IsNotLeft, Log, None, Nothing, Pass, Rec, Reject, Start, Telling, Wait, [], any_commit, commits, history, pending_by, pending_of, refl, same_number, submitted_at, ℕ, ◌≡◌}
-use Rattle.sdd_obligations.specs.history.declared.record.Rec.TheVariants.{Submit}
+use Rattle.sdd_run.proofs.All.{AllCommitted, Given, History, IsNotLeft, Log, None, Rec, Submit, Telling, [], any_commit, commits, history, pending_by, pending_of, refl, same_number, submitted_at, ℕ, ◌≡◌}
 use Rattle.sdd_progress.proofs.Committed.{none_left}
 
 not_pending : (tell : Telling) (g : Given) (log : Log) (all : History) (x : ℕ × Rec) → IsNotLeft all x → pending_by tell (submitted_at log) g log all x ≡ None

@@ -6,14 +6,12 @@ pub one_list_of_tables : (cats : List Catalogue) (a b : List (List Entry)) → A
 one_list_of_tables [] [] [] x y = refl
 one_list_of_tables [] [] (t ∷ ts) x y = absurd y
 one_list_of_tables (cat ∷ cats) (s ∷ a) [] x y = absurd y
-one_list_of_tables (cat ∷ cats) (s ∷ a) (t ∷ b) x y =
-    ap (λ z. z ∷ a) (one_table cat s t x.0 y.0) ∙ ap (λ zs. t ∷ zs) (one_list_of_tables cats a b x.1 y.1)
+one_list_of_tables (cat ∷ cats) (s ∷ a) (t ∷ b) x y = ap (λ z. z ∷ a) (one_table cat s t x.0 y.0) ∙ ap (λ zs. t ∷ zs) (one_list_of_tables cats a b x.1 y.1)
 one_list_of_tables _ _ b x y = absurd x
 
 -- what is made of the log of a run by its tables is one thing
 one_made : {A : Type 0} (cat : Catalogue) (work : Workload) (make : List (List Entry) → Log → A) (a b : List (List Entry)) (l m : Log)
-    → AreTables cat work a → AreTables cat work b
-    → IsTheLog (given_of cat a work) l → IsTheLog (given_of cat b work) m → make a l ≡ make b m
+    → AreTables cat work a → AreTables cat work b → IsTheLog (given_of cat a work) l → IsTheLog (given_of cat b work) m → make a l ≡ make b m
 one_made cat work make a b l m x y h k =
     let same : a ≡ b = one_list_of_tables (eras_in cat work) a b x y in
     let there : IsTheLog (given_of cat b work) l = subst (λ t. IsTheLog (given_of cat t work) l) same h in
@@ -21,14 +19,10 @@ one_made cat work make a b l m x y h k =
 
 pub one_report : (cat : Catalogue) (work : Workload) (text other : List ℕ) → IsReportOn cat work text → IsReportOn cat work other → text ≡ other
 one_report cat work text other r s =
-    r.text_is
-    ∙ one_made cat work (λ t log. report_text (report_of (given_of cat t work) log)) r.tables s.tables r.log s.log
-    r.tables_are s.tables_are r.log_is s.log_is
-    ∙ sym s.text_is
+    r.text_is ∙ one_made cat work (λ t log. report_text (report_of (given_of cat t work) log)) r.tables s.tables r.log s.log
+    r.tables_are s.tables_are r.log_is s.log_is ∙ sym s.text_is
 
 pub one_summary : (cat : Catalogue) (work : Workload) (text other : List ℕ) → IsSummaryOn cat work text → IsSummaryOn cat work other → text ≡ other
 one_summary cat work text other r s =
-    r.text_is
-    ∙ one_made cat work (λ t log. summary_text (summary_of (length work.txns) (history log) (marks log))) r.tables s.tables r.log s.log
-    r.tables_are s.tables_are r.log_is s.log_is
-    ∙ sym s.text_is
+    r.text_is ∙ one_made cat work (λ t log. summary_text (summary_of (length work.txns) (history log) (marks log))) r.tables s.tables r.log s.log
+    r.tables_are s.tables_are r.log_is s.log_is ∙ sym s.text_is

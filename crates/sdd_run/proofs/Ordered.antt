@@ -35,8 +35,7 @@ module _ (cat : Catalogue) (tables : List (List Entry)) (work : Workload) (sound
   free_class c class free = record {
     class = class;
     tabled = λ k f e. (of_list (eras_in cat work) tables tabled k f e).force;
-    free = λ k f e.
-        All-at (λ of_list. IsFree of_list c) (eras_in cat work) k f.catalogue (of_list (eras_in cat work) tables tabled k f e).there free;
+    free = λ k f e. All-at (λ of_list. IsFree of_list c) (eras_in cat work) k f.catalogue (of_list (eras_in cat work) tables tabled k f e).there free;
   }
 
   pub free_undisturbed : (a : Attempt) → IsAttempt (history log) a → IsClassOf (whole_in cat work) a.class → IsFreeInEach cat work a.class

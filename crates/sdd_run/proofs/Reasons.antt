@@ -1,7 +1,6 @@
 -- Each pending transaction is told to wait for something that is there, and never for a message of U.
-use Rattle.sdd_run.proofs.All.{Bool, Catalogue, Cond, Contains, Contains-from_filter_map, FitsGiven, Given, History, IsModule, IsNumberedSite, IsPermitted, IsReason, IsStanding, List, Log, None, Option, Pending, Rec, Site, Some, Standing, TxnNo, Waiting, Why, [], arith, best_of, commits, cond, cons_option, false, filter_map, history, if◌then◌else◌, in_range, is_lower, list_any, numbers_to, option_map, pending_as, pending_by, pending_of, reason_of, refl, site_due, slice_get, standing_at, standing_at_t, standing_at_u, submitted_at, subst, suc, true, under_way, wait_at, wait_for, waits_of, why_of, ℕ, ◌∷◌, ◌≡◌}
+use Rattle.sdd_run.proofs.All.{Bool, Catalogue, Cond, Contains, Contains-from_filter_map, FitsGiven, Given, History, IsModule, IsNumberedSite, IsPermitted, IsReason, IsStanding, List, Log, None, Option, Pending, Rec, Site, Some, Standing, Submit, TxnNo, Waiting, Why, [], arith, best_of, commits, cond, cons_option, false, filter_map, history, if◌then◌else◌, in_range, is_lower, list_any, numbers_to, option_map, pending_as, pending_by, pending_of, reason_of, refl, site_due, slice_get, standing_at, standing_at_t, standing_at_u, submitted_at, subst, suc, true, under_way, wait_at, wait_for, waits_of, why_of, ℕ, ◌∷◌, ◌≡◌}
 use Rattle.sdd_run.proofs.Standings.{each_stands}
-use Rattle.sdd_obligations.specs.history.declared.record.Rec.TheVariants.{Submit}
 use Rattle.sdd_obligations.specs.attempt.declared.standing.Standing.TheVariants as standings
 use Rattle.sdd_report.specs.declared.pending.Why.TheVariants as reasons
 
@@ -27,12 +26,10 @@ waits_at_modules g log c t =
     found_at_modules g.catalogue (wait_at g log c t) (numbers_to g.catalogue.dms) (λ k d e w is.
     (let r = in_range 1 g.catalogue.dms k d e in wait_module g.catalogue d _ w (r.0, omega (arith, r.1)) is))
 
-best_at_module : (cat : Catalogue) (w : Waiting) (ws : List Waiting) → IsModule cat w.dm.0 → AreAtModules cat ws
-    → IsModule cat (best_of is_lower w ws).dm.0
+best_at_module : (cat : Catalogue) (w : Waiting) (ws : List Waiting) → IsModule cat w.dm.0 → AreAtModules cat ws → IsModule cat (best_of is_lower w ws).dm.0
 best_at_module cat w [] m all = m
 best_at_module cat w (x ∷ ws) m all =
-    best_at_module cat (cond (is_lower x w) x w) ws
-    (elim (is_lower x w) as (λ b. IsModule cat (cond b x w).dm.0) [ true ↦ all.0 | false ↦ m ]) all.1
+    best_at_module cat (cond (is_lower x w) x w) ws (elim (is_lower x w) as (λ b. IsModule cat (cond b x w).dm.0) [ true ↦ all.0 | false ↦ m ]) all.1
 
 under_way_reason : (cat : Catalogue) (at : Site) (ws : List Waiting) → IsNumberedSite cat at → AreAtModules cat ws → IsReason cat (under_way at ws)
 under_way_reason cat at [] h all = h
@@ -42,10 +39,8 @@ under_way_reason cat at (w ∷ ws) h all = best_at_module cat w ws all.0 all.1
 
 reason_stands : (g : Given) (log : Log) (s : Standing) (w : Why) → IsStanding g.catalogue s → why_of g log s ≡ Some w → IsReason g.catalogue w
 reason_stands g log standings.Absent w h e = cc
-reason_stands g log (standings.Queued class place) w h e =
-    let p : reasons.Queued class place ≡ w = cc in subst (IsReason g.catalogue) p h
-reason_stands g log (standings.Underway class None at) w h e =
-    let p : reasons.Underway at ≡ w = cc in subst (IsReason g.catalogue) p h
+reason_stands g log (standings.Queued class place) w h e = let p : reasons.Queued class place ≡ w = cc in subst (IsReason g.catalogue) p h
+reason_stands g log (standings.Underway class None at) w h e = let p : reasons.Underway at ≡ w = cc in subst (IsReason g.catalogue) p h
 reason_stands g log (standings.Underway class (Some ts) at) w h e =
     let p : under_way at (waits_of g log class.0 ts.0) ≡ w = cc in
     subst (IsReason g.catalogue) p (under_way_reason g.catalogue at (waits_of g log class.0 ts.0) h (waits_at_modules g log class.0 ts.0))

@@ -26,11 +26,7 @@ pub run_of : (cat : Catalogue) (tables : List (List Entry)) (work : Workload) (e
     → (w : World) (log : Log) → StandsFor w (with_events (begun cat tables work) events) log → IsRunOf cat tables work w
 run_of cat tables work events same w log stands =
     let s = subst (λ g. StandsFor w g log) (given_all cat tables work events same) stands in
-    record {
-      log = log;
-      log_is = record { lawful = s.calm.rests.lawful; within = s.calm.rests.within; complete = s.complete };
-      stands = s;
-    }
+    record { log = log; log_is = record { lawful = s.calm.rests.lawful; within = s.calm.rests.within; complete = s.complete }; stands = s }
 
 pub ended : (cat : Catalogue) (tables : List (List Entry)) (work : Workload) → AreTables cat work tables → (events : List Event) → events ≡ work.events
     → EndsBy (with_events (begun cat tables work) events) → EndsAtLimit cat work
@@ -82,8 +78,7 @@ reported cat tables work log sound valid tabled the_log text is =
       quiet = quiet_behind cat tables work sound valid tabled log the_log;
       settled = settled cat tables work sound valid tabled log the_log fine along;
       left = λ links up copy there.
-          left cat tables work sound valid tabled log the_log copy there
-          (applied cat tables work sound valid tabled log the_log links up copy there);
+          left cat tables work sound valid tabled log the_log copy there (applied cat tables work sound valid tabled log the_log links up copy there);
     }
 
 -- the summary of the run: of counts that were made of its records

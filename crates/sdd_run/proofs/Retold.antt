@@ -82,8 +82,7 @@ module _ (h : History) (one_commit : (n i j k l : ℕ) → HasCommit h n i k →
   reply_is : (txns : List Txn) (n : TxnNo) (reply : Reply) → IsReplyOf h n reply → reply_of txns h n ≡ reply_lines (txn_name txns n.0) reply
   reply_is txns n reply is =
       ap (λ o. option_map_or (λ (t : Told). reply_lines (txn_name txns n.0) t.reply) o [])
-      (ap (told_of h) (sym is.txn_is) ∙ told_is is.committed is.is_committed)
-      ∙ ap (reply_lines (txn_name txns n.0)) is.reply_is
+      (ap (told_of h) (sym is.txn_is) ∙ told_is is.committed is.is_committed) ∙ ap (reply_lines (txn_name txns n.0)) is.reply_is
 
   replies_are : (txns : List Txn) (order : List TxnNo) (replies : List Reply) → AllZip (IsReplyOf h) order replies
       → flat_map (reply_of txns h) order ≡ replies_along (names_of txns order) replies

@@ -8,11 +8,9 @@ made cat txns records order left copies = record { catalogue = cat; txns = txns;
 pub report_is : (tell : Telling) (g : Given) (log : Log) (cat : Catalogue) (txns : List Txn)
     (records : History) (order : List TxnNo) (left : List Pending) (copies : List CopyTable)
     → AreAtLastHomes g log → g.catalogue ≡ cat → txns ≡ g.txns → records ≡ history log → order ≡ serial_order cat records
-    → left ≡ pending_at tell (last_home g log) g log → copies ≡ tables_of g log
-    → made cat txns records order left copies ≡ report_by tell g log
+    → left ≡ pending_at tell (last_home g log) g log → copies ≡ tables_of g log → made cat txns records order left copies ≡ report_by tell g log
 report_is tell g log cat txns records order left copies homes c t h o p k =
-    ap (λ x. made x txns records order left copies) (sym c)
-    ∙ ap (λ x. made g.catalogue x records order left copies) t
+    ap (λ x. made x txns records order left copies) (sym c) ∙ ap (λ x. made g.catalogue x records order left copies) t
     ∙ ap (λ x. made g.catalogue g.txns x order left copies) h
     ∙ ap (λ x. made g.catalogue g.txns (history log) x left copies) (o ∙ ap (λ x. serial_order x records) (sym c) ∙ ap (serial_order g.catalogue) h)
     ∙ ap (λ x. made g.catalogue g.txns (history log) (serial_order g.catalogue (history log)) x copies) (p ∙ pending_alike tell g log homes)

@@ -34,12 +34,7 @@ module _ (cat : Catalogue) (tables : List (List Entry)) (work : Workload) (sound
   in_force = lists cat tables work sound valid tabled log the_log
 
   at_end : NoneIsDown (whole_in cat work) log → IsAtEnd (given_of cat tables work) log
-  at_end are_up = record {
-    lawful = the_log.lawful;
-    complete = the_log.complete;
-    up_before = up cat tables work sound valid tabled log the_log;
-    up = are_up;
-  }
+  at_end are_up = record { lawful = the_log.lawful; complete = the_log.complete; up_before = up cat tables work sound valid tabled log the_log; up = are_up }
 
   is_settled : EndsQuiet (given_of cat tables work) log → NoneIsDown (whole_in cat work) log → IsSettled (given_of cat tables work) log
   is_settled links are_up = record { at_end = at_end are_up; links = links }
@@ -57,8 +52,7 @@ module _ (cat : Catalogue) (tables : List (List Entry)) (work : Workload) (sound
   all_committed links are_up = settled_is_committed (given_of cat tables work) log in_force submits (is_settled links are_up)
 
   pub settled : IsOrderable (whole_in cat work) (history log) → IsSerial (whole_in cat work) (history log) (order_of cat work log)
-      → EndsQuiet (given_of cat tables work) log → NoneIsDown (whole_in cat work) log
-      → TellsAllCommitted (report_of (given_of cat tables work) log)
+      → EndsQuiet (given_of cat tables work) log → NoneIsDown (whole_in cat work) log → TellsAllCommitted (report_of (given_of cat tables work) log)
   settled fine serial links are_up =
       let all = all_committed links are_up in
       record {
@@ -68,24 +62,21 @@ module _ (cat : Catalogue) (tables : List (List Entry)) (work : Workload) (sound
       }
 
   -- each transaction that was submitted is committed or listed
-  listed : (n place : ℕ) → IsSubmitted (history log) n place
-      → WasCommitted (history log) n ⊎ IsListed (report_of (given_of cat tables work) log).pending n
+  listed : (n place : ℕ) → IsSubmitted (history log) n place → WasCommitted (history log) n ⊎ IsListed (report_of (given_of cat tables work) log).pending n
   listed =
       each_listed (given_of cat tables work) log (lawful_permitted (given_of cat tables work) log submits.once the_log.lawful)
       in_force (lawful_numbered (given_of cat tables work) log submits the_log.lawful)
 
   -- and is so once
   pub nothing_lost : IsOrderable (whole_in cat work) (history log) → IsSerial (whole_in cat work) (history log) (order_of cat work log)
-      → ((n j k : ℕ) → IsSubmitted (history log) n j → IsSubmitted (history log) n k → j ≡ k)
-      → LosesNothing (report_of (given_of cat tables work) log)
+      → ((n j k : ℕ) → IsSubmitted (history log) n j → IsSubmitted (history log) n k → j ≡ k) → LosesNothing (report_of (given_of cat tables work) log)
   nothing_lost fine serial one n place there =
       in_one (standing_at standing_at_u standing_at_t) (given_of cat tables work) log (whole_in cat work) (order_of cat work log) serial
       (λ m w. stands_once (whole_in cat work) (history log) (order_of cat work log) fine serial m w) one n (listed n place there)
 
   -- at each copy all is applied that changed its fragment
   pub applied : EndsQuiet (given_of cat tables work) log → NoneIsDown (whole_in cat work) log
-      → (copy : CopyTable) → Contains (tables_of (given_of cat tables work) log) copy
-      → AreAllApplied (history log) copy.frag.0 copy.dm.0 (length (history log))
+      → (copy : CopyTable) → Contains (tables_of (given_of cat tables work) log) copy → AreAllApplied (history log) copy.frag.0 copy.dm.0 (length (history log))
   applied links are_up copy there =
       let g : Given = given_of cat tables work in
       let s = is_settled links are_up in

@@ -165,8 +165,7 @@ first_stands cat _ next h i = h
 among_stands : (cat : Catalogue) (ls : List Line) (n : ℕ) → ((j : ℕ) (l : Line) → slice_get ls j ≡ Some l → IsStanding cat (standing_of l n))
     → IsStanding cat (standing_among ls n)
 among_stands cat [] n h = tt
-among_stands cat (l ∷ ls) n h =
-    first_stands cat (standing_of l n) (standing_among ls n) (h 0 l refl) (among_stands cat ls n (λ j x e. h (suc j) x e))
+among_stands cat (l ∷ ls) n h = first_stands cat (standing_of l n) (standing_among ls n) (h 0 l refl) (among_stands cat ls n (λ j x e. h (suc j) x e))
 
 -- a class that runs at a transaction module
 run_here : (g : Given) (t j c : ℕ) → slice_get (tm_views.runs (setting_of g (T (tm_no t)))) j ≡ Some c
@@ -274,8 +273,7 @@ module _ (g : Given) (log : Log) (permitted : IsPermitted g log) (good : FitsGiv
       let line : (tm_states.class_of s lt q.0).line ≡ l = ap (λ (k : tm_states.ClassState). k.line) q.2 ∙ r.2 in
       subst (λ x. IsStanding g.catalogue (standing_of x n)) line
       (line_stands g.catalogue q.0 (queue s q.0 lt) (active s q.0 lt) n run.0 (λ a is.
-      lacks_answer g log permitted good idle q.0 a run.0
-      (subst (λ y. active (setting_of g y) q.0 (local_of g y log) ≡ Some a) (sym run.1) is)))))
+      lacks_answer g log permitted good idle q.0 a run.0 (subst (λ y. active (setting_of g y) q.0 (local_of g y log) ≡ Some a) (sym run.1) is)))))
 
   -- at each site each transaction stands as it may
   pub each_stands : (at : Site) (n : ℕ) → IsStanding g.catalogue (standing_at standing_at_u standing_at_t at (setting_of g at) (local_of g at log) n)

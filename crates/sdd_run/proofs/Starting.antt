@@ -37,8 +37,7 @@ module _ (cat : Catalogue) (tables : List (List Entry)) (work : Workload) (sound
       (left ∙ tail_is (forces_of (eras_in cat work) tables)) has_lists (good_along cat tables work sound valid tabled))
 
   -- the data modules, each of the rows that are given for it
-  each_made : (rows : List (RelNo × Row)) (dms : List (Kept State)) → rows ≡ work.rows
-      → AllBegin (BeginsD (whole_in cat work) rows) (whole_in cat work).dms dms
+  each_made : (rows : List (RelNo × Row)) (dms : List (Kept State)) → rows ≡ work.rows → AllBegin (BeginsD (whole_in cat work) rows) (whole_in cat work).dms dms
       → AllBegin (λ n. BeginsD (whole_in cat work) (rows_of (begun cat tables work) (D (dm_no n))) n) (whole_in cat work).dms dms
   each_made rows dms e all = record {
     count_is = all.count_is;
@@ -48,8 +47,7 @@ module _ (cat : Catalogue) (tables : List (List Entry)) (work : Workload) (sound
   }
 
   pub starts : (rows : List (RelNo × Row)) (txns : List Txn) (table : List Entry) (dms : List (Kept State)) (w : World)
-      → (whole_in cat work).tms ≤ MAX_TMS → (whole_in cat work).dms ≤ MAX_DMS
-      → slice_get tables 0 ≡ Some table → rows ≡ work.rows → txns ≡ work.txns
+      → (whole_in cat work).tms ≤ MAX_TMS → (whole_in cat work).dms ≤ MAX_DMS → slice_get tables 0 ≡ Some table → rows ≡ work.rows → txns ≡ work.txns
       → AllBegin (BeginsD (whole_in cat work) rows) (whole_in cat work).dms dms
       → ((g : Given) → IsGood g → standing.IsSound g → IsBegun g (whole_in cat work) cat table txns dms → StandsFor w g [])
       → StandsFor w (begun cat tables work) []

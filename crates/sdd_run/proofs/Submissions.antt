@@ -1,5 +1,6 @@
 -- Each transaction is submitted at most once, also by a part of a schedule.
-use Rattle.sdd_run.proofs.All.{AreDistinct, AreSubmittedOnce, Deliver, Down, Event, List, Lose, Redeclare, Repeat, Resend, Settle, Submit, Tick, Up, [], ap, arith, cases_eq, eq-eqb, false, filter_map, get_or as slice_index_or, inl, inr, length, ne_eqb, one_if, refl, submits_in, submitted_by, subst, suc, sym, ℕ, ◌++◌, ◌+◌, ◌<◌, ◌==◌, ◌∙◌, ◌∷◌, ◌≡◌, ◌≤◌}
+use Rattle.sdd_run.proofs.All.{AreDistinct, AreSubmittedOnce, Event, List, [], ap, arith, cases_eq, eq-eqb, false, filter_map, get_or as slice_index_or, inl, inr, length, ne_eqb, one_if, refl, submits_in, submitted_by, subst, suc, sym, ℕ, ◌++◌, ◌+◌, ◌<◌, ◌==◌, ◌∙◌, ◌∷◌, ◌≡◌, ◌≤◌}
+use Rattle.sdd_obligations.specs.All.{Submit}
 
 abbrev numbers : List Event → List ℕ
 numbers es = filter_map submitted_by es

@@ -1,7 +1,8 @@
 -- In a valid workload each redeclare stands where it may: a list is left, and no data module is down.
-use Rattle.sdd_run.proofs.All.{AreTables, AreTimely, Bool, Catalogue, Deliver, Down, Entry, Event, IsValid, List, Lose, Redeclare, Repeat, Resend, Settle, Some, Submit, Tick, Up, Workload, [], ap, arith, at_seam, classes_in, cond, count_by, down_from, false, fold, given_of, length, length-map, redeclares_in, refl, slice_get, subst, sum_by-cons, sym, take, take-append_seam, turned_by, ℕ, ◌+◌, ◌∙◌, ◌∷◌, ◌≡◌, ◌≤◌}
+use Rattle.sdd_run.proofs.All.{AreTables, AreTimely, Bool, Catalogue, Entry, Event, IsValid, List, Redeclare, Some, Workload, [], ap, arith, at_seam, classes_in, cond, count_by, down_from, false, fold, given_of, length, length-map, redeclares_in, refl, slice_get, subst, sum_by-cons, sym, take, take-append_seam, turned_by, ℕ, ◌+◌, ◌∙◌, ◌∷◌, ◌≡◌, ◌≤◌}
 use Rattle.sdd_run.proofs.Forces.{how_many}
 use Rattle.sdd_run.proofs.Whole.{same_dms}
+use Rattle.sdd_obligations.specs.All.{Submit}
 use Rattle.sdd_script.specs.Redeclaring as script
 
 -- what a workload's events tell, and what the log's definitions count of them
@@ -13,8 +14,7 @@ counted_one _ es = omega arith
 pub counted : (es : List Event) → redeclares_in es ≡ count_by script.is_redeclare es
 counted [] = refl
 counted (e ∷ es) =
-    counted_one e es ∙ ap (λ n. cond (script.is_redeclare e) 1 0 + n) (counted es)
-    ∙ sym (sum_by-cons (λ x. cond (script.is_redeclare x) 1 0) e es)
+    counted_one e es ∙ ap (λ n. cond (script.is_redeclare e) 1 0 + n) (counted es) ∙ sym (sum_by-cons (λ x. cond (script.is_redeclare x) 1 0) e es)
 
 turned_alike : (d : ℕ) (e : Event) (b : Bool) → turned_by d e b ≡ script.turned_by d e b
 turned_alike d (Submit n) b = refl
@@ -38,8 +38,5 @@ timely cat tables work valid tabled front rest is =
     let done = counted front in
     record {
       left = omega (arith, few, same, all, lists, done);
-      up = λ d here.
-          down_alike d false front
-          ∙ ap (λ es. script.is_down d es) (sym before)
-          ∙ may.up d (here.0, subst (λ n. d ≤ n) (same_dms cat work) here.1);
+      up = λ d here. down_alike d false front ∙ ap (λ es. script.is_down d es) (sym before) ∙ may.up d (here.0, subst (λ n. d ≤ n) (same_dms cat work) here.1);
     }

@@ -1,6 +1,6 @@
 -- The catalogue with the classes of all lists of a workload differs from the catalogue in its classes alone. So what fits
 -- the catalogue fits the whole one.
-use Rattle.sdd_run.proofs.All.{Add, All, All-weaker, Assign, Catalogue, Class, Condition, Const, D, Delete, Deliver, Down, Event, Fits, FitsAssign, FitsCondition, FitsConditions, FitsStart, FitsStatement, IsSite, IsValid, IsValidEvent, IsValidRow, IsValidTxn, List, Lose, Put, Query, Redeclare, RelNo, Repeat, Resend, Row, Same, Settle, Site, Stmt, Submit, T, Tick, To, Txn, U, Up, Update, Workload, [], ap, classes_in, extended, length, refl, subst, sym, whole, whole_in, ℕ, ◌∷◌, ◌≡◌}
+use Rattle.sdd_run.proofs.All.{Add, All, All-weaker, Assign, Catalogue, Class, Condition, Const, Delete, Deliver, Event, Fits, FitsAssign, FitsCondition, FitsConditions, FitsStart, FitsStatement, IsSite, IsValid, IsValidEvent, IsValidRow, IsValidTxn, List, Lose, Put, Query, RelNo, Repeat, Resend, Row, Same, Site, Stmt, To, Txn, U, Update, Workload, [], ap, classes_in, extended, length, refl, subst, sym, whole, whole_in, ℕ, ◌∷◌, ◌≡◌}
 
 -- other classes
 abbrev pub with_classes : Catalogue → List Class → Catalogue

@@ -7,8 +7,7 @@ use Rattle.sdd_world.specs.Standing as standing
 use Rattle.sdd_run.proofs.running.finished.Goals as goal
 
 pub further-requires : goal.further-requires
-further-requires c =
-    tables_are c.args.catalogue.now c.args.tables.now c.args.work c.requires.tabled ∙ ap length (sym (c.eras.ensures ∙ c.requires.eras))
+further-requires c = tables_are c.args.catalogue.now c.args.tables.now c.args.work c.requires.tabled ∙ ap length (sym (c.eras.ensures ∙ c.requires.eras))
 
 pub data_modules-requires : goal.data_modules-requires
 data_modules-requires c =
@@ -90,5 +89,4 @@ returns-clause-limit c = λ is_limit.
     few_tms few_dms c.first_table.ensures c.as_slice.ensures refl made new in
     let lent = c.in_ok-further.ensures ∙ ap (λ cats. tail_of (forces_of cats tables)) (c.eras.ensures ∙ c.requires.eras) in
     let allowed = all_allowed cat tables work sound c.requires.valid tabled c.into_vec.result.items c.in_ok-further.further.items c.into_vec.ensures lent in
-    ended cat tables work tabled c.into_vec.result.items c.into_vec.ensures
-    (c.carry_out.ensures.limit is_limit (begun cat tables work) [] begins allowed)
+    ended cat tables work tabled c.into_vec.result.items c.into_vec.ensures (c.carry_out.ensures.limit is_limit (begun cat tables work) [] begins allowed)

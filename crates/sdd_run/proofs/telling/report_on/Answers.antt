@@ -16,7 +16,5 @@ returns c =
     told
     ∙ ap text_of (report_is standing_of given log c.whole.result.now c.transactions.result.now c.as_slice-history.result.now
     c.as_slice.result.now c.as_slice-2.result.now c.as_slice-3.result.now homes (sym (c.whole.ensures given log s)) (c.transactions.ensures given log s)
-    (c.as_slice-history.ensures ∙ c.history.ensures given log s)
-    (c.as_slice.ensures.value ∙ c.in_ok-order.ensures.order)
-    (c.as_slice-2.ensures.value ∙ c.in_ok-left.ensures given log s)
-    (c.as_slice-3.ensures.value ∙ c.in_ok-copies.ensures given log s)))
+    (c.as_slice-history.ensures ∙ c.history.ensures given log s) (c.as_slice.ensures.value ∙ c.in_ok-order.ensures.order)
+    (c.as_slice-2.ensures.value ∙ c.in_ok-left.ensures given log s) (c.as_slice-3.ensures.value ∙ c.in_ok-copies.ensures given log s)))
