@@ -1,6 +1,6 @@
 -- The class of a submitted transaction, by its place in the order of submission: it is by the catalogue that is in force
 -- behind the `redeclare`s before the event that submits it.
-use Rattle.sdd_verified.proofs.All.{All, All-head, All-tail, Catalogue, Deliver, Down, Event, IsValidEvent, List, Lose, None, Option, Redeclare, Repeat, Resend, Settle, Some, Submit, Tick, Txn, Up, [], ap, arith, cases_eq, class_for, class_if, classes_from, cond, eq-eqb, false, inl, inr, length, ne_eqb, one_if, redeclared, redeclares_in, refl, slice_get, slice_index_or, some_is, submits_in, submitted_by, suc, sym, true, zero, ℕ, ◌++◌, ◌+◌, ◌-◌, ◌==◌, ◌∙◌, ◌∷◌, ◌≡◌, ◌≤◌}
+use Rattle.sdd_verified.proofs.All.{All, All-head, All-tail, Catalogue, Event, IsValidEvent, List, None, Option, Redeclare, Some, Txn, [], ap, arith, cases_eq, class_for, class_if, classes_from, cond, eq-eqb, false, inl, inr, length, ne_eqb, one_if, redeclared, redeclares_in, refl, slice_get, slice_index_or, some_is, submits_in, submitted_by, suc, sym, true, zero, ℕ, ◌++◌, ◌+◌, ◌-◌, ◌==◌, ◌∙◌, ◌∷◌, ◌≡◌, ◌≤◌}
 use Rattle.sdd_verified.proofs.Numbered.{Submits, counted, counted_by, number_by, number_in, some_place, submits}
 use Rattle.sdd_run.specs.script.Valid as scripts
 
@@ -36,8 +36,7 @@ module _ (era : ℕ → Catalogue) (txns : List Txn) (n : ℕ) (t : Txn) (there 
       ≡ class_for (era (at_event number n k (redeclared_at n (redeclared e k) events))) t
   class_by k e events None None a b h later some =
       let rest : List ℕ = classes_from era txns (redeclared e k) events in
-      ap (λ (o : Option Txn). slice_index_or (class_if (era k) o ++ rest) (number_in events n - 1) 0) b
-      ∙ later (omega (arith, some))
+      ap (λ (o : Option Txn). slice_index_or (class_if (era k) o ++ rest) (number_in events n - 1) 0) b ∙ later (omega (arith, some))
   class_by k e events None (Some u) a b h later some = absurd cc
   class_by k e events (Some m) None a b h later some = let read = h.there in absurd cc
   class_by k e events (Some m) (Some u) a b h later some =
@@ -86,8 +85,7 @@ behind_front n k (e ∷ front) rest none =
     let count = counted e n in
     let here : counted_by (scripts.submitted_by e) n ≡ 0 = omega (arith, count, none) in
     let later : submits_in n front ≡ 0 = omega (arith, none) in
-    not_here (scripts.submitted_by e) n k (redeclared_at n (redeclared e k) (front ++ rest)) here
-    ∙ behind_front n (redeclared e k) front rest later
+    not_here (scripts.submitted_by e) n k (redeclared_at n (redeclared e k) (front ++ rest)) here ∙ behind_front n (redeclared e k) front rest later
     ∙ ap (λ m. redeclared_at n m rest) (gone_more e front k)
 
 -- it is submitted before any `redeclare`
@@ -107,8 +105,7 @@ here_or_later (Some m) n k later count some e =
           rw apart (e (omega (arith, some, none)))
     ]
 
-pub before_any : (n k : ℕ) (front rest : List Event) → redeclares_in front ≡ 0 → 1 ≤ submits_in n front
-    → redeclared_at n k (front ++ rest) ≡ k
+pub before_any : (n k : ℕ) (front rest : List Event) → redeclares_in front ≡ 0 → 1 ≤ submits_in n front → redeclared_at n k (front ++ rest) ≡ k
 before_any n k [] rest none some = absurd (omega (arith, some))
 before_any n k (e ∷ front) rest none some =
     let count = counted e n in

@@ -46,8 +46,7 @@ module _ (P : Value → Type 0) (ints : (n : ℤ) → in_range n ≡ true → P 
   rows_of_keys : (keys : List ℤ) (xs : Dated) → AreLeft xs
       → AllByRecursion (λ (e : ℤ × Row). Holds P ints e.1) (filter_map (λ (k : ℤ). row_left k (latest k xs)) keys)
   rows_of_keys [] xs h = tt
-  rows_of_keys (key ∷ keys) xs h =
-      onto_rows (row_left key (latest key xs)) _ (row_is_left key (latest key xs) (latest_left key xs h)) (rows_of_keys keys xs h)
+  rows_of_keys (key ∷ keys) xs h = onto_rows (row_left key (latest key xs)) _ (row_is_left key (latest key xs) (latest_left key xs h)) (rows_of_keys keys xs h)
 
   of_one_fragment : (f : ℕ) (xs : Dated) → AreLeft xs → AreLeft (of_fragment f xs)
   of_one_fragment f [] h = tt

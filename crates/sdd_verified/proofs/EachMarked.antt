@@ -1,5 +1,5 @@
 -- In a complete log each transaction that its events submit is submitted.
-use Rattle.sdd_verified.proofs.All.{Bool, Deliver, Does, Down, Entry, Event, Given, Hand, IsLawful, IsSubmitted, List, Log, Lose, Mark, None, Notes, Option, Redeclare, Redeclares, Repeat, Resend, Round, Settle, Site, Some, Submission, Submit, Submitted, Tick, TxnNo, Up, [], all_links, ap, arith, calls_of, due_by, eqb-true, false, force_at, from_event, hand_due, history, home_of, inl, inr, left, left_is, length, mark_due, mark_from, mark_of, marked, next, next_mark, note_if, one_if, or_else, quiet, redeclares, refl, round, site_due, stands_there, submits_by, submits_in, subst, sym, true, txn_no, ℕ, ◌++◌, ◌+◌, ◌==◌, ◌∙◌, ◌∷◌, ◌≡◌, ◌≤◌, ◌⊎◌}
+use Rattle.sdd_verified.proofs.All.{Bool, Does, Entry, Event, Given, Hand, IsLawful, IsSubmitted, List, Log, Mark, None, Notes, Option, Redeclare, Redeclares, Round, Settle, Site, Some, Submission, Submit, Submitted, Tick, TxnNo, [], all_links, ap, arith, calls_of, due_by, eqb-true, false, force_at, from_event, hand_due, history, home_of, inl, inr, left, left_is, length, mark_due, mark_from, mark_of, marked, next, next_mark, note_if, one_if, or_else, quiet, redeclares, refl, round, site_due, stands_there, submits_by, submits_in, subst, sym, true, txn_no, ℕ, ◌++◌, ◌+◌, ◌==◌, ◌∙◌, ◌∷◌, ◌≡◌, ◌≤◌, ◌⊎◌}
 use Rattle.sdd_obligations.specs.All.{txn_at}
 
 -- of what a complete log leaves no event has a mark
@@ -31,9 +31,7 @@ settles_submit_none n (Settle ∷ ws) h = let i = settles_submit_none n ws h in 
 settles_submit_none n (_ ∷ ws) h = cc
 
 none_left : (g : Given) (log : Log) (n : ℕ) (s : List Event × List Event) → mark_of g log s ≡ None → submits_in n s.0 ≡ 0
-none_left g log n (ws, []) h =
-    settles_submit_none n ws
-    (none_from g log (quiet (all_links g) (calls_of log)) (round (all_links g) (calls_of log)) ws h)
+none_left g log n (ws, []) h = settles_submit_none n ws (none_from g log (quiet (all_links g) (calls_of log)) (round (all_links g) (calls_of log)) ws h)
 none_left g log n (ws, e ∷ r) h = cc
 
 pub all_marked : (g : Given) (log : Log) (n : ℕ) → IsLawful g log → next g log ≡ None → marked n log ≡ submits_in n g.events

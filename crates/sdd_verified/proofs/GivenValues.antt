@@ -1,6 +1,6 @@
 -- What holds of all numbers of 64 bits, and of each value that a workload allows, holds of the values in the replies and in
 -- the copies that a report on its run tells.
-use Rattle.sdd_verified.proofs.All.{Add, All, All-at, All-head, All-tail, AllByRecursion, Assign, AssignsValue, Catalogue, Contains, CopyTable, Delete, Given, HoldsValues, Int, IsReportOn, IsSound, IsValid, IsValidRow, IsValidTxn, IsValue, List, None, Option, Put, Query, RelNo, Row, Some, Stmt, To, Txn, TxnNo, Update, Value, Workload, [], cons_option, database_of, eras_are, eras_of, fine, given_of, history, in_range, length, lists, permitted, recursion_from_All, refl, run, serial_order, subst, sym, tables_of, told_rows, true, txn_at, whole_in, ℕ, ℤ, ◌-◌, ◌∷◌, ◌≡◌}
+use Rattle.sdd_verified.proofs.All.{Add, All, All-at, All-head, All-tail, AllByRecursion, Assign, AssignsValue, Catalogue, Contains, CopyTable, Given, HoldsValues, Int, IsReportOn, IsSound, IsValid, IsValidRow, IsValidTxn, IsValue, List, None, Option, Put, RelNo, Row, Some, Stmt, To, Txn, TxnNo, Update, Value, Workload, [], cons_option, database_of, eras_are, eras_of, fine, given_of, history, in_range, length, lists, permitted, recursion_from_All, refl, run, serial_order, subst, sym, tables_of, told_rows, true, txn_at, whole_in, ℕ, ℤ, ◌-◌, ◌∷◌, ◌≡◌}
 use Rattle.sdd_verified.proofs.CleanCopies.{copy_holds}
 use Rattle.sdd_verified.proofs.ValuesKept.{Assigns, Answers, Hold, Holds, Writes, WritesAll, first_holds, serial_answers}
 use Rattle.sdd_obligations.specs.laws.Replay.{texts_of}

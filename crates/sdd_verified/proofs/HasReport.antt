@@ -17,8 +17,7 @@ has_report cat work sound valid =
     elim ends.1 [
       | inl the_log ↦ inl (
         report_text (report_of (given_of cat all.0 work) ends.0),
-        reported cat all.0 work ends.0 (whole_sound cat work sound valid) valid all.1 the_log
-            (report_text (report_of (given_of cat all.0 work) ends.0)) refl,
+        reported cat all.0 work ends.0 (whole_sound cat work sound valid) valid all.1 the_log (report_text (report_of (given_of cat all.0 work) ends.0)) refl,
       )
       | inr limit ↦ inr (record { tables = all.0; tables_are = all.1; log = ends.0; ends = limit })
     ]

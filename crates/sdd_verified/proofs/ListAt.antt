@@ -1,6 +1,6 @@
 -- Which list of classes is in force where a transaction is submitted: that which the `redeclare`s before its event put in
 -- force.
-use Rattle.sdd_verified.proofs.All.{AllFewTicks, AreSubmittedOnce, Does, Event, Given, Hand, IsLawful, IsPermitted, IsSubmitted, List, Log, Mark, Notes, Redeclares, Round, Site, Submit, Submitted, [], ap, append_assoc, arith, count_join, done, given_at, history, inl, inr, lawful_before, lawful_permitted, left, left_is, length, one_if, permitted_before, redeclares, redeclares_in, submit_in, submits_by, submits_in, subst, sym, ℕ, ◌++◌, ◌+◌, ◌==◌, ◌∙◌, ◌∷◌, ◌≡◌, ◌≤◌}
+use Rattle.sdd_verified.proofs.All.{AllFewTicks, AreSubmittedOnce, Event, Given, IsLawful, IsPermitted, IsSubmitted, List, Log, Mark, Redeclares, Site, Submit, Submitted, [], ap, append_assoc, arith, count_join, done, given_at, history, inl, inr, lawful_before, lawful_permitted, left, left_is, length, one_if, permitted_before, redeclares, redeclares_in, submit_in, submits_by, submits_in, subst, sym, ℕ, ◌++◌, ◌+◌, ◌==◌, ◌∙◌, ◌∷◌, ◌≡◌, ◌≤◌}
 use Rattle.sdd_verified.proofs.ClassPlaces.{before_any, behind_front, redeclared_at}
 use Rattle.sdd_verified.proofs.Submitting.{own_mark, submits_append, two_fronts}
 
@@ -22,8 +22,7 @@ pub record IsSubmittedWith (g : Given) (log : Log) (n place : ℕ) : Type 0 wher
 
 -- of events parted twice, where the transaction is submitted between and no list put in force
 parted : (n k : ℕ) (events front rest first others : List Event) → events ≡ front ++ rest → events ≡ first ++ others
-    → submits_in n first ≡ 0 → 1 ≤ submits_in n front → k ≡ redeclares_in first → k ≡ redeclares_in front
-    → k ≡ redeclared_at n 0 events
+    → submits_in n first ≡ 0 → 1 ≤ submits_in n front → k ≡ redeclares_in first → k ≡ redeclares_in front → k ≡ redeclared_at n 0 events
 parted n k events front rest first others is also none some a b =
     elim (two_fronts first others front rest (sym also ∙ is)) [
       | inl p ↦
@@ -35,8 +34,7 @@ parted n k events front rest first others is also none some a b =
           let whole : events ≡ first ++ (zs ++ rest) =
           is ∙ ap (λ (l : List Event). l ++ rest) p.1 ∙ append_assoc first zs rest in
           let at : redeclared_at n 0 events ≡ redeclares_in first + 0 =
-          ap (redeclared_at n 0) whole ∙ behind_front n 0 first (zs ++ rest) none
-          ∙ before_any n (redeclares_in first + 0) zs rest no_list here in
+          ap (redeclared_at n 0) whole ∙ behind_front n 0 first (zs ++ rest) none ∙ before_any n (redeclares_in first + 0) zs rest no_list here in
           omega (arith, at, a)
       | inr p ↦
           let count : submits_in n first ≡ submits_in n front + submits_in n p.0 = ap (submits_in n) p.1 ∙ submits_append n front p.0 in
@@ -47,8 +45,7 @@ module _ (g : Given) (log : Log) (lawful : IsLawful g log) (once : AreSubmittedO
   permitted : IsPermitted g log
   permitted = lawful_permitted g log once lawful
 
-  at_mark : (n k : ℕ) (earlier : Log) → IsLawful g (Mark (Submit (record { 0 = k })) ∷ earlier) → k ≡ n
-      → redeclares earlier ≡ redeclared_at n 0 g.events
+  at_mark : (n k : ℕ) (earlier : Log) → IsLawful g (Mark (Submit (record { 0 = k })) ∷ earlier) → k ≡ n → redeclares earlier ≡ redeclared_at n 0 g.events
   at_mark n k earlier h same =
       let now : Log = Mark (Submit (record { 0 = k })) ∷ earlier in
       let front = (done g now few h).1 in

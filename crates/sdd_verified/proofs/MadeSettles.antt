@@ -33,13 +33,11 @@ delivery_up k =
     let d : ℕ = k % 3 + 1 in
     choose IsUp (nat_lt k 9) (arrival (T (tm_no t)) (D (dm_no d))) (arrival (D (dm_no d)) (T (tm_no t))) refl refl
 
-deliveries_up : (count x : ℕ) (rest : List Event) → list_any takes_down rest ≡ false
-    → list_any takes_down ((deliveries count x).0 ++ rest) ≡ false
+deliveries_up : (count x : ℕ) (rest : List Event) → list_any takes_down rest ≡ false → list_any takes_down ((deliveries count x).0 ++ rest) ≡ false
 deliveries_up zero x rest h = h
 deliveries_up (suc count) x rest h = rw (delivery_up (draw 18 x).0) (deliveries_up count (draw 18 x).1 rest h)
 
-turns_up : (count i x : ℕ) (rest : List Event) → list_any takes_down rest ≡ false
-    → list_any takes_down (events_of (turns count i x).0 ++ rest) ≡ false
+turns_up : (count i x : ℕ) (rest : List Event) → list_any takes_down rest ≡ false → list_any takes_down (events_of (turns count i x).0 ++ rest) ≡ false
 turns_up zero i x rest h = h
 turns_up (suc count) i x rest h =
     let y : ℕ = (drawn_txn i x).1 in

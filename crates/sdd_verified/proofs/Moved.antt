@@ -29,16 +29,14 @@ module _ (cat : Catalogue) (work : Workload) (valid : IsValid cat work) where
   pub moved_texts : (order : List TxnNo) → All IsSubmittedOne order → texts_of (submitted work) (map moved order) ≡ texts_of work.txns order
   moved_texts [] some = refl
   moved_texts (n ∷ order) some =
-      texts_by n order (map moved order) (txn_of work.txns n) refl
-      (same_text n (All-head IsSubmittedOne n order some))
+      texts_by n order (map moved order) (txn_of work.txns n) refl (same_text n (All-head IsSubmittedOne n order some))
       (moved_texts order (All-tail IsSubmittedOne n order some))
 
   moved_names : (order : List TxnNo) → All IsSubmittedOne order → map (name_in (submitted work)) (map moved order) ≡ map (name_in work.txns) order
   moved_names [] some = refl
   moved_names (n ∷ order) some =
       let here : name_in (submitted work) (moved n) ≡ name_in work.txns n =
-      ap (λ (o : Option Txn). option_map_or (λ (t : Txn). t.name) o [])
-      (same_text n (All-head IsSubmittedOne n order some)) in
+      ap (λ (o : Option Txn). option_map_or (λ (t : Txn). t.name) o []) (same_text n (All-head IsSubmittedOne n order some)) in
       let more = moved_names order (All-tail IsSubmittedOne n order some) in
       rw (here, more) refl
 

@@ -1,5 +1,5 @@
 -- Where no event takes a data module down, none is down at any time.
-use Rattle.sdd_verified.proofs.All.{Bool, Call, Deliver, Does, Down, Event, Given, Hand, IsLawful, List, Log, Lose, Mark, Msg, None, Notes, Redeclare, Redeclares, Repeat, Resend, Round, Settle, Site, Some, Submit, Submitted, Tick, Up, [], after_mark, all_links, calls_of, cond, cons_option, false, filter_map, flat_map, from_event, if◌then◌else◌, in_flight, is_down, left, link, list_any, mark_from, mark_of, neither_left, neither_right, next_is_of_events, quiet, refl, replicate, resends_now, round, round_from, subst, suc, tail_of, takes_down, true, turned_by, zero, ℕ, ◌++◌, ◌==◌, ◌∷◌, ◌≡◌}
+use Rattle.sdd_verified.proofs.All.{Bool, Call, Deliver, Down, Event, Given, IsLawful, List, Log, Lose, Mark, Msg, None, Redeclares, Repeat, Resend, Round, Settle, Site, Some, Submit, Tick, Up, [], after_mark, all_links, calls_of, cond, cons_option, false, filter_map, flat_map, from_event, if◌then◌else◌, in_flight, is_down, left, link, list_any, mark_from, mark_of, neither_left, neither_right, next_is_of_events, quiet, refl, replicate, resends_now, round, round_from, subst, suc, tail_of, takes_down, true, turned_by, zero, ℕ, ◌++◌, ◌==◌, ◌∷◌, ◌≡◌}
 
 -- events of which none takes a module down
 abbrev AreUp : List Event → Type 0
@@ -33,8 +33,7 @@ resent_up (l ∷ ls) calls =
       | false ↦ resent_up ls calls
     ]
 
-delivered_up : (ls : List (Site × Site)) (calls : List (Call Msg))
-    → AreUp (flat_map (λ l. replicate (in_flight (link l.0 l.1 calls)) (Deliver l.0 l.1 1)) ls)
+delivered_up : (ls : List (Site × Site)) (calls : List (Call Msg)) → AreUp (flat_map (λ l. replicate (in_flight (link l.0 l.1 calls)) (Deliver l.0 l.1 1)) ls)
 delivered_up [] calls = tt
 delivered_up (l ∷ ls) calls = both_up _ _ (copies_up (in_flight (link l.0 l.1 calls)) (Deliver l.0 l.1 1) refl) (delivered_up ls calls)
 
@@ -66,8 +65,7 @@ begun_up g log es (ws, []) h =
     (round_up (all_links g) (calls_of log))
 begun_up g log es (ws, e ∷ r) h = cc
 
-mark_from_up : (g : Given) (log : Log) (q : Bool) (r ws : List Event) (e : Event) → mark_from g log q r ws ≡ Some (Mark e) → AreUp ws
-    → takes_down e ≡ false
+mark_from_up : (g : Given) (log : Log) (q : Bool) (r ws : List Event) (e : Event) → mark_from g log q r ws ≡ Some (Mark e) → AreUp ws → takes_down e ≡ false
 mark_from_up g log true r (Settle ∷ ws) e h u = mark_from_up g log true r ws e h u.1
 mark_from_up g log q r (Submit n ∷ ws) e h u = let p : Submit n ≡ e = cc in subst (λ x. takes_down x ≡ false) p refl
 mark_from_up g log q r (Deliver a b k ∷ ws) e h u = let p : Deliver a b k ≡ e = cc in subst (λ x. takes_down x ≡ false) p refl
@@ -79,8 +77,7 @@ mark_from_up g log q r (Down d ∷ ws) e h u = let p : Down d ≡ e = cc in subs
 mark_from_up g log q r (Up d ∷ ws) e h u = let p : Up d ≡ e = cc in subst (λ x. takes_down x ≡ false) p refl
 mark_from_up g log _ r _ e h u = cc
 
-mark_of_up : (g : Given) (log : Log) (s : List Event × List Event) (e : Event) → mark_of g log s ≡ Some (Mark e) → AreLeftUp s
-    → takes_down e ≡ false
+mark_of_up : (g : Given) (log : Log) (s : List Event × List Event) (e : Event) → mark_of g log s ≡ Some (Mark e) → AreLeftUp s → takes_down e ≡ false
 mark_of_up g log (ws, []) e h u = mark_from_up g log (quiet (all_links g) (calls_of log)) (round (all_links g) (calls_of log)) ws e h u.events
 mark_of_up g log (ws, x ∷ r) e h u = let p : x ≡ e = cc in subst (λ y. takes_down y ≡ false) p u.of_round.0
 
@@ -89,10 +86,7 @@ left_up g [] u h = record { events = u; of_round = tt }
 left_up g (Mark e ∷ log) u h = marked_up (left g.events log) (left_up g log u h.1)
 left_up g (Redeclares t ∷ log) u h = marked_up (left g.events log) (left_up g log u h.1)
 left_up g (Round es ∷ log) u h =
-    record {
-      events = (left_up g log u h.1).events;
-      of_round = begun_up g log es (left g.events log) (next_is_of_events g log (Round es) refl h.0);
-    }
+    record { events = (left_up g log u h.1).events; of_round = begun_up g log es (left g.events log) (next_is_of_events g log (Round es) refl h.0) }
 left_up g (_ ∷ log) u h = left_up g log u h.1
 
 stays_up : (d : ℕ) (e : Event) (b : Bool) → takes_down e ≡ false → b ≡ false → turned_by d e b ≡ false
@@ -103,7 +97,6 @@ stays_up d _ b u h = h
 pub none_down : (g : Given) (log : Log) (d : ℕ) → AreUp g.events → IsLawful g log → is_down d log ≡ false
 none_down g [] d u h = refl
 none_down g (Mark e ∷ log) d u h =
-    stays_up d e (is_down d log)
-    (mark_of_up g log (left g.events log) e (next_is_of_events g log (Mark e) refl h.0) (left_up g log u h.1))
+    stays_up d e (is_down d log) (mark_of_up g log (left g.events log) e (next_is_of_events g log (Mark e) refl h.0) (left_up g log u h.1))
     (none_down g log d u h.1)
 none_down g (_ ∷ log) d u h = none_down g log d u h.1

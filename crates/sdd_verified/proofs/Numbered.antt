@@ -1,5 +1,5 @@
 -- The submitted transactions of a schedule, by their places in the order of submission, counted from 1.
-use Rattle.sdd_verified.proofs.All.{All, All-head, All-tail, Catalogue, Deliver, Down, Event, IsValidEvent, List, Lose, MatchOption, None, Option, Redeclare, Repeat, Resend, Settle, Some, Submit, Tick, Txn, Up, [], ap, arith, cases_eq, cond, eq-eqb, false, filter_map, inl, inr, length, member_at, ne_eqb, one_if, refl, slice_get, submits_by, submits_in, submitted_by, subst, suc, sym, true, zero, ℕ, ◌++◌, ◌+◌, ◌-◌, ◌<◌, ◌==◌, ◌∙◌, ◌∷◌, ◌≡◌, ◌≤◌}
+use Rattle.sdd_verified.proofs.All.{All, All-head, All-tail, Catalogue, Event, IsValidEvent, List, MatchOption, None, Option, Some, Submit, Txn, [], ap, arith, cases_eq, cond, eq-eqb, false, filter_map, inl, inr, length, member_at, ne_eqb, one_if, refl, slice_get, submits_by, submits_in, submitted_by, subst, suc, sym, true, zero, ℕ, ◌++◌, ◌+◌, ◌-◌, ◌<◌, ◌==◌, ◌∙◌, ◌∷◌, ◌≡◌, ◌≤◌}
 use Rattle.sdd_run.specs.script.Valid as scripts
 
 -- the place of transaction n, by what an event submits and its place behind the event
@@ -67,8 +67,7 @@ behind_one txns n t texts (suc number) p =
 
 place_by : (txns : List Txn) (n : ℕ) (e : Event) (events : List Event) (number : Option ℕ)
     (text : Option Txn) → scripts.submitted_by e ≡ number → submitted_by txns e ≡ text
-    → Submits txns number text
-    → (1 ≤ submits_in n events → PlaceOf txns n (filter_map (submitted_by txns) events) (number_in events n))
+    → Submits txns number text → (1 ≤ submits_in n events → PlaceOf txns n (filter_map (submitted_by txns) events) (number_in events n))
     → 1 ≤ counted_by number n + submits_in n events → PlaceOf txns n (filter_map (submitted_by txns) (e ∷ events)) (number_by number n (number_in events n))
 place_by txns n e events None None a b h later some = rw b (later (omega (arith, some)))
 place_by txns n e events None (Some t) a b h later some = absurd cc

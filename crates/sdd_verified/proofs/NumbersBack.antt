@@ -1,6 +1,6 @@
 -- Names that don't meet give back the transactions, so two reports on the same transactions that have one text tell of the
 -- same ones.
-use Rattle.sdd_verified.proofs.All.{AllByRecursion, AreNamed, Catalogue, Given, IsFrom1To, IsReportOn, IsSound, IsValid, List, Pending, Some, TellOfTheSame, Txn, TxnNo, Workload, [], all_by_member, ap, arith, bytes_eq, false, given_of, length, length-map, listed_submits, map, named_by_events, names_of, once, option_map_or, order_of, pending_names, pending_numbers, place_of_name, position, refl, repeats, report_of, same_Some, slice_get, slice_index_or as get_or, standing_at, standing_at_t, standing_at_u, subst, suc, sym, txn_name, txn_no, whole_in, whole_named, whole_sound, zero, ℕ, ◌-◌, ◌<◌, ◌∙◌, ◌∷◌, ◌≡◌}
+use Rattle.sdd_verified.proofs.All.{AllByRecursion, AreNamed, Catalogue, Given, IsFrom1To, IsReportOn, IsSound, IsValid, List, Pending, Some, TellOfTheSame, Txn, TxnNo, Workload, [], all_by_member, ap, arith, bytes_eq, false, given_of, length, length-map, listed_submits, map, named_by_events, names_of, once, option_map_or, order_of, pending_names, pending_numbers, place_of_name, position, refl, repeats, report_of, same_Some, slice_get, slice_index_or as get_or, standing_at, standing_at_t, standing_at_u, subst, suc, sym, txn_name, txn_no, whole_in, whole_named, whole_sound, ℕ, ◌-◌, ◌<◌, ◌∙◌, ◌∷◌, ◌≡◌}
 use Rattle.sdd_verified.proofs.OneText.{one_text}
 use Rattle.sdd_verified.proofs.PartsBack.{same_first}
 use Rattle.sdd_verified.proofs.Reported.{one_given}
@@ -77,8 +77,7 @@ pending_there cat work text valid r =
     (is_in_schedule g r.log r.log_is.lawful (once work.events valid.submitted) p.txn.0 s.0 s.1))))
 
 pub one_text_of_the_same : (cat : Catalogue) (work other : Workload) (text : List ℕ) → IsSound cat → AreNamed cat → IsValid cat work → IsValid cat other
-    → work.txns ≡ other.txns → (one : IsReportOn cat work text) → (two : IsReportOn cat other text)
-    → TellOfTheSame cat work other text one two
+    → work.txns ≡ other.txns → (one : IsReportOn cat work text) → (two : IsReportOn cat other text) → TellOfTheSame cat work other text one two
 one_text_of_the_same cat work other text sound are valid fine same one two =
     let t = one_text cat work other text sound are valid fine one two in
     let order1 : List TxnNo = order_of cat work one.log in

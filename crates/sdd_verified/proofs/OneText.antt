@@ -52,8 +52,7 @@ one_text cat work other text sound named valid fine one two =
     let b = same_first (order_words names1) (order_words names2) (replies_words names1 replies1 ++ behind1) (replies_words names2 replies2 ++ behind2) a.1 in
     let txns1 = names_of_txns cat work.txns valid.txns in
     let txns2 = names_of_txns cat other.txns fine.txns in
-    let same_names : names1 ≡ names2 = order_back names1 names2
-    (names_spaceless work.txns txns1 (order_of cat work one.log))
+    let same_names : names1 ≡ names2 = order_back names1 names2 (names_spaceless work.txns txns1 (order_of cat work one.log))
     (names_spaceless other.txns txns2 (order_of cat other two.log)) b.0 in
     let c = parted is_reply (replies_words names1 replies1) (replies_words names2 replies2) behind1 behind2
     (replies_pass is_reply (λ line. refl) (λ number rows. refl) (λ name word. refl) names1 replies1)
@@ -78,6 +77,5 @@ one_text cat work other text sound named valid fine one two =
           (spaceless work.txns txns1) (spaceless other.txns txns2) tells1.pending tells2.pending e.0;
       copies = copies_back cat tells1.copies tells2.copies (copies_values cat work text sound1 named1 valid one)
           (copies_values cat other text sound2 named2 fine two)
-          (sym (copies_of_whole cat work tells1.copies) ∙ append_cancel_right kept1 kept2 last e.1
-          ∙ copies_of_whole cat other tells2.copies);
+          (sym (copies_of_whole cat work tells1.copies) ∙ append_cancel_right kept1 kept2 last e.1 ∙ copies_of_whole cat other tells2.copies);
     }

@@ -83,8 +83,7 @@ no_space_decimal n = no_space_digits 63 n [] tt
 
 plain_by : (bytes : List ℕ) (first : ℕ) (rest : List ℕ) → bytes ≡ first ∷ rest → 48 ≤ first → HasNoSpace bytes → IsPlain bytes
 plain_by [] first rest e least h = absurd cc
-plain_by (c ∷ cs) first rest e least h =
-    let same = (same_first c first cs rest e).0 in ((λ q. omega (arith, q, same, least)), h.0, h.1)
+plain_by (c ∷ cs) first rest e least h = let same = (same_first c first cs rest e).0 in ((λ q. omega (arith, q, same, least)), h.0, h.1)
 
 decimal_plain : (n : ℕ) → IsPlain (decimal n)
 decimal_plain n = let d = decimal_is n in plain_by (decimal n) d.first d.rest d.is d.least (no_space_decimal n)
@@ -242,8 +241,7 @@ replies_back (name ∷ names) (r ∷ replies) (o ∷ others) m n h k e =
     let outcome = append_cancel_left first (outcome_words r) (outcome_words o) s.0 in
     let a = answers_back r o (replies_words names replies) (replies_words names others) h.0 k.0 (replies_end names replies)
     (replies_end names others) outcome s.1 in
-    ap (λ x. x ∷ replies) a.0
-    ∙ ap (λ l. o ∷ l) (replies_back names replies others (omega (arith, m)) (omega (arith, n)) h.1 k.1 a.1)
+    ap (λ x. x ∷ replies) a.0 ∙ ap (λ l. o ∷ l) (replies_back names replies others (omega (arith, m)) (omega (arith, n)) h.1 k.1 a.1)
 replies_back _ _ _ m n h k e = absurd (omega (arith, n))
 
 -- words up to a space
@@ -310,7 +308,6 @@ copies_back cat (t ∷ copies) (o ∷ others) h k e =
     let many : copy_words cat o ≡ place_words cat o.dm.0 o.frag.0 ++ spaced (decimal (length t.rows)) =
     ap (λ rows. place_words cat o.dm.0 o.frag.0 ++ spaced (decimal (length rows))) (sym r.0) in
     let place = append_cancel_right (place_words cat t.dm.0 t.frag.0) (place_words cat o.dm.0 o.frag.0) (spaced (decimal (length t.rows))) (s.0 ∙ many) in
-    ap (λ x. (x, t.rows) ∷ copies_told cat copies) place
-    ∙ ap (λ rows. (place_words cat o.dm.0 o.frag.0, rows) ∷ copies_told cat copies) r.0
+    ap (λ x. (x, t.rows) ∷ copies_told cat copies) place ∙ ap (λ rows. (place_words cat o.dm.0 o.frag.0, rows) ∷ copies_told cat copies) r.0
     ∙ ap (λ l. (place_words cat o.dm.0 o.frag.0, o.rows) ∷ l) (copies_back cat copies others h.1 k.1 r.1)
 copies_back cat _ _ h k e = cc

@@ -13,8 +13,7 @@ counted_more line lines = sum_by-cons (λ (l : List ℕ). counts (tells_pending 
 
 counted_both : (xs ys : List (List ℕ)) → count_by tells_pending (xs ++ ys) ≡ count_by tells_pending xs + count_by tells_pending ys
 counted_both [] ys = omega arith
-counted_both (x ∷ xs) ys =
-    let a = counted_more x (xs ++ ys) in let b = counted_more x xs in let c = counted_both xs ys in omega (arith, a, b, c)
+counted_both (x ∷ xs) ys = let a = counted_more x (xs ++ ys) in let b = counted_more x xs in let c = counted_both xs ys in omega (arith, a, b, c)
 
 -- a line that tells of none
 abbrev tells_other : List ℕ → Bool
@@ -97,8 +96,7 @@ module _ (cat : Catalogue) (work : Workload) (text : List ℕ) (sound : IsSound 
       (order_words (names cat work text sound named valid r)) (codes "end")
       (all_numbered (happened cat work text sound named valid r) (trace_passes cat work text sound named valid r)) refl
       (replies_pass tells_other (λ line. refl) (λ number rows. refl) (λ name word. refl) (names cat work text sound named valid r)
-      (replies cat work text sound named valid r))
-      (shipped_pass tells_other (λ line. refl) work.txns (history r.log) order)
+      (replies cat work text sound named valid r)) (shipped_pass tells_other (λ line. refl) work.txns (history r.log) order)
       (pending_pass tells_pending (λ line. refl) whole work.txns (report_of (given_of cat r.tables work) r.log).pending)
       (copies_pass tells_other whole (λ line. refl) (λ t. refl) (report_of (given_of cat r.tables work) r.log).copies) refl
       ∙ length-map (report_of (given_of cat r.tables work) r.log).pending (pending_words whole work.txns)

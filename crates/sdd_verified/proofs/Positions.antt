@@ -60,6 +60,5 @@ not_before order i k apart less within b =
     ∙ any_default rest j (txn_no 0) (txn_no (at order i).0) in_rest ∙ b.behind.2 in
     let p : length front ≡ k = one_place order (length front) k apart (omega (arith, long)) within (ap (λ (n : TxnNo). n.0) here) in
     let q : length front + suc j ≡ i =
-    one_place order (length front + suc j) i apart (omega (arith, long, in_rest))
-    (omega (arith, less, within)) (ap (λ (n : TxnNo). n.0) there) in
+    one_place order (length front + suc j) i apart (omega (arith, long, in_rest)) (omega (arith, less, within)) (ap (λ (n : TxnNo). n.0) there) in
     omega (arith, p, q, less)

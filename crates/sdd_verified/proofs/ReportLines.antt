@@ -213,8 +213,7 @@ all_pending : (cat : Catalogue) (txns : List Txn) (pending : List Pending) (rest
 all_pending cat txns [] rest h = h
 all_pending cat txns (p ∷ pending) rest h =
     subst Begins (sym (append_assoc (pending_line cat txns p) (pending_lines cat txns pending) rest))
-    (begins_front (pending_line cat txns p) (pending_lines cat txns pending ++ rest)
-    (pending_begins cat txns p))
+    (begins_front (pending_line cat txns p) (pending_lines cat txns pending ++ rest) (pending_begins cat txns p))
 
 all_copies : (cat : Catalogue) (copies : List CopyTable) (rest : List ℕ) → Begins rest → Begins (copies_lines cat copies ++ rest)
 all_copies cat [] rest h = h

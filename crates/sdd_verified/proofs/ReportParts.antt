@@ -81,19 +81,16 @@ module _ (cat : Catalogue) (work : Workload) (text : List ℕ) (sound : IsSound 
       (replies_spell names replies (names_are whole work.txns c f txns_named order)
       (answers_given IsClean ints_clean clean cat work text sound valid r)) behind in
       let ordered = spells_both (order_words names ∷ []) (replies_words names replies ++ (shipped ++ (waiting ++ (kept ++ codes "end" ∷ []))))
-      (order_line work.txns order) _
-      (order_spells whole work.txns c f txns_named order) answered in
+      (order_line work.txns order) _ (order_spells whole work.txns c f txns_named order) answered in
       let everything = spells_both happened (order_words names ∷ (replies_words names replies ++ (shipped ++ (waiting ++ (kept ++ codes "end" ∷ [])))))
-      (trace whole work.txns (history r.log)) _
-      (trace_spells whole work.txns c f txns_named (history r.log)) ordered in
+      (trace whole work.txns (history r.log)) _ (trace_spells whole work.txns c f txns_named (history r.log)) ordered in
       subst (Spells all_lines) (sym r.told) everything
 
   pub lines_are : (cut_lines text).0 ≡ all_lines
   lines_are = ap (λ (l : List ℕ). (cut_lines l).0) spelled.is ∙ ap (λ (cut : List (List ℕ) × List ℕ). cut.0) (cut_again all_lines spelled.are)
 
   numbered_by : (first : ℕ) (rest line : List ℕ) → line ≡ first ∷ rest → first ≤ 57 → (more : List ℕ) → is_numbered (line ++ more) ≡ true
-  numbered_by first rest line e most more =
-      subst (λ (l : List ℕ). is_numbered (l ++ more) ≡ true) (sym e) (lt-ltb first 58 (omega (arith, most)))
+  numbered_by first rest line e most more = subst (λ (l : List ℕ). is_numbered (l ++ more) ≡ true) (sym e) (lt-ltb first 58 (omega (arith, most)))
 
   happened_pass : (h : List (ℕ × Rec)) → AllPass is_numbered (lines_in whole work.txns named.classes txns_named h)
   happened_pass [] = tt
@@ -105,15 +102,13 @@ module _ (cat : Catalogue) (work : Workload) (text : List ℕ) (sound : IsSound 
   trace_passes = happened_pass (history r.log)
 
   pub replies_long : length names ≡ length replies
-  replies_long =
-      length-map order (λ (n : TxnNo). txn_name work.txns n.0) ∙ zip_long (IsReplyOf (history r.log)) order replies r.replies
+  replies_long = length-map order (λ (n : TxnNo). txn_name work.txns n.0) ∙ zip_long (IsReplyOf (history r.log)) order replies r.replies
 
   pub answers_told : AllByRecursion AreAnswers replies
   answers_told = answers_given IsTold ints_told told cat work text sound valid r
 
   pub copies_values : AllByRecursion (λ (t : CopyTable). AreAllValues t.rows) tells.copies
-  copies_values =
-      all_by_member (λ (t : CopyTable). AreAllValues t.rows) tells.copies (copied_given IsTold ints_told told cat work text sound valid r)
+  copies_values = all_by_member (λ (t : CopyTable). AreAllValues t.rows) tells.copies (copied_given IsTold ints_told told cat work text sound valid r)
 
   -- what stands behind the replies is none
 

@@ -93,8 +93,7 @@ module _ (cat : Catalogue) (work : Workload) (text : List ℕ) (sound : IsSound 
   in_force_is n place s =
       let x = list_at given r.log r.log_is.lawful few few_ticks_given n place s in
       ap (λ (p : ℕ). in_force whole (eras_of given r.log) (event_at (history r.log) p)) (sym x.place_is)
-      ∙ event_of_submit given r.log (eras_of given r.log) n x.later x.rest x.at
-      (eras_are cat r.tables work sound valid r.tables_are r.log r.log_is) x.is
+      ∙ event_of_submit given r.log (eras_of given r.log) n x.later x.rest x.at (eras_are cat r.tables work sound valid r.tables_are r.log r.log_is) x.is
       ∙ list_in_force (redeclares x.rest) x.few ∙ ap (era_at cat (eras_in cat work)) x.lists_are
 
   class_is : (n : TxnNo) → (m : IsMember n) → class_of (classes_submitted cat work) (moved cat work valid n) ≡ m.committed.start.class
@@ -193,11 +192,9 @@ module _ (cat : Catalogue) (work : Workload) (text : List ℕ) (sound : IsSound 
         next_line = follows.line;
         next_other = follows.other;
         rest = follows.rest;
-        text_is = r.told
-            ∙ ap (λ (l : List ℕ). l ++ (line ++ (answers ++ after))) (trace_is whole work.txns named.classes names (history r.log))
+        text_is = r.told ∙ ap (λ (l : List ℕ). l ++ (line ++ (answers ++ after))) (trace_is whole work.txns named.classes names (history r.log))
             ∙ ap (λ (l : List ℕ). spelled_lines before ++ (l ++ (answers ++ after))) (sym (moved_line cat work valid order all_submitted))
             ∙ ap (λ (l : List ℕ). spelled_lines before ++ (order_line (submitted work) (map (moved cat work valid) order) ++ (l ++ after))) replied
             ∙ ap (λ (l : List ℕ). spelled_lines before ++ (order_line (submitted work)
-            (map (moved cat work valid) order) ++ (serial_replies cat work
-            (map (moved cat work valid) order) ++ l))) follows.is;
+            (map (moved cat work valid) order) ++ (serial_replies cat work (map (moved cat work valid) order) ++ l))) follows.is;
       }

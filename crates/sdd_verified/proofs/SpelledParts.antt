@@ -10,8 +10,7 @@ are_both (x ∷ xs) ys h k = (h.0, are_both xs ys h.1 k)
 
 spelled_both : (xs ys : List (List ℕ)) → spelled_lines xs ++ spelled_lines ys ≡ spelled_lines (xs ++ ys)
 spelled_both [] ys = refl
-spelled_both (x ∷ xs) ys =
-    append_assoc x (10 ∷ spelled_lines xs) (spelled_lines ys) ∙ ap (λ (l : List ℕ). x ++ 10 ∷ l) (spelled_both xs ys)
+spelled_both (x ∷ xs) ys = append_assoc x (10 ∷ spelled_lines xs) (spelled_lines ys) ∙ ap (λ (l : List ℕ). x ++ 10 ∷ l) (spelled_both xs ys)
 
 -- a text of these lines
 pub record Spells (lines : List (List ℕ)) (text : List ℕ) : Type 0 where
@@ -54,8 +53,7 @@ query_spells number rows h =
     spells_both (query_words number rows ∷ []) (rows_words rows) (query_words number rows ++ 10 ∷ []) (flat_map row_line rows)
     (spells_line (query_words number rows)
     (no_newline-append words (32 ∷ decimal (length rows)) (no_newline-append (codes "query ") (decimal number) (search rules) (number_line number))
-    (spaced_line (decimal (length rows)) (number_line (length rows)))))
-    (rows_spell rows h)
+    (spaced_line (decimal (length rows)) (number_line (length rows))))) (rows_spell rows h)
 
 queries_spell : (number : ℕ) (answers : List (List Row)) → AllByRecursion (Hold IsClean ints_clean) answers
     → Spells (queries_words number answers) (queries_from number answers)
@@ -100,8 +98,7 @@ module _ (cat : Catalogue) (txns : List Txn) (classes_named : All (λ (k : Class
   name_line : (n : ℕ) → HasNoNewline (txn_name txns n)
   name_line n = txn_line cat txns classes_named txns_named n
 
-  shipped_spells : (n : TxnNo) (o : Option Told)
-      → Spells (shipped_words txns n o) (option_map_or (λ (told : Told). shipped_line (txn_name txns n.0) told) o [])
+  shipped_spells : (n : TxnNo) (o : Option Told) → Spells (shipped_words txns n o) (option_map_or (λ (told : Told). shipped_line (txn_name txns n.0) told) o [])
   shipped_spells n None = spells_none
   shipped_spells n (Some told) =
       let name : List ℕ = spaced (txn_name txns n.0) in
@@ -114,16 +111,14 @@ module _ (cat : Catalogue) (txns : List Txn) (classes_named : All (λ (k : Class
       subst (Spells (line ∷ []))
       (append_assoc (codes "shipped") (name ++ (values ++ rows)) (10 ∷ [])
       ∙ ap (λ (l : List ℕ). codes "shipped" ++ l)
-      (append_assoc name (values ++ rows) (10 ∷ []) ∙ ap (λ (l : List ℕ). name ++ l) (append_assoc values rows (10 ∷ []))))
-      (spells_line line clean)
+      (append_assoc name (values ++ rows) (10 ∷ []) ∙ ap (λ (l : List ℕ). name ++ l) (append_assoc values rows (10 ∷ [])))) (spells_line line clean)
 
   pub all_shipped_spell : (history : List (ℕ × Rec)) (order : List TxnNo)
       → Spells (all_shipped_words txns history order) (flat_map (shipped_of txns history) order)
   all_shipped_spell history [] = spells_none
   all_shipped_spell history (n ∷ order) =
       spells_both (shipped_words txns n (told_of history n.0)) (all_shipped_words txns history order)
-      (shipped_of txns history n) (flat_map (shipped_of txns history) order)
-      (shipped_spells n (told_of history n.0)) (all_shipped_spell history order)
+      (shipped_of txns history n) (flat_map (shipped_of txns history) order) (shipped_spells n (told_of history n.0)) (all_shipped_spell history order)
 
   -- the pending ones
 

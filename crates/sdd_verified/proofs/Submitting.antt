@@ -1,5 +1,5 @@
 -- In the history of a run transactions are submitted in the order of its schedule.
-use Rattle.sdd_verified.proofs.All.{AreSubmittedOnce, Deliver, Does, Down, Event, Given, Hand, IsLawful, IsPermitted, IsSubmitted, List, Log, Lose, Mark, Notes, Redeclare, Redeclares, Repeat, Resend, Round, Settle, Site, Submission, Submit, Submitted, Tick, TxnNo, Up, [], after_mark, ap, append_assoc, arith, compare, eq-eqb, from_event, given_at, history, inl, inr, lawful_before, lawful_permitted, left, left_is, length, marked, ne_eqb, one_if, permitted_before, place_rises, refl, submit_in, submits_by, submits_in, subst, sym, tail_of, txn_no, ℕ, ◌++◌, ◌+◌, ◌<◌, ◌==◌, ◌∙◌, ◌∷◌, ◌≡◌, ◌≢◌, ◌≤◌, ◌⊎◌}
+use Rattle.sdd_verified.proofs.All.{AreSubmittedOnce, Event, Given, IsLawful, IsPermitted, IsSubmitted, List, Log, Mark, Redeclares, Settle, Site, Submission, Submit, Submitted, TxnNo, [], after_mark, ap, append_assoc, arith, compare, eq-eqb, from_event, given_at, history, inl, inr, lawful_before, lawful_permitted, left, left_is, length, marked, ne_eqb, one_if, permitted_before, place_rises, refl, submit_in, submits_by, submits_in, subst, sym, tail_of, txn_no, ℕ, ◌++◌, ◌+◌, ◌<◌, ◌==◌, ◌∙◌, ◌∷◌, ◌≡◌, ◌≢◌, ◌≤◌, ◌⊎◌}
 use Rattle.sdd_verified.proofs.Numbered.{Separates}
 
 -- what is left of the events is their end
@@ -51,8 +51,7 @@ two_fronts (x ∷ xs) ys (f ∷ fs) ss e =
 
 -- where the submission of m comes behind that of n, its mark does too
 again : (m n : ℕ) (a b : Site) (between rest_m rest_n : Log) (k l : TxnNo) (earlier_m earlier_n : Log)
-    → between ++ Submitted b n ∷ rest_n ≡ Mark (Submit k) ∷ earlier_m
-    → rest_n ≡ Mark (Submit l) ∷ earlier_n → 1 ≤ marked m earlier_n → 1 ≤ marked m earlier_m
+    → between ++ Submitted b n ∷ rest_n ≡ Mark (Submit k) ∷ earlier_m → rest_n ≡ Mark (Submit l) ∷ earlier_n → 1 ≤ marked m earlier_n → 1 ≤ marked m earlier_m
 again m n a b [] rest_m rest_n k l earlier_m earlier_n e f some = let q : Submitted b n ≡ Mark (Submit k) = cc in absurd cc
 again m n a b (x ∷ between) rest_m rest_n k l earlier_m earlier_n e f some =
     let q : between ++ Submitted b n ∷ rest_n ≡ earlier_m = cc in
@@ -76,8 +75,7 @@ module _ (g : Given) (log : Log) (lawful : IsLawful g log) (once : AreSubmittedO
       let now : IsPermitted g (Submitted x.at n ∷ x.rest) = permitted_before g x.later (Submitted x.at n ∷ x.rest) (subst (IsPermitted g) x.is permitted) in
       let given = given_at g x.rest x.at n now in
       let before : IsLawful g (Mark (Submit given.number) ∷ given.earlier) =
-      subst (IsLawful g) given.is (lawful_before g x.later (Submitted x.at n ∷ x.rest)
-      (subst (IsLawful g) x.is lawful)).1 in
+      subst (IsLawful g) given.is (lawful_before g x.later (Submitted x.at n ∷ x.rest) (subst (IsLawful g) x.is lawful)).1 in
       let count = (left_is g n (Mark (Submit given.number) ∷ given.earlier) before).all in
       let own : submits_by n (Submit given.number) ≡ 1 = ap (λ (k : ℕ). one_if (k == n)) given.number_is ∙ own_mark n in
       omega (arith, count, own)
@@ -118,19 +116,16 @@ module _ (g : Given) (log : Log) (lawful : IsLawful g log) (once : AreSubmittedO
       let given_x = given_at g x.rest x.at m now_x in
       let given_y = given_at g y.rest y.at n now_y in
       let law_x : IsLawful g (Mark (Submit given_x.number) ∷ given_x.earlier) =
-      subst (IsLawful g) given_x.is (lawful_before g x.later (Submitted x.at m ∷ x.rest)
-      (subst (IsLawful g) x.is lawful)).1 in
+      subst (IsLawful g) given_x.is (lawful_before g x.later (Submitted x.at m ∷ x.rest) (subst (IsLawful g) x.is lawful)).1 in
       let law_y : IsLawful g (Mark (Submit given_y.number) ∷ given_y.earlier) =
-      subst (IsLawful g) given_y.is (lawful_before g y.later (Submitted y.at n ∷ y.rest)
-      (subst (IsLawful g) y.is lawful)).1 in
+      subst (IsLawful g) given_y.is (lawful_before g y.later (Submitted y.at n ∷ y.rest) (subst (IsLawful g) y.is lawful)).1 in
       let earlier = marked_first m n given_y.earlier given_y.number.0 law_y given_y.number_is other s in
       elim (compare x.later y.later (Submitted x.at m) (Submitted y.at n) x.rest y.rest (sym x.is ∙ y.is)) [
         | inl same ↦ absurd (other (let e : Submitted x.at m ≡ Submitted y.at n = same.1 in cc))
         | inr apart ↦ elim apart [
           | inl behind ↦
               let rises = place_rises behind.between (Submitted x.at m) x.rest (Submission (txn_no m)) refl in
-              let place : length (history y.rest) ≡ length
-              (history (behind.between ++ Submitted x.at m ∷ x.rest)) =
+              let place : length (history y.rest) ≡ length (history (behind.between ++ Submitted x.at m ∷ x.rest)) =
               ap (λ (l : Log). length (history l)) behind.is in
               let at_x = x.place_is in
               let at_y = y.place_is in

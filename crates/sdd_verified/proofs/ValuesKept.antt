@@ -66,8 +66,7 @@ module _ (P : Value → Type 0) (ints : (n : ℤ) → in_range n ≡ true → P 
       ] refl e
 
   assigned_holds : (old row next : Row) (a : Assign) → Holds old → Holds row → Assigns a → assigned old row a ≡ Some next → Holds next
-  assigned_holds old row next (To n value) h k s e =
-      let same : slice_set row (n - 1) value ≡ next = cc in subst Holds same (set_holds row (n - 1) value k s)
+  assigned_holds old row next (To n value) h k s e = let same : slice_set row (n - 1) value ≡ next = cc in subst Holds same (set_holds row (n - 1) value k s)
   assigned_holds old row next (Add n by) h k s e =
       elim (added (column old n) by)
       as (λ o. added (column old n) by ≡ o → elim o as (λ p. Option Row) [ None ↦ None | Some value ↦ Some (slice_set row (n - 1) value) ] ≡ Some next → Holds next) [
@@ -144,8 +143,7 @@ module _ (P : Value → Type 0) (ints : (n : ℤ) → in_range n ≡ true → P 
 
   row_of_holds : (tuple : Tuple) (out : List Ref) → Hold tuple → Holds (map (value_at tuple) out)
   row_of_holds tuple [] h = tt
-  row_of_holds tuple (r ∷ out) h =
-      (value_holds (part_of tuple r.part) (r.column - 1) (part_holds tuple (r.part - 1) h), row_of_holds tuple out h)
+  row_of_holds tuple (r ∷ out) h = (value_holds (part_of tuple r.part) (r.column - 1) (part_holds tuple (r.part - 1) h), row_of_holds tuple out h)
 
   projection_holds : (out : List Ref) (tuples : List Tuple) → AllByRecursion Hold tuples → Hold (projection out tuples)
   projection_holds out [] all = tt
