@@ -11,7 +11,7 @@ pub use Rattle.sdd_app.specs.Verdict.{Answers, AtFault, ComesOfFiles, Explains, 
 pub use Rattle.sdd_app.specs.declared.command.Command.{Command}
 pub use Rattle.sdd_app.specs.declared.listing.Listing.{Listing}
 pub use Rattle.sdd_app.specs.declared.status.Status.{Status}
-pub use Rattle.sdd_app.specs.declared.status.Status.TheVariants.{BadCatalogue, BadWorkload, Done, Limit, NoMemory, ReadFault, Usage, WriteFault}
+pub use Rattle.sdd_app.specs.declared.status.Status.TheVariants.{BadCatalogue, BadWorkload, Done, Limit, NoMemory, ReadFault, Usage}
 pub use Rattle.sdd_catread.specs.Faults.{broken}
 pub use Rattle.sdd_catread.specs.Form.{top}
 pub use Rattle.sdd_catread.specs.Reading.{catalogue_in}
@@ -21,7 +21,7 @@ pub use Rattle.sdd_control.specs.declared.script.ControlScript.{ControlScript}
 pub use Rattle.sdd_graph.proofs.Known.{edges_known}
 pub use Rattle.sdd_graph.specs.Edges.{IsEdgeOf}
 pub use Rattle.sdd_graph.specs.declared.edge.Edge.{Edge}
-pub use Rattle.sdd_lang.specs.All.{CatFault, Catalogue, Deliver, Down, Event, Fits, FitsStart, Lose, MAX_TXNS, MAX_WORKLOAD_BYTES, Redeclare, Repeat, Resend, Settle, Submit, Tick, Up, database_of}
+pub use Rattle.sdd_lang.specs.All.{CatFault, Catalogue, Event, Fits, FitsStart, MAX_TXNS, MAX_WORKLOAD_BYTES, Submit, database_of}
 pub use Rattle.sdd_lang.specs.base.Outside.{HasRead, KeepsOpen, Opened, ReadsTo, Rose, find_file, with_end}
 pub use Rattle.sdd_lang.specs.base.declared.files.ShelfFile.{ShelfFile}
 pub use Rattle.sdd_lang.specs.base.declared.limits.TheConstants.{MAX_CATALOGUE_BYTES}

@@ -1,5 +1,5 @@
 -- Counts by their decimal spelling.
-use Rattle.sdd_app.proofs.All.{Bool, List, None, Some, bytes_eq, bytes_eq-Decides, cond, decimal, decimal_is_IsNumeral, digits_value, false, lt-ltb, ltb-true, nat_lt, refl, sym, true, ℕ, ◌&&◌, ◌<◌, ◌^◌, ◌∙◌, ◌≡◌}
+use Rattle.sdd_app.proofs.All.{Bool, List, None, Some, bytes_eq, bytes_eq-Decides, cond, decimal, decimal_is_IsNumeral, digits_value, lt-ltb, ltb-true, nat_lt, refl, sym, true, ℕ, ◌&&◌, ◌<◌, ◌^◌, ◌∙◌, ◌≡◌}
 use Rattle.sdd_app.specs.Command.{count_in}
 
 by_tests : (bound : ℕ) (bytes : List ℕ) (n : ℕ) (x y : Bool) → n ≡ digits_value 10 bytes → bytes_eq bytes (decimal n) ≡ x → nat_lt n bound ≡ y

@@ -71,8 +71,7 @@ pub workload_gives : (result : Result Workload Status) (fs : List ShelfFile) (ca
     → MatchResult result (λ w. workload cat bytes ≡ Ok w) (λ s. Explains s (BlamesWorkload (Some (workload cat bytes))))
     → MatchResult result (λ w. workload_named fs cat name ≡ Some (Ok w)) (λ s. Explains s (BlamesWorkload (workload_named fs cat name)))
 workload_gives (Ok w) fs cat name bytes reads e =
-    read_gives MAX_WORKLOAD_BYTES (workload cat) (long_workloads cat) (find_file fs name) bytes reads
-    ∙ ap (λ r. Some r) e
+    read_gives MAX_WORKLOAD_BYTES (workload cat) (long_workloads cat) (find_file fs name) bytes reads ∙ ap (λ r. Some r) e
 workload_gives (Err s) fs cat name bytes reads e =
     subst (λ r. Explains s (BlamesWorkload r)) (sym (read_gives MAX_WORKLOAD_BYTES (workload cat) (long_workloads cat) (find_file fs name) bytes reads)) e
 

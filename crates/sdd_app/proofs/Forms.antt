@@ -6,8 +6,7 @@ use Rattle.sdd_app.proofs.Counts.{counted, spelled}
 -- the words of a form have it
 pub form_found : (form : Form) → IsForm form → form_in (words_of form) ≡ Some form
 unfolding form_in
-form_found (Make seed count) is =
-    rw (counted (2 ^ 31) seed is.0 (omega (arith, is.0)), counted 2049 count (omega (arith, is.1)) (omega (arith, is.1))) refl
+form_found (Make seed count) is = rw (counted (2 ^ 31) seed is.0 (omega (arith, is.0)), counted 2049 count (omega (arith, is.1)) (omega (arith, is.1))) refl
 form_found _ is = refl
 
 -- words that have a form are its words

@@ -6,12 +6,4 @@ three_pieces text a b c t1 t2 t3 e e1 e2 e3 = rw (e3, e2, e1, e) (append_assoc a
 
 pub four_pieces : (text a b c d t1 t2 t3 t4 : List ℕ) → t1 ≡ text ++ a → t2 ≡ t1 ++ b → t3 ≡ t2 ++ c → t4 ≡ t3 ++ d → t4 ≡ text ++ (a ++ (b ++ (c ++ d)))
 four_pieces text a b c d t1 t2 t3 t4 e1 e2 e3 e4 =
-    rw (
-      e4,
-      e3,
-      e2,
-      e1,
-      append_assoc ((text ++ a) ++ b) c d,
-      append_assoc (text ++ a) b (c ++ d),
-      append_assoc text a (b ++ (c ++ d)),
-    ) refl
+    rw (e4, e3, e2, e1, append_assoc ((text ++ a) ++ b) c d, append_assoc (text ++ a) b (c ++ d), append_assoc text a (b ++ (c ++ d))) refl

@@ -26,8 +26,7 @@ seam : (text front piece rest : List ℕ) (n : ℕ) → text ≡ (front ++ piece
 seam text front piece rest n e =
     let parts : text ≡ (front ++ take n piece) ++ (drop n piece ++ rest) =
     e ∙ ap (λ (p : List ℕ). (front ++ p) ++ rest) (sym (take-append-drop n piece))
-    ∙ ap (λ (l : List ℕ). l ++ rest) (sym (append_assoc front (take n piece) (drop n piece)))
-    ∙ append_assoc (front ++ take n piece) (drop n piece) rest in
+    ∙ ap (λ (l : List ℕ). l ++ rest) (sym (append_assoc front (take n piece) (drop n piece))) ∙ append_assoc (front ++ take n piece) (drop n piece) rest in
     rw parts (take-append_seam (front ++ take n piece) (drop n piece ++ rest))
 
 -- what is taken and one piece are no longer than all
@@ -48,10 +47,7 @@ took_front sure before middle now f g h text front piece rest n e taken later mo
   later = omega arith;
   front = (
     length (front ++ take n piece),
-    rw (
-      seam text front piece rest n e,
-      sym (end_more before front (take n piece)),
-    ) (more ∙ ap (λ (t : Option (List ℕ)). with_end t (take n piece)) taken),
+    rw (seam text front piece rest n e, sym (end_more before front (take n piece))) (more ∙ ap (λ (t : Option (List ℕ)). with_end t (take n piece)) taken),
     λ lt. rose_since f g h later rose,
   );
 }
@@ -99,8 +95,7 @@ more_taken before middle now front piece next taken more e =
 -- a sink that was sure to take all is sure to take what is left
 pub piece_more : (sure_middle sure_now : ℕ → Type 0) (before middle now room : ℕ) (text front piece next rest : List ℕ)
     → ((left : ℕ) → length piece ≤ left → sure_middle left → sure_now (left - length piece))
-    → ((left : ℕ) → length piece ≤ left → sure_middle left → now ≡ middle)
-    → next ≡ front ++ piece → text ≡ (front ++ piece) ++ rest → length text ≤ room
+    → ((left : ℕ) → length piece ≤ left → sure_middle left → now ≡ middle) → next ≡ front ++ piece → text ≡ (front ++ piece) ++ rest → length text ≤ room
     → sure_middle (room - length front) × (middle ≡ before) → sure_now (room - length next) × (now ≡ before)
 piece_more sure_middle sure_now before middle now room text front piece next rest goes stands e whole fits was =
     let within : length front + length piece ≤ length text = piece_fits text front piece rest whole in

@@ -1,5 +1,5 @@
 -- What a call comes to, from what was read of its files; that it comes to one status.
-use Rattle.sdd_app.proofs.All.{Advise, Answers, BadCatalogue, BadWorkload, BlamesCatalogue, BlamesScript, BlamesWorkload, CatFault, Catalogue, Check, ComesTo, ComesToControl, ComesToListing, ComesToMade, ComesToPlain, ComesToReport, ComesToRun, ComesToVerdict, ComesToVerify, Command, Control, ControlScript, Done, Ending, EndsAtLimit, Err, Explains, FaultyCatalogue, FaultyWorkload, FilesAreThere, FilesOf, FilesRead, Form, FormComesTo, FormHasRoom, FormIsOver, Graph, IsMadeSummary, IsRead, IsRefusal, IsReportOn, IsSome, KeepsOpen, Limit, List, Listing, Make, MatchOption, MatchResult, NoForm, NoMemory, None, Ok, OnOk, Opened, Option, OverCatalogue, PastLimit, Plain, Prints, ReadFault, Result, Run, ShelfFile, Some, Status, Table, TellsOfRun, ToItsEnd, ToItsLimit, Usage, Verdict, Verify, WorkFault, Workload, WorldEnd, WriteFault, [], ap, bank, catalogue_in, catalogue_named, control_script, control_verdict, find_file, form_in, form_of, inl, inr, judged_as, option_map, plain_verdict, refl, report, report_or_limit, script_named, serial_text, status_of, status_of_end, subst, summary_or_limit, sym, workload, workload_named, workload_of, ℕ, ◌∙◌, ◌∷◌, ◌≡◌, ◌⊎◌}
+use Rattle.sdd_app.proofs.All.{Advise, Answers, BadCatalogue, BadWorkload, BlamesCatalogue, BlamesScript, BlamesWorkload, CatFault, Catalogue, Check, ComesTo, ComesToControl, ComesToListing, ComesToMade, ComesToPlain, ComesToReport, ComesToRun, ComesToVerdict, ComesToVerify, Command, Control, ControlScript, Done, Ending, EndsAtLimit, Err, Explains, FaultyCatalogue, FaultyWorkload, FilesAreThere, FilesOf, FilesRead, Form, FormComesTo, FormHasRoom, FormIsOver, Graph, IsMadeSummary, IsRead, IsRefusal, IsReportOn, IsSome, KeepsOpen, Limit, List, Listing, Make, MatchOption, MatchResult, NoForm, NoMemory, None, Ok, OnOk, Opened, Option, OverCatalogue, PastLimit, Plain, Prints, ReadFault, Result, Run, ShelfFile, Some, Status, Table, TellsOfRun, ToItsEnd, ToItsLimit, Usage, Verdict, Verify, WorkFault, Workload, WorldEnd, [], ap, bank, catalogue_in, catalogue_named, control_script, control_verdict, find_file, form_in, form_of, inl, inr, judged_as, option_map, plain_verdict, refl, report, report_or_limit, script_named, serial_text, status_of, status_of_end, subst, summary_or_limit, sym, workload, workload_named, workload_of, ℕ, ◌∙◌, ◌∷◌, ◌≡◌, ◌⊎◌}
 use Rattle.sdd_verified.specs.world.declared.ends.WorldEnd.TheVariants as ends
 use Rattle.sdd_app.specs.declared.listing.Listing.TheVariants as listings
 
@@ -93,18 +93,14 @@ pub answers_so : {T : Type 0} (r : Result T Status) (text : T → List ℕ) (she
     → (FormIsOver shelved fs (form_of is) → Answers r text (FormComesTo fs (form_of is)))
     → FormIsOver shelved fs (form_of command) → Answers r text (FormComesTo fs (form_of command))
 answers_so r text shelved fs command is e answers over =
-    subst (λ x. Answers r text (FormComesTo fs (form_of x))) (sym e)
-    (answers (subst (λ x. FormIsOver shelved fs (form_of x)) e over))
+    subst (λ x. Answers r text (FormComesTo fs (form_of x))) (sym e) (answers (subst (λ x. FormIsOver shelved fs (form_of x)) e over))
 
 pub surely_so : (P : Type 0) (sure : ℕ → Type 0) (shelved : Option (List ShelfFile)) (free : ℕ) (fs : List ShelfFile)
     (command is : Command) → command ≡ is
     → (FormHasRoom sure free (form_of is) → FormIsOver shelved fs (form_of is) → FilesOf fs (form_of is) → P)
-    → FormHasRoom sure free (form_of command) → FormIsOver shelved fs (form_of command)
-    → FilesOf fs (form_of command) → P
+    → FormHasRoom sure free (form_of command) → FormIsOver shelved fs (form_of command) → FilesOf fs (form_of command) → P
 surely_so P sure shelved free fs command is e holds =
-    subst
-    (λ x. FormHasRoom sure free (form_of x) → FormIsOver shelved fs (form_of x) → FilesOf fs (form_of x) → P)
-    (sym e) holds
+    subst (λ x. FormHasRoom sure free (form_of x) → FormIsOver shelved fs (form_of x) → FilesOf fs (form_of x) → P) (sym e) holds
 
 -- a call comes to one status
 
@@ -158,8 +154,7 @@ one_judged fs work report cat v w p q =
     (λ k a b. ap status_of (one_verdict (option_map (judged_as cat k) (find_file fs report)) v w a b)) p q
 
 one_over : (reading : Option (Result Catalogue CatFault)) (G : Catalogue → Verdict → Type 0) (v w : Verdict)
-    → ((cat : Catalogue) → G cat v → G cat w → status_of v ≡ status_of w)
-    → Over reading G v → Over reading G w → status_of v ≡ status_of w
+    → ((cat : Catalogue) → G cat v → G cat w → status_of v ≡ status_of w) → Over reading G v → Over reading G w → status_of v ≡ status_of w
 one_over None G v w one p q = absurd p
 one_over (Some (Ok cat)) G v w one p q = one cat p q
 one_over (Some (Err f)) G v w one p q = ap status_of (p ∙ sym q)
@@ -173,8 +168,7 @@ one_of_form fs (Plain cat work) v w p q = one_over (catalogue_named fs cat) (Com
 one_of_form fs (Control file) v w p q = ap status_of (one_verdict (option_map control_verdict (script_named fs file)) v w p q)
 one_of_form fs (Make seed count) v w p q = one_made seed count v w p q
 one_of_form fs (Verify cat work report) v w p q =
-    one_over (catalogue_named fs cat) (ComesToVerify fs work report) v w
-    (λ c a b. one_judged fs work report c v w a b) p q
+    one_over (catalogue_named fs cat) (ComesToVerify fs work report) v w (λ c a b. one_judged fs work report c v w a b) p q
 one_of_form fs (Advise cat) v w p q = one_over (catalogue_named fs cat) (ComesToListing listings.Advice) v w
     (λ c a b. one_listing listings.Advice c v w a b) p q
 
@@ -188,8 +182,7 @@ pub one_status : (fs : List ShelfFile) (ws : List (List ℕ)) (v w : Verdict) �
 one_status fs ws v w p q = one_of_words fs (form_in ws) v w p q
 
 -- a call that printed no text told what it comes to, unless the shelf failed or memory ran out
-by_status : (s : Status) (P : Verdict → Type 0) (v : Verdict)
-    → ((w : Verdict) → P w → status_of w ≡ status_of v) → Explains s P → (s ≡ ReadFault → ⊥)
+by_status : (s : Status) (P : Verdict → Type 0) (v : Verdict) → ((w : Verdict) → P w → status_of w ≡ status_of v) → Explains s P → (s ≡ ReadFault → ⊥)
     → (s ≡ status_of v) ⊎ (s ≡ NoMemory)
 by_status Usage P v one e read = inl (one NoForm e)
 by_status (BadCatalogue f) P v one e read = inl (one (FaultyCatalogue f) e)
@@ -319,11 +312,7 @@ three_ended files files2 files3 was second third now told_was told2 told3 told l
         (
           record { fresh = λ was_g. b.fresh (keep1 g tt was_g).0; opened = b3.0; ended = rw b3.1 b.ended },
           ((λ e. c.fresh (subst third e b.opened)), tt),
-          (
-            record { fresh = λ was_h. c'.fresh (keep2 h tt (keep1 h tt was_h).0).0; opened = c'.opened; ended = c'.ended },
-            tt,
-            tt,
-          ),
+          (record { fresh = λ was_h. c'.fresh (keep2 h tt (keep1 h tt was_h).0).0; opened = c'.opened; ended = c'.ended }, tt, tt),
         ),
       );
     }

@@ -8,8 +8,7 @@ pub returns-in_err-bytes-clause-told : goal.returns-in_err-bytes-clause-told
 returns-in_err-bytes-clause-told g c = λ fs told.
     let p = err_from_is_err_and c.from_residual.result c.from_residual.ensures.1 in
     rw (p.1, p.2) (explains_more c.in_err-bytes.field-0.0 (λ _. ⊥)
-    (BlamesCatalogue (catalogue_named fs c.args.name.now))
-    (λ v no. absurd no) c.in_err-bytes.ensures.silent)
+    (BlamesCatalogue (catalogue_named fs c.args.name.now)) (λ v no. absurd no) c.in_err-bytes.ensures.silent)
 
 pub returns-in_err-bytes-clause-surely : goal.returns-in_err-bytes-clause-surely
 returns-in_err-bytes-clause-surely g c = λ free fs sure told some.

@@ -31,14 +31,12 @@ returns-in_err-text-clause-surely g c = λ free fs sure told some.
     rw (p.1, p.2) (λ is. absurd cc, k.2)
 
 pub returns-clause-surely : goal.returns-clause-surely
-returns-clause-surely g c = λ free fs sure told some.
-    let k = c.in_ok-script.ensures.surely free fs sure told some in (tt, k.2)
+returns-clause-surely g c = λ free fs sure told some. let k = c.in_ok-script.ensures.surely free fs sure told some in (tt, k.2)
 
 pub returns-in_err-script-clause-at_fault : goal.returns-in_err-script-clause-at_fault
 returns-in_err-script-clause-at_fault g c =
     let p = err_from_is_err_and c.from_residual.result c.from_residual.ensures.1 in
-    rw (p.1, p.2) (at_more c.in_err-script.field-0.0 c.in_err-script.ensures.at_fault
-    (λ no. no) (λ h. one_ended _ _ _ _ _ h.0 h.1))
+    rw (p.1, p.2) (at_more c.in_err-script.field-0.0 c.in_err-script.ensures.at_fault (λ no. no) (λ h. one_ended _ _ _ _ _ h.0 h.1))
 
 pub returns-in_err-text-clause-at_fault : goal.returns-in_err-text-clause-at_fault
 returns-in_err-text-clause-at_fault g c =

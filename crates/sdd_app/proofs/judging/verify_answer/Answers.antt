@@ -9,8 +9,7 @@ returns-in_err-catalogue-clause-told g c = λ fs told.
     let name = c.args.catalogue.now in
     let over = ComesToVerify fs c.args.workload.now c.args.report.now in
     rw (p.1, p.2) (explains_more c.in_err-catalogue.field-0.0 (BlamesCatalogue (catalogue_named fs name))
-    (OverCatalogue fs name over) (λ v is. blamed fs name over v is)
-    (c.in_err-catalogue.ensures.told fs told))
+    (OverCatalogue fs name over) (λ v is. blamed fs name over v is) (c.in_err-catalogue.ensures.told fs told))
 
 pub returns-in_err-work-clause-told : goal.returns-in_err-work-clause-told
 returns-in_err-work-clause-told g c = λ fs told.
@@ -21,8 +20,7 @@ returns-in_err-work-clause-told g c = λ fs told.
     let cat = c.in_ok-catalogue.catalogue in
     let over = ComesToVerify fs work report in
     rw (p.1, p.2) (explains_more c.in_err-work.field-0.0 (BlamesWorkload (workload_named fs cat work)) (OverCatalogue fs name over)
-    (λ v is. goes_on fs name over cat v (c.in_ok-catalogue.ensures.told fs told)
-    (blamed_verify fs work report cat v is))
+    (λ v is. goes_on fs name over cat v (c.in_ok-catalogue.ensures.told fs told) (blamed_verify fs work report cat v is))
     (c.in_err-work.ensures.told fs (c.in_ok-catalogue.ensures.files ∙ told)))
 
 pub returns-in_err-text-clause-told : goal.returns-in_err-text-clause-told
@@ -96,8 +94,7 @@ returns-clause-surely g c = λ free fs sure told has report.
 pub returns-in_err-catalogue-clause-at_fault : goal.returns-in_err-catalogue-clause-at_fault
 returns-in_err-catalogue-clause-at_fault g c =
     let p = err_from_is_err_and c.from_residual.result c.from_residual.ensures.1 in
-    rw (p.1, p.2) (at_more c.in_err-catalogue.field-0.0 c.in_err-catalogue.ensures.at_fault
-    (λ h. one_ended _ _ _ _ _ h.0 h.1) (λ no. absurd no))
+    rw (p.1, p.2) (at_more c.in_err-catalogue.field-0.0 c.in_err-catalogue.ensures.at_fault (λ h. one_ended _ _ _ _ _ h.0 h.1) (λ no. absurd no))
 
 pub returns-in_err-work-clause-at_fault : goal.returns-in_err-work-clause-at_fault
 returns-in_err-work-clause-at_fault g c =

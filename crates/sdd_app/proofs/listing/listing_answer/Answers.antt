@@ -9,8 +9,7 @@ returns-in_err-catalogue-clause-told g c = λ fs told.
     let name = c.args.catalogue.now in
     let lists = ComesToListing c.args.listing in
     rw (p.1, p.2) (explains_more c.in_err-catalogue.field-0.0 (BlamesCatalogue (catalogue_named fs name))
-    (OverCatalogue fs name lists) (λ v is. blamed fs name lists v is)
-    (c.in_err-catalogue.ensures.told fs told))
+    (OverCatalogue fs name lists) (λ v is. blamed fs name lists v is) (c.in_err-catalogue.ensures.told fs told))
 
 pub returns-in_err-catalogue-clause-surely : goal.returns-in_err-catalogue-clause-surely
 returns-in_err-catalogue-clause-surely g c = λ free fs sure told some.
@@ -33,14 +32,12 @@ returns-in_err-listed-clause-surely g c = λ free fs sure told some.
     rw (p.1, p.2) (λ is. absurd cc, k.2)
 
 pub returns-clause-surely : goal.returns-clause-surely
-returns-clause-surely g c = λ free fs sure told some.
-    let k = c.in_ok-catalogue.ensures.surely free fs sure told some in (tt, k.2)
+returns-clause-surely g c = λ free fs sure told some. let k = c.in_ok-catalogue.ensures.surely free fs sure told some in (tt, k.2)
 
 pub returns-in_err-catalogue-clause-at_fault : goal.returns-in_err-catalogue-clause-at_fault
 returns-in_err-catalogue-clause-at_fault g c =
     let p = err_from_is_err_and c.from_residual.result c.from_residual.ensures.1 in
-    rw (p.1, p.2) (at_more c.in_err-catalogue.field-0.0 c.in_err-catalogue.ensures.at_fault
-    (λ h. one_ended _ _ _ _ _ h.0 h.1) (λ no. no))
+    rw (p.1, p.2) (at_more c.in_err-catalogue.field-0.0 c.in_err-catalogue.ensures.at_fault (λ h. one_ended _ _ _ _ _ h.0 h.1) (λ no. no))
 
 pub returns-in_err-listed-clause-at_fault : goal.returns-in_err-listed-clause-at_fault
 returns-in_err-listed-clause-at_fault g c =

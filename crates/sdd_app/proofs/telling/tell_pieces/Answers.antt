@@ -11,13 +11,11 @@ pieces-preserved g c =
     let k = flat_map_at (λ p. p.now) xs i _ c.pieces-test.true in
     record {
       taken = more_taken (g.E.Sink.taken c.args.err.now) (g.E.Sink.taken c.pieces.err)
-          (g.E.Sink.taken c.write_text.new.out) (flat_map (λ p. p.now) (take i xs)) _
-          (flat_map (λ p. p.now) (take (i + 1) xs))
+          (g.E.Sink.taken c.write_text.new.out) (flat_map (λ p. p.now) (take i xs)) _ (flat_map (λ p. p.now) (take (i + 1) xs))
           inv.taken w.done (flat_next (λ p. p.now) xs i _ c.pieces-test.true);
       later = omega (arith, inv.later, w.cause.later);
       sure = λ room sure fits.
-          piece_more (g.E.Sink.sure c.pieces.err) (g.E.Sink.sure c.write_text.new.out)
-          (g.E.Sink.faults c.args.err.now) (g.E.Sink.faults c.pieces.err)
+          piece_more (g.E.Sink.sure c.pieces.err) (g.E.Sink.sure c.write_text.new.out) (g.E.Sink.faults c.args.err.now) (g.E.Sink.faults c.pieces.err)
           (g.E.Sink.faults c.write_text.new.out) room
           (flat_map (λ p. p.now) xs) (flat_map (λ p. p.now) (take i xs)) _ (flat_map (λ p. p.now) (take (i + 1) xs)) k.0
           w.room (λ left within s. (w.surely left within s).1) (flat_next (λ p. p.now) xs i _ c.pieces-test.true) k.1 fits (inv.sure room sure fits);
@@ -29,8 +27,7 @@ returns-in-Err g c =
     let k = flat_map_at (λ p. p.now) c.args.pieces.now c.pieces.piece-index _ c.pieces-test.true in
     let front = length (flat_map (λ p. p.now) (take c.pieces.piece-index c.args.pieces.now)) in
     took_front (g.E.Sink.sure c.args.err.now) (g.E.Sink.taken c.args.err.now) (g.E.Sink.taken c.pieces.err)
-    (g.E.Sink.taken c.write_text.new.out) (g.E.Sink.faults c.args.err.now) (g.E.Sink.faults c.pieces.err)
-    (g.E.Sink.faults c.write_text.new.out)
+    (g.E.Sink.taken c.write_text.new.out) (g.E.Sink.faults c.args.err.now) (g.E.Sink.faults c.pieces.err) (g.E.Sink.faults c.write_text.new.out)
     (flat_map (λ p. p.now) c.args.pieces.now) (flat_map (λ p. p.now) (take c.pieces.piece-index c.args.pieces.now)) _ k.0 e.front.0 k.1
     c.pieces.invariant.taken c.pieces.invariant.later e.front.1 e.cause.later e.cause.failed
     (λ room sure fits within.
@@ -41,6 +38,5 @@ returns g c =
     let whole : take c.pieces.piece-index c.args.pieces.now ≡ c.args.pieces.now =
     take_all c.pieces.piece-index c.args.pieces.now (omega (arith, c.pieces-test.false)) in
     took_all (g.E.Sink.sure c.args.err.now) (g.E.Sink.taken c.args.err.now) (g.E.Sink.taken c.pieces.err)
-    (g.E.Sink.faults c.args.err.now) (g.E.Sink.faults c.pieces.err)
-    (flat_map (λ p. p.now) c.args.pieces.now)
+    (g.E.Sink.faults c.args.err.now) (g.E.Sink.faults c.pieces.err) (flat_map (λ p. p.now) c.args.pieces.now)
     (rw whole at c.pieces.invariant.taken) c.pieces.invariant.later (λ room sure fits. (c.pieces.invariant.sure room sure fits).1)
