@@ -8,4 +8,3 @@ pub mod Ranges
 pub mod Sorting
 pub mod Standing
 pub mod Uses
-pub mod Writing
