@@ -1,6 +1,6 @@
-use Rattle.sdd_plain.proofs.All.{after_changes, drop, ◌≡◌}
+use Rattle.sdd_plain.proofs.All.{after_changes, ◌≡◌}
 use Rattle.sdd_plain.proofs.rows.Rows.apply.Given as goal
 
 -- the changes that are left make of these rows what all make of the old ones
 abbrev pub invariant-changes : goal.invariant-changes
-invariant-changes l = after_changes l.cat l.self (drop l.change-index l.changes) ≡ after_changes l.cat l.fn.self l.changes
+invariant-changes l = after_changes l.cat l.self l.change-iterator.rest.items ≡ after_changes l.cat l.fn.self l.fn.changes
