@@ -1,5 +1,5 @@
 -- The names of the transactions that a valid workload submits differ.
-use Rattle.sdd_verify.proofs.All.{All, All-cons, All-head, All-nil, All-tail, AreDistinct, Catalogue, Deliver, Down, Event, IsValid, IsValidEvent, List, Lose, MatchOption, None, Option, Redeclare, Repeat, Resend, Settle, Some, Submit, Tick, Txn, Up, Workload, [], ap, arith, bytes_eq, false, filter_map, get_or, length, map, place_of_name, position, refl, repeats, slice_get, submitted, submitted_by, suc, sym, zero, ℕ, ◌-◌, ◌<◌, ◌∙◌, ◌∷◌, ◌≡◌, ◌≢◌, ◌≤◌}
+use Rattle.sdd_verify.proofs.All.{All, All-cons, All-head, All-nil, All-tail, AreDistinct, Catalogue, Event, IsValid, IsValidEvent, List, MatchOption, None, Option, Some, Submit, Txn, Workload, [], ap, arith, bytes_eq, false, filter_map, get_or, length, map, place_of_name, position, refl, repeats, slice_get, submitted, submitted_by, suc, sym, zero, ℕ, ◌-◌, ◌<◌, ◌∙◌, ◌∷◌, ◌≡◌, ◌≢◌, ◌≤◌}
 use Rattle.sdd_verify.proofs.NamesTold.{AllDiffer}
 use Rattle.sdd_script.specs.Valid as scripts
 
@@ -54,15 +54,7 @@ Submits txns number text = MatchOption number (text ≡ None) (λ n. (text ≡ s
 
 submits : (cat : Catalogue) (count : ℕ) (txns : List Txn) (e : Event) → IsValidEvent cat count e → Submits txns (scripts.submitted_by e) (submitted_by txns e)
 submits cat count txns (Submit number) v = (refl, v.0)
-submits cat count txns (Deliver from to place) v = refl
-submits cat count txns (Lose from to place) v = refl
-submits cat count txns (Repeat from to place) v = refl
-submits cat count txns (Resend from to) v = refl
-submits cat count txns (Tick tm n) v = refl
-submits cat count txns Settle v = refl
-submits cat count txns Redeclare v = refl
-submits cat count txns (Down dm) v = refl
-submits cat count txns (Up dm) v = refl
+submits cat count txns _ v = refl
 
 module _ (cat : Catalogue) (count : ℕ) (txns : List Txn) (none : repeats (names_of txns) ≡ false) where
   abbrev Other : Txn → Txn → Type 0

@@ -7,14 +7,12 @@ module _ (classes : List ℕ) where
 
   tells_by : (m n : TxnNo) (same class less : Bool) → (m.0 == n.0) ≡ same → (class_of classes m == class_of classes n) ≡ class → nat_lt m.0 n.0 ≡ less
       → (not same && (not class || less)) ≡ true → MayFollow m n
-  tells_by m n true class less e f g h = absurd cc
-  tells_by m n false true false e f g h = absurd cc
-  tells_by m n false true true e f g h =
-      (λ is. let t : (m.0 == n.0) ≡ true = eq-eqb m.0 n.0 is in absurd cc, λ _. ltb-true m.0 n.0 g)
+  tells_by m n false true true e f g h = (λ is. let t : (m.0 == n.0) ≡ true = eq-eqb m.0 n.0 is in absurd cc, λ _. ltb-true m.0 n.0 g)
   tells_by m n false false less e f g h = (
     λ is. let t : (m.0 == n.0) ≡ true = eq-eqb m.0 n.0 is in absurd cc,
     λ is. let t : (class_of classes m == class_of classes n) ≡ true = eq-eqb (class_of classes m) (class_of classes n) is in absurd cc,
   )
+  tells_by m n _ _ _ e f g h = absurd cc
 
   tells : (m n : TxnNo) → may_follow classes m n ≡ true → MayFollow m n
   tells m n h = tells_by m n (m.0 == n.0) (class_of classes m == class_of classes n) (nat_lt m.0 n.0) refl refl refl h
@@ -42,12 +40,10 @@ module _ (classes : List ℕ) where
 
   -- the test tells it of each two members
   pub in_turn : (order : List TxnNo) → is_in_turn classes order ≡ true → IsInTurn classes order
-  in_turn [] h i k less within = absurd (omega arith)
-  in_turn (n ∷ order) h i zero less within = absurd (omega arith)
   in_turn (n ∷ order) h zero (suc k) less within = each n order k (both (list_all (may_follow classes n) order) (is_in_turn classes order) h).0 (omega arith)
   in_turn (n ∷ order) h (suc i) (suc k) less within =
-      in_turn order (both (list_all (may_follow classes n) order) (is_in_turn classes order) h).1 i k
-      (omega arith) (omega arith)
+      in_turn order (both (list_all (may_follow classes n) order) (is_in_turn classes order) h).1 i k (omega arith) (omega arith)
+  in_turn _ h i _ less within = absurd (omega arith)
 
   all_follow : (m : TxnNo) (order : List TxnNo) → ((k : ℕ) → k < length order → MayFollow m (at order k)) → list_all (may_follow classes m) order ≡ true
   all_follow m [] h = refl

@@ -1,5 +1,5 @@
 -- The lines of texts that stand one behind the other.
-use Rattle.sdd_verify.proofs.All.{AreLines, Bool, List, [], ap, append-nil, append_assoc, cond, cut_takes, eqb, false, line_behind, lines_of, ne_eqb, onto, refl, spelled_lines, sym, true, ℕ, ◌++◌, ◌∙◌, ◌∷◌, ◌≡◌, ◌≢◌}
+use Rattle.sdd_verify.proofs.All.{AreLines, Bool, List, [], ap, append-nil, append_assoc, cond, cut_takes, eqb, false, line_behind, lines_of, onto, refl, spelled_lines, sym, true, ℕ, ◌++◌, ◌∙◌, ◌∷◌, ◌≡◌, ◌≢◌}
 use Rattle.sdd_script.specs.words.Lines.{cut_lines}
 
 -- lines that are ended, and what stands behind them
@@ -15,8 +15,7 @@ onto_lines : (c : ℕ) (cut : List (List ℕ) × List ℕ) → c ≢ 10 → AreL
 onto_lines c ([], rest) other h = tt
 onto_lines c ((line ∷ lines), rest) other h = ((other, h.0), h.1)
 
-lines_by : (c : ℕ) (cut : List (List ℕ) × List ℕ) (b : Bool) → eqb c 10 ≡ b → AreLines cut.0
-    → AreLines (cond b ([] ∷ cut.0, cut.1) (onto c cut)).0
+lines_by : (c : ℕ) (cut : List (List ℕ) × List ℕ) (b : Bool) → eqb c 10 ≡ b → AreLines cut.0 → AreLines (cond b ([] ∷ cut.0, cut.1) (onto c cut)).0
 lines_by c cut true e h = (tt, h)
 lines_by c cut false e h = onto_lines c cut (λ is. let t : eqb c 10 ≡ true = rw is refl in absurd cc) h
 
@@ -38,8 +37,7 @@ whole_is text h =
 
 -- what stands behind it is cut by itself
 pub whole_behind : (text rest : List ℕ) → IsWhole text → cut_lines (text ++ rest) ≡ (lines_of text ++ (cut_lines rest).0, (cut_lines rest).1)
-whole_behind text rest h =
-    ap (λ (t : List ℕ). cut_lines (t ++ rest)) (whole_is text h) ∙ lines_behind (lines_of text) rest (cut_are_lines text)
+whole_behind text rest h = ap (λ (t : List ℕ). cut_lines (t ++ rest)) (whole_is text h) ∙ lines_behind (lines_of text) rest (cut_are_lines text)
 
 pub whole_append : (text rest : List ℕ) → IsWhole text → IsWhole rest → IsWhole (text ++ rest)
 whole_append text rest h more = record { nothing_behind = ap (λ (c : List (List ℕ) × List ℕ). c.1) (whole_behind text rest h) ∙ more.nothing_behind }

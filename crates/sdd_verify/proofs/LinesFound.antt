@@ -22,8 +22,7 @@ first_by number line lines at false e later h =
     let f = later h in
     record { before = line ∷ f.before; others = All-cons IsOther line f.before e f.others; is = f.is; whole = ap (λ (l : List (List ℕ)). line ∷ l) f.whole }
 
-pub first_order : (number : ℕ) (lines : List (List ℕ)) (at : ℕ × List ℕ × Numbered) → order_line_in number lines ≡ Ok at
-    → FirstOrder number lines at
+pub first_order : (number : ℕ) (lines : List (List ℕ)) (at : ℕ × List ℕ × Numbered) → order_line_in number lines ≡ Ok at → FirstOrder number lines at
 first_order number [] at h = absurd cc
 first_order number (line ∷ lines) at h = first_by number line lines at (is_order_line line) refl (λ more. first_order (number + 1) lines at more) h
 
@@ -39,8 +38,7 @@ order_again number (first ∷ before) line lines others is =
 
 -- lines that have come stand there, and then the rest
 
-passed_by : (number : ℕ) (line : List ℕ) (more : List (List ℕ)) (told : List ℕ) (lines : List (List ℕ)) (rest : Numbered) (b : Bool)
-    → bytes_eq told line ≡ b
+passed_by : (number : ℕ) (line : List ℕ) (more : List (List ℕ)) (told : List ℕ) (lines : List (List ℕ)) (rest : Numbered) (b : Bool) → bytes_eq told line ≡ b
     → (passed (number + 1) more lines ≡ Ok rest → lines ≡ more ++ rest.1)
     → cond b (passed (number + 1) more lines) (Err number) ≡ Ok rest → told ∷ lines ≡ (line ∷ more) ++ rest.1
 passed_by number line more told lines rest true e later h =
@@ -49,16 +47,14 @@ passed_by number line more told lines rest true e later h =
     rw (same, behind) refl
 passed_by number line more told lines rest false e later h = absurd cc
 
-pub passed_is : (number : ℕ) (expected lines : List (List ℕ)) (rest : Numbered) → passed number expected lines ≡ Ok rest
-    → lines ≡ expected ++ rest.1
+pub passed_is : (number : ℕ) (expected lines : List (List ℕ)) (rest : Numbered) → passed number expected lines ≡ Ok rest → lines ≡ expected ++ rest.1
 passed_is number [] lines rest h =
     let here : Numbered = (number, lines) in
     let same : here ≡ rest = ok_is {F = ℕ} here rest h in
     ap (λ (r : Numbered). r.1) same
 passed_is number (line ∷ more) [] rest h = absurd cc
 passed_is number (line ∷ more) (told ∷ lines) rest h =
-    passed_by number line more told lines rest (bytes_eq told line) refl
-    (λ later. passed_is (number + 1) more lines rest later) h
+    passed_by number line more told lines rest (bytes_eq told line) refl (λ later. passed_is (number + 1) more lines rest later) h
 
 pub passed_again : (number : ℕ) (expected lines : List (List ℕ)) → passed number expected (expected ++ lines) ≡ Ok (number + length expected, lines)
 passed_again number [] lines = let none : number + 0 ≡ number = omega arith in rw none refl
@@ -89,8 +85,7 @@ pub rest_lines : (front rest : List (List ℕ)) → AreLines (front ++ rest) →
 rest_lines [] rest h = h
 rest_lines (line ∷ front) rest h = rest_lines front rest h.1
 
-pub spelled_apart : (front rest : List (List ℕ)) (tail : List ℕ)
-    → spelled_lines (front ++ rest) ++ tail ≡ spelled_lines front ++ (spelled_lines rest ++ tail)
+pub spelled_apart : (front rest : List (List ℕ)) (tail : List ℕ) → spelled_lines (front ++ rest) ++ tail ≡ spelled_lines front ++ (spelled_lines rest ++ tail)
 spelled_apart [] rest tail = refl
 spelled_apart (line ∷ front) rest tail =
     let more = spelled_apart front rest tail in

@@ -14,8 +14,6 @@ after_line number line more (told ∷ lines) =
 -- what comes after some lines
 pub after_lines : (number : ℕ) (some more lines : List (List ℕ))
     → passed number (some ++ more) lines ≡ (passed number some lines >>= λ rest. passed rest.0 more rest.1)
-after_lines number [] more lines = refl
-after_lines number (line ∷ some) more [] = refl
 after_lines number (line ∷ some) more (told ∷ lines) =
     elim (bytes_eq told line) as (λ b. cond b (passed (number + 1) (some ++ more) lines)
     (Err number) ≡ (cond b (passed (number + 1) some lines) (Err number) >>=
@@ -23,3 +21,4 @@ after_lines number (line ∷ some) more (told ∷ lines) =
       | true ↦ after_lines (number + 1) some more lines
       | false ↦ refl
     ]
+after_lines number _ more _ = refl

@@ -33,8 +33,7 @@ or_second None p e = refl
 or_second (Some x) p e = absurd cc
 
 -- a transaction whose name has a number
-pub known_name : (txns : List Txn) (txn : Txn) (made : List ℕ → Option TxnNo) → is_some (made txn.name) ≡ true → Found made txns
-    → Found made (txns ++ txn ∷ [])
+pub known_name : (txns : List Txn) (txn : Txn) (made : List ℕ → Option TxnNo) → is_some (made txn.name) ≡ true → Found made txns → Found made (txns ++ txn ∷ [])
 known_name txns txn made has old name =
     let number : ℕ = 1 + length txns in
     let before : Option TxnNo = named txns name in
@@ -49,10 +48,8 @@ known_name txns txn made has old name =
     ]
 
 -- the first transaction of a name
-pub new_name : (txns : List Txn) (txn : Txn) (made new : List ℕ → Option TxnNo) (number : TxnNo) → number.0 ≡ length txns + 1
-    → is_some (made txn.name) ≡ false
-    → ((name : List ℕ) → new name ≡ cond (is_at (slice_cmp nat_cmp txn.name) name) (Some number) (made name))
-    → Found made txns → Found new (txns ++ txn ∷ [])
+pub new_name : (txns : List Txn) (txn : Txn) (made new : List ℕ → Option TxnNo) (number : TxnNo) → number.0 ≡ length txns + 1 → is_some (made txn.name) ≡ false
+    → ((name : List ℕ) → new name ≡ cond (is_at (slice_cmp nat_cmp txn.name) name) (Some number) (made name)) → Found made txns → Found new (txns ++ txn ∷ [])
 new_name txns txn made new number is absent updates old name =
     let before : Option TxnNo = named txns name in
     let count : 1 + length txns ≡ number.0 = omega (arith, is) in
@@ -66,8 +63,7 @@ new_name txns txn made new number is absent updates old name =
           let nothing : is_some before ≡ false = ap is_some (sym (old name)) ∙ subst (λ (n : List ℕ). is_some (made n) ≡ false) same absent in
           now ∙ ap (λ (b : Bool). cond b (Some number) (made name)) y
           ∙ sym (named_from_more 1 txns txn name
-          ∙ or_second before (Here txn (1 + length txns) name) nothing ∙ here
-          ∙ ap (λ (b : Bool). cond b (Some number) None) y)
+          ∙ or_second before (Here txn (1 + length txns) name) nothing ∙ here ∙ ap (λ (b : Bool). cond b (Some number) None) y)
       | inr f ↦
           now ∙ ap (λ (b : Bool). cond b (Some number) (made name)) f ∙ old name
           ∙ sym (named_from_more 1 txns txn name ∙ ap (or_else before) (here ∙ ap (λ (b : Bool). cond b (Some number) None) f) ∙ or_none before)

@@ -33,12 +33,10 @@ tells_by first txn txns name number false e later h =
     found_behind zero at = let from = (later h).from in absurd (omega (arith, from, at))
     found_behind (suc place) at = (later h).found place (omega (arith, at))
 
-tells_from : (first : ℕ) (txns : List Txn) (name : List ℕ) (number : TxnNo) → named_from first txns name ≡ Some number
-    → TellsFrom first txns name number
+tells_from : (first : ℕ) (txns : List Txn) (name : List ℕ) (number : TxnNo) → named_from first txns name ≡ Some number → TellsFrom first txns name number
 tells_from first [] name number h = absurd cc
 tells_from first (txn ∷ txns) name number h =
-    tells_by first txn txns name number (bytes_eq txn.name name) refl
-    (λ later. tells_from (first + 1) txns name number later) h
+    tells_by first txn txns name number (bytes_eq txn.name name) refl (λ later. tells_from (first + 1) txns name number later) h
 
 pub named_tells : (txns : List Txn) (name : List ℕ) (number : TxnNo) → named txns name ≡ Some number → Tells txns name number
 named_tells txns name number h =
@@ -79,8 +77,7 @@ member_at [] place lt = absurd (omega arith)
 member_at (txn ∷ txns) zero lt = (txn, refl)
 member_at (txn ∷ txns) (suc place) lt = member_at txns place (omega arith)
 
-pub named_again : (txns : List Txn) (number : TxnNo) → AllDiffer txns → IsFrom1To (length txns) number.0
-    → named txns (txn_name txns number.0) ≡ Some number
+pub named_again : (txns : List Txn) (number : TxnNo) → AllDiffer txns → IsFrom1To (length txns) number.0 → named txns (txn_name txns number.0) ≡ Some number
 named_again txns number apart there =
     let from = there.0 in
     let within = there.1 in
@@ -99,21 +96,18 @@ abbrev pub IsThere : List Txn → TxnNo → Type 0
 IsThere txns number = IsFrom1To (length txns) number.0
 
 answers_told : (line : ℕ) (txns : List Txn) (count : ℕ) (names : List (List ℕ)) (order : List TxnNo)
-    → Answers (λ _ name. known line (named txns name)) count names order
-    → (names ≡ map (name_in txns) order) × All (IsThere txns) order
+    → Answers (λ _ name. known line (named txns name)) count names order → (names ≡ map (name_in txns) order) × All (IsThere txns) order
 answers_told line txns count [] [] h = (refl, All-nil (IsThere txns))
-answers_told line txns count [] (number ∷ order) h = absurd h
-answers_told line txns count (name ∷ names) [] h = absurd h
 answers_told line txns count (name ∷ names) (number ∷ order) h =
     let one = named_tells txns name number (known_ok line (named txns name) number h.0) in
     let more = answers_told line txns (count + 1) names order h.1 in
     let here = sym one.name_is in
     let behind = more.0 in
     (rw (here, behind) refl, All-cons (IsThere txns) number order one.there more.1)
+answers_told line txns count _ _ h = absurd h
 
 pub all_told : (line : ℕ) (txns : List Txn) (count : ℕ) (names : List (List ℕ)) (order : List TxnNo)
-    → along (λ _ name. known line (named txns name)) count names ≡ Ok order
-    → (names ≡ map (name_in txns) order) × All (IsThere txns) order
+    → along (λ _ name. known line (named txns name)) count names ≡ Ok order → (names ≡ map (name_in txns) order) × All (IsThere txns) order
 all_told line txns count names order h = answers_told line txns count names order (along_ok (λ _ name. known line (named txns name)) count names order h)
 
 answers_again : (line : ℕ) (txns : List Txn) (count : ℕ) (order : List TxnNo) → AllDiffer txns → All (IsThere txns) order

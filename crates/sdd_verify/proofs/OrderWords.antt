@@ -14,8 +14,7 @@ HaveNoSpace [] = Unit {0}
 HaveNoSpace (name ∷ names) = HasNoSpace name × HaveNoSpace names
 
 -- words that are put behind spaces are cut again
-pub words_again : (word : List ℕ) (names : List (List ℕ)) → HasNoSpace word → HaveNoSpace names
-    → words_of (word ++ behind_spaces names) ≡ word ∷ names
+pub words_again : (word : List ℕ) (names : List (List ℕ)) → HasNoSpace word → HaveNoSpace names → words_of (word ++ behind_spaces names) ≡ word ∷ names
 words_again word [] h hs = ap words_of (append-nil word) ∙ slice_split_none (λ c. eqb c 32) word (no_space word h)
 words_again word (name ∷ names) h hs =
     slice_split_at (λ c. eqb c 32) word 32 (name ++ behind_spaces names) (no_space word h) refl
@@ -39,8 +38,7 @@ joined word (name ∷ names) = ap (λ (l : List ℕ). word ++ 32 ∷ l) (joined 
 cut_joined : (line word : List ℕ) (names : List (List ℕ)) → words_of line ≡ word ∷ names → line ≡ word ++ behind_spaces (names_on line)
 cut_joined line word names e =
     let is : names_on line ≡ names = ap tail_of e in
-    sym (join_with_byte-slice_split 32 line) ∙ ap (join_with_byte 32) e ∙ joined word names
-    ∙ ap (λ (l : List (List ℕ)). word ++ behind_spaces l) (sym is)
+    sym (join_with_byte-slice_split 32 line) ∙ ap (join_with_byte 32) e ∙ joined word names ∙ ap (λ (l : List (List ℕ)). word ++ behind_spaces l) (sym is)
 
 either : (a b : Bool) → (a || b) ≡ true → (a ≡ true) ⊎ (b ≡ true)
 either true b e = inl refl

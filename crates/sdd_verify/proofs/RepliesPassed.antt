@@ -21,8 +21,7 @@ query_whole number rows =
 queries_whole : (number : ℕ) (answers : List (List (List Value))) → IsWhole (queries_from number answers)
 queries_whole number [] = whole_empty
 queries_whole number (rows ∷ answers) =
-    whole_append (query_lines number rows) (queries_from (number + 1) answers) (query_whole number rows)
-    (queries_whole (number + 1) answers)
+    whole_append (query_lines number rows) (queries_from (number + 1) answers) (query_whole number rows) (queries_whole (number + 1) answers)
 
 -- behind a text that ends no line
 behind_front : (front word rest : List ℕ) → IsWhole rest → IsWhole (front ++ (word ++ 10 ∷ rest))
@@ -34,11 +33,9 @@ reply_whole name Overflow = behind_front (codes "reply " ++ name) (codes " overf
 reply_whole name TooMany = behind_front (codes "reply " ++ name) (codes " toomany") [] whole_empty
 
 pub replies_whole : (txns : List Txn) (answers : List Reply) → IsWhole (replies txns answers)
-replies_whole [] answers = whole_empty
-replies_whole (txn ∷ txns) [] = whole_empty
 replies_whole (txn ∷ txns) (reply ∷ answers) =
-    whole_append (reply_lines txn.name reply) (replies txns answers) (reply_whole txn.name reply)
-    (replies_whole txns answers)
+    whole_append (reply_lines txn.name reply) (replies txns answers) (reply_whole txn.name reply) (replies_whole txns answers)
+replies_whole _ _ = whole_empty
 
 -- the first reply, and then the others
 first_reply : (number : ℕ) (name : List ℕ) (reply : Reply) (others : List ℕ) (lines : List (List ℕ))
@@ -65,8 +62,7 @@ module _ (cat : Catalogue) (db : Database) (txns : List (Bor Txn)) (i : ℕ) (t 
 
   -- where the first reply is there, the others have to come behind it
   pub goes_on : (name : List ℕ) (now : Database) (rest : Numbered) (total : Result Numbered ℕ)
-      → name ≡ t.now.name → now ≡ after_changes cat db (effect cat db t.now).changes
-      → passed number (lines_of (reply_lines name reply)) lines ≡ Ok rest
+      → name ≡ t.now.name → now ≡ after_changes cat db (effect cat db t.now).changes → passed number (lines_of (reply_lines name reply)) lines ≡ Ok rest
       → passed number (lines_of (replies_on cat db (map (λ u. u.now) (drop i txns)))) lines ≡ total
       → passed rest.0 (lines_of (replies_on cat now (map (λ u. u.now) (drop (i + 1) txns)))) rest.1 ≡ total
   goes_on name now rest total same is passes so_far =
@@ -76,8 +72,7 @@ module _ (cat : Catalogue) (db : Database) (txns : List (Bor Txn)) (i : ℕ) (t 
       ap (λ (d : Database). passed rest.0 (lines_of (replies_on cat d (map (λ u. u.now) (drop (i + 1) txns)))) rest.1) is
       ∙ sym (apart ∙ ap (λ (r : Result Numbered ℕ). r >>=
       λ more. passed more.0 (lines_of (replies_on cat next (map (λ u. u.now) (drop (i + 1) txns))))
-      more.1) here)
-      ∙ so_far
+      more.1) here) ∙ so_far
 
   -- where it isn't, its fault is that of all
   pub fails : (e : Flaw) (name : List ℕ) (total : Result Numbered ℕ) → name ≡ t.now.name
@@ -93,8 +88,7 @@ module _ (cat : Catalogue) (db : Database) (txns : List (Bor Txn)) (i : ℕ) (t 
       subst P (sym apart ∙ so_far) (fails_bind line_in e (passed number (lines_of (reply_lines t.now.name reply)) lines) more here)
 
 -- where no transaction is left, nothing has to come
-pub none_left : (cat : Catalogue) (db : Database) (txns : List (Bor Txn)) (i number : ℕ) (lines : List (List ℕ)) (total : Result Numbered ℕ)
-    → length txns ≤ i
+pub none_left : (cat : Catalogue) (db : Database) (txns : List (Bor Txn)) (i number : ℕ) (lines : List (List ℕ)) (total : Result Numbered ℕ) → length txns ≤ i
     → passed number (lines_of (replies_on cat db (map (λ u. u.now) (drop i txns)))) lines ≡ total → total ≡ Ok (number, lines)
 unfolding cut_lines
 none_left cat db txns i number lines total past so_far =

@@ -1,5 +1,5 @@
 -- The transactions that are submitted, event by event, and those that an order names.
-use Rattle.sdd_verify.proofs.All.{All, All-cons, All-head, All-nil, All-tail, Bor, Catalogue, Deliver, Down, Event, Fits, FitsStart, IsValid, IsValidRow, IsValidTxn, List, Lose, MAX_EVENTS, None, Option, Redeclare, RelNo, Repeat, Resend, Settle, Some, Submit, Tick, Txn, TxnNo, Up, Value, Workload, [], arith, filter_map, filter_map-append, get_or, length, length-map, map, refl, slice_get, submitted, submitted_by, subst, suc, sym, take, take_more, texts_of, txn_of, zero, ℕ, ◌++◌, ◌+◌, ◌-◌, ◌<◌, ◌∷◌, ◌≡◌, ◌≤◌}
+use Rattle.sdd_verify.proofs.All.{All, All-cons, All-head, All-nil, All-tail, Bor, Catalogue, Event, Fits, FitsStart, IsValid, IsValidRow, IsValidTxn, List, MAX_EVENTS, None, Option, RelNo, Some, Submit, Txn, TxnNo, Value, Workload, [], arith, filter_map, filter_map-append, get_or, length, length-map, map, refl, slice_get, submitted, submitted_by, subst, suc, sym, take, take_more, texts_of, txn_of, zero, ℕ, ◌++◌, ◌+◌, ◌-◌, ◌<◌, ◌∷◌, ◌≡◌, ◌≤◌}
 
 -- what a list gives that goes on by one member
 pub filter_map_more : {A B : Type 0} (f : A → Option B) (xs : List A) (i : ℕ) (d : A) → i < length xs
@@ -30,8 +30,7 @@ filter_map_length f (x ∷ xs) = given_length f x xs (f x) refl (filter_map_leng
 pub few_submitted : (work : Workload) → length work.events ≤ MAX_EVENTS → length (submitted work) ≤ MAX_EVENTS
 few_submitted work few = let most = filter_map_length (submitted_by work.txns) work.events in omega (arith, few, most)
 
-pub few_lent : (work : Workload) (txns : List (Bor Txn)) → length work.events ≤ MAX_EVENTS → map (λ t. t.now) txns ≡ submitted work
-    → length txns ≤ MAX_EVENTS
+pub few_lent : (work : Workload) (txns : List (Bor Txn)) → length work.events ≤ MAX_EVENTS → map (λ t. t.now) txns ≡ submitted work → length txns ≤ MAX_EVENTS
 few_lent work txns few is =
     let all = few_submitted work few in
     let same : length txns ≡ length (submitted work) = rw (← is) (sym (length-map txns (λ (t : Bor Txn). t.now))) in
@@ -59,15 +58,7 @@ all_given f P (x ∷ xs) each = given_more f P x xs (f x) refl (each x) (all_giv
 
 event_valid : (cat : Catalogue) (txns : List Txn) (e : Event) (t : Txn) → All (IsValidTxn cat) txns → submitted_by txns e ≡ Some t → IsValidTxn cat t
 event_valid cat txns (Submit number) t all is = found_member (IsValidTxn cat) txns (number.0 - 1) t all is
-event_valid cat txns (Deliver from to place) t all is = absurd cc
-event_valid cat txns (Lose from to place) t all is = absurd cc
-event_valid cat txns (Repeat from to place) t all is = absurd cc
-event_valid cat txns (Resend from to) t all is = absurd cc
-event_valid cat txns (Tick tm n) t all is = absurd cc
-event_valid cat txns Settle t all is = absurd cc
-event_valid cat txns Redeclare t all is = absurd cc
-event_valid cat txns (Down dm) t all is = absurd cc
-event_valid cat txns (Up dm) t all is = absurd cc
+event_valid cat txns _ t all is = absurd cc
 
 -- the transactions that a valid workload submits are valid
 pub submitted_valid : (cat : Catalogue) (work : Workload) → IsValid cat work → All (IsValidTxn cat) (submitted work)
@@ -90,8 +81,7 @@ lent_fit cat (t ∷ txns) all =
 
 -- those that an order names fit it too
 pub texts_fit : (cat : Catalogue) (work : Workload) (order : List TxnNo) (texts : List (Bor Txn))
-    → IsValid cat work → map (λ t. t.now) texts ≡ texts_of (submitted work) order
-    → All (λ (t : Bor Txn). Fits cat t.now) texts
+    → IsValid cat work → map (λ t. t.now) texts ≡ texts_of (submitted work) order → All (λ (t : Bor Txn). Fits cat t.now) texts
 texts_fit cat work order texts valid is =
     let fit = submitted_fit cat work valid in
     lent_fit cat texts (rw is (all_given (txn_of (submitted work)) (Fits cat) order

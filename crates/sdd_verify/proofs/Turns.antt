@@ -33,13 +33,12 @@ module _ (classes : List ℕ) where
   -- that it is another one need not be asked
   follows_by_class : (m n : TxnNo) (same class less : Bool) → (m.0 == n.0) ≡ same → (Class m == Class n) ≡ class → nat_lt m.0 n.0 ≡ less
       → (not same && (not class || less)) ≡ (not class || less)
-  follows_by_class m n false class less e f g = refl
-  follows_by_class m n true true false e f g = refl
   follows_by_class m n true true true e f g = let is = eqb-true m.0 n.0 e in let lt : m.0 < n.0 = ltb-true m.0 n.0 g in absurd (omega arith)
   follows_by_class m n true false less e f g =
       let is = same_number m n (eqb-true m.0 n.0 e) in
       let one : (Class m == Class n) ≡ true = eq-eqb (Class m) (Class n) (ap Class is) in
       absurd cc
+  follows_by_class m n _ _ _ e f g = refl
 
   by_class : (m n : TxnNo) → may_follow classes m n ≡ (not (Class m == Class n) || nat_lt m.0 n.0)
   by_class m n = follows_by_class m n (m.0 == n.0) (Class m == Class n) (nat_lt m.0 n.0) refl refl refl
@@ -102,18 +101,16 @@ module _ (classes : List ℕ) where
   -- so it alone is to be compared
 
   compared : (c : ℕ) (m n : TxnNo) (class less : Bool) (rest : Option ℕ) → Class n ≡ c → (Class m == c) ≡ class → nat_lt m.0 n.0 ≡ less
-      → ((p : ℕ) → rest ≡ Some p → class ≡ true → m.0 < p)
-      → ((not class || less) && allows rest n.0) ≡ allows (or_else rest (cond class (Some m.0) None)) n.0
+      → ((p : ℕ) → rest ≡ Some p → class ≡ true → m.0 < p) → ((not class || less) && allows rest n.0) ≡ allows (or_else rest (cond class (Some m.0) None)) n.0
   compared c m n false less (Some q) is e f above = refl
-  compared c m n true true (Some q) is e f above = refl
   compared c m n true false (Some q) is e f above =
       let lt = above q refl refl in
       elim (cases_Bool (nat_lt q n.0)) [
         | inl y ↦ let past : q < n.0 = ltb-true q n.0 y in let less : nat_lt m.0 n.0 ≡ true = lt-ltb m.0 n.0 (omega arith) in absurd cc
         | inr far ↦ sym far
       ]
-  compared c m n false less None is e f above = refl
   compared c m n true less None is e f above = and_true less ∙ sym f
+  compared c m n _ _ _ is e f above = refl
 
   pub followed : (order : List TxnNo) (n : TxnNo) → is_in_turn classes order ≡ true
       → list_all (λ m. may_follow classes m n) order ≡ allows (last_of (Class n) order) n.0
@@ -134,8 +131,7 @@ module _ (classes : List ℕ) where
   never_in_turn order [] h = rw append-nil h
   never_in_turn order (n ∷ rest) h =
       let more : is_in_turn classes (order ++ n ∷ []) ≡ false =
-      turn_more order n ∙ and_false (is_in_turn classes order)
-      (list_all (λ m. may_follow classes m n) order) h in
+      turn_more order n ∙ and_false (is_in_turn classes order) (list_all (λ m. may_follow classes m n) order) h in
       let all : (order ++ n ∷ []) ++ rest ≡ order ++ n ∷ rest = append_assoc order (n ∷ []) rest in
       subst (λ (l : List TxnNo). is_in_turn classes l ≡ false) all (never_in_turn (order ++ n ∷ []) rest more)
 

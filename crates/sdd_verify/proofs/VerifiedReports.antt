@@ -207,12 +207,10 @@ module _ (cat : Catalogue) (work : Workload) (report : List ℕ) where
       ∙ ap (λ (l : List (List ℕ)). v.before ++ l)
       (ap lines_of (line_is texts v.order (answers ++ next)) ∙ ap First (line_behind words (answers ++ next) line)
       ∙ ap (λ (l : List (List ℕ)). words ∷ l) (ap First (whole_behind answers next whole)
-      ∙ ap (λ (l : List (List ℕ)). lines_of answers ++ l)
-      (ap First (line_behind v.next v.rest v.next_line))))
+      ∙ ap (λ (l : List (List ℕ)). lines_of answers ++ l) (ap First (line_behind v.next v.rest v.next_line))))
 
   order_told_again : (number : ℕ) (order : List TxnNo) → IsValid cat work → All (IsThere texts) order
-      → IsInTurn Classes order → HaveNoSpace (map (name_in texts) order)
-      → order_told texts Classes number (words_in texts order) ≡ Ok order
+      → IsInTurn Classes order → HaveNoSpace (map (name_in texts) order) → order_told texts Classes number (words_in texts order) ≡ Ok order
   order_told_again number order valid there turn fine =
       let words : List (List ℕ) = map (name_in texts) order in
       let Rest : Result (List TxnNo) ℕ → Result (List TxnNo) ℕ = λ r. r >>= λ found. must number (is_in_turn Classes found) >>= λ _. Ok found in
@@ -233,20 +231,16 @@ module _ (cat : Catalogue) (work : Workload) (report : List ℕ) where
       let all : begun report ≡ Ok (1, lines_of report) = ap (λ (b : Bool). begun_if b report) (le-leb (length report) MAX_REPORT_BYTES v.small) in
       let lines = lines_again v (line_fine v.order names_are.1) in
       let found : order_line_in 1 (v.before ++ words ∷ behind) ≡ Ok (number, words, (number + 1, behind)) =
-      order_again 1 v.before words behind v.before_order
-      (is_order_line_again (map (name_in texts) v.order)) in
+      order_again 1 v.before words behind v.before_order (is_order_line_again (map (name_in texts) v.order)) in
       let told : order_told texts Classes number words ≡ Ok v.order = order_told_again number v.order valid v.are_submitted v.in_turn names_are.0 in
-      let came : passed (number + 1) (lines_of answers) behind ≡ Ok
-      (number + 1 + length (lines_of answers), v.next ∷ lines_of v.rest) =
+      let came : passed (number + 1) (lines_of answers) behind ≡ Ok (number + 1 + length (lines_of answers), v.next ∷ lines_of v.rest) =
       passed_again (number + 1) (lines_of answers) (v.next ∷ lines_of v.rest) in
       let other = v.next_other in
       let last : must (number + 1 + length (lines_of answers)) (ends_replies (v.next ∷ lines_of v.rest)) ≡ Ok tt = rw other refl in
-      ap (λ (r : Result Numbered ℕ). r >>= After1) all
-      ∙ ap (λ (l : List (List ℕ)). order_line_in 1 l >>= After2) lines
+      ap (λ (r : Result Numbered ℕ). r >>= After1) all ∙ ap (λ (l : List (List ℕ)). order_line_in 1 l >>= After2) lines
       ∙ ap (λ (r : Result (ℕ × List ℕ × Numbered) ℕ). r >>= After2) found
       ∙ ap (λ (r : Result (List TxnNo) ℕ). r >>= λ order. After3 order (number + 1) behind) told
-      ∙ ap (λ (r : Result Numbered ℕ). r >>= λ rest. must rest.0 (ends_replies rest.1)) came
-      ∙ last
+      ∙ ap (λ (r : Result Numbered ℕ). r >>= λ rest. must rest.0 (ends_replies rest.1)) came ∙ last
 
   pub verified_yes : IsValid cat work → IsVerified cat work report → verdict cat work report ≡ Yes
   verified_yes valid v = ap verdict_of (judged_again valid v)

@@ -29,16 +29,13 @@ behind_it (c ∷ cs) = elim (cases_Bool (is_space c)) [
   | inr other ↦ subst (λ n. EndsOrSpace (drop n (c ∷ cs))) (sym (place_on is_space c cs other)) (behind_it cs)
 ]
 
-cut_by : (text word behind : List ℕ) → text ≡ word ++ behind → All IsNoSpace word → EndsOrSpace behind
-    → words_of text ≡ word ∷ words_behind behind
+cut_by : (text word behind : List ℕ) → text ≡ word ++ behind → All IsNoSpace word → EndsOrSpace behind → words_of text ≡ word ∷ words_behind behind
 cut_by text word behind parted none ends =
     ap words_of parted ∙ elim ends [
       | inl empty ↦
           ap (λ l. words_of (word ++ l)) empty ∙ ap words_of (append-nil word) ∙ slice_split_none is_space word none
           ∙ ap (λ l. word ∷ words_behind l) (sym empty)
-      | inr more ↦
-          ap (λ l. words_of (word ++ l)) more.1 ∙ slice_split_at is_space word 32 more.0 none refl
-          ∙ ap (λ l. word ∷ words_behind l) (sym more.1)
+      | inr more ↦ ap (λ l. words_of (word ++ l)) more.1 ∙ slice_split_at is_space word 32 more.0 none refl ∙ ap (λ l. word ∷ words_behind l) (sym more.1)
     ]
 
 cut_is : (text : List ℕ) → words_of text ≡ take (place_of text) text ∷ words_behind (drop (place_of text) text)
@@ -60,21 +57,17 @@ cut_nowhere text e =
 abbrev left : List ℕ → List ℕ
 left rest = take (length rest - 1) (drop 1 rest)
 
-names_left : (rest name behind : List ℕ) → 0 < length rest → words_of (left rest) ≡ name ∷ words_behind behind
-    → words_behind rest ≡ name ∷ words_behind behind
+names_left : (rest name behind : List ℕ) → 0 < length rest → words_of (left rest) ≡ name ∷ words_behind behind → words_behind rest ≡ name ∷ words_behind behind
 names_left [] name behind some e = absurd (omega arith)
-names_left (c ∷ cs) name behind some e =
-    let all : left (c ∷ cs) ≡ cs = take_all _ _ (omega arith) in ap words_of (sym all) ∙ e
+names_left (c ∷ cs) name behind some e = let all : left (c ∷ cs) ≡ cs = take_all _ _ (omega arith) in ap words_of (sym all) ∙ e
 
 regroup : {B : Type 0} (front : List B) (y : B) (reading : Result (List B) ℕ)
     → with_front front (reading >>= (λ ys. Ok (y ∷ ys))) ≡ with_front (front ++ y ∷ []) reading
 regroup front y (Ok ys) = ap (λ zs. Ok zs) (sym (append_assoc front (y ∷ []) ys))
 regroup front y (Err fault) = refl
 
-pub name_read : {B : Type 0} (f : ℕ → List ℕ → Result B ℕ) (rest name behind : List ℕ) (front : List B) (y : B) (total : Result (List B) ℕ)
-    → 0 < length rest
-    → words_of (left rest) ≡ name ∷ words_behind behind → f (length front) name ≡ Ok y
-    → with_front front (along f (length front) (words_behind rest)) ≡ total
+pub name_read : {B : Type 0} (f : ℕ → List ℕ → Result B ℕ) (rest name behind : List ℕ) (front : List B) (y : B) (total : Result (List B) ℕ) → 0 < length rest
+    → words_of (left rest) ≡ name ∷ words_behind behind → f (length front) name ≡ Ok y → with_front front (along f (length front) (words_behind rest)) ≡ total
     → with_front (front ++ y ∷ []) (along f (length (front ++ y ∷ [])) (words_behind behind)) ≡ total
 name_read f rest name behind front y total some cut read so_far =
     let long : length (front ++ y ∷ []) ≡ length front + 1 = length-append front (y ∷ []) in

@@ -1,7 +1,4 @@
-use Rattle.std.specs.Prelude.{ℕ, List, Result}
-use Rattle.std.proofs.lemmas.Result.{err_from_is_err_and}
-use Rattle.sdd_script.specs.All.{TxnNo}
-use Rattle.sdd_verify.proofs.All.{along, arith, known, named, words_behind}
+use Rattle.sdd_verify.proofs.All.{List, Result, TxnNo, along, arith, err_from_is_err_and, known, named, words_behind, ℕ}
 use Rattle.sdd_verify.proofs.WordsCut.{name_fails, name_read, names_read}
 use Rattle.sdd_verify.proofs.order.numbers_in.Goals as goal
 
@@ -9,8 +6,7 @@ pub names-preserved : goal.names-preserved
 names-preserved c =
     let f : ℕ → List ℕ → Result TxnNo ℕ = λ n name. known c.args.line (named c.args.submitted.now name) in
     let read = name_read f c.names.rest.now c.cut_word.result.0.now c.cut_word.result.1.now c.names.order.items c.in_ok-number.number (along f 0
-    (words_behind c.args.names.now))
-    (omega arith) c.cut_word.ensures.cut c.in_ok-number.ensures c.names.invariant in
+    (words_behind c.args.names.now)) (omega arith) c.cut_word.ensures.cut c.in_ok-number.ensures c.names.invariant in
     rw c.in_ok-push.ensures.items read
 
 pub returns-in_err-number : goal.returns-in_err-number
