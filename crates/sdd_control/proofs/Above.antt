@@ -16,8 +16,7 @@ from_above_noted j i (x ∷ log) e =
           (subst (λ z. is_above j i z ≡ true) (sym h.2) (and_both (j == j) (nat_lt i h.0) (same_itself j) l))
     ]
 
-pub above_is_last : (backups writes : ℕ) (log : Log) → Kept backups writes log → (i j : ℕ)
-    → noted (is_above j i) log ≡ is_from_above (last log j) i
+pub above_is_last : (backups writes : ℕ) (log : Log) → Kept backups writes log → (i j : ℕ) → noted (is_above j i) log ≡ is_from_above (last log j) i
 above_is_last backups writes log k i j =
     elim (cases_Bool (noted (is_above j i) log)) [
       | inl e ↦

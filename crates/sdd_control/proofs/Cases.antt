@@ -5,26 +5,19 @@ use Rattle.sdd_control.proofs.Lists.{and_left, and_right, not_true}
 -- the event gives the note
 pub data Case (backups writes : ℕ) (log : Log) : Act → Note → Type 0 where
   tells : (i j : ℕ) (v : Val) → i ≤ backups → stopped log i ≡ false → heir log i ≡ true
-      → first_from (untold log i) (i + 1) (backups - i) ≡ Some j → value log i ≡ v
-      → Case backups writes log (Send i) (Tell i j v)
+      → first_from (untold log i) (i + 1) (backups - i) ≡ Some j → value log i ≡ v → Case backups writes log (Send i) (Tell i j v)
   writes_one : (i k : ℕ) → i ≤ backups → stopped log i ≡ false → heir log i ≡ true
-      → all_answered backups log i ≡ true → value log i ≡ All → unwritten writes log i ≡ Some k
-      → Case backups writes log (Send i) (Write i k)
-  finishes : (i : ℕ) (v : Val) → i ≤ backups → stopped log i ≡ false → heir log i ≡ true
-      → all_answered backups log i ≡ true → value log i ≡ v
+      → all_answered backups log i ≡ true → value log i ≡ All → unwritten writes log i ≡ Some k → Case backups writes log (Send i) (Write i k)
+  finishes : (i : ℕ) (v : Val) → i ≤ backups → stopped log i ≡ false → heir log i ≡ true → all_answered backups log i ≡ true → value log i ≡ v
       → (v ≡ All → unwritten writes log i ≡ None) → Case backups writes log (Send i) (Finish i v)
   idle : (i : ℕ) → Case backups writes log (Send i) Nothing
   empty : (i j : ℕ) → link log i j ≡ [] → Case backups writes log (Deliver i j) Nothing
   dropped : (i j : ℕ) → stopped log j ≡ true → Case backups writes log (Deliver i j) Dropped
-  learns : (i j : ℕ) (rest : List Message) → stopped log j ≡ false → link log i j ≡ GONE ∷ rest
-      → Case backups writes log (Deliver i j) (Gone j i)
-  hears : (i j : ℕ) (rest : List Message) → stopped log j ≡ false → link log i j ≡ OK ∷ rest
-      → Case backups writes log (Deliver i j) (Ok j i)
-  ignores : (i j : ℕ) (v : Val) (rest : List Message) → stopped log j ≡ false
-      → link log i j ≡ VALUE v ∷ rest → noted (is_above j i) log ≡ true
+  learns : (i j : ℕ) (rest : List Message) → stopped log j ≡ false → link log i j ≡ GONE ∷ rest → Case backups writes log (Deliver i j) (Gone j i)
+  hears : (i j : ℕ) (rest : List Message) → stopped log j ≡ false → link log i j ≡ OK ∷ rest → Case backups writes log (Deliver i j) (Ok j i)
+  ignores : (i j : ℕ) (v : Val) (rest : List Message) → stopped log j ≡ false → link log i j ≡ VALUE v ∷ rest → noted (is_above j i) log ≡ true
       → Case backups writes log (Deliver i j) (Ignored j)
-  takes : (i j : ℕ) (v : Val) (rest : List Message) → stopped log j ≡ false
-      → link log i j ≡ VALUE v ∷ rest → noted (is_above j i) log ≡ false
+  takes : (i j : ℕ) (v : Val) (rest : List Message) → stopped log j ≡ false → link log i j ≡ VALUE v ∷ rest → noted (is_above j i) log ≡ false
       → Case backups writes log (Deliver i j) (Value j i v)
   again : (i : ℕ) → Case backups writes log (Halt i) Nothing
   stops : (i : ℕ) → stopped log i ≡ false → Case backups writes log (Halt i) (Stop i)
@@ -33,13 +26,12 @@ module _ (backups writes : ℕ) (log : Log) where
   case_sends : (i : ℕ) (b : Bool) (to : Option ℕ) (all : Bool) (v : Val) (left : Option ℕ) → i ≤ backups
       → (leads log i && not (noted (is_finish i) log)) ≡ b → first_from (untold log i) (i + 1) (backups - i) ≡ to → all_answered backups log i ≡ all → value log i ≡ v → unwritten writes log i ≡ left
       → Case backups writes log (Send i) (send i b to all v left)
-  case_sends i false to all v left l e f g h k = idle i
   case_sends i true (Some j) all v left l e f g h k = let p = and_left (leads log i) (not (noted (is_finish i) log)) e in tells i j v l (not_true (stopped log i) (and_left (not (stopped log i)) (heir log i) p)) (and_right (not (stopped log i)) (heir log i) p) f h
-  case_sends i true None false v left l e f g h k = idle i
   case_sends i true None true All (Some n) l e f g h k = let p = and_left (leads log i) (not (noted (is_finish i) log)) e in writes_one i n l (not_true (stopped log i) (and_left (not (stopped log i)) (heir log i) p)) (and_right (not (stopped log i)) (heir log i) p) g h k
   case_sends i true None true All None l e f g h k = let p = and_left (leads log i) (not (noted (is_finish i) log)) e in finishes i All l (not_true (stopped log i) (and_left (not (stopped log i)) (heir log i) p)) (and_right (not (stopped log i)) (heir log i) p) g h (λ _. k)
   case_sends i true None true Unknown left l e f g h k = let p = and_left (leads log i) (not (noted (is_finish i) log)) e in finishes i Unknown l (not_true (stopped log i) (and_left (not (stopped log i)) (heir log i) p)) (and_right (not (stopped log i)) (heir log i) p) g h (λ q. absurd (cc))
   case_sends i true None true Nought left l e f g h k = let p = and_left (leads log i) (not (noted (is_finish i) log)) e in finishes i Nought l (not_true (stopped log i) (and_left (not (stopped log i)) (heir log i) p)) (and_right (not (stopped log i)) (heir log i) p) g h (λ q. absurd (cc))
+  case_sends i _ _ _ v left l e f g h k = idle i
 
   case_delivered : (i j : ℕ) (b : Bool) (xs : List Message) (c : Bool) → stopped log j ≡ b
       → link log i j ≡ xs → noted (is_above j i) log ≡ c → Case backups writes log (Deliver i j) (arrival b xs c i j)

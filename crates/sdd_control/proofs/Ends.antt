@@ -6,10 +6,8 @@ pub one_site_more : (log : Log) (old new whole : List ℕ) (i e : ℕ) → i < e
     → old ++ site_lines log i (e - i) ≡ whole → new ++ site_lines log (i + 1) (e - (i + 1)) ≡ whole
 one_site_more log old new whole i e l is h =
     let left : e - i ≡ suc (e - (i + 1)) = omega arith in
-    ap (λ z. z ++ site_lines log (i + 1) (e - (i + 1))) is
-    ∙ append_assoc old (site_line log i) (site_lines log (i + 1) (e - (i + 1)))
-    ∙ sym (ap (λ n. old ++ site_lines log i n) left)
-    ∙ h
+    ap (λ z. z ++ site_lines log (i + 1) (e - (i + 1))) is ∙ append_assoc old (site_line log i) (site_lines log (i + 1) (e - (i + 1)))
+    ∙ sym (ap (λ n. old ++ site_lines log i n) left) ∙ h
 
 -- no site is left
 pub all_sites : (log : Log) (text whole : List ℕ) (e : ℕ) → text ++ site_lines log e (e - e) ≡ whole → text ≡ whole

@@ -8,11 +8,9 @@ log_after-append : (backups writes : ℕ) (log : Log) (acts : List Act) (act : A
     → log_after backups writes log (acts ++ act ∷ [])
     ≡ happened backups writes (log_after backups writes log acts) act
 log_after-append backups writes log [] act = refl
-log_after-append backups writes log (x ∷ acts) act =
-    log_after-append backups writes (happened backups writes log x) acts act
+log_after-append backups writes log (x ∷ acts) act = log_after-append backups writes (happened backups writes log x) acts act
 
-pub FitAll-append : (backups : ℕ) (acts : List Act) (act : Act)
-    → FitAll backups acts → Fits backups act → FitAll backups (acts ++ act ∷ [])
+pub FitAll-append : (backups : ℕ) (acts : List Act) (act : Act) → FitAll backups acts → Fits backups act → FitAll backups (acts ++ act ∷ [])
 FitAll-append backups [] act f g = (g, tt)
 FitAll-append backups (x ∷ acts) act f g = (f.0, FitAll-append backups acts act f.1 g)
 
@@ -20,11 +18,9 @@ FitAll-append backups (x ∷ acts) act f g = (f.0, FitAll-append backups acts ac
 pub followed_note : (st : State) (acts : List Act) (act : Act) → Follows st acts → Fits st.backups act
     → note_in st act ≡ note_of st.backups st.writes (log_of st.backups st.writes acts) act
 followed_note st acts act f fits =
-    note_same st (log_of st.backups st.writes acts) f.tracks
-    (kept st.backups st.writes acts f.fit) (numbered st.backups st.writes acts f.fit) act fits
+    note_same st (log_of st.backups st.writes acts) f.tracks (kept st.backups st.writes acts f.fit) (numbered st.backups st.writes acts f.fit) act fits
 
-module _ (old mid new : State) (acts : List Act) (act : Act) (note : Note)
-    (f : Follows old acts) (fits : Fits old.backups act) (is : note ≡ note_in old act)
+module _ (old mid new : State) (acts : List Act) (act : Act) (note : Note) (f : Follows old acts) (fits : Fits old.backups act) (is : note ≡ note_in old act)
     (taking : Takes old mid act) (adding : Adds mid new note) where
   same_backups : new.backups ≡ old.backups
   same_backups = adding.backups ∙ ap (λ (z : State). z.backups) taking.others
@@ -32,13 +28,10 @@ module _ (old mid new : State) (acts : List Act) (act : Act) (note : Note)
   same_writes : new.writes ≡ old.writes
   same_writes = adding.writes ∙ ap (λ (z : State). z.writes) taking.others
 
-  log_on : log_of new.backups new.writes (acts ++ act ∷ [])
-      ≡ record { act = act; note = note } ∷ log_of old.backups old.writes acts
+  log_on : log_of new.backups new.writes (acts ++ act ∷ []) ≡ record { act = act; note = note } ∷ log_of old.backups old.writes acts
   log_on =
-      ap (λ z. log_of z new.writes (acts ++ act ∷ [])) same_backups
-      ∙ ap (λ z. log_of old.backups z (acts ++ act ∷ [])) same_writes
-      ∙ log_after-append old.backups old.writes [] acts act
-      ∙ ap (λ z. record { act = act; note = z } ∷ log_of old.backups old.writes acts)
+      ap (λ z. log_of z new.writes (acts ++ act ∷ [])) same_backups ∙ ap (λ z. log_of old.backups z (acts ++ act ∷ [])) same_writes
+      ∙ log_after-append old.backups old.writes [] acts act ∙ ap (λ z. record { act = act; note = z } ∷ log_of old.backups old.writes acts)
       (sym (is ∙ followed_note old acts act f fits))
 
   pub follows_on : Follows new (acts ++ act ∷ [])
@@ -50,20 +43,15 @@ module _ (old mid new : State) (acts : List Act) (act : Act) (note : Note)
 
   pub run_on : run_of new.backups new.writes (acts ++ act ∷ []) ≡ with_event (run_of old.backups old.writes acts) act
   run_on =
-      ap (λ z. run_of z new.writes (acts ++ act ∷ [])) same_backups
-      ∙ ap (λ z. run_of old.backups z (acts ++ act ∷ [])) same_writes
-      ∙ ap (λ z. record { backups = old.backups; writes = old.writes; log = z })
-      (log_after-append old.backups old.writes [] acts act)
+      ap (λ z. run_of z new.writes (acts ++ act ∷ [])) same_backups ∙ ap (λ z. run_of old.backups z (acts ++ act ∷ [])) same_writes
+      ∙ ap (λ z. record { backups = old.backups; writes = old.writes; log = z }) (log_after-append old.backups old.writes [] acts act)
 
 pub followed_count : (st : State) (acts : List Act) → Follows st acts
     → st.most ≡ count_from (λ k. noted (is_number k) (log_of st.backups st.writes acts)) 1 st.writes
-followed_count st acts f =
-    f.tracks.most
-    ∙ sym (count_written st.writes (log_of st.backups st.writes acts) (numbered st.backups st.writes acts f.fit))
+followed_count st acts f = f.tracks.most ∙ sym (count_written st.writes (log_of st.backups st.writes acts) (numbered st.backups st.writes acts f.fit))
 
 -- what contracts see of a control that is live
-module _ (st : State) (acts : List Act) (live : Bool) (seen : Live Run)
-    (view : record { live = live; value = run_of st.backups st.writes acts } ≡ seen)
+module _ (st : State) (acts : List Act) (live : Bool) (seen : Live Run) (view : record { live = live; value = run_of st.backups st.writes acts } ≡ seen)
     (keeps : live ≡ true → Follows st acts) (is_live : seen.live ≡ true) where
   pub follows_now : Follows st acts
   follows_now = keeps (ap (λ (z : Live Run). z.live) view ∙ is_live)
@@ -77,11 +65,8 @@ module _ (st : State) (acts : List Act) (live : Bool) (seen : Live Run)
   pub fits_now : (act : Act) → Fits seen.value.backups act → Fits st.backups act
   fits_now act f = subst (λ z. Fits z act) (sym backups_now) f
 
-  pub note_now : (act : Act) → Fits seen.value.backups act
-      → note_in st act ≡ note_of seen.value.backups seen.value.writes seen.value.log act
-  note_now act f =
-      followed_note st acts act follows_now (fits_now act f)
-      ∙ ap (λ (z : Run). note_of z.backups z.writes z.log act) run_now
+  pub note_now : (act : Act) → Fits seen.value.backups act → note_in st act ≡ note_of seen.value.backups seen.value.writes seen.value.log act
+  note_now act f = followed_note st acts act follows_now (fits_now act f) ∙ ap (λ (z : Run). note_of z.backups z.writes z.log act) run_now
 
   pub value_now : (i : ℕ) → i ≤ seen.value.backups → value_in st i ≡ value seen.value.log i
   value_now i l =
@@ -89,6 +74,4 @@ module _ (st : State) (acts : List Act) (live : Bool) (seen : Live Run)
       ∙ ap (λ (z : Run). value z.log i) run_now
 
   pub count_now : st.most ≡ count_from (λ k. noted (is_number k) seen.value.log) 1 seen.value.writes
-  count_now =
-      followed_count st acts follows_now
-      ∙ ap (λ (z : Run). count_from (λ k. noted (is_number k) z.log) 1 z.writes) run_now
+  count_now = followed_count st acts follows_now ∙ ap (λ (z : Run). count_from (λ k. noted (is_number k) z.log) 1 z.writes) run_now

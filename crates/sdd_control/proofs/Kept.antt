@@ -92,27 +92,23 @@ module _ (backups writes : ℕ) (log : Log) where
       → (rest : List Message) × (a ≡ Deliver i j) × (stopped log j ≡ false) × (link log i j ≡ GONE ∷ rest)
   gone_case a j i (learns _ _ rest p q) = (rest, refl, p, q)
 
-  pub ok_case : (a : Act) (j i : ℕ) → Case backups writes log a (Ok j i)
-      → (rest : List Message) × (link log i j ≡ OK ∷ rest)
+  pub ok_case : (a : Act) (j i : ℕ) → Case backups writes log a (Ok j i) → (rest : List Message) × (link log i j ≡ OK ∷ rest)
   ok_case a j i (hears _ _ rest p q) = (rest, q)
 
   pub value_case : (a : Act) (j i : ℕ) (v : Val) → Case backups writes log a (Value j i v)
       → (rest : List Message) × (stopped log j ≡ false) × (link log i j ≡ VALUE v ∷ rest) × (noted (is_above j i) log ≡ false)
   value_case a j i v (takes _ _ _ rest p q r) = (rest, p, q, r)
 
-  pub tell_case : (a : Act) (i j : ℕ) (v : Val) → Case backups writes log a (Tell i j v)
-      → (stopped log i ≡ false) × Sound log i j v
+  pub tell_case : (a : Act) (i j : ℕ) (v : Val) → Case backups writes log a (Tell i j v) → (stopped log i ≡ false) × Sound log i j v
   tell_case a i j v (tells _ _ _ l p q r s) = let f = first_at (untold log i) (i + 1) (backups - i) j r in (p, record { below = let g = f.0 in omega arith; heir = q; value = s })
 
   pub stop_case : (a : Act) (i : ℕ) → Case backups writes log a (Stop i) → stopped log i ≡ false
   stop_case a i (stops _ p) = p
 
-  pub write_case : (a : Act) (i k : ℕ) → Case backups writes log a (Write i k)
-      → Ready backups log i All × (unwritten writes log i ≡ Some k)
+  pub write_case : (a : Act) (i k : ℕ) → Case backups writes log a (Write i k) → Ready backups log i All × (unwritten writes log i ≡ Some k)
   write_case a i k (writes_one _ _ l p q r s t) = (record { within = l; heir = q; answers = r; value = s }, t)
 
-  pub finish_case : (a : Act) (i : ℕ) (v : Val) → Case backups writes log a (Finish i v)
-      → Ready backups log i v × (v ≡ All → unwritten writes log i ≡ None)
+  pub finish_case : (a : Act) (i : ℕ) (v : Val) → Case backups writes log a (Finish i v) → Ready backups log i v × (v ≡ All → unwritten writes log i ≡ None)
   finish_case a i v (finishes _ _ l p q r s t) = (record { within = l; heir = q; answers = r; value = s }, t)
 
 abbrev pub more : Log → Act → Note → Log
@@ -285,8 +281,7 @@ module _ (backups writes : ℕ) (log : Log) (a : Act) (n : Note) (c : Case backu
   wrote_on i m (inl e) = let h = write_case backups writes log a i m (subst (λ z. Case backups writes log a z) e c) in ready_on i All h.0
   wrote_on i m (inr s) = ready_on i All (k.wrote i m s)
 
-  all_written_on : (i m : ℕ) → Stands (more log a n) (Finish i All) → 1 ≤ m → m ≤ writes
-      → noted (is_write i m) (more log a n) ≡ true
+  all_written_on : (i m : ℕ) → Stands (more log a n) (Finish i All) → 1 ≤ m → m ≤ writes → noted (is_write i m) (more log a n) ≡ true
   all_written_on i m (inl e) l u =
       let h = finish_case backups writes log a i All (subst (λ z. Case backups writes log a z) e c) in
       let f = none_at (λ z. not (noted (is_write i z) log)) 1 writes m (h.1 refl) l (omega arith) in

@@ -29,7 +29,5 @@ module _ (backups writes : ℕ) (log : Log) (k : Kept backups writes log) where
   pub finish_known : (i : ℕ) (v : Val) → Stands log (Finish i v) → v ≢ Unknown
   finish_known i v s e = let r = k.finished i v s in known (suc i) i (omega arith) r.heir (r.value ∙ e)
 
-pub never_unknown_of : (backups writes : ℕ) (acts : List Act)
-    → FitAll backups acts → NeverUnknown (log_of backups writes acts)
-never_unknown_of backups writes acts f i s =
-    finish_known backups writes (log_of backups writes acts) (kept backups writes acts f) i Unknown s refl
+pub never_unknown_of : (backups writes : ℕ) (acts : List Act) → FitAll backups acts → NeverUnknown (log_of backups writes acts)
+never_unknown_of backups writes acts f i s = finish_known backups writes (log_of backups writes acts) (kept backups writes acts f) i Unknown s refl

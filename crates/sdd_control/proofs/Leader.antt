@@ -1,5 +1,5 @@
 -- Where nothing is left to do, the lowest site that hasn't stopped has finished.
-use Rattle.sdd_control.proofs.All.{Act, All, Bool, Deliver, FitAll, GONE, Gone, Halt, LeaderEnds, List, Log, Message, NoMessages, NoSends, None, Note, Nothing, Nought, OK, Ok, Option, Send, Some, T, Unknown, VALUE, Val, Value, [], all_answered, and_both, answered, ap, arith, cases_Bool, cond, drop, eqb-true, false, first_from, heir, inl, inr, is_above, is_finish, is_gone, is_ok, is_stop, is_tell, is_value, knows, leads, link, log_after, log_of, ltb→lt, nat_lt, not, note_of, noted, or_left, or_right, put, refl, send, stopped, subst, sym, taken, true, untold, unwritten, value, ℕ, ◌&&◌, ◌+◌, ◌-◌, ◌<◌, ◌==◌, ◌∙◌, ◌∷◌, ◌≡◌, ◌≢◌, ◌≤◌, ◌⊎◌}
+use Rattle.sdd_control.proofs.All.{Act, All, Bool, Deliver, FitAll, GONE, Gone, Halt, LeaderEnds, List, Log, Message, NoMessages, NoSends, None, Note, Nothing, OK, Ok, Option, Send, Some, T, VALUE, Val, Value, [], all_answered, and_both, answered, ap, arith, cases_Bool, cond, drop, eqb-true, false, first_from, heir, inl, inr, is_above, is_finish, is_gone, is_ok, is_stop, is_tell, is_value, knows, leads, link, log_after, log_of, ltb→lt, nat_lt, not, note_of, noted, or_left, or_right, put, refl, send, stopped, subst, sym, taken, true, untold, unwritten, value, ℕ, ◌&&◌, ◌+◌, ◌-◌, ◌<◌, ◌==◌, ◌∙◌, ◌∷◌, ◌≡◌, ◌≢◌, ◌≤◌, ◌⊎◌}
 use Rattle.sdd_control.proofs.Lists.{and_left, and_right, or_cases, not_both, every_all, none_at, Has, has_left, has_right}
 use Rattle.sdd_control.proofs.Cases.{Case, case_of}
 use Rattle.sdd_control.proofs.Cases.Case.{empty, dropped, learns, hears, ignores, takes}
@@ -24,8 +24,7 @@ pub record Flows (log : Log) : Type 0 where
   pub awaited : (i j : ℕ) → noted (is_tell i j) log ≡ true → Awaited log i j
 
 -- a message stays on its link, or is the first and arrival
-first_or : (i j : ℕ) (xs : List Message) (m : Message) → Has xs m
-    → Has (drop 1 xs) m ⊎ ((rest : List Message) × (xs ≡ m ∷ rest))
+first_or : (i j : ℕ) (xs : List Message) (m : Message) → Has xs m → Has (drop 1 xs) m ⊎ ((rest : List Message) × (xs ≡ m ∷ rest))
 first_or i j [] m h = elim h [ ]
 first_or i j (x ∷ xs) m (inl e) = inr (xs, ap (λ z. z ∷ xs) e)
 first_or i j (x ∷ xs) m (inr h) = inl h
@@ -65,8 +64,7 @@ module _ (backups writes : ℕ) (log : Log) where
   ok_comes i j n rest (ignores _ _ v r p q t) e = let s : VALUE v ∷ r ≡ OK ∷ rest = sym q ∙ e in absurd (cc)
   ok_comes i j n rest (takes _ _ v r p q t) e = let s : VALUE v ∷ r ≡ OK ∷ rest = sym q ∙ e in absurd (cc)
 
-  value_comes : (i j : ℕ) (n : Note) (w : Val) (rest : List Message)
-      → Case backups writes log (Deliver i j) n → link log i j ≡ VALUE w ∷ rest
+  value_comes : (i j : ℕ) (n : Note) (w : Val) (rest : List Message) → Case backups writes log (Deliver i j) n → link log i j ≡ VALUE w ∷ rest
       → ((v : Val) × (n ≡ Value j i v)) ⊎ (stopped log j ≡ true) ⊎ (noted (is_above j i) log ≡ true)
   value_comes i j n w rest (empty _ _ p) e = let q : [] ≡ VALUE w ∷ rest = sym p ∙ e in absurd (cc)
   value_comes i j n w rest (dropped _ _ p) e = inr (inl p)
@@ -76,8 +74,7 @@ module _ (backups writes : ℕ) (log : Log) where
   value_comes i j n w rest (takes _ _ v r p q t) e = inl (v, refl)
 
 -- a value of a site above i
-pub above_one : (j i : ℕ) (log : Log) → noted (is_above j i) log ≡ true
-    → (k : ℕ) × (i < k) × (noted (is_value j k) log ≡ true)
+pub above_one : (j i : ℕ) (log : Log) → noted (is_above j i) log ≡ true → (k : ℕ) × (i < k) × (noted (is_value j k) log ≡ true)
 above_one j i [] e = absurd (cc)
 above_one j i (x ∷ log) e =
     elim (or_cases (is_above j i x.note) (noted (is_above j i) log) e) [
@@ -89,8 +86,7 @@ above_one j i (x ∷ log) e =
     here (Value a b v) e = (b, ltb→lt i b (subst T (sym (and_right (a == j) (nat_lt i b) e)) tt), and_both (a == j) (b == b) (and_left (a == j) (nat_lt i b) e) (same_itself b))
     here _ e = absurd (cc)
 
-above_stopped : (backups writes : ℕ) (log : Log) → Kept backups writes log → (i j : ℕ)
-    → noted (is_above j i) log ≡ true → stopped log i ≡ true
+above_stopped : (backups writes : ℕ) (log : Log) → Kept backups writes log → (i j : ℕ) → noted (is_above j i) log ≡ true → stopped log i ≡ true
 above_stopped backups writes log k i j e =
     let g = above_one j i log e in
     let t = k.rising g.0 j g.2 in
@@ -187,14 +183,11 @@ flows backups writes acts f =
     flows_after backups writes [] acts (kept_nil backups writes) (record { missed = λ l j d e. absurd (cc); awaited = λ i j e. absurd (cc) }) f
 
 -- a leader that send nothing has told all, and lacks an answer
-no_send : (i : ℕ) (to : Option ℕ) (all : Bool) (v : Val) (left : Option ℕ)
-    → send i true to all v left ≡ Nothing → (to ≡ None) × (all ≡ false)
+no_send : (i : ℕ) (to : Option ℕ) (all : Bool) (v : Val) (left : Option ℕ) → send i true to all v left ≡ Nothing → (to ≡ None) × (all ≡ false)
 no_send i (Some j) all v left e = absurd (cc)
 no_send i None false v left e = (refl, refl)
 no_send i None true All (Some n) e = absurd (cc)
-no_send i None true All None e = absurd (cc)
-no_send i None true Unknown left e = absurd (cc)
-no_send i None true Nought left e = absurd (cc)
+no_send i None true _ _ e = absurd (cc)
 
 told_or_known : (a b : Bool) → (not a && not b) ≡ false → (a ≡ true) ⊎ (b ≡ true)
 told_or_known true b e = inl refl
@@ -246,8 +239,7 @@ module _ (backups writes : ℕ) (log : Log) (f : Flows log) (q : NoMessages back
             absurd (not_both (all_answered backups log m) all s.1)
       ]
 
-pub leader_ends_of : (backups writes : ℕ) (acts : List Act)
-    → FitAll backups acts → LeaderEnds backups writes (log_of backups writes acts)
+pub leader_ends_of : (backups writes : ℕ) (acts : List Act) → FitAll backups acts → LeaderEnds backups writes (log_of backups writes acts)
 leader_ends_of backups writes acts f q r m low =
     leader_finished backups writes (log_of backups writes acts) (flows backups writes acts f)
     q r m low.0 low.1 low.2

@@ -5,8 +5,7 @@ same_everywhere : {A : Type 0} (xs : List A) (n i : ℕ) (x : A) → xs ≡ repl
 same_everywhere xs n i x is within = ap (λ z. get_or z i x) is ∙ get_or-replicate n i x x within
 
 pub tracks_nothing : (st : State) → st.backups ≤ 8 → st.stopped ≡ replicate 9 false → st.finished ≡ replicate 9 false
-    → st.values ≡ replicate 9 None → st.numbers ≡ replicate 9 0
-    → st.known ≡ replicate 81 false → st.told ≡ replicate 81 false → st.heard ≡ replicate 81 false
+    → st.values ≡ replicate 9 None → st.numbers ≡ replicate 9 0 → st.known ≡ replicate 81 false → st.told ≡ replicate 81 false → st.heard ≡ replicate 81 false
     → st.links ≡ replicate 81 [] → st.most ≡ 0 → Tracks st []
 tracks_nothing st backups stopped finished values numbers known told heard links most = record {
   stopped = λ i l. same_everywhere st.stopped 9 i false stopped (omega arith);

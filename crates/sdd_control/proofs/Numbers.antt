@@ -27,8 +27,7 @@ number_cases i _ before = inl (refl, λ k. refl)
 write_same : (i k m : ℕ) (n : Note) → n ≡ Write i m → is_write i k n ≡ true → m ≡ k
 write_same i k m n e f = same m k (and_right (i == i) (m == k) (subst (λ z. is_write i k z ≡ true) e f))
 
-module _ (backups writes : ℕ) (log : Log) (a : Act) (n : Note)
-    (c : Case backups writes log a n) (h : Numbered writes log) where
+module _ (backups writes : ℕ) (log : Log) (a : Act) (n : Note) (c : Case backups writes log a n) (h : Numbered writes log) where
   -- a site writes the number after its last
   pub next_number : (i m : ℕ) → n ≡ Write i m → (m ≡ suc (last_number log i)) × (m ≤ writes)
   next_number i m e =
@@ -94,26 +93,19 @@ module _ (backups writes : ℕ) (log : Log) (a : Act) (n : Note)
   numbered_on = record { within = within_on; wrote = wrote_on; most = most_on }
 
 numbered_nil : (writes : ℕ) → Numbered writes []
-numbered_nil writes = record {
-  within = λ i k e. absurd (cc);
-  wrote = λ i k l u. absurd (omega arith);
-  most = λ i. omega arith;
-}
+numbered_nil writes = record { within = λ i k e. absurd (cc); wrote = λ i k l u. absurd (omega arith); most = λ i. omega arith }
 
 numbered_after : (backups writes : ℕ) (log : Log) (acts : List Act)
     → Numbered writes log → FitAll backups acts → Numbered writes (log_after backups writes log acts)
 numbered_after backups writes log [] h f = h
 numbered_after backups writes log (a ∷ acts) h f =
     let note = note_of backups writes log a in
-    numbered_after backups writes (more log a note) acts
-    (numbered_on backups writes log a note (case_of backups writes log a f.0) h) f.1
+    numbered_after backups writes (more log a note) acts (numbered_on backups writes log a note (case_of backups writes log a f.0) h) f.1
 
-pub numbered : (backups writes : ℕ) (acts : List Act)
-    → FitAll backups acts → Numbered writes (log_of backups writes acts)
+pub numbered : (backups writes : ℕ) (acts : List Act) → FitAll backups acts → Numbered writes (log_of backups writes acts)
 numbered backups writes acts f = numbered_after backups writes [] acts (numbered_nil writes) f
 
-greater : (b before : ℕ)
-    → ((cond (nat_lt before b) b before ≡ b) × (before ≤ b)) ⊎ ((cond (nat_lt before b) b before ≡ before) × (b ≤ before))
+greater : (b before : ℕ) → ((cond (nat_lt before b) b before ≡ b) × (before ≤ b)) ⊎ ((cond (nat_lt before b) b before ≡ before) × (b ≤ before))
 greater b before =
     elim (cases_lt before b) [
       | inl l ↦ inl (grind (arith, nat_tests), omega arith)
@@ -200,11 +192,9 @@ count_none : (p : ℕ → Bool) (g k n : ℕ) → ((j : ℕ) → k ≤ j → p j
 count_none p g k zero same l = refl
 count_none p g k (suc n) same l =
     let f : p k ≡ false = same k (omega arith) ∙ above_fails g k l in
-    ap (λ t. cond t (count_from p (k + 1) n + 1) (count_from p (k + 1) n)) f
-    ∙ count_none p g (k + 1) n (λ j m. same j (omega arith)) (omega arith)
+    ap (λ t. cond t (count_from p (k + 1) n + 1) (count_from p (k + 1) n)) f ∙ count_none p g (k + 1) n (λ j m. same j (omega arith)) (omega arith)
 
-count_up_to : (p : ℕ → Bool) (g k n : ℕ) → ((j : ℕ) → k ≤ j → p j ≡ nat_le j g)
-    → k ≤ g + 1 → g < k + n → count_from p k n + k ≡ g + 1
+count_up_to : (p : ℕ → Bool) (g k n : ℕ) → ((j : ℕ) → k ≤ j → p j ≡ nat_le j g) → k ≤ g + 1 → g < k + n → count_from p k n + k ≡ g + 1
 count_up_to p g k zero same l u = omega arith
 count_up_to p g k (suc n) same l u =
     elim (cases_lt g k) [
@@ -223,8 +213,7 @@ count_up_to p g k (suc n) same l u =
     ]
 
 -- how many numbers were written
-pub count_written : (writes : ℕ) (log : Log) → Numbered writes log
-    → count_from (λ k. noted (is_number k) log) 1 writes ≡ greatest log
+pub count_written : (writes : ℕ) (log : Log) → Numbered writes log → count_from (λ k. noted (is_number k) log) 1 writes ≡ greatest log
 count_written writes log h =
     let u = greatest_within writes log h in
     let e = count_up_to (λ k. noted (is_number k) log) (greatest log) 1 writes (λ k l. is_written writes log h k l) (omega arith) (omega arith) in

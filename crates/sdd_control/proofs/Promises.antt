@@ -11,8 +11,7 @@ kept_after backups writes log (a ∷ acts) k f =
     kept_after backups writes (more log a (note_of backups writes log a)) acts
     (kept_on backups writes log a (note_of backups writes log a) (case_of backups writes log a f.0) k) f.1
 
-pub kept : (backups writes : ℕ) (acts : List Act) → FitAll backups acts
-    → Kept backups writes (log_of backups writes acts)
+pub kept : (backups writes : ℕ) (acts : List Act) → FitAll backups acts → Kept backups writes (log_of backups writes acts)
 kept backups writes acts f = kept_after backups writes [] acts (kept_nil backups writes) f
 
 number_is : (i n : ℕ) (x : Note) → is_write i n x ≡ true → is_number n x ≡ true
@@ -30,8 +29,7 @@ number_noted i n (x ∷ xs) e =
 
 module _ (backups writes : ℕ) (log : Log) (k : Kept backups writes log) where
   -- who led when each higher site had answered gives its value to each later heir
-  pub agree : (n i : ℕ) (v : Val) → Ready backups log i v → (j : ℕ) → j < n → i < j → j ≤ backups
-      → heir log j ≡ true → value log j ≡ v
+  pub agree : (n i : ℕ) (v : Val) → Ready backups log i v → (j : ℕ) → j < n → i < j → j ≤ backups → heir log j ≡ true → value log j ≡ v
   agree zero i v r j b l u h = absurd (omega arith)
   agree (suc n) i v r j b l u h =
       let known = heir_at log j i h l in
@@ -72,12 +70,8 @@ module _ (backups writes : ℕ) (log : Log) (k : Kept backups writes log) where
 pub one_value_of : (backups writes : ℕ) (acts : List Act) → FitAll backups acts → OneValue (log_of backups writes acts)
 one_value_of backups writes acts f = one_value backups writes (log_of backups writes acts) (kept backups writes acts f)
 
-pub all_written_of : (backups writes : ℕ) (acts : List Act)
-    → FitAll backups acts → AllWritten writes (log_of backups writes acts)
-all_written_of backups writes acts f =
-    all_written backups writes (log_of backups writes acts) (kept backups writes acts f)
+pub all_written_of : (backups writes : ℕ) (acts : List Act) → FitAll backups acts → AllWritten writes (log_of backups writes acts)
+all_written_of backups writes acts f = all_written backups writes (log_of backups writes acts) (kept backups writes acts f)
 
-pub none_written_of : (backups writes : ℕ) (acts : List Act)
-    → FitAll backups acts → NoneWritten (log_of backups writes acts)
-none_written_of backups writes acts f =
-    none_written backups writes (log_of backups writes acts) (kept backups writes acts f)
+pub none_written_of : (backups writes : ℕ) (acts : List Act) → FitAll backups acts → NoneWritten (log_of backups writes acts)
+none_written_of backups writes acts f = none_written backups writes (log_of backups writes acts) (kept backups writes acts f)

@@ -59,8 +59,7 @@ put_tidy (Stop a) i j = tidy_cond ((a == i) && not (i == j)) GONE
 put_tidy _ i j = tt
 
 -- a note that puts something on a link from i is one of i
-pub put_by : (n : Note) (i j : ℕ)
-    → (put n i j ≡ []) ⊎ ((v : Val) × (n ≡ Tell i j v)) ⊎ ((v : Val) × (n ≡ Value i j v)) ⊎ (n ≡ Stop i)
+pub put_by : (n : Note) (i j : ℕ) → (put n i j ≡ []) ⊎ ((v : Val) × (n ≡ Tell i j v)) ⊎ ((v : Val) × (n ≡ Value i j v)) ⊎ (n ≡ Stop i)
 put_by (Tell a b w) i j =
     elim (cases_Bool ((a == i) && (b == j))) [
       | inl e ↦ let t = two a b i j e in let p = t.0 in let q = t.1 in inr (inl (w, cc))

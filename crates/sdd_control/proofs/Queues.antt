@@ -19,5 +19,4 @@ queue_changed change queues lists at old new view within is changed =
     get_or-map messages_of queues at old [] within_queues ∙ ap (λ (q : Queue). q.items) (sym is) in
     let new_items : new.items ≡ change (get_or lists at []) =
     changed ∙ ap change (sym old_items) ∙ ap (λ z. change (get_or z at [])) view in
-    map-set messages_of queues at new
-    ∙ ap (λ z. set z at new.items) view ∙ ap (set lists at) new_items
+    map-set messages_of queues at new ∙ ap (λ z. set z at new.items) view ∙ ap (set lists at) new_items

@@ -17,8 +17,7 @@ gets_on : {A B F : Type 0} (P : A → Type 0) (Q : B → Type 0) (reading : Resu
 gets_on P Q (Ok x) f h on = on x h
 gets_on P Q (Err fault) f h on = tt
 
-gets_known : {A F : Type 0} (P : A → Type 0) (rule : F) (o : Option A)
-    → ((x : A) → o ≡ Some x → P x) → Gets P (known rule o)
+gets_known : {A F : Type 0} (P : A → Type 0) (rule : F) (o : Option A) → ((x : A) → o ≡ Some x → P x) → Gets P (known rule o)
 gets_known P rule None h = tt
 gets_known P rule (Some x) h = h x refl
 
@@ -45,8 +44,7 @@ pub record IsDraft (draft : Draft) : Type 0 where
 within_range : (least most : ℕ) (o : Option ℤ) (n : ℕ) → within least most o ≡ Some n → (least ≤ n) × (n ≤ most)
 within_range least most (Some (pos m)) n e = by_test (nat_le least m) (nat_le m most) refl refl e
   where
-    by_test : (a b : Bool) → nat_le least m ≡ a → nat_le m most ≡ b
-        → cond (a && b) (Some m) None ≡ Some n → (least ≤ n) × (n ≤ most)
+    by_test : (a b : Bool) → nat_le least m ≡ a → nat_le m most ≡ b → cond (a && b) (Some m) None ≡ Some n → (least ≤ n) × (n ≤ most)
     by_test true true p q r =
         let s : m ≡ n = cc in
         let u : least ≤ m = leb→le least m (subst T (sym p) tt) in
@@ -65,33 +63,25 @@ number_gets least most (Quoted text) = tt
 head_gets : (words : List Word) → Gets IsHead (head_of words)
 head_gets (b ∷ w ∷ []) =
     gets_on (λ _. (is_free b && is_free w) ≡ true) IsHead (must BadLine (is_free b && is_free w))
-    (λ _. number_within 1 8 b >>= λ n. number_within 1 64 w >>= λ m. Ok (record { backups = n; writes = m }))
-    (gets_must BadLine (is_free b && is_free w))
+    (λ _. number_within 1 8 b >>= λ n. number_within 1 64 w >>= λ m. Ok (record { backups = n; writes = m })) (gets_must BadLine (is_free b && is_free w))
     (λ _ _. gets_on (λ n. (1 ≤ n) × (n ≤ 8)) IsHead (number_within 1 8 b)
-    (λ n. number_within 1 64 w >>= λ m. Ok (record { backups = n; writes = m }))
-    (number_gets 1 8 b)
+    (λ n. number_within 1 64 w >>= λ m. Ok (record { backups = n; writes = m })) (number_gets 1 8 b)
     (λ n in_n. gets_on (λ m. (1 ≤ m) × (m ≤ 64)) IsHead (number_within 1 64 w)
-    (λ m. Ok (record { backups = n; writes = m }))
-    (number_gets 1 64 w)
+    (λ m. Ok (record { backups = n; writes = m })) (number_gets 1 64 w)
     (λ m in_m. record { some_backups = in_n.0; most_backups = in_n.1; some_writes = in_m.0; most_writes = in_m.1 })))
 head_gets _ = tt
 
 site_gets : (backups : ℕ) (words : List Word) → Gets (λ i. i ≤ backups) (site_of backups words)
 site_gets backups (site ∷ []) =
     gets_on (λ _. is_free site ≡ true) (λ i. i ≤ backups) (must BadLine (is_free site))
-    (λ _. site_number site >>= λ i. must BadEvent (nat_le i backups) >>= λ _. Ok i)
-    (gets_must BadLine (is_free site))
+    (λ _. site_number site >>= λ i. must BadEvent (nat_le i backups) >>= λ _. Ok i) (gets_must BadLine (is_free site))
     (λ _ _. gets_on (λ i. (0 ≤ i) × (i ≤ 4294967295)) (λ i. i ≤ backups) (site_number site)
-    (λ i. must BadEvent (nat_le i backups) >>= λ _. Ok i)
-    (number_gets 0 4294967295 site)
+    (λ i. must BadEvent (nat_le i backups) >>= λ _. Ok i) (number_gets 0 4294967295 site)
     (λ i _. gets_on (λ _. nat_le i backups ≡ true) (λ z. z ≤ backups) (must BadEvent (nat_le i backups))
-    (λ _. Ok i)
-    (gets_must BadEvent (nat_le i backups))
-    (λ _ e. leb→le i backups (subst T (sym e) tt))))
+    (λ _. Ok i) (gets_must BadEvent (nat_le i backups)) (λ _ e. leb→le i backups (subst T (sym e) tt))))
 site_gets backups _ = tt
 
-linked_fits : (backups i j : ℕ) → (nat_le i backups && nat_le j backups && not (i == j)) ≡ true
-    → Fits backups (Deliver i j)
+linked_fits : (backups i j : ℕ) → (nat_le i backups && nat_le j backups && not (i == j)) ≡ true → Fits backups (Deliver i j)
 linked_fits backups i j e =
     let both = and_left (nat_le i backups && nat_le j backups) (not (i == j)) e in
     let other = and_right (nat_le i backups && nat_le j backups) (not (i == j)) e in (
@@ -109,31 +99,23 @@ delivery_gets backups (from ∷ to ∷ []) =
     (λ i. site_number to >>= λ j. must BadEvent (nat_le i backups && nat_le j backups && not (i == j)) >>= λ _. Ok (Deliver i j))
     (number_gets 0 4294967295 from)
     (λ i _. gets_on (λ j. (0 ≤ j) × (j ≤ 4294967295)) (Fits backups) (site_number to)
-    (λ j. must BadEvent (nat_le i backups && nat_le j backups && not (i == j)) >>= λ _. Ok (Deliver i j))
-    (number_gets 0 4294967295 to)
+    (λ j. must BadEvent (nat_le i backups && nat_le j backups && not (i == j)) >>= λ _. Ok (Deliver i j)) (number_gets 0 4294967295 to)
     (λ j _. gets_on (λ _. (nat_le i backups && nat_le j backups && not (i == j)) ≡ true) (Fits backups)
-    (must BadEvent (nat_le i backups && nat_le j backups && not (i == j)))
-    (λ _. Ok (Deliver i j))
-    (gets_must BadEvent (nat_le i backups && nat_le j backups && not (i == j)))
-    (λ _ e. linked_fits backups i j e))))
+    (must BadEvent (nat_le i backups && nat_le j backups && not (i == j))) (λ _. Ok (Deliver i j))
+    (gets_must BadEvent (nat_le i backups && nat_le j backups && not (i == j))) (λ _ e. linked_fits backups i j e))))
 delivery_gets backups _ = tt
 
-act_gets : (head : Head) (draft : Draft) (act : Act) → draft.stage ≡ Events head → IsDraft draft
-    → Fits head.backups act → Gets IsDraft (with_act draft act)
+act_gets : (head : Head) (draft : Draft) (act : Act) → draft.stage ≡ Events head → IsDraft draft → Fits head.backups act → Gets IsDraft (with_act draft act)
 act_gets head draft act at d f =
     let fits : IsHead head × FitAll head.backups draft.acts = subst (λ z. StageFits z draft.acts) at d.fits in
-    gets_on (λ _. nat_lt (length draft.acts) most_events ≡ true) IsDraft
-    (must (TooMany Event) (nat_lt (length draft.acts) most_events))
-    (λ _. Ok (record draft { acts = draft.acts ++ act ∷ [] }))
-    (gets_must (TooMany Event) (nat_lt (length draft.acts) most_events))
+    gets_on (λ _. nat_lt (length draft.acts) most_events ≡ true) IsDraft (must (TooMany Event) (nat_lt (length draft.acts) most_events))
+    (λ _. Ok (record draft { acts = draft.acts ++ act ∷ [] })) (gets_must (TooMany Event) (nat_lt (length draft.acts) most_events))
     (λ _ e. record {
-      few = let l : length draft.acts < 2 ^ 18 = ltb→lt (length draft.acts) (2 ^ 18) (subst T (sym e) tt) in omega
-          (arith, length-append draft.acts (act ∷ []));
+      few = let l : length draft.acts < 2 ^ 18 = ltb→lt (length draft.acts) (2 ^ 18) (subst T (sym e) tt) in omega (arith, length-append draft.acts (act ∷ []));
       fits = subst (λ z. StageFits z (draft.acts ++ act ∷ [])) (sym at) (fits.0, FitAll-append head.backups draft.acts act fits.1 f);
     })
 
-end_gets : (head : Head) (draft : Draft) (words : List Word) → draft.stage ≡ Events head → IsDraft draft
-    → Gets IsDraft (end_of head draft words)
+end_gets : (head : Head) (draft : Draft) (words : List Word) → draft.stage ≡ Events head → IsDraft draft → Gets IsDraft (end_of head draft words)
 end_gets head draft [] at d = record { few = d.few; fits = subst (λ z. StageFits z draft.acts) at d.fits }
 end_gets head draft _ at d = tt
 
@@ -151,12 +133,10 @@ event_gets keys.Stop head draft words at d =
 event_gets keys.End head draft words at d = end_gets head draft words at d
 event_gets keys.Control head draft words at d = tt
 
-first_gets : (key : Key) (draft : Draft) (words : List Word) → draft.stage ≡ First → IsDraft draft
-    → Gets IsDraft (head_rules key draft words)
+first_gets : (key : Key) (draft : Draft) (words : List Word) → draft.stage ≡ First → IsDraft draft → Gets IsDraft (head_rules key draft words)
 first_gets keys.Control draft words at d =
     let none : draft.acts ≡ [] = subst (λ z. StageFits z draft.acts) at d.fits in
-    gets_on IsHead IsDraft (head_of words) (λ head. Ok (record draft { stage = Events head }))
-    (head_gets words)
+    gets_on IsHead IsDraft (head_of words) (λ head. Ok (record draft { stage = Events head })) (head_gets words)
     (λ head h. record { few = d.few; fits = (h, subst (FitAll head.backups) (sym none) tt) })
 first_gets _ draft words at d = tt
 
@@ -170,22 +150,17 @@ words_gets : (draft : Draft) (words : List Word) → IsDraft draft → Gets IsDr
 words_gets draft [] d = tt
 words_gets draft (first ∷ words) d =
     gets_on (λ key. key_of first ≡ Some key) IsDraft (known BadLine (key_of first)) (λ key. key_rules draft.stage key draft words)
-    (gets_known (λ key. key_of first ≡ Some key) BadLine (key_of first) (λ key e. e))
-    (λ key _. key_gets draft.stage key draft words refl d)
+    (gets_known (λ key. key_of first ≡ Some key) BadLine (key_of first) (λ key e. e)) (λ key _. key_gets draft.stage key draft words refl d)
 
 line_gets : (draft : Draft) (line : List ℕ) → IsDraft draft → Gets IsDraft (line_rules draft line)
 unfolding line_rules
 line_gets draft line d =
-    gets_on (λ _. is_utf8 line ≡ true) IsDraft (must NotUtf8 (is_utf8 line))
-    (λ _. known BadLine (words_of line) >>= λ words. sound_rules draft words)
+    gets_on (λ _. is_utf8 line ≡ true) IsDraft (must NotUtf8 (is_utf8 line)) (λ _. known BadLine (words_of line) >>= λ words. sound_rules draft words)
     (gets_must NotUtf8 (is_utf8 line))
     (λ _ _. gets_on (λ words. words_of line ≡ Some words) IsDraft (known BadLine (words_of line))
-    (λ words. sound_rules draft words)
-    (gets_known (λ words. words_of line ≡ Some words) BadLine (words_of line) (λ words e. e))
+    (λ words. sound_rules draft words) (gets_known (λ words. words_of line ≡ Some words) BadLine (words_of line) (λ words e. e))
     (λ words _. gets_on (λ _. list_all is_sound words ≡ true) IsDraft (must BadLine (list_all is_sound words))
-    (λ _. words_rules draft words)
-    (gets_must BadLine (list_all is_sound words))
-    (λ _ _. words_gets draft words d)))
+    (λ _. words_rules draft words) (gets_must BadLine (list_all is_sound words)) (λ _ _. words_gets draft words d)))
 
 one_gets : (draft : Draft) (line : List ℕ) → IsDraft draft → Gets IsDraft (one_line draft line)
 one_gets draft line d = by_test (is_ended draft.stage)
@@ -198,23 +173,13 @@ no_script : (b : Bool) → Gets IsSound (cond b (Err NoEnd) (Err NotUtf8))
 no_script true = tt
 no_script false = tt
 
-tail_gets : (stage : Stage) (acts : List Act) (tail : List ℕ) → length acts ≤ 2 ^ 18 → StageFits stage acts
-    → Gets IsSound (tail_rules stage acts tail)
+tail_gets : (stage : Stage) (acts : List Act) (tail : List ℕ) → length acts ≤ 2 ^ 18 → StageFits stage acts → Gets IsSound (tail_rules stage acts tail)
 tail_gets (Ended head) acts [] few fits =
     let h = fits.0 in
-    record {
-      some_backups = h.some_backups;
-      most_backups = h.most_backups;
-      some_writes = h.some_writes;
-      most_writes = h.most_writes;
-      few = few;
-      fit = fits.1;
-    }
-tail_gets (Ended head) acts (c ∷ cs) few fits = tt
-tail_gets First acts [] few fits = tt
+    record { some_backups = h.some_backups; most_backups = h.most_backups; some_writes = h.some_writes; most_writes = h.most_writes; few = few; fit = fits.1 }
 tail_gets First acts (c ∷ cs) few fits = no_script (is_utf8 (c ∷ cs))
-tail_gets (Events head) acts [] few fits = tt
 tail_gets (Events head) acts (c ∷ cs) few fits = no_script (is_utf8 (c ∷ cs))
+tail_gets _ acts _ few fits = tt
 
 at_line_gets : {A : Type 0} (P : A → Type 0) (line : ℕ) (reading : Result A WorkRule)
     (read_on : A → Result ControlScript WorkFault)
@@ -222,8 +187,7 @@ at_line_gets : {A : Type 0} (P : A → Type 0) (line : ℕ) (reading : Result A 
 at_line_gets P line (Ok x) read_on h on = on x h
 at_line_gets P line (Err rule) read_on h on = tt
 
-walk_gets : (line : ℕ) (draft : Draft) (lines : List (List ℕ)) (tail : List ℕ) → IsDraft draft
-    → Gets IsSound (walk line draft lines tail)
+walk_gets : (line : ℕ) (draft : Draft) (lines : List (List ℕ)) (tail : List ℕ) → IsDraft draft → Gets IsSound (walk line draft lines tail)
 unfolding walk
 walk_gets line draft [] tail d =
     at_line_gets IsSound line (tail_rules draft.stage draft.acts tail) (λ script. Ok script)
@@ -237,8 +201,7 @@ script_gets bytes = by_test (nat_lt most_bytes (length bytes))
   where
     by_test : (b : Bool) → Gets IsSound (cond b (Err (record { line = 0; rule = TooLong })) (walk_bytes 1 nothing_read bytes))
     by_test true = tt
-    by_test false =
-        walk_gets 1 nothing_read (cut_lines bytes).0 (cut_lines bytes).1 (record { few = omega arith; fits = refl })
+    by_test false = walk_gets 1 nothing_read (cut_lines bytes).0 (cut_lines bytes).1 (record { few = omega arith; fits = refl })
 
 -- what was read is sound
 pub told_sound : (bytes : List ℕ) (r : Result ControlScript WorkError) → Tells r (control_script bytes) → IfOk r IsSound

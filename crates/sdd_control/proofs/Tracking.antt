@@ -1,19 +1,17 @@
 -- What the tables say is what the log says.
-use Rattle.sdd_control.proofs.All.{Act, Adds, All, Bool, Deliver, Fits, GONE, Halt, List, Log, Message, None, Note, NoteFits, Nothing, Nought, OK, Option, Send, Some, State, Stop, Takes, Tracks, Unknown, VALUE, Val, [], all_answered, answered, answered_in, ap, arith, arrival, arrival_in, cases_Bool, cases_lt, cond, every_from, false, finished, first_from, greatest_of, has_finished, has_heard, has_stopped, has_told, heir, heir_in, inl, inr, is_finish, is_from_above, is_gone, is_ok, is_stop, is_tell, is_write, knows, knows_in, last, last_number, last_number_in, last_number_of, last_of, leads, link, lt-ltb, may_send, messages_in, nat_lt, nat_tests, next_number_in, next_send, next_send_in, next_untold, not, note_in, note_of, noted, number_after, put, refl, send, stopped, suc, sym, taken, taken_in, true, untold, untold_in, unwritten, value, value_by, value_in, zero, ℕ, ◌&&◌, ◌++◌, ◌+◌, ◌-◌, ◌<◌, ◌==◌, ◌||◌, ◌∙◌, ◌∷◌, ◌≡◌, ◌≤◌}
+use Rattle.sdd_control.proofs.All.{Act, Adds, All, Bool, Deliver, Fits, GONE, Halt, List, Log, Message, None, Note, NoteFits, Nothing, OK, Option, Send, Some, State, Stop, Takes, Tracks, VALUE, Val, [], all_answered, answered, answered_in, ap, arith, arrival, arrival_in, cases_Bool, cases_lt, cond, every_from, false, finished, first_from, greatest_of, has_finished, has_heard, has_stopped, has_told, heir, heir_in, inl, inr, is_finish, is_from_above, is_gone, is_ok, is_stop, is_tell, is_write, knows, knows_in, last, last_number, last_number_in, last_number_of, last_of, leads, link, lt-ltb, may_send, messages_in, nat_lt, nat_tests, next_number_in, next_send, next_send_in, next_untold, not, note_in, note_of, noted, number_after, put, refl, send, stopped, suc, sym, taken, taken_in, true, untold, untold_in, unwritten, value, value_by, value_in, zero, ℕ, ◌&&◌, ◌++◌, ◌+◌, ◌-◌, ◌<◌, ◌==◌, ◌||◌, ◌∙◌, ◌∷◌, ◌≡◌, ◌≤◌}
 use Rattle.sdd_control.proofs.Above.{above_is_last}
 use Rattle.sdd_control.proofs.Kept.{Kept}
 use Rattle.sdd_control.proofs.Lists.{first_at}
 use Rattle.sdd_control.proofs.Numbers.{Numbered}
 
-pub every_same : (p q : ℕ → Bool) (k n : ℕ) → ((j : ℕ) → k ≤ j → j < k + n → p j ≡ q j)
-    → every_from p k n ≡ every_from q k n
+pub every_same : (p q : ℕ → Bool) (k n : ℕ) → ((j : ℕ) → k ≤ j → j < k + n → p j ≡ q j) → every_from p k n ≡ every_from q k n
 every_same p q k zero same = refl
 every_same p q k (suc n) same =
     ap (λ b. b && every_from p (k + 1) n) (same k (omega arith) (omega arith))
     ∙ ap (λ b. q k && b) (every_same p q (k + 1) n (λ j l m. same j (omega arith) (omega arith)))
 
-pub first_same : (p q : ℕ → Bool) (k n : ℕ) → ((j : ℕ) → k ≤ j → j < k + n → p j ≡ q j)
-    → first_from p k n ≡ first_from q k n
+pub first_same : (p q : ℕ → Bool) (k n : ℕ) → ((j : ℕ) → k ≤ j → j < k + n → p j ≡ q j) → first_from p k n ≡ first_from q k n
 first_same p q k zero same = refl
 first_same p q k (suc n) same =
     ap (λ b. cond b (Some k) (first_from p (k + 1) n)) (same k (omega arith) (omega arith))
@@ -31,8 +29,7 @@ first_after p c k (suc n) below here l =
           let e : k ≡ c + 1 = omega arith in
           let t : p k ≡ true = ap p e ∙ here in
           let f : nat_lt (c + 1) (k + suc n) ≡ true = lt-ltb (c + 1) (k + suc n) (omega arith) in
-          ap (λ b. cond b (Some k) (first_from p (k + 1) n)) t ∙ ap (λ (z : ℕ). Some z) e
-          ∙ sym (ap (λ t. cond {A = Option ℕ} t (Some (c + 1)) None) f)
+          ap (λ b. cond b (Some k) (first_from p (k + 1) n)) t ∙ ap (λ (z : ℕ). Some z) e ∙ sym (ap (λ t. cond {A = Option ℕ} t (Some (c + 1)) None) f)
       | inr m ↦
           let e : k + 1 + n ≡ k + suc n = omega arith in
           ap (λ b. cond b (Some k) (first_from p (k + 1) n)) (below k (omega arith) m)
@@ -44,11 +41,9 @@ above_one : (c writes : ℕ) → nat_lt (c + 1) (1 + writes) ≡ nat_lt c writes
 above_one c writes = grind (arith, nat_tests)
 
 -- the least number that i hasn't written is the one after its last
-number_after_last : (writes : ℕ) (log : Log) → Numbered writes log → (i : ℕ)
-    → unwritten writes log i ≡ number_after writes (last_number log i)
+number_after_last : (writes : ℕ) (log : Log) → Numbered writes log → (i : ℕ) → unwritten writes log i ≡ number_after writes (last_number log i)
 number_after_last writes log h i =
-    first_after test (last_number log i) 1 writes below here (omega arith)
-    ∙ ap (λ z. cond {A = Option ℕ} z (Some (last_number log i + 1)) None)
+    first_after test (last_number log i) 1 writes below here (omega arith) ∙ ap (λ z. cond {A = Option ℕ} z (Some (last_number log i + 1)) None)
     (above_one (last_number log i) writes)
   where
     test : ℕ → Bool
@@ -65,8 +60,7 @@ number_after_last writes log h i =
         ]
 
 send_same : (i : ℕ) {may may' : Bool} {to to' : Option ℕ} {all all' : Bool} {val val' : Val} {left left' : Option ℕ}
-    → may ≡ may' → to ≡ to' → all ≡ all' → val ≡ val' → left ≡ left'
-    → send i may to all val left ≡ send i may' to' all' val' left'
+    → may ≡ may' → to ≡ to' → all ≡ all' → val ≡ val' → left ≡ left' → send i may to all val left ≡ send i may' to' all' val' left'
 send_same i a b c d e = cc
 
 module _ (st : State) (log : Log) (t : Tracks st log) where
@@ -74,54 +68,37 @@ module _ (st : State) (log : Log) (t : Tracks st log) where
   heir_same i l = every_same (knows_in st i) (λ z. knows log i z) 0 i (λ j m u. t.known i j l (omega arith))
 
   pub value_same : (i : ℕ) → i ≤ st.backups → value_in st i ≡ value log i
-  value_same i l =
-      ap (λ z. value_by z (i == 0) (heir_in st i)) (t.values i l)
-      ∙ ap (value_by (last log i) (i == 0)) (heir_same i l)
+  value_same i l = ap (λ z. value_by z (i == 0) (heir_in st i)) (t.values i l) ∙ ap (value_by (last log i) (i == 0)) (heir_same i l)
 
   untold_same : (i j : ℕ) → i ≤ st.backups → j ≤ st.backups → untold_in st i j ≡ untold log i j
-  untold_same i j l m =
-      ap (λ z. not z && not (knows_in st i j)) (t.told i j l m)
-      ∙ ap (λ z. not (noted (is_tell i j) log) && not z) (t.known i j l m)
+  untold_same i j l m = ap (λ z. not z && not (knows_in st i j)) (t.told i j l m) ∙ ap (λ z. not (noted (is_tell i j) log) && not z) (t.known i j l m)
 
   answered_same : (i j : ℕ) → i ≤ st.backups → j ≤ st.backups → answered_in st i j ≡ answered log i j
-  answered_same i j l m =
-      ap (λ z. z || knows_in st i j) (t.heard i j l m)
-      ∙ ap (λ z. noted (is_ok i j) log || z) (t.known i j l m)
+  answered_same i j l m = ap (λ z. z || knows_in st i j) (t.heard i j l m) ∙ ap (λ z. noted (is_ok i j) log || z) (t.known i j l m)
 
-  next_untold_same : (i : ℕ) → i ≤ st.backups
-      → first_from (untold_in st i) (i + 1) (st.backups - i) ≡ next_untold st.backups log i
-  next_untold_same i l =
-      first_same (untold_in st i) (untold log i) (i + 1) (st.backups - i)
-      (λ j m u. untold_same i j l (omega arith))
+  next_untold_same : (i : ℕ) → i ≤ st.backups → first_from (untold_in st i) (i + 1) (st.backups - i) ≡ next_untold st.backups log i
+  next_untold_same i l = first_same (untold_in st i) (untold log i) (i + 1) (st.backups - i) (λ j m u. untold_same i j l (omega arith))
 
-  all_answered_same : (i : ℕ) → i ≤ st.backups
-      → every_from (answered_in st i) (i + 1) (st.backups - i) ≡ all_answered st.backups log i
-  all_answered_same i l =
-      every_same (answered_in st i) (answered log i) (i + 1) (st.backups - i)
-      (λ j m u. answered_same i j l (omega arith))
+  all_answered_same : (i : ℕ) → i ≤ st.backups → every_from (answered_in st i) (i + 1) (st.backups - i) ≡ all_answered st.backups log i
+  all_answered_same i l = every_same (answered_in st i) (answered log i) (i + 1) (st.backups - i) (λ j m u. answered_same i j l (omega arith))
 
   may_send_same : (i : ℕ) → i ≤ st.backups → may_send st i ≡ (leads log i && not (finished log i))
   may_send_same i l =
       ap (λ z. not z && heir_in st i && not (has_finished st i)) (t.stopped i l)
-      ∙ ap (λ z. not (stopped log i) && z && not (has_finished st i)) (heir_same i l)
-      ∙ ap (λ z. leads log i && not z) (t.finished i l)
+      ∙ ap (λ z. not (stopped log i) && z && not (has_finished st i)) (heir_same i l) ∙ ap (λ z. leads log i && not z) (t.finished i l)
 
   next_number_same : Numbered st.writes log → (i : ℕ) → i ≤ st.backups → next_number_in st i ≡ unwritten st.writes log i
   next_number_same h i l = ap (number_after st.writes) (t.numbers i l) ∙ sym (number_after_last st.writes log h i)
 
-  next_send_same : Numbered st.writes log → (i : ℕ) → i ≤ st.backups
-      → next_send_in st i ≡ next_send st.backups st.writes log i
-  next_send_same h i l =
-      send_same i (may_send_same i l) (next_untold_same i l) (all_answered_same i l)
-      (value_same i l) (next_number_same h i l)
+  next_send_same : Numbered st.writes log → (i : ℕ) → i ≤ st.backups → next_send_in st i ≡ next_send st.backups st.writes log i
+  next_send_same h i l = send_same i (may_send_same i l) (next_untold_same i l) (all_answered_same i l) (value_same i l) (next_number_same h i l)
 
   arrival_same : Kept st.backups st.writes log → (i j : ℕ) → i ≤ st.backups → j ≤ st.backups
       → arrival_in st i j ≡ note_of st.backups st.writes log (Deliver i j)
   arrival_same k i j l m =
       ap (λ z. arrival z (messages_in st i j) (is_from_above (taken_in st j) i) i j) (t.stopped j m)
       ∙ ap (λ z. arrival (stopped log j) z (is_from_above (taken_in st j) i) i j) (t.links i j l m)
-      ∙ ap (λ z. arrival (stopped log j) (link log i j) (is_from_above z i) i j) (t.values j m)
-      ∙ ap (λ z. arrival (stopped log j) (link log i j) z i j)
+      ∙ ap (λ z. arrival (stopped log j) (link log i j) (is_from_above z i) i j) (t.values j m) ∙ ap (λ z. arrival (stopped log j) (link log i j) z i j)
       (sym (above_is_last st.backups st.writes log k i j))
 
   pub note_same : Kept st.backups st.writes log → Numbered st.writes log → (act : Act)
@@ -133,13 +110,10 @@ module _ (st : State) (log : Log) (t : Tracks st log) where
 -- the sites of a note exist
 send_fits : (backups i : ℕ) (may : Bool) (to : Option ℕ) (all : Bool) (val : Val) (left : Option ℕ)
     → i ≤ backups → ((j : ℕ) → to ≡ Some j → j ≤ backups) → NoteFits backups (send i may to all val left)
-send_fits backups i false to all val left l m = tt
 send_fits backups i true (Some j) all val left l m = (l, m j refl)
-send_fits backups i true None false val left l m = tt
 send_fits backups i true None true All (Some k) l m = l
-send_fits backups i true None true All None l m = l
-send_fits backups i true None true Unknown left l m = l
-send_fits backups i true None true Nought left l m = l
+send_fits backups i true None true _ _ l m = l
+send_fits backups i _ _ _ val left l m = tt
 
 arrival_fits : (backups : ℕ) (halted : Bool) (messages : List Message) (above : Bool) (i j : ℕ)
     → i ≤ backups → j ≤ backups → NoteFits backups (arrival halted messages above i j)
@@ -159,8 +133,7 @@ note_fits st (Send i) l =
     send_fits st.backups i (may_send st i) (first_from (untold_in st i) (i + 1) (st.backups - i))
     (every_from (answered_in st i) (i + 1) (st.backups - i)) (value_in st i) (next_number_in st i) l
     (λ j e. let f = first_at (untold_in st i) (i + 1) (st.backups - i) j e in let u = f.1 in omega arith)
-note_fits st (Deliver i j) f =
-    arrival_fits st.backups (has_stopped st j) (messages_in st i j) (is_from_above (taken_in st j) i) i j f.0 f.1
+note_fits st (Deliver i j) f = arrival_fits st.backups (has_stopped st j) (messages_in st i j) (is_from_above (taken_in st j) i) i j f.0 f.1
 note_fits st (Halt i) l = halt_fits st.backups i (has_stopped st i) l
 
 -- the tables follow the log with one event more

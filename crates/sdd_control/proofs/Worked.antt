@@ -4,14 +4,11 @@ use Rattle.sdd_control.proofs.All.{Act, All, Deliver, Finish, Gone, Halt, List, 
 -- the notes that events get, the first to happen first
 abbrev notes_after : ℕ → ℕ → Log → List Act → List Note
 notes_after backups writes log [] = []
-notes_after backups writes log (act ∷ acts) =
-    note_of backups writes log act ∷ notes_after backups writes (happened backups writes log act) acts
+notes_after backups writes log (act ∷ acts) = note_of backups writes log act ∷ notes_after backups writes (happened backups writes log act) acts
 
 -- the committer tells site 1 and stops; site 1 carries the commit on
 abbrev carried : List Act
-carried =
-    Send 0 ∷ Deliver 0 1 ∷ Halt 0 ∷ Deliver 0 1 ∷ Send 1 ∷ Deliver 0 2 ∷ Deliver 1 2
-    ∷ Deliver 2 1 ∷ Send 1 ∷ Send 1 ∷ Send 1 ∷ []
+carried = Send 0 ∷ Deliver 0 1 ∷ Halt 0 ∷ Deliver 0 1 ∷ Send 1 ∷ Deliver 0 2 ∷ Deliver 1 2 ∷ Deliver 2 1 ∷ Send 1 ∷ Send 1 ∷ Send 1 ∷ []
 
 carried_notes : notes_after 2 2 [] carried
     ≡ Tell 0 1 All ∷ Value 1 0 All ∷ Stop 0 ∷ Gone 1 0 ∷ Tell 1 2 All ∷ Gone 2 0 ∷ Value 2 1 All
@@ -21,8 +18,7 @@ carried_notes = refl
 carried_values : value (log_of 2 2 carried) 1 ∷ value (log_of 2 2 carried) 2 ∷ [] ≡ All ∷ All ∷ []
 carried_values = refl
 
-carried_ends : stopped (log_of 2 2 carried) 0 ∷ finished (log_of 2 2 carried) 1 ∷ finished (log_of 2 2 carried) 2 ∷ []
-    ≡ true ∷ true ∷ false ∷ []
+carried_ends : stopped (log_of 2 2 carried) 0 ∷ finished (log_of 2 2 carried) 1 ∷ finished (log_of 2 2 carried) 2 ∷ [] ≡ true ∷ true ∷ false ∷ []
 carried_ends = refl
 
 carried_writes : written (run_of 2 2 carried) ≡ 2
@@ -43,12 +39,11 @@ abbrev log_given_up : Log
 log_given_up = log_of 1 3 given_up
 
 no_messages : NoMessages 1 log_given_up
-no_messages zero zero p q n e = absurd (n refl)
 no_messages zero (suc zero) p q n e = refl
 no_messages (suc zero) zero p q n e = absurd (cc)
-no_messages (suc zero) (suc zero) p q n e = absurd (n refl)
 no_messages (suc (suc i)) j p q n e = absurd (omega arith)
 no_messages i (suc (suc j)) p q n e = absurd (omega arith)
+no_messages _ _ p q n e = absurd (n refl)
 
 no_sends : NoSends 1 3 log_given_up
 no_sends zero p e = absurd (cc)

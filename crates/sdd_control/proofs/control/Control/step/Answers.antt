@@ -10,8 +10,7 @@ add-requires-clause-fits c =
     fits_now st c.self.inside.acts.items c.self.inside.live c.args.self.now
     c.self.view_is c.self.invariant c.requires.live c.args.act.now c.requires.fits in
     let same : c.take.new.self.backups ≡ st.backups = ap (λ (z : State). z.backups) c.take.ensures.others in
-    subst (λ z. NoteFits z c.note-note.result) (sym same)
-    (subst (NoteFits st.backups) (sym c.note-note.ensures) (note_fits st c.args.act.now fits))
+    subst (λ z. NoteFits z c.note-note.result) (sym same) (subst (NoteFits st.backups) (sym c.note-note.ensures) (note_fits st c.args.act.now fits))
 
 pub invariant_of-self-2 : goal.invariant_of-self-2
 invariant_of-self-2 c live =
@@ -29,8 +28,7 @@ invariant_of-self-2 c live =
 
 pub returns-clause-note : goal.returns-clause-note
 returns-clause-note c =
-    c.note-note.ensures
-    ∙ note_now c.self.inside.state c.self.inside.acts.items c.self.inside.live c.args.self.now
+    c.note-note.ensures ∙ note_now c.self.inside.state c.self.inside.acts.items c.self.inside.live c.args.self.now
     c.self.view_is c.self.invariant c.requires.live c.args.act.now c.requires.fits
 
 pub returns-clause-after : goal.returns-clause-after
@@ -49,7 +47,6 @@ returns-clause-after c =
     ap (λ (z : Run). record { live = true; value = z })
     (pushed
     ∙ run_on st c.take.new.self c.add.new.self acts c.args.act.now c.note-note.result
-    follows fits c.note-note.ensures c.take.ensures c.in_ok-add.ensures
-    ∙ ap (λ (z : Run). with_event z c.args.act.now)
+    follows fits c.note-note.ensures c.take.ensures c.in_ok-add.ensures ∙ ap (λ (z : Run). with_event z c.args.act.now)
     (run_now st acts c.self.inside.live c.args.self.now
     c.self.view_is c.self.invariant c.requires.live))
