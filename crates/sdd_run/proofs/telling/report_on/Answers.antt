@@ -7,8 +7,10 @@ pub serial_order-requires : goal.serial_order-requires
 serial_order-requires c =
     let given = c.requires.0 in
     let s = c.requires.3 in
-    subst (λ cat. IsOrderable cat c.as_slice-history.result.now) (sym (c.whole-catalogue.ensures given c.requires.1 s))
-    (subst (IsOrderable given.catalogue) (sym (c.as_slice-history.ensures ∙ c.history.ensures given c.requires.1 s)) c.requires.2)
+    record {
+      orderable = subst (λ cat. IsOrderable cat c.as_slice-history.result.now) (sym (c.whole-catalogue.ensures given c.requires.1 s))
+          (subst (IsOrderable given.catalogue) (sym (c.as_slice-history.ensures ∙ c.history.ensures given c.requires.1 s)) c.requires.2);
+    }
 
 pub returns : goal.returns
 returns c =
