@@ -1,7 +1,7 @@
 #!/usr/bin/env bash
 # Installs sdd1: the program, its manual page, and completions for bash, zsh and fish.
 #
-#   tools/install.sh [PREFIX]               proves all crates, builds the program, and installs it (1 to 2 hours, 7 GB)
+#   tools/install.sh [PREFIX]               proves all crates, builds the program, and installs it (hours, 10 GB)
 #   tools/install.sh --unproved [PREFIX]    builds it without its proof, in minutes, as sdd1-unproved
 #   tools/install.sh --uninstall [PREFIX]   removes what either of them installed
 #
