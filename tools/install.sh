@@ -1,11 +1,11 @@
 #!/usr/bin/env bash
 # Installs sdd1: the program, its manual page, and completions for bash, zsh and fish.
 #
-#   tools/install.sh [PREFIX]               proves all crates, builds the program, and installs it (hours, 10 GB)
+#   tools/install.sh [PREFIX]               passes the gate (rt ci), which builds the program, and installs it (hours, 10 GB)
 #   tools/install.sh --unproved [PREFIX]    builds it without its proof, in minutes, as sdd1-unproved
 #   tools/install.sh --uninstall [PREFIX]   removes what either of them installed
 #
-# PREFIX is ~/.local if left out. What earlier proofs left in crates/*/out is used, so a second call is quick.
+# PREFIX is ~/.local if left out. What rt ci passed on this machine before is taken, so a second call takes minutes.
 # Needs the kit's rt; --unproved also python3 and gcc.
 set -euo pipefail
 root=$(cd "$(dirname "$0")/.." && pwd)
@@ -42,8 +42,8 @@ if [[ $mode == unproved ]]; then
   python3 "$root/tools/build_unproved.py" "$prefix/bin/$name" >/dev/null
 else
   name=sdd1
-  (cd "$root" && rt all check --jobs "$(nproc)") || refuse "a crate is not proved, so nothing was installed"
-  (cd "$root/crates/sdd1" && rt run -- check data/own.toml >/dev/null) || refuse "the program was not built, so nothing was installed"
+  (cd "$root" && rt ci) || refuse "the gate does not pass, so nothing was installed"
+  [[ -x $root/crates/sdd1/out/sdd1 ]] || refuse "the program was not built, so nothing was installed"
   install -m 755 "$root/crates/sdd1/out/sdd1" "$prefix/bin/$name"
 fi
 
