@@ -8,3 +8,4 @@ pub mod Ranges
 pub mod Sorting
 pub mod Standing
 pub mod Uses
+pub mod Writing

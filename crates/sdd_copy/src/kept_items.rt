@@ -1,8 +1,9 @@
 //! A fragment's items in memory, which can be looked at by ranges of keys.
-ghost use Rattle.std.specs.Prelude.{◌≡◌, [], ◌∷◌, All, IsTrue, IfSome, OnOk, filter, fold};
+ghost use Rattle.std.specs.Prelude.{◌≡◌, [], ◌∷◌, All, IsTrue, IfSome, OnErr, OnOk, cond, filter, fold};
 ghost use Rattle.std.specs.Option.{option_copied};
 ghost use Rattle.std.specs.Ordering.{int_cmp};
-ghost use Rattle.std.specs.BTreeMap.{insert_entry};
+ghost use Rattle.std.specs.BTreeMap.{insert_entry, is_at};
+ghost use Rattle.std.specs.Map.{lookup};
 ghost use Rattle.sdd_lang.specs.All.{FragNo, Int, all_keys, column, common, number_in};
 ghost use Rattle.sdd_copy.specs.Items.{written, initial, is_newer, row_in, row_of_item};
 ghost use Rattle.sdd_copy.specs.Keyed.{HasKey, IsNear, is_within, one_at};
@@ -70,10 +71,9 @@ impl KeptItems {
     pub(crate) fn write(&mut self, ts: Ts, change: Change) -> Result<(), NoMemory>
         ensures { OnOk result (self.new ≡ written self.old (ts.0, change)) }
     {
-        if is_newer(ts.0, self.items.get(&change.key)) {
-            self.put((change.key, (ts.0, change.row)))?;
-        }
-        Ok(())
+        let item = (change.key, (ts.0, change.row));
+        self.keyed = keyed_with(self.keyed, self.key, &item);
+        write_at(&mut self.items, item)
     }
 
     /// Adds a row with the date 0, where none with its key is there. Costs O(log n), and time in the
@@ -140,6 +140,30 @@ impl KeptItems {
             return Keys::all();
         }
         allowed_keys(self.key, restrictions)
+    }
+}
+
+/// The write rule in a map. Searches once where the item is there, and twice where it is new.
+fn write_at(
+    items: &mut BTreeMap<i64, (u64, Option<Row>)>,
+    item: (i64, (u64, Option<Row>)),
+) -> Result<(), NoMemory>
+    ensures ok { OnOk result (items.new.entries
+        ≡ cond (is_newer item.1.0 (lookup (is_at (int_cmp item.0)) items.old.entries))
+        (insert_entry int_cmp items.old.entries item.0 item.1) items.old.entries) }
+    ensures same { OnErr result (items.new.entries ≡ items.old.entries) }
+{
+    match items.get_mut(&item.0) {
+        Some(kept) => {
+            if kept.0 < item.1.0 {
+                *kept = item.1;
+            }
+            Ok(())
+        }
+        None => {
+            items.insert(item.0, item.1)?;
+            Ok(())
+        }
     }
 }
 
