@@ -34,7 +34,7 @@ pub written_older : (items new : Items) (k : ℤ) (item kept : ℕ × Option (Li
     → new ≡ set_value (is_at (int_cmp k)) items kept
     → new ≡ cond (is_newer item.0 (lookup (is_at (int_cmp k)) items)) (insert_entry int_cmp items k item) items
 written_older items new k item kept there least made =
-    let older : is_newer item.0 (lookup (is_at (int_cmp k)) items) ≡ false = ap (is_newer item.0) there ∙ le-ltb item.0 kept.0 least in
+    let older : is_newer item.0 (lookup (is_at (int_cmp k)) items) ≡ false = ap (is_newer item.0) there ∙ le-ltb kept.0 item.0 least in
     rw older (made ∙ set_value_same (is_at (int_cmp k)) items kept there)
 
 -- what items keep where one is written, by whether it is newer
