@@ -254,3 +254,24 @@ pub all_roots : (old now found : List ℕ) (node : ℕ) → AreRootsSoFar old no
     → length old ≡ node → (labels : List ℕ) → AreRoots old labels → found ≡ labels
 all_roots old now found node s n labels r =
     ext_get_or 0 found labels (s.count ∙ sym n ∙ sym r.one_each) (λ v h. (s.labels labels r).1 v (omega (arith, s.count)))
+
+-- a label that is replaced by itself stays
+replaced-itself : (old new label : ℕ) → old ≡ new → label ≡ replaced old new label
+replaced-itself old new label e = grind (arith, nat_tests)
+
+-- nodes with one parent are in one set already
+pub joined_already : (parents : List ℕ) (a b : ℕ) → a < length parents → b < length parents → slice_index parents a ≡ slice_index parents b
+    → (before : List ℕ) → AreRoots parents before → (after : List ℕ) × AreRoots parents after × AreJoined a b before after
+joined_already parents a b a_within b_within e before r =
+    let label : slice_index before a ≡ slice_index before b =
+    sym (r.same a a_within) ∙ ap (λ z. slice_index before z) e ∙ r.same b b_within in (
+      before,
+      r,
+      record {
+        old = slice_index before a;
+        new = slice_index before b;
+        of_both = inl (refl, refl);
+        one_each = refl;
+        replaced_at = λ v h. replaced-itself (slice_index before a) (slice_index before b) (slice_index before v) label;
+      },
+    )

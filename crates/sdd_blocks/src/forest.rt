@@ -52,8 +52,24 @@ impl Forest {
         at
     }
 
-    /// Makes one set of the sets that the nodes are in.
+    /// Makes one set of the sets that the nodes are in. Nothing is done where they have one parent.
+    #[tactic(auto, using(crate::proofs::Trees::joined_already))]
     pub(crate) fn join(&mut self, a: u32, b: u32)
+        requires a_within { a < length self.old.parents.items }
+        requires b_within { b < length self.old.parents.items }
+        requires forest { IsForest self.old.parents.items }
+        ensures length { length self.new.parents.items ≡ length self.old.parents.items }
+        ensures forest { IsForest self.new.parents.items }
+        ensures joined { (before : List ℕ) → AreRoots self.old.parents.items before
+            → (after : List ℕ) × AreRoots self.new.parents.items after × AreJoined a b before after }
+    {
+        if self.parents[a as usize] != self.parents[b as usize] {
+            self.join_roots(a, b);
+        }
+    }
+
+    /// Makes one set of the sets that the nodes are in, by their roots.
+    fn join_roots(&mut self, a: u32, b: u32)
         requires a_within { a < length self.old.parents.items }
         requires b_within { b < length self.old.parents.items }
         requires forest { IsForest self.old.parents.items }

@@ -1,6 +1,6 @@
 use Rattle.sdd_blocks.proofs.All.{arith}
 use Rattle.sdd_blocks.proofs.Trees.{joined_down, joined_up}
-use Rattle.sdd_blocks.proofs.forest.Forest.join.Goals as goal
+use Rattle.sdd_blocks.proofs.forest.Forest.join_roots.Goals as goal
 
 pub returns-then-one-other-clause-joined : goal.returns-then-one-other-clause-joined
 returns-then-one-other-clause-joined c =
