@@ -27,7 +27,7 @@ pub fn effect(
     snap: &Snapshot,
 ) -> Result<Effect, NoMemory>
     requires { Fits cat.now txn.now }
-    ensures { (db : Database) → IsDatabase cat.now db → Serves cat.now txn.now snap.now db → IfOk result (λ effect. effect ≡ of_databases.effect cat.now db txn.now) }
+    ensures { (db : Database) → IsDatabase cat.now db → Serves cat.now txn.now snap.now.value db → IfOk result (λ effect. effect ≡ of_databases.effect cat.now db txn.now) }
 {
     effect_over(alloc, cat, txn, &Shipped { cat, snap })
 }

@@ -1,4 +1,4 @@
-ghost use Rattle.std.specs.Prelude.{◌≡◌, ◌∷◌, [], ◌++◌, OnOk, IfOk};
+ghost use Rattle.std.specs.Prelude.{◌≡◌, true, false, [], ◌∷◌, ◌++◌, OnOk, OnErr, IfOk, IsTrue};
 ghost use Rattle.sdd_lang.specs.All.{rows_lent};
 ghost use Rattle.sdd_exec.specs.Snapshots.{rows_for};
 
@@ -11,27 +11,55 @@ use std::marker::Model;
 #[derive(Drop)]
 pub struct Snapshot {
     rows: Vec<(u32, Row)>,
+    live: bool,
 }
 
 impl Model for Snapshot {
+    ghost use Rattle.sdd_lang.specs.All.{Kept};
     ghost use Rattle.sdd_exec.specs.Snapshots.{Shipped};
 
-    ghost Value = { Shipped };
+    ghost Value = { Kept Shipped };
 
-    ghost view = { λ s. s.rows.items };
+    ghost view = { λ s. record { live = s.live; value = s.rows.items } };
 }
 
 impl Snapshot {
+    /// No row.
+    pub fn new(alloc: Global) -> Snapshot
+        ensures { result ≡ record { live = true; value = [] } }
+    {
+        Snapshot::of(Vec::new(alloc))
+    }
+
     /// The rows as they came, of which one may stand there more than once. Moves them.
     pub fn of(rows: Vec<(u32, Row)>) -> Snapshot
-        ensures { result ≡ rows.items }
+        ensures { result ≡ record { live = true; value = rows.items } }
     {
-        Snapshot { rows }
+        Snapshot { rows, live: true }
+    }
+
+    /// Adds a row of a use. A row may be added more than once.
+    pub fn add(&mut self, use_no: u32, row: Row) -> Result<(), NoMemory>
+        requires live { IsTrue self.old.live }
+        ensures ok { OnOk result (self.new ≡ record { live = true; value = self.old.value ++ (use_no, row) ∷ [] }) }
+        ensures err { OnErr result (self.new.live ≡ false) }
+    {
+        self.live = false;
+        self.rows.push((use_no, row))?;
+        self.live = true;
+        Ok(())
+    }
+
+    /// Whether rows may be added.
+    pub fn live(&self) -> bool
+        ensures { result ≡ self.now.live }
+    {
+        self.live
     }
 
     /// The rows of a use, in the order in which they came. Costs time with all rows.
     pub(crate) fn rows_for(&self, alloc: Global, use_no: u64) -> Result<Vec<&Row>, NoMemory>
-        ensures { IfOk result (λ rows. rows_lent rows.items ≡ rows_for self.now use_no) }
+        ensures { IfOk result (λ rows. rows_lent rows.items ≡ rows_for self.now.value use_no) }
     {
         rows_of(alloc, self.rows.as_slice(), use_no)
     }

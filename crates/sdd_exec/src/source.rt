@@ -93,7 +93,7 @@ fn parts<'a>(
     before: u32,
     rels: &[RelNo],
 ) -> Result<Parts<'a>, NoMemory>
-    ensures { IfOk result (λ parts. parts ≡ parts_for snap.now before (length rels.now)) }
+    ensures { IfOk result (λ parts. parts ≡ parts_for snap.now.value before (length rels.now)) }
 {
     let mut parts = Parts::new(alloc);
     for part in 0..rels.len() {
@@ -103,9 +103,9 @@ fn parts<'a>(
 }
 
 impl Source for Shipped<'_> {
-    ghost found = { λ s. found_for s.snap.now };
+    ghost found = { λ s. found_for s.snap.now.value };
 
-    ghost chosen = { λ s. chosen_for s.cat.now s.snap.now };
+    ghost chosen = { λ s. chosen_for s.cat.now s.snap.now.value };
 
     fn query(
         &self,
