@@ -24,10 +24,6 @@ keyed_more part conds ties i rows d done h =
 
 pub ruleset key_steps = (keyed_more)
 
-pub places_more : (pairs : List (Row × ℕ)) (q : Row) (i : ℕ) (d : Row × ℕ) → i < length pairs
-    → places (take (i + 1) pairs) q ≡ places (take i pairs) q ++ places (get_or pairs i d ∷ []) q
-places_more pairs q i d h = rw (take_more pairs i d h, filter-append, map-append)
-
 pub with_found_more : {X : Type 0} (f : X → Option Row) (kept : List X) (i : ℕ) (d : X) → i < length kept
     → distinct (filter_map f (take (i + 1) kept)) ≡ with_found (f (get_or kept i d)) (distinct (filter_map f (take i kept)))
 with_found_more f kept i d h =
@@ -94,6 +90,13 @@ keyed_next part conds ties i rows row before after all h e f g =
 
 pub places-append : (xs ys : List (Row × ℕ)) (q : Row) → places (xs ++ ys) q ≡ places xs q ++ places ys q
 places-append xs ys q = rw (filter-append, map-append)
+
+-- the places of one more pair are with its key
+pub grouped_next : (now next all : Row → List ℕ) (pair : Row × ℕ) (rest : List (Row × ℕ)) → ((q : Row) → now q ++ places (pair ∷ rest) q ≡ all q)
+    → ((q : Row) → next q ≡ now q ++ places (pair ∷ []) q) → (q : Row) → next q ++ places rest q ≡ all q
+grouped_next now next all pair rest whole step q =
+    let split : places (pair ∷ rest) q ≡ places (pair ∷ []) q ++ places rest q = places-append (pair ∷ []) rest q in
+    ap (λ z. z ++ places rest q) (step q) ∙ append_assoc (now q) (places (pair ∷ []) q) (places rest q) ∙ sym (ap (λ z. now q ++ z) split) ∙ whole q
 
 -- the places of an untied part's rows: those so far, with those that are left, are all
 pub untied_next : (part : ℕ) (conds : List Condition) (i : ℕ) (rows : List Row) (row : Row) (before after all : List ℕ)

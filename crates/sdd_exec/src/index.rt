@@ -6,7 +6,7 @@ ghost use Rattle.sdd_lang.specs.All.{Value, rows_lent};
 ghost use Rattle.sdd_exec.specs.Choices as joins;
 
 use crate::tie::{Tie, key_of};
-use sdd_lang::sdd_base::{NoMemory, Parcel, Row};
+use sdd_lang::sdd_base::{NoMemory, Row};
 use sdd_lang::{Condition, compare, value_in};
 use std::alloc::Global;
 use std::collections::HashMap;
@@ -124,25 +124,26 @@ fn take_places(alloc: Global, index: &mut Index, key: &Row) -> Vec<usize>
 }
 
 /// Adds a place to those with the key.
-fn add_place(alloc: Global, index: &mut Index, key: &Row, place: usize) -> Result<(), NoMemory>
+fn add_place(alloc: Global, index: &mut Index, key: Row, place: usize) -> Result<(), NoMemory>
     ensures { IfOk result (λ _. (q : List Value) →
         option_map_or (λ v. v.items) (hash.get joins.same_row index.new q) []
-        ≡ option_map_or (λ v. v.items) (hash.get joins.same_row index.old q) [] ++ joins.places ((key.now, place) ∷ []) q) }
+        ≡ option_map_or (λ v. v.items) (hash.get joins.same_row index.old q) [] ++ joins.places ((key, place) ∷ []) q) }
 {
-    let mut places = take_places(alloc, index, key);
+    let mut places = take_places(alloc, index, &key);
     places.push(place)?;
-    index.insert(key.copy()?, places)?;
+    index.insert(key, places)?;
     Ok(())
 }
 
-/// The places by their keys.
-#[tactic(auto, using(crate::proofs::Steps::places_more))]
-pub fn grouped(alloc: Global, keyed: &[(Row, usize)]) -> Result<Index, NoMemory>
-    ensures { IfOk result (λ m. (q : List Value) → option_map_or (λ v. v.items) (hash.get joins.same_row m q) [] ≡ joins.places keyed.now q) }
+/// The places by their keys, which are moved.
+#[tactic(auto, using(crate::proofs::Steps::grouped_next))]
+pub fn grouped(alloc: Global, keyed: Vec<(Row, usize)>) -> Result<Index, NoMemory>
+    ensures { IfOk result (λ m. (q : List Value) → option_map_or (λ v. v.items) (hash.get joins.same_row m q) [] ≡ joins.places keyed.items q) }
 {
     let mut index: Index = HashMap::new(alloc);
-    for (key, place) in keyed {
-        add_place(alloc, &mut index, key, *place)?;
+    'pairs: for pair in keyed {
+        let (key, place) = pair;
+        add_place(alloc, &mut index, key, place)?;
     }
     Ok(index)
 }
@@ -168,5 +169,5 @@ pub fn index(
 ) -> Result<Index, NoMemory>
     ensures { IfOk result (λ m. (q : List Value) → option_map_or (λ v. v.items) (hash.get joins.same_row m q) [] ≡ joins.places (joins.keyed part conds.now ties.now 0 (rows_lent rows.now)) q) }
 {
-    grouped(alloc, &keyed(alloc, rows, part, conds, ties)?)
+    grouped(alloc, keyed(alloc, rows, part, conds, ties)?)
 }

@@ -134,10 +134,10 @@ fn offer_all(
     kept: &[Choice],
     part: usize,
     ties: &[Tie],
-    pairs: &[(Row, usize)],
+    pairs: Vec<(Row, usize)>,
 ) -> Result<(), NoMemory>
     requires { sift.IsSieve parts.now mesh.now sieve.now }
-    ensures { IfOk result (λ _. sift.Offered parts.now mesh.now sieve.old sieve.new (sift.extended_by parts.now part ties.now pairs.now kept.now)) }
+    ensures { IfOk result (λ _. sift.Offered parts.now mesh.now sieve.old sieve.new (sift.extended_by parts.now part ties.now pairs.items kept.now)) }
 {
     let index = grouped(alloc, pairs)?;
     for choice in kept {
@@ -172,7 +172,7 @@ fn sifted_with(
     let group = with_part(alloc, taken, part)?;
     let mesh = mesh_of(alloc, &group, conds, out, room)?;
     let mut sieve = no_choices(alloc);
-    offer_all(alloc, &mut sieve, parts, &mesh, kept, part, &ties, &pairs)?;
+    offer_all(alloc, &mut sieve, parts, &mesh, kept, part, &ties, pairs)?;
     let Sieve { kept, found: _ } = sieve;
     Ok(kept)
 }

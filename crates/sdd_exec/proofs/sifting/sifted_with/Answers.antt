@@ -11,7 +11,7 @@ returns-clause-sound c =
     (rw (c.deref-3.ensures.value, c.in_ok-group.ensures) at c.in_ok-mesh.ensures.links)
     (rw (c.deref-3.ensures.value, c.in_ok-group.ensures) at c.in_ok-mesh.ensures.outs) c.in_ok-mesh.ensures.room
     c.no_choices-sieve.ensures.kept
-    (rw (c.deref-4.ensures.value, c.deref-5.ensures.value, c.in_ok-pairs.ensures, c.deref.ensures.value, c.deref-2.ensures.value, c.in_ok-ties.ensures) at c.in_ok-offer_all.ensures))).0
+    (rw (c.deref-4.ensures.value, c.in_ok-pairs.ensures, c.deref.ensures.value, c.deref-2.ensures.value, c.in_ok-ties.ensures) at c.in_ok-offer_all.ensures))).0
 
 pub returns-clause-enough : goal.returns-clause-enough
 returns-clause-enough c =
@@ -21,4 +21,4 @@ returns-clause-enough c =
     (rw (c.deref-3.ensures.value, c.in_ok-group.ensures) at c.in_ok-mesh.ensures.links)
     (rw (c.deref-3.ensures.value, c.in_ok-group.ensures) at c.in_ok-mesh.ensures.outs) c.in_ok-mesh.ensures.room
     c.no_choices-sieve.ensures.kept
-    (rw (c.deref-4.ensures.value, c.deref-5.ensures.value, c.in_ok-pairs.ensures, c.deref.ensures.value, c.deref-2.ensures.value, c.in_ok-ties.ensures) at c.in_ok-offer_all.ensures))).1
+    (rw (c.deref-4.ensures.value, c.in_ok-pairs.ensures, c.deref.ensures.value, c.deref-2.ensures.value, c.in_ok-ties.ensures) at c.in_ok-offer_all.ensures))).1
