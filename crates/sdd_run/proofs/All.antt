@@ -100,14 +100,14 @@ pub use Rattle.sdd_progress.proofs.lawful.Places.{event_there, stands_there}
 pub use Rattle.sdd_progress.proofs.lawful.SameCopies.{same_copy}
 pub use Rattle.sdd_progress.proofs.lawful.Submissions.{given_at, one_submit, submit_in}
 pub use Rattle.sdd_progress.proofs.lawful.Together.{copies as left_in_copies, replies}
-pub use Rattle.sdd_progress.proofs.read_waits.ClassSites.{in_runs}
-pub use Rattle.sdd_progress.proofs.read_waits.EventOver.{none_due, over_at_end, over_before}
-pub use Rattle.sdd_progress.proofs.read_waits.FreeClasses.{never_rejected, never_waits}
-pub use Rattle.sdd_progress.proofs.read_waits.OfLawful.{answered_by_end}
-pub use Rattle.sdd_progress.proofs.read_waits.Rejected.{rejected}
-pub use Rattle.sdd_progress.proofs.read_waits.Waited.{wait_due}
-pub use Rattle.sdd_progress.proofs.termination.Marked.{next_is_of_events}
-pub use Rattle.sdd_progress.proofs.termination.Settled.{quiet_at_last}
+pub use Rattle.sdd_progress.proofs.ClassSites.{in_runs}
+pub use Rattle.sdd_progress.proofs.EventOver.{none_due, over_at_end, over_before}
+pub use Rattle.sdd_progress.proofs.FreeClasses.{never_rejected, never_waits}
+pub use Rattle.sdd_progress.proofs.OfLawful.{answered_by_end}
+pub use Rattle.sdd_progress.proofs.Rejected.{rejected}
+pub use Rattle.sdd_progress.proofs.Waited.{wait_due}
+pub use Rattle.sdd_progress.proofs.Marked.{next_is_of_events}
+pub use Rattle.sdd_progress.proofs.QuietAfter.{quiet_at_last}
 pub use Rattle.sdd_progress.specs.Committed.{AllCommitted, IsNotLeft, WasCommitted}
 pub use Rattle.sdd_progress.specs.Eras.{eras_of}
 pub use Rattle.sdd_progress.specs.Few.{AreFewRejected}
@@ -116,10 +116,10 @@ pub use Rattle.sdd_progress.specs.Settled.{IsAtEnd, IsSettled}
 pub use Rattle.sdd_progress.specs.Timely.{AreTimely}
 pub use Rattle.sdd_progress.specs.lawful.Given.{AreErasOf, AreNumbered, HasSoundData, SubmitGiven}
 pub use Rattle.sdd_progress.specs.lawful.Made.{IsMadeAt}
-pub use Rattle.sdd_progress.specs.read_waits.Answers.{EndsAnEvent, IsAnsweredIn, IsEventOver, begins_event}
-pub use Rattle.sdd_progress.specs.read_waits.Free.{IsFree, IsFreeClass}
-pub use Rattle.sdd_progress.specs.read_waits.Rejections.{IsRejectOf}
-pub use Rattle.sdd_progress.specs.read_waits.Waited.{IsWaitOf}
+pub use Rattle.sdd_progress.specs.Answers.{EndsAnEvent, IsAnsweredIn, IsEventOver, begins_event}
+pub use Rattle.sdd_progress.specs.Free.{IsFree, IsFreeClass}
+pub use Rattle.sdd_progress.specs.Rejections.{IsRejectOf}
+pub use Rattle.sdd_progress.specs.Waited.{IsWaitOf}
 pub use Rattle.sdd_report.specs.Committed.{Told, is_of, names_of, order_line, reply_of, shipped_of, told_in, told_of}
 pub use Rattle.sdd_report.specs.Copies.{copies_lines}
 pub use Rattle.sdd_report.specs.Names.{txn_name}

@@ -22,7 +22,7 @@ use Rattle.sdd_report.specs.declared.pending.Pending.{Pending}
 use Rattle.sdd_run.specs.Clocks.{HasLowClocks}
 use Rattle.sdd_world.specs.Copies.{rows_left, tables_of}
 use Rattle.sdd_progress.specs.Few.{AreFewRejected}
-use Rattle.sdd_progress.specs.read_waits.Free.{IsFree}
+use Rattle.sdd_progress.specs.Free.{IsFree}
 use Rattle.sdd_run.specs.Free.{IsUndisturbed}
 use Rattle.sdd_run.specs.Settled.{EndsAtRest, EndsQuiet, LosesNothing, NoneIsDown, TellsAllCommitted}
 use Rattle.sdd_run.specs.Standing.{IsSubmittedBefore, StandsBefore, times_in}

@@ -12,6 +12,7 @@ mod run;
 mod running;
 mod telling;
 
+pub use in_force::{first_table, further, tables_of};
 pub use law::{law_free_answered, law_low_clocks, law_one_report, law_standings};
 pub use run::{run_report, run_summary};
 

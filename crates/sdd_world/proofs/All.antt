@@ -58,7 +58,7 @@ pub use Rattle.sdd_obligations.specs.net.declared.delivered.Delivered.TheVariant
 pub use Rattle.sdd_obligations.specs.protocol.declared.entry.Entry.{Entry}
 pub use Rattle.sdd_world.specs.AtSites.{At, IsClassAt, Lives, Standing, StandsAt}
 pub use Rattle.sdd_world.specs.Beginnings.{AllBegin, BeginsD, BeginsT, IsBegun, There}
-pub use Rattle.sdd_world.specs.Carries.{AllDelivered, AllPut, Carries, IsSpelling, NetValue, Spells, in_bytes}
+pub use Rattle.sdd_world.specs.Carries.{AllDelivered, AllPut, Carries, IsPacketSpelling, IsSpelling, NetValue, PacketFits, Spells, in_bytes}
 pub use Rattle.sdd_world.specs.Copies.{table_of, tables_at, tables_in}
 pub use Rattle.sdd_world.specs.DueAt.{next_of}
 pub use Rattle.sdd_world.specs.Following.{Followed, IsPast, MaySend, Sending}
@@ -73,11 +73,11 @@ pub use Rattle.sdd_world.specs.declared.ends.WorldEnd.TheVariants.{Limit}
 pub use Rattle.sdd_world.specs.declared.schedule.ClassList.{ClassList}
 pub use Rattle.sdd_world.specs.declared.sites.Sites.{Sites}
 pub use Rattle.sdd_world.specs.declared.world.World.{World}
-pub use Rattle.std.proofs.Common.{All, Bool, Err, Global, IfOk, IsErrAnd, IsErrOf, IsTrue, List, None, Ok, OnOk, Option, Result, Some, Vec, [], ap, append-nil, append_assoc, arith, cond, drop, eq-eqb, eqb-true, false, filter, filter_map, flat_map, fold, if◌then◌else◌, inl, inr, is_none, is_some, le-leb, le-ltb, leb-true, length, length-append, lt-ltb, map, max, nat_cmp, nat_le, nat_lt, ne_eqb, not, option_map, refl, replicate, rules, slice_get, slice_index_or as get_or, slice_set, subst, suc, sym, take, true, zero, ℕ, ◌&&◌, ◌++◌, ◌+◌, ◌-◌, ◌<◌, ◌==◌, ◌^◌, ◌||◌, ◌∙◌, ◌∷◌, ◌≡◌, ◌≢◌, ◌≤◌}
+pub use Rattle.std.proofs.Common.{All, Bool, Err, Global, IfOk, IsErrAnd, IsErrOf, IsTrue, List, None, Ok, OnOk, Option, Result, Some, Vec, [], add-one, ap, append-nil, append_assoc, arith, cond, drop, eq-eqb, eqb-true, false, filter, filter_map, flat_map, fold, if◌then◌else◌, inl, inr, is_none, is_some, le-leb, le-ltb, leb-true, length, length-append, lt-ltb, map, max, nat_cmp, nat_le, nat_lt, ne_eqb, not, option_map, refl, replicate, rules, slice_get, slice_index_or as get_or, slice_set, subst, suc, sym, take, true, zero, ℕ, ◌&&◌, ◌++◌, ◌+◌, ◌-◌, ◌<◌, ◌==◌, ◌^◌, ◌||◌, ◌∙◌, ◌∷◌, ◌≡◌, ◌≢◌, ◌≤◌}
 pub use Rattle.std.proofs.Math.Bool.{or-false}
 pub use Rattle.std.proofs.lemmas.Bool.{and_from, and_left, and_right, cases_lt, or_from as or_first, or_left as or_past, or_right as or_second}
 pub use Rattle.std.proofs.lemmas.List.{length-map, length-replicate, map-append, take_more}
-pub use Rattle.std.proofs.lemmas.List.Elements.{All-append, All-cons, All-nil, All-weaker, filter-append, filter_map-append}
+pub use Rattle.std.proofs.lemmas.List.Elements.{All-append, All-cons, All-head, All-nil, All-tail, All-weaker, filter-append, filter_map-append}
 pub use Rattle.std.proofs.lemmas.List.Folds.{list_any-append}
 pub use Rattle.std.proofs.lemmas.Option.{slice_get-get_or, slice_get_past}
 pub use Rattle.std.specs.BTreeSet.{contains}

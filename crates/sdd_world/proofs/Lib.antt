@@ -7,7 +7,9 @@ pub mod Carrying
 pub mod Delivering
 pub mod Failing
 pub mod Fitting
+pub mod Flying
 pub mod Forcing
+pub mod HandedOver
 pub mod Handing
 pub mod InBytes
 pub mod Keeping

@@ -44,41 +44,42 @@ sound_more : (g : Given) (e : Event) → IsSound g → IsSound (with_event g e)
 sound_more g e s = record { few_tms = s.few_tms; few_dms = s.few_dms; txns_fit = s.txns_fit }
 
 -- a round begins with its events
-pub round_begins : (w : World) (g : Given) (log : Log) (e : Event) (events : List Event) → Settling w g log e → quiet (all_links g) (calls_of log) ≡ false
-    → ((tms dms : ℕ) (calls : List (Call Msg)) → Carries w.net tms dms calls
-    → events ≡ round (links tms dms) calls) → (more : Log)
-    × Rounding w g more e events
-round_begins w g log to events s q f =
+pub round_opened : (w : World) (g : Given) (log : Log) (e : Event) (events : List Event) → Settling w g log e → quiet (all_links g) (calls_of log) ≡ false
+    → ((tms dms : ℕ) (calls : List (Call Msg)) → Carries w.net tms dms calls → events ≡ round (links tms dms) calls)
+    → Rounding w g (Round events ∷ log) e events
+round_opened w g log to events s q f =
     let e : events ≡ round (links g.catalogue.tms g.catalogue.dms) (calls_of log) = f g.catalogue.tms g.catalogue.dms (calls_of log) s.calm.parts.net in
     let n : next g log ≡ Some (Round events) =
-    round_next g log s.waiting to (free g log s.calm.rests) s.left_is s.rounds s.ends q
-    ∙ ap (λ r. Some (Round r)) (sym e) in (
-      Round events ∷ log,
-      record {
-        calm = record {
-          parts = record {
-            good = s.calm.parts.good;
-            sound = s.calm.parts.sound;
-            whole_is = s.calm.parts.whole_is;
-            catalogue_is = s.calm.parts.catalogue_is;
-            txns_are = s.calm.parts.txns_are;
-            given_is = s.calm.parts.given_is;
-            history_is = s.calm.parts.history_is;
-            sites = s.calm.parts.sites;
-            net = s.calm.parts.net;
-          };
-          rests = rests_round g log events s.calm.rests n;
-          marks_are = s.calm.marks_are;
-          spooled = spool_round g events log w.spool s.calm.spooled;
+    round_next g log s.waiting to (free g log s.calm.rests) s.left_is s.rounds s.ends q ∙ ap (λ r. Some (Round r)) (sym e) in
+    record {
+      calm = record {
+        parts = record {
+          good = s.calm.parts.good;
+          sound = s.calm.parts.sound;
+          whole_is = s.calm.parts.whole_is;
+          catalogue_is = s.calm.parts.catalogue_is;
+          txns_are = s.calm.parts.txns_are;
+          given_is = s.calm.parts.given_is;
+          history_is = s.calm.parts.history_is;
+          sites = s.calm.parts.sites;
+          net = s.calm.parts.net;
         };
-        waiting = s.waiting;
-        left_is = ap (λ v. (v.0, events)) s.left_is;
-        rounds = s.rounds;
-        ends = s.ends;
-        possible = subst (λ es. AtEach (IsPossible g) es) (sym e)
-            (each_of_round (IsPossible g) g.catalogue.tms g.catalogue.dms (calls_of log) (λ a b l. (l, (l, omega arith))));
-      },
-    )
+        rests = rests_round g log events s.calm.rests n;
+        marks_are = s.calm.marks_are;
+        spooled = spool_round g events log w.spool s.calm.spooled;
+      };
+      waiting = s.waiting;
+      left_is = ap (λ v. (v.0, events)) s.left_is;
+      rounds = s.rounds;
+      ends = s.ends;
+      possible = subst (λ es. AtEach (IsPossible g) es) (sym e)
+          (each_of_round (IsPossible g) g.catalogue.tms g.catalogue.dms (calls_of log) (λ a b l. (l, (l, omega arith))));
+    }
+
+pub round_begins : (w : World) (g : Given) (log : Log) (e : Event) (events : List Event) → Settling w g log e → quiet (all_links g) (calls_of log) ≡ false
+    → ((tms dms : ℕ) (calls : List (Call Msg)) → Carries w.net tms dms calls → events ≡ round (links tms dms) calls)
+    → (more : Log) × Rounding w g more e events
+round_begins w g log to events s q f = (Round events ∷ log, round_opened w g log to events s q f)
 
 pub round_some : (w : World) (g : Given) (log : Log) (e : Event) (events : List Event) → Settling w g log e → quiet (all_links g) (calls_of log) ≡ false
     → ((tms dms : ℕ) (calls : List (Call Msg)) → Carries w.net tms dms calls → events ≡ round (links tms dms) calls) → 0 < length events

@@ -61,6 +61,10 @@ pub record Calm (w : World) (g : Given) (log : Log) : Type 0 where
   pub marks_are : w.marks ≡ marks log
   pub spooled : Spooled g log w.spool U
 
+-- how many events a world carried out
+abbrev pub events_of : World → ℕ
+events_of w = w.marks
+
 -- an event is next
 pub record Before (w : World) (g : Given) (log : Log) (e : Event) : Type 0 where
   pub calm : Calm w g log

@@ -5,6 +5,10 @@
 //! the call ends it exactly where the limit ends that log. What it tells is what that log says: its
 //! records, modules and links, the copies (`tables`) and what is pending (`pending`).
 //!
+//! A settle or a redeclare can be carried out event by event too (`begin_rounds`, `next_round`,
+//! `in_round`, `end_redeclare`). What `sites`, `mail`, `is_down` and `handed` tell holds between
+//! any two events, also within a round.
+//!
 //! Below that, `Sites` hands each call to the module of one site and no other; `home` gives
 //! the site of a transaction; `Mail` carries messages as the bytes that spell them.
 #![tactic(auto)]
@@ -22,6 +26,7 @@ mod redeclaring;
 mod schedule;
 mod sites;
 mod tables;
+mod turns;
 mod waits;
 mod world;
 
@@ -30,4 +35,5 @@ pub use homes::home;
 pub use mail::Mail;
 pub use making::data_modules;
 pub use schedule::{ClassList, carry_out};
+pub use sites::Sites;
 pub use world::World;

@@ -1,10 +1,10 @@
-ghost use Rattle.std.specs.Prelude.{◌≡◌, map, IfOk};
+ghost use Rattle.std.specs.Prelude.{◌≡◌, drop, map, IfOk};
 ghost use Rattle.std.specs.List.{AllByRecursion};
-ghost use Rattle.sdd_obligations.specs.All.{Delivered as Handed, Fits, Msg as Message, spelled};
-ghost use Rattle.sdd_world.specs.Carries.{IsSpelling, Spells};
+ghost use Rattle.sdd_obligations.specs.All.{Delivered as Handed, Fits, Msg as Message, packet_as, spelled};
+ghost use Rattle.sdd_world.specs.Carries.{IsPacketSpelling, IsSpelling, PacketFits, Spells};
 
 use sdd_obligations::sdd_base::NoMemory;
-use sdd_obligations::sdd_net::{Delivered, Parcels};
+use sdd_obligations::sdd_net::{Delivered, Flight, Packet, Packets, Parcels};
 use sdd_obligations::sdd_wire::{Msg, Spelling, WireFault, decode};
 use std::alloc::Global;
 
@@ -31,6 +31,44 @@ fn open_all(alloc: Global, spellings: Parcels<Spelling>) -> Result<Parcels<Msg>,
         messages.push(open_one(alloc, spelling)?)?;
     }
     Ok(Parcels::from_vec(messages))
+}
+
+/// The packets of a flight behind so many, read from their spellings.
+pub(crate) fn open_behind(
+    alloc: Global,
+    flight: &Flight<Spelling>,
+    count: usize,
+) -> Result<Packets<Msg>, NoMemory>
+    requires { AllByRecursion IsPacketSpelling flight.now.value }
+    ensures spelled { IfOk result (λ packets.
+        drop count flight.now.value ≡ map (packet_as spelled) packets) }
+    ensures fit { IfOk result (λ packets. AllByRecursion PacketFits packets) }
+{
+    let mut packets = Vec::new(alloc);
+    let mut place = count;
+    'flying: while let Some(packet) = flight.behind(place) {
+        if place == usize::MAX {
+            return Err(NoMemory);
+        }
+        let opened = open_packet(alloc, packet)?;
+        packets.push(opened)?;
+        place += 1;
+    }
+    Ok(Packets::from_vec(packets))
+}
+
+/// A packet, read from its spelling.
+fn open_packet(alloc: Global, packet: &Packet<Spelling>) -> Result<Packet<Msg>, NoMemory>
+    requires { IsPacketSpelling packet.now }
+    ensures { IfOk result (λ p. PacketFits p × (packet.now ≡ packet_as spelled p)) }
+{
+    match packet {
+        Packet::Message(number, spelling) => {
+            let msg = open_one(alloc, spelling)?;
+            Ok(Packet::Message(*number, msg))
+        }
+        Packet::Ack(upto) => Ok(Packet::Ack(*upto)),
+    }
 }
 
 fn open_one(alloc: Global, spelling: &Spelling) -> Result<Msg, NoMemory>

@@ -1,11 +1,11 @@
 ghost use Rattle.std.specs.Prelude.{◌≡◌, ◌≤◌, [], ℕ, List, length, true, IfOk, IsTrue};
 ghost use Rattle.std.specs.Option.{option_copied};
-ghost use Rattle.sdd_obligations.specs.All.{Call, D, Given, IsAwaited, IsEraOf, IsGood, IsSiteOf, Log, Msg, Site, StandFor, T, U, all_links, calls_of, dated, force_at, has_copy, history, is_here, local_of, marks, number_of, quiet, redeclares, setting_of};
+ghost use Rattle.sdd_obligations.specs.All.{Call, D, Given, IsAwaited, IsEraOf, IsGood, IsLinkOf, IsSiteOf, Log, Msg, Site, StandFor, T, U, all_links, calls_of, dated, force_at, handed, has_copy, history, is_down, is_here, local_of, marks, number_of, quiet, redeclares, setting_of};
 ghost use Rattle.sdd_world.specs.Beginnings.{IsBegun};
 ghost use Rattle.sdd_world.specs.Carries.{Carries};
-ghost use Rattle.sdd_world.specs.Modules.{LivesD, LivesT, LivesU};
+ghost use Rattle.sdd_world.specs.Modules.{AllStandFor, LivesD, LivesT, LivesU};
 ghost use Rattle.sdd_world.specs.Standings.{standing_of};
-ghost use Rattle.sdd_world.specs.Standing.{IsSound, StandsFor};
+ghost use Rattle.sdd_world.specs.Standing.{Calm, IsSound, StandsFor};
 
 use crate::mail::Mail;
 use crate::making::txn_modules;
@@ -72,14 +72,14 @@ impl<'a> World<'a> {
 
     /// The catalogue with the classes of all lists that are ever put in force, lent. Takes no memory.
     pub fn whole(&self) -> &'a Catalogue
-        ensures { (g : Given) (log : Log) → StandsFor self.now g log → result.now ≡ g.catalogue }
+        ensures { (g : Given) (log : Log) → Calm self.now g log → result.now ≡ g.catalogue }
     {
         self.whole
     }
 
     /// The catalogue with the classes in force, lent. Takes no memory.
     pub fn catalogue(&self) -> &'a Catalogue
-        ensures { (g : Given) (log : Log) → StandsFor self.now g log
+        ensures { (g : Given) (log : Log) → Calm self.now g log
             → result.now ≡ (force_at g (redeclares log)).catalogue }
     {
         self.catalogue
@@ -87,14 +87,14 @@ impl<'a> World<'a> {
 
     /// The transactions, lent. Takes no memory.
     pub fn transactions(&self) -> &[Txn]
-        ensures { (g : Given) (log : Log) → StandsFor self.now g log → result.now ≡ g.txns }
+        ensures { (g : Given) (log : Log) → Calm self.now g log → result.now ≡ g.txns }
     {
         self.txns.as_slice()
     }
 
     /// How many events were carried out. Takes no memory.
     pub fn events(&self) -> u32
-        ensures { (g : Given) (log : Log) → StandsFor self.now g log → result ≡ marks log }
+        ensures { (g : Given) (log : Log) → Calm self.now g log → result ≡ marks log }
     {
         self.marks
     }
@@ -125,6 +125,45 @@ impl<'a> World<'a> {
         self.sites.data_module(dm)
     }
 
+    /// The modules of all sites, lent. Takes no memory.
+    pub fn sites(&self) -> &Sites<'a>
+        ensures { (g : Given) (log : Log) → Calm self.now g log → AllStandFor result.now g log }
+    {
+        &self.sites
+    }
+
+    /// The network, lent. Takes no memory.
+    pub fn mail(&self) -> &Mail
+        ensures { (g : Given) (log : Log) → Calm self.now g log
+            → Carries result.now g.catalogue.tms g.catalogue.dms (calls_of log) }
+    {
+        &self.net
+    }
+
+    /// Whether a data module is down. Takes no memory.
+    pub fn is_down(&self, dm: DmNo) -> bool
+        requires { (g : Given) × (log : Log) × IsSiteOf g (D dm) × Calm self.now g log }
+        ensures { (g : Given) (log : Log) → IsSiteOf g (D dm) → Calm self.now g log
+            → result ≡ is_down dm.0 log }
+    {
+        self.spool.is_down(dm)
+    }
+
+    /// The messages from 1 to this number of a link are handed to the site where it ends. Takes no
+    /// memory.
+    pub fn handed(&self, from: Site, to: Site) -> u32
+        requires { (g : Given) × (log : Log) × IsLinkOf g from to × Calm self.now g log }
+        ensures { (g : Given) (log : Log) → IsLinkOf g from to → Calm self.now g log
+            → result ≡ handed from to log }
+    {
+        let delivered = self.net.direction(from, to).receiver.count();
+        match to {
+            Site::U => delivered,
+            Site::T(_) => delivered,
+            Site::D(dm) => (delivered as usize).saturating_sub(self.spool.kept(dm, from)) as u32,
+        }
+    }
+
     /// The net of spellings, lent. Takes no memory.
     pub fn net(&self) -> &Net<Spelling>
         requires { (g : Given) × (log : Log) × StandsFor self.now g log }
@@ -146,7 +185,7 @@ impl<'a> World<'a> {
 
     /// The records, each with the number of its event. Takes no memory.
     pub fn history(&self) -> &History
-        ensures { (g : Given) (log : Log) → StandsFor self.now g log → result.now ≡ history log }
+        ensures { (g : Given) (log : Log) → Calm self.now g log → result.now ≡ history log }
     {
         &self.history
     }

@@ -12,7 +12,11 @@ use sdd_obligations::sdd_protocol::Table;
 impl<'a> World<'a> {
     /// Puts a list of classes in force at all transaction modules, at the greatest bound of their
     /// clocks. It is an event, with a number and no record.
-    fn put_in_force(&mut self, catalogue: &'a Catalogue, table: &'a Table) -> Result<(), WorldEnd>
+    pub(crate) fn put_in_force(
+        &mut self,
+        catalogue: &'a Catalogue,
+        table: &'a Table,
+    ) -> Result<(), WorldEnd>
         requires { (g : Given) × (log : Log) × Forcing self.old g log
             (record { catalogue = catalogue.now; table = table.now }) }
         ensures ok { IfOk result (λ _. (g : Given) (log : Log) → Forcing self.old g log

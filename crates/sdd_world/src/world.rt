@@ -250,7 +250,7 @@ impl<'a> World<'a> {
     }
 
     /// Carries out one event, which is the next.
-    fn happen(&mut self, event: &Event) -> Result<(), WorldEnd>
+    pub(crate) fn happen(&mut self, event: &Event) -> Result<(), WorldEnd>
         requires { (g : Given) × (log : Log) × Before self.old g log event.now }
         ensures ok { IfOk result (λ _. (g : Given) (log : Log) → Before self.old g log event.now
             → Happened self.new g log) }

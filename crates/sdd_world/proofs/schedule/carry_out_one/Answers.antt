@@ -1,4 +1,4 @@
-use Rattle.sdd_world.proofs.All.{IsAllowed, Redeclare, Settle, ap, lists_after, subst, sym, ◌∙◌}
+use Rattle.sdd_world.proofs.All.{IsAllowed, ap, lists_after, subst, sym, ◌∙◌}
 use Rattle.sdd_world.proofs.Carrying.{EndsIt, lists_stay, no_rounds, redeclare_goes, settle_ends, settle_goes, step_goes}
 use Rattle.sdd_world.proofs.schedule.carry_out_one.Goals as goal
 

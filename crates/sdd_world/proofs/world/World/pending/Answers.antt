@@ -4,7 +4,7 @@ use Rattle.sdd_world.proofs.world.World.pending.Goals as goal
 
 pub loop-entry-preserved : goal.loop-entry-preserved
 loop-entry-preserved c = λ given log s.
-    let is = c.as_slice-history.ensures ∙ c.history.ensures given log s in
+    let is = c.as_slice-history.ensures ∙ c.history.ensures given log s.calm in
     chosen_more (pending_by standing_of (last_home given log) given log (history log)) c.as_slice-history.result.now
     c.loop-entry.entry-index c.entry-item.result c.loop-entry.found.items c.add_pending.new.found.items
     c.loop-entry-test.true c.entry-item.is
