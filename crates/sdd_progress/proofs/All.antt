@@ -128,24 +128,24 @@ pub use Rattle.sdd_progress.specs.Rejects.{KeepsRejects}
 pub use Rattle.sdd_progress.specs.Settled.{IsAtEnd, IsSettled}
 pub use Rattle.sdd_progress.specs.Timely.{AreTimely}
 pub use Rattle.sdd_progress.specs.Waiting.{IsBelow, IsEarlierReader, IsHolder, IsReader}
-pub use Rattle.sdd_termination.proofs.Marked.{next_is_of_events}
-pub use Rattle.sdd_termination.proofs.Settled.{quiet_at_last}
-pub use Rattle.sdd_waiting.proofs.Descent.{none_waits}
-pub use Rattle.sdd_waiting.proofs.Examples.{later_permitted, query_is_next, writer_is_sound}
-pub use Rattle.sdd_waiting.proofs.FewClasses.{member_is}
-pub use Rattle.sdd_waiting.proofs.FromTable.{conditions_at_put}
-pub use Rattle.sdd_waiting.proofs.Listed.{diagonals_listed}
-pub use Rattle.sdd_waiting.proofs.Passing.{head_below, passed_lasts, reached_is_passed}
-pub use Rattle.sdd_waiting.proofs.StuckHeads.{head_stuck}
-pub use Rattle.sdd_waiting.proofs.TableFits.{table_fits}
-pub use Rattle.sdd_waiting.proofs.Waited.{since}
-pub use Rattle.sdd_waiting.proofs.Worked.{made_lawful as extended_lawful}
-pub use Rattle.sdd_waiting.specs.Conditions.{AllDiagonalsIn, AreConditionsOf, IsDiagonalIn, IsFromTable}
-pub use Rattle.sdd_waiting.specs.Examples.{conds_of_query, given_put_later, put_handed, uses_of_query}
-pub use Rattle.sdd_waiting.specs.Heads.{IsStuck}
-pub use Rattle.sdd_waiting.specs.WaitGraph.{WaitGraph}
-pub use Rattle.sdd_waiting.specs.WaitGraphs.{HasDiagonal, wait_graph, wait_protocol}
-pub use Rattle.sdd_waiting.specs.WaitingReads.{IsStamped, IsTimestamp, WaitingRead, WaitsOn, holder, reader, wait_time}
+pub use Rattle.sdd_progress.proofs.Marked.{next_is_of_events}
+pub use Rattle.sdd_progress.proofs.QuietAfter.{quiet_at_last}
+pub use Rattle.sdd_progress.proofs.Descent.{none_waits}
+pub use Rattle.sdd_progress.proofs.WaitExamples.{later_permitted, query_is_next, writer_is_sound}
+pub use Rattle.sdd_progress.proofs.FewClasses.{member_is}
+pub use Rattle.sdd_progress.proofs.FromTable.{conditions_at_put}
+pub use Rattle.sdd_progress.proofs.Listed.{diagonals_listed}
+pub use Rattle.sdd_progress.proofs.Passing.{head_below, passed_lasts, reached_is_passed}
+pub use Rattle.sdd_progress.proofs.StuckHeads.{head_stuck}
+pub use Rattle.sdd_progress.proofs.TableFits.{table_fits}
+pub use Rattle.sdd_progress.proofs.Waited.{since}
+pub use Rattle.sdd_progress.proofs.WorkedLogs.{made_lawful as extended_lawful}
+pub use Rattle.sdd_progress.specs.Conditions.{AllDiagonalsIn, AreConditionsOf, IsDiagonalIn, IsFromTable}
+pub use Rattle.sdd_progress.specs.WaitExamples.{conds_of_query, given_put_later, put_handed, uses_of_query}
+pub use Rattle.sdd_progress.specs.Heads.{IsStuck}
+pub use Rattle.sdd_progress.specs.WaitGraph.{WaitGraph}
+pub use Rattle.sdd_progress.specs.WaitGraphs.{HasDiagonal, wait_graph, wait_protocol}
+pub use Rattle.sdd_progress.specs.WaitingReads.{IsStamped, IsTimestamp, WaitingRead, WaitsOn, holder, reader, wait_time}
 pub use Rattle.std.proofs.Common.{All, Bool, Contains, List, None, Option, Some, [], ap, append-nil, append_assoc, arith, cond, drop, eq-eqb, eqb-true, false, filter, filter_map, flat_map, fold, if◌then◌else◌, inl, inr, is_none, le-leb, le-ltb, leb-false, leb-true, length, length-append, lit≤, lt-ltb, ltb-true, map, max, nat_eq as eqb, nat_le, nat_lt, ne_eqb, not, option_map, refl, slice_get, slice_index_or, subst, suc, sum, sym, take, take_all, true, unwrap_or, zero, ℕ, ◌&&◌, ◌*◌, ◌++◌, ◌+◌, ◌-◌, ◌/◌, ◌<◌, ◌==◌, ◌^◌, ◌||◌, ◌∙◌, ◌∷◌, ◌≡◌, ◌≢◌, ◌≤◌, ◌⊎◌}
 pub use Rattle.std.proofs.Math.Decide.{dec_le}
 pub use Rattle.std.proofs.Math.Nat.{suc-mul}

@@ -7,7 +7,7 @@ use Rattle.sdd_progress.proofs.Lists.{not_all, no_head}
 use Rattle.sdd_progress.proofs.Still.{d_still}
 use Rattle.sdd_progress.proofs.WaitedFor.{next_head, next_reader}
 use Rattle.sdd_progress.proofs.SinceRedeclare.{since_redeclare}
-use Rattle.sdd_waiting.specs.WaitGraph.{Fits}
+use Rattle.sdd_progress.specs.WaitGraph.{Fits}
 use Rattle.sdd_obligations.specs.protocol.declared.entry.Entry as line
 use Rattle.sdd_obligations.specs.site_module.SiteLog as site
 

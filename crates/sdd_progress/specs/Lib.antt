@@ -1,16 +1,27 @@
+pub mod Answers
 pub mod Asked
 pub mod Committed
+pub mod Conditions
+pub mod Ends
 pub mod Eras
 pub mod Examples
 pub mod Few
 pub mod Finished
+pub mod Free
 pub mod Going
+pub mod Heads
 pub mod Premises
 pub mod Quiet
+pub mod Rejections
 pub mod Rejects
+pub mod Rounds
 pub mod Settled
+pub mod Theorems
 pub mod Timely
+pub mod WaitExamples
+pub mod WaitGraph
+pub mod WaitGraphs
+pub mod Waited
 pub mod Waiting
+pub mod WaitingReads
 pub use Rattle.sdd_lawful.specs as lawful
-pub use Rattle.sdd_waiting.specs as read_waits
-pub use Rattle.sdd_termination.specs as termination

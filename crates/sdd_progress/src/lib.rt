@@ -1,7 +1,21 @@
-//! Progress: quiet means finished, few attempts are rejected, and one list of classes follows the other.
+//! Progress: every run ends, quiet means finished, who waits and why, few attempts are rejected, and
+//! one list of classes follows the other.
 //!
-//! The one contract to the layer above, in three parts.
+//! The one contract to the layer above, in five parts.
 //!
+//! - On every lawful log a round has an event, so that there are no more rounds than marks, and one
+//!   (`law_rounds_end`); once a settle has ended, nothing is in flight and everything is acknowledged
+//!   (`law_quiet_after_settle`). Whatever is given, where its events submit each transaction at most
+//!   once, it has a complete log, or the limit ends it (`law_run_ends`); so a settle ends, and leaves
+//!   the links quiet where the limit doesn't end the run (`law_settle_ends`).
+//! - When a READ waits at a data module, is answered or is rejected; that no ring of waits comes about;
+//!   and what is known of free classes. First what stands at the heads of pipes, how a READ began to
+//!   wait, and where its conditions come from (`pipes_laws`); then why a READ is rejected
+//!   (`rejections_laws`), that one whose conditions are met is answered before the event is over
+//!   (`answers_laws`), and that classes on no simple cycle neither wait nor are rejected (`free_laws`).
+//!   The graph of waits of a catalogue's protocol table fits its blocks (`law_table_fits`), so no READ
+//!   of it waits for ever (`law_no_ring_waits`). `instances` has worked logs that meet what some of
+//!   these laws ask.
 //! - Where nothing is in flight or unacknowledged, nothing is due at a site and no data module is
 //!   down, every message is handed over and processed, no attempt is under way, no transaction is
 //!   queued, and every transaction that was submitted is committed (`law_finished`,
@@ -17,13 +31,22 @@
 //!   (`law_few_attempts_across_lists`).
 #![tactic(auto)]
 
+pub mod answers_laws;
+mod ending_law;
 mod few_rejected_law;
 mod few_rejected_worked;
+pub mod free_laws;
+pub mod instances;
 mod law;
 mod parts;
+pub mod pipes_laws;
+mod quiet_law;
+pub mod rejections_laws;
+mod rounds_law;
 mod succession_law;
 mod worked;
 
+pub use ending_law::{law_run_ends, law_settle_ends};
 pub use few_rejected_law::{law_few_attempts, law_few_rejected, law_rejects};
 pub use few_rejected_worked::law_one_rejected;
 pub use law::{
@@ -31,10 +54,12 @@ pub use law::{
     law_none_left, law_resting, law_settled,
 };
 pub use parts::{law_class_zero, law_exchanges, law_handed, law_none_waits, law_unanswered};
+pub use quiet_law::{
+    law_diagonals_listed, law_no_path_to_writer, law_no_ring_waits, law_table_fits,
+};
+pub use rounds_law::{law_quiet_after_settle, law_rounds, law_rounds_end};
 pub use succession_law::{law_few_attempts_across_lists, law_lawful, law_timely};
 pub use worked::{law_all_lost, law_late_query, law_read_and_put};
 
 // What lies below, for the crates above.
 pub use sdd_lawful;
-pub use sdd_termination;
-pub use sdd_waiting;

@@ -1,6 +1,6 @@
 ghost use Rattle.std.specs.Prelude.{ℕ, ◌<◌, ◌≡◌, List, Some, slice_get};
 ghost use Rattle.sdd_obligations.specs.All.{Change, ClassNo, Cond, Ts, TxnNo, Write, dm_no, head, history, pipe_at};
-ghost use Rattle.sdd_waiting.specs.Examples.{conds_of_query, given_put_later, put_handed};
+ghost use Rattle.sdd_progress.specs.WaitExamples.{conds_of_query, given_put_later, put_handed};
 ghost use Rattle.sdd_progress.specs.Committed.{AllCommitted};
 ghost use Rattle.sdd_progress.specs.Examples.{given_all_lost, given_late_query, log_of_all_lost, log_of_late_query};
 ghost use Rattle.sdd_progress.specs.Finished.{IsFinished};

@@ -1,11 +1,11 @@
 -- The names of std, of the crates below and of this crate's definitions that its proofs cite. Declares nothing.
 pub use Rattle.sdd_acyclic.proofs.EachTable.{each_table}
-pub use Rattle.sdd_lawful.proofs.Applies.{keeps_applies}
-pub use Rattle.sdd_lawful.proofs.Effects.{keeps_answers}
-pub use Rattle.sdd_lawful.proofs.Places.{place_rises, stands_there}
-pub use Rattle.sdd_lawful.proofs.Starts.{event_of_submit, keeps_starts}
-pub use Rattle.sdd_lawful.proofs.Submissions.{given_at, submit_in}
-pub use Rattle.sdd_lawful.specs.Given.{AreErasOf, HasSoundData}
+pub use Rattle.sdd_watch.proofs.run.progress.lawful.Applies.{keeps_applies}
+pub use Rattle.sdd_watch.proofs.run.progress.lawful.Effects.{keeps_answers}
+pub use Rattle.sdd_watch.proofs.run.progress.lawful.Places.{place_rises, stands_there}
+pub use Rattle.sdd_watch.proofs.run.progress.lawful.Starts.{event_of_submit, keeps_starts}
+pub use Rattle.sdd_watch.proofs.run.progress.lawful.Submissions.{given_at, submit_in}
+pub use Rattle.sdd_watch.specs.run.progress.lawful.Given.{AreErasOf, HasSoundData}
 pub use Rattle.sdd_obligations.proofs.Done.{count_join, done}
 pub use Rattle.sdd_obligations.proofs.Linking.{lawful_part as lawful_before}
 pub use Rattle.sdd_obligations.proofs.base.Membership.{Contains-cases, Contains-here, Contains-later, Contains-nil}
@@ -57,54 +57,54 @@ pub use Rattle.sdd_obligations.specs.logs.Marks.{from_event}
 pub use Rattle.sdd_obligations.specs.logs.Traffic.{turned_by}
 pub use Rattle.sdd_obligations.specs.serial_orders.Orders.{IsAlong}
 pub use Rattle.sdd_obligations.specs.serial_orders.SerialOrder.{serial_order}
-pub use Rattle.sdd_run.proofs.Forces.{list_at as list_at_number}
-pub use Rattle.sdd_run.proofs.Goods.{few_ticks}
-pub use Rattle.sdd_run.proofs.Left.{told_rows}
-pub use Rattle.sdd_run.proofs.Lossless.{listed_submits}
-pub use Rattle.sdd_run.proofs.Marked.{named as named_by_events}
-pub use Rattle.sdd_run.proofs.Ordered.{orderable, starts}
-pub use Rattle.sdd_run.proofs.Reported.{reported}
-pub use Rattle.sdd_run.proofs.RunOf.{eras_are, few_lists, fine, lists, permitted}
-pub use Rattle.sdd_run.proofs.Settled.{quiet_behind, settled}
-pub use Rattle.sdd_run.proofs.Submissions.{once}
-pub use Rattle.sdd_run.proofs.class_lists.OtherClasses.{whole_over}
-pub use Rattle.sdd_run.proofs.class_lists.WholeSound.{whole_named, whole_sound}
-pub use Rattle.sdd_run.proofs.make.ValidEvents.{txns_count}
-pub use Rattle.sdd_run.proofs.make.ValidTxns.{choose}
-pub use Rattle.sdd_run.proofs.make.ValidWorkloads.{workload_valid}
-pub use Rattle.sdd_run.proofs.progress.ErasOf.{index_or}
-pub use Rattle.sdd_run.proofs.script.EventLaws.{plain_space as plain_spaceless}
-pub use Rattle.sdd_run.proofs.script.NamePlaces.{place_of_name}
-pub use Rattle.sdd_run.proofs.script.WordLooks.{name_fine, no_newline-append, value_fine}
-pub use Rattle.sdd_run.specs.Reports.{report_of}
-pub use Rattle.sdd_run.specs.Runs.{EndsAtLimit, IsReportOn, IsSummaryOn, given_of, order_of}
-pub use Rattle.sdd_run.specs.Settled.{EndsQuiet, NoneIsDown}
-pub use Rattle.sdd_run.specs.Standing.{IsSubmittedBefore, StandsBefore}
-pub use Rattle.sdd_run.specs.class_lists.InForce.{classes_in, eras_in, whole_in}
-pub use Rattle.sdd_run.specs.make.Bank.{bank}
-pub use Rattle.sdd_run.specs.make.Draws.{draw, shown}
-pub use Rattle.sdd_run.specs.make.Summary.{is_commit, summary_of}
-pub use Rattle.sdd_run.specs.make.Turns.{arrival, deliveries, delivery, drawn_events, drawn_txn, events_of, turn, turns, turns_of, txns_of, workload_of}
-pub use Rattle.sdd_run.specs.progress.Committed.{AllCommitted}
-pub use Rattle.sdd_run.specs.progress.Eras.{eras_of}
-pub use Rattle.sdd_run.specs.report.Committed.{Told, names_of, order_line, shipped_line, shipped_of, told_of}
-pub use Rattle.sdd_run.specs.report.Copies.{copies_lines, copy_lines, place_words}
-pub use Rattle.sdd_run.specs.report.Names.{attempt_word, class_name, class_time, class_word, fragment_name, module_word, site_word, spaced, txn_name}
-pub use Rattle.sdd_run.specs.report.Pending.{pending_line, pending_lines, why_words}
-pub use Rattle.sdd_run.specs.report.Replies.{queries_from, query_lines, replies_along, reply_lines, row_line, value_bytes}
-pub use Rattle.sdd_run.specs.report.Report.{Report, after_replies, report_text}
-pub use Rattle.sdd_run.specs.report.Trace.{cond_words, of_attempt, of_visit, record_words, time_word, trace, trace_line}
-pub use Rattle.sdd_run.specs.report.declared.copies.CopyTable.{CopyTable}
-pub use Rattle.sdd_run.specs.report.declared.pending.Pending.{Pending}
-pub use Rattle.sdd_run.specs.report.declared.pending.Why.{Why}
-pub use Rattle.sdd_run.specs.report.declared.pending.Why.TheVariants.{Queued, Underway, Waits}
-pub use Rattle.sdd_run.specs.script.Valid.{AssignsValue, HoldsValues, IsValid, IsValidEvent, IsValidRow, IsValidTxn, IsValue}
-pub use Rattle.sdd_run.specs.script.declared.workload.Workload.{Workload}
-pub use Rattle.sdd_run.specs.world.AtSites.{standing_at}
-pub use Rattle.sdd_run.specs.world.Copies.{tables_of}
-pub use Rattle.sdd_run.specs.world.Standings.{standing_at_t, standing_at_u}
-pub use Rattle.sdd_termination.proofs.Ends.{run_ends}
-pub use Rattle.sdd_termination.proofs.Marked.{next_is_of_events}
+pub use Rattle.sdd_watch.proofs.run.Forces.{list_at as list_at_number}
+pub use Rattle.sdd_watch.proofs.run.Goods.{few_ticks}
+pub use Rattle.sdd_watch.proofs.run.Left.{told_rows}
+pub use Rattle.sdd_watch.proofs.run.Lossless.{listed_submits}
+pub use Rattle.sdd_watch.proofs.run.Marked.{named as named_by_events}
+pub use Rattle.sdd_watch.proofs.run.Ordered.{orderable, starts}
+pub use Rattle.sdd_watch.proofs.run.Reported.{reported}
+pub use Rattle.sdd_watch.proofs.run.RunOf.{eras_are, few_lists, fine, lists, permitted}
+pub use Rattle.sdd_watch.proofs.run.Settled.{quiet_behind, settled}
+pub use Rattle.sdd_watch.proofs.run.Submissions.{once}
+pub use Rattle.sdd_watch.proofs.run.class_lists.OtherClasses.{whole_over}
+pub use Rattle.sdd_watch.proofs.run.class_lists.WholeSound.{whole_named, whole_sound}
+pub use Rattle.sdd_watch.proofs.run.make.ValidEvents.{txns_count}
+pub use Rattle.sdd_watch.proofs.run.make.ValidTxns.{choose}
+pub use Rattle.sdd_watch.proofs.run.make.ValidWorkloads.{workload_valid}
+pub use Rattle.sdd_watch.proofs.run.progress.ErasOf.{index_or}
+pub use Rattle.sdd_watch.proofs.run.script.EventLaws.{plain_space as plain_spaceless}
+pub use Rattle.sdd_watch.proofs.run.script.NamePlaces.{place_of_name}
+pub use Rattle.sdd_watch.proofs.run.script.WordLooks.{name_fine, no_newline-append, value_fine}
+pub use Rattle.sdd_watch.specs.run.Reports.{report_of}
+pub use Rattle.sdd_watch.specs.run.Runs.{EndsAtLimit, IsReportOn, IsSummaryOn, given_of, order_of}
+pub use Rattle.sdd_watch.specs.run.Settled.{EndsQuiet, NoneIsDown}
+pub use Rattle.sdd_watch.specs.run.Standing.{IsSubmittedBefore, StandsBefore}
+pub use Rattle.sdd_watch.specs.run.class_lists.InForce.{classes_in, eras_in, whole_in}
+pub use Rattle.sdd_watch.specs.run.make.Bank.{bank}
+pub use Rattle.sdd_watch.specs.run.make.Draws.{draw, shown}
+pub use Rattle.sdd_watch.specs.run.make.Summary.{is_commit, summary_of}
+pub use Rattle.sdd_watch.specs.run.make.Turns.{arrival, deliveries, delivery, drawn_events, drawn_txn, events_of, turn, turns, turns_of, txns_of, workload_of}
+pub use Rattle.sdd_watch.specs.run.progress.Committed.{AllCommitted}
+pub use Rattle.sdd_watch.specs.run.progress.Eras.{eras_of}
+pub use Rattle.sdd_watch.specs.run.report.Committed.{Told, names_of, order_line, shipped_line, shipped_of, told_of}
+pub use Rattle.sdd_watch.specs.run.report.Copies.{copies_lines, copy_lines, place_words}
+pub use Rattle.sdd_watch.specs.run.report.Names.{attempt_word, class_name, class_time, class_word, fragment_name, module_word, site_word, spaced, txn_name}
+pub use Rattle.sdd_watch.specs.run.report.Pending.{pending_line, pending_lines, why_words}
+pub use Rattle.sdd_watch.specs.run.report.Replies.{queries_from, query_lines, replies_along, reply_lines, row_line, value_bytes}
+pub use Rattle.sdd_watch.specs.run.report.Report.{Report, after_replies, report_text}
+pub use Rattle.sdd_watch.specs.run.report.Trace.{cond_words, of_attempt, of_visit, record_words, time_word, trace, trace_line}
+pub use Rattle.sdd_watch.specs.run.report.declared.copies.CopyTable.{CopyTable}
+pub use Rattle.sdd_watch.specs.run.report.declared.pending.Pending.{Pending}
+pub use Rattle.sdd_watch.specs.run.report.declared.pending.Why.{Why}
+pub use Rattle.sdd_watch.specs.run.report.declared.pending.Why.TheVariants.{Queued, Underway, Waits}
+pub use Rattle.sdd_watch.specs.run.script.Valid.{AssignsValue, HoldsValues, IsValid, IsValidEvent, IsValidRow, IsValidTxn, IsValue}
+pub use Rattle.sdd_watch.specs.run.script.declared.workload.Workload.{Workload}
+pub use Rattle.sdd_watch.specs.run.world.AtSites.{standing_at}
+pub use Rattle.sdd_watch.specs.run.world.Copies.{tables_of}
+pub use Rattle.sdd_watch.specs.run.world.Standings.{standing_at_t, standing_at_u}
+pub use Rattle.sdd_watch.proofs.run.progress.Ends.{run_ends}
+pub use Rattle.sdd_watch.proofs.run.progress.Marked.{next_is_of_events}
 pub use Rattle.sdd_verified.specs.Lines.{tells_pending}
 pub use Rattle.sdd_verified.specs.Parts.{all_pending_words, all_shipped_words, answers_words, copies_words, copy_words, order_words, outcome_words, pending_words, queries_words, query_words, replies_words, reply_words, row_words, rows_words, shipped_words}
 pub use Rattle.sdd_verified.specs.Summaries.{SettleAll, TellsAllDone, takes_down}

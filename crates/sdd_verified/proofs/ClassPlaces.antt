@@ -2,7 +2,7 @@
 -- behind the `redeclare`s before the event that submits it.
 use Rattle.sdd_verified.proofs.All.{All, All-head, All-tail, Catalogue, Event, IsValidEvent, List, None, Option, Redeclare, Some, Txn, [], ap, arith, cases_eq, class_for, class_if, classes_from, cond, eq-eqb, false, inl, inr, length, ne_eqb, one_if, redeclared, redeclares_in, refl, slice_get, slice_index_or, some_is, submits_in, submitted_by, suc, sym, true, zero, ℕ, ◌++◌, ◌+◌, ◌-◌, ◌==◌, ◌∙◌, ◌∷◌, ◌≡◌, ◌≤◌}
 use Rattle.sdd_verified.proofs.Numbered.{Submits, counted, counted_by, number_by, number_in, some_place, submits}
-use Rattle.sdd_run.specs.script.Valid as scripts
+use Rattle.sdd_watch.specs.run.script.Valid as scripts
 
 -- how many `redeclare`s stand before the event that submits transaction n, where so many stand before the events
 

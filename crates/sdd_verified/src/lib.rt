@@ -19,6 +19,7 @@ pub use summary_law::{law_all_committed, law_made_all_committed};
 pub use text_law::law_one_text;
 
 // What lies below, for the crates above.
-pub use sdd_run;
-pub use sdd_run::{sdd_make, sdd_report, sdd_script, sdd_world};
 pub use sdd_verify;
+pub use sdd_watch;
+pub use sdd_watch::sdd_run;
+pub use sdd_watch::sdd_run::{sdd_make, sdd_report, sdd_script, sdd_world};

@@ -1,0 +1,65 @@
+-- What an entry of the log of everything does at a data module.
+use Rattle.sdd_progress.proofs.AllWaits.{Act, Bool, D, Did, DmNo, Does, Entry, Given, Handed, IsDue, IsPermitted, List, Log, Msg, None, Option, Pipe, Rec, Records, Redeclared, Site, Some, Submits, Ticked, [], allowed_act, ap, false, goes_through, head, head_of, home_of, if◌then◌else◌, is_processing, is_wait, local_of, local_step, made, maker, pipe, put, refl, setting_of, subst, true, view_of, waits, with_made, ℕ, ◌++◌, ◌==◌, ◌||◌, ◌∙◌, ◌∷◌, ◌≡◌}
+use Rattle.sdd_obligations.specs.site_module.SiteLog as site
+
+abbrev pub at_module : Given → DmNo → Log → site.Log
+at_module g d log = local_of g (D d) log
+
+-- the pipe of a class is as it was, and its head waits as it did
+pub record LeavesPipe (l k : site.Log) (c : ℕ) : Type 0 where
+  pub pipe_same : pipe c k ≡ pipe c l
+  pub waits_same : waits c k ≡ waits c l
+
+-- it leaves all pipes, hands a message over, or is an act of the module, which was due
+pub data IsEntryAt (g : Given) (d : DmNo) (log : Log) (e : Entry) : Type 0 where
+  aside : ((c : ℕ) → LeavesPipe (at_module g d log) (at_module g d (e ∷ log)) c) → IsEntryAt g d log e
+  handing : (from : Site) (m : Msg) → at_module g d (e ∷ log) ≡ Handed from m ∷ at_module g d log → IsEntryAt g d log e
+  acting : (act : Act) → e ≡ Does (D d) act → at_module g d (e ∷ log) ≡ Did act ∷ at_module g d log
+      → IsDue (home_of (setting_of g (D d))) (view_of (setting_of g (D d)) (at_module g d log)) act → IsEntryAt g d log e
+
+leaves : (l k : site.Log) (c : ℕ) → k ≡ l → LeavesPipe l k c
+leaves l k c e = record { pipe_same = ap (pipe c) e; waits_same = ap (waits c) e }
+
+leaves_as : (l k : site.Log) (x : site.Entry) (c : ℕ) → k ≡ x ∷ l → pipe c (x ∷ l) ≡ pipe c l → waits c (x ∷ l) ≡ waits c l → LeavesPipe l k c
+leaves_as l k x c e p w = record { pipe_same = ap (pipe c) e ∙ p; waits_same = ap (waits c) e ∙ w }
+
+by_made : (g : Given) (d : DmNo) (log : Log) (e : Entry) (o : Option site.Entry) → IsPermitted g (e ∷ log)
+    → made g (D d) log e ≡ o → at_module g d (e ∷ log) ≡ with_made o (at_module g d log) → IsEntryAt g d log e
+by_made g d log e None h m s = aside (λ c. leaves (at_module g d log) (at_module g d (e ∷ log)) c s)
+by_made g d log e (Some (Handed from x)) h m s = handing from x s
+by_made g d log e (Some (Did act)) h m s =
+    let is = maker g (D d) log e (Did act) m in
+    acting act is s (allowed_act g log (Does (D d) act) (subst (λ x. IsPermitted g (x ∷ log)) is h).0)
+by_made g d log e (Some (Ticked n)) h m s = aside (λ c. leaves_as (at_module g d log) (at_module g d (e ∷ log)) (Ticked n) c s refl refl)
+by_made g d log e (Some (Submits n txn)) h m s = aside (λ c. leaves_as (at_module g d log) (at_module g d (e ∷ log)) (Submits n txn) c s refl refl)
+by_made g d log e (Some (Redeclared force t)) h m s = aside (λ c. leaves_as (at_module g d log) (at_module g d (e ∷ log)) (Redeclared force t) c s refl refl)
+
+pub entry_at : (g : Given) (d : DmNo) (log : Log) (e : Entry) → IsPermitted g (e ∷ log) → IsEntryAt g d log e
+entry_at g d log e h = by_made g d log e (made g (D d) log e) h refl (local_step g (D d) e log)
+
+-- a hand leaves the head that is there
+
+kept_head : (xs : List Msg) (m x : Msg) → head_of xs ≡ Some x → head_of (xs ++ m ∷ []) ≡ Some x
+kept_head [] m x e = cc
+kept_head (y ∷ xs) m x e = e
+
+put_head : (b : Bool) (p : Pipe) (m x : Msg) → head p ≡ Some x → head (if b then put m p else p) ≡ Some x
+put_head true p m x e = kept_head p.unprocessed m x e
+put_head false p m x e = e
+
+pub handed_head : (c : ℕ) (from : Site) (m x : Msg) (l : site.Log) → head (pipe c l) ≡ Some x → head (pipe c (Handed from m ∷ l)) ≡ Some x
+handed_head c from m x l e = put_head (goes_through c m) (pipe c l) m x e
+
+-- a record of another class leaves whether the head waits; and so does one that processes nothing, where it waits
+
+pub waits_other : (c k : ℕ) (r : Rec) (sends : List (Site × Msg)) (l : site.Log) → (k == c) ≡ false → waits c (Did (Records k r sends) ∷ l) ≡ waits c l
+waits_other c k r sends l e = rw e refl
+
+still_waits : (b : Bool) (p y w : Bool) → p ≡ false → w ≡ true → (if b then (if p then false else (y || w)) else w) ≡ true
+still_waits true true y w p h = cc
+still_waits true false true w p h = refl
+still_waits _ _ _ w p h = h
+
+pub waits_on : (c k : ℕ) (r : Rec) (sends : List (Site × Msg)) (l : site.Log) → is_processing r ≡ false → waits c l ≡ true
+    → waits c (Did (Records k r sends) ∷ l) ≡ true
+waits_on c k r sends l p w = still_waits (k == c) (is_processing r) (is_wait r) (waits c l) p w

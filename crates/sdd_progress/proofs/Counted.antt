@@ -1,0 +1,64 @@
+-- A lawful log has no more rounds than marks, and one.
+use Rattle.sdd_progress.proofs.AllEnds.{Event, Given, IsLawful, IsTheLog, IsWithin, List, Log, MAX_RUN_EVENTS, Mark, None, Redeclares, Round, [], after_mark, ap, arith, complete_parts, left, length, ltb-false, mark_of, marks, refl, rounds, suc, ℕ, ◌+◌, ◌<◌, ◌^◌, ◌∷◌, ◌≡◌, ◌≤◌}
+use Rattle.sdd_progress.proofs.Beginning.{round_begins}
+
+-- a round in progress counts for one
+abbrev in_progress : List Event → ℕ
+in_progress [] = 0
+in_progress (e ∷ events) = 1
+
+one_at_most : (events : List Event) → in_progress events ≤ 1
+one_at_most [] = omega arith
+one_at_most (e ∷ events) = omega arith
+
+one_where_some : (events : List Event) → 0 < length events → in_progress events ≡ 1
+one_where_some [] l = absurd (omega arith)
+one_where_some (e ∷ events) l = refl
+
+-- a mark ends a round, if it is the last of its events
+after_one : (rest : List Event × List Event) (r m : ℕ) → r ≤ m + in_progress rest.1 → r ≤ suc m + in_progress (after_mark rest).1
+after_one (ws, e ∷ f ∷ events) r m h = omega arith
+after_one (ws, _) r m h = omega arith
+
+counted : (g : Given) (log : Log) → IsLawful g log → rounds log ≤ marks log + in_progress (left g.events log).1
+counted g [] h = omega arith
+counted g (Mark e ∷ log) h = after_one (left g.events log) (rounds log) (marks log) (counted g log h.1)
+counted g (Redeclares t ∷ log) h = after_one (left g.events log) (rounds log) (marks log) (counted g log h.1)
+counted g (Round es ∷ log) h =
+    let before = counted g log h.1 in
+    let r = round_begins g log es h.0 in
+    let none : in_progress (left g.events log).1 ≡ 0 = ap in_progress r.0 in
+    let one = one_where_some es r.2 in
+    omega arith
+counted g (_ ∷ log) h = counted g log h.1
+
+pub few_rounds : (g : Given) (log : Log) → IsLawful g log → rounds log ≤ suc (marks log)
+few_rounds g log h =
+    let c = counted g log h in
+    let o = one_at_most (left g.events log).1 in
+    omega arith
+
+-- a log within the limits has no more marks than events may be
+few_marks : (log : Log) → IsWithin log → marks log ≤ MAX_RUN_EVENTS
+few_marks [] w = omega arith
+few_marks (Mark e ∷ log) w = let l = ltb-false MAX_RUN_EVENTS (suc (marks log)) w.0 in omega (arith, l)
+few_marks (Redeclares t ∷ log) w = let l = ltb-false MAX_RUN_EVENTS (suc (marks log)) w.0 in omega (arith, l)
+few_marks (_ ∷ log) w = few_marks log w.1
+
+pub few_within : (g : Given) (log : Log) → IsLawful g log → IsWithin log → rounds log ≤ 2 ^ 32
+few_within g log h w =
+    let r = few_rounds g log h in
+    let m = few_marks log w in
+    omega arith
+
+-- where nothing is next no round is in progress
+none_in_progress : (g : Given) (log : Log) (rest : List Event × List Event) → mark_of g log rest ≡ None → in_progress rest.1 ≡ 0
+none_in_progress g log (ws, []) h = refl
+none_in_progress g log (ws, e ∷ events) h = absurd (cc)
+
+pub few_complete : (g : Given) (log : Log) → IsTheLog g log → rounds log < 2 ^ 32
+few_complete g log is =
+    let r = counted g log is.lawful in
+    let none = none_in_progress g log (left g.events log) (complete_parts g log is.complete).no_next in
+    let m = few_marks log is.within in
+    omega arith

@@ -1,0 +1,191 @@
+-- The conditions of a READ of a declared class come from the table that was in force at its Start.
+use Rattle.sdd_progress.proofs.AllWaits.{AllDiagonalsIn, AreConditionsOf, Bool, Catalogue, ClassNo, Cond, D, Diagonal, Did, DmNo, Does, Edge, FragNo, Given, Hand, Handed, Horizontal, IsFromTable, IsPermitted, IsPutAt, IsRead, List, Log, Mark, Msg, None, Option, P1, P2, P3, Protocol, Queued, Read, Redeclares, Setting, Site, Some, Submitted, T, Tick, Ticked, TmNo, Ts, Txn, TxnNo, Use, Vertical, [], all_of, and_left, and_right, ap, ascending, asked_by, asked_in, asked_on, bound, class_at, class_number, class_puts, classes_of, cond, cond_for, cond_of, condition_on, conditions, conditions_at, cons_option, eqb-true, false, filter_map, force_at, frag_no, fragments_in, home, if_way, in_force, in_left, in_none, in_one, in_pipe, inl, inr, is_asked, local_of, map, next_stamp, option_or, origin, pipe_at, redeclares, refl, same_or_not, same_protocol, same_site, sends_of_act, setting_of, slice_get, start_at, start_puts, start_read, subst, suc, sym, tm_no, to_site, true, txn_at, uses_of, with_submit, zero, ℕ, ◌&&◌, ◌++◌, ◌==◌, ◌∙◌, ◌∷◌, ◌≡◌, ◌≢◌, ◌⊎◌}
+use Rattle.sdd_obligations.specs.protocol.declared.entry.Entry as line
+use Rattle.sdd_obligations.specs.site_module.SiteLog as site
+
+-- the classes in force at a transaction module are those of the list that was put in force last
+
+after_submit : (s : Setting) (n : ℕ) (o : Option Txn) (l : site.Log) → in_force s (with_submit n o l) ≡ in_force s l
+after_submit s n None l = refl
+after_submit s n (Some txn) l = refl
+
+force_there : (g : Given) (t : TmNo) (log : Log) → in_force (setting_of g (T t)) (local_of g (T t) log) ≡ force_at g (redeclares log)
+force_there g t [] = refl
+force_there g t (Mark (Tick u n) ∷ log) =
+    let l : site.Log = local_of g (T t) log in
+    if_way (λ (x : site.Log). in_force (setting_of g (T t)) x ≡ force_at g (redeclares log)) (same_site (T t) (T u)) (Ticked n ∷ l) l (force_there g t log)
+    (force_there g t log)
+force_there g t (Redeclares u ∷ log) = refl
+force_there g t (Hand from to n m ∷ log) =
+    let l : site.Log = local_of g (T t) log in
+    if_way (λ (x : site.Log). in_force (setting_of g (T t)) x ≡ force_at g (redeclares log)) (same_site (T t) to) (Handed from m ∷ l) l (force_there g t log)
+    (force_there g t log)
+force_there g t (Submitted to n ∷ log) =
+    let l : site.Log = local_of g (T t) log in
+    if_way (λ (x : site.Log). in_force (setting_of g (T t)) x ≡ force_at g (redeclares log)) (same_site (T t) to) (with_submit n (txn_at g n) l) l
+    (after_submit (setting_of g (T t)) n (txn_at g n) l ∙ force_there g t log) (force_there g t log)
+force_there g t (Does by act ∷ log) =
+    let l : site.Log = local_of g (T t) log in
+    if_way (λ (x : site.Log). in_force (setting_of g (T t)) x ≡ force_at g (redeclares log)) (same_site (T t) by) (Did act ∷ l) l (force_there g t log)
+    (force_there g t log)
+force_there g t (_ ∷ log) = force_there g t log
+
+force_of_class : (g : Given) (c : ℕ) (log : Log) → c ≢ 0
+    → in_force (setting_of g (home g.catalogue c)) (local_of g (home g.catalogue c) log) ≡ force_at g (redeclares log)
+force_of_class g c log n =
+    let z : (c == 0) ≡ false = elim (same_or_not c 0) [ inl p ↦ absurd (n p) | inr p ↦ p ] in
+    let t : TmNo = tm_no (class_at g.catalogue c).tm.0 in
+    let here : home g.catalogue c ≡ T t = rw z refl in
+    ap (λ a. in_force (setting_of g a) (local_of g a log)) here ∙ force_there g t log
+
+-- a diagonal that asks
+
+protocol_same : (p q : Protocol) → same_protocol p q ≡ true → p ≡ q
+protocol_same P1 P1 e = refl
+protocol_same P2 P2 e = refl
+protocol_same P3 P3 e = refl
+protocol_same _ _ e = cc
+
+cond_some : (b : Bool) (o : Option FragNo) (f : FragNo) → cond b o None ≡ Some f → (b ≡ true) × (o ≡ Some f)
+cond_some true o f e = (refl, e)
+cond_some false o f e = cc
+
+pub record IsAsked (i j : ℕ) (f : FragNo) (e : Edge) : Type 0 where
+  pub reader : ClassNo
+  pub writer : ClassNo
+  pub is : e ≡ Diagonal reader writer f
+  pub reader_is : reader.0 ≡ i
+  pub writer_is : writer.0 ≡ j
+
+asked_edge : (test : ℕ → Bool) (i j : ℕ) (e : Edge) (f : FragNo) → asked_on test i j e ≡ Some f → IsAsked i j f e
+asked_edge test i j (Vertical k) f e = cc
+asked_edge test i j (Horizontal k l) f e = cc
+asked_edge test i j (Diagonal a b h) f e =
+    let p = cond_some ((a.0 == i) && ((b.0 == j) && test h.0)) (Some h) f e in
+    let same : h ≡ f = (let q : ◌≡◌ {A = Option FragNo} (Some h) (Some f) = p.1 in cc) in
+    record { reader = a; writer = b; is = ap (Diagonal a b) same; reader_is = eqb-true a.0 i (and_left _ _ p.0); writer_is = eqb-true b.0 j (and_left _ _ (and_right _ _ p.0)) }
+
+pub in_filter_mapped : {A B : Type 0} (f : A → Option B) (xs : List A) (k : ℕ) (y : B) → slice_get (filter_map f xs) k ≡ Some y
+    → (j : ℕ) × (x : A) × (slice_get xs j ≡ Some x) × (f x ≡ Some y)
+in_filter_mapped f [] k y e = cc
+in_filter_mapped {A = A} {B = B} f (x ∷ xs) k y e =
+    elim (f x) as (λ o. f x ≡ o → slice_get (cons_option o (filter_map f xs)) k ≡ Some y → (j : ℕ) × (z : A) × (slice_get (x ∷ xs) j ≡ Some z) × (f z ≡ Some y)) [
+      | None ↦ λ p q. let i = in_filter_mapped f xs k y q in (suc i.0, i.1, i.2, i.3)
+      | Some w ↦ λ p q. elim k as (λ n. slice_get (w ∷ filter_map f xs) n ≡ Some y → (j : ℕ) × (z : A) × (slice_get (x ∷ xs) j ≡ Some z) × (f z ≡ Some y)) [
+        | zero ↦ λ r. let s : ◌≡◌ {A = B} w y = cc in (0, x, refl, p ∙ ap (λ v. Some v) s)
+        | suc n ↦ λ r. let i = in_filter_mapped f xs n y r in (suc i.0, i.1, i.2, i.3)
+      ] q
+    ] refl e
+
+diagonals : (table : List line.Entry) (protocol : Protocol) (test : ℕ → Bool) (i j : ℕ) → AllDiagonalsIn table protocol i j (asked_by protocol test table i j)
+diagonals table protocol test i j k f e =
+    let m = in_filter_mapped (asked_in protocol test i j) table k f e in
+    let p = cond_some (same_protocol m.1.protocol protocol) (asked_on test i j m.1.edge) f m.3 in
+    let a = asked_edge test i j m.1.edge f p.1 in
+    record { place = m.0; entry = m.1; there = m.2; reader = a.reader; writer = a.writer; edge_is = a.is; reader_is = a.reader_is; writer_is = a.writer_is; protocol_is = protocol_same m.1.protocol protocol p.0 }
+
+-- a condition for fragments
+
+pub record IsFor (j t : ℕ) (frags : List FragNo) (q : Cond) : Type 0 where
+  pub first : FragNo
+  pub more : List FragNo
+  pub some : frags ≡ first ∷ more
+  pub class_is : q.class.0 ≡ j
+  pub time_is : q.time.0 ≡ t
+  pub frags_are : q.frags ≡ frags
+
+for_is : (j t : ℕ) (frags : List FragNo) (q : Cond) → cond_for j t frags ≡ Some q → IsFor j t frags q
+for_is j t [] q e = cc
+for_is j t (f ∷ fs) q e =
+    let p : cond_of j t (f ∷ fs) ≡ q = cc in
+    record { first = f; more = fs; some = refl; class_is = sym (ap (λ (x : Cond). x.class.0) p); time_is = sym (ap (λ (x : Cond). x.time.0) p); frags_are = sym (ap (λ (x : Cond). x.frags) p) }
+
+either_some : (a b : Option Cond) (q : Cond) → option_or a b ≡ Some q → (a ≡ Some q) ⊎ (b ≡ Some q)
+either_some None b q e = inr e
+either_some (Some x) b q e = inl e
+
+all_as : (table : List line.Entry) (p : Protocol) (i j : ℕ) (q : Cond) (frags : List FragNo) → q.class.0 ≡ j → q.frags ≡ frags
+    → AllDiagonalsIn table p i j frags → AllDiagonalsIn table p i q.class.0 q.frags
+all_as table p i j q frags c f h = subst (λ k. AllDiagonalsIn table p i k q.frags) (sym c) (subst (AllDiagonalsIn table p i j) (sym f) h)
+
+on_class : (table : List line.Entry) (test : ℕ → Bool) (i own p2 j : ℕ) (q : Cond) → condition_on test table i own p2 j ≡ Some q → IsFromTable table i own p2 q
+on_class table test i own p2 j q e =
+    let thirds : List FragNo = asked_by P3 test table i j in
+    let seconds : List FragNo = asked_by P2 test table i j in
+    elim (either_some (cond_for j own thirds) (cond_for j p2 seconds) q e) [
+      | inl p ↦ (let f = for_is j own thirds q p in
+          record { first = f.first; more = f.more; names = f.frags_are ∙ f.some; by = inl (f.time_is, all_as table P3 i j q thirds f.class_is f.frags_are (diagonals table P3 test i j)) })
+      | inr p ↦ (let f = for_is j p2 seconds q p in
+          record { first = f.first; more = f.more; names = f.frags_are ∙ f.some; by = inr (f.time_is, all_as table P2 i j q seconds f.class_is f.frags_are (diagonals table P2 test i j)) })
+    ]
+
+pub from_table : (cat : Catalogue) (table : List line.Entry) (c : ℕ) (frags : List ℕ) (own p2 d k : ℕ) (q : Cond) → c ≢ 0
+    → slice_get (conditions_at cat table c frags own p2 d) k ≡ Some q → IsFromTable table c own p2 q
+from_table cat table c frags own p2 d k q n e =
+    let z : (c == 0) ≡ false = elim (same_or_not c 0) [ inl p ↦ absurd (n p) | inr p ↦ p ] in
+    let listed : slice_get (conditions cat table c d (map frag_no frags) own p2) k ≡ Some q = rw z at e in
+    let m = in_filter_mapped (condition_on (is_asked cat c d (map frag_no frags)) table c own p2) (classes_of cat) k q listed in
+    on_class table (is_asked cat c d (map frag_no frags)) c own p2 m.1 q m.3
+
+-- the READ of an attempt
+
+conds_in : Msg → List Cond
+conds_in (Read ts of txn attempt conds uses) = conds
+conds_in _ = []
+
+abbrev frags_asked : Setting → Queued → List ℕ
+frags_asked s q = ascending (fragments_in (uses_of s.catalogue q.text))
+
+read_conds : (s : Setting) (c : ℕ) (log : site.Log) (q : Queued) (d : ℕ) (ts : Ts) (of : ClassNo) (txn : TxnNo) (attempt : ℕ) (conds : List Cond) (uses : List Use)
+    → start_read s c log q d ≡ Read ts of txn attempt conds uses
+    → conditions_at s.catalogue (in_force s log).table c (frags_asked s q) (next_stamp s log) (bound s log) d ≡ conds
+unfolding conds_in
+read_conds s c log q d ts of txn attempt conds uses e = ap conds_in e
+
+start_conds : (s : Setting) (b : Site) (log : site.Log) (c : ℕ) (q : Queued) (k : ℕ) (ts : Ts) (of : ClassNo) (txn : TxnNo) (attempt : ℕ) (conds : List Cond) (uses : List Use)
+    → slice_get (to_site b (sends_of_act (start_at s c log q))) k ≡ Some (Read ts of txn attempt conds uses)
+    → (d : ℕ) × (conditions_at s.catalogue (in_force s log).table c (frags_asked s q) (next_stamp s log) (bound s log) d ≡ conds)
+start_conds s b log c q k ts of txn attempt conds uses e = elim (start_puts s c b log q) [
+  | inl p ↦ in_none _ k (Read ts of txn attempt conds uses) p e
+  | inr p ↦ (p.0, read_conds s c log q p.0 ts of txn attempt conds uses (in_one _ _ k (Read ts of txn attempt conds uses) p.1 e))
+]
+
+conditions_by : (g : Given) (log : Log) (c : ℕ) (d : DmNo) (ts : Ts) (of : ClassNo) (txn : TxnNo) (attempt : ℕ) (conds : List Cond) (uses : List Use)
+    → c ≢ 0 → IsPutAt g log c d (Read ts of txn attempt conds uses) → AreConditionsOf g log c ts.0 conds
+conditions_by g log c d ts of txn attempt conds uses n p =
+    let at : Site = home g.catalogue c in
+    let s : Setting = setting_of g at in
+    let l : site.Log = local_of g at p.before in
+    let same : of.0 ≡ c = class_number of.0 c ts.0 p.of_class in
+    let r : IsRead s l p.act c ts.0 txn.0 attempt = subst (λ j. IsRead s l p.act j ts.0 txn.0 attempt) same p.by in
+    let there : slice_get (to_site (D d) (sends_of_act (start_at s c l r.queued))) p.place ≡ Some (Read ts of txn attempt conds uses) = subst
+    (λ x. slice_get (to_site (D d) (sends_of_act x)) p.place ≡ Some (Read ts of txn attempt conds uses)) r.act_is p.there in
+    let i = start_conds s (D d) l c r.queued p.place ts of txn attempt conds uses there in
+    let by_stamp : (k : ℕ) (q : Cond) → slice_get conds k ≡ Some q → IsFromTable (in_force s l).table c (next_stamp s l)
+    (bound s l) q = λ k q e. from_table g.catalogue (in_force s l).table c (frags_asked s r.queued) (next_stamp s l) (bound s l) i.0 k q n
+    (subst (λ ds. slice_get ds k ≡ Some q) (sym i.1) e) in
+    record {
+      later = p.later;
+      before = p.before;
+      queued = r.queued;
+      is = p.is ∙ ap (λ x. p.later ++ Does at x ∷ p.before) r.act_is;
+      ts_is = r.time_is;
+      from_table = λ k q e. subst (λ f. IsFromTable f.table c ts.0 (bound s l) q) (force_of_class g c p.before n)
+          (subst (λ t. IsFromTable (in_force s l).table c t (bound s l) q) (sym r.time_is) (by_stamp k q e));
+    }
+
+-- wherever it stands in a pipe
+pub conditions_of : (g : Given) (log : Log) (c : ℕ) (d : DmNo) (k : ℕ) (ts : Ts) (of : ClassNo) (txn : TxnNo) (attempt : ℕ) (conds : List Cond) (uses : List Use)
+    → IsPermitted g log → c ≢ 0 → slice_get (all_of (pipe_at g c d log)) k ≡ Some (Read ts of txn attempt conds uses) → AreConditionsOf g log c ts.0 conds
+conditions_of g log c d k ts of txn attempt conds uses h n e =
+    let m : Msg = Read ts of txn attempt conds uses in
+    let i = in_pipe g c d log h in
+    let there : slice_get (class_puts g c d log) k ≡ Some m = subst (λ ms. slice_get ms k ≡ Some m) (sym i.1)
+    (in_left (all_of (pipe_at g c d log)) i.0 k m e) in
+    conditions_by g log c d ts of txn attempt conds uses n (origin g c d log k m h there)
+
+-- and by the act that put the READ
+pub conditions_at_put : (g : Given) (log : Log) (c : ℕ) (d : DmNo) (ts : Ts) (of : ClassNo) (txn : TxnNo) (attempt : ℕ) (conds : List Cond) (uses : List Use)
+    → c ≢ 0 → (p : IsPutAt g log c d (Read ts of txn attempt conds uses)) → (from : AreConditionsOf g log c ts.0 conds) × (from.before ≡ p.before)
+unfolding conditions_by
+conditions_at_put g log c d ts of txn attempt conds uses n p = (conditions_by g log c d ts of txn attempt conds uses n p, refl)

@@ -1,5 +1,0 @@
-use Rattle.sdd_waiting.proofs.OfLawful.{answered_or_rejected}
-use Rattle.sdd_waiting.proofs.answers_laws.law_answered_or_rejected.Goals as goal
-
-pub returns : goal.returns
-returns g = answered_or_rejected

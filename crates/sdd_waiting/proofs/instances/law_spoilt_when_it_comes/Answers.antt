@@ -1,8 +1,0 @@
-use Rattle.sdd_waiting.proofs.Examples.{query_is_judged, query_is_rejected}
-use Rattle.sdd_waiting.proofs.instances.law_spoilt_when_it_comes.Goals as goal
-
-pub returns-clause-judged : goal.returns-clause-judged
-returns-clause-judged g = query_is_judged
-
-pub returns-clause-rejected : goal.returns-clause-rejected
-returns-clause-rejected g = query_is_rejected

@@ -1,5 +1,0 @@
-use Rattle.sdd_waiting.proofs.StuckHeads.{head_stuck}
-use Rattle.sdd_waiting.proofs.pipes_laws.law_heads.Goals as goal
-
-pub returns : goal.returns
-returns g = head_stuck

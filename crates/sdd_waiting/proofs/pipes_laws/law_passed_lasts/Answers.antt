@@ -1,5 +1,0 @@
-use Rattle.sdd_waiting.proofs.Passing.{passed_later}
-use Rattle.sdd_waiting.proofs.pipes_laws.law_passed_lasts.Goals as goal
-
-pub returns : goal.returns
-returns g = passed_later
