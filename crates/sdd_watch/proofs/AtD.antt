@@ -1,0 +1,82 @@
+-- What a data module keeps tells how it stands.
+use Rattle.std.proofs.Common.{Bool, List, None, Option, Some, ap, arith, filter, if◌then◌else◌, length, map, not, refl, suc, true, false, zero, ℕ, ◌&&◌, ◌+◌, ◌<◌, ◌∙◌, ◌∷◌, ◌≡◌, ◌≤◌}
+use Rattle.std.specs.List.{filter_map, range_with_len}
+use Rattle.sdd_obligations.specs.All.{Change, ClassNo, Cond, DmNo, Kept, Msg, Read, Setting, Write, class_no, head, holds_back, is_met, pipe, view_of, waits}
+use Rattle.sdd_obligations.specs.dm.Heads.{head_at, holds_in, is_met_in, unmet}
+use Rattle.sdd_obligations.specs.dm.Stands.{Shows, Stands}
+use Rattle.sdd_obligations.specs.dm.State.{State}
+use Rattle.sdd_obligations.specs.dm.Views.{ClassView, class_view}
+use Rattle.sdd_obligations.specs.dm.Waiting.{holder_at, holders_in, holders_of, lacking_in, lacking_of}
+use Rattle.sdd_obligations.specs.site_module.SiteLog.{Log}
+use Rattle.sdd_obligations.proofs.invariants.logs.dm.ByClass.{filter_same}
+use Rattle.sdd_obligations.proofs.invariants.logs.dm.Shown.{head_shown, met_is, waits_shown}
+use Rattle.sdd_inside.specs.declared.standing.Head.{Head}
+use Rattle.sdd_inside.specs.declared.standing.Head.TheVariants.{Held, Waits}
+use Rattle.sdd_watch.specs.Keeping.{head_in}
+use Rattle.sdd_watch.specs.States.{dm_told, head_by, head_told}
+
+-- the classes whose READ holds back a WRITE
+
+-- numbers of a range that are chosen, and what stands there
+chosen : (f : ℕ → Bool) (g : ClassView → Bool) (s : Setting) (log : Log) (a n : ℕ) → ((c : ℕ) → c < a + n → f c ≡ g (class_view s log c))
+    → filter_map (λ c. if f c then Some (class_no c) else None) (range_with_len a n)
+    ≡ map (λ k. class_no k.class) (filter g (map (class_view s log) (range_with_len a n)))
+chosen f g s log a zero h = refl
+chosen f g s log a (suc n) h =
+    elim (g (class_view s log a)) as (λ b. g (class_view s log a) ≡ b
+    → filter_map (λ c. if f c then Some (class_no c) else None) (a ∷ range_with_len (a + 1) n)
+    ≡ map (λ k. class_no k.class) (filter g (class_view s log a ∷ map (class_view s log) (range_with_len (a + 1) n)))) [
+      | true ↦ λ e. rw (h a (omega arith) ∙ e, e, chosen f g s log (a + 1) n (λ c l. h c (omega arith))) refl
+      | false ↦ λ e. rw (h a (omega arith) ∙ e, e, chosen f g s log (a + 1) n (λ c l. h c (omega arith))) refl
+    ] refl
+
+holder_is : (s : Setting) (st : State) (log : Log) (j w : ℕ) (changes : List Change) (c : ℕ) → Shows s st log → c ≤ length s.catalogue.classes
+    → holds_in st.pipes st.waits j w changes c ≡ (waits c log && holds_back j w changes (head (pipe c log)))
+holder_is s st log j w changes c h l =
+    ap (λ b. b && holds_back j w changes (head_at st.pipes c)) (waits_shown s st log c h l)
+    ∙ ap (λ m. waits c log && holds_back j w changes m) (head_shown s st log c h l)
+
+holders_are : (s : Setting) (st : State) (log : Log) (j w : ℕ) (changes : List Change) → Shows s st log
+    → filter_map (holder_at st.pipes st.waits j w changes) (range_with_len 0 (length st.pipes))
+    ≡ map (λ k. class_no k.class) (filter (λ k. k.waits && holds_back j w changes (head k.pipe)) (view_of s log).classes)
+holders_are s st log j w changes h =
+    ap (λ n. filter_map (holder_at st.pipes st.waits j w changes) (range_with_len 0 n)) h.pipes
+    ∙ chosen (holds_in st.pipes st.waits j w changes) (λ k. k.waits && holds_back j w changes (head k.pipe)) s log 0 (suc (length s.catalogue.classes))
+    (λ c l. holder_is s st log j w changes c h (omega arith))
+
+-- the head of a pipe, by what is kept of the pipes
+
+unmet_is : (s : Setting) (st : State) (log : Log) → Shows s st log → (conds : List Cond)
+    → unmet st.pipes conds ≡ filter (λ d. not (is_met (view_of s log) d)) conds
+unmet_is s st log h conds =
+    filter_same (λ d. not (is_met_in st.pipes d)) (λ d. not (is_met (view_of s log) d)) conds (λ d. ap not (met_is s st log h d))
+
+head_is : (s : Setting) (st : State) (log : Log) (c : ℕ) (w : Bool) (o : Option Msg) → Shows s st log
+    → head_in (class_no c) (if w then lacking_of st.pipes o else None) (holders_of st.pipes st.waits c o) ≡ head_by (view_of s log) c w o
+head_is s st log c true (Some (Read ts class txn attempt conds uses)) h = ap (λ ds. Some (Waits (class_no c) ds)) (unmet_is s st log h conds)
+head_is s st log c false (Some (Read ts class txn attempt conds uses)) h = refl
+head_is s st log c true (Some (Write ts class txn changes)) h = ap (λ ks. Some (Held (class_no c) ks)) (holders_are s st log c ts.0 changes h)
+head_is s st log c false (Some (Write ts class txn changes)) h = ap (λ ks. Some (Held (class_no c) ks)) (holders_are s st log c ts.0 changes h)
+head_is s st log c true None h = refl
+head_is s st log c false None h = refl
+head_is s st log c true (Some m) h = refl
+head_is s st log c false (Some m) h = refl
+
+pub told_head : (st : State) (s : Setting) (log : Log) (c : ClassNo) (conds : Option (List Cond)) (readers : Option (List ClassNo)) → Shows s st log
+    → c.0 ≤ length s.catalogue.classes → conds ≡ lacking_in st.pipes st.waits c.0 → readers ≡ holders_in st.pipes st.waits c.0
+    → head_in c conds readers ≡ head_told (view_of s log) (class_view s log c.0)
+told_head st s log c conds readers shows l e f =
+    ap (λ ds. head_in c ds readers) e ∙ ap (head_in c (lacking_in st.pipes st.waits c.0)) f
+    ∙ ap (λ b. head_in c (if b then lacking_of st.pipes (head_at st.pipes c.0) else None) (holders_of st.pipes st.waits c.0 (head_at st.pipes c.0)))
+    (waits_shown s st log c.0 shows l)
+    ∙ ap (λ m. head_in c (if waits c.0 log then lacking_of st.pipes m else None) (holders_of st.pipes st.waits c.0 m)) (head_shown s st log c.0 shows l)
+    ∙ head_is s st log c.0 (waits c.0 log) (head (pipe c.0 log)) shows
+
+-- all of it
+pub told_is : (k : Kept State) (s : Setting) (log : Log) (d : DmNo) (down : Bool) (heads : List Head) (n : ℕ) → Stands k s log
+    → n ≡ length k.value.pipes → heads ≡ filter_map (head_told (view_of s log)) (map (class_view s log) (range_with_len 0 n))
+    → dm_told s log d.0 down ≡ record { dm = d; is_down = down; heads = heads }
+told_is k s log d down heads n stands e f =
+    let all : heads ≡ filter_map (head_told (view_of s log)) (view_of s log).classes =
+    f ∙ ap (λ m. filter_map (head_told (view_of s log)) (map (class_view s log) (range_with_len 0 m))) (e ∙ stands.shows.pipes) in
+    rw all refl

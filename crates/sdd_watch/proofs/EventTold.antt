@@ -1,0 +1,155 @@
+-- An event is carried out and told, over plain worlds.
+use Rattle.std.proofs.Common.{ℕ, suc, ◌≡◌, ◌∙◌, refl, ap, sym, subst, arith, List, [], ◌∷◌, ◌++◌, length, Option, Some, None}
+use Rattle.sdd_obligations.specs.All.{Deliver, Down, Event, Given, IsLawful, IsPossible, Log, Lose, Mark, Redeclare, Redeclares, Repeat, Resend, Rests, Round, Settle, Submit, Tick, Up, after_mark, left, marks, next, with_event}
+use Rattle.sdd_obligations.specs.base.Words.{tail_of}
+use Rattle.sdd_obligations.specs.logs.Entries.{Entry}
+use Rattle.sdd_obligations.specs.logs.Marks.{from_event, mark_of}
+use Rattle.sdd_obligations.proofs.logs.Completing.{one_more}
+use Rattle.sdd_obligations.proofs.logs.Grows.{grows, lawful_grows}
+use Rattle.sdd_inside.specs.Lines.{line}
+use Rattle.sdd_run.specs.world.Standing.{StandsFor}
+use Rattle.sdd_run.specs.world.declared.world.World.{World}
+use Rattle.sdd_run.proofs.world.Rounds.{single}
+use Rattle.sdd_watch.specs.Happens.{place_in, round_in, rounds}
+use Rattle.sdd_watch.specs.Telling.{IsTold, Tells}
+use Rattle.sdd_watch.specs.Text.{change}
+use Rattle.sdd_watch.specs.Watching.{IsTellable, IsToTell, IsTurn, Watches, foreseen_by}
+use Rattle.sdd_watch.specs.declared.foreseen.Foreseen.{Foreseen}
+use Rattle.sdd_watch.specs.declared.teller.Teller.{Teller}
+use Rattle.sdd_watch.specs.declared.watch.Turn.{Turn}
+use Rattle.sdd_watch.specs.declared.watch.Watch.{Watch}
+use Rattle.sdd_watch.proofs.EachEvent.{IsMarkedBetween, event_of, goes_to_end, is_between, last_is, one_more_mark}
+use Rattle.sdd_watch.proofs.GivenMore.{first_from, next_mark_is, one_longer}
+use Rattle.sdd_watch.proofs.InRounds.{no_mark_more, none_in_round}
+use Rattle.sdd_watch.proofs.TextSoFar.{text_given, text_more, text_round}
+
+-- what is kept stays where a round begins, and where an event more is given
+
+watches_round : (g : Given) (es : List Event) (log : Log) (w : Watch) → Watches g log w → Watches g (Round es ∷ log) w
+watches_round g es log w h =
+    record { sites = h.sites; links = h.links; queues = h.queues; pipes = h.pipes; records = h.records; commits = h.commits; dones = h.dones }
+
+pub watches_given : (g : Given) (f : Event) (log : Log) (w : Watch) → Watches g log w → Watches (with_event g f) log w
+watches_given g f log w h =
+    record { sites = h.sites; links = h.links; queues = h.queues; pipes = h.pipes; records = h.records; commits = h.commits; dones = h.dones }
+
+pub tells_round : (g : Given) (es : List Event) (log : Log) (t : Teller) → Tells g log t → Tells g (Round es ∷ log) t
+tells_round g es log t h = record {
+  catalogue_is = h.catalogue_is;
+  text_is = h.text_is ∙ sym (text_round g es log);
+  watches = watches_round g es log t.watch h.watches;
+}
+
+pub tells_given : (g : Given) (f : Event) (log : Log) (t : Teller) → IsLawful g log → Tells g log t → Tells (with_event g f) log t
+tells_given g f log t l h = record {
+  catalogue_is = h.catalogue_is;
+  text_is = h.text_is ∙ sym (text_given g f log l);
+  watches = watches_given g f log t.watch h.watches;
+}
+
+-- What was told is told of the longer log: its line stands behind the text, and what is kept stands at its end.
+pub record GetsTold (g : Given) (old new : Log) (t t2 : Teller) : Type 0 where
+  pub catalogue : t2.catalogue.now ≡ t.catalogue.now
+  pub text : t2.text.items ≡ t.text.items ++ line g.catalogue g.txns (change g old new)
+  pub watches : Watches g new t2.watch
+
+pub tells_on : (g : Given) (old new : Log) (e : Event) (t t2 : Teller) → IsMarkedBetween g old new e → Tells g old t → GetsTold g old new t t2
+    → Tells g new t2
+tells_on g old new e t t2 b h gets = record {
+  catalogue_is = gets.catalogue ∙ h.catalogue_is;
+  text_is =
+      gets.text ∙ ap (λ xs. xs ++ line g.catalogue g.txns (change g old new)) h.text_is ∙ sym (text_more g old new e b);
+  watches = gets.watches;
+}
+
+-- the last event that was given
+
+pub left_marked : (events : List Event) (x : Entry) (e : Event) (log : Log) → event_of x ≡ Some e → left events (x ∷ log) ≡ after_mark (left events log)
+left_marked events (Mark f) e log h = refl
+left_marked events (Redeclares t) e log h = refl
+left_marked events (Round es) e log h = cc
+left_marked events x e log h = cc
+
+-- with its mark nothing is left, so the complete log has one mark more
+pub marked_to_end : (g : Given) (old new : Log) (x : Entry) (e : Event) → IsLawful g old → IsLawful g new → event_of x ≡ Some e
+    → next g old ≡ Some x → after_mark (left g.events old) ≡ ([], []) → next g new ≡ None → IsMarkedBetween g old new e
+marked_to_end g old new x e l k h n none done =
+    let p = goes_to_end g old new x l k n done in
+    let lawful : IsLawful g (p.0 ++ x ∷ old) = subst (IsLawful g) p.1 k in
+    let same = (no_mark_more g p.0 (x ∷ old) lawful (left_marked g.events x e old h ∙ none)).0 in
+    record { entry = x; event_is = h; more = p.0; parts = p.1; lawful = k; marks_are = ap marks p.1 ∙ same ∙ one_more_mark x e old h }
+
+last_place : (g : Given) (log : Log) (x : Entry) (e : Event) (s : List Event × List Event) (total : ℕ) → event_of x ≡ Some e
+    → mark_of g log s ≡ Some x → after_mark s ≡ ([], []) → s.1 ≡ [] → place_in total s ≡ total
+last_place g log x e (ws, y ∷ r) total h n none over = cc
+last_place g log x e (ws, []) total h n none over =
+    let p = first_from g log _ _ ws x e h n in
+    let rest : tail_of (from_event ws) ≡ [] = ap (λ (s : List Event × List Event). s.0) none in
+    let behind : p.0 ≡ [] = sym (ap tail_of p.1) ∙ rest in
+    let one : length (from_event ws) ≡ 1 = ap length p.1 ∙ ap (λ xs. suc (length xs)) behind in
+    omega (arith, one)
+
+pub turn_at_end : (g : Given) (old new : Log) (x : Entry) (e : Event) (place : ℕ) (turn : Turn) → place ≡ length g.events → event_of x ≡ Some e
+    → next g old ≡ Some x → after_mark (left g.events old) ≡ ([], []) → (left g.events old).1 ≡ [] → IsMarkedBetween g old new e
+    → turn.event ≡ e → turn.scheduled ≡ place → turn.round ≡ None → IsTurn g old new turn
+turn_at_end g old new x e place turn is h n none over b event scheduled round = record {
+  event = event ∙ sym (last_is g old new e b);
+  scheduled =
+      scheduled ∙ is ∙ sym (last_place g old x e (left g.events old) (length g.events) h (next_mark_is g old x e h n) none over);
+  round = round ∙ sym (ap (round_in (rounds g.events old)) over);
+}
+
+-- an event of the schedule that is no settle and no redeclare
+
+rests_given : (g : Given) (f : Event) (log : Log) → Rests g log → Rests (with_event g f) log
+rests_given g f log r =
+    record { lawful = lawful_grows g f log r.lawful; within = r.within; no_mark = r.no_mark; no_site = r.no_site; handed_all = r.handed_all }
+
+-- what an event names exists, also where an event more is given
+tellable_given : (g : Given) (f e : Event) → IsPossible g e → IsTellable (with_event g f) e
+tellable_given g f (Submit n) p = p
+tellable_given g f (Deliver a b k) p = p
+tellable_given g f (Lose a b k) p = p
+tellable_given g f (Repeat a b k) p = p
+tellable_given g f (Resend a b) p = p
+tellable_given g f (Tick t n) p = p
+tellable_given g f (Down d) p = p
+tellable_given g f (Up d) p = p
+tellable_given g f Settle p = absurd p
+tellable_given g f Redeclare p = tt
+
+module _ (w w2 : World) (g : Given) (log more : Log) (e : Event) (s : StandsFor w g log) (p : IsPossible g e)
+    (s2 : StandsFor w2 (with_event g e) more) where
+  step_marked : IsMarkedBetween (with_event g e) log more e
+  step_marked =
+      let n = one_more g e log (single g e p) s.calm.rests.lawful s.complete in
+      marked_to_end (with_event g e) log more (Mark e) e (lawful_grows g e log s.calm.rests.lawful) s2.calm.rests.lawful refl n.0 n.1 s2.complete
+
+  step_over : (left (with_event g e).events log).1 ≡ []
+  step_over = ap (λ (x : List Event × List Event). x.1) (grows g e log s.calm.rests.lawful) ∙ none_in_round g log s.complete
+
+  -- it is to be told
+  pub step_to_tell : (t : Teller) (place : ℕ) (turn : Turn) (finds : Foreseen) → IsTold w g log t place
+      → turn.event ≡ e → turn.scheduled ≡ place → turn.round ≡ None → finds ≡ foreseen_by e log
+      → IsToTell (with_event g e) log more w2 t.watch turn finds
+  step_to_tell t place turn finds h event scheduled round found =
+      let n = one_more g e log (single g e p) s.calm.rests.lawful s.complete in
+      let b = step_marked in
+      record {
+        between = is_between (with_event g e) log more e (rests_given g e log s.calm.rests) s2.calm.rests b;
+        calm = s2.calm;
+        watches = watches_given g e log t.watch h.tells.watches;
+        turn_is = turn_at_end (with_event g e) log more (Mark e) e place turn (h.place_is ∙ sym (one_longer g.events e)) refl n.0 n.1 step_over b
+            event scheduled round;
+        foreseen_is = found ∙ ap (λ d. foreseen_by d log) (sym event);
+        tellable = subst (IsTellable (with_event g e)) (sym event) (tellable_given g e e p);
+      }
+
+  -- and told
+  pub step_told : (t t2 : Teller) (place : ℕ) → IsTold w g log t place → GetsTold (with_event g e) log more t t2
+      → IsTold w2 (with_event g e) more t2 (suc place)
+  step_told t t2 place h gets = record {
+    stands = s2;
+    tells = tells_on (with_event g e) log more e t t2 step_marked (tells_given g e log t s.calm.rests.lawful h.tells) gets;
+    place_is = ap (λ n. suc n) (h.place_is ∙ sym (one_longer g.events e));
+  }

@@ -1,0 +1,28 @@
+-- What is kept beside links, queues and pipes stays where these change.
+use Rattle.std.proofs.Common.{ℕ, ◌≡◌, ◌∙◌, List, ◌++◌, drop, length, map, take, ap, subst, sym}
+use Rattle.std.proofs.Math.Seq.{take-append_seam}
+use Rattle.std.proofs.lemmas.List.{length-map}
+use Rattle.sdd_obligations.specs.All.{Given, Log, history}
+use Rattle.sdd_watch.specs.Watching.{AreCommits, AreDones, Knows, Watches}
+use Rattle.sdd_watch.specs.declared.commits.Commits.{Commits}
+use Rattle.sdd_watch.specs.declared.dones.Dones.{Dones}
+use Rattle.sdd_watch.specs.declared.watch.Watch.{Watch}
+
+pub known : (g : Given) (log : Log) (w : Watch) → Watches g log w → Knows g log w
+known g log w h = record { sites = h.sites; records = h.records; commits = h.commits; dones = h.dones }
+
+pub beside : (g : Given) (log : Log) (w v : Watch) → v.sites ≡ w.sites → v.records ≡ w.records → v.commits ≡ w.commits → v.dones ≡ w.dones
+    → Knows g log w → Knows g log v
+beside g log w v sites records commits dones h = record {
+  sites = ap (λ s. s.items) sites ∙ h.sites;
+  records = records ∙ h.records;
+  commits = subst (λ (k : Commits). AreCommits (history log) k) (sym commits) h.commits;
+  dones = subst (λ (k : Dones). AreDones g log k) (sym dones) h.dones;
+}
+
+-- what a loop over a slice of them wrote
+pub written_back : {A B : Type 0} (f g : B → A) (xs : List B) (old new : List A) (n : ℕ) → n ≡ length old → old ≡ map f xs → new ≡ map g xs
+    → take n (new ++ drop (length new) old) ≡ map g xs
+written_back f g xs old new n count was is =
+    let long : n ≡ length new = count ∙ ap length was ∙ length-map xs f ∙ sym (length-map xs g) ∙ sym (ap length is) in
+    ap (λ k. take k (new ++ drop (length new) old)) long ∙ take-append_seam new (drop (length new) old) ∙ is

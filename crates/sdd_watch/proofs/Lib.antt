@@ -1,0 +1,46 @@
+pub mod Apart
+pub mod AtD
+pub mod AtT
+pub mod Attempts
+pub mod Awaited
+mod BegunTold
+pub mod Between
+pub mod Came
+pub mod Committed
+pub mod Cut
+pub mod CutDifference
+mod EachEvent
+mod EventTold
+pub mod FirstPlaces
+pub mod Flights
+pub mod Folding
+pub mod Found
+pub mod FoundBy
+mod GivenMore
+pub mod Happening
+mod InRounds
+pub mod KeptBeside
+pub mod LinksLooked
+pub mod Looked
+pub mod Loops
+pub mod MadeLists
+pub mod Numbered
+pub mod PipesBegun
+pub mod PipesLooked
+pub mod PipesVisited
+pub mod Queued
+pub mod Recorded
+mod RoundEntry
+mod RoundsTold
+pub mod RowsTold
+pub mod Said
+pub mod Saying
+mod Scheduled
+pub mod SoFar
+pub mod Sourced
+pub mod TakingPart
+mod TextSoFar
+pub mod ToTell
+pub mod Unapplied
+pub mod Visited
+pub use Rattle.sdd_run.proofs as run

@@ -1,0 +1,125 @@
+-- A look at a pipe, at what is read of it in the world.
+use Rattle.std.proofs.Common.{◌≡◌, ◌∙◌, ℕ, ◌+◌, ◌-◌, ◌≤◌, List, Option, Some, None, [], length, drop, map, ap, arith, refl, subst}
+use Rattle.sdd_obligations.specs.All.{D, DmNo, Given, IsGood, IsSiteOf, Kept, Log, Msg, Pipe, Setting, Ts, class_no, dm_no, head_of, local_of, pipe, setting_of, time_at, time_of}
+use Rattle.sdd_obligations.specs.dm.Due.{or_zero}
+use Rattle.sdd_obligations.specs.dm.State.{State}
+use Rattle.sdd_obligations.specs.pipe.Digest.{Digest, IsDigest, passed_with}
+use Rattle.sdd_obligations.specs.pipe.Digest as digest
+use Rattle.sdd_obligations.specs.pipe.Pipe.{greatest}
+use Rattle.sdd_obligations.specs.pipe.Pipes.{pipe_at}
+use Rattle.sdd_obligations.specs.site_module.SiteLog as site
+use Rattle.sdd_obligations.proofs.logs.NewMarks.{lawful_permitted}
+use Rattle.sdd_inside.specs.declared.moment.PipeMoment.{PipeMoment}
+use Rattle.sdd_run.specs.world.Modules.{AllStandFor, LivesD, StandFor}
+use Rattle.sdd_run.specs.world.declared.sites.Sites.{Sites}
+use Rattle.sdd_watch.specs.Looking.{numbers_for}
+use Rattle.sdd_watch.specs.Moments.{came, passed_to, source, time_passed}
+use Rattle.sdd_watch.specs.Watching.{IsBetween, arrived, pipe_after, pipe_before, watched_pipe}
+use Rattle.sdd_watch.specs.declared.watched_link.Arrived.{Arrived}
+use Rattle.sdd_watch.specs.declared.watched_pipe.WatchedPipe.{WatchedPipe}
+use Rattle.sdd_watch.proofs.Came.{all_came, came_is, more_came, processed_is}
+use Rattle.sdd_watch.proofs.Sourced.{source_there}
+
+-- the pipe in the module
+
+lives_at : (g : Given) (log : Log) (sites : Sites) (dm : DmNo) (d : ℕ) (k : Kept State) → dm ≡ dm_no d → AllStandFor sites g log → IsSiteOf g (D (dm_no d))
+    → ((setting : Setting) (own : site.Log) → StandFor sites (D dm) setting own → LivesD k setting own)
+    → LivesD k (setting_of g (D (dm_no d))) (local_of g (D (dm_no d)) log)
+lives_at g log sites dm d k is all here lives =
+    let f : (setting : Setting) (own : site.Log) → StandFor sites (D (dm_no d)) setting own → LivesD k setting own =
+    subst (λ (x : DmNo). (setting : Setting) (own : site.Log) → StandFor sites (D x) setting own → LivesD k setting own) is lives in
+    f (setting_of g (D (dm_no d))) (local_of g (D (dm_no d)) log) (all (D (dm_no d)) here)
+
+-- what the module keeps of a pipe is of that of the log
+digest_at : (g : Given) (log : Log) (d c : ℕ) (k : Kept State) → LivesD k (setting_of g (D (dm_no d))) (local_of g (D (dm_no d)) log)
+    → c ≤ length g.catalogue.classes → IsDigest (pipe_at k.value.pipes c) (pipe c (local_of g (D (dm_no d)) log))
+digest_at g log d c k lives few = (lives.stands_for.shows.classes c few).pipe
+
+passed_by_head : (o : Option Msg) (processed : List Msg) → or_zero (passed_with o (greatest (map time_of processed))) ≡ time_passed o processed
+passed_by_head None processed = refl
+passed_by_head (Some m) processed = refl
+
+passed_told : (d : Digest) (p : Pipe) → IsDigest d p → or_zero (digest.passed_to d) ≡ passed_to p
+passed_told d p is =
+    ap (λ ms. or_zero (passed_with (head_of ms) d.latest)) is.unprocessed
+    ∙ ap (λ o. or_zero (passed_with (head_of p.unprocessed) o)) is.latest ∙ passed_by_head (head_of p.unprocessed) p.processed
+
+-- what is read of a pipe behind the event
+pub record IsRead (g : Given) (new : Log) (d c : ℕ) (unprocessed : ℕ) (passed : Ts) : Type 0 where
+  pub left : unprocessed ≡ length (pipe c (local_of g (D (dm_no d)) new)).unprocessed
+  pub passed_is : passed ≡ time_at (passed_to (pipe c (local_of g (D (dm_no d)) new)))
+
+pub read_pipe : (g : Given) (old new : Log) (d c : ℕ) (w : WatchedPipe) (sites : Sites) (k : Kept State) (unprocessed : ℕ) (passed : Ts)
+    → w ≡ watched_pipe g old (d, c) → AllStandFor sites g new → IsSiteOf g (D (dm_no d)) → c ≤ length g.catalogue.classes
+    → ((setting : Setting) (own : site.Log) → StandFor sites (D w.dm) setting own → LivesD k setting own)
+    → unprocessed ≡ length (pipe_at k.value.pipes w.class.0).unprocessed
+    → passed ≡ time_at (or_zero (digest.passed_to (pipe_at k.value.pipes w.class.0))) → IsRead g new d c unprocessed passed
+read_pipe g old new d c w sites k unprocessed passed is all here few lives u p =
+    let class : w.class ≡ class_no c = ap (λ (x : WatchedPipe). x.class) is in
+    let i = digest_at g new d c k (lives_at g new sites w.dm d k (ap (λ (x : WatchedPipe). x.dm) is) all here lives) few in
+    record {
+      left = u ∙ ap (λ n. length (pipe_at k.value.pipes n.0).unprocessed) class ∙ ap length i.unprocessed;
+      passed_is = p ∙ ap (λ n. time_at (or_zero (digest.passed_to (pipe_at k.value.pipes n.0)))) class
+          ∙ ap time_at (passed_told (pipe_at k.value.pipes c) (pipe c (local_of g (D (dm_no d)) new)) i);
+    }
+
+-- what is kept of it
+
+abbrev with_unprocessed : WatchedPipe → ℕ → WatchedPipe
+with_unprocessed w n = record w { unprocessed = n }
+
+pub pipe_kept : (g : Given) (old new : Log) (d c : ℕ) (w next : WatchedPipe) (unprocessed : ℕ) (passed : Ts) → w ≡ watched_pipe g old (d, c)
+    → IsRead g new d c unprocessed passed → next ≡ record w { unprocessed = unprocessed } → next ≡ watched_pipe g new (d, c)
+pipe_kept g old new d c w next unprocessed passed is read e =
+    e ∙ ap (λ x. with_unprocessed x unprocessed) is ∙ ap (with_unprocessed (watched_pipe g old (d, c))) read.left
+
+-- what is seen of it
+
+abbrev moment_for : WatchedPipe → List ℕ → ℕ → Ts → PipeMoment
+moment_for w numbers processed passed = record { dm = w.dm; class = w.class; came = numbers; processed = processed; passed = passed }
+
+pub seen_before : (g : Given) (old new : Log) (d c : ℕ) (w : WatchedPipe) (unprocessed : ℕ) (passed : Ts) (moment : PipeMoment) (none : List ℕ)
+    → w ≡ watched_pipe g old (d, c) → IsRead g new d c unprocessed passed → none ≡ []
+    → moment ≡ record { dm = w.dm; class = w.class; came = none; processed = 0; passed = passed } → moment ≡ pipe_before g old new (d, c)
+seen_before g old new d c w unprocessed passed moment none is read z e =
+    e ∙ ap (λ x. moment_for x none 0 passed) is ∙ ap (λ ns. moment_for (watched_pipe g old (d, c)) ns 0 passed) z
+    ∙ ap (moment_for (watched_pipe g old (d, c)) [] 0) read.passed_is
+
+-- what came is what was handed over on its link
+numbers_came : (g : Given) (old new : Log) (d c : ℕ) (w : WatchedPipe) (numbers : List ℕ) (here : List Arrived) → IsGood g → IsBetween g old new
+    → IsSiteOf g (D (dm_no d)) → w ≡ watched_pipe g old (d, c) → here ≡ arrived g old new → numbers ≡ numbers_for w.source (D w.dm) w.class.0 here
+    → numbers ≡ drop (length (came g d c old)) (came g d c new)
+numbers_came g old new d c w numbers here good b site is all e =
+    e ∙ ap (λ (x : WatchedPipe). numbers_for x.source (D x.dm) x.class.0 here) is
+    ∙ ap (numbers_for (source g d c) (D (dm_no d)) c) all ∙ came_is g old new d c good b (source_there g d c good site)
+
+-- how many were processed
+count_processed : (g : Given) (old new : Log) (d c : ℕ) (w : WatchedPipe) (numbers : List ℕ) (unprocessed count : ℕ) (passed : Ts)
+    → IsGood g → IsBetween g old new → c ≤ length g.catalogue.classes → w ≡ watched_pipe g old (d, c) → IsRead g new d c unprocessed passed
+    → numbers ≡ drop (length (came g d c old)) (came g d c new) → count ≡ (w.unprocessed + length numbers) - unprocessed
+    → count ≡ length (pipe c (local_of g (D (dm_no d)) new)).processed - length (pipe c (local_of g (D (dm_no d)) old)).processed
+count_processed g old new d c w numbers unprocessed count passed good b few is read came_are e =
+    let o : Pipe = pipe c (local_of g (D (dm_no d)) old) in
+    let n : Pipe = pipe c (local_of g (D (dm_no d)) new) in
+    let a = all_came g old d c (lawful_permitted g old good.once b.before.lawful) (omega (arith, few)) in
+    let z = all_came g new d c (lawful_permitted g new good.once b.after.lawful) (omega (arith, few)) in
+    let m = more_came g old new d c good b in
+    e ∙ ap (λ (x : WatchedPipe). (x.unprocessed + length numbers) - unprocessed) is
+    ∙ ap (λ k. (length o.unprocessed + length numbers) - k) read.left
+    ∙ ap (λ xs. (length o.unprocessed + length xs) - length n.unprocessed) came_are
+    ∙ processed_is (length o.unprocessed) (length n.unprocessed) (length o.processed) (length n.processed) (length (came g d c old)) (length (came g d c new))
+    (length (drop (length (came g d c old)) (came g d c new))) a z m
+
+pub seen_after : (g : Given) (old new : Log) (d c : ℕ) (w : WatchedPipe) (numbers : List ℕ) (unprocessed count : ℕ) (passed : Ts) (moment : PipeMoment)
+    (here : List Arrived) → IsGood g → IsBetween g old new → IsSiteOf g (D (dm_no d)) → c ≤ length g.catalogue.classes → w ≡ watched_pipe g old (d, c)
+    → here ≡ arrived g old new → IsRead g new d c unprocessed passed → numbers ≡ numbers_for w.source (D w.dm) w.class.0 here
+    → count ≡ (w.unprocessed + length numbers) - unprocessed
+    → moment ≡ record { dm = w.dm; class = w.class; came = numbers; processed = count; passed = passed } → moment ≡ pipe_after g old new (d, c)
+seen_after g old new d c w numbers unprocessed count passed moment here good b site few is all read came_are counted e =
+    let p : WatchedPipe = watched_pipe g old (d, c) in
+    let news : numbers ≡ drop (length (came g d c old)) (came g d c new) = numbers_came g old new d c w numbers here good b site is all came_are in
+    e ∙ ap (λ x. moment_for x numbers count passed) is
+    ∙ ap (λ ns. moment_for p ns count passed) news
+    ∙ ap (λ k. moment_for p (drop (length (came g d c old)) (came g d c new)) k passed)
+    (count_processed g old new d c w numbers unprocessed count passed good b few is read news counted)
+    ∙ ap (moment_for p (drop (length (came g d c old)) (came g d c new)) (pipe_after g old new (d, c)).processed) read.passed_is

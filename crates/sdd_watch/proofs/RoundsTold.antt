@@ -1,0 +1,276 @@
+-- The rounds of a settle or a redeclare, told event by event, over plain worlds.
+use Rattle.std.proofs.Common.{ℕ, suc, ◌-◌, ◌+◌, ◌^◌, ◌<◌, ◌≤◌, ◌≡◌, ◌≢◌, ◌∙◌, refl, ap, sym, subst, arith, true, false, List, [], ◌∷◌, ◌++◌, length, Option, Some, None}
+use Rattle.std.specs.Prelude.{MatchOption}
+use Rattle.sdd_obligations.specs.All.{AtEach, Deliver, Down, Event, Given, IsLawful, IsPossible, Log, Lose, MAX_RUN_EVENTS, Mark, Redeclare, Redeclares, Repeat, Resend, Round, Settle, Submit, TakesRounds, Tick, Up, after_mark, all_links, calls_of, greatest_bound, left, marks, next, quiet, with_event}
+use Rattle.sdd_obligations.proofs.logs.Completing.{redeclare_next, settled}
+use Rattle.sdd_run.specs.world.Standing.{Rounding, Settling, StandsFor, events_of}
+use Rattle.sdd_run.specs.world.declared.world.World.{World}
+use Rattle.sdd_run.proofs.world.Rounds.{few, free, round_before, round_ends}
+use Rattle.sdd_watch.specs.Happens.{place_in, round_in, rounds, unless_in_round}
+use Rattle.sdd_watch.specs.Telling.{IsTold, Tells, TellsBetween, TellsRound, TellsSettled}
+use Rattle.sdd_watch.specs.Watching.{IsTellable, IsToTell, IsTurn, foreseen_by}
+use Rattle.sdd_watch.specs.declared.foreseen.Foreseen.{Foreseen}
+use Rattle.sdd_watch.specs.declared.foreseen.Foreseen.TheVariants.{Something}
+use Rattle.sdd_watch.specs.declared.teller.Teller.{Teller}
+use Rattle.sdd_watch.specs.declared.watch.Turn.{Turn}
+use Rattle.sdd_watch.proofs.EachEvent.{IsMarkedBetween, goes_on, is_between, last_is}
+use Rattle.sdd_watch.proofs.EventTold.{GetsTold, marked_to_end, tells_given, tells_on, tells_round, turn_at_end}
+use Rattle.sdd_watch.proofs.GivenMore.{one_longer, rounds_more}
+use Rattle.sdd_watch.proofs.InRounds.{begins_round, left_above, no_rounds_begun, none_left_loud, one_is_left, rounds_stay}
+
+-- what is known of an option that has something, or nothing
+
+pub some_of : {A : Type 0} (o : Option A) (P : Type 0) (Q : A → Type 0) (x : A) → MatchOption o P Q → o ≡ Some x → Q x
+some_of o P Q x h is = subst (λ k. MatchOption k P Q) is h
+
+pub none_of : {A : Type 0} (o : Option A) (P : Type 0) (Q : A → Type 0) → MatchOption o P Q → o ≡ None → P
+none_of o P Q h is = subst (λ k. MatchOption k P Q) is h
+
+-- a settle or a redeclare is given
+pub begins : (w w2 : World) (g : Given) (log : Log) (e : Event) (t : Teller) (place : ℕ) → IsTold w g log t place
+    → Settling w2 (with_event g e) log e → TellsBetween w2 (with_event g e) log e t place 0
+begins w w2 g log e t place h s =
+    let lawful = h.stands.calm.rests.lawful in
+    let done = h.stands.complete in
+    record {
+      settling = s;
+      tells = tells_given g e log t lawful h.tells;
+      place_is = h.place_is ∙ sym (one_longer g.events e);
+      few = omega arith;
+      alone = λ loud. one_is_left g log e lawful done loud;
+      rounds_are = λ loud.
+          rounds_more g e log lawful
+          ∙ no_rounds_begun g log lawful (ap (λ (s : List Event × List Event). s.0) (none_left_loud g log done loud));
+    }
+
+-- a round begins
+pub round_begins : (w : World) (g : Given) (log : Log) (e : Event) (events : List Event) (t : Teller) (place number : ℕ)
+    → TellsBetween w g log e t place number → quiet (all_links g) (calls_of log) ≡ false → Rounding w g (Round events ∷ log) e events
+    → TellsRound w g (Round events ∷ log) e events t place number
+round_begins w g log e events t place number h loud r = record {
+  rounding = r;
+  tells = tells_round g events log t h.tells;
+  place_is = h.place_is;
+  few = h.few;
+  alone = ap (λ (s : List Event × List Event). s.0) (h.alone loud);
+  rounds_are = ap (λ n. suc n) (h.rounds_are loud);
+}
+
+-- it has an event
+pub some_event : (w : World) (g : Given) (log : Log) (e : Event) (events : List Event) → Rounding w g (Round events ∷ log) e events → events ≢ []
+some_event w g log e events r = (begins_round g log events r.calm.rests.lawful.0).some
+
+-- an event of it is carried out
+
+tellable_now : (g : Given) (e : Event) → IsPossible g e → IsTellable g e
+tellable_now g (Submit n) p = p
+tellable_now g (Deliver a b k) p = p
+tellable_now g (Lose a b k) p = p
+tellable_now g (Repeat a b k) p = p
+tellable_now g (Resend a b) p = p
+tellable_now g (Tick t n) p = p
+tellable_now g (Down d) p = p
+tellable_now g (Up d) p = p
+tellable_now g Settle p = absurd p
+tellable_now g Redeclare p = tt
+
+module _ (w w2 : World) (g : Given) (log more : Log) (e ev : Event) (rest : List Event) (t : Teller) (place number : ℕ)
+    (h : TellsRound w g log e (ev ∷ rest) t place number) (r : Rounding w2 g more e rest) (one : w2.marks ≡ suc w.marks) where
+  pub marks_one : marks more ≡ suc (marks log)
+  marks_one = sym r.calm.marks_are ∙ one ∙ ap (λ n. suc n) h.rounding.calm.marks_are
+
+  left_is : left g.events log ≡ (e ∷ [], ev ∷ rest)
+  left_is =
+      let at : left g.events log ≡ (h.rounding.waiting, ev ∷ rest) = h.rounding.left_is in
+      let first : h.rounding.waiting ≡ e ∷ [] = sym (ap (λ (s : List Event × List Event). s.0) at) ∙ h.alone in
+      at ∙ ap (λ ws. (ws, ev ∷ rest)) first
+
+  next_is : next g log ≡ Some (Mark ev)
+  next_is = (round_before w g log e (ev ∷ rest) ev rest h.rounding refl).next_is
+
+  parts : (m : Log) × (more ≡ m ++ Mark ev ∷ log)
+  parts = goes_on g log more (Mark ev) ev h.rounding.calm.rests.lawful r.calm.rests.lawful refl next_is (let grown = marks_one in omega (arith, grown))
+
+  marked : IsMarkedBetween g log more ev
+  marked = record { entry = Mark ev; event_is = refl; more = parts.0; parts = parts.1; lawful = r.calm.rests.lawful; marks_are = marks_one }
+
+  turn_is : (turn : Turn) → turn.event ≡ ev → turn.scheduled ≡ place → turn.round ≡ Some (number + 1) → IsTurn g log more turn
+  turn_is turn event scheduled round =
+      let total : ℕ = length g.events in
+      let alone : place_in total (e ∷ [], ev ∷ rest) ≡ total = omega arith in
+      let after : number + 1 ≡ suc number = omega arith in
+      record {
+        event = event ∙ sym (last_is g log more ev marked);
+        scheduled = scheduled ∙ h.place_is ∙ sym (ap (place_in total) left_is ∙ alone);
+        round =
+            round ∙ ap (λ n. Some n) after
+            ∙ sym (ap (round_in (rounds g.events log)) (ap (λ (s : List Event × List Event). s.1) left_is)
+            ∙ ap (λ n. Some n) h.rounds_are);
+      }
+
+  -- the number of the round fits
+  pub number_fits : number + 1 < 2 ^ 32
+  number_fits =
+      let most : w2.marks ≤ MAX_RUN_EVENTS = few w2 g more r.calm in
+      let now : w2.marks ≡ marks more = r.calm.marks_are in
+      let low : number ≤ marks log = h.few in
+      let grown = marks_one in
+      omega (arith, most, now, low, grown)
+
+  -- it is to be told
+  pub round_to_tell : (turn : Turn) (finds : Foreseen) → turn.event ≡ ev → turn.scheduled ≡ place → turn.round ≡ Some (number + 1)
+      → finds ≡ foreseen_by ev log → IsToTell g log more w2 t.watch turn finds
+  round_to_tell turn finds event scheduled round found = record {
+    between = is_between g log more ev h.rounding.calm.rests r.calm.rests marked;
+    calm = r.calm;
+    watches = h.tells.watches;
+    turn_is = turn_is turn event scheduled round;
+    foreseen_is = found ∙ ap (λ d. foreseen_by d log) (sym event);
+    tellable = subst (IsTellable g) (sym event) (tellable_now g ev h.rounding.possible.0);
+  }
+
+  one_above : marks (parts.0 ++ Mark ev ∷ log) ≡ suc (marks log)
+  one_above = sym (ap marks parts.1) ∙ marks_one
+
+  left_behind : left g.events (Mark ev ∷ log) ≡ (e ∷ [], rest)
+  left_behind = ap after_mark left_is
+
+  left_after : (left g.events more).0 ≡ e ∷ []
+  left_after =
+      ap (λ l. (left g.events l).0) parts.1
+      ∙ left_above g.events parts.0 (Mark ev) ev log refl one_above
+      ∙ ap (λ (s : List Event × List Event). s.0) left_behind
+
+  rounds_after : rounds g.events more ≡ suc number
+  rounds_after =
+      let over : (left g.events (parts.0 ++ Mark ev ∷ log)).1 ≡ rest =
+      ap (λ l. (left g.events l).1) (sym parts.1) ∙ ap (λ (s : List Event × List Event). s.1) r.left_is in
+      let behind : (left g.events (Mark ev ∷ log)).1 ≡ rest = ap (λ (s : List Event × List Event). s.1) left_behind in
+      ap (rounds g.events) parts.1
+      ∙ rounds_stay g parts.0 (Mark ev) ev log (subst (IsLawful g) parts.1 r.calm.rests.lawful) refl one_above (over ∙ sym behind)
+      ∙ ap (λ (s : List Event × List Event). unless_in_round s.1 (rounds g.events log)) left_is
+      ∙ h.rounds_are
+
+  -- and told
+  pub round_told : (t2 : Teller) → GetsTold g log more t t2 → TellsRound w2 g more e rest t2 place number
+  round_told t2 gets = record {
+    rounding = r;
+    tells = tells_on g log more ev t t2 marked h.tells gets;
+    place_is = h.place_is;
+    few = let low : number ≤ marks log = h.few in omega (arith, low, marks_one);
+    alone = left_after;
+    rounds_are = rounds_after;
+  }
+
+-- the events that are left, as another list
+pub with_left : (w : World) (g : Given) (log : Log) (e : Event) (events left : List Event) (t : Teller) (place number : ℕ) → events ≡ left
+    → TellsRound w g log e events t place number → TellsRound w g log e left t place number
+with_left w g log e events left t place number is h = subst (λ es. TellsRound w g log e es t place number) is h
+
+-- a round is over
+pub round_over : (w : World) (g : Given) (log more : Log) (e : Event) (events : List Event) (t : Teller) (place number next : ℕ)
+    → TellsRound w g more e [] t place number → events ≢ [] → number ≤ marks log → marks more ≡ marks log + length events → next ≡ number + 1
+    → TellsBetween w g more e t place next
+round_over w g log more e [] t place number next h some low grown is = absurd (some refl)
+round_over w g log more e (x ∷ events) t place number next h some low grown is = record {
+  settling = round_ends w g more e [] h.rounding refl;
+  tells = h.tells;
+  place_is = h.place_is;
+  few = omega (arith, low, grown, is);
+  alone = λ loud.
+      (let at : left g.events more ≡ (h.rounding.waiting, []) = h.rounding.left_is in
+      let first : h.rounding.waiting ≡ e ∷ [] = sym (ap (λ (s : List Event × List Event). s.0) at) ∙ h.alone in
+      at ∙ ap (λ ws. (ws, [])) first);
+  rounds_are = λ loud. h.rounds_are ∙ (let one : suc number ≡ next = omega (arith, is) in one);
+}
+
+-- with a round fewer events are left till the limit, and the number of the next one fits
+module _ (w w2 : World) (g : Given) (log more : Log) (e : Event) (t t2 : Teller) (place number : ℕ) (events : List Event)
+    (before : TellsBetween w g log e t place number) (h : TellsRound w2 g more e [] t2 place number) (some : events ≢ [])
+    (grown : marks more ≡ marks log + length events) where
+  one_more : marks log < marks more
+  one_more = at events some grown
+    where
+      at : (es : List Event) → es ≢ [] → marks more ≡ marks log + length es → marks log < marks more
+      at [] h k = absurd (h refl)
+      at (x ∷ es) h k = omega (arith, k)
+
+  pub rounds_fall : 2 ^ 32 - events_of w2 < 2 ^ 32 - events_of w
+  rounds_fall =
+      let most : w2.marks ≤ MAX_RUN_EVENTS = few w2 g more h.rounding.calm in
+      let now : w2.marks ≡ marks more = h.rounding.calm.marks_are in
+      let was : w.marks ≡ marks log = before.settling.calm.marks_are in
+      let rose = one_more in
+      omega (arith, most, now, was, rose)
+
+  pub next_fits : number + 1 < 2 ^ 32
+  next_fits =
+      let most : w2.marks ≤ MAX_RUN_EVENTS = few w2 g more h.rounding.calm in
+      let now : w2.marks ≡ marks more = h.rounding.calm.marks_are in
+      let low : number ≤ marks log = before.few in
+      let rose = one_more in
+      omega (arith, most, now, low, rose)
+
+-- the rounds are over
+pub settles : (w : World) (g : Given) (log : Log) (e : Event) (t : Teller) (place number : ℕ) → TellsBetween w g log e t place number
+    → quiet (all_links g) (calls_of log) ≡ true → TellsSettled w g e t place
+settles w g log e t place number h still = record {
+  settled = record { more = log; settling = h.settling; is_quiet = still };
+  tells = h.tells;
+  place_is = h.place_is;
+}
+
+-- a settle has no mark of its own
+pub settle_told : (w : World) (g : Given) (t : Teller) (place : ℕ) → TellsSettled w g Settle t place → (more : Log) × IsTold w g more t (suc place)
+settle_told w g t place h =
+    let s = h.settled.settling in
+    let log = h.settled.more in (
+      log,
+      record {
+        stands = record { calm = s.calm; complete = settled g log s.waiting (free g log s.calm.rests) s.left_is s.ends h.settled.is_quiet };
+        tells = h.tells;
+        place_is = ap (λ n. suc n) h.place_is;
+      },
+    )
+
+-- a redeclare has one, behind its rounds
+module _ (w w2 : World) (g : Given) (t : Teller) (place : ℕ) (h : TellsSettled w g Redeclare t place) (more : Log) (s2 : StandsFor w2 g more) where
+  abbrev last_log : Log
+  last_log = h.settled.more
+
+  listed : (next g last_log ≡ Some (Redeclares (greatest_bound g last_log))) × (after_mark (left g.events last_log) ≡ ([], []))
+  listed =
+      let s = h.settled.settling in
+      redeclare_next g last_log s.waiting (free g last_log s.calm.rests) s.left_is s.ends h.settled.is_quiet
+
+  list_marked : IsMarkedBetween g last_log more Redeclare
+  list_marked =
+      marked_to_end g last_log more (Redeclares (greatest_bound g last_log)) Redeclare h.settled.settling.calm.rests.lawful s2.calm.rests.lawful refl
+      listed.0 listed.1 s2.complete
+
+  -- it is to be told
+  pub list_to_tell : (turn : Turn) → turn.event ≡ Redeclare → turn.scheduled ≡ place → turn.round ≡ None
+      → IsToTell g last_log more w2 t.watch turn Something
+  list_to_tell turn event scheduled round =
+      let over : (left g.events last_log).1 ≡ [] = ap (λ (s : List Event × List Event). s.1) h.settled.settling.left_is in
+      record {
+        between = is_between g last_log more Redeclare h.settled.settling.calm.rests s2.calm.rests list_marked;
+        calm = s2.calm;
+        watches = h.tells.watches;
+        turn_is =
+            turn_at_end g last_log more (Redeclares (greatest_bound g last_log)) Redeclare place turn h.place_is refl listed.0 listed.1 over
+            list_marked event scheduled round;
+        foreseen_is = sym (ap (λ d. foreseen_by d last_log) event);
+        tellable = subst (IsTellable g) (sym event) tt;
+      }
+
+  -- and told
+  pub list_told : (t2 : Teller) → GetsTold g last_log more t t2 → (log : Log) × IsTold w2 g log t2 (suc place)
+  list_told t2 gets = (
+    more,
+    record {
+      stands = s2;
+      tells = tells_on g last_log more Redeclare t t2 list_marked h.tells gets;
+      place_is = ap (λ n. suc n) h.place_is;
+    },
+  )

@@ -1,0 +1,60 @@
+-- Which sites take part in an event.
+use Rattle.std.proofs.Common.{ℕ, ◌≡◌, ◌∙◌, ◌==◌, ◌&&◌, ◌||◌, Bool, true, false, List, [], ◌∷◌, ◌++◌, filter, filter_map, not, if◌then◌else◌, ap, append-nil, refl, sym}
+use Rattle.std.specs.List.{cons_option, list_any}
+use Rattle.sdd_obligations.specs.All.{DmNo, Down, Event, Given, Log, Redeclare, Site, Submit, Tick, TmNo, TxnNo, Up, all_links, handed, same_site}
+use Rattle.sdd_inside.specs.declared.delta.Found.{Found}
+use Rattle.sdd_watch.specs.Happens.{concerns, found_by, is_reached, last_event, takes_part}
+use Rattle.sdd_watch.specs.Watching.{arrived, arrived_on}
+use Rattle.sdd_watch.specs.declared.watched_link.Arrived.{Arrived}
+use Rattle.sdd_watch.proofs.Came.{arrived_if, still}
+
+abbrev is_to : Site → Arrived → Bool
+is_to at one = same_site one.to at
+
+-- messages came to a site where some were handed over on a link to it
+arrived_at : (old new : Log) (at : Site) (ls : List (Site × Site)) → list_any (is_to at) (filter_map (arrived_on old new) ls)
+    ≡ list_any (λ (l : Site × Site). not (handed l.0 l.1 old == handed l.0 l.1 new) && same_site l.1 at) ls
+arrived_at old new at [] = refl
+arrived_at old new at (l ∷ ls) =
+    let rest : List Arrived = filter_map (arrived_on old new) ls in
+    let more : Bool = list_any (λ (l : Site × Site). not (handed l.0 l.1 old == handed l.0 l.1 new) && same_site l.1 at) ls in
+    let i = arrived_at old new at ls in
+    elim (still old new l) as (λ b. list_any (is_to at) (cons_option (arrived_if old new l b) rest) ≡ ((not b && same_site l.1 at) || more)) [
+      | true ↦ i
+      | false ↦ ap (λ r. same_site l.1 at || r) i
+    ]
+
+reached_is : (g : Given) (old new : Log) (at : Site) (known : List Arrived) (b : Bool) → b ≡ list_any (λ (one : Arrived). same_site one.to at) known
+    → known ≡ arrived g old new → b ≡ is_reached g old new at
+reached_is g old new at known b is same = is ∙ ap (list_any (is_to at)) same ∙ arrived_at old new at (all_links g)
+
+pub takes_reached : (g : Given) (old new : Log) (at : Site) (known : List Arrived) (b : Bool)
+    → b ≡ list_any (λ (one : Arrived). same_site one.to at) known → known ≡ arrived g old new → b ≡ true → true ≡ takes_part g old new at
+takes_reached g old new at known b is same e =
+    ap (λ c. c || concerns g new (last_event new) (found_by (last_event new) old new) at) (sym e ∙ reached_is g old new at known b is same)
+
+pub takes_otherwise : (g : Given) (old new : Log) (at : Site) (known : List Arrived) (b own : Bool) (e : Event) (found : Found)
+    → b ≡ list_any (λ (one : Arrived). same_site one.to at) known → known ≡ arrived g old new → b ≡ false → e ≡ last_event new
+    → found ≡ found_by e old new → own ≡ concerns g new e found at → own ≡ takes_part g old new at
+takes_otherwise g old new at known b own e found is same not_reached event found_is concerned =
+    concerned ∙ ap (λ f. concerns g new e f at) found_is ∙ ap (λ x. concerns g new x (found_by x old new) at) event
+    ∙ ap (λ c. c || concerns g new (last_event new) (found_by (last_event new) old new) at) (sym not_reached ∙ reached_is g old new at known b is same)
+
+-- no other event is of a site by itself
+pub of_none : (g : Given) (log : Log) (e : Event) (found : Found) (at : Site) → ((n : TxnNo) → e ≡ Submit n → ⊥)
+    → ((t : TmNo) (n : ℕ) → e ≡ Tick t n → ⊥) → ((d : DmNo) → e ≡ Down d → ⊥) → ((d : DmNo) → e ≡ Up d → ⊥) → (e ≡ Redeclare → ⊥)
+    → false ≡ concerns g log e found at
+of_none g log (Submit n) found at a b c d r = absurd (a n refl)
+of_none g log (Tick t n) found at a b c d r = absurd (b t n refl)
+of_none g log (Down d) found at a b c k r = absurd (c d refl)
+of_none g log (Up d) found at a b c k r = absurd (k d refl)
+of_none g log Redeclare found at a b c d r = absurd (r refl)
+of_none g log _ found at a b c d r = refl
+
+-- a site more
+
+pub one_taken : (p : Site → Bool) (at : Site) (old more : List Site) → p at ≡ true → more ≡ old ++ at ∷ [] → more ≡ old ++ filter p (at ∷ [])
+one_taken p at old more e add = add ∙ ap (λ b. old ++ (if b then at ∷ [] else [])) (sym e)
+
+pub none_taken : (p : Site → Bool) (at : Site) (old : List Site) → p at ≡ false → old ≡ old ++ filter p (at ∷ [])
+none_taken p at old e = sym (append-nil old) ∙ ap (λ b. old ++ (if b then at ∷ [] else [])) (sym e)

@@ -1,0 +1,71 @@
+-- A loop that changes each member of a list, each of which stands for a place: those before the place at hand are as they shall
+-- be, and the others still as they were.
+use Rattle.std.proofs.Common.{◌≡◌, ◌∙◌, ℕ, zero, suc, ◌<◌, ◌≤◌, List, Option, Some, [], ◌∷◌, ◌++◌, length, map, filter_map, take, drop, slice_get, get_or, slice_set, ap, arith, refl, subst, sym}
+use Rattle.std.specs.List.{cons_option}
+use Rattle.std.proofs.lemmas.List.{map-append}
+use Rattle.std.proofs.lemmas.List.Elements.{filter_map-append}
+
+-- as they are when so many are changed
+abbrev pub changed_to : {S W : Type 0} → (S → W) → (S → W) → ℕ → List S → List W
+changed_to old new i places = map new (take i places) ++ map old (drop i places)
+
+-- the place at hand: its member still is as it was, and once that is changed they are so for the next number
+pub record PlaceAt {S W : Type 0} (old new : S → W) (places : List S) (kept : List W) (i j : ℕ) (x : W) : Type 0 where
+  pub place : S
+  pub is_there : slice_get places i ≡ Some place
+  pub stood : x ≡ old place
+  pub further : take j places ≡ take i places ++ place ∷ []
+  pub changed : (next : W) → next ≡ new place → slice_set kept i next ≡ changed_to old new j places
+
+at_place : {S W : Type 0} (old new : S → W) (places : List S) (i : ℕ) (x : W) → i < length places
+    → x ≡ get_or (changed_to old new i places) i x → PlaceAt old new places (changed_to old new i places) i (suc i) x
+at_place old new [] i x few is = absurd (omega (arith, few))
+at_place old new (p ∷ places) zero x few is = record {
+  place = p;
+  is_there = refl;
+  stood = is;
+  further = refl;
+  changed = λ next e. ap (λ y. y ∷ map old places) e;
+}
+at_place old new (p ∷ places) (suc i) x few is =
+    let r = at_place old new places i x (omega (arith, few)) is in
+    record {
+      place = r.place;
+      is_there = r.is_there;
+      stood = r.stood;
+      further = ap (λ ps. p ∷ ps) r.further;
+      changed = λ next e. ap (λ ys. new p ∷ ys) (r.changed next e);
+    }
+
+pub place_at : {S W : Type 0} (old new : S → W) (places : List S) (kept : List W) (i j : ℕ) (x : W) → j ≡ suc i → i < length places
+    → kept ≡ changed_to old new i places → x ≡ get_or kept i x → PlaceAt old new places kept i j x
+place_at old new places kept i j x more few e is =
+    subst (λ ws. PlaceAt old new places ws i j x) (sym e)
+    (subst (λ n. PlaceAt old new places (changed_to old new i places) i n x) (sym more)
+    (at_place old new places i x few (is ∙ ap (λ ws. get_or ws i x) e)))
+
+-- all of them are changed, once the loop is over
+pub all_changed : {S W : Type 0} (old new : S → W) (i : ℕ) (places : List S) → length places ≤ i → changed_to old new i places ≡ map new places
+all_changed old new zero [] past = refl
+all_changed old new (suc i) [] past = refl
+all_changed old new zero (p ∷ places) past = absurd (omega (arith, past))
+all_changed old new (suc i) (p ∷ places) past = ap (λ ys. new p ∷ ys) (all_changed old new i places (omega (arith, past)))
+
+pub take_past : {S : Type 0} (i : ℕ) (places : List S) → length places ≤ i → take i places ≡ places
+take_past zero [] past = refl
+take_past (suc i) [] past = refl
+take_past zero (p ∷ places) past = absurd (omega (arith, past))
+take_past (suc i) (p ∷ places) past = ap (λ ps. p ∷ ps) (take_past i places (omega (arith, past)))
+
+-- what is made of a place more
+
+pub mapped_last : {A B : Type 0} (f : A → B) (xs : List A) (x : A) (all : List A) (made now : List B) (y : B)
+    → made ≡ map f xs → now ≡ made ++ y ∷ [] → y ≡ f x → all ≡ xs ++ x ∷ [] → now ≡ map f all
+mapped_last f xs x all made now y e push is more =
+    push ∙ ap (λ ys. ys ++ y ∷ []) e ∙ ap (λ z. map f xs ++ z ∷ []) is ∙ sym (map-append f xs (x ∷ [])) ∙ ap (map f) (sym more)
+
+pub picked_last : {A B : Type 0} (f : A → Option B) (xs : List A) (x : A) (all : List A) (made now : List B) (y : Option B)
+    → made ≡ filter_map f xs → now ≡ made ++ cons_option y [] → y ≡ f x → all ≡ xs ++ x ∷ [] → now ≡ filter_map f all
+picked_last f xs x all made now y e push is more =
+    push ∙ ap (λ ys. ys ++ cons_option y []) e ∙ ap (λ z. filter_map f xs ++ cons_option z []) is
+    ∙ sym (filter_map-append f xs (x ∷ [])) ∙ ap (filter_map f) (sym more)

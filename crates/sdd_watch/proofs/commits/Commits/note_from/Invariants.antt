@@ -1,0 +1,7 @@
+use Rattle.std.proofs.Common.{take}
+use Rattle.sdd_watch.specs.Watching.{AreCommits}
+use Rattle.sdd_watch.proofs.commits.Commits.note_from.Given as goal
+
+-- the records so far are noted
+abbrev pub invariant-loop-place : goal.invariant-loop-place
+invariant-loop-place l = AreCommits (take l.from l.records) l.fn.self → AreCommits (take l.place l.records) l.self

@@ -1,0 +1,10 @@
+use Rattle.std.proofs.Common.{◌≡◌, ◌-◌, ◌++◌, [], filter, map, not}
+use Rattle.std.specs.BTreeSet.{contains}
+use Rattle.sdd_obligations.specs.All.{dm_no, numbers_to}
+use Rattle.sdd_obligations.specs.serial_orders.Finding.{pair_cmp}
+use Rattle.sdd_watch.proofs.dones.Dones.missing.Given as goal
+
+-- those so far
+abbrev pub invariant-loop-number : goal.invariant-loop-number
+invariant-loop-number l =
+    l.missing.items ≡ [] ++ map dm_no (filter (λ d. not (contains pair_cmp l.self.said (l.ts.0, d))) (numbers_to (l.number - 1)))

@@ -1,0 +1,11 @@
+use Rattle.std.proofs.Common.{ℕ, ◌≡◌, ◌||◌, take}
+use Rattle.std.specs.BTreeSet.{contains}
+use Rattle.std.specs.List.{list_any}
+use Rattle.sdd_obligations.specs.serial_orders.Finding.{pair_cmp}
+use Rattle.sdd_watch.specs.Looking.{says_one}
+use Rattle.sdd_watch.proofs.dones.Dones.note_all.Given as goal
+
+-- what was said before, and by the messages so far
+abbrev pub invariant-messages : goal.invariant-messages
+invariant-messages l = (t d : ℕ)
+    → contains pair_cmp l.self.said (t, d) ≡ (list_any (says_one t d l.dm.0) (take l.message-index l.messages) || contains pair_cmp l.fn.self.said (t, d))

@@ -1,0 +1,12 @@
+use Rattle.std.proofs.Common.{◌∙◌, ap, cond, true}
+use Rattle.std.specs.BTreeSet.{contains}
+use Rattle.sdd_obligations.specs.serial_orders.Finding.{pair_cmp}
+use Rattle.sdd_obligations.proofs.serial_orders.Reading.{same_pair}
+use Rattle.sdd_watch.proofs.Saying.{said_by}
+use Rattle.sdd_watch.proofs.dones.Dones.note_one.Goals as goal
+
+pub returns-in_ok-insert : goal.returns-in_ok-insert
+returns-in_ok-insert c = λ t d.
+    said_by t d c.args.dm.0 c.args.message.now c.in-Applied.ts _ _ c.in-Applied.is
+    (c.in_ok-insert.ensures.updates.0 (t, d)
+    ∙ ap (λ b. cond b true (contains pair_cmp c.args.self.now.said (t, d))) (same_pair (c.in-Applied.ts.0, c.args.dm.0) (t, d)))

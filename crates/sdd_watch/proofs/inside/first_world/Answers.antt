@@ -1,0 +1,42 @@
+use Rattle.std.proofs.Common.{[], ◌≤◌, ◌∙◌, arith, refl, subst, sym}
+use Rattle.std.specs.List.{All}
+use Rattle.sdd_obligations.specs.All.{Catalogue, FitsStart, Given, IsEraOf, IsGood, IsSound, MAX_DMS, MAX_TMS}
+use Rattle.sdd_run.specs.class_lists.InForce.{whole_in}
+use Rattle.sdd_run.specs.world.Beginnings.{AllBegin, BeginsD, IsBegun}
+use Rattle.sdd_run.specs.world.Standing as standing
+use Rattle.sdd_run.specs.world.Standing.{StandsFor}
+use Rattle.sdd_run.proofs.Forces.{first_era, some_table}
+use Rattle.sdd_run.proofs.Starting.{starts}
+use Rattle.sdd_run.proofs.Whole.{rows_start}
+use Rattle.sdd_watch.proofs.inside.first_world.Goals as goal
+
+pub data_modules-requires : goal.data_modules-requires
+data_modules-requires c =
+    let cat = c.args.catalogue.now in
+    let is = c.whole-whole.ensures ∙ c.requires.whole in
+    subst (λ (k : Catalogue). All (FitsStart k) c.as_slice.result.now) (sym is)
+    (subst (λ rows. All (FitsStart (whole_in cat c.args.work)) rows) (sym c.as_slice.ensures) (rows_start cat c.args.work c.requires.valid))
+
+pub first_table-requires : goal.first_table-requires
+first_table-requires c = let some = some_table c.args.catalogue.now c.args.tables.now c.args.work c.requires.tabled in omega (arith, some)
+
+pub new-requires : goal.new-requires
+new-requires c =
+    let is = c.whole-whole.ensures ∙ c.requires.whole in
+    subst (λ (k : Catalogue). IsEraOf k c.args.catalogue.now) (sym is) (first_era c.args.catalogue.now c.args.work)
+
+pub returns-clause-world : goal.returns-clause-world
+returns-clause-world c =
+    let cat = c.args.catalogue.now in
+    let work = c.args.work in
+    let is = c.whole-whole.ensures ∙ c.requires.whole in
+    let sound = subst IsSound is c.known.ensures.sound in
+    let few_tms = subst (λ (k : Catalogue). k.tms ≤ MAX_TMS) is (let few = c.known.ensures.whole.few_tms in omega (arith, few)) in
+    let few_dms = subst (λ (k : Catalogue). k.dms ≤ MAX_DMS) is (let few = c.known.ensures.whole.few_dms in omega (arith, few)) in
+    let dms = c.in_ok-modules.modules.items in
+    let table = c.first_table.result.now in
+    let made = subst (λ (k : Catalogue). AllBegin (BeginsD k c.as_slice.result.now) k.dms dms) is c.in_ok-modules.ensures in
+    let new = subst (λ k. (g : Given) → IsGood g → standing.IsSound g → IsBegun g k cat table work.txns dms → StandsFor c.in_ok-world.world g [])
+    is c.in_ok-world.ensures in
+    starts cat c.args.tables.now work sound c.requires.valid c.requires.tabled c.as_slice.result.now work.txns table dms c.in_ok-world.world
+    few_tms few_dms c.first_table.ensures c.as_slice.ensures refl made new

@@ -1,0 +1,7 @@
+use Rattle.std.proofs.Common.{None, Some, cond, filter_map, take, ◌++◌, ◌≡◌}
+use Rattle.sdd_obligations.specs.All.{are_linked}
+use Rattle.sdd_watch.proofs.places.add_links.Given as goal
+
+abbrev pub invariant-loop-to : goal.invariant-loop-to
+invariant-loop-to l =
+    l.links.items ≡ l.initial.links.items ++ filter_map (λ to. cond (are_linked l.from to) (Some (l.from, to)) None) (take l.to-index l.sites)

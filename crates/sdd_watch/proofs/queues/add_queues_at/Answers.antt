@@ -1,0 +1,19 @@
+use Rattle.std.proofs.Common.{ap, map, ◌++◌, ◌∙◌}
+use Rattle.sdd_obligations.specs.All.{T, local_of, setting_of}
+use Rattle.sdd_watch.specs.Looking.{queue_in}
+use Rattle.sdd_watch.proofs.Queued.{queues_told}
+use Rattle.sdd_watch.proofs.queues.add_queues_at.Goals as goal
+
+pub txn_module-requires : goal.txn_module-requires
+txn_module-requires c =
+    let r = c.requires in
+    let at = T c.args.tm in
+    (setting_of r.0 at, local_of r.0 at r.1, c.sites.ensures r.0 r.1 r.2 at r.3)
+
+pub returns : goal.returns
+returns c = λ g log calm here.
+    let at = T c.args.tm in
+    let stands = (c.txn_module.ensures (setting_of g at) (local_of g at log) (c.sites.ensures g log calm at here)).stands_for in
+    c.in_ok-add_queues.ensures
+    ∙ ap (λ qs. c.args.queues.now.items ++ qs)
+    (ap (map queue_in) c.classes.ensures ∙ queues_told g log c.args.tm c.txn_module.result.now stands)

@@ -1,0 +1,21 @@
+use Rattle.std.proofs.Common.{arith, length, sym, ◌∙◌, ◌≡◌, ◌≤◌}
+use Rattle.sdd_obligations.specs.All.{view_of}
+use Rattle.sdd_obligations.specs.dm.Views.{class_view}
+use Rattle.sdd_watch.specs.States.{head_told}
+use Rattle.sdd_watch.proofs.AtD.{told_is}
+use Rattle.sdd_watch.proofs.MadeLists.{picked_more}
+use Rattle.sdd_watch.proofs.states.dm_state.Goals as goal
+
+pub loop-class-preserved : goal.loop-class-preserved
+loop-class-preserved c = λ s log stands.
+    let few : c.loop-class.class ≤ length s.catalogue.classes = omega (arith, c.loop-class-test.true, c.pipe_count-class-end.ensures, stands.shows.pipes) in
+    picked_more (head_told (view_of s log)) (class_view s log) c.loop-class.class c.loop-class.heads.items c.add_head.new.heads.items
+    (c.loop-class.invariant s log stands) (c.in_ok-add_head.ensures s log stands few)
+
+pub returns : goal.returns
+returns c = λ s log stands.
+    let all : c.loop-class.class ≡ length c.args.module.now.value.pipes =
+    omega (arith, c.loop-class-test.false, c.loop-class.auto.class-end, c.pipe_count-class-end.ensures) in
+    sym
+    (told_is c.args.module.now s log c.args.dm c.args.is_down c.from_vec.result c.loop-class.class stands all
+    (c.from_vec.ensures ∙ c.loop-class.invariant s log stands))

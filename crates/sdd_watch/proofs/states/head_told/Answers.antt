@@ -1,0 +1,9 @@
+use Rattle.std.proofs.Common.{◌∙◌}
+use Rattle.sdd_watch.proofs.AtD.{told_head}
+use Rattle.sdd_watch.proofs.states.head_told.Goals as goal
+
+pub returns : goal.returns
+returns c = λ s log stands l.
+    c.head_in.ensures
+    ∙ told_head c.args.module.now.value s log c.args.class c.in_ok-conds.conds c.in_ok-readers.readers stands.shows l
+    c.in_ok-conds.ensures c.in_ok-readers.ensures

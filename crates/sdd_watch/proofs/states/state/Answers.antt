@@ -1,0 +1,15 @@
+use Rattle.std.proofs.Common.{ap, subst, sym, ◌∙◌}
+use Rattle.sdd_obligations.specs.All.{D, IsSiteOf, local_of, setting_of}
+use Rattle.sdd_inside.specs.declared.standing.SiteState.TheVariants as states
+use Rattle.sdd_watch.specs.States.{dm_told, state_of}
+use Rattle.sdd_watch.proofs.states.state.Goals as goal
+
+pub returns-in_ok-dm_state-in-D : goal.returns-in_ok-dm_state-in-D
+returns-in_ok-dm_state-in-D c = λ g log here calm un.
+    let at = D c.in-D.dm in
+    let s = setting_of g at in
+    let own = local_of g at log in
+    let site = subst (IsSiteOf g) c.in-D.is here in
+    let stands = (c.data_module.ensures s own (c.sites-sites.ensures g log calm at site)).stands_for in
+    ap states.D (c.in_ok-dm_state-in-D.ensures s own stands ∙ ap (dm_told s own c.in-D.dm.0) (c.is_down-down.ensures g log site calm))
+    ∙ ap (state_of g log) (sym c.in-D.is)

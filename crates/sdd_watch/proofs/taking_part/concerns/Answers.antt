@@ -1,0 +1,19 @@
+use Rattle.std.proofs.Common.{ap, sym, ◌∙◌}
+use Rattle.sdd_obligations.specs.All.{Event, same_site}
+use Rattle.sdd_watch.specs.Happens.{concerns}
+use Rattle.sdd_watch.proofs.TakingPart.{of_none}
+use Rattle.sdd_watch.proofs.taking_part.concerns.Goals as goal
+
+pub returns-in-Submit : goal.returns-in-Submit
+returns-in-Submit c = λ g log calm.
+    c.is_same.ensures ∙ ap (λ s. same_site s c.args.at) (c.home_of.ensures g log calm)
+    ∙ ap (λ (e : Event). concerns g log e c.args.found.now c.args.at) (sym c.in-Submit.is)
+
+pub returns-in-Redeclare : goal.returns-in-Redeclare
+returns-in-Redeclare c = λ g log calm.
+    c.is_txn_module.ensures g log c.args.found.now ∙ ap (λ (e : Event). concerns g log e c.args.found.now c.args.at) (sym c.in-Redeclare.is)
+
+pub returns-in_default : goal.returns-in_default
+returns-in_default c = λ g log calm.
+    of_none g log c.args.event.now c.args.found.now c.args.at c.in_default.not-Submit c.in_default.not-Tick
+    c.in_default.not-Down c.in_default.not-Up c.in_default.not-Redeclare

@@ -1,0 +1,79 @@
+use Rattle.std.proofs.Common.{ap, arith, refl, subst, sym, ◌∙◌}
+use Rattle.sdd_obligations.specs.All.{all_links}
+use Rattle.sdd_inside.specs.declared.moment.Moment.{Moment}
+use Rattle.sdd_watch.specs.Moments.{all_pipes}
+use Rattle.sdd_watch.specs.Watching.{Knows, watched_link, watched_pipe}
+use Rattle.sdd_watch.specs.declared.watch.Watch.{Watch}
+use Rattle.sdd_watch.proofs.CutDifference.{change_told}
+use Rattle.sdd_watch.proofs.KeptBeside.{beside, known, written_back}
+use Rattle.sdd_watch.proofs.watch.Watch.look.Goals as goal
+
+pub look_at_links-requires : goal.look_at_links-requires
+look_at_links-requires c = let r = c.requires in (r.0, r.1, r.2, r.3, c.deref_mut.ensures.value ∙ r.5.links)
+
+pub queues-requires : goal.queues-requires
+queues-requires c = let r = c.requires in (r.0, r.2, r.3.calm)
+
+pub look_at_pipes-requires : goal.look_at_pipes-requires
+look_at_pipes-requires c =
+    let r = c.requires in (r.0, r.1, r.2, r.3.calm, c.deref_mut-2.ensures.value ∙ ap (λ (w : Watch). w.pipes.items) c.in_ok-queues.ensures.others ∙ r.5.pipes)
+
+pub happened-requires : goal.happened-requires
+happened-requires c =
+    let r = c.requires in
+    let first : Knows r.0 r.1 c.args.self.now = known r.0 r.1 c.args.self.now r.5 in
+    let after_queues : Knows r.0 r.1 c.queues.new.self =
+    subst (Knows r.0 r.1) (sym c.in_ok-queues.ensures.others) (beside r.0 r.1 c.args.self.now _ refl refl refl refl first) in (
+      r.0,
+      r.1,
+      r.2,
+      r.3,
+      beside r.0 r.1 c.queues.new.self _ refl refl refl refl after_queues,
+      c.as_slice-2.ensures.value ∙ c.in_ok-seen.ensures.arrived r.0 r.1 r.2 r.3 (c.deref_mut.ensures.value ∙ r.5.links),
+    )
+
+pub returns-clause-delta : goal.returns-clause-delta
+returns-clause-delta c = λ g old new over at were.
+    let links = c.deref_mut.ensures.value ∙ were.links in
+    let pipes = c.deref_mut-2.ensures.value ∙ ap (λ (w : Watch). w.pipes.items) c.in_ok-queues.ensures.others ∙ were.pipes in
+    let came = c.in_ok-seen.ensures.arrived g old new over links in
+    let first : Knows g old c.args.self.now = known g old c.args.self.now were in
+    let after_queues : Knows g old c.queues.new.self =
+    subst (Knows g old) (sym c.in_ok-queues.ensures.others) (beside g old c.args.self.now _ refl refl refl refl first) in
+    change_told g old new c.in_ok-happened.happened c.moments-before.result.0 c.moments-before.result.1 c.in_ok-delta.delta c.in_ok-delta.ensures
+    (c.in_ok-happened.ensures.happened g old new over at (beside g old c.queues.new.self _ refl refl refl refl after_queues)
+    (c.as_slice-2.ensures.value ∙ came))
+    (ap (λ (m : Moment). m.links) c.moments-before.ensures.before ∙ c.in_ok-seen.ensures.before g old new over links)
+    (ap (λ (m : Moment). m.queues) c.moments-before.ensures.before ∙ ap (λ q. q.items) c.in_ok-queues.ensures.before ∙ were.queues)
+    (ap (λ (m : Moment). m.pipes) c.moments-before.ensures.before
+    ∙ c.in_ok-pipes.ensures.before g old new over.calm over.between (c.as_slice.ensures.value ∙ came) pipes)
+    (ap (λ (m : Moment). m.links) c.moments-before.ensures.after ∙ c.in_ok-seen.ensures.after g old new over links)
+    (ap (λ (m : Moment). m.queues) c.moments-before.ensures.after ∙ c.in_ok-queues.ensures.after g new over.calm)
+    (ap (λ (m : Moment). m.pipes) c.moments-before.ensures.after
+    ∙ c.in_ok-pipes.ensures.after g old new over.calm over.between (c.as_slice.ensures.value ∙ came) pipes)
+
+pub returns-clause-kept : goal.returns-clause-kept
+returns-clause-kept c = λ g old new over at were.
+    let links = c.deref_mut.ensures.value ∙ were.links in
+    let pipes = c.deref_mut-2.ensures.value ∙ ap (λ (w : Watch). w.pipes.items) c.in_ok-queues.ensures.others ∙ were.pipes in
+    let came = c.in_ok-seen.ensures.arrived g old new over links in
+    let first : Knows g old c.args.self.now = known g old c.args.self.now were in
+    let after_queues : Knows g old c.queues.new.self =
+    subst (Knows g old) (sym c.in_ok-queues.ensures.others) (beside g old c.args.self.now _ refl refl refl refl first) in
+    let last : Knows g new c.happened.new.self =
+    c.in_ok-happened.ensures.kept g old new over (beside g old c.queues.new.self _ refl refl refl refl after_queues) (c.as_slice-2.ensures.value ∙ came) in
+    record {
+      sites = last.sites;
+      links = ap (λ (w : Watch). w.links.items) c.in_ok-happened.ensures.others ∙ ap (λ (w : Watch). w.links.items) c.in_ok-queues.ensures.others
+          ∙ written_back (watched_link old) (watched_link new) (all_links g) c.args.self.now.links.items c.look_at_links.new.links c.args.self.now.links.len
+          (omega (arith, c.args.self.now.links.ok.0)) were.links (c.in_ok-seen.ensures.kept g old new over links);
+      queues = ap (λ (w : Watch). w.queues.items) c.in_ok-happened.ensures.others ∙ c.in_ok-queues.ensures.kept g new over.calm;
+      pipes = ap (λ (w : Watch). w.pipes.items) c.in_ok-happened.ensures.others
+          ∙ written_back (watched_pipe g old) (watched_pipe g new) (all_pipes g) c.queues.new.self.pipes.items c.look_at_pipes.new.pipes
+          c.queues.new.self.pipes.len (omega (arith, c.queues.new.self.pipes.ok.0))
+          (ap (λ (w : Watch). w.pipes.items) c.in_ok-queues.ensures.others ∙ were.pipes)
+          (c.in_ok-pipes.ensures.kept g old new over.calm over.between (c.as_slice.ensures.value ∙ came) pipes);
+      records = last.records;
+      commits = last.commits;
+      dones = last.dones;
+    }

@@ -1,0 +1,20 @@
+use Rattle.std.proofs.Common.{[], ap, map, refl, ◌∙◌}
+use Rattle.sdd_obligations.specs.All.{Catalogue, links, sites}
+use Rattle.sdd_watch.specs.Watching.{watched_link}
+use Rattle.sdd_watch.proofs.watch.Watch.new.Goals as goal
+
+pub returns : goal.returns
+returns c = λ g calm same.
+    let tms = c.tms-tms.ensures ∙ ap (λ (k : Catalogue). k.tms) same in
+    let dms = c.dms-dms.ensures ∙ ap (λ (k : Catalogue). k.dms) same in
+    record {
+      sites = c.in_ok-sites.ensures ∙ ap (λ n. sites n c.dms-dms.result) tms ∙ ap (sites g.catalogue.tms) dms;
+      links = c.in_ok-links.ensures
+          ∙ ap (map (watched_link []))
+          (c.as_slice.ensures.value ∙ c.in_ok-all.ensures ∙ ap (λ n. links n c.dms-dms.result) tms ∙ ap (links g.catalogue.tms) dms);
+      queues = c.in_ok-queues.ensures g [] calm;
+      pipes = c.in_ok-pipes.ensures g same;
+      records = refl;
+      commits = c.new.ensures;
+      dones = λ t d linked. c.new-2.ensures t d;
+    }

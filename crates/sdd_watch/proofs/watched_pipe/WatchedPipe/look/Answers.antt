@@ -1,0 +1,38 @@
+-- What is read of the pipe in the world is what the log gives.
+use Rattle.std.proofs.Common.{List, [], ap, length, refl, ℕ, ◌++◌, ◌+◌, ◌-◌, ◌∙◌, ◌∷◌, ◌≡◌, ◌≤◌}
+use Rattle.sdd_obligations.specs.All.{D, Given, IsSiteOf, Log, dm_no, local_of, setting_of}
+use Rattle.sdd_run.specs.world.Standing.{Calm}
+use Rattle.sdd_inside.specs.declared.moment.PipeMoment.{PipeMoment}
+use Rattle.sdd_watch.specs.Watching.{watched_pipe}
+use Rattle.sdd_watch.proofs.PipesLooked.{IsRead, pipe_kept, read_pipe, seen_after, seen_before}
+use Rattle.sdd_watch.proofs.watched_pipe.WatchedPipe.look.Goals as goal
+
+pub data_module-module-requires : goal.data_module-module-requires
+data_module-module-requires c =
+    let r = c.requires in
+    (setting_of r.0 (D c.args.self.now.dm), local_of r.0 (D c.args.self.now.dm) r.1, c.sites-sites.ensures r.0 r.1 r.2 (D c.args.self.now.dm) r.3)
+
+read : (c : goal.In_ok-add) (g : Given) (old new : Log) (d n : ℕ) → Calm c.args.world.now g new → IsSiteOf g (D (dm_no d)) → n ≤ length g.catalogue.classes
+    → c.args.self.now ≡ watched_pipe g old (d, n) → IsRead g new d n c.unprocessed-unprocessed.result c.passed_to-passed.result
+read c g old new d n calm site few is =
+    read_pipe g old new d n c.args.self.now c.sites-sites.result.now c.data_module-module.result.now c.unprocessed-unprocessed.result c.passed_to-passed.result
+    is (c.sites-sites.ensures g new calm) site few c.data_module-module.ensures c.unprocessed-unprocessed.ensures c.passed_to-passed.ensures
+
+pub returns-clause-kept : goal.returns-clause-kept
+returns-clause-kept c = λ g old new calm between all d n site few is.
+    pipe_kept g old new d n c.args.self.now _ c.unprocessed-unprocessed.result c.passed_to-passed.result is (read c g old new d n calm site few is) refl
+
+pub returns-clause-before : goal.returns-clause-before
+returns-clause-before c = λ g old new calm between all d n site few is.
+    c.in_ok-add.ensures.before ∙ ap (λ (m : PipeMoment). c.args.parts.now.before.items ++ m ∷ [])
+    (seen_before g old new d n c.args.self.now c.unprocessed-unprocessed.result c.passed_to-passed.result c.moment-before.result c.new.result.items
+    is (read c g old new d n calm site few is) c.new.ensures.items c.moment-before.ensures)
+
+pub returns-clause-after : goal.returns-clause-after
+returns-clause-after c = λ g old new calm between all d n site few is.
+    let left = c.unprocessed-unprocessed.result in
+    let counted : c.in_ok-processed.processed ≡ (c.args.self.now.unprocessed + length c.in_ok-came.came.items) - left =
+    c.in_ok-processed.ensures ∙ ap (λ (ns : List ℕ). (c.args.self.now.unprocessed + length ns) - left) c.as_slice.ensures.value in
+    c.in_ok-add.ensures.after ∙ ap (λ (m : PipeMoment). c.args.parts.now.after.items ++ m ∷ [])
+    (seen_after g old new d n c.args.self.now c.in_ok-came.came.items left c.in_ok-processed.processed c.passed_to-passed.result c.moment-after.result
+    c.args.arrived.now calm.parts.good between site few is all (read c g old new d n calm site few is) c.in_ok-came.ensures counted c.moment-after.ensures)

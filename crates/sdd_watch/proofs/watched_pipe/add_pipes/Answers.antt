@@ -1,0 +1,18 @@
+-- One pipe more, and all of them.
+use Rattle.std.proofs.Common.{ap, append-nil, arith, length, sym, ◌≡◌}
+use Rattle.sdd_obligations.specs.All.{Catalogue}
+use Rattle.sdd_watch.proofs.PipesBegun.{class_more, classes_done}
+use Rattle.sdd_watch.proofs.watched_pipe.add_pipes.Goals as goal
+
+pub loop-class-init : goal.loop-class-init
+loop-class-init c = λ g e. sym (append-nil c.args.pipes.now.items)
+
+pub loop-class-preserved : goal.loop-class-preserved
+loop-class-preserved c = λ g e.
+    class_more g c.args.dm (record { 0 = c.loop-class.class }) c.source.result c.args.pipes.now.items c.loop-class.pipes.items _
+    (c.source.ensures g e c.args.dm.0) (c.loop-class.invariant g e) c.in_ok-push.ensures.items
+
+pub returns : goal.returns
+returns c = λ g e.
+    let many : length c.args.catalogue.now.classes ≡ length g.catalogue.classes = ap (λ (cat : Catalogue). length cat.classes) e in
+    classes_done g c.args.dm c.loop-class.class c.args.pipes.now.items c.loop-class.pipes.items (omega (arith, many)) (c.loop-class.invariant g e)

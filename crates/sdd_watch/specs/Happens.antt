@@ -1,0 +1,188 @@
+-- What happened at one event of a run, by the log before its mark and the log when all is done that it makes due.
+use Rattle.std.specs.Prelude.{ℕ, suc, ◌-◌, ◌==◌, Bool, true, false, not, ◌&&◌, ◌||◌, if◌then◌else◌, List, [], ◌∷◌, ◌++◌, drop, filter, find, fold, is_some, length, map, Option, Some, None}
+use Rattle.std.specs.Ordering.{int_cmp, is_eq}
+use Rattle.std.specs.List.{flat_map, list_any}
+use Rattle.sdd_obligations.specs.All.{Ack, Apply, Change, Commit, D, Deliver, DmNo, Down, Event, Given, History, Log, Lose, Mark, Message, Msg, Packet, Rec, Redeclare, Redeclares, Repeat, Resend, Round, Row, Settle, Site, Submit, T, Tick, Up, all_links, dated, delivered, force_at, handed, history, is_down, is_empty, left, link_of, local_of, marks, packet_at, redeclares, same_site, setting_of, sites, txn_at, TxnNo}
+use Rattle.sdd_obligations.specs.copy.Contents.{Dated, latest, of_fragment}
+use Rattle.sdd_obligations.specs.invariants.Steps.{changes_at}
+use Rattle.sdd_obligations.specs.logs.Due.{home_of as class_site}
+use Rattle.sdd_obligations.specs.logs.Marks.{from_event}
+use Rattle.sdd_obligations.specs.net.Links.{unacked}
+use Rattle.sdd_inside.specs.declared.delta.Found.{Found}
+use Rattle.sdd_inside.specs.declared.delta.Found.TheVariants as founds
+use Rattle.sdd_inside.specs.declared.delta.RowDelta.{RowDelta}
+use Rattle.sdd_inside.specs.declared.delta.Taken.{Taken}
+use Rattle.sdd_inside.specs.declared.delta.Taken.TheVariants as takens
+use Rattle.sdd_inside.specs.declared.moment.Happened.{Happened}
+use Rattle.sdd_inside.specs.declared.standing.SiteState.{SiteState}
+use Rattle.sdd_run.specs.world.Pending.{commits}
+use Rattle.sdd_watch.specs.States.{state_of}
+
+-- the event whose mark is the last
+abbrev pub last_event : Log → Event
+last_event [] = Settle
+last_event (Mark e ∷ log) = e
+last_event (Redeclares t ∷ log) = Redeclare
+last_event (_ ∷ log) = last_event log
+
+-- where it stands in the schedule, by what is left of the events and of the round before its mark
+
+-- of a list with so many events the place, from 1, of the first of these that are left of it
+abbrev pub place_of_first : ℕ → List Event → ℕ
+place_of_first total events = suc total - length events
+
+-- an event of a round belongs to the first event that is left; before another one settles may stand that are reached
+abbrev pub place_in : ℕ → List Event × List Event → ℕ
+place_in total (events, []) = place_of_first total (from_event events)
+place_in total (events, e ∷ round) = place_of_first total events
+
+abbrev pub scheduled_at : Given → Log → ℕ
+scheduled_at g log = place_in (length g.events) (left g.events log)
+
+-- how many rounds were begun since the last event of the schedule, where an event of a round is marked or left
+
+abbrev pub unless_in_round : List Event → ℕ → ℕ
+unless_in_round [] n = 0
+unless_in_round (e ∷ round) n = n
+
+abbrev pub rounds : List Event → Log → ℕ
+rounds events [] = 0
+rounds events (Mark e ∷ log) = unless_in_round (left events log).1 (rounds events log)
+rounds events (Redeclares t ∷ log) = 0
+rounds events (Round es ∷ log) = suc (rounds events log)
+rounds events (_ ∷ log) = rounds events log
+
+abbrev pub round_in : ℕ → List Event → Option ℕ
+round_in n [] = None
+round_in n (e ∷ round) = Some n
+
+abbrev pub round_at : Given → Log → Option ℕ
+round_at g log = round_in (rounds g.events log) (left g.events log).1
+
+-- what it found
+
+abbrev pub something_if : Bool → Found
+something_if b = if b then founds.Something else founds.Nothing
+
+-- of a packet the number
+abbrev pub taken : {M : Type 0} → Packet M → Taken
+taken (Message n m) = takens.Message n
+taken (Ack upto) = takens.Ack upto
+
+abbrev pub arrived_of : Site → Site → Taken → Log → Found
+arrived_of a b (takens.Message n) new = founds.Arrived n (delivered (link_of a b new).there)
+arrived_of a b (takens.Ack upto) new = founds.Acknowledged upto (link_of b a new).there.acked
+
+abbrev pub arrived_by : Site → Site → Option (Packet Msg) → Log → Found
+arrived_by a b None new = founds.Nothing
+arrived_by a b (Some p) new = arrived_of a b (taken p) new
+
+abbrev pub lost_by : Option (Packet Msg) → Found
+lost_by None = founds.Nothing
+lost_by (Some p) = founds.Lost (taken p)
+
+abbrev pub found_by : Event → Log → Log → Found
+found_by (Deliver a b k) old new = arrived_by a b (packet_at k (link_of a b old)) new
+found_by (Lose a b k) old new = lost_by (packet_at k (link_of a b old))
+found_by (Repeat a b k) old new = something_if (is_some (packet_at k (link_of a b old)))
+found_by (Resend a b) old new = something_if (not (is_empty (unacked (link_of a b old).there)))
+found_by (Down d) old new = something_if (not (is_down d.0 old))
+found_by (Up d) old new = something_if (is_down d.0 old)
+found_by _ old new = founds.Something
+
+-- rows
+
+-- the changes that a Commit has
+abbrev pub committed_in : Option (ℕ × Rec) → List Change
+committed_in (Some (event, Commit txn attempt reply changes values rows)) = changes
+committed_in _ = []
+
+-- of which transaction a record is a Commit
+abbrev pub committed_by : ℕ × Rec → Option TxnNo
+committed_by (event, Commit txn attempt reply changes values rows) = Some txn
+committed_by _ = None
+
+-- what transaction n changes, by its first Commit among these records
+abbrev pub changes_of : ℕ → History → List Change
+changes_of n records = committed_in (find (commits n) records)
+
+-- which transaction a record applies, and at which data module
+abbrev pub applied_in : ℕ × Rec → Option (TxnNo × DmNo)
+applied_in (event, Apply txn class dm ts) = Some (txn, dm)
+applied_in _ = None
+
+-- of changes those of the fragments of which a data module has a copy
+abbrev pub changes_applied : Given → DmNo → List Change → List (DmNo × Change)
+changes_applied g dm changes = map (λ x. (dm, x)) (changes_at g.catalogue dm.0 changes)
+
+-- by an Apply what its transaction changes there
+abbrev pub applied_by : Given → History → ℕ × Rec → List (DmNo × Change)
+applied_by g records (event, Apply txn class dm ts) = changes_applied g dm (changes_of txn.0 records)
+applied_by g records _ = []
+
+-- by the Applies that the event made, in their order
+abbrev pub applied : Given → Log → Log → List (DmNo × Change)
+applied g old new = flat_map (applied_by g (history new)) (drop (length (history old)) (history new))
+
+-- the row that the data module's copy has of the item now
+
+abbrev pub row_by : Option (ℕ × Change) → Option Row
+row_by None = None
+row_by (Some x) = x.1.row
+
+abbrev pub row_left : Dated → Change → Option Row
+row_left xs x = row_by (latest x.key (of_fragment x.frag.0 xs))
+
+abbrev pub row_told : Given → Log → DmNo × Change → RowDelta
+row_told g log x =
+    record { dm = x.0; item = record x.1 { row = row_left (dated (setting_of g (D x.0)) (local_of g (D x.0) log)) x.1 } }
+
+-- each item once, where it stands first
+
+abbrev pub is_of_item : DmNo × Change → RowDelta → Bool
+is_of_item x row = row.dm.0 == x.0.0 && (row.item.frag.0 == x.1.frag.0 && is_eq (int_cmp row.item.key x.1.key))
+
+abbrev pub with_row : Given → Log → List RowDelta → DmNo × Change → List RowDelta
+with_row g log rows x = if list_any (is_of_item x) rows then rows else rows ++ row_told g log x ∷ []
+
+abbrev pub rows_of : Given → Log → Log → List RowDelta
+rows_of g old new = fold (with_row g new) [] (applied g old new)
+
+-- sites
+
+-- messages were handed to the site
+abbrev pub is_reached : Given → Log → Log → Site → Bool
+is_reached g old new at = list_any (λ l. not (handed l.0 l.1 old == handed l.0 l.1 new) && same_site l.1 at) (all_links g)
+
+abbrev pub is_something : Found → Bool
+is_something founds.Nothing = false
+is_something _ = true
+
+-- the event itself is of the site: a submission is of the site of its class by the list in force, and a list of classes that
+-- is put in force is of the transaction modules
+abbrev pub concerns : Given → Log → Event → Found → Site → Bool
+concerns g log (Submit n) found at = same_site (class_site (force_at g (redeclares log)).catalogue (txn_at g n.0)) at
+concerns g log (Tick t n) found at = same_site (T t) at
+concerns g log (Down d) found at = is_something found && same_site (D d) at
+concerns g log (Up d) found at = is_something found && same_site (D d) at
+concerns g log Redeclare found (T t) = true
+concerns g log _ found at = false
+
+abbrev pub takes_part : Given → Log → Log → Site → Bool
+takes_part g old new at = is_reached g old new at || concerns g new (last_event new) (found_by (last_event new) old new) at
+
+abbrev pub states_of : Given → Log → Log → List SiteState
+states_of g old new = map (state_of g new) (filter (takes_part g old new) (sites g.catalogue.tms g.catalogue.dms))
+
+-- all of it
+abbrev pub happened_at : Given → Log → Log → Happened
+happened_at g old new =
+    record {
+      number = marks new;
+      scheduled = scheduled_at g old;
+      round = round_at g old;
+      event = last_event new;
+      found = found_by (last_event new) old new;
+      rows = rows_of g old new;
+      sites = states_of g old new;
+    }

@@ -1,0 +1,10 @@
+pub mod Awaiting
+pub mod Happens
+pub mod Keeping
+pub mod Looking
+pub mod Moments
+pub mod States
+pub mod Telling
+pub mod Text
+pub mod Watching
+pub use Rattle.sdd_run.specs as run

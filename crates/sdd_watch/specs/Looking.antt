@@ -1,0 +1,73 @@
+-- What a look at the parts of a world finds, and what of it is kept, by what was kept before.
+use Rattle.std.specs.Prelude.{ℕ, ◌+◌, ◌==◌, ◌&&◌, Bool, false, if◌then◌else◌, List, [], ◌++◌, filter_map, find, length, map, Option, Some, None}
+use Rattle.std.specs.List.{list_any}
+use Rattle.sdd_obligations.specs.All.{D, Msg, Packet, Queued, Site, U, class_no}
+use Rattle.sdd_obligations.specs.attempt.Queues.{txn_of}
+use Rattle.sdd_obligations.specs.tm.State.{ClassState}
+use Rattle.sdd_inside.specs.declared.moment.LinkMoment.{LinkMoment}
+use Rattle.sdd_inside.specs.declared.moment.QueueMoment.{QueueMoment}
+use Rattle.sdd_watch.specs.Awaiting.{behind, number_for, purposed_above, up_to}
+use Rattle.sdd_watch.specs.Watching.{is_on}
+use Rattle.sdd_watch.specs.declared.waiting.Purpose.{Purpose}
+use Rattle.sdd_watch.specs.declared.waiting.Purpose.TheVariants.{Applied, Piped}
+use Rattle.sdd_watch.specs.declared.watched_link.Arrived.{Arrived}
+use Rattle.sdd_watch.specs.declared.watched_link.LinkSeen.{LinkSeen}
+use Rattle.sdd_watch.specs.declared.watched_link.WatchedLink.{WatchedLink}
+
+-- links: behind the packets that stayed these were put, and so many messages are put and handed over in all
+
+abbrev pub all_waiting : List (Packet Msg) → WatchedLink → List (ℕ × Purpose)
+all_waiting news l = l.waiting ++ filter_map (purposed_above l.sent) news
+
+abbrev pub advanced : ℕ → List (Packet Msg) → ℕ → ℕ → WatchedLink → WatchedLink
+advanced left news sent handed l =
+    record l { flying = left + length news; sent = sent; handed = handed; waiting = behind handed (all_waiting news l) }
+
+abbrev pub moment_with : WatchedLink → List (Packet Msg) → ℕ → ℕ → LinkMoment
+moment_with l packets sent handed =
+    record { from = l.from; to = l.to; flight = packets; sent = sent; handed = handed }
+
+abbrev pub arrived_with : WatchedLink → ℕ → List (ℕ × Purpose) → Option Arrived
+arrived_with l handed waiting =
+    if l.handed == handed then None else Some (record { from = l.from; to = l.to; messages = up_to handed waiting })
+
+abbrev pub seen_with : List (Packet Msg) → ℕ → ℕ → WatchedLink → LinkSeen
+seen_with news sent handed l =
+    record {
+      before = moment_with l [] l.sent l.handed;
+      after = moment_with l news sent handed;
+      arrived = arrived_with l handed (all_waiting news l);
+    }
+
+-- queues, of the module for undeclared transactions and of a class of a transaction module
+
+abbrev pub queue_of : ℕ → List Queued → QueueMoment
+queue_of c queue = record { class = class_no c; queue = map txn_of queue }
+
+abbrev pub queue_in : ClassState → QueueMoment
+queue_in k = queue_of k.line.class k.line.queue
+
+-- of the messages that were handed over on the link from a to b
+
+abbrev pub messages_in : Option Arrived → List (ℕ × Purpose)
+messages_in None = []
+messages_in (Some one) = one.messages
+
+-- the numbers of those that go through the pipe of class c
+abbrev pub numbers_for : Site → Site → ℕ → List Arrived → List ℕ
+numbers_for a b c arrived = filter_map (number_for c) (messages_in (find (is_on a b) arrived))
+
+-- what is said to be applied
+
+-- a message of data module n says that what was committed with timestamp t is applied at data module d
+abbrev pub says_one : ℕ → ℕ → ℕ → ℕ × Purpose → Bool
+says_one t d n (number, Applied ts) = ts.0 == t && n == d
+says_one t d n (number, Piped class) = false
+
+-- one of those that were handed over on a link
+abbrev pub says_between : ℕ → ℕ → Site × Site → List (ℕ × Purpose) → Bool
+says_between t d (D n, U) messages = list_any (says_one t d n.0) messages
+says_between t d l messages = false
+
+abbrev pub says : ℕ → ℕ → Arrived → Bool
+says t d one = says_between t d (one.from, one.to) one.messages

@@ -1,0 +1,156 @@
+-- How sites stand in a run, as its log gives it.
+use Rattle.std.specs.Prelude.{ℕ, ◌==◌, nat_lt, Bool, true, false, not, ◌&&◌, if◌then◌else◌, List, [], ◌∷◌, filter, is_some, map, option_map, Option, Some, None}
+use Rattle.std.specs.List.{filter_map, flat_map, list_any}
+use Rattle.sdd_obligations.specs.All.{Attempt, ClassView, D, DmNo, Done, Given, Handed, Log, Msg, Phase, Question, Read, Setting, Site, T, TmCounts, U, View, Write, active, asks, class_no, clock, counts, dm_no, head, holds, holds_back, is_down, is_met, last_served, local_of, numbers_to, runs, setting_of, time_at, tm_no, txn_no, view_of}
+use Rattle.sdd_obligations.specs.attempt.Lines.{lacked_by}
+use Rattle.sdd_obligations.specs.attempt.Phases.{awaited_in}
+use Rattle.sdd_obligations.specs.attempt.declared.answer.Answer.{Answer}
+use Rattle.sdd_obligations.specs.attempt.declared.answer.Answer.TheVariants as answers
+use Rattle.sdd_obligations.specs.site_module.SiteLog as site
+use Rattle.sdd_obligations.specs.umod.Standing.{is_told, unheld_by}
+use Rattle.sdd_obligations.specs.umod.Steps.{is_kept_on_hold, turn}
+use Rattle.sdd_inside.specs.declared.standing.Active.{Active}
+use Rattle.sdd_inside.specs.declared.standing.DmState.{DmState}
+use Rattle.sdd_inside.specs.declared.standing.Head.{Head}
+use Rattle.sdd_inside.specs.declared.standing.Head.TheVariants as heads
+use Rattle.sdd_inside.specs.declared.standing.Phase as told
+use Rattle.sdd_inside.specs.declared.standing.Phase.TheVariants as phases
+use Rattle.sdd_inside.specs.declared.standing.Question as questions
+use Rattle.sdd_inside.specs.declared.standing.SiteState.{SiteState}
+use Rattle.sdd_inside.specs.declared.standing.SiteState.TheVariants as states
+use Rattle.sdd_inside.specs.declared.standing.Stage.{Stage}
+use Rattle.sdd_inside.specs.declared.standing.Stage.TheVariants as stages
+use Rattle.sdd_inside.specs.declared.standing.TmState.{TmState}
+use Rattle.sdd_inside.specs.declared.standing.UState.{UState}
+
+-- attempts that are under way
+
+-- what one does that awaits such answers
+abbrev pub phase_by : Answer → told.Phase
+phase_by answers.Ready = phases.Reading
+phase_by answers.Values = phases.Fetching
+phase_by answers.Reduced = phases.Reducing
+phase_by answers.Rows = phases.Shipping
+
+-- one whose exchange is over awaits nothing: it commits within the event
+abbrev pub phase_told : Phase → Option told.Phase
+phase_told phase = option_map phase_by (awaited_in phase)
+
+abbrev pub attempt_told : ℕ → Attempt → told.Phase → Active
+attempt_told c a phase =
+    record {
+      class = class_no c;
+      txn = txn_no a.txn;
+      attempt = a.attempt;
+      time = time_at a.ts;
+      phase = phase;
+      lacks = map dm_no a.exchange.lacks;
+    }
+
+abbrev pub active_told : ℕ → Option Attempt → Option Active
+active_told c None = None
+active_told c (Some a) = option_map (attempt_told c a) (phase_told a.exchange.phase)
+
+abbrev pub actives : Setting → site.Log → List ℕ → List Active
+actives s log classes = filter_map (λ c. active_told c (active s c log)) classes
+
+-- transaction modules
+
+-- the questions to class c that have no answer, in the order in which they came
+
+abbrev pub question_told : ℕ → Question → questions.Question
+question_told c q = record { class = class_no c; from = q.from; time = time_at q.time }
+
+abbrev pub questions_to : List Question → ℕ → List questions.Question
+questions_to qs c = map (question_told c) (filter (λ q. q.class == c) qs)
+
+abbrev pub tm_told : Setting → site.Log → ℕ → TmState
+tm_told s log t =
+    record {
+      tm = tm_no t;
+      clock = (clock s.site log).ticks;
+      on_hold = nat_lt (holds log).releases (holds log).holds;
+      owes_held = nat_lt (holds log).helds (holds log).holds;
+      asks = flat_map (questions_to (asks log)) (runs s);
+      active = actives s log (runs s);
+    }
+
+-- the module for undeclared transactions
+
+abbrev pub all_counts : Setting → site.Log → List TmCounts
+all_counts s log = map (λ t. counts t log) (numbers_to s.catalogue.tms)
+
+-- what it does: an attempt is under way; or the next transaction is served, from its first HOLD on; or the last one is, until the
+-- RELEASEs for it are sent
+
+abbrev pub stage_by : Bool → Bool → Bool → Stage
+stage_by reading holding writing = if reading then stages.Reading else if holding then stages.Holding else if writing then stages.Writing else stages.Idle
+
+abbrev pub stage_at : Setting → site.Log → Stage
+stage_at s log =
+    stage_by (is_some (active s 0 log)) (list_any (is_told (turn (last_served s log))) (all_counts s log))
+    (list_any (is_kept_on_hold (last_served s log).commits) (all_counts s log))
+
+-- a data module has said that what was committed with this timestamp is applied there
+abbrev pub says_applied : ℕ → ℕ → site.Entry → Bool
+says_applied ts d (Handed (D n) (Done t)) = n.0 == d && t.0 == ts
+says_applied ts d _ = false
+
+-- the data modules, of so many, that haven't
+abbrev pub unapplied : ℕ → ℕ → site.Log → List DmNo
+unapplied dms ts log = map dm_no (filter (λ d. not (list_any (says_applied ts d) log)) (numbers_to dms))
+
+-- those that haven't said so of what was committed last
+abbrev pub unapplied_last : Setting → site.Log → List DmNo
+unapplied_last s log = unapplied s.catalogue.dms (last_served s log).ts log
+
+abbrev pub data_sites : List DmNo → List Site
+data_sites dms = map (λ d. D d) dms
+
+-- from which sites an answer is missing: from data modules to the attempt; from transaction modules the HELD for the next
+-- transaction; from data modules the DONE for the last one
+
+abbrev pub unheld : Setting → site.Log → List Site
+unheld s log = map (λ t. T t) (filter_map (unheld_by (turn (last_served s log))) (all_counts s log))
+
+abbrev pub lacks_in : Setting → site.Log → Stage → List Site
+lacks_in s log stages.Reading = data_sites (map dm_no (lacked_by (active s 0 log)))
+lacks_in s log stages.Holding = unheld s log
+lacks_in s log stages.Writing = data_sites (unapplied_last s log)
+lacks_in s log stages.Idle = []
+
+abbrev pub u_told : Setting → site.Log → UState
+u_told s log =
+    record {
+      clock = (clock s.site log).ticks;
+      stage = stage_at s log;
+      lacks = lacks_in s log (stage_at s log);
+      active = actives s log (0 ∷ []);
+    }
+
+-- data modules
+
+-- the head of the pipe of class c, where it waits or is a WRITE: at rest no other head stands in a pipe
+abbrev pub head_by : View → ℕ → Bool → Option Msg → Option Head
+head_by v c true (Some (Read ts class txn attempt conds uses)) =
+    Some (heads.Waits (class_no c) (filter (λ d. not (is_met v d)) conds))
+head_by v c waits (Some (Write ts class txn changes)) =
+    Some (heads.Held (class_no c) (map (λ k. class_no k.class) (filter (λ k. k.waits && holds_back c ts.0 changes (head k.pipe)) v.classes)))
+head_by v c waits m = None
+
+abbrev pub head_told : View → ClassView → Option Head
+head_told v k = head_by v k.class k.waits (head k.pipe)
+
+abbrev pub dm_told : Setting → site.Log → ℕ → Bool → DmState
+dm_told s log d down = record { dm = dm_no d; is_down = down; heads = filter_map (head_told (view_of s log)) (view_of s log).classes }
+
+-- a site
+
+abbrev pub state_of : Given → Log → Site → SiteState
+state_of g log U = states.U (u_told (setting_of g U) (local_of g U log))
+state_of g log (T t) = states.T (tm_told (setting_of g (T t)) (local_of g (T t) log) t.0)
+state_of g log (D d) = states.D (dm_told (setting_of g (D d)) (local_of g (D d) log) d.0 (is_down d.0 log))
+
+-- the data modules that haven't said that they applied what U committed last
+abbrev pub unapplied_of : Given → Log → List DmNo
+unapplied_of g log = unapplied_last (setting_of g U) (local_of g U log)

@@ -1,0 +1,223 @@
+-- What is kept between two events of what stood where, as the log gives it when the last event was over.
+use Rattle.std.specs.Prelude.{ℕ, ◌-◌, ◌≡◌, ◌==◌, ◌&&◌, Bool, true, false, not, if◌then◌else◌, List, [], ◌∷◌, ◌++◌, drop, filter_map, is_some, length, map, option_map, Option, Some, None}
+use Rattle.std.specs.BTreeMap.{get}
+use Rattle.std.specs.BTreeSet.{contains}
+use Rattle.std.specs.List.{list_any, position}
+use Rattle.std.specs.Ordering.{nat_cmp}
+use Rattle.sdd_obligations.specs.All.{D, Deliver, Done, Down, Entry, Event, Given, History, IsLinkOf, IsPossible, Log, Lose, Mark, Message, Msg, Packet, Redeclare, Redeclares, Repeat, Resend, Rests, Site, U, Up, all_links, class_no, dm_no, handed, history, is_down, is_empty, link_of, local_of, marks, packet_at, pipe, same_site, sent, sites, time_at}
+use Rattle.sdd_obligations.specs.net.Links.{numbered, unacked}
+use Rattle.sdd_obligations.specs.serial_orders.Finding.{pair_cmp}
+use Rattle.sdd_inside.specs.Differences.{is_of_link, takes_one}
+use Rattle.sdd_inside.specs.declared.delta.Found.{Found}
+use Rattle.sdd_inside.specs.declared.delta.Taken.{Taken}
+use Rattle.sdd_inside.specs.declared.moment.LinkMoment.{LinkMoment}
+use Rattle.sdd_inside.specs.declared.moment.PipeMoment.{PipeMoment}
+use Rattle.sdd_run.specs.world.Pending.{commits}
+use Rattle.sdd_run.specs.world.Standing.{Calm}
+use Rattle.sdd_run.specs.world.declared.world.World.{World}
+use Rattle.sdd_watch.specs.Awaiting.{purposed, waiting_on}
+use Rattle.sdd_watch.specs.Happens.{found_by, last_event, round_at, scheduled_at, taken}
+use Rattle.sdd_watch.specs.Moments.{all_pipes, came, handed_on, passed_to, queues_of, source}
+use Rattle.sdd_watch.specs.declared.commits.Commits.{Commits}
+use Rattle.sdd_watch.specs.declared.dones.Dones.{Dones}
+use Rattle.sdd_watch.specs.declared.foreseen.Foreseen.{Foreseen}
+use Rattle.sdd_watch.specs.declared.foreseen.Foreseen.TheVariants as foreseens
+use Rattle.sdd_watch.specs.declared.watch.Turn.{Turn}
+use Rattle.sdd_watch.specs.declared.watch.Watch.{Watch}
+use Rattle.sdd_watch.specs.declared.watched_link.Arrived.{Arrived}
+use Rattle.sdd_watch.specs.declared.watched_link.LinkSeen.{LinkSeen}
+use Rattle.sdd_watch.specs.declared.watched_link.WatchedLink.{WatchedLink}
+use Rattle.sdd_watch.specs.declared.watched_pipe.WatchedPipe.{WatchedPipe}
+
+-- between two logs
+
+-- an event, or a list of classes that is put in force
+abbrev pub IsMark : Entry → Type 0
+IsMark (Mark e) = Unit {0}
+IsMark (Redeclares t) = Unit {0}
+IsMark _ = ⊥
+
+-- One event lies between two logs: behind the first its mark is next, where a round that begins has its entry before it, and
+-- behind the second nothing more of it is due.
+pub record IsBetween (g : Given) (old new : Log) : Type 0 where
+  pub mark : Entry
+  pub is_mark : IsMark mark
+  pub more : Log
+  pub parts : new ≡ more ++ mark ∷ old
+  pub no_marks : marks more ≡ 0
+  pub before : Rests g old
+  pub after : Rests g new
+
+-- where the event stands in the schedule
+pub record IsTurn (g : Given) (old new : Log) (turn : Turn) : Type 0 where
+  pub event : turn.event ≡ last_event new
+  pub scheduled : turn.scheduled ≡ scheduled_at g old
+  pub round : turn.round ≡ round_at g old
+
+-- the world is that behind the event, and this is what it found
+pub record IsOver (g : Given) (old new : Log) (w : World) (e : Event) (found : Found) : Type 0 where
+  pub between : IsBetween g old new
+  pub calm : Calm w g new
+  pub event_is : e ≡ last_event new
+  pub found_is : found ≡ found_by e old new
+
+-- what names there are in an event: a list of classes that is put in force names nothing
+abbrev pub IsTellable : Given → Event → Type 0
+IsTellable g Redeclare = Unit {0}
+IsTellable g e = IsPossible g e
+
+-- what an event is about to find
+
+abbrev pub taken_at : Option (Packet Msg) → Option Taken
+taken_at packet = option_map taken packet
+
+abbrev pub taking : Option Taken → Foreseen
+taking None = foreseens.Nothing
+taking (Some packet) = foreseens.Takes packet
+
+abbrev pub doing : Bool → Foreseen
+doing can_do = if can_do then foreseens.Something else foreseens.Nothing
+
+abbrev pub foreseen_by : Event → Log → Foreseen
+foreseen_by (Deliver a b k) log = taking (taken_at (packet_at k (link_of a b log)))
+foreseen_by (Lose a b k) log = taking (taken_at (packet_at k (link_of a b log)))
+foreseen_by (Repeat a b k) log = doing (is_some (packet_at k (link_of a b log)))
+foreseen_by (Resend a b) log = doing (not (is_empty (unacked (link_of a b log).there)))
+foreseen_by (Down d) log = doing (not (is_down d.0 log))
+foreseen_by (Up d) log = doing (is_down d.0 log)
+foreseen_by _ log = foreseens.Something
+
+-- links
+
+-- what is kept of a link
+abbrev pub watched_link : Log → Site × Site → WatchedLink
+watched_link log l =
+    record {
+      from = l.0;
+      to = l.1;
+      flying = length (link_of l.0 l.1 log).there.flight;
+      sent = length (sent l.0 l.1 log);
+      handed = handed l.0 l.1 log;
+      waiting = waiting_on l.0 l.1 log;
+    }
+
+-- whether the event of the second log took a packet off the flight of a link, and how many packets of that before it are left
+
+abbrev pub is_taken : Event → Found → Site × Site → Bool
+is_taken e found l = takes_one found && is_of_link l.0 l.1 e
+
+abbrev pub left_of : Bool → ℕ → ℕ
+left_of taken flying = if taken then flying - 1 else flying
+
+abbrev pub left_between : Log → Log → Site × Site → ℕ
+left_between old new l =
+    left_of (is_taken (last_event new) (found_by (last_event new) old new) l)
+    (length (link_of l.0 l.1 old).there.flight)
+
+-- What is told of an event is told by what stands behind that: cut so, a moment of a link has before the event no packets, and
+-- behind it those that were put.
+
+abbrev pub link_before : Log → Site × Site → LinkMoment
+link_before old l =
+    record { from = l.0; to = l.1; flight = []; sent = length (sent l.0 l.1 old); handed = handed l.0 l.1 old }
+
+abbrev pub link_after : Log → Log → Site × Site → LinkMoment
+link_after old new l =
+    record {
+      from = l.0;
+      to = l.1;
+      flight = drop (left_between old new l) (link_of l.0 l.1 new).there.flight;
+      sent = length (sent l.0 l.1 new);
+      handed = handed l.0 l.1 new;
+    }
+
+-- the messages that were handed over in between, and those that have a purpose
+
+abbrev pub handed_over : Log → Log → Site × Site → List (Packet Msg)
+handed_over old new l = drop (handed l.0 l.1 old) (handed_on l.0 l.1 new)
+
+abbrev pub arrived_on : Log → Log → Site × Site → Option Arrived
+arrived_on old new l =
+    if handed l.0 l.1 old == handed l.0 l.1 new then None else
+    Some (record { from = l.0; to = l.1; messages = filter_map purposed (handed_over old new l) })
+
+-- of each link on which messages were handed over
+abbrev pub arrived : Given → Log → Log → List Arrived
+arrived g old new = filter_map (arrived_on old new) (all_links g)
+
+-- of one link the cut moments, and what was handed over
+abbrev pub seen_between : Log → Log → Site × Site → LinkSeen
+seen_between old new l = record { before = link_before old l; after = link_after old new l; arrived = arrived_on old new l }
+
+abbrev pub is_on : Site → Site → Arrived → Bool
+is_on a b one = same_site one.from a && same_site one.to b
+
+-- pipes
+
+abbrev pub watched_pipe : Given → Log → ℕ × ℕ → WatchedPipe
+watched_pipe g log p =
+    record {
+      dm = dm_no p.0;
+      class = class_no p.1;
+      source = source g p.0 p.1;
+      unprocessed = length (pipe p.1 (local_of g (D (dm_no p.0)) log)).unprocessed;
+    }
+
+-- a moment of a pipe is cut likewise: it has nothing before the event, and then what came and how much was processed
+abbrev pub pipe_before : Given → Log → Log → ℕ × ℕ → PipeMoment
+pipe_before g old new p =
+    record { dm = dm_no p.0; class = class_no p.1; came = []; processed = 0; passed = time_at (passed_to (pipe p.1 (local_of g (D (dm_no p.0)) new))) }
+
+abbrev pub pipe_after : Given → Log → Log → ℕ × ℕ → PipeMoment
+pipe_after g old new p =
+    record {
+      dm = dm_no p.0;
+      class = class_no p.1;
+      came = drop (length (came g p.0 p.1 old)) (came g p.0 p.1 new);
+      processed = length (pipe p.1 (local_of g (D (dm_no p.0)) new)).processed - length (pipe p.1 (local_of g (D (dm_no p.0)) old)).processed;
+      passed = time_at (passed_to (pipe p.1 (local_of g (D (dm_no p.0)) new)));
+    }
+
+-- what was said and recorded
+
+-- a message says that what was committed with timestamp t is applied
+abbrev pub is_done_at : ℕ → Packet Msg → Bool
+is_done_at t (Message n (Done ts)) = ts.0 == t
+is_done_at t p = false
+
+-- the DONEs that were handed to U, by timestamps and data modules
+abbrev pub AreDones : Given → Log → Dones → Type 0
+AreDones g log dones =
+    (t d : ℕ) → IsLinkOf g (D (dm_no d)) U
+    → contains pair_cmp dones.said (t, d) ≡ list_any (is_done_at t) (handed_on (D (dm_no d)) U log)
+
+-- of each transaction the place of its first Commit
+abbrev pub AreCommits : History → Commits → Type 0
+AreCommits records known = (n : ℕ) → get nat_cmp known.places n ≡ position (commits n) records
+
+-- beside links, queues and pipes
+pub record Knows (g : Given) (log : Log) (w : Watch) : Type 0 where
+  pub sites : w.sites.items ≡ sites g.catalogue.tms g.catalogue.dms
+  pub records : w.records ≡ length (history log)
+  pub commits : AreCommits (history log) w.commits
+  pub dones : AreDones g log w.dones
+
+-- all of it
+pub record Watches (g : Given) (log : Log) (w : Watch) : Type 0 where
+  pub sites : w.sites.items ≡ sites g.catalogue.tms g.catalogue.dms
+  pub links : w.links.items ≡ map (watched_link log) (all_links g)
+  pub queues : w.queues.items ≡ queues_of g log
+  pub pipes : w.pipes.items ≡ map (watched_pipe g log) (all_pipes g)
+  pub records : w.records ≡ length (history log)
+  pub commits : AreCommits (history log) w.commits
+  pub dones : AreDones g log w.dones
+
+-- What is needed to tell an event: the watch keeps what stood before it, the world is that behind it, and what it is, where it
+-- stands and what it found are told.
+pub record IsToTell (g : Given) (old new : Log) (w : World) (watch : Watch) (turn : Turn) (foreseen : Foreseen) : Type 0 where
+  pub between : IsBetween g old new
+  pub calm : Calm w g new
+  pub watches : Watches g old watch
+  pub turn_is : IsTurn g old new turn
+  pub foreseen_is : foreseen ≡ foreseen_by turn.event old
+  pub tellable : IsTellable g turn.event

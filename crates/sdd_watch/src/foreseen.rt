@@ -1,0 +1,145 @@
+//! What an event finds.
+ghost use Rattle.std.specs.Prelude.{◌≡◌, ◌≤◌};
+ghost use Rattle.sdd_obligations.specs.All.{Given, IsLinkOf, IsPossible, Log, delivered, is_empty, link_of, packet_at};
+ghost use Rattle.sdd_obligations.specs.net.Links.{unacked};
+ghost use Rattle.sdd_run.specs.world.Standing.{Calm};
+ghost use Rattle.sdd_watch.specs.Happens.{arrived_of, found_by, taken};
+ghost use Rattle.sdd_watch.specs.Watching.{IsTellable, doing, foreseen_by, taken_at, taking};
+
+use sdd_inside::{Found, Taken};
+use sdd_obligations::sdd_base::{Event, Site};
+use sdd_obligations::sdd_net::Packet;
+use sdd_obligations::sdd_wire::Spelling;
+use sdd_run::sdd_world::World;
+
+/// What an event is about to find.
+#[derive(Drop)]
+pub(crate) enum Foreseen {
+    /// Nothing that could be done.
+    Nothing,
+    /// What it says is done, and no packet is taken off a flight.
+    Something,
+    /// A packet, which is taken off its flight.
+    Takes(Taken),
+}
+
+/// The number of a packet.
+fn taken(packet: &Packet<Spelling>) -> Taken
+    ensures { result ≡ taken packet.now }
+{
+    match packet {
+        Packet::Message(number, _) => Taken::Message(*number),
+        Packet::Ack(upto) => Taken::Ack(*upto),
+    }
+}
+
+/// The packet at a place of a flight, by its number.
+fn packet_at(world: &World<'_>, from: Site, to: Site, place: u32) -> Option<Taken>
+    requires { (g : Given) × (log : Log) × Calm world.now g log × IsLinkOf g from to × (1 ≤ place) }
+    ensures { (g : Given) (log : Log) → Calm world.now g log → IsLinkOf g from to
+        → result ≡ taken_at (packet_at place (link_of from to log)) }
+{
+    match world.mail().direction(from, to).flight.packet(place) {
+        Some(packet) => Some(taken(packet)),
+        None => None,
+    }
+}
+
+/// Whether each message of a link is acknowledged.
+fn is_acknowledged(world: &World<'_>, from: Site, to: Site) -> bool
+    requires { (g : Given) × (log : Log) × Calm world.now g log × IsLinkOf g from to }
+    ensures { (g : Given) (log : Log) → Calm world.now g log → IsLinkOf g from to
+        → result ≡ is_empty (unacked (link_of from to log).there) }
+{
+    world.mail().direction(from, to).sender.is_done()
+}
+
+/// The messages from 1 to this number of a link have arrived.
+fn delivered_upto(world: &World<'_>, from: Site, to: Site) -> u32
+    requires { (g : Given) × (log : Log) × Calm world.now g log × IsLinkOf g from to }
+    ensures { (g : Given) (log : Log) → Calm world.now g log → IsLinkOf g from to
+        → result ≡ delivered (link_of from to log).there }
+{
+    world.mail().direction(from, to).receiver.count()
+}
+
+/// The messages from 1 to this number of the link back are acknowledged.
+fn acknowledged_upto(world: &World<'_>, from: Site, to: Site) -> u32
+    requires { (g : Given) × (log : Log) × Calm world.now g log × IsLinkOf g from to }
+    ensures { (g : Given) (log : Log) → Calm world.now g log → IsLinkOf g from to
+        → result ≡ (link_of to from log).there.acked }
+{
+    world.mail().direction(to, from).sender.acked_upto()
+}
+
+fn taking(packet: Option<Taken>) -> Foreseen
+    ensures { result ≡ taking packet }
+{
+    match packet {
+        Some(packet) => Foreseen::Takes(packet),
+        None => Foreseen::Nothing,
+    }
+}
+
+fn doing(can_do: bool) -> Foreseen
+    ensures { result ≡ doing can_do }
+{
+    if can_do {
+        Foreseen::Something
+    } else {
+        Foreseen::Nothing
+    }
+}
+
+/// What an event finds that is next. Takes no memory.
+pub(crate) fn foresee(world: &World<'_>, event: &Event) -> Foreseen
+    requires { (g : Given) × (log : Log) × Calm world.now g log × IsPossible g event.now }
+    ensures { (g : Given) (log : Log) → Calm world.now g log → IsPossible g event.now
+        → result ≡ foreseen_by event.now log }
+{
+    match event {
+        Event::Deliver { from, to, place } => taking(packet_at(world, *from, *to, *place)),
+        Event::Lose { from, to, place } => taking(packet_at(world, *from, *to, *place)),
+        Event::Repeat { from, to, place } => {
+            doing(packet_at(world, *from, *to, *place).is_some())
+        }
+        Event::Resend { from, to } => doing(!is_acknowledged(world, *from, *to)),
+        Event::Down(dm) => doing(!world.is_down(*dm)),
+        Event::Up(dm) => doing(world.is_down(*dm)),
+        _ => Foreseen::Something,
+    }
+}
+
+/// What a delivery found, once it is carried out.
+fn delivered(world: &World<'_>, from: Site, to: Site, packet: Taken) -> Found
+    requires { (g : Given) × (log : Log) × Calm world.now g log × IsLinkOf g from to }
+    ensures { (g : Given) (log : Log) → Calm world.now g log → IsLinkOf g from to
+        → result ≡ arrived_of from to packet log }
+{
+    match packet {
+        Taken::Message(number) => Found::Arrived {
+            number,
+            delivered: delivered_upto(world, from, to),
+        },
+        Taken::Ack(upto) => Found::Acknowledged {
+            upto,
+            acked: acknowledged_upto(world, from, to),
+        },
+    }
+}
+
+/// What an event found that is carried out. Takes no memory.
+pub(crate) fn found(world: &World<'_>, event: &Event, foreseen: Foreseen) -> Found
+    requires { (g : Given) × (log : Log) × Calm world.now g log × IsTellable g event.now }
+    ensures { (g : Given) (old new : Log) → Calm world.now g new → IsTellable g event.now
+        → foreseen ≡ foreseen_by event.now old → result ≡ found_by event.now old new }
+{
+    match foreseen {
+        Foreseen::Nothing => Found::Nothing,
+        Foreseen::Something => Found::Something,
+        Foreseen::Takes(packet) => match event {
+            Event::Deliver { from, to, .. } => delivered(world, *from, *to, packet),
+            _ => Found::Lost(packet),
+        },
+    }
+}

@@ -1,0 +1,133 @@
+//! The text of what happens inside the run of a workload.
+ghost use Rattle.std.specs.Prelude.{◌≡◌, [], IfOk, IsErrOf};
+ghost use Rattle.sdd_obligations.specs.All.{Given};
+ghost use Rattle.sdd_run.specs.Runs.{AreTables, EndsAtLimit, begun};
+ghost use Rattle.sdd_run.specs.class_lists.InForce.{eras_in, whole_in};
+ghost use Rattle.sdd_run.specs.script.All.{IsValid};
+ghost use Rattle.sdd_run.specs.world.Standing.{StandsFor};
+ghost use Rattle.sdd_watch.specs.Telling.{Tells};
+ghost use Rattle.sdd_watch.specs.Text.{IsInsideOf};
+
+use crate::schedule::carry_out;
+use crate::teller::Teller;
+use crate::watch::Watch;
+use sdd_inside::put_beginning;
+use sdd_obligations::sdd_base::{Event, NoMemory};
+use sdd_obligations::sdd_catalog::Catalogue;
+use sdd_obligations::sdd_protocol::Table;
+use sdd_run::sdd_lists::{Lists, lists_of};
+use sdd_run::sdd_script::Workload;
+use sdd_run::sdd_world::{World, WorldEnd, data_modules};
+use sdd_run::{first_table, further, tables_of};
+use std::alloc::Global;
+
+/// What is told before the first event.
+fn begin<'c>(
+    alloc: Global,
+    catalogue: &'c Catalogue,
+    world: &World<'_>,
+) -> Result<Teller<'c>, NoMemory>
+    requires { (g : Given) × StandsFor world.now g [] × (catalogue.now ≡ g.catalogue) }
+    ensures { IfOk result (λ teller. (g : Given) → StandsFor world.now g []
+        → catalogue.now ≡ g.catalogue → Tells g [] teller) }
+{
+    let copies = world.tables(alloc)?;
+    let watch = Watch::new(alloc, catalogue, world)?;
+    let mut text = Vec::new(alloc);
+    put_beginning(
+        &mut text,
+        catalogue,
+        world.transactions(),
+        copies.as_slice(),
+    )?;
+    Ok(Teller {
+        catalogue,
+        watch,
+        text,
+    })
+}
+
+/// A world before its first event, and the events that it is to carry out.
+#[derive(Drop)]
+struct First<'a> {
+    world: World<'a>,
+    events: Vec<Event>,
+}
+
+/// The world of a workload before its first event, and its events. The lists of classes have these
+/// protocol tables.
+fn first_world<'a>(
+    alloc: Global,
+    catalogue: &'a Catalogue,
+    lists: &'a Lists<'a>,
+    tables: &'a [Table],
+    work: Workload,
+) -> Result<First<'a>, NoMemory>
+    requires valid { IsValid catalogue.now work }
+    requires whole { lists.now.whole ≡ whole_in catalogue.now work }
+    requires tabled { AreTables catalogue.now work tables.now }
+    ensures world { IfOk result (λ first.
+        StandsFor first.world (begun catalogue.now tables.now work) []) }
+    ensures events { IfOk result (λ first. first.events.items ≡ work.events) }
+{
+    let whole = lists.whole();
+    whole.known();
+    let Workload {
+        rows,
+        txns,
+        events,
+        ..
+    } = work;
+    let modules = data_modules(alloc, whole, rows.as_slice())?;
+    let world = World::new(alloc, whole, catalogue, first_table(tables), txns, modules)?;
+    Ok(First {
+        world,
+        events: events.into_vec(),
+    })
+}
+
+/// The text for a workload whose lists of classes have these protocol tables.
+fn told<'a>(
+    alloc: Global,
+    catalogue: &'a Catalogue,
+    lists: &'a Lists<'a>,
+    tables: &'a [Table],
+    work: Workload,
+) -> Result<Vec<u8>, WorldEnd>
+    requires valid { IsValid catalogue.now work }
+    requires eras { lists.now.eras ≡ eras_in catalogue.now work }
+    requires whole { lists.now.whole ≡ whole_in catalogue.now work }
+    requires tabled { AreTables catalogue.now work tables.now }
+    ensures text { IfOk result (λ text. IsInsideOf catalogue.now work text.items) }
+    ensures limit { IsErrOf result WorldEnd.Limit → EndsAtLimit catalogue.now work }
+{
+    let whole = lists.whole();
+    whole.known();
+    let further = further(alloc, lists.eras(), tables)?;
+    let first = first_world(alloc, catalogue, lists, tables, work)?;
+    let mut teller = begin(alloc, whole, &first.world)?;
+    carry_out(first.world, first.events, further, &mut teller)?;
+    Ok(teller.text)
+}
+
+/// The text of what happens inside the run of a workload: the first line, and one line for each event
+/// that has a number.
+///
+/// Costs what its events cost, for each of them a look at each link, queue and pipe; and the text.
+///
+/// # Errors
+///
+/// Where an event, or a message of a link, would pass the limit, and where memory runs out.
+pub fn inside_text(
+    alloc: Global,
+    catalogue: &Catalogue,
+    work: Workload,
+) -> Result<Vec<u8>, WorldEnd>
+    requires valid { IsValid catalogue.now work }
+    ensures text { IfOk result (λ text. IsInsideOf catalogue.now work text.items) }
+    ensures limit { IsErrOf result WorldEnd.Limit → EndsAtLimit catalogue.now work }
+{
+    let lists = lists_of(alloc, catalogue, &work)?;
+    let tables = tables_of(alloc, lists.eras())?;
+    told(alloc, catalogue, &lists, tables.as_slice(), work)
+}

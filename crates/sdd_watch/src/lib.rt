@@ -1,0 +1,31 @@
+//! What happens inside a run, event by event, and the text of it.
+//!
+//! The contract to the layer above: `inside_text` is the text of the run of a workload on a catalogue,
+//! one line for each event, or the limit ends that run.
+//!
+//! `Watch` keeps what stood where when the last event was over, by numbers where a list is long; what
+//! an event changed is read from the world behind it. So an event costs what it changes, the queues,
+//! and a look at each link and pipe, however much stands in them.
+#![tactic(auto)]
+
+mod both;
+mod commits;
+mod dones;
+mod foreseen;
+mod inside;
+mod places;
+mod queues;
+mod rows;
+mod schedule;
+mod states;
+mod taking_part;
+mod teller;
+mod waiting;
+mod watch;
+mod watched_link;
+mod watched_pipe;
+
+pub use inside::inside_text;
+
+// What lies below, for the crates above.
+pub use sdd_run;

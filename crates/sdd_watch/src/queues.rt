@@ -1,0 +1,60 @@
+//! The queues of classes.
+ghost use Rattle.std.specs.Prelude.{◌≡◌, ◌++◌, ◌∷◌, [], ℕ, map, IfOk, OnOk};
+ghost use Rattle.sdd_obligations.specs.All.{Given, IsSiteOf, Log, T};
+ghost use Rattle.sdd_run.specs.world.Standing.{Calm};
+ghost use Rattle.sdd_watch.specs.Looking.{queue_in, queue_of};
+ghost use Rattle.sdd_watch.specs.Moments.{queues_at, queues_of};
+
+use sdd_inside::QueueMoment;
+use sdd_obligations::sdd_attempt::Line;
+use sdd_obligations::sdd_base::{Listed, NoMemory, TmNo};
+use sdd_obligations::sdd_tm::ClassRun;
+use sdd_run::sdd_world::World;
+use std::alloc::Global;
+
+/// The queue of a line.
+fn queue(line: &Line<'_>) -> Result<QueueMoment, NoMemory>
+    ensures { IfOk result (λ moment. moment ≡ queue_of line.now.class line.now.queue) }
+{
+    Ok(QueueMoment {
+        class: line.class(),
+        queue: Listed::from_vec(line.queued()?),
+    })
+}
+
+/// Adds the queues of classes.
+fn add_queues(classes: &[ClassRun<'_>], queues: &mut Vec<QueueMoment>) -> Result<(), NoMemory>
+    ensures { OnOk result (queues.new.items ≡ queues.old.items ++ map queue_in classes.now) }
+{
+    for class in classes {
+        queues.push(queue(class.line())?)?;
+    }
+    Ok(())
+}
+
+/// Adds the queues of a transaction module.
+fn add_queues_at(world: &World<'_>, tm: TmNo, queues: &mut Vec<QueueMoment>) -> Result<(), NoMemory>
+    requires { (g : Given) × (log : Log) × Calm world.now g log × IsSiteOf g (T tm) }
+    ensures { OnOk result ((g : Given) (log : Log) → Calm world.now g log → IsSiteOf g (T tm)
+        → queues.new.items ≡ queues.old.items ++ queues_at g log tm.0) }
+{
+    add_queues(world.sites().txn_module(tm).classes(), queues)?;
+    Ok(())
+}
+
+/// All queues, that of the module for undeclared transactions first, and then by transaction module
+/// and class.
+pub(crate) fn all_queues(alloc: Global, world: &World<'_>) -> Result<Vec<QueueMoment>, NoMemory>
+    requires { (g : Given) × (log : Log) × Calm world.now g log }
+    ensures { IfOk result (λ queues. (g : Given) (log : Log) → Calm world.now g log
+        → queues.items ≡ queues_of g log) }
+{
+    let whole = world.whole();
+    whole.known();
+    let mut queues = Vec::new(alloc);
+    queues.push(queue(world.sites().u_module().line())?)?;
+    for number in 1..whole.tms() + 1 {
+        add_queues_at(world, TmNo(number as u8), &mut queues)?;
+    }
+    Ok(queues)
+}

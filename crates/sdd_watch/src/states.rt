@@ -1,0 +1,311 @@
+//! How sites stand between two events.
+ghost use Rattle.std.specs.Prelude.{◌≡◌, ◌≤◌, ◌/◌, ◌++◌, ◌∷◌, [], filter_map, length, map, not, option_map, IfOk, OnOk, IsTrue, Some};
+ghost use Rattle.std.specs.List.{All, flat_map};
+ghost use Rattle.sdd_obligations.specs.All.{ClassState, Given, IsSiteOf, Log, Setting, T, dm_no, view_of};
+ghost use Rattle.sdd_obligations.specs.attempt.Lines.{awaited_by, lacked_by};
+ghost use Rattle.sdd_obligations.specs.dm.Stands as data_stands;
+ghost use Rattle.sdd_obligations.specs.dm.Views as data_views;
+ghost use Rattle.sdd_obligations.specs.site_module.SiteLog as site;
+ghost use Rattle.sdd_obligations.specs.tm.Stands as tm_stands;
+ghost use Rattle.sdd_obligations.specs.umod.Stands as u_stands;
+ghost use Rattle.sdd_run.specs.world.Standing.{Calm};
+ghost use Rattle.sdd_watch.specs.Keeping.{IsLineInOrder, active_in, active_of, head_in, question_by, questions_in};
+ghost use Rattle.sdd_watch.specs.States.{data_sites, dm_told, head_told, lacks_in, phase_by, stage_at, stage_by, state_of, tm_told, u_told, unapplied_last, unapplied_of};
+
+use sdd_inside::{Active, DmState, Head, Phase, Question, SiteState, Stage, TmState, UState};
+use sdd_obligations::sdd_attempt::{Answer, Line};
+use sdd_obligations::sdd_base::{
+    ClassNo, Conds, DmNo, Listed, NoMemory, Parcel, Site, TmNo, Ts, TxnNo,
+};
+use sdd_obligations::sdd_dm::{ClassNos, DataModule};
+use sdd_obligations::sdd_tm::{Asked, ClassRun, TxnModule};
+use sdd_obligations::sdd_umod::UModule;
+use sdd_run::sdd_world::World;
+use std::alloc::Global;
+use std::collections::VecDeque;
+
+/// The ticks of a clock with this bound.
+fn ticks(bound: Ts) -> u64
+    ensures { result ≡ bound.0 / 64 }
+{
+    bound.0 / 64
+}
+
+/// What an attempt does that awaits such answers.
+fn phase_by(answer: Answer) -> Phase
+    ensures { result ≡ phase_by answer }
+{
+    match answer {
+        Answer::Ready => Phase::Reading,
+        Answer::Values => Phase::Fetching,
+        Answer::Reduced => Phase::Reducing,
+        Answer::Rows => Phase::Shipping,
+    }
+}
+
+/// The data modules whose answer to the attempt is missing.
+fn lacking<'l>(line: &'l Line<'_>) -> &'l [DmNo]
+    ensures { result.now ≡ map dm_no (lacked_by line.now.active) }
+{
+    line.lacking()
+}
+
+/// The attempt of a class that is under way, of the first transaction of its queue.
+fn attempt(alloc: Global, line: &Line<'_>, answer: Answer) -> Result<Active, NoMemory>
+    requires in_order { IsLineInOrder line.now }
+    requires awaited { awaited_by line.now.active ≡ Some answer }
+    ensures { IfOk result (λ attempt. active_in line.now ≡ Some attempt) }
+{
+    let lacks = DmNo::copy_all(alloc, lacking(line))?;
+    let txn = line.first().unwrap_or(TxnNo(0));
+    let time = line.active_ts().unwrap_or(Ts(0));
+    Ok(Active {
+        class: line.class(),
+        txn,
+        attempt: line.tries(),
+        time,
+        phase: phase_by(answer),
+        lacks: Listed::from_vec(lacks),
+    })
+}
+
+/// Adds the attempt of a class, where one is under way.
+fn add_active(alloc: Global, line: &Line<'_>, actives: &mut Vec<Active>) -> Result<(), NoMemory>
+    requires { IsLineInOrder line.now }
+    ensures { OnOk result (
+        actives.new.items ≡ actives.old.items ++ filter_map active_in (line.now ∷ [])) }
+{
+    match line.awaits() {
+        None => Ok(()),
+        Some(answer) => {
+            actives.push(attempt(alloc, line, answer)?)?;
+            Ok(())
+        }
+    }
+}
+
+/// The attempts of classes that are under way.
+fn actives(alloc: Global, runs: &[ClassRun<'_>]) -> Result<Vec<Active>, NoMemory>
+    requires { All (λ (k : ClassState). IsLineInOrder k.line) runs.now }
+    ensures { IfOk result (λ actives. actives.items ≡ filter_map active_of runs.now) }
+{
+    let mut actives = Vec::new(alloc);
+    for run in runs {
+        add_active(alloc, run.line(), &mut actives)?;
+    }
+    Ok(actives)
+}
+
+/// A question to a class that has no answer.
+fn question_by(class: ClassNo, asked: &Asked) -> Question
+    ensures { result ≡ question_by class.0 asked.now }
+{
+    Question {
+        class,
+        from: asked.from,
+        time: asked.time,
+    }
+}
+
+/// The questions to a class that have no answer.
+fn questions_to(
+    alloc: Global,
+    class: ClassNo,
+    asks: &VecDeque<Asked>,
+) -> Result<Vec<Question>, NoMemory>
+    ensures { IfOk result (λ questions. questions.items ≡ map (question_by class.0) asks.now.items) }
+{
+    let mut questions = Vec::new(alloc);
+    'asks: for asked in asks.iter() {
+        questions.push(question_by(class, asked))?;
+    }
+    Ok(questions)
+}
+
+/// The questions to classes that have no answer, by class.
+fn open_questions(alloc: Global, runs: &[ClassRun<'_>]) -> Result<Vec<Question>, NoMemory>
+    ensures { IfOk result (λ questions. questions.items ≡ flat_map questions_in runs.now) }
+{
+    let mut questions = Vec::new(alloc);
+    for run in runs {
+        let mut more = questions_to(alloc, run.line().class(), run.asks())?;
+        questions.append(&mut more)?;
+    }
+    Ok(questions)
+}
+
+fn tm_state(alloc: Global, tm: TmNo, module: &TxnModule<'_>) -> Result<TmState, NoMemory>
+    requires { (s : Setting) × (log : site.Log) × tm_stands.Stands module.now s log }
+    ensures { IfOk result (λ state. (s : Setting) (log : site.Log) → tm_stands.Stands module.now s log
+        → state ≡ tm_told s log tm.0) }
+{
+    let runs = module.classes();
+    let asks = open_questions(alloc, runs)?;
+    let active = actives(alloc, runs)?;
+    Ok(TmState {
+        tm,
+        clock: ticks(module.bound()),
+        on_hold: module.is_on_hold(),
+        owes_held: module.owes_held(),
+        asks: Listed::from_vec(asks),
+        active: Listed::from_vec(active),
+    })
+}
+
+/// Data modules as sites.
+fn data_sites(alloc: Global, dms: &[DmNo]) -> Result<Vec<Site>, NoMemory>
+    ensures { IfOk result (λ sites. sites.items ≡ data_sites dms.now) }
+{
+    Ok(dms.iter().map(|dm| Site::D(*dm)).collect(alloc)?)
+}
+
+/// Transaction modules as sites.
+fn txn_sites(alloc: Global, tms: &[TmNo]) -> Result<Vec<Site>, NoMemory>
+    ensures { IfOk result (λ sites. sites.items ≡ map (λ t. T t) tms.now) }
+{
+    Ok(tms.iter().map(|tm| Site::T(*tm)).collect(alloc)?)
+}
+
+/// What the module of U does, by whether an attempt is under way, the next transaction is served, or
+/// the last one is.
+fn stage_by(reading: bool, holding: bool, writing: bool) -> Stage
+    ensures { result ≡ stage_by reading holding writing }
+{
+    if reading {
+        return Stage::Reading;
+    }
+    if holding {
+        return Stage::Holding;
+    }
+    if writing {
+        return Stage::Writing;
+    }
+    Stage::Idle
+}
+
+/// What the module of U does.
+fn stage_at(module: &UModule<'_>) -> Stage
+    ensures { (s : Setting) (log : site.Log) → u_stands.Stands module.now s log → result ≡ stage_at s log }
+{
+    let idle = module.line().is_idle();
+    stage_by(!idle, module.is_awaiting_helds(), module.is_releasing())
+}
+
+/// From which sites an answer is missing, where these data modules haven't said that they applied
+/// what was committed last.
+fn lacking_sites(
+    alloc: Global,
+    module: &UModule<'_>,
+    stage: Stage,
+    unapplied: &[DmNo],
+) -> Result<Vec<Site>, NoMemory>
+    ensures { IfOk result (λ sites. (s : Setting) (log : site.Log) → u_stands.Stands module.now s log
+        → unapplied.now ≡ unapplied_last s log → sites.items ≡ lacks_in s log stage) }
+{
+    match stage {
+        Stage::Reading => data_sites(alloc, lacking(module.line())),
+        Stage::Holding => txn_sites(alloc, module.lacking()?.as_slice()),
+        Stage::Writing => data_sites(alloc, unapplied),
+        Stage::Idle => Ok(Vec::new(alloc)),
+    }
+}
+
+fn u_state(alloc: Global, module: &UModule<'_>, unapplied: &[DmNo]) -> Result<UState, NoMemory>
+    requires { (s : Setting) × (log : site.Log) × u_stands.Stands module.now s log }
+    ensures { IfOk result (λ state. (s : Setting) (log : site.Log) → u_stands.Stands module.now s log
+        → unapplied.now ≡ unapplied_last s log → state ≡ u_told s log) }
+{
+    let stage = stage_at(module);
+    let lacks = lacking_sites(alloc, module, stage, unapplied)?;
+    let mut active = Vec::new(alloc);
+    add_active(alloc, module.line(), &mut active)?;
+    Ok(UState {
+        clock: ticks(module.bound()),
+        stage,
+        lacks: Listed::from_vec(lacks),
+        active: Listed::from_vec(active),
+    })
+}
+
+/// The head of the pipe of a class: a READ that waits, with its conditions that aren't met, or a
+/// WRITE, with the classes whose READ waits and must not see it.
+fn head_in(class: ClassNo, conds: Option<Conds>, readers: Option<ClassNos>) -> Option<Head>
+    ensures { result ≡ head_in class conds readers }
+{
+    match conds {
+        Some(conds) => Some(Head::Waits { class, conds }),
+        None => match readers {
+            Some(readers) => Some(Head::Held { class, readers }),
+            None => None,
+        },
+    }
+}
+
+/// The head of the pipe of a class, where it can't be processed.
+fn head_told(module: &DataModule, class: ClassNo) -> Result<Option<Head>, NoMemory>
+    ensures { IfOk result (λ head. (s : Setting) (log : site.Log) → data_stands.Stands module.now s log
+        → class.0 ≤ length s.catalogue.classes
+        → head ≡ head_told (view_of s log) (data_views.class_view s log class.0)) }
+{
+    let conds = module.lacking(class)?;
+    let readers = module.holders(class)?;
+    Ok(head_in(class, conds, readers))
+}
+
+/// Adds the head of the pipe of a class, where it can't be processed.
+fn add_head(module: &DataModule, class: ClassNo, heads: &mut Vec<Head>) -> Result<(), NoMemory>
+    ensures { OnOk result ((s : Setting) (log : site.Log) → data_stands.Stands module.now s log
+        → class.0 ≤ length s.catalogue.classes
+        → heads.new.items ≡ heads.old.items
+        ++ filter_map (head_told (view_of s log)) (data_views.class_view s log class.0 ∷ [])) }
+{
+    match head_told(module, class)? {
+        None => Ok(()),
+        Some(head) => {
+            heads.push(head)?;
+            Ok(())
+        }
+    }
+}
+
+fn dm_state(
+    alloc: Global,
+    dm: DmNo,
+    is_down: bool,
+    module: &DataModule,
+) -> Result<DmState, NoMemory>
+    ensures { IfOk result (λ state. (s : Setting) (log : site.Log) → data_stands.Stands module.now s log
+        → state ≡ dm_told s log dm.0 is_down) }
+{
+    let mut heads = Vec::new(alloc);
+    for class in 0..module.pipe_count() {
+        add_head(module, ClassNo(class), &mut heads)?;
+    }
+    Ok(DmState {
+        dm,
+        is_down,
+        heads: Listed::from_vec(heads),
+    })
+}
+
+/// How a site stands, where these data modules haven't said that they applied what U committed last.
+pub(crate) fn state(
+    alloc: Global,
+    world: &World<'_>,
+    at: Site,
+    unapplied: &[DmNo],
+) -> Result<SiteState, NoMemory>
+    requires { (g : Given) × (log : Log) × IsSiteOf g at × Calm world.now g log }
+    ensures { IfOk result (λ state. (g : Given) (log : Log) → IsSiteOf g at → Calm world.now g log
+        → unapplied.now ≡ unapplied_of g log → state ≡ state_of g log at) }
+{
+    let sites = world.sites();
+    match at {
+        Site::U => Ok(SiteState::U(u_state(alloc, sites.u_module(), unapplied)?)),
+        Site::T(tm) => Ok(SiteState::T(tm_state(alloc, tm, sites.txn_module(tm))?)),
+        Site::D(dm) => {
+            let down = world.is_down(dm);
+            Ok(SiteState::D(dm_state(alloc, dm, down, sites.data_module(dm))?))
+        }
+    }
+}

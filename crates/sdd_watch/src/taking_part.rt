@@ -1,0 +1,168 @@
+//! Which sites take part in an event, and how they stand.
+ghost use Rattle.std.specs.Prelude.{◌≡◌, ◌++◌, ◌∷◌, ◌&&◌, [], All, filter, map, IfOk, OnOk};
+ghost use Rattle.std.specs.List.{list_any};
+ghost use Rattle.sdd_obligations.specs.All.{Given, IsSiteOf, Log, Redeclare, force_at, redeclares, same_site, txn_at};
+ghost use Rattle.sdd_obligations.specs.logs.Due.{home_of as class_site};
+ghost use Rattle.sdd_inside.specs.declared.delta.Found.{Found as Finding};
+ghost use Rattle.sdd_run.specs.world.Standing.{Calm};
+ghost use Rattle.sdd_watch.specs.Happens.{concerns, is_something, takes_part};
+ghost use Rattle.sdd_watch.specs.States.{state_of};
+ghost use Rattle.sdd_watch.specs.Watching.{AreDones, IsOver, arrived as arrived_between};
+
+use crate::dones::Dones;
+use crate::places::is_same;
+use crate::states::state;
+use crate::watched_link::Arrived;
+use sdd_inside::{Found, SiteState};
+use sdd_obligations::sdd_base::{Event, NoMemory, Site, TxnNo};
+use sdd_run::sdd_world::{World, home};
+use std::alloc::Global;
+
+fn is_something(found: &Found) -> bool
+    ensures { result ≡ is_something found.now }
+{
+    match found {
+        Found::Nothing => false,
+        _ => true,
+    }
+}
+
+/// The site of a transaction's class, by its number and by the list of classes in force.
+fn home_of(world: &World<'_>, number: TxnNo) -> Site
+    requires { (g : Given) × (log : Log) × Calm world.now g log }
+    ensures { (g : Given) (log : Log) → Calm world.now g log → result
+        ≡ class_site (force_at g (redeclares log)).catalogue (txn_at g number.0) }
+{
+    let place = number.0.saturating_sub(1);
+    match world.transactions().get(place as usize) {
+        Some(txn) => home(world.catalogue(), txn),
+        None => Site::U,
+    }
+}
+
+fn is_txn_module(at: Site) -> bool
+    ensures { (g : Given) (log : Log) (found : Finding)
+        → result ≡ concerns g log Redeclare found at }
+{
+    match at {
+        Site::T(_) => true,
+        _ => false,
+    }
+}
+
+/// Whether an event that found this lets a site take part, being of another one or the same.
+fn is_found_at(found: &Found, here: Site, at: Site) -> bool
+    ensures { result ≡ (is_something found.now && same_site here at) }
+{
+    is_something(found) && is_same(here, at)
+}
+
+/// Whether an event by itself lets a site take part.
+fn concerns(world: &World<'_>, event: &Event, found: &Found, at: Site) -> bool
+    requires { (g : Given) × (log : Log) × Calm world.now g log }
+    ensures { (g : Given) (log : Log) → Calm world.now g log
+        → result ≡ concerns g log event.now found.now at }
+{
+    match event {
+        Event::Submit(number) => is_same(home_of(world, *number), at),
+        Event::Tick { tm, .. } => is_same(Site::T(*tm), at),
+        Event::Down(dm) => is_found_at(found, Site::D(*dm), at),
+        Event::Up(dm) => is_found_at(found, Site::D(*dm), at),
+        Event::Redeclare => is_txn_module(at),
+        _ => false,
+    }
+}
+
+/// Whether a message was handed to a site.
+fn is_reached(arrived: &[Arrived], at: Site) -> bool
+    ensures { result ≡ list_any (λ one. same_site one.to at) arrived.now }
+{
+    arrived.iter().any(|one| is_same(one.to, at))
+}
+
+/// Whether a site takes part in an event that is carried out.
+fn takes_part(
+    world: &World<'_>,
+    event: &Event,
+    found: &Found,
+    arrived: &[Arrived],
+    at: Site,
+) -> bool
+    requires { (g : Given) × (old : Log) × (new : Log)
+        × IsOver g old new world.now event.now found.now }
+    ensures { (g : Given) (old new : Log) → IsOver g old new world.now event.now found.now
+        → arrived.now ≡ arrived_between g old new → result ≡ takes_part g old new at }
+{
+    if is_reached(arrived, at) {
+        return true;
+    }
+    concerns(world, event, found, at)
+}
+
+/// Adds a site, where it takes part.
+fn add_busy(
+    world: &World<'_>,
+    event: &Event,
+    found: &Found,
+    arrived: &[Arrived],
+    at: Site,
+    busy: &mut Vec<Site>,
+) -> Result<(), NoMemory>
+    requires { (g : Given) × (old : Log) × (new : Log)
+        × IsOver g old new world.now event.now found.now }
+    ensures { OnOk result ((g : Given) (old new : Log)
+        → IsOver g old new world.now event.now found.now → arrived.now ≡ arrived_between g old new
+        → busy.new.items ≡ busy.old.items ++ filter (takes_part g old new) (at ∷ [])) }
+{
+    if takes_part(world, event, found, arrived, at) {
+        busy.push(at)?;
+        return Ok(());
+    }
+    Ok(())
+}
+
+/// The sites that take part in an event that is carried out, in their order.
+pub(crate) fn busy(
+    alloc: Global,
+    world: &World<'_>,
+    event: &Event,
+    found: &Found,
+    arrived: &[Arrived],
+    sites: &[Site],
+) -> Result<Vec<Site>, NoMemory>
+    requires { (g : Given) × (old : Log) × (new : Log)
+        × IsOver g old new world.now event.now found.now }
+    ensures { IfOk result (λ busy. (g : Given) (old new : Log)
+        → IsOver g old new world.now event.now found.now → arrived.now ≡ arrived_between g old new
+        → busy.items ≡ filter (takes_part g old new) sites.now) }
+{
+    let mut busy = Vec::new(alloc);
+    for at in sites {
+        add_busy(world, event, found, arrived, *at, &mut busy)?;
+    }
+    Ok(busy)
+}
+
+/// How these sites stand.
+pub(crate) fn states(
+    alloc: Global,
+    world: &World<'_>,
+    dones: &Dones,
+    busy: &[Site],
+) -> Result<Vec<SiteState>, NoMemory>
+    requires { (g : Given) × (log : Log) × Calm world.now g log × AreDones g log dones.now
+        × All (IsSiteOf g) busy.now }
+    ensures { IfOk result (λ states. (g : Given) (log : Log) → Calm world.now g log
+        → AreDones g log dones.now → All (IsSiteOf g) busy.now
+        → states.items ≡ map (state_of g log) busy.now) }
+{
+    let whole = world.whole();
+    whole.known();
+    let committed = world.sites().u_module().last_commit();
+    let unapplied = dones.missing(alloc, committed, whole.dms())?;
+    let mut states = Vec::new(alloc);
+    for at in busy {
+        states.push(state(alloc, world, *at, unapplied.as_slice())?)?;
+    }
+    Ok(states)
+}

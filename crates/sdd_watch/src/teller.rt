@@ -1,0 +1,48 @@
+//! The lines of events, put one after the other.
+ghost use Rattle.std.specs.Prelude.{◌≡◌, ◌++◌, OnOk};
+ghost use Rattle.sdd_inside.specs.Lines.{line};
+ghost use Rattle.sdd_obligations.specs.All.{Given, Log};
+ghost use Rattle.sdd_watch.specs.Text.{change};
+ghost use Rattle.sdd_watch.specs.Watching.{IsToTell, Watches};
+
+use crate::foreseen::{Foreseen, found};
+use crate::watch::{Turn, Watch};
+use sdd_inside::put_line;
+use sdd_obligations::sdd_base::NoMemory;
+use sdd_obligations::sdd_catalog::Catalogue;
+use sdd_run::sdd_world::World;
+
+/// What is told so far, and what stood where when that was over.
+#[derive(Drop)]
+pub(crate) struct Teller<'c> {
+    pub(crate) catalogue: &'c Catalogue,
+    pub(crate) watch: Watch,
+    pub(crate) text: Vec<u8>,
+}
+
+impl<'c> Teller<'c> {
+    /// Puts the line of an event that is carried out.
+    pub(crate) fn tell(
+        &mut self,
+        world: &World<'_>,
+        turn: Turn,
+        foreseen: Foreseen,
+    ) -> Result<(), NoMemory>
+        requires { (g : Given) × (old : Log) × (new : Log)
+            × IsToTell g old new world.now self.old.watch turn foreseen }
+        ensures catalogue { self.new.catalogue ≡ self.old.catalogue }
+        ensures text { OnOk result ((g : Given) (old new : Log)
+            → IsToTell g old new world.now self.old.watch turn foreseen
+            → self.old.catalogue.now ≡ g.catalogue
+            → self.new.text.items
+            ≡ self.old.text.items ++ line g.catalogue g.txns (change g old new)) }
+        ensures watch { OnOk result ((g : Given) (old new : Log)
+            → IsToTell g old new world.now self.old.watch turn foreseen
+            → Watches g new self.new.watch) }
+    {
+        let found = found(world, &turn.event, foreseen);
+        let delta = self.watch.look(world, turn, found)?;
+        put_line(&mut self.text, self.catalogue, world.transactions(), &delta)?;
+        Ok(())
+    }
+}

@@ -1,0 +1,243 @@
+//! What stood where when an event was over, and what the next one changed.
+ghost use Rattle.std.specs.Prelude.{◌≡◌, [], length, map, IfOk, OnOk};
+ghost use Rattle.sdd_obligations.specs.All.{Given, Log, history};
+ghost use Rattle.sdd_run.specs.world.Standing.{Calm};
+ghost use Rattle.sdd_watch.specs.Happens.{happened_at, rows_of};
+ghost use Rattle.sdd_watch.specs.Moments.{queues_of};
+ghost use Rattle.sdd_watch.specs.Text.{change};
+ghost use Rattle.sdd_watch.specs.Watching.{AreCommits, IsBetween, IsOver, IsTurn, Knows, Watches, arrived as arrived_between, watched_link};
+
+use crate::both::Both;
+use crate::commits::Commits;
+use crate::dones::Dones;
+use crate::places::{all_links, all_sites};
+use crate::queues::all_queues;
+use crate::rows::rows_from;
+use crate::taking_part::{busy, states};
+use crate::watched_link::{Arrived, OnLinks, WatchedLink, look_at_links};
+use crate::watched_pipe::{WatchedPipe, first_pipes, look_at_pipes};
+use sdd_inside::{
+    Delta, Found, Happened, LinkMoment, Moment, PipeMoment, QueueMoment, RowDelta, difference,
+};
+use sdd_obligations::sdd_base::{Event, Listed, NoMemory, Site};
+use sdd_obligations::sdd_catalog::Catalogue;
+use sdd_run::sdd_world::World;
+use std::alloc::Global;
+use std::mem;
+
+/// Where an event stands in the schedule.
+#[derive(Clone, Copy)]
+pub(crate) struct Turn {
+    pub(crate) event: Event,
+    /// The place in the schedule, counted from 1, of what it is or belongs to.
+    pub(crate) scheduled: u32,
+    /// The round to which it belongs.
+    pub(crate) round: Option<u32>,
+}
+
+/// What stood where when the last event was over.
+#[derive(Drop)]
+pub(crate) struct Watch {
+    alloc: Global,
+    sites: Vec<Site>,
+    links: Vec<WatchedLink>,
+    queues: Vec<QueueMoment>,
+    pipes: Vec<WatchedPipe>,
+    /// How many records were made.
+    records: usize,
+    commits: Commits,
+    dones: Dones,
+}
+
+/// These links, on which nothing was done.
+fn first_links(alloc: Global, links: &[(Site, Site)]) -> Result<Vec<WatchedLink>, NoMemory>
+    ensures { IfOk result (λ watched. watched.items ≡ map (watched_link []) links.now) }
+{
+    let mut watched = Vec::new(alloc);
+    for link in links {
+        watched.push(WatchedLink::new(alloc, link.0, link.1))?;
+    }
+    Ok(watched)
+}
+
+/// The moments before and behind an event, of these parts.
+fn moments(
+    links: Both<LinkMoment>,
+    queues: Both<QueueMoment>,
+    pipes: Both<PipeMoment>,
+) -> (Moment, Moment)
+    ensures before { result.0 ≡ record {
+      links = links.before.items;
+      queues = queues.before.items;
+      pipes = pipes.before.items;
+    } }
+    ensures after { result.1 ≡ record {
+      links = links.after.items;
+      queues = queues.after.items;
+      pipes = pipes.after.items;
+    } }
+{
+    let before = Moment {
+        links: Listed::from_vec(links.before),
+        queues: Listed::from_vec(queues.before),
+        pipes: Listed::from_vec(pipes.before),
+    };
+    let after = Moment {
+        links: Listed::from_vec(links.after),
+        queues: Listed::from_vec(queues.after),
+        pipes: Listed::from_vec(pipes.after),
+    };
+    (before, after)
+}
+
+impl Watch {
+    /// Before the first event.
+    pub(crate) fn new(
+        alloc: Global,
+        catalogue: &Catalogue,
+        world: &World<'_>,
+    ) -> Result<Watch, NoMemory>
+        requires { (g : Given) × Calm world.now g [] }
+        ensures { IfOk result (λ watch. (g : Given) → Calm world.now g []
+            → catalogue.now ≡ g.catalogue → Watches g [] watch) }
+    {
+        catalogue.known();
+        let tms = catalogue.tms();
+        let dms = catalogue.dms();
+        let sites = all_sites(alloc, tms, dms)?;
+        let all = all_links(alloc, tms, dms)?;
+        let links = first_links(alloc, all.as_slice())?;
+        let queues = all_queues(alloc, world)?;
+        let pipes = first_pipes(alloc, catalogue)?;
+        Ok(Watch {
+            alloc,
+            sites,
+            links,
+            queues,
+            pipes,
+            records: 0,
+            commits: Commits::new(alloc),
+            dones: Dones::new(alloc),
+        })
+    }
+
+    /// The queues before an event and behind it.
+    fn queues(&mut self, world: &World<'_>) -> Result<Both<QueueMoment>, NoMemory>
+        requires { (g : Given) × (log : Log) × Calm world.now g log }
+        ensures before { IfOk result (λ parts. parts.before ≡ self.old.queues) }
+        ensures after { IfOk result (λ parts. (g : Given) (log : Log) → Calm world.now g log
+            → parts.after.items ≡ queues_of g log) }
+        ensures kept { OnOk result ((g : Given) (log : Log) → Calm world.now g log
+            → self.new.queues.items ≡ queues_of g log) }
+        ensures others { OnOk result (self.new ≡ record self.old { queues = self.new.queues }) }
+    {
+        let after = all_queues(self.alloc, world)?;
+        let kept = all_queues(self.alloc, world)?;
+        Ok(Both {
+            before: mem::replace(&mut self.queues, kept),
+            after,
+        })
+    }
+
+    /// What an event changed that is carried out.
+    pub(crate) fn look(
+        &mut self,
+        world: &World<'_>,
+        turn: Turn,
+        found: Found,
+    ) -> Result<Delta, NoMemory>
+        requires { (g : Given) × (old : Log) × (new : Log)
+            × IsOver g old new world.now turn.event found × IsTurn g old new turn
+            × Watches g old self.old }
+        ensures delta { IfOk result (λ delta. (g : Given) (old new : Log)
+            → IsOver g old new world.now turn.event found → IsTurn g old new turn
+            → Watches g old self.old → delta ≡ change g old new) }
+        ensures kept { OnOk result ((g : Given) (old new : Log)
+            → IsOver g old new world.now turn.event found → IsTurn g old new turn
+            → Watches g old self.old → Watches g new self.new) }
+    {
+        let seen = look_at_links(self.alloc, world, &turn.event, &found, &mut self.links)?;
+        let OnLinks {
+            moments: links,
+            arrived,
+        } = seen;
+        let queues = self.queues(world)?;
+        let pipes = look_at_pipes(self.alloc, world, arrived.as_slice(), &mut self.pipes)?;
+        let happened = self.happened(world, turn, found, arrived.as_slice())?;
+        let (before, after) = moments(links, queues, pipes);
+        let delta = difference(self.alloc, happened, &before, &after)?;
+        Ok(delta)
+    }
+
+    /// What happened at an event that is carried out, where these messages were handed over.
+    fn happened(
+        &mut self,
+        world: &World<'_>,
+        turn: Turn,
+        found: Found,
+        arrived: &[Arrived],
+    ) -> Result<Happened, NoMemory>
+        requires { (g : Given) × (old : Log) × (new : Log)
+            × IsOver g old new world.now turn.event found × Knows g old self.old
+            × (arrived.now ≡ arrived_between g old new) }
+        ensures happened { IfOk result (λ happened. (g : Given) (old new : Log)
+            → IsOver g old new world.now turn.event found → IsTurn g old new turn
+            → Knows g old self.old → arrived.now ≡ arrived_between g old new
+            → happened ≡ happened_at g old new) }
+        ensures kept { OnOk result ((g : Given) (old new : Log)
+            → IsOver g old new world.now turn.event found → Knows g old self.old
+            → arrived.now ≡ arrived_between g old new → Knows g new self.new) }
+        ensures others { OnOk result (self.new ≡ record self.old {
+          records = self.new.records;
+          commits = self.new.commits;
+          dones = self.new.dones;
+        }) }
+    {
+        self.dones.note(arrived)?;
+        let busy = busy(
+            self.alloc,
+            world,
+            &turn.event,
+            &found,
+            arrived,
+            self.sites.as_slice(),
+        )?;
+        let states = states(self.alloc, world, &self.dones, busy.as_slice())?;
+        let rows = self.rows(world)?;
+        Ok(Happened {
+            number: world.events(),
+            scheduled: turn.scheduled,
+            round: turn.round,
+            event: turn.event,
+            found,
+            rows: Listed::from_vec(rows),
+            sites: Listed::from_vec(states),
+        })
+    }
+
+    /// The rows of the items to which changes were applied.
+    fn rows(&mut self, world: &World<'_>) -> Result<Vec<RowDelta>, NoMemory>
+        requires { (g : Given) × (old : Log) × (new : Log) × Calm world.now g new
+            × IsBetween g old new × (self.old.records ≡ length (history old))
+            × AreCommits (history old) self.old.commits }
+        ensures rows { IfOk result (λ rows. (g : Given) (old new : Log) → Calm world.now g new
+            → IsBetween g old new → self.old.records ≡ length (history old)
+            → AreCommits (history old) self.old.commits → rows.items ≡ rows_of g old new) }
+        ensures records { OnOk result ((g : Given) (log : Log) → Calm world.now g log
+            → self.new.records ≡ length (history log)) }
+        ensures commits { OnOk result ((g : Given) (old new : Log) → Calm world.now g new
+            → IsBetween g old new → self.old.records ≡ length (history old)
+            → AreCommits (history old) self.old.commits
+            → AreCommits (history new) self.new.commits) }
+        ensures others { OnOk result (self.new ≡ record self.old {
+          records = self.new.records;
+          commits = self.new.commits;
+        }) }
+    {
+        let records = world.history().as_slice();
+        self.commits.note_from(records, self.records)?;
+        let rows = rows_from(self.alloc, world, &self.commits, self.records)?;
+        self.records = records.len();
+        Ok(rows)
+    }
+}

@@ -1,0 +1,261 @@
+//! Pipes of data modules, as they stood when an event was over.
+ghost use Rattle.std.specs.Prelude.{◌≡◌, ◌≤◌, ◌++◌, ◌+◌, ◌-◌, ◌∷◌, [], ℕ, filter_map, find, length, map, IfOk, OnOk};
+ghost use Rattle.std.specs.Option.{option_copied};
+ghost use Rattle.sdd_obligations.specs.All.{D, Given, IsSiteOf, Log, dm_no, time_at};
+ghost use Rattle.sdd_obligations.specs.dm.Due.{or_zero};
+ghost use Rattle.sdd_obligations.specs.pipe.Digest as digest;
+ghost use Rattle.sdd_obligations.specs.pipe.Pipes.{pipe_at};
+ghost use Rattle.sdd_run.specs.world.Standing.{Calm};
+ghost use Rattle.sdd_watch.specs.Awaiting.{number_for};
+ghost use Rattle.sdd_watch.specs.Looking.{messages_in, numbers_for};
+ghost use Rattle.sdd_watch.specs.Moments.{all_pipes, pipes_at_module, source};
+ghost use Rattle.sdd_watch.specs.Watching.{IsBetween, arrived as all_arrived, is_on, pipe_after, pipe_before, watched_pipe};
+
+use crate::both::Both;
+use crate::places::is_same;
+use crate::waiting::Purpose;
+use crate::watched_link::Arrived;
+use sdd_inside::PipeMoment;
+use sdd_obligations::sdd_base::{ClassNo, DmNo, Listed, NoMemory, Site, Ts};
+use sdd_obligations::sdd_catalog::Catalogue;
+use sdd_obligations::sdd_dm::DataModule;
+use sdd_run::sdd_world::World;
+use std::alloc::Global;
+
+/// The pipe of a class at a data module, as it stood when the last event was over.
+#[derive(Drop)]
+pub(crate) struct WatchedPipe {
+    dm: DmNo,
+    class: ClassNo,
+    /// The site that runs the class.
+    source: Site,
+    /// How many messages in it weren't processed.
+    unprocessed: usize,
+}
+
+/// Adds the number of a message, where it goes through the pipe of a class.
+fn add_number(
+    message: &(u32, Purpose),
+    class: ClassNo,
+    numbers: &mut Vec<u32>,
+) -> Result<(), NoMemory>
+    ensures { OnOk result (numbers.new.items
+        ≡ numbers.old.items ++ filter_map (number_for class.0) (message.now ∷ [])) }
+{
+    match message.1 {
+        Purpose::Piped(own) => {
+            if own.0 == class.0 {
+                numbers.push(message.0)?;
+            }
+            Ok(())
+        }
+        Purpose::Applied(_) => Ok(()),
+    }
+}
+
+/// The numbers of those messages that go through the pipe of a class.
+#[tactic(auto, using(crate::proofs::Loops::filtered_more, crate::proofs::Loops::filtered_end))]
+fn numbers_among(
+    alloc: Global,
+    messages: &[(u32, Purpose)],
+    class: ClassNo,
+) -> Result<Vec<u32>, NoMemory>
+    ensures { IfOk result (λ numbers. numbers.items ≡ filter_map (number_for class.0) messages.now) }
+{
+    let mut numbers = Vec::new(alloc);
+    'messages: for message in messages {
+        add_number(message, class, &mut numbers)?;
+    }
+    Ok(numbers)
+}
+
+fn is_on(one: &Arrived, from: Site, to: Site) -> bool
+    ensures { result ≡ is_on from to one.now }
+{
+    is_same(one.from, from) && is_same(one.to, to)
+}
+
+/// What was handed over on a link.
+fn find_on<'a>(arrived: &'a [Arrived], from: Site, to: Site) -> Option<&'a Arrived>
+    ensures { option_copied result ≡ find (is_on from to) arrived.now }
+{
+    arrived.iter().find(|one| is_on(one, from, to))
+}
+
+/// The messages that were handed over on a link.
+#[tactic(auto, using(crate::proofs::Found::messages_of_one, crate::proofs::Found::messages_of_none))]
+fn messages_on<'a>(arrived: &'a [Arrived], from: Site, to: Site) -> &'a [(u32, Purpose)]
+    ensures { result.now ≡ messages_in (find (is_on from to) arrived.now) }
+{
+    match find_on(arrived, from, to) {
+        Some(one) => one.messages.as_slice(),
+        None => &[],
+    }
+}
+
+/// Of the messages that were handed over on a link the numbers of those that go through the pipe of
+/// a class.
+#[tactic(auto, using(crate::proofs::Found::numbers_of))]
+fn numbers_on(
+    alloc: Global,
+    arrived: &[Arrived],
+    from: Site,
+    to: Site,
+    class: ClassNo,
+) -> Result<Vec<u32>, NoMemory>
+    ensures { IfOk result (λ numbers. numbers.items ≡ numbers_for from to class.0 arrived.now) }
+{
+    let numbers = numbers_among(alloc, messages_on(arrived, from, to), class)?;
+    Ok(numbers)
+}
+
+/// The greatest time that a class has passed at a data module, 0 before it passed one.
+fn passed_to(module: &DataModule, class: ClassNo) -> Ts
+    ensures { result ≡ time_at (or_zero (digest.passed_to (pipe_at module.now.value.pipes class.0))) }
+{
+    match module.passed_to(class) {
+        Some(ts) => ts,
+        None => Ts(0),
+    }
+}
+
+/// How many messages were processed, where so many weren't before, these came, and so many aren't
+/// behind the event.
+fn count_processed(before: usize, came: &[u32], left: usize) -> Result<u64, NoMemory>
+    ensures { IfOk result (λ count. count ≡ (before + length came.now) - left) }
+{
+    let all = before.checked_add(came.len()).ok_or(NoMemory)?;
+    Ok(all.saturating_sub(left) as u64)
+}
+
+impl WatchedPipe {
+    /// Looks at the pipe once an event is carried out, where these messages were handed over.
+    fn look(
+        &mut self,
+        alloc: Global,
+        world: &World<'_>,
+        arrived: &[Arrived],
+        parts: &mut Both<PipeMoment>,
+    ) -> Result<(), NoMemory>
+        requires { (g : Given) × (log : Log) × Calm world.now g log × IsSiteOf g (D self.old.dm) }
+        ensures kept { OnOk result ((g : Given) (old new : Log) → Calm world.now g new
+            → IsBetween g old new → arrived.now ≡ all_arrived g old new
+            → (d c : ℕ) → IsSiteOf g (D (dm_no d)) → c ≤ length g.catalogue.classes
+            → self.old ≡ watched_pipe g old (d, c) → self.new ≡ watched_pipe g new (d, c)) }
+        ensures before { OnOk result ((g : Given) (old new : Log) → Calm world.now g new
+            → IsBetween g old new → arrived.now ≡ all_arrived g old new
+            → (d c : ℕ) → IsSiteOf g (D (dm_no d)) → c ≤ length g.catalogue.classes
+            → self.old ≡ watched_pipe g old (d, c)
+            → parts.new.before.items ≡ parts.old.before.items ++ pipe_before g old new (d, c) ∷ []) }
+        ensures after { OnOk result ((g : Given) (old new : Log) → Calm world.now g new
+            → IsBetween g old new → arrived.now ≡ all_arrived g old new
+            → (d c : ℕ) → IsSiteOf g (D (dm_no d)) → c ≤ length g.catalogue.classes
+            → self.old ≡ watched_pipe g old (d, c)
+            → parts.new.after.items ≡ parts.old.after.items ++ pipe_after g old new (d, c) ∷ []) }
+    {
+        let sites = world.sites();
+        let module = sites.data_module(self.dm);
+        let unprocessed = module.unprocessed(self.class);
+        let passed = passed_to(module, self.class);
+        let came = numbers_on(alloc, arrived, self.source, Site::D(self.dm), self.class)?;
+        let processed = count_processed(self.unprocessed, came.as_slice(), unprocessed)?;
+        let before = self.moment(Vec::new(alloc), 0, passed);
+        let after = self.moment(came, processed, passed);
+        self.unprocessed = unprocessed;
+        parts.add(before, after)?;
+        Ok(())
+    }
+
+    /// The pipe, with what came and was processed.
+    fn moment(&self, came: Vec<u32>, processed: u64, passed: Ts) -> PipeMoment
+        ensures { result ≡ record {
+          dm = self.now.dm;
+          class = self.now.class;
+          came = came.items;
+          processed = processed;
+          passed = passed;
+        } }
+    {
+        PipeMoment {
+            dm: self.dm,
+            class: self.class,
+            came: Listed::from_vec(came),
+            processed,
+            passed,
+        }
+    }
+}
+
+/// The site that runs a class.
+fn source(catalogue: &Catalogue, class: u32) -> Site
+    requires { class ≤ length catalogue.now.classes }
+    ensures { (g : Given) → catalogue.now ≡ g.catalogue → (d : ℕ) → result ≡ source g d class }
+{
+    if class == 0 {
+        Site::U
+    } else {
+        Site::T(catalogue.class(ClassNo(class)).tm)
+    }
+}
+
+/// Adds the pipes of a data module, to which nothing came.
+fn add_pipes(catalogue: &Catalogue, dm: DmNo, pipes: &mut Vec<WatchedPipe>) -> Result<(), NoMemory>
+    ensures { OnOk result ((g : Given) → catalogue.now ≡ g.catalogue → pipes.new.items
+        ≡ pipes.old.items ++ map (watched_pipe g []) (pipes_at_module g dm.0)) }
+{
+    catalogue.known();
+    for class in 0..catalogue.classes() + 1 {
+        pipes.push(WatchedPipe {
+            dm,
+            class: ClassNo(class),
+            source: source(catalogue, class),
+            unprocessed: 0,
+        })?;
+    }
+    Ok(())
+}
+
+/// The pipes of all data modules, before the first event.
+pub(crate) fn first_pipes(
+    alloc: Global,
+    catalogue: &Catalogue,
+) -> Result<Vec<WatchedPipe>, NoMemory>
+    ensures { IfOk result (λ pipes. (g : Given) → catalogue.now ≡ g.catalogue
+        → pipes.items ≡ map (watched_pipe g []) (all_pipes g)) }
+{
+    catalogue.known();
+    let mut pipes = Vec::new(alloc);
+    for number in 1..catalogue.dms() + 1 {
+        add_pipes(catalogue, DmNo(number as u8), &mut pipes)?;
+    }
+    Ok(pipes)
+}
+
+/// Looks at all pipes once an event is carried out, where these messages were handed over.
+pub(crate) fn look_at_pipes(
+    alloc: Global,
+    world: &World<'_>,
+    arrived: &[Arrived],
+    pipes: &mut [WatchedPipe],
+) -> Result<Both<PipeMoment>, NoMemory>
+    requires { (g : Given) × (old : Log) × (new : Log) × Calm world.now g new
+        × (pipes.old ≡ map (watched_pipe g old) (all_pipes g)) }
+    ensures before { IfOk result (λ parts. (g : Given) (old new : Log) → Calm world.now g new
+        → IsBetween g old new → arrived.now ≡ all_arrived g old new
+        → pipes.old ≡ map (watched_pipe g old) (all_pipes g)
+        → parts.before.items ≡ map (pipe_before g old new) (all_pipes g)) }
+    ensures after { IfOk result (λ parts. (g : Given) (old new : Log) → Calm world.now g new
+        → IsBetween g old new → arrived.now ≡ all_arrived g old new
+        → pipes.old ≡ map (watched_pipe g old) (all_pipes g)
+        → parts.after.items ≡ map (pipe_after g old new) (all_pipes g)) }
+    ensures kept { OnOk result ((g : Given) (old new : Log) → Calm world.now g new
+        → IsBetween g old new → arrived.now ≡ all_arrived g old new
+        → pipes.old ≡ map (watched_pipe g old) (all_pipes g)
+        → pipes.new ≡ map (watched_pipe g new) (all_pipes g)) }
+{
+    let mut parts = Both::new(alloc);
+    for pipe in pipes.iter_mut() {
+        pipe.look(alloc, world, arrived, &mut parts)?;
+    }
+    Ok(parts)
+}
