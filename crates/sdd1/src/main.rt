@@ -11,12 +11,7 @@ ghost use Rattle.std.specs.Process.{exit_status};
 ghost use Rattle.sdd_app.specs.Status.{line_of, number_of_status};
 ghost use Rattle.sdd_app.specs.Taking.{TakesOrFaults};
 
-mod host_shelf;
-mod host_sink;
-
-use host_shelf::HostShelf;
-use host_sink::HostSink;
-use sdd_app::{Status, run_sdd1, tell};
+use sdd_app::{HostShelf, HostSink, Status, run_sdd1, tell};
 use sdd_base::Sink;
 use std::env;
 use std::io::ErrorKind;

@@ -1,5 +1,5 @@
 -- What a status that tells of a fault says of the files that were read.
-use Rattle.sdd_app.proofs.All.{AtFault, BadCatalogue, BadWorkload, BlamesCatalogue, BlamesScript, BlamesWorkload, CatFault, Catalogue, ControlScript, Err, Explains, IfErr, Limit, MatchResult, NoMemory, Ok, Option, Result, Status, WorkFault, Workload, WorldEnd, status_of_end, subst, ◌≡◌}
+use Rattle.sdd_app.proofs.All.{AtFault, BadCatalogue, BadWorkload, BlamesCatalogue, BlamesScript, BlamesWorkload, CatFault, Catalogue, ControlScript, Err, Explains, IfErr, MatchResult, Ok, Option, Result, Status, WorkFault, Workload, WorldEnd, status_of_end, subst, ◌≡◌}
 use Rattle.sdd_verified.specs.world.declared.ends.WorldEnd.TheVariants as ends
 
 -- what follows from what is said of a fault

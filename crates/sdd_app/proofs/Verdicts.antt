@@ -30,7 +30,7 @@ pub goes_on : (fs : List ShelfFile) (name : List ℕ) (G : Catalogue → Verdict
     (v : Verdict) → catalogue_named fs name ≡ Some (Ok cat) → G cat v → OverCatalogue fs name G v
 goes_on fs name G cat v e g = subst (λ r. Over r G v) (sym e) g
 
-over_at : (reading : Option (Result Catalogue CatFault)) (G : Catalogue → Verdict → Type 0)
+pub over_at : (reading : Option (Result Catalogue CatFault)) (G : Catalogue → Verdict → Type 0)
     (cat : Catalogue) (v : Verdict) → Over reading G v → reading ≡ Some (Ok cat) → G cat v
 over_at reading G cat v over e = subst (λ r. Over r G v) e over
 
@@ -40,10 +40,10 @@ pub blamed_plain : (fs : List ShelfFile) (work : List ℕ) (cat : Catalogue) (v 
 blamed_plain fs work cat (FaultyWorkload f) e = ap (λ r. option_map (plain_verdict cat) r) e
 blamed_plain fs work cat _ e = absurd e
 
-abbrev OverWork : Option (Result Workload WorkFault) → (Workload → Verdict → Type 0) → Verdict → Type 0
+abbrev pub OverWork : Option (Result Workload WorkFault) → (Workload → Verdict → Type 0) → Verdict → Type 0
 OverWork reading GoesOn verdict = MatchOption reading ⊥ (λ r. MatchResult r (λ work. GoesOn work verdict) (λ fault. verdict ≡ FaultyWorkload fault))
 
-blamed_work : (reading : Option (Result Workload WorkFault)) (G : Workload → Verdict → Type 0) (v : Verdict) → BlamesWorkload reading v → OverWork reading G v
+pub blamed_work : (reading : Option (Result Workload WorkFault)) (G : Workload → Verdict → Type 0) (v : Verdict) → BlamesWorkload reading v → OverWork reading G v
 blamed_work reading G (FaultyWorkload f) e = subst (λ r. OverWork r G (FaultyWorkload f)) (sym e) refl
 blamed_work reading G _ e = absurd e
 
@@ -117,7 +117,7 @@ one_plain : (fs : List ShelfFile) (work : List ℕ) (cat : Catalogue) (v w : Ver
 one_plain fs work cat v w p q = ap status_of (one_verdict (option_map (plain_verdict cat) (workload_named fs cat work)) v w p q)
 
 -- no run that is told of is ended by the limit
-one_of_run : (IsSuch : List ℕ → Type 0) (cat : Catalogue) (work : Workload) → ((text : List ℕ) → IsSuch text → EndsAtLimit cat work → ⊥) → (v w : Verdict)
+pub one_of_run : (IsSuch : List ℕ → Type 0) (cat : Catalogue) (work : Workload) → ((text : List ℕ) → IsSuch text → EndsAtLimit cat work → ⊥) → (v w : Verdict)
     → TellsOfRun IsSuch cat work v → TellsOfRun IsSuch cat work w → status_of v ≡ status_of w
 one_of_run S cat work apart (Prints a) (Prints b) p q = refl
 one_of_run S cat work apart (Prints a) PastLimit p q = absurd (apart a p q)
@@ -136,7 +136,7 @@ one_made seed count v w p q =
     one_of_run (IsMadeSummary seed count) bank (workload_of seed count)
     (λ text told ends. summary_or_limit bank (workload_of seed count) text told.summary ends) v w p q
 
-one_over_work : (reading : Option (Result Workload WorkFault)) (G : Workload → Verdict → Type 0)
+pub one_over_work : (reading : Option (Result Workload WorkFault)) (G : Workload → Verdict → Type 0)
     (v w : Verdict) → ((work : Workload) → G work v → G work w → status_of v ≡ status_of w)
     → OverWork reading G v → OverWork reading G w → status_of v ≡ status_of w
 one_over_work None G v w one p q = absurd p
@@ -153,7 +153,7 @@ one_judged fs work report cat v w p q =
     one_over_work (workload_named fs cat work) (ComesToVerdict fs report cat) v w
     (λ k a b. ap status_of (one_verdict (option_map (judged_as cat k) (find_file fs report)) v w a b)) p q
 
-one_over : (reading : Option (Result Catalogue CatFault)) (G : Catalogue → Verdict → Type 0) (v w : Verdict)
+pub one_over : (reading : Option (Result Catalogue CatFault)) (G : Catalogue → Verdict → Type 0) (v w : Verdict)
     → ((cat : Catalogue) → G cat v → G cat w → status_of v ≡ status_of w) → Over reading G v → Over reading G w → status_of v ≡ status_of w
 one_over None G v w one p q = absurd p
 one_over (Some (Ok cat)) G v w one p q = one cat p q
@@ -182,7 +182,7 @@ pub one_status : (fs : List ShelfFile) (ws : List (List ℕ)) (v w : Verdict) �
 one_status fs ws v w p q = one_of_words fs (form_in ws) v w p q
 
 -- a call that printed no text told what it comes to, unless the shelf failed or memory ran out
-by_status : (s : Status) (P : Verdict → Type 0) (v : Verdict) → ((w : Verdict) → P w → status_of w ≡ status_of v) → Explains s P → (s ≡ ReadFault → ⊥)
+pub by_status : (s : Status) (P : Verdict → Type 0) (v : Verdict) → ((w : Verdict) → P w → status_of w ≡ status_of v) → Explains s P → (s ≡ ReadFault → ⊥)
     → (s ≡ status_of v) ⊎ (s ≡ NoMemory)
 by_status Usage P v one e read = inl (one NoForm e)
 by_status (BadCatalogue f) P v one e read = inl (one (FaultyCatalogue f) e)
@@ -196,7 +196,7 @@ pub told_status : (s : Status) (fs : List ShelfFile) (ws : List (List ℕ)) (v :
     → Explains s (ComesTo fs ws) → (s ≡ ReadFault → ⊥) → (s ≡ status_of v) ⊎ (s ≡ NoMemory)
 told_status s fs ws v comes e read = by_status s (ComesTo fs ws) v (λ w p. one_status fs ws w v p comes) e read
 
-done_refuses : (v : Verdict) → IsRefusal v → Done ≡ status_of v → ⊥
+pub done_refuses : (v : Verdict) → IsRefusal v → Done ≡ status_of v → ⊥
 done_refuses (Prints text) r e = r
 done_refuses _ r e = absurd cc
 
@@ -207,11 +207,11 @@ prints_or_refuses fs ws text v p q r = done_refuses v r (one_status fs ws (Print
 
 -- the files of a call that comes to something are there
 
-file_there : {A : Type 0} (give : List ℕ → A) (G : A → Type 0) (file : Option (List ℕ)) → MatchOption (option_map give file) ⊥ G → IsSome file
+pub file_there : {A : Type 0} (give : List ℕ → A) (G : A → Type 0) (file : Option (List ℕ)) → MatchOption (option_map give file) ⊥ G → IsSome file
 file_there give G None p = absurd p
 file_there give G (Some bytes) p = refl
 
-over_there : (fs : List ShelfFile) (name : List ℕ) (G : Catalogue → Verdict → Type 0) (v : Verdict) → OverCatalogue fs name G v → IsSome (find_file fs name)
+pub over_there : (fs : List ShelfFile) (name : List ℕ) (G : Catalogue → Verdict → Type 0) (v : Verdict) → OverCatalogue fs name G v → IsSome (find_file fs name)
 over_there fs name G v p = file_there catalogue_in (λ r. MatchResult r (λ cat. G cat v) (λ fault. v ≡ FaultyCatalogue fault)) (find_file fs name) p
 
 work_there : {A : Type 0} (give : List ℕ → A) (verdict : A → Verdict) (v : Verdict) (file : Option (List ℕ))

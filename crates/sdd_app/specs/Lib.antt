@@ -3,6 +3,7 @@ pub mod Check
 pub mod Command
 pub mod Edges
 pub mod Endings
+pub mod Inside
 pub mod Judging
 pub mod Listing
 pub mod Serially

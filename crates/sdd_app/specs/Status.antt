@@ -110,6 +110,11 @@ line_of WriteFault = codes "write fault\n"
 line_of NoMemory = codes "no memory\n"
 line_of Limit = codes "limit\n"
 
+-- of the program that shows what happens inside a run: as it is called, and else the same
+abbrev pub inside_line_of : Status → List ℕ
+inside_line_of Usage = codes "usage: sdd1_inside CAT WORK\n"
+inside_line_of status = line_of status
+
 -- the number that the process ends with
 abbrev pub number_of_status : Status → ℕ
 number_of_status Done = 0

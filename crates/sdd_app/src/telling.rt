@@ -1,7 +1,7 @@
 //! The line on standard error. Writing it takes no memory.
 ghost use Rattle.std.specs.Prelude.{◌≡◌, ◌++◌, flat_map};
 ghost use Rattle.sdd_app.specs.Taking.{TakesOrFaults};
-ghost use Rattle.sdd_app.specs.Status.{part_word, number_word, rule_word, counted_word, counted_words, work_rule_word, many_word, many_words, line_of, fault_line, work_fault_line};
+ghost use Rattle.sdd_app.specs.Status.{part_word, number_word, rule_word, counted_word, counted_words, work_rule_word, many_word, many_words, line_of, fault_line, work_fault_line, inside_line_of};
 
 use crate::status::Status;
 use itoa::Buffer;
@@ -11,6 +11,8 @@ use sdd_verified::sdd_script::{Counts, WorkFault, WorkRule};
 
 const USAGE: &[u8] =
     b"usage: sdd1 check CAT | graph CAT | table CAT | run CAT WORK | plain CAT WORK | make SEED N | control FILE | verify CAT WORK REPORT | advise CAT\n";
+
+const INSIDE_USAGE: &[u8] = b"usage: sdd1_inside CAT WORK\n";
 
 /// Writes pieces one after the other, until a call fails.
 fn tell_pieces<E: Sink>(err: &mut E, pieces: &[&[u8]])
@@ -187,5 +189,15 @@ pub fn tell<E: Sink>(err: &mut E, status: Status)
         Status::WriteFault => tell_pieces(err, &[b"write fault\n"]),
         Status::NoMemory => tell_pieces(err, &[b"no memory\n"]),
         Status::Limit => tell_pieces(err, &[b"limit\n"]),
+    }
+}
+
+/// Writes the status's line, for the program that shows what happens inside a run.
+pub fn tell_inside<E: Sink>(err: &mut E, status: Status)
+    ensures { TakesOrFaults (E.sure err.old) (E.taken err.old) (E.taken err.new) (E.faults err.old) (E.faults err.new) (inside_line_of status) }
+{
+    match status {
+        Status::Usage => tell_pieces(err, &[INSIDE_USAGE]),
+        _ => tell(err, status),
     }
 }

@@ -1,4 +1,4 @@
-use Rattle.sdd_app.proofs.All.{Answers, ComesToSummary, IsValid, bank, subst, sym, workload_of, ◌≡◌}
+use Rattle.sdd_app.proofs.All.{Answers, ComesToSummary, IsValid, bank, subst, sym, workload_of}
 use Rattle.sdd_app.proofs.MadeSummary.{all_made}
 use Rattle.sdd_app.proofs.made_input.make_answer.Goals as goal
 
