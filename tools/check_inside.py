@@ -1,14 +1,14 @@
 #!/usr/bin/env python3
-"""Reads back the text of a run's events (docs/INSIDE.md), and compares it with the reference's world.
+"""Compares the text of a run's events (docs/INSIDE.md) with the reference's, and reads it back beside its world.
 
     tools/check_inside.py FROM TO [--inside COMMAND]
 
 For each seed from FROM up to TO, without it, a run is drawn. The text is that of COMMAND, a built
-`sdd1_inside`, or that of the reference (reference/). It is read by its two rules alone (tools/replay.py),
-and behind each event what the reader has is compared with the world that the reference carries out:
-flights, acknowledgements, messages that are handed over, pipes, queues, sites, and rows at the end. So a
-line that tells a change wrongly is found, also where program and reference tell it alike.
-It ends with 1 where there was a difference.
+`sdd1_inside`, and each of its lines has to be that of the reference (reference/), byte for byte; or it is
+the reference's own. It is read by its two rules alone (tools/replay.py), and behind each event what the
+reader has is compared with the world that the reference carries out: flights, acknowledgements, messages
+that are handed over, pipes, queues, sites, and rows at the end. So a line that tells a change wrongly is
+found, also where program and reference tell it alike. It ends with 1 where there was a difference.
 """
 import json
 import os
@@ -42,16 +42,19 @@ def check(files, text):
     catalogue = read_catalogue(files["cat"])
     world = World(catalogue, read_workload(catalogue, files["work"]))
     watch = Watch(world)
-    lines = [json.loads(x) for x in text.split("\n")[:-1]] if text else None
-    first = watch.first_line()
-    reader, read = Reader(lines[0] if lines else first), [lines[0] if lines else first]
-    same("the first line", read[0], first)
+    lines = text.split("\n") if text else None
+    if lines and lines.pop() != "":
+        raise Differs("the text doesn't end with a line")
+    first = spelled(watch.first_line())[:-1]
+    same("the first line", lines[0] if lines else first, first)
+    read = [json.loads(first)]
+    reader = Reader(read[0])
     for happened in world.happens():
-        told = json.loads(spelled(watch.line(happened)))
+        told = spelled(watch.line(happened))[:-1]
         if lines and len(read) == len(lines):
             raise Differs("the text ends before event %d" % world.events)
-        read.append(lines[len(read)] if lines else told)
-        same("the event", (read[-1]["event"], read[-1]["do"]), (world.events, told["do"]))
+        same("the line of event %d" % world.events, lines[len(read)] if lines else told, told)
+        read.append(json.loads(told))
         reader.apply(read[-1])
         compare(reader, watch)
     if lines and len(read) < len(lines):

@@ -1,8 +1,8 @@
 #!/usr/bin/env bash
-# Installs sdd1: the program, its manual page, and completions for bash, zsh and fish.
+# Installs sdd1 and sdd1_inside: the programs, their manual pages, and completions for bash, zsh and fish.
 #
-#   tools/install.sh [PREFIX]               passes the gate (rt ci), which builds the program, and installs it (hours, 10 GB)
-#   tools/install.sh --unproved [PREFIX]    builds it without its proof, in minutes, as sdd1-unproved
+#   tools/install.sh [PREFIX]               passes the gate (rt ci), which builds the programs, and installs them (hours, 10 GB)
+#   tools/install.sh --unproved [PREFIX]    builds them without their proof, in minutes, as sdd1-unproved and sdd1_inside-unproved
 #   tools/install.sh --uninstall [PREFIX]   removes what either of them installed
 #
 # PREFIX is ~/.local if left out. What rt ci passed on this machine before is taken, so a second call takes minutes.
@@ -23,41 +23,61 @@ esac
 prefix=${1:-$HOME/.local}
 [[ $prefix == /* ]] || prefix=$PWD/$prefix
 
-page=$prefix/share/man/man1/sdd1.1
+programs=(sdd1 sdd1_inside)
+pages=$prefix/share/man/man1
+# sdd1_inside takes files alone, which a shell completes by itself.
 bash_file=$prefix/share/bash-completion/completions/sdd1
 zsh_file=$prefix/share/zsh/site-functions/_sdd1
 fish_file=$prefix/share/fish/vendor_completions.d/sdd1.fish
 
 if [[ $mode == uninstall ]]; then
-  for file in "$prefix/bin/sdd1" "$prefix/bin/sdd1-unproved" "$page" "$bash_file" "$bash_file-unproved" "$zsh_file" "$fish_file"; do
-    [[ ! -e $file ]] || { rm -f "$file" && echo "removed $file"; }
+  for name in "${programs[@]}"; do
+    for file in "$prefix/bin/$name" "$prefix/bin/$name-unproved" "$pages/$name.1"; do
+      [[ ! -e $file ]] || { rm -f "$file" && echo "removed $file"; }
+    done
+  done
+  for file in "$bash_file" "$bash_file-unproved" "$zsh_file" "$fish_file"; do
+    [[ ! -e $file && ! -L $file ]] || { rm -f "$file" && echo "removed $file"; }
   done
   exit 0
 fi
 
 command -v rt >/dev/null || refuse "rt, the command of the Rattle kit, is not on the path"
 mkdir -p "$prefix/bin" || refuse "$prefix/bin can't be made"
+ending=
 if [[ $mode == unproved ]]; then
-  name=sdd1-unproved
-  python3 "$root/tools/build_unproved.py" "$prefix/bin/$name" >/dev/null
+  ending=-unproved
+  for name in "${programs[@]}"; do
+    python3 "$root/tools/build_unproved.py" "$prefix/bin/$name$ending" "$name" >/dev/null
+  done
 else
-  name=sdd1
   (cd "$root" && rt ci) || refuse "the gate does not pass, so nothing was installed"
-  [[ -x $root/crates/sdd1/out/sdd1 ]] || refuse "the program was not built, so nothing was installed"
-  install -m 755 "$root/crates/sdd1/out/sdd1" "$prefix/bin/$name"
+  for name in "${programs[@]}"; do
+    [[ -x $root/crates/$name/out/$name ]] || refuse "$name was not built, so nothing was installed"
+  done
+  for name in "${programs[@]}"; do
+    install -m 755 "$root/crates/$name/out/$name" "$prefix/bin/$name"
+  done
 fi
 
-# One example as a check: the program has to print the report that the repository keeps of it.
-data=$root/crates/sdd1
-if ! "$prefix/bin/$name" run "$data/data/own.toml" "$data/data/put_and_query.work" | cmp -s - "$data/stdout"; then
-  rm -f "$prefix/bin/$name"
-  refuse "the program doesn't print the example's report, so it was removed"
-fi
+# One example of each as a check: the program has to print the text that the repository keeps of it.
+checked() {
+  local name=$1 data=$root/crates/$1
+  shift
+  if ! (cd "$data/data" && "$prefix/bin/$name$ending" "$@") | cmp -s - "$data/stdout"; then
+    rm -f "$prefix/bin/sdd1$ending" "$prefix/bin/sdd1_inside$ending"
+    refuse "$name doesn't print the text of its example, so both were removed"
+  fi
+}
+checked sdd1 run own.toml put_and_query.work
+checked sdd1_inside lost_packet.toml lost_packet.work
 
-install -Dm 644 "$root/tools/install/sdd1.1" "$page"
+for name in "${programs[@]}"; do
+  install -Dm 644 "$root/tools/install/$name.1" "$pages/$name.1"
+done
 install -Dm 644 "$root/tools/install/sdd1.bash" "$bash_file"
 [[ $mode == proved ]] || ln -sf sdd1 "$bash_file-unproved"
 install -Dm 644 "$root/tools/install/_sdd1" "$zsh_file"
 install -Dm 644 "$root/tools/install/sdd1.fish" "$fish_file"
-echo "installed $prefix/bin/$name, its manual page and completions"
+echo "installed $prefix/bin/sdd1$ending and $prefix/bin/sdd1_inside$ending, their manual pages and completions"
 [[ :$PATH: == *":$prefix/bin:"* ]] || echo "note: $prefix/bin is not on your PATH"

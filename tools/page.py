@@ -9,8 +9,9 @@ happens. Keys: right and left arrow for the next event and the one before, n and
 record, Home and End; # e=17 behind the address opens it at event 17.
 
 --program is a built `sdd1`, and --inside a built `sdd1_inside`, which is also found beside `sdd1`. Without
-them the programs built in crates/ are taken, or the reference of this repository. docs/INSIDE.md has the
-form of what `sdd1_inside` prints. tools/play.py serves the same page, to make a schedule by clicking.
+them those built in crates/ are taken, or those on the path, or else the reference of this repository, which
+is slower; a line says which. docs/INSIDE.md has the form of what `sdd1_inside` prints. tools/play.py serves
+the same page, to make a schedule by clicking.
 """
 import base64
 import hashlib
@@ -18,6 +19,7 @@ import html
 import json
 import os
 import re
+import sys
 
 from command import parser, start
 from program import add_program
@@ -76,10 +78,12 @@ def main():
     add_programs(asked)
     asked = asked.parse_args()
     title = asked.title or name_of(asked.workload)
-    data = run_data(find_programs(asked.program, asked.inside), asked.catalogue, asked.workload, title)
+    programs = find_programs(asked.program, asked.inside)
+    data = run_data(programs, asked.catalogue, asked.workload, title)
     page, _ = assembled(title, data, SHOWN + ["start.js"], ["style.css"])
     with open(asked.into, "w", encoding="utf-8") as f:
         f.write(page)
+    print(programs.named(), file=sys.stderr)
 
 
 if __name__ == "__main__":

@@ -120,11 +120,13 @@ def main():
     if not 0 <= asked.port < 65536:
         raise BadInput("--port is a number below 65536")
     name = name_of(asked.workload) if asked.workload else "play"
-    game = Game(find_programs(asked.program, asked.inside), asked.catalogue, asked.workload, name)
+    programs = find_programs(asked.program, asked.inside)
+    game = Game(programs, asked.catalogue, asked.workload, name)
     try:
         server = Server(game, asked.port)
     except OSError as fault:
         raise BadInput("port %d: %s" % (asked.port, fault.strerror.lower())) from None
+    print(programs.named(), file=sys.stderr)
     print(server.address(), flush=True)
     server.serve_forever()
 

@@ -4,8 +4,8 @@
     data = run_data(programs, catalogue, workload, "a name")
 
 `run_data` runs the programs on copies of the two files, and gives all that a page shows of the run. Where
-`sdd1_inside` isn't built the text comes from the reference of this repository, and so does the report
-where no `sdd1` is given or built.
+`sdd1_inside` is neither given nor found the text comes from the reference of this repository, and so does
+the report where `sdd1` is neither.
 """
 import json
 import os
@@ -21,8 +21,7 @@ from replay import Contradiction, Reader
 from report import BadInput
 
 ROOT = os.path.normpath(os.path.join(os.path.dirname(os.path.abspath(__file__)), ".."))
-BUILT = {name: os.path.join(ROOT, "crates", name, "out", name) for name in ("sdd1", "sdd1_inside")}
-REFERENCE = os.path.join(ROOT, "reference", "sdd1")
+REFERENCE, REFERENCE_NAME = os.path.join(ROOT, "reference", "sdd1"), "the reference"
 MOST_EXACT = 2**53          # a number above it is rounded in a browser
 MOST_EVENTS = 100_000
 MOST_SECONDS = 600
@@ -37,6 +36,13 @@ class Programs(NamedTuple):
 
     def tell_inside(self, files, seconds=MOST_SECONDS):
         return output_of(self.inside + files, seconds)
+
+    def named(self):
+        """Which programs these are, in one line."""
+        sdd1, inside = named(self.sdd1), named(self.inside)
+        told = "told by %s" % sdd1 if sdd1 == inside else "the report is told by %s, the events by %s" % (sdd1, inside)
+        why = ": no sdd1_inside is built here or on the path" if inside == REFERENCE_NAME else ""
+        return "%s: %s%s" % (os.path.basename(sys.argv[0]), told, why)
 
 
 class Refused(BadInput):
@@ -64,21 +70,39 @@ def words_of(command, option):
     return [os.path.abspath(words[0]) if os.sep in words[0] else words[0]] + words[1:]
 
 
+def found(name):
+    """The program of this name that is built here, or else one on the path, proved or not; nothing where there is none."""
+    built = os.path.join(ROOT, "crates", name, "out", name)
+    there = built if os.access(built, os.X_OK) else shutil.which(name) or shutil.which(name + "-unproved")
+    return [there] if there else None
+
+
+def beside(sdd1):
+    """The `sdd1_inside` in the folder of an `sdd1`, by the same ending where its name has one."""
+    folder, name = os.path.split(shutil.which(sdd1[0]))
+    ending = name.removeprefix("sdd1") if name.startswith("sdd1") else ""
+    there = (os.path.join(folder, "sdd1_inside" + x) for x in (ending, ""))
+    return next(([x] for x in there if os.access(x, os.X_OK)), None)
+
+
 def find_programs(program, inside):
-    """The commands for `sdd1` and `sdd1_inside`: those given, those built, or the reference."""
-    sdd1 = words_of(program, "--program") if program else None
-    near = os.path.join(os.path.dirname(shutil.which(sdd1[0])), "sdd1_inside") if sdd1 else BUILT["sdd1_inside"]
-    if sdd1 is None:
-        sdd1 = [BUILT["sdd1"]] if os.path.exists(BUILT["sdd1"]) else reference("sdd1", "--program")
+    """The commands for `sdd1` and `sdd1_inside`: those given, those found, or the reference."""
+    sdd1 = words_of(program, "--program") if program else found("sdd1") or reference("sdd1", "--program")
     if inside:
         return Programs(sdd1, words_of(inside, "--inside"))
-    return Programs(sdd1, [near] if os.access(near, os.X_OK) else reference("sdd1_inside", "--inside") + ["inside"])
+    near = beside(sdd1) if program else None
+    return Programs(sdd1, near or found("sdd1_inside") or reference("sdd1_inside", "--inside") + ["inside"])
 
 
 def reference(name, option):
     if not os.path.exists(REFERENCE):
-        raise BadInput("%s isn't built, and %s gives none" % (name, option))
+        raise BadInput("%s is neither built nor on the path, and %s gives none" % (name, option))
     return [sys.executable, REFERENCE]
+
+
+def named(words):
+    """A command as a reader knows it: the reference is what stands in for a program that wasn't found."""
+    return REFERENCE_NAME if words[1:2] == [REFERENCE] else shlex.join(words)
 
 
 def exact(digits):

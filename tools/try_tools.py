@@ -42,6 +42,8 @@ GOOD = [
     ["measure_gate.py", "--log", "ROOM/log", "--into", "ROOM/gate", "--", "true"],
     ["write_log_rows.py", "--check"], ["proof_map.py", "--into", "ROOM/map", "--picture", "ROOM/map.svg"], ["proof_map.py", "--unused"],
     ["layers.py", "--into", "ROOM/layers.svg"], ["crate_paths.py", "--most", "20000"],
+    ["page.py", CAT, WORK, "--into", "ROOM/page.html"] + P, ["picture.py", REPORT, CAT, WORK, "--into", "ROOM/run.svg"] + P,
+    ["graph_picture.py", "examples/ycsb/catalogue.toml", "--into", "ROOM/matrix.svg"] + P, ["check_inside.py", "0", "3"],
 ]
 BAD = [
     ["make_workload.py"], ["make_workload.py", "nokind", "--into", "ROOM/x"], ["make_workload.py", "bank", "-5", "--into", "ROOM/x"],
@@ -65,6 +67,7 @@ BAD = [
     ["all_orders.py", REPORT, "/no/a", CAT], ["find_broken.py"], ["find_broken.py", "norule"], ["make_broken.py", "x"],
     ["picture.py"], ["picture.py", "/no/a"], ["picture.py", REPORT, "examples/bank/catalogue.toml"], ["graph_picture.py"],
     ["graph_picture.py", "/no/a"] + P, ["page.py"], ["page.py", "/no/a", "/no/b", "--into", "ROOM/x"], ["play.py"], ["play.py", "/no/a"],
+    ["page.py", CAT, WORK, "--into", "ROOM/x", "--inside", "/no/p"], ["check_inside.py"], ["check_inside.py", "0", "1", "--inside", "/no/p"],
     ["benchmark.py", "--only", "nokind"], ["benchmark.py", "--only", "small", "--program", "/no/p"], ["benchmark.py", "--program", ""],
     ["benchmark.py", "--part", "0"] + P, ["benchmark.py", "--only", "small", "--into", "README.md"] + P,
     ["benchmark.py", "--only", "small", "--beside", "/no/p"] + P, ["measure_gate.py", "--", "/no/p"],
