@@ -31,7 +31,7 @@ HERE = os.path.dirname(os.path.abspath(__file__))
 
 OPERATORS = {"=": "Eq", "!=": "Ne", "<": "Lt", "<=": "Le", ">": "Gt", ">=": "Ge"}
 OF_ALL = (
-    "Add Answer Apply Arrive Catalogue Commit Const D Delete Deliver Down Eq Ge Given Gt Int Le Log Lose Lt Nothing Overflow P1 P2 P3 Pass Put "
+    "Add Answer Apply Arrive Catalogue Commit Const D Delete Deliver Down Eq Ge Gt Input Int Le Log Lose Lt Nothing Overflow P1 P2 P3 Pass Put "
     "Query Redeclare Repeat Resend Rows Same Settle Start Submit T Tick U Up Update Wait class_no dm_no extended frag_no history marks next "
     "rel_no time_at tm_no txn_no"
 )
@@ -246,7 +246,7 @@ def written(name, shows, first, work, apart=None):
     each = [listed("(%s, %s)" % (numbers.rel(r), row(x)) for r, x in rows) for rows in apart or [work.rows] * first.dms]
     txns = [fields(name="[]", tm=number("tm_no", t.tm), statements=listed(map(numbers.statement, t.statements))) for t in work.txns]
     given = ["(record {\n        catalogue = %s;\n        table =\n%s;\n      })" % (n, lines(table(era), 12)) for n, era in zip(names, eras)]
-    text += "\nabbrev pub given_%s : Given\ngiven_%s = record {\n  catalogue = %s;\n  forces =\n%s;\n  rows = %s;\n  txns =\n%s;\n  events =\n%s;\n}\n" % (
+    text += "\nabbrev pub given_%s : Input\ngiven_%s = record {\n  catalogue = %s;\n  forces =\n%s;\n  rows = %s;\n  txns =\n%s;\n  events =\n%s;\n}\n" % (
         name, name, whole_cat, lines(given, 6), listed(each), lines(txns, 6), lines(map(event, work.events), 6))
     text += "\nabbrev pub log_of_%s : Log\nlog_of_%s = extended %d given_%s []\n" % (name, name, count, name)
     history = lines(["(%d, %s)" % (r.event, numbers.record(r)) for r in world.records], 4)

@@ -1,6 +1,6 @@
 -- An attempt that isn't its transaction's first follows a Reject of the attempt before it, by a WRITE of a committed
 -- transaction; and its time of P2 is above that WRITE's time.
-use Rattle.sdd_invariants.proofs.All.{Bool, Change, ClassNo, ClassView, Cond, D, DmNo, Does, FragNo, Given, Hand, Handed, IsAgain, IsOf, IsOfWrite, IsPermitted, IsReadOf, IsRejectBy, IsWriter, List, Msg, None, Option, Pipe, Queued, Read, Records, Reject, Rejected, Setting, Site, Some, Ts, TxnNo, Write, [], active, ap, append_assoc, arith, at_class, class_puts, clock, cond, cons_option, dec_le, empty_pipe, false, filter, filter_map, fold, greatest, handed, head, head_of, home, home_of, inl, inr, is_at_least, last_write, last_write_for, length, local_of, max, next_stamp, number_of, or_zero, pipe, pipe_at, queue, raised, refl, results, setting_of, slice_get, source_of, spoils, subst, suc, sym, time_at, touches, true, view_of, write_time, zero, ℕ, ◌*◌, ◌++◌, ◌+◌, ◌/◌, ◌<◌, ◌∙◌, ◌∷◌, ◌≡◌, ◌≤◌, ◌⊎◌}
+use Rattle.sdd_invariants.proofs.All.{Bool, Change, ClassNo, ClassView, Cond, D, DmNo, Does, FragNo, Hand, Handed, Input, IsAgain, IsOf, IsOfWrite, IsPermitted, IsReadOf, IsRejectBy, IsWriter, List, Msg, None, Option, Pipe, Queued, Read, Records, Reject, Rejected, Setting, Site, Some, Ts, TxnNo, Write, [], active, ap, append_assoc, arith, at_class, class_puts, clock, cond, cons_option, dec_le, empty_pipe, false, filter, filter_map, fold, greatest, handed, head, head_of, home, home_of, inl, inr, is_at_least, last_write, last_write_for, length, local_of, max, next_stamp, number_of, or_zero, pipe, pipe_at, queue, raised, refl, results, setting_of, slice_get, source_of, spoils, subst, suc, sym, time_at, touches, true, view_of, write_time, zero, ℕ, ◌*◌, ◌++◌, ◌+◌, ◌/◌, ◌<◌, ◌∙◌, ◌∷◌, ◌≡◌, ◌≤◌, ◌⊎◌}
 use Rattle.sdd_invariants.proofs.Clocks.{clock_grows, clock_number}
 use Rattle.sdd_invariants.proofs.Recorded.{start_of_active}
 use Rattle.sdd_invariants.proofs.Retried.{was_rejected}
@@ -101,7 +101,7 @@ is_spoilt s log d e = elim (dec_le (suc d.class.0) (suc (length s.catalogue.clas
 ]
 
 -- a processed WRITE: its Commit and its Apply
-pub writer_of : (g : Given) (log : Log) (d : DmNo) (j place : ℕ) (ts : Ts) (of : ClassNo) (txn : TxnNo) (changes : List Change)
+pub writer_of : (g : Input) (log : Log) (d : DmNo) (j place : ℕ) (ts : Ts) (of : ClassNo) (txn : TxnNo) (changes : List Change)
     → IsPermitted g log → slice_get (pipe_at g j d log).processed place ≡ Some (Write ts of txn changes) → IsWriter g log d j ts.0
 writer_of g log d j place ts of txn changes h e =
     let l : site.Log = local_of g (D d) log in
@@ -131,7 +131,7 @@ max_le a b c l = omega arith
 pub le_as : (a b c : ℕ) → a ≤ b → c ≡ b → a ≤ c
 le_as a b c l e = omega (arith, l, e)
 
-pub again : (g : Given) (c : ℕ) (log : Log) (q : Queued) → IsPermitted g log → ((j : ℕ) → number_of (home g.catalogue j) ≤ 62)
+pub again : (g : Input) (c : ℕ) (log : Log) (q : Queued) → IsPermitted g log → ((j : ℕ) → number_of (home g.catalogue j) ≤ 62)
     → active (setting_of g (home g.catalogue c)) c (local_of g (home g.catalogue c) log) ≡ None
     → head_of (queue (setting_of g (home g.catalogue c)) c (local_of g (home g.catalogue c) log)) ≡ Some q → 0 < q.tries → IsAgain g log c q
 again g c log q h small idle e tried_once =

@@ -1,6 +1,6 @@
 -- What a data module puts, and why; an Answer follows its attempt's Start, and a Commit an Answer of its attempt at each
 -- module that it reads.
-use Rattle.sdd_invariants.proofs.All.{Act, Answer, Ask, Attempt, Bool, ClassNo, Cond, D, Did, DmNo, Does, Done, Each, Fetch, Given, Hand, Handed, HasAnswer, IsDueEach, IsFair, IsFetch, IsHonest, IsPermitted, IsPutByD, IsRead, IsReadOf, IsReadyBy, IsReduce, IsSend, IsShip, IsStep, List, Msg, Queued, Read, Ready, Records, Redeclared, Reduce, Reduced, Reject, Rows, Setting, Ship, Site, Some, Submits, T, Ticked, Ts, TxnNo, U, Use, Values, WasAsked, [], a_held, a_hold, a_null, a_release, active, ap, append_assoc, arith, asks_in, asks_rows, clock, contains, counts, each_local, eqb-true, false, handed, head, head_of, home, home_of, if◌then◌else◌, inl, inr, is_answer, is_over, is_ready, list_any, local_of, modules_asked, next_stamp, of_exchange, or_left, or_right, pipe_at, puts_to, queue, refl, same_site, sends_of_act, setting_of, slice_get, source_of, start_at, start_read, subst, suc, sym, to_site, true, was_asked, was_ready, zero, ℕ, ◌&&◌, ◌++◌, ◌==◌, ◌||◌, ◌∙◌, ◌∷◌, ◌≡◌}
+use Rattle.sdd_invariants.proofs.All.{Act, Answer, Ask, Attempt, Bool, ClassNo, Cond, D, Did, DmNo, Does, Done, Each, Fetch, Hand, Handed, HasAnswer, Input, IsDueEach, IsFair, IsFetch, IsHonest, IsPermitted, IsPutByD, IsRead, IsReadOf, IsReadyBy, IsReduce, IsSend, IsShip, IsStep, List, Msg, Queued, Read, Ready, Records, Redeclared, Reduce, Reduced, Reject, Rows, Setting, Ship, Site, Some, Submits, T, Ticked, Ts, TxnNo, U, Use, Values, WasAsked, [], a_held, a_hold, a_null, a_release, active, ap, append_assoc, arith, asks_in, asks_rows, clock, contains, counts, each_local, eqb-true, false, handed, head, head_of, home, home_of, if◌then◌else◌, inl, inr, is_answer, is_over, is_ready, list_any, local_of, modules_asked, next_stamp, of_exchange, or_left, or_right, pipe_at, puts_to, queue, refl, same_site, sends_of_act, setting_of, slice_get, source_of, start_at, start_read, subst, suc, sym, to_site, true, was_asked, was_ready, zero, ℕ, ◌&&◌, ◌++◌, ◌==◌, ◌||◌, ◌∙◌, ◌∷◌, ◌≡◌}
 use Rattle.sdd_invariants.proofs.Clocks.{clock_grows, clock_number}
 use Rattle.sdd_invariants.proofs.Origins.{was_put}
 use Rattle.sdd_invariants.proofs.ReadsPut.{start_puts}
@@ -61,14 +61,14 @@ step_not_d s b log act k m i = step_way s log act (λ x. slice_get (to_site b (s
     ]) (λ to x hand f. λ there. subst (λ y. is_from_d y ≡ false) (the_one b to x k m there).1 (send_not_d s log x f)) i
 
 -- the act that put a message, in the log of everything
-pub record IsPutIn (g : Given) (log : Log) (from at : Site) (m : Msg) (P : site.Log → Act → Type 0) : Type 0 where
+pub record IsPutIn (g : Input) (log : Log) (from at : Site) (m : Msg) (P : site.Log → Act → Type 0) : Type 0 where
   pub later : Log
   pub act : Act
   pub before : Log
   pub is : log ≡ later ++ Does from act ∷ before
   pub by : P (local_of g from before) act
 
-put_in : (g : Given) (log : Log) (from at : Site) (k : ℕ) (m : Msg) (P : site.Log → Act → Type 0) (Q : site.Log → site.Entry → Type 0)
+put_in : (g : Input) (log : Log) (from at : Site) (k : ℕ) (m : Msg) (P : site.Log → Act → Type 0) (Q : site.Log → site.Entry → Type 0)
     → Each Q (local_of g from log) → ((l : site.Log) (act : Act) (j : ℕ) → Q l (Did act) → slice_get (to_site at (sends_of_act act)) j ≡ Some m → P l act)
     → slice_get (puts_to at (local_of g from log)) k ≡ Some m → IsPutIn g log from at m P
 put_in g log from at k m P Q h f e =
@@ -77,19 +77,19 @@ put_in g log from at k m P Q h f e =
     let l = place_of_act g from log p.later p.act p.before p.is in
     record { later = l.later; act = p.act; before = l.rest; is = l.is; by = subst (λ b. P b p.act) (sym l.local_is) (f p.before p.act p.place q.0 p.there) }
 
-pub put_in_by_d : (g : Given) (log : Log) (d : DmNo) (at : Site) (k : ℕ) (m : Msg) → IsPermitted g log
+pub put_in_by_d : (g : Input) (log : Log) (d : DmNo) (at : Site) (k : ℕ) (m : Msg) → IsPermitted g log
     → slice_get (puts_to at (local_of g (D d) log)) k ≡ Some m → IsPutIn g log (D d) at m (λ l act. IsPutByD (setting_of g (D d)) l at act m)
 put_in_by_d g log d at k m h e =
     put_in g log (D d) at k m (λ l act. IsPutByD (setting_of g (D d)) l at act m) (IsDueEach (setting_of g (D d))) (d_fair g d log h)
     (λ l act j q there. put_by_d (setting_of g (D d)) l act q at j m there) e
 
 -- what only D puts comes from a D
-not_from_d : (g : Given) (log : Log) (from at : Site) (k : ℕ) (m : Msg) → Each (IsFair (setting_of g from)) (local_of g from log)
+not_from_d : (g : Input) (log : Log) (from at : Site) (k : ℕ) (m : Msg) → Each (IsFair (setting_of g from)) (local_of g from log)
     → slice_get (puts_to at (local_of g from log)) k ≡ Some m → is_from_d m ≡ false
 not_from_d g log from at k m h e =
     (put_in g log from at k m (λ l act. is_from_d m ≡ false) (IsFair (setting_of g from)) h (λ l act j q there. step_not_d (setting_of g from) at l act j m q there) e).by
 
-pub from_a_d : (g : Given) (log : Log) (from at : Site) (k : ℕ) (m : Msg) → IsPermitted g log
+pub from_a_d : (g : Input) (log : Log) (from at : Site) (k : ℕ) (m : Msg) → IsPermitted g log
     → slice_get (puts_to at (local_of g from log)) k ≡ Some m → is_from_d m ≡ true → (d : DmNo) × (from ≡ D d)
 from_a_d g log (D d) at k m h e f = (d, refl)
 from_a_d g log U at k m h e f = absurd (not_both (is_from_d m) f (not_from_d g log U at k m (u_fair g log h) e))
@@ -121,7 +121,7 @@ asked_of_put ts c b l k m e f =
     subst (λ x. was_asked ts c x ≡ true) (sym p.is)
     (asked_more ts c p.later (Did p.act ∷ p.before) (or_left (asks_in ts c (sends_of_act p.act)) (was_asked ts c p.before) (any_sent (asks_rows ts c) b (sends_of_act p.act) p.place m p.there f)))
 
-asked_then : (g : Given) (log : Log) (at : Site) (d : DmNo) (ts c : ℕ) (later log2 : Log) (P : Msg → Type 0) → IsPermitted g log
+asked_then : (g : Input) (log : Log) (at : Site) (d : DmNo) (ts c : ℕ) (later log2 : Log) (P : Msg → Type 0) → IsPermitted g log
     → log ≡ later ++ log2 → WasAsked (local_of g (D d) log2) at P → ((m : Msg) → P m → asks_rows ts c m ≡ true) → was_asked ts c (local_of g at log) ≡ true
 asked_then g log at d ts c later log2 P h e w f =
     let i = place_of_hand g (D d) log2 w.later at w.asked w.before w.is in
@@ -137,7 +137,7 @@ asked_then g log at d ts c later log2 P h e w f =
     subst (λ l. was_asked ts c (local_of g at l) ≡ true) (sym e)
     (subst (λ l. was_asked ts c l ≡ true) (sym y.1) (asked_more ts c y.0 (local_of g at log2) here))
 
-honest_d : (g : Given) (log : Log) (at : Site) (d : DmNo) (m : Msg) (ts c : ℕ) (later before : Log) (act : Act)
+honest_d : (g : Input) (log : Log) (at : Site) (d : DmNo) (m : Msg) (ts c : ℕ) (later before : Log) (act : Act)
     → IsPermitted g log → log ≡ later ++ Does (D d) act ∷ before → IsPutByD (setting_of g (D d)) (local_of g (D d) before) at act m → is_answer ts c m ≡ true
     → was_asked ts c (local_of g at log) ≡ true
 honest_d g log at d (Values t k u vs) ts c later before act h e w f =
@@ -157,14 +157,14 @@ answer_d ts c (Reduced t k u n) e = refl
 answer_d ts c (Rows t k rows) e = refl
 answer_d ts c m e = cc
 
-honest_hand : (g : Given) (log : Log) (from at : Site) (k : ℕ) (m : Msg) (ts c : ℕ) → IsPermitted g log
+honest_hand : (g : Input) (log : Log) (from at : Site) (k : ℕ) (m : Msg) (ts c : ℕ) → IsPermitted g log
     → slice_get (puts_to at (local_of g from log)) k ≡ Some m → is_answer ts c m ≡ true → was_asked ts c (local_of g at log) ≡ true
 honest_hand g log from at k m ts c h e f =
     let d = from_a_d g log from at k m h e (answer_d ts c m f) in
     let p = put_in_by_d g log d.0 at k m h (subst (λ x. slice_get (puts_to at (local_of g x log)) k ≡ Some m) d.1 e) in
     honest_d g log at d.0 m ts c p.later p.before p.act h p.is p.by f
 
-pub honest : (g : Given) (at : Site) (log : Log) → IsPermitted g log → Each IsHonest (local_of g at log)
+pub honest : (g : Input) (at : Site) (log : Log) → IsPermitted g log → Each IsHonest (local_of g at log)
 honest g at = each_local g at IsHonest (record {
   handed = λ log p from n m a i. λ ts c f. honest_hand g log from at (handed from at log) m ts c p (hand_was_put g log from at n m a).1 f;
   ticked = λ log p n i. tt;
@@ -175,7 +175,7 @@ honest g at = each_local g at IsHonest (record {
 
 -- the READ at a head was put by the Start of its attempt
 
-pub read_of : (g : Given) (c : ℕ) (d : DmNo) (log : Log) (ts : Ts) (k : ClassNo) (txn : TxnNo) (attempt : ℕ) (conds : List Cond) (uses : List Use)
+pub read_of : (g : Input) (c : ℕ) (d : DmNo) (log : Log) (ts : Ts) (k : ClassNo) (txn : TxnNo) (attempt : ℕ) (conds : List Cond) (uses : List Use)
     → IsPermitted g log → head (pipe_at g c d log) ≡ Some (Read ts k txn attempt conds uses) → (k.0 ≡ c) × IsReadOf g log c txn.0 attempt ts.0
 read_of g c d log ts k txn attempt conds uses h e =
     let at : Site = home g.catalogue c in
@@ -207,7 +207,7 @@ pub same_head : (s : Setting) (c : ℕ) (b1 b2 : site.Log) (q1 q2 : Queued) → 
 same_head s c b1 b2 q1 q2 e f g = let p : Some q1 ≡ Some q2 = sym f ∙ ap (λ b. head_of (queue s c b)) e ∙ g in cc
 
 -- a READ with the timestamp of the active attempt is of that attempt
-pub of_attempt : (g : Given) (c : ℕ) (log later log2 : Log) (a : Attempt) (n k t : ℕ) → IsPermitted g log
+pub of_attempt : (g : Input) (c : ℕ) (log later log2 : Log) (a : Attempt) (n k t : ℕ) → IsPermitted g log
     → active (setting_of g (home g.catalogue c)) c (local_of g (home g.catalogue c) log) ≡ Some a → log ≡ later ++ log2
     → IsReadOf g log2 c n k t → t ≡ a.ts → (n ≡ a.txn) × (k ≡ a.attempt)
 of_attempt g c log later log2 a n k t h e is r ts =
@@ -258,7 +258,7 @@ ready_handed ts c d (Redeclared force t ∷ log) e = more_ready (Redeclared forc
 ready_handed ts c d (Submits n txn ∷ log) e = more_ready (Submits n txn) log d ts c (ready_handed ts c d log e)
 ready_handed ts c d (Did act ∷ log) e = more_ready (Did act) log d ts c (ready_handed ts c d log e)
 
-answer_there : (g : Given) (c : ℕ) (d : DmNo) (log : Log) (a : Attempt) → IsPermitted g log
+answer_there : (g : Input) (c : ℕ) (d : DmNo) (log : Log) (a : Attempt) → IsPermitted g log
     → active (setting_of g (home g.catalogue c)) c (local_of g (home g.catalogue c) log) ≡ Some a
     → was_ready a.ts c (D d) (local_of g (home g.catalogue c) log) ≡ true → HasAnswer g log d c a
 answer_there g c d log a h e w =
@@ -299,7 +299,7 @@ answer_there g c d log a h e w =
     }
 
 -- where the attempt awaits no READY, as at its Commit, there is an Answer of it at each of its modules
-pub answered_all : (g : Given) (c : ℕ) (log : Log) (a : Attempt) (d : DmNo) → IsPermitted g log
+pub answered_all : (g : Input) (c : ℕ) (log : Log) (a : Attempt) (d : DmNo) → IsPermitted g log
     → active (setting_of g (home g.catalogue c)) c (local_of g (home g.catalogue c) log) ≡ Some a → is_over a.exchange.phase ≡ true
     → contains (modules_asked (setting_of g (home g.catalogue c)) c a.text) d.0 ≡ true → HasAnswer g log d c a
 answered_all g c log a d h e o p =

@@ -1,5 +1,5 @@
 -- H5 without the Applies: an undeclared transaction and a declared one. The declared one committed before the undeclared one's Start, with a smaller timestamp; or it started when that one's RELEASE was handed to its site, with a greater one.
-use Rattle.sdd_invariants.proofs.All.{Act, Ask, Attempt, Bool, Did, Does, Each, Given, Handed, Held, IsCommitT, IsFair, IsFairT, IsHeldAt, IsHigh, IsLow, IsPermitted, IsStartU, List, Msg, None, Option, Queued, Redeclared, Reject, Release, Sends, Setting, Site, Some, Submits, T, Ticked, Ticking, U, [], active, allowed_act, ap, append-nil, append_assoc, arith, bound, clock, commit_act, cons_option, counts, dones_of, drawn_so_far, drop, false, filter_map-append, handed, hands_from, holds, if◌then◌else◌, in_left, inl, inr, is_a_held, is_a_release, length, local_of, number_of, numbers_to, one_if, pushed_by, puts_to, refl, release_time, release_times, runs, same_site, sends_of_act, setting_of, slice_get, stamp_of, start_at, start_u, starts, subst, suc, sym, take, take-append-drop, tally, tm_no, to_site, true, u_stamp, zero, ℕ, ◌*◌, ◌++◌, ◌+◌, ◌/◌, ◌<◌, ◌∙◌, ◌∷◌, ◌≡◌, ◌≤◌, ◌⊎◌}
+use Rattle.sdd_invariants.proofs.All.{Act, Ask, Attempt, Bool, Did, Does, Each, Handed, Held, Input, IsCommitT, IsFair, IsFairT, IsHeldAt, IsHigh, IsLow, IsPermitted, IsStartU, List, Msg, None, Option, Queued, Redeclared, Reject, Release, Sends, Setting, Site, Some, Submits, T, Ticked, Ticking, U, [], active, allowed_act, ap, append-nil, append_assoc, arith, bound, clock, commit_act, cons_option, counts, dones_of, drawn_so_far, drop, false, filter_map-append, handed, hands_from, holds, if◌then◌else◌, in_left, inl, inr, is_a_held, is_a_release, length, local_of, number_of, numbers_to, one_if, pushed_by, puts_to, refl, release_time, release_times, runs, same_site, sends_of_act, setting_of, slice_get, stamp_of, start_at, start_u, starts, subst, suc, sym, take, take-append-drop, tally, tm_no, to_site, true, u_stamp, zero, ℕ, ◌*◌, ◌++◌, ◌+◌, ◌/◌, ◌<◌, ◌∙◌, ◌∷◌, ◌≡◌, ◌≤◌, ◌⊎◌}
 use Rattle.sdd_invariants.proofs.HoldChain.{from_u, handed_helds, handed_holds, hold_chain, t_table, u_table}
 use Rattle.sdd_invariants.proofs.Holding.{hold_rule, still, t_helds}
 use Rattle.sdd_invariants.proofs.Releases.{serving, start_ready}
@@ -89,7 +89,7 @@ release_push : (m : Msg) (x : ℕ) → release_time m ≡ Some x → push m ≡ 
 release_push (Release ts) x e = cc
 release_push m x e = cc
 
-pub at_start : (g : Given) (k t : ℕ) (log : Log) (q : Queued) → slice_get (numbers_to g.catalogue.tms) k ≡ Some t
+pub at_start : (g : Input) (k t : ℕ) (log : Log) (q : Queued) → slice_get (numbers_to g.catalogue.tms) k ≡ Some t
     → IsPermitted g (Does U (start_u g log q) ∷ log) → IsStartU g t log (starts (local_of g U log))
 at_start g k t log q i h =
     let lu : site.Log = local_of g U log in
@@ -102,7 +102,7 @@ at_start g k t log q i h =
 below_ts : (b s0 u x own ts us : ℕ) → s0 + 1 ≤ b → ts ≡ (s0 + 1) * 64 + own → own ≤ 63 → x ≡ b * 64 + 63 → x / 64 ≤ u → us ≡ (u + 1) * 64 + 0 → ts < us
 below_ts b s0 u x own ts us l e w p q r = omega arith
 
-low : (g : Given) (k t c j : ℕ) (full later log : Log) (q : Queued) (a : Attempt) (cm : IsCommitT g t c full a) (x : IsHeldAt (local_of g (T (tm_no t)) log) (starts (local_of g U log))) (front : site.Log)
+low : (g : Input) (k t c j : ℕ) (full later log : Log) (q : Queued) (a : Attempt) (cm : IsCommitT g t c full a) (x : IsHeldAt (local_of g (T (tm_no t)) log) (starts (local_of g U log))) (front : site.Log)
     → slice_get (numbers_to g.catalogue.tms) k ≡ Some t → slice_get (runs (setting_of g (T (tm_no t)))) j ≡ Some c
     → number_of (T (tm_no t)) ≤ 63 → IsPermitted g (Does U (start_u g log q) ∷ log)
     → local_of g (T (tm_no t)) full ≡ (front ++ x.later) ++ Did (Sends x.to (Held x.time) x.hand) ∷ x.before → (between : site.Log)
@@ -145,7 +145,7 @@ low g k t c j full later log q a cm x front i run small h e between p =
 above_ts : (u b own x ts us : ℕ) → x ≡ us → us ≡ (u + 1) * 64 + 0 → x / 64 ≤ b → ts ≡ (b + 1) * 64 + own → x < ts
 above_ts u b own x ts us e w l p = omega arith
 
-high : (g : Given) (k t c : ℕ) (full later log : Log) (q : Queued) (a : Attempt) (cm : IsCommitT g t c full a) (x : IsHeldAt (local_of g (T (tm_no t)) log) (starts (local_of g U log)))
+high : (g : Input) (k t c : ℕ) (full later log : Log) (q : Queued) (a : Attempt) (cm : IsCommitT g t c full a) (x : IsHeldAt (local_of g (T (tm_no t)) log) (starts (local_of g U log)))
     → slice_get (numbers_to g.catalogue.tms) k ≡ Some t → IsPermitted g full → full ≡ later ++ Does U (start_u g log q) ∷ log
     → (between : site.Log) → cm.start.before ≡ between ++ Did (Sends x.to (Held x.time) x.hand) ∷ x.before
     → IsHigh g t c full log a cm (u_stamp g log) (starts (local_of g U log))
@@ -214,7 +214,7 @@ high g k t c full later log q a cm x i h e between p =
       dones = subst (λ y. g.catalogue.dms ≤ dones_of y lu) is (sv.done n got.0 in_drawn.1 in_drawn.0);
     }
 
-pub low_or_high : (g : Given) (k t c j : ℕ) (full later log : Log) (q : Queued) (a : Attempt) (cm : IsCommitT g t c full a)
+pub low_or_high : (g : Input) (k t c j : ℕ) (full later log : Log) (q : Queued) (a : Attempt) (cm : IsCommitT g t c full a)
     → slice_get (numbers_to g.catalogue.tms) k ≡ Some t → slice_get (runs (setting_of g (T (tm_no t)))) j ≡ Some c
     → number_of (T (tm_no t)) ≤ 63 → IsPermitted g full → full ≡ later ++ Does U (start_u g log q) ∷ log
     → IsLow g t c full log a cm (u_stamp g log) ⊎ IsHigh g t c full log a cm (u_stamp g log) (starts (local_of g U log))

@@ -1,6 +1,6 @@
 -- The split, said of records: a transaction of a condition's class that changes one of its fragments with a copy there is
 -- applied before the Answer exactly where its timestamp is below the condition's time.
-use Rattle.sdd_invariants.proofs.All.{Act, AllGt, Answer, Apply, Attempt, Bases, Change, Cond, D, Did, DmNo, Does, FragNo, Given, IsAnswerWith, IsApplied, IsOf, IsOfWrite, IsPermitted, IsStrict, List, Msg, None, Null, Option, Read, Rec, Records, Site, Some, Ts, Write, [], ap, append_assoc, arith, changes_to, class_in, class_no, class_puts, commit_act, cond, cons_option, false, filter_map, goes_through, home, if◌then◌else◌, length, local_of, number_of, pipe, pipe_at, place_within, puts_to, read_at, refl, results, same_site, setting_of, slice_get, subst, suc, sym, time_at, touches, true, txn_no, write_at, zero, ℕ, ◌++◌, ◌<◌, ◌==◌, ◌∙◌, ◌∷◌, ◌≡◌, ◌≢◌, ◌≤◌}
+use Rattle.sdd_invariants.proofs.All.{Act, AllGt, Answer, Apply, Attempt, Bases, Change, Cond, D, Did, DmNo, Does, FragNo, Input, IsAnswerWith, IsApplied, IsOf, IsOfWrite, IsPermitted, IsStrict, List, Msg, None, Null, Option, Read, Rec, Records, Site, Some, Ts, Write, [], ap, append_assoc, arith, changes_to, class_in, class_no, class_puts, commit_act, cond, cons_option, false, filter_map, goes_through, home, if◌then◌else◌, length, local_of, number_of, pipe, pipe_at, place_within, puts_to, read_at, refl, results, same_site, setting_of, slice_get, subst, suc, sym, time_at, touches, true, txn_no, write_at, zero, ℕ, ◌++◌, ◌<◌, ◌==◌, ◌∙◌, ◌∷◌, ◌≡◌, ◌≢◌, ◌≤◌}
 use Rattle.sdd_invariants.proofs.Origins.{commit_writes, is_put}
 use Rattle.sdd_invariants.proofs.ReadsPut.{read_once}
 use Rattle.sdd_invariants.proofs.WritesPut.{written}
@@ -70,13 +70,13 @@ no_read : (c : ℕ) (m : Msg) → goes_through c m ≡ false → read_at c m ≡
 no_read c (Read ts k txn attempt conds uses) e = rw e refl
 no_read c _ e = refl
 
-pub writes_strict : (g : Given) (c : ℕ) (d : DmNo) (log : Log) → IsPermitted g log → number_of (home g.catalogue c) ≤ 63
+pub writes_strict : (g : Input) (c : ℕ) (d : DmNo) (log : Log) → IsPermitted g log → number_of (home g.catalogue c) ≤ 63
     → IsStrict (filter_map (write_at c) (class_puts g c d log))
 writes_strict g c d log h small =
     subst IsStrict (sym (same_keys c (write_at c) (puts_to (D d) (local_of g (home g.catalogue c) log)) (no_write c)))
     (written (setting_of g (home g.catalogue c)) c (D d) (local_of g (home g.catalogue c) log) small (home_fair g c log h)).strict
 
-pub reads_strict : (g : Given) (c : ℕ) (d : DmNo) (log : Log) → IsPermitted g log → number_of (home g.catalogue c) ≤ 63
+pub reads_strict : (g : Input) (c : ℕ) (d : DmNo) (log : Log) → IsPermitted g log → number_of (home g.catalogue c) ≤ 63
     → IsStrict (filter_map (read_at c) (class_puts g c d log))
 reads_strict g c d log h small =
     subst IsStrict (sym (same_keys c (read_at c) (puts_to (D d) (local_of g (home g.catalogue c) log)) (no_read c)))
@@ -105,7 +105,7 @@ pub own_made : (at : Site) (act : Act) → (if same_site at at then Some (Did ac
 own_made at act = rw (site_self at) refl
 
 -- the WRITE of a Commit is among what its class's site put on the link
-pub commit_there : (g : Given) (d : DmNo) (j : ℕ) (later log : Log) (bases : Bases) (a : Attempt) → 1 ≤ d.0
+pub commit_there : (g : Input) (d : DmNo) (j : ℕ) (later log : Log) (bases : Bases) (a : Attempt) → 1 ≤ d.0
     → d.0 ≤ g.catalogue.dms → 0 < length (changes_to g bases a d)
     → (i : ℕ) × (slice_get (class_puts g j d (later ++ Does (home g.catalogue j) (commit_act g.catalogue bases j a) ∷ log)) i ≡ Some (Write (time_at a.ts) (class_no j) (txn_no a.txn) (changes_to g bases a d)))
 commit_there g d j later log bases a lo hi t =
@@ -120,7 +120,7 @@ commit_there g d j later log bases a lo hi t =
     in_class j (puts_to (D d) (local_of g at (later ++ Does at act ∷ log))) p.0 w there (same_number j)
 
 -- applied exactly where its WRITE stands among the processed ones
-pub applied_processed : (g : Given) (d : DmNo) (j : ℕ) (later log : Log) (a : Attempt) (i : ℕ) (n : ℕ) (xs : List Change)
+pub applied_processed : (g : Input) (d : DmNo) (j : ℕ) (later log : Log) (a : Attempt) (i : ℕ) (n : ℕ) (xs : List Change)
     → IsPermitted g (later ++ log) → number_of (home g.catalogue j) ≤ 63
     → slice_get (class_puts g j d (later ++ log)) i ≡ Some (Write (time_at a.ts) (class_no j) (txn_no n) xs)
     → IsApplied g log d j a → i < length (pipe_at g j d log).processed
@@ -136,7 +136,7 @@ applied_processed g d j later log a i n xs h small there x =
     (writes_strict g j d (later ++ log) h small) at there (of_write (time_at a.ts) j a.txn x.rec z.0 x.is z.2) (write_own j a.ts n xs) in
     subst (λ y. y < length (pipe j l).processed) k (place_within (pipe j l).processed x.place z.0 z.1)
 
-pub processed_applied : (g : Given) (d : DmNo) (j : ℕ) (later log : Log) (a : Attempt) (i : ℕ) (xs : List Change) → IsPermitted g (later ++ log)
+pub processed_applied : (g : Input) (d : DmNo) (j : ℕ) (later log : Log) (a : Attempt) (i : ℕ) (xs : List Change) → IsPermitted g (later ++ log)
     → slice_get (class_puts g j d (later ++ log)) i ≡ Some (Write (time_at a.ts) (class_no j) (txn_no a.txn) xs)
     → i < length (pipe_at g j d log).processed → IsApplied g log d j a
 processed_applied g d j later log a i xs h there lt =
@@ -150,7 +150,7 @@ processed_applied g d j later log a i xs h there lt =
     record { place = i; rec = z.0; there = z.1; is = z.2 }
 
 -- at an Answer with the condition q, of a transaction of its class that is committed anywhere in the log
-pub split_applied : (g : Given) (d : DmNo) (q : Cond) (act : Act) (later log later2 log2 : Log) (bases : Bases) (a : Attempt)
+pub split_applied : (g : Input) (d : DmNo) (q : Cond) (act : Act) (later log later2 log2 : Log) (bases : Bases) (a : Attempt)
     → IsPermitted g (later ++ Does (D d) act ∷ log) → number_of (home g.catalogue q.class.0) ≤ 63 → 1 ≤ d.0
     → d.0 ≤ g.catalogue.dms → IsAnswerWith g log d q act → q.class.0 ≢ 0
     → later ++ Does (D d) act ∷ log ≡ later2 ++ Does (home g.catalogue q.class.0) (commit_act g.catalogue bases q.class.0 a) ∷ log2

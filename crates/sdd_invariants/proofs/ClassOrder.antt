@@ -1,5 +1,5 @@
 -- Within a class a module processes in the order of times.
-use Rattle.sdd_invariants.proofs.All.{AllGe, D, DmNo, Given, IsPermitted, IsRising, List, Msg, Some, [], arith, class_puts, dec_le, head, head_of, home, in_left, length, local_of, map, number_of, pipe_at, puts_to, setting_of, slice_get, subst, suc, sym, time_of, zero, ℕ, ◌++◌, ◌<◌, ◌∷◌, ◌≡◌, ◌≤◌}
+use Rattle.sdd_invariants.proofs.All.{AllGe, D, DmNo, Input, IsPermitted, IsRising, List, Msg, Some, [], arith, class_puts, dec_le, head, head_of, home, in_left, length, local_of, map, number_of, pipe_at, puts_to, setting_of, slice_get, subst, suc, sym, time_of, zero, ℕ, ◌++◌, ◌<◌, ◌∷◌, ◌≡◌, ◌≤◌}
 use Rattle.sdd_invariants.proofs.Times.{timed}
 use Rattle.sdd_invariants.proofs.InPipe.{in_pipe_later, times_are}
 use Rattle.sdd_invariants.proofs.Lists.{at_seam}
@@ -28,19 +28,19 @@ earlier ms a b t x y h e f l k = elim (dec_le b a) [
   | no n ↦ omega (arith, n)
 ]
 
-pub class_rises : (g : Given) (c : ℕ) (d : DmNo) (log : Log) → IsPermitted g log → number_of (home g.catalogue c) ≤ 63
+pub class_rises : (g : Input) (c : ℕ) (d : DmNo) (log : Log) → IsPermitted g log → number_of (home g.catalogue c) ≤ 63
     → IsRising (map time_of (class_puts g c d log))
 class_rises g c d log h small =
     subst IsRising (times_are c (puts_to (D d) (local_of g (home g.catalogue c) log)))
     (timed (setting_of g (home g.catalogue c)) c (D d) (local_of g (home g.catalogue c) log) small (home_fair g c log h)).rises
 
-pub in_class_order : (g : Given) (c : ℕ) (d : DmNo) (log : Log) (a b : ℕ) (x y : Msg) → IsPermitted g log
+pub in_class_order : (g : Input) (c : ℕ) (d : DmNo) (log : Log) (a b : ℕ) (x y : Msg) → IsPermitted g log
     → number_of (home g.catalogue c) ≤ 63 → slice_get (class_puts g c d log) a ≡ Some x
     → slice_get (class_puts g c d log) b ≡ Some y → time_of x < time_of y → a < b
 in_class_order g c d log a b x y h small e f l = earlier (class_puts g c d log) a b (time_of y) x y (class_rises g c d log h small) e f l (omega arith)
 
 -- none is left out: where a message is processed, so is each of its class with a smaller time that is ever put
-pub none_left_out : (g : Given) (c : ℕ) (d : DmNo) (later log : Log) (a b : ℕ) (x y : Msg) → IsPermitted g (later ++ log)
+pub none_left_out : (g : Input) (c : ℕ) (d : DmNo) (later log : Log) (a b : ℕ) (x y : Msg) → IsPermitted g (later ++ log)
     → number_of (home g.catalogue c) ≤ 63 → slice_get (class_puts g c d (later ++ log)) a ≡ Some x → slice_get (class_puts g c d (later ++ log)) b ≡ Some y
     → time_of x < time_of y → b < length (pipe_at g c d log).processed → a < length (pipe_at g c d log).processed
 none_left_out g c d later log a b x y h small e f l p = let i = in_class_order g c d (later ++ log) a b x y h small e f l in omega arith
@@ -52,7 +52,7 @@ head_at ps (x ∷ qs) more m e =
     in_left (ps ++ x ∷ qs) more (length ps) m (subst (λ y. slice_get (ps ++ x ∷ qs) (length ps) ≡ Some y) p (at_seam ps qs x))
 
 -- the head of a pipe stands behind the processed ones, in every later log
-pub head_place : (g : Given) (c : ℕ) (d : DmNo) (later log : Log) (m : Msg) → IsPermitted g log → head (pipe_at g c d log) ≡ Some m
+pub head_place : (g : Input) (c : ℕ) (d : DmNo) (later log : Log) (m : Msg) → IsPermitted g log → head (pipe_at g c d log) ≡ Some m
     → slice_get (class_puts g c d (later ++ log)) (length (pipe_at g c d log).processed) ≡ Some m
 head_place g c d later log m h e =
     let i = in_pipe_later g c d later log h in
@@ -60,7 +60,7 @@ head_place g c d later log m h e =
     (head_at (pipe_at g c d log).processed (pipe_at g c d log).unprocessed i.0 m e)
 
 -- at a head: of its class the messages with smaller times are processed, those with greater ones are not
-pub around_head : (g : Given) (c : ℕ) (d : DmNo) (later log : Log) (a : ℕ) (x m : Msg) → IsPermitted g (later ++ log)
+pub around_head : (g : Input) (c : ℕ) (d : DmNo) (later log : Log) (a : ℕ) (x m : Msg) → IsPermitted g (later ++ log)
     → number_of (home g.catalogue c) ≤ 63 → head (pipe_at g c d log) ≡ Some m → slice_get (class_puts g c d (later ++ log)) a ≡ Some x
     → (time_of x < time_of m → a < length (pipe_at g c d log).processed) × (time_of m < time_of x → length (pipe_at g c d log).processed < a)
 around_head g c d later log a x m h small e f =

@@ -1,5 +1,5 @@
 -- Where as many DONEs for a timestamp were handed to U as there are data modules, each of these has an Apply of class 0 with it.
-use Rattle.sdd_invariants.proofs.All.{Act, AllGt, Apply, Attempt, Bases, Bool, Change, ClassNo, D, Did, DmNo, Does, Done, Each, Given, Handed, HasApply, IsDoneBy, IsDueEach, IsPermitted, IsPutByD, IsStrict, IsWrite, List, Msg, Option, Pipe, Records, Redeclared, Sends, Setting, Site, Some, Submits, Ticked, Ts, TxnNo, U, Write, [], all_of, ap, arith, class_is, commit_act, dec_le, dm_no, dones_of, each_local, effect, eqb-true, false, filter_map, filter_map-append, goes_through, handed, hands_from, head, head_of, head_processed, home, home_of, if◌then◌else◌, in_left, inl, inr, is_done_of, length, local_of, number_of, numbers_to, one_if, one_or_none, pipe, pipe_acted, pipe_at, place_within, puts_to, range_with_len, refl, same_site, sends_of_act, setting_of, slice_get, subst, suc, sym, take, tally, to_site, true, write_at, write_to, writes_in, zero, ℕ, ◌++◌, ◌+◌, ◌<◌, ◌==◌, ◌∙◌, ◌∷◌, ◌≡◌, ◌≤◌}
+use Rattle.sdd_invariants.proofs.All.{Act, AllGt, Apply, Attempt, Bases, Bool, Change, ClassNo, D, Did, DmNo, Does, Done, Each, Handed, HasApply, Input, IsDoneBy, IsDueEach, IsPermitted, IsPutByD, IsStrict, IsWrite, List, Msg, Option, Pipe, Records, Redeclared, Sends, Setting, Site, Some, Submits, Ticked, Ts, TxnNo, U, Write, [], all_of, ap, arith, class_is, commit_act, dec_le, dm_no, dones_of, each_local, effect, eqb-true, false, filter_map, filter_map-append, goes_through, handed, hands_from, head, head_of, head_processed, home, home_of, if◌then◌else◌, in_left, inl, inr, is_done_of, length, local_of, number_of, numbers_to, one_if, one_or_none, pipe, pipe_acted, pipe_at, place_within, puts_to, range_with_len, refl, same_site, sends_of_act, setting_of, slice_get, subst, suc, sym, take, tally, to_site, true, write_at, write_to, writes_in, zero, ℕ, ◌++◌, ◌+◌, ◌<◌, ◌==◌, ◌∙◌, ◌∷◌, ◌≡◌, ◌≤◌}
 use Rattle.sdd_invariants.proofs.Turns.{tally_append, tally_take}
 use Rattle.sdd_invariants.proofs.WritesPut.{goes_write}
 use Rattle.sdd_invariants.proofs.Processed.{own_record, processed_handed, processed_more}
@@ -34,7 +34,7 @@ strict_left [] ys h = tt
 strict_left (x ∷ xs) ys h = (gt_left x xs ys h.0, strict_left xs ys h.1)
 
 -- the WRITEs of a pipe rise, and its head is of the class
-pub strict_pipe : (g : Given) (c : ℕ) (d : DmNo) (log : Log) → number_of (home g.catalogue c) ≤ 63 → IsPermitted g log
+pub strict_pipe : (g : Input) (c : ℕ) (d : DmNo) (log : Log) → number_of (home g.catalogue c) ≤ 63 → IsPermitted g log
     → IsStrict (writes_in c (all_of (pipe_at g c d log)))
 strict_pipe g c d log small h =
     let p = in_pipe g c d log h in
@@ -49,7 +49,7 @@ IsStrictHere log (Ticked n) = Unit {0}
 IsStrictHere log (Submits n txn) = Unit {0}
 IsStrictHere log (Redeclared force t) = Unit {0}
 
-stricts : (g : Given) (d : DmNo) (log : Log) → IsPermitted g log → Each IsStrictHere (local_of g (D d) log)
+stricts : (g : Input) (d : DmNo) (log : Log) → IsPermitted g log → Each IsStrictHere (local_of g (D d) log)
 stricts g d = each_local g (D d) IsStrictHere (record {
   handed = λ log p from n m a i. tt;
   ticked = λ log p n i. tt;
@@ -207,7 +207,7 @@ dones_within n x (Handed from m ∷ l) h =
     ] refl
 dones_within n x (_ ∷ l) h = dones_within n x l h.1
 
-write_range : (g : Given) (d : DmNo) (bases : Bases) (a : Attempt) (k : ℕ) (m : Msg)
+write_range : (g : Input) (d : DmNo) (bases : Bases) (a : Attempt) (k : ℕ) (m : Msg)
     → slice_get (to_site (D d) (sends_of_act (commit_act g.catalogue bases 0 a))) k ≡ Some m → (j : ℕ) × (slice_get (numbers_to g.catalogue.dms) j ≡ Some d.0)
 write_range g d bases a k m e =
     let xs : List Change = (effect g.catalogue (bases a.ts) a.text).changes in
@@ -216,7 +216,7 @@ write_range g d bases a k m e =
 number_zero : (c t : ℕ) → class_is 0 (Some (c, t)) ≡ true → c ≡ 0
 number_zero c t e = eqb-true c 0 e
 
-in_range : (g : Given) (log : Log) (d : DmNo) (ts : Ts) (of : ClassNo) (txn : TxnNo) (changes : List Change) → IsPermitted g log
+in_range : (g : Input) (log : Log) (d : DmNo) (ts : Ts) (of : ClassNo) (txn : TxnNo) (changes : List Change) → IsPermitted g log
     → head (pipe_at g 0 d log) ≡ Some (Write ts of txn changes) → (j : ℕ) × (slice_get (numbers_to g.catalogue.dms) j ≡ Some d.0)
 in_range g log d ts of txn changes h e =
     let p = head_put g 0 d log (Write ts of txn changes) h e in
@@ -226,7 +226,7 @@ in_range g log d ts of txn changes h e =
     write_range g d w.bases w.attempt p.place (Write ts of txn changes)
     (subst (λ y. slice_get (to_site (D d) (sends_of_act y)) p.place ≡ Some (Write ts of txn changes)) w.act_is p.there)
 
-done_from : (g : Given) (log : Log) (from : Site) (k : ℕ) (m : Msg) (x : ℕ) → IsPermitted g log
+done_from : (g : Input) (log : Log) (from : Site) (k : ℕ) (m : Msg) (x : ℕ) → IsPermitted g log
     → slice_get (puts_to U (local_of g from log)) k ≡ Some m → is_done_of x m ≡ true
     → (j : ℕ) × (d : ℕ) × (from ≡ D (dm_no d)) × (slice_get (numbers_to g.catalogue.dms) j ≡ Some d)
 done_from g log from k m x h e f =
@@ -239,7 +239,7 @@ done_from g log from k m x h e f =
     let r = in_range g p.before d.0 t.0 b.class b.txn b.changes hb b.head_is in
     (r.0, d.0.0, d.1, r.1)
 
-module_hands : (g : Given) (log : Log) → IsPermitted g log → Each (IsFromModule g.catalogue.dms) (local_of g U log)
+module_hands : (g : Input) (log : Log) → IsPermitted g log → Each (IsFromModule g.catalogue.dms) (local_of g U log)
 module_hands g = each_local g U (IsFromModule g.catalogue.dms) (record {
   handed = λ log p from n m a i. λ x f. done_from g log from (handed from U log) m x p (hand_was_put g log from U n m a).1 f;
   ticked = λ log p n i. tt;
@@ -248,7 +248,7 @@ module_hands g = each_local g U (IsFromModule g.catalogue.dms) (record {
   did = λ log act p due i. tt;
 })
 
-from_one : (g : Given) (log : Log) (x d : ℕ) → IsPermitted g log → from_d x (local_of g U log) d ≤ 1
+from_one : (g : Input) (log : Log) (x d : ℕ) → IsPermitted g log → from_d x (local_of g U log) d ≤ 1
 from_one g log x d h =
     let at : DmNo = dm_no d in
     let o = (once (setting_of g (D at)) x (local_of g (D at) log) (d_fair g at log h) (stricts g at log h)).le in
@@ -261,7 +261,7 @@ pub range_length : (a n : ℕ) → length (range_with_len a n) ≡ n
 range_length a zero = refl
 range_length a (suc n) = ap suc (range_length (a + 1) n)
 
-pub all_applied : (g : Given) (log : Log) (x k d : ℕ) → IsPermitted g log → g.catalogue.dms ≤ dones_of x (local_of g U log)
+pub all_applied : (g : Input) (log : Log) (x k d : ℕ) → IsPermitted g log → g.catalogue.dms ≤ dones_of x (local_of g U log)
     → slice_get (numbers_to g.catalogue.dms) k ≡ Some d → HasApply g log (dm_no d) x
 all_applied g log x k d h l e =
     let at : DmNo = dm_no d in
@@ -277,10 +277,10 @@ all_applied g log x k d h l e =
     record { later = p.later; before = p.before; txn = b.txn; of = b.class; ts = t.0; changes = b.changes; is = p.is ∙ ap (λ y. p.later ++ Does (D at) y ∷ p.before) b.act_is; head_is = b.head_is; ts_is = t.2 }
 
 -- a data module puts at most one DONE with a timestamp, and U is handed no more than there are modules
-pub put_once : (g : Given) (log : Log) (x : ℕ) (d : DmNo) → IsPermitted g log → tally (is_done_of x) (puts_to U (local_of g (D d) log)) ≤ 1
+pub put_once : (g : Input) (log : Log) (x : ℕ) (d : DmNo) → IsPermitted g log → tally (is_done_of x) (puts_to U (local_of g (D d) log)) ≤ 1
 put_once g log x d h = (once (setting_of g (D d)) x (local_of g (D d) log) (d_fair g d log h) (stricts g d log h)).le
 
-pub dones_few : (g : Given) (log : Log) (x : ℕ) → IsPermitted g log → dones_of x (local_of g U log) ≤ g.catalogue.dms
+pub dones_few : (g : Input) (log : Log) (x : ℕ) → IsPermitted g log → dones_of x (local_of g U log) ≤ g.catalogue.dms
 dones_few g log x h =
     let lu : site.Log = local_of g U log in
     let sum = dones_within g.catalogue.dms x lu (module_hands g log h) in

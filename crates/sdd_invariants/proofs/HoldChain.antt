@@ -1,5 +1,5 @@
 -- Between U and one T: the counts of HOLDs, RELEASEs, HELDs, Starts and Commits of class 0 stand in one chain.
-use Rattle.sdd_invariants.proofs.All.{Act, AllIdle, Bool, D, Did, Each, Given, Handed, Held, Hold, HoldCounts, IsFairT, IsFairU, IsHoldChain, IsPermitted, IsPutByD, List, Msg, NoneHold, Redeclared, Release, Sends, Setting, Site, Some, Submits, T, Ticked, TmCounts, TmNo, U, [], ap, arith, base_of, counts, counts_acted, counts_handed, counts_tm, each_local, false, handed, hands, hands_from, holds, holds_acted, holds_handed, if◌then◌else◌, inl, inr, is_a_held, is_a_hold, is_a_release, local_of, numbers_to, one_if, or_left, or_right, puts_to, refl, same_site, setting_of, slice_get, subst, suc, sym, take, tally, tm_no, true, zero, ℕ, ◌++◌, ◌+◌, ◌<◌, ◌==◌, ◌||◌, ◌∙◌, ◌∷◌, ◌≡◌}
+use Rattle.sdd_invariants.proofs.All.{Act, AllIdle, Bool, D, Did, Each, Handed, Held, Hold, HoldCounts, Input, IsFairT, IsFairU, IsHoldChain, IsPermitted, IsPutByD, List, Msg, NoneHold, Redeclared, Release, Sends, Setting, Site, Some, Submits, T, Ticked, TmCounts, TmNo, U, [], ap, arith, base_of, counts, counts_acted, counts_handed, counts_tm, each_local, false, handed, hands, hands_from, holds, holds_acted, holds_handed, if◌then◌else◌, inl, inr, is_a_held, is_a_hold, is_a_release, local_of, numbers_to, one_if, or_left, or_right, puts_to, refl, same_site, setting_of, slice_get, subst, suc, sym, take, tally, tm_no, true, zero, ℕ, ◌++◌, ◌+◌, ◌<◌, ◌==◌, ◌||◌, ◌∙◌, ◌∷◌, ◌≡◌}
 use Rattle.sdd_invariants.proofs.Holding.{still, t_helds, t_none}
 use Rattle.sdd_invariants.proofs.Serving.{chain, flip as turned}
 use Rattle.sdd_invariants.proofs.Turns.{balance, tally_append, tally_take, turns_take}
@@ -12,7 +12,7 @@ use Rattle.sdd_invariants.proofs.Releases.{one_if_le}
 use Rattle.sdd_log.specs.All.{Log}
 use Rattle.sdd_log.specs.site_module.SiteLog as site
 
-pub t_table : (g : Given) (t : TmNo) (log : Log) → IsPermitted g log → Each (IsFairT (setting_of g (T t))) (local_of g (T t) log)
+pub t_table : (g : Input) (t : TmNo) (log : Log) → IsPermitted g log → Each (IsFairT (setting_of g (T t))) (local_of g (T t) log)
 t_table g t = each_local g (T t) (IsFairT (setting_of g (T t))) (record {
   handed = λ log p from n m a i. tt;
   ticked = λ log p n i. tt;
@@ -21,7 +21,7 @@ t_table g t = each_local g (T t) (IsFairT (setting_of g (T t))) (record {
   did = λ log act p due i. (base_of g log, due);
 })
 
-pub u_table : (g : Given) (log : Log) → IsPermitted g log → Each (IsFairU (setting_of g U)) (local_of g U log)
+pub u_table : (g : Input) (log : Log) → IsPermitted g log → Each (IsFairU (setting_of g U)) (local_of g U log)
 u_table g = each_local g U (IsFairU (setting_of g U)) (record {
   handed = λ log p from n m a i. tt;
   ticked = λ log p n i. tt;
@@ -51,7 +51,7 @@ IsFromU l (Submits n txn) = Unit {0}
 IsFromU l (Redeclared force t) = Unit {0}
 IsFromU l (Did act) = Unit {0}
 
-put_from : (g : Given) (log : Log) (from at : Site) (k : ℕ) (m : Msg) → IsPermitted g log
+put_from : (g : Input) (log : Log) (from at : Site) (k : ℕ) (m : Msg) → IsPermitted g log
     → slice_get (puts_to at (local_of g from log)) k ≡ Some m → of_hold m ≡ true → from ≡ U
 put_from g log U at k m h e p = refl
 put_from g log (T t) at k m h e p =
@@ -60,7 +60,7 @@ put_from g log (D d) at k m h e p =
     let q = put_in_by_d g log d at k m h e in
     absurd (not_both (of_hold m) p (d_not (setting_of g (D d)) (local_of g (D d) q.before) at q.act m q.by))
 
-pub from_u : (g : Given) (at : Site) (log : Log) → IsPermitted g log → Each IsFromU (local_of g at log)
+pub from_u : (g : Input) (at : Site) (log : Log) → IsPermitted g log → Each IsFromU (local_of g at log)
 from_u g at = each_local g at IsFromU (record {
   handed = λ log p from n m a i. put_from g log from at (handed from at log) m p (hand_was_put g log from at n m a).1;
   ticked = λ log p n i. tt;
@@ -145,7 +145,7 @@ handed_helds t (Handed from m ∷ l) =
 handed_helds t (Did act ∷ l) = more_of act (counts t l) ∙ handed_helds t l
 handed_helds t (_ ∷ l) = handed_helds t l
 
-pub hold_chain : (g : Given) (k t : ℕ) (log : Log) → slice_get (numbers_to g.catalogue.tms) k ≡ Some t → IsPermitted g log → IsHoldChain g t log
+pub hold_chain : (g : Input) (k t : ℕ) (log : Log) → slice_get (numbers_to g.catalogue.tms) k ≡ Some t → IsPermitted g log → IsHoldChain g t log
 hold_chain g k t log i h =
     let at : Site = T (tm_no t) in
     let lu : site.Log = local_of g U log in
@@ -181,6 +181,6 @@ hold_chain g k t log i h =
     }
 
 -- between a HELD and its RELEASE every class of the T is idle
-pub idle_between : (g : Given) (t : TmNo) (log : Log) → IsPermitted g log → (holds (local_of g (T t) log)).releases < (holds (local_of g (T t) log)).helds
+pub idle_between : (g : Input) (t : TmNo) (log : Log) → IsPermitted g log → (holds (local_of g (T t) log)).releases < (holds (local_of g (T t) log)).helds
     → AllIdle (setting_of g (T t)) (local_of g (T t) log)
 idle_between g t log h = (still (setting_of g (T t)) (local_of g (T t) log) (t_table g t log h)).idle

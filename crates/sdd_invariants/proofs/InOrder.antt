@@ -1,5 +1,5 @@
 -- The messages that were handed over on a link are, in order, the first of those that were put on it.
-use Rattle.sdd_invariants.proofs.All.{Bool, Call, Deliver, Delivers, Did, Does, Down, Event, Force, Given, Hand, Handed, IsAllowed, IsPermitted, List, Lose, Loses, Mark, Msg, None, Notes, Option, Puts, Redeclare, Redeclares, Repeat, Repeats, Resend, Resends, Round, Settle, Site, Some, Submit, Submitted, T, Tick, Ticked, Txn, U, Up, [], ap, append-nil, arith, by_event, by_link, by_mark, by_redeclare, by_round, by_site, calls_of, delivered, delivered_le, due_by, false, force_at, forced, given_to, handed, handed_by, hands_from, if◌then◌else◌, length, link, link_of, local_of, made, mark_due, message_at, note_if, put_by, puts, puts_to, redeclares, refl, rises, same_site, sends_of_act, sent, slice_get, sound, subst, suc, sym, take, take-append-le, takes_part, true, txn_at, with_made, ℕ, ◌&&◌, ◌++◌, ◌-◌, ◌∙◌, ◌∷◌, ◌≡◌, ◌≤◌}
+use Rattle.sdd_invariants.proofs.All.{Bool, Call, Deliver, Delivers, Did, Does, Down, Event, Force, Hand, Handed, Input, IsAllowed, IsPermitted, List, Lose, Loses, Mark, Msg, None, Notes, Option, Puts, Redeclare, Redeclares, Repeat, Repeats, Resend, Resends, Round, Settle, Site, Some, Submit, Submitted, T, Tick, Ticked, Txn, U, Up, [], ap, append-nil, arith, by_event, by_link, by_mark, by_redeclare, by_round, by_site, calls_of, delivered, delivered_le, due_by, false, force_at, forced, given_to, handed, handed_by, hands_from, if◌then◌else◌, length, link, link_of, local_of, made, mark_due, message_at, note_if, put_by, puts, puts_to, redeclares, refl, rises, same_site, sends_of_act, sent, slice_get, sound, subst, suc, sym, take, take-append-le, takes_part, true, txn_at, with_made, ℕ, ◌&&◌, ◌++◌, ◌-◌, ◌∙◌, ◌∷◌, ◌≡◌, ◌≤◌}
 use Rattle.sdd_invariants.proofs.Bools.{and_left, and_right}
 use Rattle.sdd_invariants.proofs.Lists.{take_one_more}
 use Rattle.sdd_invariants.proofs.Sites.{site_is}
@@ -23,14 +23,14 @@ no_note : (b : Bool) → NoHand (note_if b)
 no_note true = refl
 no_note false = tt
 
-no_due_by : (g : Given) (e : Event) (log : Log) → NoHand (due_by g e log)
+no_due_by : (g : Input) (e : Event) (log : Log) → NoHand (due_by g e log)
 no_due_by g (Submit n) log = refl
 no_due_by g (Tick t n) log = tt
 no_due_by g Settle log = tt
 no_due_by g Redeclare log = tt
 no_due_by g _ log = no_note _
 
-no_mark_due : (g : Given) (log : Log) → NoHand (mark_due g log)
+no_mark_due : (g : Input) (log : Log) → NoHand (mark_due g log)
 no_mark_due g (Mark e ∷ log) = no_due_by g e log
 no_mark_due g _ = tt
 
@@ -52,7 +52,7 @@ no_hand_next : (log : Log) (e : Entry) → is_hand e ≡ false → IsNextIfHand 
 no_hand_next log (Hand a b n m) h = cc
 no_hand_next log _ h = tt
 
-pub allowed_hand : (g : Given) (log : Log) (e : Entry) → IsAllowed g log e → IsNextIfHand log e
+pub allowed_hand : (g : Input) (log : Log) (e : Entry) → IsAllowed g log e → IsNextIfHand log e
 allowed_hand g log e (by_mark x n) = tt
 allowed_hand g log e (by_round es) = tt
 allowed_hand g log e (by_redeclare t) = tt
@@ -81,7 +81,7 @@ delivered_puts a b at [] calls = omega arith
 delivered_puts a b at (s ∷ sends) calls =
     let i = rises a b (Puts at s.0 s.1) calls in let j = delivered_puts a b at sends (Puts at s.0 s.1 ∷ calls) in omega arith
 
-pub handed_le : (g : Given) (log : Log) (a b : Site) → IsPermitted g log → handed a b log ≤ delivered (link_of a b log).there
+pub handed_le : (g : Input) (log : Log) (a b : Site) → IsPermitted g log → handed a b log ≤ delivered (link_of a b log).there
 handed_le g [] a b h = omega arith
 handed_le g (Mark e ∷ log) a b h = let i = handed_le g log a b h.1 in let j = delivered_mark e a b log in omega arith
 handed_le g (Does at act ∷ log) a b h = let i = handed_le g log a b h.1 in let j = delivered_puts a b at (sends_of_act act) (calls_of log) in omega arith
@@ -94,7 +94,7 @@ handed_le g (_ ∷ log) a b h = handed_le g log a b h.1
 pub delivered_within : (a b : Site) (log : Log) → delivered (link_of a b log).there ≤ length (sent a b log)
 delivered_within a b log = delivered_le (link_of a b log).there (delivered (link_of a b log).back) (sound a b (calls_of log)).there
 
-pub handed_within : (g : Given) (log : Log) (a b : Site) → IsPermitted g log → handed a b log ≤ length (puts_to b (local_of g a log))
+pub handed_within : (g : Input) (log : Log) (a b : Site) → IsPermitted g log → handed a b log ≤ length (puts_to b (local_of g a log))
 handed_within g log a b h =
     let i = handed_le g log a b h in let j = delivered_within a b log in
     subst (λ xs. handed a b log ≤ length xs) (sent_is g a b log) (omega arith)
@@ -109,7 +109,7 @@ pub hands_step : (a : Site) (o : Option site.Entry) (l : site.Log) → hands_fro
 hands_step a (Some (Handed from m)) l = if_more (same_site a from) (hands_from a l) m
 hands_step a _ l = sym (append-nil _)
 
-pub hands_grow : (g : Given) (a b : Site) (e : Entry) (log : Log)
+pub hands_grow : (g : Input) (a b : Site) (e : Entry) (log : Log)
     → hands_from a (local_of g b (e ∷ log)) ≡ hands_from a (local_of g b log) ++ handed_by a (made g b log e)
 hands_grow g a b e log = ap (hands_from a) (local_step g b e log) ∙ hands_step a (made g b log e) (local_of g b log)
 
@@ -125,14 +125,14 @@ none_forced : (a at : Site) (force : Force) (t : ℕ) → handed_by a (forced at
 none_forced a U force t = refl
 none_forced a _ force t = refl
 
-abbrev AreFirst : Given → Site → Site → Log → Type 0
+abbrev AreFirst : Input → Site → Site → Log → Type 0
 AreFirst g a b log = hands_from a (local_of g b log) ≡ take (handed a b log) (sent a b log)
 
-handed_of_sent : (g : Given) (log : Log) (a b : Site) → IsPermitted g log → handed a b log ≤ length (sent a b log)
+handed_of_sent : (g : Input) (log : Log) (a b : Site) → IsPermitted g log → handed a b log ≤ length (sent a b log)
 handed_of_sent g log a b h = let i = handed_le g log a b h in let j = delivered_within a b log in omega arith
 
 -- an entry that hands nothing over on the link
-none_more : (g : Given) (a b : Site) (e : Entry) (log : Log) → handed a b (e ∷ log) ≡ handed a b log
+none_more : (g : Input) (a b : Site) (e : Entry) (log : Log) → handed a b (e ∷ log) ≡ handed a b log
     → handed_by a (made g b log e) ≡ [] → IsPermitted g log → AreFirst g a b log → AreFirst g a b (e ∷ log)
 none_more g a b e log p q h i =
     hands_grow g a b e log ∙ ap (λ xs. hands_from a (local_of g b log) ++ xs) q ∙ append-nil _ ∙ i
@@ -150,7 +150,7 @@ one_seen a from false false k n xs ys m p f e = append-nil _ ∙ e
 there : (log : Log) (a b : Site) (n : ℕ) (m : Msg) → IsNextHand log a b n m → (n ≡ suc (handed a b log)) × (slice_get (sent a b log) (handed a b log) ≡ Some m)
 there log a b n m h = let z : n - 1 ≡ handed a b log = omega (arith, h.next) in (h.next, subst (λ k. slice_get (sent a b log) k ≡ Some m) z h.there)
 
-hands_are : (g : Given) (log : Log) (a b : Site) → IsPermitted g log → AreFirst g a b log
+hands_are : (g : Input) (log : Log) (a b : Site) → IsPermitted g log → AreFirst g a b log
 hands_are g [] a U h = refl
 hands_are g (Mark (Tick t n) ∷ log) a b h =
     none_more g a b (Mark (Tick t n)) log refl (none_if a (same_site b (T t)) (Some (Ticked n)) refl) h.1 (hands_are g log a b h.1)
@@ -177,11 +177,11 @@ hands_are g (Hand from to n m ∷ log) a b h =
 hands_are g [] a _ h = refl
 
 -- the messages handed from a at b are the first of those that a put on its link to b
-pub in_order : (g : Given) (log : Log) (a b : Site) → IsPermitted g log → hands_from a (local_of g b log) ≡ take (handed a b log) (puts_to b (local_of g a log))
+pub in_order : (g : Input) (log : Log) (a b : Site) → IsPermitted g log → hands_from a (local_of g b log) ≡ take (handed a b log) (puts_to b (local_of g a log))
 in_order g log a b h = hands_are g log a b h ∙ ap (take (handed a b log)) (sent_is g a b log)
 
 -- the message of a hand stands at its place among those that its site put on the link
-pub hand_was_put : (g : Given) (log : Log) (a b : Site) (n : ℕ) (m : Msg) → IsAllowed g log (Hand a b n m)
+pub hand_was_put : (g : Input) (log : Log) (a b : Site) (n : ℕ) (m : Msg) → IsAllowed g log (Hand a b n m)
     → (n ≡ suc (handed a b log)) × (slice_get (puts_to b (local_of g a log)) (handed a b log) ≡ Some m)
 hand_was_put g log a b n m h =
     let r = there log a b n m (allowed_hand g log (Hand a b n m) h) in

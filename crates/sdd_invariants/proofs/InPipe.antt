@@ -1,5 +1,5 @@
 -- The pipe of a class at a data module is a first part of the class's messages that its site put on the link there.
-use Rattle.sdd_invariants.proofs.All.{AllHomed, Bool, Catalogue, D, Did, DmNo, Each, Given, Handed, IsHomed, IsPermitted, List, Msg, None, Option, Redeclared, Site, Some, Submits, T, Ticked, U, [], all_handed, all_of, all_there, ap, append-nil, append_assoc, class_in, class_is, class_puts, cond, drop, each_local, eqb-true, false, filter-append, goes_through, handed, hands_from, home, if◌then◌else◌, local_of, map, pipe_at, piped, puts_to, refl, same_site, setting_of, slice_get, subst, suc, sym, take, take-append-drop, time_of, times_in, true, zero, ℕ, ◌++◌, ◌∙◌, ◌∷◌, ◌≡◌}
+use Rattle.sdd_invariants.proofs.All.{AllHomed, Bool, Catalogue, D, Did, DmNo, Each, Handed, Input, IsHomed, IsPermitted, List, Msg, None, Option, Redeclared, Site, Some, Submits, T, Ticked, U, [], all_handed, all_of, all_there, ap, append-nil, append_assoc, class_in, class_is, class_puts, cond, drop, each_local, eqb-true, false, filter-append, goes_through, handed, hands_from, home, if◌then◌else◌, local_of, map, pipe_at, piped, puts_to, refl, same_site, setting_of, slice_get, subst, suc, sym, take, take-append-drop, time_of, times_in, true, zero, ℕ, ◌++◌, ◌∙◌, ◌∷◌, ◌≡◌}
 use Rattle.sdd_invariants.proofs.Homes.{homed}
 use Rattle.sdd_invariants.proofs.PutBy.{d_pipes_none}
 use Rattle.sdd_invariants.proofs.Bools.{not_both}
@@ -27,7 +27,7 @@ homed_at cat at (x ∷ ms) (suc k) m h e = homed_at cat at ms k m h.1 e
 none_homed : (cat : Catalogue) (at : Site) (m : Msg) → piped m ≡ None → IsHomed cat at m
 none_homed cat at m p c t e = let q : ◌≡◌ {A = Option (ℕ × ℕ)} None (Some (c, t)) = sym p ∙ e in cc
 
-pub put_at_home : (g : Given) (from b : Site) (log : Log) (k : ℕ) (m : Msg) → IsPermitted g log
+pub put_at_home : (g : Input) (from b : Site) (log : Log) (k : ℕ) (m : Msg) → IsPermitted g log
     → slice_get (puts_to b (local_of g from log)) k ≡ Some m → IsHomed g.catalogue from m
 put_at_home g U b log k m h e = homed_at g.catalogue U (puts_to b (local_of g U log)) k m (homed (setting_of g U) b (local_of g U log) (u_fair g log h)) e
 put_at_home g (T t) b log k m h e =
@@ -42,7 +42,7 @@ IsHomeHand cat l (Submits n txn) = Unit {0}
 IsHomeHand cat l (Redeclared force t) = Unit {0}
 IsHomeHand cat l (Did act) = Unit {0}
 
-home_hands : (g : Given) (at : Site) (log : Log) → IsPermitted g log → Each (IsHomeHand g.catalogue) (local_of g at log)
+home_hands : (g : Input) (at : Site) (log : Log) → IsPermitted g log → Each (IsHomeHand g.catalogue) (local_of g at log)
 home_hands g at = each_local g at (IsHomeHand g.catalogue) (record {
   handed = λ log p from n m a i. put_at_home g from at log (handed from at log) m p (hand_was_put g log from at n m a).1;
   ticked = λ log p n i. tt;
@@ -74,20 +74,20 @@ handed_from cat c (Handed from m ∷ l) h =
     (λ e. let r = class_and_time c (piped m) e in let q : home cat c ≡ from = h.0 c r.0 r.1 in subst (λ x. same_site (home cat c) x ≡ true) q (site_self (home cat c))) (handed_from cat c l h.1) refl
 handed_from cat c (_ ∷ l) h = handed_from cat c l h.1
 
-pub pipe_is : (g : Given) (c : ℕ) (d : DmNo) (log : Log) → IsPermitted g log
+pub pipe_is : (g : Input) (c : ℕ) (d : DmNo) (log : Log) → IsPermitted g log
     → all_of (pipe_at g c d log) ≡ class_in c (take (handed (home g.catalogue c) (D d) log) (puts_to (D d) (local_of g (home g.catalogue c) log)))
 pipe_is g c d log h =
     all_there c (local_of g (D d) log) ∙ handed_from g.catalogue c (local_of g (D d) log) (home_hands g (D d) log h)
     ∙ ap (class_in c) (in_order g log (home g.catalogue c) (D d) h)
 
-pub in_pipe : (g : Given) (c : ℕ) (d : DmNo) (log : Log) → IsPermitted g log → (more : List Msg) × (class_puts g c d log ≡ all_of (pipe_at g c d log) ++ more)
+pub in_pipe : (g : Input) (c : ℕ) (d : DmNo) (log : Log) → IsPermitted g log → (more : List Msg) × (class_puts g c d log ≡ all_of (pipe_at g c d log) ++ more)
 in_pipe g c d log h =
     let n : ℕ = handed (home g.catalogue c) (D d) log in
     let ps : List Msg = puts_to (D d) (local_of g (home g.catalogue c) log) in
     (class_in c (drop n ps), ap (class_in c) (sym (take-append-drop n ps)) ∙ filter-append (goes_through c) (take n ps) (drop n ps) ∙ ap (λ xs. xs ++ class_in c (drop n ps)) (sym (pipe_is g c d log h)))
 
 -- and it stays so in every log that goes on from this one
-pub in_pipe_later : (g : Given) (c : ℕ) (d : DmNo) (later log : Log) → IsPermitted g log
+pub in_pipe_later : (g : Input) (c : ℕ) (d : DmNo) (later log : Log) → IsPermitted g log
     → (more : List Msg) × (class_puts g c d (later ++ log) ≡ all_of (pipe_at g c d log) ++ more)
 in_pipe_later g c d later log h =
     let i = in_pipe g c d log h in

@@ -1,6 +1,6 @@
 -- An Apply follows the Commit that put its WRITE; within a class a module applies in the order of timestamps and leaves
 -- none out; and an Answer stands behind the Applies of its class with smaller timestamps, and before the others.
-use Rattle.sdd_invariants.proofs.All.{Act, Apply, Attempt, Bases, Bool, Change, ClassNo, D, Did, DmNo, Does, Each, Given, IsApplied, IsApplyOf, IsFair, IsOf, IsPermitted, IsPutAt, IsPutBy, IsReadStep, IsWrite, List, May, Msg, None, Null, Option, Read, Rec, Records, Setting, Site, Some, Ts, TxnNo, Write, [], allowed_act, ap, arith, by_record, by_wait, changes_at, changes_to, class_in, class_is, class_no, class_puts, commit_act, cond, dm_no, effect, eqb-true, false, filter_map, goes_through, head, home, in_passing, inl, inr, is_empty, is_processing, length, local_of, not, number_of, or_left, or_right, pipe, pipe_at, place_within, puts_to, range_with_len, refl, results, sends_of_act, setting_of, slice_get, subst, suc, sym, time_at, time_of, to_site, true, txn_no, view_of, waits, write_at, write_to, zero, ℕ, ◌++◌, ◌+◌, ◌<◌, ◌==◌, ◌||◌, ◌∙◌, ◌∷◌, ◌≡◌, ◌≤◌, ◌⊎◌}
+use Rattle.sdd_invariants.proofs.All.{Act, Apply, Attempt, Bases, Bool, Change, ClassNo, D, Did, DmNo, Does, Each, Input, IsApplied, IsApplyOf, IsFair, IsOf, IsPermitted, IsPutAt, IsPutBy, IsReadStep, IsWrite, List, May, Msg, None, Null, Option, Read, Rec, Records, Setting, Site, Some, Ts, TxnNo, Write, [], allowed_act, ap, arith, by_record, by_wait, changes_at, changes_to, class_in, class_is, class_no, class_puts, commit_act, cond, dm_no, effect, eqb-true, false, filter_map, goes_through, head, home, in_passing, inl, inr, is_empty, is_processing, length, local_of, not, number_of, or_left, or_right, pipe, pipe_at, place_within, puts_to, range_with_len, refl, results, sends_of_act, setting_of, slice_get, subst, suc, sym, time_at, time_of, to_site, true, txn_no, view_of, waits, write_at, write_to, zero, ℕ, ◌++◌, ◌+◌, ◌<◌, ◌==◌, ◌||◌, ◌∙◌, ◌∷◌, ◌≡◌, ◌≤◌, ◌⊎◌}
 use Rattle.sdd_invariants.proofs.Origins.{is_put, not_empty, was_put}
 use Rattle.sdd_invariants.proofs.ReadsPut.{put_by}
 use Rattle.sdd_invariants.proofs.WritesPut.{goes_write, write_is}
@@ -35,7 +35,7 @@ out_class c (x ∷ ms) k m e =
       | false ↦ λ p q. let i = out_class c ms k m q in (suc i.0, i.1, i.2)
     ] refl e
 
-pub origin : (g : Given) (c : ℕ) (d : DmNo) (log : Log) (k : ℕ) (m : Msg) → IsPermitted g log
+pub origin : (g : Input) (c : ℕ) (d : DmNo) (log : Log) (k : ℕ) (m : Msg) → IsPermitted g log
     → slice_get (class_puts g c d log) k ≡ Some m → IsPutAt g log c d m
 origin g c d log k m h e =
     let at : Site = home g.catalogue c in
@@ -47,7 +47,7 @@ origin g c d log k m h e =
     record { later = l.later; act = p.act; before = l.rest; is = l.is; place = p.place; there = p.there; by = subst (λ b. IsPutBy (setting_of g at) b p.act m) (sym l.local_is) by; of_class = o.2 }
 
 -- what stands at the head of a pipe
-pub head_put : (g : Given) (c : ℕ) (d : DmNo) (log : Log) (m : Msg) → IsPermitted g log → head (pipe_at g c d log) ≡ Some m → IsPutAt g log c d m
+pub head_put : (g : Input) (c : ℕ) (d : DmNo) (log : Log) (m : Msg) → IsPermitted g log → head (pipe_at g c d log) ≡ Some m → IsPutAt g log c d m
 head_put g c d log m h e = origin g c d log (length (pipe_at g c d log).processed) m h (head_place g c d [] log m h e)
 
 -- a WRITE goes where a changed fragment has a copy, and of class 0 everywhere
@@ -92,7 +92,7 @@ commit_put_is s c bases a d k m e =
     (write_is s.catalogue c a xs d.0 m i, not_none here (c == 0) (cond_true (not (is_empty here) || (c == 0)) (D d, w) (D d, m) i))
 
 -- an Apply follows the Commit of the attempt with its transaction, timestamp and class, and it is at a module that this touches
-pub write_origin : (g : Given) (log : Log) (k : ℕ) (d : DmNo) (ts : Ts) (of : ClassNo) (txn : TxnNo) (changes : List Change)
+pub write_origin : (g : Input) (log : Log) (k : ℕ) (d : DmNo) (ts : Ts) (of : ClassNo) (txn : TxnNo) (changes : List Change)
     → of.0 ≡ k → IsPutAt g log k d (Write ts of txn changes) → IsApplyOf g log d k txn.0 ts.0
 write_origin g log k d ts of txn changes e p =
     let at : Site = home g.catalogue k in
@@ -130,7 +130,7 @@ apply_head s l k txn of dm ts sends (by_record j m r ss lt p i may e) =
     let x = apply_may s l j (waits j l) m r txn of dm ts may (sym same) in
     (x.0, subst (λ y. head (pipe y l) ≡ Some (Write ts of txn x.0)) (sym at) (i ∙ ap (λ y. Some y) x.1))
 
-pub apply_of_head : (g : Given) (log : Log) (d : DmNo) (k : ℕ) (txn : TxnNo) (of : ClassNo) (dm : DmNo) (ts : Ts) (sends : List (Site × Msg))
+pub apply_of_head : (g : Input) (log : Log) (d : DmNo) (k : ℕ) (txn : TxnNo) (of : ClassNo) (dm : DmNo) (ts : Ts) (sends : List (Site × Msg))
     → IsPermitted g (Does (D d) (Records k (Apply txn of dm ts) sends) ∷ log)
     → (changes : List Change) × (head (pipe_at g k d log) ≡ Some (Write ts of txn changes))
 apply_of_head g log d k txn of dm ts sends h =
@@ -141,7 +141,7 @@ apply_of_head g log d k txn of dm ts sends h =
 pub class_number : (c k t : ℕ) → class_is k (Some (c, t)) ≡ true → c ≡ k
 class_number c k t e = eqb-true c k e
 
-pub apply_follows : (g : Given) (log : Log) (d : DmNo) (k : ℕ) (txn : TxnNo) (of : ClassNo) (dm : DmNo) (ts : Ts) (sends : List (Site × Msg))
+pub apply_follows : (g : Input) (log : Log) (d : DmNo) (k : ℕ) (txn : TxnNo) (of : ClassNo) (dm : DmNo) (ts : Ts) (sends : List (Site × Msg))
     → IsPermitted g (Does (D d) (Records k (Apply txn of dm ts) sends) ∷ log) → (of.0 ≡ k) × IsApplyOf g log d k txn.0 ts.0
 apply_follows g log d k txn of dm ts sends h =
     let x = apply_of_head g log d k txn of dm ts sends h in
@@ -151,7 +151,7 @@ apply_follows g log d k txn of dm ts sends h =
 
 -- of a class the Applies at a module rise: what was applied has a smaller timestamp than the WRITE at the head; so an
 -- Apply is the only one of its transaction there
-pub applied_below : (g : Given) (log : Log) (d : DmNo) (k : ℕ) (ts : Ts) (of : ClassNo) (txn : TxnNo) (changes : List Change) (a : Attempt)
+pub applied_below : (g : Input) (log : Log) (d : DmNo) (k : ℕ) (ts : Ts) (of : ClassNo) (txn : TxnNo) (changes : List Change) (a : Attempt)
     → IsPermitted g log → number_of (home g.catalogue k) ≤ 63 → head (pipe_at g k d log) ≡ Some (Write ts of txn changes) → IsApplied g log d k a → a.ts < ts.0
 applied_below g log d k ts of txn changes a h small e x =
     let l : site.Log = local_of g (D d) log in
@@ -168,7 +168,7 @@ applied_below g log d k ts of txn changes a h small e x =
     (place_within (pipe k l).processed x.place z.0 z.1)
 
 -- the WRITE of a Commit to a module that it touches
-pub commit_put : (g : Given) (c : ℕ) (d : DmNo) (later log : Log) (bases : Bases) (a : Attempt) → 1 ≤ d.0 → d.0 ≤ g.catalogue.dms
+pub commit_put : (g : Input) (c : ℕ) (d : DmNo) (later log : Log) (bases : Bases) (a : Attempt) → 1 ≤ d.0 → d.0 ≤ g.catalogue.dms
     → ((c == 0) ≡ true) ⊎ (0 < length (changes_to g bases a d))
     → (i : ℕ) × (slice_get (class_puts g c d (later ++ Does (home g.catalogue c) (commit_act g.catalogue bases c a) ∷ log)) i ≡ Some (Write (time_at a.ts) (class_no c) (txn_no a.txn) (changes_to g bases a d)))
 commit_put g c d later log bases a lo hi t =
@@ -186,7 +186,7 @@ commit_put g c d later log bases a lo hi t =
 
 -- at a head m of class c, a transaction of c that is committed anywhere in the log and touches the module: it is applied
 -- where its timestamp is smaller than the time of m, and isn't where it is greater
-pub around_applied : (g : Given) (c : ℕ) (d : DmNo) (later log later2 log2 : Log) (m : Msg) (bases : Bases) (a : Attempt)
+pub around_applied : (g : Input) (c : ℕ) (d : DmNo) (later log later2 log2 : Log) (m : Msg) (bases : Bases) (a : Attempt)
     → IsPermitted g (later ++ log) → number_of (home g.catalogue c) ≤ 63 → 1 ≤ d.0 → d.0 ≤ g.catalogue.dms → head (pipe_at g c d log) ≡ Some m
     → later ++ log ≡ later2 ++ Does (home g.catalogue c) (commit_act g.catalogue bases c a) ∷ log2 → ((c == 0) ≡ true) ⊎ (0 < length (changes_to g bases a d))
     → (a.ts < time_of m → IsApplied g log d c a) × (time_of m < a.ts → IsApplied g log d c a → ⊥)

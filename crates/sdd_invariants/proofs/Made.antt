@@ -1,5 +1,5 @@
 -- The log of a site after an entry, and the place of each of its entries in the log of everything.
-use Rattle.sdd_invariants.proofs.All.{Act, Bool, Did, Does, Force, Given, Hand, Handed, IsActAt, IsAt, IsHandAt, IsPermitted, IsSubmitAt, Mark, Msg, None, Option, Redeclared, Redeclares, Site, Some, Submits, Submitted, T, Tick, Ticked, Txn, U, [], ap, false, force_at, forced, given_to, if◌then◌else◌, local_of, made, redeclares, refl, same_site, subst, suc, sym, true, txn_at, with_force, with_made, with_submit, ℕ, ◌++◌, ◌∙◌, ◌∷◌, ◌≡◌}
+use Rattle.sdd_invariants.proofs.All.{Act, Bool, Did, Does, Force, Hand, Handed, Input, IsActAt, IsAt, IsHandAt, IsPermitted, IsSubmitAt, Mark, Msg, None, Option, Redeclared, Redeclares, Site, Some, Submits, Submitted, T, Tick, Ticked, Txn, U, [], ap, false, force_at, forced, given_to, if◌then◌else◌, local_of, made, redeclares, refl, same_site, subst, suc, sym, true, txn_at, with_force, with_made, with_submit, ℕ, ◌++◌, ◌∙◌, ◌∷◌, ◌≡◌}
 use Rattle.sdd_invariants.proofs.Bools.{not_both}
 use Rattle.sdd_invariants.proofs.Sites.{site_is, site_self}
 use Rattle.sdd_log.specs.All.{Log}
@@ -18,7 +18,7 @@ if_step : (b : Bool) (o : Option site.Entry) (k l : site.Log) → k ≡ with_mad
 if_step true o k l e = e
 if_step false o k l e = refl
 
-pub local_step : (g : Given) (at : Site) (e : Entry) (log : Log) → local_of g at (e ∷ log) ≡ with_made (made g at log e) (local_of g at log)
+pub local_step : (g : Input) (at : Site) (e : Entry) (log : Log) → local_of g at (e ∷ log) ≡ with_made (made g at log e) (local_of g at log)
 local_step g at (Mark (Tick t n)) log = if_step (same_site at (T t)) (Some (Ticked n)) (Ticked n ∷ local_of g at log) (local_of g at log) refl
 local_step g at (Redeclares t) log = force_step at (force_at g (suc (redeclares log))) t (local_of g at log)
 local_step g at (Hand from to n m) log = if_step (same_site at to) (Some (Handed from m)) (Handed from m ∷ local_of g at log) (local_of g at log) refl
@@ -38,23 +38,23 @@ some_of : (b : Bool) (o : Option site.Entry) (y : site.Entry) → (if b then o e
 some_of true o y e = (refl, e)
 some_of false o y e = cc
 
-abbrev pub IsMakerOf : Site → site.Entry → Given → Entry → Type 0
+abbrev pub IsMakerOf : Site → site.Entry → Input → Entry → Type 0
 IsMakerOf at (Did act) g e = e ≡ Does at act
 IsMakerOf at (Handed from m) g e = (n : ℕ) × (e ≡ Hand from at n m)
 IsMakerOf at (Submits n t) g e = (e ≡ Submitted at n) × (txn_at g n ≡ Some t)
 IsMakerOf at (Ticked n) g e = Unit {0}
 IsMakerOf at (Redeclared force t) g e = Unit {0}
 
-maker_given : (g : Given) (at to : Site) (n : ℕ) (o : Option Txn) (x : site.Entry) → txn_at g n ≡ o → to ≡ at
+maker_given : (g : Input) (at to : Site) (n : ℕ) (o : Option Txn) (x : site.Entry) → txn_at g n ≡ o → to ≡ at
     → given_to n o ≡ Some x → IsMakerOf at x g (Submitted to n)
 maker_given g at to n None x f p e = cc
 maker_given g at to n (Some t) x f p e = let q : Submits n t ≡ x = cc in subst (λ y. IsMakerOf at y g (Submitted to n)) q (ap (λ s. Submitted s n) p, f)
 
-maker_forced : (g : Given) (at s : Site) (force : Force) (t u : ℕ) (x : site.Entry) → forced at force t ≡ Some x → IsMakerOf s x g (Redeclares u)
+maker_forced : (g : Input) (at s : Site) (force : Force) (t u : ℕ) (x : site.Entry) → forced at force t ≡ Some x → IsMakerOf s x g (Redeclares u)
 maker_forced g (T n) s force t u x e = let q : Redeclared force t ≡ x = cc in subst (λ y. IsMakerOf s y g (Redeclares u)) q tt
 maker_forced g _ s force t u x e = cc
 
-pub maker : (g : Given) (at : Site) (log : Log) (e : Entry) (x : site.Entry) → made g at log e ≡ Some x → IsMakerOf at x g e
+pub maker : (g : Input) (at : Site) (log : Log) (e : Entry) (x : site.Entry) → made g at log e ≡ Some x → IsMakerOf at x g e
 maker g at log (Mark (Tick t n)) x h = let r = some_if (same_site at (T t)) (Ticked n) x h in subst (λ y. IsMakerOf at y g (Mark (Tick t n))) r.1 tt
 maker g at log (Redeclares t) x h = maker_forced g at at (force_at g (suc (redeclares log))) t t x h
 maker g at log (Hand from to n m) x h =
@@ -85,11 +85,11 @@ at_beginning : {A : Type 0} (force : Force) (later before : site.Log) (x : site.
 at_beginning force [] before x f e = let p : Redeclared force 0 ≡ x = cc in not_forced x (Redeclared force 0) p refl f
 at_beginning force (y ∷ later) before x f e = let t : [] ≡ later ++ x ∷ before = cc in no_place later before x t
 
-at_more : (g : Given) (at : Site) (e : Entry) (log : Log) (x : site.Entry) (before : site.Log) → IsAt g at log x before → IsAt g at (e ∷ log) x before
+at_more : (g : Input) (at : Site) (e : Entry) (log : Log) (x : site.Entry) (before : site.Log) → IsAt g at log x before → IsAt g at (e ∷ log) x before
 at_more g at e log x before h =
     record { later = e ∷ h.later; entry = h.entry; rest = h.rest; is = ap (λ l. e ∷ l) h.is; local_is = h.local_is; makes = h.makes }
 
-place_in : (g : Given) (at : Site) (e : Entry) (log : Log) (o : Option site.Entry) (later : site.Log) (x : site.Entry) (before : site.Log)
+place_in : (g : Input) (at : Site) (e : Entry) (log : Log) (o : Option site.Entry) (later : site.Log) (x : site.Entry) (before : site.Log)
     → made g at log e ≡ o → ((k : site.Log) → local_of g at log ≡ k ++ x ∷ before → IsAt g at log x before)
     → with_made o (local_of g at log) ≡ later ++ x ∷ before → IsAt g at (e ∷ log) x before
 place_in g at e log None later x before m i q = at_more g at e log x before (i later q)
@@ -101,28 +101,28 @@ place_in g at e log (Some y) (z ∷ later) x before m i q =
     let t : local_of g at log ≡ later ++ x ∷ before = cc in
     at_more g at e log x before (i later t)
 
-place : (g : Given) (at : Site) (log : Log) (later : site.Log) (x : site.Entry) (before : site.Log) → is_forced x ≡ false
+place : (g : Input) (at : Site) (log : Log) (later : site.Log) (x : site.Entry) (before : site.Log) → is_forced x ≡ false
     → local_of g at log ≡ later ++ x ∷ before → IsAt g at log x before
 place g (T t) [] later x before f q = at_beginning (force_at g 0) later before x f q
 place g at (e ∷ log) later x before f q =
     place_in g at e log (made g at log e) later x before refl (λ k p. place g at log k x before f p) (sym (local_step g at e log) ∙ q)
 place g _ [] later x before f q = no_place later before x q
 
-pub place_of_act : (g : Given) (at : Site) (log : Log) (later : site.Log) (act : Act) (before : site.Log)
+pub place_of_act : (g : Input) (at : Site) (log : Log) (later : site.Log) (act : Act) (before : site.Log)
     → local_of g at log ≡ later ++ Did act ∷ before → IsActAt g at log act before
 place_of_act g at log later act before e =
     let i = place g at log later (Did act) before refl e in
     let d = maker g at i.rest i.entry (Did act) i.makes in
     record { later = i.later; rest = i.rest; is = i.is ∙ ap (λ x. i.later ++ x ∷ i.rest) d; local_is = i.local_is }
 
-pub place_of_hand : (g : Given) (at : Site) (log : Log) (later : site.Log) (from : Site) (m : Msg) (before : site.Log)
+pub place_of_hand : (g : Input) (at : Site) (log : Log) (later : site.Log) (from : Site) (m : Msg) (before : site.Log)
     → local_of g at log ≡ later ++ Handed from m ∷ before → IsHandAt g at log from m before
 place_of_hand g at log later from m before e =
     let i = place g at log later (Handed from m) before refl e in
     let d = maker g at i.rest i.entry (Handed from m) i.makes in
     record { later = i.later; rest = i.rest; number = d.0; is = i.is ∙ ap (λ x. i.later ++ x ∷ i.rest) d.1; local_is = i.local_is }
 
-pub place_of_submit : (g : Given) (at : Site) (log : Log) (later : site.Log) (n : ℕ) (text : Txn) (before : site.Log)
+pub place_of_submit : (g : Input) (at : Site) (log : Log) (later : site.Log) (n : ℕ) (text : Txn) (before : site.Log)
     → local_of g at log ≡ later ++ Submits n text ∷ before → IsSubmitAt g at log n text before
 place_of_submit g at log later n text before e =
     let i = place g at log later (Submits n text) before refl e in
@@ -134,7 +134,7 @@ more_at None more l k all e f = (more, e ∙ f)
 more_at (Some y) more l k all e f = (y ∷ more, e ∙ ap (λ z. y ∷ z) f)
 
 -- an entry of the log of everything is in its site's log
-pub local_at : (g : Given) (at : Site) (later rest : Log) (e : Entry) (x : site.Entry) → made g at rest e ≡ Some x
+pub local_at : (g : Input) (at : Site) (later rest : Log) (e : Entry) (x : site.Entry) → made g at rest e ≡ Some x
     → (more : site.Log) × (local_of g at (later ++ e ∷ rest) ≡ more ++ x ∷ local_of g at rest)
 local_at g at [] rest e x m = ([], local_step g at e rest ∙ ap (λ o. with_made o (local_of g at rest)) m)
 local_at g at (y ∷ later) rest e x m =
@@ -143,16 +143,16 @@ local_at g at (y ∷ later) rest e x m =
     (local_step g at y (later ++ e ∷ rest)) i.1
 
 -- a later log's local log goes on from an earlier one's
-pub local_grows : (g : Given) (at : Site) (later log : Log) → (more : site.Log) × (local_of g at (later ++ log) ≡ more ++ local_of g at log)
+pub local_grows : (g : Input) (at : Site) (later log : Log) → (more : site.Log) × (local_of g at (later ++ log) ≡ more ++ local_of g at log)
 local_grows g at [] log = ([], refl)
 local_grows g at (y ∷ later) log =
     let i = local_grows g at later log in
     more_at (made g at (later ++ log) y) i.0 (local_of g at (later ++ log)) (local_of g at log) (local_of g at (y ∷ (later ++ log)))
     (local_step g at y (later ++ log)) i.1
 
-pub own_act : (g : Given) (at : Site) (act : Act) (log : Log) → local_of g at (Does at act ∷ log) ≡ Did act ∷ local_of g at log
+pub own_act : (g : Input) (at : Site) (act : Act) (log : Log) → local_of g at (Does at act ∷ log) ≡ Did act ∷ local_of g at log
 own_act g at act log = rw (site_self at) refl
 
-pub permitted_before : (g : Given) (later log : Log) → IsPermitted g (later ++ log) → IsPermitted g log
+pub permitted_before : (g : Input) (later log : Log) → IsPermitted g (later ++ log) → IsPermitted g log
 permitted_before g [] log h = h
 permitted_before g (e ∷ later) log h = permitted_before g later log h.1

@@ -1,5 +1,5 @@
 -- An attempt has at most one Answer at a module.
-use Rattle.sdd_invariants.proofs.All.{Act, Answer, Bool, ClassNo, Cond, D, Did, DmNo, Does, Each, Given, Handed, IsFair, IsNew, IsPermitted, List, Msg, Pipe, Queued, Read, Records, Sends, Setting, Site, Some, Start, Ts, TxnNo, Use, [], ap, append_assoc, arith, class_puts, false, head, head_of, head_processed, home, if◌then◌else◌, inl, inr, length, length-append, local_of, next_stamp, number_of, one_or_none, pipe, pipe_acted, pipe_at, queue, read_at, refl, setting_of, slice_get, start_at, start_more, starts_of, subst, suc, sym, true, ℕ, ◌&&◌, ◌++◌, ◌==◌, ◌∙◌, ◌∷◌, ◌≡◌, ◌≤◌}
+use Rattle.sdd_invariants.proofs.All.{Act, Answer, Bool, ClassNo, Cond, D, Did, DmNo, Does, Each, Handed, Input, IsFair, IsNew, IsPermitted, List, Msg, Pipe, Queued, Read, Records, Sends, Setting, Site, Some, Start, Ts, TxnNo, Use, [], ap, append_assoc, arith, class_puts, false, head, head_of, head_processed, home, if◌then◌else◌, inl, inr, length, length-append, local_of, next_stamp, number_of, one_or_none, pipe, pipe_acted, pipe_at, queue, read_at, refl, setting_of, slice_get, start_at, start_more, starts_of, subst, suc, sym, true, ℕ, ◌&&◌, ◌++◌, ◌==◌, ◌∙◌, ◌∷◌, ◌≡◌, ◌≤◌}
 use Rattle.sdd_invariants.proofs.Places.{compare}
 use Rattle.sdd_invariants.proofs.Recorded.{head_left}
 use Rattle.sdd_invariants.proofs.Processed.{own_record, processed_handed, processed_more}
@@ -71,7 +71,7 @@ read_own : (c : ℕ) (ts : Ts) (k : ClassNo) (txn : TxnNo) (n : ℕ) (ds : List 
 read_own c ts k txn n ds us t e f = let q : (k.0 == c) ≡ true = ap (λ y. y == c) e ∙ same_number c in rw q (ap (λ y. Some y) f)
 
 -- a READ that is answered doesn't stand at the head again: an Answer, and behind it a READ with the same timestamp
-pub answered_there : (g : Given) (c : ℕ) (d : DmNo) (later before : Log) (dm : DmNo) (sends : List (Site × Msg)) (ts1 ts2 : Ts) (k1 k2 : ClassNo) (txn txn1 txn2 : TxnNo) (n n1 n2 : ℕ) (ds1 ds2 : List Cond) (us1 us2 : List Use)
+pub answered_there : (g : Input) (c : ℕ) (d : DmNo) (later before : Log) (dm : DmNo) (sends : List (Site × Msg)) (ts1 ts2 : Ts) (k1 k2 : ClassNo) (txn txn1 txn2 : TxnNo) (n n1 n2 : ℕ) (ds1 ds2 : List Cond) (us1 us2 : List Use)
     → IsPermitted g (later ++ Does (D d) (Records c (Answer txn n dm) sends) ∷ before) → number_of (home g.catalogue c) ≤ 63
     → head (pipe_at g c d before) ≡ Some (Read ts1 k1 txn1 n1 ds1 us1)
     → head (pipe_at g c d (later ++ Does (D d) (Records c (Answer txn n dm) sends) ∷ before)) ≡ Some (Read ts2 k2 txn2 n2 ds2 us2) → ts1.0 ≡ ts2.0 → ⊥
@@ -101,7 +101,7 @@ answered_there g c d later before dm sends ts1 ts2 k1 k2 txn txn1 txn2 n n1 n2 d
     omega arith
 
 -- an Answer to a READ, and behind it a head with the READ of the same transaction and attempt
-pub answered_once : (g : Given) (c : ℕ) (d : DmNo) (later before : Log) (dm : DmNo) (sends : List (Site × Msg)) (ts1 ts2 : Ts) (k1 k2 : ClassNo) (txn1 txn2 : TxnNo) (n1 n2 : ℕ) (ds1 ds2 : List Cond) (us1 us2 : List Use)
+pub answered_once : (g : Input) (c : ℕ) (d : DmNo) (later before : Log) (dm : DmNo) (sends : List (Site × Msg)) (ts1 ts2 : Ts) (k1 k2 : ClassNo) (txn1 txn2 : TxnNo) (n1 n2 : ℕ) (ds1 ds2 : List Cond) (us1 us2 : List Use)
     → IsPermitted g (later ++ Does (D d) (Records c (Answer txn1 n1 dm) sends) ∷ before) → number_of (home g.catalogue c) ≤ 63
     → head (pipe_at g c d before) ≡ Some (Read ts1 k1 txn1 n1 ds1 us1)
     → head (pipe_at g c d (later ++ Does (D d) (Records c (Answer txn1 n1 dm) sends) ∷ before)) ≡ Some (Read ts2 k2 txn2 n2 ds2 us2)

@@ -1,5 +1,5 @@
 -- Only what is put changes the list of messages that were put on a link.
-use Rattle.sdd_invariants.proofs.All.{Ack, Act, Bool, Call, Deliver, Delivers, Did, Does, Force, Given, Hand, Handed, Link, List, Lose, Loses, Mark, Message, Msg, None, Option, Packet, Puts, Redeclares, Repeat, Repeats, Resend, Resends, Site, Some, Submitted, T, Tick, Ticked, Txn, U, [], ap, append-nil, append_assoc, arrives, calls_of, deliver, false, force_at, forced, given_to, if◌then◌else◌, link, local_of, lose, made, on_link, packet_at, put_by, puts, puts_to, redeclares, refl, repeat, resend, same_site, sends_of_act, sent, suc, sym, to_site, true, turned, txn_at, with_made, with_packet, without_packet, ℕ, ◌&&◌, ◌++◌, ◌∙◌, ◌∷◌, ◌≡◌}
+use Rattle.sdd_invariants.proofs.All.{Ack, Act, Bool, Call, Deliver, Delivers, Did, Does, Force, Hand, Handed, Input, Link, List, Lose, Loses, Mark, Message, Msg, None, Option, Packet, Puts, Redeclares, Repeat, Repeats, Resend, Resends, Site, Some, Submitted, T, Tick, Ticked, Txn, U, [], ap, append-nil, append_assoc, arrives, calls_of, deliver, false, force_at, forced, given_to, if◌then◌else◌, link, local_of, lose, made, on_link, packet_at, put_by, puts, puts_to, redeclares, refl, repeat, resend, same_site, sends_of_act, sent, suc, sym, to_site, true, turned, txn_at, with_made, with_packet, without_packet, ℕ, ◌&&◌, ◌++◌, ◌∙◌, ◌∷◌, ◌≡◌}
 use Rattle.sdd_invariants.proofs.Bools.{if_way}
 use Rattle.sdd_invariants.proofs.Made.{local_step}
 use Rattle.sdd_log.specs.All.{Log}
@@ -84,7 +84,7 @@ force_puts b _ force t = refl
 nothing_more : (xs ys zs : List Msg) → zs ≡ xs → ys ≡ [] → zs ≡ xs ++ ys
 nothing_more xs ys zs e f = e ∙ sym (append-nil xs) ∙ ap (λ l. xs ++ l) (sym f)
 
-pub sent_grows : (g : Given) (a b : Site) (e : Entry) (log : Log) → sent a b (e ∷ log) ≡ sent a b log ++ put_by b (made g a log e)
+pub sent_grows : (g : Input) (a b : Site) (e : Entry) (log : Log) → sent a b (e ∷ log) ≡ sent a b log ++ put_by b (made g a log e)
 sent_grows g a b (Mark (Deliver x y k)) log = nothing_more (sent a b log) [] _ (by_delivers a b x y k (calls_of log)) refl
 sent_grows g a b (Mark (Lose x y k)) log = nothing_more (sent a b log) [] _ (by_loses a b x y k (calls_of log)) refl
 sent_grows g a b (Mark (Repeat x y k)) log = nothing_more (sent a b log) [] _ (by_repeats a b x y k (calls_of log)) refl
@@ -100,18 +100,18 @@ puts_step : (b : Site) (o : Option site.Entry) (l : site.Log) → puts_to b (wit
 puts_step b (Some (Did act)) l = refl
 puts_step b _ l = sym (append-nil _)
 
-pub puts_grow : (g : Given) (a b : Site) (e : Entry) (log : Log)
+pub puts_grow : (g : Input) (a b : Site) (e : Entry) (log : Log)
     → puts_to b (local_of g a (e ∷ log)) ≡ puts_to b (local_of g a log) ++ put_by b (made g a log e)
 puts_grow g a b e log = ap (puts_to b) (local_step g a e log) ∙ puts_step b (made g a log e) (local_of g a log)
 
 -- what was put on a link is what its first site's log says
-pub sent_is : (g : Given) (a b : Site) (log : Log) → sent a b log ≡ puts_to b (local_of g a log)
+pub sent_is : (g : Input) (a b : Site) (log : Log) → sent a b log ≡ puts_to b (local_of g a log)
 sent_is g U b [] = refl
 sent_is g a b (e ∷ log) = sent_grows g a b e log ∙ ap (λ xs. xs ++ put_by b (made g a log e)) (sent_is g a b log) ∙ sym (puts_grow g a b e log)
 sent_is g _ b [] = refl
 
 -- what was put stays, and more comes behind it
-pub puts_more : (g : Given) (a b : Site) (later log : Log)
+pub puts_more : (g : Input) (a b : Site) (later log : Log)
     → (more : List Msg) × (puts_to b (local_of g a (later ++ log)) ≡ puts_to b (local_of g a log) ++ more)
 puts_more g a b [] log = ([], sym (append-nil _))
 puts_more g a b (e ∷ later) log =

@@ -1,6 +1,6 @@
 -- An Answer splits the WRITEs of a condition's class: those that change one of its fragments are processed before it
 -- exactly where their time is below the condition's.
-use Rattle.sdd_invariants.proofs.All.{Act, AllUnspoilt, Answer, Change, ClassNo, ClassView, Cond, D, DmNo, Does, Each, Given, IsDueEach, IsPermitted, IsReadStep, IsRising, IsUnspoilt, List, May, Msg, None, Pipe, Read, Records, Setting, Site, Some, Ts, TxnNo, Use, Write, [], all_of, allowed_act, ap, append_assoc, arith, by_record, by_wait, class_puts, cond, dec_le, empty_pipe, false, head, head_of, home, in_left, in_passing, inl, inr, is_at_least, is_met, is_processing, length, length-append, list_all, list_any, local_of, map, nat_le, nat_tests, number_of, passed, passed_by, pipe, pipe_at, place_within, setting_of, slice_get, spoiling, spoils, subst, suc, sym, time_of, touches, true, view_of, waits, zero, ℕ, ◌++◌, ◌+◌, ◌<◌, ◌∙◌, ◌∷◌, ◌≡◌, ◌≢◌, ◌≤◌, ◌⊎◌}
+use Rattle.sdd_invariants.proofs.All.{Act, AllUnspoilt, Answer, Change, ClassNo, ClassView, Cond, D, DmNo, Does, Each, Input, IsDueEach, IsPermitted, IsReadStep, IsRising, IsUnspoilt, List, May, Msg, None, Pipe, Read, Records, Setting, Site, Some, Ts, TxnNo, Use, Write, [], all_of, allowed_act, ap, append_assoc, arith, by_record, by_wait, class_puts, cond, dec_le, empty_pipe, false, head, head_of, home, in_left, in_passing, inl, inr, is_at_least, is_met, is_processing, length, length-append, list_all, list_any, local_of, map, nat_le, nat_tests, number_of, passed, passed_by, pipe, pipe_at, place_within, setting_of, slice_get, spoiling, spoils, subst, suc, sym, time_of, touches, true, view_of, waits, zero, ℕ, ◌++◌, ◌+◌, ◌<◌, ◌∙◌, ◌∷◌, ◌≡◌, ◌≢◌, ◌≤◌, ◌⊎◌}
 use Rattle.sdd_invariants.proofs.Waiting.{any_false_at, no_spoiler, processed_in_is, spoils_is, waiting}
 use Rattle.sdd_invariants.proofs.ClassOrder.{class_rises, earlier}
 use Rattle.sdd_invariants.proofs.InPipe.{in_pipe_later}
@@ -78,7 +78,7 @@ processed_stays p more i m e = in_left (all_of p) more i m (in_left p.processed 
 
 -- the split
 
-pub split : (g : Given) (later log : Log) (d : DmNo) (q : Cond) (r : ℕ) (txn : TxnNo) (attempt : ℕ) (module_no : DmNo) (sends : List (Site × Msg)) (ts : Ts) (k : ClassNo) (t : TxnNo) (a : ℕ) (conds : List Cond) (uses : List Use) (n : ℕ) (i : ℕ) (w : Ts) (j : ClassNo) (x : TxnNo) (changes : List Change)
+pub split : (g : Input) (later log : Log) (d : DmNo) (q : Cond) (r : ℕ) (txn : TxnNo) (attempt : ℕ) (module_no : DmNo) (sends : List (Site × Msg)) (ts : Ts) (k : ClassNo) (t : TxnNo) (a : ℕ) (conds : List Cond) (uses : List Use) (n : ℕ) (i : ℕ) (w : Ts) (j : ClassNo) (x : TxnNo) (changes : List Change)
     → IsPermitted g (later ++ Does (D d) (Records r (Answer txn attempt module_no) sends) ∷ log) → number_of (home g.catalogue q.class.0) ≤ 63
     → head (pipe_at g r d log) ≡ Some (Read ts k t a conds uses) → slice_get conds n ≡ Some q → q.class.0 ≢ 0
     → slice_get (class_puts g q.class.0 d (later ++ Does (D d) (Records r (Answer txn attempt module_no) sends) ∷ log)) i ≡ Some (Write w j x changes)

@@ -1,5 +1,5 @@
 -- What is said of a record that a site makes.
-use Rattle.sdd_invariants.proofs.All.{Act, Attempt, Bases, Commit, DmNo, Does, Each, Given, HasAnswer, IsBased, IsFair, IsPermitted, IsStep, Records, Says, Setting, Some, T, TmNo, U, active, allowed_act, base_of, commit_act, contains, home, is_over, local_of, modules_asked, number_of, setting_of, subst, sym, true, ℕ, ◌∙◌, ◌∷◌, ◌≡◌, ◌≤◌}
+use Rattle.sdd_invariants.proofs.All.{Act, Attempt, Bases, Commit, DmNo, Does, Each, HasAnswer, Input, IsBased, IsFair, IsPermitted, IsStep, Records, Says, Setting, Some, T, TmNo, U, active, allowed_act, base_of, commit_act, contains, home, is_over, local_of, modules_asked, number_of, setting_of, subst, sym, true, ℕ, ◌∙◌, ◌∷◌, ◌≡◌, ◌≤◌}
 use Rattle.sdd_invariants.proofs.Recorded.{says}
 use Rattle.sdd_invariants.proofs.Answered.{answered_all}
 use Rattle.sdd_invariants.proofs.Based.{t_based, u_based}
@@ -9,13 +9,13 @@ use Rattle.sdd_invariants.proofs.Made.{own_act}
 use Rattle.sdd_log.specs.All.{Log}
 use Rattle.sdd_log.specs.site_module.SiteLog as site
 
-home_step : (g : Given) (c : ℕ) (log : Log) (act : Act) → IsPermitted g (Does (home g.catalogue c) act ∷ log)
+home_step : (g : Input) (c : ℕ) (log : Log) (act : Act) → IsPermitted g (Does (home g.catalogue c) act ∷ log)
     → IsStep (setting_of g (home g.catalogue c)) (local_of g (home g.catalogue c) log) act
 home_step g c log act h =
     (subst (λ l. Each (IsFair (setting_of g (home g.catalogue c))) l) (own_act g (home g.catalogue c) act log) (home_fair g c (Does (home g.catalogue c) act ∷ log) h)).0
 
 -- a Start and a Commit
-pub says_at : (g : Given) (c : ℕ) (log : Log) (act : Act) → IsPermitted g (Does (home g.catalogue c) act ∷ log)
+pub says_at : (g : Input) (c : ℕ) (log : Log) (act : Act) → IsPermitted g (Does (home g.catalogue c) act ∷ log)
     → number_of (home g.catalogue c) ≤ 63 → Says (setting_of g (home g.catalogue c)) (local_of g (home g.catalogue c) log) act
 says_at g c log act h small =
     says (setting_of g (home g.catalogue c)) (local_of g (home g.catalogue c) log) act small (home_fair g c log h.1) (all_new g (home g.catalogue c) log h.1)
@@ -39,7 +39,7 @@ pub commit_over : (s : Setting) (log : site.Log) (c : ℕ) (bases : Bases) (a : 
 commit_over s log c bases a i e = over_at s log (commit_act s.catalogue bases c a) i a e
 
 -- a Commit has an Answer of its attempt at each module that it reads
-pub commit_answered : (g : Given) (c : ℕ) (log : Log) (bases : Bases) (a : Attempt) (d : DmNo)
+pub commit_answered : (g : Input) (c : ℕ) (log : Log) (bases : Bases) (a : Attempt) (d : DmNo)
     → IsPermitted g (Does (home g.catalogue c) (commit_act g.catalogue bases c a) ∷ log)
     → active (setting_of g (home g.catalogue c)) c (local_of g (home g.catalogue c) log) ≡ Some a
     → contains (modules_asked (setting_of g (home g.catalogue c)) c a.text) d.0 ≡ true → HasAnswer g log d c a
@@ -48,9 +48,9 @@ commit_answered g c log bases a d h e p =
     (commit_over (setting_of g (home g.catalogue c)) (local_of g (home g.catalogue c) log) c bases a (home_step g c log (commit_act g.catalogue bases c a) h) e) p
 
 -- its reply and changes are those of the effect on the database of the attempt's snapshots
-pub t_commit : (g : Given) (t : TmNo) (log : Log) (act : Act) → IsPermitted g (Does (T t) act ∷ log)
+pub t_commit : (g : Input) (t : TmNo) (log : Log) (act : Act) → IsPermitted g (Does (T t) act ∷ log)
     → IsBased (setting_of g (T t)) (base_of g log) (local_of g (T t) log) act
 t_commit g t log act h = t_based (setting_of g (T t)) (base_of g log) (local_of g (T t) log) act (allowed_act g log (Does (T t) act) h.0)
 
-pub u_commit : (g : Given) (log : Log) (act : Act) → IsPermitted g (Does U act ∷ log) → IsBased (setting_of g U) (base_of g log) (local_of g U log) act
+pub u_commit : (g : Input) (log : Log) (act : Act) → IsPermitted g (Does U act ∷ log) → IsBased (setting_of g U) (base_of g log) (local_of g U log) act
 u_commit g log act h = u_based (setting_of g U) (base_of g log) (local_of g U log) act (allowed_act g log (Does U act) h.0)

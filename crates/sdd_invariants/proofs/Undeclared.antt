@@ -1,5 +1,5 @@
 -- H5's Applies, and that a READ of an undeclared transaction is never spoilt.
-use Rattle.sdd_invariants.proofs.All.{Act, Answer, Attempt, Bases, ClassNo, Cond, D, Did, DmNo, Does, Given, HasAnswer, HasApply, HasStart, IsApplied, IsCommitT, IsHigh, IsPermitted, IsRead, IsWriter, List, Msg, Queued, Read, Records, Setting, Site, Some, T, Ts, TxnNo, U, Use, Write, [], active, ap, append_assoc, arith, at_map, changes_to, clock, commit_act, contains, dm_no, dones_of, drawn_so_far, false, head, home, home_of, in_left, in_mapped, inl, inr, length, local_of, next_stamp, number_of, numbers_to, or_left, or_right, pipe_at, place_within, refl, runs, sends_of_act, setting_of, slice_get, spoils, start_at, start_read, start_u, starts, subst, suc, sym, tm_no, to_site, touches, true, u_stamp, undeclared_conditions, view_of, zero, zero_cond, ℕ, ◌++◌, ◌<◌, ◌==◌, ◌∙◌, ◌∷◌, ◌≡◌, ◌≢◌, ◌≤◌}
+use Rattle.sdd_invariants.proofs.All.{Act, Answer, Attempt, Bases, ClassNo, Cond, D, Did, DmNo, Does, HasAnswer, HasApply, HasStart, Input, IsApplied, IsCommitT, IsHigh, IsPermitted, IsRead, IsWriter, List, Msg, Queued, Read, Records, Setting, Site, Some, T, Ts, TxnNo, U, Use, Write, [], active, ap, append_assoc, arith, at_map, changes_to, clock, commit_act, contains, dm_no, dones_of, drawn_so_far, false, head, home, home_of, in_left, in_mapped, inl, inr, length, local_of, next_stamp, number_of, numbers_to, or_left, or_right, pipe_at, place_within, refl, runs, sends_of_act, setting_of, slice_get, spoils, start_at, start_read, start_u, starts, subst, suc, sym, tm_no, to_site, touches, true, u_stamp, undeclared_conditions, view_of, zero, zero_cond, ℕ, ◌++◌, ◌<◌, ◌==◌, ◌∙◌, ◌∷◌, ◌≡◌, ◌≢◌, ◌≤◌}
 use Rattle.sdd_invariants.proofs.Apart.{at_start, drawn_grow, end_at, low_or_high}
 use Rattle.sdd_invariants.proofs.Dones.{all_applied}
 use Rattle.sdd_invariants.proofs.HoldChain.{hold_chain, u_table}
@@ -32,7 +32,7 @@ part_of l f x m e = (f ++ x ∷ [], e ∙ sym (append_assoc f (x ∷ []) m))
 pub part_join : (a b c : Log) → Part a b → Part b c → Part a c
 part_join a b c p q = (p.0 ++ q.0, p.1 ∙ ap (λ l. p.0 ++ l) q.1 ∙ sym (append_assoc p.0 q.0 c))
 
-pub permitted_part : (g : Given) (a b : Log) → IsPermitted g a → Part a b → IsPermitted g b
+pub permitted_part : (g : Input) (a b : Log) → IsPermitted g a → Part a b → IsPermitted g b
 permitted_part g a b h p = permitted_before g p.0 b (subst (IsPermitted g) p.1 h)
 
 -- an Apply of an undeclared transaction follows its Answer at the module
@@ -41,7 +41,7 @@ has_number [] k d e = cc
 has_number (x ∷ ns) zero d e = let p : x ≡ d = cc in let q : (x == d) ≡ true = ap (λ y. x == y) (sym p) ∙ same_number x in or_left (x == d) (contains ns d) q
 has_number (x ∷ ns) (suc k) d e = or_right (x == d) (contains ns d) (has_number ns k d e)
 
-pub answered_before : (g : Given) (k : ℕ) (d : DmNo) (log : Log) (x : ℕ) → IsPermitted g log
+pub answered_before : (g : Input) (k : ℕ) (d : DmNo) (log : Log) (x : ℕ) → IsPermitted g log
     → slice_get (numbers_to g.catalogue.dms) k ≡ Some d.0 → HasApply g log d x
     → (a : Attempt) × (before : Log) × Part log before × HasAnswer g before d 0 a × (a.ts ≡ x)
 answered_before g k d log x h i p =
@@ -57,7 +57,7 @@ answered_before g k d log x h i p =
     (w.attempt, w.before, part_join log p.before w.before p1 (part_of p.before w.later _ w.before w.is), ans, sym w.ts_is ∙ p.ts_is)
 
 -- so its READ doesn't stand at the head again
-not_again : (g : Given) (d : DmNo) (log : Log) (a : Attempt) (ts : Ts) (k : ClassNo) (txn : TxnNo) (n : ℕ) (ds : List Cond) (us : List Use) (before : Log)
+not_again : (g : Input) (d : DmNo) (log : Log) (a : Attempt) (ts : Ts) (k : ClassNo) (txn : TxnNo) (n : ℕ) (ds : List Cond) (us : List Use) (before : Log)
     → IsPermitted g log → head (pipe_at g 0 d log) ≡ Some (Read ts k txn n ds us) → Part log before → HasAnswer g before d 0 a → a.ts ≡ ts.0 → ⊥
 not_again g d log a ts k txn n ds us before h e p w same =
     let ans : Act = Records 0 (Answer w.txn w.attempt (home_of (setting_of g (D d))).dm) w.sends in
@@ -74,7 +74,7 @@ abbrev conds_in : Msg → List Cond
 conds_in (Read ts k txn n ds us) = ds
 conds_in m = []
 
-conds_put : (g : Given) (d : DmNo) (l : site.Log) (q : Queued) (k : ℕ) (m : Msg)
+conds_put : (g : Input) (d : DmNo) (l : site.Log) (q : Queued) (k : ℕ) (m : Msg)
     → slice_get (to_site (D d) (sends_of_act (start_at (setting_of g U) 0 l q))) k ≡ Some m
     → conds_in m ≡ undeclared_conditions g.catalogue (next_stamp (setting_of g U) l)
 conds_put g d l q k m there = elim (start_puts (setting_of g U) 0 (D d) l q) [
@@ -82,7 +82,7 @@ conds_put g d l q k m there = elim (start_puts (setting_of g U) 0 (D d) l q) [
   | inr p ↦ ap conds_in (sym (in_one _ (start_read (setting_of g U) 0 l q p.0) k m p.1 there))
 ]
 
-zero_conds : (g : Given) (d : DmNo) (log : Log) (ts : Ts) (k : ClassNo) (txn : TxnNo) (n : ℕ) (ds : List Cond) (us : List Use)
+zero_conds : (g : Input) (d : DmNo) (log : Log) (ts : Ts) (k : ClassNo) (txn : TxnNo) (n : ℕ) (ds : List Cond) (us : List Use)
     → IsPermitted g log → head (pipe_at g 0 d log) ≡ Some (Read ts k txn n ds us) → ds ≡ undeclared_conditions g.catalogue ts.0
 zero_conds g d log ts k txn n ds us h e =
     let m : Msg = Read ts k txn n ds us in
@@ -93,20 +93,20 @@ zero_conds g d log ts k txn n ds us h e =
     conds_put g d (local_of g U p.before) r.queued p.place m (subst (λ y. slice_get (to_site (D d) (sends_of_act y)) p.place ≡ Some m) r.act_is p.there)
     ∙ ap (undeclared_conditions g.catalogue) (sym r.time_is)
 
-pub read_times : (g : Given) (d : DmNo) (log : Log) (ts : Ts) (k : ClassNo) (txn : TxnNo) (n : ℕ) (ds : List Cond) (us : List Use) (j : ℕ) (q : Cond)
+pub read_times : (g : Input) (d : DmNo) (log : Log) (ts : Ts) (k : ClassNo) (txn : TxnNo) (n : ℕ) (ds : List Cond) (us : List Use) (j : ℕ) (q : Cond)
     → IsPermitted g log → head (pipe_at g 0 d log) ≡ Some (Read ts k txn n ds us) → slice_get ds j ≡ Some q → q.time.0 ≡ ts.0
 read_times g d log ts k txn n ds us j q h e f =
     let r = in_mapped (zero_cond g ts.0) (classes_of g.catalogue) j q (subst (λ l. slice_get l j ≡ Some q) (zero_conds g d log ts k txn n ds us h e) f) in
     ap (λ (c : Cond). c.time.0) (sym r.2)
 
-pub read_classes : (g : Given) (d : DmNo) (log : Log) (ts : Ts) (k : ClassNo) (txn : TxnNo) (n : ℕ) (ds : List Cond) (us : List Use) (j : ℕ) (q : Cond)
+pub read_classes : (g : Input) (d : DmNo) (log : Log) (ts : Ts) (k : ClassNo) (txn : TxnNo) (n : ℕ) (ds : List Cond) (us : List Use) (j : ℕ) (q : Cond)
     → IsPermitted g log → head (pipe_at g 0 d log) ≡ Some (Read ts k txn n ds us) → slice_get ds j ≡ Some q
     → slice_get (classes_of g.catalogue) j ≡ Some q.class.0
 read_classes g d log ts k txn n ds us j q h e f =
     let r = in_mapped (zero_cond g ts.0) (classes_of g.catalogue) j q (subst (λ l. slice_get l j ≡ Some q) (zero_conds g d log ts k txn n ds us h e) f) in
     r.1 ∙ ap (λ (c : Cond). Some c.class.0) r.2
 
-pub has_cond : (g : Given) (d : DmNo) (log : Log) (ts : Ts) (k : ClassNo) (txn : TxnNo) (n : ℕ) (ds : List Cond) (us : List Use) (j c : ℕ)
+pub has_cond : (g : Input) (d : DmNo) (log : Log) (ts : Ts) (k : ClassNo) (txn : TxnNo) (n : ℕ) (ds : List Cond) (us : List Use) (j c : ℕ)
     → IsPermitted g log → head (pipe_at g 0 d log) ≡ Some (Read ts k txn n ds us) → slice_get (classes_of g.catalogue) j ≡ Some c
     → slice_get ds j ≡ Some (zero_cond g ts.0 c)
 has_cond g d log ts k txn n ds us j c h e f =
@@ -114,7 +114,7 @@ has_cond g d log ts k txn n ds us j c h e f =
     (at_map (zero_cond g ts.0) (classes_of g.catalogue) j c f)
 
 -- a Commit at the site of its class, as H5 takes it
-pub commit_t : (g : Given) (t c : ℕ) (log later before : Log) (bases : Bases) (a : Attempt) → IsPermitted g log
+pub commit_t : (g : Input) (t c : ℕ) (log later before : Log) (bases : Bases) (a : Attempt) → IsPermitted g log
     → home g.catalogue c ≡ T (tm_no t) → log ≡ later ++ Does (home g.catalogue c) (commit_act g.catalogue bases c a) ∷ before
     → active (setting_of g (home g.catalogue c)) c (local_of g (home g.catalogue c) before) ≡ Some a → IsCommitT g t c log a
 commit_t g t c log later before bases a h hm e act =
@@ -134,7 +134,7 @@ commit_t g t c log later before bases a h hm e act =
     }
 
 -- class 0 is never spoilt
-spoilt_not : (g : Given) (k t c j kd : ℕ) (d : DmNo) (log : Log) (ts : Ts) (of : ClassNo) (txn : TxnNo) (n : ℕ) (ds : List Cond) (us : List Use) (q : Cond) (w : ℕ)
+spoilt_not : (g : Input) (k t c j kd : ℕ) (d : DmNo) (log : Log) (ts : Ts) (of : ClassNo) (txn : TxnNo) (n : ℕ) (ds : List Cond) (us : List Use) (q : Cond) (w : ℕ)
     → IsPermitted g log → slice_get (numbers_to g.catalogue.tms) k ≡ Some t
     → slice_get (runs (setting_of g (T (tm_no t)))) j ≡ Some c → number_of (T (tm_no t)) ≤ 63
     → home g.catalogue c ≡ T (tm_no t) → slice_get (numbers_to g.catalogue.dms) kd ≡ Some d.0
@@ -153,7 +153,7 @@ spoilt_not g k t c j kd d log ts of txn n ds us q w h i run small hm id e le wr 
           not_again g d log an.0 ts of txn n ds us an.1 h e (part_join log hi.start.rest an.1 p1 an.2) an.3 (an.4 ∙ sym r.ts_is))
     ]
 
-pub never_spoilt : (g : Given) (k t j kd m : ℕ) (d : DmNo) (log : Log) (ts : Ts) (of : ClassNo) (txn : TxnNo) (n : ℕ) (ds : List Cond) (us : List Use) (q : Cond)
+pub never_spoilt : (g : Input) (k t j kd m : ℕ) (d : DmNo) (log : Log) (ts : Ts) (of : ClassNo) (txn : TxnNo) (n : ℕ) (ds : List Cond) (us : List Use) (q : Cond)
     → IsPermitted g log → slice_get (numbers_to g.catalogue.tms) k ≡ Some t
     → slice_get (runs (setting_of g (T (tm_no t)))) j ≡ Some q.class.0 → number_of (T (tm_no t)) ≤ 63
     → home g.catalogue q.class.0 ≡ T (tm_no t) → slice_get (numbers_to g.catalogue.dms) kd ≡ Some d.0
@@ -171,7 +171,7 @@ never_spoilt g k t j kd m d log ts of txn n ds us q h i run small hm id e f =
     ] refl
 
 -- H5, the low case: at each Answer of the undeclared transaction the declared one is applied where it touches the module
-pub low_applied : (g : Given) (d : DmNo) (c j : ℕ) (later log later2 log2 : Log) (k : ClassNo) (txn reader : TxnNo) (attempt tries : ℕ) (no_of : DmNo) (sends : List (Site × Msg)) (ts : Ts) (ds : List Cond) (us : List Use) (bases : Bases) (a : Attempt)
+pub low_applied : (g : Input) (d : DmNo) (c j : ℕ) (later log later2 log2 : Log) (k : ClassNo) (txn reader : TxnNo) (attempt tries : ℕ) (no_of : DmNo) (sends : List (Site × Msg)) (ts : Ts) (ds : List Cond) (us : List Use) (bases : Bases) (a : Attempt)
     → IsPermitted g (later ++ Does (D d) (Records 0 (Answer txn attempt no_of) sends) ∷ log) → number_of (home g.catalogue c) ≤ 63
     → 1 ≤ d.0 → d.0 ≤ g.catalogue.dms → c ≢ 0 → head (pipe_at g 0 d log) ≡ Some (Read ts k reader tries ds us) → slice_get (classes_of g.catalogue) j ≡ Some c
     → later ++ Does (D d) (Records 0 (Answer txn attempt no_of) sends) ∷ log ≡ later2 ++ Does (home g.catalogue c) (commit_act g.catalogue bases c a) ∷ log2
@@ -184,13 +184,13 @@ low_applied g d c j later log later2 log2 k txn reader attempt tries no_of sends
     declared same t
 
 -- H5 of a declared and an undeclared transaction, the high case: the undeclared one is applied everywhere before the declared one's Start
-pub high_applied : (g : Given) (t c : ℕ) (full log : Log) (a : Attempt) (cm : IsCommitT g t c full a) (ts n k d : ℕ) (hi : IsHigh g t c full log a cm ts n)
+pub high_applied : (g : Input) (t c : ℕ) (full log : Log) (a : Attempt) (cm : IsCommitT g t c full a) (ts n k d : ℕ) (hi : IsHigh g t c full log a cm ts n)
     → IsPermitted g full → slice_get (numbers_to g.catalogue.dms) k ≡ Some d → HasApply g hi.start.rest (dm_no d) ts
 high_applied g t c full log a cm ts n k d hi h e =
     all_applied g hi.start.rest ts k d (permitted_part g full hi.start.rest h (part_of full hi.start.later _ hi.start.rest hi.start.is)) hi.dones e
 
 -- H5 of two undeclared transactions
-pub zero_pair : (g : Given) (k t : ℕ) (log later log2 : Log) (q q2 : Queued) → slice_get (numbers_to g.catalogue.tms) k ≡ Some t
+pub zero_pair : (g : Input) (k t : ℕ) (log later log2 : Log) (q q2 : Queued) → slice_get (numbers_to g.catalogue.tms) k ≡ Some t
     → IsPermitted g (Does U (start_u g log q) ∷ log) → log ≡ later ++ Does U (start_u g log2 q2) ∷ log2
     → (g.catalogue.dms ≤ dones_of (u_stamp g log2) (local_of g U log)) × (u_stamp g log2 < u_stamp g log)
 zero_pair g k t log later log2 q q2 i h e =
@@ -214,7 +214,7 @@ zero_pair g k t log later log2 q q2 i h e =
     let s2 = stamp_ticks (setting_of g U) l2 in
     (sv.done (starts l2) ts (omega (arith, lt, sv.counted, su.sent, c.got_hold, c.one_open, c.released)) there, omega (arith, s1, s2, grew, clk))
 
-pub zero_applied : (g : Given) (k t kd d : ℕ) (log later log2 : Log) (q q2 : Queued)
+pub zero_applied : (g : Input) (k t kd d : ℕ) (log later log2 : Log) (q q2 : Queued)
     → slice_get (numbers_to g.catalogue.tms) k ≡ Some t → IsPermitted g (Does U (start_u g log q) ∷ log)
     → log ≡ later ++ Does U (start_u g log2 q2) ∷ log2 → slice_get (numbers_to g.catalogue.dms) kd ≡ Some d → HasApply g log (dm_no d) (u_stamp g log2)
 zero_applied g k t kd d log later log2 q q2 i h e f = all_applied g log (u_stamp g log2) kd d h.1 (zero_pair g k t log later log2 q q2 i h e).0 f

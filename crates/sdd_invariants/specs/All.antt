@@ -81,7 +81,7 @@ pub use Rattle.sdd_invariants.specs.lang.declared.statement.Stmt.{Stmt}
 pub use Rattle.sdd_invariants.specs.lang.declared.statement.Stmt.TheVariants.{Delete, Put, Query, Update}
 pub use Rattle.sdd_invariants.specs.lang.declared.transaction.Txn.{Txn}
 pub use Rattle.sdd_invariants.specs.logs.Due.{does_at, due_by, hand_due, hand_number, hand_on, hand_with, mark_due, next, next_at, next_number, note_if, site_due}
-pub use Rattle.sdd_invariants.specs.logs.Entries.{Does, Entry, Given, Hand, Log, Mark, Notes, Redeclares, Round, Submitted, history, marks, with_event}
+pub use Rattle.sdd_invariants.specs.logs.Entries.{Does, Entry, Hand, Input, Log, Mark, Notes, Redeclares, Round, Submitted, history, marks, with_event}
 pub use Rattle.sdd_invariants.specs.logs.Lawful.{EndsByLimit, IsLawful, IsTheLog, IsWithin, is_past, puts_past}
 pub use Rattle.sdd_invariants.specs.logs.Locals.{IsForce, beginning, force_at, local_of, redeclares, rows_of, setting_of, txn_at, with_force, with_submit, with_tick}
 pub use Rattle.sdd_invariants.specs.logs.Marks.{after_mark, bound_at, from_event, greatest_bound, left, mark_from, mark_of, next_mark}

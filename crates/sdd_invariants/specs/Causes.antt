@@ -1,6 +1,6 @@
 -- The causes of records, as entries of the log of everything.
 use Rattle.std.specs.Prelude.{ℕ, ◌++◌, ◌<◌, ◌==◌, ◌∷◌, ◌≡◌, ◌≤◌, ◌⊎◌, List, None, Some, length, slice_get, suc, true}
-use Rattle.sdd_log.specs.All.{Act, Answer, Attempt, Bases, ClassNo, Commit, Cond, D, DmNo, Does, Given, Log, Msg, Queued, Read, Records, Setting, Site, Ts, TxnNo, Use, active, commit_act, effect, goes_through, head, head_of, home_of, local_of, queue, sends_of_act, setting_of}
+use Rattle.sdd_log.specs.All.{Act, Answer, Attempt, Bases, ClassNo, Commit, Cond, D, DmNo, Does, Input, Log, Msg, Queued, Read, Records, Setting, Site, Ts, TxnNo, Use, active, commit_act, effect, goes_through, head, head_of, home_of, local_of, queue, sends_of_act, setting_of}
 use Rattle.sdd_log.specs.history.declared.record.Rec.TheVariants.{Reject as Rejected}
 use Rattle.sdd_invariants.specs.Puts.{IsPutBy}
 use Rattle.sdd_invariants.specs.Seen.{IsApplied, changes_to, pipe_at}
@@ -9,7 +9,7 @@ use Rattle.sdd_invariants.specs.Traffic.{to_site}
 use Rattle.sdd_log.specs.site_module.SiteLog as site
 
 -- the act that put a message of class c on the link to a data module
-pub record IsPutAt (g : Given) (log : Log) (c : ℕ) (d : DmNo) (m : Msg) : Type 0 where
+pub record IsPutAt (g : Input) (log : Log) (c : ℕ) (d : DmNo) (m : Msg) : Type 0 where
   pub later : Log
   pub act : Act
   pub before : Log
@@ -21,7 +21,7 @@ pub record IsPutAt (g : Given) (log : Log) (c : ℕ) (d : DmNo) (m : Msg) : Type
 
 -- the Commit of the attempt of class k of transaction n with timestamp t; it changes something of which module d has a
 -- copy, or is of class 0
-pub record IsApplyOf (g : Given) (log : Log) (d : DmNo) (k n t : ℕ) : Type 0 where
+pub record IsApplyOf (g : Input) (log : Log) (d : DmNo) (k n t : ℕ) : Type 0 where
   pub later : Log
   pub before : Log
   pub bases : Bases
@@ -33,7 +33,7 @@ pub record IsApplyOf (g : Given) (log : Log) (d : DmNo) (k n t : ℕ) : Type 0 w
   pub touches_it : ((k == 0) ≡ true) ⊎ (0 < length (changes_to g bases attempt d))
 
 -- the Start of attempt k of transaction n in class c, with timestamp t
-pub record IsReadOf (g : Given) (log : Log) (c n k t : ℕ) : Type 0 where
+pub record IsReadOf (g : Input) (log : Log) (c n k t : ℕ) : Type 0 where
   pub later : Log
   pub before : Log
   pub queued : Queued
@@ -45,7 +45,7 @@ pub record IsReadOf (g : Given) (log : Log) (c n k t : ℕ) : Type 0 where
   pub ts_is : t ≡ next_stamp (setting_of g (home g.catalogue c)) (local_of g (home g.catalogue c) before)
 
 -- an Answer of the attempt at module d
-pub record HasAnswer (g : Given) (log : Log) (d : DmNo) (c : ℕ) (a : Attempt) : Type 0 where
+pub record HasAnswer (g : Input) (log : Log) (d : DmNo) (c : ℕ) (a : Attempt) : Type 0 where
   pub later : Log
   pub before : Log
   pub txn : TxnNo
@@ -62,14 +62,14 @@ pub record HasAnswer (g : Given) (log : Log) (d : DmNo) (c : ℕ) (a : Attempt) 
   pub ts_is : ts.0 ≡ a.ts
 
 -- a WRITE of class j at time w that was processed at d: its Commit and its Apply
-pub record IsWriter (g : Given) (log : Log) (d : DmNo) (j w : ℕ) : Type 0 where
+pub record IsWriter (g : Input) (log : Log) (d : DmNo) (j w : ℕ) : Type 0 where
   pub number : ℕ
   pub commit : IsApplyOf g log d j number w
   pub applied : IsApplied g log d j commit.attempt
 
 -- the Reject of the last attempt of a queued transaction: by a WRITE at or after the time of one of its READ's
 -- conditions, and below the bound of its class's site now
-pub record IsAgain (g : Given) (log : Log) (c : ℕ) (q : Queued) : Type 0 where
+pub record IsAgain (g : Input) (log : Log) (c : ℕ) (q : Queued) : Type 0 where
   pub from : DmNo
   pub later : Log
   pub before : Log

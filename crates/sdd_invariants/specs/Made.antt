@@ -1,6 +1,6 @@
 -- What an entry of the log of everything makes of the log of a site: one entry more, or nothing.
 use Rattle.std.specs.Prelude.{ℕ, ◌++◌, ◌∷◌, ◌≡◌, List, None, Option, Some, [], if◌then◌else◌, suc}
-use Rattle.sdd_log.specs.All.{Act, D, Did, Does, Event, Force, Given, Hand, Handed, Log, Mark, Msg, Redeclared, Redeclares, Site, Submits, Submitted, T, Tick, Ticked, Txn, U, force_at, local_of, redeclares, same_site, sends_of_act, txn_at}
+use Rattle.sdd_log.specs.All.{Act, D, Did, Does, Event, Force, Hand, Handed, Input, Log, Mark, Msg, Redeclared, Redeclares, Site, Submits, Submitted, T, Tick, Ticked, Txn, U, force_at, local_of, redeclares, same_site, sends_of_act, txn_at}
 use Rattle.sdd_log.specs.Entries.{Entry}
 use Rattle.sdd_invariants.specs.Traffic.{to_site}
 use Rattle.sdd_log.specs.site_module.SiteLog as site
@@ -18,7 +18,7 @@ abbrev pub made_by_mark : Site → Event → Option site.Entry
 made_by_mark at (Tick t n) = if same_site at (T t) then Some (Ticked n) else None
 made_by_mark at _ = None
 
-abbrev pub made : Given → Site → Log → Entry → Option site.Entry
+abbrev pub made : Input → Site → Log → Entry → Option site.Entry
 made g at log (Mark e) = made_by_mark at e
 made g at log (Redeclares t) = forced at (force_at g (suc (redeclares log))) t
 made g at log (Hand from to n m) = if same_site at to then Some (Handed from m) else None
@@ -43,7 +43,7 @@ handed_by a (Some (Handed from m)) = if same_site a from then m ∷ [] else []
 handed_by a (Some _) = []
 
 -- the place in the log of everything of an entry of a site's log
-pub record IsAt (g : Given) (at : Site) (log : Log) (x : site.Entry) (before : site.Log) : Type 0 where
+pub record IsAt (g : Input) (at : Site) (log : Log) (x : site.Entry) (before : site.Log) : Type 0 where
   pub later : Log
   pub entry : Entry
   pub rest : Log
@@ -52,14 +52,14 @@ pub record IsAt (g : Given) (at : Site) (log : Log) (x : site.Entry) (before : s
   pub makes : made g at rest entry ≡ Some x
 
 -- of an act
-pub record IsActAt (g : Given) (at : Site) (log : Log) (act : Act) (before : site.Log) : Type 0 where
+pub record IsActAt (g : Input) (at : Site) (log : Log) (act : Act) (before : site.Log) : Type 0 where
   pub later : Log
   pub rest : Log
   pub is : log ≡ later ++ Does at act ∷ rest
   pub local_is : local_of g at rest ≡ before
 
 -- of a hand
-pub record IsHandAt (g : Given) (at : Site) (log : Log) (from : Site) (m : Msg) (before : site.Log) : Type 0 where
+pub record IsHandAt (g : Input) (at : Site) (log : Log) (from : Site) (m : Msg) (before : site.Log) : Type 0 where
   pub later : Log
   pub rest : Log
   pub number : ℕ
@@ -67,7 +67,7 @@ pub record IsHandAt (g : Given) (at : Site) (log : Log) (from : Site) (m : Msg) 
   pub local_is : local_of g at rest ≡ before
 
 -- of a transaction that is given to the site
-pub record IsSubmitAt (g : Given) (at : Site) (log : Log) (n : ℕ) (text : Txn) (before : site.Log) : Type 0 where
+pub record IsSubmitAt (g : Input) (at : Site) (log : Log) (n : ℕ) (text : Txn) (before : site.Log) : Type 0 where
   pub later : Log
   pub rest : Log
   pub is : log ≡ later ++ Submitted at n ∷ rest

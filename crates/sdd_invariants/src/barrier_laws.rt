@@ -1,5 +1,5 @@
 ghost use Rattle.std.specs.Prelude.{◌≡◌, ◌≤◌, ◌≢◌, ◌<◌, ◌⊎◌, ◌++◌, ◌∷◌, ℕ, List, true, false, slice_get, Some};
-ghost use Rattle.sdd_log.specs.All.{Answer, Attempt, Bases, ClassNo, Cond, D, DmNo, Does, Given, IsPermitted, Log, Msg, Queued, Read, Records, Site, T, Ts, TxnNo, U, Use, commit_act, dm_no, head, local_of, number_of, numbers_to, runs, setting_of, spoils, tm_no, touches, view_of};
+ghost use Rattle.sdd_log.specs.All.{Answer, Attempt, Bases, ClassNo, Cond, D, DmNo, Does, Input, IsPermitted, Log, Msg, Queued, Read, Records, Site, T, Ts, TxnNo, U, Use, commit_act, dm_no, head, local_of, number_of, numbers_to, runs, setting_of, spoils, tm_no, touches, view_of};
 ghost use Rattle.sdd_graph.specs.Graph.{classes_of};
 ghost use Rattle.sdd_invariants.specs.Steps.{home};
 ghost use Rattle.sdd_invariants.specs.Seen.{IsApplied, changes_to, pipe_at};
@@ -9,7 +9,7 @@ ghost use Rattle.sdd_invariants.specs.Barrier.{HasApply, IsCommitT, IsHigh, IsHo
 
 /// Between U and each T the HOLDs, HELDs, Starts, Commits and RELEASEs stand in one chain.
 pub fn law_holds()
-    ensures { (given : Given) (place t : ℕ) (log : Log)
+    ensures { (given : Input) (place t : ℕ) (log : Log)
         → slice_get (numbers_to given.catalogue.tms) place ≡ Some t
         → IsPermitted given log → IsHoldChain given t log }
 {}
@@ -18,7 +18,7 @@ pub fn law_holds()
 /// committed before it, with a smaller timestamp; or it starts, with a greater one, once U was
 /// handed as many DONEs for the undeclared one as there are data modules.
 pub fn law_sides()
-    ensures { (given : Given) (place t class run : ℕ) (full later log : Log) (queued : Queued)
+    ensures { (given : Input) (place t class run : ℕ) (full later log : Log) (queued : Queued)
         (attempt : Attempt) (committed : IsCommitT given t class full attempt)
         → slice_get (numbers_to given.catalogue.tms) place ≡ Some t
         → slice_get (runs (setting_of given (T (tm_no t)))) run ≡ Some class
@@ -33,11 +33,11 @@ pub fn law_sides()
 /// an Apply of class 0 with it; and at the Start of an undeclared transaction every one before it
 /// is applied everywhere, with a smaller timestamp.
 pub fn law_undeclared()
-    ensures applied { (given : Given) (log : Log) (ts place d : ℕ) → IsPermitted given log
+    ensures applied { (given : Input) (log : Log) (ts place d : ℕ) → IsPermitted given log
         → given.catalogue.dms ≤ dones_of ts (local_of given U log)
         → slice_get (numbers_to given.catalogue.dms) place ≡ Some d
         → HasApply given log (dm_no d) ts }
-    ensures before_start { (given : Given) (place t : ℕ) (log later before : Log)
+    ensures before_start { (given : Input) (place t : ℕ) (log later before : Log)
         (queued first : Queued) → slice_get (numbers_to given.catalogue.tms) place ≡ Some t
         → IsPermitted given (Does U (start_u given log queued) ∷ log)
         → log ≡ later ++ Does U (start_u given before first) ∷ before
@@ -48,7 +48,7 @@ pub fn law_undeclared()
 /// At an Answer to an undeclared transaction, a declared one that changes something of which the
 /// module has a copy is applied there exactly where it has a smaller timestamp.
 pub fn law_seen_by_undeclared()
-    ensures { (given : Given) (d : DmNo) (class place : ℕ) (later log after before : Log)
+    ensures { (given : Input) (d : DmNo) (class place : ℕ) (later log after before : Log)
         (of : ClassNo) (txn reader : TxnNo) (number tries : ℕ) (dm : DmNo)
         (sends : List (Site × Msg)) (ts : Ts) (conds : List Cond) (uses : List Use)
         (bases : Bases) (attempt : Attempt)
@@ -67,7 +67,7 @@ pub fn law_seen_by_undeclared()
 
 /// No condition of an undeclared transaction's READ is spoilt where the READ is next.
 pub fn law_never_spoilt()
-    ensures { (given : Given) (place t run dm cond_place : ℕ) (d : DmNo) (log : Log) (ts : Ts)
+    ensures { (given : Input) (place t run dm cond_place : ℕ) (d : DmNo) (log : Log) (ts : Ts)
         (of : ClassNo) (txn : TxnNo) (attempt : ℕ) (conds : List Cond) (uses : List Use)
         (cond : Cond) → IsPermitted given log
         → slice_get (numbers_to given.catalogue.tms) place ≡ Some t

@@ -1,12 +1,12 @@
 ghost use Rattle.std.specs.Prelude.{◌≡◌, ◌≢◌, ◌≤◌, ◌<◌, ◌++◌, ◌∷◌, ℕ, List, length, slice_get, Some, true};
-ghost use Rattle.sdd_log.specs.All.{Act, Attempt, Bases, Cond, D, DmNo, Does, Given, IsPermitted, Log, Msg, commit_act, head, number_of, time_of, touches};
+ghost use Rattle.sdd_log.specs.All.{Act, Attempt, Bases, Cond, D, DmNo, Does, Input, IsPermitted, Log, Msg, commit_act, head, number_of, time_of, touches};
 ghost use Rattle.sdd_invariants.specs.Steps.{home};
 ghost use Rattle.sdd_invariants.specs.Seen.{all_of, class_puts, pipe_at, IsAnswerWith, IsApplied, changes_to};
 
 /// What came to the pipe of a class is a first part of what its site puts there, in this log and
 /// in every one that goes on from it.
 pub fn law_pipes()
-    ensures { (given : Given) (class : ℕ) (d : DmNo) (later log : Log) → IsPermitted given log
+    ensures { (given : Input) (class : ℕ) (d : DmNo) (later log : Log) → IsPermitted given log
         → (more : List Msg)
         × (class_puts given class d (later ++ log) ≡ all_of (pipe_at given class d log) ++ more) }
 {}
@@ -14,7 +14,7 @@ pub fn law_pipes()
 /// Where the message `m` of a class is next to be processed, each message of the class with a
 /// smaller time, whenever it is put, is processed, and none with a greater time is.
 pub fn law_class_order()
-    ensures { (given : Given) (class : ℕ) (d : DmNo) (later log : Log) (place : ℕ) (x m : Msg)
+    ensures { (given : Input) (class : ℕ) (d : DmNo) (later log : Log) (place : ℕ) (x m : Msg)
         → IsPermitted given (later ++ log) → number_of (home given.catalogue class) ≤ 63
         → head (pipe_at given class d log) ≡ Some m
         → slice_get (class_puts given class d (later ++ log)) place ≡ Some x
@@ -27,7 +27,7 @@ pub fn law_class_order()
 /// copy, is applied there before the Answer exactly where its timestamp is below the condition's
 /// time.
 pub fn law_split()
-    ensures { (given : Given) (d : DmNo) (cond : Cond) (act : Act) (later log after before : Log)
+    ensures { (given : Input) (d : DmNo) (cond : Cond) (act : Act) (later log after before : Log)
         (bases : Bases) (attempt : Attempt) → IsPermitted given (later ++ Does (D d) act ∷ log)
         → number_of (home given.catalogue cond.class.0) ≤ 63
         → 1 ≤ d.0 → d.0 ≤ given.catalogue.dms

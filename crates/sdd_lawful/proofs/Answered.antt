@@ -1,5 +1,5 @@
 -- The Answers of a history, as acts of data modules, each with the READ that it answers and the Start that sent it.
-use Rattle.sdd_lawful.proofs.All.{Act, Answer, Attempt, Bool, Catalogue, ClassNo, Cond, D, DmNo, Does, Entry, Given, IsAnswered, IsAttempt, IsMadeAt, IsPermitted, IsRead, IsReadStep, IsSound, List, Log, May, Msg, None, Read, Rec, Records, Setting, Site, Some, Stands, Ts, TxnNo, Use, View, [], allowed_act, ap, arith, ascending, bound, by_record, by_wait, class_no, class_number, conditions, conditions_at, contains, d_step, dm_no, false, filter_map, frag_no, fragments_in, head, head_put, history, home, if◌then◌else◌, in_force, in_passing, inl, inr, is_processing, length, local_of, map, modules_asked, modules_of, next_stamp, not_both, option_map, or_left, or_right, p2_of, p2_time, pipe, pipe_at, record_of, refl, same_number, same_or_not, sends_of_act, setting_of, slice_get, start_at, start_read, subst, suc, sym, time_at, to_site, true, txn_no, undeclared_conditions, unwrap_or, use_there, uses_of, view_of, waits, zero, ℕ, ◌++◌, ◌<◌, ◌==◌, ◌∙◌, ◌∷◌, ◌≡◌}
+use Rattle.sdd_lawful.proofs.All.{Act, Answer, Attempt, Bool, Catalogue, ClassNo, Cond, D, DmNo, Does, Entry, Input, IsAnswered, IsAttempt, IsMadeAt, IsPermitted, IsRead, IsReadStep, IsSound, List, Log, May, Msg, None, Read, Rec, Records, Setting, Site, Some, Stands, Ts, TxnNo, Use, View, [], allowed_act, ap, arith, ascending, bound, by_record, by_wait, class_no, class_number, conditions, conditions_at, contains, d_step, dm_no, false, filter_map, frag_no, fragments_in, head, head_put, history, home, if◌then◌else◌, in_force, in_passing, inl, inr, is_processing, length, local_of, map, modules_asked, modules_of, next_stamp, not_both, option_map, or_left, or_right, p2_of, p2_time, pipe, pipe_at, record_of, refl, same_number, same_or_not, sends_of_act, setting_of, slice_get, start_at, start_read, subst, suc, sym, time_at, to_site, true, txn_no, undeclared_conditions, unwrap_or, use_there, uses_of, view_of, waits, zero, ℕ, ◌++◌, ◌<◌, ◌==◌, ◌∙◌, ◌∷◌, ◌≡◌}
 use Rattle.sdd_lawful.proofs.Applied.{IsDataIn, data_in}
 use Rattle.sdd_lawful.proofs.Classes.{at_home, further_back, home_setting}
 use Rattle.sdd_lawful.proofs.Commits.{begun_as}
@@ -81,12 +81,12 @@ abbrev pub read_msg : Attempt → List Cond → List Use → Msg
 read_msg a conds uses = Read (time_at a.ts) (class_no a.class) (txn_no a.txn) a.number conds uses
 
 -- the conditions of an attempt's READ to module d, where its Start stands behind this log
-abbrev pub conds_sent : Given → Attempt → Log → ℕ → List Cond
+abbrev pub conds_sent : Input → Attempt → Log → ℕ → List Cond
 conds_sent g a log d =
     conditions_at g.catalogue (in_force (home_setting g a.class) (at_home g a.class log)).table a.class (ascending (fragments_in a.uses)) a.ts (p2_time a) d
 
 -- the READ of an attempt at module d stands at the head of its pipe, and its Start stands in the log
-pub record IsReadIn (g : Given) (before : Log) (a : Attempt) (d : ℕ) : Type 0 where
+pub record IsReadIn (g : Input) (before : Log) (a : Attempt) (d : ℕ) : Type 0 where
   pub conds : List Cond
   pub uses : List Use
   pub head_is : head (pipe_at g a.class (dm_no d) before) ≡ Some (read_msg a conds uses)
@@ -101,7 +101,7 @@ pub record IsReadIn (g : Given) (before : Log) (a : Attempt) (d : ℕ) : Type 0 
   pub uses_are : uses ≡ filter_map (use_there g.catalogue a.class d) a.uses
   pub asked : contains (modules_of g.catalogue a.class (ascending (fragments_in a.uses))) d ≡ true
 
-pub record IsReadOfSome (g : Given) (log before : Log) (c n number d : ℕ) (ds : List Cond) : Type 0 where
+pub record IsReadOfSome (g : Input) (log before : Log) (c n number d : ℕ) (ds : List Cond) : Type 0 where
   pub attempt : Attempt
   pub started : IsAttempt (history log) attempt
   pub txn_is : attempt.txn ≡ n
@@ -110,7 +110,7 @@ pub record IsReadOfSome (g : Given) (log before : Log) (c n number d : ℕ) (ds 
   pub read : IsReadIn g before attempt d
   pub same_conds : read.conds ≡ ds
 
-pub read_of_some : (g : Given) (log later before : Log) (e : Entry) (c n number d : ℕ) (ts : Ts) (of : ClassNo) (ds : List Cond) (us : List Use)
+pub read_of_some : (g : Input) (log later before : Log) (e : Entry) (c n number d : ℕ) (ts : Ts) (of : ClassNo) (ds : List Cond) (us : List Use)
     → IsPermitted g before → log ≡ later ++ e ∷ before
     → head (pipe_at g c (dm_no d) before) ≡ Some (Read ts of (txn_no n) number ds us) → IsReadOfSome g log before c n number d ds
 read_of_some g log later before e c n number d ts of ds us h is top =
@@ -158,7 +158,7 @@ read_of_some g log later before e c n number d ts of ds us h is top =
 abbrev pub answer_rec : Attempt → ℕ → Rec
 answer_rec a d = Answer (txn_no a.txn) a.number (dm_no d)
 
-pub record IsAnswerIn (g : Given) (log : Log) (a : Attempt) (d k : ℕ) : Type 0 where
+pub record IsAnswerIn (g : Input) (log : Log) (a : Attempt) (d k : ℕ) : Type 0 where
   pub later : Log
   pub sends : List (Site × Msg)
   pub before : Log
@@ -167,14 +167,14 @@ pub record IsAnswerIn (g : Given) (log : Log) (a : Attempt) (d k : ℕ) : Type 0
   pub permitted : IsPermitted g (Does (D (dm_no d)) (Records a.class (answer_rec a d) sends) ∷ before)
   pub read : IsReadIn g before a d
 
-pub record IsAnswerOfSome (g : Given) (log : Log) (n number d k : ℕ) : Type 0 where
+pub record IsAnswerOfSome (g : Input) (log : Log) (n number d k : ℕ) : Type 0 where
   pub attempt : Attempt
   pub started : IsAttempt (history log) attempt
   pub txn_is : attempt.txn ≡ n
   pub number_is : attempt.number ≡ number
   pub answer : IsAnswerIn g log attempt d k
 
-answer_as : (g : Given) (log later : Log) (sends : List (Site × Msg)) (before : Log) (b : Attempt) (c n number d k : ℕ) → b.class ≡ c → b.txn ≡ n
+answer_as : (g : Input) (log later : Log) (sends : List (Site × Msg)) (before : Log) (b : Attempt) (c n number d k : ℕ) → b.class ≡ c → b.txn ≡ n
     → b.number ≡ number → log ≡ later ++ Does (D (dm_no d)) (Records c (Answer (txn_no n) number (dm_no d)) sends) ∷ before → length (history before) ≡ k
     → IsPermitted g (Does (D (dm_no d)) (Records c (Answer (txn_no n) number (dm_no d)) sends) ∷ before) → IsReadIn g before b d → IsAnswerIn g log b d k
 answer_as g log later sends before b c n number d k p q r is place h read =
@@ -191,7 +191,7 @@ answer_as g log later sends before b c n number d k p q r is place h read =
       read = read;
     }
 
-pub answer_of_some : (g : Given) (log : Log) (n number d k : ℕ) → IsPermitted g log
+pub answer_of_some : (g : Input) (log : Log) (n number d k : ℕ) → IsPermitted g log
     → Stands (history log) k (Answer (txn_no n) number (dm_no d)) → IsAnswerOfSome g log n number d k
 answer_of_some g log n number d k h st =
     let x : IsDataIn g log k (Answer (txn_no n) number (dm_no d)) (dm_no d) = data_in g log k (Answer (txn_no n) number (dm_no d)) (dm_no d) h refl refl
@@ -209,12 +209,12 @@ answer_of_some g log n number d k h st =
       answer = answer_as g log x.later x.sends x.before r.attempt x.class n number d k r.class_is r.txn_is r.number_is x.is x.place_is x.permitted r.read;
     }
 
-pub answer_in : (g : Given) (log : Log) (a : Attempt) (d k : ℕ) → IsSound g.catalogue → IsPermitted g log → IsAttempt (history log) a
+pub answer_in : (g : Input) (log : Log) (a : Attempt) (d k : ℕ) → IsSound g.catalogue → IsPermitted g log → IsAttempt (history log) a
     → IsAnswered (history log) a d k → IsAnswerIn g log a d k
 answer_in g log a d k sound h s e =
     let x = answer_of_some g log a.txn a.number d k h e in
     subst (λ b. IsAnswerIn g log b d k) (same_attempt g log sound h x.attempt a x.started s x.txn_is x.number_is) x.answer
 
-abbrev pub answer_made : (g : Given) (log : Log) (a : Attempt) (d k : ℕ) → IsAnswerIn g log a d k → IsMadeAt log k (answer_rec a d)
+abbrev pub answer_made : (g : Input) (log : Log) (a : Attempt) (d k : ℕ) → IsAnswerIn g log a d k → IsMadeAt log k (answer_rec a d)
 answer_made g log a d k x =
     record { later = x.later; entry = Does (D (dm_no d)) (Records a.class (answer_rec a d) x.sends); before = x.before; is = x.is; makes = refl; place_is = x.place_is }

@@ -1,5 +1,5 @@
 -- The Applies of a history, as acts of data modules; and what a data module has applied at one of its acts.
-use Rattle.sdd_lawful.proofs.All.{Act, AppliedBefore, Apply, Bases, Bool, Catalogue, Change, ClassNo, D, Did, DmNo, Does, Given, Handed, IsApplied, IsApplyOf, IsMadeAt, IsModule, IsOfWrite, IsPermitted, IsPutAt, IsWrite, List, Log, Msg, Option, Rec, Records, Redeclared, Running, Sends, Site, SiteLog, Some, Stands, Submits, Ticked, Ts, TxnNo, Write, [], and_left, ap, append_assoc, apply_follows, apply_of_head, arith, at_seam, class_no, commit_act, dm_no, effect, eqb-true, false, filter_map, goes_write, head, head_put, history, if◌then◌else◌, in_either, in_left, in_one, inl, inr, is_processing, length, local_of, permitted_before, pipe_at, place_of_act, range_with_len, refl, results, same_number, same_or_not, sends_of_act, slice_get, subst, suc, sym, time_at, to_site, true, true_or_false, txn_no, write_to, zero, ℕ, ◌&&◌, ◌++◌, ◌+◌, ◌<◌, ◌==◌, ◌∙◌, ◌∷◌, ◌≡◌, ◌≤◌}
+use Rattle.sdd_lawful.proofs.All.{Act, AppliedBefore, Apply, Bases, Bool, Catalogue, Change, ClassNo, D, Did, DmNo, Does, Handed, Input, IsApplied, IsApplyOf, IsMadeAt, IsModule, IsOfWrite, IsPermitted, IsPutAt, IsWrite, List, Log, Msg, Option, Rec, Records, Redeclared, Running, Sends, Site, SiteLog, Some, Stands, Submits, Ticked, Ts, TxnNo, Write, [], and_left, ap, append_assoc, apply_follows, apply_of_head, arith, at_seam, class_no, commit_act, dm_no, effect, eqb-true, false, filter_map, goes_write, head, head_put, history, if◌then◌else◌, in_either, in_left, in_one, inl, inr, is_processing, length, local_of, permitted_before, pipe_at, place_of_act, range_with_len, refl, results, same_number, same_or_not, sends_of_act, slice_get, subst, suc, sym, time_at, to_site, true, true_or_false, txn_no, write_to, zero, ℕ, ◌&&◌, ◌++◌, ◌+◌, ◌<◌, ◌==◌, ◌∙◌, ◌∷◌, ◌≡◌, ◌≤◌}
 use Rattle.sdd_lawful.proofs.Classes.{at_home, home_setting}
 use Rattle.sdd_lawful.proofs.Makers.{IsOfData, act_kind, data_home, is_of_run, is_own}
 use Rattle.sdd_lawful.proofs.Places.{made_at, place_rises, stands_there}
@@ -8,7 +8,7 @@ use Rattle.sdd_invariants.proofs.Sites.{GoesTo}
 use Rattle.sdd_invariants.specs.site_module.SiteLog as site
 
 -- the record of a data module, as one of its acts
-pub record IsDataIn (g : Given) (log : Log) (k : ℕ) (r : Rec) (d : DmNo) : Type 0 where
+pub record IsDataIn (g : Input) (log : Log) (k : ℕ) (r : Rec) (d : DmNo) : Type 0 where
   pub class : ℕ
   pub later : Log
   pub sends : List (Site × Msg)
@@ -17,7 +17,7 @@ pub record IsDataIn (g : Given) (log : Log) (k : ℕ) (r : Rec) (d : DmNo) : Typ
   pub place_is : length (history before) ≡ k
   pub permitted : IsPermitted g (Does (D d) (Records class r sends) ∷ before)
 
-pub data_in : (g : Given) (log : Log) (k : ℕ) (r : Rec) (d : DmNo) → IsPermitted g log → is_of_run r ≡ false → is_own r ≡ false
+pub data_in : (g : Input) (log : Log) (k : ℕ) (r : Rec) (d : DmNo) → IsPermitted g log → is_of_run r ≡ false → is_own r ≡ false
     → ((e : DmNo) → IsOfData e r → e ≡ d) → Stands (history log) k r → IsDataIn g log k r d
 data_in g log k r d h e f number s =
     let m = made_at log k r s in
@@ -56,7 +56,7 @@ write_module cat c bases a d k m e =
     let i = in_range_to (write_to cat c a xs) d.0 1 cat.dms k m (goes_write cat c a xs) e in
     let hi = i.1 in (i.0, omega arith)
 
-pub put_module : (g : Given) (c : ℕ) (d : DmNo) (log : Log) (ts : Ts) (of : ClassNo) (txn : TxnNo) (changes : List Change)
+pub put_module : (g : Input) (c : ℕ) (d : DmNo) (log : Log) (ts : Ts) (of : ClassNo) (txn : TxnNo) (changes : List Change)
     → IsPutAt g log c d (Write ts of txn changes) → IsModule g.catalogue d.0
 put_module g c d log ts of txn changes p =
     let w : IsWrite (home_setting g c) (at_home g c p.before) p.act of.0 ts.0 txn.0 = p.by in
@@ -68,7 +68,7 @@ put_module g c d log ts of txn changes p =
 abbrev pub apply_rec : ℕ → ℕ → ℕ → ℕ → Rec
 apply_rec n class d ts = Apply (txn_no n) (class_no class) (dm_no d) (time_at ts)
 
-pub record IsApplyIn (g : Given) (log : Log) (n class d ts k : ℕ) : Type 0 where
+pub record IsApplyIn (g : Input) (log : Log) (n class d ts k : ℕ) : Type 0 where
   pub later : Log
   pub sends : List (Site × Msg)
   pub before : Log
@@ -80,7 +80,7 @@ pub record IsApplyIn (g : Given) (log : Log) (n class d ts k : ℕ) : Type 0 whe
   pub of : IsApplyOf g before (dm_no d) class n ts
   pub at_module : IsModule g.catalogue d
 
-apply_as : (g : Given) (log : Log) (n class d ts k c : ℕ) (later : Log) (sends : List (Site × Msg)) (before : Log) (changes : List Change) → c ≡ class
+apply_as : (g : Input) (log : Log) (n class d ts k c : ℕ) (later : Log) (sends : List (Site × Msg)) (before : Log) (changes : List Change) → c ≡ class
     → log ≡ later ++ Does (D (dm_no d)) (Records c (apply_rec n class d ts) sends) ∷ before → length (history before) ≡ k
     → IsPermitted g (Does (D (dm_no d)) (Records c (apply_rec n class d ts) sends) ∷ before)
     → head (pipe_at g c (dm_no d) before) ≡ Some (Write (time_at ts) (class_no class) (txn_no n) changes)
@@ -98,7 +98,7 @@ apply_as g log n class d ts k c later sends before changes e is place h head_is 
   at_module = m;
 }
 
-pub apply_in : (g : Given) (log : Log) (n class d ts k : ℕ) → IsPermitted g log → Stands (history log) k (apply_rec n class d ts)
+pub apply_in : (g : Input) (log : Log) (n class d ts k : ℕ) → IsPermitted g log → Stands (history log) k (apply_rec n class d ts)
     → IsApplyIn g log n class d ts k
 apply_in g log n class d ts k h s =
     let x = data_in g log k (apply_rec n class d ts) (dm_no d) h refl refl (λ e p. sym p) s in
@@ -108,7 +108,7 @@ apply_in g log n class d ts k h s =
     apply_as g log n class d ts k x.class x.later x.sends x.before w.0 (sym f.0) x.is x.place_is x.permitted w.1 f.1
     (put_module g x.class (dm_no d) x.before (time_at ts) (class_no class) (txn_no n) w.0 put)
 
-abbrev pub apply_made : (g : Given) (log : Log) (n class d ts k : ℕ) → IsApplyIn g log n class d ts k → IsMadeAt log k (apply_rec n class d ts)
+abbrev pub apply_made : (g : Input) (log : Log) (n class d ts k : ℕ) → IsApplyIn g log n class d ts k → IsMadeAt log k (apply_rec n class d ts)
 apply_made g log n class d ts k x =
     record { later = x.later; entry = Does (D (dm_no d)) (Records class (apply_rec n class d ts) x.sends); before = x.before; is = x.is; makes = refl; place_is = x.place_is }
 
@@ -154,7 +154,7 @@ result_of c (_ ∷ later) before r sends p = result_of c later before r sends p
 
 -- what a module has applied stands in the history before
 
-applied_rec : (g : Given) (full : Log) (front log : Log) (d : DmNo) (c n : ℕ) (ts : Ts) (r : Rec) → full ≡ front ++ log → IsPermitted g log
+applied_rec : (g : Input) (full : Log) (front log : Log) (d : DmNo) (c n : ℕ) (ts : Ts) (r : Rec) → full ≡ front ++ log → IsPermitted g log
     → IsOfWrite ts c n r → HasResult c (local_of g (D d) log) r → AppliedBefore (history full) n d.0 (length (history log))
 applied_rec g full front log d c n ts (Apply t j dm w) is h of x =
     let act : Act = Records c (Apply t j dm w) x.sends in
@@ -176,7 +176,7 @@ applied_rec g full front log d c n ts (Apply t j dm w) is h of x =
     }
 applied_rec g full front log d c n ts r is h of x = absurd of
 
-pub applied_before : (g : Given) (full front log : Log) (d : DmNo) (c : ℕ) (a : Running) → full ≡ front ++ log → IsPermitted g full
+pub applied_before : (g : Input) (full front log : Log) (d : DmNo) (c : ℕ) (a : Running) → full ≡ front ++ log → IsPermitted g full
     → IsApplied g log d c a → AppliedBefore (history full) a.txn d.0 (length (history log))
 applied_before g full front log d c a is h x =
     applied_rec g full front log d c a.txn (time_at a.ts) x.rec is (permitted_before g front log (subst (IsPermitted g) is h)) x.is
@@ -184,7 +184,7 @@ applied_before g full front log d c a is h x =
 
 -- and the other way round
 
-pub applied_there : (g : Given) (log later before : Log) (d : ℕ) (class : ℕ) (a : Running) (sends : List (Site × Msg))
+pub applied_there : (g : Input) (log later before : Log) (d : ℕ) (class : ℕ) (a : Running) (sends : List (Site × Msg))
     → log ≡ later ++ Does (D (dm_no d)) (Records class (apply_rec a.txn class d a.ts) sends) ∷ before → IsApplied g log (dm_no d) class a
 applied_there g log later before d class a sends is =
     let act : Act = Records class (apply_rec a.txn class d a.ts) sends in

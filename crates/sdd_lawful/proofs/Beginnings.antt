@@ -1,5 +1,5 @@
 -- The Starts of undeclared transactions, as acts of U; and what is there in every catalogue.
-use Rattle.sdd_lawful.proofs.All.{Act, Attempt, Committed, Does, FragNo, Given, History, IsAttempt, IsCommitted, IsFragment, IsPermitted, IsSound, IsStartOf, List, Log, Queued, Some, U, [], ap, arith, changes, contains, differ, frag_no, history, home, inl, inr, length, lower_same_higher, map, next_stamp, or_left, or_right, range_with_len, recorded, same_number, same_or_not, slice_get, start_at, start_u, subst, suc, true, u_stamp, zero, ℕ, ◌++◌, ◌+◌, ◌<◌, ◌==◌, ◌∙◌, ◌∷◌, ◌≡◌, ◌≤◌}
+use Rattle.sdd_lawful.proofs.All.{Act, Attempt, Committed, Does, FragNo, History, Input, IsAttempt, IsCommitted, IsFragment, IsPermitted, IsSound, IsStartOf, List, Log, Queued, Some, U, [], ap, arith, changes, contains, differ, frag_no, history, home, inl, inr, length, lower_same_higher, map, next_stamp, or_left, or_right, range_with_len, recorded, same_number, same_or_not, slice_get, start_at, start_u, subst, suc, true, u_stamp, zero, ℕ, ◌++◌, ◌+◌, ◌<◌, ◌==◌, ◌∙◌, ◌∷◌, ◌≡◌, ◌≤◌}
 use Rattle.sdd_lawful.proofs.Classes.{at_home, home_setting}
 use Rattle.sdd_lawful.proofs.Committed.{home_step}
 use Rattle.sdd_lawful.proofs.Started.{start_act_of, start_in}
@@ -31,12 +31,12 @@ at_map {A = A} f (y ∷ xs) zero x e = let p : ◌≡◌ {A = A} y x = cc in ap 
 at_map f (y ∷ xs) (suc k) x e = at_map f xs k x e
 
 -- the fragments that committed transactions change are there
-abbrev pub ChangesExist : Given → History → Type 0
+abbrev pub ChangesExist : Input → History → Type 0
 ChangesExist g h = (t : Committed) (f : ℕ) → IsCommitted h t → changes t f ≡ true → IsFragment g.catalogue f
 
 -- the Start of an undeclared transaction
 
-pub record IsStartedAtU (g : Given) (log : Log) (a : Attempt) : Type 0 where
+pub record IsStartedAtU (g : Input) (log : Log) (a : Attempt) : Type 0 where
   pub later : Log
   pub before : Log
   pub queued : Queued
@@ -45,7 +45,7 @@ pub record IsStartedAtU (g : Given) (log : Log) (a : Attempt) : Type 0 where
   pub permitted : IsPermitted g (Does U (start_u g before queued) ∷ before)
   pub ts_is : a.ts ≡ u_stamp g before
 
-pub started_at_u : (g : Given) (log : Log) (a : Attempt) → IsSound g.catalogue → IsPermitted g log → IsAttempt (history log) a → a.class ≡ 0
+pub started_at_u : (g : Input) (log : Log) (a : Attempt) → IsSound g.catalogue → IsPermitted g log → IsAttempt (history log) a → a.class ≡ 0
     → IsStartedAtU g log a
 started_at_u g log a sound h s e =
     let x = start_in g log a sound h s in

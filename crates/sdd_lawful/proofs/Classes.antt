@@ -1,5 +1,5 @@
 -- The class of a transaction: that of the list of classes in force when it was given, at the site that runs the class.
-use Rattle.sdd_lawful.proofs.All.{Did, Does, Entry, Force, Given, Hand, Handed, IsPermitted, Log, Mark, None, Option, Redeclares, Setting, Site, Some, Submits, Submitted, T, Tick, Ticked, TmNo, Txn, U, [], ap, append_assoc, class_at, class_for, eqb-true, force_at, given_to, home, if_way, if◌then◌else◌, in_force, inl, inr, is_for, local_at, local_of, only_right, redeclares, refl, same_or_not, same_site, setting_of, site_self, subst, sym, tm_no, true, txn_at, with_submit, ℕ, ◌++◌, ◌==◌, ◌∙◌, ◌∷◌, ◌≡◌}
+use Rattle.sdd_lawful.proofs.All.{Did, Does, Entry, Force, Hand, Handed, Input, IsPermitted, Log, Mark, None, Option, Redeclares, Setting, Site, Some, Submits, Submitted, T, Tick, Ticked, TmNo, Txn, U, [], ap, append_assoc, class_at, class_for, eqb-true, force_at, given_to, home, if_way, if◌then◌else◌, in_force, inl, inr, is_for, local_at, local_of, only_right, redeclares, refl, same_or_not, same_site, setting_of, site_self, subst, sym, tm_no, true, txn_at, with_submit, ℕ, ◌++◌, ◌==◌, ◌∙◌, ◌∷◌, ◌≡◌}
 use Rattle.sdd_lawful.proofs.Submissions.{given_at, same_submission}
 use Rattle.sdd_invariants.specs.logs.Due.{home_of}
 use Rattle.sdd_invariants.specs.site_module.SiteLog as site
@@ -10,7 +10,7 @@ after_submit : (s : Setting) (n : ℕ) (o : Option Txn) (l : site.Log) → in_fo
 after_submit s n None l = refl
 after_submit s n (Some txn) l = refl
 
-pub force_there : (g : Given) (t : TmNo) (log : Log) → in_force (setting_of g (T t)) (local_of g (T t) log) ≡ force_at g (redeclares log)
+pub force_there : (g : Input) (t : TmNo) (log : Log) → in_force (setting_of g (T t)) (local_of g (T t) log) ≡ force_at g (redeclares log)
 force_there g t [] = refl
 force_there g t (Mark (Tick u n) ∷ log) =
     let l : site.Log = local_of g (T t) log in
@@ -32,18 +32,18 @@ force_there g t (Does by act ∷ log) =
 force_there g t (_ ∷ log) = force_there g t log
 
 -- the log of the site that runs a class
-abbrev pub at_home : Given → ℕ → Log → site.Log
+abbrev pub at_home : Input → ℕ → Log → site.Log
 at_home g c log = local_of g (home g.catalogue c) log
 
-abbrev pub home_setting : Given → ℕ → Setting
+abbrev pub home_setting : Input → ℕ → Setting
 home_setting g c = setting_of g (home g.catalogue c)
 
 -- at the site that runs a class, a transaction given now is one of the class
-abbrev pub IsForClass : Given → ℕ → Log → Txn → Type 0
+abbrev pub IsForClass : Input → ℕ → Log → Txn → Type 0
 IsForClass g c rest text = is_for c (in_force (home_setting g c) (at_home g c rest)).catalogue text ≡ true
 
 -- a transaction with this text was given to the site that runs a class, as one of the class
-pub record IsGivenTo (g : Given) (log : Log) (n c : ℕ) (text : Txn) : Type 0 where
+pub record IsGivenTo (g : Input) (log : Log) (n c : ℕ) (text : Txn) : Type 0 where
   pub later : Log
   pub rest : Log
   pub is : log ≡ later ++ Submitted (home g.catalogue c) n ∷ rest
@@ -61,7 +61,7 @@ zero_home c txn e = elim (same_or_not c 0) [
 ]
 
 -- at that site it is of the class that covers it
-pub class_given : (g : Given) (c n : ℕ) (text : Txn) (rest : Log) → IsPermitted g (Submitted (home g.catalogue c) n ∷ rest)
+pub class_given : (g : Input) (c n : ℕ) (text : Txn) (rest : Log) → IsPermitted g (Submitted (home g.catalogue c) n ∷ rest)
     → txn_at g n ≡ Some text → IsForClass g c rest text → c ≡ class_for (force_at g (redeclares rest)).catalogue text
 class_given g c n text rest h t f =
     let x = given_at g rest (home g.catalogue c) n h in
@@ -83,7 +83,7 @@ pub text_one : (o : Option Txn) (x y : Txn) → o ≡ Some x → o ≡ Some y �
 text_one o x y e f = let p : Some x ≡ Some y = sym e ∙ f in cc
 
 -- so a transaction has one class
-pub one_class : (g : Given) (log : Log) (n c d : ℕ) (t u : Txn) → IsPermitted g log → IsGivenTo g log n c t → IsGivenTo g log n d u → c ≡ d
+pub one_class : (g : Input) (log : Log) (n c d : ℕ) (t u : Txn) → IsPermitted g log → IsGivenTo g log n c t → IsGivenTo g log n d u → c ≡ d
 one_class g log n c d t u h x y =
     let r = (same_submission g n log x.later y.later x.rest y.rest (home g.catalogue c) (home g.catalogue d) h x.is y.is).0 in
     let e : t ≡ u = text_one (txn_at g n) t u x.text_is y.text_is in
@@ -97,14 +97,14 @@ pub further_back : (log later before : Log) (e f : Entry) (later2 rest : Log) �
     → (all : Log) × (log ≡ all ++ f ∷ rest)
 further_back log later before e f later2 rest p q = (later ++ e ∷ later2, p ∙ ap (λ l. later ++ e ∷ l) q ∙ sym (append_assoc later (e ∷ later2) (f ∷ rest)))
 
-pub given_in : (g : Given) (log later before : Log) (e : Entry) (n c : ℕ) (text : Txn) → log ≡ later ++ e ∷ before
+pub given_in : (g : Input) (log later before : Log) (e : Entry) (n c : ℕ) (text : Txn) → log ≡ later ++ e ∷ before
     → IsGivenTo g before n c text → IsGivenTo g log n c text
 given_in g log later before e n c text is x =
     let s = further_back log later before e (Submitted (home g.catalogue c) n) x.later x.rest is x.is in
     record { later = s.0; rest = x.rest; is = s.1; text_is = x.text_is; class_is = x.class_is; of_class = x.of_class }
 
 -- what is given to the site that runs a class stands in the site's log
-pub submit_local : (g : Given) (c n : ℕ) (text : Txn) (later rest : Log) → txn_at g n ≡ Some text
+pub submit_local : (g : Input) (c n : ℕ) (text : Txn) (later rest : Log) → txn_at g n ≡ Some text
     → (more : site.Log) × (at_home g c (later ++ Submitted (home g.catalogue c) n ∷ rest) ≡ more ++ Submits n text ∷ at_home g c rest)
 submit_local g c n text later rest t =
     local_at g (home g.catalogue c) later rest (Submitted (home g.catalogue c) n) (Submits n text) (submit_made (home g.catalogue c) n (txn_at g n) text t)

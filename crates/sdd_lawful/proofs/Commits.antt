@@ -1,5 +1,5 @@
 -- The Commits of a history, as acts of the sites that run their classes, each with the Start of its attempt.
-use Rattle.sdd_lawful.proofs.All.{Act, Attempt, Change, Commit, Did, Does, Given, HasCommit, IsAttempt, IsCommitRecord, IsMadeAt, IsPermitted, IsSound, List, Log, Msg, Queued, Rec, Records, Reply, Site, Some, Stands, Txn, all_new, ap, arith, bound, compare, false, head_left, head_of, history, home, home_fair, inl, inr, is_committed, length, next_stamp, p2_of, permitted_before, place_of_act, place_of_submit, queue, refl, says_at, start_at, subst, suc, sym, true, txn_at, txn_no, uses_of, was_submitted, ℕ, ◌++◌, ◌<◌, ◌∙◌, ◌∷◌, ◌≡◌}
+use Rattle.sdd_lawful.proofs.All.{Act, Attempt, Change, Commit, Did, Does, HasCommit, Input, IsAttempt, IsCommitRecord, IsMadeAt, IsPermitted, IsSound, List, Log, Msg, Queued, Rec, Records, Reply, Site, Some, Stands, Txn, all_new, ap, arith, bound, compare, false, head_left, head_of, history, home, home_fair, inl, inr, is_committed, length, next_stamp, p2_of, permitted_before, place_of_act, place_of_submit, queue, refl, says_at, start_at, subst, suc, sym, true, txn_at, txn_no, uses_of, was_submitted, ℕ, ◌++◌, ◌<◌, ◌∙◌, ◌∷◌, ◌≡◌}
 use Rattle.sdd_lawful.proofs.Classes.{at_home, further_back, home_setting}
 use Rattle.sdd_lawful.proofs.Homes.{home_small}
 use Rattle.sdd_lawful.proofs.Locals.{committed_here, committed_later}
@@ -17,7 +17,7 @@ pub record Told : Type 0 where
 abbrev pub commit_rec : ℕ → ℕ → Told → Rec
 commit_rec n number t = Commit (txn_no n) number t.reply t.changes t.values t.rows
 
-pub record IsCommitIn (g : Given) (log : Log) (n number k : ℕ) (told : Told) : Type 0 where
+pub record IsCommitIn (g : Input) (log : Log) (n number k : ℕ) (told : Told) : Type 0 where
   pub class : ℕ
   pub later : Log
   pub sends : List (Site × Msg)
@@ -27,7 +27,7 @@ pub record IsCommitIn (g : Given) (log : Log) (n number k : ℕ) (told : Told) :
   pub permitted : IsPermitted g (Does (home g.catalogue class) (Records class (commit_rec n number told) sends) ∷ before)
   pub says : IsCommitRecord (home_setting g class) (at_home g class before) class (txn_no n) number told.changes
 
-pub commit_in : (g : Given) (log : Log) (n number k : ℕ) (told : Told) → IsSound g.catalogue → IsPermitted g log
+pub commit_in : (g : Input) (log : Log) (n number k : ℕ) (told : Told) → IsSound g.catalogue → IsPermitted g log
     → Stands (history log) k (commit_rec n number told) → IsCommitIn g log n number k told
 commit_in g log n number k told sound h s =
     let m = run_in g log k (commit_rec n number told) h refl refl s in
@@ -44,7 +44,7 @@ commit_in g log n number k told sound h s =
     }
 
 -- the head of a queue has the text that was submitted
-pub text_of_head : (g : Given) (c : ℕ) (log : Log) (q : Queued) → IsPermitted g log → head_of (queue (home_setting g c) c (at_home g c log)) ≡ Some q
+pub text_of_head : (g : Input) (c : ℕ) (log : Log) (q : Queued) → IsPermitted g log → head_of (queue (home_setting g c) c (at_home g c log)) ≡ Some q
     → txn_at g q.number ≡ Some q.text
 text_of_head g c log q h e =
     let l = head_left (home_setting g c) c (at_home g c log) q (home_fair g c log h) (all_new g (home g.catalogue c) log h) e in
@@ -52,7 +52,7 @@ text_of_head g c log q h e =
     ap (txn_at g) l.number_is ∙ (place_of_submit g (home g.catalogue c) log w.later l.number l.text w.before w.is).text_is ∙ ap (λ t. Some t) (sym l.text_is)
 
 -- the Start of its attempt stands before it
-pub record IsBegun (g : Given) (log : Log) (n number k class ts : ℕ) (text : Txn) : Type 0 where
+pub record IsBegun (g : Input) (log : Log) (n number k class ts : ℕ) (text : Txn) : Type 0 where
   pub attempt : Attempt
   pub started : IsAttempt (history log) attempt
   pub txn_is : attempt.txn ≡ n
@@ -64,7 +64,7 @@ pub record IsBegun (g : Given) (log : Log) (n number k class ts : ℕ) (text : T
   pub before : attempt.place < k
 
 -- as the site's log has it
-abbrev pub begun_as : Given → ℕ → site.Log → Queued → ℕ → Attempt
+abbrev pub begun_as : Input → ℕ → site.Log → Queued → ℕ → Attempt
 begun_as g c l q place = record {
   txn = q.number;
   number = suc q.tries;
@@ -75,7 +75,7 @@ begun_as g c l q place = record {
   place = place;
 }
 
-pub begun : (g : Given) (log : Log) (n number k : ℕ) (told : Told) (x : IsCommitIn g log n number k told)
+pub begun : (g : Input) (log : Log) (n number k : ℕ) (told : Told) (x : IsCommitIn g log n number k told)
     → IsBegun g log n number k x.class x.says.now.ts x.says.now.text
 begun g log n number k told x =
     let at : Site = home g.catalogue x.class in
@@ -101,20 +101,20 @@ begun g log n number k told x =
       before = omega arith;
     }
 
-abbrev pub commit_made : (g : Given) (log : Log) (n number k : ℕ) (told : Told) (x : IsCommitIn g log n number k told)
+abbrev pub commit_made : (g : Input) (log : Log) (n number k : ℕ) (told : Told) (x : IsCommitIn g log n number k told)
     → IsMadeAt log k (commit_rec n number told)
 commit_made g log n number k told x =
     record { later = x.later; entry = Does (home g.catalogue x.class) (Records x.class (commit_rec n number told) x.sends); before = x.before; is = x.is; makes = refl; place_is = x.place_is }
 
 -- a transaction's Commit has the class of its Starts
-pub commit_class : (g : Given) (log : Log) (n number k : ℕ) (told : Told) (x : IsCommitIn g log n number k told) (a : Attempt)
+pub commit_class : (g : Input) (log : Log) (n number k : ℕ) (told : Told) (x : IsCommitIn g log n number k told) (a : Attempt)
     → IsSound g.catalogue → IsPermitted g log → IsAttempt (history log) a → a.txn ≡ n → a.class ≡ x.class
 commit_class g log n number k told x a sound h s e =
     let b = begun g log n number k told x in
     one_start_class g log a b.attempt h (start_in g log a sound h s) (start_in g log b.attempt sound h b.started) (e ∙ sym b.txn_is) ∙ b.class_is
 
 -- at the site of its class it is seen from then on
-pub commit_seen : (g : Given) (c n number : ℕ) (told : Told) (sends : List (Site × Msg)) (later before : Log)
+pub commit_seen : (g : Input) (c n number : ℕ) (told : Told) (sends : List (Site × Msg)) (later before : Log)
     → is_committed c n (at_home g c (later ++ Does (home g.catalogue c) (Records c (commit_rec n number told) sends) ∷ before)) ≡ true
 commit_seen g c n number told sends later before =
     let act : Act = Records c (commit_rec n number told) sends in
@@ -122,7 +122,7 @@ commit_seen g c n number told sends later before =
     subst (λ l. is_committed c n l ≡ true) (sym m.1)
     (committed_later c n m.0 (Did act ∷ at_home g c before) (committed_here c (at_home g c before) (txn_no n) number told.reply told.changes told.values told.rows sends))
 
-not_after : {A : Type 0} (g : Given) (log : Log) (n i j k l : ℕ) (t u : Told) (x : IsCommitIn g log n i k t) (y : IsCommitIn g log n j l u)
+not_after : {A : Type 0} (g : Input) (log : Log) (n i j k l : ℕ) (t u : Told) (x : IsCommitIn g log n i k t) (y : IsCommitIn g log n j l u)
     → x.class ≡ y.class → (between : Log) → y.before ≡ between ++ Does (home g.catalogue x.class) (Records x.class (commit_rec n i t) x.sends) ∷ x.before → A
 not_after g log n i j k l t u x y e between p =
     let seen : is_committed x.class n (at_home g x.class y.before) ≡ true = subst (λ b. is_committed x.class n (at_home g x.class b) ≡ true) (sym p)
@@ -131,7 +131,7 @@ not_after g log n i j k l t u x y e between p =
     let none : true ≡ false = sym there ∙ y.says.first in cc
 
 -- a transaction has one Commit
-pub one_commit : (g : Given) (log : Log) → IsSound g.catalogue → IsPermitted g log → (n i j k l : ℕ) → HasCommit (history log) n i k
+pub one_commit : (g : Input) (log : Log) → IsSound g.catalogue → IsPermitted g log → (n i j k l : ℕ) → HasCommit (history log) n i k
     → HasCommit (history log) n j l → k ≡ l
 one_commit g log sound h n i j k l p q =
     let t : Told = record { reply = p.reply; changes = p.changes; values = p.values; rows = p.rows } in

@@ -1,5 +1,5 @@
 -- A committed transaction of a history, as the Commit of an active attempt; and what makes one of each.
-use Rattle.sdd_lawful.proofs.All.{Act, Attempt, Bases, Change, Commit, Committed, Does, Each, Effect, Given, IsAttempt, IsCommitted, IsFair, IsMadeAt, IsPermitted, IsSound, IsStep, List, Log, Records, Reply, Running, Setting, Some, Stands, TxnNo, active, ap, arith, commit_act, effect, history, home, home_fair, length, one_active, one_attempt, one_of_txn, one_start, own_act, permitted_before, refl, same_start, says_at, sends_of_act, step_way, subst, sym, txn_at, txn_no, uses_of, ℕ, ◌++◌, ◌∙◌, ◌∷◌, ◌≡◌}
+use Rattle.sdd_lawful.proofs.All.{Act, Attempt, Bases, Change, Commit, Committed, Does, Each, Effect, Input, IsAttempt, IsCommitted, IsFair, IsMadeAt, IsPermitted, IsSound, IsStep, List, Log, Records, Reply, Running, Setting, Some, Stands, TxnNo, active, ap, arith, commit_act, effect, history, home, home_fair, length, one_active, one_attempt, one_of_txn, one_start, own_act, permitted_before, refl, same_start, says_at, sends_of_act, step_way, subst, sym, txn_at, txn_no, uses_of, ℕ, ◌++◌, ◌∙◌, ◌∷◌, ◌≡◌}
 use Rattle.sdd_lawful.proofs.Classes.{at_home, home_setting}
 use Rattle.sdd_lawful.proofs.Commits.{IsCommitIn, Told, begun, commit_class, commit_in, commit_rec, one_commit}
 use Rattle.sdd_lawful.proofs.Counted.{numbered}
@@ -8,16 +8,16 @@ use Rattle.sdd_lawful.proofs.Places.{stands_there}
 use Rattle.sdd_invariants.specs.site_module.SiteLog as site
 
 -- of one transaction and number there is one attempt
-pub one_place : (g : Given) (log : Log) → IsSound g.catalogue → IsPermitted g log → (a b : Attempt) → IsAttempt (history log) a
+pub one_place : (g : Input) (log : Log) → IsSound g.catalogue → IsPermitted g log → (a b : Attempt) → IsAttempt (history log) a
     → IsAttempt (history log) b → a.txn ≡ b.txn → a.number ≡ b.number → a.place ≡ b.place
 one_place g log sound h a b s t e f = one_start (history log) (numbered g log sound h) a b s t e f
 
-pub same_attempt : (g : Given) (log : Log) → IsSound g.catalogue → IsPermitted g log → (a b : Attempt) → IsAttempt (history log) a
+pub same_attempt : (g : Input) (log : Log) → IsSound g.catalogue → IsPermitted g log → (a b : Attempt) → IsAttempt (history log) a
     → IsAttempt (history log) b → a.txn ≡ b.txn → a.number ≡ b.number → a ≡ b
 same_attempt g log sound h a b s t e f = one_attempt a b (same_start (history log) a b s t (one_place g log sound h a b s t e f))
 
 -- of one transaction one is committed
-pub same_committed : (g : Given) (log : Log) → IsSound g.catalogue → IsPermitted g log → (t u : Committed)
+pub same_committed : (g : Input) (log : Log) → IsSound g.catalogue → IsPermitted g log → (t u : Committed)
     → IsCommitted (history log) t → IsCommitted (history log) u → t.start.txn ≡ u.start.txn → t ≡ u
 same_committed g log sound h t u c d e = one_of_txn (history log) (one_commit g log sound h) (one_place g log sound h) t u c d e
 
@@ -42,12 +42,12 @@ of_running s log act i = step_way s log act (OfRunning s log) (λ c q at f e. tt
     (λ c bases a at f. record { running = a; bases = bases; active_is = f; act_is = refl; txn_is = refl; number_is = refl; reply_is = refl; changes_are = refl })
     (λ to m hand f. tt) i
 
-pub home_step : (g : Given) (c : ℕ) (log : Log) (act : Act) → IsPermitted g (Does (home g.catalogue c) act ∷ log)
+pub home_step : (g : Input) (c : ℕ) (log : Log) (act : Act) → IsPermitted g (Does (home g.catalogue c) act ∷ log)
     → IsStep (home_setting g c) (at_home g c log) act
 home_step g c log act h =
     (subst (λ l. Each (IsFair (home_setting g c)) l) (own_act g (home g.catalogue c) act log) (home_fair g c (Does (home g.catalogue c) act ∷ log) h)).0
 
-pub record IsCommittedIn (g : Given) (log : Log) (t : Committed) : Type 0 where
+pub record IsCommittedIn (g : Input) (log : Log) (t : Committed) : Type 0 where
   pub later : Log
   pub before : Log
   pub bases : Bases
@@ -65,7 +65,7 @@ pub record IsCommittedIn (g : Given) (log : Log) (t : Committed) : Type 0 where
   pub changes_are : t.changes ≡ (effect g.catalogue (bases running.ts) running.text).changes
 
 -- of class k
-committed_as : (g : Given) (log : Log) (t : Committed) (k : ℕ) (later before : Log) (bases : Bases) (running : Running) → k ≡ t.start.class
+committed_as : (g : Input) (log : Log) (t : Committed) (k : ℕ) (later before : Log) (bases : Bases) (running : Running) → k ≡ t.start.class
     → log ≡ later ++ Does (home g.catalogue k) (commit_act g.catalogue bases k running) ∷ before → length (history before) ≡ t.place
     → IsPermitted g (Does (home g.catalogue k) (commit_act g.catalogue bases k running) ∷ before)
     → active (home_setting g k) k (at_home g k before) ≡ Some running → running.txn ≡ t.start.txn → running.attempt ≡ t.start.number
@@ -90,7 +90,7 @@ committed_as g log t k later before bases running e is place h active_is n i ts 
   changes_are = changes;
 }
 
-pub committed_in : (g : Given) (log : Log) (t : Committed) → IsSound g.catalogue → IsPermitted g log → IsCommitted (history log) t → IsCommittedIn g log t
+pub committed_in : (g : Input) (log : Log) (t : Committed) → IsSound g.catalogue → IsPermitted g log → IsCommitted (history log) t → IsCommittedIn g log t
 committed_in g log t sound h c =
     let told : Told = record { reply = t.reply; changes = t.changes; values = t.values; rows = t.rows } in
     let x = commit_in g log t.start.txn t.start.number t.place told sound h c.committed in
@@ -109,13 +109,13 @@ committed_in g log t sound h c =
     (ap (λ (y : TxnNo). y.0) (sym r.txn_is)) (sym r.number_is) ts (b.text_is ∙ ap (λ (y : Running). Some y.text) now)
     (ap (λ (y : Attempt). y.uses) start ∙ b.uses_are ∙ ap (λ (y : Running). uses_of g.catalogue y.text) now) r.reply_is r.changes_are
 
-abbrev pub committed_made : (g : Given) (log : Log) (t : Committed) (x : IsCommittedIn g log t)
+abbrev pub committed_made : (g : Input) (log : Log) (t : Committed) (x : IsCommittedIn g log t)
     → IsMadeAt log t.place (Commit (txn_no x.running.txn) x.running.attempt (effect g.catalogue (x.bases x.running.ts) x.running.text).reply (effect g.catalogue (x.bases x.running.ts) x.running.text).changes x.running.exchange.values x.running.exchange.rows)
 committed_made g log t x =
     record { later = x.later; entry = Does (home g.catalogue t.start.class) (commit_act g.catalogue x.bases t.start.class x.running); before = x.before; is = x.is; makes = refl; place_is = x.place_is }
 
 -- a Commit in the log is one of the history
-pub record IsCommitOfLog (g : Given) (log : Log) (class : ℕ) (bases : Bases) (running : Running) (before : Log) : Type 0 where
+pub record IsCommitOfLog (g : Input) (log : Log) (class : ℕ) (bases : Bases) (running : Running) (before : Log) : Type 0 where
   pub committed : Committed
   pub is_committed : IsCommitted (history log) committed
   pub txn_is : committed.start.txn ≡ running.txn
@@ -125,12 +125,12 @@ pub record IsCommitOfLog (g : Given) (log : Log) (class : ℕ) (bases : Bases) (
   pub place_is : committed.place ≡ length (history before)
   pub changes_are : committed.changes ≡ (effect g.catalogue (bases running.ts) running.text).changes
 
-abbrev pub told_by : Given → Bases → Running → Told
+abbrev pub told_by : Input → Bases → Running → Told
 told_by g bases a =
     let e : Effect = effect g.catalogue (bases a.ts) a.text in
     record { reply = e.reply; changes = e.changes; values = a.exchange.values; rows = a.exchange.rows }
 
-pub commit_of_log : (g : Given) (log later before : Log) (class : ℕ) (bases : Bases) (running : Running) → IsSound g.catalogue
+pub commit_of_log : (g : Input) (log later before : Log) (class : ℕ) (bases : Bases) (running : Running) → IsSound g.catalogue
     → IsPermitted g log → log ≡ later ++ Does (home g.catalogue class) (commit_act g.catalogue bases class running) ∷ before
     → active (home_setting g class) class (at_home g class before) ≡ Some running → IsCommitOfLog g log class bases running before
 commit_of_log g log later before class bases running sound h is active_is =

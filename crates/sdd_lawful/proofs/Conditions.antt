@@ -1,5 +1,5 @@
 -- The history of a permitted log keeps the law of read conditions.
-use Rattle.sdd_lawful.proofs.All.{AppliedBefore, AreErasOf, Attempt, Catalogue, Change, Committed, Cond, Contains, D, Does, Entry, Eras, Force, FragNo, Given, IsAnswerWith, IsAnswered, IsApplied, IsAttempt, IsCommitted, IsConditionOf, IsPermitted, IsSound, IsTable, KeepsConditions, List, Log, None, Option, P2, P3, Records, Some, T, TmNo, TouchesOne, [], any_at, ap, append_assoc, arith, ascending, asked_by, class_at, class_no, classes_of, commit_act, cond_for, cond_of, condition_on, conditions, conditions_at, conditions_of, cons_option, contains, dm_no, eqb-true, event_at, false, filter, filter_map, force_at, frag_no, fragments_in, fragments_of, get_or_from_slice_get, has_copy, history, home, if◌then◌else◌, in_force, in_mapped, in_range, inl, inr, is_asked, length, list_any, local_of, map, marks, member_at, one_table, option_or, p2_time, place_within, redeclares, refl, same_or_not, setting_of, slice_get, split_applied, subst, suc, sym, time_at, tm_no, touches, true, txn_no, undeclared_conditions, zero, ℕ, ◌++◌, ◌<◌, ◌==◌, ◌||◌, ◌∙◌, ◌∷◌, ◌≡◌, ◌≤◌}
+use Rattle.sdd_lawful.proofs.All.{AppliedBefore, AreErasOf, Attempt, Catalogue, Change, Committed, Cond, Contains, D, Does, Entry, Eras, Force, FragNo, Input, IsAnswerWith, IsAnswered, IsApplied, IsAttempt, IsCommitted, IsConditionOf, IsPermitted, IsSound, IsTable, KeepsConditions, List, Log, None, Option, P2, P3, Records, Some, T, TmNo, TouchesOne, [], any_at, ap, append_assoc, arith, ascending, asked_by, class_at, class_no, classes_of, commit_act, cond_for, cond_of, condition_on, conditions, conditions_at, conditions_of, cons_option, contains, dm_no, eqb-true, event_at, false, filter, filter_map, force_at, frag_no, fragments_in, fragments_of, get_or_from_slice_get, has_copy, history, home, if◌then◌else◌, in_force, in_mapped, in_range, inl, inr, is_asked, length, list_any, local_of, map, marks, member_at, one_table, option_or, p2_time, place_within, redeclares, refl, same_or_not, setting_of, slice_get, split_applied, subst, suc, sym, time_at, tm_no, touches, true, txn_no, undeclared_conditions, zero, ℕ, ◌++◌, ◌<◌, ◌==◌, ◌||◌, ◌∙◌, ◌∷◌, ◌≡◌, ◌≤◌}
 use Rattle.sdd_lawful.proofs.Answered.{IsReadIn, answer_in, answer_made, answer_rec}
 use Rattle.sdd_lawful.proofs.Applies.{apply_of_committed, applied_seen, seen_applied}
 use Rattle.sdd_lawful.proofs.Classes.{at_home, force_there, further_back, home_setting}
@@ -56,7 +56,7 @@ above_zero cat table class frags own p2 d k c e = elim (same_or_not class 0) [
 
 -- the conditions of a READ are those of its attempt
 
-pub start_event : (g : Given) (log later before : Log) (e : Entry) (a : Attempt) (d : ℕ) → log ≡ later ++ e ∷ before → (x : IsReadIn g before a d)
+pub start_event : (g : Input) (log later before : Log) (e : Entry) (a : Attempt) (d : ℕ) → log ≡ later ++ e ∷ before → (x : IsReadIn g before a d)
     → (all : Log) × (log ≡ all ++ x.start_log) × (event_at (history log) a.place ≡ marks x.start_log)
 start_event g log later before e a d is x =
     let start : Entry = Does (home g.catalogue a.class) x.start in
@@ -68,7 +68,7 @@ start_event g log later before e a d is x =
     )
 
 -- by the table of the catalogue in force at the Start
-same_table : (g : Given) (log : Log) (eras : Eras) (a : Attempt) (table : List line.Entry) (all start_log : Log) → AreErasOf g log eras
+same_table : (g : Input) (log : Log) (eras : Eras) (a : Attempt) (table : List line.Entry) (all start_log : Log) → AreErasOf g log eras
     → log ≡ all ++ start_log → event_at (history log) a.place ≡ marks start_log
     → IsTable (law_eras.in_force g.catalogue eras (event_at (history log) a.place)) table → (a.class == 0) ≡ false
     → (in_force (home_setting g a.class) (at_home g a.class start_log)).table ≡ table
@@ -83,7 +83,7 @@ same_table g log eras a table all start_log are is event t ne =
     ∙ one_table (force_at g (redeclares start_log)).catalogue (force_at g (redeclares start_log)).table table (are.tabled all start_log is).table
     (subst (λ c. IsTable c table) cat t)
 
-conds_by : (g : Given) (a : Attempt) (d : ℕ) (force_table table : List line.Entry) → ((a.class == 0) ≡ false → force_table ≡ table)
+conds_by : (g : Input) (a : Attempt) (d : ℕ) (force_table table : List line.Entry) → ((a.class == 0) ≡ false → force_table ≡ table)
     → conditions_at g.catalogue force_table a.class (ascending (fragments_in a.uses)) a.ts (p2_time a) d ≡ conditions_of g.catalogue table a d
 conds_by g a d force_table table f =
     elim (a.class == 0) as
@@ -92,7 +92,7 @@ conds_by g a d force_table table f =
       | false ↦ λ h. ap (λ t. conditions g.catalogue t a.class d (map frag_no (ascending (fragments_in a.uses))) a.ts (p2_time a)) (h refl)
     ] f
 
-pub conds_are : (g : Given) (log : Log) (eras : Eras) (a : Attempt) (d : ℕ) (later before : Log) (e : Entry) (table : List line.Entry) → AreErasOf g log eras
+pub conds_are : (g : Input) (log : Log) (eras : Eras) (a : Attempt) (d : ℕ) (later before : Log) (e : Entry) (table : List line.Entry) → AreErasOf g log eras
     → log ≡ later ++ e ∷ before → (x : IsReadIn g before a d)
     → IsTable (law_eras.in_force g.catalogue eras (event_at (history log) a.place)) table → x.conds ≡ conditions_of g.catalogue table a d
 conds_are g log eras a d later before e table are is x t =
@@ -118,11 +118,11 @@ touching cat xs frags f d e c n =
 
 -- at an Answer with a condition: those that it names are applied exactly where they have smaller timestamps
 
-of_class : (g : Given) (log : Log) (x : Committed) (c : IsCommittedIn g log x) (j : ℕ) → x.start.class ≡ j
+of_class : (g : Input) (log : Log) (x : Committed) (c : IsCommittedIn g log x) (j : ℕ) → x.start.class ≡ j
     → log ≡ c.later ++ Does (home g.catalogue j) (commit_act g.catalogue c.bases j c.running) ∷ c.before
 of_class g log x c j e = subst (λ k. log ≡ c.later ++ Does (home g.catalogue k) (commit_act g.catalogue c.bases k c.running) ∷ c.before) e c.is
 
-pub met : (g : Given) (log : Log) (eras : Eras) → IsSound g.catalogue → IsPermitted g log → AreErasOf g log eras
+pub met : (g : Input) (log : Log) (eras : Eras) → IsSound g.catalogue → IsPermitted g log → AreErasOf g log eras
     → (a : Attempt) (d k : ℕ) (q : Cond) (x : Committed) → IsAttempt (history log) a → IsAnswered (history log) a d k
     → IsConditionOf g.catalogue eras (history log) a d q → IsCommitted (history log) x → x.start.class ≡ q.class.0 → TouchesOne g.catalogue x d q.frags
     → (AppliedBefore (history log) x.start.txn d k → x.start.ts < q.time.0) × (x.start.ts < q.time.0 → AppliedBefore (history log) x.start.txn d k)
@@ -164,6 +164,6 @@ met g log eras sound h are a d k q x s t cd cx class touch =
       (λ l. applied_seen g log x c d k (answer_rec a d) (answer_made g log a d k w) h (subst (λ j. IsApplied g w.before (dm_no d) j c.running) (sym class) (r.1 (omega arith)))),
     )
 
-pub keeps_conditions : (g : Given) (log : Log) (eras : Eras) → IsSound g.catalogue → IsPermitted g log → AreErasOf g log eras
+pub keeps_conditions : (g : Input) (log : Log) (eras : Eras) → IsSound g.catalogue → IsPermitted g log → AreErasOf g log eras
     → KeepsConditions g.catalogue eras (history log)
 keeps_conditions g log eras sound h are = record { met = met g log eras sound h are }

@@ -1,5 +1,5 @@
 -- How many Starts of a transaction a history has is how often the site that runs its class started it.
-use Rattle.sdd_lawful.proofs.All.{Attempt, Bool, Commit, Did, Does, Entry, Force, Given, Hand, Handed, History, IsAttempt, IsPermitted, IsSound, List, Log, Mark, Msg, None, Option, Rec, Records, Redeclares, Sends, Site, SiteLog, Some, Start, Submitted, T, Tick, Ticked, Txn, TxnNo, U, [], ap, append_assoc, arith, cond, eqb-true, false, filter, filter-append, force_at, history, home, if_way, if◌then◌else◌, inl, inr, is_start_of, length, length-append, local_of, marks, record_of, redeclares, refl, same_number, same_or_not, same_site, site_self, starts_before, starts_of, subst, suc, sym, take, true, txn_at, with_force, with_submit, ℕ, ◌&&◌, ◌++◌, ◌+◌, ◌==◌, ◌∙◌, ◌∷◌, ◌≡◌}
+use Rattle.sdd_lawful.proofs.All.{Attempt, Bool, Commit, Did, Does, Entry, Force, Hand, Handed, History, Input, IsAttempt, IsPermitted, IsSound, List, Log, Mark, Msg, None, Option, Rec, Records, Redeclares, Sends, Site, SiteLog, Some, Start, Submitted, T, Tick, Ticked, Txn, TxnNo, U, [], ap, append_assoc, arith, cond, eqb-true, false, filter, filter-append, force_at, history, home, if_way, if◌then◌else◌, inl, inr, is_start_of, length, length-append, local_of, marks, record_of, redeclares, refl, same_number, same_or_not, same_site, site_self, starts_before, starts_of, subst, suc, sym, take, true, txn_at, with_force, with_submit, ℕ, ◌&&◌, ◌++◌, ◌+◌, ◌==◌, ◌∙◌, ◌∷◌, ◌≡◌}
 use Rattle.sdd_lawful.proofs.Classes.{IsGivenTo, at_home, one_class}
 use Rattle.sdd_lawful.proofs.Places.{history_before, history_step, recorded}
 use Rattle.sdd_lawful.proofs.Started.{attempt_from, given_of_attempt, start_act_of, start_at_entry, start_in}
@@ -54,12 +54,12 @@ count_force : (c n x : ℕ) (at : Site) (force : Force) (t : ℕ) (l : SiteLog) 
 count_force c n x U force t l e = e
 count_force c n x _ force t l e = e
 
-count_first : (g : Given) (c n : ℕ) (at : Site) → starts_of c n (local_of g at []) ≡ 0
+count_first : (g : Input) (c n : ℕ) (at : Site) → starts_of c n (local_of g at []) ≡ 0
 count_first g c n U = refl
 count_first g c n _ = refl
 
 -- a Start of the transaction, which is of the class; of another transaction it counts for neither
-abbrev IsOwnStart : Given → ℕ → ℕ → Site → ℕ → Rec → Type 0
+abbrev IsOwnStart : Input → ℕ → ℕ → Site → ℕ → Rec → Type 0
 IsOwnStart g c n at k r = is_start_of n r ≡ true → (at ≡ home g.catalogue c) × (k ≡ c)
 
 count_other : (c n k x : ℕ) (txn : TxnNo) → (txn.0 == n) ≡ false → ((k == c) && (n == txn.0)) ≡ false
@@ -70,7 +70,7 @@ count_other c n k x txn e =
     ] in
     elim (k == c) as (λ b. (b && (n == txn.0)) ≡ false) [ true ↦ f | false ↦ refl ]
 
-count_act : (g : Given) (c n x : ℕ) (at : Site) (k : ℕ) (r : Rec) (sends : List (Site × Msg)) (l : SiteLog) → IsOwnStart g c n at k r → starts_of c n l ≡ x
+count_act : (g : Input) (c n x : ℕ) (at : Site) (k : ℕ) (r : Rec) (sends : List (Site × Msg)) (l : SiteLog) → IsOwnStart g c n at k r → starts_of c n l ≡ x
     → starts_of c n (if same_site (home g.catalogue c) at then Did (Records k r sends) ∷ l else l) ≡ x + one_of (is_start_of n r)
 count_act g c n x at k (Start txn attempt class ts p2 uses) sends l own e = elim (same_or_not txn.0 n) [
   | inl p ↦ (let q : (txn.0 == n) ≡ true = ap (λ y. y == n) p ∙ same_number n in
@@ -85,11 +85,11 @@ count_act g c n x at k (Commit txn attempt reply changes values rows) sends l ow
     count_if c n x (same_site (home g.catalogue c) at) (Did (Records k (Commit txn attempt reply changes values rows) sends)) l refl e
 count_act g c n x at k r sends l own e = count_if c n x (same_site (home g.catalogue c) at) (Did (Records k r sends)) l refl e
 
-abbrev IsOwnEntry : Given → ℕ → ℕ → Entry → Type 0
+abbrev IsOwnEntry : Input → ℕ → ℕ → Entry → Type 0
 IsOwnEntry g c n (Does at (Records k r sends)) = IsOwnStart g c n at k r
 IsOwnEntry g c n _ = Unit {0}
 
-count_entry : (g : Given) (c n x : ℕ) (e : Entry) (log : Log) → IsOwnEntry g c n e → starts_of c n (at_home g c log) ≡ x
+count_entry : (g : Input) (c n x : ℕ) (e : Entry) (log : Log) → IsOwnEntry g c n e → starts_of c n (at_home g c log) ≡ x
     → starts_of c n (at_home g c (e ∷ log)) ≡ x + one_by n (record_of e)
 count_entry g c n x (Mark (Tick t k)) log own e = count_if c n x (same_site (home g.catalogue c) (T t)) (Ticked k) (at_home g c log) refl e
 count_entry g c n x (Redeclares t) log own e = plus_none _ x (count_force c n x (home g.catalogue c) (force_at g (suc (redeclares log))) t (at_home g c log) e)
@@ -100,11 +100,11 @@ count_entry g c n x (Does at (Records k r sends)) log own e = count_act g c n x 
 count_entry g c n x (Does at (Sends to m hand)) log own e = count_if c n x (same_site (home g.catalogue c) at) (Did (Sends to m hand)) (at_home g c log) refl e
 count_entry g c n x _ log own e = plus_none _ x e
 
-abbrev AllOwn : Given → ℕ → ℕ → Log → Type 0
+abbrev AllOwn : Input → ℕ → ℕ → Log → Type 0
 AllOwn g c n [] = Unit {0}
 AllOwn g c n (e ∷ log) = IsOwnEntry g c n e × AllOwn g c n log
 
-pub counted : (g : Given) (c n : ℕ) (log : Log) → AllOwn g c n log → starts_in n (history log) ≡ starts_of c n (at_home g c log)
+pub counted : (g : Input) (c n : ℕ) (log : Log) → AllOwn g c n log → starts_in n (history log) ≡ starts_of c n (at_home g c log)
 counted g c n [] own = sym (count_first g c n (home g.catalogue c))
 counted g c n (e ∷ log) own =
     let i = counted g c n log own.1 in
@@ -112,7 +112,7 @@ counted g c n (e ∷ log) own =
 
 -- every Start of a transaction in the log is of its class
 
-own_record : (g : Given) (full : Log) (c n : ℕ) (text : Txn) (later : Log) (at : Site) (k : ℕ) (r : Rec) (sends : List (Site × Msg)) (before : Log)
+own_record : (g : Input) (full : Log) (c n : ℕ) (text : Txn) (later : Log) (at : Site) (k : ℕ) (r : Rec) (sends : List (Site × Msg)) (before : Log)
     → IsSound g.catalogue → IsPermitted g full → IsGivenTo g full n c text → full ≡ later ++ Does at (Records k r sends) ∷ before → IsOwnStart g c n at k r
 own_record g full c n text later at k (Start txn attempt class ts p2 uses) sends before sound h given is q =
     let s = start_at_entry g full later at k txn attempt class ts p2 uses sends before sound h is in
@@ -122,19 +122,19 @@ own_record g full c n text later at k (Start txn attempt class ts p2 uses) sends
     (s.2 ∙ ap (home g.catalogue) (s.1 ∙ same), s.1 ∙ same)
 own_record g full c n text later at k r sends before sound h given is q = cc
 
-own_entry : (g : Given) (full : Log) (c n : ℕ) (text : Txn) (later : Log) (e : Entry) (before : Log) → IsSound g.catalogue
+own_entry : (g : Input) (full : Log) (c n : ℕ) (text : Txn) (later : Log) (e : Entry) (before : Log) → IsSound g.catalogue
     → IsPermitted g full → IsGivenTo g full n c text → full ≡ later ++ e ∷ before → IsOwnEntry g c n e
 own_entry g full c n text later (Does at (Records k r sends)) before sound h given is = own_record g full c n text later at k r sends before sound h given is
 own_entry g full c n text later _ before sound h given is = tt
 
-all_own : (g : Given) (full : Log) (c n : ℕ) (text : Txn) (later log : Log) → IsSound g.catalogue → IsPermitted g full
+all_own : (g : Input) (full : Log) (c n : ℕ) (text : Txn) (later log : Log) → IsSound g.catalogue → IsPermitted g full
     → IsGivenTo g full n c text → full ≡ later ++ log → AllOwn g c n log
 all_own g full c n text later [] sound h given is = tt
 all_own g full c n text later (e ∷ log) sound h given is =
     (own_entry g full c n text later e log sound h given is, all_own g full c n text (later ++ e ∷ []) log sound h given (is ∙ sym (append_assoc later (e ∷ []) log)))
 
 -- an attempt's number counts the Starts of its transaction before it
-pub numbered : (g : Given) (log : Log) → IsSound g.catalogue → IsPermitted g log → (a : Attempt) → IsAttempt (history log) a
+pub numbered : (g : Input) (log : Log) → IsSound g.catalogue → IsPermitted g log → (a : Attempt) → IsAttempt (history log) a
     → a.number ≡ suc (starts_before (history log) a.txn a.place)
 numbered g log sound h a s =
     let x = start_in g log a sound h s in

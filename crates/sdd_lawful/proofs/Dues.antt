@@ -1,5 +1,5 @@
 -- What a Wait, an Arrive and a Pass of a data module are due to.
-use Rattle.sdd_lawful.proofs.All.{Act, Arrive, Ask, Bases, Bool, Catalogue, ClassNo, ClassView, Cond, D, Did, DmNo, Fetch, Given, Handed, Held, Home, IsClassHere, IsDue, IsDueAt, IsReadStep, IsStep, List, May, Msg, None, Null, Open, Option, Pass, Processes, Queued, Read, Rec, Records, Redeclared, Reduce, Running as Attempt, Sends, Setting, Ship, Site, SiteLog as Log, Some, Submits, T, Ticked, TmNo, Ts, TxnNo, U, Use, View, Wait, Write, [], act_by, act_where, active, answer_of, answer_to, ap, asks_next, asks_rows, attempt_due, base_of, bound_of, by_head, by_open, by_record, by_wait, class_at, class_at_place, commit_act, commit_put_is, dm_no, false, filter, first_send, first_there, hands, head, head_due, head_of, home, home_of, if◌then◌else◌, in_either, in_filtered, in_mapped, in_none, in_one, in_passing, inl, inr, is_asked_of, is_held, is_met, is_over, is_processing, judged, list_all, local_of, nat_lt, not, not_both, opens, or_else, pipe, refl, sends_of_act, setting_of, slice_get, spoiler, start_at, start_puts, start_read, step_on, step_way, subst, suc, sym, the_one, time_at, tm_no, to_site, true, view_of, waits, was_handed, ℕ, ◌&&◌, ◌++◌, ◌==◌, ◌∙◌, ◌∷◌, ◌≡◌}
+use Rattle.sdd_lawful.proofs.All.{Act, Arrive, Ask, Bases, Bool, Catalogue, ClassNo, ClassView, Cond, D, Did, DmNo, Fetch, Handed, Held, Home, Input, IsClassHere, IsDue, IsDueAt, IsReadStep, IsStep, List, May, Msg, None, Null, Open, Option, Pass, Processes, Queued, Read, Rec, Records, Redeclared, Reduce, Running as Attempt, Sends, Setting, Ship, Site, SiteLog as Log, Some, Submits, T, Ticked, TmNo, Ts, TxnNo, U, Use, View, Wait, Write, [], act_by, act_where, active, answer_of, answer_to, ap, asks_next, asks_rows, attempt_due, base_of, bound_of, by_head, by_open, by_record, by_wait, class_at, class_at_place, commit_act, commit_put_is, dm_no, false, filter, first_send, first_there, hands, head, head_due, head_of, home, home_of, if◌then◌else◌, in_either, in_filtered, in_mapped, in_none, in_one, in_passing, inl, inr, is_asked_of, is_held, is_met, is_over, is_processing, judged, list_all, local_of, nat_lt, not, not_both, opens, or_else, pipe, refl, sends_of_act, setting_of, slice_get, spoiler, start_at, start_puts, start_read, step_on, step_way, subst, suc, sym, the_one, time_at, tm_no, to_site, true, view_of, waits, was_handed, ℕ, ◌&&◌, ◌++◌, ◌==◌, ◌∙◌, ◌∷◌, ◌≡◌}
 use Rattle.sdd_invariants.specs.site_module.SiteLog.{Entry}
 use Rattle.sdd_invariants.specs.logs.Entries as log
 use Rattle.sdd_invariants.specs.tm.Due as tm
@@ -284,7 +284,7 @@ runs_if false t = tt
 pub home_runs : (cat : Catalogue) (c : ℕ) → IsRunner (home cat c)
 home_runs cat c = runs_if (c == 0) (tm_no (class_at cat c).tm.0)
 
-pub null_asked : (g : Given) (l : log.Log) (at : Site) (d : DmNo) (k : ClassNo) (t : Ts) (hand : Option ℕ) → IsRunner at
+pub null_asked : (g : Input) (l : log.Log) (at : Site) (d : DmNo) (k : ClassNo) (t : Ts) (hand : Option ℕ) → IsRunner at
     → IsDueAt g l at (Sends (D d) (Null k t) hand) → WasAskedBy (local_of g at l) (D d)
 null_asked g l (D d2) d k t hand r h = absurd r
 null_asked g l U d k t hand r h = u_null_to (setting_of g U) (local_of g U l) (base_of g l) (Sends (D d) (Null k t) hand) h

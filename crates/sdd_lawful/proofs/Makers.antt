@@ -1,6 +1,6 @@
 -- Which sites make which records: a site that runs transactions makes Starts and Commits of the classes that it runs, a
 -- data module makes the others, each with its own number.
-use Rattle.sdd_lawful.proofs.All.{Act, Answer, Apply, Arrive, Bool, ClassView, Commit, D, DmNo, Does, Each, Fetch, Given, Home, IsDue, IsFair, IsPermitted, IsStep, List, Log, Msg, None, Nothing, Null, Open, Option, Pass, Processes, Read, Rec, Records, Reduce, Refuses, Rejected, Sends, Setting, Ship, Site, SiteLog, Some, Start, Step, Submit, T, U, View, Wait, Waits, Write, act_by, act_where, allowed_act, answer_of, answer_to, by_head, by_open, false, filter, head, head_of, head_step, home, home_of, is_asked_of, local_of, own_act, refl, setting_of, step_way, subst, sym, t_fair, true, u_fair, view_of, ℕ, ◌∙◌, ◌∷◌, ◌≡◌}
+use Rattle.sdd_lawful.proofs.All.{Act, Answer, Apply, Arrive, Bool, ClassView, Commit, D, DmNo, Does, Each, Fetch, Home, Input, IsDue, IsFair, IsPermitted, IsStep, List, Log, Msg, None, Nothing, Null, Open, Option, Pass, Processes, Read, Rec, Records, Reduce, Refuses, Rejected, Sends, Setting, Ship, Site, SiteLog, Some, Start, Step, Submit, T, U, View, Wait, Waits, Write, act_by, act_where, allowed_act, answer_of, answer_to, by_head, by_open, false, filter, head, head_of, head_step, home, home_of, is_asked_of, local_of, own_act, refl, setting_of, step_way, subst, sym, t_fair, true, u_fair, view_of, ℕ, ◌∙◌, ◌∷◌, ◌≡◌}
 
 abbrev pub is_of_run : Rec → Bool
 is_of_run (Start txn attempt class ts p2 uses) = true
@@ -60,12 +60,12 @@ due_kind : (h : Home) (v : View) (a : Act) → IsDue h v a → IsDataAct h.dm a
 due_kind h v a (by_open n k p e) = open_kind h k (head_of (filter (is_asked_of k.class) v.opens)) a e
 due_kind h v a (by_head n k p e) = head_kind h v k.class (head k.pipe) (head_step v k) a e
 
-abbrev pub IsActOf : Given → Site → Act → Type 0
+abbrev pub IsActOf : Input → Site → Act → Type 0
 IsActOf g (D d) act = IsDataAct d act
 IsActOf g U act = IsRunAct (setting_of g U) act
 IsActOf g (T t) act = IsRunAct (setting_of g (T t)) act
 
-pub act_kind : (g : Given) (at : Site) (act : Act) (log : Log) → IsPermitted g (Does at act ∷ log) → IsActOf g at act
+pub act_kind : (g : Input) (at : Site) (act : Act) (log : Log) → IsPermitted g (Does at act ∷ log) → IsActOf g at act
 act_kind g (D d) act log h =
     due_kind (home_of (setting_of g (D d))) (view_of (setting_of g (D d)) (local_of g (D d) log)) act (allowed_act g log (Does (D d) act) h.0)
 act_kind g U act log h =
@@ -80,7 +80,7 @@ not_of_run d (Commit txn attempt reply changes values rows) h e = absurd h
 not_of_run d r h e = cc
 
 -- a Start or a Commit is made at the site that runs its class
-pub run_home : (g : Given) (at : Site) (k : ℕ) (r : Rec) (sends : List (Site × Msg)) (log : Log)
+pub run_home : (g : Input) (at : Site) (k : ℕ) (r : Rec) (sends : List (Site × Msg)) (log : Log)
     → IsPermitted g (Does at (Records k r sends) ∷ log) → is_of_run r ≡ true → at ≡ home g.catalogue k
 run_home g (D d) k r sends log h e = not_of_run d r (act_kind g (D d) (Records k r sends) log h) e
 run_home g U k r sends log h e = sym (act_kind g U (Records k r sends) log h).0
@@ -90,7 +90,7 @@ run_home g (T t) k r sends log h e = sym (act_kind g (T t) (Records k r sends) l
 not_both_kinds : {A : Type 0} (r : Rec) → is_of_run r ≡ true → is_of_run r ≡ false → A
 not_both_kinds r e f = let q : true ≡ false = sym e ∙ f in cc
 
-pub data_home : (g : Given) (at : Site) (k : ℕ) (r : Rec) (sends : List (Site × Msg)) (log : Log)
+pub data_home : (g : Input) (at : Site) (k : ℕ) (r : Rec) (sends : List (Site × Msg)) (log : Log)
     → IsPermitted g (Does at (Records k r sends) ∷ log) → is_of_run r ≡ false → (d : DmNo) × (at ≡ D d) × IsOfData d r
 data_home g (D d) k r sends log h e = (d, refl, act_kind g (D d) (Records k r sends) log h)
 data_home g U k r sends log h e = not_both_kinds r (act_kind g U (Records k r sends) log h).1 e
@@ -112,7 +112,7 @@ not_own_run (Submit txn) h = cc
 not_own_run Nothing h = cc
 not_own_run r h = refl
 
-pub none_own : (g : Given) (at : Site) (k : ℕ) (r : Rec) (sends : List (Site × Msg)) (log : Log)
+pub none_own : (g : Input) (at : Site) (k : ℕ) (r : Rec) (sends : List (Site × Msg)) (log : Log)
     → IsPermitted g (Does at (Records k r sends) ∷ log) → is_own r ≡ false
 none_own g (D d) k r sends log h = not_own_data d r (act_kind g (D d) (Records k r sends) log h)
 none_own g U k r sends log h = not_own_run r (act_kind g U (Records k r sends) log h).1

@@ -1,12 +1,12 @@
 -- A lawful log submits only what its events submit.
-use Rattle.sdd_lawful.proofs.All.{AreNumbered, Given, IsLawful, Log, Mark, SubmitGiven, [], ap, arith, eq-eqb, left, left_is, marked, one_if, refl, submits_by, submits_in, subst, ◌++◌, ◌+◌, ◌∷◌, ◌≡◌, ◌≤◌}
+use Rattle.sdd_lawful.proofs.All.{AreNumbered, Input, IsLawful, Log, Mark, SubmitGiven, [], ap, arith, eq-eqb, left, left_is, marked, one_if, refl, submits_by, submits_in, subst, ◌++◌, ◌+◌, ◌∷◌, ◌≡◌, ◌≤◌}
 use Rattle.sdd_invariants.specs.All.{Submit}
 
-lawful_rest : (g : Given) (later log : Log) → IsLawful g (later ++ log) → IsLawful g log
+lawful_rest : (g : Input) (later log : Log) → IsLawful g (later ++ log) → IsLawful g log
 lawful_rest g [] log h = h
 lawful_rest g (e ∷ later) log h = lawful_rest g later log h.1
 
-pub lawful_numbered : (g : Given) (log : Log) → SubmitGiven g → IsLawful g log → AreNumbered g log
+pub lawful_numbered : (g : Input) (log : Log) → SubmitGiven g → IsLawful g log → AreNumbered g log
 lawful_numbered g log s h later before n is =
     let l : IsLawful g (Mark (Submit n) ∷ before) = lawful_rest g later (Mark (Submit n) ∷ before) (subst (IsLawful g) is h) in
     let i = left_is g n.0 (Mark (Submit n) ∷ before) l in

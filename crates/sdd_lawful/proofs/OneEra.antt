@@ -1,5 +1,5 @@
 -- A log in which no further list of classes was put in force has one era.
-use Rattle.sdd_lawful.proofs.All.{AreEras, AreErasOf, Catalogue, Committed, Given, History, IsEraOf, IsForce, IsOfEarlierEra, KeepsEras, Log, Redeclares, Some, [], ap, arith, begun, cond, era_of_itself, event_at, false, force_at, inl, inr, length, marks, nat_le, nat_tests, one_era, redeclares, refl, slice_get, slice_index_or, subst, suc, sym, true, true_or_false, zero, ℕ, ◌++◌, ◌-◌, ◌∙◌, ◌∷◌, ◌≡◌}
+use Rattle.sdd_lawful.proofs.All.{AreEras, AreErasOf, Catalogue, Committed, History, Input, IsEraOf, IsForce, IsOfEarlierEra, KeepsEras, Log, Redeclares, Some, [], ap, arith, begun, cond, era_of_itself, event_at, false, force_at, inl, inr, length, marks, nat_le, nat_tests, one_era, redeclares, refl, slice_get, slice_index_or, subst, suc, sym, true, true_or_false, zero, ℕ, ◌++◌, ◌-◌, ◌∙◌, ◌∷◌, ◌≡◌}
 use Rattle.sdd_laws.specs.All.{in_force}
 
 each_era : (cat : Catalogue) (k : ℕ) (a : ℕ × Catalogue) → slice_get (one_era cat) k ≡ Some a → IsEraOf cat a.1
@@ -21,7 +21,7 @@ none_before [] before e = e
 none_before (Redeclares t ∷ later) before e = absurd (omega arith)
 none_before (_ ∷ later) before e = none_before later before e
 
-pub of_one_era : (g : Given) (log : Log) → IsForce (force_at g 0) → (force_at g 0).catalogue ≡ g.catalogue → redeclares log ≡ 0
+pub of_one_era : (g : Input) (log : Log) → IsForce (force_at g 0) → (force_at g 0).catalogue ≡ g.catalogue → redeclares log ≡ 0
     → AreErasOf g log (one_era g.catalogue)
 of_one_era g log force same none = record {
   are_eras = are_eras g.catalogue;

@@ -1,5 +1,5 @@
 -- A Reject of a data module: the condition that was spoilt, and the WRITE that spoilt it.
-use Rattle.sdd_lawful.proofs.All.{Bases, Bool, Change, ChangesOne, ClassNo, Committed, Cond, D, DmNo, Does, FragNo, Given, IsApplied, IsOf, IsOfWrite, IsPermitted, IsReadStep, IsWrite, List, Log, May, Msg, Read, Rec, Records, Rejected, Running, Setting, Site, Some, Ts, TxnNo, Use, View, Write, [], active, any_at, ap, by_record, by_wait, changes_at, changes_to, class_number, class_puts, commit_act, commit_put_is, contains, d_fair, false, head, home, in_filtered, in_passing, in_pipe, is_processing, is_spoilt, last_write_for, list_any, local_of, map, matched, not_both, or_zero, origin, pipe, processed_stays, refl, results, same_number, sends_of_act, setting_of, slice_get, spoiler, spoils, subst, sym, time_at, to_site, touches, true, txn_no, view_of, waits, zip_at, ℕ, ◌++◌, ◌==◌, ◌||◌, ◌∙◌, ◌∷◌, ◌≡◌, ◌≤◌}
+use Rattle.sdd_lawful.proofs.All.{Bases, Bool, Change, ChangesOne, ClassNo, Committed, Cond, D, DmNo, Does, FragNo, Input, IsApplied, IsOf, IsOfWrite, IsPermitted, IsReadStep, IsWrite, List, Log, May, Msg, Read, Rec, Records, Rejected, Running, Setting, Site, Some, Ts, TxnNo, Use, View, Write, [], active, any_at, ap, by_record, by_wait, changes_at, changes_to, class_number, class_puts, commit_act, commit_put_is, contains, d_fair, false, head, home, in_filtered, in_passing, in_pipe, is_processing, is_spoilt, last_write_for, list_any, local_of, map, matched, not_both, or_zero, origin, pipe, processed_stays, refl, results, same_number, sends_of_act, setting_of, slice_get, spoiler, spoils, subst, sym, time_at, to_site, touches, true, txn_no, view_of, waits, zip_at, ℕ, ◌++◌, ◌==◌, ◌||◌, ◌∙◌, ◌∷◌, ◌≡◌, ◌≤◌}
 use Rattle.sdd_lawful.proofs.Classes.{at_home, home_setting}
 use Rattle.sdd_lawful.proofs.Touched.{any_there}
 use Rattle.sdd_invariants.specs.site_module.SiteLog as site
@@ -51,7 +51,7 @@ rejecting s l k txn attempt dm by write sends (by_record j m r ss lt p i may e) 
 
 -- the WRITE that spoilt a condition: its Commit, which changes one of the condition's fragments, and its Apply
 
-pub record IsSpoiler (g : Given) (log : Log) (d : DmNo) (q : Cond) (w : ℕ) : Type 0 where
+pub record IsSpoiler (g : Input) (log : Log) (d : DmNo) (q : Cond) (w : ℕ) : Type 0 where
   pub later : Log
   pub before : Log
   pub bases : Bases
@@ -67,7 +67,7 @@ abbrev changes_in : Msg → List Change
 changes_in (Write ts class txn changes) = changes
 changes_in m = []
 
-pub spoilt_by : (g : Given) (log : Log) (d : DmNo) (q : Cond) → IsPermitted g log → spoils (view_of (setting_of g (D d)) (local_of g (D d) log)) q ≡ true
+pub spoilt_by : (g : Input) (log : Log) (d : DmNo) (q : Cond) → IsPermitted g log → spoils (view_of (setting_of g (D d)) (local_of g (D d) log)) q ≡ true
     → IsSpoiler g log d q (or_zero (last_write_for (view_of (setting_of g (D d)) (local_of g (D d) log)) q))
 spoilt_by g log d q h e =
     let j : ℕ = q.class.0 in
@@ -108,7 +108,7 @@ named_back [] f e = e
 named_back (g ∷ frags) f e =
     elim (g.0 == f) as (λ b. (b || list_any (λ (g : FragNo). g.0 == f) frags) ≡ true → (b || contains (map (λ g. g.0) frags) f) ≡ true) [ true ↦ λ h. refl | false ↦ λ h. named_back frags f h ] e
 
-pub touched_one : (g : Given) (t : Committed) (xs : List Change) (frags : List FragNo) (d : ℕ) → t.changes ≡ xs
+pub touched_one : (g : Input) (t : Committed) (xs : List Change) (frags : List FragNo) (d : ℕ) → t.changes ≡ xs
     → touches frags (changes_at g.catalogue d xs) ≡ true → ChangesOne t frags
 touched_one g t xs frags d same e =
     let i = any_at (λ (x : Change). list_any (λ (f : FragNo). f.0 == x.frag.0) frags) (changes_at g.catalogue d xs) e in

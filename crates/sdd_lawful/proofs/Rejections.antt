@@ -1,5 +1,5 @@
 -- The history of a permitted log keeps the law of rejections.
-use Rattle.sdd_lawful.proofs.All.{Act, AppliedBefore, AreErasOf, Attempt, ClassNo, Cond, D, DmNo, Does, Entry, Eras, Given, IsAgain, IsAttempt, IsConditionOf, IsPermitted, IsSound, IsStep, IsTable, KeepsRejections, List, Log, Msg, None, Queued, Rec, Records, Rejected, Setting, Site, Some, Stands, Start, Ts, TxnNo, [], active, again, allowed_act, ap, append_assoc, arith, bound, commit_act, conditions_of, d_step, event_at, first_of_filter, force_at, head_of, history, home, home_of, length, local_of, permitted_before, queue, redeclares, refl, setting_of, slice_get, spoils, step_way, subst, suc, sym, txn_no, view_of, ℕ, ◌++◌, ◌<◌, ◌∙◌, ◌∷◌, ◌≡◌}
+use Rattle.sdd_lawful.proofs.All.{Act, AppliedBefore, AreErasOf, Attempt, ClassNo, Cond, D, DmNo, Does, Entry, Eras, Input, IsAgain, IsAttempt, IsConditionOf, IsPermitted, IsSound, IsStep, IsTable, KeepsRejections, List, Log, Msg, None, Queued, Rec, Records, Rejected, Setting, Site, Some, Stands, Start, Ts, TxnNo, [], active, again, allowed_act, ap, append_assoc, arith, bound, commit_act, conditions_of, d_step, event_at, first_of_filter, force_at, head_of, history, home, home_of, length, local_of, permitted_before, queue, redeclares, refl, setting_of, slice_get, spoils, step_way, subst, suc, sym, txn_no, view_of, ℕ, ◌++◌, ◌<◌, ◌∙◌, ◌∷◌, ◌≡◌}
 use Rattle.sdd_lawful.proofs.Answered.{IsReadIn, read_of_some}
 use Rattle.sdd_lawful.proofs.Applied.{applied_before}
 use Rattle.sdd_lawful.proofs.Classes.{at_home, further_back, home_setting}
@@ -30,7 +30,7 @@ of_head s log act i = step_way s log act (OfHead s log) (λ c q at f e. record {
     (λ c bases a at f. tt) (λ to m hand f. tt) i
 
 -- a condition of a READ is one of its attempt
-pub read_condition : (g : Given) (log : Log) (eras : Eras) (a : Attempt) (d : ℕ) (later before : Log) (e : Entry) → AreErasOf g log eras
+pub read_condition : (g : Input) (log : Log) (eras : Eras) (a : Attempt) (d : ℕ) (later before : Log) (e : Entry) → AreErasOf g log eras
     → log ≡ later ++ e ∷ before → (x : IsReadIn g before a d) (k : ℕ) (q : Cond) → slice_get x.conds k ≡ Some q
     → IsConditionOf g.catalogue eras (history log) a d q
 read_condition g log eras a d later before e are is x k q there =
@@ -46,7 +46,7 @@ read_condition g log eras a d later before e are is x k q there =
       there = member_of (conditions_of g.catalogue (force_at g (redeclares x.start_log)).table a d) k q (subst (λ ds. slice_get ds k ≡ Some q) same there);
     }
 
-rejected_there : (g : Given) (log later before : Log) (class : ℕ) (txn : TxnNo) (attempt : ℕ) (d : DmNo) (by : ClassNo) (write : Ts) (sends : List (Site × Msg)) (n number : ℕ)
+rejected_there : (g : Input) (log later before : Log) (class : ℕ) (txn : TxnNo) (attempt : ℕ) (d : DmNo) (by : ClassNo) (write : Ts) (sends : List (Site × Msg)) (n number : ℕ)
     → log ≡ later ++ Does (D d) (Records class (Rejected txn attempt (home_of (setting_of g (D d))).dm by write) sends) ∷ before → txn.0 ≡ n
     → attempt ≡ number → Stands (history log) (length (history before)) (Rejected (txn_no n) number d by write)
 rejected_there g log later before class txn attempt d by write sends n number is e f =
@@ -56,7 +56,7 @@ rejected_there g log later before class txn attempt d by write sends n number is
     subst (λ j. Stands (history log) (length (history before)) (Rejected (txn_no n) j d by write)) f
     (subst (λ j. Stands (history log) (length (history before)) (Rejected (txn_no j) attempt d by write)) e s)
 
-pub again_of : (g : Given) (log : Log) (eras : Eras) → IsSound g.catalogue → IsPermitted g log → AreErasOf g log eras
+pub again_of : (g : Input) (log : Log) (eras : Eras) → IsSound g.catalogue → IsPermitted g log → AreErasOf g log eras
     → (a : Attempt) → IsAttempt (history log) a → 1 < a.number → IsAgain g.catalogue eras (history log) a
 again_of g log eras sound h are a s more =
     let x = start_in g log a sound h s in
@@ -120,6 +120,6 @@ again_of g log eras sound h are a s more =
       below_bound = λ p2 e. let b = p2_bound a.class (bound (home_setting g a.class) (at_home g a.class x.before)) p2 (sym x.says.p2_is ∙ e) in omega arith;
     }
 
-pub keeps_rejections : (g : Given) (log : Log) (eras : Eras) → IsSound g.catalogue → IsPermitted g log → AreErasOf g log eras
+pub keeps_rejections : (g : Input) (log : Log) (eras : Eras) → IsSound g.catalogue → IsPermitted g log → AreErasOf g log eras
     → KeepsRejections g.catalogue eras (history log)
 keeps_rejections g log eras sound h are = record { again = again_of g log eras sound h are }

@@ -1,5 +1,5 @@
 -- The Starts of a history, as acts of the sites that run their classes.
-use Rattle.sdd_lawful.proofs.All.{Act, AllCommitted, Attempt, ClassNo, Did, Does, Entry, Given, IsAttempt, IsMadeAt, IsPermitted, IsSound, IsStartRecord, List, Log, Msg, Notes, Option, Rec, Records, Site, Some, Stands, Start, Submitted, Ts, TxnNo, Use, ap, arith, class_no, false, history, home, in_force, is_for, length, local_at, local_of, own_made, permitted_before, place_of_submit, record_of, refl, says_at, setting_of, submits_of, subst, sym, time_at, true, txn_no, ℕ, ◌++◌, ◌∙◌, ◌∷◌, ◌≡◌}
+use Rattle.sdd_lawful.proofs.All.{Act, AllCommitted, Attempt, ClassNo, Did, Does, Entry, Input, IsAttempt, IsMadeAt, IsPermitted, IsSound, IsStartRecord, List, Log, Msg, Notes, Option, Rec, Records, Site, Some, Stands, Start, Submitted, Ts, TxnNo, Use, ap, arith, class_no, false, history, home, in_force, is_for, length, local_at, local_of, own_made, permitted_before, place_of_submit, record_of, refl, says_at, setting_of, submits_of, subst, sym, time_at, true, txn_no, ℕ, ◌++◌, ◌∙◌, ◌∷◌, ◌≡◌}
 use Rattle.sdd_lawful.proofs.Classes.{IsForClass, IsGivenTo, at_home, class_given, given_in, home_setting, one_class}
 use Rattle.sdd_lawful.proofs.Homes.{home_small}
 use Rattle.sdd_lawful.proofs.Makers.{is_of_run, is_own, run_home}
@@ -24,7 +24,7 @@ act_of_record (Does at (Records c q sends)) r p f =
 act_of_record _ r p f = cc
 
 -- the record of a Start or a Commit, as an act of the site that runs its class
-pub record IsRunIn (g : Given) (log : Log) (k : ℕ) (r : Rec) : Type 0 where
+pub record IsRunIn (g : Input) (log : Log) (k : ℕ) (r : Rec) : Type 0 where
   pub class : ℕ
   pub later : Log
   pub sends : List (Site × Msg)
@@ -33,7 +33,7 @@ pub record IsRunIn (g : Given) (log : Log) (k : ℕ) (r : Rec) : Type 0 where
   pub place_is : length (history before) ≡ k
   pub permitted : IsPermitted g (Does (home g.catalogue class) (Records class r sends) ∷ before)
 
-pub run_in : (g : Given) (log : Log) (k : ℕ) (r : Rec) → IsPermitted g log → is_of_run r ≡ true → is_own r ≡ false
+pub run_in : (g : Input) (log : Log) (k : ℕ) (r : Rec) → IsPermitted g log → is_of_run r ≡ true → is_own r ≡ false
     → Stands (history log) k r → IsRunIn g log k r
 run_in g log k r h e f s =
     let m = made_at log k r s in
@@ -58,7 +58,7 @@ abbrev pub start_act_of : Attempt → List (Site × Msg) → Act
 start_act_of a sends = Records a.class (start_of a) sends
 
 -- an attempt's Start in the log, and what it says of the log before
-pub record IsStartIn (g : Given) (log : Log) (a : Attempt) : Type 0 where
+pub record IsStartIn (g : Input) (log : Log) (a : Attempt) : Type 0 where
   pub later : Log
   pub sends : List (Site × Msg)
   pub before : Log
@@ -68,10 +68,10 @@ pub record IsStartIn (g : Given) (log : Log) (a : Attempt) : Type 0 where
   pub says : IsStartRecord (setting_of g (home g.catalogue a.class)) (at_home g a.class before) a.class (txn_no a.txn) a.number (class_no a.class) (time_at a.ts) a.p2 a.uses
 
 -- of class k
-abbrev StartsAs : Given → Log → Attempt → ℕ → Type 0
+abbrev StartsAs : Input → Log → Attempt → ℕ → Type 0
 StartsAs g before a k = IsStartRecord (setting_of g (home g.catalogue k)) (at_home g k before) k (txn_no a.txn) a.number (class_no a.class) (time_at a.ts) a.p2 a.uses
 
-start_with : (g : Given) (log : Log) (a : Attempt) (k : ℕ) (later : Log) (sends : List (Site × Msg)) (before : Log) → k ≡ a.class
+start_with : (g : Input) (log : Log) (a : Attempt) (k : ℕ) (later : Log) (sends : List (Site × Msg)) (before : Log) → k ≡ a.class
     → log ≡ later ++ Does (home g.catalogue k) (Records k (start_of a) sends) ∷ before → length (history before) ≡ a.place
     → IsPermitted g (Does (home g.catalogue k) (Records k (start_of a) sends) ∷ before) → StartsAs g before a k → IsStartIn g log a
 start_with g log a k later sends before e is place h says =
@@ -85,7 +85,7 @@ start_with g log a k later sends before e is place h says =
       says = subst (StartsAs g before a) e says;
     }
 
-pub start_in : (g : Given) (log : Log) (a : Attempt) → IsSound g.catalogue → IsPermitted g log → IsAttempt (history log) a → IsStartIn g log a
+pub start_in : (g : Input) (log : Log) (a : Attempt) → IsSound g.catalogue → IsPermitted g log → IsAttempt (history log) a → IsStartIn g log a
 start_in g log a sound h s =
     let m = run_in g log a.place (start_of a) h refl refl s in
     let small = home_small g.catalogue sound m.class in
@@ -96,7 +96,7 @@ abbrev pub attempt_from : TxnNo → ℕ → ClassNo → Ts → Option Ts → Lis
 attempt_from txn number class ts p2 uses place = record { txn = txn.0; number = number; class = class.0; ts = ts.0; p2 = p2; uses = uses; place = place }
 
 -- an entry that makes a Start
-pub start_at_entry : (g : Given) (log later : Log) (at : Site) (k : ℕ) (txn : TxnNo) (number : ℕ) (class : ClassNo) (ts : Ts) (p2 : Option Ts) (uses : List Use) (sends : List (Site × Msg)) (before : Log)
+pub start_at_entry : (g : Input) (log later : Log) (at : Site) (k : ℕ) (txn : TxnNo) (number : ℕ) (class : ClassNo) (ts : Ts) (p2 : Option Ts) (uses : List Use) (sends : List (Site × Msg)) (before : Log)
     → IsSound g.catalogue → IsPermitted g log → log ≡ later ++ Does at (Records k (Start txn number class ts p2 uses) sends) ∷ before
     → IsStartIn g log (attempt_from txn number class ts p2 uses (length (history before))) × (k ≡ class.0) × (at ≡ home g.catalogue k)
 start_at_entry g log later at k txn number class ts p2 uses sends before sound h is =
@@ -111,11 +111,11 @@ start_at_entry g log later at k txn number class ts p2 uses sends before sound h
     (start_with g log a k later sends before e (is ∙ ap (λ x. later ++ Does x (Records k (start_of a) sends) ∷ before) here) refl then_h says, e, here)
 
 -- its transaction was given to the site, as one of the class, and all that were given before it as such are committed
-pub record IsStartOfGiven (g : Given) (log : Log) (a : Attempt) (x : IsStartIn g log a) : Type 0 where
+pub record IsStartOfGiven (g : Input) (log : Log) (a : Attempt) (x : IsStartIn g log a) : Type 0 where
   pub given : IsGivenTo g x.before a.txn a.class x.says.text
   pub earlier : AllCommitted a.class (at_home g a.class x.before) (submits_of (home_setting g a.class) a.class (at_home g a.class given.rest))
 
-pub given_of_start : (g : Given) (log : Log) (a : Attempt) (x : IsStartIn g log a) → IsStartOfGiven g log a x
+pub given_of_start : (g : Input) (log : Log) (a : Attempt) (x : IsStartIn g log a) → IsStartOfGiven g log a x
 given_of_start g log a x =
     let at : Site = home g.catalogue a.class in
     let w = x.says.submitted in
@@ -135,20 +135,20 @@ given_of_start g log a x =
     }
 
 -- in the whole log
-pub given_of_attempt : (g : Given) (log : Log) (a : Attempt) (x : IsStartIn g log a) → IsGivenTo g log a.txn a.class x.says.text
+pub given_of_attempt : (g : Input) (log : Log) (a : Attempt) (x : IsStartIn g log a) → IsGivenTo g log a.txn a.class x.says.text
 given_of_attempt g log a x =
     given_in g log x.later x.before (Does (home g.catalogue a.class) (start_act_of a x.sends)) a.txn a.class x.says.text x.is (given_of_start g log a x).given
 
 -- attempts of one transaction have one class
-pub one_start_class : (g : Given) (log : Log) (a b : Attempt) → IsPermitted g log → IsStartIn g log a → IsStartIn g log b → a.txn ≡ b.txn → a.class ≡ b.class
+pub one_start_class : (g : Input) (log : Log) (a b : Attempt) → IsPermitted g log → IsStartIn g log a → IsStartIn g log b → a.txn ≡ b.txn → a.class ≡ b.class
 one_start_class g log a b h x y e =
     one_class g log b.txn a.class b.class x.says.text y.says.text h (subst (λ n. IsGivenTo g log n a.class x.says.text) e (given_of_attempt g log a x)) (given_of_attempt g log b y)
 
 -- an act of a site stands in the site's log
-pub act_local : (g : Given) (at : Site) (act : Act) (later before : Log)
+pub act_local : (g : Input) (at : Site) (act : Act) (later before : Log)
     → (more : site.Log) × (local_of g at (later ++ Does at act ∷ before) ≡ more ++ Did act ∷ local_of g at before)
 act_local g at act later before = local_at g at later before (Does at act) (Did act) (own_made at act)
 
-abbrev pub start_made : (g : Given) (log : Log) (a : Attempt) → IsStartIn g log a → IsMadeAt log a.place (start_of a)
+abbrev pub start_made : (g : Input) (log : Log) (a : Attempt) → IsStartIn g log a → IsMadeAt log a.place (start_of a)
 start_made g log a x =
     record { later = x.later; entry = Does (home g.catalogue a.class) (start_act_of a x.sends); before = x.before; is = x.is; makes = refl; place_is = x.place_is }

@@ -1,5 +1,5 @@
 -- The history of a permitted log keeps the law of Starts.
-use Rattle.sdd_lawful.proofs.All.{Act, AreErasOf, Attempt, Catalogue, Committed, CommittedBefore, Did, Does, Eras, Force, Given, IsAttempt, IsBound, IsCommitted, IsEraOf, IsMadeAt, IsOfSubmit, IsPermitted, IsSound, IsSubmitted, KeepsStarts, List, Log, Msg, None, Option, Records, Setting, Site, Some, Stands, Start, Submit, Submits, Submitted, T, TmNo, Ts, Txn, [], and_left, ap, append_assoc, arith, bound, class_at, class_for, class_no, clock, covered, covers, dec_le, eqb-true, event_at, false, filter, first_passes, force_at, force_is, head_of, history, home, home_fair, if◌then◌else◌, inl, inr, is_committed, is_for, is_some, length, local_of, lower_same_higher, marks, mul-add-mod_self_right, not, number_of, numbers_to, option_map, or_right, p2_of, permitted_before, place_of_act, promises, record_at, redeclares, refl, same_number, same_or_not, setting_of, slice_get, stamps, stamps_differ, starts_of, submits_of, subst, sym, time_at, tm_no, true, txn_at, txn_no, unwrap_or, ℕ, ◌%◌, ◌++◌, ◌<◌, ◌==◌, ◌∙◌, ◌∷◌, ◌≡◌, ◌≢◌, ◌≤◌}
+use Rattle.sdd_lawful.proofs.All.{Act, AreErasOf, Attempt, Catalogue, Committed, CommittedBefore, Did, Does, Eras, Force, Input, IsAttempt, IsBound, IsCommitted, IsEraOf, IsMadeAt, IsOfSubmit, IsPermitted, IsSound, IsSubmitted, KeepsStarts, List, Log, Msg, None, Option, Records, Setting, Site, Some, Stands, Start, Submit, Submits, Submitted, T, TmNo, Ts, Txn, [], and_left, ap, append_assoc, arith, bound, class_at, class_for, class_no, clock, covered, covers, dec_le, eqb-true, event_at, false, filter, first_passes, force_at, force_is, head_of, history, home, home_fair, if◌then◌else◌, inl, inr, is_committed, is_for, is_some, length, local_of, lower_same_higher, marks, mul-add-mod_self_right, not, number_of, numbers_to, option_map, or_right, p2_of, permitted_before, place_of_act, promises, record_at, redeclares, refl, same_number, same_or_not, setting_of, slice_get, stamps, stamps_differ, starts_of, submits_of, subst, sym, time_at, tm_no, true, txn_at, txn_no, unwrap_or, ℕ, ◌%◌, ◌++◌, ◌<◌, ◌==◌, ◌∙◌, ◌∷◌, ◌≡◌, ◌≢◌, ◌≤◌}
 use Rattle.sdd_lawful.proofs.Classes.{IsForClass, IsGivenTo, at_home, force_there, further_back, home_by, home_setting, submit_local}
 use Rattle.sdd_lawful.proofs.Commits.{Told, commit_class, commit_in, commit_made, commit_rec, commit_seen, one_commit}
 use Rattle.sdd_lawful.proofs.Counted.{numbered}
@@ -14,7 +14,7 @@ use Rattle.sdd_invariants.specs.site_module.SiteLog as site
 
 -- classes by the eras
 
-era_at : (g : Given) (log : Log) (eras : Eras) → AreErasOf g log eras → (later before : Log) → log ≡ later ++ before
+era_at : (g : Input) (log : Log) (eras : Eras) → AreErasOf g log eras → (later before : Log) → log ≡ later ++ before
     → IsEraOf g.catalogue (force_at g (redeclares before)).catalogue
 era_at g log eras are later before is = subst (IsEraOf g.catalogue) (are.force_is later before is) (force_is g.catalogue eras are.are_eras (marks before))
 
@@ -25,25 +25,25 @@ class_within cat txn = elim (dec_le 1 (class_for cat txn)) [
 ]
 
 -- the class of what is given is there
-given_within : (g : Given) (log : Log) (eras : Eras) (n c : ℕ) (text : Txn) → AreErasOf g log eras → IsGivenTo g log n c text → c ≤ length g.catalogue.classes
+given_within : (g : Input) (log : Log) (eras : Eras) (n c : ℕ) (text : Txn) → AreErasOf g log eras → IsGivenTo g log n c text → c ≤ length g.catalogue.classes
 given_within g log eras n c text are w =
     let era = (era_at g log eras are (w.later ++ Submitted (home g.catalogue c) n ∷ []) w.rest (w.is ∙ sym (append_assoc w.later (Submitted (home g.catalogue c) n ∷ []) w.rest))).classes in
     let at = class_within (force_at g (redeclares w.rest)).catalogue text in
     let e = w.class_is in omega arith
 
-pub start_within : (g : Given) (log : Log) (eras : Eras) (a : Attempt) → AreErasOf g log eras → IsStartIn g log a → a.class ≤ length g.catalogue.classes
+pub start_within : (g : Input) (log : Log) (eras : Eras) (a : Attempt) → AreErasOf g log eras → IsStartIn g log a → a.class ≤ length g.catalogue.classes
 start_within g log eras a are x = given_within g log eras a.txn a.class x.says.text are (given_of_attempt g log a x)
 
 -- the Submit of a Start
 
-pub event_of_submit : (g : Given) (log : Log) (eras : Eras) (n : ℕ) (later rest : Log) (at : Site) → AreErasOf g log eras → log ≡ later ++ Submitted at n ∷ rest
+pub event_of_submit : (g : Input) (log : Log) (eras : Eras) (n : ℕ) (later rest : Log) (at : Site) → AreErasOf g log eras → log ≡ later ++ Submitted at n ∷ rest
     → in_force g.catalogue eras (event_at (history log) (length (history rest))) ≡ (force_at g (redeclares rest)).catalogue
 event_of_submit g log eras n later rest at are is =
     let e : event_at (history log) (length (history rest)) ≡ marks rest =
     ap (λ l. event_at (history l) (length (history rest))) is ∙ event_there later (Submitted at n) rest (Submit (txn_no n)) refl in
     ap (in_force g.catalogue eras) e ∙ are.force_is (later ++ Submitted at n ∷ []) rest (is ∙ sym (append_assoc later (Submitted at n ∷ []) rest))
 
-submitted_of : (g : Given) (log : Log) (eras : Eras) → IsSound g.catalogue → IsPermitted g log → AreErasOf g log eras
+submitted_of : (g : Input) (log : Log) (eras : Eras) → IsSound g.catalogue → IsPermitted g log → AreErasOf g log eras
     → (a : Attempt) → IsAttempt (history log) a → IsOfSubmit g.catalogue eras g.txns (history log) a
 submitted_of g log eras sound h are a s =
     let x = start_in g log a sound h s in
@@ -66,21 +66,21 @@ submitted_of g log eras sound h are a s =
 
 -- two Starts, one before the other, at one site
 
-start_behind : (g : Given) (a : Attempt) (c : ℕ) (sends : List (Site × Msg)) (between before log : Log)
+start_behind : (g : Input) (a : Attempt) (c : ℕ) (sends : List (Site × Msg)) (between before log : Log)
     → home g.catalogue a.class ≡ home g.catalogue c → log ≡ between ++ Does (home g.catalogue a.class) (start_act_of a sends) ∷ before
     → (more : site.Log) × (at_home g c log ≡ more ++ Did (start_act_of a sends) ∷ at_home g a.class before)
 start_behind g a c sends between before log e is =
     let m = act_local g (home g.catalogue a.class) (start_act_of a sends) between before in
     (m.0, ap (λ s. local_of g s log) (sym e) ∙ ap (local_of g (home g.catalogue a.class)) is ∙ m.1)
 
-earlier_start : (g : Given) (log : Log) (a b : Attempt) (x : IsStartIn g log a) (y : IsStartIn g log b)
+earlier_start : (g : Input) (log : Log) (a b : Attempt) (x : IsStartIn g log a) (y : IsStartIn g log b)
     → home g.catalogue a.class ≡ home g.catalogue b.class → a.place < b.place
     → (more : site.Log) × (at_home g b.class y.before ≡ more ++ Did (start_act_of a x.sends) ∷ at_home g a.class x.before)
 earlier_start g log a b x y e l =
     let z = entries_in_order log a.place b.place (start_of a) (start_of b) (start_made g log a x) (start_made g log b y) l in
     start_behind g a b.class x.sends z.between x.before y.before e z.is
 
-stamp_below : (g : Given) (log : Log) (a b : Attempt) (x : IsStartIn g log a) (y : IsStartIn g log b)
+stamp_below : (g : Input) (log : Log) (a b : Attempt) (x : IsStartIn g log a) (y : IsStartIn g log b)
     → home g.catalogue a.class ≡ home g.catalogue b.class → a.place < b.place → a.ts < b.ts
 stamp_below g log a b x y e l =
     let m = earlier_start g log a b x y e l in
@@ -90,13 +90,13 @@ stamp_below g log a b x y e l =
 
 -- one Start at a timestamp
 
-stamp_there : (g : Given) (log : Log) (a : Attempt) (x : IsStartIn g log a) → (i : ℕ) × (slice_get (stamps (at_home g a.class log)) i ≡ Some a.ts)
+stamp_there : (g : Input) (log : Log) (a : Attempt) (x : IsStartIn g log a) → (i : ℕ) × (slice_get (stamps (at_home g a.class log)) i ≡ Some a.ts)
 stamp_there g log a x =
     let m = act_local g (home g.catalogue a.class) (start_act_of a x.sends) x.later x.before in
     let i = stamp_in m.0 (at_home g a.class x.before) a.class (txn_no a.txn) a.number (class_no a.class) (time_at a.ts) a.p2 a.uses x.sends in
     (i.0, subst (λ k. slice_get (stamps k) i.0 ≡ Some a.ts) (sym (ap (at_home g a.class) x.is ∙ m.1)) i.1)
 
-differ_at : {A : Type 0} (g : Given) (log : Log) (a b : Attempt) (x : IsStartIn g log a) (y : IsStartIn g log b) → IsSound g.catalogue
+differ_at : {A : Type 0} (g : Input) (log : Log) (a b : Attempt) (x : IsStartIn g log a) (y : IsStartIn g log b) → IsSound g.catalogue
     → IsPermitted g log → number_of (home g.catalogue a.class) ≢ number_of (home g.catalogue b.class) → a.ts ≡ b.ts → A
 differ_at g log a b x y sound h ne e =
     let i = stamp_there g log a x in
@@ -105,7 +105,7 @@ differ_at g log a b x y sound h ne e =
     let little = home_small g.catalogue sound b.class in
     absurd (stamps_differ (home_setting g a.class) (home_setting g b.class) (at_home g a.class log) (at_home g b.class log) i.0 j.0 a.ts b.ts (omega arith) (omega arith) ne (home_fair g a.class log h) (home_fair g b.class log h) i.1 j.1 e)
 
-pub one_time : (g : Given) (log : Log) (eras : Eras) → IsSound g.catalogue → IsPermitted g log → AreErasOf g log eras
+pub one_time : (g : Input) (log : Log) (eras : Eras) → IsSound g.catalogue → IsPermitted g log → AreErasOf g log eras
     → (a b : Attempt) → IsAttempt (history log) a → IsAttempt (history log) b → a.ts ≡ b.ts → a.place ≡ b.place
 one_time g log eras sound h are a b s t e =
     let x = start_in g log a sound h s in
@@ -132,7 +132,7 @@ committed_past : (c n : ℕ) (later : site.Log) (act : Act) (before : site.Log) 
 committed_past c n later act before h = committed_later c n later (Did act ∷ before) (committed_later c n (Did act ∷ []) before h)
 
 -- of a class, what is given before a submission is committed where that one starts
-earlier_committed : (g : Given) (log : Log) (a : Attempt) (x : IsStartIn g log a) (n : ℕ) (text : Txn) (later rest : Log)
+earlier_committed : (g : Input) (log : Log) (a : Attempt) (x : IsStartIn g log a) (n : ℕ) (text : Txn) (later rest : Log)
     → (w : Log) → w ≡ later ++ Submitted (home g.catalogue a.class) n ∷ rest → w ≡ (given_of_start g log a x).given.rest
     → txn_at g n ≡ Some text → IsForClass g a.class rest text → is_committed a.class n (at_home g a.class x.before) ≡ true
 earlier_committed g log a x n text later rest w is same t f =
@@ -143,11 +143,11 @@ earlier_committed g log a x n text later rest w is same t f =
     all_committed_at a.class (at_home g a.class x.before) (submits_of (home_setting g a.class) a.class (at_home g a.class s.given.rest)) i.0 n text s.earlier
     (in_submits (home_setting g a.class) a.class n text (at_home g a.class s.given.rest) (m.0 ++ Submits n text ∷ at_home g a.class rest) i.0 l i.1)
 
-abbrev submit_made_at : (g : Given) (log : Log) (n k : ℕ) → IsSubmitIn g log n k → IsMadeAt log k (Submit (txn_no n))
+abbrev submit_made_at : (g : Input) (log : Log) (n k : ℕ) → IsSubmitIn g log n k → IsMadeAt log k (Submit (txn_no n))
 submit_made_at g log n k u = record { later = u.later; entry = Submitted u.at n; before = u.rest; is = u.is; makes = refl; place_is = u.place_is }
 
 -- the submission of a started transaction is that of its Submit
-given_rest : (g : Given) (log : Log) (a : Attempt) (x : IsStartIn g log a) (k : ℕ) → IsPermitted g log → (u : IsSubmitIn g log a.txn k)
+given_rest : (g : Input) (log : Log) (a : Attempt) (x : IsStartIn g log a) (k : ℕ) → IsPermitted g log → (u : IsSubmitIn g log a.txn k)
     → u.rest ≡ (given_of_start g log a x).given.rest
 given_rest g log a x k h u =
     let w = (given_of_start g log a x).given in
@@ -156,7 +156,7 @@ given_rest g log a x k h u =
     (same_submission g a.txn log u.later b.0 u.rest w.rest u.at at h u.is b.1).0
 
 -- of one class: the first submitted starts first
-in_turn : (g : Given) (log : Log) → IsSound g.catalogue → IsPermitted g log → (a b : Attempt) (j k : ℕ)
+in_turn : (g : Input) (log : Log) → IsSound g.catalogue → IsPermitted g log → (a b : Attempt) (j k : ℕ)
     → IsAttempt (history log) a → IsAttempt (history log) b → a.class ≡ b.class → a.place < b.place
     → IsSubmitted (history log) a.txn j → IsSubmitted (history log) b.txn k → j ≤ k
 in_turn g log sound h a b j k s t e l p q = elim (dec_le j k) [
@@ -194,7 +194,7 @@ covers_home cat txn c e l =
           ap (λ k. (class_at cat k).tm.0) z ∙ eqb-true (class_at cat x).tm.0 txn.tm.0 q
     ] refl e
 
-home_is : (g : Given) (era : Catalogue) → IsEraOf g.catalogue era → (txn : Txn) (c : ℕ) → class_for era txn ≡ c
+home_is : (g : Input) (era : Catalogue) → IsEraOf g.catalogue era → (txn : Txn) (c : ℕ) → class_for era txn ≡ c
     → home_by (class_for era txn) txn ≡ home g.catalogue c
 home_is g era of txn c e = elim (same_or_not c 0) [
   | inl p ↦ ap (λ k. home_by k txn) (e ∙ p) ∙ ap (home g.catalogue) (sym p)
@@ -206,7 +206,7 @@ home_is g era of txn c e = elim (same_or_not c 0) [
       ap (λ k. home_by k txn) e ∙ here ∙ ap (λ n. T (tm_no n)) (sym same) ∙ sym there)
 ]
 
-pub for_class : (g : Given) (c : ℕ) (rest : Log) (txn : Txn) → class_for (force_at g (redeclares rest)).catalogue txn ≡ c → IsForClass g c rest txn
+pub for_class : (g : Input) (c : ℕ) (rest : Log) (txn : Txn) → class_for (force_at g (redeclares rest)).catalogue txn ≡ c → IsForClass g c rest txn
 for_class g c rest txn e = elim (same_or_not c 0) [
   | inl p ↦ subst (λ k. IsForClass g k rest txn) (sym p) refl
   | inr p ↦ (let t_no : TmNo = tm_no (class_at g.catalogue c).tm.0 in
@@ -220,7 +220,7 @@ for_class g c rest txn e = elim (same_or_not c 0) [
 
 -- what is submitted before a transaction in its class is committed where it starts
 
-commit_before : (g : Given) (log : Log) (a : Attempt) (x : IsStartIn g log a) (n : ℕ)
+commit_before : (g : Input) (log : Log) (a : Attempt) (x : IsStartIn g log a) (n : ℕ)
     → is_committed a.class n (at_home g a.class x.before) ≡ true → CommittedBefore (history log) n a.place
 commit_before g log a x n e =
     let at : Site = home g.catalogue a.class in
@@ -241,7 +241,7 @@ commit_before g log a x n e =
       before = omega arith;
     }
 
-after_earlier : (g : Given) (log : Log) (eras : Eras) → IsSound g.catalogue → IsPermitted g log → AreErasOf g log eras
+after_earlier : (g : Input) (log : Log) (eras : Eras) → IsSound g.catalogue → IsPermitted g log → AreErasOf g log eras
     → (a : Attempt) (n j k : ℕ) (txn : Txn) → IsAttempt (history log) a → IsSubmitted (history log) a.txn k
     → IsSubmitted (history log) n j → j < k → txn_at g n ≡ Some txn
     → class_for (in_force g.catalogue eras (event_at (history log) j)) txn ≡ a.class → CommittedBefore (history log) n a.place
@@ -265,7 +265,7 @@ after_earlier g log eras sound h are a n j k txn s p q l t c =
 
 -- Commits
 
-by_last : (g : Given) (log : Log) → IsSound g.catalogue → IsPermitted g log → (t : Committed) (a : Attempt)
+by_last : (g : Input) (log : Log) → IsSound g.catalogue → IsPermitted g log → (t : Committed) (a : Attempt)
     → IsCommitted (history log) t → IsAttempt (history log) a → a.txn ≡ t.start.txn → a.number ≤ t.start.number
 by_last g log sound h t a c s e =
     let told : Told = record { reply = t.reply; changes = t.changes; values = t.values; rows = t.rows } in
@@ -304,7 +304,7 @@ p2_bound k b p e = elim (same_or_not k 0) [
   | inr z ↦ (let q : Some (time_at b) ≡ Some p = rw z at e in let r : time_at b ≡ p = cc in ap (λ (x : Ts). x.0) r)
 ]
 
-promise_below : (g : Given) (log : Log) (a b : Attempt) (x : IsStartIn g log a) (y : IsStartIn g log b) (p2 : ℕ) (o : Option Ts) → a.p2 ≡ o
+promise_below : (g : Input) (log : Log) (a b : Attempt) (x : IsStartIn g log a) (y : IsStartIn g log b) (p2 : ℕ) (o : Option Ts) → a.p2 ≡ o
     → home g.catalogue a.class ≡ home g.catalogue b.class → a.place < b.place → bound (home_setting g b.class) (at_home g b.class y.before) ≡ p2
     → unwrap_or (option_map (λ (t : Ts). t.0) o) 0 ≤ p2
 promise_below g log a b x y p2 None f e l k = omega arith
@@ -318,7 +318,7 @@ promise_below g log a b x y p2 (Some t) f e l k =
     let r = most_at _ (promises (at_home g b.class y.before)) i.0 t.0 y.says.p2_above_promises there in
     subst (λ w. t.0 ≤ w) k r
 
-bound_of_start : (g : Given) (log : Log) → IsSound g.catalogue → IsPermitted g log → (a : Attempt) (p2 : Ts)
+bound_of_start : (g : Input) (log : Log) → IsSound g.catalogue → IsPermitted g log → (a : Attempt) (p2 : Ts)
     → IsAttempt (history log) a → a.p2 ≡ Some p2 → IsBound (history log) a p2.0
 bound_of_start g log sound h a p2 s e =
     let y = start_in g log a sound h s in
@@ -337,7 +337,7 @@ bound_of_start g log sound h a p2 s e =
           (subst (λ w. c.ts ≤ w) b r, promise_below g log c a x y p2.0 c.p2 refl (ap (home g.catalogue) k) less b);
     }
 
-pub keeps_starts : (g : Given) (log : Log) (eras : Eras) → IsSound g.catalogue → IsPermitted g log → AreErasOf g log eras
+pub keeps_starts : (g : Input) (log : Log) (eras : Eras) → IsSound g.catalogue → IsPermitted g log → AreErasOf g log eras
     → KeepsStarts g.catalogue eras g.txns (history log)
 keeps_starts g log eras sound h are = record {
   submitted = submitted_of g log eras sound h are;

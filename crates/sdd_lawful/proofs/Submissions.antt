@@ -1,5 +1,5 @@
 -- Submissions: a transaction is given to a site right after the mark that submits it, and once.
-use Rattle.sdd_lawful.proofs.All.{Bool, Does, Entry, Event, Given, IsAllowed, IsPermitted, IsSubmitted, Log, Mark, Notes, Nothing, Records, Redeclare, Settle, Site, Some, Submit as Submission, Submitted, Tick, TxnNo, [], allowed_mark, ap, by_event, by_link, by_mark, by_redeclare, by_round, by_site, compare, due_by, false, force_at, history, inl, inr, length, mark_due, not, note_if, or_left, permitted_before, record_of, redeclares, refl, same_number, subst, sym, tail_marked, true, txn_at, txn_no, was_marked, ℕ, ◌++◌, ◌==◌, ◌∙◌, ◌∷◌, ◌≡◌}
+use Rattle.sdd_lawful.proofs.All.{Bool, Does, Entry, Event, Input, IsAllowed, IsPermitted, IsSubmitted, Log, Mark, Notes, Nothing, Records, Redeclare, Settle, Site, Some, Submit as Submission, Submitted, Tick, TxnNo, [], allowed_mark, ap, by_event, by_link, by_mark, by_redeclare, by_round, by_site, compare, due_by, false, force_at, history, inl, inr, length, mark_due, not, note_if, or_left, permitted_before, record_of, redeclares, refl, same_number, subst, sym, tail_marked, true, txn_at, txn_no, was_marked, ℕ, ◌++◌, ◌==◌, ◌∙◌, ◌∷◌, ◌≡◌}
 use Rattle.sdd_lawful.proofs.Makers.{is_own, none_own}
 use Rattle.sdd_lawful.proofs.Places.{made_at}
 use Rattle.sdd_invariants.specs.All.{Submit}
@@ -7,15 +7,15 @@ use Rattle.sdd_invariants.specs.logs.Due.{home_of}
 
 -- the mark that made it due
 
-abbrev IsMarked : Given → Log → Entry → Type 0
+abbrev IsMarked : Input → Log → Entry → Type 0
 IsMarked g log (Submitted at n) = mark_due g log ≡ Some (Submitted at n)
 IsMarked g log _ = Unit {0}
 
-marked_is : (g : Given) (log : Log) (e : Entry) → mark_due g log ≡ Some e → IsMarked g log e
+marked_is : (g : Input) (log : Log) (e : Entry) → mark_due g log ≡ Some e → IsMarked g log e
 marked_is g log (Submitted at n) p = p
 marked_is g log _ p = tt
 
-marked : (g : Given) (log : Log) (e : Entry) → IsAllowed g log e → IsMarked g log e
+marked : (g : Input) (log : Log) (e : Entry) → IsAllowed g log e → IsMarked g log e
 marked g log e (by_mark x n) = tt
 marked g log e (by_round es) = tt
 marked g log e (by_redeclare t) = tt
@@ -24,7 +24,7 @@ marked g log e (by_site at act d) = tt
 marked g log e (by_link a b n m p q r f) = tt
 
 -- transaction n is given to a site, after the mark that submits it
-pub record IsGivenAt (g : Given) (log : Log) (at : Site) (n : ℕ) : Type 0 where
+pub record IsGivenAt (g : Input) (log : Log) (at : Site) (n : ℕ) : Type 0 where
   pub earlier : Log
   pub number : TxnNo
   pub is : log ≡ Mark (Submit number) ∷ earlier
@@ -35,7 +35,7 @@ no_note : {A : Type 0} (b : Bool) (at : Site) (n : ℕ) → note_if b ≡ Some (
 no_note true at n p = let q : Notes ≡ Submitted at n = cc in cc
 no_note false at n p = cc
 
-due_submit : (g : Given) (e : Event) (log : Log) (at : Site) (n : ℕ) → due_by g e log ≡ Some (Submitted at n) → IsGivenAt g (Mark e ∷ log) at n
+due_submit : (g : Input) (e : Event) (log : Log) (at : Site) (n : ℕ) → due_by g e log ≡ Some (Submitted at n) → IsGivenAt g (Mark e ∷ log) at n
 due_submit g (Submit k) log at n p =
     let q : Submitted (home_of (force_at g (redeclares log)).catalogue (txn_at g k.0)) k.0 ≡ Submitted at n = cc in
     let r : home_of (force_at g (redeclares log)).catalogue (txn_at g k.0) ≡ at = cc in
@@ -46,11 +46,11 @@ due_submit g Settle log at n p = cc
 due_submit g Redeclare log at n p = cc
 due_submit g _ log at n p = no_note _ at n p
 
-given_by : (g : Given) (log : Log) (at : Site) (n : ℕ) → mark_due g log ≡ Some (Submitted at n) → IsGivenAt g log at n
+given_by : (g : Input) (log : Log) (at : Site) (n : ℕ) → mark_due g log ≡ Some (Submitted at n) → IsGivenAt g log at n
 given_by g (Mark e ∷ log) at n p = due_submit g e log at n p
 given_by g _ at n p = cc
 
-pub given_at : (g : Given) (log : Log) (at : Site) (n : ℕ) → IsPermitted g (Submitted at n ∷ log) → IsGivenAt g log at n
+pub given_at : (g : Input) (log : Log) (at : Site) (n : ℕ) → IsPermitted g (Submitted at n ∷ log) → IsGivenAt g log at n
 given_at g log at n h = given_by g log at n (marked g log (Submitted at n) h.0)
 
 -- no transaction is given twice
@@ -59,7 +59,7 @@ marked_stays : (n : ℕ) (later log : Log) → was_marked n log ≡ true → was
 marked_stays n [] log h = h
 marked_stays n (e ∷ later) log h = tail_marked n e (later ++ log) (marked_stays n later log h)
 
-given_marked : (g : Given) (log : Log) (at : Site) (n : ℕ) → IsGivenAt g log at n → was_marked n log ≡ true
+given_marked : (g : Input) (log : Log) (at : Site) (n : ℕ) → IsGivenAt g log at n → was_marked n log ≡ true
 given_marked g log at n i =
     let p : (i.number.0 == n) ≡ true = ap (λ x. x == n) i.number_is ∙ same_number n in
     subst (λ l. was_marked n l ≡ true) (sym i.is) (or_left (i.number.0 == n) (was_marked n i.earlier) p)
@@ -68,7 +68,7 @@ both_ways : {A : Type 0} (b : Bool) → b ≡ true → not b ≡ true → A
 both_ways true e f = cc
 both_ways false e f = cc
 
-again_in : {A : Type 0} (g : Given) (n : ℕ) (b : Site) (between before earlier : Log) (k : TxnNo)
+again_in : {A : Type 0} (g : Input) (n : ℕ) (b : Site) (between before earlier : Log) (k : TxnNo)
     → IsPermitted g (Mark (Submit k) ∷ earlier) → k.0 ≡ n → was_marked n before ≡ true → between ++ Submitted b n ∷ before ≡ Mark (Submit k) ∷ earlier → A
 again_in g n b [] before earlier k h e m p = let q : Submitted b n ≡ Mark (Submit k) = cc in cc
 again_in g n b (x ∷ between) before earlier k h e m p =
@@ -77,7 +77,7 @@ again_in g n b (x ∷ between) before earlier k h e m p =
     let old : was_marked n earlier ≡ true = subst (λ l. was_marked n l ≡ true) q (marked_stays n between (Submitted b n ∷ before) m) in
     both_ways (was_marked n earlier) old (subst (λ x. not (was_marked x earlier) ≡ true) e fresh)
 
-submitted_twice : {A : Type 0} (g : Given) (n : ℕ) (a b : Site) (later between before : Log)
+submitted_twice : {A : Type 0} (g : Input) (n : ℕ) (a b : Site) (later between before : Log)
     → IsPermitted g (later ++ Submitted a n ∷ (between ++ Submitted b n ∷ before)) → A
 submitted_twice g n a b later between before h =
     let w : Log = between ++ Submitted b n ∷ before in
@@ -89,14 +89,14 @@ submitted_twice g n a b later between before h =
 
 -- the entry of a Submit
 
-pub record IsSubmitIn (g : Given) (log : Log) (n k : ℕ) : Type 0 where
+pub record IsSubmitIn (g : Input) (log : Log) (n k : ℕ) : Type 0 where
   pub later : Log
   pub at : Site
   pub rest : Log
   pub is : log ≡ later ++ Submitted at n ∷ rest
   pub place_is : length (history rest) ≡ k
 
-submit_entry : (g : Given) (e : Entry) (log : Log) (n : ℕ) → IsPermitted g (e ∷ log) → record_of e ≡ Some (Submission (txn_no n))
+submit_entry : (g : Input) (e : Entry) (log : Log) (n : ℕ) → IsPermitted g (e ∷ log) → record_of e ≡ Some (Submission (txn_no n))
     → (at : Site) × (e ≡ Submitted at n)
 submit_entry g (Submitted at m) log n h p =
     let q : Submission (txn_no m) ≡ Submission (txn_no n) = cc in
@@ -108,14 +108,14 @@ submit_entry g (Does at (Records c r sends)) log n h p =
     let f : true ≡ false = sym (ap is_own q) ∙ none_own g at c r sends log h in cc
 submit_entry g _ log n h p = cc
 
-pub submit_in : (g : Given) (log : Log) (n k : ℕ) → IsPermitted g log → IsSubmitted (history log) n k → IsSubmitIn g log n k
+pub submit_in : (g : Input) (log : Log) (n k : ℕ) → IsPermitted g log → IsSubmitted (history log) n k → IsSubmitIn g log n k
 submit_in g log n k h s =
     let m = made_at log k (Submission (txn_no n)) s in
     let p = submit_entry g m.entry m.before n (permitted_before g m.later (m.entry ∷ m.before) (subst (IsPermitted g) m.is h)) m.makes in
     record { later = m.later; at = p.0; rest = m.before; is = m.is ∙ ap (λ e. m.later ++ e ∷ m.before) p.1; place_is = m.place_is }
 
 -- there is one
-pub same_submission : (g : Given) (n : ℕ) (log later1 later2 rest1 rest2 : Log) (a b : Site) → IsPermitted g log
+pub same_submission : (g : Input) (n : ℕ) (log later1 later2 rest1 rest2 : Log) (a b : Site) → IsPermitted g log
     → log ≡ later1 ++ Submitted a n ∷ rest1 → log ≡ later2 ++ Submitted b n ∷ rest2 → (rest1 ≡ rest2) × (a ≡ b)
 same_submission g n log later1 later2 rest1 rest2 a b h p q =
     elim (compare later1 later2 (Submitted a n) (Submitted b n) rest1 rest2 (sym p ∙ q)) [
@@ -126,7 +126,7 @@ same_submission g n log later1 later2 rest1 rest2 a b h p q =
       ]
     ]
 
-pub one_submit : (g : Given) (log : Log) (n j k : ℕ) → IsPermitted g log → IsSubmitted (history log) n j → IsSubmitted (history log) n k → j ≡ k
+pub one_submit : (g : Input) (log : Log) (n j k : ℕ) → IsPermitted g log → IsSubmitted (history log) n j → IsSubmitted (history log) n k → j ≡ k
 one_submit g log n j k h s t =
     let x = submit_in g log n j h s in
     let y = submit_in g log n k h t in

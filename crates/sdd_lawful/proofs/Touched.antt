@@ -1,5 +1,5 @@
 -- Which modules a committed transaction touches.
-use Rattle.sdd_lawful.proofs.All.{AllByRecursion, Bool, Catalogue, Change, Committed, DmNo, Fragment, Given, GoesTo, IsModule, IsPlaced, IsSound, List, Log, Some, Touches, [], any_at, ap, arith, at_number, by_change, by_no_class, changes_at, changes_to, cond, dec_le, dm_no, eqb-true, false, filter, fragment_at, get_or_past, has_copy, inl, inr, length, list_any, or_left, or_right, recursion_from_All, refl, same_number, slice_get, sound_fragments, subst, suc, sym, true, true_or_false, zero, ℕ, ◌-◌, ◌<◌, ◌==◌, ◌∙◌, ◌∷◌, ◌≡◌, ◌⊎◌}
+use Rattle.sdd_lawful.proofs.All.{AllByRecursion, Bool, Catalogue, Change, Committed, DmNo, Fragment, GoesTo, Input, IsModule, IsPlaced, IsSound, List, Log, Some, Touches, [], any_at, ap, arith, at_number, by_change, by_no_class, changes_at, changes_to, cond, dec_le, dm_no, eqb-true, false, filter, fragment_at, get_or_past, has_copy, inl, inr, length, list_any, or_left, or_right, recursion_from_All, refl, same_number, slice_get, sound_fragments, subst, suc, sym, true, true_or_false, zero, ℕ, ◌-◌, ◌<◌, ◌==◌, ◌∙◌, ◌∷◌, ◌≡◌, ◌⊎◌}
 use Rattle.sdd_lawful.proofs.Committed.{IsCommittedIn}
 
 -- a module with a copy is there
@@ -60,12 +60,12 @@ touches_any cat xs f d e c =
     let p : i.1.frag.0 ≡ f = eqb-true i.1.frag.0 f i.3 in
     passing (λ (x : Change). has_copy cat d x.frag.0) xs i.0 i.1 i.2 (ap (has_copy cat d) p ∙ c)
 
-pub touches_some : (g : Given) (log : Log) (t : Committed) (x : IsCommittedIn g log t) (d : ℕ) → Touches g.catalogue t d
+pub touches_some : (g : Input) (log : Log) (t : Committed) (x : IsCommittedIn g log t) (d : ℕ) → Touches g.catalogue t d
     → 0 < length (changes_to g x.bases x.running (dm_no d))
 touches_some g log t x d h =
     touches_any g.catalogue _ h.fragment d (subst (λ ys. list_any (λ (c : Change). c.frag.0 == h.fragment) ys ≡ true) x.changes_are h.changed) h.copied
 
-pub goes_some : (g : Given) (log : Log) (t : Committed) (x : IsCommittedIn g log t) (d : ℕ) → GoesTo g.catalogue t d
+pub goes_some : (g : Input) (log : Log) (t : Committed) (x : IsCommittedIn g log t) (d : ℕ) → GoesTo g.catalogue t d
     → ((t.start.class == 0) ≡ true) ⊎ (0 < length (changes_to g x.bases x.running (dm_no d)))
 goes_some g log t x d (by_change h) = inr (touches_some g log t x d h)
 goes_some g log t x d (by_no_class e m) = inl (ap (λ y. y == 0) e)

@@ -1,5 +1,5 @@
 -- The history of a permitted log keeps the law of undeclared transactions.
-use Rattle.sdd_lawful.proofs.All.{Act, AppliedBefore, Apply, AreErasOf, Attempt, Bases, Catalogue, Committed, Cond, D, Does, Done, Entry, Eras, Given, GoesTo, HasApply, IsAnswered, IsAttempt, IsCommitted, IsMadeAt, IsModule, IsPermitted, IsSound, IsWhollyAfter, IsWhollyBefore, KeepsUndeclared, Log, Queued, Rec, Records, Setting, Site, Some, Stands, T, Touches, U, [], all_applied, ap, append_assoc, arith, bound, by_change, by_no_class, class_at, classes_of, commit_act, commit_of, commit_t, cond_of, dm_no, false, frag_no, fragments_of, history, home, home_of, inl, inr, length, low_or_high, lower_same_higher, map, next_stamp, number_of, numbers_to, p2_of, permitted_before, refl, same_number, same_or_not, same_start, setting_of, slice_get, sound_whole, start_at, start_u, subst, suc, sym, tm_no, true, u_stamp, undeclared_conditions, uses_of, zero_applied, zero_pair, ℕ, ◌++◌, ◌<◌, ◌==◌, ◌∙◌, ◌∷◌, ◌≡◌, ◌≢◌, ◌≤◌, ◌⊎◌}
+use Rattle.sdd_lawful.proofs.All.{Act, AppliedBefore, Apply, AreErasOf, Attempt, Bases, Catalogue, Committed, Cond, D, Does, Done, Entry, Eras, GoesTo, HasApply, Input, IsAnswered, IsAttempt, IsCommitted, IsMadeAt, IsModule, IsPermitted, IsSound, IsWhollyAfter, IsWhollyBefore, KeepsUndeclared, Log, Queued, Rec, Records, Setting, Site, Some, Stands, T, Touches, U, [], all_applied, ap, append_assoc, arith, bound, by_change, by_no_class, class_at, classes_of, commit_act, commit_of, commit_t, cond_of, dm_no, false, frag_no, fragments_of, history, home, home_of, inl, inr, length, low_or_high, lower_same_higher, map, next_stamp, number_of, numbers_to, p2_of, permitted_before, refl, same_number, same_or_not, same_start, setting_of, slice_get, sound_whole, start_at, start_u, subst, suc, sym, tm_no, true, u_stamp, undeclared_conditions, uses_of, zero_applied, zero_pair, ℕ, ◌++◌, ◌<◌, ◌==◌, ◌∙◌, ◌∷◌, ◌≡◌, ◌≢◌, ◌≤◌, ◌⊎◌}
 use Rattle.sdd_lawful.proofs.Answered.{answer_in, answer_rec, conds_sent}
 use Rattle.sdd_lawful.proofs.Applied.{apply_rec}
 use Rattle.sdd_lawful.proofs.Applies.{of_commit}
@@ -18,7 +18,7 @@ use Rattle.sdd_invariants.specs.site_module.SiteLog as site
 
 -- an Apply with the timestamp of an undeclared transaction is its own
 
-own_apply : (g : Given) (log : Log) (eras : Eras) (u : Committed) (d : ℕ) (front before : Log) → IsSound g.catalogue → IsPermitted g log → AreErasOf g log eras
+own_apply : (g : Input) (log : Log) (eras : Eras) (u : Committed) (d : ℕ) (front before : Log) → IsSound g.catalogue → IsPermitted g log → AreErasOf g log eras
     → IsCommitted (history log) u → log ≡ front ++ before → HasApply g before (dm_no d) u.start.ts
     → AppliedBefore (history log) u.start.txn d (length (history before))
 own_apply g log eras u d front before sound h are c is x =
@@ -41,28 +41,28 @@ own_apply g log eras u d front before sound h are c is x =
       before = omega arith;
     }
 
-module_there : (g : Given) (d : ℕ) → IsModule g.catalogue d → (k : ℕ) × (slice_get (numbers_to g.catalogue.dms) k ≡ Some d)
+module_there : (g : Input) (d : ℕ) → IsModule g.catalogue d → (k : ℕ) × (slice_get (numbers_to g.catalogue.dms) k ≡ Some d)
 module_there g d m = let hi = m.1 in in_numbers 1 g.catalogue.dms d m.0 (omega arith)
 
 -- two undeclared transactions: the first is applied everywhere where the second starts
 
-pub record IsDone (g : Given) (log : Log) (x : Committed) (a : Attempt) : Type 0 where
+pub record IsDone (g : Input) (log : Log) (x : Committed) (a : Attempt) : Type 0 where
   pub time : x.start.ts < a.ts
   pub applied : (d : ℕ) → IsModule g.catalogue d → AppliedBefore (history log) x.start.txn d a.place
 
-abbrev u_record : Given → Log → Queued → Rec
+abbrev u_record : Input → Log → Queued → Rec
 u_record g before q = start_of (begun_as g 0 (at_home g 0 before) q (length (history before)))
 
-abbrev u_made : (g : Given) (log : Log) (a : Attempt) (p : IsStartedAtU g log a) → IsMadeAt log a.place (u_record g p.before p.queued)
+abbrev u_made : (g : Input) (log : Log) (a : Attempt) (p : IsStartedAtU g log a) → IsMadeAt log a.place (u_record g p.before p.queued)
 u_made g log a p = record { later = p.later; entry = Does U (start_u g p.before p.queued); before = p.before; is = p.is; makes = refl; place_is = p.place_is }
 
-u_behind : (g : Given) (log : Log) (a b : Attempt) (p : IsStartedAtU g log a) (q : IsStartedAtU g log b) → a.place < b.place
+u_behind : (g : Input) (log : Log) (a b : Attempt) (p : IsStartedAtU g log a) (q : IsStartedAtU g log b) → a.place < b.place
     → (between : Log) × (q.before ≡ between ++ Does U (start_u g p.before p.queued) ∷ p.before)
 u_behind g log a b p q l =
     let z = entries_in_order log a.place b.place (u_record g p.before p.queued) (u_record g q.before q.queued) (u_made g log a p) (u_made g log b q) l in
     (z.between, z.is)
 
-zero_done : (g : Given) (log : Log) (eras : Eras) (x : Committed) (a : Attempt) → IsSound g.catalogue → IsPermitted g log → AreErasOf g log eras
+zero_done : (g : Input) (log : Log) (eras : Eras) (x : Committed) (a : Attempt) → IsSound g.catalogue → IsPermitted g log → AreErasOf g log eras
     → IsCommitted (history log) x → IsAttempt (history log) a → x.start.class ≡ 0 → a.class ≡ 0 → x.start.place < a.place → IsDone g log x a
 zero_done g log eras x a sound h are c s e f l =
     let p = started_at_u g log x.start sound h c.started e in
@@ -84,7 +84,7 @@ zero_done g log eras x a sound h are c s e f l =
     }
 
 -- so it is committed then
-done_committed : (g : Given) (log : Log) (x : Committed) (a : Attempt) → IsSound g.catalogue → IsPermitted g log → IsCommitted (history log) x
+done_committed : (g : Input) (log : Log) (x : Committed) (a : Attempt) → IsSound g.catalogue → IsPermitted g log → IsCommitted (history log) x
     → IsDone g log x a → x.place < a.place
 done_committed g log x a sound h c done =
     let some = (sound_whole g.catalogue sound).some_dm in
@@ -95,7 +95,7 @@ done_committed g log x a sound h c done =
     let l1 = o.before in let l2 = b.before in omega arith
 
 -- what is applied everywhere where an attempt starts is applied where it is answered
-answered_after : (g : Given) (log : Log) (x : Committed) (a : Attempt) (d k : ℕ) → IsSound g.catalogue → IsPermitted g log → IsAttempt (history log) a
+answered_after : (g : Input) (log : Log) (x : Committed) (a : Attempt) (d k : ℕ) → IsSound g.catalogue → IsPermitted g log → IsAttempt (history log) a
     → IsDone g log x a → IsModule g.catalogue d → IsAnswered (history log) a d k → AppliedBefore (history log) x.start.txn d k
 answered_after g log x a d k sound h s done m e =
     let b = done.applied d m in
@@ -103,7 +103,7 @@ answered_after g log x a d k sound h s done m e =
     let l1 = b.before in let l2 = w.read.start_before in let p = w.place_is in
     record { place = b.place; applied = b.applied; before = omega arith }
 
-zero_zero : (g : Given) (log : Log) (eras : Eras) (u t : Committed) → IsSound g.catalogue → IsPermitted g log → AreErasOf g log eras
+zero_zero : (g : Input) (log : Log) (eras : Eras) (u t : Committed) → IsSound g.catalogue → IsPermitted g log → AreErasOf g log eras
     → IsCommitted (history log) u → IsCommitted (history log) t → u.start.class ≡ 0 → t.start.class ≡ 0 → u.start.txn ≢ t.start.txn
     → IsWhollyBefore g.catalogue (history log) t u ⊎ IsWhollyAfter g.catalogue (history log) t u
 zero_zero g log eras u t sound h are cu ct eu et ne = elim (lower_same_higher t.start.place u.start.place) [
@@ -125,11 +125,11 @@ touches_of : (cat : Catalogue) (t : Committed) (d : ℕ) → (t.start.class == 0
 touches_of cat t d ne (by_change x) = x
 touches_of cat t d ne (by_no_class e m) = let p : true ≡ false = sym (ap (λ y. y == 0) e) ∙ ne in cc
 
-zero_sent : (g : Given) (a : Attempt) (log : Log) (d : ℕ) → a.class ≡ 0 → conds_sent g a log d ≡ undeclared_conditions g.catalogue a.ts
+zero_sent : (g : Input) (a : Attempt) (log : Log) (d : ℕ) → a.class ≡ 0 → conds_sent g a log d ≡ undeclared_conditions g.catalogue a.ts
 zero_sent g a log d e = let p : (a.class == 0) ≡ true = ap (λ y. y == 0) e in rw p refl
 
 -- that is committed with a smaller timestamp is applied at the Answers of the undeclared one
-low_seen : (g : Given) (log : Log) (eras : Eras) (u t : Committed) (d k : ℕ) → IsSound g.catalogue → IsPermitted g log → AreErasOf g log eras
+low_seen : (g : Input) (log : Log) (eras : Eras) (u t : Committed) (d k : ℕ) → IsSound g.catalogue → IsPermitted g log → AreErasOf g log eras
     → ChangesExist g (history log) → IsCommitted (history log) u → IsCommitted (history log) t → u.start.class ≡ 0
     → (t.start.class == 0) ≡ false → t.start.ts < u.start.ts → t.start.class ≤ length g.catalogue.classes → GoesTo g.catalogue t d
     → IsAnswered (history log) u.start d k → AppliedBefore (history log) t.start.txn d k
@@ -151,7 +151,7 @@ low_seen g log eras u t d k sound h are exist cu ct e ne l within goes s =
     (met g log eras sound h are u.start d k q t cu.started s cd ct refl (record { fragment = touch.fragment; changed = touch.changed; copied = touch.copied; named = numbered_there (fragments_of g.catalogue) i.0 touch.fragment i.1 })).1 l
 
 -- the Commit that is known to stand before the undeclared one's Start
-committed_low : (g : Given) (log : Log) (t : Committed) (c : IsCommittedIn g log t) (at : Site) (bases : Bases) (later before later2 rest : Log) (e : Entry)
+committed_low : (g : Input) (log : Log) (t : Committed) (c : IsCommittedIn g log t) (at : Site) (bases : Bases) (later before later2 rest : Log) (e : Entry)
     → IsSound g.catalogue → IsPermitted g log → IsCommitted (history log) t → log ≡ later ++ e ∷ before
     → before ≡ later2 ++ Does at (commit_act g.catalogue bases t.start.class c.running) ∷ rest → t.place < length (history before)
 committed_low g log t c at bases later before later2 rest e sound h ct is p =
@@ -170,7 +170,7 @@ committed_low g log t c at bases later before later2 rest e sound h ct is p =
     omega arith
 
 -- the Start of an attempt, by its timestamp
-start_place : (g : Given) (log : Log) (eras : Eras) (t : Committed) (s : Setting) (l : site.Log) (at : Site) (q : Queued) (later rest : Log)
+start_place : (g : Input) (log : Log) (eras : Eras) (t : Committed) (s : Setting) (l : site.Log) (at : Site) (q : Queued) (later rest : Log)
     → IsSound g.catalogue → IsPermitted g log
     → AreErasOf g log eras → IsCommitted (history log) t → log ≡ later ++ Does at (start_at s t.start.class l q) ∷ rest
     → next_stamp s l ≡ t.start.ts → length (history rest) ≡ t.start.place
@@ -180,7 +180,7 @@ start_place g log eras t s l at q later rest sound h are ct is e =
     (stands_there later (Does at (start_at s t.start.class l q)) rest (start_of b) refl) in
     one_time g log eras sound h are b t.start there ct.started e
 
-declared_one : (g : Given) (log : Log) (eras : Eras) (u t : Committed) → IsSound g.catalogue → IsPermitted g log → AreErasOf g log eras
+declared_one : (g : Input) (log : Log) (eras : Eras) (u t : Committed) → IsSound g.catalogue → IsPermitted g log → AreErasOf g log eras
     → ChangesExist g (history log) → IsCommitted (history log) u → IsCommitted (history log) t → u.start.class ≡ 0
     → (t.start.class == 0) ≡ false → IsWhollyBefore g.catalogue (history log) t u ⊎ IsWhollyAfter g.catalogue (history log) t u
 declared_one g log eras u t sound h are exist cu ct e ne =
@@ -228,7 +228,7 @@ declared_one g log eras u t sound h are exist cu ct e ne =
           }))
     ]
 
-pub keeps_undeclared : (g : Given) (log : Log) (eras : Eras) → IsSound g.catalogue → IsPermitted g log → AreErasOf g log eras
+pub keeps_undeclared : (g : Input) (log : Log) (eras : Eras) → IsSound g.catalogue → IsPermitted g log → AreErasOf g log eras
     → ChangesExist g (history log) → KeepsUndeclared g.catalogue (history log)
 keeps_undeclared g log eras sound h are exist = record {
   alone = λ u t cu ct e ne. elim (same_or_not t.start.class 0) [

@@ -1,5 +1,5 @@
 -- What committed transactions change are items of the catalogue, and so the database that an attempt reads is one.
-use Rattle.sdd_lawful.proofs.All.{Act, All, AllByRecursion, Answer, Apply, Bases, Catalogue, Change, D, Database, Dated, Did, DmNo, Does, Fits, FitsStatement, Given, Handed, HasRow, HasSoundData, IsBased, IsChange, IsEntry, IsModule, IsPermitted, IsSound, IsWrite, Item, List, Log, Msg, PutsHeld, Rec, Records, Redeclared, RelNo, Row, Running, Sends, Setting, Site, SiteLog, Some, Submits, T, Ticked, Txn, U, Write, [], active, all_filtered, all_have, all_join, and_left, and_right, ap, append_assoc, applied, apply_of_head, arith, base_of, changes_in, changes_to, class_at, class_number, commit_act, commit_put_is, database_of, dated, dm_no, each_has, each_inserted, effect, effect_changes, entry_placed, eqb-true, first_row, first_rows, flat_map, fold, fragment_at, frags_asked, has_copy, head, head_of, head_put, held_by, home, home_fair, if_way, inl, inr, is_apply, is_at, item_cmp, item_cmp_exact, items_of, local_of, map, numbers_to, one_active, permitted_before, pipe, place_of_act, queue, range_with_len, recursion_from_All, refl, rows_make_database, rows_of, sends_of_act, setting_of, slice_get, snapshots, snapshots_at, start_at, start_of_active, subst, suc, sym, t_commit, tm_no, to_site, true, true_or_false, txn_at, u_commit, with_item, zero, ℕ, ℤ, ◌&&◌, ◌++◌, ◌+◌, ◌-◌, ◌==◌, ◌∙◌, ◌∷◌, ◌≡◌, ◌≤◌}
+use Rattle.sdd_lawful.proofs.All.{Act, All, AllByRecursion, Answer, Apply, Bases, Catalogue, Change, D, Database, Dated, Did, DmNo, Does, Fits, FitsStatement, Handed, HasRow, HasSoundData, Input, IsBased, IsChange, IsEntry, IsModule, IsPermitted, IsSound, IsWrite, Item, List, Log, Msg, PutsHeld, Rec, Records, Redeclared, RelNo, Row, Running, Sends, Setting, Site, SiteLog, Some, Submits, T, Ticked, Txn, U, Write, [], active, all_filtered, all_have, all_join, and_left, and_right, ap, append_assoc, applied, apply_of_head, arith, base_of, changes_in, changes_to, class_at, class_number, commit_act, commit_put_is, database_of, dated, dm_no, each_has, each_inserted, effect, effect_changes, entry_placed, eqb-true, first_row, first_rows, flat_map, fold, fragment_at, frags_asked, has_copy, head, head_of, head_put, held_by, home, home_fair, if_way, inl, inr, is_apply, is_at, item_cmp, item_cmp_exact, items_of, local_of, map, numbers_to, one_active, permitted_before, pipe, place_of_act, queue, range_with_len, recursion_from_All, refl, rows_make_database, rows_of, sends_of_act, setting_of, slice_get, snapshots, snapshots_at, start_at, start_of_active, subst, suc, sym, t_commit, tm_no, to_site, true, true_or_false, txn_at, u_commit, with_item, zero, ℕ, ℤ, ◌&&◌, ◌++◌, ◌+◌, ◌-◌, ◌==◌, ◌∙◌, ◌∷◌, ◌≡◌, ◌≤◌}
 use Rattle.sdd_lawful.proofs.Classes.{at_home, home_setting}
 use Rattle.sdd_lawful.proofs.Commits.{text_of_head}
 use Rattle.sdd_invariants.specs.dm.Copies.{classes_of}
@@ -112,16 +112,16 @@ put_together cat start (e ∷ es) h k = put_together cat (with_item start e) es 
 
 -- a Commit's changes, in the whole log
 
-abbrev pub CommitsValid : Given → Log → Type 0
+abbrev pub CommitsValid : Input → Log → Type 0
 CommitsValid g log =
     (c : ℕ) (bases : Bases) (a : Running) (later before : Log) → log ≡ later ++ Does (home g.catalogue c) (commit_act g.catalogue bases c a) ∷ before
     → active (home_setting g c) c (at_home g c before) ≡ Some a → AllValid g.catalogue (effect g.catalogue (bases a.ts) a.text).changes
 
-abbrev pub AllBegin : Given → Type 0
+abbrev pub AllBegin : Input → Type 0
 AllBegin g = (d : ℕ) → IsModule g.catalogue d → AllByRecursion (IsEntry g.catalogue) (database_of g.catalogue (rows_of g (D (dm_no d))))
 
 -- what a data module applies is a WRITE of such a Commit
-pub applies_valid : (g : Given) (d : ℕ) (log : Log) → IsPermitted g log → CommitsValid g log → AppliesValid g.catalogue (local_of g (D (dm_no d)) log)
+pub applies_valid : (g : Input) (d : ℕ) (log : Log) → IsPermitted g log → CommitsValid g log → AppliesValid g.catalogue (local_of g (D (dm_no d)) log)
 applies_valid g d log h valid c (Apply txn of dm ts) sends later before is a =
     let at : DmNo = dm_no d in
     let act : Act = Records c (Apply txn of dm ts) sends in
@@ -147,7 +147,7 @@ applies_valid g d log h valid c (Apply txn of dm ts) sends later before is a =
 applies_valid g d log h valid c r sends later before is a = cc
 
 -- at the modules from a on
-all_at_modules : (g : Given) (log : Log) (ts : ℕ) → IsSound g.catalogue → IsPermitted g log → AllBegin g → CommitsValid g log
+all_at_modules : (g : Input) (log : Log) (ts : ℕ) → IsSound g.catalogue → IsPermitted g log → AllBegin g → CommitsValid g log
     → (a n : ℕ) → 1 ≤ a → a + n ≤ suc g.catalogue.dms → AllByRecursion (IsEntry g.catalogue) (flat_map (snapshots_at g log ts) (range_with_len a n))
 all_at_modules g log ts sound h begin valid a zero lo hi = tt
 all_at_modules g log ts sound h begin valid a (suc n) lo hi =
@@ -156,7 +156,7 @@ all_at_modules g log ts sound h begin valid a (suc n) lo hi =
     (all_at_modules g log ts sound h begin valid (a + 1) n (omega arith) (omega arith))
 
 -- so the database that an attempt reads has entries of the catalogue alone
-pub base_valid : (g : Given) (log : Log) (ts : ℕ) → IsSound g.catalogue → IsPermitted g log → AllBegin g → CommitsValid g log
+pub base_valid : (g : Input) (log : Log) (ts : ℕ) → IsSound g.catalogue → IsPermitted g log → AllBegin g → CommitsValid g log
     → AllByRecursion (IsEntry g.catalogue) (base_of g log ts)
 base_valid g log ts sound h begin valid =
     put_together g.catalogue [] (flat_map (snapshots_at g log ts) (numbers_to g.catalogue.dms)) tt
@@ -176,13 +176,13 @@ all_slice P [] k x h e = cc
 all_slice {A = A} P (y ∷ xs) zero x h e = let p : ◌≡◌ {A = A} y x = cc in subst P p h.0
 all_slice P (y ∷ xs) (suc k) x h e = all_slice P xs k x h.1 e
 
-pub all_begin : (g : Given) (rows : List (RelNo × Row)) → HasSoundData g rows → AllBegin g
+pub all_begin : (g : Input) (rows : List (RelNo × Row)) → HasSoundData g rows → AllBegin g
 all_begin g rows fine d m =
     subst (λ r. AllByRecursion (IsEntry g.catalogue) (database_of g.catalogue r)) (sym (fine.alike d m))
     (recursion_from_All (IsEntry g.catalogue) (database_of g.catalogue rows) (rows_make_database g.catalogue rows fine.rows_fit fine.rows_held).entries)
 
 -- an active attempt has the text that was submitted
-text_of_active : (g : Given) (c : ℕ) (log : Log) (a : Running) → IsPermitted g log → active (home_setting g c) c (at_home g c log) ≡ Some a
+text_of_active : (g : Input) (c : ℕ) (log : Log) (a : Running) → IsPermitted g log → active (home_setting g c) c (at_home g c log) ≡ Some a
     → txn_at g a.txn ≡ Some a.text
 text_of_active g c log a h e =
     let st = start_of_active (home_setting g c) c (at_home g c log) a (home_fair g c log h) e in
@@ -192,13 +192,13 @@ text_of_active g c log a h e =
     ap (txn_at g) st.number_is ∙ text_of_head g c p.rest st.queued hp.1
     (subst (λ l. head_of (queue (home_setting g c) c l) ≡ Some st.queued) (sym p.local_is) st.head) ∙ ap (λ t. Some t) (sym st.text_is)
 
-pub base_is : (g : Given) (at : Site) (log : Log) (act : Act) → IsPermitted g (Does at act ∷ log) → IsRunSite at
+pub base_is : (g : Input) (at : Site) (log : Log) (act : Act) → IsPermitted g (Does at act ∷ log) → IsRunSite at
     → IsBased (setting_of g at) (base_of g log) (local_of g at log) act
 base_is g U log act h s = u_commit g log act h
 base_is g (T t) log act h s = t_commit g t log act h
 base_is g (D d) log act h s = absurd s
 
-commit_valid : (g : Given) (rows : List (RelNo × Row)) (c : ℕ) (bases : Bases) (a : Running) (log : Log) → IsSound g.catalogue → HasSoundData g rows
+commit_valid : (g : Input) (rows : List (RelNo × Row)) (c : ℕ) (bases : Bases) (a : Running) (log : Log) → IsSound g.catalogue → HasSoundData g rows
     → IsPermitted g (Does (home g.catalogue c) (commit_act g.catalogue bases c a) ∷ log)
     → active (home_setting g c) c (at_home g c log) ≡ Some a → CommitsValid g log → AllValid g.catalogue (effect g.catalogue (bases a.ts) a.text).changes
 commit_valid g rows c bases a log sound fine h act valid =
@@ -214,7 +214,7 @@ commit_valid g rows c bases a log sound fine h act valid =
     subst (AllValid g.catalogue) (sym changes)
     (effect_changes g.catalogue sound (base_of g log a.ts) entries a.text.statements [] [] (recursion_from_All (FitsStatement g.catalogue) a.text.statements fits.statements) (recursion_from_All PutsHeld a.text.statements held) tt)
 
-pub commits_valid : (g : Given) (rows : List (RelNo × Row)) (log : Log) → IsSound g.catalogue → HasSoundData g rows → IsPermitted g log → CommitsValid g log
+pub commits_valid : (g : Input) (rows : List (RelNo × Row)) (log : Log) → IsSound g.catalogue → HasSoundData g rows → IsPermitted g log → CommitsValid g log
 commits_valid g rows [] sound fine h c bases a [] before is act = cc
 commits_valid g rows [] sound fine h c bases a (x ∷ later) before is act = cc
 commits_valid g rows (e ∷ log) sound fine h c bases a [] before is act =

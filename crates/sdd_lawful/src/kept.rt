@@ -1,38 +1,38 @@
 ghost use Rattle.std.specs.Prelude.{◌≡◌, ℕ, List, length};
 ghost use Rattle.std.specs.List.{AllZip};
-ghost use Rattle.sdd_invariants.specs.All.{Given, IsForce, IsLawful, IsPermitted, Log, RelNo, Row, TxnNo, force_at, history, redeclares, rows_in_fragment};
+ghost use Rattle.sdd_invariants.specs.All.{Input, IsForce, IsLawful, IsPermitted, Log, RelNo, Row, TxnNo, force_at, history, redeclares, rows_in_fragment};
 ghost use Rattle.sdd_laws.specs.All.{AreAllApplied, AreFew, Eras, HasNoCycle, IsOrderable, IsReplyOf, IsSerial, KeepsEras, KeepsLaws, NumbersExist, TxnsExist, copy_at, items_of, run};
-ghost use Rattle.sdd_lawful.specs.Given.{AreErasOf, AreNumbered, HasSoundData, IsSoundGiven, SubmitGiven, one_era};
+ghost use Rattle.sdd_lawful.specs.SoundInput.{AreErasOf, AreNumbered, HasSoundData, IsSoundInput, SubmitGiven, one_era};
 
 /// All laws that give a serial order. That of eras is assumed: it holds of lawful logs alone.
 pub fn law_kept()
-    ensures { (given : Given) (rows : List (RelNo × Row)) (eras : Eras) (log : Log)
-        → IsSoundGiven given → HasSoundData given rows → IsPermitted given log
+    ensures { (given : Input) (rows : List (RelNo × Row)) (eras : Eras) (log : Log)
+        → IsSoundInput given → HasSoundData given rows → IsPermitted given log
         → AreErasOf given log eras → KeepsEras given.catalogue eras (history log)
         → KeepsLaws given.catalogue eras rows given.txns (history log) }
 {}
 
 /// The numbers that the history names exist, and so do its transactions.
 pub fn law_named()
-    ensures numbers { (given : Given) (rows : List (RelNo × Row)) (eras : Eras) (log : Log)
-        → IsSoundGiven given → HasSoundData given rows → IsPermitted given log
+    ensures numbers { (given : Input) (rows : List (RelNo × Row)) (eras : Eras) (log : Log)
+        → IsSoundInput given → HasSoundData given rows → IsPermitted given log
         → AreErasOf given log eras → AreNumbered given log
         → NumbersExist given.catalogue (history log) }
-    ensures txns { (given : Given) (rows : List (RelNo × Row)) (eras : Eras) (log : Log)
-        → IsSoundGiven given → HasSoundData given rows → IsPermitted given log
+    ensures txns { (given : Input) (rows : List (RelNo × Row)) (eras : Eras) (log : Log)
+        → IsSoundInput given → HasSoundData given rows → IsPermitted given log
         → AreErasOf given log eras → AreNumbered given log
         → TxnsExist (length given.txns) (history log) }
 {}
 
 /// No cycle of precedence among the committed transactions, and so a serial order.
 pub fn law_ordered()
-    ensures acyclic { (given : Given) (rows : List (RelNo × Row)) (eras : Eras) (log : Log)
-        → IsSoundGiven given → HasSoundData given rows → IsPermitted given log
+    ensures acyclic { (given : Input) (rows : List (RelNo × Row)) (eras : Eras) (log : Log)
+        → IsSoundInput given → HasSoundData given rows → IsPermitted given log
         → AreErasOf given log eras → KeepsEras given.catalogue eras (history log)
         → AreNumbered given log
         → HasNoCycle given.catalogue (history log) }
-    ensures orderable { (given : Given) (rows : List (RelNo × Row)) (eras : Eras) (log : Log)
-        → IsSoundGiven given → HasSoundData given rows → IsPermitted given log
+    ensures orderable { (given : Input) (rows : List (RelNo × Row)) (eras : Eras) (log : Log)
+        → IsSoundInput given → HasSoundData given rows → IsPermitted given log
         → AreErasOf given log eras → KeepsEras given.catalogue eras (history log)
         → AreNumbered given log
         → IsOrderable given.catalogue (history log) }
@@ -40,13 +40,13 @@ pub fn law_ordered()
 
 /// The same where no further list of classes is put in force: then nothing is assumed of eras.
 pub fn law_one_list()
-    ensures acyclic { (given : Given) (rows : List (RelNo × Row)) (log : Log)
-        → IsSoundGiven given → HasSoundData given rows → IsPermitted given log
+    ensures acyclic { (given : Input) (rows : List (RelNo × Row)) (log : Log)
+        → IsSoundInput given → HasSoundData given rows → IsPermitted given log
         → IsForce (force_at given 0) → (force_at given 0).catalogue ≡ given.catalogue
         → redeclares log ≡ 0 → AreNumbered given log
         → HasNoCycle given.catalogue (history log) }
-    ensures orderable { (given : Given) (rows : List (RelNo × Row)) (log : Log)
-        → IsSoundGiven given → HasSoundData given rows → IsPermitted given log
+    ensures orderable { (given : Input) (rows : List (RelNo × Row)) (log : Log)
+        → IsSoundInput given → HasSoundData given rows → IsPermitted given log
         → IsForce (force_at given 0) → (force_at given 0).catalogue ≡ given.catalogue
         → redeclares log ≡ 0 → AreNumbered given log
         → IsOrderable given.catalogue (history log) }
@@ -55,18 +55,18 @@ pub fn law_one_list()
 /// Of a lawful log whose events submit each transaction once, where no further list of classes is
 /// put in force: its history keeps all laws, and has a serial order.
 pub fn law_lawful()
-    ensures laws { (given : Given) (rows : List (RelNo × Row)) (log : Log)
-        → IsSoundGiven given → HasSoundData given rows → SubmitGiven given → IsLawful given log
+    ensures laws { (given : Input) (rows : List (RelNo × Row)) (log : Log)
+        → IsSoundInput given → HasSoundData given rows → SubmitGiven given → IsLawful given log
         → IsForce (force_at given 0) → (force_at given 0).catalogue ≡ given.catalogue
         → redeclares log ≡ 0
         → KeepsLaws given.catalogue (one_era given.catalogue) rows given.txns (history log) }
-    ensures acyclic { (given : Given) (rows : List (RelNo × Row)) (log : Log)
-        → IsSoundGiven given → HasSoundData given rows → SubmitGiven given → IsLawful given log
+    ensures acyclic { (given : Input) (rows : List (RelNo × Row)) (log : Log)
+        → IsSoundInput given → HasSoundData given rows → SubmitGiven given → IsLawful given log
         → IsForce (force_at given 0) → (force_at given 0).catalogue ≡ given.catalogue
         → redeclares log ≡ 0
         → HasNoCycle given.catalogue (history log) }
-    ensures orderable { (given : Given) (rows : List (RelNo × Row)) (log : Log)
-        → IsSoundGiven given → HasSoundData given rows → SubmitGiven given → IsLawful given log
+    ensures orderable { (given : Input) (rows : List (RelNo × Row)) (log : Log)
+        → IsSoundInput given → HasSoundData given rows → SubmitGiven given → IsLawful given log
         → IsForce (force_at given 0) → (force_at given 0).catalogue ≡ given.catalogue
         → redeclares log ≡ 0
         → IsOrderable given.catalogue (history log) }
@@ -75,13 +75,13 @@ pub fn law_lawful()
 /// One plain database that runs the transactions along a serial order gives the replies of their
 /// Commits, and leaves what the copies have at which all are applied.
 pub fn law_replayed()
-    ensures replies { (given : Given) (rows : List (RelNo × Row)) (eras : Eras) (log : Log)
-        (order : List TxnNo) → IsSoundGiven given → HasSoundData given rows
+    ensures replies { (given : Input) (rows : List (RelNo × Row)) (eras : Eras) (log : Log)
+        (order : List TxnNo) → IsSoundInput given → HasSoundData given rows
         → IsPermitted given log → AreErasOf given log eras
         → IsSerial given.catalogue (history log) order
         → AllZip (IsReplyOf (history log)) order (run given.catalogue rows given.txns order).0 }
-    ensures copies { (given : Given) (rows : List (RelNo × Row)) (eras : Eras) (log : Log)
-        (order : List TxnNo) → IsSoundGiven given → HasSoundData given rows
+    ensures copies { (given : Input) (rows : List (RelNo × Row)) (eras : Eras) (log : Log)
+        (order : List TxnNo) → IsSoundInput given → HasSoundData given rows
         → IsPermitted given log → AreErasOf given log eras
         → IsSerial given.catalogue (history log) order
         → (f d k : ℕ) → AreAllApplied (history log) f d k
@@ -91,6 +91,6 @@ pub fn law_replayed()
 
 /// A transaction starts at most once more often than others commit.
 pub fn law_few()
-    ensures { (given : Given) (eras : Eras) (log : Log) → IsSoundGiven given
+    ensures { (given : Input) (eras : Eras) (log : Log) → IsSoundInput given
         → IsPermitted given log → AreErasOf given log eras → AreFew (history log) }
 {}

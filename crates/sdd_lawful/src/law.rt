@@ -1,7 +1,7 @@
 ghost use Rattle.std.specs.Prelude.{◌≡◌, ◌<◌, ◌++◌, ◌∷◌, ℕ, List, length, Some};
-ghost use Rattle.sdd_invariants.specs.All.{Entry, Given, IsForce, IsPermitted, Log, Rec, RelNo, Row, force_at, history, marks, redeclares};
+ghost use Rattle.sdd_invariants.specs.All.{Entry, Input, IsForce, IsPermitted, Log, Rec, RelNo, Row, force_at, history, marks, redeclares};
 ghost use Rattle.sdd_laws.specs.All.{Eras, KeepsAnswers, KeepsApplies, KeepsConditions, KeepsEras, KeepsRejections, KeepsStarts, KeepsUndeclared, Stands, event_at};
-ghost use Rattle.sdd_lawful.specs.Given.{AreErasOf, HasSoundData, IsSoundGiven, one_era};
+ghost use Rattle.sdd_lawful.specs.SoundInput.{AreErasOf, HasSoundData, IsSoundInput, one_era};
 ghost use Rattle.sdd_lawful.specs.Made.{IsBefore, IsMadeAt, record_of};
 
 /// A record of a history was made by an entry of its log, and every entry that makes one has it
@@ -21,7 +21,7 @@ pub fn law_places()
 
 /// The law of Starts: which attempts there are, in which order they start, and with which times.
 pub fn law_starts()
-    ensures { (given : Given) (log : Log) (eras : Eras) → IsSoundGiven given
+    ensures { (given : Input) (log : Log) (eras : Eras) → IsSoundInput given
         → IsPermitted given log → AreErasOf given log eras
         → KeepsStarts given.catalogue eras given.txns (history log) }
 {}
@@ -29,14 +29,14 @@ pub fn law_starts()
 /// The law of Applies: each is of a committed transaction, and of a class they come in the order of
 /// timestamps, with none left out.
 pub fn law_applies()
-    ensures { (given : Given) (log : Log) → IsSoundGiven given → IsPermitted given log
+    ensures { (given : Input) (log : Log) → IsSoundInput given → IsPermitted given log
         → KeepsApplies given.catalogue (history log) }
 {}
 
 /// The law of read conditions: of the writers that a condition names a reader sees exactly those
 /// before its time.
 pub fn law_conditions()
-    ensures { (given : Given) (log : Log) (eras : Eras) → IsSoundGiven given
+    ensures { (given : Input) (log : Log) (eras : Eras) → IsSoundInput given
         → IsPermitted given log → AreErasOf given log eras
         → KeepsConditions given.catalogue eras (history log) }
 {}
@@ -44,25 +44,25 @@ pub fn law_conditions()
 /// The law of rejections: a transaction starts again only if a write came before one of its READs
 /// and should have come after it.
 pub fn law_rejections()
-    ensures { (given : Given) (log : Log) (eras : Eras) → IsSoundGiven given
+    ensures { (given : Input) (log : Log) (eras : Eras) → IsSoundInput given
         → IsPermitted given log → AreErasOf given log eras
         → KeepsRejections given.catalogue eras (history log) }
 {}
 
 /// The law of undeclared transactions: each runs while no other does.
 pub fn law_undeclared()
-    ensures { (given : Given) (rows : List (RelNo × Row)) (eras : Eras) (log : Log)
-        → IsSoundGiven given → HasSoundData given rows → IsPermitted given log
+    ensures { (given : Input) (rows : List (RelNo × Row)) (eras : Eras) (log : Log)
+        → IsSoundInput given → HasSoundData given rows → IsPermitted given log
         → AreErasOf given log eras → KeepsUndeclared given.catalogue (history log) }
 {}
 
 /// Where no further list of classes is put in force there is one era, that of the catalogue, and the
 /// history keeps the law of eras.
 pub fn law_one_era()
-    ensures eras { (given : Given) (log : Log) → IsForce (force_at given 0)
+    ensures eras { (given : Input) (log : Log) → IsForce (force_at given 0)
         → (force_at given 0).catalogue ≡ given.catalogue → redeclares log ≡ 0
         → AreErasOf given log (one_era given.catalogue) }
-    ensures kept { (given : Given) (log : Log)
+    ensures kept { (given : Input) (log : Log)
         → KeepsEras given.catalogue (one_era given.catalogue) (history log) }
 {}
 
@@ -70,8 +70,8 @@ pub fn law_one_era()
 /// each that is asked, and the reply and changes of the transaction on the database of these
 /// snapshots.
 pub fn law_answers()
-    ensures { (given : Given) (rows : List (RelNo × Row)) (eras : Eras) (log : Log)
-        → IsSoundGiven given → HasSoundData given rows → IsPermitted given log
+    ensures { (given : Input) (rows : List (RelNo × Row)) (eras : Eras) (log : Log)
+        → IsSoundInput given → HasSoundData given rows → IsPermitted given log
         → AreErasOf given log eras
         → KeepsAnswers given.catalogue rows given.txns (history log) }
 {}

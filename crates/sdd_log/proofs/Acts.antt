@@ -1,5 +1,5 @@
 -- What a site's acts, one after the other, do to the log's recursions.
-use Rattle.sdd_log.proofs.All.{Act, AllLinked, Call, D, Did, Does, EndsByLimit, Event, Given, IsLawful, IsWithin, List, Log, MAX_LINK_MESSAGES, Msg, Puts, Site, Some, [], ap, append-nil, append_assoc, calls_of, false, handed, history, is_down, left, length, link, local_of, log_after, map, map-append, marks, nat_lt, next, or_assoc, or_false, puts, puts_past, records_of, records_of_act, refl, same_here, same_site, sends_of, sends_of_act, suc, sym, takes_part, true, ℕ, ◌++◌, ◌||◌, ◌∙◌, ◌∷◌, ◌≡◌}
+use Rattle.sdd_log.proofs.All.{Act, AllLinked, Call, D, Did, Does, EndsByLimit, Event, Input, IsLawful, IsWithin, List, Log, MAX_LINK_MESSAGES, Msg, Puts, Site, Some, [], ap, append-nil, append_assoc, calls_of, false, handed, history, is_down, left, length, link, local_of, log_after, map, map-append, marks, nat_lt, next, or_assoc, or_false, puts, puts_past, records_of, records_of_act, refl, same_here, same_site, sends_of, sends_of_act, suc, sym, takes_part, true, ℕ, ◌++◌, ◌||◌, ◌∙◌, ◌∷◌, ◌≡◌}
 use Rattle.sdd_log.proofs.Steps.{after_acts}
 
 pub puts-append : (at : Site) (xs ys : List (Site × Msg)) (calls : List (Call Msg)) → puts at (xs ++ ys) calls ≡ puts at ys (puts at xs calls)
@@ -36,20 +36,20 @@ history_acts at (a ∷ acts) log =
     ∙ append_assoc (history log) (map (λ r. (marks log, r)) (records_of_act a)) (map (λ r. (marks log, r)) (records_of acts))
     ∙ ap (λ xs. history log ++ xs) (sym (map-append (λ r. (marks log, r)) (records_of_act a) (records_of acts)))
 
-pub own_acts : (g : Given) (at : Site) (acts : List Act) (log : Log) → local_of g at (after_acts at acts log) ≡ log_after acts (local_of g at log)
+pub own_acts : (g : Input) (at : Site) (acts : List Act) (log : Log) → local_of g at (after_acts at acts log) ≡ log_after acts (local_of g at log)
 own_acts g at [] log = refl
 own_acts g at (a ∷ acts) log =
     let own : local_of g at (Does at a ∷ log) ≡ Did a ∷ local_of g at log = rw (same_here at) refl in
     own_acts g at acts (Does at a ∷ log) ∙ ap (λ l. log_after acts l) own
 
-pub other_acts : (g : Given) (b at : Site) (acts : List Act) (log : Log) → same_site b at ≡ false → local_of g b (after_acts at acts log) ≡ local_of g b log
+pub other_acts : (g : Input) (b at : Site) (acts : List Act) (log : Log) → same_site b at ≡ false → local_of g b (after_acts at acts log) ≡ local_of g b log
 other_acts g b at [] log e = refl
 other_acts g b at (a ∷ acts) log e =
     let same : local_of g b (Does at a ∷ log) ≡ local_of g b log = rw e refl in
     other_acts g b at acts (Does at a ∷ log) e ∙ same
 
 -- a lawful log's earlier logs are lawful
-pub lawful_before : (g : Given) (at : Site) (acts : List Act) (log : Log) → IsLawful g (after_acts at acts log) → IsLawful g log
+pub lawful_before : (g : Input) (at : Site) (acts : List Act) (log : Log) → IsLawful g (after_acts at acts log) → IsLawful g log
 lawful_before g at [] log h = h
 lawful_before g at (a ∷ acts) log h = (lawful_before g at acts (Does at a ∷ log) h).1
 
@@ -63,7 +63,7 @@ within_acts at (a ∷ acts) log e w =
     within_acts at acts (Does at a ∷ log) p.1 (p.0, w)
 
 -- a put is past: the log ends there
-pub ends_in_acts : (g : Given) (at : Site) (acts : List Act) (log : Log) → puts_past (calls_of log) at (sends_of acts) ≡ true → IsWithin log
+pub ends_in_acts : (g : Input) (at : Site) (acts : List Act) (log : Log) → puts_past (calls_of log) at (sends_of acts) ≡ true → IsWithin log
     → IsLawful g (after_acts at acts log) → (more : Log) × EndsByLimit g more
 ends_in_acts g at [] log e w l = cc
 ends_in_acts g at (a ∷ acts) log e w l =
@@ -77,11 +77,11 @@ ends_in_acts g at (a ∷ acts) log e w l =
     ] refl q
 
 -- what is sent goes along links
-AllLinked-append : (g : Given) (at : Site) (xs ys : List (Site × Msg)) → AllLinked g at xs → AllLinked g at ys → AllLinked g at (xs ++ ys)
+AllLinked-append : (g : Input) (at : Site) (xs ys : List (Site × Msg)) → AllLinked g at xs → AllLinked g at ys → AllLinked g at (xs ++ ys)
 AllLinked-append g at [] ys h k = k
 AllLinked-append g at (x ∷ xs) ys h k = (h.0, AllLinked-append g at xs ys h.1 k)
 
-pub linked_acts : (g : Given) (at : Site) (acts : List Act) (log : Log)
+pub linked_acts : (g : Input) (at : Site) (acts : List Act) (log : Log)
     → ((log : Log) (act : Act) → IsLawful g log → next g log ≡ Some (Does at act) → AllLinked g at (sends_of_act act))
     → IsLawful g (after_acts at acts log) → AllLinked g at (sends_of acts)
 linked_acts g at [] log law l = tt

@@ -6,7 +6,7 @@ pub use Rattle.sdd_attempt.specs.All.{Act, AreDue, Attempt, Bases, Catalogue, D,
 pub use Rattle.sdd_dm.proofs.ByClass.{first_none as first_nowhere}
 pub use Rattle.sdd_dm.specs.Copies.{classes_of}
 pub use Rattle.sdd_log.specs.Due.{does_at, due_by, hand_due, hand_number, hand_on, hand_with, home_of, mark_due, next, next_at, next_in, next_number, note_if, site_due}
-pub use Rattle.sdd_log.specs.Entries.{Does, Entry, Given, Hand, Log, Mark, Notes, Redeclares, Round, Submitted, history, marks, with_event}
+pub use Rattle.sdd_log.specs.Entries.{Does, Entry, Hand, Input, Log, Mark, Notes, Redeclares, Round, Submitted, history, marks, with_event}
 pub use Rattle.sdd_log.specs.Lawful.{EndsByLimit, IsLawful, IsTheLog, IsWithin, is_past, puts_past}
 pub use Rattle.sdd_log.specs.Locals.{beginning, force_at, local_of, redeclares, setting_of, txn_at, with_force, with_submit}
 pub use Rattle.sdd_log.specs.Marks.{after_mark, from_event, greatest_bound, left, mark_from, mark_of, next_mark}

@@ -1,5 +1,5 @@
 -- At first nothing is due at any site.
-use Rattle.sdd_log.proofs.All.{Act, Bases, D, Force, Given, List, None, Option, Redeclared, Rests, Setting, Site, Some, T, U, [], ap, base_of, beginning, classes_of, does_at, first_nowhere, first_some, force_at, map, mark_of, next, next_at, next_in, numbers_to, refl, setting_of, site_due, sites, ℕ, ◌∷◌, ◌≡◌}
+use Rattle.sdd_log.proofs.All.{Act, Bases, D, Force, Input, List, None, Option, Redeclared, Rests, Setting, Site, Some, T, U, [], ap, base_of, beginning, classes_of, does_at, first_nowhere, first_some, force_at, map, mark_of, next, next_at, next_in, numbers_to, refl, setting_of, site_due, sites, ℕ, ◌∷◌, ◌≡◌}
 use Rattle.sdd_log.proofs.FirstHand.{none_to_hand}
 use Rattle.sdd_log.proofs.Ticking.{or_both}
 use Rattle.sdd_log.proofs.Completing.{next_is_mark}
@@ -38,7 +38,7 @@ none_d s bases =
     (first_map (dm.open_due (dm_views.home_of s) v) k (classes_of s) (λ c. refl))
     (first_map (dm.head_due (dm_views.home_of s) v) k (classes_of s) (λ c. refl))
 
-none_here : (g : Given) (at : Site) (bases : Bases) → next_in g at bases (beginning g at) ≡ None
+none_here : (g : Input) (at : Site) (bases : Bases) → next_in g at bases (beginning g at) ≡ None
 none_here g U bases = none_u (setting_of g U) bases
 none_here g (T t) bases = none_t (setting_of g (T t)) (force_at g 0) bases
 none_here g (D d) bases = none_d (setting_of g (D d)) bases
@@ -47,13 +47,13 @@ does_none : (at : Site) (o : Option Act) → o ≡ None → does_at at o ≡ Non
 does_none at None e = refl
 does_none at (Some a) e = cc
 
-none_at_first : (g : Given) → site_due g [] ≡ None
+none_at_first : (g : Input) → site_due g [] ≡ None
 none_at_first g =
     first_nowhere (λ at. does_at at (next_at g [] at)) (sites g.catalogue.tms g.catalogue.dms) (λ at. does_none at (next_at g [] at) (none_here g at (base_of g [])))
 
-pub rests_at_first : (g : Given) → Rests g []
+pub rests_at_first : (g : Input) → Rests g []
 rests_at_first g = record { lawful = tt; within = tt; no_mark = refl; no_site = none_at_first g; handed_all = λ a b p. refl }
 
-pub next_at_first : (g : Given) → g.events ≡ [] → next g [] ≡ None
+pub next_at_first : (g : Input) → g.events ≡ [] → next g [] ≡ None
 next_at_first g e =
     next_is_mark g [] None (record { no_mark = refl; no_site = none_at_first g; no_hand = none_to_hand g [] (λ a b p. refl) }) (ap (λ ws. mark_of g [] (ws, [])) e)

@@ -1,15 +1,15 @@
 -- The complete log of what was given, with one event more; rounds, and when they end.
-use Rattle.sdd_log.proofs.All.{Bool, EndsIn, Entry, Event, Given, IsLawful, List, Log, Mark, None, Option, Redeclare, Redeclares, Round, Settle, Some, TakesRounds, [], after_mark, all_links, ap, calls_of, false, from_event, greatest_bound, hand_due, left, mark_due, mark_from, mark_of, next, next_mark, or_else, or_none, quiet, refl, round, settles_before, site_due, suc, tail_of, true, with_event, zero, ℕ, ◌++◌, ◌∙◌, ◌∷◌, ◌≡◌}
+use Rattle.sdd_log.proofs.All.{Bool, EndsIn, Entry, Event, Input, IsLawful, List, Log, Mark, None, Option, Redeclare, Redeclares, Round, Settle, Some, TakesRounds, [], after_mark, all_links, ap, calls_of, false, from_event, greatest_bound, hand_due, left, mark_due, mark_from, mark_of, next, next_mark, or_else, or_none, quiet, refl, round, settles_before, site_due, suc, tail_of, true, with_event, zero, ℕ, ◌++◌, ◌∙◌, ◌∷◌, ◌≡◌}
 use Rattle.sdd_log.proofs.Grows.{grows, with_end}
 
 -- nothing is due at all
-pub record IsOver (g : Given) (log : Log) : Type 0 where
+pub record IsOver (g : Input) (log : Log) : Type 0 where
   pub no_mark : mark_due g log ≡ None
   pub no_site : site_due g log ≡ None
   pub no_hand : hand_due g log ≡ None
   pub no_next : next_mark g log ≡ None
 
-pub complete_parts : (g : Given) (log : Log) → next g log ≡ None → IsOver g log
+pub complete_parts : (g : Input) (log : Log) → next g log ≡ None → IsOver g log
 complete_parts g log e =
     let p = or_none (mark_due g log) (or_else (site_due g log) (or_else (hand_due g log) (next_mark g log))) e in
     let q = or_none (site_due g log) (or_else (hand_due g log) (next_mark g log)) p.1 in
@@ -17,12 +17,12 @@ complete_parts g log e =
     record { no_mark = p.0; no_site = q.0; no_hand = r.0; no_next = r.1 }
 
 -- nothing is due but a mark
-pub record IsFree (g : Given) (log : Log) : Type 0 where
+pub record IsFree (g : Input) (log : Log) : Type 0 where
   pub no_mark : mark_due g log ≡ None
   pub no_site : site_due g log ≡ None
   pub no_hand : hand_due g log ≡ None
 
-pub next_is_mark : (g : Given) (log : Log) (o : Option Entry) → IsFree g log → next_mark g log ≡ o → next g log ≡ o
+pub next_is_mark : (g : Input) (log : Log) (o : Option Entry) → IsFree g log → next_mark g log ≡ o → next g log ≡ o
 next_is_mark g log o f e = rw (f.no_mark, f.no_site, f.no_hand, e) refl
 
 -- an event that is carried out by itself
@@ -32,7 +32,7 @@ IsSingle Redeclare = ⊥
 IsSingle _ = Unit {0}
 
 -- an event more behind events of which nothing is left
-more_marked : (g : Given) (log : Log) (q : Bool) (r ws : List Event) (e : Event) → IsSingle e → mark_from g log q r ws ≡ None
+more_marked : (g : Input) (log : Log) (q : Bool) (r ws : List Event) (e : Event) → IsSingle e → mark_from g log q r ws ≡ None
     → mark_from (with_event g e) log q r (ws ++ e ∷ []) ≡ Some (Mark e)
 more_marked g log q r [] Settle i h = absurd i
 more_marked g log q r [] Redeclare i h = absurd i
@@ -41,7 +41,7 @@ more_marked g log false r (Settle ∷ ws) e i h = cc
 more_marked g log _ r (_ ∷ ws) e i h = cc
 more_marked g log q r [] _ i h = refl
 
-more_taken : (g : Given) (log : Log) (q : Bool) (r ws : List Event) (e : Event) → IsSingle e → mark_from g log q r ws ≡ None
+more_taken : (g : Input) (log : Log) (q : Bool) (r ws : List Event) (e : Event) → IsSingle e → mark_from g log q r ws ≡ None
     → tail_of (from_event (ws ++ e ∷ [])) ≡ []
 more_taken g log q r [] Settle i h = absurd i
 more_taken g log q r [] Redeclare i h = absurd i
@@ -50,7 +50,7 @@ more_taken g log false r (Settle ∷ ws) e i h = cc
 more_taken g log _ r (_ ∷ ws) e i h = cc
 more_taken g log q r [] _ i h = refl
 
-by_left : (g : Given) (e : Event) (log : Log) (s : List Event × List Event) → IsSingle e → mark_of g log s ≡ None
+by_left : (g : Input) (e : Event) (log : Log) (s : List Event × List Event) → IsSingle e → mark_of g log s ≡ None
     → (mark_of (with_event g e) log (with_end e s) ≡ Some (Mark e)) × (after_mark (with_end e s) ≡ ([], []))
 by_left g e log (ws, []) i h = (
   more_marked g log (quiet (all_links g) (calls_of log)) (round (all_links g) (calls_of log)) ws e i h,
@@ -58,11 +58,11 @@ by_left g e log (ws, []) i h = (
 )
 by_left g e log (ws, x ∷ r) i h = cc
 
-free : (g : Given) (e : Event) (log : Log) → IsOver g log → IsFree (with_event g e) log
+free : (g : Input) (e : Event) (log : Log) → IsOver g log → IsFree (with_event g e) log
 free g e log n = record { no_mark = n.no_mark; no_site = n.no_site; no_hand = n.no_hand }
 
 -- on a complete log an event more is next, and after it nothing is left
-pub one_more : (g : Given) (e : Event) (log : Log) → IsSingle e → IsLawful g log → next g log ≡ None
+pub one_more : (g : Input) (e : Event) (log : Log) → IsSingle e → IsLawful g log → next g log ≡ None
     → (next (with_event g e) log ≡ Some (Mark e)) × (after_mark (left (with_event g e).events log) ≡ ([], []))
 one_more g e log i l h =
     let n = complete_parts g log h in
@@ -71,41 +71,41 @@ one_more g e log i l h =
     (next_is_mark (with_event g e) log (Some (Mark e)) (free g e log n) (ap (mark_of (with_event g e) log) s ∙ w.0), ap after_mark s ∙ w.1)
 
 -- no event is left
-pub none_left : (g : Given) (log : Log) → IsFree g log → left g.events log ≡ ([], []) → next g log ≡ None
+pub none_left : (g : Input) (log : Log) → IsFree g log → left g.events log ≡ ([], []) → next g log ≡ None
 none_left g log f e = next_is_mark g log None f (ap (mark_of g log) e)
 
 -- an event more that is reached by rounds
 
-more_rounds : (g : Given) (log : Log) (q : Bool) (r ws : List Event) (e : Event) → mark_from g log q r ws ≡ None → EndsIn e (ws ++ e ∷ [])
+more_rounds : (g : Input) (log : Log) (q : Bool) (r ws : List Event) (e : Event) → mark_from g log q r ws ≡ None → EndsIn e (ws ++ e ∷ [])
 more_rounds g log q r [] e h = (0, refl)
 more_rounds g log true r (Settle ∷ ws) e h = let i = more_rounds g log true r ws e h in (suc i.0, ap (λ xs. Settle ∷ xs) i.1)
 more_rounds g log false r (Settle ∷ ws) e h = cc
 more_rounds g log _ r (_ ∷ ws) e h = cc
 
-by_end : (g : Given) (e : Event) (log : Log) (s : List Event × List Event) → mark_of g log s ≡ None
+by_end : (g : Input) (e : Event) (log : Log) (s : List Event × List Event) → mark_of g log s ≡ None
     → (ws : List Event) × (with_end e s ≡ (ws, [])) × EndsIn e ws
 by_end g e log (ws, []) h = (ws ++ e ∷ [], refl, more_rounds g log (quiet (all_links g) (calls_of log)) (round (all_links g) (calls_of log)) ws e h)
 by_end g e log (ws, x ∷ r) h = cc
 
 -- on a complete log only an event more is left, and settles before it
-pub event_left : (g : Given) (e : Event) (log : Log) → IsLawful g log → next g log ≡ None
+pub event_left : (g : Input) (e : Event) (log : Log) → IsLawful g log → next g log ≡ None
     → (ws : List Event) × (left (with_event g e).events log ≡ (ws, [])) × EndsIn e ws
 event_left g e log l h =
     let n = complete_parts g log h in
     let w = by_end g e log (left g.events log) n.no_next in
     (w.0, grows g e log l ∙ w.1, w.2)
 
-round_from : (g : Given) (log : Log) (r : List Event) (e : Event) (n : ℕ) → TakesRounds e → mark_from g log false r (settles_before n e) ≡ Some (Round r)
+round_from : (g : Input) (log : Log) (r : List Event) (e : Event) (n : ℕ) → TakesRounds e → mark_from g log false r (settles_before n e) ≡ Some (Round r)
 round_from g log r Settle zero h = refl
 round_from g log r Redeclare zero h = refl
 round_from g log r e (suc n) h = refl
 round_from g log r _ zero h = absurd h
 
-settled_from : (g : Given) (log : Log) (r : List Event) (n : ℕ) → mark_from g log true r (settles_before n Settle) ≡ None
+settled_from : (g : Input) (log : Log) (r : List Event) (n : ℕ) → mark_from g log true r (settles_before n Settle) ≡ None
 settled_from g log r zero = refl
 settled_from g log r (suc n) = settled_from g log r n
 
-listed_from : (g : Given) (log : Log) (r : List Event) (n : ℕ) → mark_from g log true r (settles_before n Redeclare) ≡ Some (Redeclares (greatest_bound g log))
+listed_from : (g : Input) (log : Log) (r : List Event) (n : ℕ) → mark_from g log true r (settles_before n Redeclare) ≡ Some (Redeclares (greatest_bound g log))
 listed_from g log r zero = refl
 listed_from g log r (suc n) = listed_from g log r n
 
@@ -114,19 +114,19 @@ none_behind zero = refl
 none_behind (suc n) = none_behind n
 
 -- the next mark, where these events are left and the links are quiet or not
-mark_at : (g : Given) (log : Log) (q : Bool) (ws : List Event) (o : Option Entry) → left g.events log ≡ (ws, []) → quiet (all_links g) (calls_of log) ≡ q
+mark_at : (g : Input) (log : Log) (q : Bool) (ws : List Event) (o : Option Entry) → left g.events log ≡ (ws, []) → quiet (all_links g) (calls_of log) ≡ q
     → mark_from g log q (round (all_links g) (calls_of log)) ws ≡ o → next_mark g log ≡ o
 mark_at g log q ws o e s h = ap (mark_of g log) e ∙ ap (λ b. mark_from g log b (round (all_links g) (calls_of log)) ws) s ∙ h
 
 -- where nothing is in flight and all is acknowledged, a settle ends
-pub settled : (g : Given) (log : Log) (ws : List Event) → IsFree g log
+pub settled : (g : Input) (log : Log) (ws : List Event) → IsFree g log
     → left g.events log ≡ (ws, []) → EndsIn Settle ws → quiet (all_links g) (calls_of log) ≡ true → next g log ≡ None
 settled g log ws f e s q =
     let r = round (all_links g) (calls_of log) in
     next_is_mark g log None f (mark_at g log true ws None e q (ap (mark_from g log true r) s.1 ∙ settled_from g log r s.0))
 
 -- and a redeclare is next, after which nothing is left
-pub redeclare_next : (g : Given) (log : Log) (ws : List Event) → IsFree g log
+pub redeclare_next : (g : Input) (log : Log) (ws : List Event) → IsFree g log
     → left g.events log ≡ (ws, []) → EndsIn Redeclare ws → quiet (all_links g) (calls_of log) ≡ true
     → (next g log ≡ Some (Redeclares (greatest_bound g log))) × (after_mark (left g.events log) ≡ ([], []))
 redeclare_next g log ws f e s q =
@@ -137,7 +137,7 @@ redeclare_next g log ws f e s q =
     )
 
 -- else a round is next
-pub round_next : (g : Given) (log : Log) (ws : List Event) (e : Event) → IsFree g log
+pub round_next : (g : Input) (log : Log) (ws : List Event) (e : Event) → IsFree g log
     → left g.events log ≡ (ws, []) → TakesRounds e → EndsIn e ws → quiet (all_links g) (calls_of log) ≡ false
     → next g log ≡ Some (Round (round (all_links g) (calls_of log)))
 round_next g log ws e f l t s q =
@@ -145,6 +145,6 @@ round_next g log ws e f l t s q =
     next_is_mark g log (Some (Round r)) f (mark_at g log false ws (Some (Round r)) l q (ap (mark_from g log false r) s.1 ∙ round_from g log r e s.0 t))
 
 -- in a round its next event is next
-pub in_round : (g : Given) (log : Log) (ws : List Event) (e : Event) (rest : List Event) → IsFree g log → left g.events log ≡ (ws, e ∷ rest)
+pub in_round : (g : Input) (log : Log) (ws : List Event) (e : Event) (rest : List Event) → IsFree g log → left g.events log ≡ (ws, e ∷ rest)
     → next g log ≡ Some (Mark e)
 in_round g log ws e rest f l = next_is_mark g log (Some (Mark e)) f (ap (mark_of g log) l)

@@ -1,5 +1,5 @@
 -- A delivery: nothing, an acknowledgement, or messages that are to be handed over, or kept where their module is down.
-use Rattle.sdd_log.proofs.All.{Acked, Deliver, Delivers, Given, IsMarked, Link, List, Log, Mark, Messages, Msg, Notes, Nothing, Remain, Rests, Site, Some, Waits, [], and_left, and_parts, and_right, ap, arith, calls_of, deliver, delivered, delivered_le, delivery, false, from_one, handed, if◌then◌else◌, length, length-append, link_of, newly_delivered, note_if, on_link, packet_at, refl, rises, same_here, same_is, same_site, sent, slice_get, sound, subst, suc, sym, takes_part, true, zero, ℕ, ◌&&◌, ◌++◌, ◌+◌, ◌∙◌, ◌∷◌, ◌≡◌, ◌≤◌}
+use Rattle.sdd_log.proofs.All.{Acked, Deliver, Delivers, Input, IsMarked, Link, List, Log, Mark, Messages, Msg, Notes, Nothing, Remain, Rests, Site, Some, Waits, [], and_left, and_parts, and_right, ap, arith, calls_of, deliver, delivered, delivered_le, delivery, false, from_one, handed, if◌then◌else◌, length, length-append, link_of, newly_delivered, note_if, on_link, packet_at, refl, rises, same_here, same_is, same_site, sent, slice_get, sound, subst, suc, sym, takes_part, true, zero, ℕ, ◌&&◌, ◌++◌, ◌+◌, ◌∙◌, ◌∷◌, ◌≡◌, ◌≤◌}
 use Rattle.sdd_log.proofs.Links.{by_nothing, by_acked, by_messages, delivered_deliver, newly_get, newly_length, sent_stays}
 use Rattle.sdd_log.proofs.Marking.{handed_still, mark_within, none_by_mark, part_marked, rests_marked, rests_noted}
 
@@ -27,7 +27,7 @@ same_delivered a b k log e =
     on_every (λ x y. delivered (link_of x y (Mark (Deliver a b k) ∷ log)).there ≡ delivered (link_of x y log).there) a b
     (ap (λ l. delivered l.there) (own_link a b k log) ∙ e) (λ x y p. delivered_deliver x y a b k (calls_of log) p)
 
-module _ (g : Given) (a b : Site) (k : ℕ) (log : Log) (m : IsMarked g log (Deliver a b k)) where
+module _ (g : Input) (a b : Site) (k : ℕ) (log : Log) (m : IsMarked g log (Deliver a b k)) where
   pub delivers_nothing : delivery k (link_of a b log) ≡ Nothing → Rests g (Notes ∷ Mark (Deliver a b k) ∷ log)
   delivers_nothing e =
       let t = by_nothing (packet_at k (link_of a b log)) k (link_of a b log) (newly_delivered (link_of a b log).there (deliver k (link_of a b log)).there) e in
@@ -94,7 +94,7 @@ pub none_remains : (log : Log) (a b : Site) → handed a b log ≡ delivered (li
 none_remains log a b e = record { count = omega (arith, e); messages = λ i m p. cc }
 
 -- messages for a module that isn't down are to be handed over
-pub delivers_messages : (g : Given) (a b : Site) (k : ℕ) (log : Log) (messages : List Msg) → IsMarked g log (Deliver a b k) → takes_part b log ≡ true
+pub delivers_messages : (g : Input) (a b : Site) (k : ℕ) (log : Log) (messages : List Msg) → IsMarked g log (Deliver a b k) → takes_part b log ≡ true
     → delivery k (link_of a b log) ≡ Messages messages → Waits g (Mark (Deliver a b k) ∷ log) b (from_one a messages)
 delivers_messages g a b k log messages m part e =
     let more : Log = Mark (Deliver a b k) ∷ log in
@@ -117,7 +117,7 @@ delivers_messages g a b k log messages m part e =
     }
 
 -- messages for a module that is down are kept, and the event is over
-pub delivers_kept : (g : Given) (a b : Site) (k : ℕ) (log : Log) (messages : List Msg) → IsMarked g log (Deliver a b k) → takes_part b log ≡ false
+pub delivers_kept : (g : Input) (a b : Site) (k : ℕ) (log : Log) (messages : List Msg) → IsMarked g log (Deliver a b k) → takes_part b log ≡ false
     → delivery k (link_of a b log) ≡ Messages messages → Rests g (Mark (Deliver a b k) ∷ log)
 delivers_kept g a b k log messages m part e =
     let t = by_messages (packet_at k (link_of a b log)) (newly_delivered (link_of a b log).there (deliver k (link_of a b log)).there) messages e in

@@ -1,5 +1,5 @@
 -- What holds of each entry of a site's log, wherever it may come, holds of the log that a permitted log gives the site.
-use Rattle.sdd_log.proofs.All.{Act, AreSubmittedOnce, Bool, Did, Does, Each, Entry, Event, Force, Given, Hand, Handed, IsAllowed, IsDueAt, IsLawful, IsPermitted, Log, Mark, Msg, None, Notes, Option, Redeclare, Redeclared, Redeclares, Settle, Site, Some, Submit, Submits, Submitted, T, Tick, Ticked, Txn, [], beginning, by_event, by_link, by_mark, by_redeclare, by_round, by_site, due_by, false, force_at, if◌then◌else◌, local_of, mark_due, note_if, redeclares, refl, same_is, same_site, subst, suc, sym, true, txn_at, with_force, with_submit, ℕ, ◌∷◌, ◌≡◌}
+use Rattle.sdd_log.proofs.All.{Act, AreSubmittedOnce, Bool, Did, Does, Each, Entry, Event, Force, Hand, Handed, Input, IsAllowed, IsDueAt, IsLawful, IsPermitted, Log, Mark, Msg, None, Notes, Option, Redeclare, Redeclared, Redeclares, Settle, Site, Some, Submit, Submits, Submitted, T, Tick, Ticked, Txn, [], beginning, by_event, by_link, by_mark, by_redeclare, by_round, by_site, due_by, false, force_at, if◌then◌else◌, local_of, mark_due, note_if, redeclares, refl, same_is, same_site, subst, suc, sym, true, txn_at, with_force, with_submit, ℕ, ◌∷◌, ◌≡◌}
 use Rattle.sdd_log.proofs.NewMarks.{lawful_permitted}
 use Rattle.sdd_attempt.specs.site_module.SiteLog as site
 
@@ -17,14 +17,14 @@ note_noted : (b : Bool) → AreNotes (note_if b)
 note_noted true = refl
 note_noted false = tt
 
-due_by_noted : (g : Given) (e : Event) (log : Log) → AreNotes (due_by g e log)
+due_by_noted : (g : Input) (e : Event) (log : Log) → AreNotes (due_by g e log)
 due_by_noted g (Submit n) log = refl
 due_by_noted g (Tick t n) log = tt
 due_by_noted g Settle log = tt
 due_by_noted g Redeclare log = tt
 due_by_noted g _ log = note_noted _
 
-mark_noted : (g : Given) (log : Log) → AreNotes (mark_due g log)
+mark_noted : (g : Input) (log : Log) → AreNotes (mark_due g log)
 mark_noted g (Mark e ∷ log) = due_by_noted g e log
 mark_noted g _ = tt
 
@@ -33,15 +33,15 @@ is_noted None e h p = cc
 is_noted (Some x) e h p = let q : x ≡ e = cc in subst (λ w. is_note w ≡ true) q h
 
 -- an act that is allowed is due
-abbrev IsDueEntry : Given → Log → Entry → Type 0
+abbrev IsDueEntry : Input → Log → Entry → Type 0
 IsDueEntry g log (Does at act) = IsDueAt g log at act
 IsDueEntry g log _ = Unit {0}
 
-not_act : (g : Given) (log : Log) (e : Entry) → is_note e ≡ true → IsDueEntry g log e
+not_act : (g : Input) (log : Log) (e : Entry) → is_note e ≡ true → IsDueEntry g log e
 not_act g log (Does a act) h = cc
 not_act g log _ h = tt
 
-pub allowed_act : (g : Given) (log : Log) (e : Entry) → IsAllowed g log e → IsDueEntry g log e
+pub allowed_act : (g : Input) (log : Log) (e : Entry) → IsAllowed g log e → IsDueEntry g log e
 allowed_act g log e (by_mark x n) = tt
 allowed_act g log e (by_round es) = tt
 allowed_act g log e (by_redeclare t) = tt
@@ -52,7 +52,7 @@ allowed_act g log e (by_link a b n m p q r f) = tt
 -- What is to be shown of a statement on the log of a site and the entry after it: that it holds of each message that may
 -- be handed to the site, of each tick, of each transaction that may be given to it, of each list of classes, and of
 -- each act that is due, where it holds of all entries before.
-pub record HoldsOfEach (g : Given) (at : Site) (P : site.Log → site.Entry → Type 0) : Type 0 where
+pub record HoldsOfEach (g : Input) (at : Site) (P : site.Log → site.Entry → Type 0) : Type 0 where
   pub handed : (log : Log) → IsPermitted g log → (from : Site) (n : ℕ) (m : Msg) → IsAllowed g log (Hand from at n m) → Each P (local_of g at log) → P (local_of g at log) (Handed from m)
   pub ticked : (log : Log) → IsPermitted g log → (n : ℕ) → Each P (local_of g at log) → P (local_of g at log) (Ticked n)
   pub submits : (log : Log) → IsPermitted g log → (n : ℕ) (t : Txn) → IsAllowed g log (Submitted at n) → txn_at g n ≡ Some t → Each P (local_of g at log) → P (local_of g at log) (Submits n t)
@@ -67,7 +67,7 @@ each_submit : (P : site.Log → site.Entry → Type 0) (n : ℕ) (o : Option Txn
 each_submit P n None l f h = h
 each_submit P n (Some t) l f h = (f t refl, h)
 
-each_beginning : (g : Given) (at : Site) (P : site.Log → site.Entry → Type 0) → ((l : site.Log) (k t : ℕ) → Each P l → P l (Redeclared (force_at g k) t)) → Each P (beginning g at)
+each_beginning : (g : Input) (at : Site) (P : site.Log → site.Entry → Type 0) → ((l : site.Log) (k t : ℕ) → Each P l → P l (Redeclared (force_at g k) t)) → Each P (beginning g at)
 each_beginning g (T t) P f = (f [] 0 0 tt, tt)
 each_beginning g _ P f = tt
 
@@ -75,7 +75,7 @@ each_force : (at : Site) (P : site.Log → site.Entry → Type 0) (force : Force
 each_force (T n) P force t l f h = (f, h)
 each_force _ P force t l f h = h
 
-pub each_local : (g : Given) (at : Site) (P : site.Log → site.Entry → Type 0) → HoldsOfEach g at P → (log : Log) → IsPermitted g log → Each P (local_of g at log)
+pub each_local : (g : Input) (at : Site) (P : site.Log → site.Entry → Type 0) → HoldsOfEach g at P → (log : Log) → IsPermitted g log → Each P (local_of g at log)
 each_local g at P c [] h = each_beginning g at P c.redeclared
 each_local g at P c (Mark (Tick t n) ∷ log) h =
     let i = each_local g at P c log h.1 in
@@ -99,5 +99,5 @@ each_local g at P c (Does by act ∷ log) h =
 each_local g at P c (_ ∷ log) h = each_local g at P c log h.1
 
 -- and so of the log that a lawful log gives the site
-pub each_of_lawful : (g : Given) (at : Site) (P : site.Log → site.Entry → Type 0) → HoldsOfEach g at P → AreSubmittedOnce g.events → (log : Log) → IsLawful g log → Each P (local_of g at log)
+pub each_of_lawful : (g : Input) (at : Site) (P : site.Log → site.Entry → Type 0) → HoldsOfEach g at P → AreSubmittedOnce g.events → (log : Log) → IsLawful g log → Each P (local_of g at log)
 each_of_lawful g at P c once log h = each_local g at P c log (lawful_permitted g log once h)

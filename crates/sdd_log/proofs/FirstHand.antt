@@ -1,5 +1,5 @@
 -- Which message is handed over first: that of the first link, in their order, with one that is to be handed over.
-use Rattle.sdd_log.proofs.All.{AllHanded, AtEach, Bool, D, Entry, Given, Hand, IsLinkOf, List, Log, Msg, None, Option, Site, Some, T, U, [], all_links, and_parts, ap, are_linked, arith, cond, cons_option, delivered, false, filter_map, first_nowhere, first_some, flat_map, hand_due, hand_number, hand_on, handed, if◌then◌else◌, inl, inr, is_link, is_site, le-ltb, leb-true, link_of, link_parts, links, lt-ltb, map, message_at, nat_le, next_number, or_else, range_with_len, refl, same_here, same_is, same_site, sites, suc, takes_part, true, zero, ℕ, ◌&&◌, ◌++◌, ◌+◌, ◌<◌, ◌∙◌, ◌∷◌, ◌≡◌, ◌≤◌, ◌⊎◌}
+use Rattle.sdd_log.proofs.All.{AllHanded, AtEach, Bool, D, Entry, Hand, Input, IsLinkOf, List, Log, Msg, None, Option, Site, Some, T, U, [], all_links, and_parts, ap, are_linked, arith, cond, cons_option, delivered, false, filter_map, first_nowhere, first_some, flat_map, hand_due, hand_number, hand_on, handed, if◌then◌else◌, inl, inr, is_link, is_site, le-ltb, leb-true, link_of, link_parts, links, lt-ltb, map, message_at, nat_le, next_number, or_else, range_with_len, refl, same_here, same_is, same_site, sites, suc, takes_part, true, zero, ℕ, ◌&&◌, ◌++◌, ◌+◌, ◌<◌, ◌∙◌, ◌∷◌, ◌≡◌, ◌≤◌, ◌⊎◌}
 use Rattle.sdd_log.proofs.Steps.{has_site}
 use Rattle.sdd_log.proofs.Ticking.{or_both}
 
@@ -163,7 +163,7 @@ none_on log x y h =
     if_part (takes_part y log) (hand_number log (x, y) (next_number (handed x y log) (delivered (link_of x y log).there)))
     (λ p. ap (hand_number log (x, y)) (number_none (handed x y log) (delivered (link_of x y log).there) (h p)))
 
-pub none_to_hand : (g : Given) (log : Log) → AllHanded log → hand_due g log ≡ None
+pub none_to_hand : (g : Input) (log : Log) → AllHanded log → hand_due g log ≡ None
 none_to_hand g log h = first_nowhere (hand_on log) (all_links g) (λ l. none_on log l.0 l.1 (h l.0 l.1))
 
 -- the next message, where one is left
@@ -173,7 +173,7 @@ one_on log a b m part less is = rw (part, lt-ltb (handed a b log) (delivered (li
 
 -- all is handed over on the links from the sites before a, and on the other links from a: the next message from a to b is
 -- handed over first
-pub hand_is_due : (g : Given) (log : Log) (before after : List Site) (a b : Site) (m : Msg)
+pub hand_is_due : (g : Input) (log : Log) (before after : List Site) (a b : Site) (m : Msg)
     → sites g.catalogue.tms g.catalogue.dms ≡ before ++ a ∷ after → IsLinkOf g a b → takes_part b log ≡ true
     → handed a b log < delivered (link_of a b log).there → message_at a b (suc (handed a b log)) log ≡ Some m
     → AtEach (λ x. (y : Site) → IsDone log x y) before → ((y : Site) → same_site y b ≡ false → IsDone log a y)

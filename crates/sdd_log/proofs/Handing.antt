@@ -1,5 +1,5 @@
 -- Messages that are to be handed over, one after the other, each with all that it makes due at its site.
-use Rattle.sdd_log.proofs.All.{Act, AllHanded, AreDue, Call, Given, Hand, Handed, IsFirst, IsLawful, List, Log, Msg, None, Puts, Remain, Site, Some, Takes, U, Waits, [], and_left, and_right, ap, arith, base_of, calls_of, delivered, false, hand_due, handed, length, link, link_of, link_parts, local_of, mark_due, message_at, next, next_in, puts, puts_past, refl, same_here, same_is, same_site, sends_of, sent, slice_get, subst, suc, sym, takes_part, true, ℕ, ◌&&◌, ◌+◌, ◌-◌, ◌∙◌, ◌∷◌, ◌≡◌}
+use Rattle.sdd_log.proofs.All.{Act, AllHanded, AreDue, Call, Hand, Handed, Input, IsFirst, IsLawful, List, Log, Msg, None, Puts, Remain, Site, Some, Takes, U, Waits, [], and_left, and_right, ap, arith, base_of, calls_of, delivered, false, hand_due, handed, length, link, link_of, link_parts, local_of, mark_due, message_at, next, next_in, puts, puts_past, refl, same_here, same_is, same_site, sends_of, sent, slice_get, subst, suc, sym, takes_part, true, ℕ, ◌&&◌, ◌+◌, ◌-◌, ◌∙◌, ◌∷◌, ◌≡◌}
 use Rattle.sdd_log.proofs.Steps.{after_acts, hand_and_acts}
 use Rattle.sdd_log.proofs.Acts.{calls_acts, handed_acts, takes_part_acts, within_acts}
 use Rattle.sdd_log.proofs.FirstHand.{IsDone, each_weaker, hand_is_due, listed}
@@ -21,7 +21,7 @@ delivered_acts x y at acts log = ap (λ c. delivered (link x y c).there) (calls_
 sent_acts : (x y at : Site) (acts : List Act) (log : Log) (i : ℕ) (m : Msg) → slice_get (sent x y log) i ≡ Some m → slice_get (sent x y (after_acts at acts log)) i ≡ Some m
 sent_acts x y at acts log i m e = subst (λ c. slice_get (link x y c).there.sent i ≡ Some m) (sym (calls_acts at acts log)) (sent_puts x y at (sends_of acts) (calls_of log) i m e)
 
-pub no_mark_acts : (g : Given) (at : Site) (acts : List Act) (log : Log) → mark_due g log ≡ None → mark_due g (after_acts at acts log) ≡ None
+pub no_mark_acts : (g : Input) (at : Site) (acts : List Act) (log : Log) → mark_due g log ≡ None → mark_due g (after_acts at acts log) ≡ None
 no_mark_acts g at [] log e = e
 no_mark_acts g at (a ∷ acts) log e = no_mark_acts g at acts _ refl
 
@@ -66,7 +66,7 @@ nothing_remains log a b rest r e part =
 done_at : (log : Log) (x y b : Site) → same_site y b ≡ true → IsDone log x b → IsDone log x y
 done_at log x y b e d = subst (λ z. IsDone log x z) (sym (same_is y b e)) d
 
-none_earlier : (g : Given) (log : Log) (b : Site) (kept : Site → List Msg) → Waits g log b kept → (x : Site) → kept x ≡ [] → (y : Site) → IsDone log x y
+none_earlier : (g : Input) (log : Log) (b : Site) (kept : Site → List Msg) → Waits g log b kept → (x : Site) → kept x ≡ [] → (y : Site) → IsDone log x y
 none_earlier g log b kept w x e y =
     elim (same_site y b) as (λ c. same_site y b ≡ c → IsDone log x y) [
       | true ↦ λ p. done_at log x y b p (nothing_remains log x b (kept x) (w.remain x) e)
@@ -77,7 +77,7 @@ part_handed : (y a b : Site) (n : ℕ) (m : Msg) (log : Log) → takes_part y (H
 part_handed U a b n m log = refl
 part_handed _ a b n m log = refl
 
-module _ (g : Given) (log : Log) (b : Site) (kept : Site → List Msg) (w : Waits g log b kept) (a : Site) (m : Msg) (rest : List Msg) (f : IsFirst g kept a b m rest) where
+module _ (g : Input) (log : Log) (b : Site) (kept : Site → List Msg) (w : Waits g log b kept) (a : Site) (m : Msg) (rest : List Msg) (f : IsFirst g kept a b m rest) where
   first_remains : Remain log a b (m ∷ rest)
   first_remains = subst (λ l. Remain log a b l) f.here (w.remain a)
 
@@ -132,5 +132,5 @@ module _ (g : Given) (log : Log) (b : Site) (kept : Site → List Msg) (w : Wait
       }
 
 -- once none is left, all is handed over
-pub all_handed : (g : Given) (log : Log) (b : Site) (kept : Site → List Msg) → Waits g log b kept → ((x : Site) → kept x ≡ []) → AllHanded log
+pub all_handed : (g : Input) (log : Log) (b : Site) (kept : Site → List Msg) → Waits g log b kept → ((x : Site) → kept x ≡ []) → AllHanded log
 all_handed g log b kept w none x y part = none_earlier g log b kept w x (none x) y part

@@ -1,5 +1,5 @@
 -- The first of several messages: of one site alone, or of senders in their order.
-use Rattle.sdd_log.proofs.All.{AtEach, Bool, D, Given, IsFirst, IsLinkOf, List, Msg, Site, T, Takes, U, [], ap, append_assoc, arith, false, from_one, if◌then◌else◌, inl, inr, link_parts, map, range_with_len, refl, same_here, same_site, sites, suc, sym, tm_no, true, zero, ℕ, ◌++◌, ◌+◌, ◌<◌, ◌∙◌, ◌∷◌, ◌≡◌, ◌≤◌}
+use Rattle.sdd_log.proofs.All.{AtEach, Bool, D, Input, IsFirst, IsLinkOf, List, Msg, Site, T, Takes, U, [], ap, append_assoc, arith, false, from_one, if◌then◌else◌, inl, inr, link_parts, map, range_with_len, refl, same_here, same_site, sites, suc, sym, tm_no, true, zero, ℕ, ◌++◌, ◌+◌, ◌<◌, ◌∙◌, ◌∷◌, ◌≡◌, ◌≤◌}
 use Rattle.sdd_log.proofs.FirstHand.{each_weaker, here_or_later, listed, Split, split}
 
 -- of one site
@@ -10,7 +10,7 @@ one_here a messages = rw (same_here a) refl
 one_other : (a x : Site) (messages : List Msg) → same_site x a ≡ false → from_one a messages x ≡ []
 one_other a x messages e = rw e refl
 
-pub first_of_one : (g : Given) (a b : Site) (m : Msg) (rest : List Msg) → IsLinkOf g a b → IsFirst g (from_one a (m ∷ rest)) a b m rest
+pub first_of_one : (g : Input) (a b : Site) (m : Msg) (rest : List Msg) → IsLinkOf g a b → IsFirst g (from_one a (m ∷ rest)) a b m rest
 first_of_one g a b m rest l =
     let k = link_parts g.catalogue.tms g.catalogue.dms a b l in
     let s : Split (sites g.catalogue.tms g.catalogue.dms) a = split (sites g.catalogue.tms g.catalogue.dms) a

@@ -1,5 +1,5 @@
 -- What the mark of an event leaves, where nothing else was due.
-use Rattle.sdd_log.proofs.All.{Act, AllHanded, Bases, Bool, D, Down, Event, Force, Given, IsMarked, List, Log, MAX_RUN_EVENTS, Mark, None, Notes, Option, Redeclares, Rests, Site, Some, T, Tick, Ticked, TmNo, U, Up, [], base_of, delivered, does_at, due_by, false, first_some, force_at, if◌then◌else◌, is_past, le-ltb, link_of, local_of, marks, next, next_at, next_in, redeclares, refl, same_is, same_site, setting_of, site_due, sites, subst, suc, sym, takes_part, true, with_force, ℕ, ◌∙◌, ◌∷◌, ◌≡◌, ◌≤◌}
+use Rattle.sdd_log.proofs.All.{Act, AllHanded, Bases, Bool, D, Down, Event, Force, Input, IsMarked, List, Log, MAX_RUN_EVENTS, Mark, None, Notes, Option, Redeclares, Rests, Site, Some, T, Tick, Ticked, TmNo, U, Up, [], base_of, delivered, does_at, due_by, false, first_some, force_at, if◌then◌else◌, is_past, le-ltb, link_of, local_of, marks, next, next_at, next_in, redeclares, refl, same_is, same_site, setting_of, site_due, sites, subst, suc, sym, takes_part, true, with_force, ℕ, ◌∙◌, ◌∷◌, ◌≡◌, ◌≤◌}
 use Rattle.sdd_log.proofs.Steps.{AllNone, all_none, none_any_base}
 use Rattle.sdd_log.proofs.Ticking.{none_by_redeclare, none_by_tick}
 use Rattle.sdd_attempt.specs.site_module.SiteLog as site
@@ -10,25 +10,25 @@ none_at_all : (f h : Site → Option Act) (xs : List Site) → ((x : Site) → f
 none_at_all f h [] k n = refl
 none_at_all f h (x ∷ xs) k n = rw (k x n.0) (none_at_all f h xs k n.1)
 
-none_same : (g : Given) (log more : Log) (x : Site) → local_of g x more ≡ local_of g x log → next_at g log x ≡ None → next_at g more x ≡ None
+none_same : (g : Input) (log more : Log) (x : Site) → local_of g x more ≡ local_of g x log → next_at g log x ≡ None → next_at g more x ≡ None
 none_same g log more x e n = rw e (none_any_base g x (base_of g log) (base_of g more) (local_of g x log) n)
 
-pub still_none : (g : Given) (log more : Log) → ((x : Site) → local_of g x more ≡ local_of g x log) → site_due g log ≡ None → site_due g more ≡ None
+pub still_none : (g : Input) (log more : Log) → ((x : Site) → local_of g x more ≡ local_of g x log) → site_due g log ≡ None → site_due g more ≡ None
 still_none g log more e n =
     none_at_all (next_at g log) (next_at g more) (sites g.catalogue.tms g.catalogue.dms) (λ x k. none_same g log more x (e x) k) (all_none (next_at g log) (sites g.catalogue.tms g.catalogue.dms) n)
 
-ticked_here : (g : Given) (x t : Site) (bases : Bases) (n : ℕ) (l : site.Log) → x ≡ t → next_in g x bases l ≡ None
+ticked_here : (g : Input) (x t : Site) (bases : Bases) (n : ℕ) (l : site.Log) → x ≡ t → next_in g x bases l ≡ None
     → (next_in g t bases l ≡ None → next_in g t bases (Ticked n ∷ l) ≡ None) → next_in g x bases (Ticked n ∷ l) ≡ None
 ticked_here g x t bases n l e k h =
     let back : next_in g t bases l ≡ None = subst (λ y. next_in g y bases l ≡ None) e k in
     subst (λ y. next_in g y bases (Ticked n ∷ l) ≡ None) (sym e) (h back)
 
-ticked_if : (g : Given) (x : Site) (bases : Bases) (n : ℕ) (c : Bool) (l : site.Log) → (c ≡ true → next_in g x bases (Ticked n ∷ l) ≡ None)
+ticked_if : (g : Input) (x : Site) (bases : Bases) (n : ℕ) (c : Bool) (l : site.Log) → (c ≡ true → next_in g x bases (Ticked n ∷ l) ≡ None)
     → next_in g x bases l ≡ None → next_in g x bases (if c then Ticked n ∷ l else l) ≡ None
 ticked_if g x bases n true l h k = h refl
 ticked_if g x bases n false l h k = k
 
-pub ticked_none : (g : Given) (log : Log) (t : TmNo) (n : ℕ) → site_due g log ≡ None → site_due g (Mark (Tick t n) ∷ log) ≡ None
+pub ticked_none : (g : Input) (log : Log) (t : TmNo) (n : ℕ) → site_due g log ≡ None → site_due g (Mark (Tick t n) ∷ log) ≡ None
 ticked_none g log t n k =
     let more : Log = Mark (Tick t n) ∷ log in
     none_at_all (next_at g log) (next_at g more) (sites g.catalogue.tms g.catalogue.dms) (λ x i.
@@ -46,18 +46,18 @@ abbrev pub IsNoTick : Event → Type 0
 IsNoTick (Tick t n) = ⊥
 IsNoTick _ = Unit {0}
 
-pub mark_local : (g : Given) (e : Event) (log : Log) (x : Site) → IsNoTick e → local_of g x (Mark e ∷ log) ≡ local_of g x log
+pub mark_local : (g : Input) (e : Event) (log : Log) (x : Site) → IsNoTick e → local_of g x (Mark e ∷ log) ≡ local_of g x log
 mark_local g (Tick t n) log x h = absurd h
 mark_local g _ log x h = refl
 
-pub none_by_mark : (g : Given) (log : Log) (e : Event) → IsNoTick e → site_due g log ≡ None → site_due g (Mark e ∷ log) ≡ None
+pub none_by_mark : (g : Input) (log : Log) (e : Event) → IsNoTick e → site_due g log ≡ None → site_due g (Mark e ∷ log) ≡ None
 none_by_mark g log e h n = still_none g log (Mark e ∷ log) (λ x. mark_local g e log x h) n
 
-pub none_by_note : (g : Given) (log : Log) (e : Event) → IsNoTick e → site_due g log ≡ None → site_due g (Notes ∷ Mark e ∷ log) ≡ None
+pub none_by_note : (g : Input) (log : Log) (e : Event) → IsNoTick e → site_due g log ≡ None → site_due g (Notes ∷ Mark e ∷ log) ≡ None
 none_by_note g log e h n = still_none g log (Notes ∷ Mark e ∷ log) (λ x. mark_local g e log x h) n
 
 -- an event of which nothing more is due
-pub rests_marked : (g : Given) (log : Log) (e : Event) → IsMarked g log e → site_due g (Mark e ∷ log) ≡ None → due_by g e log ≡ None → AllHanded (Mark e ∷ log)
+pub rests_marked : (g : Input) (log : Log) (e : Event) → IsMarked g log e → site_due g (Mark e ∷ log) ≡ None → due_by g e log ≡ None → AllHanded (Mark e ∷ log)
     → Rests g (Mark e ∷ log)
 rests_marked g log e k s d h = record {
   lawful = (k.next_is, k.rests.lawful);
@@ -73,7 +73,7 @@ part_noted U log = refl
 part_noted _ log = refl
 
 -- an event that finds nothing to do
-pub rests_noted : (g : Given) (log : Log) (e : Event) → IsMarked g log e → IsNoTick e → due_by g e log ≡ Some Notes → AllHanded (Mark e ∷ log)
+pub rests_noted : (g : Input) (log : Log) (e : Event) → IsMarked g log e → IsNoTick e → due_by g e log ≡ Some Notes → AllHanded (Mark e ∷ log)
     → Rests g (Notes ∷ Mark e ∷ log)
 rests_noted g log e k i d h =
     let noted : next g (Mark e ∷ log) ≡ Some Notes = rw d refl in
@@ -103,12 +103,12 @@ handed_still log e t same h a b part = h a b (sym (part_marked b e log t) ∙ pa
 
 -- a list of classes is put in force
 
-pub forced_none : (g : Given) (x : Site) (bases : Bases) (force : Force) (t : ℕ) (l : site.Log)
+pub forced_none : (g : Input) (x : Site) (bases : Bases) (force : Force) (t : ℕ) (l : site.Log)
     → next_in g x bases l ≡ None → next_in g x bases (with_force x force t l) ≡ None
 forced_none g (T n) bases force t l k = none_by_redeclare (setting_of g (T n)) bases l force t k
 forced_none g _ bases force t l k = k
 
-redeclared_none : (g : Given) (log : Log) (t : ℕ) → site_due g log ≡ None → site_due g (Redeclares t ∷ log) ≡ None
+redeclared_none : (g : Input) (log : Log) (t : ℕ) → site_due g log ≡ None → site_due g (Redeclares t ∷ log) ≡ None
 redeclared_none g log t k =
     let more : Log = Redeclares t ∷ log in
     none_at_all (next_at g log) (next_at g more) (sites g.catalogue.tms g.catalogue.dms) (λ x i.
@@ -120,7 +120,7 @@ part_redeclared U t log = refl
 part_redeclared _ t log = refl
 
 -- after it the log is at rest
-pub rests_redeclared : (g : Given) (log : Log) (t : ℕ) → Rests g log
+pub rests_redeclared : (g : Input) (log : Log) (t : ℕ) → Rests g log
     → next g log ≡ Some (Redeclares t) → suc (marks log) ≤ MAX_RUN_EVENTS → Rests g (Redeclares t ∷ log)
 rests_redeclared g log t r n few = record {
   lawful = (n, r.lawful);

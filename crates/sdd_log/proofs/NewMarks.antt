@@ -1,6 +1,6 @@
 -- Where the events submit each transaction at most once, the marks of a lawful log submit no number twice, so it is
 -- permitted.
-use Rattle.sdd_log.proofs.All.{Act, AreSubmittedOnce, Bool, Call, Deliver, Down, Entry, Event, Given, IsLawful, IsPermitted, List, Log, Lose, Mark, Msg, None, Option, Redeclare, Redeclares, Repeat, Resend, Round, Settle, Site, Some, Submit, Tick, Up, [], after_mark, all_links, ap, arith, calls_of, cond, cons_option, delivered, does_at, due_by, eq-eqb, false, filter_map, flat_map, found_at, from_event, hand_due, hand_number, hand_on, hand_with, handed, if◌then◌else◌, in_flight, is_new_mark, left, link, link_of, mark_due, mark_from, mark_of, message_at, next, next_at, next_mark, next_number, not, note_if, one_if, one_of, quiet, refl, replicate, resends_now, round, site_due, sites, submits_by, submits_in, subst, suc, sym, tail_of, takes_part, true, was_marked, zero, ℕ, ◌++◌, ◌+◌, ◌==◌, ◌||◌, ◌∙◌, ◌∷◌, ◌≡◌, ◌≤◌}
+use Rattle.sdd_log.proofs.All.{Act, AreSubmittedOnce, Bool, Call, Deliver, Down, Entry, Event, Input, IsLawful, IsPermitted, List, Log, Lose, Mark, Msg, None, Option, Redeclare, Redeclares, Repeat, Resend, Round, Settle, Site, Some, Submit, Tick, Up, [], after_mark, all_links, ap, arith, calls_of, cond, cons_option, delivered, does_at, due_by, eq-eqb, false, filter_map, flat_map, found_at, from_event, hand_due, hand_number, hand_on, hand_with, handed, if◌then◌else◌, in_flight, is_new_mark, left, link, link_of, mark_due, mark_from, mark_of, message_at, next, next_at, next_mark, next_number, not, note_if, one_if, one_of, quiet, refl, replicate, resends_now, round, site_due, sites, submits_by, submits_in, subst, suc, sym, tail_of, takes_part, true, was_marked, zero, ℕ, ◌++◌, ◌+◌, ◌==◌, ◌||◌, ◌∙◌, ◌∷◌, ◌≡◌, ◌≤◌}
 use Rattle.sdd_log.proofs.Permitted.{HasNewMarks, permitted_if_new}
 
 -- how often transaction n is submitted by marks
@@ -35,7 +35,7 @@ none_round : (n : ℕ) (ls : List (Site × Site)) (calls : List (Call Msg)) → 
 none_round n ls calls = none_in n _ _ (none_resent n ls calls) (none_delivered n ls calls)
 
 -- marks and rounds come from the events that are left
-abbrev IsFromLeft : Given → Log → Entry → Type 0
+abbrev IsFromLeft : Input → Log → Entry → Type 0
 IsFromLeft g log (Mark e) = mark_of g log (left g.events log) ≡ Some (Mark e)
 IsFromLeft g log (Round es) = mark_of g log (left g.events log) ≡ Some (Round es)
 IsFromLeft g log (Redeclares t) = mark_of g log (left g.events log) ≡ Some (Redeclares t)
@@ -51,7 +51,7 @@ abbrev NotFrom : Option Entry → Type 0
 NotFrom None = Unit {0}
 NotFrom (Some x) = is_from x ≡ false
 
-not_from : (g : Given) (log : Log) (e : Entry) → is_from e ≡ false → IsFromLeft g log e
+not_from : (g : Input) (log : Log) (e : Entry) → is_from e ≡ false → IsFromLeft g log e
 not_from g log (Mark e) h = cc
 not_from g log (Round es) h = cc
 not_from g log (Redeclares t) h = cc
@@ -61,14 +61,14 @@ no_note : (b : Bool) → NotFrom (note_if b)
 no_note true = refl
 no_note false = tt
 
-no_due_by : (g : Given) (e : Event) (log : Log) → NotFrom (due_by g e log)
+no_due_by : (g : Input) (e : Event) (log : Log) → NotFrom (due_by g e log)
 no_due_by g (Submit n) log = refl
 no_due_by g (Tick t n) log = tt
 no_due_by g Settle log = tt
 no_due_by g Redeclare log = tt
 no_due_by g _ log = no_note _
 
-no_mark_due : (g : Given) (log : Log) → NotFrom (mark_due g log)
+no_mark_due : (g : Input) (log : Log) → NotFrom (mark_due g log)
 no_mark_due g (Mark e ∷ log) = no_due_by g e log
 no_mark_due g _ = tt
 
@@ -92,13 +92,13 @@ is_not : (o : Option Entry) (e : Entry) → NotFrom o → o ≡ Some e → is_fr
 is_not None e h p = cc
 is_not (Some x) e h p = let q : x ≡ e = cc in subst (λ w. is_from w ≡ false) q h
 
-from_left_at : (g : Given) (log : Log) (e : Entry) → next_mark g log ≡ Some e → IsFromLeft g log e
+from_left_at : (g : Input) (log : Log) (e : Entry) → next_mark g log ≡ Some e → IsFromLeft g log e
 from_left_at g log (Mark e) h = h
 from_left_at g log (Round es) h = h
 from_left_at g log (Redeclares t) h = h
 from_left_at g log _ h = tt
 
-from_left : (g : Given) (log : Log) (e : Entry) → next g log ≡ Some e → IsFromLeft g log e
+from_left : (g : Input) (log : Log) (e : Entry) → next g log ≡ Some e → IsFromLeft g log e
 from_left g log e h =
     one_of (IsFromLeft g log e) (mark_due g log) _ e (λ p. not_from g log e (is_not (mark_due g log) e (no_mark_due g log) p))
     (one_of (IsFromLeft g log e) (site_due g log) _ e (λ p. let r = found_at (λ at. does_at at (next_at g log at)) (sites g.catalogue.tms g.catalogue.dms) e p in not_from g log e (is_not (does_at r.1 (next_at g log r.1)) e (no_does r.1 (next_at g log r.1)) r.3))
@@ -115,7 +115,7 @@ from_event_same n (Settle ∷ ws) = let i = from_event_same n ws in omega arith
 from_event_same n _ = refl
 
 -- the event that is marked is the first of those left
-pub marks_first : (g : Given) (log : Log) (q : Bool) (r ws : List Event) (e : Event) → mark_from g log q r ws ≡ Some (Mark e)
+pub marks_first : (g : Input) (log : Log) (q : Bool) (r ws : List Event) (e : Event) → mark_from g log q r ws ≡ Some (Mark e)
     → (rest : List Event) × (from_event ws ≡ e ∷ rest)
 marks_first g log true r (Settle ∷ ws) e h = marks_first g log true r ws e h
 marks_first g log q r (Submit k ∷ ws) e h = let p : Submit k ≡ e = cc in (ws, ap (λ x. x ∷ ws) p)
@@ -129,19 +129,19 @@ marks_first g log q r (Up d ∷ ws) e h = let p : Up d ≡ e = cc in (ws, ap (λ
 marks_first g log _ r _ e h = cc
 
 -- and so is the `redeclare` that is carried out
-pub redeclares_first : (g : Given) (log : Log) (q : Bool) (r ws : List Event) (t : ℕ) → mark_from g log q r ws ≡ Some (Redeclares t)
+pub redeclares_first : (g : Input) (log : Log) (q : Bool) (r ws : List Event) (t : ℕ) → mark_from g log q r ws ≡ Some (Redeclares t)
     → (rest : List Event) × (from_event ws ≡ Redeclare ∷ rest)
 redeclares_first g log true r (Settle ∷ ws) t h = redeclares_first g log true r ws t h
 redeclares_first g log true r (Redeclare ∷ ws) t h = (ws, refl)
 redeclares_first g log q r (Up d ∷ ws) t h = cc
 redeclares_first g log _ r _ t h = cc
 
-pub marks_round : (g : Given) (log : Log) (q : Bool) (r ws es : List Event) → mark_from g log q r ws ≡ Some (Round es) → r ≡ es
+pub marks_round : (g : Input) (log : Log) (q : Bool) (r ws es : List Event) → mark_from g log q r ws ≡ Some (Round es) → r ≡ es
 marks_round g log true r (Settle ∷ ws) es h = marks_round g log true r ws es h
 marks_round g log q r (Up d ∷ ws) es h = cc
 marks_round g log _ r _ es h = cc
 
-mark_step : (g : Given) (log : Log) (n m : ℕ) (e : Event) (s : List Event × List Event) → mark_of g log s ≡ Some (Mark e) → IsLeft n g.events s m
+mark_step : (g : Input) (log : Log) (n m : ℕ) (e : Event) (s : List Event × List Event) → mark_of g log s ≡ Some (Mark e) → IsLeft n g.events s m
     → IsLeft n g.events (after_mark s) (submits_by n e + m)
 mark_step g log n m e (ws, []) h i =
     let r = marks_first g log (quiet (all_links g) (calls_of log)) (round (all_links g) (calls_of log)) ws e h in
@@ -154,7 +154,7 @@ mark_step g log n m e (ws, x ∷ r) h i =
     let y : submits_by n e ≡ 0 = ap (submits_by n) (sym p) ∙ z in
     record { all = omega (arith, i.all, y); round_none = omega (arith, i.round_none) }
 
-redeclare_step : (g : Given) (log : Log) (n m t : ℕ) (s : List Event × List Event) → mark_of g log s ≡ Some (Redeclares t) → IsLeft n g.events s m
+redeclare_step : (g : Input) (log : Log) (n m t : ℕ) (s : List Event × List Event) → mark_of g log s ≡ Some (Redeclares t) → IsLeft n g.events s m
     → IsLeft n g.events (after_mark s) m
 redeclare_step g log n m t (ws, []) h i =
     let r = redeclares_first g log (quiet (all_links g) (calls_of log)) (round (all_links g) (calls_of log)) ws t h in
@@ -163,14 +163,14 @@ redeclare_step g log n m t (ws, []) h i =
     record { all = omega (arith, from_event_same n ws, i.all, a, b); round_none = refl }
 redeclare_step g log n m t (ws, x ∷ r) h i = cc
 
-round_step : (g : Given) (log : Log) (n m : ℕ) (es : List Event) (s : List Event × List Event) → mark_of g log s ≡ Some (Round es) → IsLeft n g.events s m
+round_step : (g : Input) (log : Log) (n m : ℕ) (es : List Event) (s : List Event × List Event) → mark_of g log s ≡ Some (Round es) → IsLeft n g.events s m
     → IsLeft n g.events (s.0, es) m
 round_step g log n m es (ws, []) h i =
     let p = marks_round g log (quiet (all_links g) (calls_of log)) (round (all_links g) (calls_of log)) ws es h in
     record { all = i.all; round_none = ap (submits_in n) (sym p) ∙ none_round n (all_links g) (calls_of log) }
 round_step g log n m es (ws, x ∷ r) h i = cc
 
-pub left_is : (g : Given) (n : ℕ) (log : Log) → IsLawful g log → IsLeft n g.events (left g.events log) (marked n log)
+pub left_is : (g : Input) (n : ℕ) (log : Log) → IsLawful g log → IsLeft n g.events (left g.events log) (marked n log)
 left_is g n [] h = record { all = omega arith; round_none = refl }
 left_is g n (Mark e ∷ log) h = mark_step g log n (marked n log) e (left g.events log) (from_left g log (Mark e) h.0) (left_is g n log h.1)
 left_is g n (Round es ∷ log) h = round_step g log n (marked n log) es (left g.events log) (from_left g log (Round es) h.0) (left_is g n log h.1)
@@ -184,7 +184,7 @@ counts_mark n (Mark (Submit k) ∷ log) h =
 counts_mark n (Mark _ ∷ log) h = let i = counts_mark n log h in omega arith
 counts_mark n (_ ∷ log) h = counts_mark n log h
 
-new_event : (g : Given) (log : Log) (e : Event) → AreSubmittedOnce g.events → IsLawful g (Mark e ∷ log) → is_new_mark e log ≡ true
+new_event : (g : Input) (log : Log) (e : Event) → AreSubmittedOnce g.events → IsLawful g (Mark e ∷ log) → is_new_mark e log ≡ true
 new_event g log (Submit k) once h =
     let i = left_is g k.0 (Mark (Submit k) ∷ log) h in
     let all : (submits_by k.0 (Submit k) + marked k.0 log) + submits_in k.0 (left g.events (Mark (Submit k) ∷ log)).0 ≡ submits_in k.0 g.events = i.all in
@@ -196,11 +196,11 @@ new_event g log (Submit k) once h =
     ] refl
 new_event g log _ once h = refl
 
-pub new_marks : (g : Given) (log : Log) → AreSubmittedOnce g.events → IsLawful g log → HasNewMarks log
+pub new_marks : (g : Input) (log : Log) → AreSubmittedOnce g.events → IsLawful g log → HasNewMarks log
 new_marks g [] once h = tt
 new_marks g (Mark e ∷ log) once h = (new_event g log e once h, new_marks g log once h.1)
 new_marks g (_ ∷ log) once h = (tt, new_marks g log once h.1)
 
 -- every lawful log is permitted
-pub lawful_permitted : (g : Given) (log : Log) → AreSubmittedOnce g.events → IsLawful g log → IsPermitted g log
+pub lawful_permitted : (g : Input) (log : Log) → AreSubmittedOnce g.events → IsLawful g log → IsPermitted g log
 lawful_permitted g log once h = permitted_if_new g log h (new_marks g log once h)

@@ -1,5 +1,5 @@
 -- Of what is given there is one log: it is complete, or the limit ends it, and not both.
-use Rattle.sdd_log.proofs.All.{EndsByLimit, Entry, Given, IsLawful, IsTheLog, IsWithin, Log, None, Some, [], ap, false, inl, inr, is_past, next, refl, subst, sym, true, ◌∙◌, ◌∷◌, ◌≡◌, ◌⊎◌}
+use Rattle.sdd_log.proofs.All.{EndsByLimit, Entry, Input, IsLawful, IsTheLog, IsWithin, Log, None, Some, [], ap, false, inl, inr, is_past, next, refl, subst, sym, true, ◌∙◌, ◌∷◌, ◌≡◌, ◌⊎◌}
 
 -- the first is the second, or what the second was before
 abbrev pub IsBefore : Log → Log → Type 0
@@ -25,7 +25,7 @@ one_longer l (e ∷ m) h = elim h as (λ _. (e ∷ m ≡ l) ⊎ ((x : Entry) × 
   ]
 ]
 
-lawful_before : (g : Given) (l m : Log) → IsBefore l m → IsLawful g m → IsLawful g l
+lawful_before : (g : Input) (l m : Log) → IsBefore l m → IsLawful g m → IsLawful g l
 lawful_before g l [] h w = subst (λ z. IsLawful g z) (sym h) w
 lawful_before g l (e ∷ m) h w = elim h as (λ _. IsLawful g l) [ inl p ↦ subst (λ z. IsLawful g z) (sym p) w | inr q ↦ lawful_before g l m q w.1 ]
 
@@ -34,7 +34,7 @@ within_before l [] h w = subst (λ z. IsWithin z) (sym h) w
 within_before l (e ∷ m) h w = elim h as (λ _. IsWithin l) [ inl p ↦ subst (λ z. IsWithin z) (sym p) w | inr q ↦ within_before l m q w.1 ]
 
 -- of two lawful logs one is before the other
-pub one_chain : (g : Given) (m l : Log) → IsLawful g m → IsLawful g l → IsBefore m l ⊎ IsBefore l m
+pub one_chain : (g : Input) (m l : Log) → IsLawful g m → IsLawful g l → IsBefore m l ⊎ IsBefore l m
 one_chain g m [] h k = inr (before_all m)
 one_chain g m (e ∷ l) h k =
     elim (one_chain g m l h k.1) as (λ _. IsBefore m (e ∷ l) ⊎ IsBefore (e ∷ l) m) [
@@ -51,20 +51,20 @@ one_chain g m (e ∷ l) h k =
     ]
 
 -- a log that is complete has no entry more
-no_more : (g : Given) (l m : Log) → next g l ≡ None → IsLawful g m → IsBefore l m → m ≡ l
+no_more : (g : Input) (l m : Log) → next g l ≡ None → IsLawful g m → IsBefore l m → m ≡ l
 no_more g l m n h b = elim (one_longer l m b) as (λ _. m ≡ l) [
   | inl p ↦ p
   | inr p ↦ let w : IsLawful g (p.0 ∷ l) = lawful_before g (p.0 ∷ l) m p.1 h in let a : next g l ≡ Some p.0 = w.0 in let c : None ≡ Some p.0 = sym n ∙ a in cc
 ]
 
-pub one_log : (g : Given) (l m : Log) → IsTheLog g l → IsTheLog g m → l ≡ m
+pub one_log : (g : Input) (l m : Log) → IsTheLog g l → IsTheLog g m → l ≡ m
 one_log g l m h k = elim (one_chain g l m h.lawful k.lawful) as (λ _. l ≡ m) [
   | inl p ↦ sym (no_more g l m h.complete k.lawful p)
   | inr p ↦ no_more g m l k.complete h.lawful p
 ]
 
 -- no log is complete where a limit ends it
-pub limit_or_complete : (g : Given) (m l : Log) → EndsByLimit g m → IsTheLog g l → ⊥
+pub limit_or_complete : (g : Input) (m l : Log) → EndsByLimit g m → IsTheLog g l → ⊥
 limit_or_complete g m l h k =
     elim (one_chain g m l h.lawful k.lawful) as (λ _. ⊥) [
       | inl p ↦ elim (one_longer m l p) as (λ _. ⊥) [

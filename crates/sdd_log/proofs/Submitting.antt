@@ -1,33 +1,33 @@
 -- A transaction is given to its module, and the module does what is due.
-use Rattle.sdd_log.proofs.All.{Act, AreDue, Given, IsLawful, IsMarked, IsWithin, List, Log, Mark, None, Rests, Site, Some, Submit, Submits, Submitted, Txn, TxnNo, U, [], base_of, calls_of, false, force_at, home_of, local_of, next_at, next_in, puts_past, redeclares, refl, same_here, same_site, sends_of, site_due, sites, sym, takes_part, true, txn_at, ℕ, ◌∙◌, ◌∷◌, ◌≡◌}
+use Rattle.sdd_log.proofs.All.{Act, AreDue, Input, IsLawful, IsMarked, IsWithin, List, Log, Mark, None, Rests, Site, Some, Submit, Submits, Submitted, Txn, TxnNo, U, [], base_of, calls_of, false, force_at, home_of, local_of, next_at, next_in, puts_past, redeclares, refl, same_here, same_site, sends_of, site_due, sites, sym, takes_part, true, txn_at, ℕ, ◌∙◌, ◌∷◌, ◌≡◌}
 use Rattle.sdd_log.proofs.Steps.{after_acts, AllNone, Settled, all_none, has_site, none_any_base, nothing_due, steps}
 use Rattle.sdd_log.proofs.Acts.{handed_acts, takes_part_acts, within_acts}
 use Rattle.sdd_log.proofs.Handing.{delivered_acts, no_mark_acts}
 use Rattle.sdd_log.proofs.Marking.{mark_within, none_by_mark}
 
-pub other_local : (g : Given) (b to : Site) (n : ℕ) (log : Log) → same_site b to ≡ false → local_of g b (Submitted to n ∷ log) ≡ local_of g b log
+pub other_local : (g : Input) (b to : Site) (n : ℕ) (log : Log) → same_site b to ≡ false → local_of g b (Submitted to n ∷ log) ≡ local_of g b log
 other_local g b to n log e = rw e refl
 
-settled_by_submit : (g : Given) (to : Site) (n : ℕ) (log : Log) (xs : List Site) → AllNone (next_at g log) xs → Settled (next_at g (Submitted to n ∷ log)) to xs
+settled_by_submit : (g : Input) (to : Site) (n : ℕ) (log : Log) (xs : List Site) → AllNone (next_at g log) xs → Settled (next_at g (Submitted to n ∷ log)) to xs
 settled_by_submit g to n log [] k = tt
 settled_by_submit g to n log (x ∷ xs) k =
     ((λ e. rw (other_local g x to n log e) (none_any_base g x (base_of g log) (base_of g (Submitted to n ∷ log)) (local_of g x log) k.0)), settled_by_submit g to n log xs k.1)
 
-own_local : (g : Given) (at : Site) (n : ℕ) (txn : Txn) (log : Log) → txn_at g n ≡ Some txn → local_of g at (Submitted at n ∷ log) ≡ Submits n txn ∷ local_of g at log
+own_local : (g : Input) (at : Site) (n : ℕ) (txn : Txn) (log : Log) → txn_at g n ≡ Some txn → local_of g at (Submitted at n ∷ log) ≡ Submits n txn ∷ local_of g at log
 own_local g at n txn log is = rw (same_here at, is) refl
 
 -- the site of a transaction that is submitted after the log
-abbrev pub home_in : Given → TxnNo → Log → Site
+abbrev pub home_in : Input → TxnNo → Log → Site
 home_in g n log = home_of (force_at g (redeclares log)).catalogue (txn_at g n.0)
 
-abbrev pub submitted : Given → TxnNo → Log → Log
+abbrev pub submitted : Input → TxnNo → Log → Log
 submitted g n log = Submitted (home_in g n log) n.0 ∷ Mark (Submit n) ∷ log
 
-part_submitted : (g : Given) (n : TxnNo) (log : Log) (b : Site) → takes_part b (submitted g n log) ≡ takes_part b log
+part_submitted : (g : Input) (n : TxnNo) (log : Log) (b : Site) → takes_part b (submitted g n log) ≡ takes_part b log
 part_submitted g n log U = refl
 part_submitted g n log _ = refl
 
-module _ (g : Given) (n : TxnNo) (log : Log) (k : IsMarked g log (Submit n)) where
+module _ (g : Input) (n : TxnNo) (log : Log) (k : IsMarked g log (Submit n)) where
   pub submitted_lawful : IsLawful g (submitted g n log)
   submitted_lawful = (refl, (k.next_is, k.rests.lawful))
 

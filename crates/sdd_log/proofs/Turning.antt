@@ -1,5 +1,5 @@
 -- A data module goes down, and comes up again: what was kept for it is then handed over.
-use Rattle.sdd_log.proofs.All.{Bool, D, DmNo, Down, Given, IsMarked, List, Log, Mark, Msg, Notes, Remain, Rests, Site, Up, Waits, ap, eq-eqb, eqb-true, false, flip_same, if◌then◌else◌, is_down, not, note_if, refl, same_site, subst, takes_part, true, ◌==◌, ◌∷◌, ◌≡◌}
+use Rattle.sdd_log.proofs.All.{Bool, D, DmNo, Down, Input, IsMarked, List, Log, Mark, Msg, Notes, Remain, Rests, Site, Up, Waits, ap, eq-eqb, eqb-true, false, flip_same, if◌then◌else◌, is_down, not, note_if, refl, same_site, subst, takes_part, true, ◌==◌, ◌∷◌, ◌≡◌}
 use Rattle.sdd_log.proofs.Marking.{mark_within, none_by_mark, rests_marked, rests_noted}
 
 down_if : (c down : Bool) → not (if c then true else down) ≡ true → not down ≡ true
@@ -11,11 +11,11 @@ part_down : (y : Site) (d : DmNo) (log : Log) → takes_part y (Mark (Down d) �
 part_down (D n) d log e = down_if (d.0 == n.0) (is_down n.0 log) e
 part_down _ d log e = refl
 
-pub goes_down : (g : Given) (d : DmNo) (log : Log) → IsMarked g log (Down d) → is_down d.0 log ≡ false → Rests g (Mark (Down d) ∷ log)
+pub goes_down : (g : Input) (d : DmNo) (log : Log) → IsMarked g log (Down d) → is_down d.0 log ≡ false → Rests g (Mark (Down d) ∷ log)
 goes_down g d log m e =
     rests_marked g log (Down d) m (none_by_mark g log (Down d) tt m.rests.no_site) (ap note_if e) (λ a b p. m.rests.handed_all a b (part_down b d log p))
 
-pub is_down_already : (g : Given) (d : DmNo) (log : Log) → IsMarked g log (Down d) → is_down d.0 log ≡ true → Rests g (Notes ∷ Mark (Down d) ∷ log)
+pub is_down_already : (g : Input) (d : DmNo) (log : Log) → IsMarked g log (Down d) → is_down d.0 log ≡ true → Rests g (Notes ∷ Mark (Down d) ∷ log)
 is_down_already g d log m e = rests_noted g log (Down d) m tt (ap note_if e) (λ a b p. m.rests.handed_all a b (part_down b d log p))
 
 up_if : (c down : Bool) → c ≡ false → not (if c then false else down) ≡ true → not down ≡ true
@@ -39,11 +39,11 @@ up_part (D k) d log n e =
     ] refl e
 up_part _ d log n e = refl
 
-pub isnt_down : (g : Given) (d : DmNo) (log : Log) → IsMarked g log (Up d) → is_down d.0 log ≡ false → Rests g (Notes ∷ Mark (Up d) ∷ log)
+pub isnt_down : (g : Input) (d : DmNo) (log : Log) → IsMarked g log (Up d) → is_down d.0 log ≡ false → Rests g (Notes ∷ Mark (Up d) ∷ log)
 isnt_down g d log m e = rests_noted g log (Up d) m tt (ap (λ c. note_if (not c)) e) (λ a b p. m.rests.handed_all a b (up_part b d log e p))
 
 -- what was kept for a module that comes up is to be handed over
-pub comes_up : (g : Given) (d : DmNo) (log : Log) (kept : Site → List Msg) → IsMarked g log (Up d) → is_down d.0 log ≡ true
+pub comes_up : (g : Input) (d : DmNo) (log : Log) (kept : Site → List Msg) → IsMarked g log (Up d) → is_down d.0 log ≡ true
     → ((a : Site) → Remain log a (D d) (kept a)) → Waits g (Mark (Up d) ∷ log) (D d) kept
 comes_up g d log kept m e r = record {
   lawful = (m.next_is, m.rests.lawful);

@@ -1,6 +1,6 @@
 -- The names of this crate and of those below it that the crates above cite, passed on from one place. Declares nothing.
 pub use Rattle.sdd_log.specs.Due.{due_by, extended, mark_due, next, note_if}
-pub use Rattle.sdd_log.specs.Entries.{Does, Given, Hand, Log, Mark, Notes, Redeclares, Round, Submitted, history, marks}
+pub use Rattle.sdd_log.specs.Entries.{Does, Hand, Input, Log, Mark, Notes, Redeclares, Round, Submitted, history, marks}
 pub use Rattle.sdd_log.specs.Locals.{force_at, local_of, redeclares, setting_of, txn_at, with_force, with_submit}
 pub use Rattle.sdd_log.specs.Permitted.{IsAllowed, IsPermitted, by_event, by_link, by_mark, by_redeclare, by_round, by_site, is_new_mark, was_marked}
 pub use Rattle.sdd_log.specs.Snapshots.{base_of}

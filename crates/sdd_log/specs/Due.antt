@@ -6,7 +6,7 @@ use Rattle.sdd_net.specs.Links.{packet_at, unacked, delivered}
 use Rattle.sdd_dm.specs.Due as dm
 use Rattle.sdd_tm.specs.Due as tm
 use Rattle.sdd_umod.specs.Due as um
-use Rattle.sdd_log.specs.Entries.{Entry, Mark, Hand, Submitted, Notes, Does, Log, Given}
+use Rattle.sdd_log.specs.Entries.{Entry, Mark, Hand, Submitted, Notes, Does, Log, Input}
 use Rattle.sdd_log.specs.Traffic.{link_of, handed, message_at, is_down, takes_part, all_links}
 use Rattle.sdd_log.specs.Locals.{redeclares, force_at, txn_at, local_of, setting_of}
 use Rattle.sdd_log.specs.Snapshots.{base_of}
@@ -23,7 +23,7 @@ abbrev pub note_if : Bool → Option Entry
 note_if b = if b then Some Notes else None
 
 -- what an event makes due, said of the log before its mark
-abbrev pub due_by : Given → Event → Log → Option Entry
+abbrev pub due_by : Input → Event → Log → Option Entry
 due_by g (Submit n) log = Some (Submitted (home_of (force_at g (redeclares log)).catalogue (txn_at g n.0)) n.0)
 due_by g (Deliver a b k) log = note_if (is_none (packet_at k (link_of a b log)))
 due_by g (Lose a b k) log = note_if (is_none (packet_at k (link_of a b log)))
@@ -33,18 +33,18 @@ due_by g (Down d) log = note_if (is_down d.0 log)
 due_by g (Up d) log = note_if (not (is_down d.0 log))
 due_by g _ log = None
 
-abbrev pub mark_due : Given → Log → Option Entry
+abbrev pub mark_due : Input → Log → Option Entry
 mark_due g (Mark e ∷ log) = due_by g e log
 mark_due g _ = None
 
 -- what is due at the sites, by their own logs
 
-abbrev pub next_in : Given → Site → Bases → site.Log → Option Act
+abbrev pub next_in : Input → Site → Bases → site.Log → Option Act
 next_in g U bases log = um.next (setting_of g U) bases log
 next_in g (T t) bases log = tm.next (setting_of g (T t)) bases log
 next_in g (D d) bases log = dm.next (setting_of g (D d)) bases log
 
-abbrev pub next_at : Given → Log → Site → Option Act
+abbrev pub next_at : Input → Log → Site → Option Act
 next_at g log at = next_in g at (base_of g log) (local_of g at log)
 
 abbrev pub does_at : Site → Option Act → Option Entry
@@ -52,7 +52,7 @@ does_at at None = None
 does_at at (Some act) = Some (Does at act)
 
 -- at the first site, in the order of sites, where something is
-abbrev pub site_due : Given → Log → Option Entry
+abbrev pub site_due : Input → Log → Option Entry
 site_due g log = first_some (λ at. does_at at (next_at g log at)) (sites g.catalogue.tms g.catalogue.dms)
 
 -- what is handed over
@@ -74,17 +74,17 @@ abbrev pub hand_on : Log → Site × Site → Option Entry
 hand_on log l = if takes_part l.1 log then hand_number log l (next_number (handed l.0 l.1 log) (delivered (link_of l.0 l.1 log).there)) else None
 
 -- on the first link where something is
-abbrev pub hand_due : Given → Log → Option Entry
+abbrev pub hand_due : Input → Log → Option Entry
 hand_due g log = first_some (hand_on log) (all_links g)
 
 -- the order of these: nothing is marked while something is due or to be handed over
 abbrev pub in_turn : {A : Type 0} → Option A → Option A → Option A → Option A → Option A
 in_turn by_mark at_site on_link mark = or_else by_mark (or_else at_site (or_else on_link mark))
 
-abbrev pub next : Given → Log → Option Entry
+abbrev pub next : Input → Log → Option Entry
 next g log = in_turn (mark_due g log) (site_due g log) (hand_due g log) (next_mark g log)
 
 -- the log with at most n entries more, each the next
-abbrev pub extended : ℕ → Given → Log → Log
+abbrev pub extended : ℕ → Input → Log → Log
 extended zero g log = log
 extended (suc n) g log = elim (next g log) [ None ↦ log | Some e ↦ extended n g (e ∷ log) ]

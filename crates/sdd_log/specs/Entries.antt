@@ -21,14 +21,14 @@ Log = List Entry
 
 -- What is given: the catalogue with the classes of all lists; the lists in force one after the other; the rows with
 -- which each data module begins; the transactions by their numbers, from 1; and the events.
-pub record Given : Type 0 where
+pub record Input : Type 0 where
   pub catalogue : Catalogue
   pub forces : List Force
   pub rows : List (List (RelNo × Row))
   pub txns : List Txn
   pub events : List Event
 
-abbrev pub with_event : Given → Event → Given
+abbrev pub with_event : Input → Event → Input
 with_event g e = record g { events = g.events ++ e ∷ [] }
 
 -- how many events there were: each mark, and each list of classes that is put in force

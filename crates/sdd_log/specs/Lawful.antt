@@ -2,12 +2,12 @@
 use Rattle.std.specs.Prelude.{suc, nat_lt, ◌≡◌, Bool, true, false, ◌||◌, List, [], ◌∷◌, length, Some, None}
 use Rattle.sdd_attempt.specs.All.{MAX_LINK_MESSAGES, MAX_RUN_EVENTS, Msg, Site, sends_of_act}
 use Rattle.sdd_net.specs.Links.{Call, Puts, link}
-use Rattle.sdd_log.specs.Entries.{Given, Log, Entry, Mark, Redeclares, Does, marks}
+use Rattle.sdd_log.specs.Entries.{Input, Log, Entry, Mark, Redeclares, Does, marks}
 use Rattle.sdd_log.specs.Traffic.{calls_of}
 use Rattle.sdd_log.specs.Due.{next}
 
 -- each entry is the next one of those before it
-abbrev pub IsLawful : Given → Log → Type 0
+abbrev pub IsLawful : Input → Log → Type 0
 IsLawful g [] = Unit {0}
 IsLawful g (e ∷ log) = (next g log ≡ Some e) × IsLawful g log
 
@@ -28,13 +28,13 @@ IsWithin [] = Unit {0}
 IsWithin (e ∷ log) = (is_past log e ≡ false) × IsWithin log
 
 -- the log of what is given: lawful, within the limits, and complete
-pub record IsTheLog (g : Given) (log : Log) : Type 0 where
+pub record IsTheLog (g : Input) (log : Log) : Type 0 where
   pub lawful : IsLawful g log
   pub within : IsWithin log
   pub complete : next g log ≡ None
 
 -- the log of what is given where a limit ends it: the next entry would pass it
-pub record EndsByLimit (g : Given) (log : Log) : Type 0 where
+pub record EndsByLimit (g : Input) (log : Log) : Type 0 where
   pub lawful : IsLawful g log
   pub within : IsWithin log
   pub entry : Entry

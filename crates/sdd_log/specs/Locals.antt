@@ -2,7 +2,7 @@
 use Rattle.std.specs.Prelude.{ℕ, suc, ◌-◌, if◌then◌else◌, List, [], ◌∷◌, slice_get, slice_index_or, Option, Some, None}
 use Rattle.sdd_attempt.specs.All.{D, Did, Event, Force, Handed, IsTable, Redeclared, RelNo, Row, Setting, Site, Submits, T, Tick, Ticked, Txn, U, same_site}
 use Rattle.sdd_attempt.specs.site_module.SiteLog as site
-use Rattle.sdd_log.specs.Entries.{Given, Log, Mark, Redeclares, Hand, Submitted, Does}
+use Rattle.sdd_log.specs.Entries.{Input, Log, Mark, Redeclares, Hand, Submitted, Does}
 
 -- a list of classes is in force with the protocol table of its catalogue
 pub record IsForce (f : Force) : Type 0 where
@@ -15,14 +15,14 @@ redeclares (Redeclares t ∷ log) = suc (redeclares log)
 redeclares (_ ∷ log) = redeclares log
 
 -- list k, counted from 0
-abbrev pub force_at : Given → ℕ → Force
+abbrev pub force_at : Input → ℕ → Force
 force_at g k = slice_index_or g.forces k (record { catalogue = g.catalogue; table = [] })
 
-abbrev pub txn_at : Given → ℕ → Option Txn
+abbrev pub txn_at : Input → ℕ → Option Txn
 txn_at g n = slice_get g.txns (n - 1)
 
 -- a transaction module begins with the first list in force
-abbrev pub beginning : Given → Site → site.Log
+abbrev pub beginning : Input → Site → site.Log
 beginning g U = []
 beginning g (T t) = Redeclared (force_at g 0) 0 ∷ []
 beginning g (D d) = []
@@ -42,7 +42,7 @@ with_submit n None log = log
 with_submit n (Some txn) log = Submits n txn ∷ log
 
 -- the log of one site: the ticks of its clock, the lists in force, what is handed and given to it, and what it does
-abbrev pub local_of : Given → Site → Log → site.Log
+abbrev pub local_of : Input → Site → Log → site.Log
 local_of g at [] = beginning g at
 local_of g at (Mark e ∷ log) = with_tick at e (local_of g at log)
 local_of g at (Redeclares t ∷ log) = with_force at (force_at g (suc (redeclares log))) t (local_of g at log)
@@ -52,10 +52,10 @@ local_of g at (Does by act ∷ log) = if same_site at by then Did act ∷ local_
 local_of g at (_ ∷ log) = local_of g at log
 
 -- of what the module of a site is made: a data module of its rows
-abbrev pub rows_of : Given → Site → List (RelNo × Row)
+abbrev pub rows_of : Input → Site → List (RelNo × Row)
 rows_of g U = []
 rows_of g (T t) = []
 rows_of g (D d) = slice_index_or g.rows (d.0 - 1) []
 
-abbrev pub setting_of : Given → Site → Setting
+abbrev pub setting_of : Input → Site → Setting
 setting_of g at = record { catalogue = g.catalogue; site = at; rows = rows_of g at }

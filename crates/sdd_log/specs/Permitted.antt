@@ -9,7 +9,7 @@ use Rattle.sdd_tm.specs.Views as tm_views
 use Rattle.sdd_tm.specs.Due as tm
 use Rattle.sdd_umod.specs.Views as um_views
 use Rattle.sdd_umod.specs.Due as um
-use Rattle.sdd_log.specs.Entries.{Given, Log, Entry, Mark, Round, Redeclares, Hand, Does}
+use Rattle.sdd_log.specs.Entries.{Input, Log, Entry, Mark, Round, Redeclares, Hand, Does}
 use Rattle.sdd_log.specs.Traffic.{link_of, handed, message_at, takes_part}
 use Rattle.sdd_log.specs.Locals.{local_of, setting_of}
 use Rattle.sdd_log.specs.Snapshots.{base_of}
@@ -27,13 +27,13 @@ is_new_mark (Submit n) log = not (was_marked n.0 log)
 is_new_mark _ log = true
 
 -- an act is due at its site, of whatever rank and class
-abbrev pub IsDueAt : Given → Log → Site → Act → Type 0
+abbrev pub IsDueAt : Input → Log → Site → Act → Type 0
 IsDueAt g log U act = um.IsDue g.catalogue (base_of g log) (um_views.view_of (setting_of g U) (local_of g U log)) act
 IsDueAt g log (T t) act = tm.IsDue g.catalogue (base_of g log) (tm_views.view_of (setting_of g (T t)) (local_of g (T t) log)) act
 IsDueAt g log (D d) act = dm.IsDue (dm_views.home_of (setting_of g (D d))) (dm_views.view_of (setting_of g (D d)) (local_of g (D d) log)) act
 
 -- an entry may come after the log; the messages of a link are handed over in order
-pub data IsAllowed (g : Given) (log : Log) : Entry → Type 0 where
+pub data IsAllowed (g : Input) (log : Log) : Entry → Type 0 where
   by_mark : (e : Event) → is_new_mark e log ≡ true → IsAllowed g log (Mark e)
   by_round : (es : List Event) → IsAllowed g log (Round es)
   by_redeclare : (t : ℕ) → IsAllowed g log (Redeclares t)
@@ -43,7 +43,7 @@ pub data IsAllowed (g : Given) (log : Log) : Entry → Type 0 where
       → n ≡ suc (handed a b log) → n ≤ delivered (link_of a b log).there → takes_part b log ≡ true → message_at a b n log ≡ Some m
       → IsAllowed g log (Hand a b n m)
 
-abbrev pub IsPermitted : Given → Log → Type 0
+abbrev pub IsPermitted : Input → Log → Type 0
 IsPermitted g [] = Unit {0}
 IsPermitted g (e ∷ log) = IsAllowed g log e × IsPermitted g log
 

@@ -3,7 +3,7 @@ use Rattle.std.specs.Prelude.{ℕ, zero, suc, ◌+◌, ◌≤◌, ◌≡◌, tru
 use Rattle.sdd_attempt.specs.All.{D, Deliver, Down, Event, Lose, MAX_RUN_EVENTS, MAX_TICKS, Msg, Redeclare, Repeat, Resend, Settle, Site, Submit, T, Tick, Txn, Up, same_site, sites}
 use Rattle.sdd_net.specs.Links.{delivered}
 use Rattle.sdd_net.specs.Nets.{is_site, is_link}
-use Rattle.sdd_log.specs.Entries.{Given, Log, Mark, marks}
+use Rattle.sdd_log.specs.Entries.{Input, Log, Mark, marks}
 use Rattle.sdd_log.specs.Traffic.{link_of, sent, handed, takes_part}
 use Rattle.sdd_log.specs.Locals.{txn_at}
 use Rattle.sdd_log.specs.Due.{mark_due, next, site_due}
@@ -14,7 +14,7 @@ abbrev pub AllHanded : Log → Type 0
 AllHanded log = (a b : Site) → takes_part b log ≡ true → handed a b log ≡ delivered (link_of a b log).there
 
 -- between events: nothing but a mark is due
-pub record Rests (g : Given) (log : Log) : Type 0 where
+pub record Rests (g : Input) (log : Log) : Type 0 where
   pub lawful : IsLawful g log
   pub within : IsWithin log
   pub no_mark : mark_due g log ≡ None
@@ -22,20 +22,20 @@ pub record Rests (g : Given) (log : Log) : Type 0 where
   pub handed_all : AllHanded log
 
 -- an event is next, and within the limit
-pub record IsMarked (g : Given) (log : Log) (e : Event) : Type 0 where
+pub record IsMarked (g : Input) (log : Log) (e : Event) : Type 0 where
   pub rests : Rests g log
   pub next_is : next g log ≡ Some (Mark e)
   pub few : suc (marks log) ≤ MAX_RUN_EVENTS
 
 -- the sites of the network exist
-abbrev pub IsSiteOf : Given → Site → Type 0
+abbrev pub IsSiteOf : Input → Site → Type 0
 IsSiteOf g at = is_site g.catalogue.tms g.catalogue.dms at ≡ true
 
-abbrev pub IsLinkOf : Given → Site → Site → Type 0
+abbrev pub IsLinkOf : Input → Site → Site → Type 0
 IsLinkOf g a b = is_link g.catalogue.tms g.catalogue.dms a b ≡ true
 
 -- what an event names exists, places count from 1, and a tick isn't too long; rounds are no single event
-abbrev pub IsPossible : Given → Event → Type 0
+abbrev pub IsPossible : Input → Event → Type 0
 IsPossible g (Submit n) = (txn : Txn) × (1 ≤ n.0) × (txn_at g n.0 ≡ Some txn)
 IsPossible g (Deliver a b k) = IsLinkOf g a b × (1 ≤ k)
 IsPossible g (Lose a b k) = IsLinkOf g a b × (1 ≤ k)
@@ -48,7 +48,7 @@ IsPossible g Settle = ⊥
 IsPossible g Redeclare = ⊥
 
 -- what is put goes along links that exist
-abbrev pub AllLinked : Given → Site → List (Site × Msg) → Type 0
+abbrev pub AllLinked : Input → Site → List (Site × Msg) → Type 0
 AllLinked g at [] = Unit {0}
 AllLinked g at (s ∷ sends) = IsLinkOf g at s.0 × AllLinked g at sends
 
@@ -73,7 +73,7 @@ pub record Remain (log : Log) (a b : Site) (rest : List Msg) : Type 0 where
   pub messages : (i : ℕ) (m : Msg) → slice_get rest i ≡ Some m → slice_get (sent a b log) (handed a b log + i) ≡ Some m
 
 -- within an event: of each site these messages are to be handed to site b, and nothing else is due
-pub record Waits (g : Given) (log : Log) (b : Site) (kept : Site → List Msg) : Type 0 where
+pub record Waits (g : Input) (log : Log) (b : Site) (kept : Site → List Msg) : Type 0 where
   pub lawful : IsLawful g log
   pub within : IsWithin log
   pub no_mark : mark_due g log ≡ None
@@ -88,7 +88,7 @@ AtEach P [] = Unit {0}
 AtEach P (x ∷ xs) = P x × AtEach P xs
 
 -- the message that is handed over first: of the first site, in their order, of which one is to be handed over
-pub record IsFirst (g : Given) (kept : Site → List Msg) (a b : Site) (m : Msg) (rest : List Msg) : Type 0 where
+pub record IsFirst (g : Input) (kept : Site → List Msg) (a b : Site) (m : Msg) (rest : List Msg) : Type 0 where
   pub linked : IsLinkOf g a b
   pub before : List Site
   pub after : List Site

@@ -8,7 +8,7 @@ use Rattle.sdd_copy.specs.Contents.{Dated, contents}
 use Rattle.sdd_pipe.specs.Pipe.{head}
 use Rattle.sdd_dm.specs.Pipes.{pipe}
 use Rattle.sdd_dm.specs.Copies.{dated}
-use Rattle.sdd_log.specs.Entries.{Given, Log}
+use Rattle.sdd_log.specs.Entries.{Input, Log}
 use Rattle.sdd_log.specs.Locals.{local_of, setting_of}
 
 -- the fragments that a READ names
@@ -35,9 +35,9 @@ snapshots s ts (_ ∷ log) = snapshots s ts log
 abbrev pub with_item : Database → Item × Row → Database
 with_item db e = with_row db e.0 e.1
 
-abbrev pub snapshots_at : Given → Log → ℕ → ℕ → Database
+abbrev pub snapshots_at : Input → Log → ℕ → ℕ → Database
 snapshots_at g log ts d = snapshots (setting_of g (D (dm_no d))) ts (local_of g (D (dm_no d)) log)
 
 -- the database of all its snapshots
-abbrev pub base_of : Given → Log → Bases
+abbrev pub base_of : Input → Log → Bases
 base_of g log ts = fold with_item [] (flat_map (snapshots_at g log ts) (numbers_to g.catalogue.dms))

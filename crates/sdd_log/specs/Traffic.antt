@@ -2,7 +2,7 @@
 use Rattle.std.specs.Prelude.{ℕ, ◌-◌, Bool, true, false, not, ◌&&◌, ◌==◌, if◌then◌else◌, List, [], ◌∷◌, slice_get, Option}
 use Rattle.sdd_attempt.specs.All.{D, Deliver, Down, Event, Lose, Msg, Repeat, Resend, Site, T, U, Up, links, same_site, sends_of_act}
 use Rattle.sdd_net.specs.Links.{Call, Puts, Delivers, Loses, Repeats, Resends, Link, link}
-use Rattle.sdd_log.specs.Entries.{Log, Mark, Hand, Does, Given}
+use Rattle.sdd_log.specs.Entries.{Log, Mark, Hand, Does, Input}
 
 -- the calls on the links: an act puts its messages, and an event delivers, loses, repeats or resends
 
@@ -28,7 +28,7 @@ abbrev pub link_of : Site → Site → Log → Link Msg
 link_of a b log = link a b (calls_of log)
 
 -- the links of the network, in their order
-abbrev pub all_links : Given → List (Site × Site)
+abbrev pub all_links : Input → List (Site × Site)
 all_links g = links g.catalogue.tms g.catalogue.dms
 
 -- the messages that were put on the link from a to b

@@ -1,6 +1,6 @@
 -- Worked logs, written by tools/write_log_rows.py.
 use Rattle.std.specs.Prelude.{◌≡◌, pos, negsuc, [], ◌∷◌, length, Some, None, refl}
-use Rattle.sdd_log.specs.All.{Apply, Catalogue, Commit, D, Deliver, Down, Given, Int, Log, Nothing, P1, Put, Rows, Start, Submit, T, Up, class_no, dm_no, extended, frag_no, history, marks, next, rel_no, time_at, tm_no, txn_no}
+use Rattle.sdd_log.specs.All.{Apply, Catalogue, Commit, D, Deliver, Down, Input, Int, Log, Nothing, P1, Put, Rows, Start, Submit, T, Up, class_no, dm_no, extended, frag_no, history, marks, next, rel_no, time_at, tm_no, txn_no}
 use Rattle.sdd_graph.specs.declared.edge.Edge.TheVariants.{Vertical}
 use Rattle.sdd_log.specs.history.declared.record.Rec.TheVariants.{Submit as Submission}
 use Rattle.sdd_log.specs.catalog.declared.parts.Kind.TheVariants as kinds
@@ -22,7 +22,7 @@ catalogue_of_down_and_up = record {
       [];
 }
 
-abbrev pub given_down_and_up : Given
+abbrev pub given_down_and_up : Input
 given_down_and_up = record {
   catalogue = catalogue_of_down_and_up;
   forces =
@@ -78,7 +78,7 @@ catalogue_of_stays_down = record {
       [];
 }
 
-abbrev pub given_stays_down : Given
+abbrev pub given_stays_down : Input
 given_stays_down = record {
   catalogue = catalogue_of_stays_down;
   forces =
@@ -132,7 +132,7 @@ catalogue_of_down_twice = record {
       [];
 }
 
-abbrev pub given_down_twice : Given
+abbrev pub given_down_twice : Input
 given_down_twice = record {
   catalogue = catalogue_of_down_twice;
   forces =

@@ -1,6 +1,6 @@
 -- Worked logs, written by tools/write_log_rows.py.
 use Rattle.std.specs.Prelude.{◌≡◌, pos, negsuc, [], ◌∷◌, length, Some, None, refl}
-use Rattle.sdd_log.specs.All.{Answer, Apply, Arrive, Catalogue, Commit, Const, D, Deliver, Given, Int, Le, Log, P1, P2, P3, Pass, Put, Query, Rows, Start, Submit, T, Tick, Wait, class_no, dm_no, extended, frag_no, history, marks, next, rel_no, time_at, tm_no, txn_no}
+use Rattle.sdd_log.specs.All.{Answer, Apply, Arrive, Catalogue, Commit, Const, D, Deliver, Input, Int, Le, Log, P1, P2, P3, Pass, Put, Query, Rows, Start, Submit, T, Tick, Wait, class_no, dm_no, extended, frag_no, history, marks, next, rel_no, time_at, tm_no, txn_no}
 use Rattle.sdd_graph.specs.declared.edge.Edge.TheVariants.{Vertical, Horizontal, Diagonal}
 use Rattle.sdd_log.specs.history.declared.record.Rec.TheVariants.{Submit as Submission}
 use Rattle.sdd_log.specs.catalog.declared.parts.Kind.TheVariants as kinds
@@ -24,7 +24,7 @@ catalogue_of_not_rejected = record {
       [];
 }
 
-abbrev pub given_not_rejected : Given
+abbrev pub given_not_rejected : Input
 given_not_rejected = record {
   catalogue = catalogue_of_not_rejected;
   forces =
@@ -95,7 +95,7 @@ catalogue_of_not_held = record {
       [];
 }
 
-abbrev pub given_not_held : Given
+abbrev pub given_not_held : Input
 given_not_held = record {
   catalogue = catalogue_of_not_held;
   forces =

@@ -1,6 +1,6 @@
 -- Worked logs, written by tools/write_log_rows.py.
 use Rattle.std.specs.Prelude.{◌≡◌, pos, negsuc, [], ◌∷◌, length, Some, None, refl}
-use Rattle.sdd_log.specs.All.{Apply, Catalogue, Commit, D, Deliver, Down, Given, Int, Log, Lose, Nothing, P1, Put, Resend, Rows, Start, Submit, T, Up, class_no, dm_no, extended, frag_no, history, marks, next, rel_no, time_at, tm_no, txn_no}
+use Rattle.sdd_log.specs.All.{Apply, Catalogue, Commit, D, Deliver, Down, Input, Int, Log, Lose, Nothing, P1, Put, Resend, Rows, Start, Submit, T, Up, class_no, dm_no, extended, frag_no, history, marks, next, rel_no, time_at, tm_no, txn_no}
 use Rattle.sdd_graph.specs.declared.edge.Edge.TheVariants.{Vertical, Horizontal}
 use Rattle.sdd_log.specs.history.declared.record.Rec.TheVariants.{Submit as Submission}
 use Rattle.sdd_log.specs.catalog.declared.parts.Kind.TheVariants as kinds
@@ -23,7 +23,7 @@ catalogue_of_from_two_senders = record {
       [];
 }
 
-abbrev pub given_from_two_senders : Given
+abbrev pub given_from_two_senders : Input
 given_from_two_senders = record {
   catalogue = catalogue_of_from_two_senders;
   forces =
@@ -89,7 +89,7 @@ catalogue_of_two_at_once = record {
       [];
 }
 
-abbrev pub given_two_at_once : Given
+abbrev pub given_two_at_once : Input
 given_two_at_once = record {
   catalogue = catalogue_of_two_at_once;
   forces =

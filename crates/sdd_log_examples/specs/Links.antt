@@ -1,6 +1,6 @@
 -- Worked logs, written by tools/write_log_rows.py.
 use Rattle.std.specs.Prelude.{◌≡◌, pos, negsuc, [], ◌∷◌, length, Some, None, refl}
-use Rattle.sdd_log.specs.All.{Answer, Apply, Arrive, Catalogue, Commit, D, Deliver, Given, Int, Log, Lose, Nothing, P1, Put, Query, Repeat, Resend, Rows, Settle, Start, Submit, T, class_no, dm_no, extended, frag_no, history, marks, next, rel_no, time_at, tm_no, txn_no}
+use Rattle.sdd_log.specs.All.{Answer, Apply, Arrive, Catalogue, Commit, D, Deliver, Input, Int, Log, Lose, Nothing, P1, Put, Query, Repeat, Resend, Rows, Settle, Start, Submit, T, class_no, dm_no, extended, frag_no, history, marks, next, rel_no, time_at, tm_no, txn_no}
 use Rattle.sdd_graph.specs.declared.edge.Edge.TheVariants.{Vertical, Horizontal}
 use Rattle.sdd_log.specs.history.declared.record.Rec.TheVariants.{Submit as Submission}
 use Rattle.sdd_log.specs.catalog.declared.parts.Kind.TheVariants as kinds
@@ -22,7 +22,7 @@ catalogue_of_put_and_query = record {
       [];
 }
 
-abbrev pub given_put_and_query : Given
+abbrev pub given_put_and_query : Input
 given_put_and_query = record {
   catalogue = catalogue_of_put_and_query;
   forces =
@@ -82,7 +82,7 @@ catalogue_of_lost_and_repeated = record {
       [];
 }
 
-abbrev pub given_lost_and_repeated : Given
+abbrev pub given_lost_and_repeated : Input
 given_lost_and_repeated = record {
   catalogue = catalogue_of_lost_and_repeated;
   forces =
@@ -150,7 +150,7 @@ catalogue_of_two_copies = record {
       [];
 }
 
-abbrev pub given_two_copies : Given
+abbrev pub given_two_copies : Input
 given_two_copies = record {
   catalogue = catalogue_of_two_copies;
   forces =

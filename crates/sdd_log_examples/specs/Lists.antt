@@ -1,6 +1,6 @@
 -- Worked logs, written by tools/write_log_rows.py.
 use Rattle.std.specs.Prelude.{◌≡◌, pos, negsuc, [], ◌∷◌, length, Some, None, refl}
-use Rattle.sdd_log.specs.All.{Arrive, Catalogue, D, Deliver, Given, Int, Log, P1, P2, Query, Redeclare, Start, Submit, T, Tick, U, Wait, class_no, dm_no, extended, frag_no, history, marks, next, rel_no, time_at, tm_no, txn_no}
+use Rattle.sdd_log.specs.All.{Arrive, Catalogue, D, Deliver, Input, Int, Log, P1, P2, Query, Redeclare, Start, Submit, T, Tick, U, Wait, class_no, dm_no, extended, frag_no, history, marks, next, rel_no, time_at, tm_no, txn_no}
 use Rattle.sdd_graph.specs.declared.edge.Edge.TheVariants.{Vertical, Horizontal, Diagonal}
 use Rattle.sdd_log.specs.history.declared.record.Rec.TheVariants.{Submit as Submission}
 use Rattle.sdd_log.specs.catalog.declared.parts.Kind.TheVariants as kinds
@@ -58,7 +58,7 @@ classes_of_conditions_of_a_list_1 = record {
       [];
 }
 
-abbrev pub given_conditions_of_a_list : Given
+abbrev pub given_conditions_of_a_list : Input
 given_conditions_of_a_list = record {
   catalogue = catalogue_of_conditions_of_a_list;
   forces =
@@ -158,7 +158,7 @@ classes_of_undeclared_before_a_list_1 = record {
       [];
 }
 
-abbrev pub given_undeclared_before_a_list : Given
+abbrev pub given_undeclared_before_a_list : Input
 given_undeclared_before_a_list = record {
   catalogue = catalogue_of_undeclared_before_a_list;
   forces =

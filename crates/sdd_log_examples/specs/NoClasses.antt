@@ -1,6 +1,6 @@
 -- Worked logs, written by tools/write_log_rows.py.
 use Rattle.std.specs.Prelude.{◌≡◌, pos, negsuc, [], ◌∷◌, length, None, refl}
-use Rattle.sdd_log.specs.All.{Answer, Apply, Arrive, Catalogue, Commit, Deliver, Given, Int, Log, P1, Pass, Query, Rows, Settle, Start, Submit, T, Tick, U, Wait, class_no, dm_no, extended, frag_no, history, marks, next, rel_no, time_at, tm_no, txn_no}
+use Rattle.sdd_log.specs.All.{Answer, Apply, Arrive, Catalogue, Commit, Deliver, Input, Int, Log, P1, Pass, Query, Rows, Settle, Start, Submit, T, Tick, U, Wait, class_no, dm_no, extended, frag_no, history, marks, next, rel_no, time_at, tm_no, txn_no}
 use Rattle.sdd_graph.specs.declared.edge.Edge.TheVariants.{Vertical}
 use Rattle.sdd_log.specs.history.declared.record.Rec.TheVariants.{Submit as Submission}
 use Rattle.sdd_log.specs.catalog.declared.parts.Kind.TheVariants as kinds
@@ -22,7 +22,7 @@ catalogue_of_released_without_classes = record {
       [];
 }
 
-abbrev pub given_released_without_classes : Given
+abbrev pub given_released_without_classes : Input
 given_released_without_classes = record {
   catalogue = catalogue_of_released_without_classes;
   forces =

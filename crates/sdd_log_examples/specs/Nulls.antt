@@ -1,6 +1,6 @@
 -- Worked logs, written by tools/write_log_rows.py.
 use Rattle.std.specs.Prelude.{◌≡◌, pos, negsuc, [], ◌∷◌, length, Some, None, refl}
-use Rattle.sdd_log.specs.All.{Answer, Apply, Arrive, Catalogue, Commit, Const, D, Deliver, Ge, Given, Int, Le, Log, Nothing, P1, P3, Pass, Put, Query, Rows, Settle, Start, Submit, T, Wait, class_no, dm_no, extended, frag_no, history, marks, next, rel_no, time_at, tm_no, txn_no}
+use Rattle.sdd_log.specs.All.{Answer, Apply, Arrive, Catalogue, Commit, Const, D, Deliver, Ge, Input, Int, Le, Log, Nothing, P1, P3, Pass, Put, Query, Rows, Settle, Start, Submit, T, Wait, class_no, dm_no, extended, frag_no, history, marks, next, rel_no, time_at, tm_no, txn_no}
 use Rattle.sdd_graph.specs.declared.edge.Edge.TheVariants.{Vertical, Diagonal}
 use Rattle.sdd_log.specs.history.declared.record.Rec.TheVariants.{Submit as Submission}
 use Rattle.sdd_log.specs.catalog.declared.parts.Kind.TheVariants as kinds
@@ -24,7 +24,7 @@ catalogue_of_null_before_start = record {
       [];
 }
 
-abbrev pub given_null_before_start : Given
+abbrev pub given_null_before_start : Input
 given_null_before_start = record {
   catalogue = catalogue_of_null_before_start;
   forces =

@@ -1,6 +1,6 @@
 -- Worked logs, written by tools/write_log_rows.py.
 use Rattle.std.specs.Prelude.{◌≡◌, pos, negsuc, [], ◌∷◌, length, Some, None, refl}
-use Rattle.sdd_log.specs.All.{Answer, Arrive, Catalogue, Commit, Const, D, Deliver, Ge, Given, Int, Le, Log, P1, P2, P3, Pass, Query, Rows, Start, Submit, T, Wait, class_no, dm_no, extended, frag_no, history, marks, next, rel_no, time_at, tm_no, txn_no}
+use Rattle.sdd_log.specs.All.{Answer, Arrive, Catalogue, Commit, Const, D, Deliver, Ge, Input, Int, Le, Log, P1, P2, P3, Pass, Query, Rows, Start, Submit, T, Wait, class_no, dm_no, extended, frag_no, history, marks, next, rel_no, time_at, tm_no, txn_no}
 use Rattle.sdd_graph.specs.declared.edge.Edge.TheVariants.{Vertical, Horizontal, Diagonal}
 use Rattle.sdd_log.specs.history.declared.record.Rec.TheVariants.{Submit as Submission}
 use Rattle.sdd_log.specs.catalog.declared.parts.Kind.TheVariants as kinds
@@ -25,7 +25,7 @@ catalogue_of_passed_by_a_read = record {
       [];
 }
 
-abbrev pub given_passed_by_a_read : Given
+abbrev pub given_passed_by_a_read : Input
 given_passed_by_a_read = record {
   catalogue = catalogue_of_passed_by_a_read;
   forces =
@@ -96,7 +96,7 @@ catalogue_of_asks_two = record {
       [];
 }
 
-abbrev pub given_asks_two : Given
+abbrev pub given_asks_two : Input
 given_asks_two = record {
   catalogue = catalogue_of_asks_two;
   forces =
@@ -163,7 +163,7 @@ catalogue_of_asked_while_active = record {
       [];
 }
 
-abbrev pub given_asked_while_active : Given
+abbrev pub given_asked_while_active : Input
 given_asked_while_active = record {
   catalogue = catalogue_of_asked_while_active;
   forces =

@@ -1,6 +1,6 @@
 -- Worked logs, written by tools/write_log_rows.py.
 use Rattle.std.specs.Prelude.{◌≡◌, pos, negsuc, [], ◌∷◌, length, Some, None, refl}
-use Rattle.sdd_log.specs.All.{Answer, Apply, Arrive, Catalogue, Commit, Const, D, Deliver, Ge, Given, Int, Le, Log, P1, P2, P3, Pass, Put, Query, Rows, Settle, Start, Submit, T, Tick, Wait, class_no, dm_no, extended, frag_no, history, marks, next, rel_no, time_at, tm_no, txn_no}
+use Rattle.sdd_log.specs.All.{Answer, Apply, Arrive, Catalogue, Commit, Const, D, Deliver, Ge, Input, Int, Le, Log, P1, P2, P3, Pass, Put, Query, Rows, Settle, Start, Submit, T, Tick, Wait, class_no, dm_no, extended, frag_no, history, marks, next, rel_no, time_at, tm_no, txn_no}
 use Rattle.sdd_graph.specs.declared.edge.Edge.TheVariants.{Vertical, Diagonal}
 use Rattle.sdd_log.specs.history.declared.record.Rec.TheVariants.{Submit as Submission}
 use Rattle.sdd_log.specs.catalog.declared.parts.Kind.TheVariants as kinds
@@ -24,7 +24,7 @@ catalogue_of_reads_before = record {
       [];
 }
 
-abbrev pub given_reads_before : Given
+abbrev pub given_reads_before : Input
 given_reads_before = record {
   catalogue = catalogue_of_reads_before;
   forces =
@@ -93,7 +93,7 @@ catalogue_of_one_time_at_two = record {
       [];
 }
 
-abbrev pub given_one_time_at_two : Given
+abbrev pub given_one_time_at_two : Input
 given_one_time_at_two = record {
   catalogue = catalogue_of_one_time_at_two;
   forces =
@@ -169,7 +169,7 @@ catalogue_of_up_to_its_own_time = record {
       [];
 }
 
-abbrev pub given_up_to_its_own_time : Given
+abbrev pub given_up_to_its_own_time : Input
 given_up_to_its_own_time = record {
   catalogue = catalogue_of_up_to_its_own_time;
   forces =

@@ -1,6 +1,6 @@
 -- Worked logs, written by tools/write_log_rows.py.
 use Rattle.std.specs.Prelude.{◌≡◌, pos, negsuc, [], ◌∷◌, length, Some, None, refl}
-use Rattle.sdd_log.specs.All.{Add, Answer, Arrive, Catalogue, Commit, Const, Given, Gt, Int, Log, Lt, Overflow, P1, Query, Rows, Same, Settle, Start, Submit, Update, class_no, dm_no, extended, frag_no, history, marks, next, rel_no, time_at, tm_no, txn_no}
+use Rattle.sdd_log.specs.All.{Add, Answer, Arrive, Catalogue, Commit, Const, Gt, Input, Int, Log, Lt, Overflow, P1, Query, Rows, Same, Settle, Start, Submit, Update, class_no, dm_no, extended, frag_no, history, marks, next, rel_no, time_at, tm_no, txn_no}
 use Rattle.sdd_graph.specs.declared.edge.Edge.TheVariants.{Vertical}
 use Rattle.sdd_log.specs.history.declared.record.Rec.TheVariants.{Submit as Submission}
 use Rattle.sdd_log.specs.catalog.declared.parts.Kind.TheVariants as kinds
@@ -22,7 +22,7 @@ catalogue_of_overflow = record {
       [];
 }
 
-abbrev pub given_overflow : Given
+abbrev pub given_overflow : Input
 given_overflow = record {
   catalogue = catalogue_of_overflow;
   forces =
@@ -80,7 +80,7 @@ catalogue_of_two_steps = record {
       [];
 }
 
-abbrev pub given_two_steps : Given
+abbrev pub given_two_steps : Input
 given_two_steps = record {
   catalogue = catalogue_of_two_steps;
   forces =
@@ -138,7 +138,7 @@ catalogue_of_reads_nothing = record {
       [];
 }
 
-abbrev pub given_reads_nothing : Given
+abbrev pub given_reads_nothing : Input
 given_reads_nothing = record {
   catalogue = catalogue_of_reads_nothing;
   forces =

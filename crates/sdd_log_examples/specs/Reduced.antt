@@ -1,6 +1,6 @@
 -- Worked logs, written by tools/write_log_rows.py.
 use Rattle.std.specs.Prelude.{◌≡◌, pos, negsuc, [], ◌∷◌, length, Some, None, refl}
-use Rattle.sdd_log.specs.All.{Answer, Arrive, Catalogue, Commit, Given, Int, Log, P1, Query, Rows, Same, Settle, Start, Submit, class_no, dm_no, extended, frag_no, history, marks, next, rel_no, time_at, tm_no, txn_no}
+use Rattle.sdd_log.specs.All.{Answer, Arrive, Catalogue, Commit, Input, Int, Log, P1, Query, Rows, Same, Settle, Start, Submit, class_no, dm_no, extended, frag_no, history, marks, next, rel_no, time_at, tm_no, txn_no}
 use Rattle.sdd_graph.specs.declared.edge.Edge.TheVariants.{Vertical}
 use Rattle.sdd_log.specs.history.declared.record.Rec.TheVariants.{Submit as Submission}
 use Rattle.sdd_log.specs.catalog.declared.parts.Kind.TheVariants as kinds
@@ -25,7 +25,7 @@ catalogue_of_reduced_at_two = record {
       [];
 }
 
-abbrev pub given_reduced_at_two : Given
+abbrev pub given_reduced_at_two : Input
 given_reduced_at_two = record {
   catalogue = catalogue_of_reduced_at_two;
   forces =

@@ -1,6 +1,6 @@
 -- Worked logs, written by tools/write_log_rows.py.
 use Rattle.std.specs.Prelude.{◌≡◌, pos, negsuc, [], ◌∷◌, length, Some, None, refl}
-use Rattle.sdd_log.specs.All.{Apply, Arrive, Catalogue, Commit, D, Deliver, Given, Int, Log, P1, P2, Put, Query, Rows, Start, Submit, T, class_no, dm_no, extended, frag_no, history, marks, next, rel_no, time_at, tm_no, txn_no}
+use Rattle.sdd_log.specs.All.{Apply, Arrive, Catalogue, Commit, D, Deliver, Input, Int, Log, P1, P2, Put, Query, Rows, Start, Submit, T, class_no, dm_no, extended, frag_no, history, marks, next, rel_no, time_at, tm_no, txn_no}
 use Rattle.sdd_graph.specs.declared.edge.Edge.TheVariants.{Vertical, Horizontal, Diagonal}
 use Rattle.sdd_log.specs.history.declared.record.Rec.TheVariants.{Submit as Submission, Reject}
 use Rattle.sdd_log.specs.catalog.declared.parts.Kind.TheVariants as kinds
@@ -24,7 +24,7 @@ catalogue_of_rejected_by_two = record {
       [];
 }
 
-abbrev pub given_rejected_by_two : Given
+abbrev pub given_rejected_by_two : Input
 given_rejected_by_two = record {
   catalogue = catalogue_of_rejected_by_two;
   forces =

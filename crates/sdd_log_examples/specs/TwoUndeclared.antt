@@ -1,6 +1,6 @@
 -- Worked logs, written by tools/write_log_rows.py.
 use Rattle.std.specs.Prelude.{◌≡◌, pos, negsuc, [], ◌∷◌, length, Some, None, refl}
-use Rattle.sdd_log.specs.All.{Answer, Apply, Arrive, Catalogue, Commit, Given, Int, Log, P1, Pass, Put, Query, Rows, Settle, Start, Submit, Wait, class_no, dm_no, extended, frag_no, history, marks, next, rel_no, time_at, tm_no, txn_no}
+use Rattle.sdd_log.specs.All.{Answer, Apply, Arrive, Catalogue, Commit, Input, Int, Log, P1, Pass, Put, Query, Rows, Settle, Start, Submit, Wait, class_no, dm_no, extended, frag_no, history, marks, next, rel_no, time_at, tm_no, txn_no}
 use Rattle.sdd_graph.specs.declared.edge.Edge.TheVariants.{Vertical}
 use Rattle.sdd_log.specs.history.declared.record.Rec.TheVariants.{Submit as Submission}
 use Rattle.sdd_log.specs.catalog.declared.parts.Kind.TheVariants as kinds
@@ -22,7 +22,7 @@ catalogue_of_two_undeclared = record {
       [];
 }
 
-abbrev pub given_two_undeclared : Given
+abbrev pub given_two_undeclared : Input
 given_two_undeclared = record {
   catalogue = catalogue_of_two_undeclared;
   forces =

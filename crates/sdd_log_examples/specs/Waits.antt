@@ -1,6 +1,6 @@
 -- Worked logs, written by tools/write_log_rows.py.
 use Rattle.std.specs.Prelude.{◌≡◌, pos, negsuc, [], ◌∷◌, length, Some, None, refl}
-use Rattle.sdd_log.specs.All.{Answer, Apply, Arrive, Catalogue, Commit, Const, D, Deliver, Given, Int, Le, Log, P1, P2, P3, Pass, Put, Query, Rows, Settle, Start, Submit, T, Tick, Wait, class_no, dm_no, extended, frag_no, history, marks, next, rel_no, time_at, tm_no, txn_no}
+use Rattle.sdd_log.specs.All.{Answer, Apply, Arrive, Catalogue, Commit, Const, D, Deliver, Input, Int, Le, Log, P1, P2, P3, Pass, Put, Query, Rows, Settle, Start, Submit, T, Tick, Wait, class_no, dm_no, extended, frag_no, history, marks, next, rel_no, time_at, tm_no, txn_no}
 use Rattle.sdd_graph.specs.declared.edge.Edge.TheVariants.{Vertical, Horizontal, Diagonal}
 use Rattle.sdd_log.specs.history.declared.record.Rec.TheVariants.{Submit as Submission, Reject}
 use Rattle.sdd_log.specs.catalog.declared.parts.Kind.TheVariants as kinds
@@ -24,7 +24,7 @@ catalogue_of_rejected = record {
       [];
 }
 
-abbrev pub given_rejected : Given
+abbrev pub given_rejected : Input
 given_rejected = record {
   catalogue = catalogue_of_rejected;
   forces =
@@ -98,7 +98,7 @@ catalogue_of_waits_for_two = record {
       [];
 }
 
-abbrev pub given_waits_for_two : Given
+abbrev pub given_waits_for_two : Input
 given_waits_for_two = record {
   catalogue = catalogue_of_waits_for_two;
   forces =
@@ -171,7 +171,7 @@ catalogue_of_earlier_and_later = record {
       [];
 }
 
-abbrev pub given_earlier_and_later : Given
+abbrev pub given_earlier_and_later : Input
 given_earlier_and_later = record {
   catalogue = catalogue_of_earlier_and_later;
   forces =

@@ -1,5 +1,5 @@
 -- All that the modules ask: what is next on a lawful log fits the module to which it goes.
-use Rattle.sdd_obligations.proofs.All.{Bool, D, DmNo, Entry, Facts, FitsForce, FitsSite, Given, Hand, IsFit, IsGood, IsLawful, IsWithin, Log, Mark, Msg, Redeclares, Site, Some, Submitted, T, Tick, TmNo, Txn, U, arith, base_of, class_for, clock, false, fits_submit, force_at, greatest_bound, height, if◌then◌else◌, lawful_permitted, local_of, next, redeclares, setting_of, sound_whole, subst, suc, sym, tm_no, top, true, txn_at, ℕ, ◌/◌, ◌<◌, ◌==◌, ◌^◌, ◌∷◌, ◌≡◌, ◌≤◌}
+use Rattle.sdd_obligations.proofs.All.{Bool, D, DmNo, Entry, Facts, FitsForce, FitsSite, Hand, Input, IsFit, IsGood, IsLawful, IsWithin, Log, Mark, Msg, Redeclares, Site, Some, Submitted, T, Tick, TmNo, Txn, U, arith, base_of, class_for, clock, false, fits_submit, force_at, greatest_bound, height, if◌then◌else◌, lawful_permitted, local_of, next, redeclares, setting_of, sound_whole, subst, suc, sym, tm_no, top, true, txn_at, ℕ, ◌/◌, ◌<◌, ◌==◌, ◌^◌, ◌∷◌, ◌≡◌, ◌≤◌}
 use Rattle.sdd_obligations.proofs.Put.{databases}
 use Rattle.sdd_obligations.proofs.Early.{clock_below, height_below, is_under}
 use Rattle.sdd_obligations.proofs.OfNext.{of_next}
@@ -16,7 +16,7 @@ use Rattle.sdd_obligations.specs.Real.{fits}
 early : (t : ℕ) → t < 2 ^ 53 → t < 2 ^ 56
 early t l = omega (arith, l)
 
-fit_of : (g : Given) → IsGood g → IsFit g
+fit_of : (g : Input) → IsGood g → IsFit g
 fit_of g good =
     let w = sound_whole g.catalogue good.given.sound in
     record {
@@ -25,7 +25,7 @@ fit_of g good =
       txns_fit = λ n txn e. (good.given.txns n txn e).fits;
     }
 
-site_fits : (g : Given) (log : Log) (at : Site) (e : Entry) → IsGood g → IsLawful g log → IsWithin log → next g log ≡ Some e
+site_fits : (g : Input) (log : Log) (at : Site) (e : Entry) → IsGood g → IsLawful g log → IsWithin log → next g log ≡ Some e
     → FitsSite (setting_of g at) (base_of g (e ∷ log)) (local_of g at log)
 site_fits g log at e good l w p =
     record {
@@ -33,7 +33,7 @@ site_fits g log at e good l w p =
       databases = databases g good.given (e ∷ log) (lawful_permitted g (e ∷ log) (fit_of g good).small.once (p, l));
     }
 
-hand_fits : (g : Given) → IsGood g → (log : Log) (a b : Site) (n : ℕ) (m : Msg) → IsLawful g log → IsWithin log → next g log ≡ Some (Hand a b n m)
+hand_fits : (g : Input) → IsGood g → (log : Log) (a b : Site) (n : ℕ) (m : Msg) → IsLawful g log → IsWithin log → next g log ≡ Some (Hand a b n m)
     → fits b (setting_of g b) (base_of g (Hand a b n m ∷ log)) (local_of g b log) a m
 hand_fits g good log a (D d) n m l w e =
     let h = is_handed g log a (D d) n m (fit_of g good).small l w e in
@@ -58,7 +58,7 @@ not_d : {A : Type 0} (b : Bool) (k : TmNo) (d : DmNo) → D d ≡ (if b then U e
 not_d true k d e = cc
 not_d false k d e = cc
 
-submit_fits : (g : Given) → IsGood g → (log : Log) (at : Site) (n : ℕ) (txn : Txn) → IsLawful g log → IsWithin log → next g log ≡ Some (Submitted at n)
+submit_fits : (g : Input) → IsGood g → (log : Log) (at : Site) (n : ℕ) (txn : Txn) → IsLawful g log → IsWithin log → next g log ≡ Some (Submitted at n)
     → txn_at g n ≡ Some txn → fits_submit at (setting_of g at) (base_of g (Submitted at n ∷ log)) (local_of g at log) n txn
 submit_fits g good log U n txn l w e f =
     record {
@@ -83,7 +83,7 @@ submit_fits g good log (D d) n txn l w e f =
 early_time : (h t : ℕ) → h < 2 ^ 53 → t ≤ top h → t / 64 < 2 ^ 57
 early_time h t l m = let d : t / 64 ≤ h = div_le t h m in omega (arith, l, d)
 
-redeclare_fits : (g : Given) → IsGood g → (log : Log) (t : ℕ) → IsLawful g log → IsWithin log
+redeclare_fits : (g : Input) → IsGood g → (log : Log) (t : ℕ) → IsLawful g log → IsWithin log
     → next g log ≡ Some (Redeclares t) → FitsForce g.catalogue (force_at g (suc (redeclares log))) t
 redeclare_fits g good log t l w e =
     let s = (fit_of g good).small in

@@ -1,5 +1,5 @@
 -- An answer that is next to be handed over is awaited by its site.
-use Rattle.sdd_obligations.proofs.All.{AnswersRead, Asks, Attempt, AwaitsAt, AwaitsRows, Bool, ClassNo, D, DmNo, Fetch, Fetching, Given, Hand, IsAllowed, IsAwaited, IsPermitted, List, Msg, None, Option, Phase, Read, Ready, Reduce, Reduced, Reducing, Reject, Replies, RepliesToFetch, RepliesToRead, RepliesToReduce, RepliesToShip, Row, Rows, Setting, Ship, Shipping, Site, Some, Ts, Turn, Value, Values, active, ap, both, contains, dm_no, false, fetches_use, hand_was_put, handed, head_of, home, home_fair, is_a_read, is_answer, is_exchanging, is_shipping, list_any, local_of, not, number_of, numbers_of, reduces_use, refl, same_number, setting_of, subst, sym, true, turn_at, uses_at, uses_read, ℕ, ◌&&◌, ◌==◌, ◌∙◌, ◌∷◌, ◌≡◌, ◌≤◌}
+use Rattle.sdd_obligations.proofs.All.{AnswersRead, Asks, Attempt, AwaitsAt, AwaitsRows, Bool, ClassNo, D, DmNo, Fetch, Fetching, Hand, Input, IsAllowed, IsAwaited, IsPermitted, List, Msg, None, Option, Phase, Read, Ready, Reduce, Reduced, Reducing, Reject, Replies, RepliesToFetch, RepliesToRead, RepliesToReduce, RepliesToShip, Row, Rows, Setting, Ship, Shipping, Site, Some, Ts, Turn, Value, Values, active, ap, both, contains, dm_no, false, fetches_use, hand_was_put, handed, head_of, home, home_fair, is_a_read, is_answer, is_exchanging, is_shipping, list_any, local_of, not, number_of, numbers_of, reduces_use, refl, same_number, setting_of, subst, sym, true, turn_at, uses_at, uses_read, ℕ, ◌&&◌, ◌==◌, ◌∙◌, ◌∷◌, ◌≡◌, ◌≤◌}
 use Rattle.sdd_obligations.proofs.Hearing.{AtTurn, answers_asked, is_awaited}
 use Rattle.sdd_obligations.proofs.AtTurn.{awaits}
 use Rattle.sdd_obligations.proofs.ReadSent.{IsLastRead, last_read, numbers_are, reads_sent, was_answered, was_sent}
@@ -43,7 +43,7 @@ ship_phase p (Ship t2 k2) rows ns t k e h = record { is = shipping p t2 k2 e; na
 ship_phase p _ rows ns t k e h = absurd h
 
 -- the active attempt of a class awaits the answer to a question of rows
-record IsActive (g : Given) (ts c d : ℕ) (log : all.Log) (ns : List ℕ) (q : Msg) : Type 0 where
+record IsActive (g : Input) (ts c d : ℕ) (log : all.Log) (ns : List ℕ) (q : Msg) : Type 0 where
   attempt : Attempt
   active_is : active (setting_of g (home g.catalogue c)) c (home_log g c log) ≡ Some attempt
   ts_is : attempt.ts ≡ ts
@@ -51,7 +51,7 @@ record IsActive (g : Given) (ts c d : ℕ) (log : all.Log) (ns : List ℕ) (q : 
   lacks : contains attempt.exchange.lacks d ≡ true
   uses : uses_at attempt.exchange.modules d ≡ ns
 
-asked_active : (g : Given) (ts c d : ℕ) (log : all.Log) (ns : List ℕ) (q : Msg) → IsPermitted g log → IsSpoken g c log
+asked_active : (g : Input) (ts c d : ℕ) (log : all.Log) (ns : List ℕ) (q : Msg) → IsPermitted g log → IsSpoken g c log
     → turn_at ts c d (home_log g c log) ≡ Asks ns q → is_a_read q ≡ false → IsActive g ts c d log ns q
 asked_active g ts c d log ns q h i e f =
     let s = home_turns g c log h i in
@@ -78,13 +78,13 @@ no_read_rows : (ns : List ℕ) (q x : Msg) → Replies ns q x → is_of_rows x �
 no_read_rows ns (Read t k txn attempt conds uses) x h e = read_no_rows ns x h e
 no_read_rows ns q x h e = refl
 
-record IsAnswerTo (g : Given) (ts c d : ℕ) (log : all.Log) (x : Msg) : Type 0 where
+record IsAnswerTo (g : Input) (ts c d : ℕ) (log : all.Log) (x : Msg) : Type 0 where
   uses : List ℕ
   question : Msg
   replies : Replies uses question x
   active_now : IsActive g ts c d log uses question
 
-rows_answered : (g : Given) (ts c d n : ℕ) (log : all.Log) (x : Msg) → IsPermitted g log → IsSpoken g c log
+rows_answered : (g : Input) (ts c d n : ℕ) (log : all.Log) (x : Msg) → IsPermitted g log → IsSpoken g c log
     → IsAllowed g log (Hand (D (dm_no d)) (home g.catalogue c) n x) → is_answer ts c x ≡ true → is_of_rows x ≡ true → IsAnswerTo g ts c d log x
 rows_answered g ts c d n log x h i a e f =
     let by = answers_asked (turn_at ts c d (home_log g c log)) x (answer_in_turn g c log d n x ts i a e) in
@@ -136,7 +136,7 @@ read_replies : (ns : List ℕ) (q x : Msg) → is_a_read q ≡ true → Replies 
 read_replies ns (Read t k txn attempt conds uses) x e h = h
 read_replies ns q x e h = cc
 
-read_answered : (g : Given) (ts c d n : ℕ) (log : all.Log) (x : Msg) → IsPermitted g log → IsSpoken g c log
+read_answered : (g : Input) (ts c d n : ℕ) (log : all.Log) (x : Msg) → IsPermitted g log → IsSpoken g c log
     → IsAllowed g log (Hand (D (dm_no d)) (home g.catalogue c) n x) → is_answer ts c x ≡ true → is_of_rows x ≡ false → IsReadAnswer ts c d (home_log g c log) x
 read_answered g ts c d n log x h i a e f =
     let v : Turn = turn_at ts c d (home_log g c log) in
@@ -156,7 +156,7 @@ read_answered g ts c d n log x h i a e f =
 answers_read_of : (ts c d : ℕ) (log : Log) (x : Msg) → IsReadAnswer ts c d log x → AnswersRead log (D (dm_no d)) ts c
 answers_read_of ts c d log x h = record { asked = was_sent ts c d log h.read h.last; first = h.none_answered }
 
-awaited_by : (g : Given) (log : all.Log) (d n : ℕ) (m : Msg) → IsPermitted g log → ((c : ℕ) → number_of (home g.catalogue c) ≤ 63)
+awaited_by : (g : Input) (log : all.Log) (d n : ℕ) (m : Msg) → IsPermitted g log → ((c : ℕ) → number_of (home g.catalogue c) ≤ 63)
     → ((ts c : ℕ) → is_answer ts c m ≡ true → IsAllowed g log (Hand (D (dm_no d)) (home g.catalogue c) n m))
     → (b : Site) → ((ts c : ℕ) → is_answer ts c m ≡ true → home g.catalogue c ≡ b) → IsAwaited (setting_of g b) (local_of g b log) (D (dm_no d)) m
 awaited_by g log d n (Ready t k counts) h few a b home_is =
@@ -225,7 +225,7 @@ no_answer s log from (Reduced t k u n) e = cc
 no_answer s log from (Rows t k rows) e = cc
 no_answer s log from m e = tt
 
-awaited_from : (g : Given) (log : all.Log) (a b : Site) (d : DmNo) (n : ℕ) (m : Msg) → a ≡ D d
+awaited_from : (g : Input) (log : all.Log) (a b : Site) (d : DmNo) (n : ℕ) (m : Msg) → a ≡ D d
     → IsPermitted g log → ((c : ℕ) → number_of (home g.catalogue c) ≤ 63) → IsAllowed g log (Hand a b n m) → IsAwaited (setting_of g b) (local_of g b log) a m
 awaited_from g log a b d n m e h few i =
     let home_is : (ts c : ℕ) → is_answer ts c m ≡ true → home g.catalogue c ≡ b =
@@ -234,7 +234,7 @@ awaited_from g log a b d n m e h few i =
     (awaited_by g log d.0 n m h few (λ ts c f. subst (λ x. IsAllowed g log (Hand (D d) x n m))
     (sym (home_is ts c f)) (subst (λ x. IsAllowed g log (Hand x b n m)) e i)) b home_is)
 
-awaited_case : (g : Given) (log : all.Log) (a b : Site) (n : ℕ) (m : Msg) (o : Option (ℕ × ℕ)) → answer_of m ≡ o → IsPermitted g log
+awaited_case : (g : Input) (log : all.Log) (a b : Site) (n : ℕ) (m : Msg) (o : Option (ℕ × ℕ)) → answer_of m ≡ o → IsPermitted g log
     → ((c : ℕ) → number_of (home g.catalogue c) ≤ 63) → IsAllowed g log (Hand a b n m) → IsAwaited (setting_of g b) (local_of g b log) a m
 awaited_case g log a b n m None e h few i = no_answer (setting_of g b) (local_of g b log) a m e
 awaited_case g log a b n m (Some p) e h few i =
@@ -242,6 +242,6 @@ awaited_case g log a b n m (Some p) e h few i =
     awaited_from g log a b r.0 n m r.1 h few i
 
 -- an answer that is next to be handed over is awaited
-pub answers_are_awaited : (g : Given) (log : all.Log) (a b : Site) (n : ℕ) (m : Msg) → IsPermitted g (Hand a b n m ∷ log)
+pub answers_are_awaited : (g : Input) (log : all.Log) (a b : Site) (n : ℕ) (m : Msg) → IsPermitted g (Hand a b n m ∷ log)
     → ((c : ℕ) → number_of (home g.catalogue c) ≤ 63) → IsAwaited (setting_of g b) (local_of g b log) a m
 answers_are_awaited g log a b n m h few = awaited_case g log a b n m (answer_of m) refl h.1 few h.0

@@ -1,5 +1,5 @@
 -- A READY or REJECT that is next to be handed over answers a READ of the site, and is the first that does.
-use Rattle.sdd_obligations.proofs.All.{Act, AnswersRead, Bool, D, Did, DmNo, Does, Given, Handed, IsPermitted, List, Log, Msg, Read, Site, Some, [], all_handed, and_left, and_right, ap, append_assoc, arith, at_site, both, false, handed, hands_from, head_put, home, if◌then◌else◌, in_order, inl, inr, is_read, is_verdict, list_any, local_grows, local_of, number_of, one_if, only_right, or_left, or_right, own_act, permitted_before, push_more, put_in_by_d, puts_to, refl, same_number, same_site, sends_of_act, setting_of, site_is, site_self, slice_get, subst, suc, sym, take, take_one_more, tally, tally_append, tally_take, to_site, true, true_or_false, zero, ℕ, ◌&&◌, ◌++◌, ◌+◌, ◌<◌, ◌==◌, ◌∙◌, ◌∷◌, ◌≡◌, ◌≤◌}
+use Rattle.sdd_obligations.proofs.All.{Act, AnswersRead, Bool, D, Did, DmNo, Does, Handed, Input, IsPermitted, List, Log, Msg, Read, Site, Some, [], all_handed, and_left, and_right, ap, append_assoc, arith, at_site, both, false, handed, hands_from, head_put, home, if◌then◌else◌, in_order, inl, inr, is_read, is_verdict, list_any, local_grows, local_of, number_of, one_if, only_right, or_left, or_right, own_act, permitted_before, push_more, put_in_by_d, puts_to, refl, same_number, same_site, sends_of_act, setting_of, site_is, site_self, slice_get, subst, suc, sym, take, take_one_more, tally, tally_append, tally_take, to_site, true, true_or_false, zero, ℕ, ◌&&◌, ◌++◌, ◌+◌, ◌<◌, ◌==◌, ◌∙◌, ◌∷◌, ◌≡◌, ◌≤◌}
 use Rattle.sdd_obligations.proofs.Verdicts.{in_class, one_verdict, verdict_by}
 use Rattle.sdd_invariants.specs.attempt.Fits.{sent}
 use Rattle.sdd_invariants.specs.site_module.SiteLog as site
@@ -61,7 +61,7 @@ counted_hand a f (Handed from m ∷ l) e = elim (true_or_false (same_site from a
 counted_hand a f (_ ∷ l) e = counted_hand a f l e
 
 -- where at most one of a kind is put on the link, and the next message is of it, none was handed before
-pub none_before : (g : Given) (a b : Site) (log : Log) (f : Msg → Bool) (m : Msg) → IsPermitted g log
+pub none_before : (g : Input) (a b : Site) (log : Log) (f : Msg → Bool) (m : Msg) → IsPermitted g log
     → slice_get (puts_to b (local_of g a log)) (handed a b log) ≡ Some m → f m ≡ true → tally f (puts_to b (local_of g a log)) ≤ 1
     → list_any (at_site a f) (all_handed (local_of g b log)) ≡ false
 none_before g a b log f m h e p l = elim (true_or_false (list_any (at_site a f) (all_handed (local_of g b log)))) [
@@ -80,7 +80,7 @@ same_read : (ts c : ℕ) (v w : ℕ) → v ≡ ts → w ≡ c → ((v == ts) && 
 same_read ts c v w e f = both (v == ts) (w == c) (subst (λ x. (v == x) ≡ true) e (same_number v)) (subst (λ x. (w == x) ≡ true) f (same_number w))
 
 -- the READ of a verdict that was put
-pub verdict_asked : (g : Given) (d : DmNo) (log : Log) (k : ℕ) (ts c : ℕ) (m : Msg) (b : Site) → IsPermitted g log
+pub verdict_asked : (g : Input) (d : DmNo) (log : Log) (k : ℕ) (ts c : ℕ) (m : Msg) (b : Site) → IsPermitted g log
     → slice_get (puts_to b (local_of g (D d) log)) k ≡ Some m → is_verdict ts c m ≡ true
     → list_any (at_site (D d) (is_read ts c)) (sent (local_of g (home g.catalogue c) log)) ≡ true
 verdict_asked g d log k ts c m b h e f =
@@ -98,7 +98,7 @@ verdict_asked g d log k ts c m b h e f =
     subst (λ l. list_any (at_site (D d) (is_read ts c)) (sent l) ≡ true) (sym here)
     (sent_of_act (D d) (is_read ts c) x.0 o.act (local_of g at o.before) o.place w o.there (same_read ts c v.stamp.0 v.of.0 v.time_is v.class_is))
 
-pub answers_read : (g : Given) (d : DmNo) (log : Log) (ts c : ℕ) (m : Msg) (b : Site) → IsPermitted g log → b ≡ home g.catalogue c
+pub answers_read : (g : Input) (d : DmNo) (log : Log) (ts c : ℕ) (m : Msg) (b : Site) → IsPermitted g log → b ≡ home g.catalogue c
     → number_of (home g.catalogue c) ≤ 63 → slice_get (puts_to b (local_of g (D d) log)) (handed (D d) b log) ≡ Some m
     → is_verdict ts c m ≡ true → AnswersRead (local_of g b log) (D d) ts c
 answers_read g d log ts c m b h at small e f = record {

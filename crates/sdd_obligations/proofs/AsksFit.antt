@@ -1,5 +1,5 @@
 -- An ASK that is next to be handed over is for a class that the module runs.
-use Rattle.sdd_obligations.proofs.All.{Ask, Bool, Catalogue, Class, ClassNo, D, DmNo, Does, Given, IsAskBy, IsPermitted, IsRead, List, Log, Msg, Read, Setting, Some, T, TmNo, Ts, U, [], ap, arith, class_at, cond, contains, false, filter, head_put, home, home_of, length, local_of, map, numbers_to, or_left, or_right, permitted_before, put_in_by_d, puts_to, range_with_len, runs, same_number, setting_of, slice_get, slice_index_or, source_of, subst, suc, sym, tm_no, true, zero, ℕ, ◌+◌, ◌-◌, ◌<◌, ◌==◌, ◌∷◌, ◌≡◌, ◌≤◌}
+use Rattle.sdd_obligations.proofs.All.{Ask, Bool, Catalogue, Class, ClassNo, D, DmNo, Does, Input, IsAskBy, IsPermitted, IsRead, List, Log, Msg, Read, Setting, Some, T, TmNo, Ts, U, [], ap, arith, class_at, cond, contains, false, filter, head_put, home, home_of, length, local_of, map, numbers_to, or_left, or_right, permitted_before, put_in_by_d, puts_to, range_with_len, runs, same_number, setting_of, slice_get, slice_index_or, source_of, subst, suc, sym, tm_no, true, zero, ℕ, ◌+◌, ◌-◌, ◌<◌, ◌==◌, ◌∷◌, ◌≡◌, ◌≤◌}
 use Rattle.sdd_obligations.proofs.Conditions.{act_within, one_within}
 use Rattle.sdd_obligations.proofs.Sums.{range_at}
 
@@ -32,7 +32,7 @@ contains_kept f (x ∷ xs) (suc j) c e h =
       | false ↦ contains_kept f xs j c e h
     ]
 
-pub runs_it : (g : Given) (t : TmNo) (c : ℕ) → 1 ≤ c → c ≤ length g.catalogue.classes → (class_at g.catalogue c).tm.0 ≡ t.0
+pub runs_it : (g : Input) (t : TmNo) (c : ℕ) → 1 ≤ c → c ≤ length g.catalogue.classes → (class_at g.catalogue c).tm.0 ≡ t.0
     → contains (runs (setting_of g (T t))) c ≡ true
 runs_it g t c l m e =
     let n : 1 + (c - 1) ≡ c = omega (arith, l) in
@@ -42,7 +42,7 @@ runs_it g t c l m e =
     contains_kept (λ k. (class_at g.catalogue k).tm.0 == t.0) (numbers_to (length g.catalogue.classes))
     (c - 1) c there (subst (λ x. ((class_at g.catalogue c).tm.0 == x) ≡ true) e (same_number (class_at g.catalogue c).tm.0))
 
-pub asked_class : (g : Given) (d : DmNo) (t : TmNo) (log : Log) (n : ℕ) (k : ClassNo) (time : Ts) → IsPermitted g log
+pub asked_class : (g : Input) (d : DmNo) (t : TmNo) (log : Log) (n : ℕ) (k : ClassNo) (time : Ts) → IsPermitted g log
     → slice_get (puts_to (T t) (local_of g (D d) log)) n ≡ Some (Ask k time) → contains (runs (setting_of g (T t))) k.0 ≡ true
 asked_class g d t log n k time h e =
     let p = put_in_by_d g log d (T t) n (Ask k time) h e in
@@ -61,7 +61,7 @@ not_u : (s : Setting) (c : ℕ) → 1 ≤ c → c ≤ length s.catalogue.classes
 not_u s zero l m e = omega (arith, l)
 not_u s (suc i) l m e = u_source s.catalogue.classes i (omega (arith, m)) e
 
-pub asks_not_u : (g : Given) (d : DmNo) (log : Log) (n : ℕ) (k : ClassNo) (time : Ts) → IsPermitted g log
+pub asks_not_u : (g : Input) (d : DmNo) (log : Log) (n : ℕ) (k : ClassNo) (time : Ts) → IsPermitted g log
     → slice_get (puts_to U (local_of g (D d) log)) n ≡ Some (Ask k time) → ⊥
 asks_not_u g d log n k time h e =
     let p = put_in_by_d g log d U n (Ask k time) h e in

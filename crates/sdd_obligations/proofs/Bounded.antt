@@ -1,5 +1,5 @@
 -- Within the limits of a run no log is higher than the greatest height.
-use Rattle.sdd_obligations.proofs.All.{Act, AllFewTicks, D, Did, Does, Each, Entry, Given, Hand, Handed, IsFair, IsLawful, IsNumbered, IsPermitted, IsSmall, IsWithin, List, Log, MAX_LINK_MESSAGES, MAX_RUN_EVENTS, MAX_TICKS, Mark, Notes, Option, Records, Redeclared, Redeclares, Round, Site, Some, Start, Submits, Submitted, T, Ticked, U, [], all_new, ap, arith, dm_no, each_local, greatest_height, handed, hands, height, home_of, lawful_permitted, length, length-append, length-map, length-range_with_len, local_of, local_step, made, map, marks, most_classes, most_sites, mul-le-mul, mul-le-mul_right, own_act, range_with_len, refl, setting_of, sites, starts, starts_by, starts_more, submits, subst, suc, suc-mul, sym, t_fair, ticks_of, tm_no, trans_le, u_fair, view_of, with_made, ℕ, ◌*◌, ◌+◌, ◌<◌, ◌^◌, ◌∙◌, ◌∷◌, ◌≡◌, ◌≤◌}
+use Rattle.sdd_obligations.proofs.All.{Act, AllFewTicks, D, Did, Does, Each, Entry, Hand, Handed, Input, IsFair, IsLawful, IsNumbered, IsPermitted, IsSmall, IsWithin, List, Log, MAX_LINK_MESSAGES, MAX_RUN_EVENTS, MAX_TICKS, Mark, Notes, Option, Records, Redeclared, Redeclares, Round, Site, Some, Start, Submits, Submitted, T, Ticked, U, [], all_new, ap, arith, dm_no, each_local, greatest_height, handed, hands, height, home_of, lawful_permitted, length, length-append, length-map, length-range_with_len, local_of, local_step, made, map, marks, most_classes, most_sites, mul-le-mul, mul-le-mul_right, own_act, range_with_len, refl, setting_of, sites, starts, starts_by, starts_more, submits, subst, suc, suc-mul, sym, t_fair, ticks_of, tm_no, trans_le, u_fair, view_of, with_made, ℕ, ◌*◌, ◌+◌, ◌<◌, ◌^◌, ◌∙◌, ◌∷◌, ◌≡◌, ◌≤◌}
 use Rattle.sdd_obligations.proofs.Counting.{site_few}
 use Rattle.sdd_obligations.proofs.Limits.{handed_few, hands_few, marks_few, submits_few}
 use Rattle.sdd_obligations.proofs.NoStarts.{d_starts_not}
@@ -17,19 +17,19 @@ starts_rise : (o : Option site.Entry) (l : site.Log) → starts l ≤ starts (wi
 starts_rise (Some (Did act)) l = let e = act_starts act (starts l) in omega (arith, e)
 starts_rise _ l = omega arith
 
-starts_up : (g : Given) (e : Entry) (log : Log) (at : Site) → starts (local_of g at log) ≤ starts (local_of g at (e ∷ log))
+starts_up : (g : Input) (e : Entry) (log : Log) (at : Site) → starts (local_of g at log) ≤ starts (local_of g at (e ∷ log))
 starts_up g e log at = subst (λ l. starts (local_of g at log) ≤ starts l) (sym (local_step g at e log)) (starts_rise (made g at log e) (local_of g at log))
 
-abbrev all_sites : Given → List Site
+abbrev all_sites : Input → List Site
 all_sites g = sites g.catalogue.tms g.catalogue.dms
 
-abbrev all_starts : Given → Log → ℕ
+abbrev all_starts : Input → Log → ℕ
 all_starts g log = total (λ at. starts (local_of g at log)) (all_sites g)
 
-sum_up : (g : Given) (e : Entry) (log : Log) → all_starts g log ≤ all_starts g (e ∷ log)
+sum_up : (g : Input) (e : Entry) (log : Log) → all_starts g log ≤ all_starts g (e ∷ log)
 sum_up g e log = total_up (λ at. starts (local_of g at log)) (λ at. starts (local_of g at (e ∷ log))) (all_sites g) (starts_up g e log)
 
-sum_act : (g : Given) (at : Site) (act : Act) (log : Log) → IsThere (all_sites g) at → starts_by act + all_starts g log ≤ all_starts g (Does at act ∷ log)
+sum_act : (g : Input) (at : Site) (act : Act) (log : Log) → IsThere (all_sites g) at → starts_by act + all_starts g log ≤ all_starts g (Does at act ∷ log)
 sum_act g at act log k =
     let own : starts (local_of g at (Does at act ∷ log)) ≡ starts_by act + starts (local_of g at log) =
     ap starts (own_act g at act log) ∙ act_starts act (starts (local_of g at log)) in
@@ -48,7 +48,7 @@ later_sum m k h s more b c = let e = suc-mul m k in omega (arith, b, c, e)
 act_sum : (a m k h s more : ℕ) → h ≤ m * k + s → a + s ≤ more → a + h ≤ m * k + more
 act_sum a m k h s more b c = omega (arith, b, c)
 
-height_le : (g : Given) (log : Log) → AllFewTicks g.events → IsLawful g log → height log ≤ marks log * MAX_TICKS + all_starts g log
+height_le : (g : Input) (log : Log) → AllFewTicks g.events → IsLawful g log → height log ≤ marks log * MAX_TICKS + all_starts g log
 height_le g [] f l = omega arith
 height_le g (Mark e ∷ log) f l =
     mark_sum (ticks_of e) (marks log) MAX_TICKS (height log) (all_starts g log)
@@ -72,7 +72,7 @@ sites_count tms dms =
     let d = length-range_with_len 1 tms in let e = length-range_with_len 1 dms in
     omega (arith, a, b, c, d, e)
 
-few_sites : (g : Given) → IsSmall g → length (all_sites g) ≤ most_sites
+few_sites : (g : Input) → IsSmall g → length (all_sites g) ≤ most_sites
 few_sites g s = let e = sites_count g.catalogue.tms g.catalogue.dms in let a = s.few_tms in let b = s.few_dms in omega (arith, e, a, b)
 
 abbrev most_starts : ℕ
@@ -81,7 +81,7 @@ most_starts = most_classes * (MAX_RUN_EVENTS + most_sites * MAX_LINK_MESSAGES)
 sum_of : (x y m t u r v : ℕ) → x ≤ m → m ≤ r → y ≤ t → t ≤ u → u ≤ v → x + y ≤ r + v
 sum_of x y m t u r v a b c d e = omega (arith, a, b, c, d, e)
 
-came_few : (g : Given) (at : Site) (log : Log) → IsSmall g → IsLawful g log → IsPermitted g log → IsWithin log
+came_few : (g : Input) (at : Site) (log : Log) → IsSmall g → IsLawful g log → IsPermitted g log → IsWithin log
     → length (submits (local_of g at log)) + hands (local_of g at log) ≤ MAX_RUN_EVENTS + most_sites * MAX_LINK_MESSAGES
 came_few g at log s l p w =
     let a = submits_few g at log p in let b = marks_few log w in
@@ -90,7 +90,7 @@ came_few g at log s l p w =
     let e : length (all_sites g) * MAX_LINK_MESSAGES ≤ most_sites * MAX_LINK_MESSAGES = mul-le-mul_right MAX_LINK_MESSAGES (few_sites g s) in
     sum_of (length (submits (local_of g at log))) (hands (local_of g at log)) (marks log) _ _ MAX_RUN_EVENTS _ a b c d e
 
-of_classes : (g : Given) (at : Site) (log : Log) → IsSmall g → IsLawful g log → IsPermitted g log → IsWithin log → IsNumbered at
+of_classes : (g : Input) (at : Site) (log : Log) → IsSmall g → IsLawful g log → IsPermitted g log → IsWithin log → IsNumbered at
     → Each (IsFair (setting_of g at)) (local_of g at log) → starts (local_of g at log) ≤ most_starts
 of_classes g at log s l p w n f =
     let a = site_few (setting_of g at) (local_of g at log) n f (all_new g at log p) in
@@ -111,7 +111,7 @@ none_started [] h = refl
 none_started (Did act ∷ l) h = let i = none_started l h.1 in let e = act_starts act (starts l) in let z = h.0 in omega (arith, i, e, z)
 none_started (_ ∷ l) h = none_started l h.1
 
-site_bound : (g : Given) (at : Site) (log : Log) → IsSmall g → IsLawful g log → IsPermitted g log → IsWithin log
+site_bound : (g : Input) (at : Site) (log : Log) → IsSmall g → IsLawful g log → IsPermitted g log → IsWithin log
     → IsThere (all_sites g) at → starts (local_of g at log) ≤ most_starts
 site_bound g U log s l p w k = of_classes g U log s l p w tt (u_fair g log p)
 site_bound g (T t) log s l p w k = of_classes g (T t) log s l p w (t_of_sites g.catalogue.tms g.catalogue.dms t k).0 (t_fair g t log p)
@@ -128,7 +128,7 @@ site_bound g (D d) log s l p w k =
 last_of : (h x y u r v : ℕ) → h ≤ x + y → x ≤ r → y ≤ u → u ≤ v → h ≤ r + v
 last_of h x y u r v a b c d = omega (arith, a, b, c, d)
 
-pub height_few : (g : Given) (log : Log) → IsSmall g → IsLawful g log → IsWithin log → height log ≤ greatest_height
+pub height_few : (g : Input) (log : Log) → IsSmall g → IsLawful g log → IsWithin log → height log ≤ greatest_height
 height_few g log s l w =
     let p = lawful_permitted g log s.once l in
     let a = height_le g log s.few_ticks l in

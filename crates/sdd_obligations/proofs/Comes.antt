@@ -1,5 +1,5 @@
 -- A question that is next to be handed over is for rows that its data module holds.
-use Rattle.sdd_obligations.proofs.All.{AreFor, Asks, Bool, D, DmNo, Fetch, FitsShip, Frozen, Given, Hand, HaveUse, IsAllowed, IsOfUses, IsPermitted, IsServable, List, MayAsk, Msg, None, Option, Reduce, Replies, Ship, Silent, Site, Some, Told, Turn, [], active, answers, ap, arith, asks_rows, contains, false, flight, frozen, hand_was_put, handed, home, if◌then◌else◌, is_a_read, is_a_ship, is_answer, is_exchanging, is_question, local_of, not, number_of, questions, refl, setting_of, subst, sym, told, true, turn_at, turn_with, uses_held, ℕ, ◌∙◌, ◌∷◌, ◌≡◌, ◌≤◌}
+use Rattle.sdd_obligations.proofs.All.{AreFor, Asks, Bool, D, DmNo, Fetch, FitsShip, Frozen, Hand, HaveUse, Input, IsAllowed, IsOfUses, IsPermitted, IsServable, List, MayAsk, Msg, None, Option, Reduce, Replies, Ship, Silent, Site, Some, Told, Turn, [], active, answers, ap, arith, asks_rows, contains, false, flight, frozen, hand_was_put, handed, home, if◌then◌else◌, is_a_read, is_a_ship, is_answer, is_exchanging, is_question, local_of, not, number_of, questions, refl, setting_of, subst, sym, told, true, turn_at, turn_with, uses_held, ℕ, ◌∙◌, ◌∷◌, ◌≡◌, ◌≤◌}
 use Rattle.sdd_obligations.proofs.Hearing.{answers_asked}
 use Rattle.sdd_obligations.proofs.Flights.{first_in_flight}
 use Rattle.sdd_obligations.proofs.Replying.{asks_question, asks_no_a_read as asks_no_read}
@@ -34,13 +34,13 @@ held_use : (ts u : ℕ) (ns : List ℕ) (f : Option Frozen) → AreHeldFor ts ns
 held_use ts u ns None h e = h
 held_use ts u ns (Some f) h e = subst (λ l. contains l u ≡ true) (sym h.1) e
 
-record IsForHeld (g : Given) (log : all.Log) (a : Site) (d : DmNo) (ts c : ℕ) (m : Msg) : Type 0 where
+record IsForHeld (g : Input) (log : all.Log) (a : Site) (d : DmNo) (ts c : ℕ) (m : Msg) : Type 0 where
   ship : FitsShip (setting_of g (D d)) (local_of g (D d) log) a c ts
   uses : List ℕ
   held : AreHeldFor ts uses (frozen (setting_of g (D d)) c (local_of g (D d) log))
   named : IsOfUses uses m
 
-for_held : (g : Given) (log : all.Log) (a : Site) (d : DmNo) (n : ℕ) (m : Msg) (ts c : ℕ) → IsPermitted g log → ((c : ℕ) → number_of (home g.catalogue c) ≤ 63)
+for_held : (g : Input) (log : all.Log) (a : Site) (d : DmNo) (n : ℕ) (m : Msg) (ts c : ℕ) → IsPermitted g log → ((c : ℕ) → number_of (home g.catalogue c) ≤ 63)
     → IsAllowed g log (Hand a (D d) n m) → asks_rows ts c m ≡ true → IsForHeld g log a d ts c m
 for_held g log a d n m ts c h few i e =
     let q : is_question ts c m ≡ true = asks_question ts c m e in
@@ -71,7 +71,7 @@ for_held g log a d n m ts c h few i e =
     }
 
 -- a FETCH, REDUCE or SHIP that is next to be handed over is for rows that its data module holds
-pub questions_are_servable : (g : Given) (log : all.Log) (a : Site) (d : DmNo) (n : ℕ) (m : Msg) → IsPermitted g (Hand a (D d) n m ∷ log)
+pub questions_are_servable : (g : Input) (log : all.Log) (a : Site) (d : DmNo) (n : ℕ) (m : Msg) → IsPermitted g (Hand a (D d) n m ∷ log)
     → ((c : ℕ) → number_of (home g.catalogue c) ≤ 63) → IsServable (setting_of g (D d)) (local_of g (D d) log) a m
 questions_are_servable g log a d n (Fetch t k u col) h few =
     let r = for_held g log a d n (Fetch t k u col) t.0 k.0 h.1 few h.0 (own t k) in
@@ -83,7 +83,7 @@ questions_are_servable g log a d n (Ship t k) h few = (for_held g log a d n (Shi
 questions_are_servable g log a d n m h few = tt
 
 -- a question that is next to be handed over is the one of its site's turn
-pub question_stands : (g : Given) (c : ℕ) (log : all.Log) (d : DmNo) (n : ℕ) (m : Msg) (ts : ℕ) → IsPermitted g log → number_of (home g.catalogue c) ≤ 63
+pub question_stands : (g : Input) (c : ℕ) (log : all.Log) (d : DmNo) (n : ℕ) (m : Msg) (ts : ℕ) → IsPermitted g log → number_of (home g.catalogue c) ≤ 63
     → IsAllowed g log (Hand (home g.catalogue c) (D d) n m) → is_question ts c m ≡ true → (ns : List ℕ) × (turn_at ts c d.0 (home_log g c log) ≡ Asks ns m)
 question_stands g c log d n m ts h few i q =
     let f = first_in_flight g log (home g.catalogue c) (D d) n m i in (
@@ -93,7 +93,7 @@ question_stands g c log d n m ts h few i q =
     )
 
 -- an answer that is next to be handed over answers the question of its site's turn, and is the last of its module
-pub record IsStanding (g : Given) (c : ℕ) (log : all.Log) (d : DmNo) (x : Msg) (ts : ℕ) : Type 0 where
+pub record IsStanding (g : Input) (c : ℕ) (log : all.Log) (d : DmNo) (x : Msg) (ts : ℕ) : Type 0 where
   pub uses : List ℕ
   pub question : Msg
   pub asks : turn_at ts c d.0 (home_log g c log) ≡ Asks uses question
@@ -101,7 +101,7 @@ pub record IsStanding (g : Given) (c : ℕ) (log : all.Log) (d : DmNo) (x : Msg)
   pub tells : turn_with ts c (home g.catalogue c) (data_log g d.0 log) ≡ told x (Asks uses question)
   pub alone : answers ts c (flight g (D d) (home g.catalogue c) log) ≡ x ∷ []
 
-pub answer_stands : (g : Given) (c : ℕ) (log : all.Log) (d : DmNo) (n : ℕ) (x : Msg) (ts : ℕ) → IsPermitted g log → number_of (home g.catalogue c) ≤ 63
+pub answer_stands : (g : Input) (c : ℕ) (log : all.Log) (d : DmNo) (n : ℕ) (x : Msg) (ts : ℕ) → IsPermitted g log → number_of (home g.catalogue c) ≤ 63
     → IsAllowed g log (Hand (D d) (home g.catalogue c) n x) → is_answer ts c x ≡ true → IsStanding g c log d x ts
 answer_stands g c log d n x ts h few i a =
     let k = spoken g c log h few in

@@ -1,5 +1,5 @@
 -- The database of an attempt's snapshots has the copies that its modules had at their Answers.
-use Rattle.sdd_obligations.proofs.All.{Act, Answer, ArePlaced, AreThere, Attempt, Catalogue, Change, Contains, Contains-range, D, Database, Dated, DmNo, Does, FitsGiven, FragNo, Given, Has, Has-filter_map, Has-filter_map_from, Has-flat_map, Has-flat_map_from, Has-map, Has-map_from, HasAnswer, HasCopies, HasEras, IsChange, IsItemChange, IsPermitted, IsPiece, IsPlaced, IsSound, IsUsed, Item, List, Log, Msg, None, Option, Read, Records, Row, Setting, Some, Txn, Use, active, answered_all, ap, arith, ascending, base_of, before_answer, contains, copies_read, dated, dm_no, each_has, each_of, entry_placed, false, filter_map, flat_map, fragment_at, fragment_of, fragments_in, frags_asked, has_copies, head, home, home_of, if◌then◌else◌, inl, inr, is_at, is_over, is_read_at, is_some, items_of, length, local_grows, local_of, map, modules_asked, modules_of, numbers_to, of_has, option_eq, own_act, pipe, reads_at, recursion_from_All, refl, same_number, served_read, setting_of, snapshots_at, some_copy, subst, sym, there_is, to_has, true, use_part, use_there, uses_of, uses_there, ℕ, ◌++◌, ◌==◌, ◌∙◌, ◌∷◌, ◌≡◌, ◌≤◌}
+use Rattle.sdd_obligations.proofs.All.{Act, Answer, ArePlaced, AreThere, Attempt, Catalogue, Change, Contains, Contains-range, D, Database, Dated, DmNo, Does, FitsInput, FragNo, Has, Has-filter_map, Has-filter_map_from, Has-flat_map, Has-flat_map_from, Has-map, Has-map_from, HasAnswer, HasCopies, HasEras, Input, IsChange, IsItemChange, IsPermitted, IsPiece, IsPlaced, IsSound, IsUsed, Item, List, Log, Msg, None, Option, Read, Records, Row, Setting, Some, Txn, Use, active, answered_all, ap, arith, ascending, base_of, before_answer, contains, copies_read, dated, dm_no, each_has, each_of, entry_placed, false, filter_map, flat_map, fragment_at, fragment_of, fragments_in, frags_asked, has_copies, head, home, home_of, if◌then◌else◌, inl, inr, is_at, is_over, is_read_at, is_some, items_of, length, local_grows, local_of, map, modules_asked, modules_of, numbers_to, of_has, option_eq, own_act, pipe, reads_at, recursion_from_All, refl, same_number, served_read, setting_of, snapshots_at, some_copy, subst, sym, there_is, to_has, true, use_part, use_there, uses_of, uses_there, ℕ, ◌++◌, ◌==◌, ◌∙◌, ◌∷◌, ◌≡◌, ◌≤◌}
 use Rattle.sdd_obligations.proofs.EffectsHeld.{HandFits, all_items}
 use Rattle.sdd_obligations.proofs.Put.{acts_fit, databases, hands_fit}
 use Rattle.sdd_obligations.proofs.ShippedAnswered.{answer_to, uses_at_head}
@@ -96,7 +96,7 @@ item_placed cat sound c h =
     ap (λ r. fragment_of cat r c.key) (ap (λ n. (fragment_at cat n).rel.0) is.frag ∙ entry_placed cat sound is.rel c.key is.there is.held) ∙ sym is.frag
 
 -- an Answer of the attempt, in the log of its module
-answer_at : (g : Given) (log : Log) (d : DmNo) (c : ℕ) (a : Attempt) → HasAnswer g log d c a → IsAnswerAt a.ts (local_of g (D d) log)
+answer_at : (g : Input) (log : Log) (d : DmNo) (c : ℕ) (a : Attempt) → HasAnswer g log d c a → IsAnswerAt a.ts (local_of g (D d) log)
 answer_at g log d c a h =
     let act : Act = Records c (Answer h.txn h.attempt (home_of (setting_of g (D d))).dm) h.sends in
     let x = local_grows g (D d) h.later (Does (D d) act ∷ h.before) in
@@ -112,7 +112,7 @@ answer_at g log d c a h =
       at = subst (λ o. is_at a.ts o ≡ true) (sym h.head_is) (ap (λ t. t == a.ts) h.ts_is ∙ same_number a.ts);
     }
 
-module _ (g : Given) (good : FitsGiven g) (eras : HasEras g) (c : ℕ) (log : Log) (a : Attempt) (h : IsPermitted g log)
+module _ (g : Input) (good : FitsInput g) (eras : HasEras g) (c : ℕ) (log : Log) (a : Attempt) (h : IsPermitted g log)
     (is : active (setting_of g (home g.catalogue c)) c (local_of g (home g.catalogue c) log) ≡ Some a) (over : is_over a.exchange.phase ≡ true) where
   abbrev cat : Catalogue
   cat = g.catalogue

@@ -1,5 +1,5 @@
 -- The class of an active attempt covers its transaction, whatever list of classes was in force.
-use Rattle.sdd_obligations.proofs.All.{Attempt, Catalogue, Did, Each, Given, Handed, HasEras, IsCovered, IsEraOf, IsPermitted, Redeclared, Setting, Site, Some, Submits, Ticked, Txn, [], active, all_new, arith, class_for, covered, covered_in_era, each_local, eqb-true, era_of_itself, home, home_fair, in_force, inl, inr, is_for, length, local_of, only_right, same_or_not, setting_of, some_class, sym, true, ℕ, ◌==◌, ◌∷◌, ◌≡◌, ◌≤◌, ◌⊎◌}
+use Rattle.sdd_obligations.proofs.All.{Attempt, Catalogue, Did, Each, Handed, HasEras, Input, IsCovered, IsEraOf, IsPermitted, Redeclared, Setting, Site, Some, Submits, Ticked, Txn, [], active, all_new, arith, class_for, covered, covered_in_era, each_local, eqb-true, era_of_itself, home, home_fair, in_force, inl, inr, is_for, length, local_of, only_right, same_or_not, setting_of, some_class, sym, true, ℕ, ◌==◌, ◌∷◌, ◌≡◌, ◌≤◌, ◌⊎◌}
 use Rattle.sdd_obligations.proofs.Texts.{SubmitHas, active_so}
 use Rattle.sdd_invariants.specs.site_module.SiteLog.{Entry, Log}
 use Rattle.sdd_invariants.specs.logs.Entries as whole
@@ -12,7 +12,7 @@ ForceIs cat log (Submits n txn) = Unit {0}
 ForceIs cat log (Redeclared force t) = IsEraOf cat force.catalogue
 ForceIs cat log (Did act) = Unit {0}
 
-forces_are : (g : Given) → HasEras g → (at : Site) (log : whole.Log) → IsPermitted g log → Each (ForceIs g.catalogue) (local_of g at log)
+forces_are : (g : Input) → HasEras g → (at : Site) (log : whole.Log) → IsPermitted g log → Each (ForceIs g.catalogue) (local_of g at log)
 forces_are g eras at = each_local g at (ForceIs g.catalogue) (record {
   handed = λ log p from n m a i. tt;
   ticked = λ log p n i. tt;
@@ -37,7 +37,7 @@ covers_for cat era of c txn e = elim (same_or_not c 0) [
       (covered era txn c (sym (eqb-true (class_for era txn) c (only_right (c == 0) (class_for era txn == c) n e))) (some_class c n)))
 ]
 
-submitted_covered : (g : Given) → HasEras g → (at : Site) (c : ℕ) (log : whole.Log) → IsPermitted g log
+submitted_covered : (g : Input) → HasEras g → (at : Site) (c : ℕ) (log : whole.Log) → IsPermitted g log
     → Each (SubmitHas (Covers g.catalogue c) (setting_of g at) c) (local_of g at log)
 submitted_covered g eras at c = each_local g at (SubmitHas (Covers g.catalogue c) (setting_of g at) c) (record {
   handed = λ log p from n m a i. tt;
@@ -48,7 +48,7 @@ submitted_covered g eras at c = each_local g at (SubmitHas (Covers g.catalogue c
   did = λ log act p due i. tt;
 })
 
-pub attempt_covered : (g : Given) → HasEras g → (c : ℕ) (log : whole.Log) (a : Attempt)
+pub attempt_covered : (g : Input) → HasEras g → (c : ℕ) (log : whole.Log) (a : Attempt)
     → IsPermitted g log → active (setting_of g (home g.catalogue c)) c
     (local_of g (home g.catalogue c) log) ≡ Some a → Covers g.catalogue c a.text
 attempt_covered g eras c log a h e =

@@ -1,5 +1,5 @@
 -- What is done of the events, as a lawful log tells it: which modules are down then, and how many lists were put in force.
-use Rattle.sdd_obligations.proofs.All.{AllFewTicks, AtEach, Bool, Deliver, Down, Event, Given, IsLawful, List, Log, Lose, Mark, Redeclare, Redeclares, Repeat, Resend, Round, Settle, Some, Submit, Tick, TurnsNone, Up, [], after_mark, all_links, ap, append_assoc, arith, calls_of, down_from, each_of_round, false, from_event, is_down, is_down_after, left, mark_from, mark_is_next, mark_of, quiet, redeclares, redeclares_in, refl, round, subst, suc, sym, tail_of, true, turned_by, ℕ, ◌++◌, ◌+◌, ◌∙◌, ◌∷◌, ◌≡◌}
+use Rattle.sdd_obligations.proofs.All.{AllFewTicks, AtEach, Bool, Deliver, Down, Event, Input, IsLawful, List, Log, Lose, Mark, Redeclare, Redeclares, Repeat, Resend, Round, Settle, Some, Submit, Tick, TurnsNone, Up, [], after_mark, all_links, ap, append_assoc, arith, calls_of, down_from, each_of_round, false, from_event, is_down, is_down_after, left, mark_from, mark_is_next, mark_of, quiet, redeclares, redeclares_in, refl, round, subst, suc, sym, tail_of, true, turned_by, ℕ, ◌++◌, ◌+◌, ◌∙◌, ◌∷◌, ◌≡◌}
 use Rattle.sdd_obligations.proofs.OfNext.{of_next}
 
 -- parts of lists of events
@@ -50,7 +50,7 @@ by_mark : (ws : List Event) (x e : Event) → Some (Mark x) ≡ Some (Mark e) �
     → IsSplit ws e × (redeclares_in (e ∷ []) ≡ 0)
 by_mark ws x e h n s = let p : x ≡ e = cc in (subst (IsSplit ws) p s, subst (λ y. redeclares_in (y ∷ []) ≡ 0) p n)
 
-marked_first : (g : Given) (log : Log) (q : Bool) (r ws : List Event) (e : Event) → mark_from g log q r ws ≡ Some (Mark e)
+marked_first : (g : Input) (log : Log) (q : Bool) (r ws : List Event) (e : Event) → mark_from g log q r ws ≡ Some (Mark e)
     → IsSplit ws e × (redeclares_in (e ∷ []) ≡ 0)
 marked_first g log true r (Settle ∷ ws) e h = let i = marked_first g log true r ws e h in (behind_settle e ws i.0, i.1)
 marked_first g log q r (Submit n ∷ ws) e h = by_mark (Submit n ∷ ws) (Submit n) e h refl (at_once (Submit n) ws refl)
@@ -63,20 +63,20 @@ marked_first g log q r (Down d ∷ ws) e h = by_mark (Down d ∷ ws) (Down d) e 
 marked_first g log q r (Up d ∷ ws) e h = by_mark (Up d ∷ ws) (Up d) e h refl (at_once (Up d) ws refl)
 marked_first g log _ r _ e h = absurd (cc)
 
-pub listed_first : (g : Given) (log : Log) (q : Bool) (r ws : List Event) (t : ℕ) → mark_from g log q r ws ≡ Some (Redeclares t) → IsSplit ws Redeclare
+pub listed_first : (g : Input) (log : Log) (q : Bool) (r ws : List Event) (t : ℕ) → mark_from g log q r ws ≡ Some (Redeclares t) → IsSplit ws Redeclare
 listed_first g log true r (Settle ∷ ws) t h = behind_settle Redeclare ws (listed_first g log true r ws t h)
 listed_first g log q r (Redeclare ∷ ws) t h = at_once Redeclare ws refl
 listed_first g log _ r _ t h = absurd (cc)
 
 -- what is done
 
-pub record IsDoneAs (g : Given) (down : ℕ → Bool) (lists : ℕ) (rest : List Event) : Type 0 where
+pub record IsDoneAs (g : Input) (down : ℕ → Bool) (lists : ℕ) (rest : List Event) : Type 0 where
   pub front : List Event
   pub is : g.events ≡ front ++ rest
   pub downs : (d : ℕ) → down d ≡ is_down_after d front
   pub lists_are : lists ≡ redeclares_in front
 
-one_more : (g : Given) (down : ℕ → Bool) (lists more total : ℕ) (ws : List Event) (e : Event) (s : IsSplit ws e) → IsDoneAs g down lists ws
+one_more : (g : Input) (down : ℕ → Bool) (lists more total : ℕ) (ws : List Event) (e : Event) (s : IsSplit ws e) → IsDoneAs g down lists ws
     → more ≡ redeclares_in (e ∷ []) → total ≡ more + lists → IsDoneAs g (λ d. turned_by d e (down d)) total s.rest
 one_more g down lists more total ws e s i n sum =
     let front : List Event = (i.front ++ s.skip) ++ e ∷ [] in
@@ -101,10 +101,10 @@ turned_same d (Down m) b h = absurd h
 turned_same d (Up m) b h = absurd h
 turned_same d _ b h = refl
 
-abbrev pub AreDone : Given → (ℕ → Bool) → ℕ → List Event × List Event → Type 0
+abbrev pub AreDone : Input → (ℕ → Bool) → ℕ → List Event × List Event → Type 0
 AreDone g down lists s = AtEach TurnsNone s.1 × IsDoneAs g down lists s.0
 
-mark_done : (g : Given) (log : Log) (e : Event) (s : List Event × List Event) → mark_of g log s ≡ Some (Mark e)
+mark_done : (g : Input) (log : Log) (e : Event) (s : List Event × List Event) → mark_of g log s ≡ Some (Mark e)
     → AreDone g (λ d. is_down d log) (redeclares log) s → AreDone g (λ d. turned_by d e (is_down d log)) (redeclares log) (after_mark s)
 mark_done g log e (ws, []) m i =
     let f = marked_first g log (quiet (all_links g) (calls_of log)) (round (all_links g) (calls_of log)) ws e m in (
@@ -123,7 +123,7 @@ mark_done g log e (ws, x ∷ r) m i =
       },
     )
 
-list_done : (g : Given) (log : Log) (t : ℕ) (s : List Event × List Event) → mark_of g log s ≡ Some (Redeclares t)
+list_done : (g : Input) (log : Log) (t : ℕ) (s : List Event × List Event) → mark_of g log s ≡ Some (Redeclares t)
     → AreDone g (λ d. is_down d log) (redeclares log) s → AreDone g (λ d. is_down d log) (suc (redeclares log)) (after_mark s)
 list_done g log t (ws, []) m i =
     let f = listed_first g log (quiet (all_links g) (calls_of log)) (round (all_links g) (calls_of log)) ws t m in (
@@ -133,7 +133,7 @@ list_done g log t (ws, []) m i =
     )
 list_done g log t (ws, x ∷ r) m i = absurd (cc)
 
-pub done : (g : Given) (log : Log) → AllFewTicks g.events → IsLawful g log → AreDone g (λ d. is_down d log) (redeclares log) (left g.events log)
+pub done : (g : Input) (log : Log) → AllFewTicks g.events → IsLawful g log → AreDone g (λ d. is_down d log) (redeclares log) (left g.events log)
 done g [] few h = (tt, record { front = []; is = refl; downs = λ d. refl; lists_are = refl })
 done g (Mark e ∷ log) few h = mark_done g log e (left g.events log) (mark_is_next g log (Mark e) refl h.0) (done g log few h.1)
 done g (Redeclares t ∷ log) few h = list_done g log t (left g.events log) (mark_is_next g log (Redeclares t) refl h.0) (done g log few h.1)
@@ -143,7 +143,7 @@ done g (Round es ∷ log) few h =
 done g (_ ∷ log) few h = done g log few h.1
 
 -- what is done of the lists, and what is left, is what was given
-pub redeclares_left : (g : Given) (log : Log) → AllFewTicks g.events → IsLawful g log
+pub redeclares_left : (g : Input) (log : Log) → AllFewTicks g.events → IsLawful g log
     → redeclares log + redeclares_in (left g.events log).0 ≡ redeclares_in g.events
 redeclares_left g log few h =
     let rest : List Event = (left g.events log).0 in

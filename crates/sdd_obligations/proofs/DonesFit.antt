@@ -1,5 +1,5 @@
 -- A DONE that is next to be handed over answers the last Commit of U, and is the first of its module.
-use Rattle.sdd_obligations.proofs.All.{Act, Attempt, Bases, Bool, Commit, D, Did, DmNo, Does, Done, Each, FitsDone, Given, Hand, Handed, IsDoneBy, IsFair, IsFairU, IsPermitted, IsStepU, List, Log, Msg, NoRecord, Option, Queued, Records, Redeclared, Served, Setting, Some, Submits, Ticked, Ts, U, Write, [], active, ap, append_assoc, arith, class_number, commit_act, compare, dones_few, dones_of, each_at, false, hand_ts, handed, head_put, inl, inr, is_done, is_done_of, is_recorded, last_served, local_grows, local_of, next_stamp, numbers_to, one_if, own_act, permitted_before, place_of_act, put_in_by_d, put_once, puts_to, refl, same_number, served_acted, setting_of, slice_get, start_at, start_of_active, start_u, subst, sym, tally, true, true_or_false, ts_of, u_due, u_fair, u_table, u_way, write_origin, zero_pair, ℕ, ◌++◌, ◌+◌, ◌<◌, ◌∙◌, ◌∷◌, ◌≡◌, ◌≤◌, ◌⊎◌}
+use Rattle.sdd_obligations.proofs.All.{Act, Attempt, Bases, Bool, Commit, D, Did, DmNo, Does, Done, Each, FitsDone, Hand, Handed, Input, IsDoneBy, IsFair, IsFairU, IsPermitted, IsStepU, List, Log, Msg, NoRecord, Option, Queued, Records, Redeclared, Served, Setting, Some, Submits, Ticked, Ts, U, Write, [], active, ap, append_assoc, arith, class_number, commit_act, compare, dones_few, dones_of, each_at, false, hand_ts, handed, head_put, inl, inr, is_done, is_done_of, is_recorded, last_served, local_grows, local_of, next_stamp, numbers_to, one_if, own_act, permitted_before, place_of_act, put_in_by_d, put_once, puts_to, refl, same_number, served_acted, setting_of, slice_get, start_at, start_of_active, start_u, subst, sym, tally, true, true_or_false, ts_of, u_due, u_fair, u_table, u_way, write_origin, zero_pair, ℕ, ◌++◌, ◌+◌, ◌<◌, ◌∙◌, ◌∷◌, ◌≡◌, ◌≤◌, ◌⊎◌}
 use Rattle.sdd_obligations.proofs.Answering.{none_before}
 use Rattle.sdd_invariants.specs.site_module.SiteLog.{Entry}
 use Rattle.sdd_invariants.specs.site_module.SiteLog as site
@@ -104,7 +104,7 @@ dones_up x (Handed from m ∷ later) l = let i = dones_up x later l in omega (ar
 dones_up x (_ ∷ later) l = dones_up x later l
 
 -- at such a Start every module's DONE for the Commit before it was handed
-all_done : (g : Given) (k t : ℕ) (log : Log) (y : Act) (b : site.Log) (a : Attempt) → slice_get (numbers_to g.catalogue.tms) k ≡ Some t
+all_done : (g : Input) (k t : ℕ) (log : Log) (y : Act) (b : site.Log) (a : Attempt) → slice_get (numbers_to g.catalogue.tms) k ≡ Some t
     → IsPermitted g log → HasStartIn (setting_of g U) y b (local_of g U log) → Each (IsFair (setting_of g U)) b
     → active (setting_of g U) 0 b ≡ Some a → g.catalogue.dms ≤ dones_of a.ts (local_of g U log)
 all_done g k t log y b a i h w fair e =
@@ -132,7 +132,7 @@ all_done g k t log y b a i h w fair e =
     omega (arith, got, up)
 
 -- so no other Commit stands behind that of a DONE that is still to come
-commit_last : (g : Given) (k t : ℕ) (log : Log) (bases : Bases) (a : Attempt) (x b : site.Log) → slice_get (numbers_to g.catalogue.tms) k ≡ Some t
+commit_last : (g : Input) (k t : ℕ) (log : Log) (bases : Bases) (a : Attempt) (x b : site.Log) → slice_get (numbers_to g.catalogue.tms) k ≡ Some t
     → IsPermitted g log → local_of g U log ≡ x ++ Did (commit_act g.catalogue bases 0 a) ∷ b → active (setting_of g U) 0 b ≡ Some a
     → dones_of a.ts (local_of g U log) < g.catalogue.dms → (last_served (setting_of g U) (local_of g U log)).ts ≡ a.ts
 commit_last g k t log bases a x b i h e act less =
@@ -161,7 +161,7 @@ commit_last g k t log bases a x b i h e act less =
           absurd (omega (arith, d, less)))
     ]
 
-pub done_fits : (g : Given) (k t : ℕ) (log : Log) (d : DmNo) (n : ℕ) (ts : Ts) → slice_get (numbers_to g.catalogue.tms) k ≡ Some t
+pub done_fits : (g : Input) (k t : ℕ) (log : Log) (d : DmNo) (n : ℕ) (ts : Ts) → slice_get (numbers_to g.catalogue.tms) k ≡ Some t
     → IsPermitted g (Hand (D d) U n (Done ts) ∷ log) → slice_get (puts_to U (local_of g (D d) log)) (handed (D d) U log) ≡ Some (Done ts)
     → FitsDone (setting_of g U) (local_of g U log) (D d) ts.0
 done_fits g k t log d n ts i h e =

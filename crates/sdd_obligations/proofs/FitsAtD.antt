@@ -1,11 +1,11 @@
 -- What is next to be handed to a data module fits there.
-use Rattle.sdd_obligations.proofs.All.{Bases, D, DmNo, Done, Each, Fetch, Given, Hand, Held, IsFair, IsLawful, IsPermitted, IsRunner, IsSmall, IsUpheldD, Log, Msg, Null, Read, Reduce, Ship, Site, Some, T, U, Write, fits, handed, local_of, next, refl, setting_of, t_fair, u_fair, ℕ, ◌≡◌}
+use Rattle.sdd_obligations.proofs.All.{Bases, D, DmNo, Done, Each, Fetch, Hand, Held, Input, IsFair, IsLawful, IsPermitted, IsRunner, IsSmall, IsUpheldD, Log, Msg, Null, Read, Reduce, Ship, Site, Some, T, U, Write, fits, handed, local_of, next, refl, setting_of, t_fair, u_fair, ℕ, ◌≡◌}
 use Rattle.sdd_obligations.proofs.Conditions.{conds_fit, late, read_within}
 use Rattle.sdd_obligations.proofs.Fresh.{is_above, is_fresh}
 use Rattle.sdd_obligations.proofs.Handing.{IsHanded}
 use Rattle.sdd_obligations.proofs.Piping.{pipe_fits}
 
-pub fair_of : (g : Given) (a : Site) (log : Log) → IsPermitted g log → IsRunner a → Each (IsFair (setting_of g a)) (local_of g a log)
+pub fair_of : (g : Input) (a : Site) (log : Log) → IsPermitted g log → IsRunner a → Each (IsFair (setting_of g a)) (local_of g a log)
 fair_of g U log h r = u_fair g log h
 fair_of g (T t) log h r = t_fair g t log h
 fair_of g (D d) log h r = absurd r
@@ -13,7 +13,7 @@ fair_of g (D d) log h r = absurd r
 no_u : {A : Type 0} (d : DmNo) → D d ≡ U → A
 no_u d e = cc
 
-pub d_fits : (g : Given) (log : Log) (a : Site) (d : DmNo) (n : ℕ) (m : Msg) (bases : Bases) → IsSmall g → IsLawful g log
+pub d_fits : (g : Input) (log : Log) (a : Site) (d : DmNo) (n : ℕ) (m : Msg) (bases : Bases) → IsSmall g → IsLawful g log
     → next g log ≡ Some (Hand a (D d) n m) → IsHanded g log a (D d) n m
     → IsUpheldD (setting_of g (D d)) (local_of g (D d) log) a m → fits (setting_of g (D d)) bases (local_of g (D d) log) a m
 d_fits g log a d n (Read ts class txn attempt conds uses) bases s l e h u = record {

@@ -1,5 +1,5 @@
 -- What is next to be handed to a transaction module, or to U, fits there.
-use Rattle.sdd_obligations.proofs.All.{AnswersRead, Ask, Bases, ClassNo, D, DmNo, Done, Given, Hand, Held, Hold, IsD, IsPermitted, IsSmall, IsT, IsUpheldR, IsWhole, Log, Msg, Ready, Reduced, Reject, Release, Rows, Site, T, TmNo, Ts, U, Values, arith, both, handed, is_verdict, local_of, number_of, same_number, setting_of, subst, sym, true, ℕ, ◌&&◌, ◌-◌, ◌==◌, ◌∷◌, ◌≡◌, ◌≤◌}
+use Rattle.sdd_obligations.proofs.All.{AnswersRead, Ask, Bases, ClassNo, D, DmNo, Done, Hand, Held, Hold, Input, IsD, IsPermitted, IsSmall, IsT, IsUpheldR, IsWhole, Log, Msg, Ready, Reduced, Reject, Release, Rows, Site, T, TmNo, Ts, U, Values, arith, both, handed, is_verdict, local_of, number_of, same_number, setting_of, subst, sym, true, ℕ, ◌&&◌, ◌-◌, ◌==◌, ◌∷◌, ◌≡◌, ◌≤◌}
 use Rattle.sdd_obligations.proofs.OfNext.{d_of_sites, t_of_sites}
 use Rattle.sdd_obligations.proofs.Answering.{answers_read}
 use Rattle.sdd_obligations.proofs.AsksFit.{asked_class, asks_not_u}
@@ -13,7 +13,7 @@ use Rattle.sdd_invariants.specs.umod.Fits as um
 
 -- a READY or REJECT from a data module
 
-answers_at : (g : Given) (log : Log) (d : DmNo) (b : Site) (n ts c : ℕ) (m : Msg) → IsHanded g log (D d) b n m → number_of b ≤ 63
+answers_at : (g : Input) (log : Log) (d : DmNo) (b : Site) (n ts c : ℕ) (m : Msg) → IsHanded g log (D d) b n m → number_of b ≤ 63
     → is_verdict ts c m ≡ true → AnswersRead (local_of g b log) (D d) ts c
 answers_at g log d b n ts c m h small e =
     let at = verdict_home g d log (handed (D d) b log) m b ts c h.permitted.1 h.place e in
@@ -22,7 +22,7 @@ answers_at g log d b n ts c m h small e =
 pub own : (ts c : ℕ) → ((ts == ts) && (c == c)) ≡ true
 own ts c = both (ts == ts) (c == c) (same_number ts) (same_number c)
 
-tm_small : (g : Given) (log : Log) (a : Site) (t : TmNo) (n : ℕ) (m : Msg) → IsSmall g → IsHanded g log a (T t) n m → number_of (T t) ≤ 63
+tm_small : (g : Input) (log : Log) (a : Site) (t : TmNo) (n : ℕ) (m : Msg) → IsSmall g → IsHanded g log a (T t) n m → number_of (T t) ≤ 63
 tm_small g log a t n m s h = let r = t_of_sites g.catalogue.tms g.catalogue.dms t h.to_there in let k = s.few_tms in omega (arith, r.1, k)
 
 t_is_u : {A : Type 0} (t : TmNo) → T t ≡ U → A
@@ -30,32 +30,32 @@ t_is_u t e = cc
 
 -- at a T
 
-t_ready : (g : Given) (log : Log) (a : Site) (t : TmNo) (n ts c : ℕ) (m : Msg) → IsSmall g → IsHanded g log a (T t) n m → IsD a → is_verdict ts c m ≡ true
+t_ready : (g : Input) (log : Log) (a : Site) (t : TmNo) (n ts c : ℕ) (m : Msg) → IsSmall g → IsHanded g log a (T t) n m → IsD a → is_verdict ts c m ≡ true
     → AnswersRead (local_of g (T t) log) a ts c
 t_ready g log (D d) t n ts c m s h r e = answers_at g log d (T t) n ts c m h (tm_small g log (D d) t n m s h) e
 t_ready g log _ t n ts c m s h r e = absurd r
 
-t_ask : (g : Given) (log : Log) (a : Site) (t : TmNo) (n : ℕ) (k : ClassNo) (time : Ts) → IsHanded g log a (T t) n (Ask k time) → IsD a
+t_ask : (g : Input) (log : Log) (a : Site) (t : TmNo) (n : ℕ) (k : ClassNo) (time : Ts) → IsHanded g log a (T t) n (Ask k time) → IsD a
     → tm.FitsAsk (setting_of g (T t)) k.0 time.0
 t_ask g log (D d) t n k time h r =
     record { runs_it = asked_class g d t log (handed (D d) (T t) log) k time h.permitted.1 h.place; early = late time.0 h.times.0 }
 t_ask g log _ t n k time h r = absurd r
 
-t_hold : (g : Given) (log : Log) (a : Site) (t : TmNo) (n : ℕ) → IsHanded g log a (T t) n Hold → a ≡ U
+t_hold : (g : Input) (log : Log) (a : Site) (t : TmNo) (n : ℕ) → IsHanded g log a (T t) n Hold → a ≡ U
     → tm.FitsHold (setting_of g (T t)) (local_of g (T t) log) a
 t_hold g log a t n h e =
     let r = t_of_sites g.catalogue.tms g.catalogue.dms t h.to_there in
     let p : IsPermitted g (Hand U (T t) n Hold ∷ log) = subst (λ x. IsPermitted g (Hand x (T t) n Hold ∷ log)) e h.permitted in
     subst (λ x. tm.FitsHold (setting_of g (T t)) (local_of g (T t) log) x) (sym e) (hold_fits g t n log r.0 r.1 p)
 
-t_release : (g : Given) (log : Log) (a : Site) (t : TmNo) (n : ℕ) (ts : Ts) → IsHanded g log a (T t) n (Release ts) → a ≡ U
+t_release : (g : Input) (log : Log) (a : Site) (t : TmNo) (n : ℕ) (ts : Ts) → IsHanded g log a (T t) n (Release ts) → a ≡ U
     → tm.FitsRelease (setting_of g (T t)) (local_of g (T t) log) a ts.0
 t_release g log a t n ts h e =
     let r = t_of_sites g.catalogue.tms g.catalogue.dms t h.to_there in
     let p : IsPermitted g (Hand U (T t) n (Release ts) ∷ log) = subst (λ x. IsPermitted g (Hand x (T t) n (Release ts) ∷ log)) e h.permitted in
     subst (λ x. tm.FitsRelease (setting_of g (T t)) (local_of g (T t) log) x ts.0) (sym e) (release_fits g t n ts log r.0 r.1 (late ts.0 h.times.0) p)
 
-pub t_fits : (g : Given) (log : Log) (a : Site) (t : TmNo) (n : ℕ) (m : Msg) (bases : Bases) → IsSmall g → IsHanded g log a (T t) n m
+pub t_fits : (g : Input) (log : Log) (a : Site) (t : TmNo) (n : ℕ) (m : Msg) (bases : Bases) → IsSmall g → IsHanded g log a (T t) n m
     → IsUpheldR (setting_of g (T t)) bases (local_of g (T t) log) a m → tm.fits_kind (setting_of g (T t)) bases (local_of g (T t) log) a m
 t_fits g log a t n (Ready ts class counts) bases s h u =
     record { answers = t_ready g log a t n ts.0 class.0 (Ready ts class counts) s h h.route.0 (own ts.0 class.0); counts_are = u }
@@ -73,33 +73,33 @@ t_fits g log a t n _ bases s h u = absurd h.route.1
 
 -- at U
 
-u_ready : (g : Given) (log : Log) (a : Site) (n ts c : ℕ) (m : Msg) → IsHanded g log a U n m → IsD a → is_verdict ts c m ≡ true
+u_ready : (g : Input) (log : Log) (a : Site) (n ts c : ℕ) (m : Msg) → IsHanded g log a U n m → IsD a → is_verdict ts c m ≡ true
     → AnswersRead (local_of g U log) a ts c
 u_ready g log (D d) n ts c m h r e = answers_at g log d U n ts c m h (omega arith) e
 u_ready g log _ n ts c m h r e = absurd r
 
-u_reject : {A : Type 0} (g : Given) (log : Log) (a : Site) (n : ℕ) (ts : Ts) (k by : ClassNo) (write : Ts) → IsWhole g.catalogue
+u_reject : {A : Type 0} (g : Input) (log : Log) (a : Site) (n : ℕ) (ts : Ts) (k by : ClassNo) (write : Ts) → IsWhole g.catalogue
     → IsHanded g log a U n (Reject ts k by write) → IsD a → A
 u_reject g log (D d) n ts k by write w h r =
     let i = d_of_sites g.catalogue.tms g.catalogue.dms d h.from_there in
     absurd (u_not_rejected g d log (handed (D d) U log) ts k by write w i.0 i.1 h.permitted.1 h.place)
 u_reject g log _ n ts k by write w h r = absurd r
 
-u_ask : {A : Type 0} (g : Given) (log : Log) (a : Site) (n : ℕ) (k : ClassNo) (time : Ts) → IsHanded g log a U n (Ask k time) → IsD a → A
+u_ask : {A : Type 0} (g : Input) (log : Log) (a : Site) (n : ℕ) (k : ClassNo) (time : Ts) → IsHanded g log a U n (Ask k time) → IsD a → A
 u_ask g log (D d) n k time h r = absurd (asks_not_u g d log (handed (D d) U log) k time h.permitted.1 h.place)
 u_ask g log _ n k time h r = absurd r
 
-u_held : (g : Given) (log : Log) (a : Site) (n : ℕ) (time : Ts) → IsHanded g log a U n (Held time) → IsT a → um.FitsHeld (local_of g U log) a time.0
+u_held : (g : Input) (log : Log) (a : Site) (n : ℕ) (time : Ts) → IsHanded g log a U n (Held time) → IsT a → um.FitsHeld (local_of g U log) a time.0
 u_held g log (T t) n time h r =
     let i = t_of_sites g.catalogue.tms g.catalogue.dms t h.from_there in held_fits g t n time log i.0 i.1 (late time.0 h.times.0) h.permitted
 u_held g log _ n time h r = absurd r
 
-u_done : (g : Given) (log : Log) (a : Site) (n : ℕ) (ts : Ts) → IsWhole g.catalogue → IsHanded g log a U n (Done ts) → IsD a
+u_done : (g : Input) (log : Log) (a : Site) (n : ℕ) (ts : Ts) → IsWhole g.catalogue → IsHanded g log a U n (Done ts) → IsD a
     → um.FitsDone (setting_of g U) (local_of g U log) a ts.0
 u_done g log (D d) n ts w h r = done_fits g (1 - 1) 1 log d n ts (at_place g.catalogue.tms 1 (omega arith) w.some_tm) h.permitted h.place
 u_done g log _ n ts w h r = absurd r
 
-pub u_fits : (g : Given) (log : Log) (a : Site) (n : ℕ) (m : Msg) (bases : Bases) → IsWhole g.catalogue → IsHanded g log a U n m
+pub u_fits : (g : Input) (log : Log) (a : Site) (n : ℕ) (m : Msg) (bases : Bases) → IsWhole g.catalogue → IsHanded g log a U n m
     → IsUpheldR (setting_of g U) bases (local_of g U log) a m → um.fits_kind (setting_of g U) bases (local_of g U log) a m
 u_fits g log a n (Ready ts class counts) bases w h u =
     record { answers = u_ready g log a n ts.0 class.0 (Ready ts class counts) h h.route.0 (own ts.0 class.0); counts_are = u }

@@ -1,8 +1,8 @@
 -- What is put on a link and not handed over yet, and how an entry changes it; and what an entry adds to the turns.
-use Rattle.sdd_obligations.proofs.All.{Act, Bool, D, Did, Does, Entry, Force, Given, Hand, Handed, IsAllowed, IsPermitted, List, Log, Mark, Msg, None, Option, Redeclares, Silent, Site, Some, Submitted, T, Tick, Ticked, Txn, U, [], answers, ap, append_assoc, asked_by, dm_no, drop, false, filter-append, flight, force_at, forced, given_to, hand_was_put, handed, handed_by, hands_from, hands_grow, if◌then◌else◌, in_order, is_answer, is_question, local_of, local_step, made, put_by, puts_grow, puts_to, questions, redeclares, refl, same_site, sends_of_act, slice_get, suc, sym, take-append-drop, to_site, told_by, true, turn_at, turn_with, txn_at, with_made, zero, ℕ, ◌&&◌, ◌++◌, ◌∙◌, ◌∷◌, ◌≡◌}
+use Rattle.sdd_obligations.proofs.All.{Act, Bool, D, Did, Does, Entry, Force, Hand, Handed, Input, IsAllowed, IsPermitted, List, Log, Mark, Msg, None, Option, Redeclares, Silent, Site, Some, Submitted, T, Tick, Ticked, Txn, U, [], answers, ap, append_assoc, asked_by, dm_no, drop, false, filter-append, flight, force_at, forced, given_to, hand_was_put, handed, handed_by, hands_from, hands_grow, if◌then◌else◌, in_order, is_answer, is_question, local_of, local_step, made, put_by, puts_grow, puts_to, questions, redeclares, refl, same_site, sends_of_act, slice_get, suc, sym, take-append-drop, to_site, told_by, true, turn_at, turn_with, txn_at, with_made, zero, ℕ, ◌&&◌, ◌++◌, ◌∙◌, ◌∷◌, ◌≡◌}
 use Rattle.sdd_invariants.specs.site_module.SiteLog as site
 
-flight_splits : (g : Given) (a b : Site) (log : Log) → IsPermitted g log → puts_to b (local_of g a log) ≡ hands_from a (local_of g b log) ++ flight g a b log
+flight_splits : (g : Input) (a b : Site) (log : Log) → IsPermitted g log → puts_to b (local_of g a log) ≡ hands_from a (local_of g b log) ++ flight g a b log
 flight_splits g a b log h =
     sym (take-append-drop (handed a b log) (puts_to b (local_of g a log))) ∙ ap (λ l. l ++ flight g a b log) (sym (in_order g log a b h))
 
@@ -11,7 +11,7 @@ cancel [] ys zs e = e
 cancel (x ∷ xs) ys zs e = let p : xs ++ ys ≡ xs ++ zs = cc in cancel xs ys zs p
 
 -- what is handed over leaves the flight at its front, and what is put comes to its end
-flight_step : (g : Given) (a b : Site) (e : Entry) (log : Log) → IsPermitted g (e ∷ log)
+flight_step : (g : Input) (a b : Site) (e : Entry) (log : Log) → IsPermitted g (e ∷ log)
     → handed_by a (made g b log e) ++ flight g a b (e ∷ log) ≡ flight g a b log ++ put_by b (made g a log e)
 flight_step g a b e log h =
     let hs : List Msg = hands_from a (local_of g b log) in
@@ -22,14 +22,14 @@ flight_step g a b e log h =
     ∙ ap (λ l. l ++ flight g a b (e ∷ log)) (sym (hands_grow g a b e log)) ∙ sym now
     ∙ puts_grow g a b e log ∙ ap (λ l. l ++ put_by b (made g a log e)) before ∙ append_assoc hs (flight g a b log) (put_by b (made g a log e)))
 
-pub questions_step : (g : Given) (ts c : ℕ) (a b : Site) (e : Entry) (log : Log) → IsPermitted g (e ∷ log)
+pub questions_step : (g : Input) (ts c : ℕ) (a b : Site) (e : Entry) (log : Log) → IsPermitted g (e ∷ log)
     → questions ts c (handed_by a (made g b log e)) ++ questions ts c (flight g a b (e ∷ log)) ≡ questions
     ts c (flight g a b log) ++ questions ts c (put_by b (made g a log e))
 questions_step g ts c a b e log h =
     sym (filter-append (is_question ts c) (handed_by a (made g b log e)) (flight g a b (e ∷ log)))
     ∙ ap (questions ts c) (flight_step g a b e log h) ∙ filter-append (is_question ts c) (flight g a b log) (put_by b (made g a log e))
 
-pub answers_step : (g : Given) (ts c : ℕ) (a b : Site) (e : Entry) (log : Log) → IsPermitted g (e ∷ log)
+pub answers_step : (g : Input) (ts c : ℕ) (a b : Site) (e : Entry) (log : Log) → IsPermitted g (e ∷ log)
     → answers ts c (handed_by a (made g b log e)) ++ answers ts c (flight g a b (e ∷ log)) ≡ answers ts c
     (flight g a b log) ++ answers ts c (put_by b (made g a log e))
 answers_step g ts c a b e log h =
@@ -43,7 +43,7 @@ drop_at [] n m e = cc
 drop_at (x ∷ ms) zero m e = let p : x ≡ m = cc in ap (λ y. y ∷ ms) p
 drop_at (x ∷ ms) (suc n) m e = drop_at ms n m e
 
-pub first_in_flight : (g : Given) (log : Log) (a b : Site) (n : ℕ) (m : Msg) → IsAllowed g log (Hand a b n m)
+pub first_in_flight : (g : Input) (log : Log) (a b : Site) (n : ℕ) (m : Msg) → IsAllowed g log (Hand a b n m)
     → (rest : List Msg) × (flight g a b log ≡ m ∷ rest)
 first_in_flight g log a b n m h =
     (drop (suc (handed a b log)) (puts_to b (local_of g a log)), drop_at (puts_to b (local_of g a log)) (handed a b log) m (hand_was_put g log a b n m h).1)
@@ -56,7 +56,7 @@ at_made : (ts c d : ℕ) (o : Option site.Entry) (l : site.Log)
 at_made ts c d None l = refl
 at_made ts c d (Some x) l = refl
 
-pub turn_at_step : (g : Given) (ts c d : ℕ) (at : Site) (e : Entry) (log : Log)
+pub turn_at_step : (g : Input) (ts c d : ℕ) (at : Site) (e : Entry) (log : Log)
     → turn_at ts c d (local_of g at (e ∷ log)) ≡ told_by
     (answers ts c (handed_by (D (dm_no d)) (made g at log e)))
     (asked_by (questions ts c (put_by (D (dm_no d)) (made g at log e))) (turn_at ts c d (local_of g at log)))
@@ -67,16 +67,16 @@ with_made_turn : (ts c : ℕ) (at : Site) (o : Option site.Entry) (l : site.Log)
 with_made_turn ts c at None l = refl
 with_made_turn ts c at (Some x) l = refl
 
-pub turn_with_step : (g : Given) (ts c : ℕ) (at b : Site) (e : Entry) (log : Log)
+pub turn_with_step : (g : Input) (ts c : ℕ) (at b : Site) (e : Entry) (log : Log)
     → turn_with ts c at (local_of g b (e ∷ log)) ≡ told_by (answers ts c (put_by at (made g b log e)))
     (asked_by (questions ts c (handed_by at (made g b log e))) (turn_with ts c at (local_of g b log)))
 turn_with_step g ts c at b e log = ap (turn_with ts c at) (local_step g b e log) ∙ with_made_turn ts c at (made g b log e) (local_of g b log)
 
-pub silent_first : (g : Given) (ts c d : ℕ) (at : Site) → turn_at ts c d (local_of g at []) ≡ Silent
+pub silent_first : (g : Input) (ts c d : ℕ) (at : Site) → turn_at ts c d (local_of g at []) ≡ Silent
 silent_first g ts c d U = refl
 silent_first g ts c d _ = refl
 
-pub nothing_put : (g : Given) (at b : Site) → puts_to b (local_of g at []) ≡ []
+pub nothing_put : (g : Input) (at b : Site) → puts_to b (local_of g at []) ≡ []
 nothing_put g U b = refl
 nothing_put g _ b = refl
 
@@ -102,7 +102,7 @@ quiet_forced : (at : Site) (force : Force) (t : ℕ) → IsQuietMade (forced at 
 quiet_forced U force t b = (refl, refl)
 quiet_forced _ force t b = (refl, refl)
 
-pub quiet_made : (g : Given) (at : Site) (log : Log) (e : Entry) → is_plain e ≡ true → (b : Site)
+pub quiet_made : (g : Input) (at : Site) (log : Log) (e : Entry) → is_plain e ≡ true → (b : Site)
     → (put_by b (made g at log e) ≡ []) × (handed_by b (made g at log e) ≡ [])
 quiet_made g at log (Mark (Tick t n)) p = quiet_if (same_site at (T t)) (Some (Ticked n)) (λ b. (refl, refl))
 quiet_made g at log (Redeclares t) p = quiet_forced at (force_at g (suc (redeclares log))) t

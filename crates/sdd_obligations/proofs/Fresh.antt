@@ -1,5 +1,5 @@
 -- No WRITE that was handed to a data module has the timestamp of the one that is next.
-use Rattle.sdd_obligations.proofs.All.{Act, Bool, Change, ClassNo, D, Did, DmNo, Does, Given, Hand, Handed, IsApplyOf, IsLawful, IsNumbered, IsPermitted, IsRunner, IsSmall, List, Log, Msg, Queued, Records, Redeclared, Sends, Setting, Site, Some, Submits, T, Ticked, TmNo, Ts, TxnNo, U, Write, [], all_of, all_there, ap, append_assoc, arith, at_seam, class_puts, clock, commit_act, contains, eqb-true, false, goes_through, home, home_fair, if◌then◌else◌, in_left, in_pipe, inl, inr, length, local_grows, local_of, next_stamp, number_of, one_of_key, only_right, origin, permitted_before, pipe, pipe_at, place_within, refl, same_number, setting_of, sites, slice_get, start_at, start_of_active, subst, sym, tm_no, true, true_or_false, with_time, write_at, write_origin, write_time_of, write_times, writes_strict, ℕ, ◌*◌, ◌++◌, ◌+◌, ◌<◌, ◌==◌, ◌∙◌, ◌∷◌, ◌≡◌, ◌≤◌}
+use Rattle.sdd_obligations.proofs.All.{Act, Bool, Change, ClassNo, D, Did, DmNo, Does, Hand, Handed, Input, IsApplyOf, IsLawful, IsNumbered, IsPermitted, IsRunner, IsSmall, List, Log, Msg, Queued, Records, Redeclared, Sends, Setting, Site, Some, Submits, T, Ticked, TmNo, Ts, TxnNo, U, Write, [], all_of, all_there, ap, append_assoc, arith, at_seam, class_puts, clock, commit_act, contains, eqb-true, false, goes_through, home, home_fair, if◌then◌else◌, in_left, in_pipe, inl, inr, length, local_grows, local_of, next_stamp, number_of, one_of_key, only_right, origin, permitted_before, pipe, pipe_at, place_within, refl, same_number, setting_of, sites, slice_get, start_at, start_of_active, subst, sym, tm_no, true, true_or_false, with_time, write_at, write_origin, write_time_of, write_times, writes_strict, ℕ, ◌*◌, ◌++◌, ◌+◌, ◌<◌, ◌==◌, ◌∙◌, ◌∷◌, ◌≡◌, ◌≤◌}
 use Rattle.sdd_obligations.proofs.OfNext.{IsThere, of_next, t_of_sites}
 use Rattle.sdd_obligations.proofs.Piping.{pipe_with}
 use Rattle.sdd_obligations.proofs.Stamped.{same_start, stamp_ticks}
@@ -26,7 +26,7 @@ started_on s c t x l all e w = record {
 }
 
 -- by the site of a Commit
-started_of : (g : Given) (log : Log) (d : DmNo) (c n t : ℕ) → IsPermitted g log → IsApplyOf g log d c n t
+started_of : (g : Input) (log : Log) (d : DmNo) (c n t : ℕ) → IsPermitted g log → IsApplyOf g log d c n t
     → WasStarted (setting_of g (home g.catalogue c)) c t (local_of g (home g.catalogue c) log)
 started_of g log d c n t h a =
     let at : Site = home g.catalogue c in
@@ -50,7 +50,7 @@ pub record IsOfNetwork (a : Site) : Type 0 where
   pub small : number_of a ≤ 63
   pub runs : IsRunner a
 
-of_network : (g : Given) (a : Site) → IsSmall g → IsRunner a → IsThere (sites g.catalogue.tms g.catalogue.dms) a → IsOfNetwork a
+of_network : (g : Input) (a : Site) → IsSmall g → IsRunner a → IsThere (sites g.catalogue.tms g.catalogue.dms) a → IsOfNetwork a
 of_network g U s r k = record { numbered = tt; small = omega arith; runs = tt }
 of_network g (T t) s r k =
     let i = t_of_sites g.catalogue.tms g.catalogue.dms t k in let m = s.few_tms in
@@ -61,7 +61,7 @@ home_runs : (b : Bool) (t : TmNo) → IsRunner (if b then U else T t)
 home_runs true t = tt
 home_runs false t = tt
 
-act_of_network : (g : Given) (log : Log) (d : DmNo) (c n t : ℕ) → IsSmall g → IsLawful g log → IsApplyOf g log d c n t → IsOfNetwork (home g.catalogue c)
+act_of_network : (g : Input) (log : Log) (d : DmNo) (c n t : ℕ) → IsSmall g → IsLawful g log → IsApplyOf g log d c n t → IsOfNetwork (home g.catalogue c)
 act_of_network g log d c n t s l a =
     let at : Site = home g.catalogue c in
     let act : Act = commit_act g.catalogue a.bases c a.attempt in
@@ -80,7 +80,7 @@ same_numbers _ (D d) i j e = absurd j.runs
 numbers_by : (x y n m t : ℕ) → t ≡ (x + 1) * 64 + n → t ≡ (y + 1) * 64 + m → n ≤ 63 → m ≤ 63 → n ≡ m
 numbers_by x y n m t e f a b = omega (arith, e, f, a, b)
 
-number_is : (g : Given) (c t : ℕ) (log : Log) → WasStarted (setting_of g (home g.catalogue c)) c t (local_of g (home g.catalogue c) log)
+number_is : (g : Input) (c t : ℕ) (log : Log) → WasStarted (setting_of g (home g.catalogue c)) c t (local_of g (home g.catalogue c) log)
     → (x : ℕ) × (t ≡ (x + 1) * 64 + number_of (home g.catalogue c))
 number_is g c t log w = ((clock (setting_of g (home g.catalogue c)).site w.before).ticks, w.ts_is ∙ stamp_ticks (setting_of g (home g.catalogue c)) w.before)
 
@@ -89,7 +89,7 @@ class_of_act (Records c r sends) = c
 class_of_act (Sends to m hand) = 0
 
 -- so two attempts with the same timestamp are of the same class
-pub same_class : (g : Given) (c k t : ℕ) (log : Log) → IsOfNetwork (home g.catalogue c) → IsOfNetwork (home g.catalogue k)
+pub same_class : (g : Input) (c k t : ℕ) (log : Log) → IsOfNetwork (home g.catalogue c) → IsOfNetwork (home g.catalogue k)
     → WasStarted (setting_of g (home g.catalogue c)) c t (local_of g (home g.catalogue c) log)
     → WasStarted (setting_of g (home g.catalogue k)) k t (local_of g (home g.catalogue k) log) → c ≡ k
 same_class g c k t log i j v w =
@@ -170,7 +170,7 @@ in_its_pipe c l later from m before e f =
 write_key : (c t : ℕ) (ts : Ts) (k : ClassNo) (txn : TxnNo) (xs : List Change) → k.0 ≡ c → ts.0 ≡ t → write_at c (Write ts k txn xs) ≡ Some t
 write_key c t ts k txn xs e f = let q : (k.0 == c) ≡ true = subst (λ x. (k.0 == x) ≡ true) e (same_number k.0) in rw q (ap (λ y. Some y) f)
 
-not_twice : (g : Given) (log : Log) (a : Site) (n : ℕ) (d : DmNo) (ts : Ts) (k : ClassNo) (txn : TxnNo) (xs : List Change) → IsSmall g
+not_twice : (g : Input) (log : Log) (a : Site) (n : ℕ) (d : DmNo) (ts : Ts) (k : ClassNo) (txn : TxnNo) (xs : List Change) → IsSmall g
     → IsLawful g (Hand a (D d) n (Write ts k txn xs) ∷ log) → IsPermitted g (Hand a (D d) n (Write ts k txn xs) ∷ log)
     → HasWrite (local_of g (D d) log) ts.0 → ⊥
 not_twice g log a n d ts k txn xs s l h w =
@@ -209,7 +209,7 @@ not_twice g log a n d ts k txn xs s l h w =
     let less = place_within (all_of (pipe_at g c d log)) p.0 old q in
     omega (arith, one, less)
 
-pub is_fresh : (g : Given) (log : Log) (a : Site) (n : ℕ) (d : DmNo) (ts : Ts) (k : ClassNo) (txn : TxnNo) (xs : List Change) → IsSmall g
+pub is_fresh : (g : Input) (log : Log) (a : Site) (n : ℕ) (d : DmNo) (ts : Ts) (k : ClassNo) (txn : TxnNo) (xs : List Change) → IsSmall g
     → IsLawful g (Hand a (D d) n (Write ts k txn xs) ∷ log) → IsPermitted g (Hand a (D d) n (Write ts k txn xs) ∷ log)
     → contains (write_times (local_of g (D d) log)) ts.0 ≡ false
 is_fresh g log a n d ts k txn xs s l h = elim (true_or_false (contains (write_times (local_of g (D d) log)) ts.0)) [
@@ -218,7 +218,7 @@ is_fresh g log a n d ts k txn xs s l h = elim (true_or_false (contains (write_ti
 ]
 
 -- and its timestamp is above 0
-pub is_above : (g : Given) (log : Log) (a : Site) (n : ℕ) (d : DmNo) (ts : Ts) (k : ClassNo) (txn : TxnNo) (xs : List Change)
+pub is_above : (g : Input) (log : Log) (a : Site) (n : ℕ) (d : DmNo) (ts : Ts) (k : ClassNo) (txn : TxnNo) (xs : List Change)
     → IsPermitted g (Hand a (D d) n (Write ts k txn xs) ∷ log) → 0 < ts.0
 is_above g log a n d ts k txn xs h =
     let m : Msg = Write ts k txn xs in

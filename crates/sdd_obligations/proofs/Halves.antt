@@ -1,5 +1,5 @@
 -- An exchange in lockstep, by the turns of both sides; and what each side keeps of it.
-use Rattle.sdd_obligations.proofs.All.{AllLe, Asks, Attempt, Bool, D, Each, Given, IsPermitted, IsStage, List, Log, MayAnswer, MayAsk, Msg, None, Option, Read, Refused, Some, Told, Turn, [], active, agreed, all_of, and_left, answer_goes, answers, ap, arith, both, class_puts, d_fair, dec_le, dm_no, eqb-true, false, flight, goes_through, head_in, home, home_fair, if_way, if◌then◌else◌, in_class_order, in_left, in_pipe, inl, inr, is_a_read, is_a_refusal, is_exchanging, is_read, length, limit_of, local_of, map, not, number_of, pipe, pipe_at, place_within, processed_stays, puts_to, question_goes, questions, refl, same_number, same_or_not, setting_of, slice_get, subst, suc, sym, time_of, timed, times_are, times_in, told, true, turn_at, turn_with, uses_held, zero, ℕ, ◌<◌, ◌==◌, ◌∙◌, ◌∷◌, ◌≡◌, ◌≤◌}
+use Rattle.sdd_obligations.proofs.All.{AllLe, Asks, Attempt, Bool, D, Each, Input, IsPermitted, IsStage, List, Log, MayAnswer, MayAsk, Msg, None, Option, Read, Refused, Some, Told, Turn, [], active, agreed, all_of, and_left, answer_goes, answers, ap, arith, both, class_puts, d_fair, dec_le, dm_no, eqb-true, false, flight, goes_through, head_in, home, home_fair, if_way, if◌then◌else◌, in_class_order, in_left, in_pipe, inl, inr, is_a_read, is_a_refusal, is_exchanging, is_read, length, limit_of, local_of, map, not, number_of, pipe, pipe_at, place_within, processed_stays, puts_to, question_goes, questions, refl, same_number, same_or_not, setting_of, slice_get, subst, suc, sym, time_of, timed, times_are, times_in, told, true, turn_at, turn_with, uses_held, zero, ℕ, ◌<◌, ◌==◌, ◌∙◌, ◌∷◌, ◌≡◌, ◌≤◌}
 use Rattle.sdd_obligations.proofs.Asking.{in_turn}
 use Rattle.sdd_obligations.proofs.Hearing.{AtTurn, InTurn, IsTimely}
 use Rattle.sdd_obligations.proofs.Held.{IsAlone, IsHeldAt}
@@ -9,22 +9,22 @@ use Rattle.sdd_obligations.proofs.Replying.{HasTurnAt, IsAskedInTurn}
 use Rattle.sdd_obligations.proofs.InStep.{never}
 use Rattle.sdd_invariants.specs.site_module.SiteLog as site
 
-abbrev pub home_log : Given → ℕ → Log → site.Log
+abbrev pub home_log : Input → ℕ → Log → site.Log
 home_log g c log = local_of g (home g.catalogue c) log
 
-abbrev pub data_log : Given → ℕ → Log → site.Log
+abbrev pub data_log : Input → ℕ → Log → site.Log
 data_log g d log = local_of g (D (dm_no d)) log
 
 -- nothing of the class with a greater time was put to the module
-abbrev pub IsLast : Given → ℕ → ℕ → ℕ → Log → Type 0
+abbrev pub IsLast : Input → ℕ → ℕ → ℕ → Log → Type 0
 IsLast g ts c d log = AllLe ts (times_in c (puts_to (D (dm_no d)) (home_log g c log)))
 
-abbrev pub StageAt : Given → ℕ → ℕ → ℕ → Log → Type 0
+abbrev pub StageAt : Input → ℕ → ℕ → ℕ → Log → Type 0
 StageAt g ts c d log =
     IsStage (turn_at ts c d (home_log g c log)) (turn_with ts c (home g.catalogue c) (data_log g d log))
     (questions ts c (flight g (home g.catalogue c) (D (dm_no d)) log)) (answers ts c (flight g (D (dm_no d)) (home g.catalogue c) log))
 
-pub record IsSpoken (g : Given) (c : ℕ) (log : Log) : Type 0 where
+pub record IsSpoken (g : Input) (c : ℕ) (log : Log) : Type 0 where
   pub stages : (ts d : ℕ) → StageAt g ts c d log
   pub timely_at : Each (IsTimely c) (home_log g c log)
   pub timely_with : (d : ℕ) → Each (IsAskedInTurn c (home g.catalogue c)) (data_log g d log)
@@ -32,13 +32,13 @@ pub record IsSpoken (g : Given) (c : ℕ) (log : Log) : Type 0 where
 
 -- each side's half
 
-pub home_turns : (g : Given) (c : ℕ) (log : Log) → IsPermitted g log → IsSpoken g c log → InTurn (setting_of g (home g.catalogue c)) c (home_log g c log)
+pub home_turns : (g : Input) (c : ℕ) (log : Log) → IsPermitted g log → IsSpoken g c log → InTurn (setting_of g (home g.catalogue c)) c (home_log g c log)
 home_turns g c log h i = in_turn (setting_of g (home g.catalogue c)) c (home_log g c log) (home_fair g c log h) (home_first g c log h) i.timely_at
 
-pub home_source : (g : Given) (c d : ℕ) → IsHomeOf (setting_of g (D (dm_no d))) c (home g.catalogue c)
+pub home_source : (g : Input) (c d : ℕ) → IsHomeOf (setting_of g (D (dm_no d))) c (home g.catalogue c)
 home_source g c d = source_is_home (setting_of g (D (dm_no d))) c
 
-pub data_turns : (g : Given) (ts c d : ℕ) (log : Log) → IsPermitted g log → IsSpoken g c log → HasTurnAt ts c (home g.catalogue c) (data_log g d log)
+pub data_turns : (g : Input) (ts c d : ℕ) (log : Log) → IsPermitted g log → IsSpoken g c log → HasTurnAt ts c (home g.catalogue c) (data_log g d log)
 data_turns g ts c d log h i =
     has_turn (setting_of g (D (dm_no d))) ts c (home g.catalogue c) (data_log g d log) (home_source g c d) (d_fair g (dm_no d) log h) (i.timely_with d)
 
@@ -61,7 +61,7 @@ pub active_of : (ts d : ℕ) (o : Option Attempt) (v : Turn) → AtTurn ts d o v
 active_of ts d None v h e = never (is_exchanging v) e h
 active_of ts d (Some a) v h e = elim (same_or_not a.ts ts) [ inl p ↦ (a, refl, p) | inr p ↦ never (is_exchanging v) e (h.1 p) ]
 
-pub exchanging_active : (g : Given) (ts c d : ℕ) (log : Log) → IsPermitted g log → IsSpoken g c log
+pub exchanging_active : (g : Input) (ts c d : ℕ) (log : Log) → IsPermitted g log → IsSpoken g c log
     → is_exchanging (turn_with ts c (home g.catalogue c) (data_log g d log)) ≡ true
     → (a : Attempt) × (active (setting_of g (home g.catalogue c)) c (home_log g c log) ≡ Some a) × (a.ts ≡ ts)
 exchanging_active g ts c d log h i e =
@@ -69,7 +69,7 @@ exchanging_active g ts c d log h i e =
     (exchanging_home _ _ _ _ (i.stages ts d) e)
 
 -- nothing of its class with a greater time is put
-pub active_last : (g : Given) (c d : ℕ) (log : Log) (a : Attempt) → IsPermitted g log → number_of (home g.catalogue c) ≤ 63
+pub active_last : (g : Input) (c d : ℕ) (log : Log) (a : Attempt) → IsPermitted g log → number_of (home g.catalogue c) ≤ 63
     → active (setting_of g (home g.catalogue c)) c (home_log g c log) ≡ Some a → IsLast g a.ts c d log
 active_last g c d log a h small e =
     subst (λ k. AllLe k (times_in c (puts_to (D (dm_no d)) (home_log g c log)))) (ap (limit_of _) e)
@@ -80,7 +80,7 @@ le_at k [] j m h e = cc
 le_at k (x ∷ ms) zero m h e = let p : x ≡ m = cc in subst (λ y. time_of y ≤ k) p h.0
 le_at k (x ∷ ms) (suc j) m h e = le_at k ms j m h.1 e
 
-last_at : (g : Given) (ts c d : ℕ) (log : Log) (j : ℕ) (m : Msg) → IsLast g ts c d log → slice_get (class_puts g c (dm_no d) log) j ≡ Some m → time_of m ≤ ts
+last_at : (g : Input) (ts c d : ℕ) (log : Log) (j : ℕ) (m : Msg) → IsLast g ts c d log → slice_get (class_puts g c (dm_no d) log) j ≡ Some m → time_of m ≤ ts
 last_at g ts c d log j m h e = le_at ts (class_puts g c (dm_no d) log) j m (subst (AllLe ts) (times_are c (puts_to (D (dm_no d)) (home_log g c log))) h) e
 
 pub read_time : (ts c : ℕ) (m : Msg) → is_read ts c m ≡ true → time_of m ≡ ts
@@ -88,14 +88,14 @@ read_time ts c (Read t k txn attempt conds uses) e = eqb-true t.0 ts (and_left (
 read_time ts c m e = cc
 
 -- a READ of an attempt for which rows are held was put
-record WasPut (g : Given) (ts c d : ℕ) (log : Log) : Type 0 where
+record WasPut (g : Input) (ts c d : ℕ) (log : Log) : Type 0 where
   place : ℕ
   read : Msg
   there : slice_get (class_puts g c (dm_no d) log) place ≡ Some read
   is : is_read ts c read ≡ true
   processed : place < length (pipe c (data_log g d log)).processed
 
-was_put_for : (g : Given) (ts c d : ℕ) (log : Log) (ns : List ℕ) → IsPermitted g log → IsSpoken g c log
+was_put_for : (g : Input) (ts c d : ℕ) (log : Log) (ns : List ℕ) → IsPermitted g log → IsSpoken g c log
     → uses_held (turn_with ts c (home g.catalogue c) (data_log g d log)) ≡ Some ns → WasPut g ts c d log
 was_put_for g ts c d log ns h i e =
     let r = (data_turns g ts c d log h i).was_read ns e in
@@ -121,7 +121,7 @@ is_read_at : (ts c : ℕ) (m : Msg) → is_a_read m ≡ true → goes_through c 
 is_read_at ts c (Read t k txn attempt conds uses) e f z = both (t.0 == ts) (k.0 == c) (subst (λ n. (t.0 == n) ≡ true) z (same_number t.0)) f
 is_read_at ts c m e f z = cc
 
-pub alone : (g : Given) (ts c d : ℕ) (log : Log) → IsPermitted g log → number_of (home g.catalogue c) ≤ 63 → IsSpoken g c log
+pub alone : (g : Input) (ts c d : ℕ) (log : Log) → IsPermitted g log → number_of (home g.catalogue c) ≤ 63 → IsSpoken g c log
     → IsLast g ts c d log → IsAlone (setting_of g (D (dm_no d))) ts c (home g.catalogue c) (data_log g d log)
 alone g ts c d log h small i last = record {
   has = λ t. data_turns g t c d log h i;

@@ -1,11 +1,11 @@
 -- What is next to be handed over: it was put, it goes along a link of the network, and no time in it is late.
-use Rattle.sdd_obligations.proofs.All.{AllLt, D, Given, Hand, IsLawful, IsNumbered, IsPermitted, IsRouted, IsRunner, IsSmall, IsWithin, Log, Msg, Site, Some, T, U, arith, hand_was_put, handed, is_link, lawful_permitted, link_parts, local_of, next, number_of, puts_to, sites, slice_get, times_of, true, ℕ, ◌^◌, ◌∷◌, ◌≡◌, ◌≤◌}
+use Rattle.sdd_obligations.proofs.All.{AllLt, D, Hand, Input, IsLawful, IsNumbered, IsPermitted, IsRouted, IsRunner, IsSmall, IsWithin, Log, Msg, Site, Some, T, U, arith, hand_was_put, handed, is_link, lawful_permitted, link_parts, local_of, next, number_of, puts_to, sites, slice_get, times_of, true, ℕ, ◌^◌, ◌∷◌, ◌≡◌, ◌≤◌}
 use Rattle.sdd_obligations.proofs.Early.{times_below}
 use Rattle.sdd_obligations.proofs.OfNext.{IsThere, from_there, link_of_links, of_next, site_there, t_of_sites}
 use Rattle.sdd_obligations.proofs.Routed.{routed}
 
 -- with it the log is permitted, and it is the next of those that were put on its link
-pub record IsHanded (g : Given) (log : Log) (a b : Site) (n : ℕ) (m : Msg) : Type 0 where
+pub record IsHanded (g : Input) (log : Log) (a b : Site) (n : ℕ) (m : Msg) : Type 0 where
   pub permitted : IsPermitted g (Hand a b n m ∷ log)
   pub place : slice_get (puts_to b (local_of g a log)) (handed a b log) ≡ Some m
   pub route : IsRouted a b m
@@ -25,7 +25,7 @@ small_there tms dms U l k r = omega arith
 small_there tms dms (T t) l k r = let i = t_of_sites tms dms t k in omega (arith, l, i.1)
 small_there tms dms (D d) l k r = absurd r
 
-pub is_handed : (g : Given) (log : Log) (a b : Site) (n : ℕ) (m : Msg) → IsSmall g → IsLawful g log → IsWithin log
+pub is_handed : (g : Input) (log : Log) (a b : Site) (n : ℕ) (m : Msg) → IsSmall g → IsLawful g log → IsWithin log
     → next g log ≡ Some (Hand a b n m) → IsHanded g log a b n m
 is_handed g log a b n m s l w e =
     let p = lawful_permitted g (Hand a b n m ∷ log) s.once (e, l) in

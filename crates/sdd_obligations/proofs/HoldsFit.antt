@@ -1,5 +1,5 @@
 -- HOLD, HELD and RELEASE come in turn.
-use Rattle.sdd_obligations.proofs.All.{Bool, FitsHeldFrom, FitsHold, FitsRelease, Given, Hand, Handed, Held, Hold, IsHoldChain, IsPermitted, Log, Msg, Release, Site, Some, T, TmCounts, TmNo, Ts, U, ap, arith, counts, counts_tm, false, hold_chain, holds, if◌then◌else◌, local_of, nat_lt, nat_tests, numbers_to, range_with_len, refl, same_number, setting_of, site_self, slice_get, subst, suc, sym, true, ℕ, ◌+◌, ◌-◌, ◌<◌, ◌==◌, ◌^◌, ◌∷◌, ◌≡◌, ◌≤◌}
+use Rattle.sdd_obligations.proofs.All.{Bool, FitsHeldFrom, FitsHold, FitsRelease, Hand, Handed, Held, Hold, Input, IsHoldChain, IsPermitted, Log, Msg, Release, Site, Some, T, TmCounts, TmNo, Ts, U, ap, arith, counts, counts_tm, false, hold_chain, holds, if◌then◌else◌, local_of, nat_lt, nat_tests, numbers_to, range_with_len, refl, same_number, setting_of, site_self, slice_get, subst, suc, sym, true, ℕ, ◌+◌, ◌-◌, ◌<◌, ◌==◌, ◌^◌, ◌∷◌, ◌≡◌, ◌≤◌}
 use Rattle.sdd_obligations.proofs.Sums.{range_at}
 use Rattle.sdd_invariants.specs.site_module.SiteLog as site
 
@@ -15,15 +15,15 @@ at_place n t l m =
     let e : 1 + (t - 1) ≡ t = omega (arith, l) in
     subst (λ x. slice_get (range_with_len 1 n) (t - 1) ≡ Some x) e (range_at 1 n (t - 1) (omega (arith, l, m)))
 
-pub chain_at : (g : Given) (t : TmNo) (log : Log) → 1 ≤ t.0 → t.0 ≤ g.catalogue.tms → IsPermitted g log → IsHoldChain g t.0 log
+pub chain_at : (g : Input) (t : TmNo) (log : Log) → 1 ≤ t.0 → t.0 ≤ g.catalogue.tms → IsPermitted g log → IsHoldChain g t.0 log
 chain_at g t log l m h = hold_chain g (t.0 - 1) t.0 log (at_place g.catalogue.tms t.0 l m) h
 
 -- the logs of T and U with the message
 
-own_hand : (g : Given) (a b : Site) (n : ℕ) (m : Msg) (log : Log) → local_of g b (Hand a b n m ∷ log) ≡ Handed a m ∷ local_of g b log
+own_hand : (g : Input) (a b : Site) (n : ℕ) (m : Msg) (log : Log) → local_of g b (Hand a b n m ∷ log) ≡ Handed a m ∷ local_of g b log
 own_hand g a b n m log = rw (site_self b) refl
 
-pub hold_fits : (g : Given) (t : TmNo) (n : ℕ) (log : Log) → 1 ≤ t.0 → t.0 ≤ g.catalogue.tms
+pub hold_fits : (g : Input) (t : TmNo) (n : ℕ) (log : Log) → 1 ≤ t.0 → t.0 ≤ g.catalogue.tms
     → IsPermitted g (Hand U (T t) n Hold ∷ log) → FitsHold (setting_of g (T t)) (local_of g (T t) log) U
 hold_fits g t n log l m h =
     let now = chain_at g t (Hand U (T t) n Hold ∷ log) l m h in
@@ -34,7 +34,7 @@ hold_fits g t n log l m h =
     let o = now.one_open in
     record { home = refl; free = lt_false (holds (local_of g (T t) log)).releases (holds (local_of g (T t) log)).holds (omega (arith, more, same, o)) }
 
-pub release_fits : (g : Given) (t : TmNo) (n : ℕ) (ts : Ts) (log : Log) → 1 ≤ t.0 → t.0 ≤ g.catalogue.tms → ts.0 < 2 ^ 62
+pub release_fits : (g : Input) (t : TmNo) (n : ℕ) (ts : Ts) (log : Log) → 1 ≤ t.0 → t.0 ≤ g.catalogue.tms → ts.0 < 2 ^ 62
     → IsPermitted g (Hand U (T t) n (Release ts) ∷ log) → FitsRelease (setting_of g (T t)) (local_of g (T t) log) U ts.0
 release_fits g t n ts log l m early h =
     let lt : site.Log = local_of g (T t) log in
@@ -60,7 +60,7 @@ same_holds : (b : Bool) (k : TmCounts) → (if b then record k { helds = suc k.h
 same_holds true k = refl
 same_holds false k = refl
 
-pub held_fits : (g : Given) (t : TmNo) (n : ℕ) (time : Ts) (log : Log) → 1 ≤ t.0 → t.0 ≤ g.catalogue.tms → time.0 < 2 ^ 62
+pub held_fits : (g : Input) (t : TmNo) (n : ℕ) (time : Ts) (log : Log) → 1 ≤ t.0 → t.0 ≤ g.catalogue.tms → time.0 < 2 ^ 62
     → IsPermitted g (Hand (T t) U n (Held time) ∷ log) → FitsHeldFrom (local_of g U log) t.0 time.0
 held_fits g t n time log l m early h =
     let lu : site.Log = local_of g U log in

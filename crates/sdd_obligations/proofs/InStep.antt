@@ -1,5 +1,5 @@
 -- What it means that the exchange of an attempt goes in step with the modules that it reads at.
-use Rattle.sdd_obligations.proofs.All.{Act, Answer, Asks, AsksPhase, Attempt, Bool, D, Did, DmNo, Does, Exchange, Fetching, FitsGiven, Frozen, Given, Hand, Has, IsPermitted, List, Log, Move, Msg, Option, Over, Phase, Reading, Records, Reduce, Reducing, Replies, Shipping, Silent, Site, Some, Tells, Turn, Value, [], ap, arith, contains, eqb-true, false, first_phase, home, inl, inr, is_a_read, is_answer, is_question, is_shipped, length, local_of, longer, not_both, refl, subst, sym, true, turn_at, ℕ, ◌++◌, ◌==◌, ◌||◌, ◌∙◌, ◌∷◌, ◌≡◌}
+use Rattle.sdd_obligations.proofs.All.{Act, Answer, Asks, AsksPhase, Attempt, Bool, D, Did, DmNo, Does, Exchange, Fetching, FitsInput, Frozen, Hand, Has, Input, IsPermitted, List, Log, Move, Msg, Option, Over, Phase, Reading, Records, Reduce, Reducing, Replies, Shipping, Silent, Site, Some, Tells, Turn, Value, [], ap, arith, contains, eqb-true, false, first_phase, home, inl, inr, is_a_read, is_answer, is_question, is_shipped, length, local_of, longer, not_both, refl, subst, sym, true, turn_at, ℕ, ◌++◌, ◌==◌, ◌||◌, ◌∙◌, ◌∷◌, ◌≡◌}
 use Rattle.sdd_obligations.proofs.AtTurn.{StandsAt, answered_last, apart, awaited, awaits, unsent}
 use Rattle.sdd_obligations.proofs.Modules.{firsts}
 use Rattle.sdd_obligations.proofs.Places.{IsAnswerAt, one_answer}
@@ -26,7 +26,7 @@ pub record IsAnswered (turn : Turn) (rows : Option Frozen) (m : Msg) : Type 0 wh
   pub tells : is_a_read question ≡ false → (f : Frozen) × (rows ≡ Some f) × Tells question m f
 
 -- how the exchange of an active attempt and its modules go in step
-pub record InStep (g : Given) (c : ℕ) (log : Log) (a : Attempt) : Type 0 where
+pub record InStep (g : Input) (c : ℕ) (log : Log) (a : Attempt) : Type 0 where
   pub stands : (d : ℕ) → StandsAt d a.exchange (turn_at a.ts c d (local_of g (home g.catalogue c) log))
   pub asks : AsksPhase a.ts c a.exchange (λ d. turn_at a.ts c d (local_of g (home g.catalogue c) log))
   pub question : (from : Site) (d : DmNo) (n : ℕ) (m : Msg) → IsPermitted g (Hand from (D d) n m ∷ log) → is_question a.ts c m ≡ true
@@ -68,7 +68,7 @@ none_read [] ds d e ships k = absurd (subst (λ xs. Has xs d) (sym e) k)
 none_read (m ∷ ms) ds d e ships k = cc
 
 -- a READ isn't answered twice at a module
-pub again : (g : Given) → FitsGiven g → (c : ℕ) (d : DmNo) (act : Act) (log : Log) (ts : ℕ)
+pub again : (g : Input) → FitsInput g → (c : ℕ) (d : DmNo) (act : Act) (log : Log) (ts : ℕ)
     → IsPermitted g (Does (D d) act ∷ log) → own g d.0 (Does (D d) act ∷ log) ≡ Did act ∷ own g d.0 log
     → IsFrozen (set g d.0) c ts act (own g d.0 log) → IsAnswerAt ts (own g d.0 log) → ⊥
 again g good c d act log ts h here r older =

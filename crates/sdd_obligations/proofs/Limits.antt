@@ -1,6 +1,6 @@
 -- How many marks there are within the limits, how many messages on a link, and how many messages and transactions a site
 -- was handed and given.
-use Rattle.sdd_obligations.proofs.All.{AllFewTicks, Bool, Call, Did, Does, Entry, Event, Force, Given, Hand, Handed, IsAllowed, IsLawful, IsMarkEntry, IsPermitted, IsWithin, Link, List, Log, MAX_LINK_MESSAGES, MAX_RUN_EVENTS, Mark, Msg, None, Notes, Option, Puts, Redeclares, Round, Site, Some, Submit, Submits, Submitted, T, Tick, Ticked, Txn, U, [], allowed_hand, allowed_mark, ap, arith, both, calls_of, delivered_within, false, force_at, forced, given_to, handed, handed_le, hands, if_way, if◌then◌else◌, length, length-append, link, local_of, local_step, made, made_by_mark, marks, neither_left, neither_right, not_past, nothing_if, put_by, puts, puts_past, redeclares, refl, same_link, same_site, sends_of_act, sent, sent_grows, site_self, sites, submits, suc, true, turned, txn_at, with_made, ℕ, ◌&&◌, ◌++◌, ◌+◌, ◌∷◌, ◌≡◌, ◌≤◌}
+use Rattle.sdd_obligations.proofs.All.{AllFewTicks, Bool, Call, Did, Does, Entry, Event, Force, Hand, Handed, Input, IsAllowed, IsLawful, IsMarkEntry, IsPermitted, IsWithin, Link, List, Log, MAX_LINK_MESSAGES, MAX_RUN_EVENTS, Mark, Msg, None, Notes, Option, Puts, Redeclares, Round, Site, Some, Submit, Submits, Submitted, T, Tick, Ticked, Txn, U, [], allowed_hand, allowed_mark, ap, arith, both, calls_of, delivered_within, false, force_at, forced, given_to, handed, handed_le, hands, if_way, if◌then◌else◌, length, length-append, link, local_of, local_step, made, made_by_mark, marks, neither_left, neither_right, not_past, nothing_if, put_by, puts, puts_past, redeclares, refl, same_link, same_site, sends_of_act, sent, sent_grows, site_self, sites, submits, suc, true, turned, txn_at, with_made, ℕ, ◌&&◌, ◌++◌, ◌+◌, ◌∷◌, ◌≡◌, ◌≤◌}
 use Rattle.sdd_obligations.proofs.OfNext.{IsThere, from_there, of_next}
 use Rattle.sdd_obligations.proofs.Sums.{total, total_raise, total_up}
 use Rattle.sdd_invariants.specs.net.Links.{put}
@@ -46,13 +46,13 @@ as_before n xs ys zs e f l =
     let a = length-append xs ys in let b : length zs ≡ length (xs ++ ys) = ap length e in let c : length ys ≡ 0 = ap length f in
     omega (arith, a, b, c, l)
 
-pub sent_few : (g : Given) (log : Log) → IsWithin log → (a b : Site) → length (sent a b log) ≤ MAX_LINK_MESSAGES
+pub sent_few : (g : Input) (log : Log) → IsWithin log → (a b : Site) → length (sent a b log) ≤ MAX_LINK_MESSAGES
 sent_few g [] h a b = omega arith
 sent_few g (Mark e ∷ log) h a b = as_before MAX_LINK_MESSAGES (sent a b log) _ _ (sent_grows g a b (Mark e) log) (nothing_marked a b e) (sent_few g log h.1 a b)
 sent_few g (Does at act ∷ log) h a b = puts_within at (sends_of_act act) (calls_of log) (λ x y. sent_few g log h.1 x y) h.0 a b
 sent_few g (_ ∷ log) h a b = sent_few g log h.1 a b
 
-pub handed_few : (g : Given) (log : Log) → IsPermitted g log → IsWithin log → (a b : Site) → handed a b log ≤ MAX_LINK_MESSAGES
+pub handed_few : (g : Input) (log : Log) → IsPermitted g log → IsWithin log → (a b : Site) → handed a b log ≤ MAX_LINK_MESSAGES
 handed_few g log p h a b = let i = handed_le g log a b p in let j = delivered_within a b log in let k = sent_few g log h a b in omega (arith, i, j, k)
 
 -- what came to the log of a site
@@ -108,7 +108,7 @@ is_pending : (log : Log) (to : Site) (n : ℕ) → IsMarkEntry log (Submitted to
 is_pending (Mark (Submit k) ∷ log) to n h = refl
 is_pending log to n h = absurd h
 
-submits_step : (g : Given) (at : Site) (e : Entry) (log : Log) (k n : ℕ) → submits_by (made g at log e) ≤ k
+submits_step : (g : Input) (at : Site) (e : Entry) (log : Log) (k n : ℕ) → submits_by (made g at log e) ≤ k
     → length (submits (local_of g at log)) + k ≤ n → length (submits (local_of g at (e ∷ log))) ≤ n
 submits_step g at e log k n l h =
     let a = submits_more (made g at log e) (local_of g at log) in
@@ -116,7 +116,7 @@ submits_step g at e log k n l h =
     ap (λ x. length (submits x)) (local_step g at e log) in
     omega (arith, a, b, l, h)
 
-submits_marks : (g : Given) (at : Site) (log : Log) → IsPermitted g log → length (submits (local_of g at log)) + pending log ≤ marks log
+submits_marks : (g : Input) (at : Site) (log : Log) → IsPermitted g log → length (submits (local_of g at log)) + pending log ≤ marks log
 submits_marks g U [] p = omega arith
 submits_marks g at (Mark e ∷ log) p =
     let i = submits_marks g at log p.1 in let z = (none_marked at e).1 in
@@ -143,15 +143,15 @@ submits_marks g at (Does by act ∷ log) p =
     let j = submits_step g at (Does by act) log 0 (marks log) (omega (arith, z)) (omega (arith, i)) in omega (arith, j)
 submits_marks g _ [] p = omega arith
 
-pub submits_few : (g : Given) (at : Site) (log : Log) → IsPermitted g log → length (submits (local_of g at log)) ≤ marks log
+pub submits_few : (g : Input) (at : Site) (log : Log) → IsPermitted g log → length (submits (local_of g at log)) ≤ marks log
 submits_few g at log p = let i = submits_marks g at log p in omega (arith, i)
 
 -- each hand is of some link
 
-abbrev hands_sum : Given → Site → Log → ℕ
+abbrev hands_sum : Input → Site → Log → ℕ
 hands_sum g at log = total (λ a. handed a at log) (sites g.catalogue.tms g.catalogue.dms)
 
-hands_step : (g : Given) (at : Site) (e : Entry) (log : Log) (n : ℕ) → hands_by (made g at log e) ≡ 0
+hands_step : (g : Input) (at : Site) (e : Entry) (log : Log) (n : ℕ) → hands_by (made g at log e) ≡ 0
     → hands (local_of g at log) ≤ n → hands (local_of g at (e ∷ log)) ≤ n
 hands_step g at e log n z h =
     let a = hands_more (made g at log e) (local_of g at log) in
@@ -163,11 +163,11 @@ hand_raises : (c d : Bool) (n k : ℕ) → ((c && d) ≡ true → n ≡ suc k) �
 hand_raises true true n k f = let e = f refl in omega (arith, e)
 hand_raises _ _ n k f = omega arith
 
-numbered : (g : Given) (log : Log) (a b from to : Site) (n : ℕ) (m : Msg) → IsAllowed g log (Hand from to n m)
+numbered : (g : Input) (log : Log) (a b from to : Site) (n : ℕ) (m : Msg) → IsAllowed g log (Hand from to n m)
     → (same_site a from && same_site b to) ≡ true → n ≡ suc (handed a b log)
 numbered g log a b from to n m h e = same_link (λ x y. n ≡ suc (handed x y log)) a b from to e (allowed_hand g log (Hand from to n m) h).next
 
-hand_sum : (g : Given) (at from to : Site) (n : ℕ) (m : Msg) (log : Log) → IsAllowed g log (Hand from to n m)
+hand_sum : (g : Input) (at from to : Site) (n : ℕ) (m : Msg) (log : Log) → IsAllowed g log (Hand from to n m)
     → IsThere (sites g.catalogue.tms g.catalogue.dms) from → same_site at to ≡ true → 1 + hands_sum g at log ≤ hands_sum g at (Hand from to n m ∷ log)
 hand_sum g at from to n m log h k e =
     let own : (same_site from from && same_site at to) ≡ true = both (same_site from from) (same_site at to) (site_self from) e in
@@ -175,7 +175,7 @@ hand_sum g at from to n m log h k e =
     total_raise (λ a. handed a at log) (λ a. handed a at (Hand from to n m ∷ log)) 1 (sites g.catalogue.tms g.catalogue.dms) k.0 from k.1
     (λ a. hand_raises (same_site a from) (same_site at to) n (handed a at log) (numbered g log a at from to n m h)) (rw own (omega (arith, is)))
 
-hand_step : (g : Given) (at from to : Site) (n : ℕ) (m : Msg) (log : Log) (c : Bool) → IsAllowed g log (Hand from to n m)
+hand_step : (g : Input) (at from to : Site) (n : ℕ) (m : Msg) (log : Log) (c : Bool) → IsAllowed g log (Hand from to n m)
     → IsThere (sites g.catalogue.tms g.catalogue.dms) from → same_site at to ≡ c → hands (local_of g at log) ≤ hands_sum g at log
     → hands (local_of g at (Hand from to n m ∷ log)) ≤ hands_sum g at (Hand from to n m ∷ log)
 hand_step g at from to n m log true h k e i =
@@ -189,7 +189,7 @@ hand_step g at from to n m log false h k e i =
     let a : hands (local_of g at (Hand from to n m ∷ log)) ≡ hands (local_of g at log) = rw e refl in
     omega (arith, a, i, j)
 
-pub hands_few : (g : Given) (at : Site) (log : Log) → AllFewTicks g.events → IsLawful g log → IsPermitted g log → hands (local_of g at log) ≤ hands_sum g at log
+pub hands_few : (g : Input) (at : Site) (log : Log) → AllFewTicks g.events → IsLawful g log → IsPermitted g log → hands (local_of g at log) ≤ hands_sum g at log
 hands_few g U [] f l p = omega arith
 hands_few g at (Mark e ∷ log) f l p = hands_step g at (Mark e) log _ (none_marked at e).0 (hands_few g at log f l.1 p.1)
 hands_few g at (Redeclares t ∷ log) f l p =

@@ -1,5 +1,5 @@
 -- What an act sends goes along links of the network.
-use Rattle.sdd_obligations.proofs.All.{Act, All, All-head, All-tail, AllFewTicks, AllLinked, Attempt, Bases, Bool, Change, Class, ClassView, Cond, D, DmNo, Does, Done, Fetch, Given, Hand, Hold, Home, IsAnAsk, IsDueAt, IsLawful, IsPermitted, IsServedClass, IsWhole, List, Log, Msg, None, Null, Open, Option, Processes, Queued, Read, Reduce, Refuses, Sends, Setting, Ship, Site, Some, T, TmNo, U, View, Waits, WasAsked, Write, [], active, ap, are_linked, arith, attempt_due, base_of, both, class_no, commit_act, cond, counts_tm, dm_no, effect, false, filter, first_send, head, head_of, home_of, if◌then◌else◌, in_filtered, in_mapped, in_range, is_asked_of, is_link, is_over, is_site, link_back, local_of, map, modules_asked, nat_le, numbers_to, opens, or_else, place_of_hand, queue, refl, sends_of_act, setting_of, sites, slice_get, slice_index_or, source_of, start_at, start_read, subst, suc, sym, t_fair, time_at, tm_no, true, u_fair, view_of, was_handed, write_to, zero, ℕ, ◌++◌, ◌==◌, ◌∙◌, ◌∷◌, ◌≡◌, ◌≤◌}
+use Rattle.sdd_obligations.proofs.All.{Act, All, All-head, All-tail, AllFewTicks, AllLinked, Attempt, Bases, Bool, Change, Class, ClassView, Cond, D, DmNo, Does, Done, Fetch, Hand, Hold, Home, Input, IsAnAsk, IsDueAt, IsLawful, IsPermitted, IsServedClass, IsWhole, List, Log, Msg, None, Null, Open, Option, Processes, Queued, Read, Reduce, Refuses, Sends, Setting, Ship, Site, Some, T, TmNo, U, View, Waits, WasAsked, Write, [], active, ap, are_linked, arith, attempt_due, base_of, both, class_no, commit_act, cond, counts_tm, dm_no, effect, false, filter, first_send, head, head_of, home_of, if◌then◌else◌, in_filtered, in_mapped, in_range, is_asked_of, is_link, is_over, is_site, link_back, local_of, map, modules_asked, nat_le, numbers_to, opens, or_else, place_of_hand, queue, refl, sends_of_act, setting_of, sites, slice_get, slice_index_or, source_of, start_at, start_read, subst, suc, sym, t_fair, time_at, tm_no, true, u_fair, view_of, was_handed, write_to, zero, ℕ, ◌++◌, ◌==◌, ◌∙◌, ◌∷◌, ◌≡◌, ◌≤◌}
 use Rattle.sdd_obligations.proofs.OfNext.{IsThere, OfNext, d_of_sites, link_of_links, of_next, t_of_sites}
 use Rattle.sdd_obligations.proofs.Going.{in_made, was_asked_of}
 use Rattle.sdd_obligations.proofs.Near.{AllNear, HasNear, IsNear, SendsNear, active_near, modules_near}
@@ -14,42 +14,42 @@ use Rattle.sdd_invariants.specs.site_module.SiteLog as site
 
 -- the ends of links
 
-abbrev Links : Given → Site → Site → Type 0
+abbrev Links : Input → Site → Site → Type 0
 Links g a b = is_link g.catalogue.tms g.catalogue.dms a b ≡ true
 
-abbrev Here : Given → Site → Type 0
+abbrev Here : Input → Site → Type 0
 Here g a = is_site g.catalogue.tms g.catalogue.dms a ≡ true
 
-link_of : (g : Given) (a b : Site) → Here g a → Here g b → are_linked a b ≡ true → Links g a b
+link_of : (g : Input) (a b : Site) → Here g a → Here g b → are_linked a b ≡ true → Links g a b
 link_of g a b h i j = rw (h, i, j) refl
 
-near_here : (g : Given) (d : ℕ) → IsNear g.catalogue.dms d → Here g (D (dm_no d))
+near_here : (g : Input) (d : ℕ) → IsNear g.catalogue.dms d → Here g (D (dm_no d))
 near_here g d h = both (nat_le 1 d) (nat_le d g.catalogue.dms) (le_true 1 d h.0) (le_true d g.catalogue.dms h.1)
 
-t_here : (g : Given) (t : ℕ) → 1 ≤ t → t ≤ g.catalogue.tms → Here g (T (tm_no t))
+t_here : (g : Input) (t : ℕ) → 1 ≤ t → t ≤ g.catalogue.tms → Here g (T (tm_no t))
 t_here g t l m = both (nat_le 1 t) (nat_le t g.catalogue.tms) (le_true 1 t l) (le_true t g.catalogue.tms m)
 
 -- what all sends of an act are
 
-all_linked : (g : Given) (at : Site) (ps : List (Site × Msg)) → ((k : ℕ) (p : Site × Msg) → slice_get ps k ≡ Some p → Links g at p.0) → AllLinked g at ps
+all_linked : (g : Input) (at : Site) (ps : List (Site × Msg)) → ((k : ℕ) (p : Site × Msg) → slice_get ps k ≡ Some p → Links g at p.0) → AllLinked g at ps
 all_linked g at [] f = tt
 all_linked g at (p ∷ ps) f = (f 0 p refl, all_linked g at ps (λ k q e. f (suc k) q e))
 
-abbrev ActLinked : Given → Site → Act → Type 0
+abbrev ActLinked : Input → Site → Act → Type 0
 ActLinked g at act = AllLinked g at (sends_of_act act)
 
-linked_some : (g : Given) (at : Site) (x a : Act) → ActLinked g at x → Some x ≡ Some a → ActLinked g at a
+linked_some : (g : Input) (at : Site) (x a : Act) → ActLinked g at x → Some x ≡ Some a → ActLinked g at a
 linked_some g at x a h e = let p : x ≡ a = cc in subst (ActLinked g at) p h
 
-one_linked : (g : Given) (at to : Site) (m : Msg) (hand : Option ℕ) → Links g at to → ActLinked g at (Sends to m hand)
+one_linked : (g : Input) (at to : Site) (m : Msg) (hand : Option ℕ) → Links g at to → ActLinked g at (Sends to m hand)
 one_linked g at to m hand l = (l, tt)
 
 -- a site that a message was handed from is linked
-pub lawful_part : (g : Given) (later log : Log) → IsLawful g (later ++ log) → IsLawful g log
+pub lawful_part : (g : Input) (later log : Log) → IsLawful g (later ++ log) → IsLawful g log
 lawful_part g [] log h = h
 lawful_part g (e ∷ later) log h = lawful_part g later log h.1
 
-asked_linked : (g : Given) (at : Site) (log : Log) (b : Site) (P : Msg → Type 0) → AllFewTicks g.events → IsLawful g log
+asked_linked : (g : Input) (at : Site) (log : Log) (b : Site) (P : Msg → Type 0) → AllFewTicks g.events → IsLawful g log
     → WasAsked (local_of g at log) b P → Links g at b
 asked_linked g at log b P f h w =
     let l = place_of_hand g at log w.later b w.asked w.before w.is in
@@ -59,7 +59,7 @@ asked_linked g at log b P f h w =
 
 -- of a site that runs transactions
 
-abbrev ToModules : Given → Site → Type 0
+abbrev ToModules : Input → Site → Type 0
 ToModules g at = (d : ℕ) → IsNear g.catalogue.dms d → Links g at (D (dm_no d))
 
 near_at : (n : ℕ) (ds : List ℕ) (k d : ℕ) → AllNear n ds → slice_get ds k ≡ Some d → IsNear n d
@@ -67,7 +67,7 @@ near_at n [] k d h e = cc
 near_at n (x ∷ ds) zero d h e = let p : x ≡ d = cc in subst (IsNear n) p h.0
 near_at n (x ∷ ds) (suc k) d h e = near_at n ds k d h.1 e
 
-start_linked : (g : Given) (at : Site) (c : ℕ) (log : site.Log) (q : Queued) → IsWhole g.catalogue → ToModules g at
+start_linked : (g : Input) (at : Site) (c : ℕ) (log : site.Log) (q : Queued) → IsWhole g.catalogue → ToModules g at
     → ActLinked g at (start_at (setting_of g at) c log q)
 start_linked g at c log q w f =
     all_linked g at (sends_of_act (start_at (setting_of g at) c log q)) (λ k p e. let r =
@@ -75,12 +75,12 @@ start_linked g at c log q w f =
     subst (λ (x : Site × Msg). Links g at x.0) r.2
     (f r.0 (near_at g.catalogue.dms (modules_asked (setting_of g at) c q.text) k r.0 (modules_near g.catalogue c _ w) r.1)))
 
-write_linked : (g : Given) (at : Site) (b : Bool) (d : ℕ) (m : Msg) (p : Site × Msg) → Links g at (D (dm_no d))
+write_linked : (g : Input) (at : Site) (b : Bool) (d : ℕ) (m : Msg) (p : Site × Msg) → Links g at (D (dm_no d))
     → cond {A = Option (Site × Msg)} b (Some (D (dm_no d), m)) None ≡ Some p → Links g at p.0
 write_linked g at true d m p l e = let q : ◌≡◌ {A = Site × Msg} (D (dm_no d), m) p = cc in subst (λ (x : Site × Msg). Links g at x.0) q l
 write_linked g at false d m p l e = cc
 
-commit_linked : (g : Given) (at : Site) (c : ℕ) (bases : Bases) (a : Attempt) → ToModules g at → ActLinked g at (commit_act g.catalogue bases c a)
+commit_linked : (g : Input) (at : Site) (c : ℕ) (bases : Bases) (a : Attempt) → ToModules g at → ActLinked g at (commit_act g.catalogue bases c a)
 commit_linked g at c bases a f =
     let xs : List Change = (effect g.catalogue (bases a.ts) a.text).changes in
     all_linked g at (sends_of_act (commit_act g.catalogue bases c a)) (λ k p e. let r =
@@ -88,41 +88,41 @@ commit_linked g at c bases a f =
     let i = in_range 1 g.catalogue.dms r.1 r.0 r.2 in
     write_linked g at _ r.0 _ p (f r.0 (i.0, omega (arith, i.1))) r.3)
 
-over_linked : (g : Given) (at : Site) (c : ℕ) (bases : Bases) (a : Attempt) (b : Bool) (act : Act) → ToModules g at
+over_linked : (g : Input) (at : Site) (c : ℕ) (bases : Bases) (a : Attempt) (b : Bool) (act : Act) → ToModules g at
     → (if b then Some (commit_act g.catalogue bases c a) else None) ≡ Some act → ActLinked g at act
 over_linked g at c bases a true act f e = linked_some g at (commit_act g.catalogue bases c a) act (commit_linked g at c bases a f) e
 over_linked g at c bases a false act f e = cc
 
-send_linked : (g : Given) (at : Site) (c : ℕ) (bases : Bases) (a : Attempt) (ms : List (ℕ × Msg)) (act : Act) → ToModules g at → SendsNear g.catalogue.dms ms
+send_linked : (g : Input) (at : Site) (c : ℕ) (bases : Bases) (a : Attempt) (ms : List (ℕ × Msg)) (act : Act) → ToModules g at → SendsNear g.catalogue.dms ms
     → or_else (first_send ms) (if is_over a.exchange.phase then Some (commit_act g.catalogue bases c a) else None) ≡ Some act → ActLinked g at act
 send_linked g at c bases a [] act f h e = over_linked g at c bases a (is_over a.exchange.phase) act f e
 send_linked g at c bases a (m ∷ rest) act f h e = linked_some g at (Sends (D (dm_no m.0)) m.1 None) act (one_linked g at (D (dm_no m.0)) m.1 None (f m.0 h.0)) e
 
-attempt_linked : (g : Given) (at : Site) (c : ℕ) (bases : Bases) (log : site.Log) (o : Option Attempt) (act : Act) → ToModules g at
+attempt_linked : (g : Input) (at : Site) (c : ℕ) (bases : Bases) (log : site.Log) (o : Option Attempt) (act : Act) → ToModules g at
     → HasNear g.catalogue.dms o → attempt_due g.catalogue bases c o ≡ Some act → ActLinked g at act
 attempt_linked g at c bases log None act f h e = cc
 attempt_linked g at c bases log (Some a) act f h e = send_linked g at c bases a a.exchange.to_send act f h.sends e
 
 -- at a T
 
-null_linked : (g : Given) (at : Site) (q : tm_views.Question) (b : Bool) (o : Option ℕ) (act : Act) → Links g at q.from
+null_linked : (g : Input) (at : Site) (q : tm_views.Question) (b : Bool) (o : Option ℕ) (act : Act) → Links g at q.from
     → (if b then tm.null_at q o else None) ≡ Some act → ActLinked g at act
 null_linked g at q true (Some t) act l e =
     linked_some g at (Sends q.from (Null (class_no q.class) (time_at t)) (Some q.hand)) act
     (one_linked g at q.from (Null (class_no q.class) (time_at t)) (Some q.hand) l) e
 null_linked g at q _ _ act l e = cc
 
-held_linked : (g : Given) (at : Site) (b : Bool) (m : Msg) (hand : Option ℕ) (act : Act) → Links g at U
+held_linked : (g : Input) (at : Site) (b : Bool) (m : Msg) (hand : Option ℕ) (act : Act) → Links g at U
     → (if b then Some (Sends U m hand) else None) ≡ Some act → ActLinked g at act
 held_linked g at true m hand act l e = linked_some g at (Sends U m hand) act (one_linked g at U m hand l) e
 held_linked g at false m hand act l e = cc
 
-begin_linked : (g : Given) (t : TmNo) (log : site.Log) (b : Bool) (c : ℕ) (o : Option Queued) (act : Act) → IsWhole g.catalogue → ToModules g (T t)
+begin_linked : (g : Input) (t : TmNo) (log : site.Log) (b : Bool) (c : ℕ) (o : Option Queued) (act : Act) → IsWhole g.catalogue → ToModules g (T t)
     → (if b then tm.start_of g.catalogue (tm_views.view_of (setting_of g (T t)) log) c o else None) ≡ Some act → ActLinked g (T t) act
 begin_linked g t log true c (Some q) act w f e = linked_some g (T t) (start_at (setting_of g (T t)) c log q) act (start_linked g (T t) c log q w f) e
 begin_linked g t log _ c _ act w f e = cc
 
-t_linked : (g : Given) (t : TmNo) (log : Log) (bases : Bases) (act : Act) → IsWhole g.catalogue → AllFewTicks g.events → IsLawful g log
+t_linked : (g : Input) (t : TmNo) (log : Log) (bases : Bases) (act : Act) → IsWhole g.catalogue → AllFewTicks g.events → IsLawful g log
     → IsPermitted g log → Here g (T t) → tm.IsDue g.catalogue bases (tm_views.view_of (setting_of g (T t)) (local_of g (T t) log)) act → ActLinked g (T t) act
 t_linked g t log bases act w f h p here (tm.by_exchange k c i e) =
     let s : Setting = setting_of g (T t) in let l : site.Log = local_of g (T t) log in
@@ -137,26 +137,26 @@ t_linked g t log bases act w f h p here (tm.by_start k c i e) =
 
 -- at U
 
-tm_linked : (g : Given) (b : Bool) (t : ℕ) (m : Msg) (act : Act) → Links g U (T (tm_no t))
+tm_linked : (g : Input) (b : Bool) (t : ℕ) (m : Msg) (act : Act) → Links g U (T (tm_no t))
     → (if b then Some (Sends (T (tm_no t)) m None) else None) ≡ Some act → ActLinked g U act
 tm_linked g true t m act l e = linked_some g U (Sends (T (tm_no t)) m None) act (one_linked g U (T (tm_no t)) m None l) e
 tm_linked g false t m act l e = cc
 
-hold_linked : (g : Given) (k : um_views.TmCounts) (o : Option Queued) (act : Act) → Links g U (T (tm_no k.tm)) → um.hold_to k o ≡ Some act → ActLinked g U act
+hold_linked : (g : Input) (k : um_views.TmCounts) (o : Option Queued) (act : Act) → Links g U (T (tm_no k.tm)) → um.hold_to k o ≡ Some act → ActLinked g U act
 hold_linked g k None act l e = cc
 hold_linked g k (Some q) act l e = tm_linked g (k.releases == k.holds) k.tm Hold act l e
 
-u_start_linked : (g : Given) (log : site.Log) (b : Bool) (q : Queued) (act : Act) → IsWhole g.catalogue → ToModules g U
+u_start_linked : (g : Input) (log : site.Log) (b : Bool) (q : Queued) (act : Act) → IsWhole g.catalogue → ToModules g U
     → (if b then Some (start_at (setting_of g U) 0 log q) else None) ≡ Some act → ActLinked g U act
 u_start_linked g log true q act w f e = linked_some g U (start_at (setting_of g U) 0 log q) act (start_linked g U 0 log q w f) e
 u_start_linked g log false q act w f e = cc
 
-u_begin_linked : (g : Given) (log : site.Log) (o : Option Queued) (act : Act) → IsWhole g.catalogue → ToModules g U
+u_begin_linked : (g : Input) (log : site.Log) (o : Option Queued) (act : Act) → IsWhole g.catalogue → ToModules g U
     → um.start_of g.catalogue (um_views.view_of (setting_of g U) log) o ≡ Some act → ActLinked g U act
 u_begin_linked g log None act w f e = cc
 u_begin_linked g log (Some q) act w f e = u_start_linked g log _ q act w f e
 
-count_linked : (g : Given) (log : site.Log) (j : ℕ) (k : um_views.TmCounts)
+count_linked : (g : Input) (log : site.Log) (j : ℕ) (k : um_views.TmCounts)
     → slice_get (map (λ t. um_views.counts t log) (numbers_to g.catalogue.tms)) j ≡ Some k → Links g U (T (tm_no k.tm))
 count_linked g log j k e =
     let r = in_mapped (λ t. um_views.counts t log) (numbers_to g.catalogue.tms) j k e in
@@ -164,7 +164,7 @@ count_linked g log j k e =
     let n : k.tm ≡ r.0 = ap (λ (x : um_views.TmCounts). x.tm) (sym r.2) ∙ counts_tm r.0 log in
     link_of g U (T (tm_no k.tm)) refl (t_here g k.tm (omega (arith, n, i.0)) (omega (arith, n, i.1))) refl
 
-u_linked : (g : Given) (log : Log) (bases : Bases) (act : Act) → IsWhole g.catalogue → IsPermitted g log
+u_linked : (g : Input) (log : Log) (bases : Bases) (act : Act) → IsWhole g.catalogue → IsPermitted g log
     → um.IsDue g.catalogue bases (um_views.view_of (setting_of g U) (local_of g U log)) act → ActLinked g U act
 u_linked g log bases act w p (um.by_exchange e) =
     attempt_linked g U 0 bases (local_of g U log) (active (setting_of g U) 0 (local_of g U log)) act
@@ -178,18 +178,18 @@ u_linked g log bases act w p (um.by_hold j k i e) =
 
 -- at a data module
 
-class_source : (g : Given) (d : DmNo) (ks : List Class) (i : ℕ) → All (IsServedClass g.catalogue) ks → Here g (D d)
+class_source : (g : Input) (d : DmNo) (ks : List Class) (i : ℕ) → All (IsServedClass g.catalogue) ks → Here g (D d)
     → Links g (D d) (slice_index_or (map (λ k. T k.tm) ks) i U)
 class_source g d [] i h here = link_of g (D d) U here refl refl
 class_source g d (k ∷ ks) zero h here =
     let s = All-head (IsServedClass g.catalogue) k ks h in link_of g (D d) (T k.tm) here (t_here g k.tm.0 s.module_from s.module_to) refl
 class_source g d (k ∷ ks) (suc i) h here = class_source g d ks i (All-tail (IsServedClass g.catalogue) k ks h) here
 
-source_linked : (g : Given) (d : DmNo) (c : ℕ) → IsWhole g.catalogue → Here g (D d) → Links g (D d) (source_of (home_of (setting_of g (D d))) c)
+source_linked : (g : Input) (d : DmNo) (c : ℕ) → IsWhole g.catalogue → Here g (D d) → Links g (D d) (source_of (home_of (setting_of g (D d))) c)
 source_linked g d zero w here = link_of g (D d) U here refl refl
 source_linked g d (suc c) w here = class_source g d g.catalogue.classes c w.classes here
 
-answer_linked : (g : Given) (d : DmNo) (h : Home) (k : ClassView) (o : Open) (m : Msg) (act : Act) → Links g (D d) o.from
+answer_linked : (g : Input) (d : DmNo) (h : Home) (k : ClassView) (o : Open) (m : Msg) (act : Act) → Links g (D d) o.from
     → dm.answer_to h k o m ≡ Some act → ActLinked g (D d) act
 answer_linked g d h k o (Read ts class txn attempt conds uses) act l e = linked_some g (D d) _ act tt e
 answer_linked g d h k o (Fetch ts class u col) act l e = linked_some g (D d) _ act (l, tt) e
@@ -201,23 +201,23 @@ pub first_there : (os : List Open) (o : Open) → head_of os ≡ Some o → slic
 first_there [] o e = cc
 first_there (x ∷ os) o e = e
 
-open_linked : (g : Given) (d : DmNo) (log : Log) (h : Home) (k : ClassView) (o : Option Open) (act : Act) → AllFewTicks g.events → IsLawful g log
+open_linked : (g : Input) (d : DmNo) (log : Log) (h : Home) (k : ClassView) (o : Option Open) (act : Act) → AllFewTicks g.events → IsLawful g log
     → head_of (filter (is_asked_of k.class) (opens (local_of g (D d) log))) ≡ o → dm.answer_of h k o ≡ Some act → ActLinked g (D d) act
 open_linked g d log h k None act f l p e = cc
 open_linked g d log h k (Some o) act f l p e =
     let i = in_filtered (is_asked_of k.class) (opens (local_of g (D d) log)) 0 o (first_there _ o p) in
     answer_linked g d h k o o.msg act (asked_linked g (D d) log o.from _ f l (was_handed (local_of g (D d) log) i.1 o i.2)) e
 
-asks_linked : (g : Given) (d : DmNo) (ds : List Cond) → IsWhole g.catalogue → Here g (D d)
+asks_linked : (g : Input) (d : DmNo) (ds : List Cond) → IsWhole g.catalogue → Here g (D d)
     → AllLinked g (D d) (map (dm.ask_for (home_of (setting_of g (D d)))) ds)
 asks_linked g d [] w here = tt
 asks_linked g d (q ∷ ds) w here = (source_linked g d q.class.0 w here, asks_linked g d ds w here)
 
-done_linked : (g : Given) (d : DmNo) (b : Bool) (m : Msg) → Here g (D d) → AllLinked g (D d) (if b then (U, m) ∷ [] else [])
+done_linked : (g : Input) (d : DmNo) (b : Bool) (m : Msg) → Here g (D d) → AllLinked g (D d) (if b then (U, m) ∷ [] else [])
 done_linked g d true m here = (link_of g (D d) U here refl refl, tt)
 done_linked g d false m here = tt
 
-step_linked : (g : Given) (d : DmNo) (v : View) (c : ℕ) (m : Msg) (step : Step) → IsWhole g.catalogue → Here g (D d)
+step_linked : (g : Input) (d : DmNo) (v : View) (c : ℕ) (m : Msg) (step : Step) → IsWhole g.catalogue → Here g (D d)
     → ActLinked g (D d) (dm.act_by (home_of (setting_of g (D d))) v c m step)
 step_linked g d v c (Null class time) step w here = tt
 step_linked g d v c (Write ts class txn changes) step w here = done_linked g d (c == 0) (Done ts) here
@@ -226,12 +226,12 @@ step_linked g d v c (Read ts class txn attempt conds uses) (Refuses by write) w 
 step_linked g d v c (Read ts class txn attempt conds uses) (Waits ds) w here = asks_linked g d ds w here
 step_linked g d v c m step w here = (link_of g (D d) U here refl refl, tt)
 
-head_linked : (g : Given) (d : DmNo) (v : View) (c : ℕ) (o : Option Msg) (s : Option Step) (act : Act) → IsWhole g.catalogue → Here g (D d)
+head_linked : (g : Input) (d : DmNo) (v : View) (c : ℕ) (o : Option Msg) (s : Option Step) (act : Act) → IsWhole g.catalogue → Here g (D d)
     → dm.act_where (home_of (setting_of g (D d))) v c o s ≡ Some act → ActLinked g (D d) act
 head_linked g d v c (Some m) (Some step) act w here e = linked_some g (D d) _ act (step_linked g d v c m step w here) e
 head_linked g d v c _ _ act w here e = cc
 
-d_linked : (g : Given) (d : DmNo) (log : Log) (act : Act) → IsWhole g.catalogue → AllFewTicks g.events → IsLawful g log → Here g (D d)
+d_linked : (g : Input) (d : DmNo) (log : Log) (act : Act) → IsWhole g.catalogue → AllFewTicks g.events → IsLawful g log → Here g (D d)
     → dm.IsDue (home_of (setting_of g (D d))) (view_of (setting_of g (D d)) (local_of g (D d) log)) act → ActLinked g (D d) act
 d_linked g d log act w f l here (dm.by_open n k p e) =
     open_linked g d log (home_of (setting_of g (D d))) k (head_of (filter (is_asked_of k.class) (opens (local_of g (D d) log)))) act f l refl e
@@ -245,7 +245,7 @@ site_here tms dms U k = refl
 site_here tms dms (T t) k = let r = t_of_sites tms dms t k in both (nat_le 1 t.0) (nat_le t.0 tms) (le_true 1 t.0 r.0) (le_true t.0 tms r.1)
 site_here tms dms (D d) k = let r = d_of_sites tms dms d k in both (nat_le 1 d.0) (nat_le d.0 dms) (le_true 1 d.0 r.0) (le_true d.0 dms r.1)
 
-pub act_linked : (g : Given) (log : Log) (at : Site) (act : Act) → IsWhole g.catalogue → AllFewTicks g.events → IsLawful g log → IsPermitted g log
+pub act_linked : (g : Input) (log : Log) (at : Site) (act : Act) → IsWhole g.catalogue → AllFewTicks g.events → IsLawful g log → IsPermitted g log
     → OfNext g log (Does at act) → IsDueAt g log at act → AllLinked g at (sends_of_act act)
 act_linked g log U act w f l p o due = u_linked g log (base_of g log) act w p due
 act_linked g log (T t) act w f l p o due = t_linked g t log (base_of g log) act w f l p (site_here g.catalogue.tms g.catalogue.dms (T t) o.0) due

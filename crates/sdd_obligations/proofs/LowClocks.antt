@@ -1,6 +1,6 @@
 -- The clocks of a run whose schedule has few events, and that has few attempts: ticks come from the schedule alone, and each
 -- Start is an attempt.
-use Rattle.sdd_obligations.proofs.All.{Act, AllFewTicks, Bool, Call, Deliver, Does, Down, Event, Given, History, IsLawful, IsSmall, List, Log, Lose, MAX_EVENTS, MAX_TICKS, Mark, Msg, None, Notes, Nothing, Rec, Records, Redeclares, Repeat, Resend, Round, Settle, Site, Some, Start, Submission, Submit, Submitted, Tick, Up, [], after_mark, all_links, ap, arith, attempt_of, attempts, calls_of, clock, cond, cons_option, false, filter_map, flat_map, from_event, height, history, in_flight, left, length, link, local_of, map, mark_from, mark_is_next, mark_of, marks, mul-le-mul_right, placed, quiet, records_of_act, refl, replicate, resends_now, round, starts_by, subst, suc, suc-mul, tail_of, ticks_of, trans_le, true, txn_no, zero, ℕ, ◌*◌, ◌++◌, ◌+◌, ◌<◌, ◌^◌, ◌∙◌, ◌∷◌, ◌≡◌, ◌≤◌}
+use Rattle.sdd_obligations.proofs.All.{Act, AllFewTicks, Bool, Call, Deliver, Does, Down, Event, History, Input, IsLawful, IsSmall, List, Log, Lose, MAX_EVENTS, MAX_TICKS, Mark, Msg, None, Notes, Nothing, Rec, Records, Redeclares, Repeat, Resend, Round, Settle, Site, Some, Start, Submission, Submit, Submitted, Tick, Up, [], after_mark, all_links, ap, arith, attempt_of, attempts, calls_of, clock, cond, cons_option, false, filter_map, flat_map, from_event, height, history, in_flight, left, length, link, local_of, map, mark_from, mark_is_next, mark_of, marks, mul-le-mul_right, placed, quiet, records_of_act, refl, replicate, resends_now, round, starts_by, subst, suc, suc-mul, tail_of, ticks_of, trans_le, true, txn_no, zero, ℕ, ◌*◌, ◌++◌, ◌+◌, ◌<◌, ◌^◌, ◌∙◌, ◌∷◌, ◌≡◌, ◌≤◌}
 use Rattle.sdd_obligations.proofs.Early.{is_under}
 use Rattle.sdd_obligations.proofs.OfNext.{of_next}
 use Rattle.sdd_laws.specs.All.{Attempt}
@@ -57,7 +57,7 @@ drop_ticks _ = omega arith
 same_mark : (x e : Event) (n : ℕ) → Some (Mark x) ≡ Some (Mark e) → ticks_of e + n ≤ ticks_of x + n
 same_mark x e n p = let s : x ≡ e = cc in subst (λ (y : Event). ticks_of y + n ≤ ticks_of x + n) s (omega arith)
 
-mark_ticks : (g : Given) (log : Log) (q : Bool) (r ws : List Event) (e : Event) → mark_from g log q r ws ≡ Some (Mark e)
+mark_ticks : (g : Input) (log : Log) (q : Bool) (r ws : List Event) (e : Event) → mark_from g log q r ws ≡ Some (Mark e)
     → ticks_of e + all_ticks (tail_of (from_event ws)) ≤ all_ticks ws
 mark_ticks g log true r (Settle ∷ ws) e p = let i = mark_ticks g log true r ws e p in omega (arith, i)
 mark_ticks g log q r (Submit n ∷ ws) e p = same_mark (Submit n) e (all_ticks ws) p
@@ -74,7 +74,7 @@ mark_ticks g log _ r _ e p = cc
 abbrev AreLeft : ℕ → List Event × List Event → ℕ → Type 0
 AreLeft n s most = (n + all_ticks s.0 ≤ most) × (all_ticks s.1 ≡ 0)
 
-marked : (g : Given) (log : Log) (s : List Event × List Event) (e : Event) (n most : ℕ) → mark_of g log s ≡ Some (Mark e) → AreLeft n s most
+marked : (g : Input) (log : Log) (s : List Event × List Event) (e : Event) (n most : ℕ) → mark_of g log s ≡ Some (Mark e) → AreLeft n s most
     → AreLeft (ticks_of e + n) (after_mark s) most
 marked g log (ws, []) e n most p h =
     let i = mark_ticks g log (quiet (all_links g) (calls_of log)) (round (all_links g) (calls_of log)) ws e p in
@@ -93,7 +93,7 @@ log_ticks [] = 0
 log_ticks (Mark e ∷ log) = ticks_of e + log_ticks log
 log_ticks (_ ∷ log) = log_ticks log
 
-ticks_left : (g : Given) (log : Log) → AllFewTicks g.events → IsLawful g log → AreLeft (log_ticks log) (left g.events log) (all_ticks g.events)
+ticks_left : (g : Input) (log : Log) → AllFewTicks g.events → IsLawful g log → AreLeft (log_ticks log) (left g.events log) (all_ticks g.events)
 ticks_left g [] f h = (omega arith, refl)
 ticks_left g (Mark e ∷ log) f h =
     marked g log (left g.events log) e (log_ticks log) (all_ticks g.events) (mark_is_next g log (Mark e) refl h.0) (ticks_left g log f h.1)
@@ -162,7 +162,7 @@ starts_are (_ ∷ log) = starts_are log
 low : (c h t s u v : ℕ) → c ≤ h → h ≡ t + s → t + u ≤ v → v ≤ MAX_EVENTS * MAX_TICKS → s ≤ 2 ^ 22 → c < 2 ^ 39
 low c h t s u v a b d e f = omega (arith, a, b, d, e, f)
 
-pub clock_low : (g : Given) (log : Log) (at : Site) → IsSmall g → IsLawful g log → length g.events ≤ MAX_EVENTS
+pub clock_low : (g : Input) (log : Log) (at : Site) → IsSmall g → IsLawful g log → length g.events ≤ MAX_EVENTS
     → length (attempts (history log)) ≤ 2 ^ 22 → (clock at (local_of g at log)).ticks < 2 ^ 39
 clock_low g log at s l events few =
     let ticks = trans_le (all_ticks g.events) _ _ (ticks_few g.events s.few_ticks) (mul-le-mul_right MAX_TICKS events) in

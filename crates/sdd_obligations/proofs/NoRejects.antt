@@ -1,5 +1,5 @@
 -- A READY or REJECT goes to the site that runs its class; no REJECT and no ASK goes to U.
-use Rattle.sdd_obligations.proofs.All.{All-get_or, Bool, Catalogue, ClassNo, Cond, D, DmNo, Does, Given, IsClassHere, IsPermitted, IsReadyBy, IsRejectBy, IsServedClass, IsWhole, List, Log, Msg, Read, Ready, Reject, Setting, Site, Some, T, Ts, TxnNo, U, Use, View, [], ap, arith, class_at, class_number, cond, false, filter, first_there, head, home, home_of, in_filtered, in_range, inl, inr, is_verdict, length, local_of, never_spoilt, not_both, not_zero, numbers_to, permitted_before, pipe_at, put_in_by_d, puts_to, read_classes, refl, runs, same_number, same_or_not, setting_of, slice_get, source_of, spoiler, spoils, subst, suc, sym, tm_no, true, view_of, zero, ℕ, ◌-◌, ◌==◌, ◌∙◌, ◌∷◌, ◌≡◌, ◌≤◌}
+use Rattle.sdd_obligations.proofs.All.{All-get_or, Bool, Catalogue, ClassNo, Cond, D, DmNo, Does, Input, IsClassHere, IsPermitted, IsReadyBy, IsRejectBy, IsServedClass, IsWhole, List, Log, Msg, Read, Ready, Reject, Setting, Site, Some, T, Ts, TxnNo, U, Use, View, [], ap, arith, class_at, class_number, cond, false, filter, first_there, head, home, home_of, in_filtered, in_range, inl, inr, is_verdict, length, local_of, never_spoilt, not_both, not_zero, numbers_to, permitted_before, pipe_at, put_in_by_d, puts_to, read_classes, refl, runs, same_number, same_or_not, setting_of, slice_get, source_of, spoiler, spoils, subst, suc, sym, tm_no, true, view_of, zero, ℕ, ◌-◌, ◌==◌, ◌∙◌, ◌∷◌, ◌≡◌, ◌≤◌}
 use Rattle.sdd_obligations.proofs.HoldsFit.{at_place}
 use Rattle.sdd_obligations.proofs.Piping.{source_is_home}
 use Rattle.sdd_obligations.proofs.Verdicts.{in_class, two_same}
@@ -9,7 +9,7 @@ use Rattle.sdd_obligations.proofs.Verdicts.{in_class, two_same}
 of_source : (s : Setting) (j c : ℕ) (b : Site) → IsClassHere s j → b ≡ source_of (home_of s) j → j ≡ c → b ≡ home s.catalogue c
 of_source s j c b l e q = e ∙ source_is_home s j (omega (arith, l)) ∙ ap (home s.catalogue) q
 
-pub verdict_home : (g : Given) (d : DmNo) (log : Log) (k : ℕ) (m : Msg) (b : Site) (ts c : ℕ) → IsPermitted g log
+pub verdict_home : (g : Input) (d : DmNo) (log : Log) (k : ℕ) (m : Msg) (b : Site) (ts c : ℕ) → IsPermitted g log
     → slice_get (puts_to b (local_of g (D d) log)) k ≡ Some m → is_verdict ts c m ≡ true → b ≡ home g.catalogue c
 verdict_home g d log k (Ready t kc counts) b ts c h e f =
     let p = put_in_by_d g log d b k (Ready t kc counts) h e in
@@ -45,7 +45,7 @@ kept_place f (y ∷ xs) (suc i) x e h =
     let k = kept_place f xs i x e h in
     elim (f y) as (λ b. (j : ℕ) × (slice_get (cond b (y ∷ filter f xs) (filter f xs)) j ≡ Some x)) [ true ↦ (suc k.0, k.1) | false ↦ k ]
 
-runs_place : (g : Given) (c : ℕ) → 1 ≤ c → c ≤ length g.catalogue.classes
+runs_place : (g : Input) (c : ℕ) → 1 ≤ c → c ≤ length g.catalogue.classes
     → (j : ℕ) × (slice_get (runs (setting_of g (T (tm_no (class_at g.catalogue c).tm.0)))) j ≡ Some c)
 runs_place g c l m =
     kept_place (λ k. (class_at g.catalogue k).tm.0 == (class_at g.catalogue c).tm.0)
@@ -61,7 +61,7 @@ class_served cat c w l m = All-get_or (IsServedClass cat) cat.classes (c - 1) (r
 
 -- so no REJECT goes to U
 
-not_spoilt : (g : Given) (d : DmNo) (log : Log) (ts : Ts) (k : ClassNo) (txn : TxnNo) (n : ℕ) (ds : List Cond) (us : List Use) (q : Cond) → IsWhole g.catalogue
+not_spoilt : (g : Input) (d : DmNo) (log : Log) (ts : Ts) (k : ClassNo) (txn : TxnNo) (n : ℕ) (ds : List Cond) (us : List Use) (q : Cond) → IsWhole g.catalogue
     → 1 ≤ d.0 → d.0 ≤ g.catalogue.dms → IsPermitted g log → head (pipe_at g 0 d log) ≡ Some (Read ts k txn n ds us)
     → spoiler (view_of (setting_of g (D d)) (local_of g (D d) log)) ds ≡ Some q → ⊥
 not_spoilt g d log ts k txn n ds us q w l m h e f =
@@ -79,7 +79,7 @@ not_spoilt g d log ts k txn n ds us q w l m h e f =
     (at_place g.catalogue.tms t s.module_from s.module_to) p.1 (omega (arith, a, b)) hm (at_place g.catalogue.dms d.0 l m) e i.2 in
     not_both (spoils v q) i.0 no
 
-pub u_not_rejected : (g : Given) (d : DmNo) (log : Log) (n : ℕ) (ts : Ts) (k by_class : ClassNo) (write : Ts) → IsWhole g.catalogue → 1 ≤ d.0
+pub u_not_rejected : (g : Input) (d : DmNo) (log : Log) (n : ℕ) (ts : Ts) (k by_class : ClassNo) (write : Ts) → IsWhole g.catalogue → 1 ≤ d.0
     → d.0 ≤ g.catalogue.dms → IsPermitted g log → slice_get (puts_to U (local_of g (D d) log)) n ≡ Some (Reject ts k by_class write) → ⊥
 u_not_rejected g d log n ts k by_class write w l m h e =
     let p = put_in_by_d g log d U n (Reject ts k by_class write) h e in

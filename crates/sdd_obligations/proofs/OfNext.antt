@@ -1,12 +1,12 @@
 -- What the next entry of a log is, beyond that it is allowed: it concerns sites and links of the network, and an event
 -- comes from those that were given or from a round.
-use Rattle.sdd_obligations.proofs.All.{Act, All-at, AllFewTicks, Bool, Call, D, Deliver, DmNo, Does, Down, Entry, Event, Given, Hand, IsLawful, IsTrue, List, Log, Lose, MAX_TICKS, Mark, Msg, None, Notes, Option, Redeclare, Redeclares, Repeat, Resend, Round, Settle, Site, Some, Submit, Submitted, T, Tick, TmNo, U, Up, [], after_mark, all_links, and_left, and_right, arith, at_map, calls_of, cond, cons_option, delivered, dm_no, does_at, due_by, false, filter_map, flat_map, found_at, from_event, greatest_bound, hand_due, hand_number, hand_on, hand_with, handed, if◌then◌else◌, in_either, in_flight, in_left, in_mapped, in_range, in_right, inl, inr, is_link, is_site, le_is, left, link, link_of, link_parts, links, links_exist, map, mark_due, mark_from, mark_of, message_at, nat_le, next, next_at, next_number, note_if, one_of, quiet, range_with_len, refl, replicate, resends_now, round, site_due, sites, slice_get, subst, suc, sym, tail_of, takes_part, ticks_of, tm_no, true, zero, ℕ, ◌&&◌, ◌++◌, ◌+◌, ◌-◌, ◌∷◌, ◌≡◌, ◌≤◌}
+use Rattle.sdd_obligations.proofs.All.{Act, All-at, AllFewTicks, Bool, Call, D, Deliver, DmNo, Does, Down, Entry, Event, Hand, Input, IsLawful, IsTrue, List, Log, Lose, MAX_TICKS, Mark, Msg, None, Notes, Option, Redeclare, Redeclares, Repeat, Resend, Round, Settle, Site, Some, Submit, Submitted, T, Tick, TmNo, U, Up, [], after_mark, all_links, and_left, and_right, arith, at_map, calls_of, cond, cons_option, delivered, dm_no, does_at, due_by, false, filter_map, flat_map, found_at, from_event, greatest_bound, hand_due, hand_number, hand_on, hand_with, handed, if◌then◌else◌, in_either, in_flight, in_left, in_mapped, in_range, in_right, inl, inr, is_link, is_site, le_is, left, link, link_of, link_parts, links, links_exist, map, mark_due, mark_from, mark_of, message_at, nat_le, next, next_at, next_number, note_if, one_of, quiet, range_with_len, refl, replicate, resends_now, round, site_due, sites, slice_get, subst, suc, sym, tail_of, takes_part, ticks_of, tm_no, true, zero, ℕ, ◌&&◌, ◌++◌, ◌+◌, ◌-◌, ◌∷◌, ◌≡◌, ◌≤◌}
 use Rattle.sdd_obligations.proofs.Sums.{range_at}
 
 abbrev pub IsThere : {A : Type 0} → List A → A → Type 0
 IsThere xs x = (k : ℕ) × (slice_get xs k ≡ Some x)
 
-abbrev pub OfNext : Given → Log → Entry → Type 0
+abbrev pub OfNext : Input → Log → Entry → Type 0
 OfNext g log (Mark e) = ticks_of e ≤ MAX_TICKS
 OfNext g log (Round es) = es ≡ round (all_links g) (calls_of log)
 OfNext g log (Redeclares t) = t ≡ greatest_bound g log
@@ -17,11 +17,11 @@ OfNext g log Notes = Unit {0}
 
 -- by an event
 
-of_note : (g : Given) (log : Log) (b : Bool) (e : Entry) → note_if b ≡ Some e → OfNext g log e
+of_note : (g : Input) (log : Log) (b : Bool) (e : Entry) → note_if b ≡ Some e → OfNext g log e
 of_note g log true e p = let q : Notes ≡ e = cc in subst (OfNext g log) q tt
 of_note g log false e p = cc
 
-of_event : (g : Given) (x : Event) (log : Log) (e : Entry) → due_by g x log ≡ Some e → OfNext g (Mark x ∷ log) e
+of_event : (g : Input) (x : Event) (log : Log) (e : Entry) → due_by g x log ≡ Some e → OfNext g (Mark x ∷ log) e
 of_event g (Submit n) log (Submitted at k) p = p
 of_event g (Deliver a b k) log e p = of_note g (Mark (Deliver a b k) ∷ log) _ e p
 of_event g (Lose a b k) log e p = of_note g (Mark (Lose a b k) ∷ log) _ e p
@@ -31,33 +31,33 @@ of_event g (Down d) log e p = of_note g (Mark (Down d) ∷ log) _ e p
 of_event g (Up d) log e p = of_note g (Mark (Up d) ∷ log) _ e p
 of_event g _ log e p = cc
 
-of_mark : (g : Given) (log : Log) (e : Entry) → mark_due g log ≡ Some e → OfNext g log e
+of_mark : (g : Input) (log : Log) (e : Entry) → mark_due g log ≡ Some e → OfNext g log e
 of_mark g (Mark x ∷ log) e p = of_event g x log e p
 of_mark g _ e p = cc
 
 -- at a site, on a link
 
-of_site : (g : Given) (log : Log) (at : Site) (o : Option Act) (e : Entry) → IsThere (sites g.catalogue.tms g.catalogue.dms) at
+of_site : (g : Input) (log : Log) (at : Site) (o : Option Act) (e : Entry) → IsThere (sites g.catalogue.tms g.catalogue.dms) at
     → next_at g log at ≡ o → does_at at o ≡ Some e → OfNext g log e
 of_site g log at None e k p q = cc
 of_site g log at (Some a) e k p q = let s : Does at a ≡ e = cc in subst (OfNext g log) s (k, p)
 
-of_message : (g : Given) (log : Log) (a b : Site) (n : ℕ) (o : Option Msg) (e : Entry) → IsThere (all_links g) (a, b)
+of_message : (g : Input) (log : Log) (a b : Site) (n : ℕ) (o : Option Msg) (e : Entry) → IsThere (all_links g) (a, b)
     → hand_with (a, b) n o ≡ Some e → OfNext g log e
 of_message g log a b n None e k p = cc
 of_message g log a b n (Some m) e k p = let s : Hand a b n m ≡ e = cc in subst (OfNext g log) s k
 
-of_link : (g : Given) (log : Log) (a b : Site) (c : Bool) (o : Option ℕ) (e : Entry) → IsThere (all_links g) (a, b)
+of_link : (g : Input) (log : Log) (a b : Site) (c : Bool) (o : Option ℕ) (e : Entry) → IsThere (all_links g) (a, b)
     → (if c then hand_number log (a, b) o else None) ≡ Some e → OfNext g log e
 of_link g log a b true (Some n) e k p = of_message g log a b n (message_at a b n log) e k p
 of_link g log a b _ _ e k p = cc
 
 -- the next mark
 
-some_mark : (g : Given) (log : Log) (x : Event) (e : Entry) → ticks_of x ≤ MAX_TICKS → Some (Mark x) ≡ Some e → OfNext g log e
+some_mark : (g : Input) (log : Log) (x : Event) (e : Entry) → ticks_of x ≤ MAX_TICKS → Some (Mark x) ≡ Some e → OfNext g log e
 some_mark g log x e l p = let s : Mark x ≡ e = cc in subst (OfNext g log) s l
 
-of_events : (g : Given) (log : Log) (q : Bool) (ws : List Event) (e : Entry) → AllFewTicks ws
+of_events : (g : Input) (log : Log) (q : Bool) (ws : List Event) (e : Entry) → AllFewTicks ws
     → mark_from g log q (round (all_links g) (calls_of log)) ws ≡ Some e → OfNext g log e
 of_events g log q [] e f p = cc
 of_events g log true (Settle ∷ ws) e f p = of_events g log true ws e f.1 p
@@ -77,7 +77,7 @@ of_events g log false (_ ∷ ws) e f p = let s : Round (round (all_links g) (cal
 abbrev pub AreFewLeft : List Event × List Event → Type 0
 AreFewLeft s = AllFewTicks s.0 × AllFewTicks s.1
 
-of_left : (g : Given) (log : Log) (s : List Event × List Event) (e : Entry) → AreFewLeft s → mark_of g log s ≡ Some e → OfNext g log e
+of_left : (g : Input) (log : Log) (s : List Event × List Event) (e : Entry) → AreFewLeft s → mark_of g log s ≡ Some e → OfNext g log e
 of_left g log (ws, []) e f p = of_events g log (quiet (all_links g) (calls_of log)) ws e f.0 p
 of_left g log (ws, x ∷ r) e f p = some_mark g log x e f.1.0 p
 
@@ -119,7 +119,7 @@ few_delivers calls (l ∷ ls) = few_join _ _ (few_replicate (in_flight (link l.0
 round_few : (calls : List (Call Msg)) (ls : List (Site × Site)) → AllFewTicks (round ls calls)
 round_few calls ls = few_join _ _ (few_resends calls ls) (few_delivers calls ls)
 
-next_is : (g : Given) (log : Log) (e : Entry) → AreFewLeft (left g.events log) → next g log ≡ Some e → OfNext g log e
+next_is : (g : Input) (log : Log) (e : Entry) → AreFewLeft (left g.events log) → next g log ≡ Some e → OfNext g log e
 next_is g log e f p =
     one_of (OfNext g log e) (mark_due g log) _ e (of_mark g log e)
     (one_of (OfNext g log e) (site_due g log) _ e (λ q. let r =
@@ -130,7 +130,7 @@ next_is g log e f p =
     (takes_part r.1.1 log) (next_number (handed r.1.0 r.1.1 log) (delivered (link_of r.1.0 r.1.1 log).there)) e (r.0, r.2) r.3)
     (λ q. of_left g log (left g.events log) e f q))) p
 
-few_left : (g : Given) (log : Log) → AllFewTicks g.events → IsLawful g log → AreFewLeft (left g.events log)
+few_left : (g : Input) (log : Log) → AllFewTicks g.events → IsLawful g log → AreFewLeft (left g.events log)
 few_left g [] f h = (f, tt)
 few_left g (Mark e ∷ log) f h = few_after (left g.events log) (few_left g log f h.1)
 few_left g (Redeclares t ∷ log) f h = few_after (left g.events log) (few_left g log f h.1)
@@ -140,7 +140,7 @@ few_left g (Round es ∷ log) f h =
     (i.0, subst AllFewTicks (sym e) (round_few (calls_of log) (all_links g)))
 few_left g (_ ∷ log) f h = few_left g log f h.1
 
-pub of_next : (g : Given) (log : Log) (e : Entry) → AllFewTicks g.events → IsLawful g log → next g log ≡ Some e → OfNext g log e
+pub of_next : (g : Input) (log : Log) (e : Entry) → AllFewTicks g.events → IsLawful g log → next g log ≡ Some e → OfNext g log e
 of_next g log e f h p = next_is g log e (few_left g log f h) p
 
 -- the sites of the network by their numbers
@@ -187,6 +187,6 @@ site_there tms dms (D d) e =
 pub link_of_links : (tms dms : ℕ) (a b : Site) → IsThere (links tms dms) (a, b) → is_link tms dms a b ≡ true
 link_of_links tms dms a b k = All-at (λ (l : Site × Site). IsTrue (is_link tms dms l.0 l.1)) (links tms dms) k.0 (a, b) k.1 (links_exist tms dms)
 
-pub from_there : (g : Given) (a b : Site) → IsThere (all_links g) (a, b) → IsThere (sites g.catalogue.tms g.catalogue.dms) a
+pub from_there : (g : Input) (a b : Site) → IsThere (all_links g) (a, b) → IsThere (sites g.catalogue.tms g.catalogue.dms) a
 from_there g a b k =
     site_there g.catalogue.tms g.catalogue.dms a (link_parts g.catalogue.tms g.catalogue.dms a b (link_of_links g.catalogue.tms g.catalogue.dms a b k)).from

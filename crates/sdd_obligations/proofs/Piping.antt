@@ -1,5 +1,5 @@
 -- A READ, WRITE or NULL that is next to be handed over comes from the site that runs its class, in turn.
-use Rattle.sdd_obligations.proofs.All.{AllGe, AllLe, Class, D, DmNo, FitsClass, FitsPipe, Given, Hand, Handed, IsPermitted, IsRising, List, Log, Msg, Setting, Site, Some, T, U, [], all_of, ap, append_assoc, arith, class_is, class_puts, class_rises, false, fold, goes_through, handed, home, home_of, in_pipe, last_time, length, local_of, map, max, not_zero, number_of, pipe, pipe_at, piped, put_at_home, refl, same_number, setting_of, site_self, slice_index_or, source_of, subst, suc, sym, time_in, time_of, tm_no, true, zero, ℕ, ◌++◌, ◌-◌, ◌<◌, ◌==◌, ◌^◌, ◌∙◌, ◌∷◌, ◌≡◌, ◌≤◌}
+use Rattle.sdd_obligations.proofs.All.{AllGe, AllLe, Class, D, DmNo, FitsClass, FitsPipe, Hand, Handed, Input, IsPermitted, IsRising, List, Log, Msg, Setting, Site, Some, T, U, [], all_of, ap, append_assoc, arith, class_is, class_puts, class_rises, false, fold, goes_through, handed, home, home_of, in_pipe, last_time, length, local_of, map, max, not_zero, number_of, pipe, pipe_at, piped, put_at_home, refl, same_number, setting_of, site_self, slice_index_or, source_of, subst, suc, sym, time_in, time_of, tm_no, true, zero, ℕ, ◌++◌, ◌-◌, ◌<◌, ◌==◌, ◌^◌, ◌∙◌, ◌∷◌, ◌≡◌, ◌≤◌}
 use Rattle.sdd_obligations.proofs.Counting.{class_here}
 use Rattle.sdd_obligations.proofs.Handing.{IsHanded}
 use Rattle.sdd_obligations.proofs.Under.{max_le as max_of}
@@ -19,7 +19,7 @@ source_is_home s (suc c) l =
     let e : suc c - 1 ≡ c = omega arith in
     rw (z, e) (source_at s.catalogue.classes c (omega (arith, l)))
 
-class_fits : (g : Given) (d : DmNo) (from : Site) (c : ℕ) → home g.catalogue c ≡ from → c ≤ length g.catalogue.classes → FitsClass (setting_of g (D d)) from c
+class_fits : (g : Input) (d : DmNo) (from : Site) (c : ℕ) → home g.catalogue c ≡ from → c ≤ length g.catalogue.classes → FitsClass (setting_of g (D d)) from c
 class_fits g d from c e l = record { is_class = l; home = sym e ∙ sym (source_is_home (setting_of g (D d)) c l) }
 
 -- no time before it is later
@@ -40,13 +40,13 @@ last_before : (xs : List Msg) (m : Msg) (more : List Msg) → IsRising (map time
 last_before xs m more h = fold_le (time_of m) 0 (map time_of xs) (omega arith) (le_before time_of xs m more h)
 
 -- its pipe with it
-pub pipe_with : (g : Given) (c : ℕ) (d : DmNo) (a : Site) (n : ℕ) (m : Msg) (log : Log) → goes_through c m ≡ true
+pub pipe_with : (g : Input) (c : ℕ) (d : DmNo) (a : Site) (n : ℕ) (m : Msg) (log : Log) → goes_through c m ≡ true
     → all_of (pipe_at g c d (Hand a (D d) n m ∷ log)) ≡ all_of (pipe_at g c d log) ++ m ∷ []
 pipe_with g c d a n m log e =
     let own : local_of g (D d) (Hand a (D d) n m ∷ log) ≡ Handed a m ∷ local_of g (D d) log = rw (site_self (D d)) refl in
     ap (λ l. all_of (pipe c l)) own ∙ (rw e (sym (append_assoc (pipe_at g c d log).processed (pipe_at g c d log).unprocessed (m ∷ []))))
 
-in_turn : (g : Given) (c : ℕ) (d : DmNo) (a : Site) (n : ℕ) (m : Msg) (log : Log) → IsPermitted g (Hand a (D d) n m ∷ log)
+in_turn : (g : Input) (c : ℕ) (d : DmNo) (a : Site) (n : ℕ) (m : Msg) (log : Log) → IsPermitted g (Hand a (D d) n m ∷ log)
     → number_of (home g.catalogue c) ≤ 63 → goes_through c m ≡ true → last_time (pipe c (local_of g (D d) log)) ≤ time_of m
 in_turn g c d a n m log h small e =
     let i = in_pipe g c d (Hand a (D d) n m ∷ log) h in
@@ -55,7 +55,7 @@ in_turn g c d a n m log h small e =
     i.1 ∙ ap (λ l. l ++ i.0) (pipe_with g c d a n m log e) in
     last_before (all_of (pipe_at g c d log)) m i.0 (subst (λ l. IsRising (map time_of l)) is rises)
 
-pub pipe_fits : (g : Given) (d : DmNo) (log : Log) (a : Site) (n : ℕ) (m : Msg) (c t : ℕ) → IsHanded g log a (D d) n m
+pub pipe_fits : (g : Input) (d : DmNo) (log : Log) (a : Site) (n : ℕ) (m : Msg) (c t : ℕ) → IsHanded g log a (D d) n m
     → number_of a ≤ 63 → piped m ≡ Some (c, t) → t < 2 ^ 62 → FitsPipe (setting_of g (D d)) (local_of g (D d) log) a c t
 pipe_fits g d log a n m c t h small e early =
     let at : home g.catalogue c ≡ a = put_at_home g a (D d) log (handed a (D d) log) m h.permitted.1 h.place c t e in

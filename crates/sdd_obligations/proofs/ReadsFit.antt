@@ -1,6 +1,6 @@
 -- What a READ says: its conditions are on classes of the catalogue and ascend by class, its uses ascend by number, and its
 -- module has copies of their fragments.
-use Rattle.sdd_obligations.proofs.All.{Act, All-from_recursion, AllByRecursion, AllGt, AllLe, Bool, Catalogue, Cond, Condition, D, Delete, Did, DmNo, Each, FragNo, Given, Hand, IsFair, IsHere, IsPermitted, IsReadable, IsSend, IsStep, IsStrict, List, Msg, None, Option, Put, Query, Queued, Read, RelNo, Setting, Site, Some, Stmt, Update, Use, [], a_held, a_hold, a_null, a_release, ap, arith, ascending, both, bound, commit_puts, cond, cond_of, condition_on, conditions, conditions_at, cons_option, dm_no, each_at, eqb-true, false, filter, filter_map, frag_no, fragments_in, fragments_of, gt_down, hand_was_put, handed, has_copy, home, home_fair, if_way, in_force, in_if, in_none, in_one, inl, inr, is_a_read, is_asked, is_read_at, length, local_of, map, modules_asked, next_stamp, of_exchange, option_eq, part_uses, puts_to, range_with_len, reads_at, refl, same_number, sends_of_act, served_read, setting_of, slice_get, start_read, statement_uses, step_way, subst, suc, sym, the_one, to_site, true, undeclared_conditions, use_there, uses_from, uses_of, was_put, with_frags, zero, ℕ, ◌&&◌, ◌++◌, ◌+◌, ◌<◌, ◌==◌, ◌∙◌, ◌∷◌, ◌≡◌, ◌≤◌}
+use Rattle.sdd_obligations.proofs.All.{Act, All-from_recursion, AllByRecursion, AllGt, AllLe, Bool, Catalogue, Cond, Condition, D, Delete, Did, DmNo, Each, FragNo, Hand, Input, IsFair, IsHere, IsPermitted, IsReadable, IsSend, IsStep, IsStrict, List, Msg, None, Option, Put, Query, Queued, Read, RelNo, Setting, Site, Some, Stmt, Update, Use, [], a_held, a_hold, a_null, a_release, ap, arith, ascending, both, bound, commit_puts, cond, cond_of, condition_on, conditions, conditions_at, cons_option, dm_no, each_at, eqb-true, false, filter, filter_map, frag_no, fragments_in, fragments_of, gt_down, hand_was_put, handed, has_copy, home, home_fair, if_way, in_force, in_if, in_none, in_one, inl, inr, is_a_read, is_asked, is_read_at, length, local_of, map, modules_asked, next_stamp, of_exchange, option_eq, part_uses, puts_to, range_with_len, reads_at, refl, same_number, sends_of_act, served_read, setting_of, slice_get, start_read, statement_uses, step_way, subst, suc, sym, the_one, to_site, true, undeclared_conditions, use_there, uses_from, uses_of, was_put, with_frags, zero, ℕ, ◌&&◌, ◌++◌, ◌+◌, ◌<◌, ◌==◌, ◌∙◌, ◌∷◌, ◌≡◌, ◌≤◌}
 use Rattle.sdd_obligations.proofs.Ascending.{condition_class, conditions_strict, strict_ascends}
 use Rattle.sdd_obligations.proofs.Asking.{strict_asked}
 use Rattle.sdd_obligations.proofs.FirstSends.{IsFirstEach, IsFirstSend}
@@ -232,7 +232,7 @@ act_read s log act d place m i first =
     (λ to x hand f. λ first there r. never (is_a_read m) r (sym (ap is_a_read (the_one (D (dm_no d)) to x place m there).1) ∙ send_no_read s log x f)) i first
 
 -- of setting and catalogue of what is given
-start_fits : (g : Given) (at : Site) (d : DmNo) (log : Log) (class : ℕ) (q : Queued) → catalogues.IsSound g.catalogue
+start_fits : (g : Input) (at : Site) (d : DmNo) (log : Log) (class : ℕ) (q : Queued) → catalogues.IsSound g.catalogue
     → class ≤ length g.catalogue.classes → IsReadable (setting_of g (D d)) (start_read (setting_of g at) class log q d.0)
 start_fits g at d log class q sound l = record {
   is_class = l;
@@ -248,12 +248,12 @@ start_fits g at d log class q sound l = record {
       (λ u h. All-from_recursion (λ (f : FragNo). has_copy g.catalogue d.0 f.0 ≡ true) u.frags h) sound l (all_placed g.catalogue 0 q.text.statements));
 }
 
-read_at : (g : Given) (at : Site) (d : DmNo) (log : Log) (m : Msg) → catalogues.IsSound g.catalogue → IsReadOf (setting_of g at) log d.0 m
+read_at : (g : Input) (at : Site) (d : DmNo) (log : Log) (m : Msg) → catalogues.IsSound g.catalogue → IsReadOf (setting_of g at) log d.0 m
     → IsReadable (setting_of g (D d)) m
 read_at g at d log m sound r = subst (IsReadable (setting_of g (D d))) r.is (start_fits g at d log r.class r.queued sound r.here)
 
 -- a READ that is next to be handed over
-pub reads_are_readable : (g : Given) (log : all.Log) (a : Site) (d : DmNo) (n : ℕ) (m : Msg) → IsPermitted g (Hand a (D d) n m ∷ log)
+pub reads_are_readable : (g : Input) (log : all.Log) (a : Site) (d : DmNo) (n : ℕ) (m : Msg) → IsPermitted g (Hand a (D d) n m ∷ log)
     → catalogues.IsSound g.catalogue → IsReadable (setting_of g (D d)) m
 reads_are_readable g log a d n (Read t k txn attempt conds uses) h sound =
     let m : Msg = Read t k txn attempt conds uses in

@@ -1,17 +1,17 @@
 -- Each message on a link goes from and to the kinds of sites of its kind.
-use Rattle.sdd_obligations.proofs.All.{Act, Ask, Class, D, Did, DmNo, Does, Done, Each, Fetch, Given, GoesTo, Hand, Handed, Held, Hold, IsAnAsk, IsD, IsFairT, IsFairU, IsFetch, IsPermitted, IsPutByD, IsReduce, IsRouted, IsRunner, IsShip, IsStepU, List, Log, Msg, None, NoneHold, Null, Option, Read, Ready, Reduce, Reduced, Reject, Release, Rows, Sends, Setting, Ship, Site, Some, T, TmNo, U, Values, WasAsked, Write, [], ap, append_assoc, asks_rows, commit_puts, dm_no, each_at, false, from_a_d, hand_was_put, handed, home_of, in_none, in_one, inl, inr, is_a_held, is_a_hold, is_a_release, local_of, map, permitted_before, place_of_hand, put_in_by_d, puts_to, refl, sends_of_act, setting_of, slice_get, slice_index_or, source_of, start_puts, start_read, subst, suc, sym, t_none, t_table, the_one, to_site, true, u_due, u_table, u_way, was_put, zero, ℕ, ◌++◌, ◌∙◌, ◌∷◌, ◌≡◌}
+use Rattle.sdd_obligations.proofs.All.{Act, Ask, Class, D, Did, DmNo, Does, Done, Each, Fetch, GoesTo, Hand, Handed, Held, Hold, Input, IsAnAsk, IsD, IsFairT, IsFairU, IsFetch, IsPermitted, IsPutByD, IsReduce, IsRouted, IsRunner, IsShip, IsStepU, List, Log, Msg, None, NoneHold, Null, Option, Read, Ready, Reduce, Reduced, Reject, Release, Rows, Sends, Setting, Ship, Site, Some, T, TmNo, U, Values, WasAsked, Write, [], ap, append_assoc, asks_rows, commit_puts, dm_no, each_at, false, from_a_d, hand_was_put, handed, home_of, in_none, in_one, inl, inr, is_a_held, is_a_hold, is_a_release, local_of, map, permitted_before, place_of_hand, put_in_by_d, puts_to, refl, sends_of_act, setting_of, slice_get, slice_index_or, source_of, start_puts, start_read, subst, suc, sym, t_none, t_table, the_one, to_site, true, u_due, u_table, u_way, was_put, zero, ℕ, ◌++◌, ◌∙◌, ◌∷◌, ◌≡◌}
 use Rattle.sdd_obligations.proofs.Going.{t_goes, u_goes}
 use Rattle.sdd_invariants.specs.site_module.SiteLog as site
 
 -- what was handed was put
 
-pub record WasPut (g : Given) (from at : Site) (m : Msg) : Type 0 where
+pub record WasPut (g : Input) (from at : Site) (m : Msg) : Type 0 where
   pub log : Log
   pub permitted : IsPermitted g log
   pub place : ℕ
   pub there : slice_get (puts_to at (local_of g from log)) place ≡ Some m
 
-pub hand_put : (g : Given) (at : Site) (log : Log) (later : site.Log) (from : Site) (m : Msg) (before : site.Log) → IsPermitted g log
+pub hand_put : (g : Input) (at : Site) (log : Log) (later : site.Log) (from : Site) (m : Msg) (before : site.Log) → IsPermitted g log
     → local_of g at log ≡ later ++ Handed from m ∷ before → WasPut g from at m
 hand_put g at log later from m before h e =
     let l = place_of_hand g at log later from m before e in
@@ -23,7 +23,7 @@ hand_put g at log later from m before h e =
 is_d : (b : Site) (d : DmNo) → b ≡ D d → IsD b
 is_d b d e = subst IsD (sym e) tt
 
-ask_from : (g : Given) (at from : Site) (m : Msg) → IsAnAsk m → WasPut g from at m → IsD from
+ask_from : (g : Input) (at from : Site) (m : Msg) → IsAnAsk m → WasPut g from at m → IsD from
 ask_from g at from (Ask class time) a p = let d = from_a_d g p.log from at p.place (Ask class time) p.permitted p.there refl in is_d from d.0 d.1
 ask_from g at from m a p = absurd a
 
@@ -39,7 +39,7 @@ not_put_by_d s l b act (Reduce ts class u col vs) a h = h
 not_put_by_d s l b act (Ship ts class) a h = h
 not_put_by_d s l b act m a h = absurd a
 
-runner_from : (g : Given) (at from : Site) (m : Msg) → AsksRows m → WasPut g from at m → IsRunner from
+runner_from : (g : Input) (at from : Site) (m : Msg) → AsksRows m → WasPut g from at m → IsRunner from
 runner_from g at (D d) m a p =
     let q = put_in_by_d g p.log d at p.place m p.permitted p.there in
     not_put_by_d (setting_of g (D d)) (local_of g (D d) q.before) at q.act m a q.by
@@ -59,11 +59,11 @@ runs_to s c b e = subst IsRunner (sym e) (source_runs s c)
 
 -- of a data module
 
-asked_by : (g : Given) (d : DmNo) (log : Log) (b : Site) (P : Msg → Type 0) → IsPermitted g log
+asked_by : (g : Input) (d : DmNo) (log : Log) (b : Site) (P : Msg → Type 0) → IsPermitted g log
     → ((m : Msg) → P m → AsksRows m) → WasAsked (local_of g (D d) log) b P → IsRunner b
 asked_by g d log b P h f w = runner_from g (D d) b w.asked (f w.asked w.fits) (hand_put g (D d) log w.later b w.asked w.before h w.is)
 
-d_routed : (g : Given) (d : DmNo) (log : Log) (b : Site) (act : Act) (m : Msg) → IsPermitted g log
+d_routed : (g : Input) (d : DmNo) (log : Log) (b : Site) (act : Act) (m : Msg) → IsPermitted g log
     → IsPutByD (setting_of g (D d)) (local_of g (D d) log) b act m → IsRouted (D d) b m
 d_routed g d log b act (Ready ts k counts) h p = (tt, runs_to (setting_of g (D d)) p.class b p.to_is)
 d_routed g d log b act (Reject ts k by write) h p = (tt, runs_to (setting_of g (D d)) p.class b p.to_is)
@@ -137,7 +137,7 @@ u_no_held s log act = u_way s log act NoHeld
     (λ d m a e. send_no_held (D (dm_no d)) m None (asks_not_held a.ts 0 m e)) (λ t ts i p. send_no_held _ (Release ts) None refl)
     (λ t e. send_no_held _ Hold None refl)
 
-pub routed : (g : Given) (log : Log) (a b : Site) (k : ℕ) (m : Msg) → IsPermitted g log → slice_get (puts_to b (local_of g a log)) k ≡ Some m → IsRouted a b m
+pub routed : (g : Input) (log : Log) (a b : Site) (k : ℕ) (m : Msg) → IsPermitted g log → slice_get (puts_to b (local_of g a log)) k ≡ Some m → IsRouted a b m
 routed g log (D d) b k m h e =
     let p = put_in_by_d g log d b k m h e in
     let hb = (permitted_before g p.later (Does (D d) p.act ∷ p.before) (subst (IsPermitted g) p.is h)).1 in

@@ -1,5 +1,5 @@
 -- With the last ROWS the rows that came serve the database of the attempt's snapshots.
-use Rattle.sdd_obligations.proofs.All.{Attempt, Catalogue, ClassNo, CopyRows, D, DmNo, Exchange, FitsGiven, FitsText, Given, Hand, Handed, Has-flat_map, Has-flat_map_from, HasCopies, HasEras, IsPermitted, List, Log, Msg, None, Over, Row, Rows, Serves, ServesIfLast, Setting, Shipping, Site, Some, Space, Ts, [], active, active_handed, after_hand, all_new, all_rows, answered, ap, base_of, before_answer, both, contains, contents, copies_read, dated, dm_no, exchange_serves, frozen_space, home, home_fair, if◌then◌else◌, is_over, is_shipped, lacking, length, local_of, local_step, modules_asked, phase_ends, refl, same_number, serves_by_members, setting_of, site_self, stage_of, subst, with_made, without, ℕ, ◌++◌, ◌+◌, ◌==◌, ◌∙◌, ◌∷◌, ◌≡◌, ◌≤◌}
+use Rattle.sdd_obligations.proofs.All.{Attempt, Catalogue, ClassNo, CopyRows, D, DmNo, Exchange, FitsInput, FitsText, Hand, Handed, Has-flat_map, Has-flat_map_from, HasCopies, HasEras, Input, IsPermitted, List, Log, Msg, None, Over, Row, Rows, Serves, ServesIfLast, Setting, Shipping, Site, Some, Space, Ts, [], active, active_handed, after_hand, all_new, all_rows, answered, ap, base_of, before_answer, both, contains, contents, copies_read, dated, dm_no, exchange_serves, frozen_space, home, home_fair, if◌then◌else◌, is_over, is_shipped, lacking, length, local_of, local_step, modules_asked, phase_ends, refl, same_number, serves_by_members, setting_of, site_self, stage_of, subst, with_made, without, ℕ, ◌++◌, ◌+◌, ◌==◌, ◌∙◌, ◌∷◌, ◌≡◌, ◌≤◌}
 use Rattle.sdd_obligations.proofs.Hearing.{is_awaited}
 use Rattle.sdd_obligations.proofs.Texts.{active_so, submitted_fit}
 use Rattle.sdd_obligations.proofs.Copied.{copies_are}
@@ -15,7 +15,7 @@ use Rattle.sdd_serving.specs.Reducing.{all_held}
 use Rattle.sdd_invariants.specs.site_module.SiteLog as site
 
 -- the copies that were read are those at the Answers
-copies_agree : (g : Given) → FitsGiven g → (ts : ℕ) (log : Log) → IsPermitted g log → Agrees g ts (copies_read g log ts) log
+copies_agree : (g : Input) → FitsInput g → (ts : ℕ) (log : Log) → IsPermitted g log → Agrees g ts (copies_read g log ts) log
 copies_agree g good ts log h d x =
     let sn = snapped (set g d) ts (own g d log) x in
     let same : before_answer ts (own g d log) ≡ x.before = sn.before_is ∙ (one_answer g good.sound (dm_no d) log ts h sn.answer x).0 in
@@ -29,7 +29,7 @@ last_rows ts c n x t k rows own of p e =
     ap (λ b. if b then answered ts c n y else x) (both (t.0 == ts) (k.0 == c) (ap (λ z. z == ts) own ∙ same_number ts) (ap (λ z. z == c) of ∙ same_number c))
     ∙ ap (lacking ts c y) e ∙ ap (phase_ends ts c (record y { lacks = [] })) p
 
-module _ (g : Given) (good : FitsGiven g) (eras : HasEras g) (c : ℕ) where
+module _ (g : Input) (good : FitsInput g) (eras : HasEras g) (c : ℕ) where
   abbrev cat : Catalogue
   cat = g.catalogue
 

@@ -1,5 +1,5 @@
 -- The exchange of an active attempt follows a run over what its modules keep, on every permitted log.
-use Rattle.sdd_obligations.proofs.All.{Act, AllReadied, Asks, Attempt, Bases, Bool, Catalogue, CopyRows, D, Did, DmNo, Does, Each, Entry, Exchange, FitsGiven, Frozen, Given, Hand, Handed, Has, HasEras, IsFair, IsPermitted, KeepsOnce, List, Log, Mark, Msg, None, Notes, Option, Queued, Redeclares, Reduce, Reject, Round, Sends, Setting, Site, Some, Space, Submitted, T, Tells, U, Value, [], active, active_handed, active_sent, after_hand, after_send, ap, asked_at, asks_rows, beginning, begins, bound, class_at, class_no, clock, commit_act, contains, contents, dated, dm_no, false, filter_map, follows_reduce, follows_start, frozen_for, frozen_once, frozen_space, head, head_of, home, home_fair, honest, if_way, if◌then◌else◌, in_force, inl, inr, is_a_refusal, is_answer, is_question, is_shipped, kept, length, local_of, local_step, made, module_read, modules_asked, next_stamp, own_act, pipe, question, question_of, queue, readied, reduced, refl, rejects, same_number, same_or_not, same_site, sends_of_act, setting_of, site_is, site_self, start_at, start_modules, started, step_way, subst, suc, sym, time_at, tm_no, true, turn_at, with_made, ℕ, ◌==◌, ◌∙◌, ◌∷◌, ◌≡◌, ◌≢◌, ◌≤◌}
+use Rattle.sdd_obligations.proofs.All.{Act, AllReadied, Asks, Attempt, Bases, Bool, Catalogue, CopyRows, D, Did, DmNo, Does, Each, Entry, Exchange, FitsInput, Frozen, Hand, Handed, Has, HasEras, Input, IsFair, IsPermitted, KeepsOnce, List, Log, Mark, Msg, None, Notes, Option, Queued, Redeclares, Reduce, Reject, Round, Sends, Setting, Site, Some, Space, Submitted, T, Tells, U, Value, [], active, active_handed, active_sent, after_hand, after_send, ap, asked_at, asks_rows, beginning, begins, bound, class_at, class_no, clock, commit_act, contains, contents, dated, dm_no, false, filter_map, follows_reduce, follows_start, frozen_for, frozen_once, frozen_space, head, head_of, home, home_fair, honest, if_way, if◌then◌else◌, in_force, inl, inr, is_a_refusal, is_answer, is_question, is_shipped, kept, length, local_of, local_step, made, module_read, modules_asked, next_stamp, own_act, pipe, question, question_of, queue, readied, reduced, refl, rejects, same_number, same_or_not, same_site, sends_of_act, setting_of, site_is, site_self, start_at, start_modules, started, step_way, subst, suc, sym, time_at, tm_no, true, turn_at, with_made, ℕ, ◌==◌, ◌∙◌, ◌∷◌, ◌≡◌, ◌≢◌, ◌≤◌}
 use Rattle.sdd_obligations.proofs.AtTurn.{hand_not}
 use Rattle.sdd_obligations.proofs.Hearing.{is_awaited}
 use Rattle.sdd_obligations.proofs.Modules.{firsts}
@@ -15,7 +15,7 @@ use Rattle.sdd_obligations.proofs.InStep.{InStep, again, awaited_there, col_of, 
 use Rattle.sdd_serving.specs.Freezing.{uses_at}
 use Rattle.sdd_invariants.specs.site_module.SiteLog as site
 
-module _ (g : Given) (good : FitsGiven g) (eras : HasEras g) (c : ℕ) (in_step : (log : Log) → IsPermitted g log → (a : Attempt)
+module _ (g : Input) (good : FitsInput g) (eras : HasEras g) (c : ℕ) (in_step : (log : Log) → IsPermitted g log → (a : Attempt)
     → active (setting_of g (home g.catalogue c)) c (local_of g (home g.catalogue c) log) ≡ Some a
     → InStep g c log a) where
   abbrev cat : Catalogue

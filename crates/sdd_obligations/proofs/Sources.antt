@@ -1,6 +1,6 @@
 -- Questions of a class are put by the site that runs it, which is the one to which a data module answers; and what is sent
 -- first on permitted logs.
-use Rattle.sdd_obligations.proofs.All.{Act, Bool, Catalogue, Class, ClassNo, Cond, D, Did, DmNo, Each, Fetch, Given, Hand, Handed, IsClassHere, IsDueEach, IsFair, IsFetch, IsPermitted, IsPutByD, IsReduce, IsSend, IsShip, IsStep, List, Log, Msg, Read, Ready, Reduce, Reduced, Reject, Rows, Setting, Ship, Site, Some, T, TmNo, Ts, TxnNo, U, Use, Values, WasAsked, [], a_held, a_hold, a_null, a_release, and_right, ap, append_assoc, arith, asks_rows, asks_whose, base_of, class_at, commit_puts, d_fair, dm_no, each_at, each_local, eqb-true, false, hand_was_put, handed, head, home, home_fair, home_of, if_way, if◌then◌else◌, in_none, in_one, inl, inr, is_answer, is_question, length, local_of, map, next_stamp, of_exchange, permitted_before, pipe, place_of_hand, put_by_d, puts_to, refl, same_site, sends_of_act, setting_of, slice_get, slice_index_or, source_of, start_puts, start_read, step_way, subst, suc, suc_no_zero, sym, t_fair, the_one, tm_no, to_site, true, u_fair, was_put, zero, ℕ, ◌&&◌, ◌++◌, ◌-◌, ◌<◌, ◌==◌, ◌∙◌, ◌∷◌, ◌≡◌, ◌≤◌}
+use Rattle.sdd_obligations.proofs.All.{Act, Bool, Catalogue, Class, ClassNo, Cond, D, Did, DmNo, Each, Fetch, Hand, Handed, Input, IsClassHere, IsDueEach, IsFair, IsFetch, IsPermitted, IsPutByD, IsReduce, IsSend, IsShip, IsStep, List, Log, Msg, Read, Ready, Reduce, Reduced, Reject, Rows, Setting, Ship, Site, Some, T, TmNo, Ts, TxnNo, U, Use, Values, WasAsked, [], a_held, a_hold, a_null, a_release, and_right, ap, append_assoc, arith, asks_rows, asks_whose, base_of, class_at, commit_puts, d_fair, dm_no, each_at, each_local, eqb-true, false, hand_was_put, handed, head, home, home_fair, home_of, if_way, if◌then◌else◌, in_none, in_one, inl, inr, is_answer, is_question, length, local_of, map, next_stamp, of_exchange, permitted_before, pipe, place_of_hand, put_by_d, puts_to, refl, same_site, sends_of_act, setting_of, slice_get, slice_index_or, source_of, start_puts, start_read, step_way, subst, suc, suc_no_zero, sym, t_fair, the_one, tm_no, to_site, true, u_fair, was_put, zero, ℕ, ◌&&◌, ◌++◌, ◌-◌, ◌<◌, ◌==◌, ◌∙◌, ◌∷◌, ◌≡◌, ◌≤◌}
 use Rattle.sdd_obligations.proofs.FirstSends.{IsFirstEach, IsFirstSend, t_first, u_first}
 use Rattle.sdd_obligations.proofs.Asking.{send_is_question}
 use Rattle.sdd_obligations.proofs.Telling.{head_through}
@@ -32,10 +32,10 @@ home_apart cat c d = if_way (λ x. same_site x (D (dm_no d)) ≡ false) (c == 0)
 
 -- a site sends first what is first
 
-abbrev FirstAt : Given → Site → Type 0
+abbrev FirstAt : Input → Site → Type 0
 FirstAt g at = (log : Log) → IsPermitted g log → Each (IsFirstEach (setting_of g at)) (local_of g at log)
 
-u_firsts : (g : Given) → FirstAt g U
+u_firsts : (g : Input) → FirstAt g U
 u_firsts g = each_local g U (IsFirstEach (setting_of g U)) (record {
   handed = λ log p from n m a i. tt;
   ticked = λ log p n i. tt;
@@ -44,7 +44,7 @@ u_firsts g = each_local g U (IsFirstEach (setting_of g U)) (record {
   did = λ log act p due i. u_first (setting_of g U) (base_of g log) (local_of g U log) act due;
 })
 
-t_firsts : (g : Given) (t : TmNo) → FirstAt g (T t)
+t_firsts : (g : Input) (t : TmNo) → FirstAt g (T t)
 t_firsts g t = each_local g (T t) (IsFirstEach (setting_of g (T t))) (record {
   handed = λ log p from n m a i. tt;
   ticked = λ log p n i. tt;
@@ -53,7 +53,7 @@ t_firsts g t = each_local g (T t) (IsFirstEach (setting_of g (T t))) (record {
   did = λ log act p due i. t_first (setting_of g (T t)) (base_of g log) (local_of g (T t) log) act due;
 })
 
-pub home_first : (g : Given) (c : ℕ) (log : Log) → IsPermitted g log
+pub home_first : (g : Input) (c : ℕ) (log : Log) → IsPermitted g log
     → Each (IsFirstEach (setting_of g (home g.catalogue c))) (local_of g (home g.catalogue c) log)
 home_first g c = if_way (FirstAt g) (c == 0) U (T (tm_no (class_at g.catalogue c).tm.0)) (u_firsts g) (t_firsts g _)
 
@@ -112,7 +112,7 @@ data_asks_none s b log place m ts c h e f =
     let q = each_at (IsDueEach s) p.later (Did p.act) p.before (subst (Each (IsDueEach s)) p.is h) in
     data_question s p.before b p.act m ts c (put_by_d s p.before p.act q.0 b p.place m p.there) f
 
-pub question_home : (g : Given) (from b : Site) (log : Log) (place : ℕ) (m : Msg) (ts c : ℕ) → IsPermitted g log
+pub question_home : (g : Input) (from b : Site) (log : Log) (place : ℕ) (m : Msg) (ts c : ℕ) → IsPermitted g log
     → slice_get (puts_to b (local_of g from log)) place ≡ Some m → is_question ts c m ≡ true → home g.catalogue c ≡ from
 question_home g U b log place m ts c h e f = asked_at_home (setting_of g U) b (local_of g U log) place m ts c (u_fair g log h) e f
 question_home g (T t) b log place m ts c h e f = asked_at_home (setting_of g (T t)) b (local_of g (T t) log) place m ts c (t_fair g t log h) e f
@@ -136,7 +136,7 @@ act_here s log act i = step_way s log act (AsksHere s log)
       | inr p ↦ never (asks_rows ts c m) own (sym (ap (asks_rows ts c) (in_one _ _ place m p.1 there)))
     ]) (λ to x hand f. λ first b place ts c m there own. (first ts c (ap (asks_rows ts c) (the_one b to x place m there).1 ∙ own)).here) i
 
-pub asked_here : (g : Given) (c : ℕ) (b : Site) (log : Log) (place : ℕ) (m : Msg) (ts : ℕ) → IsPermitted g log
+pub asked_here : (g : Input) (c : ℕ) (b : Site) (log : Log) (place : ℕ) (m : Msg) (ts : ℕ) → IsPermitted g log
     → slice_get (puts_to b (local_of g (home g.catalogue c) log)) place ≡ Some m → asks_rows ts c m ≡ true → c ≤ length g.catalogue.classes
 asked_here g c b log place m ts h e f =
     let s : Setting = setting_of g (home g.catalogue c) in
@@ -181,7 +181,7 @@ told_no_answer s b log place m ts c h e =
     step_no_answer s b p.before p.act p.place m ts c q.0 p.there
 
 -- a message that was asked came from the site that runs its class
-asked_from : (g : Given) (d : DmNo) (log : Log) (b : Site) (later : site.Log) (act : Act) (before : site.Log) (ts c : ℕ) (P : Msg → Type 0)
+asked_from : (g : Input) (d : DmNo) (log : Log) (b : Site) (later : site.Log) (act : Act) (before : site.Log) (ts c : ℕ) (P : Msg → Type 0)
     → IsPermitted g log → local_of g (D d) log ≡ later ++ Did act ∷ before → WasAsked before b P → ((m : Msg) → P m → is_question ts c m ≡ true)
     → home g.catalogue c ≡ b
 asked_from g d log b later act before ts c P h e w f =
@@ -203,7 +203,7 @@ answered_home s n c k ts t b l e f g =
     let same : n ≡ c = sym e ∙ eqb-true k.0 c (and_right (t.0 == ts) (k.0 == c) g) in
     subst (λ j. home s.catalogue j ≡ b) same (sym (source_is_home s n l) ∙ sym f)
 
-data_answer : (g : Given) (d : DmNo) (log : Log) (b : Site) (later : site.Log) (act : Act) (before : site.Log) (m : Msg) (ts c : ℕ)
+data_answer : (g : Input) (d : DmNo) (log : Log) (b : Site) (later : site.Log) (act : Act) (before : site.Log) (m : Msg) (ts c : ℕ)
     → IsPermitted g log → local_of g (D d) log ≡ later ++ Did act ∷ before → IsPutByD (setting_of g (D d)) before b act m
     → is_answer ts c m ≡ true → home g.catalogue c ≡ b
 data_answer g d log b later act before (Ready t k counts) ts c h e p f =
@@ -219,7 +219,7 @@ data_answer g d log b later act before (Rows t k rows) ts c h e p f =
 data_answer g d log b later act before m ts c h e p f = cc
 
 -- an answer comes from a data module, and goes to the site that runs its class
-pub answer_source : (g : Given) (a b : Site) (log : Log) (place : ℕ) (m : Msg) (ts c : ℕ) → IsPermitted g log
+pub answer_source : (g : Input) (a b : Site) (log : Log) (place : ℕ) (m : Msg) (ts c : ℕ) → IsPermitted g log
     → slice_get (puts_to b (local_of g a log)) place ≡ Some m → is_answer ts c m ≡ true → (d : DmNo) × (a ≡ D d) × (home g.catalogue c ≡ b)
 answer_source g U b log place m ts c h e f = never (is_answer ts c m) f (told_no_answer (setting_of g U) b (local_of g U log) place m ts c (u_fair g log h) e)
 answer_source g (T t) b log place m ts c h e f =

@@ -1,5 +1,5 @@
 -- What the modules keep for an attempt, as the log of everything goes on.
-use Rattle.sdd_obligations.proofs.All.{Catalogue, CopyRows, D, Did, DmNo, Does, Entry, Force, Frozen, Given, Hand, Handed, Log, Mark, None, Option, Redeclared, Redeclares, Setting, Site, Some, Space, Submits, Submitted, T, Tick, Ticked, Txn, U, active, ap, class_at, contents, dated, dm_no, false, force_at, forced, given_to, home, if_way, kept, local_of, local_step, made, redeclares, refl, same_site, setting_of, subst, suc, sym, tm_no, txn_at, with_made, ℕ, ◌==◌, ◌∙◌, ◌∷◌, ◌≡◌}
+use Rattle.sdd_obligations.proofs.All.{Catalogue, CopyRows, D, Did, DmNo, Does, Entry, Force, Frozen, Hand, Handed, Input, Log, Mark, None, Option, Redeclared, Redeclares, Setting, Site, Some, Space, Submits, Submitted, T, Tick, Ticked, Txn, U, active, ap, class_at, contents, dated, dm_no, false, force_at, forced, given_to, home, if_way, kept, local_of, local_step, made, redeclares, refl, same_site, setting_of, subst, suc, sym, tm_no, txn_at, with_made, ℕ, ◌==◌, ◌∙◌, ◌∷◌, ◌≡◌}
 use Rattle.sdd_obligations.proofs.Places.{IsAnswerAt}
 use Rattle.sdd_obligations.proofs.Snapped.{answer_more}
 use Rattle.sdd_obligations.proofs.Kept.{kept_same}
@@ -41,7 +41,7 @@ IsStillEntry (Hand from to n m) = ⊥
 IsStillEntry (Does by act) = ⊥
 IsStillEntry _ = Unit {0}
 
-pub made_still : (g : Given) (at : Site) (log : Log) (e : Entry) → IsStillEntry e → IsStill (made g at log e)
+pub made_still : (g : Input) (at : Site) (log : Log) (e : Entry) → IsStillEntry e → IsStill (made g at log e)
 made_still g at log (Mark (Tick t n)) h = if_way IsStill (same_site at (T t)) (Some (Ticked n)) None tt tt
 made_still g at log (Redeclares t) h = forced_still at (force_at g (suc (redeclares log))) t
 made_still g at log (Hand from to n m) h = absurd h
@@ -51,13 +51,13 @@ made_still g at log _ h = tt
 
 -- the spaces of modules
 
-abbrev pub own : Given → ℕ → Log → site.Log
+abbrev pub own : Input → ℕ → Log → site.Log
 own g d log = local_of g (D (dm_no d)) log
 
-abbrev pub set : Given → ℕ → Setting
+abbrev pub set : Input → ℕ → Setting
 set g d = setting_of g (D (dm_no d))
 
-abbrev pub kept_at : Given → ℕ → ℕ → ℕ → Log → Option Frozen
+abbrev pub kept_at : Input → ℕ → ℕ → ℕ → Log → Option Frozen
 kept_at g c ts d log = kept (set g d) c ts (own g d log)
 
 abbrev pub or_first : Option Frozen → Frozen → Frozen
@@ -65,11 +65,11 @@ or_first None f = f
 or_first (Some r) f = r
 
 -- what module d keeps, or what it is to freeze first
-abbrev pub space_at : Given → ℕ → ℕ → Space → Log → Space
+abbrev pub space_at : Input → ℕ → ℕ → Space → Log → Space
 space_at g c ts first log d = or_first (kept_at g c ts d log) (first d)
 
 -- the copies are those at the Answers that there are
-abbrev pub Agrees : Given → ℕ → (ℕ → CopyRows) → Log → Type 0
+abbrev pub Agrees : Input → ℕ → (ℕ → CopyRows) → Log → Type 0
 Agrees g ts copies log = (d : ℕ) (x : IsAnswerAt ts (own g d log)) → copies d ≡ (λ f. contents f (dated (set g d) x.before))
 
 abbrev AnswerWith : ℕ → site.Log → site.Log → Type 0
@@ -79,20 +79,20 @@ answer_made : (ts : ℕ) (o : Option site.Entry) (l : site.Log) (x : IsAnswerAt 
 answer_made ts None l x = (x, refl)
 answer_made ts (Some e) l x = (answer_more ts e l x, refl)
 
-pub agrees_before : (g : Given) (ts : ℕ) (copies : ℕ → CopyRows) (e : Entry) (log : Log) → Agrees g ts copies (e ∷ log) → Agrees g ts copies log
+pub agrees_before : (g : Input) (ts : ℕ) (copies : ℕ → CopyRows) (e : Entry) (log : Log) → Agrees g ts copies (e ∷ log) → Agrees g ts copies log
 agrees_before g ts copies e log h d x =
     let y = subst (AnswerWith ts x.before) (sym (local_step g (D (dm_no d)) e log)) (answer_made ts (made g (D (dm_no d)) log e) (own g d log) x) in
     h d y.0 ∙ ap (λ l. λ f. contents f (dated (set g d) l)) y.1
 
-pub space_same : (g : Given) (c ts : ℕ) (first : Space) (e : Entry) (log : Log) → ((d : ℕ) → kept_at g c ts d (e ∷ log) ≡ kept_at g c ts d log)
+pub space_same : (g : Input) (c ts : ℕ) (first : Space) (e : Entry) (log : Log) → ((d : ℕ) → kept_at g c ts d (e ∷ log) ≡ kept_at g c ts d log)
     → space_at g c ts first (e ∷ log) ≡ space_at g c ts first log
 space_same g c ts first e log k = λ i d. or_first (k d i) (first d)
 
 -- an entry that makes nothing of a module's log leaves what it keeps
-pub kept_apart : (g : Given) (c ts d : ℕ) (e : Entry) (log : Log) → made g (D (dm_no d)) log e ≡ None → kept_at g c ts d (e ∷ log) ≡ kept_at g c ts d log
+pub kept_apart : (g : Input) (c ts d : ℕ) (e : Entry) (log : Log) → made g (D (dm_no d)) log e ≡ None → kept_at g c ts d (e ∷ log) ≡ kept_at g c ts d log
 kept_apart g c ts d e log m = ap (kept (set g d) c ts) (local_step g (D (dm_no d)) e log ∙ ap (λ o. with_made o (own g d log)) m)
 
-pub kept_still : (g : Given) (c ts d : ℕ) (e : Entry) (log : Log) → IsStillEntry e → kept_at g c ts d (e ∷ log) ≡ kept_at g c ts d log
+pub kept_still : (g : Input) (c ts d : ℕ) (e : Entry) (log : Log) → IsStillEntry e → kept_at g c ts d (e ∷ log) ≡ kept_at g c ts d log
 kept_still g c ts d e log h = ap (kept (set g d) c ts) (local_step g (D (dm_no d)) e log)
     ∙ still_kept (set g d) c ts (made g (D (dm_no d)) log e) (own g d log) (made_still g (D (dm_no d)) log e h)
 

@@ -1,5 +1,5 @@
 -- On a permitted log the exchanges of a class with the data modules go by turns.
-use Rattle.sdd_obligations.proofs.All.{Act, AllLe, Bool, D, Did, Does, Each, Entry, Given, Hand, Handed, IsAllowed, IsDueEach, IsFair, IsPermitted, IsStage, IsStep, List, Log, MayAnswer, MayAsk, Msg, None, Option, Site, Some, T, Turn, [], agreed, answers, ap, asked_by, cond, d_fair, dm_no, drop, false, filter, flight, frozen, goes_through, hand_was_put, handed, handed_by, home, home_fair, if◌then◌else◌, inl, inr, is_answer, is_exchanging, is_question, local_of, local_step, made, maker, number_of, own_act, put_by, puts_grow, puts_to, questions, refl, same_site, sends_of_act, setting_of, site_is, site_self, subst, sym, time_of, times_in, to_site, told_by, true, turn_at, turn_with, uses_held, with_made, ℕ, ◌&&◌, ◌++◌, ◌∙◌, ◌∷◌, ◌≡◌, ◌≤◌, ◌⊎◌}
+use Rattle.sdd_obligations.proofs.All.{Act, AllLe, Bool, D, Did, Does, Each, Entry, Hand, Handed, Input, IsAllowed, IsDueEach, IsFair, IsPermitted, IsStage, IsStep, List, Log, MayAnswer, MayAsk, Msg, None, Option, Site, Some, T, Turn, [], agreed, answers, ap, asked_by, cond, d_fair, dm_no, drop, false, filter, flight, frozen, goes_through, hand_was_put, handed, handed_by, home, home_fair, if◌then◌else◌, inl, inr, is_answer, is_exchanging, is_question, local_of, local_step, made, maker, number_of, own_act, put_by, puts_grow, puts_to, questions, refl, same_site, sends_of_act, setting_of, site_is, site_self, subst, sym, time_of, times_in, to_site, told_by, true, turn_at, turn_with, uses_held, with_made, ℕ, ◌&&◌, ◌++◌, ◌∙◌, ◌∷◌, ◌≡◌, ◌≤◌, ◌⊎◌}
 use Rattle.sdd_obligations.proofs.Asking.{asks_in_turn}
 use Rattle.sdd_obligations.proofs.Hearing.{IsTimely}
 use Rattle.sdd_obligations.proofs.DataSteps.{data_step}
@@ -15,10 +15,10 @@ use Rattle.sdd_invariants.specs.site_module.SiteLog as site
 
 -- what an entry adds
 
-abbrev IsFirstAt : Given → ℕ → Log → Act → Type 0
+abbrev IsFirstAt : Input → ℕ → Log → Act → Type 0
 IsFirstAt g c log act = IsFirstSend (setting_of g (home g.catalogue c)) (home_log g c log) act
 
-home_act : (g : Given) (c : ℕ) (log : Log) (act : Act) → IsPermitted g (Does (home g.catalogue c) act ∷ log)
+home_act : (g : Input) (c : ℕ) (log : Log) (act : Act) → IsPermitted g (Does (home g.catalogue c) act ∷ log)
     → IsStep (setting_of g (home g.catalogue c)) (home_log g c log) act × IsFirstAt g c log act
 home_act g c log act h = (
   (subst (λ l. Each (IsFair (setting_of g (home g.catalogue c))) l) (own_act g (home g.catalogue c) act log)
@@ -27,25 +27,25 @@ home_act g c log act h = (
       (own_act g (home g.catalogue c) act log) (home_first g c (Does (home g.catalogue c) act ∷ log) h)).0,
 )
 
-data_act : (g : Given) (d : ℕ) (log : Log) (act : Act) → IsPermitted g (Does (D (dm_no d)) act ∷ log)
+data_act : (g : Input) (d : ℕ) (log : Log) (act : Act) → IsPermitted g (Does (D (dm_no d)) act ∷ log)
     → IsDueEach (setting_of g (D (dm_no d))) (data_log g d log) (Did act)
 data_act g d log act h =
     (subst (λ l. Each (IsDueEach (setting_of g (D (dm_no d)))) l) (own_act g (D (dm_no d)) act log) (d_fair g (dm_no d) (Does (D (dm_no d)) act ∷ log) h)).0
 
-abbrev MoveAt : Given → ℕ → ℕ → ℕ → Entry → Log → Type 0
+abbrev MoveAt : Input → ℕ → ℕ → ℕ → Entry → Log → Type 0
 MoveAt g ts c d e log =
     IsMove (turn_at ts c d (home_log g c log)) (turn_with ts c (home g.catalogue c) (data_log g d log))
     (questions ts c (put_by (D (dm_no d)) (made g (home g.catalogue c) log e))) (questions ts c (handed_by (home g.catalogue c) (made g (D (dm_no d)) log e)))
     (answers ts c (put_by (home g.catalogue c) (made g (D (dm_no d)) log e))) (answers ts c (handed_by (D (dm_no d)) (made g (home g.catalogue c) log e)))
 
-held_exchanging : (g : Given) (ts c d : ℕ) (log : Log) → IsPermitted g log → number_of (home g.catalogue c) ≤ 63 → IsSpoken g c log
+held_exchanging : (g : Input) (ts c d : ℕ) (log : Log) → IsPermitted g log → number_of (home g.catalogue c) ≤ 63 → IsSpoken g c log
     → (ns : List ℕ) → is_exchanging (turn_with ts c (home g.catalogue c) (data_log g d log)) ≡ true
     → uses_held (turn_with ts c (home g.catalogue c) (data_log g d log)) ≡ Some ns → AreHeldFor ts ns (frozen (setting_of g (D (dm_no d))) c (data_log g d log))
 held_exchanging g ts c d log h small i ns e f =
     let a = exchanging_active g ts c d log h i e in
     i.held ts d (subst (λ t. IsLast g t c d log) a.2 (active_last g c d log a.0 h small a.1)) ns f
 
-move_home : (g : Given) (ts c d : ℕ) (log : Log) (act : Act) → IsPermitted g (Does (home g.catalogue c) act ∷ log) → IsSpoken g c log
+move_home : (g : Input) (ts c d : ℕ) (log : Log) (act : Act) → IsPermitted g (Does (home g.catalogue c) act ∷ log) → IsSpoken g c log
     → MoveAt g ts c d (Does (home g.catalogue c) act) log
 move_home g ts c d log act h i =
     let at : Site = home g.catalogue c in
@@ -65,7 +65,7 @@ move_home g ts c d log act h i =
           (ap (questions ts c) hq) (ap (answers ts c) pa) (ap (answers ts c) ha) (question_put p.0 p.2)
     ]
 
-move_data : (g : Given) (ts c d : ℕ) (log : Log) (act : Act) → IsPermitted g (Does (D (dm_no d)) act ∷ log) → number_of (home g.catalogue c) ≤ 63
+move_data : (g : Input) (ts c d : ℕ) (log : Log) (act : Act) → IsPermitted g (Does (D (dm_no d)) act ∷ log) → number_of (home g.catalogue c) ≤ 63
     → IsSpoken g c log → MoveAt g ts c d (Does (D (dm_no d)) act) log
 move_data g ts c d log act h small i =
     let at : Site = home g.catalogue c in
@@ -86,7 +86,7 @@ move_data g ts c d log act h small i =
           (ap (answers ts c) pa ∙ p.1) (ap (answers ts c) ha) (answer_put p.0 p.2)
     ]
 
-move_act : (g : Given) (ts c d : ℕ) (log : Log) (by : Site) (act : Act) → IsPermitted g (Does by act ∷ log) → number_of (home g.catalogue c) ≤ 63
+move_act : (g : Input) (ts c d : ℕ) (log : Log) (by : Site) (act : Act) → IsPermitted g (Does by act ∷ log) → number_of (home g.catalogue c) ≤ 63
     → IsSpoken g c log → MoveAt g ts c d (Does by act) log
 move_act g ts c d log by act h small i =
     elim (same_site (home g.catalogue c) by) as (λ b. same_site (home g.catalogue c) by ≡ b → MoveAt g ts c d (Does by act) log) [
@@ -115,7 +115,7 @@ answers_if : (ts c : ℕ) (b : Bool) (m : Msg) → (answers ts c (if b then m �
 answers_if ts c false m = inl refl
 answers_if ts c true m = elim (is_answer ts c m) as (λ x. (cond x (m ∷ []) [] ≡ []) ⊎ (cond x (m ∷ []) [] ≡ m ∷ [])) [ true ↦ inr refl | false ↦ inl refl ]
 
-move_hand : (g : Given) (ts c d : ℕ) (log : Log) (from to : Site) (n : ℕ) (m : Msg) → MoveAt g ts c d (Hand from to n m) log
+move_hand : (g : Input) (ts c d : ℕ) (log : Log) (from to : Site) (n : ℕ) (m : Msg) → MoveAt g ts c d (Hand from to n m) log
 move_hand g ts c d log from to n m =
     let at : Site = home g.catalogue c in
     let v : Turn = turn_at ts c d (home_log g c log) in
@@ -141,7 +141,7 @@ move_hand g ts c d log from to n m =
           ])
     ] refl
 
-move_plain : (g : Given) (ts c d : ℕ) (log : Log) (e : Entry) → is_plain e ≡ true → MoveAt g ts c d e log
+move_plain : (g : Input) (ts c d : ℕ) (log : Log) (e : Entry) → is_plain e ≡ true → MoveAt g ts c d e log
 move_plain g ts c d log e p =
     let at : Site = home g.catalogue c in
     let q = quiet_made g at log e p (D (dm_no d)) in
@@ -149,13 +149,13 @@ move_plain g ts c d log e p =
     move_as (turn_at ts c d (home_log g c log)) (turn_with ts c at (data_log g d log)) _ _ _ _ [] [] [] []
     (ap (questions ts c) q.0) (ap (questions ts c) r.1) (ap (answers ts c) r.0) (ap (answers ts c) q.1) still
 
-move_at : (g : Given) (ts c d : ℕ) (log : Log) (e : Entry) → IsPermitted g (e ∷ log) → number_of (home g.catalogue c) ≤ 63
+move_at : (g : Input) (ts c d : ℕ) (log : Log) (e : Entry) → IsPermitted g (e ∷ log) → number_of (home g.catalogue c) ≤ 63
     → IsSpoken g c log → MoveAt g ts c d e log
 move_at g ts c d log (Does by act) h small i = move_act g ts c d log by act h small i
 move_at g ts c d log (Hand from to n m) h small i = move_hand g ts c d log from to n m
 move_at g ts c d log e h small i = move_plain g ts c d log e refl
 
-stage_step : (g : Given) (ts c d : ℕ) (log : Log) (e : Entry) → IsPermitted g (e ∷ log) → number_of (home g.catalogue c) ≤ 63
+stage_step : (g : Input) (ts c d : ℕ) (log : Log) (e : Entry) → IsPermitted g (e ∷ log) → number_of (home g.catalogue c) ≤ 63
     → IsSpoken g c log → StageAt g ts c d (e ∷ log)
 stage_step g ts c d log e h small i =
     let at : Site = home g.catalogue c in
@@ -174,13 +174,13 @@ stage_step g ts c d log e h small i =
 pub first_of_kind : (f : Msg → Bool) (ms : List Msg) (m : Msg) (rest : List Msg) → ms ≡ m ∷ rest → f m ≡ true → filter f ms ≡ m ∷ filter f rest
 first_of_kind f ms m rest e p = ap (filter f) e ∙ ap (λ (b : Bool). cond b (m ∷ filter f rest) (filter f rest)) p
 
-pub answer_in_turn : (g : Given) (c : ℕ) (log : Log) (d n : ℕ) (m : Msg) (ts : ℕ) → IsSpoken g c log
+pub answer_in_turn : (g : Input) (c : ℕ) (log : Log) (d n : ℕ) (m : Msg) (ts : ℕ) → IsSpoken g c log
     → IsAllowed g log (Hand (D (dm_no d)) (home g.catalogue c) n m) → is_answer ts c m ≡ true → MayAnswer (turn_at ts c d (home_log g c log)) m
 answer_in_turn g c log d n m ts i h e =
     let f = first_in_flight g log (D (dm_no d)) (home g.catalogue c) n m h in
     answer_comes _ _ _ _ m (answers ts c f.0) (first_of_kind (is_answer ts c) (flight g (D (dm_no d)) (home g.catalogue c) log) m f.0 f.1 e) (i.stages ts d)
 
-pub question_in_turn : (g : Given) (c : ℕ) (log : Log) (d n : ℕ) (m : Msg) (ts : ℕ) → IsSpoken g c log
+pub question_in_turn : (g : Input) (c : ℕ) (log : Log) (d n : ℕ) (m : Msg) (ts : ℕ) → IsSpoken g c log
     → IsAllowed g log (Hand (home g.catalogue c) (D (dm_no d)) n m) → is_question ts c m ≡ true
     → MayAsk (turn_with ts c (home g.catalogue c) (data_log g d log)) m
 question_in_turn g c log d n m ts i h e =
@@ -188,14 +188,14 @@ question_in_turn g c log d n m ts i h e =
     question_comes _ _ _ _ m (questions ts c f.0) (first_of_kind (is_question ts c)
     (flight g (home g.catalogue c) (D (dm_no d)) log) m f.0 f.1 e) (i.stages ts d)
 
-timely_made : (g : Given) (c : ℕ) (log : Log) (e : Entry) (x : site.Entry) → IsPermitted g (e ∷ log) → IsSpoken g c log
+timely_made : (g : Input) (c : ℕ) (log : Log) (e : Entry) (x : site.Entry) → IsPermitted g (e ∷ log) → IsSpoken g c log
     → made g (home g.catalogue c) log e ≡ Some x → IsTimely c (home_log g c log) x
 timely_made g c log e (Handed from m) h i p = λ ts d f q.
     (let k = maker g (home g.catalogue c) log e (Handed from m) p in
     answer_in_turn g c log d k.0 m ts i (subst (λ s. IsAllowed g log (Hand s (home g.catalogue c) k.0 m)) f (subst (IsAllowed g log) k.1 h.0)) q)
 timely_made g c log e _ h i p = tt
 
-asked_made : (g : Given) (c d : ℕ) (log : Log) (e : Entry) (x : site.Entry) → IsPermitted g (e ∷ log) → IsSpoken g c log
+asked_made : (g : Input) (c d : ℕ) (log : Log) (e : Entry) (x : site.Entry) → IsPermitted g (e ∷ log) → IsSpoken g c log
     → made g (D (dm_no d)) log e ≡ Some x → IsAskedInTurn c (home g.catalogue c) (data_log g d log) x
 asked_made g c d log e (Handed from m) h i p = λ ts q.
     (let k = maker g (D (dm_no d)) log e (Handed from m) p in
@@ -221,12 +221,12 @@ last_left : (c ts : ℕ) (ms more : List Msg) → AllLe ts (times_in c (ms ++ mo
 last_left c ts [] more h = tt
 last_left c ts (m ∷ ms) more h = last_if c ts (goes_through c m) m (times_in c (ms ++ more)) (times_in c ms) (λ k. last_left c ts ms more k) h
 
-last_before : (g : Given) (ts c d : ℕ) (e : Entry) (log : Log) → IsLast g ts c d (e ∷ log) → IsLast g ts c d log
+last_before : (g : Input) (ts c d : ℕ) (e : Entry) (log : Log) → IsLast g ts c d (e ∷ log) → IsLast g ts c d log
 last_before g ts c d e log h =
     last_left c ts (puts_to (D (dm_no d)) (home_log g c log)) (put_by (D (dm_no d)) (made g (home g.catalogue c) log e))
     (subst (λ l. AllLe ts (times_in c l)) (puts_grow g (home g.catalogue c) (D (dm_no d)) e log) h)
 
-held_made : (g : Given) (ts c d : ℕ) (log : Log) (e : Entry) (o : Option site.Entry) → IsPermitted g (e ∷ log) → number_of (home g.catalogue c) ≤ 63
+held_made : (g : Input) (ts c d : ℕ) (log : Log) (e : Entry) (o : Option site.Entry) → IsPermitted g (e ∷ log) → number_of (home g.catalogue c) ≤ 63
     → IsSpoken g c log → IsLast g ts c d log → made g (D (dm_no d)) log e ≡ o
     → IsHeldAt (setting_of g (D (dm_no d))) ts c (home g.catalogue c) (with_made o (data_log g d log))
 held_made g ts c d log e (Some (Handed from m)) h small i last p =
@@ -239,12 +239,12 @@ held_made g ts c d log e (Some (Did act)) h small i last p =
     (home_source g c d) (data_step (setting_of g (D (dm_no d))) (data_log g d log) act due) (alone g ts c d log h.1 small i last) (i.held ts d last)
 held_made g ts c d log e _ h small i last p = i.held ts d last
 
-first_timely : (g : Given) (c : ℕ) (at : Site) → Each (IsTimely c) (local_of g at [])
+first_timely : (g : Input) (c : ℕ) (at : Site) → Each (IsTimely c) (local_of g at [])
 first_timely g c (T t) = (tt, tt)
 first_timely g c _ = tt
 
 -- on every permitted log
-pub spoken : (g : Given) (c : ℕ) (log : Log) → IsPermitted g log → number_of (home g.catalogue c) ≤ 63 → IsSpoken g c log
+pub spoken : (g : Input) (c : ℕ) (log : Log) → IsPermitted g log → number_of (home g.catalogue c) ≤ 63 → IsSpoken g c log
 spoken g c [] h small = record {
   stages = λ ts d. agreed (silent_first g ts c d (home g.catalogue c)) (ap (λ l. questions ts c (drop 0 l))
       (nothing_put g (home g.catalogue c) (D (dm_no d)))) refl;

@@ -1,5 +1,5 @@
 -- One timestamp, one Start: of whatever classes.
-use Rattle.sdd_obligations.proofs.All.{Bool, Catalogue, Did, Does, Given, IsReadOf, IsServedClass, IsSound, Log, Queued, Records, Setting, Site, Some, T, U, ap, append_assoc, arith, at_number, class_at, clock, clock_grows, clock_number, compare, false, head_of, home, inl, inr, length, local_grows, local_of, next_stamp, number_of, own_act, queue, refl, same_head, setting_of, sound_classes, sound_whole, start_at, subst, suc, sym, tm_no, true, zero, ℕ, ◌*◌, ◌++◌, ◌+◌, ◌==◌, ◌∙◌, ◌∷◌, ◌≡◌, ◌≤◌, ◌⊎◌}
+use Rattle.sdd_obligations.proofs.All.{Bool, Catalogue, Did, Does, Input, IsReadOf, IsServedClass, IsSound, Log, Queued, Records, Setting, Site, Some, T, U, ap, append_assoc, arith, at_number, class_at, clock, clock_grows, clock_number, compare, false, head_of, home, inl, inr, length, local_grows, local_of, next_stamp, number_of, own_act, queue, refl, same_head, setting_of, sound_classes, sound_whole, start_at, subst, suc, sym, tm_no, true, zero, ℕ, ◌*◌, ◌++◌, ◌+◌, ◌==◌, ◌∙◌, ◌∷◌, ◌≡◌, ◌≤◌, ◌⊎◌}
 use Rattle.sdd_invariants.specs.site_module.SiteLog as site
 
 -- in one site's log
@@ -26,14 +26,14 @@ one_start_of_all s c k l1 l2 b1 b2 q1 q2 e f = elim (compare l1 l2 (Did (start_a
 ]
 
 -- a Start of a transaction in the log of a site that runs its class
-pub record StartAt (g : Given) (c : ℕ) (log : Log) (at : Site) (t : ℕ) (q : Queued) : Type 0 where
+pub record StartAt (g : Input) (c : ℕ) (log : Log) (at : Site) (t : ℕ) (q : Queued) : Type 0 where
   pub later : site.Log
   pub before : site.Log
   pub is : local_of g at log ≡ later ++ Did (start_at (setting_of g at) c before q) ∷ before
   pub head_is : head_of (queue (setting_of g at) c before) ≡ Some q
   pub ts_is : t ≡ next_stamp (setting_of g at) before
 
-pub start_here : (g : Given) (c : ℕ) (log : Log) (n k t : ℕ) (r : IsReadOf g log c n k t) → StartAt g c log (home g.catalogue c) t r.queued
+pub start_here : (g : Input) (c : ℕ) (log : Log) (n k t : ℕ) (r : IsReadOf g log c n k t) → StartAt g c log (home g.catalogue c) t r.queued
 start_here g c log n k t r =
     let at : Site = home g.catalogue c in
     let x = local_grows g at r.later (Does at (start_at (setting_of g at) c (local_of g at r.before) r.queued) ∷ r.before) in
@@ -46,7 +46,7 @@ start_here g c log n k t r =
     }
 
 -- earlier in the log, so later too
-abbrev pub read_later : (g : Given) (c : ℕ) (front log : Log) (n k t : ℕ) → IsReadOf g log c n k t → IsReadOf g (front ++ log) c n k t
+abbrev pub read_later : (g : Input) (c : ℕ) (front log : Log) (n k t : ℕ) → IsReadOf g log c n k t → IsReadOf g (front ++ log) c n k t
 read_later g c front log n k t r = record {
   later = front ++ r.later;
   before = r.before;
@@ -109,7 +109,7 @@ stamp_is : (s : Setting) (log : site.Log) → next_stamp s log ≡ suc (clock s.
 stamp_is s log = let n = clock_number s.site log in omega arith
 
 -- two Starts with one timestamp are one, whatever their classes
-pub one_start : (g : Given) → IsSound g.catalogue → (c k : ℕ) (log : Log) (t : ℕ) (q1 q2 : Queued)
+pub one_start : (g : Input) → IsSound g.catalogue → (c k : ℕ) (log : Log) (t : ℕ) (q1 q2 : Queued)
     → c ≤ length g.catalogue.classes → k ≤ length g.catalogue.classes
     → StartAt g c log (home g.catalogue c) t q1 → StartAt g k log (home g.catalogue k) t q2 → (c ≡ k) × (q1 ≡ q2)
 one_start g sound c k log t q1 q2 lc lk x y =
@@ -124,7 +124,7 @@ one_start g sound c k log t q1 q2 lc lk x y =
     (r.1, same_head s c x.before z.before q1 q2 r.0 x.head_is (ap (λ j. head_of (queue s j z.before)) r.1 ∙ z.head_is))
 
 -- and none has the timestamp that a site draws next
-pub drawn_already : (g : Given) → IsSound g.catalogue → (c k : ℕ) (log : Log) (q : Queued) → c ≤ length g.catalogue.classes → k ≤ length g.catalogue.classes
+pub drawn_already : (g : Input) → IsSound g.catalogue → (c k : ℕ) (log : Log) (q : Queued) → c ≤ length g.catalogue.classes → k ≤ length g.catalogue.classes
     → StartAt g k log (home g.catalogue k) (next_stamp (setting_of g (home g.catalogue c)) (local_of g (home g.catalogue c) log)) q → ⊥
 drawn_already g sound c k log q lc lk y =
     let at : Site = home g.catalogue c in

@@ -1,5 +1,5 @@
 -- The exchange of an active attempt and its modules go in step.
-use Rattle.sdd_obligations.proofs.All.{Act, Asks, Attempt, Bases, Bool, D, Did, DmNo, Does, Each, Entry, Fetch, Given, Hand, Handed, IsAllowed, IsFair, IsPermitted, IsStage, List, Log, Mark, MayAnswer, Msg, None, Notes, Option, Queued, Read, Redeclared, Redeclares, Reduce, Reject, Replies, Round, Sends, Setting, Ship, Silent, Site, Some, Submits, Submitted, T, Tells, Ticked, Told, Turn, U, [], active, active_handed, active_sent, agreed, allowed_act, answer_goes, answers, ap, beginning, class_at, commit_act, dm_no, drop, false, filter-append, flight, handed, handed_way, head_of, home, home_fair, if_way, if◌then◌else◌, inl, inr, is_a_read, is_a_refusal, is_answer, is_question, kept, local_of, local_step, made, next_stamp, number_of, own_act, puts_to, question_goes, queue, refl, same_number, same_or_not, same_site, sends_of_act, sent_way, setting_of, site_is, site_self, stamp_below_next, start_at, started, step_way, subst, sym, take, take-append-drop, tm_no, told, true, turn_at, turn_with, uses_by, uses_in, with_made, ℕ, ◌++◌, ◌==◌, ◌∙◌, ◌∷◌, ◌≡◌, ◌≤◌}
+use Rattle.sdd_obligations.proofs.All.{Act, Asks, Attempt, Bases, Bool, D, Did, DmNo, Does, Each, Entry, Fetch, Hand, Handed, Input, IsAllowed, IsFair, IsPermitted, IsStage, List, Log, Mark, MayAnswer, Msg, None, Notes, Option, Queued, Read, Redeclared, Redeclares, Reduce, Reject, Replies, Round, Sends, Setting, Ship, Silent, Site, Some, Submits, Submitted, T, Tells, Ticked, Told, Turn, U, [], active, active_handed, active_sent, agreed, allowed_act, answer_goes, answers, ap, beginning, class_at, commit_act, dm_no, drop, false, filter-append, flight, handed, handed_way, head_of, home, home_fair, if_way, if◌then◌else◌, inl, inr, is_a_read, is_a_refusal, is_answer, is_question, kept, local_of, local_step, made, next_stamp, number_of, own_act, puts_to, question_goes, queue, refl, same_number, same_or_not, same_site, sends_of_act, sent_way, setting_of, site_is, site_self, stamp_below_next, start_at, started, step_way, subst, sym, take, take-append-drop, tm_no, told, true, turn_at, turn_with, uses_by, uses_in, with_made, ℕ, ◌++◌, ◌==◌, ◌∙◌, ◌∷◌, ◌≡◌, ◌≤◌}
 use Rattle.sdd_obligations.proofs.Comes.{answer_stands, question_stands}
 use Rattle.sdd_obligations.proofs.DataSteps.{data_step}
 use Rattle.sdd_obligations.proofs.Halves.{active_last, data_turns, home_source, home_turns}
@@ -52,7 +52,7 @@ told_quiet s c ts at (Some (Redeclared force t)) l h k =
     k
 told_quiet s c ts at (Some _) l h k = absurd h
 
-module _ (g : Given) (c : ℕ) (small : number_of (home g.catalogue c) ≤ 63) where
+module _ (g : Input) (c : ℕ) (small : number_of (home g.catalogue c) ≤ 63) where
   abbrev at : Site
   at = home g.catalogue c
 

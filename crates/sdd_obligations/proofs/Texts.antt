@@ -1,5 +1,5 @@
 -- The transaction of an attempt is one that was given to its class, and has what all these have.
-use Rattle.sdd_obligations.proofs.All.{AllByRecursion, Attempt, Bool, Did, Each, FitsGiven, FitsText, Given, Handed, IsFair, IsNew, IsPermitted, IsServed, List, None, Option, Queued, Redeclared, Setting, Site, Some, Submits, Ticked, Txn, [], active, cons_option, each_local, false, filter_map, if◌then◌else◌, in_force, is_committed, is_for, local_of, queue, queue_is, queued, refl, setting_of, starts_of, submits_of, subst, sym, true, ℕ, ◌++◌, ◌∷◌, ◌≡◌}
+use Rattle.sdd_obligations.proofs.All.{AllByRecursion, Attempt, Bool, Did, Each, FitsInput, FitsText, Handed, Input, IsFair, IsNew, IsPermitted, IsServed, List, None, Option, Queued, Redeclared, Setting, Site, Some, Submits, Ticked, Txn, [], active, cons_option, each_local, false, filter_map, if◌then◌else◌, in_force, is_committed, is_for, local_of, queue, queue_is, queued, refl, setting_of, starts_of, submits_of, subst, sym, true, ℕ, ◌++◌, ◌∷◌, ◌≡◌}
 use Rattle.sdd_invariants.specs.site_module.SiteLog.{Entry, Log}
 use Rattle.sdd_invariants.specs.logs.Entries as whole
 
@@ -52,7 +52,7 @@ module _ (P : Txn → Type 0) where
       served_so (active s c log) (queue s c log) a e k.served (subst TextsAre (sym k.is) (queued_so c log (submits_of s c log) (submits_so s c log so)))
 
 -- all transactions that are given fit
-pub submitted_fit : (g : Given) → FitsGiven g → (at : Site) (c : ℕ) (log : whole.Log) → IsPermitted g log
+pub submitted_fit : (g : Input) → FitsInput g → (at : Site) (c : ℕ) (log : whole.Log) → IsPermitted g log
     → Each (SubmitHas (FitsText g.catalogue) (setting_of g at) c) (local_of g at log)
 submitted_fit g good at c = each_local g at (SubmitHas (FitsText g.catalogue) (setting_of g at) c) (record {
   handed = λ log p from n m a i. tt;

@@ -1,5 +1,5 @@
 -- The height of a lawful log is one: no clock and no message's time is above it.
-use Rattle.sdd_obligations.proofs.All.{Act, AllFewTicks, AllLow, Ask, D, Did, Does, Entry, Event, Force, Given, Hand, Handed, HandsLow, Held, IsDueAt, IsLawful, IsLow, IsPermitted, IsUnder, List, Log, Mark, Msg, None, Notes, Option, Records, Redeclared, Redeclares, Reject, Release, Round, Site, Some, Start, Submits, Submitted, T, Tick, Ticked, Ticking, Txn, U, [], allowed_act, allowed_hand, arith, base_of, beginning, bound_at, clock, fold, force_at, forced, given_to, greatest_bound, height, if_way, if◌then◌else◌, local_of, local_step, made, made_by_mark, map, max, numbers_to, pushed_by, put_by, puts_grow, puts_to, redeclares, refl, same_site, sends_of_act, sent, sent_is, setting_of, slice_get, starts_by, subst, suc, sym, t_fair, ticked_by, ticks_of, tm_no, to_site, top, txn_at, u_due, u_fair, with_made, ℕ, ◌*◌, ◌+◌, ◌-◌, ◌/◌, ◌∷◌, ◌≡◌, ◌≤◌}
+use Rattle.sdd_obligations.proofs.All.{Act, AllFewTicks, AllLow, Ask, D, Did, Does, Entry, Event, Force, Hand, Handed, HandsLow, Held, Input, IsDueAt, IsLawful, IsLow, IsPermitted, IsUnder, List, Log, Mark, Msg, None, Notes, Option, Records, Redeclared, Redeclares, Reject, Release, Round, Site, Some, Start, Submits, Submitted, T, Tick, Ticked, Ticking, Txn, U, [], allowed_act, allowed_hand, arith, base_of, beginning, bound_at, clock, fold, force_at, forced, given_to, greatest_bound, height, if_way, if◌then◌else◌, local_of, local_step, made, made_by_mark, map, max, numbers_to, pushed_by, put_by, puts_grow, puts_to, redeclares, refl, same_site, sends_of_act, sent, sent_is, setting_of, slice_get, starts_by, subst, suc, sym, t_fair, ticked_by, ticks_of, tm_no, to_site, top, txn_at, u_due, u_fair, with_made, ℕ, ◌*◌, ◌+◌, ◌-◌, ◌/◌, ◌∷◌, ◌≡◌, ◌≤◌}
 use Rattle.sdd_obligations.proofs.AnswersLow.{d_low}
 use Rattle.sdd_obligations.proofs.LowLists.{all_low_join, all_low_up, low_at, low_up}
 use Rattle.sdd_obligations.proofs.OfNext.{OfNext, of_next, t_of_sites}
@@ -59,7 +59,7 @@ put_low : (h k : ℕ) (b : Site) (o : Option site.Entry) → MayGrow h k o → A
 put_low h k b (Some (Did act)) m = m.1 b
 put_low h k b _ m = tt
 
-under_more : (g : Given) (h k : ℕ) (e : Entry) (log : Log) → h ≤ k → IsUnder g h log → ((at : Site) → MayGrow h k (made g at log e)) → IsUnder g k (e ∷ log)
+under_more : (g : Input) (h k : ℕ) (e : Entry) (log : Log) → h ≤ k → IsUnder g h log → ((at : Site) → MayGrow h k (made g at log e)) → IsUnder g k (e ∷ log)
 under_more g h k e log u i m = record {
   clocks = λ at. subst (λ l. (clock at l).ticks ≤ k) (sym (local_step g at e log))
       (clock_le at h k (made g at log e) (local_of g at log) u (i.clocks at) (m at));
@@ -83,7 +83,7 @@ by_submit : (h n : ℕ) (o : Option Txn) → MayGrow h h (given_to n o)
 by_submit h n None = tt
 by_submit h n (Some txn) = tt
 
-by_hand : (g : Given) (h : ℕ) (log : Log) (from to at : Site) (n : ℕ) (m : Msg) → IsUnder g h log
+by_hand : (g : Input) (h : ℕ) (log : Log) (from to at : Site) (n : ℕ) (m : Msg) → IsUnder g h log
     → slice_get (sent from to log) (n - 1) ≡ Some m → MayGrow h h (if same_site at to then Some (Handed from m) else None)
 by_hand g h log from to at n m i e =
     let low : IsLow h m = low_at h (sent from to log) (n - 1) m (subst (AllLow h) (sym (sent_is g from to log)) (i.puts from to)) e in
@@ -93,11 +93,11 @@ fold_max_le : (k : ℕ) (f : ℕ → ℕ) (ns : List ℕ) (a : ℕ) → a ≤ k 
 fold_max_le k f [] a l h = l
 fold_max_le k f (n ∷ ns) a l h = fold_max_le k f ns (max a (f n)) (max_le a (f n) k l (h n)) h
 
-pub greatest_le : (g : Given) (h : ℕ) (log : Log) → IsUnder g h log → greatest_bound g log ≤ top h
+pub greatest_le : (g : Input) (h : ℕ) (log : Log) → IsUnder g h log → greatest_bound g log ≤ top h
 greatest_le g h log i =
     fold_max_le (top h) (bound_at g log) (numbers_to g.catalogue.tms) 0 (omega arith) (λ n. let c = i.clocks (T (tm_no n)) in omega (arith, c))
 
-act_low : (g : Given) (h : ℕ) (log : Log) (at : Site) (act : Act) → g.catalogue.tms ≤ 63 → IsPermitted g log → IsUnder g h log
+act_low : (g : Input) (h : ℕ) (log : Log) (at : Site) (act : Act) → g.catalogue.tms ≤ 63 → IsPermitted g log → IsUnder g h log
     → OfNext g log (Does at act) → IsDueAt g log at act → PutsLow h act
 act_low g h log U act w p i o d =
     u_low h (setting_of g U) (local_of g U log) act (omega arith) (i.clocks U) (u_fair g log p)
@@ -107,18 +107,18 @@ act_low g h log (T t) act w p i o d =
     t_low h (setting_of g (T t)) t (base_of g log) (local_of g (T t) log) act refl (omega (arith, w, r.1)) (i.clocks (T t)) (t_fair g t log p) d
 act_low g h log (D d) act w p i o due = d_low h (setting_of g (D d)) (local_of g (D d) log) act (i.hands (D d)) due
 
-by_act : (g : Given) (h : ℕ) (log : Log) (at by : Site) (act : Act) → PutsLow h act
+by_act : (g : Input) (h : ℕ) (log : Log) (at by : Site) (act : Act) → PutsLow h act
     → MayGrow h (starts_by act + h) (if same_site at by then Some (Did act) else None)
 by_act g h log at by act low = if_way (MayGrow h (starts_by act + h)) (same_site at by) (Some (Did act)) None (omega arith, low) tt
 
 abbrev IsEmptyOf : site.Log → Type 0
 IsEmptyOf l = ((at : Site) → (clock at l).ticks ≤ 0) × ((b : Site) → puts_to b l ≡ []) × HandsLow 0 l
 
-beginning_low : (g : Given) (at : Site) → IsEmptyOf (beginning g at)
+beginning_low : (g : Input) (at : Site) → IsEmptyOf (beginning g at)
 beginning_low g U = ((λ b. omega arith), (λ b. refl), tt)
 beginning_low g _ = ((λ b. omega arith), (λ b. refl), tt)
 
-pub under : (g : Given) (log : Log) → g.catalogue.tms ≤ 63 → AllFewTicks g.events → IsLawful g log → IsPermitted g log → IsUnder g (height log) log
+pub under : (g : Input) (log : Log) → g.catalogue.tms ≤ 63 → AllFewTicks g.events → IsLawful g log → IsPermitted g log → IsUnder g (height log) log
 under g [] w f h p = record {
   clocks = λ at. (beginning_low g at).0 at;
   puts = λ a b. subst (AllLow 0) (sym ((beginning_low g a).1 b)) tt;

@@ -1,10 +1,10 @@
 -- A data module puts at most one READY or REJECT for a READ, behind which the READ is processed.
-use Rattle.sdd_obligations.proofs.All.{Act, Answer, Bool, ClassNo, Cond, D, Did, DmNo, Each, Given, Handed, IsDueEach, IsPermitted, IsPutByD, IsStrict, List, Log, Msg, Pipe, Read, Ready, Rec, Records, Redeclared, Reject, Rejected, Sends, Setting, Site, Some, Submits, Ticked, Ts, TxnNo, Use, [], all_of, and_left, and_right, ap, arith, at_seam, class_number, d_fair, dec_le, each_local, eqb-true, false, filter_map-append, goes_through, head, head_of, head_processed, head_put, home, home_of, if_way, if◌then◌else◌, in_left, in_pipe, is_processing, is_verdict, key_rises, length, local_of, number_of, one_le, one_or_none, own_record, pipe, pipe_acted, pipe_at, place_within, processed_handed, processed_more, put_by_d, puts_to, read_at, reads_in, reads_strict, refl, same_number, same_site, sends_of_act, setting_of, slice_get, source_of, strict_left, subst, sym, tally, tally_append, tally_at, to_site, true, ℕ, ◌&&◌, ◌++◌, ◌<◌, ◌==◌, ◌∙◌, ◌∷◌, ◌≡◌, ◌≤◌}
+use Rattle.sdd_obligations.proofs.All.{Act, Answer, Bool, ClassNo, Cond, D, Did, DmNo, Each, Handed, Input, IsDueEach, IsPermitted, IsPutByD, IsStrict, List, Log, Msg, Pipe, Read, Ready, Rec, Records, Redeclared, Reject, Rejected, Sends, Setting, Site, Some, Submits, Ticked, Ts, TxnNo, Use, [], all_of, and_left, and_right, ap, arith, at_seam, class_number, d_fair, dec_le, each_local, eqb-true, false, filter_map-append, goes_through, head, head_of, head_processed, head_put, home, home_of, if_way, if◌then◌else◌, in_left, in_pipe, is_processing, is_verdict, key_rises, length, local_of, number_of, one_le, one_or_none, own_record, pipe, pipe_acted, pipe_at, place_within, processed_handed, processed_more, put_by_d, puts_to, read_at, reads_in, reads_strict, refl, same_number, same_site, sends_of_act, setting_of, slice_get, source_of, strict_left, subst, sym, tally, tally_append, tally_at, to_site, true, ℕ, ◌&&◌, ◌++◌, ◌<◌, ◌==◌, ◌∙◌, ◌∷◌, ◌≡◌, ◌≤◌}
 use Rattle.sdd_invariants.specs.site_module.SiteLog as site
 
 -- the READs of a pipe rise, and its head is of the class
 
-strict_reads : (g : Given) (c : ℕ) (d : DmNo) (log : Log) → number_of (home g.catalogue c) ≤ 63 → IsPermitted g log
+strict_reads : (g : Input) (c : ℕ) (d : DmNo) (log : Log) → number_of (home g.catalogue c) ≤ 63 → IsPermitted g log
     → IsStrict (reads_in c (all_of (pipe_at g c d log)))
 strict_reads g c d log small h =
     let p = in_pipe g c d log h in
@@ -21,7 +21,7 @@ IsStrictAt c log (Ticked n) = Unit {0}
 IsStrictAt c log (Submits n txn) = Unit {0}
 IsStrictAt c log (Redeclared force t) = Unit {0}
 
-stricts : (g : Given) (c : ℕ) (d : DmNo) (log : Log) → number_of (home g.catalogue c) ≤ 63 → IsPermitted g log → Each (IsStrictAt c) (local_of g (D d) log)
+stricts : (g : Input) (c : ℕ) (d : DmNo) (log : Log) → number_of (home g.catalogue c) ≤ 63 → IsPermitted g log → Each (IsStrictAt c) (local_of g (D d) log)
 stricts g c d log small = each_local g (D d) (IsStrictAt c) (record {
   handed = λ log p from n m a i. tt;
   ticked = λ log p n i. tt;
@@ -168,9 +168,9 @@ once s c ts b (Handed from m ∷ log) h k =
 once s c ts b (Did act ∷ log) h k = once_did s c ts b act log h.0 k.0 (once s c ts b log h.1 k.1)
 once s c ts b (_ ∷ log) h k = let i = once s c ts b log h.1 k.1 in record { le = i.le; was = i.was }
 
-pub one_verdict : (g : Given) (c ts : ℕ) (d : DmNo) (b : Site) (log : Log) → number_of (home g.catalogue c) ≤ 63 → IsPermitted g log
+pub one_verdict : (g : Input) (c ts : ℕ) (d : DmNo) (b : Site) (log : Log) → number_of (home g.catalogue c) ≤ 63 → IsPermitted g log
     → tally (is_verdict ts c) (puts_to b (local_of g (D d) log)) ≤ 1
 one_verdict g c ts d b log small h = (once (setting_of g (D d)) c ts b (local_of g (D d) log) (d_fair g d log h) (stricts g c d log small h)).le
 
-pub in_class : (g : Given) (d : DmNo) (log : Log) → IsPermitted g log → IsInClass (local_of g (D d) log)
+pub in_class : (g : Input) (d : DmNo) (log : Log) → IsPermitted g log → IsInClass (local_of g (D d) log)
 in_class g d log h = λ c m e. (head_put g c d log m h e).of_class

@@ -1,7 +1,7 @@
 -- The names of this crate and of those below it that the crates above cite, passed on from one place. Declares nothing.
 pub use Rattle.sdd_obligations.specs.AfterEvents.{is_down_after, redeclares_in}
 pub use Rattle.sdd_obligations.specs.Bounds.{AllFewTicks}
-pub use Rattle.sdd_obligations.specs.Fitting.{FitsGiven, FitsText}
+pub use Rattle.sdd_obligations.specs.Fitting.{FitsInput, FitsText}
 pub use Rattle.sdd_obligations.specs.Real.{FitsForce, Fitting, FittingSubmit, IsGood, fits, fits_at, fits_submit, fits_submit_at, fits_tick}
 pub use Rattle.sdd_obligations.specs.Stages.{IsStage, agreed, answer_goes, flight, question_goes}
 pub use Rattle.sdd_obligations.specs.Turns.{Asks, MayAnswer, Replies, Turn, answers, is_answer, is_question, questions, reads_asked, rows_asked, turn_at, turn_with}
@@ -105,7 +105,7 @@ pub use Rattle.sdd_obligations.specs.laws.Snapshots.{copy_at, items_of}
 pub use Rattle.sdd_obligations.specs.laws.Starts.{KeepsStarts, is_start_of, starts_before}
 pub use Rattle.sdd_obligations.specs.laws.Undeclared.{KeepsUndeclared}
 pub use Rattle.sdd_obligations.specs.logs.Due.{does_at, due_by, extended, hand_due, hand_number, hand_on, hand_with, mark_due, next, next_at, next_in, next_number, note_if, site_due}
-pub use Rattle.sdd_obligations.specs.logs.Entries.{Does, Entry, Given, Hand, Log, Mark, Notes, Redeclares, Round, Submitted, history, marks, with_event}
+pub use Rattle.sdd_obligations.specs.logs.Entries.{Does, Entry, Hand, Input, Log, Mark, Notes, Redeclares, Round, Submitted, history, marks, with_event}
 pub use Rattle.sdd_obligations.specs.logs.Lawful.{EndsByLimit, IsLawful, IsTheLog, puts_past}
 pub use Rattle.sdd_obligations.specs.logs.Locals.{IsForce, beginning, force_at, local_of, redeclares, rows_of, setting_of, txn_at, with_force, with_submit}
 pub use Rattle.sdd_obligations.specs.logs.Marks.{after_mark, bound_at, greatest_bound, left, mark_from, mark_of, next_mark}

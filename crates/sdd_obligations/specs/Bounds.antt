@@ -1,6 +1,6 @@
 -- How high a log can be.
 use Rattle.std.specs.Prelude.{ℕ, ◌*◌, ◌+◌, ◌∷◌, ◌==◌, ◌≤◌, if◌then◌else◌, length, List, [], suc}
-use Rattle.sdd_invariants.specs.All.{Act, AreSubmittedOnce, D, Did, Event, Given, MAX_CLASSES, MAX_DMS, MAX_LINK_MESSAGES, MAX_RUN_EVENTS, MAX_TICKS, MAX_TMS, Records, Site, Start, T, U}
+use Rattle.sdd_invariants.specs.All.{Act, AreSubmittedOnce, D, Did, Event, Input, MAX_CLASSES, MAX_DMS, MAX_LINK_MESSAGES, MAX_RUN_EVENTS, MAX_TICKS, MAX_TMS, Records, Site, Start, T, U}
 use Rattle.sdd_invariants.specs.site_module.SiteLog.{Log}
 use Rattle.sdd_obligations.specs.Heights.{ticks_of}
 
@@ -28,7 +28,7 @@ AllFewTicks (e ∷ es) = (ticks_of e ≤ MAX_TICKS) × AllFewTicks es
 
 -- What is given is small: sites, classes and ticks are within their limits, and each transaction is submitted at most
 -- once.
-pub record IsSmall (g : Given) : Type 0 where
+pub record IsSmall (g : Input) : Type 0 where
   pub few_tms : g.catalogue.tms ≤ MAX_TMS
   pub few_dms : g.catalogue.dms ≤ MAX_DMS
   pub few_classes : length g.catalogue.classes ≤ MAX_CLASSES

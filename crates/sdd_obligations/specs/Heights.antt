@@ -1,7 +1,7 @@
 -- A height of the log: no clock stands above it, and no time that a message carries is above it. Ticks and Starts alone
 -- raise it, for what pushes a clock is a time that lies below it already.
 use Rattle.std.specs.Prelude.{ℕ, ◌*◌, ◌+◌, ◌∷◌, ◌≤◌, List, [], map}
-use Rattle.sdd_invariants.specs.All.{Act, AllLe, Ask, Does, Event, Given, Handed, Held, Log, Mark, Msg, Null, Read, Records, Reject, Release, Site, Start, Tick, Write, clock, local_of, puts_to}
+use Rattle.sdd_invariants.specs.All.{Act, AllLe, Ask, Does, Event, Handed, Held, Input, Log, Mark, Msg, Null, Read, Records, Reject, Release, Site, Start, Tick, Write, clock, local_of, puts_to}
 use Rattle.sdd_invariants.specs.site_module.SiteLog as site
 
 -- the times that a message carries: its own, those of a READ's conditions, and that of the write which rejects one
@@ -50,7 +50,7 @@ HandsLow h (Handed from m ∷ log) = IsLow h m × HandsLow h log
 HandsLow h (_ ∷ log) = HandsLow h log
 
 -- a height of all clocks, of all that is on the links and of all that was handed over
-pub record IsUnder (g : Given) (h : ℕ) (log : Log) : Type 0 where
+pub record IsUnder (g : Input) (h : ℕ) (log : Log) : Type 0 where
   pub clocks : (at : Site) → (clock at (local_of g at log)).ticks ≤ h
   pub puts : (a b : Site) → AllLow h (puts_to b (local_of g a log))
   pub hands : (at : Site) → HandsLow h (local_of g at log)

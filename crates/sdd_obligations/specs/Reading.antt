@@ -1,12 +1,12 @@
 -- What the copies of data modules hold when they answer an attempt's READs.
 use Rattle.std.specs.Prelude.{ℕ, [], ◌∷◌, if◌then◌else◌}
-use Rattle.sdd_invariants.specs.All.{Answer, D, Did, Given, Records, dated, dm_no, force_at, head, is_at, local_of, pipe, setting_of}
+use Rattle.sdd_invariants.specs.All.{Answer, D, Did, Input, Records, dated, dm_no, force_at, head, is_at, local_of, pipe, setting_of}
 use Rattle.sdd_laws.specs.All.{CopyRows, IsEraOf, contents}
 use Rattle.sdd_invariants.specs.site_module.SiteLog.{Log}
 use Rattle.sdd_invariants.specs.logs.Entries as whole
 
 -- each list of classes is one of the catalogue: its classes have the sets that they have there, or none
-abbrev pub HasEras : Given → Type 0
+abbrev pub HasEras : Input → Type 0
 HasEras g = (k : ℕ) → IsEraOf g.catalogue (force_at g k).catalogue
 
 -- a data module's log before its last Answer to the attempt with this timestamp; an empty one where it made none
@@ -16,5 +16,5 @@ before_answer ts (Did (Records k (Answer txn attempt dm) sends) ∷ log) = if is
 before_answer ts (_ ∷ log) = before_answer ts log
 
 -- what the copies of data module d held just before that Answer
-abbrev pub copies_read : Given → whole.Log → ℕ → ℕ → CopyRows
+abbrev pub copies_read : Input → whole.Log → ℕ → ℕ → CopyRows
 copies_read g log ts d f = contents f (dated (setting_of g (D (dm_no d))) (before_answer ts (local_of g (D (dm_no d)) log)))

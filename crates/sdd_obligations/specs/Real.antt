@@ -1,12 +1,12 @@
 -- What the modules of the system ask, by the kind of their site, and all that is needed of what is given.
 use Rattle.std.specs.Prelude.{ℕ, ◌/◌, ◌<◌, ◌^◌, List, None, Option, Some}
-use Rattle.sdd_invariants.specs.All.{AreSubmittedOnce, Attempt, Bases, Catalogue, D, FitsSite, Force, Given, Msg, Row, Rows, ServesIfLast, Setting, Site, T, Txn, U, active, number_of, without}
+use Rattle.sdd_invariants.specs.All.{AreSubmittedOnce, Attempt, Bases, Catalogue, D, FitsSite, Force, Input, Msg, Row, Rows, ServesIfLast, Setting, Site, T, Txn, U, active, number_of, without}
 use Rattle.sdd_laws.specs.All.{IsEraOf}
 use Rattle.sdd_invariants.specs.dm.Fits as dm
 use Rattle.sdd_invariants.specs.tm.Fits as tm
 use Rattle.sdd_invariants.specs.umod.Fits as um
 use Rattle.sdd_obligations.specs.Bounds.{AllFewTicks}
-use Rattle.sdd_obligations.specs.Fitting.{FitsGiven}
+use Rattle.sdd_obligations.specs.Fitting.{FitsInput}
 use Rattle.sdd_obligations.specs.Reading.{HasEras}
 use Rattle.sdd_invariants.specs.site_module.SiteLog as site
 
@@ -65,8 +65,8 @@ IsServedAt s bases log from (Rows ts class rows) = ServedBy s bases (active s cl
 IsServedAt s bases log from _ = Unit {0}
 
 -- all that is needed of what is given
-pub record IsGood (g : Given) : Type 0 where
-  pub given : FitsGiven g
+pub record IsGood (g : Input) : Type 0 where
+  pub given : FitsInput g
   pub eras : HasEras g
   pub few_ticks : AllFewTicks g.events
   pub once : AreSubmittedOnce g.events

@@ -1,10 +1,10 @@
 -- An exchange in lockstep: both sides have the same turn, but for one question or one answer that is under way.
 use Rattle.std.specs.Prelude.{◌∷◌, ◌≡◌, List, [], drop}
-use Rattle.sdd_invariants.specs.All.{Given, Log, Msg, Site, handed, local_of, puts_to}
+use Rattle.sdd_invariants.specs.All.{Input, Log, Msg, Site, handed, local_of, puts_to}
 use Rattle.sdd_obligations.specs.Turns.{MayAnswer, MayAsk, Turn, asked, told}
 
 -- the messages of the link from a to b that are put and not handed over
-abbrev pub flight : Given → Site → Site → Log → List Msg
+abbrev pub flight : Input → Site → Site → Log → List Msg
 flight g a b log = drop (handed a b log) (puts_to b (local_of g a log))
 
 -- v is the turn at the site that asks and w the one at the data module; of the attempt these questions and these answers

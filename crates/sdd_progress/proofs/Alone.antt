@@ -1,10 +1,10 @@
 -- While the READ of an undeclared transaction is next at a module, each declared transaction whose WRITE is next there has a
 -- smaller timestamp, so that the READ holds no WRITE back.
-use Rattle.sdd_progress.proofs.All.{Act, Answer, Attempt, Change, ClassNo, Cond, D, DmNo, Does, Given, HasAnswer, IsClass, IsCommitT, IsHigh, IsModule, IsPermitted, IsSound, List, Log, Part, Read, Records, Some, T, Ts, TxnNo, U, Use, Write, all_applied, answered_before, answered_there, ap, append_assoc, arith, at_place, class_number, commit_t, false, has_cond, head, head_put, home, home_of, home_small, inl, inr, local_of, low_or_high, number_of, numbers_to, part_join, part_of, permitted_part, pipe_at, positive, read_classes, read_of, setting_of, slice_get, sound_whole, start_at, starts, subst, sym, tm_no, u_stamp, write_origin, zero_cond, ℕ, ◌++◌, ◌-◌, ◌<◌, ◌==◌, ◌∙◌, ◌∷◌, ◌≡◌, ◌≤◌}
+use Rattle.sdd_progress.proofs.All.{Act, Answer, Attempt, Change, ClassNo, Cond, D, DmNo, Does, HasAnswer, Input, IsClass, IsCommitT, IsHigh, IsModule, IsPermitted, IsSound, List, Log, Part, Read, Records, Some, T, Ts, TxnNo, U, Use, Write, all_applied, answered_before, answered_there, ap, append_assoc, arith, at_place, class_number, commit_t, false, has_cond, head, head_put, home, home_of, home_small, inl, inr, local_of, low_or_high, number_of, numbers_to, part_join, part_of, permitted_part, pipe_at, positive, read_classes, read_of, setting_of, slice_get, sound_whole, start_at, starts, subst, sym, tm_no, u_stamp, write_origin, zero_cond, ℕ, ◌++◌, ◌-◌, ◌<◌, ◌==◌, ◌∙◌, ◌∷◌, ◌≡◌, ◌≤◌}
 use Rattle.sdd_progress.proofs.Still.{run_at, runs_place}
 
 -- a READ that is answered doesn't stand at the head again
-not_again : (g : Given) (d : DmNo) (log : Log) (a : Attempt) (ts : Ts) (k : ClassNo) (txn : TxnNo) (n : ℕ) (conds : List Cond) (uses : List Use) (before : Log)
+not_again : (g : Input) (d : DmNo) (log : Log) (a : Attempt) (ts : Ts) (k : ClassNo) (txn : TxnNo) (n : ℕ) (conds : List Cond) (uses : List Use) (before : Log)
     → IsPermitted g log → head (pipe_at g 0 d log) ≡ Some (Read ts k txn n conds uses) → Part log before → HasAnswer g before d 0 a
     → (served : ℕ) → a.ts ≡ served → ts.0 ≡ served → ⊥
 not_again g d log a ts k txn n conds uses before h e p w served same own =
@@ -16,12 +16,12 @@ not_again g d log a ts k txn n conds uses before h e p w served same own =
     w.head_is (subst (λ l. head (pipe_at g 0 d l) ≡ Some (Read ts k txn n conds uses)) whole e) (w.ts_is ∙ same ∙ sym own)
 
 -- where a declared transaction starts after the undeclared one was served
-start_part : (g : Given) (t c : ℕ) (full log : Log) (a : Attempt) (k : IsCommitT g t c full a) (ts n : ℕ)
+start_part : (g : Input) (t c : ℕ) (full log : Log) (a : Attempt) (k : IsCommitT g t c full a) (ts n : ℕ)
     (high : IsHigh g t c full log a k ts n) → Part full high.start.rest
 start_part g t c full log a k ts n high =
     part_of full high.start.later (Does (T (tm_no t)) (start_at (setting_of g (T (tm_no t))) c k.start.before k.start.queued)) high.start.rest high.start.is
 
-pub below_read : (g : Given) (log : Log) (j : ℕ) (d : DmNo) (ts : Ts) (of : ClassNo) (txn : TxnNo) (n : ℕ)
+pub below_read : (g : Input) (log : Log) (j : ℕ) (d : DmNo) (ts : Ts) (of : ClassNo) (txn : TxnNo) (n : ℕ)
     (conds : List Cond) (uses : List Use) (w : Ts) (k : ClassNo) (x : TxnNo) (changes : List Change)
     → IsSound g.catalogue → IsPermitted g log → (j == 0) ≡ false → IsClass g.catalogue j → IsModule g.catalogue d.0
     → head (pipe_at g 0 d log) ≡ Some (Read ts of txn n conds uses) → head (pipe_at g j d log) ≡ Some (Write w k x changes) → w.0 < ts.0
@@ -48,7 +48,7 @@ below_read g log j d ts of txn n conds uses w k x changes sound h p l m e f =
     ]
 
 -- the conditions of such a READ ask for its own timestamp
-pub zero_time : (g : Given) (log : Log) (d : DmNo) (ts : Ts) (of : ClassNo) (txn : TxnNo) (n : ℕ) (conds : List Cond) (uses : List Use) (place : ℕ) (q : Cond)
+pub zero_time : (g : Input) (log : Log) (d : DmNo) (ts : Ts) (of : ClassNo) (txn : TxnNo) (n : ℕ) (conds : List Cond) (uses : List Use) (place : ℕ) (q : Cond)
     → IsPermitted g log → head (pipe_at g 0 d log) ≡ Some (Read ts of txn n conds uses) → slice_get conds place ≡ Some q → q.time.0 ≡ ts.0
 zero_time g log d ts of txn n conds uses place q h e f =
     let class = read_classes g d log ts of txn n conds uses place q h e f in

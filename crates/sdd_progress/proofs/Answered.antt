@@ -1,5 +1,5 @@
 -- A READ whose conditions are met is answered before the event is over.
-use Rattle.sdd_progress.proofs.AllWaits.{Act, Answer, ClassNo, ClassView, Cond, D, Did, DmNo, Does, Entry, Given, IsAnsweredIn, IsClassHere, IsPermitted, IsReadStep, IsStuck, List, Log, Msg, None, Pipe, Read, Records, Setting, Site, Some, Ts, TxnNo, Use, [], and_left, and_right, ap, arith, both, by_record, class_in_view, class_not_in_view, d_step, dec_le, false, head, inl, inr, is_met, length, list_all, not_both, not_own, passed, passing, pipe, read_step_way, refl, same_or_not, setting_of, site_due, subst, suc, sym, true, view_of, waits, ℕ, ◌++◌, ◌∙◌, ◌∷◌, ◌≡◌, ◌≤◌, ◌⊎◌}
+use Rattle.sdd_progress.proofs.AllWaits.{Act, Answer, ClassNo, ClassView, Cond, D, Did, DmNo, Does, Entry, Input, IsAnsweredIn, IsClassHere, IsPermitted, IsReadStep, IsStuck, List, Log, Msg, None, Pipe, Read, Records, Setting, Site, Some, Ts, TxnNo, Use, [], and_left, and_right, ap, arith, both, by_record, class_in_view, class_not_in_view, d_step, dec_le, false, head, inl, inr, is_met, length, list_all, not_both, not_own, passed, passing, pipe, read_step_way, refl, same_or_not, setting_of, site_due, subst, suc, sym, true, view_of, waits, ℕ, ◌++◌, ◌∙◌, ◌∷◌, ◌≡◌, ◌≤◌, ◌⊎◌}
 use Rattle.sdd_progress.proofs.AtModule.{IsEntryAt, acting, aside, at_module, entry_at, handed_head, handing, waits_on, waits_other}
 use Rattle.sdd_progress.proofs.ClassSites.{HasSmallHomes}
 use Rattle.sdd_progress.proofs.EventOver.{none_at_data}
@@ -10,7 +10,7 @@ use Rattle.sdd_obligations.specs.site_module.SiteLog as site
 
 -- what is met stays met
 
-met_later : (g : Given) (d : DmNo) (later log : Log) (q : Cond) → IsPermitted g (later ++ log) → HasSmallHomes g
+met_later : (g : Input) (d : DmNo) (later log : Log) (q : Cond) → IsPermitted g (later ++ log) → HasSmallHomes g
     → is_met (view_of (setting_of g (D d)) (at_module g d log)) q ≡ true → is_met (view_of (setting_of g (D d)) (at_module g d (later ++ log))) q ≡ true
 met_later g d later log q h small e =
     let s : Setting = setting_of g (D d) in
@@ -22,7 +22,7 @@ met_later g d later log q h small e =
       | no n ↦ (let none : false ≡ true = subst (λ (k : ClassView). passed k.pipe q.time.0 ≡ true) (class_not_in_view s (at_module g d log) c (omega (arith, n))) e in cc)
     ]
 
-pub all_met_later : (g : Given) (d : DmNo) (later log : Log) (conds : List Cond) → IsPermitted g (later ++ log) → HasSmallHomes g
+pub all_met_later : (g : Input) (d : DmNo) (later log : Log) (conds : List Cond) → IsPermitted g (later ++ log) → HasSmallHomes g
     → list_all (is_met (view_of (setting_of g (D d)) (at_module g d log))) conds ≡ true
     → list_all (is_met (view_of (setting_of g (D d)) (at_module g d (later ++ log)))) conds ≡ true
 all_met_later g d later log [] h small e = refl
@@ -59,7 +59,7 @@ pub answered_now : (d : DmNo) (c : ℕ) (txn : TxnNo) (attempt : ℕ) (e : Entry
 answered_now d c txn attempt e act entries is a =
     record { later = []; before = entries; dm = a.0; sends = a.1; is = ap (λ x. x ∷ entries) (is ∙ ap (λ x. Does (D d) x) a.2) }
 
-waits_entry : (g : Given) (d : DmNo) (c : ℕ) (e : Entry) (entries log : Log) (ts : Ts) (of : ClassNo) (txn : TxnNo) (attempt : ℕ) (conds : List Cond) (uses : List Use)
+waits_entry : (g : Input) (d : DmNo) (c : ℕ) (e : Entry) (entries log : Log) (ts : Ts) (of : ClassNo) (txn : TxnNo) (attempt : ℕ) (conds : List Cond) (uses : List Use)
     → HeadWaits (at_module g d (entries ++ log)) c (Read ts of txn attempt conds uses) → IsEntryAt g d (entries ++ log) e
     → HeadWaits (at_module g d (e ∷ (entries ++ log))) c (Read ts of txn attempt conds uses) ⊎ IsAnsweredIn d c txn attempt (e ∷ entries)
 waits_entry g d c e entries log ts of txn attempt conds uses w (aside f) = inl ((f c).waits_same ∙ w.0, ap (λ (x : Pipe). head x) (f c).pipe_same ∙ w.1)
@@ -72,7 +72,7 @@ waits_entry g d c e entries log ts of txn attempt conds uses w (acting act is s 
       | inr a ↦ inr (answered_now d c txn attempt e act entries is a)
     ]
 
-pub waits_or_answered : (g : Given) (d : DmNo) (c : ℕ) (later log : Log) (ts : Ts) (of : ClassNo) (txn : TxnNo) (attempt : ℕ) (conds : List Cond) (uses : List Use)
+pub waits_or_answered : (g : Input) (d : DmNo) (c : ℕ) (later log : Log) (ts : Ts) (of : ClassNo) (txn : TxnNo) (attempt : ℕ) (conds : List Cond) (uses : List Use)
     → IsPermitted g (later ++ log) → HeadWaits (at_module g d log) c (Read ts of txn attempt conds uses)
     → HeadWaits (at_module g d (later ++ log)) c (Read ts of txn attempt conds uses) ⊎ IsAnsweredIn d c txn attempt later
 waits_or_answered g d c [] log ts of txn attempt conds uses h w = inl w
@@ -90,7 +90,7 @@ no_ready_head s l c ts of txn attempt conds uses e h k =
     let x : IsStuck s l c (Some (Read ts of txn attempt conds uses)) = subst (IsStuck s l c) h k in
     not_both (list_all (is_met (view_of s l)) conds) e x.1
 
-pub answered : (g : Given) (d : DmNo) (c : ℕ) (later log : Log) (ts : Ts) (of : ClassNo) (txn : TxnNo) (attempt : ℕ) (conds : List Cond) (uses : List Use)
+pub answered : (g : Input) (d : DmNo) (c : ℕ) (later log : Log) (ts : Ts) (of : ClassNo) (txn : TxnNo) (attempt : ℕ) (conds : List Cond) (uses : List Use)
     → IsPermitted g (later ++ log) → HasSmallHomes g → IsClassHere (setting_of g (D d)) c → 1 ≤ d.0 → d.0 ≤ g.catalogue.dms
     → waits c (at_module g d log) ≡ true → head (pipe c (at_module g d log)) ≡ Some (Read ts of txn attempt conds uses)
     → list_all (is_met (view_of (setting_of g (D d)) (at_module g d log))) conds ≡ true → site_due g (later ++ log) ≡ None → IsAnsweredIn d c txn attempt later

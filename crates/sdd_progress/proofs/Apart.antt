@@ -1,6 +1,6 @@
 -- Of two committed transactions the second was submitted in a later era: a list of classes was put in force between them,
 -- so that the first is committed and applied before the second starts.
-use Rattle.sdd_progress.proofs.All.{AppliedBefore, Committed, Entry, Given, GoesTo, IsAttempt, IsOfEarlierEra, IsSubmitted, Log, Redeclares, Submit, Submitted, [], ap, append_assoc, arith, begun, eras_of, event_at, history, inl, inr, length, length-append, redeclares, refl, submit_in, subst, sym, txn_no, ℕ, ◌++◌, ◌+◌, ◌<◌, ◌∙◌, ◌∷◌, ◌≡◌, ◌≢◌, ◌≤◌}
+use Rattle.sdd_progress.proofs.All.{AppliedBefore, Committed, Entry, GoesTo, Input, IsAttempt, IsOfEarlierEra, IsSubmitted, Log, Redeclares, Submit, Submitted, [], ap, append_assoc, arith, begun, eras_of, event_at, history, inl, inr, length, length-append, redeclares, refl, submit_in, subst, sym, txn_no, ℕ, ◌++◌, ◌+◌, ◌<◌, ◌∙◌, ◌∷◌, ◌≡◌, ◌≢◌, ◌≤◌}
 use Rattle.sdd_progress.proofs.SinceRedeclare.{redeclares_back}
 use Rattle.sdd_progress.proofs.AtRest.{IsRest, applied_by, committed_by, rest}
 use Rattle.sdd_progress.proofs.Fronts.{ends, history_le, redeclare_between, stands_front}
@@ -8,20 +8,20 @@ use Rattle.sdd_progress.proofs.Known.{Known, begun_at}
 use Rattle.sdd_obligations.specs.serial_orders.Attempts.{Attempt}
 
 -- a list was put in force after the Submit at a place and before an upper end
-pub record IsApart (g : Given) (log : Log) (n place : ℕ) (upper : Log) : Type 0 where
+pub record IsApart (g : Input) (log : Log) (n place : ℕ) (upper : Log) : Type 0 where
   pub mid : Log
   pub at_rest : IsRest g log mid
   pub submitted : IsSubmitted (history mid) n place
   pub below : length (history mid) ≤ length (history upper)
 
 -- where that was
-pub record IsEarlier (g : Given) (log : Log) (x : Committed) (a : Attempt) : Type 0 where
+pub record IsEarlier (g : Input) (log : Log) (x : Committed) (a : Attempt) : Type 0 where
   pub mid : Log
   pub at_rest : IsRest g log mid
   pub first : x.place < length (history mid)
   pub second : length (history mid) < a.place
 
-module _ (g : Given) (log : Log) (w : Known g log) where
+module _ (g : Input) (log : Log) (w : Known g log) where
   pub apart : (n place : ℕ) → IsSubmitted (history log) n place → (e : Entry) (later upper : Log) → log ≡ later ++ e ∷ upper
       → begun (eras_of g log) (event_at (history log) place) ≤ redeclares upper → IsApart g log n place upper
   apart n place s e later upper is l =

@@ -1,8 +1,8 @@
 -- What an entry of the log of everything does at a data module.
-use Rattle.sdd_progress.proofs.AllWaits.{Act, Bool, D, Did, DmNo, Does, Entry, Given, Handed, IsDue, IsPermitted, List, Log, Msg, None, Option, Pipe, Rec, Records, Redeclared, Site, Some, Submits, Ticked, [], allowed_act, ap, false, goes_through, head, head_of, home_of, if◌then◌else◌, is_processing, is_wait, local_of, local_step, made, maker, pipe, put, refl, setting_of, subst, true, view_of, waits, with_made, ℕ, ◌++◌, ◌==◌, ◌||◌, ◌∙◌, ◌∷◌, ◌≡◌}
+use Rattle.sdd_progress.proofs.AllWaits.{Act, Bool, D, Did, DmNo, Does, Entry, Handed, Input, IsDue, IsPermitted, List, Log, Msg, None, Option, Pipe, Rec, Records, Redeclared, Site, Some, Submits, Ticked, [], allowed_act, ap, false, goes_through, head, head_of, home_of, if◌then◌else◌, is_processing, is_wait, local_of, local_step, made, maker, pipe, put, refl, setting_of, subst, true, view_of, waits, with_made, ℕ, ◌++◌, ◌==◌, ◌||◌, ◌∙◌, ◌∷◌, ◌≡◌}
 use Rattle.sdd_obligations.specs.site_module.SiteLog as site
 
-abbrev pub at_module : Given → DmNo → Log → site.Log
+abbrev pub at_module : Input → DmNo → Log → site.Log
 at_module g d log = local_of g (D d) log
 
 -- the pipe of a class is as it was, and its head waits as it did
@@ -11,7 +11,7 @@ pub record LeavesPipe (l k : site.Log) (c : ℕ) : Type 0 where
   pub waits_same : waits c k ≡ waits c l
 
 -- it leaves all pipes, hands a message over, or is an act of the module, which was due
-pub data IsEntryAt (g : Given) (d : DmNo) (log : Log) (e : Entry) : Type 0 where
+pub data IsEntryAt (g : Input) (d : DmNo) (log : Log) (e : Entry) : Type 0 where
   aside : ((c : ℕ) → LeavesPipe (at_module g d log) (at_module g d (e ∷ log)) c) → IsEntryAt g d log e
   handing : (from : Site) (m : Msg) → at_module g d (e ∷ log) ≡ Handed from m ∷ at_module g d log → IsEntryAt g d log e
   acting : (act : Act) → e ≡ Does (D d) act → at_module g d (e ∷ log) ≡ Did act ∷ at_module g d log
@@ -23,7 +23,7 @@ leaves l k c e = record { pipe_same = ap (pipe c) e; waits_same = ap (waits c) e
 leaves_as : (l k : site.Log) (x : site.Entry) (c : ℕ) → k ≡ x ∷ l → pipe c (x ∷ l) ≡ pipe c l → waits c (x ∷ l) ≡ waits c l → LeavesPipe l k c
 leaves_as l k x c e p w = record { pipe_same = ap (pipe c) e ∙ p; waits_same = ap (waits c) e ∙ w }
 
-by_made : (g : Given) (d : DmNo) (log : Log) (e : Entry) (o : Option site.Entry) → IsPermitted g (e ∷ log)
+by_made : (g : Input) (d : DmNo) (log : Log) (e : Entry) (o : Option site.Entry) → IsPermitted g (e ∷ log)
     → made g (D d) log e ≡ o → at_module g d (e ∷ log) ≡ with_made o (at_module g d log) → IsEntryAt g d log e
 by_made g d log e None h m s = aside (λ c. leaves (at_module g d log) (at_module g d (e ∷ log)) c s)
 by_made g d log e (Some (Handed from x)) h m s = handing from x s
@@ -34,7 +34,7 @@ by_made g d log e (Some (Ticked n)) h m s = aside (λ c. leaves_as (at_module g 
 by_made g d log e (Some (Submits n txn)) h m s = aside (λ c. leaves_as (at_module g d log) (at_module g d (e ∷ log)) (Submits n txn) c s refl refl)
 by_made g d log e (Some (Redeclared force t)) h m s = aside (λ c. leaves_as (at_module g d log) (at_module g d (e ∷ log)) (Redeclared force t) c s refl refl)
 
-pub entry_at : (g : Given) (d : DmNo) (log : Log) (e : Entry) → IsPermitted g (e ∷ log) → IsEntryAt g d log e
+pub entry_at : (g : Input) (d : DmNo) (log : Log) (e : Entry) → IsPermitted g (e ∷ log) → IsEntryAt g d log e
 entry_at g d log e h = by_made g d log e (made g (D d) log e) h refl (local_step g (D d) e log)
 
 -- a hand leaves the head that is there

@@ -1,5 +1,5 @@
 -- Where a list of classes was put in force: all that was submitted before is committed and applied there.
-use Rattle.sdd_progress.proofs.All.{AllCommitted, AppliedBefore, Apply, AreNumbered, Commit, Committed, Given, GoesTo, HasCommit, HasSoundLists, History, IsAttempt, IsCommitted, IsIdle, IsLawful, IsQuiet, IsSubmitted, Log, Redeclares, Some, Stands, [], ap, append_assoc, applied_before, arith, class_no, committed_in, dm_no, eras_of, goes_module, goes_some, history, history_grows, length, next, redeclares, refl, start_in, start_within, subst, sym, time_at, txn_no, ℕ, ◌++◌, ◌<◌, ◌∙◌, ◌∷◌, ◌≡◌}
+use Rattle.sdd_progress.proofs.All.{AllCommitted, AppliedBefore, Apply, AreNumbered, Commit, Committed, GoesTo, HasCommit, HasSoundLists, History, Input, IsAttempt, IsCommitted, IsIdle, IsLawful, IsQuiet, IsSubmitted, Log, Redeclares, Some, Stands, [], ap, append_assoc, applied_before, arith, class_no, committed_in, dm_no, eras_of, goes_module, goes_some, history, history_grows, length, next, redeclares, refl, start_in, start_within, subst, sym, time_at, txn_no, ℕ, ◌++◌, ◌<◌, ◌∙◌, ◌∷◌, ◌≡◌}
 use Rattle.sdd_progress.proofs.Applied.{all_applied}
 use Rattle.sdd_progress.proofs.Committed.{all_committed}
 use Rattle.sdd_progress.proofs.ErasOf.{are_eras_of}
@@ -8,24 +8,24 @@ use Rattle.sdd_progress.proofs.SinceRedeclare.{redeclares_back}
 use Rattle.sdd_progress.proofs.Fronts.{stands_front, stands_more, stands_within}
 use Rattle.sdd_progress.proofs.Known.{Known, started_before}
 
-pub next_at_redeclare : (g : Given) (log later mid : Log) (t : ℕ) → IsLawful g log → log ≡ later ++ Redeclares t ∷ mid → next g mid ≡ Some (Redeclares t)
+pub next_at_redeclare : (g : Input) (log later mid : Log) (t : ℕ) → IsLawful g log → log ≡ later ++ Redeclares t ∷ mid → next g mid ≡ Some (Redeclares t)
 next_at_redeclare g log later mid t h is = lawful_at later (subst (IsLawful g) is h)
   where
     lawful_at : (l : Log) → IsLawful g (l ++ Redeclares t ∷ mid) → next g mid ≡ Some (Redeclares t)
     lawful_at [] k = k.0
     lawful_at (x ∷ l) k = lawful_at l k.1
 
-numbered_before : (g : Given) (log other mid : Log) → log ≡ other ++ mid → AreNumbered g log → AreNumbered g mid
+numbered_before : (g : Input) (log other mid : Log) → log ≡ other ++ mid → AreNumbered g log → AreNumbered g mid
 numbered_before g log other mid is numbered later before n e =
     numbered (other ++ later) before n (is ∙ ap (λ z. other ++ z) e ∙ sym (append_assoc other later _))
 
-lists_before : (g : Given) (log other mid : Log) → log ≡ other ++ mid → HasSoundLists g log → HasSoundLists g mid
+lists_before : (g : Input) (log other mid : Log) → log ≡ other ++ mid → HasSoundLists g log → HasSoundLists g mid
 lists_before g log other mid is lists k l =
     let b = redeclares_back other mid in let e : redeclares log ≡ redeclares (other ++ mid) = ap redeclares is in
     lists k (omega (arith, l, b, e))
 
 -- what is known there
-pub record IsRest (g : Given) (log mid : Log) : Type 0 where
+pub record IsRest (g : Input) (log mid : Log) : Type 0 where
   pub other : Log
   pub time : ℕ
   pub is : log ≡ other ++ Redeclares time ∷ mid
@@ -36,7 +36,7 @@ pub record IsRest (g : Given) (log mid : Log) : Type 0 where
   pub more : History
   pub history_is : history log ≡ history mid ++ more
 
-module _ (g : Given) (log : Log) (w : Known g log) where
+module _ (g : Input) (log : Log) (w : Known g log) where
   pub rest : (other mid : Log) (time : ℕ) → log ≡ other ++ Redeclares time ∷ mid → IsRest g log mid
   rest other mid time is =
       let x = w.idle other mid time is in

@@ -1,5 +1,5 @@
 -- A round begins only where the links aren't quiet, and then it has an event.
-use Rattle.sdd_progress.proofs.AllEnds.{AtEach, Bool, Call, Event, Given, IsOfRound, List, Log, Redeclare, Round, Settle, Some, [], all_links, arith, calls_of, each_of_round, false, false≢true, left, length, links, mark_from, mark_of, next, no_events_quiet, quiet, refl, round, subst, sym, true, ℕ, ◌<◌, ◌∙◌, ◌∷◌, ◌≡◌}
+use Rattle.sdd_progress.proofs.AllEnds.{AtEach, Bool, Call, Event, Input, IsOfRound, List, Log, Redeclare, Round, Settle, Some, [], all_links, arith, calls_of, each_of_round, false, false≢true, left, length, links, mark_from, mark_of, next, no_events_quiet, quiet, refl, round, subst, sym, true, ℕ, ◌<◌, ◌∙◌, ◌∷◌, ◌≡◌}
 use Rattle.sdd_progress.proofs.Marked.{next_is_of_events}
 
 none_or_some : (events : List Event) → (events ≡ [] → ⊥) → 0 < length events
@@ -14,21 +14,21 @@ events_of_round tms dms calls = each_of_round (IsOfRound tms dms) tms dms calls 
 
 -- of the next mark between rounds
 
-round_from : (g : Given) (log : Log) (q : Bool) (events ws es : List Event) → mark_from g log q events ws ≡ Some (Round es) → (q ≡ false) × (events ≡ es)
+round_from : (g : Input) (log : Log) (q : Bool) (events ws es : List Event) → mark_from g log q events ws ≡ Some (Round es) → (q ≡ false) × (events ≡ es)
 round_from g log true events (Settle ∷ ws) es h = round_from g log true events ws es h
 round_from g log false events (Settle ∷ ws) es h = (refl, cc)
 round_from g log false events (Redeclare ∷ ws) es h = (refl, cc)
 round_from g log _ events _ es h = absurd (cc)
 
-abbrev pub Begins : Given → Log → List Event → List Event × List Event → Type 0
+abbrev pub Begins : Input → Log → List Event → List Event × List Event → Type 0
 Begins g log es rest = (rest.1 ≡ []) × (quiet (all_links g) (calls_of log) ≡ false) × (0 < length es)
 
-round_of : (g : Given) (log : Log) (es : List Event) (rest : List Event × List Event) → mark_of g log rest ≡ Some (Round es) → Begins g log es rest
+round_of : (g : Input) (log : Log) (es : List Event) (rest : List Event × List Event) → mark_of g log rest ≡ Some (Round es) → Begins g log es rest
 round_of g log es (ws, []) h =
     let r = round_from g log (quiet (all_links g) (calls_of log)) (round (all_links g) (calls_of log)) ws es h in
     let some = has_event g.catalogue.tms g.catalogue.dms (calls_of log) r.0 in
     (refl, r.0, subst (λ xs. 0 < length xs) r.1 some)
 round_of g log es (ws, e ∷ rest) h = absurd (cc)
 
-pub round_begins : (g : Given) (log : Log) (es : List Event) → next g log ≡ Some (Round es) → Begins g log es (left g.events log)
+pub round_begins : (g : Input) (log : Log) (es : List Event) → next g log ≡ Some (Round es) → Begins g log es (left g.events log)
 round_begins g log es h = round_of g log es (left g.events log) (next_is_of_events g log (Round es) refl h)

@@ -1,5 +1,5 @@
 -- The time at which a list of classes is put in force is after every clock of a transaction module.
-use Rattle.sdd_progress.proofs.All.{Given, IsSound, List, Log, Some, T, [], ap, arith, bound_at, class_at, false, fold, greatest_bound, home, length, map, max, numbers_to, positive, range_at, refl, served, slice_get, subst, suc, tm_no, zero, ℕ, ◌*◌, ◌+◌, ◌-◌, ◌/◌, ◌<◌, ◌==◌, ◌∷◌, ◌≡◌, ◌≤◌}
+use Rattle.sdd_progress.proofs.All.{Input, IsSound, List, Log, Some, T, [], ap, arith, bound_at, class_at, false, fold, greatest_bound, home, length, map, max, numbers_to, positive, range_at, refl, served, slice_get, subst, suc, tm_no, zero, ℕ, ◌*◌, ◌+◌, ◌-◌, ◌/◌, ◌<◌, ◌==◌, ◌∷◌, ◌≡◌, ◌≤◌}
 
 -- the greatest bound is none below that of a module
 
@@ -16,7 +16,7 @@ fold_max_has f (x ∷ ns) a zero n e =
     let q : f x ≡ f n = ap f p in omega (arith, i, m, q)
 fold_max_has f (x ∷ ns) a (suc k) n e = fold_max_has f ns (max a (f x)) k n e
 
-pub bound_within : (g : Given) (log : Log) (n : ℕ) → 1 ≤ n → n ≤ g.catalogue.tms → bound_at g log n ≤ greatest_bound g log
+pub bound_within : (g : Input) (log : Log) (n : ℕ) → 1 ≤ n → n ≤ g.catalogue.tms → bound_at g log n ≤ greatest_bound g log
 bound_within g log n l m =
     let r = range_at 1 g.catalogue.tms (n - 1) (omega (arith, l, m)) in
     let same : 1 + (n - 1) ≡ n = omega (arith, l) in
@@ -30,13 +30,13 @@ pub rise_by : (tb tm gb u ub ts nx us ny : ℕ) → tb + 1 ≤ tm → ts ≡ (tb
 rise_by tb tm gb u ub ts nx us ny a b c d e f g = omega (arith, a, b, c, d, e, f, g)
 
 -- a declared class is run at a module that is there
-pub record IsAtT (g : Given) (c : ℕ) : Type 0 where
+pub record IsAtT (g : Input) (c : ℕ) : Type 0 where
   pub t : ℕ
   pub from : 1 ≤ t
   pub to : t ≤ g.catalogue.tms
   pub home_is : home g.catalogue c ≡ T (tm_no t)
 
-pub at_t : (g : Given) (c : ℕ) → IsSound g.catalogue → (c == 0) ≡ false → c ≤ length g.catalogue.classes → IsAtT g c
+pub at_t : (g : Input) (c : ℕ) → IsSound g.catalogue → (c == 0) ≡ false → c ≤ length g.catalogue.classes → IsAtT g c
 at_t g c sound z l =
     let s = served g.catalogue sound c (positive c z) l in
     record { t = (class_at g.catalogue c).tm.0; from = s.module_from; to = s.module_to; home_is = rw z refl }

@@ -1,5 +1,5 @@
 -- The sites that run classes: they are there, and have small numbers.
-use Rattle.sdd_progress.proofs.AllWaits.{Bool, Catalogue, Class, Given, IsClassOf, IsServedClass, IsSound, List, Some, T, [], ap, arith, at_number, class_at, cond, dec_le, false, filter, get_or_past, home, inl, inr, length, not_zero, number_of, numbers_to, range_with_len, refl, runs, same_number, same_or_not, setting_of, slice_get, sound_classes, sound_whole, subst, suc, sym, tm_no, true, zero, ℕ, ◌+◌, ◌-◌, ◌<◌, ◌==◌, ◌∙◌, ◌∷◌, ◌≡◌, ◌≤◌}
+use Rattle.sdd_progress.proofs.AllWaits.{Bool, Catalogue, Class, Input, IsClassOf, IsServedClass, IsSound, List, Some, T, [], ap, arith, at_number, class_at, cond, dec_le, false, filter, get_or_past, home, inl, inr, length, not_zero, number_of, numbers_to, range_with_len, refl, runs, same_number, same_or_not, setting_of, slice_get, sound_classes, sound_whole, subst, suc, sym, tm_no, true, zero, ℕ, ◌+◌, ◌-◌, ◌<◌, ◌==◌, ◌∙◌, ◌∷◌, ◌≡◌, ◌≤◌}
 
 -- a number within a range is a member of it
 pub range_there : (a n x : ℕ) → a ≤ x → x < a + n → (k : ℕ) × (slice_get (range_with_len a n) k ≡ Some x)
@@ -22,7 +22,7 @@ kept_there p (y ∷ xs) (suc k) x e h =
     let i = kept_there p xs k x e h in
     elim (p y) as (λ b. (j : ℕ) × (slice_get (cond b (y ∷ filter p xs) (filter p xs)) j ≡ Some x)) [ true ↦ (suc i.0, i.1) | false ↦ i ]
 
-pub in_runs : (g : Given) (i : ℕ) → IsClassOf g.catalogue i → (j : ℕ) × (slice_get (runs (setting_of g (T (tm_no (class_at g.catalogue i).tm.0)))) j ≡ Some i)
+pub in_runs : (g : Input) (i : ℕ) → IsClassOf g.catalogue i → (j : ℕ) × (slice_get (runs (setting_of g (T (tm_no (class_at g.catalogue i).tm.0)))) j ≡ Some i)
 in_runs g i c =
     let t : ℕ = (class_at g.catalogue i).tm.0 in
     let r = range_there 1 (length g.catalogue.classes) i c.from (let l = c.to in omega arith) in
@@ -43,10 +43,10 @@ module_small cat c sound =
     ]
 
 -- so that no timestamps of two sites are equal
-abbrev pub HasSmallHomes : Given → Type 0
+abbrev pub HasSmallHomes : Input → Type 0
 HasSmallHomes g = (c : ℕ) → number_of (home g.catalogue c) ≤ 63
 
-pub small_homes : (g : Given) → IsSound g.catalogue → HasSmallHomes g
+pub small_homes : (g : Input) → IsSound g.catalogue → HasSmallHomes g
 small_homes g sound c = elim (same_or_not c 0) [
   | inl z ↦ subst (λ k. number_of (home g.catalogue k) ≤ 63) (sym z) (omega arith)
   | inr n ↦ (let m = module_small g.catalogue c sound in let e : number_of (home g.catalogue c) ≡ (class_at g.catalogue c).tm.0 = rw n refl in omega arith)

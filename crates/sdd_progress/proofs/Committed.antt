@@ -1,5 +1,5 @@
 -- Where all is finished, every transaction that was submitted is committed, and nothing is pending.
-use Rattle.sdd_progress.proofs.All.{Act, AllCommitted, AreNumbered, Bool, Catalogue, Change, Commit, Did, Does, Given, HasSoundLists, History, IsClass, IsEraOf, IsFinished, IsNotLeft, IsPermitted, IsSubmitIn, IsSubmitted, List, Log, Mark, None, Option, Queued, Rec, Records, Reply, Site, Some, Stands, Submit, Submits, Submitted, T, TmNo, Told, Txn, WasCommitted, [], all_new, ap, arith, class_at, class_for, commit_act_in, commit_rec, cons_none, cons_option, covered, covers_home, dec_le, false, filter_map, for_class, force_at, further_back, given_at, history, home, home_by, home_fair, home_setting, if◌then◌else◌, inl, inr, is_committed, length, list_any, member_there, option_map, or_left, or_right, permitted_before, place_of_act, positive, queue, queue_is, queued, redeclares, refl, same_or_not, slice_get, stands_there, submit_in, submit_local, submits_of, submitted_in, subst, suc, sym, tm_no, true, txn_no, zero, ℕ, ◌++◌, ◌-◌, ◌∙◌, ◌∷◌, ◌≡◌, ◌⊎◌}
+use Rattle.sdd_progress.proofs.All.{Act, AllCommitted, AreNumbered, Bool, Catalogue, Change, Commit, Did, Does, HasSoundLists, History, Input, IsClass, IsEraOf, IsFinished, IsNotLeft, IsPermitted, IsSubmitIn, IsSubmitted, List, Log, Mark, None, Option, Queued, Rec, Records, Reply, Site, Some, Stands, Submit, Submits, Submitted, T, TmNo, Told, Txn, WasCommitted, [], all_new, ap, arith, class_at, class_for, commit_act_in, commit_rec, cons_none, cons_option, covered, covers_home, dec_le, false, filter_map, for_class, force_at, further_back, given_at, history, home, home_by, home_fair, home_setting, if◌then◌else◌, inl, inr, is_committed, length, list_any, member_there, option_map, or_left, or_right, permitted_before, place_of_act, positive, queue, queue_is, queued, redeclares, refl, same_or_not, slice_get, stands_there, submit_in, submit_local, submits_of, submitted_in, subst, suc, sym, tm_no, true, txn_no, zero, ℕ, ◌++◌, ◌-◌, ◌∙◌, ◌∷◌, ◌≡◌, ◌⊎◌}
 use Rattle.sdd_progress.proofs.SinceRedeclare.{redeclares_back}
 use Rattle.sdd_obligations.specs.All.{Submit as Submitting, txn_at}
 use Rattle.sdd_obligations.specs.logs.Due.{home_of}
@@ -38,7 +38,7 @@ if_left true x e = refl
 if_left false x e = cc
 
 -- a Commit of the log of a site is one of the history
-committed_there : (g : Given) (log : Log) (c n : ℕ) → is_committed c n (at_home g c log) ≡ true → WasCommitted (history log) n
+committed_there : (g : Input) (log : Log) (c n : ℕ) → is_committed c n (at_home g c log) ≡ true → WasCommitted (history log) n
 committed_there g log c n e =
     let at : Site = home g.catalogue c in
     let m = commit_act_in c n (at_home g c log) e in
@@ -58,11 +58,11 @@ committed_there g log c n e =
     }
 
 -- the text of what is given
-record HasText (g : Given) (n : ℕ) : Type 0 where
+record HasText (g : Input) (n : ℕ) : Type 0 where
   text : Txn
   is : txn_at g n ≡ Some text
 
-text_of : (g : Given) (log : Log) (n k : ℕ) → IsPermitted g log → AreNumbered g log → (s : IsSubmitIn g log n k) → HasText g n
+text_of : (g : Input) (log : Log) (n k : ℕ) → IsPermitted g log → AreNumbered g log → (s : IsSubmitIn g log n k) → HasText g n
 text_of g log n k h numbered s =
     let now : IsPermitted g (Submitted s.at n ∷ s.rest) = permitted_before g s.later (Submitted s.at n ∷ s.rest) (subst (IsPermitted g) s.is h) in
     let x = given_at g s.rest s.at n now in
@@ -75,7 +75,7 @@ text_of g log n k h numbered s =
     record { text = m.0; is = m.1 }
 
 -- a submitted transaction came to the module of its class, by the list in force then
-pub record IsAtHome (g : Given) (log : Log) (n : ℕ) : Type 0 where
+pub record IsAtHome (g : Input) (log : Log) (n : ℕ) : Type 0 where
   pub text : Txn
   pub class : ℕ
   pub class_is : IsClass g.catalogue class
@@ -85,7 +85,7 @@ pub record IsAtHome (g : Given) (log : Log) (n : ℕ) : Type 0 where
   pub place : ℕ
   pub there : slice_get (submits_of (home_setting g class) class (at_home g class log)) place ≡ Some (n, text)
 
-pub submitted_at_home : (g : Given) (log : Log) → IsPermitted g log → HasSoundLists g log → AreNumbered g log
+pub submitted_at_home : (g : Input) (log : Log) → IsPermitted g log → HasSoundLists g log → AreNumbered g log
     → (n k : ℕ) → IsSubmitted (history log) n k → IsAtHome g log n
 submitted_at_home g log h lists numbered n k submitted =
     let s = submit_in g log n k h submitted in
@@ -115,7 +115,7 @@ submitted_at_home g log h lists numbered n k submitted =
       there = subst (λ l. slice_get (submits_of (home_setting g c) c l) i.0 ≡ Some (n, t.text)) (sym local) i.1;
     }
 
-pub all_committed : (g : Given) (log : Log) → IsPermitted g log → HasSoundLists g log → AreNumbered g log → IsFinished g log → AllCommitted (history log)
+pub all_committed : (g : Input) (log : Log) → IsPermitted g log → HasSoundLists g log → AreNumbered g log → IsFinished g log → AllCommitted (history log)
 all_committed g log h lists numbered done n k submitted =
     let x = submitted_at_home g log h lists numbered n k submitted in
     let c = x.class in
@@ -135,7 +135,7 @@ some_kept f (z ∷ xs) (suc i) x y h e =
     let r = some_kept f xs i x y h e in
     elim (f z) as (λ o. (j : ℕ) × (slice_get (cons_option o (filter_map f xs)) j ≡ Some y)) [ None ↦ r | Some w ↦ (suc r.0, r.1) ]
 
-pub record IsQueued (g : Given) (log : Log) (n : ℕ) : Type 0 where
+pub record IsQueued (g : Input) (log : Log) (n : ℕ) : Type 0 where
   pub class : ℕ
   pub class_is : IsClass g.catalogue class
   pub later : Log
@@ -146,7 +146,7 @@ pub record IsQueued (g : Given) (log : Log) (n : ℕ) : Type 0 where
   pub there : slice_get (queue (home_setting g class) class (at_home g class log)) place ≡ Some waiting
   pub number_is : waiting.number ≡ n
 
-pub committed_or_queued : (g : Given) (log : Log) → IsPermitted g log → HasSoundLists g log → AreNumbered g log
+pub committed_or_queued : (g : Input) (log : Log) → IsPermitted g log → HasSoundLists g log → AreNumbered g log
     → (n k : ℕ) → IsSubmitted (history log) n k → WasCommitted (history log) n ⊎ IsQueued g log n
 committed_or_queued g log permitted lists numbered n k submitted =
     let x = submitted_at_home g log permitted lists numbered n k submitted in

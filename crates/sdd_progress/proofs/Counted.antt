@@ -1,5 +1,5 @@
 -- A lawful log has no more rounds than marks, and one.
-use Rattle.sdd_progress.proofs.AllEnds.{Event, Given, IsLawful, IsTheLog, IsWithin, List, Log, MAX_RUN_EVENTS, Mark, None, Redeclares, Round, [], after_mark, ap, arith, complete_parts, left, length, ltb-false, mark_of, marks, refl, rounds, suc, ℕ, ◌+◌, ◌<◌, ◌^◌, ◌∷◌, ◌≡◌, ◌≤◌}
+use Rattle.sdd_progress.proofs.AllEnds.{Event, Input, IsLawful, IsTheLog, IsWithin, List, Log, MAX_RUN_EVENTS, Mark, None, Redeclares, Round, [], after_mark, ap, arith, complete_parts, left, length, ltb-false, mark_of, marks, refl, rounds, suc, ℕ, ◌+◌, ◌<◌, ◌^◌, ◌∷◌, ◌≡◌, ◌≤◌}
 use Rattle.sdd_progress.proofs.Beginning.{round_begins}
 
 -- a round in progress counts for one
@@ -20,7 +20,7 @@ after_one : (rest : List Event × List Event) (r m : ℕ) → r ≤ m + in_progr
 after_one (ws, e ∷ f ∷ events) r m h = omega arith
 after_one (ws, _) r m h = omega arith
 
-counted : (g : Given) (log : Log) → IsLawful g log → rounds log ≤ marks log + in_progress (left g.events log).1
+counted : (g : Input) (log : Log) → IsLawful g log → rounds log ≤ marks log + in_progress (left g.events log).1
 counted g [] h = omega arith
 counted g (Mark e ∷ log) h = after_one (left g.events log) (rounds log) (marks log) (counted g log h.1)
 counted g (Redeclares t ∷ log) h = after_one (left g.events log) (rounds log) (marks log) (counted g log h.1)
@@ -32,7 +32,7 @@ counted g (Round es ∷ log) h =
     omega arith
 counted g (_ ∷ log) h = counted g log h.1
 
-pub few_rounds : (g : Given) (log : Log) → IsLawful g log → rounds log ≤ suc (marks log)
+pub few_rounds : (g : Input) (log : Log) → IsLawful g log → rounds log ≤ suc (marks log)
 few_rounds g log h =
     let c = counted g log h in
     let o = one_at_most (left g.events log).1 in
@@ -45,18 +45,18 @@ few_marks (Mark e ∷ log) w = let l = ltb-false MAX_RUN_EVENTS (suc (marks log)
 few_marks (Redeclares t ∷ log) w = let l = ltb-false MAX_RUN_EVENTS (suc (marks log)) w.0 in omega (arith, l)
 few_marks (_ ∷ log) w = few_marks log w.1
 
-pub few_within : (g : Given) (log : Log) → IsLawful g log → IsWithin log → rounds log ≤ 2 ^ 32
+pub few_within : (g : Input) (log : Log) → IsLawful g log → IsWithin log → rounds log ≤ 2 ^ 32
 few_within g log h w =
     let r = few_rounds g log h in
     let m = few_marks log w in
     omega arith
 
 -- where nothing is next no round is in progress
-none_in_progress : (g : Given) (log : Log) (rest : List Event × List Event) → mark_of g log rest ≡ None → in_progress rest.1 ≡ 0
+none_in_progress : (g : Input) (log : Log) (rest : List Event × List Event) → mark_of g log rest ≡ None → in_progress rest.1 ≡ 0
 none_in_progress g log (ws, []) h = refl
 none_in_progress g log (ws, e ∷ events) h = absurd (cc)
 
-pub few_complete : (g : Given) (log : Log) → IsTheLog g log → rounds log < 2 ^ 32
+pub few_complete : (g : Input) (log : Log) → IsTheLog g log → rounds log < 2 ^ 32
 few_complete g log is =
     let r = counted g log is.lawful in
     let none = none_in_progress g log (left g.events log) (complete_parts g log is.complete).no_next in

@@ -1,5 +1,5 @@
 -- The DONEs that were handed to the module for undeclared transactions, against those that it counts for its last Commit.
-use Rattle.sdd_progress.proofs.All.{Act, Attempt, Bases, D, Did, Done, Each, Given, Hand, Handed, Hold, IsAllowed, IsFair, IsFairU, IsPermitted, IsStepU, List, Msg, None, Option, Queued, Redeclared, Release, Sends, Served, Setting, Site, Some, Submits, T, Ticked, U, [], active, active_handed, active_sent, after_hand, after_send, ap, arith, asks_rows, bound, bound_below_next, bound_rises, commit_act, dec_le, dm_no, done_fits, dones_of, each_local, eqb-true, false, from_a_d, hand_ts, hand_was_put, handed, head_of, if◌then◌else◌, is_done_of, last_served, limit_le, limit_of, local_of, next_stamp, number_of, numbers_to, one_if, puts_to, queue, refl, rejects, sends_of_act, served_handed, setting_of, slice_get, start_at, started, subst, suc, sym, tm_no, true, ts_of, u_due, u_way, ℕ, ◌+◌, ◌<◌, ◌==◌, ◌∙◌, ◌∷◌, ◌≡◌, ◌≤◌}
+use Rattle.sdd_progress.proofs.All.{Act, Attempt, Bases, D, Did, Done, Each, Hand, Handed, Hold, Input, IsAllowed, IsFair, IsFairU, IsPermitted, IsStepU, List, Msg, None, Option, Queued, Redeclared, Release, Sends, Served, Setting, Site, Some, Submits, T, Ticked, U, [], active, active_handed, active_sent, after_hand, after_send, ap, arith, asks_rows, bound, bound_below_next, bound_rises, commit_act, dec_le, dm_no, done_fits, dones_of, each_local, eqb-true, false, from_a_d, hand_ts, hand_was_put, handed, head_of, if◌then◌else◌, is_done_of, last_served, limit_le, limit_of, local_of, next_stamp, number_of, numbers_to, one_if, puts_to, queue, refl, rejects, sends_of_act, served_handed, setting_of, slice_get, start_at, started, subst, suc, sym, tm_no, true, ts_of, u_due, u_way, ℕ, ◌+◌, ◌<◌, ◌==◌, ◌∙◌, ◌∷◌, ◌≡◌, ◌≤◌}
 use Rattle.sdd_obligations.specs.site_module.SiteLog.{Entry, Log}
 use Rattle.sdd_obligations.specs.logs.Entries as whole
 
@@ -12,7 +12,7 @@ IsCurrent s log (Submits n txn) = Unit {0}
 IsCurrent s log (Redeclared force t) = Unit {0}
 IsCurrent s log (Did act) = Unit {0}
 
-current_done : (g : Given) (k t : ℕ) (log : whole.Log) (from : Site) (n : ℕ) (m : Msg) (x : ℕ) → slice_get (numbers_to g.catalogue.tms) k ≡ Some t
+current_done : (g : Input) (k t : ℕ) (log : whole.Log) (from : Site) (n : ℕ) (m : Msg) (x : ℕ) → slice_get (numbers_to g.catalogue.tms) k ≡ Some t
     → IsPermitted g log → IsAllowed g log (Hand from U n m) → is_done_of x m ≡ true → (last_served (setting_of g U) (local_of g U log)).ts ≡ x
 current_done g k t log from n (Done ts) x i h a e =
     let put = (hand_was_put g log from U n (Done ts) a).1 in
@@ -22,7 +22,7 @@ current_done g k t log from n (Done ts) x i h a e =
     fits.current ∙ eqb-true ts.0 x e
 current_done g k t log from n m x i h a e = cc
 
-pub all_current : (g : Given) (k t : ℕ) → slice_get (numbers_to g.catalogue.tms) k ≡ Some t → (log : whole.Log) → IsPermitted g log
+pub all_current : (g : Input) (k t : ℕ) → slice_get (numbers_to g.catalogue.tms) k ≡ Some t → (log : whole.Log) → IsPermitted g log
     → Each (IsCurrent (setting_of g U)) (local_of g U log)
 all_current g k t i = each_local g U (IsCurrent (setting_of g U)) (record {
   handed = λ log p from n m a e. λ x f. current_done g k t log from n m x i p a f;

@@ -1,11 +1,11 @@
 -- Every run ends: there is the log of what is given, or the limit ends it.
-use Rattle.sdd_progress.proofs.AllEnds.{AreSubmittedOnce, Ends, Entry, Event, Given, IsLawful, IsWithin, List, Log, None, Option, Settle, Settles, Some, [], ap, arith, false, inl, inr, is_past, lawful_permitted, next, refl, submits_by, submits_in, suc, true, with_event, zero, ℕ, ◌++◌, ◌+◌, ◌<◌, ◌∷◌, ◌≡◌, ◌≤◌}
+use Rattle.sdd_progress.proofs.AllEnds.{AreSubmittedOnce, Ends, Entry, Event, Input, IsLawful, IsWithin, List, Log, None, Option, Settle, Settles, Some, [], ap, arith, false, inl, inr, is_past, lawful_permitted, next, refl, submits_by, submits_in, suc, true, with_event, zero, ℕ, ◌++◌, ◌+◌, ◌<◌, ◌∷◌, ◌≡◌, ◌≤◌}
 use Rattle.sdd_progress.proofs.QuietAfter.{quiet_at_last}
 use Rattle.sdd_progress.proofs.Falls.{Falls, falls, stage}
 use Rattle.sdd_progress.proofs.Falls.Falls.{in_acts, in_hands, in_stage}
 use Rattle.sdd_progress.proofs.Sites.{acts_left, hands_left}
 
-module _ (g : Given) (once : AreSubmittedOnce g.events) where
+module _ (g : Input) (once : AreSubmittedOnce g.events) where
   abbrev Sound : Log → Type 0
   Sound log = IsLawful g log × IsWithin log
 
@@ -46,10 +46,10 @@ no_more : (n : ℕ) (events : List Event) → submits_in n (events ++ Settle ∷
 no_more n [] = refl
 no_more n (e ∷ events) = ap (λ k. submits_by n e + k) (no_more n events)
 
-still_once : (g : Given) → AreSubmittedOnce g.events → AreSubmittedOnce (with_event g Settle).events
+still_once : (g : Input) → AreSubmittedOnce g.events → AreSubmittedOnce (with_event g Settle).events
 still_once g once n = let l = once n in let e = no_more n g.events in omega arith
 
-pub settle_ends : (g : Given) → AreSubmittedOnce g.events → Settles g
+pub settle_ends : (g : Input) → AreSubmittedOnce g.events → Settles g
 settle_ends g once =
     let r = run_ends (with_event g Settle) (still_once g once) in
     elim r.1 [

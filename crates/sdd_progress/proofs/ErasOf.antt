@@ -1,5 +1,5 @@
 -- The eras of a log that puts several lists of classes in force.
-use Rattle.sdd_progress.proofs.All.{AreErasOf, Catalogue, Eras, Given, HasSoundLists, IsEraOf, List, Log, Mark, Redeclares, Some, [], ap, arith, at_seam, begun, cond, eras_of, false, filter, force_at, in_force, in_left, inl, inr, le-leb, le_is, length, length-append, marks, nat_le, place_within, redeclares, refl, slice_get, slice_index_or, subst, suc, sym, true, true_or_false, zero, ℕ, ◌++◌, ◌+◌, ◌-◌, ◌<◌, ◌∙◌, ◌∷◌, ◌≡◌, ◌≤◌, ◌⊎◌}
+use Rattle.sdd_progress.proofs.All.{AreErasOf, Catalogue, Eras, HasSoundLists, Input, IsEraOf, List, Log, Mark, Redeclares, Some, [], ap, arith, at_seam, begun, cond, eras_of, false, filter, force_at, in_force, in_left, inl, inr, le-leb, le_is, length, length-append, marks, nat_le, place_within, redeclares, refl, slice_get, slice_index_or, subst, suc, sym, true, true_or_false, zero, ℕ, ◌++◌, ◌+◌, ◌-◌, ◌<◌, ◌∙◌, ◌∷◌, ◌≡◌, ◌≤◌, ◌⊎◌}
 use Rattle.sdd_progress.proofs.SinceRedeclare.{redeclares_back}
 
 -- a member of a list with one more at its end
@@ -13,21 +13,21 @@ at_snoc (x ∷ xs) y (suc k) m e = elim (at_snoc xs y k m e) [
 ]
 
 -- an era of the log: its list, and that it has begun
-abbrev IsNumbered : Given → Log → Type 0
+abbrev IsNumbered : Input → Log → Type 0
 IsNumbered g log = (k : ℕ) (a : ℕ × Catalogue) → slice_get (eras_of g log) k ≡ Some a → (a.1 ≡ (force_at g k).catalogue) × (a.0 ≤ marks log)
 
-len : (g : Given) (log : Log) → length (eras_of g log) ≡ suc (redeclares log)
+len : (g : Input) (log : Log) → length (eras_of g log) ≡ suc (redeclares log)
 len g [] = refl
 len g (Redeclares t ∷ log) =
     let i = len g log in
     let j = length-append (eras_of g log) ((suc (marks log), (force_at g (suc (redeclares log))).catalogue) ∷ []) in omega (arith, i, j)
 len g (_ ∷ log) = len g log
 
-later_mark : (g : Given) (log : Log) → IsNumbered g log → (k : ℕ) (a : ℕ × Catalogue) → slice_get (eras_of g log) k ≡ Some a
+later_mark : (g : Input) (log : Log) → IsNumbered g log → (k : ℕ) (a : ℕ × Catalogue) → slice_get (eras_of g log) k ≡ Some a
     → (a.1 ≡ (force_at g k).catalogue) × (a.0 ≤ suc (marks log))
 later_mark g log h k a e = let r = h k a e in let l = r.1 in (r.0, omega (arith, l))
 
-numbered : (g : Given) (log : Log) → IsNumbered g log
+numbered : (g : Input) (log : Log) → IsNumbered g log
 numbered g [] zero a e = let p : (0, (force_at g 0).catalogue) ≡ a = cc in
     (ap (λ (x : ℕ × Catalogue). x.1) (sym p), let q : 0 ≡ a.0 = ap (λ (x : ℕ × Catalogue). x.0) p in omega (arith, q))
 numbered g [] (suc k) a e = cc
@@ -42,7 +42,7 @@ numbered g (Redeclares t ∷ log) k a e =
 numbered g (Mark x ∷ log) k a e = later_mark g log (numbered g log) k a e
 numbered g (_ ∷ log) k a e = numbered g log k a e
 
-rises : (g : Given) (log : Log) (k : ℕ) (a b : ℕ × Catalogue) → slice_get (eras_of g log) k ≡ Some a → slice_get (eras_of g log) (suc k) ≡ Some b → a.0 < b.0
+rises : (g : Input) (log : Log) (k : ℕ) (a b : ℕ × Catalogue) → slice_get (eras_of g log) k ≡ Some a → slice_get (eras_of g log) (suc k) ≡ Some b → a.0 < b.0
 rises g [] k a b e f = cc
 rises g (Redeclares t ∷ log) k a b e f =
     let y : ℕ × Catalogue = (suc (marks log), (force_at g (suc (redeclares log))).catalogue) in
@@ -58,19 +58,19 @@ rises g (Redeclares t ∷ log) k a b e f =
     ]
 rises g (_ ∷ log) k a b e f = rises g log k a b e f
 
-first : (g : Given) (log : Log) → slice_get (eras_of g log) 0 ≡ Some (0, (force_at g 0).catalogue)
+first : (g : Input) (log : Log) → slice_get (eras_of g log) 0 ≡ Some (0, (force_at g 0).catalogue)
 first g [] = refl
 first g (Redeclares t ∷ log) = in_left (eras_of g log) _ 0 (0, (force_at g 0).catalogue) (first g log)
 first g (_ ∷ log) = first g log
 
 -- those of a log go on in a longer one
-stays : (g : Given) (later log : Log) (k : ℕ) (a : ℕ × Catalogue) → slice_get (eras_of g log) k ≡ Some a → slice_get (eras_of g (later ++ log)) k ≡ Some a
+stays : (g : Input) (later log : Log) (k : ℕ) (a : ℕ × Catalogue) → slice_get (eras_of g log) k ≡ Some a → slice_get (eras_of g (later ++ log)) k ≡ Some a
 stays g [] log k a e = e
 stays g (Redeclares t ∷ later) log k a e = in_left (eras_of g (later ++ log)) _ k a (stays g later log k a e)
 stays g (_ ∷ later) log k a e = stays g later log k a e
 
 -- the last one
-last : (g : Given) (log : Log) → (a : ℕ × Catalogue) × (slice_get (eras_of g log) (redeclares log) ≡ Some a) × (a.1 ≡ (force_at g (redeclares log)).catalogue)
+last : (g : Input) (log : Log) → (a : ℕ × Catalogue) × (slice_get (eras_of g log) (redeclares log) ≡ Some a) × (a.1 ≡ (force_at g (redeclares log)).catalogue)
 last g [] = ((0, (force_at g 0).catalogue), refl, refl)
 last g (Redeclares t ∷ log) =
     let y : ℕ × Catalogue = (suc (marks log), (force_at g (suc (redeclares log))).catalogue) in
@@ -107,7 +107,7 @@ begun_more (x ∷ eras) y event =
       | false ↦ i
     ]
 
-begun_all : (g : Given) (log : Log) (n : ℕ) → marks log ≤ n → begun (eras_of g log) n ≡ suc (redeclares log)
+begun_all : (g : Input) (log : Log) (n : ℕ) → marks log ≤ n → begun (eras_of g log) n ≡ suc (redeclares log)
 begun_all g [] n l = one_begun 0 n (0, (force_at g 0).catalogue) (omega arith)
 begun_all g (Redeclares t ∷ log) n l =
     let y : ℕ × Catalogue = (suc (marks log), (force_at g (suc (redeclares log))).catalogue) in
@@ -123,7 +123,7 @@ marks_up (Redeclares t ∷ later) log = let i = marks_up later log in omega (ari
 marks_up (_ ∷ later) log = marks_up later log
 
 -- those that a longer log has more begin later
-begun_later : (g : Given) (later log : Log) → begun (eras_of g (later ++ log)) (marks log) ≡ begun (eras_of g log) (marks log)
+begun_later : (g : Input) (later log : Log) → begun (eras_of g (later ++ log)) (marks log) ≡ begun (eras_of g log) (marks log)
 begun_later g [] log = refl
 begun_later g (Redeclares t ∷ later) log =
     let y : ℕ × Catalogue = (suc (marks (later ++ log)), (force_at g (suc (redeclares (later ++ log)))).catalogue) in
@@ -132,7 +132,7 @@ begun_later g (Redeclares t ∷ later) log =
     (none_begun (suc (marks (later ++ log))) (marks log) y (omega (arith, up)))
 begun_later g (_ ∷ later) log = begun_later g later log
 
-pub begun_is : (g : Given) (log later before : Log) → log ≡ later ++ before → begun (eras_of g log) (marks before) ≡ suc (redeclares before)
+pub begun_is : (g : Input) (log later before : Log) → log ≡ later ++ before → begun (eras_of g log) (marks before) ≡ suc (redeclares before)
 begun_is g log later before is = ap (λ l. begun (eras_of g l) (marks before)) is ∙ begun_later g later before ∙ begun_all g before (marks before) (omega arith)
 
 pub index_or : {A : Type 0} (xs : List A) (k : ℕ) (d m : A) → slice_get xs k ≡ Some m → slice_index_or xs k d ≡ m
@@ -140,7 +140,7 @@ index_or [] k d m e = cc
 index_or (x ∷ xs) zero d m e = let p : x ≡ m = cc in p
 index_or (x ∷ xs) (suc k) d m e = index_or xs k d m e
 
-in_force_is : (g : Given) (log later before : Log) → log ≡ later ++ before
+in_force_is : (g : Input) (log later before : Log) → log ≡ later ++ before
     → in_force g.catalogue (eras_of g log) (marks before) ≡ (force_at g (redeclares before)).catalogue
 in_force_is g log later before is =
     let a = last g before in
@@ -151,7 +151,7 @@ in_force_is g log later before is =
     ∙ ap (λ n. (slice_index_or (eras_of g log) n (0, g.catalogue)).1) one
     ∙ ap (λ (x : ℕ × Catalogue). x.1) (index_or (eras_of g log) (redeclares before) (0, g.catalogue) a.0 there) ∙ a.2
 
-pub are_eras_of : (g : Given) (log : Log) → HasSoundLists g log → AreErasOf g log (eras_of g log)
+pub are_eras_of : (g : Input) (log : Log) → HasSoundLists g log → AreErasOf g log (eras_of g log)
 are_eras_of g log lists = record {
   are_eras = record {
     first = ((force_at g 0).catalogue, first g log);

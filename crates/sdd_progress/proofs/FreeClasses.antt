@@ -1,5 +1,5 @@
 -- Of a free class no attempt waits or is rejected, and what is handed over of it is processed before the event is over.
-use Rattle.sdd_progress.proofs.AllWaits.{Answer, Apply, Bool, Change, ClassNo, ClassView, Cond, D, DmNo, Does, Entry, Given, Hand, IsAnsweredIn, IsAppliedIn, IsClassHere, IsFreeClass, IsPermitted, IsRejectOf, IsSound, IsStuck, IsWaitOf, List, Log, May, Msg, None, Option, Read, Rec, Records, Rejected, Setting, Site, Some, Ts, TxnNo, Use, View, Write, [], allowed_act, and_left, and_right, any_at, ap, append_assoc, arith, class_at_place, class_no, eqb-true, false, goes_through, head, holds, holds_back, inl, inr, is_met, is_wait, lacking, list_all, list_any, not, not_both, permitted_before, pipe, pipe_at, refl, same_number, same_or_not, setting_of, site_due, slice_get, subst, sym, true, txn_no, view_of, waits, ℕ, ◌&&◌, ◌++◌, ◌==◌, ◌∙◌, ◌∷◌, ◌≡◌, ◌≢◌, ◌≤◌}
+use Rattle.sdd_progress.proofs.AllWaits.{Answer, Apply, Bool, Change, ClassNo, ClassView, Cond, D, DmNo, Does, Entry, Hand, Input, IsAnsweredIn, IsAppliedIn, IsClassHere, IsFreeClass, IsPermitted, IsRejectOf, IsSound, IsStuck, IsWaitOf, List, Log, May, Msg, None, Option, Read, Rec, Records, Rejected, Setting, Site, Some, Ts, TxnNo, Use, View, Write, [], allowed_act, and_left, and_right, any_at, ap, append_assoc, arith, class_at_place, class_no, eqb-true, false, goes_through, head, holds, holds_back, inl, inr, is_met, is_wait, lacking, list_all, list_any, not, not_both, permitted_before, pipe, pipe_at, refl, same_number, same_or_not, setting_of, site_due, slice_get, subst, sym, true, txn_no, view_of, waits, ℕ, ◌&&◌, ◌++◌, ◌==◌, ◌∙◌, ◌∷◌, ◌≡◌, ◌≢◌, ◌≤◌}
 use Rattle.sdd_progress.proofs.AtModule.{at_module}
 use Rattle.sdd_progress.proofs.EventOver.{none_at_data}
 use Rattle.sdd_progress.proofs.FreeConditions.{names_none, unconditional}
@@ -16,7 +16,7 @@ use Rattle.sdd_obligations.specs.site_module.SiteLog as site
 nothing_lacks : {A : Type 0} (v : View) (conds : List Cond) (first : Cond) (more : List Cond) → conds ≡ [] → lacking v conds ≡ first ∷ more → A
 nothing_lacks v conds first more e f = let h : [] ≡ first ∷ more = sym (ap (lacking v) e) ∙ f in cc
 
-pub never_waits : (g : Given) (log : Log) (i : ℕ) (d : DmNo) (r : Rec) (sends : List (Site × Msg)) → IsFreeClass g i
+pub never_waits : (g : Input) (log : Log) (i : ℕ) (d : DmNo) (r : Rec) (sends : List (Site × Msg)) → IsFreeClass g i
     → IsPermitted g (Does (D d) (Records i r sends) ∷ log) → is_wait r ≡ true → ⊥
 never_waits g log i d r sends free h w =
     let s : Setting = setting_of g (D d) in
@@ -28,7 +28,7 @@ never_waits g log i d r sends free h w =
 none_there : {A : Type 0} (conds : List Cond) (k : ℕ) (q : Cond) → conds ≡ [] → slice_get conds k ≡ Some q → A
 none_there conds k q e f = let h : slice_get [] k ≡ Some q = subst (λ ds. slice_get ds k ≡ Some q) e f in cc
 
-pub never_rejected : (g : Given) (log : Log) (i : ℕ) (d : DmNo) (txn : TxnNo) (attempt : ℕ) (dm : DmNo) (by : ClassNo) (write : Ts) (sends : List (Site × Msg))
+pub never_rejected : (g : Input) (log : Log) (i : ℕ) (d : DmNo) (txn : TxnNo) (attempt : ℕ) (dm : DmNo) (by : ClassNo) (write : Ts) (sends : List (Site × Msg))
     → IsFreeClass g i → IsPermitted g (Does (D d) (Records i (Rejected txn attempt dm by write) sends) ∷ log) → ⊥
 never_rejected g log i d txn attempt dm by write sends free h =
     let x : IsRejectOf g log d i txn attempt by write = rejected g log d i txn attempt dm by write sends h in
@@ -37,7 +37,7 @@ never_rejected g log i d txn attempt dm by write sends free h =
 
 -- no WRITE of the class is held
 
-held_by : (g : Given) (log : Log) (i k : ℕ) (d : DmNo) (w : Ts) (wc : ClassNo) (wt : TxnNo) (changes : List Change) (o : Option Msg)
+held_by : (g : Input) (log : Log) (i k : ℕ) (d : DmNo) (w : Ts) (wc : ClassNo) (wt : TxnNo) (changes : List Change) (o : Option Msg)
     → IsFreeClass g i → IsPermitted g log → IsSound g.catalogue → 1 ≤ d.0 → d.0 ≤ g.catalogue.dms
     → head (pipe_at g i d log) ≡ Some (Write w wc wt changes) → head (pipe_at g k d log) ≡ o → holds_back i w.0 changes o ≡ true → ⊥
 held_by g log i k d w wc wt changes (Some (Read ts of txn n ds us)) free h sound lo hi e f b = elim (same_or_not k 0) [
@@ -52,7 +52,7 @@ held_by g log i k d w wc wt changes _ free h sound lo hi e f b = cc
 
 -- so where nothing is due, its pipe has no head
 
-no_head : (g : Given) (log : Log) (i : ℕ) (d : DmNo) (m : Msg) → IsFreeClass g i → IsPermitted g log → IsSound g.catalogue → 1 ≤ d.0
+no_head : (g : Input) (log : Log) (i : ℕ) (d : DmNo) (m : Msg) → IsFreeClass g i → IsPermitted g log → IsSound g.catalogue → 1 ≤ d.0
     → d.0 ≤ g.catalogue.dms → head (pipe_at g i d log) ≡ Some m → IsStuck (setting_of g (D d)) (at_module g d log) i (Some m) → ⊥
 no_head g log i d (Read ts of txn attempt conds uses) free h sound lo hi e x =
     let v : View = view_of (setting_of g (D d)) (at_module g d log) in
@@ -69,10 +69,10 @@ no_head g log i d (Write w wc wt changes) free h sound lo hi e x =
     held_by g log i k.0 d w wc wt changes (head (pipe k.0 l)) free h sound lo hi e refl back
 no_head g log i d _ free h sound lo hi e x = x
 
-class_here : (g : Given) (i : ℕ) (d : DmNo) → IsFreeClass g i → IsClassHere (setting_of g (D d)) i
+class_here : (g : Input) (i : ℕ) (d : DmNo) → IsFreeClass g i → IsClassHere (setting_of g (D d)) i
 class_here g i d free = let l = free.class.to in omega arith
 
-pub none_at_head : (g : Given) (log : Log) (i : ℕ) (d : DmNo) → IsFreeClass g i → IsPermitted g log → IsSound g.catalogue → 1 ≤ d.0
+pub none_at_head : (g : Input) (log : Log) (i : ℕ) (d : DmNo) → IsFreeClass g i → IsPermitted g log → IsSound g.catalogue → 1 ≤ d.0
     → d.0 ≤ g.catalogue.dms → site_due g log ≡ None → head (pipe_at g i d log) ≡ None
 none_at_head g log i d free h sound lo hi none =
     let s : Setting = setting_of g (D d) in
@@ -97,7 +97,7 @@ write_applied v c w ts of txn changes (Apply n k dm t) m =
     (dm, ap (λ x. Apply (txn_no x) k dm t) m.0 ∙ ap (λ x. Apply txn (class_no x) dm t) m.2 ∙ ap (λ x. Apply txn of dm x) m.1)
 write_applied v c w ts of txn changes r m = absurd m
 
-permitted_within : (g : Given) (entries log later : Log) (e : Entry) (before : Log) → IsPermitted g (entries ++ log)
+permitted_within : (g : Input) (entries log later : Log) (e : Entry) (before : Log) → IsPermitted g (entries ++ log)
     → entries ≡ later ++ e ∷ before → IsPermitted g (before ++ log)
 permitted_within g entries log later e before h p =
     let whole : entries ++ log ≡ later ++ e ∷ (before ++ log) = ap (λ l. l ++ log) p ∙ append_assoc later (e ∷ before) log in
@@ -113,7 +113,7 @@ apply_in : (d : DmNo) (i : ℕ) (txn : TxnNo) (ts : Ts) (entries later before : 
 apply_in d i txn ts entries later before r of dm sends is e =
     record { later = later; before = before; of = of; dm = dm; sends = sends; is = is ∙ ap (λ x. later ++ Does (D d) (Records i x sends) ∷ before) e }
 
-pub answered_by_end : (g : Given) (i : ℕ) (d : DmNo) (from : Site) (n : ℕ) (later log : Log) (ts : Ts) (of : ClassNo) (txn : TxnNo) (attempt : ℕ) (conds : List Cond) (uses : List Use)
+pub answered_by_end : (g : Input) (i : ℕ) (d : DmNo) (from : Site) (n : ℕ) (later log : Log) (ts : Ts) (of : ClassNo) (txn : TxnNo) (attempt : ℕ) (conds : List Cond) (uses : List Use)
     → IsFreeClass g i → IsSound g.catalogue → 1 ≤ d.0 → d.0 ≤ g.catalogue.dms → of.0 ≡ i
     → IsPermitted g (later ++ Hand from (D d) n (Read ts of txn attempt conds uses) ∷ log)
     → site_due g (later ++ Hand from (D d) n (Read ts of txn attempt conds uses) ∷ log) ≡ None → IsAnsweredIn d i txn attempt later
@@ -129,7 +129,7 @@ answered_by_end g i d from n later log ts of txn attempt conds uses free sound l
     let a = read_answered (view_of (setting_of g (D d)) l) i (waits i l) ts of txn attempt conds uses p.rec empty p.may in
     answer_in d i txn attempt later p.later p.before p.rec a.0 p.sends p.is a.1
 
-pub applied_by_end : (g : Given) (i : ℕ) (d : DmNo) (from : Site) (n : ℕ) (later log : Log) (ts : Ts) (of : ClassNo) (txn : TxnNo) (changes : List Change)
+pub applied_by_end : (g : Input) (i : ℕ) (d : DmNo) (from : Site) (n : ℕ) (later log : Log) (ts : Ts) (of : ClassNo) (txn : TxnNo) (changes : List Change)
     → IsFreeClass g i → IsSound g.catalogue → 1 ≤ d.0 → d.0 ≤ g.catalogue.dms → of.0 ≡ i
     → IsPermitted g (later ++ Hand from (D d) n (Write ts of txn changes) ∷ log)
     → site_due g (later ++ Hand from (D d) n (Write ts of txn changes) ∷ log) ≡ None → IsAppliedIn d i txn ts later

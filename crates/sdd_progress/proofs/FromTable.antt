@@ -1,5 +1,5 @@
 -- The conditions of a READ of a declared class come from the table that was in force at its Start.
-use Rattle.sdd_progress.proofs.AllWaits.{AllDiagonalsIn, AreConditionsOf, Bool, Catalogue, ClassNo, Cond, D, Diagonal, Did, DmNo, Does, Edge, FragNo, Given, Hand, Handed, Horizontal, IsFromTable, IsPermitted, IsPutAt, IsRead, List, Log, Mark, Msg, None, Option, P1, P2, P3, Protocol, Queued, Read, Redeclares, Setting, Site, Some, Submitted, T, Tick, Ticked, TmNo, Ts, Txn, TxnNo, Use, Vertical, [], all_of, and_left, and_right, ap, ascending, asked_by, asked_in, asked_on, bound, class_at, class_number, class_puts, classes_of, cond, cond_for, cond_of, condition_on, conditions, conditions_at, cons_option, eqb-true, false, filter_map, force_at, frag_no, fragments_in, home, if_way, in_force, in_left, in_none, in_one, in_pipe, inl, inr, is_asked, local_of, map, next_stamp, option_or, origin, pipe_at, redeclares, refl, same_or_not, same_protocol, same_site, sends_of_act, setting_of, slice_get, start_at, start_puts, start_read, subst, suc, sym, tm_no, to_site, true, txn_at, uses_of, with_submit, zero, ℕ, ◌&&◌, ◌++◌, ◌==◌, ◌∙◌, ◌∷◌, ◌≡◌, ◌≢◌, ◌⊎◌}
+use Rattle.sdd_progress.proofs.AllWaits.{AllDiagonalsIn, AreConditionsOf, Bool, Catalogue, ClassNo, Cond, D, Diagonal, Did, DmNo, Does, Edge, FragNo, Hand, Handed, Horizontal, Input, IsFromTable, IsPermitted, IsPutAt, IsRead, List, Log, Mark, Msg, None, Option, P1, P2, P3, Protocol, Queued, Read, Redeclares, Setting, Site, Some, Submitted, T, Tick, Ticked, TmNo, Ts, Txn, TxnNo, Use, Vertical, [], all_of, and_left, and_right, ap, ascending, asked_by, asked_in, asked_on, bound, class_at, class_number, class_puts, classes_of, cond, cond_for, cond_of, condition_on, conditions, conditions_at, cons_option, eqb-true, false, filter_map, force_at, frag_no, fragments_in, home, if_way, in_force, in_left, in_none, in_one, in_pipe, inl, inr, is_asked, local_of, map, next_stamp, option_or, origin, pipe_at, redeclares, refl, same_or_not, same_protocol, same_site, sends_of_act, setting_of, slice_get, start_at, start_puts, start_read, subst, suc, sym, tm_no, to_site, true, txn_at, uses_of, with_submit, zero, ℕ, ◌&&◌, ◌++◌, ◌==◌, ◌∙◌, ◌∷◌, ◌≡◌, ◌≢◌, ◌⊎◌}
 use Rattle.sdd_obligations.specs.protocol.declared.entry.Entry as line
 use Rattle.sdd_obligations.specs.site_module.SiteLog as site
 
@@ -9,7 +9,7 @@ after_submit : (s : Setting) (n : ℕ) (o : Option Txn) (l : site.Log) → in_fo
 after_submit s n None l = refl
 after_submit s n (Some txn) l = refl
 
-force_there : (g : Given) (t : TmNo) (log : Log) → in_force (setting_of g (T t)) (local_of g (T t) log) ≡ force_at g (redeclares log)
+force_there : (g : Input) (t : TmNo) (log : Log) → in_force (setting_of g (T t)) (local_of g (T t) log) ≡ force_at g (redeclares log)
 force_there g t [] = refl
 force_there g t (Mark (Tick u n) ∷ log) =
     let l : site.Log = local_of g (T t) log in
@@ -30,7 +30,7 @@ force_there g t (Does by act ∷ log) =
     (force_there g t log)
 force_there g t (_ ∷ log) = force_there g t log
 
-force_of_class : (g : Given) (c : ℕ) (log : Log) → c ≢ 0
+force_of_class : (g : Input) (c : ℕ) (log : Log) → c ≢ 0
     → in_force (setting_of g (home g.catalogue c)) (local_of g (home g.catalogue c) log) ≡ force_at g (redeclares log)
 force_of_class g c log n =
     let z : (c == 0) ≡ false = elim (same_or_not c 0) [ inl p ↦ absurd (n p) | inr p ↦ p ] in
@@ -150,7 +150,7 @@ start_conds s b log c q k ts of txn attempt conds uses e = elim (start_puts s c 
   | inr p ↦ (p.0, read_conds s c log q p.0 ts of txn attempt conds uses (in_one _ _ k (Read ts of txn attempt conds uses) p.1 e))
 ]
 
-conditions_by : (g : Given) (log : Log) (c : ℕ) (d : DmNo) (ts : Ts) (of : ClassNo) (txn : TxnNo) (attempt : ℕ) (conds : List Cond) (uses : List Use)
+conditions_by : (g : Input) (log : Log) (c : ℕ) (d : DmNo) (ts : Ts) (of : ClassNo) (txn : TxnNo) (attempt : ℕ) (conds : List Cond) (uses : List Use)
     → c ≢ 0 → IsPutAt g log c d (Read ts of txn attempt conds uses) → AreConditionsOf g log c ts.0 conds
 conditions_by g log c d ts of txn attempt conds uses n p =
     let at : Site = home g.catalogue c in
@@ -175,7 +175,7 @@ conditions_by g log c d ts of txn attempt conds uses n p =
     }
 
 -- wherever it stands in a pipe
-pub conditions_of : (g : Given) (log : Log) (c : ℕ) (d : DmNo) (k : ℕ) (ts : Ts) (of : ClassNo) (txn : TxnNo) (attempt : ℕ) (conds : List Cond) (uses : List Use)
+pub conditions_of : (g : Input) (log : Log) (c : ℕ) (d : DmNo) (k : ℕ) (ts : Ts) (of : ClassNo) (txn : TxnNo) (attempt : ℕ) (conds : List Cond) (uses : List Use)
     → IsPermitted g log → c ≢ 0 → slice_get (all_of (pipe_at g c d log)) k ≡ Some (Read ts of txn attempt conds uses) → AreConditionsOf g log c ts.0 conds
 conditions_of g log c d k ts of txn attempt conds uses h n e =
     let m : Msg = Read ts of txn attempt conds uses in
@@ -185,7 +185,7 @@ conditions_of g log c d k ts of txn attempt conds uses h n e =
     conditions_by g log c d ts of txn attempt conds uses n (origin g c d log k m h there)
 
 -- and by the act that put the READ
-pub conditions_at_put : (g : Given) (log : Log) (c : ℕ) (d : DmNo) (ts : Ts) (of : ClassNo) (txn : TxnNo) (attempt : ℕ) (conds : List Cond) (uses : List Use)
+pub conditions_at_put : (g : Input) (log : Log) (c : ℕ) (d : DmNo) (ts : Ts) (of : ClassNo) (txn : TxnNo) (attempt : ℕ) (conds : List Cond) (uses : List Use)
     → c ≢ 0 → (p : IsPutAt g log c d (Read ts of txn attempt conds uses)) → (from : AreConditionsOf g log c ts.0 conds) × (from.before ≡ p.before)
 unfolding conditions_by
 conditions_at_put g log c d ts of txn attempt conds uses n p = (conditions_by g log c d ts of txn attempt conds uses n p, refl)

@@ -1,5 +1,5 @@
 -- Where nothing goes on, all that was put on a link was handed over at its end.
-use Rattle.sdd_progress.proofs.All.{D, Given, IsQuiet, IsThere, List, Log, None, Option, Site, Some, [], all_at, all_links, and_left, and_right, ap, are_linked, arith, calls_of, cond, cons_option, dec_le, delivered, drop, false, filter_map, flat_map, flight, hand_on, handed, hands_from, in_left, in_order, in_right, is_down, is_empty, is_link, is_quiet_link, is_site, le_is, length, link, link_of, link_parts, links, local_of, member_there, none_not_some, one_on, puts_to, refl, sent, sent_is, site_there, sites, slice_get, sound, subst, suc, sym, take_all, takes_part, true, zero, ℕ, ◌-◌, ◌∙◌, ◌∷◌, ◌≡◌, ◌≤◌}
+use Rattle.sdd_progress.proofs.All.{D, Input, IsQuiet, IsThere, List, Log, None, Option, Site, Some, [], all_at, all_links, and_left, and_right, ap, are_linked, arith, calls_of, cond, cons_option, dec_le, delivered, drop, false, filter_map, flat_map, flight, hand_on, handed, hands_from, in_left, in_order, in_right, is_down, is_empty, is_link, is_quiet_link, is_site, le_is, length, link, link_of, link_parts, links, local_of, member_there, none_not_some, one_on, puts_to, refl, sent, sent_is, site_there, sites, slice_get, sound, subst, suc, sym, take_all, takes_part, true, zero, ℕ, ◌-◌, ◌∙◌, ◌∷◌, ◌≡◌, ◌≤◌}
 use Rattle.sdd_progress.proofs.Lists.{none_at}
 
 -- places
@@ -35,13 +35,13 @@ link_there tms dms a b e =
     let linked : link_if a b ≡ Some (a, b) = rw p.linked refl in
     in_flat (links_from tms dms) (sites tms dms) i.0 a (a, b) i.1 (in_filter_map (link_if a) (sites tms dms) j.0 b (a, b) j.1 linked)
 
-takes_part_in : (g : Given) (log : Log) (tms : ℕ) (b : Site) → IsQuiet g log → is_site tms g.catalogue.dms b ≡ true → takes_part b log ≡ true
+takes_part_in : (g : Input) (log : Log) (tms : ℕ) (b : Site) → IsQuiet g log → is_site tms g.catalogue.dms b ≡ true → takes_part b log ≡ true
 takes_part_in g log tms (D d) h e =
     let up : is_down d.0 log ≡ false = h.up d.0 (le_is 1 d.0 (and_left _ _ e), le_is d.0 g.catalogue.dms (and_right _ _ e)) in rw up refl
 takes_part_in g log tms _ h e = refl
 
 -- nothing is left on the way
-pub none_left : (g : Given) (log : Log) (a b : Site) → IsQuiet g log → is_link g.catalogue.tms g.catalogue.dms a b ≡ true
+pub none_left : (g : Input) (log : Log) (a b : Site) → IsQuiet g log → is_link g.catalogue.tms g.catalogue.dms a b ≡ true
     → length (puts_to b (local_of g a log)) ≤ handed a b log
 none_left g log a b h e =
     let k = link_there g.catalogue.tms g.catalogue.dms a b e in
@@ -60,7 +60,7 @@ none_left g log a b h e =
           absurd (none_not_some (hand_on log (a, b)) _ none (one_on log a b m.0 part (omega (arith, l, acked, arrived)) at)))
     ]
 
-pub all_handed : (g : Given) (log : Log) (a b : Site) → IsQuiet g log → is_link g.catalogue.tms g.catalogue.dms a b ≡ true
+pub all_handed : (g : Input) (log : Log) (a b : Site) → IsQuiet g log → is_link g.catalogue.tms g.catalogue.dms a b ≡ true
     → hands_from a (local_of g b log) ≡ puts_to b (local_of g a log)
 all_handed g log a b h e = in_order g log a b h.permitted ∙ take_all (handed a b log) (puts_to b (local_of g a log)) (none_left g log a b h e)
 
@@ -70,5 +70,5 @@ drop_past (suc n) [] l = refl
 drop_past zero (x ∷ xs) l = absurd (omega (arith, l))
 drop_past (suc n) (x ∷ xs) l = drop_past n xs (omega (arith, l))
 
-pub none_in_flight : (g : Given) (log : Log) (a b : Site) → IsQuiet g log → is_link g.catalogue.tms g.catalogue.dms a b ≡ true → flight g a b log ≡ []
+pub none_in_flight : (g : Input) (log : Log) (a b : Site) → IsQuiet g log → is_link g.catalogue.tms g.catalogue.dms a b ≡ true → flight g a b log ≡ []
 none_in_flight g log a b h e = drop_past (handed a b log) (puts_to b (local_of g a log)) (none_left g log a b h e)

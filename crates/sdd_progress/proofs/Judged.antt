@@ -1,6 +1,6 @@
 -- A READ whose conditions are met, that doesn't wait and isn't spoilt, is answered before the event is over, or rejected
 -- after an Apply that spoils it.
-use Rattle.sdd_progress.proofs.AllWaits.{Act, Answer, Bool, ClassNo, Cond, D, Did, DmNo, Does, Entry, Given, IsAnsweredIn, IsClassHere, IsDue, IsPermitted, IsReadStep, IsRejectedAfter, IsRejectedIn, IsWaitOf, List, Log, May, Msg, None, Pipe, Read, Rec, Records, Rejected, Setting, Site, Some, Ts, TxnNo, Use, View, [], and_left, and_right, ap, by_record, cond, d_step, false, filter, head, head_of, home_of, inl, inr, is_met, is_processing, is_wait, lacking, list_all, not, not_own, passing, pipe, read_step_way, refl, same_or_not, setting_of, site_due, slice_get, spoiler, spoils, subst, suc, sym, true, txn_no, view_of, waits, zero, ℕ, ◌++◌, ◌∙◌, ◌∷◌, ◌≡◌, ◌≤◌, ◌⊎◌}
+use Rattle.sdd_progress.proofs.AllWaits.{Act, Answer, Bool, ClassNo, Cond, D, Did, DmNo, Does, Entry, Input, IsAnsweredIn, IsClassHere, IsDue, IsPermitted, IsReadStep, IsRejectedAfter, IsRejectedIn, IsWaitOf, List, Log, May, Msg, None, Pipe, Read, Rec, Records, Rejected, Setting, Site, Some, Ts, TxnNo, Use, View, [], and_left, and_right, ap, by_record, cond, d_step, false, filter, head, head_of, home_of, inl, inr, is_met, is_processing, is_wait, lacking, list_all, not, not_own, passing, pipe, read_step_way, refl, same_or_not, setting_of, site_due, slice_get, spoiler, spoils, subst, suc, sym, true, txn_no, view_of, waits, zero, ℕ, ◌++◌, ◌∙◌, ◌∷◌, ◌≡◌, ◌≤◌, ◌⊎◌}
 use Rattle.sdd_progress.proofs.Answered.{Answers, all_met_later, answered_now, answered_on, no_ready_head}
 use Rattle.sdd_progress.proofs.AtModule.{IsEntryAt, acting, aside, at_module, entry_at, handed_head, handing, waits_other}
 use Rattle.sdd_progress.proofs.ClassSites.{HasSmallHomes}
@@ -93,10 +93,10 @@ none_spoils v (d ∷ ds) k q e f =
       ]) f
     ] refl e
 
-abbrev IsDone : Given → Log → DmNo → ℕ → TxnNo → ℕ → List Cond → Log → Type 0
+abbrev IsDone : Input → Log → DmNo → ℕ → TxnNo → ℕ → List Cond → Log → Type 0
 IsDone g log d c txn attempt conds entries = IsAnsweredIn d c txn attempt entries ⊎ IsRejectedAfter g log d c txn attempt conds entries
 
-rejected_now : (g : Given) (d : DmNo) (c : ℕ) (txn : TxnNo) (attempt : ℕ) (conds : List Cond) (e : Entry) (entries log : Log) (act : Act)
+rejected_now : (g : Input) (d : DmNo) (c : ℕ) (txn : TxnNo) (attempt : ℕ) (conds : List Cond) (e : Entry) (entries log : Log) (act : Act)
     → IsPermitted g (entries ++ log) → spoiler (view_of (setting_of g (D d)) (at_module g d log)) conds ≡ None → e ≡ Does (D d) act
     → Rejects (view_of (setting_of g (D d)) (at_module g d (entries ++ log))) c txn attempt conds act
     → IsRejectedAfter g log d c txn attempt conds (e ∷ entries)
@@ -113,7 +113,7 @@ rejected_now g d c txn attempt conds e entries log act h clean is r =
       spoilt = spoilt_in g d r.4 entries log h then_not f.0;
     }
 
-rejected_on : (g : Given) (log : Log) (d : DmNo) (c : ℕ) (txn : TxnNo) (attempt : ℕ) (conds : List Cond) (e : Entry) (entries : Log)
+rejected_on : (g : Input) (log : Log) (d : DmNo) (c : ℕ) (txn : TxnNo) (attempt : ℕ) (conds : List Cond) (e : Entry) (entries : Log)
     → IsRejectedAfter g log d c txn attempt conds entries → IsRejectedAfter g log d c txn attempt conds (e ∷ entries)
 rejected_on g log d c txn attempt conds e entries i =
     let r : IsRejectedIn d c txn attempt entries = i.reject in
@@ -126,7 +126,7 @@ rejected_on g log d c txn attempt conds e entries i =
       spoilt = i.spoilt;
     }
 
-judged_entry : (g : Given) (d : DmNo) (c : ℕ) (e : Entry) (entries log : Log) (ts : Ts) (of : ClassNo) (txn : TxnNo) (attempt : ℕ) (conds : List Cond) (uses : List Use)
+judged_entry : (g : Input) (d : DmNo) (c : ℕ) (e : Entry) (entries log : Log) (ts : Ts) (of : ClassNo) (txn : TxnNo) (attempt : ℕ) (conds : List Cond) (uses : List Use)
     → IsPermitted g (entries ++ log) → spoiler (view_of (setting_of g (D d)) (at_module g d log)) conds ≡ None
     → list_all (is_met (view_of (setting_of g (D d)) (at_module g d (entries ++ log)))) conds ≡ true
     → HeadIs (at_module g d (entries ++ log)) c (Read ts of txn attempt conds uses) → IsEntryAt g d (entries ++ log) e
@@ -144,12 +144,12 @@ judged_entry g d c e entries log ts of txn attempt conds uses h clean met w (act
       ])
     ]
 
-done_on : (g : Given) (log : Log) (d : DmNo) (c : ℕ) (txn : TxnNo) (attempt : ℕ) (conds : List Cond) (e : Entry) (entries : Log)
+done_on : (g : Input) (log : Log) (d : DmNo) (c : ℕ) (txn : TxnNo) (attempt : ℕ) (conds : List Cond) (e : Entry) (entries : Log)
     → IsDone g log d c txn attempt conds entries → IsDone g log d c txn attempt conds (e ∷ entries)
 done_on g log d c txn attempt conds e entries (inl a) = inl (answered_on d c txn attempt e entries a)
 done_on g log d c txn attempt conds e entries (inr r) = inr (rejected_on g log d c txn attempt conds e entries r)
 
-stays_or_done : (g : Given) (d : DmNo) (c : ℕ) (later log : Log) (ts : Ts) (of : ClassNo) (txn : TxnNo) (attempt : ℕ) (conds : List Cond) (uses : List Use)
+stays_or_done : (g : Input) (d : DmNo) (c : ℕ) (later log : Log) (ts : Ts) (of : ClassNo) (txn : TxnNo) (attempt : ℕ) (conds : List Cond) (uses : List Use)
     → IsPermitted g (later ++ log) → HasSmallHomes g → spoiler (view_of (setting_of g (D d)) (at_module g d log)) conds ≡ None
     → list_all (is_met (view_of (setting_of g (D d)) (at_module g d log))) conds ≡ true → HeadIs (at_module g d log) c (Read ts of txn attempt conds uses)
     → HeadIs (at_module g d (later ++ log)) c (Read ts of txn attempt conds uses) ⊎ IsDone g log d c txn attempt conds later
@@ -161,7 +161,7 @@ stays_or_done g d c (e ∷ later) log ts of txn attempt conds uses h small clean
       | inr x ↦ inr (done_on g log d c txn attempt conds e later x)
     ]
 
-pub answered_or_rejected : (g : Given) (d : DmNo) (c : ℕ) (later log : Log) (ts : Ts) (of : ClassNo) (txn : TxnNo) (attempt : ℕ) (conds : List Cond) (uses : List Use)
+pub answered_or_rejected : (g : Input) (d : DmNo) (c : ℕ) (later log : Log) (ts : Ts) (of : ClassNo) (txn : TxnNo) (attempt : ℕ) (conds : List Cond) (uses : List Use)
     → IsPermitted g (later ++ log) → HasSmallHomes g → IsClassHere (setting_of g (D d)) c → 1 ≤ d.0 → d.0 ≤ g.catalogue.dms
     → waits c (at_module g d log) ≡ false → head (pipe c (at_module g d log)) ≡ Some (Read ts of txn attempt conds uses)
     → list_all (is_met (view_of (setting_of g (D d)) (at_module g d log))) conds ≡ true

@@ -1,15 +1,15 @@
 -- The history of a lawful log keeps the law of eras, and so all laws; it has a serial order.
-use Rattle.sdd_progress.proofs.All.{Given, HasNoCycle, HasSoundData, HasSoundLists, IsLawful, IsOrderable, IsSoundGiven, IsUpAtRedeclares, KeepsEras, KeepsLaws, List, Log, RelNo, Row, SubmitGiven, eras_of, has_order, history, keeps_laws, no_cycle, numbers_exist, txns_exist}
+use Rattle.sdd_progress.proofs.All.{HasNoCycle, HasSoundData, HasSoundLists, Input, IsLawful, IsOrderable, IsSoundInput, IsUpAtRedeclares, KeepsEras, KeepsLaws, List, Log, RelNo, Row, SubmitGiven, eras_of, has_order, history, keeps_laws, no_cycle, numbers_exist, txns_exist}
 use Rattle.sdd_progress.proofs.ErasOf.{are_eras_of}
 use Rattle.sdd_progress.proofs.Apart.{applied_first, committed_first}
 use Rattle.sdd_progress.proofs.Known.{Known, known}
 use Rattle.sdd_progress.proofs.OneEra.{one_era}
 use Rattle.sdd_progress.proofs.Times.{times_rise}
 
-keeps : (g : Given) (log : Log) → Known g log → KeepsEras g.catalogue (eras_of g log) (history log)
+keeps : (g : Input) (log : Log) → Known g log → KeepsEras g.catalogue (eras_of g log) (history log)
 keeps g log w = record { times_rise = times_rise g log w; committed = committed_first g log w; applied = applied_first g log w; one_era = one_era g log w }
 
-module _ (g : Given) (rows : List (RelNo × Row)) (log : Log) (sound : IsSoundGiven g) (fine : HasSoundData g rows) (submits : SubmitGiven g)
+module _ (g : Input) (rows : List (RelNo × Row)) (log : Log) (sound : IsSoundInput g) (fine : HasSoundData g rows) (submits : SubmitGiven g)
     (lawful : IsLawful g log) (lists : HasSoundLists g log) (up : IsUpAtRedeclares g log) where
   pub keeps_eras_of : KeepsEras g.catalogue (eras_of g log) (history log)
   keeps_eras_of = keeps g log (known g rows log sound fine submits lawful lists up)

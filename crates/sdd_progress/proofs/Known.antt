@@ -1,11 +1,11 @@
 -- What is known of a lawful log, in the order of which the law of eras follows.
-use Rattle.sdd_progress.proofs.All.{AreNumbered, Bases, Catalogue, Committed, Did, Effect, Entry, Given, HasCommit, HasSoundData, HasSoundLists, IsCommitted, IsIdleAtRedeclares, IsLawful, IsPermitted, IsSound, IsSoundGiven, IsUpAtRedeclares, KeepsApplies, KeepsStarts, KeepsUndeclared, List, Log, Rec, RelNo, Row, Some, StartedBefore, SubmitGiven, [], ap, append_assoc, arith, begun, commit_act, committed_here, effect, eras_of, event_at, event_there, filter_map, history, is_committed, keeps_answers, keeps_applies, keeps_starts, lawful_numbered, lawful_permitted, length, marks, numbers_to, one_place, record_of, redeclares, suc, sym, true, txn_no, undeclared, write_to, ℕ, ◌++◌, ◌<◌, ◌∙◌, ◌∷◌, ◌≡◌}
+use Rattle.sdd_progress.proofs.All.{AreNumbered, Bases, Catalogue, Committed, Did, Effect, Entry, HasCommit, HasSoundData, HasSoundLists, Input, IsCommitted, IsIdleAtRedeclares, IsLawful, IsPermitted, IsSound, IsSoundInput, IsUpAtRedeclares, KeepsApplies, KeepsStarts, KeepsUndeclared, List, Log, Rec, RelNo, Row, Some, StartedBefore, SubmitGiven, [], ap, append_assoc, arith, begun, commit_act, committed_here, effect, eras_of, event_at, event_there, filter_map, history, is_committed, keeps_answers, keeps_applies, keeps_starts, lawful_numbered, lawful_permitted, length, marks, numbers_to, one_place, record_of, redeclares, suc, sym, true, txn_no, undeclared, write_to, ℕ, ◌++◌, ◌<◌, ◌∙◌, ◌∷◌, ◌≡◌}
 use Rattle.sdd_progress.proofs.ErasOf.{are_eras_of, begun_is}
 use Rattle.sdd_progress.proofs.IdleAtRedeclares.{idle_at_redeclares}
 use Rattle.sdd_obligations.specs.site_module.SiteLog as site
 use Rattle.sdd_obligations.specs.attempt.Attempts as attempts
 
-pub record Known (g : Given) (log : Log) : Type 0 where
+pub record Known (g : Input) (log : Log) : Type 0 where
   pub sound : IsSound g.catalogue
   pub lawful : IsLawful g log
   pub permitted : IsPermitted g log
@@ -17,7 +17,7 @@ pub record Known (g : Given) (log : Log) : Type 0 where
   pub applies : KeepsApplies g.catalogue (history log)
   pub alone : KeepsUndeclared g.catalogue (history log)
 
-pub known : (g : Given) (rows : List (RelNo × Row)) (log : Log) → IsSoundGiven g → HasSoundData g rows → SubmitGiven g → IsLawful g log
+pub known : (g : Input) (rows : List (RelNo × Row)) (log : Log) → IsSoundInput g → HasSoundData g rows → SubmitGiven g → IsLawful g log
     → HasSoundLists g log → IsUpAtRedeclares g log → Known g log
 known g rows log sound fine submits lawful lists up =
     let h = lawful_permitted g log submits.once lawful in
@@ -36,7 +36,7 @@ known g rows log sound fine submits lawful lists up =
     }
 
 -- a committed transaction started before its Commit
-pub started_before : (g : Given) (log : Log) → Known g log → (x : Committed) → IsCommitted (history log) x → x.start.place < x.place
+pub started_before : (g : Input) (log : Log) → Known g log → (x : Committed) → IsCommitted (history log) x → x.start.place < x.place
 started_before g log w x c =
     let b = w.after_start x.start.txn x.start.number x.place
     (record { reply = x.reply; changes = x.changes; values = x.values; rows = x.rows; stands = c.committed }) in
@@ -44,7 +44,7 @@ started_before g log w x c =
     let l = b.before in omega (arith, same, l)
 
 -- how many eras have begun at a record
-pub begun_at : (g : Given) (log : Log) (e : Entry) (r : Rec) (later before : Log) (place : ℕ) → record_of e ≡ Some r → log ≡ later ++ e ∷ before
+pub begun_at : (g : Input) (log : Log) (e : Entry) (r : Rec) (later before : Log) (place : ℕ) → record_of e ≡ Some r → log ≡ later ++ e ∷ before
     → length (history before) ≡ place → begun (eras_of g log) (event_at (history log) place) ≡ suc (redeclares before)
 begun_at g log e r later before place makes is place_is =
     let event : event_at (history log) place ≡ marks before =

@@ -1,5 +1,5 @@
 -- Where nothing goes on, an active attempt has a READ that is not processed.
-use Rattle.sdd_progress.proofs.All.{AllAskParts, AllByRecursion, AllHaveParts, Asks, AtTurn, Attempt, Bool, Catalogue, ClassView, Condition, Const, D, Delete, Exchange, Fetch, FitsCondition, FitsGiven, FitsQuery, FitsStatement, FitsText, Given, HasNear, HasParts, HasTurn, Home, IsClass, IsGoing, IsModule, IsNear, IsNearBy, IsPermitted, IsQuiet, IsSound, IsStage, IsUnanswered, List, Log, Msg, None, Open, Option, Put, Query, Read, Reduce, RelNo, Same, Ship, Site, Some, StandsAt, Stmt, Turn, Update, View, [], active, active_near, active_so, agreed, all_new, and_right, answer_goes, answer_of, answer_to, answered_last, answers, ap, apart, arith, asker, askings, asks_open, asks_rows, at_home, at_map, at_module, attempt_due, awaited, base_of, class_asked, class_view, classes_of, cond, contains, data_turns, dm_no, eqb-true, false, filter, first_send, first_some, firsts, from_site, head_of, home, home_fair, home_first, home_of, home_turns, if◌then◌else◌, in_filtered, inl, inr, is_asked_of, is_empty, is_number, is_over, is_question, is_read, length, map, not_both, open_due, opens, or_left, or_none, pipe, question_goes, questions, range_at, reads_asked, recursion_from_All, refl, rows_asked, same_number, send_due, setting_of, slice_get, small_home, sound_whole, spoken, submitted_fit, subst, suc, sym, to_module, true, turn_at, turn_with, unsent, uses_in, view_of, ℕ, ◌+◌, ◌==◌, ◌∙◌, ◌∷◌, ◌≡◌, ◌≤◌}
+use Rattle.sdd_progress.proofs.All.{AllAskParts, AllByRecursion, AllHaveParts, Asks, AtTurn, Attempt, Bool, Catalogue, ClassView, Condition, Const, D, Delete, Exchange, Fetch, FitsCondition, FitsInput, FitsQuery, FitsStatement, FitsText, HasNear, HasParts, HasTurn, Home, Input, IsClass, IsGoing, IsModule, IsNear, IsNearBy, IsPermitted, IsQuiet, IsSound, IsStage, IsUnanswered, List, Log, Msg, None, Open, Option, Put, Query, Read, Reduce, RelNo, Same, Ship, Site, Some, StandsAt, Stmt, Turn, Update, View, [], active, active_near, active_so, agreed, all_new, and_right, answer_goes, answer_of, answer_to, answered_last, answers, ap, apart, arith, asker, askings, asks_open, asks_rows, at_home, at_map, at_module, attempt_due, awaited, base_of, class_asked, class_view, classes_of, cond, contains, data_turns, dm_no, eqb-true, false, filter, first_send, first_some, firsts, from_site, head_of, home, home_fair, home_first, home_of, home_turns, if◌then◌else◌, in_filtered, inl, inr, is_asked_of, is_empty, is_number, is_over, is_question, is_read, length, map, not_both, open_due, opens, or_left, or_none, pipe, question_goes, questions, range_at, reads_asked, recursion_from_All, refl, rows_asked, same_number, send_due, setting_of, slice_get, small_home, sound_whole, spoken, submitted_fit, subst, suc, sym, to_module, true, turn_at, turn_with, unsent, uses_in, view_of, ℕ, ◌+◌, ◌==◌, ◌∙◌, ◌∷◌, ◌≡◌, ◌≤◌}
 use Rattle.sdd_progress.proofs.Going.{is_going}
 use Rattle.sdd_progress.proofs.Handed.{none_in_flight}
 use Rattle.sdd_progress.proofs.Lists.{either, head_at, no_head, none_at}
@@ -77,7 +77,7 @@ one_turn v w qs xs (agreed s q x) e f = s
 one_turn v w qs xs (question_goes m q x s a) e f = let z : [] ≡ m ∷ [] = sym e ∙ q in cc
 one_turn v w qs xs (answer_goes m q x s a) e f = let z : [] ≡ m ∷ [] = sym f ∙ x in cc
 
-pub same_turn : (g : Given) (log : Log) (c d ts : ℕ) → IsQuiet g log → IsSound g.catalogue → IsClass g.catalogue c → IsModule g.catalogue d
+pub same_turn : (g : Input) (log : Log) (c d ts : ℕ) → IsQuiet g log → IsSound g.catalogue → IsClass g.catalogue c → IsModule g.catalogue d
     → turn_at ts c d (at_home g c log) ≡ turn_with ts c (home g.catalogue c) (at_module g d log)
 same_turn g log c d ts h sound l m =
     let linked = home_linked g.catalogue c d sound l m in
@@ -108,7 +108,7 @@ class_there s log c l =
     at_map (class_view s log) (classes_of s) c c (subst (λ x. slice_get (classes_of s) c ≡ Some x) z
     (range_at 0 (suc (length s.catalogue.classes)) c (omega (arith, l))))
 
-pub none_open : (g : Given) (log : Log) (c d : ℕ) → IsQuiet g log → IsClass g.catalogue c
+pub none_open : (g : Input) (log : Log) (c d : ℕ) → IsQuiet g log → IsClass g.catalogue c
     → IsModule g.catalogue d → filter (is_asked_of c) (opens (at_module g d log)) ≡ []
 none_open g log c d h l m =
     let s = setting_of g (D (dm_no d)) in
@@ -151,7 +151,7 @@ read_there : (ts c : ℕ) (ns : List ℕ) (m : Msg) (unprocessed : List Msg) →
     → filter (is_read ts c) unprocessed ≡ reads_asked ts c (Asks ns m) → slice_get (filter (is_read ts c) unprocessed) 0 ≡ Some m
 read_there ts c ns m unprocessed e f = rw (f, e) refl
 
-pub goes_on : (g : Given) (log : Log) (c : ℕ) (a : Attempt) → IsPermitted g log → FitsGiven g → IsClass g.catalogue c
+pub goes_on : (g : Input) (log : Log) (c : ℕ) (a : Attempt) → IsPermitted g log → FitsInput g → IsClass g.catalogue c
     → active (setting_of g (home g.catalogue c)) c (at_home g c log) ≡ Some a → IsGoing a.exchange
 goes_on g log c a h good l e =
     let s = setting_of g (home g.catalogue c) in
@@ -163,7 +163,7 @@ goes_on g log c a h good l e =
     askings_parts g.catalogue 0 a.text.statements (recursion_from_All (FitsStatement g.catalogue) a.text.statements text.fits.statements) in
     is_going s c (at_home g c log) a (home_fair g c log h) (home_first g c log h) sp.timely_at e parts
 
-pub has_unanswered : (g : Given) (log : Log) (c : ℕ) (a : Attempt) → IsQuiet g log → FitsGiven g → IsClass g.catalogue c
+pub has_unanswered : (g : Input) (log : Log) (c : ℕ) (a : Attempt) → IsQuiet g log → FitsInput g → IsClass g.catalogue c
     → active (setting_of g (home g.catalogue c)) c (at_home g c log) ≡ Some a → IsUnanswered g log c a.ts
 has_unanswered g log c a h good l e =
     let s = setting_of g (home g.catalogue c) in

@@ -1,5 +1,5 @@
 -- Marks, rounds and lists of classes come of the events that are left, and of nothing else.
-use Rattle.sdd_progress.proofs.AllEnds.{Act, Bool, Entry, Event, Given, List, Log, Mark, Msg, None, Option, Redeclare, Redeclares, Round, Settle, Site, Some, Submit, Tick, [], all_links, ap, delivered, does_at, due_by, false, false≢true, first_some, hand_due, hand_number, hand_on, hand_with, handed, if◌then◌else◌, link_of, mark_due, message_at, next, next_at, next_mark, next_number, note_if, or_else, refl, same_Some, site_due, sites, sym, takes_part, true, ℕ, ◌∙◌, ◌∷◌, ◌≡◌}
+use Rattle.sdd_progress.proofs.AllEnds.{Act, Bool, Entry, Event, Input, List, Log, Mark, Msg, None, Option, Redeclare, Redeclares, Round, Settle, Site, Some, Submit, Tick, [], all_links, ap, delivered, does_at, due_by, false, false≢true, first_some, hand_due, hand_number, hand_on, hand_with, handed, if◌then◌else◌, link_of, mark_due, message_at, next, next_at, next_mark, next_number, note_if, or_else, refl, same_Some, site_due, sites, sym, takes_part, true, ℕ, ◌∙◌, ◌∷◌, ◌≡◌}
 
 abbrev pub is_of_events : Entry → Bool
 is_of_events (Mark e) = true
@@ -27,14 +27,14 @@ note_other : (b : Bool) → IsOther (note_if b)
 note_other true = refl
 note_other false = tt
 
-due_other : (g : Given) (e : Event) (log : Log) → IsOther (due_by g e log)
+due_other : (g : Input) (e : Event) (log : Log) → IsOther (due_by g e log)
 due_other g (Submit n) log = refl
 due_other g (Tick t n) log = tt
 due_other g Settle log = tt
 due_other g Redeclare log = tt
 due_other g _ log = note_other _
 
-mark_other : (g : Given) (log : Log) → IsOther (mark_due g log)
+mark_other : (g : Input) (log : Log) → IsOther (mark_due g log)
 mark_other g (Mark e ∷ log) = due_other g e log
 mark_other g _ = tt
 
@@ -54,7 +54,7 @@ hand_other : (log : Log) (l : Site × Site) (b : Bool) (o : Option ℕ) → IsOt
 hand_other log l true o = number_other log l o
 hand_other log l false o = tt
 
-pub next_is_of_events : (g : Given) (log : Log) (e : Entry) → is_of_events e ≡ true → next g log ≡ Some e → next_mark g log ≡ Some e
+pub next_is_of_events : (g : Input) (log : Log) (e : Entry) → is_of_events e ≡ true → next g log ≡ Some e → next_mark g log ≡ Some e
 next_is_of_events g log e p q =
     let site = first_other (λ at. does_at at (next_at g log at)) (sites g.catalogue.tms g.catalogue.dms) (λ at. does_other at (next_at g log at)) in
     let hand = first_other (hand_on log) (all_links g)

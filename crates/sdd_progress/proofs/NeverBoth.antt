@@ -1,5 +1,5 @@
 -- An attempt that had a Wait at a module has no Reject there.
-use Rattle.sdd_progress.proofs.AllWaits.{Act, Answer, ClassNo, Cond, D, Did, DmNo, Does, Given, IsPermitted, IsReadStep, IsRejectOf, IsWaitOf, List, Log, May, Msg, Pipe, Read, Records, Rejected, Setting, Site, Some, Ts, TxnNo, Use, View, Wait, allowed_act, answered_once, ap, append_assoc, d_step, head, home, inl, inr, not_both, not_own, number_of, own_act, permitted_before, pipe, refl, same_number, setting_of, subst, sym, true, txn_no, view_of, waits, ℕ, ◌++◌, ◌∙◌, ◌∷◌, ◌≡◌, ◌≤◌}
+use Rattle.sdd_progress.proofs.AllWaits.{Act, Answer, ClassNo, Cond, D, Did, DmNo, Does, Input, IsPermitted, IsReadStep, IsRejectOf, IsWaitOf, List, Log, May, Msg, Pipe, Read, Records, Rejected, Setting, Site, Some, Ts, TxnNo, Use, View, Wait, allowed_act, answered_once, ap, append_assoc, d_step, head, home, inl, inr, not_both, not_own, number_of, own_act, permitted_before, pipe, refl, same_number, setting_of, subst, sym, true, txn_no, view_of, waits, ℕ, ◌++◌, ◌∙◌, ◌∷◌, ◌≡◌, ◌≤◌}
 use Rattle.sdd_progress.proofs.Answered.{waits_or_answered}
 use Rattle.sdd_progress.proofs.AtModule.{at_module}
 use Rattle.sdd_progress.proofs.Rejected.{IsProcessing, processing_of, rejected}
@@ -49,7 +49,7 @@ attempt_waited : Act → ℕ
 attempt_waited (Records k (Wait txn attempt dm conds) sends) = attempt
 attempt_waited _ = 0
 
-pub never_both : (g : Given) (d : DmNo) (c : ℕ) (later before : Log) (txn other : TxnNo) (attempt another : ℕ) (dm dm2 : DmNo) (conds : List Cond) (by : ClassNo) (write : Ts) (sends more : List (Site × Msg))
+pub never_both : (g : Input) (d : DmNo) (c : ℕ) (later before : Log) (txn other : TxnNo) (attempt another : ℕ) (dm dm2 : DmNo) (conds : List Cond) (by : ClassNo) (write : Ts) (sends more : List (Site × Msg))
     → IsPermitted g (Does (D d) (Records c (Rejected other another dm2 by write) more) ∷ (later ++ Does (D d) (Records c (Wait txn attempt dm conds) sends) ∷ before))
     → number_of (home g.catalogue c) ≤ 63 → txn.0 ≡ other.0 → attempt ≡ another → ⊥
 unfolding txn_waited attempt_waited

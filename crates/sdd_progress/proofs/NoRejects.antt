@@ -1,5 +1,5 @@
 -- An attempt of an undeclared transaction is never rejected, so where none is under way as many are committed as were started.
-use Rattle.sdd_progress.proofs.All.{AllNear, AllZero, Bool, ClassNo, Cond, D, DmNo, Does, Given, Hand, IsModule, IsNear, IsPermitted, IsRejectBy, IsWhole, List, Log, Msg, None, Queued, Read, Some, StartedHead, Ts, TxnNo, U, Use, [], active, all_new, ap, ascending, class_number, contains, eqb-true, fragments_in, hand_was_put, handed, head, head_of, head_put, home, if◌then◌else◌, in_none, inl, inr, is_tried, last_served, local_of, modules_asked, modules_near, permitted_before, pipe_at, place_of_hand, put_in_by_d, puts_to, queue, refl, sends_of_act, sent_to_each, setting_of, slice_get, start_at, start_read, starts, strict_asked, subst, to_site, true, true_or_false, u_fair, u_not_rejected, u_table, uses_of, was_rejected, ℕ, ◌<◌, ◌==◌, ◌∙◌, ◌∷◌, ◌≡◌}
+use Rattle.sdd_progress.proofs.All.{AllNear, AllZero, Bool, ClassNo, Cond, D, DmNo, Does, Hand, Input, IsModule, IsNear, IsPermitted, IsRejectBy, IsWhole, List, Log, Msg, None, Queued, Read, Some, StartedHead, Ts, TxnNo, U, Use, [], active, all_new, ap, ascending, class_number, contains, eqb-true, fragments_in, hand_was_put, handed, head, head_of, head_put, home, if◌then◌else◌, in_none, inl, inr, is_tried, last_served, local_of, modules_asked, modules_near, permitted_before, pipe_at, place_of_hand, put_in_by_d, puts_to, queue, refl, sends_of_act, sent_to_each, setting_of, slice_get, start_at, start_read, starts, strict_asked, subst, to_site, true, true_or_false, u_fair, u_not_rejected, u_table, uses_of, was_rejected, ℕ, ◌<◌, ◌==◌, ◌∙◌, ◌∷◌, ◌≡◌}
 use Rattle.sdd_progress.proofs.Lists.{either}
 use Rattle.sdd_obligations.specs.All.{IsRead}
 use Rattle.sdd_obligations.specs.wire.declared.msg.Msg.TheVariants.{Reject}
@@ -13,7 +13,7 @@ near_one n d (x ∷ ds) h e = elim (either (x == d) (contains ds d) e) [
   | inr p ↦ near_one n d ds h.1 p
 ]
 
-read_module : (g : Given) (c : ℕ) (d : DmNo) (log : Log) (ts : Ts) (k : ClassNo) (txn : TxnNo) (n : ℕ) (conds : List Cond) (uses : List Use)
+read_module : (g : Input) (c : ℕ) (d : DmNo) (log : Log) (ts : Ts) (k : ClassNo) (txn : TxnNo) (n : ℕ) (conds : List Cond) (uses : List Use)
     → IsWhole g.catalogue → IsPermitted g log → head (pipe_at g c d log) ≡ Some (Read ts k txn n conds uses) → IsModule g.catalogue d.0
 read_module g c d log ts k txn n conds uses whole h e =
     let s = setting_of g (home g.catalogue c) in
@@ -32,7 +32,7 @@ read_module g c d log ts k txn n conds uses whole h e =
     ]
 
 -- no REJECT was handed to U
-never_rejected : (g : Given) (log : Log) (d : DmNo) (k : ℕ) (ts : Ts) (class by : ClassNo) (write : Ts) → IsWhole g.catalogue → IsPermitted g log
+never_rejected : (g : Input) (log : Log) (d : DmNo) (k : ℕ) (ts : Ts) (class by : ClassNo) (write : Ts) → IsWhole g.catalogue → IsPermitted g log
     → slice_get (puts_to U (local_of g (D d) log)) k ≡ Some (Reject ts class by write) → ⊥
 never_rejected g log d k ts class by write whole h e =
     let p = put_in_by_d g log d U k (Reject ts class by write) h e in
@@ -41,7 +41,7 @@ never_rejected g log d k ts class by write whole h e =
     let m = read_module g r.class d p.before ts class r.txn r.attempt r.conds r.uses whole hb r.head_is in
     u_not_rejected g d log k ts class by write whole m.0 m.1 h e
 
-not_tried_again : (g : Given) (log : Log) (q : Queued) → IsWhole g.catalogue → IsPermitted g log → active (setting_of g U) 0 (local_of g U log) ≡ None
+not_tried_again : (g : Input) (log : Log) (q : Queued) → IsWhole g.catalogue → IsPermitted g log → active (setting_of g U) 0 (local_of g U log) ≡ None
     → head_of (queue (setting_of g U) 0 (local_of g U log)) ≡ Some q → 0 < q.tries → ⊥
 not_tried_again g log q whole h idle e tried =
     let r = was_rejected (setting_of g U) 0 (local_of g U log) q (u_fair g log h) (all_new g U log h) idle e tried in
@@ -54,7 +54,7 @@ head_started : (n : ℕ) (qs : List Queued) → StartedHead n qs → (q : Queued
 head_started n [] h = absurd h
 head_started n (q ∷ qs) h = (q, refl, h.1)
 
-pub all_served : (g : Given) (log : Log) → IsWhole g.catalogue → IsPermitted g log → active (setting_of g U) 0 (local_of g U log) ≡ None
+pub all_served : (g : Input) (log : Log) → IsWhole g.catalogue → IsPermitted g log → active (setting_of g U) 0 (local_of g U log) ≡ None
     → (starts (local_of g U log) ≡ (last_served (setting_of g U) (local_of g U log)).commits) × AllZero (queue (setting_of g U) 0 (local_of g U log))
 all_served g log whole h idle = elim (is_tried (setting_of g U) (local_of g U log) (u_table g log h)) [
   | inl p ↦ p

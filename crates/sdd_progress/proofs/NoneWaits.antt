@@ -1,6 +1,6 @@
 -- Where nothing goes on, no READ waits, so every message is processed and no attempt is under way; if all was idle wherever
 -- a further list of classes was put in force. Then each READ that waits has conditions of the list in force.
-use Rattle.sdd_progress.proofs.All.{AllDiagonalsIn, AreConditionsOf, Bool, Catalogue, Change, ClassNo, Cond, D, Entry, FragNo, Given, HasDiagonal, IsBelow, IsClass, IsDiagonalIn, IsFromTable, IsHolder, IsIdle, IsIdleAtRedeclares, IsModule, IsPermitted, IsQuiet, IsReader, IsSound, IsSoundList, IsStamped, IsStuck, IsTimestamp, List, Log, Msg, None, P2, P3, Protocol, Read, Setting, Some, Ts, TxnNo, Use, WaitGraph, WaitingRead, WaitsOn, Write, [], active, ap, arith, at_home, at_module, bound, class_number, clock, conditions_at_put, diagonals_listed, differ, dm_no, false, force_at, head, head_put, head_stuck, holder, home, home_fair, home_small, if◌then◌else◌, in_range, inl, inr, is_met, length, list_all, local_of, none_waits, not_zero, number_of, part_of, permitted_part, pipe, read_classes, reader, redeclares, refl, same_or_not, setting_of, slice_get, stamp_ticks, start_of_active, subst, suc, sym, table_fits, time_at, time_of, true, view_of, wait_graph, wait_protocol, wait_time, write_origin, ℕ, ◌+◌, ◌==◌, ◌∙◌, ◌∷◌, ◌≡◌}
+use Rattle.sdd_progress.proofs.All.{AllDiagonalsIn, AreConditionsOf, Bool, Catalogue, Change, ClassNo, Cond, D, Entry, FragNo, HasDiagonal, Input, IsBelow, IsClass, IsDiagonalIn, IsFromTable, IsHolder, IsIdle, IsIdleAtRedeclares, IsModule, IsPermitted, IsQuiet, IsReader, IsSound, IsSoundList, IsStamped, IsStuck, IsTimestamp, List, Log, Msg, None, P2, P3, Protocol, Read, Setting, Some, Ts, TxnNo, Use, WaitGraph, WaitingRead, WaitsOn, Write, [], active, ap, arith, at_home, at_module, bound, class_number, clock, conditions_at_put, diagonals_listed, differ, dm_no, false, force_at, head, head_put, head_stuck, holder, home, home_fair, home_small, if◌then◌else◌, in_range, inl, inr, is_met, length, list_all, local_of, none_waits, not_zero, number_of, part_of, permitted_part, pipe, read_classes, reader, redeclares, refl, same_or_not, setting_of, slice_get, stamp_ticks, start_of_active, subst, suc, sym, table_fits, time_at, time_of, true, view_of, wait_graph, wait_protocol, wait_time, write_origin, ℕ, ◌+◌, ◌==◌, ◌∙◌, ◌∷◌, ◌≡◌}
 use Rattle.sdd_progress.proofs.Alone.{below_read, zero_time}
 use Rattle.sdd_progress.proofs.Lacking.{has_unanswered}
 use Rattle.sdd_progress.proofs.Lists.{not_all, no_head}
@@ -13,7 +13,7 @@ use Rattle.sdd_obligations.specs.site_module.SiteLog as site
 
 -- a READ that waits has a condition that isn't met
 
-record IsUnmet (g : Given) (log : Log) (d : ℕ) (conds : List Cond) : Type 0 where
+record IsUnmet (g : Input) (log : Log) (d : ℕ) (conds : List Cond) : Type 0 where
   place : ℕ
   cond : Cond
   there : slice_get conds place ≡ Some cond
@@ -24,7 +24,7 @@ stuck_read : (s : Setting) (c : ℕ) (l : site.Log) (ts : Ts) (of : ClassNo) (tx
     → list_all (is_met (view_of s l)) conds ≡ false
 stuck_read s c l ts of txn attempt conds uses h = h.1
 
-unmet : (g : Given) (log : Log) (c ts : ℕ) (conds : List Cond) (r : IsReader g log c ts conds) → IsQuiet g log → IsUnmet g log r.d conds
+unmet : (g : Input) (log : Log) (c ts : ℕ) (conds : List Cond) (r : IsReader g log c ts conds) → IsQuiet g log → IsUnmet g log r.d conds
 unmet g log c ts conds r h =
     let s = setting_of g (D (dm_no r.d)) in
     let class = r.class_is in
@@ -35,7 +35,7 @@ unmet g log c ts conds r h =
 
 -- READs of declared classes, as numbers
 
-abbrev read_number : (g : Given) (log : Log) (c ts : ℕ) (conds : List Cond) → AreConditionsOf g log c ts conds → WaitingRead
+abbrev read_number : (g : Input) (log : Log) (c ts : ℕ) (conds : List Cond) → AreConditionsOf g log c ts conds → WaitingRead
 read_number g log c ts conds from = record {
   class = c;
   ts = ts;
@@ -43,7 +43,7 @@ read_number g log c ts conds from = record {
   ticks = suc (clock (home g.catalogue c) (local_of g (home g.catalogue c) from.before)).ticks;
 }
 
-record IsWaiting (g : Given) (log : Log) (r : WaitingRead) : Type 0 where
+record IsWaiting (g : Input) (log : Log) (r : WaitingRead) : Type 0 where
   conds : List Cond
   declared : (r.class == 0) ≡ false
   reader : IsReader g log r.class r.ts conds
@@ -52,19 +52,19 @@ record IsWaiting (g : Given) (log : Log) (r : WaitingRead) : Type 0 where
   p2_is : r.p2 ≡ bound (setting_of g (home g.catalogue r.class)) (local_of g (home g.catalogue r.class) from.before)
   since : redeclares from.before ≡ redeclares log
 
-waiting_number : (g : Given) (log : Log) (c ts : ℕ) (conds : List Cond) → (c == 0) ≡ false
+waiting_number : (g : Input) (log : Log) (c ts : ℕ) (conds : List Cond) → (c == 0) ≡ false
     → IsReader g log c ts conds → (from : AreConditionsOf g log c ts conds) → redeclares from.before ≡ redeclares log
     → IsWaiting g log (read_number g log c ts conds from)
 waiting_number g log c ts conds z r from since = record { conds = conds; declared = z; reader = r; from = from; ticks_are = refl; p2_is = refl; since = since }
 
-conditions : (g : Given) (log : Log) (c ts : ℕ) (conds : List Cond) → IsQuiet g log → IsSound g.catalogue → IsIdleAtRedeclares g log → (c == 0) ≡ false
+conditions : (g : Input) (log : Log) (c ts : ℕ) (conds : List Cond) → IsQuiet g log → IsSound g.catalogue → IsIdleAtRedeclares g log → (c == 0) ≡ false
     → IsReader g log c ts conds → (from : AreConditionsOf g log c ts conds) × (redeclares from.before ≡ redeclares log)
 conditions g log c ts conds h sound marks z r =
     let p = head_put g c (dm_no r.d) log (Read (time_at ts) r.of r.txn r.attempt conds r.uses) h.permitted r.head_is in
     let f = conditions_at_put g log c (dm_no r.d) (time_at ts) r.of r.txn r.attempt conds r.uses (λ e. differ c 0 z e) p in
     (f.0, ap redeclares f.1 ∙ since_redeclare g log c r.d (time_at ts) r.of r.txn r.attempt conds r.uses h.permitted sound r.class_is r.module_is marks r.head_is p)
 
-stamped : (g : Given) (log : Log) → IsSoundList g (redeclares log) → (r : WaitingRead) → IsWaiting g log r → IsStamped r
+stamped : (g : Input) (log : Log) → IsSoundList g (redeclares log) → (r : WaitingRead) → IsWaiting g log r → IsStamped r
 stamped g log one r w =
     let s = setting_of g (home g.catalogue r.class) in
     let lb = local_of g (home g.catalogue r.class) w.from.before in
@@ -77,7 +77,7 @@ stamped g log one r w =
 
 -- the diagonal of a condition
 
-abbrev graph_of : Given → Log → WaitGraph
+abbrev graph_of : Input → Log → WaitGraph
 graph_of g log = wait_graph (force_at g (redeclares log)).catalogue (force_at g (redeclares log)).table
 
 record IsAlong (G : WaitGraph) (i j time own p2 : ℕ) : Type 0 where
@@ -124,7 +124,7 @@ wait_by false r = refl
 time_along : (G : WaitGraph) (i j time : ℕ) (r : WaitingRead) (a : IsAlong G i j time r.ts r.p2) → time ≡ wait_time a.diagonal.diagonal.own r
 time_along G i j time r a = a.time_is ∙ wait_by a.by_own r ∙ ap (λ b. wait_time b r) (sym a.diagonal.own_is)
 
-cond_along : (g : Given) (log : Log) (c ts : ℕ) (conds : List Cond)
+cond_along : (g : Input) (log : Log) (c ts : ℕ) (conds : List Cond)
     (from : AreConditionsOf g log c ts conds) (k : ℕ) (q : Cond) → redeclares from.before ≡ redeclares log
     → slice_get conds k ≡ Some q
     → IsAlong (graph_of g log) c q.class.0 q.time.0 ts (bound (setting_of g (home g.catalogue c)) (local_of g (home g.catalogue c) from.before))
@@ -135,7 +135,7 @@ cond_along g log c ts conds from k q since e =
 
 -- a WRITE's time is that of a Start
 
-write_stamp : (g : Given) (log : Log) (j d w : ℕ) (of : ClassNo) (txn : TxnNo) (changes : List Change) → IsSound g.catalogue → IsPermitted g log
+write_stamp : (g : Input) (log : Log) (j d w : ℕ) (of : ClassNo) (txn : TxnNo) (changes : List Change) → IsSound g.catalogue → IsPermitted g log
     → head (pipe j (at_module g d log)) ≡ Some (Write (time_at w) of txn changes) → IsTimestamp w
 write_stamp g log j d w of txn changes sound h e =
     let s = setting_of g (home g.catalogue j) in
@@ -152,7 +152,7 @@ write_stamp g log j d w of txn changes sound h e =
       small = omega (arith, small);
     }
 
-module _ (g : Given) (log : Log) (h : IsQuiet g log) (one : IsSoundList g (redeclares log)) (marks : IsIdleAtRedeclares g log) where
+module _ (g : Input) (log : Log) (h : IsQuiet g log) (one : IsSoundList g (redeclares log)) (marks : IsIdleAtRedeclares g log) where
   -- a READ of class 0 holds nothing back
   holder_declared : (j t : ℕ) → (j == 0) ≡ false → IsClass g.catalogue j → (k : IsHolder g log j t) → (k.class == 0) ≡ false
   holder_declared j t z l k = elim (same_or_not k.class 0) [

@@ -1,5 +1,5 @@
 -- No list of classes is put in force between the Submit of a transaction and one of its Starts.
-use Rattle.sdd_progress.proofs.All.{Commit, Committed, Did, Does, Given, HasCommit, IsAttempt, IsCommitted, IsSubmitted, Log, Stands, Submit, Submitted, [], act_local, ap, append_assoc, arith, begun, commit_act, committed_in, committed_later, dec_le, eras_of, event_at, false, history, home, is_committed, length, length-append, one_start_class, redeclares, refl, start_act_of, start_in, submit_in, subst, sym, true, txn_no, ℕ, ◌++◌, ◌+◌, ◌<◌, ◌∙◌, ◌∷◌, ◌≡◌, ◌≤◌}
+use Rattle.sdd_progress.proofs.All.{Commit, Committed, Did, Does, HasCommit, Input, IsAttempt, IsCommitted, IsSubmitted, Log, Stands, Submit, Submitted, [], act_local, ap, append_assoc, arith, begun, commit_act, committed_in, committed_later, dec_le, eras_of, event_at, false, history, home, is_committed, length, length-append, one_start_class, redeclares, refl, start_act_of, start_in, submit_in, subst, sym, true, txn_no, ℕ, ◌++◌, ◌+◌, ◌<◌, ◌∙◌, ◌∷◌, ◌≡◌, ◌≤◌}
 use Rattle.sdd_progress.proofs.SinceRedeclare.{redeclares_back}
 use Rattle.sdd_progress.proofs.Apart.{apart}
 use Rattle.sdd_progress.proofs.AtRest.{commit_there}
@@ -8,7 +8,7 @@ use Rattle.sdd_progress.proofs.Known.{Known, begun_at, commit_done}
 use Rattle.sdd_obligations.specs.serial_orders.Attempts.{Attempt}
 use Rattle.sdd_lawful.proofs.Classes.{at_home}
 
-module _ (g : Given) (log : Log) (w : Known g log) where
+module _ (g : Input) (log : Log) (w : Known g log) where
   -- an attempt doesn't start once its transaction is committed
   again : (a : Attempt) → IsAttempt (history log) a → (before : Log) → length (history before) ≡ a.place
       → is_committed a.class a.txn (at_home g a.class before) ≡ false → (later : Log) → log ≡ later ++ before

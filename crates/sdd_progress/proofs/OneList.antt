@@ -1,8 +1,8 @@
 -- A log that puts no further list of classes in force: the one list is sound, and there is no place where one was put in force.
-use Rattle.sdd_progress.proofs.All.{Given, HasOneTable, HasSoundLists, IsEraOf, IsIdleAtRedeclares, IsSoundList, IsUpAtRedeclares, Log, Redeclares, ap, arith, of_one_era, redeclares, refl, subst, sym, ℕ, ◌++◌, ◌∷◌, ◌≡◌}
+use Rattle.sdd_progress.proofs.All.{HasOneTable, HasSoundLists, Input, IsEraOf, IsIdleAtRedeclares, IsSoundList, IsUpAtRedeclares, Log, Redeclares, ap, arith, of_one_era, redeclares, refl, subst, sym, ℕ, ◌++◌, ◌∷◌, ◌≡◌}
 use Rattle.sdd_progress.proofs.SinceRedeclare.{redeclares_back}
 
-pub one_list : (g : Given) (log : Log) → HasOneTable g → redeclares log ≡ 0 → HasSoundLists g log
+pub one_list : (g : Input) (log : Log) → HasOneTable g → redeclares log ≡ 0 → HasSoundLists g log
 one_list g log one none k l =
     let first : 0 ≡ k = omega (arith, l, none) in
     let own : IsEraOf g.catalogue g.catalogue = (of_one_era g log one.table one.same none).are_eras.each 0 (0, g.catalogue) refl in
@@ -14,8 +14,8 @@ no_redeclare log later before t none is =
     let all : redeclares log ≡ redeclares (later ++ Redeclares t ∷ before) = ap redeclares is in
     absurd (omega (arith, back, all, none))
 
-pub idle_in_one : (g : Given) (log : Log) → redeclares log ≡ 0 → IsIdleAtRedeclares g log
+pub idle_in_one : (g : Input) (log : Log) → redeclares log ≡ 0 → IsIdleAtRedeclares g log
 idle_in_one g log none later before t is = absurd (no_redeclare log later before t none is)
 
-pub up_in_one : (g : Given) (log : Log) → redeclares log ≡ 0 → IsUpAtRedeclares g log
+pub up_in_one : (g : Input) (log : Log) → redeclares log ≡ 0 → IsUpAtRedeclares g log
 up_in_one g log none later before t is d there = absurd (no_redeclare log later before t none is)

@@ -1,5 +1,5 @@
 -- What a pipe has passed it has passed in every log that goes on from this one.
-use Rattle.sdd_progress.proofs.AllWaits.{AllGe, Bool, D, DmNo, Given, Handed, IsPermitted, IsRising, List, Msg, Pipe, Some, [], all_handed, all_of, all_there, any_at, ap, append-nil, append_assoc, arith, at_seam, class_rises, dec_le, earlier, false, goes_through, head, head_in, head_of, home, if◌then◌else◌, in_left, in_pipe, le_is, length, list_any, local_grows, local_of, map, nat_le, nat_tests, number_of, or_left, or_right, passed, passed_by, pipe, pipe_at, place_within, processed_grows, refl, slice_get, subst, suc, sym, time_of, true, within_left, zero, ℕ, ◌++◌, ◌<◌, ◌∙◌, ◌∷◌, ◌≡◌, ◌≤◌}
+use Rattle.sdd_progress.proofs.AllWaits.{AllGe, Bool, D, DmNo, Handed, Input, IsPermitted, IsRising, List, Msg, Pipe, Some, [], all_handed, all_of, all_there, any_at, ap, append-nil, append_assoc, arith, at_seam, class_rises, dec_le, earlier, false, goes_through, head, head_in, head_of, home, if◌then◌else◌, in_left, in_pipe, le_is, length, list_any, local_grows, local_of, map, nat_le, nat_tests, number_of, or_left, or_right, passed, passed_by, pipe, pipe_at, place_within, processed_grows, refl, slice_get, subst, suc, sym, time_of, true, within_left, zero, ℕ, ◌++◌, ◌<◌, ◌∙◌, ◌∷◌, ◌≡◌, ◌≤◌}
 use Rattle.sdd_obligations.specs.site_module.SiteLog.{Log}
 use Rattle.sdd_obligations.specs.logs.Entries as all
 
@@ -28,7 +28,7 @@ rising_left [] ys h = tt
 rising_left (x ∷ xs) ys h = (ge_left (time_of x) xs ys h.0, rising_left xs ys h.1)
 
 -- the times of a pipe never fall
-pub pipe_rises : (g : Given) (c : ℕ) (d : DmNo) (log : all.Log) → IsPermitted g log → number_of (home g.catalogue c) ≤ 63
+pub pipe_rises : (g : Input) (c : ℕ) (d : DmNo) (log : all.Log) → IsPermitted g log → number_of (home g.catalogue c) ≤ 63
     → IsRising (map time_of (all_of (pipe_at g c d log)))
 pipe_rises g c d log h small =
     let i = in_pipe g c d log h in
@@ -104,7 +104,7 @@ passed_lasts c t later log h e =
       up_to_head = omega arith;
     })
 
-pub passed_later : (g : Given) (c : ℕ) (d : DmNo) (t : ℕ) (later log : all.Log) → IsPermitted g (later ++ log)
+pub passed_later : (g : Input) (c : ℕ) (d : DmNo) (t : ℕ) (later log : all.Log) → IsPermitted g (later ++ log)
     → number_of (home g.catalogue c) ≤ 63 → passed (pipe_at g c d log) t ≡ true → passed (pipe_at g c d (later ++ log)) t ≡ true
 passed_later g c d t later log h small e =
     let i = local_grows g (D d) later log in

@@ -1,12 +1,12 @@
 -- A message that came to a pipe and is processed later: the record that processes it.
-use Rattle.sdd_progress.proofs.AllWaits.{Act, Bool, D, Did, DmNo, Does, Entry, Given, Hand, Handed, IsPermitted, IsReadStep, List, Log, May, Msg, None, Pipe, Rec, Records, Setting, Site, Some, [], all_of, ap, append_assoc, arith, at_seam, by_record, d_step, dec_le, false, goes_through, head, head_of, if◌then◌else◌, in_left, inl, inr, is_processing, length, length-append, local_grows, not_own, own_record, passing, pipe, place_within, processed_handed, processed_more, put, read_step_way, refl, same_or_not, setting_of, site_self, slice_get, subst, suc, sym, true, view_of, waits, ℕ, ◌++◌, ◌<◌, ◌∙◌, ◌∷◌, ◌≡◌, ◌≤◌}
+use Rattle.sdd_progress.proofs.AllWaits.{Act, Bool, D, Did, DmNo, Does, Entry, Hand, Handed, Input, IsPermitted, IsReadStep, List, Log, May, Msg, None, Pipe, Rec, Records, Setting, Site, Some, [], all_of, ap, append_assoc, arith, at_seam, by_record, d_step, dec_le, false, goes_through, head, head_of, if◌then◌else◌, in_left, inl, inr, is_processing, length, length-append, local_grows, not_own, own_record, passing, pipe, place_within, processed_handed, processed_more, put, read_step_way, refl, same_or_not, setting_of, site_self, slice_get, subst, suc, sym, true, view_of, waits, ℕ, ◌++◌, ◌<◌, ◌∙◌, ◌∷◌, ◌≡◌, ◌≤◌}
 use Rattle.sdd_progress.proofs.AtModule.{IsEntryAt, acting, aside, at_module, entry_at, handing}
 use Rattle.sdd_progress.proofs.Passing.{head_place, pipe_later}
 use Rattle.sdd_progress.proofs.Rejected.{IsProcessing, processing_of}
 use Rattle.sdd_obligations.specs.site_module.SiteLog as site
 
 -- among these entries, which came after the log, is a record that processes this message of class c at module d
-pub record IsProcessedIn (g : Given) (log : Log) (d : DmNo) (c : ℕ) (m : Msg) (entries : Log) : Type 0 where
+pub record IsProcessedIn (g : Input) (log : Log) (d : DmNo) (c : ℕ) (m : Msg) (entries : Log) : Type 0 where
   pub later : Log
   pub before : Log
   pub rec : Rec
@@ -49,12 +49,12 @@ act_processes s l c k m act i there lo hi =
       | inr e ↦ absurd (count_same c k l (Did (Records j r sends) ∷ l) (ap (λ (y : Pipe). y.processed) (not_own c j r sends l (inl e)).pipe_same) lo x)
     ]) i hi
 
-processed_more_on : (g : Given) (log : Log) (d : DmNo) (c : ℕ) (m : Msg) (e : Entry) (entries : Log)
+processed_more_on : (g : Input) (log : Log) (d : DmNo) (c : ℕ) (m : Msg) (e : Entry) (entries : Log)
     → IsProcessedIn g log d c m entries → IsProcessedIn g log d c m (e ∷ entries)
 processed_more_on g log d c m e entries i =
     record { later = e ∷ i.later; before = i.before; rec = i.rec; sends = i.sends; is = ap (λ l. e ∷ l) i.is; head_is = i.head_is; may = i.may }
 
-processed_now : (g : Given) (d : DmNo) (c k : ℕ) (m : Msg) (e : Entry) (entries log : Log) → IsEntryAt g d (entries ++ log) e
+processed_now : (g : Input) (d : DmNo) (c k : ℕ) (m : Msg) (e : Entry) (entries log : Log) → IsEntryAt g d (entries ++ log) e
     → slice_get (all_of (pipe c (at_module g d (entries ++ log)))) k ≡ Some m → length (pipe c (at_module g d (entries ++ log))).processed ≤ k
     → k < length (pipe c (at_module g d (e ∷ (entries ++ log)))).processed → IsProcessedIn g log d c m (e ∷ entries)
 processed_now g d c k m e entries log (aside f) there lo hi =
@@ -68,7 +68,7 @@ processed_now g d c k m e entries log (acting act is s due) there lo hi =
     let x = act_processes set l c k m act (d_step set l act due) there lo (subst (λ y. k < length (pipe c y).processed) s hi) in
     record { later = []; before = entries; rec = x.0; sends = x.1; is = ap (λ y. y ∷ entries) (is ∙ ap (λ a. Does (D d) a) x.2); head_is = x.3; may = x.4 }
 
-pub processed_in : (g : Given) (d : DmNo) (c k : ℕ) (m : Msg) (entries log : Log) → IsPermitted g (entries ++ log)
+pub processed_in : (g : Input) (d : DmNo) (c k : ℕ) (m : Msg) (entries log : Log) → IsPermitted g (entries ++ log)
     → slice_get (all_of (pipe c (at_module g d log))) k ≡ Some m → length (pipe c (at_module g d log)).processed ≤ k
     → k < length (pipe c (at_module g d (entries ++ log))).processed → IsProcessedIn g log d c m entries
 processed_in g d c k m [] log h there lo hi = absurd (omega arith)
@@ -93,7 +93,7 @@ put_last true p m e =
     (subst (λ l. slice_get l (length (all_of p)) ≡ Some m) (append_assoc p.processed p.unprocessed (m ∷ [])) (at_seam (all_of p) [] m), omega arith)
 put_last false p m e = cc
 
-pub handed_last : (g : Given) (d : DmNo) (c : ℕ) (from : Site) (n : ℕ) (m : Msg) (log : Log) → goes_through c m ≡ true
+pub handed_last : (g : Input) (d : DmNo) (c : ℕ) (from : Site) (n : ℕ) (m : Msg) (log : Log) → goes_through c m ≡ true
     → (slice_get (all_of (pipe c (at_module g d (Hand from (D d) n m ∷ log)))) (length (all_of (pipe c (at_module g d log)))) ≡ Some m)
     × (length (pipe c (at_module g d (Hand from (D d) n m ∷ log))).processed ≤ length (all_of (pipe c (at_module g d log))))
 handed_last g d c from n m log e =
@@ -108,7 +108,7 @@ none_unprocessed : (ps qs : List Msg) (k : ℕ) (m : Msg) → head_of qs ≡ Non
 none_unprocessed ps [] k m e f = let w = place_within (ps ++ []) k m f in let n = length-append ps [] in omega arith
 none_unprocessed ps (x ∷ qs) k m e f = cc
 
-pub processed_by_end : (g : Given) (d : DmNo) (c : ℕ) (from : Site) (n : ℕ) (m : Msg) (entries log : Log)
+pub processed_by_end : (g : Input) (d : DmNo) (c : ℕ) (from : Site) (n : ℕ) (m : Msg) (entries log : Log)
     → IsPermitted g (entries ++ Hand from (D d) n m ∷ log) → goes_through c m ≡ true
     → head (pipe c (at_module g d (entries ++ Hand from (D d) n m ∷ log))) ≡ None → IsProcessedIn g (Hand from (D d) n m ∷ log) d c m entries
 processed_by_end g d c from n m entries log h e none =

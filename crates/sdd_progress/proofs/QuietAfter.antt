@@ -1,14 +1,14 @@
 -- Where a settle has ended the links are quiet.
-use Rattle.sdd_progress.proofs.AllEnds.{Bool, Deliver, Down, Entry, Event, Given, IsLawful, List, Log, Lose, Mark, None, Redeclare, Redeclares, Repeat, Resend, Round, Settle, Some, Submit, Tick, Up, [], after_mark, all_links, ap, calls_of, complete_parts, false, from_event, left, mark_from, mark_of, next, quiet, refl, round, subst, sym, tail_of, true, with_event, ℕ, ◌++◌, ◌∙◌, ◌∷◌, ◌≡◌}
+use Rattle.sdd_progress.proofs.AllEnds.{Bool, Deliver, Down, Entry, Event, Input, IsLawful, List, Log, Lose, Mark, None, Redeclare, Redeclares, Repeat, Resend, Round, Settle, Some, Submit, Tick, Up, [], after_mark, all_links, ap, calls_of, complete_parts, false, from_event, left, mark_from, mark_of, next, quiet, refl, round, subst, sym, tail_of, true, with_event, ℕ, ◌++◌, ◌∙◌, ◌∷◌, ◌≡◌}
 use Rattle.sdd_progress.proofs.Marked.{next_is_of_events}
 
 -- an event behind a settle
 
-by_quiet : (g : Given) (log : Log) (q : Bool) (events ws : List Event) (e : Event) → mark_from g log q events (Settle ∷ ws) ≡ Some (Mark e) → q ≡ true
+by_quiet : (g : Input) (log : Log) (q : Bool) (events ws : List Event) (e : Event) → mark_from g log q events (Settle ∷ ws) ≡ Some (Mark e) → q ≡ true
 by_quiet g log true events ws e h = refl
 by_quiet g log false events ws e h = absurd (cc)
 
-pub quiet_before : (g : Given) (log : Log) (e : Event) (ws : List Event) → left g.events log ≡ (Settle ∷ ws, []) → next g log ≡ Some (Mark e)
+pub quiet_before : (g : Input) (log : Log) (e : Event) (ws : List Event) → left g.events log ≡ (Settle ∷ ws, []) → next g log ≡ Some (Mark e)
     → quiet (all_links g) (calls_of log) ≡ true
 quiet_before g log e ws is h =
     by_quiet g log (quiet (all_links g) (calls_of log)) (round (all_links g) (calls_of log)) ws e
@@ -76,7 +76,7 @@ round_first events ws (Mark f) h = absurd (cc)
 round_first events ws (Redeclares t) h = absurd (cc)
 round_first events ws _ h = tt
 
-first_taken : (g : Given) (log : Log) (q : Bool) (events ws : List Event) (x : Entry) → mark_from g log q events ws ≡ Some x → TakesFirst x ws
+first_taken : (g : Input) (log : Log) (q : Bool) (events ws : List Event) (x : Entry) → mark_from g log q events ws ≡ Some x → TakesFirst x ws
 first_taken g log q events [] x h = absurd (cc)
 first_taken g log true events (Settle ∷ ws) x h = settle_first x ws (first_taken g log true events ws x h)
 first_taken g log false events (Settle ∷ ws) x h = round_first events (Settle ∷ ws) x h
@@ -95,18 +95,18 @@ after_first : (ws : List Event) → (f : Event) × (rest : List Event) × (from_
     → ends false (tail_of (from_event ws)) ≡ true
 after_first ws t p = subst (λ xs. ends false (tail_of xs) ≡ true) (sym t.2) (ends_on ws t.0 t.1 t.2 p)
 
-mark_taken : (g : Given) (log : Log) (e : Event) (rest : List Event × List Event) → mark_of g log rest ≡ Some (Mark e) → ends false rest.0 ≡ true
+mark_taken : (g : Input) (log : Log) (e : Event) (rest : List Event × List Event) → mark_of g log rest ≡ Some (Mark e) → ends false rest.0 ≡ true
     → ends false (after_mark rest).0 ≡ true
 mark_taken g log e (ws, []) h p = after_first ws (first_taken g log (quiet (all_links g) (calls_of log)) (round (all_links g) (calls_of log)) ws (Mark e) h) p
 mark_taken g log e (ws, x ∷ events) h p = p
 
-redeclare_taken : (g : Given) (log : Log) (t : ℕ) (rest : List Event × List Event) → mark_of g log rest ≡ Some (Redeclares t) → ends false rest.0 ≡ true
+redeclare_taken : (g : Input) (log : Log) (t : ℕ) (rest : List Event × List Event) → mark_of g log rest ≡ Some (Redeclares t) → ends false rest.0 ≡ true
     → ends false (after_mark rest).0 ≡ true
 redeclare_taken g log t (ws, []) h p =
     after_first ws (first_taken g log (quiet (all_links g) (calls_of log)) (round (all_links g) (calls_of log)) ws (Redeclares t) h) p
 redeclare_taken g log t (ws, x ∷ events) h p = absurd (cc)
 
-still_ends : (g : Given) (log : Log) → IsLawful g log → ends false g.events ≡ true → ends false (left g.events log).0 ≡ true
+still_ends : (g : Input) (log : Log) → IsLawful g log → ends false g.events ≡ true → ends false (left g.events log).0 ≡ true
 still_ends g [] h p = p
 still_ends g (Mark e ∷ log) h p = mark_taken g log e (left g.events log) (next_is_of_events g log (Mark e) refl h.0) (still_ends g log h.1 p)
 still_ends g (Redeclares t ∷ log) h p = redeclare_taken g log t (left g.events log) (next_is_of_events g log (Redeclares t) refl h.0) (still_ends g log h.1 p)
@@ -114,19 +114,19 @@ still_ends g (_ ∷ log) h p = still_ends g log h.1 p
 
 -- so nothing is next only where the links are quiet
 
-none_next : (g : Given) (log : Log) (q : Bool) (events ws : List Event) → mark_from g log q events ws ≡ None → ends false ws ≡ true → q ≡ true
+none_next : (g : Input) (log : Log) (q : Bool) (events ws : List Event) → mark_from g log q events ws ≡ None → ends false ws ≡ true → q ≡ true
 unfolding ends
 none_next g log true events (Settle ∷ ws) h p = refl
 none_next g log true events (Redeclare ∷ ws) h p = refl
 none_next g log q events (Up d ∷ ws) h p = absurd (cc)
 none_next g log _ events _ h p = absurd (cc)
 
-none_left : (g : Given) (log : Log) (rest : List Event × List Event) → mark_of g log rest ≡ None → ends false rest.0 ≡ true
+none_left : (g : Input) (log : Log) (rest : List Event × List Event) → mark_of g log rest ≡ None → ends false rest.0 ≡ true
     → quiet (all_links g) (calls_of log) ≡ true
 none_left g log (ws, []) h p = none_next g log (quiet (all_links g) (calls_of log)) (round (all_links g) (calls_of log)) ws h p
 none_left g log (ws, e ∷ events) h p = absurd (cc)
 
-pub quiet_at_last : (g : Given) (log : Log) → IsLawful (with_event g Settle) log → next (with_event g Settle) log ≡ None
+pub quiet_at_last : (g : Input) (log : Log) → IsLawful (with_event g Settle) log → next (with_event g Settle) log ≡ None
     → quiet (all_links g) (calls_of log) ≡ true
 quiet_at_last g log h e =
     none_left (with_event g Settle) log (left (with_event g Settle).events log) (complete_parts (with_event g Settle) log e).no_next

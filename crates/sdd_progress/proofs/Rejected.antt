@@ -1,5 +1,5 @@
 -- A Reject names a WRITE that was processed; a READ that waits is never rejected.
-use Rattle.sdd_progress.proofs.AllWaits.{Act, Answer, Apply, ClassNo, Cond, D, Did, DmNo, Does, Each, Given, IsAnswerOf, IsDueEach, IsPermitted, IsReadStep, IsRejectOf, IsWaitOf, List, Log, May, Msg, Pass, Read, Rec, Records, Rejected, Setting, Site, Some, Ts, TxnNo, Use, View, Write, allowed_act, ap, by_record, by_wait, d_step, false, filter, first_there, head, in_filtered, in_passing, is_processing, is_spoilt, last_write_for, le_by, local_of, not_both, or_zero, pipe, pipe_at, refl, setting_of, slice_get, spoiler, spoils, subst, sym, time_at, true, txn_no, view_of, waits, writer_of, ℕ, ◌∙◌, ◌∷◌, ◌≡◌}
+use Rattle.sdd_progress.proofs.AllWaits.{Act, Answer, Apply, ClassNo, Cond, D, Did, DmNo, Does, Each, Input, IsAnswerOf, IsDueEach, IsPermitted, IsReadStep, IsRejectOf, IsWaitOf, List, Log, May, Msg, Pass, Read, Rec, Records, Rejected, Setting, Site, Some, Ts, TxnNo, Use, View, Write, allowed_act, ap, by_record, by_wait, d_step, false, filter, first_there, head, in_filtered, in_passing, is_processing, is_spoilt, last_write_for, le_by, local_of, not_both, or_zero, pipe, pipe_at, refl, setting_of, slice_get, spoiler, spoils, subst, sym, time_at, true, txn_no, view_of, waits, writer_of, ℕ, ◌∙◌, ◌∷◌, ◌≡◌}
 use Rattle.sdd_progress.proofs.Waited.{since}
 use Rattle.sdd_obligations.specs.site_module.SiteLog as site
 
@@ -70,7 +70,7 @@ rejecting s log c txn attempt dm by write sends i =
 pub spoiler_there : (v : View) (conds : List Cond) (q : Cond) → spoiler v conds ≡ Some q → (spoils v q ≡ true) × (k : ℕ) × (slice_get conds k ≡ Some q)
 spoiler_there v conds q e = in_filtered (spoils v) conds 0 q (first_there (filter (spoils v) conds) q e)
 
-pub rejected : (g : Given) (log : Log) (d : DmNo) (c : ℕ) (txn : TxnNo) (attempt : ℕ) (dm : DmNo) (by : ClassNo) (write : Ts) (sends : List (Site × Msg))
+pub rejected : (g : Input) (log : Log) (d : DmNo) (c : ℕ) (txn : TxnNo) (attempt : ℕ) (dm : DmNo) (by : ClassNo) (write : Ts) (sends : List (Site × Msg))
     → IsPermitted g (Does (D d) (Records c (Rejected txn attempt dm by write) sends) ∷ log) → IsRejectOf g log d c txn attempt by write
 rejected g log d c txn attempt dm by write sends h =
     let s : Setting = setting_of g (D d) in

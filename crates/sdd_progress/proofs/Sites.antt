@@ -1,5 +1,5 @@
 -- What all sites have left to do, and how many messages are left to be handed over.
-use Rattle.sdd_progress.proofs.AllEnds.{Act, Bool, D, Did, Does, Entry, Given, Hand, IsPermitted, Log, Msg, None, Option, Setting, Site, Some, T, U, all_links, all_new, and_left, and_right, ap, arith, base_of, calls_of, delivered, delivered_puts, hand_number, hand_on, hand_with, handed, if◌then◌else◌, inl, inr, link_of, local_of, message_at, next_at, next_number, number_is, refl, same_Some, same_here, same_is, same_site, sends_of_act, setting_of, sites, slice_get, subst, suc, sym, t_fair, takes_part, true, true_or_false, u_fair, ℕ, ◌&&◌, ◌-◌, ◌<◌, ◌∙◌, ◌∷◌, ◌≡◌, ◌≤◌}
+use Rattle.sdd_progress.proofs.AllEnds.{Act, Bool, D, Did, Does, Entry, Hand, Input, IsPermitted, Log, Msg, None, Option, Setting, Site, Some, T, U, all_links, all_new, and_left, and_right, ap, arith, base_of, calls_of, delivered, delivered_puts, hand_number, hand_on, hand_with, handed, if◌then◌else◌, inl, inr, link_of, local_of, message_at, next_at, next_number, number_is, refl, same_Some, same_here, same_is, same_site, sends_of_act, setting_of, sites, slice_get, subst, suc, sym, t_fair, takes_part, true, true_or_false, u_fair, ℕ, ◌&&◌, ◌-◌, ◌<◌, ◌∙◌, ◌∷◌, ◌≡◌, ◌≤◌}
 use Rattle.sdd_progress.proofs.AtD.{d_falls, d_work}
 use Rattle.sdd_progress.proofs.AtT.{t_falls, t_work}
 use Rattle.sdd_progress.proofs.AtU.{u_falls, u_work}
@@ -17,7 +17,7 @@ site_work s U l = u_work s l
 site_work s (T t) l = t_work s l
 site_work s (D d) l = d_work s l
 
-act_falls : (g : Given) (log : Log) (at : Site) (act : Act) → IsPermitted g log → next_at g log at ≡ Some act
+act_falls : (g : Input) (log : Log) (at : Site) (act : Act) → IsPermitted g log → next_at g log at ≡ Some act
     → site_work (setting_of g at) at (Did act ∷ local_of g at log) < site_work (setting_of g at) at (local_of g at log)
 act_falls g log U act h e =
     u_falls (setting_of g U) (base_of g log) (local_of g U log) (u_fair g log h) (all_new g U log h) act
@@ -31,13 +31,13 @@ act_falls g log (D d) act h e =
 
 -- of all sites
 
-abbrev pub work_at : Given → Log → Site → ℕ
+abbrev pub work_at : Input → Log → Site → ℕ
 work_at g log at = site_work (setting_of g at) at (local_of g at log)
 
-abbrev pub acts_left : Given → Log → ℕ
+abbrev pub acts_left : Input → Log → ℕ
 acts_left g log = total (work_at g log) (sites g.catalogue.tms g.catalogue.dms)
 
-module _ (g : Given) (log : Log) (at : Site) (act : Act) (h : IsPermitted g log) (due : next_at g log at ≡ Some act) where
+module _ (g : Input) (log : Log) (at : Site) (act : Act) (h : IsPermitted g log) (due : next_at g log at ≡ Some act) where
   own_falls : work_at g (Does at act ∷ log) at < work_at g log at
   own_falls = rw (same_here at) (act_falls g log at act h due)
 
@@ -56,10 +56,10 @@ module _ (g : Given) (log : Log) (at : Site) (act : Act) (h : IsPermitted g log)
 abbrev pub hands_on : Log → Site × Site → ℕ
 hands_on log l = delivered (link_of l.0 l.1 log).there - handed l.0 l.1 log
 
-abbrev pub hands_left : Given → Log → ℕ
+abbrev pub hands_left : Input → Log → ℕ
 hands_left g log = total (hands_on log) (all_links g)
 
-pub act_hands : (g : Given) (log : Log) (at : Site) (act : Act) → hands_left g (Does at act ∷ log) ≤ hands_left g log
+pub act_hands : (g : Input) (log : Log) (at : Site) (act : Act) → hands_left g (Does at act ∷ log) ≤ hands_left g log
 act_hands g log at act =
     total_up (hands_on (Does at act ∷ log)) (hands_on log) (all_links g)
     (λ l. let e = delivered_puts l.0 l.1 at (sends_of_act act) (calls_of log) in omega (arith, e))
@@ -83,7 +83,7 @@ module _ (log : Log) (a b : Site) (n : ℕ) (m : Msg) (next : n ≡ suc (handed 
     | inr e ↦ rw e (omega arith)
   ]
 
-  pub hand_falls : (g : Given) (k : ℕ) → slice_get (all_links g) k ≡ Some (a, b) → hands_left g (Hand a b n m ∷ log) < hands_left g log
+  pub hand_falls : (g : Input) (k : ℕ) → slice_get (all_links g) k ≡ Some (a, b) → hands_left g (Hand a b n m ∷ log) < hands_left g log
   hand_falls g k at = total_less (hands_on (Hand a b n m ∷ log)) (hands_on log) (all_links g) k (a, b) at none_more one_less
 
 -- what is handed over on a link is the message after those that are handed

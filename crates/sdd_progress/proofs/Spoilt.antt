@@ -1,5 +1,5 @@
 -- A condition that is spoilt, and was not before, was spoilt by an Apply in between.
-use Rattle.sdd_progress.proofs.AllWaits.{Act, Apply, Bool, Change, ClassNo, ClassView, Cond, D, Did, DmNo, Does, Entry, Given, IsClassHere, IsPermitted, IsReadStep, IsSpoiltIn, List, Log, May, Msg, None, Pipe, Rec, Records, Setting, Site, Some, Ts, TxnNo, Write, [], ap, arith, class_no, class_not_in_view, cond, d_step, dec_le, false, head, inl, inr, is_at_least, is_processing, le_is, length, list_any, neither_left, neither_right, not_both, not_own, only_one, only_right, own_record, passing, pipe, processed_handed, processed_in_is, processed_more, read_step_way, refl, same_or_not, setting_of, spoiling, spoils, spoils_is, subst, suc, sym, touches, true, true_or_false, txn_no, view_of, waits, ℕ, ◌++◌, ◌∙◌, ◌∷◌, ◌≡◌, ◌≤◌}
+use Rattle.sdd_progress.proofs.AllWaits.{Act, Apply, Bool, Change, ClassNo, ClassView, Cond, D, Did, DmNo, Does, Entry, Input, IsClassHere, IsPermitted, IsReadStep, IsSpoiltIn, List, Log, May, Msg, None, Pipe, Rec, Records, Setting, Site, Some, Ts, TxnNo, Write, [], ap, arith, class_no, class_not_in_view, cond, d_step, dec_le, false, head, inl, inr, is_at_least, is_processing, le_is, length, list_any, neither_left, neither_right, not_both, not_own, only_one, only_right, own_record, passing, pipe, processed_handed, processed_in_is, processed_more, read_step_way, refl, same_or_not, setting_of, spoiling, spoils, spoils_is, subst, suc, sym, touches, true, true_or_false, txn_no, view_of, waits, ℕ, ◌++◌, ◌∙◌, ◌∷◌, ◌≡◌, ◌≤◌}
 use Rattle.sdd_progress.proofs.AtModule.{IsEntryAt, acting, aside, at_module, entry_at, handing}
 use Rattle.sdd_obligations.specs.site_module.SiteLog as site
 
@@ -80,7 +80,7 @@ act_spoils s l q act i before after =
       | inr e ↦ absurd (none (Records k r sends) (ap (λ (x : Pipe). x.processed) (not_own q.class.0 k r sends l (inl e)).pipe_same) t)
     ]) i after
 
-spoilt_more : (g : Given) (d : DmNo) (q : Cond) (e : Entry) (entries log : Log) → IsSpoiltIn g log d q entries → IsSpoiltIn g log d q (e ∷ entries)
+spoilt_more : (g : Input) (d : DmNo) (q : Cond) (e : Entry) (entries log : Log) → IsSpoiltIn g log d q entries → IsSpoiltIn g log d q (e ∷ entries)
 spoilt_more g d q e entries log i = record {
   later = e ∷ i.later;
   before = i.before;
@@ -96,7 +96,7 @@ spoilt_more g d q e entries log i = record {
   touching = i.touching;
 }
 
-spoilt_now : (g : Given) (d : DmNo) (q : Cond) (e : Entry) (entries log : Log) → IsEntryAt g d (entries ++ log) e
+spoilt_now : (g : Input) (d : DmNo) (q : Cond) (e : Entry) (entries log : Log) → IsEntryAt g d (entries ++ log) e
     → spoils (view_of (setting_of g (D d)) (at_module g d (entries ++ log))) q ≡ false
     → spoils (view_of (setting_of g (D d)) (at_module g d (e ∷ (entries ++ log)))) q ≡ true → IsSpoiltIn g log d q (e ∷ entries)
 spoilt_now g d q e entries log (aside f) before after =
@@ -125,7 +125,7 @@ spoilt_now g d q e entries log (acting act is s due) before after =
       touching = x.9;
     }
 
-pub spoilt_in : (g : Given) (d : DmNo) (q : Cond) (entries log : Log) → IsPermitted g (entries ++ log)
+pub spoilt_in : (g : Input) (d : DmNo) (q : Cond) (entries log : Log) → IsPermitted g (entries ++ log)
     → spoils (view_of (setting_of g (D d)) (at_module g d log)) q ≡ false
     → spoils (view_of (setting_of g (D d)) (at_module g d (entries ++ log))) q ≡ true → IsSpoiltIn g log d q entries
 spoilt_in g d q [] log h before after = absurd (not_both _ after before)

@@ -1,5 +1,5 @@
 -- Where nothing goes on, nothing is due at any site.
-use Rattle.sdd_progress.proofs.All.{Catalogue, D, Given, IsClass, IsModule, IsQuiet, IsSound, Log, None, Site, Some, T, U, active, ap, at_home, at_map, at_module, at_place, attempt_due, base_of, class_at, dm_no, does_at, does_none, false, first_some, home, inl, inr, is_link, is_site, le-leb, length, local_of, nat_le, next_at, numbers_to, or_none, positive, refl, same_number, same_or_not, served, setting_of, site_there, sites, slice_get, subst, sym, tm_no, true, ℕ, ◌&&◌, ◌-◌, ◌==◌, ◌≡◌, ◌≤◌, ◌⊎◌}
+use Rattle.sdd_progress.proofs.All.{Catalogue, D, Input, IsClass, IsModule, IsQuiet, IsSound, Log, None, Site, Some, T, U, active, ap, at_home, at_map, at_module, at_place, attempt_due, base_of, class_at, dm_no, does_at, does_none, false, first_some, home, inl, inr, is_link, is_site, le-leb, length, local_of, nat_le, next_at, numbers_to, or_none, positive, refl, same_number, same_or_not, served, setting_of, site_there, sites, slice_get, subst, sym, tm_no, true, ℕ, ◌&&◌, ◌-◌, ◌==◌, ◌≡◌, ◌≤◌, ◌⊎◌}
 use Rattle.sdd_progress.proofs.Lists.{kept_there, none_at}
 use Rattle.sdd_obligations.specs.dm.Due as dm
 use Rattle.sdd_obligations.specs.dm.Views as dm_views
@@ -8,7 +8,7 @@ use Rattle.sdd_obligations.specs.tm.Views as tm_views
 use Rattle.sdd_obligations.specs.umod.Due as um
 use Rattle.sdd_obligations.specs.umod.Views as um_views
 
-pub none_due : (g : Given) (log : Log) (at : Site) → IsQuiet g log → is_site g.catalogue.tms g.catalogue.dms at ≡ true → next_at g log at ≡ None
+pub none_due : (g : Input) (log : Log) (at : Site) → IsQuiet g log → is_site g.catalogue.tms g.catalogue.dms at ≡ true → next_at g log at ≡ None
 none_due g log at h e =
     let i = site_there g.catalogue.tms g.catalogue.dms at e in
     does_none at (next_at g log at) (none_at (λ x. does_at x (next_at g log x)) (sites g.catalogue.tms g.catalogue.dms) i.0 at h.no_act i.1)
@@ -64,7 +64,7 @@ home_linked cat c d sound l m =
     ])
 
 -- a class among those of its module
-pub runs_place : (g : Given) (c t : ℕ) → 1 ≤ c → IsClass g.catalogue c → t ≡ (class_at g.catalogue c).tm.0
+pub runs_place : (g : Input) (c t : ℕ) → 1 ≤ c → IsClass g.catalogue c → t ≡ (class_at g.catalogue c).tm.0
     → (j : ℕ) × (slice_get (tm_views.runs (setting_of g (T (tm_no t)))) j ≡ Some c)
 runs_place g c t l m e =
     kept_there (λ k. (class_at g.catalogue k).tm.0 == t) (numbers_to (length g.catalogue.classes)) (c - 1) c
@@ -73,7 +73,7 @@ runs_place g c t l m e =
 
 -- what isn't due at a transaction module
 
-pub record IsStillT (g : Given) (log : Log) (t : ℕ) : Type 0 where
+pub record IsStillT (g : Input) (log : Log) (t : ℕ) : Type 0 where
   pub nulls : first_some (tm.null_due (tm_views.view_of (setting_of g (T (tm_no t)))
       (local_of g (T (tm_no t)) log))) (tm_views.view_of (setting_of g (T (tm_no t))) (local_of g (T (tm_no t)) log)).classes ≡ None
   pub exchanges : (j c : ℕ) → slice_get (tm_views.runs (setting_of g (T (tm_no t)))) j ≡ Some c
@@ -83,7 +83,7 @@ pub record IsStillT (g : Given) (log : Log) (t : ℕ) : Type 0 where
       → tm.start_due g.catalogue (tm_views.view_of (setting_of g (T (tm_no t)))
       (local_of g (T (tm_no t)) log)) (tm_views.class_view (setting_of g (T (tm_no t))) (local_of g (T (tm_no t)) log) c) ≡ None
 
-pub t_still : (g : Given) (log : Log) (t : ℕ) → IsQuiet g log → 1 ≤ t → t ≤ g.catalogue.tms → IsStillT g log t
+pub t_still : (g : Input) (log : Log) (t : ℕ) → IsQuiet g log → 1 ≤ t → t ≤ g.catalogue.tms → IsStillT g log t
 t_still g log t h l m =
     let s = setting_of g (T (tm_no t)) in
     let lt = local_of g (T (tm_no t)) log in
@@ -103,7 +103,7 @@ t_still g log t h l m =
 
 -- what isn't due at the module for undeclared transactions
 
-pub record IsStillU (g : Given) (log : Log) : Type 0 where
+pub record IsStillU (g : Input) (log : Log) : Type 0 where
   pub exchange : attempt_due g.catalogue (base_of g log) 0 (active (setting_of g U) 0 (local_of g U log)) ≡ None
   pub releases : (j t : ℕ) → slice_get (numbers_to g.catalogue.tms) j ≡ Some t
       → um.release_due g.catalogue (um_views.view_of (setting_of g U) (local_of g U log)) (um_views.counts t (local_of g U log)) ≡ None
@@ -111,7 +111,7 @@ pub record IsStillU (g : Given) (log : Log) : Type 0 where
   pub holds : (j t : ℕ) → slice_get (numbers_to g.catalogue.tms) j ≡ Some t
       → um.hold_due (um_views.view_of (setting_of g U) (local_of g U log)) (um_views.counts t (local_of g U log)) ≡ None
 
-pub u_still : (g : Given) (log : Log) → IsQuiet g log → IsStillU g log
+pub u_still : (g : Input) (log : Log) → IsQuiet g log → IsStillU g log
 u_still g log h =
     let s = setting_of g U in
     let lu = local_of g U log in
@@ -129,7 +129,7 @@ u_still g log h =
     }
 
 -- of each class the active attempt, where there is one, has nothing to send and may not commit
-pub exchange_none : (g : Given) (log : Log) (c : ℕ) → IsQuiet g log → IsSound g.catalogue → IsClass g.catalogue c
+pub exchange_none : (g : Input) (log : Log) (c : ℕ) → IsQuiet g log → IsSound g.catalogue → IsClass g.catalogue c
     → attempt_due g.catalogue (base_of g log) c (active (setting_of g (home g.catalogue c)) c (at_home g c log)) ≡ None
 exchange_none g log c h sound l = elim (same_or_not c 0) [
   | inl p ↦ subst (λ k. attempt_due g.catalogue (base_of g log) k (active (setting_of g (home g.catalogue k)) k (at_home g k log)) ≡ None) (sym p)
@@ -141,6 +141,6 @@ exchange_none g log c h sound l = elim (same_or_not c 0) [
 ]
 
 -- what isn't due at a data module
-pub d_still : (g : Given) (log : Log) (d : ℕ) → IsQuiet g log → IsModule g.catalogue d
+pub d_still : (g : Input) (log : Log) (d : ℕ) → IsQuiet g log → IsModule g.catalogue d
     → dm.due (dm_views.home_of (setting_of g (D (dm_no d)))) (dm_views.view_of (setting_of g (D (dm_no d))) (at_module g d log)) ≡ None
 d_still g log d h m = none_due g log (D (dm_no d)) h (d_site g.catalogue d m)

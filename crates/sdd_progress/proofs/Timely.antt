@@ -1,10 +1,10 @@
 -- Where each `redeclare` is given when it may be, a lawful log has no data module down where it puts a list of classes in
 -- force, and puts none in force beyond those that are given.
-use Rattle.sdd_progress.proofs.All.{AllFewTicks, AreDone, AreTimely, Event, Given, IsLawful, IsModule, IsUpAtRedeclares, List, Log, Redeclare, Redeclares, Some, [], all_links, ap, append-nil, append_assoc, arith, calls_of, count_join, done, down_join, false, is_down, is_down_after, lawful_end, left, length, listed_first, mark_of, next_is_of_events, quiet, redeclares, redeclares_in, refl, round, settles_turn, subst, sym, ℕ, ◌++◌, ◌+◌, ◌<◌, ◌∙◌, ◌∷◌, ◌≡◌, ◌≤◌}
+use Rattle.sdd_progress.proofs.All.{AllFewTicks, AreDone, AreTimely, Event, Input, IsLawful, IsModule, IsUpAtRedeclares, List, Log, Redeclare, Redeclares, Some, [], all_links, ap, append-nil, append_assoc, arith, calls_of, count_join, done, down_join, false, is_down, is_down_after, lawful_end, left, length, listed_first, mark_of, next_is_of_events, quiet, redeclares, redeclares_in, refl, round, settles_turn, subst, sym, ℕ, ◌++◌, ◌+◌, ◌<◌, ◌∙◌, ◌∷◌, ◌≡◌, ◌≤◌}
 
 -- no data module is down
 
-up_there : (g : Given) (log : Log) (t : ℕ) (s : List Event × List Event) → mark_of g log s ≡ Some (Redeclares t)
+up_there : (g : Input) (log : Log) (t : ℕ) (s : List Event × List Event) → mark_of g log s ≡ Some (Redeclares t)
     → AreDone g (λ d. is_down d log) (redeclares log) s → AreTimely g → (d : ℕ) → IsModule g.catalogue d → is_down d log ≡ false
 up_there g log t (ws, []) m i timely d here =
     let f = listed_first g log (quiet (all_links g) (calls_of log)) (round (all_links g) (calls_of log)) ws t m in
@@ -14,19 +14,19 @@ up_there g log t (ws, []) m i timely d here =
     ∙ (timely (i.1.front ++ f.skip) f.rest whole).up d here
 up_there g log t (ws, x ∷ r) m i timely d here = absurd (cc)
 
-pub up_at_redeclares : (g : Given) (log : Log) → AllFewTicks g.events → IsLawful g log → AreTimely g → IsUpAtRedeclares g log
+pub up_at_redeclares : (g : Input) (log : Log) → AllFewTicks g.events → IsLawful g log → AreTimely g → IsUpAtRedeclares g log
 up_at_redeclares g log few h timely later before t is d here =
     let k = lawful_end g later (Redeclares t ∷ before) (subst (IsLawful g) is h) in
     up_there g before t (left g.events before) (next_is_of_events g before (Redeclares t) refl k.0) (done g before few k.1) timely d here
 
 -- and a list is left
 
-one_event : (g : Given) → AreTimely g → (e : Event) (before rest : List Event) → g.events ≡ before ++ e ∷ rest → redeclares_in before < length g.forces
+one_event : (g : Input) → AreTimely g → (e : Event) (before rest : List Event) → g.events ≡ before ++ e ∷ rest → redeclares_in before < length g.forces
     → redeclares_in before + redeclares_in (e ∷ []) < length g.forces
 one_event g timely Redeclare before rest is l = let m = (timely before rest is).left in omega (arith, m)
 one_event g timely _ before rest is l = omega (arith, l)
 
-each_event : (g : Given) → AreTimely g → (before events rest : List Event) → g.events ≡ (before ++ events) ++ rest → redeclares_in before < length g.forces
+each_event : (g : Input) → AreTimely g → (before events rest : List Event) → g.events ≡ (before ++ events) ++ rest → redeclares_in before < length g.forces
     → redeclares_in (before ++ events) < length g.forces
 each_event g timely before [] rest is l = subst (λ es. redeclares_in es < length g.forces) (sym (append-nil before)) l
 each_event g timely before (e ∷ events) rest is l =
@@ -37,7 +37,7 @@ each_event g timely before (e ∷ events) rest is l =
     subst (λ es. redeclares_in es < length g.forces) parts
     (each_event g timely (before ++ e ∷ []) events rest (is ∙ ap (λ es. es ++ rest) (sym parts)) (omega (arith, few, sum)))
 
-pub few_redeclares : (g : Given) (log : Log) → AllFewTicks g.events → IsLawful g log → AreTimely g → 1 ≤ length g.forces → redeclares log < length g.forces
+pub few_redeclares : (g : Input) (log : Log) → AllFewTicks g.events → IsLawful g log → AreTimely g → 1 ≤ length g.forces → redeclares log < length g.forces
 few_redeclares g log few h timely some =
     let d = (done g log few h).1 in
     let l = each_event g timely [] d.front (left g.events log).0 d.is (omega (arith, some)) in

@@ -1,5 +1,5 @@
 -- Of two committed transactions of different eras the first has the smaller timestamp.
-use Rattle.sdd_progress.proofs.All.{Commit, Committed, Did, Does, Entry, Given, HasCommit, IsCommitted, IsOfEarlierEra, Log, Redeclares, Site, Stands, T, [], act_local, ap, append_assoc, arith, clock, clock_grows, eras_of, false, greatest_bound, history, home, home_small, inl, inr, length, length-append, local_grows, local_of, number_of, refl, same_or_not, setting_of, sound_whole, stamp_ticks, start_act_of, start_in, start_within, subst, sym, tm_no, txn_no, ℕ, ◌*◌, ◌++◌, ◌+◌, ◌/◌, ◌<◌, ◌==◌, ◌∙◌, ◌∷◌, ◌≡◌, ◌≤◌}
+use Rattle.sdd_progress.proofs.All.{Commit, Committed, Did, Does, Entry, HasCommit, Input, IsCommitted, IsOfEarlierEra, Log, Redeclares, Site, Stands, T, [], act_local, ap, append_assoc, arith, clock, clock_grows, eras_of, false, greatest_bound, history, home, home_small, inl, inr, length, length-append, local_grows, local_of, number_of, refl, same_or_not, setting_of, sound_whole, stamp_ticks, start_act_of, start_in, start_within, subst, sym, tm_no, txn_no, ℕ, ◌*◌, ◌++◌, ◌+◌, ◌/◌, ◌<◌, ◌==◌, ◌∙◌, ◌∷◌, ◌≡◌, ◌≤◌}
 use Rattle.sdd_progress.proofs.ErasOf.{are_eras_of}
 use Rattle.sdd_progress.proofs.IdleAtRedeclares.{at_redeclare}
 use Rattle.sdd_progress.proofs.Apart.{committed_first, earlier, other_txn}
@@ -9,7 +9,7 @@ use Rattle.sdd_progress.proofs.Fronts.{in_longer, longer}
 use Rattle.sdd_progress.proofs.Known.{Known, started_before}
 use Rattle.sdd_obligations.specs.site_module.SiteLog as site
 
-module _ (g : Given) (log : Log) (w : Known g log) where
+module _ (g : Input) (log : Log) (w : Known g log) where
   -- of two declared transactions: the clocks were pushed by the greatest bound
   declared_rise : (x y : Committed) → IsOfEarlierEra (eras_of g log) (history log) x y → (x.start.class == 0) ≡ false → (y.start.class == 0) ≡ false
       → x.start.ts < y.start.ts

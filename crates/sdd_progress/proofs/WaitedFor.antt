@@ -1,6 +1,6 @@
 -- Where nothing goes on, a READ that waits does so because of another READ that waits: an earlier one of the class that it
 -- waits for, or one that holds back a WRITE of that class.
-use Rattle.sdd_progress.proofs.All.{Ask, Attempt, Change, ClassNo, ClassView, Cond, D, FitsGiven, Given, IsBelow, IsClass, IsEarlierReader, IsHolder, IsModule, IsQuiet, IsReader, IsRising, IsStuck, IsThere, List, Log, Msg, None, Null, Option, Pipe, Read, Setting, Site, Some, T, Ts, TxnNo, View, Write, [], active, all_of, and_left, and_right, any_at, ap, append-nil, append_assoc, arith, ask_for, at_home, at_map, at_module, class_at_place, class_in, class_in_view, class_rises, d_fair, dm_no, eqb-true, false, goes_through, hands_from, head, head_below, head_of, head_stuck, holds_back, home, home_of, home_small, if◌then◌else◌, inl, inr, is_met, is_put, le_is, least_at, list_any, local_of, map, nat_le, not, not_both, passed, passed_lasts, pipe, place_within, positive, puts_to, reached_is_passed, read_time, refl, same_number, same_site, sends_of_act, setting_of, since, site_self, slice_get, source_is_home, source_of, subst, suc, sym, t_table, time_at, time_of, tm_no, to_site, touches, true, true_or_false, view_of, waits, zero, ℕ, ◌&&◌, ◌++◌, ◌<◌, ◌==◌, ◌∙◌, ◌∷◌, ◌≡◌, ◌≤◌, ◌⊎◌}
+use Rattle.sdd_progress.proofs.All.{Ask, Attempt, Change, ClassNo, ClassView, Cond, D, FitsInput, Input, IsBelow, IsClass, IsEarlierReader, IsHolder, IsModule, IsQuiet, IsReader, IsRising, IsStuck, IsThere, List, Log, Msg, None, Null, Option, Pipe, Read, Setting, Site, Some, T, Ts, TxnNo, View, Write, [], active, all_of, and_left, and_right, any_at, ap, append-nil, append_assoc, arith, ask_for, at_home, at_map, at_module, class_at_place, class_in, class_in_view, class_rises, d_fair, dm_no, eqb-true, false, goes_through, hands_from, head, head_below, head_of, head_stuck, holds_back, home, home_of, home_small, if◌then◌else◌, inl, inr, is_met, is_put, le_is, least_at, list_any, local_of, map, nat_le, not, not_both, passed, passed_lasts, pipe, place_within, positive, puts_to, reached_is_passed, read_time, refl, same_number, same_site, sends_of_act, setting_of, since, site_self, slice_get, source_is_home, source_of, subst, suc, sym, t_table, time_at, time_of, tm_no, to_site, touches, true, true_or_false, view_of, waits, zero, ℕ, ◌&&◌, ◌++◌, ◌<◌, ◌==◌, ◌∙◌, ◌∷◌, ◌≡◌, ◌≤◌, ◌⊎◌}
 use Rattle.sdd_progress.proofs.Applied.{pipe_has_all}
 use Rattle.sdd_progress.proofs.Handed.{all_handed}
 use Rattle.sdd_progress.proofs.Lacking.{has_unanswered}
@@ -12,7 +12,7 @@ use Rattle.sdd_obligations.specs.site_module.SiteLog as site
 
 -- times in pipes
 
-pub pipe_rises : (g : Given) (log : Log) (c d : ℕ) → IsQuiet g log → FitsGiven g → IsClass g.catalogue c → IsModule g.catalogue d
+pub pipe_rises : (g : Input) (log : Log) (c d : ℕ) → IsQuiet g log → FitsInput g → IsClass g.catalogue c → IsModule g.catalogue d
     → IsRising (map time_of (all_of (pipe c (at_module g d log))))
 pipe_rises g log c d h good l m =
     let small = home_small g.catalogue good.sound c in
@@ -36,7 +36,7 @@ some_head [] k m e = cc
 some_head (x ∷ ms) k m e = (x, refl)
 
 -- an active attempt before t keeps a message before t next at some module
-below_attempt : (g : Given) (log : Log) (c : ℕ) (a : Attempt) (t : ℕ) → IsQuiet g log → FitsGiven g → IsClass g.catalogue c
+below_attempt : (g : Input) (log : Log) (c : ℕ) (a : Attempt) (t : ℕ) → IsQuiet g log → FitsInput g → IsClass g.catalogue c
     → active (setting_of g (home g.catalogue c)) c (at_home g c log) ≡ Some a → a.ts < t → IsBelow g log c t
 below_attempt g log c a t h good l e below =
     let u = has_unanswered g log c a h good l e in
@@ -52,7 +52,7 @@ below_attempt g log c a t h good l e below =
 in_class : (c : ℕ) (ms : List Msg) (k : ℕ) (m : Msg) → slice_get ms k ≡ Some m → goes_through c m ≡ true → IsThere (class_in c ms) m
 in_class c ms k m e f = kept_there (goes_through c) ms k m e f
 
-put_in_pipe : (g : Given) (log : Log) (c d k : ℕ) (m : Msg) → IsQuiet g log → FitsGiven g → IsClass g.catalogue c → IsModule g.catalogue d
+put_in_pipe : (g : Input) (log : Log) (c d k : ℕ) (m : Msg) → IsQuiet g log → FitsInput g → IsClass g.catalogue c → IsModule g.catalogue d
     → slice_get (puts_to (D (dm_no d)) (at_home g c log)) k ≡ Some m → goes_through c m ≡ true → IsThere (all_of (pipe c (at_module g d log))) m
 put_in_pipe g log c d k m h good l w e f =
     let i = in_class c (puts_to (D (dm_no d)) (at_home g c log)) k m e f in
@@ -63,7 +63,7 @@ put_in_pipe g log c d k m h good l w e f =
 none_there : (p : Pipe) → head p ≡ None → all_of p ≡ p.processed
 none_there p e = ap (λ ms. p.processed ++ ms) (no_head p.unprocessed e) ∙ append-nil p.processed
 
-asked : (g : Given) (log : Log) (j d n : ℕ) (c : ClassNo) (t : Ts) → IsQuiet g log → FitsGiven g
+asked : (g : Input) (log : Log) (j d n : ℕ) (c : ClassNo) (t : Ts) → IsQuiet g log → FitsInput g
     → IsModule g.catalogue d → (j == 0) ≡ false → IsClass g.catalogue j
     → c.0 ≡ j → slice_get (puts_to (home g.catalogue j) (at_module g d log)) n ≡ Some (Ask c t) → passed (pipe j (at_module g d log)) t.0 ≡ false
     → head (pipe j (at_module g d log)) ≡ None → IsBelow g log j t.0
@@ -123,7 +123,7 @@ conds_of (Some (Read ts of txn attempt conds uses)) = conds
 conds_of _ = []
 
 -- what a READ that waits lacks now it lacked when it began to wait
-ask_put : (g : Given) (log : Log) (c ts : ℕ) (conds : List Cond) (r : IsReader g log c ts conds) (n : ℕ) (x : Cond) → IsQuiet g log → FitsGiven g
+ask_put : (g : Input) (log : Log) (c ts : ℕ) (conds : List Cond) (r : IsReader g log c ts conds) (n : ℕ) (x : Cond) → IsQuiet g log → FitsInput g
     → slice_get conds n ≡ Some x → IsClass g.catalogue x.class.0 → passed (pipe x.class.0 (at_module g r.d log)) x.time.0 ≡ false
     → (k : ℕ) × (slice_get (puts_to (home g.catalogue x.class.0) (at_module g r.d log)) k ≡ Some (Ask x.class x.time))
 ask_put g log c ts conds r n x h good e l not_yet =
@@ -159,7 +159,7 @@ ask_put g log c ts conds r n x h good e l not_yet =
     (put.0, subst (λ z. slice_get (puts_to (home g.catalogue x.class.0) z) put.0 ≡ Some (Ask x.class x.time)) (sym i.is) put.1)
 
 -- the class for which a READ waits has a message before that time next at some module
-pub next_head : (g : Given) (log : Log) (c ts : ℕ) (conds : List Cond) (r : IsReader g log c ts conds) (n : ℕ) (x : Cond) → IsQuiet g log → FitsGiven g
+pub next_head : (g : Input) (log : Log) (c ts : ℕ) (conds : List Cond) (r : IsReader g log c ts conds) (n : ℕ) (x : Cond) → IsQuiet g log → FitsInput g
     → slice_get conds n ≡ Some x → (x.class.0 == 0) ≡ false → IsClass g.catalogue x.class.0
     → is_met (view_of (setting_of g (D (dm_no r.d))) (at_module g r.d log)) x ≡ false → IsBelow g log x.class.0 x.time.0
 next_head g log c ts conds r n x h good e z l unmet =
@@ -177,7 +177,7 @@ next_head g log c ts conds r n x h good e z l unmet =
 
 -- and so a READ of that class waits, or one that holds back a WRITE of it
 
-held_by : (g : Given) (log : Log) (j t d c : ℕ) (w : Ts) (of : ClassNo) (txn : TxnNo)
+held_by : (g : Input) (log : Log) (j t d c : ℕ) (w : Ts) (of : ClassNo) (txn : TxnNo)
     (changes : List Change) (o : Option Msg) → IsModule g.catalogue d → IsClass g.catalogue c
     → head (pipe j (at_module g d log)) ≡ Some (Write w of txn changes) → w.0 < t → waits c (at_module g d log) ≡ true
     → head (pipe c (at_module g d log)) ≡ o → holds_back j w.0 changes o ≡ true → IsHolder g log j t
@@ -203,7 +203,7 @@ held_by g log j t d c w of txn changes (Some (Read ts k n attempt conds uses)) m
     }
 held_by g log j t d c w of txn changes _ m l e b waiting at f = cc
 
-by_head : (g : Given) (log : Log) (j t d : ℕ) (m : Msg) → IsClass g.catalogue j → IsModule g.catalogue d
+by_head : (g : Input) (log : Log) (j t d : ℕ) (m : Msg) → IsClass g.catalogue j → IsModule g.catalogue d
     → head (pipe j (at_module g d log)) ≡ Some m → time_of m < t
     → IsStuck (setting_of g (D (dm_no d))) (at_module g d log) j (Some m) → IsEarlierReader g log j t ⊎ IsHolder g log j t
 by_head g log j t d (Read ts of txn attempt conds uses) l p e b stuck = inl (record {
@@ -224,7 +224,7 @@ by_head g log j t d (Write w of txn changes) l p e b stuck =
     inr (held_by g log j t d c.0 w of txn changes (head (pipe c.0 (at_module g d log))) p (omega (arith, here)) e b (and_left _ _ f) refl (and_right _ _ f))
 by_head g log j t d m l p e b stuck = absurd stuck
 
-pub next_reader : (g : Given) (log : Log) (j t : ℕ) → IsQuiet g log → IsClass g.catalogue j → IsBelow g log j t → IsEarlierReader g log j t ⊎ IsHolder g log j t
+pub next_reader : (g : Input) (log : Log) (j t : ℕ) → IsQuiet g log → IsClass g.catalogue j → IsBelow g log j t → IsEarlierReader g log j t ⊎ IsHolder g log j t
 next_reader g log j t h l b =
     let s : Setting = setting_of g (D (dm_no b.d)) in
     let stuck = head_stuck s (at_module g b.d log) j (omega (arith, l)) (d_still g log b.d h b.module_is) in

@@ -1,5 +1,5 @@
 -- Worked logs of a free class: a query is answered and a put applied before the event is over in which it is handed over.
-use Rattle.sdd_progress.proofs.AllWaits.{All-from_recursion, AreBlocks, Catalogue, Change, D, Deliver, EndsAnEvent, Force, Given, Hand, Int, IsAnsweredIn, IsAppliedIn, IsForce, IsFree, IsFreeClass, IsRejectedAfter, IsSimpleCycle, IsSound, IsTable, Joins, List, Log, Msg, OnACycle, P1, Put, Query, Read, Some, Step, Submit, T, Txn, Use, Vertical, Write, [], arith, class_no, dm_no, extended, frag_no, inl, inr, lit≤, local_of, negsuc, pos, protocol_in, queue, refl, rel_no, setting_of, slice_get, subst, suc, sym, take, time_at, tm_no, txn_no, zero, ℕ, ◌++◌, ◌==◌, ◌∙◌, ◌∷◌, ◌≡◌, ◌⊎◌}
+use Rattle.sdd_progress.proofs.AllWaits.{All-from_recursion, AreBlocks, Catalogue, Change, D, Deliver, EndsAnEvent, Force, Hand, Input, Int, IsAnsweredIn, IsAppliedIn, IsForce, IsFree, IsFreeClass, IsRejectedAfter, IsSimpleCycle, IsSound, IsTable, Joins, List, Log, Msg, OnACycle, P1, Put, Query, Read, Some, Step, Submit, T, Txn, Use, Vertical, Write, [], arith, class_no, dm_no, extended, frag_no, inl, inr, lit≤, local_of, negsuc, pos, protocol_in, queue, refl, rel_no, setting_of, slice_get, subst, suc, sym, take, time_at, tm_no, txn_no, zero, ℕ, ◌++◌, ◌==◌, ◌∙◌, ◌∷◌, ◌≡◌, ◌⊎◌}
 use Rattle.sdd_obligations.specs.catalog.Rules.{faults_of}
 use Rattle.sdd_progress.proofs.OfLawful.{answered_by_end, answered_or_rejected, applied_by_end, idle_starts}
 use Rattle.sdd_progress.proofs.WorkedLogs.{made_lawful, one_at_most}
@@ -31,7 +31,7 @@ query = record { name = []; tm = tm_no 1; statements = Query ((record { part = 1
 abbrev put : Txn
 put = record { name = []; tm = tm_no 1; statements = Put (rel_no 1) (Int (pos 1) ∷ Int (pos 1) ∷ []) ∷ [] }
 
-abbrev given_by : Txn → Given
+abbrev given_by : Txn → Input
 given_by txn =
     record { catalogue = alone; forces = in_force ∷ []; rows = [] ∷ []; txns = txn ∷ []; events = Submit (txn_no 1) ∷ Deliver (T (tm_no 1)) (D (dm_no 1)) 1 ∷ [] }
 
@@ -101,7 +101,7 @@ ends txn log e h = subst (EndsAnEvent (given_by txn)) (sym e) h
 abbrev of_query : List Use
 of_query = (record { number = 1; rel = rel_no 1; frags = frag_no 1 ∷ []; restrictions = [] }) ∷ []
 
-abbrev asked : Given
+abbrev asked : Input
 asked = given_by query
 
 abbrev read : Msg
@@ -124,7 +124,7 @@ worked_judged =
 
 -- the put
 
-abbrev putting : Given
+abbrev putting : Input
 putting = given_by put
 
 abbrev row_put : List Change

@@ -1,6 +1,6 @@
 -- Worked logs that meet what the laws ask. Two classes, each of which reads what the other writes: a query waits until the
 -- other class has passed its time, and is answered then; or it comes behind a later put, and is rejected.
-use Rattle.sdd_progress.proofs.AllWaits.{Act, AreConditionsOf, AreSubmittedOnce, Bool, Catalogue, Cond, Const, D, Deliver, Diagonal, Does, EndsAnEvent, Event, Force, Given, Int, IsAnsweredIn, IsLawful, IsPermitted, IsRejectOf, IsSound, IsStuck, Le, List, Log, None, P1, P3, Put, Query, Read, Records, Reject, Rejected, Setting, Some, Submit, T, Txn, Use, Vertical, WaitsSince, [], arith, class_no, d_fair, dm_no, extended, false, frag_no, inl, inr, lawful_permitted, lit<, lit≤, local_of, negsuc, next, one_if, passed, pipe_at, pos, refl, rel_no, same_or_not, setting_of, subst, suc, take, time_at, tm_no, true, txn_no, zero, ℕ, ◌++◌, ◌+◌, ◌==◌, ◌∷◌, ◌≡◌, ◌≢◌, ◌≤◌}
+use Rattle.sdd_progress.proofs.AllWaits.{Act, AreConditionsOf, AreSubmittedOnce, Bool, Catalogue, Cond, Const, D, Deliver, Diagonal, Does, EndsAnEvent, Event, Force, Input, Int, IsAnsweredIn, IsLawful, IsPermitted, IsRejectOf, IsSound, IsStuck, Le, List, Log, None, P1, P3, Put, Query, Read, Records, Reject, Rejected, Setting, Some, Submit, T, Txn, Use, Vertical, WaitsSince, [], arith, class_no, d_fair, dm_no, extended, false, frag_no, inl, inr, lawful_permitted, lit<, lit≤, local_of, negsuc, next, one_if, passed, pipe_at, pos, refl, rel_no, same_or_not, setting_of, subst, suc, take, time_at, tm_no, true, txn_no, zero, ℕ, ◌++◌, ◌+◌, ◌==◌, ◌∷◌, ◌≡◌, ◌≢◌, ◌≤◌}
 use Rattle.sdd_obligations.specs.catalog.Rules.{faults_of}
 use Rattle.sdd_progress.proofs.FromTable.{conditions_of}
 use Rattle.sdd_progress.proofs.OfLawful.{answered}
@@ -45,7 +45,7 @@ query =
 abbrev put : Txn
 put = record { name = []; tm = tm_no 2; statements = Put (rel_no 1) (Int (pos 1) ∷ Int (pos 1) ∷ []) ∷ [] }
 
-abbrev given_by : List Event → Given
+abbrev given_by : List Event → Input
 given_by events = record { catalogue = crossing; forces = in_force ∷ []; rows = [] ∷ []; txns = query ∷ put ∷ []; events = events }
 
 sound : IsSound crossing
@@ -53,7 +53,7 @@ unfolding faults_of
 sound = record { valid = refl; same = refl }
 
 -- a log that the definitions make is lawful
-pub made_lawful : (n : ℕ) (g : Given) (log : Log) → IsLawful g log → IsLawful g (extended n g log)
+pub made_lawful : (n : ℕ) (g : Input) (log : Log) → IsLawful g log → IsLawful g (extended n g log)
 made_lawful zero g log h = h
 made_lawful (suc n) g log h =
     elim (next g log) as (λ o. next g log ≡ o → IsLawful g (elim o as (λ _. Log) [ None ↦ log | Some e ↦ extended n g (e ∷ log) ])) [
@@ -75,7 +75,7 @@ up_to_65 = (record { class = class_no 2; time = time_at 65; frags = frag_no 1 �
 
 -- it waits; the ASK is delivered, and the NULL behind an acknowledgement
 
-abbrev waiting : Given
+abbrev waiting : Input
 waiting =
     given_by (Submit (txn_no 1) ∷ Deliver (T (tm_no 1)) (D (dm_no 1)) 1 ∷ Deliver (D (dm_no 1)) (T (tm_no 2)) 1 ∷ Deliver (T (tm_no 2)) (D (dm_no 1)) 2 ∷ [])
 
@@ -128,7 +128,7 @@ worked_passed = passed_later waiting 2 (dm_no 1) 65 two_more null_handed (permit
 
 -- it comes behind the later put
 
-abbrev rejecting : Given
+abbrev rejecting : Input
 rejecting = given_by (Submit (txn_no 1) ∷ Submit (txn_no 2) ∷ Deliver (T (tm_no 2)) (D (dm_no 1)) 1 ∷ Deliver (T (tm_no 1)) (D (dm_no 1)) 1 ∷ [])
 
 abbrev put_applied : Log

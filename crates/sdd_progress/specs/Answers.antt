@@ -1,6 +1,6 @@
 -- When an event is over, and what was answered or rejected by then.
 use Rattle.std.specs.Prelude.{ℕ, ◌++◌, ◌∷◌, ◌≡◌, ◌≤◌, Bool, List, None, Option, Some, false, slice_get, true}
-use Rattle.sdd_obligations.specs.invariants.All.{Answer, Apply, AreSubmittedOnce, Change, ClassNo, Cond, D, DmNo, Does, Entry, Given, IsLawful, IsSound, Log, Mark, Msg, Records, Redeclares, Round, Site, Ts, TxnNo, Write, head, next, pipe_at, touches}
+use Rattle.sdd_obligations.specs.invariants.All.{Answer, Apply, AreSubmittedOnce, Change, ClassNo, Cond, D, DmNo, Does, Entry, Input, IsLawful, IsSound, Log, Mark, Msg, Records, Redeclares, Round, Site, Ts, TxnNo, Write, head, next, pipe_at, touches}
 use Rattle.sdd_obligations.specs.history.declared.record.Rec.TheVariants.{Reject as Rejected}
 
 -- an entry that begins an event or a round
@@ -15,11 +15,11 @@ begins_or_ends None = true
 begins_or_ends (Some e) = begins_event e
 
 -- the event is over: nothing of it is due any more, and what comes next, if anything does, begins another
-abbrev pub IsEventOver : Given → Log → Type 0
+abbrev pub IsEventOver : Input → Log → Type 0
 IsEventOver g log = begins_or_ends (next g log) ≡ true
 
 -- a lawful log at whose end the last event is over; the catalogue is valid, and each transaction is submitted once
-pub record EndsAnEvent (g : Given) (log : Log) : Type 0 where
+pub record EndsAnEvent (g : Input) (log : Log) : Type 0 where
   pub sound : IsSound g.catalogue
   pub once : AreSubmittedOnce g.events
   pub lawful : IsLawful g log
@@ -45,7 +45,7 @@ pub record IsRejectedIn (d : DmNo) (c : ℕ) (txn : TxnNo) (attempt : ℕ) (entr
 
 -- Among these entries, which came after the log, is an Apply at module d that spoils the condition: of its class, at its
 -- time or later, and of a WRITE that changes one of its fragments.
-pub record IsSpoiltIn (g : Given) (log : Log) (d : DmNo) (cond : Cond) (entries : Log) : Type 0 where
+pub record IsSpoiltIn (g : Input) (log : Log) (d : DmNo) (cond : Cond) (entries : Log) : Type 0 where
   pub later : Log
   pub before : Log
   pub txn : TxnNo
@@ -60,7 +60,7 @@ pub record IsSpoiltIn (g : Given) (log : Log) (d : DmNo) (cond : Cond) (entries 
   pub touching : touches cond.frags changes ≡ true
 
 -- its Reject, by the class of one of these conditions, and before it an Apply that spoils that condition
-pub record IsRejectedAfter (g : Given) (log : Log) (d : DmNo) (c : ℕ) (txn : TxnNo) (attempt : ℕ) (conds : List Cond) (entries : Log) : Type 0 where
+pub record IsRejectedAfter (g : Input) (log : Log) (d : DmNo) (c : ℕ) (txn : TxnNo) (attempt : ℕ) (conds : List Cond) (entries : Log) : Type 0 where
   pub reject : IsRejectedIn d c txn attempt entries
   pub place : ℕ
   pub cond_by : Cond

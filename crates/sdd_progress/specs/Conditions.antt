@@ -1,6 +1,6 @@
 -- Where the conditions of a READ come from: the protocol table that was in force at the Start of its attempt.
 use Rattle.std.specs.Prelude.{ℕ, ◌++◌, ◌∷◌, ◌≡◌, ◌⊎◌, List, Some, slice_get}
-use Rattle.sdd_obligations.specs.invariants.All.{ClassNo, Cond, Diagonal, Does, FragNo, Given, Log, P2, P3, Protocol, Queued, bound, force_at, home, local_of, next_stamp, redeclares, setting_of, start_at}
+use Rattle.sdd_obligations.specs.invariants.All.{ClassNo, Cond, Diagonal, Does, FragNo, Input, Log, P2, P3, Protocol, Queued, bound, force_at, home, local_of, next_stamp, redeclares, setting_of, start_at}
 use Rattle.sdd_obligations.specs.protocol.declared.entry.Entry as line
 
 -- an entry of the table is a diagonal from class i to class j for the fragment, and has the protocol
@@ -29,7 +29,7 @@ pub record IsFromTable (table : List line.Entry) (i own p2 : ℕ) (cond : Cond) 
 
 -- The Start of the attempt of class c with this timestamp: each of these conditions comes from the table in force there;
 -- the time of P2 is the bound of the clock there.
-pub record AreConditionsOf (g : Given) (log : Log) (c ts : ℕ) (conds : List Cond) : Type 0 where
+pub record AreConditionsOf (g : Input) (log : Log) (c ts : ℕ) (conds : List Cond) : Type 0 where
   pub later : Log
   pub before : Log
   pub queued : Queued

@@ -1,12 +1,12 @@
 -- Worked logs with a settle at their end: of two transactions, each reads the fragment that the other's class writes.
 use Rattle.std.specs.Prelude.{◌≡◌, List, [], ◌∷◌, ◌++◌, None, length, refl}
-use Rattle.sdd_obligations.specs.All.{D, Deliver, Event, Given, Log, Lose, Settle, Submit, T, dm_no, extended, marks, next, tm_no, txn_no}
+use Rattle.sdd_obligations.specs.All.{D, Deliver, Event, Input, Log, Lose, Settle, Submit, T, dm_no, extended, marks, next, tm_no, txn_no}
 use Rattle.sdd_history_examples.specs.Catalogues.{crossing}
 use Rattle.sdd_history_examples.specs.Tables.{table_of_crossing}
 use Rattle.sdd_history_examples.specs.Texts.{query_and_put}
 
 -- what is given, with these events
-abbrev pub crossing_with : List Event → Given
+abbrev pub crossing_with : List Event → Input
 crossing_with events = record {
   catalogue = crossing;
   forces = record { catalogue = crossing; table = table_of_crossing } ∷ [];
@@ -26,7 +26,7 @@ late_query =
     ∷ Deliver (T (tm_no 1)) (D (dm_no 1)) 2
     ∷ []
 
-abbrev pub given_late_query : Given
+abbrev pub given_late_query : Input
 given_late_query = crossing_with (late_query ++ Settle ∷ [])
 
 abbrev pub log_of_late_query : Log
@@ -44,7 +44,7 @@ all_lost =
     ∷ Lose (T (tm_no 2)) (D (dm_no 1)) 1
     ∷ []
 
-abbrev pub given_all_lost : Given
+abbrev pub given_all_lost : Input
 given_all_lost = crossing_with (all_lost ++ Settle ∷ [])
 
 abbrev pub log_of_all_lost : Log

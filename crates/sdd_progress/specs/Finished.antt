@@ -1,15 +1,15 @@
 -- A log in which everything is finished: nothing that was submitted is left to be done.
 use Rattle.std.specs.Prelude.{ℕ, ◌≡◌, ◌≤◌, [], None}
-use Rattle.sdd_obligations.specs.All.{Given, IsClass, IsModule, Log, T, active, holds, home, local_of, pipe, queue, setting_of, tm_no}
+use Rattle.sdd_obligations.specs.All.{Input, IsClass, IsModule, Log, T, active, holds, home, local_of, pipe, queue, setting_of, tm_no}
 use Rattle.sdd_progress.specs.Quiet.{at_home, at_module}
 
 -- every message of every pipe is processed, and no attempt is under way
-pub record IsIdle (g : Given) (log : Log) : Type 0 where
+pub record IsIdle (g : Input) (log : Log) : Type 0 where
   pub processed : (c d : ℕ) → IsClass g.catalogue c → IsModule g.catalogue d → (pipe c (at_module g d log)).unprocessed ≡ []
   pub no_attempt : (c : ℕ) → IsClass g.catalogue c → active (setting_of g (home g.catalogue c)) c (at_home g c log) ≡ None
 
 -- and no transaction waits in a queue, and no transaction module is on hold
-pub record IsFinished (g : Given) (log : Log) : Type 0 where
+pub record IsFinished (g : Input) (log : Log) : Type 0 where
   pub idle : IsIdle g log
   pub no_queue : (c : ℕ) → IsClass g.catalogue c → queue (setting_of g (home g.catalogue c)) c (at_home g c log) ≡ []
   pub off_hold : (t : ℕ) → 1 ≤ t → t ≤ g.catalogue.tms

@@ -1,31 +1,31 @@
 -- What is needed of what is given, and of a log, so that a log at which nothing goes on is finished.
 use Rattle.std.specs.Prelude.{ℕ, ◌≡◌, ◌≤◌, ◌++◌, ◌∷◌, false}
-use Rattle.sdd_obligations.specs.All.{FitsGiven, Given, IsEraOf, IsForce, IsModule, Log, Redeclares, force_at, is_down, redeclares}
+use Rattle.sdd_obligations.specs.All.{FitsInput, Input, IsEraOf, IsForce, IsModule, Log, Redeclares, force_at, is_down, redeclares}
 use Rattle.sdd_progress.specs.Finished.{IsIdle}
 use Rattle.sdd_progress.specs.Quiet.{IsQuiet}
 
 -- what is given fits its catalogue; list k of classes is an era of the catalogue, and has its protocol table
-pub record IsSoundList (g : Given) (k : ℕ) : Type 0 where
-  pub fits : FitsGiven g
+pub record IsSoundList (g : Input) (k : ℕ) : Type 0 where
+  pub fits : FitsInput g
   pub era : IsEraOf g.catalogue (force_at g k).catalogue
   pub table : IsForce (force_at g k)
 
 -- each list that the log put in force
-abbrev pub HasSoundLists : Given → Log → Type 0
+abbrev pub HasSoundLists : Input → Log → Type 0
 HasSoundLists g log = (k : ℕ) → k ≤ redeclares log → IsSoundList g k
 
 -- wherever the log put a further list in force, nothing went on and all was idle
-abbrev pub IsIdleAtRedeclares : Given → Log → Type 0
+abbrev pub IsIdleAtRedeclares : Input → Log → Type 0
 IsIdleAtRedeclares g log = (later before : Log) (t : ℕ) → log ≡ later ++ Redeclares t ∷ before → IsQuiet g before × IsIdle g before
 
 -- and no data module was down
-abbrev pub IsUpAtRedeclares : Given → Log → Type 0
+abbrev pub IsUpAtRedeclares : Input → Log → Type 0
 IsUpAtRedeclares g log =
     (later before : Log) (t : ℕ) → log ≡ later ++ Redeclares t ∷ before → (d : ℕ) → IsModule g.catalogue d → is_down d before ≡ false
 
 -- what is given fits its catalogue, and the list in force at the beginning, which is that of the catalogue, has its
 -- protocol table
-pub record HasOneTable (g : Given) : Type 0 where
-  pub fits : FitsGiven g
+pub record HasOneTable (g : Input) : Type 0 where
+  pub fits : FitsInput g
   pub table : IsForce (force_at g 0)
   pub same : (force_at g 0).catalogue ≡ g.catalogue

@@ -1,11 +1,11 @@
 -- A log at which nothing goes on: nothing is under way on a link, nothing is due at a site, and every data module takes
 -- part.
 use Rattle.std.specs.Prelude.{ℕ, ◌≡◌, false, true, None}
-use Rattle.sdd_obligations.specs.All.{D, Given, IsModule, IsPermitted, Log, all_links, calls_of, dm_no, hand_due, home, is_down, local_of, quiet, site_due}
+use Rattle.sdd_obligations.specs.All.{D, Input, IsModule, IsPermitted, Log, all_links, calls_of, dm_no, hand_due, home, is_down, local_of, quiet, site_due}
 use Rattle.sdd_obligations.specs.site_module.SiteLog as site
 
 -- nothing is in flight and nothing unacknowledged; no module is down; and neither an act nor a hand is due
-pub record IsQuiet (g : Given) (log : Log) : Type 0 where
+pub record IsQuiet (g : Input) (log : Log) : Type 0 where
   pub permitted : IsPermitted g log
   pub links : quiet (all_links g) (calls_of log) ≡ true
   pub up : (d : ℕ) → IsModule g.catalogue d → is_down d log ≡ false
@@ -13,8 +13,8 @@ pub record IsQuiet (g : Given) (log : Log) : Type 0 where
   pub no_hand : hand_due g log ≡ None
 
 -- the log of data module d, and that of the site that runs class c
-abbrev pub at_module : Given → ℕ → Log → site.Log
+abbrev pub at_module : Input → ℕ → Log → site.Log
 at_module g d log = local_of g (D (dm_no d)) log
 
-abbrev pub at_home : Given → ℕ → Log → site.Log
+abbrev pub at_home : Input → ℕ → Log → site.Log
 at_home g c log = local_of g (home g.catalogue c) log

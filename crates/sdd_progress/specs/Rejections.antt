@@ -1,13 +1,13 @@
 -- Why a data module rejects a READ, and what processes a READ that waits.
 use Rattle.std.specs.Prelude.{ℕ, ◌≡◌, ◌≤◌, List, Some, false, slice_get, true}
-use Rattle.sdd_obligations.specs.invariants.All.{Answer, Change, ClassNo, Cond, D, DmNo, Given, Log, Read, Rec, Ts, TxnNo, Use, Write, head, local_of, pipe, pipe_at, touches, waits}
+use Rattle.sdd_obligations.specs.invariants.All.{Answer, Change, ClassNo, Cond, D, DmNo, Input, Log, Read, Rec, Ts, TxnNo, Use, Write, head, local_of, pipe, pipe_at, touches, waits}
 use Rattle.sdd_obligations.specs.site_module.SiteLog as site
 use Rattle.sdd_obligations.specs.invariants.Causes.{IsWriter}
 
 -- The Reject of an attempt of class c at module d: its READ stands at the head of the pipe and doesn't wait; one of its
 -- conditions names the class `by`, and its time is that of the WRITE or before; the WRITE, of that class, was processed
 -- there, and changes a fragment that the condition names. It was committed, and applied there.
-pub record IsRejectOf (g : Given) (log : Log) (d : DmNo) (c : ℕ) (txn : TxnNo) (attempt : ℕ) (by : ClassNo) (write : Ts) : Type 0 where
+pub record IsRejectOf (g : Input) (log : Log) (d : DmNo) (c : ℕ) (txn : TxnNo) (attempt : ℕ) (by : ClassNo) (write : Ts) : Type 0 where
   pub ts : Ts
   pub of : ClassNo
   pub conds : List Cond

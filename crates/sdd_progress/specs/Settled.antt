@@ -1,15 +1,15 @@
 -- A complete log at whose end the links are quiet and every data module takes part.
 use Rattle.std.specs.Prelude.{ℕ, ◌≡◌, false, true, None}
-use Rattle.sdd_obligations.specs.All.{Given, IsLawful, IsModule, Log, all_links, calls_of, is_down, next, quiet}
+use Rattle.sdd_obligations.specs.All.{Input, IsLawful, IsModule, Log, all_links, calls_of, is_down, next, quiet}
 use Rattle.sdd_progress.specs.Premises.{IsUpAtRedeclares}
 
 -- nothing is next, and no data module is down, nor was one where a further list of classes was put in force
-pub record IsAtEnd (g : Given) (log : Log) : Type 0 where
+pub record IsAtEnd (g : Input) (log : Log) : Type 0 where
   pub lawful : IsLawful g log
   pub complete : next g log ≡ None
   pub up_before : IsUpAtRedeclares g log
   pub up : (d : ℕ) → IsModule g.catalogue d → is_down d log ≡ false
 
-pub record IsSettled (g : Given) (log : Log) : Type 0 where
+pub record IsSettled (g : Input) (log : Log) : Type 0 where
   pub at_end : IsAtEnd g log
   pub links : quiet (all_links g) (calls_of log) ≡ true

@@ -1,13 +1,13 @@
 -- Where a `redeclare` may stand among the events that are given: it puts the next list of classes in force, at all
 -- transaction modules at once, and needs every data module for that.
 use Rattle.std.specs.Prelude.{ℕ, suc, ◌≡◌, ◌<◌, List, ◌∷◌, ◌++◌, false, length}
-use Rattle.sdd_obligations.specs.All.{Event, Given, IsModule, Redeclare, is_down_after, redeclares_in}
+use Rattle.sdd_obligations.specs.All.{Event, Input, IsModule, Redeclare, is_down_after, redeclares_in}
 
 -- after these events: a list is left, and no data module is down
-pub record MayRedeclare (g : Given) (events : List Event) : Type 0 where
+pub record MayRedeclare (g : Input) (events : List Event) : Type 0 where
   pub left : suc (redeclares_in events) < length g.forces
   pub up : (d : ℕ) → IsModule g.catalogue d → is_down_after d events ≡ false
 
 -- each `redeclare` stands where it may
-abbrev pub AreTimely : Given → Type 0
+abbrev pub AreTimely : Input → Type 0
 AreTimely g = (front rest : List Event) → g.events ≡ front ++ Redeclare ∷ rest → MayRedeclare g front

@@ -1,7 +1,7 @@
 -- Worked logs. An undeclared query and a put beside it: the put is applied before the query comes, or comes while the query
 -- waits. And a query that is rejected in the event in which it comes.
 use Rattle.std.specs.Prelude.{ℕ, ◌++◌, ◌∷◌, List, Some, [], negsuc, pos, refl, take}
-use Rattle.sdd_obligations.specs.invariants.All.{Attempt, Catalogue, Change, Class, Cond, D, Deliver, Diagonal, Event, Fragment, Given, Log, P2, P3, Put, Query, Queued, Submit, T, Tick, Txn, U, Use, Vertical, base_of, begins, class_no, dm_no, frag_no, local_of, time_at, tm_no, txn_no}
+use Rattle.sdd_obligations.specs.invariants.All.{Attempt, Catalogue, Change, Class, Cond, D, Deliver, Diagonal, Event, Fragment, Input, Log, P2, P3, Put, Query, Queued, Submit, T, Tick, Txn, U, Use, Vertical, base_of, begins, class_no, dm_no, frag_no, local_of, time_at, tm_no, txn_no}
 use Rattle.sdd_obligations.specs.base.Numbers.{rel_no}
 use Rattle.sdd_obligations.specs.base.declared.restriction.Op.TheVariants.{Le}
 use Rattle.sdd_obligations.specs.base.declared.value.Value.TheVariants.{Int}
@@ -38,7 +38,7 @@ one_writer =
     ((record { name = 97 ∷ []; rel = rel_no 1; least = negsuc 9223372036854775807; greatest = pos 9223372036854775807; copies = dm_no 1 ∷ [] }) ∷ [])
     ((record { name = 119 ∷ []; tm = tm_no 1; reads = []; writes = frag_no 1 ∷ [] }) ∷ [])
 
-abbrev pub beside_put : List Event → Given
+abbrev pub beside_put : List Event → Input
 beside_put events = record {
   catalogue = one_writer;
   forces = (record { catalogue = one_writer; table = (record { edge = Vertical (class_no 1); block = 0; protocol = P1 }) ∷ [] }) ∷ [];
@@ -62,7 +62,7 @@ changes_of_put = (record { frag = frag_no 1; key = pos 1; row = Some (Int (pos 1
 
 -- the put is applied before the READ comes, which waits, and is answered
 
-abbrev pub given_put_first : Given
+abbrev pub given_put_first : Input
 given_put_first =
     beside_put
     (both_submitted
@@ -105,7 +105,7 @@ put_commits = record {
 
 -- the READ comes first and waits; then the put's WRITE is handed over
 
-abbrev pub given_put_later : Given
+abbrev pub given_put_later : Input
 given_put_later = beside_put (both_submitted ++ Deliver U (D (dm_no 1)) 1 ∷ Deliver (T (tm_no 1)) (D (dm_no 1)) 1 ∷ [])
 
 abbrev pub put_handed : Log
@@ -131,7 +131,7 @@ query_low tm = record {
   statements = Query ((record { part = 1; column = 2 }) ∷ []) (rel_no 1 ∷ []) (Const (record { part = 1; column = 1 }) Le (Int (pos 9)) ∷ []) ∷ [];
 }
 
-abbrev pub given_spoilt : Given
+abbrev pub given_spoilt : Input
 given_spoilt = record {
   catalogue = three_classes;
   forces =

@@ -1,7 +1,7 @@
 ghost use Rattle.std.specs.Prelude.{◌≡◌, ◌≤◌, ◌*◌, length};
 ghost use Rattle.sdd_history_examples.specs.Catalogues.{crossing};
 ghost use Rattle.sdd_obligations.specs.All.{attempts, history};
-ghost use Rattle.sdd_lawful.specs.Given.{one_era};
+ghost use Rattle.sdd_lawful.specs.SoundInput.{one_era};
 ghost use Rattle.sdd_progress.specs.Examples.{given_late_query, log_of_late_query};
 ghost use Rattle.sdd_progress.specs.Few.{AreFewRejected, rejected_of};
 ghost use Rattle.sdd_progress.specs.Rejects.{KeepsRejects};

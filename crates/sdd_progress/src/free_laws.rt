@@ -1,5 +1,5 @@
 ghost use Rattle.std.specs.Prelude.{◌≡◌, ◌≤◌, ◌↔◌, ◌++◌, ◌∷◌, ℕ, List, None, [], false, true};
-ghost use Rattle.sdd_obligations.specs.invariants.All.{Catalogue, Change, ClassNo, Cond, D, DmNo, Does, Given, Hand, IsPermitted, IsTable, Log, Msg, Read, Rec, Records, Site, Ts, TxnNo, Use, Write, active, home, is_wait, local_of, on_hold, queue, setting_of};
+ghost use Rattle.sdd_obligations.specs.invariants.All.{Catalogue, Change, ClassNo, Cond, D, DmNo, Does, Hand, Input, IsPermitted, IsTable, Log, Msg, Read, Rec, Records, Site, Ts, TxnNo, Use, Write, active, home, is_wait, local_of, on_hold, queue, setting_of};
 ghost use Rattle.sdd_obligations.specs.graph.Edges.{IsClassOf};
 ghost use Rattle.sdd_obligations.specs.protocol.declared.entry.Entry as line;
 ghost use Rattle.sdd_obligations.specs.history.declared.record.Rec.TheVariants.{Reject as Rejected};
@@ -15,11 +15,11 @@ pub fn law_free_by_blocks()
 
 /// No attempt of a free class has a Wait or a Reject.
 pub fn law_free_undisturbed()
-    ensures waits_never { (given : Given) (log : Log) (class : ℕ) (d : DmNo) (rec : Rec)
+    ensures waits_never { (given : Input) (log : Log) (class : ℕ) (d : DmNo) (rec : Rec)
         (sends : List (Site × Msg)) → IsFreeClass given class
         → IsPermitted given (Does (D d) (Records class rec sends) ∷ log)
         → is_wait rec ≡ true → ⊥ }
-    ensures rejected_never { (given : Given) (log : Log) (class : ℕ) (d : DmNo) (txn : TxnNo)
+    ensures rejected_never { (given : Input) (log : Log) (class : ℕ) (d : DmNo) (txn : TxnNo)
         (attempt : ℕ) (dm : DmNo) (by : ClassNo) (write : Ts) (sends : List (Site × Msg))
         → IsFreeClass given class
         → IsPermitted given
@@ -29,14 +29,14 @@ pub fn law_free_undisturbed()
 /// A READ of a free class is answered, and a WRITE of one applied, before the event is over in
 /// which it is handed over.
 pub fn law_free_processed()
-    ensures answered { (given : Given) (class : ℕ) (d : DmNo) (from : Site) (number : ℕ)
+    ensures answered { (given : Input) (class : ℕ) (d : DmNo) (from : Site) (number : ℕ)
         (later log : Log) (ts : Ts) (of : ClassNo) (txn : TxnNo) (attempt : ℕ)
         (conds : List Cond) (uses : List Use)
         → IsFreeClass given class → 1 ≤ d.0 → d.0 ≤ given.catalogue.dms → of.0 ≡ class
         → EndsAnEvent given
         (later ++ Hand from (D d) number (Read ts of txn attempt conds uses) ∷ log)
         → IsAnsweredIn d class txn attempt later }
-    ensures applied { (given : Given) (class : ℕ) (d : DmNo) (from : Site) (number : ℕ)
+    ensures applied { (given : Input) (class : ℕ) (d : DmNo) (from : Site) (number : ℕ)
         (later log : Log) (ts : Ts) (of : ClassNo) (txn : TxnNo) (changes : List Change)
         → IsFreeClass given class → 1 ≤ d.0 → d.0 ≤ given.catalogue.dms → of.0 ≡ class
         → EndsAnEvent given (later ++ Hand from (D d) number (Write ts of txn changes) ∷ log)
@@ -46,7 +46,7 @@ pub fn law_free_processed()
 /// Where an event is over, a class whose site isn't on hold has nothing in its queue while it is
 /// idle: the head of its queue starts at once.
 pub fn law_idle_starts()
-    ensures { (given : Given) (class : ℕ) (log : Log) → EndsAnEvent given log
+    ensures { (given : Input) (class : ℕ) (log : Log) → EndsAnEvent given log
         → IsClassOf given.catalogue class
         → on_hold (view_of (setting_of given (home given.catalogue class))
         (local_of given (home given.catalogue class) log)) ≡ false

@@ -1,7 +1,7 @@
 ghost use Rattle.std.specs.List.{list_any};
 ghost use Rattle.std.specs.Prelude.{◌≡◌, ◌++◌, ◌∷◌, ℕ, false, true, Bool, List, [], Some, length, slice_get};
-ghost use Rattle.sdd_obligations.specs.All.{AreAllApplied, AreSubmittedOnce, Change, Commit, D, Event, Given, History, IsLawful, IsModule, IsSerial, Log, Rec, RelNo, Reply, Rests, Row, Settle, TxnNo, all_links, calls_of, contents, copy_at, dated, dm_no, has_copy, history, is_down, items_of, local_of, quiet, redeclares, rows_in_fragment, run, setting_of, txn_no};
-ghost use Rattle.sdd_lawful.specs.Given.{AreErasOf, AreNumbered, HasSoundData, SubmitGiven};
+ghost use Rattle.sdd_obligations.specs.All.{AreAllApplied, AreSubmittedOnce, Change, Commit, D, Event, History, Input, IsLawful, IsModule, IsSerial, Log, Rec, RelNo, Reply, Rests, Row, Settle, TxnNo, all_links, calls_of, contents, copy_at, dated, dm_no, has_copy, history, is_down, items_of, local_of, quiet, redeclares, rows_in_fragment, run, setting_of, txn_no};
+ghost use Rattle.sdd_lawful.specs.SoundInput.{AreErasOf, AreNumbered, HasSoundData, SubmitGiven};
 ghost use Rattle.sdd_progress.specs.Committed.{AllCommitted, IsNotLeft, WasCommitted};
 ghost use Rattle.sdd_progress.specs.Eras.{eras_of};
 ghost use Rattle.sdd_progress.specs.Finished.{IsFinished, IsIdle};
@@ -13,28 +13,28 @@ ghost use Rattle.sdd_progress.specs.Settled.{IsAtEnd, IsSettled};
 /// no transaction waits in a queue, no transaction module is on hold. This assumes that all was idle
 /// where the lists of classes were put in force, of which `law_idle_at_redeclares` speaks.
 pub fn law_finished()
-    ensures idle { (given : Given) (log : Log) → IsQuiet given log
+    ensures idle { (given : Input) (log : Log) → IsQuiet given log
         → IsSoundList given (redeclares log) → IsIdleAtRedeclares given log → IsIdle given log }
-    ensures finished { (given : Given) (log : Log) → IsQuiet given log
+    ensures finished { (given : Input) (log : Log) → IsQuiet given log
         → IsSoundList given (redeclares log) → IsIdleAtRedeclares given log → IsFinished given log }
 {}
 
 /// A law: wherever a lawful log put a further list of classes in force nothing went on and all was
 /// idle, if no data module was down there.
 pub fn law_idle_at_redeclares()
-    ensures { (given : Given) (log : Log) → AreSubmittedOnce given.events → IsLawful given log
+    ensures { (given : Input) (log : Log) → AreSubmittedOnce given.events → IsLawful given log
         → HasSoundLists given log → IsUpAtRedeclares given log → IsIdleAtRedeclares given log }
 {}
 
 /// A law: the lists of classes that a log put in force are its eras.
 pub fn law_eras_of_log()
-    ensures { (given : Given) (log : Log) → HasSoundLists given log
+    ensures { (given : Input) (log : Log) → HasSoundLists given log
         → AreErasOf given log (eras_of given log) }
 {}
 
 /// A law: where nothing goes on, every transaction that was submitted is committed.
 pub fn law_committed()
-    ensures { (given : Given) (log : Log) → IsQuiet given log → HasSoundLists given log
+    ensures { (given : Input) (log : Log) → IsQuiet given log → HasSoundLists given log
         → IsIdleAtRedeclares given log → AreNumbered given log → AllCommitted (history log) }
 {}
 
@@ -53,16 +53,16 @@ pub fn law_none_left()
 /// each data module has what the history says. So each copy has what one plain database leaves that
 /// runs the transactions along a serial order.
 pub fn law_copies()
-    ensures applied { (given : Given) (log : Log) (f d : ℕ) → IsQuiet given log
+    ensures applied { (given : Input) (log : Log) (f d : ℕ) → IsQuiet given log
         → HasSoundLists given log → IsIdleAtRedeclares given log
         → has_copy given.catalogue d f ≡ true
         → AreAllApplied (history log) f d (length (history log)) }
-    ensures own { (given : Given) (rows : List (RelNo × Row)) (log : Log) (f d : ℕ)
+    ensures own { (given : Input) (rows : List (RelNo × Row)) (log : Log) (f d : ℕ)
         → IsQuiet given log → HasSoundLists given log
         → HasSoundData given rows → has_copy given.catalogue d f ≡ true
         → contents f (dated (setting_of given (D (dm_no d))) (local_of given (D (dm_no d)) log))
         ≡ copy_at given.catalogue rows (history log) d (length (history log)) f }
-    ensures serial { (given : Given) (rows : List (RelNo × Row)) (log : Log) (order : List TxnNo)
+    ensures serial { (given : Input) (rows : List (RelNo × Row)) (log : Log) (order : List TxnNo)
         (f d : ℕ) → IsQuiet given log → HasSoundLists given log → IsIdleAtRedeclares given log
         → HasSoundData given rows → IsSerial given.catalogue (history log) order
         → has_copy given.catalogue d f ≡ true
@@ -74,7 +74,7 @@ pub fn law_copies()
 /// A law: between events, where no note, act or hand is due, a lawful log at which the links are
 /// quiet and no data module is down is one at which nothing goes on.
 pub fn law_resting()
-    ensures { (given : Given) (log : Log) → AreSubmittedOnce given.events → Rests given log
+    ensures { (given : Input) (log : Log) → AreSubmittedOnce given.events → Rests given log
         → quiet (all_links given) (calls_of log) ≡ true
         → ((d : ℕ) → IsModule given.catalogue d → is_down d log ≡ false) → IsQuiet given log }
 {}
@@ -83,12 +83,12 @@ pub fn law_resting()
 /// nothing goes on. So all is finished, and all that was submitted is committed. Where the last event
 /// is a settle, the links are quiet.
 pub fn law_settled()
-    ensures quiet { (given : Given) (log : Log) → AreSubmittedOnce given.events
+    ensures quiet { (given : Input) (log : Log) → AreSubmittedOnce given.events
         → IsSettled given log → IsQuiet given log }
-    ensures finished { (given : Given) (log : Log) → HasSoundLists given log
+    ensures finished { (given : Input) (log : Log) → HasSoundLists given log
         → AreSubmittedOnce given.events → IsSettled given log → IsFinished given log }
-    ensures committed { (given : Given) (log : Log) → HasSoundLists given log → SubmitGiven given
+    ensures committed { (given : Input) (log : Log) → HasSoundLists given log → SubmitGiven given
         → IsSettled given log → AllCommitted (history log) }
-    ensures behind_settle { (given : Given) (log : Log) (events : List Event)
+    ensures behind_settle { (given : Input) (log : Log) (events : List Event)
         → given.events ≡ events ++ Settle ∷ [] → IsAtEnd given log → IsSettled given log }
 {}

@@ -1,5 +1,5 @@
 ghost use Rattle.std.specs.Prelude.{◌≡◌, ◌<◌, ◌≤◌, ℕ, true, List, Some, slice_get};
-ghost use Rattle.sdd_obligations.specs.All.{Attempt, Change, ClassNo, Cond, DmNo, FitsGiven, Given, IsClass, IsModule, IsPermitted, IsSound, Log, Read, Site, Ts, TxnNo, Use, Write, active, hands_from, head, home, is_link, local_of, pipe_at, puts_to, redeclares, setting_of};
+ghost use Rattle.sdd_obligations.specs.All.{Attempt, Change, ClassNo, Cond, DmNo, FitsInput, Input, IsClass, IsModule, IsPermitted, IsSound, Log, Read, Site, Ts, TxnNo, Use, Write, active, hands_from, head, home, is_link, local_of, pipe_at, puts_to, redeclares, setting_of};
 ghost use Rattle.sdd_progress.specs.Asked.{IsUnanswered};
 ghost use Rattle.sdd_progress.specs.Going.{IsGoing};
 ghost use Rattle.sdd_progress.specs.Premises.{IsIdleAtRedeclares, IsSoundList};
@@ -9,7 +9,7 @@ ghost use Rattle.sdd_progress.specs.Waiting.{IsReader};
 /// A law: where nothing goes on, each message that was put on a link is handed over, in the order of
 /// the puts.
 pub fn law_handed()
-    ensures { (given : Given) (log : Log) (from to : Site) → IsQuiet given log
+    ensures { (given : Input) (log : Log) (from to : Site) → IsQuiet given log
         → is_link given.catalogue.tms given.catalogue.dms from to ≡ true
         → hands_from from (local_of given to log) ≡ puts_to to (local_of given from log) }
 {}
@@ -17,8 +17,8 @@ pub fn law_handed()
 /// A law: an attempt under way goes on as long as answers come: where its exchange isn't over, it
 /// waits for the answer of a module, or has something to send.
 pub fn law_exchanges()
-    ensures { (given : Given) (log : Log) (class : ℕ) (attempt : Attempt) → IsPermitted given log
-        → FitsGiven given → IsClass given.catalogue class
+    ensures { (given : Input) (log : Log) (class : ℕ) (attempt : Attempt) → IsPermitted given log
+        → FitsInput given → IsClass given.catalogue class
         → active (setting_of given (home given.catalogue class)) class (at_home given class log)
         ≡ Some attempt → IsGoing attempt.exchange }
 {}
@@ -26,8 +26,8 @@ pub fn law_exchanges()
 /// A law: where nothing goes on, a module has the READ of each attempt under way, and hasn't
 /// processed it.
 pub fn law_unanswered()
-    ensures { (given : Given) (log : Log) (class : ℕ) (attempt : Attempt) → IsQuiet given log
-        → FitsGiven given → IsClass given.catalogue class
+    ensures { (given : Input) (log : Log) (class : ℕ) (attempt : Attempt) → IsQuiet given log
+        → FitsInput given → IsClass given.catalogue class
         → active (setting_of given (home given.catalogue class)) class (at_home given class log)
         ≡ Some attempt → IsUnanswered given log class attempt.ts }
 {}
@@ -35,7 +35,7 @@ pub fn law_unanswered()
 /// A law: a READ of class 0 that is next at a module comes after the WRITEs of other classes that are
 /// next there, and its conditions have its own time. So it holds none of them back.
 pub fn law_class_zero()
-    ensures after_writes { (given : Given) (log : Log) (class : ℕ) (d : DmNo) (ts : Ts)
+    ensures after_writes { (given : Input) (log : Log) (class : ℕ) (d : DmNo) (ts : Ts)
         (of : ClassNo) (txn : TxnNo) (attempt : ℕ) (conds : List Cond) (uses : List Use)
         (write : Ts) (by : ClassNo) (writer : TxnNo) (changes : List Change)
         → IsSound given.catalogue → IsPermitted given log → 1 ≤ class
@@ -43,7 +43,7 @@ pub fn law_class_zero()
         → head (pipe_at given 0 d log) ≡ Some (Read ts of txn attempt conds uses)
         → head (pipe_at given class d log) ≡ Some (Write write by writer changes)
         → write.0 < ts.0 }
-    ensures own_time { (given : Given) (log : Log) (d : DmNo) (ts : Ts) (of : ClassNo)
+    ensures own_time { (given : Input) (log : Log) (d : DmNo) (ts : Ts) (of : ClassNo)
         (txn : TxnNo) (attempt : ℕ) (conds : List Cond) (uses : List Use) (place : ℕ)
         (cond : Cond) → IsPermitted given log
         → head (pipe_at given 0 d log) ≡ Some (Read ts of txn attempt conds uses)
@@ -52,7 +52,7 @@ pub fn law_class_zero()
 
 /// A law: where nothing goes on, no READ waits: each has conditions of the list of classes in force.
 pub fn law_none_waits()
-    ensures { (given : Given) (log : Log) → IsQuiet given log
+    ensures { (given : Input) (log : Log) → IsQuiet given log
         → IsSoundList given (redeclares log) → IsIdleAtRedeclares given log → (class ts : ℕ) (conds : List Cond)
         → IsReader given log class ts conds → ⊥ }
 {}

@@ -1,5 +1,5 @@
 ghost use Rattle.std.specs.Prelude.{◌≡◌, ◌≤◌, ◌≢◌, ◌++◌, ℕ, List, None, Some, slice_get, true};
-ghost use Rattle.sdd_obligations.specs.invariants.All.{ClassNo, Cond, DmNo, Each, Given, IsClassHere, IsDueEach, IsPermitted, Log, Read, Setting, Ts, TxnNo, Use, all_of, head, home, home_of, number_of, pipe, pipe_at, view_of, waits};
+ghost use Rattle.sdd_obligations.specs.invariants.All.{ClassNo, Cond, DmNo, Each, Input, IsClassHere, IsDueEach, IsPermitted, Log, Read, Setting, Ts, TxnNo, Use, all_of, head, home, home_of, number_of, pipe, pipe_at, view_of, waits};
 ghost use Rattle.sdd_obligations.specs.site_module.SiteLog as site;
 ghost use Rattle.sdd_obligations.specs.pipe.Pipe.{passed};
 ghost use Rattle.sdd_obligations.specs.dm.Due.{due};
@@ -9,7 +9,7 @@ ghost use Rattle.sdd_progress.specs.Waited.{WaitsSince};
 
 /// What a pipe has passed, it has passed in every log that goes on from this one.
 pub fn law_passed_lasts()
-    ensures { (given : Given) (class : ℕ) (d : DmNo) (time : ℕ) (later log : Log)
+    ensures { (given : Input) (class : ℕ) (d : DmNo) (time : ℕ) (later log : Log)
         → IsPermitted given (later ++ log) → number_of (home given.catalogue class) ≤ 63
         → passed (pipe_at given class d log) time ≡ true
         → passed (pipe_at given class d (later ++ log)) time ≡ true }
@@ -34,7 +34,7 @@ pub fn law_since()
 /// protocol table that was in force at its Start: its time is the attempt's own under P3, and the
 /// time of P2 under P2.
 pub fn law_conditions_in_table()
-    ensures { (given : Given) (log : Log) (class : ℕ) (d : DmNo) (place : ℕ) (ts : Ts)
+    ensures { (given : Input) (log : Log) (class : ℕ) (d : DmNo) (place : ℕ) (ts : Ts)
         (of : ClassNo) (txn : TxnNo) (attempt : ℕ) (conds : List Cond) (uses : List Use)
         → IsPermitted given log → class ≢ 0
         → slice_get (all_of (pipe_at given class d log)) place

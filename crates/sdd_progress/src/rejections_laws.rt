@@ -1,5 +1,5 @@
 ghost use Rattle.std.specs.Prelude.{◌≡◌, ◌≤◌, ◌++◌, ◌∷◌, ℕ, List, Some, true};
-ghost use Rattle.sdd_obligations.specs.invariants.All.{Change, ClassNo, Cond, D, Did, DmNo, Does, Each, Given, IsDueEach, IsPermitted, IsSound, Log, Msg, Read, Rec, Records, Setting, Site, Ts, TxnNo, Use, Wait, Write, head, home, is_processing, number_of, pipe_at, waits};
+ghost use Rattle.sdd_obligations.specs.invariants.All.{Change, ClassNo, Cond, D, Did, DmNo, Does, Each, Input, IsDueEach, IsPermitted, IsSound, Log, Msg, Read, Rec, Records, Setting, Site, Ts, TxnNo, Use, Wait, Write, head, home, is_processing, number_of, pipe_at, waits};
 ghost use Rattle.sdd_obligations.specs.graph.Edges.{IsClassOf};
 ghost use Rattle.sdd_obligations.specs.history.declared.record.Rec.TheVariants.{Reject as Rejected};
 ghost use Rattle.sdd_obligations.specs.site_module.SiteLog as site;
@@ -10,7 +10,7 @@ ghost use Rattle.sdd_progress.specs.Rejections.{IsAnswerOf, IsRejectOf};
 /// class that the condition names and changing a fragment that it names, was processed there
 /// before.
 pub fn law_rejected()
-    ensures { (given : Given) (log : Log) (d : DmNo) (class : ℕ) (txn : TxnNo) (attempt : ℕ)
+    ensures { (given : Input) (log : Log) (d : DmNo) (class : ℕ) (txn : TxnNo) (attempt : ℕ)
         (dm : DmNo) (by : ClassNo) (write : Ts) (sends : List (Site × Msg))
         → IsPermitted given
         (Does (D d) (Records class (Rejected txn attempt dm by write) sends) ∷ log)
@@ -24,7 +24,7 @@ pub fn law_not_rejected()
         (sends : List (Site × Msg))
         → Each (IsDueEach setting) (Did (Records class rec sends) ∷ log)
         → waits class log ≡ true → is_processing rec ≡ true → IsAnswerOf class log rec }
-    ensures never_both { (given : Given) (d : DmNo) (class : ℕ) (later before : Log)
+    ensures never_both { (given : Input) (d : DmNo) (class : ℕ) (later before : Log)
         (txn other : TxnNo) (attempt another : ℕ) (dm dm2 : DmNo) (conds : List Cond)
         (by : ClassNo) (write : Ts) (sends more : List (Site × Msg))
         → IsPermitted given
@@ -37,12 +37,12 @@ pub fn law_not_rejected()
 /// A READ of an undeclared transaction is never rejected, and holds no WRITE of a declared class
 /// back.
 pub fn law_undeclared()
-    ensures rejected_never { (given : Given) (log : Log) (d : DmNo) (txn : TxnNo) (attempt : ℕ)
+    ensures rejected_never { (given : Input) (log : Log) (d : DmNo) (txn : TxnNo) (attempt : ℕ)
         (dm : DmNo) (by : ClassNo) (write : Ts) (sends : List (Site × Msg))
         → IsSound given.catalogue → 1 ≤ d.0 → d.0 ≤ given.catalogue.dms
         → IsPermitted given (Does (D d) (Records 0 (Rejected txn attempt dm by write) sends) ∷ log)
         → ⊥ }
-    ensures holds_none { (given : Given) (class : ℕ) (d : DmNo) (log : Log) (ts : Ts)
+    ensures holds_none { (given : Input) (class : ℕ) (d : DmNo) (log : Log) (ts : Ts)
         (of : ClassNo) (txn : TxnNo) (attempt : ℕ) (conds : List Cond) (uses : List Use)
         (write : Ts) (of_write : ClassNo) (writer : TxnNo) (changes : List Change)
         → IsPermitted given log → IsSound given.catalogue → IsClassOf given.catalogue class

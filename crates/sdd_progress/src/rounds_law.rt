@@ -1,5 +1,5 @@
 ghost use Rattle.std.specs.Prelude.{◌≡◌, ◌<◌, ◌≤◌, ◌^◌, ◌∷◌, ℕ, suc, true, false, List, [], length, None, Some};
-ghost use Rattle.sdd_obligations.specs.invariants.All.{AtEach, Call, Event, Given, IsLawful, IsTheLog, IsWithin, Log, Mark, Msg, Round, Settle, Site, all_links, calls_of, is_link, left, links, marks, next, quiet, round, with_event};
+ghost use Rattle.sdd_obligations.specs.invariants.All.{AtEach, Call, Event, Input, IsLawful, IsTheLog, IsWithin, Log, Mark, Msg, Round, Settle, Site, all_links, calls_of, is_link, left, links, marks, next, quiet, round, with_event};
 ghost use Rattle.sdd_progress.specs.Rounds.{IsOfRound, rounds};
 
 /// A law: where the links of a network aren't quiet a round has an event, and each of its events is
@@ -17,23 +17,23 @@ pub fn law_rounds()
 /// So a lawful log has no more rounds than marks, but one that has just begun, and a log within the
 /// limits of a run has at most 2^32, fewer where it is complete.
 pub fn law_rounds_end()
-    ensures begins { (given : Given) (log : Log) (events : List Event)
+    ensures begins { (given : Input) (log : Log) (events : List Event)
         → next given log ≡ Some (Round events)
         → ((left given.events log).1 ≡ []) × (quiet (all_links given) (calls_of log) ≡ false)
         × (0 < length events) }
-    ensures few { (given : Given) (log : Log) → IsLawful given log → rounds log ≤ suc (marks log) }
-    ensures within { (given : Given) (log : Log) → IsLawful given log → IsWithin log
+    ensures few { (given : Input) (log : Log) → IsLawful given log → rounds log ≤ suc (marks log) }
+    ensures within { (given : Input) (log : Log) → IsLawful given log → IsWithin log
         → rounds log ≤ 2 ^ 32 }
-    ensures complete { (given : Given) (log : Log) → IsTheLog given log → rounds log < 2 ^ 32 }
+    ensures complete { (given : Input) (log : Log) → IsTheLog given log → rounds log < 2 ^ 32 }
 {}
 
 /// A law: the links are quiet where a settle has ended, that is where an event after it is next,
 /// and where nothing is next and it was the last.
 pub fn law_quiet_after_settle()
-    ensures before_event { (given : Given) (log : Log) (event : Event) (events : List Event)
+    ensures before_event { (given : Input) (log : Log) (event : Event) (events : List Event)
         → left given.events log ≡ (Settle ∷ events, []) → next given log ≡ Some (Mark event)
         → quiet (all_links given) (calls_of log) ≡ true }
-    ensures last { (given : Given) (log : Log) → IsLawful (with_event given Settle) log
+    ensures last { (given : Input) (log : Log) → IsLawful (with_event given Settle) log
         → next (with_event given Settle) log ≡ None
         → quiet (all_links given) (calls_of log) ≡ true }
 {}

@@ -1,5 +1,5 @@
 -- The events of a valid workload are allowed.
-use Rattle.sdd_run.proofs.All.{All, All-head, All-tail, AreAllowed, Catalogue, ClassList, D, Deliver, Down, Event, Force, Given, IsGood, IsLink, IsPossible, IsSite, IsValidEvent, List, Lose, Redeclare, Repeat, Resend, Settle, Site, Some, T, Tick, U, Up, [], ap, append_assoc, are_linked, arith, count_join, drop, false, force_in, get_or, is_link, is_site, length, lists_after, map, redeclares_in, refl, slice_get, subst, suc, sym, takes_rounds, true, with_event, within, zero, ℕ, ◌&&◌, ◌++◌, ◌-◌, ◌<◌, ◌∙◌, ◌∷◌, ◌≡◌}
+use Rattle.sdd_run.proofs.All.{All, All-head, All-tail, AreAllowed, Catalogue, ClassList, D, Deliver, Down, Event, Force, Input, IsGood, IsLink, IsPossible, IsSite, IsValidEvent, List, Lose, Redeclare, Repeat, Resend, Settle, Site, Some, T, Tick, U, Up, [], ap, append_assoc, are_linked, arith, count_join, drop, false, force_in, get_or, is_link, is_site, length, lists_after, map, redeclares_in, refl, slice_get, subst, suc, sym, takes_rounds, true, with_event, within, zero, ℕ, ◌&&◌, ◌++◌, ◌-◌, ◌<◌, ◌∙◌, ◌∷◌, ◌≡◌}
 use Rattle.sdd_obligations.specs.All.{Submit}
 
 member : {A : Type 0} (xs : List A) (i : ℕ) → i < length xs → (x : A) × (slice_get xs i ≡ Some x)
@@ -16,7 +16,7 @@ link_is : (cat : Catalogue) (a b : Site) → IsLink cat a b → is_link cat.tms 
 link_is cat a b h = ap (λ x. x && (is_site cat.tms cat.dms b && are_linked a b)) (site_is cat a h.0) ∙ ap (λ x. x && are_linked a b) (site_is cat b h.1) ∙ h.2
 
 -- what a valid event names exists
-pub possible : (g : Given) (e : Event) → IsValidEvent g.catalogue (length g.txns) e → takes_rounds e ≡ false → IsPossible g e
+pub possible : (g : Input) (e : Event) → IsValidEvent g.catalogue (length g.txns) e → takes_rounds e ≡ false → IsPossible g e
 possible g (Submit n) h s = let m = member g.txns (n.0 - 1) (omega (arith, h.0, h.1)) in (m.0, h.0, m.1)
 possible g (Deliver a b k) h s = (link_is g.catalogue a b h.0, h.1.0)
 possible g (Lose a b k) h s = (link_is g.catalogue a b h.0, h.1.0)
@@ -28,7 +28,7 @@ possible g (Up d) h s = within d.0 g.catalogue.dms h.0 h.1
 possible g _ h s = absurd cc
 
 -- what is given is good with each part of the schedule that it begins with
-abbrev pub IsGoodAlong : (Given → Type 0) → Given → List Event → Type 0
+abbrev pub IsGoodAlong : (Input → Type 0) → Input → List Event → Type 0
 IsGoodAlong Good g all = (xs ys : List Event) → xs ++ ys ≡ all → Good (record g { events = xs })
 
 -- what an event that puts no list in force leaves as it is
@@ -39,10 +39,10 @@ record IsOther (e : Event) (lists : List ClassList) : Type 0 where
 
 -- these lists are left behind those that the events put in force, and there is one for each redeclare of the schedule
 
-abbrev AreLeft : Given → List ClassList → Type 0
+abbrev AreLeft : Input → List ClassList → Type 0
 AreLeft g lists = map force_in lists ≡ drop (suc (redeclares_in g.events)) g.forces
 
-abbrev pub HasLists : Given → List Event → Type 0
+abbrev pub HasLists : Input → List Event → Type 0
 HasLists g all = (front rest : List Event) → all ≡ front ++ Redeclare ∷ rest → suc (redeclares_in front) < length g.forces
 
 record IsFirst (forces : List Force) (k : ℕ) (none : Force) (lists : List ClassList) : Type 0 where
@@ -68,12 +68,12 @@ first_is (f ∷ forces) (suc k) none lists h l =
 
 module _ (all : List Event) where
   -- what is to hold of the events that are left
-  abbrev Goes : Given → List Event → List ClassList → Type 0
+  abbrev Goes : Input → List Event → List ClassList → Type 0
   Goes g es lists =
       g.events ++ es ≡ all → All (IsValidEvent g.catalogue (length g.txns)) es → AreLeft g lists → HasLists g all → IsGoodAlong IsGood g all
       → AreAllowed g es lists
 
-  other_event : (g : Given) (x : Event) (es : List Event) (lists : List ClassList) → IsOther x lists → Goes (with_event g x) es lists → Goes g (x ∷ es) lists
+  other_event : (g : Input) (x : Event) (es : List Event) (lists : List ClassList) → IsOther x lists → Goes (with_event g x) es lists → Goes g (x ∷ es) lists
   other_event g x es lists o later e valid left has good =
       let further : (g.events ++ x ∷ []) ++ es ≡ all = append_assoc g.events (x ∷ []) es ∙ e in
       let more = count_join g.events (x ∷ []) in
@@ -88,7 +88,7 @@ module _ (all : List Event) where
             (later further (All-tail (IsValidEvent g.catalogue (length g.txns)) x es valid) (left ∙ ap (λ n. drop (suc n) g.forces) (sym same)) has good),
       )
 
-  next_list : (g : Given) (es : List Event) (lists : List ClassList) → ((others : List ClassList) → Goes (with_event g Redeclare) es others)
+  next_list : (g : Input) (es : List Event) (lists : List ClassList) → ((others : List ClassList) → Goes (with_event g Redeclare) es others)
       → Goes g (Redeclare ∷ es) lists
   next_list g es lists later e valid left has good =
       let further : (g.events ++ Redeclare ∷ []) ++ es ≡ all = append_assoc g.events (Redeclare ∷ []) es ∙ e in
@@ -106,7 +106,7 @@ module _ (all : List Event) where
             (i.others_are ∙ ap (λ n. drop (suc n) g.forces) (sym one)) has good,
       )
 
-  pub allowed : (es : List Event) (g : Given) (lists : List ClassList) → Goes g es lists
+  pub allowed : (es : List Event) (g : Input) (lists : List ClassList) → Goes g es lists
   allowed [] g lists = λ e valid left has good. tt
   allowed (Redeclare ∷ es) g lists = next_list g es lists (allowed es (with_event g Redeclare))
   allowed (Submit n ∷ es) g lists =

@@ -1,5 +1,5 @@
 -- Where a settle or a redeclare is the last of the events, the links are quiet at the end.
-use Rattle.sdd_run.proofs.All.{Act, Bool, Does, Event, Given, Hand, IsAtRest, IsLawful, List, Log, Mark, None, Notes, Option, Redeclare, Redeclares, Round, Settle, Site, Some, Submitted, Up, [], after_mark, all_links, ap, at_redeclare, base_of, calls_of, complete_parts, delivered, does_at, false, first_none, force_at, forced_none, from_event, hand_due, hand_number, hand_on, handed, if◌then◌else◌, inl, inr, left, link_of, local_of, mark_from, mark_of, next, next_at, next_is_of_events, next_number, none_any_base, none_left, quiet, quiet_at_last, redeclares, refl, round, same_part, site_due, sites, subst, suc, sym, tail_of, true, with_event, ℕ, ◌++◌, ◌∙◌, ◌∷◌, ◌≡◌, ◌⊎◌}
+use Rattle.sdd_run.proofs.All.{Act, Bool, Does, Event, Hand, Input, IsAtRest, IsLawful, List, Log, Mark, None, Notes, Option, Redeclare, Redeclares, Round, Settle, Site, Some, Submitted, Up, [], after_mark, all_links, ap, at_redeclare, base_of, calls_of, complete_parts, delivered, does_at, false, first_none, force_at, forced_none, from_event, hand_due, hand_number, hand_on, handed, if◌then◌else◌, inl, inr, left, link_of, local_of, mark_from, mark_of, next, next_at, next_is_of_events, next_number, none_any_base, none_left, quiet, quiet_at_last, redeclares, refl, round, same_part, site_due, sites, subst, suc, sym, tail_of, true, with_event, ℕ, ◌++◌, ◌∙◌, ◌∷◌, ◌≡◌, ◌⊎◌}
 use Rattle.sdd_obligations.specs.All.{Entry}
 use Rattle.sdd_obligations.specs.site_module.SiteLog as site
 
@@ -19,7 +19,7 @@ ends_so b [] = refl
 ends_so b (e ∷ events) = ends_so (is_redeclare e) events
 
 -- it stays the last where another event is marked
-mark_on : (g : Given) (log : Log) (q : Bool) (r ws : List Event) (e : Event) → mark_from g log q r ws ≡ Some (Mark e) → ends false ws ≡ true
+mark_on : (g : Input) (log : Log) (q : Bool) (r ws : List Event) (e : Event) → mark_from g log q r ws ≡ Some (Mark e) → ends false ws ≡ true
     → ends false (tail_of (from_event ws)) ≡ true
 unfolding ends is_redeclare
 mark_on g log q r [] e h p = absurd (cc)
@@ -29,7 +29,7 @@ mark_on g log true r (Redeclare ∷ ws) e h p = absurd (cc)
 mark_on g log false r (Redeclare ∷ ws) e h p = absurd (cc)
 mark_on g log q r (_ ∷ ws) e h p = p
 
-mark_taken : (g : Given) (log : Log) (e : Event) (s : List Event × List Event) → mark_of g log s ≡ Some (Mark e) → ends false s.0 ≡ true
+mark_taken : (g : Input) (log : Log) (e : Event) (s : List Event × List Event) → mark_of g log s ≡ Some (Mark e) → ends false s.0 ≡ true
     → ends false (after_mark s).0 ≡ true
 mark_taken g log e (ws, []) h p = mark_on g log (quiet (all_links g) (calls_of log)) (round (all_links g) (calls_of log)) ws e h p
 mark_taken g log e (ws, x ∷ events) h p = p
@@ -41,14 +41,14 @@ unfolding ends is_redeclare
 last_or_not [] p = inr refl
 last_or_not (x ∷ ws) p = inl p
 
-list_on : (g : Given) (log : Log) (q : Bool) (r ws : List Event) (t : ℕ) → mark_from g log q r ws ≡ Some (Redeclares t) → ends false ws ≡ true
+list_on : (g : Input) (log : Log) (q : Bool) (r ws : List Event) (t : ℕ) → mark_from g log q r ws ≡ Some (Redeclares t) → ends false ws ≡ true
     → (ends false (tail_of (from_event ws)) ≡ true) ⊎ (tail_of (from_event ws) ≡ [])
 unfolding ends is_redeclare
 list_on g log true r (Settle ∷ ws) t h p = list_on g log true r ws t h p
 list_on g log q r (Redeclare ∷ ws) t h p = last_or_not ws p
 list_on g log _ r _ t h p = absurd (cc)
 
-list_taken : (g : Given) (log : Log) (t : ℕ) (s : List Event × List Event) → mark_of g log s ≡ Some (Redeclares t) → ends false s.0 ≡ true
+list_taken : (g : Input) (log : Log) (t : ℕ) (s : List Event × List Event) → mark_of g log s ≡ Some (Redeclares t) → ends false s.0 ≡ true
     → (ends false (after_mark s).0 ≡ true) ⊎ (after_mark s ≡ ([], []))
 list_taken g log t (ws, []) h p =
     elim (list_on g log (quiet (all_links g) (calls_of log)) (round (all_links g) (calls_of log)) ws t h p) [
@@ -63,7 +63,7 @@ not_due : (at : Site) (o p : Option Act) → (o ≡ None → p ≡ None) → doe
 not_due at None p k e = ap (does_at at) (k refl)
 not_due at (Some act) p k e = absurd (cc)
 
-none_at_site : (g : Given) (t : ℕ) (log : Log) → site_due g log ≡ None → site_due g (Redeclares t ∷ log) ≡ None
+none_at_site : (g : Input) (t : ℕ) (log : Log) → site_due g log ≡ None → site_due g (Redeclares t ∷ log) ≡ None
 none_at_site g t log =
     first_none (λ x. does_at x (next_at g log x)) (λ x. does_at x (next_at g (Redeclares t ∷ log) x)) (sites g.catalogue.tms g.catalogue.dms)
     (λ x. not_due x (next_at g log x) (next_at g (Redeclares t ∷ log) x) (λ i.
@@ -74,16 +74,16 @@ same_hand : (t : ℕ) (log : Log) (l : Site × Site) → hand_on (Redeclares t �
 same_hand t log l =
     ap (λ b. if b then hand_number log l (next_number (handed l.0 l.1 log) (delivered (link_of l.0 l.1 log).there)) else None) (same_part l.1 t log)
 
-none_to_hand : (g : Given) (t : ℕ) (log : Log) → hand_due g log ≡ None → hand_due g (Redeclares t ∷ log) ≡ None
+none_to_hand : (g : Input) (t : ℕ) (log : Log) → hand_due g log ≡ None → hand_due g (Redeclares t ∷ log) ≡ None
 none_to_hand g t log = first_none (hand_on log) (hand_on (Redeclares t ∷ log)) (all_links g) (λ l e. same_hand t log l ∙ e)
 
-record IsDone (g : Given) (log : Log) : Type 0 where
+record IsDone (g : Input) (log : Log) : Type 0 where
   time : ℕ
   before : Log
   is : log ≡ Redeclares time ∷ before
   none : left g.events log ≡ ([], [])
 
-done_is_over : (g : Given) (t : ℕ) (before : Log) → next g before ≡ Some (Redeclares t) → left g.events (Redeclares t ∷ before) ≡ ([], [])
+done_is_over : (g : Input) (t : ℕ) (before : Log) → next g before ≡ Some (Redeclares t) → left g.events (Redeclares t ∷ before) ≡ ([], [])
     → next g (Redeclares t ∷ before) ≡ None
 done_is_over g t before h e =
     let m = at_redeclare g before t h in
@@ -91,7 +91,7 @@ done_is_over g t before h e =
     (record { no_mark = refl; no_site = none_at_site g t before m.no_site; no_hand = none_to_hand g t before m.no_hand })
     e
 
-over : (g : Given) (log : Log) (x : Entry) → IsLawful g log → next g log ≡ Some x → IsDone g log → ⊥
+over : (g : Input) (log : Log) (x : Entry) → IsLawful g log → next g log ≡ Some x → IsDone g log → ⊥
 over g log x h n d =
     let lawful : IsLawful g (Redeclares d.time ∷ d.before) = subst (IsLawful g) d.is h in
     let none : next g log ≡ None =
@@ -100,21 +100,21 @@ over g log x h n d =
 
 -- so the last event is to come, or is done
 
-IsLast : Given → Log → Type 0
+IsLast : Input → Log → Type 0
 IsLast g log = (ends false (left g.events log).0 ≡ true) ⊎ IsDone g log
 
-to_come : (g : Given) (log : Log) (x : Entry) → IsLawful g (x ∷ log) → IsLast g log → ends false (left g.events log).0 ≡ true
+to_come : (g : Input) (log : Log) (x : Entry) → IsLawful g (x ∷ log) → IsLast g log → ends false (left g.events log).0 ≡ true
 unfolding IsLast
 to_come g log x h (inl p) = p
 to_come g log x h (inr d) = absurd (over g log x h.1 h.0 d)
 
-last_one : (g : Given) (log : Log) (t : ℕ)
+last_one : (g : Input) (log : Log) (t : ℕ)
     → (ends false (after_mark (left g.events log)).0 ≡ true) ⊎ (after_mark (left g.events log) ≡ ([], [])) → IsLast g (Redeclares t ∷ log)
 unfolding IsLast
 last_one g log t (inl p) = inl p
 last_one g log t (inr p) = inr (record { time = t; before = log; is = refl; none = p })
 
-is_last : (g : Given) (log : Log) → IsLawful g log → ends false g.events ≡ true → IsLast g log
+is_last : (g : Input) (log : Log) → IsLawful g log → ends false g.events ≡ true → IsLast g log
 unfolding IsLast
 is_last g [] h p = inl p
 is_last g (Mark e ∷ log) h p =
@@ -130,17 +130,17 @@ is_last g (Does at act ∷ log) h p = inl (to_come g log (Does at act) h (is_las
 
 -- where it is to come, something is next
 
-none_next : (g : Given) (log : Log) (q : Bool) (r ws : List Event) → mark_from g log q r ws ≡ None → ends false ws ≡ true → ⊥
+none_next : (g : Input) (log : Log) (q : Bool) (r ws : List Event) → mark_from g log q r ws ≡ None → ends false ws ≡ true → ⊥
 unfolding ends is_redeclare
 none_next g log true r (Settle ∷ ws) h p = none_next g log true r ws h p
 none_next g log q r (Up d ∷ ws) h p = absurd (cc)
 none_next g log _ r _ h p = absurd (cc)
 
-none_to_come : (g : Given) (log : Log) (s : List Event × List Event) → mark_of g log s ≡ None → ends false s.0 ≡ true → ⊥
+none_to_come : (g : Input) (log : Log) (s : List Event × List Event) → mark_of g log s ≡ None → ends false s.0 ≡ true → ⊥
 none_to_come g log (ws, []) h p = none_next g log (quiet (all_links g) (calls_of log)) (round (all_links g) (calls_of log)) ws h p
 none_to_come g log (ws, x ∷ events) h p = absurd (cc)
 
-quiet_where : (g : Given) (log : Log) → IsLawful g log → next g log ≡ None → IsLast g log → quiet (all_links g) (calls_of log) ≡ true
+quiet_where : (g : Input) (log : Log) → IsLawful g log → next g log ≡ None → IsLast g log → quiet (all_links g) (calls_of log) ≡ true
 unfolding IsLast
 quiet_where g log h n (inl p) = absurd (none_to_come g log (left g.events log) (complete_parts g log n).no_next p)
 quiet_where g log h n (inr d) =
@@ -148,7 +148,7 @@ quiet_where g log h n (inr d) =
     ap (λ l. quiet (all_links g) (calls_of l)) d.is ∙ (at_redeclare g d.before d.time lawful.0).links
 
 -- an event before which rounds go on is the last
-pub quiet_at_rest : (g : Given) (last : Event) → IsAtRest last → (log : Log) → IsLawful (with_event g last) log → next (with_event g last) log ≡ None
+pub quiet_at_rest : (g : Input) (last : Event) → IsAtRest last → (log : Log) → IsLawful (with_event g last) log → next (with_event g last) log ≡ None
     → quiet (all_links g) (calls_of log) ≡ true
 quiet_at_rest g Settle at log h n = quiet_at_last g log h n
 quiet_at_rest g Redeclare at log h n = quiet_where (with_event g Redeclare) log h n (is_last (with_event g Redeclare) log h (ends_so false g.events))

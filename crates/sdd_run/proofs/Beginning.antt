@@ -1,18 +1,18 @@
 -- What a run begins with.
-use Rattle.sdd_run.proofs.All.{All-at, Catalogue, D, Entry, Event, Given, IsValid, IsValidTxn, List, MAX_DMS, MAX_TMS, Workload, [], ap, append-nil, append_assoc, arith, begun, dm_no, get_or-map-range_with_len, given_of, rows_of, sym, whole_in, with_event, with_events, ℕ, ◌++◌, ◌-◌, ◌∙◌, ◌∷◌, ◌≡◌, ◌≤◌}
+use Rattle.sdd_run.proofs.All.{All-at, Catalogue, D, Entry, Event, Input, IsValid, IsValidTxn, List, MAX_DMS, MAX_TMS, Workload, [], ap, append-nil, append_assoc, arith, begun, dm_no, get_or-map-range_with_len, input_of, rows_of, sym, whole_in, with_event, with_events, ℕ, ◌++◌, ◌-◌, ◌∙◌, ◌∷◌, ◌≡◌, ◌≤◌}
 use Rattle.sdd_run.proofs.Whole.{same_dms, txns_valid}
 use Rattle.sdd_world.specs.Standing.{IsSound}
 
 -- what is given with the events of a schedule has them behind its own
-pub with_events_is : (g : Given) (es : List Event) → with_events g es ≡ record g { events = g.events ++ es }
+pub with_events_is : (g : Input) (es : List Event) → with_events g es ≡ record g { events = g.events ++ es }
 with_events_is g [] = ap (λ l. record g { events = l }) (sym (append-nil g.events))
 with_events_is g (e ∷ es) = with_events_is (with_event g e) es ∙ ap (λ l. record g { events = l }) (append_assoc g.events (e ∷ []) es)
 
-pub same_catalogue : (g : Given) (es : List Event) → (with_events g es).catalogue ≡ g.catalogue
-same_catalogue g es = ap (λ (x : Given). x.catalogue) (with_events_is g es)
+pub same_catalogue : (g : Input) (es : List Event) → (with_events g es).catalogue ≡ g.catalogue
+same_catalogue g es = ap (λ (x : Input). x.catalogue) (with_events_is g es)
 
 -- a run is given all of its events
-pub all_given : (cat : Catalogue) (tables : List (List Entry)) (work : Workload) → with_events (begun cat tables work) work.events ≡ given_of cat tables work
+pub all_given : (cat : Catalogue) (tables : List (List Entry)) (work : Workload) → with_events (begun cat tables work) work.events ≡ input_of cat tables work
 all_given cat tables work = with_events_is (begun cat tables work) work.events
 
 -- of each data module the rows are those of the workload

@@ -1,5 +1,5 @@
 -- The lists of classes of a workload as they are given: each is an era of the whole catalogue, and has its protocol table.
-use Rattle.sdd_run.proofs.All.{AllZip, AllZip-long, AreTables, Catalogue, Class, Entry, Force, HasEras, IsEraOf, IsForce, IsTable, List, Some, Workload, [], ap, arith, cases_lt, classes_in, era_of_itself, era_of_whole, eras, eras_in, extended, force_at, forces_of, get_or_past, given_of, inl, inr, length, refl, retired, slice_get, slice_get-get_or, subst, suc, sym, whole_in, zero, ℕ, ◌∙◌, ◌∷◌, ◌≡◌, ◌≤◌}
+use Rattle.sdd_run.proofs.All.{AllZip, AllZip-long, AreTables, Catalogue, Class, Entry, Force, HasEras, IsEraOf, IsForce, IsTable, List, Some, Workload, [], ap, arith, cases_lt, classes_in, era_of_itself, era_of_whole, eras, eras_in, extended, force_at, forces_of, get_or_past, inl, input_of, inr, length, refl, retired, slice_get, slice_get-get_or, subst, suc, sym, whole_in, zero, ℕ, ◌∙◌, ◌∷◌, ◌≡◌, ◌≤◌}
 
 -- as many as catalogues, that is one more than lists
 
@@ -45,26 +45,26 @@ of_list (cat ∷ cats) (table ∷ tables) h zero f e =
 of_list (cat ∷ cats) (table ∷ tables) h (suc k) f e = let i = of_list cats tables h.1 k f e in record { there = i.there; force = i.force }
 
 module _ (cat : Catalogue) (tables : List (List Entry)) (work : Workload) (tabled : AreTables cat work tables) where
-  pub how_many : length (given_of cat tables work).forces ≡ suc (length (classes_in cat work))
+  pub how_many : length (input_of cat tables work).forces ≡ suc (length (classes_in cat work))
   how_many = forces_are (eras_in cat work) tables tabled ∙ eras_are cat (classes_in cat work)
 
   -- beyond the last list there is none
   abbrev none : Force
   none = record { catalogue = whole_in cat work; table = [] }
 
-  pub list_at : (k : ℕ) → k ≤ length (classes_in cat work) → IsOfList (eras_in cat work) k (force_at (given_of cat tables work) k)
+  pub list_at : (k : ℕ) → k ≤ length (classes_in cat work) → IsOfList (eras_in cat work) k (force_at (input_of cat tables work) k)
   list_at k l =
       let all = how_many in
-      of_list (eras_in cat work) tables tabled k (force_at (given_of cat tables work) k)
-      (slice_get-get_or (given_of cat tables work).forces k none (omega (arith, l, all)))
+      of_list (eras_in cat work) tables tabled k (force_at (input_of cat tables work) k)
+      (slice_get-get_or (input_of cat tables work).forces k none (omega (arith, l, all)))
 
-  pub era_at : (k : ℕ) → k ≤ length (classes_in cat work) → IsEraOf (whole_in cat work) (force_at (given_of cat tables work) k).catalogue
-  era_at k l = era_of_whole cat (classes_in cat work) k (force_at (given_of cat tables work) k).catalogue (list_at k l).there
+  pub era_at : (k : ℕ) → k ≤ length (classes_in cat work) → IsEraOf (whole_in cat work) (force_at (input_of cat tables work) k).catalogue
+  era_at k l = era_of_whole cat (classes_in cat work) k (force_at (input_of cat tables work) k).catalogue (list_at k l).there
 
-  pub has_eras : HasEras (given_of cat tables work)
+  pub has_eras : HasEras (input_of cat tables work)
   has_eras k = elim (cases_lt (length (classes_in cat work)) k) [
     | inl past ↦ (let all = how_many in
         subst (λ (f : Force). IsEraOf (whole_in cat work) f.catalogue)
-        (sym (get_or_past (given_of cat tables work).forces k none (omega (arith, past, all)))) (era_of_itself (whole_in cat work)))
+        (sym (get_or_past (input_of cat tables work).forces k none (omega (arith, past, all)))) (era_of_itself (whole_in cat work)))
     | inr within ↦ era_at k (omega (arith, within))
   ]

@@ -1,10 +1,10 @@
 -- A READ of a free class is answered in the event in which it is handed over.
-use Rattle.sdd_run.proofs.All.{Answer, AreSubmittedOnce, ClassNo, Cond, D, DmNo, Does, EndsAnEvent, Given, Hand, IsAnsweredIn, IsAnsweredWithin, IsEventOver, IsFreeClass, IsLawful, IsPermitted, IsSound, IsTheLog, List, Log, Mark, Msg, Read, Rec, Records, Redeclares, Site, Stands, Ts, TxnNo, Use, [], act_kind, answered_by_end, ap, append_assoc, arith, begins_event, event_at, event_there, false, history, inl, inr, lawful_end, lawful_permitted, length, marks, marks_later, over_at_end, over_before, permitted_before, refl, stands_there, subst, sym, true, ℕ, ◌++◌, ◌∙◌, ◌∷◌, ◌≡◌, ◌≤◌, ◌⊎◌}
+use Rattle.sdd_run.proofs.All.{Answer, AreSubmittedOnce, ClassNo, Cond, D, DmNo, Does, EndsAnEvent, Hand, Input, IsAnsweredIn, IsAnsweredWithin, IsEventOver, IsFreeClass, IsLawful, IsPermitted, IsSound, IsTheLog, List, Log, Mark, Msg, Read, Rec, Records, Redeclares, Site, Stands, Ts, TxnNo, Use, [], act_kind, answered_by_end, ap, append_assoc, arith, begins_event, event_at, event_there, false, history, inl, inr, lawful_end, lawful_permitted, length, marks, marks_later, over_at_end, over_before, permitted_before, refl, stands_there, subst, sym, true, ℕ, ◌++◌, ◌∙◌, ◌∷◌, ◌≡◌, ◌≤◌, ◌⊎◌}
 use Rattle.sdd_obligations.specs.All.{Entry}
 
 -- the entries behind a place, till the event there is over
 
-record IsTillOver (g : Given) (after rest : Log) : Type 0 where
+record IsTillOver (g : Input) (after rest : Log) : Type 0 where
   pub front : Log
   pub within : Log
   pub is : after ≡ front ++ within
@@ -16,7 +16,7 @@ no_mark (Mark e) log h = cc
 no_mark (Redeclares t) log h = cc
 no_mark _ log h = refl
 
-till : (g : Given) (after rest : Log) → IsLawful g (after ++ rest) → (marks (after ++ rest) ≡ marks rest) ⊎ IsTillOver g after rest
+till : (g : Input) (after rest : Log) → IsLawful g (after ++ rest) → (marks (after ++ rest) ≡ marks rest) ⊎ IsTillOver g after rest
 till g [] rest h = inl refl
 till g (e ∷ after) rest h =
     elim (till g after rest h.1) [
@@ -29,19 +29,19 @@ till g (e ∷ after) rest h =
       | inr x ↦ inr (record { front = e ∷ x.front; within = x.within; is = ap (λ l. e ∷ l) x.is; over = x.over; same = x.same })
     ]
 
-till_over : (g : Given) (after rest : Log) → IsLawful g (after ++ rest) → IsEventOver g (after ++ rest) → IsTillOver g after rest
+till_over : (g : Input) (after rest : Log) → IsLawful g (after ++ rest) → IsEventOver g (after ++ rest) → IsTillOver g after rest
 till_over g after rest h over = elim (till g after rest h) [
   | inl same ↦ record { front = []; within = after; is = refl; over = over; same = same }
   | inr x ↦ x
 ]
 
 -- an Answer of a permitted log is one of the module where it stands
-answer_at : (g : Given) (c : ℕ) (d dm : DmNo) (txn : TxnNo) (attempt : ℕ) (sends : List (Site × Msg)) (log : Log)
+answer_at : (g : Input) (c : ℕ) (d dm : DmNo) (txn : TxnNo) (attempt : ℕ) (sends : List (Site × Msg)) (log : Log)
     → IsPermitted g (Does (D d) (Records c (Answer txn attempt dm) sends) ∷ log) → dm ≡ d
 answer_at g c d dm txn attempt sends log h = act_kind g (D d) (Records c (Answer txn attempt dm) sends) log h
 
 -- where an Answer stands between a hand and the end of its event, it has the number of that event
-answered_there : (g : Given) (log front later before entry_log rest : Log) (c : ℕ) (d dm : DmNo) (txn : TxnNo) (attempt : ℕ) (sends : List (Site × Msg))
+answered_there : (g : Input) (log front later before entry_log rest : Log) (c : ℕ) (d dm : DmNo) (txn : TxnNo) (attempt : ℕ) (sends : List (Site × Msg))
     → log ≡ front ++ (entry_log ++ rest) → entry_log ≡ later ++ Does (D d) (Records c (Answer txn attempt dm) sends) ∷ before
     → marks (entry_log ++ rest) ≡ marks rest → IsPermitted g log → IsAnsweredWithin (history log) d txn attempt (marks rest)
 answered_there g log front later before entry_log rest c d dm txn attempt sends whole is same h =
@@ -66,7 +66,7 @@ answered_there g log front later before entry_log rest c d dm txn attempt sends 
           ∙ event_there (front ++ later) entry (before ++ rest) rec refl ∙ event;
     }
 
-pub free_answered : (g : Given) (log : Log) → IsSound g.catalogue → AreSubmittedOnce g.events → IsTheLog g log
+pub free_answered : (g : Input) (log : Log) → IsSound g.catalogue → AreSubmittedOnce g.events → IsTheLog g log
     → (after before : Log) (from : Site) (number : ℕ) (d : DmNo) (ts : Ts) (class : ClassNo) (txn : TxnNo) (attempt : ℕ) (conds : List Cond) (uses : List Use)
     → log ≡ after ++ Hand from (D d) number (Read ts class txn attempt conds uses) ∷ before → 1 ≤ d.0 → d.0 ≤ g.catalogue.dms
     → IsFreeClass g class.0 → IsAnsweredWithin (history log) d txn attempt (marks before)

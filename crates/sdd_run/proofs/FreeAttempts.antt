@@ -1,5 +1,5 @@
 -- An attempt of a free class neither waits nor is rejected.
-use Rattle.sdd_run.proofs.All.{Act, Attempt, ClassNo, Cond, D, DmNo, Does, Eras, Given, IsAttempt, IsDataIn, IsFreeClass, IsPermitted, IsRejectOf, IsUndisturbed, IsWaitOf, KeepsStarts, List, Log, Msg, Read, Rec, Records, Reject, Setting, Site, Some, Stands, Ts, TxnNo, Use, Wait, allowed_act, ap, class_no, data_in, dm_no, head, history, local_of, never_rejected, never_waits, one_class, pipe_at, read_of_some, refl, rejected, setting_of, subst, sym, time_at, txn_no, wait_due, ℕ, ◌++◌, ◌∙◌, ◌∷◌, ◌≡◌}
+use Rattle.sdd_run.proofs.All.{Act, Attempt, ClassNo, Cond, D, DmNo, Does, Eras, Input, IsAttempt, IsDataIn, IsFreeClass, IsPermitted, IsRejectOf, IsUndisturbed, IsWaitOf, KeepsStarts, List, Log, Msg, Read, Rec, Records, Reject, Setting, Site, Some, Stands, Ts, TxnNo, Use, Wait, allowed_act, ap, class_no, data_in, dm_no, head, history, local_of, never_rejected, never_waits, one_class, pipe_at, read_of_some, refl, rejected, setting_of, subst, sym, time_at, txn_no, wait_due, ℕ, ◌++◌, ◌∙◌, ◌∷◌, ◌≡◌}
 use Rattle.sdd_obligations.specs.All.{Entry}
 use Rattle.sdd_obligations.specs.site_module.SiteLog as site
 
@@ -7,7 +7,7 @@ wait_names : (c k : ℕ) (n m : TxnNo) (i j : ℕ) (d e : DmNo) (qs rs : List Co
     → Records c (Wait n i d qs) s ≡ Records k (Wait m j e rs) t → (n ≡ m) × (i ≡ j)
 wait_names c k n m i j d e qs rs s t h = let p : n ≡ m = cc in let q : i ≡ j = cc in (p, q)
 
-module _ (g : Given) (log : Log) (eras : Eras) (h : IsPermitted g log) (starting : KeepsStarts g.catalogue eras g.txns (history log))
+module _ (g : Input) (log : Log) (eras : Eras) (h : IsPermitted g log) (starting : KeepsStarts g.catalogue eras g.txns (history log))
     (a : Attempt) (started : IsAttempt (history log) a) (free : IsFreeClass g a.class) where
   -- the pipe at whose head the READ of the attempt stands is that of its class
   of_its_class : (later before : Log) (e : Entry) (c d : ℕ) (ts : Ts) (of : ClassNo) (ds : List Cond) (us : List Use)

@@ -1,6 +1,6 @@
 -- A transaction that is pending when a run ends was submitted under the list of classes that is in force then: all that
 -- was submitted under an earlier one is committed. So it is looked for at the site of its class by that list.
-use Rattle.sdd_run.proofs.All.{AreAtLastHomes, Bool, Does, Given, Hand, Homes, IsPermitted, IsSubmitted, Known, List, Log, Mark, None, Notes, Option, Rec, Redeclares, Round, Site, Some, Submit, Submitted, Telling, TxnNo, [], ap, append_assoc, arith, commit_there, commits, cons_option, eqb-true, false, filter_map, force_at, given_at, history, history_le, home_of, if◌then◌else◌, inl, inr, last_home, length, length-append, list_any, not_both, one_submit, option_map, pending_as, pending_at, pending_by, pending_of, permitted_before, reason_of, redeclare_between, redeclares, refl, rest, same_number, slice_get, stands_at, stands_front, stands_there, submit_in, submitted_at, subst, suc, sym, true, txn_at, txn_no, why_of, ℕ, ◌++◌, ◌+◌, ◌==◌, ◌∙◌, ◌∷◌, ◌≡◌}
+use Rattle.sdd_run.proofs.All.{AreAtLastHomes, Bool, Does, Hand, Homes, Input, IsPermitted, IsSubmitted, Known, List, Log, Mark, None, Notes, Option, Rec, Redeclares, Round, Site, Some, Submit, Submitted, Telling, TxnNo, [], ap, append_assoc, arith, commit_there, commits, cons_option, eqb-true, false, filter_map, force_at, given_at, history, history_le, home_of, if◌then◌else◌, inl, inr, last_home, length, length-append, list_any, not_both, one_submit, option_map, pending_as, pending_at, pending_by, pending_of, permitted_before, reason_of, redeclare_between, redeclares, refl, rest, same_number, slice_get, stands_at, stands_front, stands_there, submit_in, submitted_at, subst, suc, sym, true, txn_at, txn_no, why_of, ℕ, ◌++◌, ◌+◌, ◌==◌, ◌∙◌, ◌∷◌, ◌≡◌}
 use Rattle.sdd_run.proofs.Lossless.{commits_it}
 
 -- the site that a log tells is that of the one place where it submits the transaction
@@ -24,7 +24,7 @@ at_submit (Notes ∷ later) rest at n none = at_submit later rest at n (λ front
 at_submit (Does by act ∷ later) rest at n none =
     at_submit later rest at n (λ front after other is. none (Does by act ∷ front) after other (ap (λ l. Does by act ∷ l) is))
 
-pub submitted_there : (g : Given) (log later rest : Log) (at : Site) (n : ℕ) → IsPermitted g log → log ≡ later ++ Submitted at n ∷ rest
+pub submitted_there : (g : Input) (log later rest : Log) (at : Site) (n : ℕ) → IsPermitted g log → log ≡ later ++ Submitted at n ∷ rest
     → submitted_at log n ≡ at
 submitted_there g log later rest at n h is =
     let here : IsSubmitted (history log) n (length (history rest)) =
@@ -42,7 +42,7 @@ submitted_there g log later rest at n h is =
     absurd (omega (arith, one, up, more))))
 
 -- what is submitted and not committed was submitted under the last list
-last_home_is : (g : Given) (log : Log) → Known g log → (n k : ℕ) → IsSubmitted (history log) n k
+last_home_is : (g : Input) (log : Log) → Known g log → (n k : ℕ) → IsSubmitted (history log) n k
     → list_any (commits n) (history log) ≡ false → submitted_at log n ≡ last_home g log n
 last_home_is g log w n k submitted unmade =
     let s = submit_in g log n k w.permitted submitted in
@@ -64,7 +64,7 @@ last_home_is g log w n k submitted unmade =
           absurd (not_both (list_any (commits n) (history log)) (commits_it (history log) n (record { place = c.1; number = c.0; commit = c.3 })) unmade))
     ]
 
-pub at_last_homes : (g : Given) (log : Log) → Known g log → AreAtLastHomes g log
+pub at_last_homes : (g : Input) (log : Log) → Known g log → AreAtLastHomes g log
 at_last_homes g log w = record { same = last_home_is g log w }
 
 -- so looking there comes to the same
@@ -73,19 +73,19 @@ chosen_alike : {A B : Type 0} (f g : A → Option B) (xs : List A) → ((k : ℕ
 chosen_alike f g [] h = refl
 chosen_alike f g (x ∷ xs) h = ap (λ o. cons_option o (filter_map f xs)) (h 0 x refl) ∙ ap (cons_option (g x)) (chosen_alike f g xs (λ k y e. h (suc k) y e))
 
-same_if : (tell : Telling) (g : Given) (log : Log) (homes others : Homes) (n : TxnNo) (b : Bool) → (b ≡ false → homes n.0 ≡ others n.0)
+same_if : (tell : Telling) (g : Input) (log : Log) (homes others : Homes) (n : TxnNo) (b : Bool) → (b ≡ false → homes n.0 ≡ others n.0)
     → (if b then None else pending_as n (reason_of tell homes g log n.0)) ≡ (if b then None else pending_as n (reason_of tell others g log n.0))
 same_if tell g log homes others n true h = refl
 same_if tell g log homes others n false h = ap (λ at. pending_as n (why_of g log (stands_at tell g log at n.0))) (h refl)
 
-same_one : (tell : Telling) (g : Given) (log : Log) → AreAtLastHomes g log → (k : ℕ) (e : ℕ × Rec) → slice_get (history log) k ≡ Some e
+same_one : (tell : Telling) (g : Input) (log : Log) → AreAtLastHomes g log → (k : ℕ) (e : ℕ × Rec) → slice_get (history log) k ≡ Some e
     → pending_by tell (last_home g log) g log (history log) e ≡ pending_by tell (submitted_at log) g log (history log) e
 same_one tell g log h k (event, Submit n) e =
     same_if tell g log (last_home g log) (submitted_at log) n (list_any (commits n.0) (history log))
     (λ unmade. sym (h.same n.0 k (ap (option_map (λ (x : ℕ × Rec). x.1)) e) unmade))
 same_one tell g log h k (event, _) e = refl
 
-pub pending_alike : (tell : Telling) (g : Given) (log : Log) → AreAtLastHomes g log → pending_at tell (last_home g log) g log ≡ pending_of tell g log
+pub pending_alike : (tell : Telling) (g : Input) (log : Log) → AreAtLastHomes g log → pending_at tell (last_home g log) g log ≡ pending_of tell g log
 pending_alike tell g log h =
     chosen_alike (pending_by tell (last_home g log) g log (history log)) (pending_by tell (submitted_at log) g log (history log)) (history log)
     (same_one tell g log h)

@@ -1,5 +1,5 @@
 -- Each transaction that was submitted and isn't committed is listed as pending.
-use Rattle.sdd_run.proofs.All.{Answer, Apply, AreNumbered, Arrive, Bool, ClassState, Commit, Given, HasSoundLists, History, IsClass, IsClassOf, IsListed, IsPermitted, IsQueued, IsSubmitted, Line, List, Log, None, NonePasses, Nothing, Option, Pass, Pending, Queued, Rec, Reject, Site, Some, Standing, Stands, Start, Submit, T, U, Wait, WasCommitted, Why, [], active, ap, at_home, at_map, class_at, class_of, commits, committed_or_queued, cons_option, either, eqb-true, false, filter_map, first_underway, history, home, home_setting, if◌then◌else◌, in_runs, inl, inr, is_awaiting_helds, is_some, kept_there, lacking_site, list_any, local_of, map, none_found, not, or_standing, pending_as, pending_by, pending_of, position, positive, queue, queued_at, reason_of, refl, runs, same_number, same_or_not, setting_of, slice_get, standing_among, standing_at, standing_at_t, standing_at_u, standing_by, standing_in, standing_of, submitted_at, subst, suc, sym, tm_no, true, txn_no, underway, waiting, why_of, zero, ℕ, ◌-◌, ◌==◌, ◌∙◌, ◌∷◌, ◌≡◌, ◌⊎◌}
+use Rattle.sdd_run.proofs.All.{Answer, Apply, AreNumbered, Arrive, Bool, ClassState, Commit, HasSoundLists, History, Input, IsClass, IsClassOf, IsListed, IsPermitted, IsQueued, IsSubmitted, Line, List, Log, None, NonePasses, Nothing, Option, Pass, Pending, Queued, Rec, Reject, Site, Some, Standing, Stands, Start, Submit, T, U, Wait, WasCommitted, Why, [], active, ap, at_home, at_map, class_at, class_of, commits, committed_or_queued, cons_option, either, eqb-true, false, filter_map, first_underway, history, home, home_setting, if◌then◌else◌, in_runs, inl, inr, is_awaiting_helds, is_some, kept_there, lacking_site, list_any, local_of, map, none_found, not, or_standing, pending_as, pending_by, pending_of, position, positive, queue, queued_at, reason_of, refl, runs, same_number, same_or_not, setting_of, slice_get, standing_among, standing_at, standing_at_t, standing_at_u, standing_by, standing_in, standing_of, submitted_at, subst, suc, sym, tm_no, true, txn_no, underway, waiting, why_of, zero, ℕ, ◌-◌, ◌==◌, ◌∙◌, ◌∷◌, ◌≡◌, ◌⊎◌}
 use Rattle.sdd_run.proofs.LastHomes.{submitted_there}
 use Rattle.sdd_obligations.specs.All.{Attempt}
 use Rattle.sdd_obligations.specs.attempt.declared.standing.Standing.TheVariants as standings
@@ -78,14 +78,14 @@ at_u_here state n h =
       | false ↦ h
     ]
 
-here_u : (g : Given) (log : Log) (c n j : ℕ) (q : Queued) → c ≡ 0 → slice_get (queue (setting_of g U) c (local_of g U log)) j ≡ Some q → q.number ≡ n
+here_u : (g : Input) (log : Log) (c n j : ℕ) (q : Queued) → c ≡ 0 → slice_get (queue (setting_of g U) c (local_of g U log)) j ≡ Some q → q.number ≡ n
     → IsHere (standing_at standing_at_u standing_at_t U (setting_of g U) (local_of g U log) n)
 here_u g log c n j q zero_is there is =
     let s = setting_of g U in
     let l = local_of g U log in
     at_u_here (um.state_of s l) n (line_here 0 (queue s 0 l) (active s 0 l) n j q (subst (λ k. slice_get (queue s k l) j ≡ Some q) zero_is there) is)
 
-here_t : (g : Given) (log : Log) (c n j : ℕ) (q : Queued) → IsClassOf g.catalogue c
+here_t : (g : Input) (log : Log) (c n j : ℕ) (q : Queued) → IsClassOf g.catalogue c
     → slice_get (queue (setting_of g (T (tm_no (class_at g.catalogue c).tm.0))) c (local_of g (T (tm_no (class_at g.catalogue c).tm.0)) log)) j ≡ Some q
     → q.number ≡ n
     → IsHere (standing_at standing_at_u standing_at_t (T (tm_no (class_at g.catalogue c).tm.0)) (setting_of g (T (tm_no (class_at g.catalogue c).tm.0)))
@@ -100,7 +100,7 @@ here_t g log c n j q class there is =
     among_here (map (λ (k : ClassState). k.line) (map (class_of s l) (runs s))) n r.0 (class_of s l c).line there_line
     (line_here c (queue s c l) (active s c l) n j q there is)
 
-here_at : (g : Given) (log : Log) (c n j : ℕ) (q : Queued) → IsClass g.catalogue c → slice_get (queue (home_setting g c) c (at_home g c log)) j ≡ Some q
+here_at : (g : Input) (log : Log) (c n j : ℕ) (q : Queued) → IsClass g.catalogue c → slice_get (queue (home_setting g c) c (at_home g c log)) j ≡ Some q
     → q.number ≡ n → IsHere (standing_at standing_at_u standing_at_t (home g.catalogue c) (home_setting g c) (at_home g c log) n)
 here_at g log c n j q within there is =
     elim (c == 0)
@@ -116,13 +116,13 @@ here_at g log c n j q within there is =
 
 -- and so there is a reason
 
-why_here : (g : Given) (log : Log) (s : Standing) → IsHere s → (w : Why) × (why_of g log s ≡ Some w)
+why_here : (g : Input) (log : Log) (s : Standing) → IsHere s → (w : Why) × (why_of g log s ≡ Some w)
 why_here g log standings.Absent h = absurd h
 why_here g log (standings.Queued class place) h = (reasons.Queued class place, refl)
 why_here g log (standings.Underway class None at) h = (reasons.Underway at, refl)
 why_here g log (standings.Underway class (Some ts) at) h = (_, refl)
 
-reason_here : (g : Given) (log : Log) (n : ℕ) → IsPermitted g log → IsQueued g log n
+reason_here : (g : Input) (log : Log) (n : ℕ) → IsPermitted g log → IsQueued g log n
     → (w : Why) × (reason_of (standing_at standing_at_u standing_at_t) (submitted_at log) g log n ≡ Some w)
 reason_here g log n permitted x =
     let at : submitted_at log n ≡ home g.catalogue x.class = submitted_there g log x.later x.rest (home g.catalogue x.class) n permitted x.given in
@@ -167,7 +167,7 @@ listed_at f (x ∷ rest) n (suc k) one e h =
     let i = listed_at f rest n k one e h in
     elim (f x) as (λ o. (j : ℕ) × (slice_get (cons_option o (filter_map f rest)) j ≡ Some one)) [ None ↦ i | Some y ↦ (suc i.0, i.1) ]
 
-pub each_listed : (g : Given) (log : Log) → IsPermitted g log → HasSoundLists g log → AreNumbered g log → (n k : ℕ) → IsSubmitted (history log) n k
+pub each_listed : (g : Input) (log : Log) → IsPermitted g log → HasSoundLists g log → AreNumbered g log → (n k : ℕ) → IsSubmitted (history log) n k
     → WasCommitted (history log) n ⊎ IsListed (pending_of (standing_at standing_at_u standing_at_t) g log) n
 each_listed g log permitted lists numbered n k submitted =
     elim (list_any (commits n) (history log)) as (λ b. list_any (commits n) (history log) ≡ b

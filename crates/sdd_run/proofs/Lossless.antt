@@ -1,5 +1,5 @@
 -- Each transaction that was submitted stands in the order once, or is listed as pending once.
-use Rattle.sdd_run.proofs.All.{Catalogue, Committed, Given, History, Homes, IsCommitted, IsListed, IsSerial, IsSubmitted, List, Log, None, Option, Pending, Rec, Some, Stands, Submit, Telling, TxnNo, WasCommitted, Why, [], any_commit, ap, arith, commits, cond, cons_option, eq-eqb, false, filter_map, history, if◌then◌else◌, inl, inr, list_any, map, ne_eqb, not_both, option_map, pending_as, pending_by, pending_of, reason_of, refl, same_number, slice_get, submitted_at, subst, suc, sym, times_in, times_pending, true, txn_no, zero, ℕ, ◌+◌, ◌∙◌, ◌∷◌, ◌≡◌, ◌≢◌, ◌⊎◌}
+use Rattle.sdd_run.proofs.All.{Catalogue, Committed, History, Homes, Input, IsCommitted, IsListed, IsSerial, IsSubmitted, List, Log, None, Option, Pending, Rec, Some, Stands, Submit, Telling, TxnNo, WasCommitted, Why, [], any_commit, ap, arith, commits, cond, cons_option, eq-eqb, false, filter_map, history, if◌then◌else◌, inl, inr, list_any, map, ne_eqb, not_both, option_map, pending_as, pending_by, pending_of, reason_of, refl, same_number, slice_get, submitted_at, subst, suc, sym, times_in, times_pending, true, txn_no, zero, ℕ, ◌+◌, ◌∙◌, ◌∷◌, ◌≡◌, ◌≢◌, ◌⊎◌}
 use Rattle.sdd_run.proofs.Once.{none_there, times_more}
 
 -- how often what is chosen of a history names a transaction
@@ -70,7 +70,7 @@ named_so n (Some w) p e =
     let s : made ≡ p = cc in
     ap (λ (x : Pending). x.txn) s
 
-of_submit : (tell : Telling) (homes : Homes) (g : Given) (log : Log) (all : History) (e : ℕ × Rec) (p : Pending) → pending_by tell homes g log all e ≡ Some p
+of_submit : (tell : Telling) (homes : Homes) (g : Input) (log : Log) (all : History) (e : ℕ × Rec) (p : Pending) → pending_by tell homes g log all e ≡ Some p
     → (e.1 ≡ Submit p.txn) × (list_any (commits p.txn.0) all ≡ false)
 of_submit tell homes g log all (event, Submit n) p e =
     elim (list_any (commits n.0) all)
@@ -90,14 +90,14 @@ stands_there : (h : History) (k : ℕ) (e : ℕ × Rec) (r : Rec) → slice_get 
 stands_there h k e r there is = ap (option_map (λ (x : ℕ × Rec). x.1)) there ∙ ap (λ x. Some x) is
 
 -- what is listed was submitted
-pub listed_submits : (tell : Telling) (g : Given) (log : Log) (j : ℕ) (p : Pending) → slice_get (pending_of tell g log) j ≡ Some p
+pub listed_submits : (tell : Telling) (g : Input) (log : Log) (j : ℕ) (p : Pending) → slice_get (pending_of tell g log) j ≡ Some p
     → (k : ℕ) × IsSubmitted (history log) p.txn.0 k
 listed_submits tell g log j p e =
     let x = chosen_from (pending_by tell (submitted_at log) g log (history log)) (history log) j p e in
     let s = of_submit tell (submitted_at log) g log (history log) x.entry p x.gives in
     (x.place, stands_there (history log) x.place x.entry (Submit p.txn) x.there s.0)
 
-module _ (tell : Telling) (g : Given) (log : Log) where
+module _ (tell : Telling) (g : Input) (log : Log) where
   -- one that is committed isn't listed
   not_listed : (n : ℕ) → WasCommitted (history log) n → times_pending n (pending_of tell g log) ≡ 0
   not_listed n w =

@@ -1,5 +1,5 @@
 -- The marks of a lawful log submit transactions that the schedule names.
-use Rattle.sdd_run.proofs.All.{All, All-head, All-tail, AreNumbered, Bool, Catalogue, Deliver, Down, Event, Given, IsFrom1To, IsLawful, IsValidEvent, List, Log, Lose, Mark, Redeclare, Repeat, Resend, Settle, Tick, TxnNo, Up, [], ap, arith, eq-eqb, eqb-true, false, left_is, length, marked, one_if, refl, submits_in, subst, sym, true, ℕ, ◌++◌, ◌+◌, ◌==◌, ◌∷◌, ◌≡◌, ◌≤◌}
+use Rattle.sdd_run.proofs.All.{All, All-head, All-tail, AreNumbered, Bool, Catalogue, Deliver, Down, Event, Input, IsFrom1To, IsLawful, IsValidEvent, List, Log, Lose, Mark, Redeclare, Repeat, Resend, Settle, Tick, TxnNo, Up, [], ap, arith, eq-eqb, eqb-true, false, left_is, length, marked, one_if, refl, submits_in, subst, sym, true, ℕ, ◌++◌, ◌+◌, ◌==◌, ◌∷◌, ◌≡◌, ◌≤◌}
 use Rattle.sdd_obligations.specs.All.{Submit}
 
 -- a mark that stands in a log counts
@@ -29,7 +29,7 @@ named cat count n (Redeclare ∷ es) v h = named cat count n es (All-tail (IsVal
 named cat count n (Down d ∷ es) v h = named cat count n es (All-tail (IsValidEvent cat count) (Down d) es v) (omega (arith, h))
 named cat count n (Up d ∷ es) v h = named cat count n es (All-tail (IsValidEvent cat count) (Up d) es v) (omega (arith, h))
 
-pub are_numbered : (g : Given) (log : Log) → All (IsValidEvent g.catalogue (length g.txns)) g.events → IsLawful g log → AreNumbered g log
+pub are_numbered : (g : Input) (log : Log) → All (IsValidEvent g.catalogue (length g.txns)) g.events → IsLawful g log → AreNumbered g log
 are_numbered g log valid lawful = λ later before n is.
     let there : 1 ≤ marked n.0 log = subst (λ l. 1 ≤ marked n.0 l) (sym is) (marked_there n later before) in
     let all = (left_is g n.0 log lawful).all in

@@ -1,5 +1,5 @@
 -- What is told of a world that has carried out all events of a workload is told of its run.
-use Rattle.sdd_run.proofs.All.{AreAtLastHomes, AreTables, Catalogue, EndsAtLimit, EndsBy, EndsByLimit, Entry, Err, Event, History, IfOk, IsReportOn, IsRunOf, IsSound, IsSummaryOn, IsTheLog, IsValid, List, Log, Ok, Result, StandsFor, Summary, Txn, Workload, World, ap, begun, eras_of, given_of, history, length, marks, none_due, order_of, over_at_end, report_of, report_text, subst, summary_of, summary_text, whole_in, with_events, ℕ, ◌∙◌, ◌≡◌}
+use Rattle.sdd_run.proofs.All.{AreAtLastHomes, AreTables, Catalogue, EndsAtLimit, EndsBy, EndsByLimit, Entry, Err, Event, History, IfOk, IsReportOn, IsRunOf, IsSound, IsSummaryOn, IsTheLog, IsValid, List, Log, Ok, Result, StandsFor, Summary, Txn, Workload, World, ap, begun, eras_of, history, input_of, length, marks, none_due, order_of, over_at_end, report_of, report_text, subst, summary_of, summary_text, whole_in, with_events, ℕ, ◌∙◌, ◌≡◌}
 use Rattle.sdd_run.proofs.Beginning.{all_given}
 use Rattle.sdd_run.proofs.Goods.{fits_given}
 use Rattle.sdd_run.proofs.InTurn.{in_turn}
@@ -19,7 +19,7 @@ if_ok (Err e) P Q f p = tt
 -- a run is given all of its events
 
 given_all : (cat : Catalogue) (tables : List (List Entry)) (work : Workload) (events : List Event)
-    → events ≡ work.events → with_events (begun cat tables work) events ≡ given_of cat tables work
+    → events ≡ work.events → with_events (begun cat tables work) events ≡ input_of cat tables work
 given_all cat tables work events same = ap (with_events (begun cat tables work)) same ∙ all_given cat tables work
 
 pub run_of : (cat : Catalogue) (tables : List (List Entry)) (work : Workload) (events : List Event) → events ≡ work.events
@@ -39,14 +39,14 @@ ended cat tables work tabled events same e = record {
 
 -- each pending transaction was submitted at the site of its class by the last list
 pub last_homes : (cat : Catalogue) (tables : List (List Entry)) (work : Workload) → IsSound (whole_in cat work) → IsValid cat work → AreTables cat work tables
-    → (log : Log) → IsTheLog (given_of cat tables work) log → AreAtLastHomes (given_of cat tables work) log
+    → (log : Log) → IsTheLog (input_of cat tables work) log → AreAtLastHomes (input_of cat tables work) log
 last_homes cat tables work sound valid tabled log the_log =
-    at_last_homes (given_of cat tables work) log (known_of cat tables work sound valid tabled log the_log)
+    at_last_homes (input_of cat tables work) log (known_of cat tables work sound valid tabled log the_log)
 
 -- the report on the run
 pub reported : (cat : Catalogue) (tables : List (List Entry)) (work : Workload) (log : Log)
-    → IsSound (whole_in cat work) → IsValid cat work → AreTables cat work tables → IsTheLog (given_of cat tables work) log
-    → (text : List ℕ) → text ≡ report_text (report_of (given_of cat tables work) log) → IsReportOn cat work text
+    → IsSound (whole_in cat work) → IsValid cat work → AreTables cat work tables → IsTheLog (input_of cat tables work) log
+    → (text : List ℕ) → text ≡ report_text (report_of (input_of cat tables work) log) → IsReportOn cat work text
 reported cat tables work log sound valid tabled the_log text is =
     let whole = whole_in cat work in
     let order = order_of cat work log in
@@ -64,17 +64,17 @@ reported cat tables work log sound valid tabled the_log text is =
       serial = along;
       once = each_once whole (history log) order along;
       in_turn = λ x y first second class submitted.
-          in_turn whole (eras_of (given_of cat tables work) log) work.txns (history log) starting x y first second class submitted order along;
+          in_turn whole (eras_of (input_of cat tables work) log) work.txns (history log) starting x y first second class submitted order along;
       replies = given;
-      told = is ∙ retold (report_of (given_of cat tables work) log) _ fine.one_commit given;
+      told = is ∙ retold (report_of (input_of cat tables work) log) _ fine.one_commit given;
       copies = left cat tables work sound valid tabled log the_log;
       alike = alike cat tables work sound valid tabled log the_log;
       free = free_undisturbed cat tables work sound valid tabled log the_log;
       rejections = few cat tables work sound valid tabled log the_log;
       low_clocks = low_clocks cat tables work sound valid tabled log the_log.lawful;
       nothing_lost = nothing_lost cat tables work sound valid tabled log the_log fine along starting.one_submit;
-      reasons = reasons_are (given_of cat tables work) log (permitted cat tables work sound valid tabled log the_log)
-          (fits_given cat tables work sound valid work.events) (none_due (given_of cat tables work) log (over_at_end (given_of cat tables work) log the_log));
+      reasons = reasons_are (input_of cat tables work) log (permitted cat tables work sound valid tabled log the_log)
+          (fits_given cat tables work sound valid work.events) (none_due (input_of cat tables work) log (over_at_end (input_of cat tables work) log the_log));
       quiet = quiet_behind cat tables work sound valid tabled log the_log;
       settled = settled cat tables work sound valid tabled log the_log fine along;
       left = λ links up copy there.

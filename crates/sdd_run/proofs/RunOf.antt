@@ -1,5 +1,5 @@
 -- What is known of the run of a valid workload, whatever lists of classes it puts in force.
-use Rattle.sdd_run.proofs.All.{All, All-weaker, AreErasOf, AreTables, Catalogue, Entry, Fits, FitsStart, HasSoundData, HasSoundLists, HoldsValues, IsHeld, IsLawful, IsPermitted, IsSound, IsTheLog, IsUpAtRedeclares, IsValid, IsValidRow, IsValidTxn, IsValue, Known, List, Log, PutsHeld, RelNo, Row, SubmitGiven, Txn, Workload, are_eras_of, arith, classes_in, eras_of, few_redeclares, given_of, known, lawful_permitted, length, redeclares, up_at_redeclares, whole_in, ◌≤◌}
+use Rattle.sdd_run.proofs.All.{All, All-weaker, AreErasOf, AreTables, Catalogue, Entry, Fits, FitsStart, HasSoundData, HasSoundLists, HoldsValues, IsHeld, IsLawful, IsPermitted, IsSound, IsTheLog, IsUpAtRedeclares, IsValid, IsValidRow, IsValidTxn, IsValue, Known, List, Log, PutsHeld, RelNo, Row, SubmitGiven, Txn, Workload, are_eras_of, arith, classes_in, eras_of, few_redeclares, input_of, known, lawful_permitted, length, redeclares, up_at_redeclares, whole_in, ◌≤◌}
 use Rattle.sdd_run.proofs.Beginning.{rows_given}
 use Rattle.sdd_run.proofs.Forces.{era_at, how_many, list_at}
 use Rattle.sdd_run.proofs.Goods.{few_ticks, fits_given, held, puts_held}
@@ -10,13 +10,13 @@ use Rattle.sdd_run.proofs.Whole.{events_valid, rows_valid, txns_valid}
 
 module _ (cat : Catalogue) (tables : List (List Entry)) (work : Workload) (sound : IsSound (whole_in cat work)) (valid : IsValid cat work)
     (tabled : AreTables cat work tables) where
-  pub submit_given : SubmitGiven (given_of cat tables work)
+  pub submit_given : SubmitGiven (input_of cat tables work)
   submit_given = record {
     once = once work.events valid.submitted;
     given = λ n there. named (whole_in cat work) (length work.txns) n work.events (events_valid cat work valid) there;
   }
 
-  pub fine : HasSoundData (given_of cat tables work) work.rows
+  pub fine : HasSoundData (input_of cat tables work) work.rows
   fine =
       let whole = whole_in cat work in
       record {
@@ -29,16 +29,16 @@ module _ (cat : Catalogue) (tables : List (List Entry)) (work : Workload) (sound
         alike = λ d here. rows_given cat tables work d here.0 here.1;
       }
 
-  module _ (log : Log) (lawful : IsLawful (given_of cat tables work) log) where
+  module _ (log : Log) (lawful : IsLawful (input_of cat tables work) log) where
     -- no list is put in force beyond the last
     pub few_lists : redeclares log ≤ length (classes_in cat work)
     few_lists =
         let all = how_many cat tables work tabled in
-        let few = few_redeclares (given_of cat tables work) log (few_ticks (whole_in cat work) (length work.txns) work.events (events_valid cat work valid))
+        let few = few_redeclares (input_of cat tables work) log (few_ticks (whole_in cat work) (length work.txns) work.events (events_valid cat work valid))
         lawful (timely cat tables work valid tabled) (omega (arith, all)) in
         omega (arith, few, all)
 
-    pub lawful_lists : HasSoundLists (given_of cat tables work) log
+    pub lawful_lists : HasSoundLists (input_of cat tables work) log
     lawful_lists k l =
         let few = few_lists in
         let within : k ≤ length (classes_in cat work) = omega (arith, l, few) in
@@ -48,20 +48,20 @@ module _ (cat : Catalogue) (tables : List (List Entry)) (work : Workload) (sound
           table = (list_at cat tables work tabled k within).force;
         }
 
-  module _ (log : Log) (the_log : IsTheLog (given_of cat tables work) log) where
-    pub permitted : IsPermitted (given_of cat tables work) log
-    permitted = lawful_permitted (given_of cat tables work) log (once work.events valid.submitted) the_log.lawful
+  module _ (log : Log) (the_log : IsTheLog (input_of cat tables work) log) where
+    pub permitted : IsPermitted (input_of cat tables work) log
+    permitted = lawful_permitted (input_of cat tables work) log (once work.events valid.submitted) the_log.lawful
 
-    pub lists : HasSoundLists (given_of cat tables work) log
+    pub lists : HasSoundLists (input_of cat tables work) log
     lists = lawful_lists log the_log.lawful
 
-    pub up : IsUpAtRedeclares (given_of cat tables work) log
+    pub up : IsUpAtRedeclares (input_of cat tables work) log
     up =
-        up_at_redeclares (given_of cat tables work) log (few_ticks (whole_in cat work) (length work.txns) work.events (events_valid cat work valid))
+        up_at_redeclares (input_of cat tables work) log (few_ticks (whole_in cat work) (length work.txns) work.events (events_valid cat work valid))
         the_log.lawful (timely cat tables work valid tabled)
 
-    pub eras_are : AreErasOf (given_of cat tables work) log (eras_of (given_of cat tables work) log)
-    eras_are = are_eras_of (given_of cat tables work) log lists
+    pub eras_are : AreErasOf (input_of cat tables work) log (eras_of (input_of cat tables work) log)
+    eras_are = are_eras_of (input_of cat tables work) log lists
 
-    pub known_of : Known (given_of cat tables work) log
-    known_of = known (given_of cat tables work) work.rows log (record { catalogue = sound }) fine submit_given the_log.lawful lists up
+    pub known_of : Known (input_of cat tables work) log
+    known_of = known (input_of cat tables work) work.rows log (record { catalogue = sound }) fine submit_given the_log.lawful lists up

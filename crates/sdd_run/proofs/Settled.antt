@@ -1,5 +1,5 @@
 -- A run that a settle or a redeclare ends leaves nothing undone, where no data module is down at its end.
-use Rattle.sdd_run.proofs.All.{AllCommitted, AreAllApplied, AreTables, Attempt, Catalogue, Commit, Committed, Contains, Contains-from_filter, Contains-from_flat_map, Contains-from_map, CopyTable, D, EndsAtRest, EndsQuiet, Entry, Given, HasCommit, HasSoundLists, History, IsAtEnd, IsAttempt, IsCommitted, IsLawful, IsListed, IsOrderable, IsSerial, IsSettled, IsSound, IsSubmitted, IsTheLog, IsValid, List, Log, LosesNothing, None, NoneIsDown, Stands, SubmitGiven, TellsAllCommitted, TxnNo, WasCommitted, Workload, ap, applied_at_copies, dated, dm_no, given_of, has_copy, history, lawful_numbered, lawful_permitted, length, local_of, next, numbers_to, order_of, report_of, setting_of, settled_is_committed, settled_is_finished, settled_is_quiet, standing_at, standing_at_t, standing_at_u, subst, sym, table_of, tables_at, tables_of, times_in, txn_no, whole_in, with_event, ℕ, ◌≡◌, ◌⊎◌}
+use Rattle.sdd_run.proofs.All.{AllCommitted, AreAllApplied, AreTables, Attempt, Catalogue, Commit, Committed, Contains, Contains-from_filter, Contains-from_flat_map, Contains-from_map, CopyTable, D, EndsAtRest, EndsQuiet, Entry, HasCommit, HasSoundLists, History, Input, IsAtEnd, IsAttempt, IsCommitted, IsLawful, IsListed, IsOrderable, IsSerial, IsSettled, IsSound, IsSubmitted, IsTheLog, IsValid, List, Log, LosesNothing, None, NoneIsDown, Stands, SubmitGiven, TellsAllCommitted, TxnNo, WasCommitted, Workload, ap, applied_at_copies, dated, dm_no, has_copy, history, input_of, lawful_numbered, lawful_permitted, length, local_of, next, numbers_to, order_of, report_of, setting_of, settled_is_committed, settled_is_finished, settled_is_quiet, standing_at, standing_at_t, standing_at_u, subst, sym, table_of, tables_at, tables_of, times_in, txn_no, whole_in, with_event, ℕ, ◌≡◌, ◌⊎◌}
 use Rattle.sdd_run.proofs.AtRest.{quiet_at_rest}
 use Rattle.sdd_run.proofs.RunOf.{lists, submit_given, up}
 use Rattle.sdd_run.proofs.Listed.{each_listed}
@@ -26,59 +26,59 @@ stands_once cat h order fine serial n w =
     subst (λ m. times_in m order ≡ 1) t.2 (each_once cat h order serial t.0 t.1)
 
 module _ (cat : Catalogue) (tables : List (List Entry)) (work : Workload) (sound : IsSound (whole_in cat work)) (valid : IsValid cat work)
-    (tabled : AreTables cat work tables) (log : Log) (the_log : IsTheLog (given_of cat tables work) log) where
-  submits : SubmitGiven (given_of cat tables work)
+    (tabled : AreTables cat work tables) (log : Log) (the_log : IsTheLog (input_of cat tables work) log) where
+  submits : SubmitGiven (input_of cat tables work)
   submits = submit_given cat tables work sound valid tabled
 
-  in_force : HasSoundLists (given_of cat tables work) log
+  in_force : HasSoundLists (input_of cat tables work) log
   in_force = lists cat tables work sound valid tabled log the_log
 
-  at_end : NoneIsDown (whole_in cat work) log → IsAtEnd (given_of cat tables work) log
+  at_end : NoneIsDown (whole_in cat work) log → IsAtEnd (input_of cat tables work) log
   at_end are_up = record { lawful = the_log.lawful; complete = the_log.complete; up_before = up cat tables work sound valid tabled log the_log; up = are_up }
 
-  is_settled : EndsQuiet (given_of cat tables work) log → NoneIsDown (whole_in cat work) log → IsSettled (given_of cat tables work) log
+  is_settled : EndsQuiet (input_of cat tables work) log → NoneIsDown (whole_in cat work) log → IsSettled (input_of cat tables work) log
   is_settled links are_up = record { at_end = at_end are_up; links = links }
 
   -- behind a settle or a redeclare the links are quiet
-  pub quiet_behind : EndsAtRest work.events → EndsQuiet (given_of cat tables work) log
+  pub quiet_behind : EndsAtRest work.events → EndsQuiet (input_of cat tables work) log
   quiet_behind ends =
-      let g : Given = given_of cat tables work in
-      let before : Given = record g { events = ends.before } in
+      let g : Input = input_of cat tables work in
+      let before : Input = record g { events = ends.before } in
       let same : g ≡ with_event before ends.last = ap (λ es. record g { events = es }) ends.is in
       quiet_at_rest before ends.last ends.at_rest log (subst (λ x. IsLawful x log) same the_log.lawful)
       (subst (λ x. next x log ≡ None) same the_log.complete)
 
-  all_committed : EndsQuiet (given_of cat tables work) log → NoneIsDown (whole_in cat work) log → AllCommitted (history log)
-  all_committed links are_up = settled_is_committed (given_of cat tables work) log in_force submits (is_settled links are_up)
+  all_committed : EndsQuiet (input_of cat tables work) log → NoneIsDown (whole_in cat work) log → AllCommitted (history log)
+  all_committed links are_up = settled_is_committed (input_of cat tables work) log in_force submits (is_settled links are_up)
 
   pub settled : IsOrderable (whole_in cat work) (history log) → IsSerial (whole_in cat work) (history log) (order_of cat work log)
-      → EndsQuiet (given_of cat tables work) log → NoneIsDown (whole_in cat work) log → TellsAllCommitted (report_of (given_of cat tables work) log)
+      → EndsQuiet (input_of cat tables work) log → NoneIsDown (whole_in cat work) log → TellsAllCommitted (report_of (input_of cat tables work) log)
   settled fine serial links are_up =
       let all = all_committed links are_up in
       record {
         committed = all;
         in_order = λ n place there. stands_once (whole_in cat work) (history log) (order_of cat work log) fine serial n (all n place there);
-        none_pending = none_pending (standing_at standing_at_u standing_at_t) (given_of cat tables work) log all;
+        none_pending = none_pending (standing_at standing_at_u standing_at_t) (input_of cat tables work) log all;
       }
 
   -- each transaction that was submitted is committed or listed
-  listed : (n place : ℕ) → IsSubmitted (history log) n place → WasCommitted (history log) n ⊎ IsListed (report_of (given_of cat tables work) log).pending n
+  listed : (n place : ℕ) → IsSubmitted (history log) n place → WasCommitted (history log) n ⊎ IsListed (report_of (input_of cat tables work) log).pending n
   listed =
-      each_listed (given_of cat tables work) log (lawful_permitted (given_of cat tables work) log submits.once the_log.lawful)
-      in_force (lawful_numbered (given_of cat tables work) log submits the_log.lawful)
+      each_listed (input_of cat tables work) log (lawful_permitted (input_of cat tables work) log submits.once the_log.lawful)
+      in_force (lawful_numbered (input_of cat tables work) log submits the_log.lawful)
 
   -- and is so once
   pub nothing_lost : IsOrderable (whole_in cat work) (history log) → IsSerial (whole_in cat work) (history log) (order_of cat work log)
-      → ((n j k : ℕ) → IsSubmitted (history log) n j → IsSubmitted (history log) n k → j ≡ k) → LosesNothing (report_of (given_of cat tables work) log)
+      → ((n j k : ℕ) → IsSubmitted (history log) n j → IsSubmitted (history log) n k → j ≡ k) → LosesNothing (report_of (input_of cat tables work) log)
   nothing_lost fine serial one n place there =
-      in_one (standing_at standing_at_u standing_at_t) (given_of cat tables work) log (whole_in cat work) (order_of cat work log) serial
+      in_one (standing_at standing_at_u standing_at_t) (input_of cat tables work) log (whole_in cat work) (order_of cat work log) serial
       (λ m w. stands_once (whole_in cat work) (history log) (order_of cat work log) fine serial m w) one n (listed n place there)
 
   -- at each copy all is applied that changed its fragment
-  pub applied : EndsQuiet (given_of cat tables work) log → NoneIsDown (whole_in cat work) log
-      → (copy : CopyTable) → Contains (tables_of (given_of cat tables work) log) copy → AreAllApplied (history log) copy.frag.0 copy.dm.0 (length (history log))
+  pub applied : EndsQuiet (input_of cat tables work) log → NoneIsDown (whole_in cat work) log
+      → (copy : CopyTable) → Contains (tables_of (input_of cat tables work) log) copy → AreAllApplied (history log) copy.frag.0 copy.dm.0 (length (history log))
   applied links are_up copy there =
-      let g : Given = given_of cat tables work in
+      let g : Input = input_of cat tables work in
       let s = is_settled links are_up in
       let h = settled_is_quiet g log submits.once s in
       let done = settled_is_finished g log in_force submits.once s in

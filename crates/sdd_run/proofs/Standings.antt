@@ -1,6 +1,6 @@
 -- Between calls no attempt waits for a message of U: it lacks the answer of a data module; and an undeclared transaction
 -- whose attempt hasn't begun waits for a transaction module.
-use Rattle.sdd_run.proofs.All.{AtTurn, Bool, Catalogue, ClassNo, D, Exchange, FitsGiven, Given, HasNear, IsClass, IsModule, IsNearBy, IsNumberedSite, IsPermitted, IsSound, IsStanding, Line, List, Log, None, Option, Queued, Site, Some, Standing, StandsAt, T, TmCounts, Turn, U, [], active, active_near, all_served, all_true, and_left, answered_last, ap, apart, arith, attempt_due, awaited, base_of, both, chain_at, class_at, contains, counts, counts_tm, dec_le, does_at, eq-eqb, eqb-true, false, find, firsts, fold, goes_on, head_of, home, home_fair, home_turns, if_none, if◌then◌else◌, in_filtered, in_mapped, in_range, inl, inr, is_empty, is_over, is_site, last_served, length, list_all, local_of, lower, lowest, map, min, near_one, next_at, no_act, no_active, no_sends, none_at, not_both, not_false, not_zero, numbers_to, option_map, or_left, or_none, or_right, or_standing, position, positive, queue, queued_at, refl, run_at, runs_place, same_or_not, send_due, setting_of, site_due, site_of, site_there, sites, slice_get, small_home, sound_whole, spoken, standing_among, standing_at, standing_at_t, standing_at_u, standing_by, standing_of, subst, suc, sym, t_site, tm_no, tm_of, true, turn_at, underway, unsent, waiting, zero, zero_head, ℕ, ◌-◌, ◌==◌, ◌∙◌, ◌∷◌, ◌≡◌, ◌≤◌, ◌⊎◌}
+use Rattle.sdd_run.proofs.All.{AtTurn, Bool, Catalogue, ClassNo, D, Exchange, FitsInput, HasNear, Input, IsClass, IsModule, IsNearBy, IsNumberedSite, IsPermitted, IsSound, IsStanding, Line, List, Log, None, Option, Queued, Site, Some, Standing, StandsAt, T, TmCounts, Turn, U, [], active, active_near, all_served, all_true, and_left, answered_last, ap, apart, arith, attempt_due, awaited, base_of, both, chain_at, class_at, contains, counts, counts_tm, dec_le, does_at, eq-eqb, eqb-true, false, find, firsts, fold, goes_on, head_of, home, home_fair, home_turns, if_none, if◌then◌else◌, in_filtered, in_mapped, in_range, inl, inr, is_empty, is_over, is_site, last_served, length, list_all, local_of, lower, lowest, map, min, near_one, next_at, no_act, no_active, no_sends, none_at, not_both, not_false, not_zero, numbers_to, option_map, or_left, or_none, or_right, or_standing, position, positive, queue, queued_at, refl, run_at, runs_place, same_or_not, send_due, setting_of, site_due, site_of, site_there, sites, slice_get, small_home, sound_whole, spoken, standing_among, standing_at, standing_at_t, standing_at_u, standing_by, standing_of, subst, suc, sym, t_site, tm_no, tm_of, true, turn_at, underway, unsent, waiting, zero, zero_head, ℕ, ◌-◌, ◌==◌, ◌∙◌, ◌∷◌, ◌≡◌, ◌≤◌, ◌⊎◌}
 use Rattle.sdd_obligations.specs.All.{Attempt, IsFrom1To}
 use Rattle.sdd_progress.specs.Quiet.{at_home}
 use Rattle.sdd_obligations.proofs.invariants.logs.tm.Lists.{get_map as at_map}
@@ -72,7 +72,7 @@ found_or_none {A = A} p (y ∷ xs) =
 
 -- nothing is due at a site
 
-module _ (g : Given) (log : Log) (idle : site_due g log ≡ None) where
+module _ (g : Input) (log : Log) (idle : site_due g log ≡ None) where
   none_next : (at : Site) → is_site g.catalogue.tms g.catalogue.dms at ≡ true → next_at g log at ≡ None
   none_next at e =
       let i = site_there g.catalogue.tms g.catalogue.dms at e in
@@ -122,7 +122,7 @@ asked_there d x v e l (awaited m ns a b s w f h) = h
 asked_there d x v e l (answered_last q ns a b s t f h) = h
 asked_there d x v e l (apart a b s h) = absurd (not_both (contains x.lacks d) l b)
 
-module _ (g : Given) (log : Log) (permitted : IsPermitted g log) (good : FitsGiven g) (idle : site_due g log ≡ None) where
+module _ (g : Input) (log : Log) (permitted : IsPermitted g log) (good : FitsInput g) (idle : site_due g log ≡ None) where
   lacks_answer : (c : ℕ) (a : Attempt) → IsClass g.catalogue c → active (setting_of g (home g.catalogue c)) c (at_home g c log) ≡ Some a
       → IsNumberedSite g.catalogue (site_of (lowest a.exchange.lacks))
   lacks_answer c a l e =
@@ -168,7 +168,7 @@ among_stands cat [] n h = tt
 among_stands cat (l ∷ ls) n h = first_stands cat (standing_of l n) (standing_among ls n) (h 0 l refl) (among_stands cat ls n (λ j x e. h (suc j) x e))
 
 -- a class that runs at a transaction module
-run_here : (g : Given) (t j c : ℕ) → slice_get (tm_views.runs (setting_of g (T (tm_no t)))) j ≡ Some c
+run_here : (g : Input) (t j c : ℕ) → slice_get (tm_views.runs (setting_of g (T (tm_no t)))) j ≡ Some c
     → IsClass g.catalogue c × (home g.catalogue c ≡ T (tm_no t))
 run_here g t j c e =
     let i = in_filtered (λ k. (class_at g.catalogue k).tm.0 == t) (numbers_to (length g.catalogue.classes)) j c e in
@@ -200,7 +200,7 @@ first_underway_stands cat at (standings.Queued class place) h f =
     ] refl
 first_underway_stands cat at (standings.Underway class ts site) h f = h
 
-module _ (g : Given) (log : Log) (permitted : IsPermitted g log) (good : FitsGiven g) (idle : site_due g log ≡ None) where
+module _ (g : Input) (log : Log) (permitted : IsPermitted g log) (good : FitsInput g) (idle : site_due g log ≡ None) where
   -- of each T what was counted
   of_t : (k : ℕ) (x : TmCounts) → slice_get (map (λ t. counts t (local_of g U log)) (numbers_to g.catalogue.tms)) k ≡ Some x
       → (t : ℕ) × IsFrom1To g.catalogue.tms t × (counts t (local_of g U log) ≡ x)

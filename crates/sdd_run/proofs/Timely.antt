@@ -1,5 +1,5 @@
 -- In a valid workload each redeclare stands where it may: a list is left, and no data module is down.
-use Rattle.sdd_run.proofs.All.{AreTables, AreTimely, Bool, Catalogue, Entry, Event, IsValid, List, Redeclare, Some, Workload, [], ap, arith, at_seam, classes_in, cond, count_by, down_from, false, fold, given_of, length, length-map, redeclares_in, refl, slice_get, subst, sum_by-cons, sym, take, take-append_seam, turned_by, ℕ, ◌+◌, ◌∙◌, ◌∷◌, ◌≡◌, ◌≤◌}
+use Rattle.sdd_run.proofs.All.{AreTables, AreTimely, Bool, Catalogue, Entry, Event, IsValid, List, Redeclare, Some, Workload, [], ap, arith, at_seam, classes_in, cond, count_by, down_from, false, fold, input_of, length, length-map, redeclares_in, refl, slice_get, subst, sum_by-cons, sym, take, take-append_seam, turned_by, ℕ, ◌+◌, ◌∙◌, ◌∷◌, ◌≡◌, ◌≤◌}
 use Rattle.sdd_run.proofs.Forces.{how_many}
 use Rattle.sdd_run.proofs.Whole.{same_dms}
 use Rattle.sdd_obligations.specs.All.{Submit}
@@ -25,7 +25,7 @@ down_alike d b [] = refl
 down_alike d b (e ∷ es) = ap (λ c. down_from d c es) (turned_alike d e b) ∙ down_alike d (script.turned_by d e b) es
 
 pub timely : (cat : Catalogue) (tables : List (List Entry)) (work : Workload) → IsValid cat work → AreTables cat work tables
-    → AreTimely (given_of cat tables work)
+    → AreTimely (input_of cat tables work)
 timely cat tables work valid tabled front rest is =
     let there : slice_get work.events (length front) ≡ Some Redeclare = ap (λ es. slice_get es (length front)) is ∙ at_seam front rest Redeclare in
     let may = valid.timely (length front) there in

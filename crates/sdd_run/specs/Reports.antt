@@ -1,7 +1,7 @@
 -- The report on a run, as its log gives it.
 use Rattle.sdd_world.specs.AtSites.{standing_at}
 use Rattle.sdd_world.specs.Standings.{standing_at_t, standing_at_u}
-use Rattle.sdd_obligations.specs.All.{Given, Log, history}
+use Rattle.sdd_obligations.specs.All.{Input, Log, history}
 use Rattle.sdd_obligations.specs.serial_orders.SerialOrder.{serial_order}
 use Rattle.sdd_report.specs.Report.{Report}
 use Rattle.sdd_world.specs.Copies.{tables_of}
@@ -9,7 +9,7 @@ use Rattle.sdd_world.specs.Pending.{Telling, pending_of}
 
 -- its records, the serial order of what is committed, what is pending, and the copies, where this says how sites
 -- have transactions
-abbrev pub report_by : Telling → Given → Log → Report
+abbrev pub report_by : Telling → Input → Log → Report
 report_by tell g log = record {
   catalogue = g.catalogue;
   txns = g.txns;
@@ -19,5 +19,5 @@ report_by tell g log = record {
   copies = tables_of g log;
 }
 
-abbrev pub report_of : Given → Log → Report
+abbrev pub report_of : Input → Log → Report
 report_of g log = report_by (standing_at standing_at_u standing_at_t) g log

@@ -2,7 +2,7 @@
 -- classes: then the whole catalogue has the classes of all lists, and one list after the other is in force, with the
 -- protocol table of its own catalogue. Without further lists the whole catalogue is the catalogue itself.
 use Rattle.std.specs.Prelude.{ℕ, ◌≡◌, List, [], ◌∷◌, ◌++◌, Contains, length, map}
-use Rattle.sdd_obligations.specs.All.{AreAllApplied, Catalogue, Committed, EndsByLimit, Force, Given, IsAttempt, IsClassOf, IsCommitted, IsOrderable, IsSerial, IsTable, IsTheLog, Log, Reply, TxnNo, history, marks, numbers_to, run}
+use Rattle.sdd_obligations.specs.All.{AreAllApplied, Catalogue, Committed, EndsByLimit, Force, Input, IsAttempt, IsClassOf, IsCommitted, IsOrderable, IsSerial, IsTable, IsTheLog, Log, Reply, TxnNo, history, marks, numbers_to, run}
 use Rattle.std.specs.List.{All, AllZip}
 use Rattle.sdd_obligations.specs.protocol.declared.entry.Entry.{Entry}
 use Rattle.sdd_script.specs.declared.workload.Workload.{Workload}
@@ -40,8 +40,8 @@ abbrev pub AreTables : Catalogue → Workload → List (List Entry) → Type 0
 AreTables cat work tables = AllZip IsTable (eras_in cat work) tables
 
 -- what is given: the lists of classes, and each data module begins with the workload's rows
-abbrev pub given_of : Catalogue → List (List Entry) → Workload → Given
-given_of cat tables work = record {
+abbrev pub input_of : Catalogue → List (List Entry) → Workload → Input
+input_of cat tables work = record {
   catalogue = whole_in cat work;
   forces = forces_of (eras_in cat work) tables;
   rows = map (λ d. work.rows) (numbers_to cat.dms);
@@ -50,8 +50,8 @@ given_of cat tables work = record {
 }
 
 -- before its first event
-abbrev pub begun : Catalogue → List (List Entry) → Workload → Given
-begun cat tables work = record (given_of cat tables work) { events = [] }
+abbrev pub begun : Catalogue → List (List Entry) → Workload → Input
+begun cat tables work = record (input_of cat tables work) { events = [] }
 
 -- the serial order of what a run committed
 abbrev pub order_of : Catalogue → Workload → Log → List TxnNo
@@ -71,8 +71,8 @@ pub record IsReportOn (cat : Catalogue) (work : Workload) (text : List ℕ) : Ty
   pub tables : List (List Entry)
   pub tables_are : AreTables cat work tables
   pub log : Log
-  pub log_is : IsTheLog (given_of cat tables work) log
-  pub text_is : text ≡ report_text (report_of (given_of cat tables work) log)
+  pub log_is : IsTheLog (input_of cat tables work) log
+  pub text_is : text ≡ report_text (report_of (input_of cat tables work) log)
   -- The order in the text is serial: each committed transaction stands in it once, after all that precede it, among which
   -- are those of its own class that were submitted before it.
   pub orderable : IsOrderable (whole_in cat work) (history log)
@@ -87,14 +87,14 @@ pub record IsReportOn (cat : Catalogue) (work : Workload) (text : List ℕ) : Ty
       ≡ trace (whole_in cat work) work.txns (history log)
       ++ (order_line work.txns (order_of cat work log)
       ++ (replies_along (names_of work.txns (order_of cat work log)) (plain_run cat work log).0
-      ++ after_replies (report_of (given_of cat tables work) log)))
+      ++ after_replies (report_of (input_of cat tables work) log)))
   -- A copy at which all is applied that changed its fragment lists the rows that this database is left with.
-  pub copies : (copy : CopyTable) → Contains (tables_of (given_of cat tables work) log) copy
+  pub copies : (copy : CopyTable) → Contains (tables_of (input_of cat tables work) log) copy
       → AreAllApplied (history log) copy.frag.0 copy.dm.0 (length (history log))
       → copy.rows ≡ rows_left (whole_in cat work) (plain_run cat work log).1 copy.frag.0
   -- Two copies of a fragment at which the same transactions are applied that change it list the same rows.
-  pub alike : (one two : CopyTable) → Contains (tables_of (given_of cat tables work) log) one
-      → Contains (tables_of (given_of cat tables work) log) two → one.frag ≡ two.frag
+  pub alike : (one two : CopyTable) → Contains (tables_of (input_of cat tables work) log) one
+      → Contains (tables_of (input_of cat tables work) log) two → one.frag ≡ two.frag
       → AreAppliedAlike (history log) one.frag.0 one.dm.0 (length (history log)) two.dm.0 (length (history log)) → one.rows ≡ two.rows
   -- No attempt of a class that lies on no simple cycle of a conflict graph waits or is rejected; and of each transaction
   -- no more attempts are rejected than other transactions are committed.
@@ -102,19 +102,19 @@ pub record IsReportOn (cat : Catalogue) (work : Workload) (text : List ℕ) : Ty
       → IsUndisturbed (history log) a
   pub rejections : AreFewRejected (history log)
   -- At each moment of the run each clock stands below 2^39 ticks.
-  pub low_clocks : HasLowClocks (given_of cat tables work) log
+  pub low_clocks : HasLowClocks (input_of cat tables work) log
   -- Each transaction that was submitted stands in the order once, or is listed as pending once, and never both.
-  pub nothing_lost : LosesNothing (report_of (given_of cat tables work) log)
+  pub nothing_lost : LosesNothing (report_of (input_of cat tables work) log)
   -- Each that is listed as pending is told to wait for its turn in a class, for a class at a data module, or for a message
   -- of a transaction or data module: never for one of U.
-  pub reasons : (one : Pending) → Contains (report_of (given_of cat tables work) log).pending one → IsReason (whole_in cat work) one.why
+  pub reasons : (one : Pending) → Contains (report_of (input_of cat tables work) log).pending one → IsReason (whole_in cat work) one.why
   -- Where a settle or a redeclare is the last event, the links are quiet at the end. Where they are, and no data module is
   -- down then, each transaction that was submitted is committed, so it stands in the order, and none is pending; and each
   -- copy lists the rows that this database is left with.
-  pub quiet : EndsAtRest work.events → EndsQuiet (given_of cat tables work) log
-  pub settled : EndsQuiet (given_of cat tables work) log → NoneIsDown (whole_in cat work) log → TellsAllCommitted (report_of (given_of cat tables work) log)
-  pub left : EndsQuiet (given_of cat tables work) log → NoneIsDown (whole_in cat work) log
-      → (copy : CopyTable) → Contains (tables_of (given_of cat tables work) log) copy
+  pub quiet : EndsAtRest work.events → EndsQuiet (input_of cat tables work) log
+  pub settled : EndsQuiet (input_of cat tables work) log → NoneIsDown (whole_in cat work) log → TellsAllCommitted (report_of (input_of cat tables work) log)
+  pub left : EndsQuiet (input_of cat tables work) log → NoneIsDown (whole_in cat work) log
+      → (copy : CopyTable) → Contains (tables_of (input_of cat tables work) log) copy
       → copy.rows ≡ rows_left (whole_in cat work) (plain_run cat work log).1 copy.frag.0
 
 -- A text is the summary of the run: it says how many transactions there are, how many Commits, Rejects and Waits the
@@ -123,7 +123,7 @@ pub record IsSummaryOn (cat : Catalogue) (work : Workload) (text : List ℕ) : T
   pub tables : List (List Entry)
   pub tables_are : AreTables cat work tables
   pub log : Log
-  pub log_is : IsTheLog (given_of cat tables work) log
+  pub log_is : IsTheLog (input_of cat tables work) log
   pub text_is : text ≡ summary_text (summary_of (length work.txns) (history log) (marks log))
 
 -- the limit of events or of a link's messages ends the run
@@ -131,4 +131,4 @@ pub record EndsAtLimit (cat : Catalogue) (work : Workload) : Type 0 where
   pub tables : List (List Entry)
   pub tables_are : AreTables cat work tables
   pub log : Log
-  pub ends : EndsByLimit (given_of cat tables work) log
+  pub ends : EndsByLimit (input_of cat tables work) log

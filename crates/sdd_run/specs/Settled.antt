@@ -2,7 +2,7 @@
 use Rattle.std.specs.Prelude.{ℕ, ◌+◌, ◌==◌, ◌≡◌, false, true, List, [], ◌∷◌, ◌++◌, refl}
 use Rattle.std.proofs.Common.{ap}
 use Rattle.std.proofs.lemmas.Bool.{false≢true}
-use Rattle.sdd_obligations.specs.All.{Catalogue, Event, Given, IsModule, IsSubmitted, Log, Redeclare, Settle, Submit, TxnNo, all_links, calls_of, class_no, is_down, quiet, txn_no}
+use Rattle.sdd_obligations.specs.All.{Catalogue, Event, Input, IsModule, IsSubmitted, Log, Redeclare, Settle, Submit, TxnNo, all_links, calls_of, class_no, is_down, quiet, txn_no}
 use Rattle.sdd_obligations.specs.history.declared.record.Rec.TheVariants.{Submit as Submission}
 use Rattle.sdd_obligations.specs.serial_orders.Examples.{crossing}
 use Rattle.sdd_report.specs.Report.{Report}
@@ -29,7 +29,7 @@ abbrev pub NoneIsDown : Catalogue → Log → Type 0
 NoneIsDown cat log = (d : ℕ) → IsModule cat d → is_down d log ≡ false
 
 -- at the end of the log no packet is in flight, and all is acknowledged
-abbrev pub EndsQuiet : Given → Log → Type 0
+abbrev pub EndsQuiet : Input → Log → Type 0
 EndsQuiet g log = quiet (all_links g) (calls_of log) ≡ true
 
 -- a report that loses nothing: each transaction that was submitted stands in the order once and isn't pending, or is

@@ -5,10 +5,10 @@ use Rattle.sdd_obligations.specs.protocol.declared.entry.Entry.{Entry}
 use Rattle.sdd_script.specs.declared.workload.Workload.{Workload}
 use Rattle.sdd_world.specs.Standing.{StandsFor}
 use Rattle.sdd_world.specs.declared.world.World.{World}
-use Rattle.sdd_run.specs.Runs.{given_of}
+use Rattle.sdd_run.specs.Runs.{input_of}
 
 -- A world that has carried out all events of a workload: it stands for the one log of the run.
 pub record IsRunOf (cat : Catalogue) (tables : List (List Entry)) (work : Workload) (w : World) : Type 0 where
   pub log : Log
-  pub log_is : IsTheLog (given_of cat tables work) log
-  pub stands : StandsFor w (given_of cat tables work) log
+  pub log_is : IsTheLog (input_of cat tables work) log
+  pub stands : StandsFor w (input_of cat tables work) log

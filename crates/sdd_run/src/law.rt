@@ -1,6 +1,6 @@
 //! What holds of every run of a workload, told or not.
 ghost use Rattle.std.specs.Prelude.{ℕ, ◌≡◌, ◌≤◌, ◌++◌, ◌∷◌, List, None};
-ghost use Rattle.sdd_obligations.specs.All.{AreSubmittedOnce, Catalogue, ClassNo, Cond, D, DmNo, FitsGiven, Given, Hand, IsLawful, IsPermitted, IsSound, IsTheLog, Log, Read, Site, Ts, TxnNo, Use, history, local_of, marks, setting_of, site_due};
+ghost use Rattle.sdd_obligations.specs.All.{AreSubmittedOnce, Catalogue, ClassNo, Cond, D, DmNo, FitsInput, Hand, Input, IsLawful, IsPermitted, IsSound, IsTheLog, Log, Read, Site, Ts, TxnNo, Use, history, local_of, marks, setting_of, site_due};
 ghost use Rattle.sdd_world.specs.Standings.{standing_of};
 ghost use Rattle.sdd_run.specs.Reasons.{IsStanding};
 ghost use Rattle.sdd_progress.specs.Free.{IsFreeClass};
@@ -9,7 +9,7 @@ ghost use Rattle.sdd_script.specs.declared.workload.Workload.{Workload};
 ghost use Rattle.sdd_obligations.specs.protocol.declared.entry.Entry.{Entry};
 ghost use Rattle.sdd_script.specs.All.{IsValid};
 ghost use Rattle.sdd_run.specs.Clocks.{HasLowClocks};
-ghost use Rattle.sdd_run.specs.Runs.{AreTables, EndsAtLimit, IsReportOn, IsSummaryOn, given_of};
+ghost use Rattle.sdd_run.specs.Runs.{AreTables, EndsAtLimit, IsReportOn, IsSummaryOn, input_of};
 
 /// A law: there is one report on the run of a workload at most, and one summary; and none where the
 /// limit ends the run.
@@ -26,14 +26,14 @@ pub fn law_one_report()
 /// ends with its last event or at the limit.
 pub fn law_low_clocks()
     ensures { (cat : Catalogue) (work : Workload) (tables : List (List Entry)) (log : Log) → IsSound cat
-        → IsValid cat work → AreTables cat work tables → IsLawful (given_of cat tables work) log
-        → HasLowClocks (given_of cat tables work) log }
+        → IsValid cat work → AreTables cat work tables → IsLawful (input_of cat tables work) log
+        → HasLowClocks (input_of cat tables work) log }
 {}
 
 /// A law: where nothing is due at any site, a transaction that is under way at its site lacks a message
 /// of a transaction or data module, never of U; and one that is queued there has a place from 1 in a class.
 pub fn law_standings()
-    ensures { (given : Given) (log : Log) (at : Site) (n : ℕ) → FitsGiven given → IsPermitted given log
+    ensures { (given : Input) (log : Log) (at : Site) (n : ℕ) → FitsInput given → IsPermitted given log
         → site_due given log ≡ None
         → IsStanding given.catalogue (standing_of at (setting_of given at) (local_of given at log) n) }
 {}
@@ -41,7 +41,7 @@ pub fn law_standings()
 /// A law: in the log of a run each READ of a class that lies on no simple cycle is answered in the
 /// event in which it is handed over.
 pub fn law_free_answered()
-    ensures { (given : Given) (log : Log) → IsSound given.catalogue → AreSubmittedOnce given.events → IsTheLog given log
+    ensures { (given : Input) (log : Log) → IsSound given.catalogue → AreSubmittedOnce given.events → IsTheLog given log
         → (after before : Log) (from : Site) (number : ℕ) (d : DmNo) (ts : Ts) (class : ClassNo) (txn : TxnNo)
         (attempt : ℕ) (conds : List Cond) (uses : List Use)
         → log ≡ after ++ Hand from (D d) number (Read ts class txn attempt conds uses) ∷ before

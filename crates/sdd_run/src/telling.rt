@@ -1,6 +1,6 @@
 //! The report on a world.
 ghost use Rattle.std.specs.Prelude.{◌≡◌, IfOk};
-ghost use Rattle.sdd_obligations.specs.All.{Given, IsOrderable, Log, history};
+ghost use Rattle.sdd_obligations.specs.All.{Input, IsOrderable, Log, history};
 ghost use Rattle.sdd_report.specs.Report.{report_text as text_of};
 ghost use Rattle.sdd_run.specs.Reports.{report_by};
 ghost use Rattle.sdd_world.specs.Pending.{AreAtLastHomes};
@@ -17,9 +17,9 @@ use std::alloc::Global;
 /// transaction was submitted under the list of classes in force. Costs what the order, the pending
 /// transactions, the copies and the text cost.
 pub fn report_on(alloc: Global, world: &World<'_>) -> Result<Pages, NoMemory>
-    requires { (g : Given) × (log : Log) × IsOrderable g.catalogue (history log)
+    requires { (g : Input) × (log : Log) × IsOrderable g.catalogue (history log)
         × StandsFor world.now g log }
-    ensures { IfOk result (λ text. (g : Given) (log : Log) → StandsFor world.now g log
+    ensures { IfOk result (λ text. (g : Input) (log : Log) → StandsFor world.now g log
         → AreAtLastHomes g log → text ≡ text_of (report_by standing_of g log)) }
 {
     let catalogue = world.whole();

@@ -1,5 +1,5 @@
 -- Where a run leaves nothing undone, its summary tells as many committed as there are transactions.
-use Rattle.sdd_verified.proofs.All.{AllCommitted, Catalogue, EndsQuiet, HasCommit, IsFrom1To, IsOrderable, IsSerial, IsSound, IsSummaryOn, IsValid, KeepsStarts, List, NoneIsDown, SettleAll, TellsAllDone, Workload, eras_of, given_of, history, length, marks, named_by_events as named, once, order_of, orderable, quiet_behind, refl, settled, starts, submits_in, subst, summary_of, whole_in, ℕ, ◌≤◌}
+use Rattle.sdd_verified.proofs.All.{AllCommitted, Catalogue, EndsQuiet, HasCommit, IsFrom1To, IsOrderable, IsSerial, IsSound, IsSummaryOn, IsValid, KeepsStarts, List, NoneIsDown, SettleAll, TellsAllDone, Workload, eras_of, history, input_of, length, marks, named_by_events as named, once, order_of, orderable, quiet_behind, refl, settled, starts, submits_in, subst, summary_of, whole_in, ℕ, ◌≤◌}
 use Rattle.sdd_verified.proofs.AllCounted.{all_counted}
 use Rattle.sdd_verified.proofs.EachMarked.{each_submitted}
 use Rattle.sdd_verified.proofs.NoneDown.{are_up, none_down}
@@ -17,13 +17,13 @@ module _ (cat : Catalogue) (work : Workload) (text : List ℕ) (sound : IsSound 
   along : IsSerial whole (history r.log) (order_of cat work r.log)
   along = serial cat r.tables work sound valid r.tables_are r.log r.log_is
 
-  keeps : KeepsStarts whole (eras_of (given_of cat r.tables work) r.log) work.txns (history r.log)
+  keeps : KeepsStarts whole (eras_of (input_of cat r.tables work) r.log) work.txns (history r.log)
   keeps = starts cat r.tables work sound valid r.tables_are r.log r.log_is
 
   up : NoneIsDown whole r.log
-  up d here = none_down (given_of cat r.tables work) r.log d (are_up work.events all.none_down) r.log_is.lawful
+  up d here = none_down (input_of cat r.tables work) r.log d (are_up work.events all.none_down) r.log_is.lawful
 
-  links : EndsQuiet (given_of cat r.tables work) r.log
+  links : EndsQuiet (input_of cat r.tables work) r.log
   links = quiet_behind cat r.tables work sound valid r.tables_are r.log r.log_is all.ends
 
   committed : AllCommitted (history r.log)
@@ -34,12 +34,12 @@ module _ (cat : Catalogue) (work : Workload) (text : List ℕ) (sound : IsSound 
   within n number place c =
       let a = fine.started n number place c in
       let s = keeps.submitted a.0 a.1 in
-      let there = is_in_schedule (given_of cat r.tables work) r.log r.log_is.lawful (once work.events valid.submitted) a.0.txn s.place s.submitted in
+      let there = is_in_schedule (input_of cat r.tables work) r.log r.log_is.lawful (once work.events valid.submitted) a.0.txn s.place s.submitted in
       named cat (length work.txns) n work.events valid.events (subst (λ m. 1 ≤ submits_in m work.events) a.2 there)
 
   each : (n : ℕ) → 1 ≤ n → n ≤ length work.txns → (number : ℕ) × (place : ℕ) × HasCommit (history r.log) n number place
   each n lo hi =
-      let s = each_submitted (given_of cat r.tables work) r.log n r.log_is.lawful r.log_is.complete (all.submit_all n lo hi) in
+      let s = each_submitted (input_of cat r.tables work) r.log n r.log_is.lawful r.log_is.complete (all.submit_all n lo hi) in
       let c = committed n s.place s.submitted in
       (c.number, c.place, c.commit)
 

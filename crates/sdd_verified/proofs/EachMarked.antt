@@ -1,5 +1,5 @@
 -- In a complete log each transaction that its events submit is submitted.
-use Rattle.sdd_verified.proofs.All.{Bool, Does, Entry, Event, Given, Hand, IsLawful, IsSubmitted, List, Log, Mark, None, Notes, Option, Redeclare, Redeclares, Round, Settle, Site, Some, Submission, Submit, Submitted, Tick, TxnNo, [], all_links, ap, arith, calls_of, due_by, eqb-true, false, force_at, from_event, hand_due, history, home_of, inl, inr, left, left_is, length, mark_due, mark_from, mark_of, marked, next, next_mark, note_if, one_if, or_else, quiet, redeclares, refl, round, site_due, stands_there, submits_by, submits_in, subst, sym, true, txn_no, ℕ, ◌++◌, ◌+◌, ◌==◌, ◌∙◌, ◌∷◌, ◌≡◌, ◌≤◌, ◌⊎◌}
+use Rattle.sdd_verified.proofs.All.{Bool, Does, Entry, Event, Hand, Input, IsLawful, IsSubmitted, List, Log, Mark, None, Notes, Option, Redeclare, Redeclares, Round, Settle, Site, Some, Submission, Submit, Submitted, Tick, TxnNo, [], all_links, ap, arith, calls_of, due_by, eqb-true, false, force_at, from_event, hand_due, history, home_of, inl, inr, left, left_is, length, mark_due, mark_from, mark_of, marked, next, next_mark, note_if, one_if, or_else, quiet, redeclares, refl, round, site_due, stands_there, submits_by, submits_in, subst, sym, true, txn_no, ℕ, ◌++◌, ◌+◌, ◌==◌, ◌∙◌, ◌∷◌, ◌≡◌, ◌≤◌, ◌⊎◌}
 use Rattle.sdd_obligations.specs.All.{txn_at}
 
 -- of what a complete log leaves no event has a mark
@@ -8,18 +8,18 @@ no_other : (a b : Option Entry) → or_else a b ≡ None → (a ≡ None) × (b 
 no_other None b h = (refl, h)
 no_other (Some x) b h = cc
 
-pub record NoneIsDue (g : Given) (log : Log) : Type 0 where
+pub record NoneIsDue (g : Input) (log : Log) : Type 0 where
   pub mark : mark_due g log ≡ None
   pub next : next_mark g log ≡ None
 
-pub none_due : (g : Given) (log : Log) → next g log ≡ None → NoneIsDue g log
+pub none_due : (g : Input) (log : Log) → next g log ≡ None → NoneIsDue g log
 none_due g log h =
     let a = no_other (mark_due g log) _ h in
     let b = no_other (site_due g log) _ a.1 in
     let c = no_other (hand_due g log) (next_mark g log) b.1 in
     record { mark = a.0; next = c.1 }
 
-none_from : (g : Given) (log : Log) (q : Bool) (r ws : List Event) → mark_from g log q r ws ≡ None → from_event ws ≡ []
+none_from : (g : Input) (log : Log) (q : Bool) (r ws : List Event) → mark_from g log q r ws ≡ None → from_event ws ≡ []
 none_from g log q r [] h = refl
 none_from g log true r (Settle ∷ ws) h = none_from g log true r ws h
 none_from g log false r (Settle ∷ ws) h = cc
@@ -30,11 +30,11 @@ settles_submit_none n [] h = refl
 settles_submit_none n (Settle ∷ ws) h = let i = settles_submit_none n ws h in omega (arith, i)
 settles_submit_none n (_ ∷ ws) h = cc
 
-none_left : (g : Given) (log : Log) (n : ℕ) (s : List Event × List Event) → mark_of g log s ≡ None → submits_in n s.0 ≡ 0
+none_left : (g : Input) (log : Log) (n : ℕ) (s : List Event × List Event) → mark_of g log s ≡ None → submits_in n s.0 ≡ 0
 none_left g log n (ws, []) h = settles_submit_none n ws (none_from g log (quiet (all_links g) (calls_of log)) (round (all_links g) (calls_of log)) ws h)
 none_left g log n (ws, e ∷ r) h = cc
 
-pub all_marked : (g : Given) (log : Log) (n : ℕ) → IsLawful g log → next g log ≡ None → marked n log ≡ submits_in n g.events
+pub all_marked : (g : Input) (log : Log) (n : ℕ) → IsLawful g log → next g log ≡ None → marked n log ≡ submits_in n g.events
 all_marked g log n lawful complete =
     let all = (left_is g n log lawful).all in
     let none = none_left g log n (left g.events log) (none_due g log complete).next in
@@ -47,7 +47,7 @@ sorted (Submit n) = inl (n, refl)
 sorted _ = inr (λ n. refl)
 
 -- where no `submit` is the last entry, that entry marks none
-not_last : (g : Given) (n : ℕ) (e : Entry) (log : Log) → mark_due g (e ∷ log) ≡ None → marked n (e ∷ log) ≡ marked n log
+not_last : (g : Input) (n : ℕ) (e : Entry) (log : Log) → mark_due g (e ∷ log) ≡ None → marked n (e ∷ log) ≡ marked n log
 not_last g n (Mark (Submit k)) log h = cc
 not_last g n (Mark _) log h = omega arith
 not_last g n _ log h = refl
@@ -58,14 +58,14 @@ no_note : (b : Bool) (x : Event) → note_if b ≡ Some (Mark x) → ⊥
 no_note true x h = cc
 no_note false x h = cc
 
-no_mark_by : (g : Given) (e x : Event) (log : Log) → due_by g e log ≡ Some (Mark x) → ⊥
+no_mark_by : (g : Input) (e x : Event) (log : Log) → due_by g e log ≡ Some (Mark x) → ⊥
 no_mark_by g (Submit n) x log h = cc
 no_mark_by g (Tick t k) x log h = cc
 no_mark_by g Settle x log h = cc
 no_mark_by g Redeclare x log h = cc
 no_mark_by g _ x log h = no_note _ x h
 
-no_mark_due : (g : Given) (x : Event) (log : Log) → mark_due g log ≡ Some (Mark x) → ⊥
+no_mark_due : (g : Input) (x : Event) (log : Log) → mark_due g log ≡ Some (Mark x) → ⊥
 no_mark_due g x (Mark e ∷ log) h = no_mark_by g e x log h
 no_mark_due g x _ h = cc
 
@@ -73,7 +73,7 @@ first_none : (a b : Option Entry) (x : Entry) → (a ≡ Some x → ⊥) → or_
 first_none None b x h e = refl
 first_none (Some y) b x h e = absurd (h e)
 
-before_mark : (g : Given) (log : Log) (e : Event) → next g log ≡ Some (Mark e) → mark_due g log ≡ None
+before_mark : (g : Input) (log : Log) (e : Event) → next g log ≡ Some (Mark e) → mark_due g log ≡ None
 before_mark g log e h = first_none (mark_due g log) _ (Mark e) (no_mark_due g e log) h
 
 -- a transaction is given to its module behind the mark of its `submit`
@@ -87,7 +87,7 @@ pub record IsGivenIn (log : Log) (n : ℕ) : Type 0 where
 given_later : (e : Entry) (log : Log) (n : ℕ) → IsGivenIn log n → IsGivenIn (e ∷ log) n
 given_later e log n x = record { later = e ∷ x.later; at = x.at; rest = x.rest; is = ap (λ l. e ∷ l) x.is }
 
-given_submit : (g : Given) (n : ℕ) (e : Entry) (k : TxnNo) (log : Log) → next g (Mark (Submit k) ∷ log) ≡ Some e
+given_submit : (g : Input) (n : ℕ) (e : Entry) (k : TxnNo) (log : Log) → next g (Mark (Submit k) ∷ log) ≡ Some e
     → 1 ≤ one_if (k.0 == n) + marked n log → (1 ≤ marked n log → IsGivenIn log n) → IsGivenIn (e ∷ Mark (Submit k) ∷ log) n
 given_submit g n e k log h m again =
     let at : Site = home_of (force_at g (redeclares log)).catalogue (txn_at g k.0) in
@@ -103,7 +103,7 @@ given_submit g n e k log h m again =
       | false ↦ λ q w. given_later e (Mark (Submit k) ∷ log) n (given_later (Mark (Submit k)) log n (again (omega (arith, w))))
     ] refl m
 
-given_by : (g : Given) (n : ℕ) (e : Entry) (x : Event) (log : Log) → next g (Mark x ∷ log) ≡ Some e
+given_by : (g : Input) (n : ℕ) (e : Entry) (x : Event) (log : Log) → next g (Mark x ∷ log) ≡ Some e
     → 1 ≤ submits_by n x + marked n log → (1 ≤ marked n log → IsGivenIn log n) → IsGivenIn (e ∷ Mark x ∷ log) n
 given_by g n e x log h m again = elim (sorted x) [
   | inl s ↦
@@ -115,7 +115,7 @@ given_by g n e x log h m again = elim (sorted x) [
       given_later e (Mark x ∷ log) n (given_later (Mark x) log n (again (omega (arith, m, z))))
 ]
 
-each_given : (g : Given) (n : ℕ) (log : Log) → IsLawful g log → mark_due g log ≡ None → 1 ≤ marked n log → IsGivenIn log n
+each_given : (g : Input) (n : ℕ) (log : Log) → IsLawful g log → mark_due g log ≡ None → 1 ≤ marked n log → IsGivenIn log n
 each_given g n [] l d m = absurd (omega (arith, m))
 each_given g n (e ∷ []) l d m = let s : marked n (e ∷ []) ≡ 0 = not_last g n e [] d in absurd (omega (arith, m, s))
 each_given g n (e ∷ Mark x ∷ log) l d m =
@@ -144,7 +144,7 @@ pub record IsSubmittedIn (log : Log) (n : ℕ) : Type 0 where
   pub place : ℕ
   pub submitted : IsSubmitted (history log) n place
 
-pub each_submitted : (g : Given) (log : Log) (n : ℕ) → IsLawful g log → next g log ≡ None → 1 ≤ submits_in n g.events → IsSubmittedIn log n
+pub each_submitted : (g : Input) (log : Log) (n : ℕ) → IsLawful g log → next g log ≡ None → 1 ≤ submits_in n g.events → IsSubmittedIn log n
 each_submitted g log n lawful complete some =
     let all = all_marked g log n lawful complete in
     let x = each_given g n log lawful (none_due g log complete).mark (omega (arith, some, all)) in

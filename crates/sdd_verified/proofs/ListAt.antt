@@ -1,6 +1,6 @@
 -- Which list of classes is in force where a transaction is submitted: that which the `redeclare`s before its event put in
 -- force.
-use Rattle.sdd_verified.proofs.All.{AllFewTicks, AreSubmittedOnce, Event, Given, IsLawful, IsPermitted, IsSubmitted, List, Log, Mark, Redeclares, Site, Submit, Submitted, [], ap, append_assoc, arith, count_join, done, given_at, history, inl, inr, lawful_before, lawful_permitted, left, left_is, length, one_if, permitted_before, redeclares, redeclares_in, submit_in, submits_by, submits_in, subst, sym, ℕ, ◌++◌, ◌+◌, ◌==◌, ◌∙◌, ◌∷◌, ◌≡◌, ◌≤◌}
+use Rattle.sdd_verified.proofs.All.{AllFewTicks, AreSubmittedOnce, Event, Input, IsLawful, IsPermitted, IsSubmitted, List, Log, Mark, Redeclares, Site, Submit, Submitted, [], ap, append_assoc, arith, count_join, done, given_at, history, inl, inr, lawful_before, lawful_permitted, left, left_is, length, one_if, permitted_before, redeclares, redeclares_in, submit_in, submits_by, submits_in, subst, sym, ℕ, ◌++◌, ◌+◌, ◌==◌, ◌∙◌, ◌∷◌, ◌≡◌, ◌≤◌}
 use Rattle.sdd_verified.proofs.ClassPlaces.{before_any, behind_front, redeclared_at}
 use Rattle.sdd_verified.proofs.Submitting.{own_mark, submits_append, two_fronts}
 
@@ -11,7 +11,7 @@ redeclares_before (Redeclares t ∷ later) before = let h = redeclares_before la
 redeclares_before (_ ∷ later) before = redeclares_before later before
 
 -- the entry at which transaction n is submitted, with the list in force there
-pub record IsSubmittedWith (g : Given) (log : Log) (n place : ℕ) : Type 0 where
+pub record IsSubmittedWith (g : Input) (log : Log) (n place : ℕ) : Type 0 where
   pub later : Log
   pub at : Site
   pub rest : Log
@@ -41,7 +41,7 @@ parted n k events front rest first others is also none some a b =
           absurd (omega (arith, count, none, some))
     ]
 
-module _ (g : Given) (log : Log) (lawful : IsLawful g log) (once : AreSubmittedOnce g.events) (few : AllFewTicks g.events) where
+module _ (g : Input) (log : Log) (lawful : IsLawful g log) (once : AreSubmittedOnce g.events) (few : AllFewTicks g.events) where
   permitted : IsPermitted g log
   permitted = lawful_permitted g log once lawful
 

@@ -1,5 +1,5 @@
 -- Where no event takes a data module down, none is down at any time.
-use Rattle.sdd_verified.proofs.All.{Bool, Call, Deliver, Down, Event, Given, IsLawful, List, Log, Lose, Mark, Msg, None, Redeclares, Repeat, Resend, Round, Settle, Site, Some, Submit, Tick, Up, [], after_mark, all_links, calls_of, cond, cons_option, false, filter_map, flat_map, from_event, if◌then◌else◌, in_flight, is_down, left, link, list_any, mark_from, mark_of, neither_left, neither_right, next_is_of_events, quiet, refl, replicate, resends_now, round, round_from, subst, suc, tail_of, takes_down, true, turned_by, zero, ℕ, ◌++◌, ◌==◌, ◌∷◌, ◌≡◌}
+use Rattle.sdd_verified.proofs.All.{Bool, Call, Deliver, Down, Event, Input, IsLawful, List, Log, Lose, Mark, Msg, None, Redeclares, Repeat, Resend, Round, Settle, Site, Some, Submit, Tick, Up, [], after_mark, all_links, calls_of, cond, cons_option, false, filter_map, flat_map, from_event, if◌then◌else◌, in_flight, is_down, left, link, list_any, mark_from, mark_of, neither_left, neither_right, next_is_of_events, quiet, refl, replicate, resends_now, round, round_from, subst, suc, tail_of, takes_down, true, turned_by, zero, ℕ, ◌++◌, ◌==◌, ◌∷◌, ◌≡◌}
 
 -- events of which none takes a module down
 abbrev AreUp : List Event → Type 0
@@ -59,13 +59,13 @@ marked_up : (s : List Event × List Event) → AreLeftUp s → AreLeftUp (after_
 marked_up (events, []) h = record { events = tail_up (from_event events) (from_up events h.events); of_round = tt }
 marked_up (events, e ∷ of_round) h = record { events = h.events; of_round = h.of_round.1 }
 
-begun_up : (g : Given) (log : Log) (es : List Event) (s : List Event × List Event) → mark_of g log s ≡ Some (Round es) → AreUp es
+begun_up : (g : Input) (log : Log) (es : List Event) (s : List Event × List Event) → mark_of g log s ≡ Some (Round es) → AreUp es
 begun_up g log es (ws, []) h =
     subst AreUp (round_from g log (quiet (all_links g) (calls_of log)) (round (all_links g) (calls_of log)) ws es h)
     (round_up (all_links g) (calls_of log))
 begun_up g log es (ws, e ∷ r) h = cc
 
-mark_from_up : (g : Given) (log : Log) (q : Bool) (r ws : List Event) (e : Event) → mark_from g log q r ws ≡ Some (Mark e) → AreUp ws → takes_down e ≡ false
+mark_from_up : (g : Input) (log : Log) (q : Bool) (r ws : List Event) (e : Event) → mark_from g log q r ws ≡ Some (Mark e) → AreUp ws → takes_down e ≡ false
 mark_from_up g log true r (Settle ∷ ws) e h u = mark_from_up g log true r ws e h u.1
 mark_from_up g log q r (Submit n ∷ ws) e h u = let p : Submit n ≡ e = cc in subst (λ x. takes_down x ≡ false) p refl
 mark_from_up g log q r (Deliver a b k ∷ ws) e h u = let p : Deliver a b k ≡ e = cc in subst (λ x. takes_down x ≡ false) p refl
@@ -77,11 +77,11 @@ mark_from_up g log q r (Down d ∷ ws) e h u = let p : Down d ≡ e = cc in subs
 mark_from_up g log q r (Up d ∷ ws) e h u = let p : Up d ≡ e = cc in subst (λ x. takes_down x ≡ false) p refl
 mark_from_up g log _ r _ e h u = cc
 
-mark_of_up : (g : Given) (log : Log) (s : List Event × List Event) (e : Event) → mark_of g log s ≡ Some (Mark e) → AreLeftUp s → takes_down e ≡ false
+mark_of_up : (g : Input) (log : Log) (s : List Event × List Event) (e : Event) → mark_of g log s ≡ Some (Mark e) → AreLeftUp s → takes_down e ≡ false
 mark_of_up g log (ws, []) e h u = mark_from_up g log (quiet (all_links g) (calls_of log)) (round (all_links g) (calls_of log)) ws e h u.events
 mark_of_up g log (ws, x ∷ r) e h u = let p : x ≡ e = cc in subst (λ y. takes_down y ≡ false) p u.of_round.0
 
-left_up : (g : Given) (log : Log) → AreUp g.events → IsLawful g log → AreLeftUp (left g.events log)
+left_up : (g : Input) (log : Log) → AreUp g.events → IsLawful g log → AreLeftUp (left g.events log)
 left_up g [] u h = record { events = u; of_round = tt }
 left_up g (Mark e ∷ log) u h = marked_up (left g.events log) (left_up g log u h.1)
 left_up g (Redeclares t ∷ log) u h = marked_up (left g.events log) (left_up g log u h.1)
@@ -94,7 +94,7 @@ stays_up d (Down m) b u h = cc
 stays_up d (Up m) b u h = elim (m.0 == d) as (λ x. (if x then false else b) ≡ false) [ true ↦ refl | false ↦ h ]
 stays_up d _ b u h = h
 
-pub none_down : (g : Given) (log : Log) (d : ℕ) → AreUp g.events → IsLawful g log → is_down d log ≡ false
+pub none_down : (g : Input) (log : Log) (d : ℕ) → AreUp g.events → IsLawful g log → is_down d log ≡ false
 none_down g [] d u h = refl
 none_down g (Mark e ∷ log) d u h =
     stays_up d e (is_down d log) (mark_of_up g log (left g.events log) e (next_is_of_events g log (Mark e) refl h.0) (left_up g log u h.1))

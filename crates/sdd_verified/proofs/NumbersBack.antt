@@ -1,6 +1,6 @@
 -- Names that don't meet give back the transactions, so two reports on the same transactions that have one text tell of the
 -- same ones.
-use Rattle.sdd_verified.proofs.All.{AllByRecursion, AreNamed, Catalogue, Given, IsFrom1To, IsReportOn, IsSound, IsValid, List, Pending, Some, TellOfTheSame, Txn, TxnNo, Workload, [], all_by_member, ap, arith, bytes_eq, false, given_of, length, length-map, listed_submits, map, named_by_events, names_of, once, option_map_or, order_of, pending_names, pending_numbers, place_of_name, position, refl, repeats, report_of, same_Some, slice_get, slice_index_or as get_or, standing_at, standing_at_t, standing_at_u, subst, suc, sym, txn_name, txn_no, whole_in, whole_named, whole_sound, ℕ, ◌-◌, ◌<◌, ◌∙◌, ◌∷◌, ◌≡◌}
+use Rattle.sdd_verified.proofs.All.{AllByRecursion, AreNamed, Catalogue, Input, IsFrom1To, IsReportOn, IsSound, IsValid, List, Pending, Some, TellOfTheSame, Txn, TxnNo, Workload, [], all_by_member, ap, arith, bytes_eq, false, input_of, length, length-map, listed_submits, map, named_by_events, names_of, once, option_map_or, order_of, pending_names, pending_numbers, place_of_name, position, refl, repeats, report_of, same_Some, slice_get, slice_index_or as get_or, standing_at, standing_at_t, standing_at_u, subst, suc, sym, txn_name, txn_no, whole_in, whole_named, whole_sound, ℕ, ◌-◌, ◌<◌, ◌∙◌, ◌∷◌, ◌≡◌}
 use Rattle.sdd_verified.proofs.OneText.{one_text}
 use Rattle.sdd_verified.proofs.PartsBack.{same_first}
 use Rattle.sdd_verified.proofs.Reported.{one_given}
@@ -67,9 +67,9 @@ order_there cat work text sound are valid r =
     all_by_member (λ (n : TxnNo). IsFrom1To (length work.txns) n.0) (order_of cat work r.log) (one_given cat work text sound are valid r)
 
 pending_there : (cat : Catalogue) (work : Workload) (text : List ℕ) → IsValid cat work → (r : IsReportOn cat work text)
-    → AreThere work.txns (pending_numbers (report_of (given_of cat r.tables work) r.log).pending)
+    → AreThere work.txns (pending_numbers (report_of (input_of cat r.tables work) r.log).pending)
 pending_there cat work text valid r =
-    let g : Given = given_of cat r.tables work in
+    let g : Input = input_of cat r.tables work in
     numbers_there work.txns (report_of g r.log).pending
     (all_by_place (λ (p : Pending). IsFrom1To (length work.txns) p.txn.0) (report_of g r.log).pending (λ j p there.
     (let s = listed_submits (standing_at standing_at_u standing_at_t) g r.log j p there in
@@ -82,8 +82,8 @@ one_text_of_the_same cat work other text sound are valid fine same one two =
     let t = one_text cat work other text sound are valid fine one two in
     let order1 : List TxnNo = order_of cat work one.log in
     let order2 : List TxnNo = order_of cat other two.log in
-    let left1 : List Pending = (report_of (given_of cat one.tables work) one.log).pending in
-    let left2 : List Pending = (report_of (given_of cat two.tables other) two.log).pending in
+    let left1 : List Pending = (report_of (input_of cat one.tables work) one.log).pending in
+    let left2 : List Pending = (report_of (input_of cat two.tables other) two.log).pending in
     record {
       order = numbers_back work.txns valid.names order1 order2
           (order_there cat work text (whole_sound cat work sound valid) (whole_named cat work are valid) valid one)

@@ -1,5 +1,5 @@
 -- A report has as many lines of pending transactions as transactions are pending.
-use Rattle.sdd_verified.proofs.All.{AreNamed, Bool, Catalogue, Contains, Contains-cases, Contains-nil, IsReportOn, IsSound, IsValid, List, Pending, TxnNo, Workload, [], ap, arith, codes, cond, count_by, false, given_of, history, inl, inr, length, length-map, lines_of, ltb-true, ne_eqb, not, order_words, pending_words, refl, replies_words, report_of, serial_order, subst, sum_by-cons, sym, tells_pending, true, whole_in, ℕ, ◌++◌, ◌+◌, ◌==◌, ◌∙◌, ◌∷◌, ◌≡◌}
+use Rattle.sdd_verified.proofs.All.{AreNamed, Bool, Catalogue, Contains, Contains-cases, Contains-nil, IsReportOn, IsSound, IsValid, List, Pending, TxnNo, Workload, [], ap, arith, codes, cond, count_by, false, history, inl, input_of, inr, length, length-map, lines_of, ltb-true, ne_eqb, not, order_words, pending_words, refl, replies_words, report_of, serial_order, subst, sum_by-cons, sym, tells_pending, true, whole_in, ℕ, ◌++◌, ◌+◌, ◌==◌, ◌∙◌, ◌∷◌, ◌≡◌}
 use Rattle.sdd_verified.proofs.PartsBack.{AllPass}
 use Rattle.sdd_verified.proofs.PassingLines.{copies_pass, pending_pass, replies_pass, shipped_pass}
 use Rattle.sdd_verified.proofs.ReportParts.{happened, is_numbered, kept, lines_are, names, replies, shipped, trace_passes, waiting}
@@ -86,7 +86,7 @@ module _ (cat : Catalogue) (work : Workload) (text : List ℕ) (sound : IsSound 
   abbrev whole : Catalogue
   whole = whole_in cat work
 
-  pub as_many_lines : count_by tells_pending (lines_of text) ≡ length (report_of (given_of cat r.tables work) r.log).pending
+  pub as_many_lines : count_by tells_pending (lines_of text) ≡ length (report_of (input_of cat r.tables work) r.log).pending
   as_many_lines =
       let order : List TxnNo = serial_order whole (history r.log) in
       ap (λ (l : List (List ℕ)). count_by tells_pending l) (lines_are cat work text sound named valid r)
@@ -97,9 +97,9 @@ module _ (cat : Catalogue) (work : Workload) (text : List ℕ) (sound : IsSound 
       (all_numbered (happened cat work text sound named valid r) (trace_passes cat work text sound named valid r)) refl
       (replies_pass tells_other (λ line. refl) (λ number rows. refl) (λ name word. refl) (names cat work text sound named valid r)
       (replies cat work text sound named valid r)) (shipped_pass tells_other (λ line. refl) work.txns (history r.log) order)
-      (pending_pass tells_pending (λ line. refl) whole work.txns (report_of (given_of cat r.tables work) r.log).pending)
-      (copies_pass tells_other whole (λ line. refl) (λ t. refl) (report_of (given_of cat r.tables work) r.log).copies) refl
-      ∙ length-map (report_of (given_of cat r.tables work) r.log).pending (pending_words whole work.txns)
+      (pending_pass tells_pending (λ line. refl) whole work.txns (report_of (input_of cat r.tables work) r.log).pending)
+      (copies_pass tells_other whole (λ line. refl) (λ t. refl) (report_of (input_of cat r.tables work) r.log).copies) refl
+      ∙ length-map (report_of (input_of cat r.tables work) r.log).pending (pending_words whole work.txns)
 
-  pub no_line : (report_of (given_of cat r.tables work) r.log).pending ≡ [] → (line : List ℕ) → Contains (lines_of text) line → tells_pending line ≡ false
+  pub no_line : (report_of (input_of cat r.tables work) r.log).pending ≡ [] → (line : List ℕ) → Contains (lines_of text) line → tells_pending line ≡ false
   no_line empty line there = none_there (lines_of text) (as_many_lines ∙ ap (λ (xs : List Pending). length xs) empty) line there

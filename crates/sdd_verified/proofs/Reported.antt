@@ -1,5 +1,5 @@
 -- The report on a run is verified.
-use Rattle.sdd_verified.proofs.All.{All, All-cons, All-head, All-nil, All-tail, AllFewTicks, AreNamed, AreSubmittedOnce, Catalogue, Committed, Contains, Given, History, IsCommitted, IsFrom1To, IsName, IsOfSubmit, IsReportOn, IsSound, IsSubmitted, IsSubmittedBefore, IsValid, IsValidTxn, IsVerified, KeepsStarts, List, MAX_REPORT_BYTES, Reply, Report, Some, StandsBefore, Txn, TxnNo, Workload, [], after_replies, all_members, ap, arith, at, cases_lt, class_for, class_of, classes_in, classes_submitted, copies_lines, database_of, era_at, eras_are, eras_in, eras_of, event_at, event_of_submit, few_lists, few_ticks, flat_map, force_at, given_of, history, in_force, index_or, inl, inr, length, list_at_number, map, named_by_events, names_of, once, order_line, pending_lines, redeclares, refl, replies, replies_along, reply_lines, report_of, run, serial, serial_order, serial_replies, shipped_of, slice_get, spelled_lines, starts, submits_in, submitted, subst, sym, texts_of, txn_of, whole_in, whole_over, ℕ, ◌++◌, ◌-◌, ◌<◌, ◌∙◌, ◌∷◌, ◌≡◌, ◌≢◌, ◌≤◌}
+use Rattle.sdd_verified.proofs.All.{All, All-cons, All-head, All-nil, All-tail, AllFewTicks, AreNamed, AreSubmittedOnce, Catalogue, Committed, Contains, History, Input, IsCommitted, IsFrom1To, IsName, IsOfSubmit, IsReportOn, IsSound, IsSubmitted, IsSubmittedBefore, IsValid, IsValidTxn, IsVerified, KeepsStarts, List, MAX_REPORT_BYTES, Reply, Report, Some, StandsBefore, Txn, TxnNo, Workload, [], after_replies, all_members, ap, arith, at, cases_lt, class_for, class_of, classes_in, classes_submitted, copies_lines, database_of, era_at, eras_are, eras_in, eras_of, event_at, event_of_submit, few_lists, few_ticks, flat_map, force_at, history, in_force, index_or, inl, input_of, inr, length, list_at_number, map, named_by_events, names_of, once, order_line, pending_lines, redeclares, refl, replies, replies_along, reply_lines, report_of, run, serial, serial_order, serial_replies, shipped_of, slice_get, spelled_lines, starts, submits_in, submitted, subst, sym, texts_of, txn_of, whole_in, whole_over, ℕ, ◌++◌, ◌-◌, ◌<◌, ◌∙◌, ◌∷◌, ◌≡◌, ◌≢◌, ◌≤◌}
 use Rattle.sdd_verified.proofs.ClassPlaces.{class_at, redeclared_at}
 use Rattle.sdd_verified.proofs.ListAt.{list_at}
 use Rattle.sdd_verified.proofs.FirstLines.{FirstLine, first_line, whole_end}
@@ -38,8 +38,8 @@ module _ (cat : Catalogue) (work : Workload) (text : List ℕ) (sound : IsSound 
   abbrev whole : Catalogue
   whole = whole_in cat work
 
-  abbrev given : Given
-  given = given_of cat r.tables work
+  abbrev given : Input
+  given = input_of cat r.tables work
 
   abbrev Happened : History
   Happened = history r.log

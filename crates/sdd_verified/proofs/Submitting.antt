@@ -1,5 +1,5 @@
 -- In the history of a run transactions are submitted in the order of its schedule.
-use Rattle.sdd_verified.proofs.All.{AreSubmittedOnce, Event, Given, IsLawful, IsPermitted, IsSubmitted, List, Log, Mark, Redeclares, Settle, Site, Submission, Submit, Submitted, TxnNo, [], after_mark, ap, append_assoc, arith, compare, eq-eqb, from_event, given_at, history, inl, inr, lawful_before, lawful_permitted, left, left_is, length, marked, ne_eqb, one_if, permitted_before, place_rises, refl, submit_in, submits_by, submits_in, subst, sym, tail_of, txn_no, ℕ, ◌++◌, ◌+◌, ◌<◌, ◌==◌, ◌∙◌, ◌∷◌, ◌≡◌, ◌≢◌, ◌≤◌, ◌⊎◌}
+use Rattle.sdd_verified.proofs.All.{AreSubmittedOnce, Event, Input, IsLawful, IsPermitted, IsSubmitted, List, Log, Mark, Redeclares, Settle, Site, Submission, Submit, Submitted, TxnNo, [], after_mark, ap, append_assoc, arith, compare, eq-eqb, from_event, given_at, history, inl, inr, lawful_before, lawful_permitted, left, left_is, length, marked, ne_eqb, one_if, permitted_before, place_rises, refl, submit_in, submits_by, submits_in, subst, sym, tail_of, txn_no, ℕ, ◌++◌, ◌+◌, ◌<◌, ◌==◌, ◌∙◌, ◌∷◌, ◌≡◌, ◌≢◌, ◌≤◌, ◌⊎◌}
 use Rattle.sdd_verified.proofs.Numbered.{Separates}
 
 -- what is left of the events is their end
@@ -64,7 +64,7 @@ again m n a b (x ∷ between) rest_m rest_n k l earlier_m earlier_n e f some =
 pub own_mark : (n : ℕ) → one_if (n == n) ≡ 1
 own_mark n = ap one_if (eq-eqb n n refl)
 
-module _ (g : Given) (log : Log) (lawful : IsLawful g log) (once : AreSubmittedOnce g.events) where
+module _ (g : Input) (log : Log) (lawful : IsLawful g log) (once : AreSubmittedOnce g.events) where
   permitted : IsPermitted g log
   permitted = lawful_permitted g log once lawful
 

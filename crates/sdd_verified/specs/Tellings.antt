@@ -7,7 +7,7 @@ use Rattle.sdd_watch.specs.run.report.Names.{txn_name}
 use Rattle.sdd_watch.specs.run.report.declared.copies.CopyTable.{CopyTable}
 use Rattle.sdd_watch.specs.run.report.declared.pending.Pending.{Pending}
 use Rattle.sdd_watch.specs.run.Reports.{report_of}
-use Rattle.sdd_watch.specs.run.Runs.{IsReportOn, given_of, order_of, plain_run}
+use Rattle.sdd_watch.specs.run.Runs.{IsReportOn, input_of, order_of, plain_run}
 use Rattle.sdd_watch.specs.run.script.declared.workload.Workload.{Workload}
 
 -- the names of the pending transactions, and their numbers
@@ -27,13 +27,13 @@ pub record TellAlike (cat : Catalogue) (work other : Workload) (text : List ℕ)
   pub order : names_of work.txns (order_of cat work one.log) ≡ names_of other.txns (order_of cat other two.log)
   pub replies : (plain_run cat work one.log).0
       ≡ (plain_run cat other two.log).0
-  pub pending : pending_names work.txns (report_of (given_of cat one.tables work) one.log).pending
-      ≡ pending_names other.txns (report_of (given_of cat two.tables other) two.log).pending
-  pub copies : copies_told cat (report_of (given_of cat one.tables work) one.log).copies
-      ≡ copies_told cat (report_of (given_of cat two.tables other) two.log).copies
+  pub pending : pending_names work.txns (report_of (input_of cat one.tables work) one.log).pending
+      ≡ pending_names other.txns (report_of (input_of cat two.tables other) two.log).pending
+  pub copies : copies_told cat (report_of (input_of cat one.tables work) one.log).copies
+      ≡ copies_told cat (report_of (input_of cat two.tables other) two.log).copies
 
 -- and where they are of the same transactions, these stand in the same order, and the same are pending
 pub record TellOfTheSame (cat : Catalogue) (work other : Workload) (text : List ℕ) (one : IsReportOn cat work text) (two : IsReportOn cat other text) : Type 0 where
   pub order : order_of cat work one.log ≡ order_of cat other two.log
-  pub pending : pending_numbers (report_of (given_of cat one.tables work) one.log).pending
-      ≡ pending_numbers (report_of (given_of cat two.tables other) two.log).pending
+  pub pending : pending_numbers (report_of (input_of cat one.tables work) one.log).pending
+      ≡ pending_numbers (report_of (input_of cat two.tables other) two.log).pending

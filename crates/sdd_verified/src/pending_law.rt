@@ -3,7 +3,7 @@ ghost use Rattle.std.specs.Prelude.{ℕ, ◌≡◌, [], false, Contains, List, c
 ghost use Rattle.sdd_obligations.specs.All.{Catalogue, IsSound};
 ghost use Rattle.sdd_obligations.specs.catalog.Naming.{AreNamed};
 ghost use Rattle.sdd_watch.specs.run.Reports.{report_of};
-ghost use Rattle.sdd_watch.specs.run.Runs.{IsReportOn, given_of};
+ghost use Rattle.sdd_watch.specs.run.Runs.{IsReportOn, input_of};
 ghost use Rattle.sdd_watch.specs.run.script.Valid.{IsValid};
 ghost use Rattle.sdd_watch.specs.run.script.declared.workload.Workload.{Workload};
 ghost use Rattle.sdd_verify.specs.Lines.{lines_of};
@@ -14,9 +14,9 @@ ghost use Rattle.sdd_verified.specs.Lines.{tells_pending};
 pub fn law_pending_lines()
     ensures as_many { (cat : Catalogue) (work : Workload) (text : List ℕ) → IsSound cat → AreNamed cat → IsValid cat work
         → (told : IsReportOn cat work text)
-        → count_by tells_pending (lines_of text) ≡ length (report_of (given_of cat told.tables work) told.log).pending }
+        → count_by tells_pending (lines_of text) ≡ length (report_of (input_of cat told.tables work) told.log).pending }
     ensures no_line { (cat : Catalogue) (work : Workload) (text : List ℕ) → IsSound cat → AreNamed cat → IsValid cat work
         → (told : IsReportOn cat work text)
-        → (report_of (given_of cat told.tables work) told.log).pending ≡ []
+        → (report_of (input_of cat told.tables work) told.log).pending ≡ []
         → (line : List ℕ) → Contains (lines_of text) line → tells_pending line ≡ false }
 {}

@@ -1,11 +1,11 @@
 -- What is told before the first event, and of a whole run.
 use Rattle.std.proofs.Common.{ℕ, ◌<◌, ◌^◌, ◌≡◌, ◌∙◌, ap, arith, length, map, refl, sym, subst, List, [], ◌++◌}
-use Rattle.sdd_obligations.specs.All.{Catalogue, Event, Given, IsSound, Txn}
+use Rattle.sdd_obligations.specs.All.{Catalogue, Event, Input, IsSound, Txn}
 use Rattle.sdd_obligations.specs.base.Words.{tail_of}
 use Rattle.sdd_obligations.specs.protocol.declared.entry.Entry.{Entry}
 use Rattle.sdd_inside.specs.Lines.{beginning}
 use Rattle.sdd_run.specs.Lent.{force_in}
-use Rattle.sdd_run.specs.Runs.{AreTables, begun, forces_of, given_of}
+use Rattle.sdd_run.specs.Runs.{AreTables, begun, forces_of, input_of}
 use Rattle.sdd_run.specs.class_lists.InForce.{eras_in, whole_in}
 use Rattle.sdd_run.specs.report.declared.copies.CopyTable.{CopyTable}
 use Rattle.sdd_run.specs.script.All.{IsValid}
@@ -24,7 +24,7 @@ use Rattle.sdd_watch.specs.declared.teller.Teller.{Teller}
 use Rattle.sdd_watch.proofs.TextSoFar.{text_begins}
 
 -- the first line
-pub begins_told : (g : Given) (t : Teller) (empty : List ℕ) (txns : List Txn) (copies : List CopyTable) → t.catalogue.now ≡ g.catalogue → empty ≡ []
+pub begins_told : (g : Input) (t : Teller) (empty : List ℕ) (txns : List Txn) (copies : List CopyTable) → t.catalogue.now ≡ g.catalogue → empty ≡ []
     → txns ≡ g.txns → copies ≡ tables_of g [] → t.text.items ≡ empty ++ beginning t.catalogue.now txns copies → Watches g [] t.watch → Tells g [] t
 begins_told g t empty txns copies cat none same first text watches = record {
   catalogue_is = cat;

@@ -1,7 +1,7 @@
 -- What one event, and what it makes due, change on the links of a run.
 use Rattle.std.proofs.Common.{ℕ, suc, ◌≤◌, ◌≡◌, ◌∙◌, ◌==◌, ◌&&◌, Bool, true, false, if◌then◌else◌, List, [], ◌∷◌, ◌++◌, length, drop, filter_map, is_some, Option, Some, None, ap, arith, eq-eqb, eqb-true, refl, subst, sym}
 use Rattle.std.proofs.lemmas.Bool.{and_parts, eqb-false}
-use Rattle.sdd_obligations.specs.All.{Ack, D, Deliver, Does, Down, Entry, Event, Given, Hand, IsGood, IsPermitted, Link, Log, Lose, Mark, Message, Msg, Notes, Packet, Puts, Redeclare, Redeclares, Repeat, Resend, Round, Settle, Site, Submit, Submitted, T, Tick, U, Up, calls_of, deliver, delivered, handed, link, link_of, lose, marks, packet_at, puts, repeat, resend, same_site, sends_of_act, sent, turned}
+use Rattle.sdd_obligations.specs.All.{Ack, D, Deliver, Does, Down, Entry, Event, Hand, Input, IsGood, IsPermitted, Link, Log, Lose, Mark, Message, Msg, Notes, Packet, Puts, Redeclare, Redeclares, Repeat, Resend, Round, Settle, Site, Submit, Submitted, T, Tick, U, Up, calls_of, deliver, delivered, handed, link, link_of, lose, marks, packet_at, puts, repeat, resend, same_site, sends_of_act, sent, turned}
 use Rattle.sdd_obligations.specs.net.Links.{Call, Way, numbered}
 use Rattle.sdd_obligations.proofs.invariants.InOrder.{allowed_hand, delivered_within, handed_le}
 use Rattle.sdd_obligations.proofs.invariants.Sites.{site_is}
@@ -151,7 +151,7 @@ mark_grows (Hand from to n m) old new x y h = absurd h
 mark_grows (Submitted at n) old new x y h = absurd h
 mark_grows Notes old new x y h = absurd h
 
-pub link_grows : (g : Given) (old new : Log) (l : Site × Site) → IsBetween g old new
+pub link_grows : (g : Input) (old new : Log) (l : Site × Site) → IsBetween g old new
     → Grows (link_of l.0 l.1 old).there (link_of l.0 l.1 new).there (left_between old new l)
 link_grows g old new l b =
     let o : Way Msg = (link_of l.0 l.1 old).there in
@@ -169,7 +169,7 @@ rises_if : (c : Bool) (n k low : ℕ) → (c ≡ true → low ≤ n) → low ≤
 rises_if true n k low f l = f refl
 rises_if false n k low f l = l
 
-pub handed_rises : (g : Given) (more log : Log) (a b : Site) → IsPermitted g (more ++ log) → handed a b log ≤ handed a b (more ++ log)
+pub handed_rises : (g : Input) (more log : Log) (a b : Site) → IsPermitted g (more ++ log) → handed a b log ≤ handed a b (more ++ log)
 handed_rises g [] log a b h = omega arith
 handed_rises g (Hand from to n m ∷ more) log a b h =
     let i = handed_rises g more log a b h.1 in
@@ -190,25 +190,25 @@ pub joined_more : (more : Log) (mark : Entry) (old : Log) → more ++ mark ∷ o
 joined_more [] mark old = refl
 joined_more (e ∷ more) mark old = ap (λ l. e ∷ l) (joined_more more mark old)
 
-pub handed_between : (g : Given) (old new : Log) (a b : Site) → IsGood g → IsBetween g old new → handed a b old ≤ handed a b new
+pub handed_between : (g : Input) (old new : Log) (a b : Site) → IsGood g → IsBetween g old new → handed a b old ≤ handed a b new
 handed_between g old new a b good i =
     let is : new ≡ (i.more ++ i.mark ∷ []) ++ old = i.parts ∙ joined_more i.more i.mark old in
     let p : IsPermitted g new = lawful_permitted g new good.once i.after.lawful in
     subst (λ z. handed a b old ≤ handed a b z) (sym is) (handed_rises g (i.more ++ i.mark ∷ []) old a b (subst (IsPermitted g) is p))
 
-pub handed_of_sent : (g : Given) (log : Log) (a b : Site) → IsPermitted g log → handed a b log ≤ length (sent a b log)
+pub handed_of_sent : (g : Input) (log : Log) (a b : Site) → IsPermitted g log → handed a b log ≤ length (sent a b log)
 handed_of_sent g log a b h = let i = handed_le g log a b h in let j = delivered_within a b log in omega (arith, i, j)
 
 -- what is kept of a link, and what is seen of it
 
-awaited : (g : Given) (old new : Log) (l : Site × Site) → IsGood g → IsBetween g old new
+awaited : (g : Input) (old new : Log) (l : Site × Site) → IsGood g → IsBetween g old new
     → all_waiting (drop (left_between old new l) (link_of l.0 l.1 new).there.flight) (watched_link old l)
     ≡ filter_map purposed (drop (handed l.0 l.1 old) (numbered 0 (sent l.0 l.1 new)))
 awaited g old new l good b =
     noted (handed l.0 l.1 old) (left_between old new l) (link_of l.0 l.1 old).there (link_of l.0 l.1 new).there
     (handed_of_sent g old l.0 l.1 (lawful_permitted g old good.once b.before.lawful)) (link_grows g old new l b)
 
-pub link_advances : (g : Given) (old new : Log) (l : Site × Site) → IsGood g → IsBetween g old new
+pub link_advances : (g : Input) (old new : Log) (l : Site × Site) → IsGood g → IsBetween g old new
     → advanced (left_between old new l) (drop (left_between old new l) (link_of l.0 l.1 new).there.flight) (length (sent l.0 l.1 new)) (handed l.0 l.1 new)
     (watched_link old l)
     ≡ watched_link new l
@@ -230,7 +230,7 @@ seen_of old new l messages =
       arrived = if handed l.0 l.1 old == handed l.0 l.1 new then None else Some (record { from = l.0; to = l.1; messages = messages });
     }
 
-pub link_seen : (g : Given) (old new : Log) (l : Site × Site) → IsGood g → IsBetween g old new
+pub link_seen : (g : Input) (old new : Log) (l : Site × Site) → IsGood g → IsBetween g old new
     → seen_with (drop (left_between old new l) (link_of l.0 l.1 new).there.flight) (length (sent l.0 l.1 new)) (handed l.0 l.1 new) (watched_link old l)
     ≡ seen_between old new l
 link_seen g old new l good b =

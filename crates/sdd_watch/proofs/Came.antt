@@ -4,7 +4,7 @@ use Rattle.std.specs.List.{cons_option}
 use Rattle.std.proofs.Math.Seq.{drop-append_seam, take-take}
 use Rattle.std.proofs.lemmas.List.{drop_all, take-append-drop, take-append-le}
 use Rattle.std.proofs.lemmas.List.Elements.{filter_map-append}
-use Rattle.sdd_obligations.specs.All.{Ack, D, Given, IsClassHere, IsGood, IsPermitted, Log, Message, Msg, Packet, Site, all_links, all_of, class_in, dm_no, goes_through, handed, home, local_of, pipe, puts_to, same_site, sent, setting_of}
+use Rattle.sdd_obligations.specs.All.{Ack, D, Input, IsClassHere, IsGood, IsPermitted, Log, Message, Msg, Packet, Site, all_links, all_of, class_in, dm_no, goes_through, handed, home, local_of, pipe, puts_to, same_site, sent, setting_of}
 use Rattle.sdd_obligations.specs.net.Links.{numbered}
 use Rattle.sdd_obligations.specs.wire.declared.msg.Msg.TheVariants.{Done, Null, Read, Write}
 use Rattle.sdd_obligations.proofs.invariants.InPipe.{pipe_is}
@@ -90,16 +90,16 @@ length_take_le (suc n) (x ∷ xs) = let i = length_take_le n xs in omega (arith,
 
 -- where nothing more was handed over, nothing was
 
-pub none_still : (g : Given) (old new : Log) (a b : Site) → IsGood g → IsBetween g old new → still old new (a, b) ≡ true → handed_over old new (a, b) ≡ []
+pub none_still : (g : Input) (old new : Log) (a b : Site) → IsGood g → IsBetween g old new → still old new (a, b) ≡ true → handed_over old new (a, b) ≡ []
 none_still g old new a b good i e =
     let same : handed a b old ≡ handed a b new = eqb-true (handed a b old) (handed a b new) e in
     ap (λ n. drop n (handed_on a b new)) same
     ∙ drop_all (handed a b new) (handed_on a b new) (length_take_le (handed a b new) (numbered 0 (sent a b new)))
 
-none_over : (g : Given) (old new : Log) (a b : Site) → IsGood g → IsBetween g old new → still old new (a, b) ≡ true → messages old new (a, b) ≡ []
+none_over : (g : Input) (old new : Log) (a b : Site) → IsGood g → IsBetween g old new → still old new (a, b) ≡ true → messages old new (a, b) ≡ []
 none_over g old new a b good i e = ap (filter_map purposed) (none_still g old new a b good i e)
 
-pub messages_found : (g : Given) (old new : Log) (a b : Site) → IsGood g → IsBetween g old new → IsThere (all_links g) (a, b)
+pub messages_found : (g : Input) (old new : Log) (a b : Site) → IsGood g → IsBetween g old new → IsThere (all_links g) (a, b)
     → messages_in (find (is_on a b) (arrived g old new)) ≡ messages old new (a, b)
 messages_found g old new a b good i there =
     elim (still old new (a, b)) as (λ c. still old new (a, b) ≡ c → messages_in (find (is_on a b) (arrived g old new)) ≡ messages old new (a, b)) [
@@ -125,7 +125,7 @@ numbers_are c (Ack upto ∷ ps) = numbers_are c ps
 
 -- what came before an event came, and then what was handed over
 
-pub handed_parts : (g : Given) (old new : Log) (a b : Site) → IsGood g → IsBetween g old new
+pub handed_parts : (g : Input) (old new : Log) (a b : Site) → IsGood g → IsBetween g old new
     → handed_on a b new ≡ handed_on a b old ++ handed_over old new (a, b)
 handed_parts g old new a b good i =
     let h : ℕ = handed a b old in
@@ -141,7 +141,7 @@ handed_parts g old new a b good i =
     ∙ take-append-le h (numbered 0 (sent a b old)) (numbered (length (sent a b old)) grows.more) (omega (arith, few, count)) in
     sym (take-append-drop h (handed_on a b new)) ∙ ap (λ ps. ps ++ handed_over old new (a, b)) front
 
-pub came_is : (g : Given) (old new : Log) (d c : ℕ) → IsGood g → IsBetween g old new → IsThere (all_links g) (source g d c, D (dm_no d))
+pub came_is : (g : Input) (old new : Log) (d c : ℕ) → IsGood g → IsBetween g old new → IsThere (all_links g) (source g d c, D (dm_no d))
     → numbers_for (source g d c) (D (dm_no d)) c (arrived g old new) ≡ drop (length (came g d c old)) (came g d c new)
 came_is g old new d c good i there =
     let a : Site = source g d c in
@@ -172,7 +172,7 @@ length_of_both : {A : Type 0} (xs ys : List A) → length (xs ++ ys) ≡ length 
 length_of_both [] ys = let e : length ys ≡ 0 + length ys = omega arith in e
 length_of_both (x ∷ xs) ys = let i = length_of_both xs ys in omega (arith, i)
 
-pub all_came : (g : Given) (log : Log) (d c : ℕ) → IsPermitted g log → IsClassHere (setting_of g (D (dm_no d))) c
+pub all_came : (g : Input) (log : Log) (d c : ℕ) → IsPermitted g log → IsClassHere (setting_of g (D (dm_no d))) c
     → length (came g d c log)
     ≡ length (pipe c (local_of g (D (dm_no d)) log)).processed + length (pipe c (local_of g (D (dm_no d)) log)).unprocessed
 all_came g log d c h k =
@@ -190,7 +190,7 @@ all_came g log d c h k =
 pub processed_is : (u v p q a b came : ℕ) → a ≡ p + u → b ≡ q + v → b ≡ a + came → (u + came) - v ≡ q - p
 processed_is u v p q a b came e f h = omega (arith, e, f, h)
 
-pub more_came : (g : Given) (old new : Log) (d c : ℕ) → IsGood g → IsBetween g old new
+pub more_came : (g : Input) (old new : Log) (d c : ℕ) → IsGood g → IsBetween g old new
     → length (came g d c new) ≡ length (came g d c old) + length (drop (length (came g d c old)) (came g d c new))
 more_came g old new d c good i =
     let a : Site = source g d c in

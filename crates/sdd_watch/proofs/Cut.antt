@@ -1,7 +1,7 @@
 -- What an event changed is told by cut moments: of a flight by what stands behind the packets that stayed, and of a pipe by what
 -- came and was processed.
 use Rattle.std.proofs.Common.{ℕ, ◌-◌, ◌≡◌, ◌∙◌, ◌==◌, ◌&&◌, Bool, true, false, if◌then◌else◌, List, [], ◌∷◌, ◌++◌, length, drop, map, ap, arith, refl, sym}
-use Rattle.sdd_obligations.specs.All.{Given, Log, Msg, Site, all_links, is_empty, link_of, sent}
+use Rattle.sdd_obligations.specs.All.{Input, Log, Msg, Site, all_links, is_empty, link_of, sent}
 use Rattle.sdd_obligations.specs.net.declared.packet.Packet.{Packet}
 use Rattle.sdd_inside.specs.Differences.{changes, difference, handed_between, in_flight, left, on_link, pipe_between, put_between, queue_between, takes_from}
 use Rattle.sdd_inside.specs.declared.delta.Delta.{Delta}
@@ -40,7 +40,7 @@ put_cut old new h l event found =
 
 -- pipes
 
-abbrev told_pipe : Given → Log → Log → ℕ × ℕ → ℕ → List PipeDelta
+abbrev told_pipe : Input → Log → Log → ℕ × ℕ → ℕ → List PipeDelta
 told_pipe g old new p count =
     if is_empty (drop (length (came g p.0 p.1 old)) (came g p.0 p.1 new)) && count == 0 then [] else
     (record {
@@ -54,7 +54,7 @@ told_pipe g old new p count =
 less_none : (n : ℕ) → n - 0 ≡ n
 less_none n = omega arith
 
-pipe_cut : (g : Given) (old new : Log) (h : Happened) (p : ℕ × ℕ)
+pipe_cut : (g : Input) (old new : Log) (h : Happened) (p : ℕ × ℕ)
     → pipe_between h (pipe_before g old new p) (pipe_after g old new p) ≡ pipe_between h (pipe_moment g old p) (pipe_moment g new p)
 pipe_cut g old new h p = ap (told_pipe g old new p) (less_none (pipe_after g old new p).processed)
 
@@ -76,15 +76,15 @@ told h before after handed put pipes =
       sites = h.sites;
     }
 
-abbrev pub cut_before : Given → Log → Log → Moment
+abbrev pub cut_before : Input → Log → Log → Moment
 cut_before g old new =
     record { links = map (link_before old) (all_links g); queues = queues_of g old; pipes = map (pipe_before g old new) (all_pipes g) }
 
-abbrev pub cut_after : Given → Log → Log → Moment
+abbrev pub cut_after : Input → Log → Log → Moment
 cut_after g old new =
     record { links = map (link_after old new) (all_links g); queues = queues_of g new; pipes = map (pipe_after g old new) (all_pipes g) }
 
-pub cut_tells : (g : Given) (old new : Log) (h : Happened) → h.event ≡ last_event new → h.found ≡ found_by h.event old new
+pub cut_tells : (g : Input) (old new : Log) (h : Happened) → h.event ≡ last_event new → h.found ≡ found_by h.event old new
     → difference h (cut_before g old new) (cut_after g old new) ≡ difference h (moment_of g old) (moment_of g new)
 cut_tells g old new h event found =
     let b = cut_before g old new in

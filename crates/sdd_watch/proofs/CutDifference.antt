@@ -1,6 +1,6 @@
 -- The difference of cut moments is that of whole moments, so what a watch keeps is enough to tell an event.
 use Rattle.std.proofs.Common.{◌≡◌, ◌∙◌, List, ap, map, refl}
-use Rattle.sdd_obligations.specs.All.{Given, Log, all_links}
+use Rattle.sdd_obligations.specs.All.{Input, Log, all_links}
 use Rattle.sdd_inside.specs.Differences.{difference}
 use Rattle.sdd_inside.specs.declared.delta.Delta.{Delta}
 use Rattle.sdd_inside.specs.declared.moment.Happened.{Happened}
@@ -22,7 +22,7 @@ of_parts links queues pipes = record { links = links; queues = queues; pipes = p
 same_parts : (l l2 : List LinkMoment) (q q2 : List QueueMoment) (p p2 : List PipeMoment) → l ≡ l2 → q ≡ q2 → p ≡ p2 → of_parts l q p ≡ of_parts l2 q2 p2
 same_parts l l2 q q2 p p2 a b c = ap (λ x. of_parts x q p) a ∙ ap (λ x. of_parts l2 x p) b ∙ ap (of_parts l2 q2) c
 
-pub cut_difference : (g : Given) (old new : Log) (h : Happened) (before after : Moment)
+pub cut_difference : (g : Input) (old new : Log) (h : Happened) (before after : Moment)
     → h.event ≡ last_event new → h.found ≡ found_by h.event old new
     → before.links ≡ map (link_before old) (all_links g) → before.queues ≡ queues_of g old → before.pipes ≡ map (pipe_before g old new) (all_pipes g)
     → after.links ≡ map (link_after old new) (all_links g) → after.queues ≡ queues_of g new → after.pipes ≡ map (pipe_after g old new) (all_pipes g)
@@ -37,7 +37,7 @@ cut_difference g old new h before after event found l q p m r s =
     ap (λ x. difference h x after) b ∙ ap (λ x. difference h (cut_before g old new) x) a ∙ cut_tells g old new h event found
 
 -- with what happened at the event, it is what is told of the event
-pub change_told : (g : Given) (old new : Log) (h : Happened) (before after : Moment) (delta : Delta)
+pub change_told : (g : Input) (old new : Log) (h : Happened) (before after : Moment) (delta : Delta)
     → delta ≡ difference h before after → h ≡ happened_at g old new
     → before.links ≡ map (link_before old) (all_links g) → before.queues ≡ queues_of g old → before.pipes ≡ map (pipe_before g old new) (all_pipes g)
     → after.links ≡ map (link_after old new) (all_links g) → after.queues ≡ queues_of g new → after.pipes ≡ map (pipe_after g old new) (all_pipes g)

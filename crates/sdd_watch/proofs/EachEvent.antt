@@ -2,7 +2,7 @@
 use Rattle.std.proofs.Common.{ℕ, suc, ◌-◌, ◌+◌, ◌<◌, ◌≤◌, ◌≡◌, ◌≢◌, ◌∙◌, refl, ap, sym, subst, arith, Bool, true, false, List, [], ◌∷◌, ◌++◌, Option, Some, None, inl, inr}
 use Rattle.std.specs.Prelude.{◌⊎◌, nat_le, if◌then◌else◌}
 use Rattle.std.proofs.lemmas.Bool.{cases_lt, le-leb, lt-leb}
-use Rattle.sdd_obligations.specs.All.{Does, Event, Given, Hand, IsLawful, Log, Mark, Notes, Redeclare, Redeclares, Rests, Round, Submitted, marks, next}
+use Rattle.sdd_obligations.specs.All.{Does, Event, Hand, Input, IsLawful, Log, Mark, Notes, Redeclare, Redeclares, Rests, Round, Submitted, marks, next}
 use Rattle.sdd_obligations.specs.logs.Entries.{Entry}
 use Rattle.sdd_obligations.proofs.logs.One.{IsBefore, one_chain}
 use Rattle.sdd_watch.specs.Happens.{last_event}
@@ -78,7 +78,7 @@ at_beyond n (y ∷ m) x log h =
     let a : marks (x ∷ log) ≤ marks (y ∷ (m ++ x ∷ log)) = marks_above (y ∷ m) (x ∷ log) in
     at_below n y (m ++ x ∷ log) (omega (arith, h, a)) ∙ at_beyond n m x log h
 
-pub lawful_at : (g : Given) (n : ℕ) (log : Log) → IsLawful g log → IsLawful g (at_event n log)
+pub lawful_at : (g : Input) (n : ℕ) (log : Log) → IsLawful g log → IsLawful g (at_event n log)
 lawful_at g n [] h = tt
 lawful_at g n (x ∷ log) h =
     elim (nat_le (marks (x ∷ log)) n) as (λ b. IsLawful g (if b then x ∷ log else at_event n log)) [ true ↦ h | false ↦ lawful_at g n log h.1 ]
@@ -94,14 +94,14 @@ grew Notes log h = absurd (omega (arith, h))
 grew (Does a act) log h = absurd (omega (arith, h))
 
 -- the next entry of the log marks an event
-pub record MarksNext (g : Given) (log : Log) : Type 0 where
+pub record MarksNext (g : Input) (log : Log) : Type 0 where
   pub entry : Entry
   pub event : Event
   pub event_is : event_of entry ≡ Some event
   pub next_is : next g log ≡ Some entry
 
 -- behind the log when so many events are over stands the mark of the next event
-pub marks_next : (g : Given) (n : ℕ) (log : Log) → IsLawful g log → n < marks log → MarksNext g (at_event n log)
+pub marks_next : (g : Input) (n : ℕ) (log : Log) → IsLawful g log → n < marks log → MarksNext g (at_event n log)
 marks_next g n [] h l = absurd (omega (arith, l))
 marks_next g n (x ∷ log) h l =
     elim (cases_lt n (marks log)) [
@@ -129,7 +129,7 @@ marks_before l m h =
     omega (arith, a, b)
 
 -- one event lies between two logs, and this entry marks it
-pub record IsMarkedBetween (g : Given) (old new : Log) (e : Event) : Type 0 where
+pub record IsMarkedBetween (g : Input) (old new : Log) (e : Event) : Type 0 where
   pub entry : Entry
   pub event_is : event_of entry ≡ Some e
   pub more : Log
@@ -138,7 +138,7 @@ pub record IsMarkedBetween (g : Given) (old new : Log) (e : Event) : Type 0 wher
   pub marks_are : marks new ≡ suc (marks old)
 
 -- the longer one of two lawful logs goes on from the other, with the entry that is next there
-pub goes_on : (g : Given) (old new : Log) (x : Entry) (e : Event) → IsLawful g old → IsLawful g new → event_of x ≡ Some e → next g old ≡ Some x
+pub goes_on : (g : Input) (old new : Log) (x : Entry) (e : Event) → IsLawful g old → IsLawful g new → event_of x ≡ Some e → next g old ≡ Some x
     → marks old < marks new → (more : Log) × (new ≡ more ++ x ∷ old)
 goes_on g old new x e l k h n less =
     let first : IsLawful g (x ∷ old) = (n, l) in
@@ -151,7 +151,7 @@ goes_on g old new x e l k h n less =
     ]
 
 -- a complete log is none that was before another one
-whole_is : (g : Given) (l m : Log) → next g l ≡ None → IsLawful g m → IsBefore l m → m ≡ l
+whole_is : (g : Input) (l m : Log) → next g l ≡ None → IsLawful g m → IsBefore l m → m ≡ l
 whole_is g l [] n h b = sym b
 whole_is g l (x ∷ m) n h b = elim b as (λ _. x ∷ m ≡ l) [
   | inl p ↦ sym p
@@ -161,7 +161,7 @@ whole_is g l (x ∷ m) n h b = elim b as (λ _. x ∷ m ≡ l) [
 ]
 
 -- a complete log goes on from any other one
-pub goes_to_end : (g : Given) (old new : Log) (x : Entry) → IsLawful g old → IsLawful g new → next g old ≡ Some x → next g new ≡ None
+pub goes_to_end : (g : Input) (old new : Log) (x : Entry) → IsLawful g old → IsLawful g new → next g old ≡ Some x → next g new ≡ None
     → (more : Log) × (new ≡ more ++ x ∷ old)
 goes_to_end g old new x l k n done =
     let first : IsLawful g (x ∷ old) = (n, l) in
@@ -170,13 +170,13 @@ goes_to_end g old new x l k n done =
       | inr p ↦ ([], sym (whole_is g new (x ∷ old) done first p))
     ]
 
-pub marked_between : (g : Given) (old new : Log) (x : Entry) (e : Event) → IsLawful g old → IsLawful g new → event_of x ≡ Some e
+pub marked_between : (g : Input) (old new : Log) (x : Entry) (e : Event) → IsLawful g old → IsLawful g new → event_of x ≡ Some e
     → next g old ≡ Some x → marks new ≡ suc (marks old) → IsMarkedBetween g old new e
 marked_between g old new x e l k h n one =
     let p = goes_on g old new x e l k h n (omega (arith, one)) in
     record { entry = x; event_is = h; more = p.0; parts = p.1; lawful = k; marks_are = one }
 
-pub last_is : (g : Given) (old new : Log) (e : Event) → IsMarkedBetween g old new e → last_event new ≡ e
+pub last_is : (g : Input) (old new : Log) (e : Event) → IsMarkedBetween g old new e → last_event new ≡ e
 last_is g old new e b =
     ap last_event b.parts ∙ last_above b.more b.entry e old b.event_is (sym (ap marks b.parts) ∙ b.marks_are)
 
@@ -199,7 +199,7 @@ marks_it (Submitted a n) e h = cc
 marks_it Notes e h = cc
 marks_it (Does a act) e h = cc
 
-pub is_between : (g : Given) (old new : Log) (e : Event) → Rests g old → Rests g new → IsMarkedBetween g old new e → IsBetween g old new
+pub is_between : (g : Input) (old new : Log) (e : Event) → Rests g old → Rests g new → IsMarkedBetween g old new e → IsBetween g old new
 is_between g old new e before after b =
     let all : marks new ≡ marks b.more + marks (b.entry ∷ old) = ap marks b.parts ∙ marks_join b.more (b.entry ∷ old) in
     let one = one_more_mark b.entry e old b.event_is in
@@ -215,7 +215,7 @@ is_between g old new e before after b =
     }
 
 -- before the mark the log is that when so many events are over, and behind it that when one more is
-pub at_old : (g : Given) (old new : Log) (e : Event) (n : ℕ) → IsMarkedBetween g old new e → n ≤ marks old → at_event n new ≡ at_event n old
+pub at_old : (g : Input) (old new : Log) (e : Event) (n : ℕ) → IsMarkedBetween g old new e → n ≤ marks old → at_event n new ≡ at_event n old
 at_old g old new e n b l =
     let one = one_more_mark b.entry e old b.event_is in
     ap (at_event n) b.parts ∙ at_beyond n b.more b.entry old (omega (arith, l, one))

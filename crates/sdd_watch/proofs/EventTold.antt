@@ -1,6 +1,6 @@
 -- An event is carried out and told, over plain worlds.
 use Rattle.std.proofs.Common.{ℕ, suc, ◌≡◌, ◌∙◌, refl, ap, sym, subst, arith, List, [], ◌∷◌, ◌++◌, length, Option, Some, None}
-use Rattle.sdd_obligations.specs.All.{Deliver, Down, Event, Given, IsLawful, IsPossible, Log, Lose, Mark, Redeclare, Redeclares, Repeat, Resend, Rests, Round, Settle, Submit, Tick, Up, after_mark, left, marks, next, with_event}
+use Rattle.sdd_obligations.specs.All.{Deliver, Down, Event, Input, IsLawful, IsPossible, Log, Lose, Mark, Redeclare, Redeclares, Repeat, Resend, Rests, Round, Settle, Submit, Tick, Up, after_mark, left, marks, next, with_event}
 use Rattle.sdd_obligations.specs.base.Words.{tail_of}
 use Rattle.sdd_obligations.specs.logs.Entries.{Entry}
 use Rattle.sdd_obligations.specs.logs.Marks.{from_event, mark_of}
@@ -25,22 +25,22 @@ use Rattle.sdd_watch.proofs.TextSoFar.{text_given, text_more, text_round}
 
 -- what is kept stays where a round begins, and where an event more is given
 
-watches_round : (g : Given) (es : List Event) (log : Log) (w : Watch) → Watches g log w → Watches g (Round es ∷ log) w
+watches_round : (g : Input) (es : List Event) (log : Log) (w : Watch) → Watches g log w → Watches g (Round es ∷ log) w
 watches_round g es log w h =
     record { sites = h.sites; links = h.links; queues = h.queues; pipes = h.pipes; records = h.records; commits = h.commits; dones = h.dones }
 
-pub watches_given : (g : Given) (f : Event) (log : Log) (w : Watch) → Watches g log w → Watches (with_event g f) log w
+pub watches_given : (g : Input) (f : Event) (log : Log) (w : Watch) → Watches g log w → Watches (with_event g f) log w
 watches_given g f log w h =
     record { sites = h.sites; links = h.links; queues = h.queues; pipes = h.pipes; records = h.records; commits = h.commits; dones = h.dones }
 
-pub tells_round : (g : Given) (es : List Event) (log : Log) (t : Teller) → Tells g log t → Tells g (Round es ∷ log) t
+pub tells_round : (g : Input) (es : List Event) (log : Log) (t : Teller) → Tells g log t → Tells g (Round es ∷ log) t
 tells_round g es log t h = record {
   catalogue_is = h.catalogue_is;
   text_is = h.text_is ∙ sym (text_round g es log);
   watches = watches_round g es log t.watch h.watches;
 }
 
-pub tells_given : (g : Given) (f : Event) (log : Log) (t : Teller) → IsLawful g log → Tells g log t → Tells (with_event g f) log t
+pub tells_given : (g : Input) (f : Event) (log : Log) (t : Teller) → IsLawful g log → Tells g log t → Tells (with_event g f) log t
 tells_given g f log t l h = record {
   catalogue_is = h.catalogue_is;
   text_is = h.text_is ∙ sym (text_given g f log l);
@@ -48,12 +48,12 @@ tells_given g f log t l h = record {
 }
 
 -- What was told is told of the longer log: its line stands behind the text, and what is kept stands at its end.
-pub record GetsTold (g : Given) (old new : Log) (t t2 : Teller) : Type 0 where
+pub record GetsTold (g : Input) (old new : Log) (t t2 : Teller) : Type 0 where
   pub catalogue : t2.catalogue.now ≡ t.catalogue.now
   pub text : t2.text.items ≡ t.text.items ++ line g.catalogue g.txns (change g old new)
   pub watches : Watches g new t2.watch
 
-pub tells_on : (g : Given) (old new : Log) (e : Event) (t t2 : Teller) → IsMarkedBetween g old new e → Tells g old t → GetsTold g old new t t2
+pub tells_on : (g : Input) (old new : Log) (e : Event) (t t2 : Teller) → IsMarkedBetween g old new e → Tells g old t → GetsTold g old new t t2
     → Tells g new t2
 tells_on g old new e t t2 b h gets = record {
   catalogue_is = gets.catalogue ∙ h.catalogue_is;
@@ -71,7 +71,7 @@ left_marked events (Round es) e log h = cc
 left_marked events x e log h = cc
 
 -- with its mark nothing is left, so the complete log has one mark more
-pub marked_to_end : (g : Given) (old new : Log) (x : Entry) (e : Event) → IsLawful g old → IsLawful g new → event_of x ≡ Some e
+pub marked_to_end : (g : Input) (old new : Log) (x : Entry) (e : Event) → IsLawful g old → IsLawful g new → event_of x ≡ Some e
     → next g old ≡ Some x → after_mark (left g.events old) ≡ ([], []) → next g new ≡ None → IsMarkedBetween g old new e
 marked_to_end g old new x e l k h n none done =
     let p = goes_to_end g old new x l k n done in
@@ -79,7 +79,7 @@ marked_to_end g old new x e l k h n none done =
     let same = (no_mark_more g p.0 (x ∷ old) lawful (left_marked g.events x e old h ∙ none)).0 in
     record { entry = x; event_is = h; more = p.0; parts = p.1; lawful = k; marks_are = ap marks p.1 ∙ same ∙ one_more_mark x e old h }
 
-last_place : (g : Given) (log : Log) (x : Entry) (e : Event) (s : List Event × List Event) (total : ℕ) → event_of x ≡ Some e
+last_place : (g : Input) (log : Log) (x : Entry) (e : Event) (s : List Event × List Event) (total : ℕ) → event_of x ≡ Some e
     → mark_of g log s ≡ Some x → after_mark s ≡ ([], []) → s.1 ≡ [] → place_in total s ≡ total
 last_place g log x e (ws, y ∷ r) total h n none over = cc
 last_place g log x e (ws, []) total h n none over =
@@ -89,7 +89,7 @@ last_place g log x e (ws, []) total h n none over =
     let one : length (from_event ws) ≡ 1 = ap length p.1 ∙ ap (λ xs. suc (length xs)) behind in
     omega (arith, one)
 
-pub turn_at_end : (g : Given) (old new : Log) (x : Entry) (e : Event) (place : ℕ) (turn : Turn) → place ≡ length g.events → event_of x ≡ Some e
+pub turn_at_end : (g : Input) (old new : Log) (x : Entry) (e : Event) (place : ℕ) (turn : Turn) → place ≡ length g.events → event_of x ≡ Some e
     → next g old ≡ Some x → after_mark (left g.events old) ≡ ([], []) → (left g.events old).1 ≡ [] → IsMarkedBetween g old new e
     → turn.event ≡ e → turn.scheduled ≡ place → turn.round ≡ None → IsTurn g old new turn
 turn_at_end g old new x e place turn is h n none over b event scheduled round = record {
@@ -101,12 +101,12 @@ turn_at_end g old new x e place turn is h n none over b event scheduled round = 
 
 -- an event of the schedule that is no settle and no redeclare
 
-rests_given : (g : Given) (f : Event) (log : Log) → Rests g log → Rests (with_event g f) log
+rests_given : (g : Input) (f : Event) (log : Log) → Rests g log → Rests (with_event g f) log
 rests_given g f log r =
     record { lawful = lawful_grows g f log r.lawful; within = r.within; no_mark = r.no_mark; no_site = r.no_site; handed_all = r.handed_all }
 
 -- what an event names exists, also where an event more is given
-tellable_given : (g : Given) (f e : Event) → IsPossible g e → IsTellable (with_event g f) e
+tellable_given : (g : Input) (f e : Event) → IsPossible g e → IsTellable (with_event g f) e
 tellable_given g f (Submit n) p = p
 tellable_given g f (Deliver a b k) p = p
 tellable_given g f (Lose a b k) p = p
@@ -118,7 +118,7 @@ tellable_given g f (Up d) p = p
 tellable_given g f Settle p = absurd p
 tellable_given g f Redeclare p = tt
 
-module _ (w w2 : World) (g : Given) (log more : Log) (e : Event) (s : StandsFor w g log) (p : IsPossible g e)
+module _ (w w2 : World) (g : Input) (log more : Log) (e : Event) (s : StandsFor w g log) (p : IsPossible g e)
     (s2 : StandsFor w2 (with_event g e) more) where
   step_marked : IsMarkedBetween (with_event g e) log more e
   step_marked =

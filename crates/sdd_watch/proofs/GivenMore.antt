@@ -1,6 +1,6 @@
 -- One event more is given: the places in the schedule stay, and so does what is told of the log.
 use Rattle.std.proofs.Common.{ℕ, suc, ◌-◌, ◌+◌, ◌<◌, ◌≤◌, ◌≡◌, ◌∙◌, refl, ap, sym, subst, arith, Bool, true, false, List, [], ◌∷◌, ◌++◌, length, Option, Some, None}
-use Rattle.sdd_obligations.specs.All.{Deliver, Does, Down, Event, Given, Hand, IsLawful, Log, Lose, Mark, Notes, Redeclare, Redeclares, Repeat, Resend, Round, Settle, Submit, Submitted, Tick, Up, all_links, calls_of, greatest_bound, left, marks, next, quiet, round, with_event}
+use Rattle.sdd_obligations.specs.All.{Deliver, Does, Down, Event, Hand, Input, IsLawful, Log, Lose, Mark, Notes, Redeclare, Redeclares, Repeat, Resend, Round, Settle, Submit, Submitted, Tick, Up, all_links, calls_of, greatest_bound, left, marks, next, quiet, round, with_event}
 use Rattle.sdd_obligations.specs.logs.Entries.{Entry}
 use Rattle.sdd_obligations.specs.logs.Marks.{from_event, mark_from, mark_of, next_mark}
 use Rattle.sdd_obligations.proofs.logs.Grows.{grows, mark_is_next, with_end}
@@ -13,7 +13,7 @@ use Rattle.sdd_watch.proofs.EachEvent.{MarksNext, event_of, lawful_at, marks_nex
 
 -- a mark that is next is that of the first event that is left
 
-pub next_mark_is : (g : Given) (log : Log) (x : Entry) (e : Event) → event_of x ≡ Some e → next g log ≡ Some x → next_mark g log ≡ Some x
+pub next_mark_is : (g : Input) (log : Log) (x : Entry) (e : Event) → event_of x ≡ Some e → next g log ≡ Some x → next_mark g log ≡ Some x
 next_mark_is g log (Mark f) e h n = mark_is_next g log (Mark f) refl n
 next_mark_is g log (Redeclares t) e h n = mark_is_next g log (Redeclares t) refl n
 next_mark_is g log (Round es) e h n = cc
@@ -37,7 +37,7 @@ no_round es e x h k =
     let p : Round es ≡ x = cc in
     let q : None ≡ Some e = ap event_of p ∙ h in absurd cc
 
-pub first_from : (g : Given) (log : Log) (q : Bool) (r ws : List Event) (x : Entry) (e : Event) → event_of x ≡ Some e
+pub first_from : (g : Input) (log : Log) (q : Bool) (r ws : List Event) (x : Entry) (e : Event) → event_of x ≡ Some e
     → mark_from g log q r ws ≡ Some x → (xs : List Event) × (from_event ws ≡ e ∷ xs)
 first_from g log q r [] x e h k = cc
 first_from g log true r (Settle ∷ ws) x e h k = first_from g log true r ws x e h k
@@ -77,7 +77,7 @@ same_place : (total more : ℕ) (events longer : List Event) → more ≡ suc to
     → place_of_first more longer ≡ place_of_first total events
 same_place total more events longer e h = omega (arith, e, h)
 
-place_more : (g : Given) (f : Event) (log : Log) (x : Entry) (e : Event) (s : List Event × List Event) → event_of x ≡ Some e → mark_of g log s ≡ Some x
+place_more : (g : Input) (f : Event) (log : Log) (x : Entry) (e : Event) (s : List Event × List Event) → event_of x ≡ Some e → mark_of g log s ≡ Some x
     → place_in (length (g.events ++ f ∷ [])) (with_end f s) ≡ place_in (length g.events) s
 place_more g f log x e (ws, []) h k =
     let p = first_from g log (quiet (all_links g) (calls_of log)) (round (all_links g) (calls_of log)) ws x e h k in
@@ -85,12 +85,12 @@ place_more g f log x e (ws, []) h k =
 place_more g f log x e (ws, y ∷ r) h k =
     same_place (length g.events) (length (g.events ++ f ∷ [])) ws (ws ++ f ∷ []) (one_longer g.events f) (one_longer ws f)
 
-pub scheduled_more : (g : Given) (f : Event) (log : Log) → IsLawful g log → MarksNext g log → scheduled_at (with_event g f) log ≡ scheduled_at g log
+pub scheduled_more : (g : Input) (f : Event) (log : Log) → IsLawful g log → MarksNext g log → scheduled_at (with_event g f) log ≡ scheduled_at g log
 scheduled_more g f log l n =
     ap (place_in (length (g.events ++ f ∷ []))) (grows g f log l)
     ∙ place_more g f log n.entry n.event (left g.events log) n.event_is (next_mark_is g log n.entry n.event n.event_is n.next_is)
 
-pub rounds_more : (g : Given) (f : Event) (log : Log) → IsLawful g log → rounds (g.events ++ f ∷ []) log ≡ rounds g.events log
+pub rounds_more : (g : Input) (f : Event) (log : Log) → IsLawful g log → rounds (g.events ++ f ∷ []) log ≡ rounds g.events log
 rounds_more g f [] l = refl
 rounds_more g f (Mark e ∷ log) l =
     ap (λ s. unless_in_round s.1 (rounds (g.events ++ f ∷ []) log)) (grows g f log l.1)
@@ -102,14 +102,14 @@ rounds_more g f (Submitted a n ∷ log) l = rounds_more g f log l.1
 rounds_more g f (Notes ∷ log) l = rounds_more g f log l.1
 rounds_more g f (Does a act ∷ log) l = rounds_more g f log l.1
 
-pub round_more : (g : Given) (f : Event) (log : Log) → IsLawful g log → round_at (with_event g f) log ≡ round_at g log
+pub round_more : (g : Input) (f : Event) (log : Log) → IsLawful g log → round_at (with_event g f) log ≡ round_at g log
 round_more g f log l =
     ap (λ n. round_in n (left (g.events ++ f ∷ []) log).1) (rounds_more g f log l)
     ∙ ap (λ (s : List Event × List Event). round_in (rounds g.events log) s.1) (grows g f log l)
 
 -- what is told of an event stays
 
-change_more : (g : Given) (f : Event) (old new : Log) → IsLawful g old → MarksNext g old → change (with_event g f) old new ≡ change g old new
+change_more : (g : Input) (f : Event) (old new : Log) → IsLawful g old → MarksNext g old → change (with_event g f) old new ≡ change g old new
 change_more g f old new l n =
     let place = scheduled_more g f old l n in
     let number = round_more g f old l in
@@ -125,7 +125,7 @@ change_more g f old new l n =
     })
     (moment_of g old) (moment_of g new)
 
-pub line_more : (g : Given) (f : Event) (log : Log) (k : ℕ) → IsLawful g log → 1 ≤ k → k ≤ marks log
+pub line_more : (g : Input) (f : Event) (log : Log) (k : ℕ) → IsLawful g log → 1 ≤ k → k ≤ marks log
     → line_of (with_event g f) log k ≡ line_of g log k
 line_more g f log k l some few =
     let n : MarksNext g (at_event (k - 1) log) = marks_next g (k - 1) log l (omega (arith, some, few)) in

@@ -3,7 +3,7 @@ use Rattle.std.proofs.Common.{ℕ, zero, suc, ◌+◌, ◌<◌, ◌≤◌, ◌�
 use Rattle.std.specs.BTreeSet.{contains}
 use Rattle.std.specs.List.{list_any, range_with_len}
 use Rattle.std.proofs.lemmas.List.Elements.{All-append, All-cons, All-filter, All-map, All-nil}
-use Rattle.sdd_obligations.specs.All.{D, Event, Given, History, IsGood, IsSiteOf, Log, Site, T, U, dm_no, history, marks, sites}
+use Rattle.sdd_obligations.specs.All.{D, Event, History, Input, IsGood, IsSiteOf, Log, Site, T, U, dm_no, history, marks, sites}
 use Rattle.sdd_obligations.specs.serial_orders.Finding.{pair_cmp}
 use Rattle.sdd_inside.specs.declared.delta.Found.{Found}
 use Rattle.sdd_inside.specs.declared.delta.RowDelta.{RowDelta}
@@ -30,7 +30,7 @@ each_number P k zero h = All-nil P
 each_number P k (suc n) h =
     All-cons P k (range_with_len (k + 1) n) (h k (omega arith) (omega arith)) (each_number P (k + 1) n (λ d low high. h d (omega arith) (omega arith)))
 
-pub sites_there : (g : Given) → All (IsSiteOf g) (sites g.catalogue.tms g.catalogue.dms)
+pub sites_there : (g : Input) → All (IsSiteOf g) (sites g.catalogue.tms g.catalogue.dms)
 sites_there g =
     let t : ℕ → Site = λ n. T (record { 0 = n }) in
     let d : ℕ → Site = λ n. D (record { 0 = n }) in
@@ -43,7 +43,7 @@ sites_there g =
     All-cons (IsSiteOf g) U (map t ts ++ map d ds) refl
     (All-append (IsSiteOf g) (map t ts) (map d ds) (All-map (IsSiteOf g) t ts all_ts) (All-map (IsSiteOf g) d ds all_ds))
 
-pub takers_there : (g : Given) (old new : Log) (all busy : List Site) → all ≡ sites g.catalogue.tms g.catalogue.dms → busy ≡ filter (takes_part g old new) all
+pub takers_there : (g : Input) (old new : Log) (all busy : List Site) → all ≡ sites g.catalogue.tms g.catalogue.dms → busy ≡ filter (takes_part g old new) all
     → All (IsSiteOf g) busy
 takers_there g old new all busy are is =
     subst (λ (xs : List Site). All (IsSiteOf g) xs) (sym is)
@@ -51,7 +51,7 @@ takers_there g old new all busy are is =
 
 -- what was said
 
-pub dones_more : (g : Given) (old new : Log) (known : List Arrived) (before after : Dones) → IsGood g → IsBetween g old new → known ≡ arrived g old new
+pub dones_more : (g : Input) (old new : Log) (known : List Arrived) (before after : Dones) → IsGood g → IsBetween g old new → known ≡ arrived g old new
     → ((t d : ℕ) → contains pair_cmp after.said (t, d) ≡ (list_any (says t d) known || contains pair_cmp before.said (t, d)))
     → AreDones g old before → AreDones g new after
 dones_more g old new known before after good between is add were = λ t d linked.
@@ -62,12 +62,12 @@ dones_more g old new known before after good between is add were = λ t d linked
 
 -- what was committed
 
-pub records_before : (g : Given) (old new : Log) (records : History) (n : ℕ) → IsBetween g old new → records ≡ history new → n ≡ length (history old)
+pub records_before : (g : Input) (old new : Log) (records : History) (n : ℕ) → IsBetween g old new → records ≡ history new → n ≡ length (history old)
     → take n records ≡ history old
 records_before g old new records n between is at =
     ap (take n) is ∙ ap (λ k. take k (history new)) at ∙ first_records g old new between
 
-pub commits_more : (g : Given) (old new : Log) (records : History) (n : ℕ) (before after : Commits) → IsBetween g old new → records ≡ history new
+pub commits_more : (g : Input) (old new : Log) (records : History) (n : ℕ) (before after : Commits) → IsBetween g old new → records ≡ history new
     → n ≡ length (history old) → (AreCommits (take n records) before → AreCommits records after) → AreCommits (history old) before
     → AreCommits (history new) after
 commits_more g old new records n before after between is at add were =
@@ -87,7 +87,7 @@ of_parts number scheduled round event found rows sites = record {
   sites = sites;
 }
 
-pub happened_is : (g : Given) (old new : Log) (w : World) (turn : Turn) (found : Found) (number : ℕ) (rows : List RowDelta) (states : List SiteState)
+pub happened_is : (g : Input) (old new : Log) (w : World) (turn : Turn) (found : Found) (number : ℕ) (rows : List RowDelta) (states : List SiteState)
     → IsOver g old new w turn.event found → IsTurn g old new turn → number ≡ marks new → rows ≡ rows_of g old new → states ≡ states_of g old new
     → of_parts number turn.scheduled turn.round turn.event found rows states ≡ happened_at g old new
 happened_is g old new w turn found number rows states over at count told stand =

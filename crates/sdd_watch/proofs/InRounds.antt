@@ -1,7 +1,7 @@
 -- Which events are left, and how many rounds were begun.
 use Rattle.std.proofs.Common.{ℕ, suc, ◌-◌, ◌≡◌, ◌≢◌, ◌∙◌, refl, ap, sym, subst, arith, Bool, true, false, List, [], ◌∷◌, ◌++◌, length, Option, Some, None, inl, inr}
 use Rattle.std.specs.Prelude.{◌⊎◌}
-use Rattle.sdd_obligations.specs.All.{Deliver, Does, Down, EndsIn, Event, Given, Hand, IsLawful, Log, Lose, Mark, Notes, Redeclare, Redeclares, Repeat, Resend, Round, Settle, Submit, Submitted, Tick, Up, after_mark, all_links, calls_of, left, links, marks, next, quiet, round, settles_before, with_event}
+use Rattle.sdd_obligations.specs.All.{Deliver, Does, Down, EndsIn, Event, Hand, Input, IsLawful, Log, Lose, Mark, Notes, Redeclare, Redeclares, Repeat, Resend, Round, Settle, Submit, Submitted, Tick, Up, after_mark, all_links, calls_of, left, links, marks, next, quiet, round, settles_before, with_event}
 use Rattle.sdd_obligations.specs.logs.Entries.{Entry}
 use Rattle.sdd_obligations.specs.logs.Marks.{mark_from, mark_of}
 use Rattle.sdd_obligations.proofs.logs.Completing.{IsSingle, complete_parts, one_more}
@@ -11,13 +11,13 @@ use Rattle.sdd_watch.specs.Happens.{rounds, unless_in_round}
 use Rattle.sdd_watch.proofs.EachEvent.{event_of, one_only}
 
 -- A round begins where no round is in progress and the links aren't quiet, and it has an event.
-pub record BeginsRound (g : Given) (log : Log) (es : List Event) : Type 0 where
+pub record BeginsRound (g : Input) (log : Log) (es : List Event) : Type 0 where
   pub no_round : (left g.events log).1 ≡ []
   pub some_left : (left g.events log).0 ≢ []
   pub some : es ≢ []
   pub is_loud : quiet (all_links g) (calls_of log) ≡ false
 
-round_from : (g : Given) (log : Log) (q : Bool) (r ws es : List Event) → mark_from g log q r ws ≡ Some (Round es) → (q ≡ false) × (r ≡ es) × (ws ≢ [])
+round_from : (g : Input) (log : Log) (q : Bool) (r ws es : List Event) → mark_from g log q r ws ≡ Some (Round es) → (q ≡ false) × (r ≡ es) × (ws ≢ [])
 round_from g log q r [] es h = cc
 round_from g log true r (Settle ∷ ws) es h = let i = round_from g log true r ws es h in absurd (let no = i.0 in cc)
 round_from g log false r (Settle ∷ ws) es h = (refl, (let p : r ≡ es = cc in p), λ e. cc)
@@ -32,7 +32,7 @@ round_from g log q r (Tick t k ∷ ws) es h = cc
 round_from g log q r (Down d ∷ ws) es h = cc
 round_from g log q r (Up d ∷ ws) es h = cc
 
-round_of : (g : Given) (log : Log) (s : List Event × List Event) (es : List Event) → mark_of g log s ≡ Some (Round es)
+round_of : (g : Input) (log : Log) (s : List Event × List Event) (es : List Event) → mark_of g log s ≡ Some (Round es)
     → (s.1 ≡ []) × (s.0 ≢ []) × (es ≢ []) × (quiet (all_links g) (calls_of log) ≡ false)
 round_of g log (ws, []) es h =
     let i = round_from g log (quiet (all_links g) (calls_of log)) (round (all_links g) (calls_of log)) ws es h in
@@ -44,13 +44,13 @@ round_of g log (ws, []) es h =
         let clash : true ≡ false = sym quieted ∙ still in absurd cc
 round_of g log (ws, x ∷ r) es h = cc
 
-pub begins_round : (g : Given) (log : Log) (es : List Event) → next g log ≡ Some (Round es) → BeginsRound g log es
+pub begins_round : (g : Input) (log : Log) (es : List Event) → next g log ≡ Some (Round es) → BeginsRound g log es
 begins_round g log es n =
     let p = round_of g log (left g.events log) es (mark_is_next g log (Round es) refl n) in
     record { no_round = p.0; some_left = p.1; some = p.2; is_loud = p.3 }
 
 -- where no event is left, no round was begun for one
-pub no_rounds_begun : (g : Given) (log : Log) → IsLawful g log → (left g.events log).0 ≡ [] → rounds g.events log ≡ 0
+pub no_rounds_begun : (g : Input) (log : Log) → IsLawful g log → (left g.events log).0 ≡ [] → rounds g.events log ≡ 0
 no_rounds_begun g [] l h = refl
 no_rounds_begun g (Mark e ∷ log) l h = marked (left g.events log) (λ none. no_rounds_begun g log l.1 none) h
   where
@@ -66,7 +66,7 @@ no_rounds_begun g (Does a act ∷ log) l h = no_rounds_begun g log l.1 h
 
 -- where a log is complete and the links aren't quiet, nothing is left
 
-none_from : (g : Given) (log : Log) (r ws : List Event) → mark_from g log false r ws ≡ None → ws ≡ []
+none_from : (g : Input) (log : Log) (r ws : List Event) → mark_from g log false r ws ≡ None → ws ≡ []
 none_from g log r [] h = refl
 none_from g log r (Settle ∷ ws) h = cc
 none_from g log r (Redeclare ∷ ws) h = cc
@@ -79,18 +79,18 @@ none_from g log r (Tick t k ∷ ws) h = cc
 none_from g log r (Down d ∷ ws) h = cc
 none_from g log r (Up d ∷ ws) h = cc
 
-none_of : (g : Given) (log : Log) (s : List Event × List Event) → quiet (all_links g) (calls_of log) ≡ false → mark_of g log s ≡ None
+none_of : (g : Input) (log : Log) (s : List Event × List Event) → quiet (all_links g) (calls_of log) ≡ false → mark_of g log s ≡ None
     → s ≡ ([], [])
 none_of g log (ws, []) loud h =
     let r = round (all_links g) (calls_of log) in
     ap (λ es. (es, [])) (none_from g log r ws (sym (ap (λ q. mark_from g log q r ws) loud) ∙ h))
 none_of g log (ws, x ∷ r) loud h = cc
 
-pub none_left_loud : (g : Given) (log : Log) → next g log ≡ None → quiet (all_links g) (calls_of log) ≡ false → left g.events log ≡ ([], [])
+pub none_left_loud : (g : Input) (log : Log) → next g log ≡ None → quiet (all_links g) (calls_of log) ≡ false → left g.events log ≡ ([], [])
 none_left_loud g log n loud = none_of g log (left g.events log) loud (complete_parts g log n).no_next
 
 -- no round is in progress behind a complete log
-pub none_in_round : (g : Given) (log : Log) → next g log ≡ None → (left g.events log).1 ≡ []
+pub none_in_round : (g : Input) (log : Log) → next g log ≡ None → (left g.events log).1 ≡ []
 none_in_round g log n = of_round (left g.events log) (complete_parts g log n).no_next
   where
     of_round : (s : List Event × List Event) → mark_of g log s ≡ None → s.1 ≡ []
@@ -98,7 +98,7 @@ none_in_round g log n = of_round (left g.events log) (complete_parts g log n).no
     of_round (ws, x ∷ r) h = cc
 
 -- an event more that is reached by rounds: where some come, it alone is left, and none was begun for it
-pub one_is_left : (g : Given) (log : Log) (e : Event) → IsLawful g log → next g log ≡ None → quiet (all_links g) (calls_of log) ≡ false
+pub one_is_left : (g : Input) (log : Log) (e : Event) → IsLawful g log → next g log ≡ None → quiet (all_links g) (calls_of log) ≡ false
     → left (g.events ++ e ∷ []) log ≡ (e ∷ [], [])
 one_is_left g log e l n loud = grows g e log l ∙ ap (with_end e) (none_left_loud g log n loud)
 
@@ -126,12 +126,12 @@ pub record OneBegun (left_now left_before : List Event) : Type 0 where
   pub some : left_now ≢ []
   pub none : left_before ≡ []
 
-abbrev Begun : Given → Log → Log → Type 0
+abbrev Begun : Input → Log → Log → Type 0
 Begun g now before =
     NoneBegun (rounds g.events now) (rounds g.events before) (left g.events now).1 (left g.events before).1
     ⊎ OneBegun (left g.events now).1 (left g.events before).1
 
-rounds_above : (g : Given) (m : Log) (x : Entry) (e : Event) (log : Log) → IsLawful g (m ++ x ∷ log) → event_of x ≡ Some e
+rounds_above : (g : Input) (m : Log) (x : Entry) (e : Event) (log : Log) → IsLawful g (m ++ x ∷ log) → event_of x ≡ Some e
     → marks (m ++ x ∷ log) ≡ suc (marks log) → Begun g (m ++ x ∷ log) (x ∷ log)
 rounds_above g [] x e log l h k = inl (record { rounds_are = refl; round_is = refl })
 rounds_above g (Mark f ∷ m) x e log l h k = absurd (one_only m x e log h k)
@@ -148,14 +148,14 @@ rounds_above g (Notes ∷ m) x e log l h k = rounds_above g m x e log l.1 h k
 rounds_above g (Does a act ∷ m) x e log l h k = rounds_above g m x e log l.1 h k
 
 -- where as many events of the round are left as behind the mark, no round was begun
-pub rounds_stay : (g : Given) (m : Log) (x : Entry) (e : Event) (log : Log) → IsLawful g (m ++ x ∷ log) → event_of x ≡ Some e
+pub rounds_stay : (g : Input) (m : Log) (x : Entry) (e : Event) (log : Log) → IsLawful g (m ++ x ∷ log) → event_of x ≡ Some e
     → marks (m ++ x ∷ log) ≡ suc (marks log) → (left g.events (m ++ x ∷ log)).1 ≡ (left g.events (x ∷ log)).1
     → rounds g.events (m ++ x ∷ log) ≡ rounds g.events (x ∷ log)
 rounds_stay g m x e log l h k same =
     elim (rounds_above g m x e log l h k) [ inl p ↦ p.rounds_are | inr p ↦ absurd (p.some (same ∙ p.none)) ]
 
 -- behind the last event that is left no mark stands
-pub no_mark_more : (g : Given) (m log : Log) → IsLawful g (m ++ log) → left g.events log ≡ ([], [])
+pub no_mark_more : (g : Input) (m log : Log) → IsLawful g (m ++ log) → left g.events log ≡ ([], [])
     → (marks (m ++ log) ≡ marks log) × (left g.events (m ++ log) ≡ ([], []))
 no_mark_more g [] log l h = (refl, h)
 no_mark_more g (Mark e ∷ m) log l h =

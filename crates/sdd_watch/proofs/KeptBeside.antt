@@ -2,16 +2,16 @@
 use Rattle.std.proofs.Common.{ℕ, ◌≡◌, ◌∙◌, List, ◌++◌, drop, length, map, take, ap, subst, sym}
 use Rattle.std.proofs.Math.Seq.{take-append_seam}
 use Rattle.std.proofs.lemmas.List.{length-map}
-use Rattle.sdd_obligations.specs.All.{Given, Log, history}
+use Rattle.sdd_obligations.specs.All.{Input, Log, history}
 use Rattle.sdd_watch.specs.Watching.{AreCommits, AreDones, Knows, Watches}
 use Rattle.sdd_watch.specs.declared.commits.Commits.{Commits}
 use Rattle.sdd_watch.specs.declared.dones.Dones.{Dones}
 use Rattle.sdd_watch.specs.declared.watch.Watch.{Watch}
 
-pub known : (g : Given) (log : Log) (w : Watch) → Watches g log w → Knows g log w
+pub known : (g : Input) (log : Log) (w : Watch) → Watches g log w → Knows g log w
 known g log w h = record { sites = h.sites; records = h.records; commits = h.commits; dones = h.dones }
 
-pub beside : (g : Given) (log : Log) (w v : Watch) → v.sites ≡ w.sites → v.records ≡ w.records → v.commits ≡ w.commits → v.dones ≡ w.dones
+pub beside : (g : Input) (log : Log) (w v : Watch) → v.sites ≡ w.sites → v.records ≡ w.records → v.commits ≡ w.commits → v.dones ≡ w.dones
     → Knows g log w → Knows g log v
 beside g log w v sites records commits dones h = record {
   sites = ap (λ s. s.items) sites ∙ h.sites;

@@ -2,7 +2,7 @@
 use Rattle.std.proofs.Common.{◌≡◌, ◌∙◌, ℕ, ◌+◌, ◌<◌, ◌≤◌, List, [], ◌∷◌, ◌++◌, length, map, filter_map, take, get_or, slice_set, ap, arith, subst, sym}
 use Rattle.std.specs.List.{cons_option}
 use Rattle.std.proofs.lemmas.List.{length-map}
-use Rattle.sdd_obligations.specs.All.{Given, IsLinkOf, Log, Site, all_links}
+use Rattle.sdd_obligations.specs.All.{Input, IsLinkOf, Log, Site, all_links}
 use Rattle.sdd_obligations.proofs.OfNext.{link_of_links}
 use Rattle.sdd_inside.specs.declared.moment.LinkMoment.{LinkMoment}
 use Rattle.sdd_watch.specs.Watching.{arrived, arrived_on, link_after, link_before, seen_between, watched_link}
@@ -12,33 +12,33 @@ use Rattle.sdd_watch.specs.declared.watched_link.WatchedLink.{WatchedLink}
 use Rattle.sdd_watch.proofs.Visited.{PlaceAt, all_changed, changed_to, mapped_last, picked_last, place_at, take_past}
 
 -- of the first so many links what is kept and was seen
-pub record LinksSoFar (g : Given) (old new : Log) (i : ℕ) (links : List WatchedLink) (before after : List LinkMoment) (come : List Arrived) : Type 0 where
+pub record LinksSoFar (g : Input) (old new : Log) (i : ℕ) (links : List WatchedLink) (before after : List LinkMoment) (come : List Arrived) : Type 0 where
   pub links_are : links ≡ changed_to (watched_link old) (watched_link new) i (all_links g)
   pub before_are : before ≡ map (link_before old) (take i (all_links g))
   pub after_are : after ≡ map (link_after old new) (take i (all_links g))
   pub come_are : come ≡ filter_map (arrived_on old new) (take i (all_links g))
 
-pub no_links_yet : (g : Given) (old new : Log) (links : List WatchedLink) (before after : List LinkMoment) (come : List Arrived)
+pub no_links_yet : (g : Input) (old new : Log) (links : List WatchedLink) (before after : List LinkMoment) (come : List Arrived)
     → links ≡ map (watched_link old) (all_links g) → before ≡ [] → after ≡ [] → come ≡ [] → LinksSoFar g old new 0 links before after come
 no_links_yet g old new links before after come e b a c = record { links_are = e; before_are = b; after_are = a; come_are = c }
 
 -- there are as many links as places
-pub few_links : (g : Given) (old : Log) (begun : List WatchedLink) (i : ℕ) → begun ≡ map (watched_link old) (all_links g) → i < length begun
+pub few_links : (g : Input) (old : Log) (begun : List WatchedLink) (i : ℕ) → begun ≡ map (watched_link old) (all_links g) → i < length begun
     → i < length (all_links g)
 few_links g old begun i e few = let n = ap length e ∙ length-map (all_links g) (watched_link old) in omega (arith, few, n)
 
-pub link_at : (g : Given) (old new : Log) (begun links : List WatchedLink) (i : ℕ) (x : WatchedLink) (before after : List LinkMoment) (come : List Arrived)
+pub link_at : (g : Input) (old new : Log) (begun links : List WatchedLink) (i : ℕ) (x : WatchedLink) (before after : List LinkMoment) (come : List Arrived)
     → begun ≡ map (watched_link old) (all_links g) → i < length begun → LinksSoFar g old new i links before after come → x ≡ get_or links i x
     → PlaceAt (watched_link old) (watched_link new) (all_links g) links i (i + 1) x
 link_at g old new begun links i x before after come e few s is =
     place_at (watched_link old) (watched_link new) (all_links g) links i (i + 1) x (omega arith) (few_links g old begun i e few) s.links_are is
 
-pub place_linked : (g : Given) (old new : Log) (links : List WatchedLink) (i : ℕ) (x : WatchedLink)
+pub place_linked : (g : Input) (old new : Log) (links : List WatchedLink) (i : ℕ) (x : WatchedLink)
     → (p : PlaceAt (watched_link old) (watched_link new) (all_links g) links i (i + 1) x) → IsLinkOf g p.place.0 p.place.1
 place_linked g old new links i x p = link_of_links g.catalogue.tms g.catalogue.dms p.place.0 p.place.1 (i, p.is_there)
 
 -- the link at hand is one of the network
-pub at_link : (g : Given) (old new : Log) (begun links : List WatchedLink) (i : ℕ) (x : WatchedLink) (before after : List LinkMoment) (come : List Arrived)
+pub at_link : (g : Input) (old new : Log) (begun links : List WatchedLink) (i : ℕ) (x : WatchedLink) (before after : List LinkMoment) (come : List Arrived)
     → begun ≡ map (watched_link old) (all_links g) → i < length begun → LinksSoFar g old new i links before after come → x ≡ get_or links i x
     → IsLinkOf g (get_or links i x).from (get_or links i x).to
 at_link g old new begun links i x before after come e few s is =
@@ -46,7 +46,7 @@ at_link g old new begun links i x before after come e few s is =
     subst (λ (w : WatchedLink). IsLinkOf g w.from w.to) (sym p.stood ∙ is) (place_linked g old new links i x p)
 
 -- one more is looked at
-pub links_more : (g : Given) (old new : Log) (begun links : List WatchedLink) (i : ℕ) (x next : WatchedLink) (seen : LinkSeen)
+pub links_more : (g : Input) (old new : Log) (begun links : List WatchedLink) (i : ℕ) (x next : WatchedLink) (seen : LinkSeen)
     (before after before2 after2 : List LinkMoment) (come come2 : List Arrived)
     → begun ≡ map (watched_link old) (all_links g) → i < length begun → LinksSoFar g old new i links before after come → x ≡ get_or links i x
     → ((l : Site × Site) → IsLinkOf g l.0 l.1 → x ≡ watched_link old l → seen ≡ seen_between old new l)
@@ -69,13 +69,13 @@ links_more g old new begun links i x next seen before after before2 after2 come 
     }
 
 -- all are looked at
-pub record LinksOver (g : Given) (old new : Log) (links : List WatchedLink) (before after : List LinkMoment) (come : List Arrived) : Type 0 where
+pub record LinksOver (g : Input) (old new : Log) (links : List WatchedLink) (before after : List LinkMoment) (come : List Arrived) : Type 0 where
   pub links_are : links ≡ map (watched_link new) (all_links g)
   pub before_are : before ≡ map (link_before old) (all_links g)
   pub after_are : after ≡ map (link_after old new) (all_links g)
   pub come_are : come ≡ arrived g old new
 
-pub links_over : (g : Given) (old new : Log) (begun links : List WatchedLink) (i : ℕ) (before after : List LinkMoment) (come : List Arrived)
+pub links_over : (g : Input) (old new : Log) (begun links : List WatchedLink) (i : ℕ) (before after : List LinkMoment) (come : List Arrived)
     → begun ≡ map (watched_link old) (all_links g) → length begun ≤ i → LinksSoFar g old new i links before after come
     → LinksOver g old new links before after come
 links_over g old new begun links i before after come e past s =

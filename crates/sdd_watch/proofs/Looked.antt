@@ -1,6 +1,6 @@
 -- A look at a link, at what is read of it in the world.
 use Rattle.std.proofs.Common.{ℕ, ◌≡◌, ◌∙◌, Bool, List, length, drop, ap, refl, subst, sym}
-use Rattle.sdd_obligations.specs.All.{Event, Given, IsGood, IsLinkOf, Log, Msg, Packet, Site, handed, link_of, sent}
+use Rattle.sdd_obligations.specs.All.{Event, Input, IsGood, IsLinkOf, Log, Msg, Packet, Site, handed, link_of, sent}
 use Rattle.sdd_inside.specs.declared.delta.Found.{Found}
 use Rattle.sdd_watch.specs.Happens.{found_by, last_event}
 use Rattle.sdd_watch.specs.Looking.{advanced, seen_with}
@@ -9,7 +9,7 @@ use Rattle.sdd_watch.specs.declared.watched_link.LinkSeen.{LinkSeen}
 use Rattle.sdd_watch.specs.declared.watched_link.WatchedLink.{WatchedLink}
 use Rattle.sdd_watch.proofs.Between.{link_advances, link_seen}
 
-keeps : (g : Given) (old new : Log) (l : Site × Site) (w next : WatchedLink) (left put over : ℕ) (news : List (Packet Msg)) → IsGood g
+keeps : (g : Input) (old new : Log) (l : Site × Site) (w next : WatchedLink) (left put over : ℕ) (news : List (Packet Msg)) → IsGood g
     → IsBetween g old new → w ≡ watched_link old l → left ≡ left_between old new l
     → news ≡ drop (left_between old new l) (link_of l.0 l.1 new).there.flight → put ≡ length (sent l.0 l.1 new) → over ≡ handed l.0 l.1 new
     → next ≡ advanced left news put over w → next ≡ watched_link new l
@@ -22,7 +22,7 @@ keeps g old new l w next left put over news good b is stay packets count given e
     (length (sent l.0 l.1 new)) n (watched_link old l)) given
     ∙ link_advances g old new l good b
 
-sees : (g : Given) (old new : Log) (l : Site × Site) (w : WatchedLink) (seen : LinkSeen) (put over : ℕ) (news : List (Packet Msg)) → IsGood g
+sees : (g : Input) (old new : Log) (l : Site × Site) (w : WatchedLink) (seen : LinkSeen) (put over : ℕ) (news : List (Packet Msg)) → IsGood g
     → IsBetween g old new → w ≡ watched_link old l
     → news ≡ drop (left_between old new l) (link_of l.0 l.1 new).there.flight → put ≡ length (sent l.0 l.1 new) → over ≡ handed l.0 l.1 new
     → seen ≡ seen_with news put over w → seen ≡ seen_between old new l
@@ -43,7 +43,7 @@ pub record IsRead (old new : Log) (w : WatchedLink) (taken : Bool) (left : ℕ) 
   pub over_is : over ≡ handed w.from w.to new
 
 -- the link is that of the network
-pub link_there : (g : Given) (old : Log) (l : Site × Site) (w : WatchedLink) → w ≡ watched_link old l → IsLinkOf g l.0 l.1 → IsLinkOf g w.from w.to
+pub link_there : (g : Input) (old : Log) (l : Site × Site) (w : WatchedLink) → w ≡ watched_link old l → IsLinkOf g l.0 l.1 → IsLinkOf g w.from w.to
 link_there g old l w is linked = subst (λ (x : WatchedLink). IsLinkOf g x.from x.to) (sym is) linked
 
 -- the event and what it found are those that are told
@@ -60,7 +60,7 @@ at_left old new l taken left news put over r =
     let stay : left ≡ left_between old new l = r.left_is ∙ ap (λ b. left_of b (length (link_of l.0 l.1 old).there.flight)) r.taken_is in
     (stay, r.news_are ∙ ap (λ n. drop n (link_of l.0 l.1 new).there.flight) stay)
 
-pub link_kept : (g : Given) (old new : Log) (l : Site × Site) (w next : WatchedLink) (taken : Bool) (left put over : ℕ) (news : List (Packet Msg)) → IsGood g
+pub link_kept : (g : Input) (old new : Log) (l : Site × Site) (w next : WatchedLink) (taken : Bool) (left put over : ℕ) (news : List (Packet Msg)) → IsGood g
     → IsBetween g old new → w ≡ watched_link old l → IsRead old new w taken left news put over → next ≡ advanced left news put over w
     → next ≡ watched_link new l
 link_kept g old new l w next taken left put over news good b is r e =
@@ -68,7 +68,7 @@ link_kept g old new l w next taken left put over news good b is r e =
     let p = at_left old new l taken left news put over q in
     keeps g old new l (watched_link old l) next left put over news good b refl p.0 p.1 q.put_is q.over_is (e ∙ ap (advanced left news put over) is)
 
-pub link_looked : (g : Given) (old new : Log) (l : Site × Site) (w : WatchedLink) (seen : LinkSeen) (taken : Bool) (left put over : ℕ)
+pub link_looked : (g : Input) (old new : Log) (l : Site × Site) (w : WatchedLink) (seen : LinkSeen) (taken : Bool) (left put over : ℕ)
     (news : List (Packet Msg)) → IsGood g → IsBetween g old new → w ≡ watched_link old l → IsRead old new w taken left news put over
     → seen ≡ seen_with news put over w → seen ≡ seen_between old new l
 link_looked g old new l w seen taken left put over news good b is r e =

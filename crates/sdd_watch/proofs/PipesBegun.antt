@@ -4,7 +4,7 @@ use Rattle.std.specs.List.{range_with_len}
 use Rattle.std.proofs.lemmas.List.{map-append, map-id}
 use Rattle.std.proofs.lemmas.List.Concat.{flat_map-append}
 use Rattle.std.proofs.lemmas.List.FromFn.{map-range_with_len_more}
-use Rattle.sdd_obligations.specs.All.{ClassNo, DmNo, Given, Site, numbers_to}
+use Rattle.sdd_obligations.specs.All.{ClassNo, DmNo, Input, Site, numbers_to}
 use Rattle.sdd_watch.specs.Moments.{all_pipes, pipes_at_module, source}
 use Rattle.sdd_watch.specs.Watching.{watched_pipe}
 use Rattle.sdd_watch.specs.declared.watched_pipe.WatchedPipe.{WatchedPipe}
@@ -16,7 +16,7 @@ first_classes d n = map (λ c. (d, c)) (range_with_len 0 n)
 abbrev empty_pipe : DmNo → ClassNo → Site → WatchedPipe
 empty_pipe d c at = record { dm = d; class = c; source = at; unprocessed = 0 }
 
-pub class_more : (g : Given) (d : DmNo) (c : ClassNo) (at : Site) (begun old new : List WatchedPipe) → at ≡ source g d.0 c.0
+pub class_more : (g : Input) (d : DmNo) (c : ClassNo) (at : Site) (begun old new : List WatchedPipe) → at ≡ source g d.0 c.0
     → old ≡ begun ++ map (watched_pipe g []) (first_classes d.0 c.0)
     → new ≡ old ++ record { dm = d; class = c; source = at; unprocessed = 0 } ∷ []
     → new ≡ begun ++ map (watched_pipe g []) (first_classes d.0 (c.0 + 1))
@@ -29,15 +29,15 @@ class_more g d c at begun old new is e push =
     ∙ append_assoc begun (map f (first_classes d.0 c.0)) (f (d.0, c.0) ∷ [])
     ∙ ap (λ ws. begun ++ ws) (sym (map-append f (first_classes d.0 c.0) ((d.0, c.0) ∷ [])) ∙ ap (map f) (sym further))
 
-pub classes_done : (g : Given) (d : DmNo) (n : ℕ) (begun now : List WatchedPipe) → n ≡ suc (length g.catalogue.classes)
+pub classes_done : (g : Input) (d : DmNo) (n : ℕ) (begun now : List WatchedPipe) → n ≡ suc (length g.catalogue.classes)
     → now ≡ begun ++ map (watched_pipe g []) (first_classes d.0 n) → now ≡ begun ++ map (watched_pipe g []) (pipes_at_module g d.0)
 classes_done g d n begun now all e = e ∙ ap (λ k. begun ++ map (watched_pipe g []) (first_classes d.0 k)) all
 
 -- the pipes of the data modules before the one with this number
-abbrev pub pipes_before : Given → ℕ → List (ℕ × ℕ)
+abbrev pub pipes_before : Input → ℕ → List (ℕ × ℕ)
 pipes_before g number = flat_map (pipes_at_module g) (numbers_to (number - 1))
 
-pub module_more : (g : Given) (number d : ℕ) (old new : List WatchedPipe) → 1 ≤ number → d ≡ number
+pub module_more : (g : Input) (number d : ℕ) (old new : List WatchedPipe) → 1 ≤ number → d ≡ number
     → old ≡ map (watched_pipe g []) (pipes_before g number) → new ≡ old ++ map (watched_pipe g []) (pipes_at_module g d)
     → new ≡ map (watched_pipe g []) (pipes_before g (number + 1))
 module_more g number d old new some same e push =
@@ -55,7 +55,7 @@ module_more g number d old new some same e push =
     ∙ sym (map-append f (pipes_before g number) (pipes_at_module g number))
     ∙ ap (map f) (sym added) ∙ ap (λ k. map f (flat_map (pipes_at_module g) (numbers_to k))) (sym whole)
 
-pub modules_done : (g : Given) (number : ℕ) (now : List WatchedPipe) → number ≡ suc g.catalogue.dms
+pub modules_done : (g : Input) (number : ℕ) (now : List WatchedPipe) → number ≡ suc g.catalogue.dms
     → now ≡ map (watched_pipe g []) (pipes_before g number) → now ≡ map (watched_pipe g []) (all_pipes g)
 modules_done g number now all e =
     let last : number - 1 ≡ g.catalogue.dms = omega (arith, all) in

@@ -1,6 +1,6 @@
 -- A look at a pipe, at what is read of it in the world.
 use Rattle.std.proofs.Common.{◌≡◌, ◌∙◌, ℕ, ◌+◌, ◌-◌, ◌≤◌, List, Option, Some, None, [], length, drop, map, ap, arith, refl, subst}
-use Rattle.sdd_obligations.specs.All.{D, DmNo, Given, IsGood, IsSiteOf, Kept, Log, Msg, Pipe, Setting, Ts, class_no, dm_no, head_of, local_of, pipe, setting_of, time_at, time_of}
+use Rattle.sdd_obligations.specs.All.{D, DmNo, Input, IsGood, IsSiteOf, Kept, Log, Msg, Pipe, Setting, Ts, class_no, dm_no, head_of, local_of, pipe, setting_of, time_at, time_of}
 use Rattle.sdd_obligations.specs.dm.Due.{or_zero}
 use Rattle.sdd_obligations.specs.dm.State.{State}
 use Rattle.sdd_obligations.specs.pipe.Digest.{Digest, IsDigest, passed_with}
@@ -22,7 +22,7 @@ use Rattle.sdd_watch.proofs.Sourced.{source_there}
 
 -- the pipe in the module
 
-lives_at : (g : Given) (log : Log) (sites : Sites) (dm : DmNo) (d : ℕ) (k : Kept State) → dm ≡ dm_no d → AllStandFor sites g log → IsSiteOf g (D (dm_no d))
+lives_at : (g : Input) (log : Log) (sites : Sites) (dm : DmNo) (d : ℕ) (k : Kept State) → dm ≡ dm_no d → AllStandFor sites g log → IsSiteOf g (D (dm_no d))
     → ((setting : Setting) (own : site.Log) → StandFor sites (D dm) setting own → LivesD k setting own)
     → LivesD k (setting_of g (D (dm_no d))) (local_of g (D (dm_no d)) log)
 lives_at g log sites dm d k is all here lives =
@@ -31,7 +31,7 @@ lives_at g log sites dm d k is all here lives =
     f (setting_of g (D (dm_no d))) (local_of g (D (dm_no d)) log) (all (D (dm_no d)) here)
 
 -- what the module keeps of a pipe is of that of the log
-digest_at : (g : Given) (log : Log) (d c : ℕ) (k : Kept State) → LivesD k (setting_of g (D (dm_no d))) (local_of g (D (dm_no d)) log)
+digest_at : (g : Input) (log : Log) (d c : ℕ) (k : Kept State) → LivesD k (setting_of g (D (dm_no d))) (local_of g (D (dm_no d)) log)
     → c ≤ length g.catalogue.classes → IsDigest (pipe_at k.value.pipes c) (pipe c (local_of g (D (dm_no d)) log))
 digest_at g log d c k lives few = (lives.stands_for.shows.classes c few).pipe
 
@@ -45,11 +45,11 @@ passed_told d p is =
     ∙ ap (λ o. or_zero (passed_with (head_of p.unprocessed) o)) is.latest ∙ passed_by_head (head_of p.unprocessed) p.processed
 
 -- what is read of a pipe behind the event
-pub record IsRead (g : Given) (new : Log) (d c : ℕ) (unprocessed : ℕ) (passed : Ts) : Type 0 where
+pub record IsRead (g : Input) (new : Log) (d c : ℕ) (unprocessed : ℕ) (passed : Ts) : Type 0 where
   pub left : unprocessed ≡ length (pipe c (local_of g (D (dm_no d)) new)).unprocessed
   pub passed_is : passed ≡ time_at (passed_to (pipe c (local_of g (D (dm_no d)) new)))
 
-pub read_pipe : (g : Given) (old new : Log) (d c : ℕ) (w : WatchedPipe) (sites : Sites) (k : Kept State) (unprocessed : ℕ) (passed : Ts)
+pub read_pipe : (g : Input) (old new : Log) (d c : ℕ) (w : WatchedPipe) (sites : Sites) (k : Kept State) (unprocessed : ℕ) (passed : Ts)
     → w ≡ watched_pipe g old (d, c) → AllStandFor sites g new → IsSiteOf g (D (dm_no d)) → c ≤ length g.catalogue.classes
     → ((setting : Setting) (own : site.Log) → StandFor sites (D w.dm) setting own → LivesD k setting own)
     → unprocessed ≡ length (pipe_at k.value.pipes w.class.0).unprocessed
@@ -68,7 +68,7 @@ read_pipe g old new d c w sites k unprocessed passed is all here few lives u p =
 abbrev with_unprocessed : WatchedPipe → ℕ → WatchedPipe
 with_unprocessed w n = record w { unprocessed = n }
 
-pub pipe_kept : (g : Given) (old new : Log) (d c : ℕ) (w next : WatchedPipe) (unprocessed : ℕ) (passed : Ts) → w ≡ watched_pipe g old (d, c)
+pub pipe_kept : (g : Input) (old new : Log) (d c : ℕ) (w next : WatchedPipe) (unprocessed : ℕ) (passed : Ts) → w ≡ watched_pipe g old (d, c)
     → IsRead g new d c unprocessed passed → next ≡ record w { unprocessed = unprocessed } → next ≡ watched_pipe g new (d, c)
 pipe_kept g old new d c w next unprocessed passed is read e =
     e ∙ ap (λ x. with_unprocessed x unprocessed) is ∙ ap (with_unprocessed (watched_pipe g old (d, c))) read.left
@@ -78,7 +78,7 @@ pipe_kept g old new d c w next unprocessed passed is read e =
 abbrev moment_for : WatchedPipe → List ℕ → ℕ → Ts → PipeMoment
 moment_for w numbers processed passed = record { dm = w.dm; class = w.class; came = numbers; processed = processed; passed = passed }
 
-pub seen_before : (g : Given) (old new : Log) (d c : ℕ) (w : WatchedPipe) (unprocessed : ℕ) (passed : Ts) (moment : PipeMoment) (none : List ℕ)
+pub seen_before : (g : Input) (old new : Log) (d c : ℕ) (w : WatchedPipe) (unprocessed : ℕ) (passed : Ts) (moment : PipeMoment) (none : List ℕ)
     → w ≡ watched_pipe g old (d, c) → IsRead g new d c unprocessed passed → none ≡ []
     → moment ≡ record { dm = w.dm; class = w.class; came = none; processed = 0; passed = passed } → moment ≡ pipe_before g old new (d, c)
 seen_before g old new d c w unprocessed passed moment none is read z e =
@@ -86,7 +86,7 @@ seen_before g old new d c w unprocessed passed moment none is read z e =
     ∙ ap (moment_for (watched_pipe g old (d, c)) [] 0) read.passed_is
 
 -- what came is what was handed over on its link
-numbers_came : (g : Given) (old new : Log) (d c : ℕ) (w : WatchedPipe) (numbers : List ℕ) (here : List Arrived) → IsGood g → IsBetween g old new
+numbers_came : (g : Input) (old new : Log) (d c : ℕ) (w : WatchedPipe) (numbers : List ℕ) (here : List Arrived) → IsGood g → IsBetween g old new
     → IsSiteOf g (D (dm_no d)) → w ≡ watched_pipe g old (d, c) → here ≡ arrived g old new → numbers ≡ numbers_for w.source (D w.dm) w.class.0 here
     → numbers ≡ drop (length (came g d c old)) (came g d c new)
 numbers_came g old new d c w numbers here good b site is all e =
@@ -94,7 +94,7 @@ numbers_came g old new d c w numbers here good b site is all e =
     ∙ ap (numbers_for (source g d c) (D (dm_no d)) c) all ∙ came_is g old new d c good b (source_there g d c good site)
 
 -- how many were processed
-count_processed : (g : Given) (old new : Log) (d c : ℕ) (w : WatchedPipe) (numbers : List ℕ) (unprocessed count : ℕ) (passed : Ts)
+count_processed : (g : Input) (old new : Log) (d c : ℕ) (w : WatchedPipe) (numbers : List ℕ) (unprocessed count : ℕ) (passed : Ts)
     → IsGood g → IsBetween g old new → c ≤ length g.catalogue.classes → w ≡ watched_pipe g old (d, c) → IsRead g new d c unprocessed passed
     → numbers ≡ drop (length (came g d c old)) (came g d c new) → count ≡ (w.unprocessed + length numbers) - unprocessed
     → count ≡ length (pipe c (local_of g (D (dm_no d)) new)).processed - length (pipe c (local_of g (D (dm_no d)) old)).processed
@@ -110,7 +110,7 @@ count_processed g old new d c w numbers unprocessed count passed good b few is r
     ∙ processed_is (length o.unprocessed) (length n.unprocessed) (length o.processed) (length n.processed) (length (came g d c old)) (length (came g d c new))
     (length (drop (length (came g d c old)) (came g d c new))) a z m
 
-pub seen_after : (g : Given) (old new : Log) (d c : ℕ) (w : WatchedPipe) (numbers : List ℕ) (unprocessed count : ℕ) (passed : Ts) (moment : PipeMoment)
+pub seen_after : (g : Input) (old new : Log) (d c : ℕ) (w : WatchedPipe) (numbers : List ℕ) (unprocessed count : ℕ) (passed : Ts) (moment : PipeMoment)
     (here : List Arrived) → IsGood g → IsBetween g old new → IsSiteOf g (D (dm_no d)) → c ≤ length g.catalogue.classes → w ≡ watched_pipe g old (d, c)
     → here ≡ arrived g old new → IsRead g new d c unprocessed passed → numbers ≡ numbers_for w.source (D w.dm) w.class.0 here
     → count ≡ (w.unprocessed + length numbers) - unprocessed

@@ -1,7 +1,7 @@
 -- A look at each pipe, one after the other: the pipes before the place at hand are looked at.
 use Rattle.std.proofs.Common.{◌≡◌, ◌∙◌, inl, inr, ℕ, suc, ◌+◌, zero, ◌<◌, ◌≤◌, List, Some, drop, [], ◌∷◌, ◌++◌, length, flat_map, map, slice_get, take, get_or, slice_set, ap, arith, refl, subst, sym}
 use Rattle.std.proofs.lemmas.List.{drop-drop, drop-set-lt, get_or_default, length-map}
-use Rattle.sdd_obligations.specs.All.{D, Given, IsSiteOf, Log, dm_no, numbers_to, setting_of}
+use Rattle.sdd_obligations.specs.All.{D, Input, IsSiteOf, Log, dm_no, numbers_to, setting_of}
 use Rattle.sdd_obligations.specs.dm.Copies.{classes_of}
 use Rattle.sdd_obligations.proofs.tm.Lists.{of_map as in_mapped}
 use Rattle.sdd_obligations.proofs.Submitting.{le_true}
@@ -14,7 +14,7 @@ use Rattle.sdd_watch.proofs.Visited.{PlaceAt, all_changed, changed_to, mapped_la
 
 -- the pipes of a run: of each data module and each class
 
-pub record IsPipeOf (g : Given) (p : ℕ × ℕ) : Type 0 where
+pub record IsPipeOf (g : Input) (p : ℕ × ℕ) : Type 0 where
   pub site : IsSiteOf g (D (dm_no p.0))
   pub class : p.1 ≤ length g.catalogue.classes
 
@@ -27,10 +27,10 @@ at_flat f Q (x ∷ xs) h i y e = elim (in_either (f x) (flat_map f xs) i y e) [
   | inr p ↦ at_flat f Q xs (λ k z t. h (suc k) z t) p.0 y p.1
 ]
 
-module_here : (g : Given) (d : ℕ) → 1 ≤ d → d ≤ g.catalogue.dms → IsSiteOf g (D (dm_no d))
+module_here : (g : Input) (d : ℕ) → 1 ≤ d → d ≤ g.catalogue.dms → IsSiteOf g (D (dm_no d))
 module_here g d l m = rw (le_true 1 d l, le_true d g.catalogue.dms m) refl
 
-pub pipe_there : (g : Given) (i : ℕ) (p : ℕ × ℕ) → slice_get (all_pipes g) i ≡ Some p → IsPipeOf g p
+pub pipe_there : (g : Input) (i : ℕ) (p : ℕ × ℕ) → slice_get (all_pipes g) i ≡ Some p → IsPipeOf g p
 pipe_there g =
     at_flat (pipes_at_module g) (IsPipeOf g) (numbers_to g.catalogue.dms) (λ k d e j p q.
     let m = in_range 1 g.catalogue.dms k d e in
@@ -52,20 +52,20 @@ first_of_drop (x ∷ xs) (y ∷ ys) zero d few some e = cc
 first_of_drop (x ∷ xs) (y ∷ ys) (suc i) d few some e = first_of_drop xs ys i d (omega (arith, few)) (omega (arith, some)) e
 
 -- of the first so many pipes what is kept and was seen
-pub record PipesSoFar (g : Given) (old new : Log) (i : ℕ) (pipes : List WatchedPipe) (before after : List PipeMoment) : Type 0 where
+pub record PipesSoFar (g : Input) (old new : Log) (i : ℕ) (pipes : List WatchedPipe) (before after : List PipeMoment) : Type 0 where
   pub pipes_are : pipes ≡ changed_to (watched_pipe g old) (watched_pipe g new) i (all_pipes g)
   pub before_are : before ≡ map (pipe_before g old new) (take i (all_pipes g))
   pub after_are : after ≡ map (pipe_after g old new) (take i (all_pipes g))
 
-pub no_pipes_yet : (g : Given) (old new : Log) (pipes : List WatchedPipe) (before after : List PipeMoment)
+pub no_pipes_yet : (g : Input) (old new : Log) (pipes : List WatchedPipe) (before after : List PipeMoment)
     → pipes ≡ map (watched_pipe g old) (all_pipes g) → before ≡ [] → after ≡ [] → PipesSoFar g old new 0 pipes before after
 no_pipes_yet g old new pipes before after e b a = record { pipes_are = e; before_are = b; after_are = a }
 
-few_pipes : (g : Given) (old : Log) (begun : List WatchedPipe) (i : ℕ) → begun ≡ map (watched_pipe g old) (all_pipes g) → i < length begun
+few_pipes : (g : Input) (old : Log) (begun : List WatchedPipe) (i : ℕ) → begun ≡ map (watched_pipe g old) (all_pipes g) → i < length begun
     → i < length (all_pipes g)
 few_pipes g old begun i e few = let n = ap length e ∙ length-map (all_pipes g) (watched_pipe g old) in omega (arith, few, n)
 
-pipe_at_hand : (g : Given) (old new : Log) (begun pipes : List WatchedPipe) (i : ℕ) (x : WatchedPipe) (before after : List PipeMoment)
+pipe_at_hand : (g : Input) (old new : Log) (begun pipes : List WatchedPipe) (i : ℕ) (x : WatchedPipe) (before after : List PipeMoment)
     → begun ≡ map (watched_pipe g old) (all_pipes g) → i < length begun → PipesSoFar g old new i pipes before after → x ≡ get_or pipes i x
     → PlaceAt (watched_pipe g old) (watched_pipe g new) (all_pipes g) pipes i (i + 1) x
 pipe_at_hand g old new begun pipes i x before after e few s is =
@@ -76,7 +76,7 @@ pipe_at_hand g old new begun pipes i x before after e few s is =
 abbrev pub AsTheyStood : ℕ → List WatchedPipe → List WatchedPipe → Type 0
 AsTheyStood i begun pipes = drop i pipes ≡ drop i begun
 
-pub at_module : (g : Given) (old : Log) (begun pipes : List WatchedPipe) (i : ℕ) (x : WatchedPipe) → begun ≡ map (watched_pipe g old) (all_pipes g)
+pub at_module : (g : Input) (old : Log) (begun pipes : List WatchedPipe) (i : ℕ) (x : WatchedPipe) → begun ≡ map (watched_pipe g old) (all_pipes g)
     → i < length begun → i < length pipes → AsTheyStood i begun pipes → x ≡ get_or pipes i x → IsSiteOf g (D x.dm)
 at_module g old begun pipes i x e few here same is =
     let stood : x ≡ get_or begun i x = is ∙ first_of_drop pipes begun i x here few same in
@@ -94,7 +94,7 @@ pub at_hand : (begun pipes : List WatchedPipe) (i : ℕ) (d : WatchedPipe) → i
 at_hand begun pipes i d few same = get_or_default pipes i d (get_or pipes i d) (omega (arith, few, same))
 
 -- one more is looked at
-pub pipes_more : (g : Given) (old new : Log) (begun pipes : List WatchedPipe) (i : ℕ) (x next : WatchedPipe) (before after before2 after2 : List PipeMoment)
+pub pipes_more : (g : Input) (old new : Log) (begun pipes : List WatchedPipe) (i : ℕ) (x next : WatchedPipe) (before after before2 after2 : List PipeMoment)
     → begun ≡ map (watched_pipe g old) (all_pipes g) → i < length begun → PipesSoFar g old new i pipes before after → x ≡ get_or pipes i x
     → ((d c : ℕ) → IsSiteOf g (D (dm_no d)) → c ≤ length g.catalogue.classes → x ≡ watched_pipe g old (d, c) → next ≡ watched_pipe g new (d, c))
     → ((d c : ℕ) → IsSiteOf g (D (dm_no d)) → c ≤ length g.catalogue.classes → x ≡ watched_pipe g old (d, c)
@@ -115,12 +115,12 @@ pipes_more g old new begun pipes i x next before after before2 after2 e few s is
     }
 
 -- all are looked at
-pub record PipesOver (g : Given) (old new : Log) (pipes : List WatchedPipe) (before after : List PipeMoment) : Type 0 where
+pub record PipesOver (g : Input) (old new : Log) (pipes : List WatchedPipe) (before after : List PipeMoment) : Type 0 where
   pub pipes_are : pipes ≡ map (watched_pipe g new) (all_pipes g)
   pub before_are : before ≡ map (pipe_before g old new) (all_pipes g)
   pub after_are : after ≡ map (pipe_after g old new) (all_pipes g)
 
-pub pipes_over : (g : Given) (old new : Log) (begun pipes : List WatchedPipe) (i : ℕ) (before after : List PipeMoment)
+pub pipes_over : (g : Input) (old new : Log) (begun pipes : List WatchedPipe) (i : ℕ) (before after : List PipeMoment)
     → begun ≡ map (watched_pipe g old) (all_pipes g) → length begun ≤ i → PipesSoFar g old new i pipes before after
     → PipesOver g old new pipes before after
 pipes_over g old new begun pipes i before after e past s =

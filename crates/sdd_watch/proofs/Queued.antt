@@ -1,7 +1,7 @@
 -- The queues of classes, by what their modules keep.
 use Rattle.std.proofs.Common.{ℕ, ◌+◌, ◌-◌, ◌≤◌, ◌≡◌, ◌∙◌, List, [], ◌∷◌, ◌++◌, flat_map, map, ap, subst, sym}
 use Rattle.std.proofs.lemmas.Simd.{map-map}
-use Rattle.sdd_obligations.specs.All.{Catalogue, Given, IsSiteOf, Kept, Log, Setting, T, TmNo, U, local_of, numbers_to, runs, setting_of}
+use Rattle.sdd_obligations.specs.All.{Catalogue, Input, IsSiteOf, Kept, Log, Setting, T, TmNo, U, local_of, numbers_to, runs, setting_of}
 use Rattle.sdd_obligations.specs.attempt.Lines.{Line}
 use Rattle.sdd_obligations.specs.site_module.SiteLog as site
 use Rattle.sdd_obligations.specs.tm.Stands as tm
@@ -14,7 +14,7 @@ use Rattle.sdd_inside.specs.declared.moment.QueueMoment.{QueueMoment}
 use Rattle.sdd_watch.specs.Looking.{queue_in, queue_of}
 use Rattle.sdd_watch.specs.Moments.{queue_moment, queues_at}
 
-pub queues_told : (g : Given) (log : Log) (t : TmNo) (k : Kept tm_state.State) → tm.Stands k (setting_of g (T t)) (local_of g (T t) log)
+pub queues_told : (g : Input) (log : Log) (t : TmNo) (k : Kept tm_state.State) → tm.Stands k (setting_of g (T t)) (local_of g (T t) log)
     → map queue_in k.value.classes ≡ queues_at g log t.0
 queues_told g log t k stands =
     let s : Setting = setting_of g (T t) in
@@ -22,28 +22,28 @@ queues_told g log t k stands =
     ap (λ (v : tm_state.State). map queue_in v.classes) (sym stands.state_is)
     ∙ map-map queue_in (tm_state.class_of s own) (runs s)
 
-queue_told : (g : Given) (log : Log) (k : Kept um_state.State) → um.Stands k (setting_of g U) (local_of g U log)
+queue_told : (g : Input) (log : Log) (k : Kept um_state.State) → um.Stands k (setting_of g U) (local_of g U log)
     → queue_of k.value.line.class k.value.line.queue ≡ queue_moment g log U 0
 queue_told g log k stands = ap (λ (v : um_state.State). queue_of v.line.class v.line.queue) (sym stands.state_is)
 
-pub first_queue : (g : Given) (log : Log) (k : Kept um_state.State) (line : Line) (first : QueueMoment) → first ≡ queue_of line.class line.queue
+pub first_queue : (g : Input) (log : Log) (k : Kept um_state.State) (line : Line) (first : QueueMoment) → first ≡ queue_of line.class line.queue
     → line ≡ k.value.line → um.Stands k (setting_of g U) (local_of g U log) → first ≡ queue_moment g log U 0
 first_queue g log k line first is lent stands = is ∙ ap (λ (l : Line). queue_of l.class l.queue) lent ∙ queue_told g log k stands
 
 -- the first one, and those of the transaction modules so far
 
-abbrev pub queues_to : Given → Log → ℕ → List QueueMoment
+abbrev pub queues_to : Input → Log → ℕ → List QueueMoment
 queues_to g log n = queue_moment g log U 0 ∷ flat_map (queues_at g log) (numbers_to n)
 
-pub queues_begin : (g : Given) (log : Log) (first : QueueMoment) (none queues : List QueueMoment) → first ≡ queue_moment g log U 0 → none ≡ []
+pub queues_begin : (g : Input) (log : Log) (first : QueueMoment) (none queues : List QueueMoment) → first ≡ queue_moment g log U 0 → none ≡ []
     → queues ≡ none ++ first ∷ [] → queues ≡ queues_to g log 0
 queues_begin g log first none queues is empty made = made ∙ ap (λ qs. qs ++ first ∷ []) empty ∙ ap (λ q. q ∷ []) is
 
-pub queues_more : (g : Given) (log : Log) (n : ℕ) (old more : List QueueMoment) → 1 ≤ n → more ≡ old ++ queues_at g log n
+pub queues_more : (g : Input) (log : Log) (n : ℕ) (old more : List QueueMoment) → 1 ≤ n → more ≡ old ++ queues_at g log n
     → old ≡ queues_to g log (n - 1) → more ≡ queues_to g log (n + 1 - 1)
 queues_more g log n old more some add e =
     each_more (queues_at g log) (numbers_to (n - 1)) (numbers_to (n + 1 - 1)) n (queue_moment g log U 0 ∷ []) old more (up_to n some) e add
 
 -- a transaction module of the whole catalogue is there
-pub module_there : (g : Given) (cat : Catalogue) (t : TmNo) → cat ≡ g.catalogue → 1 ≤ t.0 → t.0 ≤ cat.tms → IsSiteOf g (T t)
+pub module_there : (g : Input) (cat : Catalogue) (t : TmNo) → cat ≡ g.catalogue → 1 ≤ t.0 → t.0 ≤ cat.tms → IsSiteOf g (T t)
 module_there g cat t same low high = t_site g.catalogue t.0 low (subst (λ (k : Catalogue). t.0 ≤ k.tms) same high)

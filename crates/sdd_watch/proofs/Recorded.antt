@@ -1,7 +1,7 @@
 -- The records before an event are the first of those behind it.
 use Rattle.std.proofs.Common.{◌≡◌, ◌∙◌, [], ◌∷◌, ◌++◌, length, take, ap, append-nil, append_assoc, refl, sym}
 use Rattle.std.proofs.Math.Seq.{take-append_seam}
-use Rattle.sdd_obligations.specs.All.{Does, Given, Hand, History, Log, Mark, Notes, Redeclares, Round, Submitted, history}
+use Rattle.sdd_obligations.specs.All.{Does, Hand, History, Input, Log, Mark, Notes, Redeclares, Round, Submitted, history}
 use Rattle.sdd_watch.specs.Watching.{IsBetween}
 use Rattle.sdd_watch.proofs.Between.{joined_more}
 
@@ -21,7 +21,7 @@ ends (Submitted at n ∷ more) log = further more log _ (history (Submitted at n
 ends (Notes ∷ more) log = further more log _ (history (Notes ∷ more ++ log)) (ends more log) refl
 ends (Does at act ∷ more) log = further more log _ (history (Does at act ∷ more ++ log)) (ends more log) refl
 
-pub first_records : (g : Given) (old new : Log) → IsBetween g old new → take (length (history old)) (history new) ≡ history old
+pub first_records : (g : Input) (old new : Log) → IsBetween g old new → take (length (history old)) (history new) ≡ history old
 first_records g old new b =
     let e = ends (b.more ++ b.mark ∷ []) old in
     ap (take (length (history old))) (ap history (b.parts ∙ joined_more b.more b.mark old) ∙ e.1) ∙ take-append_seam (history old) e.0

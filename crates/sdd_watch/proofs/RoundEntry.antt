@@ -1,7 +1,7 @@
 -- Where a round begins nothing changes but what is left of it: what is told of the event before stays.
 use Rattle.std.proofs.Common.{ℕ, ◌≡◌, refl, Bool, List, ◌∷◌, map, filter, Option, Some, None}
 use Rattle.std.specs.Prelude.{◌||◌}
-use Rattle.sdd_obligations.specs.All.{Deliver, Down, Event, Given, Log, Lose, Msg, Packet, Redeclare, Repeat, Resend, Round, Settle, Site, Submit, Tick, Up, link_of, marks, packet_at, sites}
+use Rattle.sdd_obligations.specs.All.{Deliver, Down, Event, Input, Log, Lose, Msg, Packet, Redeclare, Repeat, Resend, Round, Settle, Site, Submit, Tick, Up, link_of, marks, packet_at, sites}
 use Rattle.sdd_inside.specs.Differences.{difference}
 use Rattle.sdd_inside.specs.declared.delta.Taken.{Taken}
 use Rattle.sdd_inside.specs.declared.delta.Taken.TheVariants.{Ack, Message}
@@ -30,7 +30,7 @@ found_same (Up d) old es log = refl
 found_same Settle old es log = refl
 found_same Redeclare old es log = refl
 
-pub change_round : (g : Given) (old : Log) (es : List Event) (log : Log) → change g old (Round es ∷ log) ≡ change g old log
+pub change_round : (g : Input) (old : Log) (es : List Event) (log : Log) → change g old (Round es ∷ log) ≡ change g old log
 change_round g old es log =
     let found = found_same (last_event log) old es log in
     λ i. difference

@@ -1,7 +1,7 @@
 -- The rounds of a settle or a redeclare, told event by event, over plain worlds.
 use Rattle.std.proofs.Common.{ℕ, suc, ◌-◌, ◌+◌, ◌^◌, ◌<◌, ◌≤◌, ◌≡◌, ◌≢◌, ◌∙◌, refl, ap, sym, subst, arith, true, false, List, [], ◌∷◌, ◌++◌, length, Option, Some, None}
 use Rattle.std.specs.Prelude.{MatchOption}
-use Rattle.sdd_obligations.specs.All.{AtEach, Deliver, Down, Event, Given, IsLawful, IsPossible, Log, Lose, MAX_RUN_EVENTS, Mark, Redeclare, Redeclares, Repeat, Resend, Round, Settle, Submit, TakesRounds, Tick, Up, after_mark, all_links, calls_of, greatest_bound, left, marks, next, quiet, with_event}
+use Rattle.sdd_obligations.specs.All.{AtEach, Deliver, Down, Event, Input, IsLawful, IsPossible, Log, Lose, MAX_RUN_EVENTS, Mark, Redeclare, Redeclares, Repeat, Resend, Round, Settle, Submit, TakesRounds, Tick, Up, after_mark, all_links, calls_of, greatest_bound, left, marks, next, quiet, with_event}
 use Rattle.sdd_obligations.proofs.logs.Completing.{redeclare_next, settled}
 use Rattle.sdd_run.specs.world.Standing.{Rounding, Settling, StandsFor, events_of}
 use Rattle.sdd_run.specs.world.declared.world.World.{World}
@@ -27,7 +27,7 @@ pub none_of : {A : Type 0} (o : Option A) (P : Type 0) (Q : A → Type 0) → Ma
 none_of o P Q h is = subst (λ k. MatchOption k P Q) is h
 
 -- a settle or a redeclare is given
-pub begins : (w w2 : World) (g : Given) (log : Log) (e : Event) (t : Teller) (place : ℕ) → IsTold w g log t place
+pub begins : (w w2 : World) (g : Input) (log : Log) (e : Event) (t : Teller) (place : ℕ) → IsTold w g log t place
     → Settling w2 (with_event g e) log e → TellsBetween w2 (with_event g e) log e t place 0
 begins w w2 g log e t place h s =
     let lawful = h.stands.calm.rests.lawful in
@@ -44,7 +44,7 @@ begins w w2 g log e t place h s =
     }
 
 -- a round begins
-pub round_begins : (w : World) (g : Given) (log : Log) (e : Event) (events : List Event) (t : Teller) (place number : ℕ)
+pub round_begins : (w : World) (g : Input) (log : Log) (e : Event) (events : List Event) (t : Teller) (place number : ℕ)
     → TellsBetween w g log e t place number → quiet (all_links g) (calls_of log) ≡ false → Rounding w g (Round events ∷ log) e events
     → TellsRound w g (Round events ∷ log) e events t place number
 round_begins w g log e events t place number h loud r = record {
@@ -57,12 +57,12 @@ round_begins w g log e events t place number h loud r = record {
 }
 
 -- it has an event
-pub some_event : (w : World) (g : Given) (log : Log) (e : Event) (events : List Event) → Rounding w g (Round events ∷ log) e events → events ≢ []
+pub some_event : (w : World) (g : Input) (log : Log) (e : Event) (events : List Event) → Rounding w g (Round events ∷ log) e events → events ≢ []
 some_event w g log e events r = (begins_round g log events r.calm.rests.lawful.0).some
 
 -- an event of it is carried out
 
-tellable_now : (g : Given) (e : Event) → IsPossible g e → IsTellable g e
+tellable_now : (g : Input) (e : Event) → IsPossible g e → IsTellable g e
 tellable_now g (Submit n) p = p
 tellable_now g (Deliver a b k) p = p
 tellable_now g (Lose a b k) p = p
@@ -74,7 +74,7 @@ tellable_now g (Up d) p = p
 tellable_now g Settle p = absurd p
 tellable_now g Redeclare p = tt
 
-module _ (w w2 : World) (g : Given) (log more : Log) (e ev : Event) (rest : List Event) (t : Teller) (place number : ℕ)
+module _ (w w2 : World) (g : Input) (log more : Log) (e ev : Event) (rest : List Event) (t : Teller) (place number : ℕ)
     (h : TellsRound w g log e (ev ∷ rest) t place number) (r : Rounding w2 g more e rest) (one : w2.marks ≡ suc w.marks) where
   pub marks_one : marks more ≡ suc (marks log)
   marks_one = sym r.calm.marks_are ∙ one ∙ ap (λ n. suc n) h.rounding.calm.marks_are
@@ -163,12 +163,12 @@ module _ (w w2 : World) (g : Given) (log more : Log) (e ev : Event) (rest : List
   }
 
 -- the events that are left, as another list
-pub with_left : (w : World) (g : Given) (log : Log) (e : Event) (events left : List Event) (t : Teller) (place number : ℕ) → events ≡ left
+pub with_left : (w : World) (g : Input) (log : Log) (e : Event) (events left : List Event) (t : Teller) (place number : ℕ) → events ≡ left
     → TellsRound w g log e events t place number → TellsRound w g log e left t place number
 with_left w g log e events left t place number is h = subst (λ es. TellsRound w g log e es t place number) is h
 
 -- a round is over
-pub round_over : (w : World) (g : Given) (log more : Log) (e : Event) (events : List Event) (t : Teller) (place number next : ℕ)
+pub round_over : (w : World) (g : Input) (log more : Log) (e : Event) (events : List Event) (t : Teller) (place number next : ℕ)
     → TellsRound w g more e [] t place number → events ≢ [] → number ≤ marks log → marks more ≡ marks log + length events → next ≡ number + 1
     → TellsBetween w g more e t place next
 round_over w g log more e [] t place number next h some low grown is = absurd (some refl)
@@ -185,7 +185,7 @@ round_over w g log more e (x ∷ events) t place number next h some low grown is
 }
 
 -- with a round fewer events are left till the limit, and the number of the next one fits
-module _ (w w2 : World) (g : Given) (log more : Log) (e : Event) (t t2 : Teller) (place number : ℕ) (events : List Event)
+module _ (w w2 : World) (g : Input) (log more : Log) (e : Event) (t t2 : Teller) (place number : ℕ) (events : List Event)
     (before : TellsBetween w g log e t place number) (h : TellsRound w2 g more e [] t2 place number) (some : events ≢ [])
     (grown : marks more ≡ marks log + length events) where
   one_more : marks log < marks more
@@ -212,7 +212,7 @@ module _ (w w2 : World) (g : Given) (log more : Log) (e : Event) (t t2 : Teller)
       omega (arith, most, now, low, rose)
 
 -- the rounds are over
-pub settles : (w : World) (g : Given) (log : Log) (e : Event) (t : Teller) (place number : ℕ) → TellsBetween w g log e t place number
+pub settles : (w : World) (g : Input) (log : Log) (e : Event) (t : Teller) (place number : ℕ) → TellsBetween w g log e t place number
     → quiet (all_links g) (calls_of log) ≡ true → TellsSettled w g e t place
 settles w g log e t place number h still = record {
   settled = record { more = log; settling = h.settling; is_quiet = still };
@@ -221,7 +221,7 @@ settles w g log e t place number h still = record {
 }
 
 -- a settle has no mark of its own
-pub settle_told : (w : World) (g : Given) (t : Teller) (place : ℕ) → TellsSettled w g Settle t place → (more : Log) × IsTold w g more t (suc place)
+pub settle_told : (w : World) (g : Input) (t : Teller) (place : ℕ) → TellsSettled w g Settle t place → (more : Log) × IsTold w g more t (suc place)
 settle_told w g t place h =
     let s = h.settled.settling in
     let log = h.settled.more in (
@@ -234,7 +234,7 @@ settle_told w g t place h =
     )
 
 -- a redeclare has one, behind its rounds
-module _ (w w2 : World) (g : Given) (t : Teller) (place : ℕ) (h : TellsSettled w g Redeclare t place) (more : Log) (s2 : StandsFor w2 g more) where
+module _ (w w2 : World) (g : Input) (t : Teller) (place : ℕ) (h : TellsSettled w g Redeclare t place) (more : Log) (s2 : StandsFor w2 g more) where
   abbrev last_log : Log
   last_log = h.settled.more
 

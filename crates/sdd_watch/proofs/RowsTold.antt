@@ -4,7 +4,7 @@ use Rattle.std.specs.List.{list_any}
 use Rattle.std.proofs.lemmas.List.{get_or_past, map-append}
 use Rattle.std.proofs.lemmas.List.Concat.{flat_map-append}
 use Rattle.std.proofs.lemmas.List.Elements.{filter-append}
-use Rattle.sdd_obligations.specs.All.{Apply, Catalogue, Change, D, DmNo, FragNo, Fragment, Given, History, IsSiteOf, IsSound, Kept, Log, Rec, StandFor, TxnNo, has_copy, is_here, rel_no}
+use Rattle.sdd_obligations.specs.All.{Apply, Catalogue, Change, D, DmNo, FragNo, Fragment, History, Input, IsSiteOf, IsSound, Kept, Log, Rec, StandFor, TxnNo, has_copy, is_here, rel_no}
 use Rattle.sdd_obligations.specs.base.declared.value.Value.{Value}
 use Rattle.sdd_obligations.specs.copy.Contents.{Dated, latest, of_fragment}
 use Rattle.sdd_obligations.specs.copy.Copies.{Held, items_at}
@@ -33,7 +33,7 @@ copy_within cat d f number b is e =
     e ∙ ap (λ k. list_any (λ (x : DmNo). x.0 == d) (slice_index_or cat.fragments k nothing).copies) same
 
 -- a module with a copy is there
-pub copy_site : (g : Given) (d : DmNo) (f : ℕ) → IsSound g.catalogue → has_copy g.catalogue d.0 f ≡ true → IsSiteOf g (D d)
+pub copy_site : (g : Input) (d : DmNo) (f : ℕ) → IsSound g.catalogue → has_copy g.catalogue d.0 f ≡ true → IsSiteOf g (D d)
 copy_site g d f sound e = d_site g.catalogue d.0 (copy_module g.catalogue sound d.0 f e)
 
 -- the row that a copy has
@@ -55,18 +55,18 @@ row_is copies copy frag key row here is read xs stand change f k =
 
 -- a row more
 
-pub row_stays : (g : Given) (log : Log) (rows : List RowDelta) (x : DmNo × Change) (b : Bool) → b ≡ list_any (is_of_item x) rows → b ≡ true
+pub row_stays : (g : Input) (log : Log) (rows : List RowDelta) (x : DmNo × Change) (b : Bool) → b ≡ list_any (is_of_item x) rows → b ≡ true
     → rows ≡ with_row g log rows x
 row_stays g log rows x b is e = sym (ap (λ c. if c then rows else rows ++ row_told g log x ∷ []) (sym is ∙ e))
 
-pub row_added : (g : Given) (log : Log) (rows more : List RowDelta) (x : DmNo × Change) (b : Bool) (row : RowDelta) → b ≡ list_any (is_of_item x) rows
+pub row_added : (g : Input) (log : Log) (rows more : List RowDelta) (x : DmNo × Change) (b : Bool) (row : RowDelta) → b ≡ list_any (is_of_item x) rows
     → b ≡ false → row ≡ row_told g log x → more ≡ rows ++ row ∷ [] → more ≡ with_row g log rows x
 row_added g log rows more x b row is e told push =
     push ∙ ap (λ r. rows ++ r ∷ []) told ∙ sym (ap (λ c. if c then rows else rows ++ row_told g log x ∷ []) (sym is ∙ e))
 
 -- what changes give, and records
 
-pub changes_join : (g : Given) (dm : DmNo) → Joins (changes_applied g dm)
+pub changes_join : (g : Input) (dm : DmNo) → Joins (changes_applied g dm)
 changes_join g dm = record {
   none = refl;
   both = λ xs ys.
@@ -74,37 +74,37 @@ changes_join g dm = record {
       ∙ map-append (λ x. (dm, x)) (changes_at g.catalogue dm.0 xs) (changes_at g.catalogue dm.0 ys);
 }
 
-pub records_join : (g : Given) (records : History) → Joins (flat_map (applied_by g records))
+pub records_join : (g : Input) (records : History) → Joins (flat_map (applied_by g records))
 records_join g records = record { none = refl; both = flat_map-append (applied_by g records) }
 
-given_one : (g : Given) (dm : DmNo) (change : Change) (b : Bool) → has_copy g.catalogue dm.0 change.frag.0 ≡ b
+given_one : (g : Input) (dm : DmNo) (change : Change) (b : Bool) → has_copy g.catalogue dm.0 change.frag.0 ≡ b
     → changes_applied g dm (change ∷ []) ≡ (if b then (dm, change) ∷ [] else [])
 given_one g dm change true e = ap (λ c. map (λ x. (dm, x)) (if c then change ∷ [] else [])) e
 given_one g dm change false e = ap (λ c. map (λ x. (dm, x)) (if c then change ∷ [] else [])) e
 
-pub one_elsewhere : (g : Given) (log : Log) (dm : DmNo) (change : Change) (rows : List RowDelta) → has_copy g.catalogue dm.0 change.frag.0 ≡ false
+pub one_elsewhere : (g : Input) (log : Log) (dm : DmNo) (change : Change) (rows : List RowDelta) → has_copy g.catalogue dm.0 change.frag.0 ≡ false
     → rows ≡ fold (with_row g log) rows (changes_applied g dm (change ∷ []))
 one_elsewhere g log dm change rows e = sym (ap (fold (with_row g log) rows) (given_one g dm change false e))
 
-pub one_here : (g : Given) (log : Log) (dm : DmNo) (change : Change) (rows more : List RowDelta) → has_copy g.catalogue dm.0 change.frag.0 ≡ true
+pub one_here : (g : Input) (log : Log) (dm : DmNo) (change : Change) (rows more : List RowDelta) → has_copy g.catalogue dm.0 change.frag.0 ≡ true
     → more ≡ with_row g log rows (dm, change) → more ≡ fold (with_row g log) rows (changes_applied g dm (change ∷ []))
 one_here g log dm change rows more e add = add ∙ sym (ap (fold (with_row g log) rows) (given_one g dm change true e))
 
 -- by what a record applies
 
-abbrev given_by : Given → History → Option (TxnNo × DmNo) → List (DmNo × Change)
+abbrev given_by : Input → History → Option (TxnNo × DmNo) → List (DmNo × Change)
 given_by g records None = []
 given_by g records (Some x) = changes_applied g x.1 (changes_of x.0.0 records)
 
-applied_is : (g : Given) (records : History) (r : ℕ × Rec) → applied_by g records r ≡ given_by g records (applied_in r)
+applied_is : (g : Input) (records : History) (r : ℕ × Rec) → applied_by g records r ≡ given_by g records (applied_in r)
 applied_is g records (event, Apply txn class dm ts) = refl
 applied_is g records _ = refl
 
-pub none_applied : (g : Given) (log : Log) (records : History) (r : ℕ × Rec) (rows : List RowDelta) → None ≡ applied_in r
+pub none_applied : (g : Input) (log : Log) (records : History) (r : ℕ × Rec) (rows : List RowDelta) → None ≡ applied_in r
     → rows ≡ fold (with_row g log) rows (applied_by g records r)
 none_applied g log records r rows e = sym (ap (fold (with_row g log) rows) (applied_is g records r ∙ ap (given_by g records) (sym e)))
 
-pub some_applied : (g : Given) (log : Log) (records known : History) (r : ℕ × Rec) (txn : TxnNo) (dm : DmNo) (changes : List Change) (rows more : List RowDelta)
+pub some_applied : (g : Input) (log : Log) (records known : History) (r : ℕ × Rec) (txn : TxnNo) (dm : DmNo) (changes : List Change) (rows more : List RowDelta)
     → Some (txn, dm) ≡ applied_in r → known ≡ records → changes ≡ changes_of txn.0 known
     → more ≡ fold (with_row g log) rows (changes_applied g dm changes) → more ≡ fold (with_row g log) rows (applied_by g records r)
 some_applied g log records known r txn dm changes rows more e same is add =

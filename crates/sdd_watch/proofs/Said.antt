@@ -2,7 +2,7 @@
 use Rattle.std.proofs.Common.{ℕ, zero, suc, ◌≡◌, ◌∙◌, ◌==◌, ◌&&◌, ◌||◌, Bool, true, false, List, [], ◌∷◌, filter_map, slice_get, Some, ap, eq-eqb, refl, subst, sym}
 use Rattle.std.specs.List.{cons_option, list_any}
 use Rattle.std.proofs.lemmas.List.Folds.{list_any-append}
-use Rattle.sdd_obligations.specs.All.{Ack, D, Done, Given, IsGood, Log, Message, Msg, Packet, Site, T, U, all_links, dm_no}
+use Rattle.sdd_obligations.specs.All.{Ack, D, Done, Input, IsGood, Log, Message, Msg, Packet, Site, T, U, all_links, dm_no}
 use Rattle.sdd_obligations.proofs.invariants.Bools.{not_both}
 use Rattle.sdd_obligations.proofs.OfNext.{IsThere}
 use Rattle.sdd_watch.specs.Awaiting.{purposed}
@@ -103,7 +103,7 @@ some_says old new t d (l ∷ ls) (suc k) i s e =
       | false ↦ ap (λ c. says t d (on old new l) || c) more ∙ or_true (says t d (on old new l))
     ]
 
-pub said_over : (g : Given) (old new : Log) (t d : ℕ) → IsGood g → IsBetween g old new → IsThere (all_links g) (D (dm_no d), U)
+pub said_over : (g : Input) (old new : Log) (t d : ℕ) → IsGood g → IsBetween g old new → IsThere (all_links g) (D (dm_no d), U)
     → list_any (says t d) (arrived g old new) ≡ list_any (is_done_at t) (handed_over old new (D (dm_no d), U))
 said_over g old new t d good i there =
     let l : Site × Site = (D (dm_no d), U) in
@@ -124,7 +124,7 @@ or_turn false true = refl
 or_turn false false = refl
 
 -- so those that were handed over in all are those before the event, and these
-pub said_in_all : (g : Given) (old new : Log) (t d : ℕ) → IsGood g → IsBetween g old new → IsThere (all_links g) (D (dm_no d), U)
+pub said_in_all : (g : Input) (old new : Log) (t d : ℕ) → IsGood g → IsBetween g old new → IsThere (all_links g) (D (dm_no d), U)
     → (list_any (says t d) (arrived g old new) || list_any (is_done_at t) (handed_on (D (dm_no d)) U old))
     ≡ list_any (is_done_at t) (handed_on (D (dm_no d)) U new)
 said_in_all g old new t d good i there =

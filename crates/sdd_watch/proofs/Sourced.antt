@@ -1,7 +1,7 @@
 -- The site that runs a class is one of the network, with a link to each data module.
 use Rattle.std.proofs.Common.{ℕ, zero, suc, ◌-◌, ◌≤◌, ◌<◌, ◌≡◌, ◌∙◌, true, List, [], ◌∷◌, All, length, map, slice_index_or, ap, arith, refl}
 use Rattle.std.proofs.lemmas.List.Elements.{All-head, All-tail}
-use Rattle.sdd_obligations.specs.All.{Catalogue, Class, D, Given, IsGood, IsServedClass, IsSiteOf, IsWhole, Site, T, TmNo, U, all_links, are_linked, class_at, dm_no, is_link, is_site, tm_no}
+use Rattle.sdd_obligations.specs.All.{Catalogue, Class, D, Input, IsGood, IsServedClass, IsSiteOf, IsWhole, Site, T, TmNo, U, all_links, are_linked, class_at, dm_no, is_link, is_site, tm_no}
 use Rattle.sdd_obligations.proofs.OfNext.{IsThere}
 use Rattle.sdd_obligations.proofs.Submitting.{le_true}
 use Rattle.sdd_obligations.proofs.catalog.Sound.{sound_whole}
@@ -18,7 +18,7 @@ at_class [] n few = absurd (omega (arith, few))
 at_class (k ∷ ks) zero few = refl
 at_class (k ∷ ks) (suc n) few = at_class ks n (omega (arith, few))
 
-pub source_of_class : (g : Given) (d c : ℕ) → 1 ≤ c → c ≤ length g.catalogue.classes → T (class_at g.catalogue c).tm ≡ source g d c
+pub source_of_class : (g : Input) (d c : ℕ) → 1 ≤ c → c ≤ length g.catalogue.classes → T (class_at g.catalogue c).tm ≡ source g d c
 source_of_class g d zero some few = absurd (omega (arith, some))
 source_of_class g d (suc n) some few =
     let z : suc n - 1 ≡ n = omega arith in
@@ -40,11 +40,11 @@ class_linked cat d (k ∷ ks) zero h here =
     linked cat.tms cat.dms (T k.tm) (D (dm_no d)) (t_here cat.tms cat.dms k.tm s.module_from s.module_to) here refl
 class_linked cat d (k ∷ ks) (suc n) h here = class_linked cat d ks n (All-tail (IsServedClass cat) k ks h) here
 
-source_linked : (g : Given) (d c : ℕ) → IsWhole g.catalogue → IsSiteOf g (D (dm_no d))
+source_linked : (g : Input) (d c : ℕ) → IsWhole g.catalogue → IsSiteOf g (D (dm_no d))
     → is_link g.catalogue.tms g.catalogue.dms (source g d c) (D (dm_no d)) ≡ true
 source_linked g d zero w here = linked g.catalogue.tms g.catalogue.dms U (D (dm_no d)) refl here refl
 source_linked g d (suc c) w here = class_linked g.catalogue d g.catalogue.classes c w.classes here
 
-pub source_there : (g : Given) (d c : ℕ) → IsGood g → IsSiteOf g (D (dm_no d)) → IsThere (all_links g) (source g d c, D (dm_no d))
+pub source_there : (g : Input) (d c : ℕ) → IsGood g → IsSiteOf g (D (dm_no d)) → IsThere (all_links g) (source g d c, D (dm_no d))
 source_there g d c good here =
     link_there g.catalogue.tms g.catalogue.dms (source g d c) (D (dm_no d)) (source_linked g d c (sound_whole g.catalogue good.given.sound) here)

@@ -1,7 +1,7 @@
 -- Which sites take part in an event.
 use Rattle.std.proofs.Common.{ℕ, ◌≡◌, ◌∙◌, ◌==◌, ◌&&◌, ◌||◌, Bool, true, false, List, [], ◌∷◌, ◌++◌, filter, filter_map, not, if◌then◌else◌, ap, append-nil, refl, sym}
 use Rattle.std.specs.List.{cons_option, list_any}
-use Rattle.sdd_obligations.specs.All.{DmNo, Down, Event, Given, Log, Redeclare, Site, Submit, Tick, TmNo, TxnNo, Up, all_links, handed, same_site}
+use Rattle.sdd_obligations.specs.All.{DmNo, Down, Event, Input, Log, Redeclare, Site, Submit, Tick, TmNo, TxnNo, Up, all_links, handed, same_site}
 use Rattle.sdd_inside.specs.declared.delta.Found.{Found}
 use Rattle.sdd_watch.specs.Happens.{concerns, found_by, is_reached, last_event, takes_part}
 use Rattle.sdd_watch.specs.Watching.{arrived, arrived_on}
@@ -24,16 +24,16 @@ arrived_at old new at (l ∷ ls) =
       | false ↦ ap (λ r. same_site l.1 at || r) i
     ]
 
-reached_is : (g : Given) (old new : Log) (at : Site) (known : List Arrived) (b : Bool) → b ≡ list_any (λ (one : Arrived). same_site one.to at) known
+reached_is : (g : Input) (old new : Log) (at : Site) (known : List Arrived) (b : Bool) → b ≡ list_any (λ (one : Arrived). same_site one.to at) known
     → known ≡ arrived g old new → b ≡ is_reached g old new at
 reached_is g old new at known b is same = is ∙ ap (list_any (is_to at)) same ∙ arrived_at old new at (all_links g)
 
-pub takes_reached : (g : Given) (old new : Log) (at : Site) (known : List Arrived) (b : Bool)
+pub takes_reached : (g : Input) (old new : Log) (at : Site) (known : List Arrived) (b : Bool)
     → b ≡ list_any (λ (one : Arrived). same_site one.to at) known → known ≡ arrived g old new → b ≡ true → true ≡ takes_part g old new at
 takes_reached g old new at known b is same e =
     ap (λ c. c || concerns g new (last_event new) (found_by (last_event new) old new) at) (sym e ∙ reached_is g old new at known b is same)
 
-pub takes_otherwise : (g : Given) (old new : Log) (at : Site) (known : List Arrived) (b own : Bool) (e : Event) (found : Found)
+pub takes_otherwise : (g : Input) (old new : Log) (at : Site) (known : List Arrived) (b own : Bool) (e : Event) (found : Found)
     → b ≡ list_any (λ (one : Arrived). same_site one.to at) known → known ≡ arrived g old new → b ≡ false → e ≡ last_event new
     → found ≡ found_by e old new → own ≡ concerns g new e found at → own ≡ takes_part g old new at
 takes_otherwise g old new at known b own e found is same not_reached event found_is concerned =
@@ -41,7 +41,7 @@ takes_otherwise g old new at known b own e found is same not_reached event found
     ∙ ap (λ c. c || concerns g new (last_event new) (found_by (last_event new) old new) at) (sym not_reached ∙ reached_is g old new at known b is same)
 
 -- no other event is of a site by itself
-pub of_none : (g : Given) (log : Log) (e : Event) (found : Found) (at : Site) → ((n : TxnNo) → e ≡ Submit n → ⊥)
+pub of_none : (g : Input) (log : Log) (e : Event) (found : Found) (at : Site) → ((n : TxnNo) → e ≡ Submit n → ⊥)
     → ((t : TmNo) (n : ℕ) → e ≡ Tick t n → ⊥) → ((d : DmNo) → e ≡ Down d → ⊥) → ((d : DmNo) → e ≡ Up d → ⊥) → (e ≡ Redeclare → ⊥)
     → false ≡ concerns g log e found at
 of_none g log (Submit n) found at a b c d r = absurd (a n refl)

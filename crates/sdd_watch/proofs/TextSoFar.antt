@@ -3,7 +3,7 @@ use Rattle.std.proofs.Common.{ℕ, zero, suc, ◌-◌, ◌+◌, ◌<◌, ◌≤�
 use Rattle.std.specs.List.{flat_map, range_with_len}
 use Rattle.std.proofs.lemmas.Bool.{cases_lt}
 use Rattle.std.proofs.lemmas.List.{append-nil, flat_map_more}
-use Rattle.sdd_obligations.specs.All.{Event, Given, IsLawful, Log, Round, marks, next, numbers_to, with_event}
+use Rattle.sdd_obligations.specs.All.{Event, Input, IsLawful, Log, Round, marks, next, numbers_to, with_event}
 use Rattle.sdd_obligations.proofs.graph.Lists.{range_more}
 use Rattle.sdd_inside.specs.Lines.{beginning, line}
 use Rattle.sdd_run.specs.world.Copies.{tables_of}
@@ -29,21 +29,21 @@ one_number f n =
     let last : 1 + n ≡ suc n = omega arith in
     ap (flat_map f) (range_more 1 n ∙ ap (λ k. numbers_to n ++ k ∷ []) last) ∙ sym (flat_map_more f [] (numbers_to n) (suc n))
 
-abbrev first_line : Given → List ℕ
+abbrev first_line : Input → List ℕ
 first_line g = beginning g.catalogue g.txns (tables_of g [])
 
 -- of the empty log
-pub text_begins : (g : Given) → first_line g ≡ inside_text g []
+pub text_begins : (g : Input) → first_line g ≡ inside_text g []
 text_begins g = sym (append-nil (first_line g))
 
 -- an event more is given
-pub text_given : (g : Given) (f : Event) (log : Log) → IsLawful g log → inside_text (with_event g f) log ≡ inside_text g log
+pub text_given : (g : Input) (f : Event) (log : Log) → IsLawful g log → inside_text (with_event g f) log ≡ inside_text g log
 text_given g f log l =
     ap (λ xs. first_line g ++ xs)
     (same_to (line_of (with_event g f) log) (line_of g log) (marks log) (λ k some few. line_more g f log k l some few))
 
 -- a round begins
-pub text_round : (g : Given) (es : List Event) (log : Log) → inside_text g (Round es ∷ log) ≡ inside_text g log
+pub text_round : (g : Input) (es : List Event) (log : Log) → inside_text g (Round es ∷ log) ≡ inside_text g log
 text_round g es log = ap (λ xs. first_line g ++ xs) (same_to (line_of g (Round es ∷ log)) (line_of g log) (marks log) same_line)
   where
     same_line : (k : ℕ) → 1 ≤ k → k ≤ marks log → line_of g (Round es ∷ log) k ≡ line_of g log k
@@ -62,7 +62,7 @@ text_round g es log = ap (λ xs. first_line g ++ xs) (same_to (line_of g (Round 
         ]
 
 -- an event is over
-module _ (g : Given) (old new : Log) (e : Event) (b : IsMarkedBetween g old new e) where
+module _ (g : Input) (old new : Log) (e : Event) (b : IsMarkedBetween g old new e) where
   earlier_line : (k : ℕ) → 1 ≤ k → k ≤ marks old → line_of g new k ≡ line_of g old k
   earlier_line k some few =
       let before = at_old g old new e (k - 1) b (omega (arith, few)) in

@@ -4,7 +4,7 @@ use Rattle.std.specs.BTreeSet.{contains}
 use Rattle.std.specs.List.{list_any, range_with_len}
 use Rattle.std.proofs.lemmas.Bool.{cases_Bool, eqb-false}
 use Rattle.std.proofs.lemmas.List.Folds.{list_any-append}
-use Rattle.sdd_obligations.specs.All.{D, Done, Given, Handed, IsLinkOf, IsPermitted, Kept, Log, Message, Msg, Site, U, dm_no, handed, hands_from, local_of, numbers_to, sent, setting_of}
+use Rattle.sdd_obligations.specs.All.{D, Done, Handed, Input, IsLinkOf, IsPermitted, Kept, Log, Message, Msg, Site, U, dm_no, handed, hands_from, local_of, numbers_to, sent, setting_of}
 use Rattle.sdd_obligations.specs.net.Links.{numbered}
 use Rattle.sdd_obligations.specs.serial_orders.Finding.{pair_cmp}
 use Rattle.sdd_obligations.specs.site_module.SiteLog as site
@@ -78,7 +78,7 @@ said_by_log t d (Handed (D n) m ∷ log) =
 said_by_log t d (Handed from m ∷ log) = said_by_log t d log
 said_by_log t d (_ ∷ log) = said_by_log t d log
 
-handed_says : (g : Given) (log : Log) (t d : ℕ) → IsPermitted g log
+handed_says : (g : Input) (log : Log) (t d : ℕ) → IsPermitted g log
     → list_any (is_done_at t) (handed_on (D (dm_no d)) U log) ≡ list_any (says_applied t d) (local_of g U log)
 handed_says g log t d permitted =
     let a : Site = D (dm_no d) in
@@ -97,11 +97,11 @@ alike p q k (suc n) same =
     ap (λ b. cond b (k ∷ filter p (range_with_len (k + 1) n)) (filter p (range_with_len (k + 1) n))) (same k (omega arith) (omega arith))
     ∙ ap (λ (ds : List ℕ). cond (q k) (k ∷ ds) ds) (alike p q (k + 1) n (λ d low high. same d (omega arith) (omega arith)))
 
-done_link : (g : Given) (d : ℕ) → 1 ≤ d → d ≤ g.catalogue.dms → IsLinkOf g (D (dm_no d)) U
+done_link : (g : Input) (d : ℕ) → 1 ≤ d → d ≤ g.catalogue.dms → IsLinkOf g (D (dm_no d)) U
 done_link g d low high = ap (λ b. b && true) (d_site g.catalogue d (low, high))
 
 -- so what is kept tells which data modules haven't said that they applied what was committed last
-pub unapplied_is : (g : Given) (w : World) (log : Log) (dones : Dones) (k : Kept State) (ts dms : ℕ) → Calm w g log
+pub unapplied_is : (g : Input) (w : World) (log : Log) (dones : Dones) (k : Kept State) (ts dms : ℕ) → Calm w g log
     → Stands k (setting_of g U) (local_of g U log) → AreDones g log dones → ts ≡ k.value.served.ts → dms ≡ g.catalogue.dms
     → map dm_no (filter (λ d. not (contains pair_cmp dones.said (ts, d))) (numbers_to dms)) ≡ unapplied_of g log
 unapplied_is g w log dones k ts dms calm stands known last count =

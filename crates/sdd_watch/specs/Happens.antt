@@ -2,7 +2,7 @@
 use Rattle.std.specs.Prelude.{ℕ, suc, ◌-◌, ◌==◌, Bool, true, false, not, ◌&&◌, ◌||◌, if◌then◌else◌, List, [], ◌∷◌, ◌++◌, drop, filter, find, fold, is_some, length, map, Option, Some, None}
 use Rattle.std.specs.Ordering.{int_cmp, is_eq}
 use Rattle.std.specs.List.{flat_map, list_any}
-use Rattle.sdd_obligations.specs.All.{Ack, Apply, Change, Commit, D, Deliver, DmNo, Down, Event, Given, History, Log, Lose, Mark, Message, Msg, Packet, Rec, Redeclare, Redeclares, Repeat, Resend, Round, Row, Settle, Site, Submit, T, Tick, Up, all_links, dated, delivered, force_at, handed, history, is_down, is_empty, left, link_of, local_of, marks, packet_at, redeclares, same_site, setting_of, sites, txn_at, TxnNo}
+use Rattle.sdd_obligations.specs.All.{Ack, Apply, Change, Commit, D, Deliver, DmNo, Down, Event, Input, History, Log, Lose, Mark, Message, Msg, Packet, Rec, Redeclare, Redeclares, Repeat, Resend, Round, Row, Settle, Site, Submit, T, Tick, Up, all_links, dated, delivered, force_at, handed, history, is_down, is_empty, left, link_of, local_of, marks, packet_at, redeclares, same_site, setting_of, sites, txn_at, TxnNo}
 use Rattle.sdd_obligations.specs.copy.Contents.{Dated, latest, of_fragment}
 use Rattle.sdd_obligations.specs.invariants.Steps.{changes_at}
 use Rattle.sdd_obligations.specs.logs.Due.{home_of as class_site}
@@ -36,7 +36,7 @@ abbrev pub place_in : ℕ → List Event × List Event → ℕ
 place_in total (events, []) = place_of_first total (from_event events)
 place_in total (events, e ∷ round) = place_of_first total events
 
-abbrev pub scheduled_at : Given → Log → ℕ
+abbrev pub scheduled_at : Input → Log → ℕ
 scheduled_at g log = place_in (length g.events) (left g.events log)
 
 -- how many rounds were begun since the last event of the schedule, where an event of a round is marked or left
@@ -56,7 +56,7 @@ abbrev pub round_in : ℕ → List Event → Option ℕ
 round_in n [] = None
 round_in n (e ∷ round) = Some n
 
-abbrev pub round_at : Given → Log → Option ℕ
+abbrev pub round_at : Input → Log → Option ℕ
 round_at g log = round_in (rounds g.events log) (left g.events log).1
 
 -- what it found
@@ -112,16 +112,16 @@ applied_in (event, Apply txn class dm ts) = Some (txn, dm)
 applied_in _ = None
 
 -- of changes those of the fragments of which a data module has a copy
-abbrev pub changes_applied : Given → DmNo → List Change → List (DmNo × Change)
+abbrev pub changes_applied : Input → DmNo → List Change → List (DmNo × Change)
 changes_applied g dm changes = map (λ x. (dm, x)) (changes_at g.catalogue dm.0 changes)
 
 -- by an Apply what its transaction changes there
-abbrev pub applied_by : Given → History → ℕ × Rec → List (DmNo × Change)
+abbrev pub applied_by : Input → History → ℕ × Rec → List (DmNo × Change)
 applied_by g records (event, Apply txn class dm ts) = changes_applied g dm (changes_of txn.0 records)
 applied_by g records _ = []
 
 -- by the Applies that the event made, in their order
-abbrev pub applied : Given → Log → Log → List (DmNo × Change)
+abbrev pub applied : Input → Log → Log → List (DmNo × Change)
 applied g old new = flat_map (applied_by g (history new)) (drop (length (history old)) (history new))
 
 -- the row that the data module's copy has of the item now
@@ -133,7 +133,7 @@ row_by (Some x) = x.1.row
 abbrev pub row_left : Dated → Change → Option Row
 row_left xs x = row_by (latest x.key (of_fragment x.frag.0 xs))
 
-abbrev pub row_told : Given → Log → DmNo × Change → RowDelta
+abbrev pub row_told : Input → Log → DmNo × Change → RowDelta
 row_told g log x =
     record { dm = x.0; item = record x.1 { row = row_left (dated (setting_of g (D x.0)) (local_of g (D x.0) log)) x.1 } }
 
@@ -142,16 +142,16 @@ row_told g log x =
 abbrev pub is_of_item : DmNo × Change → RowDelta → Bool
 is_of_item x row = row.dm.0 == x.0.0 && (row.item.frag.0 == x.1.frag.0 && is_eq (int_cmp row.item.key x.1.key))
 
-abbrev pub with_row : Given → Log → List RowDelta → DmNo × Change → List RowDelta
+abbrev pub with_row : Input → Log → List RowDelta → DmNo × Change → List RowDelta
 with_row g log rows x = if list_any (is_of_item x) rows then rows else rows ++ row_told g log x ∷ []
 
-abbrev pub rows_of : Given → Log → Log → List RowDelta
+abbrev pub rows_of : Input → Log → Log → List RowDelta
 rows_of g old new = fold (with_row g new) [] (applied g old new)
 
 -- sites
 
 -- messages were handed to the site
-abbrev pub is_reached : Given → Log → Log → Site → Bool
+abbrev pub is_reached : Input → Log → Log → Site → Bool
 is_reached g old new at = list_any (λ l. not (handed l.0 l.1 old == handed l.0 l.1 new) && same_site l.1 at) (all_links g)
 
 abbrev pub is_something : Found → Bool
@@ -160,7 +160,7 @@ is_something _ = true
 
 -- the event itself is of the site: a submission is of the site of its class by the list in force, and a list of classes that
 -- is put in force is of the transaction modules
-abbrev pub concerns : Given → Log → Event → Found → Site → Bool
+abbrev pub concerns : Input → Log → Event → Found → Site → Bool
 concerns g log (Submit n) found at = same_site (class_site (force_at g (redeclares log)).catalogue (txn_at g n.0)) at
 concerns g log (Tick t n) found at = same_site (T t) at
 concerns g log (Down d) found at = is_something found && same_site (D d) at
@@ -168,14 +168,14 @@ concerns g log (Up d) found at = is_something found && same_site (D d) at
 concerns g log Redeclare found (T t) = true
 concerns g log _ found at = false
 
-abbrev pub takes_part : Given → Log → Log → Site → Bool
+abbrev pub takes_part : Input → Log → Log → Site → Bool
 takes_part g old new at = is_reached g old new at || concerns g new (last_event new) (found_by (last_event new) old new) at
 
-abbrev pub states_of : Given → Log → Log → List SiteState
+abbrev pub states_of : Input → Log → Log → List SiteState
 states_of g old new = map (state_of g new) (filter (takes_part g old new) (sites g.catalogue.tms g.catalogue.dms))
 
 -- all of it
-abbrev pub happened_at : Given → Log → Log → Happened
+abbrev pub happened_at : Input → Log → Log → Happened
 happened_at g old new =
     record {
       number = marks new;

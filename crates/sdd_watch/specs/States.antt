@@ -1,7 +1,7 @@
 -- How sites stand in a run, as its log gives it.
 use Rattle.std.specs.Prelude.{ℕ, ◌==◌, nat_lt, Bool, true, false, not, ◌&&◌, if◌then◌else◌, List, [], ◌∷◌, filter, is_some, map, option_map, Option, Some, None}
 use Rattle.std.specs.List.{filter_map, flat_map, list_any}
-use Rattle.sdd_obligations.specs.All.{Attempt, ClassView, D, DmNo, Done, Given, Handed, Log, Msg, Phase, Question, Read, Setting, Site, T, TmCounts, U, View, Write, active, asks, class_no, clock, counts, dm_no, head, holds, holds_back, is_down, is_met, last_served, local_of, numbers_to, runs, setting_of, time_at, tm_no, txn_no, view_of}
+use Rattle.sdd_obligations.specs.All.{Attempt, ClassView, D, DmNo, Done, Handed, Input, Log, Msg, Phase, Question, Read, Setting, Site, T, TmCounts, U, View, Write, active, asks, class_no, clock, counts, dm_no, head, holds, holds_back, is_down, is_met, last_served, local_of, numbers_to, runs, setting_of, time_at, tm_no, txn_no, view_of}
 use Rattle.sdd_obligations.specs.attempt.Lines.{lacked_by}
 use Rattle.sdd_obligations.specs.attempt.Phases.{awaited_in}
 use Rattle.sdd_obligations.specs.attempt.declared.answer.Answer.{Answer}
@@ -146,11 +146,11 @@ dm_told s log d down = record { dm = dm_no d; is_down = down; heads = filter_map
 
 -- a site
 
-abbrev pub state_of : Given → Log → Site → SiteState
+abbrev pub state_of : Input → Log → Site → SiteState
 state_of g log U = states.U (u_told (setting_of g U) (local_of g U log))
 state_of g log (T t) = states.T (tm_told (setting_of g (T t)) (local_of g (T t) log) t.0)
 state_of g log (D d) = states.D (dm_told (setting_of g (D d)) (local_of g (D d) log) d.0 (is_down d.0 log))
 
 -- the data modules that haven't said that they applied what U committed last
-abbrev pub unapplied_of : Given → Log → List DmNo
+abbrev pub unapplied_of : Input → Log → List DmNo
 unapplied_of g log = unapplied_last (setting_of g U) (local_of g U log)

@@ -1,6 +1,6 @@
 -- What is told so far, while a world carries out a schedule.
 use Rattle.std.specs.Prelude.{ℕ, suc, ◌≤◌, ◌≡◌, false, List, [], ◌∷◌, length}
-use Rattle.sdd_obligations.specs.All.{Event, Given, IsTheLog, Log, all_links, calls_of, left, marks, quiet}
+use Rattle.sdd_obligations.specs.All.{Event, Input, IsTheLog, Log, all_links, calls_of, left, marks, quiet}
 use Rattle.sdd_run.specs.world.Standing.{IsSettled, Rounding, Settling, StandsFor}
 use Rattle.sdd_run.specs.world.declared.world.World.{World}
 use Rattle.sdd_watch.specs.Happens.{rounds}
@@ -9,20 +9,20 @@ use Rattle.sdd_watch.specs.Watching.{Watches}
 use Rattle.sdd_watch.specs.declared.teller.Teller.{Teller}
 
 -- the text is that of the log, and what is kept is what stood where at its end
-pub record Tells (g : Given) (log : Log) (t : Teller) : Type 0 where
+pub record Tells (g : Input) (log : Log) (t : Teller) : Type 0 where
   pub catalogue_is : t.catalogue.now ≡ g.catalogue
   pub text_is : t.text.items ≡ inside_text g log
   pub watches : Watches g log t.watch
 
 -- All that was given is carried out and told; the next event of the schedule has this place.
-pub record IsTold (w : World) (g : Given) (log : Log) (t : Teller) (place : ℕ) : Type 0 where
+pub record IsTold (w : World) (g : Input) (log : Log) (t : Teller) (place : ℕ) : Type 0 where
   pub stands : StandsFor w g log
   pub tells : Tells g log t
   pub place_is : place ≡ suc (length g.events)
 
 -- Between the rounds of a settle or a redeclare, of which so many are over. Where a further one comes, it is of the last
 -- event that was given, and of no other one.
-pub record TellsBetween (w : World) (g : Given) (log : Log) (e : Event) (t : Teller) (place number : ℕ) : Type 0 where
+pub record TellsBetween (w : World) (g : Input) (log : Log) (e : Event) (t : Teller) (place number : ℕ) : Type 0 where
   pub settling : Settling w g log e
   pub tells : Tells g log t
   pub place_is : place ≡ length g.events
@@ -31,7 +31,7 @@ pub record TellsBetween (w : World) (g : Given) (log : Log) (e : Event) (t : Tel
   pub rounds_are : quiet (all_links g) (calls_of log) ≡ false → rounds g.events log ≡ number
 
 -- within the round behind so many others, of which these events are left
-pub record TellsRound (w : World) (g : Given) (log : Log) (e : Event) (events : List Event) (t : Teller) (place number : ℕ) : Type 0 where
+pub record TellsRound (w : World) (g : Input) (log : Log) (e : Event) (events : List Event) (t : Teller) (place number : ℕ) : Type 0 where
   pub rounding : Rounding w g log e events
   pub tells : Tells g log t
   pub place_is : place ≡ length g.events
@@ -40,13 +40,13 @@ pub record TellsRound (w : World) (g : Given) (log : Log) (e : Event) (events : 
   pub rounds_are : rounds g.events log ≡ suc number
 
 -- the rounds are over
-pub record TellsSettled (w : World) (g : Given) (e : Event) (t : Teller) (place : ℕ) : Type 0 where
+pub record TellsSettled (w : World) (g : Input) (e : Event) (t : Teller) (place : ℕ) : Type 0 where
   pub settled : IsSettled w g e
   pub tells : Tells g settled.more t
   pub place_is : place ≡ length g.events
 
 -- the text of a whole run
-pub record IsTextOf (g : Given) (text : List ℕ) : Type 0 where
+pub record IsTextOf (g : Input) (text : List ℕ) : Type 0 where
   pub log : Log
   pub log_is : IsTheLog g log
   pub text_is : text ≡ inside_text g log

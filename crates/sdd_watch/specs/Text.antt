@@ -1,27 +1,27 @@
 -- The text of what happens inside the run of a workload.
 use Rattle.std.specs.Prelude.{ℕ, ◌-◌, ◌≡◌, List, [], ◌++◌}
 use Rattle.std.specs.List.{flat_map}
-use Rattle.sdd_obligations.specs.All.{Catalogue, Given, IsTheLog, Log, marks, numbers_to}
+use Rattle.sdd_obligations.specs.All.{Catalogue, Input, IsTheLog, Log, marks, numbers_to}
 use Rattle.sdd_obligations.specs.protocol.declared.entry.Entry.{Entry}
 use Rattle.sdd_inside.specs.Differences.{difference}
 use Rattle.sdd_inside.specs.Lines.{beginning, line}
 use Rattle.sdd_inside.specs.declared.delta.Delta.{Delta}
 use Rattle.sdd_run.specs.world.Copies.{tables_of}
-use Rattle.sdd_run.specs.Runs.{AreTables, given_of}
+use Rattle.sdd_run.specs.Runs.{AreTables, input_of}
 use Rattle.sdd_run.specs.script.declared.workload.Workload.{Workload}
 use Rattle.sdd_watch.specs.Happens.{happened_at}
 use Rattle.sdd_watch.specs.Moments.{at_event, moment_of}
 
 -- what changed from one log to another, between which one event lies
-abbrev pub change : Given → Log → Log → Delta
+abbrev pub change : Input → Log → Log → Delta
 change g old new = difference (happened_at g old new) (moment_of g old) (moment_of g new)
 
 -- the line of event k
-abbrev pub line_of : Given → Log → ℕ → List ℕ
+abbrev pub line_of : Input → Log → ℕ → List ℕ
 line_of g log k = line g.catalogue g.txns (change g (at_event (k - 1) log) (at_event k log))
 
 -- the first line, with what the copies begin with, and a line for each event that has a number
-abbrev pub inside_text : Given → Log → List ℕ
+abbrev pub inside_text : Input → Log → List ℕ
 inside_text g log = beginning g.catalogue g.txns (tables_of g []) ++ flat_map (line_of g log) (numbers_to (marks log))
 
 -- A text is that of the run of a workload: of the one log of what is given, by the protocol tables of the lists of classes,
@@ -30,5 +30,5 @@ pub record IsInsideOf (cat : Catalogue) (work : Workload) (text : List ℕ) : Ty
   pub tables : List (List Entry)
   pub tables_are : AreTables cat work tables
   pub log : Log
-  pub log_is : IsTheLog (given_of cat tables work) log
-  pub text_is : text ≡ inside_text (given_of cat tables work) log
+  pub log_is : IsTheLog (input_of cat tables work) log
+  pub text_is : text ≡ inside_text (input_of cat tables work) log

@@ -4,7 +4,7 @@ use Rattle.std.specs.BTreeMap.{get}
 use Rattle.std.specs.BTreeSet.{contains}
 use Rattle.std.specs.List.{list_any, position}
 use Rattle.std.specs.Ordering.{nat_cmp}
-use Rattle.sdd_obligations.specs.All.{D, Deliver, Done, Down, Entry, Event, Given, History, IsLinkOf, IsPossible, Log, Lose, Mark, Message, Msg, Packet, Redeclare, Redeclares, Repeat, Resend, Rests, Site, U, Up, all_links, class_no, dm_no, handed, history, is_down, is_empty, link_of, local_of, marks, packet_at, pipe, same_site, sent, sites, time_at}
+use Rattle.sdd_obligations.specs.All.{D, Deliver, Done, Down, Entry, Event, History, Input, IsLinkOf, IsPossible, Log, Lose, Mark, Message, Msg, Packet, Redeclare, Redeclares, Repeat, Resend, Rests, Site, U, Up, all_links, class_no, dm_no, handed, history, is_down, is_empty, link_of, local_of, marks, packet_at, pipe, same_site, sent, sites, time_at}
 use Rattle.sdd_obligations.specs.net.Links.{numbered, unacked}
 use Rattle.sdd_obligations.specs.serial_orders.Finding.{pair_cmp}
 use Rattle.sdd_inside.specs.Differences.{is_of_link, takes_one}
@@ -39,7 +39,7 @@ IsMark _ = ⊥
 
 -- One event lies between two logs: behind the first its mark is next, where a round that begins has its entry before it, and
 -- behind the second nothing more of it is due.
-pub record IsBetween (g : Given) (old new : Log) : Type 0 where
+pub record IsBetween (g : Input) (old new : Log) : Type 0 where
   pub mark : Entry
   pub is_mark : IsMark mark
   pub more : Log
@@ -49,20 +49,20 @@ pub record IsBetween (g : Given) (old new : Log) : Type 0 where
   pub after : Rests g new
 
 -- where the event stands in the schedule
-pub record IsTurn (g : Given) (old new : Log) (turn : Turn) : Type 0 where
+pub record IsTurn (g : Input) (old new : Log) (turn : Turn) : Type 0 where
   pub event : turn.event ≡ last_event new
   pub scheduled : turn.scheduled ≡ scheduled_at g old
   pub round : turn.round ≡ round_at g old
 
 -- the world is that behind the event, and this is what it found
-pub record IsOver (g : Given) (old new : Log) (w : World) (e : Event) (found : Found) : Type 0 where
+pub record IsOver (g : Input) (old new : Log) (w : World) (e : Event) (found : Found) : Type 0 where
   pub between : IsBetween g old new
   pub calm : Calm w g new
   pub event_is : e ≡ last_event new
   pub found_is : found ≡ found_by e old new
 
 -- what names there are in an event: a list of classes that is put in force names nothing
-abbrev pub IsTellable : Given → Event → Type 0
+abbrev pub IsTellable : Input → Event → Type 0
 IsTellable g Redeclare = Unit {0}
 IsTellable g e = IsPossible g e
 
@@ -142,7 +142,7 @@ arrived_on old new l =
     Some (record { from = l.0; to = l.1; messages = filter_map purposed (handed_over old new l) })
 
 -- of each link on which messages were handed over
-abbrev pub arrived : Given → Log → Log → List Arrived
+abbrev pub arrived : Input → Log → Log → List Arrived
 arrived g old new = filter_map (arrived_on old new) (all_links g)
 
 -- of one link the cut moments, and what was handed over
@@ -154,7 +154,7 @@ is_on a b one = same_site one.from a && same_site one.to b
 
 -- pipes
 
-abbrev pub watched_pipe : Given → Log → ℕ × ℕ → WatchedPipe
+abbrev pub watched_pipe : Input → Log → ℕ × ℕ → WatchedPipe
 watched_pipe g log p =
     record {
       dm = dm_no p.0;
@@ -164,11 +164,11 @@ watched_pipe g log p =
     }
 
 -- a moment of a pipe is cut likewise: it has nothing before the event, and then what came and how much was processed
-abbrev pub pipe_before : Given → Log → Log → ℕ × ℕ → PipeMoment
+abbrev pub pipe_before : Input → Log → Log → ℕ × ℕ → PipeMoment
 pipe_before g old new p =
     record { dm = dm_no p.0; class = class_no p.1; came = []; processed = 0; passed = time_at (passed_to (pipe p.1 (local_of g (D (dm_no p.0)) new))) }
 
-abbrev pub pipe_after : Given → Log → Log → ℕ × ℕ → PipeMoment
+abbrev pub pipe_after : Input → Log → Log → ℕ × ℕ → PipeMoment
 pipe_after g old new p =
     record {
       dm = dm_no p.0;
@@ -186,7 +186,7 @@ is_done_at t (Message n (Done ts)) = ts.0 == t
 is_done_at t p = false
 
 -- the DONEs that were handed to U, by timestamps and data modules
-abbrev pub AreDones : Given → Log → Dones → Type 0
+abbrev pub AreDones : Input → Log → Dones → Type 0
 AreDones g log dones =
     (t d : ℕ) → IsLinkOf g (D (dm_no d)) U
     → contains pair_cmp dones.said (t, d) ≡ list_any (is_done_at t) (handed_on (D (dm_no d)) U log)
@@ -196,14 +196,14 @@ abbrev pub AreCommits : History → Commits → Type 0
 AreCommits records known = (n : ℕ) → get nat_cmp known.places n ≡ position (commits n) records
 
 -- beside links, queues and pipes
-pub record Knows (g : Given) (log : Log) (w : Watch) : Type 0 where
+pub record Knows (g : Input) (log : Log) (w : Watch) : Type 0 where
   pub sites : w.sites.items ≡ sites g.catalogue.tms g.catalogue.dms
   pub records : w.records ≡ length (history log)
   pub commits : AreCommits (history log) w.commits
   pub dones : AreDones g log w.dones
 
 -- all of it
-pub record Watches (g : Given) (log : Log) (w : Watch) : Type 0 where
+pub record Watches (g : Input) (log : Log) (w : Watch) : Type 0 where
   pub sites : w.sites.items ≡ sites g.catalogue.tms g.catalogue.dms
   pub links : w.links.items ≡ map (watched_link log) (all_links g)
   pub queues : w.queues.items ≡ queues_of g log
@@ -214,7 +214,7 @@ pub record Watches (g : Given) (log : Log) (w : Watch) : Type 0 where
 
 -- What is needed to tell an event: the watch keeps what stood before it, the world is that behind it, and what it is, where it
 -- stands and what it found are told.
-pub record IsToTell (g : Given) (old new : Log) (w : World) (watch : Watch) (turn : Turn) (foreseen : Foreseen) : Type 0 where
+pub record IsToTell (g : Input) (old new : Log) (w : World) (watch : Watch) (turn : Turn) (foreseen : Foreseen) : Type 0 where
   pub between : IsBetween g old new
   pub calm : Calm w g new
   pub watches : Watches g old watch

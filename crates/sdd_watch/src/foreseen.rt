@@ -1,6 +1,6 @@
 //! What an event finds.
 ghost use Rattle.std.specs.Prelude.{◌≡◌, ◌≤◌};
-ghost use Rattle.sdd_obligations.specs.All.{Given, IsLinkOf, IsPossible, Log, delivered, is_empty, link_of, packet_at};
+ghost use Rattle.sdd_obligations.specs.All.{Input, IsLinkOf, IsPossible, Log, delivered, is_empty, link_of, packet_at};
 ghost use Rattle.sdd_obligations.specs.net.Links.{unacked};
 ghost use Rattle.sdd_run.specs.world.Standing.{Calm};
 ghost use Rattle.sdd_watch.specs.Happens.{arrived_of, found_by, taken};
@@ -35,8 +35,8 @@ fn taken(packet: &Packet<Spelling>) -> Taken
 
 /// The packet at a place of a flight, by its number.
 fn packet_at(world: &World<'_>, from: Site, to: Site, place: u32) -> Option<Taken>
-    requires { (g : Given) × (log : Log) × Calm world.now g log × IsLinkOf g from to × (1 ≤ place) }
-    ensures { (g : Given) (log : Log) → Calm world.now g log → IsLinkOf g from to
+    requires { (g : Input) × (log : Log) × Calm world.now g log × IsLinkOf g from to × (1 ≤ place) }
+    ensures { (g : Input) (log : Log) → Calm world.now g log → IsLinkOf g from to
         → result ≡ taken_at (packet_at place (link_of from to log)) }
 {
     match world.mail().direction(from, to).flight.packet(place) {
@@ -47,8 +47,8 @@ fn packet_at(world: &World<'_>, from: Site, to: Site, place: u32) -> Option<Take
 
 /// Whether each message of a link is acknowledged.
 fn is_acknowledged(world: &World<'_>, from: Site, to: Site) -> bool
-    requires { (g : Given) × (log : Log) × Calm world.now g log × IsLinkOf g from to }
-    ensures { (g : Given) (log : Log) → Calm world.now g log → IsLinkOf g from to
+    requires { (g : Input) × (log : Log) × Calm world.now g log × IsLinkOf g from to }
+    ensures { (g : Input) (log : Log) → Calm world.now g log → IsLinkOf g from to
         → result ≡ is_empty (unacked (link_of from to log).there) }
 {
     world.mail().direction(from, to).sender.is_done()
@@ -56,8 +56,8 @@ fn is_acknowledged(world: &World<'_>, from: Site, to: Site) -> bool
 
 /// The messages from 1 to this number of a link have arrived.
 fn delivered_upto(world: &World<'_>, from: Site, to: Site) -> u32
-    requires { (g : Given) × (log : Log) × Calm world.now g log × IsLinkOf g from to }
-    ensures { (g : Given) (log : Log) → Calm world.now g log → IsLinkOf g from to
+    requires { (g : Input) × (log : Log) × Calm world.now g log × IsLinkOf g from to }
+    ensures { (g : Input) (log : Log) → Calm world.now g log → IsLinkOf g from to
         → result ≡ delivered (link_of from to log).there }
 {
     world.mail().direction(from, to).receiver.count()
@@ -65,8 +65,8 @@ fn delivered_upto(world: &World<'_>, from: Site, to: Site) -> u32
 
 /// The messages from 1 to this number of the link back are acknowledged.
 fn acknowledged_upto(world: &World<'_>, from: Site, to: Site) -> u32
-    requires { (g : Given) × (log : Log) × Calm world.now g log × IsLinkOf g from to }
-    ensures { (g : Given) (log : Log) → Calm world.now g log → IsLinkOf g from to
+    requires { (g : Input) × (log : Log) × Calm world.now g log × IsLinkOf g from to }
+    ensures { (g : Input) (log : Log) → Calm world.now g log → IsLinkOf g from to
         → result ≡ (link_of to from log).there.acked }
 {
     world.mail().direction(to, from).sender.acked_upto()
@@ -93,8 +93,8 @@ fn doing(can_do: bool) -> Foreseen
 
 /// What an event finds that is next. Takes no memory.
 pub(crate) fn foresee(world: &World<'_>, event: &Event) -> Foreseen
-    requires { (g : Given) × (log : Log) × Calm world.now g log × IsPossible g event.now }
-    ensures { (g : Given) (log : Log) → Calm world.now g log → IsPossible g event.now
+    requires { (g : Input) × (log : Log) × Calm world.now g log × IsPossible g event.now }
+    ensures { (g : Input) (log : Log) → Calm world.now g log → IsPossible g event.now
         → result ≡ foreseen_by event.now log }
 {
     match event {
@@ -112,8 +112,8 @@ pub(crate) fn foresee(world: &World<'_>, event: &Event) -> Foreseen
 
 /// What a delivery found, once it is carried out.
 fn delivered(world: &World<'_>, from: Site, to: Site, packet: Taken) -> Found
-    requires { (g : Given) × (log : Log) × Calm world.now g log × IsLinkOf g from to }
-    ensures { (g : Given) (log : Log) → Calm world.now g log → IsLinkOf g from to
+    requires { (g : Input) × (log : Log) × Calm world.now g log × IsLinkOf g from to }
+    ensures { (g : Input) (log : Log) → Calm world.now g log → IsLinkOf g from to
         → result ≡ arrived_of from to packet log }
 {
     match packet {
@@ -130,8 +130,8 @@ fn delivered(world: &World<'_>, from: Site, to: Site, packet: Taken) -> Found
 
 /// What an event found that is carried out. Takes no memory.
 pub(crate) fn found(world: &World<'_>, event: &Event, foreseen: Foreseen) -> Found
-    requires { (g : Given) × (log : Log) × Calm world.now g log × IsTellable g event.now }
-    ensures { (g : Given) (old new : Log) → Calm world.now g new → IsTellable g event.now
+    requires { (g : Input) × (log : Log) × Calm world.now g log × IsTellable g event.now }
+    ensures { (g : Input) (old new : Log) → Calm world.now g new → IsTellable g event.now
         → foreseen ≡ foreseen_by event.now old → result ≡ found_by event.now old new }
 {
     match foreseen {

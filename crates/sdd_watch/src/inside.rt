@@ -1,6 +1,6 @@
 //! The text of what happens inside the run of a workload.
 ghost use Rattle.std.specs.Prelude.{◌≡◌, [], IfOk, IsErrOf};
-ghost use Rattle.sdd_obligations.specs.All.{Given};
+ghost use Rattle.sdd_obligations.specs.All.{Input};
 ghost use Rattle.sdd_run.specs.Runs.{AreTables, EndsAtLimit, begun};
 ghost use Rattle.sdd_run.specs.class_lists.InForce.{eras_in, whole_in};
 ghost use Rattle.sdd_run.specs.script.All.{IsValid};
@@ -27,8 +27,8 @@ fn begin<'c>(
     catalogue: &'c Catalogue,
     world: &World<'_>,
 ) -> Result<Teller<'c>, NoMemory>
-    requires { (g : Given) × StandsFor world.now g [] × (catalogue.now ≡ g.catalogue) }
-    ensures { IfOk result (λ teller. (g : Given) → StandsFor world.now g []
+    requires { (g : Input) × StandsFor world.now g [] × (catalogue.now ≡ g.catalogue) }
+    ensures { IfOk result (λ teller. (g : Input) → StandsFor world.now g []
         → catalogue.now ≡ g.catalogue → Tells g [] teller) }
 {
     let copies = world.tables(alloc)?;

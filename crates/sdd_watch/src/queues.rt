@@ -1,6 +1,6 @@
 //! The queues of classes.
 ghost use Rattle.std.specs.Prelude.{◌≡◌, ◌++◌, ◌∷◌, [], ℕ, map, IfOk, OnOk};
-ghost use Rattle.sdd_obligations.specs.All.{Given, IsSiteOf, Log, T};
+ghost use Rattle.sdd_obligations.specs.All.{Input, IsSiteOf, Log, T};
 ghost use Rattle.sdd_run.specs.world.Standing.{Calm};
 ghost use Rattle.sdd_watch.specs.Looking.{queue_in, queue_of};
 ghost use Rattle.sdd_watch.specs.Moments.{queues_at, queues_of};
@@ -34,8 +34,8 @@ fn add_queues(classes: &[ClassRun<'_>], queues: &mut Vec<QueueMoment>) -> Result
 
 /// Adds the queues of a transaction module.
 fn add_queues_at(world: &World<'_>, tm: TmNo, queues: &mut Vec<QueueMoment>) -> Result<(), NoMemory>
-    requires { (g : Given) × (log : Log) × Calm world.now g log × IsSiteOf g (T tm) }
-    ensures { OnOk result ((g : Given) (log : Log) → Calm world.now g log → IsSiteOf g (T tm)
+    requires { (g : Input) × (log : Log) × Calm world.now g log × IsSiteOf g (T tm) }
+    ensures { OnOk result ((g : Input) (log : Log) → Calm world.now g log → IsSiteOf g (T tm)
         → queues.new.items ≡ queues.old.items ++ queues_at g log tm.0) }
 {
     add_queues(world.sites().txn_module(tm).classes(), queues)?;
@@ -45,8 +45,8 @@ fn add_queues_at(world: &World<'_>, tm: TmNo, queues: &mut Vec<QueueMoment>) -> 
 /// All queues, that of the module for undeclared transactions first, and then by transaction module
 /// and class.
 pub(crate) fn all_queues(alloc: Global, world: &World<'_>) -> Result<Vec<QueueMoment>, NoMemory>
-    requires { (g : Given) × (log : Log) × Calm world.now g log }
-    ensures { IfOk result (λ queues. (g : Given) (log : Log) → Calm world.now g log
+    requires { (g : Input) × (log : Log) × Calm world.now g log }
+    ensures { IfOk result (λ queues. (g : Input) (log : Log) → Calm world.now g log
         → queues.items ≡ queues_of g log) }
 {
     let whole = world.whole();

@@ -2,7 +2,7 @@
 ghost use Rattle.std.specs.Prelude.{◌≡◌, ◌∷◌, [], fold, length, true, IfOk, IsTrue, OnOk};
 ghost use Rattle.std.specs.List.{list_any};
 ghost use Rattle.std.specs.Option.{option_copied};
-ghost use Rattle.sdd_obligations.specs.All.{Change as Item, Given, Log, StandFor, has_copy, history, is_here};
+ghost use Rattle.sdd_obligations.specs.All.{Change as Item, Input, Log, StandFor, has_copy, history, is_here};
 ghost use Rattle.sdd_obligations.specs.copy.Contents.{Dated};
 ghost use Rattle.sdd_run.specs.world.Standing.{Calm};
 ghost use Rattle.sdd_watch.specs.Happens.{applied_by, applied_in, changes_applied, is_of_item, row_left, row_told, rows_of, with_row};
@@ -71,9 +71,9 @@ fn has_item(rows: &[RowDelta], dm: DmNo, change: &Change) -> bool
 
 /// The row of the item of a change, as a data module's copy has it.
 fn row_told(world: &World<'_>, dm: DmNo, change: &Change) -> Result<RowDelta, NoMemory>
-    requires { (g : Given) × (log : Log) × Calm world.now g log
+    requires { (g : Input) × (log : Log) × Calm world.now g log
         × (has_copy g.catalogue dm.0 change.now.frag.0 ≡ true) }
-    ensures { IfOk result (λ row. (g : Given) (log : Log) → Calm world.now g log
+    ensures { IfOk result (λ row. (g : Input) (log : Log) → Calm world.now g log
         → has_copy g.catalogue dm.0 change.now.frag.0 ≡ true
         → row ≡ row_told g log (dm, change.now)) }
 {
@@ -95,9 +95,9 @@ fn add_row(
     change: &Change,
     rows: &mut Vec<RowDelta>,
 ) -> Result<(), NoMemory>
-    requires { (g : Given) × (log : Log) × Calm world.now g log
+    requires { (g : Input) × (log : Log) × Calm world.now g log
         × (has_copy g.catalogue dm.0 change.now.frag.0 ≡ true) }
-    ensures { OnOk result ((g : Given) (log : Log) → Calm world.now g log
+    ensures { OnOk result ((g : Input) (log : Log) → Calm world.now g log
         → has_copy g.catalogue dm.0 change.now.frag.0 ≡ true
         → rows.new.items ≡ with_row g log rows.old.items (dm, change.now)) }
 {
@@ -115,8 +115,8 @@ fn add_here(
     change: &Change,
     rows: &mut Vec<RowDelta>,
 ) -> Result<(), NoMemory>
-    requires { (g : Given) × (log : Log) × Calm world.now g log }
-    ensures { OnOk result ((g : Given) (log : Log) → Calm world.now g log → rows.new.items
+    requires { (g : Input) × (log : Log) × Calm world.now g log }
+    ensures { OnOk result ((g : Input) (log : Log) → Calm world.now g log → rows.new.items
         ≡ fold (with_row g log) rows.old.items (changes_applied g dm (change.now ∷ []))) }
 {
     if !has_copy(world.whole(), dm, change.frag) {
@@ -133,8 +133,8 @@ fn add_rows(
     changes: &[Change],
     rows: &mut Vec<RowDelta>,
 ) -> Result<(), NoMemory>
-    requires { (g : Given) × (log : Log) × Calm world.now g log }
-    ensures { OnOk result ((g : Given) (log : Log) → Calm world.now g log → rows.new.items
+    requires { (g : Input) × (log : Log) × Calm world.now g log }
+    ensures { OnOk result ((g : Input) (log : Log) → Calm world.now g log → rows.new.items
         ≡ fold (with_row g log) rows.old.items (changes_applied g dm changes.now)) }
 {
     for change in changes {
@@ -161,9 +161,9 @@ fn add_applied(
     record: &(u32, Rec),
     rows: &mut Vec<RowDelta>,
 ) -> Result<(), NoMemory>
-    requires calm { (g : Given) × (log : Log) × Calm world.now g log }
+    requires calm { (g : Input) × (log : Log) × Calm world.now g log }
     requires commits { AreCommits records.now commits.now }
-    ensures { OnOk result ((g : Given) (log : Log) → Calm world.now g log
+    ensures { OnOk result ((g : Input) (log : Log) → Calm world.now g log
         → records.now ≡ history log → rows.new.items
         ≡ fold (with_row g log) rows.old.items (applied_by g (history log) record.now)) }
 {
@@ -180,9 +180,9 @@ pub(crate) fn rows_from(
     commits: &Commits,
     from: usize,
 ) -> Result<Vec<RowDelta>, NoMemory>
-    requires { (g : Given) × (log : Log) × Calm world.now g log
+    requires { (g : Input) × (log : Log) × Calm world.now g log
         × AreCommits (history log) commits.now }
-    ensures { IfOk result (λ rows. (g : Given) (old new : Log) → Calm world.now g new
+    ensures { IfOk result (λ rows. (g : Input) (old new : Log) → Calm world.now g new
         → IsBetween g old new → from ≡ length (history old) → rows.items ≡ rows_of g old new) }
 {
     let records = world.history().as_slice();

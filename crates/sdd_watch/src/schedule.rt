@@ -1,6 +1,6 @@
 //! The events of a schedule, carried out one by one, and each of them told.
 ghost use Rattle.std.specs.Prelude.{◌≡◌, ◌+◌, ◌^◌, ◌<◌, ◌≤◌, List, [], ◌∷◌, ℕ, suc, length, IfOk, OnOk, IsErrOf};
-ghost use Rattle.sdd_obligations.specs.All.{Event as Happening, Given, IsGood, IsPossible, IsTheLog, Log, Redeclare, TakesRounds, marks, with_event};
+ghost use Rattle.sdd_obligations.specs.All.{Event as Happening, Input, IsGood, IsPossible, IsTheLog, Log, Redeclare, TakesRounds, marks, with_event};
 ghost use Rattle.sdd_run.specs.world.Schedules.{AreAllowed, IsAllowed, lists_after, with_events};
 ghost use Rattle.sdd_run.specs.world.Standing.{EndsBy};
 ghost use Rattle.sdd_watch.specs.Telling.{IsTextOf, IsTold, TellsBetween, TellsRound, TellsSettled};
@@ -20,13 +20,13 @@ fn step<'a>(
     place: u32,
     teller: &mut Teller<'_>,
 ) -> Result<World<'a>, WorldEnd>
-    requires { (g : Given) × (log : Log) × IsTold world g log teller.old place
+    requires { (g : Input) × (log : Log) × IsTold world g log teller.old place
         × IsPossible g event.now × IsGood (with_event g event.now) }
-    ensures log { IfOk result (λ next. (g : Given) (log : Log)
+    ensures log { IfOk result (λ next. (g : Input) (log : Log)
         → IsTold world.entry g log teller.old place → IsPossible g event.now
         → IsGood (with_event g event.now)
         → (more : Log) × IsTold next (with_event g event.now) more teller.new (suc place)) }
-    ensures limit { IsErrOf result WorldEnd.Limit → (g : Given) (log : Log)
+    ensures limit { IsErrOf result WorldEnd.Limit → (g : Input) (log : Log)
         → IsTold world.entry g log teller.old place → IsPossible g event.now
         → IsGood (with_event g event.now) → EndsBy (with_event g event.now) }
 {
@@ -49,13 +49,13 @@ fn in_round<'a>(
     number: u32,
     teller: &mut Teller<'_>,
 ) -> Result<World<'a>, WorldEnd>
-    requires { (g : Given) × (log : Log) × (e : Happening) × (rest : List Happening)
+    requires { (g : Input) × (log : Log) × (e : Happening) × (rest : List Happening)
         × TellsRound world g log e (event ∷ rest) teller.old place number }
-    ensures log { IfOk result (λ next. (g : Given) (log : Log) (e : Happening) (rest : List Happening)
+    ensures log { IfOk result (λ next. (g : Input) (log : Log) (e : Happening) (rest : List Happening)
         → TellsRound world.entry g log e (event ∷ rest) teller.old place number
         → (more : Log) × TellsRound next g more e rest teller.new place number
         × (marks more ≡ suc (marks log))) }
-    ensures limit { IsErrOf result WorldEnd.Limit → (g : Given) (log : Log) (e : Happening)
+    ensures limit { IsErrOf result WorldEnd.Limit → (g : Input) (log : Log) (e : Happening)
         (rest : List Happening)
         → TellsRound world.entry g log e (event ∷ rest) teller.old place number → EndsBy g }
 {
@@ -79,13 +79,13 @@ fn round<'a>(
     number: u32,
     teller: &mut Teller<'_>,
 ) -> Result<World<'a>, WorldEnd>
-    requires { (g : Given) × (log : Log) × (e : Happening)
+    requires { (g : Input) × (log : Log) × (e : Happening)
         × TellsRound world g log e events.items teller.old place number }
-    ensures log { IfOk result (λ next. (g : Given) (log : Log) (e : Happening)
+    ensures log { IfOk result (λ next. (g : Input) (log : Log) (e : Happening)
         → TellsRound world.entry g log e events.items teller.old place number
         → (more : Log) × TellsRound next g more e [] teller.new place number
         × (marks more ≡ marks log + length events.items)) }
-    ensures limit { IsErrOf result WorldEnd.Limit → (g : Given) (log : Log) (e : Happening)
+    ensures limit { IsErrOf result WorldEnd.Limit → (g : Input) (log : Log) (e : Happening)
         → TellsRound world.entry g log e events.items teller.old place number → EndsBy g }
 {
     let mut now = world;
@@ -103,12 +103,12 @@ fn rounds<'a>(
     place: u32,
     teller: &mut Teller<'_>,
 ) -> Result<World<'a>, WorldEnd>
-    requires { (g : Given) × (log : Log) × IsTold world g log teller.old place × TakesRounds event
+    requires { (g : Input) × (log : Log) × IsTold world g log teller.old place × TakesRounds event
         × IsGood (with_event g event) }
-    ensures log { IfOk result (λ next. (g : Given) (log : Log)
+    ensures log { IfOk result (λ next. (g : Input) (log : Log)
         → IsTold world.entry g log teller.old place → TakesRounds event → IsGood (with_event g event)
         → TellsSettled next (with_event g event) event teller.new place) }
-    ensures limit { IsErrOf result WorldEnd.Limit → (g : Given) (log : Log)
+    ensures limit { IsErrOf result WorldEnd.Limit → (g : Input) (log : Log)
         → IsTold world.entry g log teller.old place → TakesRounds event → IsGood (with_event g event)
         → EndsBy (with_event g event) }
 {
@@ -128,12 +128,12 @@ fn redeclare<'a>(
     lists: &mut VecDeque<ClassList<'a>>,
     teller: &mut Teller<'_>,
 ) -> Result<World<'a>, WorldEnd>
-    requires { (g : Given) × (log : Log) × IsTold world g log teller.old place
+    requires { (g : Input) × (log : Log) × IsTold world g log teller.old place
         × IsAllowed g Redeclare lists.old.items }
-    ensures log { IfOk result (λ next. (g : Given) (log : Log)
+    ensures log { IfOk result (λ next. (g : Input) (log : Log)
         → IsTold world.entry g log teller.old place → IsAllowed g Redeclare lists.old.items
         → (more : Log) × IsTold next (with_event g Redeclare) more teller.new (suc place)) }
-    ensures limit { IsErrOf result WorldEnd.Limit → (g : Given) (log : Log)
+    ensures limit { IsErrOf result WorldEnd.Limit → (g : Input) (log : Log)
         → IsTold world.entry g log teller.old place → IsAllowed g Redeclare lists.old.items
         → EndsBy (with_event g Redeclare) }
     ensures others { OnOk result (lists.new.items ≡ lists_after Redeclare lists.old.items) }
@@ -162,12 +162,12 @@ fn carry_out_one<'a>(
     lists: &mut VecDeque<ClassList<'a>>,
     teller: &mut Teller<'_>,
 ) -> Result<World<'a>, WorldEnd>
-    requires { (g : Given) × (log : Log) × IsTold world g log teller.old place
+    requires { (g : Input) × (log : Log) × IsTold world g log teller.old place
         × IsAllowed g event.now lists.old.items }
-    ensures log { IfOk result (λ next. (g : Given) (log : Log)
+    ensures log { IfOk result (λ next. (g : Input) (log : Log)
         → IsTold world.entry g log teller.old place → IsAllowed g event.now lists.old.items
         → (more : Log) × IsTold next (with_event g event.now) more teller.new (suc place)) }
-    ensures limit { IsErrOf result WorldEnd.Limit → (g : Given) (log : Log)
+    ensures limit { IsErrOf result WorldEnd.Limit → (g : Input) (log : Log)
         → IsTold world.entry g log teller.old place → IsAllowed g event.now lists.old.items
         → EndsBy (with_event g event.now) }
     ensures others { OnOk result (lists.new.items ≡ lists_after event.now lists.old.items) }
@@ -191,12 +191,12 @@ pub(crate) fn carry_out<'a>(
     lists: Vec<ClassList<'a>>,
     teller: &mut Teller<'_>,
 ) -> Result<(), WorldEnd>
-    requires { (g : Given) × (log : Log) × IsTold world g log teller.old 1
+    requires { (g : Input) × (log : Log) × IsTold world g log teller.old 1
         × AreAllowed g events.items lists.items × (length events.items < 2 ^ 32) }
-    ensures text { OnOk result ((g : Given) (log : Log) → IsTold world.entry g log teller.old 1
+    ensures text { OnOk result ((g : Input) (log : Log) → IsTold world.entry g log teller.old 1
         → AreAllowed g events.items lists.entry.items
         → IsTextOf (with_events g events.items) teller.new.text.items) }
-    ensures limit { IsErrOf result WorldEnd.Limit → (g : Given) (log : Log)
+    ensures limit { IsErrOf result WorldEnd.Limit → (g : Input) (log : Log)
         → IsTold world.entry g log teller.old 1 → AreAllowed g events.items lists.entry.items
         → EndsBy (with_events g events.items) }
 {

@@ -1,7 +1,7 @@
 //! How sites stand between two events.
 ghost use Rattle.std.specs.Prelude.{◌≡◌, ◌≤◌, ◌/◌, ◌++◌, ◌∷◌, [], filter_map, length, map, not, option_map, IfOk, OnOk, IsTrue, Some};
 ghost use Rattle.std.specs.List.{All, flat_map};
-ghost use Rattle.sdd_obligations.specs.All.{ClassState, Given, IsSiteOf, Log, Setting, T, dm_no, view_of};
+ghost use Rattle.sdd_obligations.specs.All.{ClassState, Input, IsSiteOf, Log, Setting, T, dm_no, view_of};
 ghost use Rattle.sdd_obligations.specs.attempt.Lines.{awaited_by, lacked_by};
 ghost use Rattle.sdd_obligations.specs.dm.Stands as data_stands;
 ghost use Rattle.sdd_obligations.specs.dm.Views as data_views;
@@ -295,8 +295,8 @@ pub(crate) fn state(
     at: Site,
     unapplied: &[DmNo],
 ) -> Result<SiteState, NoMemory>
-    requires { (g : Given) × (log : Log) × IsSiteOf g at × Calm world.now g log }
-    ensures { IfOk result (λ state. (g : Given) (log : Log) → IsSiteOf g at → Calm world.now g log
+    requires { (g : Input) × (log : Log) × IsSiteOf g at × Calm world.now g log }
+    ensures { IfOk result (λ state. (g : Input) (log : Log) → IsSiteOf g at → Calm world.now g log
         → unapplied.now ≡ unapplied_of g log → state ≡ state_of g log at) }
 {
     let sites = world.sites();

@@ -1,7 +1,7 @@
 //! Which sites take part in an event, and how they stand.
 ghost use Rattle.std.specs.Prelude.{◌≡◌, ◌++◌, ◌∷◌, ◌&&◌, [], All, filter, map, IfOk, OnOk};
 ghost use Rattle.std.specs.List.{list_any};
-ghost use Rattle.sdd_obligations.specs.All.{Given, IsSiteOf, Log, Redeclare, force_at, redeclares, same_site, txn_at};
+ghost use Rattle.sdd_obligations.specs.All.{Input, IsSiteOf, Log, Redeclare, force_at, redeclares, same_site, txn_at};
 ghost use Rattle.sdd_obligations.specs.logs.Due.{home_of as class_site};
 ghost use Rattle.sdd_inside.specs.declared.delta.Found.{Found as Finding};
 ghost use Rattle.sdd_run.specs.world.Standing.{Calm};
@@ -29,8 +29,8 @@ fn is_something(found: &Found) -> bool
 
 /// The site of a transaction's class, by its number and by the list of classes in force.
 fn home_of(world: &World<'_>, number: TxnNo) -> Site
-    requires { (g : Given) × (log : Log) × Calm world.now g log }
-    ensures { (g : Given) (log : Log) → Calm world.now g log → result
+    requires { (g : Input) × (log : Log) × Calm world.now g log }
+    ensures { (g : Input) (log : Log) → Calm world.now g log → result
         ≡ class_site (force_at g (redeclares log)).catalogue (txn_at g number.0) }
 {
     let place = number.0.saturating_sub(1);
@@ -41,7 +41,7 @@ fn home_of(world: &World<'_>, number: TxnNo) -> Site
 }
 
 fn is_txn_module(at: Site) -> bool
-    ensures { (g : Given) (log : Log) (found : Finding)
+    ensures { (g : Input) (log : Log) (found : Finding)
         → result ≡ concerns g log Redeclare found at }
 {
     match at {
@@ -59,8 +59,8 @@ fn is_found_at(found: &Found, here: Site, at: Site) -> bool
 
 /// Whether an event by itself lets a site take part.
 fn concerns(world: &World<'_>, event: &Event, found: &Found, at: Site) -> bool
-    requires { (g : Given) × (log : Log) × Calm world.now g log }
-    ensures { (g : Given) (log : Log) → Calm world.now g log
+    requires { (g : Input) × (log : Log) × Calm world.now g log }
+    ensures { (g : Input) (log : Log) → Calm world.now g log
         → result ≡ concerns g log event.now found.now at }
 {
     match event {
@@ -88,9 +88,9 @@ fn takes_part(
     arrived: &[Arrived],
     at: Site,
 ) -> bool
-    requires { (g : Given) × (old : Log) × (new : Log)
+    requires { (g : Input) × (old : Log) × (new : Log)
         × IsOver g old new world.now event.now found.now }
-    ensures { (g : Given) (old new : Log) → IsOver g old new world.now event.now found.now
+    ensures { (g : Input) (old new : Log) → IsOver g old new world.now event.now found.now
         → arrived.now ≡ arrived_between g old new → result ≡ takes_part g old new at }
 {
     if is_reached(arrived, at) {
@@ -108,9 +108,9 @@ fn add_busy(
     at: Site,
     busy: &mut Vec<Site>,
 ) -> Result<(), NoMemory>
-    requires { (g : Given) × (old : Log) × (new : Log)
+    requires { (g : Input) × (old : Log) × (new : Log)
         × IsOver g old new world.now event.now found.now }
-    ensures { OnOk result ((g : Given) (old new : Log)
+    ensures { OnOk result ((g : Input) (old new : Log)
         → IsOver g old new world.now event.now found.now → arrived.now ≡ arrived_between g old new
         → busy.new.items ≡ busy.old.items ++ filter (takes_part g old new) (at ∷ [])) }
 {
@@ -130,9 +130,9 @@ pub(crate) fn busy(
     arrived: &[Arrived],
     sites: &[Site],
 ) -> Result<Vec<Site>, NoMemory>
-    requires { (g : Given) × (old : Log) × (new : Log)
+    requires { (g : Input) × (old : Log) × (new : Log)
         × IsOver g old new world.now event.now found.now }
-    ensures { IfOk result (λ busy. (g : Given) (old new : Log)
+    ensures { IfOk result (λ busy. (g : Input) (old new : Log)
         → IsOver g old new world.now event.now found.now → arrived.now ≡ arrived_between g old new
         → busy.items ≡ filter (takes_part g old new) sites.now) }
 {
@@ -150,9 +150,9 @@ pub(crate) fn states(
     dones: &Dones,
     busy: &[Site],
 ) -> Result<Vec<SiteState>, NoMemory>
-    requires { (g : Given) × (log : Log) × Calm world.now g log × AreDones g log dones.now
+    requires { (g : Input) × (log : Log) × Calm world.now g log × AreDones g log dones.now
         × All (IsSiteOf g) busy.now }
-    ensures { IfOk result (λ states. (g : Given) (log : Log) → Calm world.now g log
+    ensures { IfOk result (λ states. (g : Input) (log : Log) → Calm world.now g log
         → AreDones g log dones.now → All (IsSiteOf g) busy.now
         → states.items ≡ map (state_of g log) busy.now) }
 {

@@ -1,7 +1,7 @@
 //! The lines of events, put one after the other.
 ghost use Rattle.std.specs.Prelude.{◌≡◌, ◌++◌, OnOk};
 ghost use Rattle.sdd_inside.specs.Lines.{line};
-ghost use Rattle.sdd_obligations.specs.All.{Given, Log};
+ghost use Rattle.sdd_obligations.specs.All.{Input, Log};
 ghost use Rattle.sdd_watch.specs.Text.{change};
 ghost use Rattle.sdd_watch.specs.Watching.{IsToTell, Watches};
 
@@ -28,15 +28,15 @@ impl<'c> Teller<'c> {
         turn: Turn,
         foreseen: Foreseen,
     ) -> Result<(), NoMemory>
-        requires { (g : Given) × (old : Log) × (new : Log)
+        requires { (g : Input) × (old : Log) × (new : Log)
             × IsToTell g old new world.now self.old.watch turn foreseen }
         ensures catalogue { self.new.catalogue ≡ self.old.catalogue }
-        ensures text { OnOk result ((g : Given) (old new : Log)
+        ensures text { OnOk result ((g : Input) (old new : Log)
             → IsToTell g old new world.now self.old.watch turn foreseen
             → self.old.catalogue.now ≡ g.catalogue
             → self.new.text.items
             ≡ self.old.text.items ++ line g.catalogue g.txns (change g old new)) }
-        ensures watch { OnOk result ((g : Given) (old new : Log)
+        ensures watch { OnOk result ((g : Input) (old new : Log)
             → IsToTell g old new world.now self.old.watch turn foreseen
             → Watches g new self.new.watch) }
     {

@@ -1,6 +1,6 @@
 //! What stood where when an event was over, and what the next one changed.
 ghost use Rattle.std.specs.Prelude.{◌≡◌, [], length, map, IfOk, OnOk};
-ghost use Rattle.sdd_obligations.specs.All.{Given, Log, history};
+ghost use Rattle.sdd_obligations.specs.All.{Input, Log, history};
 ghost use Rattle.sdd_run.specs.world.Standing.{Calm};
 ghost use Rattle.sdd_watch.specs.Happens.{happened_at, rows_of};
 ghost use Rattle.sdd_watch.specs.Moments.{queues_of};
@@ -97,8 +97,8 @@ impl Watch {
         catalogue: &Catalogue,
         world: &World<'_>,
     ) -> Result<Watch, NoMemory>
-        requires { (g : Given) × Calm world.now g [] }
-        ensures { IfOk result (λ watch. (g : Given) → Calm world.now g []
+        requires { (g : Input) × Calm world.now g [] }
+        ensures { IfOk result (λ watch. (g : Input) → Calm world.now g []
             → catalogue.now ≡ g.catalogue → Watches g [] watch) }
     {
         catalogue.known();
@@ -123,11 +123,11 @@ impl Watch {
 
     /// The queues before an event and behind it.
     fn queues(&mut self, world: &World<'_>) -> Result<Both<QueueMoment>, NoMemory>
-        requires { (g : Given) × (log : Log) × Calm world.now g log }
+        requires { (g : Input) × (log : Log) × Calm world.now g log }
         ensures before { IfOk result (λ parts. parts.before ≡ self.old.queues) }
-        ensures after { IfOk result (λ parts. (g : Given) (log : Log) → Calm world.now g log
+        ensures after { IfOk result (λ parts. (g : Input) (log : Log) → Calm world.now g log
             → parts.after.items ≡ queues_of g log) }
-        ensures kept { OnOk result ((g : Given) (log : Log) → Calm world.now g log
+        ensures kept { OnOk result ((g : Input) (log : Log) → Calm world.now g log
             → self.new.queues.items ≡ queues_of g log) }
         ensures others { OnOk result (self.new ≡ record self.old { queues = self.new.queues }) }
     {
@@ -146,13 +146,13 @@ impl Watch {
         turn: Turn,
         found: Found,
     ) -> Result<Delta, NoMemory>
-        requires { (g : Given) × (old : Log) × (new : Log)
+        requires { (g : Input) × (old : Log) × (new : Log)
             × IsOver g old new world.now turn.event found × IsTurn g old new turn
             × Watches g old self.old }
-        ensures delta { IfOk result (λ delta. (g : Given) (old new : Log)
+        ensures delta { IfOk result (λ delta. (g : Input) (old new : Log)
             → IsOver g old new world.now turn.event found → IsTurn g old new turn
             → Watches g old self.old → delta ≡ change g old new) }
-        ensures kept { OnOk result ((g : Given) (old new : Log)
+        ensures kept { OnOk result ((g : Input) (old new : Log)
             → IsOver g old new world.now turn.event found → IsTurn g old new turn
             → Watches g old self.old → Watches g new self.new) }
     {
@@ -177,14 +177,14 @@ impl Watch {
         found: Found,
         arrived: &[Arrived],
     ) -> Result<Happened, NoMemory>
-        requires { (g : Given) × (old : Log) × (new : Log)
+        requires { (g : Input) × (old : Log) × (new : Log)
             × IsOver g old new world.now turn.event found × Knows g old self.old
             × (arrived.now ≡ arrived_between g old new) }
-        ensures happened { IfOk result (λ happened. (g : Given) (old new : Log)
+        ensures happened { IfOk result (λ happened. (g : Input) (old new : Log)
             → IsOver g old new world.now turn.event found → IsTurn g old new turn
             → Knows g old self.old → arrived.now ≡ arrived_between g old new
             → happened ≡ happened_at g old new) }
-        ensures kept { OnOk result ((g : Given) (old new : Log)
+        ensures kept { OnOk result ((g : Input) (old new : Log)
             → IsOver g old new world.now turn.event found → Knows g old self.old
             → arrived.now ≡ arrived_between g old new → Knows g new self.new) }
         ensures others { OnOk result (self.new ≡ record self.old {
@@ -217,15 +217,15 @@ impl Watch {
 
     /// The rows of the items to which changes were applied.
     fn rows(&mut self, world: &World<'_>) -> Result<Vec<RowDelta>, NoMemory>
-        requires { (g : Given) × (old : Log) × (new : Log) × Calm world.now g new
+        requires { (g : Input) × (old : Log) × (new : Log) × Calm world.now g new
             × IsBetween g old new × (self.old.records ≡ length (history old))
             × AreCommits (history old) self.old.commits }
-        ensures rows { IfOk result (λ rows. (g : Given) (old new : Log) → Calm world.now g new
+        ensures rows { IfOk result (λ rows. (g : Input) (old new : Log) → Calm world.now g new
             → IsBetween g old new → self.old.records ≡ length (history old)
             → AreCommits (history old) self.old.commits → rows.items ≡ rows_of g old new) }
-        ensures records { OnOk result ((g : Given) (log : Log) → Calm world.now g log
+        ensures records { OnOk result ((g : Input) (log : Log) → Calm world.now g log
             → self.new.records ≡ length (history log)) }
-        ensures commits { OnOk result ((g : Given) (old new : Log) → Calm world.now g new
+        ensures commits { OnOk result ((g : Input) (old new : Log) → Calm world.now g new
             → IsBetween g old new → self.old.records ≡ length (history old)
             → AreCommits (history old) self.old.commits
             → AreCommits (history new) self.new.commits) }

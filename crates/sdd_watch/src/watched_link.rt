@@ -1,7 +1,7 @@
 //! Links, as they stood when an event was over.
 ghost use Rattle.std.specs.Prelude.{◌≡◌, ◌++◌, ◌∷◌, [], map, IfOk, OnOk};
 ghost use Rattle.std.specs.List.{cons_option};
-ghost use Rattle.sdd_obligations.specs.All.{Given, IsLinkOf, Log, Site as Place, all_links};
+ghost use Rattle.sdd_obligations.specs.All.{Input, IsLinkOf, Log, Site as Place, all_links};
 ghost use Rattle.sdd_inside.specs.Differences.{is_of_link, takes_one};
 ghost use Rattle.sdd_watch.specs.Awaiting.{behind};
 ghost use Rattle.sdd_watch.specs.Looking.{advanced, arrived_with, seen_with};
@@ -175,13 +175,13 @@ impl WatchedLink {
         event: &Event,
         found: &Found,
     ) -> Result<LinkSeen, NoMemory>
-        requires { (g : Given) × (old : Log) × (new : Log)
+        requires { (g : Input) × (old : Log) × (new : Log)
             × IsOver g old new world.now event.now found.now × IsLinkOf g self.old.from self.old.to }
-        ensures seen { IfOk result (λ seen. (g : Given) (old new : Log)
+        ensures seen { IfOk result (λ seen. (g : Input) (old new : Log)
             → IsOver g old new world.now event.now found.now → (l : Place × Place)
             → IsLinkOf g l.0 l.1 → self.old ≡ watched_link old l
             → seen ≡ seen_between old new l) }
-        ensures kept { OnOk result ((g : Given) (old new : Log)
+        ensures kept { OnOk result ((g : Input) (old new : Log)
             → IsOver g old new world.now event.now found.now → (l : Place × Place)
             → IsLinkOf g l.0 l.1 → self.old ≡ watched_link old l
             → self.new ≡ watched_link new l) }
@@ -231,22 +231,22 @@ pub(crate) fn look_at_links(
     found: &Found,
     links: &mut [WatchedLink],
 ) -> Result<OnLinks, NoMemory>
-    requires { (g : Given) × (old : Log) × (new : Log)
+    requires { (g : Input) × (old : Log) × (new : Log)
         × IsOver g old new world.now event.now found.now
         × (links.old ≡ map (watched_link old) (all_links g)) }
-    ensures before { IfOk result (λ seen. (g : Given) (old new : Log)
+    ensures before { IfOk result (λ seen. (g : Input) (old new : Log)
         → IsOver g old new world.now event.now found.now
         → links.old ≡ map (watched_link old) (all_links g)
         → seen.moments.before.items ≡ map (link_before old) (all_links g)) }
-    ensures after { IfOk result (λ seen. (g : Given) (old new : Log)
+    ensures after { IfOk result (λ seen. (g : Input) (old new : Log)
         → IsOver g old new world.now event.now found.now
         → links.old ≡ map (watched_link old) (all_links g)
         → seen.moments.after.items ≡ map (link_after old new) (all_links g)) }
-    ensures arrived { IfOk result (λ seen. (g : Given) (old new : Log)
+    ensures arrived { IfOk result (λ seen. (g : Input) (old new : Log)
         → IsOver g old new world.now event.now found.now
         → links.old ≡ map (watched_link old) (all_links g)
         → seen.arrived.items ≡ arrived g old new) }
-    ensures kept { OnOk result ((g : Given) (old new : Log)
+    ensures kept { OnOk result ((g : Input) (old new : Log)
         → IsOver g old new world.now event.now found.now
         → links.old ≡ map (watched_link old) (all_links g)
         → links.new ≡ map (watched_link new) (all_links g)) }

@@ -1,7 +1,7 @@
 //! Pipes of data modules, as they stood when an event was over.
 ghost use Rattle.std.specs.Prelude.{◌≡◌, ◌≤◌, ◌++◌, ◌+◌, ◌-◌, ◌∷◌, [], ℕ, filter_map, find, length, map, IfOk, OnOk};
 ghost use Rattle.std.specs.Option.{option_copied};
-ghost use Rattle.sdd_obligations.specs.All.{D, Given, IsSiteOf, Log, dm_no, time_at};
+ghost use Rattle.sdd_obligations.specs.All.{D, Input, IsSiteOf, Log, dm_no, time_at};
 ghost use Rattle.sdd_obligations.specs.dm.Due.{or_zero};
 ghost use Rattle.sdd_obligations.specs.pipe.Digest as digest;
 ghost use Rattle.sdd_obligations.specs.pipe.Pipes.{pipe_at};
@@ -137,17 +137,17 @@ impl WatchedPipe {
         arrived: &[Arrived],
         parts: &mut Both<PipeMoment>,
     ) -> Result<(), NoMemory>
-        requires { (g : Given) × (log : Log) × Calm world.now g log × IsSiteOf g (D self.old.dm) }
-        ensures kept { OnOk result ((g : Given) (old new : Log) → Calm world.now g new
+        requires { (g : Input) × (log : Log) × Calm world.now g log × IsSiteOf g (D self.old.dm) }
+        ensures kept { OnOk result ((g : Input) (old new : Log) → Calm world.now g new
             → IsBetween g old new → arrived.now ≡ all_arrived g old new
             → (d c : ℕ) → IsSiteOf g (D (dm_no d)) → c ≤ length g.catalogue.classes
             → self.old ≡ watched_pipe g old (d, c) → self.new ≡ watched_pipe g new (d, c)) }
-        ensures before { OnOk result ((g : Given) (old new : Log) → Calm world.now g new
+        ensures before { OnOk result ((g : Input) (old new : Log) → Calm world.now g new
             → IsBetween g old new → arrived.now ≡ all_arrived g old new
             → (d c : ℕ) → IsSiteOf g (D (dm_no d)) → c ≤ length g.catalogue.classes
             → self.old ≡ watched_pipe g old (d, c)
             → parts.new.before.items ≡ parts.old.before.items ++ pipe_before g old new (d, c) ∷ []) }
-        ensures after { OnOk result ((g : Given) (old new : Log) → Calm world.now g new
+        ensures after { OnOk result ((g : Input) (old new : Log) → Calm world.now g new
             → IsBetween g old new → arrived.now ≡ all_arrived g old new
             → (d c : ℕ) → IsSiteOf g (D (dm_no d)) → c ≤ length g.catalogue.classes
             → self.old ≡ watched_pipe g old (d, c)
@@ -189,7 +189,7 @@ impl WatchedPipe {
 /// The site that runs a class.
 fn source(catalogue: &Catalogue, class: u32) -> Site
     requires { class ≤ length catalogue.now.classes }
-    ensures { (g : Given) → catalogue.now ≡ g.catalogue → (d : ℕ) → result ≡ source g d class }
+    ensures { (g : Input) → catalogue.now ≡ g.catalogue → (d : ℕ) → result ≡ source g d class }
 {
     if class == 0 {
         Site::U
@@ -200,7 +200,7 @@ fn source(catalogue: &Catalogue, class: u32) -> Site
 
 /// Adds the pipes of a data module, to which nothing came.
 fn add_pipes(catalogue: &Catalogue, dm: DmNo, pipes: &mut Vec<WatchedPipe>) -> Result<(), NoMemory>
-    ensures { OnOk result ((g : Given) → catalogue.now ≡ g.catalogue → pipes.new.items
+    ensures { OnOk result ((g : Input) → catalogue.now ≡ g.catalogue → pipes.new.items
         ≡ pipes.old.items ++ map (watched_pipe g []) (pipes_at_module g dm.0)) }
 {
     catalogue.known();
@@ -220,7 +220,7 @@ pub(crate) fn first_pipes(
     alloc: Global,
     catalogue: &Catalogue,
 ) -> Result<Vec<WatchedPipe>, NoMemory>
-    ensures { IfOk result (λ pipes. (g : Given) → catalogue.now ≡ g.catalogue
+    ensures { IfOk result (λ pipes. (g : Input) → catalogue.now ≡ g.catalogue
         → pipes.items ≡ map (watched_pipe g []) (all_pipes g)) }
 {
     catalogue.known();
@@ -238,17 +238,17 @@ pub(crate) fn look_at_pipes(
     arrived: &[Arrived],
     pipes: &mut [WatchedPipe],
 ) -> Result<Both<PipeMoment>, NoMemory>
-    requires { (g : Given) × (old : Log) × (new : Log) × Calm world.now g new
+    requires { (g : Input) × (old : Log) × (new : Log) × Calm world.now g new
         × (pipes.old ≡ map (watched_pipe g old) (all_pipes g)) }
-    ensures before { IfOk result (λ parts. (g : Given) (old new : Log) → Calm world.now g new
+    ensures before { IfOk result (λ parts. (g : Input) (old new : Log) → Calm world.now g new
         → IsBetween g old new → arrived.now ≡ all_arrived g old new
         → pipes.old ≡ map (watched_pipe g old) (all_pipes g)
         → parts.before.items ≡ map (pipe_before g old new) (all_pipes g)) }
-    ensures after { IfOk result (λ parts. (g : Given) (old new : Log) → Calm world.now g new
+    ensures after { IfOk result (λ parts. (g : Input) (old new : Log) → Calm world.now g new
         → IsBetween g old new → arrived.now ≡ all_arrived g old new
         → pipes.old ≡ map (watched_pipe g old) (all_pipes g)
         → parts.after.items ≡ map (pipe_after g old new) (all_pipes g)) }
-    ensures kept { OnOk result ((g : Given) (old new : Log) → Calm world.now g new
+    ensures kept { OnOk result ((g : Input) (old new : Log) → Calm world.now g new
         → IsBetween g old new → arrived.now ≡ all_arrived g old new
         → pipes.old ≡ map (watched_pipe g old) (all_pipes g)
         → pipes.new ≡ map (watched_pipe g new) (all_pipes g)) }

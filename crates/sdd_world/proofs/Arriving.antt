@@ -1,16 +1,16 @@
 -- Messages have come to a site: they are handed over, or kept.
-use Rattle.sdd_world.proofs.All.{Arrives, D, Deliver, DmNo, Given, HandedOn, Handing, Happened, IsSiteOf, Keeping, List, Log, Mark, Msg, Site, Spooled, StandFor, U, World, [], ahead_of, ap, delivers_messages, from_one, is_down, link_parts, local_of, setting_of, subst, sym, takes_part, true, ℕ, ◌∙◌, ◌∷◌, ◌≡◌}
+use Rattle.sdd_world.proofs.All.{Arrives, D, Deliver, DmNo, HandedOn, Handing, Happened, Input, IsSiteOf, Keeping, List, Log, Mark, Msg, Site, Spooled, StandFor, U, World, [], ahead_of, ap, delivers_messages, from_one, is_down, link_parts, local_of, setting_of, subst, sym, takes_part, true, ℕ, ◌∙◌, ◌∷◌, ◌≡◌}
 use Rattle.sdd_world.proofs.Keeping.{keeping_begins, kept_happened}
 use Rattle.sdd_world.proofs.Delivering.{beside, but_for, handed_calm}
 
-module _ (w now : World) (g : Given) (log : Log) (a b : Site) (k : ℕ) (messages : List Msg) (h : Arrives w now g log a b k messages) where
+module _ (w now : World) (g : Input) (log : Log) (a b : Site) (k : ℕ) (messages : List Msg) (h : Arrives w now g log a b k messages) where
   site_is : IsSiteOf g b
   site_is = (link_parts g.catalogue.tms g.catalogue.dms a b h.marked.possible.0).to
 
   spool_is : now.spool ≡ w.spool
   spool_is = ap (λ v. v.spool) h.same
 
-  pub comes_to : (g2 : Given) × (log2 : Log) × IsSiteOf g2 b × Spooled g2 log2 now.spool U
+  pub comes_to : (g2 : Input) × (log2 : Log) × IsSiteOf g2 b × Spooled g2 log2 now.spool U
   comes_to = (g, log, site_is, subst (λ z. Spooled g log z U) (sym spool_is) h.marked.spooled)
 
   pub told : IsSiteOf g b × Spooled g log now.spool U
@@ -39,7 +39,7 @@ module _ (w now : World) (g : Given) (log : Log) (a b : Site) (k : ℕ) (message
   pub is_over : (w2 : World) → takes_part b log ≡ true → HandedOn w2 g b (from_one a []) (ahead_of g (Mark (Deliver a b k) ∷ log)) now.spool → Happened w2 g log
   is_over w2 part d = handed_calm w now w2 g log a b k h.marked part h.same d
 
-module _ (w now : World) (g : Given) (log : Log) (a b : Site) (d : DmNo) (k : ℕ) (messages : List Msg) (h : Arrives w now g log a b k messages) (at : b ≡ D d)
+module _ (w now : World) (g : Input) (log : Log) (a b : Site) (d : DmNo) (k : ℕ) (messages : List Msg) (h : Arrives w now g log a b k messages) (at : b ≡ D d)
     (down : is_down d.0 log ≡ true) where
   here_d : Arrives w now g log a (D d) k messages
   here_d = subst (λ z. Arrives w now g log a z k messages) at h

@@ -1,5 +1,5 @@
 -- The modules of a system before its first event: each stands for the beginning of its site's log.
-use Rattle.sdd_world.proofs.All.{AllBegin, At, BeginsD, BeginsT, Catalogue, D, Entry, Given, IsBegun, IsSiteOf, Kept, List, LivesD, LivesT, LivesU, None, Option, Redeclared, Setting, Site, Some, Standing, StandsAt, T, There, Txn, U, [], and_parts, beginning, leb-true, nat_le, refl, rows_of, setting_of, slice_get, subst, sym, ◌-◌, ◌∷◌, ◌≡◌, ◌≤◌}
+use Rattle.sdd_world.proofs.All.{AllBegin, At, BeginsD, BeginsT, Catalogue, D, Entry, Input, IsBegun, IsSiteOf, Kept, List, LivesD, LivesT, LivesU, None, Option, Redeclared, Setting, Site, Some, Standing, StandsAt, T, There, Txn, U, [], and_parts, beginning, leb-true, nat_le, refl, rows_of, setting_of, slice_get, subst, sym, ◌-◌, ◌∷◌, ◌≡◌, ◌≤◌}
 use Rattle.sdd_obligations.specs.dm.Stands as dm
 use Rattle.sdd_obligations.specs.dm.State as dm_state
 use Rattle.sdd_obligations.specs.tm.Stands as tm
@@ -16,7 +16,7 @@ found_at P q (Some v) s log f h = f v h
 pub all_begun : (whole cat : Catalogue) (table : List Entry) (txns : List Txn) (u : Kept um_state.State)
     (tms : List (Kept tm_state.State)) (dms : List (Kept dm_state.State))
     → ((s : Setting) → s.catalogue ≡ whole → s.site ≡ U → um.Stands u s []) → AllBegin (BeginsT whole cat table) whole.tms tms
-    → (g : Given) → IsBegun g whole cat table txns dms → (at : Site) → IsSiteOf g at
+    → (g : Input) → IsBegun g whole cat table txns dms → (at : Site) → IsSiteOf g at
     → StandsAt LivesU LivesT LivesD u tms dms at (setting_of g at) (beginning g at)
 all_begun whole cat table txns u tms dms at_u at_t g made U here =
     let s = at_u (setting_of g U) made.catalogue_is refl in

@@ -39,8 +39,8 @@ module _ {V : Type 0} (stands : Standing V) (next : Table) where
       (setting : Setting) (bases : Bases) (log : site.Log) → stands v setting log → fits setting bases log from msg
       → Does (next setting bases) (Handed from msg ∷ log) o.recs o.out (stands v2 setting)
 
-  abbrev pub Given : FittingSubmit → V → V → TxnNo → Txn → Outcome → Type 0
-  Given fits v v2 n txn o =
+  abbrev pub Input : FittingSubmit → V → V → TxnNo → Txn → Outcome → Type 0
+  Input fits v v2 n txn o =
       (setting : Setting) (bases : Bases) (log : site.Log) → stands v setting log → fits setting bases log n.0 txn
       → (recs : List Rec) × (o.recs ≡ Submission n ∷ recs) × Does (next setting bases) (Submits n.0 txn ∷ log) recs o.out (stands v2 setting)
 
@@ -56,7 +56,7 @@ module _ {V W : Type 0} (stands : Standing V) (wide : Standing W) (next table : 
       does_by (next setting bases) (table setting bases) (agree setting bases) (Handed from msg ∷ log) o.recs o.out (stands v2 setting)
       (wide w2 setting) (λ k x. widens.widen setting log k s x) (law setting bases log (widens.narrow setting log s) f)
 
-  given_so : (fits : FittingSubmit) (n : TxnNo) (txn : Txn) (o : Outcome) → Given stands next fits v v2 n txn o → Given wide table fits w w2 n txn o
+  given_so : (fits : FittingSubmit) (n : TxnNo) (txn : Txn) (o : Outcome) → Input stands next fits v v2 n txn o → Input wide table fits w w2 n txn o
   given_so fits n txn o law = λ setting bases log s f.
       let d = law setting bases log (widens.narrow setting log s) f in (
         d.0,
@@ -75,8 +75,8 @@ module _ {V : Type 0} (is_live : V → Bool) (stands : Standing V) (next : Table
   lives_take fits from msg (Ok o) law live = takes_so stands (Lives is_live stands) next next (λ s b l. refl) v v2 v v2 (lives live) fits from msg o law
   lives_take fits from msg (Err e) law live = tt
 
-  pub lives_submit : (fits : FittingSubmit) (n : TxnNo) (txn : Txn) (res : Result Outcome NoMemory) → IfOk res (Given stands next fits v v2 n txn)
-      → IfOk res (λ o. IsTrue (is_live v2)) → IfOk res (Given (Lives is_live stands) next fits v v2 n txn)
+  pub lives_submit : (fits : FittingSubmit) (n : TxnNo) (txn : Txn) (res : Result Outcome NoMemory) → IfOk res (Input stands next fits v v2 n txn)
+      → IfOk res (λ o. IsTrue (is_live v2)) → IfOk res (Input (Lives is_live stands) next fits v v2 n txn)
   lives_submit fits n txn (Ok o) law live = given_so stands (Lives is_live stands) next next (λ s b l. refl) v v2 v v2 (lives live) fits n txn o law
   lives_submit fits n txn (Err e) law live = tt
 
@@ -89,8 +89,8 @@ there_at stands (y ∷ xs) (suc k) x setting log e h = there_at stands xs k x se
 
 pub submitted_in : {V : Type 0} (is_live : V → Bool) (stands : Standing V) (next : Table) (xs : List V) (k : ℕ) (v v2 : V)
     (fits : FittingSubmit) (n : TxnNo) (txn : Txn) (res : Result Outcome NoMemory) → v ≡ slice_index_or xs k v
-    → IfOk res (Given stands next fits v v2 n txn) → IfOk res (λ o. IsTrue (is_live v2))
-    → IfOk res (Given (At (Lives is_live stands)) next fits (slice_get xs k) (slice_get (slice_set xs k v2) k) n txn)
+    → IfOk res (Input stands next fits v v2 n txn) → IfOk res (λ o. IsTrue (is_live v2))
+    → IfOk res (Input (At (Lives is_live stands)) next fits (slice_get xs k) (slice_get (slice_set xs k v2) k) n txn)
 submitted_in is_live stands next xs k v v2 fits n txn (Ok o) e law live = λ setting bases log s f.
     let there = there_at (Lives is_live stands) xs k v setting log e s in
     let here : Lives is_live stands v setting log = subst (λ x. At (Lives is_live stands) x setting log) there s in
@@ -151,20 +151,20 @@ module _ {A B C : Type 0} (p : Standing A) (q : Standing B) (r : Standing C) whe
 
   module _ (fu ft : FittingSubmit) (n : TxnNo) (txn : Txn) (res : Result Outcome NoMemory) where
     abbrev pub GivenAt : A × List B × List C → A × List B × List C → Site → Type 0
-    GivenAt m m2 at = IfOk res (Given (AllAt at) (next_of at) (fits_submit_at fu ft at) m m2 n txn)
+    GivenAt m m2 at = IfOk res (Input (AllAt at) (next_of at) (fits_submit_at fu ft at) m m2 n txn)
 
     pub submit_u : (next : Table) (u u2 : A) (ts : List B) (ds : List C) (at : Site) → at ≡ U → Agree next um.next
-        → IfOk res (Given p next fu u u2 n txn) → GivenAt (u, ts, ds) (u2, ts, ds) at
+        → IfOk res (Input p next fu u u2 n txn) → GivenAt (u, ts, ds) (u2, ts, ds) at
     submit_u next u u2 ts ds at e agree law =
         subst (GivenAt (u, ts, ds) (u2, ts, ds)) (sym e)
-        (if_ok res (Given p next fu u u2 n txn) (Given (AllAt U) um.next fu (u, ts, ds) (u2, ts, ds) n txn)
+        (if_ok res (Input p next fu u u2 n txn) (Input (AllAt U) um.next fu (u, ts, ds) (u2, ts, ds) n txn)
         (given_so p (AllAt U) next um.next agree u u2 (u, ts, ds) (u2, ts, ds) (at_u u u2 ts ds) fu n txn) law)
 
     pub submit_t : (next : Table) (u : A) (ts ts2 : List B) (ds : List C) (at : Site) (t : TmNo) → at ≡ T t → Agree next tm.next
-        → IfOk res (Given (At q) next ft (slice_get ts (t.0 - 1)) (slice_get ts2 (t.0 - 1)) n txn) → GivenAt (u, ts, ds) (u, ts2, ds) at
+        → IfOk res (Input (At q) next ft (slice_get ts (t.0 - 1)) (slice_get ts2 (t.0 - 1)) n txn) → GivenAt (u, ts, ds) (u, ts2, ds) at
     submit_t next u ts ts2 ds at t e agree law =
         let here = slice_get ts (t.0 - 1) in
         let after = slice_get ts2 (t.0 - 1) in
         subst (GivenAt (u, ts, ds) (u, ts2, ds)) (sym e)
-        (if_ok res (Given (At q) next ft here after n txn) (Given (AllAt (T t)) tm.next ft (u, ts, ds) (u, ts2, ds) n txn)
+        (if_ok res (Input (At q) next ft here after n txn) (Input (AllAt (T t)) tm.next ft (u, ts, ds) (u, ts2, ds) n txn)
         (given_so (At q) (AllAt (T t)) next tm.next agree here after (u, ts, ds) (u, ts2, ds) (at_t t u ts ts2 ds) ft n txn) law)

@@ -1,5 +1,5 @@
 -- Steps of a schedule.
-use Rattle.sdd_world.proofs.All.{AreAllowed, ClassList, EndsBy, Err, Event, Given, IfOk, IsAllowed, IsGood, IsListed, IsNextList, IsPossible, List, Log, Ok, Redeclare, Result, Settle, StandsFor, World, WorldEnd, [], ap, false, lawful_grows, lists_after, next_grows, refl, subst, sym, takes_rounds, with_event, with_events, ◌∙◌, ◌∷◌, ◌≡◌, ◌≢◌}
+use Rattle.sdd_world.proofs.All.{AreAllowed, ClassList, EndsBy, Err, Event, IfOk, Input, IsAllowed, IsGood, IsListed, IsNextList, IsPossible, List, Log, Ok, Redeclare, Result, Settle, StandsFor, World, WorldEnd, [], ap, false, lawful_grows, lists_after, next_grows, refl, subst, sym, takes_rounds, with_event, with_events, ◌∙◌, ◌∷◌, ◌≡◌, ◌≢◌}
 
 -- an event that is reached by no rounds
 pub no_rounds : (e : Event) → e ≢ Settle → e ≢ Redeclare → takes_rounds e ≡ false
@@ -12,7 +12,7 @@ lists_stay Redeclare lists h = absurd (h refl)
 lists_stay _ lists h = refl
 
 -- a log that the limit ends, it ends with further events too
-pub ends_with_one : (g : Given) (e : Event) → EndsBy g → EndsBy (with_event g e)
+pub ends_with_one : (g : Input) (e : Event) → EndsBy g → EndsBy (with_event g e)
 ends_with_one g e h = (
   h.0,
   record {
@@ -24,39 +24,39 @@ ends_with_one g e h = (
   },
 )
 
-pub ends_with_all : (g : Given) (events : List Event) → EndsBy g → EndsBy (with_events g events)
+pub ends_with_all : (g : Input) (events : List Event) → EndsBy g → EndsBy (with_events g events)
 ends_with_all g [] h = h
 ends_with_all g (e ∷ events) h = ends_with_all (with_event g e) events (ends_with_one g e h)
 
 -- the first event of a schedule that is left, and the others
-pub first_allowed : (g : Given) (events rest : List Event) (e : Event) (lists after : List ClassList) → events ≡ e ∷ rest
+pub first_allowed : (g : Input) (events rest : List Event) (e : Event) (lists after : List ClassList) → events ≡ e ∷ rest
     → after ≡ lists_after e lists → AreAllowed g events lists → IsAllowed g e lists × AreAllowed (with_event g e) rest after
 first_allowed g events rest e lists after is taken h =
     let p : IsAllowed g e lists × AreAllowed (with_event g e) rest (lists_after e lists) = subst (λ es. AreAllowed g es lists) is h in
     (p.0, subst (AreAllowed (with_event g e) rest) (sym taken) p.1)
 
-pub first_one : (g : Given) (events rest : List Event) (e : Event) (lists : List ClassList)
+pub first_one : (g : Input) (events rest : List Event) (e : Event) (lists : List ClassList)
     → events ≡ e ∷ rest → AreAllowed g events lists → IsAllowed g e lists
 first_one g events rest e lists is h = (first_allowed g events rest e lists (lists_after e lists) is refl h).0
 
-pub with_first : (g : Given) (events rest : List Event) (e : Event) → events ≡ e ∷ rest → with_events (with_event g e) rest ≡ with_events g events
+pub with_first : (g : Input) (events rest : List Event) (e : Event) → events ≡ e ∷ rest → with_events (with_event g e) rest ≡ with_events g events
 with_first g events rest e is = sym (ap (with_events g) is)
 
-pub ends_from : (g now : Given) (events rest : List Event) (e : Event) (all : Given) → events ≡ e ∷ rest → with_events now events ≡ all
+pub ends_from : (g now : Input) (events rest : List Event) (e : Event) (all : Input) → events ≡ e ∷ rest → with_events now events ≡ all
     → EndsBy (with_event now e) → EndsBy all
 ends_from g now events rest e all is same h = subst EndsBy (with_first now events rest e is ∙ same) (ends_with_all (with_event now e) rest h)
 
 -- what is promised of one event that is allowed
 
 abbrev pub GoesOn : World → Event → List ClassList → World → Type 0
-GoesOn w e lists next = (g : Given) (log : Log) → StandsFor w g log → IsAllowed g e lists → (more : Log) × StandsFor next (with_event g e) more
+GoesOn w e lists next = (g : Input) (log : Log) → StandsFor w g log → IsAllowed g e lists → (more : Log) × StandsFor next (with_event g e) more
 
 abbrev pub EndsIt : World → Event → List ClassList → Type 0
-EndsIt w e lists = (g : Given) (log : Log) → StandsFor w g log → IsAllowed g e lists → EndsBy (with_event g e)
+EndsIt w e lists = (g : Input) (log : Log) → StandsFor w g log → IsAllowed g e lists → EndsBy (with_event g e)
 
 -- a settle is carried out as the event that it is
 pub settle_goes : (w : World) (e : Event) (lists : List ClassList) (res : Result World WorldEnd) → e ≡ Settle
-    → IfOk res (λ next. (g : Given) (log : Log) → StandsFor w g log → IsGood (with_event g Settle)
+    → IfOk res (λ next. (g : Input) (log : Log) → StandsFor w g log → IsGood (with_event g Settle)
     → (more : Log) × StandsFor next (with_event g Settle) more)
     → IfOk res (GoesOn w e lists)
 settle_goes w e lists (Ok next) is law = λ g log s a.
@@ -64,16 +64,16 @@ settle_goes w e lists (Ok next) is law = λ g log s a.
 settle_goes w e lists (Err end) is law = tt
 
 pub settle_ends : (w : World) (e : Event) (lists : List ClassList) → e ≡ Settle
-    → ((g : Given) (log : Log) → StandsFor w g log → IsGood (with_event g Settle) → EndsBy (with_event g Settle)) → EndsIt w e lists
+    → ((g : Input) (log : Log) → StandsFor w g log → IsGood (with_event g Settle) → EndsBy (with_event g Settle)) → EndsIt w e lists
 settle_ends w e lists is law = λ g log s a. subst (λ x. EndsBy (with_event g x)) (sym is) (law g log s (subst (λ x. IsGood (with_event g x)) is a.good))
 
 -- a redeclare puts the first of the lists in force
 
-pub next_list : (g : Given) (lists rest : List ClassList) (first : ClassList) → lists ≡ first ∷ rest
+pub next_list : (g : Input) (lists rest : List ClassList) (first : ClassList) → lists ≡ first ∷ rest
     → IsAllowed g Redeclare lists → IsNextList g first.catalogue.now first.table.now
 next_list g lists rest first is a = subst (IsListed g) is (a.listed refl)
 
-pub some_list : (g : Given) (lists : List ClassList) → lists ≡ [] → IsAllowed g Redeclare lists → ⊥
+pub some_list : (g : Input) (lists : List ClassList) → lists ≡ [] → IsAllowed g Redeclare lists → ⊥
 some_list g lists none a = subst (IsListed g) none (a.listed refl)
 
 pub redeclare_goes : (w : World) (e : Event) (lists : List ClassList) (res : Result World WorldEnd) → e ≡ Redeclare
@@ -83,13 +83,13 @@ redeclare_goes w e lists (Err end) is law = tt
 
 -- any other event is carried out by a step
 pub step_goes : (w : World) (e : Event) (lists : List ClassList) (res : Result World WorldEnd) → takes_rounds e ≡ false
-    → IfOk res (λ next. (g : Given) (log : Log) → StandsFor w g log → IsPossible g e
+    → IfOk res (λ next. (g : Input) (log : Log) → StandsFor w g log → IsPossible g e
     → IsGood (with_event g e) → (more : Log) × StandsFor next (with_event g e) more)
     → IfOk res (GoesOn w e lists)
 step_goes w e lists (Ok next) is law = λ g log s a. law g log s (a.possible is) a.good
 step_goes w e lists (Err end) is law = tt
 
 -- all events are carried out
-pub carried_all : (w : World) (g now : Given) (log : Log) (events : List Event) (all : Given) → StandsFor w now log → events ≡ []
+pub carried_all : (w : World) (g now : Input) (log : Log) (events : List Event) (all : Input) → StandsFor w now log → events ≡ []
     → with_events now events ≡ all → (more : Log) × StandsFor w all more
 carried_all w g now log events all s none is = let same : now ≡ all = sym (ap (with_events now) none) ∙ is in (log, subst (λ x. StandsFor w x log) same s)

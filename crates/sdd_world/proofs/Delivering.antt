@@ -1,19 +1,19 @@
 -- A packet arrives: what it brings is handed over, or kept for a module that is down.
-use Rattle.sdd_world.proofs.All.{Acked, Ahead, Arrives, Call, Carries, D, Deliver, Delivered, Delivers, Given, HandedOn, Handing, Happened, IsFirst, IsLinkOf, KeepsFor, List, Log, Mailbox, Mark, Marked, Messages, Msg, NetValue, Noted, Nothing, Site, Spooled, Takes, U, World, [], ack_same, ahead_of, all_handed, and_right, ap, calls_of, delivered, delivers_ack, delivers_nothing, delivery, dm_no, false, first_of_one, from_one, handed, is_down, link, link_of, mailbox_at, none_of_one, nothing_same, refl, remain_beside, same_is, same_site, sent_stays, subst, sym, takes_of_one, takes_part, true, up_of, ℕ, ◌++◌, ◌+◌, ◌∙◌, ◌∷◌, ◌≡◌}
+use Rattle.sdd_world.proofs.All.{Acked, Ahead, Arrives, Call, Carries, D, Deliver, Delivered, Delivers, HandedOn, Handing, Happened, Input, IsFirst, IsLinkOf, KeepsFor, List, Log, Mailbox, Mark, Marked, Messages, Msg, NetValue, Noted, Nothing, Site, Spooled, Takes, U, World, [], ack_same, ahead_of, all_handed, and_right, ap, calls_of, delivered, delivers_ack, delivers_nothing, delivery, dm_no, false, first_of_one, from_one, handed, is_down, link, link_of, mailbox_at, none_of_one, nothing_same, refl, remain_beside, same_is, same_site, sent_stays, subst, sym, takes_of_one, takes_part, true, up_of, ℕ, ◌++◌, ◌+◌, ◌∙◌, ◌∷◌, ◌≡◌}
 use Rattle.sdd_world.proofs.Marking.{marked_noted, marked_plain}
 use Rattle.sdd_world.proofs.Parting.{spooled_on}
 
 -- the mailboxes after a delivery, but for that of the site to which it goes
-pub beside : (g : Given) (a b : Site) (k : ℕ) (log : Log) (boxes : List (Mailbox Msg)) → Spooled g log boxes b → Spooled g (Mark (Deliver a b k) ∷ log) boxes b
+pub beside : (g : Input) (a b : Site) (k : ℕ) (log : Log) (boxes : List (Mailbox Msg)) → Spooled g log boxes b → Spooled g (Mark (Deliver a b k) ∷ log) boxes b
 beside g a b k log boxes s =
     spooled_on g log (Mark (Deliver a b k) ∷ log) boxes b (λ d. refl)
     (λ d apart x rest r. remain_beside a b k log x (D (dm_no d)) rest (and_right (same_site x a) (same_site (D (dm_no d)) b) apart) r) s
 
-pub but_for : (g : Given) (log : Log) (boxes : List (Mailbox Msg)) (b : Site) → Spooled g log boxes U → Spooled g log boxes b
+pub but_for : (g : Input) (log : Log) (boxes : List (Mailbox Msg)) (b : Site) → Spooled g log boxes U → Spooled g log boxes b
 but_for g log boxes b s = record { count = s.count; each = λ d here apart. s.each d here refl }
 
 -- the mailbox of a module that is up
-empty_at : (g : Given) (log more : Log) (d : ℕ) (box : Mailbox Msg) → KeepsFor g log d box
+empty_at : (g : Input) (log more : Log) (d : ℕ) (box : Mailbox Msg) → KeepsFor g log d box
     → is_down d log ≡ false → is_down d more ≡ false → KeepsFor g more d box
 empty_at g log more d box k e f = record {
   down_is = k.down_is ∙ e ∙ sym f;
@@ -23,7 +23,7 @@ empty_at g log more d box k e f = record {
 }
 
 -- with the mailbox of the busy site, all mailboxes stand
-with_busy : (g : Given) (log more : Log) (boxes : List (Mailbox Msg)) (b : Site) → Spooled g log boxes U
+with_busy : (g : Input) (log more : Log) (boxes : List (Mailbox Msg)) (b : Site) → Spooled g log boxes U
     → takes_part b log ≡ true → takes_part b more ≡ true → Spooled g more boxes b → Spooled g more boxes U
 with_busy g log more boxes b s p q r = record {
   count = r.count;
@@ -38,7 +38,7 @@ with_busy g log more boxes b s p q r = record {
 }
 
 -- in the loop that hands messages of one site over
-pub one_first : (g : Given) (from to : Site) (q rest : List Msg) (m : Msg) → q ≡ m ∷ rest → IsLinkOf g from to → IsFirst g (from_one from q) from to m rest
+pub one_first : (g : Input) (from to : Site) (q rest : List Msg) (m : Msg) → q ≡ m ∷ rest → IsLinkOf g from to → IsFirst g (from_one from q) from to m rest
 one_first g from to q rest m e l = subst (λ z. IsFirst g (from_one from z) from to m rest) (sym e) (first_of_one g from to m rest l)
 
 pub one_takes : (from : Site) (q rest : List Msg) (m : Msg) → q ≡ m ∷ rest → Takes (from_one from q) (from_one from rest) from rest
@@ -50,7 +50,7 @@ GivenLaw old d a b k = (tms dms : ℕ) (calls : List (Call Msg)) → Carries old
 abbrev pub PutLaw : NetValue → NetValue → Call Msg → Type 0
 PutLaw old new c = (tms dms : ℕ) (calls : List (Call Msg)) → Carries old tms dms calls → Carries new tms dms (c ∷ calls)
 
-all_beside : (g : Given) (a b : Site) (k : ℕ) (log : Log) (boxes : List (Mailbox Msg))
+all_beside : (g : Input) (a b : Site) (k : ℕ) (log : Log) (boxes : List (Mailbox Msg))
     → ((x y : Site) → delivered (link_of x y (Mark (Deliver a b k) ∷ log)).there ≡ delivered
     (link_of x y log).there) → Spooled g log boxes U → Spooled g (Mark (Deliver a b k) ∷ log) boxes U
 all_beside g a b k log boxes same s =
@@ -60,7 +60,7 @@ all_beside g a b k log boxes same s =
       messages = λ i m p. sent_stays x (D (dm_no d)) (Delivers a b k) (calls_of log) (handed x (D (dm_no d)) log + i) m (r.messages i m p);
     }) s
 
-pub got_nothing : (w w2 : World) (net : NetValue) (g : Given) (log : Log) (a b : Site) (k : ℕ)
+pub got_nothing : (w w2 : World) (net : NetValue) (g : Input) (log : Log) (a b : Site) (k : ℕ)
     (d : Delivered Msg) → Marked w g log (Deliver a b k) → GivenLaw w.net d a b k
     → PutLaw w.net net (Delivers a b k) → d ≡ Nothing → w2 ≡ record w { net = net; history = w2.history }
     → w2.history ≡ w.history ++ (w.marks, Noted) ∷ [] → Happened w2 g log
@@ -75,7 +75,7 @@ got_nothing w w2 net g log a b k d m t f e same note =
     (subst (λ x. Spooled g (Mark (Deliver a b k) ∷ log) x U) (sym (ap (λ v. v.spool) same2))
     (all_beside g a b k log w.spool (nothing_same a b k log is) m.spooled))
 
-pub got_ack : (w w2 : World) (g : Given) (log : Log) (a b : Site) (k : ℕ) (d : Delivered Msg)
+pub got_ack : (w w2 : World) (g : Input) (log : Log) (a b : Site) (k : ℕ) (d : Delivered Msg)
     → Marked w g log (Deliver a b k) → GivenLaw w.net d a b k → PutLaw w.net w2.net (Delivers a b k)
     → d ≡ Acked → w2 ≡ record w { net = w2.net } → Happened w2 g log
 got_ack w w2 g log a b k d m t f e same =
@@ -86,7 +86,7 @@ got_ack w w2 g log a b k d m t f e same =
     (all_beside g a b k log w.spool (ack_same a b k log is) m.spooled))
 
 -- messages have come to a site
-pub arrives : (w now : World) (g : Given) (log : Log) (a b : Site) (k : ℕ) (d : Delivered Msg)
+pub arrives : (w now : World) (g : Input) (log : Log) (a b : Site) (k : ℕ) (d : Delivered Msg)
     (messages : List Msg) → Marked w g log (Deliver a b k)
     → GivenLaw w.net d a b k → PutLaw w.net now.net (Delivers a b k)
     → d ≡ Messages messages → now ≡ record w { net = now.net } → Arrives w now g log a b k messages
@@ -98,7 +98,7 @@ arrives w now g log a b k d messages m t f e same = record {
 }
 
 -- once they are handed over, the event is done
-pub handed_calm : (w w1 w2 : World) (g : Given) (log : Log) (a b : Site) (k : ℕ)
+pub handed_calm : (w w1 w2 : World) (g : Input) (log : Log) (a b : Site) (k : ℕ)
     → Marked w g log (Deliver a b k) → takes_part b log ≡ true → w1 ≡ record w { net = w1.net }
     → HandedOn w2 g b (from_one a []) (ahead_of g (Mark (Deliver a b k) ∷ log))
     w1.spool → Happened w2 g log
@@ -124,13 +124,13 @@ handed_calm w w1 w2 g log a b k m part same d =
     }
 
 -- one more was handed over
-pub handed_further : (w : World) (g : Given) (b : Site) (kept : Site → List Msg) (first now : Ahead)
+pub handed_further : (w : World) (g : Input) (b : Site) (kept : Site → List Msg) (first now : Ahead)
     (boxes before : List (Mailbox Msg)) → now ≡ first → before ≡ boxes
     → HandedOn w g b kept now before → HandedOn w g b kept first boxes
 handed_further w g b kept first now boxes before e f d = record { more = d.more; handing = d.handing; ahead_is = d.ahead_is ∙ e; spool_is = d.spool_is ∙ f }
 
 -- none is handed over yet
-pub handed_none : (w : World) (g : Given) (log : Log) (from to : Site) (messages queue : List Msg)
+pub handed_none : (w : World) (g : Input) (log : Log) (from to : Site) (messages queue : List Msg)
     → messages ≡ queue → Handing w g log to (from_one from messages) → HandedOn w g to (from_one from queue) (ahead_of g log) w.spool
 handed_none w g log from to messages queue e h =
     record { more = log; handing = subst (λ q. Handing w g log to (from_one from q)) e h; ahead_is = refl; spool_is = refl }

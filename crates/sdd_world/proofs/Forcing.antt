@@ -1,28 +1,28 @@
 -- A list of classes is put in force at all transaction modules, one after the other.
-use Rattle.sdd_world.proofs.All.{AllStandFor, AreForced, D, FitsForce, Force, Given, IsSiteOf, Log, Redeclared, Setting, Site, Sites, StandFor, T, TmNo, U, and_from, and_parts, ap, arith, cases_lt, differ, false, fold, inl, inr, le-leb, leb-true, local_of, map, max, nat_le, number_of, range_with_len, refl, same_is, same_site, setting_of, subst, suc, sym, tm_no, true, ℕ, ◌+◌, ◌-◌, ◌<◌, ◌∙◌, ◌∷◌, ◌≡◌, ◌≤◌}
+use Rattle.sdd_world.proofs.All.{AllStandFor, AreForced, D, FitsForce, Force, Input, IsSiteOf, Log, Redeclared, Setting, Site, Sites, StandFor, T, TmNo, U, and_from, and_parts, ap, arith, cases_lt, differ, false, fold, inl, inr, le-leb, leb-true, local_of, map, max, nat_le, number_of, range_with_len, refl, same_is, same_site, setting_of, subst, suc, sym, tm_no, true, ℕ, ◌+◌, ◌-◌, ◌<◌, ◌∙◌, ◌∷◌, ◌≡◌, ◌≤◌}
 use Rattle.sdd_obligations.specs.site_module.SiteLog as site
 
 -- the transaction modules before number n stand for logs with the list, all other modules for theirs
-pub record ForcedTo (m : Sites) (g : Given) (log : Log) (force : Force) (t n : ℕ) : Type 0 where
+pub record ForcedTo (m : Sites) (g : Input) (log : Log) (force : Force) (t n : ℕ) : Type 0 where
   pub forced : (k : ℕ) → 1 ≤ k → k < n → IsSiteOf g (T (tm_no k))
       → StandFor m (T (tm_no k)) (setting_of g (T (tm_no k))) (Redeclared force t ∷ local_of g (T (tm_no k)) log)
   pub others : (at : Site) → ((k : ℕ) → at ≡ T (tm_no k) → n ≤ k) → IsSiteOf g at → StandFor m at (setting_of g at) (local_of g at log)
 
-pub none_forced : (m : Sites) (g : Given) (log : Log) (force : Force) (t : ℕ) → AllStandFor m g log → ForcedTo m g log force t 1
+pub none_forced : (m : Sites) (g : Input) (log : Log) (force : Force) (t : ℕ) → AllStandFor m g log → ForcedTo m g log force t 1
 none_forced m g log force t all = record { forced = λ k low high here. absurd (omega arith); others = λ at later here. all at here }
 
 -- transaction modules within the network
 
-pub t_here : (g : Given) (n : ℕ) → 1 ≤ n → n ≤ g.catalogue.tms → IsSiteOf g (T (tm_no n))
+pub t_here : (g : Input) (n : ℕ) → 1 ≤ n → n ≤ g.catalogue.tms → IsSiteOf g (T (tm_no n))
 t_here g n low high = and_from (nat_le 1 n) (nat_le n g.catalogue.tms) (le-leb 1 n low) (le-leb n g.catalogue.tms high)
 
-t_within : (g : Given) (t : TmNo) → IsSiteOf g (T t) → (1 ≤ t.0) × (t.0 ≤ g.catalogue.tms)
+t_within : (g : Input) (t : TmNo) → IsSiteOf g (T t) → (1 ≤ t.0) × (t.0 ≤ g.catalogue.tms)
 t_within g t here =
     let p = and_parts (nat_le 1 t.0) (nat_le t.0 g.catalogue.tms) here in
     (leb-true 1 t.0 p.0, leb-true t.0 g.catalogue.tms p.1)
 
 -- what the module that comes next stands for
-pub t_stands : (m : Sites) (g : Given) (log : Log) (force : Force) (t n : ℕ) → ForcedTo m g log force t n → IsSiteOf g (T (tm_no n))
+pub t_stands : (m : Sites) (g : Input) (log : Log) (force : Force) (t n : ℕ) → ForcedTo m g log force t n → IsSiteOf g (T (tm_no n))
     → StandFor m (T (tm_no n)) (setting_of g (T (tm_no n))) (local_of g (T (tm_no n)) log)
 t_stands m g log force t n f here = f.others (T (tm_no n)) (λ k e. (let same : n ≡ k = ap number_of e in omega (arith, same))) here
 
@@ -41,7 +41,7 @@ apart_from at n later = elim (same_site at (T (tm_no n))) as (λ b. same_site at
   | false ↦ λ p. refl
 ] refl
 
-pub one_forced : (m m2 : Sites) (g : Given) (log : Log) (force : Force) (t n : ℕ) → ForcedTo m g log force t n → IsSiteOf g (T (tm_no n))
+pub one_forced : (m m2 : Sites) (g : Input) (log : Log) (force : Force) (t n : ℕ) → ForcedTo m g log force t n → IsSiteOf g (T (tm_no n))
     → FitsForce g.catalogue force t → ForceLaw m m2 force t n → OthersLaw m m2 n → ForcedTo m2 g log force t (n + 1)
 one_forced m m2 g log force t n f here fits law stay = record {
   forced = λ k low high there. elim (cases_lt k n) [
@@ -56,7 +56,7 @@ one_forced m m2 g log force t n f here fits law stay = record {
 }
 
 -- behind the last number all stand for what they are to stand for
-pub all_forced : (m : Sites) (g : Given) (log : Log) (force : Force) (t n : ℕ)
+pub all_forced : (m : Sites) (g : Input) (log : Log) (force : Force) (t n : ℕ)
     → n ≡ g.catalogue.tms + 1 → ForcedTo m g log force t n → AreForced m g log force t
 all_forced m g log force t n e f U here = f.others U (λ k q. cc) here
 all_forced m g log force t n e f (T k) here = let r = t_within g k here in f.forced k.0 r.0 (let high = r.1 in omega (arith, e, high)) here

@@ -1,23 +1,23 @@
 -- How many messages of a link are handed over, by what is delivered and what is kept.
-use Rattle.sdd_world.proofs.All.{Calm, D, DmNo, Given, IsLinkOf, IsSiteOf, Log, Site, T, TmNo, U, World, ap, arith, delivered, false, handed, is_down, kept_from, length, link_of, link_parts, mailbox_at, not, refl, sym, takes_part, true, ℕ, ◌+◌, ◌-◌, ◌∙◌, ◌≡◌}
+use Rattle.sdd_world.proofs.All.{Calm, D, DmNo, Input, IsLinkOf, IsSiteOf, Log, Site, T, TmNo, U, World, ap, arith, delivered, false, handed, is_down, kept_from, length, link_of, link_parts, mailbox_at, not, refl, sym, takes_part, true, ℕ, ◌+◌, ◌-◌, ◌∙◌, ◌≡◌}
 
-pub site_linked : (g : Given) (a b : Site) → IsLinkOf g a b → IsSiteOf g b
+pub site_linked : (g : Input) (a b : Site) → IsLinkOf g a b → IsSiteOf g b
 site_linked g a b l = (link_parts g.catalogue.tms g.catalogue.dms a b l).to
 
 -- to a site that takes part all is handed over that is delivered
-handed_part : (w : World) (g : Given) (log : Log) (a b : Site) (count : ℕ) → takes_part b log ≡ true → Calm w g log
+handed_part : (w : World) (g : Input) (log : Log) (a b : Site) (count : ℕ) → takes_part b log ≡ true → Calm w g log
     → count ≡ delivered (link_of a b log).there → count ≡ handed a b log
 handed_part w g log a b count p calm e = e ∙ sym (calm.rests.handed_all a b p)
 
-pub handed_u : (w : World) (g : Given) (log : Log) (a : Site) (count : ℕ) → Calm w g log
+pub handed_u : (w : World) (g : Input) (log : Log) (a : Site) (count : ℕ) → Calm w g log
     → count ≡ delivered (link_of a U log).there → count ≡ handed a U log
 handed_u w g log a count calm e = handed_part w g log a U count refl calm e
 
-pub handed_t : (w : World) (g : Given) (log : Log) (a : Site) (t : TmNo) (count : ℕ) → Calm w g log
+pub handed_t : (w : World) (g : Input) (log : Log) (a : Site) (t : TmNo) (count : ℕ) → Calm w g log
     → count ≡ delivered (link_of a (T t) log).there → count ≡ handed a (T t) log
 handed_t w g log a t count calm e = handed_part w g log a (T t) count refl calm e
 
-pub handed_d : (w : World) (g : Given) (log : Log) (a : Site) (d : DmNo) (count kept : ℕ) → IsLinkOf g a (D d) → Calm w g log
+pub handed_d : (w : World) (g : Input) (log : Log) (a : Site) (d : DmNo) (count kept : ℕ) → IsLinkOf g a (D d) → Calm w g log
     → count ≡ delivered (link_of a (D d) log).there → kept ≡ length (kept_from (mailbox_at w.spool d.0) a)
     → count - kept ≡ handed a (D d) log
 handed_d w g log a d count kept l calm e f =

@@ -1,14 +1,14 @@
 -- A message is handed over, and its module does what is due, over plain worlds.
-use Rattle.sdd_world.proofs.All.{Act, All, AllLinked, AreDue, AreLinked, Bases, Carries, D, EndsBy, Followed, Given, Hand, HandedOn, Handing, IsFirst, IsLawful, IsPast, IsSiteOf, List, Log, MaySend, Msg, Outcome, Rec, Setting, Site, Sites, Some, Spooled, StandFor, Takes, U, World, [], after_acts, ahead_of, all_facts, and_right, ap, base_of, calls_acts, calls_of, dm_no, ends_in_acts, false, first_lawful, first_next, fits, force_at, handed, hands_first, history_acts, link_parts, linked_acts, local_of, log_after, map, marks, marks_acts, next, next_in, next_of, other_acts, other_hand, own_acts, puts, puts_past, records_of, refl, remain_other, same_here, same_is, same_site, sends_of, setting_of, subst, suc, sym, true, ℕ, ◌++◌, ◌∙◌, ◌∷◌, ◌≡◌, ◌≤◌}
+use Rattle.sdd_world.proofs.All.{Act, All, AllLinked, AreDue, AreLinked, Bases, Carries, D, EndsBy, Followed, Hand, HandedOn, Handing, Input, IsFirst, IsLawful, IsPast, IsSiteOf, List, Log, MaySend, Msg, Outcome, Rec, Setting, Site, Sites, Some, Spooled, StandFor, Takes, U, World, [], after_acts, ahead_of, all_facts, and_right, ap, base_of, calls_acts, calls_of, dm_no, ends_in_acts, false, first_lawful, first_next, fits, force_at, handed, hands_first, history_acts, link_parts, linked_acts, local_of, log_after, map, marks, marks_acts, next, next_in, next_of, other_acts, other_hand, own_acts, puts, puts_past, records_of, refl, remain_other, same_here, same_is, same_site, sends_of, setting_of, subst, suc, sym, true, ℕ, ◌++◌, ◌∙◌, ◌∷◌, ◌≡◌, ◌≤◌}
 use Rattle.sdd_world.proofs.Parting.{ahead_acts, events_before, redeclares_acts, spooled_acts, spooled_on}
 use Rattle.sdd_obligations.specs.site_module.SiteLog as site
 
-pub due_same : (g : Given) (b : Site) (bases : Bases) (l : site.Log) (acts : List Act)
+pub due_same : (g : Input) (b : Site) (bases : Bases) (l : site.Log) (acts : List Act)
     → AreDue (next_of b (setting_of g b) bases) l acts → AreDue (next_in g b bases) l acts
 due_same g U bases l acts h = h
 due_same g _ bases l acts h = h
 
-pub are_linked : (g : Given) (at : Site) (sends : List (Site × Msg)) → AllLinked g at sends → AreLinked g.catalogue.tms g.catalogue.dms at sends
+pub are_linked : (g : Input) (at : Site) (sends : List (Site × Msg)) → AllLinked g at sends → AreLinked g.catalogue.tms g.catalogue.dms at sends
 are_linked g at [] h = tt
 are_linked g at (s ∷ sends) h = (h.0, are_linked g at sends h.1)
 
@@ -19,10 +19,10 @@ here_at x b e P h = subst P (sym e) h
 pub at_log : (P : site.Log → Type 0) (l k : site.Log) → l ≡ k → P k → P l
 at_log P l k e h = subst P (sym e) h
 
-own_hand : (g : Given) (a b : Site) (n : ℕ) (m : Msg) (log : Log) → local_of g b (Hand a b n m ∷ log) ≡ site.Handed a m ∷ local_of g b log
+own_hand : (g : Input) (a b : Site) (n : ℕ) (m : Msg) (log : Log) → local_of g b (Hand a b n m ∷ log) ≡ site.Handed a m ∷ local_of g b log
 own_hand g a b n m log = rw (same_here b) refl
 
-module _ (w : World) (g : Given) (log : Log) (a b : Site) (m : Msg) (kept : Site → List Msg) (rest : List Msg)
+module _ (w : World) (g : Input) (log : Log) (a b : Site) (m : Msg) (kept : Site → List Msg) (rest : List Msg)
     (h : Handing w g log b kept) (f : IsFirst g kept a b m rest) where
   abbrev handed_log : Log
   handed_log = Hand a b (suc (handed a b log)) m ∷ log

@@ -1,5 +1,5 @@
 -- The sites of modules and of transactions exist.
-use Rattle.sdd_world.proofs.All.{Bool, Catalogue, D, DmNo, Fits, Given, IsSiteOf, IsSound, List, Log, None, Option, Some, T, TmNo, Txn, U, ap, class_for, false, force_at, get_or, home_of, if◌then◌else◌, is_site, last_home, length, redeclares, refl, slice_get, slice_get-get_or, slice_get_past, subst, sym, true, txn_at, ℕ, ◌-◌, ◌<◌, ◌==◌, ◌∙◌, ◌≡◌, ◌≤◌}
+use Rattle.sdd_world.proofs.All.{Bool, Catalogue, D, DmNo, Fits, Input, IsSiteOf, IsSound, List, Log, None, Option, Some, T, TmNo, Txn, U, ap, class_for, false, force_at, get_or, home_of, if◌then◌else◌, is_site, last_home, length, redeclares, refl, slice_get, slice_get-get_or, slice_get_past, subst, sym, true, txn_at, ℕ, ◌-◌, ◌<◌, ◌==◌, ◌∙◌, ◌≡◌, ◌≤◌}
 use Rattle.sdd_world.proofs.Turning.{t_site as within}
 
 pub is_dm : (cat : Catalogue) (d : DmNo) → 1 ≤ d.0 → d.0 ≤ cat.dms → is_site cat.tms cat.dms (D d) ≡ true
@@ -17,17 +17,17 @@ home_there cat era (Some txn) f =
     is_home cat txn.tm (class_for era txn == 0) here.0 here.1
 
 -- of what is given on a catalogue
-pub dm_of : (g : Given) (cat : Catalogue) (d : DmNo) → g.catalogue ≡ cat → 1 ≤ d.0 → d.0 ≤ cat.dms → IsSiteOf g (D d)
+pub dm_of : (g : Input) (cat : Catalogue) (d : DmNo) → g.catalogue ≡ cat → 1 ≤ d.0 → d.0 ≤ cat.dms → IsSiteOf g (D d)
 dm_of g cat d same low high = is_dm g.catalogue d low (subst (λ (k : Catalogue). d.0 ≤ k.dms) (sym same) high)
 
-pub last_home_there : (g : Given) (log : Log) (n : ℕ) → IsSound g → IsSiteOf g (last_home g log n)
+pub last_home_there : (g : Input) (log : Log) (n : ℕ) → IsSound g → IsSiteOf g (last_home g log n)
 last_home_there g log n s = home_there g.catalogue (force_at g (redeclares log)).catalogue (txn_at g n) (s.txns_fit n)
 
 -- the transaction that is read at a place
-pub txn_read : (g : Given) (n i : ℕ) (txns xs : List Txn) (txn : Txn) → txns ≡ g.txns → xs ≡ txns → i ≡ n - 1 → i < length xs → txn ≡ get_or xs i txn
+pub txn_read : (g : Input) (n i : ℕ) (txns xs : List Txn) (txn : Txn) → txns ≡ g.txns → xs ≡ txns → i ≡ n - 1 → i < length xs → txn ≡ get_or xs i txn
     → txn_at g n ≡ Some txn
 txn_read g n i txns xs txn same is at l e =
     subst (λ k. slice_get g.txns k ≡ Some txn) at (subst (λ ys. slice_get ys i ≡ Some txn) (is ∙ same) (slice_get-get_or xs i txn l ∙ ap (λ x. Some x) (sym e)))
 
-pub no_txn : (g : Given) (n i : ℕ) (txns xs : List Txn) → txns ≡ g.txns → xs ≡ txns → i ≡ n - 1 → length xs ≤ i → txn_at g n ≡ None
+pub no_txn : (g : Input) (n i : ℕ) (txns xs : List Txn) → txns ≡ g.txns → xs ≡ txns → i ≡ n - 1 → length xs ≤ i → txn_at g n ≡ None
 no_txn g n i txns xs same is at l = subst (λ k. slice_get g.txns k ≡ None) at (subst (λ ys. slice_get ys i ≡ None) (is ∙ same) (slice_get_past xs i l))

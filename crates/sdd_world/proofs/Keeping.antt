@@ -1,5 +1,5 @@
 -- Messages are kept for a module that is down, and handed over when it comes up.
-use Rattle.sdd_world.proofs.All.{Carries, D, Deliver, DmNo, Given, Happened, IsBelow, IsLinkOf, IsSender, IsSiteOf, Keeping, KeepsFor, List, Log, Mailbox, Mark, Marked, Messages, Msg, NetValue, OnlyAt, Remain, Site, Spooled, T, U, World, [], and_left, and_right, ap, append-nil, append_assoc, arith, calls_of, delivers_kept, delivery, dm_no, eq-eqb, eqb-true, false, from_one, if◌then◌else◌, is_down, kept_from, leb-true, length, link_of, link_parts, mailbox_at, nat_le, no_items, none_of_one as no_more, not, number_of_t, numbered, refl, remain_beside, remain_more, same_is, same_site, subst, suc, sym, takes_part, true, zero, ℕ, ◌++◌, ◌<◌, ◌∙◌, ◌∷◌, ◌≡◌, ◌≢◌, ◌≤◌}
+use Rattle.sdd_world.proofs.All.{Carries, D, Deliver, DmNo, Happened, Input, IsBelow, IsLinkOf, IsSender, IsSiteOf, Keeping, KeepsFor, List, Log, Mailbox, Mark, Marked, Messages, Msg, NetValue, OnlyAt, Remain, Site, Spooled, T, U, World, [], and_left, and_right, ap, append-nil, append_assoc, arith, calls_of, delivers_kept, delivery, dm_no, eq-eqb, eqb-true, false, from_one, if◌then◌else◌, is_down, kept_from, leb-true, length, link_of, link_parts, mailbox_at, nat_le, no_items, none_of_one as no_more, not, number_of_t, numbered, refl, remain_beside, remain_more, same_is, same_site, subst, suc, sym, takes_part, true, zero, ℕ, ◌++◌, ◌<◌, ◌∙◌, ◌∷◌, ◌≡◌, ◌≢◌, ◌≤◌}
 use Rattle.sdd_world.proofs.Marking.{marked_plain}
 use Rattle.sdd_world.proofs.Parting.{spooled_on}
 use Rattle.sdd_obligations.specs.net.Mailboxes.{Puts}
@@ -7,20 +7,20 @@ use Rattle.std.proofs.lemmas.Bool.{and_parts}
 
 -- the numbers of data modules
 
-pub dm_within : (g : Given) (d : DmNo) → IsSiteOf g (D d) → (1 ≤ d.0) × (d.0 ≤ g.catalogue.dms)
+pub dm_within : (g : Input) (d : DmNo) → IsSiteOf g (D d) → (1 ≤ d.0) × (d.0 ≤ g.catalogue.dms)
 dm_within g d h = let p = and_parts (nat_le 1 d.0) (nat_le d.0 g.catalogue.dms) h in (leb-true 1 d.0 p.0, leb-true d.0 g.catalogue.dms p.1)
 
-pub first_in : (g : Given) (log : Log) (boxes : List (Mailbox Msg)) (d : DmNo) (busy : Site) → IsSiteOf g (D d) → Spooled g log boxes busy → 1 ≤ d.0
+pub first_in : (g : Input) (log : Log) (boxes : List (Mailbox Msg)) (d : DmNo) (busy : Site) → IsSiteOf g (D d) → Spooled g log boxes busy → 1 ≤ d.0
 first_in g log boxes d busy h s = (dm_within g d h).0
 
-pub last_in : (g : Given) (log : Log) (boxes : List (Mailbox Msg)) (d : DmNo) (busy : Site) → IsSiteOf g (D d) → Spooled g log boxes busy → d.0 ≤ length boxes
+pub last_in : (g : Input) (log : Log) (boxes : List (Mailbox Msg)) (d : DmNo) (busy : Site) → IsSiteOf g (D d) → Spooled g log boxes busy → d.0 ≤ length boxes
 last_in g log boxes d busy h s = rw s.count (dm_within g d h).1
 
-pub down_of : (g : Given) (log : Log) (boxes : List (Mailbox Msg)) (d : DmNo) → IsSiteOf g (D d)
+pub down_of : (g : Input) (log : Log) (boxes : List (Mailbox Msg)) (d : DmNo) → IsSiteOf g (D d)
     → Spooled g log boxes U → (mailbox_at boxes d.0).down ≡ is_down d.0 log
 down_of g log boxes d h s = (s.each d.0 h refl).down_is
 
-pub part_of : (g : Given) (log : Log) (boxes : List (Mailbox Msg)) (d : DmNo) → IsSiteOf g (D d)
+pub part_of : (g : Input) (log : Log) (boxes : List (Mailbox Msg)) (d : DmNo) → IsSiteOf g (D d)
     → Spooled g log boxes U → (mailbox_at boxes d.0).down ≡ false → takes_part (D d) log ≡ true
 part_of g log boxes d h s e = ap not (sym (down_of g log boxes d h s) ∙ e)
 
@@ -29,7 +29,7 @@ t_below zero size most p e = absurd (let q = p.0 in omega (arith, q))
 t_below (suc n) size most p e = let q = p.1 in omega (arith, q, e)
 
 -- senders of a module have a place in its mailbox
-pub sender_of : (g : Given) (from : Site) (d : ℕ) (b : Mailbox Msg) → IsLinkOf g from (D (dm_no d)) → length b.queues ≡ suc g.catalogue.tms → IsSender b from
+pub sender_of : (g : Input) (from : Site) (d : ℕ) (b : Mailbox Msg) → IsLinkOf g from (D (dm_no d)) → length b.queues ≡ suc g.catalogue.tms → IsSender b from
 sender_of g U d b l e = let z : 0 < length b.queues = omega (arith, e) in z
 sender_of g (T n) d b l e = t_below n.0 (length b.queues) g.catalogue.tms
     (numbered n.0 g.catalogue.tms (link_parts g.catalogue.tms g.catalogue.dms (T n) (D (dm_no d)) l).from) e
@@ -39,7 +39,7 @@ pub same_dm : (e d : ℕ) → same_site (D (dm_no e)) (D (dm_no d)) ≡ false �
 same_dm e d f = λ p. (let t : same_site (D (dm_no e)) (D (dm_no d)) ≡ true = eq-eqb e d p in let no : true ≡ false = sym t ∙ f in cc)
 
 -- the other mailboxes stay
-others_stay : (g : Given) (log : Log) (old new : List (Mailbox Msg)) (d : ℕ) → length new ≡ length old
+others_stay : (g : Input) (log : Log) (old new : List (Mailbox Msg)) (d : ℕ) → length new ≡ length old
     → OnlyAt old new d → Spooled g log old (D (dm_no d)) → Spooled g log new (D (dm_no d))
 others_stay g log old new d count only s = record {
   count = count ∙ s.count;
@@ -55,7 +55,7 @@ moved from x m rest old new f h =
     ] refl
 
 -- a message is put
-pub put_one : (g : Given) (log : Log) (old new : List (Mailbox Msg)) (from : Site) (d : ℕ)
+pub put_one : (g : Input) (log : Log) (old new : List (Mailbox Msg)) (from : Site) (d : ℕ)
     (q rest : List Msg) (m : Msg) → q ≡ m ∷ rest → Keeping g log old from d q
     → Puts (mailbox_at old d) (mailbox_at new d) from m → length new ≡ length old → OnlyAt old new d → Keeping g log new from d rest
 put_one g log old new from d q rest m e k p count only = record {
@@ -75,7 +75,7 @@ put_one g log old new from d q rest m e k p count only = record {
 }
 
 -- messages come for a module that is down
-pub keeping_begins : (w : World) (g : Given) (log : Log) (a : Site) (d : ℕ) (k : ℕ)
+pub keeping_begins : (w : World) (g : Input) (log : Log) (a : Site) (d : ℕ) (k : ℕ)
     (messages : List Msg) → Marked w g log (Deliver a (D (dm_no d)) k)
     → is_down d log ≡ true
     → delivery k (link_of a (D (dm_no d)) log) ≡ Messages messages → Keeping g (Mark (Deliver a (D (dm_no d)) k) ∷ log) w.spool a d messages
@@ -107,7 +107,7 @@ keeping_begins w g log a d k messages m down is =
     }
 
 -- all are put, and all mailboxes stand
-kept_box : (g : Given) (log : Log) (boxes : List (Mailbox Msg)) (a : Site) (d : ℕ) → Keeping g log boxes a d [] → KeepsFor g log d (mailbox_at boxes d)
+kept_box : (g : Input) (log : Log) (boxes : List (Mailbox Msg)) (a : Site) (d : ℕ) → Keeping g log boxes a d [] → KeepsFor g log d (mailbox_at boxes d)
 kept_box g log boxes a d k = record {
   down_is = k.box_down ∙ sym k.is_down;
   senders = k.senders;
@@ -116,7 +116,7 @@ kept_box g log boxes a d k = record {
   empty = λ p x. (let no : true ≡ false = sym k.is_down ∙ p in cc);
 }
 
-pub all_kept : (g : Given) (log : Log) (boxes : List (Mailbox Msg)) (a : Site) (d : ℕ) → Keeping g log boxes a d [] → Spooled g log boxes U
+pub all_kept : (g : Input) (log : Log) (boxes : List (Mailbox Msg)) (a : Site) (d : ℕ) → Keeping g log boxes a d [] → Spooled g log boxes U
 all_kept g log boxes a d k = record {
   count = k.others.count;
   each = λ e here apart.
@@ -126,7 +126,7 @@ all_kept g log boxes a d k = record {
       ] refl;
 }
 
-pub kept_happened : (w w2 : World) (net : NetValue) (g : Given) (log : Log) (a : Site) (d : ℕ) (k : ℕ)
+pub kept_happened : (w w2 : World) (net : NetValue) (g : Input) (log : Log) (a : Site) (d : ℕ) (k : ℕ)
     (messages : List Msg) → Marked w g log (Deliver a (D (dm_no d)) k)
     → is_down d log ≡ true → delivery k (link_of a (D (dm_no d)) log) ≡ Messages messages
     → Carries net g.catalogue.tms g.catalogue.dms (calls_of (Mark (Deliver a (D (dm_no d)) k) ∷ log))
@@ -137,7 +137,7 @@ kept_happened w w2 net g log a d k messages m down is n same kept =
     (subst (λ z. Carries z g.catalogue.tms g.catalogue.dms (calls_of (Mark (Deliver a (D (dm_no d)) k) ∷ log))) (sym (ap (λ v. v.net) same)) n)
     (all_kept g (Mark (Deliver a (D (dm_no d)) k) ∷ log) w2.spool a d kept)
 
-pub all_put : (g : Given) (log : Log) (boxes : List (Mailbox Msg)) (a : Site) (d : ℕ) (queue : List Msg)
+pub all_put : (g : Input) (log : Log) (boxes : List (Mailbox Msg)) (a : Site) (d : ℕ) (queue : List Msg)
     → Keeping g log boxes a d queue → (n : ℕ) → n ≡ length queue → n ≡ 0 → Keeping g log boxes a d []
 all_put g log boxes a d queue k n e f = subst (λ q. Keeping g log boxes a d q) (no_items queue n e f) k
 

@@ -1,5 +1,5 @@
 -- Events of which nothing more is due, or that find nothing to do, over plain worlds.
-use Rattle.sdd_world.proofs.All.{All, Bool, Call, Carries, D, Down, Event, Given, Happened, IsNoTick, IsSiteOf, List, Log, Lose, Loses, Mailbox, Mark, Marked, Msg, NetValue, None, Noted, Notes, Option, Packet, Remain, Repeat, Repeats, Resend, Resends, Rests, Site, Some, Spooled, StandFor, TurnsNone, U, Up, World, [], after_mark, ap, arith, calls_of, delivered, delivered_lose, delivered_repeat, delivered_resend, dm_no, due_by, false, force_at, handed, handed_still, history, is_down, is_none, is_some, left, length, link, link_of, local_of, mark_local, marks, nat_lt, none_by_mark, note_if, packet_at, redeclares, refl, rests_marked, rests_noted, sent_stays, setting_of, slice_get, subst, suc, sym, true, unacked_none, unacked_some, ℕ, ◌++◌, ◌+◌, ◌∙◌, ◌∷◌, ◌≡◌, ◌≤◌}
+use Rattle.sdd_world.proofs.All.{All, Bool, Call, Carries, D, Down, Event, Happened, Input, IsNoTick, IsSiteOf, List, Log, Lose, Loses, Mailbox, Mark, Marked, Msg, NetValue, None, Noted, Notes, Option, Packet, Remain, Repeat, Repeats, Resend, Resends, Rests, Site, Some, Spooled, StandFor, TurnsNone, U, Up, World, [], after_mark, ap, arith, calls_of, delivered, delivered_lose, delivered_repeat, delivered_resend, dm_no, due_by, false, force_at, handed, handed_still, history, is_down, is_none, is_some, left, length, link, link_of, local_of, mark_local, marks, nat_lt, none_by_mark, note_if, packet_at, redeclares, refl, rests_marked, rests_noted, sent_stays, setting_of, slice_get, subst, suc, sym, true, unacked_none, unacked_some, ℕ, ◌++◌, ◌+◌, ◌∙◌, ◌∷◌, ◌≡◌, ◌≤◌}
 use Rattle.sdd_world.proofs.Parting.{events_before, later, same_ahead, spooled_on}
 use Rattle.sdd_world.proofs.Handing.{at_log}
 
@@ -48,7 +48,7 @@ pub record Stays (old new : World) : Type 0 where
   pub marks : new.marks ≡ old.marks
 
 -- after an event the parts stand for a longer log
-pub record Results (w2 : World) (g : Given) (log more : Log) : Type 0 where
+pub record Results (w2 : World) (g : Input) (log more : Log) : Type 0 where
   pub rests : Rests g more
   pub marks_is : marks more ≡ suc (marks log)
   pub left_is : left g.events more ≡ after_mark (left g.events log)
@@ -58,7 +58,7 @@ pub record Results (w2 : World) (g : Given) (log more : Log) : Type 0 where
   pub net : Carries w2.net g.catalogue.tms g.catalogue.dms (calls_of more)
   pub spooled : Spooled g more w2.spool U
 
-pub happened : (w w2 : World) (g : Given) (log : Log) (e : Event) (more : Log) → Marked w g log e → Stays w w2 → Results w2 g log more → Happened w2 g log
+pub happened : (w w2 : World) (g : Input) (log : Log) (e : Event) (more : Log) → Marked w g log e → Stays w w2 → Results w2 g log more → Happened w2 g log
 happened w w2 g log e more m s r = record {
   more = more;
   calm = record {
@@ -80,13 +80,13 @@ happened w w2 g log e more m s r = record {
   ahead_is = same_ahead (left g.events more) (after_mark (left g.events log)) (marks more) (suc (marks log)) r.left_is r.marks_is;
 }
 
-sites_marked : (w : World) (g : Given) (log : Log) (e : Event) → Marked w g log e → IsNoTick e → (x : Site) → IsSiteOf g x
+sites_marked : (w : World) (g : Input) (log : Log) (e : Event) → Marked w g log e → IsNoTick e → (x : Site) → IsSiteOf g x
     → StandFor w.sites x (setting_of g x) (local_of g x (Mark e ∷ log))
 sites_marked w g log e m i x here =
     at_log (StandFor w.sites x (setting_of g x)) (local_of g x (Mark e ∷ log)) (local_of g x log) (mark_local g e log x i) (m.parts.sites x here)
 
 -- an event of which nothing more is due
-pub marked_plain : (w w2 : World) (g : Given) (log : Log) (e : Event) → Marked w g log e → IsNoTick e → Rests g (Mark e ∷ log)
+pub marked_plain : (w w2 : World) (g : Input) (log : Log) (e : Event) → Marked w g log e → IsNoTick e → Rests g (Mark e ∷ log)
     → w2 ≡ record w { net = w2.net; spool = w2.spool } → Carries w2.net g.catalogue.tms g.catalogue.dms
     (calls_of (Mark e ∷ log)) → Spooled g (Mark e ∷ log) w2.spool U
     → Happened w2 g log
@@ -105,11 +105,11 @@ marked_plain w w2 g log e m i r same n s =
       spooled = s;
     })
 
-noted_spool : (g : Given) (log : Log) (boxes : List (Mailbox Msg)) → Spooled g log boxes U → Spooled g (Notes ∷ log) boxes U
+noted_spool : (g : Input) (log : Log) (boxes : List (Mailbox Msg)) → Spooled g log boxes U → Spooled g (Notes ∷ log) boxes U
 noted_spool g log boxes s = spooled_on g log (Notes ∷ log) boxes U (λ d. refl) (λ d apart x rest r. record { count = r.count; messages = r.messages }) s
 
 -- an event that finds nothing to do, and is noted
-pub marked_noted : (w w2 : World) (g : Given) (log : Log) (e : Event) → Marked w g log e → IsNoTick e → Rests g (Notes ∷ Mark e ∷ log)
+pub marked_noted : (w w2 : World) (g : Input) (log : Log) (e : Event) → Marked w g log e → IsNoTick e → Rests g (Notes ∷ Mark e ∷ log)
     → w2 ≡ record w { net = w2.net; history = w2.history; spool = w2.spool } → w2.history ≡ w.history ++ (w.marks, Noted) ∷ []
     → Carries w2.net g.catalogue.tms g.catalogue.dms (calls_of (Mark e ∷ log)) → Spooled g (Mark e ∷ log) w2.spool U → Happened w2 g log
 marked_noted w w2 g log e m i r same noted n s =
@@ -127,23 +127,23 @@ marked_noted w w2 g log e m i r same noted n s =
       spooled = noted_spool g (Mark e ∷ log) w2.spool s;
     })
 
-pub order_of : (w : World) (g : Given) (log : Log) (e : Event) → Marked w g log e → All {X = ℕ × _} (λ x. x.0 ≤ w.marks) w.history
+pub order_of : (w : World) (g : Input) (log : Log) (e : Event) → Marked w g log e → All {X = ℕ × _} (λ x. x.0 ≤ w.marks) w.history
 order_of w g log e m = rw (m.marks_are, m.parts.history_is) (later (marks log) (suc (marks log)) (history log) (omega arith) (events_before log))
 
 -- losing, repeating and resending
 
-spool_kept : (g : Given) (log : Log) (e : Event) (boxes : List (Mailbox Msg)) → TurnsNone e
+spool_kept : (g : Input) (log : Log) (e : Event) (boxes : List (Mailbox Msg)) → TurnsNone e
     → KeepsLinks e log → Spooled g log boxes U → Spooled g (Mark e ∷ log) boxes U
 spool_kept g log e boxes t k s = spooled_on g log (Mark e ∷ log) boxes U (λ d. same_downs d e log t) (λ d apart x rest r. k x (D (dm_no d)) rest r) s
 
-pub record DoesNothing (w w2 : World) (g : Given) (log : Log) (e : Event) : Type 0 where
+pub record DoesNothing (w w2 : World) (g : Input) (log : Log) (e : Event) : Type 0 where
   pub no_tick : IsNoTick e
   pub turns_none : TurnsNone e
   pub links : KeepsLinks e log
   pub same : (a b : Site) → delivered (link_of a b (Mark e ∷ log)).there ≡ delivered (link_of a b log).there
   pub net : Carries w2.net g.catalogue.tms g.catalogue.dms (calls_of (Mark e ∷ log))
 
-pub did : (w w2 : World) (g : Given) (log : Log) (e : Event) → Marked w g log e → DoesNothing w w2 g log e → due_by g e log ≡ None
+pub did : (w w2 : World) (g : Input) (log : Log) (e : Event) → Marked w g log e → DoesNothing w w2 g log e → due_by g e log ≡ None
     → w2 ≡ record w { net = w2.net } → Happened w2 g log
 did w w2 g log e m q d same =
     marked_plain w w2 g log e m q.no_tick
@@ -152,14 +152,14 @@ did w w2 g log e m q d same =
     (same ∙ ap (λ b. record w { net = w2.net; spool = b }) (sym (ap (λ v. v.spool) same))) q.net
     (subst (λ b. Spooled g (Mark e ∷ log) b U) (sym (ap (λ v. v.spool) same)) (spool_kept g log e w.spool q.turns_none q.links m.spooled))
 
-pub noted : (w w2 : World) (g : Given) (log : Log) (e : Event) → Marked w g log e → DoesNothing w w2 g log e → due_by g e log ≡ Some Notes
+pub noted : (w w2 : World) (g : Input) (log : Log) (e : Event) → Marked w g log e → DoesNothing w w2 g log e → due_by g e log ≡ Some Notes
     → w2 ≡ record w { net = w2.net; history = w2.history } → w2.history ≡ w.history ++ (w.marks, Noted) ∷ [] → Happened w2 g log
 noted w w2 g log e m q d same note =
     marked_noted w w2 g log e m q.no_tick (rests_noted g log e m.marked q.no_tick d (handed_still log e q.turns_none q.same m.marked.rests.handed_all))
     (same ∙ ap (λ b. record w { net = w2.net; history = w2.history; spool = b }) (sym (ap (λ v. v.spool) same))) note q.net
     (subst (λ b. Spooled g (Mark e ∷ log) b U) (sym (ap (λ v. v.spool) same)) (spool_kept g log e w.spool q.turns_none q.links m.spooled))
 
-pub lose_does : (w w2 : World) (g : Given) (log : Log) (a b : Site) (k : ℕ)
+pub lose_does : (w w2 : World) (g : Input) (log : Log) (a b : Site) (k : ℕ)
     → Carries w2.net g.catalogue.tms g.catalogue.dms (Loses a b k ∷ calls_of log) → DoesNothing w w2 g log (Lose a b k)
 lose_does w w2 g log a b k n = record {
   no_tick = tt;
@@ -169,7 +169,7 @@ lose_does w w2 g log a b k n = record {
   net = n;
 }
 
-pub repeat_does : (w w2 : World) (g : Given) (log : Log) (a b : Site) (k : ℕ) → Carries w2.net g.catalogue.tms g.catalogue.dms (Repeats a b k ∷ calls_of log)
+pub repeat_does : (w w2 : World) (g : Input) (log : Log) (a b : Site) (k : ℕ) → Carries w2.net g.catalogue.tms g.catalogue.dms (Repeats a b k ∷ calls_of log)
     → DoesNothing w w2 g log (Repeat a b k)
 repeat_does w w2 g log a b k n = record {
   no_tick = tt;
@@ -179,7 +179,7 @@ repeat_does w w2 g log a b k n = record {
   net = n;
 }
 
-pub resend_does : (w w2 : World) (g : Given) (log : Log) (a b : Site)
+pub resend_does : (w w2 : World) (g : Input) (log : Log) (a b : Site)
     → Carries w2.net g.catalogue.tms g.catalogue.dms (Resends a b ∷ calls_of log) → DoesNothing w w2 g log (Resend a b)
 resend_does w w2 g log a b n = record {
   no_tick = tt;
@@ -195,14 +195,14 @@ NetLaw old new c = (tms dms : ℕ) (calls : List (Call Msg)) → Carries old tms
 abbrev pub ThereLaw : NetValue → Bool → Site → Site → ℕ → Type 0
 ThereLaw old there a b k = (tms dms : ℕ) (calls : List (Call Msg)) → Carries old tms dms calls → there ≡ is_some (packet_at k (link a b calls))
 
-pub lost : (w w2 : World) (g : Given) (log : Log) (a b : Site) (k : ℕ) (there : Bool)
+pub lost : (w w2 : World) (g : Input) (log : Log) (a b : Site) (k : ℕ) (there : Bool)
     → Marked w g log (Lose a b k) → ThereLaw w.net there a b k → NetLaw w.net w2.net (Loses a b k)
     → there ≡ true → w2 ≡ record w { net = w2.net } → Happened w2 g log
 lost w w2 g log a b k there m t f e same =
     did w w2 g log (Lose a b k) m (lose_does w w2 g log a b k (f g.catalogue.tms g.catalogue.dms (calls_of log) m.parts.net))
     (note_some (packet_at k (link_of a b log)) (sym (t g.catalogue.tms g.catalogue.dms (calls_of log) m.parts.net) ∙ e)) same
 
-pub lost_nothing : (w w2 : World) (net : NetValue) (g : Given) (log : Log) (a b : Site) (k : ℕ)
+pub lost_nothing : (w w2 : World) (net : NetValue) (g : Input) (log : Log) (a b : Site) (k : ℕ)
     (there : Bool) → Marked w g log (Lose a b k) → ThereLaw w.net there a b k
     → NetLaw w.net net (Loses a b k) → there ≡ false → w2 ≡ record w { net = net; history = w2.history }
     → w2.history ≡ w.history ++ (w.marks, Noted) ∷ [] → Happened w2 g log
@@ -213,14 +213,14 @@ lost_nothing w w2 net g log a b k there m t f e same note =
     noted w w2 g log (Lose a b k) m (lose_does w w2 g log a b k (f2 g.catalogue.tms g.catalogue.dms (calls_of log) m.parts.net))
     (note_none (packet_at k (link_of a b log)) (sym (t g.catalogue.tms g.catalogue.dms (calls_of log) m.parts.net) ∙ e)) same2 note
 
-pub repeated : (w w2 : World) (g : Given) (log : Log) (a b : Site) (k : ℕ) (there : Bool)
+pub repeated : (w w2 : World) (g : Input) (log : Log) (a b : Site) (k : ℕ) (there : Bool)
     → Marked w g log (Repeat a b k) → ThereLaw w.net there a b k → NetLaw w.net w2.net (Repeats a b k)
     → there ≡ true → w2 ≡ record w { net = w2.net } → Happened w2 g log
 repeated w w2 g log a b k there m t f e same =
     did w w2 g log (Repeat a b k) m (repeat_does w w2 g log a b k (f g.catalogue.tms g.catalogue.dms (calls_of log) m.parts.net))
     (note_some (packet_at k (link_of a b log)) (sym (t g.catalogue.tms g.catalogue.dms (calls_of log) m.parts.net) ∙ e)) same
 
-pub repeated_nothing : (w w2 : World) (net : NetValue) (g : Given) (log : Log) (a b : Site) (k : ℕ)
+pub repeated_nothing : (w w2 : World) (net : NetValue) (g : Input) (log : Log) (a b : Site) (k : ℕ)
     (there : Bool) → Marked w g log (Repeat a b k) → ThereLaw w.net there a b k
     → NetLaw w.net net (Repeats a b k) → there ≡ false → w2 ≡ record w { net = net; history = w2.history }
     → w2.history ≡ w.history ++ (w.marks, Noted) ∷ [] → Happened w2 g log
@@ -235,14 +235,14 @@ abbrev pub SomeLaw : NetValue → Bool → Site → Site → Type 0
 SomeLaw old some a b = (tms dms : ℕ) (calls : List (Call Msg)) → Carries old tms dms calls
     → some ≡ nat_lt (link a b calls).there.acked (length (link a b calls).there.sent)
 
-pub resent : (w w2 : World) (g : Given) (log : Log) (a b : Site) (some : Bool)
+pub resent : (w w2 : World) (g : Input) (log : Log) (a b : Site) (some : Bool)
     → Marked w g log (Resend a b) → SomeLaw w.net some a b → NetLaw w.net w2.net (Resends a b)
     → some ≡ true → w2 ≡ record w { net = w2.net } → Happened w2 g log
 resent w w2 g log a b some m t f e same =
     did w w2 g log (Resend a b) m (resend_does w w2 g log a b (f g.catalogue.tms g.catalogue.dms (calls_of log) m.parts.net))
     (ap note_if (unacked_some (link_of a b log).there (sym (t g.catalogue.tms g.catalogue.dms (calls_of log) m.parts.net) ∙ e))) same
 
-pub resent_nothing : (w w2 : World) (net : NetValue) (g : Given) (log : Log) (a b : Site) (some : Bool)
+pub resent_nothing : (w w2 : World) (net : NetValue) (g : Input) (log : Log) (a b : Site) (some : Bool)
     → Marked w g log (Resend a b) → SomeLaw w.net some a b → NetLaw w.net net (Resends a b) → some ≡ false → w2 ≡ record w { net = net; history = w2.history }
     → w2.history ≡ w.history ++ (w.marks, Noted) ∷ [] → Happened w2 g log
 resent_nothing w w2 net g log a b some m t f e same note =

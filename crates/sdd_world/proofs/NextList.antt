@@ -1,5 +1,5 @@
 -- Another list of classes is put in force, once the links are quiet, over plain worlds.
-use Rattle.sdd_world.proofs.All.{AllStandFor, AreForced, Carries, Catalogue, EndsBy, EndsIn, Entry, Event, FitsForce, Force, Forcing, Given, IsNextList, IsSettled, List, Log, MAX_RUN_EVENTS, Redeclare, Redeclares, Sites, Spooled, StandFor, StandsFor, U, World, [], all_facts, ap, arith, calls_of, count_join, force_at, greatest_bound, left, local_of, lt-ltb, marks, none_left, redeclare_next, redeclares, redeclares_in, redeclares_left, refl, rests_redeclared, setting_of, settles_before, subst, suc, sym, with_event, with_force, zero, ℕ, ◌+◌, ◌∙◌, ◌∷◌, ◌≡◌, ◌≢◌, ◌≤◌}
+use Rattle.sdd_world.proofs.All.{AllStandFor, AreForced, Carries, Catalogue, EndsBy, EndsIn, Entry, Event, FitsForce, Force, Forcing, Input, IsNextList, IsSettled, List, Log, MAX_RUN_EVENTS, Redeclare, Redeclares, Sites, Spooled, StandFor, StandsFor, U, World, [], all_facts, ap, arith, calls_of, count_join, force_at, greatest_bound, left, local_of, lt-ltb, marks, none_left, redeclare_next, redeclares, redeclares_in, redeclares_left, refl, rests_redeclared, setting_of, settles_before, subst, suc, sym, with_event, with_force, zero, ℕ, ◌+◌, ◌∙◌, ◌∷◌, ◌≡◌, ◌≢◌, ◌≤◌}
 use Rattle.sdd_world.proofs.Parting.{spooled_on}
 use Rattle.sdd_world.proofs.Rounds.{few, free}
 
@@ -12,10 +12,10 @@ one_in (suc n) = one_in n
 one_left : (events : List Event) → EndsIn Redeclare events → redeclares_in events ≡ 1
 one_left events e = ap redeclares_in e.1 ∙ one_in e.0
 
-pub forcing : (w : World) (g : Given) (cat : Catalogue) (table : List Entry) → IsNextList g cat table → IsSettled w (with_event g Redeclare) Redeclare
+pub forcing : (w : World) (g : Input) (cat : Catalogue) (table : List Entry) → IsNextList g cat table → IsSettled w (with_event g Redeclare) Redeclare
     → (log : Log) × Forcing w (with_event g Redeclare) log (record { catalogue = cat; table = table })
 forcing w g cat table next s =
-    let given : Given = with_event g Redeclare in
+    let given : Input = with_event g Redeclare in
     let log : Log = s.more in
     let c = s.settling.calm in
     let n = redeclare_next given log s.settling.waiting (free given log c.rests) s.settling.left_is s.settling.ends s.is_quiet in
@@ -28,7 +28,7 @@ forcing w g cat table next s =
       record { calm = c; next_is = n.0; none_behind = n.1; force_is = ap (λ k. force_at g (suc k)) done ∙ next },
     )
 
-module _ (w : World) (g : Given) (log : Log) (force : Force) (f : Forcing w g log force) where
+module _ (w : World) (g : Input) (log : Log) (force : Force) (f : Forcing w g log force) where
   -- the last number was given, so that the limit ends the log
   pub force_ends : w.marks ≡ MAX_RUN_EVENTS → EndsBy g
   force_ends last =

@@ -1,5 +1,5 @@
 -- No READ of a class that isn't the catalogue's waits at a data module.
-use Rattle.sdd_world.proofs.All.{Act, Bool, ClassView, D, Did, DmNo, Does, Fetch, Given, Hand, Handed, Home, IsDue, IsDueAt, IsLawful, Log, Mark, Msg, None, Null, Open, Option, Processes, Read, Records, Reduce, Refuses, Sends, Setting, Ship, Site, Some, Step, Submit, Submitted, Txn, View, Waits, Write, [], act_by, act_where, allowed_act, answer_of, answer_to, ap, arith, by_head, by_open, class_at_place, conds_of, dm_no, false, filter, head, head_of, head_step, if◌then◌else◌, is_asked_of, is_processing, is_wait, length, local_of, ne_eqb, next_allowed, numbers_to, option_map, pipe, refl, same_is, same_site, setting_of, slice_get, subst, sym, true, txn_at, unmet, view_of, wait_at, wait_for, waiting_at, waits, waits_acted, waits_of, with_submit, ℕ, ◌<◌, ◌||◌, ◌∙◌, ◌∷◌, ◌≡◌}
+use Rattle.sdd_world.proofs.All.{Act, Bool, ClassView, D, Did, DmNo, Does, Fetch, Hand, Handed, Home, Input, IsDue, IsDueAt, IsLawful, Log, Mark, Msg, None, Null, Open, Option, Processes, Read, Records, Reduce, Refuses, Sends, Setting, Ship, Site, Some, Step, Submit, Submitted, Txn, View, Waits, Write, [], act_by, act_where, allowed_act, answer_of, answer_to, ap, arith, by_head, by_open, class_at_place, conds_of, dm_no, false, filter, head, head_of, head_step, if◌then◌else◌, is_asked_of, is_processing, is_wait, length, local_of, ne_eqb, next_allowed, numbers_to, option_map, pipe, refl, same_is, same_site, setting_of, slice_get, subst, sym, true, txn_at, unmet, view_of, wait_at, wait_for, waiting_at, waits, waits_acted, waits_of, with_submit, ℕ, ◌<◌, ◌||◌, ◌∙◌, ◌∷◌, ◌≡◌}
 use Rattle.sdd_world.proofs.Lists.{none_chosen}
 use Rattle.sdd_obligations.specs.All.{home_of}
 use Rattle.sdd_obligations.specs.site_module.SiteLog as site
@@ -72,7 +72,7 @@ waits_submit : (c n : ℕ) (o : Option Txn) (l : site.Log) → waits c l ≡ fal
 waits_submit c n None l h = h
 waits_submit c n (Some t) l h = h
 
-module _ (g : Given) (d : DmNo) (c : ℕ) (far : length g.catalogue.classes < c) where
+module _ (g : Input) (d : DmNo) (c : ℕ) (far : length g.catalogue.classes < c) where
   pub none_waits : (log : Log) → IsLawful g log → waits c (local_of g (D d) log) ≡ false
   none_waits [] h = refl
   none_waits (Mark (Submit n) ∷ log) h = none_waits log h.1
@@ -92,12 +92,12 @@ module _ (g : Given) (d : DmNo) (c : ℕ) (far : length g.catalogue.classes < c)
   none_waits (_ ∷ log) h = none_waits log h.1
 
 -- and nothing is lacking of it
-pub none_lacks : (g : Given) (c t d : ℕ) → length g.catalogue.classes < c → (log : Log) → IsLawful g log → wait_at g log c t d ≡ None
+pub none_lacks : (g : Input) (c t d : ℕ) → length g.catalogue.classes < c → (log : Log) → IsLawful g log → wait_at g log c t d ≡ None
 none_lacks g c t d far log h =
     let at : Site = D (dm_no d) in
     let asleep : waiting_at c t (local_of g at log) ≡ None =
     ap (λ b. if b then conds_of t (head (pipe c (local_of g at log))) else None) (none_waits g (dm_no d) c far log h) in
     ap (λ o. option_map (wait_for d) (unmet (setting_of g at) (local_of g at log) o)) asleep
 
-pub no_waits : (g : Given) (c t : ℕ) → length g.catalogue.classes < c → (log : Log) → IsLawful g log → waits_of g log c t ≡ []
+pub no_waits : (g : Input) (c t : ℕ) → length g.catalogue.classes < c → (log : Log) → IsLawful g log → waits_of g log c t ≡ []
 no_waits g c t far log h = none_chosen (wait_at g log c t) (numbers_to g.catalogue.dms) (λ d. none_lacks g c t d far log h)

@@ -1,5 +1,5 @@
 -- What the parts of a world stand for, as the log goes on.
-use Rattle.sdd_world.proofs.All.{Act, Ahead, All, All-append, All-cons, All-nil, All-weaker, D, Does, Event, Given, Hand, History, KeepsFor, List, Log, Mailbox, Mark, Msg, Rec, Redeclares, Remain, Round, Site, Spooled, [], after_acts, ahead_of, arith, dm_no, false, history, is_down, is_down_acts, kept_from, left, left_acts, mailbox_at, map, marks, marks_acts, records_of_act, redeclares, refl, remain_acts, same_site, suc, sym, ℕ, ◌++◌, ◌∙◌, ◌∷◌, ◌≡◌, ◌≤◌}
+use Rattle.sdd_world.proofs.All.{Act, Ahead, All, All-append, All-cons, All-nil, All-weaker, D, Does, Event, Hand, History, Input, KeepsFor, List, Log, Mailbox, Mark, Msg, Rec, Redeclares, Remain, Round, Site, Spooled, [], after_acts, ahead_of, arith, dm_no, false, history, is_down, is_down_acts, kept_from, left, left_acts, mailbox_at, map, marks, marks_acts, records_of_act, redeclares, refl, remain_acts, same_site, suc, sym, ℕ, ◌++◌, ◌∙◌, ◌∷◌, ◌≡◌, ◌≤◌}
 
 -- no record is of a later event than the last
 
@@ -32,7 +32,7 @@ redeclares_acts at (a ∷ acts) log = redeclares_acts at acts (Does at a ∷ log
 pub same_ahead : (a b : List Event × List Event) (m n : ℕ) → a ≡ b → m ≡ n → ◌≡◌ {A = Ahead} (record { rest = a; number = m }) (record { rest = b; number = n })
 same_ahead a b m n e f = rw (e, f) refl
 
-pub ahead_acts : (g : Given) (at : Site) (acts : List Act) (log : Log) → ahead_of g (after_acts at acts log) ≡ ahead_of g log
+pub ahead_acts : (g : Input) (at : Site) (acts : List Act) (log : Log) → ahead_of g (after_acts at acts log) ≡ ahead_of g log
 ahead_acts g at acts log = same_ahead (left g.events (after_acts at acts log)) (left g.events log)
     (marks (after_acts at acts log)) (marks log) (left_acts g.events at acts log) (marks_acts at acts log)
 
@@ -41,7 +41,7 @@ ahead_acts g at acts log = same_ahead (left g.events (after_acts at acts log)) (
 pub record SameDowns (log more : Log) : Type 0 where
   pub downs : (d : ℕ) → is_down d more ≡ is_down d log
 
-pub keeps_on : (g : Given) (log more : Log) (d : ℕ) (b : Mailbox Msg) → is_down d more ≡ is_down d log
+pub keeps_on : (g : Input) (log more : Log) (d : ℕ) (b : Mailbox Msg) → is_down d more ≡ is_down d log
     → ((x : Site) (rest : List Msg) → Remain log x (D (dm_no d)) rest → Remain more x (D (dm_no d)) rest) → KeepsFor g log d b → KeepsFor g more d b
 keeps_on g log more d b same remains k = record {
   down_is = k.down_is ∙ sym same;
@@ -50,7 +50,7 @@ keeps_on g log more d b same remains k = record {
   empty = λ e x. k.empty (sym same ∙ e) x;
 }
 
-pub spooled_on : (g : Given) (log more : Log) (boxes : List (Mailbox Msg)) (busy : Site) → ((d : ℕ) → is_down d more ≡ is_down d log)
+pub spooled_on : (g : Input) (log more : Log) (boxes : List (Mailbox Msg)) (busy : Site) → ((d : ℕ) → is_down d more ≡ is_down d log)
     → ((d : ℕ) → same_site (D (dm_no d)) busy ≡ false → (x : Site) (rest : List Msg) → Remain log x (D (dm_no d)) rest → Remain more x (D (dm_no d)) rest)
     → Spooled g log boxes busy → Spooled g more boxes busy
 spooled_on g log more boxes busy same remains s = record {
@@ -58,7 +58,7 @@ spooled_on g log more boxes busy same remains s = record {
   each = λ d here apart. keeps_on g log more d (mailbox_at boxes d) (same d) (remains d apart) (s.each d here apart);
 }
 
-pub spooled_acts : (g : Given) (at : Site) (acts : List Act) (log : Log) (boxes : List (Mailbox Msg))
+pub spooled_acts : (g : Input) (at : Site) (acts : List Act) (log : Log) (boxes : List (Mailbox Msg))
     (busy : Site) → Spooled g log boxes busy → Spooled g (after_acts at acts log) boxes busy
 spooled_acts g at acts log boxes busy s =
     spooled_on g log (after_acts at acts log) boxes busy (λ d. is_down_acts d at acts log)

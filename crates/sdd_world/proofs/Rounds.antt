@@ -1,25 +1,25 @@
 -- Rounds, settles and single events, over plain worlds.
-use Rattle.sdd_world.proofs.All.{AtEach, Before, Call, Calm, Carries, EndsBy, Event, Given, Happened, IsFree, IsGood, IsPossible, IsSettled, IsSingle, IsSound, List, Log, MAX_RUN_EVENTS, Mailbox, Mark, Marked, Msg, Parts, Redeclare, Rests, Round, Rounding, Settle, Settling, Site, Some, Spooled, StandFor, StandsFor, TakesRounds, U, World, [], after_mark, all_links, ap, arith, calls_of, each_of_round, event_left, false, few_marks, in_round, lawful_grows, left, length, links, local_of, lt-ltb, marks, next, no_events_quiet, none_left, none_to_hand, one_more, quiet, refl, round, round_next, setting_of, settled, still_none, subst, suc, sym, takes_part, true, with_event, ℕ, ◌++◌, ◌+◌, ◌<◌, ◌∙◌, ◌∷◌, ◌≡◌, ◌≢◌, ◌≤◌}
+use Rattle.sdd_world.proofs.All.{AtEach, Before, Call, Calm, Carries, EndsBy, Event, Happened, Input, IsFree, IsGood, IsPossible, IsSettled, IsSingle, IsSound, List, Log, MAX_RUN_EVENTS, Mailbox, Mark, Marked, Msg, Parts, Redeclare, Rests, Round, Rounding, Settle, Settling, Site, Some, Spooled, StandFor, StandsFor, TakesRounds, U, World, [], after_mark, all_links, ap, arith, calls_of, each_of_round, event_left, false, few_marks, in_round, lawful_grows, left, length, links, local_of, lt-ltb, marks, next, no_events_quiet, none_left, none_to_hand, one_more, quiet, refl, round, round_next, setting_of, settled, still_none, subst, suc, sym, takes_part, true, with_event, ℕ, ◌++◌, ◌+◌, ◌<◌, ◌∙◌, ◌∷◌, ◌≡◌, ◌≢◌, ◌≤◌}
 use Rattle.sdd_world.proofs.Parting.{spooled_on}
 
-pub single : (g : Given) (e : Event) → IsPossible g e → IsSingle e
+pub single : (g : Input) (e : Event) → IsPossible g e → IsSingle e
 single g Settle p = absurd p
 single g Redeclare p = absurd p
 single g _ p = tt
 
-still_possible : (g : Given) (x e : Event) → IsPossible g e → IsPossible (with_event g x) e
+still_possible : (g : Input) (x e : Event) → IsPossible g e → IsPossible (with_event g x) e
 still_possible g x Settle p = absurd p
 still_possible g x Redeclare p = absurd p
 still_possible g x _ p = p
 
-pub free : (g : Given) (log : Log) → Rests g log → IsFree g log
+pub free : (g : Input) (log : Log) → Rests g log → IsFree g log
 free g log r = record { no_mark = r.no_mark; no_site = r.no_site; no_hand = none_to_hand g log r.handed_all }
 
 part_round : (b : Site) (es : List Event) (log : Log) → takes_part b (Round es ∷ log) ≡ takes_part b log
 part_round U es log = refl
 part_round _ es log = refl
 
-rests_round : (g : Given) (log : Log) (es : List Event) → Rests g log → next g log ≡ Some (Round es) → Rests g (Round es ∷ log)
+rests_round : (g : Input) (log : Log) (es : List Event) → Rests g log → next g log ≡ Some (Round es) → Rests g (Round es ∷ log)
 rests_round g log es r n = record {
   lawful = (n, r.lawful);
   within = (refl, r.within);
@@ -28,23 +28,23 @@ rests_round g log es r n = record {
   handed_all = λ a b p. r.handed_all a b (sym (part_round b es log) ∙ p);
 }
 
-rests_more : (g : Given) (e : Event) (log : Log) → Rests g log → Rests (with_event g e) log
+rests_more : (g : Input) (e : Event) (log : Log) → Rests g log → Rests (with_event g e) log
 rests_more g e log r = record { lawful = lawful_grows g e log r.lawful; within = r.within; no_mark = r.no_mark; no_site = r.no_site; handed_all = r.handed_all }
 
-spool_round : (g : Given) (es : List Event) (log : Log) (boxes : List (Mailbox Msg)) → Spooled g log boxes U → Spooled g (Round es ∷ log) boxes U
+spool_round : (g : Input) (es : List Event) (log : Log) (boxes : List (Mailbox Msg)) → Spooled g log boxes U → Spooled g (Round es ∷ log) boxes U
 spool_round g es log boxes s = spooled_on g log (Round es ∷ log) boxes U (λ d. refl) (λ d apart x rest r. record { count = r.count; messages = r.messages }) s
 
-spool_more : (g : Given) (e : Event) (log : Log) (boxes : List (Mailbox Msg)) → Spooled g log boxes U → Spooled (with_event g e) log boxes U
+spool_more : (g : Input) (e : Event) (log : Log) (boxes : List (Mailbox Msg)) → Spooled g log boxes U → Spooled (with_event g e) log boxes U
 spool_more g e log boxes s = record {
   count = s.count;
   each = λ d here apart. (let k = s.each d here apart in record { down_is = k.down_is; senders = k.senders; kept = k.kept; empty = k.empty });
 }
 
-sound_more : (g : Given) (e : Event) → IsSound g → IsSound (with_event g e)
+sound_more : (g : Input) (e : Event) → IsSound g → IsSound (with_event g e)
 sound_more g e s = record { few_tms = s.few_tms; few_dms = s.few_dms; txns_fit = s.txns_fit }
 
 -- a round begins with its events
-pub round_opened : (w : World) (g : Given) (log : Log) (e : Event) (events : List Event) → Settling w g log e → quiet (all_links g) (calls_of log) ≡ false
+pub round_opened : (w : World) (g : Input) (log : Log) (e : Event) (events : List Event) → Settling w g log e → quiet (all_links g) (calls_of log) ≡ false
     → ((tms dms : ℕ) (calls : List (Call Msg)) → Carries w.net tms dms calls → events ≡ round (links tms dms) calls)
     → Rounding w g (Round events ∷ log) e events
 round_opened w g log to events s q f =
@@ -76,26 +76,26 @@ round_opened w g log to events s q f =
           (each_of_round (IsPossible g) g.catalogue.tms g.catalogue.dms (calls_of log) (λ a b l. (l, (l, omega arith))));
     }
 
-pub round_begins : (w : World) (g : Given) (log : Log) (e : Event) (events : List Event) → Settling w g log e → quiet (all_links g) (calls_of log) ≡ false
+pub round_begins : (w : World) (g : Input) (log : Log) (e : Event) (events : List Event) → Settling w g log e → quiet (all_links g) (calls_of log) ≡ false
     → ((tms dms : ℕ) (calls : List (Call Msg)) → Carries w.net tms dms calls → events ≡ round (links tms dms) calls)
     → (more : Log) × Rounding w g more e events
 round_begins w g log to events s q f = (Round events ∷ log, round_opened w g log to events s q f)
 
-pub round_some : (w : World) (g : Given) (log : Log) (e : Event) (events : List Event) → Settling w g log e → quiet (all_links g) (calls_of log) ≡ false
+pub round_some : (w : World) (g : Input) (log : Log) (e : Event) (events : List Event) → Settling w g log e → quiet (all_links g) (calls_of log) ≡ false
     → ((tms dms : ℕ) (calls : List (Call Msg)) → Carries w.net tms dms calls → events ≡ round (links tms dms) calls) → 0 < length events
 round_some w g log to [] s q f =
     let e : round (links g.catalogue.tms g.catalogue.dms) (calls_of log) ≡ [] = sym (f g.catalogue.tms g.catalogue.dms (calls_of log) s.calm.parts.net) in
     let no : true ≡ false = sym (no_events_quiet g.catalogue.tms g.catalogue.dms (calls_of log) e) ∙ q in cc
 round_some w g log to (x ∷ events) s q f = omega arith
 
-pub round_before : (w : World) (g : Given) (log : Log) (to : Event) (events : List Event) (e : Event)
+pub round_before : (w : World) (g : Input) (log : Log) (to : Event) (events : List Event) (e : Event)
     (rest : List Event) → Rounding w g log to events → events ≡ e ∷ rest
     → Before w g log e
 round_before w g log to events e rest r same =
     let p : AtEach (IsPossible g) (e ∷ rest) = subst (λ es. AtEach (IsPossible g) es) same r.possible in
     record { calm = r.calm; next_is = in_round g log r.waiting e rest (free g log r.calm.rests) (r.left_is ∙ ap (λ es. (r.waiting, es)) same); possible = p.0 }
 
-pub round_after : (w w2 : World) (g : Given) (log : Log) (to : Event) (events : List Event) (e : Event)
+pub round_after : (w w2 : World) (g : Input) (log : Log) (to : Event) (events : List Event) (e : Event)
     (rest : List Event) → Rounding w g log to events → events ≡ e ∷ rest
     → Happened w2 g log → (more : Log) × Rounding w2 g more to rest
 round_after w w2 g log to events e rest r same h =
@@ -111,10 +111,10 @@ round_after w w2 g log to events e rest r same h =
       },
     )
 
-pub one_mark : (w w2 : World) (g : Given) (log : Log) → Calm w g log → Happened w2 g log → w2.marks ≡ suc w.marks
+pub one_mark : (w w2 : World) (g : Input) (log : Log) → Calm w g log → Happened w2 g log → w2.marks ≡ suc w.marks
 one_mark w w2 g log c h = h.calm.marks_are ∙ ap (λ a. a.number) h.ahead_is ∙ ap (λ n. suc n) (sym c.marks_are)
 
-pub round_ends : (w : World) (g : Given) (log : Log) (e : Event) (events : List Event) → Rounding w g log e events → events ≡ [] → Settling w g log e
+pub round_ends : (w : World) (g : Input) (log : Log) (e : Event) (events : List Event) → Rounding w g log e events → events ≡ [] → Settling w g log e
 round_ends w g log e events r same = record {
   calm = r.calm;
   waiting = r.waiting;
@@ -124,13 +124,13 @@ round_ends w g log e events r same = record {
 }
 
 -- a settle that is reached is carried out
-pub settle_ends : (w : World) (g : Given) → IsSettled w g Settle → (more : Log) × StandsFor w g more
+pub settle_ends : (w : World) (g : Input) → IsSettled w g Settle → (more : Log) × StandsFor w g more
 settle_ends w g s =
     let c = s.settling.calm in
     (s.more, record { calm = c; complete = settled g s.more s.settling.waiting (free g s.more c.rests) s.settling.left_is s.settling.ends s.is_quiet })
 
 -- one event more is given
-pub given_more : (w w2 : World) (g : Given) (log : Log) (e : Event) → IsGood (with_event g e)
+pub given_more : (w w2 : World) (g : Input) (log : Log) (e : Event) → IsGood (with_event g e)
     → Calm w g log → w2 ≡ record w { given = w2.given } → w2.given.items ≡ w.given.items ++ e ∷ [] → Calm w2 (with_event g e) log
 given_more w w2 g log e good c same pushed = record {
   parts = record {
@@ -149,7 +149,7 @@ given_more w w2 g log e good c same pushed = record {
   spooled = subst (λ boxes. Spooled (with_event g e) log boxes U) (sym (ap (λ v. v.spool) same)) (spool_more g e log w.spool c.spooled);
 }
 
-pub step_before : (w w2 : World) (g : Given) (log : Log) (e : Event) → IsGood (with_event g e)
+pub step_before : (w w2 : World) (g : Input) (log : Log) (e : Event) → IsGood (with_event g e)
     → StandsFor w g log → IsPossible g e → w2 ≡ record w { given = w2.given } → w2.given.items ≡ w.given.items ++ e ∷ [] → Before w2 (with_event g e) log e
 step_before w w2 g log e good s p same pushed = record {
   calm = given_more w w2 g log e good s.calm same pushed;
@@ -157,7 +157,7 @@ step_before w w2 g log e good s p same pushed = record {
   possible = still_possible g e e p;
 }
 
-pub step_after : (w w2 : World) (g : Given) (log : Log) (e : Event)
+pub step_after : (w w2 : World) (g : Input) (log : Log) (e : Event)
     → StandsFor w g log → IsPossible g e → Happened w2
     (with_event g e) log
     → (more : Log) × StandsFor w2 (with_event g e) more
@@ -170,17 +170,17 @@ step_after w w2 g log e s p h = (
   },
 )
 
-pub settle_begins : (w w2 : World) (g : Given) (log : Log) (e : Event) → TakesRounds e → IsGood (with_event g e)
+pub settle_begins : (w w2 : World) (g : Input) (log : Log) (e : Event) → TakesRounds e → IsGood (with_event g e)
     → StandsFor w g log → w2 ≡ record w { given = w2.given } → w2.given.items ≡ w.given.items ++ e ∷ [] → Settling w2 (with_event g e) log e
 settle_begins w w2 g log e rounds good s same pushed =
     let l = event_left g e log s.calm.rests.lawful s.complete in
     record { calm = given_more w w2 g log e good s.calm same pushed; waiting = l.0; left_is = l.1; rounds = rounds; ends = l.2 }
 
-pub few : (w : World) (g : Given) (log : Log) → Calm w g log → w.marks ≤ MAX_RUN_EVENTS
+pub few : (w : World) (g : Input) (log : Log) → Calm w g log → w.marks ≤ MAX_RUN_EVENTS
 few w g log c = let f : marks log ≤ MAX_RUN_EVENTS = few_marks log c.rests.within in let e : w.marks ≡ marks log = c.marks_are in omega (arith, f, e)
 
 -- the last number was given, so that the next event is beyond the limit
-pub marks_end : (w : World) (g : Given) (log : Log) (e : Event) → Before w g log e → w.marks ≡ MAX_RUN_EVENTS → EndsBy g
+pub marks_end : (w : World) (g : Input) (log : Log) (e : Event) → Before w g log e → w.marks ≡ MAX_RUN_EVENTS → EndsBy g
 marks_end w g log e b last =
     let m : w.marks ≡ marks log = b.calm.marks_are in (
       log,
@@ -194,7 +194,7 @@ marks_end w g log e b last =
     )
 
 -- an event has its number, where one is left
-pub marked_next : (w w2 : World) (g : Given) (log : Log) (e e2 : Event)
+pub marked_next : (w w2 : World) (g : Input) (log : Log) (e e2 : Event)
     → Before w g log e → e ≡ e2 → w.marks ≢ MAX_RUN_EVENTS → w2 ≡ record w { marks = w.marks + 1 } → Marked w2 g log e2
 marked_next w w2 g log e e2 b is left same =
     let parts : Parts w g log = b.calm.parts in

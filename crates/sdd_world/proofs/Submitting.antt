@@ -1,5 +1,5 @@
 -- A transaction is given to its module, which does what is due, over plain worlds.
-use Rattle.sdd_world.proofs.All.{Act, All, AreDue, AreLinked, Bases, Carries, EndsBy, Fits, Followed, Force, Given, Happened, IsClassAt, IsLawful, IsPast, IsSiteOf, List, Log, Mailbox, Mark, Marked, MaySend, Msg, Outcome, Rec, Setting, Site, Sites, Some, Spooled, StandFor, Submission, Submit, Submits, T, Txn, TxnNo, U, World, [], acts_lawful, after_acts, all_facts, ap, append_assoc, arith, base_of, calls_acts, calls_of, class_for, ends_in_acts, false, fits_in_era, fits_submit, force_at, forced_is, get_or, history, history_acts, home_in, home_of, left_acts, linked_acts, listed, local_of, log_after, map, mark_within, marks, marks_acts, next_in, next_of, other_acts, other_local, own_acts, puts, puts_past, records_of, redeclares, refl, same_is, same_site, sends_of, setting_of, slice_get, submits_and_acts, submitted, submitted_local, submitted_within, subst, suc, sym, true, txn_at, zero, ℕ, ◌++◌, ◌-◌, ◌∙◌, ◌∷◌, ◌≡◌, ◌≤◌}
+use Rattle.sdd_world.proofs.All.{Act, All, AreDue, AreLinked, Bases, Carries, EndsBy, Fits, Followed, Force, Happened, Input, IsClassAt, IsLawful, IsPast, IsSiteOf, List, Log, Mailbox, Mark, Marked, MaySend, Msg, Outcome, Rec, Setting, Site, Sites, Some, Spooled, StandFor, Submission, Submit, Submits, T, Txn, TxnNo, U, World, [], acts_lawful, after_acts, all_facts, ap, append_assoc, arith, base_of, calls_acts, calls_of, class_for, ends_in_acts, false, fits_in_era, fits_submit, force_at, forced_is, get_or, history, history_acts, home_in, home_of, left_acts, linked_acts, listed, local_of, log_after, map, mark_within, marks, marks_acts, next_in, next_of, other_acts, other_local, own_acts, puts, puts_past, records_of, redeclares, refl, same_is, same_site, sends_of, setting_of, slice_get, submits_and_acts, submitted, submitted_local, submitted_within, subst, suc, sym, true, txn_at, zero, ℕ, ◌++◌, ◌-◌, ◌∙◌, ◌∷◌, ◌≡◌, ◌≤◌}
 use Rattle.sdd_world.proofs.Handing.{are_linked, at_log, due_same, here_at}
 use Rattle.sdd_world.proofs.Marking.{happened}
 use Rattle.sdd_world.proofs.Parting.{events_before, later, redeclares_acts, spooled_acts, spooled_on}
@@ -11,11 +11,11 @@ read_at [] i x y e h = cc
 read_at (z ∷ xs) zero x y e h = ap (λ v. Some v) (sym h)
 read_at (z ∷ xs) (suc i) x y e h = read_at xs i x y e h
 
-spool_submitted : (g : Given) (n : TxnNo) (log : Log) (boxes : List (Mailbox Msg)) → Spooled g log boxes U → Spooled g (submitted g n log) boxes U
+spool_submitted : (g : Input) (n : TxnNo) (log : Log) (boxes : List (Mailbox Msg)) → Spooled g log boxes U → Spooled g (submitted g n log) boxes U
 spool_submitted g n log boxes s = spooled_on g log (submitted g n log) boxes U (λ d. refl)
     (λ d apart x rest r. record { count = r.count; messages = r.messages }) s
 
-module _ (w : World) (g : Given) (log : Log) (n : TxnNo) (m : Marked w g log (Submit n)) where
+module _ (w : World) (g : Input) (log : Log) (n : TxnNo) (m : Marked w g log (Submit n)) where
   abbrev home : Site
   home = home_in g n log
 

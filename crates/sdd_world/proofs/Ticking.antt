@@ -1,21 +1,21 @@
 -- The clock of a transaction module goes on, over plain worlds.
-use Rattle.sdd_world.proofs.All.{Given, Happened, IsSiteOf, List, Log, Mailbox, Mark, Marked, Msg, Setting, Site, Sites, Spooled, StandFor, T, Tick, Ticked, TmNo, U, World, all_facts, false, fits_tick, handed_still, local_of, refl, rests_marked, same_here, same_is, same_site, setting_of, ticked_none, true, ℕ, ◌∷◌, ◌≡◌}
+use Rattle.sdd_world.proofs.All.{Happened, Input, IsSiteOf, List, Log, Mailbox, Mark, Marked, Msg, Setting, Site, Sites, Spooled, StandFor, T, Tick, Ticked, TmNo, U, World, all_facts, false, fits_tick, handed_still, local_of, refl, rests_marked, same_here, same_is, same_site, setting_of, ticked_none, true, ℕ, ◌∷◌, ◌≡◌}
 use Rattle.sdd_world.proofs.Handing.{at_log, here_at}
 use Rattle.sdd_world.proofs.Marking.{happened}
 use Rattle.sdd_world.proofs.Parting.{spooled_on}
 use Rattle.sdd_obligations.specs.site_module.SiteLog as site
 
-own_tick : (g : Given) (t : TmNo) (n : ℕ) (log : Log) → local_of g (T t) (Mark (Tick t n) ∷ log) ≡ Ticked n ∷ local_of g (T t) log
+own_tick : (g : Input) (t : TmNo) (n : ℕ) (log : Log) → local_of g (T t) (Mark (Tick t n) ∷ log) ≡ Ticked n ∷ local_of g (T t) log
 own_tick g t n log = rw (same_here (T t)) refl
 
-other_tick : (g : Given) (x : Site) (t : TmNo) (n : ℕ) (log : Log) → same_site x (T t) ≡ false → local_of g x (Mark (Tick t n) ∷ log) ≡ local_of g x log
+other_tick : (g : Input) (x : Site) (t : TmNo) (n : ℕ) (log : Log) → same_site x (T t) ≡ false → local_of g x (Mark (Tick t n) ∷ log) ≡ local_of g x log
 other_tick g x t n log e = rw e refl
 
-spool_ticked : (g : Given) (t : TmNo) (n : ℕ) (log : Log) (boxes : List (Mailbox Msg)) → Spooled g log boxes U → Spooled g (Mark (Tick t n) ∷ log) boxes U
+spool_ticked : (g : Input) (t : TmNo) (n : ℕ) (log : Log) (boxes : List (Mailbox Msg)) → Spooled g log boxes U → Spooled g (Mark (Tick t n) ∷ log) boxes U
 spool_ticked g t n log boxes s = spooled_on g log (Mark (Tick t n) ∷ log) boxes U (λ d. refl)
     (λ d apart x rest r. record { count = r.count; messages = r.messages }) s
 
-module _ (w : World) (g : Given) (log : Log) (t : TmNo) (n : ℕ) (m : Marked w g log (Tick t n)) where
+module _ (w : World) (g : Input) (log : Log) (t : TmNo) (n : ℕ) (m : Marked w g log (Tick t n)) where
   tick_fits : fits_tick (T t) (setting_of g (T t)) (local_of g (T t) log) n
   tick_fits = all_facts.tick g m.parts.good log t.0 n m.marked.rests.lawful m.marked.rests.within m.marked.next_is
 

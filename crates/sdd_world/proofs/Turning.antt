@@ -1,5 +1,5 @@
 -- A data module goes down, and comes up: what was kept for it is then handed over.
-use Rattle.sdd_world.proofs.All.{AllHanded, Bool, Carries, Cut, D, DmNo, Down, Event, Given, HandedOn, Handing, Happened, IsBefore, IsBelow, IsFirst, IsLowest, IsNoTick, IsSender, IsSiteOf, KeepsFor, List, Log, Mailbox, Mark, Marked, Msg, Noted, Notes, OnlyAt, Parts, Remain, Rests, Risen, Rising, Site, Some, Spooled, StandFor, T, Takes, TakesFrom, U, Up, World, [], ahead_of, all_handed, and_from, ap, arith, calls_of, comes_up, cut_at_t, dm_no, eq-eqb, eqb-true, false, goes_down, if◌then◌else◌, is_down, is_down_already, is_site, isnt_down, kept_count, kept_from, le-leb, length, local_of, mailbox_at, nat_le, none_remains, not, not_false, number_of_t, refl, same_site, setting_of, sites, subst, suc, sym, tm_no, true, up_of as not_true, zero, ℕ, ◌&&◌, ◌++◌, ◌<◌, ◌==◌, ◌∙◌, ◌∷◌, ◌≡◌, ◌≢◌, ◌≤◌}
+use Rattle.sdd_world.proofs.All.{AllHanded, Bool, Carries, Cut, D, DmNo, Down, Event, HandedOn, Handing, Happened, Input, IsBefore, IsBelow, IsFirst, IsLowest, IsNoTick, IsSender, IsSiteOf, KeepsFor, List, Log, Mailbox, Mark, Marked, Msg, Noted, Notes, OnlyAt, Parts, Remain, Rests, Risen, Rising, Site, Some, Spooled, StandFor, T, Takes, TakesFrom, U, Up, World, [], ahead_of, all_handed, and_from, ap, arith, calls_of, comes_up, cut_at_t, dm_no, eq-eqb, eqb-true, false, goes_down, if◌then◌else◌, is_down, is_down_already, is_site, isnt_down, kept_count, kept_from, le-leb, length, local_of, mailbox_at, nat_le, none_remains, not, not_false, number_of_t, refl, same_site, setting_of, sites, subst, suc, sym, tm_no, true, up_of as not_true, zero, ℕ, ◌&&◌, ◌++◌, ◌<◌, ◌==◌, ◌∙◌, ◌∷◌, ◌≡◌, ◌≢◌, ◌≤◌}
 use Rattle.sdd_world.proofs.Marking.{marked_noted, marked_plain}
 use Rattle.sdd_world.proofs.Keeping.{dm_within, same_dm as apart_of}
 use Rattle.sdd_world.proofs.Parting.{keeps_on as still_box}
@@ -16,7 +16,7 @@ other_downs e d b down n = elim (d == e) as (λ c. (d == e) ≡ c → (if c then
 own_down : (d : ℕ) (log : Log) → is_down d (Mark (Down (dm_no d)) ∷ log) ≡ true
 own_down d log = rw (eq-eqb d d refl) refl
 
-by_site : (g : Given) (more : Log) (boxes : List (Mailbox Msg)) (d : ℕ)
+by_site : (g : Input) (more : Log) (boxes : List (Mailbox Msg)) (d : ℕ)
     → KeepsFor g more d (mailbox_at boxes d) → Spooled g more boxes (D (dm_no d)) → Spooled g more boxes U
 by_site g more boxes d k s = record {
   count = s.count;
@@ -28,7 +28,7 @@ by_site g more boxes d k s = record {
 }
 
 -- the mailbox of the module that turns changes alone
-turned_others : (g : Given) (log more : Log) (old new : List (Mailbox Msg)) (d : ℕ)
+turned_others : (g : Input) (log more : Log) (old new : List (Mailbox Msg)) (d : ℕ)
     → ((e : ℕ) → e ≢ d → is_down e more ≡ is_down e log) → ((e : ℕ) (x : Site) (rest : List Msg)
     → Remain log x (D (dm_no e)) rest → Remain more x (D (dm_no e)) rest)
     → length new ≡ length old → OnlyAt old new d → Spooled g log old U → Spooled g more new (D (dm_no d))
@@ -39,7 +39,7 @@ turned_others g log more old new d downs remains count only s = record {
       (still_box g log more e (mailbox_at old e) (downs e (apart_of e d apart)) (λ x rest r. remains e x rest r) (s.each e here refl));
 }
 
-down_spool : (g : Given) (log : Log) (old new : List (Mailbox Msg)) (d : DmNo) → IsSiteOf g (D d) → is_down d.0 log ≡ false → AllHanded log
+down_spool : (g : Input) (log : Log) (old new : List (Mailbox Msg)) (d : DmNo) → IsSiteOf g (D d) → is_down d.0 log ≡ false → AllHanded log
     → mailbox_at new d.0 ≡ record (mailbox_at old d.0) { down = true } → length new ≡ length old
     → OnlyAt old new d.0 → Spooled g log old U → Spooled g (Mark (Down d) ∷ log) new U
 down_spool g log old new d here up all box count only s =
@@ -57,7 +57,7 @@ down_spool g log old new d here up all box count only s =
     (turned_others g log (Mark (Down d) ∷ log) old new d.0 (λ e n. other_downs e d.0 true (is_down e log) n)
     (λ e x rest r. record { count = r.count; messages = r.messages }) count only s)
 
-turn_same : (g : Given) (log more : Log) (boxes new : List (Mailbox Msg)) (d : DmNo) → IsSiteOf g (D d)
+turn_same : (g : Input) (log more : Log) (boxes new : List (Mailbox Msg)) (d : DmNo) → IsSiteOf g (D d)
     → ((e : ℕ) → is_down e more ≡ is_down e log) → ((e : ℕ) (x : Site) (rest : List Msg)
     → Remain log x (D (dm_no e)) rest → Remain more x (D (dm_no e)) rest)
     → mailbox_at new d.0 ≡ mailbox_at boxes d.0 → length new ≡ length boxes → OnlyAt boxes new d.0 → Spooled g log boxes U → Spooled g more new U
@@ -86,7 +86,7 @@ same_box b down e = ap (λ z. record b { down = z }) (sym e)
 abbrev pub SpoolTurns : List (Mailbox Msg) → List (Mailbox Msg) → ℕ → Bool → Type 0
 SpoolTurns old new d down = (mailbox_at new d ≡ record (mailbox_at old d) { down = down }) × (length new ≡ length old) × OnlyAt old new d
 
-box_down : (w : World) (g : Given) (log : Log) (e : Event) (d : DmNo) → Marked w g log e → IsSiteOf g (D d) → (mailbox_at w.spool d.0).down ≡ is_down d.0 log
+box_down : (w : World) (g : Input) (log : Log) (e : Event) (d : DmNo) → Marked w g log e → IsSiteOf g (D d) → (mailbox_at w.spool d.0).down ≡ is_down d.0 log
 box_down w g log e d m here = (m.spooled.each d.0 here refl).down_is
 
 same_note : (w w1 w2 : World) → w1 ≡ record w { spool = w1.spool } → w2 ≡ record w1 {
@@ -101,7 +101,7 @@ pub noted_too : (w w1 w2 : World) → w1 ≡ record w { spool = w1.spool }
     → w2.history ≡ w1.history ++ (w1.marks, Noted) ∷ [] → w2.history ≡ w.history ++ (w.marks, Noted) ∷ []
 noted_too w w1 w2 one note = note ∙ ap (λ v. v.history ++ (v.marks, Noted) ∷ []) one
 
-turned_noted : (w w1 w2 : World) (g : Given) (log : Log) (e : Event) (d : DmNo) → Marked w g log e → IsSiteOf g (D d) → IsNoTick e
+turned_noted : (w w1 w2 : World) (g : Input) (log : Log) (e : Event) (d : DmNo) → Marked w g log e → IsSiteOf g (D d) → IsNoTick e
     → Rests g (Notes ∷ Mark e ∷ log) → ((k : ℕ) → is_down k (Mark e ∷ log) ≡ is_down k log)
     → mailbox_at w1.spool d.0 ≡ mailbox_at w.spool d.0 → ((x y : Site) (rest : List Msg)
     → Remain log x y rest → Remain (Mark e ∷ log) x y rest) → calls_of (Mark e ∷ log) ≡ calls_of log
@@ -114,7 +114,7 @@ turned_noted w w1 w2 g log e d m here i r downs box remains calls count only one
     (subst (λ z. Spooled g (Mark e ∷ log) z U) (sym (ap (λ v. v.spool) two))
     (turn_same g log (Mark e ∷ log) w.spool w1.spool d here downs (λ k x rest s. remains x (D (dm_no k)) rest s) box count only m.spooled))
 
-pub went_down : (w w2 : World) (g : Given) (log : Log) (d : DmNo) (turned : Bool)
+pub went_down : (w w2 : World) (g : Input) (log : Log) (d : DmNo) (turned : Bool)
     → Marked w g log (Down d) → turned ≡ not (mailbox_at w.spool d.0).down → SpoolTurns w.spool w2.spool d.0 true
     → turned ≡ true → w2 ≡ record w { spool = w2.spool } → Happened w2 g log
 went_down w w2 g log d turned m t s e same =
@@ -124,7 +124,7 @@ went_down w w2 g log d turned m t s e same =
     (subst (λ z. Carries z g.catalogue.tms g.catalogue.dms (calls_of log)) (sym (ap (λ v. v.net) same)) m.parts.net)
     (down_spool g log w.spool w2.spool d m.possible up m.marked.rests.handed_all s.0 s.1 s.2 m.spooled)
 
-pub was_down : (w w1 w2 : World) (g : Given) (log : Log) (d : DmNo) (turned : Bool)
+pub was_down : (w w1 w2 : World) (g : Input) (log : Log) (d : DmNo) (turned : Bool)
     → Marked w g log (Down d) → turned ≡ not (mailbox_at w.spool d.0).down → SpoolTurns w.spool w1.spool d.0 true
     → turned ≡ false → w1 ≡ record w { spool = w1.spool } → w2 ≡ record w1 { history = w2.history }
     → w2.history ≡ w1.history ++ (w1.marks, Noted) ∷ [] → Happened w2 g log
@@ -136,7 +136,7 @@ was_down w w1 w2 g log d turned m t s e one two note =
     turned_noted w w1 w2 g log (Down d) d m m.possible tt (is_down_already g d log m.marked down)
     (λ k. again_down k d log down) box (λ x y rest q. record { count = q.count; messages = q.messages }) refl s.1 s.2 one two note
 
-pub wasnt_down : (w w1 w2 : World) (g : Given) (log : Log) (d : DmNo) (turned : Bool)
+pub wasnt_down : (w w1 w2 : World) (g : Input) (log : Log) (d : DmNo) (turned : Bool)
     → Marked w g log (Up d) → turned ≡ (mailbox_at w.spool d.0).down → SpoolTurns w.spool w1.spool d.0 false
     → turned ≡ false → w1 ≡ record w { spool = w1.spool } → w2 ≡ record w1 { history = w2.history }
     → w2.history ≡ w1.history ++ (w1.marks, Noted) ∷ [] → Happened w2 g log
@@ -173,7 +173,7 @@ t_of b n h j l u = h (T (tm_no j)) (before j n l u)
 u_of : (b : Mailbox Msg) (n : ℕ) → 1 ≤ n → IsLowest b (T (tm_no n)) → kept_from b U ≡ []
 u_of b n l h = h U (first n l)
 
-first_taken : (g : Given) (b : Mailbox Msg) (d : ℕ) (from : Site) (m : Msg) (rest : List Msg)
+first_taken : (g : Input) (b : Mailbox Msg) (d : ℕ) (from : Site) (m : Msg) (rest : List Msg)
     → IsSiteOf g (D (dm_no d)) → length b.queues ≡ suc g.catalogue.tms → IsSender b from → IsLowest b from
     → kept_from b from ≡ m ∷ rest → IsFirst g (kept_from b) from (D (dm_no d)) m rest
 first_taken g b d U m rest here e s h k = record {
@@ -202,7 +202,7 @@ first_taken g b d (T n) m rest here e s h k =
 first_taken g b d (D n) m rest here e s h k = absurd s
 
 -- a module comes up
-pub rises : (w w1 : World) (g : Given) (log : Log) (d : DmNo) (turned : Bool)
+pub rises : (w w1 : World) (g : Input) (log : Log) (d : DmNo) (turned : Bool)
     → Marked w g log (Up d) → turned ≡ (mailbox_at w.spool d.0).down → SpoolTurns w.spool w1.spool d.0 false
     → turned ≡ true → w1 ≡ record w { spool = w1.spool } → Handing w1 g
     (Mark (Up d) ∷ log) (D d) (kept_from (mailbox_at w1.spool d.0)) × Rising g w1.spool d.0
@@ -232,7 +232,7 @@ rises w w1 g log d turned m t s e same =
     )
 
 -- a message is taken out of the mailbox
-pub taken_out : (w w1 : World) (g : Given) (log : Log) (d : DmNo) (from : Site) (m : Msg)
+pub taken_out : (w w1 : World) (g : Input) (log : Log) (d : DmNo) (from : Site) (m : Msg)
     → Handing w g log (D d) (kept_from (mailbox_at w.spool d.0)) → Rising g w.spool d.0 → TakesFrom (mailbox_at w.spool d.0) (mailbox_at w1.spool d.0) from m
     → length w1.spool ≡ length w.spool → OnlyAt w.spool w1.spool d.0 → w1 ≡ record w { spool = w1.spool }
     → Handing w1 g log (D d) (kept_from (mailbox_at w.spool d.0)) × Rising g w1.spool d.0
@@ -259,7 +259,7 @@ taken_out w w1 g log d from m h r t count only same = (
   record { here = r.here; count = count ∙ r.count; box_up = t.down ∙ r.box_up; senders = t.count ∙ r.senders },
 )
 
-pub first_kept : (g : Given) (boxes : List (Mailbox Msg)) (new : List (Mailbox Msg)) (d : DmNo)
+pub first_kept : (g : Input) (boxes : List (Mailbox Msg)) (new : List (Mailbox Msg)) (d : DmNo)
     (from : Site) (m : Msg) → Rising g boxes d.0 → TakesFrom (mailbox_at boxes d.0)
     (mailbox_at new d.0) from m → IsLowest (mailbox_at boxes d.0) from
     → IsFirst g (kept_from (mailbox_at boxes d.0)) from (D d) m (kept_from (mailbox_at new d.0) from)
@@ -270,12 +270,12 @@ pub less_kept : (boxes new : List (Mailbox Msg)) (d : DmNo) (from : Site) (m : M
 less_kept boxes new d from m t = record { here = refl; others = t.others }
 
 -- one message that was kept is handed over
-pub rising_on : (w : World) (boxes : List (Mailbox Msg)) (w2 : World) (g : Given) (log : Log)
+pub rising_on : (w : World) (boxes : List (Mailbox Msg)) (w2 : World) (g : Input) (log : Log)
     (d : DmNo) (from : Site) (m : Msg) → Handing w g log (D d)
     (kept_from (mailbox_at w.spool d.0)) → Rising g w.spool d.0
     → TakesFrom (mailbox_at w.spool d.0) (mailbox_at boxes d.0) from m
     → IsLowest (mailbox_at w.spool d.0) from → length boxes ≡ length w.spool → OnlyAt w.spool boxes d.0
-    → ((h : Given) (l : Log) (kept less : Site → List Msg) (rest : List Msg)
+    → ((h : Input) (l : Log) (kept less : Site → List Msg) (rest : List Msg)
     → Handing (record w { spool = boxes }) h l (D d) kept → IsFirst h kept from (D d) m rest → Takes kept less from rest
     → HandedOn w2 h (D d) less (ahead_of h l) boxes)
     → (more : Log) × Handing w2 g more (D d)
@@ -291,7 +291,7 @@ rising_on w boxes w2 g log d from m h r t l count only hand =
       k.ahead_is,
     )
 
-parts_spool : (w : World) (boxes : List (Mailbox Msg)) (g : Given) (log : Log) → Parts w g log → Parts (record w { spool = boxes }) g log
+parts_spool : (w : World) (boxes : List (Mailbox Msg)) (g : Input) (log : Log) → Parts w g log → Parts (record w { spool = boxes }) g log
 parts_spool w boxes g log p = record {
   good = p.good;
   sound = p.sound;
@@ -305,7 +305,7 @@ parts_spool w boxes g log p = record {
 }
 
 -- nothing is left to be handed over
-pub none_left : (w : World) (boxes : List (Mailbox Msg)) (g : Given) (log more : Log) (d : DmNo) → Handing w g more (D d) (kept_from (mailbox_at w.spool d.0))
+pub none_left : (w : World) (boxes : List (Mailbox Msg)) (g : Input) (log more : Log) (d : DmNo) → Handing w g more (D d) (kept_from (mailbox_at w.spool d.0))
     → Rising g w.spool d.0 → ahead_of g more ≡ ahead_of g log → mailbox_at boxes d.0 ≡ mailbox_at w.spool d.0
     → ((x : Site) → kept_from (mailbox_at w.spool d.0) x ≡ []) → length boxes ≡ length w.spool
     → OnlyAt w.spool boxes d.0 → Risen (record w { spool = boxes }) g log d.0
@@ -327,7 +327,7 @@ none_left w boxes g log more d h r a same none count only = record {
 }
 
 -- once none is kept, the event is done
-pub risen : (w w2 : World) (g : Given) (log more : Log) (d : DmNo)
+pub risen : (w w2 : World) (g : Input) (log more : Log) (d : DmNo)
     → Marked w g log (Up d) → Handing w2 g more (D d)
     (kept_from (mailbox_at w2.spool d.0)) → Rising g w2.spool d.0 → ahead_of g more ≡ ahead_of g (Mark (Up d) ∷ log)
     → ((x : Site) → kept_from (mailbox_at w2.spool d.0) x ≡ []) → Happened w2 g log
@@ -351,5 +351,5 @@ risen w w2 g log more d m h r e none = record {
   ahead_is = e;
 }
 
-pub came_up : (w w1 w2 : World) (g : Given) (log : Log) (d : DmNo) → Marked w g log (Up d) → Risen w2 g (Mark (Up d) ∷ log) d.0 → Happened w2 g log
+pub came_up : (w w1 w2 : World) (g : Input) (log : Log) (d : DmNo) → Marked w g log (Up d) → Risen w2 g (Mark (Up d) ∷ log) d.0 → Happened w2 g log
 came_up w w1 w2 g log d m r = risen w w2 g log r.more d m r.handing r.rising r.ahead_is r.none

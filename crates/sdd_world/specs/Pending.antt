@@ -4,7 +4,7 @@ use Rattle.std.specs.BTreeSet.{BTreeSet, contains}
 use Rattle.std.specs.List.{list_any}
 use Rattle.std.specs.Ordering.{nat_cmp}
 use Rattle.std.specs.Option.{option_map}
-use Rattle.sdd_obligations.specs.All.{Commit, Cond, D, Given, History, IsSubmitted, Log, Rec, Setting, Site, Standing, Submitted, TxnNo, U, dm_no, force_at, history, is_met, local_of, numbers_to, redeclares, setting_of, txn_at, view_of}
+use Rattle.sdd_obligations.specs.All.{Commit, Cond, D, History, Input, IsSubmitted, Log, Rec, Setting, Site, Standing, Submitted, TxnNo, U, dm_no, force_at, history, is_met, local_of, numbers_to, redeclares, setting_of, txn_at, view_of}
 use Rattle.sdd_obligations.specs.history.declared.record.Rec.TheVariants.{Submit}
 use Rattle.sdd_obligations.specs.site_module.SiteLog as site
 use Rattle.sdd_obligations.specs.attempt.declared.standing.Standing.TheVariants as standings
@@ -27,17 +27,17 @@ abbrev pub wait_for : ℕ → Cond → Waiting
 wait_for d cond = record { dm = dm_no d; class = cond.class; time = cond.time }
 
 -- where the READ of class c with timestamp t waits at module d, for what
-abbrev pub wait_at : Given → Log → ℕ → ℕ → ℕ → Option Waiting
+abbrev pub wait_at : Input → Log → ℕ → ℕ → ℕ → Option Waiting
 wait_at g log c t d =
     option_map (wait_for d)
     (unmet (setting_of g (D (dm_no d))) (local_of g (D (dm_no d)) log) (waiting_at c t (local_of g (D (dm_no d)) log)))
 
 -- at all modules where it waits, ascending
-abbrev pub waits_of : Given → Log → ℕ → ℕ → List Waiting
+abbrev pub waits_of : Input → Log → ℕ → ℕ → List Waiting
 waits_of g log c t = filter_map (wait_at g log c t) (numbers_to g.catalogue.dms)
 
 -- why a transaction is pending that stands so at its site
-abbrev pub why_of : Given → Log → Standing → Option Why
+abbrev pub why_of : Input → Log → Standing → Option Why
 why_of g log standings.Absent = None
 why_of g log (standings.Queued class place) = Some (reasons.Queued class place)
 why_of g log (standings.Underway class None at) = Some (reasons.Underway at)
@@ -68,35 +68,35 @@ submitted_at (Submitted at m ∷ log) n = if m == n then at else submitted_at lo
 submitted_at (_ ∷ log) n = submitted_at log n
 
 -- the site of its class by the list in force at the end
-abbrev pub last_home : Given → Log → Homes
+abbrev pub last_home : Input → Log → Homes
 last_home g log n = home_of (force_at g (redeclares log)).catalogue (txn_at g n)
 
 -- how transaction n stands at a site
-abbrev pub stands_at : Telling → Given → Log → Site → ℕ → Standing
+abbrev pub stands_at : Telling → Input → Log → Site → ℕ → Standing
 stands_at tell g log at n = tell at (setting_of g at) (local_of g at log) n
 
-abbrev pub reason_of : Telling → Homes → Given → Log → ℕ → Option Why
+abbrev pub reason_of : Telling → Homes → Input → Log → ℕ → Option Why
 reason_of tell homes g log n = why_of g log (stands_at tell g log (homes n) n)
 
 abbrev pub pending_as : TxnNo → Option Why → Option Pending
 pending_as n why = option_map (λ w. record { txn = n; why = w }) why
 
 -- a transaction that was submitted and that none of these records commits
-abbrev pub pending_by : Telling → Homes → Given → Log → History → ℕ × Rec → Option Pending
+abbrev pub pending_by : Telling → Homes → Input → Log → History → ℕ × Rec → Option Pending
 pending_by tell homes g log all (event, Submit n) =
     if list_any (commits n.0) all then None else pending_as n (reason_of tell homes g log n.0)
 pending_by tell homes g log all _ = None
 
 -- in order of submission
-abbrev pub pending_at : Telling → Homes → Given → Log → List Pending
+abbrev pub pending_at : Telling → Homes → Input → Log → List Pending
 pending_at tell homes g log = filter_map (pending_by tell homes g log (history log)) (history log)
 
 -- each is looked for at the site at which it was submitted
-abbrev pub pending_of : Telling → Given → Log → List Pending
+abbrev pub pending_of : Telling → Input → Log → List Pending
 pending_of tell g log = pending_at tell (submitted_at log) g log
 
 -- each transaction that was submitted and isn't committed was submitted at the site of its class by the last list
-pub record AreAtLastHomes (g : Given) (log : Log) : Type 0 where
+pub record AreAtLastHomes (g : Input) (log : Log) : Type 0 where
   pub same : (n place : ℕ) → IsSubmitted (history log) n place → list_any (commits n) (history log) ≡ false
       → submitted_at log n ≡ last_home g log n
 

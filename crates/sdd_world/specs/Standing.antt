@@ -1,6 +1,6 @@
 -- For which log a world stands, between events and within one.
 use Rattle.std.specs.Prelude.{ℕ, suc, ◌≤◌, ◌≡◌, true, false, List, [], ◌∷◌, ◌++◌, length, Some, None}
-use Rattle.sdd_obligations.specs.All.{AtEach, Catalogue, D, Deliver, EndsByLimit, EndsIn, Event, Force, Given, IsGood, IsLinkOf, IsMarked, IsPossible, IsSiteOf, Log, MAX_DMS, MAX_TMS, Mailbox, Mark, Messages, Msg, Redeclares, Remain, Rests, Site, TakesRounds, Txn, U, Waits, after_mark, all_links, calls_of, delivery, dm_no, force_at, from_one, greatest_bound, history, is_down, kept_from, left, link_of, mailbox_at, marks, next, quiet, redeclares, redeclares_in, same_site, txn_at}
+use Rattle.sdd_obligations.specs.All.{AtEach, Catalogue, D, Deliver, EndsByLimit, EndsIn, Event, Force, Input, IsGood, IsLinkOf, IsMarked, IsPossible, IsSiteOf, Log, MAX_DMS, MAX_TMS, Mailbox, Mark, Messages, Msg, Redeclares, Remain, Rests, Site, TakesRounds, Txn, U, Waits, after_mark, all_links, calls_of, delivery, dm_no, force_at, from_one, greatest_bound, history, is_down, kept_from, left, link_of, mailbox_at, marks, next, quiet, redeclares, redeclares_in, same_site, txn_at}
 use Rattle.sdd_obligations.specs.protocol.declared.entry.Entry.{Entry}
 use Rattle.sdd_obligations.specs.lang.Fits.{Fits}
 use Rattle.sdd_world.specs.Carries.{Carries}
@@ -8,25 +8,25 @@ use Rattle.sdd_world.specs.Modules.{AllStandFor}
 use Rattle.sdd_world.specs.declared.world.World.{World}
 
 -- What is given is sound: the network isn't too large, and the transactions fit the catalogue.
-pub record IsSound (g : Given) : Type 0 where
+pub record IsSound (g : Input) : Type 0 where
   pub few_tms : g.catalogue.tms ≤ MAX_TMS
   pub few_dms : g.catalogue.dms ≤ MAX_DMS
   pub txns_fit : (n : ℕ) (txn : Txn) → txn_at g n ≡ Some txn → Fits g.catalogue txn
 
 -- the mailbox of a data module: it keeps what remains for a module that is down, and else nothing
-pub record KeepsFor (g : Given) (log : Log) (d : ℕ) (b : Mailbox Msg) : Type 0 where
+pub record KeepsFor (g : Input) (log : Log) (d : ℕ) (b : Mailbox Msg) : Type 0 where
   pub down_is : b.down ≡ is_down d log
   pub senders : length b.queues ≡ suc g.catalogue.tms
   pub kept : is_down d log ≡ true → (x : Site) → Remain log x (D (dm_no d)) (kept_from b x)
   pub empty : is_down d log ≡ false → (x : Site) → kept_from b x ≡ []
 
 -- the mailboxes of all data modules but that of a site
-pub record Spooled (g : Given) (log : Log) (boxes : List (Mailbox Msg)) (busy : Site) : Type 0 where
+pub record Spooled (g : Input) (log : Log) (boxes : List (Mailbox Msg)) (busy : Site) : Type 0 where
   pub count : length boxes ≡ g.catalogue.dms
   pub each : (d : ℕ) → IsSiteOf g (D (dm_no d)) → same_site (D (dm_no d)) busy ≡ false → KeepsFor g log d (mailbox_at boxes d)
 
 -- messages of one site are being put into the mailbox of a module that is down, and these are left
-pub record Keeping (g : Given) (log : Log) (boxes : List (Mailbox Msg)) (from : Site) (d : ℕ) (rest : List Msg) : Type 0 where
+pub record Keeping (g : Input) (log : Log) (boxes : List (Mailbox Msg)) (from : Site) (d : ℕ) (rest : List Msg) : Type 0 where
   pub here : IsSiteOf g (D (dm_no d))
   pub linked : IsLinkOf g from (D (dm_no d))
   pub is_down : is_down d log ≡ true
@@ -36,14 +36,14 @@ pub record Keeping (g : Given) (log : Log) (boxes : List (Mailbox Msg)) (from : 
   pub others : Spooled g log boxes (D (dm_no d))
 
 -- the mailbox of a module that came up, while what was kept is handed over
-pub record Rising (g : Given) (boxes : List (Mailbox Msg)) (d : ℕ) : Type 0 where
+pub record Rising (g : Input) (boxes : List (Mailbox Msg)) (d : ℕ) : Type 0 where
   pub here : IsSiteOf g (D (dm_no d))
   pub count : length boxes ≡ g.catalogue.dms
   pub box_up : (mailbox_at boxes d).down ≡ false
   pub senders : length (mailbox_at boxes d).queues ≡ suc g.catalogue.tms
 
 -- the parts of a world stand for a log
-pub record Parts (w : World) (g : Given) (log : Log) : Type 0 where
+pub record Parts (w : World) (g : Input) (log : Log) : Type 0 where
   pub good : IsGood g
   pub sound : IsSound g
   pub whole_is : w.whole.now ≡ g.catalogue
@@ -55,7 +55,7 @@ pub record Parts (w : World) (g : Given) (log : Log) : Type 0 where
   pub net : Carries w.net g.catalogue.tms g.catalogue.dms (calls_of log)
 
 -- between events
-pub record Calm (w : World) (g : Given) (log : Log) : Type 0 where
+pub record Calm (w : World) (g : Input) (log : Log) : Type 0 where
   pub parts : Parts w g log
   pub rests : Rests g log
   pub marks_are : w.marks ≡ marks log
@@ -66,13 +66,13 @@ abbrev pub events_of : World → ℕ
 events_of w = w.marks
 
 -- an event is next
-pub record Before (w : World) (g : Given) (log : Log) (e : Event) : Type 0 where
+pub record Before (w : World) (g : Input) (log : Log) (e : Event) : Type 0 where
   pub calm : Calm w g log
   pub next_is : next g log ≡ Some (Mark e)
   pub possible : IsPossible g e
 
 -- an event is next and has its number
-pub record Marked (w : World) (g : Given) (log : Log) (e : Event) : Type 0 where
+pub record Marked (w : World) (g : Input) (log : Log) (e : Event) : Type 0 where
   pub parts : Parts w g log
   pub marked : IsMarked g log e
   pub marks_are : w.marks ≡ suc (marks log)
@@ -80,7 +80,7 @@ pub record Marked (w : World) (g : Given) (log : Log) (e : Event) : Type 0 where
   pub possible : IsPossible g e
 
 -- within an event messages are to be handed to a site: of each site these
-pub record Handing (w : World) (g : Given) (log : Log) (b : Site) (kept : Site → List Msg) : Type 0 where
+pub record Handing (w : World) (g : Input) (log : Log) (b : Site) (kept : Site → List Msg) : Type 0 where
   pub parts : Parts w g log
   pub waits : Waits g log b kept
   pub marks_are : w.marks ≡ marks log
@@ -91,35 +91,35 @@ pub record Ahead : Type 0 where
   pub rest : List Event × List Event
   pub number : ℕ
 
-abbrev pub ahead_of : Given → Log → Ahead
+abbrev pub ahead_of : Input → Log → Ahead
 ahead_of g log = record { rest = left g.events log; number = marks log }
 
-abbrev pub after_event : Given → Log → Ahead
+abbrev pub after_event : Input → Log → Ahead
 after_event g log = record { rest = after_mark (left g.events log); number = suc (marks log) }
 
-abbrev pub EndsBy : Given → Type 0
+abbrev pub EndsBy : Input → Type 0
 EndsBy g = (more : Log) × EndsByLimit g more
 
 -- an event was carried out from the log: no more of it is due
-pub record Happened (w : World) (g : Given) (log : Log) : Type 0 where
+pub record Happened (w : World) (g : Input) (log : Log) : Type 0 where
   pub more : Log
   pub calm : Calm w g more
   pub ahead_is : ahead_of g more ≡ after_event g log
 
 -- messages were handed over, and these are left
-pub record HandedOn (w : World) (g : Given) (b : Site) (kept : Site → List Msg) (ahead : Ahead) (boxes : List (Mailbox Msg)) : Type 0 where
+pub record HandedOn (w : World) (g : Input) (b : Site) (kept : Site → List Msg) (ahead : Ahead) (boxes : List (Mailbox Msg)) : Type 0 where
   pub more : Log
   pub handing : Handing w g more b kept
   pub ahead_is : ahead_of g more ≡ ahead
   pub spool_is : w.spool ≡ boxes
 
 -- between events all that was given is carried out: the log is complete
-pub record StandsFor (w : World) (g : Given) (log : Log) : Type 0 where
+pub record StandsFor (w : World) (g : Input) (log : Log) : Type 0 where
   pub calm : Calm w g log
   pub complete : next g log ≡ None
 
 -- between rounds, in a settle or a redeclare
-pub record Settling (w : World) (g : Given) (log : Log) (e : Event) : Type 0 where
+pub record Settling (w : World) (g : Input) (log : Log) (e : Event) : Type 0 where
   pub calm : Calm w g log
   pub waiting : List Event
   pub left_is : left g.events log ≡ (waiting, [])
@@ -127,17 +127,17 @@ pub record Settling (w : World) (g : Given) (log : Log) (e : Event) : Type 0 whe
   pub ends : EndsIn e waiting
 
 -- a round was carried out
-abbrev pub Settles : World → Given → Event → Type 0
+abbrev pub Settles : World → Input → Event → Type 0
 Settles w g e = (more : Log) × Settling w g more e
 
 -- the rounds are over: nothing is in flight, and all is acknowledged
-pub record IsSettled (w : World) (g : Given) (e : Event) : Type 0 where
+pub record IsSettled (w : World) (g : Input) (e : Event) : Type 0 where
   pub more : Log
   pub settling : Settling w g more e
   pub is_quiet : quiet (all_links g) (calls_of more) ≡ true
 
 -- in a round these of its events are left
-pub record Rounding (w : World) (g : Given) (log : Log) (e : Event) (events : List Event) : Type 0 where
+pub record Rounding (w : World) (g : Input) (log : Log) (e : Event) (events : List Event) : Type 0 where
   pub calm : Calm w g log
   pub waiting : List Event
   pub left_is : left g.events log ≡ (waiting, events)
@@ -146,25 +146,25 @@ pub record Rounding (w : World) (g : Given) (log : Log) (e : Event) (events : Li
   pub possible : AtEach (IsPossible g) events
 
 -- these classes and their protocol table are the next list that is given
-abbrev pub IsNextList : Given → Catalogue → List Entry → Type 0
+abbrev pub IsNextList : Input → Catalogue → List Entry → Type 0
 IsNextList g cat table = force_at g (suc (redeclares_in g.events)) ≡ record { catalogue = cat; table = table }
 
 -- to put this list of classes in force is all that is left
-pub record Forcing (w : World) (g : Given) (log : Log) (force : Force) : Type 0 where
+pub record Forcing (w : World) (g : Input) (log : Log) (force : Force) : Type 0 where
   pub calm : Calm w g log
   pub next_is : next g log ≡ Some (Redeclares (greatest_bound g log))
   pub none_behind : after_mark (left g.events log) ≡ ([], [])
   pub force_is : force_at g (suc (redeclares log)) ≡ force
 
 -- messages have come to a site by a delivery in the world w
-pub record Arrives (w now : World) (g : Given) (log : Log) (a b : Site) (k : ℕ) (messages : List Msg) : Type 0 where
+pub record Arrives (w now : World) (g : Input) (log : Log) (a b : Site) (k : ℕ) (messages : List Msg) : Type 0 where
   pub marked : Marked w g log (Deliver a b k)
   pub delivered_are : delivery k (link_of a b log) ≡ Messages messages
   pub same : now ≡ record w { net = now.net }
   pub net : Carries now.net g.catalogue.tms g.catalogue.dms (calls_of (Mark (Deliver a b k) ∷ log))
 
 -- all that was kept for a module is handed over
-pub record Risen (now : World) (g : Given) (log : Log) (d : ℕ) : Type 0 where
+pub record Risen (now : World) (g : Input) (log : Log) (d : ℕ) : Type 0 where
   pub more : Log
   pub handing : Handing now g more (D (dm_no d)) (kept_from (mailbox_at now.spool d))
   pub rising : Rising g now.spool d

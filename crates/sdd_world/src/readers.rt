@@ -1,6 +1,6 @@
 ghost use Rattle.std.specs.Prelude.{◌≡◌, ◌≤◌, [], ℕ, List, length, true, IfOk, IsTrue};
 ghost use Rattle.std.specs.Option.{option_copied};
-ghost use Rattle.sdd_obligations.specs.All.{Call, D, Given, IsAwaited, IsEraOf, IsGood, IsLinkOf, IsSiteOf, Log, Msg, Site, StandFor, T, U, all_links, calls_of, dated, force_at, handed, has_copy, history, is_down, is_here, local_of, marks, number_of, quiet, redeclares, setting_of};
+ghost use Rattle.sdd_obligations.specs.All.{Call, D, Input, IsAwaited, IsEraOf, IsGood, IsLinkOf, IsSiteOf, Log, Msg, Site, StandFor, T, U, all_links, calls_of, dated, force_at, handed, has_copy, history, is_down, is_here, local_of, marks, number_of, quiet, redeclares, setting_of};
 ghost use Rattle.sdd_world.specs.Beginnings.{IsBegun};
 ghost use Rattle.sdd_world.specs.Carries.{Carries};
 ghost use Rattle.sdd_world.specs.Modules.{AllStandFor, LivesD, LivesT, LivesU};
@@ -45,7 +45,7 @@ impl<'a> World<'a> {
         modules: Vec<DataModule>,
     ) -> Result<World<'a>, NoMemory>
         requires { IsEraOf whole.now catalogue.now }
-        ensures { IfOk result (λ world. (g : Given) → IsGood g → IsSound g
+        ensures { IfOk result (λ world. (g : Input) → IsGood g → IsSound g
             → IsBegun g whole.now catalogue.now table.now txns modules.items → StandsFor world g []) }
     {
         whole.known();
@@ -72,14 +72,14 @@ impl<'a> World<'a> {
 
     /// The catalogue with the classes of all lists that are ever put in force, lent. Takes no memory.
     pub fn whole(&self) -> &'a Catalogue
-        ensures { (g : Given) (log : Log) → Calm self.now g log → result.now ≡ g.catalogue }
+        ensures { (g : Input) (log : Log) → Calm self.now g log → result.now ≡ g.catalogue }
     {
         self.whole
     }
 
     /// The catalogue with the classes in force, lent. Takes no memory.
     pub fn catalogue(&self) -> &'a Catalogue
-        ensures { (g : Given) (log : Log) → Calm self.now g log
+        ensures { (g : Input) (log : Log) → Calm self.now g log
             → result.now ≡ (force_at g (redeclares log)).catalogue }
     {
         self.catalogue
@@ -87,21 +87,21 @@ impl<'a> World<'a> {
 
     /// The transactions, lent. Takes no memory.
     pub fn transactions(&self) -> &[Txn]
-        ensures { (g : Given) (log : Log) → Calm self.now g log → result.now ≡ g.txns }
+        ensures { (g : Input) (log : Log) → Calm self.now g log → result.now ≡ g.txns }
     {
         self.txns.as_slice()
     }
 
     /// How many events were carried out. Takes no memory.
     pub fn events(&self) -> u32
-        ensures { (g : Given) (log : Log) → Calm self.now g log → result ≡ marks log }
+        ensures { (g : Input) (log : Log) → Calm self.now g log → result ≡ marks log }
     {
         self.marks
     }
 
     /// The module of U, lent. Takes no memory.
     pub fn u_module(&self) -> &UModule<'a>
-        ensures { (g : Given) (log : Log) → StandsFor self.now g log
+        ensures { (g : Input) (log : Log) → StandsFor self.now g log
             → LivesU result.now (setting_of g U) (local_of g U log) }
     {
         &self.sites.u
@@ -109,8 +109,8 @@ impl<'a> World<'a> {
 
     /// A transaction module, lent. Takes no memory.
     pub fn txn_module(&self, tm: TmNo) -> &TxnModule<'a>
-        requires { (g : Given) × (log : Log) × IsSiteOf g (T tm) × StandsFor self.now g log }
-        ensures { (g : Given) (log : Log) → IsSiteOf g (T tm) → StandsFor self.now g log
+        requires { (g : Input) × (log : Log) × IsSiteOf g (T tm) × StandsFor self.now g log }
+        ensures { (g : Input) (log : Log) → IsSiteOf g (T tm) → StandsFor self.now g log
             → LivesT result.now (setting_of g (T tm)) (local_of g (T tm) log) }
     {
         self.sites.txn_module(tm)
@@ -118,8 +118,8 @@ impl<'a> World<'a> {
 
     /// A data module, lent. Takes no memory.
     pub fn data_module(&self, dm: DmNo) -> &DataModule
-        requires { (g : Given) × (log : Log) × IsSiteOf g (D dm) × StandsFor self.now g log }
-        ensures { (g : Given) (log : Log) → IsSiteOf g (D dm) → StandsFor self.now g log
+        requires { (g : Input) × (log : Log) × IsSiteOf g (D dm) × StandsFor self.now g log }
+        ensures { (g : Input) (log : Log) → IsSiteOf g (D dm) → StandsFor self.now g log
             → LivesD result.now (setting_of g (D dm)) (local_of g (D dm) log) }
     {
         self.sites.data_module(dm)
@@ -127,14 +127,14 @@ impl<'a> World<'a> {
 
     /// The modules of all sites, lent. Takes no memory.
     pub fn sites(&self) -> &Sites<'a>
-        ensures { (g : Given) (log : Log) → Calm self.now g log → AllStandFor result.now g log }
+        ensures { (g : Input) (log : Log) → Calm self.now g log → AllStandFor result.now g log }
     {
         &self.sites
     }
 
     /// The network, lent. Takes no memory.
     pub fn mail(&self) -> &Mail
-        ensures { (g : Given) (log : Log) → Calm self.now g log
+        ensures { (g : Input) (log : Log) → Calm self.now g log
             → Carries result.now g.catalogue.tms g.catalogue.dms (calls_of log) }
     {
         &self.net
@@ -142,8 +142,8 @@ impl<'a> World<'a> {
 
     /// Whether a data module is down. Takes no memory.
     pub fn is_down(&self, dm: DmNo) -> bool
-        requires { (g : Given) × (log : Log) × IsSiteOf g (D dm) × Calm self.now g log }
-        ensures { (g : Given) (log : Log) → IsSiteOf g (D dm) → Calm self.now g log
+        requires { (g : Input) × (log : Log) × IsSiteOf g (D dm) × Calm self.now g log }
+        ensures { (g : Input) (log : Log) → IsSiteOf g (D dm) → Calm self.now g log
             → result ≡ is_down dm.0 log }
     {
         self.spool.is_down(dm)
@@ -152,8 +152,8 @@ impl<'a> World<'a> {
     /// The messages from 1 to this number of a link are handed to the site where it ends. Takes no
     /// memory.
     pub fn handed(&self, from: Site, to: Site) -> u32
-        requires { (g : Given) × (log : Log) × IsLinkOf g from to × Calm self.now g log }
-        ensures { (g : Given) (log : Log) → IsLinkOf g from to → Calm self.now g log
+        requires { (g : Input) × (log : Log) × IsLinkOf g from to × Calm self.now g log }
+        ensures { (g : Input) (log : Log) → IsLinkOf g from to → Calm self.now g log
             → result ≡ handed from to log }
     {
         let delivered = self.net.direction(from, to).receiver.count();
@@ -166,8 +166,8 @@ impl<'a> World<'a> {
 
     /// The net of spellings, lent. Takes no memory.
     pub fn net(&self) -> &Net<Spelling>
-        requires { (g : Given) × (log : Log) × StandsFor self.now g log }
-        ensures { (g : Given) (log : Log) → StandsFor self.now g log
+        requires { (g : Input) × (log : Log) × StandsFor self.now g log }
+        ensures { (g : Input) (log : Log) → StandsFor self.now g log
             → Carries result.now g.catalogue.tms g.catalogue.dms (calls_of log) }
     {
         self.net.net()
@@ -176,7 +176,7 @@ impl<'a> World<'a> {
     /// Whether no packet is in flight and every message is acknowledged. Takes no memory.
     pub fn quiet(&self) -> bool
         requires { (tms : ℕ) × (dms : ℕ) × (calls : List (Call Msg)) × Carries self.now.net tms dms calls }
-        ensures { (g : Given) (log : Log)
+        ensures { (g : Input) (log : Log)
             → Carries self.now.net g.catalogue.tms g.catalogue.dms (calls_of log)
             → result ≡ quiet (all_links g) (calls_of log) }
     {
@@ -185,23 +185,23 @@ impl<'a> World<'a> {
 
     /// The records, each with the number of its event. Takes no memory.
     pub fn history(&self) -> &History
-        ensures { (g : Given) (log : Log) → Calm self.now g log → result.now ≡ history log }
+        ensures { (g : Input) (log : Log) → Calm self.now g log → result.now ≡ history log }
     {
         &self.history
     }
 
     /// The events that were given. Takes no memory.
     pub fn given(&self) -> &[Event]
-        ensures { (g : Given) (log : Log) → StandsFor self.now g log → result.now ≡ g.events }
+        ensures { (g : Input) (log : Log) → StandsFor self.now g log → result.now ≡ g.events }
     {
         self.given.as_slice()
     }
 
     /// How a site has a transaction. Takes no memory.
     pub fn standing(&self, at: Site, number: TxnNo) -> Standing
-        requires { (g : Given) × (log : Log) × IsSiteOf g at
+        requires { (g : Input) × (log : Log) × IsSiteOf g at
             × StandsFor self.now g log }
-        ensures { (g : Given) (log : Log) → IsSiteOf g at
+        ensures { (g : Input) (log : Log) → IsSiteOf g at
             → StandsFor self.now g log
             → result ≡ standing_of at (setting_of g at) (local_of g at log) number.0 }
     {
@@ -211,16 +211,16 @@ impl<'a> World<'a> {
     /// The copies of a data module, lent: they hold what the changes that were applied there leave.
     /// Takes no memory.
     pub fn copies(&self, dm: DmNo) -> &Copies
-        requires { (g : Given) × (log : Log) × IsSiteOf g (D dm)
+        requires { (g : Input) × (log : Log) × IsSiteOf g (D dm)
             × StandsFor self.now g log }
-        ensures live { (g : Given) (log : Log) → IsSiteOf g (D dm)
+        ensures live { (g : Input) (log : Log) → IsSiteOf g (D dm)
             → StandsFor self.now g log
             → IsTrue result.now.live }
-        ensures stand { (g : Given) (log : Log) → IsSiteOf g (D dm)
+        ensures stand { (g : Input) (log : Log) → IsSiteOf g (D dm)
             → StandsFor self.now g log
             → StandFor result.now.value
             (dated (setting_of g (D dm)) (local_of g (D dm) log)) }
-        ensures here { (g : Given) (log : Log) → IsSiteOf g (D dm)
+        ensures here { (g : Input) (log : Log) → IsSiteOf g (D dm)
             → StandsFor self.now g log
             → (f : ℕ) → has_copy g.catalogue (number_of (D dm)) f ≡ true
             → is_here result.now.value f ≡ true }
@@ -231,9 +231,9 @@ impl<'a> World<'a> {
     /// Of the READ of a class with this timestamp, where it waits at a data module, the first
     /// condition whose class hasn't passed its time. Takes no memory.
     pub fn waits(&self, dm: DmNo, class: ClassNo, ts: Ts) -> Option<&Cond>
-        requires { (g : Given) × (log : Log) × IsSiteOf g (D dm)
+        requires { (g : Input) × (log : Log) × IsSiteOf g (D dm)
             × StandsFor self.now g log }
-        ensures { (g : Given) (log : Log) → IsSiteOf g (D dm)
+        ensures { (g : Input) (log : Log) → IsSiteOf g (D dm)
             → StandsFor self.now g log
             → class.0 ≤ length g.catalogue.classes
             → IsAwaited (setting_of g (D dm)) (local_of g (D dm) log) class.0 ts.0

@@ -1,6 +1,6 @@
 //! Another list of classes is put in force in a world, once its links are quiet.
 ghost use Rattle.std.specs.Prelude.{◌≡◌, IfOk, IsErrOf};
-ghost use Rattle.sdd_obligations.specs.All.{Given, IsGood, Log, Redeclare, with_event};
+ghost use Rattle.sdd_obligations.specs.All.{Input, IsGood, Log, Redeclare, with_event};
 ghost use Rattle.sdd_world.specs.Standing.{EndsBy, Forcing, IsNextList, StandsFor};
 
 use crate::ends::WorldEnd;
@@ -17,12 +17,12 @@ impl<'a> World<'a> {
         catalogue: &'a Catalogue,
         table: &'a Table,
     ) -> Result<(), WorldEnd>
-        requires { (g : Given) × (log : Log) × Forcing self.old g log
+        requires { (g : Input) × (log : Log) × Forcing self.old g log
             (record { catalogue = catalogue.now; table = table.now }) }
-        ensures ok { IfOk result (λ _. (g : Given) (log : Log) → Forcing self.old g log
+        ensures ok { IfOk result (λ _. (g : Input) (log : Log) → Forcing self.old g log
             (record { catalogue = catalogue.now; table = table.now })
             → (more : Log) × StandsFor self.new g more) }
-        ensures limit { IsErrOf result WorldEnd.Limit → (g : Given) (log : Log)
+        ensures limit { IsErrOf result WorldEnd.Limit → (g : Input) (log : Log)
             → Forcing self.old g log (record { catalogue = catalogue.now; table = table.now })
             → EndsBy g }
     {
@@ -48,12 +48,12 @@ impl<'a> World<'a> {
         catalogue: &'a Catalogue,
         table: &'a Table,
     ) -> Result<World<'a>, WorldEnd>
-        requires { (g : Given) × (log : Log) × StandsFor self g log
+        requires { (g : Input) × (log : Log) × StandsFor self g log
             × IsGood (with_event g Redeclare) × IsNextList g catalogue.now table.now }
-        ensures log { IfOk result (λ world. (g : Given) (log : Log) → StandsFor self.entry g log
+        ensures log { IfOk result (λ world. (g : Input) (log : Log) → StandsFor self.entry g log
             → IsGood (with_event g Redeclare) → IsNextList g catalogue.now table.now
             → (more : Log) × StandsFor world (with_event g Redeclare) more) }
-        ensures limit { IsErrOf result WorldEnd.Limit → (g : Given) (log : Log)
+        ensures limit { IsErrOf result WorldEnd.Limit → (g : Input) (log : Log)
             → StandsFor self.entry g log → IsGood (with_event g Redeclare)
             → IsNextList g catalogue.now table.now → EndsBy (with_event g Redeclare) }
     {

@@ -1,6 +1,6 @@
 //! The copies of data modules.
 ghost use Rattle.std.specs.Prelude.{◌≡◌, ◌≤◌, ◌++◌, ◌∷◌, [], ℕ, map, filter, length, true, IfOk, IsTrue, OnOk};
-ghost use Rattle.sdd_obligations.specs.All.{D, Given, IsSiteOf, Log, StandFor, contents, has_copy, is_here};
+ghost use Rattle.sdd_obligations.specs.All.{D, Input, IsSiteOf, Log, StandFor, contents, has_copy, is_here};
 ghost use Rattle.sdd_obligations.specs.copy.Contents.{Dated};
 ghost use Rattle.sdd_world.specs.Copies.{table_of, tables_in, tables_at, tables_of};
 ghost use Rattle.sdd_world.specs.Standing.{StandsFor};
@@ -72,8 +72,8 @@ fn add_copies(
 impl World<'_> {
     /// Adds the copies of a data module.
     fn add_tables(&self, dm: DmNo, tables: &mut Vec<CopyTable>) -> Result<(), NoMemory>
-        requires { (g : Given) × (log : Log) × IsSiteOf g (D dm) × StandsFor self.now g log }
-        ensures { OnOk result ((g : Given) (log : Log) → IsSiteOf g (D dm) → StandsFor self.now g log
+        requires { (g : Input) × (log : Log) × IsSiteOf g (D dm) × StandsFor self.now g log }
+        ensures { OnOk result ((g : Input) (log : Log) → IsSiteOf g (D dm) → StandsFor self.now g log
             → tables.new.items ≡ tables.old.items ++ tables_at g log dm.0) }
     {
         let copies = self.copies(dm);
@@ -87,8 +87,8 @@ impl World<'_> {
     ///
     /// Only where memory runs out.
     pub fn tables(&self, alloc: Global) -> Result<Vec<CopyTable>, NoMemory>
-        requires { (g : Given) × (log : Log) × StandsFor self.now g log }
-        ensures { IfOk result (λ tables. (g : Given) (log : Log) → StandsFor self.now g log
+        requires { (g : Input) × (log : Log) × StandsFor self.now g log }
+        ensures { IfOk result (λ tables. (g : Input) (log : Log) → StandsFor self.now g log
             → tables.items ≡ tables_of g log) }
     {
         self.whole.known();

@@ -1,6 +1,6 @@
 //! The events of a settle or a redeclare, carried out one by one.
 ghost use Rattle.std.specs.Prelude.{◌≡◌, ◌∷◌, List, suc, true, false, IfOk, IsErrOf, MatchOption};
-ghost use Rattle.sdd_obligations.specs.All.{Event as Happening, Given, IsGood, Log, Redeclare, Round, TakesRounds, all_links, calls_of, quiet, with_event};
+ghost use Rattle.sdd_obligations.specs.All.{Event as Happening, Input, IsGood, Log, Redeclare, Round, TakesRounds, all_links, calls_of, quiet, with_event};
 ghost use Rattle.sdd_world.specs.Standing.{EndsBy, IsNextList, IsSettled, Rounding, Settling, StandsFor, events_of};
 
 use crate::ends::WorldEnd;
@@ -17,9 +17,9 @@ impl<'a> World<'a> {
     ///
     /// Only where memory runs out; the world is gone then.
     pub fn begin_rounds(mut self, event: Event) -> Result<Self, NoMemory>
-        requires { (g : Given) × (log : Log) × StandsFor self g log × TakesRounds event
+        requires { (g : Input) × (log : Log) × StandsFor self g log × TakesRounds event
             × IsGood (with_event g event) }
-        ensures { IfOk result (λ world. (g : Given) (log : Log) → StandsFor self.entry g log
+        ensures { IfOk result (λ world. (g : Input) (log : Log) → StandsFor self.entry g log
             → TakesRounds event → IsGood (with_event g event)
             → Settling world (with_event g event) log event) }
     {
@@ -30,8 +30,8 @@ impl<'a> World<'a> {
     /// The events of the next round; None exactly where nothing is in flight and everything is
     /// acknowledged.
     pub fn next_round(&self) -> Result<Option<Vec<Event>>, NoMemory>
-        requires { (g : Given) × (log : Log) × (e : Happening) × Settling self.now g log e }
-        ensures { IfOk result (λ round. (g : Given) (log : Log) (e : Happening)
+        requires { (g : Input) × (log : Log) × (e : Happening) × Settling self.now g log e }
+        ensures { IfOk result (λ round. (g : Input) (log : Log) (e : Happening)
             → Settling self.now g log e → MatchOption round
             (quiet (all_links g) (calls_of log) ≡ true)
             (λ events. (quiet (all_links g) (calls_of log) ≡ false)
@@ -50,13 +50,13 @@ impl<'a> World<'a> {
     ///
     /// As of `step`.
     pub fn in_round(mut self, event: &Event) -> Result<Self, WorldEnd>
-        requires { (g : Given) × (log : Log) × (e : Happening) × (rest : List Happening)
+        requires { (g : Input) × (log : Log) × (e : Happening) × (rest : List Happening)
             × Rounding self g log e (event.now ∷ rest) }
-        ensures log { IfOk result (λ world. (g : Given) (log : Log) (e : Happening)
+        ensures log { IfOk result (λ world. (g : Input) (log : Log) (e : Happening)
             (rest : List Happening) → Rounding self.entry g log e (event.now ∷ rest)
             → (more : Log) × Rounding world g more e rest) }
         ensures one { IfOk result (λ world. events_of world ≡ suc (events_of self.entry)) }
-        ensures limit { IsErrOf result WorldEnd.Limit → (g : Given) (log : Log) (e : Happening)
+        ensures limit { IsErrOf result WorldEnd.Limit → (g : Input) (log : Log) (e : Happening)
             (rest : List Happening) → Rounding self.entry g log e (event.now ∷ rest) → EndsBy g }
     {
         self.happen(event)?;
@@ -74,12 +74,12 @@ impl<'a> World<'a> {
         catalogue: &'a Catalogue,
         table: &'a Table,
     ) -> Result<Self, WorldEnd>
-        requires { (g : Given) × IsNextList g catalogue.now table.now
+        requires { (g : Input) × IsNextList g catalogue.now table.now
             × IsSettled self (with_event g Redeclare) Redeclare }
-        ensures log { IfOk result (λ world. (g : Given) → IsNextList g catalogue.now table.now
+        ensures log { IfOk result (λ world. (g : Input) → IsNextList g catalogue.now table.now
             → IsSettled self.entry (with_event g Redeclare) Redeclare
             → (more : Log) × StandsFor world (with_event g Redeclare) more) }
-        ensures limit { IsErrOf result WorldEnd.Limit → (g : Given)
+        ensures limit { IsErrOf result WorldEnd.Limit → (g : Input)
             → IsNextList g catalogue.now table.now
             → IsSettled self.entry (with_event g Redeclare) Redeclare
             → EndsBy (with_event g Redeclare) }

@@ -1,5 +1,5 @@
 ghost use Rattle.std.specs.Prelude.{◌≡◌, ◌<◌, ◌≤◌, All, ◌++◌, [], ◌∷◌, true, false, ℕ, List, Some, IfOk, OnOk, IsErrOf, MatchOption};
-ghost use Rattle.sdd_obligations.specs.All.{D, Deliver, Down, Event, Given, IsFirst, IsGood, IsLinkOf, IsPossible, IsSiteOf, Log, Lose, Msg, Repeat, Resend, Settle, Site, Submit, Takes, Tick, U, Up, all_links, calls_of, from_one, history, is_down, kept_from, mailbox_at, quiet, takes_part, with_event};
+ghost use Rattle.sdd_obligations.specs.All.{D, Deliver, Down, Event, Input, IsFirst, IsGood, IsLinkOf, IsPossible, IsSiteOf, Log, Lose, Msg, Repeat, Resend, Settle, Site, Submit, Takes, Tick, U, Up, all_links, calls_of, from_one, history, is_down, kept_from, mailbox_at, quiet, takes_part, with_event};
 ghost use Rattle.sdd_world.specs.declared.world.World.{World};
 ghost use Rattle.sdd_world.specs.Following.{MaySend, Followed, IsPast};
 ghost use Rattle.sdd_world.specs.Standing.{ahead_of, Arrives, Before, EndsBy, HandedOn, Handing, Happened, IsSettled, Keeping, Marked, Rising, Risen, Settles, Settling, Spooled, StandsFor};
@@ -49,13 +49,13 @@ impl<'a> World<'a> {
 
     /// Hands a message to its site, of those that are to be handed to it the first.
     fn hand(&mut self, from: Site, to: Site, msg: Msg) -> Result<(), WorldEnd>
-        requires { (g : Given) × (log : Log) × (kept : Site → List Msg) × (rest : List Msg)
+        requires { (g : Input) × (log : Log) × (kept : Site → List Msg) × (rest : List Msg)
             × Handing self.old g log to kept × IsFirst g kept from to msg rest }
-        ensures ok { IfOk result (λ _. (g : Given) (log : Log) (kept less : Site → List Msg)
+        ensures ok { IfOk result (λ _. (g : Input) (log : Log) (kept less : Site → List Msg)
             (rest : List Msg) → Handing self.old g log to kept
             → IsFirst g kept from to msg rest → Takes kept less from rest
             → HandedOn self.new g to less (ahead_of g log) self.old.spool) }
-        ensures limit { IsErrOf result WorldEnd.Limit → (g : Given) (log : Log)
+        ensures limit { IsErrOf result WorldEnd.Limit → (g : Input) (log : Log)
             (kept : Site → List Msg) (rest : List Msg) → Handing self.old g log to kept
             → IsFirst g kept from to msg rest → EndsBy g }
     {
@@ -65,12 +65,12 @@ impl<'a> World<'a> {
 
     /// Hands messages of one site to another, in order.
     fn hand_all(&mut self, from: Site, to: Site, messages: Parcels<Msg>) -> Result<(), WorldEnd>
-        requires { (g : Given) × (log : Log) × IsLinkOf g from to
+        requires { (g : Input) × (log : Log) × IsLinkOf g from to
             × Handing self.old g log to (from_one from messages) }
-        ensures ok { IfOk result (λ _. (g : Given) (log : Log) → IsLinkOf g from to
+        ensures ok { IfOk result (λ _. (g : Input) (log : Log) → IsLinkOf g from to
             → Handing self.old g log to (from_one from messages)
             → HandedOn self.new g to (from_one from []) (ahead_of g log) self.old.spool) }
-        ensures limit { IsErrOf result WorldEnd.Limit → (g : Given) (log : Log) → IsLinkOf g from to
+        ensures limit { IsErrOf result WorldEnd.Limit → (g : Input) (log : Log) → IsLinkOf g from to
             → Handing self.old g log to (from_one from messages) → EndsBy g }
     {
         let mut queue = VecDeque::from_vec(messages.into_vec());
@@ -91,8 +91,8 @@ impl<'a> World<'a> {
     }
 
     fn lose(&mut self, from: Site, to: Site, place: u32) -> Result<(), NoMemory>
-        requires { (g : Given) × (log : Log) × Marked self.old g log (Lose from to place) }
-        ensures { OnOk result ((g : Given) (log : Log) → Marked self.old g log (Lose from to place)
+        requires { (g : Input) × (log : Log) × Marked self.old g log (Lose from to place) }
+        ensures { OnOk result ((g : Input) (log : Log) → Marked self.old g log (Lose from to place)
             → Happened self.new g log) }
     {
         if self.net.lose(from, to, place) {
@@ -102,8 +102,8 @@ impl<'a> World<'a> {
     }
 
     fn repeat(&mut self, from: Site, to: Site, place: u32) -> Result<(), NoMemory>
-        requires { (g : Given) × (log : Log) × Marked self.old g log (Repeat from to place) }
-        ensures { OnOk result ((g : Given) (log : Log) → Marked self.old g log (Repeat from to place)
+        requires { (g : Input) × (log : Log) × Marked self.old g log (Repeat from to place) }
+        ensures { OnOk result ((g : Input) (log : Log) → Marked self.old g log (Repeat from to place)
             → Happened self.new g log) }
     {
         if self.net.repeat(from, to, place)? {
@@ -113,8 +113,8 @@ impl<'a> World<'a> {
     }
 
     fn resend(&mut self, from: Site, to: Site) -> Result<(), NoMemory>
-        requires { (g : Given) × (log : Log) × Marked self.old g log (Resend from to) }
-        ensures { OnOk result ((g : Given) (log : Log) → Marked self.old g log (Resend from to)
+        requires { (g : Input) × (log : Log) × Marked self.old g log (Resend from to) }
+        ensures { OnOk result ((g : Input) (log : Log) → Marked self.old g log (Resend from to)
             → Happened self.new g log) }
     {
         if self.net.resend(from, to)? {
@@ -125,8 +125,8 @@ impl<'a> World<'a> {
 
     /// The data module at the site, where it is down.
     fn down_module(&self, at: Site) -> Option<DmNo>
-        requires { (g : Given) × (log : Log) × IsSiteOf g at × Spooled g log self.now.spool U }
-        ensures { (g : Given) (log : Log) → IsSiteOf g at → Spooled g log self.now.spool U
+        requires { (g : Input) × (log : Log) × IsSiteOf g at × Spooled g log self.now.spool U }
+        ensures { (g : Input) (log : Log) → IsSiteOf g at → Spooled g log self.now.spool U
             → MatchOption result (takes_part at log ≡ true)
             (λ dm. (at ≡ D dm) × (is_down dm.0 log ≡ true)) }
     {
@@ -143,9 +143,9 @@ impl<'a> World<'a> {
 
     /// Keeps messages of one site for a module that is down.
     fn keep_all(&mut self, from: Site, dm: DmNo, messages: Parcels<Msg>) -> Result<(), NoMemory>
-        requires { (g : Given) × (log : Log) × Keeping g log self.old.spool from dm.0 messages }
+        requires { (g : Input) × (log : Log) × Keeping g log self.old.spool from dm.0 messages }
         ensures same { OnOk result (self.new ≡ record self.old { spool = self.new.spool }) }
-        ensures kept { OnOk result ((g : Given) (log : Log)
+        ensures kept { OnOk result ((g : Input) (log : Log)
             → Keeping g log self.old.spool from dm.0 messages
             → Keeping g log self.new.spool from dm.0 []) }
     {
@@ -158,12 +158,12 @@ impl<'a> World<'a> {
 
     /// Messages come to a site: they are handed over, or kept.
     fn receive(&mut self, from: Site, to: Site, messages: Parcels<Msg>) -> Result<(), WorldEnd>
-        requires { (g : Given) × (log : Log) × (w : World) × (place : ℕ)
+        requires { (g : Input) × (log : Log) × (w : World) × (place : ℕ)
             × Arrives w self.old g log from to place messages }
-        ensures ok { IfOk result (λ _. (g : Given) (log : Log) (w : World) (place : ℕ)
+        ensures ok { IfOk result (λ _. (g : Input) (log : Log) (w : World) (place : ℕ)
             → Arrives w self.old g log from to place messages
             → Happened self.new g log) }
-        ensures limit { IsErrOf result WorldEnd.Limit → (g : Given) (log : Log) (w : World)
+        ensures limit { IsErrOf result WorldEnd.Limit → (g : Input) (log : Log) (w : World)
             (place : ℕ) → Arrives w self.old g log from to place messages → EndsBy g }
     {
         match self.down_module(to) {
@@ -173,10 +173,10 @@ impl<'a> World<'a> {
     }
 
     fn deliver(&mut self, from: Site, to: Site, place: u32) -> Result<(), WorldEnd>
-        requires { (g : Given) × (log : Log) × Marked self.old g log (Deliver from to place) }
-        ensures ok { IfOk result (λ _. (g : Given) (log : Log)
+        requires { (g : Input) × (log : Log) × Marked self.old g log (Deliver from to place) }
+        ensures ok { IfOk result (λ _. (g : Input) (log : Log)
             → Marked self.old g log (Deliver from to place) → Happened self.new g log) }
-        ensures limit { IsErrOf result WorldEnd.Limit → (g : Given) (log : Log)
+        ensures limit { IsErrOf result WorldEnd.Limit → (g : Input) (log : Log)
             → Marked self.old g log (Deliver from to place) → EndsBy g }
     {
         match self.net.deliver(from, to, place)? {
@@ -187,8 +187,8 @@ impl<'a> World<'a> {
     }
 
     fn go_down(&mut self, dm: DmNo) -> Result<(), NoMemory>
-        requires { (g : Given) × (log : Log) × Marked self.old g log (Down dm) }
-        ensures { OnOk result ((g : Given) (log : Log) → Marked self.old g log (Down dm)
+        requires { (g : Input) × (log : Log) × Marked self.old g log (Down dm) }
+        ensures { OnOk result ((g : Input) (log : Log) → Marked self.old g log (Down dm)
             → Happened self.new g log) }
     {
         if self.spool.down(dm) {
@@ -200,12 +200,12 @@ impl<'a> World<'a> {
     /// Hands over what is kept for a module that came up: one message, with all that it makes due,
     /// after the other.
     fn hand_kept(&mut self, dm: DmNo) -> Result<(), WorldEnd>
-        requires { (g : Given) × (log : Log) × Handing self.old g log (D dm)
+        requires { (g : Input) × (log : Log) × Handing self.old g log (D dm)
             (kept_from (mailbox_at self.old.spool dm.0)) × Rising g self.old.spool dm.0 }
-        ensures ok { IfOk result (λ _. (g : Given) (log : Log) → Handing self.old g log (D dm)
+        ensures ok { IfOk result (λ _. (g : Input) (log : Log) → Handing self.old g log (D dm)
             (kept_from (mailbox_at self.old.spool dm.0)) → Rising g self.old.spool dm.0
             → Risen self.new g log dm.0) }
-        ensures limit { IsErrOf result WorldEnd.Limit → (g : Given) (log : Log)
+        ensures limit { IsErrOf result WorldEnd.Limit → (g : Input) (log : Log)
             → Handing self.old g log (D dm) (kept_from (mailbox_at self.old.spool dm.0))
             → Rising g self.old.spool dm.0 → EndsBy g }
     {
@@ -216,10 +216,10 @@ impl<'a> World<'a> {
     }
 
     fn come_up(&mut self, dm: DmNo) -> Result<(), WorldEnd>
-        requires { (g : Given) × (log : Log) × Marked self.old g log (Up dm) }
-        ensures ok { IfOk result (λ _. (g : Given) (log : Log) → Marked self.old g log (Up dm)
+        requires { (g : Input) × (log : Log) × Marked self.old g log (Up dm) }
+        ensures ok { IfOk result (λ _. (g : Input) (log : Log) → Marked self.old g log (Up dm)
             → Happened self.new g log) }
-        ensures limit { IsErrOf result WorldEnd.Limit → (g : Given) (log : Log)
+        ensures limit { IsErrOf result WorldEnd.Limit → (g : Input) (log : Log)
             → Marked self.old g log (Up dm) → EndsBy g }
     {
         if !self.spool.up(dm) {
@@ -229,10 +229,10 @@ impl<'a> World<'a> {
     }
 
     fn submit(&mut self, number: TxnNo) -> Result<(), WorldEnd>
-        requires { (g : Given) × (log : Log) × Marked self.old g log (Submit number) }
-        ensures ok { IfOk result (λ _. (g : Given) (log : Log)
+        requires { (g : Input) × (log : Log) × Marked self.old g log (Submit number) }
+        ensures ok { IfOk result (λ _. (g : Input) (log : Log)
             → Marked self.old g log (Submit number) → Happened self.new g log) }
-        ensures limit { IsErrOf result WorldEnd.Limit → (g : Given) (log : Log)
+        ensures limit { IsErrOf result WorldEnd.Limit → (g : Input) (log : Log)
             → Marked self.old g log (Submit number) → EndsBy g }
     {
         let txn = &self.txns.as_slice()[number.0 as usize - 1];
@@ -243,18 +243,18 @@ impl<'a> World<'a> {
     }
 
     fn tick(&mut self, tm: TmNo, n: u32)
-        requires { (g : Given) × (log : Log) × Marked self.old g log (Tick tm n) }
-        ensures { (g : Given) (log : Log) → Marked self.old g log (Tick tm n) → Happened self.new g log }
+        requires { (g : Input) × (log : Log) × Marked self.old g log (Tick tm n) }
+        ensures { (g : Input) (log : Log) → Marked self.old g log (Tick tm n) → Happened self.new g log }
     {
         self.sites.tick(tm, n);
     }
 
     /// Carries out one event, which is the next.
     pub(crate) fn happen(&mut self, event: &Event) -> Result<(), WorldEnd>
-        requires { (g : Given) × (log : Log) × Before self.old g log event.now }
-        ensures ok { IfOk result (λ _. (g : Given) (log : Log) → Before self.old g log event.now
+        requires { (g : Input) × (log : Log) × Before self.old g log event.now }
+        ensures ok { IfOk result (λ _. (g : Input) (log : Log) → Before self.old g log event.now
             → Happened self.new g log) }
-        ensures limit { IsErrOf result WorldEnd.Limit → (g : Given) (log : Log)
+        ensures limit { IsErrOf result WorldEnd.Limit → (g : Input) (log : Log)
             → Before self.old g log event.now → EndsBy g }
     {
         if self.marks == u32::MAX {
@@ -279,13 +279,13 @@ impl<'a> World<'a> {
 
     /// Carries out a round.
     fn round(&mut self) -> Result<(), WorldEnd>
-        requires { (g : Given) × (log : Log) × (e : Event) × Settling self.old g log e
+        requires { (g : Input) × (log : Log) × (e : Event) × Settling self.old g log e
             × (quiet (all_links g) (calls_of log) ≡ false) }
-        ensures ok { IfOk result (λ _. (g : Given) (log : Log) (e : Event)
+        ensures ok { IfOk result (λ _. (g : Input) (log : Log) (e : Event)
             → Settling self.old g log e → quiet (all_links g) (calls_of log) ≡ false
             → Settles self.new g e) }
         ensures more { IfOk result (λ _. self.old.marks < self.new.marks) }
-        ensures limit { IsErrOf result WorldEnd.Limit → (g : Given) (log : Log) (e : Event)
+        ensures limit { IsErrOf result WorldEnd.Limit → (g : Input) (log : Log) (e : Event)
             → Settling self.old g log e → quiet (all_links g) (calls_of log) ≡ false → EndsBy g }
     {
         let mut events = VecDeque::from_vec(self.net.round()?);
@@ -297,10 +297,10 @@ impl<'a> World<'a> {
 
     /// Carries out rounds until the world is quiet.
     pub(crate) fn settle_down(&mut self) -> Result<(), WorldEnd>
-        requires { (g : Given) × (log : Log) × (e : Event) × Settling self.old g log e }
-        ensures ok { IfOk result (λ _. (g : Given) (log : Log) (e : Event)
+        requires { (g : Input) × (log : Log) × (e : Event) × Settling self.old g log e }
+        ensures ok { IfOk result (λ _. (g : Input) (log : Log) (e : Event)
             → Settling self.old g log e → IsSettled self.new g e) }
-        ensures limit { IsErrOf result WorldEnd.Limit → (g : Given) (log : Log) (e : Event)
+        ensures limit { IsErrOf result WorldEnd.Limit → (g : Input) (log : Log) (e : Event)
             → Settling self.old g log e → EndsBy g }
     {
         while !self.quiet() {
@@ -317,12 +317,12 @@ impl<'a> World<'a> {
     /// Where an event, or a message of a link, would pass the limit, and where memory runs out;
     /// the world is gone then.
     pub fn step(mut self, event: &Event) -> Result<Self, WorldEnd>
-        requires { (g : Given) × (log : Log) × StandsFor self g log × IsPossible g event.now
+        requires { (g : Input) × (log : Log) × StandsFor self g log × IsPossible g event.now
             × IsGood (with_event g event.now) }
-        ensures log { IfOk result (λ world. (g : Given) (log : Log) → StandsFor self.entry g log
+        ensures log { IfOk result (λ world. (g : Input) (log : Log) → StandsFor self.entry g log
             → IsPossible g event.now → IsGood (with_event g event.now)
             → (more : Log) × StandsFor world (with_event g event.now) more) }
-        ensures limit { IsErrOf result WorldEnd.Limit → (g : Given) (log : Log)
+        ensures limit { IsErrOf result WorldEnd.Limit → (g : Input) (log : Log)
             → StandsFor self.entry g log → IsPossible g event.now → IsGood (with_event g event.now)
             → EndsBy (with_event g event.now) }
     {
@@ -338,12 +338,12 @@ impl<'a> World<'a> {
     ///
     /// As of `step`.
     pub fn settle(mut self) -> Result<Self, WorldEnd>
-        requires { (g : Given) × (log : Log) × StandsFor self g log
+        requires { (g : Input) × (log : Log) × StandsFor self g log
             × IsGood (with_event g Settle) }
-        ensures log { IfOk result (λ world. (g : Given) (log : Log) → StandsFor self.entry g log
+        ensures log { IfOk result (λ world. (g : Input) (log : Log) → StandsFor self.entry g log
             → IsGood (with_event g Settle)
             → (more : Log) × StandsFor world (with_event g Settle) more) }
-        ensures limit { IsErrOf result WorldEnd.Limit → (g : Given) (log : Log)
+        ensures limit { IsErrOf result WorldEnd.Limit → (g : Input) (log : Log)
             → StandsFor self.entry g log → IsGood (with_event g Settle)
             → EndsBy (with_event g Settle) }
     {

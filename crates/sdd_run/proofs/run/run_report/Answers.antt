@@ -1,4 +1,4 @@
-use Rattle.sdd_run.proofs.All.{AllZip, IsSound, IsTable, eras_in, given_of, subst, sym, ◌∙◌}
+use Rattle.sdd_run.proofs.All.{AllZip, IsSound, IsTable, eras_in, input_of, subst, sym, ◌∙◌}
 use Rattle.sdd_run.proofs.Ordered.{orderable}
 use Rattle.sdd_run.proofs.Reported.{last_homes, reported}
 use Rattle.sdd_run.proofs.run.run_report.Goals as goal
@@ -19,7 +19,7 @@ report_on-requires c =
     let tabled = subst (λ ts. AllZip IsTable (eras_in cat c.args.work) ts) (sym c.as_slice.ensures.value)
     (subst (λ cats. AllZip IsTable cats c.in_ok-tables.tables.items) (c.eras.ensures ∙ c.in_ok-lists.ensures.eras) c.in_ok-tables.ensures) in
     let sound = subst IsSound is c.known.ensures.sound in (
-      given_of cat tables c.args.work,
+      input_of cat tables c.args.work,
       r.log,
       orderable cat tables c.args.work sound c.requires.valid tabled r.log r.log_is,
       r.stands,
@@ -30,7 +30,7 @@ returns-clause-report c =
     let cat = c.args.catalogue.now in
     let tables = c.as_slice.result.now in
     let r = c.in_ok-world.ensures.run in
-    let given = given_of cat tables c.args.work in
+    let given = input_of cat tables c.args.work in
     let is = c.whole-whole.ensures ∙ c.in_ok-lists.ensures.whole in
     let tabled = subst (λ ts. AllZip IsTable (eras_in cat c.args.work) ts) (sym c.as_slice.ensures.value)
     (subst (λ cats. AllZip IsTable cats c.in_ok-tables.tables.items) (c.eras.ensures ∙ c.in_ok-lists.ensures.eras) c.in_ok-tables.ensures) in

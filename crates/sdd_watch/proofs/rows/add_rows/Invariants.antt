@@ -1,11 +1,11 @@
 use Rattle.std.proofs.Common.{drop, fold, ◌≡◌}
-use Rattle.sdd_obligations.specs.All.{Given, Log}
+use Rattle.sdd_obligations.specs.All.{Input, Log}
 use Rattle.sdd_run.specs.world.Standing.{Calm}
 use Rattle.sdd_watch.specs.Happens.{changes_applied, with_row}
 use Rattle.sdd_watch.proofs.rows.add_rows.Given as goal
 
 -- with what is left there are the rows of all changes
 abbrev pub invariant-loop-change : goal.invariant-loop-change
-invariant-loop-change l = (g : Given) (log : Log) → Calm l.world g log
+invariant-loop-change l = (g : Input) (log : Log) → Calm l.world g log
     → fold (with_row g log) l.rows.items (changes_applied g l.dm (drop l.change-index l.changes))
     ≡ fold (with_row g log) l.fn.rows.items (changes_applied g l.dm l.changes)

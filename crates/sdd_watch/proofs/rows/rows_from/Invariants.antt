@@ -1,11 +1,11 @@
 use Rattle.std.proofs.Common.{[], drop, flat_map, fold, ◌≡◌}
-use Rattle.sdd_obligations.specs.All.{Given, Log, history}
+use Rattle.sdd_obligations.specs.All.{Input, Log, history}
 use Rattle.sdd_run.specs.world.Standing.{Calm}
 use Rattle.sdd_watch.specs.Happens.{applied_by, with_row}
 use Rattle.sdd_watch.proofs.rows.rows_from.Given as goal
 
 -- with what is left there are the rows of all records from the place on
 abbrev pub invariant-loop-place : goal.invariant-loop-place
-invariant-loop-place l = (g : Given) (log : Log) → Calm l.world g log
+invariant-loop-place l = (g : Input) (log : Log) → Calm l.world g log
     → fold (with_row g log) l.rows.items (flat_map (applied_by g (history log)) (drop l.place l.records))
     ≡ fold (with_row g log) [] (flat_map (applied_by g (history log)) (drop l.from l.records))

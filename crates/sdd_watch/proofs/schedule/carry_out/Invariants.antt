@@ -1,14 +1,14 @@
 use Rattle.std.proofs.Common.{◌+◌, ◌≡◌, ◌<◌, ◌^◌, suc, length}
-use Rattle.sdd_obligations.specs.All.{Given, Log}
+use Rattle.sdd_obligations.specs.All.{Input, Log}
 use Rattle.sdd_run.specs.world.Schedules.{AreAllowed, with_events}
 use Rattle.sdd_watch.specs.Telling.{IsTold}
 use Rattle.sdd_watch.proofs.schedule.carry_out.Given as goal
 
 abbrev pub invariant-loop-event : goal.invariant-loop-event
 invariant-loop-event l = record {
-  so_far : (given : Given) (log : Log) → IsTold l.fn.world given log l.fn.teller 1
+  so_far : (given : Input) (log : Log) → IsTold l.fn.world given log l.fn.teller 1
       → AreAllowed given l.fn.events.items l.fn.lists.items
-      → (now : Given) × (more : Log) × IsTold l.now now more l.teller (suc l.place)
+      → (now : Input) × (more : Log) × IsTold l.now now more l.teller (suc l.place)
       × AreAllowed now l.left.items l.further.items × (with_events now l.left.items ≡ with_events given l.fn.events.items);
   count : l.place + length l.left.items ≡ length l.fn.events.items;
 }

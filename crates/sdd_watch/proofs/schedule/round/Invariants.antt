@@ -1,11 +1,11 @@
 use Rattle.std.proofs.Common.{◌+◌, ◌≡◌, length}
-use Rattle.sdd_obligations.specs.All.{Event, Given, Log, marks}
+use Rattle.sdd_obligations.specs.All.{Event, Input, Log, marks}
 use Rattle.sdd_watch.specs.Telling.{TellsRound}
 use Rattle.sdd_watch.proofs.schedule.round.Given as goal
 
 abbrev pub invariant-loop-event : goal.invariant-loop-event
 invariant-loop-event l = record {
-  so_far : (g : Given) (log : Log) (e : Event) → TellsRound l.fn.world g log e l.fn.events.items l.fn.teller l.fn.place l.fn.number
+  so_far : (g : Input) (log : Log) (e : Event) → TellsRound l.fn.world g log e l.fn.events.items l.fn.teller l.fn.place l.fn.number
       → (more : Log) × TellsRound l.now g more e l.left.items l.teller l.fn.place l.fn.number
       × (marks more + length l.left.items ≡ marks log + length l.fn.events.items);
 }

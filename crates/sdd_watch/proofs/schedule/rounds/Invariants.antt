@@ -1,12 +1,12 @@
 use Rattle.std.proofs.Common.{◌-◌, ◌^◌}
-use Rattle.sdd_obligations.specs.All.{Given, IsGood, Log, TakesRounds, with_event}
+use Rattle.sdd_obligations.specs.All.{Input, IsGood, Log, TakesRounds, with_event}
 use Rattle.sdd_run.specs.world.Standing.{events_of}
 use Rattle.sdd_watch.specs.Telling.{IsTold, TellsBetween}
 use Rattle.sdd_watch.proofs.schedule.rounds.Given as goal
 
 abbrev pub invariant-loop-now : goal.invariant-loop-now
 invariant-loop-now l = record {
-  so_far : (g : Given) (log : Log) → IsTold l.fn.world g log l.fn.teller l.fn.place → TakesRounds l.fn.event → IsGood (with_event g l.fn.event)
+  so_far : (g : Input) (log : Log) → IsTold l.fn.world g log l.fn.teller l.fn.place → TakesRounds l.fn.event → IsGood (with_event g l.fn.event)
       → (more : Log) × TellsBetween l.now (with_event g l.fn.event) more l.fn.event l.teller l.fn.place l.number;
 }
 

@@ -1,10 +1,10 @@
 use Rattle.std.proofs.Common.{filter, take, ◌≡◌}
-use Rattle.sdd_obligations.specs.All.{Given, Log}
+use Rattle.sdd_obligations.specs.All.{Input, Log}
 use Rattle.sdd_watch.specs.Happens.{takes_part}
 use Rattle.sdd_watch.specs.Watching.{IsOver, arrived}
 use Rattle.sdd_watch.proofs.taking_part.busy.Given as goal
 
 -- those so far
 abbrev pub invariant-loop-at : goal.invariant-loop-at
-invariant-loop-at l = (g : Given) (old new : Log) → IsOver g old new l.world l.event l.found → l.arrived ≡ arrived g old new
+invariant-loop-at l = (g : Input) (old new : Log) → IsOver g old new l.world l.event l.found → l.arrived ≡ arrived g old new
     → l.busy.items ≡ filter (takes_part g old new) (take l.at-index l.sites)

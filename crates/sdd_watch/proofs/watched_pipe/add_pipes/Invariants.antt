@@ -1,10 +1,10 @@
 -- The pipes of the classes before the one at hand are added.
 use Rattle.std.proofs.Common.{[], map, ◌++◌, ◌≡◌}
-use Rattle.sdd_obligations.specs.All.{Given}
+use Rattle.sdd_obligations.specs.All.{Input}
 use Rattle.sdd_watch.specs.Watching.{watched_pipe}
 use Rattle.sdd_watch.proofs.PipesBegun.{first_classes}
 use Rattle.sdd_watch.proofs.watched_pipe.add_pipes.Given as goal
 
 abbrev pub invariant-loop-class : goal.invariant-loop-class
 invariant-loop-class l =
-    (g : Given) → l.catalogue ≡ g.catalogue → l.pipes.items ≡ l.initial.pipes.items ++ map (watched_pipe g []) (first_classes l.dm.0 l.class)
+    (g : Input) → l.catalogue ≡ g.catalogue → l.pipes.items ≡ l.initial.pipes.items ++ map (watched_pipe g []) (first_classes l.dm.0 l.class)

@@ -1,9 +1,9 @@
 -- The pipes of the data modules before the one at hand are added.
 use Rattle.std.proofs.Common.{[], map, ◌≡◌}
-use Rattle.sdd_obligations.specs.All.{Given}
+use Rattle.sdd_obligations.specs.All.{Input}
 use Rattle.sdd_watch.specs.Watching.{watched_pipe}
 use Rattle.sdd_watch.proofs.PipesBegun.{pipes_before}
 use Rattle.sdd_watch.proofs.watched_pipe.first_pipes.Given as goal
 
 abbrev pub invariant-loop-number : goal.invariant-loop-number
-invariant-loop-number l = (g : Given) → l.catalogue ≡ g.catalogue → l.pipes.items ≡ map (watched_pipe g []) (pipes_before g l.number)
+invariant-loop-number l = (g : Input) → l.catalogue ≡ g.catalogue → l.pipes.items ≡ map (watched_pipe g []) (pipes_before g l.number)

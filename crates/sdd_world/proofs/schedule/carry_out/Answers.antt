@@ -1,4 +1,4 @@
-use Rattle.sdd_world.proofs.All.{AreAllowed, Given, ap, no_items, subst, sym, with_event, with_events, ◌∙◌}
+use Rattle.sdd_world.proofs.All.{AreAllowed, Input, ap, no_items, subst, sym, with_event, with_events, ◌∙◌}
 use Rattle.sdd_world.proofs.Failing.{handed_on}
 use Rattle.sdd_world.proofs.Carrying.{carried_all, ends_from, first_allowed, first_one, with_first}
 use Rattle.sdd_world.proofs.schedule.carry_out.Goals as goal
@@ -8,7 +8,7 @@ loop-event-init c =
     let r = c.requires in
     let events = c.from_vec-left.ensures.items in
     let lists = c.from_vec-further.ensures.items in
-    let begun : (g : Given) → AreAllowed g c.args.events.items c.args.lists.items
+    let begun : (g : Input) → AreAllowed g c.args.events.items c.args.lists.items
     → AreAllowed g c.from_vec-left.result.items c.from_vec-further.result.items = λ g a.
     subst (λ es. AreAllowed g es c.from_vec-further.result.items) (sym events) (subst (AreAllowed g c.args.events.items) (sym lists) a) in
     record { some = (r.0, r.1, r.2, begun r.0 r.3); so_far = λ given log s a. (given, log, s, begun given a, ap (with_events given) events) }

@@ -1,6 +1,6 @@
 -- What is read of the link in the world is what the log gives.
 use Rattle.std.proofs.Common.{◌≡◌}
-use Rattle.sdd_obligations.specs.All.{Given, IsLinkOf, Log, Site, calls_of}
+use Rattle.sdd_obligations.specs.All.{Input, IsLinkOf, Log, Site, calls_of}
 use Rattle.sdd_watch.specs.Watching.{IsOver, watched_link}
 use Rattle.sdd_watch.proofs.Looked.{IsRead, link_kept, link_looked, link_there, taken_told}
 use Rattle.sdd_watch.proofs.watched_link.WatchedLink.look.Goals as goal
@@ -18,7 +18,7 @@ sent-sent-requires c =
 pub handed-handed-requires : goal.handed-handed-requires
 handed-handed-requires c = (c.requires.0, c.requires.2, c.requires.4, c.requires.3.calm)
 
-read : (c : goal.In_ok-seen) (g : Given) (old new : Log) (l : Site × Site) → IsOver g old new c.args.world.now c.args.event.now c.args.found.now
+read : (c : goal.In_ok-seen) (g : Input) (old new : Log) (l : Site × Site) → IsOver g old new c.args.world.now c.args.event.now c.args.found.now
     → IsLinkOf g l.0 l.1 → c.args.self.now ≡ watched_link old l
     → IsRead old new c.args.self.now c.is_taken-taken.result c.left_of-left.result c.in_ok-news.news c.sent-sent.result c.handed-handed.result
 read c g old new l over linked w =

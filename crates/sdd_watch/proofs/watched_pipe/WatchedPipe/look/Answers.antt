@@ -1,6 +1,6 @@
 -- What is read of the pipe in the world is what the log gives.
 use Rattle.std.proofs.Common.{List, [], ap, length, refl, ℕ, ◌++◌, ◌+◌, ◌-◌, ◌∙◌, ◌∷◌, ◌≡◌, ◌≤◌}
-use Rattle.sdd_obligations.specs.All.{D, Given, IsSiteOf, Log, dm_no, local_of, setting_of}
+use Rattle.sdd_obligations.specs.All.{D, Input, IsSiteOf, Log, dm_no, local_of, setting_of}
 use Rattle.sdd_run.specs.world.Standing.{Calm}
 use Rattle.sdd_inside.specs.declared.moment.PipeMoment.{PipeMoment}
 use Rattle.sdd_watch.specs.Watching.{watched_pipe}
@@ -12,7 +12,7 @@ data_module-module-requires c =
     let r = c.requires in
     (setting_of r.0 (D c.args.self.now.dm), local_of r.0 (D c.args.self.now.dm) r.1, c.sites-sites.ensures r.0 r.1 r.2 (D c.args.self.now.dm) r.3)
 
-read : (c : goal.In_ok-add) (g : Given) (old new : Log) (d n : ℕ) → Calm c.args.world.now g new → IsSiteOf g (D (dm_no d)) → n ≤ length g.catalogue.classes
+read : (c : goal.In_ok-add) (g : Input) (old new : Log) (d n : ℕ) → Calm c.args.world.now g new → IsSiteOf g (D (dm_no d)) → n ≤ length g.catalogue.classes
     → c.args.self.now ≡ watched_pipe g old (d, n) → IsRead g new d n c.unprocessed-unprocessed.result c.passed_to-passed.result
 read c g old new d n calm site few is =
     read_pipe g old new d n c.args.self.now c.sites-sites.result.now c.data_module-module.result.now c.unprocessed-unprocessed.result c.passed_to-passed.result

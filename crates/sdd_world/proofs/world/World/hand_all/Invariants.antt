@@ -1,10 +1,10 @@
-use Rattle.sdd_world.proofs.All.{Given, HandedOn, Handing, IsLinkOf, Log, ahead_of, from_one, length}
+use Rattle.sdd_world.proofs.All.{HandedOn, Handing, Input, IsLinkOf, Log, ahead_of, from_one, length}
 use Rattle.sdd_world.proofs.world.World.hand_all.Given as goal
 
 abbrev pub invariant-loop-msg : goal.invariant-loop-msg
 invariant-loop-msg l = record {
-  some : (given : Given) × (log : Log) × IsLinkOf given l.from l.to × Handing l.self given log l.to (from_one l.from l.queue.items);
-  so_far : (given : Given) (log : Log) → IsLinkOf given l.from l.to
+  some : (given : Input) × (log : Log) × IsLinkOf given l.from l.to × Handing l.self given log l.to (from_one l.from l.queue.items);
+  so_far : (given : Input) (log : Log) → IsLinkOf given l.from l.to
       → Handing l.fn.self given log
       l.to (from_one l.from l.fn.messages)
       → HandedOn l.self given l.to

@@ -1,10 +1,10 @@
-use Rattle.sdd_world.proofs.All.{D, Given, Handing, Log, Rising, ahead_of, kept_count, kept_from, mailbox_at, ◌≡◌}
+use Rattle.sdd_world.proofs.All.{D, Handing, Input, Log, Rising, ahead_of, kept_count, kept_from, mailbox_at, ◌≡◌}
 use Rattle.sdd_world.proofs.world.World.hand_kept.Given as goal
 
 abbrev pub invariant-loop-from : goal.invariant-loop-from
 invariant-loop-from l = record {
-  some : (given : Given) × (log : Log) × Handing l.self given log (D l.dm) (kept_from (mailbox_at l.self.spool l.dm.0)) × Rising given l.self.spool l.dm.0;
-  so_far : (given : Given) (log : Log) → Handing l.fn.self given log (D l.dm) (kept_from (mailbox_at l.fn.self.spool l.dm.0))
+  some : (given : Input) × (log : Log) × Handing l.self given log (D l.dm) (kept_from (mailbox_at l.self.spool l.dm.0)) × Rising given l.self.spool l.dm.0;
+  so_far : (given : Input) (log : Log) → Handing l.fn.self given log (D l.dm) (kept_from (mailbox_at l.fn.self.spool l.dm.0))
       → Rising given l.fn.self.spool l.dm.0 → (more : Log) × Handing
       l.self given more (D l.dm) (kept_from (mailbox_at l.self.spool l.dm.0))
       × Rising given l.self.spool l.dm.0 × (ahead_of given more ≡ ahead_of given log);

@@ -1,16 +1,16 @@
 -- What is given is sound; and the eras of a log.
 use Rattle.std.specs.Prelude.{ℕ, ◌≡◌, ◌≤◌, ◌∷◌, ◌++◌, List, [], length}
 use Rattle.std.specs.List.{All}
-use Rattle.sdd_invariants.specs.All.{AreSubmittedOnce, Catalogue, D, Fits, FitsStart, Given, IsForce, IsHeld, IsSound, Log, Mark, PutsHeld, RelNo, Row, Submit, TxnNo, dm_no, force_at, marks, redeclares, rows_of, submits_in}
+use Rattle.sdd_invariants.specs.All.{AreSubmittedOnce, Catalogue, D, Fits, FitsStart, Input, IsForce, IsHeld, IsSound, Log, Mark, PutsHeld, RelNo, Row, Submit, TxnNo, dm_no, force_at, marks, redeclares, rows_of, submits_in}
 use Rattle.sdd_laws.specs.All.{AreEras, Eras, IsFrom1To, IsModule, in_force}
 
 -- the catalogue is valid
-pub record IsSoundGiven (g : Given) : Type 0 where
+pub record IsSoundInput (g : Input) : Type 0 where
   pub catalogue : IsSound g.catalogue
 
 -- every data module begins with these rows, which fit the catalogue, as the transactions do; and the rows and what the
 -- transactions put hold numbers of 64 bits
-pub record HasSoundData (g : Given) (rows : List (RelNo × Row)) : Type 0 where
+pub record HasSoundData (g : Input) (rows : List (RelNo × Row)) : Type 0 where
   pub txns_fit : All (Fits g.catalogue) g.txns
   pub txns_held : All (λ t. All PutsHeld t.statements) g.txns
   pub rows_fit : All (FitsStart g.catalogue) rows
@@ -19,7 +19,7 @@ pub record HasSoundData (g : Given) (rows : List (RelNo × Row)) : Type 0 where
 
 -- these are the eras of the log: at each of its events the catalogue of the list of classes that was put in force last,
 -- which has its protocol table
-pub record AreErasOf (g : Given) (log : Log) (eras : Eras) : Type 0 where
+pub record AreErasOf (g : Input) (log : Log) (eras : Eras) : Type 0 where
   pub are_eras : AreEras g.catalogue eras
   pub force_is : (later before : Log) → log ≡ later ++ before
       → in_force g.catalogue eras (marks before) ≡ (force_at g (redeclares before)).catalogue
@@ -30,10 +30,10 @@ abbrev pub one_era : Catalogue → Eras
 one_era cat = (0, cat) ∷ []
 
 -- the events that submit name transactions that are given, which are numbered from 1
-abbrev pub AreNumbered : Given → Log → Type 0
+abbrev pub AreNumbered : Input → Log → Type 0
 AreNumbered g log = (later before : Log) (n : TxnNo) → log ≡ later ++ Mark (Submit n) ∷ before → IsFrom1To (length g.txns) n.0
 
 -- the events submit each transaction at most once, and only such as are given
-pub record SubmitGiven (g : Given) : Type 0 where
+pub record SubmitGiven (g : Input) : Type 0 where
   pub once : AreSubmittedOnce g.events
   pub given : (n : ℕ) → 1 ≤ submits_in n g.events → IsFrom1To (length g.txns) n
