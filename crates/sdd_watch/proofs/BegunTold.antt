@@ -1,11 +1,11 @@
 -- What is told before the first event, and of a whole run.
-use Rattle.std.proofs.Common.{ℕ, ◌<◌, ◌^◌, ◌≡◌, ◌∙◌, ap, arith, length, map, refl, sym, subst, List, [], ◌++◌}
+use Rattle.std.proofs.Common.{ℕ, ◌<◌, ◌^◌, ◌≡◌, ◌∙◌, ap, arith, length, map, refl, subst, List, [], ◌++◌}
 use Rattle.sdd_obligations.specs.All.{Catalogue, Event, Input, IsSound, Txn}
 use Rattle.sdd_obligations.specs.base.Words.{tail_of}
 use Rattle.sdd_obligations.specs.protocol.declared.entry.Entry.{Entry}
 use Rattle.sdd_inside.specs.Lines.{beginning}
 use Rattle.sdd_run.specs.Lent.{force_in}
-use Rattle.sdd_run.specs.Runs.{AreTables, begun, forces_of, input_of}
+use Rattle.sdd_run.specs.Runs.{AreTables, begun, forces_of}
 use Rattle.sdd_run.specs.class_lists.InForce.{eras_in, whole_in}
 use Rattle.sdd_run.specs.report.declared.copies.CopyTable.{CopyTable}
 use Rattle.sdd_run.specs.script.All.{IsValid}

@@ -1,6 +1,6 @@
 -- Logs, event by event: the log when so many events are over, and what lies between it and the next.
-use Rattle.std.proofs.Common.{ℕ, suc, ◌-◌, ◌+◌, ◌<◌, ◌≤◌, ◌≡◌, ◌≢◌, ◌∙◌, refl, ap, sym, subst, arith, Bool, true, false, List, [], ◌∷◌, ◌++◌, Option, Some, None, inl, inr}
-use Rattle.std.specs.Prelude.{◌⊎◌, nat_le, if◌then◌else◌}
+use Rattle.std.proofs.Common.{ℕ, suc, ◌+◌, ◌<◌, ◌≤◌, ◌≡◌, ◌∙◌, refl, ap, sym, subst, arith, true, false, [], ◌∷◌, ◌++◌, Option, Some, None, inl, inr}
+use Rattle.std.specs.Prelude.{nat_le, if◌then◌else◌}
 use Rattle.std.proofs.lemmas.Bool.{cases_lt, le-leb, lt-leb}
 use Rattle.sdd_obligations.specs.All.{Does, Event, Hand, Input, IsLawful, Log, Mark, Notes, Redeclare, Redeclares, Rests, Round, Submitted, marks, next}
 use Rattle.sdd_obligations.specs.logs.Entries.{Entry}

@@ -1,5 +1,5 @@
 -- An event is carried out and told, over plain worlds.
-use Rattle.std.proofs.Common.{ℕ, suc, ◌≡◌, ◌∙◌, refl, ap, sym, subst, arith, List, [], ◌∷◌, ◌++◌, length, Option, Some, None}
+use Rattle.std.proofs.Common.{ℕ, suc, ◌≡◌, ◌∙◌, refl, ap, sym, subst, arith, List, [], ◌∷◌, ◌++◌, length, Some, None}
 use Rattle.sdd_obligations.specs.All.{Deliver, Down, Event, Input, IsLawful, IsPossible, Log, Lose, Mark, Redeclare, Redeclares, Repeat, Resend, Rests, Round, Settle, Submit, Tick, Up, after_mark, left, marks, next, with_event}
 use Rattle.sdd_obligations.specs.base.Words.{tail_of}
 use Rattle.sdd_obligations.specs.logs.Entries.{Entry}

@@ -1,5 +1,5 @@
 -- One event more is given: the places in the schedule stay, and so does what is told of the log.
-use Rattle.std.proofs.Common.{ℕ, suc, ◌-◌, ◌+◌, ◌<◌, ◌≤◌, ◌≡◌, ◌∙◌, refl, ap, sym, subst, arith, Bool, true, false, List, [], ◌∷◌, ◌++◌, length, Option, Some, None}
+use Rattle.std.proofs.Common.{ℕ, suc, ◌-◌, ◌≤◌, ◌≡◌, ◌∙◌, refl, ap, arith, Bool, true, false, List, [], ◌∷◌, ◌++◌, length, Some, None}
 use Rattle.sdd_obligations.specs.All.{Deliver, Does, Down, Event, Hand, Input, IsLawful, Log, Lose, Mark, Notes, Redeclare, Redeclares, Repeat, Resend, Round, Settle, Submit, Submitted, Tick, Up, all_links, calls_of, greatest_bound, left, marks, next, quiet, round, with_event}
 use Rattle.sdd_obligations.specs.logs.Entries.{Entry}
 use Rattle.sdd_obligations.specs.logs.Marks.{from_event, mark_from, mark_of, next_mark}

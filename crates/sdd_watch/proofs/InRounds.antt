@@ -1,10 +1,10 @@
 -- Which events are left, and how many rounds were begun.
-use Rattle.std.proofs.Common.{ℕ, suc, ◌-◌, ◌≡◌, ◌≢◌, ◌∙◌, refl, ap, sym, subst, arith, Bool, true, false, List, [], ◌∷◌, ◌++◌, length, Option, Some, None, inl, inr}
+use Rattle.std.proofs.Common.{ℕ, suc, ◌≡◌, ◌≢◌, ◌∙◌, refl, ap, sym, Bool, true, false, List, [], ◌∷◌, ◌++◌, Some, None, inl, inr}
 use Rattle.std.specs.Prelude.{◌⊎◌}
-use Rattle.sdd_obligations.specs.All.{Deliver, Does, Down, EndsIn, Event, Hand, Input, IsLawful, Log, Lose, Mark, Notes, Redeclare, Redeclares, Repeat, Resend, Round, Settle, Submit, Submitted, Tick, Up, after_mark, all_links, calls_of, left, links, marks, next, quiet, round, settles_before, with_event}
+use Rattle.sdd_obligations.specs.All.{Deliver, Does, Down, Event, Hand, Input, IsLawful, Log, Lose, Mark, Notes, Redeclare, Redeclares, Repeat, Resend, Round, Settle, Submit, Submitted, Tick, Up, after_mark, all_links, calls_of, left, marks, next, quiet, round}
 use Rattle.sdd_obligations.specs.logs.Entries.{Entry}
 use Rattle.sdd_obligations.specs.logs.Marks.{mark_from, mark_of}
-use Rattle.sdd_obligations.proofs.logs.Completing.{IsSingle, complete_parts, one_more}
+use Rattle.sdd_obligations.proofs.logs.Completing.{complete_parts}
 use Rattle.sdd_obligations.proofs.logs.Grows.{grows, mark_is_next, with_end}
 use Rattle.sdd_obligations.proofs.logs.Rounding.{no_events_quiet}
 use Rattle.sdd_watch.specs.Happens.{rounds, unless_in_round}

@@ -1,11 +1,11 @@
 -- Where a round begins nothing changes but what is left of it: what is told of the event before stays.
-use Rattle.std.proofs.Common.{ℕ, ◌≡◌, refl, Bool, List, ◌∷◌, map, filter, Option, Some, None}
+use Rattle.std.proofs.Common.{◌≡◌, refl, List, ◌∷◌, map, filter, Option, Some, None}
 use Rattle.std.specs.Prelude.{◌||◌}
 use Rattle.sdd_obligations.specs.All.{Deliver, Down, Event, Input, Log, Lose, Msg, Packet, Redeclare, Repeat, Resend, Round, Settle, Site, Submit, Tick, Up, link_of, marks, packet_at, sites}
 use Rattle.sdd_inside.specs.Differences.{difference}
 use Rattle.sdd_inside.specs.declared.delta.Taken.{Taken}
 use Rattle.sdd_inside.specs.declared.delta.Taken.TheVariants.{Ack, Message}
-use Rattle.sdd_watch.specs.Happens.{arrived_by, arrived_of, concerns, found_by, happened_at, is_reached, last_event, round_at, rows_of, scheduled_at, taken}
+use Rattle.sdd_watch.specs.Happens.{arrived_by, arrived_of, concerns, found_by, is_reached, last_event, round_at, rows_of, scheduled_at, taken}
 use Rattle.sdd_watch.specs.Moments.{moment_of}
 use Rattle.sdd_watch.specs.States.{state_of}
 use Rattle.sdd_watch.specs.Text.{change}

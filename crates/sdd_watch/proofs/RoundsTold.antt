@@ -1,13 +1,13 @@
 -- The rounds of a settle or a redeclare, told event by event, over plain worlds.
 use Rattle.std.proofs.Common.{ℕ, suc, ◌-◌, ◌+◌, ◌^◌, ◌<◌, ◌≤◌, ◌≡◌, ◌≢◌, ◌∙◌, refl, ap, sym, subst, arith, true, false, List, [], ◌∷◌, ◌++◌, length, Option, Some, None}
 use Rattle.std.specs.Prelude.{MatchOption}
-use Rattle.sdd_obligations.specs.All.{AtEach, Deliver, Down, Event, Input, IsLawful, IsPossible, Log, Lose, MAX_RUN_EVENTS, Mark, Redeclare, Redeclares, Repeat, Resend, Round, Settle, Submit, TakesRounds, Tick, Up, after_mark, all_links, calls_of, greatest_bound, left, marks, next, quiet, with_event}
+use Rattle.sdd_obligations.specs.All.{Deliver, Down, Event, Input, IsLawful, IsPossible, Log, Lose, MAX_RUN_EVENTS, Mark, Redeclare, Redeclares, Repeat, Resend, Round, Settle, Submit, Tick, Up, after_mark, all_links, calls_of, greatest_bound, left, marks, next, quiet, with_event}
 use Rattle.sdd_obligations.proofs.logs.Completing.{redeclare_next, settled}
 use Rattle.sdd_run.specs.world.Standing.{Rounding, Settling, StandsFor, events_of}
 use Rattle.sdd_run.specs.world.declared.world.World.{World}
 use Rattle.sdd_run.proofs.world.Rounds.{few, free, round_before, round_ends}
 use Rattle.sdd_watch.specs.Happens.{place_in, round_in, rounds, unless_in_round}
-use Rattle.sdd_watch.specs.Telling.{IsTold, Tells, TellsBetween, TellsRound, TellsSettled}
+use Rattle.sdd_watch.specs.Telling.{IsTold, TellsBetween, TellsRound, TellsSettled}
 use Rattle.sdd_watch.specs.Watching.{IsTellable, IsToTell, IsTurn, foreseen_by}
 use Rattle.sdd_watch.specs.declared.foreseen.Foreseen.{Foreseen}
 use Rattle.sdd_watch.specs.declared.foreseen.Foreseen.TheVariants.{Something}

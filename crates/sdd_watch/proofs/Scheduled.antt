@@ -1,7 +1,7 @@
 -- Steps of a schedule that is told.
-use Rattle.std.proofs.Common.{ℕ, suc, ◌+◌, ◌≡◌, ◌∙◌, ap, arith, sym, subst, refl, false, List, [], ◌∷◌, Result, Ok, Err}
+use Rattle.std.proofs.Common.{ℕ, suc, ◌+◌, ◌≡◌, ◌∙◌, ap, arith, sym, subst, false, List, [], Result, Ok, Err}
 use Rattle.std.specs.Prelude.{IfOk, OnOk}
-use Rattle.sdd_obligations.specs.All.{Event, Input, IsGood, IsPossible, IsTheLog, Log, Settle, TakesRounds, Redeclare, with_event}
+use Rattle.sdd_obligations.specs.All.{Event, Input, IsGood, IsPossible, Log, Settle, TakesRounds, Redeclare, with_event}
 use Rattle.sdd_run.specs.world.Schedules.{IsAllowed, takes_rounds, with_events}
 use Rattle.sdd_run.specs.world.Standing.{EndsBy}
 use Rattle.sdd_run.specs.world.declared.ends.WorldEnd.{WorldEnd}

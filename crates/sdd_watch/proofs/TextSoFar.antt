@@ -1,9 +1,9 @@
 -- The text so far: one line more with each event, and the same text where a round begins or an event more is given.
-use Rattle.std.proofs.Common.{ℕ, zero, suc, ◌-◌, ◌+◌, ◌<◌, ◌≤◌, ◌≡◌, ◌∙◌, refl, ap, sym, subst, arith, List, [], ◌∷◌, ◌++◌, append_assoc, inl, inr}
+use Rattle.std.proofs.Common.{ℕ, zero, suc, ◌-◌, ◌+◌, ◌<◌, ◌≤◌, ◌≡◌, ◌∙◌, refl, ap, sym, arith, List, [], ◌∷◌, ◌++◌, append_assoc, inl, inr}
 use Rattle.std.specs.List.{flat_map, range_with_len}
 use Rattle.std.proofs.lemmas.Bool.{cases_lt}
 use Rattle.std.proofs.lemmas.List.{append-nil, flat_map_more}
-use Rattle.sdd_obligations.specs.All.{Event, Input, IsLawful, Log, Round, marks, next, numbers_to, with_event}
+use Rattle.sdd_obligations.specs.All.{Event, Input, IsLawful, Log, Round, marks, numbers_to, with_event}
 use Rattle.sdd_obligations.proofs.graph.Lists.{range_more}
 use Rattle.sdd_inside.specs.Lines.{beginning, line}
 use Rattle.sdd_run.specs.world.Copies.{tables_of}

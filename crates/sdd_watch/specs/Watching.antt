@@ -1,11 +1,11 @@
 -- What is kept between two events of what stood where, as the log gives it when the last event was over.
-use Rattle.std.specs.Prelude.{ℕ, ◌-◌, ◌≡◌, ◌==◌, ◌&&◌, Bool, true, false, not, if◌then◌else◌, List, [], ◌∷◌, ◌++◌, drop, filter_map, is_some, length, map, option_map, Option, Some, None}
+use Rattle.std.specs.Prelude.{ℕ, ◌-◌, ◌≡◌, ◌==◌, ◌&&◌, Bool, false, not, if◌then◌else◌, List, [], ◌∷◌, ◌++◌, drop, filter_map, is_some, length, map, option_map, Option, Some, None}
 use Rattle.std.specs.BTreeMap.{get}
 use Rattle.std.specs.BTreeSet.{contains}
 use Rattle.std.specs.List.{list_any, position}
 use Rattle.std.specs.Ordering.{nat_cmp}
 use Rattle.sdd_obligations.specs.All.{D, Deliver, Done, Down, Entry, Event, History, Input, IsLinkOf, IsPossible, Log, Lose, Mark, Message, Msg, Packet, Redeclare, Redeclares, Repeat, Resend, Rests, Site, U, Up, all_links, class_no, dm_no, handed, history, is_down, is_empty, link_of, local_of, marks, packet_at, pipe, same_site, sent, sites, time_at}
-use Rattle.sdd_obligations.specs.net.Links.{numbered, unacked}
+use Rattle.sdd_obligations.specs.net.Links.{unacked}
 use Rattle.sdd_obligations.specs.serial_orders.Finding.{pair_cmp}
 use Rattle.sdd_inside.specs.Differences.{is_of_link, takes_one}
 use Rattle.sdd_inside.specs.declared.delta.Found.{Found}

@@ -1,5 +1,5 @@
 use Rattle.std.proofs.Common.{◌∙◌, ap, arith, length, refl, subst, sym}
-use Rattle.sdd_obligations.specs.All.{Input, with_event}
+use Rattle.sdd_obligations.specs.All.{with_event}
 use Rattle.sdd_run.specs.world.Schedules.{AreAllowed, with_events}
 use Rattle.sdd_run.proofs.world.Carrying.{ends_from, first_allowed, first_one, with_first}
 use Rattle.sdd_run.proofs.world.Failing.{handed_on}

@@ -1,4 +1,4 @@
-use Rattle.std.proofs.Common.{◌+◌, ◌≡◌, ◌<◌, ◌^◌, suc, length}
+use Rattle.std.proofs.Common.{◌+◌, ◌≡◌, suc, length}
 use Rattle.sdd_obligations.specs.All.{Input, Log}
 use Rattle.sdd_run.specs.world.Schedules.{AreAllowed, with_events}
 use Rattle.sdd_watch.specs.Telling.{IsTold}

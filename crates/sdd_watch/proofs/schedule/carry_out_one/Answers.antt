@@ -1,5 +1,4 @@
 use Rattle.std.proofs.Common.{ap, subst, sym}
-use Rattle.sdd_obligations.specs.All.{Settle}
 use Rattle.sdd_run.specs.world.Schedules.{IsAllowed, lists_after}
 use Rattle.sdd_run.proofs.world.Carrying.{lists_stay, no_rounds}
 use Rattle.sdd_watch.proofs.Scheduled.{EndsIt, all_ok, redeclare_goes, redeclare_others, settle_ends, settle_goes, step_goes}
