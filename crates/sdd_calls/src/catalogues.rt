@@ -1,88 +1,94 @@
 //! Catalogues that are built of their parts, that a further class extends, and whose classes retire.
-use crate::read::{catalogue, wanting};
-use anyhow::{Result, anyhow};
 use sdd_eras::{extend, retire};
-use sdd_script::sdd_base::{Listed, Name, Parcel};
-use sdd_script::sdd_catalog::{Catalogue, ClassPart, Parts, ReadPart};
+use sdd_script::sdd_base::{Listed, Name, NoMemory, Parcel};
+use sdd_script::sdd_catalog::{CatError, Catalogue, ClassPart, Parts};
 use std::alloc::Global;
-use std::rt::Files;
+use std::slice;
 
-pub fn is_built_again<R: Files + AllocGlobal>(rt: &R) -> Result<bool> {
-    let cat = catalogue(rt, "own.toml")?;
-    let parts = cat.parts().map_err(wanting)?;
-    let copy = cat.copy().map_err(wanting)?;
-    Ok(has_parts(&copy, &parts)? && has_parts(&built(rt.alloc(), &parts)?, &parts)?)
+pub fn is_built_again(alloc: Global, cat: &Catalogue) -> Result<bool, NoMemory> {
+    let parts = cat.parts()?;
+    let copy = cat.copy()?;
+    Ok(has_parts(&copy, &parts)? && is_built(alloc, &parts)?)
 }
 
-fn has_parts(cat: &Catalogue, parts: &Parts) -> Result<bool> {
-    Ok(cat.parts().map_err(wanting)? == *parts)
+fn has_parts(cat: &Catalogue, parts: &Parts) -> Result<bool, NoMemory> {
+    let own = cat.parts()?;
+    Ok(are_same(&own, parts))
 }
 
-fn built(alloc: Global, parts: &Parts) -> Result<Catalogue> {
+fn are_same(own: &Parts, parts: &Parts) -> bool {
+    own == parts
+}
+
+fn is_built(alloc: Global, parts: &Parts) -> Result<bool, NoMemory> {
     match Catalogue::build(alloc, parts) {
-        Ok(cat) => Ok(cat),
-        Err(_) => Err(anyhow!("parts of no catalogue")),
-    }
-}
-
-/// A class `audit` comes after the one that is there.
-pub fn is_extended<R: Files + AllocGlobal>(rt: &R) -> Result<bool> {
-    let cat = catalogue(rt, "own.toml")?;
-    let further = further(rt.alloc(), "audit")?;
-    match extend(rt.alloc(), &cat, &further) {
-        Ok(extended) => has_audit(&extended),
+        Ok(cat) => has_parts(&cat, parts),
         Err(_) => Ok(false),
     }
 }
 
-fn has_audit(cat: &Catalogue) -> Result<bool> {
-    let parts = cat.parts().map_err(wanting)?;
-    match parts.classes.as_slice() {
-        [first, last] => Ok(first.name.as_str() == "own" && last.name.as_str() == "audit"),
-        _ => Ok(false),
+/// A class `audit` comes after those that are there.
+pub fn is_extended(alloc: Global, cat: &Catalogue) -> Result<bool, NoMemory> {
+    match Name::new(alloc, "audit")? {
+        Some(name) => is_extended_by(alloc, cat, idle(alloc, name)),
+        None => Ok(false),
     }
 }
 
-/// There is a class `own`.
-pub fn is_refused<R: Files + AllocGlobal>(rt: &R) -> Result<bool> {
-    let cat = catalogue(rt, "own.toml")?;
-    let further = further(rt.alloc(), "own")?;
-    Ok(extend(rt.alloc(), &cat, &further).is_err())
-}
-
-/// The class reads and writes nothing any more.
-pub fn is_retired<R: Files + AllocGlobal>(rt: &R) -> Result<bool> {
-    let cat = catalogue(rt, "own.toml")?;
-    let retired = retire(rt.alloc(), &cat, cat.classes()).map_err(wanting)?;
-    let parts = retired.parts().map_err(wanting)?;
-    match parts.classes.as_slice() {
-        [own] => Ok(own.reads.as_slice().is_empty() && own.writes.as_slice().is_empty()),
-        _ => Ok(false),
-    }
-}
-
-/// A class that reads the fragment `all` at D1.
-fn further(alloc: Global, name: &str) -> Result<Vec<ClassPart>> {
-    let reads = Listed::from_vec(vec![in alloc; read(alloc)?]?);
-    let name = named(alloc, name)?;
-    let writes = Listed::from_vec(Vec::new(alloc));
-    let part = ClassPart {
+/// A class that reads and writes nothing.
+fn idle(alloc: Global, name: Name) -> ClassPart {
+    ClassPart {
         name,
         tm: 1,
-        reads,
-        writes,
-    };
-    Ok(vec![in alloc; part]?)
+        reads: Listed::from_vec(Vec::new(alloc)),
+        writes: Listed::from_vec(Vec::new(alloc)),
+    }
 }
 
-fn read(alloc: Global) -> Result<ReadPart> {
-    let fragment = named(alloc, "all")?;
-    Ok(ReadPart { fragment, at: 1 })
+fn is_extended_by(alloc: Global, cat: &Catalogue, class: ClassPart) -> Result<bool, NoMemory> {
+    match extend(alloc, cat, slice::from_ref(&class)) {
+        Ok(extended) => ends_with(&extended, &class),
+        Err(_) => Ok(false),
+    }
 }
 
-fn named(alloc: Global, text: &str) -> Result<Name> {
-    match Name::new(alloc, text).map_err(wanting)? {
-        Some(name) => Ok(name),
-        None => Err(anyhow!("no name")),
+fn ends_with(cat: &Catalogue, class: &ClassPart) -> Result<bool, NoMemory> {
+    let parts = cat.parts()?;
+    Ok(is_last(parts.classes.as_slice(), class))
+}
+
+/// Whether the class is the last of several.
+fn is_last(classes: &[ClassPart], class: &ClassPart) -> bool {
+    match classes {
+        [_, .., last] => last == class,
+        _ => false,
+    }
+}
+
+/// No class is put behind those that are there by the name of one of them.
+pub fn is_refused(alloc: Global, cat: &Catalogue) -> Result<bool, NoMemory> {
+    let parts = cat.parts()?;
+    match extend(alloc, cat, parts.classes.as_slice()) {
+        Err(CatError::Fault(_)) => Ok(true),
+        _ => Ok(false),
+    }
+}
+
+/// The classes read and write nothing any more.
+pub fn is_retired(alloc: Global, cat: &Catalogue) -> Result<bool, NoMemory> {
+    let retired = retire(alloc, cat, cat.classes())?;
+    has_idle(&retired)
+}
+
+/// Whether the last class reads and writes nothing.
+fn has_idle(cat: &Catalogue) -> Result<bool, NoMemory> {
+    let parts = cat.parts()?;
+    Ok(ends_idle(parts.classes.as_slice()))
+}
+
+fn ends_idle(classes: &[ClassPart]) -> bool {
+    match classes {
+        [.., last] => last.reads.as_slice().is_empty() && last.writes.as_slice().is_empty(),
+        _ => false,
     }
 }

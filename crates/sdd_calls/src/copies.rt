@@ -1,45 +1,45 @@
 //! A copy of a fragment to which an earlier put comes after a deletion.
-use crate::read::wanting;
-use anyhow::{Result, ensure};
 use sdd_copy::FragCopy;
-use sdd_script::sdd_base::{Change, FragNo, Row, Ts, Value};
+use sdd_script::sdd_base::{Change, FragNo, NoMemory, Row, Ts, Value};
 use std::alloc::Global;
 
-pub fn stays_deleted(alloc: Global) -> Result<bool> {
+pub fn stays_deleted(alloc: Global) -> Result<bool, NoMemory> {
     let copy = deleted(alloc)?;
-    let rows = rows_of(&copy)?;
-    Ok(rows.is_empty())
+    Ok(rows_of(&copy)?.is_empty())
 }
 
-pub fn comes_back(alloc: Global) -> Result<bool> {
+pub fn comes_back(alloc: Global) -> Result<bool, NoMemory> {
     let copy = written(deleted(alloc)?, 91, Some(row(alloc, 3)?))?;
     let (rows, last) = (rows_of(&copy)?, row(alloc, 3)?);
     Ok(rows.as_slice() == [last].as_slice())
 }
 
 /// The row is deleted at 90, and then one is put at 70.
-fn deleted(alloc: Global) -> Result<FragCopy> {
+fn deleted(alloc: Global) -> Result<FragCopy, NoMemory> {
     let first = [row(alloc, 1)?];
-    let copy = FragCopy::new(alloc, &first, 1).map_err(wanting)?;
+    let copy = FragCopy::new(alloc, &first, 1)?;
     let copy = written(copy, 90, None)?;
     written(copy, 70, Some(row(alloc, 2)?))
 }
 
-fn written(copy: FragCopy, ts: u64, row: Option<Row>) -> Result<FragCopy> {
+fn written(copy: FragCopy, ts: u64, row: Option<Row>) -> Result<FragCopy, NoMemory> {
     let mut copy = copy;
     let frag = FragNo(1);
-    ensure!(copy.live(), "a copy that is dead");
-    let change = Change { frag, key: 4, row };
-    copy.write(Ts(ts), change).map_err(wanting)?;
+    if !copy.live() {
+        return Err(NoMemory);
+    }
+    copy.write(Ts(ts), Change { frag, key: 4, row })?;
     Ok(copy)
 }
 
-fn rows_of(copy: &FragCopy) -> Result<Vec<Row>> {
-    ensure!(copy.live(), "a copy that is dead");
-    copy.rows().map_err(wanting)
+fn rows_of(copy: &FragCopy) -> Result<Vec<Row>, NoMemory> {
+    if !copy.live() {
+        return Err(NoMemory);
+    }
+    copy.rows()
 }
 
-fn row(alloc: Global, value: i64) -> Result<Row> {
+fn row(alloc: Global, value: i64) -> Result<Row, NoMemory> {
     let items = vec![in alloc; Value::Int(4), Value::Int(value)]?;
     Ok(Row::from_vec(items))
 }

@@ -1,26 +1,25 @@
 //! The blocks of graphs.
 ghost use Rattle.std.specs.Prelude.{◌<◌, ◌↔◌, IsTrue, All};
 
-use crate::read::wanting;
-use anyhow::{Result, ensure};
 use sdd_blocks::blocks;
+use sdd_script::sdd_base::NoMemory;
 use std::alloc::Global;
 
 /// Two triangles, an edge between them, and one that is there twice.
-pub fn two_blocks(alloc: Global) -> Result<bool> {
+pub fn two_blocks(alloc: Global) -> Result<bool, NoMemory> {
     let edges = [(0, 1), (1, 2), (2, 0), (2, 3), (3, 4), (3, 4)];
     let numbers = checked(alloc, &edges, 5)?;
     Ok(numbers.as_slice() == [1, 1, 1, 0, 2, 2].as_slice())
 }
 
 /// The conflict graph of 64 classes that each read and write one fragment.
-pub fn one_block(alloc: Global) -> Result<bool> {
+pub fn one_block(alloc: Global) -> Result<bool, NoMemory> {
     let edges = all_joined(alloc)?;
     let numbers = checked(alloc, &edges, 128)?;
-    Ok(numbers.iter().all(|number| *number == 1))
+    Ok(numbers.len() == edges.len() && numbers.iter().all(|number| *number == 1))
 }
 
-fn all_joined(alloc: Global) -> Result<Vec<(u32, u32)>> {
+fn all_joined(alloc: Global) -> Result<Vec<(u32, u32)>, NoMemory> {
     let mut edges = Vec::new(alloc);
     for class in 0..64u32 {
         edges = joined(edges, class)?;
@@ -29,7 +28,7 @@ fn all_joined(alloc: Global) -> Result<Vec<(u32, u32)>> {
 }
 
 /// The edges of a class: its own, those to the writes of later classes, and those from its read.
-fn joined(edges: Vec<(u32, u32)>, class: u32) -> Result<Vec<(u32, u32)>> {
+fn joined(edges: Vec<(u32, u32)>, class: u32) -> Result<Vec<(u32, u32)>, NoMemory> {
     let mut edges = edges;
     let write = class.saturating_add(64);
     edges.push((class, write))?;
@@ -44,10 +43,18 @@ fn joined(edges: Vec<(u32, u32)>, class: u32) -> Result<Vec<(u32, u32)>> {
     Ok(edges)
 }
 
-fn checked(alloc: Global, edges: &[(u32, u32)], nodes: u32) -> Result<Vec<u32>> {
-    ensure!(are_within(edges, nodes), "an edge to no node");
-    ensure!(edges.len() <= 1 << 20 && nodes <= 4096, "too large a graph");
-    blocks(alloc, edges, nodes).map_err(wanting)
+/// The numbers of the blocks, none where the edges are too many or have ends that aren't there.
+fn checked(alloc: Global, edges: &[(u32, u32)], nodes: u32) -> Result<Vec<u32>, NoMemory> {
+    if edges.len() > 1 << 20 {
+        return Ok(Vec::new(alloc));
+    }
+    if nodes > 4096 {
+        return Ok(Vec::new(alloc));
+    }
+    if !are_within(edges, nodes) {
+        return Ok(Vec::new(alloc));
+    }
+    blocks(alloc, edges, nodes)
 }
 
 fn are_within(edges: &[(u32, u32)], nodes: u32) -> bool

@@ -3,78 +3,58 @@
 //!
 //! No contract says when memory runs out, so a body that always returns `NoMemory` is proved too. The
 //! calls of a command are made by the cases of `sdd_cases`, these here. Each answer is compared
-//! with what is expected, and one line is printed: a name of the call, and `yes` or `no`.
+//! with what is expected, and one line is printed: a name of the call, and `yes` or `no`. Where memory
+//! runs out, or what is made can't be read, the lines from there on are missing.
 #![tactic(auto)]
 
 mod advices;
+mod bank;
 mod catalogues;
 mod copies;
 mod graphs;
+mod line;
 mod messages;
 mod names;
-mod read;
 mod sinks;
 mod transactions;
 
-use anyhow::Result;
+use line::tell;
+use sdd_script::sdd_base::NoMemory;
 use std::alloc::Global;
-use std::io::{self, BufWriter, Write};
-use std::rt::Files;
+use std::io::{self, Write};
 
-fn main(rt: HostRuntime) -> Result<()> {
-    let mut out = BufWriter::new(rt.alloc(), io::writer(&rt))?;
-    tell_values(rt.alloc(), &mut out)?;
-    tell_graphs(rt.alloc(), &mut out)?;
-    tell_messages(rt.alloc(), &mut out)?;
-    tell_catalogues(&rt, &mut out)?;
-    tell_transactions(&rt, &mut out)?;
-    out.flush()?;
-    Ok(())
+fn main(rt: HostRuntime) -> io::Result<()> {
+    let mut text = Vec::new(rt.alloc());
+    let _ = tell_all(rt.alloc(), &mut text);
+    io::writer(&rt).write_all(text.as_slice())
 }
 
-fn tell<W: Write>(out: &mut W, name: &str, holds: bool) -> Result<()> {
-    out.write_all(name.as_bytes())?;
-    out.write_all(if holds { b": yes\n" } else { b": no\n" })?;
-    Ok(())
+fn tell_all(alloc: Global, out: &mut Vec<u8>) -> Result<(), NoMemory> {
+    tell_values(alloc, out)?;
+    tell_graphs(alloc, out)?;
+    tell_messages(alloc, out)?;
+    bank::tell_calls(alloc, out)
 }
 
-fn tell_values<W: Write>(alloc: Global, out: &mut W) -> Result<()> {
-    tell(out, "names", names::are_told(alloc)?)?;
-    tell(out, "texts", names::texts_are_told(alloc)?)?;
-    tell(out, "a sink that always takes", sinks::takes_five(alloc)?)
+fn tell_values(alloc: Global, out: &mut Vec<u8>) -> Result<(), NoMemory> {
+    tell(out, b"names", names::are_told(alloc)?)?;
+    tell(out, b"texts", names::texts_are_told(alloc)?)?;
+    tell(out, b"a sink that always takes", sinks::takes_five(alloc)?)
 }
 
-fn tell_graphs<W: Write>(alloc: Global, out: &mut W) -> Result<()> {
-    tell(out, "blocks of two triangles", graphs::two_blocks(alloc)?)?;
-    tell(out, "one block of 64 classes", graphs::one_block(alloc)?)?;
-    tell(out, "a deleted row", copies::stays_deleted(alloc)?)?;
-    tell(out, "a row that is put later", copies::comes_back(alloc)?)
+fn tell_graphs(alloc: Global, out: &mut Vec<u8>) -> Result<(), NoMemory> {
+    tell(out, b"blocks of two triangles", graphs::two_blocks(alloc)?)?;
+    tell(out, b"one block of 64 classes", graphs::one_block(alloc)?)?;
+    tell(out, b"a deleted row", copies::stays_deleted(alloc)?)?;
+    tell(out, b"a row that is put later", copies::comes_back(alloc)?)
 }
 
-fn tell_messages<W: Write>(alloc: Global, out: &mut W) -> Result<()> {
-    tell(out, "encode", messages::is_spelled(alloc)?)?;
-    tell(out, "decode", messages::is_read(alloc)?)?;
+fn tell_messages(alloc: Global, out: &mut Vec<u8>) -> Result<(), NoMemory> {
+    tell(out, b"encode", messages::is_spelled(alloc)?)?;
+    tell(out, b"decode", messages::is_read(alloc)?)?;
     tell(
         out,
-        "decode what is no message",
+        b"decode what is no message",
         messages::break_there(alloc)?,
     )
-}
-
-fn tell_catalogues<R: Files + AllocGlobal, W: Write>(rt: &R, out: &mut W) -> Result<()> {
-    tell(out, "parts and build", catalogues::is_built_again(rt)?)?;
-    tell(out, "extend", catalogues::is_extended(rt)?)?;
-    tell(
-        out,
-        "extend by a name that is there",
-        catalogues::is_refused(rt)?,
-    )?;
-    tell(out, "retire", catalogues::is_retired(rt)?)?;
-    tell(out, "check_advice", advices::are_judged(rt)?)
-}
-
-fn tell_transactions<R: Files + AllocGlobal, W: Write>(rt: &R, out: &mut W) -> Result<()> {
-    tell(out, "write_set", transactions::writes_both(rt)?)?;
-    tell(out, "run_all", transactions::are_run(rt)?)?;
-    tell(out, "make", transactions::are_made(rt.alloc())?)
 }

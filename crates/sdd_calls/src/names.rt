@@ -1,11 +1,9 @@
 //! Words that are names, and texts.
-use crate::read::wanting;
-use anyhow::Result;
-use sdd_script::sdd_base::{Name, Text};
+use sdd_script::sdd_base::{Name, NoMemory, Text};
 use std::alloc::Global;
 
 /// A word that is a name, one that the formats use, and the longest name and one letter more.
-pub fn are_told(alloc: Global) -> Result<bool> {
+pub fn are_told(alloc: Global) -> Result<bool, NoMemory> {
     let word = is_name(alloc, "acct")?;
     let used = is_name(alloc, "from")?;
     let most = is_name(alloc, letters(alloc, 32)?.as_str())?;
@@ -14,22 +12,28 @@ pub fn are_told(alloc: Global) -> Result<bool> {
 }
 
 /// The longest text and one letter more, and the end of a line.
-pub fn texts_are_told(alloc: Global) -> Result<bool> {
+pub fn texts_are_told(alloc: Global) -> Result<bool, NoMemory> {
     let most = is_text(alloc, letters(alloc, 255)?.as_str())?;
     let over = is_text(alloc, letters(alloc, 256)?.as_str())?;
     let end = is_text(alloc, "\n")?;
     Ok(most && !over && !end)
 }
 
-fn is_name(alloc: Global, text: &str) -> Result<bool> {
-    Ok(Name::new(alloc, text).map_err(wanting)?.is_some())
+fn is_name(alloc: Global, text: &str) -> Result<bool, NoMemory> {
+    match Name::new(alloc, text)? {
+        Some(_) => Ok(true),
+        None => Ok(false),
+    }
 }
 
-fn is_text(alloc: Global, text: &str) -> Result<bool> {
-    Ok(Text::new(alloc, text).map_err(wanting)?.is_some())
+fn is_text(alloc: Global, text: &str) -> Result<bool, NoMemory> {
+    match Text::new(alloc, text)? {
+        Some(_) => Ok(true),
+        None => Ok(false),
+    }
 }
 
-fn letters(alloc: Global, count: u32) -> Result<String> {
+fn letters(alloc: Global, count: u32) -> Result<String, NoMemory> {
     let mut text = String::new(alloc);
     for _ in 0..count {
         text.push('a')?;

@@ -1,11 +1,9 @@
 //! A sink that takes all of a text as long as it has room.
-use crate::read::wanting;
-use anyhow::Result;
-use sdd_script::sdd_base::{SureSink, write_text};
+use sdd_script::sdd_base::{NoMemory, SureSink, write_text};
 use std::alloc::Global;
 
-pub fn takes_five(alloc: Global) -> Result<bool> {
-    let mut sink = SureSink::new(alloc, 5).map_err(wanting)?;
+pub fn takes_five(alloc: Global) -> Result<bool, NoMemory> {
+    let mut sink = SureSink::new(alloc, 5)?;
     let taken = write_text(&mut sink, b"abcde").is_ok();
     let over = write_text(&mut sink, b"f").is_ok();
     Ok(taken && !over && sink.taken() == b"abcde".as_slice())
