@@ -1,7 +1,6 @@
 -- Rows and transactions of a workload that a catalogue allows.
-use Rattle.std.specs.Prelude.{ℕ, List}
 use Rattle.std.specs.List.{All}
-use Rattle.sdd_script.specs.All.{Catalogue, Fits, FitsStart, IsValid, IsValidRow, IsValidTxn, RelNo, Txn, Value}
+use Rattle.sdd_script.specs.All.{Catalogue, Fits, FitsStart, IsValid, IsValidRow, IsValidTxn}
 use Rattle.sdd_script.specs.declared.workload.Workload.{Workload}
 use Rattle.std.proofs.lemmas.List.Elements.{All-weaker}
 

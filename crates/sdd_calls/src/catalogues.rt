@@ -11,13 +11,18 @@ pub fn is_built_again(alloc: Global, cat: &Catalogue) -> Result<bool, NoMemory> 
     Ok(has_parts(&copy, &parts)? && is_built(alloc, &parts)?)
 }
 
+/// Whether the catalogue has as many relations and fragments as the parts, and the same last class.
 fn has_parts(cat: &Catalogue, parts: &Parts) -> Result<bool, NoMemory> {
-    let own = cat.parts()?;
-    Ok(are_same(&own, parts))
+    match parts.classes.as_slice() {
+        [.., last] => Ok(has_counts(cat, parts) && ends_with(cat, last)?),
+        _ => Ok(false),
+    }
 }
 
-fn are_same(own: &Parts, parts: &Parts) -> bool {
-    own == parts
+fn has_counts(cat: &Catalogue, parts: &Parts) -> bool {
+    cat.relations() as usize == parts.relations.as_slice().len()
+        && cat.fragments() as usize == parts.fragments.as_slice().len()
+        && cat.classes() as usize == parts.classes.as_slice().len()
 }
 
 fn is_built(alloc: Global, parts: &Parts) -> Result<bool, NoMemory> {
@@ -74,7 +79,7 @@ pub fn is_refused(alloc: Global, cat: &Catalogue) -> Result<bool, NoMemory> {
     }
 }
 
-/// The classes read and write nothing any more.
+/// All classes retire: the last one reads and writes nothing any more.
 pub fn is_retired(alloc: Global, cat: &Catalogue) -> Result<bool, NoMemory> {
     let retired = retire(alloc, cat, cat.classes())?;
     has_idle(&retired)
