@@ -5,7 +5,7 @@ pub use Rattle.sdd_watch.proofs.run.progress.lawful.Effects.{keeps_answers}
 pub use Rattle.sdd_watch.proofs.run.progress.lawful.Places.{place_rises, stands_there}
 pub use Rattle.sdd_watch.proofs.run.progress.lawful.Starts.{event_of_submit, keeps_starts}
 pub use Rattle.sdd_watch.proofs.run.progress.lawful.Submissions.{given_at, submit_in}
-pub use Rattle.sdd_watch.specs.run.progress.lawful.Given.{AreErasOf, HasSoundData}
+pub use Rattle.sdd_watch.specs.run.progress.lawful.SoundInput.{AreErasOf, HasSoundData}
 pub use Rattle.sdd_obligations.proofs.Done.{count_join, done}
 pub use Rattle.sdd_obligations.proofs.Linking.{lawful_part as lawful_before}
 pub use Rattle.sdd_obligations.proofs.base.Membership.{Contains-cases, Contains-here, Contains-later, Contains-nil}
