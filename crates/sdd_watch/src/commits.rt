@@ -19,20 +19,20 @@ pub(crate) struct Commits {
 }
 
 /// The transaction of a Commit.
-fn committed_by(record: &(u32, Rec)) -> Option<TxnNo>
-    ensures { result ≡ committed_by record.now }
+fn committed_by(made: &(u32, Rec)) -> Option<TxnNo>
+    ensures { result ≡ committed_by made.now }
 {
-    match &record.1 {
+    match &made.1 {
         Rec::Commit { txn, .. } => Some(*txn),
         _ => None,
     }
 }
 
 /// The changes of a Commit.
-fn changes_in(record: &(u32, Rec)) -> &[Change]
-    ensures { result.now ≡ committed_in (Some record.now) }
+fn changes_in(made: &(u32, Rec)) -> &[Change]
+    ensures { result.now ≡ committed_in (Some made.now) }
 {
-    match &record.1 {
+    match &made.1 {
         Rec::Commit { changes, .. } => changes.as_slice(),
         _ => &[],
     }
@@ -61,11 +61,11 @@ impl Commits {
     }
 
     /// Notes the record at a place.
-    fn note(&mut self, place: usize, record: &(u32, Rec)) -> Result<(), NoMemory>
+    fn note(&mut self, place: usize, made: &(u32, Rec)) -> Result<(), NoMemory>
         ensures { OnOk result ((records : History) → length records ≡ place
-            → AreCommits records self.old → AreCommits (records ++ record.now ∷ []) self.new) }
+            → AreCommits records self.old → AreCommits (records ++ made.now ∷ []) self.new) }
     {
-        match committed_by(record) {
+        match committed_by(made) {
             Some(txn) => self.note_commit(txn, place),
             None => Ok(()),
         }

@@ -144,10 +144,10 @@ fn add_rows(
 }
 
 /// The transaction that a record applies, and where.
-fn applied_in(record: &(u32, Rec)) -> Option<(TxnNo, DmNo)>
-    ensures { result ≡ applied_in record.now }
+fn applied_in(made: &(u32, Rec)) -> Option<(TxnNo, DmNo)>
+    ensures { result ≡ applied_in made.now }
 {
-    match &record.1 {
+    match &made.1 {
         Rec::Apply { txn, dm, .. } => Some((*txn, *dm)),
         _ => None,
     }
@@ -158,16 +158,16 @@ fn add_applied(
     world: &World<'_>,
     commits: &Commits,
     records: &[(u32, Rec)],
-    record: &(u32, Rec),
+    made: &(u32, Rec),
     rows: &mut Vec<RowDelta>,
 ) -> Result<(), NoMemory>
     requires calm { (g : Input) × (log : Log) × Calm world.now g log }
     requires commits { AreCommits records.now commits.now }
     ensures { OnOk result ((g : Input) (log : Log) → Calm world.now g log
         → records.now ≡ history log → rows.new.items
-        ≡ fold (with_row g log) rows.old.items (applied_by g (history log) record.now)) }
+        ≡ fold (with_row g log) rows.old.items (applied_by g (history log) made.now)) }
 {
-    match applied_in(record) {
+    match applied_in(made) {
         Some((txn, dm)) => add_rows(world, dm, commits.changes(records, txn), rows),
         None => Ok(()),
     }

@@ -134,19 +134,19 @@ fn open_questions(alloc: Global, runs: &[ClassRun<'_>]) -> Result<Vec<Question>,
     Ok(questions)
 }
 
-fn tm_state(alloc: Global, tm: TmNo, module: &TxnModule<'_>) -> Result<TmState, NoMemory>
-    requires { (s : Setting) × (log : site.Log) × tm_stands.Stands module.now s log }
-    ensures { IfOk result (λ state. (s : Setting) (log : site.Log) → tm_stands.Stands module.now s log
+fn tm_state(alloc: Global, tm: TmNo, tm_module: &TxnModule<'_>) -> Result<TmState, NoMemory>
+    requires { (s : Setting) × (log : site.Log) × tm_stands.Stands tm_module.now s log }
+    ensures { IfOk result (λ state. (s : Setting) (log : site.Log) → tm_stands.Stands tm_module.now s log
         → state ≡ tm_told s log tm.0) }
 {
-    let runs = module.classes();
+    let runs = tm_module.classes();
     let asks = open_questions(alloc, runs)?;
     let active = actives(alloc, runs)?;
     Ok(TmState {
         tm,
-        clock: ticks(module.bound()),
-        on_hold: module.is_on_hold(),
-        owes_held: module.owes_held(),
+        clock: ticks(tm_module.bound()),
+        on_hold: tm_module.is_on_hold(),
+        owes_held: tm_module.owes_held(),
         asks: Listed::from_vec(asks),
         active: Listed::from_vec(active),
     })
@@ -184,43 +184,43 @@ fn stage_by(reading: bool, holding: bool, writing: bool) -> Stage
 }
 
 /// What the module of U does.
-fn stage_at(module: &UModule<'_>) -> Stage
-    ensures { (s : Setting) (log : site.Log) → u_stands.Stands module.now s log → result ≡ stage_at s log }
+fn stage_at(u_module: &UModule<'_>) -> Stage
+    ensures { (s : Setting) (log : site.Log) → u_stands.Stands u_module.now s log → result ≡ stage_at s log }
 {
-    let idle = module.line().is_idle();
-    stage_by(!idle, module.is_awaiting_helds(), module.is_releasing())
+    let idle = u_module.line().is_idle();
+    stage_by(!idle, u_module.is_awaiting_helds(), u_module.is_releasing())
 }
 
 /// From which sites an answer is missing, where these data modules haven't said that they applied
 /// what was committed last.
 fn lacking_sites(
     alloc: Global,
-    module: &UModule<'_>,
+    u_module: &UModule<'_>,
     stage: Stage,
     unapplied: &[DmNo],
 ) -> Result<Vec<Site>, NoMemory>
-    ensures { IfOk result (λ sites. (s : Setting) (log : site.Log) → u_stands.Stands module.now s log
+    ensures { IfOk result (λ sites. (s : Setting) (log : site.Log) → u_stands.Stands u_module.now s log
         → unapplied.now ≡ unapplied_last s log → sites.items ≡ lacks_in s log stage) }
 {
     match stage {
-        Stage::Reading => data_sites(alloc, lacking(module.line())),
-        Stage::Holding => txn_sites(alloc, module.lacking()?.as_slice()),
+        Stage::Reading => data_sites(alloc, lacking(u_module.line())),
+        Stage::Holding => txn_sites(alloc, u_module.lacking()?.as_slice()),
         Stage::Writing => data_sites(alloc, unapplied),
         Stage::Idle => Ok(Vec::new(alloc)),
     }
 }
 
-fn u_state(alloc: Global, module: &UModule<'_>, unapplied: &[DmNo]) -> Result<UState, NoMemory>
-    requires { (s : Setting) × (log : site.Log) × u_stands.Stands module.now s log }
-    ensures { IfOk result (λ state. (s : Setting) (log : site.Log) → u_stands.Stands module.now s log
+fn u_state(alloc: Global, u_module: &UModule<'_>, unapplied: &[DmNo]) -> Result<UState, NoMemory>
+    requires { (s : Setting) × (log : site.Log) × u_stands.Stands u_module.now s log }
+    ensures { IfOk result (λ state. (s : Setting) (log : site.Log) → u_stands.Stands u_module.now s log
         → unapplied.now ≡ unapplied_last s log → state ≡ u_told s log) }
 {
-    let stage = stage_at(module);
-    let lacks = lacking_sites(alloc, module, stage, unapplied)?;
+    let stage = stage_at(u_module);
+    let lacks = lacking_sites(alloc, u_module, stage, unapplied)?;
     let mut active = Vec::new(alloc);
-    add_active(alloc, module.line(), &mut active)?;
+    add_active(alloc, u_module.line(), &mut active)?;
     Ok(UState {
-        clock: ticks(module.bound()),
+        clock: ticks(u_module.bound()),
         stage,
         lacks: Listed::from_vec(lacks),
         active: Listed::from_vec(active),
@@ -242,24 +242,24 @@ fn head_in(class: ClassNo, conds: Option<Conds>, readers: Option<ClassNos>) -> O
 }
 
 /// The head of the pipe of a class, where it can't be processed.
-fn head_told(module: &DataModule, class: ClassNo) -> Result<Option<Head>, NoMemory>
-    ensures { IfOk result (λ head. (s : Setting) (log : site.Log) → data_stands.Stands module.now s log
+fn head_told(dm_module: &DataModule, class: ClassNo) -> Result<Option<Head>, NoMemory>
+    ensures { IfOk result (λ head. (s : Setting) (log : site.Log) → data_stands.Stands dm_module.now s log
         → class.0 ≤ length s.catalogue.classes
         → head ≡ head_told (view_of s log) (data_views.class_view s log class.0)) }
 {
-    let conds = module.lacking(class)?;
-    let readers = module.holders(class)?;
+    let conds = dm_module.lacking(class)?;
+    let readers = dm_module.holders(class)?;
     Ok(head_in(class, conds, readers))
 }
 
 /// Adds the head of the pipe of a class, where it can't be processed.
-fn add_head(module: &DataModule, class: ClassNo, heads: &mut Vec<Head>) -> Result<(), NoMemory>
-    ensures { OnOk result ((s : Setting) (log : site.Log) → data_stands.Stands module.now s log
+fn add_head(dm_module: &DataModule, class: ClassNo, heads: &mut Vec<Head>) -> Result<(), NoMemory>
+    ensures { OnOk result ((s : Setting) (log : site.Log) → data_stands.Stands dm_module.now s log
         → class.0 ≤ length s.catalogue.classes
         → heads.new.items ≡ heads.old.items
         ++ filter_map (head_told (view_of s log)) (data_views.class_view s log class.0 ∷ [])) }
 {
-    match head_told(module, class)? {
+    match head_told(dm_module, class)? {
         None => Ok(()),
         Some(head) => {
             heads.push(head)?;
@@ -272,14 +272,14 @@ fn dm_state(
     alloc: Global,
     dm: DmNo,
     is_down: bool,
-    module: &DataModule,
+    dm_module: &DataModule,
 ) -> Result<DmState, NoMemory>
-    ensures { IfOk result (λ state. (s : Setting) (log : site.Log) → data_stands.Stands module.now s log
+    ensures { IfOk result (λ state. (s : Setting) (log : site.Log) → data_stands.Stands dm_module.now s log
         → state ≡ dm_told s log dm.0 is_down) }
 {
     let mut heads = Vec::new(alloc);
-    for class in 0..module.pipe_count() {
-        add_head(module, ClassNo(class), &mut heads)?;
+    for class in 0..dm_module.pipe_count() {
+        add_head(dm_module, ClassNo(class), &mut heads)?;
     }
     Ok(DmState {
         dm,

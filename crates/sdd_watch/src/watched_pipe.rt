@@ -110,10 +110,10 @@ fn numbers_on(
 }
 
 /// The greatest time that a class has passed at a data module, 0 before it passed one.
-fn passed_to(module: &DataModule, class: ClassNo) -> Ts
-    ensures { result ≡ time_at (or_zero (digest.passed_to (pipe_at module.now.value.pipes class.0))) }
+fn passed_to(dm_module: &DataModule, class: ClassNo) -> Ts
+    ensures { result ≡ time_at (or_zero (digest.passed_to (pipe_at dm_module.now.value.pipes class.0))) }
 {
-    match module.passed_to(class) {
+    match dm_module.passed_to(class) {
         Some(ts) => ts,
         None => Ts(0),
     }

@@ -14,8 +14,8 @@ loop-class-preserved c = λ s log stands.
 
 pub returns : goal.returns
 returns c = λ s log stands.
-    let all : c.loop-class.class ≡ length c.args.module.now.value.pipes =
+    let all : c.loop-class.class ≡ length c.args.dm_module.now.value.pipes =
     omega (arith, c.loop-class-test.false, c.loop-class.auto.class-end, c.pipe_count-class-end.ensures) in
     sym
-    (told_is c.args.module.now s log c.args.dm c.args.is_down c.from_vec.result c.loop-class.class stands all
+    (told_is c.args.dm_module.now s log c.args.dm c.args.is_down c.from_vec.result c.loop-class.class stands all
     (c.from_vec.ensures ∙ c.loop-class.invariant s log stands))

@@ -10,5 +10,5 @@ use Rattle.sdd_watch.proofs.states.dm_state.Given as goal
 
 abbrev pub invariant-loop-class : goal.invariant-loop-class
 invariant-loop-class l =
-    (s : Setting) (log : Log) → Stands l.module s log
+    (s : Setting) (log : Log) → Stands l.dm_module s log
     → l.heads.items ≡ filter_map (head_told (view_of s log)) (map (class_view s log) (range_with_len 0 l.class))

@@ -1,0 +1,15 @@
+//! What a text of what happens inside a run is.
+ghost use Rattle.std.specs.Prelude.{ℕ, ◌≡◌, List};
+ghost use Rattle.sdd_obligations.specs.All.{Catalogue};
+ghost use Rattle.sdd_run.specs.Runs.{EndsAtLimit};
+ghost use Rattle.sdd_run.specs.script.declared.workload.Workload.{Workload};
+ghost use Rattle.sdd_watch.specs.Text.{IsInsideOf};
+
+/// A law: there is one text of what happens inside the run of a workload at most, and none where the
+/// limit ends the run.
+pub fn law_one_inside()
+    ensures text { (cat : Catalogue) (work : Workload) (text other : List ℕ) → IsInsideOf cat work text
+        → IsInsideOf cat work other → text ≡ other }
+    ensures not_both { (cat : Catalogue) (work : Workload) (text : List ℕ) → IsInsideOf cat work text
+        → EndsAtLimit cat work → ⊥ }
+{}
