@@ -57,11 +57,19 @@ tried_stands m n t txn =
 start_each : (c : ℕ) (log : Log) (act : Act) (n : ℕ) (x : ℕ × Txn)
     → ((m : ℕ) → starts_of c m (Did act ∷ log) ≡ (if m == n then suc (starts_of c m log) else starts_of c m log))
     → ((m : ℕ) → is_committed c m (Did act ∷ log) ≡ is_committed c m log)
-    → (queued c log x ≡ None) × (queued c (Did act ∷ log) x ≡ None) ⊎ ((q : Queued) × (queued c log x ≡ Some q) × (queued c (Did act ∷ log) x ≡ Some (tried n q)))
-start_each c log act n x f g = elim (is_committed c x.0 log) as (λ b. is_committed c x.0 log ≡ b → (queued c log x ≡ None) × (queued c (Did act ∷ log) x ≡ None) ⊎ ((q : Queued) × (queued c log x ≡ Some q) × (queued c (Did act ∷ log) x ≡ Some (tried n q)))) [
-  | true ↦ λ p. inl (rw p refl, rw (g x.0, p) refl)
-  | false ↦ λ p. inr (record { number = x.0; text = x.1; tries = starts_of c x.0 log }, rw p refl, rw (g x.0, p, f x.0) (ap (λ y. Some y) (tried_stands x.0 n (starts_of c x.0 log) x.1)))
-] refl
+    → (queued c log x ≡ None) × (queued c (Did act ∷ log) x ≡ None) ⊎
+    ((q : Queued) × (queued c log x ≡ Some q) × (queued c (Did act ∷ log) x ≡ Some (tried n q)))
+start_each c log act n x f g = elim (is_committed c x.0 log) as
+    (λ b. is_committed c x.0 log ≡ b → (queued c log x ≡ None) × (queued c (Did act ∷ log) x ≡ None) ⊎
+    ((q : Queued) × (queued c log x ≡ Some q) × (queued c (Did act ∷ log) x ≡ Some (tried n q)))) [
+      | true ↦ λ p. inl (rw p refl, rw (g x.0, p) refl)
+      | false ↦ λ p. inr (
+        record { number = x.0; text = x.1; tries = starts_of c x.0 log },
+        rw p refl,
+        rw (g x.0, p, f x.0)
+            (ap (λ y. Some y) (tried_stands x.0 n (starts_of c x.0 log) x.1)),
+      )
+    ] refl
 
 serve_start : (ts : ℕ) (sends : List (Site × Msg)) (qs : List Queued) (q : Queued) → head_of qs ≡ Some q
     → IsServed (started ts sends (head_of qs)) (map (tried q.number) qs)
@@ -95,26 +103,42 @@ queue_start s c log q e h =
     let there : contains (submits log) q.number ≡ true = head_known c log (submits_of s c log) q h.known (ap head_of (sym h.is) ∙ e) in
     record {
       is = rw (same_number c)
-          (ap (map (tried q.number)) h.is ∙ sym (map_each (queued c log) (queued c (Did act ∷ log)) (tried q.number) (submits_of s c log) (λ x. start_each c log act q.number x starts (λ m. refl))));
+          (ap (map (tried q.number)) h.is
+          ∙ sym (map_each (queued c log) (queued c (Did act ∷ log)) (tried q.number) (submits_of s c log)
+          (λ x. start_each c log act q.number x starts (λ m. refl))));
       known = known_more log (Did act ∷ log) (submits_of s c log) (λ n p. p) h.known;
-      fresh = λ n p. (starts n ∙ ap (λ b. if b then suc (starts_of c n log) else starts_of c n log) (other_number n q.number log p there) ∙ (h.fresh n p).0, (h.fresh n p).1);
+      fresh = λ n p. (
+        starts n ∙ ap (λ b. if b then suc (starts_of c n log) else starts_of c n log) (other_number n q.number log p there)
+            ∙ (h.fresh n p).0,
+        (h.fresh n p).1,
+      );
       served = rw (same_number c) (serve_start (next_stamp s log) (sends_of_act act) (queue s c log) q e);
     }
 
 commit_each : (c : ℕ) (log : Log) (act : Act) (n : ℕ) (x : ℕ × Txn) → ((m : ℕ) → starts_of c m (Did act ∷ log) ≡ starts_of c m log)
     → ((m : ℕ) → is_committed c m (Did act ∷ log) ≡ ((m == n) || is_committed c m log))
-    → (queued c log x ≡ None) × (queued c (Did act ∷ log) x ≡ None) ⊎ ((q : Queued) × (queued c log x ≡ Some q) × (((not (q.number == n) ≡ true) × (queued c (Did act ∷ log) x ≡ Some q)) ⊎ ((not (q.number == n) ≡ false) × (queued c (Did act ∷ log) x ≡ None))))
+    → (queued c log x ≡ None) × (queued c (Did act ∷ log) x ≡ None) ⊎
+    ((q : Queued) × (queued c log x ≡ Some q) ×
+    (((not (q.number == n) ≡ true) × (queued c (Did act ∷ log) x ≡ Some q)) ⊎ ((not (q.number == n) ≡ false) × (queued c (Did act ∷ log) x ≡ None))))
 commit_each c log act n x f g =
     elim (is_committed c x.0 log) as
-    (λ b. is_committed c x.0 log ≡ b → (queued c log x ≡ None) × (queued c (Did act ∷ log) x ≡ None) ⊎ ((q : Queued) × (queued c log x ≡ Some q) × (((not (q.number == n) ≡ true) × (queued c (Did act ∷ log) x ≡ Some q)) ⊎ ((not (q.number == n) ≡ false) × (queued c (Did act ∷ log) x ≡ None))))) [
-      | true ↦ λ p. inl (rw p refl, rw (g x.0, p) (elim (x.0 == n) as (λ b. (if b || true then None else Some (stands x.0 x.1 (starts_of c x.0 (Did act ∷ log)))) ≡ None) [ true ↦ refl | false ↦ refl ]))
+    (λ b. is_committed c x.0 log ≡ b → (queued c log x ≡ None) × (queued c (Did act ∷ log) x ≡ None) ⊎
+    ((q : Queued) × (queued c log x ≡ Some q) ×
+    (((not (q.number == n) ≡ true) × (queued c (Did act ∷ log) x ≡ Some q)) ⊎ ((not (q.number == n) ≡ false) × (queued c (Did act ∷ log) x ≡ None))))) [
+      | true ↦ λ p. inl (
+        rw p refl,
+        rw (g x.0, p)
+            (elim (x.0 == n) as (λ b. (if b || true then None else Some
+            (stands x.0 x.1 (starts_of c x.0 (Did act ∷ log)))) ≡ None) [ true ↦ refl | false ↦ refl ]),
+      )
       | false ↦ λ p. inr (
         stands x.0 x.1 (starts_of c x.0 log),
         rw p refl,
-        elim (x.0 == n) as (λ b. (x.0 == n) ≡ b → ((not b ≡ true) × (queued c (Did act ∷ log) x ≡ Some (stands x.0 x.1 (starts_of c x.0 log)))) ⊎ ((not b ≡ false) × (queued c (Did act ∷ log) x ≡ None))) [
-          | true ↦ λ r. inr (refl, rw (g x.0, r) refl)
-          | false ↦ λ r. inl (refl, rw (g x.0, r, p, f x.0) refl)
-        ] refl,
+        elim (x.0 == n) as (λ b. (x.0 == n) ≡ b → ((not b ≡ true) × (queued c (Did act ∷ log) x ≡ Some (stands x.0 x.1 (starts_of c x.0 log)))) ⊎
+            ((not b ≡ false) × (queued c (Did act ∷ log) x ≡ None))) [
+              | true ↦ λ r. inr (refl, rw (g x.0, r) refl)
+              | false ↦ λ r. inl (refl, rw (g x.0, r, p, f x.0) refl)
+            ] refl,
       )
     ] refl
 
@@ -138,7 +162,8 @@ queue_submit s c log k txn new h =
     let stood : queued c log (k, txn) ≡ Some (stands k txn 0) = rw ((h.fresh k new).1, (h.fresh k new).0) refl in
     record {
       is = elim (is_for c (in_force s log).catalogue txn) as
-          (λ b. (if b then queue s c log ++ stands k txn 0 ∷ [] else queue s c log) ≡ filter_map (queued c log) (if b then submits_of s c log ++ (k, txn) ∷ [] else submits_of s c log)) [
+          (λ b. (if b then queue s c log ++ stands k txn 0 ∷ [] else queue s c log) ≡ filter_map (queued c log)
+          (if b then submits_of s c log ++ (k, txn) ∷ [] else submits_of s c log)) [
             | true ↦ ap (λ l. l ++ stands k txn 0 ∷ []) h.is ∙ sym (filter_map-append (queued c log) (submits_of s c log) ((k, txn) ∷ []) ∙ rw stood refl)
             | false ↦ h.is
           ];
@@ -159,7 +184,9 @@ queue_commit s c bases log a e h =
     (head_known c log (submits_of s c log) head.0 h.known (ap head_of (sym h.is) ∙ head.1)) in
     record {
       is = rw (same_number c)
-          (ap (filter (λ q. not (q.number == a.txn))) h.is ∙ sym (filter_each (queued c log) (queued c (Did act ∷ log)) (λ q. not (q.number == a.txn)) (submits_of s c log) (λ x. commit_each c log act a.txn x (λ m. refl) commits)));
+          (ap (filter (λ q. not (q.number == a.txn))) h.is
+          ∙ sym (filter_each (queued c log) (queued c (Did act ∷ log)) (λ q. not (q.number == a.txn)) (submits_of s c log)
+          (λ x. commit_each c log act a.txn x (λ m. refl) commits)));
       known = known_more log (Did act ∷ log) (submits_of s c log) (λ n p. p) h.known;
       fresh = λ n p. ((h.fresh n p).0, commits n ∙ ap (λ b. b || is_committed c n log) (other_number n a.txn log p there) ∙ (h.fresh n p).1);
       served = rw (same_number c) tt;
@@ -198,14 +225,16 @@ queue_act s c log act i h = step_way s log act (λ x. IsQueue s c (Did x ∷ log
       | inr p ↦ queue_other_commit s k c bases log a p h
     ])
     (λ to m hand f. queue_same s c log (Did (Sends to m hand)) refl refl (λ n. refl) (λ n. refl) (λ n. refl)
-    (sent_way (λ o. IsServed o (queue s c log)) c m (active s c log) (λ a x e. exchanged a x (queue s c log) (subst (λ o. IsServed o (queue s c log)) e h.served)) h.served) h) i
+    (sent_way (λ o. IsServed o (queue s c log)) c m (active s c log)
+    (λ a x e. exchanged a x (queue s c log) (subst (λ o. IsServed o (queue s c log)) e h.served)) h.served) h) i
 
 pub queue_is : (s : Setting) (c : ℕ) (log : Log) → Each (IsFair s) log → Each IsNew log → IsQueue s c log
 queue_is s c [] h n = record { is = refl; known = tt; fresh = λ n p. (refl, refl); served = tt }
 queue_is s c (Handed from m ∷ log) h n =
     let i = queue_is s c log h.1 n.1 in
     queue_same s c log (Handed from m) refl refl (λ n. refl) (λ n. refl) (λ n. refl)
-    (handed_way (λ o. IsServed o (queue s c log)) c from m (active s c log) tt (λ a x e. exchanged a x (queue s c log) (subst (λ o. IsServed o (queue s c log)) e i.served)) i.served) i
+    (handed_way (λ o. IsServed o (queue s c log)) c from m (active s c log) tt
+    (λ a x e. exchanged a x (queue s c log) (subst (λ o. IsServed o (queue s c log)) e i.served)) i.served) i
 queue_is s c (Ticked k ∷ log) h n = let i = queue_is s c log h.1 n.1 in queue_same s c log (Ticked k) refl refl (λ n. refl) (λ n. refl) (λ n. refl) i.served i
 queue_is s c (Redeclared force t ∷ log) h n =
     let i = queue_is s c log h.1 n.1 in

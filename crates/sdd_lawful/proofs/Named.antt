@@ -38,7 +38,8 @@ module _ (g : Input) (rows : List (RelNo × Row)) (eras : Eras) (log : Log) (sou
   submitted_known : (n : ℕ) (at : Site) (later rest : Log) → log ≡ later ++ Submitted at n ∷ rest → IsTxn n
   submitted_known n at later rest is =
       let x = given_at g rest at n (permitted_before g later (Submitted at n ∷ rest) (subst (IsPermitted g) is h)) in
-      let whole : log ≡ (later ++ Submitted at n ∷ []) ++ Mark (SubmitEvent x.number) ∷ x.earlier = is ∙ ap (λ r. later ++ Submitted at n ∷ r) x.is ∙ sym (append_assoc later (Submitted at n ∷ []) (Mark (SubmitEvent x.number) ∷ x.earlier)) in
+      let whole : log ≡ (later ++ Submitted at n ∷ []) ++ Mark (SubmitEvent x.number) ∷ x.earlier = is ∙ ap (λ r. later ++ Submitted at n ∷ r) x.is
+      ∙ sym (append_assoc later (Submitted at n ∷ []) (Mark (SubmitEvent x.number) ∷ x.earlier)) in
       subst IsTxn x.number_is (numbered (later ++ Submitted at n ∷ []) x.earlier x.number whole)
 
   -- and so is what an attempt names
@@ -55,9 +56,11 @@ module _ (g : Input) (rows : List (RelNo × Row)) (eras : Eras) (log : Log) (sou
       let x = start_in g log a sound h s in
       let w = given_of_attempt g log a x in
       let fits = all_slice (Fits cat) g.txns (a.txn - 1) x.says.text (recursion_from_All (Fits cat) g.txns fine.txns_fit) w.text_is in
-      subst (AllByRecursion (UseExists cat)) (sym x.says.uses_are) (uses_exist cat 0 x.says.text.statements (recursion_from_All (FitsStatement cat) x.says.text.statements fits.statements))
+      subst (AllByRecursion (UseExists cat)) (sym x.says.uses_are)
+      (uses_exist cat 0 x.says.text.statements (recursion_from_All (FitsStatement cat) x.says.text.statements fits.statements))
 
-  asked_module : (a : Attempt) (d : ℕ) → IsAttempt (history log) a → contains (modules_of cat a.class (ascending (fragments_in a.uses))) d ≡ true → IsModule cat d
+  asked_module : (a : Attempt) (d : ℕ) → IsAttempt (history log) a → contains (modules_of cat a.class (ascending (fragments_in a.uses))) d ≡ true
+      → IsModule cat d
   asked_module a d s e = module_exists cat sound a.class a.uses d (attempt_class a s) (attempt_uses a s) e
 
   -- a READ at the head of a pipe
@@ -75,8 +78,10 @@ module _ (g : Input) (rows : List (RelNo × Row)) (eras : Eras) (log : Log) (sou
       record {
         at_module = asked_module b d r.started r.read.asked;
         txn = subst IsTxn r.txn_is (attempt_txn b r.started);
-        conds = λ k q there. cond_exists cat (site.in_force (home_setting g b.class) (at_home g b.class r.read.start_log)).table b.class (ascending (fragments_in b.uses)) b.ts (p2_time b) d k q
-            (λ f m. fragment_exists cat b.uses f (attempt_uses b r.started) (from_ascending (fragments_in b.uses) f (number_member (ascending (fragments_in b.uses)) f m)))
+        conds = λ k q there. cond_exists cat (site.in_force (home_setting g b.class) (at_home g b.class r.read.start_log)).table b.class
+            (ascending (fragments_in b.uses)) b.ts (p2_time b) d k q
+            (λ f m. fragment_exists cat b.uses f (attempt_uses b r.started)
+            (from_ascending (fragments_in b.uses) f (number_member (ascending (fragments_in b.uses)) f m)))
             (subst (λ l. slice_get l k ≡ Some q) r.read.conds_are (subst (λ l. slice_get l k ≡ Some q) (sym r.same_conds) there));
       }
 
@@ -90,28 +95,39 @@ module _ (g : Input) (rows : List (RelNo × Row)) (eras : Eras) (log : Log) (sou
       let r : IsRead (home_setting g c) l p.act c ts.0 n number = subst (λ j. IsRead (home_setting g c) l p.act j ts.0 n number) z p.by in
       let start : Act = start_at (home_setting g c) c l r.queued in
       let b : Attempt = begun_as g c l r.queued (length (history p.before)) in
-      let i = in_reads (start_read (home_setting g c) c l r.queued) d (modules_asked (home_setting g c) c r.queued.text) p.place m (subst (λ y. slice_get (to_site (D (dm_no d)) (sends_of_act y)) p.place ≡ Some m) r.act_is p.there) in
-      let whole : log ≡ (front ++ p.later) ++ Does (home cat c) start ∷ p.before = is ∙ ap (λ y. front ++ y) (p.is ∙ ap (λ y. p.later ++ Does (home cat c) y ∷ p.before) r.act_is) ∙ sym (append_assoc front p.later (Does (home cat c) start ∷ p.before)) in
-      let s : IsAttempt (history log) b = subst (λ y. IsAttempt (history y) b) (sym whole) (stands_there (front ++ p.later) (Does (home cat c) start) p.before (start_of b) refl) in
+      let i = in_reads (start_read (home_setting g c) c l r.queued) d (modules_asked (home_setting g c) c r.queued.text) p.place m
+      (subst (λ y. slice_get (to_site (D (dm_no d)) (sends_of_act y)) p.place ≡ Some m) r.act_is p.there) in
+      let whole : log ≡ (front ++ p.later) ++ Does (home cat c) start ∷ p.before = is
+      ∙ ap (λ y. front ++ y) (p.is ∙ ap (λ y. p.later ++ Does (home cat c) y ∷ p.before) r.act_is)
+      ∙ sym (append_assoc front p.later (Does (home cat c) start ∷ p.before)) in
+      let s : IsAttempt (history log) b = subst (λ y. IsAttempt (history y) b) (sym whole)
+      (stands_there (front ++ p.later) (Does (home cat c) start) p.before (start_of b) refl) in
       (asked_module b d s i.0, subst IsTxn (sym r.number_is) (attempt_txn b s))
 
   start_known : (later : Log) (at : Site) (c : ℕ) (txn : TxnNo) (number : ℕ) (class : ClassNo) (ts : Ts) (p2 : Option Ts) (uses : List Use) (sends : List (Site × Msg)) (before : Log)
       → log ≡ later ++ Does at (Records c (Start txn number class ts p2 uses) sends) ∷ before → IsKnown (Start txn number class ts p2 uses)
   start_known later at c txn number class ts p2 uses sends before is =
       let a : Attempt = attempt_from txn number class ts p2 uses (length (history before)) in
-      let s : IsAttempt (history log) a = subst (λ y. IsAttempt (history y) a) (sym is) (stands_there later (Does at (Records c (start_of a) sends)) before (start_of a) refl) in
+      let s : IsAttempt (history log) a = subst (λ y. IsAttempt (history y) a) (sym is)
+      (stands_there later (Does at (Records c (start_of a) sends)) before (start_of a) refl) in
       ((attempt_class a s, All-from_recursion (UseExists cat) uses (attempt_uses a s)), attempt_txn a s)
 
   commit_known : (later : Log) (at : Site) (c : ℕ) (txn : TxnNo) (number : ℕ) (told : Told) (sends : List (Site × Msg)) (before : Log)
       → log ≡ later ++ Does at (Records c (commit_rec txn.0 number told) sends) ∷ before → IsKnown (commit_rec txn.0 number told)
   commit_known later at c txn number told sends before is =
       let k : ℕ = length (history before) in
-      let st : Stands (history log) k (commit_rec txn.0 number told) = subst (λ y. Stands (history y) k (commit_rec txn.0 number told)) (sym is) (stands_there later (Does at (Records c (commit_rec txn.0 number told) sends)) before (commit_rec txn.0 number told) refl) in
+      let st : Stands (history log) k (commit_rec txn.0 number told) = subst (λ y. Stands (history y) k (commit_rec txn.0 number told)) (sym is)
+      (stands_there later (Does at (Records c (commit_rec txn.0 number told) sends)) before (commit_rec txn.0 number told) refl) in
       let b = begun g log txn.0 number k told (commit_in g log txn.0 number k told sound h st) in
       let t : Committed = record { start = b.attempt; reply = told.reply; changes = told.changes; values = told.values; rows = told.rows; place = k } in
-      let named : Stands (history log) k (commit_rec b.attempt.txn b.attempt.number told) = subst (λ i. Stands (history log) k (commit_rec b.attempt.txn i told)) (sym b.number_is) (subst (λ i. Stands (history log) k (commit_rec i number told)) (sym b.txn_is) st) in
-      let ct : IsCommitted (history log) t = record { started = b.started; committed = named } in
-      (All-from_recursion (ChangeExists cat) told.changes (each_exists cat sound told.changes (changes_valid g rows log sound fine h t ct)), subst IsTxn b.txn_is (attempt_txn b.attempt b.started))
+      let named : Stands (history log) k (commit_rec b.attempt.txn b.attempt.number told) = subst
+      (λ i. Stands (history log) k (commit_rec b.attempt.txn i told)) (sym b.number_is)
+      (subst (λ i. Stands (history log) k (commit_rec i number told)) (sym b.txn_is) st) in
+      let ct : IsCommitted (history log) t = record { started = b.started; committed = named } in (
+        All-from_recursion (ChangeExists cat) told.changes
+            (each_exists cat sound told.changes (changes_valid g rows log sound fine h t ct)),
+        subst IsTxn b.txn_is (attempt_txn b.attempt b.started),
+      )
 
   -- records of data modules
 
@@ -125,7 +141,8 @@ module _ (g : Input) (rows : List (RelNo × Row)) (eras : Eras) (log : Log) (sou
   step_of : (later : Log) (c : ℕ) (r : Rec) (sends : List (Site × Msg)) (before : Log) (d : DmNo) → OfModule later c r sends before d
       → IsReadStep (setting_of g (D d)) (local_of g (D d) before) (Records c r sends)
   step_of later c r sends before d is =
-      d_step (setting_of g (D d)) (local_of g (D d) before) (Records c r sends) (allowed_act g before (Does (D d) (Records c r sends)) (act_permitted later c r sends before d is).0)
+      d_step (setting_of g (D d)) (local_of g (D d) before) (Records c r sends)
+      (allowed_act g before (Does (D d) (Records c r sends)) (act_permitted later c r sends before d is).0)
 
   answer_known : (later : Log) (c : ℕ) (txn : TxnNo) (i : ℕ) (dm : DmNo) (sends : List (Site × Msg)) (before : Log) (d : DmNo)
       → OfModule later c (Answer txn i dm) sends before d → dm ≡ d → IsKnown (Answer txn i dm)
@@ -152,22 +169,31 @@ module _ (g : Input) (rows : List (RelNo × Row)) (eras : Eras) (log : Log) (sou
   wait_known : (later : Log) (c : ℕ) (txn : TxnNo) (i : ℕ) (dm : DmNo) (ds : List Cond) (sends : List (Site × Msg)) (before : Log) (d : DmNo)
       → OfModule later c (Wait txn i dm ds) sends before d → dm ≡ d → IsKnown (Wait txn i dm ds)
   wait_known later c txn i dm ds sends before d is e =
-      let w = waiting (setting_of g (D d)) (local_of g (D d) before) c txn i dm ds sends (allowed_act g before (Does (D d) (Records c (Wait txn i dm ds) sends)) (act_permitted later c (Wait txn i dm ds) sends before d is).0) in
-      let k = head_known later before (Does (D d) (Records c (Wait txn i dm ds) sends)) c txn.0 i d.0 w.ts w.class w.conds w.uses is w.head_is in
-      ((subst (λ (y : DmNo). IsModule cat y.0) (sym e) k.at_module, All-from_recursion (CondExists cat) ds (all_conds ds (λ j q there. let a = w.among j q there in k.conds a.0 q a.1))), k.txn)
+      let w = waiting (setting_of g (D d)) (local_of g (D d) before) c txn i dm ds sends
+      (allowed_act g before (Does (D d) (Records c (Wait txn i dm ds) sends)) (act_permitted later c (Wait txn i dm ds) sends before d is).0) in
+      let k = head_known later before (Does (D d) (Records c (Wait txn i dm ds) sends)) c txn.0 i d.0 w.ts w.class w.conds w.uses is w.head_is in (
+        (
+          subst (λ (y : DmNo). IsModule cat y.0) (sym e) k.at_module,
+          All-from_recursion (CondExists cat) ds
+              (all_conds ds (λ j q there. let a = w.among j q there in k.conds a.0 q a.1)),
+        ),
+        k.txn,
+      )
 
   -- a message that was handed was put by the site of its class
   arrive_known : (later : Log) (c : ℕ) (txn : TxnNo) (i : ℕ) (dm : DmNo) (sends : List (Site × Msg)) (before : Log) (d : DmNo)
       → OfModule later c (Arrive txn i dm) sends before d → dm ≡ d → IsKnown (Arrive txn i dm)
   arrive_known later c txn i dm sends before d is e =
-      let w = arrives (setting_of g (D d)) (local_of g (D d) before) c txn i dm sends (allowed_act g before (Does (D d) (Records c (Arrive txn i dm) sends)) (act_permitted later c (Arrive txn i dm) sends before d is).0) in
+      let w = arrives (setting_of g (D d)) (local_of g (D d) before) c txn i dm sends
+      (allowed_act g before (Does (D d) (Records c (Arrive txn i dm) sends)) (act_permitted later c (Arrive txn i dm) sends before d is).0) in
       let m : Msg = Read w.ts w.class txn i w.conds w.uses in
       let p = place_of_hand g (D d) before w.later w.from m w.before w.is in
       let front : Log = (later ++ Does (D d) (Records c (Arrive txn i dm) sends) ∷ p.later) ++ Hand w.from (D d) p.number m ∷ [] in
       let whole : log ≡ front ++ p.rest = is ∙ ap (λ y. later ++ Does (D d) (Records c (Arrive txn i dm) sends) ∷ y) p.is
       ∙ sym (append_assoc later (Does (D d) (Records c (Arrive txn i dm) sends) ∷ p.later) (Hand w.from (D d) p.number m ∷ p.rest))
       ∙ sym (append_assoc (later ++ Does (D d) (Records c (Arrive txn i dm) sends) ∷ p.later) (Hand w.from (D d) p.number m ∷ []) p.rest) in
-      let now : IsPermitted g (Hand w.from (D d) p.number m ∷ p.rest) = permitted_before g p.later (Hand w.from (D d) p.number m ∷ p.rest) (subst (IsPermitted g) p.is (act_permitted later c (Arrive txn i dm) sends before d is).1) in
+      let now : IsPermitted g (Hand w.from (D d) p.number m ∷ p.rest) = permitted_before g p.later (Hand w.from (D d) p.number m ∷ p.rest)
+      (subst (IsPermitted g) p.is (act_permitted later c (Arrive txn i dm) sends before d is).1) in
       let put = (hand_was_put g p.rest w.from (D d) p.number m now.0).1 in
       let home_is : home cat w.class.0 ≡ w.from = put_at_home g w.from (D d) p.rest (handed w.from (D d) p.rest) m now.1 put w.class.0 w.ts.0 refl in
       let there = subst (λ s. slice_get (puts_to (D d) (local_of g s p.rest)) (handed w.from (D d) p.rest) ≡ Some m) (sym home_is) put in
@@ -179,10 +205,14 @@ module _ (g : Input) (rows : List (RelNo × Row)) (eras : Eras) (log : Log) (sou
       → OfModule later c (Apply txn class dm ts) sends before d → dm ≡ d → IsKnown (Apply txn class dm ts)
   apply_known later c txn class dm ts sends before d is e =
       let k : ℕ = length (history before) in
-      let st : Stands (history log) k (Apply txn class dm ts) = subst (λ y. Stands (history y) k (Apply txn class dm ts)) (sym is) (stands_there later (Does (D d) (Records c (Apply txn class dm ts) sends)) before (Apply txn class dm ts) refl) in
+      let st : Stands (history log) k (Apply txn class dm ts) = subst (λ y. Stands (history y) k (Apply txn class dm ts)) (sym is)
+      (stands_there later (Does (D d) (Records c (Apply txn class dm ts) sends)) before (Apply txn class dm ts) refl) in
       let x = apply_in g log txn.0 class.0 dm.0 ts.0 k h st in
-      let o = of_commit g log sound h txn.0 class.0 dm.0 ts.0 k st in
-      ((x.at_module, subst (IsClass cat) o.class_is (attempt_class o.committed.start o.is_committed.started)), subst IsTxn o.txn_is (attempt_txn o.committed.start o.is_committed.started))
+      let o = of_commit g log sound h txn.0 class.0 dm.0 ts.0 k st in (
+        (x.at_module, subst (IsClass cat) o.class_is (attempt_class o.committed.start o.is_committed.started)),
+        subst IsTxn o.txn_is
+            (attempt_txn o.committed.start o.is_committed.started),
+      )
 
   -- an ASK was put by a Wait
   asked_known : (front rest : Log) (at : Site) (d : DmNo) (class : ClassNo) (time : Ts) (later before : site.Log) → log ≡ front ++ rest
@@ -191,12 +221,14 @@ module _ (g : Input) (rows : List (RelNo × Row)) (eras : Eras) (log : Log) (sou
       let m : Msg = Ask class time in
       let p = place_of_hand g at rest later (D d) m before split in
       let hr = permitted_before g front rest (subst (IsPermitted g) is h) in
-      let now : IsPermitted g (Hand (D d) at p.number m ∷ p.rest) = permitted_before g p.later (Hand (D d) at p.number m ∷ p.rest) (subst (IsPermitted g) p.is hr) in
+      let now : IsPermitted g (Hand (D d) at p.number m ∷ p.rest) = permitted_before g p.later (Hand (D d) at p.number m ∷ p.rest)
+      (subst (IsPermitted g) p.is hr) in
       let put = put_in_by_d g p.rest d at (handed (D d) at p.rest) m now.1 (hand_was_put g p.rest (D d) at p.number m now.0).1 in
       let b : IsAskBy (setting_of g (D d)) (local_of g (D d) put.before) at class time = put.by in
       let last : Log = p.later ++ Hand (D d) at p.number m ∷ put.later in
       let whole : log ≡ (front ++ last) ++ Does (D d) put.act ∷ put.before =
-      is ∙ ap (λ y. front ++ y) (p.is ∙ ap (λ y. p.later ++ Hand (D d) at p.number m ∷ y) put.is ∙ sym (append_assoc p.later (Hand (D d) at p.number m ∷ put.later) (Does (D d) put.act ∷ put.before)))
+      is ∙ ap (λ y. front ++ y) (p.is ∙ ap (λ y. p.later ++ Hand (D d) at p.number m ∷ y) put.is
+      ∙ sym (append_assoc p.later (Hand (D d) at p.number m ∷ put.later) (Does (D d) put.act ∷ put.before)))
       ∙ sym (append_assoc front last (Does (D d) put.act ∷ put.before)) in
       (head_known (front ++ last) put.before (Does (D d) put.act) b.class b.txn.0 b.attempt d.0 b.ts b.of b.conds b.uses whole b.head_is).at_module
 
@@ -211,7 +243,8 @@ module _ (g : Input) (rows : List (RelNo × Row)) (eras : Eras) (log : Log) (sou
       let b : Entry = Does (home cat c) p.act in
       let now : IsPermitted g (b ∷ p.before) = permitted_before g p.later (b ∷ p.before) (subst (IsPermitted g) p.is hb) in
       let n = sends_null (home_setting g c) (at_home g c p.before) p.act (home_step g c p.before p.act now) d p.place x.no x.time p.there in
-      let due : IsDueAt g p.before (home cat c) (Sends (D d) (Null x.no x.time) n.0) = subst (IsDueAt g p.before (home cat c)) n.1 (allowed_act g p.before b now.0) in
+      let due : IsDueAt g p.before (home cat c) (Sends (D d) (Null x.no x.time) n.0) = subst (IsDueAt g p.before (home cat c)) n.1
+      (allowed_act g p.before b now.0) in
       let w = null_asked g p.before (home cat c) d x.no x.time n.0 (home_runs cat c) due in
       let whole : log ≡ (later ++ a ∷ (p.later ++ b ∷ [])) ++ p.before =
       is ∙ ap (λ y. later ++ a ∷ y) (p.is ∙ sym (append_assoc p.later (b ∷ []) p.before)) ∙ sym (append_assoc later (a ∷ (p.later ++ b ∷ [])) p.before) in

@@ -32,14 +32,19 @@ module _ {M : Type 0} where
 
   -- all calls but a delivery leave what is delivered
 
-  pub delivered_put : (a b from to : Site) (m : M) (calls : List (Call M)) → delivered (link a b (Puts from to m ∷ calls)).there ≡ delivered (link a b calls).there
+  pub delivered_put : (a b from to : Site) (m : M) (calls : List (Call M))
+      → delivered (link a b (Puts from to m ∷ calls)).there ≡ delivered (link a b calls).there
   delivered_put a b from to m calls = ap top (keeps_arrived a b from to (put m) (link a b calls) (λ k. (refl, refl))).0
 
-  pub delivered_lose : (a b from to : Site) (place : ℕ) (calls : List (Call M)) → delivered (link a b (Loses from to place ∷ calls)).there ≡ delivered (link a b calls).there
-  delivered_lose a b from to place calls = ap top (keeps_arrived a b from to (lose place) (link a b calls) (λ k. by_packet (SameArrived k) (packet_at place k) _ k (refl, refl) (λ p. (refl, refl)))).0
+  pub delivered_lose : (a b from to : Site) (place : ℕ) (calls : List (Call M))
+      → delivered (link a b (Loses from to place ∷ calls)).there ≡ delivered (link a b calls).there
+  delivered_lose a b from to place calls = ap top
+      (keeps_arrived a b from to (lose place) (link a b calls) (λ k. by_packet (SameArrived k) (packet_at place k) _ k (refl, refl) (λ p. (refl, refl)))).0
 
-  pub delivered_repeat : (a b from to : Site) (place : ℕ) (calls : List (Call M)) → delivered (link a b (Repeats from to place ∷ calls)).there ≡ delivered (link a b calls).there
-  delivered_repeat a b from to place calls = ap top (keeps_arrived a b from to (repeat place) (link a b calls) (λ k. by_packet (SameArrived k) (packet_at place k) _ k (refl, refl) (λ p. (refl, refl)))).0
+  pub delivered_repeat : (a b from to : Site) (place : ℕ) (calls : List (Call M))
+      → delivered (link a b (Repeats from to place ∷ calls)).there ≡ delivered (link a b calls).there
+  delivered_repeat a b from to place calls = ap top
+      (keeps_arrived a b from to (repeat place) (link a b calls) (λ k. by_packet (SameArrived k) (packet_at place k) _ k (refl, refl) (λ p. (refl, refl)))).0
 
   pub delivered_resend : (a b from to : Site) (calls : List (Call M)) → delivered (link a b (Resends from to ∷ calls)).there ≡ delivered (link a b calls).there
   delivered_resend a b from to calls = ap top (keeps_arrived a b from to resend (link a b calls) (λ k. (refl, refl))).0
@@ -50,13 +55,16 @@ module _ {M : Type 0} where
   back_arrives (Some (Ack k)) place l = refl
   back_arrives _ place l = refl
 
-  other_way : (c d : Bool) (place : ℕ) (l : Link M) → c ≡ false → (if c then deliver place l else if d then turned (deliver place (turned l)) else l).there.arrived ≡ l.there.arrived
+  other_way : (c d : Bool) (place : ℕ) (l : Link M) → c ≡ false
+      → (if c then deliver place l else if d then turned (deliver place (turned l)) else l).there.arrived ≡ l.there.arrived
   other_way true d place l e = cc
   other_way false true place l e = back_arrives (packet_at place (turned l)) place (turned l)
   other_way false false place l e = refl
 
-  pub delivered_deliver : (a b from to : Site) (place : ℕ) (calls : List (Call M)) → (same_site a from && same_site b to) ≡ false → delivered (link a b (Delivers from to place ∷ calls)).there ≡ delivered (link a b calls).there
-  delivered_deliver a b from to place calls e = ap top (other_way (same_site a from && same_site b to) (same_site a to && same_site b from) place (link a b calls) e)
+  pub delivered_deliver : (a b from to : Site) (place : ℕ) (calls : List (Call M)) → (same_site a from && same_site b to) ≡ false
+      → delivered (link a b (Delivers from to place ∷ calls)).there ≡ delivered (link a b calls).there
+  delivered_deliver a b from to place calls e = ap top
+      (other_way (same_site a from && same_site b to) (same_site a to && same_site b from) place (link a b calls) e)
 
   -- what was put stays put
 
@@ -75,9 +83,13 @@ module _ {M : Type 0} where
 
   pub sent_stays : (a b : Site) (c : Call M) (calls : List (Call M)) → KeepsSent (link a b calls).there (link a b (c ∷ calls)).there
   sent_stays a b (Puts from to m) calls = (keeps_sent a b from to (put m) (link a b calls) (put_sent m)).0
-  sent_stays a b (Delivers from to place) calls = (keeps_sent a b from to (deliver place) (link a b calls) (λ k. by_packet (KeepBoth k) (packet_at place k) _ k (same_sent k) (λ p. arrives_sent p place k))).0
-  sent_stays a b (Loses from to place) calls = (keeps_sent a b from to (lose place) (link a b calls) (λ k. by_packet (KeepBoth k) (packet_at place k) _ k (same_sent k) (λ p. same_sent k))).0
-  sent_stays a b (Repeats from to place) calls = (keeps_sent a b from to (repeat place) (link a b calls) (λ k. by_packet (KeepBoth k) (packet_at place k) _ k (same_sent k) (λ p. same_sent k))).0
+  sent_stays a b (Delivers from to place) calls =
+      (keeps_sent a b from to (deliver place) (link a b calls)
+      (λ k. by_packet (KeepBoth k) (packet_at place k) _ k (same_sent k) (λ p. arrives_sent p place k))).0
+  sent_stays a b (Loses from to place) calls =
+      (keeps_sent a b from to (lose place) (link a b calls) (λ k. by_packet (KeepBoth k) (packet_at place k) _ k (same_sent k) (λ p. same_sent k))).0
+  sent_stays a b (Repeats from to place) calls =
+      (keeps_sent a b from to (repeat place) (link a b calls) (λ k. by_packet (KeepBoth k) (packet_at place k) _ k (same_sent k) (λ p. same_sent k))).0
   sent_stays a b (Resends from to) calls = (keeps_sent a b from to resend (link a b calls) same_sent).0
 
   -- what a delivery's answer tells
@@ -109,12 +121,16 @@ module _ {M : Type 0} where
   get_drop (suc k) [] i x e = e
   get_drop (suc k) (y ∷ xs) i x e = let s : suc k + i ≡ suc (k + i) = omega arith in rw s (get_drop k xs i x e)
 
-  pub newly_get : (old new : Way M) (given : List M) (i : ℕ) (m : M) → given ≡ newly_delivered old new → slice_get given i ≡ Some m → slice_get new.sent (delivered old + i) ≡ Some m
-  newly_get old new given i m e h = get_take (delivered new) new.sent (delivered old + i) m (get_drop (delivered old) (take (delivered new) new.sent) i m (ap (λ xs. slice_get xs i) (sym e) ∙ h))
+  pub newly_get : (old new : Way M) (given : List M) (i : ℕ) (m : M) → given ≡ newly_delivered old new → slice_get given i ≡ Some m
+      → slice_get new.sent (delivered old + i) ≡ Some m
+  newly_get old new given i m e h = get_take (delivered new) new.sent (delivered old + i) m
+      (get_drop (delivered old) (take (delivered new) new.sent) i m (ap (λ xs. slice_get xs i) (sym e) ∙ h))
 
-  pub newly_length : (old new : Way M) (given : List M) → given ≡ newly_delivered old new → delivered old ≤ delivered new → delivered new ≤ length new.sent → delivered old + length given ≡ delivered new
+  pub newly_length : (old new : Way M) (given : List M) → given ≡ newly_delivered old new → delivered old ≤ delivered new → delivered new ≤ length new.sent
+      → delivered old + length given ≡ delivered new
   newly_length old new given e le within =
-      let a : length given ≡ length (take (delivered new) new.sent) - delivered old = ap length e ∙ length-drop (delivered old) (take (delivered new) new.sent) in
+      let a : length given ≡ length (take (delivered new) new.sent) - delivered old = ap length e
+      ∙ length-drop (delivered old) (take (delivered new) new.sent) in
       let b : length (take (delivered new) new.sent) ≡ delivered new = length-take-le (delivered new) new.sent within in
       omega (arith, a, b)
 

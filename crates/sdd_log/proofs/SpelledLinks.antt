@@ -28,21 +28,27 @@ module _ {A B : Type 0} (f : A → B) where
   unacked_map : (w : Way A) → unacked (way_as f w) ≡ map (packet_as f) (unacked w)
   unacked_map w = ap (λ l. drop w.acked l) (numbered_map 0 w.sent) ∙ drop_map (packet_as f) w.acked (numbered 0 w.sent)
 
-  way_of : (s t : List B) (p q : List (Packet B)) (arrived : List ℕ) (acked : ℕ) → s ≡ t → p ≡ q → ◌≡◌ {A = Way B} (record { sent = s; flight = p; arrived = arrived; acked = acked }) (record { sent = t; flight = q; arrived = arrived; acked = acked })
+  way_of : (s t : List B) (p q : List (Packet B)) (arrived : List ℕ) (acked : ℕ) → s ≡ t → p ≡ q
+      → ◌≡◌ {A = Way B} (record { sent = s; flight = p; arrived = arrived; acked = acked }) (record { sent = t; flight = q; arrived = arrived; acked = acked })
   way_of s t p q arrived acked e h = rw (e, h) refl
 
   put_map : (m : A) (l : Link A) → put (f m) (link_as f l) ≡ link_as f (put m l)
   put_map m l =
       ap (λ w. record (link_as f l) { there = w })
-      (way_of (map f l.there.sent ++ f m ∷ []) (map f (l.there.sent ++ m ∷ [])) (map (packet_as f) l.there.flight ++ Message (length (map f l.there.sent) + 1) (f m) ∷ []) (map (packet_as f) (l.there.flight ++ Message (length l.there.sent + 1) m ∷ [])) l.there.arrived l.there.acked
+      (way_of (map f l.there.sent ++ f m ∷ []) (map f (l.there.sent ++ m ∷ []))
+      (map (packet_as f) l.there.flight ++ Message (length (map f l.there.sent) + 1) (f m) ∷ [])
+      (map (packet_as f) (l.there.flight ++ Message (length l.there.sent + 1) m ∷ [])) l.there.arrived l.there.acked
       (sym (map-append f l.there.sent (m ∷ [])))
-      (ap (λ n. map (packet_as f) l.there.flight ++ Message (n + 1) (f m) ∷ []) (length-map l.there.sent f) ∙ sym (map-append (packet_as f) l.there.flight (Message (length l.there.sent + 1) m ∷ []))))
+      (ap (λ n. map (packet_as f) l.there.flight ++ Message (n + 1) (f m) ∷ []) (length-map l.there.sent f)
+      ∙ sym (map-append (packet_as f) l.there.flight (Message (length l.there.sent + 1) m ∷ []))))
 
-  flown : (p q : List (Packet B)) (w : Way B) (back : Way B) → p ≡ q → ◌≡◌ {A = Link B} (record { there = with_flight p w; back = back }) (record { there = with_flight q w; back = back })
+  flown : (p q : List (Packet B)) (w : Way B) (back : Way B) → p ≡ q
+      → ◌≡◌ {A = Link B} (record { there = with_flight p w; back = back }) (record { there = with_flight q w; back = back })
   flown p q w back e = ap (λ x. record { there = with_flight x w; back = back }) e
 
   without_packet_map : (k : ℕ) (l : Link A) → without_packet k (link_as f l) ≡ link_as f (without_packet k l)
-  without_packet_map k l = flown (without_at (map (packet_as f) l.there.flight) (k - 1)) (map (packet_as f) (without_at l.there.flight (k - 1))) (way_as f l.there) (way_as f l.back) (without_map (packet_as f) l.there.flight (k - 1))
+  without_packet_map k l = flown (without_at (map (packet_as f) l.there.flight) (k - 1)) (map (packet_as f) (without_at l.there.flight (k - 1)))
+      (way_as f l.there) (way_as f l.back) (without_map (packet_as f) l.there.flight (k - 1))
 
   arrives_map : (p : Packet A) (l : Link A) → arrives (packet_as f p) (link_as f l) ≡ link_as f (arrives p l)
   arrives_map (Message n m) l =
@@ -50,7 +56,8 @@ module _ {A B : Type 0} (f : A → B) where
       (sym (map-append (packet_as f) l.back.flight (Ack (delivered (record l.there { arrived = n ∷ l.there.arrived })) ∷ [])))
   arrives_map (Ack k) l = refl
 
-  at_packet_map : (o : Option (Packet A)) (h : Packet B → Link B) (j : Packet A → Link A) (l : Link A) → ((p : Packet A) → h (packet_as f p) ≡ link_as f (j p)) → with_packet (map_option (packet_as f) o) h (link_as f l) ≡ link_as f (with_packet o j l)
+  at_packet_map : (o : Option (Packet A)) (h : Packet B → Link B) (j : Packet A → Link A) (l : Link A)
+      → ((p : Packet A) → h (packet_as f p) ≡ link_as f (j p)) → with_packet (map_option (packet_as f) o) h (link_as f l) ≡ link_as f (with_packet o j l)
   at_packet_map None h j l e = refl
   at_packet_map (Some p) h j l e = e p
 
@@ -67,30 +74,42 @@ module _ {A B : Type 0} (f : A → B) where
 
   repeat_map : (k : ℕ) (l : Link A) → repeat k (link_as f l) ≡ link_as f (repeat k l)
   repeat_map k l =
-      ap (λ o. with_packet o (λ p. record (link_as f l) { there = with_flight (map (packet_as f) l.there.flight ++ p ∷ []) (way_as f l.there) }) (link_as f l)) (get_map (packet_as f) l.there.flight (k - 1))
-      ∙ at_packet_map (packet_at k l) (λ p. record (link_as f l) { there = with_flight (map (packet_as f) l.there.flight ++ p ∷ []) (way_as f l.there) }) (λ p. record l { there = with_flight (l.there.flight ++ p ∷ []) l.there }) l
-      (λ p. flown (map (packet_as f) l.there.flight ++ packet_as f p ∷ []) (map (packet_as f) (l.there.flight ++ p ∷ [])) (way_as f l.there) (way_as f l.back) (sym (map-append (packet_as f) l.there.flight (p ∷ []))))
+      ap (λ o. with_packet o (λ p. record (link_as f l) { there = with_flight (map (packet_as f) l.there.flight ++ p ∷ []) (way_as f l.there) })
+      (link_as f l)) (get_map (packet_as f) l.there.flight (k - 1))
+      ∙ at_packet_map (packet_at k l) (λ p. record (link_as f l) { there = with_flight (map (packet_as f) l.there.flight ++ p ∷ []) (way_as f l.there) })
+      (λ p. record l { there = with_flight (l.there.flight ++ p ∷ []) l.there }) l
+      (λ p. flown (map (packet_as f) l.there.flight ++ packet_as f p ∷ []) (map (packet_as f) (l.there.flight ++ p ∷ [])) (way_as f l.there)
+      (way_as f l.back) (sym (map-append (packet_as f) l.there.flight (p ∷ []))))
 
   resend_map : (l : Link A) → resend (link_as f l) ≡ link_as f (resend l)
-  resend_map l = flown (map (packet_as f) l.there.flight ++ unacked (way_as f l.there)) (map (packet_as f) (l.there.flight ++ unacked l.there)) (way_as f l.there) (way_as f l.back)
+  resend_map l = flown (map (packet_as f) l.there.flight ++ unacked (way_as f l.there)) (map (packet_as f) (l.there.flight ++ unacked l.there))
+      (way_as f l.there) (way_as f l.back)
       (ap (λ u. map (packet_as f) l.there.flight ++ u) (unacked_map l.there) ∙ sym (map-append (packet_as f) l.there.flight (unacked l.there)))
 
   way_map : (c d : Bool) (h : Link B → Link B) (j : Link A → Link A) (l : Link A) → ((k : Link A) → h (link_as f k) ≡ link_as f (j k))
-      → (if c then h (link_as f l) else if d then turned (h (turned (link_as f l))) else link_as f l) ≡ link_as f (if c then j l else if d then turned (j (turned l)) else l)
+      → (if c then h (link_as f l) else if d then turned (h (turned (link_as f l))) else link_as f l) ≡ link_as f
+      (if c then j l else if d then turned (j (turned l)) else l)
   way_map true d h j l e = e l
   way_map false true h j l e = ap (λ z. turned z) (e (turned l))
   way_map false false h j l e = refl
 
-  step_map : (a b from to : Site) (h : Link B → Link B) (j : Link A → Link A) (k : Link B) (l : Link A) → k ≡ link_as f l → ((z : Link A) → h (link_as f z) ≡ link_as f (j z)) → on_link a b from to h k ≡ link_as f (on_link a b from to j l)
-  step_map a b from to h j k l e q = ap (λ z. on_link a b from to h z) e ∙ way_map (same_site a from && same_site b to) (same_site a to && same_site b from) h j l q
+  step_map : (a b from to : Site) (h : Link B → Link B) (j : Link A → Link A) (k : Link B) (l : Link A) → k ≡ link_as f l
+      → ((z : Link A) → h (link_as f z) ≡ link_as f (j z)) → on_link a b from to h k ≡ link_as f (on_link a b from to j l)
+  step_map a b from to h j k l e q = ap (λ z. on_link a b from to h z) e
+      ∙ way_map (same_site a from && same_site b to) (same_site a to && same_site b from) h j l q
 
   pub link_map : (a b : Site) (calls : List (Call A)) → link a b (map (call_as f) calls) ≡ link_as f (link a b calls)
   link_map a b [] = refl
-  link_map a b (Puts from to m ∷ calls) = step_map a b from to (put (f m)) (put m) (link a b (map (call_as f) calls)) (link a b calls) (link_map a b calls) (put_map m)
-  link_map a b (Delivers from to k ∷ calls) = step_map a b from to (deliver k) (deliver k) (link a b (map (call_as f) calls)) (link a b calls) (link_map a b calls) (deliver_map k)
-  link_map a b (Loses from to k ∷ calls) = step_map a b from to (lose k) (lose k) (link a b (map (call_as f) calls)) (link a b calls) (link_map a b calls) (lose_map k)
-  link_map a b (Repeats from to k ∷ calls) = step_map a b from to (repeat k) (repeat k) (link a b (map (call_as f) calls)) (link a b calls) (link_map a b calls) (repeat_map k)
-  link_map a b (Resends from to ∷ calls) = step_map a b from to resend resend (link a b (map (call_as f) calls)) (link a b calls) (link_map a b calls) resend_map
+  link_map a b (Puts from to m ∷ calls) = step_map a b from to (put (f m)) (put m) (link a b (map (call_as f) calls)) (link a b calls) (link_map a b calls)
+      (put_map m)
+  link_map a b (Delivers from to k ∷ calls) = step_map a b from to (deliver k) (deliver k) (link a b (map (call_as f) calls)) (link a b calls)
+      (link_map a b calls) (deliver_map k)
+  link_map a b (Loses from to k ∷ calls) = step_map a b from to (lose k) (lose k) (link a b (map (call_as f) calls)) (link a b calls) (link_map a b calls)
+      (lose_map k)
+  link_map a b (Repeats from to k ∷ calls) = step_map a b from to (repeat k) (repeat k) (link a b (map (call_as f) calls)) (link a b calls)
+      (link_map a b calls) (repeat_map k)
+  link_map a b (Resends from to ∷ calls) = step_map a b from to resend resend (link a b (map (call_as f) calls)) (link a b calls)
+      (link_map a b calls) resend_map
 
   given_map : (o : Option (Packet A)) (ms : List A) → given_by (map_option (packet_as f) o) (map f ms) ≡ delivered_as f (given_by o ms)
   given_map (Some (Ack k)) ms = refl
