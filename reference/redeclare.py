@@ -8,7 +8,7 @@ from dataclasses import replace
 from .plain import class_for
 
 
-def forces(cat, lists):
+def eras(cat, lists):
     """The catalogues in force, one after the other; the last one has the classes of all lists."""
     found = [cat]
     for classes in lists:
@@ -24,9 +24,9 @@ def whole(cat, lists):
 
 def classes_submitted(cat, work):
     """The class of each submitted transaction, by the list in force when it is submitted."""
-    found, force, found_in = {}, forces(cat, work.lists), 0
+    found, catalogues, found_in = {}, eras(cat, work.lists), 0
     for event in work.events:
         found_in += event.word == "redeclare"
         if event.word == "submit":
-            found[event.txn] = class_for(force[found_in], work.txns[event.txn - 1])
+            found[event.txn] = class_for(catalogues[found_in], work.txns[event.txn - 1])
     return found

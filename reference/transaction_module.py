@@ -12,16 +12,16 @@ from .workload import U
 
 
 class TransactionModule:
-    def __init__(self, cat, force, number, bases):
-        """`cat` has the classes of all lists, `force` those in force."""
+    def __init__(self, cat, era, number, bases):
+        """`cat` has the classes of all lists, `era` those in force."""
         self.clock = Clock(number)
         self.lines = {c: Line(cat, c, bases) for c, cls in enumerate(cat.classes, 1) if cls.tm == number}
         self.asks = []          # pairs of a site and its ASK, not answered yet
         self.holds = self.helds = self.releases = 0
-        self.put_in_force(force)
+        self.put_in_force(era)
 
-    def put_in_force(self, force, time=0):
-        self.force, self.pairs = force, diagonals_by_pair(protocol_table(force))
+    def put_in_force(self, era, time=0):
+        self.era, self.pairs = era, diagonals_by_pair(protocol_table(era))
         self.clock.push(time)
 
     @property
@@ -38,7 +38,7 @@ class TransactionModule:
             line.handed(site, message)
 
     def submit(self, number, txn):
-        self.lines[class_for(self.force, txn)].queue.append(Queued(number, txn))
+        self.lines[class_for(self.era, txn)].queue.append(Queued(number, txn))
 
     def act(self):
         """Does the first thing that is due: a record or None, and what is sent with it. None where nothing is due."""

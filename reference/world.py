@@ -10,7 +10,7 @@ from .data_module import DataModule
 from .links import Links
 from .messages import Record
 from .plain import class_for
-from .redeclare import forces, whole
+from .redeclare import eras, whole
 from .transaction_module import TransactionModule
 from .undeclared_module import UndeclaredModule
 from .workload import Event, Site, U, sites_of
@@ -34,7 +34,7 @@ class World:
     def __init__(self, cat, work, rows=None):
         """ROWS has the first rows of each data module; without it each has those of the workload."""
         self.cat, self.work = whole(cat, work.lists), work
-        self.forces = forces(cat, work.lists)
+        self.eras = eras(cat, work.lists)
         self.links, self.bases = Links(self.cat), {}
         self.sites = {U: UndeclaredModule(self.cat, self.bases)}
         for site in sites_of(self.cat)[1:]:
@@ -93,20 +93,20 @@ class World:
         return True
 
     def submit(self, n):
-        txn, force = self.work.txns[n - 1], self.forces[0]
+        txn, era = self.work.txns[n - 1], self.eras[0]
         self.record(Record("submit", n))
-        self.homes[n] = Site("T", txn.tm) if class_for(force, txn) else U
+        self.homes[n] = Site("T", txn.tm) if class_for(era, txn) else U
         self.sites[self.homes[n]].submit(n, txn)
         self.busy.add(self.homes[n])
         return True
 
     def redeclare(self):
         """The next list of classes is in force, at the greatest bound of the clocks."""
-        self.forces = self.forces[1:]
+        self.eras = self.eras[1:]
         modules = {site: module for site, module in self.sites.items() if site.kind == "T"}
         time = max(module.clock.bound() for module in modules.values())
         for module in modules.values():
-            module.put_in_force(self.forces[0], time)
+            module.put_in_force(self.eras[0], time)
         self.busy |= set(modules)
 
     def finish(self):

@@ -22,7 +22,7 @@ from log_rows import ROWS
 import random_input
 from reference.catalogue import read_catalogue
 from reference.graph import protocol_table
-from reference.redeclare import forces
+from reference.redeclare import eras as eras_of
 from reference.statements import Compare, Put, Query, Update
 from reference.workload import read_workload
 from reference.world import World
@@ -235,7 +235,7 @@ class Counted(World):
 def written(name, shows, first, work, apart=None):
     """The definitions and equations of one log, of the workload's rows or of those of each data module."""
     world = Counted(first, work, apart)
-    eras, numbers, count = forces(first, work.lists), Numbers(first), world.entries
+    eras, numbers, count = eras_of(first, work.lists), Numbers(first), world.entries
     text = "" if shows is None else "-- %s\n\n" % shows
     whole_cat = "catalogue_of_" + name
     same = len(eras) == 1
@@ -246,7 +246,7 @@ def written(name, shows, first, work, apart=None):
     each = [listed("(%s, %s)" % (numbers.rel(r), row(x)) for r, x in rows) for rows in apart or [work.rows] * first.dms]
     txns = [fields(name="[]", tm=number("tm_no", t.tm), statements=listed(map(numbers.statement, t.statements))) for t in work.txns]
     given = ["(record {\n        catalogue = %s;\n        table =\n%s;\n      })" % (n, lines(table(era), 12)) for n, era in zip(names, eras)]
-    text += "\nabbrev pub given_%s : Input\ngiven_%s = record {\n  catalogue = %s;\n  forces =\n%s;\n  rows = %s;\n  txns =\n%s;\n  events =\n%s;\n}\n" % (
+    text += "\nabbrev pub given_%s : Input\ngiven_%s = record {\n  catalogue = %s;\n  eras =\n%s;\n  rows = %s;\n  txns =\n%s;\n  events =\n%s;\n}\n" % (
         name, name, whole_cat, lines(given, 6), listed(each), lines(txns, 6), lines(map(event, work.events), 6))
     text += "\nabbrev pub log_of_%s : Log\nlog_of_%s = extended %d given_%s []\n" % (name, name, count, name)
     history = lines(["(%d, %s)" % (r.event, numbers.record(r)) for r in world.records], 4)

@@ -37,21 +37,21 @@ module _ {K : Type 0} (D : Deeds K) (starts : Starts D) (applies : Applies D) (e
   era_rises : (x y : Txn D) → Precedes (system D) x y → era x.no ≤ era y.no
   era_rises x y p = elim (cases_lt (era y.no) (era x.no)) [ inl l ↦ absurd (never_back y x l p) | inr l ↦ l ]
 
-  module _ (zero : ZeroAlone D) (cat : Catalogue) (force : ℕ → Catalogue) (frags : K → List FragNo)
-      (fits : (n : ℕ) → Fits (force n) (declared (of_era D era n)))
-      (meets : (n : ℕ) (entries : List Entry) → IsTable (force n) entries → Meets cat entries (declared (of_era D era n)) (λ x. frags x.txn.item.no))
+  module _ (zero : ZeroAlone D) (cat : Catalogue) (catalogue_of : ℕ → Catalogue) (frags : K → List FragNo)
+      (fits : (n : ℕ) → Fits (catalogue_of n) (declared (of_era D era n)))
+      (meets : (n : ℕ) (entries : List Entry) → IsTable (catalogue_of n) entries → Meets cat entries (declared (of_era D era n)) (λ x. frags x.txn.item.no))
     where
       -- the transactions of one era have no cycle
       of_one_era : (n : ℕ) → IsOrderly (λ (a b : Ranked (λ (x : Txn D). era x.no) n). Precedes (system D) a.item b.item)
       of_one_era n x m p =
-          let t = each_table (force n) in
+          let t = each_table (catalogue_of n) in
           let S = of_era D era n in
           let is_facts = facts_over (λ r. r.txn) S (facts_over (λ r. r.item) (system D) (facts D starts applies)) in
           let rises : (a b : Declared S) → S.class a.txn ≡ S.class b.txn → S.ts a.txn ≤ S.ts b.txn → S.p2 a.txn ≤ S.p2 b.txn =
           λ a b c l. bounds_rise D starts applies a.txn.item b.txn.item c a.class l in
           let is_declared : IsOrderly (Precedes (declared S)) =
-          orderly (declared S) (conflict_graph (force n)) is_facts (covers (force n) (declared S) (fits n)) (blocks_of t.0) t.1.blocks
-          (waits (force n) t.0 t.1 cat (declared S) (fits n) (λ a. frags a.txn.item.no) (meets n t.0 t.1) rises) in
+          orderly (declared S) (conflict_graph (catalogue_of n)) is_facts (covers (catalogue_of n) (declared S) (fits n)) (blocks_of t.0) t.1.blocks
+          (waits (catalogue_of n) t.0 t.1 cat (declared S) (fits n) (λ a. frags a.txn.item.no) (meets n t.0 t.1) rises) in
           let is_barriers : HasBarriers S =
           record {
             barrier = λ u a b c l h q.

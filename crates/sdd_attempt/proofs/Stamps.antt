@@ -26,7 +26,7 @@ no_sooner_act (Sends to m hand) k = (omega arith, refl)
 
 pub no_sooner : (at : Site) (e : Entry) (log : Log) → NoSooner (clock at log) (clock at (e ∷ log))
 no_sooner at (Handed from m) log = no_sooner_hand m (clock at log)
-no_sooner at (Redeclared force t) log = no_sooner_push (clock at log) t
+no_sooner at (Redeclared era t) log = no_sooner_push (clock at log) t
 no_sooner at (Did act) log = no_sooner_act act (clock at log)
 no_sooner at _ log = (omega arith, refl)
 

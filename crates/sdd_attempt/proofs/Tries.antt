@@ -1,5 +1,5 @@
 -- Each try of a transaction was a Start, which took a tick of the clock.
-use Rattle.sdd_attempt.proofs.All.{All-filter, All-map, All-nil, All-push, All-weaker, AreTried, Bool, Commit, Did, Handed, List, Log, Msg, Queued, Rec, Records, Redeclared, Sends, Setting, Site, Start, Submits, Ticked, [], arith, clock, cond, false, filter, in_force, is_for, map, not, queue, queue_after, suc, ticked_by, tried, true, ℕ, ◌++◌, ◌+◌, ◌==◌, ◌∷◌, ◌≤◌}
+use Rattle.sdd_attempt.proofs.All.{All-filter, All-map, All-nil, All-push, All-weaker, AreTried, Bool, Commit, Did, Handed, List, Log, Msg, Queued, Rec, Records, Redeclared, Sends, Setting, Site, Start, Submits, Ticked, [], arith, clock, cond, current_era, false, filter, is_for, map, not, queue, queue_after, suc, ticked_by, tried, true, ℕ, ◌++◌, ◌+◌, ◌==◌, ◌∷◌, ◌≤◌}
 use Rattle.sdd_attempt.proofs.Stamps.{no_sooner}
 
 pub tried_later : (n m : ℕ) (qs : List Queued) → AreTried n qs → n ≤ m → AreTried m qs
@@ -39,10 +39,10 @@ tries_told s c (Handed from m ∷ log) =
     tried_later (clock s.site log).ticks (clock s.site (Handed from m ∷ log)).ticks (queue s c log) (tries_told s c log) (no_sooner s.site (Handed from m) log).0
 tries_told s c (Ticked n ∷ log) =
     tried_later (clock s.site log).ticks (clock s.site (Ticked n ∷ log)).ticks (queue s c log) (tries_told s c log) (no_sooner s.site (Ticked n) log).0
-tries_told s c (Redeclared force t ∷ log) =
-    tried_later (clock s.site log).ticks (clock s.site (Redeclared force t ∷ log)).ticks (queue s c log) (tries_told s c log) (no_sooner s.site (Redeclared force t) log).0
+tries_told s c (Redeclared era t ∷ log) =
+    tried_later (clock s.site log).ticks (clock s.site (Redeclared era t ∷ log)).ticks (queue s c log) (tries_told s c log) (no_sooner s.site (Redeclared era t) log).0
 tries_told s c (Submits n txn ∷ log) =
-    if_tried (clock s.site log).ticks (is_for c (in_force s log).catalogue txn) (queue s c log ++ record { number = n; text = txn; tries = 0 } ∷ [])
+    if_tried (clock s.site log).ticks (is_for c (current_era s log).catalogue txn) (queue s c log ++ record { number = n; text = txn; tries = 0 } ∷ [])
     (queue s c log)
     (All-push (λ (q : Queued). q.tries ≤ (clock s.site log).ticks) (queue s c log) (record { number = n; text = txn; tries = 0 }) (tries_told s c log) (omega arith)) (tries_told s c log)
 tries_told s c (Did (Records k r sends) ∷ log) = kept c k r sends s log (tries_told s c log)

@@ -21,5 +21,5 @@ clock at [] = at_zero (number_of at)
 clock at (Handed from m ∷ log) = pushed_by m (clock at log)
 clock at (Ticked n ∷ log) = ticked (clock at log) n
 clock at (Submits n txn ∷ log) = clock at log
-clock at (Redeclared force t ∷ log) = pushed (clock at log) t
+clock at (Redeclared era t ∷ log) = pushed (clock at log) t
 clock at (Did act ∷ log) = ticked_by act (clock at log)

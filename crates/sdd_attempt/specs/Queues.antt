@@ -1,6 +1,6 @@
 -- The queues of a site: the transactions of a class that are submitted and not committed, in order.
 use Rattle.std.specs.Prelude.{ℕ, suc, ◌==◌, ◌||◌, Bool, not, cond, if◌then◌else◌, List, [], ◌∷◌, ◌++◌, map, filter}
-use Rattle.sdd_module.specs.All.{Act, Catalogue, Commit, Did, Log, Records, Setting, Start, Submits, Txn, TxnNo, class_for, in_force, txn_no}
+use Rattle.sdd_module.specs.All.{Act, Catalogue, Commit, Did, Log, Records, Setting, Start, Submits, Txn, TxnNo, class_for, current_era, txn_no}
 
 -- a transaction in a queue, and how often it started
 pub record Queued : Type 0 where
@@ -33,6 +33,6 @@ queue_after c _ queue = queue
 -- the queue of class c; a transaction's class is that of the catalogue in force when it is submitted
 abbrev pub queue : Setting → ℕ → Log → List Queued
 queue s c [] = []
-queue s c (Submits n txn ∷ log) = submitted c (in_force s log).catalogue n txn (queue s c log)
+queue s c (Submits n txn ∷ log) = submitted c (current_era s log).catalogue n txn (queue s c log)
 queue s c (Did act ∷ log) = queue_after c act (queue s c log)
 queue s c (_ ∷ log) = queue s c log

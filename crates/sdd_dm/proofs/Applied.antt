@@ -43,7 +43,7 @@ each_in (Handed from m ∷ log) all h = (
 )
 each_in (Ticked n ∷ log) all h = each_in log all h
 each_in (Submits n txn ∷ log) all h = each_in log all h
-each_in (Redeclared force t ∷ log) all h = each_in log all h
+each_in (Redeclared era t ∷ log) all h = each_in log all h
 each_in (Did act ∷ log) all h = each_in log all h
 
 head_by : (c : ℕ) (log : Log) (o : Option Msg) (x : ℕ × Change) → head (pipe c log) ≡ o → Contains (changes_in o) x → Contains (written log) x
@@ -63,7 +63,7 @@ applied_written c [] x h = h
 applied_written c (Handed from m ∷ log) x h = Contains-append_right (changes_in (Some m)) (written log) x (applied_written c log x h)
 applied_written c (Ticked n ∷ log) x h = applied_written c log x h
 applied_written c (Submits n txn ∷ log) x h = applied_written c log x h
-applied_written c (Redeclared force t ∷ log) x h = applied_written c log x h
+applied_written c (Redeclared era t ∷ log) x h = applied_written c log x h
 applied_written c (Did (Sends to m hand) ∷ log) x h = applied_written c log x h
 applied_written c (Did (Records k r sends) ∷ log) x h =
     acted_by ((k == c) && is_apply r) (applied c log) (changes_in (head (pipe c log))) (written log) x (applied_written c log x) (head_written c log x) h

@@ -79,7 +79,7 @@ written_times (Handed from m ∷ log) x h =
     ]
 written_times (Ticked n ∷ log) x h = written_times log x h
 written_times (Submits n txn ∷ log) x h = written_times log x h
-written_times (Redeclared force t ∷ log) x h = written_times log x h
+written_times (Redeclared era t ∷ log) x h = written_times log x h
 written_times (Did act ∷ log) x h = written_times log x h
 
 -- of the changes of a new WRITE and all before, two of one item have two times

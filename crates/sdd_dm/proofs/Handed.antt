@@ -24,7 +24,7 @@ every_handed P c [] e = tt
 every_handed P c (Handed from m ∷ log) e = handed_by P (goes_through c m) m (all_handed c log) e.0 (every_handed P c log e.1)
 every_handed P c (Ticked n ∷ log) e = every_handed P c log e
 every_handed P c (Submits n txn ∷ log) e = every_handed P c log e
-every_handed P c (Redeclared force t ∷ log) e = every_handed P c log e
+every_handed P c (Redeclared era t ∷ log) e = every_handed P c log e
 every_handed P c (Did act ∷ log) e = every_handed P c log e
 
 every_head : (P : Msg → Type 0) (ms : List Msg) (m : Msg) → Every P ms → head_of ms ≡ Some m → P m

@@ -30,5 +30,5 @@ all_there c [] = refl
 all_there c (Handed from m ∷ log) = handed_all (goes_through c m) m (pipe c log) (all_handed c log) (all_there c log)
 all_there c (Ticked n ∷ log) = all_there c log
 all_there c (Submits n txn ∷ log) = all_there c log
-all_there c (Redeclared force t ∷ log) = all_there c log
+all_there c (Redeclared era t ∷ log) = all_there c log
 all_there c (Did act ∷ log) = act_all c act (pipe c log) ∙ all_there c log

@@ -8,7 +8,7 @@ class_step : (s : Setting) (e : Entry) (log : Log) (c : ℕ) → class_view s (e
 class_step s (Handed from m) log c = refl
 class_step s (Submits n txn) log c = refl
 class_step s (Ticked n) log c = refl
-class_step s (Redeclared force t) log c = refl
+class_step s (Redeclared era t) log c = refl
 class_step s (Did act) log c =
     ap (λ xs. record (class_view s (Did act ∷ log) c) { frozen = frozen_acted c act xs (pipe c log) (frozen s c log) }) (sym (dated_is s log))
 
@@ -20,7 +20,7 @@ pub view_step : (s : Setting) (e : Entry) (log : Log) → view_of s (e ∷ log) 
 view_step s (Handed from m) log = ap (λ ks. record (view_of s (Handed from m ∷ log)) { classes = ks }) (classes_step s (Handed from m) log)
 view_step s (Submits n txn) log = refl
 view_step s (Ticked n) log = refl
-view_step s (Redeclared force t) log = refl
+view_step s (Redeclared era t) log = refl
 view_step s (Did act) log = ap (λ ks. record (view_of s (Did act ∷ log)) { classes = ks }) (classes_step s (Did act) log)
 
 pub next_is_due : (h : Home) (v : View) (a : Act) → due h v ≡ Some a → IsDue h v a

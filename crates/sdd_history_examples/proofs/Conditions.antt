@@ -1,5 +1,5 @@
 -- A test that tells that a history keeps the law of read conditions, by the protocol table of its catalogue.
-use Rattle.sdd_history_examples.proofs.All.{AllByRecursion, Attempt, Bool, Catalogue, Change, Committed, Cond, Contains, Entry, Eras, FragNo, History, IsCommitted, IsConditionOf, IsTable, KeepsConditions, List, TouchesOne, and_from, ap, applied_before, attempts, before_applied, committed, conditions_of, contains, each_has, eq-eqb, eqb-true, event_at, has_copy, in_attempts, in_force, is_applied, list_any, lt-ltb, ltb-true, map, member_passes, nat_lt, one_table, passes_member, refl, subst, sym, true, ℕ, ◌&&◌, ◌==◌, ◌∙◌, ◌≡◌}
+use Rattle.sdd_history_examples.proofs.All.{AllByRecursion, Attempt, Bool, Catalogue, Change, Committed, Cond, Contains, Entry, Eras, FragNo, History, IsCommitted, IsConditionOf, IsTable, KeepsConditions, List, TouchesOne, and_from, ap, applied_before, attempts, before_applied, catalogue_at, committed, conditions_of, contains, each_has, eq-eqb, eqb-true, event_at, has_copy, in_attempts, is_applied, list_any, lt-ltb, ltb-true, map, member_passes, nat_lt, one_table, passes_member, refl, subst, sym, true, ℕ, ◌&&◌, ◌==◌, ◌∙◌, ◌≡◌}
 use Rattle.sdd_history_examples.proofs.Each.{same, same_is, if_so, so, all_pairs, each_pair}
 use Rattle.sdd_history_examples.proofs.Listed.{AnswerAt, answers, in_answers}
 
@@ -22,14 +22,14 @@ conditions_met cat table h = all_pairs (is_met cat table h) (attempts h) (answer
 
 -- the table of the catalogue in force where an attempt starts
 abbrev pub HasTable : Catalogue → Eras → History → (ℕ → List Entry) → Attempt → Type 0
-HasTable cat eras h table a = IsTable (in_force cat eras (event_at h a.place)) (table (event_at h a.place))
+HasTable cat eras h table a = IsTable (catalogue_at cat eras (event_at h a.place)) (table (event_at h a.place))
 
 -- its conditions are those by that table
 by_table : (cat : Catalogue) (eras : Eras) (h : History) (table : ℕ → List Entry) (a : Attempt) (d : ℕ) (c : Cond) → HasTable cat eras h table a
     → IsConditionOf cat eras h a d c → Contains (conditions_of cat (table (event_at h a.place)) a d) c
 by_table cat eras h table a d c is of =
     let at = event_at h a.place in
-    subst (λ (t : List Entry). Contains (conditions_of cat t a d) c) (one_table (in_force cat eras at) of.table (table at) of.table_is is) of.there
+    subst (λ (t : List Entry). Contains (conditions_of cat t a d) c) (one_table (catalogue_at cat eras at) of.table (table at) of.table_is is) of.there
 
 touches_is : (cat : Catalogue) (x : Committed) (d : ℕ) (frags : List FragNo) → TouchesOne cat x d frags → touches_one cat x d frags ≡ true
 touches_is cat x d frags t =

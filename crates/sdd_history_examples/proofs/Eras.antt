@@ -1,11 +1,11 @@
 -- A test that tells that what one list of classes submits is done before the next is in force.
-use Rattle.sdd_history_examples.proofs.All.{Attempt, Bool, Catalogue, Change, Committed, Contains, DmNo, Eras, GoesTo, History, IsAttempt, IsCommitted, IsOfEarlierEra, KeepsEras, and_from, and_parts, ap, applied_before, attempts, begun, by_change, by_no_class, committed, eq-eqb, eqb-true, event_at, fragment_at, has_copy, in_attempts, is_applied, list_all, lt-ltb, ltb-true, member_passes, nat_lt, numbers_to, refl, subst, true, ℕ, ◌&&◌, ◌<◌, ◌==◌, ◌∙◌, ◌≡◌}
+use Rattle.sdd_history_examples.proofs.All.{Attempt, Bool, Catalogue, Change, Committed, Contains, DmNo, Eras, GoesTo, History, IsAttempt, IsCommitted, IsOfEarlierEra, KeepsEras, and_from, and_parts, ap, applied_before, attempts, by_change, by_no_class, committed, eq-eqb, eqb-true, eras_begun, event_at, fragment_at, has_copy, in_attempts, is_applied, list_all, lt-ltb, ltb-true, member_passes, nat_lt, numbers_to, refl, subst, true, ℕ, ◌&&◌, ◌<◌, ◌==◌, ◌∙◌, ◌≡◌}
 use Rattle.sdd_history_examples.proofs.Each.{if_so, so, each, all_pairs, each_pair, each_to}
 use Rattle.sdd_history_examples.proofs.Listed.{submits, in_submits}
 
 -- whether the first of two transactions is submitted in an earlier era
 abbrev is_earlier : Eras → History → Committed → Committed → ℕ × ℕ → ℕ × ℕ → Bool
-is_earlier eras h x y p q = (p.0 == x.start.txn) && ((q.0 == y.start.txn) && nat_lt (begun eras (event_at h p.1)) (begun eras (event_at h q.1)))
+is_earlier eras h x y p q = (p.0 == x.start.txn) && ((q.0 == y.start.txn) && nat_lt (eras_begun eras (event_at h p.1)) (eras_begun eras (event_at h q.1)))
 
 -- whether a transaction is applied before a place wherever it is to be
 
@@ -25,7 +25,7 @@ keeps_pair cat eras h x y =
     all_pairs (λ p q. if_so (is_earlier eras h x y p q) (nat_lt x.start.ts y.start.ts && list_all (is_done cat h x y) (attempts h))) (submits h) (submits h)
 
 abbrev is_of_one_era : Eras → History → Attempt → ℕ × ℕ → Bool
-is_of_one_era eras h a p = if_so (p.0 == a.txn) (begun eras (event_at h p.1) == begun eras (event_at h a.place))
+is_of_one_era eras h a p = if_so (p.0 == a.txn) (eras_begun eras (event_at h p.1) == eras_begun eras (event_at h a.place))
 
 pub record PassEras (cat : Catalogue) (eras : Eras) (h : History) : Type 0 where
   pub apart : all_pairs (keeps_pair cat eras h) (committed h) (committed h) ≡ true
@@ -50,8 +50,8 @@ module _ (cat : Catalogue) (eras : Eras) (h : History) (there : (t : Committed) 
   of_pair x y e =
       let p : ℕ × ℕ = (x.start.txn, e.first_place) in
       let q : ℕ × ℕ = (y.start.txn, e.second_place) in
-      let n = begun eras (event_at h e.first_place) in
-      let m = begun eras (event_at h e.second_place) in
+      let n = eras_begun eras (event_at h e.first_place) in
+      let m = eras_begun eras (event_at h e.second_place) in
       let last = nat_lt x.start.ts y.start.ts && list_all (is_done cat h x y) (attempts h) in
       let t = each_pair (keeps_pair cat eras h) (committed h) (committed h) x y pass.apart (there x e.first) (there y e.second) in
       let u = each_pair (λ (p q : ℕ × ℕ). if_so (is_earlier eras h x y p q) (nat_lt x.start.ts y.start.ts && list_all (is_done cat h x y) (attempts h))) (submits h) (submits h) p q t (in_submits h x.start.txn e.first_place e.first_submitted) (in_submits h y.start.txn e.second_place e.second_submitted) in
@@ -75,8 +75,8 @@ module _ (cat : Catalogue) (eras : Eras) (h : History) (there : (t : Committed) 
         committed = λ x y a e p is. (done x y a e p is).0;
         applied = λ x y a d e p is g. applied_before h x.start.txn d a.place (applied_everywhere cat h x a.place d (done x y a e p is).1 g);
         one_era = λ a k p s.
-            let n = begun eras (event_at h k) in
-            let m = begun eras (event_at h a.place) in
+            let n = eras_begun eras (event_at h k) in
+            let m = eras_begun eras (event_at h a.place) in
             let t = each_pair (is_of_one_era eras h) (attempts h) (submits h) a (a.txn, k) pass.one_era (in_attempts h a p) (in_submits h a.txn k s) in
             eqb-true n m (so (a.txn == a.txn) (n == m) t (eq-eqb a.txn a.txn refl));
       }

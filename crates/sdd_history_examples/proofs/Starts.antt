@@ -1,11 +1,11 @@
 -- Tests that tell that a history keeps the law of Starts.
-use Rattle.sdd_history_examples.proofs.All.{AllByRecursion, Attempt, Bool, Catalogue, Committed, CommittedBefore, Contains, Eras, HasCommit, History, IsAttempt, IsBound, IsCommitted, IsOfSubmit, IsSubmitted, KeepsStarts, List, Option, Some, Ts, Txn, and_parts, ap, arith, attempts, cases_lt, class_for, committed, each_has, eq-eqb, eqb-true, event_at, false≢true, in_attempts, in_committed, in_force, inl, inr, is_some, list_all, lt-ltb, ltb-true, nat_lt, not, not-true, one_start, option_map, p2_time, refl, starts_before, subst, suc, sym, true, txn_at, unwrap_or, ℕ, ◌%◌, ◌&&◌, ◌<◌, ◌==◌, ◌∙◌, ◌≡◌, ◌≤◌}
+use Rattle.sdd_history_examples.proofs.All.{AllByRecursion, Attempt, Bool, Catalogue, Committed, CommittedBefore, Contains, Eras, HasCommit, History, IsAttempt, IsBound, IsCommitted, IsOfSubmit, IsSubmitted, KeepsStarts, List, Option, Some, Ts, Txn, and_parts, ap, arith, attempts, cases_lt, catalogue_at, class_for, committed, each_has, eq-eqb, eqb-true, event_at, false≢true, in_attempts, in_committed, inl, inr, is_some, list_all, lt-ltb, ltb-true, nat_lt, not, not-true, one_start, option_map, p2_time, refl, starts_before, subst, suc, sym, true, txn_at, unwrap_or, ℕ, ◌%◌, ◌&&◌, ◌<◌, ◌==◌, ◌∙◌, ◌≡◌, ◌≤◌}
 use Rattle.sdd_history_examples.proofs.Each.{same, same_is, if_so, so, each, all_pairs, each_pair}
 use Rattle.sdd_history_examples.proofs.Listed.{CommitAt, submits, in_submits, commits, in_commits, is_committed, committed_before}
 
 -- the class that covers a transaction with a number where it is submitted
 abbrev pub class_of_text : Catalogue → Eras → List Txn → History → ℕ × ℕ → ℕ
-class_of_text cat eras txns h x = unwrap_or (option_map (class_for (in_force cat eras (event_at h x.1))) (txn_at txns x.0)) 0
+class_of_text cat eras txns h x = unwrap_or (option_map (class_for (catalogue_at cat eras (event_at h x.1))) (txn_at txns x.0)) 0
 
 -- the first attempt's timestamp and bound are not above this bound
 abbrev is_bound_over : ℕ → Attempt → Bool
@@ -85,12 +85,12 @@ module _ (cat : Catalogue) (eras : Eras) (txns : List Txn) (h : History) (pass :
       not_below k j (so (b.txn == b.txn) (not (nat_lt k j)) x (eq-eqb b.txn b.txn refl))
 
   after_earlier : (a : Attempt) (n j k : ℕ) (txn : Txn) → IsAttempt h a → IsSubmitted h a.txn k → IsSubmitted h n j → j < k
-      → txn_at txns n ≡ Some txn → class_for (in_force cat eras (event_at h j)) txn ≡ a.class → CommittedBefore h n a.place
+      → txn_at txns n ≡ Some txn → class_for (catalogue_at cat eras (event_at h j)) txn ≡ a.class → CommittedBefore h n a.place
   after_earlier a n j k txn p s r l is class =
       let t = each (λ (a : Attempt). all_pairs (waits_for cat eras txns h a) (submits h) (submits h)) (attempts h) a pass.after_earlier (in_attempts h a p) in
       let u = each_pair (waits_for cat eras txns h a) (submits h) (submits h) (a.txn, k) (n, j) t (in_submits h a.txn k s) (in_submits h n j r) in
       let own : class_of_text cat eras txns h (n, j) ≡ a.class =
-      ap (λ o. unwrap_or (option_map (class_for (in_force cat eras (event_at h j))) o) 0) is ∙ class in
+      ap (λ o. unwrap_or (option_map (class_for (catalogue_at cat eras (event_at h j))) o) 0) is ∙ class in
       let last = if_so (class_of_text cat eras txns h (n, j) == a.class) (is_committed h n a.place) in
       let v = so (a.txn == a.txn) (if_so (nat_lt j k) last) u (eq-eqb a.txn a.txn refl) in
       let w = so (nat_lt j k) last v (lt-ltb j k l) in

@@ -254,7 +254,7 @@ ready_handed ts c d (Handed from m ∷ log) e =
       | false ↦ λ p q. more_ready (Handed from m) log d ts c (ready_handed ts c d log q)
     ] refl e
 ready_handed ts c d (Ticked n ∷ log) e = more_ready (Ticked n) log d ts c (ready_handed ts c d log e)
-ready_handed ts c d (Redeclared force t ∷ log) e = more_ready (Redeclared force t) log d ts c (ready_handed ts c d log e)
+ready_handed ts c d (Redeclared era t ∷ log) e = more_ready (Redeclared era t) log d ts c (ready_handed ts c d log e)
 ready_handed ts c d (Submits n txn ∷ log) e = more_ready (Submits n txn) log d ts c (ready_handed ts c d log e)
 ready_handed ts c d (Did act ∷ log) e = more_ready (Did act) log d ts c (ready_handed ts c d log e)
 

@@ -82,7 +82,7 @@ has_pushed at a (Handed from x ∷ l) i m e =
     pushed_if (same_site a from) (hands_from a l) x m i (clock at l).ticks (clock at (Handed from x ∷ l)).ticks p.0 p.1 (λ j q. has_pushed at a l j m q) e
 has_pushed at a (Ticked n ∷ l) i m e = up_le _ _ _ (has_pushed at a l i m e) (clock_rises at (Ticked n) l)
 has_pushed at a (Submits n txn ∷ l) i m e = has_pushed at a l i m e
-has_pushed at a (Redeclared force t ∷ l) i m e = up_le _ _ _ (has_pushed at a l i m e) (clock_rises at (Redeclared force t) l)
+has_pushed at a (Redeclared era t ∷ l) i m e = up_le _ _ _ (has_pushed at a l i m e) (clock_rises at (Redeclared era t) l)
 has_pushed at a (Did act ∷ l) i m e = up_le _ _ _ (has_pushed at a l i m e) (clock_rises at (Did act) l)
 
 release_push : (m : Msg) (x : ℕ) → release_time m ≡ Some x → push m ≡ x

@@ -36,7 +36,7 @@ held_based s bases log false t hand act e = cc
 
 start_based : (s : Setting) (bases : Bases) (log : site.Log) (b : Bool) (v : tm_views.View) (c : ℕ) (o : Option Queued) (act : Act)
     → (if b then tm.start_of s.catalogue v c o else None) ≡ Some act → IsBased s bases log act
-start_based s bases log true v c (Some q) act e = based_is s bases log (start_act s.catalogue v.force.table c v.clock q) act tt e
+start_based s bases log true v c (Some q) act e = based_is s bases log (start_act s.catalogue v.era.table c v.clock q) act tt e
 start_based s bases log _ v c _ act e = cc
 
 pub t_based : (s : Setting) (bases : Bases) (log : site.Log) (act : Act) → tm.IsDue s.catalogue bases (tm_views.view_of s log) act → IsBased s bases log act

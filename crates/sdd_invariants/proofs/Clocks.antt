@@ -121,7 +121,7 @@ drawn s (Handed from m ∷ log) h c =
     (λ a x e. let p : stamp_or (Some a) ≤ last_stamp s log = subst (λ o. stamp_or o ≤ last_stamp s log) e old in omega arith) (omega arith)
 drawn s (Ticked n ∷ log) h c = let old = drawn s log h.1 c in omega arith
 drawn s (Submits n txn ∷ log) h c = drawn s log h.1 c
-drawn s (Redeclared force t ∷ log) h c = let old = drawn s log h.1 c in let up = stamp_rises s (Redeclared force t) log in omega arith
+drawn s (Redeclared era t ∷ log) h c = let old = drawn s log h.1 c in let up = stamp_rises s (Redeclared era t) log in omega arith
 drawn s (Did act ∷ log) h c = drawn_act s log act h.0 (drawn s log h.1) c
 
 pub drawn_at : (s : Setting) (c : ℕ) (log : Log) (a : Attempt) → Each (IsFair s) log → active s c log ≡ Some a → a.ts ≤ last_stamp s log
@@ -152,7 +152,7 @@ clocked s [] w h = record { drawn_le = tt; falls = tt; promised_le = tt }
 clocked s (Handed from m ∷ log) w h = clock_on s log (Handed from m) refl refl (clocked s log w h.1)
 clocked s (Ticked n ∷ log) w h = clock_on s log (Ticked n) refl refl (clocked s log w h.1)
 clocked s (Submits n txn ∷ log) w h = clock_on s log (Submits n txn) refl refl (clocked s log w h.1)
-clocked s (Redeclared force t ∷ log) w h = clock_on s log (Redeclared force t) refl refl (clocked s log w h.1)
+clocked s (Redeclared era t ∷ log) w h = clock_on s log (Redeclared era t) refl refl (clocked s log w h.1)
 clocked s (Did act ∷ log) w h = clock_act s log act (λ c. limit_le s log c w h.1) h.0 (clocked s log w h.1)
 
 stamp_is : (s : Setting) (log : Log) → next_stamp s log ≡ suc (clock s.site log).ticks * 64 + number_of s.site

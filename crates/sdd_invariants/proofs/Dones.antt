@@ -47,7 +47,7 @@ IsStrictHere log (Did act) = IsStrict (writes_in 0 (all_of (pipe 0 log))) × ((m
 IsStrictHere log (Handed from m) = Unit {0}
 IsStrictHere log (Ticked n) = Unit {0}
 IsStrictHere log (Submits n txn) = Unit {0}
-IsStrictHere log (Redeclared force t) = Unit {0}
+IsStrictHere log (Redeclared era t) = Unit {0}
 
 stricts : (g : Input) (d : DmNo) (log : Log) → IsPermitted g log → Each IsStrictHere (local_of g (D d) log)
 stricts g d = each_local g (D d) IsStrictHere (record {
@@ -166,7 +166,7 @@ abbrev IsFromModule : ℕ → site.Log → site.Entry → Type 0
 IsFromModule n l (Handed from m) = (x : ℕ) → is_done_of x m ≡ true → (k : ℕ) × (d : ℕ) × (from ≡ D (dm_no d)) × (slice_get (numbers_to n) k ≡ Some d)
 IsFromModule n l (Ticked k) = Unit {0}
 IsFromModule n l (Submits k txn) = Unit {0}
-IsFromModule n l (Redeclared force u) = Unit {0}
+IsFromModule n l (Redeclared era u) = Unit {0}
 IsFromModule n l (Did act) = Unit {0}
 
 abbrev from_d : ℕ → site.Log → ℕ → ℕ

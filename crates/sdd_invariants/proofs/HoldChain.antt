@@ -48,7 +48,7 @@ abbrev IsFromU : site.Log → site.Entry → Type 0
 IsFromU l (Handed from m) = of_hold m ≡ true → from ≡ U
 IsFromU l (Ticked n) = Unit {0}
 IsFromU l (Submits n txn) = Unit {0}
-IsFromU l (Redeclared force t) = Unit {0}
+IsFromU l (Redeclared era t) = Unit {0}
 IsFromU l (Did act) = Unit {0}
 
 put_from : (g : Input) (log : Log) (from at : Site) (k : ℕ) (m : Msg) → IsPermitted g log

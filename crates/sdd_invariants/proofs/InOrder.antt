@@ -1,5 +1,5 @@
 -- The messages that were handed over on a link are, in order, the first of those that were put on it.
-use Rattle.sdd_invariants.proofs.All.{Bool, Call, Deliver, Delivers, Did, Does, Down, Event, Force, Hand, Handed, Input, IsAllowed, IsPermitted, List, Lose, Loses, Mark, Msg, None, Notes, Option, Puts, Redeclare, Redeclares, Repeat, Repeats, Resend, Resends, Round, Settle, Site, Some, Submit, Submitted, T, Tick, Ticked, Txn, U, Up, [], ap, append-nil, arith, by_event, by_link, by_mark, by_redeclare, by_round, by_site, calls_of, delivered, delivered_le, due_by, false, force_at, forced, given_to, handed, handed_by, hands_from, if◌then◌else◌, length, link, link_of, local_of, made, mark_due, message_at, note_if, put_by, puts, puts_to, redeclares, refl, rises, same_site, sends_of_act, sent, slice_get, sound, subst, suc, sym, take, take-append-le, takes_part, true, txn_at, with_made, ℕ, ◌&&◌, ◌++◌, ◌-◌, ◌∙◌, ◌∷◌, ◌≡◌, ◌≤◌}
+use Rattle.sdd_invariants.proofs.All.{Bool, Call, Deliver, Delivers, Did, Does, Down, Era, Event, Hand, Handed, Input, IsAllowed, IsPermitted, List, Lose, Loses, Mark, Msg, None, Notes, Option, Puts, Redeclare, Redeclares, Repeat, Repeats, Resend, Resends, Round, Settle, Site, Some, Submit, Submitted, T, Tick, Ticked, Txn, U, Up, [], ap, append-nil, arith, by_event, by_link, by_mark, by_redeclare, by_round, by_site, calls_of, delivered, delivered_le, due_by, false, given_to, handed, handed_by, hands_from, if◌then◌else◌, length, link, link_of, local_of, made, mark_due, message_at, note_if, nth_era, put_by, puts, puts_to, redeclared_entry, redeclares, refl, rises, same_site, sends_of_act, sent, slice_get, sound, subst, suc, sym, take, take-append-le, takes_part, true, txn_at, with_made, ℕ, ◌&&◌, ◌++◌, ◌-◌, ◌∙◌, ◌∷◌, ◌≡◌, ◌≤◌}
 use Rattle.sdd_invariants.proofs.Bools.{and_left, and_right}
 use Rattle.sdd_invariants.proofs.Lists.{take_one_more}
 use Rattle.sdd_invariants.proofs.Sites.{site_is}
@@ -121,9 +121,9 @@ none_given : (a : Site) (n : ℕ) (o : Option Txn) → handed_by a (given_to n o
 none_given a n None = refl
 none_given a n (Some t) = refl
 
-none_forced : (a at : Site) (force : Force) (t : ℕ) → handed_by a (forced at force t) ≡ []
-none_forced a U force t = refl
-none_forced a _ force t = refl
+none_redeclared : (a at : Site) (era : Era) (t : ℕ) → handed_by a (redeclared_entry at era t) ≡ []
+none_redeclared a U era t = refl
+none_redeclared a _ era t = refl
 
 abbrev AreFirst : Input → Site → Site → Log → Type 0
 AreFirst g a b log = hands_from a (local_of g b log) ≡ take (handed a b log) (sent a b log)
@@ -165,7 +165,7 @@ hands_are g (Mark (Down d) ∷ log) a b h = none_more g a b (Mark (Down d)) log 
 hands_are g (Mark (Up d) ∷ log) a b h = none_more g a b (Mark (Up d)) log refl refl h.1 (hands_are g log a b h.1)
 hands_are g (Round es ∷ log) a b h = none_more g a b (Round es) log refl refl h.1 (hands_are g log a b h.1)
 hands_are g (Redeclares t ∷ log) a b h =
-    none_more g a b (Redeclares t) log refl (none_forced a b (force_at g (suc (redeclares log))) t) h.1 (hands_are g log a b h.1)
+    none_more g a b (Redeclares t) log refl (none_redeclared a b (nth_era g (suc (redeclares log))) t) h.1 (hands_are g log a b h.1)
 hands_are g (Submitted s n ∷ log) a b h =
     none_more g a b (Submitted s n) log refl (none_if a (same_site b s) (given_to n (txn_at g n)) (none_given a n (txn_at g n))) h.1 (hands_are g log a b h.1)
 hands_are g (Notes ∷ log) a b h = none_more g a b Notes log refl refl h.1 (hands_are g log a b h.1)

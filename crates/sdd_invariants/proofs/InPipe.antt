@@ -39,7 +39,7 @@ abbrev IsHomeHand : Catalogue → site.Log → site.Entry → Type 0
 IsHomeHand cat l (Handed from m) = IsHomed cat from m
 IsHomeHand cat l (Ticked n) = Unit {0}
 IsHomeHand cat l (Submits n txn) = Unit {0}
-IsHomeHand cat l (Redeclared force t) = Unit {0}
+IsHomeHand cat l (Redeclared era t) = Unit {0}
 IsHomeHand cat l (Did act) = Unit {0}
 
 home_hands : (g : Input) (at : Site) (log : Log) → IsPermitted g log → Each (IsHomeHand g.catalogue) (local_of g at log)

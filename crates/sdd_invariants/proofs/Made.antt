@@ -1,5 +1,5 @@
 -- The log of a site after an entry, and the place of each of its entries in the log of everything.
-use Rattle.sdd_invariants.proofs.All.{Act, Bool, Did, Does, Force, Hand, Handed, Input, IsActAt, IsAt, IsHandAt, IsPermitted, IsSubmitAt, Mark, Msg, None, Option, Redeclared, Redeclares, Site, Some, Submits, Submitted, T, Tick, Ticked, Txn, U, [], ap, false, force_at, forced, given_to, if◌then◌else◌, local_of, made, redeclares, refl, same_site, subst, suc, sym, true, txn_at, with_force, with_made, with_submit, ℕ, ◌++◌, ◌∙◌, ◌∷◌, ◌≡◌}
+use Rattle.sdd_invariants.proofs.All.{Act, Bool, Did, Does, Era, Hand, Handed, Input, IsActAt, IsAt, IsHandAt, IsPermitted, IsSubmitAt, Mark, Msg, None, Option, Redeclared, Redeclares, Site, Some, Submits, Submitted, T, Tick, Ticked, Txn, U, [], ap, false, given_to, if◌then◌else◌, local_of, made, nth_era, redeclared_entry, redeclares, refl, same_site, subst, suc, sym, true, txn_at, with_era, with_made, with_submit, ℕ, ◌++◌, ◌∙◌, ◌∷◌, ◌≡◌}
 use Rattle.sdd_invariants.proofs.Bools.{not_both}
 use Rattle.sdd_invariants.proofs.Sites.{site_is, site_self}
 use Rattle.sdd_log.specs.All.{Log}
@@ -10,9 +10,9 @@ submit_step : (n : ℕ) (o : Option Txn) (l : site.Log) → with_submit n o l �
 submit_step n None l = refl
 submit_step n (Some t) l = refl
 
-force_step : (at : Site) (force : Force) (t : ℕ) (l : site.Log) → with_force at force t l ≡ with_made (forced at force t) l
-force_step U force t l = refl
-force_step _ force t l = refl
+era_step : (at : Site) (era : Era) (t : ℕ) (l : site.Log) → with_era at era t l ≡ with_made (redeclared_entry at era t) l
+era_step U era t l = refl
+era_step _ era t l = refl
 
 if_step : (b : Bool) (o : Option site.Entry) (k l : site.Log) → k ≡ with_made o l → (if b then k else l) ≡ with_made (if b then o else None) l
 if_step true o k l e = e
@@ -20,7 +20,7 @@ if_step false o k l e = refl
 
 pub local_step : (g : Input) (at : Site) (e : Entry) (log : Log) → local_of g at (e ∷ log) ≡ with_made (made g at log e) (local_of g at log)
 local_step g at (Mark (Tick t n)) log = if_step (same_site at (T t)) (Some (Ticked n)) (Ticked n ∷ local_of g at log) (local_of g at log) refl
-local_step g at (Redeclares t) log = force_step at (force_at g (suc (redeclares log))) t (local_of g at log)
+local_step g at (Redeclares t) log = era_step at (nth_era g (suc (redeclares log))) t (local_of g at log)
 local_step g at (Hand from to n m) log = if_step (same_site at to) (Some (Handed from m)) (Handed from m ∷ local_of g at log) (local_of g at log) refl
 local_step g at (Submitted to n) log =
     if_step (same_site at to) (given_to n (txn_at g n)) (with_submit n (txn_at g n) (local_of g at log)) (local_of g at log)
@@ -43,20 +43,20 @@ IsMakerOf at (Did act) g e = e ≡ Does at act
 IsMakerOf at (Handed from m) g e = (n : ℕ) × (e ≡ Hand from at n m)
 IsMakerOf at (Submits n t) g e = (e ≡ Submitted at n) × (txn_at g n ≡ Some t)
 IsMakerOf at (Ticked n) g e = Unit {0}
-IsMakerOf at (Redeclared force t) g e = Unit {0}
+IsMakerOf at (Redeclared era t) g e = Unit {0}
 
 maker_given : (g : Input) (at to : Site) (n : ℕ) (o : Option Txn) (x : site.Entry) → txn_at g n ≡ o → to ≡ at
     → given_to n o ≡ Some x → IsMakerOf at x g (Submitted to n)
 maker_given g at to n None x f p e = cc
 maker_given g at to n (Some t) x f p e = let q : Submits n t ≡ x = cc in subst (λ y. IsMakerOf at y g (Submitted to n)) q (ap (λ s. Submitted s n) p, f)
 
-maker_forced : (g : Input) (at s : Site) (force : Force) (t u : ℕ) (x : site.Entry) → forced at force t ≡ Some x → IsMakerOf s x g (Redeclares u)
-maker_forced g (T n) s force t u x e = let q : Redeclared force t ≡ x = cc in subst (λ y. IsMakerOf s y g (Redeclares u)) q tt
-maker_forced g _ s force t u x e = cc
+maker_redeclared : (g : Input) (at s : Site) (era : Era) (t u : ℕ) (x : site.Entry) → redeclared_entry at era t ≡ Some x → IsMakerOf s x g (Redeclares u)
+maker_redeclared g (T n) s era t u x e = let q : Redeclared era t ≡ x = cc in subst (λ y. IsMakerOf s y g (Redeclares u)) q tt
+maker_redeclared g _ s era t u x e = cc
 
 pub maker : (g : Input) (at : Site) (log : Log) (e : Entry) (x : site.Entry) → made g at log e ≡ Some x → IsMakerOf at x g e
 maker g at log (Mark (Tick t n)) x h = let r = some_if (same_site at (T t)) (Ticked n) x h in subst (λ y. IsMakerOf at y g (Mark (Tick t n))) r.1 tt
-maker g at log (Redeclares t) x h = maker_forced g at at (force_at g (suc (redeclares log))) t t x h
+maker g at log (Redeclares t) x h = maker_redeclared g at at (nth_era g (suc (redeclares log))) t t x h
 maker g at log (Hand from to n m) x h =
     let r = some_if (same_site at to) (Handed from m) x h in
     subst (λ y. IsMakerOf at y g (Hand from to n m)) r.1 (n, ap (λ s. Hand from s n m) (sym (site_is at to r.0)))
@@ -70,20 +70,20 @@ maker g at log _ x h = cc
 
 -- the place of an entry; the list of classes with which a transaction module begins has none
 
-abbrev is_forced : site.Entry → Bool
-is_forced (Redeclared force t) = true
-is_forced _ = false
+abbrev is_redeclared : site.Entry → Bool
+is_redeclared (Redeclared era t) = true
+is_redeclared _ = false
 
 no_place : {A : Type 0} (l k : site.Log) (x : site.Entry) → [] ≡ l ++ x ∷ k → A
 no_place [] k x e = cc
 no_place (y ∷ l) k x e = cc
 
-not_forced : {A : Type 0} (x y : site.Entry) → y ≡ x → is_forced y ≡ true → is_forced x ≡ false → A
-not_forced x y e f h = absurd (not_both (is_forced y) f (ap is_forced e ∙ h))
+not_redeclared : {A : Type 0} (x y : site.Entry) → y ≡ x → is_redeclared y ≡ true → is_redeclared x ≡ false → A
+not_redeclared x y e f h = absurd (not_both (is_redeclared y) f (ap is_redeclared e ∙ h))
 
-at_beginning : {A : Type 0} (force : Force) (later before : site.Log) (x : site.Entry) → is_forced x ≡ false → Redeclared force 0 ∷ [] ≡ later ++ x ∷ before → A
-at_beginning force [] before x f e = let p : Redeclared force 0 ≡ x = cc in not_forced x (Redeclared force 0) p refl f
-at_beginning force (y ∷ later) before x f e = let t : [] ≡ later ++ x ∷ before = cc in no_place later before x t
+at_beginning : {A : Type 0} (era : Era) (later before : site.Log) (x : site.Entry) → is_redeclared x ≡ false → Redeclared era 0 ∷ [] ≡ later ++ x ∷ before → A
+at_beginning era [] before x f e = let p : Redeclared era 0 ≡ x = cc in not_redeclared x (Redeclared era 0) p refl f
+at_beginning era (y ∷ later) before x f e = let t : [] ≡ later ++ x ∷ before = cc in no_place later before x t
 
 at_more : (g : Input) (at : Site) (e : Entry) (log : Log) (x : site.Entry) (before : site.Log) → IsAt g at log x before → IsAt g at (e ∷ log) x before
 at_more g at e log x before h =
@@ -101,9 +101,9 @@ place_in g at e log (Some y) (z ∷ later) x before m i q =
     let t : local_of g at log ≡ later ++ x ∷ before = cc in
     at_more g at e log x before (i later t)
 
-place : (g : Input) (at : Site) (log : Log) (later : site.Log) (x : site.Entry) (before : site.Log) → is_forced x ≡ false
+place : (g : Input) (at : Site) (log : Log) (later : site.Log) (x : site.Entry) (before : site.Log) → is_redeclared x ≡ false
     → local_of g at log ≡ later ++ x ∷ before → IsAt g at log x before
-place g (T t) [] later x before f q = at_beginning (force_at g 0) later before x f q
+place g (T t) [] later x before f q = at_beginning (nth_era g 0) later before x f q
 place g at (e ∷ log) later x before f q =
     place_in g at e log (made g at log e) later x before refl (λ k p. place g at log k x before f p) (sym (local_step g at e log) ∙ q)
 place g _ [] later x before f q = no_place later before x q

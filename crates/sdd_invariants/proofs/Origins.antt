@@ -10,7 +10,7 @@ pub was_put : (b : Site) (log : Log) (k : ℕ) (m : Msg) → slice_get (puts_to 
 was_put b [] k m e = cc
 was_put b (Handed from x ∷ log) k m e = more_put b (Handed from x) log m (was_put b log k m e)
 was_put b (Ticked n ∷ log) k m e = more_put b (Ticked n) log m (was_put b log k m e)
-was_put b (Redeclared force t ∷ log) k m e = more_put b (Redeclared force t) log m (was_put b log k m e)
+was_put b (Redeclared era t ∷ log) k m e = more_put b (Redeclared era t) log m (was_put b log k m e)
 was_put b (Submits n txn ∷ log) k m e = more_put b (Submits n txn) log m (was_put b log k m e)
 was_put b (Did act ∷ log) k m e = elim (in_either (puts_to b log) (to_site b (sends_of_act act)) k m e) [
   | inl p ↦ more_put b (Did act) log m (was_put b log k m p)

@@ -85,7 +85,7 @@ matched s c [] h = record { matched = tt }
 matched s c (Handed from m ∷ log) h = matched_as c log (Handed from m ∷ log) refl (processed_handed c from m log) (matched s c log h.1)
 matched s c (Ticked n ∷ log) h = matched_as c log (Ticked n ∷ log) refl refl (matched s c log h.1)
 matched s c (Submits n txn ∷ log) h = matched_as c log (Submits n txn ∷ log) refl refl (matched s c log h.1)
-matched s c (Redeclared force t ∷ log) h = matched_as c log (Redeclared force t ∷ log) refl refl (matched s c log h.1)
+matched s c (Redeclared era t ∷ log) h = matched_as c log (Redeclared era t ∷ log) refl refl (matched s c log h.1)
 matched s c (Did act ∷ log) h =
     let i = matched s c log h.1 in
     read_step_way s log act (λ x. IsMatched c (Did x ∷ log)) (λ e. matched_same c log (Did act ∷ log) (passing c act log e).0 i)

@@ -42,7 +42,7 @@ was_handed (Handed from m ∷ log) k o e = elim (open_in (suc (hands log)) from 
 ]
 was_handed (Ticked n ∷ log) k o e = more_asked log (Ticked n) o.from (IsMsg o.msg) (was_handed log k o e)
 was_handed (Submits n txn ∷ log) k o e = more_asked log (Submits n txn) o.from (IsMsg o.msg) (was_handed log k o e)
-was_handed (Redeclared force t ∷ log) k o e = more_asked log (Redeclared force t) o.from (IsMsg o.msg) (was_handed log k o e)
+was_handed (Redeclared era t ∷ log) k o e = more_asked log (Redeclared era t) o.from (IsMsg o.msg) (was_handed log k o e)
 was_handed (Did act ∷ log) k o e = let i = acted_in act (opens log) k o e in more_asked log (Did act) o.from (IsMsg o.msg) (was_handed log i.0 o i.1)
 
 asked_at : (log : Log) (b from : Site) (P : Msg → Type 0) (m : Msg) → b ≡ from → WasAsked log from (IsMsg m) → P m → WasAsked log b P

@@ -1,6 +1,6 @@
 -- The queue of a class is what was submitted to it and isn't committed, each with the number of its Starts; the active
 -- attempt is that of its head.
-use Rattle.sdd_invariants.proofs.All.{Act, AllKnown, Attempt, Bases, Bool, Did, Each, Entry, Exchange, Handed, IsFair, IsNew, IsQueue, IsServed, IsStep, List, Log, Msg, None, Option, Queued, Redeclared, Sends, Setting, Site, Some, Submits, Ticked, Txn, [], active, ap, arith, commit_act, cond, contains, false, filter, filter_map, filter_map-append, head_of, if◌then◌else◌, in_force, inl, inr, is_committed, is_for, map, next_stamp, not, or_right, queue, queued, refl, sends_of_act, start_at, started, starts_of, submits, submits_of, subst, suc, sym, tried, true, ℕ, ◌++◌, ◌<◌, ◌==◌, ◌||◌, ◌∙◌, ◌∷◌, ◌≡◌, ◌⊎◌}
+use Rattle.sdd_invariants.proofs.All.{Act, AllKnown, Attempt, Bases, Bool, Did, Each, Entry, Exchange, Handed, IsFair, IsNew, IsQueue, IsServed, IsStep, List, Log, Msg, None, Option, Queued, Redeclared, Sends, Setting, Site, Some, Submits, Ticked, Txn, [], active, ap, arith, commit_act, cond, contains, current_era, false, filter, filter_map, filter_map-append, head_of, if◌then◌else◌, inl, inr, is_committed, is_for, map, next_stamp, not, or_right, queue, queued, refl, sends_of_act, start_at, started, starts_of, submits, submits_of, subst, suc, sym, tried, true, ℕ, ◌++◌, ◌<◌, ◌==◌, ◌||◌, ◌∙◌, ◌∷◌, ◌≡◌, ◌⊎◌}
 use Rattle.sdd_invariants.proofs.Active.{handed_way, sent_way, step_way}
 use Rattle.sdd_invariants.proofs.Bools.{if_way, neither_right, same_number, same_or_not}
 
@@ -161,16 +161,16 @@ queue_submit s c log k txn new h =
     let self : contains (submits (Submits k txn ∷ log)) k ≡ true = rw (same_number k) refl in
     let stood : queued c log (k, txn) ≡ Some (stands k txn 0) = rw ((h.fresh k new).1, (h.fresh k new).0) refl in
     record {
-      is = elim (is_for c (in_force s log).catalogue txn) as
+      is = elim (is_for c (current_era s log).catalogue txn) as
           (λ b. (if b then queue s c log ++ stands k txn 0 ∷ [] else queue s c log) ≡ filter_map (queued c log)
           (if b then submits_of s c log ++ (k, txn) ∷ [] else submits_of s c log)) [
             | true ↦ ap (λ l. l ++ stands k txn 0 ∷ []) h.is ∙ sym (filter_map-append (queued c log) (submits_of s c log) ((k, txn) ∷ []) ∙ rw stood refl)
             | false ↦ h.is
           ];
-      known = if_way (AllKnown (Submits k txn ∷ log)) (is_for c (in_force s log).catalogue txn) (submits_of s c log ++ (k, txn) ∷ []) (submits_of s c log)
+      known = if_way (AllKnown (Submits k txn ∷ log)) (is_for c (current_era s log).catalogue txn) (submits_of s c log ++ (k, txn) ∷ []) (submits_of s c log)
           (known_push (Submits k txn ∷ log) (submits_of s c log) (k, txn) more self) more;
       fresh = λ n p. h.fresh n (neither_right (k == n) (contains (submits log) n) p);
-      served = if_way (IsServed (active s c log)) (is_for c (in_force s log).catalogue txn) (queue s c log ++ stands k txn 0 ∷ []) (queue s c log)
+      served = if_way (IsServed (active s c log)) (is_for c (current_era s log).catalogue txn) (queue s c log ++ stands k txn 0 ∷ []) (queue s c log)
           (served_push (active s c log) (queue s c log) (stands k txn 0) h.served) h.served;
     }
 
@@ -236,8 +236,8 @@ queue_is s c (Handed from m ∷ log) h n =
     (handed_way (λ o. IsServed o (queue s c log)) c from m (active s c log) tt
     (λ a x e. exchanged a x (queue s c log) (subst (λ o. IsServed o (queue s c log)) e i.served)) i.served) i
 queue_is s c (Ticked k ∷ log) h n = let i = queue_is s c log h.1 n.1 in queue_same s c log (Ticked k) refl refl (λ n. refl) (λ n. refl) (λ n. refl) i.served i
-queue_is s c (Redeclared force t ∷ log) h n =
+queue_is s c (Redeclared era t ∷ log) h n =
     let i = queue_is s c log h.1 n.1 in
-    queue_same s c log (Redeclared force t) refl refl (λ n. refl) (λ n. refl) (λ n. refl) i.served i
+    queue_same s c log (Redeclared era t) refl refl (λ n. refl) (λ n. refl) (λ n. refl) i.served i
 queue_is s c (Submits k txn ∷ log) h n = queue_submit s c log k txn n.0 (queue_is s c log h.1 n.1)
 queue_is s c (Did act ∷ log) h n = queue_act s c log act h.0 (queue_is s c log h.1 n.1)

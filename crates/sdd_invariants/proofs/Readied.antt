@@ -95,7 +95,7 @@ asked_le : (s : Setting) (ts c : ℕ) (log : Log) → Each (IsFair s) log → wa
 asked_le s ts c [] h e = cc
 asked_le s ts c (Handed from m ∷ log) h e = let l = asked_le s ts c log h.1 e in let r = stamp_rises s (Handed from m) log in omega arith
 asked_le s ts c (Ticked n ∷ log) h e = let l = asked_le s ts c log h.1 e in let r = stamp_rises s (Ticked n) log in omega arith
-asked_le s ts c (Redeclared force t ∷ log) h e = let l = asked_le s ts c log h.1 e in let r = stamp_rises s (Redeclared force t) log in omega arith
+asked_le s ts c (Redeclared era t ∷ log) h e = let l = asked_le s ts c log h.1 e in let r = stamp_rises s (Redeclared era t) log in omega arith
 asked_le s ts c (Submits n txn ∷ log) h e = asked_le s ts c log h.1 e
 asked_le s ts c (Did act ∷ log) h e = asked_act s ts c log act h.1 h.0 (asked_le s ts c log h.1) e
 
@@ -310,7 +310,7 @@ pub readied : (s : Setting) (c : ℕ) (log : Log) → Each (IsFair s) log → Ea
 readied s c [] h n = tt
 readied s c (Handed from m ∷ log) h n = readied_hand s c from m log (active s c log) n.0 (readied s c log h.1 n.1)
 readied s c (Ticked k ∷ log) h n = same_readied s c (Ticked k) log (active s c log) (λ ts. refl) (λ ts d. refl) (readied s c log h.1 n.1)
-readied s c (Redeclared force t ∷ log) h n = same_readied s c (Redeclared force t) log (active s c log) (λ ts. refl) (λ ts d. refl) (readied s c log h.1 n.1)
+readied s c (Redeclared era t ∷ log) h n = same_readied s c (Redeclared era t) log (active s c log) (λ ts. refl) (λ ts d. refl) (readied s c log h.1 n.1)
 readied s c (Submits k txn ∷ log) h n = same_readied s c (Submits k txn) log (active s c log) (λ ts. refl) (λ ts d. refl) (readied s c log h.1 n.1)
 readied s c (Did act ∷ log) h n = readied_act s c log act h.1 h.0 (readied s c log h.1 n.1)
 

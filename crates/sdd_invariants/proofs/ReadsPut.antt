@@ -73,8 +73,8 @@ pub read_once : (s : Setting) (c : ℕ) (b : Site) (log : Log) → number_of s.s
 read_once s c b [] w h = record { strict = tt; closed = tt }
 read_once s c b (Handed from m ∷ log) w h = read_on s c b log (Handed from m) (bound_rises s (Handed from m) log) refl (read_once s c b log w h.1)
 read_once s c b (Ticked n ∷ log) w h = read_on s c b log (Ticked n) (bound_rises s (Ticked n) log) refl (read_once s c b log w h.1)
-read_once s c b (Redeclared force t ∷ log) w h =
-    read_on s c b log (Redeclared force t) (bound_rises s (Redeclared force t) log) refl (read_once s c b log w h.1)
+read_once s c b (Redeclared era t ∷ log) w h =
+    read_on s c b log (Redeclared era t) (bound_rises s (Redeclared era t) log) refl (read_once s c b log w h.1)
 read_once s c b (Submits n txn ∷ log) w h = read_on s c b log (Submits n txn) (omega arith) refl (read_once s c b log w h.1)
 read_once s c b (Did act ∷ log) w h =
     let i = read_once s c b log w h.1 in

@@ -1,5 +1,5 @@
 -- The records of a site that runs transactions: a Start is that of its queue's head, a Commit that of the class's active attempt; and an active attempt has its Start.
-use Rattle.sdd_invariants.proofs.All.{Act, AllCommitted, Attempt, Bases, Bool, Did, Each, Entry, Handed, HasStart, IsFair, IsFirstLeft, IsNew, IsRecord, IsServed, IsStep, List, Log, None, Option, Queued, Redeclared, Says, Sends, Setting, Some, Submits, Ticked, Txn, WasSubmitted, [], active, ap, arith, bound, commit_act, dec_le, false, filter_map, head_of, home, if◌then◌else◌, in_force, inl, inr, is_committed, is_for, is_recorded, last_stamp, length, next_stamp, number_of, queue, queued, refl, sends_of_act, slice_get, stamps, start_at, started, starts_of, submits_of, subst, suc, sym, take, take-append-le, take_all, true, zero, ℕ, ◌++◌, ◌<◌, ◌∙◌, ◌∷◌, ◌≡◌, ◌≤◌}
+use Rattle.sdd_invariants.proofs.All.{Act, AllCommitted, Attempt, Bases, Bool, Did, Each, Entry, Handed, HasStart, IsFair, IsFirstLeft, IsNew, IsRecord, IsServed, IsStep, List, Log, None, Option, Queued, Redeclared, Says, Sends, Setting, Some, Submits, Ticked, Txn, WasSubmitted, [], active, ap, arith, bound, commit_act, current_era, dec_le, false, filter_map, head_of, home, if◌then◌else◌, inl, inr, is_committed, is_for, is_recorded, last_stamp, length, next_stamp, number_of, queue, queued, refl, sends_of_act, slice_get, stamps, start_at, started, starts_of, submits_of, subst, suc, sym, take, take-append-le, take_all, true, zero, ℕ, ◌++◌, ◌<◌, ◌∙◌, ◌∷◌, ◌≡◌, ◌≤◌}
 use Rattle.sdd_invariants.proofs.Clocks.{clocked, stamp_below_bound}
 use Rattle.sdd_invariants.proofs.Queues.{queue_is, served_head}
 use Rattle.sdd_invariants.proofs.Active.{handed_way, sent_way, step_way}
@@ -58,7 +58,7 @@ started_is s c (Handed from m ∷ log) h =
     let j = started_more s c (Handed from m) log (active s c log) refl (started_is s c log h.1) in
     handed_way (IsStarted s c (Handed from m ∷ log)) c from m (active s c log) tt (λ a x e. subst (IsStarted s c (Handed from m ∷ log)) e j) j
 started_is s c (Ticked n ∷ log) h = started_more s c (Ticked n) log (active s c log) refl (started_is s c log h.1)
-started_is s c (Redeclared force t ∷ log) h = started_more s c (Redeclared force t) log (active s c log) refl (started_is s c log h.1)
+started_is s c (Redeclared era t ∷ log) h = started_more s c (Redeclared era t) log (active s c log) refl (started_is s c log h.1)
 started_is s c (Submits n txn ∷ log) h = started_more s c (Submits n txn) log (active s c log) refl (started_is s c log h.1)
 started_is s c (Did act ∷ log) h = started_act s c log act h.0 (started_is s c log h.1)
 
@@ -116,7 +116,7 @@ submitted_more : (s : Setting) (c : ℕ) (e : Entry) (log : Log) (k n : ℕ) (t 
 submitted_more s c e log k n t f h =
     record { later = e ∷ h.later; before = h.before; is = ap (λ l. e ∷ l) h.is; of_class = h.of_class; earlier = h.earlier ∙ sym f }
 
-submit_found : (s : Setting) (c : ℕ) (log : Log) (n : ℕ) (txn : Txn) (b : Bool) (k m : ℕ) (t : Txn) → is_for c (in_force s log).catalogue txn ≡ b
+submit_found : (s : Setting) (c : ℕ) (log : Log) (n : ℕ) (txn : Txn) (b : Bool) (k m : ℕ) (t : Txn) → is_for c (current_era s log).catalogue txn ≡ b
     → submits_of s c (Submits n txn ∷ log) ≡ (if b then submits_of s c log ++ (n, txn) ∷ [] else submits_of s c log)
     → ((j : ℕ) → slice_get (submits_of s c log) j ≡ Some (pair m t) → WasSubmitted s c log j m t)
     → slice_get (if b then submits_of s c log ++ (n, txn) ∷ [] else submits_of s c log) k ≡ Some (pair m t) → WasSubmitted s c (Submits n txn ∷ log) k m t
@@ -129,7 +129,7 @@ submit_found s c log n txn true k m t f g i e = elim (dec_le (suc k) (length (su
         later = [];
         before = log;
         is = ap (λ (x : ℕ × Txn). Submits x.0 x.1 ∷ log) r.1;
-        of_class = subst (λ (x : ℕ × Txn). is_for c (in_force s log).catalogue x.1 ≡ true) r.1 f;
+        of_class = subst (λ (x : ℕ × Txn). is_for c (current_era s log).catalogue x.1 ≡ true) r.1 f;
         earlier = sym (ap (take k) g ∙ ap (λ j. take j (submits_of s c log ++ (n, txn) ∷ [])) r.0 ∙ take-append-le (length (submits_of s c log)) (submits_of s c log) ((n, txn) ∷ []) (omega arith) ∙ take_all (length (submits_of s c log)) (submits_of s c log) (omega arith));
       })
 ]
@@ -137,10 +137,10 @@ submit_found s c log n txn true k m t f g i e = elim (dec_le (suc k) (length (su
 pub was_submitted : (s : Setting) (c : ℕ) (log : Log) (k m : ℕ) (t : Txn) → slice_get (submits_of s c log) k ≡ Some (pair m t) → WasSubmitted s c log k m t
 was_submitted s c [] k m t e = cc
 was_submitted s c (Submits n txn ∷ log) k m t e =
-    submit_found s c log n txn (is_for c (in_force s log).catalogue txn) k m t refl refl (λ j p. was_submitted s c log j m t p) e
+    submit_found s c log n txn (is_for c (current_era s log).catalogue txn) k m t refl refl (λ j p. was_submitted s c log j m t p) e
 was_submitted s c (Handed from x ∷ log) k m t e = submitted_more s c (Handed from x) log k m t refl (was_submitted s c log k m t e)
 was_submitted s c (Ticked n ∷ log) k m t e = submitted_more s c (Ticked n) log k m t refl (was_submitted s c log k m t e)
-was_submitted s c (Redeclared force u ∷ log) k m t e = submitted_more s c (Redeclared force u) log k m t refl (was_submitted s c log k m t e)
+was_submitted s c (Redeclared era u ∷ log) k m t e = submitted_more s c (Redeclared era u) log k m t refl (was_submitted s c log k m t e)
 was_submitted s c (Did act ∷ log) k m t e = submitted_more s c (Did act) log k m t refl (was_submitted s c log k m t e)
 
 start_says : (s : Setting) (c : ℕ) (log : Log) (q : Queued) → number_of s.site ≤ 63 → Each (IsFair s) log → Each IsNew log

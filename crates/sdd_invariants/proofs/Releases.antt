@@ -192,9 +192,9 @@ serving s k t (Handed from m ∷ log) i h = serving_hand s t from m log (serving
 serving s k t (Ticked n ∷ log) i h =
     let j = serving s k t log i h.1 in
     serving_on s t log (Ticked n) refl refl refl (λ x. refl) refl refl (last_is (drawn_so_far log) (active s 0 log) j.active_last) j
-serving s k t (Redeclared force u ∷ log) i h =
+serving s k t (Redeclared era u ∷ log) i h =
     let j = serving s k t log i h.1 in
-    serving_on s t log (Redeclared force u) refl refl refl (λ x. refl) refl refl (last_is (drawn_so_far log) (active s 0 log) j.active_last) j
+    serving_on s t log (Redeclared era u) refl refl refl (λ x. refl) refl refl (last_is (drawn_so_far log) (active s 0 log) j.active_last) j
 serving s k t (Submits n txn ∷ log) i h =
     let j = serving s k t log i h.1 in
     serving_on s t log (Submits n txn) refl refl refl (λ x. refl) refl refl (last_is (drawn_so_far log) (active s 0 log) j.active_last) j

@@ -1,5 +1,5 @@
 -- A transaction that is tried again is still its queue's head, and the REJECT of its last attempt was handed after that attempt's Start.
-use Rattle.sdd_invariants.proofs.All.{Act, Attempt, Bool, ClassNo, D, Did, DmNo, Each, Entry, Handed, IsFair, IsNew, IsRejected, IsServed, IsStep, List, Log, Msg, None, Option, Queued, Redeclared, Reject, Sends, Setting, Site, Some, Submits, T, Ticked, Ts, Txn, U, [], active, active_handed, active_sent, after_hand, ap, arith, commit_act, cond, eqb-true, false, filter, head_of, if◌then◌else◌, in_force, inl, inr, is_for, is_recorded, map, next_stamp, not, queue, refl, rejects, sends_of_act, start_at, started, subst, suc, sym, tried, true, ℕ, ◌&&◌, ◌++◌, ◌<◌, ◌==◌, ◌∙◌, ◌∷◌, ◌≡◌, ◌⊎◌}
+use Rattle.sdd_invariants.proofs.All.{Act, Attempt, Bool, ClassNo, D, Did, DmNo, Each, Entry, Handed, IsFair, IsNew, IsRejected, IsServed, IsStep, List, Log, Msg, None, Option, Queued, Redeclared, Reject, Sends, Setting, Site, Some, Submits, T, Ticked, Ts, Txn, U, [], active, active_handed, active_sent, after_hand, ap, arith, commit_act, cond, current_era, eqb-true, false, filter, head_of, if◌then◌else◌, inl, inr, is_for, is_recorded, map, next_stamp, not, queue, refl, rejects, sends_of_act, start_at, started, subst, suc, sym, tried, true, ℕ, ◌&&◌, ◌++◌, ◌<◌, ◌==◌, ◌∙◌, ◌∷◌, ◌≡◌, ◌⊎◌}
 use Rattle.sdd_invariants.proofs.Queues.{queue_is}
 use Rattle.sdd_invariants.proofs.Active.{sent_way, step_way}
 use Rattle.sdd_invariants.proofs.Bools.{same_number, same_or_not}
@@ -209,9 +209,9 @@ pub tried_at : (s : Setting) (c : ℕ) (log : Log) → Each (IsFair s) log → E
 tried_at s c [] h n = inl tt
 tried_at s c (Handed from m ∷ log) h n = tried_hand s c log from m (queue_is s c log h.1 n.1).served (tried_at s c log h.1 n.1)
 tried_at s c (Ticked k ∷ log) h n = tried_more s c (Ticked k) log (queue s c log) (active s c log) (active s c log) refl (λ x. x) (tried_at s c log h.1 n.1)
-tried_at s c (Redeclared force t ∷ log) h n =
-    tried_more s c (Redeclared force t) log (queue s c log) (active s c log) (active s c log) refl (λ x. x) (tried_at s c log h.1 n.1)
-tried_at s c (Submits k txn ∷ log) h n = tried_submit s c log k txn (is_for c (in_force s log).catalogue txn) (tried_at s c log h.1 n.1)
+tried_at s c (Redeclared era t ∷ log) h n =
+    tried_more s c (Redeclared era t) log (queue s c log) (active s c log) (active s c log) refl (λ x. x) (tried_at s c log h.1 n.1)
+tried_at s c (Submits k txn ∷ log) h n = tried_submit s c log k txn (is_for c (current_era s log).catalogue txn) (tried_at s c log h.1 n.1)
 tried_at s c (Did act ∷ log) h n = tried_act s c log act h.0 (queue_is s c log h.1 n.1).served (tried_at s c log h.1 n.1)
 
 -- the head of an idle class that was started before: its last attempt was rejected

@@ -16,7 +16,7 @@ pub held_rose : (log : Log) (n : ℕ) → (holds log).helds ≡ suc n → IsHeld
 held_rose [] n e = cc
 held_rose (Handed from m ∷ log) n e = held_more (Handed from m) log n (held_rose log n (sym (hand_helds (suc (hands log)) m (holds log)) ∙ e))
 held_rose (Ticked k ∷ log) n e = held_more (Ticked k) log n (held_rose log n e)
-held_rose (Redeclared force t ∷ log) n e = held_more (Redeclared force t) log n (held_rose log n e)
+held_rose (Redeclared era t ∷ log) n e = held_more (Redeclared era t) log n (held_rose log n e)
 held_rose (Submits k txn ∷ log) n e = held_more (Submits k txn) log n (held_rose log n e)
 held_rose (Did act ∷ log) n e = held_by act log n (held_rose log n) e
 

@@ -1,5 +1,5 @@
 -- Only what is put changes the list of messages that were put on a link.
-use Rattle.sdd_invariants.proofs.All.{Ack, Act, Bool, Call, Deliver, Delivers, Did, Does, Force, Hand, Handed, Input, Link, List, Lose, Loses, Mark, Message, Msg, None, Option, Packet, Puts, Redeclares, Repeat, Repeats, Resend, Resends, Site, Some, Submitted, T, Tick, Ticked, Txn, U, [], ap, append-nil, append_assoc, arrives, calls_of, deliver, false, force_at, forced, given_to, if◌then◌else◌, link, local_of, lose, made, on_link, packet_at, put_by, puts, puts_to, redeclares, refl, repeat, resend, same_site, sends_of_act, sent, suc, sym, to_site, true, turned, txn_at, with_made, with_packet, without_packet, ℕ, ◌&&◌, ◌++◌, ◌∙◌, ◌∷◌, ◌≡◌}
+use Rattle.sdd_invariants.proofs.All.{Ack, Act, Bool, Call, Deliver, Delivers, Did, Does, Era, Hand, Handed, Input, Link, List, Lose, Loses, Mark, Message, Msg, None, Option, Packet, Puts, Redeclares, Repeat, Repeats, Resend, Resends, Site, Some, Submitted, T, Tick, Ticked, Txn, U, [], ap, append-nil, append_assoc, arrives, calls_of, deliver, false, given_to, if◌then◌else◌, link, local_of, lose, made, nth_era, on_link, packet_at, put_by, puts, puts_to, redeclared_entry, redeclares, refl, repeat, resend, same_site, sends_of_act, sent, suc, sym, to_site, true, turned, txn_at, with_made, with_packet, without_packet, ℕ, ◌&&◌, ◌++◌, ◌∙◌, ◌∷◌, ◌≡◌}
 use Rattle.sdd_invariants.proofs.Bools.{if_way}
 use Rattle.sdd_invariants.proofs.Made.{local_step}
 use Rattle.sdd_log.specs.All.{Log}
@@ -77,9 +77,9 @@ pub given_puts : (b : Site) (n : ℕ) (o : Option Txn) → put_by b (given_to n 
 given_puts b n None = refl
 given_puts b n (Some t) = refl
 
-force_puts : (b at : Site) (force : Force) (t : ℕ) → put_by b (forced at force t) ≡ []
-force_puts b U force t = refl
-force_puts b _ force t = refl
+era_puts : (b at : Site) (era : Era) (t : ℕ) → put_by b (redeclared_entry at era t) ≡ []
+era_puts b U era t = refl
+era_puts b _ era t = refl
 
 nothing_more : (xs ys zs : List Msg) → zs ≡ xs → ys ≡ [] → zs ≡ xs ++ ys
 nothing_more xs ys zs e f = e ∙ sym (append-nil xs) ∙ ap (λ l. xs ++ l) (sym f)
@@ -90,7 +90,7 @@ sent_grows g a b (Mark (Lose x y k)) log = nothing_more (sent a b log) [] _ (by_
 sent_grows g a b (Mark (Repeat x y k)) log = nothing_more (sent a b log) [] _ (by_repeats a b x y k (calls_of log)) refl
 sent_grows g a b (Mark (Resend x y)) log = nothing_more (sent a b log) [] _ (by_resends a b x y (calls_of log)) refl
 sent_grows g a b (Mark (Tick t n)) log = nothing_more (sent a b log) _ _ refl (no_put b (same_site a (T t)) (Some (Ticked n)) refl)
-sent_grows g a b (Redeclares t) log = nothing_more (sent a b log) _ _ refl (force_puts b a (force_at g (suc (redeclares log))) t)
+sent_grows g a b (Redeclares t) log = nothing_more (sent a b log) _ _ refl (era_puts b a (nth_era g (suc (redeclares log))) t)
 sent_grows g a b (Submitted s n) log = nothing_more (sent a b log) _ _ refl (no_put b (same_site a s) (given_to n (txn_at g n)) (given_puts b n (txn_at g n)))
 sent_grows g a b (Does at act) log = by_act a b at (sends_of_act act) (calls_of log) ∙ ap (λ xs. sent a b log ++ xs) (put_if (same_site a at) b act)
 sent_grows g a b (Hand from to n m) log = nothing_more (sent a b log) _ _ refl (no_put b (same_site a to) (Some (Handed from m)) refl)

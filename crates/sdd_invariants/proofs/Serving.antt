@@ -1,5 +1,5 @@
 -- The chain of holds at U.
-use Rattle.sdd_invariants.proofs.All.{Act, AllZero, Attempt, Bases, Bool, D, Did, Each, Entry, Handed, Held, Hold, IsChain, IsFairU, IsServed, IsStepU, IsTried, List, Log, Msg, None, Option, Queued, Redeclared, Release, Sends, Setting, Site, Some, StartedHead, Submits, T, Ticked, TmCounts, TmNo, Ts, Txn, ZeroBut, [], active, ap, append-nil, arith, asks_rows, at_map, attempt_due, by_release, commit_act, cond, counts, counts_handed, counts_tm, dm_no, effect, eqb-true, false, filter, first_send, hand_commits, head_of, hold_due, hold_to, if◌then◌else◌, in_force, in_mapped, inl, inr, is_a_hold, is_a_release, is_for, is_holding, is_over, last_served, list_all, map, modules_asked, not, numbers_to, one_if, or_else, puts_to, queue, refl, release_due, sends_of_act, slice_get, start_at, start_read, starts, subst, suc, sym, tm_no, to_site, tried, true, turns, u_commit, u_exchange, u_hold, u_release, u_start, write_to, ℕ, ◌&&◌, ◌++◌, ◌<◌, ◌==◌, ◌∙◌, ◌∷◌, ◌≡◌, ◌≤◌, ◌⊎◌}
+use Rattle.sdd_invariants.proofs.All.{Act, AllZero, Attempt, Bases, Bool, D, Did, Each, Entry, Handed, Held, Hold, IsChain, IsFairU, IsServed, IsStepU, IsTried, List, Log, Msg, None, Option, Queued, Redeclared, Release, Sends, Setting, Site, Some, StartedHead, Submits, T, Ticked, TmCounts, TmNo, Ts, Txn, ZeroBut, [], active, ap, append-nil, arith, asks_rows, at_map, attempt_due, by_release, commit_act, cond, counts, counts_handed, counts_tm, current_era, dm_no, effect, eqb-true, false, filter, first_send, hand_commits, head_of, hold_due, hold_to, if◌then◌else◌, in_mapped, inl, inr, is_a_hold, is_a_release, is_for, is_holding, is_over, last_served, list_all, map, modules_asked, not, numbers_to, one_if, or_else, puts_to, queue, refl, release_due, sends_of_act, slice_get, start_at, start_read, starts, subst, suc, sym, tm_no, to_site, tried, true, turns, u_commit, u_exchange, u_hold, u_release, u_start, write_to, ℕ, ◌&&◌, ◌++◌, ◌<◌, ◌==◌, ◌∙◌, ◌∷◌, ◌≡◌, ◌≤◌, ◌⊎◌}
 use Rattle.sdd_invariants.proofs.Holding.{lt_is}
 use Rattle.sdd_invariants.proofs.Turns.{balance, tally_append, turns_append}
 use Rattle.sdd_invariants.proofs.Queues.{served_head}
@@ -180,9 +180,9 @@ pub is_tried : (s : Setting) (log : Log) → Each (IsFairU s) log → IsTried s 
 is_tried s [] h = inl (refl, tt)
 is_tried s (Handed from m ∷ log) h = tried_on s log (Handed from m) refl (hand_commits m (last_served s log)) refl (is_tried s log h.1)
 is_tried s (Ticked n ∷ log) h = tried_on s log (Ticked n) refl refl refl (is_tried s log h.1)
-is_tried s (Redeclared force u ∷ log) h = tried_on s log (Redeclared force u) refl refl refl (is_tried s log h.1)
+is_tried s (Redeclared era u ∷ log) h = tried_on s log (Redeclared era u) refl refl refl (is_tried s log h.1)
 is_tried s (Submits n txn ∷ log) h =
-    tried_submit s log n txn (is_for 0 (in_force s log).catalogue txn) (is_tried s log h.1) (queue s 0 (Submits n txn ∷ log)) refl
+    tried_submit s log n txn (is_for 0 (current_era s log).catalogue txn) (is_tried s log h.1) (queue s 0 (Submits n txn ∷ log)) refl
 is_tried s (Did act ∷ log) h =
     let i = is_tried s log h.1 in
     u_way s log act (λ x. IsTried s (Did x ∷ log)) (λ q e z r. tried_start s log q e z i) (λ bases a e. tried_commit s log bases a e h.0.1 i)
@@ -337,7 +337,7 @@ chain s k t [] e h =
     record { released = omega arith; committed = omega arith; started_held = omega arith; started_hold = omega arith; state = false; turns_are = refl; holds_are = refl; releases_are = refl }
 chain s k t (Handed from m ∷ log) e h = chain_hand s t from m log (chain s k t log e h.1)
 chain s k t (Ticked n ∷ log) e h = let i = chain s k t log e h.1 in chain_on s t log (Ticked n) refl (omega arith) i.committed refl refl i
-chain s k t (Redeclared force u ∷ log) e h = let i = chain s k t log e h.1 in chain_on s t log (Redeclared force u) refl (omega arith) i.committed refl refl i
+chain s k t (Redeclared era u ∷ log) e h = let i = chain s k t log e h.1 in chain_on s t log (Redeclared era u) refl (omega arith) i.committed refl refl i
 chain s k t (Submits n txn ∷ log) e h = let i = chain s k t log e h.1 in chain_on s t log (Submits n txn) refl (omega arith) i.committed refl refl i
 chain s k t (Did act ∷ log) e h =
     let i = chain s k t log e h.1 in

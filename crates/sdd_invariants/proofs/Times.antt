@@ -191,9 +191,9 @@ timed s c b (Handed from m ∷ log) w h = timed_on s c b log (Handed from m) (li
 timed s c b (Ticked n ∷ log) w h =
     timed_on s c b log (Ticked n) (limit_on (bound s log) (bound s (Ticked n ∷ log)) (active s c log) (bound_rises s (Ticked n) log)) refl
     (timed s c b log w h.1)
-timed s c b (Redeclared force t ∷ log) w h =
-    timed_on s c b log (Redeclared force t)
-    (limit_on (bound s log) (bound s (Redeclared force t ∷ log)) (active s c log) (bound_rises s (Redeclared force t) log)) refl (timed s c b log w h.1)
+timed s c b (Redeclared era t ∷ log) w h =
+    timed_on s c b log (Redeclared era t)
+    (limit_on (bound s log) (bound s (Redeclared era t ∷ log)) (active s c log) (bound_rises s (Redeclared era t) log)) refl (timed s c b log w h.1)
 timed s c b (Submits n txn ∷ log) w h = timed_on s c b log (Submits n txn) (omega arith) refl (timed s c b log w h.1)
 timed s c b (Did act ∷ log) w h =
     let i = timed s c b log w h.1 in

@@ -242,7 +242,7 @@ waiting s (Handed from m ∷ log) h c = waiting_on s c (Handed from m) log
     (λ j. processed_handed j from m log) refl (head_handed s log (goes_through c m) (pipe c log) m) (waiting s log h.1 c)
 waiting s (Ticked n ∷ log) h c = waiting_on s c (Ticked n) log (λ j. refl) refl (λ i. refl) (waiting s log h.1 c)
 waiting s (Submits n txn ∷ log) h c = waiting_on s c (Submits n txn) log (λ j. refl) refl (λ i. refl) (waiting s log h.1 c)
-waiting s (Redeclared force t ∷ log) h c = waiting_on s c (Redeclared force t) log (λ j. refl) refl (λ i. refl) (waiting s log h.1 c)
+waiting s (Redeclared era t ∷ log) h c = waiting_on s c (Redeclared era t) log (λ j. refl) refl (λ i. refl) (waiting s log h.1 c)
 waiting s (Did act ∷ log) h c =
     let i = waiting s log h.1 c in
     read_step_way s log act (λ x. IsWaiting s c (Did x ∷ log))

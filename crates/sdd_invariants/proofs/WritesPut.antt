@@ -137,8 +137,8 @@ written s c b [] w h = record { strict = tt; closed = tt }
 written s c b (Handed from m ∷ log) w h = written_on s c b log (Handed from m) (open_handed s c from m log w (drawn s log h.1 c)) refl (written s c b log w h.1)
 written s c b (Ticked n ∷ log) w h =
     written_on s c b log (Ticked n) (open_le (bound s log) (bound s (Ticked n ∷ log)) (active s c log) (bound_rises s (Ticked n) log)) refl (written s c b log w h.1)
-written s c b (Redeclared force t ∷ log) w h =
-    written_on s c b log (Redeclared force t) (open_le (bound s log) (bound s (Redeclared force t ∷ log)) (active s c log) (bound_rises s (Redeclared force t) log)) refl (written s c b log w h.1)
+written s c b (Redeclared era t ∷ log) w h =
+    written_on s c b log (Redeclared era t) (open_le (bound s log) (bound s (Redeclared era t ∷ log)) (active s c log) (bound_rises s (Redeclared era t) log)) refl (written s c b log w h.1)
 written s c b (Submits n txn ∷ log) w h = written_on s c b log (Submits n txn) (omega arith) refl (written s c b log w h.1)
 written s c b (Did act ∷ log) w h =
     let i = written s c b log w h.1 in

@@ -3,7 +3,7 @@ pub use Rattle.sdd_invariants.specs.AtT.{HoldRule, IsFairT}
 pub use Rattle.sdd_invariants.specs.AtU.{IsFairU, IsStepU, starts, starts_more}
 pub use Rattle.sdd_invariants.specs.Barrier.{HasApply, IsHoldChain, start_u, u_stamp}
 pub use Rattle.sdd_invariants.specs.Causes.{HasAnswer, IsApplyOf, IsBased, IsPutAt, IsReadOf}
-pub use Rattle.sdd_invariants.specs.Made.{forced, given_to, handed_by, made, made_by_mark, put_by, with_made}
+pub use Rattle.sdd_invariants.specs.Made.{given_to, handed_by, made, made_by_mark, put_by, redeclared_entry, with_made}
 pub use Rattle.sdd_invariants.specs.OfRecords.{AllCommitted, IsCommitRecord, IsStartOf, IsStartRecord, NoRecord, is_recorded}
 pub use Rattle.sdd_invariants.specs.OnLinks.{read_at, reads_in, write_at}
 pub use Rattle.sdd_invariants.specs.Orders.{AllGe, AllGt, AllLe, AllLt, IsRising, IsStrict}
@@ -83,7 +83,7 @@ pub use Rattle.sdd_invariants.specs.lang.declared.transaction.Txn.{Txn}
 pub use Rattle.sdd_invariants.specs.logs.Due.{does_at, due_by, hand_due, hand_number, hand_on, hand_with, mark_due, next, next_at, next_number, note_if, site_due}
 pub use Rattle.sdd_invariants.specs.logs.Entries.{Does, Entry, Hand, Input, Log, Mark, Notes, Redeclares, Round, Submitted, history, marks, with_event}
 pub use Rattle.sdd_invariants.specs.logs.Lawful.{EndsByLimit, IsLawful, IsTheLog, IsWithin, is_past, puts_past}
-pub use Rattle.sdd_invariants.specs.logs.Locals.{IsForce, beginning, force_at, local_of, redeclares, rows_of, setting_of, txn_at, with_force, with_submit, with_tick}
+pub use Rattle.sdd_invariants.specs.logs.Locals.{IsEra, beginning, local_of, nth_era, redeclares, rows_of, setting_of, txn_at, with_era, with_submit, with_tick}
 pub use Rattle.sdd_invariants.specs.logs.Marks.{after_mark, bound_at, from_event, greatest_bound, left, mark_from, mark_of, next_mark}
 pub use Rattle.sdd_invariants.specs.logs.Permitted.{AreSubmittedOnce, IsAllowed, IsDueAt, IsPermitted, by_event, by_link, by_mark, by_redeclare, by_round, by_site, submits_by, submits_in, was_marked}
 pub use Rattle.sdd_invariants.specs.logs.Resting.{AllLinked, AtEach, IsSiteOf}
@@ -98,7 +98,7 @@ pub use Rattle.sdd_invariants.specs.protocol.declared.protocol.Protocol.{Protoco
 pub use Rattle.sdd_invariants.specs.protocol.declared.protocol.Protocol.TheVariants.{P2, P3}
 pub use Rattle.sdd_invariants.specs.semijoin.Steps.{Move, next_move}
 pub use Rattle.sdd_invariants.specs.semijoin.declared.step.Step.{Step}
-pub use Rattle.sdd_invariants.specs.site_module.SiteLog.{Act, Bases, Did, Each, Force, Handed, Records, Redeclared, Sends, Setting, Submits, Ticked, answers_hand, hands, in_force, records_of_act, sends_of_act, submits}
+pub use Rattle.sdd_invariants.specs.site_module.SiteLog.{Act, Bases, Did, Each, Era, Handed, Records, Redeclared, Sends, Setting, Submits, Ticked, answers_hand, current_era, hands, records_of_act, sends_of_act, submits}
 pub use Rattle.sdd_invariants.specs.tm.Due.{by_ask, by_exchange, by_hold, by_start, exchange_due, null_at, null_time, null_to, start_due, start_of}
 pub use Rattle.sdd_invariants.specs.tm.Fits.{FitsHold, FitsRelease}
 pub use Rattle.sdd_invariants.specs.tm.Views.{HoldCounts, Question, asks, asks_acted, asks_handed, class_view, holds, holds_acted, on_hold, runs}

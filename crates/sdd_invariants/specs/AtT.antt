@@ -13,7 +13,7 @@ IsFairT s log (Did act) = (bases : Bases) × IsDue s.catalogue bases (view_of s 
 IsFairT s log (Handed from m) = Unit {0}
 IsFairT s log (Ticked n) = Unit {0}
 IsFairT s log (Submits n txn) = Unit {0}
-IsFairT s log (Redeclared force t) = Unit {0}
+IsFairT s log (Redeclared era t) = Unit {0}
 
 abbrev pub AllIdle : Setting → Log → Type 0
 AllIdle s log = (k c : ℕ) → slice_get (runs s) k ≡ Some c → active s c log ≡ None

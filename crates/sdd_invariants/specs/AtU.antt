@@ -28,7 +28,7 @@ IsFairU s log (Did act) =
 IsFairU s log (Handed from m) = Unit {0}
 IsFairU s log (Ticked n) = Unit {0}
 IsFairU s log (Submits n txn) = Unit {0}
-IsFairU s log (Redeclared force t) = Unit {0}
+IsFairU s log (Redeclared era t) = Unit {0}
 
 -- the Starts at U
 abbrev pub starts_more : Act → ℕ → ℕ

@@ -1,14 +1,14 @@
 -- What an entry of the log of everything makes of the log of a site: one entry more, or nothing.
 use Rattle.std.specs.Prelude.{ℕ, ◌++◌, ◌∷◌, ◌≡◌, List, None, Option, Some, [], if◌then◌else◌, suc}
-use Rattle.sdd_log.specs.All.{Act, D, Did, Does, Event, Force, Hand, Handed, Input, Log, Mark, Msg, Redeclared, Redeclares, Site, Submits, Submitted, T, Tick, Ticked, Txn, U, force_at, local_of, redeclares, same_site, sends_of_act, txn_at}
+use Rattle.sdd_log.specs.All.{Act, D, Did, Does, Era, Event, Hand, Handed, Input, Log, Mark, Msg, Redeclared, Redeclares, Site, Submits, Submitted, T, Tick, Ticked, Txn, U, local_of, nth_era, redeclares, same_site, sends_of_act, txn_at}
 use Rattle.sdd_log.specs.Entries.{Entry}
 use Rattle.sdd_invariants.specs.Traffic.{to_site}
 use Rattle.sdd_log.specs.site_module.SiteLog as site
 
-abbrev pub forced : Site → Force → ℕ → Option site.Entry
-forced U force t = None
-forced (T n) force t = Some (Redeclared force t)
-forced (D d) force t = None
+abbrev pub redeclared_entry : Site → Era → ℕ → Option site.Entry
+redeclared_entry U era t = None
+redeclared_entry (T n) era t = Some (Redeclared era t)
+redeclared_entry (D d) era t = None
 
 abbrev pub given_to : ℕ → Option Txn → Option site.Entry
 given_to n None = None
@@ -20,7 +20,7 @@ made_by_mark at _ = None
 
 abbrev pub made : Input → Site → Log → Entry → Option site.Entry
 made g at log (Mark e) = made_by_mark at e
-made g at log (Redeclares t) = forced at (force_at g (suc (redeclares log))) t
+made g at log (Redeclares t) = redeclared_entry at (nth_era g (suc (redeclares log))) t
 made g at log (Hand from to n m) = if same_site at to then Some (Handed from m) else None
 made g at log (Submitted to n) = if same_site at to then given_to n (txn_at g n) else None
 made g at log (Does by act) = if same_site at by then Some (Did act) else None

@@ -1,6 +1,6 @@
 -- The records of a site that runs transactions.
 use Rattle.std.specs.Prelude.{ℕ, ◌++◌, ◌<◌, ◌==◌, ◌∷◌, ◌≡◌, Bool, List, None, Option, Some, [], false, slice_get, suc, take, true}
-use Rattle.sdd_log.specs.All.{Act, Attempt, Bases, Change, ClassNo, Commit, Did, Entry, Queued, Records, Sends, Setting, Start, Submits, Ts, Txn, TxnNo, Use, active, commit_act, effect, head_of, in_force, is_for, p2_of, queue, uses_of}
+use Rattle.sdd_log.specs.All.{Act, Attempt, Bases, Change, ClassNo, Commit, Did, Entry, Queued, Records, Sends, Setting, Start, Submits, Ts, Txn, TxnNo, Use, active, commit_act, current_era, effect, head_of, is_for, p2_of, queue, uses_of}
 use Rattle.sdd_log.specs.site_module.SiteLog.{Log}
 use Rattle.sdd_invariants.specs.Orders.{AllLe, AllLt}
 use Rattle.sdd_invariants.specs.Steps.{bound, home, is_committed, next_stamp, promises, stamps, start_at, starts_of, submits_of}
@@ -74,7 +74,7 @@ pub record WasSubmitted (s : Setting) (c : ℕ) (log : Log) (place n : ℕ) (tex
   pub later : Log
   pub before : Log
   pub is : log ≡ later ++ Submits n text ∷ before
-  pub of_class : is_for c (in_force s before).catalogue text ≡ true
+  pub of_class : is_for c (current_era s before).catalogue text ≡ true
   pub earlier : submits_of s c before ≡ take place (submits_of s c log)
 
 -- What a Start says: its transaction was given to its class, and all that were given to the class before it are

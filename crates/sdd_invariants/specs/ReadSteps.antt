@@ -16,7 +16,7 @@ IsDueEach s log (Did act) = IsDue (home_of s) (view_of s log) act
 IsDueEach s log (Handed from m) = Unit {0}
 IsDueEach s log (Ticked n) = Unit {0}
 IsDueEach s log (Submits n txn) = Unit {0}
-IsDueEach s log (Redeclared force t) = Unit {0}
+IsDueEach s log (Redeclared era t) = Unit {0}
 
 -- A record that may process this message, by what the table says of a head: a READ is answered once all conditions are
 -- met, where it waited or none spoils it, and rejected by its spoiler where it didn't wait.

@@ -37,7 +37,7 @@ abbrev pub IsHonest : Log → Entry → Type 0
 IsHonest log (Handed from m) = (ts c : ℕ) → is_answer ts c m ≡ true → was_asked ts c log ≡ true
 IsHonest log (Ticked n) = Unit {0}
 IsHonest log (Submits n txn) = Unit {0}
-IsHonest log (Redeclared force t) = Unit {0}
+IsHonest log (Redeclared era t) = Unit {0}
 IsHonest log (Did act) = Unit {0}
 
 abbrev pub firsts : List (ℕ × List ℕ) → List ℕ

@@ -1,7 +1,7 @@
 -- What a site that runs transactions does, of whatever rank, as its queues, clock and active attempts allow it; and
 -- what its clock drew and promised.
 use Rattle.std.specs.Prelude.{ℕ, ◌&&◌, ◌++◌, ◌<◌, ◌==◌, ◌||◌, ◌∷◌, ◌≡◌, Bool, List, None, Option, Some, [], false, filter, if◌then◌else◌, suc, true}
-use Rattle.sdd_log.specs.All.{Act, Attempt, Bases, Catalogue, Change, Commit, Did, Entry, Handed, Held, Hold, Msg, Null, Phase, Queued, Reading, Records, Redeclared, Release, Sends, Setting, Site, Start, Submits, T, Ticked, Ts, Txn, U, active, ascending, asks_rows, bound_of, class_at, class_no, clock, commit_act, contains, fragments_in, has_copy, head_of, in_force, is_for, is_over, modules_of, queue, read_to, start_act, submits, ticked, time_at, timestamp, tm_no, uses_of}
+use Rattle.sdd_log.specs.All.{Act, Attempt, Bases, Catalogue, Change, Commit, Did, Entry, Handed, Held, Hold, Msg, Null, Phase, Queued, Reading, Records, Redeclared, Release, Sends, Setting, Site, Start, Submits, T, Ticked, Ts, Txn, U, active, ascending, asks_rows, bound_of, class_at, class_no, clock, commit_act, contains, current_era, fragments_in, has_copy, head_of, is_for, is_over, modules_of, queue, read_to, start_act, submits, ticked, time_at, timestamp, tm_no, uses_of}
 use Rattle.sdd_log.specs.site_module.SiteLog.{Log}
 
 -- the site that runs a class
@@ -29,7 +29,7 @@ limit s c log = limit_of (bound s log) (active s c log)
 
 -- the Start of a transaction in the queue, where the clock and the classes in force are so
 abbrev pub start_at : Setting → ℕ → Log → Queued → Act
-start_at s c log q = start_act s.catalogue (in_force s log).table c (clock s.site log) q
+start_at s c log q = start_act s.catalogue (current_era s log).table c (clock s.site log) q
 
 -- the modules at which the class reads what the transaction asks, and the READ that a Start sends to one
 abbrev pub modules_asked : Setting → ℕ → Txn → List ℕ
@@ -37,7 +37,7 @@ modules_asked s c text = modules_of s.catalogue c (ascending (fragments_in (uses
 
 abbrev pub start_read : Setting → ℕ → Log → Queued → ℕ → Msg
 start_read s c log q d =
-    (read_to s.catalogue (in_force s log).table c q (uses_of s.catalogue q.text) (next_stamp s log) (bound s log) d).1
+    (read_to s.catalogue (current_era s log).table c q (uses_of s.catalogue q.text) (next_stamp s log) (bound s log) d).1
 
 -- of the changes of a transaction those of which the module has a copy
 abbrev pub changes_at : Catalogue → ℕ → List Change → List Change
@@ -71,21 +71,21 @@ IsFair s log (Did act) = IsStep s log act
 IsFair s log (Handed from m) = Unit {0}
 IsFair s log (Ticked n) = Unit {0}
 IsFair s log (Submits n txn) = Unit {0}
-IsFair s log (Redeclared force t) = Unit {0}
+IsFair s log (Redeclared era t) = Unit {0}
 
 -- no number is submitted twice
 abbrev pub IsNew : Log → Entry → Type 0
 IsNew log (Submits n txn) = contains (submits log) n ≡ false
 IsNew log (Handed from m) = Unit {0}
 IsNew log (Ticked n) = Unit {0}
-IsNew log (Redeclared force t) = Unit {0}
+IsNew log (Redeclared era t) = Unit {0}
 IsNew log (Did act) = Unit {0}
 
 -- what was submitted to a class, in order
 abbrev pub submits_of : Setting → ℕ → Log → List (ℕ × Txn)
 submits_of s c [] = []
 submits_of s c (Submits n txn ∷ log) =
-    if is_for c (in_force s log).catalogue txn then submits_of s c log ++ (n, txn) ∷ [] else submits_of s c log
+    if is_for c (current_era s log).catalogue txn then submits_of s c log ++ (n, txn) ∷ [] else submits_of s c log
 submits_of s c (_ ∷ log) = submits_of s c log
 
 -- how often class c started transaction n, and whether it committed it

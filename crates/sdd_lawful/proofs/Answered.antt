@@ -1,5 +1,5 @@
 -- The Answers of a history, as acts of data modules, each with the READ that it answers and the Start that sent it.
-use Rattle.sdd_lawful.proofs.All.{Act, Answer, Attempt, Bool, Catalogue, ClassNo, Cond, D, DmNo, Does, Entry, Input, IsAnswered, IsAttempt, IsMadeAt, IsPermitted, IsRead, IsReadStep, IsSound, List, Log, May, Msg, None, Read, Rec, Records, Setting, Site, Some, Stands, Ts, TxnNo, Use, View, [], allowed_act, ap, arith, ascending, bound, by_record, by_wait, class_no, class_number, conditions, conditions_at, contains, d_step, dm_no, false, filter_map, frag_no, fragments_in, head, head_put, history, home, if◌then◌else◌, in_force, in_passing, inl, inr, is_processing, length, local_of, map, modules_asked, modules_of, next_stamp, not_both, option_map, or_left, or_right, p2_of, p2_time, pipe, pipe_at, record_of, refl, same_number, same_or_not, sends_of_act, setting_of, slice_get, start_at, start_read, subst, suc, sym, time_at, to_site, true, txn_no, undeclared_conditions, unwrap_or, use_there, uses_of, view_of, waits, zero, ℕ, ◌++◌, ◌<◌, ◌==◌, ◌∙◌, ◌∷◌, ◌≡◌}
+use Rattle.sdd_lawful.proofs.All.{Act, Answer, Attempt, Bool, Catalogue, ClassNo, Cond, D, DmNo, Does, Entry, Input, IsAnswered, IsAttempt, IsMadeAt, IsPermitted, IsRead, IsReadStep, IsSound, List, Log, May, Msg, None, Read, Rec, Records, Setting, Site, Some, Stands, Ts, TxnNo, Use, View, [], allowed_act, ap, arith, ascending, bound, by_record, by_wait, class_no, class_number, conditions, conditions_at, contains, current_era, d_step, dm_no, false, filter_map, frag_no, fragments_in, head, head_put, history, home, if◌then◌else◌, in_passing, inl, inr, is_processing, length, local_of, map, modules_asked, modules_of, next_stamp, not_both, option_map, or_left, or_right, p2_of, p2_time, pipe, pipe_at, record_of, refl, same_number, same_or_not, sends_of_act, setting_of, slice_get, start_at, start_read, subst, suc, sym, time_at, to_site, true, txn_no, undeclared_conditions, unwrap_or, use_there, uses_of, view_of, waits, zero, ℕ, ◌++◌, ◌<◌, ◌==◌, ◌∙◌, ◌∷◌, ◌≡◌}
 use Rattle.sdd_lawful.proofs.Applied.{IsDataIn, data_in}
 use Rattle.sdd_lawful.proofs.Classes.{at_home, further_back, home_setting}
 use Rattle.sdd_lawful.proofs.Commits.{begun_as}
@@ -83,7 +83,7 @@ read_msg a conds uses = Read (time_at a.ts) (class_no a.class) (txn_no a.txn) a.
 -- the conditions of an attempt's READ to module d, where its Start stands behind this log
 abbrev pub conds_sent : Input → Attempt → Log → ℕ → List Cond
 conds_sent g a log d =
-    conditions_at g.catalogue (in_force (home_setting g a.class) (at_home g a.class log)).table a.class (ascending (fragments_in a.uses)) a.ts (p2_time a) d
+    conditions_at g.catalogue (current_era (home_setting g a.class) (at_home g a.class log)).table a.class (ascending (fragments_in a.uses)) a.ts (p2_time a) d
 
 -- the READ of an attempt at module d stands at the head of its pipe, and its Start stands in the log
 pub record IsReadIn (g : Input) (before : Log) (a : Attempt) (d : ℕ) : Type 0 where
@@ -145,7 +145,7 @@ read_of_some g log later before e c n number d ts of ds us h is top =
         start_makes = refl;
         start_place = refl;
         start_before = omega arith;
-        conds_are = conds_same g.catalogue (in_force (home_setting g c) l).table c (ascending (fragments_in (uses_of g.catalogue r.queued.text)))
+        conds_are = conds_same g.catalogue (current_era (home_setting g c) l).table c (ascending (fragments_in (uses_of g.catalogue r.queued.text)))
             (next_stamp (home_setting g c) l) (bound (home_setting g c) l) d;
         uses_are = refl;
         asked = i.0;

@@ -138,7 +138,7 @@ result_in c (Did (Sends to m hand) ∷ log) i r e = result_past c (Did (Sends to
 result_in c (Handed from m ∷ log) i r e = result_past c (Handed from m) log r (result_in c log i r e)
 result_in c (Ticked k ∷ log) i r e = result_past c (Ticked k) log r (result_in c log i r e)
 result_in c (Submits k text ∷ log) i r e = result_past c (Submits k text) log r (result_in c log i r e)
-result_in c (Redeclared force t ∷ log) i r e = result_past c (Redeclared force t) log r (result_in c log i r e)
+result_in c (Redeclared era t ∷ log) i r e = result_past c (Redeclared era t) log r (result_in c log i r e)
 
 result_if : (b : Bool) (xs : List Rec) (y x : Rec) (i : ℕ) → slice_get xs i ≡ Some x → slice_get (if b then xs ++ y ∷ [] else xs) i ≡ Some x
 result_if true xs y x i e = in_left xs (y ∷ []) i x e

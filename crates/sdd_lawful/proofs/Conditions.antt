@@ -1,8 +1,8 @@
 -- The history of a permitted log keeps the law of read conditions.
-use Rattle.sdd_lawful.proofs.All.{AppliedBefore, AreErasOf, Attempt, Catalogue, Change, Committed, Cond, Contains, D, Does, Entry, Eras, Force, FragNo, Input, IsAnswerWith, IsAnswered, IsApplied, IsAttempt, IsCommitted, IsConditionOf, IsPermitted, IsSound, IsTable, KeepsConditions, List, Log, None, Option, P2, P3, Records, Some, T, TmNo, TouchesOne, [], any_at, ap, append_assoc, arith, ascending, asked_by, class_at, class_no, classes_of, commit_act, cond_for, cond_of, condition_on, conditions, conditions_at, conditions_of, cons_option, contains, dm_no, eqb-true, event_at, false, filter, filter_map, force_at, frag_no, fragments_in, fragments_of, get_or_from_slice_get, has_copy, history, home, if◌then◌else◌, in_force, in_mapped, in_range, inl, inr, is_asked, length, list_any, local_of, map, marks, member_at, one_table, option_or, p2_time, place_within, redeclares, refl, same_or_not, setting_of, slice_get, split_applied, subst, suc, sym, time_at, tm_no, touches, true, txn_no, undeclared_conditions, zero, ℕ, ◌++◌, ◌<◌, ◌==◌, ◌||◌, ◌∙◌, ◌∷◌, ◌≡◌, ◌≤◌}
+use Rattle.sdd_lawful.proofs.All.{AppliedBefore, AreErasOf, Attempt, Catalogue, Change, Committed, Cond, Contains, D, Does, Entry, Era, Eras, FragNo, Input, IsAnswerWith, IsAnswered, IsApplied, IsAttempt, IsCommitted, IsConditionOf, IsPermitted, IsSound, IsTable, KeepsConditions, List, Log, None, Option, P2, P3, Records, Some, T, TmNo, TouchesOne, [], any_at, ap, append_assoc, arith, ascending, asked_by, class_at, class_no, classes_of, commit_act, cond_for, cond_of, condition_on, conditions, conditions_at, conditions_of, cons_option, contains, current_era, dm_no, eqb-true, event_at, false, filter, filter_map, frag_no, fragments_in, fragments_of, get_or_from_slice_get, has_copy, history, home, if◌then◌else◌, in_mapped, in_range, inl, inr, is_asked, length, list_any, local_of, map, marks, member_at, nth_era, one_table, option_or, p2_time, place_within, redeclares, refl, same_or_not, setting_of, slice_get, split_applied, subst, suc, sym, time_at, tm_no, touches, true, txn_no, undeclared_conditions, zero, ℕ, ◌++◌, ◌<◌, ◌==◌, ◌||◌, ◌∙◌, ◌∷◌, ◌≡◌, ◌≤◌}
 use Rattle.sdd_lawful.proofs.Answered.{IsReadIn, answer_in, answer_made, answer_rec}
 use Rattle.sdd_lawful.proofs.Applies.{apply_of_committed, applied_seen, seen_applied}
-use Rattle.sdd_lawful.proofs.Classes.{at_home, force_there, further_back, home_setting}
+use Rattle.sdd_lawful.proofs.Classes.{at_home, era_there, further_back, home_setting}
 use Rattle.sdd_lawful.proofs.Committed.{IsCommittedIn, committed_in}
 use Rattle.sdd_lawful.proofs.Homes.{home_small}
 use Rattle.sdd_lawful.proofs.Places.{event_there}
@@ -70,34 +70,34 @@ start_event g log later before e a d is x =
 -- by the table of the catalogue in force at the Start
 same_table : (g : Input) (log : Log) (eras : Eras) (a : Attempt) (table : List line.Entry) (all start_log : Log) → AreErasOf g log eras
     → log ≡ all ++ start_log → event_at (history log) a.place ≡ marks start_log
-    → IsTable (law_eras.in_force g.catalogue eras (event_at (history log) a.place)) table → (a.class == 0) ≡ false
-    → (in_force (home_setting g a.class) (at_home g a.class start_log)).table ≡ table
+    → IsTable (law_eras.catalogue_at g.catalogue eras (event_at (history log) a.place)) table → (a.class == 0) ≡ false
+    → (current_era (home_setting g a.class) (at_home g a.class start_log)).table ≡ table
 same_table g log eras a table all start_log are is event t ne =
     let t_no : TmNo = tm_no (class_at g.catalogue a.class).tm.0 in
     let here : home g.catalogue a.class ≡ T t_no = rw ne refl in
-    let force : in_force (home_setting g a.class) (at_home g a.class start_log) ≡ force_at g (redeclares start_log) = ap
-    (λ s. in_force (setting_of g s) (local_of g s start_log)) here ∙ force_there g t_no start_log in
-    let cat : law_eras.in_force g.catalogue eras (event_at (history log) a.place) ≡ (force_at g (redeclares start_log)).catalogue = ap
-    (law_eras.in_force g.catalogue eras) event ∙ are.force_is all start_log is in
-    ap (λ (f : Force). f.table) force
-    ∙ one_table (force_at g (redeclares start_log)).catalogue (force_at g (redeclares start_log)).table table (are.tabled all start_log is).table
+    let era : current_era (home_setting g a.class) (at_home g a.class start_log) ≡ nth_era g (redeclares start_log) = ap
+    (λ s. current_era (setting_of g s) (local_of g s start_log)) here ∙ era_there g t_no start_log in
+    let cat : law_eras.catalogue_at g.catalogue eras (event_at (history log) a.place) ≡ (nth_era g (redeclares start_log)).catalogue = ap
+    (law_eras.catalogue_at g.catalogue eras) event ∙ are.era_is all start_log is in
+    ap (λ (f : Era). f.table) era
+    ∙ one_table (nth_era g (redeclares start_log)).catalogue (nth_era g (redeclares start_log)).table table (are.tabled all start_log is).table
     (subst (λ c. IsTable c table) cat t)
 
-conds_by : (g : Input) (a : Attempt) (d : ℕ) (force_table table : List line.Entry) → ((a.class == 0) ≡ false → force_table ≡ table)
-    → conditions_at g.catalogue force_table a.class (ascending (fragments_in a.uses)) a.ts (p2_time a) d ≡ conditions_of g.catalogue table a d
-conds_by g a d force_table table f =
+conds_by : (g : Input) (a : Attempt) (d : ℕ) (era_table table : List line.Entry) → ((a.class == 0) ≡ false → era_table ≡ table)
+    → conditions_at g.catalogue era_table a.class (ascending (fragments_in a.uses)) a.ts (p2_time a) d ≡ conditions_of g.catalogue table a d
+conds_by g a d era_table table f =
     elim (a.class == 0) as
-    (λ b. ((b ≡ false) → force_table ≡ table) → (if b then undeclared_conditions g.catalogue a.ts else conditions g.catalogue force_table a.class d (map frag_no (ascending (fragments_in a.uses))) a.ts (p2_time a)) ≡ (if b then undeclared_conditions g.catalogue a.ts else conditions g.catalogue table a.class d (map frag_no (ascending (fragments_in a.uses))) a.ts (p2_time a))) [
+    (λ b. ((b ≡ false) → era_table ≡ table) → (if b then undeclared_conditions g.catalogue a.ts else conditions g.catalogue era_table a.class d (map frag_no (ascending (fragments_in a.uses))) a.ts (p2_time a)) ≡ (if b then undeclared_conditions g.catalogue a.ts else conditions g.catalogue table a.class d (map frag_no (ascending (fragments_in a.uses))) a.ts (p2_time a))) [
       | true ↦ λ h. refl
       | false ↦ λ h. ap (λ t. conditions g.catalogue t a.class d (map frag_no (ascending (fragments_in a.uses))) a.ts (p2_time a)) (h refl)
     ] f
 
 pub conds_are : (g : Input) (log : Log) (eras : Eras) (a : Attempt) (d : ℕ) (later before : Log) (e : Entry) (table : List line.Entry) → AreErasOf g log eras
     → log ≡ later ++ e ∷ before → (x : IsReadIn g before a d)
-    → IsTable (law_eras.in_force g.catalogue eras (event_at (history log) a.place)) table → x.conds ≡ conditions_of g.catalogue table a d
+    → IsTable (law_eras.catalogue_at g.catalogue eras (event_at (history log) a.place)) table → x.conds ≡ conditions_of g.catalogue table a d
 conds_are g log eras a d later before e table are is x t =
     let s = start_event g log later before e a d is x in
-    x.conds_are ∙ conds_by g a d (in_force (home_setting g a.class) (at_home g a.class x.start_log)).table table
+    x.conds_are ∙ conds_by g a d (current_era (home_setting g a.class) (at_home g a.class x.start_log)).table table
     (same_table g log eras a table s.0 x.start_log are s.1 s.2 t)
 
 -- a change of one of a condition's fragments touches it
@@ -149,7 +149,7 @@ met g log eras sound h are a d k q x s t cd cx class touch =
       place = m.0;
       there = there;
     } in
-    let low = above_zero g.catalogue (in_force (home_setting g a.class) (at_home g a.class w.read.start_log)).table a.class
+    let low = above_zero g.catalogue (current_era (home_setting g a.class) (at_home g a.class w.read.start_log)).table a.class
     (ascending (fragments_in a.uses)) a.ts (p2_time a) d m.0 q (subst (λ ds. slice_get ds m.0 ≡ Some q) w.read.conds_are there) in
     let at = copy_module g.catalogue sound d touch.fragment touch.copied in
     let small = home_small g.catalogue sound q.class.0 in

@@ -80,7 +80,7 @@ applied_from c (Did (Sends to m hand) ∷ l) x h = applied_past c (Did (Sends to
 applied_from c (Handed from m ∷ l) x h = applied_past c (Handed from m) l x (applied_from c l x h)
 applied_from c (Ticked n ∷ l) x h = applied_past c (Ticked n) l x (applied_from c l x h)
 applied_from c (Submits n text ∷ l) x h = applied_past c (Submits n text) l x (applied_from c l x h)
-applied_from c (Redeclared force t ∷ l) x h = applied_past c (Redeclared force t) l x (applied_from c l x h)
+applied_from c (Redeclared era t ∷ l) x h = applied_past c (Redeclared era t) l x (applied_from c l x h)
 
 applied_has : (c : ℕ) (later before : SiteLog) (r : Rec) (sends : List (Site × Msg)) (x : ℕ × Change) → is_apply r ≡ true
     → Contains (changes_in (head (pipe c before))) x → Contains (applied c (later ++ Did (Records c r sends) ∷ before)) x

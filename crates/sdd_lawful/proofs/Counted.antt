@@ -1,5 +1,5 @@
 -- How many Starts of a transaction a history has is how often the site that runs its class started it.
-use Rattle.sdd_lawful.proofs.All.{Attempt, Bool, Commit, Did, Does, Entry, Force, Hand, Handed, History, Input, IsAttempt, IsPermitted, IsSound, List, Log, Mark, Msg, None, Option, Rec, Records, Redeclares, Sends, Site, SiteLog, Some, Start, Submitted, T, Tick, Ticked, Txn, TxnNo, U, [], ap, append_assoc, arith, cond, eqb-true, false, filter, filter-append, force_at, history, home, if_way, if◌then◌else◌, inl, inr, is_start_of, length, length-append, local_of, marks, record_of, redeclares, refl, same_number, same_or_not, same_site, site_self, starts_before, starts_of, subst, suc, sym, take, true, txn_at, with_force, with_submit, ℕ, ◌&&◌, ◌++◌, ◌+◌, ◌==◌, ◌∙◌, ◌∷◌, ◌≡◌}
+use Rattle.sdd_lawful.proofs.All.{Attempt, Bool, Commit, Did, Does, Entry, Era, Hand, Handed, History, Input, IsAttempt, IsPermitted, IsSound, List, Log, Mark, Msg, None, Option, Rec, Records, Redeclares, Sends, Site, SiteLog, Some, Start, Submitted, T, Tick, Ticked, Txn, TxnNo, U, [], ap, append_assoc, arith, cond, eqb-true, false, filter, filter-append, history, home, if_way, if◌then◌else◌, inl, inr, is_start_of, length, length-append, local_of, marks, nth_era, record_of, redeclares, refl, same_number, same_or_not, same_site, site_self, starts_before, starts_of, subst, suc, sym, take, true, txn_at, with_era, with_submit, ℕ, ◌&&◌, ◌++◌, ◌+◌, ◌==◌, ◌∙◌, ◌∷◌, ◌≡◌}
 use Rattle.sdd_lawful.proofs.Classes.{IsGivenTo, at_home, one_class}
 use Rattle.sdd_lawful.proofs.Places.{history_before, history_step, recorded}
 use Rattle.sdd_lawful.proofs.Started.{attempt_from, given_of_attempt, start_act_of, start_at_entry, start_in}
@@ -50,9 +50,9 @@ count_submit : (c n x k : ℕ) (o : Option Txn) (l : SiteLog) → starts_of c n 
 count_submit c n x k None l e = e
 count_submit c n x k (Some t) l e = e
 
-count_force : (c n x : ℕ) (at : Site) (force : Force) (t : ℕ) (l : SiteLog) → starts_of c n l ≡ x → starts_of c n (with_force at force t l) ≡ x
-count_force c n x U force t l e = e
-count_force c n x _ force t l e = e
+count_era : (c n x : ℕ) (at : Site) (era : Era) (t : ℕ) (l : SiteLog) → starts_of c n l ≡ x → starts_of c n (with_era at era t l) ≡ x
+count_era c n x U era t l e = e
+count_era c n x _ era t l e = e
 
 count_first : (g : Input) (c n : ℕ) (at : Site) → starts_of c n (local_of g at []) ≡ 0
 count_first g c n U = refl
@@ -92,7 +92,7 @@ IsOwnEntry g c n _ = Unit {0}
 count_entry : (g : Input) (c n x : ℕ) (e : Entry) (log : Log) → IsOwnEntry g c n e → starts_of c n (at_home g c log) ≡ x
     → starts_of c n (at_home g c (e ∷ log)) ≡ x + one_by n (record_of e)
 count_entry g c n x (Mark (Tick t k)) log own e = count_if c n x (same_site (home g.catalogue c) (T t)) (Ticked k) (at_home g c log) refl e
-count_entry g c n x (Redeclares t) log own e = plus_none _ x (count_force c n x (home g.catalogue c) (force_at g (suc (redeclares log))) t (at_home g c log) e)
+count_entry g c n x (Redeclares t) log own e = plus_none _ x (count_era c n x (home g.catalogue c) (nth_era g (suc (redeclares log))) t (at_home g c log) e)
 count_entry g c n x (Hand from to k m) log own e = count_if c n x (same_site (home g.catalogue c) to) (Handed from m) (at_home g c log) refl e
 count_entry g c n x (Submitted to k) log own e =
     plus_none _ x (if_way (HasCount c n x) (same_site (home g.catalogue c) to) (with_submit k (txn_at g k) (at_home g c log)) (at_home g c log) (count_submit c n x k (txn_at g k) (at_home g c log) e) e)

@@ -190,7 +190,7 @@ asked_from (Handed from m ∷ l) k q e = asks_in (suc (hands l)) from m l k q (�
 asked_from (Did act ∷ l) k q e = let i = acted_asks act (tm_views.asks l) k q e in asked_past (Did act) l q.from (asked_from l i.0 q i.1)
 asked_from (Ticked n ∷ l) k q e = asked_past (Ticked n) l q.from (asked_from l k q e)
 asked_from (Submits n text ∷ l) k q e = asked_past (Submits n text) l q.from (asked_from l k q e)
-asked_from (Redeclared force t ∷ l) k q e = asked_past (Redeclared force t) l q.from (asked_from l k q e)
+asked_from (Redeclared era t ∷ l) k q e = asked_past (Redeclared era t) l q.from (asked_from l k q e)
 
 abbrev NullTo : Log → Act → Type 0
 NullTo l (Sends to (Null k t) hand) = WasAskedBy l to

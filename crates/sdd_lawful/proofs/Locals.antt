@@ -1,6 +1,6 @@
 -- What the log of a site that runs transactions says of an act in it: of the timestamps, promises, Commits and
 -- submissions.
-use Rattle.sdd_lawful.proofs.All.{Act, AllCommitted, AllLe, AllLt, Bool, Change, ClassNo, Commit, Did, Handed, List, Msg, Option, Records, Redeclared, Reply, Sends, Setting, Site, SiteLog as Log, Some, Start, Submits, Ticked, Ts, Txn, TxnNo, Use, [], and_left, and_right, ap, arith, at_seam, both, commit_more, eqb-true, false, if_way, if◌then◌else◌, in_force, in_left, in_right, inl, inr, is_committed, is_for, length, only_right, or_left, or_right, promises, refl, same_number, slice_get, stamps, start_more, starts_of, submits_of, subst, suc, sym, true, true_or_false, zero, ℕ, ◌&&◌, ◌++◌, ◌<◌, ◌==◌, ◌∷◌, ◌≡◌, ◌≤◌}
+use Rattle.sdd_lawful.proofs.All.{Act, AllCommitted, AllLe, AllLt, Bool, Change, ClassNo, Commit, Did, Handed, List, Msg, Option, Records, Redeclared, Reply, Sends, Setting, Site, SiteLog as Log, Some, Start, Submits, Ticked, Ts, Txn, TxnNo, Use, [], and_left, and_right, ap, arith, at_seam, both, commit_more, current_era, eqb-true, false, if_way, if◌then◌else◌, in_left, in_right, inl, inr, is_committed, is_for, length, only_right, or_left, or_right, promises, refl, same_number, slice_get, stamps, start_more, starts_of, submits_of, subst, suc, sym, true, true_or_false, zero, ℕ, ◌&&◌, ◌++◌, ◌<◌, ◌==◌, ◌∷◌, ◌≡◌, ◌≤◌}
 use Rattle.sdd_invariants.specs.site_module.SiteLog as site
 
 pub below_at : (k : ℕ) (xs : List ℕ) (i x : ℕ) → AllLt k xs → slice_get xs i ≡ Some x → x < k
@@ -85,7 +85,7 @@ commit_act_in c n (Did act ∷ log) h = commit_in_act c n act log (is_committed 
 commit_act_in c n (Handed from m ∷ log) h = commit_past c n (Handed from m) log (commit_act_in c n log h)
 commit_act_in c n (Ticked k ∷ log) h = commit_past c n (Ticked k) log (commit_act_in c n log h)
 commit_act_in c n (Submits k text ∷ log) h = commit_past c n (Submits k text) log (commit_act_in c n log h)
-commit_act_in c n (Redeclared force t ∷ log) h = commit_past c n (Redeclared force t) log (commit_act_in c n log h)
+commit_act_in c n (Redeclared era t ∷ log) h = commit_past c n (Redeclared era t) log (commit_act_in c n log h)
 
 -- what was submitted to a class
 
@@ -96,12 +96,12 @@ submits_if : (b : Bool) (xs : List (ℕ × Txn)) (y x : ℕ × Txn) (i : ℕ) �
 submits_if true xs y x i e = in_left xs (y ∷ []) i x e
 submits_if false xs y x i e = e
 
-pub submitted_in : (s : Setting) (c n : ℕ) (text : Txn) (later before : Log) → is_for c (in_force s before).catalogue text ≡ true
+pub submitted_in : (s : Setting) (c n : ℕ) (text : Txn) (later before : Log) → is_for c (current_era s before).catalogue text ≡ true
     → (i : ℕ) × (slice_get (submits_of s c (later ++ Submits n text ∷ before)) i ≡ Some (pair n text))
 submitted_in s c n text [] before h = (length (submits_of s c before), rw h (at_seam (submits_of s c before) [] (pair n text)))
 submitted_in s c n text (Submits k other ∷ later) before h =
     let i = submitted_in s c n text later before h in
-    (i.0, submits_if (is_for c (in_force s (later ++ Submits n text ∷ before)).catalogue other) (submits_of s c (later ++ Submits n text ∷ before)) (pair k other) (pair n text) i.0 i.1)
+    (i.0, submits_if (is_for c (current_era s (later ++ Submits n text ∷ before)).catalogue other) (submits_of s c (later ++ Submits n text ∷ before)) (pair k other) (pair n text) i.0 i.1)
 submitted_in s c n text (_ ∷ later) before h = submitted_in s c n text later before h
 
 pub all_committed_at : (c : ℕ) (log : Log) (xs : List (ℕ × Txn)) (i : ℕ) (n : ℕ) (text : Txn) → AllCommitted c log xs

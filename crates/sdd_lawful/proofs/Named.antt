@@ -78,7 +78,7 @@ module _ (g : Input) (rows : List (RelNo × Row)) (eras : Eras) (log : Log) (sou
       record {
         at_module = asked_module b d r.started r.read.asked;
         txn = subst IsTxn r.txn_is (attempt_txn b r.started);
-        conds = λ k q there. cond_exists cat (site.in_force (home_setting g b.class) (at_home g b.class r.read.start_log)).table b.class
+        conds = λ k q there. cond_exists cat (site.current_era (home_setting g b.class) (at_home g b.class r.read.start_log)).table b.class
             (ascending (fragments_in b.uses)) b.ts (p2_time b) d k q
             (λ f m. fragment_exists cat b.uses f (attempt_uses b r.started)
             (from_ascending (fragments_in b.uses) f (number_member (ascending (fragments_in b.uses)) f m)))

@@ -1,6 +1,6 @@
 -- A log in which no further list of classes was put in force has one era.
-use Rattle.sdd_lawful.proofs.All.{AreEras, AreErasOf, Catalogue, Committed, History, Input, IsEraOf, IsForce, IsOfEarlierEra, KeepsEras, Log, Redeclares, Some, [], ap, arith, begun, cond, era_of_itself, event_at, false, force_at, inl, inr, length, marks, nat_le, nat_tests, one_era, redeclares, refl, slice_get, slice_index_or, subst, suc, sym, true, true_or_false, zero, ℕ, ◌++◌, ◌-◌, ◌∙◌, ◌∷◌, ◌≡◌}
-use Rattle.sdd_laws.specs.All.{in_force}
+use Rattle.sdd_lawful.proofs.All.{AreEras, AreErasOf, Catalogue, Committed, History, Input, IsEra, IsEraOf, IsOfEarlierEra, KeepsEras, Log, Redeclares, Some, [], ap, arith, cond, era_of_itself, eras_begun, event_at, false, inl, inr, length, marks, nat_le, nat_tests, nth_era, one_era, redeclares, refl, slice_get, slice_index_or, subst, suc, sym, true, true_or_false, zero, ℕ, ◌++◌, ◌-◌, ◌∙◌, ◌∷◌, ◌≡◌}
+use Rattle.sdd_laws.specs.All.{catalogue_at}
 
 each_era : (cat : Catalogue) (k : ℕ) (a : ℕ × Catalogue) → slice_get (one_era cat) k ≡ Some a → IsEraOf cat a.1
 each_era cat zero a e = let p : (0, cat) ≡ a = cc in subst (λ (x : ℕ × Catalogue). IsEraOf cat x.1) p (era_of_itself cat)
@@ -12,7 +12,7 @@ no_next cat k b e = cc
 are_eras : (cat : Catalogue) → AreEras cat (one_era cat)
 are_eras cat = record { first = (cat, refl); rise = λ k a b e f. no_next cat k b f; each = each_era cat }
 
-in_one : (cat : Catalogue) (event : ℕ) → in_force cat (one_era cat) event ≡ cat
+in_one : (cat : Catalogue) (event : ℕ) → catalogue_at cat (one_era cat) event ≡ cat
 in_one cat event =
     elim (nat_le 0 event) as (λ b. (slice_index_or (one_era cat) (length (cond b (one_era cat) []) - 1) (0, cat)).1 ≡ cat) [ true ↦ refl | false ↦ refl ]
 
@@ -21,19 +21,19 @@ none_before [] before e = e
 none_before (Redeclares t ∷ later) before e = absurd (omega arith)
 none_before (_ ∷ later) before e = none_before later before e
 
-pub of_one_era : (g : Input) (log : Log) → IsForce (force_at g 0) → (force_at g 0).catalogue ≡ g.catalogue → redeclares log ≡ 0
+pub of_one_era : (g : Input) (log : Log) → IsEra (nth_era g 0) → (nth_era g 0).catalogue ≡ g.catalogue → redeclares log ≡ 0
     → AreErasOf g log (one_era g.catalogue)
-of_one_era g log force same none = record {
+of_one_era g log era same none = record {
   are_eras = are_eras g.catalogue;
-  force_is = λ later before is.
+  era_is = λ later before is.
       let z = none_before later before (ap redeclares (sym is) ∙ none) in
-      in_one g.catalogue (marks before) ∙ sym same ∙ ap (λ k. (force_at g k).catalogue) (sym z);
+      in_one g.catalogue (marks before) ∙ sym same ∙ ap (λ k. (nth_era g k).catalogue) (sym z);
   tabled = λ later before is.
       let z = none_before later before (ap redeclares (sym is) ∙ none) in
-      subst (λ k. IsForce (force_at g k)) (sym z) force;
+      subst (λ k. IsEra (nth_era g k)) (sym z) era;
 }
 
-begun_one : (cat : Catalogue) (event : ℕ) → begun (one_era cat) event ≡ 1
+begun_one : (cat : Catalogue) (event : ℕ) → eras_begun (one_era cat) event ≡ 1
 begun_one cat event = elim (true_or_false (nat_le 0 event)) [
   | inl p ↦ rw p refl
   | inr p ↦ absurd (grind (arith, nat_tests))

@@ -1,5 +1,5 @@
 -- The history of a permitted log keeps the law of rejections.
-use Rattle.sdd_lawful.proofs.All.{Act, AppliedBefore, AreErasOf, Attempt, ClassNo, Cond, D, DmNo, Does, Entry, Eras, Input, IsAgain, IsAttempt, IsConditionOf, IsPermitted, IsSound, IsStep, IsTable, KeepsRejections, List, Log, Msg, None, Queued, Rec, Records, Rejected, Setting, Site, Some, Stands, Start, Ts, TxnNo, [], active, again, allowed_act, ap, append_assoc, arith, bound, commit_act, conditions_of, d_step, event_at, first_of_filter, force_at, head_of, history, home, home_of, length, local_of, permitted_before, queue, redeclares, refl, setting_of, slice_get, spoils, step_way, subst, suc, sym, txn_no, view_of, ℕ, ◌++◌, ◌<◌, ◌∙◌, ◌∷◌, ◌≡◌}
+use Rattle.sdd_lawful.proofs.All.{Act, AppliedBefore, AreErasOf, Attempt, ClassNo, Cond, D, DmNo, Does, Entry, Eras, Input, IsAgain, IsAttempt, IsConditionOf, IsPermitted, IsSound, IsStep, IsTable, KeepsRejections, List, Log, Msg, None, Queued, Rec, Records, Rejected, Setting, Site, Some, Stands, Start, Ts, TxnNo, [], active, again, allowed_act, ap, append_assoc, arith, bound, commit_act, conditions_of, d_step, event_at, first_of_filter, head_of, history, home, home_of, length, local_of, nth_era, permitted_before, queue, redeclares, refl, setting_of, slice_get, spoils, step_way, subst, suc, sym, txn_no, view_of, ℕ, ◌++◌, ◌<◌, ◌∙◌, ◌∷◌, ◌≡◌}
 use Rattle.sdd_lawful.proofs.Answered.{IsReadIn, read_of_some}
 use Rattle.sdd_lawful.proofs.Applied.{applied_before}
 use Rattle.sdd_lawful.proofs.Classes.{at_home, further_back, home_setting}
@@ -10,7 +10,7 @@ use Rattle.sdd_lawful.proofs.Places.{place_rises, stands_there}
 use Rattle.sdd_lawful.proofs.Rejected.{rejecting, spoilt_by, touched_one}
 use Rattle.sdd_lawful.proofs.Started.{start_act_of, start_in}
 use Rattle.sdd_lawful.proofs.Starts.{p2_bound}
-use Rattle.sdd_laws.specs.All.{in_force}
+use Rattle.sdd_laws.specs.All.{catalogue_at}
 use Rattle.sdd_invariants.specs.site_module.SiteLog as site
 
 -- a Start is of the head of its queue
@@ -35,15 +35,15 @@ pub read_condition : (g : Input) (log : Log) (eras : Eras) (a : Attempt) (d : �
     → IsConditionOf g.catalogue eras (history log) a d q
 read_condition g log eras a d later before e are is x k q there =
     let s = start_event g log later before e a d is x in
-    let cat : in_force g.catalogue eras (event_at (history log) a.place) ≡ (force_at g (redeclares x.start_log)).catalogue = ap (in_force g.catalogue eras) s.2
-    ∙ are.force_is s.0 x.start_log s.1 in
-    let t : IsTable (in_force g.catalogue eras (event_at (history log) a.place)) (force_at g (redeclares x.start_log)).table = subst
-    (λ c. IsTable c (force_at g (redeclares x.start_log)).table) (sym cat) (are.tabled s.0 x.start_log s.1).table in
-    let same = conds_are g log eras a d later before e (force_at g (redeclares x.start_log)).table are is x t in
+    let cat : catalogue_at g.catalogue eras (event_at (history log) a.place) ≡ (nth_era g (redeclares x.start_log)).catalogue = ap (catalogue_at g.catalogue eras) s.2
+    ∙ are.era_is s.0 x.start_log s.1 in
+    let t : IsTable (catalogue_at g.catalogue eras (event_at (history log) a.place)) (nth_era g (redeclares x.start_log)).table = subst
+    (λ c. IsTable c (nth_era g (redeclares x.start_log)).table) (sym cat) (are.tabled s.0 x.start_log s.1).table in
+    let same = conds_are g log eras a d later before e (nth_era g (redeclares x.start_log)).table are is x t in
     record {
-      table = (force_at g (redeclares x.start_log)).table;
+      table = (nth_era g (redeclares x.start_log)).table;
       table_is = t;
-      there = member_of (conditions_of g.catalogue (force_at g (redeclares x.start_log)).table a d) k q (subst (λ ds. slice_get ds k ≡ Some q) same there);
+      there = member_of (conditions_of g.catalogue (nth_era g (redeclares x.start_log)).table a d) k q (subst (λ ds. slice_get ds k ≡ Some q) same there);
     }
 
 rejected_there : (g : Input) (log later before : Log) (class : ℕ) (txn : TxnNo) (attempt : ℕ) (d : DmNo) (by : ClassNo) (write : Ts) (sends : List (Site × Msg)) (n number : ℕ)

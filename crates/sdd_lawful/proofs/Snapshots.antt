@@ -94,8 +94,8 @@ snapshot_or s ts (Ticked n ∷ l) =
     snapshot_more s ts (Ticked n) l refl (λ class txn attempt dm sends e h. let t : false ≡ true = ap is_record e in cc) (snapshot_or s ts l)
 snapshot_or s ts (Submits n text ∷ l) =
     snapshot_more s ts (Submits n text) l refl (λ class txn attempt dm sends e h. let t : false ≡ true = ap is_record e in cc) (snapshot_or s ts l)
-snapshot_or s ts (Redeclared force t ∷ l) =
-    snapshot_more s ts (Redeclared force t) l refl (λ class txn attempt dm sends e h. let t : false ≡ true = ap is_record e in cc) (snapshot_or s ts l)
+snapshot_or s ts (Redeclared era t ∷ l) =
+    snapshot_more s ts (Redeclared era t) l refl (λ class txn attempt dm sends e h. let t : false ≡ true = ap is_record e in cc) (snapshot_or s ts l)
 
 -- an Answer at a data module to a READ with an attempt's timestamp is that attempt's
 

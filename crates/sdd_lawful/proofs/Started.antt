@@ -1,5 +1,5 @@
 -- The Starts of a history, as acts of the sites that run their classes.
-use Rattle.sdd_lawful.proofs.All.{Act, AllCommitted, Attempt, ClassNo, Did, Does, Entry, Input, IsAttempt, IsMadeAt, IsPermitted, IsSound, IsStartRecord, List, Log, Msg, Notes, Option, Rec, Records, Site, Some, Stands, Start, Submitted, Ts, TxnNo, Use, ap, arith, class_no, false, history, home, in_force, is_for, length, local_at, local_of, own_made, permitted_before, place_of_submit, record_of, refl, says_at, setting_of, submits_of, subst, sym, time_at, true, txn_no, ℕ, ◌++◌, ◌∙◌, ◌∷◌, ◌≡◌}
+use Rattle.sdd_lawful.proofs.All.{Act, AllCommitted, Attempt, ClassNo, Did, Does, Entry, Input, IsAttempt, IsMadeAt, IsPermitted, IsSound, IsStartRecord, List, Log, Msg, Notes, Option, Rec, Records, Site, Some, Stands, Start, Submitted, Ts, TxnNo, Use, ap, arith, class_no, current_era, false, history, home, is_for, length, local_at, local_of, own_made, permitted_before, place_of_submit, record_of, refl, says_at, setting_of, submits_of, subst, sym, time_at, true, txn_no, ℕ, ◌++◌, ◌∙◌, ◌∷◌, ◌≡◌}
 use Rattle.sdd_lawful.proofs.Classes.{IsForClass, IsGivenTo, at_home, class_given, given_in, home_setting, one_class}
 use Rattle.sdd_lawful.proofs.Homes.{home_small}
 use Rattle.sdd_lawful.proofs.Makers.{is_of_run, is_own, run_home}
@@ -121,7 +121,7 @@ given_of_start g log a x =
     let w = x.says.submitted in
     let p = place_of_submit g at x.before w.later a.txn x.says.text w.before w.is in
     let now : IsPermitted g (Submitted at a.txn ∷ p.rest) = permitted_before g p.later (Submitted at a.txn ∷ p.rest) (subst (IsPermitted g) p.is x.permitted.1) in
-    let of_class : IsForClass g a.class p.rest x.says.text = subst (λ l. is_for a.class (in_force (home_setting g a.class) l).catalogue x.says.text ≡ true) (sym p.local_is) w.of_class in
+    let of_class : IsForClass g a.class p.rest x.says.text = subst (λ l. is_for a.class (current_era (home_setting g a.class) l).catalogue x.says.text ≡ true) (sym p.local_is) w.of_class in
     record {
       given = record {
         later = p.later;

@@ -1,6 +1,6 @@
 -- The history of a permitted log keeps the law of Starts.
-use Rattle.sdd_lawful.proofs.All.{Act, AreErasOf, Attempt, Catalogue, Committed, CommittedBefore, Did, Does, Eras, Force, Input, IsAttempt, IsBound, IsCommitted, IsEraOf, IsMadeAt, IsOfSubmit, IsPermitted, IsSound, IsSubmitted, KeepsStarts, List, Log, Msg, None, Option, Records, Setting, Site, Some, Stands, Start, Submit, Submits, Submitted, T, TmNo, Ts, Txn, [], and_left, ap, append_assoc, arith, bound, class_at, class_for, class_no, clock, covered, covers, dec_le, eqb-true, event_at, false, filter, first_passes, force_at, force_is, head_of, history, home, home_fair, if◌then◌else◌, inl, inr, is_committed, is_for, is_some, length, local_of, lower_same_higher, marks, mul-add-mod_self_right, not, number_of, numbers_to, option_map, or_right, p2_of, permitted_before, place_of_act, promises, record_at, redeclares, refl, same_number, same_or_not, setting_of, slice_get, stamps, stamps_differ, starts_of, submits_of, subst, sym, time_at, tm_no, true, txn_at, txn_no, unwrap_or, ℕ, ◌%◌, ◌++◌, ◌<◌, ◌==◌, ◌∙◌, ◌∷◌, ◌≡◌, ◌≢◌, ◌≤◌}
-use Rattle.sdd_lawful.proofs.Classes.{IsForClass, IsGivenTo, at_home, force_there, further_back, home_by, home_setting, submit_local}
+use Rattle.sdd_lawful.proofs.All.{Act, AreErasOf, Attempt, Catalogue, Committed, CommittedBefore, Did, Does, Era, Eras, Input, IsAttempt, IsBound, IsCommitted, IsEraOf, IsMadeAt, IsOfSubmit, IsPermitted, IsSound, IsSubmitted, KeepsStarts, List, Log, Msg, None, Option, Records, Setting, Site, Some, Stands, Start, Submit, Submits, Submitted, T, TmNo, Ts, Txn, [], and_left, ap, append_assoc, arith, bound, class_at, class_for, class_no, clock, covered, covers, dec_le, eqb-true, era_is, event_at, false, filter, first_passes, head_of, history, home, home_fair, if◌then◌else◌, inl, inr, is_committed, is_for, is_some, length, local_of, lower_same_higher, marks, mul-add-mod_self_right, not, nth_era, number_of, numbers_to, option_map, or_right, p2_of, permitted_before, place_of_act, promises, record_at, redeclares, refl, same_number, same_or_not, setting_of, slice_get, stamps, stamps_differ, starts_of, submits_of, subst, sym, time_at, tm_no, true, txn_at, txn_no, unwrap_or, ℕ, ◌%◌, ◌++◌, ◌<◌, ◌==◌, ◌∙◌, ◌∷◌, ◌≡◌, ◌≢◌, ◌≤◌}
+use Rattle.sdd_lawful.proofs.Classes.{IsForClass, IsGivenTo, at_home, era_there, further_back, home_by, home_setting, submit_local}
 use Rattle.sdd_lawful.proofs.Commits.{Told, commit_class, commit_in, commit_made, commit_rec, commit_seen, one_commit}
 use Rattle.sdd_lawful.proofs.Counted.{numbered}
 use Rattle.sdd_lawful.proofs.Homes.{home_small, homes_differ, positive}
@@ -9,14 +9,14 @@ use Rattle.sdd_lawful.proofs.Places.{entries_in_order, event_there, place_rises,
 use Rattle.sdd_lawful.proofs.Started.{IsStartIn, act_local, given_of_attempt, given_of_start, start_act_of, start_in, start_made, start_of}
 use Rattle.sdd_lawful.proofs.Submissions.{IsSubmitIn, given_at, one_submit, same_submission, submit_in}
 use Rattle.sdd_invariants.specs.logs.Due.{home_of}
-use Rattle.sdd_laws.specs.All.{in_force}
+use Rattle.sdd_laws.specs.All.{catalogue_at}
 use Rattle.sdd_invariants.specs.site_module.SiteLog as site
 
 -- classes by the eras
 
 era_at : (g : Input) (log : Log) (eras : Eras) → AreErasOf g log eras → (later before : Log) → log ≡ later ++ before
-    → IsEraOf g.catalogue (force_at g (redeclares before)).catalogue
-era_at g log eras are later before is = subst (IsEraOf g.catalogue) (are.force_is later before is) (force_is g.catalogue eras are.are_eras (marks before))
+    → IsEraOf g.catalogue (nth_era g (redeclares before)).catalogue
+era_at g log eras are later before is = subst (IsEraOf g.catalogue) (are.era_is later before is) (era_is g.catalogue eras are.are_eras (marks before))
 
 class_within : (cat : Catalogue) (txn : Txn) → class_for cat txn ≤ length cat.classes
 class_within cat txn = elim (dec_le 1 (class_for cat txn)) [
@@ -28,7 +28,7 @@ class_within cat txn = elim (dec_le 1 (class_for cat txn)) [
 given_within : (g : Input) (log : Log) (eras : Eras) (n c : ℕ) (text : Txn) → AreErasOf g log eras → IsGivenTo g log n c text → c ≤ length g.catalogue.classes
 given_within g log eras n c text are w =
     let era = (era_at g log eras are (w.later ++ Submitted (home g.catalogue c) n ∷ []) w.rest (w.is ∙ sym (append_assoc w.later (Submitted (home g.catalogue c) n ∷ []) w.rest))).classes in
-    let at = class_within (force_at g (redeclares w.rest)).catalogue text in
+    let at = class_within (nth_era g (redeclares w.rest)).catalogue text in
     let e = w.class_is in omega arith
 
 pub start_within : (g : Input) (log : Log) (eras : Eras) (a : Attempt) → AreErasOf g log eras → IsStartIn g log a → a.class ≤ length g.catalogue.classes
@@ -37,11 +37,11 @@ start_within g log eras a are x = given_within g log eras a.txn a.class x.says.t
 -- the Submit of a Start
 
 pub event_of_submit : (g : Input) (log : Log) (eras : Eras) (n : ℕ) (later rest : Log) (at : Site) → AreErasOf g log eras → log ≡ later ++ Submitted at n ∷ rest
-    → in_force g.catalogue eras (event_at (history log) (length (history rest))) ≡ (force_at g (redeclares rest)).catalogue
+    → catalogue_at g.catalogue eras (event_at (history log) (length (history rest))) ≡ (nth_era g (redeclares rest)).catalogue
 event_of_submit g log eras n later rest at are is =
     let e : event_at (history log) (length (history rest)) ≡ marks rest =
     ap (λ l. event_at (history l) (length (history rest))) is ∙ event_there later (Submitted at n) rest (Submit (txn_no n)) refl in
-    ap (in_force g.catalogue eras) e ∙ are.force_is (later ++ Submitted at n ∷ []) rest (is ∙ sym (append_assoc later (Submitted at n ∷ []) rest))
+    ap (catalogue_at g.catalogue eras) e ∙ are.era_is (later ++ Submitted at n ∷ []) rest (is ∙ sym (append_assoc later (Submitted at n ∷ []) rest))
 
 submitted_of : (g : Input) (log : Log) (eras : Eras) → IsSound g.catalogue → IsPermitted g log → AreErasOf g log eras
     → (a : Attempt) → IsAttempt (history log) a → IsOfSubmit g.catalogue eras g.txns (history log) a
@@ -206,16 +206,16 @@ home_is g era of txn c e = elim (same_or_not c 0) [
       ap (λ k. home_by k txn) e ∙ here ∙ ap (λ n. T (tm_no n)) (sym same) ∙ sym there)
 ]
 
-pub for_class : (g : Input) (c : ℕ) (rest : Log) (txn : Txn) → class_for (force_at g (redeclares rest)).catalogue txn ≡ c → IsForClass g c rest txn
+pub for_class : (g : Input) (c : ℕ) (rest : Log) (txn : Txn) → class_for (nth_era g (redeclares rest)).catalogue txn ≡ c → IsForClass g c rest txn
 for_class g c rest txn e = elim (same_or_not c 0) [
   | inl p ↦ subst (λ k. IsForClass g k rest txn) (sym p) refl
   | inr p ↦ (let t_no : TmNo = tm_no (class_at g.catalogue c).tm.0 in
       let here : home g.catalogue c ≡ T t_no = rw p refl in
-      let k : class_for (site.in_force (setting_of g (T t_no)) (local_of g (T t_no) rest)).catalogue txn ≡ c = ap (λ (w : Force). class_for w.catalogue txn)
-      (force_there g t_no rest) ∙ e in
-      let q : is_for c (site.in_force (setting_of g (T t_no)) (local_of g (T t_no) rest)).catalogue txn ≡ true = or_right (c == 0) _
+      let k : class_for (site.current_era (setting_of g (T t_no)) (local_of g (T t_no) rest)).catalogue txn ≡ c = ap (λ (w : Era). class_for w.catalogue txn)
+      (era_there g t_no rest) ∙ e in
+      let q : is_for c (site.current_era (setting_of g (T t_no)) (local_of g (T t_no) rest)).catalogue txn ≡ true = or_right (c == 0) _
       (ap (λ y. y == c) k ∙ same_number c) in
-      subst (λ a. is_for c (site.in_force (setting_of g a) (local_of g a rest)).catalogue txn ≡ true) (sym here) q)
+      subst (λ a. is_for c (site.current_era (setting_of g a) (local_of g a rest)).catalogue txn ≡ true) (sym here) q)
 ]
 
 -- what is submitted before a transaction in its class is committed where it starts
@@ -244,21 +244,21 @@ commit_before g log a x n e =
 after_earlier : (g : Input) (log : Log) (eras : Eras) → IsSound g.catalogue → IsPermitted g log → AreErasOf g log eras
     → (a : Attempt) (n j k : ℕ) (txn : Txn) → IsAttempt (history log) a → IsSubmitted (history log) a.txn k
     → IsSubmitted (history log) n j → j < k → txn_at g n ≡ Some txn
-    → class_for (in_force g.catalogue eras (event_at (history log) j)) txn ≡ a.class → CommittedBefore (history log) n a.place
+    → class_for (catalogue_at g.catalogue eras (event_at (history log) j)) txn ≡ a.class → CommittedBefore (history log) n a.place
 after_earlier g log eras sound h are a n j k txn s p q l t c =
     let x = start_in g log a sound h s in
     let u = submit_in g log a.txn k h p in
     let v = submit_in g log n j h q in
     let z = entries_in_order log j k (Submit (txn_no n)) (Submit (txn_no a.txn)) (submit_made_at g log n j v) (submit_made_at g log a.txn k u) l in
-    let force = event_of_submit g log eras n v.later v.rest v.at are v.is in
-    let class : class_for (force_at g (redeclares v.rest)).catalogue txn ≡ a.class =
-    ap (λ f. class_for f txn) (sym force) ∙ ap (λ i. class_for (in_force g.catalogue eras (event_at (history log) i)) txn) v.place_is ∙ c in
+    let era = event_of_submit g log eras n v.later v.rest v.at are v.is in
+    let class : class_for (nth_era g (redeclares v.rest)).catalogue txn ≡ a.class =
+    ap (λ f. class_for f txn) (sym era) ∙ ap (λ i. class_for (catalogue_at g.catalogue eras (event_at (history log) i)) txn) v.place_is ∙ c in
     let now : IsPermitted g (Submitted v.at n ∷ v.rest) = permitted_before g v.later (Submitted v.at n ∷ v.rest) (subst (IsPermitted g) v.is h) in
     let y = given_at g v.rest v.at n now in
     let era = era_at g log eras are (v.later ++ Submitted v.at n ∷ []) v.rest (v.is ∙ sym (append_assoc v.later (Submitted v.at n ∷ []) v.rest)) in
     let at : v.at ≡ home g.catalogue a.class =
-    y.at_is ∙ ap (home_of (force_at g (redeclares y.earlier)).catalogue) t ∙ ap (λ i. home_of (force_at g i).catalogue (Some txn)) (sym (ap redeclares y.is))
-    ∙ home_is g (force_at g (redeclares v.rest)).catalogue era txn a.class class in
+    y.at_is ∙ ap (home_of (nth_era g (redeclares y.earlier)).catalogue) t ∙ ap (λ i. home_of (nth_era g i).catalogue (Some txn)) (sym (ap redeclares y.is))
+    ∙ home_is g (nth_era g (redeclares v.rest)).catalogue era txn a.class class in
     let is : u.rest ≡ z.between ++ Submitted (home g.catalogue a.class) n ∷ v.rest = z.is ∙ ap (λ i. z.between ++ Submitted i n ∷ v.rest) at in
     commit_before g log a x n
     (earlier_committed g log a x n txn z.between v.rest u.rest is (given_rest g log a x k h u) t (for_class g a.class v.rest txn class))

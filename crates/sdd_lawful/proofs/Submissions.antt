@@ -1,5 +1,5 @@
 -- Submissions: a transaction is given to a site right after the mark that submits it, and once.
-use Rattle.sdd_lawful.proofs.All.{Bool, Does, Entry, Event, Input, IsAllowed, IsPermitted, IsSubmitted, Log, Mark, Notes, Nothing, Records, Redeclare, Settle, Site, Some, Submit as Submission, Submitted, Tick, TxnNo, [], allowed_mark, ap, by_event, by_link, by_mark, by_redeclare, by_round, by_site, compare, due_by, false, force_at, history, inl, inr, length, mark_due, not, note_if, or_left, permitted_before, record_of, redeclares, refl, same_number, subst, sym, tail_marked, true, txn_at, txn_no, was_marked, ℕ, ◌++◌, ◌==◌, ◌∙◌, ◌∷◌, ◌≡◌}
+use Rattle.sdd_lawful.proofs.All.{Bool, Does, Entry, Event, Input, IsAllowed, IsPermitted, IsSubmitted, Log, Mark, Notes, Nothing, Records, Redeclare, Settle, Site, Some, Submit as Submission, Submitted, Tick, TxnNo, [], allowed_mark, ap, by_event, by_link, by_mark, by_redeclare, by_round, by_site, compare, due_by, false, history, inl, inr, length, mark_due, not, note_if, nth_era, or_left, permitted_before, record_of, redeclares, refl, same_number, subst, sym, tail_marked, true, txn_at, txn_no, was_marked, ℕ, ◌++◌, ◌==◌, ◌∙◌, ◌∷◌, ◌≡◌}
 use Rattle.sdd_lawful.proofs.Makers.{is_own, none_own}
 use Rattle.sdd_lawful.proofs.Places.{made_at}
 use Rattle.sdd_invariants.specs.All.{Submit}
@@ -29,7 +29,7 @@ pub record IsGivenAt (g : Input) (log : Log) (at : Site) (n : ℕ) : Type 0 wher
   pub number : TxnNo
   pub is : log ≡ Mark (Submit number) ∷ earlier
   pub number_is : number.0 ≡ n
-  pub at_is : at ≡ home_of (force_at g (redeclares earlier)).catalogue (txn_at g n)
+  pub at_is : at ≡ home_of (nth_era g (redeclares earlier)).catalogue (txn_at g n)
 
 no_note : {A : Type 0} (b : Bool) (at : Site) (n : ℕ) → note_if b ≡ Some (Submitted at n) → A
 no_note true at n p = let q : Notes ≡ Submitted at n = cc in cc
@@ -37,10 +37,10 @@ no_note false at n p = cc
 
 due_submit : (g : Input) (e : Event) (log : Log) (at : Site) (n : ℕ) → due_by g e log ≡ Some (Submitted at n) → IsGivenAt g (Mark e ∷ log) at n
 due_submit g (Submit k) log at n p =
-    let q : Submitted (home_of (force_at g (redeclares log)).catalogue (txn_at g k.0)) k.0 ≡ Submitted at n = cc in
-    let r : home_of (force_at g (redeclares log)).catalogue (txn_at g k.0) ≡ at = cc in
+    let q : Submitted (home_of (nth_era g (redeclares log)).catalogue (txn_at g k.0)) k.0 ≡ Submitted at n = cc in
+    let r : home_of (nth_era g (redeclares log)).catalogue (txn_at g k.0) ≡ at = cc in
     let w : k.0 ≡ n = cc in
-    record { earlier = log; number = k; is = refl; number_is = w; at_is = sym r ∙ ap (λ x. home_of (force_at g (redeclares log)).catalogue (txn_at g x)) w }
+    record { earlier = log; number = k; is = refl; number_is = w; at_is = sym r ∙ ap (λ x. home_of (nth_era g (redeclares log)).catalogue (txn_at g x)) w }
 due_submit g (Tick t k) log at n p = cc
 due_submit g Settle log at n p = cc
 due_submit g Redeclare log at n p = cc

@@ -73,7 +73,7 @@ applied_valid cat c (Did (Sends to m hand) ∷ l) h = applied_valid cat c l (les
 applied_valid cat c (Handed from m ∷ l) h = applied_valid cat c l (less_valid cat (Handed from m) l h)
 applied_valid cat c (Ticked n ∷ l) h = applied_valid cat c l (less_valid cat (Ticked n) l h)
 applied_valid cat c (Submits n text ∷ l) h = applied_valid cat c l (less_valid cat (Submits n text) l h)
-applied_valid cat c (Redeclared force t ∷ l) h = applied_valid cat c l (less_valid cat (Redeclared force t) l h)
+applied_valid cat c (Redeclared era t ∷ l) h = applied_valid cat c l (less_valid cat (Redeclared era t) l h)
 
 -- the rows with which a module begins
 
@@ -103,7 +103,7 @@ snapshots_valid s sound ts (Did (Sends to m hand) ∷ l) first h = snapshots_val
 snapshots_valid s sound ts (Handed from m ∷ l) first h = snapshots_valid s sound ts l first (less_valid s.catalogue (Handed from m) l h)
 snapshots_valid s sound ts (Ticked n ∷ l) first h = snapshots_valid s sound ts l first (less_valid s.catalogue (Ticked n) l h)
 snapshots_valid s sound ts (Submits n text ∷ l) first h = snapshots_valid s sound ts l first (less_valid s.catalogue (Submits n text) l h)
-snapshots_valid s sound ts (Redeclared force t ∷ l) first h = snapshots_valid s sound ts l first (less_valid s.catalogue (Redeclared force t) l h)
+snapshots_valid s sound ts (Redeclared era t ∷ l) first h = snapshots_valid s sound ts l first (less_valid s.catalogue (Redeclared era t) l h)
 
 put_together : (cat : Catalogue) (start es : Database) → AllByRecursion (IsEntry cat) start → AllByRecursion (IsEntry cat) es
     → AllByRecursion (IsEntry cat) (fold with_item start es)

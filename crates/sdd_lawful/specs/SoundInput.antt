@@ -1,8 +1,8 @@
 -- What is given is sound; and the eras of a log.
 use Rattle.std.specs.Prelude.{ℕ, ◌≡◌, ◌≤◌, ◌∷◌, ◌++◌, List, [], length}
 use Rattle.std.specs.List.{All}
-use Rattle.sdd_invariants.specs.All.{AreSubmittedOnce, Catalogue, D, Fits, FitsStart, Input, IsForce, IsHeld, IsSound, Log, Mark, PutsHeld, RelNo, Row, Submit, TxnNo, dm_no, force_at, marks, redeclares, rows_of, submits_in}
-use Rattle.sdd_laws.specs.All.{AreEras, Eras, IsFrom1To, IsModule, in_force}
+use Rattle.sdd_invariants.specs.All.{AreSubmittedOnce, Catalogue, D, Fits, FitsStart, Input, IsEra, IsHeld, IsSound, Log, Mark, PutsHeld, RelNo, Row, Submit, TxnNo, dm_no, marks, nth_era, redeclares, rows_of, submits_in}
+use Rattle.sdd_laws.specs.All.{AreEras, Eras, IsFrom1To, IsModule, catalogue_at}
 
 -- the catalogue is valid
 pub record IsSoundInput (g : Input) : Type 0 where
@@ -21,9 +21,9 @@ pub record HasSoundData (g : Input) (rows : List (RelNo × Row)) : Type 0 where
 -- which has its protocol table
 pub record AreErasOf (g : Input) (log : Log) (eras : Eras) : Type 0 where
   pub are_eras : AreEras g.catalogue eras
-  pub force_is : (later before : Log) → log ≡ later ++ before
-      → in_force g.catalogue eras (marks before) ≡ (force_at g (redeclares before)).catalogue
-  pub tabled : (later before : Log) → log ≡ later ++ before → IsForce (force_at g (redeclares before))
+  pub era_is : (later before : Log) → log ≡ later ++ before
+      → catalogue_at g.catalogue eras (marks before) ≡ (nth_era g (redeclares before)).catalogue
+  pub tabled : (later before : Log) → log ≡ later ++ before → IsEra (nth_era g (redeclares before))
 
 -- the eras of a log in which no further list of classes is put in force: the one of the catalogue
 abbrev pub one_era : Catalogue → Eras

@@ -1,6 +1,6 @@
 ghost use Rattle.std.specs.Prelude.{◌≡◌, ℕ, List, length};
 ghost use Rattle.std.specs.List.{AllZip};
-ghost use Rattle.sdd_invariants.specs.All.{Input, IsForce, IsLawful, IsPermitted, Log, RelNo, Row, TxnNo, force_at, history, redeclares, rows_in_fragment};
+ghost use Rattle.sdd_invariants.specs.All.{Input, IsEra, IsLawful, IsPermitted, Log, RelNo, Row, TxnNo, history, nth_era, redeclares, rows_in_fragment};
 ghost use Rattle.sdd_laws.specs.All.{AreAllApplied, AreFew, Eras, HasNoCycle, IsOrderable, IsReplyOf, IsSerial, KeepsEras, KeepsLaws, NumbersExist, TxnsExist, copy_at, items_of, run};
 ghost use Rattle.sdd_lawful.specs.SoundInput.{AreErasOf, AreNumbered, HasSoundData, IsSoundInput, SubmitGiven, one_era};
 
@@ -42,12 +42,12 @@ pub fn law_ordered()
 pub fn law_one_list()
     ensures acyclic { (given : Input) (rows : List (RelNo × Row)) (log : Log)
         → IsSoundInput given → HasSoundData given rows → IsPermitted given log
-        → IsForce (force_at given 0) → (force_at given 0).catalogue ≡ given.catalogue
+        → IsEra (nth_era given 0) → (nth_era given 0).catalogue ≡ given.catalogue
         → redeclares log ≡ 0 → AreNumbered given log
         → HasNoCycle given.catalogue (history log) }
     ensures orderable { (given : Input) (rows : List (RelNo × Row)) (log : Log)
         → IsSoundInput given → HasSoundData given rows → IsPermitted given log
-        → IsForce (force_at given 0) → (force_at given 0).catalogue ≡ given.catalogue
+        → IsEra (nth_era given 0) → (nth_era given 0).catalogue ≡ given.catalogue
         → redeclares log ≡ 0 → AreNumbered given log
         → IsOrderable given.catalogue (history log) }
 {}
@@ -57,17 +57,17 @@ pub fn law_one_list()
 pub fn law_lawful()
     ensures laws { (given : Input) (rows : List (RelNo × Row)) (log : Log)
         → IsSoundInput given → HasSoundData given rows → SubmitGiven given → IsLawful given log
-        → IsForce (force_at given 0) → (force_at given 0).catalogue ≡ given.catalogue
+        → IsEra (nth_era given 0) → (nth_era given 0).catalogue ≡ given.catalogue
         → redeclares log ≡ 0
         → KeepsLaws given.catalogue (one_era given.catalogue) rows given.txns (history log) }
     ensures acyclic { (given : Input) (rows : List (RelNo × Row)) (log : Log)
         → IsSoundInput given → HasSoundData given rows → SubmitGiven given → IsLawful given log
-        → IsForce (force_at given 0) → (force_at given 0).catalogue ≡ given.catalogue
+        → IsEra (nth_era given 0) → (nth_era given 0).catalogue ≡ given.catalogue
         → redeclares log ≡ 0
         → HasNoCycle given.catalogue (history log) }
     ensures orderable { (given : Input) (rows : List (RelNo × Row)) (log : Log)
         → IsSoundInput given → HasSoundData given rows → SubmitGiven given → IsLawful given log
-        → IsForce (force_at given 0) → (force_at given 0).catalogue ≡ given.catalogue
+        → IsEra (nth_era given 0) → (nth_era given 0).catalogue ≡ given.catalogue
         → redeclares log ≡ 0
         → IsOrderable given.catalogue (history log) }
 {}

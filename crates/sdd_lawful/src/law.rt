@@ -1,5 +1,5 @@
 ghost use Rattle.std.specs.Prelude.{◌≡◌, ◌<◌, ◌++◌, ◌∷◌, ℕ, List, length, Some};
-ghost use Rattle.sdd_invariants.specs.All.{Entry, Input, IsForce, IsPermitted, Log, Rec, RelNo, Row, force_at, history, marks, redeclares};
+ghost use Rattle.sdd_invariants.specs.All.{Entry, Input, IsEra, IsPermitted, Log, Rec, RelNo, Row, history, marks, nth_era, redeclares};
 ghost use Rattle.sdd_laws.specs.All.{Eras, KeepsAnswers, KeepsApplies, KeepsConditions, KeepsEras, KeepsRejections, KeepsStarts, KeepsUndeclared, Stands, event_at};
 ghost use Rattle.sdd_lawful.specs.SoundInput.{AreErasOf, HasSoundData, IsSoundInput, one_era};
 ghost use Rattle.sdd_lawful.specs.Made.{IsBefore, IsMadeAt, record_of};
@@ -59,8 +59,8 @@ pub fn law_undeclared()
 /// Where no further list of classes is put in force there is one era, that of the catalogue, and the
 /// history keeps the law of eras.
 pub fn law_one_era()
-    ensures eras { (given : Input) (log : Log) → IsForce (force_at given 0)
-        → (force_at given 0).catalogue ≡ given.catalogue → redeclares log ≡ 0
+    ensures eras { (given : Input) (log : Log) → IsEra (nth_era given 0)
+        → (nth_era given 0).catalogue ≡ given.catalogue → redeclares log ≡ 0
         → AreErasOf given log (one_era given.catalogue) }
     ensures kept { (given : Input) (log : Log)
         → KeepsEras given.catalogue (one_era given.catalogue) (history log) }

@@ -1,8 +1,8 @@
 -- A history that keeps the laws has no cycle of precedence.
-use Rattle.sdd_laws.proofs.All.{All, Catalogue, Committed, Eras, FitTogether, HasNoCycle, History, IsCommitted, IsDatabase, IsOrderable, IsSound, KeepsLaws, List, PutsHeld, RelNo, Row, Txn as Text, ap, base_of, begun, by_use, database_of, event_at, is_some, orderly_in_eras}
+use Rattle.sdd_laws.proofs.All.{All, Catalogue, Committed, Eras, FitTogether, HasNoCycle, History, IsCommitted, IsDatabase, IsOrderable, IsSound, KeepsLaws, List, PutsHeld, RelNo, Row, Txn as Text, ap, base_of, by_use, database_of, eras_begun, event_at, is_some, orderly_in_eras}
 use Rattle.sdd_laws.proofs.NumberedStarts.{one_start}
 use Rattle.sdd_laws.proofs.Deeds.{deeds, are_starts, are_applies, are_alone, are_apart}
-use Rattle.sdd_laws.proofs.Fitting.{frags_of, force, fits, meets}
+use Rattle.sdd_laws.proofs.Fitting.{frags_of, catalogue_of, fits, meets}
 use Rattle.sdd_laws.proofs.Reading.{reads_there}
 use Rattle.sdd_laws.proofs.Recorded.{snapshots_make_databases}
 use Rattle.sdd_laws.proofs.Precedes.{no_cycle_of_deeds}
@@ -19,8 +19,8 @@ acyclic_by_bases cat sound eras rows txns h fit laws bases =
     let alone = are_alone cat sound eras are rows txns h laws.starts laws.answers laws.applies laws.undeclared in
     let apart = are_apart cat sound eras are rows txns h laws.starts laws.answers laws.applies laws.redeclares in
     let orderly =
-    orderly_in_eras (deeds cat h) starts applies (λ p. begun eras (event_at h p.submit)) apart alone cat
-    (force cat sound eras are rows txns h exist fit.txns_fit laws.starts laws.answers laws.applies laws.redeclares laws.conditions bases)
+    orderly_in_eras (deeds cat h) starts applies (λ p. eras_begun eras (event_at h p.submit)) apart alone cat
+    (catalogue_of cat sound eras are rows txns h exist fit.txns_fit laws.starts laws.answers laws.applies laws.redeclares laws.conditions bases)
     frags_of
     (fits cat sound eras are rows txns h exist fit.txns_fit laws.starts laws.answers laws.applies laws.redeclares laws.conditions bases)
     (meets cat sound eras are rows txns h exist fit.txns_fit laws.starts laws.answers laws.applies laws.redeclares laws.conditions bases) in

@@ -45,7 +45,7 @@ pub use Rattle.sdd_laws.specs.Copied.{AreAppliedAlike}
 pub use Rattle.sdd_laws.specs.Deeds.{AppliedBefore, Asks, IsAnswered, IsApplied, IsSubmitted, Touches, TouchesOne, txn_at}
 pub use Rattle.sdd_laws.specs.Deeds.Asks.{by_no_class as at_each, by_use}
 pub use Rattle.sdd_laws.specs.Deeds.GoesTo.{by_change, by_no_class}
-pub use Rattle.sdd_laws.specs.Eras.{AreEras, Eras, begun, in_force}
+pub use Rattle.sdd_laws.specs.Eras.{AreEras, Eras, catalogue_at, eras_begun}
 pub use Rattle.sdd_laws.specs.Few.{AreFew, commits_of_others, is_commit_of_other, starts_of}
 pub use Rattle.sdd_laws.specs.Kept.{FitTogether, KeepsLaws}
 pub use Rattle.sdd_laws.specs.Ledger.{Ledger, Reads, gathered, snapshot, with_item, writers}

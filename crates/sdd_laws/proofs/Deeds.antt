@@ -1,5 +1,5 @@
 -- What the laws say of a history, as the deeds of its committed transactions.
-use Rattle.sdd_laws.proofs.All.{AppliedBefore, Applies, AreEras, Asks, Attempt, Catalogue, Committed, Deeds, Eras, ErasApart, History, IsAnswered, IsApplied, IsAttempt, IsCommitted, IsEarlier, IsModule, IsOfEarlierEra, IsSound, IsSubmitted, KeepsAnswers, KeepsApplies, KeepsEras, KeepsStarts, KeepsUndeclared, List, None, Option, RelNo, Row, Some, Starts, Touches, Ts, Txn as Text, ZeroAlone, ap, arith, at_each, begun, by_change, by_no_class, by_use, cases_lt, changes, commit_of, event_at, has_copy, inl, inr, is_some, module_of, ne_eqb, not, one_of_txn, one_submitted, option_map, p2_time, reads, refl, same_start, subst, sym, true, unwrap_or, ℕ, ◌<◌, ◌==◌, ◌∙◌, ◌≡◌, ◌≤◌}
+use Rattle.sdd_laws.proofs.All.{AppliedBefore, Applies, AreEras, Asks, Attempt, Catalogue, Committed, Deeds, Eras, ErasApart, History, IsAnswered, IsApplied, IsAttempt, IsCommitted, IsEarlier, IsModule, IsOfEarlierEra, IsSound, IsSubmitted, KeepsAnswers, KeepsApplies, KeepsEras, KeepsStarts, KeepsUndeclared, List, None, Option, RelNo, Row, Some, Starts, Touches, Ts, Txn as Text, ZeroAlone, ap, arith, at_each, by_change, by_no_class, by_use, cases_lt, changes, commit_of, eras_begun, event_at, has_copy, inl, inr, is_some, module_of, ne_eqb, not, one_of_txn, one_submitted, option_map, p2_time, reads, refl, same_start, subst, sym, true, unwrap_or, ℕ, ◌<◌, ◌==◌, ◌∙◌, ◌≡◌, ◌≤◌}
 use Rattle.sdd_laws.proofs.NumberedStarts.{one_start}
 use Rattle.sdd_laws.proofs.Reading.{reads_there}
 use Rattle.sdd_acyclic.specs.Deeds.{Txn}
@@ -182,7 +182,7 @@ module _ (cat : Catalogue) (sound : IsSound cat) (eras : Eras) (are : AreEras ca
     -- the era of a transaction is that of its Submit
 
     abbrev pub era_of : Placed → ℕ
-    era_of x = begun eras (event_at h x.submit)
+    era_of x = eras_begun eras (event_at h x.submit)
 
     of_earlier_era : (x y : Txn (deeds cat h)) → era_of x.no < era_of y.no → IsOfEarlierEra eras h x.no.txn y.no.txn
     of_earlier_era x y l =

@@ -1,5 +1,5 @@
 -- A transaction starts again only since another one was committed: each Start but the first has a writer of its own.
-use Rattle.sdd_laws.proofs.All.{AllByRecursion, Answer, Apply, AreFew, Arrive, Attempt, Bool, Catalogue, Commit, Committed, Eras, History, IsAgain, IsAttempt, IsCommitted, KeepsRejections, KeepsStarts, List, Nothing, Pass, Rec, Reject, Some, Stands, Start, Submit, Ts, Txn, Wait, [], ap, arith, cases_Bool, cases_lt, class_for, commits_of_others, cond, each_more, eq-eqb, eqb, eqb-true, event_at, false, filter, in_force, inl, inr, is_commit_of_other, is_start_of, length, length-le_from_is_member, list_any, nat_eq_equiv, ne_eqb, not, or_left, or_right, refl, same_Some, same_commit, same_start, starts_before, starts_of, subst, suc, sym, take, true, txn_at, txn_no, zero, ℕ, ◌+◌, ◌<◌, ◌||◌, ◌∙◌, ◌∷◌, ◌≡◌, ◌≢◌, ◌≤◌}
+use Rattle.sdd_laws.proofs.All.{AllByRecursion, Answer, Apply, AreFew, Arrive, Attempt, Bool, Catalogue, Commit, Committed, Eras, History, IsAgain, IsAttempt, IsCommitted, KeepsRejections, KeepsStarts, List, Nothing, Pass, Rec, Reject, Some, Stands, Start, Submit, Ts, Txn, Wait, [], ap, arith, cases_Bool, cases_lt, catalogue_at, class_for, commits_of_others, cond, each_more, eq-eqb, eqb, eqb-true, event_at, false, filter, inl, inr, is_commit_of_other, is_start_of, length, length-le_from_is_member, list_any, nat_eq_equiv, ne_eqb, not, or_left, or_right, refl, same_Some, same_commit, same_start, starts_before, starts_of, subst, suc, sym, take, true, txn_at, txn_no, zero, ℕ, ◌+◌, ◌<◌, ◌||◌, ◌∙◌, ◌∷◌, ◌≡◌, ◌≢◌, ◌≤◌}
 use Rattle.std.specs.List.{IsDistinct}
 use Rattle.sdd_laws.proofs.NumberedStarts.{one_start, start_counts}
 use Rattle.sdd_laws.proofs.Times.{condition_time}
@@ -109,8 +109,8 @@ module _ (cat : Catalogue) (eras : Eras) (txns : List Txn) (h : History) (starti
       starting.one_submit b.txn s.place t.place (subst (λ n. Stands h s.place (Submit (txn_no n))) e s.submitted) t.submitted in
       let text : s.txn ≡ t.txn = same_Some s.txn t.txn (sym s.txn_is ∙ ap (txn_at txns) e ∙ t.txn_is) in
       s.class_is
-      ∙ ap (λ k. class_for (in_force cat eras (event_at h k)) s.txn) at
-      ∙ ap (class_for (in_force cat eras (event_at h t.place))) text
+      ∙ ap (λ k. class_for (catalogue_at cat eras (event_at h k)) s.txn) at
+      ∙ ap (class_for (catalogue_at cat eras (event_at h t.place))) text
       ∙ sym t.class_is
 
   -- a later attempt has a greater timestamp

@@ -1,8 +1,8 @@
 -- The transactions of an era fit its catalogue, and meet the read conditions of its table.
-use Rattle.sdd_laws.proofs.All.{All, All-contains, AllByRecursion, AppliedBefore, AreEras, Attempt, Catalogue, Change, ChangeExists, Commit, Committed, Cond, Contains, Declared, Effect, Entry, Eras, ExistsIn, Fits as TextFits, FragNo, Fragment, History, IsAnswered, IsCommitted, IsConditionOf, IsCovered, IsDatabase, IsEraOf, IsFragment, IsFragmentOf, IsOfSubmit, IsSeen, IsSound, IsTable, KeepsAnswers, KeepsApplies, KeepsConditions, KeepsEras, KeepsStarts, List, Meets, None, NumbersExist, Rec, RelNo, Row, Some, Stands, TouchesOne, Txn as Text, [], all_at, ap, arith, ascending, ascending_back, at_member, base_of, begun, changes, cond, conditions, contains, declared, eq-eqb, eqb-true, event_at, false, frag_no, fragments_in, has_copy, in_force, is_some, length, lie_in_write_set, map, member_passes, module_of, ne_eqb, numbers_back, of_era, option_map, or_left, or_right, p2_time, reads, reads_at, refl, same_Some, slice_get, slice_index_or, subst, sym, true, txn_no, undeclared_conditions, write_set, write_set_in_era, ℕ, ◌-◌, ◌<◌, ◌==◌, ◌↔◌, ◌∙◌, ◌∷◌, ◌≡◌}
+use Rattle.sdd_laws.proofs.All.{All, All-contains, AllByRecursion, AppliedBefore, AreEras, Attempt, Catalogue, Change, ChangeExists, Commit, Committed, Cond, Contains, Declared, Effect, Entry, Eras, ExistsIn, Fits as TextFits, FragNo, Fragment, History, IsAnswered, IsCommitted, IsConditionOf, IsCovered, IsDatabase, IsEraOf, IsFragment, IsFragmentOf, IsOfSubmit, IsSeen, IsSound, IsTable, KeepsAnswers, KeepsApplies, KeepsConditions, KeepsEras, KeepsStarts, List, Meets, None, NumbersExist, Rec, RelNo, Row, Some, Stands, TouchesOne, Txn as Text, [], all_at, ap, arith, ascending, ascending_back, at_member, base_of, catalogue_at, changes, cond, conditions, contains, declared, eq-eqb, eqb-true, eras_begun, event_at, false, frag_no, fragments_in, has_copy, is_some, length, lie_in_write_set, map, member_passes, module_of, ne_eqb, numbers_back, of_era, option_map, or_left, or_right, p2_time, reads, reads_at, refl, same_Some, slice_get, slice_index_or, subst, sym, true, txn_no, undeclared_conditions, write_set, write_set_in_era, ℕ, ◌-◌, ◌<◌, ◌==◌, ◌↔◌, ◌∙◌, ◌∷◌, ◌≡◌}
 use Rattle.sdd_laws.proofs.Deeds.{Placed, deeds, are_starts}
-use Rattle.sdd_laws.proofs.InForce.{force_is}
-use Rattle.sdd_laws.proofs.Reading.{IsReadAt, class_covers, read_in_force, reads_there}
+use Rattle.sdd_laws.proofs.InForce.{era_is}
+use Rattle.sdd_laws.proofs.Reading.{IsReadAt, class_covers, read_at_event, reads_there}
 use Rattle.sdd_acyclic.specs.Fits.{Fits}
 
 -- a number of a list is there when they ascend
@@ -64,12 +64,12 @@ module _ (cat : Catalogue) (sound : IsSound cat) (eras : Eras) (are : AreEras ca
         (All-contains (λ (x : Change). contains (write_set cat s.txn) x.frag.0 ≡ true) t.changes m.0 of m.1)
 
     -- the catalogue of an era
-    abbrev pub force : ℕ → Catalogue
-    force n = (slice_index_or eras (n - 1) (0, cat)).1
+    abbrev pub catalogue_of : ℕ → Catalogue
+    catalogue_of n = (slice_index_or eras (n - 1) (0, cat)).1
 
     module _ (n : ℕ) where
       abbrev pub Member : Type 0
-      Member = Declared (of_era (deeds cat h) (λ p. begun eras (event_at h p.submit)) n)
+      Member = Declared (of_era (deeds cat h) (λ p. eras_begun eras (event_at h p.submit)) n)
 
       abbrev start_of : Member → Attempt
       start_of x = x.txn.item.no.txn.start
@@ -78,52 +78,52 @@ module _ (cat : Catalogue) (sound : IsSound cat) (eras : Eras) (are : AreEras ca
       submit_of x = starting.submitted (start_of x) x.txn.item.is.committed.started
 
       -- the catalogue in force at its Submit, and at its Start, is that of the era
-      same_force : (x : Member) → in_force cat eras (event_at h (submit_of x).place) ≡ force n
-      same_force x =
+      same_catalogue_at : (x : Member) → catalogue_at cat eras (event_at h (submit_of x).place) ≡ catalogue_of n
+      same_catalogue_at x =
           let s = submit_of x in
           let at : s.place ≡ x.txn.item.no.submit =
           starting.one_submit (start_of x).txn s.place x.txn.item.no.submit s.submitted x.txn.item.is.submitted in
-          ap (λ k. in_force cat eras (event_at h k)) at ∙ ap force x.txn.is
+          ap (λ k. catalogue_at cat eras (event_at h k)) at ∙ ap catalogue_of x.txn.is
 
-      started_in_force : (x : Member) → in_force cat eras (event_at h (start_of x).place) ≡ force n
-      started_in_force x =
+      started_in_catalogue : (x : Member) → catalogue_at cat eras (event_at h (start_of x).place) ≡ catalogue_of n
+      started_in_catalogue x =
           let era = kept.one_era (start_of x) x.txn.item.no.submit x.txn.item.is.committed.started x.txn.item.is.submitted in
-          ap force (sym era ∙ x.txn.is)
+          ap catalogue_of (sym era ∙ x.txn.is)
 
-      covered_there : (x : Member) → IsCovered (force n) (submit_of x).txn (start_of x).class
+      covered_there : (x : Member) → IsCovered (catalogue_of n) (submit_of x).txn (start_of x).class
       covered_there x =
-          subst (λ c. IsCovered c (submit_of x).txn (start_of x).class) (same_force x)
+          subst (λ c. IsCovered c (submit_of x).txn (start_of x).class) (same_catalogue_at x)
           (class_covers cat sound eras are txns h starting (start_of x) (submit_of x) x.class)
 
       read_there : (x : Member) (f : ℕ) → reads (start_of x) f ≡ true → IsReadAt cat (start_of x).class f
       read_there x f r = reads_there cat sound eras are txns h starting (start_of x) f x.txn.item.is.committed.started r
 
-      is_era : (x : Member) → IsEraOf cat (force n)
-      is_era x = subst (IsEraOf cat) (same_force x) (force_is cat eras are (event_at h (submit_of x).place))
+      is_era : (x : Member) → IsEraOf cat (catalogue_of n)
+      is_era x = subst (IsEraOf cat) (same_catalogue_at x) (era_is cat eras are (event_at h (submit_of x).place))
 
-      in_era : (x : Member) (f : ℕ) → IsFragment cat f → IsFragmentOf (force n) f
+      in_era : (x : Member) (f : ℕ) → IsFragment cat f → IsFragmentOf (catalogue_of n) f
       in_era x f there =
-          let same : length (force n).fragments ≡ length cat.fragments = ap (λ (z : List Fragment). length z) (is_era x).fragments in
+          let same : length (catalogue_of n).fragments ≡ length cat.fragments = ap (λ (z : List Fragment). length z) (is_era x).fragments in
           let to = there.1 in
           record { from = there.0; to = omega arith }
 
-      pub fits : Fits (force n) (declared (of_era (deeds cat h) (λ p. begun eras (event_at h p.submit)) n))
+      pub fits : Fits (catalogue_of n) (declared (of_era (deeds cat h) (λ p. eras_begun eras (event_at h p.submit)) n))
       fits =
           record {
             class = λ x. (covered_there x).class;
             fragment_read = λ x f r. in_era x f (read_there x f r).fragment;
             fragment_changed = λ x f c. in_era x f (changed_there x.txn.item.no.txn x.txn.item.is.committed f c);
             reads = λ x f r.
-                subst (λ k. is_some (reads_at k (start_of x).class f) ≡ true) (same_force x)
-                (read_in_force cat sound eras are txns h starting (start_of x) (submit_of x) f x.class r);
+                subst (λ k. is_some (reads_at k (start_of x).class f) ≡ true) (same_catalogue_at x)
+                (read_at_event cat sound eras are txns h starting (start_of x) (submit_of x) f x.class r);
             changes = λ x f c.
                 let s = submit_of x in
                 (covered_there x).writes f
-                (ap (λ w. contains w f) (write_set_in_era cat (force n) (is_era x) s.txn)
+                (ap (λ w. contains w f) (write_set_in_era cat (catalogue_of n) (is_era x) s.txn)
                 ∙ changed_written x.txn.item.no.txn x.txn.item.is.committed s f c);
           }
 
-      module _ (table : List Entry) (is_table : IsTable (force n) table) where
+      module _ (table : List Entry) (is_table : IsTable (catalogue_of n) table) where
         condition_is : (y : Member) (d : ℕ) (c : Cond)
             → Contains (conditions cat table (start_of y).class d (frags_of y.txn.item.no) (start_of y).ts (p2_time (start_of y))) c
             → IsConditionOf cat eras h (start_of y) d c
@@ -133,7 +133,7 @@ module _ (cat : Catalogue) (sound : IsSound cat) (eras : Eras) (are : AreEras ca
             let class : (a.class == 0) ≡ false = ne_eqb a.class 0 (λ z. absurd (omega arith)) in
             record {
               table = table;
-              table_is = subst (λ k. IsTable k table) (sym (started_in_force y)) is_table;
+              table_is = subst (λ k. IsTable k table) (sym (started_in_catalogue y)) is_table;
               there =
                   subst (λ b. Contains (cond b (undeclared_conditions cat a.ts) (conditions cat table a.class d (frags_of y.txn.item.no) a.ts (p2_time a))) c)
                   (sym class) m;
@@ -162,7 +162,7 @@ module _ (cat : Catalogue) (sound : IsSound cat) (eras : Eras) (are : AreEras ca
                   },
             )
 
-        pub meets : Meets cat table (declared (of_era (deeds cat h) (λ p. begun eras (event_at h p.submit)) n)) (λ x. frags_of x.txn.item.no)
+        pub meets : Meets cat table (declared (of_era (deeds cat h) (λ p. eras_begun eras (event_at h p.submit)) n)) (λ x. frags_of x.txn.item.no)
         meets =
             record {
               class = λ x.

@@ -1,8 +1,8 @@
 -- The catalogue in force is that of an era.
-use Rattle.sdd_laws.proofs.All.{AreEras, Catalogue, Eras, IsEraOf, [], arith, begun, cond, false, filter, in_force, length, nat_le, slice_get-get_or, slice_get_within, slice_index_or as get_or, true, ℕ, ◌-◌, ◌<◌, ◌∷◌, ◌≤◌}
+use Rattle.sdd_laws.proofs.All.{AreEras, Catalogue, Eras, IsEraOf, [], arith, catalogue_at, cond, eras_begun, false, filter, length, nat_le, slice_get-get_or, slice_get_within, slice_index_or as get_or, true, ℕ, ◌-◌, ◌<◌, ◌∷◌, ◌≤◌}
 
--- no more eras have begun than there are
-begun_few : (eras : Eras) (event : ℕ) → begun eras event ≤ length eras
+-- no more eras have eras_begun than there are
+begun_few : (eras : Eras) (event : ℕ) → eras_begun eras event ≤ length eras
 begun_few [] event = omega arith
 begun_few (e ∷ eras) event =
     let rest = begun_few eras event in
@@ -12,9 +12,9 @@ begun_few (e ∷ eras) event =
       | false ↦ omega arith
     ]
 
-pub force_is : (cat : Catalogue) (eras : Eras) → AreEras cat eras → (event : ℕ) → IsEraOf cat (in_force cat eras event)
-force_is cat eras are event =
-    let k = begun eras event - 1 in
+pub era_is : (cat : Catalogue) (eras : Eras) → AreEras cat eras → (event : ℕ) → IsEraOf cat (catalogue_at cat eras event)
+era_is cat eras are event =
+    let k = eras_begun eras event - 1 in
     let some = slice_get_within eras 0 (0, are.first.0) are.first.1 in
     let few = begun_few eras event in
     let within : k < length eras = omega arith in

@@ -1,7 +1,7 @@
 -- Where attempts read: at modules that have copies of what they read.
-use Rattle.sdd_laws.proofs.All.{AreEras, Attempt, Catalogue, Eras, History, IsAttempt, IsClass, IsCovered, IsFragment, IsModule, IsOfSubmit, IsSound, IsThere, KeepsStarts, List, None, Option, Some, Txn, ap, arith, ascending_back, at_member, cases_lt, contains, covered, event_at, fragments_in, has_copy, in_force, inl, inr, is_some, module_of, read_in_era, read_set, read_set_there, reads, reads_at, recursion_from_All, refl, served_read, subst, sym, true, unwrap_or, uses_in_era, uses_of, ℕ, ◌∙◌, ◌≡◌, ◌≤◌}
+use Rattle.sdd_laws.proofs.All.{AreEras, Attempt, Catalogue, Eras, History, IsAttempt, IsClass, IsCovered, IsFragment, IsModule, IsOfSubmit, IsSound, IsThere, KeepsStarts, List, None, Option, Some, Txn, ap, arith, ascending_back, at_member, cases_lt, catalogue_at, contains, covered, event_at, fragments_in, has_copy, inl, inr, is_some, module_of, read_in_era, read_set, read_set_there, reads, reads_at, recursion_from_All, refl, served_read, subst, sym, true, unwrap_or, uses_in_era, uses_of, ℕ, ◌∙◌, ◌≡◌, ◌≤◌}
 use Rattle.sdd_laws.proofs.Copied.{some_copy}
-use Rattle.sdd_laws.proofs.InForce.{force_is}
+use Rattle.sdd_laws.proofs.InForce.{era_is}
 
 -- a fragment is read at a module that has a copy of it
 pub record IsReadAt (cat : Catalogue) (class f : ℕ) : Type 0 where
@@ -30,11 +30,11 @@ module _ (cat : Catalogue) (sound : IsSound cat) where
 
   module _ (eras : Eras) (are : AreEras cat eras) (txns : List Txn) (h : History) (starts : KeepsStarts cat eras txns h) where
     -- the catalogue in force when an attempt's transaction was submitted
-    abbrev pub force_of : (a : Attempt) → IsOfSubmit cat eras txns h a → Catalogue
-    force_of a s = in_force cat eras (event_at h s.place)
+    abbrev pub catalogue_of_event : (a : Attempt) → IsOfSubmit cat eras txns h a → Catalogue
+    catalogue_of_event a s = catalogue_at cat eras (event_at h s.place)
 
-    pub class_covers : (a : Attempt) (s : IsOfSubmit cat eras txns h a) → 1 ≤ a.class → IsCovered (force_of a s) s.txn a.class
-    class_covers a s l = covered (force_of a s) s.txn a.class s.class_is l
+    pub class_covers : (a : Attempt) (s : IsOfSubmit cat eras txns h a) → 1 ≤ a.class → IsCovered (catalogue_of_event a s) s.txn a.class
+    class_covers a s l = covered (catalogue_of_event a s) s.txn a.class s.class_is l
 
     fragment_there : (a : Attempt) → IsOfSubmit cat eras txns h a → (f : ℕ) → reads a f ≡ true → IsFragment cat f
     fragment_there a s f r =
@@ -45,11 +45,11 @@ module _ (cat : Catalogue) (sound : IsSound cat) where
         (ap (λ u. contains (fragments_in u) f) (sym s.uses_are) ∙ r)
 
     -- what an attempt of a class reads, the class reads in its era
-    pub read_in_force : (a : Attempt) (s : IsOfSubmit cat eras txns h a) (f : ℕ) → 1 ≤ a.class → reads a f ≡ true
-        → is_some (reads_at (force_of a s) a.class f) ≡ true
-    read_in_force a s f l r =
-        let era = force_of a s in
-        let uses = uses_in_era cat era (force_is cat eras are (event_at h s.place)) s.txn in
+    pub read_at_event : (a : Attempt) (s : IsOfSubmit cat eras txns h a) (f : ℕ) → 1 ≤ a.class → reads a f ≡ true
+        → is_some (reads_at (catalogue_of_event a s) a.class f) ≡ true
+    read_at_event a s f l r =
+        let era = catalogue_of_event a s in
+        let uses = uses_in_era cat era (era_is cat eras are (event_at h s.place)) s.txn in
         (class_covers a s l).reads f (ap (λ u. contains (fragments_in u) f) (uses ∙ sym s.uses_are) ∙ r)
 
     pub reads_there : (a : Attempt) (f : ℕ) → IsAttempt h a → reads a f ≡ true → IsReadAt cat a.class f
@@ -58,10 +58,10 @@ module _ (cat : Catalogue) (sound : IsSound cat) where
         let there = fragment_there a s f r in
         elim (cases_lt 0 a.class) [
           | inl l ↦
-              let era = force_of a s in
-              let is_era = force_is cat eras are (event_at h s.place) in
+              let era = catalogue_of_event a s in
+              let is_era = era_is cat eras are (event_at h s.place) in
               let class = (class_covers a s l).class in
-              let in_era = read_in_force a s f l r in
+              let in_era = read_at_event a s f l r in
               let same = read_in_era cat era is_era a.class f class in_era in
               let few = is_era.classes in
               let to = class.to in

@@ -4,7 +4,7 @@ pub use Rattle.sdd_laws.specs.Applies.{IsEarlier, IsOfCommit, KeepsApplies}
 pub use Rattle.sdd_laws.specs.Committed.{entries_of}
 pub use Rattle.sdd_laws.specs.Conditions.{IsConditionOf, KeepsConditions, conditions_of}
 pub use Rattle.sdd_laws.specs.Deeds.{AnsweredBefore, AppliedBefore, Asks, ChangesOne, CommittedBefore, GoesTo, IsAnswered, IsApplied, IsSubmitted, StartedBefore, Touches, TouchesOne, by_change, by_no_class, by_use, txn_at}
-pub use Rattle.sdd_laws.specs.Eras.{AreEras, Eras, begun, in_force}
+pub use Rattle.sdd_laws.specs.Eras.{AreEras, Eras, catalogue_at, eras_begun}
 pub use Rattle.sdd_laws.specs.Few.{AreFew}
 pub use Rattle.sdd_laws.specs.Kept.{FitTogether, KeepsLaws}
 pub use Rattle.sdd_laws.specs.Numbers.{NamesOneOf, TxnsExist}

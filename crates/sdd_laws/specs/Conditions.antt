@@ -8,7 +8,7 @@ use Rattle.sdd_protocol.specs.declared.entry.Entry.{Entry}
 use Rattle.sdd_order.specs.Attempts.{Attempt, Committed, IsAttempt, IsCommitted, p2_time}
 use Rattle.sdd_order.specs.Places.{event_at}
 use Rattle.sdd_laws.specs.Deeds.{IsAnswered, AppliedBefore, TouchesOne}
-use Rattle.sdd_laws.specs.Eras.{Eras, in_force}
+use Rattle.sdd_laws.specs.Eras.{Eras, catalogue_at}
 
 -- the conditions of an attempt at module d, by a protocol table
 abbrev pub conditions_of : Catalogue → List Entry → Attempt → ℕ → List Cond
@@ -19,7 +19,7 @@ conditions_of cat table a d =
 -- a condition of an attempt at module d, by the table of the catalogue in force at its Start
 pub record IsConditionOf (cat : Catalogue) (eras : Eras) (h : History) (a : Attempt) (d : ℕ) (c : Cond) : Type 0 where
   pub table : List Entry
-  pub table_is : IsTable (in_force cat eras (event_at h a.place)) table
+  pub table_is : IsTable (catalogue_at cat eras (event_at h a.place)) table
   pub there : Contains (conditions_of cat table a d) c
 
 -- Each attempt that is answered, committed or not: a transaction of the class, committed anywhere in the history, that

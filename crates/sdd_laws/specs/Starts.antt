@@ -8,7 +8,7 @@ use Rattle.sdd_lang.specs.declared.transaction.Txn.{Txn}
 use Rattle.sdd_order.specs.Attempts.{Attempt, Committed, IsAttempt, IsCommitted, HasCommit, p2_time}
 use Rattle.sdd_order.specs.Places.{event_at}
 use Rattle.sdd_laws.specs.Deeds.{txn_at, IsSubmitted, CommittedBefore}
-use Rattle.sdd_laws.specs.Eras.{Eras, in_force}
+use Rattle.sdd_laws.specs.Eras.{Eras, catalogue_at}
 
 -- the transaction of an attempt is submitted before, and the attempt has the class that covers it by the catalogue in
 -- force then, and its uses
@@ -18,7 +18,7 @@ pub record IsOfSubmit (cat : Catalogue) (eras : Eras) (txns : List Txn) (h : His
   pub before : place < a.place
   pub txn : Txn
   pub txn_is : txn_at txns a.txn ≡ Some txn
-  pub class_is : a.class ≡ class_for (in_force cat eras (event_at h place)) txn
+  pub class_is : a.class ≡ class_for (catalogue_at cat eras (event_at h place)) txn
   pub uses_are : a.uses ≡ uses_of cat txn
 
 -- how many Starts of transaction n stand before a place
@@ -53,7 +53,7 @@ pub record KeepsStarts (cat : Catalogue) (eras : Eras) (txns : List Txn) (h : Hi
       → IsSubmitted h a.txn j → IsSubmitted h b.txn k → j ≤ k
   -- a transaction starts only after those that were submitted before it in its class are committed
   pub after_earlier : (a : Attempt) (n j k : ℕ) (txn : Txn) → IsAttempt h a → IsSubmitted h a.txn k
-      → IsSubmitted h n j → j < k → txn_at txns n ≡ Some txn → class_for (in_force cat eras (event_at h j)) txn ≡ a.class
+      → IsSubmitted h n j → j < k → txn_at txns n ≡ Some txn → class_for (catalogue_at cat eras (event_at h j)) txn ≡ a.class
       → CommittedBefore h n a.place
   -- a committed transaction has one Commit, by its last Start
   pub one_commit : (n i j k l : ℕ) → HasCommit h n i k → HasCommit h n j l → k ≡ l

@@ -2,13 +2,13 @@
 pub use Rattle.sdd_attempt.proofs.Queueing.{other_way as flip_same}
 pub use Rattle.sdd_attempt.proofs.site_module.Finding.{found_at, one_of}
 pub use Rattle.sdd_attempt.proofs.site_module.lang.catalog.Found.{both_empty}
-pub use Rattle.sdd_attempt.specs.All.{Act, AreDue, Attempt, Bases, Catalogue, D, Deliver, Did, DmNo, Down, Each, Event, Force, Handed, Held, Lose, MAX_LINK_MESSAGES, MAX_RUN_EVENTS, Msg, Queued, Redeclare, Redeclared, Repeat, Resend, Sends, Setting, Settle, Site, Submit, Submits, T, Tick, Ticked, Ticking, TmNo, Txn, TxnNo, U, Up, are_linked, attempt_due, bound_of, commit_act, first_some, head_of, is_empty, is_over, links, log_after, numbers_to, or_else, pushed, records_of, records_of_act, same_site, send_due, sends_of, sends_of_act, sites, tail_of, ticked, time_at, tm_no}
+pub use Rattle.sdd_attempt.specs.All.{Act, AreDue, Attempt, Bases, Catalogue, D, Deliver, Did, DmNo, Down, Each, Era, Event, Handed, Held, Lose, MAX_LINK_MESSAGES, MAX_RUN_EVENTS, Msg, Queued, Redeclare, Redeclared, Repeat, Resend, Sends, Setting, Settle, Site, Submit, Submits, T, Tick, Ticked, Ticking, TmNo, Txn, TxnNo, U, Up, are_linked, attempt_due, bound_of, commit_act, first_some, head_of, is_empty, is_over, links, log_after, numbers_to, or_else, pushed, records_of, records_of_act, same_site, send_due, sends_of, sends_of_act, sites, tail_of, ticked, time_at, tm_no}
 pub use Rattle.sdd_dm.proofs.ByClass.{first_none as first_nowhere}
 pub use Rattle.sdd_dm.specs.Copies.{classes_of}
 pub use Rattle.sdd_log.specs.Due.{does_at, due_by, hand_due, hand_number, hand_on, hand_with, home_of, mark_due, next, next_at, next_in, next_number, note_if, site_due}
 pub use Rattle.sdd_log.specs.Entries.{Does, Entry, Hand, Input, Log, Mark, Notes, Redeclares, Round, Submitted, history, marks, with_event}
 pub use Rattle.sdd_log.specs.Lawful.{EndsByLimit, IsLawful, IsTheLog, IsWithin, is_past, puts_past}
-pub use Rattle.sdd_log.specs.Locals.{beginning, force_at, local_of, redeclares, setting_of, txn_at, with_force, with_submit}
+pub use Rattle.sdd_log.specs.Locals.{beginning, local_of, nth_era, redeclares, setting_of, txn_at, with_era, with_submit}
 pub use Rattle.sdd_log.specs.Marks.{after_mark, from_event, greatest_bound, left, mark_from, mark_of, next_mark}
 pub use Rattle.sdd_log.specs.Permitted.{AreSubmittedOnce, IsAllowed, IsDueAt, IsPermitted, by_event, by_link, by_mark, by_redeclare, by_round, by_site, is_new_mark, one_if, submits_by, submits_in, was_marked}
 pub use Rattle.sdd_log.specs.Resting.{AllHanded, AllLinked, AtEach, EndsIn, IsFirst, IsLinkOf, IsMarked, Remain, Rests, Takes, TakesRounds, Waits, from_one, settles_before}

@@ -1,5 +1,5 @@
 -- At first nothing is due at any site.
-use Rattle.sdd_log.proofs.All.{Act, Bases, D, Force, Input, List, None, Option, Redeclared, Rests, Setting, Site, Some, T, U, [], ap, base_of, beginning, classes_of, does_at, first_nowhere, first_some, force_at, map, mark_of, next, next_at, next_in, numbers_to, refl, setting_of, site_due, sites, ℕ, ◌∷◌, ◌≡◌}
+use Rattle.sdd_log.proofs.All.{Act, Bases, D, Era, Input, List, None, Option, Redeclared, Rests, Setting, Site, Some, T, U, [], ap, base_of, beginning, classes_of, does_at, first_nowhere, first_some, map, mark_of, next, next_at, next_in, nth_era, numbers_to, refl, setting_of, site_due, sites, ℕ, ◌∷◌, ◌≡◌}
 use Rattle.sdd_log.proofs.FirstHand.{none_to_hand}
 use Rattle.sdd_log.proofs.Ticking.{or_both}
 use Rattle.sdd_log.proofs.Completing.{next_is_mark}
@@ -14,10 +14,10 @@ first_map : {A B C : Type 0} (f : B → Option C) (h : A → B) (xs : List A) �
 first_map f h [] k = refl
 first_map f h (x ∷ xs) k = or_both (f (h x)) (first_some f (map h xs)) (k x) (first_map f h xs k)
 
-none_t : (s : Setting) (force : Force) (bases : Bases) → tm.next s bases (Redeclared force 0 ∷ []) ≡ None
-none_t s force bases =
-    let v : tm_views.View = tm_views.view_of s (Redeclared force 0 ∷ []) in
-    let k : ℕ → tm_views.ClassView = tm_views.class_view s (Redeclared force 0 ∷ []) in
+none_t : (s : Setting) (era : Era) (bases : Bases) → tm.next s bases (Redeclared era 0 ∷ []) ≡ None
+none_t s era bases =
+    let v : tm_views.View = tm_views.view_of s (Redeclared era 0 ∷ []) in
+    let k : ℕ → tm_views.ClassView = tm_views.class_view s (Redeclared era 0 ∷ []) in
     or_both (first_some (tm.exchange_due s.catalogue bases) (map k (tm_views.runs s))) _
     (first_map (tm.exchange_due s.catalogue bases) k (tm_views.runs s) (λ c. refl))
     (or_both (first_some (tm.null_due v) (map k (tm_views.runs s))) _ (first_map (tm.null_due v) k (tm_views.runs s) (λ c. refl))
@@ -40,7 +40,7 @@ none_d s bases =
 
 none_here : (g : Input) (at : Site) (bases : Bases) → next_in g at bases (beginning g at) ≡ None
 none_here g U bases = none_u (setting_of g U) bases
-none_here g (T t) bases = none_t (setting_of g (T t)) (force_at g 0) bases
+none_here g (T t) bases = none_t (setting_of g (T t)) (nth_era g 0) bases
 none_here g (D d) bases = none_d (setting_of g (D d)) bases
 
 does_none : (at : Site) (o : Option Act) → o ≡ None → does_at at o ≡ None

@@ -1,5 +1,5 @@
 -- What holds of each entry of a site's log, wherever it may come, holds of the log that a permitted log gives the site.
-use Rattle.sdd_log.proofs.All.{Act, AreSubmittedOnce, Bool, Did, Does, Each, Entry, Event, Force, Hand, Handed, Input, IsAllowed, IsDueAt, IsLawful, IsPermitted, Log, Mark, Msg, None, Notes, Option, Redeclare, Redeclared, Redeclares, Settle, Site, Some, Submit, Submits, Submitted, T, Tick, Ticked, Txn, [], beginning, by_event, by_link, by_mark, by_redeclare, by_round, by_site, due_by, false, force_at, if◌then◌else◌, local_of, mark_due, note_if, redeclares, refl, same_is, same_site, subst, suc, sym, true, txn_at, with_force, with_submit, ℕ, ◌∷◌, ◌≡◌}
+use Rattle.sdd_log.proofs.All.{Act, AreSubmittedOnce, Bool, Did, Does, Each, Entry, Era, Event, Hand, Handed, Input, IsAllowed, IsDueAt, IsLawful, IsPermitted, Log, Mark, Msg, None, Notes, Option, Redeclare, Redeclared, Redeclares, Settle, Site, Some, Submit, Submits, Submitted, T, Tick, Ticked, Txn, [], beginning, by_event, by_link, by_mark, by_redeclare, by_round, by_site, due_by, false, if◌then◌else◌, local_of, mark_due, note_if, nth_era, redeclares, refl, same_is, same_site, subst, suc, sym, true, txn_at, with_era, with_submit, ℕ, ◌∷◌, ◌≡◌}
 use Rattle.sdd_log.proofs.NewMarks.{lawful_permitted}
 use Rattle.sdd_attempt.specs.site_module.SiteLog as site
 
@@ -56,7 +56,7 @@ pub record HoldsOfEach (g : Input) (at : Site) (P : site.Log → site.Entry → 
   pub handed : (log : Log) → IsPermitted g log → (from : Site) (n : ℕ) (m : Msg) → IsAllowed g log (Hand from at n m) → Each P (local_of g at log) → P (local_of g at log) (Handed from m)
   pub ticked : (log : Log) → IsPermitted g log → (n : ℕ) → Each P (local_of g at log) → P (local_of g at log) (Ticked n)
   pub submits : (log : Log) → IsPermitted g log → (n : ℕ) (t : Txn) → IsAllowed g log (Submitted at n) → txn_at g n ≡ Some t → Each P (local_of g at log) → P (local_of g at log) (Submits n t)
-  pub redeclared : (l : site.Log) (k t : ℕ) → Each P l → P l (Redeclared (force_at g k) t)
+  pub redeclared : (l : site.Log) (k t : ℕ) → Each P l → P l (Redeclared (nth_era g k) t)
   pub did : (log : Log) (act : Act) → IsPermitted g log → IsDueAt g log at act → Each P (local_of g at log) → P (local_of g at log) (Did act)
 
 each_if : (P : site.Log → site.Entry → Type 0) (b : Bool) (k l : site.Log) → (b ≡ true → Each P k) → Each P l → Each P (if b then k else l)
@@ -67,13 +67,13 @@ each_submit : (P : site.Log → site.Entry → Type 0) (n : ℕ) (o : Option Txn
 each_submit P n None l f h = h
 each_submit P n (Some t) l f h = (f t refl, h)
 
-each_beginning : (g : Input) (at : Site) (P : site.Log → site.Entry → Type 0) → ((l : site.Log) (k t : ℕ) → Each P l → P l (Redeclared (force_at g k) t)) → Each P (beginning g at)
+each_beginning : (g : Input) (at : Site) (P : site.Log → site.Entry → Type 0) → ((l : site.Log) (k t : ℕ) → Each P l → P l (Redeclared (nth_era g k) t)) → Each P (beginning g at)
 each_beginning g (T t) P f = (f [] 0 0 tt, tt)
 each_beginning g _ P f = tt
 
-each_force : (at : Site) (P : site.Log → site.Entry → Type 0) (force : Force) (t : ℕ) (l : site.Log) → P l (Redeclared force t) → Each P l → Each P (with_force at force t l)
-each_force (T n) P force t l f h = (f, h)
-each_force _ P force t l f h = h
+every_era : (at : Site) (P : site.Log → site.Entry → Type 0) (era : Era) (t : ℕ) (l : site.Log) → P l (Redeclared era t) → Each P l → Each P (with_era at era t l)
+every_era (T n) P era t l f h = (f, h)
+every_era _ P era t l f h = h
 
 pub each_local : (g : Input) (at : Site) (P : site.Log → site.Entry → Type 0) → HoldsOfEach g at P → (log : Log) → IsPermitted g log → Each P (local_of g at log)
 each_local g at P c [] h = each_beginning g at P c.redeclared
@@ -82,7 +82,7 @@ each_local g at P c (Mark (Tick t n) ∷ log) h =
     each_if P (same_site at (T t)) (Ticked n ∷ local_of g at log) (local_of g at log) (λ e. (c.ticked log h.1 n i, i)) i
 each_local g at P c (Redeclares t ∷ log) h =
     let i = each_local g at P c log h.1 in
-    each_force at P (force_at g (suc (redeclares log))) t (local_of g at log) (c.redeclared (local_of g at log) (suc (redeclares log)) t i) i
+    every_era at P (nth_era g (suc (redeclares log))) t (local_of g at log) (c.redeclared (local_of g at log) (suc (redeclares log)) t i) i
 each_local g at P c (Submitted to n ∷ log) h =
     let i = each_local g at P c log h.1 in
     each_if P (same_site at to) (with_submit n (txn_at g n) (local_of g at log)) (local_of g at log)

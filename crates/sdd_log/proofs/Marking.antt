@@ -1,5 +1,5 @@
 -- What the mark of an event leaves, where nothing else was due.
-use Rattle.sdd_log.proofs.All.{Act, AllHanded, Bases, Bool, D, Down, Event, Force, Input, IsMarked, List, Log, MAX_RUN_EVENTS, Mark, None, Notes, Option, Redeclares, Rests, Site, Some, T, Tick, Ticked, TmNo, U, Up, [], base_of, delivered, does_at, due_by, false, first_some, force_at, if◌then◌else◌, is_past, le-ltb, link_of, local_of, marks, next, next_at, next_in, redeclares, refl, same_is, same_site, setting_of, site_due, sites, subst, suc, sym, takes_part, true, with_force, ℕ, ◌∙◌, ◌∷◌, ◌≡◌, ◌≤◌}
+use Rattle.sdd_log.proofs.All.{Act, AllHanded, Bases, Bool, D, Down, Era, Event, Input, IsMarked, List, Log, MAX_RUN_EVENTS, Mark, None, Notes, Option, Redeclares, Rests, Site, Some, T, Tick, Ticked, TmNo, U, Up, [], base_of, delivered, does_at, due_by, false, first_some, if◌then◌else◌, is_past, le-ltb, link_of, local_of, marks, next, next_at, next_in, nth_era, redeclares, refl, same_is, same_site, setting_of, site_due, sites, subst, suc, sym, takes_part, true, with_era, ℕ, ◌∙◌, ◌∷◌, ◌≡◌, ◌≤◌}
 use Rattle.sdd_log.proofs.Steps.{AllNone, all_none, none_any_base}
 use Rattle.sdd_log.proofs.Ticking.{none_by_redeclare, none_by_tick}
 use Rattle.sdd_attempt.specs.site_module.SiteLog as site
@@ -103,16 +103,16 @@ handed_still log e t same h a b part = h a b (sym (part_marked b e log t) ∙ pa
 
 -- a list of classes is put in force
 
-pub forced_none : (g : Input) (x : Site) (bases : Bases) (force : Force) (t : ℕ) (l : site.Log)
-    → next_in g x bases l ≡ None → next_in g x bases (with_force x force t l) ≡ None
-forced_none g (T n) bases force t l k = none_by_redeclare (setting_of g (T n)) bases l force t k
-forced_none g _ bases force t l k = k
+pub no_redeclare : (g : Input) (x : Site) (bases : Bases) (era : Era) (t : ℕ) (l : site.Log)
+    → next_in g x bases l ≡ None → next_in g x bases (with_era x era t l) ≡ None
+no_redeclare g (T n) bases era t l k = none_by_redeclare (setting_of g (T n)) bases l era t k
+no_redeclare g _ bases era t l k = k
 
 redeclared_none : (g : Input) (log : Log) (t : ℕ) → site_due g log ≡ None → site_due g (Redeclares t ∷ log) ≡ None
 redeclared_none g log t k =
     let more : Log = Redeclares t ∷ log in
     none_at_all (next_at g log) (next_at g more) (sites g.catalogue.tms g.catalogue.dms) (λ x i.
-    forced_none g x (base_of g more) (force_at g (suc (redeclares log))) t (local_of g x log)
+    no_redeclare g x (base_of g more) (nth_era g (suc (redeclares log))) t (local_of g x log)
     (none_any_base g x (base_of g log) (base_of g more) (local_of g x log) i)) (all_none (next_at g log) (sites g.catalogue.tms g.catalogue.dms) k)
 
 pub part_redeclared : (x : Site) (t : ℕ) (log : Log) → takes_part x (Redeclares t ∷ log) ≡ takes_part x log

@@ -1,5 +1,5 @@
 -- A transaction is given to its module, and the module does what is due.
-use Rattle.sdd_log.proofs.All.{Act, AreDue, Input, IsLawful, IsMarked, IsWithin, List, Log, Mark, None, Rests, Site, Some, Submit, Submits, Submitted, Txn, TxnNo, U, [], base_of, calls_of, false, force_at, home_of, local_of, next_at, next_in, puts_past, redeclares, refl, same_here, same_site, sends_of, site_due, sites, sym, takes_part, true, txn_at, ℕ, ◌∙◌, ◌∷◌, ◌≡◌}
+use Rattle.sdd_log.proofs.All.{Act, AreDue, Input, IsLawful, IsMarked, IsWithin, List, Log, Mark, None, Rests, Site, Some, Submit, Submits, Submitted, Txn, TxnNo, U, [], base_of, calls_of, false, home_of, local_of, next_at, next_in, nth_era, puts_past, redeclares, refl, same_here, same_site, sends_of, site_due, sites, sym, takes_part, true, txn_at, ℕ, ◌∙◌, ◌∷◌, ◌≡◌}
 use Rattle.sdd_log.proofs.Steps.{after_acts, AllNone, Settled, all_none, has_site, none_any_base, nothing_due, steps}
 use Rattle.sdd_log.proofs.Acts.{handed_acts, takes_part_acts, within_acts}
 use Rattle.sdd_log.proofs.Handing.{delivered_acts, no_mark_acts}
@@ -18,7 +18,7 @@ own_local g at n txn log is = rw (same_here at, is) refl
 
 -- the site of a transaction that is submitted after the log
 abbrev pub home_in : Input → TxnNo → Log → Site
-home_in g n log = home_of (force_at g (redeclares log)).catalogue (txn_at g n.0)
+home_in g n log = home_of (nth_era g (redeclares log)).catalogue (txn_at g n.0)
 
 abbrev pub submitted : Input → TxnNo → Log → Log
 submitted g n log = Submitted (home_in g n log) n.0 ∷ Mark (Submit n) ∷ log

@@ -1,7 +1,7 @@
 -- The names of this crate and of those below it that the crates above cite, passed on from one place. Declares nothing.
 pub use Rattle.sdd_log.specs.Due.{due_by, extended, mark_due, next, note_if}
 pub use Rattle.sdd_log.specs.Entries.{Does, Hand, Input, Log, Mark, Notes, Redeclares, Round, Submitted, history, marks}
-pub use Rattle.sdd_log.specs.Locals.{force_at, local_of, redeclares, setting_of, txn_at, with_force, with_submit}
+pub use Rattle.sdd_log.specs.Locals.{local_of, nth_era, redeclares, setting_of, txn_at, with_era, with_submit}
 pub use Rattle.sdd_log.specs.Permitted.{IsAllowed, IsPermitted, by_event, by_link, by_mark, by_redeclare, by_round, by_site, is_new_mark, was_marked}
 pub use Rattle.sdd_log.specs.Snapshots.{base_of}
 pub use Rattle.sdd_log.specs.Traffic.{calls_of, handed, link_of, message_at, puts, sent, takes_part}
@@ -56,7 +56,7 @@ pub use Rattle.sdd_log.specs.net.declared.packet.Packet.TheVariants.{Ack, Messag
 pub use Rattle.sdd_log.specs.pipe.Pipe.{Pipe, empty_pipe, greatest, head, head_processed, last_write, one_or_none, passed, passed_by, put, raised, touches, write_time}
 pub use Rattle.sdd_log.specs.protocol.Conditions.{cond_of, undeclared_conditions}
 pub use Rattle.sdd_log.specs.protocol.declared.protocol.Protocol.TheVariants.{P1, P2, P3}
-pub use Rattle.sdd_log.specs.site_module.SiteLog.{Act, Bases, Did, Each, Entry, Force, Handed, Records, Redeclared, Sends, Setting, Submits, Ticked, hands, in_force, sends_of_act, submits}
+pub use Rattle.sdd_log.specs.site_module.SiteLog.{Act, Bases, Did, Each, Entry, Era, Handed, Records, Redeclared, Sends, Setting, Submits, Ticked, current_era, hands, sends_of_act, submits}
 pub use Rattle.sdd_log.specs.tm.Due.{by_ask, exchange_due, null_at}
 pub use Rattle.sdd_log.specs.tm.Views.{HoldCounts, Question, holds, holds_acted, holds_handed, is_idle, on_hold, runs}
 pub use Rattle.sdd_log.specs.umod.Due.{by_exchange, by_hold, by_release, by_start, hold_due, hold_to, is_holding, release_due, start_of}

@@ -8,7 +8,7 @@ use Rattle.sdd_tm.specs.Due as tm
 use Rattle.sdd_umod.specs.Due as um
 use Rattle.sdd_log.specs.Entries.{Entry, Mark, Hand, Submitted, Notes, Does, Log, Input}
 use Rattle.sdd_log.specs.Traffic.{link_of, handed, message_at, is_down, takes_part, all_links}
-use Rattle.sdd_log.specs.Locals.{redeclares, force_at, txn_at, local_of, setting_of}
+use Rattle.sdd_log.specs.Locals.{redeclares, nth_era, txn_at, local_of, setting_of}
 use Rattle.sdd_log.specs.Snapshots.{base_of}
 use Rattle.sdd_log.specs.Marks.{next_mark}
 
@@ -24,7 +24,7 @@ note_if b = if b then Some Notes else None
 
 -- what an event makes due, said of the log before its mark
 abbrev pub due_by : Input → Event → Log → Option Entry
-due_by g (Submit n) log = Some (Submitted (home_of (force_at g (redeclares log)).catalogue (txn_at g n.0)) n.0)
+due_by g (Submit n) log = Some (Submitted (home_of (nth_era g (redeclares log)).catalogue (txn_at g n.0)) n.0)
 due_by g (Deliver a b k) log = note_if (is_none (packet_at k (link_of a b log)))
 due_by g (Lose a b k) log = note_if (is_none (packet_at k (link_of a b log)))
 due_by g (Repeat a b k) log = note_if (is_none (packet_at k (link_of a b log)))

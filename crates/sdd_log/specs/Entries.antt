@@ -1,6 +1,6 @@
 -- The one log of everything, newest first, and its history.
 use Rattle.std.specs.Prelude.{ℕ, suc, List, [], ◌∷◌, ◌++◌, map}
-use Rattle.sdd_attempt.specs.All.{Act, Catalogue, Event, Force, History, Msg, Nothing, RelNo, Row, Site, Txn, records_of_act, txn_no}
+use Rattle.sdd_attempt.specs.All.{Act, Catalogue, Era, Event, History, Msg, Nothing, RelNo, Row, Site, Txn, records_of_act, txn_no}
 use Rattle.sdd_attempt.specs.history.declared.record.Rec.TheVariants.{Submit as Submission}
 
 -- An entry. `Mark` is an event of the schedule or of a round; `Round` begins a round of these events; `Redeclares` puts
@@ -23,7 +23,7 @@ Log = List Entry
 -- which each data module begins; the transactions by their numbers, from 1; and the events.
 pub record Input : Type 0 where
   pub catalogue : Catalogue
-  pub forces : List Force
+  pub eras : List Era
   pub rows : List (List (RelNo × Row))
   pub txns : List Txn
   pub events : List Event

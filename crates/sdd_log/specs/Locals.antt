@@ -1,11 +1,11 @@
 -- The log of each site, as the log of everything gives it.
 use Rattle.std.specs.Prelude.{ℕ, suc, ◌-◌, if◌then◌else◌, List, [], ◌∷◌, slice_get, slice_index_or, Option, Some, None}
-use Rattle.sdd_attempt.specs.All.{D, Did, Event, Force, Handed, IsTable, Redeclared, RelNo, Row, Setting, Site, Submits, T, Tick, Ticked, Txn, U, same_site}
+use Rattle.sdd_attempt.specs.All.{D, Did, Era, Event, Handed, IsTable, Redeclared, RelNo, Row, Setting, Site, Submits, T, Tick, Ticked, Txn, U, same_site}
 use Rattle.sdd_attempt.specs.site_module.SiteLog as site
 use Rattle.sdd_log.specs.Entries.{Input, Log, Mark, Redeclares, Hand, Submitted, Does}
 
 -- a list of classes is in force with the protocol table of its catalogue
-pub record IsForce (f : Force) : Type 0 where
+pub record IsEra (f : Era) : Type 0 where
   pub table : IsTable f.catalogue f.table
 
 -- how often a further list of classes was put in force
@@ -15,8 +15,8 @@ redeclares (Redeclares t ∷ log) = suc (redeclares log)
 redeclares (_ ∷ log) = redeclares log
 
 -- list k, counted from 0
-abbrev pub force_at : Input → ℕ → Force
-force_at g k = slice_index_or g.forces k (record { catalogue = g.catalogue; table = [] })
+abbrev pub nth_era : Input → ℕ → Era
+nth_era g k = slice_index_or g.eras k (record { catalogue = g.catalogue; table = [] })
 
 abbrev pub txn_at : Input → ℕ → Option Txn
 txn_at g n = slice_get g.txns (n - 1)
@@ -24,14 +24,14 @@ txn_at g n = slice_get g.txns (n - 1)
 -- a transaction module begins with the first list in force
 abbrev pub beginning : Input → Site → site.Log
 beginning g U = []
-beginning g (T t) = Redeclared (force_at g 0) 0 ∷ []
+beginning g (T t) = Redeclared (nth_era g 0) 0 ∷ []
 beginning g (D d) = []
 
 -- and further lists concern transaction modules alone
-abbrev pub with_force : Site → Force → ℕ → site.Log → site.Log
-with_force U force t log = log
-with_force (T n) force t log = Redeclared force t ∷ log
-with_force (D d) force t log = log
+abbrev pub with_era : Site → Era → ℕ → site.Log → site.Log
+with_era U era t log = log
+with_era (T n) era t log = Redeclared era t ∷ log
+with_era (D d) era t log = log
 
 abbrev pub with_tick : Site → Event → site.Log → site.Log
 with_tick at (Tick t n) log = if same_site at (T t) then Ticked n ∷ log else log
@@ -45,7 +45,7 @@ with_submit n (Some txn) log = Submits n txn ∷ log
 abbrev pub local_of : Input → Site → Log → site.Log
 local_of g at [] = beginning g at
 local_of g at (Mark e ∷ log) = with_tick at e (local_of g at log)
-local_of g at (Redeclares t ∷ log) = with_force at (force_at g (suc (redeclares log))) t (local_of g at log)
+local_of g at (Redeclares t ∷ log) = with_era at (nth_era g (suc (redeclares log))) t (local_of g at log)
 local_of g at (Hand from to n m ∷ log) = if same_site at to then Handed from m ∷ local_of g at log else local_of g at log
 local_of g at (Submitted to n ∷ log) = if same_site at to then with_submit n (txn_at g n) (local_of g at log) else local_of g at log
 local_of g at (Does by act ∷ log) = if same_site at by then Did act ∷ local_of g at log else local_of g at log

@@ -26,7 +26,7 @@ catalogue_of_different_rows = record {
 abbrev pub given_different_rows : Input
 given_different_rows = record {
   catalogue = catalogue_of_different_rows;
-  forces =
+  eras =
       (record {
         catalogue = catalogue_of_different_rows;
         table =

@@ -57,7 +57,7 @@ classes_of_further_classes_1 = record {
 abbrev pub given_further_classes : Input
 given_further_classes = record {
   catalogue = catalogue_of_further_classes;
-  forces =
+  eras =
       (record {
         catalogue = classes_of_further_classes_0;
         table =

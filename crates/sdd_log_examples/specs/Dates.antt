@@ -27,7 +27,7 @@ catalogue_of_deleted_and_put = record {
 abbrev pub given_deleted_and_put : Input
 given_deleted_and_put = record {
   catalogue = catalogue_of_deleted_and_put;
-  forces =
+  eras =
       (record {
         catalogue = catalogue_of_deleted_and_put;
         table =

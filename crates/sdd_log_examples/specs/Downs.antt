@@ -25,7 +25,7 @@ catalogue_of_down_and_up = record {
 abbrev pub given_down_and_up : Input
 given_down_and_up = record {
   catalogue = catalogue_of_down_and_up;
-  forces =
+  eras =
       (record {
         catalogue = catalogue_of_down_and_up;
         table =
@@ -81,7 +81,7 @@ catalogue_of_stays_down = record {
 abbrev pub given_stays_down : Input
 given_stays_down = record {
   catalogue = catalogue_of_stays_down;
-  forces =
+  eras =
       (record {
         catalogue = catalogue_of_stays_down;
         table =
@@ -135,7 +135,7 @@ catalogue_of_down_twice = record {
 abbrev pub given_down_twice : Input
 given_down_twice = record {
   catalogue = catalogue_of_down_twice;
-  forces =
+  eras =
       (record {
         catalogue = catalogue_of_down_twice;
         table =

@@ -27,7 +27,7 @@ catalogue_of_not_rejected = record {
 abbrev pub given_not_rejected : Input
 given_not_rejected = record {
   catalogue = catalogue_of_not_rejected;
-  forces =
+  eras =
       (record {
         catalogue = catalogue_of_not_rejected;
         table =
@@ -98,7 +98,7 @@ catalogue_of_not_held = record {
 abbrev pub given_not_held : Input
 given_not_held = record {
   catalogue = catalogue_of_not_held;
-  forces =
+  eras =
       (record {
         catalogue = catalogue_of_not_held;
         table =

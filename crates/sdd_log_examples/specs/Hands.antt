@@ -26,7 +26,7 @@ catalogue_of_from_two_senders = record {
 abbrev pub given_from_two_senders : Input
 given_from_two_senders = record {
   catalogue = catalogue_of_from_two_senders;
-  forces =
+  eras =
       (record {
         catalogue = catalogue_of_from_two_senders;
         table =
@@ -92,7 +92,7 @@ catalogue_of_two_at_once = record {
 abbrev pub given_two_at_once : Input
 given_two_at_once = record {
   catalogue = catalogue_of_two_at_once;
-  forces =
+  eras =
       (record {
         catalogue = catalogue_of_two_at_once;
         table =

@@ -25,7 +25,7 @@ catalogue_of_put_and_query = record {
 abbrev pub given_put_and_query : Input
 given_put_and_query = record {
   catalogue = catalogue_of_put_and_query;
-  forces =
+  eras =
       (record {
         catalogue = catalogue_of_put_and_query;
         table =
@@ -85,7 +85,7 @@ catalogue_of_lost_and_repeated = record {
 abbrev pub given_lost_and_repeated : Input
 given_lost_and_repeated = record {
   catalogue = catalogue_of_lost_and_repeated;
-  forces =
+  eras =
       (record {
         catalogue = catalogue_of_lost_and_repeated;
         table =
@@ -153,7 +153,7 @@ catalogue_of_two_copies = record {
 abbrev pub given_two_copies : Input
 given_two_copies = record {
   catalogue = catalogue_of_two_copies;
-  forces =
+  eras =
       (record {
         catalogue = catalogue_of_two_copies;
         table =

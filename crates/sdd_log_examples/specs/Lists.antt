@@ -61,7 +61,7 @@ classes_of_conditions_of_a_list_1 = record {
 abbrev pub given_conditions_of_a_list : Input
 given_conditions_of_a_list = record {
   catalogue = catalogue_of_conditions_of_a_list;
-  forces =
+  eras =
       (record {
         catalogue = classes_of_conditions_of_a_list_0;
         table =
@@ -161,7 +161,7 @@ classes_of_undeclared_before_a_list_1 = record {
 abbrev pub given_undeclared_before_a_list : Input
 given_undeclared_before_a_list = record {
   catalogue = catalogue_of_undeclared_before_a_list;
-  forces =
+  eras =
       (record {
         catalogue = classes_of_undeclared_before_a_list_0;
         table =

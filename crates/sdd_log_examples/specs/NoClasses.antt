@@ -25,7 +25,7 @@ catalogue_of_released_without_classes = record {
 abbrev pub given_released_without_classes : Input
 given_released_without_classes = record {
   catalogue = catalogue_of_released_without_classes;
-  forces =
+  eras =
       (record {
         catalogue = catalogue_of_released_without_classes;
         table =

@@ -27,7 +27,7 @@ catalogue_of_null_before_start = record {
 abbrev pub given_null_before_start : Input
 given_null_before_start = record {
   catalogue = catalogue_of_null_before_start;
-  forces =
+  eras =
       (record {
         catalogue = catalogue_of_null_before_start;
         table =

@@ -28,7 +28,7 @@ catalogue_of_passed_by_a_read = record {
 abbrev pub given_passed_by_a_read : Input
 given_passed_by_a_read = record {
   catalogue = catalogue_of_passed_by_a_read;
-  forces =
+  eras =
       (record {
         catalogue = catalogue_of_passed_by_a_read;
         table =
@@ -99,7 +99,7 @@ catalogue_of_asks_two = record {
 abbrev pub given_asks_two : Input
 given_asks_two = record {
   catalogue = catalogue_of_asks_two;
-  forces =
+  eras =
       (record {
         catalogue = catalogue_of_asks_two;
         table =
@@ -166,7 +166,7 @@ catalogue_of_asked_while_active = record {
 abbrev pub given_asked_while_active : Input
 given_asked_while_active = record {
   catalogue = catalogue_of_asked_while_active;
-  forces =
+  eras =
       (record {
         catalogue = catalogue_of_asked_while_active;
         table =

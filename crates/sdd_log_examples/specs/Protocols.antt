@@ -27,7 +27,7 @@ catalogue_of_reads_before = record {
 abbrev pub given_reads_before : Input
 given_reads_before = record {
   catalogue = catalogue_of_reads_before;
-  forces =
+  eras =
       (record {
         catalogue = catalogue_of_reads_before;
         table =
@@ -96,7 +96,7 @@ catalogue_of_one_time_at_two = record {
 abbrev pub given_one_time_at_two : Input
 given_one_time_at_two = record {
   catalogue = catalogue_of_one_time_at_two;
-  forces =
+  eras =
       (record {
         catalogue = catalogue_of_one_time_at_two;
         table =
@@ -172,7 +172,7 @@ catalogue_of_up_to_its_own_time = record {
 abbrev pub given_up_to_its_own_time : Input
 given_up_to_its_own_time = record {
   catalogue = catalogue_of_up_to_its_own_time;
-  forces =
+  eras =
       (record {
         catalogue = catalogue_of_up_to_its_own_time;
         table =

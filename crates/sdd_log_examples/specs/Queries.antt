@@ -25,7 +25,7 @@ catalogue_of_overflow = record {
 abbrev pub given_overflow : Input
 given_overflow = record {
   catalogue = catalogue_of_overflow;
-  forces =
+  eras =
       (record {
         catalogue = catalogue_of_overflow;
         table =
@@ -83,7 +83,7 @@ catalogue_of_two_steps = record {
 abbrev pub given_two_steps : Input
 given_two_steps = record {
   catalogue = catalogue_of_two_steps;
-  forces =
+  eras =
       (record {
         catalogue = catalogue_of_two_steps;
         table =
@@ -141,7 +141,7 @@ catalogue_of_reads_nothing = record {
 abbrev pub given_reads_nothing : Input
 given_reads_nothing = record {
   catalogue = catalogue_of_reads_nothing;
-  forces =
+  eras =
       (record {
         catalogue = catalogue_of_reads_nothing;
         table =

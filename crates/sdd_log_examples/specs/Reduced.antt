@@ -28,7 +28,7 @@ catalogue_of_reduced_at_two = record {
 abbrev pub given_reduced_at_two : Input
 given_reduced_at_two = record {
   catalogue = catalogue_of_reduced_at_two;
-  forces =
+  eras =
       (record {
         catalogue = catalogue_of_reduced_at_two;
         table =

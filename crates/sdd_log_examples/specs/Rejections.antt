@@ -27,7 +27,7 @@ catalogue_of_rejected_by_two = record {
 abbrev pub given_rejected_by_two : Input
 given_rejected_by_two = record {
   catalogue = catalogue_of_rejected_by_two;
-  forces =
+  eras =
       (record {
         catalogue = catalogue_of_rejected_by_two;
         table =

@@ -26,7 +26,7 @@ catalogue_of_released = record {
 abbrev pub given_released : Input
 given_released = record {
   catalogue = catalogue_of_released;
-  forces =
+  eras =
       (record {
         catalogue = catalogue_of_released;
         table =

@@ -25,7 +25,7 @@ catalogue_of_two_undeclared = record {
 abbrev pub given_two_undeclared : Input
 given_two_undeclared = record {
   catalogue = catalogue_of_two_undeclared;
-  forces =
+  eras =
       (record {
         catalogue = catalogue_of_two_undeclared;
         table =

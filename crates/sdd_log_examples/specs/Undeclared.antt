@@ -26,7 +26,7 @@ catalogue_of_undeclared = record {
 abbrev pub given_undeclared : Input
 given_undeclared = record {
   catalogue = catalogue_of_undeclared;
-  forces =
+  eras =
       (record {
         catalogue = catalogue_of_undeclared;
         table =

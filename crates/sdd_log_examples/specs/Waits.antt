@@ -27,7 +27,7 @@ catalogue_of_rejected = record {
 abbrev pub given_rejected : Input
 given_rejected = record {
   catalogue = catalogue_of_rejected;
-  forces =
+  eras =
       (record {
         catalogue = catalogue_of_rejected;
         table =
@@ -101,7 +101,7 @@ catalogue_of_waits_for_two = record {
 abbrev pub given_waits_for_two : Input
 given_waits_for_two = record {
   catalogue = catalogue_of_waits_for_two;
-  forces =
+  eras =
       (record {
         catalogue = catalogue_of_waits_for_two;
         table =
@@ -174,7 +174,7 @@ catalogue_of_earlier_and_later = record {
 abbrev pub given_earlier_and_later : Input
 given_earlier_and_later = record {
   catalogue = catalogue_of_earlier_and_later;
-  forces =
+  eras =
       (record {
         catalogue = catalogue_of_earlier_and_later;
         table =

@@ -8,7 +8,7 @@ use Rattle.sdd_history.specs.declared.record.Rec.{Rec}
 use Rattle.sdd_wire.specs.declared.msg.Msg.{Msg}
 
 -- the classes in force: a catalogue with its protocol table
-pub record Force : Type 0 where
+pub record Era : Type 0 where
   pub catalogue : Catalogue
   pub table : List line.Entry
 
@@ -24,7 +24,7 @@ pub data Entry : Type 0 where
   Handed : Site → Msg → Entry
   Ticked : ℕ → Entry
   Submits : ℕ → Txn → Entry
-  Redeclared : Force → ℕ → Entry
+  Redeclared : Era → ℕ → Entry
   Did : Act → Entry
 
 abbrev pub Log : Type 0
@@ -41,10 +41,10 @@ abbrev pub Bases : Type 0
 Bases = ℕ → Database
 
 -- the classes that were put in force last; before that all, without a table
-abbrev pub in_force : Setting → Log → Force
-in_force s [] = record { catalogue = s.catalogue; table = [] }
-in_force s (Redeclared force t ∷ log) = force
-in_force s (_ ∷ log) = in_force s log
+abbrev pub current_era : Setting → Log → Era
+current_era s [] = record { catalogue = s.catalogue; table = [] }
+current_era s (Redeclared era t ∷ log) = era
+current_era s (_ ∷ log) = current_era s log
 
 -- what acts send and record
 

@@ -1,5 +1,5 @@
 -- All that the modules ask: what is next on a lawful log fits the module to which it goes.
-use Rattle.sdd_obligations.proofs.All.{Bool, D, DmNo, Entry, Facts, FitsForce, FitsSite, Hand, Input, IsFit, IsGood, IsLawful, IsWithin, Log, Mark, Msg, Redeclares, Site, Some, Submitted, T, Tick, TmNo, Txn, U, arith, base_of, class_for, clock, false, fits_submit, force_at, greatest_bound, height, if◌then◌else◌, lawful_permitted, local_of, next, redeclares, setting_of, sound_whole, subst, suc, sym, tm_no, top, true, txn_at, ℕ, ◌/◌, ◌<◌, ◌==◌, ◌^◌, ◌∷◌, ◌≡◌, ◌≤◌}
+use Rattle.sdd_obligations.proofs.All.{Bool, D, DmNo, Entry, Facts, FitsEra, FitsSite, Hand, Input, IsFit, IsGood, IsLawful, IsWithin, Log, Mark, Msg, Redeclares, Site, Some, Submitted, T, Tick, TmNo, Txn, U, arith, base_of, class_for, clock, false, fits_submit, greatest_bound, height, if◌then◌else◌, lawful_permitted, local_of, next, nth_era, redeclares, setting_of, sound_whole, subst, suc, sym, tm_no, top, true, txn_at, ℕ, ◌/◌, ◌<◌, ◌==◌, ◌^◌, ◌∷◌, ◌≡◌, ◌≤◌}
 use Rattle.sdd_obligations.proofs.Put.{databases}
 use Rattle.sdd_obligations.proofs.Early.{clock_below, height_below, is_under}
 use Rattle.sdd_obligations.proofs.OfNext.{of_next}
@@ -76,15 +76,15 @@ submit_fits g good log (T t) n txn l w e f =
       fresh = is_new g log (T t) n txn (fit_of g good).small l e f;
     }
 submit_fits g good log (D d) n txn l w e f =
-    let h : D d ≡ home_of (force_at g (redeclares log)).catalogue (Some txn) =
-    subst (λ o. D d ≡ home_of (force_at g (redeclares log)).catalogue o) f (at_home g log (D d) n (fit_of g good).small l e) in
-    not_d (class_for (force_at g (redeclares log)).catalogue txn == 0) txn.tm d h
+    let h : D d ≡ home_of (nth_era g (redeclares log)).catalogue (Some txn) =
+    subst (λ o. D d ≡ home_of (nth_era g (redeclares log)).catalogue o) f (at_home g log (D d) n (fit_of g good).small l e) in
+    not_d (class_for (nth_era g (redeclares log)).catalogue txn == 0) txn.tm d h
 
 early_time : (h t : ℕ) → h < 2 ^ 53 → t ≤ top h → t / 64 < 2 ^ 57
 early_time h t l m = let d : t / 64 ≤ h = div_le t h m in omega (arith, l, d)
 
 redeclare_fits : (g : Input) → IsGood g → (log : Log) (t : ℕ) → IsLawful g log → IsWithin log
-    → next g log ≡ Some (Redeclares t) → FitsForce g.catalogue (force_at g (suc (redeclares log))) t
+    → next g log ≡ Some (Redeclares t) → FitsEra g.catalogue (nth_era g (suc (redeclares log))) t
 redeclare_fits g good log t l w e =
     let s = (fit_of g good).small in
     let is : t ≡ greatest_bound g log = of_next g log (Redeclares t) s.few_ticks l e in

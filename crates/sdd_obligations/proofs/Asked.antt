@@ -183,7 +183,7 @@ asks_phase s c (Ticked n ∷ log) fair first timely =
     same_turns c log (Ticked n ∷ log) (active s c log) (λ ts d a i t. refl) (asks_phase s c log fair.1 first.1 timely.1)
 asks_phase s c (Submits n txn ∷ log) fair first timely =
     same_turns c log (Submits n txn ∷ log) (active s c log) (λ ts d a i t. refl) (asks_phase s c log fair.1 first.1 timely.1)
-asks_phase s c (Redeclared force k ∷ log) fair first timely =
-    same_turns c log (Redeclared force k ∷ log) (active s c log) (λ ts d a i t. refl) (asks_phase s c log fair.1 first.1 timely.1)
+asks_phase s c (Redeclared era k ∷ log) fair first timely =
+    same_turns c log (Redeclared era k ∷ log) (active s c log) (λ ts d a i t. refl) (asks_phase s c log fair.1 first.1 timely.1)
 asks_phase s c (Did act ∷ log) fair first timely =
     act_phase s c log act fair.0 first.0 (in_turn s c log fair.1 first.1 timely.1) (asks_phase s c log fair.1 first.1 timely.1)

@@ -285,9 +285,9 @@ in_turn s c (Handed from m ∷ log) fair first timely = in_turn_hand s c log fro
 in_turn s c (Ticked n ∷ log) fair first timely =
     let i = in_turn s c log fair.1 first.1 timely.1 in
     record { turns = i.turns; fresh = λ ts d l. i.fresh ts d (let r = stamp_rises s (Ticked n) log in omega (arith, l, r)); strict = i.strict }
-in_turn s c (Redeclared force t ∷ log) fair first timely =
+in_turn s c (Redeclared era t ∷ log) fair first timely =
     let i = in_turn s c log fair.1 first.1 timely.1 in
-    record { turns = i.turns; fresh = λ ts d l. i.fresh ts d (let r = stamp_rises s (Redeclared force t) log in omega (arith, l, r)); strict = i.strict }
+    record { turns = i.turns; fresh = λ ts d l. i.fresh ts d (let r = stamp_rises s (Redeclared era t) log in omega (arith, l, r)); strict = i.strict }
 in_turn s c (Submits n txn ∷ log) fair first timely =
     let i = in_turn s c log fair.1 first.1 timely.1 in
     record { turns = i.turns; fresh = λ ts d l. i.fresh ts d (let r = stamp_rises s (Submits n txn) log in omega (arith, l, r)); strict = i.strict }

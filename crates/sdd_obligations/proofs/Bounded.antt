@@ -104,7 +104,7 @@ StartsNot l (Did act) = starts_by act ≡ 0
 StartsNot l (Handed from m) = Unit {0}
 StartsNot l (Ticked n) = Unit {0}
 StartsNot l (Submits n t) = Unit {0}
-StartsNot l (Redeclared force t) = Unit {0}
+StartsNot l (Redeclared era t) = Unit {0}
 
 none_started : (l : site.Log) → Each StartsNot l → starts l ≡ 0
 none_started [] h = refl

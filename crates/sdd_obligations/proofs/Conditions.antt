@@ -1,5 +1,5 @@
 -- The conditions of a READ are on classes of the catalogue.
-use Rattle.sdd_obligations.proofs.All.{Act, All, All-cons, All-nil, AllLt, Catalogue, ClassNo, Cond, Each, FitsCond, FragNo, IsFair, IsRead, List, Msg, None, Option, P2, P3, Queued, Read, Setting, Site, Some, Ts, TxnNo, Use, [], arith, ascending, bound, cond_for, cond_of, condition_on, conditions_at, cons_option, each_at, filter_map, frag_no, fragments_in, fragments_of, if_way, in_force, in_none, in_one, inl, inr, is_asked, length, map, next_stamp, option_or, puts_to, range_with_len, sends_of_act, slice_get, start_at, start_puts, start_read, subst, suc, to_site, uses_of, was_put, zero, ℕ, ◌+◌, ◌<◌, ◌==◌, ◌^◌, ◌∷◌, ◌≡◌, ◌≤◌}
+use Rattle.sdd_obligations.proofs.All.{Act, All, All-cons, All-nil, AllLt, Catalogue, ClassNo, Cond, Each, FitsCond, FragNo, IsFair, IsRead, List, Msg, None, Option, P2, P3, Queued, Read, Setting, Site, Some, Ts, TxnNo, Use, [], arith, ascending, bound, cond_for, cond_of, condition_on, conditions_at, cons_option, current_era, each_at, filter_map, frag_no, fragments_in, fragments_of, if_way, in_none, in_one, inl, inr, is_asked, length, map, next_stamp, option_or, puts_to, range_with_len, sends_of_act, slice_get, start_at, start_puts, start_read, subst, suc, to_site, uses_of, was_put, zero, ℕ, ◌+◌, ◌<◌, ◌==◌, ◌^◌, ◌∷◌, ◌≡◌, ◌≤◌}
 use Rattle.sdd_invariants.specs.All.{asked_by, classes_of}
 use Rattle.sdd_invariants.specs.site_module.SiteLog.{Log}
 use Rattle.sdd_invariants.proofs.ReadsPut.{put_by}
@@ -64,7 +64,7 @@ ReadWithin n _ = Unit {0}
 
 start_within : (s : Setting) (c : ℕ) (log : Log) (q : Queued) (d : ℕ) → ReadWithin (length s.catalogue.classes) (start_read s c log q d)
 start_within s c log q d =
-    conditions_within s.catalogue (in_force s log).table c (ascending (fragments_in (uses_of s.catalogue q.text))) (next_stamp s log) (bound s log) d
+    conditions_within s.catalogue (current_era s log).table c (ascending (fragments_in (uses_of s.catalogue q.text))) (next_stamp s log) (bound s log) d
 
 of_start : (s : Setting) (c : ℕ) (log : Log) (q : Queued) (b : Site) (k : ℕ) (m : Msg)
     → slice_get (to_site b (sends_of_act (start_at s c log q))) k ≡ Some m → ReadWithin (length s.catalogue.classes) m

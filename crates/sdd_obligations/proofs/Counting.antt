@@ -1,5 +1,5 @@
 -- A class starts no more attempts than transactions were given to its site and messages handed to it.
-use Rattle.sdd_obligations.proofs.All.{Act, Attempt, Bases, Bool, Catalogue, Class, Did, Each, Handed, IsFair, IsNew, IsNumbered, IsServed, IsStep, List, Msg, None, Option, Queued, Sends, Setting, Site, Some, Submits, T, [], active, active_handed, active_sent, ap, arith, class_at, class_starts, classes_of, commit_act, dec_le, false, filter, filter_shorter, get_or_past, hands, head_of, home, if◌then◌else◌, in_force, inl, inr, is_for, length, length-append, length-map, length-range_with_len, map, next_stamp, not, queue, queue_is, refl, same_number, same_or_not, sends_of_act, sent_way, slice_get, start_at, start_of_class, started, starts, step_way, submits, submitted, subst, suc, sym, tm_no, tried, true, ℕ, ◌*◌, ◌++◌, ◌+◌, ◌-◌, ◌==◌, ◌∷◌, ◌≡◌, ◌≤◌}
+use Rattle.sdd_obligations.proofs.All.{Act, Attempt, Bases, Bool, Catalogue, Class, Did, Each, Handed, IsFair, IsNew, IsNumbered, IsServed, IsStep, List, Msg, None, Option, Queued, Sends, Setting, Site, Some, Submits, T, [], active, active_handed, active_sent, ap, arith, class_at, class_starts, classes_of, commit_act, current_era, dec_le, false, filter, filter_shorter, get_or_past, hands, head_of, home, if◌then◌else◌, inl, inr, is_for, length, length-append, length-map, length-range_with_len, map, next_stamp, not, queue, queue_is, refl, same_number, same_or_not, sends_of_act, sent_way, slice_get, start_at, start_of_class, started, starts, step_way, submits, submitted, subst, suc, sym, tm_no, tried, true, ℕ, ◌*◌, ◌++◌, ◌+◌, ◌-◌, ◌==◌, ◌∷◌, ◌≡◌, ◌≤◌}
 use Rattle.sdd_obligations.proofs.Sums.{range_at, total, total_le, total_raise, total_up}
 use Rattle.sdd_invariants.specs.site_module.SiteLog.{Log}
 
@@ -104,8 +104,8 @@ counted s c (Handed from m ∷ log) f n =
     (busy (active s c log)) (busy (active_handed c from m (active s c log))) (busy_le (active s c log)) (counted s c log f.1 n.1)
 counted s c (Submits k txn ∷ log) f n =
     submit_count (class_starts c log) (length (queue s c log))
-    (length (submitted c (in_force s log).catalogue k txn (queue s c log))) (length (submits log)) (hands log) (busy (active s c log))
-    (submit_longer (is_for c (in_force s log).catalogue txn) (record { number = k; text = txn; tries = 0 }) (queue s c log)) (counted s c log f.1 n.1)
+    (length (submitted c (current_era s log).catalogue k txn (queue s c log))) (length (submits log)) (hands log) (busy (active s c log))
+    (submit_longer (is_for c (current_era s log).catalogue txn) (record { number = k; text = txn; tries = 0 }) (queue s c log)) (counted s c log f.1 n.1)
 counted s c (Did act ∷ log) f n = count_act s c log act f.0 (queue_is s c log f.1 n.1).served (counted s c log f.1 n.1)
 counted s c (_ ∷ log) f n = counted s c log f.1 n.1
 

@@ -1,19 +1,19 @@
 -- The class of an active attempt covers its transaction, whatever list of classes was in force.
-use Rattle.sdd_obligations.proofs.All.{Attempt, Catalogue, Did, Each, Handed, HasEras, Input, IsCovered, IsEraOf, IsPermitted, Redeclared, Setting, Site, Some, Submits, Ticked, Txn, [], active, all_new, arith, class_for, covered, covered_in_era, each_local, eqb-true, era_of_itself, home, home_fair, in_force, inl, inr, is_for, length, local_of, only_right, same_or_not, setting_of, some_class, sym, true, ℕ, ◌==◌, ◌∷◌, ◌≡◌, ◌≤◌, ◌⊎◌}
+use Rattle.sdd_obligations.proofs.All.{Attempt, Catalogue, Did, Each, Handed, HasEras, Input, IsCovered, IsEraOf, IsPermitted, Redeclared, Setting, Site, Some, Submits, Ticked, Txn, [], active, all_new, arith, class_for, covered, covered_in_era, current_era, each_local, eqb-true, era_of_itself, home, home_fair, inl, inr, is_for, length, local_of, only_right, same_or_not, setting_of, some_class, sym, true, ℕ, ◌==◌, ◌∷◌, ◌≡◌, ◌≤◌, ◌⊎◌}
 use Rattle.sdd_obligations.proofs.Texts.{SubmitHas, active_so}
 use Rattle.sdd_invariants.specs.site_module.SiteLog.{Entry, Log}
 use Rattle.sdd_invariants.specs.logs.Entries as whole
 
 -- a list of classes that a site puts in force is one of the catalogue
-abbrev ForceIs : Catalogue → Log → Entry → Type 0
-ForceIs cat log (Handed from m) = Unit {0}
-ForceIs cat log (Ticked n) = Unit {0}
-ForceIs cat log (Submits n txn) = Unit {0}
-ForceIs cat log (Redeclared force t) = IsEraOf cat force.catalogue
-ForceIs cat log (Did act) = Unit {0}
+abbrev EraIs : Catalogue → Log → Entry → Type 0
+EraIs cat log (Handed from m) = Unit {0}
+EraIs cat log (Ticked n) = Unit {0}
+EraIs cat log (Submits n txn) = Unit {0}
+EraIs cat log (Redeclared era t) = IsEraOf cat era.catalogue
+EraIs cat log (Did act) = Unit {0}
 
-forces_are : (g : Input) → HasEras g → (at : Site) (log : whole.Log) → IsPermitted g log → Each (ForceIs g.catalogue) (local_of g at log)
-forces_are g eras at = each_local g at (ForceIs g.catalogue) (record {
+eras_are : (g : Input) → HasEras g → (at : Site) (log : whole.Log) → IsPermitted g log → Each (EraIs g.catalogue) (local_of g at log)
+eras_are g eras at = each_local g at (EraIs g.catalogue) (record {
   handed = λ log p from n m a i. tt;
   ticked = λ log p n i. tt;
   submits = λ log p n txn a e i. tt;
@@ -21,10 +21,10 @@ forces_are g eras at = each_local g at (ForceIs g.catalogue) (record {
   did = λ log act p due i. tt;
 })
 
-in_force_is : (s : Setting) (log : Log) → Each (ForceIs s.catalogue) log → IsEraOf s.catalogue (in_force s log).catalogue
-in_force_is s [] h = era_of_itself s.catalogue
-in_force_is s (Redeclared force t ∷ log) h = h.0
-in_force_is s (_ ∷ log) h = in_force_is s log h.1
+current_era_is : (s : Setting) (log : Log) → Each (EraIs s.catalogue) log → IsEraOf s.catalogue (current_era s log).catalogue
+current_era_is s [] h = era_of_itself s.catalogue
+current_era_is s (Redeclared era t ∷ log) h = h.0
+current_era_is s (_ ∷ log) h = current_era_is s log h.1
 
 -- class 0, or a class that covers the transaction
 abbrev pub Covers : Catalogue → ℕ → Txn → Type 0
@@ -42,8 +42,8 @@ submitted_covered : (g : Input) → HasEras g → (at : Site) (c : ℕ) (log : w
 submitted_covered g eras at c = each_local g at (SubmitHas (Covers g.catalogue c) (setting_of g at) c) (record {
   handed = λ log p from n m a i. tt;
   ticked = λ log p n i. tt;
-  submits = λ log p n txn a e i own. covers_for g.catalogue (in_force (setting_of g at) (local_of g at log)).catalogue
-      (in_force_is (setting_of g at) (local_of g at log) (forces_are g eras at log p)) c txn own;
+  submits = λ log p n txn a e i own. covers_for g.catalogue (current_era (setting_of g at) (local_of g at log)).catalogue
+      (current_era_is (setting_of g at) (local_of g at log) (eras_are g eras at log p)) c txn own;
   redeclared = λ l k t i. tt;
   did = λ log act p due i. tt;
 })

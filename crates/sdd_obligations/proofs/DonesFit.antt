@@ -56,7 +56,7 @@ served_or s t y b e (Handed from m ∷ x) = elim (served_or s t y b e x) [
 ]
 served_or s t y b e (Ticked n ∷ x) = elim (served_or s t y b e x) [ inl q ↦ inl q | inr q ↦ inr (more_again y (Ticked n) x q) ]
 served_or s t y b e (Submits n txn ∷ x) = elim (served_or s t y b e x) [ inl q ↦ inl q | inr q ↦ inr (more_again y (Submits n txn) x q) ]
-served_or s t y b e (Redeclared force u ∷ x) = elim (served_or s t y b e x) [ inl q ↦ inl q | inr q ↦ inr (more_again y (Redeclared force u) x q) ]
+served_or s t y b e (Redeclared era u ∷ x) = elim (served_or s t y b e x) [ inl q ↦ inl q | inr q ↦ inr (more_again y (Redeclared era u) x q) ]
 served_or s t y b e (Did act ∷ x) = served_did s t y b act x (served_or s t y b e x)
 
 -- a Commit at U is of the active attempt

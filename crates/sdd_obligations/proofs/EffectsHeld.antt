@@ -13,7 +13,7 @@ abbrev pub HandFits : Catalogue → ℕ → Log → Entry → Type 0
 HandFits cat d log (Handed from m) = FitsMsg cat d m
 HandFits cat d log (Ticked n) = Unit {0}
 HandFits cat d log (Submits n txn) = Unit {0}
-HandFits cat d log (Redeclared force t) = Unit {0}
+HandFits cat d log (Redeclared era t) = Unit {0}
 HandFits cat d log (Did act) = Unit {0}
 
 -- and of what waits in a pipe

@@ -26,7 +26,7 @@ IsFirstEach s log (Did act) = IsFirstSend s log act
 IsFirstEach s log (Handed from m) = Unit {0}
 IsFirstEach s log (Ticked n) = Unit {0}
 IsFirstEach s log (Submits n txn) = Unit {0}
-IsFirstEach s log (Redeclared force t) = Unit {0}
+IsFirstEach s log (Redeclared era t) = Unit {0}
 
 send_is : (s : Setting) (log : Log) (x a : Act) → IsFirstSend s log x → Some x ≡ Some a → IsFirstSend s log a
 send_is s log x a h e = let p : x ≡ a = cc in subst (IsFirstSend s log) p h
@@ -74,7 +74,7 @@ held_first s log false t hand act e = cc
 
 start_first : (s : Setting) (log : Log) (b : Bool) (v : tm_views.View) (c : ℕ) (o : Option Queued) (act : Act)
     → c ≤ length s.catalogue.classes → (if b then tm.start_of s.catalogue v c o else None) ≡ Some act → IsFirstSend s log act
-start_first s log true v c (Some q) act l e = send_is s log (start_act s.catalogue v.force.table c v.clock q) act l e
+start_first s log true v c (Some q) act l e = send_is s log (start_act s.catalogue v.era.table c v.clock q) act l e
 start_first s log _ v c _ act l e = cc
 
 -- the classes that a transaction module runs are of the catalogue

@@ -144,7 +144,7 @@ has_write [] t e = cc
 has_write (Handed from m ∷ l) t e = one_write from m l t (λ p. has_write l t p) e
 has_write (Ticked n ∷ l) t e = more_write (Ticked n) l t (has_write l t e)
 has_write (Submits n txn ∷ l) t e = more_write (Submits n txn) l t (has_write l t e)
-has_write (Redeclared force u ∷ l) t e = more_write (Redeclared force u) l t (has_write l t e)
+has_write (Redeclared era u ∷ l) t e = more_write (Redeclared era u) l t (has_write l t e)
 has_write (Did act ∷ l) t e = more_write (Did act) l t (has_write l t e)
 
 -- it is in its pipe

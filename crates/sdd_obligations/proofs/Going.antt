@@ -123,7 +123,7 @@ was_asked_of [] k q e = cc
 was_asked_of (Handed from m ∷ log) k q e = asks_in (suc (hands log)) from m log (asks log) k q (λ j p. was_asked_of log j q p) e
 was_asked_of (Ticked n ∷ log) k q e = more_asked log (Ticked n) q.from (was_asked_of log k q e)
 was_asked_of (Submits n txn ∷ log) k q e = more_asked log (Submits n txn) q.from (was_asked_of log k q e)
-was_asked_of (Redeclared force t ∷ log) k q e = more_asked log (Redeclared force t) q.from (was_asked_of log k q e)
+was_asked_of (Redeclared era t ∷ log) k q e = more_asked log (Redeclared era t) q.from (was_asked_of log k q e)
 was_asked_of (Did act ∷ log) k q e = let i = asks_left act (asks log) k q e in more_asked log (Did act) q.from (was_asked_of log i.0 q i.1)
 
 null_goes : (log : Log) (q : Question) (b : Bool) (o : Option ℕ) (act : Act) → WasAsked log q.from IsAnAsk

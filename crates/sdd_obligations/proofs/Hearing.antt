@@ -24,7 +24,7 @@ abbrev pub IsTimely : ℕ → Log → Entry → Type 0
 IsTimely c log (Handed from m) = (ts d : ℕ) → from ≡ D (dm_no d) → is_answer ts c m ≡ true → MayAnswer (turn_at ts c d log) m
 IsTimely c log (Ticked n) = Unit {0}
 IsTimely c log (Submits n txn) = Unit {0}
-IsTimely c log (Redeclared force t) = Unit {0}
+IsTimely c log (Redeclared era t) = Unit {0}
 IsTimely c log (Did act) = Unit {0}
 
 -- turns

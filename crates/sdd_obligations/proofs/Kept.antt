@@ -180,8 +180,8 @@ kept_answered s c ts (Handed from m ∷ log) f e = elim (hand_keeps s c ts from 
 ]
 kept_answered s c ts (Ticked n ∷ log) f e = for_more s c ts (Ticked n) log f (kept_same s c ts (Ticked n) log refl) (kept_answered s c ts log) e
 kept_answered s c ts (Submits n txn ∷ log) f e = for_more s c ts (Submits n txn) log f (kept_same s c ts (Submits n txn) log refl) (kept_answered s c ts log) e
-kept_answered s c ts (Redeclared force t ∷ log) f e =
-    for_more s c ts (Redeclared force t) log f (kept_same s c ts (Redeclared force t) log refl) (kept_answered s c ts log) e
+kept_answered s c ts (Redeclared era t ∷ log) f e =
+    for_more s c ts (Redeclared era t) log f (kept_same s c ts (Redeclared era t) log refl) (kept_answered s c ts log) e
 kept_answered s c ts (Did act ∷ log) f e = elim (act_keeps s c ts act log) [
   | inl same ↦ for_more s c ts (Did act) log f same (kept_answered s c ts log) e
   | inr r ↦ r.answer

@@ -1,6 +1,6 @@
 -- How many marks there are within the limits, how many messages on a link, and how many messages and transactions a site
 -- was handed and given.
-use Rattle.sdd_obligations.proofs.All.{AllFewTicks, Bool, Call, Did, Does, Entry, Event, Force, Hand, Handed, Input, IsAllowed, IsLawful, IsMarkEntry, IsPermitted, IsWithin, Link, List, Log, MAX_LINK_MESSAGES, MAX_RUN_EVENTS, Mark, Msg, None, Notes, Option, Puts, Redeclares, Round, Site, Some, Submit, Submits, Submitted, T, Tick, Ticked, Txn, U, [], allowed_hand, allowed_mark, ap, arith, both, calls_of, delivered_within, false, force_at, forced, given_to, handed, handed_le, hands, if_way, if◌then◌else◌, length, length-append, link, local_of, local_step, made, made_by_mark, marks, neither_left, neither_right, not_past, nothing_if, put_by, puts, puts_past, redeclares, refl, same_link, same_site, sends_of_act, sent, sent_grows, site_self, sites, submits, suc, true, turned, txn_at, with_made, ℕ, ◌&&◌, ◌++◌, ◌+◌, ◌∷◌, ◌≡◌, ◌≤◌}
+use Rattle.sdd_obligations.proofs.All.{AllFewTicks, Bool, Call, Did, Does, Entry, Era, Event, Hand, Handed, Input, IsAllowed, IsLawful, IsMarkEntry, IsPermitted, IsWithin, Link, List, Log, MAX_LINK_MESSAGES, MAX_RUN_EVENTS, Mark, Msg, None, Notes, Option, Puts, Redeclares, Round, Site, Some, Submit, Submits, Submitted, T, Tick, Ticked, Txn, U, [], allowed_hand, allowed_mark, ap, arith, both, calls_of, delivered_within, false, given_to, handed, handed_le, hands, if_way, if◌then◌else◌, length, length-append, link, local_of, local_step, made, made_by_mark, marks, neither_left, neither_right, not_past, nothing_if, nth_era, put_by, puts, puts_past, redeclared_at, redeclares, refl, same_link, same_site, sends_of_act, sent, sent_grows, site_self, sites, submits, suc, true, turned, txn_at, with_made, ℕ, ◌&&◌, ◌++◌, ◌+◌, ◌∷◌, ◌≡◌, ◌≤◌}
 use Rattle.sdd_obligations.proofs.OfNext.{IsThere, from_there, of_next}
 use Rattle.sdd_obligations.proofs.Sums.{total, total_raise, total_up}
 use Rattle.sdd_invariants.specs.net.Links.{put}
@@ -86,9 +86,9 @@ none_marked : (at : Site) (e : Event) → None2 (made_by_mark at e)
 none_marked at (Tick t n) = none_if (same_site at (T t)) (Some (Ticked n)) (refl, refl)
 none_marked at _ = (refl, refl)
 
-none_forced : (at : Site) (force : Force) (t : ℕ) → None2 (forced at force t)
-none_forced U force t = (refl, refl)
-none_forced _ force t = (refl, refl)
+none_redeclared : (at : Site) (era : Era) (t : ℕ) → None2 (redeclared_at at era t)
+none_redeclared U era t = (refl, refl)
+none_redeclared _ era t = (refl, refl)
 
 given_one : (n : ℕ) (o : Option Txn) → (hands_by (given_to n o) ≡ 0) × (submits_by (given_to n o) ≤ 1)
 given_one n None = (refl, omega arith)
@@ -125,7 +125,7 @@ submits_marks g at (Round es ∷ log) p =
     let i = submits_marks g at log p.1 in
     let j = submits_step g at (Round es) log 0 (marks log) (omega arith) (omega (arith, i)) in omega (arith, j)
 submits_marks g at (Redeclares t ∷ log) p =
-    let i = submits_marks g at log p.1 in let z = (none_forced at (force_at g (suc (redeclares log))) t).1 in
+    let i = submits_marks g at log p.1 in let z = (none_redeclared at (nth_era g (suc (redeclares log))) t).1 in
     let j = submits_step g at (Redeclares t) log 0 (marks log) (omega (arith, z)) (omega (arith, i)) in omega (arith, j)
 submits_marks g at (Hand from to n m ∷ log) p =
     let i = submits_marks g at log p.1 in
@@ -193,7 +193,7 @@ pub hands_few : (g : Input) (at : Site) (log : Log) → AllFewTicks g.events →
 hands_few g U [] f l p = omega arith
 hands_few g at (Mark e ∷ log) f l p = hands_step g at (Mark e) log _ (none_marked at e).0 (hands_few g at log f l.1 p.1)
 hands_few g at (Redeclares t ∷ log) f l p =
-    hands_step g at (Redeclares t) log _ (none_forced at (force_at g (suc (redeclares log))) t).0 (hands_few g at log f l.1 p.1)
+    hands_step g at (Redeclares t) log _ (none_redeclared at (nth_era g (suc (redeclares log))) t).0 (hands_few g at log f l.1 p.1)
 hands_few g at (Hand from to n m ∷ log) f l p =
     hand_step g at from to n m log (same_site at to) p.0 (from_there g from to (of_next g log (Hand from to n m) f l.1 l.0)) refl (hands_few g at log f l.1 p.1)
 hands_few g at (Submitted to n ∷ log) f l p =

@@ -1,6 +1,6 @@
 -- What a READ says: its conditions are on classes of the catalogue and ascend by class, its uses ascend by number, and its
 -- module has copies of their fragments.
-use Rattle.sdd_obligations.proofs.All.{Act, All-from_recursion, AllByRecursion, AllGt, AllLe, Bool, Catalogue, Cond, Condition, D, Delete, Did, DmNo, Each, FragNo, Hand, Input, IsFair, IsHere, IsPermitted, IsReadable, IsSend, IsStep, IsStrict, List, Msg, None, Option, Put, Query, Queued, Read, RelNo, Setting, Site, Some, Stmt, Update, Use, [], a_held, a_hold, a_null, a_release, ap, arith, ascending, both, bound, commit_puts, cond, cond_of, condition_on, conditions, conditions_at, cons_option, dm_no, each_at, eqb-true, false, filter, filter_map, frag_no, fragments_in, fragments_of, gt_down, hand_was_put, handed, has_copy, home, home_fair, if_way, in_force, in_if, in_none, in_one, inl, inr, is_a_read, is_asked, is_read_at, length, local_of, map, modules_asked, next_stamp, of_exchange, option_eq, part_uses, puts_to, range_with_len, reads_at, refl, same_number, sends_of_act, served_read, setting_of, slice_get, start_read, statement_uses, step_way, subst, suc, sym, the_one, to_site, true, undeclared_conditions, use_there, uses_from, uses_of, was_put, with_frags, zero, ℕ, ◌&&◌, ◌++◌, ◌+◌, ◌<◌, ◌==◌, ◌∙◌, ◌∷◌, ◌≡◌, ◌≤◌}
+use Rattle.sdd_obligations.proofs.All.{Act, All-from_recursion, AllByRecursion, AllGt, AllLe, Bool, Catalogue, Cond, Condition, D, Delete, Did, DmNo, Each, FragNo, Hand, Input, IsFair, IsHere, IsPermitted, IsReadable, IsSend, IsStep, IsStrict, List, Msg, None, Option, Put, Query, Queued, Read, RelNo, Setting, Site, Some, Stmt, Update, Use, [], a_held, a_hold, a_null, a_release, ap, arith, ascending, both, bound, commit_puts, cond, cond_of, condition_on, conditions, conditions_at, cons_option, current_era, dm_no, each_at, eqb-true, false, filter, filter_map, frag_no, fragments_in, fragments_of, gt_down, hand_was_put, handed, has_copy, home, home_fair, if_way, in_if, in_none, in_one, inl, inr, is_a_read, is_asked, is_read_at, length, local_of, map, modules_asked, next_stamp, of_exchange, option_eq, part_uses, puts_to, range_with_len, reads_at, refl, same_number, sends_of_act, served_read, setting_of, slice_get, start_read, statement_uses, step_way, subst, suc, sym, the_one, to_site, true, undeclared_conditions, use_there, uses_from, uses_of, was_put, with_frags, zero, ℕ, ◌&&◌, ◌++◌, ◌+◌, ◌<◌, ◌==◌, ◌∙◌, ◌∷◌, ◌≡◌, ◌≤◌}
 use Rattle.sdd_obligations.proofs.Ascending.{condition_class, conditions_strict, strict_ascends}
 use Rattle.sdd_obligations.proofs.Asking.{strict_asked}
 use Rattle.sdd_obligations.proofs.FirstSends.{IsFirstEach, IsFirstSend}
@@ -237,9 +237,9 @@ start_fits : (g : Input) (at : Site) (d : DmNo) (log : Log) (class : ℕ) (q : Q
 start_fits g at d log class q sound l = record {
   is_class = l;
   conditions = All-from_recursion (IsOn (length g.catalogue.classes)) _
-      (conditions_here g.catalogue (in_force (setting_of g at) log).table class
+      (conditions_here g.catalogue (current_era (setting_of g at) log).table class
       (ascending (fragments_in (uses_of g.catalogue q.text))) (next_stamp (setting_of g at) log) (bound (setting_of g at) log) d.0);
-  classes_ascend = strict_ascends _ (conditions_strict g.catalogue (in_force (setting_of g at) log).table class
+  classes_ascend = strict_ascends _ (conditions_strict g.catalogue (current_era (setting_of g at) log).table class
       (ascending (fragments_in (uses_of g.catalogue q.text))) (next_stamp (setting_of g at) log) (bound (setting_of g at) log) d.0);
   uses_ascend = strict_ascends (numbers (filter_map (use_there g.catalogue class d.0)
       (uses_of g.catalogue q.text))) (there_strict g.catalogue class d.0 (uses_of g.catalogue q.text) (all_numbered g.catalogue 0 q.text.statements).1);

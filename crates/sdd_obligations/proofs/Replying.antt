@@ -12,7 +12,7 @@ abbrev pub IsAskedInTurn : ℕ → Site → Log → Entry → Type 0
 IsAskedInTurn c at log (Handed from m) = (ts : ℕ) → is_question ts c m ≡ true → (from ≡ at) × MayAsk (turn_with ts c at log) m
 IsAskedInTurn c at log (Ticked n) = Unit {0}
 IsAskedInTurn c at log (Submits n txn) = Unit {0}
-IsAskedInTurn c at log (Redeclared force t) = Unit {0}
+IsAskedInTurn c at log (Redeclared era t) = Unit {0}
 IsAskedInTurn c at log (Did act) = Unit {0}
 
 -- a question that stands is of the attempt, with the numbers of its READ's uses

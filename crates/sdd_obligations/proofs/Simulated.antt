@@ -1,5 +1,5 @@
 -- The exchange of an active attempt follows a run over what its modules keep, on every permitted log.
-use Rattle.sdd_obligations.proofs.All.{Act, AllReadied, Asks, Attempt, Bases, Bool, Catalogue, CopyRows, D, Did, DmNo, Does, Each, Entry, Exchange, FitsInput, Frozen, Hand, Handed, Has, HasEras, Input, IsFair, IsPermitted, KeepsOnce, List, Log, Mark, Msg, None, Notes, Option, Queued, Redeclares, Reduce, Reject, Round, Sends, Setting, Site, Some, Space, Submitted, T, Tells, U, Value, [], active, active_handed, active_sent, after_hand, after_send, ap, asked_at, asks_rows, beginning, begins, bound, class_at, class_no, clock, commit_act, contains, contents, dated, dm_no, false, filter_map, follows_reduce, follows_start, frozen_for, frozen_once, frozen_space, head, head_of, home, home_fair, honest, if_way, if◌then◌else◌, in_force, inl, inr, is_a_refusal, is_answer, is_question, is_shipped, kept, length, local_of, local_step, made, module_read, modules_asked, next_stamp, own_act, pipe, question, question_of, queue, readied, reduced, refl, rejects, same_number, same_or_not, same_site, sends_of_act, setting_of, site_is, site_self, start_at, start_modules, started, step_way, subst, suc, sym, time_at, tm_no, true, turn_at, with_made, ℕ, ◌==◌, ◌∙◌, ◌∷◌, ◌≡◌, ◌≢◌, ◌≤◌}
+use Rattle.sdd_obligations.proofs.All.{Act, AllReadied, Asks, Attempt, Bases, Bool, Catalogue, CopyRows, D, Did, DmNo, Does, Each, Entry, Exchange, FitsInput, Frozen, Hand, Handed, Has, HasEras, Input, IsFair, IsPermitted, KeepsOnce, List, Log, Mark, Msg, None, Notes, Option, Queued, Redeclares, Reduce, Reject, Round, Sends, Setting, Site, Some, Space, Submitted, T, Tells, U, Value, [], active, active_handed, active_sent, after_hand, after_send, ap, asked_at, asks_rows, beginning, begins, bound, class_at, class_no, clock, commit_act, contains, contents, current_era, dated, dm_no, false, filter_map, follows_reduce, follows_start, frozen_for, frozen_once, frozen_space, head, head_of, home, home_fair, honest, if_way, if◌then◌else◌, inl, inr, is_a_refusal, is_answer, is_question, is_shipped, kept, length, local_of, local_step, made, module_read, modules_asked, next_stamp, own_act, pipe, question, question_of, queue, readied, reduced, refl, rejects, same_number, same_or_not, same_site, sends_of_act, setting_of, site_is, site_self, start_at, start_modules, started, step_way, subst, suc, sym, time_at, tm_no, true, turn_at, with_made, ℕ, ◌==◌, ◌∙◌, ◌∷◌, ◌≡◌, ◌≢◌, ◌≤◌}
 use Rattle.sdd_obligations.proofs.AtTurn.{hand_not}
 use Rattle.sdd_obligations.proofs.Hearing.{is_awaited}
 use Rattle.sdd_obligations.proofs.Modules.{firsts}
@@ -258,7 +258,7 @@ module _ (g : Input) (good : FitsInput g) (eras : HasEras g) (c : ℕ) (in_step 
       let now : active s c (mine (Does at act ∷ log)) ≡ Some a = ap (active s c) (own_act g at act log) ∙ is in
       let within : c ≤ length cat.classes = class_within cat c a.text (attempt_covered g eras c (Does at act ∷ log) a hand now) in
       let ms : List (ℕ × List ℕ) = filter_map module_read (sends_of_act act) in
-      let are : firsts ms ≡ asked_of a = start_modules cat (in_force s (mine log)).table c (clock at (mine log)) q in
+      let are : firsts ms ≡ asked_of a = start_modules cat (current_era s (mine log)).table c (clock at (mine log)) q in
       subst (AllServed (Does at act ∷ log)) (sym is)
       (λ copies agree.
       let first : Space = first_of a copies in
@@ -266,7 +266,7 @@ module _ (g : Input) (good : FitsInput g) (eras : HasEras g) (c : ℕ) (in_step 
       λ d. ap (λ o. or_first o (first d)) (home_act log act a.ts d ∙ fresh_at log h within d) in
       subst (λ space. Serves a copies space a.exchange) (λ i d. sym (same d) i)
       (record {
-        follows = follows_start cat (in_force s (mine log)).table c q (next_stamp s (mine log)) (bound s (mine log)) (asked_of a) first;
+        follows = follows_start cat (current_era s (mine log)).table c q (next_stamp s (mine log)) (bound s (mine log)) (asked_of a) first;
         none = λ x. refl;
         of = λ x k. absurd k;
         all = λ ships d k l x i. none_read ms (asked_of a) d are ships k;

@@ -49,7 +49,7 @@ may_snap s ts [] = inl refl
 may_snap s ts (Handed from m ∷ log) = snap_more s ts (Handed from m) log refl refl (may_snap s ts log)
 may_snap s ts (Ticked n ∷ log) = snap_more s ts (Ticked n) log refl refl (may_snap s ts log)
 may_snap s ts (Submits n txn ∷ log) = snap_more s ts (Submits n txn) log refl refl (may_snap s ts log)
-may_snap s ts (Redeclared force t ∷ log) = snap_more s ts (Redeclared force t) log refl refl (may_snap s ts log)
+may_snap s ts (Redeclared era t ∷ log) = snap_more s ts (Redeclared era t) log refl refl (may_snap s ts log)
 may_snap s ts (Did (Records k (Answer txn attempt dm) sends) ∷ log) =
     snap_answer s ts k txn attempt dm sends log (is_at ts (head (pipe k log))) refl (may_snap s ts log)
 may_snap s ts (Did (Records k _ sends) ∷ log) = snap_more s ts _ log refl refl (may_snap s ts log)
@@ -78,7 +78,7 @@ module _ (s : Setting) (ts : ℕ) (k : ℕ) (txn : TxnNo) (attempt : ℕ) (dm : 
   snapped_behind (Handed from m ∷ later) = snap_behind s ts (Handed from m) _ refl refl (snapped_behind later)
   snapped_behind (Ticked n ∷ later) = snap_behind s ts (Ticked n) _ refl refl (snapped_behind later)
   snapped_behind (Submits n t ∷ later) = snap_behind s ts (Submits n t) _ refl refl (snapped_behind later)
-  snapped_behind (Redeclared force t ∷ later) = snap_behind s ts (Redeclared force t) _ refl refl (snapped_behind later)
+  snapped_behind (Redeclared era t ∷ later) = snap_behind s ts (Redeclared era t) _ refl refl (snapped_behind later)
   snapped_behind (Did (Records c (Answer t a m) ss) ∷ later) =
       snap_there s ts c t a m ss _ (is_at ts (head (pipe c (later ++ Did (Records k (Answer txn attempt dm) sends) ∷ before)))) refl
       (λ no. snapped_behind later)

@@ -1,5 +1,5 @@
 -- What the modules keep for an attempt, as the log of everything goes on.
-use Rattle.sdd_obligations.proofs.All.{Catalogue, CopyRows, D, Did, DmNo, Does, Entry, Force, Frozen, Hand, Handed, Input, Log, Mark, None, Option, Redeclared, Redeclares, Setting, Site, Some, Space, Submits, Submitted, T, Tick, Ticked, Txn, U, active, ap, class_at, contents, dated, dm_no, false, force_at, forced, given_to, home, if_way, kept, local_of, local_step, made, redeclares, refl, same_site, setting_of, subst, suc, sym, tm_no, txn_at, with_made, ℕ, ◌==◌, ◌∙◌, ◌∷◌, ◌≡◌}
+use Rattle.sdd_obligations.proofs.All.{Catalogue, CopyRows, D, Did, DmNo, Does, Entry, Era, Frozen, Hand, Handed, Input, Log, Mark, None, Option, Redeclared, Redeclares, Setting, Site, Some, Space, Submits, Submitted, T, Tick, Ticked, Txn, U, active, ap, class_at, contents, dated, dm_no, false, given_to, home, if_way, kept, local_of, local_step, made, nth_era, redeclared_at, redeclares, refl, same_site, setting_of, subst, suc, sym, tm_no, txn_at, with_made, ℕ, ◌==◌, ◌∙◌, ◌∷◌, ◌≡◌}
 use Rattle.sdd_obligations.proofs.Places.{IsAnswerAt}
 use Rattle.sdd_obligations.proofs.Snapped.{answer_more}
 use Rattle.sdd_obligations.proofs.Kept.{kept_same}
@@ -11,7 +11,7 @@ abbrev pub IsStill : Option site.Entry → Type 0
 IsStill None = Unit {0}
 IsStill (Some (Ticked n)) = Unit {0}
 IsStill (Some (Submits n txn)) = Unit {0}
-IsStill (Some (Redeclared force t)) = Unit {0}
+IsStill (Some (Redeclared era t)) = Unit {0}
 IsStill (Some (Handed from m)) = ⊥
 IsStill (Some (Did act)) = ⊥
 
@@ -19,7 +19,7 @@ pub still_kept : (s : Setting) (c ts : ℕ) (o : Option site.Entry) (l : site.Lo
 still_kept s c ts None l h = refl
 still_kept s c ts (Some (Ticked n)) l h = kept_same s c ts (Ticked n) l refl
 still_kept s c ts (Some (Submits n txn)) l h = kept_same s c ts (Submits n txn) l refl
-still_kept s c ts (Some (Redeclared force t)) l h = kept_same s c ts (Redeclared force t) l refl
+still_kept s c ts (Some (Redeclared era t)) l h = kept_same s c ts (Redeclared era t) l refl
 still_kept s c ts (Some _) l h = absurd h
 
 pub still_active : (s : Setting) (c : ℕ) (o : Option site.Entry) (l : site.Log) → IsStill o → active s c (with_made o l) ≡ active s c l
@@ -31,9 +31,9 @@ given_still : (n : ℕ) (o : Option Txn) → IsStill (given_to n o)
 given_still n None = tt
 given_still n (Some txn) = tt
 
-forced_still : (at : Site) (force : Force) (t : ℕ) → IsStill (forced at force t)
-forced_still U force t = tt
-forced_still _ force t = tt
+redeclared_still : (at : Site) (era : Era) (t : ℕ) → IsStill (redeclared_at at era t)
+redeclared_still U era t = tt
+redeclared_still _ era t = tt
 
 -- of the log of everything only hands and acts do more
 abbrev pub IsStillEntry : Entry → Type 0
@@ -43,7 +43,7 @@ IsStillEntry _ = Unit {0}
 
 pub made_still : (g : Input) (at : Site) (log : Log) (e : Entry) → IsStillEntry e → IsStill (made g at log e)
 made_still g at log (Mark (Tick t n)) h = if_way IsStill (same_site at (T t)) (Some (Ticked n)) None tt tt
-made_still g at log (Redeclares t) h = forced_still at (force_at g (suc (redeclares log))) t
+made_still g at log (Redeclares t) h = redeclared_still at (nth_era g (suc (redeclares log))) t
 made_still g at log (Hand from to n m) h = absurd h
 made_still g at log (Submitted to n) h = if_way IsStill (same_site at to) (given_to n (txn_at g n)) None (given_still n (txn_at g n)) tt
 made_still g at log (Does by act) h = absurd h

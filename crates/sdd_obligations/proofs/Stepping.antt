@@ -47,8 +47,8 @@ told_quiet : (s : Setting) (c ts : ℕ) (at : Site) (o : Option site.Entry) (l :
 told_quiet s c ts at None l h k = k
 told_quiet s c ts at (Some (Ticked n)) l h k = told_still s c ts at l (Ticked n ∷ l) refl (kept_same s c ts (Ticked n) l refl) refl k
 told_quiet s c ts at (Some (Submits n txn)) l h k = told_still s c ts at l (Submits n txn ∷ l) refl (kept_same s c ts (Submits n txn) l refl) refl k
-told_quiet s c ts at (Some (Redeclared force t)) l h k =
-    told_still s c ts at l (Redeclared force t ∷ l) refl (kept_same s c ts (Redeclared force t) l refl) refl
+told_quiet s c ts at (Some (Redeclared era t)) l h k =
+    told_still s c ts at l (Redeclared era t ∷ l) refl (kept_same s c ts (Redeclared era t) l refl) refl
     k
 told_quiet s c ts at (Some _) l h k = absurd h
 

@@ -1,5 +1,5 @@
 -- A transaction that is next to be given to a module is new there, fits, and is of the module.
-use Rattle.sdd_obligations.proofs.All.{Bool, Deliver, Did, Does, Down, Each, Entry, Event, Fits, Force, Hand, Handed, Input, IsLawful, IsNew, IsSmall, Log, Lose, Mark, None, Notes, Option, Repeat, Resend, Round, Site, Some, Submit, Submits, Submitted, T, Tick, Ticked, TmNo, Txn, U, Up, all_new, ap, arith, both, class_for, contains, differ, false, force_at, if_way, if◌then◌else◌, in_force, is_site, lawful_permitted, local_of, mark_due, nat_le, nat_tests, next, note_if, redeclares, refl, same_site, setting_of, site_self, submits, subst, sym, true, txn_at, with_submit, with_tick, ℕ, ◌==◌, ◌∙◌, ◌∷◌, ◌≡◌, ◌≢◌, ◌≤◌}
+use Rattle.sdd_obligations.proofs.All.{Bool, Deliver, Did, Does, Down, Each, Entry, Era, Event, Fits, Hand, Handed, Input, IsLawful, IsNew, IsSmall, Log, Lose, Mark, None, Notes, Option, Repeat, Resend, Round, Site, Some, Submit, Submits, Submitted, T, Tick, Ticked, TmNo, Txn, U, Up, all_new, ap, arith, both, class_for, contains, current_era, differ, false, if_way, if◌then◌else◌, is_site, lawful_permitted, local_of, mark_due, nat_le, nat_tests, next, note_if, nth_era, redeclares, refl, same_site, setting_of, site_self, submits, subst, sym, true, txn_at, with_submit, with_tick, ℕ, ◌==◌, ◌∙◌, ◌∷◌, ◌≡◌, ◌≢◌, ◌≤◌}
 use Rattle.sdd_obligations.proofs.OfNext.{of_next}
 use Rattle.sdd_invariants.specs.logs.Due.{home_of}
 use Rattle.sdd_invariants.specs.site_module.SiteLog as site
@@ -18,7 +18,7 @@ is_new g log at n txn s l e f =
 -- it goes to the site of its class, by the catalogue in force
 
 abbrev IsAtHome : Input → Log → Site → ℕ → Type 0
-IsAtHome g log at n = at ≡ home_of (force_at g (redeclares log)).catalogue (txn_at g n)
+IsAtHome g log at n = at ≡ home_of (nth_era g (redeclares log)).catalogue (txn_at g n)
 
 abbrev HomeEntry : Input → Log → Entry → Type 0
 HomeEntry g log (Submitted at n) = IsAtHome g log at n
@@ -30,7 +30,7 @@ note_home g log false e p = cc
 
 mark_home : (g : Input) (log : Log) (e : Entry) → mark_due g log ≡ Some e → HomeEntry g log e
 mark_home g (Mark (Submit k) ∷ log) e p =
-    let q : Submitted (home_of (force_at g (redeclares log)).catalogue (txn_at g k.0)) k.0 ≡ e = cc in
+    let q : Submitted (home_of (nth_era g (redeclares log)).catalogue (txn_at g k.0)) k.0 ≡ e = cc in
     subst (HomeEntry g (Mark (Submit k) ∷ log)) q refl
 mark_home g (Mark (Deliver a b k) ∷ log) e p = note_home g (Mark (Deliver a b k) ∷ log) _ e p
 mark_home g (Mark (Lose a b k) ∷ log) e p = note_home g (Mark (Lose a b k) ∷ log) _ e p
@@ -45,30 +45,30 @@ at_home g log at n s l e = mark_home g log (Submitted at n) (of_next g log (Subm
 
 -- the classes in force at a T are those of the log
 
-abbrev IsForced : Input → ℕ → TmNo → site.Log → Type 0
-IsForced g k t l = in_force (setting_of g (T t)) l ≡ force_at g k
+abbrev IsRedeclared : Input → ℕ → TmNo → site.Log → Type 0
+IsRedeclared g k t l = current_era (setting_of g (T t)) l ≡ nth_era g k
 
-submit_forced : (g : Input) (k : ℕ) (t : TmNo) (n : ℕ) (o : Option Txn) (l : site.Log) → IsForced g k t l → IsForced g k t (with_submit n o l)
-submit_forced g k t n None l h = h
-submit_forced g k t n (Some txn) l h = h
+submit_redeclared : (g : Input) (k : ℕ) (t : TmNo) (n : ℕ) (o : Option Txn) (l : site.Log) → IsRedeclared g k t l → IsRedeclared g k t (with_submit n o l)
+submit_redeclared g k t n None l h = h
+submit_redeclared g k t n (Some txn) l h = h
 
-tick_forced : (g : Input) (k : ℕ) (t : TmNo) (e : Event) (l : site.Log) → IsForced g k t l → IsForced g k t (with_tick (T t) e l)
-tick_forced g k t (Tick u n) l h = if_way (IsForced g k t) (same_site (T t) (T u)) (Ticked n ∷ l) l h h
-tick_forced g k t _ l h = h
+tick_redeclared : (g : Input) (k : ℕ) (t : TmNo) (e : Event) (l : site.Log) → IsRedeclared g k t l → IsRedeclared g k t (with_tick (T t) e l)
+tick_redeclared g k t (Tick u n) l h = if_way (IsRedeclared g k t) (same_site (T t) (T u)) (Ticked n ∷ l) l h h
+tick_redeclared g k t _ l h = h
 
-pub forced_is : (g : Input) (t : TmNo) (log : Log) → IsForced g (redeclares log) t (local_of g (T t) log)
-forced_is g t (Mark e ∷ log) = tick_forced g (redeclares log) t e (local_of g (T t) log) (forced_is g t log)
-forced_is g t (Hand a b n m ∷ log) =
-    if_way (IsForced g (redeclares log) t) (same_site (T t) b) (Handed a m ∷ local_of g (T t) log)
-    (local_of g (T t) log) (forced_is g t log) (forced_is g t log)
-forced_is g t (Submitted at n ∷ log) =
-    if_way (IsForced g (redeclares log) t) (same_site (T t) at) (with_submit n (txn_at g n) (local_of g (T t) log)) (local_of g (T t) log)
-    (submit_forced g (redeclares log) t n (txn_at g n) (local_of g (T t) log) (forced_is g t log)) (forced_is g t log)
-forced_is g t (Does by act ∷ log) =
-    if_way (IsForced g (redeclares log) t) (same_site (T t) by) (Did act ∷ local_of g (T t) log) (local_of g (T t) log) (forced_is g t log) (forced_is g t log)
-forced_is g t (Round es ∷ log) = forced_is g t log
-forced_is g t (Notes ∷ log) = forced_is g t log
-forced_is g t _ = refl
+pub redeclared_is : (g : Input) (t : TmNo) (log : Log) → IsRedeclared g (redeclares log) t (local_of g (T t) log)
+redeclared_is g t (Mark e ∷ log) = tick_redeclared g (redeclares log) t e (local_of g (T t) log) (redeclared_is g t log)
+redeclared_is g t (Hand a b n m ∷ log) =
+    if_way (IsRedeclared g (redeclares log) t) (same_site (T t) b) (Handed a m ∷ local_of g (T t) log)
+    (local_of g (T t) log) (redeclared_is g t log) (redeclared_is g t log)
+redeclared_is g t (Submitted at n ∷ log) =
+    if_way (IsRedeclared g (redeclares log) t) (same_site (T t) at) (with_submit n (txn_at g n) (local_of g (T t) log)) (local_of g (T t) log)
+    (submit_redeclared g (redeclares log) t n (txn_at g n) (local_of g (T t) log) (redeclared_is g t log)) (redeclared_is g t log)
+redeclared_is g t (Does by act ∷ log) =
+    if_way (IsRedeclared g (redeclares log) t) (same_site (T t) by) (Did act ∷ local_of g (T t) log) (local_of g (T t) log) (redeclared_is g t log) (redeclared_is g t log)
+redeclared_is g t (Round es ∷ log) = redeclared_is g t log
+redeclared_is g t (Notes ∷ log) = redeclared_is g t log
+redeclared_is g t _ = refl
 
 -- of a declared class it goes to its own module
 
@@ -77,15 +77,15 @@ home_t true k t e = cc
 home_t false k t e = (refl, e)
 
 pub declared_here : (g : Input) (log : Log) (t : TmNo) (n : ℕ) (txn : Txn) → IsSmall g → IsLawful g log → next g log ≡ Some (Submitted (T t) n)
-    → txn_at g n ≡ Some txn → (T t ≡ T txn.tm) × (class_for (in_force (setting_of g (T t)) (local_of g (T t) log)).catalogue txn ≢ 0)
+    → txn_at g n ≡ Some txn → (T t ≡ T txn.tm) × (class_for (current_era (setting_of g (T t)) (local_of g (T t) log)).catalogue txn ≢ 0)
 declared_here g log t n txn s l e f =
-    let h : T t ≡ home_of (force_at g (redeclares log)).catalogue (Some txn) =
-    subst (λ o. T t ≡ home_of (force_at g (redeclares log)).catalogue o) f (at_home g log (T t) n s l e)
+    let h : T t ≡ home_of (nth_era g (redeclares log)).catalogue (Some txn) =
+    subst (λ o. T t ≡ home_of (nth_era g (redeclares log)).catalogue o) f (at_home g log (T t) n s l e)
     in
-    let r = home_t (class_for (force_at g (redeclares log)).catalogue txn == 0) txn.tm t h in (
+    let r = home_t (class_for (nth_era g (redeclares log)).catalogue txn == 0) txn.tm t h in (
       r.1,
-      λ z. (let q : class_for (force_at g (redeclares log)).catalogue txn ≡ 0 = ap (λ (x : Force). class_for x.catalogue txn) (sym (forced_is g t log)) ∙ z in
-          differ (class_for (force_at g (redeclares log)).catalogue txn) 0 r.0 q),
+      λ z. (let q : class_for (nth_era g (redeclares log)).catalogue txn ≡ 0 = ap (λ (x : Era). class_for x.catalogue txn) (sym (redeclared_is g t log)) ∙ z in
+          differ (class_for (nth_era g (redeclares log)).catalogue txn) 0 r.0 q),
     )
 
 -- U and the modules of the network are its homes
@@ -95,10 +95,10 @@ home_site tms dms true k at l m e = subst (λ x. is_site tms dms x ≡ true) (sy
 home_site tms dms false k at l m e = subst (λ x. is_site tms dms x ≡ true) (sym e) (both (nat_le 1 k.0) (nat_le k.0 tms) (le_true 1 k.0 l) (le_true k.0 tms m))
 
 home_of_some : (g : Input) (log : Log) (at : Site) (o : Option Txn) → ((txn : Txn) → o ≡ Some txn → (1 ≤ txn.tm.0) × (txn.tm.0 ≤ g.catalogue.tms))
-    → at ≡ home_of (force_at g (redeclares log)).catalogue o → is_site g.catalogue.tms g.catalogue.dms at ≡ true
+    → at ≡ home_of (nth_era g (redeclares log)).catalogue o → is_site g.catalogue.tms g.catalogue.dms at ≡ true
 home_of_some g log at None f e = subst (λ x. is_site g.catalogue.tms g.catalogue.dms x ≡ true) (sym e) refl
 home_of_some g log at (Some txn) f e =
-    let r = f txn refl in home_site g.catalogue.tms g.catalogue.dms (class_for (force_at g (redeclares log)).catalogue txn == 0) txn.tm at r.0 r.1 e
+    let r = f txn refl in home_site g.catalogue.tms g.catalogue.dms (class_for (nth_era g (redeclares log)).catalogue txn == 0) txn.tm at r.0 r.1 e
 
 pub home_exists : (g : Input) (log : Log) (at : Site) (n : ℕ) → IsSmall g → IsLawful g log → next g log ≡ Some (Submitted at n)
     → ((k : ℕ) (txn : Txn) → txn_at g k ≡ Some txn → Fits g.catalogue txn) → is_site g.catalogue.tms g.catalogue.dms at ≡ true

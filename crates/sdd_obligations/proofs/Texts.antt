@@ -1,5 +1,5 @@
 -- The transaction of an attempt is one that was given to its class, and has what all these have.
-use Rattle.sdd_obligations.proofs.All.{AllByRecursion, Attempt, Bool, Did, Each, FitsInput, FitsText, Handed, Input, IsFair, IsNew, IsPermitted, IsServed, List, None, Option, Queued, Redeclared, Setting, Site, Some, Submits, Ticked, Txn, [], active, cons_option, each_local, false, filter_map, if◌then◌else◌, in_force, is_committed, is_for, local_of, queue, queue_is, queued, refl, setting_of, starts_of, submits_of, subst, sym, true, ℕ, ◌++◌, ◌∷◌, ◌≡◌}
+use Rattle.sdd_obligations.proofs.All.{AllByRecursion, Attempt, Bool, Did, Each, FitsInput, FitsText, Handed, Input, IsFair, IsNew, IsPermitted, IsServed, List, None, Option, Queued, Redeclared, Setting, Site, Some, Submits, Ticked, Txn, [], active, cons_option, current_era, each_local, false, filter_map, if◌then◌else◌, is_committed, is_for, local_of, queue, queue_is, queued, refl, setting_of, starts_of, submits_of, subst, sym, true, ℕ, ◌++◌, ◌∷◌, ◌≡◌}
 use Rattle.sdd_invariants.specs.site_module.SiteLog.{Entry, Log}
 use Rattle.sdd_invariants.specs.logs.Entries as whole
 
@@ -7,8 +7,8 @@ use Rattle.sdd_invariants.specs.logs.Entries as whole
 abbrev pub SubmitHas : (Txn → Type 0) → Setting → ℕ → Log → Entry → Type 0
 SubmitHas P s c log (Handed from m) = Unit {0}
 SubmitHas P s c log (Ticked n) = Unit {0}
-SubmitHas P s c log (Submits n txn) = is_for c (in_force s log).catalogue txn ≡ true → P txn
-SubmitHas P s c log (Redeclared force t) = Unit {0}
+SubmitHas P s c log (Submits n txn) = is_for c (current_era s log).catalogue txn ≡ true → P txn
+SubmitHas P s c log (Redeclared era t) = Unit {0}
 SubmitHas P s c log (Did act) = Unit {0}
 
 module _ (P : Txn → Type 0) where
@@ -25,7 +25,7 @@ module _ (P : Txn → Type 0) where
 
   submits_so : (s : Setting) (c : ℕ) (log : Log) → Each (SubmitHas P s c) log → AreSo (submits_of s c log)
   submits_so s c [] h = tt
-  submits_so s c (Submits n txn ∷ log) h = one_more (is_for c (in_force s log).catalogue txn) (submits_of s c log) n txn h.0 (submits_so s c log h.1)
+  submits_so s c (Submits n txn ∷ log) h = one_more (is_for c (current_era s log).catalogue txn) (submits_of s c log) n txn h.0 (submits_so s c log h.1)
   submits_so s c (_ ∷ log) h = submits_so s c log h.1
 
   abbrev TextsAre : List Queued → Type 0

@@ -1,5 +1,5 @@
 -- The height of a lawful log is one: no clock and no message's time is above it.
-use Rattle.sdd_obligations.proofs.All.{Act, AllFewTicks, AllLow, Ask, D, Did, Does, Entry, Event, Force, Hand, Handed, HandsLow, Held, Input, IsDueAt, IsLawful, IsLow, IsPermitted, IsUnder, List, Log, Mark, Msg, None, Notes, Option, Records, Redeclared, Redeclares, Reject, Release, Round, Site, Some, Start, Submits, Submitted, T, Tick, Ticked, Ticking, Txn, U, [], allowed_act, allowed_hand, arith, base_of, beginning, bound_at, clock, fold, force_at, forced, given_to, greatest_bound, height, if_way, if◌then◌else◌, local_of, local_step, made, made_by_mark, map, max, numbers_to, pushed_by, put_by, puts_grow, puts_to, redeclares, refl, same_site, sends_of_act, sent, sent_is, setting_of, slice_get, starts_by, subst, suc, sym, t_fair, ticked_by, ticks_of, tm_no, to_site, top, txn_at, u_due, u_fair, with_made, ℕ, ◌*◌, ◌+◌, ◌-◌, ◌/◌, ◌∷◌, ◌≡◌, ◌≤◌}
+use Rattle.sdd_obligations.proofs.All.{Act, AllFewTicks, AllLow, Ask, D, Did, Does, Entry, Era, Event, Hand, Handed, HandsLow, Held, Input, IsDueAt, IsLawful, IsLow, IsPermitted, IsUnder, List, Log, Mark, Msg, None, Notes, Option, Records, Redeclared, Redeclares, Reject, Release, Round, Site, Some, Start, Submits, Submitted, T, Tick, Ticked, Ticking, Txn, U, [], allowed_act, allowed_hand, arith, base_of, beginning, bound_at, clock, fold, given_to, greatest_bound, height, if_way, if◌then◌else◌, local_of, local_step, made, made_by_mark, map, max, nth_era, numbers_to, pushed_by, put_by, puts_grow, puts_to, redeclared_at, redeclares, refl, same_site, sends_of_act, sent, sent_is, setting_of, slice_get, starts_by, subst, suc, sym, t_fair, ticked_by, ticks_of, tm_no, to_site, top, txn_at, u_due, u_fair, with_made, ℕ, ◌*◌, ◌+◌, ◌-◌, ◌/◌, ◌∷◌, ◌≡◌, ◌≤◌}
 use Rattle.sdd_obligations.proofs.AnswersLow.{d_low}
 use Rattle.sdd_obligations.proofs.LowLists.{all_low_join, all_low_up, low_at, low_up}
 use Rattle.sdd_obligations.proofs.OfNext.{OfNext, of_next, t_of_sites}
@@ -12,7 +12,7 @@ MayGrow h k None = Unit {0}
 MayGrow h k (Some (Handed from m)) = IsLow h m
 MayGrow h k (Some (Ticked n)) = n + h ≤ k
 MayGrow h k (Some (Submits n txn)) = Unit {0}
-MayGrow h k (Some (Redeclared force t)) = t ≤ top h
+MayGrow h k (Some (Redeclared era t)) = t ≤ top h
 MayGrow h k (Some (Did act)) = (starts_by act + h ≤ k) × ((b : Site) → AllLow k (to_site b (sends_of_act act)))
 
 -- clocks
@@ -40,7 +40,7 @@ started_le h k act c l m = omega (arith, l, m)
 clock_le : (at : Site) (h k : ℕ) (o : Option site.Entry) (l : site.Log) → h ≤ k → (clock at l).ticks ≤ h → MayGrow h k o → (clock at (with_made o l)).ticks ≤ k
 clock_le at h k (Some (Handed from x)) l u c m = let p = pushed_le h x (clock at l) c m in omega (arith, u, p)
 clock_le at h k (Some (Ticked n)) l u c m = omega (arith, c, m)
-clock_le at h k (Some (Redeclared force t)) l u c m = let p = push_le (clock at l).ticks t h c m in omega (arith, u, p)
+clock_le at h k (Some (Redeclared era t)) l u c m = let p = push_le (clock at l).ticks t h c m in omega (arith, u, p)
 clock_le at h k (Some (Did act)) l u c m = started_le h k act (clock at l) c m.0
 clock_le at h k _ l u c m = omega (arith, u, c)
 
@@ -75,9 +75,9 @@ by_mark : (h : ℕ) (at : Site) (e : Event) → MayGrow h (ticks_of e + h) (made
 by_mark h at (Tick t n) = if_way (MayGrow h (n + h)) (same_site at (T t)) (Some (Ticked n)) None (omega arith) tt
 by_mark h at _ = tt
 
-by_force : (h : ℕ) (at : Site) (force : Force) (t : ℕ) → t ≤ top h → MayGrow h h (forced at force t)
-by_force h (T n) force t l = l
-by_force h _ force t l = tt
+by_era : (h : ℕ) (at : Site) (era : Era) (t : ℕ) → t ≤ top h → MayGrow h h (redeclared_at at era t)
+by_era h (T n) era t l = l
+by_era h _ era t l = tt
 
 by_submit : (h n : ℕ) (o : Option Txn) → MayGrow h h (given_to n o)
 by_submit h n None = tt
@@ -132,7 +132,7 @@ under g (Redeclares t ∷ log) w f h p =
     let e : t ≡ greatest_bound g log = of_next g log (Redeclares t) f h.1 h.0 in
     let l = greatest_le g (height log) log i in
     under_more g (height log) (height log) (Redeclares t) log (omega arith) i
-    (λ at. by_force (height log) at (force_at g (suc (redeclares log))) t (omega (arith, e, l)))
+    (λ at. by_era (height log) at (nth_era g (suc (redeclares log))) t (omega (arith, e, l)))
 under g (Hand from to n m ∷ log) w f h p =
     let i = under g log w f h.1 p.1 in
     under_more g (height log) (height log) (Hand from to n m) log (omega arith) i

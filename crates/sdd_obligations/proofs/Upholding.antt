@@ -1,5 +1,5 @@
 -- What is next on a lawful log is what modules ask.
-use Rattle.sdd_obligations.proofs.All.{Act, AllLinked, Bases, D, DmNo, Does, Hand, Input, IsFit, IsLawful, IsSiteOf, IsUpheldD, IsUpheldR, IsWithin, Log, Msg, Site, Some, Submitted, T, TmNo, Txn, U, allowed_act, class_for, contains, false, in_force, lawful_permitted, local_of, next, sends_of_act, setting_of, submits, txn_at, ℕ, ◌∷◌, ◌≡◌, ◌≢◌}
+use Rattle.sdd_obligations.proofs.All.{Act, AllLinked, Bases, D, DmNo, Does, Hand, Input, IsFit, IsLawful, IsSiteOf, IsUpheldD, IsUpheldR, IsWithin, Log, Msg, Site, Some, Submitted, T, TmNo, Txn, U, allowed_act, class_for, contains, current_era, false, lawful_permitted, local_of, next, sends_of_act, setting_of, submits, txn_at, ℕ, ◌∷◌, ◌≡◌, ◌≢◌}
 use Rattle.sdd_obligations.proofs.OfNext.{of_next}
 use Rattle.sdd_obligations.proofs.FitsAtD.{d_fits}
 use Rattle.sdd_obligations.proofs.FitsAtT.{t_fits, u_fits}
@@ -29,7 +29,7 @@ pub submit_new : (g : Input) (log : Log) (at : Site) (n : ℕ) (txn : Txn) → I
 submit_new g log at n txn f l e p = is_new g log at n txn f.small l e p
 
 pub submit_declared : (g : Input) (log : Log) (t : TmNo) (n : ℕ) (txn : Txn) → IsFit g → IsLawful g log → next g log ≡ Some (Submitted (T t) n)
-    → txn_at g n ≡ Some txn → (T t ≡ T txn.tm) × (class_for (in_force (setting_of g (T t)) (local_of g (T t) log)).catalogue txn ≢ 0)
+    → txn_at g n ≡ Some txn → (T t ≡ T txn.tm) × (class_for (current_era (setting_of g (T t)) (local_of g (T t) log)).catalogue txn ≢ 0)
 submit_declared g log t n txn f l e p = declared_here g log t n txn f.small l e p
 
 pub submit_home : (g : Input) (log : Log) (at : Site) (n : ℕ) → IsFit g → IsLawful g log → next g log ≡ Some (Submitted at n) → IsSiteOf g at

@@ -19,7 +19,7 @@ IsStrictAt c log (Did act) = IsStrict (reads_in c (all_of (pipe c log))) × IsIn
 IsStrictAt c log (Handed from m) = Unit {0}
 IsStrictAt c log (Ticked n) = Unit {0}
 IsStrictAt c log (Submits n txn) = Unit {0}
-IsStrictAt c log (Redeclared force t) = Unit {0}
+IsStrictAt c log (Redeclared era t) = Unit {0}
 
 stricts : (g : Input) (c : ℕ) (d : DmNo) (log : Log) → number_of (home g.catalogue c) ≤ 63 → IsPermitted g log → Each (IsStrictAt c) (local_of g (D d) log)
 stricts g c d log small = each_local g (D d) (IsStrictAt c) (record {

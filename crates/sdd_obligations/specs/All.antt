@@ -2,7 +2,7 @@
 pub use Rattle.sdd_obligations.specs.AfterEvents.{is_down_after, redeclares_in}
 pub use Rattle.sdd_obligations.specs.Bounds.{AllFewTicks}
 pub use Rattle.sdd_obligations.specs.Fitting.{FitsInput, FitsText}
-pub use Rattle.sdd_obligations.specs.Real.{FitsForce, Fitting, FittingSubmit, IsGood, fits, fits_at, fits_submit, fits_submit_at, fits_tick}
+pub use Rattle.sdd_obligations.specs.Real.{FitsEra, Fitting, FittingSubmit, IsGood, fits, fits_at, fits_submit, fits_submit_at, fits_tick}
 pub use Rattle.sdd_obligations.specs.Stages.{IsStage, agreed, answer_goes, flight, question_goes}
 pub use Rattle.sdd_obligations.specs.Turns.{Asks, MayAnswer, Replies, Turn, answers, is_answer, is_question, questions, reads_asked, rows_asked, turn_at, turn_with}
 pub use Rattle.sdd_obligations.specs.attempt.Acts.{attempt_due, commit_act, conditions_at, write_to}
@@ -94,7 +94,7 @@ pub use Rattle.sdd_obligations.specs.lang.declared.transaction.Txn.{Txn}
 pub use Rattle.sdd_obligations.specs.laws.Applies.{KeepsApplies}
 pub use Rattle.sdd_obligations.specs.laws.Conditions.{IsConditionOf, conditions_of}
 pub use Rattle.sdd_obligations.specs.laws.Deeds.{AppliedBefore, ChangesOne, GoesTo, IsSubmitted, StartedBefore}
-pub use Rattle.sdd_obligations.specs.laws.Eras.{AreEras, Eras, begun}
+pub use Rattle.sdd_obligations.specs.laws.Eras.{AreEras, Eras, eras_begun}
 pub use Rattle.sdd_obligations.specs.laws.Few.{AreFew, commits_of_others, is_commit_of_other, starts_of}
 pub use Rattle.sdd_obligations.specs.laws.Kept.{KeepsLaws}
 pub use Rattle.sdd_obligations.specs.laws.Numbers.{NamesOneOf, TxnsExist}
@@ -107,7 +107,7 @@ pub use Rattle.sdd_obligations.specs.laws.Undeclared.{KeepsUndeclared}
 pub use Rattle.sdd_obligations.specs.logs.Due.{does_at, due_by, extended, hand_due, hand_number, hand_on, hand_with, mark_due, next, next_at, next_in, next_number, note_if, site_due}
 pub use Rattle.sdd_obligations.specs.logs.Entries.{Does, Entry, Hand, Input, Log, Mark, Notes, Redeclares, Round, Submitted, history, marks, with_event}
 pub use Rattle.sdd_obligations.specs.logs.Lawful.{EndsByLimit, IsLawful, IsTheLog, puts_past}
-pub use Rattle.sdd_obligations.specs.logs.Locals.{IsForce, beginning, force_at, local_of, redeclares, rows_of, setting_of, txn_at, with_force, with_submit}
+pub use Rattle.sdd_obligations.specs.logs.Locals.{IsEra, beginning, local_of, nth_era, redeclares, rows_of, setting_of, txn_at, with_era, with_submit}
 pub use Rattle.sdd_obligations.specs.logs.Marks.{after_mark, bound_at, greatest_bound, left, mark_from, mark_of, next_mark}
 pub use Rattle.sdd_obligations.specs.logs.Permitted.{AreSubmittedOnce, IsAllowed, IsPermitted, by_event, by_mark, one_if, submits_by, submits_in}
 pub use Rattle.sdd_obligations.specs.logs.Resting.{AllHanded, AllLinked, AtEach, EndsIn, IsFirst, IsLinkOf, IsMarked, IsPossible, IsSiteOf, Remain, Rests, Takes, TakesRounds, Waits, from_one, settles_before}
@@ -134,7 +134,7 @@ pub use Rattle.sdd_obligations.specs.serial_orders.Numbers.{IsClass, IsFrom1To, 
 pub use Rattle.sdd_obligations.specs.serial_orders.Orders.{IsOrderable, IsSerial}
 pub use Rattle.sdd_obligations.specs.serial_orders.Places.{Stands, event_at, placed}
 pub use Rattle.sdd_obligations.specs.serial_orders.Precedence.{HasNoCycle, is_apply}
-pub use Rattle.sdd_obligations.specs.site_module.SiteLog.{Act, AreDue, Bases, Did, Each, Force, Handed, Records, Redeclared, Sends, Setting, Submits, Ticked, answers_hand, hands, in_force, log_after, records_of, records_of_act, sends_of, sends_of_act}
+pub use Rattle.sdd_obligations.specs.site_module.SiteLog.{Act, AreDue, Bases, Did, Each, Era, Handed, Records, Redeclared, Sends, Setting, Submits, Ticked, answers_hand, current_era, hands, log_after, records_of, records_of_act, sends_of, sends_of_act}
 pub use Rattle.sdd_obligations.specs.tm.Due.{by_ask, exchange_due, held_due, null_at, null_due, null_time, null_to, start_due, start_of}
 pub use Rattle.sdd_obligations.specs.tm.Stands.{AreOpen, Rise}
 pub use Rattle.sdd_obligations.specs.tm.State.{ClassState, state_of}

@@ -1,7 +1,7 @@
 -- What the modules of a system require of what is next on each lawful log, and that its links exist.
 use Rattle.std.specs.Prelude.{ℕ, suc, ◌∷◌, ◌≡◌, Some}
-use Rattle.sdd_invariants.specs.All.{Act, AllLinked, Does, Hand, Input, IsLawful, IsSiteOf, IsWithin, Log, Mark, Msg, Redeclares, Site, Submitted, T, Tick, Txn, base_of, force_at, local_of, next, redeclares, sends_of_act, setting_of, tm_no, txn_at}
-use Rattle.sdd_obligations.specs.Real.{FitsForce, IsGood, fits, fits_submit, fits_tick}
+use Rattle.sdd_invariants.specs.All.{Act, AllLinked, Does, Hand, Input, IsLawful, IsSiteOf, IsWithin, Log, Mark, Msg, Redeclares, Site, Submitted, T, Tick, Txn, base_of, local_of, next, nth_era, redeclares, sends_of_act, setting_of, tm_no, txn_at}
+use Rattle.sdd_obligations.specs.Real.{FitsEra, IsGood, fits, fits_submit, fits_tick}
 
 -- Of all that is given so: what the modules require of messages, transactions, ticks and further lists of classes holds of what is next on its lawful
 -- logs, and what is put goes along links.
@@ -16,5 +16,5 @@ pub record Facts : Type 0 where
       → fits_tick (T (tm_no t)) (setting_of g (T (tm_no t))) (local_of g (T (tm_no t)) log) n
   pub redeclare : (g : Input) → IsGood g → (log : Log) (t : ℕ) → IsLawful g log → IsWithin log
       → next g log ≡ Some (Redeclares t)
-      → FitsForce g.catalogue (force_at g (suc (redeclares log))) t
+      → FitsEra g.catalogue (nth_era g (suc (redeclares log))) t
   pub sends : (g : Input) → IsGood g → (log : Log) (at : Site) (act : Act) → IsLawful g log → next g log ≡ Some (Does at act) → AllLinked g at (sends_of_act act)

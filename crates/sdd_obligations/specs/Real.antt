@@ -1,6 +1,6 @@
 -- What the modules of the system ask, by the kind of their site, and all that is needed of what is given.
 use Rattle.std.specs.Prelude.{ℕ, ◌/◌, ◌<◌, ◌^◌, List, None, Option, Some}
-use Rattle.sdd_invariants.specs.All.{AreSubmittedOnce, Attempt, Bases, Catalogue, D, FitsSite, Force, Input, Msg, Row, Rows, ServesIfLast, Setting, Site, T, Txn, U, active, number_of, without}
+use Rattle.sdd_invariants.specs.All.{AreSubmittedOnce, Attempt, Bases, Catalogue, D, Era, FitsSite, Input, Msg, Row, Rows, ServesIfLast, Setting, Site, T, Txn, U, active, number_of, without}
 use Rattle.sdd_laws.specs.All.{IsEraOf}
 use Rattle.sdd_invariants.specs.dm.Fits as dm
 use Rattle.sdd_invariants.specs.tm.Fits as tm
@@ -50,9 +50,9 @@ fits_tick at = fits_tick_at FitsTick at
 
 -- What a further list of classes has to meet, and its time: the list is one of the whole catalogue, and the time pushes
 -- no clock too far.
-pub record FitsForce (whole : Catalogue) (force : Force) (t : ℕ) : Type 0 where
+pub record FitsEra (whole : Catalogue) (next : Era) (t : ℕ) : Type 0 where
   pub early : t / 64 < 2 ^ 57
-  pub era : IsEraOf whole force.catalogue
+  pub era : IsEraOf whole next.catalogue
 
 -- with the last ROWS the rows serve the attempt's database
 

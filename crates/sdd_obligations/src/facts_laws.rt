@@ -1,5 +1,5 @@
 ghost use Rattle.std.specs.Prelude.{◌≡◌, ◌≢◌, ◌∷◌, ℕ, slice_get, false, Some};
-ghost use Rattle.sdd_invariants.specs.All.{Act, AllLinked, Bases, D, DmNo, Does, Hand, Input, IsLawful, IsPermitted, IsSiteOf, IsWithin, Log, Msg, Site, Submitted, T, TmNo, Txn, U, class_for, contains, in_force, local_of, next, puts_to, sends_of_act, setting_of, submits, txn_at};
+ghost use Rattle.sdd_invariants.specs.All.{Act, AllLinked, Bases, D, DmNo, Does, Hand, Input, IsLawful, IsPermitted, IsSiteOf, IsWithin, Log, Msg, Site, Submitted, T, TmNo, Txn, U, class_for, contains, current_era, local_of, next, puts_to, sends_of_act, setting_of, submits, txn_at};
 ghost use Rattle.sdd_invariants.specs.dm.Fits as dm;
 ghost use Rattle.sdd_invariants.specs.tm.Fits as tm;
 ghost use Rattle.sdd_invariants.specs.umod.Fits as um;
@@ -48,7 +48,7 @@ pub fn law_submits()
         → IsFit given → IsLawful given log → next given log ≡ Some (Submitted (T t) number)
         → txn_at given number ≡ Some txn
         → (T t ≡ T txn.tm)
-        × (class_for (in_force (setting_of given (T t)) (local_of given (T t) log)).catalogue txn
+        × (class_for (current_era (setting_of given (T t)) (local_of given (T t) log)).catalogue txn
         ≢ 0) }
     ensures home { (given : Input) (log : Log) (at : Site) (number : ℕ) → IsFit given
         → IsLawful given log → next given log ≡ Some (Submitted at number)

@@ -1,6 +1,6 @@
 -- Of two committed transactions the second was submitted in a later era: a list of classes was put in force between them,
 -- so that the first is committed and applied before the second starts.
-use Rattle.sdd_progress.proofs.All.{AppliedBefore, Committed, Entry, GoesTo, Input, IsAttempt, IsOfEarlierEra, IsSubmitted, Log, Redeclares, Submit, Submitted, [], ap, append_assoc, arith, begun, eras_of, event_at, history, inl, inr, length, length-append, redeclares, refl, submit_in, subst, sym, txn_no, ℕ, ◌++◌, ◌+◌, ◌<◌, ◌∙◌, ◌∷◌, ◌≡◌, ◌≢◌, ◌≤◌}
+use Rattle.sdd_progress.proofs.All.{AppliedBefore, Committed, Entry, GoesTo, Input, IsAttempt, IsOfEarlierEra, IsSubmitted, Log, Redeclares, Submit, Submitted, [], ap, append_assoc, arith, eras_begun, eras_of, event_at, history, inl, inr, length, length-append, redeclares, refl, submit_in, subst, sym, txn_no, ℕ, ◌++◌, ◌+◌, ◌<◌, ◌∙◌, ◌∷◌, ◌≡◌, ◌≢◌, ◌≤◌}
 use Rattle.sdd_progress.proofs.SinceRedeclare.{redeclares_back}
 use Rattle.sdd_progress.proofs.AtRest.{IsRest, applied_by, committed_by, rest}
 use Rattle.sdd_progress.proofs.Fronts.{ends, history_le, redeclare_between, stands_front}
@@ -23,7 +23,7 @@ pub record IsEarlier (g : Input) (log : Log) (x : Committed) (a : Attempt) : Typ
 
 module _ (g : Input) (log : Log) (w : Known g log) where
   pub apart : (n place : ℕ) → IsSubmitted (history log) n place → (e : Entry) (later upper : Log) → log ≡ later ++ e ∷ upper
-      → begun (eras_of g log) (event_at (history log) place) ≤ redeclares upper → IsApart g log n place upper
+      → eras_begun (eras_of g log) (event_at (history log) place) ≤ redeclares upper → IsApart g log n place upper
   apart n place s e later upper is l =
       let x = submit_in g log n place w.permitted s in
       let above : Log = later ++ e ∷ [] in
@@ -87,6 +87,6 @@ module _ (g : Input) (log : Log) (w : Known g log) where
   other_txn x y o e =
       let one = w.starts.one_submit y.start.txn o.first_place o.second_place (subst (λ n. IsSubmitted (history log) n o.first_place) e o.first_submitted) o.second_submitted in
       let l = o.earlier in
-      let same : begun (eras_of g log) (event_at (history log) o.first_place) ≡ begun (eras_of g log) (event_at (history log) o.second_place) =
-      ap (λ k. begun (eras_of g log) (event_at (history log) k)) one in
+      let same : eras_begun (eras_of g log) (event_at (history log) o.first_place) ≡ eras_begun (eras_of g log) (event_at (history log) o.second_place) =
+      ap (λ k. eras_begun (eras_of g log) (event_at (history log) k)) one in
       absurd (omega (arith, l, same))

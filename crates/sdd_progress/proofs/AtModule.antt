@@ -32,7 +32,7 @@ by_made g d log e (Some (Did act)) h m s =
     acting act is s (allowed_act g log (Does (D d) act) (subst (λ x. IsPermitted g (x ∷ log)) is h).0)
 by_made g d log e (Some (Ticked n)) h m s = aside (λ c. leaves_as (at_module g d log) (at_module g d (e ∷ log)) (Ticked n) c s refl refl)
 by_made g d log e (Some (Submits n txn)) h m s = aside (λ c. leaves_as (at_module g d log) (at_module g d (e ∷ log)) (Submits n txn) c s refl refl)
-by_made g d log e (Some (Redeclared force t)) h m s = aside (λ c. leaves_as (at_module g d log) (at_module g d (e ∷ log)) (Redeclared force t) c s refl refl)
+by_made g d log e (Some (Redeclared era t)) h m s = aside (λ c. leaves_as (at_module g d log) (at_module g d (e ∷ log)) (Redeclared era t) c s refl refl)
 
 pub entry_at : (g : Input) (d : DmNo) (log : Log) (e : Entry) → IsPermitted g (e ∷ log) → IsEntryAt g d log e
 entry_at g d log e h = by_made g d log e (made g (D d) log e) h refl (local_step g (D d) e log)

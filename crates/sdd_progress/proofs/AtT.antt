@@ -1,5 +1,5 @@
 -- A transaction module has less left to do after each act.
-use Rattle.sdd_progress.proofs.AllEnds.{Act, Attempt, Bases, Bool, D, Did, Each, Held, HoldCounts, IsFair, IsNew, IsServed, List, Msg, None, Null, Option, Question, Queued, Sends, Setting, Site, Some, U, [], active, and_right, answers_hand, ap, arith, asks, asks_next, attempt_due, by_ask, by_exchange, by_hold, by_start, class_no, clock, commit_act, dm_no, false, filter_short, first_send, head_of, holds, holds_acted, if◌then◌else◌, in_force, in_mapped, is_none, is_over, length, ltb-true, nat_lt, not, null_at, null_time, null_to, on_hold, or_else, queue, queue_is, refl, runs, same_Some, same_number, slice_get, start_act, start_due, start_of, subst, suc, sym, time_at, true, ℕ, ◌&&◌, ◌+◌, ◌-◌, ◌<◌, ◌==◌, ◌∷◌, ◌≡◌, ◌≤◌}
+use Rattle.sdd_progress.proofs.AllEnds.{Act, Attempt, Bases, Bool, D, Did, Each, Held, HoldCounts, IsFair, IsNew, IsServed, List, Msg, None, Null, Option, Question, Queued, Sends, Setting, Site, Some, U, [], active, and_right, answers_hand, ap, arith, asks, asks_next, attempt_due, by_ask, by_exchange, by_hold, by_start, class_no, clock, commit_act, current_era, dm_no, false, filter_short, first_send, head_of, holds, holds_acted, if◌then◌else◌, in_mapped, is_none, is_over, length, ltb-true, nat_lt, not, null_at, null_time, null_to, on_hold, or_else, queue, queue_is, refl, runs, same_Some, same_number, slice_get, start_act, start_due, start_of, subst, suc, sym, time_at, true, ℕ, ◌&&◌, ◌+◌, ◌-◌, ◌<◌, ◌==◌, ◌∷◌, ◌≡◌, ◌≤◌}
 use Rattle.sdd_progress.proofs.Lines.{class_work, commit_falls, commit_other, send_falls, send_up, start_falls, start_other}
 use Rattle.sdd_progress.proofs.Sums.{by_class, filter_shorter, total, total_less, total_up}
 use Rattle.sdd_obligations.specs.invariants.All.{class_view}
@@ -100,11 +100,11 @@ module _ (s : Setting) (bases : Bases) (log : Log) (fair : Each (IsFair s) log) 
       → head_of (queue s c log) ≡ o → start_of s.catalogue (view_of s log) c o ≡ Some act → t_work s (Did act ∷ log) < t_work s log
   start_at_falls n c None act at idle head e = absurd (cc)
   start_at_falls n c (Some q) act at idle head e =
-      let start : Act = start_act s.catalogue (in_force s log).table c (clock s.site log) q in
+      let start : Act = start_act s.catalogue (current_era s log).table c (clock s.site log) q in
       subst (λ x. t_work s (Did x ∷ log) < t_work s log) (same_Some start act e)
-      (let own : class_work s (Did start ∷ log) c < class_work s log c = start_falls s (in_force s log).table (clock s.site log) c log q idle head in
+      (let own : class_work s (Did start ∷ log) c < class_work s log c = start_falls s (current_era s log).table (clock s.site log) c log q idle head in
       let all = total_less (class_work s (Did start ∷ log)) (class_work s log) (runs s) n c at
-      (by_class _ _ c own (λ k f. start_other s (in_force s log).table (clock s.site log) c k log q f)) own in
+      (by_class _ _ c own (λ k f. start_other s (current_era s log).table (clock s.site log) c k log q f)) own in
       omega (arith, all))
 
   start_if_falls : (n c : ℕ) (b : Bool) (o : Option Attempt) (act : Act) → slice_get (runs s) n ≡ Some c → active s c log ≡ o

@@ -9,7 +9,7 @@ abbrev pub IsCurrent : Setting → Log → Entry → Type 0
 IsCurrent s log (Handed from m) = (x : ℕ) → is_done_of x m ≡ true → (last_served s log).ts ≡ x
 IsCurrent s log (Ticked n) = Unit {0}
 IsCurrent s log (Submits n txn) = Unit {0}
-IsCurrent s log (Redeclared force t) = Unit {0}
+IsCurrent s log (Redeclared era t) = Unit {0}
 IsCurrent s log (Did act) = Unit {0}
 
 current_done : (g : Input) (k t : ℕ) (log : whole.Log) (from : Site) (n : ℕ) (m : Msg) (x : ℕ) → slice_get (numbers_to g.catalogue.tms) k ≡ Some t
@@ -150,7 +150,7 @@ counted_off s (Ticked n ∷ log) small fair table now =
     let i = counted_off s log small fair.1 table.1 now.1 in same_counts s (Ticked n) log refl (λ x. refl) i.attempt_above i
 counted_off s (Submits n txn ∷ log) small fair table now =
     let i = counted_off s log small fair.1 table.1 now.1 in same_counts s (Submits n txn) log refl (λ x. refl) i.attempt_above i
-counted_off s (Redeclared force t ∷ log) small fair table now =
-    let i = counted_off s log small fair.1 table.1 now.1 in same_counts s (Redeclared force t) log refl (λ x. refl) i.attempt_above i
+counted_off s (Redeclared era t ∷ log) small fair table now =
+    let i = counted_off s log small fair.1 table.1 now.1 in same_counts s (Redeclared era t) log refl (λ x. refl) i.attempt_above i
 counted_off s (Did act ∷ log) small fair table now =
     counted_act s log act small fair.1 (u_due s table.0.0.0 log act table.0.0.1) (counted_off s log small fair.1 table.1 now.1)

@@ -1,5 +1,5 @@
 -- The eras of a log that puts several lists of classes in force.
-use Rattle.sdd_progress.proofs.All.{AreErasOf, Catalogue, Eras, HasSoundLists, Input, IsEraOf, List, Log, Mark, Redeclares, Some, [], ap, arith, at_seam, begun, cond, eras_of, false, filter, force_at, in_force, in_left, inl, inr, le-leb, le_is, length, length-append, marks, nat_le, place_within, redeclares, refl, slice_get, slice_index_or, subst, suc, sym, true, true_or_false, zero, ℕ, ◌++◌, ◌+◌, ◌-◌, ◌<◌, ◌∙◌, ◌∷◌, ◌≡◌, ◌≤◌, ◌⊎◌}
+use Rattle.sdd_progress.proofs.All.{AreErasOf, Catalogue, Eras, HasSoundLists, Input, IsEraOf, List, Log, Mark, Redeclares, Some, [], ap, arith, at_seam, catalogue_at, cond, eras_begun, eras_of, false, filter, in_left, inl, inr, le-leb, le_is, length, length-append, marks, nat_le, nth_era, place_within, redeclares, refl, slice_get, slice_index_or, subst, suc, sym, true, true_or_false, zero, ℕ, ◌++◌, ◌+◌, ◌-◌, ◌<◌, ◌∙◌, ◌∷◌, ◌≡◌, ◌≤◌, ◌⊎◌}
 use Rattle.sdd_progress.proofs.SinceRedeclare.{redeclares_back}
 
 -- a member of a list with one more at its end
@@ -12,32 +12,32 @@ at_snoc (x ∷ xs) y (suc k) m e = elim (at_snoc xs y k m e) [
   | inr p ↦ inr (ap (λ n. suc n) p.0, p.1)
 ]
 
--- an era of the log: its list, and that it has begun
+-- an era of the log: its list, and that it has eras_begun
 abbrev IsNumbered : Input → Log → Type 0
-IsNumbered g log = (k : ℕ) (a : ℕ × Catalogue) → slice_get (eras_of g log) k ≡ Some a → (a.1 ≡ (force_at g k).catalogue) × (a.0 ≤ marks log)
+IsNumbered g log = (k : ℕ) (a : ℕ × Catalogue) → slice_get (eras_of g log) k ≡ Some a → (a.1 ≡ (nth_era g k).catalogue) × (a.0 ≤ marks log)
 
 len : (g : Input) (log : Log) → length (eras_of g log) ≡ suc (redeclares log)
 len g [] = refl
 len g (Redeclares t ∷ log) =
     let i = len g log in
-    let j = length-append (eras_of g log) ((suc (marks log), (force_at g (suc (redeclares log))).catalogue) ∷ []) in omega (arith, i, j)
+    let j = length-append (eras_of g log) ((suc (marks log), (nth_era g (suc (redeclares log))).catalogue) ∷ []) in omega (arith, i, j)
 len g (_ ∷ log) = len g log
 
 later_mark : (g : Input) (log : Log) → IsNumbered g log → (k : ℕ) (a : ℕ × Catalogue) → slice_get (eras_of g log) k ≡ Some a
-    → (a.1 ≡ (force_at g k).catalogue) × (a.0 ≤ suc (marks log))
+    → (a.1 ≡ (nth_era g k).catalogue) × (a.0 ≤ suc (marks log))
 later_mark g log h k a e = let r = h k a e in let l = r.1 in (r.0, omega (arith, l))
 
 numbered : (g : Input) (log : Log) → IsNumbered g log
-numbered g [] zero a e = let p : (0, (force_at g 0).catalogue) ≡ a = cc in
+numbered g [] zero a e = let p : (0, (nth_era g 0).catalogue) ≡ a = cc in
     (ap (λ (x : ℕ × Catalogue). x.1) (sym p), let q : 0 ≡ a.0 = ap (λ (x : ℕ × Catalogue). x.0) p in omega (arith, q))
 numbered g [] (suc k) a e = cc
 numbered g (Redeclares t ∷ log) k a e =
-    let y : ℕ × Catalogue = (suc (marks log), (force_at g (suc (redeclares log))).catalogue) in
+    let y : ℕ × Catalogue = (suc (marks log), (nth_era g (suc (redeclares log))).catalogue) in
     elim (at_snoc (eras_of g log) y k a e) [
       | inl p ↦ later_mark g log (numbered g log) k a p
       | inr p ↦ (let n : k ≡ suc (redeclares log) = p.0 ∙ len g log in
           let q : suc (marks log) ≡ a.0 = ap (λ (x : ℕ × Catalogue). x.0) p.1 in
-          (ap (λ (x : ℕ × Catalogue). x.1) (sym p.1) ∙ ap (λ i. (force_at g i).catalogue) (sym n), omega (arith, q)))
+          (ap (λ (x : ℕ × Catalogue). x.1) (sym p.1) ∙ ap (λ i. (nth_era g i).catalogue) (sym n), omega (arith, q)))
     ]
 numbered g (Mark x ∷ log) k a e = later_mark g log (numbered g log) k a e
 numbered g (_ ∷ log) k a e = numbered g log k a e
@@ -45,7 +45,7 @@ numbered g (_ ∷ log) k a e = numbered g log k a e
 rises : (g : Input) (log : Log) (k : ℕ) (a b : ℕ × Catalogue) → slice_get (eras_of g log) k ≡ Some a → slice_get (eras_of g log) (suc k) ≡ Some b → a.0 < b.0
 rises g [] k a b e f = cc
 rises g (Redeclares t ∷ log) k a b e f =
-    let y : ℕ × Catalogue = (suc (marks log), (force_at g (suc (redeclares log))).catalogue) in
+    let y : ℕ × Catalogue = (suc (marks log), (nth_era g (suc (redeclares log))).catalogue) in
     elim (at_snoc (eras_of g log) y (suc k) b f) [
       | inl p ↦ elim (at_snoc (eras_of g log) y k a e) [
         | inl q ↦ rises g log k a b q p
@@ -58,9 +58,9 @@ rises g (Redeclares t ∷ log) k a b e f =
     ]
 rises g (_ ∷ log) k a b e f = rises g log k a b e f
 
-first : (g : Input) (log : Log) → slice_get (eras_of g log) 0 ≡ Some (0, (force_at g 0).catalogue)
+first : (g : Input) (log : Log) → slice_get (eras_of g log) 0 ≡ Some (0, (nth_era g 0).catalogue)
 first g [] = refl
-first g (Redeclares t ∷ log) = in_left (eras_of g log) _ 0 (0, (force_at g 0).catalogue) (first g log)
+first g (Redeclares t ∷ log) = in_left (eras_of g log) _ 0 (0, (nth_era g 0).catalogue) (first g log)
 first g (_ ∷ log) = first g log
 
 -- those of a log go on in a longer one
@@ -70,14 +70,14 @@ stays g (Redeclares t ∷ later) log k a e = in_left (eras_of g (later ++ log)) 
 stays g (_ ∷ later) log k a e = stays g later log k a e
 
 -- the last one
-last : (g : Input) (log : Log) → (a : ℕ × Catalogue) × (slice_get (eras_of g log) (redeclares log) ≡ Some a) × (a.1 ≡ (force_at g (redeclares log)).catalogue)
-last g [] = ((0, (force_at g 0).catalogue), refl, refl)
+last : (g : Input) (log : Log) → (a : ℕ × Catalogue) × (slice_get (eras_of g log) (redeclares log) ≡ Some a) × (a.1 ≡ (nth_era g (redeclares log)).catalogue)
+last g [] = ((0, (nth_era g 0).catalogue), refl, refl)
 last g (Redeclares t ∷ log) =
-    let y : ℕ × Catalogue = (suc (marks log), (force_at g (suc (redeclares log))).catalogue) in
+    let y : ℕ × Catalogue = (suc (marks log), (nth_era g (suc (redeclares log))).catalogue) in
     (y, ap (slice_get (eras_of g log ++ y ∷ [])) (sym (len g log)) ∙ at_seam (eras_of g log) [] y, refl)
 last g (_ ∷ log) = last g log
 
--- how many have begun
+-- how many have eras_begun
 
 one_up : (a b c : ℕ) → a ≡ b + c → suc a ≡ suc b + c
 one_up a b c e = omega (arith, e)
@@ -97,7 +97,7 @@ sum_one a b c d e f g = omega (arith, e, f, g)
 sum_none : (a b c d : ℕ) → a ≡ b + c → b ≡ d → c ≡ 0 → a ≡ d
 sum_none a b c d e f g = omega (arith, e, f, g)
 
-begun_more : (eras : Eras) (y : ℕ × Catalogue) (event : ℕ) → begun (eras ++ y ∷ []) event ≡ begun eras event + length (cond (nat_le y.0 event) (y ∷ []) [])
+begun_more : (eras : Eras) (y : ℕ × Catalogue) (event : ℕ) → eras_begun (eras ++ y ∷ []) event ≡ eras_begun eras event + length (cond (nat_le y.0 event) (y ∷ []) [])
 begun_more [] y event = elim (nat_le y.0 event) as (λ b. length (cond b (y ∷ []) []) ≡ 0 + length (cond b (y ∷ []) [])) [ true ↦ refl | false ↦ refl ]
 begun_more (x ∷ eras) y event =
     let i = begun_more eras y event in
@@ -107,10 +107,10 @@ begun_more (x ∷ eras) y event =
       | false ↦ i
     ]
 
-begun_all : (g : Input) (log : Log) (n : ℕ) → marks log ≤ n → begun (eras_of g log) n ≡ suc (redeclares log)
-begun_all g [] n l = one_begun 0 n (0, (force_at g 0).catalogue) (omega arith)
+begun_all : (g : Input) (log : Log) (n : ℕ) → marks log ≤ n → eras_begun (eras_of g log) n ≡ suc (redeclares log)
+begun_all g [] n l = one_begun 0 n (0, (nth_era g 0).catalogue) (omega arith)
 begun_all g (Redeclares t ∷ log) n l =
-    let y : ℕ × Catalogue = (suc (marks log), (force_at g (suc (redeclares log))).catalogue) in
+    let y : ℕ × Catalogue = (suc (marks log), (nth_era g (suc (redeclares log))).catalogue) in
     let low : suc (marks log) ≤ n = l in
     sum_one _ _ _ _ (begun_more (eras_of g log) y n) (begun_all g log n (omega (arith, low))) (one_begun (suc (marks log)) n y low)
 begun_all g (Mark x ∷ log) n l = let low : suc (marks log) ≤ n = l in begun_all g log n (omega (arith, low))
@@ -123,26 +123,26 @@ marks_up (Redeclares t ∷ later) log = let i = marks_up later log in omega (ari
 marks_up (_ ∷ later) log = marks_up later log
 
 -- those that a longer log has more begin later
-begun_later : (g : Input) (later log : Log) → begun (eras_of g (later ++ log)) (marks log) ≡ begun (eras_of g log) (marks log)
+begun_later : (g : Input) (later log : Log) → eras_begun (eras_of g (later ++ log)) (marks log) ≡ eras_begun (eras_of g log) (marks log)
 begun_later g [] log = refl
 begun_later g (Redeclares t ∷ later) log =
-    let y : ℕ × Catalogue = (suc (marks (later ++ log)), (force_at g (suc (redeclares (later ++ log)))).catalogue) in
+    let y : ℕ × Catalogue = (suc (marks (later ++ log)), (nth_era g (suc (redeclares (later ++ log)))).catalogue) in
     let up = marks_up later log in
     sum_none _ _ _ _ (begun_more (eras_of g (later ++ log)) y (marks log)) (begun_later g later log)
     (none_begun (suc (marks (later ++ log))) (marks log) y (omega (arith, up)))
 begun_later g (_ ∷ later) log = begun_later g later log
 
-pub begun_is : (g : Input) (log later before : Log) → log ≡ later ++ before → begun (eras_of g log) (marks before) ≡ suc (redeclares before)
-begun_is g log later before is = ap (λ l. begun (eras_of g l) (marks before)) is ∙ begun_later g later before ∙ begun_all g before (marks before) (omega arith)
+pub begun_is : (g : Input) (log later before : Log) → log ≡ later ++ before → eras_begun (eras_of g log) (marks before) ≡ suc (redeclares before)
+begun_is g log later before is = ap (λ l. eras_begun (eras_of g l) (marks before)) is ∙ begun_later g later before ∙ begun_all g before (marks before) (omega arith)
 
 pub index_or : {A : Type 0} (xs : List A) (k : ℕ) (d m : A) → slice_get xs k ≡ Some m → slice_index_or xs k d ≡ m
 index_or [] k d m e = cc
 index_or (x ∷ xs) zero d m e = let p : x ≡ m = cc in p
 index_or (x ∷ xs) (suc k) d m e = index_or xs k d m e
 
-in_force_is : (g : Input) (log later before : Log) → log ≡ later ++ before
-    → in_force g.catalogue (eras_of g log) (marks before) ≡ (force_at g (redeclares before)).catalogue
-in_force_is g log later before is =
+current_era_is : (g : Input) (log later before : Log) → log ≡ later ++ before
+    → catalogue_at g.catalogue (eras_of g log) (marks before) ≡ (nth_era g (redeclares before)).catalogue
+current_era_is g log later before is =
     let a = last g before in
     let there : slice_get (eras_of g log) (redeclares before) ≡ Some a.0 =
     subst (λ l. slice_get (eras_of g l) (redeclares before) ≡ Some a.0) (sym is) (stays g later before (redeclares before) a.0 a.1) in
@@ -154,13 +154,13 @@ in_force_is g log later before is =
 pub are_eras_of : (g : Input) (log : Log) → HasSoundLists g log → AreErasOf g log (eras_of g log)
 are_eras_of g log lists = record {
   are_eras = record {
-    first = ((force_at g 0).catalogue, first g log);
+    first = ((nth_era g 0).catalogue, first g log);
     rise = rises g log;
     each = λ k a e. (let n = numbered g log k a e in
         let l = place_within (eras_of g log) k a e in let c = len g log in
         subst (IsEraOf g.catalogue) (sym n.0) (lists k (omega (arith, l, c))).era);
   };
-  force_is = in_force_is g log;
+  era_is = current_era_is g log;
   tabled = λ later before is. (let l = redeclares_back later before in
       let e : redeclares log ≡ redeclares (later ++ before) = ap redeclares is in
       (lists (redeclares before) (omega (arith, l, e))).table);

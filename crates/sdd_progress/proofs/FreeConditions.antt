@@ -1,5 +1,5 @@
 -- A READ of a free class has no conditions, and no condition of another declared class names it.
-use Rattle.sdd_progress.proofs.AllWaits.{ClassNo, Cond, DmNo, Force, FragNo, Input, IsDiagonalIn, IsFreeClass, IsFromTable, IsPermitted, List, Log, P1, P2, P3, Protocol, Read, Some, Ts, TxnNo, Use, [], all_of, ap, arith, force_at, inl, inr, pipe_at, refl, slice_get, slice_index_or, subst, suc, zero, ℕ, ◌∷◌, ◌≡◌, ◌≢◌}
+use Rattle.sdd_progress.proofs.AllWaits.{ClassNo, Cond, DmNo, Era, FragNo, Input, IsDiagonalIn, IsFreeClass, IsFromTable, IsPermitted, List, Log, P1, P2, P3, Protocol, Read, Some, Ts, TxnNo, Use, [], all_of, ap, arith, inl, inr, nth_era, pipe_at, refl, slice_get, slice_index_or, subst, suc, zero, ℕ, ◌∷◌, ◌≡◌, ◌≢◌}
 use Rattle.sdd_progress.proofs.FreeBlocks.{none_from, none_to}
 use Rattle.sdd_progress.proofs.FromTable.{conditions_of}
 use Rattle.sdd_obligations.specs.protocol.declared.entry.Entry as line
@@ -15,31 +15,31 @@ first_frag : (q : Cond) (f : FragNo) (fs : List FragNo) → q.frags ≡ f ∷ fs
 first_frag q f fs e = ap (λ l. slice_get l 0) e
 
 -- a list of classes that is given, or none
-pub data IsListed (g : Input) (f : Force) : Type 0 where
-  given : (k : ℕ) → slice_get g.forces k ≡ Some f → IsListed g f
+pub data IsListed (g : Input) (f : Era) : Type 0 where
+  given : (k : ℕ) → slice_get g.eras k ≡ Some f → IsListed g f
   no_table : f.table ≡ [] → IsListed g f
 
-listed_in : (g : Input) (fs : List Force) (k : ℕ) (f0 : Force) → ((j : ℕ) (f : Force) → slice_get fs j ≡ Some f → (n : ℕ) × (slice_get g.forces n ≡ Some f))
+listed_in : (g : Input) (fs : List Era) (k : ℕ) (f0 : Era) → ((j : ℕ) (f : Era) → slice_get fs j ≡ Some f → (n : ℕ) × (slice_get g.eras n ≡ Some f))
     → f0.table ≡ [] → IsListed g (slice_index_or fs k f0)
 listed_in g [] k f0 h e = no_table e
 listed_in g (f ∷ fs) zero f0 h e = let i = h 0 f refl in given i.0 i.1
 listed_in g (f ∷ fs) (suc k) f0 h e = listed_in g fs k f0 (λ j x p. h (suc j) x p) e
 
-pub listed : (g : Input) (k : ℕ) → IsListed g (force_at g k)
-listed g k = listed_in g g.forces k (record { catalogue = g.catalogue; table = [] }) (λ j f e. (j, e)) refl
+pub listed : (g : Input) (k : ℕ) → IsListed g (nth_era g k)
+listed g k = listed_in g g.eras k (record { catalogue = g.catalogue; table = [] }) (λ j f e. (j, e)) refl
 
 none_in : {A : Type 0} (table : List line.Entry) (p : Protocol) (i j : ℕ) (f : FragNo) → table ≡ [] → IsDiagonalIn table p i j f → A
 none_in table p i j f e d = let h : slice_get [] d.place ≡ Some d.entry = subst (λ t. slice_get t d.place ≡ Some d.entry) e d.there in cc
 
-no_diagonal_from : (g : Input) (i : ℕ) (x : Force) (p : Protocol) (j : ℕ) (f : FragNo) → IsFreeClass g i → IsListed g x → IsDiagonalIn x.table p i j f → p ≡ P1
+no_diagonal_from : (g : Input) (i : ℕ) (x : Era) (p : Protocol) (j : ℕ) (f : FragNo) → IsFreeClass g i → IsListed g x → IsDiagonalIn x.table p i j f → p ≡ P1
 no_diagonal_from g i x p j f free (given k h) d = none_from x.catalogue x.table p i j f (free.tabled k x h).table (free.free k x h) d
 no_diagonal_from g i x p j f free (no_table e) d = none_in x.table p i j f e d
 
-no_diagonal_to : (g : Input) (i : ℕ) (x : Force) (p : Protocol) (c : ℕ) (f : FragNo) → IsFreeClass g i → IsListed g x → IsDiagonalIn x.table p c i f → p ≡ P1
+no_diagonal_to : (g : Input) (i : ℕ) (x : Era) (p : Protocol) (c : ℕ) (f : FragNo) → IsFreeClass g i → IsListed g x → IsDiagonalIn x.table p c i f → p ≡ P1
 no_diagonal_to g i x p c f free (given k h) d = none_to x.catalogue x.table p c i f (free.tabled k x h).table (free.free k x h) d
 no_diagonal_to g i x p c f free (no_table e) d = none_in x.table p c i f e d
 
-none_by : (g : Input) (i : ℕ) (x : Force) (own p2 : ℕ) (q : Cond) → IsFreeClass g i → IsListed g x → IsFromTable x.table i own p2 q → ⊥
+none_by : (g : Input) (i : ℕ) (x : Era) (own p2 : ℕ) (q : Cond) → IsFreeClass g i → IsListed g x → IsFromTable x.table i own p2 q → ⊥
 none_by g i x own p2 q free l t =
     let h = first_frag q t.first t.more t.names in
     elim t.by [
@@ -47,7 +47,7 @@ none_by g i x own p2 q free l t =
       | inr b ↦ second_not (no_diagonal_from g i x P2 q.class.0 t.first free l (b.1 0 t.first h))
     ]
 
-none_on : (g : Input) (i : ℕ) (x : Force) (c own p2 : ℕ) (q : Cond) → IsFreeClass g i → IsListed g x → IsFromTable x.table c own p2 q → q.class.0 ≡ i → ⊥
+none_on : (g : Input) (i : ℕ) (x : Era) (c own p2 : ℕ) (q : Cond) → IsFreeClass g i → IsListed g x → IsFromTable x.table c own p2 q → q.class.0 ≡ i → ⊥
 none_on g i x c own p2 q free l t e =
     let h = first_frag q t.first t.more t.names in
     elim t.by [
@@ -67,7 +67,7 @@ pub unconditional : (g : Input) (log : Log) (i : ℕ) (d : DmNo) (k : ℕ) (ts :
     → IsPermitted g log → IsFreeClass g i → slice_get (all_of (pipe_at g i d log)) k ≡ Some (Read ts of txn attempt conds uses) → conds ≡ []
 unconditional g log i d k ts of txn attempt conds uses h free e =
     let a = conditions_of g log i d k ts of txn attempt conds uses h (declared g i free) e in
-    no_members conds (λ n q m. none_by g i (force_at g _) ts.0 _ q free (listed g _) (a.from_table n q m))
+    no_members conds (λ n q m. none_by g i (nth_era g _) ts.0 _ q free (listed g _) (a.from_table n q m))
 
 -- a READ of any declared class
 pub names_none : (g : Input) (log : Log) (i c : ℕ) (d : DmNo) (k : ℕ) (ts : Ts) (of : ClassNo) (txn : TxnNo) (attempt : ℕ) (conds : List Cond) (uses : List Use) (n : ℕ) (q : Cond)
@@ -75,4 +75,4 @@ pub names_none : (g : Input) (log : Log) (i c : ℕ) (d : DmNo) (k : ℕ) (ts : 
     → slice_get conds n ≡ Some q → q.class.0 ≢ i
 names_none g log i c d k ts of txn attempt conds uses n q h free nz e m p =
     let a = conditions_of g log c d k ts of txn attempt conds uses h nz e in
-    none_on g i (force_at g _) c ts.0 _ q free (listed g _) (a.from_table n q m) p
+    none_on g i (nth_era g _) c ts.0 _ q free (listed g _) (a.from_table n q m) p

@@ -1,42 +1,42 @@
 -- The conditions of a READ of a declared class come from the table that was in force at its Start.
-use Rattle.sdd_progress.proofs.AllWaits.{AllDiagonalsIn, AreConditionsOf, Bool, Catalogue, ClassNo, Cond, D, Diagonal, Did, DmNo, Does, Edge, FragNo, Hand, Handed, Horizontal, Input, IsFromTable, IsPermitted, IsPutAt, IsRead, List, Log, Mark, Msg, None, Option, P1, P2, P3, Protocol, Queued, Read, Redeclares, Setting, Site, Some, Submitted, T, Tick, Ticked, TmNo, Ts, Txn, TxnNo, Use, Vertical, [], all_of, and_left, and_right, ap, ascending, asked_by, asked_in, asked_on, bound, class_at, class_number, class_puts, classes_of, cond, cond_for, cond_of, condition_on, conditions, conditions_at, cons_option, eqb-true, false, filter_map, force_at, frag_no, fragments_in, home, if_way, in_force, in_left, in_none, in_one, in_pipe, inl, inr, is_asked, local_of, map, next_stamp, option_or, origin, pipe_at, redeclares, refl, same_or_not, same_protocol, same_site, sends_of_act, setting_of, slice_get, start_at, start_puts, start_read, subst, suc, sym, tm_no, to_site, true, txn_at, uses_of, with_submit, zero, ℕ, ◌&&◌, ◌++◌, ◌==◌, ◌∙◌, ◌∷◌, ◌≡◌, ◌≢◌, ◌⊎◌}
+use Rattle.sdd_progress.proofs.AllWaits.{AllDiagonalsIn, AreConditionsOf, Bool, Catalogue, ClassNo, Cond, D, Diagonal, Did, DmNo, Does, Edge, FragNo, Hand, Handed, Horizontal, Input, IsFromTable, IsPermitted, IsPutAt, IsRead, List, Log, Mark, Msg, None, Option, P1, P2, P3, Protocol, Queued, Read, Redeclares, Setting, Site, Some, Submitted, T, Tick, Ticked, TmNo, Ts, Txn, TxnNo, Use, Vertical, [], all_of, and_left, and_right, ap, ascending, asked_by, asked_in, asked_on, bound, class_at, class_number, class_puts, classes_of, cond, cond_for, cond_of, condition_on, conditions, conditions_at, cons_option, current_era, eqb-true, false, filter_map, frag_no, fragments_in, home, if_way, in_left, in_none, in_one, in_pipe, inl, inr, is_asked, local_of, map, next_stamp, nth_era, option_or, origin, pipe_at, redeclares, refl, same_or_not, same_protocol, same_site, sends_of_act, setting_of, slice_get, start_at, start_puts, start_read, subst, suc, sym, tm_no, to_site, true, txn_at, uses_of, with_submit, zero, ℕ, ◌&&◌, ◌++◌, ◌==◌, ◌∙◌, ◌∷◌, ◌≡◌, ◌≢◌, ◌⊎◌}
 use Rattle.sdd_obligations.specs.protocol.declared.entry.Entry as line
 use Rattle.sdd_obligations.specs.site_module.SiteLog as site
 
 -- the classes in force at a transaction module are those of the list that was put in force last
 
-after_submit : (s : Setting) (n : ℕ) (o : Option Txn) (l : site.Log) → in_force s (with_submit n o l) ≡ in_force s l
+after_submit : (s : Setting) (n : ℕ) (o : Option Txn) (l : site.Log) → current_era s (with_submit n o l) ≡ current_era s l
 after_submit s n None l = refl
 after_submit s n (Some txn) l = refl
 
-force_there : (g : Input) (t : TmNo) (log : Log) → in_force (setting_of g (T t)) (local_of g (T t) log) ≡ force_at g (redeclares log)
-force_there g t [] = refl
-force_there g t (Mark (Tick u n) ∷ log) =
+era_there : (g : Input) (t : TmNo) (log : Log) → current_era (setting_of g (T t)) (local_of g (T t) log) ≡ nth_era g (redeclares log)
+era_there g t [] = refl
+era_there g t (Mark (Tick u n) ∷ log) =
     let l : site.Log = local_of g (T t) log in
-    if_way (λ (x : site.Log). in_force (setting_of g (T t)) x ≡ force_at g (redeclares log)) (same_site (T t) (T u)) (Ticked n ∷ l) l (force_there g t log)
-    (force_there g t log)
-force_there g t (Redeclares u ∷ log) = refl
-force_there g t (Hand from to n m ∷ log) =
+    if_way (λ (x : site.Log). current_era (setting_of g (T t)) x ≡ nth_era g (redeclares log)) (same_site (T t) (T u)) (Ticked n ∷ l) l (era_there g t log)
+    (era_there g t log)
+era_there g t (Redeclares u ∷ log) = refl
+era_there g t (Hand from to n m ∷ log) =
     let l : site.Log = local_of g (T t) log in
-    if_way (λ (x : site.Log). in_force (setting_of g (T t)) x ≡ force_at g (redeclares log)) (same_site (T t) to) (Handed from m ∷ l) l (force_there g t log)
-    (force_there g t log)
-force_there g t (Submitted to n ∷ log) =
+    if_way (λ (x : site.Log). current_era (setting_of g (T t)) x ≡ nth_era g (redeclares log)) (same_site (T t) to) (Handed from m ∷ l) l (era_there g t log)
+    (era_there g t log)
+era_there g t (Submitted to n ∷ log) =
     let l : site.Log = local_of g (T t) log in
-    if_way (λ (x : site.Log). in_force (setting_of g (T t)) x ≡ force_at g (redeclares log)) (same_site (T t) to) (with_submit n (txn_at g n) l) l
-    (after_submit (setting_of g (T t)) n (txn_at g n) l ∙ force_there g t log) (force_there g t log)
-force_there g t (Does by act ∷ log) =
+    if_way (λ (x : site.Log). current_era (setting_of g (T t)) x ≡ nth_era g (redeclares log)) (same_site (T t) to) (with_submit n (txn_at g n) l) l
+    (after_submit (setting_of g (T t)) n (txn_at g n) l ∙ era_there g t log) (era_there g t log)
+era_there g t (Does by act ∷ log) =
     let l : site.Log = local_of g (T t) log in
-    if_way (λ (x : site.Log). in_force (setting_of g (T t)) x ≡ force_at g (redeclares log)) (same_site (T t) by) (Did act ∷ l) l (force_there g t log)
-    (force_there g t log)
-force_there g t (_ ∷ log) = force_there g t log
+    if_way (λ (x : site.Log). current_era (setting_of g (T t)) x ≡ nth_era g (redeclares log)) (same_site (T t) by) (Did act ∷ l) l (era_there g t log)
+    (era_there g t log)
+era_there g t (_ ∷ log) = era_there g t log
 
-force_of_class : (g : Input) (c : ℕ) (log : Log) → c ≢ 0
-    → in_force (setting_of g (home g.catalogue c)) (local_of g (home g.catalogue c) log) ≡ force_at g (redeclares log)
-force_of_class g c log n =
+era_of_class : (g : Input) (c : ℕ) (log : Log) → c ≢ 0
+    → current_era (setting_of g (home g.catalogue c)) (local_of g (home g.catalogue c) log) ≡ nth_era g (redeclares log)
+era_of_class g c log n =
     let z : (c == 0) ≡ false = elim (same_or_not c 0) [ inl p ↦ absurd (n p) | inr p ↦ p ] in
     let t : TmNo = tm_no (class_at g.catalogue c).tm.0 in
     let here : home g.catalogue c ≡ T t = rw z refl in
-    ap (λ a. in_force (setting_of g a) (local_of g a log)) here ∙ force_there g t log
+    ap (λ a. current_era (setting_of g a) (local_of g a log)) here ∙ era_there g t log
 
 -- a diagonal that asks
 
@@ -138,13 +138,13 @@ frags_asked s q = ascending (fragments_in (uses_of s.catalogue q.text))
 
 read_conds : (s : Setting) (c : ℕ) (log : site.Log) (q : Queued) (d : ℕ) (ts : Ts) (of : ClassNo) (txn : TxnNo) (attempt : ℕ) (conds : List Cond) (uses : List Use)
     → start_read s c log q d ≡ Read ts of txn attempt conds uses
-    → conditions_at s.catalogue (in_force s log).table c (frags_asked s q) (next_stamp s log) (bound s log) d ≡ conds
+    → conditions_at s.catalogue (current_era s log).table c (frags_asked s q) (next_stamp s log) (bound s log) d ≡ conds
 unfolding conds_in
 read_conds s c log q d ts of txn attempt conds uses e = ap conds_in e
 
 start_conds : (s : Setting) (b : Site) (log : site.Log) (c : ℕ) (q : Queued) (k : ℕ) (ts : Ts) (of : ClassNo) (txn : TxnNo) (attempt : ℕ) (conds : List Cond) (uses : List Use)
     → slice_get (to_site b (sends_of_act (start_at s c log q))) k ≡ Some (Read ts of txn attempt conds uses)
-    → (d : ℕ) × (conditions_at s.catalogue (in_force s log).table c (frags_asked s q) (next_stamp s log) (bound s log) d ≡ conds)
+    → (d : ℕ) × (conditions_at s.catalogue (current_era s log).table c (frags_asked s q) (next_stamp s log) (bound s log) d ≡ conds)
 start_conds s b log c q k ts of txn attempt conds uses e = elim (start_puts s c b log q) [
   | inl p ↦ in_none _ k (Read ts of txn attempt conds uses) p e
   | inr p ↦ (p.0, read_conds s c log q p.0 ts of txn attempt conds uses (in_one _ _ k (Read ts of txn attempt conds uses) p.1 e))
@@ -161,8 +161,8 @@ conditions_by g log c d ts of txn attempt conds uses n p =
     let there : slice_get (to_site (D d) (sends_of_act (start_at s c l r.queued))) p.place ≡ Some (Read ts of txn attempt conds uses) = subst
     (λ x. slice_get (to_site (D d) (sends_of_act x)) p.place ≡ Some (Read ts of txn attempt conds uses)) r.act_is p.there in
     let i = start_conds s (D d) l c r.queued p.place ts of txn attempt conds uses there in
-    let by_stamp : (k : ℕ) (q : Cond) → slice_get conds k ≡ Some q → IsFromTable (in_force s l).table c (next_stamp s l)
-    (bound s l) q = λ k q e. from_table g.catalogue (in_force s l).table c (frags_asked s r.queued) (next_stamp s l) (bound s l) i.0 k q n
+    let by_stamp : (k : ℕ) (q : Cond) → slice_get conds k ≡ Some q → IsFromTable (current_era s l).table c (next_stamp s l)
+    (bound s l) q = λ k q e. from_table g.catalogue (current_era s l).table c (frags_asked s r.queued) (next_stamp s l) (bound s l) i.0 k q n
     (subst (λ ds. slice_get ds k ≡ Some q) (sym i.1) e) in
     record {
       later = p.later;
@@ -170,8 +170,8 @@ conditions_by g log c d ts of txn attempt conds uses n p =
       queued = r.queued;
       is = p.is ∙ ap (λ x. p.later ++ Does at x ∷ p.before) r.act_is;
       ts_is = r.time_is;
-      from_table = λ k q e. subst (λ f. IsFromTable f.table c ts.0 (bound s l) q) (force_of_class g c p.before n)
-          (subst (λ t. IsFromTable (in_force s l).table c t (bound s l) q) (sym r.time_is) (by_stamp k q e));
+      from_table = λ k q e. subst (λ f. IsFromTable f.table c ts.0 (bound s l) q) (era_of_class g c p.before n)
+          (subst (λ t. IsFromTable (current_era s l).table c t (bound s l) q) (sym r.time_is) (by_stamp k q e));
     }
 
 -- wherever it stands in a pipe

@@ -1,7 +1,7 @@
 -- A transaction module is told to hold only while a transaction waits at the module for undeclared transactions; and the
 -- Commit of the transaction that this served last.
 use Rattle.sdd_progress.proofs.All.{Act, Attempt, Bases, Bool, Catalogue, D, Did, Each, Fetch, Handed, Hold, IsChain, IsFairU, IsStepU, List, Msg, None, Option, Queued, Redeclared, Reduce, Release, Sends, Setting, Ship, Site, Some, Submits, T, Ticked, TmCounts, Ts, [], active, ap, arith, asks_next, asks_rows, attempt_due, balance, by_release, chain, commit_act, counts, counts_acted, dm_no, false, first_send, hand_commits, hand_counts, hand_ts, head_of, hold_to, if_way, if◌then◌else◌, inl, inr, is_for, is_over, last_served, map, numbers_to, one_if_le, or_else, puts_to, queue, refl, slice_get, start_at, subst, suc, tm_no, tried, true, ts_of, u_due, u_way, ℕ, ◌++◌, ◌<◌, ◌==◌, ◌∙◌, ◌∷◌, ◌≡◌, ◌≤◌, ◌⊎◌}
-use Rattle.sdd_obligations.specs.All.{by_exchange, by_hold, by_start, in_force}
+use Rattle.sdd_obligations.specs.All.{by_exchange, by_hold, by_start, current_era}
 use Rattle.sdd_obligations.specs.site_module.SiteLog.{Entry, Log}
 use Rattle.sdd_obligations.specs.umod.Due.{IsDue, start_of}
 use Rattle.sdd_obligations.specs.umod.Views.{view_of}
@@ -116,10 +116,10 @@ holds_needed s k t [] i h = inl (omega arith)
 holds_needed s k t (Handed from m ∷ log) i h =
     needed_on s t (Handed from m) log (hand_counts from m (counts t log)).1 (hand_commits m (last_served s log)) (λ q e. (q, e)) (holds_needed s k t log i h.1)
 holds_needed s k t (Ticked n ∷ log) i h = needed_on s t (Ticked n) log refl refl (λ q e. (q, e)) (holds_needed s k t log i h.1)
-holds_needed s k t (Redeclared force n ∷ log) i h = needed_on s t (Redeclared force n) log refl refl (λ q e. (q, e)) (holds_needed s k t log i h.1)
+holds_needed s k t (Redeclared era n ∷ log) i h = needed_on s t (Redeclared era n) log refl refl (λ q e. (q, e)) (holds_needed s k t log i h.1)
 holds_needed s k t (Submits n txn ∷ log) i h =
     needed_on s t (Submits n txn) log refl refl
-    (λ q e. submitted_head (is_for 0 (in_force s log).catalogue txn) (queue s 0 log) (record {
+    (λ q e. submitted_head (is_for 0 (current_era s log).catalogue txn) (queue s 0 log) (record {
       number = n;
       text = txn;
       tries = 0;
@@ -155,7 +155,7 @@ last_commit s [] h = λ l. absurd (omega (arith, l))
 last_commit s (Handed from m ∷ log) h =
     any_later s (Handed from m) log (hand_ts m (last_served s log)) (hand_commits m (last_served s log)) (last_commit s log h.1)
 last_commit s (Ticked n ∷ log) h = any_later s (Ticked n) log refl refl (last_commit s log h.1)
-last_commit s (Redeclared force n ∷ log) h = any_later s (Redeclared force n) log refl refl (last_commit s log h.1)
+last_commit s (Redeclared era n ∷ log) h = any_later s (Redeclared era n) log refl refl (last_commit s log h.1)
 last_commit s (Submits n txn ∷ log) h = any_later s (Submits n txn) log refl refl (last_commit s log h.1)
 last_commit s (Did act ∷ log) h =
     let i = last_commit s log h.1 in

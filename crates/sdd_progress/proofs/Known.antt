@@ -1,5 +1,5 @@
 -- What is known of a lawful log, in the order of which the law of eras follows.
-use Rattle.sdd_progress.proofs.All.{AreNumbered, Bases, Catalogue, Committed, Did, Effect, Entry, HasCommit, HasSoundData, HasSoundLists, Input, IsCommitted, IsIdleAtRedeclares, IsLawful, IsPermitted, IsSound, IsSoundInput, IsUpAtRedeclares, KeepsApplies, KeepsStarts, KeepsUndeclared, List, Log, Rec, RelNo, Row, Some, StartedBefore, SubmitGiven, [], ap, append_assoc, arith, begun, commit_act, committed_here, effect, eras_of, event_at, event_there, filter_map, history, is_committed, keeps_answers, keeps_applies, keeps_starts, lawful_numbered, lawful_permitted, length, marks, numbers_to, one_place, record_of, redeclares, suc, sym, true, txn_no, undeclared, write_to, ℕ, ◌++◌, ◌<◌, ◌∙◌, ◌∷◌, ◌≡◌}
+use Rattle.sdd_progress.proofs.All.{AreNumbered, Bases, Catalogue, Committed, Did, Effect, Entry, HasCommit, HasSoundData, HasSoundLists, Input, IsCommitted, IsIdleAtRedeclares, IsLawful, IsPermitted, IsSound, IsSoundInput, IsUpAtRedeclares, KeepsApplies, KeepsStarts, KeepsUndeclared, List, Log, Rec, RelNo, Row, Some, StartedBefore, SubmitGiven, [], ap, append_assoc, arith, commit_act, committed_here, effect, eras_begun, eras_of, event_at, event_there, filter_map, history, is_committed, keeps_answers, keeps_applies, keeps_starts, lawful_numbered, lawful_permitted, length, marks, numbers_to, one_place, record_of, redeclares, suc, sym, true, txn_no, undeclared, write_to, ℕ, ◌++◌, ◌<◌, ◌∙◌, ◌∷◌, ◌≡◌}
 use Rattle.sdd_progress.proofs.ErasOf.{are_eras_of, begun_is}
 use Rattle.sdd_progress.proofs.IdleAtRedeclares.{idle_at_redeclares}
 use Rattle.sdd_obligations.specs.site_module.SiteLog as site
@@ -43,13 +43,13 @@ started_before g log w x c =
     let same = one_place g log w.sound w.permitted b.attempt x.start b.started c.started b.txn_is b.number_is in
     let l = b.before in omega (arith, same, l)
 
--- how many eras have begun at a record
+-- how many eras have eras_begun at a record
 pub begun_at : (g : Input) (log : Log) (e : Entry) (r : Rec) (later before : Log) (place : ℕ) → record_of e ≡ Some r → log ≡ later ++ e ∷ before
-    → length (history before) ≡ place → begun (eras_of g log) (event_at (history log) place) ≡ suc (redeclares before)
+    → length (history before) ≡ place → eras_begun (eras_of g log) (event_at (history log) place) ≡ suc (redeclares before)
 begun_at g log e r later before place makes is place_is =
     let event : event_at (history log) place ≡ marks before =
     ap (event_at (history log)) (sym place_is) ∙ ap (λ l. event_at (history l) (length (history before))) is ∙ event_there later e before r makes in
-    ap (begun (eras_of g log)) event ∙ begun_is g log (later ++ e ∷ []) before (is ∙ sym (append_assoc later (e ∷ []) before))
+    ap (eras_begun (eras_of g log)) event ∙ begun_is g log (later ++ e ∷ []) before (is ∙ sym (append_assoc later (e ∷ []) before))
 
 -- a Commit commits
 pub commit_done : (cat : Catalogue) (bases : Bases) (k : ℕ) (a : attempts.Attempt) (before : site.Log)

@@ -1,6 +1,6 @@
 -- Where nothing goes on, no READ waits, so every message is processed and no attempt is under way; if all was idle wherever
 -- a further list of classes was put in force. Then each READ that waits has conditions of the list in force.
-use Rattle.sdd_progress.proofs.All.{AllDiagonalsIn, AreConditionsOf, Bool, Catalogue, Change, ClassNo, Cond, D, Entry, FragNo, HasDiagonal, Input, IsBelow, IsClass, IsDiagonalIn, IsFromTable, IsHolder, IsIdle, IsIdleAtRedeclares, IsModule, IsPermitted, IsQuiet, IsReader, IsSound, IsSoundList, IsStamped, IsStuck, IsTimestamp, List, Log, Msg, None, P2, P3, Protocol, Read, Setting, Some, Ts, TxnNo, Use, WaitGraph, WaitingRead, WaitsOn, Write, [], active, ap, arith, at_home, at_module, bound, class_number, clock, conditions_at_put, diagonals_listed, differ, dm_no, false, force_at, head, head_put, head_stuck, holder, home, home_fair, home_small, if◌then◌else◌, in_range, inl, inr, is_met, length, list_all, local_of, none_waits, not_zero, number_of, part_of, permitted_part, pipe, read_classes, reader, redeclares, refl, same_or_not, setting_of, slice_get, stamp_ticks, start_of_active, subst, suc, sym, table_fits, time_at, time_of, true, view_of, wait_graph, wait_protocol, wait_time, write_origin, ℕ, ◌+◌, ◌==◌, ◌∙◌, ◌∷◌, ◌≡◌}
+use Rattle.sdd_progress.proofs.All.{AllDiagonalsIn, AreConditionsOf, Bool, Catalogue, Change, ClassNo, Cond, D, Entry, FragNo, HasDiagonal, Input, IsBelow, IsClass, IsDiagonalIn, IsFromTable, IsHolder, IsIdle, IsIdleAtRedeclares, IsModule, IsPermitted, IsQuiet, IsReader, IsSound, IsSoundList, IsStamped, IsStuck, IsTimestamp, List, Log, Msg, None, P2, P3, Protocol, Read, Setting, Some, Ts, TxnNo, Use, WaitGraph, WaitingRead, WaitsOn, Write, [], active, ap, arith, at_home, at_module, bound, class_number, clock, conditions_at_put, diagonals_listed, differ, dm_no, false, head, head_put, head_stuck, holder, home, home_fair, home_small, if◌then◌else◌, in_range, inl, inr, is_met, length, list_all, local_of, none_waits, not_zero, nth_era, number_of, part_of, permitted_part, pipe, read_classes, reader, redeclares, refl, same_or_not, setting_of, slice_get, stamp_ticks, start_of_active, subst, suc, sym, table_fits, time_at, time_of, true, view_of, wait_graph, wait_protocol, wait_time, write_origin, ℕ, ◌+◌, ◌==◌, ◌∙◌, ◌∷◌, ◌≡◌}
 use Rattle.sdd_progress.proofs.Alone.{below_read, zero_time}
 use Rattle.sdd_progress.proofs.Lacking.{has_unanswered}
 use Rattle.sdd_progress.proofs.Lists.{not_all, no_head}
@@ -78,7 +78,7 @@ stamped g log one r w =
 -- the diagonal of a condition
 
 abbrev graph_of : Input → Log → WaitGraph
-graph_of g log = wait_graph (force_at g (redeclares log)).catalogue (force_at g (redeclares log)).table
+graph_of g log = wait_graph (nth_era g (redeclares log)).catalogue (nth_era g (redeclares log)).table
 
 record IsAlong (G : WaitGraph) (i j time own p2 : ℕ) : Type 0 where
   by_own : Bool
@@ -130,8 +130,8 @@ cond_along : (g : Input) (log : Log) (c ts : ℕ) (conds : List Cond)
     → IsAlong (graph_of g log) c q.class.0 q.time.0 ts (bound (setting_of g (home g.catalogue c)) (local_of g (home g.catalogue c) from.before))
 cond_along g log c ts conds from k q since e =
     let p2 : ℕ = bound (setting_of g (home g.catalogue c)) (local_of g (home g.catalogue c) from.before) in
-    along (force_at g (redeclares log)).catalogue (force_at g (redeclares log)).table c ts p2 q
-    (subst (λ n. IsFromTable (force_at g n).table c ts p2 q) since (from.from_table k q e))
+    along (nth_era g (redeclares log)).catalogue (nth_era g (redeclares log)).table c ts p2 q
+    (subst (λ n. IsFromTable (nth_era g n).table c ts p2 q) since (from.from_table k q e))
 
 -- a WRITE's time is that of a Start
 
@@ -169,7 +169,7 @@ module _ (g : Input) (log : Log) (h : IsQuiet g log) (one : IsSoundList g (redec
   ]
 
   fits : Fits (graph_of g log)
-  fits = table_fits (force_at g (redeclares log)).catalogue (force_at g (redeclares log)).table one.table.table
+  fits = table_fits (nth_era g (redeclares log)).catalogue (nth_era g (redeclares log)).table one.table.table
 
   class_of_writer : (i j : ℕ) (own : Bool) → HasDiagonal (graph_of g log) i j own → ((j == 0) ≡ false) × IsClass g.catalogue j
   class_of_writer i j own d =

@@ -1,5 +1,5 @@
 -- No list of classes is put in force between the Submit of a transaction and one of its Starts.
-use Rattle.sdd_progress.proofs.All.{Commit, Committed, Did, Does, HasCommit, Input, IsAttempt, IsCommitted, IsSubmitted, Log, Stands, Submit, Submitted, [], act_local, ap, append_assoc, arith, begun, commit_act, committed_in, committed_later, dec_le, eras_of, event_at, false, history, home, is_committed, length, length-append, one_start_class, redeclares, refl, start_act_of, start_in, submit_in, subst, sym, true, txn_no, ℕ, ◌++◌, ◌+◌, ◌<◌, ◌∙◌, ◌∷◌, ◌≡◌, ◌≤◌}
+use Rattle.sdd_progress.proofs.All.{Commit, Committed, Did, Does, HasCommit, Input, IsAttempt, IsCommitted, IsSubmitted, Log, Stands, Submit, Submitted, [], act_local, ap, append_assoc, arith, commit_act, committed_in, committed_later, dec_le, eras_begun, eras_of, event_at, false, history, home, is_committed, length, length-append, one_start_class, redeclares, refl, start_act_of, start_in, submit_in, subst, sym, true, txn_no, ℕ, ◌++◌, ◌+◌, ◌<◌, ◌∙◌, ◌∷◌, ◌≡◌, ◌≤◌}
 use Rattle.sdd_progress.proofs.SinceRedeclare.{redeclares_back}
 use Rattle.sdd_progress.proofs.Apart.{apart}
 use Rattle.sdd_progress.proofs.AtRest.{commit_there}
@@ -40,7 +40,7 @@ module _ (g : Input) (log : Log) (w : Known g log) where
       let wrong : true ≡ false = sym yes ∙ none in cc
 
   none_between : (a : Attempt) (k : ℕ) → IsAttempt (history log) a → IsSubmitted (history log) a.txn k
-      → begun (eras_of g log) (event_at (history log) k) < begun (eras_of g log) (event_at (history log) a.place) → ⊥
+      → eras_begun (eras_of g log) (event_at (history log) k) < eras_begun (eras_of g log) (event_at (history log) a.place) → ⊥
   none_between a k s t l =
       let x = start_in g log a w.sound w.permitted s in
       let act = Does (home g.catalogue a.class) (start_act_of a x.sends) in
@@ -52,7 +52,7 @@ module _ (g : Input) (log : Log) (w : Known g log) where
       c.0 c.1 c.3 (omega (arith, within, below))
 
   begun_up : (a : Attempt) (k : ℕ) → IsAttempt (history log) a → IsSubmitted (history log) a.txn k
-      → begun (eras_of g log) (event_at (history log) k) ≤ begun (eras_of g log) (event_at (history log) a.place)
+      → eras_begun (eras_of g log) (event_at (history log) k) ≤ eras_begun (eras_of g log) (event_at (history log) a.place)
   begun_up a k s t =
       let x = submit_in g log a.txn k w.permitted t in
       let y = start_in g log a w.sound w.permitted s in
@@ -71,8 +71,8 @@ module _ (g : Input) (log : Log) (w : Known g log) where
       omega (arith, b, e, start, submit)
 
   pub one_era : (a : Attempt) (k : ℕ) → IsAttempt (history log) a → IsSubmitted (history log) a.txn k
-      → begun (eras_of g log) (event_at (history log) k) ≡ begun (eras_of g log) (event_at (history log) a.place)
-  one_era a k s t = elim (dec_le (begun (eras_of g log) (event_at (history log) a.place)) (begun (eras_of g log) (event_at (history log) k))) [
+      → eras_begun (eras_of g log) (event_at (history log) k) ≡ eras_begun (eras_of g log) (event_at (history log) a.place)
+  one_era a k s t = elim (dec_le (eras_begun (eras_of g log) (event_at (history log) a.place)) (eras_begun (eras_of g log) (event_at (history log) k))) [
     | no p ↦ absurd (none_between a k s t (omega (arith, p)))
     | yes p ↦ (let up = begun_up a k s t in omega (arith, p, up))
   ]

@@ -77,7 +77,7 @@ asks_low at (Handed from m ∷ log) q h = elim (asked_in (suc (hands log)) from 
 ]
 asks_low at (Ticked n ∷ log) q h = bound_up at (Ticked n) log q.time (asks_low at log q h)
 asks_low at (Submits n txn ∷ log) q h = asks_low at log q h
-asks_low at (Redeclared force t ∷ log) q h = bound_up at (Redeclared force t) log q.time (asks_low at log q h)
+asks_low at (Redeclared era t ∷ log) q h = bound_up at (Redeclared era t) log q.time (asks_low at log q h)
 asks_low at (Did act ∷ log) q h = bound_up at (Did act) log q.time (asks_low at log q (acted_in act (asks log) q h))
 
 -- what a send of a transaction module answers: no hand, the last HOLD, or, as a NULL, an open ASK
@@ -264,7 +264,7 @@ covered s b (Submits n txn ∷ log) h k c t e = elim (covered s b log h.1 k c t 
   | inl o ↦ inl (record { question = o.question; there = o.there; from = o.from; class = o.class; time = o.time })
   | inr n ↦ inr (record { place = n.place; time = n.time; put = n.put; late = n.late })
 ]
-covered s b (Redeclared force n ∷ log) h k c t e = elim (covered s b log h.1 k c t e) [
+covered s b (Redeclared era n ∷ log) h k c t e = elim (covered s b log h.1 k c t e) [
   | inl o ↦ inl (record { question = o.question; there = o.there; from = o.from; class = o.class; time = o.time })
   | inr n ↦ inr (record { place = n.place; time = n.time; put = n.put; late = n.late })
 ]

@@ -21,23 +21,23 @@ up_at_redeclares g log few h timely later before t is d here =
 
 -- and a list is left
 
-one_event : (g : Input) → AreTimely g → (e : Event) (before rest : List Event) → g.events ≡ before ++ e ∷ rest → redeclares_in before < length g.forces
-    → redeclares_in before + redeclares_in (e ∷ []) < length g.forces
+one_event : (g : Input) → AreTimely g → (e : Event) (before rest : List Event) → g.events ≡ before ++ e ∷ rest → redeclares_in before < length g.eras
+    → redeclares_in before + redeclares_in (e ∷ []) < length g.eras
 one_event g timely Redeclare before rest is l = let m = (timely before rest is).left in omega (arith, m)
 one_event g timely _ before rest is l = omega (arith, l)
 
-each_event : (g : Input) → AreTimely g → (before events rest : List Event) → g.events ≡ (before ++ events) ++ rest → redeclares_in before < length g.forces
-    → redeclares_in (before ++ events) < length g.forces
-each_event g timely before [] rest is l = subst (λ es. redeclares_in es < length g.forces) (sym (append-nil before)) l
+each_event : (g : Input) → AreTimely g → (before events rest : List Event) → g.events ≡ (before ++ events) ++ rest → redeclares_in before < length g.eras
+    → redeclares_in (before ++ events) < length g.eras
+each_event g timely before [] rest is l = subst (λ es. redeclares_in es < length g.eras) (sym (append-nil before)) l
 each_event g timely before (e ∷ events) rest is l =
     let whole : g.events ≡ before ++ e ∷ (events ++ rest) = is ∙ append_assoc before (e ∷ events) rest in
     let few = one_event g timely e before (events ++ rest) whole l in
     let sum = count_join before (e ∷ []) in
     let parts : (before ++ e ∷ []) ++ events ≡ before ++ e ∷ events = append_assoc before (e ∷ []) events in
-    subst (λ es. redeclares_in es < length g.forces) parts
+    subst (λ es. redeclares_in es < length g.eras) parts
     (each_event g timely (before ++ e ∷ []) events rest (is ∙ ap (λ es. es ++ rest) (sym parts)) (omega (arith, few, sum)))
 
-pub few_redeclares : (g : Input) (log : Log) → AllFewTicks g.events → IsLawful g log → AreTimely g → 1 ≤ length g.forces → redeclares log < length g.forces
+pub few_redeclares : (g : Input) (log : Log) → AllFewTicks g.events → IsLawful g log → AreTimely g → 1 ≤ length g.eras → redeclares log < length g.eras
 few_redeclares g log few h timely some =
     let d = (done g log few h).1 in
     let l = each_event g timely [] d.front (left g.events log).0 d.is (omega (arith, some)) in

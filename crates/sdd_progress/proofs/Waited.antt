@@ -137,6 +137,6 @@ since s c (Handed from m ∷ log) h w =
     since_on s c (Handed from m) log (processed_handed c from m log) (λ x e. handed_same (goes_through c m) (pipe c log) m x e) (since s c log h.1 w)
 since s c (Ticked n ∷ log) h w = since_on s c (Ticked n) log refl (λ x e. refl) (since s c log h.1 w)
 since s c (Submits n txn ∷ log) h w = since_on s c (Submits n txn) log refl (λ x e. refl) (since s c log h.1 w)
-since s c (Redeclared force t ∷ log) h w = since_on s c (Redeclared force t) log refl (λ x e. refl) (since s c log h.1 w)
+since s c (Redeclared era t ∷ log) h w = since_on s c (Redeclared era t) log refl (λ x e. refl) (since s c log h.1 w)
 since s c (Did (Records k r sends) ∷ log) h w = by_class s c k r sends log h.0 (λ z. since s c log h.1 z) w
 since s c (Did (Sends to m hand) ∷ log) h w = since_on s c (Did (Sends to m hand)) log refl (λ x e. refl) (since s c log h.1 w)

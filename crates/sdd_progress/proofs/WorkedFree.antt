@@ -1,5 +1,5 @@
 -- Worked logs of a free class: a query is answered and a put applied before the event is over in which it is handed over.
-use Rattle.sdd_progress.proofs.AllWaits.{All-from_recursion, AreBlocks, Catalogue, Change, D, Deliver, EndsAnEvent, Force, Hand, Input, Int, IsAnsweredIn, IsAppliedIn, IsForce, IsFree, IsFreeClass, IsRejectedAfter, IsSimpleCycle, IsSound, IsTable, Joins, List, Log, Msg, OnACycle, P1, Put, Query, Read, Some, Step, Submit, T, Txn, Use, Vertical, Write, [], arith, class_no, dm_no, extended, frag_no, inl, inr, lit≤, local_of, negsuc, pos, protocol_in, queue, refl, rel_no, setting_of, slice_get, subst, suc, sym, take, time_at, tm_no, txn_no, zero, ℕ, ◌++◌, ◌==◌, ◌∙◌, ◌∷◌, ◌≡◌, ◌⊎◌}
+use Rattle.sdd_progress.proofs.AllWaits.{All-from_recursion, AreBlocks, Catalogue, Change, D, Deliver, EndsAnEvent, Era, Hand, Input, Int, IsAnsweredIn, IsAppliedIn, IsEra, IsFree, IsFreeClass, IsRejectedAfter, IsSimpleCycle, IsSound, IsTable, Joins, List, Log, Msg, OnACycle, P1, Put, Query, Read, Some, Step, Submit, T, Txn, Use, Vertical, Write, [], arith, class_no, dm_no, extended, frag_no, inl, inr, lit≤, local_of, negsuc, pos, protocol_in, queue, refl, rel_no, setting_of, slice_get, subst, suc, sym, take, time_at, tm_no, txn_no, zero, ℕ, ◌++◌, ◌==◌, ◌∙◌, ◌∷◌, ◌≡◌, ◌⊎◌}
 use Rattle.sdd_obligations.specs.catalog.Rules.{faults_of}
 use Rattle.sdd_progress.proofs.OfLawful.{answered_by_end, answered_or_rejected, applied_by_end, idle_starts}
 use Rattle.sdd_progress.proofs.WorkedLogs.{made_lawful, one_at_most}
@@ -22,8 +22,8 @@ alone = record {
 abbrev table : List line.Entry
 table = (record { edge = Vertical (class_no 1); block = 0; protocol = P1 }) ∷ []
 
-abbrev in_force : Force
-in_force = record { catalogue = alone; table = table }
+abbrev current_era : Era
+current_era = record { catalogue = alone; table = table }
 
 abbrev query : Txn
 query = record { name = []; tm = tm_no 1; statements = Query ((record { part = 1; column = 2 }) ∷ []) (rel_no 1 ∷ []) [] ∷ [] }
@@ -33,7 +33,7 @@ put = record { name = []; tm = tm_no 1; statements = Put (rel_no 1) (Int (pos 1)
 
 abbrev given_by : Txn → Input
 given_by txn =
-    record { catalogue = alone; forces = in_force ∷ []; rows = [] ∷ []; txns = txn ∷ []; events = Submit (txn_no 1) ∷ Deliver (T (tm_no 1)) (D (dm_no 1)) 1 ∷ [] }
+    record { catalogue = alone; eras = current_era ∷ []; rows = [] ∷ []; txns = txn ∷ []; events = Submit (txn_no 1) ∷ Deliver (T (tm_no 1)) (D (dm_no 1)) 1 ∷ [] }
 
 sound : IsSound alone
 unfolding faults_of
@@ -82,15 +82,15 @@ tabled = record {
 free_alone : IsFree alone 1
 free_alone = record { on_none = λ k e there at c. no_cycle k c }
 
-the_force : (P : Force → Type 0) (k : ℕ) (f : Force) → slice_get (in_force ∷ []) k ≡ Some f → P in_force → P f
-the_force P zero f e h = let same : in_force ≡ f = cc in subst P same h
-the_force P (suc k) f e h = cc
+the_era : (P : Era → Type 0) (k : ℕ) (f : Era) → slice_get (current_era ∷ []) k ≡ Some f → P current_era → P f
+the_era P zero f e h = let same : current_era ≡ f = cc in subst P same h
+the_era P (suc k) f e h = cc
 
 free : (txn : Txn) → IsFreeClass (given_by txn) 1
 free txn = record {
   class = record { from = lit≤ tt; to = lit≤ tt };
-  tabled = λ k f e. the_force IsForce k f e (record { table = tabled });
-  free = λ k f e. the_force (λ x. IsFree x.catalogue 1) k f e free_alone;
+  tabled = λ k f e. the_era IsEra k f e (record { table = tabled });
+  free = λ k f e. the_era (λ x. IsFree x.catalogue 1) k f e free_alone;
 }
 
 ends : (txn : Txn) (log : Log) → log ≡ extended 7 (given_by txn) [] → EndsAnEvent (given_by txn) (extended 7 (given_by txn) []) → EndsAnEvent (given_by txn) log

@@ -1,6 +1,6 @@
 -- Where the conditions of a READ come from: the protocol table that was in force at the Start of its attempt.
 use Rattle.std.specs.Prelude.{ℕ, ◌++◌, ◌∷◌, ◌≡◌, ◌⊎◌, List, Some, slice_get}
-use Rattle.sdd_obligations.specs.invariants.All.{ClassNo, Cond, Diagonal, Does, FragNo, Input, Log, P2, P3, Protocol, Queued, bound, force_at, home, local_of, next_stamp, redeclares, setting_of, start_at}
+use Rattle.sdd_obligations.specs.invariants.All.{ClassNo, Cond, Diagonal, Does, FragNo, Input, Log, P2, P3, Protocol, Queued, bound, home, local_of, next_stamp, nth_era, redeclares, setting_of, start_at}
 use Rattle.sdd_obligations.specs.protocol.declared.entry.Entry as line
 
 -- an entry of the table is a diagonal from class i to class j for the fragment, and has the protocol
@@ -36,4 +36,4 @@ pub record AreConditionsOf (g : Input) (log : Log) (c ts : ℕ) (conds : List Co
   pub is : log ≡ later ++ Does (home g.catalogue c) (start_at (setting_of g (home g.catalogue c)) c (local_of g (home g.catalogue c) before) queued) ∷ before
   pub ts_is : ts ≡ next_stamp (setting_of g (home g.catalogue c)) (local_of g (home g.catalogue c) before)
   pub from_table : (k : ℕ) (cond : Cond) → slice_get conds k ≡ Some cond
-      → IsFromTable (force_at g (redeclares before)).table c ts (bound (setting_of g (home g.catalogue c)) (local_of g (home g.catalogue c) before)) cond
+      → IsFromTable (nth_era g (redeclares before)).table c ts (bound (setting_of g (home g.catalogue c)) (local_of g (home g.catalogue c) before)) cond

@@ -9,7 +9,7 @@ use Rattle.sdd_history_examples.specs.Texts.{query_and_put}
 abbrev pub crossing_with : List Event → Input
 crossing_with events = record {
   catalogue = crossing;
-  forces = record { catalogue = crossing; table = table_of_crossing } ∷ [];
+  eras = record { catalogue = crossing; table = table_of_crossing } ∷ [];
   rows = [] ∷ [];
   txns = query_and_put;
   events = events;

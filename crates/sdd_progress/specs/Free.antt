@@ -1,7 +1,7 @@
 -- Free classes: no edge at either of their nodes lies on a simple cycle of the conflict graph.
 use Rattle.std.specs.Prelude.{ℕ, ◌==◌, ◌||◌, ◌≡◌, Bool, List, Some, map, slice_get, true}
 use Rattle.sdd_blocks.specs.Blocks.{OnACycle}
-use Rattle.sdd_obligations.specs.invariants.All.{Catalogue, Edge, Force, Input, IsForce}
+use Rattle.sdd_obligations.specs.invariants.All.{Catalogue, Edge, Era, Input, IsEra}
 use Rattle.sdd_obligations.specs.graph.Edges.{IsClassOf}
 use Rattle.sdd_obligations.specs.graph.Graph.{conflict_graph, ends, read_node, write_node}
 use Rattle.sdd_obligations.specs.protocol.declared.entry.Entry as line
@@ -25,5 +25,5 @@ pub record IsInNoBlock (table : List line.Entry) (i : ℕ) : Type 0 where
 -- a class of the catalogue is free in each list of classes that is given, each with its protocol table
 pub record IsFreeClass (g : Input) (i : ℕ) : Type 0 where
   pub class : IsClassOf g.catalogue i
-  pub tabled : (k : ℕ) (f : Force) → slice_get g.forces k ≡ Some f → IsForce f
-  pub free : (k : ℕ) (f : Force) → slice_get g.forces k ≡ Some f → IsFree f.catalogue i
+  pub tabled : (k : ℕ) (f : Era) → slice_get g.eras k ≡ Some f → IsEra f
+  pub free : (k : ℕ) (f : Era) → slice_get g.eras k ≡ Some f → IsFree f.catalogue i

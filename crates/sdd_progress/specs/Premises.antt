@@ -1,14 +1,14 @@
 -- What is needed of what is given, and of a log, so that a log at which nothing goes on is finished.
 use Rattle.std.specs.Prelude.{ℕ, ◌≡◌, ◌≤◌, ◌++◌, ◌∷◌, false}
-use Rattle.sdd_obligations.specs.All.{FitsInput, Input, IsEraOf, IsForce, IsModule, Log, Redeclares, force_at, is_down, redeclares}
+use Rattle.sdd_obligations.specs.All.{FitsInput, Input, IsEra, IsEraOf, IsModule, Log, Redeclares, is_down, nth_era, redeclares}
 use Rattle.sdd_progress.specs.Finished.{IsIdle}
 use Rattle.sdd_progress.specs.Quiet.{IsQuiet}
 
 -- what is given fits its catalogue; list k of classes is an era of the catalogue, and has its protocol table
 pub record IsSoundList (g : Input) (k : ℕ) : Type 0 where
   pub fits : FitsInput g
-  pub era : IsEraOf g.catalogue (force_at g k).catalogue
-  pub table : IsForce (force_at g k)
+  pub era : IsEraOf g.catalogue (nth_era g k).catalogue
+  pub table : IsEra (nth_era g k)
 
 -- each list that the log put in force
 abbrev pub HasSoundLists : Input → Log → Type 0
@@ -27,5 +27,5 @@ IsUpAtRedeclares g log =
 -- protocol table
 pub record HasOneTable (g : Input) : Type 0 where
   pub fits : FitsInput g
-  pub table : IsForce (force_at g 0)
-  pub same : (force_at g 0).catalogue ≡ g.catalogue
+  pub table : IsEra (nth_era g 0)
+  pub same : (nth_era g 0).catalogue ≡ g.catalogue

@@ -5,7 +5,7 @@ use Rattle.sdd_obligations.specs.All.{Event, Input, IsModule, Redeclare, is_down
 
 -- after these events: a list is left, and no data module is down
 pub record MayRedeclare (g : Input) (events : List Event) : Type 0 where
-  pub left : suc (redeclares_in events) < length g.forces
+  pub left : suc (redeclares_in events) < length g.eras
   pub up : (d : ℕ) → IsModule g.catalogue d → is_down_after d events ≡ false
 
 -- each `redeclare` stands where it may

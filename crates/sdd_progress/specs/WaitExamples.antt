@@ -41,7 +41,7 @@ one_writer =
 abbrev pub beside_put : List Event → Input
 beside_put events = record {
   catalogue = one_writer;
-  forces = (record { catalogue = one_writer; table = (record { edge = Vertical (class_no 1); block = 0; protocol = P1 }) ∷ [] }) ∷ [];
+  eras = (record { catalogue = one_writer; table = (record { edge = Vertical (class_no 1); block = 0; protocol = P1 }) ∷ [] }) ∷ [];
   rows = [] ∷ [];
   txns = put_one 1 ∷ query_all 1 ∷ [];
   events = events;
@@ -134,7 +134,7 @@ query_low tm = record {
 abbrev pub given_spoilt : Input
 given_spoilt = record {
   catalogue = three_classes;
-  forces =
+  eras =
       (record {
         catalogue = three_classes;
         table =

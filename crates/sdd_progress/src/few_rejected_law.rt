@@ -1,5 +1,5 @@
 ghost use Rattle.std.specs.Prelude.{◌≡◌, ◌≤◌, ◌*◌, ◌^◌, List, length};
-ghost use Rattle.sdd_obligations.specs.All.{AreSubmittedOnce, Eras, Input, IsForce, IsLawful, IsPermitted, Log, MAX_TXNS, RelNo, Row, attempts, force_at, history, redeclares};
+ghost use Rattle.sdd_obligations.specs.All.{AreSubmittedOnce, Eras, Input, IsEra, IsLawful, IsPermitted, Log, MAX_TXNS, RelNo, Row, attempts, history, nth_era, redeclares};
 ghost use Rattle.sdd_lawful.specs.SoundInput.{AreErasOf, AreNumbered, HasSoundData, IsSoundInput, SubmitGiven};
 ghost use Rattle.sdd_progress.specs.Few.{AreFewRejected};
 ghost use Rattle.sdd_progress.specs.Rejects.{KeepsRejects};
@@ -20,7 +20,7 @@ pub fn law_few_rejected()
         → IsPermitted given log → AreErasOf given log eras → AreFewRejected (history log) }
     ensures lawful { (given : Input) (log : Log) → IsSoundInput given
         → AreSubmittedOnce given.events → IsLawful given log
-        → IsForce (force_at given 0) → (force_at given 0).catalogue ≡ given.catalogue
+        → IsEra (nth_era given 0) → (nth_era given 0).catalogue ≡ given.catalogue
         → redeclares log ≡ 0 → AreFewRejected (history log) }
 {}
 
@@ -37,7 +37,7 @@ pub fn law_few_attempts()
         → length given.txns ≤ MAX_TXNS → length (attempts (history log)) ≤ 2 ^ 22 }
     ensures lawful { (given : Input) (rows : List (RelNo × Row)) (log : Log)
         → IsSoundInput given → HasSoundData given rows → SubmitGiven given → IsLawful given log
-        → IsForce (force_at given 0) → (force_at given 0).catalogue ≡ given.catalogue
+        → IsEra (nth_era given 0) → (nth_era given 0).catalogue ≡ given.catalogue
         → redeclares log ≡ 0
         → length given.txns ≤ MAX_TXNS → length (attempts (history log)) ≤ 2 ^ 22 }
 {}

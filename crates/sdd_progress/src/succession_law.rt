@@ -34,7 +34,7 @@ pub fn law_timely()
     ensures up { (given : Input) (log : Log) → AllFewTicks given.events → IsLawful given log
         → AreTimely given → IsUpAtRedeclares given log }
     ensures listed { (given : Input) (log : Log) → AllFewTicks given.events → IsLawful given log
-        → AreTimely given → 1 ≤ length given.forces → redeclares log < length given.forces }
+        → AreTimely given → 1 ≤ length given.eras → redeclares log < length given.eras }
 {}
 
 /// A law: of a lawful log a transaction's rejected attempts are at most the Commits of other

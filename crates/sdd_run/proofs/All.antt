@@ -26,7 +26,7 @@ pub use Rattle.sdd_obligations.proofs.invariants.Holding.{none_of as no_active}
 pub use Rattle.sdd_obligations.proofs.invariants.Lists.{at_seam, in_filtered, in_range}
 pub use Rattle.sdd_obligations.proofs.invariants.Made.{permitted_before}
 pub use Rattle.sdd_obligations.proofs.invariants.Serving.{zero_head}
-pub use Rattle.sdd_obligations.proofs.invariants.logs.Marking.{forced_none, part_redeclared as same_part}
+pub use Rattle.sdd_obligations.proofs.invariants.logs.Marking.{no_redeclare, part_redeclared as same_part}
 pub use Rattle.sdd_obligations.proofs.invariants.logs.Steps.{none_does as no_act}
 pub use Rattle.sdd_obligations.proofs.invariants.logs.tm.Lists.{of_map as in_mapped}
 pub use Rattle.sdd_obligations.proofs.invariants.logs.umod.Lists.{or_nothing as or_none}
@@ -45,7 +45,7 @@ pub use Rattle.sdd_obligations.proofs.protocol.Laws.{one_table}
 pub use Rattle.sdd_obligations.proofs.serial_orders.Places.{same_start}
 pub use Rattle.sdd_obligations.proofs.serial_orders.Serial.{serial_order_is}
 pub use Rattle.sdd_obligations.specs.AfterEvents.{down_from}
-pub use Rattle.sdd_obligations.specs.All.{Act, AllFewTicks, Answer, Apply, AreAllApplied, AreSubmittedOnce, Arrive, Catalogue, Class, ClassNo, ClassState, Commit, Committed, Cond, Condition, Const, D, Delete, Deliver, DmNo, Does, Down, EndsByLimit, Eras, Event, Exchange, FitsCondition, FitsInput, FitsStart, FitsStatement, Force, FragNo, Hand, HasCommit, History, Input, IsAttempt, IsAwaited, IsClass, IsClassOf, IsCommitted, IsDatabase, IsEraOf, IsForce, IsGood, IsHeld, IsLawful, IsModule, IsOrderable, IsPermitted, IsPossible, IsSerial, IsSound, IsSubmitted, IsTable, IsTheLog, KeepsStarts, Kept, Log, Lose, MAX_DMS, MAX_TMS, Mark, Msg, Notes, Nothing, Pass, Put, PutsHeld, Query, Queued, Read, Rec, Records, Redeclare, Redeclares, Reject, RelNo, Repeat, Reply, Resend, Round, Row, Same, Setting, Settle, Site, Standing, Stands, Start, Stmt, Submitted, T, Tick, TmCounts, Ts, Turn, Txn, TxnNo, U, Up, Update, Use, Wait, active, after_mark, all_links, are_linked, attempt_due, attempt_of, attempts, base_of, by_event, by_mark, calls_of, class_at, class_no, committed, committed_of, contains, contents, counts, database_of, dated, delivered, dm_no, does_at, due_by, event_at, force_at, hand_due, hand_number, hand_on, handed, has_copy, head, head_of, history, home, is_apply, is_empty, is_link, is_over, is_site, last_served, left, link_of, local_of, mark_from, mark_of, marks, next, next_at, next_number, note_if, numbers_to, one_if, pipe_at, placed, queue, quiet, redeclares, redeclares_in, round, rows_of, run, runs, send_due, setting_of, site_due, sites, standing_among, standing_in, submits_in, time_at, tm_no, turn_at, txn_at, txn_no, with_event}
+pub use Rattle.sdd_obligations.specs.All.{Act, AllFewTicks, Answer, Apply, AreAllApplied, AreSubmittedOnce, Arrive, Catalogue, Class, ClassNo, ClassState, Commit, Committed, Cond, Condition, Const, D, Delete, Deliver, DmNo, Does, Down, EndsByLimit, Era, Eras, Event, Exchange, FitsCondition, FitsInput, FitsStart, FitsStatement, FragNo, Hand, HasCommit, History, Input, IsAttempt, IsAwaited, IsClass, IsClassOf, IsCommitted, IsDatabase, IsEra, IsEraOf, IsGood, IsHeld, IsLawful, IsModule, IsOrderable, IsPermitted, IsPossible, IsSerial, IsSound, IsSubmitted, IsTable, IsTheLog, KeepsStarts, Kept, Log, Lose, MAX_DMS, MAX_TMS, Mark, Msg, Notes, Nothing, Pass, Put, PutsHeld, Query, Queued, Read, Rec, Records, Redeclare, Redeclares, Reject, RelNo, Repeat, Reply, Resend, Round, Row, Same, Setting, Settle, Site, Standing, Stands, Start, Stmt, Submitted, T, Tick, TmCounts, Ts, Turn, Txn, TxnNo, U, Up, Update, Use, Wait, active, after_mark, all_links, are_linked, attempt_due, attempt_of, attempts, base_of, by_event, by_mark, calls_of, class_at, class_no, committed, committed_of, contains, contents, counts, database_of, dated, delivered, dm_no, does_at, due_by, event_at, hand_due, hand_number, hand_on, handed, has_copy, head, head_of, history, home, is_apply, is_empty, is_link, is_over, is_site, last_served, left, link_of, local_of, mark_from, mark_of, marks, next, next_at, next_number, note_if, nth_era, numbers_to, one_if, pipe_at, placed, queue, quiet, redeclares, redeclares_in, round, rows_of, run, runs, send_due, setting_of, site_due, sites, standing_among, standing_in, submits_in, time_at, tm_no, turn_at, txn_at, txn_no, with_event}
 pub use Rattle.sdd_obligations.specs.Bounds.{IsSmall}
 pub use Rattle.sdd_obligations.specs.Heights.{ticks_of}
 pub use Rattle.sdd_obligations.specs.Reading.{HasEras}
@@ -133,10 +133,10 @@ pub use Rattle.sdd_report.specs.declared.pending.Waiting.{Waiting}
 pub use Rattle.sdd_report.specs.declared.pending.Why.{Why}
 pub use Rattle.sdd_run.specs.Clocks.{HasLowClocks}
 pub use Rattle.sdd_run.specs.Free.{IsAnsweredWithin, IsUndisturbed}
-pub use Rattle.sdd_run.specs.Lent.{force_in}
+pub use Rattle.sdd_run.specs.Lent.{era_of_list}
 pub use Rattle.sdd_run.specs.Reasons.{IsNumberedSite, IsReason, IsStanding}
 pub use Rattle.sdd_run.specs.Reports.{report_by, report_of}
-pub use Rattle.sdd_run.specs.Runs.{AreTables, EndsAtLimit, IsFreeInEach, IsReportOn, IsSummaryOn, begun, forces_of, input_of, order_of, plain_run}
+pub use Rattle.sdd_run.specs.Runs.{AreTables, EndsAtLimit, IsFreeInEach, IsReportOn, IsSummaryOn, begun, eras_with_tables, input_of, order_of, plain_run}
 pub use Rattle.sdd_run.specs.Settled.{EndsAtRest, EndsQuiet, IsAtRest, LosesNothing, NoneIsDown, TellsAllCommitted}
 pub use Rattle.sdd_run.specs.Standing.{IsSubmittedBefore, StandsBefore, times_in, times_pending}
 pub use Rattle.sdd_run.specs.Worlds.{IsRunOf}

@@ -1,5 +1,5 @@
 -- The events of a valid workload are allowed.
-use Rattle.sdd_run.proofs.All.{All, All-head, All-tail, AreAllowed, Catalogue, ClassList, D, Deliver, Down, Event, Force, Input, IsGood, IsLink, IsPossible, IsSite, IsValidEvent, List, Lose, Redeclare, Repeat, Resend, Settle, Site, Some, T, Tick, U, Up, [], ap, append_assoc, are_linked, arith, count_join, drop, false, force_in, get_or, is_link, is_site, length, lists_after, map, redeclares_in, refl, slice_get, subst, suc, sym, takes_rounds, true, with_event, within, zero, ℕ, ◌&&◌, ◌++◌, ◌-◌, ◌<◌, ◌∙◌, ◌∷◌, ◌≡◌}
+use Rattle.sdd_run.proofs.All.{All, All-head, All-tail, AreAllowed, Catalogue, ClassList, D, Deliver, Down, Era, Event, Input, IsGood, IsLink, IsPossible, IsSite, IsValidEvent, List, Lose, Redeclare, Repeat, Resend, Settle, Site, Some, T, Tick, U, Up, [], ap, append_assoc, are_linked, arith, count_join, drop, era_of_list, false, get_or, is_link, is_site, length, lists_after, map, redeclares_in, refl, slice_get, subst, suc, sym, takes_rounds, true, with_event, within, zero, ℕ, ◌&&◌, ◌++◌, ◌-◌, ◌<◌, ◌∙◌, ◌∷◌, ◌≡◌}
 use Rattle.sdd_obligations.specs.All.{Submit}
 
 member : {A : Type 0} (xs : List A) (i : ℕ) → i < length xs → (x : A) × (slice_get xs i ≡ Some x)
@@ -40,29 +40,29 @@ record IsOther (e : Event) (lists : List ClassList) : Type 0 where
 -- these lists are left behind those that the events put in force, and there is one for each redeclare of the schedule
 
 abbrev AreLeft : Input → List ClassList → Type 0
-AreLeft g lists = map force_in lists ≡ drop (suc (redeclares_in g.events)) g.forces
+AreLeft g lists = map era_of_list lists ≡ drop (suc (redeclares_in g.events)) g.eras
 
 abbrev pub HasLists : Input → List Event → Type 0
-HasLists g all = (front rest : List Event) → all ≡ front ++ Redeclare ∷ rest → suc (redeclares_in front) < length g.forces
+HasLists g all = (front rest : List Event) → all ≡ front ++ Redeclare ∷ rest → suc (redeclares_in front) < length g.eras
 
-record IsFirst (forces : List Force) (k : ℕ) (none : Force) (lists : List ClassList) : Type 0 where
+record IsFirst (eras : List Era) (k : ℕ) (none : Era) (lists : List ClassList) : Type 0 where
   list : ClassList
   others : List ClassList
   is : lists ≡ list ∷ others
-  force_is : get_or forces k none ≡ force_in list
-  others_are : map force_in others ≡ drop (suc k) forces
+  era_is : get_or eras k none ≡ era_of_list list
+  others_are : map era_of_list others ≡ drop (suc k) eras
 
-first_is : (forces : List Force) (k : ℕ) (none : Force) (lists : List ClassList) → map force_in lists ≡ drop k forces → k < length forces
-    → IsFirst forces k none lists
+first_is : (eras : List Era) (k : ℕ) (none : Era) (lists : List ClassList) → map era_of_list lists ≡ drop k eras → k < length eras
+    → IsFirst eras k none lists
 first_is [] k none lists h l = absurd (omega (arith, l))
-first_is (f ∷ forces) zero none [] h l = absurd (cc)
-first_is (f ∷ forces) zero none (x ∷ lists) h l =
-    let p : force_in x ≡ f = cc in
-    let q : map force_in lists ≡ forces = cc in
-    record { list = x; others = lists; is = refl; force_is = sym p; others_are = q }
-first_is (f ∷ forces) (suc k) none lists h l =
-    let i = first_is forces k none lists h (omega (arith, l)) in
-    record { list = i.list; others = i.others; is = i.is; force_is = i.force_is; others_are = i.others_are }
+first_is (f ∷ eras) zero none [] h l = absurd (cc)
+first_is (f ∷ eras) zero none (x ∷ lists) h l =
+    let p : era_of_list x ≡ f = cc in
+    let q : map era_of_list lists ≡ eras = cc in
+    record { list = x; others = lists; is = refl; era_is = sym p; others_are = q }
+first_is (f ∷ eras) (suc k) none lists h l =
+    let i = first_is eras k none lists h (omega (arith, l)) in
+    record { list = i.list; others = i.others; is = i.is; era_is = i.era_is; others_are = i.others_are }
 
 -- one event more, and then the others
 
@@ -85,7 +85,7 @@ module _ (all : List Event) where
           good = good (g.events ++ x ∷ []) es further;
         },
         subst (AreAllowed (with_event g x) es) (sym o.none_taken)
-            (later further (All-tail (IsValidEvent g.catalogue (length g.txns)) x es valid) (left ∙ ap (λ n. drop (suc n) g.forces) (sym same)) has good),
+            (later further (All-tail (IsValidEvent g.catalogue (length g.txns)) x es valid) (left ∙ ap (λ n. drop (suc n) g.eras) (sym same)) has good),
       )
 
   next_list : (g : Input) (es : List Event) (lists : List ClassList) → ((others : List ClassList) → Goes (with_event g Redeclare) es others)
@@ -95,15 +95,15 @@ module _ (all : List Event) where
       let k : ℕ = redeclares_in g.events in
       let more = count_join g.events (Redeclare ∷ []) in
       let one : redeclares_in (g.events ++ Redeclare ∷ []) ≡ suc k = omega (arith, more) in
-      let i = first_is g.forces (suc k) (record { catalogue = g.catalogue; table = [] }) lists left (has g.events es (sym e)) in
+      let i = first_is g.eras (suc k) (record { catalogue = g.catalogue; table = [] }) lists left (has g.events es (sym e)) in
       subst (AreAllowed g (Redeclare ∷ es)) (sym i.is) (
         record {
           possible = possible g Redeclare (All-head (IsValidEvent g.catalogue (length g.txns)) Redeclare es valid);
-          listed = λ is. i.force_is;
+          listed = λ is. i.era_is;
           good = good (g.events ++ Redeclare ∷ []) es further;
         },
         later i.others further (All-tail (IsValidEvent g.catalogue (length g.txns)) Redeclare es valid)
-            (i.others_are ∙ ap (λ n. drop (suc n) g.forces) (sym one)) has good,
+            (i.others_are ∙ ap (λ n. drop (suc n) g.eras) (sym one)) has good,
       )
 
   pub allowed : (es : List Event) (g : Input) (lists : List ClassList) → Goes g es lists

@@ -1,5 +1,5 @@
 -- Where a settle or a redeclare is the last of the events, the links are quiet at the end.
-use Rattle.sdd_run.proofs.All.{Act, Bool, Does, Event, Hand, Input, IsAtRest, IsLawful, List, Log, Mark, None, Notes, Option, Redeclare, Redeclares, Round, Settle, Site, Some, Submitted, Up, [], after_mark, all_links, ap, at_redeclare, base_of, calls_of, complete_parts, delivered, does_at, false, first_none, force_at, forced_none, from_event, hand_due, hand_number, hand_on, handed, if◌then◌else◌, inl, inr, left, link_of, local_of, mark_from, mark_of, next, next_at, next_is_of_events, next_number, none_any_base, none_left, quiet, quiet_at_last, redeclares, refl, round, same_part, site_due, sites, subst, suc, sym, tail_of, true, with_event, ℕ, ◌++◌, ◌∙◌, ◌∷◌, ◌≡◌, ◌⊎◌}
+use Rattle.sdd_run.proofs.All.{Act, Bool, Does, Event, Hand, Input, IsAtRest, IsLawful, List, Log, Mark, None, Notes, Option, Redeclare, Redeclares, Round, Settle, Site, Some, Submitted, Up, [], after_mark, all_links, ap, at_redeclare, base_of, calls_of, complete_parts, delivered, does_at, false, first_none, from_event, hand_due, hand_number, hand_on, handed, if◌then◌else◌, inl, inr, left, link_of, local_of, mark_from, mark_of, next, next_at, next_is_of_events, next_number, no_redeclare, none_any_base, none_left, nth_era, quiet, quiet_at_last, redeclares, refl, round, same_part, site_due, sites, subst, suc, sym, tail_of, true, with_event, ℕ, ◌++◌, ◌∙◌, ◌∷◌, ◌≡◌, ◌⊎◌}
 use Rattle.sdd_obligations.specs.All.{Entry}
 use Rattle.sdd_obligations.specs.site_module.SiteLog as site
 
@@ -67,7 +67,7 @@ none_at_site : (g : Input) (t : ℕ) (log : Log) → site_due g log ≡ None →
 none_at_site g t log =
     first_none (λ x. does_at x (next_at g log x)) (λ x. does_at x (next_at g (Redeclares t ∷ log) x)) (sites g.catalogue.tms g.catalogue.dms)
     (λ x. not_due x (next_at g log x) (next_at g (Redeclares t ∷ log) x) (λ i.
-    forced_none g x (base_of g (Redeclares t ∷ log)) (force_at g (suc (redeclares log))) t (local_of g x log)
+    no_redeclare g x (base_of g (Redeclares t ∷ log)) (nth_era g (suc (redeclares log))) t (local_of g x log)
     (none_any_base g x (base_of g log) (base_of g (Redeclares t ∷ log)) (local_of g x log) i)))
 
 same_hand : (t : ℕ) (log : Log) (l : Site × Site) → hand_on (Redeclares t ∷ log) l ≡ hand_on log l

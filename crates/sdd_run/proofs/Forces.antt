@@ -1,5 +1,5 @@
 -- The lists of classes of a workload as they are given: each is an era of the whole catalogue, and has its protocol table.
-use Rattle.sdd_run.proofs.All.{AllZip, AllZip-long, AreTables, Catalogue, Class, Entry, Force, HasEras, IsEraOf, IsForce, IsTable, List, Some, Workload, [], ap, arith, cases_lt, classes_in, era_of_itself, era_of_whole, eras, eras_in, extended, force_at, forces_of, get_or_past, inl, input_of, inr, length, refl, retired, slice_get, slice_get-get_or, subst, suc, sym, whole_in, zero, ℕ, ◌∙◌, ◌∷◌, ◌≡◌, ◌≤◌}
+use Rattle.sdd_run.proofs.All.{AllZip, AllZip-long, AreTables, Catalogue, Class, Entry, Era, HasEras, IsEra, IsEraOf, IsTable, List, Some, Workload, [], ap, arith, cases_lt, classes_in, era_of_itself, era_of_whole, eras, eras_in, eras_with_tables, extended, get_or_past, inl, input_of, inr, length, nth_era, refl, retired, slice_get, slice_get-get_or, subst, suc, sym, whole_in, zero, ℕ, ◌∙◌, ◌∷◌, ◌≡◌, ◌≤◌}
 
 -- as many as catalogues, that is one more than lists
 
@@ -7,10 +7,10 @@ pub eras_are : (cat : Catalogue) (lists : List (List Class)) → length (eras ca
 eras_are cat [] = refl
 eras_are cat (classes ∷ lists) = ap (λ n. suc n) (eras_are (extended classes (retired (length cat.classes) cat)) lists)
 
-forces_are : (cats : List Catalogue) (tables : List (List Entry)) → AllZip IsTable cats tables → length (forces_of cats tables) ≡ length cats
-forces_are [] tables h = refl
-forces_are (cat ∷ cats) [] h = absurd h
-forces_are (cat ∷ cats) (table ∷ tables) h = ap (λ n. suc n) (forces_are cats tables h.1)
+eras_are : (cats : List Catalogue) (tables : List (List Entry)) → AllZip IsTable cats tables → length (eras_with_tables cats tables) ≡ length cats
+eras_are [] tables h = refl
+eras_are (cat ∷ cats) [] h = absurd h
+eras_are (cat ∷ cats) (table ∷ tables) h = ap (λ n. suc n) (eras_are cats tables h.1)
 
 pub tables_are : (cat : Catalogue) (tables : List (List Entry)) (work : Workload) → AreTables cat work tables → length tables ≡ length (eras_in cat work)
 tables_are cat tables work tabled = AllZip-long IsTable (eras_in cat work) tables tabled
@@ -30,41 +30,41 @@ pub first_era : (cat : Catalogue) (work : Workload) → IsEraOf (whole_in cat wo
 first_era cat work = era_of_whole cat (classes_in cat work) 0 cat (first_there cat (classes_in cat work))
 
 -- that of one list
-pub record IsOfList (cats : List Catalogue) (k : ℕ) (f : Force) : Type 0 where
+pub record IsOfList (cats : List Catalogue) (k : ℕ) (f : Era) : Type 0 where
   pub there : slice_get cats k ≡ Some f.catalogue
-  pub force : IsForce f
+  pub era : IsEra f
 
 pub of_list : (cats : List Catalogue) (tables : List (List Entry)) → AllZip IsTable cats tables
-    → (k : ℕ) (f : Force) → slice_get (forces_of cats tables) k ≡ Some f → IsOfList cats k f
+    → (k : ℕ) (f : Era) → slice_get (eras_with_tables cats tables) k ≡ Some f → IsOfList cats k f
 of_list [] tables h k f e = cc
 of_list (cat ∷ cats) [] h k f e = absurd h
 of_list (cat ∷ cats) (table ∷ tables) h zero f e =
-    let first : Force = record { catalogue = cat; table = table } in
+    let first : Era = record { catalogue = cat; table = table } in
     let same : first ≡ f = cc in
-    subst (IsOfList (cat ∷ cats) 0) same (record { there = refl; force = record { table = h.0 } })
-of_list (cat ∷ cats) (table ∷ tables) h (suc k) f e = let i = of_list cats tables h.1 k f e in record { there = i.there; force = i.force }
+    subst (IsOfList (cat ∷ cats) 0) same (record { there = refl; era = record { table = h.0 } })
+of_list (cat ∷ cats) (table ∷ tables) h (suc k) f e = let i = of_list cats tables h.1 k f e in record { there = i.there; era = i.era }
 
 module _ (cat : Catalogue) (tables : List (List Entry)) (work : Workload) (tabled : AreTables cat work tables) where
-  pub how_many : length (input_of cat tables work).forces ≡ suc (length (classes_in cat work))
-  how_many = forces_are (eras_in cat work) tables tabled ∙ eras_are cat (classes_in cat work)
+  pub how_many : length (input_of cat tables work).eras ≡ suc (length (classes_in cat work))
+  how_many = eras_are (eras_in cat work) tables tabled ∙ eras_are cat (classes_in cat work)
 
   -- beyond the last list there is none
-  abbrev none : Force
+  abbrev none : Era
   none = record { catalogue = whole_in cat work; table = [] }
 
-  pub list_at : (k : ℕ) → k ≤ length (classes_in cat work) → IsOfList (eras_in cat work) k (force_at (input_of cat tables work) k)
+  pub list_at : (k : ℕ) → k ≤ length (classes_in cat work) → IsOfList (eras_in cat work) k (nth_era (input_of cat tables work) k)
   list_at k l =
       let all = how_many in
-      of_list (eras_in cat work) tables tabled k (force_at (input_of cat tables work) k)
-      (slice_get-get_or (input_of cat tables work).forces k none (omega (arith, l, all)))
+      of_list (eras_in cat work) tables tabled k (nth_era (input_of cat tables work) k)
+      (slice_get-get_or (input_of cat tables work).eras k none (omega (arith, l, all)))
 
-  pub era_at : (k : ℕ) → k ≤ length (classes_in cat work) → IsEraOf (whole_in cat work) (force_at (input_of cat tables work) k).catalogue
-  era_at k l = era_of_whole cat (classes_in cat work) k (force_at (input_of cat tables work) k).catalogue (list_at k l).there
+  pub era_at : (k : ℕ) → k ≤ length (classes_in cat work) → IsEraOf (whole_in cat work) (nth_era (input_of cat tables work) k).catalogue
+  era_at k l = era_of_whole cat (classes_in cat work) k (nth_era (input_of cat tables work) k).catalogue (list_at k l).there
 
   pub has_eras : HasEras (input_of cat tables work)
   has_eras k = elim (cases_lt (length (classes_in cat work)) k) [
     | inl past ↦ (let all = how_many in
-        subst (λ (f : Force). IsEraOf (whole_in cat work) f.catalogue)
-        (sym (get_or_past (input_of cat tables work).forces k none (omega (arith, past, all)))) (era_of_itself (whole_in cat work)))
+        subst (λ (f : Era). IsEraOf (whole_in cat work) f.catalogue)
+        (sym (get_or_past (input_of cat tables work).eras k none (omega (arith, past, all)))) (era_of_itself (whole_in cat work)))
     | inr within ↦ era_at k (omega (arith, within))
   ]

@@ -1,6 +1,6 @@
 -- A transaction that is pending when a run ends was submitted under the list of classes that is in force then: all that
 -- was submitted under an earlier one is committed. So it is looked for at the site of its class by that list.
-use Rattle.sdd_run.proofs.All.{AreAtLastHomes, Bool, Does, Hand, Homes, Input, IsPermitted, IsSubmitted, Known, List, Log, Mark, None, Notes, Option, Rec, Redeclares, Round, Site, Some, Submit, Submitted, Telling, TxnNo, [], ap, append_assoc, arith, commit_there, commits, cons_option, eqb-true, false, filter_map, force_at, given_at, history, history_le, home_of, if◌then◌else◌, inl, inr, last_home, length, length-append, list_any, not_both, one_submit, option_map, pending_as, pending_at, pending_by, pending_of, permitted_before, reason_of, redeclare_between, redeclares, refl, rest, same_number, slice_get, stands_at, stands_front, stands_there, submit_in, submitted_at, subst, suc, sym, true, txn_at, txn_no, why_of, ℕ, ◌++◌, ◌+◌, ◌==◌, ◌∙◌, ◌∷◌, ◌≡◌}
+use Rattle.sdd_run.proofs.All.{AreAtLastHomes, Bool, Does, Hand, Homes, Input, IsPermitted, IsSubmitted, Known, List, Log, Mark, None, Notes, Option, Rec, Redeclares, Round, Site, Some, Submit, Submitted, Telling, TxnNo, [], ap, append_assoc, arith, commit_there, commits, cons_option, eqb-true, false, filter_map, given_at, history, history_le, home_of, if◌then◌else◌, inl, inr, last_home, length, length-append, list_any, not_both, nth_era, one_submit, option_map, pending_as, pending_at, pending_by, pending_of, permitted_before, reason_of, redeclare_between, redeclares, refl, rest, same_number, slice_get, stands_at, stands_front, stands_there, submit_in, submitted_at, subst, suc, sym, true, txn_at, txn_no, why_of, ℕ, ◌++◌, ◌+◌, ◌==◌, ◌∙◌, ◌∷◌, ◌≡◌}
 use Rattle.sdd_run.proofs.Lossless.{commits_it}
 
 -- the site that a log tells is that of the one place where it submits the transaction
@@ -51,7 +51,7 @@ last_home_is g log w n k submitted unmade =
     elim (redeclare_between (Submitted s.at n) s.rest log s.later s.is) [
       | inl same ↦
           (submitted_there g log s.later s.rest s.at n w.permitted s.is ∙ x.at_is
-          ∙ ap (λ i. home_of (force_at g i).catalogue (txn_at g n)) (sym (ap redeclares x.is) ∙ same))
+          ∙ ap (λ i. home_of (nth_era g i).catalogue (txn_at g n)) (sym (ap redeclares x.is) ∙ same))
       | inr b ↦ (let r = rest g log w b.after b.mid b.time b.upper_is in
           let inside = history_le b.between (Submitted s.at n ∷ s.rest) in
           let mid_long : length (history b.mid) ≡ length (history (b.between ++ Submitted s.at n ∷ s.rest)) = ap (λ l. length (history l)) b.mid_is in

@@ -1,5 +1,5 @@
 -- The lists of classes as they are lent to a world: one more, and all of them.
-use Rattle.sdd_run.proofs.All.{AllZip, Catalogue, ClassList, Entry, Force, IsTable, List, Some, [], ap, arith, force_in, forces_of, get_or, length, map, map-append, refl, slice_get, subst, suc, sym, tail_of, take, take_all, take_more, zero, ℕ, ◌++◌, ◌+◌, ◌-◌, ◌<◌, ◌∙◌, ◌∷◌, ◌≡◌, ◌≤◌}
+use Rattle.sdd_run.proofs.All.{AllZip, Catalogue, ClassList, Entry, Era, IsTable, List, Some, [], ap, arith, era_of_list, eras_with_tables, get_or, length, map, map-append, refl, slice_get, subst, suc, sym, tail_of, take, take_all, take_more, zero, ℕ, ◌++◌, ◌+◌, ◌-◌, ◌<◌, ◌∙◌, ◌∷◌, ◌≡◌, ◌≤◌}
 
 -- one protocol table more
 
@@ -19,12 +19,12 @@ tabled_more cats i cat tables table l is h k =
 -- the list at a place
 
 at_place : (cats : List Catalogue) (tables : List (List Entry)) (k : ℕ) (cat : Catalogue) (table : List Entry)
-    → slice_get cats k ≡ Some cat → slice_get tables k ≡ Some table → slice_get (forces_of cats tables) k ≡ Some (record { catalogue = cat; table = table })
+    → slice_get cats k ≡ Some cat → slice_get tables k ≡ Some table → slice_get (eras_with_tables cats tables) k ≡ Some (record { catalogue = cat; table = table })
 at_place (c ∷ cats) (t ∷ tables) zero cat table e f =
     let p : c ≡ cat = cc in
     let q : t ≡ table = cc in
-    let first : Force = record { catalogue = c; table = t } in
-    let other : Force = record { catalogue = cat; table = table } in
+    let first : Era = record { catalogue = c; table = t } in
+    let other : Era = record { catalogue = cat; table = table } in
     let same : first ≡ other = (λ i. record { catalogue = p i; table = q i }) in
     ap (λ x. Some x) same
 at_place (c ∷ cats) (t ∷ tables) (suc k) cat table e f = at_place cats tables k cat table e f
@@ -32,7 +32,7 @@ at_place _ _ k cat table e f = absurd (cc)
 
 pub list_there : (cats : List Catalogue) (tables : List (List Entry)) (k : ℕ) (cat : Catalogue) (table : List Entry)
     → k < length cats → k < length tables → cat ≡ get_or cats k cat → table ≡ get_or tables k table
-    → slice_get (forces_of cats tables) k ≡ Some (record { catalogue = cat; table = table })
+    → slice_get (eras_with_tables cats tables) k ≡ Some (record { catalogue = cat; table = table })
 list_there cats tables k cat table l m e f = at_place cats tables k cat table (there cats k cat l e) (there tables k table m f)
   where
     there : {A : Type 0} (xs : List A) (k : ℕ) (x : A) → k < length xs → x ≡ get_or xs k x → slice_get xs k ≡ Some x
@@ -62,14 +62,14 @@ up_one xs (suc k) x e l =
     let b : suc k - 1 ≡ k = omega arith in
     ap (λ n. take n (tail_of xs)) a ∙ take_at (tail_of xs) k x (at_tail xs k x e) ∙ ap (λ n. take n (tail_of xs) ++ x ∷ []) (sym b)
 
-pub lent_more : (forces : List Force) (k : ℕ) (list : ClassList) (lists more : List ClassList) → slice_get forces k ≡ Some (force_in list) → 1 ≤ k
-    → more ≡ lists ++ list ∷ [] → map force_in lists ≡ take (k - 1) (tail_of forces) → map force_in more ≡ take (k + 1 - 1) (tail_of forces)
-lent_more forces k list lists more e l grown h =
-    ap (map force_in) grown ∙ map-append force_in lists (list ∷ []) ∙ ap (λ xs. xs ++ force_in list ∷ []) h ∙ sym (up_one forces k (force_in list) e l)
+pub lent_more : (eras : List Era) (k : ℕ) (list : ClassList) (lists more : List ClassList) → slice_get eras k ≡ Some (era_of_list list) → 1 ≤ k
+    → more ≡ lists ++ list ∷ [] → map era_of_list lists ≡ take (k - 1) (tail_of eras) → map era_of_list more ≡ take (k + 1 - 1) (tail_of eras)
+lent_more eras k list lists more e l grown h =
+    ap (map era_of_list) grown ∙ map-append era_of_list lists (list ∷ []) ∙ ap (λ xs. xs ++ era_of_list list ∷ []) h ∙ sym (up_one eras k (era_of_list list) e l)
 
 -- all of them
 
-pub as_many : (cats : List Catalogue) (tables : List (List Entry)) → length tables ≡ length cats → length (forces_of cats tables) ≡ length cats
+pub as_many : (cats : List Catalogue) (tables : List (List Entry)) → length tables ≡ length cats → length (eras_with_tables cats tables) ≡ length cats
 as_many [] tables e = refl
 as_many (c ∷ cats) [] e = absurd (omega (arith, e))
 as_many (c ∷ cats) (t ∷ tables) e = ap (λ n. suc n) (as_many cats tables (omega (arith, e)))
@@ -78,8 +78,8 @@ tail_long : {A : Type 0} (xs : List A) → length (tail_of xs) ≡ length xs - 1
 tail_long [] = omega arith
 tail_long (x ∷ xs) = omega arith
 
-pub all_lent : (forces : List Force) (k : ℕ) (lists : List ClassList) → length forces ≤ k → map force_in lists ≡ take (k - 1) (tail_of forces)
-    → map force_in lists ≡ tail_of forces
-all_lent forces k lists l h =
-    let n = tail_long forces in
-    h ∙ take_all (k - 1) (tail_of forces) (omega (arith, l, n))
+pub all_lent : (eras : List Era) (k : ℕ) (lists : List ClassList) → length eras ≤ k → map era_of_list lists ≡ take (k - 1) (tail_of eras)
+    → map era_of_list lists ≡ tail_of eras
+all_lent eras k lists l h =
+    let n = tail_long eras in
+    h ∙ take_all (k - 1) (tail_of eras) (omega (arith, l, n))

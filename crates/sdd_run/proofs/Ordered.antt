@@ -34,7 +34,7 @@ module _ (cat : Catalogue) (tables : List (List Entry)) (work : Workload) (sound
   free_class : (c : ℕ) → IsClassOf (whole_in cat work) c → IsFreeInEach cat work c → IsFreeClass (input_of cat tables work) c
   free_class c class free = record {
     class = class;
-    tabled = λ k f e. (of_list (eras_in cat work) tables tabled k f e).force;
+    tabled = λ k f e. (of_list (eras_in cat work) tables tabled k f e).era;
     free = λ k f e. All-at (λ of_list. IsFree of_list c) (eras_in cat work) k f.catalogue (of_list (eras_in cat work) tables tabled k f e).there free;
   }
 

@@ -45,7 +45,7 @@ module _ (cat : Catalogue) (tables : List (List Entry)) (work : Workload) (sound
         record {
           fits = fits_given cat tables work sound valid work.events;
           era = era_at cat tables work tabled k within;
-          table = (list_at cat tables work tabled k within).force;
+          table = (list_at cat tables work tabled k within).era;
         }
 
   module _ (log : Log) (the_log : IsTheLog (input_of cat tables work) log) where

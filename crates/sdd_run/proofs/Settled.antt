@@ -30,8 +30,8 @@ module _ (cat : Catalogue) (tables : List (List Entry)) (work : Workload) (sound
   submits : SubmitGiven (input_of cat tables work)
   submits = submit_given cat tables work sound valid tabled
 
-  in_force : HasSoundLists (input_of cat tables work) log
-  in_force = lists cat tables work sound valid tabled log the_log
+  current_era : HasSoundLists (input_of cat tables work) log
+  current_era = lists cat tables work sound valid tabled log the_log
 
   at_end : NoneIsDown (whole_in cat work) log → IsAtEnd (input_of cat tables work) log
   at_end are_up = record { lawful = the_log.lawful; complete = the_log.complete; up_before = up cat tables work sound valid tabled log the_log; up = are_up }
@@ -49,7 +49,7 @@ module _ (cat : Catalogue) (tables : List (List Entry)) (work : Workload) (sound
       (subst (λ x. next x log ≡ None) same the_log.complete)
 
   all_committed : EndsQuiet (input_of cat tables work) log → NoneIsDown (whole_in cat work) log → AllCommitted (history log)
-  all_committed links are_up = settled_is_committed (input_of cat tables work) log in_force submits (is_settled links are_up)
+  all_committed links are_up = settled_is_committed (input_of cat tables work) log current_era submits (is_settled links are_up)
 
   pub settled : IsOrderable (whole_in cat work) (history log) → IsSerial (whole_in cat work) (history log) (order_of cat work log)
       → EndsQuiet (input_of cat tables work) log → NoneIsDown (whole_in cat work) log → TellsAllCommitted (report_of (input_of cat tables work) log)
@@ -65,7 +65,7 @@ module _ (cat : Catalogue) (tables : List (List Entry)) (work : Workload) (sound
   listed : (n place : ℕ) → IsSubmitted (history log) n place → WasCommitted (history log) n ⊎ IsListed (report_of (input_of cat tables work) log).pending n
   listed =
       each_listed (input_of cat tables work) log (lawful_permitted (input_of cat tables work) log submits.once the_log.lawful)
-      in_force (lawful_numbered (input_of cat tables work) log submits the_log.lawful)
+      current_era (lawful_numbered (input_of cat tables work) log submits the_log.lawful)
 
   -- and is so once
   pub nothing_lost : IsOrderable (whole_in cat work) (history log) → IsSerial (whole_in cat work) (history log) (order_of cat work log)
@@ -81,10 +81,10 @@ module _ (cat : Catalogue) (tables : List (List Entry)) (work : Workload) (sound
       let g : Input = input_of cat tables work in
       let s = is_settled links are_up in
       let h = settled_is_quiet g log submits.once s in
-      let done = settled_is_finished g log in_force submits.once s in
+      let done = settled_is_finished g log current_era submits.once s in
       let at = Contains-from_flat_map (tables_at g log) (numbers_to g.catalogue.dms) copy there in
       let xs = dated (setting_of g (D (dm_no at.0))) (local_of g (D (dm_no at.0)) log) in
       let of = Contains-from_map (table_of at.0 xs) _ copy at.2 in
       let copied = Contains-from_filter (has_copy g.catalogue at.0) (numbers_to (length g.catalogue.fragments)) of.0 of.1 in
       subst (λ (t : CopyTable). AreAllApplied (history log) t.frag.0 t.dm.0 (length (history log)))
-      (sym of.2) (applied_at_copies g log of.0 at.0 sound h in_force done.idle copied.1)
+      (sym of.2) (applied_at_copies g log of.0 at.0 sound h current_era done.idle copied.1)

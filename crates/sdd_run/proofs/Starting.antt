@@ -1,5 +1,5 @@
 -- A new world of a workload stands for the empty log of what is given before its first event.
-use Rattle.sdd_run.proofs.All.{AllBegin, AreAllowed, AreTables, BeginsD, Catalogue, Class, ClassList, D, Entry, Event, Force, Input, IsBegun, IsGood, IsSound, IsValid, Kept, List, MAX_DMS, MAX_TMS, RelNo, Row, Some, StandsFor, State, There, Txn, Workload, World, [], ap, begun, classes_in, dm_no, drop, eras, eras_in, force_in, forces_of, get_or, map, refl, rows_of, slice_get, subst, sym, tail_of, whole_in, ◌-◌, ◌∙◌, ◌∷◌, ◌≡◌, ◌≤◌}
+use Rattle.sdd_run.proofs.All.{AllBegin, AreAllowed, AreTables, BeginsD, Catalogue, Class, ClassList, D, Entry, Era, Event, Input, IsBegun, IsGood, IsSound, IsValid, Kept, List, MAX_DMS, MAX_TMS, RelNo, Row, Some, StandsFor, State, There, Txn, Workload, World, [], ap, begun, classes_in, dm_no, drop, era_of_list, eras, eras_in, eras_with_tables, get_or, map, refl, rows_of, slice_get, subst, sym, tail_of, whole_in, ◌-◌, ◌∙◌, ◌∷◌, ◌≡◌, ◌≤◌}
 use Rattle.sdd_run.proofs.Allowed.{HasLists, allowed}
 use Rattle.sdd_run.proofs.Beginning.{begins_sound, rows_given}
 use Rattle.sdd_run.proofs.Goods.{good_along, good_begun}
@@ -7,20 +7,20 @@ use Rattle.sdd_run.proofs.Timely.{timely}
 use Rattle.sdd_run.proofs.Whole.{events_valid}
 use Rattle.sdd_world.specs.Standing as standing
 
-abbrev with_table : Catalogue → List Entry → Force
+abbrev with_table : Catalogue → List Entry → Era
 with_table cat table = record { catalogue = cat; table = table }
 
 -- the lists behind the first
-tail_is : (forces : List Force) → tail_of forces ≡ drop 1 forces
+tail_is : (eras : List Era) → tail_of eras ≡ drop 1 eras
 tail_is [] = refl
-tail_is (f ∷ forces) = refl
+tail_is (f ∷ eras) = refl
 
 -- the first list is that of the catalogue
-first_force : (cat : Catalogue) (lists : List (List Class)) (tables : List (List Entry)) (table : List Entry) (none : Force) → slice_get tables 0 ≡ Some table
-    → get_or (forces_of (eras cat lists) tables) 0 none ≡ record { catalogue = cat; table = table }
-first_force cat lists [] table none e = absurd (cc)
-first_force cat [] (t ∷ tables) table none e = let p : t ≡ table = cc in ap (with_table cat) p
-first_force cat (l ∷ lists) (t ∷ tables) table none e = let p : t ≡ table = cc in ap (with_table cat) p
+first_of_eras : (cat : Catalogue) (lists : List (List Class)) (tables : List (List Entry)) (table : List Entry) (none : Era) → slice_get tables 0 ≡ Some table
+    → get_or (eras_with_tables (eras cat lists) tables) 0 none ≡ record { catalogue = cat; table = table }
+first_of_eras cat lists [] table none e = absurd (cc)
+first_of_eras cat [] (t ∷ tables) table none e = let p : t ≡ table = cc in ap (with_table cat) p
+first_of_eras cat (l ∷ lists) (t ∷ tables) table none e = let p : t ≡ table = cc in ap (with_table cat) p
 
 module _ (cat : Catalogue) (tables : List (List Entry)) (work : Workload) (sound : IsSound (whole_in cat work)) (valid : IsValid cat work)
     (tabled : AreTables cat work tables) where
@@ -30,11 +30,11 @@ module _ (cat : Catalogue) (tables : List (List Entry)) (work : Workload) (sound
 
   -- the events of a valid workload are allowed
   pub all_allowed : (events : List Event) (lists : List ClassList) → events ≡ work.events
-      → map force_in lists ≡ tail_of (forces_of (eras_in cat work) tables) → AreAllowed (begun cat tables work) events lists
+      → map era_of_list lists ≡ tail_of (eras_with_tables (eras_in cat work) tables) → AreAllowed (begun cat tables work) events lists
   all_allowed events lists e left =
       subst (λ es. AreAllowed (begun cat tables work) es lists) (sym e)
       (allowed work.events work.events (begun cat tables work) lists refl (events_valid cat work valid)
-      (left ∙ tail_is (forces_of (eras_in cat work) tables)) has_lists (good_along cat tables work sound valid tabled))
+      (left ∙ tail_is (eras_with_tables (eras_in cat work) tables)) has_lists (good_along cat tables work sound valid tabled))
 
   -- the data modules, each of the rows that are given for it
   each_made : (rows : List (RelNo × Row)) (dms : List (Kept State)) → rows ≡ work.rows → AllBegin (BeginsD (whole_in cat work) rows) (whole_in cat work).dms dms
@@ -55,7 +55,7 @@ module _ (cat : Catalogue) (tables : List (List Entry)) (work : Workload) (sound
       made (begun cat tables work) (good_begun cat tables work sound valid tabled) (begins_sound cat tables work few_tms few_dms valid)
       (record {
         catalogue_is = refl;
-        force_is = first_force cat (classes_in cat work) tables table (record { catalogue = whole_in cat work; table = [] }) first;
+        era_is = first_of_eras cat (classes_in cat work) tables table (record { catalogue = whole_in cat work; table = [] }) first;
         txns_are = t;
         no_events = refl;
         made = each_made rows dms r all;

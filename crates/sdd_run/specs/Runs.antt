@@ -2,7 +2,7 @@
 -- classes: then the whole catalogue has the classes of all lists, and one list after the other is in force, with the
 -- protocol table of its own catalogue. Without further lists the whole catalogue is the catalogue itself.
 use Rattle.std.specs.Prelude.{ℕ, ◌≡◌, List, [], ◌∷◌, ◌++◌, Contains, length, map}
-use Rattle.sdd_obligations.specs.All.{AreAllApplied, Catalogue, Committed, EndsByLimit, Force, Input, IsAttempt, IsClassOf, IsCommitted, IsOrderable, IsSerial, IsTable, IsTheLog, Log, Reply, TxnNo, history, marks, numbers_to, run}
+use Rattle.sdd_obligations.specs.All.{AreAllApplied, Catalogue, Committed, EndsByLimit, Era, Input, IsAttempt, IsClassOf, IsCommitted, IsOrderable, IsSerial, IsTable, IsTheLog, Log, Reply, TxnNo, history, marks, numbers_to, run}
 use Rattle.std.specs.List.{All, AllZip}
 use Rattle.sdd_obligations.specs.protocol.declared.entry.Entry.{Entry}
 use Rattle.sdd_script.specs.declared.workload.Workload.{Workload}
@@ -30,10 +30,10 @@ use Rattle.sdd_run.specs.Reasons.{IsReason}
 use Rattle.sdd_run.specs.Reports.{report_of}
 
 -- each list of classes with its protocol table
-abbrev pub forces_of : List Catalogue → List (List Entry) → List Force
-forces_of [] tables = []
-forces_of (cat ∷ cats) [] = []
-forces_of (cat ∷ cats) (table ∷ tables) = record { catalogue = cat; table = table } ∷ forces_of cats tables
+abbrev pub eras_with_tables : List Catalogue → List (List Entry) → List Era
+eras_with_tables [] tables = []
+eras_with_tables (cat ∷ cats) [] = []
+eras_with_tables (cat ∷ cats) (table ∷ tables) = record { catalogue = cat; table = table } ∷ eras_with_tables cats tables
 
 -- of each list of a workload the protocol table
 abbrev pub AreTables : Catalogue → Workload → List (List Entry) → Type 0
@@ -43,7 +43,7 @@ AreTables cat work tables = AllZip IsTable (eras_in cat work) tables
 abbrev pub input_of : Catalogue → List (List Entry) → Workload → Input
 input_of cat tables work = record {
   catalogue = whole_in cat work;
-  forces = forces_of (eras_in cat work) tables;
+  eras = eras_with_tables (eras_in cat work) tables;
   rows = map (λ d. work.rows) (numbers_to cat.dms);
   txns = work.txns;
   events = work.events;

@@ -6,13 +6,13 @@
 //! (`law_standings`), and who never waits (`law_free_answered`).
 #![tactic(auto)]
 
-mod in_force;
+mod era_lists;
 mod law;
 mod run;
 mod running;
 mod telling;
 
-pub use in_force::{first_table, further, tables_of};
+pub use era_lists::{first_table, further, tables_of};
 pub use law::{law_free_answered, law_low_clocks, law_one_report, law_standings};
 pub use run::{run_report, run_summary};
 

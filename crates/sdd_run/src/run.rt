@@ -3,7 +3,7 @@ ghost use Rattle.std.specs.Prelude.{IfOk, IsErrOf};
 ghost use Rattle.sdd_script.specs.All.{IsValid};
 ghost use Rattle.sdd_run.specs.Runs.{EndsAtLimit, IsReportOn, IsSummaryOn};
 
-use crate::in_force::tables_of;
+use crate::era_lists::tables_of;
 use crate::running::finished;
 use crate::telling::report_on;
 use sdd_lists::lists_of;

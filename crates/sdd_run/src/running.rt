@@ -5,7 +5,7 @@ ghost use Rattle.sdd_script.specs.All.{IsValid};
 ghost use Rattle.sdd_run.specs.Runs.{AreTables, EndsAtLimit};
 ghost use Rattle.sdd_run.specs.Worlds.{IsRunOf};
 
-use crate::in_force::{first_table, further};
+use crate::era_lists::{first_table, further};
 use sdd_lists::Lists;
 use sdd_obligations::sdd_catalog::Catalogue;
 use sdd_obligations::sdd_protocol::Table;

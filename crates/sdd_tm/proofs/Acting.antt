@@ -1,5 +1,5 @@
 -- A class that has a step makes the act that is due, and the module keeps what follows from the log.
-use Rattle.sdd_tm.proofs.All.{Act, AllByRecursion, AllUpTo, Answer, Attempt, Bases, Bool, ClassState, Commit, D, Did, InTurn, IsAmid, IsCalm, IsLineOf, IsOfHead, IsRequest, IsServed, IsSound, IsWaiting, List, Log, Msg, NoReads, None, Notes, Null, Option, Queued, Send, Sends, Setting, Some, Start, State, Step, Ticking, ToCommit, ToSend, act_of, active, active_after, active_apart, all_starts, all_up_of, answer_time, answer_to, ap, arith, asking_of, asks, asks_apart, asks_done, asks_of, begins, can_answer, class_no, class_of, class_step, class_view, clock, commit_act, commit_next, commit_no_reads, commits, dm_no, false, false≢true, filter, find, handed, hands, has_to_send, head_of, holds, holds_acted, in_force, is_empty, is_none, line_after, line_apart, line_committed, line_elsewhere, line_sent, line_started, line_step, list_any, map, next, no_read_asked, not, noted, on_hold, option_map, own_record, queue, queue_after, record_in, refl, request_of, runs, send_due, send_next, sends_of_act, sent, served_sent, slice_get, slice_set, stamped_did, start_act, start_due, start_is_up, start_next, start_no_reads, started, starts_committed, starts_left, starts_sent, starts_started, state_done, state_of, submits, subst, suc, sym, ticked, ticked_by, time_at, timestamp, tried, true, view_of, with_act, ℕ, ◌&&◌, ◌+◌, ◌<◌, ◌==◌, ◌^◌, ◌∙◌, ◌∷◌, ◌≡◌, ◌≢◌, ◌≤◌}
+use Rattle.sdd_tm.proofs.All.{Act, AllByRecursion, AllUpTo, Answer, Attempt, Bases, Bool, ClassState, Commit, D, Did, InTurn, IsAmid, IsCalm, IsLineOf, IsOfHead, IsRequest, IsServed, IsSound, IsWaiting, List, Log, Msg, NoReads, None, Notes, Null, Option, Queued, Send, Sends, Setting, Some, Start, State, Step, Ticking, ToCommit, ToSend, act_of, active, active_after, active_apart, all_starts, all_up_of, answer_time, answer_to, ap, arith, asking_of, asks, asks_apart, asks_done, asks_of, begins, can_answer, class_no, class_of, class_step, class_view, clock, commit_act, commit_next, commit_no_reads, commits, current_era, dm_no, false, false≢true, filter, find, handed, hands, has_to_send, head_of, holds, holds_acted, is_empty, is_none, line_after, line_apart, line_committed, line_elsewhere, line_sent, line_started, line_step, list_any, map, next, no_read_asked, not, noted, on_hold, option_map, own_record, queue, queue_after, record_in, refl, request_of, runs, send_due, send_next, sends_of_act, sent, served_sent, slice_get, slice_set, stamped_did, start_act, start_due, start_is_up, start_next, start_no_reads, started, starts_committed, starts_left, starts_sent, starts_started, state_done, state_of, submits, subst, suc, sym, ticked, ticked_by, time_at, timestamp, tried, true, view_of, with_act, ℕ, ◌&&◌, ◌+◌, ◌<◌, ◌==◌, ◌^◌, ◌∙◌, ◌∷◌, ◌≡◌, ◌≢◌, ◌≤◌}
 use Rattle.sdd_tm.proofs.Lists.{some_is, get_map, of_map, by_order}
 use Rattle.sdd_tm.proofs.ClassNumbers.{runs_apart, runs_class}
 use Rattle.sdd_tm.proofs.OpenAsks.{open_did, first_answered}
@@ -21,7 +21,7 @@ each_class s P place c e own others i d f =
 pub record Makes (s : Setting) (bases : Bases) (log : Log) (place : ℕ) (k : ClassState) (step : Step) (state : State) : Type 0 where
   pub act : Act
   pub is_due : next s bases log ≡ Some act
-  pub notes : (n : Notes) → noted (act_of bases state.force.table state.clock k step) n ≡ with_act act n
+  pub notes : (n : Notes) → noted (act_of bases state.era.table state.clock k step) n ≡ with_act act n
   pub amid : IsAmid s bases (state_done bases place k step state) (Did act ∷ log)
 
 abbrev class_made : Step → Act → ClassState → ClassState
@@ -30,7 +30,7 @@ class_made step act k = record { line = line_after act k.line; asks = asks_done 
 abbrev with_class : ℕ → Ticking → ClassState → State → State
 with_class place clock new state = record state { clock = clock; classes = slice_set state.classes place new }
 
-done_is : (bases : Bases) (place : ℕ) (k : ClassState) (step : Step) (state : State) (act : Act) → act_of bases state.force.table state.clock k step ≡ Some act
+done_is : (bases : Bases) (place : ℕ) (k : ClassState) (step : Step) (state : State) (act : Act) → act_of bases state.era.table state.clock k step ≡ Some act
     → with_class place (ticked_by act state.clock) (class_made step act k) state ≡ state_done bases place k step state
 done_is bases place k step state act e = rw e refl
 
@@ -45,7 +45,7 @@ room_after state place k new clock e room l = let sum = starts_set state.classes
 -- IsAmid after an act, by its parts
 amid_after : (s : Setting) (bases : Bases) (log : Log) (place c : ℕ) (step : Step) (act made : Act)
     → IsAmid s bases (state_of s log) log → slice_get (runs s) place ≡ Some c
-    → act_of bases (state_of s log).force.table (state_of s log).clock (class_of s log c) step ≡ Some made
+    → act_of bases (state_of s log).era.table (state_of s log).clock (class_of s log c) step ≡ Some made
     → state_of s (Did act ∷ log) ≡ with_class place (ticked_by made (clock s.site log))
     (class_made step made (class_of s log c)) (state_of s log)
     → IsSound s (Did act ∷ log) → ((i d : ℕ) → slice_get (runs s) i ≡ Some d → IsServed s.catalogue bases (active s d (Did act ∷ log)))
@@ -195,7 +195,7 @@ makes_start : (s : Setting) (bases : Bases) (log : Log) (place end c : ℕ) → 
     → on_hold (view_of s log) ≡ false → active s c log ≡ None → queue s c log ≡ q ∷ rest → Makes s bases log place (class_of s log c) Start (state_of s log)
 makes_start s bases log place end c amid calm e h cannot q rest off idle is =
     let k : Ticking = clock s.site log in
-    let table : List line.Entry = (in_force s log).table in
+    let table : List line.Entry = (current_era s log).table in
     let act : Act = start_act s.catalogue table c k q in
     let own : ℕ = timestamp (ticked k 1) in
     let own_line : IsLineOf s c log = amid.sound.lines place c e in

@@ -1,8 +1,8 @@
 -- What a call of a transaction module does, of every log for which the module stands.
-use Rattle.sdd_tm.proofs.All.{AreSettled, Bases, Catalogue, ClassState, Does, DoesMore, Entry, Fits, FitsSubmit, Force, Handed, IsAmid, IsCalm, IsEraOf, IsKept, IsLineOf, IsTrue, IsWhole, Kept, List, Log, Msg, None, Notes, Places, Rec, Redeclared, RelNo, Row, Setting, Site, Some, Stands, State, Submit, Submits, T, Ticked, TmNo, Txn, TxnNo, Works, [], all_noted, ap, arith, at_zero, bound_of, class_for, class_given, class_handed, class_of, class_step, classes_of, clock, does_from, false, first_class, first_state, fits, held_of, in_force, length, length-map, line_redeclared, line_ticked, map, next, noted, nothing_noted, one_place, place_of, pushed, records_of, refl, runs, slice_get, stamped_still, state_given, state_handed, state_of, subst, suc, sym, ticked, told, touched, zero, ℕ, ◌<◌, ◌^◌, ◌∙◌, ◌∷◌, ◌≡◌}
+use Rattle.sdd_tm.proofs.All.{AreSettled, Bases, Catalogue, ClassState, Does, DoesMore, Entry, Era, Fits, FitsSubmit, Handed, IsAmid, IsCalm, IsEraOf, IsKept, IsLineOf, IsTrue, IsWhole, Kept, List, Log, Msg, None, Notes, Places, Rec, Redeclared, RelNo, Row, Setting, Site, Some, Stands, State, Submit, Submits, T, Ticked, TmNo, Txn, TxnNo, Works, [], all_noted, ap, arith, at_zero, bound_of, class_for, class_given, class_handed, class_of, class_step, classes_of, clock, current_era, does_from, false, first_class, first_state, fits, held_of, length, length-map, line_redeclared, line_ticked, map, next, noted, nothing_noted, one_place, place_of, pushed, records_of, refl, runs, slice_get, stamped_still, state_given, state_handed, state_of, subst, suc, sym, ticked, told, touched, zero, ℕ, ◌<◌, ◌^◌, ◌∙◌, ◌∷◌, ◌≡◌}
 use Rattle.sdd_tm.proofs.Lists.{some_is}
 use Rattle.sdd_tm.proofs.Handing.{amid_handed}
-use Rattle.sdd_tm.proofs.Taking.{few_kept, apart_kept, fits_in_force}
+use Rattle.sdd_tm.proofs.Taking.{few_kept, apart_kept, fits_now}
 use Rattle.sdd_tm.proofs.Touching.{calm_handed, calm_given}
 use Rattle.sdd_tm.proofs.Giving.{amid_given}
 use Rattle.sdd_tm.proofs.Telling.{nothing_due, told_once, told_settled, held_ticked}
@@ -78,40 +78,40 @@ submitted n = record { recs = Submit n ∷ []; out = [] }
 -- the class by the list in force is that by what the module keeps
 
 pub class_here : (k : Kept State) (s : Setting) (log : Log) (txn : Txn) (class : ℕ) → Stands k s log
-    → class ≡ class_for (in_force s log).catalogue txn → class ≡ class_for k.value.force.catalogue txn
-class_here k s log txn class st e = e ∙ ap (λ (x : State). class_for x.force.catalogue txn) st.state_is
+    → class ≡ class_for (current_era s log).catalogue txn → class ≡ class_for k.value.era.catalogue txn
+class_here k s log txn class st e = e ∙ ap (λ (x : State). class_for x.era.catalogue txn) st.state_is
 
-pub class_in_force : (k : Kept State) (s : Setting) (log : Log) (txn : Txn) (class : ℕ) → Stands k s log
-    → class ≡ class_for k.value.force.catalogue txn → class ≡ class_for (in_force s log).catalogue txn
-class_in_force k s log txn class st e = e ∙ sym (ap (λ (x : State). class_for x.force.catalogue txn) st.state_is)
+pub class_in_era : (k : Kept State) (s : Setting) (log : Log) (txn : Txn) (class : ℕ) → Stands k s log
+    → class ≡ class_for k.value.era.catalogue txn → class ≡ class_for (current_era s log).catalogue txn
+class_in_era k s log txn class st e = e ∙ sym (ap (λ (x : State). class_for x.era.catalogue txn) st.state_is)
 
 pub fits_here : (k : Kept State) (s : Setting) (bases : Bases) (log : Log) (n : ℕ) (txn : Txn) → Stands k s log
-    → FitsSubmit s bases log n txn → Fits k.value.force.catalogue txn
-fits_here k s bases log n txn st f = fits_in_force s bases log k.value n txn (kept_of k s log st) f
+    → FitsSubmit s bases log n txn → Fits k.value.era.catalogue txn
+fits_here k s bases log n txn st f = fits_now s bases log k.value n txn (kept_of k s log st) f
 
 -- its class in the catalogue in force
 abbrev pub given_to : Kept State → ℕ → Txn → State
-given_to k n txn = state_given (class_for k.value.force.catalogue txn) n txn k.value
+given_to k n txn = state_given (class_for k.value.era.catalogue txn) n txn k.value
 
 pub few_given : (k : Kept State) (s : Setting) (log : Log) (n : ℕ) (txn : Txn) (taken : State) → Stands k s log
     → taken ≡ given_to k n txn → length taken.classes < 2 ^ 32
 few_given k s log n txn taken st t =
     let few = few_kept s log k.value (kept_of k s log st) in
-    let same = ap (λ (x : State). length x.classes) t ∙ length-map k.value.classes (class_given (class_for k.value.force.catalogue txn) n txn) in
+    let same = ap (λ (x : State). length x.classes) t ∙ length-map k.value.classes (class_given (class_for k.value.era.catalogue txn) n txn) in
     omega arith
 
 pub calm_after : (k : Kept State) (s : Setting) (log : Log) (n : ℕ) (txn : Txn) (taken : State) (places : Places) → Stands k s log → taken ≡ given_to k n txn
-    → places ≡ one_place (place_of k.value.classes (class_for k.value.force.catalogue txn)) → IsCalm places.from places.end taken
+    → places ≡ one_place (place_of k.value.classes (class_for k.value.era.catalogue txn)) → IsCalm places.from places.end taken
 calm_after k s log n txn taken places st t e =
-    rw (t, e) (calm_given k.value (class_for k.value.force.catalogue txn) n txn st.settled (apart_kept s log k.value (kept_of k s log st)))
+    rw (t, e) (calm_given k.value (class_for k.value.era.catalogue txn) n txn st.settled (apart_kept s log k.value (kept_of k s log st)))
 
 pub amid_after : (k : Kept State) (s : Setting) (bases : Bases) (log : Log) (n : ℕ) (txn : Txn) (taken : State)
     → n < 2 ^ 32 → Stands k s log → FitsSubmit s bases log n txn → taken ≡ given_to k n txn → IsAmid s bases taken (Submits n txn ∷ log)
 amid_after k s bases log n txn taken small st fit t =
-    let here : (in_force s log) ≡ k.value.force = ap (λ (x : State). x.force) st.state_is in
-    let given = λ (x : State). state_given (class_for (in_force s log).catalogue txn) n txn x in
+    let here : (current_era s log) ≡ k.value.era = ap (λ (x : State). x.era) st.state_is in
+    let given = λ (x : State). state_given (class_for (current_era s log).catalogue txn) n txn x in
     amid_of_state s bases log given k.value taken (Submits n txn) st.state_is (t
-    ∙ ap (λ (x : Force). state_given (class_for x.catalogue txn) n txn k.value) (sym here))
+    ∙ ap (λ (x : Era). state_given (class_for x.catalogue txn) n txn k.value) (sym here))
     (amid_given s bases log n txn small st.setting st.sound (subst AreSettled (sym st.state_is) st.settled) fit)
 
 pub submit_does : (n : TxnNo) (txn : Txn) (old new : Kept State) (taken : State) (notes all : Notes)
@@ -149,40 +149,40 @@ tick_stands old new n e s log st =
 
 -- before the first message
 
-first_line : (s : Setting) (force : Force) (c : ℕ) → IsLineOf s c (Redeclared force 0 ∷ [])
-first_line s force c = record { in_queue = record { differ = tt; waiting = tt }; of_head = tt; asking = tt }
+first_line : (s : Setting) (era : Era) (c : ℕ) → IsLineOf s c (Redeclared era 0 ∷ [])
+first_line s era c = record { in_queue = record { differ = tt; waiting = tt }; of_head = tt; asking = tt }
 
-first_classes : (s : Setting) (force : Force) (cs : List ℕ) → map (class_of s (Redeclared force 0 ∷ [])) cs ≡ map (first_class s.catalogue) cs
-first_classes s force [] = refl
-first_classes s force (c ∷ cs) = ap (λ rest. first_class s.catalogue c ∷ rest) (first_classes s force cs)
+first_classes : (s : Setting) (era : Era) (cs : List ℕ) → map (class_of s (Redeclared era 0 ∷ [])) cs ≡ map (first_class s.catalogue) cs
+first_classes s era [] = refl
+first_classes s era (c ∷ cs) = ap (λ rest. first_class s.catalogue c ∷ rest) (first_classes s era cs)
 
 abbrev setting_of : Catalogue → TmNo → List (RelNo × Row) → Setting
 setting_of whole tm rows = record { catalogue = whole; site = T tm; rows = rows }
 
-first_at : (whole : Catalogue) (force : Force) (tm : TmNo) (rows : List (RelNo × Row))
-    → state_of (setting_of whole tm rows) (Redeclared force 0 ∷ []) ≡ first_state whole force tm.0
-first_at whole force tm rows =
-    ap (λ cs. record { force = force; clock = at_zero tm.0; on_hold = false; owes_held = false; classes = cs })
-    (first_classes (setting_of whole tm rows) force (runs (setting_of whole tm rows)))
+first_at : (whole : Catalogue) (era : Era) (tm : TmNo) (rows : List (RelNo × Row))
+    → state_of (setting_of whole tm rows) (Redeclared era 0 ∷ []) ≡ first_state whole era tm.0
+first_at whole era tm rows =
+    ap (λ cs. record { era = era; clock = at_zero tm.0; on_hold = false; owes_held = false; classes = cs })
+    (first_classes (setting_of whole tm rows) era (runs (setting_of whole tm rows)))
 
-first_is : (s : Setting) (whole : Catalogue) (force : Force) (tm : TmNo) → s.catalogue ≡ whole → s.site ≡ T tm
-    → state_of s (Redeclared force 0 ∷ []) ≡ first_state whole force tm.0
-first_is s whole force tm e f =
+first_is : (s : Setting) (whole : Catalogue) (era : Era) (tm : TmNo) → s.catalogue ≡ whole → s.site ≡ T tm
+    → state_of s (Redeclared era 0 ∷ []) ≡ first_state whole era tm.0
+first_is s whole era tm e f =
     let is : s ≡ setting_of whole tm s.rows =
     ap (λ x. record s { catalogue = x }) e ∙ ap (λ x. record { catalogue = whole; site = x; rows = s.rows }) f in
-    ap (λ x. state_of x (Redeclared force 0 ∷ [])) is ∙ first_at whole force tm s.rows
+    ap (λ x. state_of x (Redeclared era 0 ∷ [])) is ∙ first_at whole era tm s.rows
 
-pub new_stands : (k : Kept State) (whole : Catalogue) (force : Force) (tm : TmNo) → IsTrue k.live
-    → k.value ≡ first_state whole force tm.0 → catalogues.IsSound whole → IsWhole whole → IsEraOf whole force.catalogue
-    → (s : Setting) → s.catalogue ≡ whole → s.site ≡ T tm → Stands k s (Redeclared force 0 ∷ [])
-new_stands k whole force tm live is valid counts era s e f =
-    let log : Log = Redeclared force 0 ∷ [] in
-    let state : state_of s log ≡ k.value = first_is s whole force tm e f ∙ sym is in
+pub new_stands : (k : Kept State) (whole : Catalogue) (era : Era) (tm : TmNo) → IsTrue k.live
+    → k.value ≡ first_state whole era tm.0 → catalogues.IsSound whole → IsWhole whole → IsEraOf whole era.catalogue
+    → (s : Setting) → s.catalogue ≡ whole → s.site ≡ T tm → Stands k s (Redeclared era 0 ∷ [])
+new_stands k whole era tm live is valid counts of_whole s e f =
+    let log : Log = Redeclared era 0 ∷ [] in
+    let state : state_of s log ≡ k.value = first_is s whole era tm e f ∙ sym is in
     record {
       live = live;
-      setting = record { valid = rw e valid; whole = rw e counts; era = rw e era };
+      setting = record { valid = rw e valid; whole = rw e counts; era = rw e of_whole };
       sound = record {
-        lines = λ i c g. first_line s force c;
+        lines = λ i c g. first_line s era c;
         stamped = tt;
         unanswered = record { rise = omega arith; last = omega arith; apart = tt };
         turns = record { released = omega arith; answered = omega arith; one = omega arith };
@@ -199,20 +199,20 @@ new_stands k whole force tm live is valid counts era s e f =
 
 -- a list of classes is put in force
 
-pub redeclared_stands : (old new : Kept State) (force : Force) (t : ℕ)
-    → new ≡ record old { value = record old.value { force = force; clock = pushed old.value.clock t } }
-    → (s : Setting) (log : Log) → Stands old s log → IsEraOf s.catalogue force.catalogue → Stands new s (Redeclared force t ∷ log)
-redeclared_stands old new force t e s log st era =
+pub redeclared_stands : (old new : Kept State) (era : Era) (t : ℕ)
+    → new ≡ record old { value = record old.value { era = era; clock = pushed old.value.clock t } }
+    → (s : Setting) (log : Log) → Stands old s log → IsEraOf s.catalogue era.catalogue → Stands new s (Redeclared era t ∷ log)
+redeclared_stands old new era t e s log st of_whole =
     rw e (record {
       live = st.live;
-      setting = record { valid = st.setting.valid; whole = st.setting.whole; era = era };
+      setting = record { valid = st.setting.valid; whole = st.setting.whole; era = of_whole };
       sound = record {
-        lines = λ i c f. line_redeclared s c log force t (st.sound.lines i c f);
-        stamped = stamped_still s log (Redeclared force t) refl st.sound.stamped;
+        lines = λ i c f. line_redeclared s c log era t (st.sound.lines i c f);
+        stamped = stamped_still s log (Redeclared era t) refl st.sound.stamped;
         unanswered = record { rise = st.sound.unanswered.rise; last = st.sound.unanswered.last; apart = st.sound.unanswered.apart };
         turns = st.sound.turns;
       };
-      state_is = ap (λ (x : State). record x { force = force; clock = pushed x.clock t }) st.state_is;
+      state_is = ap (λ (x : State). record x { era = era; clock = pushed x.clock t }) st.state_is;
       settled = st.settled;
       told = held_ticked old.value (pushed old.value.clock t) st.told;
     })

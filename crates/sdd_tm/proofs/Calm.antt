@@ -7,7 +7,7 @@ use Rattle.sdd_tm.proofs.Dues.{class_none, none_parts}
 pub calm_done : (bases : Bases) (state : State) (place end : ℕ) (k : ClassState) (step : Step) → place < end
     → IsCalm place end state → IsCalm place end (state_done bases place k step state)
 calm_done bases state place end k step less calm =
-    let new : ClassState = class_done bases state.force.table state.clock step k in
+    let new : ClassState = class_done bases state.era.table state.clock step k in
     record {
       own = λ j x e apart. by_order (own_step x ≡ None) j place
           (λ l. calm.own j x (get_set_other state.classes place j new x (λ q. absurd (omega arith)) e) (λ q. absurd (omega arith)))

@@ -30,7 +30,7 @@ pub works_on : (before now : State) (place end : ℕ) (k : ClassState) (step : S
     (old notes new : Notes) → Works before now old notes → IsCalm place end now
     → slice_get now.classes place ≡ Some k → class_step now.on_hold k ≡ Some step → ((bases : Bases) → after ≡ state_done bases place k step now)
     → ((s : Setting) (bases : Bases) (log : Log) → IsAmid s bases now log
-    → new ≡ noted (act_of bases now.force.table now.clock k step) notes) → Works before after old new
+    → new ≡ noted (act_of bases now.era.table now.clock k step) notes) → Works before after old new
 works_on before now place end k step after old notes new works calm here steps is noted_is =
     works_more before now after old notes new works
     (λ s bases log amid.

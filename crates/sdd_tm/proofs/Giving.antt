@@ -1,5 +1,5 @@
 -- A transaction that is given to the module goes to the queue of its class.
-use Rattle.sdd_tm.proofs.All.{AreSettled, Bases, Bool, Catalogue, FitsSubmit, IsAmid, IsSettingOf, IsSound, List, Log, Setting, State, Submits, Txn, [], active, all_starts, and_parts, ap, arith, ascending, class_at, class_for, class_given, class_of, cond, covers, eqb-true, false, filter, fragments_in, head_of, if◌then◌else◌, in_force, is_for, is_some, length, line_submitted, list_all, map, map_map, nat_tests, ne_eqb, numbers_to, queue, read_in_era, read_set, reads_at, refl, resting, runs, stamped_still, state_given, state_of, subst, sym, true, unwrap_or, uses_in_era, write_set, writes, ℕ, ◌&&◌, ◌++◌, ◌+◌, ◌<◌, ◌==◌, ◌^◌, ◌||◌, ◌∙◌, ◌∷◌, ◌≡◌, ◌≤◌}
+use Rattle.sdd_tm.proofs.All.{AreSettled, Bases, Bool, Catalogue, FitsSubmit, IsAmid, IsSettingOf, IsSound, List, Log, Setting, State, Submits, Txn, [], active, all_starts, and_parts, ap, arith, ascending, class_at, class_for, class_given, class_of, cond, covers, current_era, eqb-true, false, filter, fragments_in, head_of, if◌then◌else◌, is_for, is_some, length, line_submitted, list_all, map, map_map, nat_tests, ne_eqb, numbers_to, queue, read_in_era, read_set, reads_at, refl, resting, runs, stamped_still, state_given, state_of, subst, sym, true, unwrap_or, uses_in_era, write_set, writes, ℕ, ◌&&◌, ◌++◌, ◌+◌, ◌<◌, ◌==◌, ◌^◌, ◌||◌, ◌∙◌, ◌∷◌, ◌≡◌, ◌≤◌}
 use Rattle.sdd_tm.proofs.Lists.{map_same}
 use Rattle.sdd_tm.proofs.ClassNumbers.{runs_class}
 use Rattle.sdd_tm.proofs.Handing.{has_room, settled_of}
@@ -32,10 +32,10 @@ is_of_class : (c k : ℕ) → 1 ≤ c → (c == 0 || k == c) ≡ true → k ≡ 
 is_of_class c k low e = eqb-true k c (subst (λ b. (b || k == c) ≡ true) (ne_eqb c 0 (λ q. absurd (omega arith))) e)
 
 pub class_covers : (s : Setting) (log : Log) (txn : Txn) (c : ℕ) → IsSettingOf s log → 1 ≤ c
-    → is_for c (in_force s log).catalogue txn ≡ true → list_all (λ f. is_some (reads_at s.catalogue c f))
+    → is_for c (current_era s log).catalogue txn ≡ true → list_all (λ f. is_some (reads_at s.catalogue c f))
     (read_set s.catalogue txn) ≡ true
 class_covers s log txn c setting low e =
-    let era : Catalogue = (in_force s log).catalogue in
+    let era : Catalogue = (current_era s log).catalogue in
     let is : class_for era txn ≡ c = is_of_class c (class_for era txn) low e in
     let here = eras.covered era txn c (sym is) low in
     let same : read_set era txn ≡ read_set s.catalogue txn =
@@ -47,18 +47,18 @@ class_covers s log txn c setting low e =
 -- what is kept of the log
 
 class_kept : (s : Setting) (log : Log) (n : ℕ) (txn : Txn) (c : ℕ) → 1 ≤ c
-    → class_of s (Submits n txn ∷ log) c ≡ class_given (class_for (in_force s log).catalogue txn) n txn
+    → class_of s (Submits n txn ∷ log) c ≡ class_given (class_for (current_era s log).catalogue txn) n txn
     (class_of s log c)
 class_kept s log n txn c low =
-    let k : ℕ = class_for (in_force s log).catalogue txn in
-    let test : is_for c (in_force s log).catalogue txn ≡ (c == k) =
+    let k : ℕ = class_for (current_era s log).catalogue txn in
+    let test : is_for c (current_era s log).catalogue txn ≡ (c == k) =
     ap (λ b. b || k == c) (ne_eqb c 0 (λ q. absurd (omega arith))) ∙ turned k c in
     by (c == k) test
   where
     turned : (a b : ℕ) → (a == b) ≡ (b == a)
     turned a b = grind (arith, nat_tests)
 
-    by : (b : Bool) → is_for c (in_force s log).catalogue txn ≡ b
+    by : (b : Bool) → is_for c (current_era s log).catalogue txn ≡ b
         → class_of s (Submits n txn ∷ log)
         c ≡ (if b then record (class_of s log c) {
           line = record (class_of s log c).line { queue = queue s c log ++ record { number = n; text = txn; tries = 0 } ∷ [] };
@@ -67,10 +67,10 @@ class_kept s log n txn c low =
     by false e = rw e refl
 
 pub state_given_kept : (s : Setting) (log : Log) (n : ℕ) (txn : Txn)
-    → state_of s (Submits n txn ∷ log) ≡ state_given (class_for (in_force s log).catalogue txn) n txn
+    → state_of s (Submits n txn ∷ log) ≡ state_given (class_for (current_era s log).catalogue txn) n txn
     (state_of s log)
 state_given_kept s log n txn =
-    let k : ℕ = class_for (in_force s log).catalogue txn in
+    let k : ℕ = class_for (current_era s log).catalogue txn in
     let classes : map (class_of s (Submits n txn ∷ log)) (runs s) ≡ map (class_given k n txn) (map (class_of s log) (runs s)) =
     map_same (class_of s (Submits n txn ∷ log)) (λ c. class_given k n txn (class_of s log c)) (runs s)
     (λ i c e. class_kept s log n txn c (runs_class s i c e).0) ∙ sym (map_map (class_given k n txn) (class_of s log) (runs s)) in
@@ -89,7 +89,7 @@ sound_given s bases log n txn small setting f sound = record {
 
 pub amid_given : (s : Setting) (bases : Bases) (log : Log) (n : ℕ) (txn : Txn) → n < 2 ^ 32 → IsSettingOf s log
     → IsSound s log → AreSettled (state_of s log) → FitsSubmit s bases log n txn
-    → IsAmid s bases (state_given (class_for (in_force s log).catalogue txn) n txn (state_of s log)) (Submits n txn ∷ log)
+    → IsAmid s bases (state_given (class_for (current_era s log).catalogue txn) n txn (state_of s log)) (Submits n txn ∷ log)
 amid_given s bases log n txn small setting sound settled f =
     let now : IsSound s (Submits n txn ∷ log) = sound_given s bases log n txn small setting f sound in
     let is = state_given_kept s log n txn in

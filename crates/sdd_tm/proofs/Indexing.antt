@@ -7,7 +7,7 @@ use Rattle.sdd_attempt.specs.protocol.declared.entry.Entry as line
 -- the parts of a module
 abbrev pub parts : Catalogue → List line.Entry → Ticking → Bool → Bool → List ClassState → State
 parts cat table clock on_hold owes_held classes =
-    record { force = record { catalogue = cat; table = table }; clock = clock; on_hold = on_hold; owes_held = owes_held; classes = classes }
+    record { era = record { catalogue = cat; table = table }; clock = clock; on_hold = on_hold; owes_held = owes_held; classes = classes }
 
 pub lent_is : {A : Type 0} (xs : List A) (i : ℕ) (x y : A) → slice_get xs i ≡ Some x → y ≡ slice_index_or xs i y → y ≡ x
 lent_is [] i x y e f = absurd cc
@@ -22,10 +22,10 @@ pub notes_of_lent : {T E : Type 0} (r : Result T E) (st : State) (place : ℕ) (
     (old new : Notes) → run ≡ slice_index_or st.classes place run
     → OnOk r ((bases : Bases) → ((ts : ℕ) → IsDatabase run.line.catalogue (bases ts))
     → (step ≡ Commit → ServesAt run.line.catalogue bases run.line.active)
-    → new ≡ noted (act_of bases st.force.table st.clock run step) old)
+    → new ≡ noted (act_of bases st.era.table st.clock run step) old)
     → OnOk r (NotesDone st place step old new)
 notes_of_lent r st place step run old new lent h =
     on_ok r (λ g bases k there. subst (λ (x : ClassState). ((ts : ℕ) → IsDatabase x.line.catalogue (bases ts))
     → (step ≡ Commit → ServesAt x.line.catalogue bases x.line.active)
-    → new ≡ noted (act_of bases st.force.table st.clock x step) old)
+    → new ≡ noted (act_of bases st.era.table st.clock x step) old)
     (lent_is st.classes place k run there lent) (g bases)) h

@@ -114,7 +114,7 @@ StateDone now place step after = (bases : Bases) (k : ClassState) → slice_get 
 abbrev pub NotesDone : State → ℕ → Step → Notes → Notes → Type 0
 NotesDone now place step notes new = (bases : Bases) (k : ClassState) → slice_get now.classes place ≡ Some k
     → ((ts : ℕ) → IsDatabase k.line.catalogue (bases ts)) → (step ≡ Commit → ServesAt k.line.catalogue bases k.line.active)
-    → new ≡ noted (act_of bases now.force.table now.clock k step) notes
+    → new ≡ noted (act_of bases now.era.table now.clock k step) notes
 
 length_set : {A : Type 0} (xs : List A) (i : ℕ) (x : A) → length (slice_set xs i x) ≡ length xs
 length_set (y ∷ xs) (suc i) x = ap suc (length_set xs i x)

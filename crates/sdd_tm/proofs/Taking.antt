@@ -1,5 +1,5 @@
 -- One class among the parts of a module takes a message, or a transaction.
-use Rattle.sdd_tm.proofs.All.{AreApart, Ask, Bases, ClassNo, ClassState, Fits, FitsSubmit, Held, IsAwaited, IsKept, List, Log, Msg, None, Queued, Reject, Release, Setting, Site, Some, State, Txn, [], ap, arith, class_given, class_handed, class_named, class_of, contains, eq-eqb, false, fits_in_era, fits_kind, heeded, in_force, length, length-map, map, new_in_queue, place_of, push_of, refl, runs, slice_get, slice_index_or, slice_set, state_given, state_handed, state_of, subst, sym, ℕ, ◌++◌, ◌/◌, ◌<◌, ◌^◌, ◌∙◌, ◌∷◌, ◌≡◌, ◌≢◌}
+use Rattle.sdd_tm.proofs.All.{AreApart, Ask, Bases, ClassNo, ClassState, Fits, FitsSubmit, Held, IsAwaited, IsKept, List, Log, Msg, None, Queued, Reject, Release, Setting, Site, Some, State, Txn, [], ap, arith, class_given, class_handed, class_named, class_of, contains, current_era, eq-eqb, false, fits_in_era, fits_kind, heeded, length, length-map, map, new_in_queue, place_of, push_of, refl, runs, slice_get, slice_index_or, slice_set, state_given, state_handed, state_of, subst, sym, ℕ, ◌++◌, ◌/◌, ◌<◌, ◌^◌, ◌∙◌, ◌∷◌, ◌≡◌, ◌≢◌}
 use Rattle.sdd_tm.proofs.Lists.{some_is, of_map, map_same, get_within}
 use Rattle.sdd_tm.proofs.ClassPlaces.{somewhere, named_nowhere, named_alone, classes_apart}
 use Rattle.sdd_tm.proofs.Handing.{handed_other, is_awaited, few_runs}
@@ -103,8 +103,8 @@ pub given_there : (state : State) (c place : ℕ) → Some place ≡ place_of st
 given_there state c place e = let at = somewhere state.classes c place (sym e) in get_within state.classes place at.class at.there
 
 -- a transaction that fits the setting's catalogue fits that in force
-pub fits_in_force : (s : Setting) (bases : Bases) (log : Log) (state : State) (n : ℕ) (txn : Txn)
-    → IsKept s log state → FitsSubmit s bases log n txn → Fits state.force.catalogue txn
-fits_in_force s bases log state n txn kept f =
-    subst (λ cat. Fits cat txn) (ap (λ (st : State). st.force.catalogue) kept.state_is)
-    (fits_in_era s.catalogue (in_force s log).catalogue kept.setting.era txn f.fitting)
+pub fits_now : (s : Setting) (bases : Bases) (log : Log) (state : State) (n : ℕ) (txn : Txn)
+    → IsKept s log state → FitsSubmit s bases log n txn → Fits state.era.catalogue txn
+fits_now s bases log state n txn kept f =
+    subst (λ cat. Fits cat txn) (ap (λ (st : State). st.era.catalogue) kept.state_is)
+    (fits_in_era s.catalogue (current_era s log).catalogue kept.setting.era txn f.fitting)

@@ -1,5 +1,5 @@
 -- Each step of a class leaves it less to do.
-use Rattle.sdd_tm.proofs.All.{Act, Answer, Asked, Attempt, Bases, Bool, ClassState, Commit, IsAmid, IsOfHead, Line, List, Log, None, Null, Option, Queued, Send, Sends, Setting, Site, Some, Start, State, Step, Ticking, [], act_of, active, active_after, active_sent, answer_time, answer_to, ap, arith, asking_of, asks, asks_of, begins, can_answer, class_done, class_no, class_of, class_step, clock, commit_act, commit_next, commits, cond, false, false≢true, filter, handed, has_to_send, head_of, in_force, length, line_done, list_any, map, not, on_hold, option_map, own_record, queue, queue_after, refl, request_of, runs, send_next, sends_of_act, sent, slice_get, slice_set, start_act, start_next, started, starts_committed, starts_started, state_done, state_of, subst, suc, sym, ticked, time_at, timestamp, tried, true, view_of, without_first, work, work_in, work_of, work_sent, zero, ℕ, ◌<◌, ◌==◌, ◌||◌, ◌∙◌, ◌∷◌, ◌≡◌}
+use Rattle.sdd_tm.proofs.All.{Act, Answer, Asked, Attempt, Bases, Bool, ClassState, Commit, IsAmid, IsOfHead, Line, List, Log, None, Null, Option, Queued, Send, Sends, Setting, Site, Some, Start, State, Step, Ticking, [], act_of, active, active_after, active_sent, answer_time, answer_to, ap, arith, asking_of, asks, asks_of, begins, can_answer, class_done, class_no, class_of, class_step, clock, commit_act, commit_next, commits, cond, current_era, false, false≢true, filter, handed, has_to_send, head_of, length, line_done, list_any, map, not, on_hold, option_map, own_record, queue, queue_after, refl, request_of, runs, send_next, sends_of_act, sent, slice_get, slice_set, start_act, start_next, started, starts_committed, starts_started, state_done, state_of, subst, suc, sym, ticked, time_at, timestamp, tried, true, view_of, without_first, work, work_in, work_of, work_sent, zero, ℕ, ◌<◌, ◌==◌, ◌||◌, ◌∙◌, ◌∷◌, ◌≡◌}
 use Rattle.sdd_tm.proofs.Lists.{some_is, of_map}
 use Rattle.sdd_tm.proofs.Dues.{IsStep, sends, commits_now, answers, starts, step_is}
 use Rattle.sdd_tm.proofs.Acting.{may_start}
@@ -40,7 +40,7 @@ answer_is l k (Some ask) act e = (ask.from, sym (some_is e))
 
 step_falls : (s : Setting) (bases : Bases) (log : Log) (place c : ℕ) (step : Step) → IsAmid s bases (state_of s log) log → slice_get (runs s) place ≡ Some c
     → IsStep (on_hold (view_of s log)) (class_of s log c) step
-    → work_in (class_done bases (in_force s log).table (clock s.site log) step (class_of s log c)) < work_in (class_of s log c)
+    → work_in (class_done bases (current_era s log).table (clock s.site log) step (class_of s log c)) < work_in (class_of s log c)
 step_falls s bases log place c Send amid e (sends h) =
     let r = has_to_send (active s c log) h in
     let request = request_of c (sent log) (handed log) r.attempt r.act (asking_of s log c r.attempt (amid.sound.lines place c e) r.active) r.send in
@@ -71,7 +71,7 @@ step_falls s bases log place c Commit amid e (commits_now h) =
     rw to_do (omega arith)
 step_falls s bases log place c Answer amid e (answers h can) =
     let l : Line = (class_of s log c).line in
-    let o : Option Act = act_of bases (in_force s log).table (clock s.site log) (class_of s log c) Answer in
+    let o : Option Act = act_of bases (current_era s log).table (clock s.site log) (class_of s log c) Answer in
     let same = null_work c l (answer_time (clock s.site log) (active s c log)) o (λ act f. answer_is l (clock s.site log) _ act f) in
     let less = fewer_asks (can_answer (active s c log)) (asks_of c (asks log)) can in
     omega arith
@@ -80,13 +80,13 @@ step_falls s bases log place c Start amid e (starts h cannot may) =
     by_start w.first w.rest w.idle w.queue_is
   where
     by_start : (q : Queued) (rest : List Queued) → active s c log ≡ None → queue s c log ≡ q ∷ rest
-        → work_in (class_done bases (in_force s log).table (clock s.site log) Start (class_of s log c)) < work_in
+        → work_in (class_done bases (current_era s log).table (clock s.site log) Start (class_of s log c)) < work_in
         (class_of s log c)
     by_start q rest idle is =
-        let act : Act = start_act s.catalogue (in_force s log).table c (clock s.site log) q in
+        let act : Act = start_act s.catalogue (current_era s log).table c (clock s.site log) q in
         let sent_now = sends_of_act act in
-        let to_do : start_next (in_force s log).table (clock s.site log) (class_of s log c).line ≡ Some act =
-        ap (λ qs. option_map (start_act s.catalogue (in_force s log).table c (clock s.site log)) (head_of qs))
+        let to_do : start_next (current_era s log).table (clock s.site log) (class_of s log c).line ≡ Some act =
+        ap (λ qs. option_map (start_act s.catalogue (current_era s log).table c (clock s.site log)) (head_of qs))
         is in
         let begun : active_after c act (queue s c log) (active s c log) ≡ started (timestamp (ticked (clock s.site log) 1)) sent_now (Some q) =
         own_record c (started (timestamp (ticked (clock s.site log) 1)) sent_now (head_of (queue s c log)))
@@ -119,9 +119,9 @@ work_falls s bases state log place k step amid here steps =
     (subst (λ (st : State). class_step st.on_hold k ≡ Some step) (sym is) steps) in
     let falls = step_falls s bases log place r.0 step (subst (λ st. IsAmid s bases st log) (sym is) amid) r.1
     (step_is (on_hold (view_of s log)) (class_of s log r.0) step whole) in
-    let on_class : work_in (class_done bases state.force.table state.clock step k) < work_in k =
-    subst (λ x. work_in (class_done bases state.force.table state.clock step x) < work_in x) r.2
+    let on_class : work_in (class_done bases state.era.table state.clock step k) < work_in k =
+    subst (λ x. work_in (class_done bases state.era.table state.clock step x) < work_in x) r.2
     (subst (λ (st : State). work_in
-    (class_done bases st.force.table st.clock step (class_of s log r.0)) < work_in (class_of s log r.0)) is
+    (class_done bases st.era.table st.clock step (class_of s log r.0)) < work_in (class_of s log r.0)) is
     falls) in
-    work_set state.classes place k (class_done bases state.force.table state.clock step k) here on_class
+    work_set state.classes place k (class_done bases state.era.table state.clock step k) here on_class

@@ -1,7 +1,7 @@
 -- For which logs a transaction module stands, and what holds between the acts of a call.
 use Rattle.std.specs.Prelude.{ℕ, suc, ◌+◌, ◌<◌, ◌≤◌, ◌^◌, ◌≡◌, ◌≢◌, IsTrue, List, [], ◌∷◌, slice_get, Some, None}
 use Rattle.std.specs.List.{AllByRecursion}
-use Rattle.sdd_attempt.specs.All.{AreStamped, Bases, IsDatabase, IsLineOf, IsServed, IsWhole, Kept, Log, Setting, active, hands, in_force, starts_left}
+use Rattle.sdd_attempt.specs.All.{AreStamped, Bases, IsDatabase, IsLineOf, IsServed, IsWhole, Kept, Log, Setting, active, current_era, hands, starts_left}
 use Rattle.sdd_attempt.specs.catalog.Rules as catalogues
 use Rattle.sdd_eras.specs.EraOf.{IsEraOf}
 use Rattle.sdd_tm.specs.Views.{Question, HoldCounts, asks, holds, runs}
@@ -37,7 +37,7 @@ pub record IsSound (s : Setting) (log : Log) : Type 0 where
 pub record IsSettingOf (s : Setting) (log : Log) : Type 0 where
   pub valid : catalogues.IsSound s.catalogue
   pub whole : IsWhole s.catalogue
-  pub era : IsEraOf s.catalogue (in_force s log).catalogue
+  pub era : IsEraOf s.catalogue (current_era s log).catalogue
 
 -- what the module keeps follows from the log
 pub record IsKept (s : Setting) (log : Log) (state : State) : Type 0 where

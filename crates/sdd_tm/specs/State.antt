@@ -1,6 +1,6 @@
 -- What a transaction module keeps of its log: all that its acts rest on, but the numbers of hands.
 use Rattle.std.specs.Prelude.{ℕ, ◌==◌, nat_lt, Bool, List, map, filter}
-use Rattle.sdd_attempt.specs.All.{Force, Line, Log, Setting, Ticking, active, clock, in_force, queue, time_at}
+use Rattle.sdd_attempt.specs.All.{Era, Line, Log, Setting, Ticking, active, clock, current_era, queue, time_at}
 use Rattle.sdd_tm.specs.declared.asked.Asked.{Asked}
 use Rattle.sdd_tm.specs.Views.{Question, asks, holds, runs}
 
@@ -11,7 +11,7 @@ pub record ClassState : Type 0 where
 
 -- the classes in force, the clock, whether the module is on hold and still owes a HELD for that, and its classes
 pub record State : Type 0 where
-  pub force : Force
+  pub era : Era
   pub clock : Ticking
   pub on_hold : Bool
   pub owes_held : Bool
@@ -38,7 +38,7 @@ class_of s log c = record {
 
 abbrev pub state_of : Setting → Log → State
 state_of s log = record {
-  force = in_force s log;
+  era = current_era s log;
   clock = clock s.site log;
   on_hold = nat_lt (holds log).releases (holds log).holds;
   owes_held = nat_lt (holds log).helds (holds log).holds;

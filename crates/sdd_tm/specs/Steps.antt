@@ -86,8 +86,8 @@ class_done bases table clock step k = record {
 -- and of the module, whose class at a place makes a step
 abbrev pub state_done : Bases → ℕ → ClassState → Step → State → State
 state_done bases place k step state = record state {
-  clock = clock_done (act_of bases state.force.table state.clock k step) state.clock;
-  classes = slice_set state.classes place (class_done bases state.force.table state.clock step k);
+  clock = clock_done (act_of bases state.era.table state.clock k step) state.clock;
+  classes = slice_set state.classes place (class_done bases state.era.table state.clock step k);
 }
 
 -- HELD

@@ -1,6 +1,6 @@
 -- All that the acts of a transaction module rest on, and how it changes with an entry of the log.
 use Rattle.std.specs.Prelude.{ℕ, suc, nat_lt, ◌==◌, Bool, not, List, [], ◌∷◌, ◌++◌, map, filter, length, is_none, Option}
-use Rattle.sdd_attempt.specs.All.{Act, Ask, Attempt, Did, Entry, Force, Handed, Held, Hold, Log, Msg, Queued, Redeclared, Release, Sends, Setting, Site, Submits, Ticked, Ticking, active, active_after, active_handed, answers_hand, class_at, clock, hands, in_force, number_of, numbers_to, pushed, pushed_by, queue, queue_after, submitted, ticked, ticked_by}
+use Rattle.sdd_attempt.specs.All.{Act, Ask, Attempt, Did, Entry, Era, Handed, Held, Hold, Log, Msg, Queued, Redeclared, Release, Sends, Setting, Site, Submits, Ticked, Ticking, active, active_after, active_handed, answers_hand, class_at, clock, current_era, hands, number_of, numbers_to, pushed, pushed_by, queue, queue_after, submitted, ticked, ticked_by}
 
 -- an ASK that has no NULL yet: its hand, the site that it came from, its class and its time
 pub record Question : Type 0 where
@@ -56,7 +56,7 @@ pub record ClassView : Type 0 where
 pub record View : Type 0 where
   pub hands : ℕ
   pub clock : Ticking
-  pub force : Force
+  pub era : Era
   pub holds : HoldCounts
   pub asks : List Question
   pub classes : List ClassView
@@ -72,7 +72,7 @@ abbrev pub view_of : Setting → Log → View
 view_of s log = record {
   hands = hands log;
   clock = clock s.site log;
-  force = in_force s log;
+  era = current_era s log;
   holds = holds log;
   asks = asks log;
   classes = map (class_view s log) (runs s);
@@ -90,7 +90,7 @@ is_idle k = is_none k.active
 
 abbrev pub class_after : Entry → View → ClassView → ClassView
 class_after (Handed from m) v k = record k { active = active_handed k.class from m k.active }
-class_after (Submits n txn) v k = record k { queue = submitted k.class v.force.catalogue n txn k.queue }
+class_after (Submits n txn) v k = record k { queue = submitted k.class v.era.catalogue n txn k.queue }
 class_after (Did act) v k = record k { queue = queue_after k.class act k.queue; active = active_after k.class act k.queue k.active }
 class_after _ v k = k
 
@@ -98,14 +98,14 @@ abbrev pub after : Entry → View → View
 after (Handed from m) v = record {
   hands = suc v.hands;
   clock = pushed_by m v.clock;
-  force = v.force;
+  era = v.era;
   holds = holds_handed (suc v.hands) m v.holds;
   asks = asks_handed (suc v.hands) from m v.asks;
   classes = map (class_after (Handed from m) v) v.classes;
 }
 after (Submits n txn) v = record v { classes = map (class_after (Submits n txn) v) v.classes }
 after (Ticked n) v = record v { clock = ticked v.clock n }
-after (Redeclared force t) v = record v { clock = pushed v.clock t; force = force }
+after (Redeclared era t) v = record v { clock = pushed v.clock t; era = era }
 after (Did act) v = record v {
   clock = ticked_by act v.clock;
   holds = holds_acted act v.holds;

@@ -1,6 +1,6 @@
 -- What the calls of a transaction module promise of their parts.
 use Rattle.std.specs.Prelude.{ℕ, ◌==◌, false, List, [], ◌∷◌, map, filter, length}
-use Rattle.sdd_attempt.specs.All.{Bases, Catalogue, Force, Log, Notes, Reached, Setting, at_zero, class_at, no_line, numbers_to}
+use Rattle.sdd_attempt.specs.All.{Bases, Catalogue, Era, Log, Notes, Reached, Setting, at_zero, class_at, no_line, numbers_to}
 use Rattle.sdd_tm.specs.Due.{next}
 use Rattle.sdd_tm.specs.State.{ClassState, State}
 use Rattle.sdd_tm.specs.Stands.{IsAmid}
@@ -19,9 +19,9 @@ first_class cat c = record { line = no_line cat c; asks = [] }
 abbrev pub classes_of : Catalogue → ℕ → List ℕ
 classes_of cat tm = filter (λ c. (class_at cat c).tm.0 == tm) (numbers_to (length cat.classes))
 
-abbrev pub first_state : Catalogue → Force → ℕ → State
-first_state whole force tm = record {
-  force = force;
+abbrev pub first_state : Catalogue → Era → ℕ → State
+first_state whole era tm = record {
+  era = era;
   clock = at_zero tm;
   on_hold = false;
   owes_held = false;

@@ -42,7 +42,7 @@ impl<'a> Model for Parts<'a> {
     ghost Value = { State };
 
     ghost view = { λ p. record {
-      force = record { catalogue = p.catalogue.now; table = p.table.now };
+      era = record { catalogue = p.catalogue.now; table = p.table.now };
       clock = p.clock;
       on_hold = p.on_hold;
       owes_held = p.owes_held;
@@ -137,7 +137,7 @@ impl<'a> Parts<'a> {
             → ((ts : ℕ) → IsDatabase k.line.catalogue (bases ts))
             → (step ≡ Commit → ServesAt k.line.catalogue bases k.line.active)
             → draft.new
-            ≡ noted (act_of bases self.old.force.table self.old.clock k step) draft.old) }
+            ≡ noted (act_of bases self.old.era.table self.old.clock k step) draft.old) }
     {
         let table = self.table;
         let run = &mut self.classes[place as usize];
@@ -269,8 +269,8 @@ impl<'a> Parts<'a> {
 
     /// The class in which a transaction runs by the list in force.
     pub(crate) fn class_for(&self, txn: &Txn) -> ClassNo
-        requires { Fits self.now.force.catalogue txn.now }
-        ensures { result.0 ≡ class_for self.now.force.catalogue txn.now }
+        requires { Fits self.now.era.catalogue txn.now }
+        ensures { result.0 ≡ class_for self.now.era.catalogue txn.now }
     {
         class_for(self.catalogue, txn)
     }
@@ -306,7 +306,7 @@ impl<'a> Parts<'a> {
     pub(crate) fn redeclare(&mut self, catalogue: &'a Catalogue, table: &'a Table, t: Ts)
         requires { t.0 / 64 < 2 ^ 57 }
         ensures { self.new ≡ record self.old {
-          force = record { catalogue = catalogue.now; table = table.now };
+          era = record { catalogue = catalogue.now; table = table.now };
           clock = pushed self.old.clock t.0;
         } }
     {

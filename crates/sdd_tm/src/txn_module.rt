@@ -1,5 +1,5 @@
 ghost use Rattle.std.specs.Prelude.{◌≡◌, ◌∷◌, [], ◌+◌, ◌/◌, ◌<◌, ◌^◌, List, map, IfOk, OnErr, IsTrue};
-ghost use Rattle.sdd_attempt.specs.All.{Bases, Does, FitsSite, Log, Rec as Record, Redeclared, Setting, Submits, T, Ticked, bound_of, class_for, clock, in_force, standing_among};
+ghost use Rattle.sdd_attempt.specs.All.{Bases, Does, FitsSite, Log, Rec as Record, Redeclared, Setting, Submits, T, Ticked, bound_of, class_for, clock, current_era, standing_among};
 ghost use Rattle.sdd_attempt.specs.history.declared.record.Rec.TheVariants.{Submit};
 ghost use Rattle.sdd_eras.specs.EraOf.{IsEraOf};
 ghost use Rattle.sdd_tm.specs.Due.{next};
@@ -119,7 +119,7 @@ impl<'a> TxnModule<'a> {
         requires lives { IsTrue self.old.live }
         requires stands { (setting : Setting) × (bases : Bases) × (log : Log)
             × Stands self.old setting log × FitsSubmit setting bases log number.0 txn.now
-            × (class.0 ≡ class_for (in_force setting log).catalogue txn.now) }
+            × (class.0 ≡ class_for (current_era setting log).catalogue txn.now) }
         ensures law { IfOk result (λ outcome. (setting : Setting) (bases : Bases) (log : Log)
             → Stands self.old setting log → FitsSubmit setting bases log number.0 txn.now
             → (recs : List Record) × (outcome.recs ≡ Submit number ∷ recs)

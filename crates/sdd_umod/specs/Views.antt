@@ -76,7 +76,7 @@ after (Handed from m) v = record {
 }
 after (Submits n txn) v = record v { queue = v.queue ++ record { number = n; text = txn; tries = 0 } ∷ [] }
 after (Ticked n) v = record v { clock = ticked v.clock n }
-after (Redeclared force t) v = record v { clock = pushed v.clock t }
+after (Redeclared era t) v = record v { clock = pushed v.clock t }
 after (Did act) v = record {
   clock = ticked_by act v.clock;
   queue = queue_after 0 act v.queue;

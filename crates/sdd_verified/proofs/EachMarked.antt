@@ -1,5 +1,5 @@
 -- In a complete log each transaction that its events submit is submitted.
-use Rattle.sdd_verified.proofs.All.{Bool, Does, Entry, Event, Hand, Input, IsLawful, IsSubmitted, List, Log, Mark, None, Notes, Option, Redeclare, Redeclares, Round, Settle, Site, Some, Submission, Submit, Submitted, Tick, TxnNo, [], all_links, ap, arith, calls_of, due_by, eqb-true, false, force_at, from_event, hand_due, history, home_of, inl, inr, left, left_is, length, mark_due, mark_from, mark_of, marked, next, next_mark, note_if, one_if, or_else, quiet, redeclares, refl, round, site_due, stands_there, submits_by, submits_in, subst, sym, true, txn_no, ℕ, ◌++◌, ◌+◌, ◌==◌, ◌∙◌, ◌∷◌, ◌≡◌, ◌≤◌, ◌⊎◌}
+use Rattle.sdd_verified.proofs.All.{Bool, Does, Entry, Event, Hand, Input, IsLawful, IsSubmitted, List, Log, Mark, None, Notes, Option, Redeclare, Redeclares, Round, Settle, Site, Some, Submission, Submit, Submitted, Tick, TxnNo, [], all_links, ap, arith, calls_of, due_by, eqb-true, false, from_event, hand_due, history, home_of, inl, inr, left, left_is, length, mark_due, mark_from, mark_of, marked, next, next_mark, note_if, nth_era, one_if, or_else, quiet, redeclares, refl, round, site_due, stands_there, submits_by, submits_in, subst, sym, true, txn_no, ℕ, ◌++◌, ◌+◌, ◌==◌, ◌∙◌, ◌∷◌, ◌≡◌, ◌≤◌, ◌⊎◌}
 use Rattle.sdd_obligations.specs.All.{txn_at}
 
 -- of what a complete log leaves no event has a mark
@@ -90,7 +90,7 @@ given_later e log n x = record { later = e ∷ x.later; at = x.at; rest = x.rest
 given_submit : (g : Input) (n : ℕ) (e : Entry) (k : TxnNo) (log : Log) → next g (Mark (Submit k) ∷ log) ≡ Some e
     → 1 ≤ one_if (k.0 == n) + marked n log → (1 ≤ marked n log → IsGivenIn log n) → IsGivenIn (e ∷ Mark (Submit k) ∷ log) n
 given_submit g n e k log h m again =
-    let at : Site = home_of (force_at g (redeclares log)).catalogue (txn_at g k.0) in
+    let at : Site = home_of (nth_era g (redeclares log)).catalogue (txn_at g k.0) in
     let is : Submitted at k.0 ≡ e = cc in
     elim (k.0 == n) as (λ b. (k.0 == n) ≡ b → 1 ≤ one_if b + marked n log → IsGivenIn (e ∷ Mark (Submit k) ∷ log) n) [
       | true ↦ λ q w.

@@ -1,5 +1,5 @@
 -- The report on a run is verified.
-use Rattle.sdd_verified.proofs.All.{All, All-cons, All-head, All-nil, All-tail, AllFewTicks, AreNamed, AreSubmittedOnce, Catalogue, Committed, Contains, History, Input, IsCommitted, IsFrom1To, IsName, IsOfSubmit, IsReportOn, IsSound, IsSubmitted, IsSubmittedBefore, IsValid, IsValidTxn, IsVerified, KeepsStarts, List, MAX_REPORT_BYTES, Reply, Report, Some, StandsBefore, Txn, TxnNo, Workload, [], after_replies, all_members, ap, arith, at, cases_lt, class_for, class_of, classes_in, classes_submitted, copies_lines, database_of, era_at, eras_are, eras_in, eras_of, event_at, event_of_submit, few_lists, few_ticks, flat_map, force_at, history, in_force, index_or, inl, input_of, inr, length, list_at_number, map, named_by_events, names_of, once, order_line, pending_lines, redeclares, refl, replies, replies_along, reply_lines, report_of, run, serial, serial_order, serial_replies, shipped_of, slice_get, spelled_lines, starts, submits_in, submitted, subst, sym, texts_of, txn_of, whole_in, whole_over, ℕ, ◌++◌, ◌-◌, ◌<◌, ◌∙◌, ◌∷◌, ◌≡◌, ◌≢◌, ◌≤◌}
+use Rattle.sdd_verified.proofs.All.{All, All-cons, All-head, All-nil, All-tail, AllFewTicks, AreNamed, AreSubmittedOnce, Catalogue, Committed, Contains, History, Input, IsCommitted, IsFrom1To, IsName, IsOfSubmit, IsReportOn, IsSound, IsSubmitted, IsSubmittedBefore, IsValid, IsValidTxn, IsVerified, KeepsStarts, List, MAX_REPORT_BYTES, Reply, Report, Some, StandsBefore, Txn, TxnNo, Workload, [], after_replies, all_members, ap, arith, at, cases_lt, catalogue_at, class_for, class_of, classes_in, classes_submitted, copies_lines, database_of, era_at, eras_are, eras_in, eras_of, event_at, event_of_submit, few_lists, few_ticks, flat_map, history, index_or, inl, input_of, inr, length, list_at_number, map, named_by_events, names_of, nth_era, once, order_line, pending_lines, redeclares, refl, replies, replies_along, reply_lines, report_of, run, serial, serial_order, serial_replies, shipped_of, slice_get, spelled_lines, starts, submits_in, submitted, subst, sym, texts_of, txn_of, whole_in, whole_over, ℕ, ◌++◌, ◌-◌, ◌<◌, ◌∙◌, ◌∷◌, ◌≡◌, ◌≢◌, ◌≤◌}
 use Rattle.sdd_verified.proofs.ClassPlaces.{class_at, redeclared_at}
 use Rattle.sdd_verified.proofs.ListAt.{list_at}
 use Rattle.sdd_verified.proofs.FirstLines.{FirstLine, first_line, whole_end}
@@ -82,17 +82,17 @@ module _ (cat : Catalogue) (work : Workload) (text : List ℕ) (sound : IsSound 
   few_ticks_given : AllFewTicks given.events
   few_ticks_given = few_ticks cat (length work.txns) work.events valid.events
 
-  list_in_force : (k : ℕ) → k ≤ redeclares r.log → (force_at given k).catalogue ≡ era_at cat (eras_in cat work) k
+  list_in_force : (k : ℕ) → k ≤ redeclares r.log → (nth_era given k).catalogue ≡ era_at cat (eras_in cat work) k
   list_in_force k most =
       let last = few_lists cat r.tables work sound valid r.tables_are r.log r.log_is.lawful in
-      sym (index_or (eras_in cat work) k cat (force_at given k).catalogue
+      sym (index_or (eras_in cat work) k cat (nth_era given k).catalogue
       (list_at_number cat r.tables work r.tables_are k (omega (arith, most, last))).there)
 
-  in_force_is : (n place : ℕ) → IsSubmitted (history r.log) n place
-      → in_force whole (eras_of given r.log) (event_at (history r.log) place) ≡ era_at cat (eras_in cat work) (redeclared_at n 0 work.events)
-  in_force_is n place s =
+  current_era_is : (n place : ℕ) → IsSubmitted (history r.log) n place
+      → catalogue_at whole (eras_of given r.log) (event_at (history r.log) place) ≡ era_at cat (eras_in cat work) (redeclared_at n 0 work.events)
+  current_era_is n place s =
       let x = list_at given r.log r.log_is.lawful few few_ticks_given n place s in
-      ap (λ (p : ℕ). in_force whole (eras_of given r.log) (event_at (history r.log) p)) (sym x.place_is)
+      ap (λ (p : ℕ). catalogue_at whole (eras_of given r.log) (event_at (history r.log) p)) (sym x.place_is)
       ∙ event_of_submit given r.log (eras_of given r.log) n x.later x.rest x.at (eras_are cat r.tables work sound valid r.tables_are r.log r.log_is) x.is
       ∙ list_in_force (redeclares x.rest) x.few ∙ ap (era_at cat (eras_in cat work)) x.lists_are
 
@@ -101,7 +101,7 @@ module _ (cat : Catalogue) (work : Workload) (text : List ℕ) (sound : IsSound 
       let t = has_text n m in
       class_at (era_at cat (eras_in cat work)) work.txns n.0 t.0 t.1 cat 0 work.events valid.events (some n m)
       ∙ sym (ap (λ (k : ℕ). class_for (era_at cat (eras_in cat work) (redeclared_at k 0 work.events)) t.0) m.number_is)
-      ∙ sym (ap (λ (c : Catalogue). class_for c t.0) (in_force_is m.committed.start.txn m.of_submit.place m.of_submit.submitted))
+      ∙ sym (ap (λ (c : Catalogue). class_for c t.0) (current_era_is m.committed.start.txn m.of_submit.place m.of_submit.submitted))
       ∙ sym m.of_submit.class_is
 
   all_submitted : All (IsSubmittedOne cat work valid) order

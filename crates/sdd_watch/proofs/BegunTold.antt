@@ -4,8 +4,8 @@ use Rattle.sdd_obligations.specs.All.{Catalogue, Event, Input, IsSound, Txn}
 use Rattle.sdd_obligations.specs.base.Words.{tail_of}
 use Rattle.sdd_obligations.specs.protocol.declared.entry.Entry.{Entry}
 use Rattle.sdd_inside.specs.Lines.{beginning}
-use Rattle.sdd_run.specs.Lent.{force_in}
-use Rattle.sdd_run.specs.Runs.{AreTables, begun, forces_of}
+use Rattle.sdd_run.specs.Lent.{era_of_list}
+use Rattle.sdd_run.specs.Runs.{AreTables, begun, eras_with_tables}
 use Rattle.sdd_run.specs.class_lists.InForce.{eras_in, whole_in}
 use Rattle.sdd_run.specs.report.declared.copies.CopyTable.{CopyTable}
 use Rattle.sdd_run.specs.script.All.{IsValid}
@@ -44,7 +44,7 @@ pub record BeginsAll (cat : Catalogue) (tables : List (List Entry)) (work : Work
 
 pub begins_all : (cat : Catalogue) (tables : List (List Entry)) (work : Workload) → IsSound (whole_in cat work) → IsValid cat work
     → AreTables cat work tables → (w : World) (events : List Event) (lists : List ClassList) (t : Teller) → StandsFor w (begun cat tables work) []
-    → events ≡ work.events → map force_in lists ≡ tail_of (forces_of (eras_in cat work) tables) → Tells (begun cat tables work) [] t
+    → events ≡ work.events → map era_of_list lists ≡ tail_of (eras_with_tables (eras_in cat work) tables) → Tells (begun cat tables work) [] t
     → BeginsAll cat tables work w events lists t
 begins_all cat tables work sound valid tabled w events lists t stands same left tells =
     let few = valid.few_events in

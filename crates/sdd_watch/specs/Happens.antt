@@ -2,7 +2,7 @@
 use Rattle.std.specs.Prelude.{ℕ, suc, ◌-◌, ◌==◌, Bool, true, false, not, ◌&&◌, ◌||◌, if◌then◌else◌, List, [], ◌∷◌, ◌++◌, drop, filter, find, fold, is_some, length, map, Option, Some, None}
 use Rattle.std.specs.Ordering.{int_cmp, is_eq}
 use Rattle.std.specs.List.{flat_map, list_any}
-use Rattle.sdd_obligations.specs.All.{Ack, Apply, Change, Commit, D, Deliver, DmNo, Down, Event, Input, History, Log, Lose, Mark, Message, Msg, Packet, Rec, Redeclare, Redeclares, Repeat, Resend, Round, Row, Settle, Site, Submit, T, Tick, Up, all_links, dated, delivered, force_at, handed, history, is_down, is_empty, left, link_of, local_of, marks, packet_at, redeclares, same_site, setting_of, sites, txn_at, TxnNo}
+use Rattle.sdd_obligations.specs.All.{Ack, Apply, Change, Commit, D, Deliver, DmNo, Down, Event, Input, History, Log, Lose, Mark, Message, Msg, Packet, Rec, Redeclare, Redeclares, Repeat, Resend, Round, Row, Settle, Site, Submit, T, Tick, Up, all_links, dated, delivered, nth_era, handed, history, is_down, is_empty, left, link_of, local_of, marks, packet_at, redeclares, same_site, setting_of, sites, txn_at, TxnNo}
 use Rattle.sdd_obligations.specs.copy.Contents.{Dated, latest, of_fragment}
 use Rattle.sdd_obligations.specs.invariants.Steps.{changes_at}
 use Rattle.sdd_obligations.specs.logs.Due.{home_of as class_site}
@@ -161,7 +161,7 @@ is_something _ = true
 -- the event itself is of the site: a submission is of the site of its class by the list in force, and a list of classes that
 -- is put in force is of the transaction modules
 abbrev pub concerns : Input → Log → Event → Found → Site → Bool
-concerns g log (Submit n) found at = same_site (class_site (force_at g (redeclares log)).catalogue (txn_at g n.0)) at
+concerns g log (Submit n) found at = same_site (class_site (nth_era g (redeclares log)).catalogue (txn_at g n.0)) at
 concerns g log (Tick t n) found at = same_site (T t) at
 concerns g log (Down d) found at = is_something found && same_site (D d) at
 concerns g log (Up d) found at = is_something found && same_site (D d) at

@@ -1,7 +1,7 @@
 //! Which sites take part in an event, and how they stand.
 ghost use Rattle.std.specs.Prelude.{◌≡◌, ◌++◌, ◌∷◌, ◌&&◌, [], All, filter, map, IfOk, OnOk};
 ghost use Rattle.std.specs.List.{list_any};
-ghost use Rattle.sdd_obligations.specs.All.{Input, IsSiteOf, Log, Redeclare, force_at, redeclares, same_site, txn_at};
+ghost use Rattle.sdd_obligations.specs.All.{Input, IsSiteOf, Log, Redeclare, nth_era, redeclares, same_site, txn_at};
 ghost use Rattle.sdd_obligations.specs.logs.Due.{home_of as class_site};
 ghost use Rattle.sdd_inside.specs.declared.delta.Found.{Found as Finding};
 ghost use Rattle.sdd_run.specs.world.Standing.{Calm};
@@ -31,7 +31,7 @@ fn is_something(found: &Found) -> bool
 fn home_of(world: &World<'_>, number: TxnNo) -> Site
     requires { (g : Input) × (log : Log) × Calm world.now g log }
     ensures { (g : Input) (log : Log) → Calm world.now g log → result
-        ≡ class_site (force_at g (redeclares log)).catalogue (txn_at g number.0) }
+        ≡ class_site (nth_era g (redeclares log)).catalogue (txn_at g number.0) }
 {
     let place = number.0.saturating_sub(1);
     match world.transactions().get(place as usize) {

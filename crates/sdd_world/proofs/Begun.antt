@@ -28,7 +28,7 @@ all_begun whole cat table txns u tms dms at_u at_t g made (T n) here =
     let at = T n in
     let live : (v : Kept tm_state.State) → BeginsT whole cat table n.0 v → LivesT v (setting_of g at) (beginning g at) = λ v b.
     let s : tm.Stands v (setting_of g at) (beginning g at) =
-    subst (λ f. tm.Stands v (setting_of g at) (Redeclared f 0 ∷ [])) (sym made.force_is) (b (setting_of g at) made.catalogue_is refl) in
+    subst (λ f. tm.Stands v (setting_of g at) (Redeclared f 0 ∷ [])) (sym made.era_is) (b (setting_of g at) made.catalogue_is refl) in
     record { live = s.live; stands_for = s } in
     (low, found_at (BeginsT whole cat table n.0) LivesT (slice_get tms (n.0 - 1)) (setting_of g at) (beginning g at) live (at_t.each n.0 low high))
 all_begun whole cat table txns u tms dms at_u at_t g made (D n) here =

@@ -1,15 +1,15 @@
 -- A list of classes is put in force at all transaction modules, one after the other.
-use Rattle.sdd_world.proofs.All.{AllStandFor, AreForced, D, FitsForce, Force, Input, IsSiteOf, Log, Redeclared, Setting, Site, Sites, StandFor, T, TmNo, U, and_from, and_parts, ap, arith, cases_lt, differ, false, fold, inl, inr, le-leb, leb-true, local_of, map, max, nat_le, number_of, range_with_len, refl, same_is, same_site, setting_of, subst, suc, sym, tm_no, true, ℕ, ◌+◌, ◌-◌, ◌<◌, ◌∙◌, ◌∷◌, ◌≡◌, ◌≤◌}
+use Rattle.sdd_world.proofs.All.{AllStandFor, AreRedeclared, D, Era, FitsEra, Input, IsSiteOf, Log, Redeclared, Setting, Site, Sites, StandFor, T, TmNo, U, and_from, and_parts, ap, arith, cases_lt, differ, false, fold, inl, inr, le-leb, leb-true, local_of, map, max, nat_le, number_of, range_with_len, refl, same_is, same_site, setting_of, subst, suc, sym, tm_no, true, ℕ, ◌+◌, ◌-◌, ◌<◌, ◌∙◌, ◌∷◌, ◌≡◌, ◌≤◌}
 use Rattle.sdd_obligations.specs.site_module.SiteLog as site
 
 -- the transaction modules before number n stand for logs with the list, all other modules for theirs
-pub record ForcedTo (m : Sites) (g : Input) (log : Log) (force : Force) (t n : ℕ) : Type 0 where
-  pub forced : (k : ℕ) → 1 ≤ k → k < n → IsSiteOf g (T (tm_no k))
-      → StandFor m (T (tm_no k)) (setting_of g (T (tm_no k))) (Redeclared force t ∷ local_of g (T (tm_no k)) log)
+pub record RedeclaredAt (m : Sites) (g : Input) (log : Log) (era : Era) (t n : ℕ) : Type 0 where
+  pub redeclared_at : (k : ℕ) → 1 ≤ k → k < n → IsSiteOf g (T (tm_no k))
+      → StandFor m (T (tm_no k)) (setting_of g (T (tm_no k))) (Redeclared era t ∷ local_of g (T (tm_no k)) log)
   pub others : (at : Site) → ((k : ℕ) → at ≡ T (tm_no k) → n ≤ k) → IsSiteOf g at → StandFor m at (setting_of g at) (local_of g at log)
 
-pub none_forced : (m : Sites) (g : Input) (log : Log) (force : Force) (t : ℕ) → AllStandFor m g log → ForcedTo m g log force t 1
-none_forced m g log force t all = record { forced = λ k low high here. absurd (omega arith); others = λ at later here. all at here }
+pub none_redeclared : (m : Sites) (g : Input) (log : Log) (era : Era) (t : ℕ) → AllStandFor m g log → RedeclaredAt m g log era t 1
+none_redeclared m g log era t all = record { redeclared_at = λ k low high here. absurd (omega arith); others = λ at later here. all at here }
 
 -- transaction modules within the network
 
@@ -22,15 +22,15 @@ t_within g t here =
     (leb-true 1 t.0 p.0, leb-true t.0 g.catalogue.tms p.1)
 
 -- what the module that comes next stands for
-pub t_stands : (m : Sites) (g : Input) (log : Log) (force : Force) (t n : ℕ) → ForcedTo m g log force t n → IsSiteOf g (T (tm_no n))
+pub t_stands : (m : Sites) (g : Input) (log : Log) (era : Era) (t n : ℕ) → RedeclaredAt m g log era t n → IsSiteOf g (T (tm_no n))
     → StandFor m (T (tm_no n)) (setting_of g (T (tm_no n))) (local_of g (T (tm_no n)) log)
-t_stands m g log force t n f here = f.others (T (tm_no n)) (λ k e. (let same : n ≡ k = ap number_of e in omega (arith, same))) here
+t_stands m g log era t n f here = f.others (T (tm_no n)) (λ k e. (let same : n ≡ k = ap number_of e in omega (arith, same))) here
 
 -- what the call at one module does
 
-abbrev pub ForceLaw : Sites → Sites → Force → ℕ → ℕ → Type 0
-ForceLaw m m2 force t n = (setting : Setting) (l : site.Log) → StandFor m (T (tm_no n)) setting l → FitsForce setting.catalogue force t
-    → StandFor m2 (T (tm_no n)) setting (Redeclared force t ∷ l)
+abbrev pub EraLaw : Sites → Sites → Era → ℕ → ℕ → Type 0
+EraLaw m m2 era t n = (setting : Setting) (l : site.Log) → StandFor m (T (tm_no n)) setting l → FitsEra setting.catalogue era t
+    → StandFor m2 (T (tm_no n)) setting (Redeclared era t ∷ l)
 
 abbrev pub OthersLaw : Sites → Sites → ℕ → Type 0
 OthersLaw m m2 n = (x : Site) (setting : Setting) (l : site.Log) → same_site x (T (tm_no n)) ≡ false → StandFor m x setting l → StandFor m2 x setting l
@@ -41,26 +41,26 @@ apart_from at n later = elim (same_site at (T (tm_no n))) as (λ b. same_site at
   | false ↦ λ p. refl
 ] refl
 
-pub one_forced : (m m2 : Sites) (g : Input) (log : Log) (force : Force) (t n : ℕ) → ForcedTo m g log force t n → IsSiteOf g (T (tm_no n))
-    → FitsForce g.catalogue force t → ForceLaw m m2 force t n → OthersLaw m m2 n → ForcedTo m2 g log force t (n + 1)
-one_forced m m2 g log force t n f here fits law stay = record {
-  forced = λ k low high there. elim (cases_lt k n) [
-    | inl l ↦ stay (T (tm_no k)) (setting_of g (T (tm_no k))) (Redeclared force t ∷ local_of g (T (tm_no k)) log) (differ k n l) (f.forced k low l there)
+pub one_redeclared : (m m2 : Sites) (g : Input) (log : Log) (era : Era) (t n : ℕ) → RedeclaredAt m g log era t n → IsSiteOf g (T (tm_no n))
+    → FitsEra g.catalogue era t → EraLaw m m2 era t n → OthersLaw m m2 n → RedeclaredAt m2 g log era t (n + 1)
+one_redeclared m m2 g log era t n f here fits law stay = record {
+  redeclared_at = λ k low high there. elim (cases_lt k n) [
+    | inl l ↦ stay (T (tm_no k)) (setting_of g (T (tm_no k))) (Redeclared era t ∷ local_of g (T (tm_no k)) log) (differ k n l) (f.redeclared_at k low l there)
     | inr l ↦
         (let same : n ≡ k = omega (arith, l, high) in
-        subst (λ j. StandFor m2 (T (tm_no j)) (setting_of g (T (tm_no j))) (Redeclared force t ∷ local_of g (T (tm_no j)) log)) same
-        (law (setting_of g (T (tm_no n))) (local_of g (T (tm_no n)) log) (t_stands m g log force t n f here) fits))
+        subst (λ j. StandFor m2 (T (tm_no j)) (setting_of g (T (tm_no j))) (Redeclared era t ∷ local_of g (T (tm_no j)) log)) same
+        (law (setting_of g (T (tm_no n))) (local_of g (T (tm_no n)) log) (t_stands m g log era t n f here) fits))
   ];
   others = λ at later there. stay at (setting_of g at) (local_of g at log) (apart_from at n later)
       (f.others at (λ k e. (let l = later k e in omega (arith, l))) there);
 }
 
 -- behind the last number all stand for what they are to stand for
-pub all_forced : (m : Sites) (g : Input) (log : Log) (force : Force) (t n : ℕ)
-    → n ≡ g.catalogue.tms + 1 → ForcedTo m g log force t n → AreForced m g log force t
-all_forced m g log force t n e f U here = f.others U (λ k q. cc) here
-all_forced m g log force t n e f (T k) here = let r = t_within g k here in f.forced k.0 r.0 (let high = r.1 in omega (arith, e, high)) here
-all_forced m g log force t n e f (D d) here = f.others (D d) (λ k q. cc) here
+pub all_redeclared : (m : Sites) (g : Input) (log : Log) (era : Era) (t n : ℕ)
+    → n ≡ g.catalogue.tms + 1 → RedeclaredAt m g log era t n → AreRedeclared m g log era t
+all_redeclared m g log era t n e f U here = f.others U (λ k q. cc) here
+all_redeclared m g log era t n e f (T k) here = let r = t_within g k here in f.redeclared_at k.0 r.0 (let high = r.1 in omega (arith, e, high)) here
+all_redeclared m g log era t n e f (D d) here = f.others (D d) (λ k q. cc) here
 
 -- the greatest of the bounds from number n on, where a is that of those before
 

@@ -1,5 +1,5 @@
 -- A message is handed over, and its module does what is due, over plain worlds.
-use Rattle.sdd_world.proofs.All.{Act, All, AllLinked, AreDue, AreLinked, Bases, Carries, D, EndsBy, Followed, Hand, HandedOn, Handing, Input, IsFirst, IsLawful, IsPast, IsSiteOf, List, Log, MaySend, Msg, Outcome, Rec, Setting, Site, Sites, Some, Spooled, StandFor, Takes, U, World, [], after_acts, ahead_of, all_facts, and_right, ap, base_of, calls_acts, calls_of, dm_no, ends_in_acts, false, first_lawful, first_next, fits, force_at, handed, hands_first, history_acts, link_parts, linked_acts, local_of, log_after, map, marks, marks_acts, next, next_in, next_of, other_acts, other_hand, own_acts, puts, puts_past, records_of, refl, remain_other, same_here, same_is, same_site, sends_of, setting_of, subst, suc, sym, true, ℕ, ◌++◌, ◌∙◌, ◌∷◌, ◌≡◌, ◌≤◌}
+use Rattle.sdd_world.proofs.All.{Act, All, AllLinked, AreDue, AreLinked, Bases, Carries, D, EndsBy, Followed, Hand, HandedOn, Handing, Input, IsFirst, IsLawful, IsPast, IsSiteOf, List, Log, MaySend, Msg, Outcome, Rec, Setting, Site, Sites, Some, Spooled, StandFor, Takes, U, World, [], after_acts, ahead_of, all_facts, and_right, ap, base_of, calls_acts, calls_of, dm_no, ends_in_acts, false, first_lawful, first_next, fits, handed, hands_first, history_acts, link_parts, linked_acts, local_of, log_after, map, marks, marks_acts, next, next_in, next_of, nth_era, other_acts, other_hand, own_acts, puts, puts_past, records_of, refl, remain_other, same_here, same_is, same_site, sends_of, setting_of, subst, suc, sym, true, ℕ, ◌++◌, ◌∙◌, ◌∷◌, ◌≡◌, ◌≤◌}
 use Rattle.sdd_world.proofs.Parting.{ahead_acts, events_before, redeclares_acts, spooled_acts, spooled_on}
 use Rattle.sdd_obligations.specs.site_module.SiteLog as site
 
@@ -119,7 +119,7 @@ module _ (w : World) (g : Input) (log : Log) (a b : Site) (m : Msg) (kept : Site
             good = h.parts.good;
             sound = h.parts.sound;
             whole_is = d.whole ∙ h.parts.whole_is;
-            catalogue_is = d.catalogue ∙ h.parts.catalogue_is ∙ ap (λ k. (force_at g k).catalogue) (sym (redeclares_acts b t.acts handed_log));
+            catalogue_is = d.catalogue ∙ h.parts.catalogue_is ∙ ap (λ k. (nth_era g k).catalogue) (sym (redeclares_acts b t.acts handed_log));
             txns_are = d.txns ∙ h.parts.txns_are;
             given_is = ap (λ v. v.items) d.given ∙ h.parts.given_is;
             history_is = d.history ∙ ap (λ r. w.history ++ map (λ x. (w.marks, x)) r) t.records_are

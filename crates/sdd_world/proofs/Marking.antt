@@ -1,5 +1,5 @@
 -- Events of which nothing more is due, or that find nothing to do, over plain worlds.
-use Rattle.sdd_world.proofs.All.{All, Bool, Call, Carries, D, Down, Event, Happened, Input, IsNoTick, IsSiteOf, List, Log, Lose, Loses, Mailbox, Mark, Marked, Msg, NetValue, None, Noted, Notes, Option, Packet, Remain, Repeat, Repeats, Resend, Resends, Rests, Site, Some, Spooled, StandFor, TurnsNone, U, Up, World, [], after_mark, ap, arith, calls_of, delivered, delivered_lose, delivered_repeat, delivered_resend, dm_no, due_by, false, force_at, handed, handed_still, history, is_down, is_none, is_some, left, length, link, link_of, local_of, mark_local, marks, nat_lt, none_by_mark, note_if, packet_at, redeclares, refl, rests_marked, rests_noted, sent_stays, setting_of, slice_get, subst, suc, sym, true, unacked_none, unacked_some, ℕ, ◌++◌, ◌+◌, ◌∙◌, ◌∷◌, ◌≡◌, ◌≤◌}
+use Rattle.sdd_world.proofs.All.{All, Bool, Call, Carries, D, Down, Event, Happened, Input, IsNoTick, IsSiteOf, List, Log, Lose, Loses, Mailbox, Mark, Marked, Msg, NetValue, None, Noted, Notes, Option, Packet, Remain, Repeat, Repeats, Resend, Resends, Rests, Site, Some, Spooled, StandFor, TurnsNone, U, Up, World, [], after_mark, ap, arith, calls_of, delivered, delivered_lose, delivered_repeat, delivered_resend, dm_no, due_by, false, handed, handed_still, history, is_down, is_none, is_some, left, length, link, link_of, local_of, mark_local, marks, nat_lt, none_by_mark, note_if, nth_era, packet_at, redeclares, refl, rests_marked, rests_noted, sent_stays, setting_of, slice_get, subst, suc, sym, true, unacked_none, unacked_some, ℕ, ◌++◌, ◌+◌, ◌∙◌, ◌∷◌, ◌≡◌, ◌≤◌}
 use Rattle.sdd_world.proofs.Parting.{events_before, later, same_ahead, spooled_on}
 use Rattle.sdd_world.proofs.Handing.{at_log}
 
@@ -66,7 +66,7 @@ happened w w2 g log e more m s r = record {
       good = m.parts.good;
       sound = m.parts.sound;
       whole_is = s.whole ∙ m.parts.whole_is;
-      catalogue_is = s.catalogue ∙ m.parts.catalogue_is ∙ ap (λ k. (force_at g k).catalogue) (sym r.redeclares_is);
+      catalogue_is = s.catalogue ∙ m.parts.catalogue_is ∙ ap (λ k. (nth_era g k).catalogue) (sym r.redeclares_is);
       txns_are = s.txns ∙ m.parts.txns_are;
       given_is = ap (λ v. v.items) s.given ∙ m.parts.given_is;
       history_is = r.history_is;

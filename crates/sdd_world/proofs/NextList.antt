@@ -1,5 +1,5 @@
 -- Another list of classes is put in force, once the links are quiet, over plain worlds.
-use Rattle.sdd_world.proofs.All.{AllStandFor, AreForced, Carries, Catalogue, EndsBy, EndsIn, Entry, Event, FitsForce, Force, Forcing, Input, IsNextList, IsSettled, List, Log, MAX_RUN_EVENTS, Redeclare, Redeclares, Sites, Spooled, StandFor, StandsFor, U, World, [], all_facts, ap, arith, calls_of, count_join, force_at, greatest_bound, left, local_of, lt-ltb, marks, none_left, redeclare_next, redeclares, redeclares_in, redeclares_left, refl, rests_redeclared, setting_of, settles_before, subst, suc, sym, with_event, with_force, zero, ℕ, ◌+◌, ◌∙◌, ◌∷◌, ◌≡◌, ◌≢◌, ◌≤◌}
+use Rattle.sdd_world.proofs.All.{AllStandFor, AreRedeclared, Carries, Catalogue, EndsBy, EndsIn, Entry, Era, Event, FitsEra, Input, IsNextList, IsSettled, List, Log, MAX_RUN_EVENTS, Redeclare, Redeclares, Redeclaring, Sites, Spooled, StandFor, StandsFor, U, World, [], all_facts, ap, arith, calls_of, count_join, greatest_bound, left, local_of, lt-ltb, marks, none_left, nth_era, redeclare_next, redeclares, redeclares_in, redeclares_left, refl, rests_redeclared, setting_of, settles_before, subst, suc, sym, with_era, with_event, zero, ℕ, ◌+◌, ◌∙◌, ◌∷◌, ◌≡◌, ◌≢◌, ◌≤◌}
 use Rattle.sdd_world.proofs.Parting.{spooled_on}
 use Rattle.sdd_world.proofs.Rounds.{few, free}
 
@@ -12,9 +12,9 @@ one_in (suc n) = one_in n
 one_left : (events : List Event) → EndsIn Redeclare events → redeclares_in events ≡ 1
 one_left events e = ap redeclares_in e.1 ∙ one_in e.0
 
-pub forcing : (w : World) (g : Input) (cat : Catalogue) (table : List Entry) → IsNextList g cat table → IsSettled w (with_event g Redeclare) Redeclare
-    → (log : Log) × Forcing w (with_event g Redeclare) log (record { catalogue = cat; table = table })
-forcing w g cat table next s =
+pub redeclaring : (w : World) (g : Input) (cat : Catalogue) (table : List Entry) → IsNextList g cat table → IsSettled w (with_event g Redeclare) Redeclare
+    → (log : Log) × Redeclaring w (with_event g Redeclare) log (record { catalogue = cat; table = table })
+redeclaring w g cat table next s =
     let given : Input = with_event g Redeclare in
     let log : Log = s.more in
     let c = s.settling.calm in
@@ -25,13 +25,13 @@ forcing w g cat table next s =
     let sum = count_join g.events (Redeclare ∷ []) in
     let done : redeclares log ≡ redeclares_in g.events = omega (arith, all, one, sum) in (
       log,
-      record { calm = c; next_is = n.0; none_behind = n.1; force_is = ap (λ k. force_at g (suc k)) done ∙ next },
+      record { calm = c; next_is = n.0; none_behind = n.1; era_is = ap (λ k. nth_era g (suc k)) done ∙ next },
     )
 
-module _ (w : World) (g : Input) (log : Log) (force : Force) (f : Forcing w g log force) where
+module _ (w : World) (g : Input) (log : Log) (era : Era) (f : Redeclaring w g log era) where
   -- the last number was given, so that the limit ends the log
-  pub force_ends : w.marks ≡ MAX_RUN_EVENTS → EndsBy g
-  force_ends last =
+  pub era_ends : w.marks ≡ MAX_RUN_EVENTS → EndsBy g
+  era_ends last =
       let m : w.marks ≡ marks log = f.calm.marks_are in (
         log,
         record {
@@ -48,23 +48,23 @@ module _ (w : World) (g : Input) (log : Log) (force : Force) (f : Forcing w g lo
   same_tms = ap (λ (k : Catalogue). k.tms) f.calm.parts.catalogue_is ∙ (f.calm.parts.good.eras (redeclares log)).tms
 
   -- the list and its time are what modules ask of them
-  pub force_fits : (t : ℕ) → t ≡ greatest_bound g log → FitsForce g.catalogue force t
-  force_fits t e =
-      subst (λ x. FitsForce g.catalogue x t) f.force_is
-      (subst (λ x. FitsForce g.catalogue (force_at g (suc (redeclares log))) x) (sym e)
+  pub era_fits : (t : ℕ) → t ≡ greatest_bound g log → FitsEra g.catalogue era t
+  era_fits t e =
+      subst (λ x. FitsEra g.catalogue x t) f.era_is
+      (subst (λ x. FitsEra g.catalogue (nth_era g (suc (redeclares log))) x) (sym e)
       (all_facts.redeclare g f.calm.parts.good log (greatest_bound g log) f.calm.rests.lawful f.calm.rests.within f.next_is))
 
-  sites_forced : (w2 : World) (s : Sites) (t : ℕ) → t ≡ greatest_bound g log → AreForced s g log force t → w2.sites ≡ s
+  sites_redeclared : (w2 : World) (s : Sites) (t : ℕ) → t ≡ greatest_bound g log → AreRedeclared s g log era t → w2.sites ≡ s
       → AllStandFor w2.sites g (Redeclares (greatest_bound g log) ∷ log)
-  sites_forced w2 s t e forced is at here =
+  sites_redeclared w2 s t e redeclared_at is at here =
       subst (λ z. StandFor z at (setting_of g at) (local_of g at (Redeclares (greatest_bound g log) ∷ log))) (sym is)
-      (subst (λ x. StandFor s at (setting_of g at) (with_force at x (greatest_bound g log) (local_of g at log))) (sym f.force_is)
-      (subst (λ x. StandFor s at (setting_of g at) (with_force at force x (local_of g at log))) e (forced at here)))
+      (subst (λ x. StandFor s at (setting_of g at) (with_era at x (greatest_bound g log) (local_of g at log))) (sym f.era_is)
+      (subst (λ x. StandFor s at (setting_of g at) (with_era at era x (local_of g at log))) e (redeclared_at at here)))
 
   -- it is in force
-  pub is_forced : (w2 : World) (s : Sites) (t : ℕ) → t ≡ greatest_bound g log → w.marks ≢ MAX_RUN_EVENTS → AreForced s g log force t
-      → w2 ≡ record w { sites = s; marks = w.marks + 1; catalogue = w2.catalogue } → w2.catalogue.now ≡ force.catalogue → (more : Log) × StandsFor w2 g more
-  is_forced w2 s t e number forced same is =
+  pub is_redeclared : (w2 : World) (s : Sites) (t : ℕ) → t ≡ greatest_bound g log → w.marks ≢ MAX_RUN_EVENTS → AreRedeclared s g log era t
+      → w2 ≡ record w { sites = s; marks = w.marks + 1; catalogue = w2.catalogue } → w2.catalogue.now ≡ era.catalogue → (more : Log) × StandsFor w2 g more
+  is_redeclared w2 s t e number redeclared_at same is =
       let now : ℕ = greatest_bound g log in
       let more : Log = Redeclares now ∷ log in
       let m : w.marks ≡ marks log = f.calm.marks_are in
@@ -77,11 +77,11 @@ module _ (w : World) (g : Input) (log : Log) (force : Force) (f : Forcing w g lo
               good = f.calm.parts.good;
               sound = f.calm.parts.sound;
               whole_is = ap (λ v. v.whole.now) same ∙ f.calm.parts.whole_is;
-              catalogue_is = is ∙ ap (λ (x : Force). x.catalogue) (sym f.force_is);
+              catalogue_is = is ∙ ap (λ (x : Era). x.catalogue) (sym f.era_is);
               txns_are = ap (λ v. v.txns) same ∙ f.calm.parts.txns_are;
               given_is = ap (λ v. v.given.items) same ∙ f.calm.parts.given_is;
               history_is = ap (λ v. v.history) same ∙ f.calm.parts.history_is;
-              sites = sites_forced w2 s t e forced (ap (λ v. v.sites) same);
+              sites = sites_redeclared w2 s t e redeclared_at (ap (λ v. v.sites) same);
               net = subst (λ z. Carries z g.catalogue.tms g.catalogue.dms (calls_of log)) (sym (ap (λ v. v.net) same)) f.calm.parts.net;
             };
             rests = rests;

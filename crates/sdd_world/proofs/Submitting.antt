@@ -1,5 +1,5 @@
 -- A transaction is given to its module, which does what is due, over plain worlds.
-use Rattle.sdd_world.proofs.All.{Act, All, AreDue, AreLinked, Bases, Carries, EndsBy, Fits, Followed, Force, Happened, Input, IsClassAt, IsLawful, IsPast, IsSiteOf, List, Log, Mailbox, Mark, Marked, MaySend, Msg, Outcome, Rec, Setting, Site, Sites, Some, Spooled, StandFor, Submission, Submit, Submits, T, Txn, TxnNo, U, World, [], acts_lawful, after_acts, all_facts, ap, append_assoc, arith, base_of, calls_acts, calls_of, class_for, ends_in_acts, false, fits_in_era, fits_submit, force_at, forced_is, get_or, history, history_acts, home_in, home_of, left_acts, linked_acts, listed, local_of, log_after, map, mark_within, marks, marks_acts, next_in, next_of, other_acts, other_local, own_acts, puts, puts_past, records_of, redeclares, refl, same_is, same_site, sends_of, setting_of, slice_get, submits_and_acts, submitted, submitted_local, submitted_within, subst, suc, sym, true, txn_at, zero, ℕ, ◌++◌, ◌-◌, ◌∙◌, ◌∷◌, ◌≡◌, ◌≤◌}
+use Rattle.sdd_world.proofs.All.{Act, All, AreDue, AreLinked, Bases, Carries, EndsBy, Era, Fits, Followed, Happened, Input, IsClassAt, IsLawful, IsPast, IsSiteOf, List, Log, Mailbox, Mark, Marked, MaySend, Msg, Outcome, Rec, Setting, Site, Sites, Some, Spooled, StandFor, Submission, Submit, Submits, T, Txn, TxnNo, U, World, [], acts_lawful, after_acts, all_facts, ap, append_assoc, arith, base_of, calls_acts, calls_of, class_for, ends_in_acts, false, fits_in_era, fits_submit, get_or, history, history_acts, home_in, home_of, left_acts, linked_acts, listed, local_of, log_after, map, mark_within, marks, marks_acts, next_in, next_of, nth_era, other_acts, other_local, own_acts, puts, puts_past, records_of, redeclared_is, redeclares, refl, same_is, same_site, sends_of, setting_of, slice_get, submits_and_acts, submitted, submitted_local, submitted_within, subst, suc, sym, true, txn_at, zero, ℕ, ◌++◌, ◌-◌, ◌∙◌, ◌∷◌, ◌≡◌, ◌≤◌}
 use Rattle.sdd_world.proofs.Handing.{are_linked, at_log, due_same, here_at}
 use Rattle.sdd_world.proofs.Marking.{happened}
 use Rattle.sdd_world.proofs.Parting.{events_before, later, redeclares_acts, spooled_acts, spooled_on}
@@ -29,7 +29,7 @@ module _ (w : World) (g : Input) (log : Log) (n : TxnNo) (m : Marked w g log (Su
   -- and fits the catalogue in force
   pub txn_fits : (txn : Txn) → txn_at g n.0 ≡ Some txn → Fits (w.catalogue.now) txn
   txn_fits txn is = subst (λ c. Fits c txn) (sym m.parts.catalogue_is)
-      (fits_in_era g.catalogue (force_at g (redeclares log)).catalogue (m.parts.good.eras (redeclares log)) txn (m.parts.sound.txns_fit n.0 txn is))
+      (fits_in_era g.catalogue (nth_era g (redeclares log)).catalogue (m.parts.good.eras (redeclares log)) txn (m.parts.sound.txns_fit n.0 txn is))
 
   lawful_here : IsLawful g (Mark (Submit n) ∷ log)
   lawful_here = (m.marked.next_is, m.marked.rests.lawful)
@@ -42,7 +42,7 @@ module _ (w : World) (g : Input) (log : Log) (n : TxnNo) (m : Marked w g log (Su
 
   module _ (txn : Txn) (is : txn_at g n.0 ≡ Some txn) where
     pub home_is : (at : Site) → at ≡ home_of (w.catalogue.now) (Some txn) → at ≡ home
-    home_is at e = e ∙ ap (λ c. home_of c (Some txn)) m.parts.catalogue_is ∙ ap (λ o. home_of (force_at g (redeclares log)).catalogue o) (sym is)
+    home_is at e = e ∙ ap (λ c. home_of c (Some txn)) m.parts.catalogue_is ∙ ap (λ o. home_of (nth_era g (redeclares log)).catalogue o) (sym is)
 
     submit_fits : fits_submit home (setting_of g home) (base_of g submitted_log) (local_of g home log) n.0 txn
     submit_fits = all_facts.submit g m.parts.good (Mark (Submit n) ∷ log) home n.0 txn lawful_here
@@ -53,7 +53,7 @@ module _ (w : World) (g : Input) (log : Log) (n : TxnNo) (m : Marked w g log (Su
 
     -- the list in force at a transaction module is that of the world
     class_at : (at : Site) (class : ℕ) → class ≡ class_for (w.catalogue.now) txn → IsClassAt at (setting_of g at) (local_of g at log) class txn
-    class_at (T t) class e = e ∙ ap (λ c. class_for c txn) m.parts.catalogue_is ∙ sym (ap (λ (f : Force). class_for f.catalogue txn) (forced_is g t log))
+    class_at (T t) class e = e ∙ ap (λ c. class_for c txn) m.parts.catalogue_is ∙ sym (ap (λ (f : Era). class_for f.catalogue txn) (redeclared_is g t log))
     class_at _ class e = tt
 
     pub submit_asks : (at : Site) (class : ℕ) → at ≡ home → class ≡ class_for (w.catalogue.now) txn → (setting : Setting) × (bases : Bases) × (l : site.Log)

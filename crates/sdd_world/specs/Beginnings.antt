@@ -1,6 +1,6 @@
 -- For which logs the modules of a system stand before its first event.
 use Rattle.std.specs.Prelude.{ℕ, ◌-◌, ◌≤◌, ◌≡◌, List, [], ◌∷◌, length, slice_get, Option, Some, None}
-use Rattle.sdd_obligations.specs.All.{Catalogue, D, Input, Kept, Redeclared, RelNo, Row, Setting, T, Txn, dm_no, force_at, rows_of, tm_no}
+use Rattle.sdd_obligations.specs.All.{Catalogue, D, Input, Kept, Redeclared, RelNo, Row, Setting, T, Txn, dm_no, nth_era, rows_of, tm_no}
 use Rattle.sdd_obligations.specs.protocol.declared.entry.Entry.{Entry}
 use Rattle.sdd_obligations.specs.dm.Stands as dm
 use Rattle.sdd_obligations.specs.dm.State as dm_state
@@ -31,7 +31,7 @@ BeginsD cat rows n made = dm.Stands made (record { catalogue = cat; site = D (dm
 -- that are given for it.
 pub record IsBegun (g : Input) (whole cat : Catalogue) (table : List Entry) (txns : List Txn) (dms : List (Kept dm_state.State)) : Type 0 where
   pub catalogue_is : g.catalogue ≡ whole
-  pub force_is : force_at g 0 ≡ record { catalogue = cat; table = table }
+  pub era_is : nth_era g 0 ≡ record { catalogue = cat; table = table }
   pub txns_are : txns ≡ g.txns
   pub no_events : g.events ≡ []
   pub made : AllBegin (λ n. BeginsD whole (rows_of g (D (dm_no n))) n) whole.dms dms

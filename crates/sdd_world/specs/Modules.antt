@@ -1,6 +1,6 @@
 -- For which logs the modules of all sites stand.
 use Rattle.std.specs.Prelude.{ℕ}
-use Rattle.sdd_obligations.specs.All.{Force, Input, IsSiteOf, Kept, Log, Setting, Site, local_of, setting_of, with_force}
+use Rattle.sdd_obligations.specs.All.{Era, Input, IsSiteOf, Kept, Log, Setting, Site, local_of, setting_of, with_era}
 use Rattle.sdd_obligations.specs.site_module.SiteLog as site
 use Rattle.sdd_obligations.specs.dm.Stands as dm
 use Rattle.sdd_obligations.specs.tm.Stands as tm
@@ -29,5 +29,5 @@ abbrev pub AllStandFor : Sites → Input → Log → Type 0
 AllStandFor m g log = (at : Site) → IsSiteOf g at → StandFor m at (setting_of g at) (local_of g at log)
 
 -- and those of the transaction modules for logs in which this list of classes is put in force last, at a time
-abbrev pub AreForced : Sites → Input → Log → Force → ℕ → Type 0
-AreForced m g log force t = (at : Site) → IsSiteOf g at → StandFor m at (setting_of g at) (with_force at force t (local_of g at log))
+abbrev pub AreRedeclared : Sites → Input → Log → Era → ℕ → Type 0
+AreRedeclared m g log era t = (at : Site) → IsSiteOf g at → StandFor m at (setting_of g at) (with_era at era t (local_of g at log))

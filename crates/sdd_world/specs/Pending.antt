@@ -4,7 +4,7 @@ use Rattle.std.specs.BTreeSet.{BTreeSet, contains}
 use Rattle.std.specs.List.{list_any}
 use Rattle.std.specs.Ordering.{nat_cmp}
 use Rattle.std.specs.Option.{option_map}
-use Rattle.sdd_obligations.specs.All.{Commit, Cond, D, History, Input, IsSubmitted, Log, Rec, Setting, Site, Standing, Submitted, TxnNo, U, dm_no, force_at, history, is_met, local_of, numbers_to, redeclares, setting_of, txn_at, view_of}
+use Rattle.sdd_obligations.specs.All.{Commit, Cond, D, History, Input, IsSubmitted, Log, Rec, Setting, Site, Standing, Submitted, TxnNo, U, dm_no, history, is_met, local_of, nth_era, numbers_to, redeclares, setting_of, txn_at, view_of}
 use Rattle.sdd_obligations.specs.history.declared.record.Rec.TheVariants.{Submit}
 use Rattle.sdd_obligations.specs.site_module.SiteLog as site
 use Rattle.sdd_obligations.specs.attempt.declared.standing.Standing.TheVariants as standings
@@ -69,7 +69,7 @@ submitted_at (_ ∷ log) n = submitted_at log n
 
 -- the site of its class by the list in force at the end
 abbrev pub last_home : Input → Log → Homes
-last_home g log n = home_of (force_at g (redeclares log)).catalogue (txn_at g n)
+last_home g log n = home_of (nth_era g (redeclares log)).catalogue (txn_at g n)
 
 -- how transaction n stands at a site
 abbrev pub stands_at : Telling → Input → Log → Site → ℕ → Standing

@@ -1,6 +1,6 @@
 -- For which log a world stands, between events and within one.
 use Rattle.std.specs.Prelude.{ℕ, suc, ◌≤◌, ◌≡◌, true, false, List, [], ◌∷◌, ◌++◌, length, Some, None}
-use Rattle.sdd_obligations.specs.All.{AtEach, Catalogue, D, Deliver, EndsByLimit, EndsIn, Event, Force, Input, IsGood, IsLinkOf, IsMarked, IsPossible, IsSiteOf, Log, MAX_DMS, MAX_TMS, Mailbox, Mark, Messages, Msg, Redeclares, Remain, Rests, Site, TakesRounds, Txn, U, Waits, after_mark, all_links, calls_of, delivery, dm_no, force_at, from_one, greatest_bound, history, is_down, kept_from, left, link_of, mailbox_at, marks, next, quiet, redeclares, redeclares_in, same_site, txn_at}
+use Rattle.sdd_obligations.specs.All.{AtEach, Catalogue, D, Deliver, EndsByLimit, EndsIn, Era, Event, Input, IsGood, IsLinkOf, IsMarked, IsPossible, IsSiteOf, Log, MAX_DMS, MAX_TMS, Mailbox, Mark, Messages, Msg, Redeclares, Remain, Rests, Site, TakesRounds, Txn, U, Waits, after_mark, all_links, calls_of, delivery, dm_no, from_one, greatest_bound, history, is_down, kept_from, left, link_of, mailbox_at, marks, next, nth_era, quiet, redeclares, redeclares_in, same_site, txn_at}
 use Rattle.sdd_obligations.specs.protocol.declared.entry.Entry.{Entry}
 use Rattle.sdd_obligations.specs.lang.Fits.{Fits}
 use Rattle.sdd_world.specs.Carries.{Carries}
@@ -47,7 +47,7 @@ pub record Parts (w : World) (g : Input) (log : Log) : Type 0 where
   pub good : IsGood g
   pub sound : IsSound g
   pub whole_is : w.whole.now ≡ g.catalogue
-  pub catalogue_is : w.catalogue.now ≡ (force_at g (redeclares log)).catalogue
+  pub catalogue_is : w.catalogue.now ≡ (nth_era g (redeclares log)).catalogue
   pub txns_are : w.txns ≡ g.txns
   pub given_is : w.given.items ≡ g.events
   pub history_is : w.history ≡ history log
@@ -147,14 +147,14 @@ pub record Rounding (w : World) (g : Input) (log : Log) (e : Event) (events : Li
 
 -- these classes and their protocol table are the next list that is given
 abbrev pub IsNextList : Input → Catalogue → List Entry → Type 0
-IsNextList g cat table = force_at g (suc (redeclares_in g.events)) ≡ record { catalogue = cat; table = table }
+IsNextList g cat table = nth_era g (suc (redeclares_in g.events)) ≡ record { catalogue = cat; table = table }
 
 -- to put this list of classes in force is all that is left
-pub record Forcing (w : World) (g : Input) (log : Log) (force : Force) : Type 0 where
+pub record Redeclaring (w : World) (g : Input) (log : Log) (era : Era) : Type 0 where
   pub calm : Calm w g log
   pub next_is : next g log ≡ Some (Redeclares (greatest_bound g log))
   pub none_behind : after_mark (left g.events log) ≡ ([], [])
-  pub force_is : force_at g (suc (redeclares log)) ≡ force
+  pub era_is : nth_era g (suc (redeclares log)) ≡ era
 
 -- messages have come to a site by a delivery in the world w
 pub record Arrives (w now : World) (g : Input) (log : Log) (a b : Site) (k : ℕ) (messages : List Msg) : Type 0 where

@@ -1,6 +1,6 @@
 ghost use Rattle.std.specs.Prelude.{◌≡◌, ◌≤◌, [], ℕ, List, length, true, IfOk, IsTrue};
 ghost use Rattle.std.specs.Option.{option_copied};
-ghost use Rattle.sdd_obligations.specs.All.{Call, D, Input, IsAwaited, IsEraOf, IsGood, IsLinkOf, IsSiteOf, Log, Msg, Site, StandFor, T, U, all_links, calls_of, dated, force_at, handed, has_copy, history, is_down, is_here, local_of, marks, number_of, quiet, redeclares, setting_of};
+ghost use Rattle.sdd_obligations.specs.All.{Call, D, Input, IsAwaited, IsEraOf, IsGood, IsLinkOf, IsSiteOf, Log, Msg, Site, StandFor, T, U, all_links, calls_of, dated, handed, has_copy, history, is_down, is_here, local_of, marks, nth_era, number_of, quiet, redeclares, setting_of};
 ghost use Rattle.sdd_world.specs.Beginnings.{IsBegun};
 ghost use Rattle.sdd_world.specs.Carries.{Carries};
 ghost use Rattle.sdd_world.specs.Modules.{AllStandFor, LivesD, LivesT, LivesU};
@@ -80,7 +80,7 @@ impl<'a> World<'a> {
     /// The catalogue with the classes in force, lent. Takes no memory.
     pub fn catalogue(&self) -> &'a Catalogue
         ensures { (g : Input) (log : Log) → Calm self.now g log
-            → result.now ≡ (force_at g (redeclares log)).catalogue }
+            → result.now ≡ (nth_era g (redeclares log)).catalogue }
     {
         self.catalogue
     }

@@ -1,7 +1,7 @@
 //! Another list of classes is put in force in a world, once its links are quiet.
 ghost use Rattle.std.specs.Prelude.{◌≡◌, IfOk, IsErrOf};
 ghost use Rattle.sdd_obligations.specs.All.{Input, IsGood, Log, Redeclare, with_event};
-ghost use Rattle.sdd_world.specs.Standing.{EndsBy, Forcing, IsNextList, StandsFor};
+ghost use Rattle.sdd_world.specs.Standing.{EndsBy, IsNextList, Redeclaring, StandsFor};
 
 use crate::ends::WorldEnd;
 use crate::world::World;
@@ -17,13 +17,13 @@ impl<'a> World<'a> {
         catalogue: &'a Catalogue,
         table: &'a Table,
     ) -> Result<(), WorldEnd>
-        requires { (g : Input) × (log : Log) × Forcing self.old g log
+        requires { (g : Input) × (log : Log) × Redeclaring self.old g log
             (record { catalogue = catalogue.now; table = table.now }) }
-        ensures ok { IfOk result (λ _. (g : Input) (log : Log) → Forcing self.old g log
+        ensures ok { IfOk result (λ _. (g : Input) (log : Log) → Redeclaring self.old g log
             (record { catalogue = catalogue.now; table = table.now })
             → (more : Log) × StandsFor self.new g more) }
         ensures limit { IsErrOf result WorldEnd.Limit → (g : Input) (log : Log)
-            → Forcing self.old g log (record { catalogue = catalogue.now; table = table.now })
+            → Redeclaring self.old g log (record { catalogue = catalogue.now; table = table.now })
             → EndsBy g }
     {
         if self.marks == u32::MAX {

@@ -10,6 +10,6 @@ returns-clause-limit c = λ given rows log eras sound fine permitted are numbere
     few_in_limit given rows log eras sound.catalogue fine permitted are numbered few
 
 pub returns-clause-lawful : goal.returns-clause-lawful
-returns-clause-lawful c = λ given rows log sound fine submits lawful force first none few.
+returns-clause-lawful c = λ given rows log sound fine submits lawful era first none few.
     few_in_limit given rows log (one_era given.catalogue) sound.catalogue fine (lawful_permitted given log submits.once lawful)
-    (of_one_era given log force first none) (lawful_numbered given log submits lawful) few
+    (of_one_era given log era first none) (lawful_numbered given log submits lawful) few

@@ -6,5 +6,5 @@ pub returns-clause-permitted : goal.returns-clause-permitted
 returns-clause-permitted c = λ given log eras sound permitted are. few_rejected given log eras sound.catalogue permitted are
 
 pub returns-clause-lawful : goal.returns-clause-lawful
-returns-clause-lawful c = λ given log sound once lawful force first none.
-    few_rejected given log (one_era given.catalogue) sound.catalogue (lawful_permitted given log once lawful) (of_one_era given log force first none)
+returns-clause-lawful c = λ given log sound once lawful era first none.
+    few_rejected given log (one_era given.catalogue) sound.catalogue (lawful_permitted given log once lawful) (of_one_era given log era first none)

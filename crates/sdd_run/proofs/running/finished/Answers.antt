@@ -1,4 +1,4 @@
-use Rattle.sdd_run.proofs.All.{All, AllBegin, BeginsD, Catalogue, FitsStart, Input, IsBegun, IsEraOf, IsGood, IsSound, MAX_DMS, MAX_TMS, StandsFor, [], ap, arith, begun, forces_of, length, refl, subst, sym, tail_of, whole_in, ◌∙◌, ◌≤◌}
+use Rattle.sdd_run.proofs.All.{All, AllBegin, BeginsD, Catalogue, FitsStart, Input, IsBegun, IsEraOf, IsGood, IsSound, MAX_DMS, MAX_TMS, StandsFor, [], ap, arith, begun, eras_with_tables, length, refl, subst, sym, tail_of, whole_in, ◌∙◌, ◌≤◌}
 use Rattle.sdd_run.proofs.Forces.{first_era, some_table, tables_are}
 use Rattle.sdd_run.proofs.Reported.{ended, if_ok, run_of}
 use Rattle.sdd_run.proofs.Starting.{all_allowed, starts}
@@ -41,7 +41,7 @@ carry_out-requires c =
     is c.in_ok-world.ensures in
     let begins = starts cat tables work sound c.requires.valid tabled c.as_slice.result.now work.txns table dms c.in_ok-world.world
     few_tms few_dms c.first_table.ensures c.as_slice.ensures refl made new in
-    let lent = c.in_ok-further.ensures ∙ ap (λ cats. tail_of (forces_of cats tables)) (c.eras.ensures ∙ c.requires.eras) in
+    let lent = c.in_ok-further.ensures ∙ ap (λ cats. tail_of (eras_with_tables cats tables)) (c.eras.ensures ∙ c.requires.eras) in
     let allowed = all_allowed cat tables work sound c.requires.valid tabled c.into_vec.result.items c.in_ok-further.further.items c.into_vec.ensures lent in
     (begun cat tables work, [], begins, allowed)
 
@@ -62,7 +62,7 @@ returns-clause-run c =
     is c.in_ok-world.ensures in
     let begins = starts cat tables work sound c.requires.valid tabled c.as_slice.result.now work.txns table dms c.in_ok-world.world
     few_tms few_dms c.first_table.ensures c.as_slice.ensures refl made new in
-    let lent = c.in_ok-further.ensures ∙ ap (λ cats. tail_of (forces_of cats tables)) (c.eras.ensures ∙ c.requires.eras) in
+    let lent = c.in_ok-further.ensures ∙ ap (λ cats. tail_of (eras_with_tables cats tables)) (c.eras.ensures ∙ c.requires.eras) in
     let allowed = all_allowed cat tables work sound c.requires.valid tabled c.into_vec.result.items c.in_ok-further.further.items c.into_vec.ensures lent in
     if_ok c.carry_out.result _ _
     (λ world carried.
@@ -87,6 +87,6 @@ returns-clause-limit c = λ is_limit.
     is c.in_ok-world.ensures in
     let begins = starts cat tables work sound c.requires.valid tabled c.as_slice.result.now work.txns table dms c.in_ok-world.world
     few_tms few_dms c.first_table.ensures c.as_slice.ensures refl made new in
-    let lent = c.in_ok-further.ensures ∙ ap (λ cats. tail_of (forces_of cats tables)) (c.eras.ensures ∙ c.requires.eras) in
+    let lent = c.in_ok-further.ensures ∙ ap (λ cats. tail_of (eras_with_tables cats tables)) (c.eras.ensures ∙ c.requires.eras) in
     let allowed = all_allowed cat tables work sound c.requires.valid tabled c.into_vec.result.items c.in_ok-further.further.items c.into_vec.ensures lent in
     ended cat tables work tabled c.into_vec.result.items c.into_vec.ensures (c.carry_out.ensures.limit is_limit (begun cat tables work) [] begins allowed)

@@ -1,7 +1,7 @@
 use Rattle.std.proofs.Common.{[], ◌∙◌, ap, length, subst, sym}
 use Rattle.sdd_obligations.specs.base.Words.{tail_of}
 use Rattle.sdd_obligations.specs.All.{IsSound}
-use Rattle.sdd_run.specs.Runs.{begun, forces_of}
+use Rattle.sdd_run.specs.Runs.{begun, eras_with_tables}
 use Rattle.sdd_run.proofs.Forces.{tables_are}
 use Rattle.sdd_run.proofs.Reported.{ended}
 use Rattle.sdd_run.proofs.world.Failing.{handed_on}
@@ -24,7 +24,7 @@ carry_out-requires c =
     let is = c.whole-whole.ensures ∙ c.requires.whole in
     let begins = begins_all cat tables work (subst IsSound is c.known.ensures.sound) c.requires.valid c.requires.tabled c.in_ok-first.first.world
     c.in_ok-first.first.events.items c.in_ok-further.further.items c.in_ok-teller.teller c.in_ok-first.ensures.world c.in_ok-first.ensures.events
-    (c.in_ok-further.ensures ∙ ap (λ cats. tail_of (forces_of cats tables)) (c.eras.ensures ∙ c.requires.eras))
+    (c.in_ok-further.ensures ∙ ap (λ cats. tail_of (eras_with_tables cats tables)) (c.eras.ensures ∙ c.requires.eras))
     (c.in_ok-teller.ensures (begun cat tables work) c.in_ok-first.ensures.world is) in
     (begun cat tables work, [], begins.told, begins.allowed, begins.few)
 
@@ -36,7 +36,7 @@ returns-clause-text c =
     let is = c.whole-whole.ensures ∙ c.requires.whole in
     let begins = begins_all cat tables work (subst IsSound is c.known.ensures.sound) c.requires.valid c.requires.tabled c.in_ok-first.first.world
     c.in_ok-first.first.events.items c.in_ok-further.further.items c.in_ok-teller.teller c.in_ok-first.ensures.world c.in_ok-first.ensures.events
-    (c.in_ok-further.ensures ∙ ap (λ cats. tail_of (forces_of cats tables)) (c.eras.ensures ∙ c.requires.eras))
+    (c.in_ok-further.ensures ∙ ap (λ cats. tail_of (eras_with_tables cats tables)) (c.eras.ensures ∙ c.requires.eras))
     (c.in_ok-teller.ensures (begun cat tables work) c.in_ok-first.ensures.world is) in
     inside_of cat tables work c.requires.tabled c.in_ok-first.first.events.items c.in_ok-first.ensures.events _
     (c.in_ok-carry_out.ensures.text (begun cat tables work) [] begins.told begins.allowed)
@@ -49,7 +49,7 @@ returns-in_err-carry_out-clause-limit c = λ err.
     let is = c.whole-whole.ensures ∙ c.requires.whole in
     let begins = begins_all cat tables work (subst IsSound is c.known.ensures.sound) c.requires.valid c.requires.tabled c.in_ok-first.first.world
     c.in_ok-first.first.events.items c.in_ok-further.further.items c.in_ok-teller.teller c.in_ok-first.ensures.world c.in_ok-first.ensures.events
-    (c.in_ok-further.ensures ∙ ap (λ cats. tail_of (forces_of cats tables)) (c.eras.ensures ∙ c.requires.eras))
+    (c.in_ok-further.ensures ∙ ap (λ cats. tail_of (eras_with_tables cats tables)) (c.eras.ensures ∙ c.requires.eras))
     (c.in_ok-teller.ensures (begun cat tables work) c.in_ok-first.ensures.world is) in
     ended cat tables work c.requires.tabled c.in_ok-first.first.events.items c.in_ok-first.ensures.events
     (c.in_err-carry_out.ensures.limit

@@ -1,5 +1,5 @@
 use Rattle.std.proofs.Common.{Some, ap, refl, subst, sym, ◌∙◌}
-use Rattle.sdd_obligations.specs.All.{Catalogue, force_at, redeclares}
+use Rattle.sdd_obligations.specs.All.{Catalogue, nth_era, redeclares}
 use Rattle.sdd_obligations.specs.lang.Fits.{Fits}
 use Rattle.sdd_obligations.specs.logs.Due.{home_of as site_of}
 use Rattle.sdd_obligations.proofs.class_eras.EraFits.{fits_in_era}
@@ -12,7 +12,7 @@ home-requires c =
     let is = txn_read r.0 c.args.number.0 c.saturating_sub-place.result r.0.txns
     c.transactions.result.now c.in-Some.txn.now refl (c.transactions.ensures r.0 r.1 r.2) c.saturating_sub-place.ensures
     c.in-Some.ensures.lookup.3.0 c.in-Some.ensures.lookup.1 in
-    let last = (force_at r.0 (redeclares r.1)).catalogue in
+    let last = (nth_era r.0 (redeclares r.1)).catalogue in
     subst (λ (k : Catalogue). Fits k c.in-Some.txn.now) (sym (c.catalogue.ensures r.0 r.1 r.2))
     (fits_in_era r.0.catalogue last (r.2.parts.good.eras (redeclares r.1)) c.in-Some.txn.now
     (r.2.parts.sound.txns_fit c.args.number.0 c.in-Some.txn.now is))
@@ -23,10 +23,10 @@ returns-in-Some c = λ g log calm.
     c.transactions.result.now c.in-Some.txn.now refl (c.transactions.ensures g log calm) c.saturating_sub-place.ensures
     c.in-Some.ensures.lookup.3.0 c.in-Some.ensures.lookup.1 in
     c.home.ensures ∙ ap (λ (k : Catalogue). site_of k (Some c.in-Some.txn.now)) (c.catalogue.ensures g log calm)
-    ∙ ap (site_of (force_at g (redeclares log)).catalogue) (sym is)
+    ∙ ap (site_of (nth_era g (redeclares log)).catalogue) (sym is)
 
 pub returns-in-None : goal.returns-in-None
 returns-in-None c = λ g log calm.
-    sym (ap (site_of (force_at g (redeclares log)).catalogue) (no_txn g c.args.number.0 c.saturating_sub-place.result
+    sym (ap (site_of (nth_era g (redeclares log)).catalogue) (no_txn g c.args.number.0 c.saturating_sub-place.result
     g.txns c.transactions.result.now refl (c.transactions.ensures g log calm)
     c.saturating_sub-place.ensures c.in-None.ensures.lookup.3))

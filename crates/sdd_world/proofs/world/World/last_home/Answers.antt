@@ -1,4 +1,4 @@
-use Rattle.sdd_world.proofs.All.{Catalogue, Fits, Some, ap, fits_in_era, force_at, home_of as site_of, redeclares, refl, subst, sym, ◌∙◌}
+use Rattle.sdd_world.proofs.All.{Catalogue, Fits, Some, ap, fits_in_era, home_of as site_of, nth_era, redeclares, refl, subst, sym, ◌∙◌}
 use Rattle.sdd_world.proofs.HomesExist.{no_txn, txn_read}
 use Rattle.sdd_world.proofs.world.World.last_home.Goals as goal
 
@@ -8,7 +8,7 @@ home-requires c =
     let is = txn_read r.0 c.args.number.0 c.saturating_sub-place.result r.0.txns
     c.transactions.result.now c.in-Some.txn.now refl (c.transactions.ensures r.0 r.1 r.2.calm) c.saturating_sub-place.ensures
     c.in-Some.ensures.lookup.3.0 c.in-Some.ensures.lookup.1 in
-    let last = (force_at r.0 (redeclares r.1)).catalogue in
+    let last = (nth_era r.0 (redeclares r.1)).catalogue in
     subst (λ (k : Catalogue). Fits k c.in-Some.txn.now) (sym (c.catalogue.ensures r.0 r.1 r.2.calm))
     (fits_in_era r.0.catalogue last (r.2.calm.parts.good.eras (redeclares r.1)) c.in-Some.txn.now
     (r.2.calm.parts.sound.txns_fit c.args.number.0 c.in-Some.txn.now is))
@@ -19,10 +19,10 @@ returns-in-Some c = λ given log s.
     c.transactions.result.now c.in-Some.txn.now refl (c.transactions.ensures given log s.calm) c.saturating_sub-place.ensures
     c.in-Some.ensures.lookup.3.0 c.in-Some.ensures.lookup.1 in
     c.home.ensures ∙ ap (λ (k : Catalogue). site_of k (Some c.in-Some.txn.now)) (c.catalogue.ensures given log s.calm)
-    ∙ ap (site_of (force_at given (redeclares log)).catalogue) (sym is)
+    ∙ ap (site_of (nth_era given (redeclares log)).catalogue) (sym is)
 
 pub returns-in-None : goal.returns-in-None
 returns-in-None c = λ given log s.
-    sym (ap (site_of (force_at given (redeclares log)).catalogue) (no_txn given c.args.number.0 c.saturating_sub-place.result
+    sym (ap (site_of (nth_era given (redeclares log)).catalogue) (no_txn given c.args.number.0 c.saturating_sub-place.result
     given.txns c.transactions.result.now refl (c.transactions.ensures given log s.calm)
     c.saturating_sub-place.ensures c.in-None.ensures.lookup.3))

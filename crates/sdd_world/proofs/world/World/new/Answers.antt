@@ -1,4 +1,4 @@
-use Rattle.sdd_world.proofs.All.{Carries, Catalogue, Force, [], ap, refl, subst, sym, ◌∙◌}
+use Rattle.sdd_world.proofs.All.{Carries, Catalogue, Era, [], ap, refl, subst, sym, ◌∙◌}
 use Rattle.sdd_world.proofs.Beginning.{begins}
 use Rattle.sdd_world.proofs.Begun.{all_begun}
 use Rattle.sdd_world.proofs.world.World.new.Goals as goal
@@ -20,7 +20,7 @@ returns c = λ g good sound begun.
       spool = c.in_ok-spool.spool;
     })
     c.tms-2.result c.dms-2.result c.new-5.ensures refl c.new-4.ensures.items c.in_ok-spool.ensures g good sound (sym begun.catalogue_is)
-    (ap (λ (f : Force). f.catalogue) (sym begun.force_is)) (tms_are ∙ sym c.tms-2.ensures) (dms_are ∙ sym c.dms-2.ensures) begun.txns_are begun.no_events
+    (ap (λ (f : Era). f.catalogue) (sym begun.era_is)) (tms_are ∙ sym c.tms-2.ensures) (dms_are ∙ sym c.dms-2.ensures) begun.txns_are begun.no_events
     (all_begun c.args.whole.now c.args.catalogue.now c.args.table.now c.args.txns c.in_ok-u.u c.in_ok-tms.tms.items c.args.modules.items c.in_ok-u.ensures
     c.in_ok-tms.ensures g begun)
     (subst (λ n. Carries c.in_ok-net.net n g.catalogue.dms []) (c.tms.ensures ∙ sym tms_are)

@@ -1,6 +1,6 @@
 use Rattle.sdd_world.proofs.All.{Redeclare, refl, with_event}
 use Rattle.sdd_world.proofs.Failing.{handed_on}
-use Rattle.sdd_world.proofs.NextList.{forcing}
+use Rattle.sdd_world.proofs.NextList.{redeclaring}
 use Rattle.sdd_world.proofs.Rounds.{settle_begins}
 use Rattle.sdd_world.proofs.world.World.redeclare.Goals as goal
 
@@ -16,7 +16,7 @@ settle_down-requires c =
 pub put_in_force-requires : goal.put_in_force-requires
 put_in_force-requires c =
     let r = c.requires in
-    let f = forcing c.settle_down.new.self r.0 c.args.catalogue.now c.args.table.now r.4
+    let f = redeclaring c.settle_down.new.self r.0 c.args.catalogue.now c.args.table.now r.4
     (c.in_ok-settle_down.ensures.ok (with_event r.0 Redeclare) r.1 Redeclare
     (settle_begins c.args.self (record c.args.self { given = c.push.new.self }) r.0 r.1 Redeclare tt r.3 r.2 refl
     c.in_ok-push.ensures.items)) in
@@ -32,7 +32,7 @@ returns-in_err-settle_down-clause-limit c = λ e given log s good next.
 
 pub returns-in_err-put_in_force-clause-limit : goal.returns-in_err-put_in_force-clause-limit
 returns-in_err-put_in_force-clause-limit c = λ e given log s good next.
-    let f = forcing c.settle_down.new.self given c.args.catalogue.now c.args.table.now next
+    let f = redeclaring c.settle_down.new.self given c.args.catalogue.now c.args.table.now next
     (c.in_ok-settle_down.ensures.ok (with_event given Redeclare) log Redeclare
     (settle_begins c.args.self (record c.args.self { given = c.push.new.self }) given log Redeclare tt good s refl
     c.in_ok-push.ensures.items)) in
@@ -42,7 +42,7 @@ returns-in_err-put_in_force-clause-limit c = λ e given log s good next.
 
 pub returns-clause-log : goal.returns-clause-log
 returns-clause-log c = λ given log s good next.
-    let f = forcing c.settle_down.new.self given c.args.catalogue.now c.args.table.now next
+    let f = redeclaring c.settle_down.new.self given c.args.catalogue.now c.args.table.now next
     (c.in_ok-settle_down.ensures.ok (with_event given Redeclare) log Redeclare
     (settle_begins c.args.self (record c.args.self { given = c.push.new.self }) given log Redeclare tt good s refl
     c.in_ok-push.ensures.items)) in

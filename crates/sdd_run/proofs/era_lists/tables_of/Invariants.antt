@@ -1,5 +1,5 @@
 use Rattle.sdd_run.proofs.All.{AllZip, IsTable, take}
-use Rattle.sdd_run.proofs.in_force.tables_of.Given as goal
+use Rattle.sdd_run.proofs.era_lists.tables_of.Given as goal
 
 -- so far
 abbrev pub invariant-eras : goal.invariant-eras

@@ -3,8 +3,8 @@ ghost use Rattle.std.specs.Prelude.{◌≡◌, ◌<◌, Some, length, map, slice
 ghost use Rattle.std.specs.List.{AllZip};
 ghost use Rattle.sdd_obligations.specs.base.Words.{tail_of};
 ghost use Rattle.sdd_obligations.specs.All.{IsTable};
-ghost use Rattle.sdd_run.specs.Lent.{force_in};
-ghost use Rattle.sdd_run.specs.Runs.{forces_of};
+ghost use Rattle.sdd_run.specs.Lent.{era_of_list};
+ghost use Rattle.sdd_run.specs.Runs.{eras_with_tables};
 
 use sdd_obligations::sdd_base::NoMemory;
 use sdd_obligations::sdd_catalog::Catalogue;
@@ -29,7 +29,7 @@ pub fn tables_of(alloc: Global, eras: &[Catalogue]) -> Result<Vec<Table>, NoMemo
 fn list_at<'a>(eras: &'a [Catalogue], tables: &'a [Table], place: usize) -> ClassList<'a>
     requires catalogue { place < length eras.now }
     requires table { place < length tables.now }
-    ensures { slice_get (forces_of eras.now tables.now) place ≡ Some (force_in result) }
+    ensures { slice_get (eras_with_tables eras.now tables.now) place ≡ Some (era_of_list result) }
 {
     ClassList {
         catalogue: &eras[place],
@@ -54,7 +54,7 @@ pub fn further<'a>(
 ) -> Result<Vec<ClassList<'a>>, NoMemory>
     requires { length tables.now ≡ length eras.now }
     ensures { IfOk result (λ lists.
-        map force_in lists.items ≡ tail_of (forces_of eras.now tables.now)) }
+        map era_of_list lists.items ≡ tail_of (eras_with_tables eras.now tables.now)) }
 {
     let mut lists = Vec::new(alloc);
     'places: for place in 1..eras.len() {
